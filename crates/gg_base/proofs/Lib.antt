@@ -1,0 +1,3 @@
+pub mod Lasting
+pub mod Following
+pub mod Composing

@@ -1,0 +1,6 @@
+pub mod Sizes
+pub mod Relations
+pub mod Arithmetic
+pub mod Runs
+pub mod Lasting
+pub mod Follows

@@ -1,0 +1,23 @@
+// What every layer shares: sizes, relations, 32-bit arithmetic, places, limits, and how runs are spoken of.
+#![tactic(auto)]
+
+pub mod arithmetic;
+pub mod bytes;
+pub mod laws;
+pub mod limits;
+pub mod memory;
+pub mod place;
+pub mod relation;
+pub mod run;
+pub mod size;
+
+pub use arithmetic as w32;
+pub use bytes::{Bytes, Name, Text};
+pub use memory::NoMemory;
+pub use place::Place;
+pub use relation::Rel;
+pub use run::{Break, End, SourceTurn};
+pub use size::Size;
+
+#[cfg(test)]
+mod tests;

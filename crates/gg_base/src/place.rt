@@ -1,0 +1,8 @@
+// Places in a text.
+
+/// A place in a text: line and column, both from 1; a column counts bytes.
+#[derive(Clone, Copy, Debug, PartialEq, Eq)]
+pub struct Place {
+    pub line: u32,
+    pub column: u32,
+}
