@@ -1,7 +1,9 @@
 // Instructions and code.
 ghost use Rattle.std.specs.Prelude.{◌≡◌};
+ghost use Rattle.vax_core.specs.Registers.{operands_name, IsSetOf};
 
-use crate::{Addr, Op, Operands};
+use crate::{Addr, Op, Operands, RegSet};
+use bitflags::Flags;
 use gg_base::Name;
 use std::marker::Model;
 
@@ -11,6 +13,19 @@ pub struct Instr {
     pub op: Op,
     pub operands: Operands,
     pub target: Option<Name>,
+}
+
+impl Instr {
+    /// The registers among r0 to r11 that its operands name.
+    pub fn registers(&self) -> RegSet
+        ensures { IsSetOf result.0 (operands_name self.now.operands) }
+    {
+        let mut set = RegSet::empty();
+        for operand in self.operands.as_slice() {
+            set.insert(operand.registers());
+        }
+        set
+    }
 }
 
 /// An item of the data area.

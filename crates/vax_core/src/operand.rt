@@ -1,7 +1,9 @@
 // Operands.
 ghost use Rattle.std.specs.Prelude.{◌≡◌, ◌<◌, [], ◌∷◌, ◌++◌, length};
+ghost use Rattle.vax_core.specs.Registers.{base_register, named_bits, operand_bits, operand_names, IsSetOf};
 
-use crate::Reg;
+use crate::{Reg, RegSet};
+use bitflags::Flags;
 use gg_base::Name;
 use smallvec::SmallVec;
 use std::alloc::Global;
@@ -46,6 +48,43 @@ pub enum Base {
 pub struct Operand {
     pub base: Base,
     pub index: Option<Reg>,
+}
+
+impl Base {
+    /// The register that it names.
+    pub fn register(&self) -> Option<Reg>
+        ensures { result ≡ base_register self.now }
+    {
+        match self {
+            Base::Imm(_) | Base::Abs(_) | Base::Rel(_) | Base::RelDef(_) => None,
+            Base::Reg(r)
+            | Base::Def(r)
+            | Base::Inc(r)
+            | Base::IncDef(r)
+            | Base::Dec(r)
+            | Base::Disp(_, r)
+            | Base::DispDef(_, r) => Some(*r),
+        }
+    }
+}
+
+fn set_of(r: Option<Reg>) -> RegSet
+    ensures { result.0 ≡ named_bits r }
+{
+    match r {
+        None => RegSet::empty(),
+        Some(r) => r.set(),
+    }
+}
+
+impl Operand {
+    /// The registers among r0 to r11 that it names, as base or as index.
+    pub fn registers(&self) -> RegSet
+        ensures bits { result.0 ≡ operand_bits self.now }
+        ensures named { IsSetOf result.0 (operand_names self.now) }
+    {
+        set_of(self.base.register()).union(set_of(self.index))
+    }
 }
 
 impl Default for Operand {

@@ -1,6 +1,6 @@
 // Registers, and sets of general registers.
 ghost use Rattle.std.specs.Prelude.{⊤, ◌≡◌, [], ◌∷◌, codes};
-ghost use Rattle.vax_core.specs.Registers.{reg_text, reg_bit};
+ghost use Rattle.vax_core.specs.Registers.{reg_text, reg_number, reg_bit};
 
 use bitflags::{Flag, Flags, bitflag_items};
 
@@ -45,6 +45,29 @@ impl Reg {
             Reg::Ap => "ap",
             Reg::Fp => "fp",
             Reg::Sp => "sp",
+        }
+    }
+
+    /// Its number: N for rN, 12 for ap, 13 for fp, 14 for sp.
+    pub fn number(self) -> usize
+        ensures { result ≡ reg_number self }
+    {
+        match self {
+            Reg::R0 => 0,
+            Reg::R1 => 1,
+            Reg::R2 => 2,
+            Reg::R3 => 3,
+            Reg::R4 => 4,
+            Reg::R5 => 5,
+            Reg::R6 => 6,
+            Reg::R7 => 7,
+            Reg::R8 => 8,
+            Reg::R9 => 9,
+            Reg::R10 => 10,
+            Reg::R11 => 11,
+            Reg::Ap => 12,
+            Reg::Fp => 13,
+            Reg::Sp => 14,
         }
     }
 
