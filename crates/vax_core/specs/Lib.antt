@@ -2,3 +2,4 @@ pub mod Registers
 pub mod Ops
 pub mod Text
 pub mod First
+pub mod Valid

@@ -5,8 +5,12 @@ pub mod code;
 pub mod op;
 pub mod operand;
 pub mod register;
+pub mod valid;
 
 pub use code::{AreaItem, AreaItems, Code, CodeItem, CodeItems, Instr};
 pub use op::{Access, Op, OperandKind, Shape};
 pub use operand::{Addr, Base, Operand, Operands};
 pub use register::{Reg, RegSet};
+
+#[cfg(test)]
+mod tests;

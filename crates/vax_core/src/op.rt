@@ -87,6 +87,7 @@ pub struct OperandKind {
 }
 
 /// What stands behind a mnemonic: its operands from left to right, and whether a label follows them.
+#[derive(Clone, Copy)]
 pub struct Shape {
     pub mnemonic: &'static str,
     pub operands: &'static [OperandKind],
