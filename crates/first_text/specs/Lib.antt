@@ -1,0 +1,3 @@
+pub mod StackCode
+pub mod Numbers
+pub mod Reading
