@@ -1,8 +1,8 @@
 -- What a program of the first form does when it runs.
-use Rattle.std.specs.Prelude.{ℕ, ◌%◌, List, [], ◌∷◌}
-use Rattle.gg_base.specs.Arithmetic.{add32, sub32}
+use Rattle.std.specs.Prelude.{ℕ, List, [], ◌∷◌}
+use Rattle.gg_base.specs.Arithmetic.{add32, sub32, zext8}
 use Rattle.gg_base.specs.Runs.{Runs, emit, stop}
-use Rattle.gg_base.specs.declared.runs.End.TheVariants.{Ended}
+use Rattle.gg_base.specs.declared.run.End.TheVariants.{Ended}
 use Rattle.first_form.specs.declared.syntax.Sign.TheVariants.{Plus, Minus}
 use Rattle.first_form.specs.Shapes.{Shape, Number, Signed, Parenthesised, ProgramShape}
 
@@ -16,7 +16,7 @@ value (Parenthesised inner) = value inner
 -- `putchar` writes the low byte of each value, in order, before the run goes on
 abbrev pub writing : List Shape → Runs → Runs
 writing [] after = after
-writing (e ∷ es) after = emit (value e % 256) (writing es after)
+writing (e ∷ es) after = emit (zext8 (value e)) (writing es after)
 
 -- the run writes all its values and ends with the answer's, with any number: it counts no turn and no call
 abbrev pub source_run : ProgramShape → List ℕ → Runs
