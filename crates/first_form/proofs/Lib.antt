@@ -1,0 +1,5 @@
+pub mod NumberLaws
+pub mod Phrases
+pub mod Terms
+pub mod Unambiguous
+pub mod Statements
