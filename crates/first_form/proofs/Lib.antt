@@ -3,3 +3,4 @@ pub mod Phrases
 pub mod Terms
 pub mod Unambiguous
 pub mod Statements
+pub mod MeaningLaws

@@ -1,5 +1,5 @@
 -- What a program of the first form does when it runs.
-use Rattle.std.specs.Prelude.{ℕ, List, [], ◌∷◌}
+use Rattle.std.specs.Prelude.{ℕ, List, [], ◌∷◌, map}
 use Rattle.gg_base.specs.Arithmetic.{add32, sub32, zext8}
 use Rattle.gg_base.specs.Runs.{Runs, emit, stop}
 use Rattle.gg_base.specs.declared.run.End.TheVariants.{Ended}
@@ -18,6 +18,10 @@ abbrev pub writing : List Shape → Runs → Runs
 writing [] after = after
 writing (e ∷ es) after = emit (zext8 (value e)) (writing es after)
 
--- the run writes all its values and ends with the answer's, with any number: it counts no turn and no call
+-- all that it writes
+abbrev pub written : List Shape → List ℕ
+written es = map (λ e. zext8 (value e)) es
+
+-- the run writes the values of all puts and ends with the answer's; it reads no input and counts no turn and no call
 abbrev pub source_run : ProgramShape → List ℕ → Runs
 source_run p input = writing p.puts (stop (Ended (value p.answer)))

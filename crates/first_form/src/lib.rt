@@ -10,3 +10,6 @@ pub mod syntax;
 pub use end_line::ended_line;
 pub use reader::{ReadFault, read_source};
 pub use syntax::{Expression, Expressions, Program, Sign};
+
+#[cfg(test)]
+mod tests;
