@@ -1,0 +1,5 @@
+pub mod Shapes
+pub mod Source
+pub mod Meaning
+pub mod Reading
+pub mod EndLine
