@@ -1,0 +1,10 @@
+pub mod Strings
+pub mod Passing
+pub mod RunLaws
+pub mod NumberLaws
+pub mod EscapeLaws
+pub mod TableLaws
+pub mod StringLaws
+pub mod PieceLaws
+pub mod AgainLaws
+pub mod TextLaws

@@ -1,0 +1,11 @@
+pub mod Letters
+pub mod Words
+pub mod Marks
+pub mod Numbers
+pub mod Escapes
+pub mod Pieces
+pub mod Reading
+pub mod Places
+pub mod Grammar
+pub mod Wrong
+pub mod Answer
