@@ -13,7 +13,8 @@ const LARGEST: u32 = 2147483647;
 
 /// What stands behind a word at the front.
 pub fn behind<'a>(bytes: &'a [u8], word: &[u8]) -> Option<&'a [u8]>
-    ensures { MatchOption result ((rest : List ℕ) → bytes.now ≢ word.now ++ rest) (λ rest. bytes.now ≡ word.now ++ rest.now) }
+    ensures { MatchOption result ((rest : List ℕ) → bytes.now ≢ word.now ++ rest)
+        (λ rest. bytes.now ≡ word.now ++ rest.now) }
 {
     bytes.strip_prefix(word)
 }
@@ -36,7 +37,8 @@ fn is_padded(digits: &[u8]) -> bool
 // The number whose one spelling these digits are.
 fn number_of(digits: &[u8]) -> Option<u32>
     requires { AllDigits 10 digits.now }
-    ensures { MatchOption result ((n : ℕ) → n < 2 ^ 31 → digits.now ≢ decimal n) (λ n. (n < 2 ^ 31) × (digits.now ≡ decimal n)) }
+    ensures { MatchOption result ((n : ℕ) → n < 2 ^ 31 → digits.now ≢ decimal n)
+        (λ n. (n < 2 ^ 31) × (digits.now ≡ decimal n)) }
 {
     if is_padded(digits) {
         return None;
@@ -56,7 +58,8 @@ fn number_of(digits: &[u8]) -> Option<u32>
 /// The number at the front, of all the digits there and in its one spelling, and what is left behind it.
 pub fn number(bytes: &[u8]) -> Option<(u32, &[u8])>
     ensures found { IfSome result (λ x. IsNumberAt bytes.now x.0 x.1.now) }
-    ensures only { (n : ℕ) (rest : List ℕ) → IsNumberAt bytes.now n rest → MatchOption result ⊥ (λ x. (x.0 ≡ n) × (x.1.now ≡ rest)) }
+    ensures only { (n : ℕ) (rest : List ℕ) → IsNumberAt bytes.now n rest →
+        MatchOption result ⊥ (λ x. (x.0 ≡ n) × (x.1.now ≡ rest)) }
 {
     let (digits, rest) = bytes.split_at(digits_len(bytes));
     match number_of(digits) {

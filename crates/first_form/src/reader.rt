@@ -61,14 +61,17 @@ fn expression(
     most_signs: u32,
     most_open: u32,
 ) -> Result<Phrase<'_>, ReadFault>
-    ensures read { IfOk result (λ p. ReadsExpression most_signs most_open bytes.now (shape p.expression) p.rest.now) }
+    ensures read { IfOk result (λ p.
+        ReadsExpression most_signs most_open bytes.now (shape p.expression) p.rest.now) }
     ensures count { IfOk result (λ p. p.signs_left + signs (shape p.expression) ≡ most_signs) }
-    ensures only { (e : Shape) (rest : List ℕ) → IsExpressionAt most_signs most_open bytes.now e rest → IsRead (λ p. p.expression) (λ p. p.rest.now) result e rest }
+    ensures only { (e : Shape) (rest : List ℕ) → IsExpressionAt most_signs most_open bytes.now e rest →
+        IsRead (λ p. p.expression) (λ p. p.rest.now) result e rest }
 {
-    let first = term(alloc, bytes, most_signs, most_open)?;
-    let mut left = first.expression;
-    let mut signs_left = first.signs_left;
-    let mut rest = first.rest;
+    let Phrase {
+        expression: mut left,
+        mut signs_left,
+        mut rest,
+    } = term(alloc, bytes, most_signs, most_open)?;
     while let Some((sign, after)) = sign(rest) {
         if signs_left == 0 {
             return Err(ReadFault::NotOfForm);
@@ -97,9 +100,11 @@ fn term(
     most_signs: u32,
     most_open: u32,
 ) -> Result<Phrase<'_>, ReadFault>
-    ensures read { IfOk result (λ p. ReadsTerm most_signs most_open bytes.now (shape p.expression) p.rest.now) }
+    ensures read { IfOk result (λ p.
+        ReadsTerm most_signs most_open bytes.now (shape p.expression) p.rest.now) }
     ensures count { IfOk result (λ p. p.signs_left + signs (shape p.expression) ≡ most_signs) }
-    ensures only { (e : Shape) (rest : List ℕ) → IsTermAt most_signs most_open bytes.now e rest → IsRead (λ p. p.expression) (λ p. p.rest.now) result e rest }
+    ensures only { (e : Shape) (rest : List ℕ) → IsTermAt most_signs most_open bytes.now e rest →
+        IsRead (λ p. p.expression) (λ p. p.rest.now) result e rest }
 {
     let Some(inner) = behind(bytes, b"(") else {
         let Some((n, rest)) = number(bytes) else {
@@ -132,8 +137,10 @@ fn closed<'a>(
     bytes: &'a [u8],
     close: &[u8],
 ) -> Result<(Expression, &'a [u8]), ReadFault>
-    ensures read { IfOk result (λ x. IsStatement (shape x.0) × (bytes.now ≡ text (shape x.0) ++ (close.now ++ x.1.now))) }
-    ensures only { (e : Shape) (rest : List ℕ) → IsStatement e → EndsExpression (close.now ++ rest) → bytes.now ≡ text e ++ (close.now ++ rest) → IsRead (λ x. x.0) (λ x. x.1.now) result e rest }
+    ensures read { IfOk result (λ x.
+        IsStatement (shape x.0) × (bytes.now ≡ text (shape x.0) ++ (close.now ++ x.1.now))) }
+    ensures only { (e : Shape) (rest : List ℕ) → IsStatement e → EndsExpression (close.now ++ rest) →
+        bytes.now ≡ text e ++ (close.now ++ rest) → IsRead (λ x. x.0) (λ x. x.1.now) result e rest }
 {
     let phrase = expression(alloc, bytes, MOST_SIGNS, MOST_OPEN)?;
     let Some(rest) = behind(phrase.rest, close) else {

@@ -46,6 +46,7 @@ impl Expressions {
         Expressions { held }
     }
 
+    /// The expressions in order.
     pub fn as_slice(&self) -> &[Expression]
         ensures { result.now ≡ self.now }
     {

@@ -5,13 +5,13 @@ use Rattle.first_form.proofs.Phrases.{begins, no_left, no_sign_left, no_term, go
 use Rattle.first_form.proofs.Terms.{no_room, no_inside, not_closed, parentheses_are}
 use Rattle.first_form.proofs.reader.+phrases.Goals as goal
 
-pub expression-returns-in_err-first-clause-only : goal.expression-returns-in_err-first-clause-only
-expression-returns-in_err-first-clause-only t c =
+pub expression-returns-in_err-left-clause-only : goal.expression-returns-in_err-left-clause-only
+expression-returns-in_err-left-clause-only t c =
     let p = err_from_is_err_and c.from_residual.result c.from_residual.ensures.1 in
-    rw (p.1, p.2) (no_left c.args.most_signs c.args.most_open c.args.bytes.now (LacksMemory c.in_err-first.field-0.0) c.in_err-first.ensures.only)
+    rw (p.1, p.2) (no_left c.args.most_signs c.args.most_open c.args.bytes.now (LacksMemory c.in_err-left.field-0.0) c.in_err-left.ensures.only)
 
 pub expression-loop-sign-init : goal.expression-loop-sign-init
-expression-loop-sign-init t c = begins c.args.most_signs c.args.most_open c.args.bytes.now _ _ _ c.in_ok-first.ensures.read c.in_ok-first.ensures.count c.in_ok-first.ensures.only
+expression-loop-sign-init t c = begins c.args.most_signs c.args.most_open c.args.bytes.now _ _ _ c.in_ok-left.ensures.read c.in_ok-left.ensures.count c.in_ok-left.ensures.only
 
 pub expression-returns-then-signs_left-eq0-clause-only : goal.expression-returns-then-signs_left-eq0-clause-only
 expression-returns-then-signs_left-eq0-clause-only t c = no_sign_left c.args.most_signs c.args.most_open c.args.bytes.now (shape c.loop-sign.left) c.loop-sign.signs_left c.loop-sign.rest.now c.in-Some.sign c.in-Some.after.now c.in-Some.ensures.found c.loop-sign.invariant c.if-signs_left-eq0.true
