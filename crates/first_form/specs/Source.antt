@@ -47,7 +47,7 @@ pub record Within (most_signs most_open : ℕ) (e : Shape) : Type 0 where
   pub signed : signs e ≤ most_signs
   pub open_at_most : depth e ≤ most_open
 
--- what may stand in a statement
+-- what may stand in a statement: at most 90 signs, and at most 100 parentheses open
 abbrev pub IsStatement : Shape → Type 0
 IsStatement e = Within 90 100 e
 
