@@ -152,7 +152,7 @@ fn closed<'a>(
 /// The program whose source the bytes are. The first form is `int main(){`, any number of `putchar(E);`, and
 /// `return E;}`, without any other blank. E is a term, or E, a sign and a term; a term is a decimal number from 0 to
 /// 2147483647 without a leading zero, or `(E)`. A statement has at most 90 signs, and at most 100 parentheses of its
-/// expression are open at a point. So the reader calls itself at most 200 deep, and no tree is more than 191 nodes high.
+/// expression are open at a point. So its calls are at most 202 deep, and no tree is more than 191 nodes high.
 pub fn read_source(alloc: Global, bytes: &[u8]) -> Result<Program, ReadFault>
     ensures found { IfOk result (λ p. Reads bytes.now (program_shape p)) }
     // No other program has this source.
