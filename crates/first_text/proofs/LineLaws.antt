@@ -1,4 +1,4 @@
--- An op is found exactly where its line is spelled, and its line is that of its item.
+-- An act is found exactly where its line is spelled, and its line is that of its item.
 use Rattle.std.proofs.Common.{◌≡◌, ◌⊎◌, ℕ, ◌^◌, ◌<◌, List, [], ◌∷◌, ◌++◌, map, Option, Some, None, refl, sym, ap, subst, ◌∙◌, arith, append_assoc, inl, inr}
 use Rattle.std.specs.Prelude.{codes}
 use Rattle.std.specs.List.{flat_map, AllByRecursion}
@@ -9,18 +9,16 @@ use Rattle.std.proofs.lemmas.Fmt.{decimal_digit}
 use Rattle.std.proofs.lemmas.List.{append-nil}
 use Rattle.std.proofs.lemmas.Option.{none-some, same_Some, some_pair_parts, option_and_then_some}
 use Rattle.vax_core.specs.Text.{item_line, signed_text, asm_text}
-use Rattle.first_text.specs.declared.stack_op.StackOp.{StackOp}
-use Rattle.first_text.specs.declared.stack_op.StackOp.TheVariants.{Push, Add, Subtract, Put, Pop, Return}
-use Rattle.first_text.specs.StackCode.{putchar_name, op_item, first_code, IsStackOp}
+use Rattle.vax_core.specs.First.{Act, Push, Add, Subtract, Put, Pop, Return, putchar_name, act_item, first_code, IsAct}
 use Rattle.first_text.specs.Numbers.{strip}
-use Rattle.first_text.specs.Reading.{header, op_line, push_front, first_some, fixed, pushed, op_front}
+use Rattle.first_text.specs.Reading.{header, act_line, push_front, first_some, fixed, pushed, act_front}
 use Rattle.first_text.proofs.NumberLaws.{strip_takes, number_takes, number_again}
 
 -- a number that is pushed has no sign
 signed_small : (n : ℕ) → n < 2 ^ 31 → signed_text n ≡ decimal n
 signed_small n lt = rw (lt-ltb n (2 ^ 31) lt) refl
 
-pub item_is : (a : StackOp) → IsStackOp a → item_line (op_item a) ≡ op_line a
+pub item_is : (a : Act) → IsAct a → item_line (act_item a) ≡ act_line a
 item_is (Push n) lt =
     let e : signed_text n ++ [] ≡ decimal n = append-nil (signed_text n) ∙ signed_small n lt in
     ap (λ (t : List ℕ). codes "\tpushl\t$" ++ (t ++ codes "\n")) e
@@ -30,18 +28,18 @@ item_is Put fit = ap (λ (t : List ℕ). codes "\tcalls\t$" ++ (((t ++ []) ++ (c
 item_is Pop fit = refl
 item_is Return fit = refl
 
-items_are : (ops : List StackOp) → AllByRecursion IsStackOp ops → flat_map item_line (map op_item ops) ≡ flat_map op_line ops
+items_are : (acts : List Act) → AllByRecursion IsAct acts → flat_map item_line (map act_item acts) ≡ flat_map act_line acts
 items_are [] fit = refl
-items_are (a ∷ ops) fit = rw (item_is a fit.0, items_are ops fit.1) refl
+items_are (a ∷ acts) fit = rw (item_is a fit.0, items_are acts fit.1) refl
 
 head_is : (rest : List ℕ) → codes "\t.data\n\t.text\n\t.globl\t_main\n_main:\n\t.word\t" ++ ((decimal 0 ++ codes "\n") ++ rest) ≡ header ++ rest
 head_is rest = ap (λ (t : List ℕ). codes "\t.data\n\t.text\n\t.globl\t_main\n_main:\n\t.word\t" ++ ((t ++ codes "\n") ++ rest)) (decimal_digit 0 (omega arith))
 
-pub text_is : (ops : List StackOp) → AllByRecursion IsStackOp ops → asm_text (first_code ops) ≡ header ++ flat_map op_line ops
-text_is ops fit = head_is (flat_map item_line (map op_item ops)) ∙ ap (λ (t : List ℕ). header ++ t) (items_are ops fit)
+pub text_is : (acts : List Act) → AllByRecursion IsAct acts → asm_text (first_code acts) ≡ header ++ flat_map act_line acts
+text_is acts fit = head_is (flat_map item_line (map act_item acts)) ∙ ap (λ (t : List ℕ). header ++ t) (items_are acts fit)
 
-abbrev Takes : List ℕ → StackOp × List ℕ → Type 0
-Takes bytes x = IsStackOp x.0 × (bytes ≡ op_line x.0 ++ x.1)
+abbrev Takes : List ℕ → Act × List ℕ → Type 0
+Takes bytes x = IsAct x.0 × (bytes ≡ act_line x.0 ++ x.1)
 
 push_takes : (bytes : List ℕ) (n : ℕ) (rest : List ℕ) → push_front bytes ≡ Some (n, rest) → Takes bytes (Push n, rest)
 unfolding push_front
@@ -56,7 +54,7 @@ push_takes bytes n rest e =
     let spelled : bytes ≡ codes "\tpushl\t$" ++ (decimal x.0 ++ (codes "\n" ++ r)) = p ∙ ap (λ (t : List ℕ). codes "\tpushl\t$" ++ t) (q.1 ∙ ap (λ (t : List ℕ). decimal x.0 ++ t) s) in
     (rw (← same.0) q.0, rw (← same.0, ← same.1) (spelled ∙ ap (λ (t : List ℕ). codes "\tpushl\t$" ++ t) (sym (append_assoc (decimal x.0) (codes "\n") r)))))))
 
-push_again : (n : ℕ) (rest : List ℕ) → n < 2 ^ 31 → push_front (op_line (Push n) ++ rest) ≡ Some (n, rest)
+push_again : (n : ℕ) (rest : List ℕ) → n < 2 ^ 31 → push_front (act_line (Push n) ++ rest) ≡ Some (n, rest)
 unfolding push_front
 push_again n rest lt = rw (append_assoc (decimal n) (codes "\n") rest, number_again n (codes "\n" ++ rest) lt refl) refl
 
@@ -64,23 +62,23 @@ first_cases : {A : Type 0} (o p : Option A) (y : A) → first_some o p ≡ Some 
 first_cases (Some x) p y e = inl e
 first_cases None p y e = inr e
 
-fixed_takes : (op : StackOp) (bytes : List ℕ) (x : StackOp × List ℕ) → IsStackOp op → fixed op bytes ≡ Some x → Takes bytes x
-fixed_takes op bytes x fit e = by_strip (strip (op_line op) bytes) refl e
+fixed_takes : (act : Act) (bytes : List ℕ) (x : Act × List ℕ) → IsAct act → fixed act bytes ≡ Some x → Takes bytes x
+fixed_takes act bytes x fit e = by_strip (strip (act_line act) bytes) refl e
   where
-    by_strip : (o : Option (List ℕ)) → strip (op_line op) bytes ≡ o → option_map (λ (r : List ℕ). (op, r)) o ≡ Some x → Takes bytes x
+    by_strip : (o : Option (List ℕ)) → strip (act_line act) bytes ≡ o → option_map (λ (r : List ℕ). (act, r)) o ≡ Some x → Takes bytes x
     by_strip None s f = absurd (none-some x f)
-    by_strip (Some r) s f = subst (Takes bytes) (same_Some (op, r) x f) (fit, strip_takes (op_line op) bytes r s)
+    by_strip (Some r) s f = subst (Takes bytes) (same_Some (act, r) x f) (fit, strip_takes (act_line act) bytes r s)
 
-pushed_takes : (bytes : List ℕ) (x : StackOp × List ℕ) → pushed (push_front bytes) ≡ Some x → Takes bytes x
+pushed_takes : (bytes : List ℕ) (x : Act × List ℕ) → pushed (push_front bytes) ≡ Some x → Takes bytes x
 pushed_takes bytes x e = by_push (push_front bytes) refl e
   where
     by_push : (o : Option (ℕ × List ℕ)) → push_front bytes ≡ o → pushed o ≡ Some x → Takes bytes x
     by_push None s f = absurd (none-some x f)
     by_push (Some p) s f = subst (Takes bytes) (same_Some (Push p.0, p.1) x f) (push_takes bytes p.0 p.1 s)
 
-pub op_takes : (bytes : List ℕ) (x : StackOp × List ℕ) → op_front bytes ≡ Some x → IsStackOp x.0 × (bytes ≡ op_line x.0 ++ x.1)
-unfolding op_front
-op_takes bytes x e =
+pub act_takes : (bytes : List ℕ) (x : Act × List ℕ) → act_front bytes ≡ Some x → IsAct x.0 × (bytes ≡ act_line x.0 ++ x.1)
+unfolding act_front
+act_takes bytes x e =
     elim (first_cases _ _ x e) [
       | inl a ↦ fixed_takes Add bytes x tt a
       | inr e1 ↦ elim (first_cases _ _ x e1) [
@@ -98,11 +96,11 @@ op_takes bytes x e =
       ]
     ]
 
-pub op_again : (a : StackOp) (rest : List ℕ) → IsStackOp a → op_front (op_line a ++ rest) ≡ Some (a, rest)
-unfolding op_front
-op_again (Push n) rest lt = rw (push_again n rest lt) refl
-op_again Add rest fit = refl
-op_again Subtract rest fit = refl
-op_again Put rest fit = refl
-op_again Pop rest fit = refl
-op_again Return rest fit = refl
+pub act_again : (a : Act) (rest : List ℕ) → IsAct a → act_front (act_line a ++ rest) ≡ Some (a, rest)
+unfolding act_front
+act_again (Push n) rest lt = rw (push_again n rest lt) refl
+act_again Add rest fit = refl
+act_again Subtract rest fit = refl
+act_again Put rest fit = refl
+act_again Pop rest fit = refl
+act_again Return rest fit = refl

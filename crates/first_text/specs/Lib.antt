@@ -1,3 +1,2 @@
-pub mod StackCode
 pub mod Numbers
 pub mod Reading

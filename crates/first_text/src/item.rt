@@ -1,6 +1,7 @@
 // The items of the first command's codes.
 ghost use Rattle.std.specs.Prelude.{◌≡◌, [], ◌∷◌, None, IfOk};
-ghost use Rattle.first_text.specs.StackCode.{plain, instr, op_item, entry};
+ghost use Rattle.vax_core.specs.First.{instr, act_item, entry};
+ghost use Rattle.first_text.specs.Reading.{act_of};
 ghost use Rattle.vax_core.specs.declared.operand.Base.TheVariants as bases;
 
 use crate::stack_op::StackOp;
@@ -15,7 +16,7 @@ fn name(alloc: Global, bytes: &[u8]) -> Result<Name, AllocError>
 }
 
 fn plain(base: Base) -> Operand
-    ensures { result ≡ plain base }
+    ensures { result ≡ record { base = base; index = None } }
 {
     Operand { base, index: None }
 }
@@ -30,7 +31,7 @@ fn number(n: u32) -> Base
 }
 
 fn one(alloc: Global, op: Op, a: Base, target: Option<Name>) -> CodeItem
-    ensures { result ≡ instr op (plain a ∷ []) target }
+    ensures { result ≡ instr op (record { base = a; index = None } ∷ []) target }
 {
     let mut operands = Operands::new(alloc);
     operands.push(plain(a));
@@ -42,7 +43,7 @@ fn one(alloc: Global, op: Op, a: Base, target: Option<Name>) -> CodeItem
 }
 
 fn two(alloc: Global, op: Op, a: Base, b: Base) -> CodeItem
-    ensures { result ≡ instr op (plain a ∷ (plain b ∷ [])) None }
+    ensures { result ≡ instr op (record { base = a; index = None } ∷ (record { base = b; index = None } ∷ [])) None }
 {
     let mut operands = Operands::new(alloc);
     operands.push(plain(a));
@@ -56,7 +57,7 @@ fn two(alloc: Global, op: Op, a: Base, b: Base) -> CodeItem
 
 /// The item of an operation.
 pub fn item(alloc: Global, op: StackOp) -> Result<CodeItem, AllocError>
-    ensures { IfOk result (λ i. i ≡ op_item op) }
+    ensures { IfOk result (λ i. i ≡ act_item (act_of op)) }
 {
     match op {
         StackOp::Push(n) => Ok(one(alloc, Op::Pushl, number(n), None)),

@@ -1,7 +1,7 @@
 // Reading the text of one of the first command's codes.
 ghost use Rattle.std.specs.Prelude.{◌≡◌, IfOk, IfErr};
 ghost use Rattle.vax_core.specs.Text.{asm_text};
-ghost use Rattle.first_text.specs.StackCode.{IsFirstCode};
+ghost use Rattle.vax_core.specs.First.{IsFirstCode};
 ghost use Rattle.vax_core.specs.declared.code.Code.{Code};
 ghost use Rattle.first_text.specs.Reading.{Refused};
 

@@ -1,7 +1,7 @@
 // The operations of the first command's codes, and their lines.
 ghost use Rattle.std.specs.Prelude.{◌≡◌};
 ghost use Rattle.std.specs.Option.{option_map};
-ghost use Rattle.first_text.specs.Reading.{push_front, op_front};
+ghost use Rattle.first_text.specs.Reading.{push_front, act_front, act_of};
 
 use crate::front::{number_front, strip};
 
@@ -33,9 +33,9 @@ fn push_front(bytes: &[u8]) -> Option<(u32, &[u8])>
 }
 
 /// The operation whose line is at the front, and what is left behind it.
-#[tactic(auto, unfolding(crate::specs::Reading::op_front))]
+#[tactic(auto, unfolding(crate::specs::Reading::act_front))]
 pub fn op_front(bytes: &[u8]) -> Option<(StackOp, &[u8])>
-    ensures { option_map (λ x. (x.0, x.1.now)) result ≡ op_front bytes.now }
+    ensures { option_map (λ x. (act_of x.0, x.1.now)) result ≡ act_front bytes.now }
 {
     if let Some(rest) = strip(b"\taddl2\t(sp)+,(sp)\n", bytes) {
         return Some((StackOp::Add, rest));

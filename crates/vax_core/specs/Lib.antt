@@ -1,4 +1,5 @@
 pub mod Registers
 pub mod Ops
 pub mod Text
+pub mod First
 pub mod Valid
