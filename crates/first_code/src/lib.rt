@@ -1,0 +1,9 @@
+// The code of programs of the first form, and that it keeps their meaning.
+#![tactic(auto)]
+
+pub mod code;
+pub mod halt;
+pub mod items;
+
+pub use code::emit;
+pub use halt::{Halted, run_to_end};
