@@ -7,3 +7,6 @@ pub mod items;
 
 pub use code::emit;
 pub use halt::{Halted, run_to_end};
+
+#[cfg(test)]
+mod tests;

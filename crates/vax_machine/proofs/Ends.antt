@@ -1,5 +1,5 @@
--- A run of a code has one end.
-use Rattle.std.proofs.Common.{◌≡◌, ℕ, zero, suc, ◌≤◌, List, [], ◌∷◌, inl, inr, refl, ap, arith}
+-- A run of a code has one end, and a machine that was made of the code runs so.
+use Rattle.std.proofs.Common.{◌≡◌, ℕ, zero, suc, ◌≤◌, List, [], ◌∷◌, inl, inr, refl, ap, arith, Option, Some, None, sym, ◌∙◌}
 use Rattle.gg_base.specs.declared.run.End.TheVariants.{Spent}
 use Rattle.gg_base.specs.Runs.{Outcome, byte_first, one_first, OneEnd}
 use Rattle.gg_base.specs.Lasting.{Grows, Lasts}
@@ -8,8 +8,8 @@ use Rattle.vax_core.specs.declared.code.Code.{Code}
 use Rattle.vax_machine.specs.declared.turn.Stop.{Stop}
 use Rattle.vax_machine.specs.declared.turn.Stop.TheVariants as stops
 use Rattle.vax_machine.specs.State.{State}
-use Rattle.vax_machine.specs.Step.{Next, Goes, Writes, Stops, step_of}
-use Rattle.vax_machine.specs.Loading.{start}
+use Rattle.vax_machine.specs.Step.{Next, Goes, Writes, Stops, step_of, next_where}
+use Rattle.vax_machine.specs.Loading.{start, SameFrom, Stands}
 use Rattle.vax_machine.specs.Running.{end_of, behind, steps, state_run, run}
 
 not_spent : (e : Stop) → end_of e ≡ Spent → ⊥
@@ -66,3 +66,14 @@ state_lasts m k = record {
 
 pub run_has_one_end : (c : Code) (input : List ℕ) → OneEnd (run c input)
 run_has_one_end c input = one_end_of (run c input) (state_lasts (start c.items input))
+
+over_by : (m : State) (e : Stop) → m.over ≡ Some e → step_of m ≡ Stops e
+over_by m e h = ap (λ (o : Option Stop). next_where o m) h
+
+same_steps : (o : Option Stop) (m n : State) → n.over ≡ o → SameFrom o m n → (k : ℕ) → steps k m ≡ steps k n
+same_steps None m n is h k = ap (λ (x : State). steps k x) h
+same_steps (Some e) m n is h zero = refl
+same_steps (Some e) m n is h (suc k) = ap (λ (x : Next). one_first (behind x (steps k))) (over_by m e h ∙ sym (over_by n e is))
+
+pub loaded_machine_runs_so : (c : Code) (input : List ℕ) (m : State) → Stands m (start c.items input) → state_run m ≡ run c input
+loaded_machine_runs_so c input m h = λ i k. same_steps (start c.items input).over m (start c.items input) refl h k i

@@ -26,7 +26,7 @@ or_double None list = or_undefined (undefined_label list list) list
 abbrev pub load_fault : List CodeItem → Option LoadFault
 load_fault list = or_double (double_label list) list
 
--- a code without fault
+-- a code without fault; none with a data area is loaded yet
 abbrev pub Loads : Code → Type 0
 Loads c = (c.area ≡ []) × (load_fault c.items ≡ None)
 

@@ -1,7 +1,6 @@
 // Calls, returns and the two services.
-ghost use Rattle.std.specs.Prelude.{◌≡◌};
+ghost use Rattle.std.specs.Prelude.{◌≡◌, ◌-◌, ◌<◌, length, slice_get, IsSome};
 ghost use Rattle.vax_machine.specs.Calls.{entry_mask};
-ghost use Rattle.std.specs.Prelude.{slice_get, length, IsSome, ◌<◌, ◌-◌};
 
 use crate::frame::Frame;
 use crate::function::Conditions;

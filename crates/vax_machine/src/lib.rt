@@ -18,3 +18,6 @@ pub use loading::{LoadFault, load};
 pub use machine::Machine;
 pub use running::run_for;
 pub use turn::{Stop, Turn};
+
+#[cfg(test)]
+mod tests;
