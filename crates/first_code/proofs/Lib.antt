@@ -8,3 +8,4 @@ pub mod Expressions
 pub mod Labelling
 pub mod Starting
 pub mod Keeping
+pub mod Halting

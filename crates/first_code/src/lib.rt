@@ -3,7 +3,8 @@
 
 pub mod code;
 pub mod halt;
-pub mod items;
+mod items;
+pub mod laws;
 
 pub use code::emit;
 pub use halt::{Halted, run_to_end};
