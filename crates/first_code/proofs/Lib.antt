@@ -1,0 +1,11 @@
+pub mod Emitting
+pub mod Longwords
+pub mod Depths
+pub mod Instructions
+pub mod Placing
+pub mod Finishing
+pub mod Expressions
+pub mod Labelling
+pub mod Starting
+pub mod Keeping
+pub mod Halting

@@ -1,0 +1,13 @@
+// The code of programs of the first form, and that it keeps their meaning.
+#![tactic(auto)]
+
+pub mod code;
+pub mod halt;
+mod items;
+pub mod laws;
+
+pub use code::emit;
+pub use halt::{Halted, run_to_end};
+
+#[cfg(test)]
+mod tests;

@@ -1,0 +1,111 @@
+-- Places in a code, and its labels.
+use Rattle.std.specs.Prelude.{ℕ, ◌+◌, Bool, true, false, ◌||◌, ◌&&◌, List, [], ◌∷◌, drop, Option, Some, None, codes, if◌then◌else◌}
+use Rattle.std.specs.Str.{bytes_eq}
+use Rattle.vax_core.specs.declared.operand.Base.{Base}
+use Rattle.vax_core.specs.declared.operand.Base.TheVariants as bases
+use Rattle.vax_core.specs.declared.operand.Operand.{Operand}
+use Rattle.vax_core.specs.declared.code.Instr.{Instr}
+use Rattle.vax_core.specs.declared.code.CodeItem.{CodeItem}
+use Rattle.vax_core.specs.declared.code.CodeItem.TheVariants as items
+use Rattle.vax_machine.specs.declared.function.Action.{Action}
+use Rattle.vax_machine.specs.declared.function.Action.TheVariants as actions
+use Rattle.vax_machine.specs.Functions.{action_of}
+
+abbrev pub main_name : List ℕ
+main_name = codes "_main"
+
+abbrev pub putchar_name : List ℕ
+putchar_name = codes "_putchar"
+
+abbrev pub getchar_name : List ℕ
+getchar_name = codes "_getchar"
+
+abbrev pub is_service : List ℕ → Bool
+is_service name = bytes_eq name putchar_name || bytes_eq name getchar_name
+
+-- how many labels and `.globl` lines stand at the front
+abbrev pub skipped : List CodeItem → ℕ
+skipped [] = 0
+skipped (items.Label name ∷ rest) = skipped rest + 1
+skipped (items.Globl name ∷ rest) = skipped rest + 1
+skipped (items.Mask mask ∷ rest) = 0
+skipped (items.Instr i ∷ rest) = 0
+
+-- the first place from there on that is none of these: the next item
+abbrev pub next_item : List CodeItem → ℕ → ℕ
+next_item list place = place + skipped (drop place list)
+
+abbrev pub is_label : CodeItem → List ℕ → Bool
+is_label (items.Label n) name = bytes_eq n name
+is_label (items.Globl n) name = false
+is_label (items.Mask m) name = false
+is_label (items.Instr i) name = false
+
+abbrev pub has_label : List CodeItem → List ℕ → Bool
+has_label [] name = false
+has_label (item ∷ rest) name = is_label item name || has_label rest name
+
+-- the place of the first label of that name
+abbrev pub label_place : List CodeItem → List ℕ → ℕ
+label_place [] name = 0
+label_place (item ∷ rest) name = if is_label item name then 0 else label_place rest name + 1
+
+abbrev pub double_at : CodeItem → List CodeItem → Option (List ℕ) → Option (List ℕ)
+double_at (items.Label n) rest others = if is_service n || has_label rest n then Some n else others
+double_at (items.Globl n) rest others = others
+double_at (items.Mask m) rest others = others
+double_at (items.Instr i) rest others = others
+
+-- the first label that stands again behind it, or has a service's name
+abbrev pub double_label : List CodeItem → Option (List ℕ)
+double_label [] = None
+double_label (item ∷ rest) = double_at item rest (double_label rest)
+
+-- the name in an operand
+abbrev pub name_in : Base → Option (List ℕ)
+name_in (bases.Imm a) = a.name
+name_in (bases.Reg r) = None
+name_in (bases.Def r) = None
+name_in (bases.Inc r) = None
+name_in (bases.IncDef r) = None
+name_in (bases.Dec r) = None
+name_in (bases.Disp a r) = a.name
+name_in (bases.DispDef a r) = a.name
+name_in (bases.Abs n) = None
+name_in (bases.Rel a) = a.name
+name_in (bases.RelDef a) = a.name
+
+abbrev pub first_of : Option (List ℕ) → Option (List ℕ) → Option (List ℕ)
+first_of (Some n) others = Some n
+first_of None others = others
+
+-- the first name in some operands: without a data area it is no area label
+abbrev pub operand_name : List Operand → Option (List ℕ)
+operand_name [] = None
+operand_name (o ∷ os) = first_of (name_in o.base) (operand_name os)
+
+abbrev pub is_call : Action → Bool
+is_call (actions.Compute f) = false
+is_call actions.Push = false
+is_call (actions.Branch t) = false
+is_call actions.Call = true
+is_call actions.Return = false
+
+-- a branch goes to a label of the code, a call to one or to a service
+abbrev pub undefined_target : List CodeItem → Bool → Option (List ℕ) → Option (List ℕ)
+undefined_target all call None = None
+undefined_target all call (Some t) = if (call && is_service t) || has_label all t then None else Some t
+
+abbrev pub undefined_in : List CodeItem → Instr → Option (List ℕ)
+undefined_in all i = first_of (operand_name i.operands) (undefined_target all (is_call (action_of i.op)) i.target)
+
+abbrev pub undefined_at : List CodeItem → CodeItem → Option (List ℕ)
+undefined_at all (items.Label n) = None
+undefined_at all (items.Globl n) = None
+undefined_at all (items.Mask m) = None
+undefined_at all (items.Instr i) = undefined_in all i
+
+-- the first name of an instruction that isn't defined for its use
+abbrev pub undefined_label : List CodeItem → List CodeItem → Option (List ℕ)
+undefined_label [] all = None
+undefined_label (item ∷ rest) all = first_of (undefined_at all item) (undefined_label rest all)

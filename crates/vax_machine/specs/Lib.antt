@@ -1,0 +1,11 @@
+pub mod State
+pub mod Memory
+pub mod Operands
+pub mod Functions
+pub mod Labels
+pub mod Calls
+pub mod Step
+pub mod View
+pub mod Loading
+pub mod Running
+pub mod Inside

@@ -1,0 +1,70 @@
+-- Memory: the data area and the stack, addressed by bytes, little-endian, unaligned accesses allowed. The control words of live frames take room in the stack and may not be touched.
+use Rattle.std.specs.Prelude.{ℕ, ◌+◌, ◌-◌, ◌%◌, ◌^◌, Bool, false, ◌&&◌, ◌||◌, ◌==◌, nat_lt, nat_le, List, [], ◌∷◌, ◌++◌, length, take, drop, slice_index, slice_set, Result, Ok, Err, if◌then◌else◌}
+use Rattle.std.specs.Int.{w16, w32, to_le_bytes, from_le_bytes}
+use Rattle.gg_base.specs.declared.size.Size.{Size}
+use Rattle.gg_base.specs.declared.size.Size.TheVariants.{Byte, Word, Long}
+use Rattle.gg_base.specs.Sizes.{bytes_of}
+use Rattle.vax_core.specs.declared.register.Reg.{Reg}
+use Rattle.vax_core.specs.Registers.{reg_number}
+use Rattle.vax_machine.specs.declared.turn.Stop.{Stop}
+use Rattle.vax_machine.specs.declared.frame.Frame.{Frame}
+use Rattle.vax_machine.specs.declared.memory.Region.{Region}
+use Rattle.vax_machine.specs.declared.memory.Region.TheVariants as regions
+use Rattle.vax_machine.specs.State.{State, with_reg, access, frame, stack_full, ◌>>=◌}
+
+-- the low part of a number at a size
+abbrev pub low : Size → ℕ → ℕ
+low Byte v = v % 2 ^ 8
+low Word v = v % 2 ^ 16
+low Long v = v
+
+-- the number that stands at a place of some bytes
+abbrev pub number_in : Size → List ℕ → ℕ → ℕ
+number_in Byte bytes at = slice_index bytes at
+number_in Word bytes at = from_le_bytes w16 (take 2 (drop at bytes))
+number_in Long bytes at = from_le_bytes w32 (take 4 (drop at bytes))
+
+-- the bytes with a number put there
+abbrev pub with_number : Size → List ℕ → ℕ → ℕ → List ℕ
+with_number Byte bytes at v = slice_set bytes at (v % 2 ^ 8)
+with_number Word bytes at v = take at bytes ++ (to_le_bytes w16 (v % 2 ^ 16) ++ drop (at + 2) bytes)
+with_number Long bytes at v = take at bytes ++ (to_le_bytes w32 v ++ drop (at + 4) bytes)
+
+-- some of the k bytes from an address on are control words of a live frame
+abbrev pub in_control : List Frame → ℕ → ℕ → Bool
+in_control [] address k = false
+in_control (f ∷ fs) address k = (nat_lt f.fp (address + k) && nat_lt address f.top) || in_control fs address k
+
+-- where the bytes from an address on are kept: the data area begins at 65536, the stack lies from 2139095040 to 2147483648
+unfoldable pub touched : State → ℕ → Size → Result Region Stop
+touched m address size =
+    if nat_le 65536 address && nat_le (address + bytes_of size) (65536 + length m.area) then Ok (regions.Area (address - 65536))
+    else if nat_le 2139095040 address && nat_le (address + bytes_of size) 2147483648 then
+    (if in_control m.frames address (bytes_of size) then Err frame else Ok (regions.Stack (address - 2139095040)))
+    else Err access
+
+abbrev pub number_at : State → Size → Region → ℕ
+number_at m size (regions.Area at) = number_in size m.area at
+number_at m size (regions.Stack at) = number_in size m.stack at
+
+abbrev pub with_number_at : State → Size → ℕ → Region → State
+with_number_at m size v (regions.Area at) = record m { area = with_number size m.area at v }
+with_number_at m size v (regions.Stack at) = record m { stack = with_number size m.stack at v }
+
+-- the number at an address
+unfoldable pub read : State → ℕ → Size → Result ℕ Stop
+read m address size = touched m address size >>= λ (r : Region). Ok (number_at m size r)
+
+-- the state with a number at an address
+unfoldable pub written : State → ℕ → Size → ℕ → Result State Stop
+written m address size v = touched m address size >>= λ (r : Region). Ok (with_number_at m size v r)
+
+-- the state with a register set; the stack pointer may not be set under the stack's bottom
+unfoldable pub register_set : State → Reg → ℕ → Result State Stop
+register_set m r v = if reg_number r == 14 && nat_lt v 2139095040 then Err stack_full else Ok (with_reg m r v)
+
+-- a number over the low part of another
+abbrev pub merged : Size → ℕ → ℕ → ℕ
+merged Byte old v = old - old % 2 ^ 8 + v % 2 ^ 8
+merged Word old v = old - old % 2 ^ 16 + v % 2 ^ 16
+merged Long old v = v

@@ -1,0 +1,16 @@
+-- The state that a machine is in.
+use Rattle.vax_machine.specs.declared.machine.Machine.{Machine}
+use Rattle.vax_machine.specs.State.{State}
+
+abbrev pub state : Machine → State
+state m = record {
+  items = m.items.now;
+  place = m.place;
+  registers = m.registers;
+  conditions = m.conditions;
+  area = m.area.items;
+  stack = m.stack.items;
+  frames = m.frames.items;
+  input = m.input.now;
+  over = m.over;
+}

@@ -1,0 +1,141 @@
+// The machine's state and its step.
+ghost use Rattle.std.specs.Prelude.{◌≡◌, ◌≤◌, vec_len, vec_capacity};
+
+use crate::frame::Frame;
+use crate::function::{Action, Computed, Conditions, Function, Test, action_of};
+use crate::label::{label_place, next_item};
+use crate::operands::{Arguments, Destination};
+use crate::turn::{BAD_CODE, Stop, Turn};
+use gg_base::{Name, Size};
+use vax_core::{CodeItem, Instr, Shape};
+
+/// A machine that runs a code on an input.
+#[derive(Drop)]
+pub struct Machine<'a> {
+    pub(crate) items: &'a [CodeItem],
+    pub(crate) place: usize,
+    /// r0 to r11, ap, fp, sp.
+    pub(crate) registers: [u32; 15],
+    pub(crate) conditions: Conditions,
+    pub(crate) area: Vec<u8>,
+    pub(crate) stack: Vec<u8>,
+    /// The live frames, the innermost last.
+    pub(crate) frames: Vec<Frame>,
+    pub(crate) input: &'a [u8],
+    pub(crate) over: Option<Stop>,
+    ghost whole_stack: { vec_len stack ≡ 8388608 },
+    ghost area_bound: { vec_len area ≤ 1048576 },
+    ghost room_for_frames: { vec_capacity frames ≡ 4096 },
+}
+
+impl<'a> Machine<'a> {
+    ghost use Rattle.vax_machine.specs.State.{Does};
+    ghost use Rattle.vax_machine.specs.Step.{step_of, IsStep, act, instruction, acted, finished, pushing, branched};
+    ghost use Rattle.vax_machine.specs.View.{state};
+
+    /// Does the next instruction. It takes no memory. Once the run is over, each further call answers so again.
+    pub fn step(&mut self) -> Turn
+        ensures { IsStep result (state self.new) (step_of (state self.old)) }
+    {
+        if let Some(stop) = self.over {
+            return stop.turn();
+        }
+        match self.act() {
+            Ok(None) => Turn::Going,
+            Ok(Some(byte)) => Turn::Wrote(byte),
+            Err(stop) => {
+                self.over = Some(stop);
+                stop.turn()
+            }
+        }
+    }
+
+    // The byte that the next instruction writes, if it writes one.
+    #[tactic(auto, unfolding(crate::specs::Step::act))]
+    fn act(&mut self) -> Result<Option<u8>, Stop>
+        ensures { Does result (state self.new) (act (state self.old)) }
+    {
+        let items = self.items;
+        let place = next_item(items, self.place);
+        if place >= items.len() {
+            return Err(BAD_CODE);
+        }
+        match &items[place] {
+            CodeItem::Instr(instr) => {
+                self.place = place + 1;
+                self.instruction(instr)
+            }
+            _ => Err(BAD_CODE),
+        }
+    }
+
+    #[tactic(auto, unfolding(crate::specs::Step::instruction))]
+    fn instruction(&mut self, instr: &Instr) -> Result<Option<u8>, Stop>
+        ensures { Does result (state self.new) (instruction (state self.old) instr.now.op instr.now.operands instr.now.target) }
+    {
+        let Shape {
+            mnemonic: _,
+            operands: kinds,
+            target: _,
+        } = instr.op.shape();
+        let arguments = self.evaluate_all(kinds, instr.operands.as_slice())?;
+        self.act_on(action_of(instr.op), arguments, &instr.target)
+    }
+
+    fn act_on(
+        &mut self,
+        action: Action,
+        x: Arguments,
+        target: &Option<Name>,
+    ) -> Result<Option<u8>, Stop>
+        ensures { Does result (state self.new) (acted action x target.now (state self.old)) }
+    {
+        match action {
+            Action::Compute(function) => self.finish(
+                x.destination,
+                function.apply(x.first, x.second, self.conditions.carry),
+            ),
+            Action::Push => self.push_value(x.first),
+            Action::Branch(test) => self.branch(test.passes(self.conditions), target),
+            Action::Call => self.call_by_name(x.first, target),
+            Action::Return => self.return_from_call(),
+        }
+    }
+
+    // Writes a result and sets the condition codes.
+    fn finish(
+        &mut self,
+        destination: Option<Destination>,
+        computed: Option<Computed>,
+    ) -> Result<Option<u8>, Stop>
+        ensures { Does result (state self.new) (finished (state self.old) destination computed) }
+    {
+        let Some(computed) = computed else {
+            return Err(Stop::Trapped);
+        };
+        self.store(destination, computed.value)?;
+        self.conditions = computed.conditions;
+        Ok(None)
+    }
+
+    fn push_value(&mut self, value: u32) -> Result<Option<u8>, Stop>
+        ensures { Does result (state self.new) (pushing (state self.old) value) }
+    {
+        let carry = self.conditions.carry;
+        self.push(value)?;
+        self.conditions = Computed::of(Size::Long, value, carry).conditions;
+        Ok(None)
+    }
+
+    fn branch(&mut self, taken: bool, target: &Option<Name>) -> Result<Option<u8>, Stop>
+        ensures { Does result (state self.new) (branched (state self.old) taken target.now) }
+    {
+        let Some(name) = target else {
+            return Err(BAD_CODE);
+        };
+        if taken {
+            self.place = label_place(self.items, name.as_slice());
+        }
+        Ok(None)
+    }
+}
