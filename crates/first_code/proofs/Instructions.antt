@@ -10,8 +10,7 @@ use Rattle.vax_core.specs.declared.op.OperandKind.{OperandKind}
 use Rattle.vax_core.specs.Ops as table
 use Rattle.vax_core.specs.declared.operand.Operand.{Operand}
 use Rattle.vax_core.specs.declared.code.CodeItem.{CodeItem}
-use Rattle.first_text.specs.StackCode.{imm, putchar_name, plain}
-use Rattle.vax_core.specs.declared.operand.Base.TheVariants as bases
+use Rattle.vax_core.specs.First.{imm, putchar_name, in_reg, deferred, popped}
 use Rattle.vax_machine.specs.declared.turn.Stop.{Stop}
 use Rattle.vax_machine.specs.declared.turn.Stop.TheVariants.{Ended}
 use Rattle.vax_machine.specs.declared.function.Conditions.{Conditions}
@@ -51,7 +50,7 @@ count_evaluated : (m : State) (n : ℕ) → evaluated m table.count (imm n) ≡ 
 unfolding evaluated located taken
 count_evaluated m n = refl
 
-r0_evaluated : (m : State) → evaluated m (table.write Long) (plain (bases.Reg R0)) ≡ Ok (with_destination 0 (locations.Register R0) Long, m)
+r0_evaluated : (m : State) → evaluated m (table.write Long) (in_reg R0) ≡ Ok (with_destination 0 (locations.Register R0) Long, m)
 unfolding evaluated located taken
 r0_evaluated m = refl
 
@@ -64,7 +63,7 @@ module _ (items : List CodeItem) (input : List ℕ) (place r0 : ℕ) (codes : Co
   last d = number_in Long stack (place_at d)
 
   -- `(sp)+` is the last longword, which is taken off the stack
-  popped_evaluated : (d : ℕ) → d < 1000000 → evaluated (at (suc d)) (table.read Long) (plain (bases.Inc Sp)) ≡ Ok (only_number (last (suc d)), at d)
+  popped_evaluated : (d : ℕ) → d < 1000000 → evaluated (at (suc d)) (table.read Long) (popped Sp) ≡ Ok (only_number (last (suc d)), at d)
   unfolding evaluated located taken
   popped_evaluated d lt =
       let le : d ≤ 1000000 = omega arith in
@@ -74,7 +73,7 @@ module _ (items : List CodeItem) (input : List ℕ) (place r0 : ℕ) (codes : Co
       ∙ ap (λ (r : Result ℕ Stop). (r >>= λ (v : ℕ). Ok (only_number v)) >>= λ (e : Evaluated). Ok (e, at d)) (last_read items input place r0 codes stack d d lt)
 
   -- `(sp)` is the last longword, which stays
-  top_evaluated : (d : ℕ) → d < 1000000 → evaluated (at (suc d)) (table.modify Long) (plain (bases.Def Sp)) ≡ Ok (with_destination (last (suc d)) (locations.Memory (sp_at (suc d))) Long, at (suc d))
+  top_evaluated : (d : ℕ) → d < 1000000 → evaluated (at (suc d)) (table.modify Long) (deferred Sp) ≡ Ok (with_destination (last (suc d)) (locations.Memory (sp_at (suc d))) Long, at (suc d))
   unfolding evaluated located taken
   top_evaluated d lt =
       ap (λ (r : Result ℕ Stop). (r >>= λ (v : ℕ). Ok (with_destination v (locations.Memory (sp_at (suc d))) Long)) >>= λ (e : Evaluated). Ok (e, at (suc d))) (last_read items input place r0 codes stack d (suc d) lt)
@@ -101,37 +100,37 @@ module _ (items : List CodeItem) (input : List ℕ) (place r0 : ℕ) (codes : Co
             ∙ ap (λ (r : Result State Stop). r >>= λ (n : State). Ok (None, with_conditions n c)) (push_is items input place r0 codes stack d v lt),
       )
 
-  both_evaluated : (d : ℕ) → suc d < 1000000 → all_evaluated (table.read Long ∷ (table.modify Long ∷ [])) (plain (bases.Inc Sp) ∷ (plain (bases.Def Sp) ∷ [])) (at (suc (suc d))) ≡ Ok (in_front (only_number (last (suc (suc d)))) (in_front (with_destination (last (suc d)) (locations.Memory (sp_at (suc d))) Long) no_arguments), at (suc d))
+  both_evaluated : (d : ℕ) → suc d < 1000000 → all_evaluated (table.read Long ∷ (table.modify Long ∷ [])) (popped Sp ∷ (deferred Sp ∷ [])) (at (suc (suc d))) ≡ Ok (in_front (only_number (last (suc (suc d)))) (in_front (with_destination (last (suc d)) (locations.Memory (sp_at (suc d))) Long) no_arguments), at (suc d))
   both_evaluated d lt =
-      two_operands (at (suc (suc d))) (at (suc d)) (at (suc d)) (table.read Long) (table.modify Long) (plain (bases.Inc Sp)) (plain (bases.Def Sp)) (only_number (last (suc (suc d)))) (with_destination (last (suc d)) (locations.Memory (sp_at (suc d))) Long) (popped_evaluated (suc d) lt) (top_evaluated d (omega arith))
+      two_operands (at (suc (suc d))) (at (suc d)) (at (suc d)) (table.read Long) (table.modify Long) (popped Sp) (deferred Sp) (only_number (last (suc (suc d)))) (with_destination (last (suc d)) (locations.Memory (sp_at (suc d))) Long) (popped_evaluated (suc d) lt) (top_evaluated d (omega arith))
 
-  pub add_acts : (d : ℕ) → suc d < 1000000 → Leaves (instruction (at (suc (suc d))) Addl2 (plain (bases.Inc Sp) ∷ (plain (bases.Def Sp) ∷ [])) None) (λ c. deep items input place r0 c (with_number Long stack (place_at (suc d)) (add32 (last (suc (suc d))) (last (suc d)))) (suc d))
+  pub add_acts : (d : ℕ) → suc d < 1000000 → Leaves (instruction (at (suc (suc d))) Addl2 (popped Sp ∷ (deferred Sp ∷ [])) None) (λ c. deep items input place r0 c (with_number Long stack (place_at (suc d)) (add32 (last (suc (suc d))) (last (suc d)))) (suc d))
   add_acts d lt =
       let y = last (suc (suc d)) in
       let x = last (suc d) in
       let c = (valued Long (add32 y x) (nat_le (2 ^ 32) (y + x))).conditions in (
         c,
-        instruction_is (at (suc (suc d))) (at (suc d)) Addl2 (plain (bases.Inc Sp) ∷ (plain (bases.Def Sp) ∷ [])) None (in_front (only_number y) (in_front (with_destination x (locations.Memory (sp_at (suc d))) Long) no_arguments)) (both_evaluated d lt)
+        instruction_is (at (suc (suc d))) (at (suc d)) Addl2 (popped Sp ∷ (deferred Sp ∷ [])) None (in_front (only_number y) (in_front (with_destination x (locations.Memory (sp_at (suc d))) Long) no_arguments)) (both_evaluated d lt)
             ∙ ap (λ (r : Result State Stop). r >>= λ (n : State). Ok (None, with_conditions n c)) (top_stored d (add32 y x) (omega arith)),
       )
 
-  pub subtract_acts : (d : ℕ) → suc d < 1000000 → Leaves (instruction (at (suc (suc d))) Subl2 (plain (bases.Inc Sp) ∷ (plain (bases.Def Sp) ∷ [])) None) (λ c. deep items input place r0 c (with_number Long stack (place_at (suc d)) (sub32 (last (suc d)) (last (suc (suc d))))) (suc d))
+  pub subtract_acts : (d : ℕ) → suc d < 1000000 → Leaves (instruction (at (suc (suc d))) Subl2 (popped Sp ∷ (deferred Sp ∷ [])) None) (λ c. deep items input place r0 c (with_number Long stack (place_at (suc d)) (sub32 (last (suc d)) (last (suc (suc d))))) (suc d))
   subtract_acts d lt =
       let y = last (suc (suc d)) in
       let x = last (suc d) in
       let c = (valued Long (sub32 x y) (nat_lt x y)).conditions in (
         c,
-        instruction_is (at (suc (suc d))) (at (suc d)) Subl2 (plain (bases.Inc Sp) ∷ (plain (bases.Def Sp) ∷ [])) None (in_front (only_number y) (in_front (with_destination x (locations.Memory (sp_at (suc d))) Long) no_arguments)) (both_evaluated d lt)
+        instruction_is (at (suc (suc d))) (at (suc d)) Subl2 (popped Sp ∷ (deferred Sp ∷ [])) None (in_front (only_number y) (in_front (with_destination x (locations.Memory (sp_at (suc d))) Long) no_arguments)) (both_evaluated d lt)
             ∙ ap (λ (r : Result State Stop). r >>= λ (n : State). Ok (None, with_conditions n c)) (top_stored d (sub32 x y) (omega arith)),
       )
 
-  pub pop_acts : (d : ℕ) → d < 1000000 → Leaves (instruction (at (suc d)) Movl (plain (bases.Inc Sp) ∷ (plain (bases.Reg R0) ∷ [])) None) (λ c. deep items input place (last (suc d)) c stack d)
+  pub pop_acts : (d : ℕ) → d < 1000000 → Leaves (instruction (at (suc d)) Movl (popped Sp ∷ (in_reg R0 ∷ [])) None) (λ c. deep items input place (last (suc d)) c stack d)
   pop_acts d lt =
       let v = last (suc d) in
       let c = (valued Long v codes.carry).conditions in
       let there = with_destination 0 (locations.Register R0) Long in (
         c,
-        instruction_is (at (suc d)) (at d) Movl (plain (bases.Inc Sp) ∷ (plain (bases.Reg R0) ∷ [])) None (in_front (only_number v) (in_front there no_arguments)) (two_operands (at (suc d)) (at d) (at d) (table.read Long) (table.write Long) (plain (bases.Inc Sp)) (plain (bases.Reg R0)) (only_number v) there (popped_evaluated d lt) (r0_evaluated (at d)))
+        instruction_is (at (suc d)) (at d) Movl (popped Sp ∷ (in_reg R0 ∷ [])) None (in_front (only_number v) (in_front there no_arguments)) (two_operands (at (suc d)) (at d) (at d) (table.read Long) (table.write Long) (popped Sp) (in_reg R0) (only_number v) there (popped_evaluated d lt) (r0_evaluated (at d)))
             ∙ ap (λ (r : Result State Stop). r >>= λ (n : State). Ok (None, with_conditions n c)) (r0_stored d v),
       )
 

@@ -9,9 +9,9 @@ use Rattle.gg_base.specs.Runs.{Outcome, byte_first, stop}
 use Rattle.gg_base.specs.Follows.{Forward, NeverBroken, IsBroken, AsksAt}
 use Rattle.gg_base.proofs.Following.{follows}
 use Rattle.vax_core.specs.declared.code.CodeItem.{CodeItem}
-use Rattle.first_text.specs.declared.stack_op.StackOp.{StackOp}
-use Rattle.first_text.specs.declared.stack_op.StackOp.TheVariants.{Put, Pop, Return}
-use Rattle.first_text.specs.StackCode.{op_item, entry, IsStackOp, IsFirstCode}
+use Rattle.vax_core.specs.First.{Act}
+use Rattle.vax_core.specs.First.{Put, Pop, Return}
+use Rattle.vax_core.specs.First.{act_item, entry, IsAct, IsFirstCode}
 use Rattle.vax_machine.specs.declared.function.Conditions.{Conditions}
 use Rattle.vax_machine.specs.State.{State, cleared}
 use Rattle.vax_machine.specs.Memory.{number_in}
@@ -22,11 +22,11 @@ use Rattle.first_form.specs.declared.syntax.Sign.TheVariants.{Plus, Minus}
 use Rattle.first_form.specs.Shapes.{Shape, Number, Signed, Parenthesised, ProgramShape}
 use Rattle.first_form.specs.Source.{signs, IsExpression, IsStatement, IsFirstForm}
 use Rattle.first_form.specs.Meaning.{value, writing, written, source_run}
-use Rattle.first_code.specs.Code.{sign_op, expression_ops, put_ops, return_ops, program_ops, program_code}
+use Rattle.first_code.specs.Code.{sign_act, expression_acts, put_acts, return_acts, program_acts, program_code}
 use Rattle.first_code.specs.Keeps.{Keeps, Halts}
 use Rattle.first_code.proofs.Depths.{place_at, deep}
 use Rattle.first_code.proofs.Instructions as does
-use Rattle.first_code.proofs.Placing.{HasOps, has_front, has_back, has_all, act_is}
+use Rattle.first_code.proofs.Placing.{HasActs, has_front, has_back, has_all, act_is}
 use Rattle.first_code.proofs.Finishing.{Finishes, goes, writes, ends_here, finishes_with}
 use Rattle.first_code.proofs.Expressions.{expression_goes}
 use Rattle.first_code.proofs.Labelling.{ops_load}
@@ -36,16 +36,16 @@ module _ (list : List CodeItem) (input : List ℕ) where
   elsewhere : (place place' n r0 result : ℕ) (output : List ℕ) (codes : Conditions) (stack : List ℕ) → place ≡ place' → Finishes (deep list input place' r0 codes stack 0) n output result → Finishes (deep list input place r0 codes stack 0) n output result
   elsewhere place place' n r0 result output codes stack e h = subst (λ (p : ℕ). Finishes (deep list input p r0 codes stack 0) n output result) (sym e) h
 
-  puts_go : (es : List Shape) (place n r0 result : ℕ) (output : List ℕ) (codes : Conditions) (stack : List ℕ) → AllByRecursion IsStatement es → HasOps list place (flat_map put_ops es) → length stack ≡ 8388608 →
-      ((r : ℕ) (c : Conditions) (new : List ℕ) → length new ≡ 8388608 → Finishes (deep list input (place + length (flat_map put_ops es)) r c new 0) n output result)
-      → Finishes (deep list input place r0 codes stack 0) (length (flat_map put_ops es) + n) (written es ++ output) result
+  puts_go : (es : List Shape) (place n r0 result : ℕ) (output : List ℕ) (codes : Conditions) (stack : List ℕ) → AllByRecursion IsStatement es → HasActs list place (flat_map put_acts es) → length stack ≡ 8388608 →
+      ((r : ℕ) (c : Conditions) (new : List ℕ) → length new ≡ 8388608 → Finishes (deep list input (place + length (flat_map put_acts es)) r c new 0) n output result)
+      → Finishes (deep list input place r0 codes stack 0) (length (flat_map put_acts es) + n) (written es ++ output) result
   puts_go [] place n r0 result output codes stack all has len h =
       let count : n ≡ 0 + n = omega arith in
       let there : place ≡ place + 0 = omega arith in
       finishes_with _ n (0 + n) result output count (elsewhere place (place + 0) n r0 result output codes stack there (h r0 codes stack len))
   puts_go (e ∷ es) place n r0 result output codes stack all has len h =
-      let E = expression_ops e in
-      let R = flat_map put_ops es in
+      let E = expression_acts e in
+      let R = flat_map put_acts es in
       let m = deep list input place r0 codes stack 0 in
       let has1 = has_front list place (E ++ Put ∷ []) R has in
       let has2 = has_back list place (E ++ Put ∷ []) R has in
@@ -68,10 +68,10 @@ module _ (list : List CodeItem) (input : List ℕ) where
       (puts_go es (place + length (E ++ Put ∷ [])) n b result output cleared s all.1 has2 kept.size
       (λ r c new size. elsewhere (place + length (E ++ Put ∷ []) + length R) (place + length ((E ++ Put ∷ []) ++ R)) n r result output c new after (h r c new size)))))))
 
-  return_goes : (e : Shape) (place k r0 : ℕ) (codes : Conditions) (stack : List ℕ) → IsStatement e → HasOps list place (return_ops e) → length stack ≡ 8388608 →
-      Finishes (deep list input place r0 codes stack 0) (length (return_ops e) + k) [] (value e)
+  return_goes : (e : Shape) (place k r0 : ℕ) (codes : Conditions) (stack : List ℕ) → IsStatement e → HasActs list place (return_acts e) → length stack ≡ 8388608 →
+      Finishes (deep list input place r0 codes stack 0) (length (return_acts e) + k) [] (value e)
   return_goes e place k r0 codes stack is_statement has len =
-      let E = expression_ops e in
+      let E = expression_acts e in
       let m = deep list input place r0 codes stack 0 in
       let tail = has_back list place E (Pop ∷ (Return ∷ [])) has in
       let count : length E + suc (suc k) ≡ length (E ++ (Pop ∷ (Return ∷ []))) + k = omega (arith, length-append E (Pop ∷ (Return ∷ []))) in
@@ -91,10 +91,10 @@ module _ (list : List CodeItem) (input : List ℕ) where
 code_finishes : (p : ProgramShape) → IsFirstForm p → (input : List ℕ) → Finishes (deep (program_code p).items input 3 0 cleared first_stack 0) (length (program_code p).items) (written p.puts) (value p.answer)
 code_finishes p form input =
     let list = (program_code p).items in
-    let P = flat_map put_ops p.puts in
-    let R = return_ops p.answer in
+    let P = flat_map put_acts p.puts in
+    let R = return_acts p.answer in
     let has = has_all (P ++ R) entry in
-    let count : length P + (length R + 3) ≡ length list = omega (arith, length-append entry (map op_item (P ++ R)), length-map (P ++ R) op_item, length-append P R) in
+    let count : length P + (length R + 3) ≡ length list = omega (arith, length-append entry (map act_item (P ++ R)), length-map (P ++ R) act_item, length-append P R) in
     let whole = puts_go list input p.puts 3 (length R + 3) 0 (value p.answer) [] cleared first_stack form.puts (has_front list 3 P R has) first_stack_size
     (λ r c new size. return_goes list input p.answer (3 + length P) 3 r c new form.answer (has_back list 3 P R has) size) in
     subst (λ (o : List ℕ). Finishes (deep list input 3 0 cleared first_stack 0) (length list) o (value p.answer)) (append-nil (written p.puts))
@@ -102,9 +102,9 @@ code_finishes p form input =
 
 pub code_halts : (p : ProgramShape) → IsFirstForm p → (input : List ℕ) → Halts (program_code p) input (written p.puts) (value p.answer)
 code_halts p form input =
-    let begun = sym (start_is (program_ops p) input) in
+    let begun = sym (start_is (program_acts p) input) in
     let h = subst (λ (m : State). Finishes m (length (program_code p).items) (written p.puts) (value p.answer)) begun (code_finishes p form input) in
-    record { loads = ops_load (program_ops p); written = h.written; ended = h.ended }
+    record { loads = ops_load (program_acts p); written = h.written; ended = h.ended }
 
 -- ---- the program's own run
 
@@ -125,32 +125,32 @@ code_forward p form input k =
 
 pub code_keeps : (p : ProgramShape) → IsFirstForm p → Keeps p (program_code p)
 code_keeps p form = record {
-  loads = ops_load (program_ops p);
+  loads = ops_load (program_acts p);
   follows = λ input short. follows (source_run p input) (run (program_code p) input) (source_whole p input) (code_forward p form input) (run_has_one_end (program_code p) input);
 }
 
 -- ---- the numbers that are pushed
 
-all_append : (xs ys : List StackOp) → AllByRecursion IsStackOp xs → AllByRecursion IsStackOp ys → AllByRecursion IsStackOp (xs ++ ys)
+all_append : (xs ys : List Act) → AllByRecursion IsAct xs → AllByRecursion IsAct ys → AllByRecursion IsAct (xs ++ ys)
 all_append [] ys h g = g
 all_append (x ∷ xs) ys h g = (h.0, all_append xs ys h.1 g)
 
-sign_fits : (sign : Sign) → IsStackOp (sign_op sign)
+sign_fits : (sign : Sign) → IsAct (sign_act sign)
 sign_fits Plus = tt
 sign_fits Minus = tt
 
-expression_fits : (e : Shape) → IsExpression e → AllByRecursion IsStackOp (expression_ops e)
+expression_fits : (e : Shape) → IsExpression e → AllByRecursion IsAct (expression_acts e)
 expression_fits (Number n) h = (h, tt)
-expression_fits (Signed sign left right) h = all_append (expression_ops left) (expression_ops right ++ sign_op sign ∷ []) (expression_fits left h.0) (all_append (expression_ops right) (sign_op sign ∷ []) (expression_fits right h.1.0) (sign_fits sign, tt))
+expression_fits (Signed sign left right) h = all_append (expression_acts left) (expression_acts right ++ sign_act sign ∷ []) (expression_fits left h.0) (all_append (expression_acts right) (sign_act sign ∷ []) (expression_fits right h.1.0) (sign_fits sign, tt))
 expression_fits (Parenthesised inner) h = expression_fits inner h
 
-puts_fit : (es : List Shape) → AllByRecursion IsStatement es → AllByRecursion IsStackOp (flat_map put_ops es)
+puts_fit : (es : List Shape) → AllByRecursion IsStatement es → AllByRecursion IsAct (flat_map put_acts es)
 puts_fit [] h = tt
-puts_fit (e ∷ es) h = all_append (put_ops e) (flat_map put_ops es) (all_append (expression_ops e) (Put ∷ []) (expression_fits e h.0.grouped) (tt, tt)) (puts_fit es h.1)
+puts_fit (e ∷ es) h = all_append (put_acts e) (flat_map put_acts es) (all_append (expression_acts e) (Put ∷ []) (expression_fits e h.0.grouped) (tt, tt)) (puts_fit es h.1)
 
 pub code_is_first : (p : ProgramShape) → IsFirstForm p → IsFirstCode (program_code p)
 code_is_first p form = record {
-  ops = program_ops p;
-  fit = all_append (flat_map put_ops p.puts) (return_ops p.answer) (puts_fit p.puts form.puts) (all_append (expression_ops p.answer) (Pop ∷ (Return ∷ [])) (expression_fits p.answer form.answer.grouped) (tt, (tt, tt)));
+  acts = program_acts p;
+  fit = all_append (flat_map put_acts p.puts) (return_acts p.answer) (puts_fit p.puts form.puts) (all_append (expression_acts p.answer) (Pop ∷ (Return ∷ [])) (expression_fits p.answer form.answer.grouped) (tt, (tt, tt)));
   code = refl;
 }

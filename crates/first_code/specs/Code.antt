@@ -2,32 +2,32 @@
 use Rattle.std.specs.Prelude.{List, [], ◌∷◌, ◌++◌}
 use Rattle.std.specs.List.{flat_map}
 use Rattle.vax_core.specs.declared.code.Code.{Code}
-use Rattle.first_text.specs.declared.stack_op.StackOp.{StackOp}
-use Rattle.first_text.specs.declared.stack_op.StackOp.TheVariants.{Push, Add, Subtract, Put, Pop, Return}
-use Rattle.first_text.specs.StackCode.{first_code}
+use Rattle.vax_core.specs.First.{Act}
+use Rattle.vax_core.specs.First.{Push, Add, Subtract, Put, Pop, Return}
+use Rattle.vax_core.specs.First.{first_code}
 use Rattle.first_form.specs.declared.syntax.Sign.{Sign}
 use Rattle.first_form.specs.declared.syntax.Sign.TheVariants.{Plus, Minus}
 use Rattle.first_form.specs.Shapes.{Shape, Number, Signed, Parenthesised, ProgramShape}
 
-abbrev pub sign_op : Sign → StackOp
-sign_op Plus = Add
-sign_op Minus = Subtract
+abbrev pub sign_act : Sign → Act
+sign_act Plus = Add
+sign_act Minus = Subtract
 
-abbrev pub expression_ops : Shape → List StackOp
-expression_ops (Number n) = Push n ∷ []
-expression_ops (Signed sign left right) = expression_ops left ++ (expression_ops right ++ sign_op sign ∷ [])
-expression_ops (Parenthesised inner) = expression_ops inner
+abbrev pub expression_acts : Shape → List Act
+expression_acts (Number n) = Push n ∷ []
+expression_acts (Signed sign left right) = expression_acts left ++ (expression_acts right ++ sign_act sign ∷ [])
+expression_acts (Parenthesised inner) = expression_acts inner
 
 -- `putchar(E);`
-abbrev pub put_ops : Shape → List StackOp
-put_ops e = expression_ops e ++ Put ∷ []
+abbrev pub put_acts : Shape → List Act
+put_acts e = expression_acts e ++ Put ∷ []
 
 -- `return E;`
-abbrev pub return_ops : Shape → List StackOp
-return_ops e = expression_ops e ++ (Pop ∷ (Return ∷ []))
+abbrev pub return_acts : Shape → List Act
+return_acts e = expression_acts e ++ (Pop ∷ (Return ∷ []))
 
-abbrev pub program_ops : ProgramShape → List StackOp
-program_ops p = flat_map put_ops p.puts ++ return_ops p.answer
+abbrev pub program_acts : ProgramShape → List Act
+program_acts p = flat_map put_acts p.puts ++ return_acts p.answer
 
 abbrev pub program_code : ProgramShape → Code
-program_code p = first_code (program_ops p)
+program_code p = first_code (program_acts p)

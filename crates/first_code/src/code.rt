@@ -3,19 +3,20 @@ ghost use Rattle.std.specs.Prelude.{◌≡◌, ◌++◌, ◌∷◌, [], OnOk, If
 ghost use Rattle.first_form.specs.Shapes.{shape, program_shape};
 ghost use Rattle.first_form.specs.Source.{IsFirstForm};
 ghost use Rattle.first_form.specs.Meaning.{value, written};
-ghost use Rattle.first_text.specs.StackCode.{op_item, IsFirstCode};
-ghost use Rattle.first_code.specs.Code.{sign_op, expression_ops, put_ops, return_ops, program_code};
+ghost use Rattle.vax_core.specs.First.{act_item, IsFirstCode};
+ghost use Rattle.first_text.specs.Reading.{act_of};
+ghost use Rattle.first_code.specs.Code.{sign_act, expression_acts, put_acts, return_acts, program_code};
 ghost use Rattle.first_code.specs.Keeps.{Keeps, Halts};
 
-use crate::items::{entry, item};
 use first_form::{Expression, Program, Sign};
 use first_text::StackOp;
+use first_text::item::{entry, item};
 use gg_base::NoMemory;
 use std::alloc::Global;
 use vax_core::{AreaItems, Code, CodeItem, CodeItems};
 
 fn sign_op(sign: Sign) -> StackOp
-    ensures { result ≡ sign_op sign }
+    ensures { act_of result ≡ sign_act sign }
 {
     match sign {
         Sign::Plus => StackOp::Add,
@@ -26,7 +27,7 @@ fn sign_op(sign: Sign) -> StackOp
 // Recurses as deep as signs and parentheses are nested: at most 190 levels in a program of the first form.
 #[tactic(auto, using(std::proofs::lemmas::Grind::common_steps, crate::proofs::Emitting::map_both))]
 fn emit_expression(alloc: Global, code: &mut Vec<CodeItem>, e: &Expression) -> Result<(), NoMemory>
-    ensures { OnOk result (code.new.items ≡ code.old.items ++ map op_item (expression_ops (shape e.now))) }
+    ensures { OnOk result (code.new.items ≡ code.old.items ++ map act_item (expression_acts (shape e.now))) }
 {
     match e {
         Expression::Number(n) => {
@@ -45,7 +46,7 @@ fn emit_expression(alloc: Global, code: &mut Vec<CodeItem>, e: &Expression) -> R
 
 #[tactic(auto, using(std::proofs::lemmas::Grind::common_steps, crate::proofs::Emitting::map_both))]
 fn emit_put(alloc: Global, code: &mut Vec<CodeItem>, e: &Expression) -> Result<(), NoMemory>
-    ensures { OnOk result (code.new.items ≡ code.old.items ++ map op_item (put_ops (shape e.now))) }
+    ensures { OnOk result (code.new.items ≡ code.old.items ++ map act_item (put_acts (shape e.now))) }
 {
     emit_expression(alloc, code, e)?;
     code.push(item(alloc, StackOp::Put)?)?;
@@ -54,7 +55,7 @@ fn emit_put(alloc: Global, code: &mut Vec<CodeItem>, e: &Expression) -> Result<(
 
 #[tactic(auto, using(std::proofs::lemmas::Grind::common_steps, crate::proofs::Emitting::map_both))]
 fn emit_return(alloc: Global, code: &mut Vec<CodeItem>, e: &Expression) -> Result<(), NoMemory>
-    ensures { OnOk result (code.new.items ≡ code.old.items ++ map op_item (return_ops (shape e.now))) }
+    ensures { OnOk result (code.new.items ≡ code.old.items ++ map act_item (return_acts (shape e.now))) }
 {
     emit_expression(alloc, code, e)?;
     code.push(item(alloc, StackOp::Pop)?)?;

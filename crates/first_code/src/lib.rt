@@ -3,7 +3,6 @@
 
 pub mod code;
 pub mod halt;
-mod items;
 pub mod laws;
 
 pub use code::emit;

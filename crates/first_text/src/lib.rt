@@ -3,7 +3,7 @@
 
 pub mod fault;
 mod front;
-mod item;
+pub mod item;
 pub mod reader;
 pub mod stack_op;
 pub mod writer;
