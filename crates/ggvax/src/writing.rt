@@ -1,0 +1,42 @@
+// Writing to a sink until all is written or a write fails.
+ghost use Rattle.std.specs.Prelude.{◌≡◌, ◌≢◌, ◌⊎◌, ◌≤◌, OnOk, IsErrOf, codes};
+ghost use Rattle.gg_outside.specs.declared.faults.SinkFault.TheVariants as sink_faults;
+ghost use Rattle.ggvax.specs.Writing.{change, Gains, GainsFront, Rises, Reports};
+
+use crate::status::Status;
+use gg_outside::{Sink, SinkFault};
+
+/// Writes all of the bytes, in as many calls as the sink wants.
+pub fn write_all<K: Sink>(sink: &mut K, bytes: &[u8]) -> Result<(), SinkFault>
+    ensures all { OnOk result (Gains (change K.told K.faults sink.old sink.new) bytes.now) }
+    ensures front { GainsFront (change K.told K.faults sink.old sink.new) bytes.now }
+    ensures counts { K.faults sink.old ≤ K.faults sink.new }
+    ensures cause { IsErrOf result sink_faults.Failed → Rises (change K.told K.faults sink.old sink.new) }
+{
+    let mut rest = bytes;
+    while !rest.is_empty() {
+        let n = sink.write(rest)?;
+        rest = &rest[n..];
+    }
+    Ok(())
+}
+
+/// Writes the line of a refusal and answers its status, which a failing write doesn't change; want of memory does.
+pub fn refuse<E: Sink>(report: &mut E, line: &[u8], status: Status) -> Status
+    requires { status ≢ Status.NoMemory }
+    ensures answer { (result ≡ status) ⊎ (result ≡ Status.NoMemory) }
+    ensures line { result ≡ status → Reports (change E.told E.faults report.old report.new) line.now }
+{
+    match write_all(report, line) {
+        Ok(()) | Err(SinkFault::Failed) => status,
+        Err(SinkFault::NoMemory) => Status::NoMemory,
+    }
+}
+
+/// Writes the line of a want of memory, as far as can be.
+pub fn no_memory<E: Sink>(report: &mut E) -> Status
+    ensures { result ≡ Status.NoMemory }
+{
+    let _ = write_all(report, b"ggvax: no memory\n");
+    Status::NoMemory
+}
