@@ -2,10 +2,10 @@
 #![tactic(auto)]
 
 mod making;
-mod status;
+pub mod status;
 #[cfg(test)]
 mod tests;
-mod top;
+pub mod top;
 mod writing;
 
 use crate::status::Status;
