@@ -1,5 +1,5 @@
 -- How the writing of a program's text and report ends.
-use Rattle.std.proofs.Common.{◌≡◌, ℕ, List, subst, ◌∙◌, sym, inl, inr}
+use Rattle.std.proofs.Common.{◌≡◌, ℕ, List, subst, inl, inr}
 use Rattle.std.specs.Prelude.{codes}
 use Rattle.first_form.specs.Shapes.{ProgramShape}
 use Rattle.first_code.specs.Code.{program_code}

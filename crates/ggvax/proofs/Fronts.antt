@@ -1,8 +1,8 @@
 -- Writing all of some bytes, front by front.
-use Rattle.std.proofs.Common.{◌≡◌, ◌⊎◌, ℕ, ◌<◌, ◌≤◌, List, [], ◌∷◌, ◌++◌, length, take, drop, Option, Some, None, Ok, Err, refl, sym, ap, subst, ◌∙◌, inl, inr, arith, append_assoc}
-use Rattle.std.proofs.lemmas.List.{append-nil, take-append-drop}
-use Rattle.gg_outside.specs.Outside.{Takes, Rose}
-use Rattle.ggvax.specs.Writing.{Change, Adds, GainsFront, Reports}
+use Rattle.std.proofs.Common.{◌≡◌, ℕ, ◌≤◌, List, ◌++◌, take, drop, Option, Some, None, Ok, sym, ap, subst, ◌∙◌, arith, append_assoc}
+use Rattle.std.proofs.lemmas.List.{take-append-drop}
+use Rattle.gg_outside.specs.Outside.{Takes}
+use Rattle.ggvax.specs.Writing.{Change, Adds, Reports}
 
 -- what was written so far is the front before what is left
 pub record WrittenSoFar (sink : Change) (bytes rest : List ℕ) : Type 0 where
@@ -26,9 +26,6 @@ goes_on E old mid new before at now n bytes rest after is counts t h = record {
   counts = omega (arith, h.counts, counts);
 }
 
--- equal lines are reported alike, and their fronts are the same
+-- equal lines are reported alike
 pub Reports-eq : (report : Change) (line other : List ℕ) → line ≡ other → Reports report line → Reports report other
 Reports-eq report line other e h = subst (Reports report) e h
-
-pub GainsFront-eq : (sink : Change) (bytes other : List ℕ) → bytes ≡ other → GainsFront sink bytes → GainsFront sink other
-GainsFront-eq sink bytes other e h = subst (GainsFront sink) e h
