@@ -1,0 +1,8 @@
+//! The descriptions that come with the program: the VAX-11, and a small part of it.
+#![tactic(auto)]
+
+mod small;
+mod vax;
+
+pub use small::M_GG;
+pub use vax::VAX_GG;
