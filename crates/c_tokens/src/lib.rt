@@ -14,3 +14,6 @@ pub use marks::Mark;
 pub use reader::{place_of, tokens};
 pub use token::{Spanned, Token, TokenFault, TokenKind};
 pub use words::Key;
+
+#[cfg(test)]
+mod tests;

@@ -1,0 +1,214 @@
+-- Lemmas of the functions that read expressions.
+use Rattle.std.proofs.Common.{◌≡◌, ◌<◌, ◌≤◌, ℕ, ◌+◌, List, [], ◌∷◌, ◌++◌, length, refl, sym, ◌∙◌, ap, subst, arith}
+use Rattle.std.specs.declared.vec.Vec.{Vec}
+use Rattle.std.specs.declared.alloc.Global.{Global}
+use Rattle.c_tokens.specs.declared.marks.Mark.TheVariants as marks
+use Rattle.c_syntax.specs.declared.operator.BinaryOperator.{BinaryOperator}
+use Rattle.c_syntax.specs.declared.operator.BinaryOperator.TheVariants as binaries
+use Rattle.c_syntax.specs.declared.tree.Expr.{Expr, Row_of-Expr, end_of-Expr, more_of-Expr, items-the_row-Expr}
+use Rattle.c_syntax.specs.declared.tree.Expr.TheBlock.{hidden-the_row-Expr-0, items_hidden-the_row-Expr-0}
+use Rattle.c_syntax.specs.declared.tree.Expr.TheVariants.{Call}
+use Rattle.c_syntax.specs.Classes.{Placed, sign}
+use Rattle.c_syntax.specs.Phrases.{AnExp, name, number, str, paren, call, index, step_after, step_before, prefix, sizeof_exp, sizeof_type, cast, binary, choice, assign, comma, SomeExps, no_exps, exps, onto_exp, onto_first, onto_others, onto_type, onto_spec, onto_stars, onto_int, onto_name, IsAt, AllAt, level_of, binary_mark, step_mark, assign_mark}
+use Rattle.c_syntax.specs.declared.tree.TypeName.{TypeName}
+use Rattle.c_syntax.specs.declared.operator.Spec.{Spec}
+use Rattle.c_syntax.specs.declared.operator.Spec.TheVariants as specs
+use Rattle.std.specs.Prelude.{Option, Some, None, true}
+use Rattle.std.proofs.lemmas.Bool.Decides.{nat_tests}
+use Rattle.c_syntax.specs.Levels.{LowExp, LowExps, limit}
+use Rattle.c_syntax.specs.Shapes.{exp, exps_row, exp_list}
+use Rattle.c_syntax.specs.Reads.{Quiet, IsPart, IsRead, Ready, IsSome, ArgumentsSoFar, ReadsArguments, mark_strength}
+
+-- a call's arguments as a list
+exps_is : (c : _) (row : Row_of-Expr c) → exps_row row ≡ exp_list (items-the_row-Expr c row)
+exps_is c end_of-Expr = refl
+exps_is c (more_of-Expr e rest) = ap (exps (exp e)) (exps_is _ rest)
+
+pub call_is : (n : List ℕ) (at o : ℕ) (list : Vec Expr Global) → exp (Call n at o list) ≡ call n at o (exp_list list.items)
+call_is n at o list = ap (call n at o) (exps_is _ (hidden-the_row-Expr-0 list) ∙ ap exp_list (items_hidden-the_row-Expr-0 list))
+
+pub call_as : (n m : ℕ) (f : List ℕ) (at o : ℕ) (ts : List Placed) (list : Vec Expr Global) (rest : List Placed) → IsPart n ts (call f at o (exp_list list.items)) rest m → IsPart n ts (exp (Call f at o list)) rest m
+call_as n m f at o ts list rest h = subst (λ (x : AnExp). IsPart n ts x rest m) (sym (call_is f at o list)) h
+
+-- one more at the end
+abbrev pub exps_end : SomeExps → AnExp → SomeExps
+exps_end no_exps e = exps e no_exps
+exps_end (exps f fs) e = exps f (exps_end fs e)
+
+pub list_push : (es : List Expr) (e : Expr) → exp_list (es ++ e ∷ []) ≡ exps_end (exp_list es) (exp e)
+list_push [] e = refl
+list_push (f ∷ fs) e = ap (exps (exp f)) (list_push fs e)
+
+others_end : (es : SomeExps) (e : AnExp) (w : List Placed) → onto_others (exps_end es e) w ≡ onto_others es (sign marks.Comma 0 ∷ onto_exp e w)
+others_end no_exps e w = refl
+others_end (exps f fs) e w = ap (λ (l : List Placed). sign marks.Comma 0 ∷ onto_exp f l) (others_end fs e w)
+
+pub first_end : (es : SomeExps) (e : AnExp) (w : List Placed) → IsSome es → onto_first (exps_end es e) w ≡ onto_first es (sign marks.Comma 0 ∷ onto_exp e w)
+first_end no_exps e w h = absurd h
+first_end (exps f fs) e w h = ap (onto_exp f) (others_end fs e w)
+
+pub all_end : (es : SomeExps) (e : AnExp) → AllAt es → IsAt 1 e → AllAt (exps_end es e)
+all_end no_exps e h i = (i, tt)
+all_end (exps f fs) e h i = (h.0, all_end fs e h.1 i)
+
+pub low_end : (es : SomeExps) (e : AnExp) (n : ℕ) → LowExps limit es n → LowExp limit e n → LowExps limit (exps_end es e) n
+low_end no_exps e n h i = (i, tt)
+low_end (exps f fs) e n h i = (h.0, low_end fs e n h.1 i)
+
+pub some_end : (es : SomeExps) (e : AnExp) → IsSome (exps_end es e)
+some_end no_exps e = tt
+some_end (exps f fs) e = tt
+
+pub arguments_more : (n m : ℕ) (ts rest after behind : List Placed) (es : SomeExps) (e : AnExp) → ArgumentsSoFar n ts es rest → rest ≡ sign marks.Comma 0 ∷ after → IsRead 1 1 n after e behind m → ArgumentsSoFar n ts (exps_end es e) behind
+arguments_more n m ts rest after behind es e s f r = record {
+  text = s.text ∙ (ap (onto_first es) (f ∙ ap (λ (l : List Placed). sign marks.Comma 0 ∷ l) r.text) ∙ sym (first_end es e behind s.some));
+  some = some_end es e;
+  at = all_end es e s.at r.at;
+  low = low_end es e n s.low r.low;
+  quiet = r.quiet;
+}
+
+-- an expression has a token
+longer_int : (i : Option ℕ) (w : List Placed) → length w ≤ length (onto_int i w)
+longer_int None w = omega arith
+longer_int (Some at) w = omega arith
+
+longer_stars : (ats : List ℕ) (w : List Placed) → length w ≤ length (onto_stars ats w)
+longer_stars [] w = omega arith
+longer_stars (at ∷ ats) w = omega (arith, longer_stars ats w)
+
+longer_spec : (s : Spec) (w : List Placed) → length w ≤ length (onto_spec s w)
+longer_spec (specs.Int at) w = omega arith
+longer_spec (specs.Char at) w = omega arith
+longer_spec (specs.Short at i) w = omega (arith, longer_int i w)
+longer_spec (specs.UnsignedChar at b) w = omega arith
+longer_spec (specs.UnsignedShort at b i) w = omega (arith, longer_int i w)
+longer_spec (specs.Void at) w = omega arith
+
+longer_type : (t : TypeName) (w : List Placed) → length w ≤ length (onto_type t w)
+longer_type t w = omega (arith, longer_spec t.spec (onto_stars t.stars w), longer_stars t.stars w)
+
+mutual
+  pub longer_exp : (e : AnExp) (w : List Placed) → length w < length (onto_exp e w)
+  longer_exp (name n at) w = omega arith
+  longer_exp (number v at) w = omega arith
+  longer_exp (str b at) w = omega arith
+  longer_exp (paren o e) w = omega (arith, longer_exp e (sign marks.CloseParenthesis 0 ∷ w))
+  longer_exp (call n at o es) w = omega (arith, longer_first es (sign marks.CloseParenthesis 0 ∷ w))
+  longer_exp (index e o i) w = omega (arith, longer_exp e (sign marks.OpenBracket o ∷ onto_exp i (sign marks.CloseBracket 0 ∷ w)), longer_exp i (sign marks.CloseBracket 0 ∷ w))
+  longer_exp (step_after e op at) w = omega (arith, longer_exp e (sign (step_mark op) at ∷ w))
+  longer_exp (step_before op at e) w = omega (arith, longer_exp e w)
+  longer_exp (prefix op at e) w = omega (arith, longer_exp e w)
+  longer_exp (sizeof_exp at e) w = omega (arith, longer_exp e w)
+  longer_exp (sizeof_type at o t) w = omega (arith, longer_type t (sign marks.CloseParenthesis 0 ∷ w))
+  longer_exp (cast o t e) w = omega (arith, longer_type t (sign marks.CloseParenthesis 0 ∷ onto_exp e w), longer_exp e w)
+  longer_exp (binary l op at r) w = omega (arith, longer_exp l (sign (binary_mark op) at ∷ onto_exp r w), longer_exp r w)
+  longer_exp (choice c at e d) w = omega (arith, longer_exp c (sign marks.Question at ∷ onto_exp e (sign marks.Colon 0 ∷ onto_exp d w)), longer_exp e (sign marks.Colon 0 ∷ onto_exp d w), longer_exp d w)
+  longer_exp (assign p op at v) w = omega (arith, longer_exp p (sign (assign_mark op) at ∷ onto_exp v w), longer_exp v w)
+  longer_exp (comma l r) w = omega (arith, longer_exp l (sign marks.Comma 0 ∷ onto_exp r w), longer_exp r w)
+
+  pub longer_first : (es : SomeExps) (w : List Placed) → length w ≤ length (onto_first es w)
+  longer_first no_exps w = omega arith
+  longer_first (exps e es) w = omega (arith, longer_exp e (onto_others es w), longer_others es w)
+
+  pub longer_others : (es : SomeExps) (w : List Placed) → length w ≤ length (onto_others es w)
+  longer_others no_exps w = omega arith
+  longer_others (exps e es) w = omega (arith, longer_exp e (onto_others es w), longer_others es w)
+
+pub arguments_shorter : (n m : ℕ) (rest after behind : List Placed) (e : AnExp) → rest ≡ sign marks.Comma 0 ∷ after → IsRead 1 1 n after e behind m → length behind < length rest
+arguments_shorter n m rest after behind e f r = omega (arith, ap length f, ap length r.text, longer_exp e behind)
+
+-- a phrase of a higher number stands where a lower one may
+pub lower : (j k : ℕ) (e : AnExp) → j ≤ k → IsAt k e → IsAt j e
+lower j k (name n at) le h = tt
+lower j k (number v at) le h = tt
+lower j k (str b at) le h = tt
+lower j k (paren o e) le h = h
+lower j k (call n at o es) le h = h
+lower j k (index e o i) le h = (omega (arith, h.0), h.1)
+lower j k (step_after e op at) le h = (omega (arith, h.0), h.1)
+lower j k (step_before op at e) le h = (omega (arith, h.0), h.1)
+lower j k (prefix op at e) le h = (omega (arith, h.0), h.1)
+lower j k (sizeof_exp at e) le h = (omega (arith, h.0), h.1)
+lower j k (sizeof_type at o t) le h = omega (arith, h)
+lower j k (cast o t e) le h = (omega (arith, h.0), h.1)
+lower j k (binary l op at r) le h = (omega (arith, h.0), h.1)
+lower j k (choice c at e d) le h = (omega (arith, h.0), h.1)
+lower j k (assign p op at v) le h = (omega (arith, h.0), h.1)
+lower j k (comma l r) le h = (omega (arith, h.0), h.1)
+
+binary_strength : (op : BinaryOperator) → mark_strength (binary_mark op) ≡ level_of op + 1
+binary_strength binaries.OrOr = refl
+binary_strength binaries.AndAnd = refl
+binary_strength binaries.Or = refl
+binary_strength binaries.Xor = refl
+binary_strength binaries.And = refl
+binary_strength binaries.Equal = refl
+binary_strength binaries.NotEqual = refl
+binary_strength binaries.Less = refl
+binary_strength binaries.LessEqual = refl
+binary_strength binaries.Greater = refl
+binary_strength binaries.GreaterEqual = refl
+binary_strength binaries.ShiftLeft = refl
+binary_strength binaries.ShiftRight = refl
+binary_strength binaries.Add = refl
+binary_strength binaries.Subtract = refl
+binary_strength binaries.Multiply = refl
+binary_strength binaries.Divide = refl
+binary_strength binaries.Remainder = refl
+
+level_top : (op : BinaryOperator) → level_of op ≤ 12
+level_top binaries.OrOr = omega arith
+level_top binaries.AndAnd = omega arith
+level_top binaries.Or = omega arith
+level_top binaries.Xor = omega arith
+level_top binaries.And = omega arith
+level_top binaries.Equal = omega arith
+level_top binaries.NotEqual = omega arith
+level_top binaries.Less = omega arith
+level_top binaries.LessEqual = omega arith
+level_top binaries.Greater = omega arith
+level_top binaries.GreaterEqual = omega arith
+level_top binaries.ShiftLeft = omega arith
+level_top binaries.ShiftRight = omega arith
+level_top binaries.Add = omega arith
+level_top binaries.Subtract = omega arith
+level_top binaries.Multiply = omega arith
+level_top binaries.Divide = omega arith
+level_top binaries.Remainder = omega arith
+
+quieter : (j k : ℕ) (ts : List Placed) → j ≤ k → Quiet j ts → Quiet k ts
+quieter j k [] le q = tt
+quieter j k (t ∷ ts) le q = omega (arith, q)
+
+-- the operator takes what stands in front of it as its left operand
+pub ready_more : (lowest : ℕ) (l r : AnExp) (op : BinaryOperator) (at : ℕ) (ts after rest : List Placed) → Ready lowest l ts → ts ≡ sign (binary_mark op) at ∷ after → lowest ≤ level_of op → IsAt (level_of op + 1) r → Quiet (level_of op + 1) rest → Ready lowest (binary l op at r) rest
+ready_more lowest l r op at ts after rest d e le h q =
+    let s : mark_strength (binary_mark op) ≤ d.phrase + 1 = subst (Quiet (d.phrase + 1)) e d.quiet in
+    let same : mark_strength (binary_mark op) ≡ level_of op + 1 = binary_strength op in
+    let top : level_of op ≤ 12 = level_top op in
+    record {
+      phrase = level_of op;
+      at = (omega arith, (lower (level_of op) d.phrase l (omega arith) d.at, h));
+      least = le;
+      quiet = q;
+      operators = quieter (level_of op + 1) 13 rest (omega arith) q;
+    }
+
+pub ready_as : (lowest p q : ℕ) (l r a b : AnExp) (op : BinaryOperator) (at : ℕ) (ts after rest : List Placed) → Ready lowest l ts → ts ≡ sign (binary_mark op) at ∷ after → p ≡ level_of op → q ≡ level_of op → lowest ≤ p → IsAt (q + 1) r → Quiet (q + 1) rest → a ≡ l → b ≡ r → Ready lowest (binary a op at b) rest
+ready_as lowest p q l r a b op at ts after rest d e f g le h i j k = rw (j, k) (ready_more lowest l r op at ts after rest d e (omega arith) (rw g at h) (rw g at i))
+
+limit_low : (m : ℕ) → m ≤ 200 → limit m ≡ true
+limit_low m le = grind (arith, nat_tests)
+
+pub call_read : (n m : ℕ) (f : List ℕ) (at o : ℕ) (ts after : List Placed) (es : SomeExps) (rest : List Placed) → ts ≡ sign marks.OpenParenthesis o ∷ after → (m ≡ n + 2) × (n + 2 ≤ 200) → ReadsArguments m after es rest → IsPart n (onto_name f at ts) (call f at o es) rest (n + 1)
+call_read n m f at o ts after es rest e up r =
+    let low : n + 2 ≤ 200 = up.1 in
+    record {
+      text = rw (e, r.text) refl;
+      at = r.at;
+      low = (limit_low (n + 2) up.1, rw up.0 at r.low);
+      level = refl;
+      rises = omega arith;
+      top = omega arith;
+    }

@@ -1,0 +1,44 @@
+-- Tokens as the phrases see them.
+use Rattle.std.proofs.Common.{◌≡◌, suc, List, [], ◌∷◌, length, refl, ap}
+use Rattle.c_tokens.specs.declared.token.Token.{Token}
+use Rattle.c_tokens.specs.declared.token.Token.TheVariants as token
+use Rattle.c_tokens.specs.declared.token.Spanned.{Spanned}
+use Rattle.c_tokens.specs.declared.marks.Mark.{Mark}
+use Rattle.c_syntax.specs.Classes.{Placed, seen}
+use Rattle.c_syntax.specs.Takes.{NoMark, NoBinary, NoPrefix, NoStep, NoAssign, NoBinaryMark, NoPrefixMark, NoStepMark, NoAssignMark}
+
+pub length_seen : (ts : List Spanned) → length (seen ts) ≡ length ts
+length_seen [] = refl
+length_seen (t ∷ ts) = ap suc (length_seen ts)
+
+pub no_binary : (ts : List Placed) → NoMark ts → NoBinary ts
+no_binary [] h = tt
+no_binary (t ∷ ts) h = by t.kind h
+  where
+    by : (k : Token) → ((m : Mark) → k ≡ token.Mark m → ⊥) → NoBinaryMark k
+    by (token.Mark m) h = absurd (h m refl)
+    by k h = tt
+
+pub no_prefix : (ts : List Placed) → NoMark ts → NoPrefix ts
+no_prefix [] h = tt
+no_prefix (t ∷ ts) h = by t.kind h
+  where
+    by : (k : Token) → ((m : Mark) → k ≡ token.Mark m → ⊥) → NoPrefixMark k
+    by (token.Mark m) h = absurd (h m refl)
+    by k h = tt
+
+pub no_step : (ts : List Placed) → NoMark ts → NoStep ts
+no_step [] h = tt
+no_step (t ∷ ts) h = by t.kind h
+  where
+    by : (k : Token) → ((m : Mark) → k ≡ token.Mark m → ⊥) → NoStepMark k
+    by (token.Mark m) h = absurd (h m refl)
+    by k h = tt
+
+pub no_assign : (ts : List Placed) → NoMark ts → NoAssign ts
+no_assign [] h = tt
+no_assign (t ∷ ts) h = by t.kind h
+  where
+    by : (k : Token) → ((m : Mark) → k ≡ token.Mark m → ⊥) → NoAssignMark k
+    by (token.Mark m) h = absurd (h m refl)
+    by k h = tt

@@ -1,0 +1,451 @@
+// Expressions. The levels bound the recursion.
+ghost use Rattle.std.specs.Prelude.{◌≡◌, ◌≤◌, ◌+◌, ◌∷◌, length, IfOk, IfSome, IfNone, MatchOption};
+ghost use Rattle.c_tokens.specs.declared.marks.Mark.TheVariants as marks;
+ghost use Rattle.c_syntax.specs.Classes.{seen, sign};
+ghost use Rattle.c_syntax.specs.Phrases.{IsAt, onto_name};
+ghost use Rattle.c_syntax.specs.Shapes.{exp, exp_list};
+ghost use Rattle.c_syntax.specs.Reads.{IsRead, IsMore, IsPart, Ready, Quiet, NoCast, NoName, ReadsArguments, ReadsSizeof};
+
+use crate::fault::Fault;
+use crate::take::{
+    begins_type, open_levels, take_assign, take_binary, take_key, take_mark, take_prefix,
+    take_step, want_mark,
+};
+use crate::tree::Expr;
+use crate::types::type_name;
+use c_tokens::{Key, Mark, Spanned, Token};
+use gg_base::{Bytes, Name};
+use std::alloc::Global;
+
+fn name_of(alloc: Global, bytes: &[u8]) -> Result<Name, Fault>
+    ensures { IfOk result (λ n. n ≡ bytes.now) }
+{
+    let mut copy = Vec::new(alloc);
+    copy.extend_from_slice(bytes)?;
+    Ok(Name::from_vec(copy))
+}
+
+fn bytes_of(alloc: Global, bytes: &[u8]) -> Result<Bytes, Fault>
+    ensures { IfOk result (λ n. n ≡ bytes.now) }
+{
+    let mut copy = Vec::new(alloc);
+    copy.extend_from_slice(bytes)?;
+    Ok(Bytes::from_vec(copy))
+}
+
+/// The name at the front, its offset, and what stands behind it.
+pub fn take_name(
+    alloc: Global,
+    tokens: &[Spanned],
+) -> Result<Option<(Name, u32, &[Spanned])>, Fault>
+    ensures { IfOk result (λ o. MatchOption o (NoName (seen tokens.now)) (λ x. seen tokens.now ≡ onto_name x.0 x.1 (seen x.2.now))) }
+{
+    let [first, rest @ ..] = tokens else {
+        return Ok(None);
+    };
+    match &first.kind {
+        Token::Name(name) => {
+            let name = name_of(alloc, name.as_slice())?;
+            Ok(Some((name, first.start, rest)))
+        }
+        _ => Ok(None),
+    }
+}
+
+// Nothing but an operator may stand directly behind this.
+fn ended(rest: &[Spanned]) -> Result<(), Fault>
+    ensures quiet { IfOk result (λ _. Quiet 13 (seen rest.now)) }
+{
+    let [first, ..] = rest else {
+        return Ok(());
+    };
+    match &first.kind {
+        Token::Mark(
+            Mark::OpenParenthesis | Mark::OpenBracket | Mark::Increment | Mark::Decrement,
+        ) => Err(Fault::NotHere(rest.len())),
+        _ => Ok(()),
+    }
+}
+
+// The bracket in front of a type.
+fn cast_head(tokens: &[Spanned]) -> Option<(u32, &[Spanned])>
+    ensures found { IfSome result (λ x. seen tokens.now ≡ sign marks.OpenParenthesis x.0 ∷ seen x.1.now) }
+    ensures none { IfNone result (NoCast (seen tokens.now)) }
+{
+    let (open, inner) = take_mark(tokens, Mark::OpenParenthesis)?;
+    if begins_type(inner) {
+        return Some((open, inner));
+    }
+    None
+}
+
+/// `expr`
+#[cycle(expression)]
+pub fn expression(
+    alloc: Global,
+    tokens: &[Spanned],
+    level: u32,
+) -> Result<(Expr, &[Spanned], u32), Fault>
+    requires low { level ≤ 200 }
+    ensures read { IfOk result (λ x. IsRead 0 0 level (seen tokens.now) (exp x.0) (seen x.1.now) x.2) }
+{
+    let (first, rest, now) = assignment(alloc, tokens, level)?;
+    commas(alloc, first, rest, now)
+}
+
+#[cycle(expression)]
+fn commas(
+    alloc: Global,
+    left: Expr,
+    tokens: &[Spanned],
+    level: u32,
+) -> Result<(Expr, &[Spanned], u32), Fault>
+    requires low { level ≤ 200 }
+    requires at { IsAt 0 (exp left) }
+    requires quiet { Quiet 1 (seen tokens.now) }
+    ensures read { IfOk result (λ x. IsMore 0 0 level (seen tokens.now) (exp left) (exp x.0) (seen x.1.now) x.2) }
+{
+    let Some((_, after)) = take_mark(tokens, Mark::Comma) else {
+        return Ok((left, tokens, level));
+    };
+    let up = open_levels(level, 1, tokens)?;
+    let (right, rest, now) = assignment(alloc, after, up)?;
+    let both = Expr::Comma {
+        left: Box::new(alloc, left)?,
+        right: Box::new(alloc, right)?,
+    };
+    commas(alloc, both, rest, now)
+}
+
+/// `assign`
+#[cycle(expression)]
+pub fn assignment(
+    alloc: Global,
+    tokens: &[Spanned],
+    level: u32,
+) -> Result<(Expr, &[Spanned], u32), Fault>
+    requires low { level ≤ 200 }
+    ensures read { IfOk result (λ x. IsRead 1 1 level (seen tokens.now) (exp x.0) (seen x.1.now) x.2) }
+{
+    if cast_head(tokens).is_some() {
+        let (operand, rest, now) = cast(alloc, tokens, level)?;
+        return unassigned(alloc, operand, rest, now);
+    }
+    let (operand, rest, now) = unary(alloc, tokens, level)?;
+    let Some((operator, at, after)) = take_assign(rest) else {
+        return unassigned(alloc, operand, rest, now);
+    };
+    let up = open_levels(now, 1, rest)?;
+    let (value, rest, now) = assignment(alloc, after, up)?;
+    let whole = Expr::Assign {
+        place: Box::new(alloc, operand)?,
+        operator,
+        at,
+        value: Box::new(alloc, value)?,
+    };
+    Ok((whole, rest, now))
+}
+
+// `cond` from its first operand on, behind which nothing is assigned.
+#[cycle(expression)]
+fn unassigned(
+    alloc: Global,
+    first: Expr,
+    tokens: &[Spanned],
+    level: u32,
+) -> Result<(Expr, &[Spanned], u32), Fault>
+    requires low { level ≤ 200 }
+    requires at { IsAt 13 (exp first) }
+    requires quiet { Quiet 13 (seen tokens.now) }
+    ensures read { IfOk result (λ x. IsMore 1 1 level (seen tokens.now) (exp first) (exp x.0) (seen x.1.now) x.2) }
+{
+    let (whole, rest, now) = conditional(alloc, first, tokens, level)?;
+    if take_assign(rest).is_some() {
+        return Err(Fault::NotHere(rest.len()));
+    }
+    Ok((whole, rest, now))
+}
+
+/// `cond` from its first operand on.
+#[cycle(expression)]
+pub fn conditional(
+    alloc: Global,
+    first: Expr,
+    tokens: &[Spanned],
+    level: u32,
+) -> Result<(Expr, &[Spanned], u32), Fault>
+    requires low { level ≤ 200 }
+    requires at { IsAt 13 (exp first) }
+    requires quiet { Quiet 13 (seen tokens.now) }
+    ensures read { IfOk result (λ x. IsMore 2 2 level (seen tokens.now) (exp first) (exp x.0) (seen x.1.now) x.2) }
+{
+    let (condition, rest, now) = binary(alloc, first, tokens, level, 3)?;
+    let Some((at, inner)) = take_mark(rest, Mark::Question) else {
+        return Ok((condition, rest, now));
+    };
+    let up = open_levels(now, 1, rest)?;
+    let (chosen, rest, now) = expression(alloc, inner, up)?;
+    let rest = want_mark(rest, Mark::Colon)?;
+    let (operand, rest, now) = cast(alloc, rest, now)?;
+    let (other, rest, now) = conditional(alloc, operand, rest, now)?;
+    let whole = Expr::Choice {
+        condition: Box::new(alloc, condition)?,
+        at,
+        first: Box::new(alloc, chosen)?,
+        second: Box::new(alloc, other)?,
+    };
+    Ok((whole, rest, now))
+}
+
+// Binary operators of the level `lowest` and above, behind an operand; each groups to the left.
+#[cycle(expression)]
+fn binary(
+    alloc: Global,
+    left: Expr,
+    tokens: &[Spanned],
+    level: u32,
+    lowest: u32,
+) -> Result<(Expr, &[Spanned], u32), Fault>
+    requires low { level ≤ 200 }
+    requires least { 3 ≤ lowest }
+    requires ready { Ready lowest (exp left) (seen tokens.now) }
+    ensures read { IfOk result (λ x. IsMore lowest lowest level (seen tokens.now) (exp left) (exp x.0) (seen x.1.now) x.2) }
+{
+    let Some((operator, at, after)) = take_binary(tokens) else {
+        return Ok((left, tokens, level));
+    };
+    if operator.level() < lowest {
+        return Ok((left, tokens, level));
+    }
+    let up = open_levels(level, 1, tokens)?;
+    let (operand, rest, now) = cast(alloc, after, up)?;
+    let (right, rest, now) = binary(alloc, operand, rest, now, operator.level() + 1)?;
+    let both = Expr::Binary {
+        left: Box::new(alloc, left)?,
+        operator,
+        at,
+        right: Box::new(alloc, right)?,
+    };
+    binary(alloc, both, rest, now, lowest)
+}
+
+/// `cast`
+#[cycle(expression)]
+pub fn cast(alloc: Global, tokens: &[Spanned], level: u32) -> Result<(Expr, &[Spanned], u32), Fault>
+    requires low { level ≤ 200 }
+    ensures read { IfOk result (λ x. IsRead 13 13 level (seen tokens.now) (exp x.0) (seen x.1.now) x.2) }
+{
+    let Some((open, inner)) = cast_head(tokens) else {
+        return unary(alloc, tokens, level);
+    };
+    let up = open_levels(level, 1, tokens)?;
+    let (to, rest) = type_name(alloc, inner)?;
+    let rest = want_mark(rest, Mark::CloseParenthesis)?;
+    let (operand, rest, now) = cast(alloc, rest, up)?;
+    let whole = Expr::Cast {
+        open,
+        to,
+        operand: Box::new(alloc, operand)?,
+    };
+    Ok((whole, rest, now))
+}
+
+#[cycle(expression)]
+fn unary(alloc: Global, tokens: &[Spanned], level: u32) -> Result<(Expr, &[Spanned], u32), Fault>
+    requires low { level ≤ 200 }
+    ensures read { IfOk result (λ x. IsRead 14 13 level (seen tokens.now) (exp x.0) (seen x.1.now) x.2) }
+{
+    if let Some((operator, at, after)) = take_prefix(tokens) {
+        let up = open_levels(level, 1, tokens)?;
+        let (operand, rest, now) = cast(alloc, after, up)?;
+        let operand = Box::new(alloc, operand)?;
+        return Ok((
+            Expr::Prefix {
+                operator,
+                at,
+                operand,
+            },
+            rest,
+            now,
+        ));
+    }
+    if let Some((operator, at, after)) = take_step(tokens) {
+        let up = open_levels(level, 1, tokens)?;
+        let (operand, rest, now) = unary(alloc, after, up)?;
+        let operand = Box::new(alloc, operand)?;
+        return Ok((
+            Expr::StepBefore {
+                operator,
+                at,
+                operand,
+            },
+            rest,
+            now,
+        ));
+    }
+    if let Some((at, after)) = take_key(tokens, Key::Sizeof) {
+        let up = open_levels(level, 1, tokens)?;
+        return sizeof(alloc, at, after, up);
+    }
+    let (base, rest, now) = primary(alloc, tokens, level)?;
+    postfix(alloc, base, rest, now)
+}
+
+// Behind the word `sizeof`, which opened the level.
+#[cycle(expression)]
+fn sizeof(
+    alloc: Global,
+    at: u32,
+    tokens: &[Spanned],
+    level: u32,
+) -> Result<(Expr, &[Spanned], u32), Fault>
+    requires low { level ≤ 200 }
+    ensures read { IfOk result (λ x. ReadsSizeof at level (seen tokens.now) (exp x.0) (seen x.1.now) x.2) }
+{
+    let Some((open, inner)) = cast_head(tokens) else {
+        let (operand, rest, now) = unary(alloc, tokens, level)?;
+        let operand = Box::new(alloc, operand)?;
+        return Ok((Expr::SizeofExpr { at, operand }, rest, now));
+    };
+    let _up = open_levels(level, 1, tokens)?;
+    let (of, rest) = type_name(alloc, inner)?;
+    let rest = want_mark(rest, Mark::CloseParenthesis)?;
+    ended(rest)?;
+    Ok((Expr::SizeofType { at, open, of }, rest, level))
+}
+
+#[cycle(expression)]
+fn primary(alloc: Global, tokens: &[Spanned], level: u32) -> Result<(Expr, &[Spanned], u32), Fault>
+    requires low { level ≤ 200 }
+    ensures read { IfOk result (λ x. IsPart level (seen tokens.now) (exp x.0) (seen x.1.now) x.2) }
+{
+    let [first, rest @ ..] = tokens else {
+        return Err(Fault::NotHere(tokens.len()));
+    };
+    let at = first.start;
+    match &first.kind {
+        Token::Name(name) => {
+            let name = name_of(alloc, name.as_slice())?;
+            named(alloc, name, at, rest, level)
+        }
+        Token::Number(value) => Ok((Expr::Number { value: *value, at }, rest, level)),
+        Token::Str(bytes) => {
+            let bytes = bytes_of(alloc, bytes.as_slice())?;
+            Ok((Expr::Str { bytes, at }, rest, level))
+        }
+        _ => parenthesised(alloc, tokens, level),
+    }
+}
+
+#[cycle(expression)]
+fn parenthesised(
+    alloc: Global,
+    tokens: &[Spanned],
+    level: u32,
+) -> Result<(Expr, &[Spanned], u32), Fault>
+    requires low { level ≤ 200 }
+    ensures read { IfOk result (λ x. IsPart level (seen tokens.now) (exp x.0) (seen x.1.now) x.2) }
+{
+    let Some((open, inner)) = take_mark(tokens, Mark::OpenParenthesis) else {
+        return Err(Fault::NotHere(tokens.len()));
+    };
+    let up = open_levels(level, 1, tokens)?;
+    let (inner, rest, _) = expression(alloc, inner, up)?;
+    let rest = want_mark(rest, Mark::CloseParenthesis)?;
+    let inner = Box::new(alloc, inner)?;
+    Ok((Expr::Paren { open, inner }, rest, level))
+}
+
+// Behind a name: a call where a bracket opens.
+#[cycle(expression)]
+fn named(
+    alloc: Global,
+    name: Name,
+    at: u32,
+    tokens: &[Spanned],
+    level: u32,
+) -> Result<(Expr, &[Spanned], u32), Fault>
+    requires low { level ≤ 200 }
+    ensures read { IfOk result (λ x. IsPart level (onto_name name at (seen tokens.now)) (exp x.0) (seen x.1.now) x.2) }
+{
+    let Some((open, inner)) = take_mark(tokens, Mark::OpenParenthesis) else {
+        return Ok((Expr::Name { name, at }, tokens, level));
+    };
+    let up = open_levels(level, 2, tokens)?;
+    let (arguments, rest) = arguments(alloc, inner, up)?;
+    Ok((
+        Expr::Call {
+            name,
+            at,
+            open,
+            arguments,
+        },
+        rest,
+        level + 1,
+    ))
+}
+
+#[cycle(expression)]
+fn arguments(
+    alloc: Global,
+    tokens: &[Spanned],
+    level: u32,
+) -> Result<(Vec<Expr>, &[Spanned]), Fault>
+    requires low { level ≤ 200 }
+    ensures read { IfOk result (λ x. ReadsArguments level (seen tokens.now) (exp_list x.0.items) (seen x.1.now)) }
+{
+    let mut list = Vec::new(alloc);
+    if let Some((_, rest)) = take_mark(tokens, Mark::CloseParenthesis) {
+        return Ok((list, rest));
+    }
+    let (first, mut rest, _) = assignment(alloc, tokens, level)?;
+    list.push(first)?;
+    while let Some((_, after)) = take_mark(rest, Mark::Comma) {
+        let (next, behind, _) = assignment(alloc, after, level)?;
+        list.push(next)?;
+        rest = behind;
+    }
+    let rest = want_mark(rest, Mark::CloseParenthesis)?;
+    Ok((list, rest))
+}
+
+// Indexes and steps behind an operand.
+#[cycle(expression)]
+fn postfix(
+    alloc: Global,
+    base: Expr,
+    tokens: &[Spanned],
+    level: u32,
+) -> Result<(Expr, &[Spanned], u32), Fault>
+    requires low { level ≤ 200 }
+    requires at { IsAt 15 (exp base) }
+    ensures read { IfOk result (λ x. IsMore 15 13 level (seen tokens.now) (exp base) (exp x.0) (seen x.1.now) x.2) }
+{
+    if let Some((open, inner)) = take_mark(tokens, Mark::OpenBracket) {
+        let up = open_levels(level, 2, tokens)?;
+        let (index, rest, _) = expression(alloc, inner, up)?;
+        let rest = want_mark(rest, Mark::CloseBracket)?;
+        let whole = Expr::Index {
+            base: Box::new(alloc, base)?,
+            open,
+            index: Box::new(alloc, index)?,
+        };
+        return postfix(alloc, whole, rest, level + 1);
+    }
+    if let Some((operator, at, rest)) = take_step(tokens) {
+        let up = open_levels(level, 1, tokens)?;
+        let operand = Box::new(alloc, base)?;
+        return postfix(
+            alloc,
+            Expr::StepAfter {
+                operand,
+                operator,
+                at,
+            },
+            rest,
+            up,
+        );
+    }
+    ended(tokens)?;
+    Ok((base, tokens, level))
+}

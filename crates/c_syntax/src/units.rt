@@ -1,0 +1,228 @@
+// What stands at file level, and the parser.
+ghost use Rattle.std.specs.Prelude.{◌≡◌, ◌≤◌, ◌∷◌, ◌++◌, ◌^◌, ◌<◌, [], IfOk, IfSome, IfNone};
+ghost use Rattle.c_tokens.specs.declared.token.Token.TheVariants as token;
+ghost use Rattle.c_tokens.specs.declared.words.Key.TheVariants as keys;
+ghost use Rattle.c_tokens.specs.declared.marks.Mark.TheVariants as marks;
+ghost use Rattle.c_syntax.specs.Classes.{seen, word, sign};
+ghost use Rattle.c_syntax.specs.Phrases.{onto_stars, onto_name};
+ghost use Rattle.c_syntax.specs.UnitShapes.{params_of, param_of, param_list, body_of, declared_of, external_of, externals_of, unit_of};
+ghost use Rattle.c_syntax.specs.Units.{onto_named, onto_static};
+ghost use Rattle.c_syntax.specs.Stands.{ReadsParam, ParamsSoFar, ReadsParams, NoVoidAlone, ReadsBody, ReadsDeclared, ReadsExternal, ReadsExternals, IsUnit};
+
+use crate::declarations::{declarator_behind, declarators, length_part};
+use crate::expressions::take_name;
+use crate::fault::{Fault, SyntaxFault};
+use crate::statements::items;
+use crate::take::{open_levels, take_key, take_mark, want_mark};
+use crate::tree::{Ast, Declared, External, Function, Item, Named, Param, Params, Stars};
+use crate::types::{spec, stars};
+use c_tokens::{Key, Mark, Spanned, Token};
+use gg_base::Name;
+use std::alloc::Global;
+
+fn named(alloc: Global, tokens: &[Spanned]) -> Result<(Option<Named>, &[Spanned]), Fault>
+    ensures { IfOk result (λ x. seen tokens.now ≡ onto_named x.0 (seen x.1.now)) }
+{
+    match take_name(alloc, tokens)? {
+        Some((name, at, rest)) => Ok((Some(Named { name, at }), rest)),
+        None => Ok((None, tokens)),
+    }
+}
+
+/// `param`
+fn param(alloc: Global, tokens: &[Spanned], level: u32) -> Result<(Param, &[Spanned]), Fault>
+    requires { level ≤ 200 }
+    ensures { IfOk result (λ x. ReadsParam level (seen tokens.now) (param_of x.0) (seen x.1.now)) }
+{
+    let (spec, rest) = spec(tokens)?;
+    let (stars, rest) = stars(alloc, rest)?;
+    let (name, rest) = named(alloc, rest)?;
+    let (length, rest) = length_part(alloc, rest, level)?;
+    Ok((
+        Param {
+            spec,
+            stars,
+            name,
+            length,
+        },
+        rest,
+    ))
+}
+
+// The word `void` alone, in front of the closing bracket.
+fn void_alone(tokens: &[Spanned]) -> Option<(u32, &[Spanned])>
+    ensures found { IfSome result (λ x. seen tokens.now ≡ word keys.Void x.0 ∷ sign marks.CloseParenthesis 0 ∷ seen x.1.now) }
+    ensures none { IfNone result (NoVoidAlone (seen tokens.now)) }
+{
+    let (at, rest) = take_key(tokens, Key::Void)?;
+    let (_, last) = take_mark(rest, Mark::CloseParenthesis)?;
+    Some((at, last))
+}
+
+fn param_list(
+    alloc: Global,
+    tokens: &[Spanned],
+    level: u32,
+) -> Result<(Vec<Param>, &[Spanned]), Fault>
+    requires { level ≤ 200 }
+    ensures { IfOk result (λ x. ParamsSoFar level (seen tokens.now) (param_list x.0.items) (sign marks.CloseParenthesis 0 ∷ seen x.1.now)) }
+{
+    let (first, mut rest) = param(alloc, tokens, level)?;
+    let mut list = Vec::new(alloc);
+    list.push(first)?;
+    while let Some((_, after)) = take_mark(rest, Mark::Comma) {
+        let (next, behind) = param(alloc, after, level)?;
+        list.push(next)?;
+        rest = behind;
+    }
+    let last = want_mark(rest, Mark::CloseParenthesis)?;
+    Ok((list, last))
+}
+
+/// `params`, up to the bracket that closes them.
+fn params(alloc: Global, tokens: &[Spanned], level: u32) -> Result<(Params, &[Spanned]), Fault>
+    requires { level ≤ 200 }
+    ensures { IfOk result (λ x. ReadsParams level (seen tokens.now) (params_of x.0) (seen x.1.now)) }
+{
+    if let Some((_, last)) = take_mark(tokens, Mark::CloseParenthesis) {
+        return Ok((Params::None, last));
+    }
+    if let Some((at, last)) = void_alone(tokens) {
+        return Ok((Params::Void { at }, last));
+    }
+    let (list, last) = param_list(alloc, tokens, level)?;
+    Ok((Params::List(list), last))
+}
+
+fn body(alloc: Global, tokens: &[Spanned]) -> Result<(Option<Vec<Item>>, &[Spanned]), Fault>
+    ensures { IfOk result (λ x. ReadsBody (seen tokens.now) (body_of x.0) (seen x.1.now)) }
+{
+    if let Some((_, rest)) = take_mark(tokens, Mark::Semicolon) {
+        return Ok((None, rest));
+    }
+    let inner = want_mark(tokens, Mark::OpenBrace)?;
+    let up = open_levels(0, 1, tokens)?;
+    let (items, rest) = items(alloc, inner, up)?;
+    Ok((Some(items), rest))
+}
+
+// A function behind the bracket of its parameters.
+fn function(
+    alloc: Global,
+    stars: Stars,
+    name: Name,
+    at: u32,
+    bracket: u32,
+    tokens: &[Spanned],
+) -> Result<(Declared, &[Spanned]), Fault>
+    ensures { IfOk result (λ x. ReadsDeclared (onto_stars stars (onto_name name at (sign marks.OpenParenthesis bracket ∷ seen tokens.now))) (declared_of x.0) (seen x.1.now)) }
+{
+    let (params, rest) = params(alloc, tokens, 1)?;
+    let (body, rest) = body(alloc, rest)?;
+    let function = Function {
+        stars,
+        name,
+        at,
+        open: bracket,
+        params,
+        body,
+    };
+    Ok((Declared::Function(function), rest))
+}
+
+// What stands behind the words of a type.
+fn declared(alloc: Global, tokens: &[Spanned]) -> Result<(Declared, &[Spanned]), Fault>
+    ensures { IfOk result (λ x. ReadsDeclared (seen tokens.now) (declared_of x.0) (seen x.1.now)) }
+{
+    let (stars, rest) = stars(alloc, tokens)?;
+    let Some((name, at, rest)) = take_name(alloc, rest)? else {
+        return Err(Fault::NotHere(rest.len()));
+    };
+    if let Some((open, inner)) = take_mark(rest, Mark::OpenParenthesis) {
+        return function(alloc, stars, name, at, open, inner);
+    }
+    let (first, rest) = declarator_behind(alloc, stars, name, at, rest, 0)?;
+    let (list, rest) = declarators(alloc, first, rest, 0)?;
+    Ok((Declared::Globals(list), rest))
+}
+
+fn static_word(tokens: &[Spanned]) -> (Option<u32>, &[Spanned])
+    ensures { seen tokens.now ≡ onto_static result.0 (seen result.1.now) }
+{
+    match take_key(tokens, Key::Static) {
+        Some((at, rest)) => (Some(at), rest),
+        None => (None, tokens),
+    }
+}
+
+/// `external`
+fn external(alloc: Global, tokens: &[Spanned]) -> Result<(External, &[Spanned]), Fault>
+    ensures { IfOk result (λ x. ReadsExternal (seen tokens.now) (external_of x.0) (seen x.1.now)) }
+{
+    let (static_at, rest) = static_word(tokens);
+    let (spec, rest) = spec(rest)?;
+    let (declared, rest) = declared(alloc, rest)?;
+    Ok((
+        External {
+            static_at,
+            spec,
+            declared,
+        },
+        rest,
+    ))
+}
+
+// The end of the text.
+fn take_end(tokens: &[Spanned]) -> Option<u32>
+    ensures { IfSome result (λ at. seen tokens.now ≡ record { kind = token.End; at = at } ∷ []) }
+{
+    let [first, rest @ ..] = tokens else {
+        return None;
+    };
+    if !rest.is_empty() {
+        return None;
+    }
+    match &first.kind {
+        Token::End => Some(first.start),
+        _ => None,
+    }
+}
+
+/// `unit`
+fn unit(alloc: Global, tokens: &[Spanned]) -> Result<Ast, Fault>
+    ensures { IfOk result (λ u. IsUnit (seen tokens.now) (unit_of u)) }
+{
+    let mut externals = Vec::new(alloc);
+    let mut rest = tokens;
+    loop {
+        if let Some(end) = take_end(rest) {
+            return Ok(Ast { externals, end });
+        }
+        let (next, behind) = external(alloc, rest)?;
+        externals.push(next)?;
+        rest = behind;
+    }
+}
+
+// The offset of the token with which so many are left.
+fn offset_of(tokens: &[Spanned], left: usize) -> u32 {
+    if left == 0 || left > tokens.len() {
+        return match tokens {
+            [.., last] => last.start,
+            [] => 0,
+        };
+    }
+    tokens[tokens.len() - left].start
+}
+
+/// The phrases of a source's tokens, whose last is `End`.
+pub fn parse(alloc: Global, tokens: &[Spanned]) -> Result<Ast, SyntaxFault>
+    ensures found { IfOk result (λ u. IsUnit (seen tokens.now) (unit_of u)) }
+{
+    match unit(alloc, tokens) {
+        Ok(ast) => Ok(ast),
+        Err(Fault::NoMemory) => Err(SyntaxFault::NoMemory),
+        Err(Fault::NotHere(left)) => Err(SyntaxFault::NotHere(offset_of(tokens, left))),
+        Err(Fault::TooDeep(left)) => Err(SyntaxFault::TooDeep(offset_of(tokens, left))),
+    }
+}

@@ -1,0 +1,7 @@
+pub mod PatternLaws
+pub mod Inversion
+pub mod FormLaws
+pub mod ValidLaws
+pub mod ToldLaws
+pub mod FirstLaws
+pub mod AgainLaws

@@ -1,0 +1,149 @@
+-- Which bytes are a description, and what it says.
+use Rattle.std.specs.Prelude.{◌≡◌, ℕ, zero, suc, ◌+◌, List, [], ◌∷◌, ◌++◌, codes, map, Some, None, if◌then◌else◌}
+use Rattle.std.specs.List.{flat_map}
+use Rattle.md_text.specs.Lines.{lines}
+use Rattle.md_text.specs.Words.{words}
+use Rattle.md_pieces.specs.declared.piece.Line.{Line}
+use Rattle.md_pieces.specs.Pieces.{text_of, pieces}
+use Rattle.gg_base.specs.declared.size.Size.{Size}
+use Rattle.gg_base.specs.declared.size.Size.TheVariants as size
+use Rattle.tree_core.specs.Names.{name_of}
+use Rattle.md_reader.specs.declared.types.Kind.{Kind}
+use Rattle.md_reader.specs.declared.types.Kind.TheVariants as kind
+use Rattle.md_reader.specs.declared.types.Class.{Class}
+use Rattle.md_reader.specs.declared.types.Sym.{Sym}
+use Rattle.md_reader.specs.declared.types.Sym.TheVariants as sym
+use Rattle.md_reader.specs.declared.types.Restriction.{Restriction}
+use Rattle.md_reader.specs.declared.types.Give.{Give}
+use Rattle.md_reader.specs.declared.types.Give.TheVariants as give
+use Rattle.md_reader.specs.declared.types.Rule.{Rule}
+use Rattle.md_reader.specs.declared.forms.Saved.{Saved}
+use Rattle.md_reader.specs.declared.forms.Saved.TheVariants as saved
+use Rattle.md_reader.specs.declared.faults.DescFault.{DescFault}
+use Rattle.md_reader.specs.declared.faults.DescFault.TheVariants as answer
+use Rattle.md_reader.specs.Forms.{is_skipped, pool_form, saved_number, restriction_form, plain_give}
+use Rattle.md_reader.specs.State.{Content}
+use Rattle.md_reader.specs.Valid.{IsValid}
+
+-- what one line says
+pub data Form : Type 0 where
+  Version : Form
+  Target : Form
+  Pool : ℕ → Form
+  Declares : Class → Form
+  Saves : ℕ → Line → Form
+  Head : List ℕ → List (List ℕ) → Form
+  Restricts : Restriction → Form
+  Writes : Line → Form
+  Gives : Give → Form
+
+abbrev pub size_word : Size → List ℕ
+size_word size.Byte = codes "b"
+size_word size.Word = codes "w"
+size_word size.Long = codes "l"
+
+abbrev pub kind_words : Kind → List (List ℕ)
+kind_words kind.Reg = codes "Reg" ∷ []
+kind_words kind.Con = codes "Con" ∷ []
+kind_words kind.Ea = codes "Ea" ∷ []
+kind_words kind.Nothing = codes "Nothing" ∷ []
+kind_words (kind.Value z) = codes "Value" ∷ size_word z ∷ []
+kind_words (kind.Place z) = codes "Place" ∷ size_word z ∷ []
+
+abbrev pub saved_words : Saved → List (List ℕ)
+saved_words (saved.Value z) = codes "spill" ∷ codes "value" ∷ size_word z ∷ []
+saved_words (saved.Place z) = codes "spill" ∷ codes "place" ∷ size_word z ∷ []
+saved_words saved.Ea = codes "spill" ∷ codes "ea" ∷ []
+saved_words saved.Reload = codes "reload" ∷ []
+
+-- behind these words stands an instruction, whose text has these pieces
+pub record IsInstruction (head : List (List ℕ)) (n : ℕ) (ws : List (List ℕ)) (l : Line) : Type 0 where
+  pub words : List (List ℕ)
+  pub stands : ws ≡ head ++ words
+  pub text : List ℕ
+  pub joined : text_of words ≡ Some text
+  pub pieces : pieces text ≡ Some l.pieces
+  pub number : l.line ≡ n
+
+-- one of the eight lines, by its place among them
+pub record IsSaved (i n : ℕ) (ws : List (List ℕ)) (l : Line) : Type 0 where
+  pub saved : Saved
+  pub place : saved_number saved ≡ i
+  pub instruction : IsInstruction (saved_words saved) n ws l
+
+pub record IsRestriction (ws : List (List ℕ)) (r : Restriction) : Type 0 where
+  pub words : List (List ℕ)
+  pub stands : ws ≡ codes "if" ∷ words
+  pub says : restriction_form words ≡ Some r
+
+-- the word of a `give` line
+abbrev pub GiveWord : ℕ → List ℕ → Give → Type 0
+GiveWord n w give.Fresh = w ≡ codes "fresh"
+GiveWord n w give.Reuse = w ≡ codes "reuse"
+GiveWord n w give.Scratch = w ≡ codes "scratch"
+GiveWord n w give.Nothing = w ≡ codes "nothing"
+GiveWord n w (give.Shape l) = (plain_give w ≡ None) × (pieces w ≡ Some l.pieces) × (l.line ≡ n)
+
+pub record IsGive (n : ℕ) (ws : List (List ℕ)) (g : Give) : Type 0 where
+  pub word : List ℕ
+  pub stands : ws ≡ codes "give" ∷ word ∷ []
+  pub says : GiveWord n word g
+
+-- the line with this number and these words says this
+abbrev pub Says : ℕ → List (List ℕ) → Form → Type 0
+Says n ws Version = ws ≡ codes "version" ∷ codes "1" ∷ []
+Says n ws Target = ws ≡ codes "target" ∷ codes "vax" ∷ []
+Says n ws (Pool m) = pool_form ws ≡ Some m
+Says n ws (Declares c) = ws ≡ codes "class" ∷ c.name ∷ kind_words c.kind
+Says n ws (Saves i l) = IsSaved i n ws l
+Says n ws (Head class ss) = ws ≡ codes "rule" ∷ class ∷ codes ":" ∷ ss
+Says n ws (Restricts r) = IsRestriction ws r
+Says n ws (Writes l) = IsInstruction (codes "do" ∷ []) n ws l
+Says n ws (Gives g) = IsGive n ws g
+
+-- the name of the class with this number
+abbrev pub name_at : List Class → ℕ → List ℕ
+name_at [] i = []
+name_at (c ∷ cs) zero = c.name
+name_at (c ∷ cs) (suc i) = name_at cs i
+
+abbrev pub symbol_word : List Class → Sym → List ℕ
+symbol_word classes (sym.Tok t) = name_of t
+symbol_word classes (sym.Class c) = name_at classes c
+
+-- the eight lines, from one on
+abbrev pub saving : ℕ → List Line → List Form
+saving i [] = []
+saving i (l ∷ ls) = Saves i l ∷ saving (i + 1) ls
+
+-- a rule: its head, its restrictions, its template's lines, and what it gives
+abbrev pub ruling : List Class → Rule → List Form
+ruling classes r =
+    Head (name_at classes r.left) (map (symbol_word classes) r.right)
+    ∷ (map Restricts r.restrictions ++ (map Writes r.lines ++ Gives r.give ∷ []))
+
+-- what the lines of a description say, in their order
+abbrev pub telling : Content → List Form
+telling d = Version ∷ Target ∷ Pool d.pool ∷ (map Declares d.classes ++ (saving 0 d.spills ++ flat_map (ruling d.classes) d.rules))
+
+-- the lines that say something, each with its number and its words; blank lines and comments don't
+abbrev pub numbered : ℕ → List (List ℕ) → List (ℕ × List (List ℕ))
+numbered n [] = []
+numbered n (l ∷ ls) = if is_skipped (words l) then numbered (n + 1) ls else (n, words l) ∷ numbered (n + 1) ls
+
+-- these lines say this one after the other
+abbrev pub Tell : List (ℕ × List (List ℕ)) → List Form → Type 0
+Tell [] [] = Unit {0}
+Tell [] (f ∷ fs) = ⊥
+Tell (x ∷ xs) [] = ⊥
+Tell (x ∷ xs) (f ∷ fs) = Says x.0 x.1 f × Tell xs fs
+
+-- these bytes are a description, and that is its content
+pub record Desc (bytes : List ℕ) (d : Content) : Type 0 where
+  pub valid : IsValid d
+  pub text : Tell (numbered 1 (lines bytes)) (telling d)
+
+-- a refusal that isn't for want of memory: these bytes are no description
+abbrev pub Refused : List ℕ → DescFault → Type 0
+Refused bytes answer.NoMemory = Unit {0}
+Refused bytes (answer.Line line kind) = (d : Content) → Desc bytes d → ⊥

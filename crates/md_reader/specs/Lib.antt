@@ -1,0 +1,12 @@
+pub mod Patterns
+pub mod Symbols
+pub mod Forms
+pub mod Rows
+pub mod State
+pub mod Steps
+pub mod Reads
+pub mod View
+pub mod Valid
+pub mod Fine
+pub mod Desc
+pub mod First

@@ -1,0 +1,64 @@
+-- Reading all lines: the description, or the first wrong line and what is wrong there.
+use Rattle.std.specs.Prelude.{◌≡◌, ℕ, ◌+◌, nat_le, false, List, [], ◌∷◌, length, Result, Ok, Err, if◌then◌else◌}
+use Rattle.md_text.specs.Lines.{lines}
+use Rattle.md_text.specs.Words.{words}
+use Rattle.md_reader.specs.declared.faults.DescKind.{DescKind}
+use Rattle.md_reader.specs.declared.faults.DescKind.TheVariants as fault
+use Rattle.md_reader.specs.declared.faults.DescFault.{DescFault}
+use Rattle.md_reader.specs.declared.faults.DescFault.TheVariants as answer
+use Rattle.md_reader.specs.declared.reading.Stage.{Stage}
+use Rattle.md_reader.specs.declared.reading.Stage.TheVariants as stage
+use Rattle.md_reader.specs.Forms.{register_behind}
+use Rattle.md_reader.specs.State.{State, Content}
+use Rattle.md_reader.specs.Steps.{has_stmt, line_step}
+
+abbrev pub start : State
+start = record {
+  stage = stage.Version;
+  pool = 0;
+  classes = [];
+  spills = [];
+  rules = [];
+  left = 0;
+  right = [];
+  restrictions = [];
+  lines = [];
+  register = false;
+}
+
+abbrev pub content_of : State → Content
+content_of s = record { pool = s.pool; classes = s.classes; spills = s.spills; rules = s.rules }
+
+-- the text ends; its number of lines is one less than n
+abbrev pub ended_at : Stage → ℕ → State → Result Content (ℕ × DescKind)
+ended_at stage.Version n s = Err (n, fault.MissingVersion)
+ended_at stage.Target n s = Err (n, fault.MissingTarget)
+ended_at stage.Pool n s = Err (n, fault.MissingPool)
+ended_at stage.Classes n s = if has_stmt s.classes then Err (n, fault.MissingSpill) else Err (n, fault.MissingStmt)
+ended_at stage.Spills n s = if nat_le (length s.spills) 6 then Err (n, fault.MissingSpill) else Err (n, fault.MissingReload)
+ended_at stage.Rules n s = if nat_le 1 (length s.rules) then Ok (content_of s) else Err (n, fault.MissingRule)
+ended_at stage.Template n s = Err (n, fault.MissingGive)
+
+abbrev pub ended : ℕ → State → Result Content (ℕ × DescKind)
+ended n s = ended_at s.stage n s
+
+abbrev pub taken : ℕ → Result State DescKind → (State → Result Content (ℕ × DescKind)) → Result Content (ℕ × DescKind)
+taken n (Ok t) go = go t
+taken n (Err k) go = Err (n, k)
+
+-- the lines that are left, the first of which has the number n
+abbrev pub read_from : ℕ → State → List (List ℕ) → Result Content (ℕ × DescKind)
+read_from n s [] = ended n s
+read_from n s (l ∷ ls) = taken n (line_step s n (words l) (register_behind ls)) (λ (t : State). read_from (n + 1) t ls)
+
+abbrev pub read : List ℕ → Result Content (ℕ × DescKind)
+read bytes = read_from 1 start (lines bytes)
+
+abbrev pub Refuses : DescFault → Result Content (ℕ × DescKind) → Type 0
+Refuses answer.NoMemory to = Unit {0}
+Refuses (answer.Line line kind) to = to ≡ Err (line, kind)
+
+-- what reading answers
+abbrev pub Answers : Result Content DescFault → Result Content (ℕ × DescKind) → Type 0
+Answers (Ok d) to = to ≡ Ok d
+Answers (Err e) to = Refuses e to

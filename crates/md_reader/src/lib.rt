@@ -1,0 +1,24 @@
+//! Machine descriptions: reading one, with the first wrong line and what is wrong there.
+#![tactic(auto)]
+
+#[cfg(test)]
+mod cases;
+mod description;
+mod faults;
+mod forms;
+mod lists;
+mod patterns;
+mod reader;
+mod reading;
+mod rows;
+mod symbols;
+#[cfg(test)]
+mod tests;
+mod types;
+
+pub use description::Description;
+pub use faults::{DescFault, DescKind};
+pub use lists::{Lines, Restrictions, Symbols};
+pub use md_pieces::{Line, Piece, Pieces};
+pub use reader::read_description;
+pub use types::{Class, Give, Kind, Restriction, Rule, Sym};

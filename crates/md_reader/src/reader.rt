@@ -1,0 +1,109 @@
+// Reading a description.
+ghost use Rattle.std.specs.Prelude.{◌≡◌, ◌≤◌, length, IfOk, IfErr};
+ghost use Rattle.md_reader.specs.State.{Content};
+ghost use Rattle.md_reader.specs.Desc.{Desc, Refused};
+ghost use Rattle.md_reader.specs.First.{IsFirst};
+ghost use Rattle.md_text.specs.Lines.{lines};
+ghost use Rattle.md_reader.specs.Fine.{IsFine};
+ghost use Rattle.md_reader.specs.View.{state};
+ghost use Rattle.md_reader.specs.Reads.{ended, read, Answers};
+
+use crate::description::Description;
+use crate::faults::{DescFault, DescKind, LineFault};
+use crate::reading::{Reading, Stage, has_stmt};
+use md_text::next_line;
+use std::alloc::Global;
+
+fn missing(line: u32, kind: DescKind) -> Result<Description, DescFault>
+    ensures { result ≡ Err (answer.Line line kind) }
+{
+    Err(DescFault::Line { line, kind })
+}
+
+ghost use Rattle.std.specs.Prelude.{Err, []};
+ghost use Rattle.md_reader.specs.declared.faults.DescFault.TheVariants as answer;
+
+/// The text ends before the line with this number.
+#[tactic(auto, using(crate::proofs::ValidLaws::is_valid))]
+fn finish(reading: Reading, line: u32) -> Result<Description, DescFault>
+    requires { IsFine (state reading) [] }
+    ensures { Answers result (ended line (state reading)) }
+{
+    match reading.stage {
+        Stage::Version => missing(line, DescKind::MissingVersion),
+        Stage::Target => missing(line, DescKind::MissingTarget),
+        Stage::Pool => missing(line, DescKind::MissingPool),
+        Stage::Classes => {
+            if has_stmt(&reading.classes) {
+                missing(line, DescKind::MissingSpill)
+            } else {
+                missing(line, DescKind::MissingStmt)
+            }
+        }
+        Stage::Spills => {
+            if reading.spills.len() <= 6 {
+                missing(line, DescKind::MissingSpill)
+            } else {
+                missing(line, DescKind::MissingReload)
+            }
+        }
+        Stage::Rules => {
+            if reading.rules.is_empty() {
+                return missing(line, DescKind::MissingRule);
+            }
+            Ok(Description::new(reading.pool, reading.classes, reading.spills, reading.rules))
+        }
+        Stage::Template => missing(line, DescKind::MissingGive),
+    }
+}
+
+#[tactic(auto, using(crate::proofs::ValidLaws::begins))]
+fn read_all(alloc: Global, bytes: &[u8]) -> Result<Description, DescFault>
+    requires { length bytes.now ≤ 262144 }
+    ensures { Answers result (read bytes.now) }
+{
+    let mut reading = Reading {
+        stage: Stage::Version,
+        pool: 0,
+        classes: Vec::new(alloc),
+        spills: Vec::new(alloc),
+        rules: Vec::new(alloc),
+        left: 0,
+        right: Vec::new(alloc),
+        restrictions: Vec::new(alloc),
+        lines: Vec::new(alloc),
+        register: false,
+    };
+    let mut rest = bytes;
+    let mut number: u32 = 1;
+    while let Some((line, after)) = next_line(rest) {
+        match reading.line(alloc, number, line, after) {
+            Ok(()) => {}
+            Err(LineFault::NoMemory) => return Err(DescFault::NoMemory),
+            Err(LineFault::Wrong(kind)) => {
+                return Err(DescFault::Line { line: number, kind });
+            }
+        }
+        number += 1;
+        rest = after;
+    }
+    finish(reading, number)
+}
+
+/// The description that the bytes are, or the first wrong line and what is wrong there.
+#[tactic(auto, using(crate::proofs::ToldLaws::found, crate::proofs::AgainLaws::only, crate::proofs::AgainLaws::refusal, crate::proofs::FirstLaws::is_first))]
+pub fn read_description(alloc: Global, bytes: &[u8]) -> Result<Description, DescFault>
+    requires { length bytes.now ≤ 262144 }
+    // The first wrong line, and there the first kind that applies.
+    ensures answers { Answers result (read bytes.now) }
+    // What is read is a description, and that is its content.
+    ensures found { IfOk result (λ d. Desc bytes.now d) }
+    // They are no other's.
+    ensures only { IfOk result (λ d. (c : Content) → Desc bytes.now c → d ≡ c) }
+    // Where nothing is read the bytes are no description, unless memory ran out.
+    ensures refused { IfErr result (Refused bytes.now) }
+    // The line that is named is the first wrong one: all before it are taken.
+    ensures first { IfErr result (IsFirst bytes.now) }
+{
+    read_all(alloc, bytes)
+}

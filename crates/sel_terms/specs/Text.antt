@@ -1,0 +1,51 @@
+-- How terms and effects are written.
+use Rattle.std.specs.Prelude.{ℕ, List, [], ◌∷◌, ◌++◌, codes, nat_lt, if◌then◌else◌, ◌^◌}
+use Rattle.std.specs.List.{flat_map}
+use Rattle.std.specs.Fmt.{decimal}
+use Rattle.gg_base.specs.Arithmetic.{neg32}
+use Rattle.gg_base.specs.declared.size.Size.{Size}
+use Rattle.gg_base.specs.declared.size.Size.TheVariants.{Byte, Word, Long}
+use Rattle.sel_terms.specs.Operators.{unary_name, binary_name}
+use Rattle.sel_terms.specs.Shape.{Shape, Constant, Symbol, LastResult, Memory, Unary, Binary}
+use Rattle.sel_terms.specs.Effects.{ActShape, EffectShape, Value, Number, Address, PlaceHome, PlaceAt, StoreHome, StoreAt, Branch, Push, Call, Save, Return, Jump}
+
+abbrev pub size_name : Size → List ℕ
+size_name Byte = codes "b"
+size_name Word = codes "w"
+size_name Long = codes "l"
+
+-- a longword with its sign
+abbrev pub signed_text : ℕ → List ℕ
+signed_text n = if nat_lt n (2 ^ 31) then decimal n else codes "-" ++ decimal (neg32 n)
+
+abbrev pub term_text : Shape → List ℕ
+term_text (Constant n) = codes "K" ++ signed_text n
+term_text (Symbol i) = codes "V" ++ decimal i
+term_text LastResult = codes "Res"
+term_text (Memory size a) = codes "Mem(" ++ size_name size ++ codes "," ++ term_text a ++ codes ")"
+term_text (Unary op t) = unary_name op ++ codes "(" ++ term_text t ++ codes ")"
+term_text (Binary op a b) = binary_name op ++ codes "(" ++ term_text a ++ codes "," ++ term_text b ++ codes ")"
+
+abbrev pub home_text : ℕ → List ℕ
+home_text i = codes " home " ++ decimal i
+
+abbrev pub act_text : ActShape → List ℕ
+act_text (Value t) = codes "value " ++ term_text t
+act_text (Number t) = codes "number " ++ term_text t
+act_text (Address t) = codes "address " ++ term_text t
+act_text (PlaceHome size i) = codes "place " ++ size_name size ++ home_text i
+act_text (PlaceAt size a) = codes "place " ++ size_name size ++ codes " at " ++ term_text a
+act_text (StoreHome size i t) = codes "store " ++ size_name size ++ home_text i ++ codes " " ++ term_text t
+act_text (StoreAt size a t) = codes "store " ++ size_name size ++ codes " at " ++ term_text a ++ codes " " ++ term_text t
+act_text (Branch i a b) = codes "branch " ++ decimal i ++ codes " " ++ term_text a ++ codes " " ++ term_text b
+act_text (Push t) = codes "push " ++ term_text t
+act_text Call = codes "call"
+act_text (Save i) = codes "save " ++ decimal i
+act_text (Return t) = codes "return " ++ term_text t
+act_text Jump = codes "jump"
+
+abbrev pub divisor_text : Shape → List ℕ
+divisor_text t = codes " div " ++ term_text t
+
+abbrev pub effect_text : EffectShape → List ℕ
+effect_text e = act_text e.act ++ flat_map divisor_text e.divisors

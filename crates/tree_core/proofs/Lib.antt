@@ -1,0 +1,11 @@
+pub mod Showing
+pub mod Planting
+pub mod Walking
+pub mod Ordering_of_calls
+pub mod Windows
+pub mod Lists_of_labels
+pub mod Elements
+pub mod Lists_of_links
+pub mod Validity
+pub mod Growing
+pub mod Apart

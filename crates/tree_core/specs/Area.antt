@@ -1,0 +1,40 @@
+-- The data area: bytes from the address 65536 on, little-endian, unaligned accesses allowed.
+use Rattle.std.specs.Prelude.{ℕ, ◌+◌, ◌-◌, ◌%◌, ◌^◌, Bool, ◌&&◌, nat_le, List, [], ◌∷◌, ◌++◌, length, take, drop, slice_index, slice_set, replicate, Option, Some, None, cond}
+use Rattle.std.specs.Int.{w16, w32, to_le_bytes, from_le_bytes}
+use Rattle.gg_base.specs.declared.size.Size.{Size}
+use Rattle.gg_base.specs.declared.size.Size.TheVariants.{Byte, Word, Long}
+use Rattle.gg_base.specs.Sizes.{bytes_of}
+use Rattle.tree_core.specs.declared.program.Object.{Object}
+
+-- the number that stands at a place of some bytes
+abbrev pub number_in : Size → List ℕ → ℕ → ℕ
+number_in Byte bytes at = slice_index bytes at
+number_in Word bytes at = from_le_bytes w16 (take 2 (drop at bytes))
+number_in Long bytes at = from_le_bytes w32 (take 4 (drop at bytes))
+
+-- the bytes with the low part of a number put there
+abbrev pub with_number : Size → List ℕ → ℕ → ℕ → List ℕ
+with_number Byte bytes at v = slice_set bytes at (v % 2 ^ 8)
+with_number Word bytes at v = take at bytes ++ (to_le_bytes w16 (v % 2 ^ 16) ++ drop (at + 2) bytes)
+with_number Long bytes at v = take at bytes ++ (to_le_bytes w32 v ++ drop (at + 4) bytes)
+
+-- all bytes of an access lie in the area
+abbrev pub is_inside : Size → List ℕ → ℕ → Bool
+is_inside size area address = nat_le 65536 address && nat_le (address + bytes_of size) (65536 + length area)
+
+-- the number at an address, if all its bytes lie in the area
+abbrev pub fetched : Size → List ℕ → ℕ → Option ℕ
+fetched size area address = cond (is_inside size area address) (Some (number_in size area (address - 65536))) None
+
+-- the area with a number at an address, if all its bytes lie there
+abbrev pub stored : Size → List ℕ → ℕ → ℕ → Option (List ℕ)
+stored size area address v = cond (is_inside size area address) (Some (with_number size area (address - 65536) v)) None
+
+-- the bytes of objects from an address on, each object's at its own, and 0 between them
+abbrev pub bytes_from : ℕ → List Object → List ℕ
+bytes_from at [] = []
+bytes_from at (o ∷ os) = replicate (o.address - at) 0 ++ (o.bytes ++ bytes_from (o.address + o.size) os)
+
+-- the data area as a run finds it
+abbrev pub opening : List Object → List ℕ
+opening objects = bytes_from 65536 objects

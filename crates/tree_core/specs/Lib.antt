@@ -1,0 +1,11 @@
+pub mod Grammar
+pub mod Attributes
+pub mod Names
+pub mod Trees
+pub mod Wanted
+pub mod Items
+pub mod Window
+pub mod Labels
+pub mod Valid
+pub mod Area
+pub mod Calm

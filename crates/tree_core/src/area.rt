@@ -1,0 +1,90 @@
+// The data area: bytes from the address 65,536 on, little-endian, unaligned accesses allowed.
+
+ghost use Rattle.std.specs.Prelude.{◌≡◌, ◌+◌, ◌≤◌, ◌++◌, IfOk, OnOk, unwrap_or, replicate, length};
+ghost use Rattle.gg_base.specs.Sizes.{bytes_of};
+ghost use Rattle.tree_core.specs.Area.{number_in, with_number, is_inside, fetched, stored, bytes_from, opening};
+
+use crate::program::Object;
+use gg_base::limits::AREA_START;
+use gg_base::{NoMemory, Size};
+use std::alloc::Global;
+
+/// The data area as a run finds it: each object's bytes at its address, and 0 between them.
+pub fn opening(alloc: Global, objects: &[Object]) -> Result<Vec<u8>, NoMemory>
+    ensures { IfOk result (λ area. area.items ≡ opening objects.now) }
+{
+    let mut area = Vec::new(alloc);
+    let mut at = u64::from(AREA_START);
+    for object in objects {
+        fill(&mut area, u64::from(object.address).saturating_sub(at))?;
+        area.extend_from_slice(object.bytes.as_slice())?;
+        at = u64::from(object.address) + u64::from(object.size);
+    }
+    Ok(area)
+}
+
+fn fill(area: &mut Vec<u8>, count: u64) -> Result<(), NoMemory>
+    ensures { OnOk result (area.new.items ≡ area.old.items ++ replicate count 0) }
+{
+    for _ in 0..count {
+        area.push(0)?;
+    }
+    Ok(())
+}
+
+/// The number at an address, at a size. None where a byte of it lies outside the area.
+pub fn fetch(area: &[u8], size: Size, address: u32) -> Option<u32>
+    ensures { result ≡ fetched size area.now address }
+{
+    if is_inside(area, size, address) {
+        Some(number_in(area, size, (address - AREA_START) as usize))
+    } else {
+        None
+    }
+}
+
+/// Puts the low part of a number at an address, at a size. False, with the area unchanged, where a
+/// byte of it lies outside the area.
+pub fn store(area: &mut [u8], size: Size, address: u32, value: u32) -> bool
+    ensures inside { result ≡ is_inside size area.old address }
+    ensures stored { area.new ≡ unwrap_or (stored size area.old address value) area.old }
+{
+    if is_inside(area, size, address) {
+        put_number(area, size, (address - AREA_START) as usize, value);
+        true
+    } else {
+        false
+    }
+}
+
+fn is_inside(area: &[u8], size: Size, address: u32) -> bool
+    ensures { result ≡ is_inside size area.now address }
+{
+    let end = u64::from(address) + u64::from(size.bytes());
+    AREA_START <= address && end <= u64::from(AREA_START) + area.len() as u64
+}
+
+fn number_in(bytes: &[u8], size: Size, at: usize) -> u32
+    requires { at + bytes_of size ≤ length bytes.now }
+    ensures { result ≡ number_in size bytes.now at }
+{
+    match size {
+        Size::Byte => u32::from(bytes[at]),
+        Size::Word => u32::from(u16::from_le_bytes([bytes[at], bytes[at + 1]])),
+        Size::Long => u32::from_le_bytes([bytes[at], bytes[at + 1], bytes[at + 2], bytes[at + 3]]),
+    }
+}
+
+fn put_number(bytes: &mut [u8], size: Size, at: usize, value: u32)
+    requires { at + bytes_of size ≤ length bytes.old }
+    ensures { bytes.new ≡ with_number size bytes.old at value }
+{
+    match size {
+        Size::Byte => bytes[at] = (value % 0x100) as u8,
+        Size::Word => {
+            let low = (value % 0x1_0000) as u16;
+            bytes[at..at + 2].copy_from_slice(&low.to_le_bytes());
+        }
+        Size::Long => bytes[at..at + 4].copy_from_slice(&value.to_le_bytes()),
+    }
+}

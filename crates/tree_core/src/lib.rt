@@ -1,0 +1,24 @@
+//! Typed trees in prefix order: tokens, sorts, leaves, trees and tree programs.
+#![tactic(auto)]
+
+pub mod area;
+mod items;
+mod labels;
+mod lists;
+mod objects;
+mod program;
+mod token;
+mod tree;
+mod typing;
+mod valid;
+mod window;
+
+pub use lists::{Leaves, Links, Objects, TreeFns, TreeItems};
+pub use program::{Link, Object, TreeFn, TreeItem, TreeProgram};
+pub use token::{AttKind, Sort, Tok};
+pub use tree::{Att, Leaf, Tree, linear, show_tree};
+pub use typing::{trees_grow_back, typed};
+pub use valid::args_of;
+
+#[cfg(test)]
+mod tests;

@@ -1,0 +1,45 @@
+// Tree programs: functions, their labels and trees, and objects in the data area.
+
+use crate::lists::{Leaves, Links, Objects, TreeFns, TreeItems};
+use gg_base::{Bytes, Name};
+
+/// A longword of an object, at this offset, that holds the address of an object.
+#[derive(Clone, Copy, Debug, PartialEq, Eq)]
+pub struct Link {
+    pub at: u32,
+    pub object: u32,
+}
+
+/// An object of the data area: where it lies, how many bytes it has, and what they hold at first.
+#[derive(Drop)]
+pub struct Object {
+    pub label: Name,
+    pub address: u32,
+    pub size: u32,
+    pub align: u32,
+    pub bytes: Bytes,
+    pub links: Links,
+}
+
+/// A label, or a statement's leaves in prefix order with `End` behind them.
+#[derive(Drop)]
+pub enum TreeItem {
+    Label(u32),
+    Root(Leaves),
+}
+
+/// A function: how many arguments and locals it has, and what it does.
+#[derive(Drop)]
+pub struct TreeFn {
+    pub name: Name,
+    pub args: u32,
+    pub locals: u32,
+    pub items: TreeItems,
+}
+
+/// A program, which begins with its function `main`.
+#[derive(Drop)]
+pub struct TreeProgram {
+    pub functions: TreeFns,
+    pub objects: Objects,
+}

@@ -1,0 +1,4 @@
+pub mod Frames
+pub mod Meanings
+pub mod Ending
+pub mod Advancing

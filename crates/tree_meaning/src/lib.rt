@@ -1,0 +1,15 @@
+//! What tree programs do.
+#![tactic(auto)]
+
+mod acts;
+mod frame;
+mod machine;
+mod reading;
+mod run;
+mod value;
+
+pub use run::TreeRun;
+pub use value::{Meaning, Value};
+
+#[cfg(test)]
+mod tests;
