@@ -67,8 +67,12 @@ facts_below classes rule (suc k) = facts_below classes rule k ++ fact_of classes
 abbrev pub facts_of : List Class → Rule → List Fact
 facts_of classes rule = facts_below classes rule (length rule.right + 1)
 
--- where one symbol of this kind is spelled alone
-abbrev pub kind_facts : Kind → List Fact
-kind_facts k =
+-- a line that saves a place or an address speaks of the address
+abbrev pub size_of_saved : Kind → Size
+size_of_saved (kind.Value size) = size
+size_of_saved k = Long
+
+abbrev pub saved_facts : Kind → List Fact
+saved_facts k =
     record { size = Long; is_count = false; same_as = 0 } ∷
-    record { size = size_of_kind (Some k); is_count = false; same_as = 1 } ∷ []
+    record { size = size_of_saved k; is_count = false; same_as = 1 } ∷ []

@@ -2,7 +2,7 @@
 
 ghost use Rattle.std.specs.Prelude.{◌≡◌, ◌≤◌, ◌+◌, ◌∷◌, [], length, IfOk};
 ghost use Rattle.md_reader.specs.Patterns.{kind_at};
-ghost use Rattle.sel_terms.specs.RuleFacts.{size_of_kind, size_of_symbol, size_at, is_small_range, is_ranged, alike_once, least_alike, fact_of, facts_of, kind_facts};
+ghost use Rattle.sel_terms.specs.RuleFacts.{size_of_kind, size_of_symbol, size_at, is_small_range, is_ranged, alike_once, least_alike, fact_of, facts_of, size_of_saved, saved_facts};
 
 use crate::facts::Fact;
 use crate::role::kind_at;
@@ -106,19 +106,29 @@ pub fn rule_facts(alloc: Global, rule: &Rule, classes: &[Class]) -> Result<Vec<F
     Ok(facts)
 }
 
-/// What is known where one symbol of this kind is spelled alone, as in the lines that save and reload.
-pub fn kind_facts(kind: Kind) -> [Fact; 2]
-    ensures { result ≡ kind_facts kind }
+fn size_of_saved(kind: Kind) -> Size
+    ensures { result ≡ size_of_saved kind }
 {
-    let result_fact = Fact {
+    match kind {
+        Kind::Value(size) => size,
+        _ => Size::Long,
+    }
+}
+
+/// What is known of the symbols of a line that saves what is of this kind, or that brings a register back: `%0`, and `%1`, the value that
+/// is saved or the address of a place.
+pub fn saved_facts(kind: Kind) -> [Fact; 2]
+    ensures { result ≡ saved_facts kind }
+{
+    let slot = Fact {
         size: Size::Long,
         is_count: false,
         same_as: 0,
     };
-    let symbol_fact = Fact {
-        size: size_of_kind(Some(kind)),
+    let saved = Fact {
+        size: size_of_saved(kind),
         is_count: false,
         same_as: 1,
     };
-    [result_fact, symbol_fact]
+    [slot, saved]
 }

@@ -25,7 +25,7 @@ mod tests;
 pub use construct::copy;
 pub use effect::{Act, Effect, norm_effect};
 pub use facts::Fact;
-pub use known::{kind_facts, rule_facts};
+pub use known::{rule_facts, saved_facts};
 pub use normal::{norm, norm_under};
 pub use operator::{BinaryOp, UnaryOp};
 pub use pattern::pattern_effect;

@@ -55,12 +55,12 @@ fn function(alloc: Global, row: &FunctionRow) -> Result<TreeFn, NoMemory> {
     })
 }
 
-fn object(alloc: Global, address: u32, bytes: &[u8], align: u32) -> Result<Object, NoMemory> {
+fn object(alloc: Global, address: u32, bytes: &[u8], size: u32) -> Result<Object, NoMemory> {
     Ok(Object {
         label: Name::from_vec(b"_x".to_vec(alloc)?),
         address,
-        size: bytes.len() as u32,
-        align,
+        size,
+        align: size,
         bytes: Bytes::from_vec(bytes.to_vec(alloc)?),
         links: Links::from_vec(Vec::new(alloc)),
     })
