@@ -1,0 +1,1 @@
+int main(){putchar(60+5);putchar(65+(2147483647+(1+2147483647)+3));putchar(10);return 1-2;}
