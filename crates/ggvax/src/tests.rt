@@ -51,15 +51,20 @@ fn words_of(alloc: Global, text: &str) -> Result<Vec<String>, AllocError> {
     Ok(words)
 }
 
-// Over sinks that take one byte of a call.
-fn check(rt: &impl Abort, alloc: Global, case: &Case, left: &Left) -> Result<(), AllocError> {
-    let words = words_of(alloc, case.words)?;
+// A folder of the one file `s`.
+fn folder_of(alloc: Global, source: &[u8], failing: &[u64]) -> Result<MemFolder, AllocError> {
     let mut files = Vec::new(alloc);
     files.push(MemFile {
         name: Name::from_vec(Vec::from_slice(alloc, b"s")?),
-        bytes: Bytes::from_vec(Vec::from_slice(alloc, case.source)?),
+        bytes: Bytes::from_vec(Vec::from_slice(alloc, source)?),
     })?;
-    let mut folder = MemFolder::new(alloc, files, Vec::from_slice(alloc, case.folder)?);
+    Ok(MemFolder::new(alloc, files, Vec::from_slice(alloc, failing)?))
+}
+
+// Over sinks that take one byte of a call.
+fn check(rt: &impl Abort, alloc: Global, case: &Case, left: &Left) -> Result<(), AllocError> {
+    let words = words_of(alloc, case.words)?;
+    let mut folder = folder_of(alloc, case.source, case.folder)?;
     let mut input = MemSource::new(Vec::new(alloc), 1, Vec::new(alloc));
     let mut out = MemSink::new(alloc, 1, Vec::from_slice(alloc, case.out)?);
     let mut report = MemSink::new(alloc, 1, Vec::from_slice(alloc, case.report)?);
@@ -182,6 +187,29 @@ fn tells_each_failing_call(rt: HostRuntime) -> Result<(), Fail> {
             },
         )?;
     }
+    Ok(())
+}
+
+// An output that takes 16 bytes of its first call and fails at its second holds those 16.
+#[test]
+fn holds_what_was_taken(rt: HostRuntime) -> Result<(), Fail> {
+    let alloc = rt.alloc();
+    let words = words_of(alloc, "first,s")?;
+    let mut folder = folder_of(alloc, HI.as_bytes(), &[])?;
+    let mut input = MemSource::new(Vec::new(alloc), 1, Vec::new(alloc));
+    let mut out = MemSink::new(alloc, 16, Vec::from_slice(alloc, &[1])?);
+    let mut report = MemSink::new(alloc, 64, Vec::new(alloc));
+    let status = ggvax(
+        alloc,
+        words.as_slice(),
+        &mut folder,
+        &mut input,
+        &mut out,
+        &mut report,
+    );
+    assert_eq!(rt; status, Status::WriteFault);
+    assert_eq!(rt; out.bytes(), b"\t.data\n\t.text\n\t.".as_slice());
+    assert_eq!(rt; report.bytes(), b"ggvax: output failed\n".as_slice());
     Ok(())
 }
 
