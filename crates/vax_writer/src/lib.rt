@@ -1,0 +1,11 @@
+// The assembly text of a code, in the Unix assembler's spelling.
+#![tactic(auto)]
+
+mod line;
+mod operand;
+pub mod writer;
+
+pub use writer::write_code;
+
+#[cfg(test)]
+mod tests;
