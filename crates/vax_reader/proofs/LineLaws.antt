@@ -37,7 +37,7 @@ named_takes word bytes x e =
     let c = closed_takes word y x more in
     (subst (λ (t : List ℕ). is_name t ≡ true) c.0 n.0, n.1 ∙ ap (λ (t : List ℕ). y.0 ++ t) c.1 ∙ ap (λ (t : List ℕ). t ++ (word ++ x.1)) c.0))
 
-label_again : (name rest : List ℕ) → is_name name ≡ true → named_front (codes ":\n") (name ++ (58 ∷ (10 ∷ rest))) ≡ Some (name, rest)
+pub label_again : (name rest : List ℕ) → is_name name ≡ true → named_front (codes ":\n") (name ++ (58 ∷ (10 ∷ rest))) ≡ Some (name, rest)
 unfolding named_front
 label_again name rest h = rw (name_again name (58 ∷ (10 ∷ rest)) h refl) refl
 

@@ -10,7 +10,7 @@ use Rattle.vax_core.specs.declared.code.AreaItem.{AreaItem}
 use Rattle.vax_core.specs.declared.code.CodeItem.{CodeItem}
 use Rattle.vax_core.specs.declared.code.Code.{Code}
 use Rattle.vax_core.specs.Text.{area_text, item_text, area_line, item_line, asm_text}
-use Rattle.vax_core.specs.Valid.{is_area_item, is_code_item}
+use Rattle.vax_core.specs.Valid.{is_area_item, is_code_item, is_code}
 use Rattle.vax_reader.specs.declared.fault.AsmKind.{AsmKind}
 use Rattle.vax_reader.specs.declared.fault.AsmFault.{AsmFault}
 use Rattle.vax_reader.specs.declared.fault.AsmFault.TheVariants as faults
@@ -19,8 +19,10 @@ use Rattle.vax_reader.specs.declared.kind.Stage.TheVariants as stages
 use Rattle.vax_reader.specs.Fronts.{strip}
 use Rattle.vax_reader.specs.Lines.{area_front, item_front, named_front, counted_front}
 use Rattle.vax_reader.specs.Kinds.{kind_of}
-use Rattle.vax_reader.specs.Grammar.{Reads, IsOnly, IsAreaLine, IsCodeLine, IsLine, made, AreaLines, CodeLines, LinesBefore, IsFirstWrong, IsFault, Refused}
+use Rattle.vax_reader.specs.WrongLine.{IsKind}
+use Rattle.vax_reader.specs.Grammar.{Reads, IsOnly, IsAreaLine, IsCodeLine, IsLine, made, AreaLines, CodeLines, LinesBefore, IsFirstWrong, IsFault, Refused, IsOnlyFault, GivesBack, Inverts}
 use Rattle.vax_reader.proofs.FrontLaws.{strip_takes}
+use Rattle.vax_reader.proofs.KindLaws.{kind_tells, one_kind}
 use Rattle.vax_reader.proofs.LineLaws.{area_takes, area_again, item_takes, item_again}
 
 -- one more item
@@ -94,7 +96,7 @@ wrong_start bytes kind e is = record {
   before = (refl, refl);
   wrong = λ text more l r. none-some more (sym e ∙ ap (strip (codes "\t.data\n")) (r ∙ ap (λ (t : List ℕ). t ++ more) l));
   unended = λ s n. absurd (cc);
-  kind_is = is;
+  kind_is = subst (IsKind stages.Start bytes) (sym is) (kind_tells stages.Start bytes);
 }
 
 no_area_line : (rest : List ℕ) → area_front rest ≡ None → (text more : List ℕ) → IsAreaLine text → rest ≡ text ++ more → ⊥
@@ -110,7 +112,7 @@ wrong_area bytes area line rest kind e f h is = record {
   before = (area, h);
   wrong = λ text more l r. elim l [ inl a ↦ no_area_line rest f text more a r | inr t ↦ no_text_line rest e text more t r ];
   unended = λ s n. absurd (cc);
-  kind_is = is;
+  kind_is = subst (IsKind stages.Area rest) (sym is) (kind_tells stages.Area rest);
 }
 
 -- the code
@@ -144,7 +146,7 @@ wrong_code bytes area items line rest kind some f h is = record {
   before = (area, (items, h));
   wrong = λ text more l r. no_code_line rest f text more l r;
   unended = λ s n. omega (arith, some, ap length n);
-  kind_is = is;
+  kind_is = subst (IsKind stages.Code rest) (sym is) (kind_tells stages.Code rest);
 }
 
 pub is_read : (bytes : List ℕ) (area : List AreaItem) (items : List CodeItem) (line : ℕ) (rest : List ℕ) → rest ≡ [] → CodeLines bytes area items line rest → Reads bytes (made area items)
@@ -153,139 +155,124 @@ is_read bytes area items line rest e h = record {
   text = h.text ∙ ap (λ (x : List ℕ). asm_text (made area items) ++ x) e ∙ append-nil (asm_text (made area items));
 }
 
--- lines that begin alike are the same lines
+-- texts that begin with lines of the grammar begin with the same lines
 
-area_no_text : (rest : List ℕ) → area_front (codes "\t.text\n" ++ rest) ≡ None
-unfolding area_front named_front counted_front
-area_no_text rest = refl
+-- no item's line stands there
+abbrev NoArea : List ℕ → Type 0
+NoArea rest = (item : AreaItem) (after : List ℕ) → is_area_item item ≡ true → rest ≡ area_line item ++ after → ⊥
 
--- a text that begins with the lines of these items is that of these items and more
-record AreaMore (xs ys : List AreaItem) (rest behind : List ℕ) : Type 0 where
-  more : List AreaItem
-  valid : list_all is_area_item more ≡ true
-  is : ys ≡ xs ++ more
-  text : rest ≡ flat_map area_line more ++ (codes "\t.text\n" ++ behind)
+abbrev NoCode : List ℕ → Type 0
+NoCode rest = (item : CodeItem) (after : List ℕ) → is_code_item item ≡ true → rest ≡ item_line item ++ after → ⊥
 
-area_follows : (xs ys : List AreaItem) (rest behind : List ℕ) → list_all is_area_item xs ≡ true → list_all is_area_item ys ≡ true → flat_map area_line ys ++ (codes "\t.text\n" ++ behind) ≡ flat_map area_line xs ++ rest → AreaMore xs ys rest behind
-area_follows [] ys rest behind vx vy e = record { more = ys; valid = vy; is = refl; text = sym e }
-area_follows (x ∷ xs) [] rest behind vx vy e =
-    let p = and_parts (is_area_item x) (list_all is_area_item xs) vx in
+same_area : (xs ys : List AreaItem) (rest other : List ℕ) → list_all is_area_item xs ≡ true → list_all is_area_item ys ≡ true → NoArea rest → NoArea other → flat_map area_line xs ++ rest ≡ flat_map area_line ys ++ other → (xs ≡ ys) × (rest ≡ other)
+same_area [] [] rest other v w none none2 e = (refl, e)
+same_area [] (y ∷ ys) rest other v w none none2 e =
+    let q = and_parts (is_area_item y) (list_all is_area_item ys) w in
+    absurd (none y (flat_map area_line ys ++ other) q.0 (e ∙ append_assoc (area_line y) (flat_map area_line ys) other))
+same_area (x ∷ xs) [] rest other v w none none2 e =
+    let p = and_parts (is_area_item x) (list_all is_area_item xs) v in
+    absurd (none2 x (flat_map area_line xs ++ rest) p.0 (sym e ∙ append_assoc (area_line x) (flat_map area_line xs) rest))
+same_area (x ∷ xs) (y ∷ ys) rest other v w none none2 e =
+    let p = and_parts (is_area_item x) (list_all is_area_item xs) v in
+    let q = and_parts (is_area_item y) (list_all is_area_item ys) w in
     let after = flat_map area_line xs ++ rest in
-    absurd (none-some (x, after) (sym (area_no_text behind) ∙ ap area_front (e ∙ append_assoc (area_line x) (flat_map area_line xs) rest) ∙ area_again x after p.0))
-area_follows (x ∷ xs) (y ∷ ys) rest behind vx vy e =
-    let p = and_parts (is_area_item x) (list_all is_area_item xs) vx in
-    let q = and_parts (is_area_item y) (list_all is_area_item ys) vy in
-    let after = flat_map area_line xs ++ rest in
-    let other = flat_map area_line ys ++ (codes "\t.text\n" ++ behind) in
-    let whole : area_line y ++ other ≡ area_line x ++ after =
-    sym (append_assoc (area_line y) (flat_map area_line ys) (codes "\t.text\n" ++ behind)) ∙ e ∙ append_assoc (area_line x) (flat_map area_line xs) rest in
-    let s = some_pair_parts y x other after (sym (area_again y other q.0) ∙ ap area_front whole ∙ area_again x after p.0) in
-    let h = area_follows xs ys rest behind p.1 q.1 s.1 in
-    record { more = h.more; valid = h.valid; is = ap (λ (i : AreaItem). i ∷ ys) s.0 ∙ ap (λ (is : List AreaItem). x ∷ is) h.is; text = h.text }
+    let after2 = flat_map area_line ys ++ other in
+    let whole : area_line x ++ after ≡ area_line y ++ after2 =
+    sym (append_assoc (area_line x) (flat_map area_line xs) rest) ∙ e ∙ append_assoc (area_line y) (flat_map area_line ys) other in
+    let first = some_pair_parts x y after after2 (sym (area_again x after p.0) ∙ ap area_front whole ∙ area_again y after2 q.0) in
+    let more = same_area xs ys rest other p.1 q.1 none none2 first.1 in
+    (ap (λ (i : AreaItem). i ∷ xs) first.0 ∙ ap (λ (is : List AreaItem). y ∷ is) more.0, more.1)
 
-record CodeMore (xs ys : List CodeItem) (rest : List ℕ) : Type 0 where
-  more : List CodeItem
-  valid : list_all is_code_item more ≡ true
-  is : ys ≡ xs ++ more
-  text : rest ≡ flat_map item_line more
-
-no_more : (x : CodeItem) (rest : List ℕ) → [] ≡ item_line x ++ rest → ⊥
-no_more x rest e = omega (arith, item_length [] x rest e)
-
-code_follows : (xs ys : List CodeItem) (rest : List ℕ) → list_all is_code_item xs ≡ true → list_all is_code_item ys ≡ true → flat_map item_line ys ≡ flat_map item_line xs ++ rest → CodeMore xs ys rest
-code_follows [] ys rest vx vy e = record { more = ys; valid = vy; is = refl; text = sym e }
-code_follows (x ∷ xs) [] rest vx vy e = absurd (no_more x (flat_map item_line xs ++ rest) (e ∙ append_assoc (item_line x) (flat_map item_line xs) rest))
-code_follows (x ∷ xs) (y ∷ ys) rest vx vy e =
-    let p = and_parts (is_code_item x) (list_all is_code_item xs) vx in
-    let q = and_parts (is_code_item y) (list_all is_code_item ys) vy in
+same_code : (xs ys : List CodeItem) (rest other : List ℕ) → list_all is_code_item xs ≡ true → list_all is_code_item ys ≡ true → NoCode rest → NoCode other → flat_map item_line xs ++ rest ≡ flat_map item_line ys ++ other → (xs ≡ ys) × (rest ≡ other)
+same_code [] [] rest other v w none none2 e = (refl, e)
+same_code [] (y ∷ ys) rest other v w none none2 e =
+    let q = and_parts (is_code_item y) (list_all is_code_item ys) w in
+    absurd (none y (flat_map item_line ys ++ other) q.0 (e ∙ append_assoc (item_line y) (flat_map item_line ys) other))
+same_code (x ∷ xs) [] rest other v w none none2 e =
+    let p = and_parts (is_code_item x) (list_all is_code_item xs) v in
+    absurd (none2 x (flat_map item_line xs ++ rest) p.0 (sym e ∙ append_assoc (item_line x) (flat_map item_line xs) rest))
+same_code (x ∷ xs) (y ∷ ys) rest other v w none none2 e =
+    let p = and_parts (is_code_item x) (list_all is_code_item xs) v in
+    let q = and_parts (is_code_item y) (list_all is_code_item ys) w in
     let after = flat_map item_line xs ++ rest in
-    let other = flat_map item_line ys in
-    let whole : item_line y ++ other ≡ item_line x ++ after = e ∙ append_assoc (item_line x) (flat_map item_line xs) rest in
-    let s = some_pair_parts y x other after (sym (item_again y other q.0) ∙ ap item_front whole ∙ item_again x after p.0) in
-    let h = code_follows xs ys rest p.1 q.1 s.1 in
-    record { more = h.more; valid = h.valid; is = ap (λ (i : CodeItem). i ∷ ys) s.0 ∙ ap (λ (is : List CodeItem). x ∷ is) h.is; text = h.text }
+    let after2 = flat_map item_line ys ++ other in
+    let whole : item_line x ++ after ≡ item_line y ++ after2 =
+    sym (append_assoc (item_line x) (flat_map item_line xs) rest) ∙ e ∙ append_assoc (item_line y) (flat_map item_line ys) other in
+    let first = some_pair_parts x y after after2 (sym (item_again x after p.0) ∙ ap item_front whole ∙ item_again y after2 q.0) in
+    let more = same_code xs ys rest other p.1 q.1 none none2 first.1 in
+    (ap (λ (i : CodeItem). i ∷ xs) first.0 ∙ ap (λ (is : List CodeItem). y ∷ is) more.0, more.1)
 
--- a text that begins with the lines of a code has its data area, and its items and more
-record TextMore (area : List AreaItem) (items : List CodeItem) (d : Code) (rest : List ℕ) : Type 0 where
-  same : d.area ≡ area
-  code : CodeMore items d.items rest
+text_at_front : (rest : List ℕ) → area_front (codes "\t.text\n" ++ rest) ≡ None
+unfolding area_front named_front counted_front
+text_at_front rest = refl
 
-text_follows : (bytes : List ℕ) (area : List AreaItem) (items : List CodeItem) (line : ℕ) (rest : List ℕ) (d : Code) → CodeLines bytes area items line rest → Reads bytes d → TextMore area items d rest
-text_follows bytes area items line rest d h r =
-    let v = and_parts (list_all is_area_item area) (list_all is_code_item items) h.valid in
-    let w = and_parts (list_all is_area_item d.area) (list_all is_code_item d.items) r.valid in
-    let lines = flat_map area_line area in
-    let code = flat_map item_line items in
-    let both : codes "\t.data\n" ++ (flat_map area_line d.area ++ (codes "\t.text\n" ++ flat_map item_line d.items)) ≡ codes "\t.data\n" ++ (lines ++ (codes "\t.text\n" ++ (code ++ rest))) =
-    sym r.text ∙ h.text ∙ ap (λ (x : List ℕ). codes "\t.data\n" ++ x) (append_assoc lines (codes "\t.text\n" ++ code) rest) in
-    let inner = append_cancel_left (codes "\t.data\n") (flat_map area_line d.area ++ (codes "\t.text\n" ++ flat_map item_line d.items)) (lines ++ (codes "\t.text\n" ++ (code ++ rest))) both in
-    let a = area_follows area d.area (codes "\t.text\n" ++ (code ++ rest)) (flat_map item_line d.items) v.0 w.0 inner in
-    by_more a.more a.valid a.is a.text v.1 w.1
-  where
-    by_more : (more : List AreaItem) → list_all is_area_item more ≡ true → d.area ≡ area ++ more → codes "\t.text\n" ++ (flat_map item_line items ++ rest) ≡ flat_map area_line more ++ (codes "\t.text\n" ++ flat_map item_line d.items) → list_all is_code_item items ≡ true → list_all is_code_item d.items ≡ true → TextMore area items d rest
-    by_more [] va is text v w = record {
-      same = is ∙ append-nil area;
-      code = code_follows items d.items rest v w (sym (append_cancel_left (codes "\t.text\n") (flat_map item_line items ++ rest) (flat_map item_line d.items) text));
-    }
-    by_more (m ∷ more) va is text v w =
-        let p = and_parts (is_area_item m) (list_all is_area_item more) va in
-        let after = flat_map area_line more ++ (codes "\t.text\n" ++ flat_map item_line d.items) in
-        absurd (none-some (m, after) (sym (area_no_text (flat_map item_line items ++ rest)) ∙ ap area_front (text ∙ append_assoc (area_line m) (flat_map area_line more) (codes "\t.text\n" ++ flat_map item_line d.items)) ∙ area_again m after p.0))
+no_area_at_text : (behind : List ℕ) → NoArea (codes "\t.text\n" ++ behind)
+no_area_at_text behind item after v e = none-some (item, after) (sym (text_at_front behind) ∙ ap area_front e ∙ area_again item after v)
 
-none_left : (more : List CodeItem) → [] ≡ flat_map item_line more → more ≡ []
-none_left [] e = refl
-none_left (m ∷ more) e = absurd (no_more m (flat_map item_line more) e)
+no_code_at_end : NoCode []
+no_code_at_end item after v e = omega (arith, item_length [] item after e)
 
-lines_of : (bytes : List ℕ) (c : Code) → Reads bytes c → CodeLines bytes c.area c.items (length c.area + length c.items + 3) []
-lines_of bytes c r = record {
-  valid = r.valid;
-  text = r.text ∙ sym (append-nil (asm_text c));
-  number = refl;
-}
+-- what stands behind `.data`
+behind_data : (area : List AreaItem) (items : List CodeItem) (rest : List ℕ) → asm_text (made area items) ++ rest ≡ codes "\t.data\n" ++ (flat_map area_line area ++ (codes "\t.text\n" ++ (flat_map item_line items ++ rest)))
+behind_data area items rest =
+    ap (λ (x : List ℕ). codes "\t.data\n" ++ x) (append_assoc (flat_map area_line area) (codes "\t.text\n" ++ flat_map item_line items) rest)
+
+-- two texts of codes, each with something behind it
+same_texts : (area area2 : List AreaItem) (items items2 : List CodeItem) (rest other : List ℕ) → is_code (made area items) ≡ true → is_code (made area2 items2) ≡ true → NoCode rest → NoCode other → asm_text (made area items) ++ rest ≡ asm_text (made area2 items2) ++ other → (area ≡ area2) × (items ≡ items2) × (rest ≡ other)
+same_texts area area2 items items2 rest other v w none none2 e =
+    let p = and_parts (list_all is_area_item area) (list_all is_code_item items) v in
+    let q = and_parts (list_all is_area_item area2) (list_all is_code_item items2) w in
+    let behind = flat_map item_line items ++ rest in
+    let behind2 = flat_map item_line items2 ++ other in
+    let inner = append_cancel_left (codes "\t.data\n") (flat_map area_line area ++ (codes "\t.text\n" ++ behind)) (flat_map area_line area2 ++ (codes "\t.text\n" ++ behind2)) (sym (behind_data area items rest) ∙ e ∙ behind_data area2 items2 other) in
+    let a = same_area area area2 (codes "\t.text\n" ++ behind) (codes "\t.text\n" ++ behind2) p.0 q.0 (no_area_at_text behind) (no_area_at_text behind2) inner in
+    let c = same_code items items2 rest other p.1 q.1 none none2 (append_cancel_left (codes "\t.text\n") behind behind2 a.1) in
+    (a.0, c.0, c.1)
+
+-- a text has one code
+
+whole_text : (bytes : List ℕ) (c : Code) → Reads bytes c → asm_text c ++ [] ≡ bytes
+whole_text bytes c r = append-nil (asm_text c) ∙ sym r.text
 
 pub unique : (bytes : List ℕ) (c d : Code) → Reads bytes c → Reads bytes d → c ≡ d
 unique bytes c d r s =
-    let h = text_follows bytes c.area c.items (length c.area + length c.items + 3) [] d (lines_of bytes c r) s in
-    let none = none_left h.code.more h.code.text in
-    let items : d.items ≡ c.items = h.code.is ∙ ap (λ (x : List CodeItem). c.items ++ x) none ∙ append-nil c.items in
-    ap (λ (a : List AreaItem). made a c.items) (sym h.same) ∙ ap (λ (i : List CodeItem). made d.area i) (sym items)
+    let t = same_texts c.area d.area c.items d.items [] [] r.valid s.valid no_code_at_end no_code_at_end (whole_text bytes c r ∙ sym (whole_text bytes d s)) in
+    ap (λ (a : List AreaItem). made a c.items) t.0 ∙ ap (λ (i : List CodeItem). made d.area i) t.1
 
 pub only : (bytes : List ℕ) (r : Result Code AsmFault) → IfOk r (Reads bytes) → IfOk r (IsOnly bytes)
 only bytes (Ok c) h = λ d s. unique bytes c d h s
 only bytes (Err e) h = h
 
+-- where a line is wrong, no item's line stands
+
+abbrev NoLine : Stage → List ℕ → Type 0
+NoLine stage rest = (text more : List ℕ) → IsLine stage text → rest ≡ text ++ more → ⊥
+
+wrong_has_no_area : (rest : List ℕ) → NoLine stages.Area rest → NoArea rest
+wrong_has_no_area rest wrong item after v e = wrong (area_line item) after (inl (record { item = item; valid = v; text = refl })) e
+
+wrong_has_no_code : (rest : List ℕ) → NoLine stages.Code rest → NoCode rest
+wrong_has_no_code rest wrong item after v e = wrong (item_line item) after (record { item = item; valid = v; text = refl }) e
+
+-- where a line of the area is wrong, no text of a code begins
+no_text_begins : (bytes : List ℕ) (area : List AreaItem) (line : ℕ) (rest : List ℕ) (other : List AreaItem) (items : List CodeItem) (behind : List ℕ) → AreaLines bytes area line rest → NoLine stages.Area rest → is_code (made other items) ≡ true → bytes ≡ asm_text (made other items) ++ behind → ⊥
+no_text_begins bytes area line rest other items behind h wrong v e =
+    let q = and_parts (list_all is_area_item other) (list_all is_code_item items) v in
+    let code = flat_map item_line items ++ behind in
+    let inner = append_cancel_left (codes "\t.data\n") (flat_map area_line area ++ rest) (flat_map area_line other ++ (codes "\t.text\n" ++ code)) (sym h.text ∙ e ∙ behind_data other items behind) in
+    let a = same_area area other rest (codes "\t.text\n" ++ code) h.valid q.0 (wrong_has_no_area rest wrong) (no_area_at_text code) inner in
+    wrong (codes "\t.text\n") code (inr refl) a.1
+
 -- a first wrong line leaves no code
 
-refused_area : (bytes : List ℕ) (area : List AreaItem) (line : ℕ) (rest : List ℕ) (d : Code) → AreaLines bytes area line rest → ((text more : List ℕ) → IsLine stages.Area text → rest ≡ text ++ more → ⊥) → Reads bytes d → ⊥
-refused_area bytes area line rest d h wrong r =
-    let w = and_parts (list_all is_area_item d.area) (list_all is_code_item d.items) r.valid in
-    let behind = flat_map item_line d.items in
-    let inner = append_cancel_left (codes "\t.data\n") (flat_map area_line d.area ++ (codes "\t.text\n" ++ behind)) (flat_map area_line area ++ rest) (sym r.text ∙ h.text) in
-    let a = area_follows area d.area rest behind h.valid w.0 inner in
-    by_more a.more a.valid a.text
-  where
-    by_more : (more : List AreaItem) → list_all is_area_item more ≡ true → rest ≡ flat_map area_line more ++ (codes "\t.text\n" ++ flat_map item_line d.items) → ⊥
-    by_more [] va text = wrong (codes "\t.text\n") (flat_map item_line d.items) (inr refl) text
-    by_more (m ∷ more) va text =
-        wrong (area_line m) (flat_map area_line more ++ (codes "\t.text\n" ++ flat_map item_line d.items))
-        (inl (record { item = m; valid = (and_parts (is_area_item m) (list_all is_area_item more) va).0; text = refl }))
-        (text ∙ append_assoc (area_line m) (flat_map area_line more) (codes "\t.text\n" ++ flat_map item_line d.items))
-
-refused_code : (bytes : List ℕ) (area : List AreaItem) (items : List CodeItem) (line : ℕ) (rest : List ℕ) (d : Code) → CodeLines bytes area items line rest → ((text more : List ℕ) → IsLine stages.Code text → rest ≡ text ++ more → ⊥) → (rest ≡ [] → ⊥) → Reads bytes d → ⊥
+refused_code : (bytes : List ℕ) (area : List AreaItem) (items : List CodeItem) (line : ℕ) (rest : List ℕ) (d : Code) → CodeLines bytes area items line rest → NoLine stages.Code rest → (rest ≡ [] → ⊥) → Reads bytes d → ⊥
 refused_code bytes area items line rest d h wrong unended r =
-    let t = text_follows bytes area items line rest d h r in
-    by_more t.code.more t.code.valid t.code.text
-  where
-    by_more : (more : List CodeItem) → list_all is_code_item more ≡ true → rest ≡ flat_map item_line more → ⊥
-    by_more [] v text = unended text
-    by_more (m ∷ more) v text =
-        wrong (item_line m) (flat_map item_line more)
-        (record { item = m; valid = (and_parts (is_code_item m) (list_all is_code_item more) v).0; text = refl })
-        text
+    let t = same_texts area d.area items d.items rest [] h.valid r.valid (wrong_has_no_code rest wrong) no_code_at_end (sym h.text ∙ sym (whole_text bytes d r)) in
+    unended t.2
 
-by_stage : (bytes : List ℕ) (line : ℕ) (stage : Stage) (rest : List ℕ) (d : Code) → LinesBefore stage bytes line rest → ((text more : List ℕ) → IsLine stage text → rest ≡ text ++ more → ⊥) → (stage ≡ stages.Code → rest ≡ [] → ⊥) → Reads bytes d → ⊥
+by_stage : (bytes : List ℕ) (line : ℕ) (stage : Stage) (rest : List ℕ) (d : Code) → LinesBefore stage bytes line rest → NoLine stage rest → (stage ≡ stages.Code → rest ≡ [] → ⊥) → Reads bytes d → ⊥
 by_stage bytes line stages.Start rest d before wrong unended r = wrong (codes "\t.data\n") (flat_map area_line d.area ++ (codes "\t.text\n" ++ flat_map item_line d.items)) refl (before.1 ∙ r.text)
-by_stage bytes line stages.Area rest d before wrong unended r = refused_area bytes before.0 line rest d before.1 wrong r
+by_stage bytes line stages.Area rest d before wrong unended r = no_text_begins bytes before.0 line rest d.area d.items [] before.1 wrong r.valid (sym (whole_text bytes d r))
 by_stage bytes line stages.Code rest d before wrong unended r = refused_code bytes before.0 before.1.0 line rest d before.1.1 wrong (unended refl) r
 
 pub no_code : (bytes : List ℕ) (line : ℕ) (kind : AsmKind) → IsFirstWrong bytes line kind → (d : Code) → Reads bytes d → ⊥
@@ -298,6 +285,65 @@ refused_by bytes (faults.Line line kind) h = λ d r. no_code bytes line kind h d
 pub refused : (bytes : List ℕ) (r : Result Code AsmFault) → IfErr r (IsFault bytes) → IfErr r (Refused bytes)
 refused bytes (Ok c) h = h
 refused bytes (Err e) h = refused_by bytes e h
+
+-- a text has one first wrong line
+
+abbrev SamePlace : Stage → ℕ → List ℕ → Stage → ℕ → List ℕ → Type 0
+SamePlace stage line rest stage2 line2 rest2 = (stage ≡ stage2) × (line ≡ line2) × (rest ≡ rest2)
+
+same_in_area : (bytes : List ℕ) (area area2 : List AreaItem) (line line2 : ℕ) (rest rest2 : List ℕ) → AreaLines bytes area line rest → AreaLines bytes area2 line2 rest2 → NoLine stages.Area rest → NoLine stages.Area rest2 → (line ≡ line2) × (rest ≡ rest2)
+same_in_area bytes area area2 line line2 rest rest2 h k wrong wrong2 =
+    let inner = append_cancel_left (codes "\t.data\n") (flat_map area_line area ++ rest) (flat_map area_line area2 ++ rest2) (sym h.text ∙ k.text) in
+    let a = same_area area area2 rest rest2 h.valid k.valid (wrong_has_no_area rest wrong) (wrong_has_no_area rest2 wrong2) inner in
+    (omega (arith, h.number, k.number, ap length a.0), a.1)
+
+same_in_code : (bytes : List ℕ) (area area2 : List AreaItem) (items items2 : List CodeItem) (line line2 : ℕ) (rest rest2 : List ℕ) → CodeLines bytes area items line rest → CodeLines bytes area2 items2 line2 rest2 → NoLine stages.Code rest → NoLine stages.Code rest2 → (line ≡ line2) × (rest ≡ rest2)
+same_in_code bytes area area2 items items2 line line2 rest rest2 h k wrong wrong2 =
+    let t = same_texts area area2 items items2 rest rest2 h.valid k.valid (wrong_has_no_code rest wrong) (wrong_has_no_code rest2 wrong2) (sym h.text ∙ k.text) in
+    (omega (arith, h.number, k.number, ap length t.0, ap length t.1), t.2)
+
+-- a text that begins with `.data` is not wrong at its start
+no_start : (bytes rest more : List ℕ) → rest ≡ bytes → NoLine stages.Start rest → bytes ≡ codes "\t.data\n" ++ more → ⊥
+no_start bytes rest more is wrong e = wrong (codes "\t.data\n") more refl (is ∙ e)
+
+same_place : (bytes : List ℕ) (stage stage2 : Stage) (line line2 : ℕ) (rest rest2 : List ℕ) → LinesBefore stage bytes line rest → LinesBefore stage2 bytes line2 rest2 → NoLine stage rest → NoLine stage2 rest2 → SamePlace stage line rest stage2 line2 rest2
+same_place bytes stages.Start stages.Start line line2 rest rest2 h k wrong wrong2 = (refl, h.0 ∙ sym k.0, h.1 ∙ sym k.1)
+same_place bytes stages.Start stages.Area line line2 rest rest2 h k wrong wrong2 = absurd (no_start bytes rest _ h.1 wrong k.1.text)
+same_place bytes stages.Start stages.Code line line2 rest rest2 h k wrong wrong2 = absurd (no_start bytes rest _ h.1 wrong (k.1.1.text ∙ behind_data k.0 k.1.0 rest2))
+same_place bytes stages.Area stages.Start line line2 rest rest2 h k wrong wrong2 = absurd (no_start bytes rest2 _ k.1 wrong2 h.1.text)
+same_place bytes stages.Area stages.Area line line2 rest rest2 h k wrong wrong2 =
+    let s = same_in_area bytes h.0 k.0 line line2 rest rest2 h.1 k.1 wrong wrong2 in
+    (refl, s.0, s.1)
+same_place bytes stages.Area stages.Code line line2 rest rest2 h k wrong wrong2 = absurd (no_text_begins bytes h.0 line rest k.0 k.1.0 rest2 h.1 wrong k.1.1.valid k.1.1.text)
+same_place bytes stages.Code stages.Start line line2 rest rest2 h k wrong wrong2 = absurd (no_start bytes rest2 _ k.1 wrong2 (h.1.1.text ∙ behind_data h.0 h.1.0 rest))
+same_place bytes stages.Code stages.Area line line2 rest rest2 h k wrong wrong2 = absurd (no_text_begins bytes k.0 line2 rest2 h.0 h.1.0 rest k.1 wrong2 h.1.1.valid h.1.1.text)
+same_place bytes stages.Code stages.Code line line2 rest rest2 h k wrong wrong2 =
+    let s = same_in_code bytes h.0 k.0 h.1.0 k.1.0 line line2 rest rest2 h.1.1 k.1.1 wrong wrong2 in
+    (refl, s.0, s.1)
+
+one_first_wrong : (bytes : List ℕ) (line line2 : ℕ) (kind kind2 : AsmKind) → IsFirstWrong bytes line kind → IsFirstWrong bytes line2 kind2 → (line2 ≡ line) × (kind2 ≡ kind)
+one_first_wrong bytes line line2 kind kind2 h k =
+    let p = same_place bytes k.stage h.stage line2 line k.rest h.rest k.before h.before k.wrong h.wrong in
+    let moved : IsKind h.stage h.rest kind2 = subst (λ (r : List ℕ). IsKind h.stage r kind2) p.2 (subst (λ (s : Stage). IsKind s k.rest kind2) p.0 k.kind_is) in
+    (p.1, one_kind h.stage h.rest kind2 kind moved h.kind_is)
+
+alone_by : (bytes : List ℕ) (fault : AsmFault) → IsFault bytes fault → IsOnlyFault bytes fault
+alone_by bytes faults.NoMemory h = tt
+alone_by bytes (faults.Line line kind) h = λ n k other. one_first_wrong bytes line n kind k h other
+
+pub alone : (bytes : List ℕ) (r : Result Code AsmFault) → IfErr r (IsFault bytes) → IfErr r (IsOnlyFault bytes)
+alone bytes (Ok c) h = h
+alone bytes (Err e) h = alone_by bytes e h
+
+-- reading gives back what was written
+
+given_back : (bytes : List ℕ) (c : Code) (fault : AsmFault) → IsFault bytes fault → Reads bytes c → GivesBack c (Err fault)
+given_back bytes c faults.NoMemory h r = tt
+given_back bytes c (faults.Line line kind) h r = no_code bytes line kind h c r
+
+pub inverse : (bytes : List ℕ) (r : Result Code AsmFault) → IfOk r (Reads bytes) → IfErr r (IsFault bytes) → Inverts bytes r
+inverse bytes (Ok d) found first = λ c r. unique bytes d c found r
+inverse bytes (Err e) found first = λ c r. given_back bytes c e first r
 
 -- the count of the lines stays below the length of the text
 

@@ -1,8 +1,8 @@
 -- What a reading answers.
 use Rattle.std.specs.Prelude.{◌≡◌, ℕ, List, Option, Some, None, Result, Ok, Err}
 use Rattle.std.specs.Borrow.{Bor}
-use Rattle.vax_reader.specs.declared.fault.LineFault.{LineFault}
-use Rattle.vax_reader.specs.declared.fault.LineFault.TheVariants.{NoMemory, NotOfForm}
+use Rattle.vax_reader.specs.declared.line_fault.LineFault.{LineFault}
+use Rattle.vax_reader.specs.declared.line_fault.LineFault.TheVariants.{NoMemory, NotOfForm}
 
 -- what stands at the front and what is left behind it, or nothing, or memory ran out
 abbrev pub Gives : {A : Type 0} → Result (A × Bor (List ℕ)) LineFault → Option (A × List ℕ) → Type 0

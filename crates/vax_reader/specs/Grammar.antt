@@ -1,5 +1,5 @@
 -- Texts of codes, and the first line of a text that is not of the grammar.
-use Rattle.std.specs.Prelude.{◌≡◌, ◌⊎◌, ◌+◌, ℕ, true, List, [], ◌++◌, length, codes}
+use Rattle.std.specs.Prelude.{◌≡◌, ◌⊎◌, ◌+◌, ℕ, true, List, [], ◌++◌, length, Result, Ok, Err, codes}
 use Rattle.std.specs.List.{list_all, flat_map}
 use Rattle.vax_core.specs.declared.code.AreaItem.{AreaItem}
 use Rattle.vax_core.specs.declared.code.CodeItem.{CodeItem}
@@ -11,7 +11,7 @@ use Rattle.vax_reader.specs.declared.fault.AsmFault.TheVariants as faults
 use Rattle.vax_reader.specs.declared.fault.AsmKind.{AsmKind}
 use Rattle.vax_reader.specs.declared.kind.Stage.{Stage}
 use Rattle.vax_reader.specs.declared.kind.Stage.TheVariants as stages
-use Rattle.vax_reader.specs.Kinds.{kind_of}
+use Rattle.vax_reader.specs.WrongLine.{IsKind}
 
 -- the bytes are the text of this code, a valid one
 pub record Reads (bytes : List ℕ) (c : Code) : Type 0 where
@@ -68,7 +68,7 @@ pub record IsFirstWrong (bytes : List ℕ) (line : ℕ) (kind : AsmKind) : Type 
   pub wrong : (text more : List ℕ) → IsLine stage text → rest ≡ text ++ more → ⊥
   -- a text may end behind any line of its code
   pub unended : stage ≡ stages.Code → rest ≡ [] → ⊥
-  pub kind_is : kind ≡ kind_of stage rest
+  pub kind_is : IsKind stage rest kind
 
 -- a fault is for want of memory, or names the first wrong line
 abbrev pub IsFault : List ℕ → AsmFault → Type 0
@@ -79,3 +79,18 @@ IsFault bytes (faults.Line line kind) = IsFirstWrong bytes line kind
 abbrev pub Refused : List ℕ → AsmFault → Type 0
 Refused bytes faults.NoMemory = Unit {0}
 Refused bytes (faults.Line line kind) = (d : Code) → Reads bytes d → ⊥
+
+-- no other line or kind is the first wrong one
+abbrev pub IsOnlyFault : List ℕ → AsmFault → Type 0
+IsOnlyFault bytes faults.NoMemory = Unit {0}
+IsOnlyFault bytes (faults.Line line kind) = (n : ℕ) (k : AsmKind) → IsFirstWrong bytes n k → (n ≡ line) × (k ≡ kind)
+
+-- the answer is this code, unless memory ran out
+abbrev pub GivesBack : Code → Result Code AsmFault → Type 0
+GivesBack c (Ok d) = d ≡ c
+GivesBack c (Err faults.NoMemory) = Unit {0}
+GivesBack c (Err (faults.Line line kind)) = ⊥
+
+-- of each code's text, that code is read
+abbrev pub Inverts : List ℕ → Result Code AsmFault → Type 0
+Inverts bytes result = (c : Code) → Reads bytes c → GivesBack c result

@@ -1,5 +1,6 @@
 -- What is wrong with a line that is not of the grammar.
-use Rattle.std.specs.Prelude.{ℕ, Bool, true, false, ◌==◌, ◌||◌, nat_eq, is_some, List, [], ◌∷◌, Option, Some, None, if◌then◌else◌, codes}
+use Rattle.std.specs.Prelude.{ℕ, Bool, false, ◌==◌, ◌||◌, nat_eq, is_some, List, Option, Some, None, if◌then◌else◌, codes}
+use Rattle.std.specs.List.{list_any}
 use Rattle.std.specs.Cmp.Lexicographic.{pointwise}
 use Rattle.vax_reader.specs.declared.fault.AsmKind.{AsmKind}
 use Rattle.vax_reader.specs.declared.fault.AsmKind.TheVariants as kinds
@@ -38,8 +39,7 @@ abbrev pub is_label_line : List ℕ → Bool
 is_label_line bytes = is_some (named_front (codes ":\n") bytes)
 
 abbrev pub has_line_feed : List ℕ → Bool
-has_line_feed [] = false
-has_line_feed (c ∷ cs) = if c == 10 then true else has_line_feed cs
+has_line_feed bytes = list_any (λ (c : ℕ). c == 10) bytes
 
 -- the kind of the line at the front, where it is none of the grammar
 abbrev pub kind_of : Stage → List ℕ → AsmKind

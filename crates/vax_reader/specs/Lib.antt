@@ -3,4 +3,5 @@ pub mod Operands
 pub mod Answers
 pub mod Lines
 pub mod Kinds
+pub mod WrongLine
 pub mod Grammar

@@ -20,25 +20,6 @@ pub enum AsmFault {
     Line { line: u64, kind: AsmKind },
 }
 
-/// Why no line was read.
-#[derive(Clone, Copy, Debug, PartialEq, Eq)]
-pub enum LineFault {
-    NoMemory,
-    /// No line of the grammar stands there.
-    NotOfForm,
-}
-
-impl From<AllocError> for LineFault {
-    ghost use Rattle.std.specs.Prelude.{◌≡◌};
-    ghost use Rattle.vax_reader.specs.declared.fault.LineFault.TheVariants.{NoMemory};
-
-    ghost from_gives = { λ _ e. e ≡ NoMemory };
-
-    fn from(_: AllocError) -> Self {
-        LineFault::NoMemory
-    }
-}
-
 impl From<AllocError> for AsmFault {
     ghost use Rattle.std.specs.Prelude.{◌≡◌};
     ghost use Rattle.vax_reader.specs.declared.fault.AsmFault.TheVariants.{NoMemory};

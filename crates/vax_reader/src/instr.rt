@@ -6,8 +6,8 @@ ghost use Rattle.vax_reader.specs.Lines.{ops_with, among, op_of, in_word, is_las
 ghost use Rattle.vax_reader.specs.Answers.{Gives};
 
 use crate::address::copy_of;
-use crate::fault::LineFault;
 use crate::fronts::{name, strip};
+use crate::line_fault::LineFault;
 use crate::operand::operand;
 use gg_base::Name;
 use std::alloc::Global;

@@ -64,21 +64,13 @@ fn begins_allowed(stage: Stage, bytes: &[u8]) -> bool
 fn is_label_line(bytes: &[u8]) -> bool
     ensures { result ≡ is_label_line bytes.now }
 {
-    match named(b":\n", bytes) {
-        None => false,
-        Some(_) => true,
-    }
+    named(b":\n", bytes).is_some()
 }
 
 fn has_line_feed(bytes: &[u8]) -> bool
     ensures { result ≡ has_line_feed bytes.now }
 {
-    for c in bytes {
-        if *c == b'\n' {
-            return true;
-        }
-    }
-    false
+    bytes.contains(&b'\n')
 }
 
 /// The kind of the line at the front, which is none that may stand there.

@@ -7,6 +7,7 @@ mod fronts;
 mod instr;
 mod kind;
 mod line;
+mod line_fault;
 mod operand;
 pub mod reader;
 

@@ -6,9 +6,9 @@ ghost use Rattle.vax_reader.specs.Lines.{named_front, ended, counted_front, area
 ghost use Rattle.vax_reader.specs.Answers.{Gives};
 
 use crate::address::{addr, copy_of, owned};
-use crate::fault::LineFault;
 use crate::fronts::{from_one, name, strip, up_to};
 use crate::instr::instr;
+use crate::line_fault::LineFault;
 use std::alloc::Global;
 use vax_core::{AreaItem, CodeItem};
 

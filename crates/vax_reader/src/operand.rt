@@ -5,8 +5,8 @@ ghost use Rattle.vax_reader.specs.Operands.{addr_of, near, far, deferred_front, 
 ghost use Rattle.vax_reader.specs.Answers.{Gives};
 
 use crate::address::{Spelled, addr, owned};
-use crate::fault::LineFault;
 use crate::fronts::{at, reg, signed, strip};
+use crate::line_fault::LineFault;
 use std::alloc::Global;
 use vax_core::{Base, Operand, Reg};
 

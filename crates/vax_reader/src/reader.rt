@@ -1,13 +1,14 @@
 // Reading a whole text.
 ghost use Rattle.std.specs.Prelude.{◌≡◌, ◌+◌, ◌≤◌, [], length, IfOk, IfErr};
 ghost use Rattle.vax_reader.specs.Kinds.{kind_of};
-ghost use Rattle.vax_reader.specs.Grammar.{Reads, IsOnly, CodeLines, IsFault, Refused};
+ghost use Rattle.vax_reader.specs.Grammar.{Reads, IsOnly, CodeLines, IsFault, Refused, IsOnlyFault, Inverts};
 ghost use Rattle.vax_reader.specs.declared.fault.AsmFault.TheVariants as faults;
 
-use crate::fault::{AsmFault, LineFault};
+use crate::fault::AsmFault;
 use crate::fronts::strip;
 use crate::kind::{Stage, kind_of};
 use crate::line::{area_line, code_line};
+use crate::line_fault::LineFault;
 use std::alloc::Global;
 use vax_core::{AreaItem, AreaItems, Code, CodeItems};
 
@@ -95,6 +96,10 @@ pub fn read_code(alloc: Global, bytes: &[u8]) -> Result<Code, AsmFault>
     ensures refused { IfErr result (Refused bytes.now) }
     // The line that is named is the first that is not of the grammar, and its kind is the table's.
     ensures first { IfErr result (IsFault bytes.now) }
+    // No other line is the first, and it has no other kind.
+    ensures alone { IfErr result (IsOnlyFault bytes.now) }
+    // Of the text of a valid code that code is read, unless memory ran out.
+    ensures inverse { Inverts bytes.now result }
 {
     read(alloc, bytes)
 }

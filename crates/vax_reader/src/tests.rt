@@ -1,7 +1,14 @@
-// Texts, and what is read of them.
+// Texts with what is read of them, worked out by hand from the grammar.
 use crate::{AsmFault, AsmKind, read_code};
 use std::alloc::Global;
 use std::test::Fail;
+
+/// The first five lines of a program that writes two bytes and ends with 0.
+const HEAD: &str = "\t.data\n\t.text\n\t.globl\t_main\n_main:\n\t.word\t0\n";
+
+/// Its last six.
+const TAIL: &str =
+    "\tcalls\t$1,_putchar\n\tpushl\t$105\n\tcalls\t$1,_putchar\n\tpushl\t$0\n\tmovl\t(sp)+,r0\n\tret\n";
 
 /// How many area items and code items are read, or the fault.
 fn answer(alloc: Global, text: &[u8]) -> Result<(usize, usize), AsmFault> {
@@ -84,38 +91,32 @@ fn lines_of_a_text(rt: HostRuntime) -> Result<(), Fail> {
 }
 
 #[test]
-fn the_worked_text(rt: HostRuntime) -> Result<(), Fail> {
+fn sixth_lines_of_a_program(rt: HostRuntime) -> Result<(), Fail> {
     let alloc = rt.alloc();
-    let head = "\t.data\n\t.text\n\t.globl\t_main\n_main:\n\t.word\t0\n";
     let rows = [
-        (
-            "\tpushl\t$72\n\tcalls\t$1,_putchar\n\tpushl\t$0\n\tmovl\t(sp)+,r0\n\tret\n",
-            Ok((0, 8)),
-        ),
-        ("\tpushl\t$7", wrong(6, AsmKind::Cut)),
-        ("\tpushl\t72\n", wrong(6, AsmKind::Operands)),
-        ("\tpush\t$72\n", wrong(6, AsmKind::Word)),
-        ("\tcalls\t$256,_a\n", wrong(6, AsmKind::Operands)),
-        ("\tcalls\t$1\n", wrong(6, AsmKind::Operands)),
-        ("\tcalls\tr0,_a\n", wrong(6, AsmKind::Operands)),
-        ("\tjbr\t_a+1\n", wrong(6, AsmKind::Operands)),
-        ("\tjbr\n", wrong(6, AsmKind::Operands)),
-        ("\tjgequ\tL1\n", Ok((0, 4))),
-        ("\tmovl\tr0,$1\n", wrong(6, AsmKind::Operands)),
-        ("\tmoval\tr0,r1\n", wrong(6, AsmKind::Operands)),
-        ("\tmovl\tr0\n", wrong(6, AsmKind::Operands)),
-        ("\tmovl\tr0,r1,r2\n", wrong(6, AsmKind::Operands)),
-        ("\tmovl\tr0, r1\n", wrong(6, AsmKind::Operands)),
-        ("\taddl3\tr0,(r1),-(sp)\n", Ok((0, 4))),
-        ("\tashl\t$-1,r0,r1\n", Ok((0, 4))),
+        ("\tpushl\t$72", Ok((0, 10))),
+        ("\tpushl\t72", wrong(6, AsmKind::Operands)),
+        ("\tpush\t$72", wrong(6, AsmKind::Word)),
+        ("\tcalls\t$255,_a", Ok((0, 10))),
+        ("\tcalls\t$256,_a", wrong(6, AsmKind::Operands)),
+        ("\tcalls\t$1", wrong(6, AsmKind::Operands)),
+        ("\tcalls\tr0,_a", wrong(6, AsmKind::Operands)),
+        ("\tjbr\t_a+1", wrong(6, AsmKind::Operands)),
+        ("\tjbr", wrong(6, AsmKind::Operands)),
+        ("\tjgequ\tL1", Ok((0, 10))),
+        ("\tmovl\tr0,$1", wrong(6, AsmKind::Operands)),
+        ("\tmoval\tr0,r1", wrong(6, AsmKind::Operands)),
+        ("\tmovl\tr0", wrong(6, AsmKind::Operands)),
+        ("\tmovl\tr0,r1,r2", wrong(6, AsmKind::Operands)),
+        ("\tmovl\tr0, r1", wrong(6, AsmKind::Operands)),
+        ("\taddl3\tr0,(r1),-(sp)", Ok((0, 10))),
+        ("\tashl\t$-1,r0,r1", Ok((0, 10))),
+        ("L_0:", Ok((0, 10))),
+        ("L-0:", wrong(6, AsmKind::Word)),
     ];
-    for (lines, wanted) in rows {
-        let text = format!(in alloc; "{head}{lines}")?;
-        assert_eq!(rt;
-            answer(alloc, text.as_str().as_bytes()),
-            wanted,
-            "{lines:?}"
-        );
+    for (line, wanted) in rows {
+        let text = format!(in alloc; "{HEAD}{line}\n{TAIL}")?;
+        assert_eq!(rt; answer(alloc, text.as_bytes()), wanted, "{line:?}");
     }
     Ok(())
 }
@@ -158,11 +159,7 @@ fn operands_of_every_mode(rt: HostRuntime) -> Result<(), Fail> {
     ];
     for operand in good {
         let text = format!(in alloc; "\t.data\n\t.text\n\ttstl\t{operand}\n")?;
-        assert_eq!(rt;
-            answer(alloc, text.as_str().as_bytes()),
-            Ok((0, 1)),
-            "{operand}"
-        );
+        assert_eq!(rt; answer(alloc, text.as_bytes()), Ok((0, 1)), "{operand}");
     }
     let bad = [
         "$-0",
@@ -203,7 +200,7 @@ fn operands_of_every_mode(rt: HostRuntime) -> Result<(), Fail> {
     for operand in bad {
         let text = format!(in alloc; "\t.data\n\t.text\n\ttstl\t{operand}\n")?;
         assert_eq!(rt;
-            answer(alloc, text.as_str().as_bytes()),
+            answer(alloc, text.as_bytes()),
             wrong(3, AsmKind::Operands),
             "{operand}"
         );
@@ -211,28 +208,36 @@ fn operands_of_every_mode(rt: HostRuntime) -> Result<(), Fail> {
     Ok(())
 }
 
-/// A program that writes two bytes and ends with 0.
-const WORKED: &str =
-    "\t.data\n\t.text\n\t.globl\t_main\n_main:\n\t.word\t0\n\tpushl\t$72\n\tcalls\t$1,_putchar\n\
-    \tpushl\t$105\n\tcalls\t$1,_putchar\n\tpushl\t$0\n\tmovl\t(sp)+,r0\n\tret\n";
+#[test]
+fn names_of_64_bytes_and_more(rt: HostRuntime) -> Result<(), Fail> {
+    let alloc = rt.alloc();
+    let name = "_23456789_123456789_123456789_123456789_123456789_123456789_1234";
+    assert_eq!(rt; name.len(), 64);
+    let rows = [("", Ok((0, 1))), ("5", wrong(3, AsmKind::Operands))];
+    for (more, wanted) in rows {
+        let text = format!(in alloc; "\t.data\n\t.text\n\tjbr\t{name}{more}\n")?;
+        assert_eq!(rt; answer(alloc, text.as_bytes()), wanted, "{more:?}");
+    }
+    Ok(())
+}
 
 #[test]
-fn prefixes_of_the_worked_text(rt: HostRuntime) -> Result<(), Fail> {
+fn prefixes_of_a_program(rt: HostRuntime) -> Result<(), Fail> {
     let alloc = rt.alloc();
+    let text = format!(in alloc; "{HEAD}\tpushl\t$72\n{TAIL}")?;
+    let bytes = text.as_bytes();
+    assert_eq!(rt; bytes.len(), 135);
     // Each of the twelve lines begins here.
     let starts = [0, 7, 14, 28, 35, 44, 55, 74, 86, 105, 115, 130];
-    let bytes = WORKED.as_bytes();
-    assert_eq!(rt; bytes.len(), 135);
     for len in 0..bytes.len() {
-        let complete = starts.iter().filter(|start| **start <= len).count();
+        let line = starts.iter().filter(|start| **start <= len).count();
         let read = answer(alloc, &bytes[..len]);
-        // A text may end behind each line of its code, and nowhere else.
-        if starts.contains(&len) && complete > 2 {
-            assert_eq!(rt; read, Ok((0, complete - 3)), "{len} bytes");
+        // A text may end behind `.text` and each line behind it, and nowhere else.
+        if starts.contains(&len) && line > 2 {
+            assert_eq!(rt; read, Ok((0, line - 3)), "{len} bytes");
         } else {
-            assert_eq!(rt; read, wrong(complete as u64, AsmKind::Cut), "{len} bytes");
+            assert_eq!(rt; read, wrong(line as u64, AsmKind::Cut), "{len} bytes");
         }
     }
-    assert_eq!(rt; answer(alloc, bytes), Ok((0, 10)));
     Ok(())
 }

@@ -2,8 +2,13 @@ use Rattle.std.proofs.Common.{◌≡◌, ◌∷◌, ◌++◌, [], refl, arith}
 use Rattle.vax_reader.specs.Fronts.{strip}
 use Rattle.vax_reader.specs.Lines.{area_front}
 use Rattle.std.specs.Prelude.{Some, None, codes}
-use Rattle.vax_reader.proofs.TextLaws.{area_shorter, area_goes_on, wrong_area}
+use Rattle.vax_reader.proofs.TextLaws.{area_shorter, area_goes_on, wrong_start, wrong_area}
 use Rattle.vax_reader.proofs.reader.area_part.Goals as goal
+
+pub returns-in_default-clause-first : goal.returns-in_default-clause-first
+returns-in_default-clause-first c =
+    let no_data : strip (codes "\t.data\n") c.args.bytes.now ≡ None = c.in_default.ensures in
+    rw c.fault.ensures (wrong_start c.args.bytes.now _ no_data refl)
 
 pub lines-smaller : goal.lines-smaller
 lines-smaller c = area_shorter c.lines.rest.now c.in-Ok.item c.in-Ok.after.now c.in-Ok.ensures
