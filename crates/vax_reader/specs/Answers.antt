@@ -1,4 +1,4 @@
--- What a reading answers.
+-- What a reading of a part answers, by the definition that computes it.
 use Rattle.std.specs.Prelude.{◌≡◌, ℕ, List, Option, Some, None, Result, Ok, Err}
 use Rattle.std.specs.Borrow.{Bor}
 use Rattle.vax_reader.specs.declared.line_fault.LineFault.{LineFault}

@@ -1,4 +1,4 @@
--- What is wrong with a line that is not of the grammar.
+-- What is wrong with a line, as the reader computes it; what the kinds mean is in WrongLine.
 use Rattle.std.specs.Prelude.{ℕ, Bool, false, ◌==◌, ◌||◌, nat_eq, is_some, List, Option, Some, None, if◌then◌else◌, codes}
 use Rattle.std.specs.List.{list_any}
 use Rattle.std.specs.Cmp.Lexicographic.{pointwise}

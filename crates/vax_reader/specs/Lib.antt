@@ -1,7 +1,7 @@
+pub mod Grammar
+pub mod WrongLine
+pub mod Answers
 pub mod Fronts
 pub mod Operands
-pub mod Answers
 pub mod Lines
 pub mod Kinds
-pub mod WrongLine
-pub mod Grammar

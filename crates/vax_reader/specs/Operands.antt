@@ -1,4 +1,4 @@
--- Addresses and operands at the front of some bytes.
+-- Addresses and operands at the front of some bytes, as the reader computes them.
 use Rattle.std.specs.Prelude.{ℕ, List, Option, Some, None, codes}
 use Rattle.std.specs.Option.{option_and_then, option_map}
 use Rattle.vax_core.specs.declared.register.Reg.{Reg}

@@ -19,7 +19,13 @@ pub record BeginsLabel (rest : List ℕ) : Type 0 where
 -- the directives of the data area, and the end of the area
 abbrev pub IsAreaWord : List ℕ → Type 0
 IsAreaWord word =
-    (word ≡ codes ".byte") ⊎ ((word ≡ codes ".long") ⊎ ((word ≡ codes ".space") ⊎ ((word ≡ codes ".align") ⊎ ((word ≡ codes ".word") ⊎ ((word ≡ codes ".globl") ⊎ (word ≡ codes ".text"))))))
+    (word ≡ codes ".byte")
+    ⊎ ((word ≡ codes ".long")
+    ⊎ ((word ≡ codes ".space")
+    ⊎ ((word ≡ codes ".align")
+    ⊎ ((word ≡ codes ".word")
+    ⊎ ((word ≡ codes ".globl")
+    ⊎ (word ≡ codes ".text"))))))
 
 -- the directives of the code, and the mnemonics
 abbrev pub IsCodeWord : List ℕ → Type 0

@@ -4,7 +4,8 @@ ghost use Rattle.std.specs.Option.{option_copied, option_map};
 ghost use Rattle.std.specs.Char.{is_ascii_digit};
 ghost use Rattle.std.specs.Str.Parse.{digits_value, AllDigits};
 ghost use Rattle.vax_core.specs.Valid.{is_name_start, is_name_part};
-ghost use Rattle.vax_reader.specs.Fronts.{strip, run_len, number_front, up_to, from_one, below_zero, minus_front, signed_front, offset_front, name_front, general, general_front, reg_front, at_front};
+ghost use Rattle.vax_reader.specs.Fronts.{strip, run_len, number_front, up_to, from_one, below_zero, signed_front, offset_front};
+ghost use Rattle.vax_reader.specs.Fronts.{name_front, general, reg_front, at_front};
 
 use gg_base::limits::TEXT_NAME_LIMIT;
 use vax_core::Reg;

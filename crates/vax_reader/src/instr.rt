@@ -2,7 +2,8 @@
 ghost use Rattle.std.specs.Prelude.{◌≡◌, ◌≤◌, [], length};
 ghost use Rattle.std.specs.Option.{option_copied};
 ghost use Rattle.vax_reader.specs.Fronts.{run_len};
-ghost use Rattle.vax_reader.specs.Lines.{ops_with, among, op_of, in_word, is_last, comma, operands_front, target_front, behind_mnemonic, instr_front};
+ghost use Rattle.vax_reader.specs.Lines.{ops_with, among, op_of, in_word, is_last, comma};
+ghost use Rattle.vax_reader.specs.Lines.{operands_front, target_front, behind_mnemonic, instr_front};
 ghost use Rattle.vax_reader.specs.Answers.{Gives};
 
 use crate::address::copy_of;

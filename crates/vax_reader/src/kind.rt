@@ -1,6 +1,7 @@
 // What is wrong with a line that is not of the grammar.
 ghost use Rattle.std.specs.Prelude.{◌≡◌, nat_eq};
-ghost use Rattle.vax_reader.specs.Kinds.{same, is_area_word, is_code_word, is_allowed, begins_allowed, is_label_line, has_line_feed, kind_of};
+ghost use Rattle.vax_reader.specs.Kinds.{same, is_area_word, is_code_word, is_allowed, begins_allowed};
+ghost use Rattle.vax_reader.specs.Kinds.{is_label_line, has_line_feed, kind_of};
 
 use crate::fault::AsmKind;
 use crate::fronts::strip;

@@ -1,7 +1,8 @@
 // Operands at the front of some bytes.
 ghost use Rattle.std.specs.Prelude.{◌≡◌};
 ghost use Rattle.std.specs.Option.{option_map};
-ghost use Rattle.vax_reader.specs.Operands.{addr_of, near, far, deferred_front, at_or_stepped, plain_front, base_front, index_front, operand_front};
+ghost use Rattle.vax_reader.specs.Operands.{addr_of, near, far, deferred_front, at_or_stepped, plain_front, base_front};
+ghost use Rattle.vax_reader.specs.Operands.{index_front, operand_front};
 ghost use Rattle.vax_reader.specs.Answers.{Gives};
 
 use crate::address::{Spelled, addr, owned};
