@@ -1,0 +1,13 @@
+pub mod Members
+pub mod Symbols_apart
+pub mod Marking
+pub mod Loops
+pub mod RowTurns
+pub mod Closing
+pub mod Following
+pub mod Order
+pub mod Found
+pub mod Counting
+pub mod Law
+pub mod Validity
+pub mod Limits

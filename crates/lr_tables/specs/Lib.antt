@@ -1,0 +1,17 @@
+pub mod Symbols
+pub mod Items
+pub mod Follow
+pub mod Marks
+pub mod Grammar
+pub mod Sets
+pub mod Kernels
+pub mod Numbering
+pub mod Looking
+pub mod View
+pub mod Rows
+pub mod Built
+pub mod Over
+pub mod Leads
+pub mod Candidates
+pub mod Statements
+pub mod Promises

@@ -1,0 +1,48 @@
+// Building the tables of a description.
+ghost use Rattle.std.specs.Prelude.{◌≡◌, ◌≤◌, length, IfOk, IfErr};
+ghost use Rattle.lr_tables.specs.Statements.{stmt_of};
+ghost use Rattle.lr_tables.specs.Promises.{HasTooManySets};
+
+use crate::numbering::BuildFault;
+use crate::rows::all_rows;
+use crate::tables::Tables;
+use md_reader::{Class, Description};
+use md_text::is_word;
+use std::alloc::Global;
+
+// The number of the class of statements.
+fn statements(classes: &[Class]) -> u16
+    requires { length classes.now ≤ 64 }
+    ensures { result ≡ stmt_of classes.now }
+{
+    let mut number: u16 = 0;
+    for class in classes {
+        if is_word(class.name.as_slice(), "stmt") {
+            return number;
+        }
+        number += 1;
+    }
+    0
+}
+
+/// The tables of the description, or the description again and why none are built: `TablesFull`
+/// comes exactly where more than 4,096 item sets are reached.
+pub fn build(alloc: Global, description: Description) -> Result<Tables, (Description, BuildFault)>
+    ensures tables { IfOk result (λ t. t.content ≡ description) }
+    // No more than 4,096 item sets are reached.
+    ensures few { IfOk result (λ t. ¬ HasTooManySets description) }
+    ensures full { IfErr result (λ e. e.1 ≡ BuildFault.TablesFull → HasTooManySets description) }
+    ensures back { IfErr result (λ e. e.0 ≡ description) }
+{
+    description.is_valid();
+    let stmt = statements(description.classes());
+    match all_rows(
+        alloc,
+        description.rules(),
+        stmt,
+        description.classes().len(),
+    ) {
+        Ok(rows) => Ok(Tables::new(description, rows)),
+        Err(fault) => Err((description, fault)),
+    }
+}

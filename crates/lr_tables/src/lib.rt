@@ -1,0 +1,21 @@
+//! The tables of a machine description: LR(0) item sets with SLR(1) look-ahead, which prefer a shift
+//! to a reduction and a longer rule to a shorter one.
+#![tactic(auto)]
+
+mod building;
+mod follow;
+mod item;
+mod marks;
+mod numbering;
+mod rows;
+mod sets;
+mod tables;
+#[cfg(test)]
+mod tests;
+mod types;
+
+pub use building::build;
+pub use item::Item;
+pub use numbering::BuildFault;
+pub use tables::Tables;
+pub use types::{Choice, State};

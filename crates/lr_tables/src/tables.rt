@@ -1,0 +1,122 @@
+// The tables of a description.
+ghost use Rattle.std.specs.Prelude.{◌≡◌, length};
+ghost use Rattle.md_reader.specs.declared.types.Sym.TheVariants as sym;
+ghost use Rattle.lr_tables.specs.Statements.{stmt_of};
+ghost use Rattle.lr_tables.specs.Leads.{target_at, actions_at};
+ghost use Rattle.lr_tables.specs.Promises.{AreCandidates, LeadsOn, IsNumbered};
+
+use crate::item::{TOKENS, number};
+use crate::types::{Choice, Row, State};
+use md_reader::Description;
+use std::marker::Model;
+use tree_core::Tok;
+
+/// The tables of a description, which they hold.
+#[derive(Drop)]
+pub struct Tables {
+    description: Description,
+    rows: Vec<Row>,
+}
+
+impl Model for Tables {
+    ghost use Rattle.std.specs.Prelude.{length};
+    ghost use Rattle.lr_tables.specs.View.{TableView};
+    ghost use Rattle.lr_tables.specs.Built.{IsRows};
+    ghost use Rattle.lr_tables.specs.Statements.{stmt_of};
+
+    ghost Value = { TableView };
+
+    ghost view = { λ t. record { content = t.description; rows = t.rows.items } };
+
+    ghost invariant = { λ t. IsRows t.description.rules (stmt_of t.description.classes) (length t.description.classes) t.rows.items };
+}
+
+ghost use Rattle.md_reader.specs.Valid.{IsValid};
+ghost use Rattle.lr_tables.specs.Built.{IsRows};
+
+impl Tables {
+    /// The tables with these rows.
+    pub(crate) fn new(description: Description, rows: Vec<Row>) -> Self
+        requires { IsRows description.rules (stmt_of description.classes) (length description.classes) rows.items }
+        ensures { result ≡ record { content = description; rows = rows.items } }
+    {
+        Tables { description, rows }
+    }
+
+    // The description is valid.
+    fn is_valid(&self)
+        ensures { IsValid self.now.content }
+    {
+        self.description.is_valid();
+    }
+
+    /// States are numbered as they are found, each followed in its turn over the symbols by their
+    /// numbers. The call does nothing: its clause is the fact.
+    pub fn is_numbered(&self)
+        ensures { IsNumbered self.now }
+    {
+        let _rows = &self.rows;
+    }
+
+    fn choices(&self, state: State, token: Tok) -> &[Choice]
+        ensures { result.now ≡ actions_at self.now state token }
+    {
+        match self.rows.get(state.number() as usize) {
+            Some(row) => match row.actions().get(number(token)) {
+                Some(choices) => choices.as_slice(),
+                None => &[],
+            },
+            None => &[],
+        }
+    }
+
+    fn target(&self, state: State, class: u16) -> Option<State>
+        ensures { result ≡ target_at self.now state (sym.Class class) }
+    {
+        match self.rows.get(state.number() as usize) {
+            Some(row) => match row.targets().get(TOKENS + class as usize) {
+                Some(target) => *target,
+                None => None,
+            },
+            None => None,
+        }
+    }
+
+    /// What may be done at a state and a next token, in order: the shift alone, or the reductions by
+    /// the rules that are complete there, longer right sides first.
+    pub fn action(&self, state: State, token: Tok) -> &[Choice]
+        ensures value { result.now ≡ actions_at self.now state token }
+        // At each stack that leads to the state these are the candidates of its items.
+        ensures candidates { AreCandidates self.now state token result.now }
+    {
+        self.is_valid();
+        self.is_numbered();
+        self.choices(state, token)
+    }
+
+    /// The state to which a class leads: none exactly where no item of the state stands before it.
+    pub fn go(&self, state: State, class: u16) -> Option<State>
+        ensures value { result ≡ target_at self.now state (sym.Class class) }
+        // At each stack that leads to the state an item before the class leads on.
+        ensures goes { LeadsOn self.now state class result }
+    {
+        self.is_valid();
+        self.is_numbered();
+        self.target(state, class)
+    }
+
+    /// How many states there are, at most 4,096.
+    pub fn states(&self) -> u32
+        ensures { result ≡ length self.now.rows }
+    {
+        self.is_numbered();
+        self.rows.len() as u32
+    }
+
+    /// The description.
+    pub fn description(&self) -> &Description
+        ensures { result.now ≡ self.now.content }
+    {
+        &self.description
+    }
+}
