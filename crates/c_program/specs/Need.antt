@@ -1,0 +1,85 @@
+-- How many longwords of its frame a function needs.
+use Rattle.std.specs.Prelude.{ℕ, ◌+◌, ◌*◌, max, List, [], ◌∷◌, length, Option, Some, None}
+use Rattle.c_types.specs.declared.types.CType.{CType}
+use Rattle.c_types.specs.Typed.{PlaceTerm, VariableAt, PointedBy, ElementBy, Term, Terms, NoTerms, MoreTerms, Constant, LiteralAt, ArrayAt, ReadOf, SizeofTerm, SizeOf, AddressOf, CallOf, StepOf, UnaryOf, CastTo, ConvertTo, ArithmeticOf, CompareOf, BothOf, EitherOf, AdvanceOf, AdvanceByOf, RetreatOf, DistanceOf, ChoiceOf, AssignTo, ArithmeticAssignTo, AdvanceAssignTo, RetreatAssignTo, CommaOf}
+use Rattle.c_program.specs.Statements.{ADeclaration, KeepOf, ClearOf, BeginOf, Act, Acts, NoActs, MoreActs, DeclareOf, BlockOf, EvaluateOf, BreakOf, ContinueOf, ReturnOf, IfOf, IfElseOf, WhileOf, DoOf, ForOf}
+
+-- Each name, number, literal, operator, index and call is one node, and a called function's name is a name. An index's sum and a conversion are none.
+abbrev mutual
+  pub place_nodes : PlaceTerm → ℕ
+  place_nodes (VariableAt t v) = 1
+  place_nodes (PointedBy t e) = 1 + nodes e
+  place_nodes (ElementBy t sum) = nodes sum
+
+  pub nodes : Term → ℕ
+  nodes (Constant n) = 1
+  nodes (LiteralAt object size) = 1
+  nodes (ArrayAt t v size) = 1
+  nodes (ReadOf p) = place_nodes p
+  nodes (SizeofTerm n e) = 1 + nodes e
+  nodes (SizeOf n) = 1
+  nodes (AddressOf t p) = 1 + place_nodes p
+  nodes (CallOf t f to es) = 2 + all_nodes es
+  nodes (StepOf m op p) = 1 + place_nodes p
+  nodes (UnaryOf op e) = 1 + nodes e
+  nodes (CastTo t e) = 1 + nodes e
+  nodes (ConvertTo t e) = nodes e
+  nodes (ArithmeticOf op l r) = 1 + nodes l + nodes r
+  nodes (CompareOf rel l r) = 1 + nodes l + nodes r
+  nodes (BothOf l r) = 1 + nodes l + nodes r
+  nodes (EitherOf l r) = 1 + nodes l + nodes r
+  nodes (AdvanceOf t l r) = 1 + nodes l + nodes r
+  nodes (AdvanceByOf t l r) = 1 + nodes l + nodes r
+  nodes (RetreatOf t l r) = 1 + nodes l + nodes r
+  nodes (DistanceOf t l r) = 1 + nodes l + nodes r
+  nodes (ChoiceOf t c l r) = 1 + nodes c + nodes l + nodes r
+  nodes (AssignTo p e) = 1 + place_nodes p + nodes e
+  nodes (ArithmeticAssignTo op p e) = 1 + place_nodes p + nodes e
+  nodes (AdvanceAssignTo p e) = 1 + place_nodes p + nodes e
+  nodes (RetreatAssignTo p e) = 1 + place_nodes p + nodes e
+  nodes (CommaOf t l r) = 1 + nodes l + nodes r
+
+  pub all_nodes : Terms → ℕ
+  all_nodes NoTerms = 0
+  all_nodes (MoreTerms e es) = nodes e + all_nodes es
+
+abbrev pub maybe_nodes : Option Term → ℕ
+maybe_nodes None = 0
+maybe_nodes (Some e) = nodes e
+
+-- a zero that the meaning supplies is a full expression of one node
+abbrev pub returned_nodes : Option Term → ℕ
+returned_nodes None = 1
+returned_nodes (Some e) = nodes e
+
+abbrev pub one_declared : ADeclaration → ℕ
+one_declared (KeepOf n) = 0
+one_declared (ClearOf n) = 1
+one_declared (BeginOf n e) = nodes e
+
+abbrev pub declared_nodes : List ADeclaration → ℕ
+declared_nodes [] = 0
+declared_nodes (d ∷ ds) = max (one_declared d) (declared_nodes ds)
+
+-- the nodes of the largest full expression
+abbrev mutual
+  pub largest : Act → ℕ
+  largest (DeclareOf ds) = declared_nodes ds
+  largest (BlockOf row) = largest_of row
+  largest (EvaluateOf e) = nodes e
+  largest BreakOf = 0
+  largest ContinueOf = 0
+  largest (ReturnOf e) = returned_nodes e
+  largest (IfOf c a) = max (nodes c) (largest a)
+  largest (IfElseOf c a b) = max (nodes c) (max (largest a) (largest b))
+  largest (WhileOf c a) = max (nodes c) (largest a)
+  largest (DoOf a c) = max (largest a) (nodes c)
+  largest (ForOf i c e a) = max (maybe_nodes i) (max (maybe_nodes c) (max (maybe_nodes e) (largest a)))
+
+  pub largest_of : Acts → ℕ
+  largest_of NoActs = 0
+  largest_of (MoreActs a rest) = max (largest a) (largest_of rest)
+
+-- The automatic locals, and three for each node of the largest full expression; the end of the body supplies a zero.
+unfoldable pub need_of : List CType → Acts → ℕ
+need_of locals body = length locals + 3 * max 1 (largest_of body)

@@ -1,0 +1,30 @@
+// Functions and programs.
+use crate::statement::Action;
+use c_types::{CType, Types};
+use gg_base::Name;
+use tree_core::Objects;
+
+/// A function that is typed.
+#[derive(Drop)]
+pub struct Routine {
+    pub name: Name,
+    pub result: CType,
+    /// The types of its parameters.
+    pub parameters: Types,
+    /// The types of its automatic locals, by number.
+    pub locals: Types,
+    pub body: Vec<Action>,
+    /// The longwords of its frame: its automatic locals, and three for each node of its largest full expression.
+    pub need: u32,
+}
+
+/// A program with its types and its layout.
+#[derive(Drop)]
+pub struct Program {
+    /// Globals, static locals and string literals, in the order of their names or literals.
+    pub objects: Objects,
+    /// The functions, in order of definition.
+    pub routines: Vec<Routine>,
+    /// The number of `main`.
+    pub main: usize,
+}

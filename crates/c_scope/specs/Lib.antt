@@ -1,0 +1,5 @@
+pub mod Answers
+pub mod Scopes
+pub mod Layout
+pub mod Contents
+pub mod Views

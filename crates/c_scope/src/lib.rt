@@ -1,0 +1,17 @@
+//! What C names stand for, block by block, and the objects of the data area while they are laid out.
+#![tactic(auto)]
+
+pub mod block;
+pub mod contents;
+pub mod data;
+pub mod entry;
+pub mod scope;
+
+pub use block::Block;
+pub use contents::Contents;
+pub use data::Data;
+pub use entry::{Entry, Signature};
+pub use scope::Blocks;
+
+#[cfg(test)]
+mod tests;

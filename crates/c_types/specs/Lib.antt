@@ -1,0 +1,4 @@
+pub mod Types
+pub mod Typed
+pub mod Answers
+pub mod Constants
