@@ -1,5 +1,5 @@
 -- The codes that an assembly text can be written of.
-use Rattle.std.specs.Prelude.{ℕ, ◌^◌, Bool, true, false, not, ◌==◌, ◌&&◌, ◌||◌, nat_le, List, [], ◌∷◌, length, Option, Some, None}
+use Rattle.std.specs.Prelude.{ℕ, ◌^◌, Bool, true, false, not, ◌==◌, ◌&&◌, ◌||◌, nat_lt, nat_le, List, [], ◌∷◌, length, Option, Some, None}
 use Rattle.std.specs.List.{list_all}
 use Rattle.std.specs.Char.{is_ascii_alphanumeric}
 use Rattle.vax_core.specs.declared.register.Reg.{Reg}
@@ -32,14 +32,18 @@ abbrev pub is_name : List ℕ → Bool
 is_name [] = false
 is_name (c ∷ cs) = is_name_start c && (nat_le (length cs) 63 && list_all is_name_part cs)
 
--- a name with an offset, which has a sign of its own and so is not -2 ^ 31
+-- 32 bits
+abbrev pub is_long : ℕ → Bool
+is_long n = nat_lt n (2 ^ 32)
+
+-- a name with an offset of 32 bits, which has a sign of its own and so is not -2 ^ 31
 abbrev pub is_named_addr : Option (List ℕ) → ℕ → Bool
 is_named_addr None offset = false
-is_named_addr (Some name) offset = is_name name && not (offset == 2 ^ 31)
+is_named_addr (Some name) offset = is_name name && (is_long offset && not (offset == 2 ^ 31))
 
 -- a number, or a name with an offset
 abbrev pub is_addr_of : Option (List ℕ) → ℕ → Bool
-is_addr_of None offset = true
+is_addr_of None offset = is_long offset
 is_addr_of (Some name) offset = is_named_addr (Some name) offset
 
 abbrev pub is_addr : Addr → Bool
@@ -52,6 +56,7 @@ is_base (bases.Disp a r) = is_addr a
 is_base (bases.DispDef a r) = is_addr a
 is_base (bases.Rel a) = is_named_addr a.name a.offset
 is_base (bases.RelDef a) = is_named_addr a.name a.offset
+is_base (bases.Abs n) = is_long n
 is_base b = true
 
 -- the number of arguments of a call, from 0 to 255
@@ -117,8 +122,8 @@ abbrev pub is_area_item : AreaItem → Bool
 is_area_item (areas.Label name) = is_name name
 is_area_item (areas.Globl name) = is_name name
 is_area_item (areas.Align k) = nat_le k 2
-is_area_item (areas.Byte n) = true
-is_area_item (areas.Word n) = true
+is_area_item (areas.Byte n) = nat_lt n (2 ^ 8)
+is_area_item (areas.Word n) = nat_lt n (2 ^ 16)
 is_area_item (areas.Long a) = is_addr a
 is_area_item (areas.Space n) = nat_le 1 n && nat_le n 1048576
 

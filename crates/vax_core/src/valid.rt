@@ -57,6 +57,8 @@ fn is_named_addr(a: &Addr) -> bool
 fn is_addr(a: &Addr) -> bool
     ensures { result ≡ is_addr a.now }
 {
+    // A number alone is any of 32 bits.
+    let _number = a.offset;
     a.name.is_none() || is_named_addr(a)
 }
 
@@ -66,12 +68,12 @@ fn is_base(base: &Base) -> bool
     match base {
         Base::Imm(a) | Base::Disp(a, _) | Base::DispDef(a, _) => is_addr(a),
         Base::Rel(a) | Base::RelDef(a) => is_named_addr(a),
-        Base::Reg(_)
-        | Base::Def(_)
-        | Base::Inc(_)
-        | Base::IncDef(_)
-        | Base::Dec(_)
-        | Base::Abs(_) => true,
+        Base::Abs(n) => {
+            // Any of 32 bits.
+            let _address = *n;
+            true
+        }
+        Base::Reg(_) | Base::Def(_) | Base::Inc(_) | Base::IncDef(_) | Base::Dec(_) => true,
     }
 }
 
@@ -174,7 +176,16 @@ fn is_area_item(item: &AreaItem) -> bool
     match item {
         AreaItem::Label(name) | AreaItem::Globl(name) => is_name(name),
         AreaItem::Align(k) => *k <= 2,
-        AreaItem::Byte(_) | AreaItem::Word(_) => true,
+        AreaItem::Byte(n) => {
+            // Any of 8 bits.
+            let _number = *n;
+            true
+        }
+        AreaItem::Word(n) => {
+            // Any of 16 bits.
+            let _number = *n;
+            true
+        }
         AreaItem::Long(a) => is_addr(a),
         AreaItem::Space(n) => 1 <= *n && *n <= SPACE_LIMIT,
     }

@@ -1,0 +1,22 @@
+-- What a reading found, taken apart.
+use Rattle.std.proofs.Common.{◌≡◌, Bool, true, false, cond, Option, Some, None, refl}
+use Rattle.std.specs.Option.{option_map}
+use Rattle.std.proofs.lemmas.Option.{none-some, same_Some}
+use Rattle.vax_reader.specs.Fronts.{either}
+
+pub either_some : {A B P : Type 0} (o : Option A) (f : A → Option B) (other : Option B) (y : B) → either o f other ≡ Some y → ((x : A) → o ≡ Some x → f x ≡ Some y → P) → (other ≡ Some y → P) → P
+either_some (Some x) f other y e found none = found x refl e
+either_some None f other y e found none = none e
+
+pub map_some : {A B P : Type 0} (f : A → B) (o : Option A) (y : B) → option_map f o ≡ Some y → ((x : A) → o ≡ Some x → f x ≡ y → P) → P
+map_some f None y e k = absurd (none-some y e)
+map_some f (Some x) y e k = k x refl (same_Some (f x) y e)
+
+-- a value behind a test that held, or that did not
+pub guarded : {A : Type 0} (b : Bool) (o : Option A) (y : A) → cond b o None ≡ Some y → (b ≡ true) × (o ≡ Some y)
+guarded true o y e = (refl, e)
+guarded false o y e = absurd (none-some y e)
+
+pub unless : {A : Type 0} (b : Bool) (o : Option A) (y : A) → cond b None o ≡ Some y → (b ≡ false) × (o ≡ Some y)
+unless true o y e = absurd (none-some y e)
+unless false o y e = (refl, e)

@@ -1,0 +1,6 @@
+pub mod Fronts
+pub mod Operands
+pub mod Answers
+pub mod Lines
+pub mod Kinds
+pub mod Grammar

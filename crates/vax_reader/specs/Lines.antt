@@ -1,0 +1,147 @@
+-- Instructions and lines at the front of some bytes.
+use Rattle.std.specs.Prelude.{ℕ, Bool, true, false, not, ◌==◌, ◌||◌, nat_eq, List, [], ◌∷◌, ◌++◌, take, drop, Option, Some, None, if◌then◌else◌, codes}
+use Rattle.std.specs.Option.{option_and_then, option_map}
+use Rattle.std.specs.Cmp.Lexicographic.{pointwise}
+use Rattle.vax_core.specs.declared.operand.Operand.{Operand}
+use Rattle.vax_core.specs.declared.op.Op.{Op}
+use Rattle.vax_core.specs.declared.op.Op.TheVariants.{Movb, Movw, Movl, Clrb, Clrw, Clrl, Mnegl, Mcoml, Pushl, Cvtbl, Cvtwl, Cvtlb, Cvtlw, Movzbl, Movzwl, Movab, Movaw, Moval, Addl2, Addl3, Subl2, Subl3, Mull2, Mull3, Divl2, Divl3, Incl, Decl, Bisl2, Bisl3, Bicl2, Bicl3, Xorl2, Xorl3, Bitl, Ashl, Cmpb, Cmpw, Cmpl, Tstb, Tstw, Tstl, Jbr, Jeql, Jneq, Jlss, Jleq, Jgtr, Jgeq, Jlssu, Jlequ, Jgtru, Jgequ, Calls, Ret}
+use Rattle.vax_core.specs.declared.op.OperandKind.{OperandKind}
+use Rattle.vax_core.specs.declared.code.Instr.{Instr}
+use Rattle.vax_core.specs.declared.code.AreaItem.{AreaItem}
+use Rattle.vax_core.specs.declared.code.AreaItem.TheVariants as areas
+use Rattle.vax_core.specs.declared.code.CodeItem.{CodeItem}
+use Rattle.vax_core.specs.declared.code.CodeItem.TheVariants as items
+use Rattle.vax_core.specs.Ops.{shape}
+use Rattle.vax_core.specs.Valid.{is_instr}
+use Rattle.vax_reader.specs.Fronts.{either, strip, run_len, up_to, from_one, name_front, closed}
+use Rattle.vax_reader.specs.Operands.{addr_front, operand_front}
+
+-- the instructions whose mnemonic begins with this letter
+abbrev pub ops_with : ℕ → List Op
+ops_with c =
+    if c == 97 then Addl2 ∷ (Addl3 ∷ (Ashl ∷ []))
+    else if c == 98 then Bisl2 ∷ (Bisl3 ∷ (Bicl2 ∷ (Bicl3 ∷ (Bitl ∷ []))))
+    else if c == 99 then Clrl ∷ (Cmpl ∷ (Calls ∷ (Clrb ∷ (Clrw ∷ (Cvtbl ∷ (Cvtwl ∷ (Cvtlb ∷ (Cvtlw ∷ (Cmpb ∷ (Cmpw ∷ []))))))))))
+    else if c == 100 then Divl2 ∷ (Divl3 ∷ (Decl ∷ []))
+    else if c == 105 then Incl ∷ []
+    else if c == 106 then Jbr ∷ (Jeql ∷ (Jneq ∷ (Jlss ∷ (Jleq ∷ (Jgtr ∷ (Jgeq ∷ (Jlssu ∷ (Jlequ ∷ (Jgtru ∷ (Jgequ ∷ []))))))))))
+    else if c == 109 then Movl ∷ (Movb ∷ (Movw ∷ (Mull2 ∷ (Mull3 ∷ (Moval ∷ (Movab ∷ (Movaw ∷ (Movzbl ∷ (Movzwl ∷ (Mnegl ∷ (Mcoml ∷ [])))))))))))
+    else if c == 112 then Pushl ∷ []
+    else if c == 114 then Ret ∷ []
+    else if c == 115 then Subl2 ∷ (Subl3 ∷ [])
+    else if c == 116 then Tstl ∷ (Tstb ∷ (Tstw ∷ []))
+    else if c == 120 then Xorl2 ∷ (Xorl3 ∷ [])
+    else []
+
+-- the first of these instructions that is written so
+abbrev pub among : List Op → List ℕ → Option Op
+among [] word = None
+among (op ∷ ops) word = if pointwise nat_eq word (shape op).mnemonic then Some op else among ops word
+
+-- the instruction of a mnemonic
+unfoldable pub op_of : List ℕ → Option Op
+op_of [] = None
+op_of (c ∷ cs) = among (ops_with c) (c ∷ cs)
+
+-- a byte of a word: neither a TAB nor a line feed
+abbrev pub in_word : ℕ → Bool
+in_word c = not ((c == 9) || (c == 10))
+
+abbrev pub word_at : List ℕ → List ℕ
+word_at bytes = take (run_len in_word bytes) bytes
+
+abbrev pub behind_word : List ℕ → List ℕ
+behind_word bytes = drop (run_len in_word bytes) bytes
+
+-- whether more operands or a label follow
+abbrev pub is_last : {A : Type 0} → List A → Bool → Bool
+is_last [] target = not target
+is_last (x ∷ xs) target = false
+
+-- a comma where more follow
+abbrev pub comma : Bool → List ℕ → Option (List ℕ)
+comma last bytes = if last then Some bytes else strip (codes ",") bytes
+
+-- as many operands as there are kinds, behind those that were read, each with the comma behind it
+abbrev pub operands_front : List Operand → List OperandKind → Bool → List ℕ → Option (List Operand × List ℕ)
+operands_front read [] target bytes = Some (read, bytes)
+operands_front read (kind ∷ kinds) target bytes =
+    option_and_then (λ (x : Operand × List ℕ). option_and_then (λ (rest : List ℕ). operands_front (read ++ x.0 ∷ []) kinds target rest) (comma (is_last kinds target) x.1)) (operand_front bytes)
+
+abbrev pub some_target : List ℕ × List ℕ → Option (List ℕ) × List ℕ
+some_target x = (Some x.0, x.1)
+
+-- the label, where there is one
+abbrev pub target_front : Bool → List ℕ → Option (Option (List ℕ) × List ℕ)
+target_front true bytes = option_map some_target (name_front bytes)
+target_front false bytes = Some (None, bytes)
+
+abbrev pub made : Op → List Operand → Option (List ℕ) → Instr
+made op os target = record { op = op; operands = os; target = target }
+
+-- an instruction whose operands are those that it takes
+abbrev pub checked : Instr × List ℕ → Option (Instr × List ℕ)
+checked x = if is_instr x.0 then Some x else None
+
+abbrev pub with_target : Op → List Operand → Option (List ℕ) × List ℕ → Instr × List ℕ
+with_target op os x = (made op os x.0, x.1)
+
+abbrev pub behind_operands : Op → Bool → List Operand × List ℕ → Option (Instr × List ℕ)
+behind_operands op target x = option_and_then checked (option_map (with_target op x.0) (target_front target x.1))
+
+abbrev pub behind_tab : Op → List ℕ → Option (Instr × List ℕ)
+behind_tab op bytes = option_and_then (behind_operands op (shape op).target) (operands_front [] (shape op).operands (shape op).target bytes)
+
+-- what stands behind a mnemonic
+unfoldable pub behind_mnemonic : Op → List ℕ → Option (Instr × List ℕ)
+behind_mnemonic op bytes =
+    if is_last (shape op).operands (shape op).target then Some (made op [] None, bytes)
+    else option_and_then (behind_tab op) (strip (codes "\t") bytes)
+
+-- an instruction, without the TAB before it
+unfoldable pub instr_front : List ℕ → Option (Instr × List ℕ)
+instr_front bytes = option_and_then (λ (op : Op). behind_mnemonic op (behind_word bytes)) (op_of (word_at bytes))
+
+-- a name and the end of the line
+unfoldable pub named_front : List ℕ → List ℕ → Option (List ℕ × List ℕ)
+named_front word bytes = option_and_then (closed word) (name_front bytes)
+
+-- a number and the end of the line
+abbrev pub ended : {A : Type 0} → Option (A × List ℕ) → Option (A × List ℕ)
+ended found = option_and_then (closed (codes "\n")) found
+
+abbrev pub area_item : {A : Type 0} → (A → AreaItem) → A × List ℕ → AreaItem × List ℕ
+area_item item x = (item x.0, x.1)
+
+abbrev pub code_item : {A : Type 0} → (A → CodeItem) → A × List ℕ → CodeItem × List ℕ
+code_item item x = (item x.0, x.1)
+
+-- a line of the data area that holds a number without sign
+unfoldable pub counted_front : List ℕ → Option (AreaItem × List ℕ)
+counted_front bytes =
+    either (strip (codes "\t.byte\t") bytes) (λ (rest : List ℕ). option_map (area_item areas.Byte) (ended (up_to 255 rest)))
+    (either (strip (codes "\t.space\t") bytes) (λ (rest : List ℕ). option_map (area_item areas.Space) (ended (from_one 1048576 rest)))
+    (either (strip (codes "\t.align\t") bytes) (λ (rest : List ℕ). option_map (area_item areas.Align) (ended (up_to 2 rest)))
+    (option_and_then (λ (rest : List ℕ). option_map (area_item areas.Word) (ended (up_to 65535 rest))) (strip (codes "\t.word\t") bytes))))
+
+abbrev pub area_label : List ℕ × List ℕ → Option (AreaItem × List ℕ)
+area_label x = Some (area_item areas.Label x)
+
+-- a line of the data area
+unfoldable pub area_front : List ℕ → Option (AreaItem × List ℕ)
+area_front bytes =
+    either (named_front (codes ":\n") bytes) area_label
+    (either (strip (codes "\t.long\t") bytes) (λ (rest : List ℕ). option_map (area_item areas.Long) (ended (addr_front rest)))
+    (either (strip (codes "\t.globl\t") bytes) (λ (rest : List ℕ). option_map (area_item areas.Globl) (named_front (codes "\n") rest))
+    (counted_front bytes)))
+
+abbrev pub code_label : List ℕ × List ℕ → Option (CodeItem × List ℕ)
+code_label x = Some (code_item items.Label x)
+
+-- a line of the code
+unfoldable pub item_front : List ℕ → Option (CodeItem × List ℕ)
+item_front bytes =
+    either (named_front (codes ":\n") bytes) code_label
+    (either (strip (codes "\t.globl\t") bytes) (λ (rest : List ℕ). option_map (code_item items.Globl) (named_front (codes "\n") rest))
+    (either (strip (codes "\t.word\t") bytes) (λ (rest : List ℕ). option_map (code_item items.Mask) (ended (up_to 4095 rest)))
+    (option_and_then (λ (rest : List ℕ). option_map (code_item items.Instr) (ended (instr_front rest))) (strip (codes "\t") bytes))))

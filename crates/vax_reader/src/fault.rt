@@ -1,0 +1,62 @@
+// Why no code was read.
+use std::alloc::{AllocError, AllocFailed};
+
+/// What is wrong with a line.
+#[derive(Clone, Copy, Debug, PartialEq, Eq)]
+pub enum AsmKind {
+    /// It is no label line, and begins with no directive or mnemonic that may stand there.
+    Word,
+    /// What stands behind its directive or mnemonic, or where a label line stands.
+    Operands,
+    /// It has no line feed, or the text ends before its `.text` line.
+    Cut,
+}
+
+/// Why a text is no code's.
+#[derive(Clone, Copy, Debug, PartialEq, Eq)]
+pub enum AsmFault {
+    NoMemory,
+    /// The first line that is not of the grammar, counted from 1.
+    Line { line: u64, kind: AsmKind },
+}
+
+/// Why no line was read.
+#[derive(Clone, Copy, Debug, PartialEq, Eq)]
+pub enum LineFault {
+    NoMemory,
+    /// No line of the grammar stands there.
+    NotOfForm,
+}
+
+impl From<AllocError> for LineFault {
+    ghost use Rattle.std.specs.Prelude.{◌≡◌};
+    ghost use Rattle.vax_reader.specs.declared.fault.LineFault.TheVariants.{NoMemory};
+
+    ghost from_gives = { λ _ e. e ≡ NoMemory };
+
+    fn from(_: AllocError) -> Self {
+        LineFault::NoMemory
+    }
+}
+
+impl From<AllocError> for AsmFault {
+    ghost use Rattle.std.specs.Prelude.{◌≡◌};
+    ghost use Rattle.vax_reader.specs.declared.fault.AsmFault.TheVariants.{NoMemory};
+
+    ghost from_gives = { λ _ e. e ≡ NoMemory };
+
+    fn from(_: AllocError) -> Self {
+        AsmFault::NoMemory
+    }
+}
+
+impl<T: Drop> From<AllocFailed<T>> for AsmFault {
+    ghost use Rattle.std.specs.Prelude.{◌≡◌};
+    ghost use Rattle.vax_reader.specs.declared.fault.AsmFault.TheVariants.{NoMemory};
+
+    ghost from_gives = { λ _ e. e ≡ NoMemory };
+
+    fn from(_: AllocFailed<T>) -> Self {
+        AsmFault::NoMemory
+    }
+}

@@ -1,0 +1,218 @@
+// Words, numbers, names and registers at the front of some bytes.
+ghost use Rattle.std.specs.Prelude.{◌≡◌, ◌+◌, ◌≤◌, ◌^◌, length, min, IfSome};
+ghost use Rattle.std.specs.Option.{option_copied, option_map};
+ghost use Rattle.std.specs.Char.{is_ascii_digit};
+ghost use Rattle.std.specs.Str.Parse.{digits_value, AllDigits};
+ghost use Rattle.vax_core.specs.Valid.{is_name_start, is_name_part};
+ghost use Rattle.vax_reader.specs.Fronts.{strip, run_len, number_front, up_to, from_one, below_zero, minus_front, signed_front, offset_front, name_front, general, general_front, reg_front, at_front};
+
+use gg_base::limits::TEXT_NAME_LIMIT;
+use vax_core::Reg;
+
+/// The greatest number that stands behind a sign.
+const SIGN: u32 = 0x8000_0000;
+
+/// The greatest number without a sign.
+const GREATEST: u32 = 0x7fff_ffff;
+
+/// What is left behind a word that stands at the front.
+pub fn strip<'a>(word: &[u8], bytes: &'a [u8]) -> Option<&'a [u8]>
+    ensures { strip word.now bytes.now ≡ option_copied result }
+{
+    let mut rest = bytes;
+    for c in word {
+        let [b, others @ ..] = rest else {
+            return None;
+        };
+        if *b != *c {
+            return None;
+        }
+        rest = others;
+    }
+    Some(rest)
+}
+
+fn digit_len(bytes: &[u8]) -> usize
+    ensures len { result ≡ run_len is_ascii_digit bytes.now }
+    ensures within { result ≤ length bytes.now }
+{
+    for (i, b) in bytes.iter().enumerate() {
+        if !b.is_ascii_digit() {
+            return i;
+        }
+    }
+    bytes.len()
+}
+
+fn value(digits: &[u8]) -> u32
+    requires { AllDigits 10 digits.now }
+    ensures { result ≡ min (digits_value 10 digits.now) (2 ^ 31 + 1) }
+{
+    let mut n: u64 = 0;
+    for b in digits {
+        n = (n * 10 + u64::from(*b - b'0')).min(u64::from(SIGN) + 1);
+    }
+    n as u32
+}
+
+/// The number from 0 to 2147483648 at the front, without a leading zero.
+#[tactic(auto, unfolding(crate::specs::Fronts::number_front))]
+pub fn number(bytes: &[u8]) -> Option<(u32, &[u8])>
+    ensures { number_front bytes.now ≡ option_map (λ x. (x.0, x.1.now)) result }
+{
+    let len = digit_len(bytes);
+    let (digits, rest) = bytes.split_at(len);
+    match digits {
+        [] => return None,
+        [b'0', _, ..] => return None,
+        _ => {}
+    }
+    let n = value(digits);
+    if n > SIGN {
+        return None;
+    }
+    Some((n, rest))
+}
+
+/// A number that is no more than the limit.
+pub fn up_to(limit: u32, bytes: &[u8]) -> Option<(u32, &[u8])>
+    ensures found { up_to limit bytes.now ≡ option_map (λ x. (x.0, x.1.now)) result }
+    ensures within { IfSome result (λ x. x.0 ≤ limit) }
+{
+    let (n, rest) = number(bytes)?;
+    if n <= limit { Some((n, rest)) } else { None }
+}
+
+/// A number from 1 to the limit.
+pub fn from_one(limit: u32, bytes: &[u8]) -> Option<(u32, &[u8])>
+    ensures { from_one limit bytes.now ≡ option_map (λ x. (x.0, x.1.now)) result }
+{
+    let (n, rest) = up_to(limit, bytes)?;
+    if 1 <= n { Some((n, rest)) } else { None }
+}
+
+// The number behind a sign, taken below zero.
+fn below_zero(limit: u32, bytes: &[u8]) -> Option<(u32, &[u8])>
+    ensures { below_zero limit bytes.now ≡ option_map (λ x. (x.0, x.1.now)) result }
+{
+    let (n, rest) = from_one(limit, bytes)?;
+    Some((n.wrapping_neg(), rest))
+}
+
+/// A number from -2147483648 to 2147483647, on 32 bits.
+#[tactic(auto, unfolding(crate::specs::Fronts::signed_front))]
+pub fn signed(bytes: &[u8]) -> Option<(u32, &[u8])>
+    ensures { signed_front bytes.now ≡ option_map (λ x. (x.0, x.1.now)) result }
+{
+    if let Some((n, rest)) = number(bytes) {
+        return if n <= GREATEST { Some((n, rest)) } else { None };
+    }
+    let rest = strip(b"-", bytes)?;
+    below_zero(SIGN, rest)
+}
+
+/// The offset behind a name, on 32 bits: a sign and a number from 1 to 2147483647, or nothing, which is 0.
+#[tactic(auto, unfolding(crate::specs::Fronts::offset_front))]
+pub fn offset(bytes: &[u8]) -> Option<(u32, &[u8])>
+    ensures { offset_front bytes.now ≡ option_map (λ x. (x.0, x.1.now)) result }
+{
+    if let Some(rest) = strip(b"+", bytes) {
+        return from_one(GREATEST, rest);
+    }
+    if let Some(rest) = strip(b"-", bytes) {
+        return below_zero(GREATEST, rest);
+    }
+    Some((0, bytes))
+}
+
+fn is_name_start(c: u8) -> bool
+    ensures { result ≡ is_name_start c }
+{
+    c == b'_' || c == b'L' || c == b'S' || c == b'T'
+}
+
+fn is_name_part(c: u8) -> bool
+    ensures { result ≡ is_name_part c }
+{
+    c.is_ascii_alphanumeric() || c == b'_'
+}
+
+fn name_part_len(bytes: &[u8]) -> usize
+    ensures len { result ≡ run_len is_name_part bytes.now }
+    ensures within { result ≤ length bytes.now }
+{
+    for (i, b) in bytes.iter().enumerate() {
+        if !is_name_part(*b) {
+            return i;
+        }
+    }
+    bytes.len()
+}
+
+/// A name of at most 64 bytes.
+pub fn name(bytes: &[u8]) -> Option<(&[u8], &[u8])>
+    ensures { name_front bytes.now ≡ option_map (λ x. (x.0.now, x.1.now)) result }
+{
+    let [first, others @ ..] = bytes else {
+        return None;
+    };
+    if !is_name_start(*first) {
+        return None;
+    }
+    let len = name_part_len(others);
+    if len >= TEXT_NAME_LIMIT {
+        return None;
+    }
+    Some((&bytes[..len + 1], &bytes[len + 1..]))
+}
+
+fn general(n: u32) -> Option<Reg>
+    ensures { result ≡ general n }
+{
+    match n {
+        0 => Some(Reg::R0),
+        1 => Some(Reg::R1),
+        2 => Some(Reg::R2),
+        3 => Some(Reg::R3),
+        4 => Some(Reg::R4),
+        5 => Some(Reg::R5),
+        6 => Some(Reg::R6),
+        7 => Some(Reg::R7),
+        8 => Some(Reg::R8),
+        9 => Some(Reg::R9),
+        10 => Some(Reg::R10),
+        11 => Some(Reg::R11),
+        _ => None,
+    }
+}
+
+/// A register.
+#[tactic(auto, unfolding(crate::specs::Fronts::reg_front))]
+pub fn reg(bytes: &[u8]) -> Option<(Reg, &[u8])>
+    ensures { reg_front bytes.now ≡ option_map (λ x. (x.0, x.1.now)) result }
+{
+    if let Some(rest) = strip(b"r", bytes) {
+        let (n, rest) = number(rest)?;
+        let r = general(n)?;
+        return Some((r, rest));
+    }
+    if let Some(rest) = strip(b"ap", bytes) {
+        return Some((Reg::Ap, rest));
+    }
+    if let Some(rest) = strip(b"fp", bytes) {
+        return Some((Reg::Fp, rest));
+    }
+    let rest = strip(b"sp", bytes)?;
+    Some((Reg::Sp, rest))
+}
+
+/// A register in parentheses.
+#[tactic(auto, unfolding(crate::specs::Fronts::at_front))]
+pub fn at(bytes: &[u8]) -> Option<(Reg, &[u8])>
+    ensures { at_front bytes.now ≡ option_map (λ x. (x.0, x.1.now)) result }
+{
+    let rest = strip(b"(", bytes)?;
+    let (r, rest) = reg(rest)?;
+    let rest = strip(b")", rest)?;
+    Some((r, rest))
+}

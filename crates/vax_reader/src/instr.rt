@@ -1,0 +1,205 @@
+// Instructions at the front of some bytes.
+ghost use Rattle.std.specs.Prelude.{◌≡◌, ◌≤◌, [], length};
+ghost use Rattle.std.specs.Option.{option_copied};
+ghost use Rattle.vax_reader.specs.Fronts.{run_len};
+ghost use Rattle.vax_reader.specs.Lines.{ops_with, among, op_of, in_word, is_last, comma, operands_front, target_front, behind_mnemonic, instr_front};
+ghost use Rattle.vax_reader.specs.Answers.{Gives};
+
+use crate::address::copy_of;
+use crate::fault::LineFault;
+use crate::fronts::{name, strip};
+use crate::operand::operand;
+use gg_base::Name;
+use std::alloc::Global;
+use vax_core::{Instr, Op, OperandKind, Operands};
+
+// The instructions whose mnemonic begins with the letter, so that a mnemonic is compared with few others.
+fn ops_with(letter: u8) -> &'static [Op]
+    ensures { result.now ≡ ops_with letter }
+{
+    match letter {
+        b'a' => &[Op::Addl2, Op::Addl3, Op::Ashl],
+        b'b' => &[Op::Bisl2, Op::Bisl3, Op::Bicl2, Op::Bicl3, Op::Bitl],
+        b'c' => &[
+            Op::Clrl,
+            Op::Cmpl,
+            Op::Calls,
+            Op::Clrb,
+            Op::Clrw,
+            Op::Cvtbl,
+            Op::Cvtwl,
+            Op::Cvtlb,
+            Op::Cvtlw,
+            Op::Cmpb,
+            Op::Cmpw,
+        ],
+        b'd' => &[Op::Divl2, Op::Divl3, Op::Decl],
+        b'i' => &[Op::Incl],
+        b'j' => &[
+            Op::Jbr,
+            Op::Jeql,
+            Op::Jneq,
+            Op::Jlss,
+            Op::Jleq,
+            Op::Jgtr,
+            Op::Jgeq,
+            Op::Jlssu,
+            Op::Jlequ,
+            Op::Jgtru,
+            Op::Jgequ,
+        ],
+        b'm' => &[
+            Op::Movl,
+            Op::Movb,
+            Op::Movw,
+            Op::Mull2,
+            Op::Mull3,
+            Op::Moval,
+            Op::Movab,
+            Op::Movaw,
+            Op::Movzbl,
+            Op::Movzwl,
+            Op::Mnegl,
+            Op::Mcoml,
+        ],
+        b'p' => &[Op::Pushl],
+        b'r' => &[Op::Ret],
+        b's' => &[Op::Subl2, Op::Subl3],
+        b't' => &[Op::Tstl, Op::Tstb, Op::Tstw],
+        b'x' => &[Op::Xorl2, Op::Xorl3],
+        _ => &[],
+    }
+}
+
+fn among(ops: &[Op], word: &[u8]) -> Option<Op>
+    ensures { among ops.now word.now ≡ result }
+{
+    for op in ops {
+        if word == op.shape().mnemonic.as_bytes() {
+            return Some(*op);
+        }
+    }
+    None
+}
+
+/// The instruction of a mnemonic.
+#[tactic(auto, unfolding(crate::specs::Lines::op_of))]
+pub fn op_of(word: &[u8]) -> Option<Op>
+    ensures { op_of word.now ≡ result }
+{
+    let [letter, ..] = word else {
+        return None;
+    };
+    among(ops_with(*letter), word)
+}
+
+/// The length of the word at the front, which ends before a TAB, a line feed or the end.
+pub fn word_len(bytes: &[u8]) -> usize
+    ensures len { result ≡ run_len in_word bytes.now }
+    ensures within { result ≤ length bytes.now }
+{
+    for (i, b) in bytes.iter().enumerate() {
+        if *b == b'\t' || *b == b'\n' {
+            return i;
+        }
+    }
+    bytes.len()
+}
+
+fn is_last(kinds: &[OperandKind], target: bool) -> bool
+    ensures { is_last kinds.now target ≡ result }
+{
+    match kinds {
+        [] => !target,
+        [_, ..] => false,
+    }
+}
+
+// Behind an operand, a comma where more follow.
+fn comma(last: bool, bytes: &[u8]) -> Option<&[u8]>
+    ensures { comma last bytes.now ≡ option_copied result }
+{
+    if last {
+        Some(bytes)
+    } else {
+        strip(b",", bytes)
+    }
+}
+
+fn operands<'a>(
+    alloc: Global,
+    kinds: &[OperandKind],
+    target: bool,
+    bytes: &'a [u8],
+) -> Result<(Operands, &'a [u8]), LineFault>
+    requires { length kinds.now ≤ 3 }
+    ensures { Gives result (operands_front [] kinds.now target bytes.now) }
+{
+    let mut read = Operands::new(alloc);
+    let mut rest = bytes;
+    let mut left = kinds;
+    while let [_, others @ ..] = left {
+        let (o, after) = operand(alloc, rest)?;
+        read.push(o);
+        let Some(behind) = comma(is_last(others, target), after) else {
+            return Err(LineFault::NotOfForm);
+        };
+        rest = behind;
+        left = others;
+    }
+    Ok((read, rest))
+}
+
+fn label(alloc: Global, target: bool, bytes: &[u8]) -> Result<(Option<Name>, &[u8]), LineFault>
+    ensures { Gives result (target_front target bytes.now) }
+{
+    if !target {
+        return Ok((None, bytes));
+    }
+    let Some((label, rest)) = name(bytes) else {
+        return Err(LineFault::NotOfForm);
+    };
+    Ok((Some(copy_of(alloc, label)?), rest))
+}
+
+// What stands behind a mnemonic.
+#[tactic(auto, using(crate::proofs::OpLaws::few), unfolding(crate::specs::Lines::behind_mnemonic))]
+fn behind_mnemonic(alloc: Global, op: Op, bytes: &[u8]) -> Result<(Instr, &[u8]), LineFault>
+    ensures { Gives result (behind_mnemonic op bytes.now) }
+{
+    let shape = op.shape();
+    if is_last(shape.operands, shape.target) {
+        let instr = Instr {
+            op,
+            operands: Operands::new(alloc),
+            target: None,
+        };
+        return Ok((instr, bytes));
+    }
+    let Some(rest) = strip(b"\t", bytes) else {
+        return Err(LineFault::NotOfForm);
+    };
+    let (operands, rest) = operands(alloc, shape.operands, shape.target, rest)?;
+    let (target, rest) = label(alloc, shape.target, rest)?;
+    let instr = Instr {
+        op,
+        operands,
+        target,
+    };
+    if !instr.valid() {
+        return Err(LineFault::NotOfForm);
+    }
+    Ok((instr, rest))
+}
+
+/// The instruction at the front, without the TAB before it.
+#[tactic(auto, unfolding(crate::specs::Lines::instr_front))]
+pub fn instr(alloc: Global, bytes: &[u8]) -> Result<(Instr, &[u8]), LineFault>
+    ensures { Gives result (instr_front bytes.now) }
+{
+    let (word, rest) = bytes.split_at(word_len(bytes));
+    let Some(op) = op_of(word) else {
+        return Err(LineFault::NotOfForm);
+    };
+    behind_mnemonic(alloc, op, rest)
+}

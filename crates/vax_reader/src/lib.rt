@@ -1,0 +1,17 @@
+// Reading an assembly text, with the first line that is wrong.
+#![tactic(auto)]
+
+mod address;
+pub mod fault;
+mod fronts;
+mod instr;
+mod kind;
+mod line;
+mod operand;
+pub mod reader;
+
+pub use fault::{AsmFault, AsmKind};
+pub use reader::read_code;
+
+#[cfg(test)]
+mod tests;
