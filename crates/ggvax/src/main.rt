@@ -1,16 +1,13 @@
-// The program `ggvax`: one command from a C source to VAX assembly text and its run.
+// The program `ggvax`: from a C source to VAX assembly text and its run, and runs of such texts.
 #![tactic(auto)]
 
-mod making;
-pub mod status;
 #[cfg(test)]
 mod tests;
 pub mod top;
-mod writing;
 
-use crate::status::Status;
 use gg_base::NoMemory;
 use gg_outside::{StdFolder, StdSink, StdSource};
+use gg_session::Status;
 use std::env;
 use std::process::ExitCode;
 

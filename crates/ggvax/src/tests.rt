@@ -1,9 +1,9 @@
 // The command over a folder and sinks in memory.
 
-use crate::status::Status;
 use crate::top::ggvax;
 use gg_base::{Bytes, Name};
 use gg_outside::{MemFile, MemFolder, MemSink, MemSource};
+use gg_session::Status;
 use std::alloc::{AllocError, Global};
 use std::process::Abort;
 use std::test::Fail;
@@ -103,16 +103,77 @@ fn answers_each_command(rt: HostRuntime) -> Result<(), Fail> {
             "",
             "ggvax: cannot read none\n",
         ),
-        ("", HI, Status::Usage, "", "ggvax: usage: first S\n"),
-        ("first", HI, Status::Usage, "", "ggvax: usage: first S\n"),
-        ("first,", HI, Status::Usage, "", "ggvax: usage: first S\n"),
-        ("last,s", HI, Status::Usage, "", "ggvax: usage: first S\n"),
+        ("run,s,7", HI_TEXT, Status::Done, "Hi", "ended 0\n"),
+        ("run,s,6", HI_TEXT, Status::Spent, "Hi", "spent 6\n"),
+        (
+            "run,s,7",
+            HI,
+            Status::AsmRefused,
+            "",
+            "ggvax: line 1: Cut\n",
+        ),
+        (
+            "run,none,7",
+            HI_TEXT,
+            Status::FileFault,
+            "",
+            "ggvax: cannot read none\n",
+        ),
+        (
+            "run,s,0",
+            HI_TEXT,
+            Status::Usage,
+            "",
+            "ggvax: usage: first S | run A N\n",
+        ),
+        (
+            "run,s,07",
+            HI_TEXT,
+            Status::Usage,
+            "",
+            "ggvax: usage: first S | run A N\n",
+        ),
+        (
+            "run,s",
+            HI_TEXT,
+            Status::Usage,
+            "",
+            "ggvax: usage: first S | run A N\n",
+        ),
+        (
+            "",
+            HI,
+            Status::Usage,
+            "",
+            "ggvax: usage: first S | run A N\n",
+        ),
+        (
+            "first",
+            HI,
+            Status::Usage,
+            "",
+            "ggvax: usage: first S | run A N\n",
+        ),
+        (
+            "first,",
+            HI,
+            Status::Usage,
+            "",
+            "ggvax: usage: first S | run A N\n",
+        ),
+        (
+            "last,s",
+            HI,
+            Status::Usage,
+            "",
+            "ggvax: usage: first S | run A N\n",
+        ),
         (
             "first,s,s",
             HI,
             Status::Usage,
             "",
-            "ggvax: usage: first S\n",
+            "ggvax: usage: first S | run A N\n",
         ),
     ];
     for (words, source, status, out, report) in rows {

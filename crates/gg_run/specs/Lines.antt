@@ -1,0 +1,31 @@
+-- The lines that refuse an assembly text.
+use Rattle.std.specs.Prelude.{ℕ, List, ◌++◌, codes}
+use Rattle.std.specs.Fmt.{decimal}
+use Rattle.vax_reader.specs.declared.fault.AsmKind.{AsmKind}
+use Rattle.vax_reader.specs.declared.fault.AsmKind.TheVariants.{Word, Operands, Cut}
+use Rattle.vax_machine.specs.declared.loading.LoadFault.{LoadFault}
+use Rattle.vax_machine.specs.declared.loading.LoadFault.TheVariants as faults
+
+abbrev pub kind_name : AsmKind → List ℕ
+kind_name Word = codes "Word"
+kind_name Operands = codes "Operands"
+kind_name Cut = codes "Cut"
+
+-- the first line that is not of the grammar
+abbrev pub wrong_line : ℕ → AsmKind → List ℕ
+wrong_line line kind = codes "ggvax: line " ++ (decimal line ++ (codes ": " ++ (kind_name kind ++ codes "\n")))
+
+abbrev pub label_line : List ℕ → List ℕ → List ℕ
+label_line name what = codes "ggvax: label " ++ (name ++ what)
+
+-- the code has a data area, which is not loaded yet
+abbrev pub not_built_line : List ℕ
+not_built_line = codes "ggvax: not built\n"
+
+-- why a code can't be run
+abbrev pub load_line : LoadFault → List ℕ
+load_line faults.NoMemory = codes "ggvax: no memory\n"
+load_line (faults.DoubleLabel name) = label_line name (codes " twice\n")
+load_line (faults.UndefinedLabel name) = label_line name (codes " undefined\n")
+load_line faults.NoMain = codes "ggvax: no _main\n"
+load_line faults.TooLarge = codes "ggvax: too large\n"

@@ -1,0 +1,5 @@
+pub mod Fronts
+pub mod Intakes
+pub mod Runs
+pub mod Commands
+pub mod Ends

@@ -1,0 +1,6 @@
+pub mod Writing
+pub mod Reading
+pub mod Words
+pub mod Lines
+pub mod Running
+pub mod Telling

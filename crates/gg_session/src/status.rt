@@ -1,0 +1,34 @@
+// The statuses of the program.
+
+/// How a command ended, with the number that the process exits with.
+#[derive(Clone, Copy, Debug, PartialEq, Eq)]
+pub enum Status {
+    /// The whole command was done.
+    Done = 0,
+    /// The words are no command.
+    Usage = 1,
+    /// No memory was left: the one status without a cause.
+    NoMemory = 2,
+    /// The named file was not read.
+    FileFault = 3,
+    /// Reading the input failed.
+    InputFault = 4,
+    /// Writing to an output failed.
+    WriteFault = 5,
+    /// The named file, or the input, is over its limit.
+    TooLong = 6,
+    /// The assembly text is no code's, or its code can't be run.
+    AsmRefused = 15,
+    /// The run used up its steps and would go on.
+    Spent = 16,
+    /// The run divided by zero.
+    Trapped = 17,
+    /// The run of a source touched memory outside its data.
+    Wild = 18,
+    /// The run of a source nested too many calls.
+    Deep = 19,
+    /// The run of a code broke.
+    Broken = 20,
+    /// The source is of a form that is not built yet.
+    Unbuilt = 21,
+}

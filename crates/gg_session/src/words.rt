@@ -1,0 +1,51 @@
+// The words of the commands.
+ghost use Rattle.std.specs.Prelude.{◌≡◌, IfSome, IfNone, ℕ};
+ghost use Rattle.std.specs.Fmt.{decimal};
+ghost use Rattle.gg_session.specs.Words.{spelled, IsCount, Says, SaysOnly, SaysNone};
+
+use itoa::Buffer;
+
+/// A command that is built.
+#[derive(Clone, Copy)]
+pub enum Command<'a> {
+    /// `first S`: the source's text and run.
+    First(&'a str),
+    /// `run A N`: the run of the text A with at most N steps.
+    Run(&'a str, u64),
+}
+
+/// The greatest number of steps that a command may ask for.
+const GREATEST_COUNT: u64 = 1_000_000_000;
+
+// The number of steps that a word is: from 1 to 1,000,000,000, in decimal digits without a leading zero.
+fn count_of(word: &str) -> Option<u64>
+    ensures some { IfSome result (λ n. IsCount n) }
+    ensures spelled { IfSome result (λ n. word.now ≡ decimal n) }
+    ensures none { IfNone result ((n : ℕ) → IsCount n → word.now ≡ decimal n → ⊥) }
+{
+    let Ok(n) = word.parse::<u64>() else {
+        return None;
+    };
+    if n == 0 || n > GREATEST_COUNT || Buffer::new().format(n) != word {
+        return None;
+    }
+    Some(n)
+}
+
+/// The command that the words say. Names are not empty.
+pub fn command_of(words: &[String]) -> Option<Command<'_>>
+    ensures some { IfSome result (λ command. Says (spelled words.now) command) }
+    ensures only { IfSome result (λ command. SaysOnly (spelled words.now) command) }
+    ensures none { IfNone result (SaysNone (spelled words.now)) }
+{
+    match words {
+        [first, source] if first.as_str() == "first" && !source.is_empty() => {
+            Some(Command::First(source.as_str()))
+        }
+        [run, text, count] if run.as_str() == "run" && !text.is_empty() => {
+            let count = count_of(count.as_str())?;
+            Some(Command::Run(text.as_str(), count))
+        }
+        _ => None,
+    }
+}
