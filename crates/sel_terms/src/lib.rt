@@ -1,0 +1,22 @@
+//! Effects: what a rule's pattern or template does, in a normal form in which two of them are compared.
+#![tactic(auto)]
+
+mod effect;
+mod known;
+mod part;
+mod pattern;
+mod role;
+#[cfg(test)]
+mod rows;
+mod same;
+mod show;
+mod stack;
+#[cfg(test)]
+mod tests;
+
+pub use effect::{Act, Effect, norm_effect};
+pub use known::{rule_facts, saved_facts};
+pub use pattern::pattern_effect;
+pub use same::same_effect;
+pub use show::show_effect;
+pub use term_core::{Fact, Term, norm};

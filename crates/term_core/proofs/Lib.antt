@@ -1,0 +1,10 @@
+pub mod Words
+pub mod Values
+pub mod Reaching
+pub mod Keeping
+pub mod Ordered
+pub mod Settled
+pub mod Alike
+pub mod Waiting
+pub mod Building
+pub mod Comparing

@@ -1,0 +1,13 @@
+pub mod Operators
+pub mod Shape
+pub mod Form
+pub mod Facts
+pub mod Order
+pub mod Norm
+pub mod Normal
+pub mod Value
+pub mod Equations
+pub mod Nodes
+pub mod Built
+pub mod NodeOrder
+pub mod Text
