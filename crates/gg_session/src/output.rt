@@ -34,11 +34,7 @@ pub fn refuse<E: Sink>(report: &mut E, line: &[u8], status: Status) -> Status
 }
 
 /// The same with a line that is made in memory.
-pub fn refuse_with<E: Sink>(
-    report: &mut E,
-    line: Result<Text, NoMemory>,
-    status: Status,
-) -> Status
+pub fn refuse_with<E: Sink>(report: &mut E, line: Result<Text, NoMemory>, status: Status) -> Status
     ensures { (wanted : List ℕ) → IfOk line (λ text. text ≡ wanted)
         → IsRefused status wanted result (change E.told E.faults report.old report.new) }
 {
