@@ -51,17 +51,9 @@ named_there name f fs rest false e lt = later (rest (omega (arith, lt)))
     later : IsNamed name fs → IsNamed name (f ∷ fs)
     later h = record { place = suc h.place; within = omega (arith, h.within); so = h.so }
 
-is_named : (name : List ℕ) (fs : List TreeFn) → 0 < named name fs → IsNamed name fs
+pub is_named : (name : List ℕ) (fs : List TreeFn) → 0 < named name fs → IsNamed name fs
 is_named name [] lt = absurd (omega arith)
 is_named name (f ∷ fs) lt = named_there name f fs (λ q. is_named name fs q) (bytes_eq f.name name) refl lt
-
-pub names_differ : (fs : List TreeFn) (i : ℕ) → length fs ≤ i → ((k : ℕ) (d : TreeFn) → k < i → named (get_or fs k d).name fs ≡ 1) → NamesDiffer fs
-names_differ [] i le h name = omega arith
-names_differ (f ∷ fs) i le h name =
-    ⊎_elim (λ few. omega (arith, few)) (λ some. by (is_named name (f ∷ fs) some)) (cases_lt (named name (f ∷ fs)) 1)
-  where
-    by : IsNamed name (f ∷ fs) → named name (f ∷ fs) ≤ 1
-    by w = let one = h w.place f (omega (arith, w.within, le)) in let e = ap (λ (n : List ℕ). named n (f ∷ fs)) (w.so f) in omega (arith, one, e)
 
 pub names_clash : (fs : List TreeFn) (k : ℕ) (f : TreeFn) → k < length fs → f ≡ get_or fs k f → (named f.name fs ≡ 1 → ⊥) → NamesDiffer fs → ⊥
 names_clash fs k f lt e no_one h = let a = named_once fs k f lt e in let b = h f.name in no_one (omega (arith, a, b))

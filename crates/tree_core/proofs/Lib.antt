@@ -9,3 +9,4 @@ pub mod Lists_of_links
 pub mod Validity
 pub mod Growing
 pub mod Apart
+pub mod Naming

@@ -9,3 +9,4 @@ pub mod Labels
 pub mod Valid
 pub mod Area
 pub mod Calm
+pub mod Hashes

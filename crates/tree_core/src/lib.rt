@@ -5,6 +5,7 @@ pub mod area;
 mod items;
 mod labels;
 mod lists;
+mod names;
 mod objects;
 mod program;
 mod token;

@@ -2,10 +2,11 @@
 
 ghost use Rattle.std.specs.Prelude.{◌≡◌, ◌↔◌, ◌≤◌, ℕ, List, IsTrue, length};
 ghost use Rattle.std.specs.List.{All, AllPass, list_all};
-ghost use Rattle.tree_core.specs.Valid.{named, main_takes_nothing, args_of, leaf_names, names, ItemStands, ItemsStand, PushesStand, IsValid, NamesRight, NamesDiffer};
+ghost use Rattle.tree_core.specs.Valid.{main_takes_nothing, args_of, leaf_names, names, ItemStands, ItemsStand, PushesStand, IsValid, NamesRight};
 
 use crate::items::calls_in_order;
 use crate::labels::{labels_stand_once, targets_stand};
+use crate::names::{count_named, names_differ};
 use crate::objects::{links_lie, objects_lie};
 use crate::program::{TreeFn, TreeItem, TreeProgram};
 use crate::token::{AttKind, Sort};
@@ -54,36 +55,11 @@ fn names_are_right(functions: &[TreeFn]) -> bool
     names_differ(functions)
 }
 
-// How many functions have the name.
-fn count_named(functions: &[TreeFn], name: &[u8]) -> usize
-    ensures { result ≡ named name.now functions.now }
-{
-    let mut count = 0;
-    for function in functions {
-        if function.name.as_slice() == name {
-            count += 1;
-        }
-    }
-    count
-}
-
 fn main_takes_nothing(functions: &[TreeFn]) -> bool
     ensures { IsTrue result ↔ AllPass main_takes_nothing functions.now }
 {
     for function in functions {
         if function.name.as_slice() == b"main".as_slice() && function.args != 0 {
-            return false;
-        }
-    }
-    true
-}
-
-// Whether no two functions have one name.
-fn names_differ(functions: &[TreeFn]) -> bool
-    ensures { IsTrue result ↔ NamesDiffer functions.now }
-{
-    for function in functions {
-        if count_named(functions, function.name.as_slice()) != 1 {
             return false;
         }
     }

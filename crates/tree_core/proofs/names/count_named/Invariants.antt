@@ -1,6 +1,6 @@
 use Rattle.std.proofs.Common.{◌≡◌, ◌+◌, ◌≤◌, drop}
 use Rattle.tree_core.specs.Valid.{named}
-use Rattle.tree_core.proofs.valid.count_named.Given as goal
+use Rattle.tree_core.proofs.names.count_named.Given as goal
 
 abbrev pub invariant-loop-function : goal.invariant-loop-function
 invariant-loop-function l = record {
