@@ -2,6 +2,12 @@ pub mod Seen
 pub mod Tokens
 pub mod TypeExits
 pub mod ExpressionLaws
+pub mod Parts
+pub mod Runs
+pub mod Steps
+pub mod Going
+pub mod Stating
+pub mod Unique
 pub mod ListLaws
 pub mod ItemLaws
 pub mod UnitLaws

@@ -78,7 +78,7 @@ mark_single marks.Assign t e = same_Some _ t e
 mark_single marks.Star t e = same_Some _ t e
 mark_single m t e = absurd (none-some t e)
 
-single : (k t : Token) → token_of (class_of k) ≡ Some t → k ≡ t
+pub single : (k t : Token) → token_of (class_of k) ≡ Some t → k ≡ t
 single (token.Key k) t e = key_single k t e
 single (token.Mark m) t e = mark_single m t e
 single token.End t e = same_Some _ t e

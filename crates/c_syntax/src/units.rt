@@ -6,7 +6,7 @@ ghost use Rattle.c_tokens.specs.declared.marks.Mark.TheVariants as marks;
 ghost use Rattle.c_syntax.specs.Classes.{seen, word, sign};
 ghost use Rattle.c_syntax.specs.Phrases.{onto_stars, onto_name};
 ghost use Rattle.c_syntax.specs.UnitShapes.{params_of, param_of, param_list, body_of, declared_of, external_of, externals_of, unit_of};
-ghost use Rattle.c_syntax.specs.Units.{onto_named, onto_static};
+ghost use Rattle.c_syntax.specs.Units.{AUnit, onto_named, onto_static};
 ghost use Rattle.c_syntax.specs.Stands.{ReadsParam, ParamsSoFar, ReadsParams, NoVoidAlone, ReadsBody, ReadsDeclared, ReadsExternal, ReadsExternals, IsUnit};
 
 use crate::declarations::{declarator_behind, declarators, length_part};
@@ -218,6 +218,7 @@ fn offset_of(tokens: &[Spanned], left: usize) -> u32 {
 /// The phrases of a source's tokens, whose last is `End`.
 pub fn parse(alloc: Global, tokens: &[Spanned]) -> Result<Ast, SyntaxFault>
     ensures found { IfOk result (λ u. IsUnit (seen tokens.now) (unit_of u)) }
+    ensures alone { (u : AUnit) → IsUnit (seen tokens.now) u → IfOk result (λ v. unit_of v ≡ u) }
 {
     match unit(alloc, tokens) {
         Ok(ast) => Ok(ast),
