@@ -46,7 +46,6 @@ means_is m = record { found = λ x e. e; only = λ x e. e; faults = λ f e. e; f
 pub means_ok : {A : Type 0} (t : A) → Means (Ok t) (λ u. u ≡ t) (λ f. ⊥)
 means_ok t = record { found = λ x e. cc; only = λ x e. ap Ok (sym e); faults = λ f e. absurd (cc); first = λ f e. absurd e }
 
-
 paired : (t : Term × Area) (u : Term) (a : Area) → u ≡ t.0 → t.1 ≡ a → (u, a) ≡ t
 paired t u a e f = ap (λ v. (v, a)) e ∙ ap (λ b. (t.0, b)) (sym f)
 
