@@ -40,6 +40,7 @@ main_frame = record {
 -- the state before the item at a place, with d longwords on the stack
 abbrev pub deep : List CodeItem → List ℕ → ℕ → ℕ → Conditions → List ℕ → ℕ → State
 deep items input place r0 codes stack d = record {
+  layout = [];
   items = items;
   place = place;
   registers = registers_at r0 (sp_at d);

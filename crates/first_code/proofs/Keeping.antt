@@ -29,7 +29,7 @@ use Rattle.first_code.proofs.Instructions as does
 use Rattle.first_code.proofs.Placing.{HasActs, has_front, has_back, has_all, act_is}
 use Rattle.first_code.proofs.Finishing.{Finishes, goes, writes, ends_here, finishes_with}
 use Rattle.first_code.proofs.Expressions.{expression_goes}
-use Rattle.first_code.proofs.Labelling.{ops_load}
+use Rattle.first_code.proofs.Labelling.{ops_load, ops_valid}
 use Rattle.first_code.proofs.Starting.{first_stack, first_stack_size, start_is}
 
 module _ (list : List CodeItem) (input : List ℕ) where
@@ -100,11 +100,33 @@ code_finishes p form input =
     subst (λ (o : List ℕ). Finishes (deep list input 3 0 cleared first_stack 0) (length list) o (value p.answer)) (append-nil (written p.puts))
     (finishes_with (deep list input 3 0 cleared first_stack 0) (length P + (length R + 3)) (length list) (value p.answer) (written p.puts ++ []) count whole)
 
+-- ---- the numbers that are pushed
+
+all_append : (xs ys : List Act) → AllByRecursion IsAct xs → AllByRecursion IsAct ys → AllByRecursion IsAct (xs ++ ys)
+all_append [] ys h g = g
+all_append (x ∷ xs) ys h g = (h.0, all_append xs ys h.1 g)
+
+sign_fits : (sign : Sign) → IsAct (sign_act sign)
+sign_fits Plus = tt
+sign_fits Minus = tt
+
+expression_fits : (e : Shape) → IsExpression e → AllByRecursion IsAct (expression_acts e)
+expression_fits (Number n) h = (h, tt)
+expression_fits (Signed sign left right) h = all_append (expression_acts left) (expression_acts right ++ sign_act sign ∷ []) (expression_fits left h.0) (all_append (expression_acts right) (sign_act sign ∷ []) (expression_fits right h.1.0) (sign_fits sign, tt))
+expression_fits (Parenthesised inner) h = expression_fits inner h
+
+puts_fit : (es : List Shape) → AllByRecursion IsStatement es → AllByRecursion IsAct (flat_map put_acts es)
+puts_fit [] h = tt
+puts_fit (e ∷ es) h = all_append (put_acts e) (flat_map put_acts es) (all_append (expression_acts e) (Put ∷ []) (expression_fits e h.0.grouped) (tt, tt)) (puts_fit es h.1)
+
+program_fits : (p : ProgramShape) → IsFirstForm p → AllByRecursion IsAct (program_acts p)
+program_fits p form = all_append (flat_map put_acts p.puts) (return_acts p.answer) (puts_fit p.puts form.puts) (all_append (expression_acts p.answer) (Pop ∷ (Return ∷ [])) (expression_fits p.answer form.answer.grouped) (tt, (tt, tt)))
+
 pub code_halts : (p : ProgramShape) → IsFirstForm p → (input : List ℕ) → Halts (program_code p) input (written p.puts) (value p.answer)
 code_halts p form input =
     let begun = sym (start_is (program_acts p) input) in
     let h = subst (λ (m : State). Finishes m (length (program_code p).items) (written p.puts) (value p.answer)) begun (code_finishes p form input) in
-    record { loads = ops_load (program_acts p); written = h.written; ended = h.ended }
+    record { valid = ops_valid (program_acts p) (program_fits p form); loads = ops_load (program_acts p); written = h.written; ended = h.ended }
 
 -- ---- the program's own run
 
@@ -129,28 +151,9 @@ code_keeps p form = record {
   follows = λ input short. follows (source_run p input) (run (program_code p) input) (source_whole p input) (code_forward p form input) (run_has_one_end (program_code p) input);
 }
 
--- ---- the numbers that are pushed
-
-all_append : (xs ys : List Act) → AllByRecursion IsAct xs → AllByRecursion IsAct ys → AllByRecursion IsAct (xs ++ ys)
-all_append [] ys h g = g
-all_append (x ∷ xs) ys h g = (h.0, all_append xs ys h.1 g)
-
-sign_fits : (sign : Sign) → IsAct (sign_act sign)
-sign_fits Plus = tt
-sign_fits Minus = tt
-
-expression_fits : (e : Shape) → IsExpression e → AllByRecursion IsAct (expression_acts e)
-expression_fits (Number n) h = (h, tt)
-expression_fits (Signed sign left right) h = all_append (expression_acts left) (expression_acts right ++ sign_act sign ∷ []) (expression_fits left h.0) (all_append (expression_acts right) (sign_act sign ∷ []) (expression_fits right h.1.0) (sign_fits sign, tt))
-expression_fits (Parenthesised inner) h = expression_fits inner h
-
-puts_fit : (es : List Shape) → AllByRecursion IsStatement es → AllByRecursion IsAct (flat_map put_acts es)
-puts_fit [] h = tt
-puts_fit (e ∷ es) h = all_append (put_acts e) (flat_map put_acts es) (all_append (expression_acts e) (Put ∷ []) (expression_fits e h.0.grouped) (tt, tt)) (puts_fit es h.1)
-
 pub code_is_first : (p : ProgramShape) → IsFirstForm p → IsFirstCode (program_code p)
 code_is_first p form = record {
   acts = program_acts p;
-  fit = all_append (flat_map put_acts p.puts) (return_acts p.answer) (puts_fit p.puts form.puts) (all_append (expression_acts p.answer) (Pop ∷ (Return ∷ [])) (expression_fits p.answer form.answer.grouped) (tt, (tt, tt)));
+  fit = program_fits p form;
   code = refl;
 }

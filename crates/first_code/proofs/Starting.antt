@@ -5,11 +5,12 @@ use Rattle.std.proofs.lemmas.List.{length-replicate}
 use Rattle.std.proofs.lemmas.Nat.{ones_le_self}
 use Rattle.gg_base.specs.declared.size.Size.TheVariants.{Long}
 use Rattle.vax_core.specs.First.{Act}
-use Rattle.vax_core.specs.First.{act_item, entry}
+use Rattle.vax_core.specs.First.{act_item, entry, first_code}
 use Rattle.vax_machine.specs.State.{cleared}
 use Rattle.vax_machine.specs.Memory.{touched, written, register_set, with_number}
 use Rattle.vax_machine.specs.Calls.{pushed, reserved, called}
-use Rattle.vax_machine.specs.Loading.{zeros, start}
+use Rattle.vax_machine.specs.Area.{zeros}
+use Rattle.vax_machine.specs.Loading.{start}
 use Rattle.first_code.proofs.Longwords.{length-with}
 use Rattle.first_code.proofs.Depths.{sp_at, deep}
 
@@ -31,6 +32,6 @@ pub first_stack_size : length first_stack ≡ 8388608
 unfolding first_stack
 first_stack_size = with_size (zeros 8388608) 8388604 8388608 (length-zeros 8388608) (lit≤ tt)
 
-pub start_is : (acts : List Act) (input : List ℕ) → start (entry ++ map act_item acts) input ≡ deep (entry ++ map act_item acts) input 3 0 cleared first_stack 0
+pub start_is : (acts : List Act) (input : List ℕ) → start (first_code acts) input ≡ deep (entry ++ map act_item acts) input 3 0 cleared first_stack 0
 unfolding called pushed reserved register_set written touched sp_at first_stack
 start_is acts input = rw none_saved refl

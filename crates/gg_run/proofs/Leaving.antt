@@ -38,7 +38,7 @@ told_end (ends.Broken kind) status call wild deep ran is line whole =
 
 told_all : (status : Status) (call : Call) (code : Code) (bytes : List ℕ) → Starts call code bytes → Tells status (coming_of (run code bytes call.count)) call.count call.out call.report → Leaves status call
 told_all status call code bytes starts (inl told) =
-    let lost = steps_not_lost call.count (start code.items bytes) in
+    let lost = steps_not_lost call.count (start code bytes) in
     told_end (run code bytes call.count).end status call lost.0 lost.1
     (record { code = code; bytes = bytes; starts = starts; ends = refl; output = told.output }) told.status_is told.line told.whole
 told_all status call code bytes starts (inr (inl cut)) =
@@ -57,10 +57,10 @@ told_all status call code bytes starts (inr (inr (inr stopped))) =
 
 -- a machine that was made of a code runs as the code does
 abbrev pub RunsSo : Type 0
-RunsSo = (c : Code) (input : List ℕ) (m : State) → Stands m (start c.items input) → state_run m ≡ run c input
+RunsSo = (c : Code) (input : List ℕ) (m : State) → Stands m (start c input) → state_run m ≡ run c input
 
 -- the run of a loaded machine was told
-pub told_run : (status : Status) (call : Call) (code : Code) (bytes slice : List ℕ) (m : State) → RunsSo → slice ≡ bytes → IsText call.file code → GivesAll call.input bytes → length bytes ≤ input_limit → Loads code × Stands m (start code.items slice) → Tells status (coming call.count m) call.count call.out call.report → Leaves status call
+pub told_run : (status : Status) (call : Call) (code : Code) (bytes slice : List ℕ) (m : State) → RunsSo → slice ≡ bytes → IsText call.file code → GivesAll call.input bytes → length bytes ≤ input_limit → Loads code × Stands m (start code slice) → Tells status (coming call.count m) call.count call.out call.report → Leaves status call
 told_run status call code bytes slice m runs_so is text input within loaded told =
     let same : state_run m ≡ run code bytes = runs_so code slice m loaded.1 ∙ ap (run code) is in
     let one : coming call.count m ≡ coming_of (run code bytes call.count) = ap (λ (r : Runs). coming_of (r call.count)) same in
@@ -72,23 +72,18 @@ refused : (result : Status) (line : List ℕ) (call : Call) → IsUntouched call
 refused result line call untouched (inl h) leaves = subst (λ (s : Status). Leaves s call) (sym h.0) (leaves h.1)
 refused result line call untouched (inr is) leaves = subst (λ (s : Status). Leaves s call) (sym is) (inl untouched)
 
-empty : (area : List AreaItem) → length area < 1 → area ≡ []
-empty [] h = refl
-empty (x ∷ xs) h = absurd (omega arith)
-
-pub no_area : (area slice : List AreaItem) → slice ≡ area → length slice < 1 → area ≡ []
-no_area area slice is h = sym is ∙ empty slice h
-
--- a code without area that can't be run was told
-pub code_refused : (fault : LoadFault) (result : Status) (call : Call) (code : Code) (bytes slice : List ℕ) → IsUntouched call.out → IsText call.file code → GivesAll call.input bytes → length bytes ≤ input_limit → code.area ≡ [] → Loaded code slice (Err fault) → CodeIsRefused fault result call.report → Leaves result call
-code_refused loads.NoMemory result call code bytes slice untouched text input within plain found told = subst (λ (s : Status). Leaves s call) (sym told) (inl untouched)
-code_refused (loads.DoubleLabel name) result call code bytes slice untouched text input within plain found told =
+-- the fault of a code that can't be run was told
+pub code_refused : (fault : LoadFault) (result : Status) (call : Call) (code : Code) (bytes slice : List ℕ) → IsUntouched call.out → IsText call.file code → GivesAll call.input bytes → length bytes ≤ input_limit → Loaded code slice (Err fault) → CodeIsRefused fault result call.report → Leaves result call
+code_refused loads.NoMemory result call code bytes slice untouched text input within found told = subst (λ (s : Status). Leaves s call) (sym told) (inl untouched)
+code_refused (loads.DoubleLabel name) result call code bytes slice untouched text input within found told =
     refused result _ call untouched told
-    (λ line. inr (record { code = code; text = text; bytes = bytes; input = input; within = within; plain = plain; fault = loads.DoubleLabel name; found = found; untouched = untouched; line = line }))
-code_refused (loads.UndefinedLabel name) result call code bytes slice untouched text input within plain found told =
+    (λ line. inr (record { code = code; text = text; bytes = bytes; input = input; within = within; fault = loads.DoubleLabel name; found = found; untouched = untouched; line = line }))
+code_refused (loads.UndefinedLabel name) result call code bytes slice untouched text input within found told =
     refused result _ call untouched told
-    (λ line. inr (record { code = code; text = text; bytes = bytes; input = input; within = within; plain = plain; fault = loads.UndefinedLabel name; found = found; untouched = untouched; line = line }))
-code_refused loads.NoMain result call code bytes slice untouched text input within plain found told =
+    (λ line. inr (record { code = code; text = text; bytes = bytes; input = input; within = within; fault = loads.UndefinedLabel name; found = found; untouched = untouched; line = line }))
+code_refused loads.NoMain result call code bytes slice untouched text input within found told =
     refused result _ call untouched told
-    (λ line. inr (record { code = code; text = text; bytes = bytes; input = input; within = within; plain = plain; fault = loads.NoMain; found = found; untouched = untouched; line = line }))
-code_refused loads.TooLarge result call code bytes slice untouched text input within plain found told = absurd found
+    (λ line. inr (record { code = code; text = text; bytes = bytes; input = input; within = within; fault = loads.NoMain; found = found; untouched = untouched; line = line }))
+code_refused loads.TooLarge result call code bytes slice untouched text input within found told =
+    refused result _ call untouched told
+    (λ line. inr (record { code = code; text = text; bytes = bytes; input = input; within = within; fault = loads.TooLarge; found = found; untouched = untouched; line = line }))

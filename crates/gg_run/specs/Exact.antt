@@ -1,5 +1,5 @@
 -- What the command `run A N` must answer, where the folder and the input tell what they hold and no fault is counted.
-use Rattle.std.specs.Prelude.{◌≡◌, ◌⊎◌, ◌<◌, ◌≤◌, ℕ, List, [], length, Some}
+use Rattle.std.specs.Prelude.{◌≡◌, ◌⊎◌, ◌<◌, ◌≤◌, ℕ, List, length, Some, None}
 use Rattle.gg_outside.specs.Outside.{Content, Stored, GainsName}
 use Rattle.gg_session.specs.Reading.{Intake, Fails}
 use Rattle.gg_session.specs.Writing.{Rises}
@@ -8,7 +8,7 @@ use Rattle.gg_session.specs.declared.status.Status.{Status}
 use Rattle.gg_session.specs.declared.status.Status.TheVariants as statuses
 use Rattle.vax_core.specs.declared.code.Code.{Code}
 use Rattle.vax_reader.specs.Grammar.{Reads}
-use Rattle.vax_machine.specs.Loading.{Loads}
+use Rattle.vax_machine.specs.Loading.{load_fault, Loads}
 use Rattle.vax_machine.specs.Running.{run}
 use Rattle.gg_run.specs.Texts.{text_limit}
 use Rattle.gg_run.specs.Outcome.{Call, input_limit}
@@ -57,8 +57,7 @@ pub record Answers (result : Status) (call : Call) : Type 0 where
   pub long_file : HoldsLong call.file → IsAnswer statuses.TooLong result
   pub no_text : HoldsNoText call.file → IsAnswer statuses.AsmRefused result
   pub long_input : (code : Code) → HoldsText call.file code → LeavesLong call.input → IsAnswer statuses.TooLong result
-  pub no_run : (code : Code) (bytes : List ℕ) → HoldsText call.file code → LeavesBytes call.input bytes → code.area ≡ [] → (Loads code → ⊥) → IsAnswer statuses.AsmRefused result
-  pub unbuilt : (code : Code) (bytes : List ℕ) → HoldsText call.file code → LeavesBytes call.input bytes → (code.area ≡ [] → ⊥) → IsAnswer statuses.Unbuilt result
+  pub no_run : (code : Code) (bytes : List ℕ) → HoldsText call.file code → LeavesBytes call.input bytes → (Loads code → ⊥) → IsAnswer statuses.AsmRefused result
   pub ends : (code : Code) (bytes : List ℕ) → HoldsText call.file code → LeavesBytes call.input bytes → Loads code → IsAnswer (end_status (run code bytes call.count).end) result
 
 abbrev pub IsExact : Status → Call → Type 0

@@ -18,10 +18,6 @@ wrong_line line kind = codes "ggvax: line " ++ (decimal line ++ (codes ": " ++ (
 abbrev pub label_line : List ℕ → List ℕ → List ℕ
 label_line name what = codes "ggvax: label " ++ (name ++ what)
 
--- the code has a data area, which is not loaded yet
-abbrev pub not_built_line : List ℕ
-not_built_line = codes "ggvax: not built\n"
-
 -- why a code can't be run
 abbrev pub load_line : LoadFault → List ℕ
 load_line faults.NoMemory = codes "ggvax: no memory\n"

@@ -1,5 +1,5 @@
 -- What the command `run A N` finds and leaves behind, for each of its statuses.
-use Rattle.std.specs.Prelude.{◌≡◌, ◌⊎◌, ◌≤◌, ℕ, List, [], length, Some}
+use Rattle.std.specs.Prelude.{◌≡◌, ◌⊎◌, ◌≤◌, ℕ, List, length, Some}
 use Rattle.gg_base.specs.declared.run.Break.{Break}
 use Rattle.gg_base.specs.declared.run.End.{End}
 use Rattle.gg_base.specs.declared.run.End.TheVariants as ends
@@ -14,7 +14,7 @@ use Rattle.vax_reader.specs.declared.fault.AsmKind.{AsmKind}
 use Rattle.vax_machine.specs.declared.loading.LoadFault.{LoadFault}
 use Rattle.vax_machine.specs.Loading.{load_fault, Loads}
 use Rattle.vax_machine.specs.Running.{run}
-use Rattle.gg_run.specs.Lines.{wrong_line, not_built_line, load_line}
+use Rattle.gg_run.specs.Lines.{wrong_line, load_line}
 use Rattle.gg_run.specs.Texts.{text_limit, IsText, IsNoText}
 
 -- the longest input
@@ -112,21 +112,9 @@ pub record HasFault (call : Call) : Type 0 where
   pub input : GivesAll call.input bytes
   pub within : length bytes ≤ input_limit
   pub fault : LoadFault
-  pub plain : code.area ≡ []
-  pub found : load_fault code.items ≡ Some fault
+  pub found : load_fault code ≡ Some fault
   pub untouched : IsUntouched call.out
   pub line : Reports call.report (load_line fault)
-
--- the file is the text of a code with a data area, which is not loaded yet
-pub record IsNotBuilt (call : Call) : Type 0 where
-  pub code : Code
-  pub text : IsText call.file code
-  pub bytes : List ℕ
-  pub input : GivesAll call.input bytes
-  pub within : length bytes ≤ input_limit
-  pub has_area : code.area ≡ [] → ⊥
-  pub untouched : IsUntouched call.out
-  pub line : Reports call.report not_built_line
 
 -- a write of the run's output failed: a front of it is in `out`
 pub record IsCutInOutput (call : Call) : Type 0 where
@@ -166,4 +154,4 @@ Leaves statuses.Trapped call = Halted call ends.Trapped
 Leaves statuses.Wild call = ⊥
 Leaves statuses.Deep call = ⊥
 Leaves statuses.Broken call = IsBroken call
-Leaves statuses.Unbuilt call = IsNotBuilt call
+Leaves statuses.Unbuilt call = ⊥

@@ -81,9 +81,6 @@ fn read_and_run<F: Folder, I: Source, O: Sink, E: Sink>(
         Ok(bytes) => bytes,
         Err(fault) => return refuse_input(report, fault),
     };
-    let [] = code.area.as_slice() else {
-        return refuse(report, b"ggvax: not built\n", Status::Unbuilt);
-    };
     match load(alloc, &code, bytes.as_slice()) {
         Ok(machine) => {
             let mut run = CountedRun {
@@ -97,8 +94,7 @@ fn read_and_run<F: Folder, I: Source, O: Sink, E: Sink>(
 }
 
 /// The command `run A N`: reads the assembly text `name` and the whole input, and runs the text's code for at most `count`
-/// steps. The run's output goes to `out`, and then the line of its end to `report`. A refusal writes one line to `report`; so
-/// does a code with a data area, which is not loaded yet.
+/// steps. The run's output goes to `out`, and then the line of its end to `report`. A refusal writes one line to `report`.
 pub fn run_text<F: Folder, I: Source, O: Sink, E: Sink>(
     alloc: Global,
     name: &str,

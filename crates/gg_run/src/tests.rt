@@ -122,7 +122,7 @@ pushl $72|calls $1,_put|ret;7;;15 |ggvax: label _put undefined
 ret|_main:|ret;7;;15 |ggvax: label _main twice
 !#;7;;15 |ggvax: line 1: Cut
 !.data|.text;7;;15 |ggvax: no _main
-!.data|_a:|.long 7|.text|_main:|.word 0|ret;7;;21 |ggvax: not built";
+!.data|_a:|.long 7|.text|_main:|.word 0|movl _a,r0|ret;7;;0 |ended 7";
 
 #[test]
 fn runs_texts(rt: HostRuntime) -> Result<(), Fail> {

@@ -46,10 +46,10 @@ fn reads_words(rt: HostRuntime) -> Result<(), Fail> {
 }
 
 // An input of `abcdefgh`, which gives three bytes at a time and fails at the given calls.
-fn read_rows(alloc: Global, limit: usize, failing: &[u64]) -> Result<String, InputFault> {
+fn read_rows(alloc: Global, limit: u8, failing: &[u64]) -> Result<String, InputFault> {
     let bytes = Vec::from_slice(alloc, b"abcdefgh")?;
     let mut input = MemSource::new(bytes, 3, Vec::from_slice(alloc, failing)?);
-    let read = read_all(alloc, &mut input, limit)?;
+    let read = read_all(alloc, &mut input, limit as usize)?;
     Ok(String::from_utf8_lossy(alloc, read.as_slice())?)
 }
 

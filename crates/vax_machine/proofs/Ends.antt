@@ -65,7 +65,7 @@ state_lasts m k = record {
 }
 
 pub run_has_one_end : (c : Code) (input : List ℕ) → OneEnd (run c input)
-run_has_one_end c input = one_end_of (run c input) (state_lasts (start c.items input))
+run_has_one_end c input = one_end_of (run c input) (state_lasts (start c input))
 
 over_by : (m : State) (e : Stop) → m.over ≡ Some e → step_of m ≡ Stops e
 over_by m e h = ap (λ (o : Option Stop). next_where o m) h
@@ -75,5 +75,5 @@ same_steps None m n is h k = ap (λ (x : State). steps k x) h
 same_steps (Some e) m n is h zero = refl
 same_steps (Some e) m n is h (suc k) = ap (λ (x : Next). one_first (behind x (steps k))) (over_by m e h ∙ sym (over_by n e is))
 
-pub loaded_machine_runs_so : (c : Code) (input : List ℕ) (m : State) → Stands m (start c.items input) → state_run m ≡ run c input
-loaded_machine_runs_so c input m h = λ i k. same_steps (start c.items input).over m (start c.items input) refl h k i
+pub loaded_machine_runs_so : (c : Code) (input : List ℕ) (m : State) → Stands m (start c input) → state_run m ≡ run c input
+loaded_machine_runs_so c input m h = λ i k. same_steps (start c input).over m (start c input) refl h k i

@@ -1,3 +1,11 @@
 pub mod Ends
 pub mod Stepping
 pub mod Registers
+pub mod Places
+pub mod Addresses
+pub mod Keeping
+pub mod Numbers
+pub mod Labelling
+pub mod TableLaws
+pub mod LayoutLaws
+pub mod Starting

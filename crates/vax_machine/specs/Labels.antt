@@ -5,11 +5,14 @@ use Rattle.vax_core.specs.declared.operand.Base.{Base}
 use Rattle.vax_core.specs.declared.operand.Base.TheVariants as bases
 use Rattle.vax_core.specs.declared.operand.Operand.{Operand}
 use Rattle.vax_core.specs.declared.code.Instr.{Instr}
+use Rattle.vax_core.specs.declared.code.AreaItem.{AreaItem}
+use Rattle.vax_core.specs.declared.code.AreaItem.TheVariants as areas
 use Rattle.vax_core.specs.declared.code.CodeItem.{CodeItem}
 use Rattle.vax_core.specs.declared.code.CodeItem.TheVariants as items
 use Rattle.vax_machine.specs.declared.function.Action.{Action}
 use Rattle.vax_machine.specs.declared.function.Action.TheVariants as actions
 use Rattle.vax_machine.specs.Functions.{action_of}
+use Rattle.vax_machine.specs.Area.{has_area_label}
 
 abbrev pub main_name : List ℕ
 main_name = codes "_main"
@@ -56,10 +59,24 @@ double_at (items.Globl n) rest others = others
 double_at (items.Mask m) rest others = others
 double_at (items.Instr i) rest others = others
 
--- the first label that stands again behind it, or has a service's name
+-- the first label of the code that stands again behind it, or has a service's name
 abbrev pub double_label : List CodeItem → Option (List ℕ)
 double_label [] = None
 double_label (item ∷ rest) = double_at item rest (double_label rest)
+
+abbrev pub double_area_at : AreaItem → List AreaItem → List CodeItem → Option (List ℕ) → Option (List ℕ)
+double_area_at (areas.Label n) rest code others = if is_service n || (has_area_label rest n || has_label code n) then Some n else others
+double_area_at (areas.Globl n) rest code others = others
+double_area_at (areas.Align k) rest code others = others
+double_area_at (areas.Byte n) rest code others = others
+double_area_at (areas.Word n) rest code others = others
+double_area_at (areas.Long a) rest code others = others
+double_area_at (areas.Space n) rest code others = others
+
+-- the first label of the data area that stands again behind it, there or in the code, or has a service's name
+abbrev pub double_area_label : List AreaItem → List CodeItem → Option (List ℕ)
+double_area_label [] code = None
+double_area_label (item ∷ rest) code = double_area_at item rest code (double_area_label rest code)
 
 -- the name in an operand
 abbrev pub name_in : Base → Option (List ℕ)
@@ -79,10 +96,15 @@ abbrev pub first_of : Option (List ℕ) → Option (List ℕ) → Option (List �
 first_of (Some n) others = Some n
 first_of None others = others
 
--- the first name in some operands: without a data area it is no area label
-abbrev pub operand_name : List Operand → Option (List ℕ)
-operand_name [] = None
-operand_name (o ∷ os) = first_of (name_in o.base) (operand_name os)
+-- a name with an offset is a label of the data area
+abbrev pub undefined_name : List AreaItem → Option (List ℕ) → Option (List ℕ)
+undefined_name layout None = None
+undefined_name layout (Some n) = if has_area_label layout n then None else Some n
+
+-- the first name in some operands that is no label of the data area
+abbrev pub undefined_operand : List AreaItem → List Operand → Option (List ℕ)
+undefined_operand layout [] = None
+undefined_operand layout (o ∷ os) = first_of (undefined_name layout (name_in o.base)) (undefined_operand layout os)
 
 abbrev pub is_call : Action → Bool
 is_call (actions.Compute f) = false
@@ -96,16 +118,30 @@ abbrev pub undefined_target : List CodeItem → Bool → Option (List ℕ) → O
 undefined_target all call None = None
 undefined_target all call (Some t) = if (call && is_service t) || has_label all t then None else Some t
 
-abbrev pub undefined_in : List CodeItem → Instr → Option (List ℕ)
-undefined_in all i = first_of (operand_name i.operands) (undefined_target all (is_call (action_of i.op)) i.target)
+abbrev pub undefined_in : List AreaItem → List CodeItem → Instr → Option (List ℕ)
+undefined_in layout all i = first_of (undefined_operand layout i.operands) (undefined_target all (is_call (action_of i.op)) i.target)
 
-abbrev pub undefined_at : List CodeItem → CodeItem → Option (List ℕ)
-undefined_at all (items.Label n) = None
-undefined_at all (items.Globl n) = None
-undefined_at all (items.Mask m) = None
-undefined_at all (items.Instr i) = undefined_in all i
+abbrev pub undefined_at : List AreaItem → List CodeItem → CodeItem → Option (List ℕ)
+undefined_at layout all (items.Label n) = None
+undefined_at layout all (items.Globl n) = None
+undefined_at layout all (items.Mask m) = None
+undefined_at layout all (items.Instr i) = undefined_in layout all i
 
 -- the first name of an instruction that isn't defined for its use
-abbrev pub undefined_label : List CodeItem → List CodeItem → Option (List ℕ)
-undefined_label [] all = None
-undefined_label (item ∷ rest) all = first_of (undefined_at all item) (undefined_label rest all)
+abbrev pub undefined_label : List CodeItem → List AreaItem → List CodeItem → Option (List ℕ)
+undefined_label [] layout all = None
+undefined_label (item ∷ rest) layout all = first_of (undefined_at layout all item) (undefined_label rest layout all)
+
+abbrev pub undefined_area_at : List AreaItem → AreaItem → Option (List ℕ)
+undefined_area_at layout (areas.Label n) = None
+undefined_area_at layout (areas.Globl n) = None
+undefined_area_at layout (areas.Align k) = None
+undefined_area_at layout (areas.Byte n) = None
+undefined_area_at layout (areas.Word n) = None
+undefined_area_at layout (areas.Long a) = undefined_name layout a.name
+undefined_area_at layout (areas.Space n) = None
+
+-- the first name of a `.long` that is no label of the data area
+abbrev pub undefined_area_label : List AreaItem → List AreaItem → Option (List ℕ)
+undefined_area_label [] layout = None
+undefined_area_label (item ∷ rest) layout = first_of (undefined_area_at layout item) (undefined_area_label rest layout)

@@ -1,8 +1,13 @@
 pub mod State
 pub mod Memory
+pub mod Area
 pub mod Operands
 pub mod Functions
 pub mod Labels
+pub mod Tables
+pub mod Found
+pub mod LaidOut
+pub mod Nexts
 pub mod Calls
 pub mod Step
 pub mod View

@@ -1,47 +1,56 @@
 -- When a code can be run, and where its run begins.
-use Rattle.std.specs.Prelude.{◌≡◌, ℕ, List, [], ◌∷◌, replicate, Option, Some, None, Result, Ok, Err, if◌then◌else◌}
-use Rattle.vax_core.specs.declared.code.CodeItem.{CodeItem}
+use Rattle.std.specs.Prelude.{◌≡◌, ℕ, nat_lt, List, [], ◌∷◌, Option, Some, None, Result, Ok, Err, if◌then◌else◌}
 use Rattle.vax_core.specs.declared.code.Code.{Code}
 use Rattle.vax_machine.specs.declared.turn.Stop.{Stop}
 use Rattle.vax_machine.specs.declared.machine.Machine.{Machine}
 use Rattle.vax_machine.specs.declared.loading.LoadFault.{LoadFault}
 use Rattle.vax_machine.specs.declared.loading.LoadFault.TheVariants as faults
 use Rattle.vax_machine.specs.State.{State, cleared}
-use Rattle.vax_machine.specs.Labels.{main_name, has_label, label_place, double_label, undefined_label}
+use Rattle.vax_machine.specs.Area.{zeros, area_size, area_bytes}
+use Rattle.vax_machine.specs.Labels.{main_name, has_label, label_place, first_of, double_label, double_area_label, undefined_label, undefined_area_label}
 use Rattle.vax_machine.specs.Calls.{called}
 use Rattle.vax_machine.specs.View.{state}
 
-abbrev pub no_main : List CodeItem → Option LoadFault
-no_main list = if has_label list main_name then None else Some faults.NoMain
+-- the data area may have 1,048,576 bytes
+abbrev pub too_large : Code → Option LoadFault
+too_large c = if nat_lt 1048576 (area_size c.area) then Some faults.TooLarge else None
 
-abbrev pub or_undefined : Option (List ℕ) → List CodeItem → Option LoadFault
-or_undefined (Some n) list = Some (faults.UndefinedLabel n)
-or_undefined None list = no_main list
+abbrev pub no_main : Code → Option LoadFault
+no_main c = if has_label c.items main_name then too_large c else Some faults.NoMain
 
-abbrev pub or_double : Option (List ℕ) → List CodeItem → Option LoadFault
-or_double (Some n) list = Some (faults.DoubleLabel n)
-or_double None list = or_undefined (undefined_label list list) list
+abbrev pub or_undefined : Option (List ℕ) → Code → Option LoadFault
+or_undefined (Some n) c = Some (faults.UndefinedLabel n)
+or_undefined None c = no_main c
 
--- the first fault of a code without data area: a label that stands twice or is a service's name; a name that isn't defined for its use; no `_main`
-abbrev pub load_fault : List CodeItem → Option LoadFault
-load_fault list = or_double (double_label list) list
+-- the first name of a text that isn't defined for its use, the data area's before the code's
+abbrev pub undefined_name_of : Code → Option (List ℕ)
+undefined_name_of c = first_of (undefined_area_label c.area c.area) (undefined_label c.items c.area c.items)
 
--- a code without fault; none with a data area is loaded yet
+abbrev pub or_double : Option (List ℕ) → Code → Option LoadFault
+or_double (Some n) c = Some (faults.DoubleLabel n)
+or_double None c = or_undefined (undefined_name_of c) c
+
+-- the first label of a text that stands again behind it or has a service's name, the data area's before the code's
+abbrev pub double_label_of : Code → Option (List ℕ)
+double_label_of c = first_of (double_area_label c.area c.items) (double_label c.items)
+
+-- the first fault of a code: a label that stands twice or is a service's name; a name that isn't defined for its use; no `_main`; a data area that is too large
+abbrev pub load_fault : Code → Option LoadFault
+load_fault c = or_double (double_label_of c) c
+
+-- a code without fault
 abbrev pub Loads : Code → Type 0
-Loads c = (c.area ≡ []) × (load_fault c.items ≡ None)
+Loads c = load_fault c ≡ None
 
--- so many bytes 0
-unfoldable pub zeros : ℕ → List ℕ
-zeros n = replicate n 0
-
--- before the call of `_main`: all registers 0 but sp, which is at the stack's top
-abbrev pub blank : List CodeItem → List ℕ → State
-blank list input = record {
-  items = list;
+-- before the call of `_main`: all registers and the stack's bytes 0, but sp, which is at the stack's top
+abbrev pub blank : Code → List ℕ → State
+blank c input = record {
+  layout = c.area;
+  items = c.items;
   place = 0;
   registers = 0 ∷ (0 ∷ (0 ∷ (0 ∷ (0 ∷ (0 ∷ (0 ∷ (0 ∷ (0 ∷ (0 ∷ (0 ∷ (0 ∷ (0 ∷ (0 ∷ (2147483648 ∷ []))))))))))))));
   conditions = cleared;
-  area = [];
+  area = area_bytes c.area;
   stack = zeros 8388608;
   frames = [];
   input = input;
@@ -54,8 +63,8 @@ begun m (Ok n) = n
 begun m (Err e) = record m { over = Some e }
 
 -- the state behind the call of `_main`
-abbrev pub start : List CodeItem → List ℕ → State
-start list input = begun (blank list input) (called (blank list input) 0 (label_place list main_name) None)
+abbrev pub start : Code → List ℕ → State
+start c input = begun (blank c input) (called (blank c input) 0 (label_place c.items main_name) None)
 
 -- a machine that is over answers so at each step, whatever else its state is
 abbrev pub SameFrom : Option Stop → State → State → Type 0
@@ -68,9 +77,14 @@ Stands m n = SameFrom n.over m n
 
 -- what loading a code gives
 abbrev pub Loaded : Code → List ℕ → Result Machine LoadFault → Type 0
-Loaded c input (Ok m) = Loads c × Stands (state m) (start c.items input)
+Loaded c input (Ok m) = Loads c × Stands (state m) (start c input)
 Loaded c input (Err faults.NoMemory) = Unit {0}
-Loaded c input (Err (faults.DoubleLabel n)) = load_fault c.items ≡ Some (faults.DoubleLabel n)
-Loaded c input (Err (faults.UndefinedLabel n)) = load_fault c.items ≡ Some (faults.UndefinedLabel n)
-Loaded c input (Err faults.NoMain) = load_fault c.items ≡ Some faults.NoMain
-Loaded c input (Err faults.TooLarge) = ⊥
+Loaded c input (Err (faults.DoubleLabel n)) = load_fault c ≡ Some (faults.DoubleLabel n)
+Loaded c input (Err (faults.UndefinedLabel n)) = load_fault c ≡ Some (faults.UndefinedLabel n)
+Loaded c input (Err faults.NoMain) = load_fault c ≡ Some faults.NoMain
+Loaded c input (Err faults.TooLarge) = load_fault c ≡ Some faults.TooLarge
+
+-- the fault of a label that stands twice
+abbrev pub IsDouble : Option (List ℕ) → LoadFault → Type 0
+IsDouble None e = ⊥
+IsDouble (Some n) e = e ≡ faults.DoubleLabel n

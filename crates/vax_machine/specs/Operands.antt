@@ -5,7 +5,6 @@ use Rattle.gg_base.specs.declared.size.Size.TheVariants.{Long}
 use Rattle.gg_base.specs.Sizes.{bytes_of}
 use Rattle.gg_base.specs.Arithmetic.{add32, sub32, mul32}
 use Rattle.vax_core.specs.declared.register.Reg.{Reg}
-use Rattle.vax_core.specs.declared.operand.Addr.{Addr}
 use Rattle.vax_core.specs.declared.operand.Base.{Base}
 use Rattle.vax_core.specs.declared.operand.Base.TheVariants as bases
 use Rattle.vax_core.specs.declared.operand.Operand.{Operand}
@@ -19,11 +18,8 @@ use Rattle.vax_machine.specs.declared.operands.Destination.{Destination}
 use Rattle.vax_machine.specs.declared.operands.Evaluated.{Evaluated}
 use Rattle.vax_machine.specs.declared.operands.Arguments.{Arguments}
 use Rattle.vax_machine.specs.State.{State, reg, bad_code, ◌>>=◌}
+use Rattle.vax_machine.specs.Area.{resolved}
 use Rattle.vax_machine.specs.Memory.{low, read, written, register_set, merged}
-
--- the number that an address in an operand stands for; no code with a data area is loaded yet, so no name stands there
-abbrev pub resolved : Addr → ℕ
-resolved a = a.offset
 
 -- the number at an address is itself an address
 abbrev pub deferred : State → ℕ → Result (Location × State) Stop
@@ -31,17 +27,17 @@ deferred m address = read m address Long >>= λ (a : ℕ). Ok (locations.Memory 
 
 -- where an operand stands, without its index, and the state after its register was stepped
 unfoldable pub located : State → Base → Size → Result (Location × State) Stop
-located m (bases.Imm a) size = Ok (locations.Number (resolved a), m)
+located m (bases.Imm a) size = Ok (locations.Number (resolved m.layout a), m)
 located m (bases.Reg r) size = Ok (locations.Register r, m)
 located m (bases.Def r) size = Ok (locations.Memory (reg m r), m)
 located m (bases.Inc r) size = register_set m r (add32 (reg m r) (bytes_of size)) >>= λ (n : State). Ok (locations.Memory (reg m r), n)
 located m (bases.IncDef r) size = register_set m r (add32 (reg m r) 4) >>= λ (n : State). deferred n (reg m r)
 located m (bases.Dec r) size = register_set m r (sub32 (reg m r) (bytes_of size)) >>= λ (n : State). Ok (locations.Memory (sub32 (reg m r) (bytes_of size)), n)
-located m (bases.Disp d r) size = Ok (locations.Memory (add32 (resolved d) (reg m r)), m)
-located m (bases.DispDef d r) size = deferred m (add32 (resolved d) (reg m r))
+located m (bases.Disp d r) size = Ok (locations.Memory (add32 (resolved m.layout d) (reg m r)), m)
+located m (bases.DispDef d r) size = deferred m (add32 (resolved m.layout d) (reg m r))
 located m (bases.Abs n) size = Ok (locations.Memory n, m)
-located m (bases.Rel a) size = Ok (locations.Memory (resolved a), m)
-located m (bases.RelDef a) size = deferred m (resolved a)
+located m (bases.Rel a) size = Ok (locations.Memory (resolved m.layout a), m)
+located m (bases.RelDef a) size = deferred m (resolved m.layout a)
 
 abbrev pub moved : Location → ℕ → Location
 moved (locations.Number n) by = locations.Number n

@@ -32,7 +32,7 @@ state_run m n = steps n m
 
 -- the run of a code on an input, from the call of `_main`
 abbrev pub run : Code → List ℕ → Runs
-run c input = state_run (start c.items input)
+run c input = state_run (start c input)
 
 -- a run has ended so, and its output was put behind what was there
 pub record Ran (outcome : Outcome) (old new : List ℕ) (end : End) : Type 0 where

@@ -2,6 +2,7 @@
 use Rattle.std.specs.Prelude.{◌≡◌, ℕ, false, List, slice_index, slice_set, Option, Result, Ok, Err}
 use Rattle.vax_core.specs.declared.register.Reg.{Reg}
 use Rattle.vax_core.specs.Registers.{reg_number}
+use Rattle.vax_core.specs.declared.code.AreaItem.{AreaItem}
 use Rattle.vax_core.specs.declared.code.CodeItem.{CodeItem}
 use Rattle.gg_base.specs.declared.run.Break.TheVariants as breaks
 use Rattle.vax_machine.specs.declared.turn.Stop.{Stop}
@@ -9,8 +10,9 @@ use Rattle.vax_machine.specs.declared.turn.Stop.TheVariants.{Broken}
 use Rattle.vax_machine.specs.declared.frame.Frame.{Frame}
 use Rattle.vax_machine.specs.declared.function.Conditions.{Conditions}
 
--- the code and the item to be done next, registers and condition codes, memory, the live frames with the innermost last, and the input that is left; `over` is there once the run is over
+-- the text's data items and its code, the item to be done next, registers and condition codes, memory, the live frames with the innermost last, and the input that is left; `over` is there once the run is over
 pub record State : Type 0 where
+  pub layout : List AreaItem
   pub items : List CodeItem
   pub place : ℕ
   pub registers : List ℕ

@@ -4,7 +4,8 @@ use Rattle.vax_machine.specs.State.{State}
 
 abbrev pub state : Machine → State
 state m = record {
-  items = m.items.now;
+  layout = m.program.layout.now;
+  items = m.program.items.now;
   place = m.place;
   registers = m.registers;
   conditions = m.conditions;

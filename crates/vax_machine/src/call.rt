@@ -4,7 +4,6 @@ ghost use Rattle.vax_machine.specs.Calls.{entry_mask};
 
 use crate::frame::Frame;
 use crate::function::Conditions;
-use crate::label::{label_place, next_item};
 use crate::machine::Machine;
 use crate::turn::{self, BAD_CODE, STACK_FULL, Stop};
 use gg_base::limits::FRAME_LIMIT;
@@ -29,6 +28,7 @@ impl<'a> Machine<'a> {
     ghost use Rattle.vax_machine.specs.State.{Does, Leaves};
     ghost use Rattle.vax_machine.specs.Calls.{pushed, reserved, all_reserved, entered, framed, called, returned, putchar, getchar, called_by_name, restored, left, back_to};
     ghost use Rattle.vax_machine.specs.View.{state};
+    ghost use Rattle.vax_machine.specs.Tables.{target_of};
 
     /// Puts a longword on the stack.
     #[tactic(auto, unfolding(crate::specs::Calls::pushed))]
@@ -90,9 +90,9 @@ impl<'a> Machine<'a> {
     }
 
     fn frame(&mut self, ap: u32, entry: usize, back: Option<usize>) -> Result<(), Stop>
-        ensures { Leaves result (state self.new) (framed (state self.old) ap (entry_mask (slice_get self.old.items.now entry)) entry back) }
+        ensures { Leaves result (state self.new) (framed (state self.old) ap (entry_mask (slice_get self.old.program.items.now entry)) entry back) }
     {
-        let Some(mask) = entry_mask(self.items, entry) else {
+        let Some(mask) = entry_mask(self.program.items, entry) else {
             return Err(BAD_CODE);
         };
         let behind = entry + 1;
@@ -109,8 +109,7 @@ impl<'a> Machine<'a> {
     {
         self.push(count)?;
         let ap = self.register(Reg::Sp);
-        let items = self.items;
-        let entry = next_item(items, place);
+        let entry = self.program.next_item(place);
         self.frame(ap, entry, back)
     }
 
@@ -224,13 +223,15 @@ impl<'a> Machine<'a> {
         Ok(None)
     }
 
-    /// Calls a service or the code at a label.
+    /// Calls a service or the code at a label, which stands at this place.
     #[tactic(auto, unfolding(crate::specs::Calls::called_by_name))]
     pub(crate) fn call_by_name(
         &mut self,
         count: u32,
         target: &Option<Name>,
+        place: usize,
     ) -> Result<Option<u8>, Stop>
+        requires { place ≡ target_of self.old.program.items.now target.now }
         ensures { Does result (state self.new) (called_by_name (state self.old) count target.now) }
     {
         let Some(name) = target else {
@@ -242,7 +243,6 @@ impl<'a> Machine<'a> {
         if name.as_slice() == b"_getchar".as_slice() {
             return self.getchar(count);
         }
-        let place = label_place(self.items, name.as_slice());
         let back = self.place;
         self.call(count, place, Some(back))?;
         Ok(None)

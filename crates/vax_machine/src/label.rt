@@ -1,11 +1,15 @@
-// Places in a code, and its labels.
-ghost use Rattle.std.specs.Prelude.{◌≡◌, ◌≤◌, length};
+// The labels of a text and the names that its items use.
+ghost use Rattle.std.specs.Prelude.{◌≡◌, ◌||◌, is_some, Some, IfOk, OnOk, if◌then◌else◌};
 ghost use Rattle.std.specs.Option.{option_copied};
-ghost use Rattle.vax_machine.specs.Labels.{is_service, next_item, has_label, label_place, double_label, name_in, operand_name, is_call, undefined_target, undefined_in, undefined_label};
+ghost use Rattle.vax_machine.specs.Labels.{is_service, double_label, double_area_label, name_in, is_call};
+ghost use Rattle.vax_machine.specs.Tables.{place_in, area_place_in, with_name};
+ghost use Rattle.vax_machine.specs.Found.{found};
 
 use crate::function::{Action, action_of};
+use crate::table::Table;
 use gg_base::Name;
-use vax_core::{Base, CodeItem, Instr, Operand};
+use std::alloc::{AllocError, Global};
+use vax_core::{AreaItem, Base, CodeItem, Instr, Operand};
 
 fn is_service(name: &[u8]) -> bool
     ensures { result ≡ is_service name.now }
@@ -13,62 +17,85 @@ fn is_service(name: &[u8]) -> bool
     name == b"_putchar".as_slice() || name == b"_getchar".as_slice()
 }
 
-/// The place of the next item from a place on: the first that is neither a label nor a `.globl` line.
-pub(crate) fn next_item(items: &[CodeItem], place: usize) -> usize
-    ensures { result ≡ next_item items.now place }
+// Whether a label may not stand in front of those that are in a table.
+fn is_taken(name: &[u8], places: &Table) -> bool
+    ensures { result ≡ (is_service name.now || is_some (found places.now name.now)) }
 {
-    if place >= items.len() {
-        return place;
-    }
-    for at in place..items.len() {
-        match &items[at] {
-            CodeItem::Label(_) | CodeItem::Globl(_) => {}
-            _ => return at,
-        }
-    }
-    items.len()
+    is_service(name) || places.get(name).is_some()
 }
 
-/// Whether a label of that name stands there.
-pub(crate) fn has_label(items: &[CodeItem], name: &[u8]) -> bool
-    ensures { result ≡ has_label items.now name.now }
+// The same where two tables stand behind it.
+fn is_taken_in_either(name: &[u8], places: &Table, code: &Table) -> bool
+    ensures { result ≡ (is_service name.now || (is_some (found places.now name.now) || is_some (found code.now name.now))) }
 {
-    for item in items {
-        if let CodeItem::Label(n) = item {
-            if n.as_slice() == name {
-                return true;
-            }
-        }
-    }
-    false
+    is_service(name) || places.get(name).is_some() || code.get(name).is_some()
 }
 
-/// The place of the first label of that name, or behind all items.
-pub(crate) fn label_place(items: &[CodeItem], name: &[u8]) -> usize
-    ensures { result ≡ label_place items.now name.now }
-{
-    for (i, item) in items.iter().enumerate() {
-        if let CodeItem::Label(n) = item {
-            if n.as_slice() == name {
-                return i;
-            }
-        }
-    }
-    items.len()
+/// The labels of the code, or of the data area.
+#[derive(Drop)]
+pub struct Labels<'a> {
+    /// The place of each; where it stands twice, that of the first.
+    pub places: Table<'a>,
+    /// The first label that stands again behind it, or has a service's name.
+    pub double: Option<&'a Name>,
 }
 
-/// The first label that stands again behind it, or has a service's name.
-pub(crate) fn double_label(items: &[CodeItem]) -> Option<&Name>
-    ensures { option_copied result ≡ double_label items.now }
+impl<'a> Labels<'a> {
+    // A label in front of the others.
+    fn put(&mut self, name: &'a Name, place: usize, again: bool) -> Result<(), AllocError>
+        ensures places { OnOk result (found self.new.places ≡ with_name (found self.old.places) name.now place) }
+        ensures double { OnOk result (option_copied self.new.double ≡ (if again then Some name.now else option_copied self.old.double)) }
+    {
+        if again {
+            self.double = Some(name);
+        }
+        self.places.put(name.as_slice(), place)
+    }
+}
+
+/// The labels of the code.
+pub(crate) fn code_labels<'a>(
+    alloc: Global,
+    items: &'a [CodeItem],
+) -> Result<Labels<'a>, AllocError>
+    ensures places { IfOk result (λ l. found l.places ≡ place_in items.now 0) }
+    ensures double { IfOk result (λ l. option_copied l.double ≡ double_label items.now) }
 {
-    for i in 0..items.len() {
-        if let CodeItem::Label(n) = &items[i] {
-            if is_service(n.as_slice()) || has_label(&items[i + 1..], n.as_slice()) {
-                return Some(n);
-            }
+    let mut labels = Labels {
+        places: Table::new(alloc),
+        double: None,
+    };
+    for place in (0..items.len()).rev() {
+        if let CodeItem::Label(name) = &items[place] {
+            let again = is_taken(name.as_slice(), &labels.places);
+            labels.put(name, place, again)?;
         }
     }
-    None
+    Ok(labels)
+}
+
+/// The labels of the data area. One that is a label of the code too stands again behind itself.
+pub(crate) fn area_labels<'a>(
+    alloc: Global,
+    layout: &'a [AreaItem],
+    items: &'a [CodeItem],
+    code: &Table<'a>,
+) -> Result<Labels<'a>, AllocError>
+    requires { found code.now ≡ place_in items.now 0 }
+    ensures places { IfOk result (λ l. found l.places ≡ area_place_in layout.now 0) }
+    ensures double { IfOk result (λ l. option_copied l.double ≡ double_area_label layout.now items.now) }
+{
+    let mut labels = Labels {
+        places: Table::new(alloc),
+        double: None,
+    };
+    for place in (0..layout.len()).rev() {
+        if let AreaItem::Label(name) = &layout[place] {
+            let again = is_taken_in_either(name.as_slice(), &labels.places, code);
+            labels.put(name, place, again)?;
+        }
+    }
+    Ok(labels)
 }
 
 fn name_in(base: &Base) -> Option<&Name>
@@ -89,17 +116,6 @@ fn name_in(base: &Base) -> Option<&Name>
     }
 }
 
-fn operand_name(operands: &[Operand]) -> Option<&Name>
-    ensures { option_copied result ≡ operand_name operands.now }
-{
-    for operand in operands {
-        if let Some(name) = name_in(&operand.base) {
-            return Some(name);
-        }
-    }
-    None
-}
-
 fn is_call(action: Action) -> bool
     ensures { result ≡ is_call action }
 {
@@ -112,42 +128,138 @@ fn is_call(action: Action) -> bool
     }
 }
 
-fn undefined_target<'a>(
-    items: &[CodeItem],
-    call: bool,
-    target: &'a Option<Name>,
-) -> Option<&'a Name>
-    ensures { option_copied result ≡ undefined_target items.now call target.now }
-{
-    let Some(name) = target else {
-        return None;
-    };
-    if (call && is_service(name.as_slice())) || has_label(items, name.as_slice()) {
-        None
-    } else {
-        Some(name)
-    }
+/// A text with its labels.
+#[derive(Drop)]
+pub struct Names<'a> {
+    pub layout: &'a [AreaItem],
+    pub items: &'a [CodeItem],
+    pub area: Table<'a>,
+    pub code: Table<'a>,
+    ghost area_places: { found area ≡ area_place_in layout.now 0 },
+    ghost code_places: { found code ≡ place_in items.now 0 },
 }
 
-fn undefined_in<'a>(items: &[CodeItem], instr: &'a Instr) -> Option<&'a Name>
-    ensures { option_copied result ≡ undefined_in items.now instr.now }
-{
-    if let Some(name) = operand_name(instr.operands.as_slice()) {
-        return Some(name);
-    }
-    undefined_target(items, is_call(action_of(instr.op)), &instr.target)
-}
+impl<'a> Names<'a> {
+    ghost use Rattle.vax_machine.specs.Area.{has_area_label};
+    ghost use Rattle.vax_machine.specs.Labels.{main_name, has_label, label_place, undefined_name, undefined_operand, undefined_target, undefined_in, undefined_label, undefined_area_at, undefined_area_label};
 
-/// The first name of an instruction that isn't defined for its use, where there is no data area.
-pub(crate) fn undefined_label(items: &[CodeItem]) -> Option<&Name>
-    ensures { option_copied result ≡ undefined_label items.now items.now }
-{
-    for item in items {
-        if let CodeItem::Instr(instr) = item {
-            if let Some(name) = undefined_in(items, instr) {
+    /// Whether a label of the code has this name.
+    fn has_label(&self, name: &[u8]) -> bool
+        ensures { result ≡ has_label self.now.items.now name.now }
+    {
+        self.code.get(name).is_some()
+    }
+
+    /// The place of the label of that name, or behind all items.
+    pub(crate) fn label_place(&self, name: &[u8]) -> usize
+        ensures { result ≡ label_place self.now.items.now name.now }
+    {
+        self.code.get(name).unwrap_or(self.items.len())
+    }
+
+    /// Whether a label of the code is `_main`.
+    pub(crate) fn has_main(&self) -> bool
+        ensures { result ≡ has_label self.now.items.now main_name }
+    {
+        self.has_label(b"_main".as_slice())
+    }
+
+    /// The place of the label `_main`.
+    pub(crate) fn main_place(&self) -> usize
+        ensures { result ≡ label_place self.now.items.now main_name }
+    {
+        self.label_place(b"_main".as_slice())
+    }
+
+    fn has_area_label(&self, name: &[u8]) -> bool
+        ensures { result ≡ has_area_label self.now.layout.now name.now }
+    {
+        self.area.get(name).is_some()
+    }
+
+    fn undefined_name<'b>(&self, name: Option<&'b Name>) -> Option<&'b Name>
+        ensures { option_copied result ≡ undefined_name self.now.layout.now (option_copied name.entry) }
+    {
+        let name = name?;
+        if self.has_area_label(name.as_slice()) {
+            None
+        } else {
+            Some(name)
+        }
+    }
+
+    fn undefined_operand<'b>(&self, operands: &'b [Operand]) -> Option<&'b Name>
+        ensures { option_copied result ≡ undefined_operand self.now.layout.now operands.now }
+    {
+        for operand in operands {
+            if let Some(name) = self.undefined_name(name_in(&operand.base)) {
                 return Some(name);
             }
         }
+        None
     }
-    None
+
+    fn undefined_target<'b>(&self, call: bool, target: &'b Option<Name>) -> Option<&'b Name>
+        ensures { option_copied result ≡ undefined_target self.now.items.now call target.now }
+    {
+        let Some(name) = target else {
+            return None;
+        };
+        if (call && is_service(name.as_slice())) || self.has_label(name.as_slice()) {
+            None
+        } else {
+            Some(name)
+        }
+    }
+
+    fn undefined_in<'b>(&self, instr: &'b Instr) -> Option<&'b Name>
+        ensures { option_copied result ≡ undefined_in self.now.layout.now self.now.items.now instr.now }
+    {
+        if let Some(name) = self.undefined_operand(instr.operands.as_slice()) {
+            return Some(name);
+        }
+        self.undefined_target(is_call(action_of(instr.op)), &instr.target)
+    }
+
+    /// The first name of an instruction that isn't defined for its use.
+    pub(crate) fn undefined_label(&self) -> Option<&'a Name>
+        ensures { option_copied result ≡ undefined_label self.now.items.now self.now.layout.now self.now.items.now }
+    {
+        let items = self.items;
+        for item in items {
+            if let CodeItem::Instr(instr) = item {
+                if let Some(name) = self.undefined_in(instr) {
+                    return Some(name);
+                }
+            }
+        }
+        None
+    }
+
+    fn undefined_area_at<'b>(&self, item: &'b AreaItem) -> Option<&'b Name>
+        ensures { option_copied result ≡ undefined_area_at self.now.layout.now item.now }
+    {
+        match item {
+            AreaItem::Long(a) => self.undefined_name(a.name.as_ref()),
+            AreaItem::Label(_)
+            | AreaItem::Globl(_)
+            | AreaItem::Align(_)
+            | AreaItem::Byte(_)
+            | AreaItem::Word(_)
+            | AreaItem::Space(_) => None,
+        }
+    }
+
+    /// The first name of a `.long` that is no label of the data area.
+    pub(crate) fn undefined_area_label(&self) -> Option<&'a Name>
+        ensures { option_copied result ≡ undefined_area_label self.now.layout.now self.now.layout.now }
+    {
+        let layout = self.layout;
+        for item in layout {
+            if let Some(name) = self.undefined_area_at(item) {
+                return Some(name);
+            }
+        }
+        None
+    }
 }

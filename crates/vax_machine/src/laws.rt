@@ -15,5 +15,5 @@ pub fn run_has_one_end()
 /// A machine that was just made of a code runs as the code does.
 #[tactic(auto, using(crate::proofs::Ends::loaded_machine_runs_so))]
 pub fn loaded_machine_runs_so()
-    ensures { (c : Code) (input : List ℕ) (m : State) → Stands m (start c.items input) → state_run m ≡ run c input }
+    ensures { (c : Code) (input : List ℕ) (m : State) → Stands m (start c input) → state_run m ≡ run c input }
 {}

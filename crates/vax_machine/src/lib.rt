@@ -1,6 +1,7 @@
 // The VAX runner: a machine that does one instruction of a code at a time, in the profile of the integer VAX that this repository keeps.
 #![tactic(auto)]
 
+pub mod area;
 pub mod call;
 pub mod frame;
 pub mod function;
@@ -10,7 +11,9 @@ pub mod loading;
 pub mod machine;
 pub mod memory;
 pub mod operands;
+pub mod program;
 pub mod running;
+pub mod table;
 pub mod turn;
 
 pub use gg_base::Break;

@@ -1,10 +1,10 @@
 // Making a machine of a code.
-ghost use Rattle.std.specs.Prelude.{◌≡◌, [], IfOk, vec_len, vec_capacity};
-ghost use Rattle.vax_machine.specs.Loading.{zeros};
+ghost use Rattle.std.specs.Prelude.{◌≡◌, ◌⊎◌, [], true, None, IfOk, IfErr, vec_len, vec_capacity};
 
+use crate::area::{lay_out, zeros};
 use crate::frame::Frame;
 use crate::function::Conditions;
-use crate::label::{double_label, has_label, label_place, undefined_label};
+use crate::label::{Labels, Names, area_labels, code_labels};
 use crate::machine::Machine;
 use gg_base::Name;
 use gg_base::limits::{FRAME_LIMIT, STACK_SIZE, STACK_TOP};
@@ -48,14 +48,6 @@ impl<T: Drop> From<AllocFailed<T>> for LoadFault {
     }
 }
 
-#[tactic(auto, unfolding(crate::specs::Loading::zeros))]
-fn zeros(alloc: Global, n: usize) -> Result<Vec<u8>, AllocError>
-    ensures items { IfOk result (λ v. v.items ≡ zeros n) }
-    ensures len { IfOk result (λ v. vec_len v ≡ n) }
-{
-    vec![in alloc; 0u8; n]
-}
-
 fn copied(alloc: Global, name: &Name) -> Result<Name, AllocError>
     ensures { IfOk result (λ n. n ≡ name.now) }
 {
@@ -69,37 +61,82 @@ fn no_frames(alloc: Global) -> Result<Vec<Frame>, AllocError>
     Vec::with_capacity(alloc, FRAME_LIMIT as usize)
 }
 
-ghost use Rattle.vax_machine.specs.Loading.{Loaded};
+ghost use Rattle.vax_core.specs.Valid.{is_code};
+ghost use Rattle.vax_machine.specs.declared.loading.LoadFault.TheVariants as faults;
+ghost use Rattle.vax_machine.specs.Loading.{Loaded, double_label_of, IsDouble};
+
+// The names of a code in which no label stands twice.
+fn names<'a>(alloc: Global, code: &'a Code) -> Result<Names<'a>, LoadFault>
+    ensures loads { IfOk result (λ n. (n.layout.now ≡ code.now.area) × (n.items.now ≡ code.now.items) × (double_label_of code.now ≡ None)) }
+    ensures faulty { IfErr result (λ e. (e ≡ faults.NoMemory) ⊎ IsDouble (double_label_of code.now) e) }
+{
+    let layout = code.area.as_slice();
+    let items = code.items.as_slice();
+    let Labels {
+        places: code,
+        double: in_code,
+    } = code_labels(alloc, items)?;
+    let Labels {
+        places: area,
+        double: in_area,
+    } = area_labels(alloc, layout, items, &code)?;
+    match in_area.or(in_code) {
+        Some(name) => Err(LoadFault::DoubleLabel(copied(alloc, name)?)),
+        None => Ok(Names {
+            layout,
+            items,
+            area,
+            code,
+        }),
+    }
+}
 
 /// A machine behind the call of `_main`, which is no step of the run; where that call breaks, the first step answers so. It takes all the
-/// memory that the run needs. Codes with a data area aren't loaded yet.
+/// memory that the run needs.
 pub fn load<'a>(alloc: Global, code: &'a Code, input: &'a [u8]) -> Result<Machine<'a>, LoadFault>
-    requires { code.now.area ≡ [] }
+    requires { is_code code.now ≡ true }
     ensures { Loaded code.now input.now result }
 {
-    let items = code.items.as_slice();
-    if let Some(name) = double_label(items) {
-        return Err(LoadFault::DoubleLabel(copied(alloc, name)?));
-    }
-    if let Some(name) = undefined_label(items) {
+    let names = names(alloc, code)?;
+    if let Some(name) = names.undefined_area_label() {
         return Err(LoadFault::UndefinedLabel(copied(alloc, name)?));
     }
-    if !has_label(items, b"_main".as_slice()) {
+    if let Some(name) = names.undefined_label() {
+        return Err(LoadFault::UndefinedLabel(copied(alloc, name)?));
+    }
+    if !names.has_main() {
         return Err(LoadFault::NoMain);
     }
+    let Some(layout) = lay_out(alloc, names.layout)? else {
+        return Err(LoadFault::TooLarge);
+    };
     let mut machine = Machine {
-        items,
+        program: names.link(alloc, &layout)?,
         place: 0,
         registers: [0, 0, 0, 0, 0, 0, 0, 0, 0, 0, 0, 0, 0, 0, STACK_TOP],
         conditions: Conditions::CLEARED,
-        area: Vec::new(alloc),
+        area: names.area_bytes(alloc, &layout)?,
         stack: zeros(alloc, STACK_SIZE as usize)?,
         frames: no_frames(alloc)?,
         input,
         over: None,
     };
-    if let Err(stop) = machine.call(0, label_place(items, b"_main".as_slice()), None) {
-        machine.over = Some(stop);
-    }
+    machine.begin(names.main_place());
     Ok(machine)
+}
+
+impl<'a> Machine<'a> {
+    ghost use Rattle.vax_machine.specs.Loading.{begun, Stands};
+    ghost use Rattle.vax_machine.specs.Calls.{called};
+    ghost use Rattle.vax_machine.specs.View.{state};
+
+    // Calls the code at a place, to which no caller goes back.
+    #[tactic(auto, using(crate::proofs::Starting::began, crate::proofs::Starting::broke))]
+    fn begin(&mut self, main: usize)
+        ensures { Stands (state self.new) (begun (state self.old) (called (state self.old) 0 main None)) }
+    {
+        if let Err(stop) = self.call(0, main, None) {
+            self.over = Some(stop);
+        }
+    }
 }

@@ -3,8 +3,8 @@ ghost use Rattle.std.specs.Prelude.{◌≡◌, ◌≤◌, vec_len, vec_capacity}
 
 use crate::frame::Frame;
 use crate::function::{Action, Computed, Conditions, Function, Test, action_of};
-use crate::label::{label_place, next_item};
 use crate::operands::{Arguments, Destination};
+use crate::program::{Links, Program};
 use crate::turn::{BAD_CODE, Stop, Turn};
 use gg_base::{Name, Size};
 use vax_core::{CodeItem, Instr, Shape};
@@ -12,7 +12,7 @@ use vax_core::{CodeItem, Instr, Shape};
 /// A machine that runs a code on an input.
 #[derive(Drop)]
 pub struct Machine<'a> {
-    pub(crate) items: &'a [CodeItem],
+    pub(crate) program: Program<'a>,
     pub(crate) place: usize,
     /// r0 to r11, ap, fp, sp.
     pub(crate) registers: [u32; 15],
@@ -32,6 +32,8 @@ impl<'a> Machine<'a> {
     ghost use Rattle.vax_machine.specs.State.{Does};
     ghost use Rattle.vax_machine.specs.Step.{step_of, IsStep, act, instruction, acted, finished, pushing, branched};
     ghost use Rattle.vax_machine.specs.View.{state};
+    ghost use Rattle.vax_machine.specs.Tables.{target_of, links_of};
+    ghost use Rattle.vax_core.specs.declared.code.CodeItem.TheVariants as item_kinds;
 
     /// Does the next instruction. It takes no memory. Once the run is over, each further call answers so again.
     pub fn step(&mut self) -> Turn
@@ -55,22 +57,24 @@ impl<'a> Machine<'a> {
     fn act(&mut self) -> Result<Option<u8>, Stop>
         ensures { Does result (state self.new) (act (state self.old)) }
     {
-        let items = self.items;
-        let place = next_item(items, self.place);
+        let items = self.program.items;
+        let place = self.program.next_item(self.place);
         if place >= items.len() {
             return Err(BAD_CODE);
         }
         match &items[place] {
             CodeItem::Instr(instr) => {
+                let links = self.program.links(place);
                 self.place = place + 1;
-                self.instruction(instr)
+                self.instruction(instr, links)
             }
             _ => Err(BAD_CODE),
         }
     }
 
     #[tactic(auto, unfolding(crate::specs::Step::instruction))]
-    fn instruction(&mut self, instr: &Instr) -> Result<Option<u8>, Stop>
+    fn instruction(&mut self, instr: &Instr, links: Links) -> Result<Option<u8>, Stop>
+        requires { links ≡ links_of self.old.program.layout.now self.old.program.items.now (item_kinds.Instr instr.now) }
         ensures { Does result (state self.new) (instruction (state self.old) instr.now.op instr.now.operands instr.now.target) }
     {
         let Shape {
@@ -78,8 +82,8 @@ impl<'a> Machine<'a> {
             operands: kinds,
             target: _,
         } = instr.op.shape();
-        let arguments = self.evaluate_all(kinds, instr.operands.as_slice())?;
-        self.act_on(action_of(instr.op), arguments, &instr.target)
+        let arguments = self.evaluate_all(kinds, instr.operands.as_slice(), &links.numbers)?;
+        self.act_on(action_of(instr.op), arguments, &instr.target, links.target)
     }
 
     fn act_on(
@@ -87,7 +91,9 @@ impl<'a> Machine<'a> {
         action: Action,
         x: Arguments,
         target: &Option<Name>,
+        place: usize,
     ) -> Result<Option<u8>, Stop>
+        requires { place ≡ target_of self.old.program.items.now target.now }
         ensures { Does result (state self.new) (acted action x target.now (state self.old)) }
     {
         match action {
@@ -96,8 +102,8 @@ impl<'a> Machine<'a> {
                 function.apply(x.first, x.second, self.conditions.carry),
             ),
             Action::Push => self.push_value(x.first),
-            Action::Branch(test) => self.branch(test.passes(self.conditions), target),
-            Action::Call => self.call_by_name(x.first, target),
+            Action::Branch(test) => self.branch(test.passes(self.conditions), target, place),
+            Action::Call => self.call_by_name(x.first, target, place),
             Action::Return => self.return_from_call(),
         }
     }
@@ -127,14 +133,20 @@ impl<'a> Machine<'a> {
         Ok(None)
     }
 
-    fn branch(&mut self, taken: bool, target: &Option<Name>) -> Result<Option<u8>, Stop>
+    fn branch(
+        &mut self,
+        taken: bool,
+        target: &Option<Name>,
+        place: usize,
+    ) -> Result<Option<u8>, Stop>
+        requires { place ≡ target_of self.old.program.items.now target.now }
         ensures { Does result (state self.new) (branched (state self.old) taken target.now) }
     {
-        let Some(name) = target else {
+        if target.is_none() {
             return Err(BAD_CODE);
-        };
+        }
         if taken {
-            self.place = label_place(self.items, name.as_slice());
+            self.place = place;
         }
         Ok(None)
     }

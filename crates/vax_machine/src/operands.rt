@@ -1,12 +1,12 @@
 // Operand specifiers: where each operand stands, what is taken of it, and where a result goes.
 ghost use Rattle.std.specs.Prelude.{◌≡◌};
-ghost use Rattle.vax_machine.specs.Operands.{resolved, address_of, in_front};
+ghost use Rattle.vax_machine.specs.Operands.{address_of, in_front};
 
 use crate::machine::Machine;
 use crate::memory::{low, merged};
 use crate::turn::{BAD_CODE, Stop};
 use gg_base::{Size, w32};
-use vax_core::{Access, Addr, Base, Operand, OperandKind, Reg};
+use vax_core::{Access, Base, Operand, OperandKind, Reg};
 
 /// Where an operand stands.
 #[derive(Clone, Copy)]
@@ -62,13 +62,6 @@ impl Arguments {
     }
 }
 
-// The number that an address in an operand stands for.
-fn resolve(a: &Addr) -> u32
-    ensures { result ≡ resolved a.now }
-{
-    a.offset
-}
-
 fn address_of(location: Location) -> Result<u32, Stop>
     ensures { result ≡ address_of location }
 {
@@ -83,6 +76,7 @@ impl<'a> Machine<'a> {
     ghost use Rattle.vax_machine.specs.State.{Does, Leaves};
     ghost use Rattle.vax_machine.specs.Operands.{located, indexed, fetched, taken, evaluated, all_evaluated, put, stored, deferred};
     ghost use Rattle.vax_machine.specs.View.{state};
+    ghost use Rattle.vax_machine.specs.Tables.{base_number, HasNumbers};
 
     // The address that stands at an address.
     fn defer(&mut self, address: u32) -> Result<Location, Stop>
@@ -92,13 +86,14 @@ impl<'a> Machine<'a> {
         Ok(Location::Memory(address))
     }
 
-    // Where an operand stands but for its index; registers that the operand steps are stepped.
+    // Where an operand stands but for its index; registers that the operand steps are stepped. `number` is what the address in it stands for.
     #[tactic(auto, unfolding(crate::specs::Operands::located))]
-    fn locate(&mut self, base: &Base, size: Size) -> Result<Location, Stop>
+    fn locate(&mut self, base: &Base, number: u32, size: Size) -> Result<Location, Stop>
+        requires { number ≡ base_number self.old.program.layout.now base.now }
         ensures { Does result (state self.new) (located (state self.old) base.now size) }
     {
         match base {
-            Base::Imm(a) => Ok(Location::Number(resolve(a))),
+            Base::Imm(_) => Ok(Location::Number(number)),
             Base::Reg(r) => Ok(Location::Register(*r)),
             Base::Def(r) => Ok(Location::Memory(self.register(*r))),
             Base::Inc(r) => {
@@ -116,11 +111,11 @@ impl<'a> Machine<'a> {
                 self.set_register(*r, address)?;
                 Ok(Location::Memory(address))
             }
-            Base::Disp(d, r) => Ok(Location::Memory(w32::add(resolve(d), self.register(*r)))),
-            Base::DispDef(d, r) => self.defer(w32::add(resolve(d), self.register(*r))),
+            Base::Disp(_, r) => Ok(Location::Memory(w32::add(number, self.register(*r)))),
+            Base::DispDef(_, r) => self.defer(w32::add(number, self.register(*r))),
             Base::Abs(n) => Ok(Location::Memory(*n)),
-            Base::Rel(a) => Ok(Location::Memory(resolve(a))),
-            Base::RelDef(a) => self.defer(resolve(a)),
+            Base::Rel(_) => Ok(Location::Memory(number)),
+            Base::RelDef(_) => self.defer(number),
         }
     }
 
@@ -192,20 +187,28 @@ impl<'a> Machine<'a> {
     }
 
     #[tactic(auto, unfolding(crate::specs::Operands::evaluated))]
-    fn evaluate(&mut self, kind: OperandKind, operand: &Operand) -> Result<Evaluated, Stop>
+    fn evaluate(
+        &mut self,
+        kind: OperandKind,
+        operand: &Operand,
+        number: u32,
+    ) -> Result<Evaluated, Stop>
+        requires { number ≡ base_number self.old.program.layout.now operand.now.base }
         ensures { Does result (state self.new) (evaluated (state self.old) kind operand.now) }
     {
-        let base = self.locate(&operand.base, kind.size)?;
+        let base = self.locate(&operand.base, number, kind.size)?;
         let location = self.indexed(base, operand.index, kind.size);
         self.take(kind.access, location, kind.size)
     }
 
-    /// Evaluates the operands from left to right, of which an instruction has at most three.
+    /// Evaluates the operands from left to right, of which an instruction has at most three. `numbers` are what their addresses stand for.
     pub(crate) fn evaluate_all(
         &mut self,
         kinds: &[OperandKind],
         operands: &[Operand],
+        numbers: &[u32],
     ) -> Result<Arguments, Stop>
+        requires { HasNumbers self.old.program.layout.now kinds.now operands.now numbers.now }
         ensures { Does result (state self.new) (all_evaluated kinds.now operands.now (state self.old)) }
     {
         let [kind, kinds @ ..] = kinds else {
@@ -214,8 +217,11 @@ impl<'a> Machine<'a> {
         let [operand, operands @ ..] = operands else {
             return Err(BAD_CODE);
         };
-        let front = self.evaluate(*kind, operand)?;
-        let others = self.evaluate_all(kinds, operands)?;
+        let [number, numbers @ ..] = numbers else {
+            unreachable!();
+        };
+        let front = self.evaluate(*kind, operand, *number)?;
+        let others = self.evaluate_all(kinds, operands, numbers)?;
         Ok(others.with_front(front))
     }
 

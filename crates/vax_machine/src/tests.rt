@@ -1,11 +1,9 @@
 // Rows of short codes, each with what the VAX Architecture Handbook and the profile of this repository say of it.
-ghost use Rattle.std.specs.Prelude.{◌≡◌, [], IfOk};
-
 use crate::{Break, LoadFault, load, run_for};
 use gg_base::{End, Name};
 use std::alloc::{AllocError, Global};
 use vax_core::{
-    Addr, AreaItems, Base, Code, CodeItem, CodeItems, Instr, Op, Operand, Operands, Reg,
+    Addr, AreaItem, AreaItems, Base, Code, CodeItem, CodeItems, Instr, Op, Operand, Operands, Reg,
 };
 
 /// An operand.
@@ -17,9 +15,19 @@ enum At {
     Behind(u32, Reg),
     Address(u32),
     Named(&'static str),
+    NamedNumber(&'static str, u32),
+    Stepped(Reg),
+    SteppedPointer(Reg),
+    SteppedBack(Reg),
+    BehindNamed(&'static str, u32, Reg),
+    PointerBehind(u32, Reg),
+    NamedPointer(&'static str),
 }
 
-use At::{Address, Behind, In, Memory, Named, Number};
+use At::{
+    Address, Behind, BehindNamed, In, Memory, Named, NamedNumber, NamedPointer, Number,
+    PointerBehind, Stepped, SteppedBack, SteppedPointer,
+};
 
 /// An item of a code.
 #[derive(Clone, Copy)]
@@ -44,6 +52,13 @@ fn name(alloc: Global, text: &str) -> Result<Name, AllocError> {
     Ok(Name::from_vec(Vec::from_slice(alloc, text.as_bytes())?))
 }
 
+fn named(alloc: Global, label: &str, offset: u32) -> Result<Addr, AllocError> {
+    Ok(Addr {
+        name: Some(name(alloc, label)?),
+        offset,
+    })
+}
+
 fn base(alloc: Global, at: At) -> Result<Base, AllocError> {
     let number = |offset| Addr { name: None, offset };
     Ok(match at {
@@ -52,10 +67,14 @@ fn base(alloc: Global, at: At) -> Result<Base, AllocError> {
         Memory(r) => Base::Def(r),
         Behind(d, r) => Base::Disp(number(d), r),
         Address(n) => Base::Abs(n),
-        Named(label) => Base::Rel(Addr {
-            name: Some(name(alloc, label)?),
-            offset: 0,
-        }),
+        Named(label) => Base::Rel(named(alloc, label, 0)?),
+        NamedNumber(label, offset) => Base::Imm(named(alloc, label, offset)?),
+        Stepped(r) => Base::Inc(r),
+        SteppedPointer(r) => Base::IncDef(r),
+        SteppedBack(r) => Base::Dec(r),
+        BehindNamed(label, offset, r) => Base::Disp(named(alloc, label, offset)?, r),
+        PointerBehind(d, r) => Base::DispDef(number(d), r),
+        NamedPointer(label) => Base::RelDef(named(alloc, label, 0)?),
     })
 }
 
@@ -98,15 +117,47 @@ fn item(alloc: Global, line: Line) -> Result<CodeItem, AllocError> {
     })
 }
 
-fn code(alloc: Global, lines: &[Line]) -> Result<Code, AllocError>
-    ensures { IfOk result (λ c. c.area ≡ []) }
-{
+/// An item of the data area.
+#[derive(Clone, Copy)]
+enum Data {
+    Mark(&'static str),
+    Align(u8),
+    Byte(u8),
+    Word(u16),
+    Long(u32),
+    Pointer(&'static str, u32),
+    Space(u32),
+}
+
+use Data::{Mark, Pointer, Space};
+
+fn area_item(alloc: Global, data: Data) -> Result<AreaItem, AllocError> {
+    Ok(match data {
+        Mark(label) => AreaItem::Label(name(alloc, label)?),
+        Data::Align(k) => AreaItem::Align(k),
+        Data::Byte(n) => AreaItem::Byte(n),
+        Data::Word(n) => AreaItem::Word(n),
+        Data::Long(n) => AreaItem::Long(Addr {
+            name: None,
+            offset: n,
+        }),
+        Pointer(label, offset) => AreaItem::Long(named(alloc, label, offset)?),
+        Space(n) => AreaItem::Space(n),
+    })
+}
+
+/// A code of these data items and these lines.
+fn text(alloc: Global, area: &[Data], lines: &[Line]) -> Result<Code, AllocError> {
+    let mut layout = Vec::new(alloc);
+    for data in area {
+        layout.push(area_item(alloc, *data)?)?;
+    }
     let mut items = Vec::new(alloc);
     for line in lines {
         items.push(item(alloc, *line)?)?;
     }
     Ok(Code {
-        area: AreaItems::from_vec(Vec::new(alloc)),
+        area: AreaItems::from_vec(layout),
         items: CodeItems::from_vec(items),
     })
 }
@@ -114,7 +165,10 @@ fn code(alloc: Global, lines: &[Line]) -> Result<Code, AllocError>
 /// How the run of these lines stands after at most so many steps; nothing where they don't load, where another output is written, or where
 /// memory is short.
 fn end_of(alloc: Global, lines: &[Line], input: &str, steps: u64, output: &str) -> Option<End> {
-    let code = code(alloc, lines).ok()?;
+    let code = text(alloc, &[], lines).ok()?;
+    if !code.valid() {
+        return None;
+    }
     let mut machine = load(alloc, &code, input.as_bytes()).ok()?;
     let mut out = Vec::new(alloc);
     let end = run_for(&mut machine, steps, &mut out).ok()?;
@@ -274,6 +328,7 @@ fn runs(rt: HostRuntime) {
 #[derive(Clone, Copy, Debug, PartialEq, Eq)]
 enum Fault {
     NoFault,
+    NotValid,
     NoMemory,
     Double(u8),
     Undefined(u8),
@@ -291,9 +346,17 @@ fn second(name: &Name) -> u8 {
 
 /// The fault of these lines, with the second byte of its name.
 fn fault_of(alloc: Global, lines: &[Line]) -> Fault {
-    let Ok(code) = code(alloc, lines) else {
+    fault_in(alloc, &[], lines)
+}
+
+/// The fault of these data items and lines.
+fn fault_in(alloc: Global, area: &[Data], lines: &[Line]) -> Fault {
+    let Ok(code) = text(alloc, area, lines) else {
         return Fault::NoMemory;
     };
+    if !code.valid() {
+        return Fault::NotValid;
+    }
     match load(alloc, &code, b"") {
         Ok(_) => Fault::NoFault,
         Err(LoadFault::NoMemory) => Fault::NoMemory,
@@ -347,5 +410,59 @@ fn faults_of_loading(rt: HostRuntime) {
         fault_of(alloc, &[main, One(Op::Tstl, Named("_y"))]),
         Fault::Undefined(b'y'),
         "an operand without its label"
+    );
+}
+
+#[test]
+fn faults_of_data_areas(rt: HostRuntime) {
+    let lines = [Label("_main"), Mask(0), Ret];
+    let alloc = rt.alloc();
+    assert_eq!(rt;
+        fault_in(alloc, &[Mark("_a"), Data::Byte(1), Mark("_main")], &lines),
+        Fault::Double(b'm'),
+        "a label of the data area and of the code"
+    );
+    assert_eq!(rt;
+        fault_in(
+            alloc,
+            &[Mark("_a"), Mark("_b"), Mark("_b"), Mark("_a")],
+            &lines
+        ),
+        Fault::Double(b'a'),
+        "the first of two that stand twice"
+    );
+    assert_eq!(rt;
+        fault_in(alloc, &[Mark("_getchar")], &lines),
+        Fault::Double(b'g'),
+        "a service is no label"
+    );
+    assert_eq!(rt;
+        fault_in(alloc, &[Pointer("_main", 0)], &lines),
+        Fault::Undefined(b'm'),
+        "a label of the code has no address"
+    );
+    assert_eq!(rt;
+        fault_in(alloc, &[Mark("_a")], &[Mask(0), Jump(Op::Jbr, "_a")]),
+        Fault::Undefined(b'a'),
+        "a branch into the data area"
+    );
+    assert_eq!(rt;
+        fault_in(alloc, &[Mark("_a"), Space(1_048_576)], &lines),
+        Fault::NoFault,
+        "the largest data area"
+    );
+    assert_eq!(rt;
+        fault_in(
+            alloc,
+            &[Data::Byte(1), Space(1_048_575), Data::Byte(1)],
+            &lines
+        ),
+        Fault::TooLarge,
+        "one byte too many"
+    );
+    assert_eq!(rt;
+        fault_in(alloc, &[Data::Byte(1), Space(1_048_576)], &[Mask(0)]),
+        Fault::NoMain,
+        "no `_main` goes before a data area that is too large"
     );
 }

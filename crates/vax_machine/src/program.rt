@@ -1,0 +1,167 @@
+// A code whose names are looked up.
+ghost use Rattle.std.specs.Prelude.{◌≡◌, ◌≤◌, ◌<◌, length, map, slice_get, vec_len, IfOk};
+ghost use Rattle.std.specs.Option.{option_copied};
+ghost use Rattle.vax_machine.specs.Labels.{next_item};
+ghost use Rattle.vax_machine.specs.LaidOut.{IsLaidOut};
+ghost use Rattle.vax_machine.specs.Tables.{base_number, operand_number, target_of, links_of};
+ghost use Rattle.vax_machine.specs.Nexts.{HasNexts};
+
+use crate::area::Layout;
+use crate::label::Names;
+use gg_base::Name;
+use std::alloc::{AllocError, Global};
+use vax_core::{AreaItem, Base, CodeItem, Instr, Operand};
+
+/// What the names of an item stand for.
+#[derive(Clone, Copy)]
+pub struct Links {
+    /// The place of the label that a branch or a call names.
+    pub target: usize,
+    /// For each operand the number that its address stands for.
+    pub numbers: [u32; 3],
+}
+
+/// A code, and beside each item what its names stand for.
+#[derive(Drop)]
+pub struct Program<'a> {
+    pub layout: &'a [AreaItem],
+    pub items: &'a [CodeItem],
+    /// For each place the place of the next item from there on.
+    nexts: Vec<usize>,
+    links: Vec<Links>,
+    ghost nexts_are: { HasNexts items.now nexts.items },
+    ghost links_are: { links.items ≡ map (links_of layout.now items.now) items.now },
+}
+
+fn nexts(alloc: Global, items: &[CodeItem]) -> Result<Vec<usize>, AllocError>
+    ensures { IfOk result (λ v. HasNexts items.now v.items) }
+{
+    let mut nexts = vec![in alloc; 0usize; items.len()]?;
+    let mut next = items.len();
+    for place in (0..items.len()).rev() {
+        match &items[place] {
+            CodeItem::Label(_) | CodeItem::Globl(_) => {}
+            CodeItem::Mask(_) | CodeItem::Instr(_) => next = place,
+        }
+        nexts[place] = next;
+    }
+    Ok(nexts)
+}
+
+impl<'a> Names<'a> {
+    fn base_number(&self, layout: &Layout, base: &Base) -> u32
+        requires { IsLaidOut self.now.layout.now layout.now }
+        ensures { result ≡ base_number self.now.layout.now base.now }
+    {
+        match base {
+            Base::Imm(a)
+            | Base::Disp(a, _)
+            | Base::DispDef(a, _)
+            | Base::Rel(a)
+            | Base::RelDef(a) => self.resolve(layout, a),
+            Base::Reg(_)
+            | Base::Def(_)
+            | Base::Inc(_)
+            | Base::IncDef(_)
+            | Base::Dec(_)
+            | Base::Abs(_) => 0,
+        }
+    }
+
+    fn operand_number(&self, layout: &Layout, operand: Option<&Operand>) -> u32
+        requires { IsLaidOut self.now.layout.now layout.now }
+        ensures { result ≡ operand_number self.now.layout.now (option_copied operand.entry) }
+    {
+        match operand {
+            None => 0,
+            Some(operand) => self.base_number(layout, &operand.base),
+        }
+    }
+
+    fn target(&self, target: &Option<Name>) -> usize
+        ensures { result ≡ target_of self.now.items.now target.now }
+    {
+        match target {
+            None => 0,
+            Some(name) => self.label_place(name.as_slice()),
+        }
+    }
+
+    fn links(&self, layout: &Layout, item: &CodeItem) -> Links
+        requires { IsLaidOut self.now.layout.now layout.now }
+        ensures { result ≡ links_of self.now.layout.now self.now.items.now item.now }
+    {
+        match item {
+            CodeItem::Label(_) | CodeItem::Globl(_) | CodeItem::Mask(_) => Links {
+                target: 0,
+                numbers: [0, 0, 0],
+            },
+            CodeItem::Instr(
+                Instr {
+                    op: _,
+                    operands,
+                    target,
+                },
+            ) => {
+                let operands = operands.as_slice();
+                Links {
+                    target: self.target(target),
+                    numbers: [
+                        self.operand_number(layout, operands.get(0)),
+                        self.operand_number(layout, operands.get(1)),
+                        self.operand_number(layout, operands.get(2)),
+                    ],
+                }
+            }
+        }
+    }
+
+    fn all_links(&self, alloc: Global, layout: &Layout) -> Result<Vec<Links>, AllocError>
+        requires { IsLaidOut self.now.layout.now layout.now }
+        ensures { IfOk result (λ v. v.items ≡ map (links_of self.now.layout.now self.now.items.now) self.now.items.now) }
+    {
+        let mut all = Vec::new(alloc);
+        let items = self.items;
+        for item in items {
+            all.push(self.links(layout, item))?;
+        }
+        Ok(all)
+    }
+
+    /// The code with what its names stand for.
+    pub(crate) fn link(&self, alloc: Global, layout: &Layout) -> Result<Program<'a>, AllocError>
+        requires { IsLaidOut self.now.layout.now layout.now }
+        ensures layout { IfOk result (λ p. p.layout.now ≡ self.now.layout.now) }
+        ensures items { IfOk result (λ p. p.items.now ≡ self.now.items.now) }
+    {
+        Ok(Program {
+            layout: self.layout,
+            items: self.items,
+            nexts: nexts(alloc, self.items)?,
+            links: self.all_links(alloc, layout)?,
+        })
+    }
+}
+
+impl<'a> Program<'a> {
+    ghost use Rattle.vax_machine.specs.Tables.{links_at};
+
+    /// The place of the next item from a place on: the first that is neither a label nor a `.globl` line.
+    pub(crate) fn next_item(&self, place: usize) -> usize
+        ensures { result ≡ next_item self.now.items.now place }
+    {
+        if place < self.nexts.len() {
+            self.nexts[place]
+        } else {
+            place
+        }
+    }
+
+    /// What the names of the item at a place stand for.
+    pub(crate) fn links(&self, place: usize) -> Links
+        requires { place < length self.now.items.now }
+        ensures { result ≡ links_at self.now.layout.now self.now.items.now (slice_get self.now.items.now place) }
+    {
+        self.links[place]
+    }
+}
