@@ -1,4 +1,7 @@
 // Rows of short codes, each with what the VAX Architecture Handbook and the profile of this repository say of it.
+mod instructions;
+mod modes;
+
 use crate::{Break, LoadFault, load, run_for};
 use gg_base::{End, Name};
 use std::alloc::{AllocError, Global};
