@@ -1,0 +1,6 @@
+pub mod Related
+pub mod Ends
+pub mod Rows
+pub mod Steps
+pub mod Runs
+pub mod Begin

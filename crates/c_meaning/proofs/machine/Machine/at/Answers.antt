@@ -1,0 +1,7 @@
+use Rattle.std.proofs.Common.{arith, refl, ap, ◌∙◌, ◌≡◌, []}
+use Rattle.std.proofs.lemmas.Result.{IfOk-weaker}
+use Rattle.c_meaning.proofs.Steps.{over}
+use Rattle.c_meaning.proofs.machine.Machine.at.Goals as goal
+
+pub returns-in-Assign : goal.returns-in-Assign
+returns-in-Assign c = IfOk-weaker _ _ _ (λ event w. over w (rw (c.in-Assign.is, c.deref.ensures) refl) (rw (c.in-Assign.is, c.deref.ensures) (omega arith))) c.wait.ensures

@@ -1,0 +1,7 @@
+use Rattle.std.proofs.Common.{arith, refl, ap, ◌∙◌, ◌≡◌, []}
+use Rattle.std.proofs.lemmas.Result.{IfOk-weaker}
+use Rattle.c_meaning.proofs.Steps.{over}
+use Rattle.c_meaning.proofs.machine.Machine.turn.Goals as goal
+
+pub returns : goal.returns
+returns c = IfOk-weaker _ _ _ (λ event w. over w (rw (c.deref.ensures) refl) (omega arith)) c.count.ensures

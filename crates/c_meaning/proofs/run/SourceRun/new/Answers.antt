@@ -1,0 +1,9 @@
+use Rattle.c_program.specs.Programs.{program}
+use Rattle.c_meaning.proofs.Ends.{one_end}
+use Rattle.c_meaning.proofs.run.SourceRun.new.Goals as goal
+
+pub returns-in_err-machine-clause-one_end : goal.returns-in_err-machine-clause-one_end
+returns-in_err-machine-clause-one_end c = one_end (program c.args.program.now) c.args.input.now
+
+pub returns-clause-one_end : goal.returns-clause-one_end
+returns-clause-one_end c = one_end (program c.args.program.now) c.args.input.now

@@ -1,0 +1,123 @@
+// Calls: arguments, functions and services.
+
+ghost use Rattle.std.specs.Prelude.{◌≡◌, ◌+◌, ◌++◌, ◌∷◌, IfOk};
+ghost use Rattle.c_program.specs.Programs.{program as plain};
+ghost use Rattle.c_types.specs.Typed.{terms};
+ghost use Rattle.c_meaning.specs.Meaning.{arguments, passed, call, called, put_char, got, means};
+ghost use Rattle.std.specs.Prelude.{slice_get};
+ghost use Rattle.c_meaning.specs.Runner.{Makes, with_value, arguments_work};
+
+use crate::flow::{Event, Finish};
+use crate::frame::{Control, FlowFrame, ValueFrame};
+use crate::machine::Machine;
+use crate::store::{Activation, zeros};
+use c_program::Routine;
+use c_types::constant::convert;
+use c_types::{CType, Callee, Expression};
+use gg_base::NoMemory;
+use gg_base::limits::ACTIVE_CALL_LIMIT;
+use std::alloc::Global;
+
+impl<'a> Machine<'a> {
+    /// Evaluates the next argument of a call, or begins the call.
+    pub(crate) fn argue(
+        &mut self,
+        alloc: Global,
+        callee: Callee,
+        done: Vec<u32>,
+        to: &'a [CType],
+        rest: &'a [Expression],
+    ) -> Result<Event, NoMemory>
+        ensures { IfOk result (λ event. Makes self.old (λ κ. arguments (plain self.old.program.now) (means (plain self.old.program.now)) (terms rest.now) to.now (λ vs. call (plain self.old.program.now) (means (plain self.old.program.now)) callee (done.items ++ vs) (with_value κ))) (arguments_work (terms rest.now)) event self.new) }
+    {
+        match rest.split_first() {
+            None => self.call(alloc, callee, done),
+            Some((first, rest)) => self.wait(
+                ValueFrame::Argument(callee, done, to, rest),
+                Control::Evaluate(first),
+            ),
+        }
+    }
+
+    /// Goes on with a further argument, which is converted to its parameter's type.
+    pub(crate) fn pass(
+        &mut self,
+        alloc: Global,
+        callee: Callee,
+        done: Vec<u32>,
+        to: &'a [CType],
+        rest: &'a [Expression],
+        value: u32,
+    ) -> Result<Event, NoMemory>
+        ensures { IfOk result (λ event. Makes self.old (λ κ. passed to.now value (λ x ts. arguments (plain self.old.program.now) (means (plain self.old.program.now)) (terms rest.now) ts (λ vs. call (plain self.old.program.now) (means (plain self.old.program.now)) callee (done.items ++ x ∷ vs) (with_value κ)))) (arguments_work (terms rest.now) + 1) event self.new) }
+    {
+        match to.split_first() {
+            None => Ok(self.stop(Finish::Wild)),
+            Some((first, to)) => {
+                let mut done = done;
+                done.push(convert(*first, value))?;
+                self.argue(alloc, callee, done, to, rest)
+            }
+        }
+    }
+
+    fn call(&mut self, alloc: Global, callee: Callee, values: Vec<u32>) -> Result<Event, NoMemory>
+        ensures { IfOk result (λ event. Makes self.old (λ κ. call (plain self.old.program.now) (means (plain self.old.program.now)) callee values.items (with_value κ)) 2 event self.new) }
+    {
+        match callee {
+            Callee::Defined(number) => {
+                match self.program.routines.get(number as usize) {
+                    None => Ok(self.stop(Finish::Wild)),
+                    Some(function) => self.enter(alloc, function, values),
+                }
+            }
+            Callee::Putchar => Ok(self.put_char(&values)),
+            Callee::Getchar => Ok(self.get_char()),
+        }
+    }
+
+    // A call of a function is counted, and begins unless 1,024 calls are active.
+    fn enter(
+        &mut self,
+        alloc: Global,
+        function: &'a Routine,
+        values: Vec<u32>,
+    ) -> Result<Event, NoMemory>
+        ensures { IfOk result (λ event. Makes self.old (λ κ. called (Some (routine function.now)) (means (plain self.old.program.now)) values.items (with_value κ)) 2 event self.new) }
+    {
+        let active = self.store.active;
+        if active < ACTIVE_CALL_LIMIT {
+            let locals = zeros(alloc, function.locals.as_slice().len())?;
+            let caller = self.store.enter(Activation {
+                locals,
+                parameters: values,
+            });
+            self.count(
+                FlowFrame::Call(caller, active),
+                Control::Block(&function.body),
+            )
+        } else {
+            Ok(self.count_end(Finish::Deep))
+        }
+    }
+
+    // `putchar` writes the low byte of its argument, which is its value.
+    fn put_char(&mut self, values: &[u32]) -> Event
+        ensures { Makes self.old (λ κ. put_char values.now (with_value κ)) 2 result self.new }
+    {
+        match values.split_first() {
+            None => self.stop(Finish::Wild),
+            Some((value, _)) => self.write((*value % 0x100) as u8),
+        }
+    }
+
+    fn get_char(&mut self) -> Event
+        ensures { Makes self.old (λ κ st. got st.input (with_value κ) st) 2 result self.new }
+    {
+        let value = self.store.get();
+        self.go(Control::Value(value))
+    }
+}
+
+ghost use Rattle.std.specs.Prelude.{Some};
+ghost use Rattle.c_program.specs.Programs.{routine};

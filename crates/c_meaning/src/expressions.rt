@@ -1,0 +1,192 @@
+// Expressions, from their first step on.
+
+ghost use Rattle.std.specs.Prelude.{◌≡◌, ◌+◌, IfOk};
+ghost use Rattle.c_meaning.specs.declared.frame.Control.TheVariants as controls;
+ghost use Rattle.c_program.specs.Programs.{program as plain};
+ghost use Rattle.c_types.specs.Typed.{term};
+ghost use Rattle.c_meaning.specs.State.{address};
+ghost use Rattle.c_meaning.specs.Meaning.{or_wild, or_trap, array_address, address_of, expr, means};
+ghost use Rattle.c_meaning.specs.Runner.{Makes, Does, Resumes, before, with_value, term_work};
+ghost use Rattle.c_meaning.specs.declared.frame.Frame.TheVariants as frames;
+ghost use Rattle.c_meaning.specs.declared.frame.ValueFrame.TheVariants as waiting;
+
+use crate::flow::{Event, Finish, Flow};
+use crate::frame::{Control, Use, ValueFrame};
+use crate::machine::Machine;
+use crate::operator::{Operator, logical};
+use crate::store::{Spot, address, spot_of};
+use c_types::constant::{apply_unary, convert};
+use c_types::{Expression, Variable};
+use gg_base::NoMemory;
+use std::alloc::Global;
+
+impl<'a> Machine<'a> {
+    /// The first step of an expression.
+    pub(crate) fn evaluate(&mut self, alloc: Global, e: &'a Expression) -> Result<Event, NoMemory>
+        ensures { IfOk result (λ event. Does self.old (controls.Evaluate e.entry) event self.new) }
+    {
+        match e {
+            Expression::Number(value) => Ok(self.go(Control::Value(*value))),
+            Expression::Literal(object, _) => Ok(self.address_of_object(*object)),
+            Expression::Array(_, variable, _) => Ok(self.address_of_variable(*variable)),
+            Expression::Read(place) => self.find(place, Use::Read),
+            Expression::SizeofExpression(size, _) => Ok(self.go(Control::Value(*size))),
+            Expression::SizeofType(size) => Ok(self.go(Control::Value(*size))),
+            Expression::Address(_, place) => self.find(place, Use::Address),
+            Expression::Call(_, callee, to, arguments) => {
+                self.argue(alloc, *callee, Vec::new(alloc), to.as_slice(), arguments)
+            }
+            Expression::Step(moment, by, place) => self.find(place, Use::Step(*moment, *by)),
+            Expression::Unary(op, a) => self.wait(ValueFrame::Unary(*op), Control::Evaluate(a)),
+            Expression::Cast(to, a) => self.wait(ValueFrame::Convert(*to), Control::Evaluate(a)),
+            Expression::Convert(to, a) => self.wait(ValueFrame::Convert(*to), Control::Evaluate(a)),
+            Expression::Arithmetic(op, a, b) => self.operands(Operator::Arithmetic(*op), a, b),
+            Expression::Compare(rel, a, b) => self.operands(Operator::Compare(*rel), a, b),
+            Expression::AndAnd(a, b) => self.wait(ValueFrame::AndRight(b), Control::Evaluate(a)),
+            Expression::OrOr(a, b) => self.wait(ValueFrame::OrRight(b), Control::Evaluate(a)),
+            Expression::Advance(of, a, b) => self.operands(Operator::Advance(*of), a, b),
+            Expression::AdvanceBy(of, a, b) => self.operands(Operator::AdvanceBy(*of), a, b),
+            Expression::Retreat(of, a, b) => self.operands(Operator::Retreat(*of), a, b),
+            Expression::Distance(of, a, b) => self.operands(Operator::Distance(*of), a, b),
+            Expression::Choice(_, c, a, b) => self.wait(
+                ValueFrame::Choose(a, b),
+                Control::Evaluate(c),
+            ),
+            Expression::Assign(place, b) => self.find(place, Use::Assign(b)),
+            Expression::ArithmeticAssign(op, place, b) => self.find(place, Use::Change(*op, b)),
+            Expression::AdvanceAssign(place, b) => self.find(place, Use::Advance(b)),
+            Expression::RetreatAssign(place, b) => self.find(place, Use::Retreat(b)),
+            Expression::Comma(_, a, b) => self.wait(ValueFrame::Comma(b), Control::Evaluate(a)),
+        }
+    }
+
+    fn operands(
+        &mut self,
+        operator: Operator,
+        left: &'a Box<Expression>,
+        right: &'a Box<Expression>,
+    ) -> Result<Event, NoMemory>
+        ensures { IfOk result (λ event. Makes self.old (λ κ. expr (plain self.old.program.now) (means (plain self.old.program.now)) (term left.now.value) (with_value (before (plain self.old.program.now) (frames.ForValue (waiting.Right operator right.entry)) κ))) (term_work (term left.now.value) + term_work (term right.now.value) + 2) event self.new) }
+    {
+        self.wait(ValueFrame::Right(operator, right), Control::Evaluate(left))
+    }
+
+    fn address_of_object(&mut self, object: u32) -> Event
+        ensures { Makes self.old (λ κ. or_wild (address self.old.program.now.objects object) (with_value κ)) 2 result self.new }
+    {
+        let found = address(self.program.objects.as_slice(), object);
+        self.value_or_wild(found)
+    }
+
+    fn address_of_variable(&mut self, variable: Variable) -> Event
+        ensures { Makes self.old (λ κ. array_address (plain self.old.program.now) variable (with_value κ)) 2 result self.new }
+    {
+        let spot = spot_of(self.program.objects.as_slice(), variable);
+        match spot {
+            None => self.stop(Finish::Wild),
+            Some(spot) => self.address_of(spot),
+        }
+    }
+
+    /// The address of a place is the value.
+    pub(crate) fn address_of(&mut self, spot: Spot) -> Event
+        ensures { Makes self.old (λ κ. address_of spot (with_value κ)) 2 result self.new }
+    {
+        match spot {
+            Spot::Local(_) => self.stop(Finish::Wild),
+            Spot::Parameter(_) => self.stop(Finish::Wild),
+            Spot::Memory(address) => self.go(Control::Value(address)),
+        }
+    }
+
+    /// The value, or a wild access where there is none.
+    pub(crate) fn value_or_wild(&mut self, value: Option<u32>) -> Event
+        ensures { Makes self.old (λ κ. or_wild value (with_value κ)) 2 result self.new }
+    {
+        match value {
+            None => self.stop(Finish::Wild),
+            Some(value) => self.go(Control::Value(value)),
+        }
+    }
+
+    /// The value, or a trap where there is none.
+    fn value_or_trap(&mut self, value: Option<u32>) -> Event
+        ensures { Makes self.old (λ κ. or_trap value (with_value κ)) 2 result self.new }
+    {
+        match value {
+            None => self.stop(Finish::Trapped),
+            Some(value) => self.go(Control::Value(value)),
+        }
+    }
+
+    /// A frame, which is off the list, is given a value.
+    pub(crate) fn resume(
+        &mut self,
+        alloc: Global,
+        frame: ValueFrame<'a>,
+        value: u32,
+    ) -> Result<Event, NoMemory>
+        ensures { IfOk result (λ event. Resumes self.old frame.entry value event self.new) }
+    {
+        match frame {
+            ValueFrame::Unary(op) => Ok(self.go(Control::Value(apply_unary(op, value)))),
+            ValueFrame::Convert(to) => Ok(self.go(Control::Value(convert(to, value)))),
+            ValueFrame::Right(operator, right) => {
+                self.wait(ValueFrame::Last(operator, value), Control::Evaluate(right))
+            }
+            ValueFrame::Last(operator, left) => Ok(self.value_or_trap(operator.combine(
+                left, value,
+            ))),
+            ValueFrame::AndRight(right) => {
+                if value == 0 {
+                    Ok(self.go(Control::Value(0)))
+                } else {
+                    self.wait(ValueFrame::Truth, Control::Evaluate(right))
+                }
+            }
+            ValueFrame::OrRight(right) => {
+                if value == 0 {
+                    self.wait(ValueFrame::Truth, Control::Evaluate(right))
+                } else {
+                    Ok(self.go(Control::Value(1)))
+                }
+            }
+            ValueFrame::Truth => Ok(self.go(Control::Value(logical(value)))),
+            ValueFrame::Choose(a, b) => Ok(self.go(Control::Evaluate(if value == 0 {
+                b
+            } else {
+                a
+            }))),
+            ValueFrame::Comma(right) => Ok(self.go(Control::Evaluate(right))),
+            ValueFrame::Found(of, then) => self.at(of, Spot::Memory(value), then),
+            ValueFrame::Assign(of, spot) => Ok(self.assign(of, spot, value)),
+            ValueFrame::Change(of, spot, operator, old) => Ok(self.change(
+                of, spot, operator, old, value,
+            )),
+            ValueFrame::Argument(callee, done, to, rest) => self.pass(
+                alloc, callee, done, to, rest, value,
+            ),
+            ValueFrame::Forget => Ok(self.go(Control::Left(Flow::Onward))),
+            ValueFrame::Begin(local, rest) => Ok(self.begin(local, value, rest)),
+            ValueFrame::If(a) => Ok(self.choose(
+                value,
+                Control::Perform(a),
+                Control::Left(Flow::Onward),
+            )),
+            ValueFrame::IfElse(a, b) => Ok(self.choose(
+                value,
+                Control::Perform(a),
+                Control::Perform(b),
+            )),
+            ValueFrame::Return => Ok(self.go(Control::Left(Flow::Returned(value)))),
+            ValueFrame::Test(of) => {
+                if value == 0 {
+                    Ok(self.go(Control::Left(Flow::Onward)))
+                } else {
+                    self.turn(of)
+                }
+            }
+            ValueFrame::Look(of) => self.look(of),
+        }
+    }
+}

@@ -1,0 +1,174 @@
+// Statements, from their first step on.
+
+ghost use Rattle.std.specs.Prelude.{◌≡◌, ◌+◌, IfOk};
+ghost use Rattle.c_program.specs.Programs.{program as plain};
+ghost use Rattle.c_program.specs.Statements.{maybe_term};
+ghost use Rattle.c_meaning.specs.declared.frame.Control.TheVariants as controls;
+ghost use Rattle.c_meaning.specs.Meaning.{chosen, local_set, look_at, turn_at, means, Look};
+ghost use Rattle.c_meaning.specs.Runner.{Makes, Does, GoesOn, going, with_flow, maybe_bor, loop_of, loop_work, control_work};
+
+use crate::flow::{Event, Finish, Flow};
+use crate::frame::{Control, FlowFrame, Loop, ValueFrame};
+use crate::machine::Machine;
+use c_program::{Action, Declaration};
+use c_types::Expression;
+use gg_base::NoMemory;
+
+impl<'a> Machine<'a> {
+    /// The first step of a statement.
+    pub(crate) fn perform(&mut self, action: &'a Action) -> Result<Event, NoMemory>
+        ensures { IfOk result (λ event. Does self.old (controls.Perform action.entry) event self.new) }
+    {
+        match action {
+            Action::Declare(declarations) => Ok(self.go(Control::Declare(declarations))),
+            Action::Block(actions) => Ok(self.go(Control::Block(actions))),
+            Action::Evaluate(e) => self.wait(ValueFrame::Forget, Control::Evaluate(e)),
+            Action::Break => Ok(self.go(Control::Left(Flow::Broke))),
+            Action::Continue => Ok(self.go(Control::Left(Flow::Continued))),
+            Action::Return(value) => self.give_back(value),
+            Action::If(c, a) => self.wait(ValueFrame::If(a), Control::Evaluate(c)),
+            Action::IfElse(c, a, b) => self.wait(ValueFrame::IfElse(a, b), Control::Evaluate(c)),
+            Action::While(c, body) => self.look(Loop {
+                condition: Some(c),
+                step: None,
+                body,
+            }),
+            Action::Do(body, c) => self.turn(Loop {
+                condition: Some(c),
+                step: None,
+                body,
+            }),
+            Action::For(first, c, step, body) => {
+                let whole = Loop {
+                    condition: part(c),
+                    step: part(step),
+                    body,
+                };
+                match first {
+                    None => self.look(whole),
+                    Some(e) => self.wait(ValueFrame::Look(whole), Control::Evaluate(e)),
+                }
+            }
+        }
+    }
+
+    // A `return`, with its value if it has one.
+    fn give_back(&mut self, value: &'a Option<Expression>) -> Result<Event, NoMemory>
+        ensures { IfOk result (λ event. Makes self.old (λ κ. returned (plain self.old.program.now) (means (plain self.old.program.now)) (maybe_term value.now) (with_flow κ)) (maybe_work (maybe_term value.now) + 2) event self.new) }
+    {
+        match value {
+            None => Ok(self.go(Control::Left(Flow::Returned(0)))),
+            Some(e) => self.wait(ValueFrame::Return, Control::Evaluate(e)),
+        }
+    }
+
+    /// The first of these statements, before those behind it.
+    pub(crate) fn block(&mut self, actions: &'a [Action]) -> Result<Event, NoMemory>
+        ensures { IfOk result (λ event. Does self.old (controls.Block actions.entry) event self.new) }
+    {
+        match actions.split_first() {
+            None => Ok(self.go(Control::Left(Flow::Onward))),
+            Some((first, rest)) => self.watch(FlowFrame::Statements(rest), Control::Perform(first)),
+        }
+    }
+
+    /// The first of these declarations, before those behind it.
+    pub(crate) fn declare(&mut self, declarations: &'a [Declaration]) -> Result<Event, NoMemory>
+        ensures { IfOk result (λ event. Does self.old (controls.Declare declarations.entry) event self.new) }
+    {
+        match declarations.split_first() {
+            None => Ok(self.go(Control::Left(Flow::Onward))),
+            Some((Declaration::Keep(_), rest)) => Ok(self.go(Control::Declare(rest))),
+            Some((Declaration::Clear(local), rest)) => Ok(self.begin(*local, 0, rest)),
+            Some((Declaration::Begin(local, e), rest)) => {
+                if self.store.put_local(*local, 0) {
+                    self.wait(ValueFrame::Begin(*local, rest), Control::Evaluate(e))
+                } else {
+                    Ok(self.stop(Finish::Wild))
+                }
+            }
+        }
+    }
+
+    /// An automatic local becomes a value, and declarations follow.
+    pub(crate) fn begin(&mut self, local: u32, value: u32, rest: &'a [Declaration]) -> Event
+        ensures { Makes self.old (λ κ. local_set (plain self.old.program.now) (means (plain self.old.program.now)) local value (going (plain self.old.program.now) (controls.Declare rest.entry) κ)) (control_work (controls.Declare rest.entry) + 1) result self.new }
+    {
+        if self.store.put_local(local, value) {
+            self.go(Control::Declare(rest))
+        } else {
+            self.stop(Finish::Wild)
+        }
+    }
+
+    /// What is done behind a condition.
+    pub(crate) fn choose(&mut self, value: u32, yes: Control<'a>, no: Control<'a>) -> Event
+        ensures { Makes self.old (λ κ st. chosen value (going (plain self.old.program.now) yes.entry κ st) (going (plain self.old.program.now) no.entry κ st)) (control_work yes.entry + control_work no.entry + 1) result self.new }
+    {
+        self.go(if value == 0 { no } else { yes })
+    }
+
+    /// A look at a loop's condition, if it has one.
+    pub(crate) fn look(&mut self, at: Loop<'a>) -> Result<Event, NoMemory>
+        ensures { IfOk result (λ event. Makes self.old (λ κ. look_at (plain self.old.program.now) (means (plain self.old.program.now)) (loop_of at.entry) (with_flow κ)) (loop_work (loop_of at.entry)) event self.new) }
+    {
+        match at.condition {
+            None => self.turn(at),
+            Some(c) => self.wait(ValueFrame::Test(at), Control::Evaluate(c)),
+        }
+    }
+
+    /// A turn of a loop is counted, and begins.
+    pub(crate) fn turn(&mut self, of: Loop<'a>) -> Result<Event, NoMemory>
+        ensures { IfOk result (λ event. Makes self.old (λ κ. turn_at (plain self.old.program.now) (means (plain self.old.program.now)) (loop_of of.entry) (with_flow κ)) 0 event self.new) }
+    {
+        self.count(FlowFrame::Turn(of), Control::Perform(of.body))
+    }
+
+    /// A frame, which is off the list, is told how a statement was left.
+    pub(crate) fn go_on(&mut self, frame: FlowFrame<'a>, flow: Flow) -> Result<Event, NoMemory>
+        ensures { IfOk result (λ event. GoesOn self.old frame.entry flow event self.new) }
+    {
+        match frame {
+            FlowFrame::Statements(rest) => match flow {
+                Flow::Onward => Ok(self.go(Control::Block(rest))),
+                Flow::Broke => Ok(self.go(Control::Left(Flow::Broke))),
+                Flow::Continued => Ok(self.go(Control::Left(Flow::Continued))),
+                Flow::Returned(value) => Ok(self.go(Control::Left(Flow::Returned(value)))),
+            },
+            FlowFrame::Turn(of) => match flow {
+                Flow::Onward => self.again(of),
+                Flow::Broke => Ok(self.go(Control::Left(Flow::Onward))),
+                Flow::Continued => self.again(of),
+                Flow::Returned(value) => Ok(self.go(Control::Left(Flow::Returned(value)))),
+            },
+            FlowFrame::Call(caller, active) => {
+                self.store.leave(caller, active);
+                Ok(self.go(Control::Value(flow.answer())))
+            }
+        }
+    }
+
+    // What is done behind a turn, and then the next look.
+    fn again(&mut self, of: Loop<'a>) -> Result<Event, NoMemory>
+        ensures { IfOk result (λ event. Makes self.old (λ κ. dropped (plain self.old.program.now) (means (plain self.old.program.now)) (loop_of of.entry).step (means (plain self.old.program.now) (Look (loop_of of.entry)) (with_flow κ))) (again_to_do (loop_of of.entry)) event self.new) }
+    {
+        match of.step {
+            None => self.look(of),
+            Some(e) => self.wait(ValueFrame::Look(of), Control::Evaluate(e)),
+        }
+    }
+}
+
+// A part of a `for`, if it is there.
+fn part(e: &Option<Expression>) -> Option<&Expression>
+    ensures { maybe_bor result ≡ maybe_term e.now }
+{
+    match e {
+        None => None,
+        Some(e) => Some(e),
+    }
+}
+
+ghost use Rattle.c_meaning.specs.Meaning.{dropped, returned};
+ghost use Rattle.c_meaning.specs.Runner.{again_to_do, maybe_work};

@@ -1,0 +1,192 @@
+// Where values are kept.
+
+ghost use Rattle.std.specs.Prelude.{◌≡◌, ◌<◌, ◌+◌, [], IfOk, is_some, unwrap_or, replicate};
+ghost use Rattle.std.specs.Option.{option_copied};
+ghost use Rattle.c_meaning.specs.State.{access_size, held, put_local, put, spot_of, address};
+ghost use Rattle.c_meaning.specs.Runner.{state, activation, got_byte, got_rest};
+
+use c_types::constant::convert;
+use c_types::{CType, Integer, Variable};
+use gg_base::Size;
+use std::alloc::{AllocError, Global};
+use std::mem;
+use tree_core::Object;
+use tree_core::area::{fetch, store};
+
+/// Where a value is kept: an automatic local or a parameter of the call that runs, or memory at an address.
+#[derive(Clone, Copy, Debug, PartialEq, Eq)]
+pub enum Spot {
+    Local(u32),
+    Parameter(u32),
+    Memory(u32),
+}
+
+/// The automatic locals and the parameters of a call, each by its number.
+#[derive(Drop)]
+pub(crate) struct Activation {
+    pub(crate) locals: Vec<u32>,
+    pub(crate) parameters: Vec<u32>,
+}
+
+/// What a program reads and changes: the call that runs, the data area, the input that is left, and how many calls are
+/// active.
+#[derive(Drop)]
+pub(crate) struct Store<'a> {
+    pub(crate) call: Activation,
+    pub(crate) area: Vec<u8>,
+    pub(crate) input: &'a [u8],
+    pub(crate) active: u32,
+}
+
+/// The bytes that a value of a type takes in memory. None for `void`.
+pub(crate) fn access_size(of: CType) -> Option<Size>
+    ensures { result ≡ access_size of }
+{
+    match of {
+        CType::Void => None,
+        CType::Integer(Integer::Char) => Some(Size::Byte),
+        CType::Integer(Integer::UnsignedChar) => Some(Size::Byte),
+        CType::Integer(Integer::Short) => Some(Size::Word),
+        CType::Integer(Integer::UnsignedShort) => Some(Size::Word),
+        CType::Integer(Integer::Int) => Some(Size::Long),
+        CType::Pointer(_, _) => Some(Size::Long),
+    }
+}
+
+/// The address of an object, by its number. None where there is no such object.
+pub(crate) fn address(objects: &[Object], number: u32) -> Option<u32>
+    ensures { result ≡ address objects.now number }
+{
+    Some(objects.get(number as usize)?.address)
+}
+
+/// Where a variable is kept. None for the variable of an object that there is not.
+pub(crate) fn spot_of(objects: &[Object], variable: Variable) -> Option<Spot>
+    ensures { result ≡ spot_of objects.now variable }
+{
+    match variable {
+        Variable::Automatic(number) => Some(Spot::Local(number)),
+        Variable::Parameter(number) => Some(Spot::Parameter(number)),
+        Variable::Global(object) => Some(Spot::Memory(address(objects, object)?)),
+        Variable::Static(object) => Some(Spot::Memory(address(objects, object)?)),
+    }
+}
+
+/// So many zeros.
+pub(crate) fn zeros(alloc: Global, count: usize) -> Result<Vec<u32>, AllocError>
+    ensures { IfOk result (λ v. v.items ≡ replicate count 0) }
+{
+    let mut zeros = Vec::new(alloc);
+    for _ in 0..count {
+        zeros.push(0)?;
+    }
+    Ok(zeros)
+}
+
+impl<'a> Store<'a> {
+    /// Before the first call, which has these locals and no parameters.
+    pub(crate) fn begin(
+        alloc: Global,
+        locals: Vec<u32>,
+        area: Vec<u8>,
+        input: &'a [u8],
+    ) -> Store<'a>
+        ensures { state result ≡ record { call = record { locals = locals.items; parameters = [] }; area = area.items; input = input.now; active = 1 } }
+    {
+        let call = Activation {
+            locals,
+            parameters: Vec::new(alloc),
+        };
+        Store {
+            call,
+            area,
+            input,
+            active: 1,
+        }
+    }
+
+    /// The value of a type that is kept somewhere. None where there is no such local or parameter, or where a byte of it
+    /// lies outside the data area.
+    pub(crate) fn held(&self, of: CType, spot: Spot) -> Option<u32>
+        ensures { result ≡ held of spot (state self.now) }
+    {
+        match spot {
+            Spot::Local(number) => self.call.locals.get(number as usize).copied(),
+            Spot::Parameter(number) => self.call.parameters.get(number as usize).copied(),
+            Spot::Memory(address) => {
+                let value = fetch(&self.area, access_size(of)?, address)?;
+                Some(convert(of, value))
+            }
+        }
+    }
+
+    /// Puts a value into an automatic local. False, with nothing changed, where there is no such local.
+    pub(crate) fn put_local(&mut self, number: u32, value: u32) -> bool
+        ensures done { result ≡ is_some (put_local number value (state self.old)) }
+        ensures new { state self.new ≡ unwrap_or (put_local number value (state self.old)) (state self.old) }
+    {
+        let number = number as usize;
+        if number < self.call.locals.len() {
+            self.call.locals[number] = value;
+            true
+        } else {
+            false
+        }
+    }
+
+    /// Puts a value that is converted to a type somewhere. False, with nothing changed, where there is no such local or
+    /// parameter, or where a byte of it lies outside the data area.
+    pub(crate) fn put(&mut self, of: CType, spot: Spot, value: u32) -> bool
+        ensures done { result ≡ is_some (put of spot value (state self.old)) }
+        ensures new { state self.new ≡ unwrap_or (put of spot value (state self.old)) (state self.old) }
+    {
+        match spot {
+            Spot::Local(number) => self.put_local(number, value),
+            Spot::Parameter(number) => {
+                let number = number as usize;
+                if number < self.call.parameters.len() {
+                    self.call.parameters[number] = value;
+                    true
+                } else {
+                    false
+                }
+            }
+            Spot::Memory(address) => match access_size(of) {
+                None => false,
+                Some(size) => store(&mut self.area, size, address, value),
+            },
+        }
+    }
+
+    /// The next byte of the input, or -1 at its end.
+    pub(crate) fn get(&mut self) -> u32
+        ensures value { result ≡ got_byte (state self.old).input }
+        ensures rest { state self.new ≡ record (state self.old) { input = got_rest (state self.old).input } }
+    {
+        match self.input.split_first() {
+            None => u32::MAX,
+            Some((byte, rest)) => {
+                self.input = rest;
+                u32::from(*byte)
+            }
+        }
+    }
+
+    /// Begins a call, and answers the one that waits for it.
+    pub(crate) fn enter(&mut self, call: Activation) -> Activation
+        requires { self.old.active < 1024 }
+        ensures caller { result ≡ self.old.call }
+        ensures new { state self.new ≡ record (state self.old) { call = activation call; active = self.old.active + 1 } }
+    {
+        self.active += 1;
+        mem::replace(&mut self.call, call)
+    }
+
+    /// Goes back to the call that waits, of so many active ones.
+    pub(crate) fn leave(&mut self, caller: Activation, active: u32)
+        ensures { state self.new ≡ record (state self.old) { call = activation caller; active = active } }
+    {
+        self.call = caller;
+        self.active = active;
+    }
+}
