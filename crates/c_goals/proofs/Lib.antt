@@ -4,3 +4,15 @@ pub mod Steps
 pub mod Going
 pub mod Stating
 pub mod Prefix
+pub mod Yields
+pub mod Spelled
+pub mod Inserts
+pub mod Joins
+pub mod UnitJoins
+pub mod Turning
+pub mod Completing
+pub mod Forgetting
+pub mod Viable
+pub mod Levelling
+pub mod Faults
+pub mod Lowness
