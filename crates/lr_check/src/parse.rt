@@ -104,7 +104,8 @@ impl Parse {
         rule: &Rule,
         first: Entry,
     ) -> Result<Option<Outcome>, NoMemory>
-        ensures { IfOk result (λ o. record { ending = o; config = self.new } ≡ placed self.old self.old.stack rule.now first (target_at tables.now (top_of self.old.stack) (sym.Class rule.now.left))) }
+        ensures { let target = target_at tables.now (top_of self.old.stack) (sym.Class rule.now.left) in
+            IfOk result (λ o. record { ending = o; config = self.new } ≡ placed self.old self.old.stack rule.now first target) }
     {
         match tables.go(top_of(self.stack.as_slice()), rule.left) {
             None => Ok(Some(Outcome::Blocks(self.at as u64))),
@@ -130,7 +131,8 @@ impl Parse {
         choice: Choice,
     ) -> Result<Option<Outcome>, NoMemory>
         requires { IfSome next (λ _. self.old.at < 2 ^ 63) }
-        ensures { IfOk result (λ o. record { ending = o; config = self.new } ≡ after_choice tables.now next self.old self.old.stack (Some choice)) }
+        ensures { let after = after_choice tables.now next self.old self.old.stack (Some choice) in
+            IfOk result (λ o. record { ending = o; config = self.new } ≡ after) }
     {
         match choice {
             Choice::Accept => Ok(Some(Outcome::Done)),
