@@ -10,3 +10,4 @@ pub mod Choosing
 pub mod Seen
 pub mod Meaning
 pub mod Law
+pub mod Only

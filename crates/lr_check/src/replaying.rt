@@ -1,5 +1,6 @@
 // The parse of a sample by the tables.
-ghost use Rattle.std.specs.Prelude.{length, IfOk};
+ghost use Rattle.std.specs.Prelude.{◌≡◌, length, IfOk};
+ghost use Rattle.lr_check.specs.declared.sample.Outcome.{Outcome};
 ghost use Rattle.lr_check.specs.Tree.{IsSample};
 ghost use Rattle.lr_check.specs.Steps.{first_config};
 ghost use Rattle.lr_check.specs.Running.{Halts, Computes};
@@ -49,6 +50,8 @@ pub fn replay(alloc: Global, tables: &Tables, sample: &Sample) -> Result<Outcome
     requires { IsSample sample.now }
     // The parse over the description's rules ends so; a tree of more than 100,000 tokens is `Long`.
     ensures parse { IfOk result (λ o. Replays tables.now.content sample.now o) }
+    // It ends in no other way.
+    ensures only { IfOk result (λ o. (p : Outcome) → Replays tables.now.content sample.now p → p ≡ o) }
     // The steps of the code over the tables end so.
     ensures steps { IfOk result (λ o. Computes tables.now sample.now o) }
 {
