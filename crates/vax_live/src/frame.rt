@@ -1,4 +1,6 @@
-// Live frames.
+// One live frame.
+ghost use Rattle.std.specs.Prelude.{◌≡◌};
+ghost use Rattle.vax_live.specs.Control.{overlaps};
 
 /// The frame of a call that has not returned. Its control words take their room in the stack, from `fp` up to `top`; what they hold is kept
 /// here, and no instruction may touch that room.
@@ -16,4 +18,13 @@ pub struct Frame {
     pub saved: [u32; 15],
     /// The place of the item to go on at; None where the `ret` ends the run.
     pub back: Option<usize>,
+}
+
+impl Frame {
+    /// Whether the byte at an address is one of its control words.
+    pub fn holds(&self, address: u32) -> bool
+        ensures { result ≡ overlaps self.now address 1 }
+    {
+        self.fp <= address && address < self.top
+    }
 }
