@@ -1,7 +1,7 @@
-// The items of the first command's codes.
+// The items of the codes of the first form.
 ghost use Rattle.std.specs.Prelude.{◌≡◌, [], ◌∷◌, None, IfOk};
 ghost use Rattle.vax_core.specs.First.{instr, act_item, entry};
-ghost use Rattle.first_text.specs.Reading.{act_of};
+ghost use Rattle.first_code.specs.Code.{act_of};
 ghost use Rattle.vax_core.specs.declared.operand.Base.TheVariants as bases;
 
 use crate::stack_op::StackOp;
