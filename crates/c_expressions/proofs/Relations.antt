@@ -12,7 +12,7 @@ use Rattle.c_scope.specs.declared.entry.Entry.TheVariants as entries
 use Rattle.c_scope.specs.declared.entry.Signature.{Signature}
 use Rattle.c_scope.specs.Scopes.{Scope, find, lookup}
 use Rattle.c_scope.specs.Layout.{Area, literal}
-use Rattle.c_syntax.specs.Phrases.{AnExp, name, number, str, paren, call, index, step_after, step_before, prefix, sizeof_exp, sizeof_type, cast, binary, choice, assign, comma, SomeExps, no_exps, exps}
+use Rattle.c_phrases.specs.Phrases.{AnExp, name, number, str, paren, call, index, step_after, step_before, prefix, sizeof_exp, sizeof_type, cast, binary, choice, assign, comma, SomeExps, no_exps, exps}
 use Rattle.c_expressions.specs.Expressions.{written, named_by, named, is_function_by, is_function, callee, called, beside, sizeof_unless, type_exp, type_exps}
 use Rattle.c_expressions.specs.Relations.{Joint, FirstOf, Within, Behind, Beside, Unless, Refuses, Passes, IsNamed, NamesVariable, NamesArray, NamedFault, NamesNothing, NamesFunction, IsTyped, AreTyped, FirstFault, FirstFaultOf}
 

@@ -1,7 +1,7 @@
 -- The types of expressions, and the first fault.
 use Rattle.std.specs.Prelude.{ℕ, ◌+◌, ◌-◌, ◌==◌, Bool, true, false, List, [], ◌∷◌, length, slice_get, Option, Some, None, Result, Ok, if◌then◌else◌}
-use Rattle.c_syntax.specs.declared.operator.Spec.{Spec}
-use Rattle.c_syntax.specs.declared.operator.Spec.TheVariants as specs
+use Rattle.c_phrases.specs.declared.operator.Spec.{Spec}
+use Rattle.c_phrases.specs.declared.operator.Spec.TheVariants as specs
 use Rattle.c_types.specs.declared.types.CType.{CType}
 use Rattle.c_types.specs.declared.types.CType.TheVariants as types
 use Rattle.c_types.specs.declared.types.Integer.{Integer}
@@ -16,7 +16,7 @@ use Rattle.c_rules.specs.Rules.{fits, binary_of, prefix_of, index_of, step, cast
 use Rattle.c_scope.specs.declared.entry.Entry.{Entry}
 use Rattle.c_scope.specs.declared.entry.Entry.TheVariants as entries
 use Rattle.c_scope.specs.declared.entry.Signature.{Signature}
-use Rattle.c_syntax.specs.Phrases.{AnExp, name, number, str, paren, call, index, step_after, step_before, prefix, sizeof_exp, sizeof_type, cast, binary, choice, assign, comma, SomeExps, no_exps, exps}
+use Rattle.c_phrases.specs.Phrases.{AnExp, name, number, str, paren, call, index, step_after, step_before, prefix, sizeof_exp, sizeof_type, cast, binary, choice, assign, comma, SomeExps, no_exps, exps}
 use Rattle.c_expressions.specs.Phrases.{first}
 use Rattle.c_scope.specs.Scopes.{Scope, find, lookup}
 use Rattle.c_scope.specs.Layout.{Area, literal}

@@ -1,6 +1,6 @@
 // What an expression is typed as, and which fault is its first.
 ghost use Rattle.std.specs.Prelude.{ℕ, List};
-ghost use Rattle.c_syntax.specs.Phrases.{AnExp};
+ghost use Rattle.c_phrases.specs.Phrases.{AnExp};
 ghost use Rattle.c_rules.specs.Table.{Means};
 ghost use Rattle.c_scope.specs.declared.entry.Entry.{Entry};
 ghost use Rattle.c_scope.specs.declared.entry.Signature.{Signature};

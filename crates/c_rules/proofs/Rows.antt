@@ -3,8 +3,8 @@ use Rattle.std.proofs.Common.{◌≡◌, ℕ, Bool, true, false, ◌&&◌, ◌||
 use Rattle.std.specs.Prelude.{IfOk, IfErr}
 use Rattle.gg_base.specs.declared.relation.Rel.{Rel}
 use Rattle.gg_base.specs.declared.relation.Rel.TheVariants as rels
-use Rattle.c_syntax.specs.declared.operator.BinaryOperator.{BinaryOperator}
-use Rattle.c_syntax.specs.declared.operator.BinaryOperator.TheVariants as binaries
+use Rattle.c_phrases.specs.declared.operator.BinaryOperator.{BinaryOperator}
+use Rattle.c_phrases.specs.declared.operator.BinaryOperator.TheVariants as binaries
 use Rattle.c_types.specs.declared.types.CType.{CType}
 use Rattle.c_types.specs.declared.types.Integer as integers
 use Rattle.c_types.specs.declared.types.CType.TheVariants.{Void, Integer, Pointer}

@@ -2,14 +2,14 @@
 use Rattle.std.specs.Prelude.{ℕ, Bool, true, false, ◌||◌, ◌&&◌, Option, Some, None, Result, Ok, if◌then◌else◌}
 use Rattle.gg_base.specs.declared.relation.Rel.{Rel}
 use Rattle.gg_base.specs.declared.relation.Rel.TheVariants as rels
-use Rattle.c_syntax.specs.declared.operator.BinaryOperator.{BinaryOperator}
-use Rattle.c_syntax.specs.declared.operator.BinaryOperator.TheVariants as binaries
-use Rattle.c_syntax.specs.declared.operator.PrefixOperator.{PrefixOperator}
-use Rattle.c_syntax.specs.declared.operator.PrefixOperator.TheVariants as prefixes
-use Rattle.c_syntax.specs.declared.operator.StepOperator.{StepOperator}
-use Rattle.c_syntax.specs.declared.operator.StepOperator.TheVariants as steps
-use Rattle.c_syntax.specs.declared.operator.AssignOperator.{AssignOperator}
-use Rattle.c_syntax.specs.declared.operator.AssignOperator.TheVariants as assigns
+use Rattle.c_phrases.specs.declared.operator.BinaryOperator.{BinaryOperator}
+use Rattle.c_phrases.specs.declared.operator.BinaryOperator.TheVariants as binaries
+use Rattle.c_phrases.specs.declared.operator.PrefixOperator.{PrefixOperator}
+use Rattle.c_phrases.specs.declared.operator.PrefixOperator.TheVariants as prefixes
+use Rattle.c_phrases.specs.declared.operator.StepOperator.{StepOperator}
+use Rattle.c_phrases.specs.declared.operator.StepOperator.TheVariants as steps
+use Rattle.c_phrases.specs.declared.operator.AssignOperator.{AssignOperator}
+use Rattle.c_phrases.specs.declared.operator.AssignOperator.TheVariants as assigns
 use Rattle.c_types.specs.declared.types.CType.{CType}
 use Rattle.c_types.specs.declared.types.CType.TheVariants.{Void, Integer, Pointer}
 use Rattle.c_types.specs.declared.types.Integer.TheVariants.{Int}

@@ -5,7 +5,7 @@ ghost use Rattle.c_types.specs.Typed.{term, place_of};
 ghost use Rattle.c_rules.specs.Rules.{store, arithmetic_store, plus_store, minus_store, store_by, assign_of};
 
 use crate::rules::fits;
-use c_syntax::operator::AssignOperator;
+use c_phrases::operator::AssignOperator;
 use c_types::fault::bad_type;
 use c_types::{ArithmeticOperator, CType, Expression, Place, TypeFault};
 use std::alloc::Global;

@@ -1,6 +1,6 @@
 // The table of binary operators, row by row.
 ghost use Rattle.std.specs.Prelude.{ℕ};
-ghost use Rattle.c_syntax.specs.declared.operator.BinaryOperator.{BinaryOperator};
+ghost use Rattle.c_phrases.specs.declared.operator.BinaryOperator.{BinaryOperator};
 ghost use Rattle.c_types.specs.declared.fault.TypeKind.TheVariants.{BadType};
 ghost use Rattle.c_types.specs.Typed.{Term};
 ghost use Rattle.c_rules.specs.Rules.{binary_of};

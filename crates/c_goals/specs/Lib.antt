@@ -1,0 +1,4 @@
+pub mod Goals
+pub mod Machine
+pub mod Openings
+pub mod Refusals

@@ -1,0 +1,9 @@
+pub mod Classes
+pub mod Phrases
+pub mod Levels
+pub mod Shapes
+pub mod Takes
+pub mod Units
+pub mod Fits
+pub mod UnitShapes
+pub mod Fronts

@@ -1,0 +1,13 @@
+pub mod Orders
+pub mod Numbered
+pub mod Falling
+pub mod Running
+pub mod Covered
+pub mod Parts
+pub mod Chosen
+pub mod Stepping
+pub mod Choosing
+pub mod Seen
+pub mod Meaning
+pub mod Law
+pub mod Only

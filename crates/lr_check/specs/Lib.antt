@@ -1,0 +1,5 @@
+pub mod Tree
+pub mod Parse
+pub mod Order
+pub mod Steps
+pub mod Running

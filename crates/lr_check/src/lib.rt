@@ -1,0 +1,13 @@
+//! Trees with answers, and how their parse by the tables ends.
+#![tactic(auto)]
+
+mod ordering;
+mod parse;
+mod replaying;
+mod sample;
+mod stack;
+#[cfg(test)]
+mod tests;
+
+pub use replaying::replay;
+pub use sample::{Outcome, Sample, SampleNode};
