@@ -16,3 +16,4 @@ pub mod Viable
 pub mod Levelling
 pub mod Faults
 pub mod Lowness
+pub mod Ended

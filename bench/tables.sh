@@ -1,0 +1,88 @@
+#!/bin/sh
+# Times `md_tables` on the shipped description, which it reads and builds, and on a hostile one with too many item sets, which it
+# refuses, against a plain Rust program on the same two.
+# Usage: bench/tables.sh [ROUNDS]; the least of ROUNDS (default 20) runs counts for each.
+# MD_REFERENCE names the folder of the plain program, a Cargo project whose command `states F` builds the item sets of the description
+# in the file F and writes `states N .., rules R, ..`. Where it isn't set or isn't there, nothing is compared.
+set -eu
+here=$(CDPATH='' cd -- "$(dirname -- "$0")/.." && pwd)
+rounds=${1:-20}
+reference=${MD_REFERENCE:-}
+
+if [ -z "$reference" ] || [ ! -f "$reference/Cargo.toml" ]; then
+    echo "skipped: MD_REFERENCE names no folder of a plain program"
+    exit 0
+fi
+work=$(mktemp -d)
+trap 'rm -rf "$work"' EXIT
+
+cargo build --quiet --release --manifest-path "$reference/Cargo.toml" --target-dir "$work/target"
+plain=$(find "$work/target/release" -maxdepth 1 -type f -perm -u+x | head -n 1)
+(cd "$here/crates/md_tables" && rt run) <"$here/crates/md_tables/stdin" >/dev/null 2>&1
+
+python3 - "$here" "$plain" "$work" "$rounds" <<'PY'
+import re
+import subprocess
+import sys
+import time
+
+here, plain, work, rounds = sys.argv[1], sys.argv[2], sys.argv[3], int(sys.argv[4])
+program = f"{here}/crates/md_tables/out/md_tables"
+
+HEAD = """version 1
+target vax
+pool r0
+class reg Reg
+class stmt Nothing
+spill value b movb %1,%0
+spill value w movw %1,%0
+spill value l movl %1,%0
+spill place b movab %1,%0
+spill place w movaw %1,%0
+spill place l moval %1,%0
+spill ea movab %1,%0
+reload movl %1,%0
+"""
+END = "rule stmt : Ret reg\n  do movl %2,r0\n  do ret\n  give nothing\n"
+
+
+def hostile():
+    """A rule for each number below 999: ten unary tokens are its binary digits."""
+    rules = []
+    for number in range(999):
+        digits = " ".join("Com" if digit == "1" else "Neg" for digit in f"{number:010b}")
+        rules.append(f"rule reg : {digits} Plus One Plus One One\n  give fresh\n")
+    return HEAD + "".join(rules) + END
+
+
+def shipped():
+    """The text of the constant."""
+    with open(f"{here}/crates/gg_texts/src/vax.rt") as file:
+        return re.search(r'"(#.*)";', file.read(), re.S).group(1)
+
+
+def least(words, given):
+    best, told = None, ""
+    for _ in range(rounds):
+        begin = time.perf_counter()
+        done = subprocess.run(words, input=given, stdout=subprocess.PIPE, check=True)
+        spent = time.perf_counter() - begin
+        best, told = spent if best is None else min(best, spent), done.stdout.decode().strip()
+    return best, told
+
+
+slow = 0
+for name, text, most in (("shipped", shipped(), 5), ("hostile", hostile(), 10)):
+    path = f"{work}/{name}.gg"
+    with open(path, "w") as file:
+        file.write(text)
+    theirs, wanted = least([plain, "states", path], b"")
+    ours, told = least([program], text.encode())
+    found = re.match(r"states (\d+) .*rules (\d+)", wanted)
+    states, rules = int(found.group(1)), int(found.group(2))
+    expected = f"{rules} rules, {states} item sets" if states <= 4096 else "more than 4096 item sets"
+    assert told == expected, (told, expected)
+    print(f"{name}: {told}; {ours / theirs:.1f} times the plain program's time (at most {most})")
+    slow += ours > most * theirs
+sys.exit(1 if slow else 0)
+PY

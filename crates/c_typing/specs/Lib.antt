@@ -1,0 +1,5 @@
+pub mod Initialisers
+pub mod Forms
+pub mod Declarations
+pub mod Statements
+pub mod Texts

@@ -1,0 +1,2 @@
+//! What the declarations, statements and texts of C are typed as, or which fault is their first: definitions alone.
+#![tactic(auto)]
