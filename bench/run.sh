@@ -1,6 +1,6 @@
 #!/bin/sh
 # Compares `ggvax run` with a plain Rust runner of the same texts: the answers on 1,000 generated texts, which must be equal, and the
-# instructions a second on three loops.
+# instructions a second on four texts.
 # Usage: bench/run.sh [TEXTS [SEED]]; TEXTS (default 1000) generated texts from the seed SEED (default 1) on.
 # VAX_REFERENCE names the folder of the plain runner, a Cargo project whose commands are `run A N` and `gentext S`, `genwild S`,
 # `genbad S`. Where it isn't set or isn't there, nothing is compared.
@@ -65,6 +65,9 @@ LOOPS = {
     "stack": "\tmovl\t$3000000,r1\nL1:\n\tpushl\tr1\n\taddl2\t$3,(sp)\n\tmovl\t(sp)+,r2\n\tdecl\tr1\n\tjneq\tL1\n\tret\n",
     "calls": "\tmovl\t$600000,r6\nL1:\n\tpushl\tr6\n\tcalls\t$1,_f\n\tdecl\tr6\n\tjneq\tL1\n\tret\n"
     "_f:\n\t.word\t4\n\tmovl\t4(ap),r2\n\tmull2\tr2,r2\n\tmovl\tr2,r0\n\tret\n",
+    # Up to 4,002 calls are live at once.
+    "recursion": "\tmovl\t$1000,r6\nL1:\n\tpushl\t$4000\n\tcalls\t$1,_f\n\tdecl\tr6\n\tjneq\tL1\n\tret\n"
+    "_f:\n\t.word\t0\n\tsubl3\t$1,4(ap),r0\n\tjlss\tL2\n\tpushl\tr0\n\tcalls\t$1,_f\nL2:\n\tret\n",
 }
 STEPS = 20_000_000
 ROUNDS = 3

@@ -1,4 +1,7 @@
-//! The types of C expressions: what each expression is typed as, and which fault is its first.
+//! The types of C expressions, and the first fault of each.
 #![tactic(auto)]
 
 pub mod law;
+pub mod phrase;
+
+pub use phrase::{Functions, expression, first, integer_of, written};

@@ -4,3 +4,4 @@ pub mod Rows
 pub mod Steps
 pub mod Runs
 pub mod Begin
+pub mod Unbroken

@@ -2,7 +2,7 @@
 use Rattle.std.proofs.Common.{◌≡◌, ℕ, zero, suc, ◌+◌, ◌<◌, ◌≤◌, List, [], ◌∷◌, Option, Some, None, refl, ap, arith}
 use Rattle.std.specs.Prelude.{slice_get, nat_lt, Bool, true, false, if◌then◌else◌}
 use Rattle.gg_base.specs.declared.run.End.{End}
-use Rattle.gg_base.specs.declared.run.End.TheVariants.{Trapped, Wild, Deep, Spent}
+use Rattle.gg_base.specs.declared.run.End.TheVariants.{Ended, Trapped, Wild, Deep, Spent, Broken}
 use Rattle.gg_base.specs.Runs.{Runs, stop, byte_first, emit, one_first, counted}
 use Rattle.c_types.specs.declared.types.CType.{CType}
 use Rattle.c_types.specs.declared.typed.Callee.{Callee}
@@ -21,10 +21,19 @@ use Rattle.c_meaning.specs.declared.flow.Flow.TheVariants.{Onward, Broke, Contin
 use Rattle.c_meaning.specs.State.{State, address, spot_of, held, put_local, put}
 use Rattle.c_meaning.specs.Meaning.{Rest, RestAll, RestAt, Behind, ALoop, plain_loop, for_loop, Task, Look, Body, Next, chosen, or_wild, or_trap, written, read_at, store_at, stepped, of_moment, step_at, address_of, located, array_address, passed, put_char, got, back, begun, called, call, expr, place, arguments, dropped, tested, turned, turn_by, look_by, returned, local_set, declared, followed, stmt, stmts, task, task_at, means}
 
+-- what the meaning stops with
+abbrev pub IsStop : End → Type 0
+IsStop (Ended v) = Unit {0}
+IsStop Trapped = Unit {0}
+IsStop Wild = Unit {0}
+IsStop Deep = Unit {0}
+IsStop Spent = ⊥
+IsStop (Broken kind) = ⊥
+
 -- A relation for each number of counted turns and calls, kept by all that the meaning is made of.
 pub record Kept (R : ℕ → Runs → Runs → Type 0) : Type 0 where
   pub none : (r q : Runs) → R zero r q
-  pub stops : (k : ℕ) (e : End) → (e ≡ Spent → ⊥) → R k (stop e) (stop e)
+  pub stops : (k : ℕ) (e : End) → IsStop e → R k (stop e) (stop e)
   pub emits : (k b : ℕ) (r q : Runs) → R k r q → R k (emit b r) (emit b q)
   pub counts : (k : ℕ) (r q : Runs) → R k r q → R (suc k) (counted r) (counted q)
   pub weakens : (j k : ℕ) (r q : Runs) → j ≤ k → R k r q → R j r q
@@ -56,15 +65,15 @@ module _ (R : ℕ → Runs → Runs → Type 0) (kept : Kept R) where
   chosen_kept k (suc x) r q r' q' h h' = h
 
   wild_kept : (k : ℕ) (o : Option ℕ) (κ μ : Rest) → OnRest R k κ μ → OnState R k (or_wild o κ) (or_wild o μ)
-  wild_kept k None κ μ h st = kept.stops k Wild (λ e. cc)
+  wild_kept k None κ μ h st = kept.stops k Wild tt
   wild_kept k (Some v) κ μ h st = h v st
 
   trap_kept : (k : ℕ) (o : Option ℕ) (κ μ : Rest) → OnRest R k κ μ → OnState R k (or_trap o κ) (or_trap o μ)
-  trap_kept k None κ μ h st = kept.stops k Trapped (λ e. cc)
+  trap_kept k None κ μ h st = kept.stops k Trapped tt
   trap_kept k (Some v) κ μ h st = h v st
 
   written_kept : (k : ℕ) (o : Option State) (v : ℕ) (κ μ : Rest) → OnRest R k κ μ → R k (written o v κ) (written o v μ)
-  written_kept k None v κ μ h = kept.stops k Wild (λ e. cc)
+  written_kept k None v κ μ h = kept.stops k Wild tt
   written_kept k (Some st) v κ μ h = h v st
 
   read_kept : (k : ℕ) (t : CType) (s : Spot) (κ μ : Rest) → OnRest R k κ μ → OnState R k (read_at t s κ) (read_at t s μ)
@@ -77,20 +86,20 @@ module _ (R : ℕ → Runs → Runs → Type 0) (kept : Kept R) where
   step_kept k m by t s κ μ h = read_kept k t s _ _ (λ x. store_kept k t s (stepped by t x) _ _ (λ y. h (of_moment m x y)))
 
   address_kept : (k : ℕ) (s : Spot) (κ μ : Rest) → OnRest R k κ μ → OnState R k (address_of s κ) (address_of s μ)
-  address_kept k (Local n) κ μ h st = kept.stops k Wild (λ e. cc)
-  address_kept k (Parameter n) κ μ h st = kept.stops k Wild (λ e. cc)
+  address_kept k (Local n) κ μ h st = kept.stops k Wild tt
+  address_kept k (Parameter n) κ μ h st = kept.stops k Wild tt
   address_kept k (Memory a) κ μ h st = h a st
 
   located_kept : (k : ℕ) (o : Option Spot) (κ μ : Spot → State → Runs) → ((s : Spot) (st : State) → R k (κ s st) (μ s st)) → OnState R k (located o κ) (located o μ)
-  located_kept k None κ μ h st = kept.stops k Wild (λ e. cc)
+  located_kept k None κ μ h st = kept.stops k Wild tt
   located_kept k (Some s) κ μ h st = h s st
 
   passed_kept : (k : ℕ) (ts : List CType) (v : ℕ) (κ μ : ℕ → List CType → State → Runs) → ((x : ℕ) (us : List CType) (st : State) → R k (κ x us st) (μ x us st)) → OnState R k (passed ts v κ) (passed ts v μ)
-  passed_kept k [] v κ μ h st = kept.stops k Wild (λ e. cc)
+  passed_kept k [] v κ μ h st = kept.stops k Wild tt
   passed_kept k (t ∷ ts) v κ μ h st = h _ ts st
 
   put_kept : (k : ℕ) (vs : List ℕ) (κ μ : Rest) → OnRest R k κ μ → OnState R k (put_char vs κ) (put_char vs μ)
-  put_kept k [] κ μ h st = kept.stops k Wild (λ e. cc)
+  put_kept k [] κ μ h st = kept.stops k Wild tt
   put_kept k (v ∷ vs) κ μ h st = kept.emits k _ _ _ (h _ st)
 
   got_kept : (k : ℕ) (i : List ℕ) (κ μ : Rest) → OnRest R k κ μ → OnState R k (got i κ) (got i μ)
@@ -115,10 +124,10 @@ module _ (R : ℕ → Runs → Runs → Type 0) (kept : Kept R) where
   module _ (p : AProgram) (n : ℕ) (f g : Next) (close : (k : ℕ) → k ≤ n → OnNext R k f g) where
     entered_kept : (k : ℕ) → k ≤ n → (b : Bool) (h : ARoutine) (vs : List ℕ) (κ μ : Rest) → OnRest R k κ μ → (st : State) → R k (if b then f (Body h.body) (back κ st) (begun h vs st) else stop Deep) (if b then g (Body h.body) (back μ st) (begun h vs st) else stop Deep)
     entered_kept k le true h vs κ μ s st = close k le (Body h.body) (back κ st) (back μ st) (λ w st'. s _ _) (begun h vs st)
-    entered_kept k le false h vs κ μ s st = kept.stops k Deep (λ e. cc)
+    entered_kept k le false h vs κ μ s st = kept.stops k Deep tt
 
     called_kept : (k : ℕ) → k ≤ suc n → (o : Option ARoutine) (vs : List ℕ) (κ μ : Rest) → OnRest R k κ μ → OnState R k (called o f vs κ) (called o g vs μ)
-    called_kept k le None vs κ μ s st = kept.stops k Wild (λ e. cc)
+    called_kept k le None vs κ μ s st = kept.stops k Wild tt
     called_kept k le (Some h) vs κ μ s st =
         counted_kept k _ _ (λ j lt. entered_kept j (omega arith) (nat_lt st.active 1024) h vs κ μ (λ v st'. kept.weakens j k _ _ (omega arith) (s v st')) st)
 

@@ -1,6 +1,8 @@
 // The run of a program, event by event.
 
 ghost use Rattle.std.specs.Prelude.{◌≡◌, ◌≤◌, true, false, List, ℕ, IfOk, IfErr, IsErr};
+ghost use Rattle.gg_base.specs.declared.run.Break.{Break as ABreak};
+ghost use Rattle.gg_base.specs.declared.run.End.TheVariants.{Broken};
 ghost use Rattle.gg_base.specs.Runs.{OneEnd, Advances};
 ghost use Rattle.c_program.specs.Programs.{AProgram, program as plain};
 ghost use Rattle.c_meaning.specs.State.{State};
@@ -38,7 +40,7 @@ impl<'a> Model for SourceRun<'a> {
 }
 
 impl<'a> SourceRun<'a> {
-    // The law of all runs of a program stands here, as a clause of its own: `one_end`.
+    // The laws of all runs of a program stand here, as clauses of their own: `one_end`, and that none breaks.
     /// The run of a program on an input, with at most `n` counted turns of loops and calls.
     pub fn new(
         alloc: Global,
@@ -48,6 +50,7 @@ impl<'a> SourceRun<'a> {
     ) -> Result<SourceRun<'a>, NoMemory>
         ensures begins { IfOk result (λ run. run ≡ record { outcome = source (plain program.now) input.now n; taken = 0; failed = false }) }
         ensures one_end { OneEnd (source (plain program.now) input.now) }
+        ensures unbroken { (count : ℕ) (kind : ABreak) → (source (plain program.now) input.now count).end ≡ Broken kind → ⊥ }
     {
         let machine = Machine::new(alloc, program, input)?;
         Ok(SourceRun {

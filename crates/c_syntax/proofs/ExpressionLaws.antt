@@ -3,21 +3,24 @@ use Rattle.std.proofs.Common.{◌≡◌, ◌<◌, ◌≤◌, ℕ, ◌+◌, List,
 use Rattle.std.specs.declared.vec.Vec.{Vec}
 use Rattle.std.specs.declared.alloc.Global.{Global}
 use Rattle.c_tokens.specs.declared.marks.Mark.TheVariants as marks
-use Rattle.c_syntax.specs.declared.operator.BinaryOperator.{BinaryOperator}
-use Rattle.c_syntax.specs.declared.operator.BinaryOperator.TheVariants as binaries
-use Rattle.c_syntax.specs.declared.tree.Expr.{Expr, Row_of-Expr, end_of-Expr, more_of-Expr, items-the_row-Expr}
-use Rattle.c_syntax.specs.declared.tree.Expr.TheBlock.{hidden-the_row-Expr-0, items_hidden-the_row-Expr-0}
-use Rattle.c_syntax.specs.declared.tree.Expr.TheVariants.{Call}
-use Rattle.c_syntax.specs.Classes.{Placed, sign}
-use Rattle.c_syntax.specs.Phrases.{AnExp, name, number, str, paren, call, index, step_after, step_before, prefix, sizeof_exp, sizeof_type, cast, binary, choice, assign, comma, SomeExps, no_exps, exps, onto_exp, onto_first, onto_others, onto_type, onto_spec, onto_stars, onto_int, onto_name, IsAt, AllAt, level_of, binary_mark, step_mark, assign_mark}
-use Rattle.c_syntax.specs.declared.tree.TypeName.{TypeName}
-use Rattle.c_syntax.specs.declared.operator.Spec.{Spec}
-use Rattle.c_syntax.specs.declared.operator.Spec.TheVariants as specs
+use Rattle.c_phrases.specs.declared.operator.BinaryOperator.{BinaryOperator}
+use Rattle.c_phrases.specs.declared.operator.BinaryOperator.TheVariants as binaries
+use Rattle.c_phrases.specs.declared.tree.Expr.{Expr, Row_of-Expr, end_of-Expr, more_of-Expr, items-the_row-Expr}
+use Rattle.c_phrases.specs.declared.tree.Expr.TheBlock.{hidden-the_row-Expr-0, items_hidden-the_row-Expr-0}
+use Rattle.c_phrases.specs.declared.tree.Expr.TheVariants.{Call}
+use Rattle.c_phrases.specs.Classes.{Placed, sign}
+use Rattle.c_phrases.specs.Phrases.{AnExp, name, number, str, paren, call, index, step_after, step_before, prefix, sizeof_exp, sizeof_type, cast, binary, choice, assign, comma, SomeExps, no_exps, exps, onto_exp, onto_first, onto_others, onto_type, onto_spec, onto_stars, onto_int, onto_name, IsAt, AllAt, level_of, binary_mark, step_mark, assign_mark}
+use Rattle.c_phrases.specs.declared.tree.TypeName.{TypeName}
+use Rattle.c_phrases.specs.declared.operator.Spec.{Spec}
+use Rattle.c_phrases.specs.declared.operator.Spec.TheVariants as specs
 use Rattle.std.specs.Prelude.{Option, Some, None, true}
 use Rattle.std.proofs.lemmas.Bool.Decides.{nat_tests}
-use Rattle.c_syntax.specs.Levels.{LowExp, LowExps, limit}
-use Rattle.c_syntax.specs.Shapes.{exp, exps_row, exp_list}
-use Rattle.c_syntax.specs.Reads.{Quiet, IsPart, IsRead, Ready, IsSome, ArgumentsSoFar, ReadsArguments, mark_strength}
+use Rattle.c_phrases.specs.Levels.{LowExp, LowExps, limit}
+use Rattle.c_phrases.specs.Shapes.{exp, exps_row, exp_list}
+use Rattle.c_phrases.specs.Fronts.{Quiet, mark_strength}
+use Rattle.c_goals.proofs.PhraseLaws.{lower, binary_strength, level_top, quieter, limit_low}
+use Rattle.c_goals.specs.Goals.{Want, CallTail}
+use Rattle.c_syntax.specs.Reads.{Leads, IsPart, IsRead, Ready, IsSome, ArgumentsSoFar, ReadsArguments}
 
 -- a call's arguments as a list
 exps_is : (c : _) (row : Row_of-Expr c) → exps_row row ≡ exp_list (items-the_row-Expr c row)
@@ -29,6 +32,9 @@ call_is n at o list = ap (call n at o) (exps_is _ (hidden-the_row-Expr-0 list) �
 
 pub call_as : (n m : ℕ) (f : List ℕ) (at o : ℕ) (ts : List Placed) (list : Vec Expr Global) (rest : List Placed) → IsPart n ts (call f at o (exp_list list.items)) rest m → IsPart n ts (exp (Call f at o list)) rest m
 call_as n m f at o ts list rest h = subst (λ (x : AnExp). IsPart n ts x rest m) (sym (call_is f at o list)) h
+
+pub call_led : (n m : ℕ) (f : List ℕ) (at o : ℕ) (ts : List Placed) (list : Vec Expr Global) (rest : List Placed) → Leads (Want (CallTail f at)) n ts (call f at o (exp_list list.items)) m rest → Leads (Want (CallTail f at)) n ts (exp (Call f at o list)) m rest
+call_led n m f at o ts list rest h = subst (λ (x : AnExp). Leads (Want (CallTail f at)) n ts x m rest) (sym (call_is f at o list)) h
 
 -- one more at the end
 abbrev pub exps_end : SomeExps → AnExp → SomeExps
@@ -118,69 +124,6 @@ mutual
 pub arguments_shorter : (n m : ℕ) (rest after behind : List Placed) (e : AnExp) → rest ≡ sign marks.Comma 0 ∷ after → IsRead 1 1 n after e behind m → length behind < length rest
 arguments_shorter n m rest after behind e f r = omega (arith, ap length f, ap length r.text, longer_exp e behind)
 
--- a phrase of a higher number stands where a lower one may
-pub lower : (j k : ℕ) (e : AnExp) → j ≤ k → IsAt k e → IsAt j e
-lower j k (name n at) le h = tt
-lower j k (number v at) le h = tt
-lower j k (str b at) le h = tt
-lower j k (paren o e) le h = h
-lower j k (call n at o es) le h = h
-lower j k (index e o i) le h = (omega (arith, h.0), h.1)
-lower j k (step_after e op at) le h = (omega (arith, h.0), h.1)
-lower j k (step_before op at e) le h = (omega (arith, h.0), h.1)
-lower j k (prefix op at e) le h = (omega (arith, h.0), h.1)
-lower j k (sizeof_exp at e) le h = (omega (arith, h.0), h.1)
-lower j k (sizeof_type at o t) le h = omega (arith, h)
-lower j k (cast o t e) le h = (omega (arith, h.0), h.1)
-lower j k (binary l op at r) le h = (omega (arith, h.0), h.1)
-lower j k (choice c at e d) le h = (omega (arith, h.0), h.1)
-lower j k (assign p op at v) le h = (omega (arith, h.0), h.1)
-lower j k (comma l r) le h = (omega (arith, h.0), h.1)
-
-binary_strength : (op : BinaryOperator) → mark_strength (binary_mark op) ≡ level_of op + 1
-binary_strength binaries.OrOr = refl
-binary_strength binaries.AndAnd = refl
-binary_strength binaries.Or = refl
-binary_strength binaries.Xor = refl
-binary_strength binaries.And = refl
-binary_strength binaries.Equal = refl
-binary_strength binaries.NotEqual = refl
-binary_strength binaries.Less = refl
-binary_strength binaries.LessEqual = refl
-binary_strength binaries.Greater = refl
-binary_strength binaries.GreaterEqual = refl
-binary_strength binaries.ShiftLeft = refl
-binary_strength binaries.ShiftRight = refl
-binary_strength binaries.Add = refl
-binary_strength binaries.Subtract = refl
-binary_strength binaries.Multiply = refl
-binary_strength binaries.Divide = refl
-binary_strength binaries.Remainder = refl
-
-level_top : (op : BinaryOperator) → level_of op ≤ 12
-level_top binaries.OrOr = omega arith
-level_top binaries.AndAnd = omega arith
-level_top binaries.Or = omega arith
-level_top binaries.Xor = omega arith
-level_top binaries.And = omega arith
-level_top binaries.Equal = omega arith
-level_top binaries.NotEqual = omega arith
-level_top binaries.Less = omega arith
-level_top binaries.LessEqual = omega arith
-level_top binaries.Greater = omega arith
-level_top binaries.GreaterEqual = omega arith
-level_top binaries.ShiftLeft = omega arith
-level_top binaries.ShiftRight = omega arith
-level_top binaries.Add = omega arith
-level_top binaries.Subtract = omega arith
-level_top binaries.Multiply = omega arith
-level_top binaries.Divide = omega arith
-level_top binaries.Remainder = omega arith
-
-quieter : (j k : ℕ) (ts : List Placed) → j ≤ k → Quiet j ts → Quiet k ts
-quieter j k [] le q = tt
-quieter j k (t ∷ ts) le q = omega (arith, q)
-
 -- the operator takes what stands in front of it as its left operand
 pub ready_more : (lowest : ℕ) (l r : AnExp) (op : BinaryOperator) (at : ℕ) (ts after rest : List Placed) → Ready lowest l ts → ts ≡ sign (binary_mark op) at ∷ after → lowest ≤ level_of op → IsAt (level_of op + 1) r → Quiet (level_of op + 1) rest → Ready lowest (binary l op at r) rest
 ready_more lowest l r op at ts after rest d e le h q =
@@ -197,9 +140,6 @@ ready_more lowest l r op at ts after rest d e le h q =
 
 pub ready_as : (lowest p q : ℕ) (l r a b : AnExp) (op : BinaryOperator) (at : ℕ) (ts after rest : List Placed) → Ready lowest l ts → ts ≡ sign (binary_mark op) at ∷ after → p ≡ level_of op → q ≡ level_of op → lowest ≤ p → IsAt (q + 1) r → Quiet (q + 1) rest → a ≡ l → b ≡ r → Ready lowest (binary a op at b) rest
 ready_as lowest p q l r a b op at ts after rest d e f g le h i j k = rw (j, k) (ready_more lowest l r op at ts after rest d e (omega arith) (rw g at h) (rw g at i))
-
-limit_low : (m : ℕ) → m ≤ 200 → limit m ≡ true
-limit_low m le = grind (arith, nat_tests)
 
 pub call_read : (n m : ℕ) (f : List ℕ) (at o : ℕ) (ts after : List Placed) (es : SomeExps) (rest : List Placed) → ts ≡ sign marks.OpenParenthesis o ∷ after → (m ≡ n + 2) × (n + 2 ≤ 200) → ReadsArguments m after es rest → IsPart n (onto_name f at ts) (call f at o es) rest (n + 1)
 call_read n m f at o ts after es rest e up r =

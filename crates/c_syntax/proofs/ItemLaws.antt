@@ -6,21 +6,21 @@ use Rattle.std.specs.declared.vec.Vec.{Vec}
 use Rattle.std.specs.declared.alloc.Global.{Global}
 use Rattle.c_tokens.specs.declared.words.Key.TheVariants as keys
 use Rattle.c_tokens.specs.declared.marks.Mark.TheVariants as marks
-use Rattle.c_syntax.specs.declared.operator.Spec.{Spec}
-use Rattle.c_syntax.specs.declared.operator.Spec.TheVariants as specs
-use Rattle.c_syntax.specs.declared.operator.Storage.{Storage}
-use Rattle.c_syntax.specs.declared.operator.Storage.TheVariants as storages
-use Rattle.c_syntax.specs.declared.tree.Item.{Item}
-use Rattle.c_syntax.specs.declared.tree.Item.TheVariants.{Local, Statement}
-use Rattle.c_syntax.specs.declared.tree.Item.TheBlock.{hidden-the_row-Item-0, items_hidden-the_row-Item-0}
-use Rattle.c_syntax.specs.declared.tree.Statement.{Row_of-Item, end_of-Item, more_of-Item, items-the_row-Item}
-use Rattle.c_syntax.specs.declared.tree.Statement.TheVariants.{Block}
-use Rattle.c_syntax.specs.Classes.{Placed, word, sign}
-use Rattle.c_syntax.specs.Phrases.{AnExp, onto_spec, onto_int}
-use Rattle.c_syntax.specs.Levels.{limit}
-use Rattle.c_syntax.specs.Units.{AStatement, block, empty, expression, break_off, continue_on, give_back, if_then, if_else, while_loop, do_loop, for_loop, SomeItems, no_items, local_item, statement_item, ADeclarator, ALocal, onto_part, onto_condition, onto_statement, onto_items, onto_local, onto_storage, onto_declarators, onto_more_declarators}
-use Rattle.c_syntax.specs.Fits.{ItemsFit, LowItems}
-use Rattle.c_syntax.specs.UnitShapes.{local_of, statement_of, item_onto, items_row, items_of}
+use Rattle.c_phrases.specs.declared.operator.Spec.{Spec}
+use Rattle.c_phrases.specs.declared.operator.Spec.TheVariants as specs
+use Rattle.c_phrases.specs.declared.operator.Storage.{Storage}
+use Rattle.c_phrases.specs.declared.operator.Storage.TheVariants as storages
+use Rattle.c_phrases.specs.declared.tree.Item.{Item}
+use Rattle.c_phrases.specs.declared.tree.Item.TheVariants.{Local, Statement}
+use Rattle.c_phrases.specs.declared.tree.Item.TheBlock.{hidden-the_row-Item-0, items_hidden-the_row-Item-0}
+use Rattle.c_phrases.specs.declared.tree.Statement.{Row_of-Item, end_of-Item, more_of-Item, items-the_row-Item}
+use Rattle.c_phrases.specs.declared.tree.Statement.TheVariants.{Block}
+use Rattle.c_phrases.specs.Classes.{Placed, word, sign}
+use Rattle.c_phrases.specs.Phrases.{AnExp, onto_spec, onto_int}
+use Rattle.c_phrases.specs.Levels.{limit}
+use Rattle.c_phrases.specs.Units.{AStatement, block, empty, expression, break_off, continue_on, give_back, if_then, if_else, while_loop, do_loop, for_loop, SomeItems, no_items, local_item, statement_item, ADeclarator, ALocal, onto_part, onto_condition, onto_statement, onto_items, onto_local, onto_storage, onto_declarators, onto_more_declarators}
+use Rattle.c_phrases.specs.Fits.{ItemsFit, LowItems}
+use Rattle.c_phrases.specs.UnitShapes.{local_of, statement_of, item_onto, items_row, items_of}
 use Rattle.c_syntax.specs.Stands.{ReadsItems, ReadsStatement}
 use Rattle.c_syntax.proofs.ExpressionLaws.{longer_exp}
 use Rattle.c_syntax.proofs.ListLaws.{longer_declarator}

@@ -1,13 +1,10 @@
 pub mod Seen
-pub mod Tokens
+pub mod Stops
 pub mod TypeExits
 pub mod ExpressionLaws
-pub mod Parts
-pub mod Runs
-pub mod Steps
-pub mod Going
-pub mod Stating
-pub mod Unique
+pub mod Exits
+pub mod Closing
 pub mod ListLaws
 pub mod ItemLaws
 pub mod UnitLaws
+pub mod Parsing

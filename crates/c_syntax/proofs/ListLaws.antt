@@ -2,14 +2,14 @@
 use Rattle.std.proofs.Common.{◌≡◌, ◌<◌, ◌≤◌, ℕ, List, [], ◌∷◌, ◌++◌, length, refl, sym, ◌∙◌, ap, subst, arith}
 use Rattle.std.specs.Prelude.{Option, Some, None, Bool, true, false}
 use Rattle.c_tokens.specs.declared.marks.Mark.TheVariants as marks
-use Rattle.c_syntax.specs.declared.tree.Declarator.{Declarator}
-use Rattle.c_syntax.specs.Classes.{Placed, sign}
-use Rattle.c_syntax.specs.Phrases.{AnExp, SomeExps, no_exps, exps, onto_first, onto_stars, onto_name}
-use Rattle.c_syntax.specs.Levels.{LowExps, limit}
+use Rattle.c_phrases.specs.declared.tree.Declarator.{Declarator}
+use Rattle.c_phrases.specs.Classes.{Placed, sign}
+use Rattle.c_phrases.specs.Phrases.{AnExp, SomeExps, no_exps, exps, onto_first, onto_stars, onto_name}
+use Rattle.c_phrases.specs.Levels.{LowExps, limit}
 use Rattle.c_syntax.specs.Reads.{ArgumentsSoFar, IsSome as IsSomeExps}
-use Rattle.c_syntax.specs.Units.{ALength, AnInit, value, elements, AnInitialised, ADeclarator, onto_part, onto_length, onto_trailing, onto_init, onto_initialised, onto_declarator, onto_more_declarators, onto_declarators}
-use Rattle.c_syntax.specs.Fits.{DeclaratorFits, DeclaratorsFit, HasDeclarator, IsSome, LowDeclarator, LowDeclarators}
-use Rattle.c_syntax.specs.UnitShapes.{declarator_of, declarators_of}
+use Rattle.c_phrases.specs.Units.{ALength, AnInit, value, elements, AnInitialised, ADeclarator, onto_part, onto_length, onto_trailing, onto_init, onto_initialised, onto_declarator, onto_more_declarators, onto_declarators}
+use Rattle.c_phrases.specs.Fits.{DeclaratorFits, DeclaratorsFit, HasDeclarator, IsSome, LowDeclarator, LowDeclarators}
+use Rattle.c_phrases.specs.UnitShapes.{declarator_of, declarators_of}
 use Rattle.c_syntax.specs.Stands.{ReadsElements, ReadsDeclarator, DeclaratorsSoFar}
 use Rattle.c_syntax.proofs.ExpressionLaws.{longer_exp, longer_first}
 

@@ -1,11 +1,12 @@
 -- Tokens as the phrases see them.
-use Rattle.std.proofs.Common.{◌≡◌, suc, List, [], ◌∷◌, length, refl, ap}
+use Rattle.std.proofs.Common.{◌≡◌, ◌<◌, suc, List, [], ◌∷◌, length, refl, ap, arith}
 use Rattle.c_tokens.specs.declared.token.Token.{Token}
 use Rattle.c_tokens.specs.declared.token.Token.TheVariants as token
 use Rattle.c_tokens.specs.declared.token.Spanned.{Spanned}
 use Rattle.c_tokens.specs.declared.marks.Mark.{Mark}
-use Rattle.c_syntax.specs.Classes.{Placed, seen}
-use Rattle.c_syntax.specs.Takes.{NoMark, NoBinary, NoPrefix, NoStep, NoAssign, NoBinaryMark, NoPrefixMark, NoStepMark, NoAssignMark}
+use Rattle.c_phrases.specs.Classes.{Placed, seen}
+use Rattle.c_syntax.specs.Stands.{HasToken}
+use Rattle.c_phrases.specs.Takes.{NoMark, NoBinary, NoPrefix, NoStep, NoAssign, NoBinaryMark, NoPrefixMark, NoStepMark, NoAssignMark}
 
 pub length_seen : (ts : List Spanned) → length (seen ts) ≡ length ts
 length_seen [] = refl
@@ -42,3 +43,7 @@ no_assign (t ∷ ts) h = by t.kind h
     by : (k : Token) → ((m : Mark) → k ≡ token.Mark m → ⊥) → NoAssignMark k
     by (token.Mark m) h = absurd (h m refl)
     by k h = tt
+
+pub has_token : (ts : List Spanned) → 0 < length ts → HasToken (seen ts)
+has_token [] h = absurd (omega (arith, h))
+has_token (t ∷ ts) h = tt

@@ -4,18 +4,19 @@ use Rattle.std.specs.Prelude.{Option, Some, None}
 use Rattle.c_tokens.specs.declared.token.Token.TheVariants as token
 use Rattle.c_tokens.specs.declared.words.Key.TheVariants as keys
 use Rattle.c_tokens.specs.declared.marks.Mark.TheVariants as marks
-use Rattle.c_syntax.specs.declared.operator.Spec.{Spec}
-use Rattle.c_syntax.specs.declared.operator.Spec.TheVariants as specs
-use Rattle.c_syntax.specs.declared.tree.Param.{Param}
-use Rattle.c_syntax.specs.declared.tree.Named.{Named}
-use Rattle.c_syntax.specs.declared.tree.External.{External}
-use Rattle.c_syntax.specs.Classes.{Placed, word, sign}
-use Rattle.c_syntax.specs.Phrases.{onto_spec, onto_stars, onto_name}
-use Rattle.c_syntax.specs.Levels.{limit}
-use Rattle.c_syntax.specs.Units.{ALength, AParam, SomeParams, no_params, void_word, params, SomeItems, AnExternal, ADeclared, function, globals, onto_params, onto_body, onto_length, onto_named, onto_param, onto_more_params, onto_param_list, onto_external, onto_externals, onto_static, onto_declared}
-use Rattle.c_syntax.specs.Fits.{ParamFits, ParamsFit, IsVoid, IsBare, SomeParamsFit, ExternalsFit, LowLength, LowParams, LowExternals}
-use Rattle.c_syntax.specs.UnitShapes.{param_of, param_list, external_of, externals_of}
-use Rattle.c_syntax.specs.Stands.{ReadsParam, HasParam, ParamsSoFar, ReadsParams, NoVoidAlone, ReadsExternal, ReadsExternals, IsUnit}
+use Rattle.c_phrases.specs.declared.operator.Spec.{Spec}
+use Rattle.c_phrases.specs.declared.operator.Spec.TheVariants as specs
+use Rattle.c_phrases.specs.declared.tree.Param.{Param}
+use Rattle.c_phrases.specs.declared.tree.Named.{Named}
+use Rattle.c_phrases.specs.declared.tree.External.{External}
+use Rattle.c_phrases.specs.Classes.{Placed, word, sign}
+use Rattle.c_phrases.specs.Phrases.{onto_spec, onto_stars, onto_name}
+use Rattle.c_phrases.specs.Levels.{limit}
+use Rattle.c_phrases.specs.Units.{ALength, AParam, SomeParams, no_params, void_word, params, SomeItems, AnExternal, ADeclared, function, globals, onto_params, onto_body, onto_length, onto_named, onto_param, onto_more_params, onto_param_list, onto_external, onto_externals, onto_static, onto_declared}
+use Rattle.c_phrases.specs.Fits.{ParamFits, ParamsFit, IsVoid, IsBare, SomeParamsFit, ExternalsFit, LowLength, LowParams, LowExternals}
+use Rattle.c_phrases.specs.UnitShapes.{param_of, param_list, external_of, externals_of}
+use Rattle.c_phrases.specs.Fits.{IsUnit}
+use Rattle.c_syntax.specs.Stands.{ReadsParam, HasParam, ParamsSoFar, ReadsParams, NoVoidAlone, ReadsExternal, ReadsExternals}
 use Rattle.c_syntax.proofs.ListLaws.{longer_length}
 use Rattle.c_syntax.proofs.ItemLaws.{longer_spec, longer_declarators, longer_items}
 
@@ -108,8 +109,8 @@ externals_more ts rest behind xs x s r = record {
   low = low_externals_end xs x s.low (r.low, tt);
 }
 
-pub unit_read : (ts rest : List Placed) (xs : List AnExternal) (at : ℕ) → ReadsExternals ts xs rest → rest ≡ record { kind = token.End; at = at } ∷ [] → IsUnit ts (record { externals = xs; end = at })
-unit_read ts rest xs at s e = record { text = s.text ∙ ap (onto_externals xs) e; fits = s.fits; low = s.low }
+pub unit_ends : (ts rest behind : List Placed) (xs : List AnExternal) (at : ℕ) → ReadsExternals ts xs rest → rest ≡ record { kind = token.End; at = at } ∷ behind → behind ≡ [] → IsUnit ts (record { externals = xs; end = at })
+unit_ends ts rest behind xs at s e n = record { text = s.text ∙ ap (onto_externals xs) (e ∙ ap (λ (l : List Placed). record { kind = token.End; at = at } ∷ l) n); fits = s.fits; low = s.low }
 
 -- an external has a token
 longer_params : (ps : List AParam) (w : List Placed) → length w ≤ length (onto_more_params ps w)

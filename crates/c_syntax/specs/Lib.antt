@@ -1,12 +1,3 @@
-pub mod Classes
-pub mod Phrases
-pub mod Levels
-pub mod Shapes
-pub mod Goals
-pub mod Machine
 pub mod Reads
-pub mod Takes
-pub mod Units
-pub mod Fits
-pub mod UnitShapes
 pub mod Stands
+pub mod Answers

@@ -1,77 +1,20 @@
 -- What a function of the parser answers.
-use Rattle.std.specs.Prelude.{◌≡◌, ◌≢◌, ◌≤◌, ℕ, ◌+◌, List, [], ◌∷◌, ◌++◌, Option, Some}
-use Rattle.c_tokens.specs.declared.token.Token.{Token}
+use Rattle.std.specs.Prelude.{◌≡◌, ◌≢◌, ◌≤◌, ℕ, ◌+◌, List, [], ◌∷◌, ◌++◌, Option, Err, false}
 use Rattle.c_tokens.specs.declared.token.Token.TheVariants as token
 use Rattle.c_tokens.specs.declared.words.Key.TheVariants as keys
-use Rattle.c_tokens.specs.declared.marks.Mark.{Mark}
 use Rattle.c_tokens.specs.declared.marks.Mark.TheVariants as marks
-use Rattle.c_syntax.specs.declared.fault.Fault.{Fault}
-use Rattle.c_syntax.specs.declared.fault.Fault.TheVariants.{NoMemory, NotHere, TooDeep}
-use Rattle.c_syntax.specs.Classes.{Placed, Class, class_of, word}
-use Rattle.c_syntax.specs.Goals.{Goal, Spec, AfterShort, AfterUnsigned, Stars}
-use Rattle.c_syntax.specs.Machine.{run}
-use Rattle.c_syntax.specs.declared.operator.Spec.{Spec as SpecWords}
-use Rattle.c_syntax.specs.declared.tree.TypeName.{TypeName}
-use Rattle.c_syntax.specs.Phrases.{AnExp, SomeExps, no_exps, exps, onto_exp, onto_int, onto_spec, onto_stars, onto_type, onto_first, AllAt, IsAt, after_exp}
-use Rattle.c_syntax.specs.Takes.{NoTypeClass}
-use Rattle.c_syntax.specs.Levels.{LowExp, LowExps, limit}
-
--- how strongly a token goes on with the expression before it: one more than the number of the loosest phrase that ends there
-abbrev pub mark_strength : Mark → ℕ
-mark_strength marks.OpenParenthesis = 17
-mark_strength marks.OpenBracket = 16
-mark_strength marks.Increment = 16
-mark_strength marks.Decrement = 16
-mark_strength marks.Star = 13
-mark_strength marks.Slash = 13
-mark_strength marks.Percent = 13
-mark_strength marks.Plus = 12
-mark_strength marks.Minus = 12
-mark_strength marks.ShiftLeft = 11
-mark_strength marks.ShiftRight = 11
-mark_strength marks.Less = 10
-mark_strength marks.LessEqual = 10
-mark_strength marks.Greater = 10
-mark_strength marks.GreaterEqual = 10
-mark_strength marks.Equal = 9
-mark_strength marks.NotEqual = 9
-mark_strength marks.And = 8
-mark_strength marks.Xor = 7
-mark_strength marks.Or = 6
-mark_strength marks.AndAnd = 5
-mark_strength marks.OrOr = 4
-mark_strength marks.Question = 3
-mark_strength marks.Assign = 2
-mark_strength marks.AddAssign = 2
-mark_strength marks.SubtractAssign = 2
-mark_strength marks.MultiplyAssign = 2
-mark_strength marks.DivideAssign = 2
-mark_strength marks.RemainderAssign = 2
-mark_strength marks.AndAssign = 2
-mark_strength marks.XorAssign = 2
-mark_strength marks.OrAssign = 2
-mark_strength marks.ShiftLeftAssign = 2
-mark_strength marks.ShiftRightAssign = 2
-mark_strength marks.Comma = 1
-mark_strength m = 0
-
-abbrev pub strength : Token → ℕ
-strength (token.Mark m) = mark_strength m
-strength t = 0
-
--- what stands there goes on with no phrase of this number
-abbrev pub Quiet : ℕ → List Placed → Type 0
-Quiet k [] = Unit {0}
-Quiet k (t ∷ ts) = strength t.kind ≤ k
-
-abbrev pub IsNot : Token → List Placed → Type 0
-IsNot w [] = Unit {0}
-IsNot w (t ∷ ts) = t.kind ≢ w
-
--- a token of none of these classes stands there
-abbrev pub NotClass : Class → List Placed → Type 0
-NotClass c [] = Unit {0}
-NotClass c (t ∷ ts) = class_of t.kind ≢ c
+use Rattle.c_goals.specs.declared.fault.Fault.{Fault}
+use Rattle.c_goals.specs.declared.fault.Fault.TheVariants.{NoMemory, NotHere, TooDeep}
+use Rattle.c_phrases.specs.Classes.{Placed, Class, class_of, word}
+use Rattle.c_phrases.specs.Classes as c
+use Rattle.c_goals.specs.Goals.{Stack, Want, PostTail, Commas, Tail, AfterShort, AfterUnsigned, TypeWords, Stars, type_goals, cond_goals}
+use Rattle.c_goals.specs.Machine.{run}
+use Rattle.c_phrases.specs.declared.operator.Spec.{Spec as SpecWords}
+use Rattle.c_phrases.specs.declared.tree.TypeName.{TypeName}
+use Rattle.c_phrases.specs.Phrases.{AnExp, SomeExps, no_exps, exps, onto_exp, onto_int, onto_spec, onto_stars, onto_type, onto_first, AllAt, IsAt, after_exp}
+use Rattle.c_phrases.specs.Takes.{IsTypeWord}
+use Rattle.c_phrases.specs.Levels.{LowExp, LowExps, limit}
+use Rattle.c_phrases.specs.Fronts.{Quiet}
 
 -- a primary is read, which begins at level n and ends at level m
 pub record IsPart (n : ℕ) (ts : List Placed) (e : AnExp) (rest : List Placed) (m : ℕ) : Type 0 where
@@ -101,38 +44,59 @@ pub record IsMore (k q n : ℕ) (ts : List Placed) (f e : AnExp) (rest : List Pl
   pub rises : n ≤ m
   pub top : m ≤ 200
 
--- whatever is to be read behind these parts, the text has this fault
-abbrev pub Fails : List Goal → ℕ → List Placed → Fault → Type 0
-Fails δ n ts NoMemory = Unit {0}
-Fails δ n ts (NotHere k) = (γ : List Goal) → run limit (δ ++ γ) n ts ≡ Some (NotHere k)
-Fails δ n ts (TooDeep k) = (γ : List Goal) → run limit (δ ++ γ) n ts ≡ Some (TooDeep k)
+-- whatever is to be read behind this, the text has this fault
+abbrev pub Fails : {V : Type 0} → ((V → Stack) → Stack) → ℕ → List Placed → Fault → Type 0
+Fails F n ts NoMemory = Unit {0}
+Fails {V = V} F n ts (NotHere k) = (κ : V → Stack) → run limit (F κ) n ts ≡ Err (NotHere k)
+Fails {V = V} F n ts (TooDeep k) = (κ : V → Stack) → run limit (F κ) n ts ≡ Err (TooDeep k)
+
+-- the same of what may follow an operand, whichever that is
+abbrev pub TailFails : ℕ → List Placed → Fault → Type 0
+TailFails n ts f = (l : AnExp) → Fails (Want (Tail false l)) n ts f
+
+abbrev pub PostFails : ℕ → List Placed → Fault → Type 0
+PostFails n ts f = (l : AnExp) → Fails (Want (PostTail l)) n ts f
+
+abbrev pub CommasFail : ℕ → List Placed → Fault → Type 0
+CommasFail n ts f = (l : AnExp) → Fails (Want (Commas l)) n ts f
+
+-- a fault of what may follow an operand there is one here
+abbrev pub TailLeads : ℕ → List Placed → ℕ → List Placed → Type 0
+TailLeads n ts m rest = (f : Fault) → TailFails m rest f → TailFails n ts f
+
+-- a fault of what may follow an operand there is one of a condition here
+abbrev pub CondLeads : ℕ → List Placed → ℕ → List Placed → Type 0
+CondLeads n ts m rest = (f : Fault) → TailFails m rest f → Fails cond_goals n ts f
+
+-- behind this the run goes on with the rest
+abbrev pub Leads : {V : Type 0} → ((V → Stack) → Stack) → ℕ → List Placed → V → ℕ → List Placed → Type 0
+Leads {V = V} F n ts v m rest = (κ : V → Stack) → run limit (F κ) n ts ≡ run limit (κ v) m rest
 
 -- the words of a type are read, and the run goes on behind them
 pub record ReadsInt (ts : List Placed) (int : Option ℕ) (rest : List Placed) : Type 0 where
   pub text : ts ≡ onto_int int rest
-  pub leads : (γ : List Goal) (n : ℕ) → run limit (AfterShort ∷ γ) n ts ≡ run limit γ n rest
+  pub leads : (n : ℕ) → Leads (Want AfterShort) n ts int n rest
 
 -- behind the word unsigned
 pub record ReadsUnsigned (at : ℕ) (ts : List Placed) (s : SpecWords) (rest : List Placed) : Type 0 where
   pub text : word keys.Unsigned at ∷ ts ≡ onto_spec s rest
-  pub leads : (γ : List Goal) (n : ℕ) → run limit (AfterUnsigned ∷ γ) n ts ≡ run limit γ n rest
+  pub leads : (n : ℕ) → Leads (Want (AfterUnsigned at)) n ts s n rest
 
 pub record ReadsSpec (ts : List Placed) (s : SpecWords) (rest : List Placed) : Type 0 where
   pub text : ts ≡ onto_spec s rest
-  pub leads : (γ : List Goal) (n : ℕ) → run limit (Spec ∷ γ) n ts ≡ run limit γ n rest
+  pub leads : (n : ℕ) → Leads (Want TypeWords) n ts s n rest
 
 pub record ReadsStars (ts : List Placed) (ats : List ℕ) (rest : List Placed) : Type 0 where
   pub text : ts ≡ onto_stars ats rest
-  pub leads : (γ : List Goal) (n : ℕ) → run limit (Stars ∷ γ) n ts ≡ run limit γ n rest
+  pub leads : (n : ℕ) → Leads (Want Stars) n ts ats n rest
 
 -- the stars so far are read
 pub record StarsSoFar (ts : List Placed) (ats : List ℕ) (rest : List Placed) : Type 0 where
   pub text : (w : List Placed) → (v : List ℕ) → rest ≡ onto_stars v w → ts ≡ onto_stars (ats ++ v) w
-  pub leads : (γ : List Goal) (n : ℕ) → run limit (Stars ∷ γ) n ts ≡ run limit (Stars ∷ γ) n rest
 
 pub record ReadsType (ts : List Placed) (t : TypeName) (rest : List Placed) : Type 0 where
   pub text : ts ≡ onto_type t rest
-  pub leads : (γ : List Goal) (n : ℕ) → run limit (Spec ∷ Stars ∷ γ) n ts ≡ run limit γ n rest
+  pub leads : (n : ℕ) → Leads type_goals n ts t n rest
 
 -- the arguments up to their closing bracket are read
 pub record ReadsArguments (n : ℕ) (ts : List Placed) (es : SomeExps) (rest : List Placed) : Type 0 where
@@ -140,11 +104,23 @@ pub record ReadsArguments (n : ℕ) (ts : List Placed) (es : SomeExps) (rest : L
   pub at : AllAt es
   pub low : LowExps limit es n
 
--- no bracket in front of a type stands there
-abbrev pub NoCast : List Placed → Type 0
-NoCast [] = Unit {0}
-NoCast (t ∷ []) = Unit {0}
-NoCast (t ∷ u ∷ ts) = t.kind ≡ token.Mark marks.OpenParenthesis → NoTypeClass (class_of u.kind)
+-- a bracket in front of a type stands there
+pub record BeginsCast (ts : List Placed) : Type 0 where
+  pub opened : ℕ
+  pub behind : List Placed
+  pub text : ts ≡ record { kind = token.Mark marks.OpenParenthesis; at = opened } ∷ behind
+  pub word : IsTypeWord behind
+
+-- what may not stand directly behind an operand: ( [ ++ --
+abbrev pub StopClass : Class → Type 0
+StopClass c.OpenParen = Unit {0}
+StopClass c.OpenBracket = Unit {0}
+StopClass c.Step = Unit {0}
+StopClass k = ⊥
+
+abbrev pub IsStop : List Placed → Type 0
+IsStop [] = ⊥
+IsStop (t ∷ ts) = StopClass (class_of t.kind)
 
 -- a binary operator that stands there takes this expression as its left operand
 pub record Ready (lowest : ℕ) (e : AnExp) (ts : List Placed) : Type 0 where
@@ -167,6 +143,14 @@ pub record ReadsSizeof (at level : ℕ) (ts : List Placed) (e : AnExp) (rest : L
 abbrev pub NoName : List Placed → Type 0
 NoName [] = Unit {0}
 NoName (t ∷ ts) = (n : List ℕ) → t.kind ≢ token.Name n
+
+abbrev pub NoNumber : List Placed → Type 0
+NoNumber [] = Unit {0}
+NoNumber (t ∷ ts) = (v : ℕ) → t.kind ≢ token.Number v
+
+abbrev pub NoString : List Placed → Type 0
+NoString [] = Unit {0}
+NoString (t ∷ ts) = (b : List ℕ) → t.kind ≢ token.Str b
 
 abbrev pub IsSome : SomeExps → Type 0
 IsSome no_exps = ⊥

@@ -1,20 +1,22 @@
 // Declarators and their initialisers.
-ghost use Rattle.std.specs.Prelude.{◌≡◌, ◌≤◌, length, IfOk};
-ghost use Rattle.c_syntax.specs.Classes.{seen};
-ghost use Rattle.c_syntax.specs.Phrases.{onto_name, onto_stars};
-ghost use Rattle.c_syntax.specs.Shapes.{exp};
-ghost use Rattle.c_syntax.specs.UnitShapes.{length_of, init_of, initialised_of, declarator_of, declarators_of};
+ghost use Rattle.std.specs.Prelude.{◌≡◌, ◌≤◌, length, IfOk, IfErr};
+ghost use Rattle.c_goals.specs.Goals.{Want, ArrayPart, Elements, Init, InitPart, MoreDeclarators, cond_goals, declarator_goals, declarator_behind as behind_goals};
+ghost use Rattle.c_syntax.specs.Reads.{Fails, Leads, CondLeads};
+ghost use Rattle.c_phrases.specs.Classes.{seen};
+ghost use Rattle.c_phrases.specs.Phrases.{onto_name, onto_stars};
+ghost use Rattle.c_phrases.specs.Shapes.{exp};
+ghost use Rattle.c_phrases.specs.UnitShapes.{length_of, init_of, initialised_of, declarator_of, declarators_of};
 ghost use Rattle.c_syntax.specs.Reads.{IsRead};
-ghost use Rattle.c_syntax.specs.Levels.{limit};
-ghost use Rattle.c_syntax.specs.Units.{onto_declarator};
-ghost use Rattle.c_syntax.specs.Fits.{DeclaratorFits, LowDeclarator};
+ghost use Rattle.c_phrases.specs.Levels.{limit};
+ghost use Rattle.c_phrases.specs.Units.{onto_declarator};
+ghost use Rattle.c_phrases.specs.Fits.{DeclaratorFits, LowDeclarator};
 ghost use Rattle.c_syntax.specs.Stands.{ReadsLength, ReadsInit, ReadsElements, ReadsInitialised, ReadsDeclarator, ReadsDeclarators};
 
 use crate::expressions::{assignment, cast, conditional, take_name};
-use crate::fault::Fault;
-use crate::take::{open_levels, take_mark, want_mark};
-use crate::tree::{Declarator, Expr, Initialised, Initialiser, Length, Stars};
+use crate::take::{not_here, open_levels, take_mark, want_mark};
 use crate::types::stars;
+use c_goals::fault::Fault;
+use c_phrases::tree::{Declarator, Expr, Initialised, Initialiser, Length, Stars};
 use c_tokens::{Mark, Spanned};
 use gg_base::Name;
 use std::alloc::Global;
@@ -26,7 +28,9 @@ pub fn whole_conditional(
     level: u32,
 ) -> Result<(Expr, &[Spanned], u32), Fault>
     requires { level ≤ 200 }
-    ensures { IfOk result (λ x. IsRead 2 2 level (seen tokens.now) (exp x.0) (seen x.1.now) x.2) }
+    ensures read { IfOk result (λ x. IsRead 2 2 level (seen tokens.now) (exp x.0) (seen x.1.now) x.2) }
+    ensures leads { IfOk result (λ x. CondLeads level (seen tokens.now) x.2 (seen x.1.now)) }
+    ensures fails { IfErr result (Fails cond_goals level (seen tokens.now)) }
 {
     let (operand, rest, now) = cast(alloc, tokens, level)?;
     conditional(alloc, operand, rest, now)
@@ -39,7 +43,9 @@ pub fn length_part(
     level: u32,
 ) -> Result<(Option<Length>, &[Spanned]), Fault>
     requires { level ≤ 200 }
-    ensures { IfOk result (λ x. ReadsLength level (seen tokens.now) (length_of x.0) (seen x.1.now)) }
+    ensures read { IfOk result (λ x. ReadsLength level (seen tokens.now) (length_of x.0) (seen x.1.now)) }
+    ensures fails { IfErr result (Fails (Want ArrayPart) level (seen tokens.now)) }
+    ensures leads { IfOk result (λ x. Leads (Want ArrayPart) level (seen tokens.now) (length_of x.0) level (seen x.1.now)) }
 {
     let Some((open, inner)) = take_mark(tokens, Mark::OpenBracket) else {
         return Ok((None, tokens));
@@ -66,7 +72,8 @@ fn elements(
     level: u32,
 ) -> Result<(Initialiser, &[Spanned]), Fault>
     requires { level ≤ 200 }
-    ensures { IfOk result (λ x. ReadsElements level (seen tokens.now) (init_of x.0) (seen x.1.now)) }
+    ensures read { IfOk result (λ x. ReadsElements level (seen tokens.now) (init_of x.0) (seen x.1.now)) }
+    ensures fails { IfErr result (Fails (Want Elements) level (seen tokens.now)) }
 {
     let (first, mut rest, _) = assignment(alloc, tokens, level)?;
     let mut items = Vec::new(alloc);
@@ -99,7 +106,9 @@ fn initialiser(
     level: u32,
 ) -> Result<(Initialiser, &[Spanned]), Fault>
     requires { level ≤ 200 }
-    ensures { IfOk result (λ x. ReadsInit level (seen tokens.now) (init_of x.0) (seen x.1.now)) }
+    ensures read { IfOk result (λ x. ReadsInit level (seen tokens.now) (init_of x.0) (seen x.1.now)) }
+    ensures fails { IfErr result (Fails (Want Init) level (seen tokens.now)) }
+    ensures leads { IfOk result (λ x. Leads (Want Init) level (seen tokens.now) (init_of x.0) level (seen x.1.now)) }
 {
     let Some((_, inner)) = take_mark(tokens, Mark::OpenBrace) else {
         let (value, rest, _) = assignment(alloc, tokens, level)?;
@@ -116,7 +125,9 @@ fn initialised(
     level: u32,
 ) -> Result<(Option<Initialised>, &[Spanned]), Fault>
     requires { level ≤ 200 }
-    ensures { IfOk result (λ x. ReadsInitialised level (seen tokens.now) (initialised_of x.0) (seen x.1.now)) }
+    ensures read { IfOk result (λ x. ReadsInitialised level (seen tokens.now) (initialised_of x.0) (seen x.1.now)) }
+    ensures fails { IfErr result (Fails (Want InitPart) level (seen tokens.now)) }
+    ensures leads { IfOk result (λ x. Leads (Want InitPart) level (seen tokens.now) (initialised_of x.0) level (seen x.1.now)) }
 {
     let Some((at, after)) = take_mark(tokens, Mark::Assign) else {
         return Ok((None, tokens));
@@ -135,7 +146,9 @@ pub fn declarator_behind(
     level: u32,
 ) -> Result<(Declarator, &[Spanned]), Fault>
     requires { level ≤ 200 }
-    ensures { IfOk result (λ x. ReadsDeclarator level (onto_stars stars (onto_name name at (seen tokens.now))) (declarator_of x.0) (seen x.1.now)) }
+    ensures read { IfOk result (λ x. ReadsDeclarator level (onto_stars stars (onto_name name at (seen tokens.now))) (declarator_of x.0) (seen x.1.now)) }
+    ensures fails { IfErr result (Fails (behind_goals stars name at) level (seen tokens.now)) }
+    ensures leads { IfOk result (λ x. Leads (behind_goals stars name at) level (seen tokens.now) (declarator_of x.0) level (seen x.1.now)) }
 {
     let (length, rest) = length_part(alloc, tokens, level)?;
     let (initialiser, rest) = initialised(alloc, rest, level)?;
@@ -158,11 +171,13 @@ pub fn declarator(
     level: u32,
 ) -> Result<(Declarator, &[Spanned]), Fault>
     requires { level ≤ 200 }
-    ensures { IfOk result (λ x. ReadsDeclarator level (seen tokens.now) (declarator_of x.0) (seen x.1.now)) }
+    ensures read { IfOk result (λ x. ReadsDeclarator level (seen tokens.now) (declarator_of x.0) (seen x.1.now)) }
+    ensures fails { IfErr result (Fails declarator_goals level (seen tokens.now)) }
+    ensures leads { IfOk result (λ x. Leads declarator_goals level (seen tokens.now) (declarator_of x.0) level (seen x.1.now)) }
 {
     let (stars, rest) = stars(alloc, tokens)?;
     let Some((name, at, after)) = take_name(alloc, rest)? else {
-        return Err(Fault::NotHere(rest.len()));
+        return Err(not_here(rest));
     };
     declarator_behind(alloc, stars, name, at, after, level)
 }
@@ -176,7 +191,8 @@ pub fn declarators(
 ) -> Result<(Vec<Declarator>, &[Spanned]), Fault>
     requires low { level ≤ 200 }
     requires first { DeclaratorFits (declarator_of first) × LowDeclarator limit (declarator_of first) level }
-    ensures { IfOk result (λ x. ReadsDeclarators level (onto_declarator (declarator_of first) (seen tokens.now)) (declarators_of x.0.items) (seen x.1.now)) }
+    ensures read { IfOk result (λ x. ReadsDeclarators level (onto_declarator (declarator_of first) (seen tokens.now)) (declarators_of x.0.items) (seen x.1.now)) }
+    ensures fails { IfErr result (Fails (Want MoreDeclarators) level (seen tokens.now)) }
 {
     let mut list = Vec::new(alloc);
     list.push(first)?;

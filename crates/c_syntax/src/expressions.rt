@@ -1,24 +1,34 @@
 // Expressions. The levels bound the recursion.
 ghost use Rattle.std.specs.Prelude.{◌≡◌, ◌≤◌, ◌+◌, ◌∷◌, length, IfOk, IfSome, IfNone, MatchOption};
 ghost use Rattle.c_tokens.specs.declared.marks.Mark.TheVariants as marks;
-ghost use Rattle.c_syntax.specs.Classes.{seen, sign};
-ghost use Rattle.c_syntax.specs.Phrases.{IsAt, onto_name};
-ghost use Rattle.c_syntax.specs.Shapes.{exp, exp_list};
-ghost use Rattle.c_syntax.specs.Reads.{IsRead, IsMore, IsPart, Ready, Quiet, NoCast, NoName, ReadsArguments, ReadsSizeof};
+ghost use Rattle.c_phrases.specs.Classes.{seen, sign};
+ghost use Rattle.c_phrases.specs.Phrases.{IsAt, onto_name};
+ghost use Rattle.c_phrases.specs.Shapes.{exp, exp_list};
+ghost use Rattle.std.specs.Prelude.{IfErr};
+ghost use Rattle.std.specs.Bool.{MatchBool};
+ghost use Rattle.c_goals.specs.declared.fault.Fault.TheVariants as faults;
+ghost use Rattle.c_phrases.specs.Takes.{IsTypeWord};
+ghost use Rattle.c_goals.specs.Goals.{Want, Expr as ExprGoal, Assign as AssignGoal, Cast as CastGoal, Unary, Primary, Parens, CallTail, SizeofTail, Arguments};
+ghost use Rattle.c_phrases.specs.Fronts.{Quiet, NoCast};
+ghost use Rattle.c_syntax.specs.Reads.{IsRead, IsMore, IsPart, Ready, BeginsCast, IsStop, NoName, ReadsArguments, ReadsSizeof};
+ghost use Rattle.c_tokens.specs.declared.token.Token.TheVariants as token;
+ghost use Rattle.c_syntax.specs.Reads.{NoNumber, NoString};
+ghost use Rattle.c_syntax.specs.Reads.{Fails, Leads, TailFails, TailLeads, PostFails, CommasFail};
 
-use crate::fault::Fault;
 use crate::take::{
-    begins_type, open_levels, take_assign, take_binary, take_key, take_mark, take_prefix,
+    begins_type, not_here, open_levels, take_assign, take_binary, take_key, take_mark, take_prefix,
     take_step, want_mark,
 };
-use crate::tree::Expr;
 use crate::types::type_name;
+use c_goals::fault::Fault;
+use c_phrases::tree::Expr;
 use c_tokens::{Key, Mark, Spanned, Token};
 use gg_base::{Bytes, Name};
 use std::alloc::Global;
 
 fn name_of(alloc: Global, bytes: &[u8]) -> Result<Name, Fault>
-    ensures { IfOk result (λ n. n ≡ bytes.now) }
+    ensures copied { IfOk result (λ n. n ≡ bytes.now) }
+    ensures memory { IfErr result (λ f. f ≡ faults.NoMemory) }
 {
     let mut copy = Vec::new(alloc);
     copy.extend_from_slice(bytes)?;
@@ -26,7 +36,8 @@ fn name_of(alloc: Global, bytes: &[u8]) -> Result<Name, Fault>
 }
 
 fn bytes_of(alloc: Global, bytes: &[u8]) -> Result<Bytes, Fault>
-    ensures { IfOk result (λ n. n ≡ bytes.now) }
+    ensures copied { IfOk result (λ n. n ≡ bytes.now) }
+    ensures memory { IfErr result (λ f. f ≡ faults.NoMemory) }
 {
     let mut copy = Vec::new(alloc);
     copy.extend_from_slice(bytes)?;
@@ -38,7 +49,8 @@ pub fn take_name(
     alloc: Global,
     tokens: &[Spanned],
 ) -> Result<Option<(Name, u32, &[Spanned])>, Fault>
-    ensures { IfOk result (λ o. MatchOption o (NoName (seen tokens.now)) (λ x. seen tokens.now ≡ onto_name x.0 x.1 (seen x.2.now))) }
+    ensures found { IfOk result (λ o. MatchOption o (NoName (seen tokens.now)) (λ x. seen tokens.now ≡ onto_name x.0 x.1 (seen x.2.now))) }
+    ensures memory { IfErr result (λ f. f ≡ faults.NoMemory) }
 {
     let [first, rest @ ..] = tokens else {
         return Ok(None);
@@ -52,24 +64,58 @@ pub fn take_name(
     }
 }
 
-// Nothing but an operator may stand directly behind this.
-fn ended(rest: &[Spanned]) -> Result<(), Fault>
-    ensures quiet { IfOk result (λ _. Quiet 13 (seen rest.now)) }
+// The number at the front, its offset, and what stands behind it.
+fn take_number(tokens: &[Spanned]) -> Option<(u32, u32, &[Spanned])>
+    ensures found { IfSome result (λ x. seen tokens.now ≡ record { kind = token.Number x.0; at = x.1 } ∷ seen x.2.now) }
+    ensures none { IfNone result (NoNumber (seen tokens.now)) }
 {
-    let [first, ..] = rest else {
-        return Ok(());
+    let [first, rest @ ..] = tokens else {
+        return None;
     };
     match &first.kind {
-        Token::Mark(
-            Mark::OpenParenthesis | Mark::OpenBracket | Mark::Increment | Mark::Decrement,
-        ) => Err(Fault::NotHere(rest.len())),
-        _ => Ok(()),
+        Token::Number(value) => Some((*value, first.start, rest)),
+        _ => None,
     }
+}
+
+// The string at the front, its offset, and what stands behind it.
+fn take_string(alloc: Global, tokens: &[Spanned]) -> Result<Option<(Bytes, u32, &[Spanned])>, Fault>
+    ensures found { IfOk result (λ o. MatchOption o (NoString (seen tokens.now)) (λ x. seen tokens.now ≡ record { kind = token.Str x.0; at = x.1 } ∷ seen x.2.now)) }
+    ensures memory { IfErr result (λ f. f ≡ faults.NoMemory) }
+{
+    let [first, rest @ ..] = tokens else {
+        return Ok(None);
+    };
+    match &first.kind {
+        Token::Str(bytes) => {
+            let bytes = bytes_of(alloc, bytes.as_slice())?;
+            Ok(Some((bytes, first.start, rest)))
+        }
+        _ => Ok(None),
+    }
+}
+
+// Nothing but an operator may stand directly behind this.
+#[tactic(auto, using(crate::proofs::Stops::open_stops, crate::proofs::Stops::bracket_stops, crate::proofs::Stops::step_stops, crate::proofs::Stops::quiet_of))]
+fn ended(rest: &[Spanned]) -> Result<(), Fault>
+    ensures quiet { IfOk result (λ _. Quiet 13 (seen rest.now)) }
+    ensures stops { IfErr result (λ f. (f ≡ faults.NotHere (length (seen rest.now))) × IsStop (seen rest.now)) }
+{
+    if let Some(_) = take_mark(rest, Mark::OpenParenthesis) {
+        return Err(not_here(rest));
+    }
+    if let Some(_) = take_mark(rest, Mark::OpenBracket) {
+        return Err(not_here(rest));
+    }
+    if let Some(_) = take_step(rest) {
+        return Err(not_here(rest));
+    }
+    Ok(())
 }
 
 // The bracket in front of a type.
 fn cast_head(tokens: &[Spanned]) -> Option<(u32, &[Spanned])>
-    ensures found { IfSome result (λ x. seen tokens.now ≡ sign marks.OpenParenthesis x.0 ∷ seen x.1.now) }
+    ensures found { IfSome result (λ x. (seen tokens.now ≡ sign marks.OpenParenthesis x.0 ∷ seen x.1.now) × IsTypeWord (seen x.1.now)) }
     ensures none { IfNone result (NoCast (seen tokens.now)) }
 {
     let (open, inner) = take_mark(tokens, Mark::OpenParenthesis)?;
@@ -77,6 +123,12 @@ fn cast_head(tokens: &[Spanned]) -> Option<(u32, &[Spanned])>
         return Some((open, inner));
     }
     None
+}
+
+fn begins_cast(tokens: &[Spanned]) -> bool
+    ensures { MatchBool result (BeginsCast (seen tokens.now)) (NoCast (seen tokens.now)) }
+{
+    cast_head(tokens).is_some()
 }
 
 /// `expr`
@@ -88,6 +140,7 @@ pub fn expression(
 ) -> Result<(Expr, &[Spanned], u32), Fault>
     requires low { level ≤ 200 }
     ensures read { IfOk result (λ x. IsRead 0 0 level (seen tokens.now) (exp x.0) (seen x.1.now) x.2) }
+    ensures fails { IfErr result (Fails (Want ExprGoal) level (seen tokens.now)) }
 {
     let (first, rest, now) = assignment(alloc, tokens, level)?;
     commas(alloc, first, rest, now)
@@ -104,6 +157,7 @@ fn commas(
     requires at { IsAt 0 (exp left) }
     requires quiet { Quiet 1 (seen tokens.now) }
     ensures read { IfOk result (λ x. IsMore 0 0 level (seen tokens.now) (exp left) (exp x.0) (seen x.1.now) x.2) }
+    ensures fails { IfErr result (CommasFail level (seen tokens.now)) }
 {
     let Some((_, after)) = take_mark(tokens, Mark::Comma) else {
         return Ok((left, tokens, level));
@@ -126,8 +180,9 @@ pub fn assignment(
 ) -> Result<(Expr, &[Spanned], u32), Fault>
     requires low { level ≤ 200 }
     ensures read { IfOk result (λ x. IsRead 1 1 level (seen tokens.now) (exp x.0) (seen x.1.now) x.2) }
+    ensures fails { IfErr result (Fails (Want AssignGoal) level (seen tokens.now)) }
 {
-    if cast_head(tokens).is_some() {
+    if begins_cast(tokens) {
         let (operand, rest, now) = cast(alloc, tokens, level)?;
         return unassigned(alloc, operand, rest, now);
     }
@@ -158,10 +213,11 @@ fn unassigned(
     requires at { IsAt 13 (exp first) }
     requires quiet { Quiet 13 (seen tokens.now) }
     ensures read { IfOk result (λ x. IsMore 1 1 level (seen tokens.now) (exp first) (exp x.0) (seen x.1.now) x.2) }
+    ensures fails { IfErr result (TailFails level (seen tokens.now)) }
 {
     let (whole, rest, now) = conditional(alloc, first, tokens, level)?;
-    if take_assign(rest).is_some() {
-        return Err(Fault::NotHere(rest.len()));
+    if let Some(_) = take_assign(rest) {
+        return Err(not_here(rest));
     }
     Ok((whole, rest, now))
 }
@@ -178,6 +234,8 @@ pub fn conditional(
     requires at { IsAt 13 (exp first) }
     requires quiet { Quiet 13 (seen tokens.now) }
     ensures read { IfOk result (λ x. IsMore 2 2 level (seen tokens.now) (exp first) (exp x.0) (seen x.1.now) x.2) }
+    ensures fails { IfErr result (TailFails level (seen tokens.now)) }
+    ensures leads { IfOk result (λ x. TailLeads level (seen tokens.now) x.2 (seen x.1.now)) }
 {
     let (condition, rest, now) = binary(alloc, first, tokens, level, 3)?;
     let Some((at, inner)) = take_mark(rest, Mark::Question) else {
@@ -210,6 +268,8 @@ fn binary(
     requires least { 3 ≤ lowest }
     requires ready { Ready lowest (exp left) (seen tokens.now) }
     ensures read { IfOk result (λ x. IsMore lowest lowest level (seen tokens.now) (exp left) (exp x.0) (seen x.1.now) x.2) }
+    ensures fails { IfErr result (TailFails level (seen tokens.now)) }
+    ensures leads { IfOk result (λ x. TailLeads level (seen tokens.now) x.2 (seen x.1.now)) }
 {
     let Some((operator, at, after)) = take_binary(tokens) else {
         return Ok((left, tokens, level));
@@ -234,6 +294,7 @@ fn binary(
 pub fn cast(alloc: Global, tokens: &[Spanned], level: u32) -> Result<(Expr, &[Spanned], u32), Fault>
     requires low { level ≤ 200 }
     ensures read { IfOk result (λ x. IsRead 13 13 level (seen tokens.now) (exp x.0) (seen x.1.now) x.2) }
+    ensures fails { IfErr result (Fails (Want CastGoal) level (seen tokens.now)) }
 {
     let Some((open, inner)) = cast_head(tokens) else {
         return unary(alloc, tokens, level);
@@ -254,6 +315,7 @@ pub fn cast(alloc: Global, tokens: &[Spanned], level: u32) -> Result<(Expr, &[Sp
 fn unary(alloc: Global, tokens: &[Spanned], level: u32) -> Result<(Expr, &[Spanned], u32), Fault>
     requires low { level ≤ 200 }
     ensures read { IfOk result (λ x. IsRead 14 13 level (seen tokens.now) (exp x.0) (seen x.1.now) x.2) }
+    ensures fails { IfErr result (Fails (Want Unary) level (seen tokens.now)) }
 {
     if let Some((operator, at, after)) = take_prefix(tokens) {
         let up = open_levels(level, 1, tokens)?;
@@ -301,6 +363,7 @@ fn sizeof(
 ) -> Result<(Expr, &[Spanned], u32), Fault>
     requires low { level ≤ 200 }
     ensures read { IfOk result (λ x. ReadsSizeof at level (seen tokens.now) (exp x.0) (seen x.1.now) x.2) }
+    ensures fails { IfErr result (Fails (Want (SizeofTail at)) level (seen tokens.now)) }
 {
     let Some((open, inner)) = cast_head(tokens) else {
         let (operand, rest, now) = unary(alloc, tokens, level)?;
@@ -318,23 +381,19 @@ fn sizeof(
 fn primary(alloc: Global, tokens: &[Spanned], level: u32) -> Result<(Expr, &[Spanned], u32), Fault>
     requires low { level ≤ 200 }
     ensures read { IfOk result (λ x. IsPart level (seen tokens.now) (exp x.0) (seen x.1.now) x.2) }
+    ensures fails { IfErr result (Fails (Want Primary) level (seen tokens.now)) }
+    ensures leads { IfOk result (λ x. Leads (Want Primary) level (seen tokens.now) (exp x.0) x.2 (seen x.1.now)) }
 {
-    let [first, rest @ ..] = tokens else {
-        return Err(Fault::NotHere(tokens.len()));
-    };
-    let at = first.start;
-    match &first.kind {
-        Token::Name(name) => {
-            let name = name_of(alloc, name.as_slice())?;
-            named(alloc, name, at, rest, level)
-        }
-        Token::Number(value) => Ok((Expr::Number { value: *value, at }, rest, level)),
-        Token::Str(bytes) => {
-            let bytes = bytes_of(alloc, bytes.as_slice())?;
-            Ok((Expr::Str { bytes, at }, rest, level))
-        }
-        _ => parenthesised(alloc, tokens, level),
+    if let Some((name, at, rest)) = take_name(alloc, tokens)? {
+        return named(alloc, name, at, rest, level);
     }
+    if let Some((value, at, rest)) = take_number(tokens) {
+        return Ok((Expr::Number { value, at }, rest, level));
+    }
+    if let Some((bytes, at, rest)) = take_string(alloc, tokens)? {
+        return Ok((Expr::Str { bytes, at }, rest, level));
+    }
+    parenthesised(alloc, tokens, level)
 }
 
 #[cycle(expression)]
@@ -345,9 +404,11 @@ fn parenthesised(
 ) -> Result<(Expr, &[Spanned], u32), Fault>
     requires low { level ≤ 200 }
     ensures read { IfOk result (λ x. IsPart level (seen tokens.now) (exp x.0) (seen x.1.now) x.2) }
+    ensures fails { IfErr result (Fails (Want Parens) level (seen tokens.now)) }
+    ensures leads { IfOk result (λ x. Leads (Want Parens) level (seen tokens.now) (exp x.0) x.2 (seen x.1.now)) }
 {
     let Some((open, inner)) = take_mark(tokens, Mark::OpenParenthesis) else {
-        return Err(Fault::NotHere(tokens.len()));
+        return Err(not_here(tokens));
     };
     let up = open_levels(level, 1, tokens)?;
     let (inner, rest, _) = expression(alloc, inner, up)?;
@@ -367,6 +428,8 @@ fn named(
 ) -> Result<(Expr, &[Spanned], u32), Fault>
     requires low { level ≤ 200 }
     ensures read { IfOk result (λ x. IsPart level (onto_name name at (seen tokens.now)) (exp x.0) (seen x.1.now) x.2) }
+    ensures fails { IfErr result (Fails (Want (CallTail name at)) level (seen tokens.now)) }
+    ensures leads { IfOk result (λ x. Leads (Want (CallTail name at)) level (seen tokens.now) (exp x.0) x.2 (seen x.1.now)) }
 {
     let Some((open, inner)) = take_mark(tokens, Mark::OpenParenthesis) else {
         return Ok((Expr::Name { name, at }, tokens, level));
@@ -393,6 +456,7 @@ fn arguments(
 ) -> Result<(Vec<Expr>, &[Spanned]), Fault>
     requires low { level ≤ 200 }
     ensures read { IfOk result (λ x. ReadsArguments level (seen tokens.now) (exp_list x.0.items) (seen x.1.now)) }
+    ensures fails { IfErr result (Fails (Want Arguments) level (seen tokens.now)) }
 {
     let mut list = Vec::new(alloc);
     if let Some((_, rest)) = take_mark(tokens, Mark::CloseParenthesis) {
@@ -420,6 +484,7 @@ fn postfix(
     requires low { level ≤ 200 }
     requires at { IsAt 15 (exp base) }
     ensures read { IfOk result (λ x. IsMore 15 13 level (seen tokens.now) (exp base) (exp x.0) (seen x.1.now) x.2) }
+    ensures fails { IfErr result (PostFails level (seen tokens.now)) }
 {
     if let Some((open, inner)) = take_mark(tokens, Mark::OpenBracket) {
         let up = open_levels(level, 2, tokens)?;

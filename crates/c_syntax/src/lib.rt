@@ -4,15 +4,13 @@
 mod declarations;
 mod expressions;
 pub mod fault;
-pub mod operator;
 mod statements;
 mod take;
-pub mod tree;
 mod types;
 mod units;
 
+pub use c_phrases::{Ast, operator, tree};
 pub use fault::SyntaxFault;
-pub use tree::Ast;
 pub use units::parse;
 
 #[cfg(test)]

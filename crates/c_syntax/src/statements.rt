@@ -1,20 +1,30 @@
 // Statements. The levels bound the recursion.
-ghost use Rattle.std.specs.Prelude.{◌≡◌, ◌≤◌, ◌∷◌, false, IfOk};
+ghost use Rattle.std.specs.Prelude.{◌≡◌, ◌≤◌, ◌∷◌, ℕ, false, IfOk, IfErr};
+ghost use Rattle.std.specs.Bool.{MatchBool};
+ghost use Rattle.c_tokens.specs.declared.token.Token.TheVariants as token;
+ghost use Rattle.c_goals.specs.Goals.{Stack, Want, TypeWords, Condition, PartSemi, Simple, Items, Local as LocalGoal, Statement as StatementGoal, if_goals, while_goals, do_goals, for_goals, local_rest};
+ghost use Rattle.c_goals.specs.Machine.{run};
+ghost use Rattle.c_phrases.specs.Levels.{limit};
+ghost use Rattle.c_phrases.specs.Units.{ALocal};
+ghost use Rattle.c_phrases.specs.Fronts.{IsNot};
+ghost use Rattle.c_syntax.specs.Reads.{Fails};
+ghost use Rattle.c_phrases.specs.Fronts.{BeginsLocal, NoLocal};
+ghost use Rattle.c_syntax.specs.Stands.{PartFails, ItemsLead};
 ghost use Rattle.c_tokens.specs.declared.words.Key.TheVariants as keys;
 ghost use Rattle.c_tokens.specs.declared.marks.Mark.TheVariants as marks;
-ghost use Rattle.c_syntax.specs.Classes.{seen, word, sign, is_kept, mark_class};
-ghost use Rattle.c_syntax.specs.Shapes.{exp};
-ghost use Rattle.c_syntax.specs.UnitShapes.{part, local_of, statement_of, item_onto, items_of};
-ghost use Rattle.c_syntax.specs.Units.{no_items, onto_storage};
+ghost use Rattle.c_phrases.specs.Classes.{seen, word, sign, is_kept, mark_class};
+ghost use Rattle.c_phrases.specs.Shapes.{exp};
+ghost use Rattle.c_phrases.specs.UnitShapes.{part, local_of, statement_of, item_onto, items_of};
+ghost use Rattle.c_phrases.specs.Units.{no_items, onto_storage};
 ghost use Rattle.c_syntax.specs.Stands.{ReadsPart, ReadsLocal, ReadsCondition, ReadsStatement, ReadsBehind, ReadsAfter, ReadsItems};
 
 use crate::declarations::{declarator, declarators};
 use crate::expressions::expression;
-use crate::fault::Fault;
-use crate::operator::Storage;
-use crate::take::{begins_type, open_levels, take_key, take_mark, want_mark};
-use crate::tree::{Expr, Item, Local, Statement};
+use crate::take::{begins_type, not_here, open_levels, take_key, take_mark, want_mark};
 use crate::types::spec;
+use c_goals::fault::Fault;
+use c_phrases::operator::Storage;
+use c_phrases::tree::{Expr, Item, Local, Statement};
 use c_tokens::{Key, Mark, Spanned};
 use std::alloc::Global;
 
@@ -27,7 +37,8 @@ fn part_until(
 ) -> Result<(Option<Expr>, &[Spanned]), Fault>
     requires low { level ≤ 200 }
     requires end { is_kept (mark_class end) ≡ false }
-    ensures { IfOk result (λ x. ReadsPart level (seen tokens.now) (part x.0) (sign end 0 ∷ seen x.1.now)) }
+    ensures read { IfOk result (λ x. ReadsPart level (seen tokens.now) (part x.0) (sign end 0 ∷ seen x.1.now)) }
+    ensures fails { IfErr result (PartFails end level (seen tokens.now)) }
 {
     if let Some((_, rest)) = take_mark(tokens, end) {
         return Ok((None, rest));
@@ -44,10 +55,11 @@ fn condition(
     level: u32,
 ) -> Result<(u32, Expr, &[Spanned]), Fault>
     requires { level ≤ 200 }
-    ensures { IfOk result (λ x. ReadsCondition level x.0 (seen tokens.now) (exp x.1) (seen x.2.now)) }
+    ensures read { IfOk result (λ x. ReadsCondition level x.0 (seen tokens.now) (exp x.1) (seen x.2.now)) }
+    ensures fails { IfErr result (Fails (Want Condition) level (seen tokens.now)) }
 {
     let Some((open, inner)) = take_mark(tokens, Mark::OpenParenthesis) else {
-        return Err(Fault::NotHere(tokens.len()));
+        return Err(not_here(tokens));
     };
     let up = open_levels(level, 1, tokens)?;
     let (value, rest, _) = expression(alloc, inner, up)?;
@@ -56,7 +68,8 @@ fn condition(
 }
 
 fn storage(tokens: &[Spanned]) -> (Storage, &[Spanned])
-    ensures { seen tokens.now ≡ onto_storage result.0 (seen result.1.now) }
+    ensures leads { (n : ℕ) (κ : ALocal → Stack) → run limit (Want LocalGoal κ) n (seen tokens.now) ≡ run limit (Want TypeWords (local_rest result.0 κ)) n (seen result.1.now) }
+    ensures read { seen tokens.now ≡ onto_storage result.0 (seen result.1.now) }
 {
     if let Some((at, rest)) = take_key(tokens, Key::Static) {
         return (Storage::Static { at }, rest);
@@ -70,7 +83,8 @@ fn storage(tokens: &[Spanned]) -> (Storage, &[Spanned])
 /// `local`
 fn local(alloc: Global, tokens: &[Spanned], level: u32) -> Result<(Local, &[Spanned]), Fault>
     requires { level ≤ 200 }
-    ensures { IfOk result (λ x. ReadsLocal level (seen tokens.now) (local_of x.0) (seen x.1.now)) }
+    ensures read { IfOk result (λ x. ReadsLocal level (seen tokens.now) (local_of x.0) (seen x.1.now)) }
+    ensures fails { IfErr result (Fails (Want LocalGoal) level (seen tokens.now)) }
 {
     let (storage, rest) = storage(tokens);
     let (spec, rest) = spec(rest)?;
@@ -86,10 +100,16 @@ fn local(alloc: Global, tokens: &[Spanned], level: u32) -> Result<(Local, &[Span
     ))
 }
 
-fn begins_local(tokens: &[Spanned]) -> bool {
-    take_key(tokens, Key::Static).is_some()
-        || take_key(tokens, Key::Register).is_some()
-        || begins_type(tokens)
+fn begins_local(tokens: &[Spanned]) -> bool
+    ensures { MatchBool result (BeginsLocal (seen tokens.now)) (NoLocal (seen tokens.now)) }
+{
+    if let Some(_) = take_key(tokens, Key::Static) {
+        return true;
+    }
+    if let Some(_) = take_key(tokens, Key::Register) {
+        return true;
+    }
+    begins_type(tokens)
 }
 
 // A statement that is a word and a semicolon, behind the word.
@@ -100,7 +120,8 @@ fn returned(
     level: u32,
 ) -> Result<(Statement, &[Spanned]), Fault>
     requires { level ≤ 200 }
-    ensures { IfOk result (λ x. ReadsAfter (word keys.Return at) level (seen tokens.now) (statement_of x.0) (seen x.1.now)) }
+    ensures read { IfOk result (λ x. ReadsAfter (word keys.Return at) level (seen tokens.now) (statement_of x.0) (seen x.1.now)) }
+    ensures fails { IfErr result (Fails (Want PartSemi) level (seen tokens.now)) }
 {
     let (value, rest) = part_until(alloc, tokens, level, Mark::Semicolon)?;
     Ok((Statement::Return { at, value }, rest))
@@ -109,7 +130,8 @@ fn returned(
 // The statements that hold no other statement.
 fn simple(alloc: Global, tokens: &[Spanned], level: u32) -> Result<(Statement, &[Spanned]), Fault>
     requires { level ≤ 200 }
-    ensures { IfOk result (λ x. ReadsStatement level (seen tokens.now) (statement_of x.0) (seen x.1.now)) }
+    ensures read { IfOk result (λ x. ReadsStatement level (seen tokens.now) (statement_of x.0) (seen x.1.now)) }
+    ensures fails { IfErr result (Fails (Want Simple) level (seen tokens.now)) }
 {
     if let Some((_, rest)) = take_mark(tokens, Mark::Semicolon) {
         return Ok((Statement::Empty, rest));
@@ -139,6 +161,7 @@ pub fn statement(
 ) -> Result<(Statement, &[Spanned]), Fault>
     requires low { level ≤ 200 }
     ensures read { IfOk result (λ x. ReadsStatement level (seen tokens.now) (statement_of x.0) (seen x.1.now)) }
+    ensures fails { IfErr result (Fails (Want StatementGoal) level (seen tokens.now)) }
 {
     if let Some((_, inner)) = take_mark(tokens, Mark::OpenBrace) {
         let up = open_levels(level, 1, tokens)?;
@@ -173,6 +196,7 @@ fn if_behind(
 ) -> Result<(Statement, &[Spanned]), Fault>
     requires low { level ≤ 200 }
     ensures read { IfOk result (λ x. ReadsBehind (word keys.If at) level (seen tokens.now) (statement_of x.0) (seen x.1.now)) }
+    ensures fails { IfErr result (Fails (if_goals at) level (seen tokens.now)) }
 {
     let (open, condition, rest) = condition(alloc, tokens, level)?;
     let (then, rest) = statement(alloc, rest, level)?;
@@ -207,6 +231,7 @@ fn while_behind(
 ) -> Result<(Statement, &[Spanned]), Fault>
     requires low { level ≤ 200 }
     ensures read { IfOk result (λ x. ReadsBehind (word keys.While at) level (seen tokens.now) (statement_of x.0) (seen x.1.now)) }
+    ensures fails { IfErr result (Fails (while_goals at) level (seen tokens.now)) }
 {
     let (open, condition, rest) = condition(alloc, tokens, level)?;
     let (body, rest) = statement(alloc, rest, level)?;
@@ -228,11 +253,12 @@ fn do_behind(
 ) -> Result<(Statement, &[Spanned]), Fault>
     requires low { level ≤ 200 }
     ensures read { IfOk result (λ x. ReadsBehind (word keys.Do at) level (seen tokens.now) (statement_of x.0) (seen x.1.now)) }
+    ensures fails { IfErr result (Fails (do_goals at) level (seen tokens.now)) }
 {
     let (body, rest) = statement(alloc, tokens, level)?;
     let body = Box::new(alloc, body)?;
     let Some((while_at, after)) = take_key(rest, Key::While) else {
-        return Err(Fault::NotHere(rest.len()));
+        return Err(not_here(rest));
     };
     let (open, condition, rest) = condition(alloc, after, level)?;
     let rest = want_mark(rest, Mark::Semicolon)?;
@@ -255,9 +281,10 @@ fn for_behind(
 ) -> Result<(Statement, &[Spanned]), Fault>
     requires low { level ≤ 200 }
     ensures read { IfOk result (λ x. ReadsBehind (word keys.For at) level (seen tokens.now) (statement_of x.0) (seen x.1.now)) }
+    ensures fails { IfErr result (Fails (for_goals at level) level (seen tokens.now)) }
 {
     let Some((open, inner)) = take_mark(tokens, Mark::OpenParenthesis) else {
-        return Err(Fault::NotHere(tokens.len()));
+        return Err(not_here(tokens));
     };
     let up = open_levels(level, 1, tokens)?;
     let (start, rest) = part_until(alloc, inner, up, Mark::Semicolon)?;
@@ -278,7 +305,10 @@ fn for_behind(
 #[cycle(statement)]
 fn item(alloc: Global, tokens: &[Spanned], level: u32) -> Result<(Item, &[Spanned]), Fault>
     requires low { level ≤ 200 }
+    requires open { IsNot (token.Mark marks.CloseBrace) (seen tokens.now) }
     ensures read { IfOk result (λ x. ReadsItems level (seen tokens.now) (item_onto x.0 no_items) (seen x.1.now)) }
+    ensures fails { IfErr result (Fails (Want Items) level (seen tokens.now)) }
+    ensures leads { IfOk result (λ x. ItemsLead level (seen tokens.now) (seen x.1.now)) }
 {
     if begins_local(tokens) {
         let (local, rest) = local(alloc, tokens, level)?;
@@ -297,6 +327,7 @@ pub fn items(
 ) -> Result<(Vec<Item>, &[Spanned]), Fault>
     requires low { level ≤ 200 }
     ensures read { IfOk result (λ x. ReadsItems level (seen tokens.now) (items_of x.0.items) (sign marks.CloseBrace 0 ∷ seen x.1.now)) }
+    ensures fails { IfErr result (Fails (Want Items) level (seen tokens.now)) }
 {
     let mut list = Vec::new(alloc);
     let mut rest = tokens;

@@ -4,17 +4,25 @@ ghost use Rattle.std.specs.Bool.{MatchBool};
 ghost use Rattle.c_tokens.specs.declared.token.Token.TheVariants as token;
 ghost use Rattle.c_tokens.specs.declared.marks.Mark.{Mark};
 ghost use Rattle.c_tokens.specs.declared.words.Key.TheVariants as keys;
-ghost use Rattle.c_syntax.specs.declared.fault.Fault.TheVariants as faults;
-ghost use Rattle.c_syntax.specs.Classes.{placed, seen, word, sign, is_kept, mark_class, key_class, class_of};
-ghost use Rattle.c_syntax.specs.Phrases.{binary_mark, prefix_mark, step_mark, assign_mark, level_of};
-ghost use Rattle.c_syntax.specs.Reads.{IsNot};
-ghost use Rattle.c_syntax.specs.Takes.{binary_of, prefix_of, step_of, assign_of, is_type_word, IsTypeWord, NoTypeWord, NoMark, NoBinary, NoPrefix, NoStep, NoAssign};
+ghost use Rattle.c_goals.specs.declared.fault.Fault.TheVariants as faults;
+ghost use Rattle.c_phrases.specs.Classes.{placed, seen, word, sign, is_kept, mark_class, key_class, class_of};
+ghost use Rattle.c_phrases.specs.Phrases.{binary_mark, prefix_mark, step_mark, assign_mark};
+ghost use Rattle.c_phrases.specs.Fronts.{IsNot};
+ghost use Rattle.c_phrases.specs.Takes.{binary_of, prefix_of, step_of, assign_of, is_type_word, IsTypeWord, NoTypeWord, NoMark, NoBinary, NoPrefix, NoStep, NoAssign};
 
-use crate::fault::Fault;
-use crate::operator::{AssignOperator, BinaryOperator, PrefixOperator, StepOperator};
+use c_goals::fault::Fault;
+use c_phrases::operator::{AssignOperator, BinaryOperator, PrefixOperator, StepOperator};
 use c_tokens::{Key, Mark, Spanned, Token};
 
 pub const LEVELS: u32 = 200;
+
+/// The fault of the token at the front, that it may not stand there.
+#[tactic(auto, using(crate::proofs::Seen::length_seen))]
+pub fn not_here(tokens: &[Spanned]) -> Fault
+    ensures { result ≡ faults.NotHere (length (seen tokens.now)) }
+{
+    Fault::NotHere(tokens.len())
+}
 
 fn is_mark(kind: &Token, wanted: Mark) -> bool
     ensures { IsTrue result ↔ kind.now ≡ token.Mark wanted }
@@ -63,7 +71,6 @@ pub fn take_key(tokens: &[Spanned], wanted: Key) -> Option<(u32, &[Spanned])>
 }
 
 /// What stands behind the wanted mark, whose offset is not kept.
-#[tactic(auto, using(crate::proofs::Seen::length_seen))]
 pub fn want_mark(tokens: &[Spanned], wanted: Mark) -> Result<&[Spanned], Fault>
     requires { is_kept (mark_class wanted) ≡ false }
     ensures found { IfOk result (λ rest. seen tokens.now ≡ sign wanted 0 ∷ seen rest.now) }
@@ -71,7 +78,7 @@ pub fn want_mark(tokens: &[Spanned], wanted: Mark) -> Result<&[Spanned], Fault>
 {
     match take_mark(tokens, wanted) {
         Some((_, rest)) => Ok(rest),
-        None => Err(Fault::NotHere(tokens.len())),
+        None => Err(not_here(tokens)),
     }
 }
 
@@ -199,29 +206,6 @@ fn assign_of(mark: Mark) -> Option<AssignOperator>
         Mark::ShiftLeftAssign => Some(AssignOperator::ShiftLeft),
         Mark::ShiftRightAssign => Some(AssignOperator::ShiftRight),
         _ => None,
-    }
-}
-
-impl BinaryOperator {
-    /// Its level, from 3 for `||` to 12 for `*`, `/` and `%`.
-    pub fn level(self) -> u32
-        ensures { result ≡ level_of self }
-    {
-        match self {
-            BinaryOperator::OrOr => 3,
-            BinaryOperator::AndAnd => 4,
-            BinaryOperator::Or => 5,
-            BinaryOperator::Xor => 6,
-            BinaryOperator::And => 7,
-            BinaryOperator::Equal | BinaryOperator::NotEqual => 8,
-            BinaryOperator::Less
-            | BinaryOperator::LessEqual
-            | BinaryOperator::Greater
-            | BinaryOperator::GreaterEqual => 9,
-            BinaryOperator::ShiftLeft | BinaryOperator::ShiftRight => 10,
-            BinaryOperator::Add | BinaryOperator::Subtract => 11,
-            BinaryOperator::Multiply | BinaryOperator::Divide | BinaryOperator::Remainder => 12,
-        }
     }
 }
 

@@ -1,14 +1,14 @@
 // The words and the stars of a type.
 ghost use Rattle.std.specs.Prelude.{◌≡◌, ◌∷◌, [], ℕ, length, IfOk, IfErr};
-ghost use Rattle.c_syntax.specs.declared.fault.Fault.TheVariants.{NoMemory};
-ghost use Rattle.c_syntax.specs.Classes.{seen};
-ghost use Rattle.c_syntax.specs.Goals.{Spec as SpecGoal, AfterUnsigned, Stars};
+ghost use Rattle.c_goals.specs.declared.fault.Fault.TheVariants.{NoMemory};
+ghost use Rattle.c_phrases.specs.Classes.{seen};
+ghost use Rattle.c_goals.specs.Goals.{Want, AfterUnsigned, TypeWords, type_goals};
 ghost use Rattle.c_syntax.specs.Reads.{Fails, ReadsInt, ReadsUnsigned, ReadsSpec, ReadsStars, ReadsType};
 
-use crate::fault::Fault;
-use crate::operator::Spec;
-use crate::take::{take_key, take_mark};
-use crate::tree::{Stars, TypeName};
+use crate::take::{not_here, take_key, take_mark};
+use c_goals::fault::Fault;
+use c_phrases::operator::Spec;
+use c_phrases::tree::{Stars, TypeName};
 use c_tokens::{Key, Mark, Spanned};
 use std::alloc::Global;
 
@@ -26,6 +26,7 @@ fn int_behind(tokens: &[Spanned]) -> (Option<u32>, &[Spanned])
 // Behind `unsigned`, which stands at the offset.
 fn unsigned(tokens: &[Spanned], at: u32) -> Result<(Spec, &[Spanned]), Fault>
     ensures read { IfOk result (λ x. ReadsUnsigned at (seen tokens.now) x.0 (seen x.1.now)) }
+    ensures fails { (n : ℕ) → IfErr result (Fails (Want (AfterUnsigned at)) n (seen tokens.now)) }
 {
     if let Some((char_at, rest)) = take_key(tokens, Key::Char) {
         return Ok((Spec::UnsignedChar { at, char_at }, rest));
@@ -41,12 +42,13 @@ fn unsigned(tokens: &[Spanned], at: u32) -> Result<(Spec, &[Spanned]), Fault>
             rest,
         ));
     }
-    Err(Fault::NotHere(tokens.len()))
+    Err(not_here(tokens))
 }
 
 /// `spec`
 pub fn spec(tokens: &[Spanned]) -> Result<(Spec, &[Spanned]), Fault>
     ensures read { IfOk result (λ x. ReadsSpec (seen tokens.now) x.0 (seen x.1.now)) }
+    ensures fails { (n : ℕ) → IfErr result (Fails (Want TypeWords) n (seen tokens.now)) }
 {
     if let Some((at, rest)) = take_key(tokens, Key::Int) {
         return Ok((Spec::Int { at }, rest));
@@ -64,7 +66,7 @@ pub fn spec(tokens: &[Spanned]) -> Result<(Spec, &[Spanned]), Fault>
     if let Some((at, rest)) = take_key(tokens, Key::Unsigned) {
         return unsigned(rest, at);
     }
-    Err(Fault::NotHere(tokens.len()))
+    Err(not_here(tokens))
 }
 
 /// `stars`
@@ -85,6 +87,7 @@ pub fn stars(alloc: Global, tokens: &[Spanned]) -> Result<(Stars, &[Spanned]), F
 /// `spec stars`
 pub fn type_name(alloc: Global, tokens: &[Spanned]) -> Result<(TypeName, &[Spanned]), Fault>
     ensures read { IfOk result (λ x. ReadsType (seen tokens.now) x.0 (seen x.1.now)) }
+    ensures fails { (n : ℕ) → IfErr result (Fails type_goals n (seen tokens.now)) }
 {
     let (spec, rest) = spec(tokens)?;
     let (stars, rest) = stars(alloc, rest)?;

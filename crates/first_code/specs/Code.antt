@@ -5,9 +5,20 @@ use Rattle.vax_core.specs.declared.code.Code.{Code}
 use Rattle.vax_core.specs.First.{Act}
 use Rattle.vax_core.specs.First.{Push, Add, Subtract, Put, Pop, Return}
 use Rattle.vax_core.specs.First.{first_code}
+use Rattle.first_code.specs.declared.stack_op.StackOp.{StackOp}
+use Rattle.first_code.specs.declared.stack_op.StackOp.TheVariants as operations
 use Rattle.first_form.specs.declared.syntax.Sign.{Sign}
 use Rattle.first_form.specs.declared.syntax.Sign.TheVariants.{Plus, Minus}
 use Rattle.first_form.specs.Shapes.{Shape, Number, Signed, Parenthesised, ProgramShape}
+
+-- the act of an operation
+abbrev pub act_of : StackOp → Act
+act_of (operations.Push n) = Push n
+act_of operations.Add = Add
+act_of operations.Subtract = Subtract
+act_of operations.Put = Put
+act_of operations.Pop = Pop
+act_of operations.Return = Return
 
 abbrev pub sign_act : Sign → Act
 sign_act Plus = Add

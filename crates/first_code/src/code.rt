@@ -4,13 +4,12 @@ ghost use Rattle.first_form.specs.Shapes.{shape, program_shape};
 ghost use Rattle.first_form.specs.Source.{IsFirstForm};
 ghost use Rattle.first_form.specs.Meaning.{value, written};
 ghost use Rattle.vax_core.specs.First.{act_item, IsFirstCode};
-ghost use Rattle.first_text.specs.Reading.{act_of};
-ghost use Rattle.first_code.specs.Code.{sign_act, expression_acts, put_acts, return_acts, program_code};
+ghost use Rattle.first_code.specs.Code.{act_of, sign_act, expression_acts, put_acts, return_acts, program_code};
 ghost use Rattle.first_code.specs.Keeps.{Keeps, Halts};
 
+use crate::item::{entry, item};
+use crate::stack_op::StackOp;
 use first_form::{Expression, Program, Sign};
-use first_text::StackOp;
-use first_text::item::{entry, item};
 use gg_base::NoMemory;
 use std::alloc::Global;
 use vax_core::{AreaItems, Code, CodeItem, CodeItems};
@@ -67,7 +66,7 @@ fn emit_return(alloc: Global, code: &mut Vec<CodeItem>, e: &Expression) -> Resul
 /// `main`.
 pub fn emit(alloc: Global, program: &Program) -> Result<Code, NoMemory>
     ensures code { IfOk result (λ c. c ≡ program_code (program_shape program.now)) }
-    // It is one that the reader of such texts answers.
+    // It is a list of stack operations, in which no pushed number is negative.
     ensures first { OnOk result (IsFirstForm (program_shape program.now) → IsFirstCode (program_code (program_shape program.now))) }
     // It does what the program does, on each input.
     ensures kept { OnOk result (IsFirstForm (program_shape program.now) → Keeps (program_shape program.now) (program_code (program_shape program.now))) }

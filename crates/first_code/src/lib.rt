@@ -3,7 +3,9 @@
 
 pub mod code;
 pub mod halt;
+mod item;
 pub mod laws;
+pub mod stack_op;
 
 pub use code::emit;
 pub use halt::{Halted, run_to_end};

@@ -3,11 +3,17 @@ use Rattle.std.proofs.Common.{◌≡◌, ℕ, List, [], ◌++◌, sym, ap, subst
 use Rattle.gg_base.specs.declared.run.End.TheVariants.{Ended}
 use Rattle.gg_base.specs.Runs.{Outcome}
 use Rattle.vax_core.specs.declared.code.Code.{Code}
+use Rattle.vax_core.specs.Text.{asm_text}
+use Rattle.vax_reader.specs.Grammar.{Reads}
 use Rattle.first_form.specs.Shapes.{ProgramShape}
 use Rattle.first_form.specs.Meaning.{value, written, source_run}
 use Rattle.first_form.specs.EndLine.{ended_line_of}
 use Rattle.first_code.specs.Keeps.{Halts}
 use Rattle.gg_first.specs.Outcome.{TellsRun}
+
+-- bytes that are the text of a code that comes to its end are read as that code
+pub reads_text : (bytes : List ℕ) (c : Code) (input output : List ℕ) (v : ℕ) → Halts c input output v → bytes ≡ asm_text c → Reads bytes c
+reads_text bytes c input output v h e = record { valid = h.valid; text = e }
 
 -- an equal code comes to the same end
 pub halts_as : (c d : Code) (input output : List ℕ) (v : ℕ) → c ≡ d → Halts d input output v → (o : List ℕ) × ((w : ℕ) × Halts c input o w)

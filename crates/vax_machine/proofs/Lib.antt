@@ -9,3 +9,4 @@ pub mod Labelling
 pub mod TableLaws
 pub mod LayoutLaws
 pub mod Starting
+pub mod Room

@@ -1,13 +1,13 @@
 -- Memory: the data area and the stack, addressed by bytes, little-endian, unaligned accesses allowed. The control words of live frames take room in the stack and may not be touched.
-use Rattle.std.specs.Prelude.{ℕ, ◌+◌, ◌-◌, ◌%◌, ◌^◌, Bool, false, ◌&&◌, ◌||◌, ◌==◌, nat_lt, nat_le, List, [], ◌∷◌, ◌++◌, length, take, drop, slice_index, slice_set, Result, Ok, Err, if◌then◌else◌}
+use Rattle.std.specs.Prelude.{ℕ, ◌+◌, ◌-◌, ◌%◌, ◌^◌, ◌&&◌, ◌==◌, nat_lt, nat_le, List, ◌++◌, length, take, drop, slice_index, slice_set, Result, Ok, Err, if◌then◌else◌}
 use Rattle.std.specs.Int.{w16, w32, to_le_bytes, from_le_bytes}
 use Rattle.gg_base.specs.declared.size.Size.{Size}
 use Rattle.gg_base.specs.declared.size.Size.TheVariants.{Byte, Word, Long}
 use Rattle.gg_base.specs.Sizes.{bytes_of}
 use Rattle.vax_core.specs.declared.register.Reg.{Reg}
 use Rattle.vax_core.specs.Registers.{reg_number}
+use Rattle.vax_live.specs.Control.{in_control}
 use Rattle.vax_machine.specs.declared.turn.Stop.{Stop}
-use Rattle.vax_machine.specs.declared.frame.Frame.{Frame}
 use Rattle.vax_machine.specs.declared.memory.Region.{Region}
 use Rattle.vax_machine.specs.declared.memory.Region.TheVariants as regions
 use Rattle.vax_machine.specs.State.{State, with_reg, access, frame, stack_full, ◌>>=◌}
@@ -29,11 +29,6 @@ abbrev pub with_number : Size → List ℕ → ℕ → ℕ → List ℕ
 with_number Byte bytes at v = slice_set bytes at (v % 2 ^ 8)
 with_number Word bytes at v = take at bytes ++ (to_le_bytes w16 (v % 2 ^ 16) ++ drop (at + 2) bytes)
 with_number Long bytes at v = take at bytes ++ (to_le_bytes w32 v ++ drop (at + 4) bytes)
-
--- some of the k bytes from an address on are control words of a live frame
-abbrev pub in_control : List Frame → ℕ → ℕ → Bool
-in_control [] address k = false
-in_control (f ∷ fs) address k = (nat_lt f.fp (address + k) && nat_lt address f.top) || in_control fs address k
 
 -- where the bytes from an address on are kept: the data area begins at 65536, the stack lies from 2139095040 to 2147483648
 unfoldable pub touched : State → ℕ → Size → Result Region Stop

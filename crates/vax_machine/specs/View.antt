@@ -11,7 +11,7 @@ state m = record {
   conditions = m.conditions;
   area = m.area.items;
   stack = m.stack.items;
-  frames = m.frames.items;
+  frames = m.frames;
   input = m.input.now;
   over = m.over;
 }

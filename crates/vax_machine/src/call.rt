@@ -1,14 +1,14 @@
 // Calls, returns and the two services.
-ghost use Rattle.std.specs.Prelude.{◌≡◌, ◌-◌, ◌<◌, length, slice_get, IsSome};
+ghost use Rattle.std.specs.Prelude.{◌≡◌, ◌<◌, length, slice_get, IsSome};
 ghost use Rattle.vax_machine.specs.Calls.{entry_mask};
 
-use crate::frame::Frame;
 use crate::function::Conditions;
 use crate::machine::Machine;
 use crate::turn::{self, BAD_CODE, STACK_FULL, Stop};
 use gg_base::limits::FRAME_LIMIT;
 use gg_base::{Name, Size, w32};
 use vax_core::{CodeItem, Reg};
+use vax_live::Frame;
 
 // The entry mask at a place, where one stands there.
 fn entry_mask(items: &[CodeItem], place: usize) -> Option<u16>
@@ -25,7 +25,9 @@ fn entry_mask(items: &[CodeItem], place: usize) -> Option<u16>
 }
 
 impl<'a> Machine<'a> {
-    ghost use Rattle.vax_machine.specs.State.{Does, Leaves};
+    ghost use Rattle.vax_core.specs.declared.register.Reg.TheVariants.{Sp};
+    ghost use Rattle.vax_live.specs.Owners.{HasRoom};
+    ghost use Rattle.vax_machine.specs.State.{Does, Leaves, reg};
     ghost use Rattle.vax_machine.specs.Calls.{pushed, reserved, all_reserved, entered, framed, called, returned, putchar, getchar, called_by_name, restored, left, back_to};
     ghost use Rattle.vax_machine.specs.View.{state};
     ghost use Rattle.vax_machine.specs.Tables.{target_of};
@@ -68,13 +70,14 @@ impl<'a> Machine<'a> {
         behind: usize,
         back: Option<usize>,
     ) -> Result<(), Stop>
+        requires { HasRoom self.old.frames (reg (state self.old) Sp) top }
         ensures { Leaves result (state self.new) (entered (state self.old) ap top mask behind back) }
     {
         if self.frames.len() >= FRAME_LIMIT as usize {
             return Err(STACK_FULL);
         }
         let fp = self.register(Reg::Sp);
-        self.frames.push_reserved(Frame {
+        self.frames.push(Frame {
             fp,
             top,
             ap,
@@ -125,15 +128,6 @@ impl<'a> Machine<'a> {
         }
     }
 
-    fn innermost(&self) -> Option<Frame>
-        ensures { result ≡ slice_get self.now.frames.items (length self.now.frames.items - 1) }
-    {
-        if self.frames.is_empty() {
-            return None;
-        }
-        Some(self.frames[self.frames.len() - 1])
-    }
-
     // Restores the registers that a frame saved, and takes its arguments off the stack.
     fn leave(&mut self, f: &Frame, count: u32)
         ensures { state self.new ≡ left (state self.old) f.now count }
@@ -175,13 +169,13 @@ impl<'a> Machine<'a> {
     pub(crate) fn return_from_call(&mut self) -> Result<Option<u8>, Stop>
         ensures { Does result (state self.new) (returned (state self.old)) }
     {
-        let Some(f) = self.innermost() else {
+        let Some(f) = self.frames.innermost() else {
             return Err(BAD_CODE);
         };
         if self.register(Reg::Fp) != f.fp {
             return Err(turn::FRAME);
         }
-        let _ = self.frames.pop();
+        self.frames.pop();
         let count = self.read(f.ap, Size::Byte)?;
         self.leave(&f, count);
         self.go_back(f.back)

@@ -3,7 +3,6 @@
 
 pub mod area;
 pub mod call;
-pub mod frame;
 pub mod function;
 pub mod label;
 pub mod laws;

@@ -1,15 +1,15 @@
 // Making a machine of a code.
-ghost use Rattle.std.specs.Prelude.{◌≡◌, ◌⊎◌, [], true, None, IfOk, IfErr, vec_len, vec_capacity};
+ghost use Rattle.std.specs.Prelude.{◌≡◌, ◌⊎◌, true, None, IfOk, IfErr};
 
 use crate::area::{lay_out, zeros};
-use crate::frame::Frame;
 use crate::function::Conditions;
 use crate::label::{Labels, Names, area_labels, code_labels};
 use crate::machine::Machine;
 use gg_base::Name;
-use gg_base::limits::{FRAME_LIMIT, STACK_SIZE, STACK_TOP};
+use gg_base::limits::{STACK_SIZE, STACK_TOP};
 use std::alloc::{AllocError, AllocFailed, Global};
 use vax_core::Code;
+use vax_live::Frames;
 
 /// Why a code can't be run. Each name is the first such one in the text's order.
 #[derive(Drop)]
@@ -52,13 +52,6 @@ fn copied(alloc: Global, name: &Name) -> Result<Name, AllocError>
     ensures { IfOk result (λ n. n ≡ name.now) }
 {
     Ok(Name::from_vec(Vec::from_slice(alloc, name.as_slice())?))
-}
-
-fn no_frames(alloc: Global) -> Result<Vec<Frame>, AllocError>
-    ensures items { IfOk result (λ v. v.items ≡ []) }
-    ensures room { IfOk result (λ v. vec_capacity v ≡ 4096) }
-{
-    Vec::with_capacity(alloc, FRAME_LIMIT as usize)
 }
 
 ghost use Rattle.vax_core.specs.Valid.{is_code};
@@ -117,7 +110,7 @@ pub fn load<'a>(alloc: Global, code: &'a Code, input: &'a [u8]) -> Result<Machin
         conditions: Conditions::CLEARED,
         area: names.area_bytes(alloc, &layout)?,
         stack: zeros(alloc, STACK_SIZE as usize)?,
-        frames: no_frames(alloc)?,
+        frames: Frames::new(alloc)?,
         input,
         over: None,
     };

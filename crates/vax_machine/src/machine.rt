@@ -1,13 +1,13 @@
 // The machine's state and its step.
-ghost use Rattle.std.specs.Prelude.{◌≡◌, ◌≤◌, vec_len, vec_capacity};
+ghost use Rattle.std.specs.Prelude.{◌≡◌, ◌≤◌, vec_len};
 
-use crate::frame::Frame;
 use crate::function::{Action, Computed, Conditions, Function, Test, action_of};
 use crate::operands::{Arguments, Destination};
 use crate::program::{Links, Program};
 use crate::turn::{BAD_CODE, Stop, Turn};
 use gg_base::{Name, Size};
 use vax_core::{CodeItem, Instr, Shape};
+use vax_live::Frames;
 
 /// A machine that runs a code on an input.
 #[derive(Drop)]
@@ -19,13 +19,11 @@ pub struct Machine<'a> {
     pub(crate) conditions: Conditions,
     pub(crate) area: Vec<u8>,
     pub(crate) stack: Vec<u8>,
-    /// The live frames, the innermost last.
-    pub(crate) frames: Vec<Frame>,
+    pub(crate) frames: Frames,
     pub(crate) input: &'a [u8],
     pub(crate) over: Option<Stop>,
     ghost whole_stack: { vec_len stack ≡ 8388608 },
     ghost area_bound: { vec_len area ≤ 1048576 },
-    ghost room_for_frames: { vec_capacity frames ≡ 4096 },
 }
 
 impl<'a> Machine<'a> {

@@ -1,10 +1,9 @@
 // Memory: the data area and the stack, as bytes.
 ghost use Rattle.std.specs.Prelude.{◌≡◌, ◌+◌, ◌≤◌, ◌<◌, length, IfOk};
 ghost use Rattle.gg_base.specs.Sizes.{bytes_of};
-ghost use Rattle.vax_machine.specs.Memory.{low, number_in, with_number, in_control, merged};
+ghost use Rattle.vax_machine.specs.Memory.{low, number_in, with_number, merged};
 ghost use Rattle.vax_core.specs.Registers.{reg_number};
 
-use crate::frame::Frame;
 use crate::machine::Machine;
 use crate::turn::{ACCESS, FRAME, STACK_FULL, Stop};
 use gg_base::limits::{AREA_START, STACK_START, STACK_TOP};
@@ -72,18 +71,6 @@ fn number_of(r: Reg) -> usize
     r.number()
 }
 
-// Whether some of the `count` bytes from an address on are control words of a live frame.
-fn in_control(frames: &[Frame], address: u32, count: u32) -> bool
-    ensures { result ≡ in_control frames.now address count }
-{
-    for f in frames {
-        if (f.fp as u64) < address as u64 + count as u64 && address < f.top {
-            return true;
-        }
-    }
-    false
-}
-
 impl<'a> Machine<'a> {
     ghost use Rattle.vax_machine.specs.State.{Leaves};
     ghost use Rattle.vax_machine.specs.State.{reg};
@@ -102,7 +89,7 @@ impl<'a> Machine<'a> {
             return Ok(Region::Area((address - AREA_START) as usize));
         }
         if STACK_START <= address && end <= STACK_TOP as u64 {
-            if in_control(self.frames.as_slice(), address, size.bytes()) {
+            if self.frames.hold(address, size.bytes()) {
                 return Err(FRAME);
             }
             return Ok(Region::Stack((address - STACK_START) as usize));

@@ -1,6 +1,6 @@
 use Rattle.std.proofs.Common.{length}
-use Rattle.c_syntax.specs.Classes.{seen}
-use Rattle.c_syntax.specs.Shapes.{exp_list}
+use Rattle.c_phrases.specs.Classes.{seen}
+use Rattle.c_phrases.specs.Shapes.{exp_list}
 use Rattle.c_syntax.specs.Reads.{ArgumentsSoFar}
 use Rattle.c_syntax.proofs.declarations.elements.Given as goal
 

@@ -1,7 +1,7 @@
 use Rattle.std.proofs.Common.{◌+◌, ◌*◌, ◌-◌, length}
-use Rattle.c_syntax.specs.Classes.{seen}
-use Rattle.c_syntax.specs.UnitShapes.{items_of}
-use Rattle.c_syntax.specs.Stands.{ReadsItems}
+use Rattle.c_phrases.specs.Classes.{seen}
+use Rattle.c_phrases.specs.UnitShapes.{items_of}
+use Rattle.c_syntax.specs.Stands.{ReadsItems, ItemsLead}
 use Rattle.c_syntax.proofs.statements.+statement.Given as goal
 
 abbrev pub decreases-statement : goal.decreases-statement
@@ -26,7 +26,7 @@ abbrev pub decreases-items : goal.decreases-items
 decreases-items l = (200 - l.level) * 4 + 2
 
 abbrev pub invariant-items-loop-last : goal.invariant-items-loop-last
-invariant-items-loop-last l = ReadsItems l.fn.level (seen l.fn.tokens) (items_of l.list.items) (seen l.rest)
+invariant-items-loop-last l = ReadsItems l.fn.level (seen l.fn.tokens) (items_of l.list.items) (seen l.rest) × ItemsLead l.fn.level (seen l.fn.tokens) (seen l.rest)
 
 abbrev pub decreases-items-loop-last : goal.decreases-items-loop-last
 decreases-items-loop-last l = length (seen l.rest)

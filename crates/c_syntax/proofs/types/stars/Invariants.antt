@@ -1,5 +1,5 @@
 use Rattle.std.proofs.Common.{length}
-use Rattle.c_syntax.specs.Classes.{seen}
+use Rattle.c_phrases.specs.Classes.{seen}
 use Rattle.c_syntax.specs.Reads.{StarsSoFar}
 use Rattle.c_syntax.proofs.types.stars.Given as goal
 

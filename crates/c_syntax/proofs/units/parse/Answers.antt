@@ -1,7 +1,21 @@
-use Rattle.c_syntax.specs.Classes.{seen}
-use Rattle.c_syntax.specs.UnitShapes.{unit_of}
-use Rattle.c_syntax.proofs.Unique.{same_unit}
+use Rattle.c_goals.specs.declared.fault.Fault.TheVariants.{NotHere, TooDeep}
+use Rattle.c_syntax.proofs.Parsing.{one_unit, no_fault, stops_here, stops_deep, refused_at, deep_at}
 use Rattle.c_syntax.proofs.units.parse.Goals as goal
 
 pub returns-in-Ok-clause-alone : goal.returns-in-Ok-clause-alone
-returns-in-Ok-clause-alone c = λ u h. same_unit (seen c.args.tokens.now) (unit_of c.in-Ok.ast) u c.in-Ok.ensures h
+returns-in-Ok-clause-alone c = λ u is. one_unit c.args.tokens.now c.in-Ok.ast u c.in-Ok.ensures.read is
+
+pub returns-in-Ok-clause-only : goal.returns-in-Ok-clause-only
+returns-in-Ok-clause-only c = λ u is. one_unit c.args.tokens.now c.in-Ok.ast u c.in-Ok.ensures.read is
+
+pub returns-in-Err-NotHere-clause-only : goal.returns-in-Err-NotHere-clause-only
+returns-in-Err-NotHere-clause-only c = λ u is. no_fault c.args.tokens.now u (NotHere c.in-Err-NotHere.left) is (stops_here c.args.tokens.now c.in-Err-NotHere.field-0 c.in-Err-NotHere.left c.in-Err-NotHere.field-0-is c.in-Err-NotHere.ensures.fails)
+
+pub returns-in-Err-NotHere-clause-refused : goal.returns-in-Err-NotHere-clause-refused
+returns-in-Err-NotHere-clause-refused c = λ ended. refused_at c.args.tokens.now c.in-Err-NotHere.left c.offset_of.result ended (stops_here c.args.tokens.now c.in-Err-NotHere.field-0 c.in-Err-NotHere.left c.in-Err-NotHere.field-0-is c.in-Err-NotHere.ensures.fails) c.offset_of.ensures
+
+pub returns-in-Err-TooDeep-clause-only : goal.returns-in-Err-TooDeep-clause-only
+returns-in-Err-TooDeep-clause-only c = λ u is. no_fault c.args.tokens.now u (TooDeep c.in-Err-TooDeep.left) is (stops_deep c.args.tokens.now c.in-Err-TooDeep.field-0 c.in-Err-TooDeep.left c.in-Err-TooDeep.field-0-is c.in-Err-TooDeep.ensures.fails)
+
+pub returns-in-Err-TooDeep-clause-refused : goal.returns-in-Err-TooDeep-clause-refused
+returns-in-Err-TooDeep-clause-refused c = deep_at c.args.tokens.now c.in-Err-TooDeep.left c.offset_of-in-Err-TooDeep.result (stops_deep c.args.tokens.now c.in-Err-TooDeep.field-0 c.in-Err-TooDeep.left c.in-Err-TooDeep.field-0-is c.in-Err-TooDeep.ensures.fails) c.offset_of-in-Err-TooDeep.ensures

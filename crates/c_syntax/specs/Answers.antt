@@ -1,0 +1,21 @@
+-- What the parser answers.
+use Rattle.std.specs.Prelude.{◌≡◌, List, Result, Ok, Err}
+use Rattle.c_tokens.specs.declared.token.Spanned.{Spanned}
+use Rattle.c_phrases.specs.declared.tree.Ast.{Ast}
+use Rattle.c_phrases.specs.UnitShapes.{unit_of}
+use Rattle.c_phrases.specs.Units.{AUnit}
+use Rattle.c_goals.specs.Refusals.{IsEnded, NotHereAt, TooDeepAt}
+use Rattle.c_syntax.specs.declared.fault.SyntaxFault.{SyntaxFault}
+use Rattle.c_syntax.specs.declared.fault.SyntaxFault.TheVariants.{NoMemory, NotHere, TooDeep}
+
+-- The fault that is answered is that of these tokens: where the last is the end of the text, as it is of each text's tokens, a token that may not stand there, or else the first that is too deep.
+abbrev pub Refused : List Spanned → SyntaxFault → Type 0
+Refused ts NoMemory = Unit {0}
+Refused ts (NotHere place) = IsEnded ts → NotHereAt ts place
+Refused ts (TooDeep place) = TooDeepAt ts place
+
+-- this unit is answered, or memory ran out
+abbrev pub IsThat : Result Ast SyntaxFault → AUnit → Type 0
+IsThat (Ok x) u = unit_of x ≡ u
+IsThat (Err NoMemory) u = Unit {0}
+IsThat (Err f) u = ⊥

@@ -1,0 +1,16 @@
+pub mod Longwords
+pub mod Values
+pub mod Leads
+pub mod Steps
+pub mod Agreeing
+pub mod Doing
+pub mod Placing
+pub mod Storing
+pub mod Assigning
+pub mod Calling
+pub mod Conditions
+pub mod Ways
+pub mod Statements
+pub mod Functions
+pub mod Labels
+pub mod Whole

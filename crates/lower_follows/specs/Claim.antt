@@ -1,0 +1,12 @@
+-- What is claimed of lowering.
+use Rattle.std.specs.Prelude.{ℕ, List}
+use Rattle.gg_base.specs.Follows.{Follows}
+use Rattle.tree_meaning.specs.Meaning.{tree_run}
+use Rattle.c_program.specs.Programs.{AProgram}
+use Rattle.c_meaning.specs.Meaning.{source}
+use Rattle.lower_trees.specs.Programs.{lowered}
+use Rattle.lower_follows.specs.Sound.{AreBytes, IsSound}
+
+-- On every input the run of the trees follows the run of the program.
+abbrev pub LoweringFollows : Type 0
+LoweringFollows = (p : AProgram) → IsSound p → (input : List ℕ) → AreBytes input → Follows (source p input) (tree_run (lowered p) input)
