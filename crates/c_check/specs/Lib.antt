@@ -1,3 +1,4 @@
 pub mod Typed
+pub mod Laid
 pub mod Functions
 pub mod Views

@@ -7,6 +7,7 @@ ghost use Rattle.c_declarations.specs.Views.{state};
 ghost use Rattle.c_program.specs.Programs.{routine, program};
 ghost use Rattle.c_statements.specs.Views.{text};
 ghost use Rattle.c_typing.specs.Texts.{services, service_names, known, known_with, type_globals, type_external, type_externals, type_text, empty_text, is_main, main_of};
+ghost use Rattle.c_check.specs.Laid.{AreLaid};
 ghost use Rattle.c_check.specs.Typed.{IsTypedUnit, need_at};
 ghost use Rattle.c_check.specs.Functions.{functions_of};
 
@@ -42,7 +43,8 @@ impl Program {
 
     /// The objects: globals, static locals and string literals, in the order of their names or literals.
     pub fn layout(&self) -> &[Object]
-        ensures { result.now ≡ (program self.now.held).objects }
+        ensures objects { result.now ≡ (program self.now.held).objects }
+        ensures laid { ∥ AreLaid result.now ∥₁ }
     {
         self.held.objects.as_slice()
     }
