@@ -98,10 +98,14 @@ fn answer(alloc: Global, text: &str) -> Result<&'static str, Fail> {
 #[test]
 fn too_many_item_sets_are_refused(rt: HostRuntime) -> Result<(), Fail> {
     let alloc = rt.alloc();
+    // 6,999 item sets.
     let text = crowded(alloc, 999)?;
     assert_eq!(rt; answer(alloc, text.as_str())?, "full");
-    let text = crowded(alloc, 400)?;
-    assert_eq!(rt; answer(alloc, text.as_str())?, "ok");
+    // 4,096, and one more with a rule of one token.
+    let mut text = crowded(alloc, 584)?;
+    assert_eq!(rt; states(alloc, text.as_str())?, 4096);
+    text.push_str("rule reg : One\n  give fresh\n")?;
+    assert_eq!(rt; answer(alloc, text.as_str())?, "full");
     Ok(())
 }
 
