@@ -1,0 +1,5 @@
+pub mod Views
+pub mod Changes
+pub mod Sizes
+pub mod Declarations
+pub mod Roots
