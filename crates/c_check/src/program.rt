@@ -1,10 +1,12 @@
 // Whole texts.
-ghost use Rattle.std.specs.Prelude.{◌≡◌, ◌<◌, ◌∷◌, [], IfOk, codes, length, map, Some, Ok};
-ghost use Rattle.c_types.specs.Answers.{Gives};
+ghost use Rattle.std.specs.Prelude.{◌≡◌, ◌<◌, ◌∷◌, [], IfOk, IfErr, codes, length, map, Some, Ok};
+ghost use Rattle.c_types.specs.Answers.{Fault, Gives};
+ghost use Rattle.c_rules.specs.Table.{Refused, OnlyAnswer, OnlyFault};
+ghost use Rattle.c_judgements.specs.Texts.{IsText, TextFault};
 ghost use Rattle.c_phrases.specs.UnitShapes.{external_of, externals_of, declarators_of, unit_of};
 ghost use Rattle.c_scope.specs.Answers.{OnlyTurns};
 ghost use Rattle.c_declarations.specs.Views.{state};
-ghost use Rattle.c_program.specs.Programs.{routine, program};
+ghost use Rattle.c_program.specs.Programs.{AProgram, routine, program};
 ghost use Rattle.c_statements.specs.Views.{text};
 ghost use Rattle.c_typing.specs.Texts.{services, service_names, known, known_with, type_globals, type_external, type_externals, type_text, empty_text, is_main, main_of};
 ghost use Rattle.c_check.specs.Laid.{AreLaid};
@@ -202,10 +204,9 @@ fn main_number(routines: &[Routine]) -> Option<usize>
     None
 }
 
-/// A unit with its types and its layout, or its first fault: externals in order, the parts of each from left to right,
-/// operands before their operator; NoMain, at the end of the text, behind all others.
+// The typed program of a unit, or its first fault, by the definition.
 #[tactic(auto, using(crate::proofs::Texts::no_fault))]
-pub fn check(alloc: Global, ast: &Ast) -> Result<Program, TypeFault>
+fn typed_unit(alloc: Global, ast: &Ast) -> Result<Program, TypeFault>
     ensures computed { Gives (λ p. program p.held) result (type_text (unit_of ast.now).externals (unit_of ast.now).end) }
 {
     let functions = known(alloc, &ast.externals)?;
@@ -225,4 +226,16 @@ pub fn check(alloc: Global, ast: &Ast) -> Result<Program, TypeFault>
             },
         }),
     }
+}
+
+/// A unit with its types and its layout, or its first fault: externals in order, the parts of each from left to right,
+/// operands before their operator; NoMain, at the end of the text, behind all others.
+pub fn check(alloc: Global, ast: &Ast) -> Result<Program, TypeFault>
+    ensures computed { Gives (λ p. program p.held) result (type_text (unit_of ast.now).externals (unit_of ast.now).end) }
+    ensures found { IfOk result (λ p. IsText (unit_of ast.now).externals (program p.held)) }
+    ensures only { (p : AProgram) → IsText (unit_of ast.now).externals p → OnlyAnswer (λ p. program p.held) result p }
+    ensures refused { IfErr result (λ e. Refused (TextFault (unit_of ast.now).externals (unit_of ast.now).end) e) }
+    ensures first { (f : Fault) → TextFault (unit_of ast.now).externals (unit_of ast.now).end f → OnlyFault result f }
+{
+    typed_unit(alloc, ast)
 }

@@ -1,0 +1,122 @@
+-- Which bytes are the source of which program, and why bytes are none.
+use Rattle.std.specs.Prelude.{◌≡◌, ◌⊎◌, ℕ, List, take, codes, Result, Ok, Err}
+use Rattle.gg_base.specs.declared.place.Place.{Place}
+use Rattle.c_tokens.specs.declared.token.Spanned.{Spanned}
+use Rattle.c_tokens.specs.declared.token.TokenKind.{TokenKind}
+use Rattle.c_tokens.specs.declared.token.TokenKind.TheVariants as tokens
+use Rattle.c_tokens.specs.Grammar.{Tokens}
+use Rattle.c_tokens.specs.Wrong.{FirstFault}
+use Rattle.c_tokens.specs.Places.{line_of, column_of}
+use Rattle.c_phrases.specs.Classes.{seen}
+use Rattle.c_phrases.specs.Units.{AUnit}
+use Rattle.c_phrases.specs.Fits.{IsUnit}
+use Rattle.c_goals.specs.Refusals.{NotHereAt, TooDeepAt}
+use Rattle.c_types.specs.declared.fault.TypeKind.{TypeKind}
+use Rattle.c_types.specs.declared.fault.TypeKind.TheVariants as types
+use Rattle.c_types.specs.Answers.{bad}
+use Rattle.c_program.specs.Programs.{AProgram}
+use Rattle.c_typing.specs.Texts.{type_text}
+use Rattle.c_typed.specs.declared.source.SourceKind.{SourceKind}
+use Rattle.c_typed.specs.declared.source.SourceKind.TheVariants as kinds
+use Rattle.c_typed.specs.declared.source.SourceFault.{SourceFault}
+use Rattle.c_typed.specs.declared.source.SourceFault.TheVariants as faults
+use Rattle.c_check.specs.declared.program.Program.{Program}
+use Rattle.c_check.specs.Views.{typed}
+
+-- the bytes are the tokens of this unit
+pub record Spells (bytes : List ℕ) (unit : AUnit) : Type 0 where
+  pub list : List Spanned
+  pub tokens : Tokens 0 bytes list
+  pub phrases : IsUnit (seen list) unit
+
+-- the bytes are the source of this program: the tokens of a unit that is typed so
+pub record Reads (bytes : List ℕ) (program : AProgram) : Type 0 where
+  pub unit : AUnit
+  pub spells : Spells bytes unit
+  pub typed : type_text unit.externals unit.end ≡ Ok program
+
+-- the line and the column of an offset
+abbrev pub place_at : List ℕ → ℕ → Place
+place_at bytes offset = record { line = line_of (take offset bytes); column = column_of (take offset bytes) }
+
+abbrev pub token_kind : TokenKind → SourceKind
+token_kind tokens.BadByte = kinds.BadByte
+token_kind tokens.BadNumber = kinds.BadNumber
+token_kind tokens.LongName = kinds.LongName
+token_kind tokens.BadEscape = kinds.BadEscape
+token_kind tokens.BadChar = kinds.BadChar
+token_kind tokens.Unclosed = kinds.Unclosed
+
+abbrev pub type_kind : TypeKind → SourceKind
+type_kind types.UnknownName = kinds.UnknownName
+type_kind types.Twice = kinds.Twice
+type_kind types.LeftOut = kinds.LeftOut
+type_kind types.BadCall = kinds.BadCall
+type_kind types.BadJump = kinds.BadJump
+type_kind types.BadConst = kinds.BadConst
+type_kind types.BadInit = kinds.BadInit
+type_kind types.BadType = kinds.BadType
+type_kind types.DataFull = kinds.DataFull
+type_kind types.NoMain = kinds.NoMain
+
+-- the first fault of the tokens stands there
+pub record HasTokenFault (bytes : List ℕ) (place : Place) (kind : SourceKind) : Type 0 where
+  pub offset : ℕ
+  pub fault : TokenKind
+  pub first : FirstFault 0 bytes offset fault
+  pub kind_is : kind ≡ token_kind fault
+  pub place_is : place ≡ place_at bytes offset
+
+-- the bytes have tokens, and the first fault of their phrases stands there
+pub record HasPhraseFault (bytes : List ℕ) (place : Place) (kind : SourceKind) : Type 0 where
+  pub list : List Spanned
+  pub tokens : Tokens 0 bytes list
+  pub offset : ℕ
+  pub first : ((kind ≡ kinds.NotHere) × NotHereAt list offset) ⊎ ((kind ≡ kinds.TooDeep) × TooDeepAt list offset)
+  pub place_is : place ≡ place_at bytes offset
+
+-- the bytes are the tokens of a unit whose first fault of types stands there
+pub record HasTypeFault (bytes : List ℕ) (place : Place) (kind : SourceKind) : Type 0 where
+  pub unit : AUnit
+  pub spells : Spells bytes unit
+  pub offset : ℕ
+  pub fault : TypeKind
+  pub first : type_text unit.externals unit.end ≡ bad offset fault
+  pub kind_is : kind ≡ type_kind fault
+  pub place_is : place ≡ place_at bytes offset
+
+-- the first fault of the bytes stands there: of their tokens, else of their phrases, else of their types
+abbrev pub IsFaultAt : List ℕ → Place → SourceKind → Type 0
+IsFaultAt bytes place kind = HasTokenFault bytes place kind ⊎ (HasPhraseFault bytes place kind ⊎ HasTypeFault bytes place kind)
+
+-- the answer says why the bytes are no source, or memory ran out
+abbrev pub IsRefused : List ℕ → SourceFault → Type 0
+IsRefused bytes faults.NoMemory = Unit {0}
+IsRefused bytes (faults.At place kind) = IsFaultAt bytes place kind
+
+-- the answer for the source of a program: this program, or memory ran out
+abbrev pub IsOnly : Result Program SourceFault → AProgram → Type 0
+IsOnly (Ok p) program = typed p ≡ program
+IsOnly (Err faults.NoMemory) program = Unit {0}
+IsOnly (Err (faults.At place kind)) program = ⊥
+
+-- the kind's name
+abbrev pub kind_name : SourceKind → List ℕ
+kind_name kinds.BadByte = codes "BadByte"
+kind_name kinds.BadNumber = codes "BadNumber"
+kind_name kinds.LongName = codes "LongName"
+kind_name kinds.BadEscape = codes "BadEscape"
+kind_name kinds.BadChar = codes "BadChar"
+kind_name kinds.Unclosed = codes "Unclosed"
+kind_name kinds.NotHere = codes "NotHere"
+kind_name kinds.TooDeep = codes "TooDeep"
+kind_name kinds.UnknownName = codes "UnknownName"
+kind_name kinds.Twice = codes "Twice"
+kind_name kinds.LeftOut = codes "LeftOut"
+kind_name kinds.BadCall = codes "BadCall"
+kind_name kinds.BadJump = codes "BadJump"
+kind_name kinds.BadConst = codes "BadConst"
+kind_name kinds.BadInit = codes "BadInit"
+kind_name kinds.BadType = codes "BadType"
+kind_name kinds.DataFull = codes "DataFull"
+kind_name kinds.NoMain = codes "NoMain"

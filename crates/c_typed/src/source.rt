@@ -1,0 +1,166 @@
+// From the bytes of a source to its program.
+ghost use Rattle.std.specs.Prelude.{◌≡◌, ◌≤◌, ◌⊎◌, length, List, IfOk, IfErr};
+ghost use Rattle.c_tokens.specs.declared.token.Spanned.{Spanned as ASpanned};
+ghost use Rattle.c_tokens.specs.Grammar.{Tokens};
+ghost use Rattle.c_program.specs.Programs.{AProgram};
+ghost use Rattle.c_check.specs.Views.{typed};
+ghost use Rattle.c_typed.specs.Sources.{Reads, IsRefused, IsOnly, place_at, token_kind, type_kind, kind_name};
+
+use c_check::{Program, check};
+use c_goals::laws::tokens_are_ended;
+use c_syntax::{SyntaxFault, parse};
+use c_tokens::{TokenFault, TokenKind, place_of, tokens};
+use c_types::{TypeFault, TypeKind};
+use gg_base::Place;
+use std::alloc::Global;
+use std::fmt;
+
+/// What is wrong with a source: with its tokens, its phrases or its types. Its `Display` is the variant's name.
+#[derive(Clone, Copy, Debug, PartialEq, Eq)]
+pub enum SourceKind {
+    BadByte,
+    BadNumber,
+    LongName,
+    BadEscape,
+    BadChar,
+    Unclosed,
+    NotHere,
+    TooDeep,
+    UnknownName,
+    Twice,
+    LeftOut,
+    BadCall,
+    BadJump,
+    BadConst,
+    BadInit,
+    BadType,
+    DataFull,
+    NoMain,
+}
+
+impl SourceKind {
+    fn name(self) -> &'static str
+        ensures { result.now ≡ kind_name self }
+    {
+        match self {
+            SourceKind::BadByte => "BadByte",
+            SourceKind::BadNumber => "BadNumber",
+            SourceKind::LongName => "LongName",
+            SourceKind::BadEscape => "BadEscape",
+            SourceKind::BadChar => "BadChar",
+            SourceKind::Unclosed => "Unclosed",
+            SourceKind::NotHere => "NotHere",
+            SourceKind::TooDeep => "TooDeep",
+            SourceKind::UnknownName => "UnknownName",
+            SourceKind::Twice => "Twice",
+            SourceKind::LeftOut => "LeftOut",
+            SourceKind::BadCall => "BadCall",
+            SourceKind::BadJump => "BadJump",
+            SourceKind::BadConst => "BadConst",
+            SourceKind::BadInit => "BadInit",
+            SourceKind::BadType => "BadType",
+            SourceKind::DataFull => "DataFull",
+            SourceKind::NoMain => "NoMain",
+        }
+    }
+}
+
+impl fmt::Display for SourceKind {
+    ghost use Rattle.std.specs.Prelude.{Some};
+
+    ghost output = { λ kind. Some (kind_name kind) };
+
+    fn fmt<W: fmt::Write>(&self, f: &mut fmt::Formatter<W>) -> fmt::Result {
+        f.write_str(self.name())
+    }
+}
+
+/// Why bytes are no source.
+#[derive(Clone, Copy, Debug, PartialEq, Eq)]
+pub enum SourceFault {
+    /// Memory ran out.
+    NoMemory,
+    /// The first fault, of the tokens, else of the phrases, else of the types: its line and column, and its kind.
+    At { place: Place, kind: SourceKind },
+}
+
+fn token_kind(kind: TokenKind) -> SourceKind
+    ensures { result ≡ token_kind kind }
+{
+    match kind {
+        TokenKind::BadByte => SourceKind::BadByte,
+        TokenKind::BadNumber => SourceKind::BadNumber,
+        TokenKind::LongName => SourceKind::LongName,
+        TokenKind::BadEscape => SourceKind::BadEscape,
+        TokenKind::BadChar => SourceKind::BadChar,
+        TokenKind::Unclosed => SourceKind::Unclosed,
+    }
+}
+
+fn type_kind(kind: TypeKind) -> SourceKind
+    ensures { result ≡ type_kind kind }
+{
+    match kind {
+        TypeKind::UnknownName => SourceKind::UnknownName,
+        TypeKind::Twice => SourceKind::Twice,
+        TypeKind::LeftOut => SourceKind::LeftOut,
+        TypeKind::BadCall => SourceKind::BadCall,
+        TypeKind::BadJump => SourceKind::BadJump,
+        TypeKind::BadConst => SourceKind::BadConst,
+        TypeKind::BadInit => SourceKind::BadInit,
+        TypeKind::BadType => SourceKind::BadType,
+        TypeKind::DataFull => SourceKind::DataFull,
+        TypeKind::NoMain => SourceKind::NoMain,
+    }
+}
+
+// The place of an offset, and that of the end for every larger one.
+fn place_at(bytes: &[u8], offset: u32) -> Place
+    requires { length bytes.now ≤ 1048576 }
+    ensures { result ≡ place_at bytes.now offset }
+{
+    if offset as usize > bytes.len() {
+        place_of(bytes, bytes.len() as u32)
+    } else {
+        place_of(bytes, offset)
+    }
+}
+
+/// The program of a source of at most 1,048,576 bytes, or its first fault: of its tokens, else of its phrases, else of
+/// its types.
+pub fn read_source(alloc: Global, bytes: &[u8]) -> Result<Program, SourceFault>
+    requires { length bytes.now ≤ 1048576 }
+    ensures found { IfOk result (λ p. Reads bytes.now (typed p)) }
+    ensures only { (p : AProgram) → Reads bytes.now p → IsOnly result p }
+    ensures refused { IfErr result (λ fault. IsRefused bytes.now fault) }
+{
+    tokens_are_ended();
+    let list = match tokens(alloc, bytes) {
+        Ok(list) => list,
+        Err(TokenFault::NoMemory) => return Err(SourceFault::NoMemory),
+        Err(TokenFault::At { place, kind }) => return Err(SourceFault::At {
+            place: place_at(bytes, place),
+            kind: token_kind(kind),
+        }),
+    };
+    let ast = match parse(alloc, &list) {
+        Ok(ast) => ast,
+        Err(SyntaxFault::NoMemory) => return Err(SourceFault::NoMemory),
+        Err(SyntaxFault::NotHere(offset)) => return Err(SourceFault::At {
+            place: place_at(bytes, offset),
+            kind: SourceKind::NotHere,
+        }),
+        Err(SyntaxFault::TooDeep(offset)) => return Err(SourceFault::At {
+            place: place_at(bytes, offset),
+            kind: SourceKind::TooDeep,
+        }),
+    };
+    match check(alloc, &ast) {
+        Ok(program) => Ok(program),
+        Err(TypeFault::NoMemory) => Err(SourceFault::NoMemory),
+        Err(TypeFault::At { place, kind }) => Err(SourceFault::At {
+            place: place_at(bytes, place),
+            kind: type_kind(kind),
+        }),
+    }
+}
