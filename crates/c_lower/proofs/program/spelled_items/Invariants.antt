@@ -1,7 +1,0 @@
-use Rattle.std.proofs.Common.{◌≡◌, ◌++◌, drop}
-use Rattle.lower_trees.specs.Spelling.{spelled_all}
-use Rattle.c_lower.specs.Views.{all_items}
-use Rattle.c_lower.proofs.program.spelled_items.Given as goal
-
-abbrev pub invariant-loop-one : goal.invariant-loop-one
-invariant-loop-one l = l.leaves.items ++ spelled_all (all_items (drop l.one-index l.items)) ≡ spelled_all (all_items l.items)
