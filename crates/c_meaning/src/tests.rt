@@ -1,9 +1,10 @@
 // A program that is built by hand, and its run.
 
 use crate::SourceRun;
+use c_program::need::need;
 use c_program::{Action, Program, Routine};
 use c_types::{CType, Callee, Expression, Integer, Types};
-use gg_base::{Name, SourceTurn};
+use gg_base::{Name, NoMemory, SourceTurn};
 use std::alloc::Global;
 use std::test::Fail;
 use tree_core::Objects;
@@ -20,6 +21,7 @@ fn dots(alloc: Global) -> Result<Program, Fail> {
     let turn = Box::new(alloc, Action::Evaluate(call))?;
     let mut body = Vec::new(alloc);
     body.push(Action::While(Expression::Number(1), turn))?;
+    let need = need(&[], &body).ok_or(NoMemory)?;
     let mut routines = Vec::new(alloc);
     routines.push(Routine {
         name: Name::from_vec(Vec::new(alloc)),
@@ -27,7 +29,7 @@ fn dots(alloc: Global) -> Result<Program, Fail> {
         parameters: Types::from_vec(Vec::new(alloc)),
         locals: Types::from_vec(Vec::new(alloc)),
         body,
-        need: 0,
+        need,
     })?;
     Ok(Program {
         objects: Objects::from_vec(Vec::new(alloc)),

@@ -1,3 +1,4 @@
 pub mod Statements
 pub mod Need
+pub mod Longwords
 pub mod Programs

@@ -1,7 +1,8 @@
 // How many longwords of its frame a function needs.
-ghost use Rattle.std.specs.Prelude.{◌≡◌, ◌≤◌, min, map, max, ◌+◌, IfSome};
+ghost use Rattle.std.specs.Prelude.{◌≡◌, ◌<◌, ◌≤◌, ◌^◌, min, map, max, ◌+◌, IfSome};
 ghost use Rattle.c_types.specs.Typed.{term, place_of, terms};
 ghost use Rattle.c_program.specs.Statements.{act, acts, declaration, maybe_term};
+ghost use Rattle.c_program.specs.Longwords.{PlaceOfLongwords, OfLongwords, AllOfLongwords, MaybeOfLongwords, OneOfLongwords, DeclaredOfLongwords, ActOfLongwords, ActsOfLongwords};
 ghost use Rattle.c_program.specs.Need.{nodes, place_nodes, all_nodes, maybe_nodes, returned_nodes, declared_nodes, largest, largest_of, need_of};
 
 use crate::statement::{Action, Declaration};
@@ -9,13 +10,23 @@ use c_types::{CType, Expression, Place};
 
 #[cycle(nodes)]
 fn place_nodes(place: &Place) -> u32
-    ensures { result ≡ min (place_nodes (place_of place.now)) 4294967295 }
+    ensures count { result ≡ min (place_nodes (place_of place.now)) 4294967295 }
+    ensures longwords { PlaceOfLongwords (place_of place.now) }
 {
     match place {
         Place::Variable(_, _) => 1,
         Place::Indirection(_, e) => nodes(e).saturating_add(1),
         Place::Index(_, sum) => nodes(sum),
     }
+}
+
+// A number is one node, and a longword.
+fn number_nodes(number: &u32) -> u32
+    ensures count { result ≡ 1 }
+    ensures longword { number.now < 2 ^ 32 }
+{
+    let _longword = *number;
+    1
 }
 
 fn joined(a: u32, b: u32) -> u32
@@ -27,15 +38,16 @@ fn joined(a: u32, b: u32) -> u32
 /// The nodes of an expression's source: each name, number, literal, operator, index and call is one, parentheses none.
 #[cycle(nodes)]
 pub fn nodes(e: &Expression) -> u32
-    ensures { result ≡ min (nodes (term e.now)) 4294967295 }
+    ensures count { result ≡ min (nodes (term e.now)) 4294967295 }
+    ensures longwords { OfLongwords (term e.now) }
 {
     match e {
-        Expression::Number(_) => 1,
+        Expression::Number(n) => number_nodes(n),
         Expression::Literal(_, _) => 1,
         Expression::Array(_, _, _) => 1,
         Expression::Read(p) => place_nodes(p),
-        Expression::SizeofExpression(_, e) => nodes(e).saturating_add(1),
-        Expression::SizeofType(_) => 1,
+        Expression::SizeofExpression(n, e) => nodes(e).saturating_add(number_nodes(n)),
+        Expression::SizeofType(n) => number_nodes(n),
         Expression::Address(_, p) => place_nodes(p).saturating_add(1),
         Expression::Call(_, _, _, es) => all_nodes(es).saturating_add(2),
         Expression::Step(_, _, p) => place_nodes(p).saturating_add(1),
@@ -61,7 +73,8 @@ pub fn nodes(e: &Expression) -> u32
 
 #[cycle(nodes)]
 fn all_nodes(es: &[Expression]) -> u32
-    ensures { result ≡ min (all_nodes (terms es.now)) 4294967295 }
+    ensures count { result ≡ min (all_nodes (terms es.now)) 4294967295 }
+    ensures longwords { AllOfLongwords (terms es.now) }
 {
     let mut sum = 0_u32;
     for e in es {
@@ -71,7 +84,8 @@ fn all_nodes(es: &[Expression]) -> u32
 }
 
 fn maybe_nodes(e: &Option<Expression>) -> u32
-    ensures { result ≡ min (maybe_nodes (maybe_term e.now)) 4294967295 }
+    ensures count { result ≡ min (maybe_nodes (maybe_term e.now)) 4294967295 }
+    ensures longwords { MaybeOfLongwords (maybe_term e.now) }
 {
     match e {
         None => 0,
@@ -80,7 +94,8 @@ fn maybe_nodes(e: &Option<Expression>) -> u32
 }
 
 fn returned_nodes(e: &Option<Expression>) -> u32
-    ensures { result ≡ min (returned_nodes (maybe_term e.now)) 4294967295 }
+    ensures count { result ≡ min (returned_nodes (maybe_term e.now)) 4294967295 }
+    ensures longwords { MaybeOfLongwords (maybe_term e.now) }
 {
     match e {
         None => 1,
@@ -89,7 +104,8 @@ fn returned_nodes(e: &Option<Expression>) -> u32
 }
 
 fn one_declared(d: &Declaration) -> u32
-    ensures { result ≡ min (one_declared (declaration d.now)) 4294967295 }
+    ensures count { result ≡ min (one_declared (declaration d.now)) 4294967295 }
+    ensures longwords { OneOfLongwords (declaration d.now) }
 {
     match d {
         Declaration::Keep(_) => 0,
@@ -99,7 +115,8 @@ fn one_declared(d: &Declaration) -> u32
 }
 
 fn declared_nodes(ds: &[Declaration]) -> u32
-    ensures { result ≡ min (declared_nodes (map declaration ds.now)) 4294967295 }
+    ensures count { result ≡ min (declared_nodes (map declaration ds.now)) 4294967295 }
+    ensures longwords { DeclaredOfLongwords (map declaration ds.now) }
 {
     let mut most = 0;
     for d in ds {
@@ -111,7 +128,8 @@ fn declared_nodes(ds: &[Declaration]) -> u32
 // The nodes of the largest full expression; a zero that the meaning supplies is one of one node.
 #[cycle(largest)]
 fn largest(a: &Action) -> u32
-    ensures { result ≡ min (largest (act a.now)) 4294967295 }
+    ensures count { result ≡ min (largest (act a.now)) 4294967295 }
+    ensures longwords { ActOfLongwords (act a.now) }
 {
     match a {
         Action::Declare(ds) => declared_nodes(ds),
@@ -133,7 +151,8 @@ fn largest(a: &Action) -> u32
 
 #[cycle(largest)]
 fn largest_of(row: &[Action]) -> u32
-    ensures { result ≡ min (largest_of (acts row.now)) 4294967295 }
+    ensures count { result ≡ min (largest_of (acts row.now)) 4294967295 }
+    ensures longwords { ActsOfLongwords (acts row.now) }
 {
     let mut most = 0;
     for a in row {
@@ -146,7 +165,8 @@ fn largest_of(row: &[Action]) -> u32
 /// None where the number has more than 32 bits.
 #[tactic(auto, unfolding(crate::specs::Need::need_of))]
 pub fn need(locals: &[CType], body: &[Action]) -> Option<u32>
-    ensures { IfSome result (λ n. n ≡ need_of locals.now (acts body.now)) }
+    ensures count { IfSome result (λ n. n ≡ need_of locals.now (acts body.now)) }
+    ensures longwords { ActsOfLongwords (acts body.now) }
 {
     let largest = u64::from(largest_of(body).max(1));
     if largest == 0xffff_ffff || locals.len() > 0xffff_ffff {
