@@ -134,6 +134,7 @@ Leaves statuses.FileFault call = IsUnread call
 Leaves statuses.InputFault call = ⊥
 Leaves statuses.WriteFault call = IsCut call.file call.out call.report
 Leaves statuses.TooLong call = ⊥
+Leaves statuses.SourceRefused call = ⊥
 Leaves statuses.AsmRefused call = ⊥
 Leaves statuses.Spent call = ⊥
 Leaves statuses.Trapped call = ⊥

@@ -38,6 +38,7 @@ kinds statuses.WriteFault call (inl cut) n = absurd (n.of_out cut.rises)
 kinds statuses.WriteFault call (inr cut) n = absurd (n.of_report cut.rises)
 kinds statuses.TooLong call (inl h) n = FileLong refl h.longer
 kinds statuses.TooLong call (inr h) n = InputLong refl h.code h.text h.longer
+kinds statuses.SourceRefused call l n = absurd l
 kinds statuses.AsmRefused call (inl h) n = Wrong refl h.number h.kind h.wrong
 kinds statuses.AsmRefused call (inr h) n = Faulty refl h.code h.text h.bytes h.input h.within h.fault h.found
 kinds statuses.Spent call l n = ran statuses.Spent call _ l.ran refl

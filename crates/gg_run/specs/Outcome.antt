@@ -148,6 +148,7 @@ Leaves statuses.FileFault call = IsUnread call
 Leaves statuses.InputFault call = InputFailed call
 Leaves statuses.WriteFault call = IsCutInOutput call ⊎ IsCutInReport call
 Leaves statuses.TooLong call = FileIsLong call ⊎ InputIsLong call
+Leaves statuses.SourceRefused call = ⊥
 Leaves statuses.AsmRefused call = HasWrongLine call ⊎ HasFault call
 Leaves statuses.Spent call = Halted call ends.Spent
 Leaves statuses.Trapped call = Halted call ends.Trapped

@@ -1,5 +1,5 @@
 -- Words of two and of three parts, and numbers in their one spelling.
-use Rattle.std.proofs.Common.{◌≡◌, ℕ, ◌<◌, ◌≤◌, true, false, not, List, [], ◌∷◌, length, get_or, Result, Ok, Err, sym, ap, ◌∙◌, arith}
+use Rattle.std.proofs.Common.{◌≡◌, ℕ, ◌<◌, ◌≤◌, true, false, not, List, [], ◌∷◌, length, get_or, codes, Result, Ok, Err, refl, sym, ap, ◌∙◌, arith}
 use Rattle.std.specs.Fmt.{decimal}
 use Rattle.std.specs.Str.{bytes_eq}
 use Rattle.std.specs.Str.Parse.{ParsesUnsigned}
@@ -8,7 +8,7 @@ use Rattle.std.specs.declared.alloc.Global.{Global}
 use Rattle.std.specs.String.{string_bytes}
 use Rattle.std.proofs.lemmas.Fmt.{parse-decimal, decimal_injective}
 use Rattle.std.proofs.lemmas.Slice.Eq.{bytes_eq-Decides}
-use Rattle.gg_session.specs.Words.{spelled, IsCount, SaysFirst, SaysRun}
+use Rattle.gg_session.specs.Words.{spelled, IsCount, SaysFirst, SaysCounted, NoFirst, OnlyFirst, NoCounted, OnlyCounted}
 
 two : {A : Type 0} (xs : List A) (a b : A) → 2 ≤ length xs → length xs < 3 → a ≡ get_or xs 0 a → b ≡ get_or xs 1 b → xs ≡ a ∷ (b ∷ [])
 two [] a b low high first second = absurd (omega arith)
@@ -60,15 +60,44 @@ other_spelling m n word text r is_number h text_is differs count is =
     cc
 
 -- words say one command
-pub only_first : (words : List (List ℕ)) (source : List ℕ) → SaysFirst words source → ((other : List ℕ) → SaysFirst words other → other ≡ source) × ((text : List ℕ) (count : ℕ) → SaysRun words text count → ⊥)
-only_first words source h =
-    (λ other k. let same_as = sym k.words_are ∙ h.words_are in cc, λ text count k. let same_as = sym k.words_are ∙ h.words_are in cc)
+pub only_first : (words : List (List ℕ)) (source : List ℕ) → SaysFirst words source → OnlyFirst words source
+only_first words source h other k = let same_as = sym k.words_are ∙ h.words_are in cc
 
-pub only_run : (words : List (List ℕ)) (text : List ℕ) (count : ℕ) → SaysRun words text count → ((source : List ℕ) → SaysFirst words source → ⊥) × ((other : List ℕ) (n : ℕ) → SaysRun words other n → (other ≡ text) × (n ≡ count))
-only_run words text count h = (
-  λ source k. let same_as = sym k.words_are ∙ h.words_are in cc,
-  λ other n k.
-      let same_as = sym k.words_are ∙ h.words_are in
-      let number : decimal n ≡ decimal count = cc in
-      (cc, decimal_injective n count (omega (arith, k.counts.1)) (omega (arith, h.counts.1)) number),
-)
+pub first_not_counted : (words : List (List ℕ)) (source word : List ℕ) → SaysFirst words source → NoCounted word words
+first_not_counted words source word h name count k = let same_as = sym k.words_are ∙ h.words_are in cc
+
+pub counted_not_first : (words : List (List ℕ)) (word name : List ℕ) (count : ℕ) → SaysCounted word words name count → NoFirst words
+counted_not_first words word name count h source k = let same_as = sym k.words_are ∙ h.words_are in cc
+
+pub only_counted : (word : List ℕ) (words : List (List ℕ)) (name : List ℕ) (count : ℕ) → SaysCounted word words name count → OnlyCounted word words name count
+only_counted word words name count h other n k =
+    let same_as = sym k.words_are ∙ h.words_are in
+    let number : decimal n ≡ decimal count = cc in
+    (cc, decimal_injective n count (omega (arith, k.counts.1)) (omega (arith, h.counts.1)) number)
+
+pub counted_not_other : (word other : List ℕ) (words : List (List ℕ)) (name : List ℕ) (count : ℕ) → SaysCounted word words name count → (word ≡ other → ⊥) → NoCounted other words
+counted_not_other word other words name count h differs another n k =
+    let same_as = sym h.words_are ∙ k.words_are in
+    let equal : word ≡ other = cc in
+    differs equal
+
+-- the two words that come before a number
+pub run_is_not_meaning : codes "run" ≡ codes "meaning" → ⊥
+run_is_not_meaning h = let first = ap (λ (l : List ℕ). get_or l 0 0) h in omega (arith, first)
+
+-- words that say a name and a number are three, and the first is the word before them
+pub counted_length : (words : List (String Global)) (word name : List ℕ) (count : ℕ) → SaysCounted word (spelled words) name count → length words ≡ 3
+counted_length [] word name count h = let e = h.words_are in cc
+counted_length (a ∷ []) word name count h = let e = h.words_are in cc
+counted_length (a ∷ (b ∷ [])) word name count h = let e = h.words_are in cc
+counted_length (a ∷ (b ∷ (c ∷ []))) word name count h = refl
+counted_length (a ∷ (b ∷ (c ∷ (d ∷ rest)))) word name count h = let e = h.words_are in cc
+
+pub counted_parts : (words : List (String Global)) (a b c : String Global) (word name : List ℕ) (count : ℕ) → 3 ≤ length words → length words < 4 → a ≡ get_or words 0 a → b ≡ get_or words 1 b → c ≡ get_or words 2 c → SaysCounted word (spelled words) name count → (string_bytes a ≡ word) × (string_bytes b ≡ name) × (string_bytes c ≡ decimal count)
+counted_parts words a b c word name count low high a_is b_is c_is h =
+    let e : string_bytes a ∷ (string_bytes b ∷ (string_bytes c ∷ [])) ≡ word ∷ (name ∷ (decimal count ∷ [])) = sym (ap spelled (three words a b c low high a_is b_is c_is)) ∙ h.words_are in
+    (cc, cc, cc)
+
+-- a word that is another one than was wanted
+pub differs : (a b : List ℕ) → false ≡ bytes_eq a b → a ≡ b → ⊥
+differs a b h e = let both : false ≡ true = h ∙ (bytes_eq-Decides a b).1 e in cc

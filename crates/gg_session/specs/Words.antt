@@ -5,7 +5,7 @@ use Rattle.std.specs.declared.string.String.{String}
 use Rattle.std.specs.declared.alloc.Global.{Global}
 use Rattle.std.specs.String.{string_bytes}
 use Rattle.gg_session.specs.declared.words.Command.{Command}
-use Rattle.gg_session.specs.declared.words.Command.TheVariants.{First, Run}
+use Rattle.gg_session.specs.declared.words.Command.TheVariants.{First, Run, Meaning}
 
 -- the bytes of each word
 abbrev pub spelled : List (String Global) → List (List ℕ)
@@ -24,23 +24,47 @@ pub record SaysFirst (words : List (List ℕ)) (source : List ℕ) : Type 0 wher
   pub words_are : words ≡ codes "first" ∷ (source ∷ [])
   pub named : 0 < length source
 
--- `run A N`, where N is decimal and has no leading zero
-pub record SaysRun (words : List (List ℕ)) (text : List ℕ) (count : ℕ) : Type 0 where
-  pub words_are : words ≡ codes "run" ∷ (text ∷ (decimal count ∷ []))
-  pub named : 0 < length text
+-- a word, a name, and a number in decimal without a leading zero
+pub record SaysCounted (word : List ℕ) (words : List (List ℕ)) (name : List ℕ) (count : ℕ) : Type 0 where
+  pub words_are : words ≡ word ∷ (name ∷ (decimal count ∷ []))
+  pub named : 0 < length name
   pub counts : IsCount count
+
+-- `run A N`
+abbrev pub SaysRun : List (List ℕ) → List ℕ → ℕ → Type 0
+SaysRun words text count = SaysCounted (codes "run") words text count
+
+-- `meaning S N`
+abbrev pub SaysMeaning : List (List ℕ) → List ℕ → ℕ → Type 0
+SaysMeaning words source count = SaysCounted (codes "meaning") words source count
 
 -- the words say this command
 abbrev pub Says : List (List ℕ) → Command → Type 0
 Says words (First source) = SaysFirst words source.now
 Says words (Run text count) = SaysRun words text.now count
+Says words (Meaning source count) = SaysMeaning words source.now count
+
+-- the words say none of one kind of command, or no other one of it than this
+abbrev pub NoFirst : List (List ℕ) → Type 0
+NoFirst words = (source : List ℕ) → SaysFirst words source → ⊥
+
+abbrev pub OnlyFirst : List (List ℕ) → List ℕ → Type 0
+OnlyFirst words source = (other : List ℕ) → SaysFirst words other → other ≡ source
+
+abbrev pub NoCounted : List ℕ → List (List ℕ) → Type 0
+NoCounted word words = (name : List ℕ) (count : ℕ) → SaysCounted word words name count → ⊥
+
+abbrev pub OnlyCounted : List ℕ → List (List ℕ) → List ℕ → ℕ → Type 0
+OnlyCounted word words name count = (other : List ℕ) (n : ℕ) → SaysCounted word words other n → (other ≡ name) × (n ≡ count)
 
 -- the words say no other command than this
 abbrev pub SaysOnly : List (List ℕ) → Command → Type 0
-SaysOnly words (First source) = ((other : List ℕ) → SaysFirst words other → other ≡ source.now) × ((text : List ℕ) (count : ℕ) → SaysRun words text count → ⊥)
-SaysOnly words (Run text count) = ((source : List ℕ) → SaysFirst words source → ⊥) × ((other : List ℕ) (n : ℕ) → SaysRun words other n → (other ≡ text.now) × (n ≡ count))
+SaysOnly words (First source) = OnlyFirst words source.now × NoCounted (codes "run") words × NoCounted (codes "meaning") words
+SaysOnly words (Run text count) = NoFirst words × OnlyCounted (codes "run") words text.now count × NoCounted (codes "meaning") words
+SaysOnly words (Meaning source count) = NoFirst words × NoCounted (codes "run") words × OnlyCounted (codes "meaning") words source.now count
 
 -- the words say no command
 pub record SaysNone (words : List (List ℕ)) : Type 0 where
-  pub no_first : (source : List ℕ) → SaysFirst words source → ⊥
-  pub no_run : (text : List ℕ) (count : ℕ) → SaysRun words text count → ⊥
+  pub no_first : NoFirst words
+  pub no_run : NoCounted (codes "run") words
+  pub no_meaning : NoCounted (codes "meaning") words

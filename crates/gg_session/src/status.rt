@@ -17,6 +17,8 @@ pub enum Status {
     WriteFault = 5,
     /// The named file, or the input, is over its limit.
     TooLong = 6,
+    /// The file is no source.
+    SourceRefused = 7,
     /// The assembly text is no code's, or its code can't be run.
     AsmRefused = 15,
     /// The run used up its steps and would go on.

@@ -25,6 +25,7 @@ fn said(alloc: Global, text: &str) -> Result<String, AllocError> {
     match command_of(words.as_slice()) {
         Some(Command::First(source)) => format!(in alloc; "first {source}"),
         Some(Command::Run(text, count)) => format!(in alloc; "run {text} {count}"),
+        Some(Command::Meaning(source, count)) => format!(in alloc; "meaning {source} {count}"),
         None => String::from_str(alloc, "nothing"),
     }
 }
@@ -36,7 +37,9 @@ fn reads_words(rt: HostRuntime) -> Result<(), Fail> {
         =nothing;first=nothing;first,=nothing;first,s,s=nothing;last,s=nothing;run=nothing;run,a=nothing;\
         run,a,=nothing;run,,7=nothing;run,a,7,7=nothing;run,a,0=nothing;run,a,00=nothing;run,a,07=nothing;\
         run,a,+7=nothing;run,a,-7=nothing;run,a,7x=nothing;run,a,1000000001=nothing;\
-        run,a,18446744073709551617=nothing;Run,a,7=nothing";
+        run,a,18446744073709551617=nothing;Run,a,7=nothing;meaning,s.c,7=meaning s.c 7;\
+        meaning,s,1000000000=meaning s 1000000000;meaning=nothing;meaning,s=nothing;meaning,,7=nothing;\
+        meaning,s,7,7=nothing;meaning,s,0=nothing;meaning,s,07=nothing;meaning,s,1000000001=nothing;means,s,7=nothing";
     for row in rows.split(';') {
         let (words, wanted) = row.split_once('=').ok_or("no row")?;
         let got = said(rt.alloc(), words)?;

@@ -3,20 +3,24 @@ ghost use Rattle.std.specs.Prelude.{◌≡◌, ◌+◌, ℕ, List};
 ghost use Rattle.gg_outside.specs.Outside.{OnlyName};
 ghost use Rattle.gg_session.specs.Reading.{intake, TakesAtMost};
 ghost use Rattle.gg_session.specs.Writing.{change, IsUntouched};
-ghost use Rattle.gg_session.specs.Words.{spelled, SaysFirst, SaysRun, SaysNone};
+ghost use Rattle.gg_session.specs.Words.{spelled, SaysFirst, SaysRun, SaysMeaning, SaysNone};
 ghost use Rattle.gg_session.specs.Lines.{usage_line};
 ghost use Rattle.gg_session.specs.Telling.{IsRefused};
 ghost use Rattle.gg_first.specs.Outcome.{Leaves as FirstLeaves, IsExact as FirstIsExact, call_of as first_call};
 ghost use Rattle.gg_run.specs.Outcome.{Leaves as RunLeaves, call_of as run_call, input_limit};
 ghost use Rattle.gg_run.specs.Exact.{IsExact as RunIsExact};
+ghost use Rattle.gg_meaning.specs.Outcome.{Leaves as MeaningLeaves, call_of as meaning_call};
+ghost use Rattle.gg_meaning.specs.Exact.{IsExact as MeaningIsExact};
 
 use gg_first::first_source;
+use gg_meaning::run_source;
 use gg_outside::{Folder, Sink, Source};
 use gg_run::run_text;
 use gg_session::{Command, Status, command_of, refuse};
 use std::alloc::Global;
 
-/// The whole program: the command that the words say, or the line of the usage. Its commands are `first S` and `run A N`.
+/// The whole program: the command that the words say, or the line of the usage. Its commands are `first S`, `run A N`
+/// and `meaning S N`.
 pub fn ggvax<F: Folder, I: Source, O: Sink, E: Sink>(
     alloc: Global,
     words: &[String],
@@ -45,6 +49,16 @@ pub fn ggvax<F: Folder, I: Source, O: Sink, E: Sink>(
         (F.failed folder.old) (F.failed folder.new) (intake I.left I.faults input.old input.new)
         (change O.told O.faults out.old out.new) (change E.told E.faults report.old report.new)) }
 
+    // `meaning S N`: the same of the source, of its run by its meaning with at most N counted turns and calls, and of the input.
+    ensures meaning { (source : List ℕ) (count : ℕ) → SaysMeaning (spelled words.now) source count
+        → MeaningLeaves result (meaning_call source count (F.holds folder.old source)
+        (F.failed folder.old) (F.failed folder.new) (intake I.left I.faults input.old input.new)
+        (change O.told O.faults out.old out.new) (change E.told E.faults report.old report.new)) }
+    ensures meaning_exact { (source : List ℕ) (count : ℕ) → SaysMeaning (spelled words.now) source count
+        → MeaningIsExact result (meaning_call source count (F.holds folder.old source)
+        (F.failed folder.old) (F.failed folder.new) (intake I.left I.faults input.old input.new)
+        (change O.told O.faults out.old out.new) (change E.told E.faults report.old report.new)) }
+
     // Words that say no command, and these alone, are answered by the usage; nothing else is touched.
     ensures usage { result ≡ Status.Usage → SaysNone (spelled words.now) }
     ensures usage_line { SaysNone (spelled words.now)
@@ -52,21 +66,31 @@ pub fn ggvax<F: Folder, I: Source, O: Sink, E: Sink>(
     ensures usage_out { SaysNone (spelled words.now) → IsUntouched (change O.told O.faults out.old out.new) }
     ensures usage_names { SaysNone (spelled words.now) → F.failed folder.new ≡ F.failed folder.old }
 
-    // The folder is asked for the command's name alone. `input` is read by `run` alone, one byte beyond its limit at most.
+    // The folder is asked for the command's name alone. `input` is read by `run` and `meaning` alone, one byte beyond its
+    // limit at most.
     ensures first_names { (source : List ℕ) → SaysFirst (spelled words.now) source
         → OnlyName source (F.failed folder.old) (F.failed folder.new) }
     ensures run_names { (text : List ℕ) (count : ℕ) → SaysRun (spelled words.now) text count
         → OnlyName text (F.failed folder.old) (F.failed folder.new) }
+    ensures meaning_names { (source : List ℕ) (count : ℕ) → SaysMeaning (spelled words.now) source count
+        → OnlyName source (F.failed folder.old) (F.failed folder.new) }
     ensures holds { (n : List ℕ) → F.holds folder.new n ≡ F.holds folder.old n }
     ensures first_input { (source : List ℕ) → SaysFirst (spelled words.now) source → input.new ≡ input.old }
     ensures usage_input { SaysNone (spelled words.now) → input.new ≡ input.old }
     ensures taken { TakesAtMost (input_limit + 1) (intake I.left I.faults input.old input.new) }
 {
     let Some(command) = command_of(words) else {
-        return refuse(report, b"ggvax: usage: first S | run A N\n", Status::Usage);
+        return refuse(
+            report,
+            b"ggvax: usage: first S | run A N | meaning S N\n",
+            Status::Usage,
+        );
     };
     match command {
         Command::First(source) => first_source(alloc, source, folder, out, report),
         Command::Run(text, count) => run_text(alloc, text, count, folder, input, out, report),
+        Command::Meaning(source, count) => {
+            run_source(alloc, source, count, folder, input, out, report)
+        }
     }
 }

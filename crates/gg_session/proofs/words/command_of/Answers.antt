@@ -1,5 +1,5 @@
 use Rattle.std.proofs.Common.{rules}
-use Rattle.gg_session.proofs.Commands.{two_words, three_words, only_first, only_run}
+use Rattle.gg_session.proofs.Commands.{two_words, only_first, first_not_counted, counted_not_first, only_counted, counted_not_other, run_is_not_meaning}
 use Rattle.gg_session.proofs.words.command_of.Goals as goal
 
 pub returns-in-len2-clause-some : goal.returns-in-len2-clause-some
@@ -10,19 +10,17 @@ returns-in-len2-clause-some c = record {
   named = search rules;
 }
 
-pub returns-in_ok-count-in-len3-clause-some : goal.returns-in_ok-count-in-len3-clause-some
-returns-in_ok-count-in-len3-clause-some c = record {
-  words_are =
-      three_words _ _ _ _ c.as_str-then-words-lt4.result.now _ c.as_str-in-len3-2.result.now c.as_str-in-len3.result.now _ c.in-len3.len_at_least c.in-len3.len_below
-      c.run-item.is c.text-item.is c.count-item.is
-      c.as_str-then-words-lt4.ensures.value c.if-eq-2.ensures c.as_str-in-len3-2.ensures.value c.as_str-in-len3.ensures.value
-      c.in_ok-count-in-len3.ensures.spelled;
-  named = search rules;
-  counts = c.in_ok-count-in-len3.ensures.some;
-}
-
 pub returns-in-len2-clause-only : goal.returns-in-len2-clause-only
-returns-in-len2-clause-only c = only_first _ _ (returns-in-len2-clause-some c)
+returns-in-len2-clause-only c =
+    let said = returns-in-len2-clause-some c in
+    (only_first _ _ said, first_not_counted _ _ _ said, first_not_counted _ _ _ said)
 
-pub returns-in_ok-count-in-len3-clause-only : goal.returns-in_ok-count-in-len3-clause-only
-returns-in_ok-count-in-len3-clause-only c = only_run _ _ _ (returns-in_ok-count-in-len3-clause-some c)
+pub returns-in-Some-clause-only : goal.returns-in-Some-clause-only
+returns-in-Some-clause-only c =
+    let said = c.in-Some.ensures.some in
+    (counted_not_first _ _ _ _ said, only_counted _ _ _ _ said, counted_not_other _ _ _ _ _ said run_is_not_meaning)
+
+pub returns-in-Some-counted-clause-only : goal.returns-in-Some-counted-clause-only
+returns-in-Some-counted-clause-only c =
+    let said = c.in-Some-counted.ensures.some in
+    (counted_not_first _ _ _ _ said, c.in_default.ensures.none, only_counted _ _ _ _ said)

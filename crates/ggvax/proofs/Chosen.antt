@@ -1,0 +1,21 @@
+-- What holds of the command that was chosen holds of the one that the words say.
+use Rattle.std.proofs.Common.{◌≡◌, ℕ, List, codes, Bor, sym, subst}
+use Rattle.gg_session.specs.declared.words.Command.{Command}
+use Rattle.gg_session.specs.declared.words.Command.TheVariants.{First, Run, Meaning}
+use Rattle.gg_session.specs.Words.{OnlyFirst, OnlyCounted, SaysOnly}
+
+pub only_first : (words : List (List ℕ)) (command : Command) (source : Bor (List ℕ)) → SaysOnly words command → command ≡ First source → OnlyFirst words source.now
+only_first words command source only is = (subst (SaysOnly words) is only).0
+
+pub only_run : (words : List (List ℕ)) (command : Command) (text : Bor (List ℕ)) (count : ℕ) → SaysOnly words command → command ≡ Run text count → OnlyCounted (codes "run") words text.now count
+only_run words command text count only is = (subst (SaysOnly words) is only).1
+
+pub only_meaning : (words : List (List ℕ)) (command : Command) (source : Bor (List ℕ)) (count : ℕ) → SaysOnly words command → command ≡ Meaning source count → OnlyCounted (codes "meaning") words source.now count
+only_meaning words command source count only is = (subst (SaysOnly words) is only).2
+
+-- the name and the number are the only ones
+pub carried : (P : List ℕ → ℕ → Type 0) (name other : List ℕ) (count n : ℕ) → (other ≡ name) × (n ≡ count) → P name count → P other n
+carried P name other count n same h = subst (λ (s : List ℕ). P s n) (sym same.0) (subst (P name) (sym same.1) h)
+
+pub named : (P : List ℕ → Type 0) (name other : List ℕ) → other ≡ name → P name → P other
+named P name other same h = subst P (sym same) h
