@@ -1,0 +1,101 @@
+-- Expressions and statements in which each object and parameter that is named is there, and each call has its function and as many arguments as that has parameters.
+use Rattle.std.specs.Prelude.{◌≡◌, ℕ, ◌<◌, ◌+◌, List, [], ◌∷◌, length, Option, Some, None, slice_get}
+use Rattle.c_types.specs.declared.types.CType.{CType}
+use Rattle.c_types.specs.declared.typed.Variable.{Variable}
+use Rattle.c_types.specs.declared.typed.Variable.TheVariants as variables
+use Rattle.c_types.specs.declared.typed.Callee.{Callee}
+use Rattle.c_types.specs.declared.typed.Callee.TheVariants as callees
+use Rattle.c_types.specs.Typed.{PlaceTerm, VariableAt, PointedBy, ElementBy, Term, Constant, LiteralAt, ArrayAt, ReadOf, SizeofTerm, SizeOf, AddressOf, CallOf, StepOf, UnaryOf, CastTo, ConvertTo, ArithmeticOf, CompareOf, BothOf, EitherOf, AdvanceOf, AdvanceByOf, RetreatOf, DistanceOf, ChoiceOf, AssignTo, ArithmeticAssignTo, AdvanceAssignTo, RetreatAssignTo, CommaOf, Terms, NoTerms, MoreTerms}
+use Rattle.c_program.specs.Statements.{ADeclaration, KeepOf, ClearOf, BeginOf, Act, Acts, NoActs, MoreActs, DeclareOf, BlockOf, EvaluateOf, BreakOf, ContinueOf, ReturnOf, IfOf, IfElseOf, WhileOf, DoOf, ForOf}
+use Rattle.c_program.specs.Programs.{ARoutine}
+
+-- how many arguments a call has
+abbrev pub arguments : Terms → ℕ
+arguments NoTerms = 0
+arguments (MoreTerms e es) = 1 + arguments es
+
+-- where there are so many objects, and the function has so many parameters
+abbrev pub IsThere : (objects params : ℕ) → Variable → Type 0
+IsThere objects params (variables.Automatic n) = Unit {0}
+IsThere objects params (variables.Parameter n) = n < params
+IsThere objects params (variables.Global n) = n < objects
+IsThere objects params (variables.Static n) = n < objects
+
+-- a call's function is one of these or a service, and takes so many arguments
+pub record IsDefined (gs : List ARoutine) (n count : ℕ) : Type 0 where
+  pub routine : ARoutine
+  pub here : slice_get gs n ≡ Some routine
+  pub takes : length routine.parameters ≡ count
+
+abbrev pub Takes : List ARoutine → Callee → ℕ → Type 0
+Takes gs (callees.Defined n) count = IsDefined gs n count
+Takes gs callees.Putchar count = count ≡ 1
+Takes gs callees.Getchar count = count ≡ 0
+
+-- which variables are there, and which calls are right
+module _ (there : Variable → Type 0) (takes : Callee → ℕ → Type 0) (literals : ℕ) where
+  abbrev mutual
+    pub StandsAt : PlaceTerm → Type 0
+    StandsAt (VariableAt t v) = there v
+    StandsAt (PointedBy t e) = Stands e
+    StandsAt (ElementBy t e) = Stands e
+
+    pub Stands : Term → Type 0
+    Stands (Constant n) = Unit {0}
+    Stands (LiteralAt n size) = n < literals
+    Stands (ArrayAt t v size) = there v
+    Stands (ReadOf a) = StandsAt a
+    Stands (SizeofTerm n e) = Unit {0}
+    Stands (SizeOf n) = Unit {0}
+    Stands (AddressOf t a) = StandsAt a
+    Stands (CallOf t f to es) = takes f (arguments es) × StandAll es
+    Stands (StepOf m by a) = StandsAt a
+    Stands (UnaryOf op e) = Stands e
+    Stands (CastTo t e) = Stands e
+    Stands (ConvertTo t e) = Stands e
+    Stands (ArithmeticOf op l r) = Stands l × Stands r
+    Stands (CompareOf rel l r) = Stands l × Stands r
+    Stands (BothOf l r) = Stands l × Stands r
+    Stands (EitherOf l r) = Stands l × Stands r
+    Stands (AdvanceOf t l r) = Stands l × Stands r
+    Stands (AdvanceByOf t l r) = Stands l × Stands r
+    Stands (RetreatOf t l r) = Stands l × Stands r
+    Stands (DistanceOf t l r) = Stands l × Stands r
+    Stands (ChoiceOf t c l r) = Stands c × Stands l × Stands r
+    Stands (AssignTo a e) = StandsAt a × Stands e
+    Stands (ArithmeticAssignTo op a e) = StandsAt a × Stands e
+    Stands (AdvanceAssignTo a e) = StandsAt a × Stands e
+    Stands (RetreatAssignTo a e) = StandsAt a × Stands e
+    Stands (CommaOf t l r) = Stands l × Stands r
+
+    pub StandAll : Terms → Type 0
+    StandAll NoTerms = Unit {0}
+    StandAll (MoreTerms e es) = Stands e × StandAll es
+
+  abbrev pub StandsMaybe : Option Term → Type 0
+  StandsMaybe None = Unit {0}
+  StandsMaybe (Some e) = Stands e
+
+  abbrev pub StandsDeclared : List ADeclaration → Type 0
+  StandsDeclared [] = Unit {0}
+  StandsDeclared (KeepOf object ∷ ds) = StandsDeclared ds
+  StandsDeclared (ClearOf n ∷ ds) = StandsDeclared ds
+  StandsDeclared (BeginOf n e ∷ ds) = Stands e × StandsDeclared ds
+
+  abbrev mutual
+    pub StandsAct : Act → Type 0
+    StandsAct (DeclareOf ds) = StandsDeclared ds
+    StandsAct (BlockOf row) = StandsActs row
+    StandsAct (EvaluateOf e) = Stands e
+    StandsAct BreakOf = Unit {0}
+    StandsAct ContinueOf = Unit {0}
+    StandsAct (ReturnOf e) = StandsMaybe e
+    StandsAct (IfOf c a) = Stands c × StandsAct a
+    StandsAct (IfElseOf c a b) = Stands c × StandsAct a × StandsAct b
+    StandsAct (WhileOf c a) = Stands c × StandsAct a
+    StandsAct (DoOf a c) = StandsAct a × Stands c
+    StandsAct (ForOf i c e a) = StandsMaybe i × StandsMaybe c × StandsMaybe e × StandsAct a
+
+    pub StandsActs : Acts → Type 0
+    StandsActs NoActs = Unit {0}
+    StandsActs (MoreActs a row) = StandsAct a × StandsActs row

@@ -1,0 +1,13 @@
+pub mod Terms
+pub mod Rules
+pub mod Names
+pub mod Growth
+pub mod Expressions
+pub mod Closures
+pub mod Objects
+pub mod Locals
+pub mod Parts
+pub mod Statements
+pub mod Areas
+pub mod Lengths
+pub mod Adding

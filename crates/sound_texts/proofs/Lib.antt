@@ -1,0 +1,9 @@
+pub mod Areas
+pub mod Linked
+pub mod Contents
+pub mod Objects
+pub mod Places
+pub mod Functions
+pub mod Main
+pub mod Bodies
+pub mod Whole
