@@ -20,7 +20,7 @@ use Rattle.c_types.specs.declared.typed.ArithmeticOperator.{ArithmeticOperator}
 use Rattle.c_types.specs.declared.typed.ArithmeticOperator.TheVariants as ariths
 use Rattle.c_types.specs.Constants.{apply}
 use Rattle.lower_trees.specs.Trees.{Tree, Num, Gaddr, Loc, Arg, Indir, Conv, Neg, Com, Bin, Item, divides_by, divides, stable}
-use Rattle.lower_follows.specs.Sound.{AreBytes}
+use Rattle.c_sound.specs.Fits.{AreBytes}
 use Rattle.lower_follows.proofs.Values.{Ranged, worth, or_zero}
 use Rattle.lower_follows.proofs.Steps.{Desk, desk_sight}
 

@@ -15,7 +15,7 @@ use Rattle.c_meaning.specs.Meaning.{RestAll, Behind, Next, Body, Rest}
 use Rattle.lower_trees.specs.Trees.{Push, Call, Save, Tree, Loc, Item, AssignLoc, divides, reads, breaks, stable}
 use Rattle.lower_trees.specs.Spelling.{spelled_all}
 use Rattle.lower_trees.specs.Expressions.{Passing, pushes, args_count, called_drop, called_low, must_pass_by, must_pass, pass_on, pass_so, no_arguments, callee_number, stays, Low, is_nil}
-use Rattle.lower_follows.specs.Sound.{AreBytes}
+use Rattle.c_sound.specs.Fits.{AreBytes}
 use Rattle.lower_follows.proofs.Values.{SmallTree, Ranged, Small, worth_small}
 use Rattle.lower_follows.proofs.Leads.{Leads, leads_deep, leads_none, leads_below, leads_counted, leads_quiet, leads_emit}
 use Rattle.lower_follows.proofs.Steps.{moves, Desk, desk_sight, on, Resolves, resolves_back, state, lost, push_step, call_counts, save_step}

@@ -15,7 +15,7 @@ use Rattle.lower_trees.specs.Trees.{Num, Ret}
 use Rattle.lower_trees.specs.Spelling.{spelled_all}
 use Rattle.lower_trees.specs.Expressions.{Done}
 use Rattle.lower_trees.specs.Programs.{body_of, items_of}
-use Rattle.lower_follows.specs.Sound.{AreBytes, FitsActs, no_local}
+use Rattle.c_sound.specs.Fits.{AreBytes, FitsActs, no_local}
 use Rattle.lower_follows.proofs.Leads.{Leads}
 use Rattle.lower_follows.proofs.Steps.{Desk, moves, ret_step}
 use Rattle.lower_follows.proofs.Agreeing.{Agree}

@@ -31,7 +31,7 @@ use Rattle.c_meaning.specs.Meaning.{Rest, RestAt, or_wild, written, read_at, add
 use Rattle.lower_trees.specs.Trees.{Tree, Indir, Item, divides}
 use Rattle.lower_trees.specs.Spelling.{spelled_all}
 use Rattle.lower_trees.specs.Expressions.{Where, InLoc, InArg, InMem, Found, Ready, integer_of, conv, fitted, read_from, address_tree, read_low, address_low}
-use Rattle.lower_follows.specs.Sound.{AreBytes}
+use Rattle.c_sound.specs.Fits.{AreBytes}
 use Rattle.lower_follows.proofs.Values.{bytes_take, bytes_drop, bytes_append, SmallTree}
 use Rattle.lower_follows.proofs.Leads.{Leads, leads_wild}
 use Rattle.lower_follows.proofs.Steps.{Desk, on, Resolves, state, silent, narrowed, written_at}

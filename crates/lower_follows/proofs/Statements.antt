@@ -25,7 +25,7 @@ use Rattle.lower_trees.specs.Trees.{Tree, Num, Item, Label, AssignLoc, Jump, Ret
 use Rattle.lower_trees.specs.Spelling.{spelled_all}
 use Rattle.lower_trees.specs.Expressions.{Done, way}
 use Rattle.lower_trees.specs.Statements.{is_local, place_mentions, mentions, any_mentions, begin_of, if_done, if_else_done, while_done, do_done, for_done, ever_done, unless, when, effect, returning, declare, for_of, lower, lower_row}
-use Rattle.lower_follows.specs.Sound.{AreBytes, StandsIn, FitsAt, Fits, FitsAll, FitsMaybe, more, declaring, behind_act, FitsDeclared, FitsAct, FitsActs}
+use Rattle.c_sound.specs.Fits.{AreBytes, StandsIn, FitsAt, Fits, FitsAll, FitsMaybe, more, declaring, behind_act, FitsDeclared, FitsAct, FitsActs}
 use Rattle.lower_follows.proofs.Values.{SmallTree, Small, worth_small}
 use Rattle.lower_follows.proofs.Leads.{Leads, leads_wild, leads_quiet, leads_counted, leads_none, leads_below}
 use Rattle.lower_follows.proofs.Steps.{on, Desk, desk_sight, Resolves, resolves_back, at, at_items, state, silent, moves, assign_loc_step, ret_step, jump_step, jump_counts, label_step, label_counts}

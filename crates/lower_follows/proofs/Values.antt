@@ -29,7 +29,7 @@ use Rattle.c_types.specs.declared.typed.ArithmeticOperator.TheVariants as ariths
 use Rattle.c_types.specs.Types.{kept}
 use Rattle.c_types.specs.Constants.{apply, remainder_by}
 use Rattle.c_meaning.specs.State.{integer_access}
-use Rattle.lower_follows.specs.Sound.{AreBytes}
+use Rattle.c_sound.specs.Fits.{AreBytes}
 use Rattle.lower_trees.specs.Trees.{Tree, Num, Gaddr, Loc, Arg, Indir, Conv, Neg, Com, Bin}
 use Rattle.lower_trees.specs.Spelling.{leaf, plain, constant_token, operator_token, leaves_onto}
 

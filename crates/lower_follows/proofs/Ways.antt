@@ -40,7 +40,7 @@ use Rattle.c_meaning.specs.State.{State, address, spot_of}
 use Rattle.c_meaning.specs.Meaning.{Rest, RestAt, Next, or_wild, or_trap, read_at, store_at, stepped, of_moment, step_at, address_of, located, array_address, expr, place, arguments}
 use Rattle.lower_trees.specs.Trees.{Tree, Num, Gaddr, Neg, Com, Bin, Item}
 use Rattle.lower_trees.specs.Expressions.{Low, Way, Found, due, where_of, address_tree, scaled_by, advance, advance_by, retreat, apart, step, over, fitted, found, pointed, read_low, address_low, store_low, store_drop, assign_ready, update_ready, step_tree, step_ready, step_low, unary, update_by, seek, way, pass}
-use Rattle.lower_follows.specs.Sound.{StandsIn, FitsAt, Fits, FitsAll}
+use Rattle.c_sound.specs.Fits.{StandsIn, FitsAt, Fits, FitsAll}
 use Rattle.lower_follows.proofs.Values.{SmallTree, Small, worth_small, or_zero}
 use Rattle.lower_follows.proofs.Leads.{Leads, leads_wild}
 use Rattle.lower_follows.proofs.Steps.{Desk, desk_sight, on}

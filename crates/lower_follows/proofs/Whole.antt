@@ -14,7 +14,8 @@ use Rattle.c_program.specs.Programs.{ARoutine, AProgram}
 use Rattle.c_meaning.specs.Meaning.{finished, means, at_first, main_of}
 use Rattle.c_meaning.proofs.Related.{means_is}
 use Rattle.lower_trees.specs.Programs.{body_of, function_of, lower_all, lowered}
-use Rattle.lower_follows.specs.Sound.{AreBytes, IsMain, IsSound}
+use Rattle.c_sound.specs.Fits.{AreBytes}
+use Rattle.c_sound.specs.Sound.{IsMain, IsSound}
 use Rattle.lower_follows.specs.Claim.{LoweringFollows}
 use Rattle.lower_follows.proofs.Values.{bytes_append}
 use Rattle.lower_follows.proofs.Leads.{Leads, leads_ended, follows_led}

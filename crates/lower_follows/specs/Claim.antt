@@ -5,7 +5,8 @@ use Rattle.tree_meaning.specs.Meaning.{tree_run}
 use Rattle.c_program.specs.Programs.{AProgram}
 use Rattle.c_meaning.specs.Meaning.{source}
 use Rattle.lower_trees.specs.Programs.{lowered}
-use Rattle.lower_follows.specs.Sound.{AreBytes, IsSound}
+use Rattle.c_sound.specs.Fits.{AreBytes}
+use Rattle.c_sound.specs.Sound.{IsSound}
 
 -- On every input the run of the trees follows the run of the program.
 abbrev pub LoweringFollows : Type 0

@@ -1,0 +1,13 @@
+pub mod Named
+pub mod Rows
+pub mod Orders
+pub mod Fine
+pub mod Ways
+pub mod Phrases
+pub mod Acts
+pub mod Marks
+pub mod Labels
+pub mod Loops
+pub mod Spelled
+pub mod Naming
+pub mod Whole
