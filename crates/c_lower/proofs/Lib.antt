@@ -1,5 +1,2 @@
-pub mod Changing
-pub mod Pushing
-pub mod Rows
-pub mod Onto
-pub mod Calls
+pub mod Numbers
+pub mod Sound

@@ -1,17 +1,27 @@
-//! Trees from a typed C program: effects go into temporaries, so that every tree is pure but for its root.
+//! Trees from C programs: effects go into temporaries, so that every tree is pure but for its root.
 #![tactic(auto)]
 
-mod change;
-mod expression;
-mod flow;
-pub mod item;
-mod mention;
-mod operation;
-pub mod part;
-mod passing;
-pub mod program;
-mod spelling;
-mod statement;
-pub mod tree;
+ghost use Rattle.std.specs.Prelude.{◌≡◌, IfOk};
+ghost use Rattle.tree_core.specs.Valid.{IsValid};
+ghost use Rattle.c_program.specs.Programs.{program};
+ghost use Rattle.lower_trees.specs.Programs.{lowered};
+ghost use Rattle.lower_calm.specs.Claim.{TreesAreCalm, PlainIsOneTree};
+ghost use Rattle.c_lower.specs.Claims.{FollowsAlways, HasParts};
 
-pub use program::lower;
+use c_check::Program;
+use gg_base::NoMemory;
+use std::alloc::Global;
+use tree_core::TreeProgram;
+
+/// The trees of a program: on every input their run follows the program's. They are a valid tree program with the program's
+/// functions, each of which fits the frame that it needs, and its objects; in none is memory read behind a division.
+pub fn lower(alloc: Global, source: &Program) -> Result<TreeProgram, NoMemory>
+    ensures trees { IfOk result (λ q. q ≡ lowered (program source.now.held)) }
+    ensures follows { IfOk result (λ q. ∥ FollowsAlways (program source.now.held) q ∥₁) }
+    ensures valid { IfOk result (λ q. ∥ IsValid q ∥₁) }
+    ensures calm { IfOk result TreesAreCalm }
+    ensures parts { IfOk result (HasParts (program source.now.held)) }
+    ensures plain { PlainIsOneTree }
+{
+    lower_code::lower(alloc, source.plain())
+}

@@ -1,0 +1,270 @@
+#!/bin/sh
+# Compares the program `c_lowerings`, which lowers C sources to trees, with a plain Rust lowering of the same scheme: the trees of generated
+# programs, what those programs and their trees do, and the processor times on sources of 100 KiB and of 1 MiB of one mix.
+# Usage: bench/lower.sh [PROGRAMS [SEED]]; PROGRAMS (default 2000) generated programs from the seed SEED (default 1) on.
+# C_REFERENCE names the folder of the plain lowering, a Cargo project whose modules read, type and lower sources and generate programs.
+# Where it isn't set or isn't there, only the worked programs of `c_meanings` are run, and the two sizes are compared.
+set -eu
+here=$(CDPATH='' cd -- "$(dirname -- "$0")/.." && pwd)
+programs=${1:-2000}
+seed=${2:-1}
+reference=${C_REFERENCE:-}
+work=$(mktemp -d)
+trap 'rm -rf "$work"' EXIT
+
+plain=
+if [ -n "$reference" ] && [ -f "$reference/Cargo.toml" ]; then
+    mkdir "$work/plain"
+    cp -r "$reference/Cargo.toml" "$reference/src" "$work/plain"
+    cp "$here/bench/lower_plain.rs" "$work/plain/src/main.rs"
+    # The plain lowering evaluates a dropped unary operator, cast or relation where that may break, and not its operands alone.
+    sed -i 's/^ *TK::Call(c, args, tys) => self.call(\*c, args, tys),$/&\
+            TK::Un(_, a) | TK::Cast(a) => self.drop(a),\
+            TK::Bin(op, a, b) if rel(*op, false).is_some() => { self.drop(a); self.drop(b); }/' "$work/plain/src/lower.rs"
+    RUSTFLAGS=-Awarnings cargo build --quiet --release --manifest-path "$work/plain/Cargo.toml" --target-dir "$work/target"
+    plain=$(find "$work/target/release" -maxdepth 1 -type f -perm -u+x | head -n 1)
+else
+    echo "C_REFERENCE names no folder of a plain lowering: answers are not compared"
+fi
+# Proves and builds the program where it is stale.
+(cd "$here/crates/c_lowerings" && rt run -- data/sources.txt >/dev/null)
+
+python3 - "$here/crates/c_lowerings/out/c_lowerings" "$plain" "$work" "$here/crates/c_meanings/stdin" "$programs" "$seed" <<'PY'
+import re
+import resource
+import subprocess
+import sys
+
+program, plain, work, worked = sys.argv[1:5]
+programs, first_seed = int(sys.argv[5]), int(sys.argv[6])
+ROUNDS = 15
+MORE = 10
+TURNS = 10_000
+
+
+def told(words):
+    return subprocess.run(words, stdout=subprocess.PIPE, check=True).stdout.decode("latin-1")
+
+
+def functions(lines):
+    """The functions of a listing: the words of their heads, and their items."""
+    found = []
+    for line in lines:
+        words = line.split()
+        if line.lstrip().startswith("function "):
+            found.append((words[1:], []))
+        elif words and found:
+            found[-1][1].append(words)
+    return found
+
+
+def number(word, head):
+    return int(word[len(head) + 1 : -1]) if word.startswith(head + "[") else None
+
+
+def without_falls(items):
+    """A jump to the label behind it only counts a turn of a loop; the plain lowering has none."""
+    behind = items[1:] + [[]]
+    return [item for item, after in zip(items, behind) if not (item[0].startswith("Jump[") and [item[0][5:-1] + ":"] == after)]
+
+
+class Meeting:
+    """Two functions walked side by side: temporaries and labels may have other numbers, and are met in pairs. A pair of temporaries
+    holds at a label where it holds on every way there."""
+
+    def __init__(self, automatic):
+        self.automatic, self.labels, self.coming = automatic, {}, {}
+        self.temporaries, self.reached = {}, True
+
+    def word(self, mine, other):
+        slot, that = number(mine, "Loc"), number(other, "Loc")
+        if slot is not None and that is not None:
+            return self.temporaries.get(slot) == that if slot >= self.automatic else slot == that
+        value, that = number(mine, "Const"), number(other, "Const")
+        if value is not None and that is not None:
+            return (value - that) % 2**32 == 0
+        label, that = re.search(r"L\d+", mine), re.search(r"L\d+", other)
+        if label and that:
+            return self.label(label.group(), that.group()) and label.start() == that.start()
+        return mine == other
+
+    def label(self, mine, other):
+        if mine not in self.labels and other in self.labels.values():
+            return False
+        return self.labels.setdefault(mine, other) == other
+
+    def begins(self, mine, other):
+        """A local becomes a value."""
+        if mine < self.automatic or other < self.automatic:
+            return mine == other
+        self.temporaries = {slot: that for slot, that in self.temporaries.items() if that != other}
+        self.temporaries[mine] = other
+        return True
+
+    def arrives(self, label):
+        ways = self.coming.get(label, []) + ([self.temporaries] if self.reached else [])
+        met = set.intersection(*(set(way.items()) for way in ways)) if ways else set()
+        self.temporaries, self.reached = dict(met), True
+
+    def leaves(self, words):
+        if words[0].startswith(("Cbr[", "Jump[")):
+            label = re.search(r"L\d+", " ".join(words[:2])).group()
+            self.coming.setdefault(label, []).append(dict(self.temporaries))
+        if words[0].startswith("Jump[") or words[0] == "Ret":
+            self.temporaries, self.reached = {}, False
+
+    def item(self, mine, other):
+        if len(mine) != len(other):
+            return False
+        if mine[0].startswith("Save[") and other[0].startswith("Save["):
+            return self.begins(number(mine[0], "Save"), number(other[0], "Save"))
+        if mine[0] == other[0] == "AssignL" and mine[1].startswith("Loc[") and other[1].startswith("Loc["):
+            return all(map(self.word, mine[2:], other[2:])) and self.begins(number(mine[1], "Loc"), number(other[1], "Loc"))
+        if not all(map(self.word, mine, other)):
+            return False
+        if mine[0].endswith(":"):
+            self.arrives(mine[0][:-1])
+        self.leaves(mine)
+        return True
+
+
+def same_function(mine, other):
+    head, items = mine
+    # name, args N, locals N, need N, automatic N
+    wanted, expected = other
+    if items[-1] != ["Ret", "Zero"] or head != wanted[: len(head)]:
+        return False
+    meeting = Meeting(int(wanted[-1]))
+    items, expected = without_falls(items[:-1]), without_falls(expected)
+    return len(items) == len(expected) and all(map(meeting.item, items, expected))
+
+
+def blocks(text):
+    return [block.split("\n") for block in text.rstrip("\n").split("\n\n")]
+
+
+def compare_trees(table):
+    wrong = 0
+    ours, theirs = blocks(told([program, table])), blocks(told([plain, "show", table]))
+    assert len(ours) == len(theirs) == programs, (len(ours), len(theirs))
+    items = 0
+    for mine, other in zip(ours, theirs):
+        both = functions(line for line in mine if line.startswith("  ")), functions(other)
+        items += sum(len(f[1]) for f in both[0])
+        if len(both[0]) != len(both[1]) or not both[0] or not all(map(same_function, *both)):
+            wrong += 1
+            print(f"{mine[0]}: the trees differ")
+    print(f"{programs} programs of {items} items: the trees of {wrong} differ")
+    return wrong
+
+
+def agrees(line):
+    found = re.fullmatch(r"  source (.*), trees (.*), (.*)", line)
+    if not found:
+        return False
+    source, trees, output = found.groups()
+    if source.startswith("ended") or source == "trapped":
+        return trees == source and output == "the same output"
+    return output in ("the same output", "more output")
+
+
+def compare_runs(table):
+    """Runs each program of a table and its trees; a source that is refused has no run."""
+    lines = told([program, table, "run", str(TURNS)]).rstrip("\n").split("\n")
+    wrong, ends = 0, {}
+    for turn, line in enumerate(lines):
+        end = line.split()[1].rstrip(",") if line.startswith("  source ") else "refused"
+        ends[end] = ends.get(end, 0) + 1
+        if end != "refused" and not agrees(line):
+            wrong += 1
+            print(f"program {turn}:{line}")
+    listed = ", ".join(f"{n} {end}" for end, n in sorted(ends.items()))
+    print(f"{len(lines)} programs ({listed}): the runs of {wrong} differ")
+    return wrong
+
+
+def worked_programs(given):
+    """The table of sources with worked meanings: a source, its number and its input on each line, with `@` between."""
+    table = f"{work}/worked.txt"
+    with open(given) as file, open(table, "w") as out:
+        out.write("\n\n".join(line.split("@")[0] for line in file.read().splitlines()) + "\n")
+    return table
+
+
+PARTS = (
+    "int f{n}(int a,char*b){{int i;for(i=0;i<a;i++){{b[i]=(char)(a*i+{n});if(b[i]>100)return b[i]-i;else a^=i<<2;}}return a;}}\n",
+    "int t{n};short u{n}(short x,int y){{while(x>0&&y!={n}||!y){{x-=y++;if(x==y)continue;t{n}+=x*y;}}return x+t{n};}}\n",
+    "void g{n}(void){{char*s;s=\"some text {n}\";while(*s)putchar(*s++);}}\n",
+    "int h{n}(int x){{return x?h{n}(x-1)%7:(x&0xff)|(x>>3)&~x;}}\n",
+    "int k{n}(int*p,int*q,int i){{p[i]=q[i+1]/(i+1)+p[-i];*p++=*q--;return p<q?p-q:k{n}(p,q,i-1)+k{n}(q,p,p[i]);}}\n",
+)
+TAIL = "int main(){return 0;}\n"
+
+
+def source(length):
+    made, size, turn = [], len(TAIL), 0
+    while True:
+        part = PARTS[turn % len(PARTS)].format(n=turn)
+        if size + len(part) > length:
+            return "".join(made) + TAIL
+        made.append(part)
+        size += len(part)
+        turn += 1
+
+
+def processor():
+    """The seconds of processor time of all programs that were run."""
+    used = resource.getrusage(resource.RUSAGE_CHILDREN)
+    return used.ru_utime + used.ru_stime
+
+
+def spent(words):
+    begin = processor()
+    answers = told(words)
+    assert re.fullmatch(r" *\d+ items\n", answers), answers
+    return processor() - begin
+
+
+def measure(runners, paths):
+    """For each runner and source the least seconds of reading, typing and lowering once, and those of one lowering alone. The rounds go
+    over all of them, so that other work on the machine meets them alike."""
+    counts = {"once": 1, "again": 1 + MORE}
+    least = {}
+    for _ in range(ROUNDS):
+        for who, runner in runners.items():
+            for name, path in paths.items():
+                for turn, count in counts.items():
+                    seconds = spent([*runner, path, "count", str(count)])
+                    least[who, name, turn] = min(seconds, least.get((who, name, turn), seconds))
+    alone = {(who, name): (least[who, name, "again"] - least[who, name, "once"]) / MORE for who in runners for name in paths}
+    return {(who, name): (least[who, name, "once"], alone[who, name]) for who in runners for name in paths}
+
+
+def compare_times():
+    """The growth of lowering alone is told and not judged: trees of 1 MiB no longer fit the processor's cache, for either program."""
+    runners = {"c_lowerings": [program], "plain": [plain]} if plain else {"c_lowerings": [program]}
+    paths, slow = {}, 0
+    for name, length in (("100 KiB", 102_400), ("1 MiB", 1_048_576)):
+        paths[name] = f"{work}/{length}.c"
+        with open(paths[name], "w") as file:
+            file.write(source(length))
+    found = measure(runners, paths)
+    for name in paths if plain else ():
+        for what, ours, theirs in zip(("whole", "lowering alone"), found["c_lowerings", name], found["plain", name]):
+            print(f"{name}, {what}: {ours:.4f} s against {theirs:.4f} s, {ours / theirs:.2f} times (at most 4)")
+            slow += name == "1 MiB" and ours > 4 * theirs
+    for who in runners:
+        whole, alone = (large / small for small, large in zip(found[who, "100 KiB"], found[who, "1 MiB"]))
+        print(f"1 MiB against 100 KiB, {who}: whole {whole:.1f} times (at most 12), lowering alone {alone:.1f}")
+        slow += who == "c_lowerings" and whole > 12
+    return slow
+
+
+wrong = compare_runs(worked_programs(worked))
+if plain:
+    table = f"{work}/table.txt"
+    with open(table, "w") as file:
+        file.write(told([plain, "generate", str(first_seed), str(programs)]))
+    wrong += compare_trees(table) + compare_runs(table)
+sys.exit(1 if compare_times() or wrong else 0)
+PY

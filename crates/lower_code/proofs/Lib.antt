@@ -1,0 +1,5 @@
+pub mod Changing
+pub mod Pushing
+pub mod Rows
+pub mod Onto
+pub mod Calls

@@ -1,0 +1,12 @@
+-- What a place becomes by its old value and another one.
+use Rattle.c_types.specs.declared.types.CType.{CType}
+use Rattle.lower_code.specs.declared.change.Change.{Change}
+use Rattle.lower_code.specs.declared.change.Change.TheVariants as changes
+use Rattle.lower_trees.specs.Trees.{Tree, Bin}
+use Rattle.lower_trees.specs.Expressions.{advance, retreat, step}
+
+abbrev pub applied : Change → CType → Tree → Tree → Tree
+applied (changes.Arithmetic op) t a b = Bin op a b
+applied changes.Advance t a b = advance t a b
+applied changes.Retreat t a b = retreat t a b
+applied (changes.Step by) t a b = step by a b
