@@ -1,9 +1,9 @@
 #!/bin/sh
-# Compares the program `c_lowerings`, which lowers C sources to trees, with a plain Rust lowering of the same scheme: the trees of generated
+# Compares the program `try_lowering`, which lowers C sources to trees, with a plain Rust lowering of the same scheme: the trees of generated
 # programs, what those programs and their trees do, and the processor times on sources of 100 KiB and of 1 MiB of one mix.
 # Usage: bench/lower.sh [PROGRAMS [SEED]]; PROGRAMS (default 2000) generated programs from the seed SEED (default 1) on.
 # C_REFERENCE names the folder of the plain lowering, a Cargo project whose modules read, type and lower sources and generate programs.
-# Where it isn't set or isn't there, only the worked programs of `c_meanings` are run, and the two sizes are compared.
+# Where it isn't set or isn't there, only the worked programs of `try_meaning` are run, and the two sizes are compared.
 set -eu
 here=$(CDPATH='' cd -- "$(dirname -- "$0")/.." && pwd)
 programs=${1:-2000}
@@ -27,9 +27,9 @@ else
     echo "C_REFERENCE names no folder of a plain lowering: answers are not compared"
 fi
 # Proves and builds the program where it is stale.
-(cd "$here/crates/c_lowerings" && rt run -- data/sources.txt >/dev/null)
+(cd "$here/crates/try_lowering" && rt run -- data/sources.txt >/dev/null)
 
-python3 - "$here/crates/c_lowerings/out/c_lowerings" "$plain" "$work" "$here/crates/c_meanings/stdin" "$programs" "$seed" <<'PY'
+python3 - "$here/crates/try_lowering/out/try_lowering" "$plain" "$work" "$here/crates/try_meaning/stdin" "$programs" "$seed" <<'PY'
 import re
 import resource
 import subprocess
@@ -242,7 +242,7 @@ def measure(runners, paths):
 
 def compare_times():
     """The growth of lowering alone is told and not judged: trees of 1 MiB no longer fit the processor's cache, for either program."""
-    runners = {"c_lowerings": [program], "plain": [plain]} if plain else {"c_lowerings": [program]}
+    runners = {"try_lowering": [program], "plain": [plain]} if plain else {"try_lowering": [program]}
     paths, slow = {}, 0
     for name, length in (("100 KiB", 102_400), ("1 MiB", 1_048_576)):
         paths[name] = f"{work}/{length}.c"
@@ -250,13 +250,13 @@ def compare_times():
             file.write(source(length))
     found = measure(runners, paths)
     for name in paths if plain else ():
-        for what, ours, theirs in zip(("whole", "lowering alone"), found["c_lowerings", name], found["plain", name]):
+        for what, ours, theirs in zip(("whole", "lowering alone"), found["try_lowering", name], found["plain", name]):
             print(f"{name}, {what}: {ours:.4f} s against {theirs:.4f} s, {ours / theirs:.2f} times (at most 4)")
             slow += name == "1 MiB" and ours > 4 * theirs
     for who in runners:
         whole, alone = (large / small for small, large in zip(found[who, "100 KiB"], found[who, "1 MiB"]))
         print(f"1 MiB against 100 KiB, {who}: whole {whole:.1f} times (at most 12), lowering alone {alone:.1f}")
-        slow += who == "c_lowerings" and whole > 12
+        slow += who == "try_lowering" and whole > 12
     return slow
 
 

@@ -1,5 +1,5 @@
 #!/bin/sh
-# Times `md_tables` on the shipped description, which it reads and builds, and on a hostile one with too many item sets, which it
+# Times `try_tables` on the shipped description, which it reads and builds, and on a hostile one with too many item sets, which it
 # refuses, against a plain Rust program on the same two.
 # Usage: bench/tables.sh [ROUNDS]; the least of ROUNDS (default 20) runs counts for each.
 # MD_REFERENCE names the folder of the plain program, a Cargo project whose command `states F` builds the item sets of the description
@@ -18,7 +18,7 @@ trap 'rm -rf "$work"' EXIT
 
 cargo build --quiet --release --manifest-path "$reference/Cargo.toml" --target-dir "$work/target"
 plain=$(find "$work/target/release" -maxdepth 1 -type f -perm -u+x | head -n 1)
-(cd "$here/crates/md_tables" && rt run) <"$here/crates/md_tables/stdin" >/dev/null 2>&1
+(cd "$here/crates/try_tables" && rt run) <"$here/crates/try_tables/stdin" >/dev/null 2>&1
 
 python3 - "$here" "$plain" "$work" "$rounds" <<'PY'
 import re
@@ -27,7 +27,7 @@ import sys
 import time
 
 here, plain, work, rounds = sys.argv[1], sys.argv[2], sys.argv[3], int(sys.argv[4])
-program = f"{here}/crates/md_tables/out/md_tables"
+program = f"{here}/crates/try_tables/out/try_tables"
 
 HEAD = """version 1
 target vax

@@ -6,12 +6,12 @@ use Rattle.tree_core.specs.declared.program.Object.{Object}
 use Rattle.tree_core.specs.declared.program.TreeProgram.{TreeProgram}
 use Rattle.c_program.specs.declared.program.Program.{Program as Held}
 use Rattle.c_program.specs.Programs.{program}
-use Rattle.c_check.specs.declared.program.Program.{Program}
+use Rattle.c_typed_check.specs.declared.program.Program.{Program}
 use Rattle.c_sound.specs.Fits.{AreBytes}
 use Rattle.c_sound.specs.Sound.{HoldBytes, IsSound}
-use Rattle.lower_trees.specs.Programs.{lowered}
-use Rattle.lower_code.specs.Bytes.{AllHoldBytes}
-use Rattle.sound_texts.proofs.Whole.{typed_is_sound}
+use Rattle.c_lower_scheme.specs.Programs.{lowered}
+use Rattle.c_lower_code.specs.Bytes.{AllHoldBytes}
+use Rattle.c_sound_texts.proofs.Whole.{typed_is_sound}
 use Rattle.c_lower.proofs.Numbers.{longwords}
 
 some : (x o : Object) → Some x ≡ Some o → x ≡ o

@@ -8,7 +8,7 @@ use Rattle.c_program.specs.Need.{need_of}
 use Rattle.c_program.specs.Programs.{ARoutine, AProgram}
 use Rattle.c_meaning.specs.Meaning.{source}
 use Rattle.c_sound.specs.Fits.{AreBytes}
-use Rattle.lower_bounds.specs.Claim.{FitsFrame, SameFunction}
+use Rattle.c_lower_bounds.specs.Claim.{FitsFrame, SameFunction}
 
 -- on every input the run of the trees follows the run of the program
 abbrev pub FollowsAlways : AProgram → TreeProgram → Type 0

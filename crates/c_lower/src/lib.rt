@@ -4,11 +4,11 @@
 ghost use Rattle.std.specs.Prelude.{◌≡◌, IfOk};
 ghost use Rattle.tree_core.specs.Valid.{IsValid};
 ghost use Rattle.c_program.specs.Programs.{program};
-ghost use Rattle.lower_trees.specs.Programs.{lowered};
-ghost use Rattle.lower_calm.specs.Claim.{TreesAreCalm, PlainIsOneTree};
+ghost use Rattle.c_lower_scheme.specs.Programs.{lowered};
+ghost use Rattle.c_lower_calm.specs.Claim.{TreesAreCalm, PlainIsOneTree};
 ghost use Rattle.c_lower.specs.Claims.{FollowsAlways, HasParts};
 
-use c_check::Program;
+use c_typed_check::Program;
 use gg_base::NoMemory;
 use std::alloc::Global;
 use tree_core::TreeProgram;
@@ -23,5 +23,5 @@ pub fn lower(alloc: Global, source: &Program) -> Result<TreeProgram, NoMemory>
     ensures parts { IfOk result (HasParts (program source.now.held)) }
     ensures plain { PlainIsOneTree }
 {
-    lower_code::lower(alloc, source.plain())
+    c_lower_code::lower(alloc, source.plain())
 }

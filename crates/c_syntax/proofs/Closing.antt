@@ -10,8 +10,8 @@ use Rattle.c_tokens.specs.declared.marks.Mark.TheVariants as marks
 use Rattle.c_phrases.specs.declared.operator.Spec.{Spec}
 use Rattle.c_phrases.specs.declared.operator.Storage.{Storage}
 use Rattle.c_phrases.specs.declared.operator.Storage.TheVariants as storages
-use Rattle.c_goals.specs.declared.fault.Fault.{Fault}
-use Rattle.c_goals.specs.declared.fault.Fault.TheVariants.{NoMemory, NotHere, TooDeep}
+use Rattle.c_syntax_goals.specs.declared.fault.Fault.{Fault}
+use Rattle.c_syntax_goals.specs.declared.fault.Fault.TheVariants.{NoMemory, NotHere, TooDeep}
 use Rattle.c_phrases.specs.declared.tree.Named.{Named}
 use Rattle.c_phrases.specs.Classes.{Placed, Class, class_of, key_class, mark_class, word, sign}
 use Rattle.c_phrases.specs.Classes as c
@@ -26,15 +26,15 @@ use Rattle.c_phrases.specs.Fronts.{LocalClass, NoLocal, BeginsLocal}
 use Rattle.c_syntax.specs.Stands.{PartFails, MoreLeads, ItemsLead, ParamsLead, HasToken}
 use Rattle.c_phrases.specs.Takes.{TypeClass, NoTypeClass, IsTypeWord, NoTypeWord}
 use Rattle.std.specs.Bool.{MatchBool}
-use Rattle.c_goals.specs.Goals as Goals
-use Rattle.c_goals.specs.Goals.{Goal, Val, Stack, Done, Want, Steps, Opens, Refuses, Passes, turn, type_goals, stars_then, cond_goals, declarator_goals, declarator_behind, globals_behind, if_goals, while_goals, do_goals, for_goals, local_rest, item_local, param_goals, param_behind, list_goals, some_params, function_behind, declared_goals, external_rest, before}
-use Rattle.c_goals.specs.Goals.{Expr, Assign, Cast, Tail, Back, WantParen, WantBracket, WantSemi, WantWhile, TypeWords, AfterUnsigned, Stars, Condition, Simple, Statement, Items, PartSemi, PartParen, ForOpen, ElsePart, Local, DeclaratorName, ArrayPart, Length, InitPart, Init, Elements, InitMore, InitNext, MoreDeclarators, DeclaredName, AfterName, Body, Params, OptName, MoreParams, External, Whole}
-use Rattle.c_goals.specs.Machine.{run}
-use Rattle.c_goals.proofs.Tokens.{single, token_of}
-use Rattle.c_goals.proofs.Steps.{NoSet, back, expand_cond, step_refuses}
-use Rattle.c_goals.proofs.Going.{Starts, StartClass, starts, not_start, quiet_others, law_exp, law_assign, law_cond, law_operand}
-use Rattle.c_goals.proofs.PhraseLaws.{limit_low}
-use Rattle.c_goals.proofs.Stating.{pass_array, pass_init, pass_else, expand_length, expand_init, expand_elements, expand_next, expand_semi, expand_paren, expand_after_name, expand_items, expand_local, law_init, law_elements_init, law_condition, law_semi, law_paren, law_statement, law_local, law_params, law_external}
+use Rattle.c_syntax_goals.specs.Goals as Goals
+use Rattle.c_syntax_goals.specs.Goals.{Goal, Val, Stack, Done, Want, Steps, Opens, Refuses, Passes, turn, type_goals, stars_then, cond_goals, declarator_goals, declarator_behind, globals_behind, if_goals, while_goals, do_goals, for_goals, local_rest, item_local, param_goals, param_behind, list_goals, some_params, function_behind, declared_goals, external_rest, before}
+use Rattle.c_syntax_goals.specs.Goals.{Expr, Assign, Cast, Tail, Back, WantParen, WantBracket, WantSemi, WantWhile, TypeWords, AfterUnsigned, Stars, Condition, Simple, Statement, Items, PartSemi, PartParen, ForOpen, ElsePart, Local, DeclaratorName, ArrayPart, Length, InitPart, Init, Elements, InitMore, InitNext, MoreDeclarators, DeclaredName, AfterName, Body, Params, OptName, MoreParams, External, Whole}
+use Rattle.c_syntax_goals.specs.Machine.{run}
+use Rattle.c_syntax_goals.proofs.Tokens.{single, token_of}
+use Rattle.c_syntax_goals.proofs.Steps.{NoSet, back, expand_cond, step_refuses}
+use Rattle.c_syntax_goals.proofs.Going.{Starts, StartClass, starts, not_start, quiet_others, law_exp, law_assign, law_cond, law_operand}
+use Rattle.c_syntax_goals.proofs.PhraseLaws.{limit_low}
+use Rattle.c_syntax_goals.proofs.Stating.{pass_array, pass_init, pass_else, expand_length, expand_init, expand_elements, expand_next, expand_semi, expand_paren, expand_after_name, expand_items, expand_local, law_init, law_elements_init, law_condition, law_semi, law_paren, law_statement, law_local, law_params, law_external}
 use Rattle.c_syntax.proofs.Exits.{IsReal, fails_when, real, fails_here, deep, opens, class_not, assign_leads, exp_leads, operand_leads, no_close, no_bracket}
 
 -- types

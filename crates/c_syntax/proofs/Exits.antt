@@ -15,8 +15,8 @@ use Rattle.c_phrases.specs.declared.operator.PrefixOperator.{PrefixOperator}
 use Rattle.c_phrases.specs.declared.operator.StepOperator.{StepOperator}
 use Rattle.c_phrases.specs.declared.operator.AssignOperator.{AssignOperator}
 use Rattle.c_phrases.specs.declared.operator.AssignOperator.TheVariants as assigns
-use Rattle.c_goals.specs.declared.fault.Fault.{Fault}
-use Rattle.c_goals.specs.declared.fault.Fault.TheVariants.{NoMemory, NotHere, TooDeep}
+use Rattle.c_syntax_goals.specs.declared.fault.Fault.{Fault}
+use Rattle.c_syntax_goals.specs.declared.fault.Fault.TheVariants.{NoMemory, NotHere, TooDeep}
 use Rattle.c_phrases.specs.declared.tree.TypeName.{TypeName}
 use Rattle.c_phrases.specs.Classes.{Placed, Class, class_of, key_class, mark_class, word, sign}
 use Rattle.c_phrases.specs.Classes as c
@@ -25,14 +25,14 @@ use Rattle.c_phrases.specs.Levels.{LowExp, LowExps, limit}
 use Rattle.c_phrases.specs.Takes.{IsTypeWord, NoTypeWord, assign_of, prefix_of, step_of, NoPrefix, NoPrefixMark, NoStep, NoStepMark, NoAssign, NoAssignMark}
 use Rattle.c_phrases.specs.Fronts.{Quiet, IsNot, NoCast}
 use Rattle.c_syntax.specs.Reads.{NoName, NoNumber, NoString, BeginsCast, StopClass, IsStop, IsPart, IsRead, ReadsType, ArgumentsSoFar, ReadsArguments, IsSome, Fails, Leads, TailFails, TailLeads, PostFails, CommasFail}
-use Rattle.c_goals.specs.Goals as Goals
-use Rattle.c_goals.specs.Goals.{Goal, Val, Stack, Want, Steps, Opens, Refuses, turn, insert, type_goals, cast_behind, paren_behind, sizeof_behind, cond_goals}
-use Rattle.c_goals.specs.Goals.{Expr, Commas, Assign, Cond, Cast, Unary, Primary, Parens, CallTail, PostTail, Ended, Tail, Group, SizeofTail, SizeofGroup, Arguments, MoreArguments, Back, WantParen, WantBracket, WantColon}
-use Rattle.c_goals.specs.Machine.{run}
-use Rattle.c_goals.proofs.Tokens.{single, token_of}
-use Rattle.c_goals.proofs.PhraseLaws.{limit_low}
-use Rattle.c_goals.proofs.Steps.{Unset, NoSet, step_opens, step_deep, step_refuses, tail_binary, tail_assign, unary_prefix, unary_step, post_step, back, loosen, quiet_call, group_type, sizeof_group_type, cast_plain, assign_plain, sizeof_is_plain, assign_cast, expand_expr, expand_cond, expand_arguments}
-use Rattle.c_goals.proofs.Going.{StartClass, Starts, starts, not_start, quiet_others, law_exp, law_assign, law_operand, law_unary, law_first}
+use Rattle.c_syntax_goals.specs.Goals as Goals
+use Rattle.c_syntax_goals.specs.Goals.{Goal, Val, Stack, Want, Steps, Opens, Refuses, turn, insert, type_goals, cast_behind, paren_behind, sizeof_behind, cond_goals}
+use Rattle.c_syntax_goals.specs.Goals.{Expr, Commas, Assign, Cond, Cast, Unary, Primary, Parens, CallTail, PostTail, Ended, Tail, Group, SizeofTail, SizeofGroup, Arguments, MoreArguments, Back, WantParen, WantBracket, WantColon}
+use Rattle.c_syntax_goals.specs.Machine.{run}
+use Rattle.c_syntax_goals.proofs.Tokens.{single, token_of}
+use Rattle.c_syntax_goals.proofs.PhraseLaws.{limit_low}
+use Rattle.c_syntax_goals.proofs.Steps.{Unset, NoSet, step_opens, step_deep, step_refuses, tail_binary, tail_assign, unary_prefix, unary_step, post_step, back, loosen, quiet_call, group_type, sizeof_group_type, cast_plain, assign_plain, sizeof_is_plain, assign_cast, expand_expr, expand_cond, expand_arguments}
+use Rattle.c_syntax_goals.proofs.Going.{StartClass, Starts, starts, not_start, quiet_others, law_exp, law_assign, law_operand, law_unary, law_first}
 
 -- a fault that is no want of memory
 abbrev pub IsReal : Fault → Type 0

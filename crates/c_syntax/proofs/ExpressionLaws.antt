@@ -18,8 +18,8 @@ use Rattle.std.proofs.lemmas.Bool.Decides.{nat_tests}
 use Rattle.c_phrases.specs.Levels.{LowExp, LowExps, limit}
 use Rattle.c_phrases.specs.Shapes.{exp, exps_row, exp_list}
 use Rattle.c_phrases.specs.Fronts.{Quiet, mark_strength}
-use Rattle.c_goals.proofs.PhraseLaws.{lower, binary_strength, level_top, quieter, limit_low}
-use Rattle.c_goals.specs.Goals.{Want, CallTail}
+use Rattle.c_syntax_goals.proofs.PhraseLaws.{lower, binary_strength, level_top, quieter, limit_low}
+use Rattle.c_syntax_goals.specs.Goals.{Want, CallTail}
 use Rattle.c_syntax.specs.Reads.{Leads, IsPart, IsRead, Ready, IsSome, ArgumentsSoFar, ReadsArguments}
 
 -- a call's arguments as a list

@@ -1,22 +1,22 @@
 -- The answers of the parser.
 use Rattle.std.proofs.Common.{◌≡◌, ℕ, suc, ◌+◌, ◌-◌, ◌<◌, ◌≤◌, List, [], ◌∷◌, ◌++◌, length, refl, sym, ap, subst, ◌∙◌, arith}
 use Rattle.std.specs.Prelude.{Ok, Err}
-use Rattle.c_goals.specs.declared.fault.Fault.{Fault}
+use Rattle.c_syntax_goals.specs.declared.fault.Fault.{Fault}
 use Rattle.c_tokens.specs.declared.token.Spanned.{Spanned}
 use Rattle.c_phrases.specs.declared.tree.Ast.{Ast}
 use Rattle.c_phrases.specs.UnitShapes.{unit_of}
 use Rattle.c_phrases.specs.Classes.{seen}
-use Rattle.c_goals.specs.Refusals.{IsEnded, IsPlace, NotHereAt, Stops, TooDeepAt}
+use Rattle.c_syntax_goals.specs.Refusals.{IsEnded, IsPlace, NotHereAt, Stops, TooDeepAt}
 use Rattle.c_phrases.specs.Levels.{limit}
 use Rattle.c_phrases.specs.Units.{AUnit, unit_tokens}
 use Rattle.c_phrases.specs.Fits.{IsUnit}
-use Rattle.c_goals.specs.Goals.{Want, Done, Whole}
-use Rattle.c_goals.specs.Machine.{run}
-use Rattle.c_goals.specs.declared.fault.Fault.TheVariants.{NotHere, TooDeep}
+use Rattle.c_syntax_goals.specs.Goals.{Want, Done, Whole}
+use Rattle.c_syntax_goals.specs.Machine.{run}
+use Rattle.c_syntax_goals.specs.declared.fault.Fault.TheVariants.{NotHere, TooDeep}
 use Rattle.c_syntax.specs.Reads.{Fails}
-use Rattle.c_goals.proofs.Stating.{law_unit}
-use Rattle.c_goals.proofs.Prefix.{same_unit, no_ok}
-use Rattle.c_goals.proofs.Faults.{here_some, too_deep_some, within_seen, refused_here, too_deep_there}
+use Rattle.c_syntax_goals.proofs.Stating.{law_unit}
+use Rattle.c_syntax_goals.proofs.Prefix.{same_unit, no_ok}
+use Rattle.c_syntax_goals.proofs.Faults.{here_some, too_deep_some, within_seen, refused_here, too_deep_there}
 
 -- a text's units are one
 pub one_unit : (ts : List Spanned) (x : Ast) (u : AUnit) → IsUnit (seen ts) (unit_of x) → IsUnit (seen ts) u → unit_of x ≡ u

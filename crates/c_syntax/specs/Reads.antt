@@ -3,12 +3,12 @@ use Rattle.std.specs.Prelude.{◌≡◌, ◌≢◌, ◌≤◌, ℕ, ◌+◌, Lis
 use Rattle.c_tokens.specs.declared.token.Token.TheVariants as token
 use Rattle.c_tokens.specs.declared.words.Key.TheVariants as keys
 use Rattle.c_tokens.specs.declared.marks.Mark.TheVariants as marks
-use Rattle.c_goals.specs.declared.fault.Fault.{Fault}
-use Rattle.c_goals.specs.declared.fault.Fault.TheVariants.{NoMemory, NotHere, TooDeep}
+use Rattle.c_syntax_goals.specs.declared.fault.Fault.{Fault}
+use Rattle.c_syntax_goals.specs.declared.fault.Fault.TheVariants.{NoMemory, NotHere, TooDeep}
 use Rattle.c_phrases.specs.Classes.{Placed, Class, class_of, word}
 use Rattle.c_phrases.specs.Classes as c
-use Rattle.c_goals.specs.Goals.{Stack, Want, PostTail, Commas, Tail, AfterShort, AfterUnsigned, TypeWords, Stars, type_goals, cond_goals}
-use Rattle.c_goals.specs.Machine.{run}
+use Rattle.c_syntax_goals.specs.Goals.{Stack, Want, PostTail, Commas, Tail, AfterShort, AfterUnsigned, TypeWords, Stars, type_goals, cond_goals}
+use Rattle.c_syntax_goals.specs.Machine.{run}
 use Rattle.c_phrases.specs.declared.operator.Spec.{Spec as SpecWords}
 use Rattle.c_phrases.specs.declared.tree.TypeName.{TypeName}
 use Rattle.c_phrases.specs.Phrases.{AnExp, SomeExps, no_exps, exps, onto_exp, onto_int, onto_spec, onto_stars, onto_type, onto_first, AllAt, IsAt, after_exp}

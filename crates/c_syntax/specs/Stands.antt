@@ -4,9 +4,9 @@ use Rattle.c_tokens.specs.declared.token.Token.TheVariants as token
 use Rattle.c_tokens.specs.declared.words.Key.TheVariants as keys
 use Rattle.c_tokens.specs.declared.marks.Mark.TheVariants as marks
 use Rattle.c_tokens.specs.declared.marks.Mark.{Mark}
-use Rattle.c_goals.specs.declared.fault.Fault.{Fault}
+use Rattle.c_syntax_goals.specs.declared.fault.Fault.{Fault}
 use Rattle.c_phrases.specs.Classes.{Placed, sign}
-use Rattle.c_goals.specs.Goals.{Want, PartSemi, PartParen, MoreDeclarators, MoreParams, Items, list_goals}
+use Rattle.c_syntax_goals.specs.Goals.{Want, PartSemi, PartParen, MoreDeclarators, MoreParams, Items, list_goals}
 use Rattle.c_phrases.specs.Phrases.{AnExp, IsAt}
 use Rattle.c_phrases.specs.Levels.{limit}
 use Rattle.c_phrases.specs.Fronts.{StandsBefore}

@@ -1,6 +1,6 @@
 // Declarators and their initialisers.
 ghost use Rattle.std.specs.Prelude.{◌≡◌, ◌≤◌, length, IfOk, IfErr};
-ghost use Rattle.c_goals.specs.Goals.{Want, ArrayPart, Elements, Init, InitPart, MoreDeclarators, cond_goals, declarator_goals, declarator_behind as behind_goals};
+ghost use Rattle.c_syntax_goals.specs.Goals.{Want, ArrayPart, Elements, Init, InitPart, MoreDeclarators, cond_goals, declarator_goals, declarator_behind as behind_goals};
 ghost use Rattle.c_syntax.specs.Reads.{Fails, Leads, CondLeads};
 ghost use Rattle.c_phrases.specs.Classes.{seen};
 ghost use Rattle.c_phrases.specs.Phrases.{onto_name, onto_stars};
@@ -15,8 +15,8 @@ ghost use Rattle.c_syntax.specs.Stands.{ReadsLength, ReadsInit, ReadsElements, R
 use crate::expressions::{assignment, cast, conditional, take_name};
 use crate::take::{not_here, open_levels, take_mark, want_mark};
 use crate::types::stars;
-use c_goals::fault::Fault;
 use c_phrases::tree::{Declarator, Expr, Initialised, Initialiser, Length, Stars};
+use c_syntax_goals::fault::Fault;
 use c_tokens::{Mark, Spanned};
 use gg_base::Name;
 use std::alloc::Global;

@@ -6,9 +6,9 @@ ghost use Rattle.c_phrases.specs.Phrases.{IsAt, onto_name};
 ghost use Rattle.c_phrases.specs.Shapes.{exp, exp_list};
 ghost use Rattle.std.specs.Prelude.{IfErr};
 ghost use Rattle.std.specs.Bool.{MatchBool};
-ghost use Rattle.c_goals.specs.declared.fault.Fault.TheVariants as faults;
+ghost use Rattle.c_syntax_goals.specs.declared.fault.Fault.TheVariants as faults;
 ghost use Rattle.c_phrases.specs.Takes.{IsTypeWord};
-ghost use Rattle.c_goals.specs.Goals.{Want, Expr as ExprGoal, Assign as AssignGoal, Cast as CastGoal, Unary, Primary, Parens, CallTail, SizeofTail, Arguments};
+ghost use Rattle.c_syntax_goals.specs.Goals.{Want, Expr as ExprGoal, Assign as AssignGoal, Cast as CastGoal, Unary, Primary, Parens, CallTail, SizeofTail, Arguments};
 ghost use Rattle.c_phrases.specs.Fronts.{Quiet, NoCast};
 ghost use Rattle.c_syntax.specs.Reads.{IsRead, IsMore, IsPart, Ready, BeginsCast, IsStop, NoName, ReadsArguments, ReadsSizeof};
 ghost use Rattle.c_tokens.specs.declared.token.Token.TheVariants as token;
@@ -20,8 +20,8 @@ use crate::take::{
     take_step, want_mark,
 };
 use crate::types::type_name;
-use c_goals::fault::Fault;
 use c_phrases::tree::Expr;
+use c_syntax_goals::fault::Fault;
 use c_tokens::{Key, Mark, Spanned, Token};
 use gg_base::{Bytes, Name};
 use std::alloc::Global;

@@ -2,8 +2,8 @@
 ghost use Rattle.std.specs.Prelude.{◌≡◌, ◌≤◌, ◌∷◌, ℕ, false, IfOk, IfErr};
 ghost use Rattle.std.specs.Bool.{MatchBool};
 ghost use Rattle.c_tokens.specs.declared.token.Token.TheVariants as token;
-ghost use Rattle.c_goals.specs.Goals.{Stack, Want, TypeWords, Condition, PartSemi, Simple, Items, Local as LocalGoal, Statement as StatementGoal, if_goals, while_goals, do_goals, for_goals, local_rest};
-ghost use Rattle.c_goals.specs.Machine.{run};
+ghost use Rattle.c_syntax_goals.specs.Goals.{Stack, Want, TypeWords, Condition, PartSemi, Simple, Items, Local as LocalGoal, Statement as StatementGoal, if_goals, while_goals, do_goals, for_goals, local_rest};
+ghost use Rattle.c_syntax_goals.specs.Machine.{run};
 ghost use Rattle.c_phrases.specs.Levels.{limit};
 ghost use Rattle.c_phrases.specs.Units.{ALocal};
 ghost use Rattle.c_phrases.specs.Fronts.{IsNot};
@@ -22,9 +22,9 @@ use crate::declarations::{declarator, declarators};
 use crate::expressions::expression;
 use crate::take::{begins_type, not_here, open_levels, take_key, take_mark, want_mark};
 use crate::types::spec;
-use c_goals::fault::Fault;
 use c_phrases::operator::Storage;
 use c_phrases::tree::{Expr, Item, Local, Statement};
+use c_syntax_goals::fault::Fault;
 use c_tokens::{Key, Mark, Spanned};
 use std::alloc::Global;
 

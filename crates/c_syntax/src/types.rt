@@ -1,14 +1,14 @@
 // The words and the stars of a type.
 ghost use Rattle.std.specs.Prelude.{◌≡◌, ◌∷◌, [], ℕ, length, IfOk, IfErr};
-ghost use Rattle.c_goals.specs.declared.fault.Fault.TheVariants.{NoMemory};
+ghost use Rattle.c_syntax_goals.specs.declared.fault.Fault.TheVariants.{NoMemory};
 ghost use Rattle.c_phrases.specs.Classes.{seen};
-ghost use Rattle.c_goals.specs.Goals.{Want, AfterUnsigned, TypeWords, type_goals};
+ghost use Rattle.c_syntax_goals.specs.Goals.{Want, AfterUnsigned, TypeWords, type_goals};
 ghost use Rattle.c_syntax.specs.Reads.{Fails, ReadsInt, ReadsUnsigned, ReadsSpec, ReadsStars, ReadsType};
 
 use crate::take::{not_here, take_key, take_mark};
-use c_goals::fault::Fault;
 use c_phrases::operator::Spec;
 use c_phrases::tree::{Stars, TypeName};
+use c_syntax_goals::fault::Fault;
 use c_tokens::{Key, Mark, Spanned};
 use std::alloc::Global;
 

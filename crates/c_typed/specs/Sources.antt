@@ -10,18 +10,18 @@ use Rattle.c_tokens.specs.Places.{line_of, column_of}
 use Rattle.c_phrases.specs.Classes.{seen}
 use Rattle.c_phrases.specs.Units.{AUnit}
 use Rattle.c_phrases.specs.Fits.{IsUnit}
-use Rattle.c_goals.specs.Refusals.{NotHereAt, TooDeepAt}
+use Rattle.c_syntax_goals.specs.Refusals.{NotHereAt, TooDeepAt}
 use Rattle.c_types.specs.declared.fault.TypeKind.{TypeKind}
 use Rattle.c_types.specs.declared.fault.TypeKind.TheVariants as types
 use Rattle.c_types.specs.Answers.{bad}
 use Rattle.c_program.specs.Programs.{AProgram}
-use Rattle.c_typing.specs.Texts.{type_text}
+use Rattle.c_typed_definition.specs.Texts.{type_text}
 use Rattle.c_typed.specs.declared.source.SourceKind.{SourceKind}
 use Rattle.c_typed.specs.declared.source.SourceKind.TheVariants as kinds
 use Rattle.c_typed.specs.declared.source.SourceFault.{SourceFault}
 use Rattle.c_typed.specs.declared.source.SourceFault.TheVariants as faults
-use Rattle.c_check.specs.declared.program.Program.{Program}
-use Rattle.c_check.specs.Views.{typed}
+use Rattle.c_typed_check.specs.declared.program.Program.{Program}
+use Rattle.c_typed_check.specs.Views.{typed}
 
 -- the bytes are the tokens of this unit
 pub record Spells (bytes : List ℕ) (unit : AUnit) : Type 0 where

@@ -3,5 +3,5 @@
 
 pub mod source;
 
-pub use c_check::{Program, check};
+pub use c_typed_check::{Program, check};
 pub use source::{SourceFault, SourceKind, read_source};

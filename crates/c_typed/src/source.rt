@@ -3,13 +3,13 @@ ghost use Rattle.std.specs.Prelude.{◌≡◌, ◌≤◌, ◌⊎◌, length, Lis
 ghost use Rattle.c_tokens.specs.declared.token.Spanned.{Spanned as ASpanned};
 ghost use Rattle.c_tokens.specs.Grammar.{Tokens};
 ghost use Rattle.c_program.specs.Programs.{AProgram};
-ghost use Rattle.c_check.specs.Views.{typed};
+ghost use Rattle.c_typed_check.specs.Views.{typed};
 ghost use Rattle.c_typed.specs.Sources.{Reads, IsRefused, IsOnly, place_at, token_kind, type_kind, kind_name};
 
-use c_check::{Program, check};
-use c_goals::laws::tokens_are_ended;
 use c_syntax::{SyntaxFault, parse};
+use c_syntax_goals::laws::tokens_are_ended;
 use c_tokens::{TokenFault, TokenKind, place_of, tokens};
+use c_typed_check::{Program, check};
 use c_types::{TypeFault, TypeKind};
 use gg_base::Place;
 use std::alloc::Global;

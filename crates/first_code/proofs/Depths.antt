@@ -7,7 +7,7 @@ use Rattle.gg_base.specs.Arithmetic.{add32, sub32}
 use Rattle.vax_core.specs.declared.register.Reg.TheVariants.{Sp}
 use Rattle.vax_core.specs.declared.code.CodeItem.{CodeItem}
 use Rattle.vax_machine.specs.declared.turn.Stop.{Stop}
-use Rattle.vax_live.specs.declared.frame.Frame.{Frame}
+use Rattle.vax_machine_live.specs.declared.frame.Frame.{Frame}
 use Rattle.vax_machine.specs.declared.function.Conditions.{Conditions}
 use Rattle.vax_machine.specs.declared.memory.Region.{Region}
 use Rattle.vax_machine.specs.declared.memory.Region.TheVariants.{Stack}

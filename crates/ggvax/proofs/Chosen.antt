@@ -1,8 +1,8 @@
 -- What holds of the command that was chosen holds of the one that the words say.
 use Rattle.std.proofs.Common.{◌≡◌, ℕ, List, codes, Bor, sym, subst}
-use Rattle.gg_session.specs.declared.words.Command.{Command}
-use Rattle.gg_session.specs.declared.words.Command.TheVariants.{First, Run, Meaning}
-use Rattle.gg_session.specs.Words.{OnlyFirst, OnlyCounted, SaysOnly}
+use Rattle.cmd_session.specs.declared.words.Command.{Command}
+use Rattle.cmd_session.specs.declared.words.Command.TheVariants.{First, Run, Meaning}
+use Rattle.cmd_session.specs.Words.{OnlyFirst, OnlyCounted, SaysOnly}
 
 pub only_first : (words : List (List ℕ)) (command : Command) (source : Bor (List ℕ)) → SaysOnly words command → command ≡ First source → OnlyFirst words source.now
 only_first words command source only is = (subst (SaysOnly words) is only).0

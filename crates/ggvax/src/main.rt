@@ -5,9 +5,9 @@
 mod tests;
 pub mod top;
 
+use cmd_session::Status;
 use gg_base::NoMemory;
 use gg_outside::{StdFolder, StdSink, StdSource};
-use gg_session::Status;
 use std::env;
 use std::process::ExitCode;
 

@@ -1,9 +1,9 @@
 // The command over a folder and sinks in memory.
 
 use crate::top::ggvax;
+use cmd_session::Status;
 use gg_base::{Bytes, Name};
 use gg_outside::{MemFile, MemFolder, MemSink, MemSource};
-use gg_session::Status;
 use std::alloc::{AllocError, Global};
 use std::process::Abort;
 use std::test::Fail;

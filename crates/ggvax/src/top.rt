@@ -1,22 +1,22 @@
 // The top call: the words choose the command.
 ghost use Rattle.std.specs.Prelude.{◌≡◌, ◌+◌, ℕ, List};
 ghost use Rattle.gg_outside.specs.Outside.{OnlyName};
-ghost use Rattle.gg_session.specs.Reading.{intake, TakesAtMost};
-ghost use Rattle.gg_session.specs.Writing.{change, IsUntouched};
-ghost use Rattle.gg_session.specs.Words.{spelled, SaysFirst, SaysRun, SaysMeaning, SaysNone};
-ghost use Rattle.gg_session.specs.Lines.{usage_line};
-ghost use Rattle.gg_session.specs.Telling.{IsRefused};
-ghost use Rattle.gg_first.specs.Outcome.{Leaves as FirstLeaves, IsExact as FirstIsExact, call_of as first_call};
-ghost use Rattle.gg_run.specs.Outcome.{Leaves as RunLeaves, call_of as run_call, input_limit};
-ghost use Rattle.gg_run.specs.Exact.{IsExact as RunIsExact};
-ghost use Rattle.gg_meaning.specs.Outcome.{Leaves as MeaningLeaves, call_of as meaning_call};
-ghost use Rattle.gg_meaning.specs.Exact.{IsExact as MeaningIsExact};
+ghost use Rattle.cmd_session.specs.Reading.{intake, TakesAtMost};
+ghost use Rattle.cmd_session.specs.Writing.{change, IsUntouched};
+ghost use Rattle.cmd_session.specs.Words.{spelled, SaysFirst, SaysRun, SaysMeaning, SaysNone};
+ghost use Rattle.cmd_session.specs.Lines.{usage_line};
+ghost use Rattle.cmd_session.specs.Telling.{IsRefused};
+ghost use Rattle.cmd_first.specs.Outcome.{Leaves as FirstLeaves, IsExact as FirstIsExact, call_of as first_call};
+ghost use Rattle.cmd_run.specs.Outcome.{Leaves as RunLeaves, call_of as run_call, input_limit};
+ghost use Rattle.cmd_run.specs.Exact.{IsExact as RunIsExact};
+ghost use Rattle.cmd_meaning.specs.Outcome.{Leaves as MeaningLeaves, call_of as meaning_call};
+ghost use Rattle.cmd_meaning.specs.Exact.{IsExact as MeaningIsExact};
 
-use gg_first::first_source;
-use gg_meaning::run_source;
+use cmd_first::first_source;
+use cmd_meaning::run_source;
+use cmd_run::run_text;
+use cmd_session::{Command, Status, command_of, refuse};
 use gg_outside::{Folder, Sink, Source};
-use gg_run::run_text;
-use gg_session::{Command, Status, command_of, refuse};
 use std::alloc::Global;
 
 /// The whole program: the command that the words say, or the line of the usage. Its commands are `first S`, `run A N`

@@ -1,6 +1,6 @@
 -- The class of statements.
 use Rattle.std.specs.Prelude.{ℕ, ◌+◌, List, [], ◌∷◌, codes, if◌then◌else◌}
-use Rattle.md_text.specs.Words.{same}
+use Rattle.md_reader_text.specs.Words.{same}
 use Rattle.md_reader.specs.declared.types.Class.{Class}
 
 -- the number of the class `stmt`, counted on from a number

@@ -7,7 +7,7 @@ use crate::numbering::BuildFault;
 use crate::rows::all_rows;
 use crate::tables::Tables;
 use md_reader::{Class, Description};
-use md_text::is_word;
+use md_reader_text::is_word;
 use std::alloc::Global;
 
 // The number of the class of statements.

@@ -7,9 +7,9 @@ use Rattle.std.specs.Option.{option_map}
 use Rattle.std.proofs.lemmas.Option.{none-some, slice_get_within}
 use Rattle.std.proofs.lemmas.Bool.{ne_eqb, le-leb, lt-leb, leb-true, and_parts}
 use Rattle.std.proofs.lemmas.List.{append-nil, length-map}
-use Rattle.md_text.specs.Lines.{lines}
-use Rattle.md_text.specs.Words.{same, words}
-use Rattle.md_pieces.specs.declared.piece.Line.{Line}
+use Rattle.md_reader_text.specs.Lines.{lines}
+use Rattle.md_reader_text.specs.Words.{same, words}
+use Rattle.md_reader_pieces.specs.declared.piece.Line.{Line}
 use Rattle.gg_base.specs.declared.size.Size.{Size}
 use Rattle.gg_base.specs.declared.size.Size.TheVariants as size
 use Rattle.tree_core.specs.declared.token.Tok.{Tok}

@@ -2,8 +2,8 @@
 use Rattle.std.proofs.Common.{◌≡◌, ◌⊎◌, inl, inr, ℕ, ◌+◌, Bool, true, false, cond, List, [], ◌∷◌, ◌++◌, length, nat_le, Result, Ok, Err, refl, sym, ap, ◌∙◌, arith}
 use Rattle.std.specs.Result.{IfErr}
 use Rattle.std.proofs.lemmas.List.{append-nil}
-use Rattle.md_text.specs.Lines.{lines}
-use Rattle.md_text.specs.Words.{words}
+use Rattle.md_reader_text.specs.Lines.{lines}
+use Rattle.md_reader_text.specs.Words.{words}
 use Rattle.md_reader.specs.declared.faults.DescKind.{DescKind}
 use Rattle.md_reader.specs.declared.faults.DescKind.TheVariants as kind
 use Rattle.md_reader.specs.declared.faults.DescFault.{DescFault}

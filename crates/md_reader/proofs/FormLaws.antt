@@ -7,8 +7,8 @@ use Rattle.std.proofs.lemmas.Bool.{and_parts, leb-true}
 use Rattle.std.proofs.lemmas.Nat.{or_lt, le_or_r}
 use Rattle.std.proofs.Math.Pow.{pow-lt}
 use Rattle.std.proofs.Math.Nat.{one-le-pow}
-use Rattle.md_text.specs.Words.{same}
-use Rattle.md_text.specs.Numbers.{number}
+use Rattle.md_reader_text.specs.Words.{same}
+use Rattle.md_reader_text.specs.Numbers.{number}
 use Rattle.gg_base.specs.declared.size.Size.{Size}
 use Rattle.gg_base.specs.declared.size.Size.TheVariants as size
 use Rattle.md_reader.specs.declared.types.Kind.{Kind}

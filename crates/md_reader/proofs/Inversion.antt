@@ -3,7 +3,7 @@ use Rattle.std.proofs.Common.{◌≡◌, ℕ, Bool, true, false, cond, List, [],
 use Rattle.std.specs.List.{AllByRecursion}
 use Rattle.std.proofs.lemmas.Option.{none-some}
 use Rattle.std.proofs.lemmas.Slice.Eq.{bytes_eq-Decides}
-use Rattle.md_text.specs.Words.{same}
+use Rattle.md_reader_text.specs.Words.{same}
 use Rattle.md_reader.specs.declared.faults.DescKind.{DescKind}
 
 pub when : {A : Type 0} (b : Bool) (k : DescKind) (r : Result A DescKind) (t : A) → cond b (Err k) r ≡ Ok t → (b ≡ false) × (r ≡ Ok t)

@@ -7,11 +7,11 @@ use Rattle.std.specs.Option.{option_map}
 use Rattle.std.proofs.lemmas.Option.{none-some, same_Some, option_and_then_some}
 use Rattle.std.proofs.lemmas.Bool.{eqb-true, leb-true}
 use Rattle.std.proofs.lemmas.List.{append-nil}
-use Rattle.md_text.specs.Lines.{lines}
-use Rattle.md_text.specs.Words.{same, words}
-use Rattle.md_pieces.specs.declared.piece.Piece.{Piece}
-use Rattle.md_pieces.specs.declared.piece.Line.{Line}
-use Rattle.md_pieces.specs.Pieces.{text_of, pieces}
+use Rattle.md_reader_text.specs.Lines.{lines}
+use Rattle.md_reader_text.specs.Words.{same, words}
+use Rattle.md_reader_pieces.specs.declared.piece.Piece.{Piece}
+use Rattle.md_reader_pieces.specs.declared.piece.Line.{Line}
+use Rattle.md_reader_pieces.specs.Pieces.{text_of, pieces}
 use Rattle.tree_core.specs.declared.token.Tok.{Tok}
 use Rattle.tree_core.specs.declared.token.Sort.{Sort}
 use Rattle.tree_core.specs.Names.{name_of}

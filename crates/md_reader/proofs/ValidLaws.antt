@@ -5,10 +5,10 @@ use Rattle.std.specs.Result.{OnOk}
 use Rattle.std.specs.Option.{option_map}
 use Rattle.std.proofs.lemmas.Option.{none-some, same_Some, option_and_then_some}
 use Rattle.std.proofs.lemmas.Bool.{eqb-true, eqb-false, leb-true, leb-false}
-use Rattle.md_text.specs.Words.{same, words}
-use Rattle.md_pieces.specs.declared.piece.Piece.{Piece}
-use Rattle.md_pieces.specs.declared.piece.Line.{Line}
-use Rattle.md_pieces.specs.Pieces.{text_of, pieces}
+use Rattle.md_reader_text.specs.Words.{same, words}
+use Rattle.md_reader_pieces.specs.declared.piece.Piece.{Piece}
+use Rattle.md_reader_pieces.specs.declared.piece.Line.{Line}
+use Rattle.md_reader_pieces.specs.Pieces.{text_of, pieces}
 use Rattle.tree_core.specs.declared.token.Sort.{Sort}
 use Rattle.md_reader.specs.declared.types.Kind.{Kind}
 use Rattle.md_reader.specs.declared.types.Class.{Class}

@@ -1,10 +1,10 @@
 -- Which bytes are a description, and what it says.
 use Rattle.std.specs.Prelude.{◌≡◌, ℕ, zero, suc, ◌+◌, List, [], ◌∷◌, ◌++◌, codes, map, Some, None, if◌then◌else◌}
 use Rattle.std.specs.List.{flat_map}
-use Rattle.md_text.specs.Lines.{lines}
-use Rattle.md_text.specs.Words.{words}
-use Rattle.md_pieces.specs.declared.piece.Line.{Line}
-use Rattle.md_pieces.specs.Pieces.{text_of, pieces}
+use Rattle.md_reader_text.specs.Lines.{lines}
+use Rattle.md_reader_text.specs.Words.{words}
+use Rattle.md_reader_pieces.specs.declared.piece.Line.{Line}
+use Rattle.md_reader_pieces.specs.Pieces.{text_of, pieces}
 use Rattle.gg_base.specs.declared.size.Size.{Size}
 use Rattle.gg_base.specs.declared.size.Size.TheVariants as size
 use Rattle.tree_core.specs.Names.{name_of}

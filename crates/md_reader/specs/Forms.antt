@@ -2,8 +2,8 @@
 use Rattle.std.specs.Prelude.{ℕ, ◌+◌, ◌^◌, Bool, true, false, ◌==◌, ◌||◌, ◌&&◌, nat_le, bit_and, bit_or, List, [], ◌∷◌, length, Option, Some, None, codes, ℤ, if◌then◌else◌}
 use Rattle.std.specs.Option.{option_map, option_and_then}
 use Rattle.std.specs.List.{list_all}
-use Rattle.md_text.specs.Words.{words, same}
-use Rattle.md_text.specs.Numbers.{is_digit, number, integer}
+use Rattle.md_reader_text.specs.Words.{words, same}
+use Rattle.md_reader_text.specs.Numbers.{is_digit, number, integer}
 use Rattle.gg_base.specs.declared.size.Size.{Size}
 use Rattle.gg_base.specs.declared.size.Size.TheVariants as size
 use Rattle.md_reader.specs.declared.types.Kind.{Kind}

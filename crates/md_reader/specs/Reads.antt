@@ -1,7 +1,7 @@
 -- Reading all lines: the description, or the first wrong line and what is wrong there.
 use Rattle.std.specs.Prelude.{◌≡◌, ℕ, ◌+◌, nat_le, false, List, [], ◌∷◌, length, Result, Ok, Err, if◌then◌else◌}
-use Rattle.md_text.specs.Lines.{lines}
-use Rattle.md_text.specs.Words.{words}
+use Rattle.md_reader_text.specs.Lines.{lines}
+use Rattle.md_reader_text.specs.Words.{words}
 use Rattle.md_reader.specs.declared.faults.DescKind.{DescKind}
 use Rattle.md_reader.specs.declared.faults.DescKind.TheVariants as fault
 use Rattle.md_reader.specs.declared.faults.DescFault.{DescFault}

@@ -1,9 +1,9 @@
 -- What may stand in a rule: restrictions, holes, and what is given.
 use Rattle.std.specs.Prelude.{ℕ, ◌-◌, Bool, true, false, ◌==◌, ◌||◌, ◌&&◌, not, List, [], ◌∷◌, Option, Some, None, codes, slice_get, if◌then◌else◌}
 use Rattle.std.specs.List.{list_any}
-use Rattle.md_text.specs.Words.{same}
-use Rattle.md_pieces.specs.declared.piece.Piece.{Piece}
-use Rattle.md_pieces.specs.declared.piece.Piece.TheVariants as piece
+use Rattle.md_reader_text.specs.Words.{same}
+use Rattle.md_reader_pieces.specs.declared.piece.Piece.{Piece}
+use Rattle.md_reader_pieces.specs.declared.piece.Piece.TheVariants as piece
 use Rattle.gg_base.specs.declared.size.Size.{Size}
 use Rattle.gg_base.specs.declared.size.Size.TheVariants as size
 use Rattle.tree_core.specs.declared.token.Tok.TheVariants as tok

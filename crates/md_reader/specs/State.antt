@@ -1,6 +1,6 @@
 -- What was read so far, and what a description says.
 use Rattle.std.specs.Prelude.{ℕ, Bool, List}
-use Rattle.md_pieces.specs.declared.piece.Line.{Line}
+use Rattle.md_reader_pieces.specs.declared.piece.Line.{Line}
 use Rattle.md_reader.specs.declared.types.Class.{Class}
 use Rattle.md_reader.specs.declared.types.Sym.{Sym}
 use Rattle.md_reader.specs.declared.types.Restriction.{Restriction}

@@ -1,10 +1,10 @@
 -- What each line does to what was read so far, or what is wrong with it: the reader, step by step.
 use Rattle.std.specs.Prelude.{ℕ, Bool, true, false, ◌==◌, ◌&&◌, nat_le, List, [], ◌∷◌, ◌++◌, length, Option, Some, None, Result, Ok, Err, codes, if◌then◌else◌}
 use Rattle.std.specs.List.{list_any}
-use Rattle.md_text.specs.Words.{same}
-use Rattle.md_pieces.specs.declared.piece.Piece.{Piece}
-use Rattle.md_pieces.specs.declared.piece.Line.{Line}
-use Rattle.md_pieces.specs.Pieces.{text_of, pieces}
+use Rattle.md_reader_text.specs.Words.{same}
+use Rattle.md_reader_pieces.specs.declared.piece.Piece.{Piece}
+use Rattle.md_reader_pieces.specs.declared.piece.Line.{Line}
+use Rattle.md_reader_pieces.specs.Pieces.{text_of, pieces}
 use Rattle.tree_core.specs.declared.token.Sort.{Sort}
 use Rattle.md_reader.specs.declared.types.Kind.{Kind}
 use Rattle.md_reader.specs.declared.types.Class.{Class}

@@ -1,7 +1,7 @@
 -- What the words of a rule's head name.
 use Rattle.std.specs.Prelude.{ℕ, ◌+◌, List, [], ◌∷◌, Option, Some, None, if◌then◌else◌}
 use Rattle.std.specs.Option.{option_map, option_and_then}
-use Rattle.md_text.specs.Words.{same}
+use Rattle.md_reader_text.specs.Words.{same}
 use Rattle.tree_core.specs.declared.token.Tok.{Tok}
 use Rattle.tree_core.specs.Names.{name_of}
 use Rattle.md_reader.specs.declared.types.Class.{Class}

@@ -1,7 +1,7 @@
 -- Which contents are valid: they break no row of the format's table of faults.
 use Rattle.std.specs.Prelude.{◌≡◌, ℕ, ◌≤◌, Bool, true, false, List, [], ◌∷◌, length, Some}
 use Rattle.std.specs.List.{AllByRecursion}
-use Rattle.md_pieces.specs.declared.piece.Line.{Line}
+use Rattle.md_reader_pieces.specs.declared.piece.Line.{Line}
 use Rattle.tree_core.specs.declared.token.Sort.{Sort}
 use Rattle.md_reader.specs.declared.types.Class.{Class}
 use Rattle.md_reader.specs.declared.types.Sym.{Sym}

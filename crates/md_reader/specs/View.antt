@@ -1,8 +1,8 @@
 -- What was read, as the definitions see it.
 use Rattle.std.specs.Prelude.{◌≡◌, List, Option, Some, None, Result, Ok, Err}
 use Rattle.std.specs.Global.{Vec}
-use Rattle.md_pieces.specs.declared.piece.PieceFault.{PieceFault}
-use Rattle.md_pieces.specs.declared.piece.PieceFault.TheVariants as holes
+use Rattle.md_reader_pieces.specs.declared.piece.PieceFault.{PieceFault}
+use Rattle.md_reader_pieces.specs.declared.piece.PieceFault.TheVariants as holes
 use Rattle.md_reader.specs.declared.types.Sym.{Sym}
 use Rattle.md_reader.specs.declared.reading.Reading.{Reading}
 use Rattle.md_reader.specs.declared.faults.DescKind.{DescKind}

@@ -2,7 +2,7 @@
 ghost use Rattle.std.specs.Prelude.{◌≡◌};
 
 use crate::types::{Class, Rule};
-use md_pieces::Line;
+use md_reader_pieces::Line;
 use std::marker::Model;
 
 /// What a description says. It is valid: no row of the format's table of faults is broken.

@@ -1,6 +1,6 @@
 // What is wrong with a description.
 use gg_base::NoMemory;
-use md_pieces::PieceFault;
+use md_reader_pieces::PieceFault;
 use std::alloc::{AllocError, AllocFailed};
 
 /// What is wrong with a line, in the order in which a line is looked at; and what is missing at the

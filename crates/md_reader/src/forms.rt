@@ -1,13 +1,13 @@
 // The forms of lines, whatever the lines before say.
 ghost use Rattle.std.specs.Prelude.{◌≡◌, ◌≤◌, ◌^◌, IfSome};
 ghost use Rattle.std.specs.Option.{option_map};
-ghost use Rattle.md_text.specs.Lines.{lines};
-ghost use Rattle.md_text.specs.Words.{words};
+ghost use Rattle.md_reader_text.specs.Lines.{lines};
+ghost use Rattle.md_reader_text.specs.Words.{words};
 ghost use Rattle.md_reader.specs.Forms.{is_skipped, are_both, register_of, with_register, pool_from, pool_form, is_lower, in_name, is_name, size_of, plain_kind, sized_kind, kind_form, class_form, sized_form, spill_words, spill_form, size_number, saved_number, rule_form, symbol_number, same_form, range_form, restriction_form, if_form, do_form, give_form, plain_give, has_register, gives_register, is_passed, register_behind};
 
 use crate::types::{Give, Kind, Restriction};
 use gg_base::Size;
-use md_text::{integer, is_word, next_line, next_word, number};
+use md_reader_text::{integer, is_word, next_line, next_word, number};
 
 /// What a spill line saves; or the reload line.
 #[derive(Clone, Copy, Debug, PartialEq, Eq)]
@@ -291,7 +291,7 @@ fn same_form(first: &[u8], second: &[u8]) -> Option<Restriction>
     Some(Restriction::Same(first, second))
 }
 
-ghost use Rattle.md_text.specs.Numbers.{integer};
+ghost use Rattle.md_reader_text.specs.Numbers.{integer};
 
 fn range_form(symbol: &[u8], low: &[u8], high: &[u8]) -> Option<Restriction>
     ensures { result ≡ range_form (symbol_number symbol.now) (integer low.now) (integer high.now) }

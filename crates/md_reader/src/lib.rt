@@ -19,6 +19,6 @@ mod types;
 pub use description::Description;
 pub use faults::{DescFault, DescKind};
 pub use lists::{Lines, Restrictions, Symbols};
-pub use md_pieces::{Line, Piece, Pieces};
+pub use md_reader_pieces::{Line, Piece, Pieces};
 pub use reader::read_description;
 pub use types::{Class, Give, Kind, Restriction, Rule, Sym};

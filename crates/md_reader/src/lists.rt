@@ -2,7 +2,7 @@
 ghost use Rattle.std.specs.Prelude.{◌≡◌};
 
 use crate::types::{Restriction, Sym};
-use md_pieces::Line;
+use md_reader_pieces::Line;
 use std::marker::Model;
 
 /// The symbols of a right side, in order.
@@ -89,7 +89,7 @@ pub struct Lines {
 
 impl Model for Lines {
     ghost use Rattle.std.specs.Prelude.{List};
-    ghost use Rattle.md_pieces.specs.declared.piece.Line.{Line};
+    ghost use Rattle.md_reader_pieces.specs.declared.piece.Line.{Line};
 
     ghost Value = { List Line };
 

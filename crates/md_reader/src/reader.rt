@@ -3,7 +3,7 @@ ghost use Rattle.std.specs.Prelude.{◌≡◌, ◌≤◌, length, IfOk, IfErr};
 ghost use Rattle.md_reader.specs.State.{Content};
 ghost use Rattle.md_reader.specs.Desc.{Desc, Refused};
 ghost use Rattle.md_reader.specs.First.{IsFirst};
-ghost use Rattle.md_text.specs.Lines.{lines};
+ghost use Rattle.md_reader_text.specs.Lines.{lines};
 ghost use Rattle.md_reader.specs.Fine.{IsFine};
 ghost use Rattle.md_reader.specs.View.{state};
 ghost use Rattle.md_reader.specs.Reads.{ended, read, Answers};
@@ -11,7 +11,7 @@ ghost use Rattle.md_reader.specs.Reads.{ended, read, Answers};
 use crate::description::Description;
 use crate::faults::{DescFault, DescKind, LineFault};
 use crate::reading::{Reading, Stage, has_stmt};
-use md_text::next_line;
+use md_reader_text::next_line;
 use std::alloc::Global;
 
 fn missing(line: u32, kind: DescKind) -> Result<Description, DescFault>

@@ -1,9 +1,9 @@
 // Taking one line after the other.
 ghost use Rattle.std.specs.Prelude.{◌≡◌, ◌≤◌, length, OnOk, IfOk, Some, None};
 ghost use Rattle.std.specs.Option.{option_map};
-ghost use Rattle.md_text.specs.Lines.{lines};
-ghost use Rattle.md_text.specs.Words.{words};
-ghost use Rattle.md_pieces.specs.Pieces.{text_of, pieces};
+ghost use Rattle.md_reader_text.specs.Lines.{lines};
+ghost use Rattle.md_reader_text.specs.Words.{words};
+ghost use Rattle.md_reader_pieces.specs.Pieces.{text_of, pieces};
 ghost use Rattle.md_reader.specs.Forms.{if_form, do_form, spill_form, register_behind};
 ghost use Rattle.md_reader.specs.Steps.{is_stmt, has_stmt, class_step, stage_behind, spill_pieces, spill_text, rule_step, if_step, do_pieces, do_text, shape_step, give_step, give_line, do_line, if_line, spill_line, class_line, step, line_step};
 ghost use Rattle.md_reader.specs.View.{state, Stepped};
@@ -19,8 +19,8 @@ use crate::rows::{is_bare, line_fits, pieces_fit, plain_fits, restriction_fits, 
 use crate::symbols::{class_of, is_short, symbols_of};
 use crate::types::{Class, Give, Kind, Restriction, Rule, Sym};
 use gg_base::{Name, NoMemory};
-use md_pieces::{Line, Piece, Pieces, line_text, pieces};
-use md_text::is_word;
+use md_reader_pieces::{Line, Piece, Pieces, line_text, pieces};
+use md_reader_text::is_word;
 use std::alloc::Global;
 
 /// What may come next.

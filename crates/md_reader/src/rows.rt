@@ -6,8 +6,8 @@ ghost use Rattle.md_reader.specs.Rows.{symbol_at, kind_of_symbol, size_of_kind, 
 use crate::patterns::kind_at;
 use crate::types::{Class, Give, Kind, Restriction, Sym};
 use gg_base::Size;
-use md_pieces::Piece;
-use md_text::is_word;
+use md_reader_pieces::Piece;
+use md_reader_text::is_word;
 use tree_core::{AttKind, Tok};
 
 fn symbol_at(right: &[Sym], number: u8) -> Option<Sym>

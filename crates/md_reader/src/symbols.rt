@@ -1,12 +1,12 @@
 // What the words of a rule's head name.
 ghost use Rattle.std.specs.Prelude.{◌≡◌, ◌≤◌, length, nat_le, IfOk};
-ghost use Rattle.md_text.specs.Words.{words};
+ghost use Rattle.md_reader_text.specs.Words.{words};
 ghost use Rattle.md_reader.specs.Symbols.{token_of, class_of, token_or_class, symbol_of, symbols_of};
 ghost use Rattle.md_reader.specs.View.{AreSymbols};
 
 use crate::faults::{DescKind, LineFault};
 use crate::types::{Class, Sym};
-use md_text::{is_word, next_word};
+use md_reader_text::{is_word, next_word};
 use std::alloc::Global;
 use tree_core::Tok;
 
@@ -78,7 +78,7 @@ fn is_named(class: &Class, word: &[u8]) -> bool
     class.name.as_slice() == word
 }
 
-ghost use Rattle.md_text.specs.Words.{same};
+ghost use Rattle.md_reader_text.specs.Words.{same};
 
 /// The number of the class with this name.
 pub fn class_of(classes: &[Class], word: &[u8]) -> Option<u16>

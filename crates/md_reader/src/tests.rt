@@ -2,7 +2,7 @@
 use crate::cases::{BEFORE_RULES, HEAD, RULES};
 use crate::{DescFault, Give, Piece, Restriction, Sym, read_description};
 use gg_texts::{M_GG, VAX_GG};
-use md_text::next_line;
+use md_reader_text::next_line;
 use std::alloc::Global;
 use std::process::Abort;
 use std::test::Fail;

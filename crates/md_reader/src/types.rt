@@ -1,7 +1,7 @@
 // What a description says.
 use crate::lists::{Lines, Restrictions, Symbols};
 use gg_base::{Name, Size};
-use md_pieces::Line;
+use md_reader_pieces::Line;
 use tree_core::Tok;
 
 /// What a class stands for: a register, a value or a place of a size, a constant, an address, or a

@@ -5,9 +5,9 @@ use Rattle.std.proofs.lemmas.Bool.{ltb-true, ltb-false, and_parts, leb-true}
 use Rattle.gg_base.specs.declared.size.Size.TheVariants.{Long}
 use Rattle.gg_base.specs.Arithmetic.{sub32}
 use Rattle.vax_core.specs.declared.register.Reg.TheVariants.{Sp}
-use Rattle.vax_live.specs.declared.frame.Frame.{Frame}
-use Rattle.vax_live.specs.Control.{overlaps, in_control}
-use Rattle.vax_live.specs.Owners.{HasRoom}
+use Rattle.vax_machine_live.specs.declared.frame.Frame.{Frame}
+use Rattle.vax_machine_live.specs.Control.{overlaps, in_control}
+use Rattle.vax_machine_live.specs.Owners.{HasRoom}
 use Rattle.vax_machine.specs.declared.turn.Stop.{Stop}
 use Rattle.vax_machine.specs.declared.memory.Region.{Region}
 use Rattle.vax_machine.specs.declared.memory.Region.TheVariants as regions

@@ -6,7 +6,7 @@ use Rattle.vax_core.specs.declared.code.AreaItem.{AreaItem}
 use Rattle.vax_core.specs.declared.code.CodeItem.{CodeItem}
 use Rattle.vax_core.specs.declared.code.Code.{Code}
 use Rattle.vax_machine.specs.declared.turn.Stop.{Stop}
-use Rattle.vax_live.specs.declared.frame.Frame.{Frame}
+use Rattle.vax_machine_live.specs.declared.frame.Frame.{Frame}
 use Rattle.vax_machine.specs.declared.area.Layout.{Layout}
 use Rattle.vax_machine.specs.declared.loading.LoadFault.TheVariants as faults
 use Rattle.vax_machine.specs.State.{State}

@@ -9,7 +9,7 @@ use Rattle.vax_core.specs.declared.code.CodeItem.{CodeItem}
 use Rattle.vax_core.specs.declared.code.CodeItem.TheVariants as items
 use Rattle.vax_machine.specs.declared.turn.Stop.{Stop}
 use Rattle.vax_machine.specs.declared.turn.Stop.TheVariants.{Ended}
-use Rattle.vax_live.specs.declared.frame.Frame.{Frame}
+use Rattle.vax_machine_live.specs.declared.frame.Frame.{Frame}
 use Rattle.vax_machine.specs.declared.memory.Region.{Region}
 use Rattle.vax_machine.specs.State.{State, reg, with_reg, cleared, with_conditions, frame, bad_code, stack_full, ◌>>=◌}
 use Rattle.vax_machine.specs.Memory.{touched, read, written, register_set}

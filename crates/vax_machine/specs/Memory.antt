@@ -6,7 +6,7 @@ use Rattle.gg_base.specs.declared.size.Size.TheVariants.{Byte, Word, Long}
 use Rattle.gg_base.specs.Sizes.{bytes_of}
 use Rattle.vax_core.specs.declared.register.Reg.{Reg}
 use Rattle.vax_core.specs.Registers.{reg_number}
-use Rattle.vax_live.specs.Control.{in_control}
+use Rattle.vax_machine_live.specs.Control.{in_control}
 use Rattle.vax_machine.specs.declared.turn.Stop.{Stop}
 use Rattle.vax_machine.specs.declared.memory.Region.{Region}
 use Rattle.vax_machine.specs.declared.memory.Region.TheVariants as regions

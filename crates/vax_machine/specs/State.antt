@@ -7,7 +7,7 @@ use Rattle.vax_core.specs.declared.code.CodeItem.{CodeItem}
 use Rattle.gg_base.specs.declared.run.Break.TheVariants as breaks
 use Rattle.vax_machine.specs.declared.turn.Stop.{Stop}
 use Rattle.vax_machine.specs.declared.turn.Stop.TheVariants.{Broken}
-use Rattle.vax_live.specs.declared.frame.Frame.{Frame}
+use Rattle.vax_machine_live.specs.declared.frame.Frame.{Frame}
 use Rattle.vax_machine.specs.declared.function.Conditions.{Conditions}
 
 -- the text's data items and its code, the item to be done next, registers and condition codes, memory, the live frames with the innermost last, and the input that is left; `over` is there once the run is over

@@ -8,7 +8,7 @@ use crate::turn::{self, BAD_CODE, STACK_FULL, Stop};
 use gg_base::limits::FRAME_LIMIT;
 use gg_base::{Name, Size, w32};
 use vax_core::{CodeItem, Reg};
-use vax_live::Frame;
+use vax_machine_live::Frame;
 
 // The entry mask at a place, where one stands there.
 fn entry_mask(items: &[CodeItem], place: usize) -> Option<u16>
@@ -26,7 +26,7 @@ fn entry_mask(items: &[CodeItem], place: usize) -> Option<u16>
 
 impl<'a> Machine<'a> {
     ghost use Rattle.vax_core.specs.declared.register.Reg.TheVariants.{Sp};
-    ghost use Rattle.vax_live.specs.Owners.{HasRoom};
+    ghost use Rattle.vax_machine_live.specs.Owners.{HasRoom};
     ghost use Rattle.vax_machine.specs.State.{Does, Leaves, reg};
     ghost use Rattle.vax_machine.specs.Calls.{pushed, reserved, all_reserved, entered, framed, called, returned, putchar, getchar, called_by_name, restored, left, back_to};
     ghost use Rattle.vax_machine.specs.View.{state};

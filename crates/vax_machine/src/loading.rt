@@ -9,7 +9,7 @@ use gg_base::Name;
 use gg_base::limits::{STACK_SIZE, STACK_TOP};
 use std::alloc::{AllocError, AllocFailed, Global};
 use vax_core::Code;
-use vax_live::Frames;
+use vax_machine_live::Frames;
 
 /// Why a code can't be run. Each name is the first such one in the text's order.
 #[derive(Drop)]

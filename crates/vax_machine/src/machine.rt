@@ -7,7 +7,7 @@ use crate::program::{Links, Program};
 use crate::turn::{BAD_CODE, Stop, Turn};
 use gg_base::{Name, Size};
 use vax_core::{CodeItem, Instr, Shape};
-use vax_live::Frames;
+use vax_machine_live::Frames;
 
 /// A machine that runs a code on an input.
 #[derive(Drop)]

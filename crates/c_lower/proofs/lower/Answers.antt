@@ -1,12 +1,12 @@
 use Rattle.std.proofs.Math.Logic.{∥∥₁_map}
 use Rattle.tree_core.specs.Valid.{IsValid}
 use Rattle.c_program.specs.Programs.{program}
-use Rattle.lower_follows.proofs.Whole.{lowering_follows}
-use Rattle.lower_valid.proofs.Whole.{lowered_is_valid}
-use Rattle.lower_bounds.proofs.Whole.{each_function_fits, functions_stay}
-use Rattle.lower_calm.specs.Claim.{TreesAreCalm}
-use Rattle.lower_calm.proofs.Whole.{each_tree_is_calm}
-use Rattle.lower_calm.proofs.Plain.{plain_is_one_tree}
+use Rattle.c_lower_follows.proofs.Whole.{lowering_follows}
+use Rattle.c_lower_valid.proofs.Whole.{lowered_is_valid}
+use Rattle.c_lower_bounds.proofs.Whole.{each_function_fits, functions_stay}
+use Rattle.c_lower_calm.specs.Claim.{TreesAreCalm}
+use Rattle.c_lower_calm.proofs.Whole.{each_tree_is_calm}
+use Rattle.c_lower_calm.proofs.Plain.{plain_is_one_tree}
 use Rattle.c_lower.specs.Claims.{FollowsAlways, HasParts}
 use Rattle.c_lower.proofs.Sound.{lowered_has}
 use Rattle.c_lower.proofs.lower.Goals as goal

@@ -1,4 +1,4 @@
-use Rattle.c_goals.specs.declared.fault.Fault.TheVariants.{NotHere, TooDeep}
+use Rattle.c_syntax_goals.specs.declared.fault.Fault.TheVariants.{NotHere, TooDeep}
 use Rattle.c_syntax.proofs.Parsing.{one_unit, no_fault, stops_here, stops_deep, refused_at, deep_at}
 use Rattle.c_syntax.proofs.units.parse.Goals as goal
 

@@ -1,10 +1,10 @@
-use Rattle.gg_session.specs.Reading.{intake}
-use Rattle.gg_session.specs.Writing.{change}
-use Rattle.gg_meaning.specs.Outcome.{Leaves as MeaningLeaves, call_of as meaning_call}
-use Rattle.gg_meaning.specs.Exact.{IsExact as MeaningIsExact}
-use Rattle.gg_run.specs.Outcome.{Leaves as RunLeaves, call_of as run_call}
-use Rattle.gg_run.specs.Exact.{IsExact as RunIsExact}
-use Rattle.gg_first.specs.Outcome.{Leaves as FirstLeaves, IsExact as FirstIsExact, call_of as first_call}
+use Rattle.cmd_session.specs.Reading.{intake}
+use Rattle.cmd_session.specs.Writing.{change}
+use Rattle.cmd_meaning.specs.Outcome.{Leaves as MeaningLeaves, call_of as meaning_call}
+use Rattle.cmd_meaning.specs.Exact.{IsExact as MeaningIsExact}
+use Rattle.cmd_run.specs.Outcome.{Leaves as RunLeaves, call_of as run_call}
+use Rattle.cmd_run.specs.Exact.{IsExact as RunIsExact}
+use Rattle.cmd_first.specs.Outcome.{Leaves as FirstLeaves, IsExact as FirstIsExact, call_of as first_call}
 use Rattle.ggvax.proofs.Chosen.{only_first, only_run, only_meaning, carried, named}
 use Rattle.ggvax.proofs.top.ggvax.Goals as goal
 

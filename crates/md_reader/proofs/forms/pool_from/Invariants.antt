@@ -1,5 +1,5 @@
 use Rattle.std.proofs.Common.{◌≡◌, length}
-use Rattle.md_text.specs.Words.{words}
+use Rattle.md_reader_text.specs.Words.{words}
 use Rattle.md_reader.specs.Forms.{pool_from}
 use Rattle.md_reader.proofs.forms.pool_from.Given as goal
 

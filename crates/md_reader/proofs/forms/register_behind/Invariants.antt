@@ -1,5 +1,5 @@
 use Rattle.std.proofs.Common.{◌≡◌, length}
-use Rattle.md_text.specs.Lines.{lines}
+use Rattle.md_reader_text.specs.Lines.{lines}
 use Rattle.md_reader.specs.Forms.{register_behind}
 use Rattle.md_reader.proofs.forms.register_behind.Given as goal
 

@@ -1,5 +1,5 @@
 use Rattle.std.proofs.Common.{◌≡◌, ◌≤◌, ◌+◌, length}
-use Rattle.md_text.specs.Lines.{lines}
+use Rattle.md_reader_text.specs.Lines.{lines}
 use Rattle.md_reader.specs.Fine.{IsFine}
 use Rattle.md_reader.specs.View.{state}
 use Rattle.md_reader.specs.Reads.{read_from, read}

@@ -1,5 +1,5 @@
 use Rattle.std.proofs.Common.{◌≡◌, ◌≤◌, ◌+◌, length}
-use Rattle.md_text.specs.Words.{words}
+use Rattle.md_reader_text.specs.Words.{words}
 use Rattle.md_reader.proofs.symbols.is_short.Given as goal
 
 abbrev pub invariant-loop-after : goal.invariant-loop-after

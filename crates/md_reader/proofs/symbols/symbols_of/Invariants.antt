@@ -1,6 +1,6 @@
 use Rattle.std.proofs.Common.{◌≡◌, ◌≤◌, ◌+◌, ◌++◌, List, length}
 use Rattle.std.specs.Option.{option_map}
-use Rattle.md_text.specs.Words.{words}
+use Rattle.md_reader_text.specs.Words.{words}
 use Rattle.md_reader.specs.declared.types.Sym.{Sym}
 use Rattle.md_reader.specs.Symbols.{symbols_of}
 use Rattle.md_reader.proofs.symbols.symbols_of.Given as goal

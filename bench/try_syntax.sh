@@ -1,0 +1,112 @@
+#!/bin/sh
+# Compares the program `try_syntax`, which reads the tokens and phrases of a C source, with a plain Rust reader: the answers on 1,000
+# generated sources, which must be equal, and the times on sources of 100 KiB and of 1 MiB of one mix.
+# Usage: bench/try_syntax.sh [SOURCES [SEED]]; SOURCES (default 1000) generated sources from the seed SEED (default 1) on.
+# C_REFERENCE names the folder of the plain reader, a Cargo project whose commands are `read S`, `gen S` and `genbad S`. Where it isn't
+# set or isn't there, only the two sizes are compared.
+set -eu
+here=$(CDPATH='' cd -- "$(dirname -- "$0")/.." && pwd)
+sources=${1:-1000}
+seed=${2:-1}
+reference=${C_REFERENCE:-}
+work=$(mktemp -d)
+trap 'rm -rf "$work"' EXIT
+
+plain=
+if [ -n "$reference" ] && [ -f "$reference/Cargo.toml" ]; then
+    cargo build --quiet --release --manifest-path "$reference/Cargo.toml" --target-dir "$work/target"
+    plain=$(find "$work/target/release" -maxdepth 1 -type f -perm -u+x | head -n 1)
+else
+    echo "C_REFERENCE names no folder of a plain reader: answers are not compared"
+fi
+# Proves and builds the program where it is stale.
+(cd "$here/crates/try_syntax" && rt run -- data/wrong.c >/dev/null)
+
+python3 - "$here/crates/try_syntax/out/try_syntax" "$plain" "$work" "$sources" "$seed" <<'PY'
+import subprocess
+import sys
+import time
+
+program, plain, work = sys.argv[1:4]
+sources, first_seed = int(sys.argv[4]), int(sys.argv[5])
+ROUNDS = 7
+KINDS = ("BadByte", "BadNumber", "LongName", "BadEscape", "BadChar", "Unclosed", "NotHere", "TooDeep")
+PARTS = (
+    "int f{n}(int a, char *b){{int i; for(i=0;i<a;i++){{b[i]=(char)(a*i+{n});if(b[i]>100)return b[i]-i;else a^=i<<2;}}return a;}}\n",
+    "static short t{n}[4]={{1,-2,{n},'x',}};\n",
+    "/* {n} */ void g{n}(void){{char *s=\"some text \\n {n}\"; while(*s) putchar(*s++);}}\n",
+    "int u{n}(int x){{return x?f{n}(x-1,(char*)0)%7:(x&0xff)|(x>>3)&~x;}}\n",
+)
+# The text ends in a block: each reader reads all of it and answers the place of the end.
+TAIL = "int main(){"
+
+
+def answer(runner, words):
+    done = subprocess.run([runner, *words], stdout=subprocess.PIPE, stderr=subprocess.PIPE, check=True)
+    return done.stdout.decode()
+
+
+def reading(line):
+    """The plain reader goes on to types: their faults are none of tokens and phrases."""
+    return line if line == "ok\n" or line.split()[-1] in KINDS else "ok\n"
+
+
+def compare_answers():
+    path = f"{work}/source.c"
+    wrong, kinds = 0, {}
+    for turn in range(sources):
+        kind = ("gen", "genbad", "genbad")[turn % 3]
+        made = subprocess.run([plain, kind, str(first_seed + turn)], stdout=subprocess.PIPE, check=True).stdout
+        with open(path, "wb") as file:
+            file.write(made)
+        ours, theirs = answer(program, [path]), reading(answer(plain, ["read", path]))
+        kinds[theirs.split()[-1]] = kinds.get(theirs.split()[-1], 0) + 1
+        if ours != theirs:
+            wrong += 1
+            print(f"{kind} {first_seed + turn}: {ours!r}, wanted {theirs!r}")
+    told = ", ".join(f"{n} of {k}" for k, n in sorted(kinds.items()))
+    print(f"{sources} sources ({told}): {wrong} differ")
+    return wrong
+
+
+def source(length):
+    made, size, turn = [], len(TAIL), 0
+    while True:
+        part = PARTS[turn % len(PARTS)].format(n=turn % 997)
+        if size + len(part) > length:
+            return "".join(made) + TAIL
+        made.append(part)
+        size += len(part)
+        turn += 1
+
+
+def least(runner, words):
+    best = None
+    for _ in range(ROUNDS):
+        begin = time.perf_counter()
+        line = answer(runner, words)
+        spent = time.perf_counter() - begin
+        assert line.endswith(": NotHere\n"), line
+        best = spent if best is None else min(best, spent)
+    return best
+
+
+def compare_times():
+    times, slow = {}, False
+    for name, length in (("100 KiB", 102_400), ("1 MiB", 1_048_576)):
+        path = f"{work}/{length}.c"
+        with open(path, "w") as file:
+            file.write(source(length))
+        times[name] = least(program, [path])
+        if plain:
+            theirs = least(plain, ["read", path])
+            print(f"{name}: {times[name]:.3f} s against {theirs:.3f} s, {times[name] / theirs:.2f} times (at most 3)")
+            slow = slow or (length > 1_000_000 and times[name] > 3 * theirs)
+    ratio = times["1 MiB"] / times["100 KiB"]
+    print(f"1 MiB against 100 KiB: {ratio:.1f} times (at most 12)")
+    return slow or ratio > 12
+
+
+wrong = compare_answers() if plain else 0
+sys.exit(1 if compare_times() or wrong else 0)
+PY

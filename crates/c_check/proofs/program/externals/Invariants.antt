@@ -1,8 +1,0 @@
-use Rattle.std.proofs.Common.{◌≡◌, drop}
-use Rattle.c_phrases.specs.UnitShapes.{externals_of}
-use Rattle.c_statements.specs.Views.{text}
-use Rattle.c_typing.specs.Texts.{type_externals}
-use Rattle.c_check.proofs.program.externals.Given as goal
-
-abbrev pub invariant-loop-e : goal.invariant-loop-e
-invariant-loop-e l = type_externals l.functions.names l.functions.signatures.items (externals_of (drop l.e-index l.es)) (text l.builder) ≡ type_externals l.functions.names l.functions.signatures.items (externals_of l.es) (text l.fn.builder)

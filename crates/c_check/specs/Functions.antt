@@ -1,6 +1,0 @@
--- The functions that the code knows, as plain data.
-use Rattle.c_expressions.specs.declared.phrase.Functions.{Functions}
-use Rattle.c_typing.specs.Texts.{Known}
-
-abbrev pub functions_of : Functions → Known
-functions_of f = record { names = f.names; signatures = f.signatures.items }

@@ -1,7 +1,0 @@
--- What the code holds while it reads a function, as plain data.
-use Rattle.c_scope.specs.Views.{scope, area}
-use Rattle.c_declarations.specs.declared.desk.Desk.{Desk}
-use Rattle.c_typing.specs.Declarations.{State}
-
-abbrev pub state : Desk → State
-state d = record { scope = scope d.blocks; locals = d.locals.items; area = area d.layout }

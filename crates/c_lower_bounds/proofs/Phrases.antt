@@ -1,0 +1,123 @@
+-- How many temporaries and forks each expression has, by its nodes.
+use Rattle.std.proofs.Common.{◌≡◌, ℕ, suc, ◌+◌, ◌≤◌, List, refl, arith}
+use Rattle.std.specs.Prelude.{Bool, true, false, not, ◌==◌, if◌then◌else◌}
+use Rattle.c_types.specs.declared.types.CType.{CType}
+use Rattle.c_types.specs.declared.typed.UnaryOperator.{UnaryOperator}
+use Rattle.c_types.specs.declared.typed.UnaryOperator.TheVariants as unaries
+use Rattle.c_types.specs.declared.typed.ArithmeticOperator.TheVariants as ariths
+use Rattle.c_types.specs.Constants.{scale}
+use Rattle.c_types.specs.Typed.{PlaceTerm, VariableAt, PointedBy, ElementBy, Term, Constant, LiteralAt, ArrayAt, ReadOf, SizeofTerm, SizeOf, AddressOf, CallOf, StepOf, UnaryOf, CastTo, ConvertTo, ArithmeticOf, CompareOf, BothOf, EitherOf, AdvanceOf, AdvanceByOf, RetreatOf, DistanceOf, ChoiceOf, AssignTo, ArithmeticAssignTo, AdvanceAssignTo, RetreatAssignTo, CommaOf, Terms, NoTerms, MoreTerms}
+use Rattle.c_program.specs.Need.{place_nodes, nodes, all_nodes}
+use Rattle.c_lower_scheme.specs.Trees.{Tree, Num, Gaddr, Neg, Com, Bin}
+use Rattle.c_lower_scheme.specs.Expressions.{Low, Way, Found, Passing, due, valued, is_nil, where_of, address_tree, scaled_by, shared_by, advance, advance_by, retreat, apart}
+use Rattle.c_lower_scheme.specs.Expressions.{over, fitted, callee_number, passed_as, others, must_hold, must_pass, assigned, updated, update_by, unary, seek, way, pass}
+use Rattle.c_lower_bounds.proofs.Trees.{tree_forks}
+use Rattle.c_lower_bounds.proofs.Values.{AddsTwo, Bounded, fitted_forks, due_within, valued_bounded, effective_bounded, mapped_bounded, binary_bounded, relation_bounded}
+use Rattle.c_lower_bounds.proofs.Conditions.{not_bounded, chain_bounded, choose_bounded, comma_bounded}
+use Rattle.c_lower_bounds.proofs.Places.{WithinFound, WithinReady, array_forks, found_within, pointed_within, read_within, address_within, ready_within, update_within, step_within, step_low_within, store_drop_ends, store_low_within}
+use Rattle.c_lower_bounds.proofs.Calls.{WithinPassing, none_within, pass_within, passed_within, called_low_within, called_drop_ends}
+
+-- scaling is one fork, or none
+scaled_forks : (s : ℕ) (w : Tree) → tree_forks (scaled_by s w) ≤ suc (tree_forks w)
+scaled_forks s w = by (s == 1)
+  where
+    by : (b : Bool) → tree_forks (if b then w else Bin ariths.Multiply (Num s) w) ≤ suc (tree_forks w)
+    by true = omega arith
+    by false = omega arith
+
+shared_forks : (s : ℕ) (w : Tree) → tree_forks (shared_by s w) ≤ suc (tree_forks w)
+shared_forks s w = by (s == 1)
+  where
+    by : (b : Bool) → tree_forks (if b then w else Bin ariths.Divide w (Num s)) ≤ suc (tree_forks w)
+    by true = omega arith
+    by false = omega arith
+
+advance_forks : (ty : CType) → AddsTwo (advance ty)
+advance_forks ty v w = let h = scaled_forks (scale ty) w in omega (arith, h)
+
+advance_by_forks : (ty : CType) → AddsTwo (advance_by ty)
+advance_by_forks ty v w = let h = scaled_forks (scale ty) v in omega (arith, h)
+
+retreat_forks : (ty : CType) → AddsTwo (retreat ty)
+retreat_forks ty v w = let h = scaled_forks (scale ty) w in omega (arith, h)
+
+apart_forks : (ty : CType) → AddsTwo (apart ty)
+apart_forks ty v w = let h = shared_forks (scale ty) (Bin ariths.Subtract v w) in omega (arith, h)
+
+module _ (size count : ℕ) where
+  assigned_within : (between : Bool) {t m n : ℕ} {p : Found} {e : Way} → WithinFound t m p → Bounded n e
+      → WithinReady t (1 + m + n) (assigned size count between p e.low)
+  assigned_within between {p = p} {e = e} h g =
+      let q : Low = e.low p.temps p.labels in
+      ready_within (must_hold size count between q.items q.tree p.place) h (g.low p.temps p.labels)
+
+  updated_within : (f : CType → Tree → Tree → Tree) → ((ty : CType) → AddsTwo (f ty)) → {t m n : ℕ} {p : Found} {e : Way}
+      → WithinFound t m p → Bounded n e → WithinReady t (1 + m + n) (updated size count f p e.low)
+  updated_within f two {p = p} {e = e} h g =
+      let q : Low = e.low p.temps p.labels in
+      update_within size count (not (is_nil q.items)) (f p.type) (two p.type) h (g.low p.temps p.labels)
+
+  update_bounded : (f : CType → Tree → Tree → Tree) → ((ty : CType) → AddsTwo (f ty)) → {m n : ℕ} {p : ℕ → ℕ → Found} {e : Way}
+      → ((t l : ℕ) → WithinFound t m (p t l)) → Bounded n e → Bounded (1 + m + n) (update_by size count f p e)
+  update_bounded f two h g = effective_bounded
+      (λ t l. store_low_within (updated_within f two (h t l) g))
+      (λ t l. store_drop_ends (updated_within f two (h t l) g))
+
+  unary_bounded : (op : UnaryOperator) {n : ℕ} {e : Way} → Bounded n e → Bounded (1 + n) (unary size count op e)
+  unary_bounded unaries.Plus {n = n} h = mapped_bounded (λ w. w) (λ w. refl) (1 + n) (omega arith) h
+  unary_bounded unaries.Minus {n = n} h = mapped_bounded Neg (λ w. refl) (1 + n) (omega arith) h
+  unary_bounded unaries.Complement {n = n} h = mapped_bounded Com (λ w. refl) (1 + n) (omega arith) h
+  unary_bounded unaries.Not h = not_bounded h
+
+  leaf_bounded : (w : Tree) → tree_forks w ≡ 0 → (n : ℕ) → 1 ≤ n → Bounded n (valued (due w))
+  leaf_bounded w h n le = valued_bounded (due_within w h n le)
+
+  mutual
+    pub place_within : (p : PlaceTerm) (t l : ℕ) → WithinFound t (place_nodes p) (seek size count p t l)
+    place_within (VariableAt ty v) t l = found_within ty v t l
+    place_within (PointedBy ty e) t l = pointed_within ty (1 + nodes e) (omega arith) ((way_bounded e).low t l)
+    place_within (ElementBy ty e) t l = pointed_within ty (nodes e) (omega arith) ((way_bounded e).low t l)
+
+    pub way_bounded : (e : Term) → Bounded (nodes e) (way size count e)
+    way_bounded (Constant n) = leaf_bounded (Num n) refl 1 (omega arith)
+    way_bounded (LiteralAt n bytes) = leaf_bounded (Gaddr n) refl 1 (omega arith)
+    way_bounded (ArrayAt ty v bytes) = leaf_bounded (address_tree (where_of v)) (array_forks v) 1 (omega arith)
+    way_bounded (ReadOf p) = valued_bounded (λ t l. read_within (place_within p t l))
+    way_bounded (SizeofTerm n e) = leaf_bounded (Num n) refl (1 + nodes e) (omega arith)
+    way_bounded (SizeOf n) = leaf_bounded (Num n) refl 1 (omega arith)
+    way_bounded (AddressOf ty p) = valued_bounded (λ t l. address_within (place_within p t l))
+    way_bounded (CallOf ty f to es) =
+        let number : ℕ = callee_number count f in
+        effective_bounded
+        (λ t l. called_low_within number (passing_within es to t l))
+        (λ t l. called_drop_ends number (passing_within es to t l))
+    way_bounded (StepOf m by p) = effective_bounded
+        (λ t l. step_low_within size count m by (place_within p t l))
+        (λ t l. store_drop_ends (step_within size count by (place_within p t l)))
+    way_bounded (UnaryOf op e) = unary_bounded op (way_bounded e)
+    way_bounded (CastTo ty e) = mapped_bounded (fitted ty) (fitted_forks ty) (1 + nodes e) (omega arith) (way_bounded e)
+    way_bounded (ConvertTo ty e) = mapped_bounded (fitted ty) (fitted_forks ty) (nodes e) (omega arith) (way_bounded e)
+    way_bounded (ArithmeticOf op a b) = binary_bounded size count (Bin op) (λ v w. omega arith) (way_bounded a) (way_bounded b)
+    way_bounded (CompareOf r a b) = relation_bounded size count r (way_bounded a) (way_bounded b)
+    way_bounded (BothOf a b) = chain_bounded false (way_bounded a) (way_bounded b)
+    way_bounded (EitherOf a b) = chain_bounded true (way_bounded a) (way_bounded b)
+    way_bounded (AdvanceOf ty a b) = binary_bounded size count (advance ty) (advance_forks ty) (way_bounded a) (way_bounded b)
+    way_bounded (AdvanceByOf ty a b) = binary_bounded size count (advance_by ty) (advance_by_forks ty) (way_bounded a) (way_bounded b)
+    way_bounded (RetreatOf ty a b) = binary_bounded size count (retreat ty) (retreat_forks ty) (way_bounded a) (way_bounded b)
+    way_bounded (DistanceOf ty a b) = binary_bounded size count (apart ty) (apart_forks ty) (way_bounded a) (way_bounded b)
+    way_bounded (ChoiceOf ty c a b) = choose_bounded (way_bounded c) (way_bounded a) (way_bounded b)
+    way_bounded (AssignTo p e) = effective_bounded
+        (λ t l. store_low_within (assigned_within true (place_within p t l) (way_bounded e)))
+        (λ t l. store_drop_ends (assigned_within false (place_within p t l) (way_bounded e)))
+    way_bounded (ArithmeticAssignTo op p e) = update_bounded (λ ty. Bin op) (λ ty v w. omega arith) (place_within p) (way_bounded e)
+    way_bounded (AdvanceAssignTo p e) = update_bounded advance advance_forks (place_within p) (way_bounded e)
+    way_bounded (RetreatAssignTo p e) = update_bounded retreat retreat_forks (place_within p) (way_bounded e)
+    way_bounded (CommaOf ty a b) = comma_bounded (way_bounded a) (way_bounded b)
+
+    pub passing_within : (es : Terms) (to : List CType) (t l : ℕ) → WithinPassing t (all_nodes es) (pass size count es to t l)
+    passing_within NoTerms to t l = none_within t l
+    passing_within (MoreTerms e es) to t l =
+        let p : Low = over (passed_as to) ((way size count e).low t l) in
+        let q : Passing = pass size count es (others to) p.temps p.labels in
+        let first = passed_within to ((way_bounded e).low t l) in
+        pass_within (must_pass size count p.tree q) first (passing_within es (others to) p.temps p.labels)

@@ -1,0 +1,209 @@
+-- How many temporaries and forks places and assignments have.
+use Rattle.std.proofs.Common.{◌≡◌, ℕ, suc, ◌+◌, ◌≤◌, List, [], ◌∷◌, refl, arith}
+use Rattle.std.specs.Prelude.{Bool, true, false, not, ◌&&◌}
+use Rattle.c_types.specs.declared.types.CType.{CType}
+use Rattle.c_types.specs.declared.typed.Variable.{Variable}
+use Rattle.c_types.specs.declared.typed.Variable.TheVariants as variables
+use Rattle.c_types.specs.declared.typed.Direction.{Direction}
+use Rattle.c_types.specs.declared.typed.Direction.TheVariants as directions
+use Rattle.c_types.specs.declared.typed.Moment.{Moment}
+use Rattle.c_types.specs.declared.typed.Moment.TheVariants as moments
+use Rattle.c_types.specs.Constants.{scale}
+use Rattle.c_lower_scheme.specs.Trees.{Tree, Num, Gaddr, Loc, Arg, Indir, Conv, Neg, Com, Bin, Item, stable, is_leaf}
+use Rattle.c_lower_scheme.specs.Expressions.{Low, Where, InLoc, InArg, InMem, Found, Ready, saved, next_if, read_from, assign_to, address_tree, where_of, step, found, pointed, read_low, address_low, holding, held, ready_so, update_so, store_drop, store_low_at, store_low, must_keep, step_tree, step_ready, step_low}
+use Rattle.c_lower_bounds.proofs.Trees.{tree_forks, item_forks, Narrow, none, next, behind}
+use Rattle.c_lower_bounds.proofs.Values.{Within, Ends, AddsTwo, narrow_saving, saved_forks, next_one, fitted_forks}
+
+-- the forks of a place's address
+abbrev pub place_forks : Where → ℕ
+place_forks s = tree_forks (address_tree s)
+
+-- a place of n nodes
+pub record WithinFound (t n : ℕ) (p : Found) : Type 0 where
+  pub temps : 2 + p.temps ≤ t + (n + n)
+  pub place : suc (place_forks p.place) ≤ n
+  pub items : (m : ℕ) → n ≤ m → Narrow m p.items
+
+-- an assignment of n nodes that is due
+pub record WithinReady (t n : ℕ) (r : Ready) : Type 0 where
+  pub temps : 3 + r.temps ≤ t + (n + n)
+  pub root : suc (place_forks r.place + tree_forks r.value) ≤ n
+  pub items : (m : ℕ) → n ≤ m → Narrow m r.items
+
+where_forks : (v : Variable) → place_forks (where_of v) ≡ 0
+where_forks (variables.Automatic n) = refl
+where_forks (variables.Parameter n) = refl
+where_forks (variables.Global n) = refl
+where_forks (variables.Static n) = refl
+
+read_forks : (ty : CType) (s : Where) → tree_forks (read_from ty s) ≤ place_forks s
+read_forks ty (InLoc n) = omega arith
+read_forks ty (InArg n) = omega arith
+read_forks ty (InMem a) = omega arith
+
+assign_forks : (ty : CType) (s : Where) (w : Tree) → item_forks (assign_to ty s w) ≤ suc (place_forks s + tree_forks w)
+assign_forks ty (InLoc n) w = let h = fitted_forks ty w in omega (arith, h)
+assign_forks ty (InArg n) w = let h = fitted_forks ty w in omega (arith, h)
+assign_forks ty (InMem a) w = omega arith
+
+pub array_forks : (v : Variable) → tree_forks (address_tree (where_of v)) ≡ 0
+array_forks v = where_forks v
+
+pub found_within : (ty : CType) (v : Variable) (t l : ℕ) → WithinFound t 1 (found ty (where_of v) t l)
+found_within ty v t l = let h = where_forks v in record { temps = omega arith; place = omega (arith, h); items = λ m le. none }
+
+pub pointed_within : (ty : CType) (k : ℕ) {t n : ℕ} {p : Low} → n ≤ k → Within t n p → WithinFound t k (pointed ty p)
+pointed_within ty k {t = t} {n = n} le h = record {
+  temps = omega (arith, h.temps);
+  place = omega (arith, h.tree);
+  items = λ m le'. h.items m (omega arith);
+}
+
+pub read_within : {t n : ℕ} {p : Found} → WithinFound t n p → Within t n (read_low p)
+read_within {p = p} h =
+    let less = read_forks p.type p.place in
+    record { temps = h.temps; tree = omega (arith, h.place, less); items = h.items }
+
+pub address_within : {t n : ℕ} {p : Found} → WithinFound t n p → Within t (1 + n) (address_low p)
+address_within {n = n} h = record { temps = omega (arith, h.temps); tree = omega (arith, h.place); items = λ m le. h.items m (omega arith) }
+
+narrow_holding : (b : Bool) (u : ℕ) (s : Where) (m : ℕ) → suc (place_forks s) ≤ m → Narrow m (holding b u s)
+narrow_holding b u (InLoc n) m h = none
+narrow_holding b u (InArg n) m h = none
+narrow_holding b u (InMem a) m h = narrow_saving b u a m h
+
+held_forks : (b : Bool) (u : ℕ) (s : Where) → place_forks (held b u s) ≤ place_forks s
+held_forks b u (InLoc n) = omega arith
+held_forks b u (InArg n) = omega arith
+held_forks b u (InMem a) = saved_forks b u a
+
+pub ready_within : (b : Bool) {t m n : ℕ} {p : Found} {q : Low} → WithinFound t m p → Within p.temps n q
+    → WithinReady t (1 + m + n) (ready_so b p q)
+ready_within b {m = m} {n = n} {p = p} {q = q} h g =
+    let one = next_one b q.temps in
+    let less = held_forks b q.temps p.place in
+    record {
+      temps = omega (arith, h.temps, g.temps, one);
+      root = omega (arith, h.place, g.tree, less);
+      items = λ k le. behind (h.items k (omega arith))
+          (behind (narrow_holding b q.temps p.place k (omega (arith, h.place))) (g.items k (omega arith)));
+    }
+
+-- an address that stands twice has no forks
+leaf_forks : (a : Tree) (u : ℕ) (c : Bool) → tree_forks (saved (not (is_leaf a && c)) u a) ≡ 0
+leaf_forks (Num n) u true = refl
+leaf_forks (Num n) u false = refl
+leaf_forks (Gaddr n) u true = refl
+leaf_forks (Gaddr n) u false = refl
+leaf_forks (Loc n) u true = refl
+leaf_forks (Loc n) u false = refl
+leaf_forks (Arg n) u true = refl
+leaf_forks (Arg n) u false = refl
+leaf_forks (Indir i a) u c = refl
+leaf_forks (Conv i a) u c = refl
+leaf_forks (Neg a) u c = refl
+leaf_forks (Com a) u c = refl
+leaf_forks (Bin op a b) u c = refl
+
+alone_forks : (a : Tree) (u : ℕ) → tree_forks (saved (not (is_leaf a)) u a) ≡ 0
+alone_forks (Num n) u = refl
+alone_forks (Gaddr n) u = refl
+alone_forks (Loc n) u = refl
+alone_forks (Arg n) u = refl
+alone_forks (Indir i a) u = refl
+alone_forks (Conv i a) u = refl
+alone_forks (Neg a) u = refl
+alone_forks (Com a) u = refl
+alone_forks (Bin op a b) u = refl
+
+pub store_drop_ends : {t n : ℕ} {r : Ready} → WithinReady t n r → Ends 1 t n (store_drop r)
+store_drop_ends {r = r} h =
+    let most = assign_forks r.type r.place r.value in
+    record { temps = omega (arith, h.temps); items = λ k le. behind (h.items k le) (next (omega (arith, h.root, most)) none) }
+
+store_low_at_within : (s : Where) {t n : ℕ} {r : Ready} → suc (place_forks s + tree_forks r.value) ≤ n → WithinReady t n r
+    → Within t n (store_low_at s r)
+store_low_at_within (InLoc x) {r = r} root h =
+    let same = fitted_forks r.type r.value in
+    record { temps = omega (arith, h.temps); tree = omega arith; items = λ k le. behind (h.items k le) (next (omega arith) none) }
+store_low_at_within (InArg x) {r = r} root h =
+    let same = fitted_forks r.type r.value in
+    record { temps = omega (arith, h.temps); tree = omega arith; items = λ k le. behind (h.items k le) (next (omega arith) none) }
+store_low_at_within (InMem a) {r = r} root h =
+    let same = fitted_forks r.type r.value in
+    record {
+      temps = omega (arith, h.temps);
+      tree = omega arith;
+      items = λ k le. behind (h.items k le) (next (omega arith) (next (omega arith) none));
+    }
+
+pub store_low_within : {t n : ℕ} {r : Ready} → WithinReady t n r → Within t n (store_low r)
+store_low_within {r = r} h = store_low_at_within r.place h.root h
+
+step_forks : (by : Direction) (v w : Tree) → tree_forks (step by v w) ≡ suc (tree_forks v + tree_forks w)
+step_forks directions.Up v w = refl
+step_forks directions.Down v w = refl
+
+module _ (size count : ℕ) where
+  kept_forks : (is : List Item) (s : Where) (u : ℕ) → place_forks (held (must_keep size count is s) u s) ≡ 0
+  kept_forks is (InLoc n) u = refl
+  kept_forks is (InArg n) u = refl
+  kept_forks [] (InMem a) u = alone_forks a u
+  kept_forks (i ∷ is) (InMem a) u = leaf_forks a u (stable size a)
+
+  -- a place that is read and then assigned to
+  pub update_within : (c : Bool) (f : Tree → Tree → Tree) → AddsTwo f → {t m n : ℕ} {p : Found} {q : Low}
+      → WithinFound t m p → Within p.temps n q → WithinReady t (1 + m + n) (update_so (must_keep size count q.items p.place) c f p q)
+  update_within c f two {m = m} {n = n} {p = p} {q = q} h g =
+      let b : Bool = must_keep size count q.items p.place in
+      let s : Where = held b q.temps p.place in
+      let u : ℕ = next_if b q.temps in
+      let old : Tree = read_from p.type s in
+      let one = next_one b q.temps in
+      let one_more = next_one c u in
+      let no_forks = kept_forks q.items p.place q.temps in
+      let less = read_forks p.type s in
+      let less_still = saved_forks c u old in
+      let most = two (saved c u old) q.tree in
+      record {
+        temps = omega (arith, h.temps, g.temps);
+        root = omega (arith, h.place, g.tree);
+        items = λ k le.
+            let last = behind (narrow_saving c u old k (omega (arith, h.place))) (g.items k (omega arith)) in
+            behind (h.items k (omega arith)) (behind (narrow_holding b q.temps p.place k (omega (arith, h.place))) last);
+      }
+
+  pub step_within : (by : Direction) {t m : ℕ} {p : Found} → WithinFound t m p → WithinReady t (1 + m) (step_ready size count by p)
+  step_within by {m = m} {p = p} h =
+      let b : Bool = must_keep size count [] p.place in
+      let s : Where = held b p.temps p.place in
+      let one = next_one b p.temps in
+      let no_forks = kept_forks [] p.place p.temps in
+      let less = read_forks p.type s in
+      let most = step_forks by (read_from p.type s) (Num (scale p.type)) in
+      record {
+        temps = omega (arith, h.temps);
+        root = omega (arith, h.place);
+        items = λ k le. behind (h.items k (omega arith)) (behind (narrow_holding b p.temps p.place k (omega (arith, h.place))) none);
+      }
+
+  pub step_low_within : (m : Moment) (by : Direction) {t n : ℕ} {p : Found} → WithinFound t n p
+      → Within t (1 + n) (step_low size count m by p)
+  step_low_within moments.Before by {n = n} {p = p} h =
+      let b : Bool = must_keep size count [] p.place in
+      let s : Where = held b p.temps p.place in
+      let u : ℕ = next_if b p.temps in
+      let one = next_one b p.temps in
+      let no_forks = kept_forks [] p.place p.temps in
+      let less = read_forks p.type s in
+      let new : Tree = step_tree size count by p.type (Loc u) in
+      let most = assign_forks p.type s new in
+      let same = step_forks by (Loc u) (Num (scale p.type)) in
+      record {
+        temps = omega (arith, h.temps);
+        tree = omega arith;
+        items = λ k le.
+            let last = next (omega (arith, h.place)) (next (omega (arith, h.place)) none) in
+            behind (h.items k (omega arith)) (behind (narrow_holding b p.temps p.place k (omega (arith, h.place))) last);
+      }
+  step_low_within moments.After by h = store_low_within (step_within by h)

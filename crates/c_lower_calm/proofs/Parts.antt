@@ -1,0 +1,223 @@
+-- That values, conditions, places and calls are calm where their parts are.
+use Rattle.std.proofs.Common.{◌≡◌, ℕ, suc, List, [], ◌∷◌, refl}
+use Rattle.std.specs.Prelude.{Bool, true, false, not, ◌&&◌, ◌||◌}
+use Rattle.gg_base.specs.declared.relation.Rel.{Rel}
+use Rattle.c_types.specs.declared.types.Integer.{Integer}
+use Rattle.c_types.specs.declared.types.Integer.TheVariants as ints
+use Rattle.c_types.specs.declared.types.CType.{CType}
+use Rattle.c_lower_scheme.specs.Trees.{Tree, Num, Gaddr, Loc, Arg, Indir, Conv, Neg, Com, Bin, Item, divides_by, divides, reads, breaks, stable, is_leaf}
+use Rattle.c_lower_scheme.specs.Expressions.{Low, Two, Done, Way, Found, Ready, due, saving, saved, integer_of, conv, fitted, address_tree, over, test, dropped, valued, conditional, effective, mapped, chained, same, goal, chain, chain_drop, drop_two, choose, comma, must, joined, binary, relation}
+use Rattle.c_lower_calm.proofs.Trees.{Apart, IsCalm, AreCalm, none, next, behind}
+
+pub record CalmLow (p : Low) : Type 0 where
+  pub tree : IsCalm p.tree
+  pub items : AreCalm p.items
+
+pub record CalmTwo (p : Two) : Type 0 where
+  pub first : IsCalm p.first
+  pub second : IsCalm p.second
+  pub apart : Apart p.first p.second
+  pub items : AreCalm p.items
+
+pub record CalmWay (e : Way) : Type 0 where
+  pub low : (t l : ℕ) → CalmLow (e.low t l)
+  pub branch : (sense : Bool) (to t l : ℕ) → AreCalm (e.branch sense to t l).items
+  pub drop : (t l : ℕ) → AreCalm (e.drop t l).items
+
+pub record CalmFound (p : Found) : Type 0 where
+  pub place : IsCalm (address_tree p.place)
+  pub items : AreCalm p.items
+
+pub record CalmReady (r : Ready) : Type 0 where
+  pub place : IsCalm (address_tree r.place)
+  pub value : IsCalm r.value
+  pub apart : Apart (address_tree r.place) r.value
+  pub items : AreCalm r.items
+
+pub never : {A : Type 0} → false ≡ true → A
+never e = absurd (cc)
+
+-- a tree that does not divide stands before any other
+pub inert_apart : (a b : Tree) → divides a ≡ false → Apart a b
+inert_apart a b h e = absurd (cc)
+
+-- what a place's address needs not be saved for
+pub calm_saving : (b : Bool) (u : ℕ) (w : Tree) → IsCalm w → AreCalm (saving b u w)
+calm_saving true u w h = next h none
+calm_saving false u w h = none
+
+pub calm_saved : (b : Bool) (u : ℕ) (w : Tree) → IsCalm w → IsCalm (saved b u w)
+calm_saved true u w h = tt
+calm_saved false u w h = h
+
+calm_conv : (i : Integer) (w : Tree) → IsCalm w → IsCalm (conv i w)
+calm_conv ints.Char w h = h
+calm_conv ints.UnsignedChar w h = h
+calm_conv ints.Short w h = h
+calm_conv ints.UnsignedShort w h = h
+calm_conv ints.Int w h = h
+
+pub calm_fitted : (t : CType) (w : Tree) → IsCalm w → IsCalm (fitted t w)
+calm_fitted t w h = calm_conv (integer_of t) w h
+
+pub due_calm : (w : Tree) → IsCalm w → (t l : ℕ) → CalmLow (due w t l)
+due_calm w h t l = record { tree = h; items = none }
+
+pub over_calm : (f : Tree → Tree) → ((w : Tree) → IsCalm w → IsCalm (f w)) → {p : Low} → CalmLow p → CalmLow (over f p)
+over_calm f keeps {p = p} h = record { tree = keeps p.tree h.tree; items = h.items }
+
+pub test_calm : (sense : Bool) (to : ℕ) {p : Low} → CalmLow p → AreCalm (test sense to p).items
+test_calm sense to h = behind h.items (next (h.tree, tt, λ e. refl) none)
+
+pub dropped_calm : {p : Low} → CalmLow p → AreCalm (dropped p).items
+dropped_calm {p = p} h = behind h.items (calm_saving (breaks p.tree) p.temps p.tree h.tree)
+
+pub valued_calm : {f : ℕ → ℕ → Low} → ((t l : ℕ) → CalmLow (f t l)) → CalmWay (valued f)
+valued_calm h = record { low = h; branch = λ sense to t l. test_calm sense to (h t l); drop = λ t l. dropped_calm (h t l) }
+
+pub effective_calm : {f : ℕ → ℕ → Low} {d : ℕ → ℕ → Done} → ((t l : ℕ) → CalmLow (f t l)) → ((t l : ℕ) → AreCalm (d t l).items) → CalmWay (effective f d)
+effective_calm h g = record { low = h; branch = λ sense to t l. test_calm sense to (h t l); drop = g }
+
+pub conditional_calm : {f : Bool → ℕ → ℕ → ℕ → Done} {d : ℕ → ℕ → Done}
+    → ((sense : Bool) (to t l : ℕ) → AreCalm (f sense to t l).items) → ((t l : ℕ) → AreCalm (d t l).items) → CalmWay (conditional f d)
+conditional_calm h g = record {
+  low = λ t l. record { tree = tt; items = next tt (behind (h false l (suc t) (suc l)) (next tt (next tt none))) };
+  branch = h;
+  drop = g;
+}
+
+pub mapped_calm : (f : Tree → Tree) → ((w : Tree) → IsCalm w → IsCalm (f w)) → {e : Way} → CalmWay e → CalmWay (mapped f e)
+mapped_calm f keeps h = effective_calm (λ t l. over_calm f keeps (h.low t l)) h.drop
+
+pub drop_two_calm : {a b : Way} → CalmWay a → CalmWay b → (t l : ℕ) → AreCalm (drop_two a b t l).items
+drop_two_calm {a = a} h g t l = behind (h.drop t l) (g.drop (a.drop t l).temps (a.drop t l).labels)
+
+pub not_calm : {e : Way} → CalmWay e → CalmWay (conditional (λ sense to t l. e.branch (not sense) to t l) e.drop)
+not_calm h = conditional_calm (λ sense to t l. h.branch (not sense) to t l) h.drop
+
+chained_calm : (stop : Bool) (l : ℕ) {p : Done} (f : ℕ → ℕ → Done) → AreCalm p.items → AreCalm (f p.temps p.labels).items → AreCalm (chained stop l p f).items
+chained_calm true l f h g = behind h g
+chained_calm false l f h g = behind h (behind g (next tt none))
+
+pub chain_calm : (stop : Bool) {a b : Way} → CalmWay a → CalmWay b → CalmWay (conditional (chain stop a b) (chain_drop a stop b))
+chain_calm stop {a = a} {b = b} h g = conditional_calm
+    (λ sense to t l.
+    let turn : Bool = same stop sense in
+    let p : Done = a.branch stop (goal turn to l) t (suc l) in
+    chained_calm turn l (b.branch sense to) (h.branch stop (goal turn to l) t (suc l)) (g.branch sense to p.temps p.labels))
+    (λ t l.
+    let p : Done = a.branch stop l t (suc l) in
+    chained_calm false l b.drop (h.branch stop l t (suc l)) (g.drop p.temps p.labels))
+
+pub choose_calm : {c a b : Way} → CalmWay c → CalmWay a → CalmWay b → CalmWay (choose c a b)
+choose_calm {c = c} {a = a} {b = b} f h g = effective_calm
+    (λ t l.
+    let p : Done = c.branch false l (suc t) (suc (suc l)) in
+    let q : Low = a.low p.temps p.labels in
+    let y = h.low p.temps p.labels in
+    let z = g.low q.temps q.labels in
+    record {
+      tree = tt;
+      items = behind (f.branch false l (suc t) (suc (suc l))) (behind y.items (next y.tree (next tt (next tt (behind z.items (next z.tree (next tt none)))))));
+    })
+    (λ t l.
+    let p : Done = c.branch false l t (suc (suc l)) in
+    let q : Done = a.drop p.temps p.labels in
+    behind (f.branch false l t (suc (suc l))) (behind (h.drop p.temps p.labels) (next tt (next tt (behind (g.drop q.temps q.labels) (next tt none))))))
+
+pub comma_calm : {a b : Way} → CalmWay a → CalmWay b → CalmWay (comma a b)
+comma_calm {a = a} h g = record {
+  low = λ t l.
+      let p : Done = a.drop t l in
+      let y = g.low p.temps p.labels in
+      record { tree = y.tree; items = behind (h.drop t l) y.items };
+  branch = λ sense to t l. behind (h.drop t l) (g.branch sense to (a.drop t l).temps (a.drop t l).labels);
+  drop = drop_two_calm h g;
+}
+
+and_true_left : (a b : Bool) → a && b ≡ true → a ≡ true
+and_true_left true b e = refl
+and_true_left false b e = absurd (cc)
+
+and_true_right : (a b : Bool) → a && b ≡ true → b ≡ true
+and_true_right true b e = e
+and_true_right false b e = absurd (cc)
+
+not_true : (a : Bool) → not a ≡ true → a ≡ false
+not_true true e = absurd (cc)
+not_true false e = refl
+
+not_false : (a : Bool) → not a ≡ false → a ≡ true
+not_false true e = refl
+not_false false e = absurd (cc)
+
+no_or : (a b c : Bool) → a ≡ false → b ≡ false → c ≡ false → a || (b || c) ≡ false
+no_or a b c e f g = cc
+
+-- what nothing changes does not divide, and neither does a leaf
+pub stable_inert : (size : ℕ) (w : Tree) → stable size w ≡ true → divides w ≡ false
+stable_inert size (Num n) h = refl
+stable_inert size (Gaddr n) h = refl
+stable_inert size (Loc n) h = refl
+stable_inert size (Arg n) h = refl
+stable_inert size (Indir i a) h = absurd (cc)
+stable_inert size (Conv i w) h = stable_inert size w h
+stable_inert size (Neg w) h = stable_inert size w h
+stable_inert size (Com w) h = stable_inert size w h
+stable_inert size (Bin op a b) h =
+    let both = and_true_right (not (divides_by op)) (stable size a && stable size b) h in
+    no_or (divides_by op) (divides a) (divides b)
+    (not_true (divides_by op) (and_true_left (not (divides_by op)) (stable size a && stable size b) h))
+    (stable_inert size a (and_true_left (stable size a) (stable size b) both))
+    (stable_inert size b (and_true_right (stable size a) (stable size b) both))
+
+pub leaf_inert : (w : Tree) → is_leaf w ≡ true → divides w ≡ false
+leaf_inert (Num n) h = refl
+leaf_inert (Gaddr n) h = refl
+leaf_inert (Loc n) h = refl
+leaf_inert (Arg n) h = refl
+leaf_inert (Indir i a) h = absurd (cc)
+leaf_inert (Conv i w) h = absurd (cc)
+leaf_inert (Neg w) h = absurd (cc)
+leaf_inert (Com w) h = absurd (cc)
+leaf_inert (Bin op a b) h = absurd (cc)
+
+conflict : (a b : Bool) → a && b ≡ false → a ≡ true → b ≡ false
+conflict true b e h = e
+conflict false b e h = absurd (cc)
+
+module _ (size count : ℕ) where
+  -- a first part that is not saved stands apart from the second
+  pub must_apart : (is : List Item) (a b : Tree) → must size count is a b ≡ false → Apart a b
+  must_apart [] a b h = conflict (divides a) (reads b) h
+  must_apart (i ∷ is) a b h = inert_apart a b (stable_inert size a (not_false (stable size a) h))
+
+  saved_apart : (c : Bool) (u : ℕ) (a b : Tree) → (c ≡ false → Apart a b) → Apart (saved c u a) b
+  saved_apart true u a b h = never
+  saved_apart false u a b h = h refl
+
+  joined_calm : {a b : Way} → CalmWay a → CalmWay b → (t l : ℕ) → CalmTwo (joined size count a b t l)
+  joined_calm {a = a} {b = b} h g t l =
+      let p : Low = a.low t l in
+      let q : Low = b.low p.temps p.labels in
+      let c : Bool = must size count q.items p.tree q.tree in
+      let x = h.low t l in
+      let y = g.low p.temps p.labels in
+      record {
+        first = calm_saved c q.temps p.tree x.tree;
+        second = y.tree;
+        apart = saved_apart c q.temps p.tree q.tree (must_apart q.items p.tree q.tree);
+        items = behind x.items (behind (calm_saving c q.temps p.tree x.tree) y.items);
+      }
+
+  pub binary_calm : (f : Tree → Tree → Tree) → ((v w : Tree) → IsCalm v → IsCalm w → Apart v w → IsCalm (f v w)) → {a b : Way}
+      → CalmWay a → CalmWay b → CalmWay (binary size count f a b)
+  binary_calm f keeps {a = a} {b = b} h g = valued_calm (λ t l.
+      let p : Two = joined size count a b t l in
+      let c = joined_calm h g t l in
+      record { tree = keeps p.first p.second c.first c.second c.apart; items = c.items })
+
+  pub relation_calm : (r : Rel) {a b : Way} → CalmWay a → CalmWay b → CalmWay (relation size count r a b)
+  relation_calm r h g = conditional_calm
+      (λ sense to t l. let c = joined_calm h g t l in behind c.items (next (c.first, c.second, c.apart) none))
+      (drop_two_calm h g)

@@ -1,0 +1,70 @@
+use Rattle.std.proofs.Common.{ℕ, ◌+◌, ◌*◌}
+use Rattle.c_types.specs.Typed.{term, place_of, terms}
+use Rattle.c_lower_code.specs.Sizes.{size, place_size, all_size}
+use Rattle.c_lower_code.proofs.expression.+expression.Given as goal
+
+abbrev pub decreases-seek : goal.decreases-seek
+decreases-seek l = 4 * place_size (place_of l.place.now)
+
+abbrev pub decreases-joined : goal.decreases-joined
+decreases-joined l = 4 * (size (term l.a.now) + size (term l.b.now)) + 1
+
+abbrev pub decreases-relation : goal.decreases-relation
+decreases-relation l = 4 * (size (term l.a.now) + size (term l.b.now)) + 2
+
+abbrev pub decreases-chain : goal.decreases-chain
+decreases-chain l = 4 * (size (term l.a.now) + size (term l.b.now)) + 3
+
+abbrev pub decreases-drop_chain : goal.decreases-drop_chain
+decreases-drop_chain l = 4 * (size (term l.a.now) + size (term l.b.now)) + 3
+
+abbrev pub decreases-drop_two : goal.decreases-drop_two
+decreases-drop_two l = 4 * (size (term l.a.now) + size (term l.b.now)) + 3
+
+abbrev pub decreases-updated : goal.decreases-updated
+decreases-updated l = 4 * (place_size (place_of l.place.now) + size (term l.e.now)) + 1
+
+abbrev pub decreases-changed : goal.decreases-changed
+decreases-changed l = 4 * (place_size (place_of l.place.now) + size (term l.e.now)) + 2
+
+abbrev pub decreases-drop_changed : goal.decreases-drop_changed
+decreases-drop_changed l = 4 * (place_size (place_of l.place.now) + size (term l.e.now)) + 2
+
+abbrev pub decreases-assigned : goal.decreases-assigned
+decreases-assigned l = 4 * (place_size (place_of l.place.now) + size (term l.e.now)) + 1
+
+abbrev pub decreases-pass : goal.decreases-pass
+decreases-pass l = 4 * all_size (terms l.es.now)
+
+abbrev pub decreases-chosen : goal.decreases-chosen
+decreases-chosen l = 4 * (size (term l.c.now) + size (term l.a.now) + size (term l.b.now)) + 3
+
+abbrev pub decreases-drop_chosen : goal.decreases-drop_chosen
+decreases-drop_chosen l = 4 * (size (term l.c.now) + size (term l.a.now) + size (term l.b.now)) + 3
+
+abbrev pub decreases-unary : goal.decreases-unary
+decreases-unary l = 4 * size (term l.e.now) + 3
+
+abbrev pub decreases-unary_branch : goal.decreases-unary_branch
+decreases-unary_branch l = 4 * size (term l.e.now) + 4
+
+abbrev pub decreases-unary_drop : goal.decreases-unary_drop
+decreases-unary_drop l = 4 * size (term l.e.now) + 3
+
+abbrev pub decreases-comma : goal.decreases-comma
+decreases-comma l = 4 * (size (term l.a.now) + size (term l.b.now)) + 3
+
+abbrev pub decreases-value : goal.decreases-value
+decreases-value l = 4 * size (term l.e.now)
+
+abbrev pub decreases-tested : goal.decreases-tested
+decreases-tested l = 4 * size (term l.e.now) + 1
+
+abbrev pub decreases-unwanted : goal.decreases-unwanted
+decreases-unwanted l = 4 * size (term l.e.now) + 1
+
+abbrev pub decreases-branch : goal.decreases-branch
+decreases-branch l = 4 * size (term l.e.now) + 2
+
+abbrev pub decreases-discard : goal.decreases-discard
+decreases-discard l = 4 * size (term l.e.now) + 2

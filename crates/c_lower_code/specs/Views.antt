@@ -1,0 +1,68 @@
+-- The crate's trees, items and parts as the definition of lowering has them.
+use Rattle.std.specs.Prelude.{List, map}
+use Rattle.c_lower_code.specs.declared.tree.Tree.{Tree}
+use Rattle.c_lower_code.specs.declared.tree.Tree.TheVariants as trees
+use Rattle.c_lower_code.specs.declared.item.Item.{Item}
+use Rattle.c_lower_code.specs.declared.item.Item.TheVariants as items
+use Rattle.c_lower_code.specs.declared.part.Low.{Low}
+use Rattle.c_lower_code.specs.declared.part.Two.{Two}
+use Rattle.c_lower_code.specs.declared.part.Storage.{Storage}
+use Rattle.c_lower_code.specs.declared.part.Storage.TheVariants as storages
+use Rattle.c_lower_code.specs.declared.part.Found.{Found}
+use Rattle.c_lower_code.specs.declared.part.Ready.{Ready}
+use Rattle.c_lower_code.specs.declared.part.Passing.{Passing}
+use Rattle.c_lower_code.specs.declared.part.Done.{Done}
+use Rattle.c_lower_scheme.specs.Trees as mirror
+use Rattle.c_lower_scheme.specs.Expressions as parts
+
+abbrev pub tree : Tree → mirror.Tree
+tree (trees.Number n) = mirror.Num n
+tree (trees.Object n) = mirror.Gaddr n
+tree (trees.Local n) = mirror.Loc n
+tree (trees.Parameter n) = mirror.Arg n
+tree (trees.Indirect' i q a) = mirror.Indir i (tree a)
+tree (trees.Convert' i q w) = mirror.Conv i (tree w)
+tree (trees.Negate' q w) = mirror.Neg (tree w)
+tree (trees.Complement' q w) = mirror.Com (tree w)
+tree (trees.Binary' op q a r b) = mirror.Bin op (tree a) (tree b)
+
+abbrev pub item : Item → mirror.Item
+item (items.Label l) = mirror.Label l
+item (items.AssignLocal n w) = mirror.AssignLoc n (tree w)
+item (items.AssignParameter n w) = mirror.AssignArg n (tree w)
+item (items.AssignMemory i a w) = mirror.AssignMem i (tree a) (tree w)
+item (items.Branch r l a b) = mirror.Cbr r l (tree a) (tree b)
+item (items.Jump l) = mirror.Jump l
+item (items.Push w) = mirror.Push (tree w)
+item (items.Call f n) = mirror.Call f n
+item (items.Save n) = mirror.Save n
+item (items.Return w) = mirror.Ret (tree w)
+
+abbrev pub all_items : List Item → List mirror.Item
+all_items is = map item is
+
+abbrev pub all_trees : List Tree → List mirror.Tree
+all_trees ws = map tree ws
+
+abbrev pub low : Low → parts.Low
+low p = record { items = all_items p.items.items; tree = tree p.tree; temps = p.temps; labels = p.labels }
+
+abbrev pub two : Two → parts.Two
+two p = record { items = all_items p.items.items; first = tree p.first; second = tree p.second; temps = p.temps; labels = p.labels }
+
+abbrev pub storage : Storage → parts.Where
+storage (storages.Local n) = parts.InLoc n
+storage (storages.Parameter n) = parts.InArg n
+storage (storages.Memory a) = parts.InMem (tree a)
+
+abbrev pub found : Found → parts.Found
+found p = record { items = all_items p.items.items; type = p.ctype; place = storage p.storage; temps = p.temps; labels = p.labels }
+
+abbrev pub ready : Ready → parts.Ready
+ready p = record { items = all_items p.items.items; type = p.ctype; place = storage p.storage; value = tree p.value; temps = p.temps; labels = p.labels }
+
+abbrev pub passing : Passing → parts.Passing
+passing p = record { items = all_items p.items.items; trees = all_trees p.trees.items; quiet = p.is_quiet; temps = p.temps; labels = p.labels }
+
+abbrev pub done : Done → parts.Done
+done p = record { items = all_items p.items.items; temps = p.temps; labels = p.labels }

@@ -1,0 +1,181 @@
+// How the parts of statements are put together.
+ghost use Rattle.std.specs.Prelude.{◌≡◌, IfOk};
+ghost use Rattle.c_lower_scheme.specs.Statements as statements;
+ghost use Rattle.c_lower_code.specs.Views.{low, done};
+
+use crate::item::Item;
+use crate::part::{Done, Frame, Low, after, put, put_all};
+use crate::tree::Tree;
+use gg_base::NoMemory;
+use std::alloc::Global;
+
+/// One statement behind another.
+pub(crate) fn two_done(a: Done, b: Done) -> Result<Done, NoMemory>
+    ensures { IfOk result (λ r. done r ≡ statements.two_done (done a) (done b)) }
+{
+    let mut items = a.items;
+    put_all(&mut items, b.items)?;
+    Ok(Done {
+        items,
+        temps: a.temps.max(b.temps),
+        labels: b.labels,
+    })
+}
+
+/// A value that leaves the function.
+pub(crate) fn ret_of(p: Low) -> Result<Done, NoMemory>
+    ensures { IfOk result (λ r. done r ≡ statements.ret_of (low p)) }
+{
+    let mut items = p.items;
+    put(&mut items, Item::Return(p.tree))?;
+    Ok(Done {
+        items,
+        temps: p.temps,
+        labels: p.labels,
+    })
+}
+
+/// An automatic local that begins with a value; it is 0 before where its initialiser reads it.
+pub(crate) fn begin_of(alloc: Global, is_read: bool, local: u32, p: Low) -> Result<Done, NoMemory>
+    ensures { IfOk result (λ r. done r ≡ statements.begin_of is_read local (low p)) }
+{
+    let mut items = Vec::new(alloc);
+    if is_read {
+        put(&mut items, Item::AssignLocal(local, Tree::Number(0)))?;
+    }
+    put_all(&mut items, p.items)?;
+    put(&mut items, Item::AssignLocal(local, p.tree))?;
+    Ok(Done {
+        items,
+        temps: p.temps,
+        labels: p.labels,
+    })
+}
+
+/// An `if`, whose end is the label l.
+pub(crate) fn if_done(l: u32, p: Done, a: Done) -> Result<Done, NoMemory>
+    ensures { IfOk result (λ r. done r ≡ statements.if_done l (done p) (done a)) }
+{
+    let mut items = p.items;
+    put_all(&mut items, a.items)?;
+    put(&mut items, Item::Label(l))?;
+    Ok(Done {
+        items,
+        temps: p.temps.max(a.temps),
+        labels: a.labels,
+    })
+}
+
+/// An `if` with an `else`.
+pub(crate) fn if_else_done(l: u32, p: Done, a: Done, b: Done) -> Result<Done, NoMemory>
+    ensures { IfOk result (λ r. done r ≡ statements.if_else_done l (done p) (done a) (done b)) }
+{
+    let end = after(l)?;
+    let mut items = p.items;
+    put_all(&mut items, a.items)?;
+    put(&mut items, Item::Jump(end))?;
+    put(&mut items, Item::Label(l))?;
+    put_all(&mut items, b.items)?;
+    put(&mut items, Item::Label(end))?;
+    Ok(Done {
+        items,
+        temps: p.temps.max(a.temps.max(b.temps)),
+        labels: b.labels,
+    })
+}
+
+/// A `while`, whose test stands at the label l, and whose end is the next label.
+pub(crate) fn while_done(alloc: Global, l: u32, p: Done, a: Done) -> Result<Done, NoMemory>
+    ensures { IfOk result (λ r. done r ≡ statements.while_done l (done p) (done a)) }
+{
+    let end = after(l)?;
+    let mut items = Vec::new(alloc);
+    put(&mut items, Item::Label(l))?;
+    put_all(&mut items, p.items)?;
+    put_all(&mut items, a.items)?;
+    put(&mut items, Item::Jump(l))?;
+    put(&mut items, Item::Label(end))?;
+    Ok(Done {
+        items,
+        temps: p.temps.max(a.temps),
+        labels: a.labels,
+    })
+}
+
+/// A `do`: `continue` goes to the label behind l, and the end is the one behind that.
+pub(crate) fn do_done(alloc: Global, l: u32, a: Done, p: Done) -> Result<Done, NoMemory>
+    ensures { IfOk result (λ r. done r ≡ statements.do_done l (done a) (done p)) }
+{
+    let onward = after(l)?;
+    let end = after(onward)?;
+    let mut items = Vec::new(alloc);
+    put(&mut items, Item::Jump(l))?;
+    put(&mut items, Item::Label(l))?;
+    put_all(&mut items, a.items)?;
+    put(&mut items, Item::Label(onward))?;
+    put_all(&mut items, p.items)?;
+    put(&mut items, Item::Label(end))?;
+    Ok(Done {
+        items,
+        temps: a.temps.max(p.temps),
+        labels: p.labels,
+    })
+}
+
+/// A `for` with a test.
+pub(crate) fn for_done(alloc: Global, l: u32, p: Done, a: Done, s: Done) -> Result<Done, NoMemory>
+    ensures { IfOk result (λ r. done r ≡ statements.for_done l (done p) (done a) (done s)) }
+{
+    let onward = after(l)?;
+    let end = after(onward)?;
+    let mut items = Vec::new(alloc);
+    put(&mut items, Item::Label(l))?;
+    put_all(&mut items, p.items)?;
+    put_all(&mut items, a.items)?;
+    put(&mut items, Item::Label(onward))?;
+    put_all(&mut items, s.items)?;
+    put(&mut items, Item::Jump(l))?;
+    put(&mut items, Item::Label(end))?;
+    Ok(Done {
+        items,
+        temps: p.temps.max(a.temps.max(s.temps)),
+        labels: s.labels,
+    })
+}
+
+/// A `for` without a test.
+pub(crate) fn ever_done(alloc: Global, l: u32, a: Done, s: Done) -> Result<Done, NoMemory>
+    ensures { IfOk result (λ r. done r ≡ statements.ever_done l (done a) (done s)) }
+{
+    let onward = after(l)?;
+    let end = after(onward)?;
+    let mut items = Vec::new(alloc);
+    put(&mut items, Item::Jump(l))?;
+    put(&mut items, Item::Label(l))?;
+    put_all(&mut items, a.items)?;
+    put(&mut items, Item::Label(onward))?;
+    put_all(&mut items, s.items)?;
+    put(&mut items, Item::Jump(l))?;
+    put(&mut items, Item::Label(end))?;
+    Ok(Done {
+        items,
+        temps: a.temps.max(s.temps),
+        labels: s.labels,
+    })
+}
+
+/// A jump to a label.
+pub(crate) fn jump(frame: Frame, to: u32, l: u32) -> Result<Done, NoMemory>
+    ensures { IfOk result (λ r. done r ≡ record { items = mirror.Jump to ∷ []; temps = frame.locals; labels = l }) }
+{
+    let mut items = Vec::new(frame.alloc);
+    put(&mut items, Item::Jump(to))?;
+    Ok(Done {
+        items,
+        temps: frame.locals,
+        labels: l,
+    })
+}
+
+ghost use Rattle.std.specs.Prelude.{◌∷◌, []};
+ghost use Rattle.c_lower_scheme.specs.Trees as mirror;

@@ -1,0 +1,146 @@
+// The arguments of calls.
+ghost use Rattle.std.specs.Prelude.{◌≡◌, ◌++◌, [], IfOk, OnOk};
+ghost use Rattle.c_lower_scheme.specs.Expressions as parts;
+ghost use Rattle.c_lower_code.specs.Views.{tree, all_items, all_trees, low, passing, done};
+
+use crate::item::Item;
+use crate::part::{Done, Frame, Low, Passing, after, after_if, put, put_all, put_saved};
+use crate::tree::{Tree, fitted};
+use c_types::{CType, Callee};
+use gg_base::NoMemory;
+use std::alloc::Global;
+
+/// The number of what is called: the services stand behind the program's functions.
+pub(crate) fn callee_number(functions: u32, callee: Callee) -> Result<u32, NoMemory>
+    ensures { IfOk result (λ n. n ≡ parts.callee_number functions callee) }
+{
+    match callee {
+        Callee::Defined(f) => Ok(f),
+        Callee::Putchar => Ok(functions),
+        Callee::Getchar => after(functions),
+    }
+}
+
+// How many trees these are.
+fn args_count(trees: &Vec<Tree>) -> Result<u32, NoMemory>
+    ensures { IfOk result (λ n. n ≡ parts.args_count (all_trees trees.now.items)) }
+{
+    match u32::try_from(trees.len()) {
+        Ok(n) => Ok(n),
+        Err(_) => Err(NoMemory),
+    }
+}
+
+// The last argument is pushed first.
+fn push_all(items: &mut Vec<Item>, mut trees: Vec<Tree>) -> Result<(), NoMemory>
+    ensures { OnOk result (all_items items.new.items ≡ all_items items.old.items ++ parts.pushes (all_trees trees.items) []) }
+{
+    while let Some(last) = trees.pop() {
+        put(items, Item::Push(last))?;
+    }
+    Ok(())
+}
+
+/// A call whose result is dropped.
+pub(crate) fn called_drop(f: u32, p: Passing) -> Result<Done, NoMemory>
+    ensures { IfOk result (λ r. done r ≡ parts.called_drop f (passing p)) }
+{
+    let count = args_count(&p.trees)?;
+    let mut items = p.items;
+    push_all(&mut items, p.trees)?;
+    put(&mut items, Item::Call(f, count))?;
+    Ok(Done {
+        items,
+        temps: p.temps,
+        labels: p.labels,
+    })
+}
+
+/// A call, whose result is saved directly behind it.
+pub(crate) fn called_low(f: u32, p: Passing) -> Result<Low, NoMemory>
+    ensures { IfOk result (λ r. low r ≡ parts.called_low f (passing p)) }
+{
+    let temps = after(p.temps)?;
+    let count = args_count(&p.trees)?;
+    let mut items = p.items;
+    push_all(&mut items, p.trees)?;
+    put(&mut items, Item::Call(f, count))?;
+    put(&mut items, Item::Save(p.temps))?;
+    Ok(Low {
+        items,
+        tree: Tree::Local(p.temps),
+        temps,
+        labels: p.labels,
+    })
+}
+
+/// An argument that is converted to its parameter's type, the first of these.
+pub(crate) fn passed_as(alloc: Global, to: &[CType], p: Low) -> Result<Low, NoMemory>
+    ensures { IfOk result (λ r. low r ≡ parts.over (parts.passed_as to.now) (low p)) }
+{
+    match to.first() {
+        None => Ok(p),
+        Some(t) => {
+            let tree = fitted(alloc, *t, p.tree)?;
+            Ok(Low {
+                items: p.items,
+                tree,
+                temps: p.temps,
+                labels: p.labels,
+            })
+        }
+    }
+}
+
+/// The types of the parameters behind the first.
+pub(crate) fn others(to: &[CType]) -> &[CType]
+    ensures { result.now ≡ parts.others to.now }
+{
+    match to.split_first() {
+        None => to,
+        Some((_, rest)) => rest,
+    }
+}
+
+/// No arguments.
+pub(crate) fn no_arguments(alloc: Global, t: u32, l: u32) -> Passing
+    ensures { passing result ≡ parts.no_arguments t l }
+{
+    Passing {
+        items: Vec::new(alloc),
+        trees: Vec::new(alloc),
+        is_quiet: true,
+        temps: t,
+        labels: l,
+    }
+}
+
+// Whether an argument is saved before those behind it are evaluated.
+fn must_pass(frame: Frame, w: &Tree, q: &Passing) -> bool
+    ensures { result ≡ parts.must_pass frame.locals frame.functions (tree w.now) (passing q.now) }
+{
+    !q.trees.is_empty() && !(w.is_stable(frame.locals) || q.is_quiet && !w.breaks())
+}
+
+/// One more argument in front.
+pub(crate) fn pass_on(frame: Frame, p: Low, q: Passing) -> Result<Passing, NoMemory>
+    ensures { IfOk result (λ r. passing r ≡ parts.pass_on frame.locals frame.functions (low p) (passing q)) }
+{
+    let is_saved = must_pass(frame, &p.tree, &q);
+    let is_quiet = p.items.is_empty() && q.is_quiet;
+    let temps = after_if(is_saved, q.temps)?;
+    let mut items = p.items;
+    let first = put_saved(&mut items, is_saved, q.temps, p.tree)?;
+    put_all(&mut items, q.items)?;
+    let mut trees = Vec::new(frame.alloc);
+    trees.push(first)?;
+    let mut rest = q.trees;
+    trees.append(&mut rest)?;
+    Ok(Passing {
+        items,
+        trees,
+        is_quiet,
+        temps,
+        labels: q.labels,
+    })
+}

@@ -1,0 +1,225 @@
+// Statements. Temporaries begin anew at each full expression.
+ghost use Rattle.std.specs.Prelude.{◌≡◌, IfOk, map};
+ghost use Rattle.c_types.specs.Typed.{term};
+ghost use Rattle.c_program.specs.Statements.{act, acts, declaration, maybe_term};
+ghost use Rattle.c_lower_scheme.specs.Statements as statements;
+ghost use Rattle.c_lower_code.specs.Views.{done};
+
+use crate::expression::{branch, discard, value};
+use crate::flow::{
+    begin_of, do_done, ever_done, for_done, if_done, if_else_done, jump, ret_of, two_done,
+    while_done,
+};
+use crate::item::Item;
+use crate::mention::mentions;
+use crate::part::{Done, Frame, after, nothing, put};
+use crate::tree::Tree;
+use c_program::{Action, Declaration};
+use c_types::Expression;
+use gg_base::NoMemory;
+
+// A condition that falls through where it holds, and else goes to a label.
+fn unless(frame: Frame, c: &Expression, to: u32, l: u32) -> Result<Done, NoMemory>
+    ensures { IfOk result (λ r. done r ≡ statements.unless frame.locals frame.functions (term c.now) to l) }
+{
+    branch(frame, c, false, to, frame.locals, l)
+}
+
+// A condition that goes to a label where it holds.
+fn when(frame: Frame, c: &Expression, to: u32, l: u32) -> Result<Done, NoMemory>
+    ensures { IfOk result (λ r. done r ≡ statements.when frame.locals frame.functions (term c.now) to l) }
+{
+    branch(frame, c, true, to, frame.locals, l)
+}
+
+// What is evaluated for its effect, if there is something.
+fn effect(frame: Frame, e: &Option<Expression>, l: u32) -> Result<Done, NoMemory>
+    ensures { IfOk result (λ r. done r ≡ statements.effect frame.locals frame.functions (maybe_term e.now) l) }
+{
+    match e {
+        None => Ok(nothing(frame.alloc, frame.locals, l)),
+        Some(e) => discard(frame, e, frame.locals, l),
+    }
+}
+
+// A `return`.
+fn returning(frame: Frame, e: &Option<Expression>, l: u32) -> Result<Done, NoMemory>
+    ensures { IfOk result (λ r. done r ≡ statements.returning frame.locals frame.functions (maybe_term e.now) l) }
+{
+    match e {
+        None => {
+            let mut items = Vec::new(frame.alloc);
+            put(&mut items, Item::Return(Tree::Number(0)))?;
+            Ok(Done {
+                items,
+                temps: frame.locals,
+                labels: l,
+            })
+        }
+        Some(e) => ret_of(value(frame, e, frame.locals, l)?),
+    }
+}
+
+// One declaration.
+fn one_declared(frame: Frame, d: &Declaration, l: u32) -> Result<Done, NoMemory>
+    ensures { IfOk result (λ r. done r ≡ one_declared frame.locals frame.functions (declaration d.now) l) }
+{
+    match d {
+        Declaration::Keep(_) => Ok(nothing(frame.alloc, frame.locals, l)),
+        Declaration::Clear(n) => {
+            let mut items = Vec::new(frame.alloc);
+            put(&mut items, Item::AssignLocal(*n, Tree::Number(0)))?;
+            Ok(Done {
+                items,
+                temps: frame.locals,
+                labels: l,
+            })
+        }
+        Declaration::Begin(n, e) => begin_of(
+            frame.alloc,
+            mentions(*n, e),
+            *n,
+            value(frame, e, frame.locals, l)?,
+        ),
+    }
+}
+
+// Declarations, in order.
+#[tactic(auto, using(crate::proofs::Rows::declare_begins, crate::proofs::Rows::declare_goes, crate::proofs::Rows::nothing_behind))]
+fn declare(frame: Frame, ds: &[Declaration], l: u32) -> Result<Done, NoMemory>
+    ensures { IfOk result (λ r. done r ≡ statements.declare frame.locals frame.functions (map declaration ds.now) l) }
+{
+    let mut whole = nothing(frame.alloc, frame.locals, l);
+    for d in ds {
+        let one = one_declared(frame, d, whole.labels)?;
+        whole = two_done(whole, one)?;
+    }
+    Ok(whole)
+}
+
+// The body and the step of a `for`, behind what is done first.
+#[cycle(statement)]
+fn for_of(
+    frame: Frame,
+    l: u32,
+    c: &Option<Expression>,
+    e: &Option<Expression>,
+    body: &Action,
+) -> Result<Done, NoMemory>
+    ensures { IfOk result (λ r. done r ≡ statements.for_of frame.locals frame.functions l (maybe_term c.now) (maybe_term e.now) (statements.lower frame.locals frame.functions (act body.now) (suc (suc l)) (suc l))) }
+{
+    let onward = after(l)?;
+    let end = after(onward)?;
+    let inner = after(end)?;
+    match c {
+        None => {
+            let a = statement(frame, body, end, onward, inner)?;
+            let s = effect(frame, e, a.labels)?;
+            ever_done(frame.alloc, l, a, s)
+        }
+        Some(c) => {
+            let p = unless(frame, c, end, inner)?;
+            let a = statement(frame, body, end, onward, p.labels)?;
+            let s = effect(frame, e, a.labels)?;
+            for_done(frame.alloc, l, p, a, s)
+        }
+    }
+}
+
+// A `while`.
+#[cycle(statement)]
+fn while_of(frame: Frame, body: &Action, c: &Expression, l: u32) -> Result<Done, NoMemory>
+    ensures { IfOk result (λ r. done r ≡ statements.lower frame.locals frame.functions (WhileOf (term c.now) (act body.now)) 0 0 l) }
+{
+    let end = after(l)?;
+    let p = unless(frame, c, end, after(end)?)?;
+    let a = statement(frame, body, end, l, p.labels)?;
+    while_done(frame.alloc, l, p, a)
+}
+
+// A `do`.
+#[cycle(statement)]
+fn do_of(frame: Frame, body: &Action, c: &Expression, l: u32) -> Result<Done, NoMemory>
+    ensures { IfOk result (λ r. done r ≡ statements.lower frame.locals frame.functions (DoOf (act body.now) (term c.now)) 0 0 l) }
+{
+    let onward = after(l)?;
+    let end = after(onward)?;
+    let a = statement(frame, body, end, onward, after(end)?)?;
+    let p = when(frame, c, l, a.labels)?;
+    do_done(frame.alloc, l, a, p)
+}
+
+// An `if` without an `else`.
+#[cycle(statement)]
+fn if_of(
+    frame: Frame,
+    a: &Action,
+    c: &Expression,
+    broken: u32,
+    onward: u32,
+    l: u32,
+) -> Result<Done, NoMemory>
+    ensures { IfOk result (λ r. done r ≡ statements.lower frame.locals frame.functions (IfOf (term c.now) (act a.now)) broken onward l) }
+{
+    let p = unless(frame, c, l, after(l)?)?;
+    let a = statement(frame, a, broken, onward, p.labels)?;
+    if_done(l, p, a)
+}
+
+/// A statement, whose `break` and `continue` go to two labels, from the first free label on.
+#[cycle(statement)]
+pub(crate) fn statement(
+    frame: Frame,
+    a: &Action,
+    broken: u32,
+    onward: u32,
+    l: u32,
+) -> Result<Done, NoMemory>
+    ensures { IfOk result (λ r. done r ≡ statements.lower frame.locals frame.functions (act a.now) broken onward l) }
+{
+    match a {
+        Action::Declare(ds) => declare(frame, ds, l),
+        Action::Block(all) => row(frame, all, broken, onward, l),
+        Action::Evaluate(e) => discard(frame, e, frame.locals, l),
+        Action::Break => jump(frame, broken, l),
+        Action::Continue => jump(frame, onward, l),
+        Action::Return(e) => returning(frame, e, l),
+        Action::If(c, a) => if_of(frame, a, c, broken, onward, l),
+        Action::IfElse(c, a, b) => {
+            let p = unless(frame, c, l, after(after(l)?)?)?;
+            let q = statement(frame, a, broken, onward, p.labels)?;
+            let r = statement(frame, b, broken, onward, q.labels)?;
+            if_else_done(l, p, q, r)
+        }
+        Action::While(c, a) => while_of(frame, a, c, l),
+        Action::Do(a, c) => do_of(frame, a, c, l),
+        Action::For(i, c, e, a) => {
+            let p = effect(frame, i, l)?;
+            let q = for_of(frame, p.labels, c, e, a)?;
+            two_done(p, q)
+        }
+    }
+}
+
+/// Statements, in order.
+#[cycle(statement)]
+pub(crate) fn row(
+    frame: Frame,
+    all: &[Action],
+    broken: u32,
+    onward: u32,
+    l: u32,
+) -> Result<Done, NoMemory>
+    ensures { IfOk result (λ r. done r ≡ statements.lower_row frame.locals frame.functions (acts all.now) broken onward l) }
+{
+    let mut whole = nothing(frame.alloc, frame.locals, l);
+    for a in all {
+        let one = statement(frame, a, broken, onward, whole.labels)?;
+        whole = two_done(whole, one)?;
+    }
+    Ok(whole)
+}
+
+ghost use Rattle.std.specs.Prelude.{suc};
+ghost use Rattle.c_program.specs.Statements.{WhileOf, DoOf, IfOf};
+ghost use Rattle.c_lower_code.specs.Declarations.{one_declared};

@@ -1,0 +1,416 @@
+-- Each label stands once in a function, so each jump goes where it is to.
+use Rattle.std.proofs.Common.{◌≡◌, ℕ, zero, suc, ◌+◌, ◌≤◌, ◌<◌, List, [], ◌∷◌, ◌++◌, length, Option, Some, None, refl, ap, arith, sym, ◌∙◌, subst, append_assoc, ◌⊎◌, inl, inr, ⊎_elim}
+use Rattle.std.specs.Prelude.{Bool, true, false, not, ◌==◌, cond, slice_get}
+use Rattle.std.proofs.lemmas.Bool.{cases_lt, cases_eq, eq-eqb, ne_eqb}
+use Rattle.tree_core.specs.declared.program.TreeFn.{TreeFn}
+use Rattle.tree_meaning.specs.State.{behind}
+use Rattle.c_types.specs.declared.types.CType.{CType}
+use Rattle.c_types.specs.declared.types.Integer.{Integer}
+use Rattle.c_types.specs.declared.types.Integer.TheVariants as ints
+use Rattle.c_types.specs.declared.typed.UnaryOperator.{UnaryOperator}
+use Rattle.c_types.specs.declared.typed.UnaryOperator.TheVariants as unaries
+use Rattle.c_types.specs.declared.typed.Moment.{Moment}
+use Rattle.c_types.specs.declared.typed.Moment.TheVariants as moments
+use Rattle.c_types.specs.declared.typed.Direction.{Direction}
+use Rattle.c_types.specs.Constants.{scale}
+use Rattle.c_types.specs.Typed.{PlaceTerm, VariableAt, PointedBy, ElementBy, Term, Constant, LiteralAt, ArrayAt, ReadOf, SizeofTerm, SizeOf, AddressOf, CallOf, StepOf, UnaryOf, CastTo, ConvertTo, ArithmeticOf, CompareOf, BothOf, EitherOf, AdvanceOf, AdvanceByOf, RetreatOf, DistanceOf, ChoiceOf, AssignTo, ArithmeticAssignTo, AdvanceAssignTo, RetreatAssignTo, CommaOf, Terms, NoTerms, MoreTerms}
+use Rattle.c_program.specs.Statements.{ADeclaration, KeepOf, ClearOf, BeginOf, Act, Acts, NoActs, MoreActs, DeclareOf, BlockOf, EvaluateOf, BreakOf, ContinueOf, ReturnOf, IfOf, IfElseOf, WhileOf, DoOf, ForOf}
+use Rattle.c_program.specs.Programs.{ARoutine}
+use Rattle.c_lower_scheme.specs.Trees.{Tree, Num, Loc, Neg, Com, Bin, Item, Label, AssignLoc, AssignArg, AssignMem, Cbr, Jump, Push, Call, Save, Ret, breaks}
+use Rattle.c_lower_scheme.specs.Spelling.{spelled, spelled_all}
+use Rattle.c_lower_scheme.specs.Expressions
+use Rattle.c_lower_scheme.specs.Statements
+use Rattle.c_lower_scheme.specs.Programs.{body_of, items_of, function_of, lower_all}
+use Rattle.c_lower_follows.proofs.Steps.{Resolves, Goes}
+use Rattle.c_lower_follows.proofs.Calling.{CodeOf}
+
+abbrev one_if : Bool → ℕ
+one_if true = 1
+one_if false = 0
+
+-- whether an item is a label, as a number
+abbrev tag : Item → ℕ → ℕ
+tag (Label l) m = one_if (l == m)
+tag (AssignLoc n w) m = 0
+tag (AssignArg n w) m = 0
+tag (AssignMem i a w) m = 0
+tag (Cbr r l a b) m = 0
+tag (Jump l) m = 0
+tag (Push w) m = 0
+tag (Call f n) m = 0
+tag (Save n) m = 0
+tag (Ret w) m = 0
+
+-- how often a label stands among items
+abbrev stands : ℕ → List Item → ℕ
+stands m [] = 0
+stands m (i ∷ is) = tag i m + stands m is
+
+stands_append : (m : ℕ) (a b : List Item) → stands m (a ++ b) ≡ stands m a + stands m b
+stands_append m [] b = omega arith
+stands_append m (i ∷ a) b = let h = stands_append m a b in omega arith
+
+same_tag : (l : ℕ) → one_if (l == l) ≡ 1
+same_tag l = ap one_if (eq-eqb l l refl)
+
+-- the items behind a label that stands once
+passes : (i : Item) (is : List Item) (l : ℕ) → tag i l ≡ 0 → behind (spelled i ∷ spelled_all is) l ≡ behind (spelled_all is) l
+passes (Label k) is l z = ⊎_elim (λ e. absurd (let one : one_if (k == l) ≡ 1 = ap one_if (eq-eqb k l e) in omega (arith, one, z))) (λ ne. ap (λ b. cond b (spelled_all is) (behind (spelled_all is) l)) (ne_eqb k l ne)) (cases_eq k l)
+passes (AssignLoc n w) is l z = refl
+passes (AssignArg n w) is l z = refl
+passes (AssignMem i a w) is l z = mem i
+  where
+    mem : (i : Integer) → behind (spelled (AssignMem i a w) ∷ spelled_all is) l ≡ behind (spelled_all is) l
+    mem ints.Char = refl
+    mem ints.UnsignedChar = refl
+    mem ints.Short = refl
+    mem ints.UnsignedShort = refl
+    mem ints.Int = refl
+passes (Cbr r k a b) is l z = refl
+passes (Jump k) is l z = refl
+passes (Push w) is l z = refl
+passes (Call f n) is l z = refl
+passes (Save n) is l z = refl
+passes (Ret w) is l z = refl
+
+behind_at : (pre is : List Item) (l : ℕ) → stands l pre ≡ 0 → behind (spelled_all (pre ++ (Label l ∷ is))) l ≡ spelled_all is
+behind_at [] is l z = ap (λ b. cond b (spelled_all is) (behind (spelled_all is) l)) (eq-eqb l l refl)
+behind_at (i ∷ pre) is l z = passes i (pre ++ (Label l ∷ is)) l (omega arith) ∙ behind_at pre is l (omega arith)
+
+goes_at : (whole pre is : List Item) (i : Item) → whole ≡ pre ++ (i ∷ is) → ((m : ℕ) → stands m whole ≤ 1) → Goes (spelled_all whole) is i
+goes_at whole pre is (Label l) e once =
+    let one = same_tag l in
+    let sum : stands l whole ≡ stands l pre + stands l (Label l ∷ is) = ap (stands l) e ∙ stands_append l pre (Label l ∷ is) in
+    let none : stands l pre ≡ 0 = omega (arith, once l) in
+    ap (λ w. behind (spelled_all w) l) e ∙ behind_at pre is l none
+goes_at whole pre is (AssignLoc n w) e once = tt
+goes_at whole pre is (AssignArg n w) e once = tt
+goes_at whole pre is (AssignMem i a w) e once = tt
+goes_at whole pre is (Cbr r l a b) e once = tt
+goes_at whole pre is (Jump l) e once = tt
+goes_at whole pre is (Push w) e once = tt
+goes_at whole pre is (Call f n) e once = tt
+goes_at whole pre is (Save n) e once = tt
+goes_at whole pre is (Ret w) e once = tt
+
+pub resolves_from : (whole pre is : List Item) → whole ≡ pre ++ is → ((m : ℕ) → stands m whole ≤ 1) → Resolves (spelled_all whole) is
+resolves_from whole pre [] e once = tt
+resolves_from whole pre (i ∷ is) e once = (goes_at whole pre is i e once, resolves_from whole (pre ++ (i ∷ [])) is (e ∙ sym (append_assoc pre (i ∷ []) is)) once)
+
+-- each label of the items is from l up to u, and stands once
+pub record Once (l u : ℕ) (is : List Item) : Type 0 where
+  pub grows : l ≤ u
+  pub once : (m : ℕ) → stands m is ≤ 1
+  pub inside : (m : ℕ) → (m < l) ⊎ (u ≤ m) → stands m is ≡ 0
+
+once_nil : (l : ℕ) → Once l l []
+once_nil l = record { grows = omega arith; once = λ m. omega arith; inside = λ m o. refl }
+
+once_same : (l u : ℕ) (is js : List Item) → Once l u is → ((m : ℕ) → stands m js ≡ stands m is) → Once l u js
+once_same l u is js h e = record { grows = h.grows; once = λ m. omega (arith, e m, h.once m); inside = λ m o. e m ∙ h.inside m o }
+
+once_append : (l u w : ℕ) (a b : List Item) → Once l u a → Once u w b → Once l w (a ++ b)
+once_append l u w a b h g = record {
+  grows = omega (arith, h.grows, g.grows);
+  once = λ m. ⊎_elim (λ lt. omega (arith, stands_append m a b, h.once m, g.inside m (inl lt))) (λ ge. omega (arith, stands_append m a b, g.once m, h.inside m (inr ge))) (cases_lt m u);
+  inside = λ m o. ⊎_elim (λ lt. omega (arith, stands_append m a b, h.inside m (inl lt), g.inside m (inl (omega (arith, h.grows))))) (λ ge. omega (arith, stands_append m a b, g.inside m (inr ge), h.inside m (inr (omega (arith, g.grows))))) o;
+}
+
+tag_by : (l m : ℕ) → ((l ≡ m) × (one_if (l == m) ≡ 1)) ⊎ ((l ≡ m → ⊥) × (one_if (l == m) ≡ 0))
+tag_by l m = ⊎_elim (λ e. inl (e, ap one_if (eq-eqb l m e))) (λ n. inr (n, ap one_if (ne_eqb l m n))) (cases_eq l m)
+
+-- one label below the others, anywhere
+once_count : (l u : ℕ) (is js : List Item) → Once (suc l) u is → ((m : ℕ) → stands m js ≡ one_if (l == m) + stands m is) → Once l u js
+once_count l u is js h e = record {
+  grows = omega (arith, h.grows);
+  once = λ m. ⊎_elim (λ y. let s = y.0 in omega (arith, e m, y.1, h.inside m (inl (omega arith)))) (λ n. omega (arith, e m, n.1, h.once m)) (tag_by l m);
+  inside = λ m o. ⊎_elim (λ y. let s = y.0 in absurd (⊎_elim (λ lt. omega arith) (λ ge. omega (arith, h.grows)) o)) (λ n. let ne = n.0 in omega (arith, e m, n.1, h.inside m (⊎_elim (λ lt. inl (omega arith)) (λ ge. inr ge) o))) (tag_by l m);
+}
+
+-- items with no label
+once_plain : (l u : ℕ) (is js : List Item) → Once l u is → ((m : ℕ) → stands m js ≡ 0) → Once l u (is ++ js)
+once_plain l u is js h z = once_same l u is (is ++ js) h (λ m. omega (arith, stands_append m is js, z m))
+
+once_front : (l u : ℕ) (js is : List Item) → ((m : ℕ) → stands m js ≡ 0) → Once l u is → Once l u (js ++ is)
+once_front l u js is z h = once_same l u is (js ++ is) h (λ m. omega (arith, stands_append m js is, z m))
+
+once_wider : (l k u : ℕ) (is : List Item) → l ≤ k → Once k u is → Once l u is
+once_wider l k u is le h = record { grows = omega (arith, h.grows); once = h.once; inside = λ m o. h.inside m (⊎_elim (λ lt. inl (omega arith)) (λ ge. inr ge) o) }
+
+once_empty : (l u : ℕ) → l ≤ u → Once l u []
+once_empty l u le = record { grows = le; once = λ m. omega arith; inside = λ m o. refl }
+
+none_saving : (b : Bool) (u : ℕ) (w : Tree) (m : ℕ) → stands m (Expressions.saving b u w) ≡ 0
+none_saving true u w m = refl
+none_saving false u w m = refl
+
+none_holding : (b : Bool) (u : ℕ) (s : Expressions.Where) (m : ℕ) → stands m (Expressions.holding b u s) ≡ 0
+none_holding b u (Expressions.InLoc n) m = refl
+none_holding b u (Expressions.InArg n) m = refl
+none_holding b u (Expressions.InMem a) m = none_saving b u a m
+
+none_assign : (ty : CType) (s : Expressions.Where) (w : Tree) (m : ℕ) → tag (Expressions.assign_to ty s w) m ≡ 0
+none_assign ty (Expressions.InLoc n) w m = refl
+none_assign ty (Expressions.InArg n) w m = refl
+none_assign ty (Expressions.InMem a) w m = refl
+
+stands_pushes : (m : ℕ) (ws : List Tree) (is : List Item) → stands m (Expressions.pushes ws is) ≡ stands m is
+stands_pushes m [] is = refl
+stands_pushes m (w ∷ ws) is = let h = stands_pushes m ws (Push w ∷ is) in omega arith
+
+-- in each of the three ways
+pub record OnceWay (w : Expressions.Way) : Type 0 where
+  pub low : (t l : ℕ) → Once l (w.low t l).labels (w.low t l).items
+  pub branch : (sense : Bool) (to t l : ℕ) → Once l (w.branch sense to t l).labels (w.branch sense to t l).items
+  pub drop : (t l : ℕ) → Once l (w.drop t l).labels (w.drop t l).items
+
+once_valued : (f : ℕ → ℕ → Expressions.Low) → ((t l : ℕ) → Once l (f t l).labels (f t l).items) → OnceWay (Expressions.valued f)
+once_valued f h = record {
+  low = h;
+  branch = λ sense to t l. once_plain l (f t l).labels (f t l).items _ (h t l) (λ m. refl);
+  drop = λ t l. once_plain l (f t l).labels (f t l).items _ (h t l) (none_saving (breaks (f t l).tree) (f t l).temps (f t l).tree);
+}
+
+once_effective : (f : ℕ → ℕ → Expressions.Low) (g : ℕ → ℕ → Expressions.Done) → ((t l : ℕ) → Once l (f t l).labels (f t l).items) → ((t l : ℕ) → Once l (g t l).labels (g t l).items) → OnceWay (Expressions.effective f g)
+once_effective f g h h' = record {
+  low = h;
+  branch = λ sense to t l. once_plain l (f t l).labels (f t l).items _ (h t l) (λ m. refl);
+  drop = h';
+}
+
+once_conditional : (f : Bool → ℕ → ℕ → ℕ → Expressions.Done) (g : ℕ → ℕ → Expressions.Done) → ((sense : Bool) (to t l : ℕ) → Once l (f sense to t l).labels (f sense to t l).items) → ((t l : ℕ) → Once l (g t l).labels (g t l).items) → OnceWay (Expressions.conditional f g)
+once_conditional f g h h' = record {
+  low = λ t l. let b = f false l (suc t) (suc l) in once_count l b.labels b.items _ (h false l (suc t) (suc l)) (λ m. omega (arith, stands_append m b.items (AssignLoc t (Num 1) ∷ Label l ∷ [])));
+  branch = h;
+  drop = h';
+}
+
+once_two : (u : ℕ) (b : Bool) (w : Tree) (l p q : ℕ) (a c : List Item) → Once l p a → Once p q c → Once l q (a ++ (Expressions.saving b u w ++ c))
+once_two u b w l p q a c h g = once_append l p q a (Expressions.saving b u w ++ c) h (once_front p q (Expressions.saving b u w) c (none_saving b u w) g)
+
+once_inner : (l p q : ℕ) (a c : List Item) → Once (suc l) p a → Once p q c → Once l q (a ++ (c ++ (Label l ∷ [])))
+once_inner l p q a c h g = once_count l q (a ++ c) (a ++ (c ++ (Label l ∷ []))) (once_append (suc l) p q a c h g) (λ m. omega (arith, stands_append m a (c ++ (Label l ∷ [])), stands_append m c (Label l ∷ []), stands_append m a c))
+
+once_direct : (l p q : ℕ) (a c : List Item) → Once (suc l) p a → Once p q c → Once l q (a ++ c)
+once_direct l p q a c h g = once_wider l (suc l) q (a ++ c) (omega arith) (once_append (suc l) p q a c h g)
+
+once_chain : (stop sense : Bool) (a b : Expressions.Way) (to t l : ℕ) → OnceWay a → OnceWay b → Once l (Expressions.chain stop a b sense to t l).labels (Expressions.chain stop a b sense to t l).items
+once_chain true true a b to t l h g = once_direct l _ _ _ _ (h.branch true to t (suc l)) (g.branch true to (a.branch true to t (suc l)).temps (a.branch true to t (suc l)).labels)
+once_chain true false a b to t l h g = once_inner l _ _ _ _ (h.branch true l t (suc l)) (g.branch false to (a.branch true l t (suc l)).temps (a.branch true l t (suc l)).labels)
+once_chain false true a b to t l h g = once_inner l _ _ _ _ (h.branch false l t (suc l)) (g.branch true to (a.branch false l t (suc l)).temps (a.branch false l t (suc l)).labels)
+once_chain false false a b to t l h g = once_direct l _ _ _ _ (h.branch false to t (suc l)) (g.branch false to (a.branch false to t (suc l)).temps (a.branch false to t (suc l)).labels)
+
+once_drops : (a b : Expressions.Way) (t l : ℕ) → OnceWay a → OnceWay b → Once l (Expressions.drop_two a b t l).labels (Expressions.drop_two a b t l).items
+once_drops a b t l h g = once_append l _ _ _ _ (h.drop t l) (g.drop (a.drop t l).temps (a.drop t l).labels)
+
+-- a part, a jump over the other part, and that part
+once_fork : (l p q r : ℕ) (a b c b1 c1 : List Item) → ((m : ℕ) → stands m b1 ≡ 0) → ((m : ℕ) → stands m c1 ≡ 0) → Once (suc (suc l)) p a → Once p q b → Once q r c → Once l r (a ++ (b ++ (b1 ++ (Jump (suc l) ∷ Label l ∷ (c ++ (c1 ++ (Label (suc l) ∷ [])))))))
+once_fork l p q r a b c b1 c1 z z' h f g =
+    let T3 : List Item = c1 ++ (Label (suc l) ∷ []) in
+    let T2 : List Item = Jump (suc l) ∷ Label l ∷ (c ++ T3) in
+    let T1 : List Item = b ++ (b1 ++ T2) in
+    let inner : List Item = a ++ (b ++ c) in
+    let all = once_append (suc (suc l)) p r a (b ++ c) h (once_append p q r b c f g) in
+    let one = once_count (suc l) r inner (Label (suc l) ∷ inner) all (λ m. refl) in
+    once_count l r (Label (suc l) ∷ inner) (a ++ T1) one
+    (λ m. omega (arith, stands_append m a T1, stands_append m b (b1 ++ T2), stands_append m b1 T2, stands_append m c T3, stands_append m c1 (Label (suc l) ∷ []), stands_append m a (b ++ c), stands_append m b c, z m, z' m))
+
+once_choose : (c a b : Expressions.Way) → OnceWay c → OnceWay a → OnceWay b → OnceWay (Expressions.choose c a b)
+once_choose c a b h f g = once_effective _ _
+    (λ t l.
+    let p = c.branch false l (suc t) (suc (suc l)) in
+    let q = a.low p.temps p.labels in
+    let r = b.low q.temps q.labels in
+    once_fork l p.labels q.labels r.labels p.items q.items r.items (AssignLoc t q.tree ∷ []) (AssignLoc t r.tree ∷ []) (λ m. refl) (λ m. refl) (h.branch false l (suc t) (suc (suc l))) (f.low p.temps p.labels) (g.low q.temps q.labels))
+    (λ t l.
+    let p = c.branch false l t (suc (suc l)) in
+    let q = a.drop p.temps p.labels in
+    let r = b.drop q.temps q.labels in
+    once_fork l p.labels q.labels r.labels p.items q.items r.items [] [] (λ m. refl) (λ m. refl) (h.branch false l t (suc (suc l))) (f.drop p.temps p.labels) (g.drop q.temps q.labels))
+
+once_store_low : (s : Expressions.Where) (r : Expressions.Ready) (l : ℕ) → Once l r.labels r.items → Once l (Expressions.store_low_at s r).labels (Expressions.store_low_at s r).items
+once_store_low (Expressions.InLoc n) r l h = once_plain l r.labels r.items _ h (λ m. refl)
+once_store_low (Expressions.InArg n) r l h = once_plain l r.labels r.items _ h (λ m. refl)
+once_store_low (Expressions.InMem a) r l h = once_plain l r.labels r.items _ h (λ m. refl)
+
+once_store_drop : (r : Expressions.Ready) (l : ℕ) → Once l r.labels r.items → Once l (Expressions.store_drop r).labels (Expressions.store_drop r).items
+once_store_drop r l h = once_plain l r.labels r.items _ h (λ m. omega (arith, none_assign r.type r.place r.value m))
+
+once_ready : (b : Bool) (u : ℕ) (s : Expressions.Where) (l p q : ℕ) (a c : List Item) → Once l p a → Once p q c → Once l q (a ++ (Expressions.holding b u s ++ c))
+once_ready b u s l p q a c h g = once_append l p q a _ h (once_front p q (Expressions.holding b u s) c (none_holding b u s) g)
+
+once_update : (b : Bool) (u : ℕ) (s : Expressions.Where) (c : Bool) (v : ℕ) (w : Tree) (l p q : ℕ) (a d : List Item) → Once l p a → Once p q d → Once l q (a ++ (Expressions.holding b u s ++ (Expressions.saving c v w ++ d)))
+once_update b u s c v w l p q a d h g = once_ready b u s l p q a (Expressions.saving c v w ++ d) h (once_front p q (Expressions.saving c v w) d (none_saving c v w) g)
+
+once_post : (b : Bool) (u : ℕ) (s : Expressions.Where) (n : ℕ) (w : Tree) (ty : CType) (s' : Expressions.Where) (w' : Tree) (l p : ℕ) (a : List Item) → Once l p a → Once l p (a ++ (Expressions.holding b u s ++ (AssignLoc n w ∷ Expressions.assign_to ty s' w' ∷ [])))
+once_post b u s n w ty s' w' l p a h = once_plain l p a _ h (λ m. omega (arith, stands_append m (Expressions.holding b u s) (AssignLoc n w ∷ Expressions.assign_to ty s' w' ∷ []), none_holding b u s m, none_assign ty s' w' m))
+
+once_call : (f : ℕ) (q : Expressions.Passing) (l : ℕ) → Once l q.labels q.items → Once l (Expressions.called_low f q).labels (Expressions.called_low f q).items
+once_call f q l h = once_plain l q.labels q.items _ h (λ m. stands_pushes m q.trees _)
+
+once_call_drop : (f : ℕ) (q : Expressions.Passing) (l : ℕ) → Once l q.labels q.items → Once l (Expressions.called_drop f q).labels (Expressions.called_drop f q).items
+once_call_drop f q l h = once_plain l q.labels q.items _ h (λ m. stands_pushes m q.trees _)
+
+module _ (size count : ℕ) where
+  once_joined : (a b : Expressions.Way) (t l : ℕ) → OnceWay a → OnceWay b → Once l (Expressions.joined size count a b t l).labels (Expressions.joined size count a b t l).items
+  once_joined a b t l h g = once_two _ _ _ l (a.low t l).labels _ _ _ (h.low t l) (g.low (a.low t l).temps (a.low t l).labels)
+
+  once_binary : (f : Tree → Tree → Tree) (a b : Expressions.Way) → OnceWay a → OnceWay b → OnceWay (Expressions.binary size count f a b)
+  once_binary f a b h g = once_valued _ (λ t l. once_joined a b t l h g)
+
+  once_mapped : (f : Tree → Tree) (e : Expressions.Way) → OnceWay e → OnceWay (Expressions.mapped f e)
+  once_mapped f e h = once_effective _ _ (λ t l. h.low t l) h.drop
+
+  once_unary : (op : UnaryOperator) (e : Expressions.Way) → OnceWay e → OnceWay (Expressions.unary size count op e)
+  once_unary unaries.Plus e h = once_mapped (λ w. w) e h
+  once_unary unaries.Minus e h = once_mapped Neg e h
+  once_unary unaries.Complement e h = once_mapped Com e h
+  once_unary unaries.Not e h = once_conditional _ e.drop (λ sense to t l. h.branch (not sense) to t l) h.drop
+
+  once_updates : (f : CType → Tree → Tree → Tree) (p : ℕ → ℕ → Expressions.Found) (e : Expressions.Way) → ((t l : ℕ) → Once l (p t l).labels (p t l).items) → OnceWay e → OnceWay (Expressions.update_by size count f p e)
+  once_updates f p e h g = once_effective _ _
+      (λ t l. let r = Expressions.updated size count f (p t l) e.low in once_store_low r.place r l (once_update _ _ _ _ _ _ l (p t l).labels _ _ _ (h t l) (g.low (p t l).temps (p t l).labels)))
+      (λ t l. let r = Expressions.updated size count f (p t l) e.low in once_store_drop r l (once_update _ _ _ _ _ _ l (p t l).labels _ _ _ (h t l) (g.low (p t l).temps (p t l).labels)))
+
+  once_step : (m : Moment) (by : Direction) (p : Expressions.Found) (l : ℕ) → Once l p.labels p.items → Once l (Expressions.step_low size count m by p).labels (Expressions.step_low size count m by p).items
+  once_step moments.Before by p l h = once_post _ _ _ _ _ p.type _ (Expressions.step by (Loc (Expressions.next_if (Expressions.must_keep size count [] p.place) p.temps)) (Num (scale p.type))) l p.labels _ h
+  once_step moments.After by p l h = let r = Expressions.step_ready size count by p in once_store_low r.place r l (once_ready _ _ _ l p.labels p.labels _ [] h (once_nil p.labels))
+
+  mutual
+    pub once_seek : (a : PlaceTerm) (t l : ℕ) → Once l (Expressions.seek size count a t l).labels (Expressions.seek size count a t l).items
+    once_seek (VariableAt ty v) t l = once_nil l
+    once_seek (PointedBy ty e) t l = (once_way e).low t l
+    once_seek (ElementBy ty e) t l = (once_way e).low t l
+
+    pub once_way : (e : Term) → OnceWay (Expressions.way size count e)
+    once_way (Constant n) = once_valued _ (λ t l. once_nil l)
+    once_way (LiteralAt n bytes) = once_valued _ (λ t l. once_nil l)
+    once_way (ArrayAt ty v bytes) = once_valued _ (λ t l. once_nil l)
+    once_way (ReadOf a) = once_valued _ (λ t l. once_seek a t l)
+    once_way (SizeofTerm n e) = once_valued _ (λ t l. once_nil l)
+    once_way (SizeOf n) = once_valued _ (λ t l. once_nil l)
+    once_way (AddressOf ty a) = once_valued _ (λ t l. once_seek a t l)
+    once_way (CallOf ty f to es) = once_effective _ _ (λ t l. once_call _ (Expressions.pass size count es to t l) l (once_pass es to t l)) (λ t l. once_call_drop _ (Expressions.pass size count es to t l) l (once_pass es to t l))
+    once_way (StepOf m by a) = once_effective _ _ (λ t l. once_step m by (Expressions.seek size count a t l) l (once_seek a t l)) (λ t l. once_store_drop (Expressions.step_ready size count by (Expressions.seek size count a t l)) l (once_ready _ _ _ l (Expressions.seek size count a t l).labels (Expressions.seek size count a t l).labels _ [] (once_seek a t l) (once_nil (Expressions.seek size count a t l).labels)))
+    once_way (UnaryOf op e) = once_unary op _ (once_way e)
+    once_way (CastTo ty e) = once_mapped (Expressions.fitted ty) _ (once_way e)
+    once_way (ConvertTo ty e) = once_mapped (Expressions.fitted ty) _ (once_way e)
+    once_way (ArithmeticOf op a b) = once_binary (Bin op) _ _ (once_way a) (once_way b)
+    once_way (CompareOf r a b) = once_conditional _ _ (λ sense to t l. once_plain l _ _ _ (once_joined _ _ t l (once_way a) (once_way b)) (λ m. refl)) (λ t l. once_drops _ _ t l (once_way a) (once_way b))
+    once_way (BothOf a b) = once_conditional _ _ (λ sense to t l. once_chain false sense _ _ to t l (once_way a) (once_way b)) (λ t l. once_inner l _ _ _ _ ((once_way a).branch false l t (suc l)) ((once_way b).drop _ _))
+    once_way (EitherOf a b) = once_conditional _ _ (λ sense to t l. once_chain true sense _ _ to t l (once_way a) (once_way b)) (λ t l. once_inner l _ _ _ _ ((once_way a).branch true l t (suc l)) ((once_way b).drop _ _))
+    once_way (AdvanceOf ty a b) = once_binary (Expressions.advance ty) _ _ (once_way a) (once_way b)
+    once_way (AdvanceByOf ty a b) = once_binary (Expressions.advance_by ty) _ _ (once_way a) (once_way b)
+    once_way (RetreatOf ty a b) = once_binary (Expressions.retreat ty) _ _ (once_way a) (once_way b)
+    once_way (DistanceOf ty a b) = once_binary (Expressions.apart ty) _ _ (once_way a) (once_way b)
+    once_way (ChoiceOf ty c a b) = once_choose _ _ _ (once_way c) (once_way a) (once_way b)
+    once_way (AssignTo a e) = once_effective _ _
+        (λ t l. let q = Expressions.seek size count a t l in let r = Expressions.assigned size count true q (Expressions.way size count e).low in once_store_low r.place r l (once_ready _ _ _ l q.labels _ _ _ (once_seek a t l) ((once_way e).low q.temps q.labels)))
+        (λ t l. let q = Expressions.seek size count a t l in let r = Expressions.assigned size count false q (Expressions.way size count e).low in once_store_drop r l (once_ready _ _ _ l q.labels _ _ _ (once_seek a t l) ((once_way e).low q.temps q.labels)))
+    once_way (ArithmeticAssignTo op a e) = once_updates (λ ty. Bin op) (Expressions.seek size count a) _ (λ t l. once_seek a t l) (once_way e)
+    once_way (AdvanceAssignTo a e) = once_updates Expressions.advance (Expressions.seek size count a) _ (λ t l. once_seek a t l) (once_way e)
+    once_way (RetreatAssignTo a e) = once_updates Expressions.retreat (Expressions.seek size count a) _ (λ t l. once_seek a t l) (once_way e)
+    once_way (CommaOf ty a b) = record {
+      low = λ t l. once_append l _ _ _ _ ((once_way a).drop t l) ((once_way b).low _ _);
+      branch = λ sense to t l. once_append l _ _ _ _ ((once_way a).drop t l) ((once_way b).branch sense to _ _);
+      drop = λ t l. once_drops _ _ t l (once_way a) (once_way b);
+    }
+
+    pub once_pass : (es : Terms) (to : List CType) (t l : ℕ) → Once l (Expressions.pass size count es to t l).labels (Expressions.pass size count es to t l).items
+    once_pass NoTerms to t l = once_nil l
+    once_pass (MoreTerms e es) to t l = once_two _ _ _ l ((Expressions.way size count e).low t l).labels _ _ _ ((once_way e).low t l) (once_pass es (Expressions.others to) _ _)
+
+  once_effect : (e : Option Term) (l : ℕ) → Once l (Statements.effect size count e l).labels (Statements.effect size count e l).items
+  once_effect None l = once_nil l
+  once_effect (Some e) l = (once_way e).drop size l
+
+  once_returning : (e : Option Term) (l : ℕ) → Once l (Statements.returning size count e l).labels (Statements.returning size count e l).items
+  once_returning None l = once_same l l [] _ (once_nil l) (λ m. refl)
+  once_returning (Some e) l = once_plain l _ _ _ ((once_way e).low size l) (λ m. refl)
+
+  none_clearing : (b : Bool) (n m : ℕ) → stands m (Statements.clearing b n) ≡ 0
+  none_clearing true n m = refl
+  none_clearing false n m = refl
+
+  once_declare : (ds : List ADeclaration) (l : ℕ) → Once l (Statements.declare size count ds l).labels (Statements.declare size count ds l).items
+  once_declare [] l = once_nil l
+  once_declare (KeepOf object ∷ ds) l = once_declare ds l
+  once_declare (ClearOf n ∷ ds) l = once_front l _ (Statements.clearing true n) _ (none_clearing true n) (once_declare ds l)
+  once_declare (BeginOf n e ∷ ds) l =
+      let q = (Expressions.way size count e).low size l in
+      let b = Statements.mentions n e in
+      once_append l q.labels _ _ _ (once_front l q.labels (Statements.clearing b n) (q.items ++ (AssignLoc n q.tree ∷ [])) (none_clearing b n) (once_plain l q.labels q.items (AssignLoc n q.tree ∷ []) ((once_way e).low size l) (λ m. refl))) (once_declare ds q.labels)
+
+  once_while : (l p q : ℕ) (a b : List Item) → Once (suc (suc l)) p a → Once p q b → Once l q (Label l ∷ (a ++ (b ++ (Jump l ∷ Label (suc l) ∷ []))))
+  once_while l p q a b h g =
+      let T2 : List Item = Jump l ∷ Label (suc l) ∷ [] in
+      let T1 : List Item = b ++ T2 in
+      let inner : List Item = a ++ b in
+      let one = once_count (suc l) q inner (Label (suc l) ∷ inner) (once_append (suc (suc l)) p q a b h g) (λ m. refl) in
+      once_count l q (Label (suc l) ∷ inner) (Label l ∷ (a ++ T1)) one (λ m. omega (arith, stands_append m a T1, stands_append m b T2, stands_append m a b))
+
+  -- three labels: the top's, the one for `continue`, the end's
+  once_three : (l q : ℕ) (inner js : List Item) → Once (suc (suc (suc l))) q inner → ((m : ℕ) → stands m js ≡ one_if (l == m) + (one_if (suc l == m) + (one_if (suc (suc l) == m) + stands m inner))) → Once l q js
+  once_three l q inner js h e =
+      let one = once_count (suc (suc l)) q inner (Label (suc (suc l)) ∷ inner) h (λ m. refl) in
+      let two = once_count (suc l) q (Label (suc (suc l)) ∷ inner) (Label (suc l) ∷ Label (suc (suc l)) ∷ inner) one (λ m. refl) in
+      once_count l q (Label (suc l) ∷ Label (suc (suc l)) ∷ inner) js two e
+
+  once_do : (l p q : ℕ) (a b : List Item) → Once (suc (suc (suc l))) p a → Once p q b → Once l q (Jump l ∷ Label l ∷ (a ++ (Label (suc l) ∷ (b ++ (Label (suc (suc l)) ∷ [])))))
+  once_do l p q a b h g =
+      let T2 : List Item = Label (suc (suc l)) ∷ [] in
+      let T1 : List Item = Label (suc l) ∷ (b ++ T2) in
+      once_three l q (a ++ b) _ (once_append (suc (suc (suc l))) p q a b h g) (λ m. omega (arith, stands_append m a T1, stands_append m b T2, stands_append m a b))
+
+  once_ever : (l p q : ℕ) (a b : List Item) → Once (suc (suc (suc l))) p a → Once p q b → Once l q (Jump l ∷ Label l ∷ (a ++ (Label (suc l) ∷ (b ++ (Jump l ∷ Label (suc (suc l)) ∷ [])))))
+  once_ever l p q a b h g =
+      let T2 : List Item = Jump l ∷ Label (suc (suc l)) ∷ [] in
+      let T1 : List Item = Label (suc l) ∷ (b ++ T2) in
+      once_three l q (a ++ b) _ (once_append (suc (suc (suc l))) p q a b h g) (λ m. omega (arith, stands_append m a T1, stands_append m b T2, stands_append m a b))
+
+  once_for : (l p q r : ℕ) (a b c : List Item) → Once (suc (suc (suc l))) p a → Once p q b → Once q r c → Once l r (Label l ∷ (a ++ (b ++ (Label (suc l) ∷ (c ++ (Jump l ∷ Label (suc (suc l)) ∷ []))))))
+  once_for l p q r a b c h g f =
+      let T3 : List Item = Jump l ∷ Label (suc (suc l)) ∷ [] in
+      let T2 : List Item = Label (suc l) ∷ (c ++ T3) in
+      let T1 : List Item = b ++ T2 in
+      once_three l r (a ++ (b ++ c)) _ (once_append (suc (suc (suc l))) p r a (b ++ c) h (once_append p q r b c g f)) (λ m. omega (arith, stands_append m a T1, stands_append m b T2, stands_append m c T3, stands_append m a (b ++ c), stands_append m b c))
+
+  once_fors : (c e : Option Term) (l : ℕ) (f : ℕ → Expressions.Done) → ((m : ℕ) → Once m (f m).labels (f m).items) → Once l (Statements.for_of size count l c e f).labels (Statements.for_of size count l c e f).items
+  once_fors None e l f h = let b = f (suc (suc (suc l))) in once_ever l b.labels _ b.items _ (h (suc (suc (suc l)))) (once_effect e b.labels)
+  once_fors (Some c) e l f h =
+      let q = Statements.unless size count c (suc (suc l)) (suc (suc (suc l))) in
+      let b = f q.labels in
+      once_for l q.labels b.labels _ q.items b.items _ ((once_way c).branch false (suc (suc l)) size (suc (suc (suc l)))) (h q.labels) (once_effect e b.labels)
+
+  mutual
+    once_act : (a : Act) (lb lc l : ℕ) → Once l (Statements.lower size count a lb lc l).labels (Statements.lower size count a lb lc l).items
+    once_act (DeclareOf ds) lb lc l = once_declare ds l
+    once_act (BlockOf row) lb lc l = once_row row lb lc l
+    once_act (EvaluateOf e) lb lc l = (once_way e).drop size l
+    once_act BreakOf lb lc l = once_same l l [] _ (once_nil l) (λ m. refl)
+    once_act ContinueOf lb lc l = once_same l l [] _ (once_nil l) (λ m. refl)
+    once_act (ReturnOf e) lb lc l = once_returning e l
+    once_act (IfOf c a) lb lc l = let q = Statements.unless size count c l (suc l) in once_inner l q.labels _ q.items _ ((once_way c).branch false l size (suc l)) (once_act a lb lc q.labels)
+    once_act (IfElseOf c a b) lb lc l =
+        let q = Statements.unless size count c l (suc (suc l)) in
+        let x = Statements.lower size count a lb lc q.labels in
+        once_fork l q.labels x.labels _ q.items x.items _ [] [] (λ m. refl) (λ m. refl) ((once_way c).branch false l size (suc (suc l))) (once_act a lb lc q.labels) (once_act b lb lc x.labels)
+    once_act (WhileOf c a) lb lc l = let q = Statements.unless size count c (suc l) (suc (suc l)) in once_while l q.labels _ q.items _ ((once_way c).branch false (suc l) size (suc (suc l))) (once_act a (suc l) l q.labels)
+    once_act (DoOf a c) lb lc l = let x = Statements.lower size count a (suc (suc l)) (suc l) (suc (suc (suc l))) in once_do l x.labels _ x.items _ (once_act a (suc (suc l)) (suc l) (suc (suc (suc l)))) ((once_way c).branch true l size x.labels)
+    once_act (ForOf i c e a) lb lc l = let x = Statements.effect size count i l in once_append l x.labels _ x.items _ (once_effect i l) (once_fors c e x.labels (Statements.lower size count a (suc (suc x.labels)) (suc x.labels)) (λ m. once_act a (suc (suc x.labels)) (suc x.labels) m))
+
+    pub once_row : (row : Acts) (lb lc l : ℕ) → Once l (Statements.lower_row size count row lb lc l).labels (Statements.lower_row size count row lb lc l).items
+    once_row NoActs lb lc l = once_nil l
+    once_row (MoreActs a row) lb lc l = let x = Statements.lower size count a lb lc l in once_append l x.labels _ x.items _ (once_act a lb lc l) (once_row row lb lc x.labels)
+
+-- each function's code
+pub code_of : (count : ℕ) (g : ARoutine) (l : ℕ) → CodeOf count g (function_of g (body_of count g l)).items
+code_of count g l =
+    let q = body_of count g l in
+    let once = once_plain l q.labels q.items (Ret (Num 0) ∷ []) (once_row (length g.locals) count g.body 0 0 l) (λ m. refl) in
+    record { label = l; is = refl; resolves = resolves_from (items_of q) [] (items_of q) refl once.once }
+
+pub all_code : (count : ℕ) (gs : List ARoutine) (l f : ℕ) (g : ARoutine) → slice_get gs f ≡ Some g → (tf : TreeFn) × (slice_get (lower_all count gs l) f ≡ Some tf) × CodeOf count g tf.items
+all_code count [] l f g e = absurd (cc)
+all_code count (h ∷ gs) l zero g e = let same : h ≡ g = cc in (function_of h (body_of count h l), refl, subst (λ x. CodeOf count x (function_of h (body_of count h l)).items) same (code_of count h l))
+all_code count (h ∷ gs) l (suc f) g e = all_code count gs (body_of count h l).labels f g e

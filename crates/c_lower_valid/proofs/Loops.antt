@@ -1,0 +1,169 @@
+-- Labels among the items of statements: `break` and `continue` go out, unless a loop is around them.
+use Rattle.std.proofs.Common.{◌≡◌, ℕ, suc, ◌+◌, ◌<◌, List, [], ◌∷◌, ◌++◌, Option, Some, None, refl, arith}
+use Rattle.std.specs.Prelude.{Bool, true, false}
+use Rattle.c_types.specs.Typed.{Term}
+use Rattle.c_program.specs.Statements.{ADeclaration, KeepOf, ClearOf, BeginOf, Act, Acts, NoActs, MoreActs, DeclareOf, BlockOf, EvaluateOf, BreakOf, ContinueOf, ReturnOf, IfOf, IfElseOf, WhileOf, DoOf, ForOf}
+use Rattle.c_sound.specs.Fits.{behind_act, FitsAct, FitsActs}
+use Rattle.c_lower_scheme.specs.Trees.{Num, Item, Label, AssignLoc, Jump, Ret}
+use Rattle.c_lower_scheme.specs.Expressions
+use Rattle.c_lower_scheme.specs.Statements
+use Rattle.c_lower_valid.proofs.Marks.{at, stands, aims, stands_append, aims_append, nowhere, Marked, marked_nil, marked_out, marked_append, marked_same, marked_plain, marked_front, marked_count, IsMute, marked_inner, marked_fork}
+use Rattle.c_lower_valid.proofs.Labels.{marked_way}
+
+-- the labels to which `break` and `continue` go, in a loop
+abbrev pub leaving : Bool → ℕ → ℕ → ℕ → ℕ
+leaving true lb lc m = at lb m + at lc m
+leaving false lb lc m = 0
+
+marked_while : (out : ℕ → ℕ) (l p q : ℕ) (a b : List Item) → Marked (at (suc l)) (suc (suc l)) p a
+    → Marked (leaving true (suc l) l) p q b → Marked out l q (Label l ∷ (a ++ (b ++ (Jump l ∷ Label (suc l) ∷ []))))
+marked_while out l p q a b h g =
+    let T2 : List Item = Jump l ∷ Label (suc l) ∷ [] in
+    let T1 : List Item = b ++ T2 in
+    let both : ℕ → ℕ = leaving true (suc l) l in
+    let top : ℕ → ℕ = at l in
+    let inner : List Item = a ++ b in
+    let all = marked_append both (suc (suc l)) p q a b (marked_out (at (suc l)) both (suc (suc l)) p a (λ m. omega arith) h) g in
+    let one = marked_count top both (suc l) q inner (Label (suc l) ∷ inner) all (λ m. omega arith) (λ m. refl) (λ m lt. omega arith) in
+    marked_count out top l q (Label (suc l) ∷ inner) (Label l ∷ (a ++ T1)) one (λ m. omega arith)
+    (λ m. omega (arith, stands_append m a T1, stands_append m b T2, stands_append m a b))
+    (λ m lt. omega (arith, aims_append m a T1, aims_append m b T2, aims_append m a b))
+
+-- three labels: the top's, the one for `continue`, the end's
+abbrev three : ℕ → ℕ → ℕ
+three l m = at l m + (at (suc l) m + at (suc (suc l)) m)
+
+marked_three : (out : ℕ → ℕ) (l q : ℕ) (inner js : List Item) → Marked (three l) (suc (suc (suc l))) q inner
+    → ((m : ℕ) → stands m js ≡ at l m + (at (suc l) m + (at (suc (suc l)) m + stands m inner)))
+    → ((m : ℕ) → 0 < aims m js → 0 < at l m + aims m inner) → Marked out l q js
+marked_three out l q inner js h e k =
+    let top : ℕ → ℕ = at l in
+    let two : ℕ → ℕ = λ m. at l m + at (suc l) m in
+    let one = marked_count two (three l) (suc (suc l)) q inner (Label (suc (suc l)) ∷ inner) h (λ m. omega arith) (λ m. refl)
+    (λ m lt. omega arith) in
+    let next = marked_count top two (suc l) q (Label (suc (suc l)) ∷ inner) (Label (suc l) ∷ Label (suc (suc l)) ∷ inner) one
+    (λ m. omega arith) (λ m. refl) (λ m lt. omega arith) in
+    marked_count out top l q (Label (suc l) ∷ Label (suc (suc l)) ∷ inner) js next (λ m. omega arith) e (λ m lt. omega (arith, k m lt))
+
+marked_do : (out : ℕ → ℕ) (l p q : ℕ) (a b : List Item) → Marked (leaving true (suc (suc l)) (suc l)) (suc (suc (suc l))) p a
+    → Marked (at l) p q b → Marked out l q (Jump l ∷ Label l ∷ (a ++ (Label (suc l) ∷ (b ++ (Label (suc (suc l)) ∷ [])))))
+marked_do out l p q a b h g =
+    let T2 : List Item = Label (suc (suc l)) ∷ [] in
+    let T1 : List Item = Label (suc l) ∷ (b ++ T2) in
+    marked_three out l q (a ++ b) _ (marked_append (three l) (suc (suc (suc l))) p q a b
+    (marked_out _ (three l) (suc (suc (suc l))) p a (λ m. omega arith) h) (marked_out (at l) (three l) p q b (λ m. omega arith) g))
+    (λ m. omega (arith, stands_append m a T1, stands_append m b T2, stands_append m a b))
+    (λ m lt. omega (arith, aims_append m a T1, aims_append m b T2, aims_append m a b))
+
+marked_ever : (out : ℕ → ℕ) (l p q : ℕ) (a b : List Item) → Marked (leaving true (suc (suc l)) (suc l)) (suc (suc (suc l))) p a
+    → Marked nowhere p q b → Marked out l q (Jump l ∷ Label l ∷ (a ++ (Label (suc l) ∷ (b ++ (Jump l ∷ Label (suc (suc l)) ∷ [])))))
+marked_ever out l p q a b h g =
+    let T2 : List Item = Jump l ∷ Label (suc (suc l)) ∷ [] in
+    let T1 : List Item = Label (suc l) ∷ (b ++ T2) in
+    marked_three out l q (a ++ b) _ (marked_append (three l) (suc (suc (suc l))) p q a b
+    (marked_out _ (three l) (suc (suc (suc l))) p a (λ m. omega arith) h) (marked_out nowhere (three l) p q b (λ m. omega arith) g))
+    (λ m. omega (arith, stands_append m a T1, stands_append m b T2, stands_append m a b))
+    (λ m lt. omega (arith, aims_append m a T1, aims_append m b T2, aims_append m a b))
+
+marked_for : (out : ℕ → ℕ) (l p q r : ℕ) (a b c : List Item) → Marked (at (suc (suc l))) (suc (suc (suc l))) p a
+    → Marked (leaving true (suc (suc l)) (suc l)) p q b → Marked nowhere q r c
+    → Marked out l r (Label l ∷ (a ++ (b ++ (Label (suc l) ∷ (c ++ (Jump l ∷ Label (suc (suc l)) ∷ []))))))
+marked_for out l p q r a b c h g f =
+    let T3 : List Item = Jump l ∷ Label (suc (suc l)) ∷ [] in
+    let T2 : List Item = Label (suc l) ∷ (c ++ T3) in
+    let T1 : List Item = b ++ T2 in
+    marked_three out l r (a ++ (b ++ c)) _
+    (marked_append (three l) (suc (suc (suc l))) p r a (b ++ c) (marked_out _ (three l) (suc (suc (suc l))) p a (λ m. omega arith) h)
+    (marked_append (three l) p q r b c (marked_out _ (three l) p q b (λ m. omega arith) g)
+    (marked_out nowhere (three l) q r c (λ m. omega arith) f)))
+    (λ m. omega (arith, stands_append m a T1, stands_append m b T2, stands_append m c T3, stands_append m a (b ++ c), stands_append m b c))
+    (λ m lt. omega (arith, aims_append m a T1, aims_append m b T2, aims_append m c T3, aims_append m a (b ++ c), aims_append m b c))
+
+mute_clearing : (b : Bool) (n : ℕ) → IsMute (Statements.clearing b n)
+mute_clearing true n m = refl
+mute_clearing false n m = refl
+
+module _ (size count : ℕ) where
+  marked_effect : (e : Option Term) (l : ℕ) → Marked nowhere l (Statements.effect size count e l).labels
+      (Statements.effect size count e l).items
+  marked_effect None l = marked_nil nowhere l
+  marked_effect (Some e) l = (marked_way size count e).drop size l
+
+  marked_returning : (e : Option Term) (l : ℕ) → Marked nowhere l (Statements.returning size count e l).labels
+      (Statements.returning size count e l).items
+  marked_returning None l = marked_plain nowhere l l [] (Ret (Num 0) ∷ []) (marked_nil nowhere l) (λ m. refl)
+  marked_returning (Some e) l = marked_plain nowhere l _ _ _ ((marked_way size count e).low size l) (λ m. refl)
+
+  marked_declare : (ds : List ADeclaration) (l : ℕ)
+      → Marked nowhere l (Statements.declare size count ds l).labels (Statements.declare size count ds l).items
+  marked_declare [] l = marked_nil nowhere l
+  marked_declare (KeepOf object ∷ ds) l = marked_declare ds l
+  marked_declare (ClearOf n ∷ ds) l = marked_front nowhere l _ (Statements.clearing true n) _ (mute_clearing true n) (marked_declare ds l)
+  marked_declare (BeginOf n e ∷ ds) l =
+      let q = (Expressions.way size count e).low size l in
+      let b = Statements.mentions n e in
+      marked_append nowhere l q.labels _ _ _ (marked_front nowhere l q.labels (Statements.clearing b n)
+      (q.items ++ (AssignLoc n q.tree ∷ [])) (mute_clearing b n)
+      (marked_plain nowhere l q.labels q.items (AssignLoc n q.tree ∷ []) ((marked_way size count e).low size l) (λ m. refl)))
+      (marked_declare ds q.labels)
+
+  marked_for_of : (out : ℕ → ℕ) (c e : Option Term) (l : ℕ) (f : ℕ → Expressions.Done)
+      → ((m : ℕ) → Marked (leaving true (suc (suc l)) (suc l)) m (f m).labels (f m).items)
+      → Marked out l (Statements.for_of size count l c e f).labels (Statements.for_of size count l c e f).items
+  marked_for_of out None e l f h = let b = f (suc (suc (suc l))) in
+      marked_ever out l b.labels _ b.items _ (h (suc (suc (suc l)))) (marked_effect e b.labels)
+  marked_for_of out (Some c) e l f h =
+      let q = Statements.unless size count c (suc (suc l)) (suc (suc (suc l))) in
+      let b = f q.labels in
+      marked_for out l q.labels b.labels _ q.items b.items _
+      ((marked_way size count c).branch false (suc (suc l)) size (suc (suc (suc l)))) (h q.labels) (marked_effect e b.labels)
+
+  mutual
+    marked_act : (scope : ℕ → Type 0) (inside : Bool) (a : Act) (lb lc l : ℕ) → FitsAct size scope inside a
+        → Marked (leaving inside lb lc) l (Statements.lower size count a lb lc l).labels (Statements.lower size count a lb lc l).items
+    marked_act scope inside (DeclareOf ds) lb lc l f = marked_out nowhere (leaving inside lb lc) l _ _ (λ m. omega arith)
+        (marked_declare ds l)
+    marked_act scope inside (BlockOf row) lb lc l f = marked_row scope inside row lb lc l f
+    marked_act scope inside (EvaluateOf e) lb lc l f = marked_out nowhere (leaving inside lb lc) l _ _ (λ m. omega arith)
+        ((marked_way size count e).drop size l)
+    marked_act scope true BreakOf lb lc l f = marked_same (leaving true lb lc) l l [] (Jump lb ∷ []) (marked_nil (leaving true lb lc) l)
+        (λ m. refl) (λ m lt. omega arith)
+    marked_act scope false BreakOf lb lc l f = absurd (cc)
+    marked_act scope true ContinueOf lb lc l f = marked_same (leaving true lb lc) l l [] (Jump lc ∷ [])
+        (marked_nil (leaving true lb lc) l) (λ m. refl) (λ m lt. omega arith)
+    marked_act scope false ContinueOf lb lc l f = absurd (cc)
+    marked_act scope inside (ReturnOf e) lb lc l f = marked_out nowhere (leaving inside lb lc) l _ _ (λ m. omega arith)
+        (marked_returning e l)
+    marked_act scope inside (IfOf c a) lb lc l f =
+        let q = Statements.unless size count c l (suc l) in
+        marked_inner (leaving inside lb lc) l q.labels _ q.items _ ((marked_way size count c).branch false l size (suc l))
+        (marked_act scope inside a lb lc q.labels f.1)
+    marked_act scope inside (IfElseOf c a b) lb lc l f =
+        let q = Statements.unless size count c l (suc (suc l)) in
+        let x = Statements.lower size count a lb lc q.labels in
+        marked_fork (leaving inside lb lc) l q.labels x.labels _ q.items x.items _ [] [] (λ m. refl) (λ m. refl)
+        ((marked_way size count c).branch false l size (suc (suc l))) (marked_act scope inside a lb lc q.labels f.1)
+        (marked_act scope inside b lb lc x.labels f.2)
+    marked_act scope inside (WhileOf c a) lb lc l f =
+        let q = Statements.unless size count c (suc l) (suc (suc l)) in
+        marked_while (leaving inside lb lc) l q.labels _ q.items _ ((marked_way size count c).branch false (suc l) size (suc (suc l)))
+        (marked_act scope true a (suc l) l q.labels f.1)
+    marked_act scope inside (DoOf a c) lb lc l f =
+        let x = Statements.lower size count a (suc (suc l)) (suc l) (suc (suc (suc l))) in
+        marked_do (leaving inside lb lc) l x.labels _ x.items _ (marked_act scope true a (suc (suc l)) (suc l) (suc (suc (suc l))) f.0)
+        ((marked_way size count c).branch true l size x.labels)
+    marked_act scope inside (ForOf i c e a) lb lc l f =
+        let x = Statements.effect size count i l in
+        marked_append (leaving inside lb lc) l x.labels _ x.items _
+        (marked_out nowhere (leaving inside lb lc) l _ _ (λ m. omega arith) (marked_effect i l))
+        (marked_for_of (leaving inside lb lc) c e x.labels (Statements.lower size count a (suc (suc x.labels)) (suc x.labels))
+        (λ m. marked_act scope true a (suc (suc x.labels)) (suc x.labels) m f.3))
+
+    pub marked_row : (scope : ℕ → Type 0) (inside : Bool) (row : Acts) (lb lc l : ℕ) → FitsActs size scope inside row
+        → Marked (leaving inside lb lc) l (Statements.lower_row size count row lb lc l).labels
+        (Statements.lower_row size count row lb lc l).items
+    marked_row scope inside NoActs lb lc l f = marked_nil (leaving inside lb lc) l
+    marked_row scope inside (MoreActs a row) lb lc l f =
+        let x = Statements.lower size count a lb lc l in
+        marked_append (leaving inside lb lc) l x.labels _ x.items _ (marked_act scope inside a lb lc l f.0)
+        (marked_row (behind_act scope a) inside row lb lc x.labels f.1)

@@ -1,0 +1,146 @@
+-- Each expression's items name what is there, with calls in order.
+use Rattle.std.proofs.Common.{◌≡◌, ℕ, ◌≤◌, ◌<◌, List, [], ◌∷◌, refl, arith, sym, subst}
+use Rattle.std.specs.Prelude.{true, false}
+use Rattle.c_types.specs.declared.types.CType.{CType}
+use Rattle.c_types.specs.declared.typed.Variable.{Variable}
+use Rattle.c_types.specs.declared.typed.Variable.TheVariants as variables
+use Rattle.c_types.specs.declared.typed.Callee.{Callee}
+use Rattle.c_types.specs.Typed.{PlaceTerm, VariableAt, PointedBy, ElementBy, Term, Constant, LiteralAt, ArrayAt, ReadOf, SizeofTerm, SizeOf, AddressOf, CallOf, StepOf, UnaryOf, CastTo, ConvertTo, ArithmeticOf, CompareOf, BothOf, EitherOf, AdvanceOf, AdvanceByOf, RetreatOf, DistanceOf, ChoiceOf, AssignTo, ArithmeticAssignTo, AdvanceAssignTo, RetreatAssignTo, CommaOf, Terms, NoTerms, MoreTerms}
+use Rattle.c_sound.specs.Fits.{StandsIn, Fits, FitsAt, FitsAll}
+use Rattle.c_sound.specs.Stands.{Stands, StandsAt, StandAll, arguments, IsThere}
+use Rattle.c_lower_scheme.specs.Trees.{Num, Gaddr, Bin}
+use Rattle.c_lower_scheme.specs.Expressions.{where_of, address_tree, fitted, advance, advance_by, retreat, apart, args_count, callee_number, others}
+use Rattle.c_lower_scheme.specs.Expressions
+use Rattle.c_lower_valid.proofs.Named.{Scene}
+use Rattle.c_lower_valid.proofs.Fine.{Ok, fine_nil, OkWhere, FineFound, FinePassing, ok_fitted, ok_advance, ok_advance_by, ok_retreat, ok_apart, fine_over, fine_read, fine_address, fine_store_drop, fine_store_low, fine_pass, fine_called_drop, fine_called_low}
+use Rattle.c_lower_valid.proofs.Ways.{FineWay, fine_due, fine_valued, fine_effective, fine_conditional, fine_mapped, fine_binary, fine_relation, fine_chain, fine_chain_drop, fine_choose, fine_comma, fine_unary, fine_update_by, fine_step_ready, fine_step, fine_assigned}
+
+passes_all : (size count : ℕ) (es : Terms) (to : List CType) (t l : ℕ)
+    → args_count (Expressions.pass size count es to t l).trees ≡ arguments es
+passes_all size count NoTerms to t l = refl
+passes_all size count (MoreTerms e es) to t l =
+    let p = (Expressions.way size count e).low t l in
+    let h = passes_all size count es (others to) p.temps p.labels in
+    omega (arith, h)
+
+module _ (scene : Scene) (size count : ℕ) (takes : Callee → ℕ → Type 0)
+    (calls : (f : Callee) (n : ℕ) → takes f n → scene.callable (callee_number count f) n) where
+  ok_array : (v : Variable) (u : ℕ) → IsThere scene.objects scene.params v → Ok scene u (address_tree (where_of v))
+  ok_array (variables.Automatic n) u h = tt
+  ok_array (variables.Parameter n) u h = tt
+  ok_array (variables.Global n) u h = h
+  ok_array (variables.Static n) u h = h
+
+  ok_variable : (scope : ℕ → Type 0) → ((n : ℕ) → scope n → n < size) → (v : Variable) (u : ℕ) → size ≤ u → StandsIn scope v
+      → IsThere scene.objects scene.params v → OkWhere scene u (where_of v)
+  ok_variable scope within (variables.Automatic n) u le k h = let lt = within n k in omega arith
+  ok_variable scope within (variables.Parameter n) u le k h = h
+  ok_variable scope within (variables.Global n) u le k h = h
+  ok_variable scope within (variables.Static n) u le k h = h
+
+  callable_so : (f : Callee) (es : Terms) (to : List CType) (t l : ℕ) → takes f (arguments es)
+      → scene.callable (callee_number count f) (args_count (Expressions.pass size count es to t l).trees)
+  callable_so f es to t l h = subst (λ n. scene.callable (callee_number count f) n) (sym (passes_all size count es to t l))
+      (calls f (arguments es) h)
+
+  abbrev Way : Term → Type 0
+  Way e = FineWay scene size count (Expressions.way size count e)
+
+  abbrev There : Variable → Type 0
+  There v = IsThere scene.objects scene.params v
+
+  mutual
+    pub fine_seek : (scope : ℕ → Type 0) (within : (n : ℕ) → scope n → n < size) (a : PlaceTerm) → FitsAt scope a
+        → StandsAt There takes scene.objects a → (t l : ℕ) → size ≤ t → FineFound scene t (Expressions.seek size count a t l)
+    fine_seek scope within (VariableAt ty v) f s t l le = record
+        { grows = omega arith; items = fine_nil scene t; place = ok_variable scope within v t le f s }
+    fine_seek scope within (PointedBy ty e) f s t l le = let h = (fine_way scope within e f s).low t l le in
+        record { grows = h.grows; items = h.items; place = h.tree }
+    fine_seek scope within (ElementBy ty e) f s t l le = let h = (fine_way scope within e f s).low t l le in
+        record { grows = h.grows; items = h.items; place = h.tree }
+
+    pub fine_way : (scope : ℕ → Type 0) (within : (n : ℕ) → scope n → n < size) (e : Term) → Fits scope e
+        → Stands There takes scene.objects e → Way e
+    fine_way scope within (Constant n) f s = fine_valued scene size count _ (λ t l le. fine_due scene size count (Num n) t l tt)
+    fine_way scope within (LiteralAt n bytes) f s = fine_valued scene size count _ (λ t l le. fine_due scene size count (Gaddr n) t l s)
+    fine_way scope within (ArrayAt ty v bytes) f s = fine_valued scene size count _
+        (λ t l le. fine_due scene size count (address_tree (where_of v)) t l (ok_array v t s))
+    fine_way scope within (ReadOf a) f s = fine_valued scene size count _
+        (λ t l le. fine_read scene t (Expressions.seek size count a t l) (fine_seek scope within a f s t l le))
+    fine_way scope within (SizeofTerm n e) f s = fine_valued scene size count _ (λ t l le. fine_due scene size count (Num n) t l tt)
+    fine_way scope within (SizeOf n) f s = fine_valued scene size count _ (λ t l le. fine_due scene size count (Num n) t l tt)
+    fine_way scope within (AddressOf ty a) f s = fine_valued scene size count _
+        (λ t l le. fine_address scene t (Expressions.seek size count a t l) (fine_seek scope within a f s t l le))
+    fine_way scope within (CallOf ty g to es) f s = fine_effective scene size count _ _
+        (λ t l le. fine_called_low scene (callee_number count g) t (Expressions.pass size count es to t l) (callable_so g es to t l s.0)
+        (fine_passing scope within es to f s.1 t l le))
+        (λ t l le. fine_called_drop scene (callee_number count g) t (Expressions.pass size count es to t l)
+        (callable_so g es to t l s.0) (fine_passing scope within es to f s.1 t l le))
+    fine_way scope within (StepOf m by a) f s = fine_effective scene size count _ _
+        (λ t l le. fine_step scene size count m by t (Expressions.seek size count a t l) (fine_seek scope within a f s t l le))
+        (λ t l le. fine_store_drop scene t (Expressions.step_ready size count by (Expressions.seek size count a t l))
+        (fine_step_ready scene size count by t (Expressions.seek size count a t l) (fine_seek scope within a f s t l le)))
+    fine_way scope within (UnaryOf op e) f s = fine_unary scene size count op (Expressions.way size count e) (fine_way scope within e f s)
+    fine_way scope within (CastTo ty e) f s = fine_mapped scene size count (fitted ty) (λ u w k. ok_fitted scene ty u w k)
+        (Expressions.way size count e) (fine_way scope within e f s)
+    fine_way scope within (ConvertTo ty e) f s = fine_mapped scene size count (fitted ty) (λ u w k. ok_fitted scene ty u w k)
+        (Expressions.way size count e) (fine_way scope within e f s)
+    fine_way scope within (ArithmeticOf op a b) f s = fine_binary scene size count (Bin op) (λ u x y h g. (h, g))
+        (Expressions.way size count a) (Expressions.way size count b) (fine_way scope within a f.0 s.0) (fine_way scope within b f.1 s.1)
+    fine_way scope within (CompareOf r a b) f s = fine_relation scene size count r (Expressions.way size count a)
+        (Expressions.way size count b) (fine_way scope within a f.0 s.0) (fine_way scope within b f.1 s.1)
+    fine_way scope within (BothOf a b) f s =
+        let x = fine_way scope within a f.0 s.0 in
+        let y = fine_way scope within b f.1 s.1 in
+        fine_conditional scene size count _ _ (fine_chain scene size count false (Expressions.way size count a)
+        (Expressions.way size count b) x y) (fine_chain_drop scene size count false (Expressions.way size count a)
+        (Expressions.way size count b) x y)
+    fine_way scope within (EitherOf a b) f s =
+        let x = fine_way scope within a f.0 s.0 in
+        let y = fine_way scope within b f.1 s.1 in
+        fine_conditional scene size count _ _ (fine_chain scene size count true (Expressions.way size count a)
+        (Expressions.way size count b) x y) (fine_chain_drop scene size count true (Expressions.way size count a)
+        (Expressions.way size count b) x y)
+    fine_way scope within (AdvanceOf ty a b) f s = fine_binary scene size count (advance ty)
+        (λ u x y h g. ok_advance scene ty u x y h g) (Expressions.way size count a) (Expressions.way size count b)
+        (fine_way scope within a f.0 s.0) (fine_way scope within b f.1 s.1)
+    fine_way scope within (AdvanceByOf ty a b) f s = fine_binary scene size count (advance_by ty)
+        (λ u x y h g. ok_advance_by scene ty u x y h g) (Expressions.way size count a) (Expressions.way size count b)
+        (fine_way scope within a f.0 s.0) (fine_way scope within b f.1 s.1)
+    fine_way scope within (RetreatOf ty a b) f s = fine_binary scene size count (retreat ty)
+        (λ u x y h g. ok_retreat scene ty u x y h g) (Expressions.way size count a) (Expressions.way size count b)
+        (fine_way scope within a f.0 s.0) (fine_way scope within b f.1 s.1)
+    fine_way scope within (DistanceOf ty a b) f s = fine_binary scene size count (apart ty) (λ u x y h g. ok_apart scene ty u x y h g)
+        (Expressions.way size count a) (Expressions.way size count b) (fine_way scope within a f.0 s.0) (fine_way scope within b f.1 s.1)
+    fine_way scope within (ChoiceOf ty c a b) f s = fine_choose scene size count (Expressions.way size count c)
+        (Expressions.way size count a) (Expressions.way size count b) (fine_way scope within c f.0 s.0)
+        (fine_way scope within a f.1 s.1) (fine_way scope within b f.2 s.2)
+    fine_way scope within (AssignTo a e) f s = fine_effective scene size count _ _
+        (λ t l le. let p = Expressions.seek size count a t l in
+        fine_store_low scene t (Expressions.assigned size count true p (Expressions.way size count e).low)
+        (fine_assigned scene size count true t p (Expressions.way size count e) le (fine_seek scope within a f.0 s.0 t l le)
+        (fine_way scope within e f.1 s.1)))
+        (λ t l le. let p = Expressions.seek size count a t l in
+        fine_store_drop scene t (Expressions.assigned size count false p (Expressions.way size count e).low)
+        (fine_assigned scene size count false t p (Expressions.way size count e) le (fine_seek scope within a f.0 s.0 t l le)
+        (fine_way scope within e f.1 s.1)))
+    fine_way scope within (ArithmeticAssignTo op a e) f s = fine_update_by scene size count (λ ty. Bin op) (λ ty u x y h g. (h, g))
+        (Expressions.seek size count a) (Expressions.way size count e) (fine_seek scope within a f.0 s.0) (fine_way scope within e f.1 s.1)
+    fine_way scope within (AdvanceAssignTo a e) f s = fine_update_by scene size count advance (ok_advance scene)
+        (Expressions.seek size count a) (Expressions.way size count e) (fine_seek scope within a f.0 s.0) (fine_way scope within e f.1 s.1)
+    fine_way scope within (RetreatAssignTo a e) f s = fine_update_by scene size count retreat (ok_retreat scene)
+        (Expressions.seek size count a) (Expressions.way size count e) (fine_seek scope within a f.0 s.0) (fine_way scope within e f.1 s.1)
+    fine_way scope within (CommaOf ty a b) f s = fine_comma scene size count (Expressions.way size count a)
+        (Expressions.way size count b) (fine_way scope within a f.0 s.0) (fine_way scope within b f.1 s.1)
+
+    fine_passing : (scope : ℕ → Type 0) (within : (n : ℕ) → scope n → n < size) (es : Terms) (to : List CType) → FitsAll scope es to
+        → StandAll There takes scene.objects es → (t l : ℕ) → size ≤ t → FinePassing scene t (Expressions.pass size count es to t l)
+    fine_passing scope within NoTerms to f s t l le = record { grows = omega arith; items = fine_nil scene t; trees = tt }
+    fine_passing scope within (MoreTerms e es) [] f s t l le = absurd f
+    fine_passing scope within (MoreTerms e es) (ty ∷ to) f s t l le =
+        let p = (Expressions.way size count e).low t l in
+        let h = (fine_way scope within e f.0 s.0).low t l le in
+        let lx = h.grows in
+        fine_pass scene _ t _ (Expressions.pass size count es to p.temps p.labels)
+        (fine_over scene (fitted ty) (λ u w k. ok_fitted scene ty u w k) t p h)
+        (fine_passing scope within es to f.1 s.1 p.temps p.labels (omega arith))

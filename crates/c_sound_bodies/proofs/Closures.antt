@@ -1,0 +1,142 @@
+-- Fitting and standing hold of a term because they hold of its parts.
+use Rattle.std.proofs.Common.{◌≡◌, ℕ, ◌≤◌, List, [], ◌∷◌, length, arith}
+use Rattle.c_phrases.specs.Phrases.{AnExp}
+use Rattle.c_types.specs.declared.types.CType.{CType}
+use Rattle.c_types.specs.declared.typed.Variable.{Variable}
+use Rattle.c_types.specs.declared.typed.Variable.TheVariants as variables
+use Rattle.c_types.specs.declared.typed.Callee.{Callee}
+use Rattle.c_types.specs.Typed.{Term, Terms, NoTerms, MoreTerms}
+use Rattle.c_typed_scope.specs.declared.entry.Entry.{Entry}
+use Rattle.c_typed_scope.specs.declared.entry.Signature.{Signature}
+use Rattle.c_typed_scope.specs.Layout.{Area}
+use Rattle.c_program.specs.Programs.{ARoutine}
+use Rattle.c_program.specs.Longwords.{OfLongwords, AllOfLongwords}
+use Rattle.c_sound.specs.Fits.{StandsIn, Fits, FitsAll}
+use Rattle.c_sound.specs.Stands.{arguments, IsThere, Takes, Stands, StandAll}
+use Rattle.c_typed_expressions.specs.Relations.{IsTyped}
+use Rattle.c_typed_definition.specs.Declarations.{State}
+use Rattle.c_sound_bodies.specs.Claim.{IsKnown, InOrder, AreDefined}
+use Rattle.c_sound_bodies.proofs.Terms.{Every, Closed}
+use Rattle.c_sound_bodies.proofs.Growth.{exp_extends}
+use Rattle.c_sound_bodies.proofs.Expressions.{exp_has}
+
+stands_in : (scope : ℕ → Type 0) (locals parameters objects : ℕ) (v : Variable) → IsKnown scope locals parameters objects v →
+    StandsIn scope v
+stands_in scope locals parameters objects (variables.Automatic n) h = h.0
+stands_in scope locals parameters objects (variables.Parameter n) h = tt
+stands_in scope locals parameters objects (variables.Global n) h = tt
+stands_in scope locals parameters objects (variables.Static n) h = tt
+
+-- a term whose numbers are longwords fits
+abbrev pub WillFit : (ℕ → Type 0) → Term → Type 0
+WillFit scope x = OfLongwords x → Fits scope x
+
+fits_all : (scope : ℕ → Type 0) (es : Terms) (to : List CType) → arguments es ≡ length to → Every (WillFit scope) es →
+    AllOfLongwords es → FitsAll scope es to
+fits_all scope NoTerms to many all h = tt
+fits_all scope (MoreTerms e es) [] many all h = absurd (omega arith)
+fits_all scope (MoreTerms e es) (t ∷ to) many all h = (all.0 h.0, fits_all scope es to (omega arith) all.1 h.1)
+
+abbrev pub any_call : Callee → ℕ → Type 0
+any_call f n = Unit {0}
+
+pub fits_closed : (scope : ℕ → Type 0) (locals parameters known objects : ℕ) →
+    Closed (IsKnown scope locals parameters known) any_call objects (WillFit scope)
+fits_closed scope locals parameters known objects = record {
+  number = λ n h. h;
+  literal = λ n size l h. tt;
+  array = λ t v size k h. tt;
+  variable = λ t v k h. stands_in scope locals parameters known v k;
+  pointed = λ t x p. p;
+  element = λ t x p. p;
+  size_of_term = λ n x p h. h.0;
+  size = λ n h. h;
+  address = λ t p h. h;
+  call = λ t f to es takes many all h. fits_all scope es to many all h;
+  step = λ m by p h. h;
+  unary = λ op x p. p;
+  cast = λ t x p. p;
+  convert = λ t x p. p;
+  arithmetic = λ op x y p q h. (p h.0, q h.1);
+  compare = λ rel x y p q h. (p h.0, q h.1);
+  both = λ x y p q h. (p h.0, q h.1);
+  either = λ x y p q h. (p h.0, q h.1);
+  advance = λ t x y p q h. (p h.0, q h.1);
+  advance_by = λ t x y p q h. (p h.0, q h.1);
+  retreat = λ t x y p q h. (p h.0, q h.1);
+  distance = λ t x y p q h. (p h.0, q h.1);
+  choice = λ t z x y o p q h. (o h.0, p h.1, q h.2);
+  assign = λ p y a q h. (a h.0, q h.1);
+  arithmetic_assign = λ op p y a q h. (a h.0, q h.1);
+  advance_assign = λ p y a q h. (a h.0, q h.1);
+  retreat_assign = λ p y a q h. (a h.0, q h.1);
+  comma = λ t x y p q h. (p h.0, q h.1);
+}
+
+is_there : (scope : ℕ → Type 0) (locals parameters known objects : ℕ) → known ≤ objects → (v : Variable) →
+    IsKnown scope locals parameters known v → IsThere objects parameters v
+is_there scope locals parameters known objects l (variables.Automatic n) h = tt
+is_there scope locals parameters known objects l (variables.Parameter n) h = h
+is_there scope locals parameters known objects l (variables.Global n) h = omega arith
+is_there scope locals parameters known objects l (variables.Static n) h = omega arith
+
+-- a term that names what is there stands
+abbrev pub WillStand : (objects parameters : ℕ) → List ARoutine → Term → Type 0
+WillStand objects parameters gs x = Stands (IsThere objects parameters) (Takes gs) objects x
+
+stand_all : (objects parameters : ℕ) (gs : List ARoutine) (es : Terms) → Every (WillStand objects parameters gs) es →
+    StandAll (IsThere objects parameters) (Takes gs) objects es
+stand_all objects parameters gs NoTerms all = tt
+stand_all objects parameters gs (MoreTerms e es) all = (all.0, stand_all objects parameters gs es all.1)
+
+pub stands_closed : (scope : ℕ → Type 0) (locals parameters known objects : ℕ) (gs : List ARoutine) → known ≤ objects →
+    Closed (IsKnown scope locals parameters known) (Takes gs) objects (WillStand objects parameters gs)
+stands_closed scope locals parameters known objects gs l = record {
+  number = λ n. tt;
+  literal = λ n size h. h;
+  array = λ t v size k. is_there scope locals parameters known objects l v k;
+  variable = λ t v k. is_there scope locals parameters known objects l v k;
+  pointed = λ t x p. p;
+  element = λ t x p. p;
+  size_of_term = λ n x p. tt;
+  size = λ n. tt;
+  address = λ t p h. h;
+  call = λ t f to es takes many all. (rw many takes, stand_all objects parameters gs es all);
+  step = λ m by p h. h;
+  unary = λ op x p. p;
+  cast = λ t x p. p;
+  convert = λ t x p. p;
+  arithmetic = λ op x y p q. (p, q);
+  compare = λ rel x y p q. (p, q);
+  both = λ x y p q. (p, q);
+  either = λ x y p q. (p, q);
+  advance = λ t x y p q. (p, q);
+  advance_by = λ t x y p q. (p, q);
+  retreat = λ t x y p q. (p, q);
+  distance = λ t x y p q. (p, q);
+  choice = λ t z x y o p q. (o, p, q);
+  assign = λ p y a q. (a, q);
+  arithmetic_assign = λ op p y a q. (a, q);
+  advance_assign = λ p y a q. (a, q);
+  retreat_assign = λ p y a q. (a, q);
+  comma = λ t x y p q. (p, q);
+}
+
+module _ (names : List (List ℕ × Entry)) (signatures : List Signature) where
+  -- what an expression is typed as fits, and stands
+  pub exp_fits : (scope : ℕ → Type 0) (parameters : ℕ) (s : State) (e : AnExp) (t : Term × Area) → InOrder scope parameters s →
+      IsTyped names signatures s.scope e s.area t → WillFit scope t.0
+  exp_fits scope parameters s e t o j =
+      exp_has (IsKnown scope (length s.locals) parameters (length s.area.objects)) any_call (length t.1.objects) (WillFit scope)
+      (fits_closed scope (length s.locals) parameters (length s.area.objects) (length t.1.objects))
+      names signatures s.scope o.names (λ n g is. tt) e s.area t j (record { laying = o.laying; most = omega arith })
+
+  pub exp_stands : (scope : ℕ → Type 0) (parameters : ℕ) (s : State) (gs : List ARoutine) (objects : ℕ) (e : AnExp) (t : Term × Area) →
+      InOrder scope parameters s → length t.1.objects ≤ objects → AreDefined signatures gs →
+      IsTyped names signatures s.scope e s.area t → WillStand objects parameters gs t.0
+  exp_stands scope parameters s gs objects e t o l defined j =
+      let more = exp_extends names signatures s.scope e s.area t j in
+      let first : length s.area.objects ≤ length t.1.objects = more.objects in
+      exp_has (IsKnown scope (length s.locals) parameters (length s.area.objects)) (Takes gs) objects (WillStand objects parameters gs)
+      (stands_closed scope (length s.locals) parameters (length s.area.objects) objects gs (omega arith))
+      names signatures s.scope o.names defined e s.area t j (record { laying = o.laying; most = l })

@@ -1,0 +1,235 @@
+-- Declarations in a block.
+use Rattle.std.proofs.Common.{◌≡◌, ℕ, ◌+◌, ◌≤◌, true, List, [], ◌∷◌, ◌++◌, length, Option, Some, None, refl, sym, ap, ◌∙◌, inl, inr, length-append, append_assoc, append-nil, arith}
+use Rattle.c_phrases.specs.declared.operator.Spec.{Spec}
+use Rattle.c_phrases.specs.declared.operator.Storage.{Storage}
+use Rattle.c_phrases.specs.declared.operator.Storage.TheVariants as storages
+use Rattle.c_phrases.specs.Phrases.{AnExp}
+use Rattle.c_phrases.specs.Units.{AnInit, value, elements, ADeclarator}
+use Rattle.c_types.specs.declared.types.CType.{CType}
+use Rattle.c_types.specs.declared.typed.Variable.TheVariants as variables
+use Rattle.c_types.specs.Typed.{Term, ConvertTo}
+use Rattle.c_typed_scope.specs.declared.entry.Entry.{Entry}
+use Rattle.c_typed_scope.specs.declared.entry.Entry.TheVariants as entries
+use Rattle.c_typed_scope.specs.declared.entry.Signature.{Signature}
+use Rattle.c_typed_scope.specs.Layout.{Area}
+use Rattle.c_program.specs.Statements.{ADeclaration, KeepOf, ClearOf, BeginOf}
+use Rattle.c_program.specs.Programs.{ARoutine}
+use Rattle.c_program.specs.Longwords.{OneOfLongwords, DeclaredOfLongwords}
+use Rattle.c_sound.specs.Fits.{more, declaring, FitsDeclared}
+use Rattle.c_sound.specs.Stands.{IsThere, Takes, StandsDeclared}
+use Rattle.c_typed_expressions.specs.Phrases.{init_in}
+use Rattle.c_typed_expressions.specs.Expressions.{written}
+use Rattle.c_typed_expressions.specs.Relations.{IsTyped}
+use Rattle.c_typed_definition.specs.Declarations.{State, with_area, with_local}
+use Rattle.c_typed_law.specs.Objects.{IsBegun, IsAutomatic, IsLocal, AreLocals}
+use Rattle.c_sound_bodies.specs.Claim.{IsKnown, InOrder, Extends, Grows, AreDefined}
+use Rattle.c_sound_bodies.proofs.Names.{scope_more, scope_named, known_more, named_outer}
+use Rattle.c_sound_bodies.proofs.Growth.{extends_same, extends_further, exp_extends}
+use Rattle.c_sound_bodies.proofs.Closures.{exp_fits, exp_stands}
+use Rattle.c_sound_bodies.proofs.Objects.{Declares, declares_grows, declares_order, object_declares}
+
+pub grows_same : (s : State) → Grows s s
+grows_same s = record { locals = omega arith; area = extends_same s.area; outer = refl }
+
+pub grows_further : (s m r : State) → Grows s m → Grows m r → Grows s r
+grows_further s m r h k = record {
+  locals = omega arith;
+  area = extends_further s.area m.area r.area h.area k.area;
+  outer = k.outer ∙ h.outer;
+}
+
+-- the area alone grows
+pub grows_area : (s : State) (a : Area) → Extends s.area a → Grows s (with_area a s)
+grows_area s a h = record { locals = omega arith; area = h; outer = refl }
+
+-- where more is in scope, and nothing is named that was not
+pub order_more : (scope : ℕ → Type 0) (parameters : ℕ) (s r : State) → InOrder scope parameters s → r.scope ≡ s.scope → Grows s r →
+    InOrder scope parameters r
+order_more scope parameters s r o is h = record {
+  names = rw is (scope_more _ _ s.scope (known_more scope scope (length s.locals) parameters (length s.area.objects) (length r.locals)
+      (length r.area.objects) (λ n k. k) h.locals h.area.objects) o.names);
+  laying = h.area.measuring ∙ o.laying;
+}
+
+-- one declaration
+pub record LocalIsSound (signatures : List Signature) (scope : ℕ → Type 0) (parameters : ℕ) (s : State) (d : ADeclaration)
+    (r : State) : Type 0 where
+  pub fits : (size : ℕ) → length r.locals ≤ size → OneOfLongwords d → FitsDeclared size scope (d ∷ [])
+  pub stands : (gs : List ARoutine) (objects : ℕ) → length r.area.objects ≤ objects → AreDefined signatures gs →
+      StandsDeclared (IsThere objects parameters) (Takes gs) objects (d ∷ [])
+  pub order : InOrder (declaring scope (d ∷ [])) parameters r
+  pub grows : Grows s r
+
+-- declarations in a row
+pub record LocalsAreSound (signatures : List Signature) (scope : ℕ → Type 0) (parameters : ℕ) (s : State) (ds : List ADeclaration)
+    (r : State) : Type 0 where
+  pub fits : (size : ℕ) → length r.locals ≤ size → DeclaredOfLongwords ds → FitsDeclared size scope ds
+  pub stands : (gs : List ARoutine) (objects : ℕ) → length r.area.objects ≤ objects → AreDefined signatures gs →
+      StandsDeclared (IsThere objects parameters) (Takes gs) objects ds
+  pub order : InOrder (declaring scope ds) parameters r
+  pub grows : Grows s r
+
+local_longer : (t : CType) (n : List ℕ) (s : State) → length (with_local t n s).locals ≡ length s.locals + 1
+local_longer t n s = length-append s.locals (t ∷ [])
+
+local_grows : (t : CType) (n : List ℕ) (s : State) → Grows s (with_local t n s)
+local_grows t n s = let longer = local_longer t n s in
+    record {
+      locals = omega arith;
+      area = extends_same s.area;
+      outer = named_outer n (entries.Variable t (variables.Automatic (length s.locals))) s.scope;
+    }
+
+-- a new local is in scope
+local_order : (scope : ℕ → Type 0) (parameters : ℕ) (t : CType) (n : List ℕ) (s : State) → InOrder scope parameters s →
+    InOrder (more scope (length s.locals)) parameters (with_local t n s)
+local_order scope parameters t n s o =
+    let longer = local_longer t n s in
+    let new = IsKnown (more scope (length s.locals)) (length (with_local t n s).locals) parameters (length s.area.objects) in
+    record {
+      names = scope_named new s.scope n (entries.Variable t (variables.Automatic (length s.locals)))
+          (scope_more (IsKnown scope (length s.locals) parameters (length s.area.objects)) new s.scope
+          (known_more scope (more scope (length s.locals)) (length s.locals) parameters (length s.area.objects)
+          (length (with_local t n s).locals) (length s.area.objects) (λ m k. inl k) (omega arith) (omega arith)) o.names)
+          (inr refl, omega arith);
+      laying = o.laying;
+    }
+
+module _ (names : List (List ℕ × Entry)) (signatures : List Signature) where
+  cleared : (scope : ℕ → Type 0) (parameters : ℕ) (t : CType) (n : List ℕ) (s : State) (r : ADeclaration × State) →
+      InOrder scope parameters s → r ≡ (ClearOf (length s.locals), with_local t n s) → LocalIsSound signatures scope parameters s r.0 r.1
+  cleared scope parameters t n s r o is = let longer = local_longer t n s in rw is (record {
+    fits = λ size l h. (omega arith, tt);
+    stands = λ gs objects l defined. tt;
+    order = local_order scope parameters t n s o;
+    grows = local_grows t n s;
+  })
+
+  begun_is : (scope : ℕ → Type 0) (parameters : ℕ) (t : CType) (n : List ℕ) (s : State) (e : AnExp) (x : Term × Area)
+      (r : ADeclaration × State) → InOrder scope parameters s → IsTyped names signatures (with_local t n s).scope e s.area x →
+      r ≡ (BeginOf (length s.locals) (ConvertTo t x.0), with_area x.1 (with_local t n s)) →
+      LocalIsSound signatures scope parameters s r.0 r.1
+  begun_is scope parameters t n s e x r o j is =
+      let longer = local_longer t n s in
+      let inner = local_order scope parameters t n s o in
+      let further = grows_area (with_local t n s) x.1 (exp_extends names signatures (with_local t n s).scope e s.area x j) in
+      rw is (record {
+        fits = λ size l h. (
+          omega arith,
+          exp_fits names signatures (more scope (length s.locals)) parameters
+              (with_local t n s) e x inner j h,
+          tt,
+        );
+        stands = λ gs objects l defined. (
+          exp_stands names signatures (more scope (length s.locals)) parameters
+              (with_local t n s) gs objects e x inner l defined j,
+          tt,
+        );
+        order = order_more (more scope (length s.locals)) parameters (with_local t n s)
+            (with_area x.1 (with_local t n s)) inner refl further;
+        grows = grows_further s (with_local t n s) (with_area x.1 (with_local t n s)) (local_grows t n s) further;
+      })
+
+  begun_sound : (scope : ℕ → Type 0) (parameters : ℕ) (t : CType) (n : List ℕ) (i : Option AnInit) (s : State)
+      (r : ADeclaration × State) → InOrder scope parameters s → IsBegun names signatures t (length s.locals) i (with_local t n s) r →
+      LocalIsSound signatures scope parameters s r.0 r.1
+  begun_sound scope parameters t n None s r o j = cleared scope parameters t n s r o j
+  begun_sound scope parameters t n (Some (elements es comma)) s r o j = cleared scope parameters t n s r o j
+  begun_sound scope parameters t n (Some (value e)) s r o j =
+      let k = j.whole in
+      begun_is scope parameters t n s e j.part r o j.typed
+      (k.whole ∙ ap (λ (y : Term). (BeginOf (length s.locals) y, with_area j.part.1 (with_local t n s))) k.typed.typed)
+
+  automatic_sound : (scope : ℕ → Type 0) (parameters : ℕ) (spec : Spec) (d : ADeclarator) (s : State) (r : ADeclaration × State) →
+      InOrder scope parameters s → IsAutomatic names signatures spec d s r → LocalIsSound signatures scope parameters s r.0 r.1
+  automatic_sound scope parameters spec d s r o j = begun_sound scope parameters (written spec d.stars) d.name
+      (init_in d.init) s r o j.whole
+
+  kept_is : (scope : ℕ → Type 0) (parameters : ℕ) (name : List ℕ) (s : State) (x : ℕ × State) (r : ADeclaration × State) →
+      InOrder scope parameters s → Declares name s x.1 → r ≡ (KeepOf x.0, x.1) → LocalIsSound signatures scope parameters s r.0 r.1
+  kept_is scope parameters name s x r o h is = rw is (record {
+    fits = λ size l h. tt;
+    stands = λ gs objects l defined. tt;
+    order = declares_order scope parameters name s x.1 o h;
+    grows = declares_grows name s x.1 h;
+  })
+
+  pub local_sound : (scope : ℕ → Type 0) (parameters : ℕ) (storage : Storage) (spec : Spec) (d : ADeclarator) (s : State)
+      (r : ADeclaration × State) → InOrder scope parameters s → IsLocal names signatures storage spec d s r →
+      LocalIsSound signatures scope parameters s r.0 r.1
+  local_sound scope parameters storages.Automatic spec d s r o j = automatic_sound scope parameters spec d s r o j
+  local_sound scope parameters (storages.Register at) spec d s r o j = automatic_sound scope parameters spec d s r o j
+  local_sound scope parameters (storages.Static at) spec d s r o j =
+      kept_is scope parameters d.name s j.part r o (object_declares names signatures true spec d s j.part o.laying j.typed) j.whole
+
+-- one declaration in front of others
+fits_with : (size : ℕ) (scope : ℕ → Type 0) (d : ADeclaration) (ds : List ADeclaration) → FitsDeclared size scope (d ∷ []) →
+    FitsDeclared size (declaring scope (d ∷ [])) ds → FitsDeclared size scope (d ∷ ds)
+fits_with size scope (KeepOf n) ds h k = k
+fits_with size scope (ClearOf n) ds h k = (h.0, k)
+fits_with size scope (BeginOf n e) ds h k = (h.0, h.1, k)
+
+stands_with : (objects parameters : ℕ) (gs : List ARoutine) (d : ADeclaration) (ds : List ADeclaration) →
+    StandsDeclared (IsThere objects parameters) (Takes gs) objects (d ∷ []) →
+    StandsDeclared (IsThere objects parameters) (Takes gs) objects ds →
+    StandsDeclared (IsThere objects parameters) (Takes gs) objects (d ∷ ds)
+stands_with objects parameters gs (KeepOf n) ds h k = k
+stands_with objects parameters gs (ClearOf n) ds h k = k
+stands_with objects parameters gs (BeginOf n e) ds h k = (h.0, k)
+
+order_with : (scope : ℕ → Type 0) (parameters : ℕ) (d : ADeclaration) (ds : List ADeclaration) (r : State) →
+    InOrder (declaring (declaring scope (d ∷ [])) ds) parameters r → InOrder (declaring scope (d ∷ ds)) parameters r
+order_with scope parameters (KeepOf n) ds r o = o
+order_with scope parameters (ClearOf n) ds r o = o
+order_with scope parameters (BeginOf n e) ds r o = o
+
+locals_with : (signatures : List Signature) (scope : ℕ → Type 0) (parameters : ℕ) (s m r : State) (d : ADeclaration)
+    (ds : List ADeclaration) → LocalIsSound signatures scope parameters s d m →
+    LocalsAreSound signatures (declaring scope (d ∷ [])) parameters m ds r → LocalsAreSound signatures scope parameters s (d ∷ ds) r
+locals_with signatures scope parameters s m r d ds h k =
+    let locals : length m.locals ≤ length r.locals = k.grows.locals in
+    let objects : length m.area.objects ≤ length r.area.objects = k.grows.area.objects in
+    record {
+      fits = λ size l w. fits_with size scope d ds (h.fits size (omega arith) w.0) (k.fits size l w.1);
+      stands = λ gs many l defined. stands_with many parameters gs d ds (h.stands gs many (omega arith) defined)
+          (k.stands gs many l defined);
+      order = order_with scope parameters d ds r k.order;
+      grows = grows_further s m r h.grows k.grows;
+    }
+
+-- what is behind the declarations that are done
+pub record Behind (signatures : List Signature) (scope : ℕ → Type 0) (parameters : ℕ) (s : State) (done : List ADeclaration)
+    (r : List ADeclaration × State) : Type 0 where
+  pub rest : List ADeclaration
+  pub is : r.0 ≡ done ++ rest
+  pub sound : LocalsAreSound signatures scope parameters s rest r.1
+
+none_behind : (signatures : List Signature) (scope : ℕ → Type 0) (parameters : ℕ) (s : State) (done : List ADeclaration)
+    (r : List ADeclaration × State) → InOrder scope parameters s → r ≡ (done, s) → Behind signatures scope parameters s done r
+none_behind signatures scope parameters s done r o is = rw is (record {
+  rest = [];
+  is = sym (append-nil done);
+  sound = record { fits = λ size l h. tt; stands = λ gs objects l defined. tt; order = o; grows = grows_same s };
+})
+
+module _ (names : List (List ℕ × Entry)) (signatures : List Signature) where
+  locals_behind : (scope : ℕ → Type 0) (parameters : ℕ) (storage : Storage) (spec : Spec) (ds : List ADeclarator)
+      (done : List ADeclaration) (s : State) (r : List ADeclaration × State) → InOrder scope parameters s →
+      AreLocals names signatures storage spec ds done s r → Behind signatures scope parameters s done r
+  locals_behind scope parameters storage spec [] done s r o j = none_behind signatures scope parameters s done r o j
+  locals_behind scope parameters storage spec (d ∷ ds) done s r o j =
+      let first = local_sound names signatures scope parameters storage spec d s j.part o j.typed in
+      let later = locals_behind (declaring scope (j.part.0 ∷ [])) parameters storage spec ds
+      (done ++ j.part.0 ∷ []) j.part.1 r first.order j.whole in
+      record {
+        rest = j.part.0 ∷ later.rest;
+        is = later.is ∙ append_assoc done (j.part.0 ∷ []) later.rest;
+        sound = locals_with signatures scope parameters s j.part.1 r.1 j.part.0 later.rest first later.sound;
+      }
+
+  -- the declarators of a declaration
+  pub locals_sound : (scope : ℕ → Type 0) (parameters : ℕ) (storage : Storage) (spec : Spec) (ds : List ADeclarator) (s : State)
+      (r : List ADeclaration × State) → InOrder scope parameters s → AreLocals names signatures storage spec ds [] s r →
+      LocalsAreSound signatures scope parameters s r.0 r.1
+  locals_sound scope parameters storage spec ds s r o j = let b = locals_behind scope parameters storage spec ds [] s r o j in
+      rw (b.is) (b.sound)

@@ -1,0 +1,272 @@
+-- Statements are sound where their parts are.
+use Rattle.std.proofs.Common.{◌≡◌, ℕ, ◌≤◌, Bool, true, List, length, Option, Some, None, refl, ap, ◌∙◌, arith}
+use Rattle.c_types.specs.Typed.{Term}
+use Rattle.c_typed_scope.specs.declared.entry.Signature.{Signature}
+use Rattle.c_typed_scope.specs.Scopes.{Scope, leave}
+use Rattle.c_program.specs.Statements.{ADeclaration, Act, Acts, NoActs, MoreActs, DeclareOf, BlockOf, EvaluateOf, BreakOf, ContinueOf, ReturnOf, IfOf, IfElseOf, WhileOf, DoOf, ForOf}
+use Rattle.c_program.specs.Programs.{ARoutine}
+use Rattle.c_program.specs.Longwords.{OfLongwords, MaybeOfLongwords, ActOfLongwords, ActsOfLongwords}
+use Rattle.c_sound.specs.Fits.{Fits, FitsMaybe, FitsAct, FitsActs, behind_act, declaring}
+use Rattle.c_sound.specs.Stands.{IsThere, Takes, Stands, StandsMaybe, StandsAct, StandsActs}
+use Rattle.c_typed_definition.specs.Declarations.{State}
+use Rattle.c_typed_definition.specs.Statements.{entered, left}
+use Rattle.c_sound_bodies.specs.Claim.{InOrder, Grows, AreDefined, behind_acts}
+use Rattle.c_sound_bodies.proofs.Names.{scope_entered, left_scope}
+use Rattle.c_sound_bodies.proofs.Locals.{LocalsAreSound, grows_same, grows_further, order_more}
+
+-- an expression of a statement
+pub record TermIsSound (signatures : List Signature) (scope : ℕ → Type 0) (parameters : ℕ) (s : State) (x : Term) (r : State) : Type 0 where
+  pub fits : OfLongwords x → Fits scope x
+  pub stands : (gs : List ARoutine) (objects : ℕ) → length r.area.objects ≤ objects → AreDefined signatures gs →
+      Stands (IsThere objects parameters) (Takes gs) objects x
+  pub names : r.scope ≡ s.scope
+  pub order : InOrder scope parameters r
+  pub grows : Grows s r
+
+-- an expression that may be left out
+pub record PartIsSound (signatures : List Signature) (scope : ℕ → Type 0) (parameters : ℕ) (s : State) (x : Option Term)
+    (r : State) : Type 0 where
+  pub fits : MaybeOfLongwords x → FitsMaybe scope x
+  pub stands : (gs : List ARoutine) (objects : ℕ) → length r.area.objects ≤ objects → AreDefined signatures gs →
+      StandsMaybe (IsThere objects parameters) (Takes gs) objects x
+  pub names : r.scope ≡ s.scope
+  pub order : InOrder scope parameters r
+  pub grows : Grows s r
+
+abbrev pub DeclaresNothing : Act → Type 0
+DeclaresNothing (DeclareOf ds) = ⊥
+DeclaresNothing (BlockOf row) = Unit {0}
+DeclaresNothing (EvaluateOf e) = Unit {0}
+DeclaresNothing BreakOf = Unit {0}
+DeclaresNothing ContinueOf = Unit {0}
+DeclaresNothing (ReturnOf e) = Unit {0}
+DeclaresNothing (IfOf c a) = Unit {0}
+DeclaresNothing (IfElseOf c a b) = Unit {0}
+DeclaresNothing (WhileOf c a) = Unit {0}
+DeclaresNothing (DoOf a c) = Unit {0}
+DeclaresNothing (ForOf i c e a) = Unit {0}
+
+-- a statement, which leaves what is in scope
+pub record ActIsSound (signatures : List Signature) (scope : ℕ → Type 0) (parameters : ℕ) (looping : Bool) (s : State) (a : Act)
+    (r : State) : Type 0 where
+  pub fits : (size : ℕ) → length r.locals ≤ size → ActOfLongwords a → FitsAct size scope looping a
+  pub stands : (gs : List ARoutine) (objects : ℕ) → length r.area.objects ≤ objects → AreDefined signatures gs →
+      StandsAct (IsThere objects parameters) (Takes gs) objects a
+  pub names : r.scope ≡ s.scope
+  pub plain : DeclaresNothing a
+  pub order : InOrder scope parameters r
+  pub grows : Grows s r
+
+-- declarations and statements in a row
+pub record ActsAreSound (signatures : List Signature) (scope : ℕ → Type 0) (parameters : ℕ) (looping : Bool) (s : State) (acts : Acts)
+    (r : State) : Type 0 where
+  pub fits : (size : ℕ) → length r.locals ≤ size → ActsOfLongwords acts → FitsActs size scope looping acts
+  pub stands : (gs : List ARoutine) (objects : ℕ) → length r.area.objects ≤ objects → AreDefined signatures gs →
+      StandsActs (IsThere objects parameters) (Takes gs) objects acts
+  pub order : InOrder (behind_acts scope acts) parameters r
+  pub grows : Grows s r
+
+module _ (signatures : List Signature) (scope : ℕ → Type 0) (parameters : ℕ) where
+  pub part_none : (s : State) → InOrder scope parameters s → PartIsSound signatures scope parameters s None s
+  part_none s o = record { fits = λ h. tt; stands = λ gs objects l defined. tt; names = refl; order = o; grows = grows_same s }
+
+  pub part_some : (s : State) (x : Term) (r : State) → TermIsSound signatures scope parameters s x r →
+      PartIsSound signatures scope parameters s (Some x) r
+  part_some s x r h = record { fits = h.fits; stands = h.stands; names = h.names; order = h.order; grows = h.grows }
+
+  pub order_entered : (s : State) → InOrder scope parameters s → InOrder scope parameters (entered s)
+  order_entered s o = record { names = scope_entered _ s.scope o.names; laying = o.laying }
+
+  module _ (looping : Bool) where
+    -- a block ends with what was in scope where it began
+    pub block_sound : (s : State) (acts : Acts) (r : State) → InOrder scope parameters s →
+        ActsAreSound signatures scope parameters looping (entered s) acts r →
+        ActIsSound signatures scope parameters looping s (BlockOf acts) (left r)
+    block_sound s acts r o h =
+        let names : leave r.scope ≡ s.scope = left_scope s.scope r.scope h.grows.outer in
+        let grows : Grows s (left r) = record { locals = h.grows.locals; area = h.grows.area; outer = ap (λ (z : Scope). z.outer) names } in
+        record {
+          fits = h.fits;
+          stands = h.stands;
+          names = names;
+          plain = tt;
+          order = order_more scope parameters s (left r) o names grows;
+          grows = grows;
+        }
+
+    pub empty_sound : (s : State) → InOrder scope parameters s → ActIsSound signatures scope parameters looping s (BlockOf NoActs) s
+    empty_sound s o = record {
+      fits = λ size l h. tt;
+      stands = λ gs objects l defined. tt;
+      names = refl;
+      plain = tt;
+      order = o;
+      grows = grows_same s;
+    }
+
+    pub evaluate_sound : (s : State) (x : Term) (r : State) → TermIsSound signatures scope parameters s x r →
+        ActIsSound signatures scope parameters looping s (EvaluateOf x) r
+    evaluate_sound s x r h = record {
+      fits = λ size l w. h.fits w;
+      stands = h.stands;
+      names = h.names;
+      plain = tt;
+      order = h.order;
+      grows = h.grows;
+    }
+
+    pub return_sound : (s : State) (x : Option Term) (r : State) → PartIsSound signatures scope parameters s x r →
+        ActIsSound signatures scope parameters looping s (ReturnOf x) r
+    return_sound s x r h = record {
+      fits = λ size l w. h.fits w;
+      stands = h.stands;
+      names = h.names;
+      plain = tt;
+      order = h.order;
+      grows = h.grows;
+    }
+
+    pub break_sound : (s : State) → looping ≡ true → InOrder scope parameters s → ActIsSound signatures scope parameters looping s BreakOf s
+    break_sound s inside o = record {
+      fits = λ size l h. inside;
+      stands = λ gs objects l defined. tt;
+      names = refl;
+      plain = tt;
+      order = o;
+      grows = grows_same s;
+    }
+
+    pub continue_sound : (s : State) → looping ≡ true → InOrder scope parameters s →
+        ActIsSound signatures scope parameters looping s ContinueOf s
+    continue_sound s inside o = record {
+      fits = λ size l h. inside;
+      stands = λ gs objects l defined. tt;
+      names = refl;
+      plain = tt;
+      order = o;
+      grows = grows_same s;
+    }
+
+    pub if_sound : (s m r : State) (c : Term) (a : Act) → TermIsSound signatures scope parameters s c m →
+        ActIsSound signatures scope parameters looping m a r → ActIsSound signatures scope parameters looping s (IfOf c a) r
+    if_sound s m r c a h k =
+        let objects : length m.area.objects ≤ length r.area.objects = k.grows.area.objects in
+        record {
+          fits = λ size l w. (h.fits w.0, k.fits size l w.1);
+          stands = λ gs many l defined. (h.stands gs many (omega arith) defined, k.stands gs many l defined);
+          names = k.names ∙ h.names;
+          plain = tt;
+          order = k.order;
+          grows = grows_further s m r h.grows k.grows;
+        }
+
+    pub if_else_sound : (s m n r : State) (c : Term) (a b : Act) → TermIsSound signatures scope parameters s c m →
+        ActIsSound signatures scope parameters looping m a n → ActIsSound signatures scope parameters looping n b r →
+        ActIsSound signatures scope parameters looping s (IfElseOf c a b) r
+    if_else_sound s m n r c a b h k q =
+        let first : length m.area.objects ≤ length n.area.objects = k.grows.area.objects in
+        let second : length n.area.objects ≤ length r.area.objects = q.grows.area.objects in
+        let locals : length n.locals ≤ length r.locals = q.grows.locals in
+        record {
+          fits = λ size l w. (h.fits w.0, k.fits size (omega arith) w.1, q.fits size l w.2);
+          stands = λ gs many l defined. (
+            h.stands gs many (omega arith) defined,
+            k.stands gs many (omega arith) defined,
+            q.stands gs many l defined,
+          );
+          names = q.names ∙ (k.names ∙ h.names);
+          plain = tt;
+          order = q.order;
+          grows = grows_further s m r h.grows (grows_further m n r k.grows q.grows);
+        }
+
+    pub while_sound : (s m r : State) (c : Term) (a : Act) → TermIsSound signatures scope parameters s c m →
+        ActIsSound signatures scope parameters true m a r → ActIsSound signatures scope parameters looping s (WhileOf c a) r
+    while_sound s m r c a h k =
+        let objects : length m.area.objects ≤ length r.area.objects = k.grows.area.objects in
+        record {
+          fits = λ size l w. (h.fits w.0, k.fits size l w.1);
+          stands = λ gs many l defined. (h.stands gs many (omega arith) defined, k.stands gs many l defined);
+          names = k.names ∙ h.names;
+          plain = tt;
+          order = k.order;
+          grows = grows_further s m r h.grows k.grows;
+        }
+
+    pub do_sound : (s m r : State) (a : Act) (c : Term) → ActIsSound signatures scope parameters true s a m →
+        TermIsSound signatures scope parameters m c r → ActIsSound signatures scope parameters looping s (DoOf a c) r
+    do_sound s m r a c k h =
+        let objects : length m.area.objects ≤ length r.area.objects = h.grows.area.objects in
+        let locals : length m.locals ≤ length r.locals = h.grows.locals in
+        record {
+          fits = λ size l w. (k.fits size (omega arith) w.0, h.fits w.1);
+          stands = λ gs many l defined. (k.stands gs many (omega arith) defined, h.stands gs many l defined);
+          names = h.names ∙ k.names;
+          plain = tt;
+          order = h.order;
+          grows = grows_further s m r k.grows h.grows;
+        }
+
+    pub for_sound : (s m n q r : State) (i c e : Option Term) (a : Act) → PartIsSound signatures scope parameters s i m →
+        PartIsSound signatures scope parameters m c n → PartIsSound signatures scope parameters n e q →
+        ActIsSound signatures scope parameters true q a r → ActIsSound signatures scope parameters looping s (ForOf i c e a) r
+    for_sound s m n q r i c e a hi hc he ha =
+        let first : length m.area.objects ≤ length n.area.objects = hc.grows.area.objects in
+        let second : length n.area.objects ≤ length q.area.objects = he.grows.area.objects in
+        let third : length q.area.objects ≤ length r.area.objects = ha.grows.area.objects in
+        record {
+          fits = λ size l w. (hi.fits w.0, hc.fits w.1, he.fits w.2, ha.fits size l w.3);
+          stands = λ gs many l defined. (
+            hi.stands gs many (omega arith) defined,
+            hc.stands gs many (omega arith) defined,
+            he.stands gs many (omega arith) defined,
+            ha.stands gs many l defined,
+          );
+          names = ha.names ∙ (he.names ∙ (hc.names ∙ hi.names));
+          plain = tt;
+          order = ha.order;
+          grows = grows_further s m r hi.grows (grows_further m n r hc.grows (grows_further n q r he.grows ha.grows));
+        }
+
+    pub none_sound : (s : State) → InOrder scope parameters s → ActsAreSound signatures scope parameters looping s NoActs s
+    none_sound s o = record { fits = λ size l h. tt; stands = λ gs objects l defined. tt; order = o; grows = grows_same s }
+
+    -- behind a statement the same is in scope
+    pub order_plain : (a : Act) (r : State) → DeclaresNothing a → InOrder scope parameters r → InOrder (behind_act scope a) parameters r
+    order_plain (DeclareOf ds) r plain o = absurd plain
+    order_plain (BlockOf row) r plain o = o
+    order_plain (EvaluateOf e) r plain o = o
+    order_plain BreakOf r plain o = o
+    order_plain ContinueOf r plain o = o
+    order_plain (ReturnOf e) r plain o = o
+    order_plain (IfOf c a) r plain o = o
+    order_plain (IfElseOf c a b) r plain o = o
+    order_plain (WhileOf c a) r plain o = o
+    order_plain (DoOf a c) r plain o = o
+    order_plain (ForOf i c e a) r plain o = o
+
+    pub statement_first : (s m r : State) (a : Act) (row : Acts) → ActIsSound signatures scope parameters looping s a m →
+        ActsAreSound signatures (behind_act scope a) parameters looping m row r →
+        ActsAreSound signatures scope parameters looping s (MoreActs a row) r
+    statement_first s m r a row h k =
+        let objects : length m.area.objects ≤ length r.area.objects = k.grows.area.objects in
+        let locals : length m.locals ≤ length r.locals = k.grows.locals in
+        record {
+          fits = λ size l w. (h.fits size (omega arith) w.0, k.fits size l w.1);
+          stands = λ gs many l defined. (h.stands gs many (omega arith) defined, k.stands gs many l defined);
+          order = k.order;
+          grows = grows_further s m r h.grows k.grows;
+        }
+
+    pub declaration_first : (s m r : State) (ds : List ADeclaration) (row : Acts) → LocalsAreSound signatures scope parameters s ds m →
+        ActsAreSound signatures (declaring scope ds) parameters looping m row r →
+        ActsAreSound signatures scope parameters looping s (MoreActs (DeclareOf ds) row) r
+    declaration_first s m r ds row h k =
+        let objects : length m.area.objects ≤ length r.area.objects = k.grows.area.objects in
+        let locals : length m.locals ≤ length r.locals = k.grows.locals in
+        record {
+          fits = λ size l w. (h.fits size (omega arith) w.0, k.fits size l w.1);
+          stands = λ gs many l defined. (h.stands gs many (omega arith) defined, k.stands gs many l defined);
+          order = k.order;
+          grows = grows_further s m r h.grows k.grows;
+        }

@@ -1,0 +1,154 @@
+-- Typed statements are sound, by one induction over statements.
+use Rattle.std.proofs.Common.{◌≡◌, ℕ, Bool, true, List, Option, Some, None, refl}
+use Rattle.c_types.specs.declared.types.CType.{CType}
+use Rattle.c_types.specs.Typed.{Term, ConvertTo}
+use Rattle.c_typed_scope.specs.declared.entry.Entry.{Entry}
+use Rattle.c_typed_scope.specs.declared.entry.Signature.{Signature}
+use Rattle.c_typed_scope.specs.Layout.{Area}
+use Rattle.c_phrases.specs.Phrases.{AnExp}
+use Rattle.c_phrases.specs.Units.{local_item, statement_item, AStatement, block, empty, expression, break_off, continue_on, give_back, if_then, if_else, while_loop, do_loop, for_loop, SomeItems, no_items}
+use Rattle.c_program.specs.Statements.{Act, Acts, ReturnOf}
+use Rattle.c_sound.specs.Fits.{behind_act, declaring, no_local}
+use Rattle.c_typed_expressions.specs.Relations.{IsTyped}
+use Rattle.c_typed_definition.specs.Declarations.{State, with_area}
+use Rattle.c_typed_definition.specs.Statements.{entered}
+use Rattle.c_typed_law.specs.Statements.{IsFull, IsCondition, IsPart, IsTurn, IsReturn, IsStatement, AreItems}
+use Rattle.c_typed_law.proofs.Statements.{items_mean}
+use Rattle.c_sound_bodies.specs.Claim.{InOrder, BodiesAreSound}
+use Rattle.c_sound_bodies.proofs.Growth.{exp_extends}
+use Rattle.c_sound_bodies.proofs.Closures.{exp_fits, exp_stands}
+use Rattle.c_sound_bodies.proofs.Locals.{grows_area, order_more, locals_sound}
+use Rattle.c_sound_bodies.proofs.Parts.{TermIsSound, PartIsSound, ActIsSound, ActsAreSound, part_none, part_some, order_entered, block_sound, empty_sound, evaluate_sound, return_sound, break_sound, continue_sound, if_sound, if_else_sound, while_sound, do_sound, for_sound, none_sound, order_plain, statement_first, declaration_first}
+
+module _ (names : List (List ℕ × Entry)) (signatures : List Signature) (scope : ℕ → Type 0) (parameters : ℕ) where
+  term_is : (e : AnExp) (s : State) (x : Term × Area) (r : Term × State) → InOrder scope parameters s →
+      IsTyped names signatures s.scope e s.area x → r ≡ (x.0, with_area x.1 s) → TermIsSound signatures scope parameters s r.0 r.1
+  term_is e s x r o j is =
+      let further = grows_area s x.1 (exp_extends names signatures s.scope e s.area x j) in
+      rw is (record {
+        fits = exp_fits names signatures scope parameters s e x o j;
+        stands = λ gs objects l defined. exp_stands names signatures scope parameters s gs objects e x o l defined j;
+        names = refl;
+        order = order_more scope parameters s (with_area x.1 s) o refl further;
+        grows = further;
+      })
+
+  pub full_sound : (e : AnExp) (s : State) (r : Term × State) → InOrder scope parameters s → IsFull names signatures e s r →
+      TermIsSound signatures scope parameters s r.0 r.1
+  full_sound e s r o j = term_is e s j.part r o j.typed j.whole
+
+  condition_is : (s : State) (x r : Term × State) (c : Term) → TermIsSound signatures scope parameters s x.0 x.1 → c ≡ x.0 →
+      r ≡ (c, x.1) → TermIsSound signatures scope parameters s r.0 r.1
+  condition_is s x r c h same is = rw (is, same) h
+
+  pub condition_sound : (e : AnExp) (s : State) (r : Term × State) → InOrder scope parameters s → IsCondition names signatures e s r →
+      TermIsSound signatures scope parameters s r.0 r.1
+  condition_sound e s r o j = let k = j.whole in condition_is s j.part r k.part (full_sound e s j.part o j.typed) k.typed.typed k.whole
+
+  left_out : (s : State) (r : Option Term × State) → InOrder scope parameters s → r ≡ (None, s) →
+      PartIsSound signatures scope parameters s r.0 r.1
+  left_out s r o is = rw is (part_none signatures scope parameters s o)
+
+  written_out : (s : State) (x : Term × State) (r : Option Term × State) → TermIsSound signatures scope parameters s x.0 x.1 →
+      r ≡ (Some x.0, x.1) → PartIsSound signatures scope parameters s r.0 r.1
+  written_out s x r h is = rw is (part_some signatures scope parameters s x.0 x.1 h)
+
+  pub part_sound : (e : Option AnExp) (s : State) (r : Option Term × State) → InOrder scope parameters s → IsPart names signatures e s r →
+      PartIsSound signatures scope parameters s r.0 r.1
+  part_sound None s r o j = left_out s r o j
+  part_sound (Some e) s r o j = written_out s j.part r (full_sound e s j.part o j.typed) j.whole
+
+  pub turn_sound : (e : Option AnExp) (s : State) (r : Option Term × State) → InOrder scope parameters s → IsTurn names signatures e s r →
+      PartIsSound signatures scope parameters s r.0 r.1
+  turn_sound None s r o j = left_out s r o j
+  turn_sound (Some e) s r o j = written_out s j.part r (condition_sound e s j.part o j.typed) j.whole
+
+  converted_sound : (t : CType) (s : State) (x : Term) (r : State) → TermIsSound signatures scope parameters s x r →
+      TermIsSound signatures scope parameters s (ConvertTo t x) r
+  converted_sound t s x r h = record { fits = h.fits; stands = h.stands; names = h.names; order = h.order; grows = h.grows }
+
+module _ (names : List (List ℕ × Entry)) (signatures : List Signature) (result_type : CType) (parameters : ℕ) where
+  returned_is : (scope : ℕ → Type 0) (looping : Bool) (s : State) (x : Term × State) (r : Act × State) (y : Term) →
+      TermIsSound signatures scope parameters s x.0 x.1 → y ≡ ConvertTo result_type x.0 → r ≡ (ReturnOf (Some y), x.1) →
+      ActIsSound signatures scope parameters looping s r.0 r.1
+  returned_is scope looping s x r y h same is =
+      rw (is, same) (return_sound signatures scope parameters looping s (Some (ConvertTo result_type x.0)) x.1
+      (part_some signatures scope parameters s (ConvertTo result_type x.0) x.1
+      (converted_sound names signatures scope parameters result_type s x.0 x.1 h)))
+
+  returned_sound : (scope : ℕ → Type 0) (looping : Bool) (e : Option AnExp) (s : State) (r : Act × State) → InOrder scope parameters s →
+      IsReturn names signatures result_type e s r → ActIsSound signatures scope parameters looping s r.0 r.1
+  returned_sound scope looping None s r o j = rw j
+      (return_sound signatures scope parameters looping s None s (part_none signatures scope parameters s o))
+  returned_sound scope looping (Some e) s r o j =
+      let k = j.whole in
+      returned_is scope looping s j.part r k.part (full_sound names signatures scope parameters e s j.part o j.typed) k.typed.typed k.whole
+
+  mutual
+    pub statement_sound : (scope : ℕ → Type 0) (looping : Bool) (a : AStatement) (s : State) (r : Act × State) →
+        InOrder scope parameters s → IsStatement names signatures result_type looping a s r →
+        ActIsSound signatures scope parameters looping s r.0 r.1
+    statement_sound scope looping (block row) s r o j =
+        rw (j.whole) (block_sound signatures scope parameters looping s j.part.0 j.part.1 o
+        (items_sound scope looping row (entered s) j.part (order_entered signatures scope parameters s o) j.typed))
+    statement_sound scope looping empty s r o j = rw j (empty_sound signatures scope parameters looping s o)
+    statement_sound scope looping (expression e) s r o j =
+        rw (j.whole) (evaluate_sound signatures scope parameters looping s j.part.0 j.part.1
+        (full_sound names signatures scope parameters e s j.part o j.typed))
+    statement_sound scope looping (break_off at) s r o j = rw (j.typed) (break_sound signatures scope parameters looping s j.holds o)
+    statement_sound scope looping (continue_on at) s r o j = rw (j.typed) (continue_sound signatures scope parameters looping s j.holds o)
+    statement_sound scope looping (give_back at e) s r o j = returned_sound scope looping e s r o j
+    statement_sound scope looping (if_then at opened c a) s r o j =
+        let k = j.whole in
+        let h = condition_sound names signatures scope parameters c s j.part o j.typed in
+        rw (k.whole) (if_sound signatures scope parameters looping s j.part.1 k.part.1 j.part.0 k.part.0 h
+        (statement_sound scope looping a j.part.1 k.part h.order k.typed))
+    statement_sound scope looping (if_else at opened c a other b) s r o j =
+        let k = j.whole in
+        let m = k.whole in
+        let h = condition_sound names signatures scope parameters c s j.part o j.typed in
+        let first = statement_sound scope looping a j.part.1 k.part h.order k.typed in
+        rw (m.whole) (if_else_sound signatures scope parameters looping s j.part.1 k.part.1 m.part.1 j.part.0 k.part.0 m.part.0 h first
+        (statement_sound scope looping b k.part.1 m.part first.order m.typed))
+    statement_sound scope looping (while_loop at opened c a) s r o j =
+        let k = j.whole in
+        let h = condition_sound names signatures scope parameters c s j.part o j.typed in
+        rw (k.whole) (while_sound signatures scope parameters looping s j.part.1 k.part.1 j.part.0 k.part.0 h
+        (statement_sound scope true a j.part.1 k.part h.order k.typed))
+    statement_sound scope looping (do_loop at a again opened c) s r o j =
+        let k = j.whole in
+        let h = statement_sound scope true a s j.part o j.typed in
+        rw (k.whole) (do_sound signatures scope parameters looping s j.part.1 k.part.1 j.part.0 k.part.0 h
+        (condition_sound names signatures scope parameters c j.part.1 k.part h.order k.typed))
+    statement_sound scope looping (for_loop at opened i c e a) s r o j =
+        let k = j.whole in
+        let m = k.whole in
+        let q = m.whole in
+        let hi = part_sound names signatures scope parameters i s j.part o j.typed in
+        let hc = turn_sound names signatures scope parameters c j.part.1 k.part hi.order k.typed in
+        let he = part_sound names signatures scope parameters e k.part.1 m.part hc.order m.typed in
+        rw (q.whole) (for_sound signatures scope parameters looping s j.part.1 k.part.1 m.part.1 q.part.1
+        j.part.0 k.part.0 m.part.0 q.part.0 hi hc he
+        (statement_sound scope true a m.part.1 q.part he.order q.typed))
+
+    pub items_sound : (scope : ℕ → Type 0) (looping : Bool) (row : SomeItems) (s : State) (r : Acts × State) →
+        InOrder scope parameters s → AreItems names signatures result_type looping row s r →
+        ActsAreSound signatures scope parameters looping s r.0 r.1
+    items_sound scope looping no_items s r o j = rw j (none_sound signatures scope parameters looping s o)
+    items_sound scope looping (local_item l rest) s r o j =
+        let k = j.whole in
+        let h = locals_sound names signatures scope parameters l.storage l.spec l.declarators s j.part o j.typed in
+        rw (k.whole) (declaration_first signatures scope parameters looping s j.part.1 k.part.1 j.part.0 k.part.0 h
+        (items_sound (declaring scope j.part.0) looping rest j.part.1 k.part h.order k.typed))
+    items_sound scope looping (statement_item a rest) s r o j =
+        let k = j.whole in
+        let h = statement_sound scope looping a s j.part o j.typed in
+        rw (k.whole) (statement_first signatures scope parameters looping s j.part.1 k.part.1 j.part.0 k.part.0 h
+        (items_sound (behind_act scope j.part.0) looping rest j.part.1 k.part
+        (order_plain signatures scope parameters looping j.part.0 j.part.1 h.plain h.order) k.typed))
+
+pub bodies_are_sound : BodiesAreSound
+bodies_are_sound names signatures result looping row parameters s r acts o e =
+    let h = items_sound names signatures result parameters no_local looping row s (acts, r) o
+    ((items_mean names signatures result looping row s).found (acts, r) e) in
+    record { fits = h.fits; stands = h.stands; order = h.order; grows = h.grows }

@@ -1,0 +1,5 @@
+use Rattle.c_sound_bodies.proofs.Statements.{bodies_are_sound}
+use Rattle.c_sound_bodies.proofs.bodies_are_sound.Goals as goal
+
+pub returns : goal.returns
+returns c = bodies_are_sound

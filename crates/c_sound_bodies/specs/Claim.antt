@@ -1,0 +1,135 @@
+-- What is claimed of the typing of function bodies: the typed statements fit and stand, and what is in scope stays in order.
+use Rattle.std.specs.Prelude.{◌≡◌, ℕ, ◌<◌, ◌≤◌, Bool, false, List, [], ◌∷◌, ◌++◌, length, Some, slice_get, Ok}
+use Rattle.tree_core.specs.declared.program.Object.{Object}
+use Rattle.c_phrases.specs.declared.operator.Spec.{Spec}
+use Rattle.c_phrases.specs.Phrases.{AnExp}
+use Rattle.c_phrases.specs.Units.{ADeclarator, SomeItems}
+use Rattle.c_types.specs.declared.types.CType.{CType}
+use Rattle.c_types.specs.declared.typed.Variable.{Variable}
+use Rattle.c_types.specs.declared.typed.Variable.TheVariants as variables
+use Rattle.c_program.specs.Statements.{Acts, NoActs, MoreActs}
+use Rattle.c_program.specs.Programs.{ARoutine}
+use Rattle.c_program.specs.Longwords.{ActsOfLongwords}
+use Rattle.c_sound.specs.Fits.{FitsActs, behind_act, no_local}
+use Rattle.c_sound.specs.Stands.{IsThere, Takes, StandsActs}
+use Rattle.c_typed_scope.specs.declared.entry.Entry.{Entry}
+use Rattle.c_typed_scope.specs.declared.entry.Entry.TheVariants as entries
+use Rattle.c_typed_scope.specs.declared.entry.Signature.{Signature}
+use Rattle.c_typed_scope.specs.Scopes.{Scope}
+use Rattle.c_typed_scope.specs.Layout.{Area}
+use Rattle.c_typed_expressions.specs.Expressions.{callee_of}
+use Rattle.c_typed_definition.specs.Initialisers.{type_length}
+use Rattle.c_typed_definition.specs.Declarations.{State, type_object}
+use Rattle.c_typed_definition.specs.Statements.{type_items}
+
+-- a variable of a function with so many locals, of which some are in scope, and so many parameters, where there are so many objects
+abbrev pub IsKnown : (ℕ → Type 0) → (locals parameters objects : ℕ) → Variable → Type 0
+IsKnown scope locals parameters objects (variables.Automatic n) = scope n × (n < locals)
+IsKnown scope locals parameters objects (variables.Parameter n) = n < parameters
+IsKnown scope locals parameters objects (variables.Global n) = n < objects
+IsKnown scope locals parameters objects (variables.Static n) = n < objects
+
+-- what a name stands for, where it is a variable or an array
+abbrev pub OfVariable : (Variable → Type 0) → Entry → Type 0
+OfVariable known (entries.Variable t v) = known v
+OfVariable known (entries.Array t v size) = known v
+OfVariable known (entries.Function n) = Unit {0}
+
+-- each variable that a block's names stand for
+abbrev pub NamesOf : (Variable → Type 0) → List (List ℕ × Entry) → Type 0
+NamesOf known [] = Unit {0}
+NamesOf known (e ∷ es) = OfVariable known e.1 × NamesOf known es
+
+abbrev pub BlocksOf : (Variable → Type 0) → List (List (List ℕ × Entry)) → Type 0
+BlocksOf known [] = Unit {0}
+BlocksOf known (b ∷ bs) = NamesOf known b × BlocksOf known bs
+
+-- each variable that a name stands for, in each block that is open
+pub record ScopeOf (known : Variable → Type 0) (s : Scope) : Type 0 where
+  pub here : NamesOf known s.here
+  pub outer : BlocksOf known s.outer
+
+-- each variable that is in scope is there, and literals take room
+pub record InOrder (scope : ℕ → Type 0) (parameters : ℕ) (s : State) : Type 0 where
+  pub names : ScopeOf (IsKnown scope (length s.locals) parameters (length s.area.objects)) s.scope
+  pub laying : s.area.measuring ≡ false
+
+-- objects are added to an area, and literals take as much room as before
+pub record Extends (a b : Area) : Type 0 where
+  pub objects : length a.objects ≤ length b.objects
+  pub measuring : b.measuring ≡ a.measuring
+
+-- locals and objects are added, and the blocks around the innermost stay
+pub record Grows (s r : State) : Type 0 where
+  pub locals : length s.locals ≤ length r.locals
+  pub area : Extends s.area r.area
+  pub outer : r.scope.outer ≡ s.scope.outer
+
+-- behind a row of statements
+abbrev pub behind_acts : (ℕ → Type 0) → Acts → ℕ → Type 0
+behind_acts scope NoActs = scope
+behind_acts scope (MoreActs a row) = behind_acts (behind_act scope a) row
+
+-- each function of a text is one of these with as many parameters, or a service
+abbrev pub AreDefined : List Signature → List ARoutine → Type 0
+AreDefined signatures gs = (n : ℕ) (s : Signature) → slice_get signatures n ≡ Some s → Takes gs (callee_of n) (length s.parameters)
+
+-- what a body is typed as, from one state to another
+pub record BodyIsSound (signatures : List Signature) (looping : Bool) (parameters : ℕ) (s : State) (acts : Acts) (r : State) : Type 0 where
+  pub fits : (size : ℕ) → length r.locals ≤ size → ActsOfLongwords acts → FitsActs size no_local looping acts
+  pub stands : (gs : List ARoutine) (objects : ℕ) → length r.area.objects ≤ objects → AreDefined signatures gs →
+      StandsActs (IsThere objects parameters) (Takes gs) objects acts
+  pub order : InOrder (behind_acts no_local acts) parameters r
+  pub grows : Grows s r
+
+-- The statements of a function's body, where no local is in scope yet, fit and stand.
+abbrev pub BodiesAreSound : Type 0
+BodiesAreSound =
+    (names : List (List ℕ × Entry)) (signatures : List Signature) (result : CType) (looping : Bool) (row : SomeItems) (parameters : ℕ)
+    (s r : State) (acts : Acts) →
+    InOrder no_local parameters s → type_items names signatures result looping row s ≡ Ok (acts, r) →
+    BodyIsSound signatures looping parameters s acts r
+
+-- what the declaration of an object leaves
+pub record ObjectIsSound (parameters : ℕ) (s r : State) : Type 0 where
+  pub order : InOrder no_local parameters r
+  pub locals : r.locals ≡ s.locals
+  pub grows : Grows s r
+
+-- The declaration of a variable at file level leaves what is in scope in order.
+abbrev pub ObjectsAreSound : Type 0
+ObjectsAreSound =
+    (names : List (List ℕ × Entry)) (signatures : List Signature) (is_static : Bool) (spec : Spec) (d : ADeclarator) (parameters n : ℕ)
+    (s r : State) →
+    InOrder no_local parameters s → type_object names signatures is_static spec d s ≡ Ok (n, r) → ObjectIsSound parameters s r
+
+-- A length in brackets may add literals.
+abbrev pub LengthsAreSound : Type 0
+LengthsAreSound =
+    (names : List (List ℕ × Entry)) (signatures : List Signature) (scope : Scope) (e : AnExp) (n : ℕ) (a b : Area) →
+    type_length names signatures scope e a ≡ Ok (n, b) → Extends a b
+
+-- Objects are added behind those that an area has, which stay as they are.
+pub record Adds (a b : Area) : Type 0 where
+  pub more : List Object
+  pub is : b.objects ≡ a.objects ++ more
+
+-- The statements of a body add objects,
+abbrev pub BodiesAdd : Type 0
+BodiesAdd =
+    (names : List (List ℕ × Entry)) (signatures : List Signature) (result : CType) (looping : Bool) (row : SomeItems) (parameters : ℕ)
+    (s r : State) (acts : Acts) →
+    InOrder no_local parameters s → type_items names signatures result looping row s ≡ Ok (acts, r) → Adds s.area r.area
+
+-- so does the declaration of a variable at file level,
+abbrev pub ObjectsAdd : Type 0
+ObjectsAdd =
+    (names : List (List ℕ × Entry)) (signatures : List Signature) (is_static : Bool) (spec : Spec) (d : ADeclarator) (n : ℕ)
+    (s r : State) →
+    s.area.measuring ≡ false → type_object names signatures is_static spec d s ≡ Ok (n, r) → Adds s.area r.area
+
+-- and so may a length in brackets.
+abbrev pub LengthsAdd : Type 0
+LengthsAdd =
+    (names : List (List ℕ × Entry)) (signatures : List Signature) (scope : Scope) (e : AnExp) (n : ℕ) (a b : Area) →
+    type_length names signatures scope e a ≡ Ok (n, b) → Adds a b

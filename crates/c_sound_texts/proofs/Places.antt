@@ -1,0 +1,257 @@
+-- Statements, functions and whole texts keep the names in scope and the objects in place.
+use Rattle.std.proofs.Common.{◌≡◌, ℕ, zero, suc, ◌+◌, ◌-◌, Bool, true, false, List, [], ◌∷◌, ◌++◌, length, take, Option, Some, None, ap, ◌∙◌}
+use Rattle.std.specs.Prelude.{is_some, slice_index_or}
+use Rattle.c_phrases.specs.declared.operator.Spec.{Spec}
+use Rattle.c_phrases.specs.declared.operator.Storage.{Storage}
+use Rattle.c_phrases.specs.declared.operator.Storage.TheVariants as storages
+use Rattle.c_phrases.specs.declared.tree.Named.{Named}
+use Rattle.c_phrases.specs.Phrases.{AnExp}
+use Rattle.c_phrases.specs.Units.{AnInit, value, elements, ADeclarator, local_item, statement_item, AStatement, block, empty, expression, break_off, continue_on, give_back, if_then, if_else, while_loop, do_loop, for_loop, SomeItems, no_items, AParam, AFunction, ADeclared, function, globals, AnExternal}
+use Rattle.c_types.specs.declared.types.CType.{CType}
+use Rattle.c_types.specs.declared.typed.Variable.{Variable}
+use Rattle.c_types.specs.declared.typed.Variable.TheVariants as variables
+use Rattle.c_types.specs.Typed.{Term}
+use Rattle.c_typed_scope.specs.declared.entry.Entry.{Entry}
+use Rattle.c_typed_scope.specs.declared.entry.Entry.TheVariants as entries
+use Rattle.c_typed_scope.specs.declared.entry.Signature.{Signature}
+use Rattle.c_typed_scope.specs.Scopes.{Scope, leave}
+use Rattle.c_typed_scope.specs.Layout.{Area}
+use Rattle.c_program.specs.Statements.{ADeclaration, Act, Acts}
+use Rattle.c_typed_expressions.specs.Phrases.{init_in, brackets_in, params_in}
+use Rattle.c_typed_expressions.specs.Expressions.{written}
+use Rattle.c_typed_definition.specs.Declarations.{State, with_area, with_local, named_state}
+use Rattle.c_typed_definition.specs.Statements.{entered, left}
+use Rattle.c_typed_definition.specs.Texts.{parameter_type, Text, with_parameter, with_declared, entered_function, left_function}
+use Rattle.c_typed_law.specs.Objects.{IsBegun, IsLocal, AreLocals}
+use Rattle.c_typed_law.specs.Statements.{IsFull, IsCondition, IsPart, IsTurn, IsReturn, IsStatement, AreItems}
+use Rattle.c_typed_law.specs.Texts.{IsParameterLength, AreParameters, IsBody, IsFunction, AreGlobals, IsExternalBy, AreExternals}
+use Rattle.c_sound_bodies.specs.Claim.{OfVariable, NamesOf, BlocksOf, ScopeOf}
+use Rattle.c_sound_bodies.proofs.Names.{scope_named, scope_entered}
+use Rattle.c_sound_bodies.proofs.Growth.{exp_lays}
+use Rattle.c_sound_texts.proofs.Areas.{Lays, lays_same, laying}
+use Rattle.c_sound_texts.proofs.Linked.{IsLaid}
+use Rattle.c_sound_texts.proofs.Objects.{InPlace, place_more, object_in_place}
+
+blocks_take : (known : Variable → Type 0) (n : ℕ) (bs : List (List (List ℕ × Entry))) → BlocksOf known bs → BlocksOf known (take n bs)
+blocks_take known zero bs all = tt
+blocks_take known (suc n) [] all = tt
+blocks_take known (suc n) (b ∷ bs) all = (all.0, blocks_take known n bs all.1)
+
+block_at : (known : Variable → Type 0) (bs : List (List (List ℕ × Entry))) (n : ℕ) (here : List (List ℕ × Entry)) →
+    BlocksOf known bs → NamesOf known here → NamesOf known (slice_index_or bs n here)
+block_at known [] n here all h = h
+block_at known (b ∷ bs) zero here all h = all.0
+block_at known (b ∷ bs) (suc n) here all h = block_at known bs n here all.1 h
+
+-- the innermost block ends
+scope_left : (known : Variable → Type 0) (s : Scope) → ScopeOf known s → ScopeOf known (leave s)
+unfolding leave
+scope_left known s all = record {
+  here = block_at known s.outer (length s.outer - 1) s.here all.outer all.here;
+  outer = blocks_take known (length s.outer - 1) s.outer all.outer;
+}
+
+-- another name, which is no object's
+named_in_place : (start : Area) (s : State) (n : List ℕ) (e : Entry) → InPlace start s →
+    ((objects : ℕ) → OfVariable (IsLaid objects) e) → InPlace start (named_state n e s)
+named_in_place start s n e o of = record {
+  names = scope_named (IsLaid (length s.area.objects)) s.scope n e o.names (of (length s.area.objects));
+  laying = o.laying;
+  lays = o.lays;
+}
+
+module _ (start : Area) where
+  entered_in_place : (s : State) → InPlace start s → InPlace start (entered s)
+  entered_in_place s o = record {
+    names = scope_entered (IsLaid (length s.area.objects)) s.scope o.names;
+    laying = o.laying;
+    lays = o.lays;
+  }
+
+  left_in_place : (s : State) → InPlace start s → InPlace start (left s)
+  left_in_place s o = record {
+    names = scope_left (IsLaid (length s.area.objects)) s.scope o.names;
+    laying = o.laying;
+    lays = o.lays;
+  }
+
+  local_in_place : (t : CType) (n : List ℕ) (s : State) → InPlace start s → InPlace start (with_local t n s)
+  local_in_place t n s o = record {
+    names = scope_named (IsLaid (length s.area.objects)) s.scope n (entries.Variable t (variables.Automatic (length s.locals))) o.names tt;
+    laying = o.laying;
+    lays = o.lays;
+  }
+
+  -- a function begins, with no locals, and ends
+  function_entered : (s : State) → InPlace start s → InPlace start (entered_function s)
+  function_entered s o = record {
+    names = scope_entered (IsLaid (length s.area.objects)) s.scope o.names;
+    laying = o.laying;
+    lays = o.lays;
+  }
+
+  function_left : (s : State) → InPlace start s → InPlace start (left_function s)
+  function_left s o = record {
+    names = scope_left (IsLaid (length s.area.objects)) s.scope o.names;
+    laying = o.laying;
+    lays = o.lays;
+  }
+
+  parameter_in_place : (name : Option Named) (t : CType) (n : ℕ) (s : State) → InPlace start s → InPlace start (with_parameter name t n s)
+  parameter_in_place None t n s o = o
+  parameter_in_place (Some name) t n s o =
+      named_in_place start s name.name (entries.Variable t (variables.Parameter n)) o (λ objects. tt)
+
+  function_named : (earlier : Option ℕ) (spec : Spec) (f : AFunction) (t : Text) → InPlace start t.state →
+      InPlace start (with_declared earlier spec f t).state
+  function_named (Some n) spec f t o = o
+  function_named None spec f t o =
+      named_in_place start t.state f.name (entries.Function (length t.declared)) o (λ objects. tt)
+
+  module _ (names : List (List ℕ × Entry)) (signatures : List Signature) where
+    begun_in_place : (t : CType) (n : ℕ) (i : Option AnInit) (s : State) (r : ADeclaration × State) → InPlace start s →
+        IsBegun names signatures t n i s r → InPlace start r.1
+    begun_in_place t n None s r o j = rw j o
+    begun_in_place t n (Some (elements es comma)) s r o j = rw j o
+    begun_in_place t n (Some (value e)) s r o j =
+        let k = j.whole in
+        rw (k.whole) (place_more start s j.part.1 o (exp_lays Lays laying names signatures s.scope e s.area j.part j.typed))
+
+    declared_in_place : (storage : Storage) (spec : Spec) (d : ADeclarator) (s : State) (r : ADeclaration × State) → InPlace start s →
+        IsLocal names signatures storage spec d s r → InPlace start r.1
+    declared_in_place storages.Automatic spec d s r o j =
+        let t = written spec d.stars in
+        begun_in_place t (length s.locals) (init_in d.init) (with_local t d.name s) r (local_in_place t d.name s o) j.whole
+    declared_in_place (storages.Register at) spec d s r o j =
+        let t = written spec d.stars in
+        begun_in_place t (length s.locals) (init_in d.init) (with_local t d.name s) r (local_in_place t d.name s o) j.whole
+    declared_in_place (storages.Static at) spec d s r o j =
+        rw (j.whole) (object_in_place start names signatures true spec d s j.part o j.typed)
+
+    locals_in_place : (storage : Storage) (spec : Spec) (ds : List ADeclarator) (done : List ADeclaration) (s : State)
+        (r : List ADeclaration × State) → InPlace start s → AreLocals names signatures storage spec ds done s r → InPlace start r.1
+    locals_in_place storage spec [] done s r o j = rw j o
+    locals_in_place storage spec (d ∷ ds) done s r o j =
+        locals_in_place storage spec ds (done ++ j.part.0 ∷ []) j.part.1 r
+        (declared_in_place storage spec d s j.part o j.typed) j.whole
+
+    full_in_place : (e : AnExp) (s : State) (r : Term × State) → InPlace start s → IsFull names signatures e s r → InPlace start r.1
+    full_in_place e s r o j =
+        rw (j.whole) (place_more start s j.part.1 o (exp_lays Lays laying names signatures s.scope e s.area j.part j.typed))
+
+    condition_in_place : (e : AnExp) (s : State) (r : Term × State) → InPlace start s → IsCondition names signatures e s r →
+        InPlace start r.1
+    condition_in_place e s r o j = let k = j.whole in rw (k.whole) (full_in_place e s j.part o j.typed)
+
+    part_in_place : (e : Option AnExp) (s : State) (r : Option Term × State) → InPlace start s → IsPart names signatures e s r →
+        InPlace start r.1
+    part_in_place None s r o j = rw j o
+    part_in_place (Some e) s r o j = rw (j.whole) (full_in_place e s j.part o j.typed)
+
+    turn_in_place : (e : Option AnExp) (s : State) (r : Option Term × State) → InPlace start s → IsTurn names signatures e s r →
+        InPlace start r.1
+    turn_in_place None s r o j = rw j o
+    turn_in_place (Some e) s r o j = rw (j.whole) (condition_in_place e s j.part o j.typed)
+
+    returned_in_place : (result : CType) (e : Option AnExp) (s : State) (r : Act × State) → InPlace start s →
+        IsReturn names signatures result e s r → InPlace start r.1
+    returned_in_place result None s r o j = rw j o
+    returned_in_place result (Some e) s r o j = let k = j.whole in rw (k.whole) (full_in_place e s j.part o j.typed)
+
+    mutual
+      statement_in_place : (result : CType) (looping : Bool) (a : AStatement) (s : State) (r : Act × State) → InPlace start s →
+          IsStatement names signatures result looping a s r → InPlace start r.1
+      statement_in_place result looping (block row) s r o j =
+          rw (j.whole) (left_in_place j.part.1 (items_in_place result looping row (entered s) j.part (entered_in_place s o) j.typed))
+      statement_in_place result looping empty s r o j = rw j o
+      statement_in_place result looping (expression e) s r o j = rw (j.whole) (full_in_place e s j.part o j.typed)
+      statement_in_place result looping (break_off at) s r o j = rw (j.typed) o
+      statement_in_place result looping (continue_on at) s r o j = rw (j.typed) o
+      statement_in_place result looping (give_back at e) s r o j = returned_in_place result e s r o j
+      statement_in_place result looping (if_then at opened c a) s r o j =
+          let k = j.whole in
+          rw (k.whole) (statement_in_place result looping a j.part.1 k.part (condition_in_place c s j.part o j.typed) k.typed)
+      statement_in_place result looping (if_else at opened c a other b) s r o j =
+          let k = j.whole in
+          let m = k.whole in
+          rw (m.whole) (statement_in_place result looping b k.part.1 m.part
+          (statement_in_place result looping a j.part.1 k.part (condition_in_place c s j.part o j.typed) k.typed) m.typed)
+      statement_in_place result looping (while_loop at opened c a) s r o j =
+          let k = j.whole in
+          rw (k.whole) (statement_in_place result true a j.part.1 k.part (condition_in_place c s j.part o j.typed) k.typed)
+      statement_in_place result looping (do_loop at a again opened c) s r o j =
+          let k = j.whole in
+          rw (k.whole) (condition_in_place c j.part.1 k.part (statement_in_place result true a s j.part o j.typed) k.typed)
+      statement_in_place result looping (for_loop at opened i c e a) s r o j =
+          let k = j.whole in
+          let m = k.whole in
+          let q = m.whole in
+          let first = part_in_place i s j.part o j.typed in
+          let second = turn_in_place c j.part.1 k.part first k.typed in
+          rw (q.whole) (statement_in_place result true a m.part.1 q.part (part_in_place e k.part.1 m.part second m.typed) q.typed)
+
+      items_in_place : (result : CType) (looping : Bool) (row : SomeItems) (s : State) (r : Acts × State) → InPlace start s →
+          AreItems names signatures result looping row s r → InPlace start r.1
+      items_in_place result looping no_items s r o j = rw j o
+      items_in_place result looping (local_item l rest) s r o j =
+          let k = j.whole in
+          rw (k.whole) (items_in_place result looping rest j.part.1 k.part
+          (locals_in_place l.storage l.spec l.declarators [] s j.part o j.typed) k.typed)
+      items_in_place result looping (statement_item a rest) s r o j =
+          let k = j.whole in
+          rw (k.whole) (items_in_place result looping rest j.part.1 k.part
+          (statement_in_place result looping a s j.part o j.typed) k.typed)
+
+    parameter_length_lays : (l : Option (Option AnExp)) (scope : Scope) (a b : Area) →
+        IsParameterLength names signatures l scope a b → Lays a b
+    parameter_length_lays None scope a b j = rw j (lays_same a)
+    parameter_length_lays (Some None) scope a b j = rw j (lays_same a)
+    parameter_length_lays (Some (Some e)) scope a b j =
+        let k = j.typed in
+        let m = k.whole in
+        let area : b ≡ k.part.1 = j.whole ∙ ap (λ (x : ℕ × Area). x.1) m.whole in
+        rw area (exp_lays Lays laying names signatures scope e a k.part k.typed)
+
+    parameters_in_place : (defines : Bool) (ps : List AParam) (n : ℕ) (s r : State) → InPlace start s →
+        AreParameters names signatures defines ps n s r → InPlace start r
+    parameters_in_place defines [] n s r o j = rw j o
+    parameters_in_place defines (p ∷ ps) n s r o j =
+        let i = j.typed in
+        let k = i.whole in
+        let here = place_more start s k.part o (parameter_length_lays (brackets_in p.length) s.scope s.area k.part k.typed) in
+        parameters_in_place defines ps (n + 1) j.part r
+        (rw (k.whole) (parameter_in_place p.name (parameter_type p) n (with_area k.part s) here)) j.whole
+
+    body_in_place : (spec : Spec) (f : AFunction) (row : Option SomeItems) (s : State) (t r : Text) → InPlace start s →
+        IsBody names signatures spec f row s t r → InPlace start r.state
+    body_in_place spec f None s t r o j = rw j (function_left s o)
+    body_in_place spec f (Some row) s t r o j =
+        rw (j.whole) (function_left j.part.1 (items_in_place (written spec f.stars) false row s j.part o j.typed))
+
+    function_in_place : (spec : Spec) (f : AFunction) (t r : Text) → InPlace start t.state → IsFunction names signatures spec f t r →
+        InPlace start r.state
+    function_in_place spec f t r o j =
+        let k = j.whole in
+        let i = k.whole in
+        let m = i.whole in
+        let named = function_named j.part spec f t o in
+        body_in_place spec f f.body i.part (with_declared j.part spec f t) r
+        (parameters_in_place (is_some f.body) (params_in f.params) 0 (entered_function (with_declared j.part spec f t).state) i.part
+        (function_entered (with_declared j.part spec f t).state named) i.typed) m.whole
+
+    globals_in_place : (spec : Spec) (ds : List ADeclarator) (s r : State) → InPlace start s → AreGlobals names signatures spec ds s r →
+        InPlace start r
+    globals_in_place spec [] s r o j = rw j o
+    globals_in_place spec (d ∷ ds) s r o j =
+        globals_in_place spec ds j.part.1 r (object_in_place start names signatures false spec d s j.part o j.typed) j.whole
+
+    external_in_place : (spec : Spec) (d : ADeclared) (t r : Text) → InPlace start t.state → IsExternalBy names signatures spec d t r →
+        InPlace start r.state
+    external_in_place spec (function f) t r o j = function_in_place spec f t r o j
+    external_in_place spec (globals ds) t r o j = rw (j.whole) (globals_in_place spec ds t.state j.part o j.typed)
+
+    pub externals_in_place : (es : List AnExternal) (t r : Text) → InPlace start t.state → AreExternals names signatures es t r →
+        InPlace start r.state
+    externals_in_place [] t r o j = rw j o
+    externals_in_place (e ∷ es) t r o j =
+        externals_in_place es j.part r (external_in_place e.spec e.declared t j.part o j.typed) j.whole

@@ -1,0 +1,113 @@
+-- The program of a well-typed text is sound.
+use Rattle.std.proofs.Common.{◌≡◌, ℕ, zero, suc, ◌+◌, ◌<◌, ◌^◌, ◌==◌, ◌&&◌, true, List, [], ◌∷◌, length, Some, refl, sym, ap, subst, ◌∙◌, arith}
+use Rattle.std.proofs.lemmas.Bool.{and_from, and_parts, leb-true}
+use Rattle.std.proofs.lemmas.Slice.Eq.{bytes_eq-Decides}
+use Rattle.std.specs.Prelude.{codes, slice_get, nat_le, IsTrue}
+use Rattle.std.specs.List.{All}
+use Rattle.std.specs.Str.{bytes_eq}
+use Rattle.tree_core.specs.declared.program.Object.{Object}
+use Rattle.tree_core.specs.Valid.{LinksLie, is_aligned, is_whole, is_placed, rounded, object_lies, objects_lie}
+use Rattle.c_phrases.specs.Units.{AnExternal}
+use Rattle.c_typed_scope.specs.declared.entry.Signature.{Signature}
+use Rattle.c_program.specs.Programs.{AProgram}
+use Rattle.c_sound.specs.Sound.{HoldBytes, IsSound}
+use Rattle.c_typed_definition.specs.Texts.{known, services, service_names, Known, Text, main_of, empty_text}
+use Rattle.c_typed_law.specs.Texts.{AreExternals, IsText}
+use Rattle.c_typed_law.proofs.Texts.{text_means}
+use Rattle.c_sound_texts.specs.Claim.{RoutinesOfLongwords, TypedIsSound}
+use Rattle.c_sound_texts.proofs.Areas.{LieTo, lays_same}
+use Rattle.c_sound_texts.proofs.Objects.{InPlace}
+use Rattle.c_sound_texts.proofs.Places.{externals_in_place}
+use Rattle.c_sound_texts.proofs.Functions.{Corresponds, externals_correspond, corresponds_defined}
+use Rattle.c_sound_texts.proofs.Main.{main_at, called_main, main_takes_nothing}
+use Rattle.c_sound_texts.proofs.Bodies.{TextIsSound, externals_sound}
+
+-- objects that lie one behind another
+lie_true : (at : ℕ) (os : List Object) (last : ℕ) → LieTo at os last → objects_lie at os ≡ true
+lie_true at [] last h = refl
+lie_true at (o ∷ os) last h =
+    and_from (object_lies at o) (objects_lie (o.address + o.size) os) h.0 (lie_true (o.address + o.size) os last h.1)
+
+address_below : (at : ℕ) (o : Object) → object_lies at o ≡ true → o.address < 2 ^ 32
+address_below at o h =
+    let shape = (and_parts (is_aligned o) (is_whole o && is_placed at o) h).1 in
+    let place = (and_parts (is_whole o) (is_placed at o) shape).1 in
+    let end = (and_parts (o.address == rounded o.align at) (nat_le (o.address + o.size) (65536 + 1048576)) place).1 in
+    let within = leb-true (o.address + o.size) (65536 + 1048576) end in
+    omega arith
+
+addresses_below : (at : ℕ) (os : List Object) (last : ℕ) → LieTo at os last → (n : ℕ) (o : Object) → slice_get os n ≡ Some o →
+    o.address < 2 ^ 32
+addresses_below at [] last h n o here = absurd (cc)
+addresses_below at (x ∷ os) last h zero o here = let same : o ≡ x = cc in rw same (address_below at x h.0)
+addresses_below at (x ∷ os) last h (suc n) o here = addresses_below (x.address + x.size) os last h.1 n o here
+
+same_names : (a b c : List ℕ) → bytes_eq a c ≡ true → bytes_eq b c ≡ true → bytes_eq a b ≡ true
+same_names a b c h k = (bytes_eq-Decides a b).1 ((bytes_eq-Decides a c).0 h ∙ sym ((bytes_eq-Decides b c).0 k))
+
+-- where a text begins
+abbrev beginning : Known
+beginning = record { names = service_names; signatures = services }
+
+begins_corresponding : Corresponds beginning []
+begins_corresponding = record {
+  is = refl;
+  differ = λ i j g h p q same. absurd (cc);
+  no_putchar = λ i g p. absurd (cc);
+  no_getchar = λ i g p. absurd (cc);
+}
+
+begins_sound : (signatures : List Signature) → TextIsSound signatures empty_text
+begins_sound signatures = record {
+  order = record { names = record { here = (tt, (tt, tt)); outer = tt }; laying = refl };
+  routines = λ i g p. absurd (cc);
+}
+
+begins_in_place : InPlace empty_text.state.area empty_text.state
+begins_in_place = record {
+  names = record { here = (tt, (tt, tt)); outer = tt };
+  laying = refl;
+  lays = lays_same empty_text.state.area;
+}
+
+-- the program of a text
+abbrev program_of : Text → ℕ → AProgram
+program_of t n = record { objects = t.state.area.objects; routines = t.bodies; main = n }
+
+whole_is_sound : (text : List AnExternal) (t : Text) (n : ℕ) →
+    AreExternals (known text).names (known text).signatures text empty_text t → main_of t.bodies ≡ Some n →
+    RoutinesOfLongwords (program_of t n) → HoldBytes t.state.area.objects → IsSound (program_of t n)
+whole_is_sound text t n j main numbers contents =
+    let k = known text in
+    let c = externals_correspond k.names k.signatures text beginning empty_text t refl j begins_corresponding in
+    let s = externals_sound k.names k.signatures text empty_text t (begins_sound k.signatures) j in
+    let place = externals_in_place empty_text.state.area k.names k.signatures text empty_text t begins_in_place j in
+    let lays = place.lays in
+    let os : t.state.area.objects ≡ lays.more = lays.objects in
+    let m = main_at t.bodies n main in
+    record {
+      fits = λ f g here. (s.routines f g here).fits (numbers f g here);
+      stands = λ f g here.
+          (s.routines f g here).stands t.bodies (length t.state.area.objects) (omega arith) (corresponds_defined k t.bodies c);
+      parameters = λ f g here. (s.routines f g here).parameters;
+      differ = c.differ;
+      no_putchar = c.no_putchar;
+      no_getchar = c.no_getchar;
+      main = (m.routine, m.here, called_main m.routine m.main, main_takes_nothing m.routine m.main);
+      only_main = λ f g here is.
+          c.differ f n g m.routine here m.here (same_names g.name m.routine.name (codes "main") is (called_main m.routine m.main));
+      objects = subst (λ (x : List Object). IsTrue (objects_lie 65536 x)) (sym os) (lie_true 65536 lays.more t.state.area.end lays.lie);
+      links = subst (All (LinksLie (length t.state.area.objects))) (sym os) lays.links;
+      addresses = λ i o here.
+          addresses_below 65536 lays.more t.state.area.end lays.lie i o (ap (λ (x : List Object). slice_get x i) (sym os) ∙ here);
+      contents = contents;
+    }
+
+pub typed_is_sound : TypedIsSound
+unfolding IsText
+typed_is_sound p text end typed numbers contents =
+    let j = (text_means text end).found p typed in
+    let w = j.whole in
+    subst IsSound (sym w.whole)
+    (whole_is_sound text j.part w.part j.typed w.typed (subst RoutinesOfLongwords w.whole numbers)
+    (subst (λ (x : AProgram). HoldBytes x.objects) w.whole contents))

@@ -1,0 +1,5 @@
+use Rattle.c_sound_texts.proofs.Whole.{typed_is_sound}
+use Rattle.c_sound_texts.proofs.typed_is_sound.Goals as goal
+
+pub returns : goal.returns
+returns c = typed_is_sound

@@ -1,7 +1,0 @@
-use Rattle.std.proofs.Common.{drop}
-use Rattle.c_declarations.specs.Views.{state}
-use Rattle.c_statements.proofs.Blocks.{SoFar}
-use Rattle.c_statements.proofs.statements.+blocks.Given as goal
-
-abbrev pub invariant-items-loop-i : goal.invariant-items-loop-i
-invariant-items-loop-i l = SoFar l.functions.names l.functions.signatures.items l.gives l.looping l.row (state l.fn.desk) l.actions.items (drop l.i-index l.row) (state l.desk)

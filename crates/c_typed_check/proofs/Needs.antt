@@ -1,0 +1,98 @@
+-- Each function of a typed text keeps its own frame need.
+use Rattle.std.proofs.Common.{◌≡◌, ℕ, zero, suc, ◌+◌, ◌<◌, false, List, [], ◌∷◌, ◌++◌, length, map, get_or, refl, ap, sym, subst, ◌∙◌, Option, Some, None, Result, Ok, Err, arith}
+use Rattle.std.specs.Prelude.{slice_get, is_some}
+use Rattle.c_phrases.specs.declared.operator.Spec.{Spec}
+use Rattle.c_phrases.specs.Units.{SomeItems, AFunction, ADeclared, function, globals, AnExternal, AUnit}
+use Rattle.c_types.specs.declared.types.CType.{CType}
+use Rattle.c_types.specs.Answers.{Fault, bad, ◌>>=◌}
+use Rattle.c_typed_scope.specs.declared.entry.Entry.{Entry}
+use Rattle.c_typed_scope.specs.declared.entry.Signature.{Signature}
+use Rattle.c_program.specs.declared.program.Routine.{Routine}
+use Rattle.c_program.specs.Programs.{ARoutine, AProgram, routine}
+use Rattle.c_program.specs.Need.{need_of}
+use Rattle.c_typed_definition.specs.Declarations.{State}
+use Rattle.c_typed_expressions.specs.Phrases.{params_in}
+use Rattle.c_typed_expressions.specs.Expressions.{integer_of, written}
+use Rattle.c_typed_scope.specs.Scopes.{find}
+use Rattle.c_typed_definition.specs.Statements.{type_items}
+use Rattle.c_typed_definition.specs.Texts.{Text, with_declared, with_state, with_body, body_of, left_function, entered_function, signature_of, agrees, earlier_by, head_of, is_below, type_parameters, type_globals, type_body, type_introduced, type_function, type_declared, type_external, type_externals, main_of, whole_by, type_text, empty_text, known}
+use Rattle.c_typed_check.specs.Typed.{IsTypedUnit, need_in, need_at}
+
+pub record KeepsNeed (r : ARoutine) : Type 0 where
+  pub need_is : r.need ≡ need_of r.locals r.body
+
+abbrev pub AllKeep : List ARoutine → Type 0
+AllKeep [] = Unit {0}
+AllKeep (r ∷ rs) = KeepsNeed r × AllKeep rs
+
+all_keep_more : (rs : List ARoutine) (r : ARoutine) → AllKeep rs → KeepsNeed r → AllKeep (rs ++ r ∷ [])
+all_keep_more [] r keep one = (one, tt)
+all_keep_more (x ∷ rs) r keep one = (keep.0, all_keep_more rs r keep.1 one)
+
+-- the parts of an answer that is no fault
+record Bound {A B : Type 0} (m : Result A Fault) (k : A → Result B Fault) (y : B) : Type 0 where
+  pub part : A
+  pub is : m ≡ Ok part
+  pub rest : k part ≡ Ok y
+
+bound : {A B : Type 0} (m : Result A Fault) (k : A → Result B Fault) (y : B) → (m >>= k) ≡ Ok y → Bound m k y
+bound (Ok x) k y e = record { part = x; is = refl; rest = e }
+bound (Err f) k y e = absurd (cc)
+
+same_bodies : (earlier : Option ℕ) (spec : Spec) (f : AFunction) (t : Text) → (with_declared earlier spec f t).bodies ≡ t.bodies
+same_bodies None spec f t = refl
+same_bodies (Some n) spec f t = refl
+
+abbrev fine : {A : Type 0} → A → Result A Fault
+fine x = Ok x
+
+ok_same : {A : Type 0} (x y : A) → fine x ≡ Ok y → x ≡ y
+ok_same x y e = cc
+
+module _ (names : List (List ℕ × Entry)) (signatures : List Signature) where
+  body_keeps : (spec : Spec) (f : AFunction) (row : Option SomeItems) (s : State) (t u : Text) → type_body names signatures spec f row s t ≡ Ok u → AllKeep t.bodies → AllKeep u.bodies
+  body_keeps spec f None s t u typed keep = subst (λ x. AllKeep x.bodies) (ok_same _ _ typed) keep
+  body_keeps spec f (Some row) s t u typed keep =
+      let b = bound (type_items names signatures (written spec f.stars) false row s) (λ r. fine (with_body (body_of spec f r.1.locals r.0) (with_state (left_function r.1) t))) u typed in
+      subst (λ x. AllKeep x.bodies) (ok_same (with_body (body_of spec f b.part.1.locals b.part.0) (with_state (left_function b.part.1) t)) u b.rest) (all_keep_more t.bodies (body_of spec f b.part.1.locals b.part.0) keep (record { need_is = refl }))
+
+  introduced_keeps : (earlier : Option ℕ) (spec : Spec) (f : AFunction) (t u : Text) → type_introduced names signatures earlier spec f t ≡ Ok u → AllKeep t.bodies → AllKeep u.bodies
+  unfolding type_introduced
+  introduced_keeps earlier spec f t u typed keep =
+      let a = bound (type_parameters names signatures (is_some f.body) f.at (params_in f.params) 0 (entered_function t.state)) (λ s. agrees earlier t.declared (signature_of spec f) f.at >>= λ same. type_body names signatures spec f f.body s t) u typed in
+      let b = bound (agrees earlier t.declared (signature_of spec f) f.at) (λ same. type_body names signatures spec f f.body a.part t) u a.rest in
+      body_keeps spec f f.body a.part t u b.rest keep
+
+  function_keeps : (spec : Spec) (f : AFunction) (t u : Text) → type_function names signatures spec f t ≡ Ok u → AllKeep t.bodies → AllKeep u.bodies
+  unfolding type_function
+  function_keeps spec f t u typed keep =
+      let a = bound (earlier_by (find t.state.scope.here f.name) f.at) (λ earlier. head_of (is_some f.body) (is_below (find names f.name) (length t.bodies + 2)) (integer_of spec) f.stars f.at >>= λ ok. type_introduced names signatures earlier spec f (with_declared earlier spec f t)) u typed in
+      let b = bound (head_of (is_some f.body) (is_below (find names f.name) (length t.bodies + 2)) (integer_of spec) f.stars f.at) (λ ok. type_introduced names signatures a.part spec f (with_declared a.part spec f t)) u a.rest in
+      introduced_keeps a.part spec f (with_declared a.part spec f t) u b.rest (subst AllKeep (sym (same_bodies a.part spec f t)) keep)
+
+  declared_keeps : (spec : Spec) (d : ADeclared) (t u : Text) → type_declared names signatures spec d t ≡ Ok u → AllKeep t.bodies → AllKeep u.bodies
+  declared_keeps spec (function f) t u typed keep = function_keeps spec f t u typed keep
+  declared_keeps spec (globals ds) t u typed keep =
+      let b = bound (type_globals names signatures spec ds t.state) (λ s. fine (with_state s t)) u typed in
+      subst (λ x. AllKeep x.bodies) (ok_same (with_state b.part t) u b.rest) keep
+
+  externals_keep : (es : List AnExternal) (t u : Text) → type_externals names signatures es t ≡ Ok u → AllKeep t.bodies → AllKeep u.bodies
+  externals_keep [] t u typed keep = subst (λ x. AllKeep x.bodies) (ok_same _ _ typed) keep
+  externals_keep (e ∷ es) t u typed keep =
+      let b = bound (type_declared names signatures e.spec e.declared t) (λ next. type_externals names signatures es next) u typed in
+      externals_keep es b.part u b.rest (declared_keeps e.spec e.declared t b.part b.is keep)
+
+whole_keeps : (main : Option ℕ) (end : ℕ) (t : Text) (p : AProgram) → whole_by main end t ≡ Ok p → AllKeep t.bodies → AllKeep p.routines
+whole_keeps None end t p typed keep = absurd (cc)
+whole_keeps (Some n) end t p typed keep = subst (λ x. AllKeep x.routines) (ok_same _ _ typed) keep
+
+pub typed_keeps : (p : AProgram) → IsTypedUnit p → AllKeep p.routines
+unfolding type_text
+typed_keeps p given =
+    let b = bound (type_externals (known given.unit.externals).names (known given.unit.externals).signatures given.unit.externals empty_text) (λ t. whole_by (main_of t.bodies) given.unit.end t) p given.typed in
+    whole_keeps (main_of b.part.bodies) given.unit.end b.part p b.rest (externals_keep (known given.unit.externals).names (known given.unit.externals).signatures given.unit.externals empty_text b.part b.is tt)
+
+pub kept_need : (rs : List Routine) (n : ℕ) (d : Routine) → AllKeep (map routine rs) → n < length rs → (get_or rs n d).need ≡ need_in (slice_get (map routine rs) n)
+kept_need [] n d keep lt = absurd (omega arith)
+kept_need (r ∷ rs) zero d keep lt = keep.0.need_is
+kept_need (r ∷ rs) (suc n) d keep lt = kept_need rs n d keep.1 (omega arith)

@@ -1,0 +1,111 @@
+-- Externals and declarators that are read one after another: what is left decides.
+use Rattle.std.proofs.Common.{◌≡◌, ℕ, ◌+◌, ◌<◌, ◌≤◌, List, [], ◌∷◌, length, drop, get_or, map, refl, ap, sym, ◌∙◌, Result, Ok, Err, Option, Some, None, true, false, Bool, arith}
+use Rattle.std.proofs.lemmas.List.{drop_more, drop_all}
+use Rattle.c_phrases.specs.declared.operator.Spec.{Spec}
+use Rattle.c_phrases.specs.declared.tree.Declarator.{Declarator}
+use Rattle.c_phrases.specs.declared.tree.External.{External}
+use Rattle.tree_core.specs.declared.program.Object.{Object}
+use Rattle.c_phrases.specs.UnitShapes.{declarator_of, declarators_of, external_of, externals_of}
+use Rattle.c_types.specs.declared.fault.TypeFault.{TypeFault}
+use Rattle.c_types.specs.declared.fault.TypeFault.TheVariants.{NoMemory, At}
+use Rattle.c_types.specs.declared.fault.TypeKind.TheVariants.{NoMain}
+use Rattle.c_types.specs.Answers.{Fault, bad, Fails, ◌>>=◌}
+use Rattle.c_typed_scope.specs.declared.entry.Entry.{Entry}
+use Rattle.c_typed_scope.specs.declared.entry.Signature.{Signature}
+use Rattle.c_program.specs.declared.program.Routine.{Routine}
+use Rattle.c_program.specs.Programs.{ARoutine, AProgram, routine}
+use Rattle.c_typed_definition.specs.Declarations.{State, type_object}
+use Rattle.c_typed_definition.specs.Texts.{Known, known, known_with, known_from, Text, empty_text, whole_by, type_text, type_globals, type_external, type_externals, is_main, behind, main_of}
+
+abbrev fine : {A : Type 0} → A → Result A Fault
+fine x = Ok x
+
+pub known_step : (es : List External) (i : ℕ) (e d : External) (k next : Known) → i < length es → e ≡ get_or es i d → fine (known_with (external_of e) k) ≡ Ok next → known_from (externals_of (drop i es)) k ≡ known_from (externals_of (drop (i + 1) es)) next
+known_step es i e d k next lt is made =
+    let same : known_with (external_of e) k ≡ next = cc in
+    rw (drop_more es i d lt, ← is) (ap (known_from (externals_of (drop (i + 1) es))) same)
+
+pub known_end : (es : List External) (i : ℕ) (k : Known) → length es ≤ i → known_from (externals_of (drop i es)) k ≡ k
+known_end es i k le = rw (drop_all i es le) refl
+
+module _ (names : List (List ℕ × Entry)) (signatures : List Signature) where
+  pub global_step : (spec : Spec) (ds : List Declarator) (i : ℕ) (d other : Declarator) (s next : State) (n : ℕ) → i < length ds → d ≡ get_or ds i other → type_object names signatures false spec (declarator_of d) s ≡ Ok (n, next) → type_globals names signatures spec (declarators_of (drop i ds)) s ≡ type_globals names signatures spec (declarators_of (drop (i + 1) ds)) next
+  global_step spec ds i d other s next n lt is typed = rw (drop_more ds i other lt, ← is, typed) refl
+
+  pub global_fails : (spec : Spec) (ds : List Declarator) (i : ℕ) (d other : Declarator) (s : State) (f : TypeFault) → i < length ds → d ≡ get_or ds i other → Fails f (type_object names signatures false spec (declarator_of d) s) → Fails f (type_globals names signatures spec (declarators_of (drop i ds)) s)
+  global_fails spec ds i d other s NoMemory lt is failed = tt
+  global_fails spec ds i d other s (At place kind) lt is failed = rw (drop_more ds i other lt, ← is, failed) refl
+
+  pub globals_end : (spec : Spec) (ds : List Declarator) (i : ℕ) (s : State) → length ds ≤ i → type_globals names signatures spec (declarators_of (drop i ds)) s ≡ Ok s
+  globals_end spec ds i s le = rw (drop_all i ds le) refl
+
+  pub external_step : (es : List External) (i : ℕ) (e d : External) (t next : Text) → i < length es → e ≡ get_or es i d → type_external names signatures (external_of e) t ≡ Ok next → type_externals names signatures (externals_of (drop i es)) t ≡ type_externals names signatures (externals_of (drop (i + 1) es)) next
+  external_step es i e d t next lt is typed = rw (drop_more es i d lt, ← is, typed) refl
+
+  pub external_fails : (es : List External) (i : ℕ) (e d : External) (t : Text) (f : TypeFault) → i < length es → e ≡ get_or es i d → Fails f (type_external names signatures (external_of e) t) → Fails f (type_externals names signatures (externals_of (drop i es)) t)
+  external_fails es i e d t NoMemory lt is failed = tt
+  external_fails es i e d t (At place kind) lt is failed = rw (drop_more es i d lt, ← is, failed) refl
+
+  pub externals_end : (es : List External) (i : ℕ) (t : Text) → length es ≤ i → type_externals names signatures (externals_of (drop i es)) t ≡ Ok t
+  externals_end es i t le = rw (drop_all i es le) refl
+
+-- a number among the last of them, by its number among all
+abbrev pub from_on : ℕ → Option ℕ → Option ℕ
+from_on n None = None
+from_on n (Some m) = Some (n + m)
+
+from_none : (m : Option ℕ) → from_on 0 m ≡ m
+from_none None = refl
+from_none (Some m) = ap Some (omega arith)
+
+from_behind : (n : ℕ) (m : Option ℕ) → from_on n (behind m) ≡ from_on (n + 1) m
+from_behind n None = refl
+from_behind n (Some m) = ap Some (omega arith)
+
+pub main_begins : (rs : List Routine) → main_of (map routine rs) ≡ from_on 0 (main_of (map routine rs))
+main_begins rs = rw (from_none (main_of (map routine rs))) refl
+
+pub main_here : (rs : List Routine) (i : ℕ) (r d : Routine) (n : ℕ) → i < length rs → r ≡ get_or rs i d → is_main (routine r) ≡ true → from_on i (main_of (map routine (drop i rs))) ≡ Some i
+main_here rs i r d n lt is main = rw (drop_more rs i d lt, ← is, main) (ap Some (omega arith))
+
+pub main_later : (rs : List Routine) (i : ℕ) (r d : Routine) → i < length rs → r ≡ get_or rs i d → is_main (routine r) ≡ false → from_on i (main_of (map routine (drop i rs))) ≡ from_on (i + 1) (main_of (map routine (drop (i + 1) rs)))
+main_later rs i r d lt is main = rw (drop_more rs i d lt, ← is, main) (from_behind i (main_of (map routine (drop (i + 1) rs))))
+
+pub main_nowhere : (rs : List Routine) (i : ℕ) → length rs ≤ i → from_on i (main_of (map routine (drop i rs))) ≡ None
+main_nowhere rs i le = rw (drop_all i rs le) refl
+
+-- a whole text: the functions that are known, and the externals, as the code holds them
+module _ (items l m : List External) (end : ℕ) (f : Known) (begun : Text) (is_l : l ≡ items) (is_m : m ≡ items) (known_is : fine (known (externals_of l)) ≡ Ok f) (begins : fine empty_text ≡ Ok begun) where
+  all_known : known (externals_of items) ≡ f
+  all_known =
+      let k : known (externals_of l) ≡ f = cc in
+      ap (λ x. known (externals_of x)) (sym is_l) ∙ k
+
+  all_begun : empty_text ≡ begun
+  all_begun = cc
+
+  pub whole_runs : (t : Text) (n : ℕ) (os : List Object) (rs found : List Routine) → type_externals f.names f.signatures (externals_of m) begun ≡ Ok t → Some n ≡ main_of (map routine found) → found ≡ rs → t.bodies ≡ map routine rs → os ≡ t.state.area.objects → type_text (externals_of items) end ≡ Ok (record { objects = os; routines = map routine rs; main = n })
+  unfolding type_text
+  whole_runs t n os rs found typed main same bodies objects =
+      let ty : type_externals f.names f.signatures (externals_of items) begun ≡ Ok t = ap (λ x. type_externals f.names f.signatures (externals_of x) begun) (sym is_m) ∙ typed in
+      let mn : main_of (map routine rs) ≡ Some n = ap (λ x. main_of (map routine x)) (sym same) ∙ sym main in
+      rw (all_known, all_begun, ty, bodies, mn, objects) refl
+
+  pub whole_fails : (e : TypeFault) → Fails e (type_externals f.names f.signatures (externals_of m) begun) → Fails e (type_text (externals_of items) end)
+  unfolding type_text
+  whole_fails NoMemory failed = tt
+  whole_fails (At place kind) failed =
+      let ty : type_externals f.names f.signatures (externals_of items) begun ≡ bad place kind = ap (λ x. type_externals f.names f.signatures (externals_of x) begun) (sym is_m) ∙ failed in
+      rw (all_known, all_begun, ty) refl
+
+  pub whole_lacks : (t : Text) (rs found : List Routine) → type_externals f.names f.signatures (externals_of m) begun ≡ Ok t → None ≡ main_of (map routine found) → found ≡ rs → t.bodies ≡ map routine rs → type_text (externals_of items) end ≡ bad end NoMain
+  unfolding type_text
+  whole_lacks t rs found typed main same bodies =
+      let ty : type_externals f.names f.signatures (externals_of items) begun ≡ Ok t = ap (λ x. type_externals f.names f.signatures (externals_of x) begun) (sym is_m) ∙ typed in
+      let mn : main_of (map routine rs) ≡ None = ap (λ x. main_of (map routine x)) (sym same) ∙ sym main in
+      rw (all_known, all_begun, ty, bodies, mn) refl
+
+-- what never fails fails for want of memory alone
+pub no_fault : {A B : Type 0} (e : TypeFault) (x : A) (m : Result B Fault) → Fails e (fine x) → Fails e m
+no_fault NoMemory x m h = tt
+no_fault (At place kind) x m h = absurd (cc)

@@ -1,0 +1,142 @@
+-- The types of expressions, and the first fault.
+use Rattle.std.specs.Prelude.{ℕ, ◌+◌, ◌-◌, ◌==◌, Bool, true, false, List, [], ◌∷◌, length, slice_get, Option, Some, None, Result, Ok, if◌then◌else◌}
+use Rattle.c_phrases.specs.declared.operator.Spec.{Spec}
+use Rattle.c_phrases.specs.declared.operator.Spec.TheVariants as specs
+use Rattle.c_types.specs.declared.types.CType.{CType}
+use Rattle.c_types.specs.declared.types.CType.TheVariants as types
+use Rattle.c_types.specs.declared.types.Integer.{Integer}
+use Rattle.c_types.specs.declared.types.Integer.TheVariants as ints
+use Rattle.c_types.specs.declared.typed.Callee.{Callee}
+use Rattle.c_types.specs.declared.typed.Callee.TheVariants as callees
+use Rattle.c_types.specs.declared.typed.Moment.TheVariants as moments
+use Rattle.c_types.specs.declared.fault.TypeKind.TheVariants.{UnknownName, BadType, BadCall}
+use Rattle.c_types.specs.Answers.{Fault, bad, ◌>>=◌}
+use Rattle.c_types.specs.Typed.{Term, Terms, NoTerms, MoreTerms, Constant, ReadOf, ArrayAt, CallOf, VariableAt}
+use Rattle.c_typed_operators.specs.Rules.{fits, binary_of, prefix_of, index_of, step, cast_of, sizeof_of, sizeof_type_of, choice_of, comma_of, assign_of}
+use Rattle.c_typed_scope.specs.declared.entry.Entry.{Entry}
+use Rattle.c_typed_scope.specs.declared.entry.Entry.TheVariants as entries
+use Rattle.c_typed_scope.specs.declared.entry.Signature.{Signature}
+use Rattle.c_phrases.specs.Phrases.{AnExp, name, number, str, paren, call, index, step_after, step_before, prefix, sizeof_exp, sizeof_type, cast, binary, choice, assign, comma, SomeExps, no_exps, exps}
+use Rattle.c_typed_expressions.specs.Phrases.{first}
+use Rattle.c_typed_scope.specs.Scopes.{Scope, find, lookup}
+use Rattle.c_typed_scope.specs.Layout.{Area, literal}
+
+-- the integer type that the words of a type name; none for void
+unfoldable pub integer_of : Spec → Option Integer
+integer_of (specs.Int at) = Some ints.Int
+integer_of (specs.Char at) = Some ints.Char
+integer_of (specs.Short at int) = Some ints.Short
+integer_of (specs.UnsignedChar at char) = Some ints.UnsignedChar
+integer_of (specs.UnsignedShort at short int) = Some ints.UnsignedShort
+integer_of (specs.Void at) = None
+
+abbrev pub under_stars : Option Integer → ℕ → CType
+under_stars None n = types.Void
+under_stars (Some b) n = if n == 0 then types.Integer b else types.Pointer b (n - 1)
+
+-- the type that words and stars write; void with stars is none, and stands as void
+unfoldable pub written : Spec → List ℕ → CType
+written spec stars = under_stars (integer_of spec) (length stars)
+
+-- a name that is in no block: a function of the text, or unknown
+abbrev pub named_function : Option Entry → ℕ → Result Term Fault
+named_function None at = bad at UnknownName
+named_function (Some e) at = bad at BadType
+
+abbrev pub named_by : Option Entry → Option Entry → ℕ → Result Term Fault
+named_by None f at = named_function f at
+named_by (Some (entries.Variable t v)) f at = Ok (ReadOf (VariableAt t v))
+named_by (Some (entries.Array t v n)) f at = Ok (ArrayAt t v n)
+named_by (Some (entries.Function n)) f at = bad at BadType
+
+abbrev pub is_function_by : Option Entry → Option Entry → Bool
+is_function_by None None = false
+is_function_by None (Some e) = true
+is_function_by (Some (entries.Variable t v)) f = false
+is_function_by (Some (entries.Array t v n)) f = false
+is_function_by (Some (entries.Function n)) f = true
+
+abbrev pub function_number : Option Entry → ℕ → Result (Option ℕ) Fault
+function_number (Some (entries.Function n)) at = Ok (Some n)
+function_number (Some (entries.Variable t v)) at = bad at UnknownName
+function_number (Some (entries.Array t v n)) at = bad at UnknownName
+function_number None at = bad at UnknownName
+
+-- a called name: none where it is a variable's
+abbrev pub callee_by : Option Entry → Option Entry → ℕ → Result (Option ℕ) Fault
+callee_by (Some (entries.Variable t v)) f at = Ok None
+callee_by (Some (entries.Array t v n)) f at = Ok None
+callee_by (Some (entries.Function n)) f at = function_number f at
+callee_by None f at = function_number f at
+
+-- the two services come first, and then the functions in order of definition
+unfoldable pub callee_of : ℕ → Callee
+callee_of n = if n == 0 then callees.Putchar else if n == 1 then callees.Getchar else callees.Defined (n - 2)
+
+-- the place of the first argument that its parameter does not take
+abbrev pub unfit : List CType → SomeExps → Terms → Option ℕ
+unfit [] es xs = None
+unfit (t ∷ ts) no_exps xs = None
+unfit (t ∷ ts) (exps e es) NoTerms = None
+unfit (t ∷ ts) (exps e es) (MoreTerms x xs) = if fits t x then unfit ts es xs else Some (first e)
+
+abbrev pub count : SomeExps → ℕ
+count no_exps = 0
+count (exps e es) = count es + 1
+
+abbrev pub call_unless : Option ℕ → Signature → ℕ → Terms → Result Term Fault
+call_unless None s n xs = Ok (CallOf s.result (callee_of n) s.parameters xs)
+call_unless (Some at) s n xs = bad at BadType
+
+abbrev pub called_by : Option Signature → ℕ → ℕ → SomeExps → Terms → Result Term Fault
+called_by None n opened es xs = bad opened BadCall
+called_by (Some s) n opened es xs = if length s.parameters == count es then call_unless (unfit s.parameters es xs) s n xs else bad opened BadCall
+
+abbrev pub called : List Signature → Option ℕ → ℕ → SomeExps → Terms → Result Term Fault
+called signatures None opened es xs = bad opened BadCall
+called signatures (Some n) opened es xs = called_by (slice_get signatures n) n opened es xs
+
+abbrev pub beside : {A : Type 0} → A → Result Term Fault → Result (Term × A) Fault
+beside a m = m >>= λ t. Ok (t, a)
+
+-- sizeof of a function's name is refused
+abbrev pub sizeof_unless : Bool → ℕ → Result (Term × Area) Fault → Result (Term × Area) Fault
+sizeof_unless true at m = bad at BadType
+sizeof_unless false at m = m >>= λ x. beside x.1 (sizeof_of at x.0)
+
+-- names of the functions that are defined in the text, and their signatures
+module _ (names : List (List ℕ × Entry)) (signatures : List Signature) (scope : Scope) where
+  unfoldable pub named : ℕ → List ℕ → Result Term Fault
+  named at n = named_by (lookup scope n) (find names n) at
+
+  unfoldable pub callee : ℕ → List ℕ → Result (Option ℕ) Fault
+  callee at n = callee_by (lookup scope n) (find names n) at
+
+  -- a function's name without a call, also in parentheses
+  unfoldable pub is_function : AnExp → Bool
+  is_function (name n at) = is_function_by (lookup scope n) (find names n)
+  is_function (paren o e) = is_function e
+  is_function _ = false
+
+  abbrev mutual
+    pub type_exp : AnExp → Area → Result (Term × Area) Fault
+    type_exp (name n at) a = beside a (named at n)
+    type_exp (number v at) a = Ok (Constant v, a)
+    type_exp (str b at) a = literal at b a
+    type_exp (paren o e) a = type_exp e a
+    type_exp (call n at o es) a = callee at n >>= λ f. type_exps es a >>= λ xs. beside xs.1 (called signatures f o es xs.0)
+    type_exp (index e o i) a = type_exp e a >>= λ x. type_exp i x.1 >>= λ y. beside y.1 (index_of o x.0 y.0)
+    type_exp (step_after e op at) a = type_exp e a >>= λ x. beside x.1 (step moments.Before op at x.0)
+    type_exp (step_before op at e) a = type_exp e a >>= λ x. beside x.1 (step moments.After op at x.0)
+    type_exp (prefix op at e) a = type_exp e a >>= λ x. beside x.1 (prefix_of op at x.0)
+    type_exp (sizeof_exp at e) a = sizeof_unless (is_function e) at (type_exp e a)
+    type_exp (sizeof_type at o t) a = beside a (sizeof_type_of at (written t.spec t.stars))
+    type_exp (cast o t e) a = type_exp e a >>= λ x. beside x.1 (cast_of o (written t.spec t.stars) x.0)
+    type_exp (binary l op at r) a = type_exp l a >>= λ x. type_exp r x.1 >>= λ y. beside y.1 (binary_of op at x.0 y.0)
+    type_exp (choice c at e d) a = type_exp c a >>= λ z. type_exp e z.1 >>= λ x. type_exp d x.1 >>= λ y. beside y.1 (choice_of at z.0 x.0 y.0)
+    type_exp (assign p op at v) a = type_exp p a >>= λ x. type_exp v x.1 >>= λ y. beside y.1 (assign_of op at x.0 y.0)
+    type_exp (comma l r) a = type_exp l a >>= λ x. type_exp r x.1 >>= λ y. Ok (comma_of x.0 y.0, y.1)
+
+    pub type_exps : SomeExps → Area → Result (Terms × Area) Fault
+    type_exps no_exps a = Ok (NoTerms, a)
+    type_exps (exps e es) a = type_exp e a >>= λ x. type_exps es x.1 >>= λ xs. Ok (MoreTerms x.0 xs.0, xs.1)

@@ -1,0 +1,199 @@
+-- Functions and whole texts: what a text is typed as, and which fault is its first.
+use Rattle.std.specs.Prelude.{◌≡◌, ℕ, ◌+◌, nat_lt, Bool, false, ◌&&◌, is_some, List, [], ◌∷◌, length, slice_get, Option, Some, None}
+use Rattle.c_phrases.specs.declared.operator.Spec.{Spec}
+use Rattle.c_phrases.specs.declared.tree.Named.{Named}
+use Rattle.c_types.specs.declared.types.Integer.{Integer}
+use Rattle.c_types.specs.declared.fault.TypeKind.TheVariants.{Twice, BadType, NoMain}
+use Rattle.c_types.specs.Answers.{Fault}
+use Rattle.c_types.specs.Types.{is_scalar}
+use Rattle.c_typed_operators.specs.Table.{NoRow}
+use Rattle.c_typed_scope.specs.declared.entry.Entry.{Entry}
+use Rattle.c_typed_scope.specs.declared.entry.Entry.TheVariants as entries
+use Rattle.c_typed_scope.specs.declared.entry.Signature.{Signature}
+use Rattle.c_typed_scope.specs.Scopes.{Scope, find, is_taken}
+use Rattle.c_typed_scope.specs.Layout.{Area}
+use Rattle.c_phrases.specs.Phrases.{AnExp}
+use Rattle.c_phrases.specs.Units.{SomeItems, ADeclarator, AParam, AFunction, ADeclared, function, globals, AnExternal}
+use Rattle.c_program.specs.Programs.{AProgram}
+use Rattle.c_typed_expressions.specs.Phrases.{params_in, brackets_in}
+use Rattle.c_typed_expressions.specs.Expressions.{integer_of, written}
+use Rattle.c_typed_expressions.specs.Relations.{Joint, FirstOf, Unless}
+use Rattle.c_typed_definition.specs.Declarations.{State, with_area}
+use Rattle.c_typed_definition.specs.Texts.{parameter_type, signature_of, known, Text, with_state, same_signature, is_below, word_of, with_parameter, with_declared, body_of, with_body, entered_function, left_function, main_of, empty_text}
+use Rattle.c_typed_law.specs.Tests.{With, Without, Lacking, Never, IsFault}
+use Rattle.c_typed_law.specs.Values.{IsLength, LengthFault}
+use Rattle.c_typed_law.specs.Objects.{IsObject, ObjectFault}
+use Rattle.c_typed_law.specs.Statements.{AreItems, ItemsFault}
+
+-- the earlier declaration of a function's name, which is no variable's
+abbrev pub IsEarlier : Option Entry → Option ℕ → Type 0
+IsEarlier None n = n ≡ None
+IsEarlier (Some (entries.Function k)) n = n ≡ Some k
+IsEarlier (Some (entries.Variable t v)) n = ⊥
+IsEarlier (Some (entries.Array t v size)) n = ⊥
+
+abbrev pub EarlierFault : Option Entry → ℕ → Fault → Type 0
+EarlierFault None at f = ⊥
+EarlierFault (Some (entries.Function k)) at f = ⊥
+EarlierFault (Some (entries.Variable t v)) at f = IsFault at Twice f
+EarlierFault (Some (entries.Array t v size)) at f = IsFault at Twice f
+
+-- a result is no void with stars
+abbrev pub IsResult : Option Integer → List ℕ → Unit {0} → Type 0
+IsResult (Some b) stars ok = ok ≡ tt
+IsResult None [] ok = ok ≡ tt
+IsResult None (s ∷ ss) ok = ⊥
+
+abbrev pub ResultFault : Option Integer → List ℕ → ℕ → Fault → Type 0
+ResultFault (Some b) stars at f = ⊥
+ResultFault None [] at f = ⊥
+ResultFault None (s ∷ ss) at f = IsFault at BadType f
+
+-- a function is defined once
+abbrev pub IsHead : Bool → Bool → Option Integer → List ℕ → Unit {0} → Type 0
+IsHead defines defined b stars ok = Without (defines && defined) (IsResult b stars) ok
+
+abbrev pub HeadFault : Bool → Bool → Option Integer → List ℕ → ℕ → Fault → Type 0
+HeadFault defines defined b stars at f = Unless (defines && defined) at Twice (ResultFault b stars at) f
+
+-- a parameter is an integer or a pointer; where the function is defined it has a name, and two have different ones
+abbrev pub IsParameterForm : Option Named → Bool → AParam → Scope → Unit {0} → Type 0
+IsParameterForm (Some n) defines p scope ok = Without (is_taken scope n.name) (With (is_scalar (written p.spec p.stars)) (λ u. u ≡ tt)) ok
+IsParameterForm None defines p scope ok = With (is_scalar (written p.spec p.stars)) (Without defines (λ u. u ≡ tt)) ok
+
+abbrev pub ParameterFormFault : Option Named → Bool → ℕ → AParam → Scope → Fault → Type 0
+ParameterFormFault (Some n) defines at p scope f = Unless (is_taken scope n.name) n.at Twice (Lacking (is_scalar (written p.spec p.stars)) n.at BadType Never) f
+ParameterFormFault None defines at p scope f = Lacking (is_scalar (written p.spec p.stars)) (word_of p.spec) BadType (Unless defines at BadType Never) f
+
+-- the types of an earlier declaration
+abbrev pub IsSameAs : Option Signature → Signature → Unit {0} → Type 0
+IsSameAs None mine ok = ok ≡ tt
+IsSameAs (Some s) mine ok = With (same_signature s mine) (λ u. u ≡ tt) ok
+
+abbrev pub SameFault : Option Signature → Signature → ℕ → Fault → Type 0
+SameFault None mine at f = ⊥
+SameFault (Some s) mine at f = Lacking (same_signature s mine) at BadType Never f
+
+abbrev pub AgreesWith : Option ℕ → List Signature → Signature → Unit {0} → Type 0
+AgreesWith None declared mine ok = ok ≡ tt
+AgreesWith (Some n) declared mine ok = IsSameAs (slice_get declared n) mine ok
+
+abbrev pub DisagreesWith : Option ℕ → List Signature → Signature → ℕ → Fault → Type 0
+DisagreesWith None declared mine at f = ⊥
+DisagreesWith (Some n) declared mine at f = SameFault (slice_get declared n) mine at f
+
+-- at most 32 parameters, and the types of the earlier declaration
+abbrev pub Agrees : Option ℕ → List Signature → Signature → Unit {0} → Type 0
+Agrees earlier declared mine ok = Without (nat_lt 32 (length mine.parameters)) (AgreesWith earlier declared mine) ok
+
+abbrev pub AgreesFault : Option ℕ → List Signature → Signature → ℕ → Fault → Type 0
+AgreesFault earlier declared mine at f = Unless (nat_lt 32 (length mine.parameters)) at BadType (DisagreesWith earlier declared mine at) f
+
+-- names and signatures of the functions that are defined in the text
+module _ (names : List (List ℕ × Entry)) (signatures : List Signature) where
+  -- a parameter's length is a constant in range too
+  abbrev pub IsParameterLength : Option (Option AnExp) → Scope → Area → Area → Type 0
+  IsParameterLength None scope a b = b ≡ a
+  IsParameterLength (Some None) scope a b = b ≡ a
+  IsParameterLength (Some (Some e)) scope a b = Joint (IsLength names signatures scope e a) (λ x u. u ≡ x.1) b
+
+  abbrev pub ParameterLengthFault : Option (Option AnExp) → Scope → Area → Fault → Type 0
+  ParameterLengthFault None scope a f = ⊥
+  ParameterLengthFault (Some None) scope a f = ⊥
+  ParameterLengthFault (Some (Some e)) scope a f = FirstOf (IsLength names signatures scope e a) (LengthFault names signatures scope e a) (λ x. Never) f
+
+  -- a parameter of this number
+  abbrev pub IsParameter : Bool → AParam → ℕ → State → State → Type 0
+  IsParameter defines p n s r =
+      Joint (IsParameterForm p.name defines p s.scope) (λ ok. Joint (IsParameterLength (brackets_in p.length) s.scope s.area) (λ a u. u ≡ with_parameter p.name (parameter_type p) n (with_area a s))) r
+
+  abbrev pub ParameterFault : Bool → ℕ → AParam → State → Fault → Type 0
+  ParameterFault defines at p s f =
+      FirstOf (IsParameterForm p.name defines p s.scope) (ParameterFormFault p.name defines at p s.scope) (λ ok. FirstOf (IsParameterLength (brackets_in p.length) s.scope s.area) (ParameterLengthFault (brackets_in p.length) s.scope s.area) (λ a. Never)) f
+
+  -- the parameters from left to right, from number n on
+  abbrev pub AreParameters : Bool → List AParam → ℕ → State → State → Type 0
+  AreParameters defines [] n s r = r ≡ s
+  AreParameters defines (p ∷ ps) n s r = Joint (IsParameter defines p n s) (AreParameters defines ps (n + 1)) r
+
+  abbrev pub ParametersFault : Bool → ℕ → List AParam → ℕ → State → Fault → Type 0
+  ParametersFault defines at [] n s f = ⊥
+  ParametersFault defines at (p ∷ ps) n s f = FirstOf (IsParameter defines p n s) (ParameterFault defines at p s) (ParametersFault defines at ps (n + 1)) f
+
+  -- the parameters and the body's outermost block are one scope
+  abbrev pub IsBody : Spec → AFunction → Option SomeItems → State → Text → Text → Type 0
+  IsBody spec f None s t r = r ≡ with_state (left_function s) t
+  IsBody spec f (Some row) s t r =
+      Joint (AreItems names signatures (written spec f.stars) false row s) (λ x u. u ≡ with_body (body_of spec f x.1.locals x.0) (with_state (left_function x.1) t)) r
+
+  abbrev pub BodyFault : Spec → AFunction → Option SomeItems → State → Fault → Type 0
+  BodyFault spec f None s g = ⊥
+  BodyFault spec f (Some row) s g = FirstOf (AreItems names signatures (written spec f.stars) false row s) (ItemsFault names signatures (written spec f.stars) false row s) (λ x. Never) g
+
+  -- once its name is in scope: its parameters, its agreement with an earlier declaration, and its body
+  abbrev pub IsIntroduced : Option ℕ → Spec → AFunction → Text → Text → Type 0
+  IsIntroduced earlier spec f t r =
+      Joint (AreParameters (is_some f.body) (params_in f.params) 0 (entered_function t.state)) (λ s.
+      Joint (Agrees earlier t.declared (signature_of spec f)) (λ same.
+      IsBody spec f f.body s t)) r
+
+  abbrev pub IntroducedFault : Option ℕ → Spec → AFunction → Text → Fault → Type 0
+  IntroducedFault earlier spec f t g =
+      FirstOf (AreParameters (is_some f.body) (params_in f.params) 0 (entered_function t.state)) (ParametersFault (is_some f.body) f.at (params_in f.params) 0 (entered_function t.state)) (λ s.
+      FirstOf (Agrees earlier t.declared (signature_of spec f)) (AgreesFault earlier t.declared (signature_of spec f) f.at) (λ same.
+      BodyFault spec f f.body s)) g
+
+  -- a function: its name, which is no variable's, its result, and then what follows
+  abbrev pub IsFunction : Spec → AFunction → Text → Text → Type 0
+  IsFunction spec f t r =
+      Joint (IsEarlier (find t.state.scope.here f.name)) (λ earlier.
+      Joint (IsHead (is_some f.body) (is_below (find names f.name) (length t.bodies + 2)) (integer_of spec) f.stars) (λ ok.
+      IsIntroduced earlier spec f (with_declared earlier spec f t))) r
+
+  abbrev pub FunctionFault : Spec → AFunction → Text → Fault → Type 0
+  FunctionFault spec f t g =
+      FirstOf (IsEarlier (find t.state.scope.here f.name)) (EarlierFault (find t.state.scope.here f.name) f.at) (λ earlier.
+      FirstOf (IsHead (is_some f.body) (is_below (find names f.name) (length t.bodies + 2)) (integer_of spec) f.stars) (HeadFault (is_some f.body) (is_below (find names f.name) (length t.bodies + 2)) (integer_of spec) f.stars f.at) (λ ok.
+      IntroducedFault earlier spec f (with_declared earlier spec f t))) g
+
+  -- the global variables of one declaration from left to right
+  abbrev pub AreGlobals : Spec → List ADeclarator → State → State → Type 0
+  AreGlobals spec [] s r = r ≡ s
+  AreGlobals spec (d ∷ ds) s r = Joint (IsObject names signatures false spec d s) (λ x. AreGlobals spec ds x.1) r
+
+  abbrev pub GlobalsFault : Spec → List ADeclarator → State → Fault → Type 0
+  GlobalsFault spec [] s f = ⊥
+  GlobalsFault spec (d ∷ ds) s f = FirstOf (IsObject names signatures false spec d s) (ObjectFault names signatures false spec d s) (λ x. GlobalsFault spec ds x.1) f
+
+  abbrev pub IsExternalBy : Spec → ADeclared → Text → Text → Type 0
+  IsExternalBy spec (function f) t r = IsFunction spec f t r
+  IsExternalBy spec (globals ds) t r = Joint (AreGlobals spec ds t.state) (λ s u. u ≡ with_state s t) r
+
+  abbrev pub ExternalFaultBy : Spec → ADeclared → Text → Fault → Type 0
+  ExternalFaultBy spec (function f) t g = FunctionFault spec f t g
+  ExternalFaultBy spec (globals ds) t g = FirstOf (AreGlobals spec ds t.state) (GlobalsFault spec ds t.state) (λ s. Never) g
+
+  -- the externals in order
+  abbrev pub AreExternals : List AnExternal → Text → Text → Type 0
+  AreExternals [] t r = r ≡ t
+  AreExternals (e ∷ es) t r = Joint (IsExternalBy e.spec e.declared t) (AreExternals es) r
+
+  abbrev pub ExternalsFault : List AnExternal → Text → Fault → Type 0
+  ExternalsFault [] t f = ⊥
+  ExternalsFault (e ∷ es) t f = FirstOf (IsExternalBy e.spec e.declared t) (ExternalFaultBy e.spec e.declared t) (ExternalsFault es) f
+
+-- a program has its objects, its functions, and the number of main
+abbrev pub IsWhole : Text → AProgram → Type 0
+IsWhole t p = Joint (λ n. main_of t.bodies ≡ Some n) (λ n u. u ≡ record { objects = t.state.area.objects; routines = t.bodies; main = n }) p
+
+abbrev pub WholeFault : Text → ℕ → Fault → Type 0
+WholeFault t end f = NoRow (λ n. main_of t.bodies ≡ Some n) end NoMain f
+
+-- The text is well typed, as this program. A call may stand before its function's definition: the functions of the whole text are known in each.
+unfoldable pub IsText : List AnExternal → AProgram → Type 0
+IsText text p = Joint (AreExternals (known text).names (known text).signatures text empty_text) IsWhole p
+
+-- The text's first fault is this one: all before it is well typed. NoMain comes behind all others, at the text's end.
+unfoldable pub TextFault : List AnExternal → ℕ → Fault → Type 0
+TextFault text end f =
+    FirstOf (AreExternals (known text).names (known text).signatures text empty_text) (ExternalsFault (known text).names (known text).signatures text empty_text) (λ t. WholeFault t end) f

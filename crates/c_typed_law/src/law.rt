@@ -1,0 +1,26 @@
+// What a text is typed as, and which fault is its first.
+ghost use Rattle.std.specs.Prelude.{ℕ, List, Result, IfOk, IfErr};
+ghost use Rattle.c_phrases.specs.Units.{AnExternal};
+ghost use Rattle.c_types.specs.declared.fault.TypeFault.{TypeFault};
+ghost use Rattle.c_types.specs.Answers.{Fault, Gives};
+ghost use Rattle.c_typed_operators.specs.Table.{Means, Refused, OnlyAnswer, OnlyFault};
+ghost use Rattle.c_program.specs.Programs.{AProgram};
+ghost use Rattle.c_typed_definition.specs.Texts.{type_text};
+ghost use Rattle.c_typed_law.specs.Texts.{IsText, TextFault};
+
+/// The definition that a reader of whole texts computes answers what the two relations say: exactly the one typed program,
+/// or exactly the first fault, in the order of the externals, their parts from left to right, and operands before their operator.
+#[tactic(auto, using(crate::proofs::Texts::text_means))]
+pub fn text_law()
+    ensures { (text : List AnExternal) (end : ℕ) → Means (type_text text end) (IsText text) (TextFault text end) }
+{}
+
+/// So does a function that computes the definition, whatever it answers with, unless memory runs out: `view` is what its answer
+/// is as plain data.
+#[tactic(auto, using(crate::proofs::Answers::text_found, crate::proofs::Answers::text_only, crate::proofs::Answers::text_refused, crate::proofs::Answers::text_first))]
+pub fn answer_law<T>()
+    ensures found { (view : T → AProgram) (r : Result T TypeFault) (text : List AnExternal) (end : ℕ) → Gives view r (type_text text end) → IfOk r (λ x. IsText text (view x)) }
+    ensures only { (view : T → AProgram) (r : Result T TypeFault) (text : List AnExternal) (end : ℕ) → Gives view r (type_text text end) → (p : AProgram) → IsText text p → OnlyAnswer view r p }
+    ensures refused { (view : T → AProgram) (r : Result T TypeFault) (text : List AnExternal) (end : ℕ) → Gives view r (type_text text end) → IfErr r (λ e. Refused (TextFault text end) e) }
+    ensures first { (view : T → AProgram) (r : Result T TypeFault) (text : List AnExternal) (end : ℕ) → Gives view r (type_text text end) → (f : Fault) → TextFault text end f → OnlyFault r f }
+{}

@@ -1,0 +1,32 @@
+// What is known while a function is read.
+ghost use Rattle.std.specs.Prelude.{◌≡◌, OnOk, None};
+ghost use Rattle.c_typed_scope.specs.Scopes.{find, with_name};
+ghost use Rattle.c_typed_scope.specs.Views.{scope};
+
+use c_typed_scope::{Blocks, Data, Entry};
+use c_types::CType;
+use gg_base::Name;
+use std::alloc::{AllocError, Global};
+
+/// What is in scope and laid out while a function is read, and the types of its automatic locals so far.
+#[derive(Drop)]
+pub struct Desk {
+    pub blocks: Blocks,
+    pub locals: Vec<CType>,
+    pub layout: Data,
+}
+
+/// Declares a name that the innermost block doesn't declare yet.
+#[tactic(auto, unfolding(c_typed_scope::specs::Scopes::with_name))]
+pub fn declare(
+    alloc: Global,
+    blocks: &mut Blocks,
+    name: &Name,
+    entry: Entry,
+) -> Result<(), AllocError>
+    requires { find blocks.old.here name.now ≡ None }
+    ensures { OnOk result (scope blocks.new ≡ with_name name.now entry (scope blocks.old)) }
+{
+    let name = Vec::from_slice(alloc, name.as_slice())?;
+    blocks.here.add(name, entry)
+}

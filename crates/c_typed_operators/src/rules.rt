@@ -1,0 +1,513 @@
+// The table of operators, on operands that have their types. A fault stands at the operator.
+ghost use Rattle.std.specs.Prelude.{◌≡◌};
+ghost use Rattle.c_types.specs.Answers.{Gives};
+ghost use Rattle.c_types.specs.Typed.{term, place_of};
+ghost use Rattle.c_typed_operators.specs.Rules.{arithmetic, plus, minus, order, are_comparable, equality, both, either, binary_of, unary, negation, indirection, element, index_of, address_of, address, prefix_of, direction, step, cast_of, sizeof_of, sizeof_type_of, arms, choice_of, comma_of, given, condition_of, fits};
+
+use c_phrases::operator::{BinaryOperator, PrefixOperator, StepOperator};
+use c_types::fault::bad_type;
+use c_types::{
+    ArithmeticOperator, CType, Direction, Expression, Integer, Moment, Place, TypeFault, TypeKind,
+    UnaryOperator, Variable,
+};
+use gg_base::Rel;
+use std::alloc::Global;
+
+/// Whether a value may be given to a place of this type: an integer to an integer type, a pointer to its own type,
+/// the null constant to a pointer.
+#[tactic(auto, unfolding(crate::specs::Rules::fits))]
+pub fn fits(to: CType, x: &Expression) -> bool
+    ensures { result ≡ fits to (term x.now) }
+{
+    match to {
+        CType::Void => false,
+        CType::Integer(_) => x.ctype().is_integer(),
+        CType::Pointer(_, _) => to.is_same(x.ctype()) || x.is_null(),
+    }
+}
+
+#[tactic(auto, unfolding(crate::specs::Rules::arithmetic))]
+fn arithmetic(
+    alloc: Global,
+    op: ArithmeticOperator,
+    at: u32,
+    x: Expression,
+    y: Expression,
+) -> Result<Expression, TypeFault>
+    ensures { Gives (λ t. term t) result (arithmetic op at (term x) (term y)) }
+{
+    if x.ctype().is_integer() && y.ctype().is_integer() {
+        Ok(Expression::Arithmetic(op, Box::new(alloc, x)?, Box::new(alloc, y)?))
+    } else {
+        bad_type(at)
+    }
+}
+
+#[tactic(auto, unfolding(crate::specs::Rules::plus))]
+fn plus(alloc: Global, at: u32, x: Expression, y: Expression) -> Result<Expression, TypeFault>
+    ensures { Gives (λ t. term t) result (plus at (term x) (term y)) }
+{
+    match x.ctype() {
+        CType::Void => bad_type(at),
+        CType::Integer(_) => match y.ctype() {
+            CType::Void => bad_type(at),
+            CType::Integer(_) => Ok(Expression::Arithmetic(
+                ArithmeticOperator::Add,
+                Box::new(alloc, x)?,
+                Box::new(alloc, y)?,
+            )),
+            CType::Pointer(to, stars) => Ok(Expression::AdvanceBy(
+                CType::Pointer(to, stars),
+                Box::new(alloc, x)?,
+                Box::new(alloc, y)?,
+            )),
+        },
+        CType::Pointer(to, stars) => match y.ctype() {
+            CType::Void => bad_type(at),
+            CType::Integer(_) => Ok(Expression::Advance(
+                CType::Pointer(to, stars),
+                Box::new(alloc, x)?,
+                Box::new(alloc, y)?,
+            )),
+            CType::Pointer(_, _) => bad_type(at),
+        },
+    }
+}
+
+#[tactic(auto, unfolding(crate::specs::Rules::minus))]
+fn minus(alloc: Global, at: u32, x: Expression, y: Expression) -> Result<Expression, TypeFault>
+    ensures { Gives (λ t. term t) result (minus at (term x) (term y)) }
+{
+    match x.ctype() {
+        CType::Void => bad_type(at),
+        CType::Integer(_) => match y.ctype() {
+            CType::Void => bad_type(at),
+            CType::Integer(_) => Ok(Expression::Arithmetic(
+                ArithmeticOperator::Subtract,
+                Box::new(alloc, x)?,
+                Box::new(alloc, y)?,
+            )),
+            CType::Pointer(_, _) => bad_type(at),
+        },
+        CType::Pointer(to, stars) => match y.ctype() {
+            CType::Void => bad_type(at),
+            CType::Integer(_) => Ok(Expression::Retreat(
+                CType::Pointer(to, stars),
+                Box::new(alloc, x)?,
+                Box::new(alloc, y)?,
+            )),
+            CType::Pointer(other, others) => {
+                if CType::Pointer(to, stars).is_same(CType::Pointer(other, others)) {
+                    Ok(Expression::Distance(
+                        CType::Pointer(to, stars),
+                        Box::new(alloc, x)?,
+                        Box::new(alloc, y)?,
+                    ))
+                } else {
+                    bad_type(at)
+                }
+            }
+        },
+    }
+}
+
+#[tactic(auto, unfolding(crate::specs::Rules::order))]
+fn order(
+    alloc: Global,
+    signed: Rel,
+    unsigned: Rel,
+    at: u32,
+    x: Expression,
+    y: Expression,
+) -> Result<Expression, TypeFault>
+    ensures { Gives (λ t. term t) result (order signed unsigned at (term x) (term y)) }
+{
+    match x.ctype() {
+        CType::Void => bad_type(at),
+        CType::Integer(_) => match y.ctype() {
+            CType::Void => bad_type(at),
+            CType::Integer(_) => Ok(Expression::Compare(
+                signed,
+                Box::new(alloc, x)?,
+                Box::new(alloc, y)?,
+            )),
+            CType::Pointer(_, _) => bad_type(at),
+        },
+        CType::Pointer(to, stars) => match y.ctype() {
+            CType::Void => bad_type(at),
+            CType::Integer(_) => bad_type(at),
+            CType::Pointer(other, others) => {
+                if CType::Pointer(to, stars).is_same(CType::Pointer(other, others)) {
+                    Ok(Expression::Compare(unsigned, Box::new(alloc, x)?, Box::new(alloc, y)?))
+                } else {
+                    bad_type(at)
+                }
+            }
+        },
+    }
+}
+
+#[tactic(auto, unfolding(crate::specs::Rules::are_comparable))]
+fn are_comparable(x: &Expression, y: &Expression) -> bool
+    ensures { result ≡ are_comparable (term x.now) (term y.now) }
+{
+    match x.ctype() {
+        CType::Void => false,
+        CType::Integer(_) => match y.ctype() {
+            CType::Void => false,
+            CType::Integer(_) => true,
+            CType::Pointer(_, _) => x.is_null(),
+        },
+        CType::Pointer(to, stars) => CType::Pointer(to, stars).is_same(y.ctype()) || y.is_null(),
+    }
+}
+
+#[tactic(auto, unfolding(crate::specs::Rules::equality))]
+fn equality(
+    alloc: Global,
+    rel: Rel,
+    at: u32,
+    x: Expression,
+    y: Expression,
+) -> Result<Expression, TypeFault>
+    ensures { Gives (λ t. term t) result (equality rel at (term x) (term y)) }
+{
+    if are_comparable(&x, &y) {
+        Ok(Expression::Compare(rel, Box::new(alloc, x)?, Box::new(alloc, y)?))
+    } else {
+        bad_type(at)
+    }
+}
+
+#[tactic(auto, unfolding(crate::specs::Rules::both))]
+fn both(alloc: Global, at: u32, x: Expression, y: Expression) -> Result<Expression, TypeFault>
+    ensures { Gives (λ t. term t) result (both at (term x) (term y)) }
+{
+    if x.ctype().is_scalar() && y.ctype().is_scalar() {
+        Ok(Expression::AndAnd(Box::new(alloc, x)?, Box::new(alloc, y)?))
+    } else {
+        bad_type(at)
+    }
+}
+
+#[tactic(auto, unfolding(crate::specs::Rules::either))]
+fn either(alloc: Global, at: u32, x: Expression, y: Expression) -> Result<Expression, TypeFault>
+    ensures { Gives (λ t. term t) result (either at (term x) (term y)) }
+{
+    if x.ctype().is_scalar() && y.ctype().is_scalar() {
+        Ok(Expression::OrOr(Box::new(alloc, x)?, Box::new(alloc, y)?))
+    } else {
+        bad_type(at)
+    }
+}
+
+/// A binary operator between two operands.
+#[tactic(auto, unfolding(crate::specs::Rules::binary_of))]
+pub fn binary(
+    alloc: Global,
+    op: BinaryOperator,
+    at: u32,
+    x: Expression,
+    y: Expression,
+) -> Result<Expression, TypeFault>
+    ensures { Gives (λ t. term t) result (binary_of op at (term x) (term y)) }
+{
+    match op {
+        BinaryOperator::OrOr => either(alloc, at, x, y),
+        BinaryOperator::AndAnd => both(alloc, at, x, y),
+        BinaryOperator::Or => arithmetic(alloc, ArithmeticOperator::Or, at, x, y),
+        BinaryOperator::Xor => arithmetic(alloc, ArithmeticOperator::Xor, at, x, y),
+        BinaryOperator::And => arithmetic(alloc, ArithmeticOperator::And, at, x, y),
+        BinaryOperator::Equal => equality(alloc, Rel::Eq, at, x, y),
+        BinaryOperator::NotEqual => equality(alloc, Rel::Ne, at, x, y),
+        BinaryOperator::Less => order(alloc, Rel::Lt, Rel::Ltu, at, x, y),
+        BinaryOperator::LessEqual => order(alloc, Rel::Le, Rel::Leu, at, x, y),
+        BinaryOperator::Greater => order(alloc, Rel::Gt, Rel::Gtu, at, x, y),
+        BinaryOperator::GreaterEqual => order(alloc, Rel::Ge, Rel::Geu, at, x, y),
+        BinaryOperator::ShiftLeft => arithmetic(alloc, ArithmeticOperator::ShiftLeft, at, x, y),
+        BinaryOperator::ShiftRight => arithmetic(alloc, ArithmeticOperator::ShiftRight, at, x, y),
+        BinaryOperator::Add => plus(alloc, at, x, y),
+        BinaryOperator::Subtract => minus(alloc, at, x, y),
+        BinaryOperator::Multiply => arithmetic(alloc, ArithmeticOperator::Multiply, at, x, y),
+        BinaryOperator::Divide => arithmetic(alloc, ArithmeticOperator::Divide, at, x, y),
+        BinaryOperator::Remainder => arithmetic(alloc, ArithmeticOperator::Remainder, at, x, y),
+    }
+}
+
+#[tactic(auto, unfolding(crate::specs::Rules::unary))]
+fn unary(alloc: Global, op: UnaryOperator, at: u32, x: Expression) -> Result<Expression, TypeFault>
+    ensures { Gives (λ t. term t) result (unary op at (term x)) }
+{
+    if x.ctype().is_integer() {
+        Ok(Expression::Unary(op, Box::new(alloc, x)?))
+    } else {
+        bad_type(at)
+    }
+}
+
+#[tactic(auto, unfolding(crate::specs::Rules::negation))]
+fn negation(alloc: Global, at: u32, x: Expression) -> Result<Expression, TypeFault>
+    ensures { Gives (λ t. term t) result (negation at (term x)) }
+{
+    if x.ctype().is_scalar() {
+        Ok(Expression::Unary(UnaryOperator::Not, Box::new(alloc, x)?))
+    } else {
+        bad_type(at)
+    }
+}
+
+#[tactic(auto, unfolding(crate::specs::Rules::indirection))]
+fn indirection(alloc: Global, at: u32, x: Expression) -> Result<Expression, TypeFault>
+    ensures { Gives (λ t. term t) result (indirection at (term x)) }
+{
+    match x.ctype() {
+        CType::Void => bad_type(at),
+        CType::Integer(_) => bad_type(at),
+        CType::Pointer(to, stars) => Ok(Expression::Read(Place::Indirection(
+            CType::target(to, stars),
+            Box::new(alloc, x)?,
+        ))),
+    }
+}
+
+#[tactic(auto, unfolding(crate::specs::Rules::element))]
+fn element(alloc: Global, at: u32, sum: Expression) -> Result<Expression, TypeFault>
+    ensures { Gives (λ t. term t) result (element at (term sum)) }
+{
+    match sum.ctype() {
+        CType::Void => bad_type(at),
+        CType::Integer(_) => bad_type(at),
+        CType::Pointer(to, stars) => Ok(Expression::Read(Place::Index(
+            CType::target(to, stars),
+            Box::new(alloc, sum)?,
+        ))),
+    }
+}
+
+/// `a[i]`, with the pointer on either side.
+#[tactic(auto, unfolding(crate::specs::Rules::index_of))]
+pub fn index(alloc: Global, at: u32, x: Expression, y: Expression) -> Result<Expression, TypeFault>
+    ensures { Gives (λ t. term t) result (index_of at (term x) (term y)) }
+{
+    let sum = plus(alloc, at, x, y)?;
+    element(alloc, at, sum)
+}
+
+#[tactic(auto, unfolding(crate::specs::Rules::address_of, c_types::specs::Types::pointer_to))]
+fn address_of(at: u32, place: Place) -> Result<Expression, TypeFault>
+    ensures { Gives (λ t. term t) result (address_of at (place_of place)) }
+{
+    if let Place::Variable(_, Variable::Automatic(_) | Variable::Parameter(_)) = place {
+        return Err(TypeFault::At {
+            place: at,
+            kind: TypeKind::LeftOut,
+        });
+    }
+    match place.ctype() {
+        CType::Void => bad_type(at),
+        of => match of.pointer() {
+            None => Err(TypeFault::NoMemory),
+            Some(t) => Ok(Expression::Address(t, place)),
+        },
+    }
+}
+
+#[tactic(auto, unfolding(crate::specs::Rules::address))]
+fn address(at: u32, x: Expression) -> Result<Expression, TypeFault>
+    ensures { Gives (λ t. term t) result (address at (term x)) }
+{
+    match x {
+        Expression::Read(place) => address_of(at, place),
+        _ => bad_type(at),
+    }
+}
+
+/// An operator in front of its operand.
+#[tactic(auto, unfolding(crate::specs::Rules::prefix_of))]
+pub fn prefix(
+    alloc: Global,
+    op: PrefixOperator,
+    at: u32,
+    x: Expression,
+) -> Result<Expression, TypeFault>
+    ensures { Gives (λ t. term t) result (prefix_of op at (term x)) }
+{
+    match op {
+        PrefixOperator::Plus => unary(alloc, UnaryOperator::Plus, at, x),
+        PrefixOperator::Minus => unary(alloc, UnaryOperator::Minus, at, x),
+        PrefixOperator::Complement => unary(alloc, UnaryOperator::Complement, at, x),
+        PrefixOperator::Not => negation(alloc, at, x),
+        PrefixOperator::Indirection => indirection(alloc, at, x),
+        PrefixOperator::Address => address(at, x),
+    }
+}
+
+#[tactic(auto, unfolding(crate::specs::Rules::direction))]
+fn direction(op: StepOperator) -> Direction
+    ensures { result ≡ direction op }
+{
+    match op {
+        StepOperator::Increment => Direction::Up,
+        StepOperator::Decrement => Direction::Down,
+    }
+}
+
+/// `++` or `--` at a place.
+#[tactic(auto, unfolding(crate::specs::Rules::step))]
+pub fn step(
+    moment: Moment,
+    op: StepOperator,
+    at: u32,
+    x: Expression,
+) -> Result<Expression, TypeFault>
+    ensures { Gives (λ t. term t) result (step moment op at (term x)) }
+{
+    match x {
+        Expression::Read(place) => {
+            if place.ctype().is_scalar() {
+                Ok(Expression::Step(moment, direction(op), place))
+            } else {
+                bad_type(at)
+            }
+        }
+        _ => bad_type(at),
+    }
+}
+
+/// A cast to this type, from an integer or a pointer.
+#[tactic(auto, unfolding(crate::specs::Rules::cast_of))]
+pub fn cast(alloc: Global, at: u32, to: CType, x: Expression) -> Result<Expression, TypeFault>
+    ensures { Gives (λ t. term t) result (cast_of at to (term x)) }
+{
+    if to.is_scalar() && x.ctype().is_scalar() {
+        Ok(Expression::Cast(to, Box::new(alloc, x)?))
+    } else {
+        bad_type(at)
+    }
+}
+
+/// `sizeof` of an expression.
+#[tactic(auto, unfolding(crate::specs::Rules::sizeof_of))]
+pub fn sizeof_expression(alloc: Global, at: u32, x: Expression) -> Result<Expression, TypeFault>
+    ensures { Gives (λ t. term t) result (sizeof_of at (term x)) }
+{
+    if x.ctype().is_scalar() {
+        let size = x.operand_size();
+        Ok(Expression::SizeofExpression(size, Box::new(alloc, x)?))
+    } else {
+        bad_type(at)
+    }
+}
+
+/// `sizeof` of a type.
+#[tactic(auto, unfolding(crate::specs::Rules::sizeof_type_of))]
+pub fn sizeof_type(at: u32, of: CType) -> Result<Expression, TypeFault>
+    ensures { Gives (λ t. term t) result (sizeof_type_of at of) }
+{
+    if of.is_scalar() {
+        Ok(Expression::SizeofType(of.size()))
+    } else {
+        bad_type(at)
+    }
+}
+
+#[tactic(auto, unfolding(crate::specs::Rules::arms))]
+fn arms(x: &Expression, y: &Expression) -> Option<CType>
+    ensures { result ≡ arms (term x.now) (term y.now) }
+{
+    match x.ctype() {
+        CType::Void => match y.ctype() {
+            CType::Void => Some(CType::Void),
+            CType::Integer(_) => None,
+            CType::Pointer(_, _) => None,
+        },
+        CType::Integer(_) => match y.ctype() {
+            CType::Void => None,
+            CType::Integer(_) => Some(CType::Integer(Integer::Int)),
+            CType::Pointer(to, stars) => {
+                if x.is_null() {
+                    Some(CType::Pointer(to, stars))
+                } else {
+                    None
+                }
+            }
+        },
+        CType::Pointer(to, stars) => match y.ctype() {
+            CType::Void => None,
+            CType::Integer(_) => {
+                if y.is_null() {
+                    Some(CType::Pointer(to, stars))
+                } else {
+                    None
+                }
+            }
+            CType::Pointer(other, others) => {
+                if CType::Pointer(to, stars).is_same(CType::Pointer(other, others)) {
+                    Some(CType::Pointer(to, stars))
+                } else {
+                    None
+                }
+            }
+        },
+    }
+}
+
+/// `c ? x : y`
+#[tactic(auto, unfolding(crate::specs::Rules::choice_of))]
+pub fn choice(
+    alloc: Global,
+    at: u32,
+    c: Expression,
+    x: Expression,
+    y: Expression,
+) -> Result<Expression, TypeFault>
+    ensures { Gives (λ t. term t) result (choice_of at (term c) (term x) (term y)) }
+{
+    if !c.ctype().is_scalar() {
+        return bad_type(at);
+    }
+    match arms(&x, &y) {
+        None => bad_type(at),
+        Some(t) => Ok(Expression::Choice(
+            t,
+            Box::new(alloc, c)?,
+            Box::new(alloc, x)?,
+            Box::new(alloc, y)?,
+        )),
+    }
+}
+
+/// `x, y`
+#[tactic(auto, unfolding(crate::specs::Rules::comma_of))]
+pub fn comma(alloc: Global, x: Expression, y: Expression) -> Result<Expression, TypeFault>
+    ensures { Gives (λ t. term t) result (Ok (comma_of (term x) (term y))) }
+{
+    let t = y.ctype();
+    Ok(Expression::Comma(t, Box::new(alloc, x)?, Box::new(alloc, y)?))
+}
+
+ghost use Rattle.std.specs.Prelude.{Ok};
+
+/// A value that is given to a result or a local of this type; the place is its first token's.
+#[tactic(auto, unfolding(crate::specs::Rules::given))]
+pub fn give(alloc: Global, to: CType, place: u32, x: Expression) -> Result<Expression, TypeFault>
+    ensures { Gives (λ t. term t) result (given to place (term x)) }
+{
+    if fits(to, &x) {
+        Ok(Expression::Convert(to, Box::new(alloc, x)?))
+    } else {
+        bad_type(place)
+    }
+}
+
+/// A condition, an integer or a pointer; the place is its first token's.
+#[tactic(auto, unfolding(crate::specs::Rules::condition_of))]
+pub fn condition(place: u32, x: Expression) -> Result<Expression, TypeFault>
+    ensures { Gives (λ t. term t) result (condition_of place (term x)) }
+{
+    if x.ctype().is_scalar() {
+        Ok(x)
+    } else {
+        bad_type(place)
+    }
+}

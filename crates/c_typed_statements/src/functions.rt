@@ -1,0 +1,383 @@
+// The declarations and definitions of functions.
+ghost use Rattle.std.specs.Prelude.{◌≡◌, ◌+◌, Ok, Err, None, Some, is_some};
+ghost use Rattle.c_phrases.specs.UnitShapes.{items_of, length_of, param_of, param_list};
+ghost use Rattle.c_types.specs.Answers.{Gives};
+ghost use Rattle.c_program.specs.Statements.{acts};
+ghost use Rattle.c_program.specs.Programs.{routine};
+ghost use Rattle.c_typed_scope.specs.Answers.{OnlyTurns};
+ghost use Rattle.c_typed_scope.specs.Scopes.{find};
+ghost use Rattle.c_typed_scope.specs.Views.{scope, area};
+ghost use Rattle.c_typed_expressions.specs.Phrases.{brackets_in};
+ghost use Rattle.c_typed_expressions.specs.Expressions.{integer_of};
+ghost use Rattle.c_typed_objects.specs.Views.{state};
+ghost use Rattle.c_typed_definition.specs.Texts.{body_of, earlier_by, is_below, head_of, word_of, parameter_form, parameter_length, type_parameter, type_parameters, agrees, with_declared, entered_function, left_function, type_body, type_introduced, type_function};
+ghost use Rattle.c_typed_statements.specs.Views.{text, function_of};
+
+use crate::signatures::{parameter_type, parameters, same_signature, signature};
+use crate::statements::items;
+use c_phrases::operator::Spec;
+use c_phrases::tree::{Function, Item, Length, Param, Stars};
+use c_program::need::need;
+use c_program::{Action, Routine};
+use c_typed_expressions::Functions;
+use c_typed_expressions::phrase::{integer_of, written};
+use c_typed_objects::Desk;
+use c_typed_objects::desk::declare;
+use c_typed_objects::initialiser::array_length;
+use c_typed_scope::{Block, Blocks, Data, Entry, Signature};
+use c_types::fault::bad_type;
+use c_types::{CType, TypeFault, TypeKind, Types, Variable};
+use gg_base::Name;
+use std::alloc::Global;
+
+/// A text so far: what is in scope, the functions that were declared, and those that are typed.
+#[derive(Drop)]
+pub struct Builder {
+    pub desk: Desk,
+    pub declared: Vec<Signature>,
+    pub routines: Vec<Routine>,
+}
+
+/// The most parameters of a function.
+const PARAMETER_LIMIT: usize = 32;
+
+fn refuse<T>(place: u32, kind: TypeKind) -> Result<T, TypeFault>
+    ensures { result ≡ Err (TypeFault.At place kind) }
+{
+    Err(TypeFault::At { place, kind })
+}
+
+// Whether a function is a service, or is defined already: so many are, and they are numbered behind the services in the
+// order of their first definitions.
+fn is_defined(functions: &Functions, defined: usize, name: &Name) -> bool
+    ensures { result ≡ is_below (find functions.now.names name.now) (defined + 2) }
+{
+    match functions.names.find(name.as_slice()) {
+        Some(Entry::Function(number)) => number < 2 || number - 2 < defined,
+        Some(Entry::Variable(_, _)) => false,
+        Some(Entry::Array(_, _, _)) => false,
+        None => false,
+    }
+}
+
+// The offset of a type's first word.
+fn word(spec: Spec) -> u32
+    ensures { result ≡ word_of spec }
+{
+    match spec {
+        Spec::Int { at } => at,
+        Spec::Char { at } => at,
+        Spec::Short { at, .. } => at,
+        Spec::UnsignedChar { at, .. } => at,
+        Spec::UnsignedShort { at, .. } => at,
+        Spec::Void { at } => at,
+    }
+}
+
+// A variable of the function's name is in the way; else the number of its earlier declaration.
+fn earlier(here: &Block, name: &Name, at: u32) -> Result<Option<usize>, TypeFault>
+    ensures { Gives (λ n. n) result (earlier_by (find here.now name.now) at) }
+{
+    match here.find(name.as_slice()) {
+        None => Ok(None),
+        Some(Entry::Function(number)) => Ok(Some(number)),
+        Some(Entry::Variable(_, _)) => refuse(at, TypeKind::Twice),
+        Some(Entry::Array(_, _, _)) => refuse(at, TypeKind::Twice),
+    }
+}
+
+fn defines(f: &Function) -> bool
+    ensures { result ≡ is_some (function_of f.now).body }
+{
+    match &f.body {
+        None => false,
+        Some(_) => true,
+    }
+}
+
+// The result of a function is no `void` with stars.
+fn check_result(spec: Spec, stars: &Stars, at: u32) -> Result<(), TypeFault>
+    ensures { Gives (λ u. u) result (head_by (integer_of spec) stars.now at) }
+{
+    match integer_of(spec) {
+        Some(_) => Ok(()),
+        None => match stars.as_slice() {
+            [] => Ok(()),
+            [..] => bad_type(at),
+        },
+    }
+}
+
+ghost use Rattle.c_typed_definition.specs.Texts.{head_by};
+
+// A function is defined once.
+#[tactic(auto, unfolding(c_typed_definition::specs::Texts::head_of))]
+fn check_head(
+    functions: &Functions,
+    defines: bool,
+    spec: Spec,
+    f: &Function,
+    defined: usize,
+) -> Result<(), TypeFault>
+    ensures { Gives (λ u. u) result (head_of defines (is_below (find functions.now.names f.now.name) (defined + 2)) (integer_of spec) f.now.stars f.now.at) }
+{
+    if defines && is_defined(functions, defined, &f.name) {
+        return refuse(f.at, TypeKind::Twice);
+    }
+    check_result(spec, &f.stars, f.at)
+}
+
+// A parameter's name and type: Twice and BadType at its name, else at the word `void`, else at the function's name.
+fn check_parameter(defines: bool, at: u32, p: &Param, blocks: &Blocks) -> Result<(), TypeFault>
+    ensures { Gives (λ u. u) result (parameter_form p.now.name defines at (param_of p.now) (scope blocks.now)) }
+{
+    let is_scalar = written(p.spec, &p.stars).is_scalar();
+    match &p.name {
+        Some(name) => {
+            if blocks.is_taken(name.name.as_slice()) {
+                return refuse(name.at, TypeKind::Twice);
+            }
+            if is_scalar { Ok(()) } else { bad_type(name.at) }
+        }
+        None => {
+            if !is_scalar {
+                return bad_type(word(p.spec));
+            }
+            if defines { bad_type(at) } else { Ok(()) }
+        }
+    }
+}
+
+// A length in a parameter's brackets is a constant in range too.
+fn measure_parameter(
+    alloc: Global,
+    functions: &Functions,
+    blocks: &Blocks,
+    length: &Option<Length>,
+    layout: &mut Data,
+) -> Result<(), TypeFault>
+    ensures { OnlyTurns result (area layout.new) (parameter_length functions.now.names functions.now.signatures.items (brackets_in (length_of length.now)) (scope blocks.now) (area layout.old)) }
+{
+    match length {
+        None => Ok(()),
+        Some(length) => match &length.value {
+            None => Ok(()),
+            Some(e) => {
+                let _ = array_length(alloc, functions, blocks, e, layout)?;
+                Ok(())
+            }
+        },
+    }
+}
+
+#[tactic(auto, unfolding(c_typed_definition::specs::Texts::type_parameter))]
+fn declare_parameter(
+    alloc: Global,
+    functions: &Functions,
+    defines: bool,
+    at: u32,
+    number: usize,
+    p: &Param,
+    desk: &mut Desk,
+) -> Result<(), TypeFault>
+    ensures { OnlyTurns result (state desk.new) (type_parameter functions.now.names functions.now.signatures.items defines at (param_of p.now) number (state desk.old)) }
+{
+    check_parameter(defines, at, p, &desk.blocks)?;
+    measure_parameter(alloc, functions, &desk.blocks, &p.length, &mut desk.layout)?;
+    match &p.name {
+        None => Ok(()),
+        Some(name) => {
+            if number > 0xffff_ffff {
+                return Err(TypeFault::NoMemory);
+            }
+            let entry = Entry::Variable(parameter_type(p), Variable::Parameter(number as u32));
+            declare(alloc, &mut desk.blocks, &name.name, entry)?;
+            Ok(())
+        }
+    }
+}
+
+// The parameters, numbered in order.
+#[tactic(auto, using(crate::proofs::Parameters::parameter_step, crate::proofs::Parameters::parameter_fails, crate::proofs::Parameters::parameters_end))]
+fn declare_parameters(
+    alloc: Global,
+    functions: &Functions,
+    defines: bool,
+    at: u32,
+    params: &[Param],
+    desk: &mut Desk,
+) -> Result<(), TypeFault>
+    ensures { OnlyTurns result (state desk.new) (type_parameters functions.now.names functions.now.signatures.items defines at (param_list params.now) 0 (state desk.old)) }
+{
+    for number in 0..params.len() {
+        declare_parameter(alloc, functions, defines, at, number, &params[number], desk)?;
+    }
+    Ok(())
+}
+
+// At most 32 parameters, and the types of the earlier declaration.
+#[tactic(auto, unfolding(c_typed_definition::specs::Texts::agrees))]
+fn check_agreement(
+    earlier: Option<usize>,
+    declared: &[Signature],
+    mine: &Signature,
+    at: u32,
+) -> Result<(), TypeFault>
+    ensures { Gives (λ u. u) result (agrees earlier declared.now mine.now at) }
+{
+    if mine.parameters.as_slice().len() > PARAMETER_LIMIT {
+        return bad_type(at);
+    }
+    match earlier {
+        None => Ok(()),
+        Some(number) => match declared.get(number) {
+            None => Ok(()),
+            Some(other) => {
+                if same_signature(other, mine) {
+                    Ok(())
+                } else {
+                    bad_type(at)
+                }
+            }
+        },
+    }
+}
+
+// The function's name is in scope from here on.
+#[tactic(auto, using(crate::proofs::Fresh::earlier_none))]
+fn introduce(
+    alloc: Global,
+    earlier: Option<usize>,
+    spec: Spec,
+    f: &Function,
+    builder: &mut Builder,
+) -> Result<(), TypeFault>
+    requires { earlier_by (find builder.old.desk.blocks.here f.now.name) f.now.at ≡ Ok earlier }
+    ensures { OnlyTurns result (text builder.new) (Ok (with_declared earlier spec (function_of f.now) (text builder.old))) }
+{
+    match earlier {
+        Some(_) => Ok(()),
+        None => {
+            let number = builder.declared.len();
+            declare(
+                alloc,
+                &mut builder.desk.blocks,
+                &f.name,
+                Entry::Function(number),
+            )?;
+            builder.declared.push(signature(alloc, spec, f)?)?;
+            Ok(())
+        }
+    }
+}
+
+// The parameters and the body's outermost block are one scope.
+fn open_function(alloc: Global, desk: &mut Desk) -> Result<(), TypeFault>
+    ensures { OnlyTurns result (state desk.new) (Ok (entered_function (state desk.old))) }
+{
+    desk.blocks.enter(alloc)?;
+    desk.locals = Vec::new(alloc);
+    Ok(())
+}
+
+fn close_function(alloc: Global, desk: &mut Desk)
+    ensures { state desk.new ≡ left_function (state desk.old) }
+{
+    desk.blocks.leave();
+    desk.locals = Vec::new(alloc);
+}
+
+// The routine of a body that is typed, with the locals that it declared.
+fn routine(
+    alloc: Global,
+    spec: Spec,
+    f: &Function,
+    locals: Vec<CType>,
+    body: Vec<Action>,
+) -> Result<Routine, TypeFault>
+    ensures { Gives (λ r. routine r) result (Ok (body_of spec (function_of f.now) locals.items (acts body.items))) }
+{
+    let Some(need) = need(&locals, &body) else {
+        return Err(TypeFault::NoMemory);
+    };
+    let Signature { result, parameters } = signature(alloc, spec, f)?;
+    Ok(Routine {
+        name: Name::from_vec(Vec::from_slice(alloc, f.name.as_slice())?),
+        result,
+        parameters,
+        locals: Types::from_vec(locals),
+        body,
+        need,
+    })
+}
+
+#[tactic(auto, using(std::proofs::lemmas::List::map_push))]
+fn define(
+    alloc: Global,
+    functions: &Functions,
+    spec: Spec,
+    f: &Function,
+    row: &[Item],
+    builder: &mut Builder,
+) -> Result<(), TypeFault>
+    ensures { OnlyTurns result (text builder.new) (type_body functions.now.names functions.now.signatures.items spec (function_of f.now) (Some (items_of row.now)) (state builder.old.desk) (text builder.old)) }
+{
+    let result = written(spec, &f.stars);
+    let body = items(alloc, functions, result, false, row, &mut builder.desk)?;
+    let locals = std::mem::replace(&mut builder.desk.locals, Vec::new(alloc));
+    close_function(alloc, &mut builder.desk);
+    let routine = routine(alloc, spec, f, locals, body)?;
+    builder.routines.push(routine)?;
+    Ok(())
+}
+
+// Its parameters, its agreement with the earlier declaration, and its body, once its name is in scope.
+#[tactic(auto, unfolding(c_typed_definition::specs::Texts::type_introduced))]
+fn introduced(
+    alloc: Global,
+    functions: &Functions,
+    earlier: Option<usize>,
+    spec: Spec,
+    f: &Function,
+    builder: &mut Builder,
+) -> Result<(), TypeFault>
+    ensures { OnlyTurns result (text builder.new) (type_introduced functions.now.names functions.now.signatures.items earlier spec (function_of f.now) (text builder.old)) }
+{
+    let desk = &mut builder.desk;
+    open_function(alloc, desk)?;
+    declare_parameters(
+        alloc,
+        functions,
+        defines(f),
+        f.at,
+        parameters(&f.params),
+        desk,
+    )?;
+    let mine = signature(alloc, spec, f)?;
+    check_agreement(earlier, &builder.declared, &mine, f.at)?;
+    match &f.body {
+        None => {
+            close_function(alloc, &mut builder.desk);
+            Ok(())
+        }
+        Some(row) => define(alloc, functions, spec, f, row, builder),
+    }
+}
+
+/// A declaration or a definition of a function, or its first fault: at the name Twice, then a result that is no type;
+/// then the parameters, their number and their agreement with the earlier declaration; then the body.
+#[tactic(auto, unfolding(c_typed_definition::specs::Texts::type_function))]
+pub fn function(
+    alloc: Global,
+    functions: &Functions,
+    spec: Spec,
+    f: &Function,
+    builder: &mut Builder,
+) -> Result<(), TypeFault>
+    ensures { OnlyTurns result (text builder.new) (type_function functions.now.names functions.now.signatures.items spec (function_of f.now) (text builder.old)) }
+{
+    let before = earlier(&builder.desk.blocks.here, &f.name, f.at)?;
+    check_head(functions, defines(f), spec, f, builder.routines.len())?;
+    introduce(alloc, before, spec, f, builder)?;
+    introduced(alloc, functions, before, spec, f, builder)
+}

@@ -1,0 +1,244 @@
+// The types of statements.
+ghost use Rattle.std.specs.Prelude.{◌≡◌};
+ghost use Rattle.c_types.specs.Typed.{term};
+ghost use Rattle.c_typed_scope.specs.Answers.{Turns};
+ghost use Rattle.c_phrases.specs.Shapes.{exp};
+ghost use Rattle.c_phrases.specs.Units.{no_items};
+ghost use Rattle.c_phrases.specs.UnitShapes.{part, item_onto, items_of, statement_of};
+ghost use Rattle.c_typed_objects.specs.Views.{state};
+ghost use Rattle.c_program.specs.Statements.{act, acts, maybe_term};
+ghost use Rattle.c_typed_definition.specs.Declarations.{State};
+ghost use Rattle.c_typed_statements.specs.Views.{scoped};
+ghost use Rattle.c_typed_definition.specs.Statements.{entered, jump, type_full, type_condition, type_maybe, type_maybe_condition, type_return, type_statement, type_item, type_items};
+
+use c_phrases::tree::{Expr, Item, Statement};
+use c_program::Action;
+use c_typed_expressions::phrase::first;
+use c_typed_expressions::{Functions, expression};
+use c_typed_objects::{Desk, locals};
+use c_typed_operators::rules::{condition, give};
+use c_types::{CType, Expression, TypeFault, TypeKind};
+use std::alloc::Global;
+
+#[tactic(auto, unfolding(c_typed_definition::specs::Statements::type_full))]
+fn full(
+    alloc: Global,
+    functions: &Functions,
+    e: &Expr,
+    desk: &mut Desk,
+) -> Result<Expression, TypeFault>
+    ensures { Turns (λ t. term t) result (state desk.new) (type_full functions.now.names functions.now.signatures.items (exp e.now) (state desk.old)) }
+{
+    expression(alloc, functions, &desk.blocks, e, &mut desk.layout)
+}
+
+#[tactic(auto, unfolding(c_typed_definition::specs::Statements::type_condition))]
+fn tested(
+    alloc: Global,
+    functions: &Functions,
+    e: &Expr,
+    desk: &mut Desk,
+) -> Result<Expression, TypeFault>
+    ensures { Turns (λ t. term t) result (state desk.new) (type_condition functions.now.names functions.now.signatures.items (exp e.now) (state desk.old)) }
+{
+    let x = full(alloc, functions, e, desk)?;
+    condition(first(e), x)
+}
+
+fn maybe_full(
+    alloc: Global,
+    functions: &Functions,
+    e: &Option<Expr>,
+    desk: &mut Desk,
+) -> Result<Option<Expression>, TypeFault>
+    ensures { Turns (λ t. maybe_term t) result (state desk.new) (type_maybe functions.now.names functions.now.signatures.items (part e.now) (state desk.old)) }
+{
+    match e {
+        None => Ok(None),
+        Some(e) => Ok(Some(full(alloc, functions, e, desk)?)),
+    }
+}
+
+fn maybe_tested(
+    alloc: Global,
+    functions: &Functions,
+    e: &Option<Expr>,
+    desk: &mut Desk,
+) -> Result<Option<Expression>, TypeFault>
+    ensures { Turns (λ t. maybe_term t) result (state desk.new) (type_maybe_condition functions.now.names functions.now.signatures.items (part e.now) (state desk.old)) }
+{
+    match e {
+        None => Ok(None),
+        Some(e) => Ok(Some(tested(alloc, functions, e, desk)?)),
+    }
+}
+
+fn returned(
+    alloc: Global,
+    functions: &Functions,
+    gives: CType,
+    e: &Option<Expr>,
+    desk: &mut Desk,
+) -> Result<Action, TypeFault>
+    ensures { Turns (λ a. act a) result (state desk.new) (type_return functions.now.names functions.now.signatures.items gives (part e.now) (state desk.old)) }
+{
+    match e {
+        None => Ok(Action::Return(None)),
+        Some(e) => {
+            let x = full(alloc, functions, e, desk)?;
+            let x = give(alloc, gives, first(e), x)?;
+            Ok(Action::Return(Some(x)))
+        }
+    }
+}
+
+fn jump(looping: bool, at: u32, action: Action) -> Result<Action, TypeFault>
+    ensures { (s : State) → Turns (λ a. act a) result s (jump looping at (act action) s) }
+{
+    if looping {
+        Ok(action)
+    } else {
+        Err(TypeFault::At {
+            place: at,
+            kind: TypeKind::BadJump,
+        })
+    }
+}
+
+/// A statement of a function whose result has the type `gives`; `looping` where a loop is around it.
+#[cycle(blocks)]
+pub fn statement(
+    alloc: Global,
+    functions: &Functions,
+    gives: CType,
+    looping: bool,
+    s: &Statement,
+    desk: &mut Desk,
+) -> Result<Action, TypeFault>
+    ensures { Turns (λ a. act a) result (state desk.new) (type_statement functions.now.names functions.now.signatures.items gives looping (statement_of s.now) (state desk.old)) }
+{
+    match s {
+        Statement::Block(row) => {
+            let actions = block(alloc, functions, gives, looping, row, desk)?;
+            Ok(Action::Block(actions))
+        }
+        Statement::Empty => Ok(Action::Block(Vec::new(alloc))),
+        Statement::Expr(e) => Ok(Action::Evaluate(full(alloc, functions, e, desk)?)),
+        Statement::Break { at } => jump(looping, *at, Action::Break),
+        Statement::Continue { at } => jump(looping, *at, Action::Continue),
+        Statement::Return { value, .. } => returned(alloc, functions, gives, value, desk),
+        Statement::If {
+            condition,
+            then,
+            ..
+        } => {
+            let c = tested(alloc, functions, condition, desk)?;
+            let a = statement(alloc, functions, gives, looping, then, desk)?;
+            Ok(Action::If(c, Box::new(alloc, a)?))
+        }
+        Statement::IfElse {
+            condition,
+            then,
+            otherwise,
+            ..
+        } => {
+            let c = tested(alloc, functions, condition, desk)?;
+            let a = statement(alloc, functions, gives, looping, then, desk)?;
+            let b = statement(alloc, functions, gives, looping, otherwise, desk)?;
+            Ok(Action::IfElse(c, Box::new(alloc, a)?, Box::new(alloc, b)?))
+        }
+        Statement::While {
+            condition,
+            body,
+            ..
+        } => {
+            let c = tested(alloc, functions, condition, desk)?;
+            let a = statement(alloc, functions, gives, true, body, desk)?;
+            Ok(Action::While(c, Box::new(alloc, a)?))
+        }
+        Statement::Do {
+            body,
+            condition,
+            ..
+        } => {
+            let a = statement(alloc, functions, gives, true, body, desk)?;
+            let c = tested(alloc, functions, condition, desk)?;
+            Ok(Action::Do(Box::new(alloc, a)?, c))
+        }
+        Statement::For {
+            start,
+            condition,
+            step,
+            body,
+            ..
+        } => {
+            let i = maybe_full(alloc, functions, start, desk)?;
+            let c = maybe_tested(alloc, functions, condition, desk)?;
+            let e = maybe_full(alloc, functions, step, desk)?;
+            let a = statement(alloc, functions, gives, true, body, desk)?;
+            Ok(Action::For(i, c, e, Box::new(alloc, a)?))
+        }
+    }
+}
+
+// The items of a block that has a scope of its own.
+#[cycle(blocks)]
+fn block(
+    alloc: Global,
+    functions: &Functions,
+    gives: CType,
+    looping: bool,
+    row: &[Item],
+    desk: &mut Desk,
+) -> Result<Vec<Action>, TypeFault>
+    ensures { Turns (λ v. acts v.items) result (state desk.new) (scoped (type_items functions.now.names functions.now.signatures.items gives looping (items_of row.now) (entered (state desk.old)))) }
+{
+    desk.blocks.enter(alloc)?;
+    let actions = items(alloc, functions, gives, looping, row, desk)?;
+    desk.blocks.leave();
+    Ok(actions)
+}
+
+#[cycle(blocks)]
+fn one_item(
+    alloc: Global,
+    functions: &Functions,
+    gives: CType,
+    looping: bool,
+    i: &Item,
+    desk: &mut Desk,
+) -> Result<Action, TypeFault>
+    ensures { Turns (λ a. act a) result (state desk.new) (type_item functions.now.names functions.now.signatures.items gives looping (item_onto i.now no_items) (state desk.old)) }
+{
+    match i {
+        Item::Local(l) => Ok(Action::Declare(locals(
+            alloc,
+            functions,
+            l.storage,
+            l.spec,
+            &l.declarators,
+            desk,
+        )?)),
+        Item::Statement(s) => statement(alloc, functions, gives, looping, s, desk),
+    }
+}
+
+/// The declarations and statements of a block, one after another.
+#[cycle(blocks)]
+pub fn items(
+    alloc: Global,
+    functions: &Functions,
+    gives: CType,
+    looping: bool,
+    row: &[Item],
+    desk: &mut Desk,
+) -> Result<Vec<Action>, TypeFault>
+    ensures { Turns (λ v. acts v.items) result (state desk.new) (type_items functions.now.names functions.now.signatures.items gives looping (items_of row.now) (state desk.old)) }
+{
+    let mut actions = Vec::new(alloc);
+    for i in row {
+        let a = one_item(alloc, functions, gives, looping, i, desk)?;
+        actions.push(a)?;
+    }
+    Ok(actions)
+}

@@ -1,0 +1,103 @@
+-- Words of two and of three parts, and numbers in their one spelling.
+use Rattle.std.proofs.Common.{◌≡◌, ℕ, ◌<◌, ◌≤◌, true, false, not, List, [], ◌∷◌, length, get_or, codes, Result, Ok, Err, refl, sym, ap, ◌∙◌, arith}
+use Rattle.std.specs.Fmt.{decimal}
+use Rattle.std.specs.Str.{bytes_eq}
+use Rattle.std.specs.Str.Parse.{ParsesUnsigned}
+use Rattle.std.specs.declared.string.String.{String}
+use Rattle.std.specs.declared.alloc.Global.{Global}
+use Rattle.std.specs.String.{string_bytes}
+use Rattle.std.proofs.lemmas.Fmt.{parse-decimal, decimal_injective}
+use Rattle.std.proofs.lemmas.Slice.Eq.{bytes_eq-Decides}
+use Rattle.cmd_session.specs.Words.{spelled, IsCount, SaysFirst, SaysCounted, NoFirst, OnlyFirst, NoCounted, OnlyCounted}
+
+two : {A : Type 0} (xs : List A) (a b : A) → 2 ≤ length xs → length xs < 3 → a ≡ get_or xs 0 a → b ≡ get_or xs 1 b → xs ≡ a ∷ (b ∷ [])
+two [] a b low high first second = absurd (omega arith)
+two (x ∷ []) a b low high first second = absurd (omega arith)
+two (x ∷ (y ∷ [])) a b low high first second = cc
+two (x ∷ (y ∷ (z ∷ zs))) a b low high first second = absurd (omega arith)
+
+three : {A : Type 0} (xs : List A) (a b c : A) → 3 ≤ length xs → length xs < 4 → a ≡ get_or xs 0 a → b ≡ get_or xs 1 b → c ≡ get_or xs 2 c → xs ≡ a ∷ (b ∷ (c ∷ []))
+three [] a b c low high first second third = absurd (omega arith)
+three (x ∷ []) a b c low high first second third = absurd (omega arith)
+three (x ∷ (y ∷ [])) a b c low high first second third = absurd (omega arith)
+three (x ∷ (y ∷ (z ∷ []))) a b c low high first second third = cc
+three (x ∷ (y ∷ (z ∷ (w ∷ ws)))) a b c low high first second third = absurd (omega arith)
+
+same : (a b : List ℕ) → true ≡ bytes_eq a b → a ≡ b
+same a b e = (bytes_eq-Decides a b).0 (sym e)
+
+-- two words: the first is this one
+pub two_words : (words : List (String Global)) (a b : String Global) (first wanted second : List ℕ) → 2 ≤ length words → length words < 3 → a ≡ get_or words 0 a → b ≡ get_or words 1 b → first ≡ string_bytes a → true ≡ bytes_eq first wanted → second ≡ string_bytes b → spelled words ≡ wanted ∷ (second ∷ [])
+two_words words a b first wanted second low high a_is b_is first_is said second_is =
+    ap spelled (two words a b low high a_is b_is)
+    ∙ ap (λ (x : List ℕ). x ∷ (string_bytes b ∷ [])) (sym first_is ∙ same first wanted said)
+    ∙ ap (λ (x : List ℕ). wanted ∷ (x ∷ [])) (sym second_is)
+
+-- three words: the first is this one
+pub three_words : (words : List (String Global)) (a b c : String Global) (first wanted second third number : List ℕ) → 3 ≤ length words → length words < 4 → a ≡ get_or words 0 a → b ≡ get_or words 1 b → c ≡ get_or words 2 c → first ≡ string_bytes a → true ≡ bytes_eq first wanted → second ≡ string_bytes b → third ≡ string_bytes c → third ≡ number → spelled words ≡ wanted ∷ (second ∷ (number ∷ []))
+three_words words a b c first wanted second third number low high a_is b_is c_is first_is said second_is third_is number_is =
+    ap spelled (three words a b c low high a_is b_is c_is)
+    ∙ ap (λ (x : List ℕ). x ∷ (string_bytes b ∷ (string_bytes c ∷ []))) (sym first_is ∙ same first wanted said)
+    ∙ ap (λ (x : List ℕ). wanted ∷ (x ∷ (string_bytes c ∷ []))) (sym second_is)
+    ∙ ap (λ (x : List ℕ). wanted ∷ (second ∷ (x ∷ []))) (sym third_is ∙ number_is)
+
+-- a number's spelling is parsed as the number
+parsed : {E : Type 0} (n : ℕ) (word : List ℕ) (r : Result ℕ E) → IsCount n → word ≡ decimal n → ParsesUnsigned 64 10 word r → r ≡ Ok n
+parsed n word r count is h = parse-decimal 64 n word r (omega (arith, count.1)) (omega (arith, count.1)) is h
+
+pub no_number : {E : Type 0} (e : E) (n : ℕ) (word : List ℕ) (r : Result ℕ E) → r ≡ Err e → ParsesUnsigned 64 10 word r → IsCount n → word ≡ decimal n → ⊥
+no_number e n word r is_error h count is = let same_as : Err e ≡ Ok n = sym is_error ∙ parsed n word r count is h in cc
+
+pub other_number : {E : Type 0} (m n : ℕ) (word : List ℕ) (r : Result ℕ E) → r ≡ Ok m → ParsesUnsigned 64 10 word r → IsCount n → word ≡ decimal n → m ≡ n
+other_number m n word r is_number h count is = let same_as = sym is_number ∙ parsed n word r count is h in cc
+
+-- a word that is not the number's spelling
+pub other_spelling : {E : Type 0} (m n : ℕ) (word text : List ℕ) (r : Result ℕ E) → r ≡ Ok m → ParsesUnsigned 64 10 word r → text ≡ decimal m → true ≡ not (bytes_eq text word) → IsCount n → word ≡ decimal n → ⊥
+other_spelling m n word text r is_number h text_is differs count is =
+    let e : m ≡ n = other_number m n word r is_number h count is in
+    let equal : bytes_eq text word ≡ true = (bytes_eq-Decides text word).1 (text_is ∙ ap decimal e ∙ sym is) in
+    let wrong : true ≡ false = differs ∙ ap not equal in
+    cc
+
+-- words say one command
+pub only_first : (words : List (List ℕ)) (source : List ℕ) → SaysFirst words source → OnlyFirst words source
+only_first words source h other k = let same_as = sym k.words_are ∙ h.words_are in cc
+
+pub first_not_counted : (words : List (List ℕ)) (source word : List ℕ) → SaysFirst words source → NoCounted word words
+first_not_counted words source word h name count k = let same_as = sym k.words_are ∙ h.words_are in cc
+
+pub counted_not_first : (words : List (List ℕ)) (word name : List ℕ) (count : ℕ) → SaysCounted word words name count → NoFirst words
+counted_not_first words word name count h source k = let same_as = sym k.words_are ∙ h.words_are in cc
+
+pub only_counted : (word : List ℕ) (words : List (List ℕ)) (name : List ℕ) (count : ℕ) → SaysCounted word words name count → OnlyCounted word words name count
+only_counted word words name count h other n k =
+    let same_as = sym k.words_are ∙ h.words_are in
+    let number : decimal n ≡ decimal count = cc in
+    (cc, decimal_injective n count (omega (arith, k.counts.1)) (omega (arith, h.counts.1)) number)
+
+pub counted_not_other : (word other : List ℕ) (words : List (List ℕ)) (name : List ℕ) (count : ℕ) → SaysCounted word words name count → (word ≡ other → ⊥) → NoCounted other words
+counted_not_other word other words name count h differs another n k =
+    let same_as = sym h.words_are ∙ k.words_are in
+    let equal : word ≡ other = cc in
+    differs equal
+
+-- the two words that come before a number
+pub run_is_not_meaning : codes "run" ≡ codes "meaning" → ⊥
+run_is_not_meaning h = let first = ap (λ (l : List ℕ). get_or l 0 0) h in omega (arith, first)
+
+-- words that say a name and a number are three, and the first is the word before them
+pub counted_length : (words : List (String Global)) (word name : List ℕ) (count : ℕ) → SaysCounted word (spelled words) name count → length words ≡ 3
+counted_length [] word name count h = let e = h.words_are in cc
+counted_length (a ∷ []) word name count h = let e = h.words_are in cc
+counted_length (a ∷ (b ∷ [])) word name count h = let e = h.words_are in cc
+counted_length (a ∷ (b ∷ (c ∷ []))) word name count h = refl
+counted_length (a ∷ (b ∷ (c ∷ (d ∷ rest)))) word name count h = let e = h.words_are in cc
+
+pub counted_parts : (words : List (String Global)) (a b c : String Global) (word name : List ℕ) (count : ℕ) → 3 ≤ length words → length words < 4 → a ≡ get_or words 0 a → b ≡ get_or words 1 b → c ≡ get_or words 2 c → SaysCounted word (spelled words) name count → (string_bytes a ≡ word) × (string_bytes b ≡ name) × (string_bytes c ≡ decimal count)
+counted_parts words a b c word name count low high a_is b_is c_is h =
+    let e : string_bytes a ∷ (string_bytes b ∷ (string_bytes c ∷ [])) ≡ word ∷ (name ∷ (decimal count ∷ [])) = sym (ap spelled (three words a b c low high a_is b_is c_is)) ∙ h.words_are in
+    (cc, cc, cc)
+
+-- a word that is another one than was wanted
+pub differs : (a b : List ℕ) → false ≡ bytes_eq a b → a ≡ b → ⊥
+differs a b h e = let both : false ≡ true = h ∙ (bytes_eq-Decides a b).1 e in cc

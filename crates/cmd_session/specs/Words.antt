@@ -1,0 +1,70 @@
+-- The words of the commands.
+use Rattle.std.specs.Prelude.{◌≡◌, ◌<◌, ◌≤◌, ℕ, List, [], ◌∷◌, length, map, codes}
+use Rattle.std.specs.Fmt.{decimal}
+use Rattle.std.specs.declared.string.String.{String}
+use Rattle.std.specs.declared.alloc.Global.{Global}
+use Rattle.std.specs.String.{string_bytes}
+use Rattle.cmd_session.specs.declared.words.Command.{Command}
+use Rattle.cmd_session.specs.declared.words.Command.TheVariants.{First, Run, Meaning}
+
+-- the bytes of each word
+abbrev pub spelled : List (String Global) → List (List ℕ)
+spelled words = map string_bytes words
+
+-- the greatest number of steps that a command may ask for
+abbrev pub greatest_count : ℕ
+greatest_count = 1000000000
+
+-- a number of steps
+abbrev pub IsCount : ℕ → Type 0
+IsCount n = (0 < n) × (n ≤ greatest_count)
+
+-- `first S`
+pub record SaysFirst (words : List (List ℕ)) (source : List ℕ) : Type 0 where
+  pub words_are : words ≡ codes "first" ∷ (source ∷ [])
+  pub named : 0 < length source
+
+-- a word, a name, and a number in decimal without a leading zero
+pub record SaysCounted (word : List ℕ) (words : List (List ℕ)) (name : List ℕ) (count : ℕ) : Type 0 where
+  pub words_are : words ≡ word ∷ (name ∷ (decimal count ∷ []))
+  pub named : 0 < length name
+  pub counts : IsCount count
+
+-- `run A N`
+abbrev pub SaysRun : List (List ℕ) → List ℕ → ℕ → Type 0
+SaysRun words text count = SaysCounted (codes "run") words text count
+
+-- `meaning S N`
+abbrev pub SaysMeaning : List (List ℕ) → List ℕ → ℕ → Type 0
+SaysMeaning words source count = SaysCounted (codes "meaning") words source count
+
+-- the words say this command
+abbrev pub Says : List (List ℕ) → Command → Type 0
+Says words (First source) = SaysFirst words source.now
+Says words (Run text count) = SaysRun words text.now count
+Says words (Meaning source count) = SaysMeaning words source.now count
+
+-- the words say none of one kind of command, or no other one of it than this
+abbrev pub NoFirst : List (List ℕ) → Type 0
+NoFirst words = (source : List ℕ) → SaysFirst words source → ⊥
+
+abbrev pub OnlyFirst : List (List ℕ) → List ℕ → Type 0
+OnlyFirst words source = (other : List ℕ) → SaysFirst words other → other ≡ source
+
+abbrev pub NoCounted : List ℕ → List (List ℕ) → Type 0
+NoCounted word words = (name : List ℕ) (count : ℕ) → SaysCounted word words name count → ⊥
+
+abbrev pub OnlyCounted : List ℕ → List (List ℕ) → List ℕ → ℕ → Type 0
+OnlyCounted word words name count = (other : List ℕ) (n : ℕ) → SaysCounted word words other n → (other ≡ name) × (n ≡ count)
+
+-- the words say no other command than this
+abbrev pub SaysOnly : List (List ℕ) → Command → Type 0
+SaysOnly words (First source) = OnlyFirst words source.now × NoCounted (codes "run") words × NoCounted (codes "meaning") words
+SaysOnly words (Run text count) = NoFirst words × OnlyCounted (codes "run") words text.now count × NoCounted (codes "meaning") words
+SaysOnly words (Meaning source count) = NoFirst words × NoCounted (codes "run") words × OnlyCounted (codes "meaning") words source.now count
+
+-- the words say no command
+pub record SaysNone (words : List (List ℕ)) : Type 0 where
+  pub no_first : NoFirst words
+  pub no_run : NoCounted (codes "run") words
+  pub no_meaning : NoCounted (codes "meaning") words

@@ -1,0 +1,69 @@
+// The words of the commands.
+ghost use Rattle.std.specs.Prelude.{◌≡◌, IfSome, IfNone, ℕ, List};
+ghost use Rattle.std.specs.Fmt.{decimal};
+ghost use Rattle.cmd_session.specs.Words.{spelled, IsCount, SaysCounted, Says, SaysOnly, SaysNone};
+
+use itoa::Buffer;
+
+/// A command that is built.
+#[derive(Clone, Copy)]
+pub enum Command<'a> {
+    /// `first S`: the source's text and run.
+    First(&'a str),
+    /// `run A N`: the run of the text A with at most N steps.
+    Run(&'a str, u64),
+    /// `meaning S N`: the run of the source S by its meaning, with at most N counted turns of loops and calls.
+    Meaning(&'a str, u64),
+}
+
+/// The greatest number of steps that a command may ask for.
+const GREATEST_COUNT: u64 = 1_000_000_000;
+
+// The number of steps that a word is: from 1 to 1,000,000,000, in decimal digits without a leading zero.
+fn count_of(word: &str) -> Option<u64>
+    ensures some { IfSome result (λ n. IsCount n) }
+    ensures spelled { IfSome result (λ n. word.now ≡ decimal n) }
+    ensures none { IfNone result ((n : ℕ) → IsCount n → word.now ≡ decimal n → ⊥) }
+{
+    let Ok(n) = word.parse::<u64>() else {
+        return None;
+    };
+    if n == 0 || n > GREATEST_COUNT || Buffer::new().format(n) != word {
+        return None;
+    }
+    Some(n)
+}
+
+// The name and the number of the words `WORD NAME N`. Names are not empty.
+fn counted<'a>(words: &'a [String], word: &str) -> Option<(&'a str, u64)>
+    ensures some { IfSome result (λ said. SaysCounted word.now (spelled words.now) said.0.now said.1) }
+    ensures none { IfNone result ((name : List ℕ) (count : ℕ) → SaysCounted word.now (spelled words.now) name count → ⊥) }
+{
+    match words {
+        [first, name, count] if first.as_str() == word && !name.is_empty() => {
+            let count = count_of(count.as_str())?;
+            Some((name.as_str(), count))
+        }
+        _ => None,
+    }
+}
+
+/// The command that the words say. Names are not empty.
+pub fn command_of(words: &[String]) -> Option<Command<'_>>
+    ensures some { IfSome result (λ command. Says (spelled words.now) command) }
+    ensures only { IfSome result (λ command. SaysOnly (spelled words.now) command) }
+    ensures none { IfNone result (SaysNone (spelled words.now)) }
+{
+    if let Some((text, count)) = counted(words, "run") {
+        return Some(Command::Run(text, count));
+    }
+    if let Some((source, count)) = counted(words, "meaning") {
+        return Some(Command::Meaning(source, count));
+    }
+    match words {
+        [first, source] if first.as_str() == "first" && !source.is_empty() => {
+            Some(Command::First(source.as_str()))
+        }
+        _ => None,
+    }
+}

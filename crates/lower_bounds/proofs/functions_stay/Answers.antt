@@ -1,5 +1,0 @@
-use Rattle.lower_bounds.proofs.Whole.{functions_stay as all_stay}
-use Rattle.lower_bounds.proofs.functions_stay.Goals as goal
-
-pub returns : goal.returns
-returns c = all_stay

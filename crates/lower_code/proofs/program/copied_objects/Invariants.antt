@@ -1,6 +1,0 @@
-use Rattle.std.proofs.Common.{◌≡◌, ◌++◌, drop}
-use Rattle.lower_code.specs.Bytes.{AllHoldBytes}
-use Rattle.lower_code.proofs.program.copied_objects.Given as goal
-
-abbrev pub invariant-loop-object : goal.invariant-loop-object
-invariant-loop-object l = (l.copy.items ++ drop l.object-index l.objects ≡ l.objects) × (AllHoldBytes (drop l.object-index l.objects) → AllHoldBytes l.objects)

@@ -1,8 +1,0 @@
-use Rattle.std.proofs.Common.{◌≡◌, ◌++◌, drop, length}
-use Rattle.std.specs.Prelude.{map}
-use Rattle.c_program.specs.Programs.{routine}
-use Rattle.lower_trees.specs.Programs.{lower_all}
-use Rattle.lower_code.proofs.program.lower_all.Given as goal
-
-abbrev pub invariant-loop-of : goal.invariant-loop-of
-invariant-loop-of l = l.functions.items ++ lower_all l.count (map routine (drop l.of-index l.routines)) l.labels ≡ lower_all (length l.routines) (map routine l.routines) 0

@@ -1,7 +1,0 @@
-use Rattle.std.proofs.Common.{◌≡◌, ◌++◌, drop}
-use Rattle.lower_trees.specs.Spelling.{spelled_all}
-use Rattle.lower_code.specs.Views.{all_items}
-use Rattle.lower_code.proofs.program.spelled_items.Given as goal
-
-abbrev pub invariant-loop-one : goal.invariant-loop-one
-invariant-loop-one l = l.leaves.items ++ spelled_all (all_items (drop l.one-index l.items)) ≡ spelled_all (all_items l.items)

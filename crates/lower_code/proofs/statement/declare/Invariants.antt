@@ -1,9 +1,0 @@
-use Rattle.std.proofs.Common.{◌≡◌, ◌≤◌, drop}
-use Rattle.std.specs.Prelude.{map}
-use Rattle.c_program.specs.Statements.{declaration}
-use Rattle.lower_trees.specs.Statements.{two_done, declare}
-use Rattle.lower_code.specs.Views.{done}
-use Rattle.lower_code.proofs.statement.declare.Given as goal
-
-abbrev pub invariant-loop-d : goal.invariant-loop-d
-invariant-loop-d l = (two_done (done l.whole) (declare l.frame.locals l.frame.functions (map declaration (drop l.d-index l.ds)) l.whole.labels) ≡ declare l.frame.locals l.frame.functions (map declaration l.ds) l.l) × (l.frame.locals ≤ l.whole.temps)

@@ -1,5 +1,0 @@
-use Rattle.lower_valid.proofs.lowered_is_valid.Goals as goal
-use Rattle.lower_valid.proofs.Whole.{lowered_is_valid}
-
-pub returns : goal.returns
-returns c = lowered_is_valid

@@ -1,5 +1,0 @@
-use Rattle.sound_bodies.proofs.Statements.{bodies_are_sound}
-use Rattle.sound_bodies.proofs.bodies_are_sound.Goals as goal
-
-pub returns : goal.returns
-returns c = bodies_are_sound

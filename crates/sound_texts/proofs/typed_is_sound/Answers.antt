@@ -1,5 +1,0 @@
-use Rattle.sound_texts.proofs.Whole.{typed_is_sound}
-use Rattle.sound_texts.proofs.typed_is_sound.Goals as goal
-
-pub returns : goal.returns
-returns c = typed_is_sound

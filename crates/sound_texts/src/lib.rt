@@ -1,9 +1,0 @@
-//! The law of typed texts: the program of each well-typed unit is sound.
-#![tactic(auto)]
-
-ghost use Rattle.sound_texts.specs.Claim.{TypedIsSound};
-
-/// The law: a typed program whose numbers are longwords and whose objects hold bytes is sound. It does nothing.
-pub fn typed_is_sound()
-    ensures { TypedIsSound }
-{}

@@ -1,0 +1,35 @@
+-- Which frame each longword of the stack belongs to. The stack begins at 2139095040 and ends at 2147483648.
+use Rattle.std.specs.Prelude.{◌≡◌, ◌+◌, ◌*◌, ◌%◌, ◌≤◌, ◌<◌, ℕ, false, List, Some, slice_get, slice_index, vec_len, vec_capacity}
+use Rattle.std.specs.Global.{Vec}
+use Rattle.vax_machine_live.specs.declared.frame.Frame.{Frame}
+use Rattle.vax_machine_live.specs.Control.{in_control}
+
+-- the frame of this number has control words, and each of them belongs to it
+pub record IsOwned (owners : List ℕ) (number : ℕ) (f : Frame) : Type 0 where
+  pub long : f.fp + 4 ≤ f.top
+  pub aligned : f.fp % 4 ≡ 0
+  pub owned : (place : ℕ) → f.fp ≤ 2139095040 + 4 * place → 2139095040 + 4 * place < f.top → slice_index owners place ≡ number
+
+pub record AreOwned (frames : List Frame) (owners : List ℕ) : Type 0 where
+  pub each : (number : ℕ) (f : Frame) → slice_get frames number ≡ Some f → IsOwned owners number f
+
+-- what a machine keeps of its live frames: room for 4,096 of them, and the owner of each longword of the stack
+pub record AreKept (frames : Vec Frame) (owners : Vec ℕ) : Type 0 where
+  pub room : vec_capacity frames ≡ 4096
+  pub whole : vec_len owners ≡ 2097152
+  pub owned : AreOwned frames.items owners.items
+
+-- control words from an address up to another lie in the stack, at multiples of 4, and none of them is a live frame's
+pub record HasRoom (frames : List Frame) (fp top : ℕ) : Type 0 where
+  pub low : 2139095040 ≤ fp
+  pub long : fp + 4 ≤ top
+  pub high : top ≤ 2147483648
+  pub begins : fp % 4 ≡ 0
+  pub ends : top % 4 ≡ 0
+  pub free : (address : ℕ) → fp ≤ address → address < top → in_control frames address 1 ≡ false
+
+-- the longwords from a place up to another have this owner now, and the others the one that they had
+pub record Gives (number first last : ℕ) (old new : List ℕ) : Type 0 where
+  pub inside : (place : ℕ) → first ≤ place → place < last → slice_index new place ≡ number
+  pub below : (place : ℕ) → place < first → slice_index new place ≡ slice_index old place
+  pub above : (place : ℕ) → last ≤ place → slice_index new place ≡ slice_index old place
