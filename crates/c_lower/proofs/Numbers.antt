@@ -4,9 +4,9 @@ use Rattle.std.specs.Prelude.{Option, slice_get, map}
 use Rattle.std.proofs.Math.Logic.{∥∥₁_elim}
 use native.Mathlib.Bridge.{le_prop}
 use mathlib.Core.HLevel.{×_prop}
-use Rattle.c_types.specs.Typed.{PlaceTerm, VariableAt, PointedBy, ElementBy, Term, Terms, NoTerms, MoreTerms, Constant, LiteralAt, ArrayAt, ReadOf, SizeofTerm, SizeOf, AddressOf, CallOf, StepOf, UnaryOf, CastTo, ConvertTo, ArithmeticOf, CompareOf, BothOf, EitherOf, AdvanceOf, AdvanceByOf, RetreatOf, DistanceOf, ChoiceOf, AssignTo, ArithmeticAssignTo, AdvanceAssignTo, RetreatAssignTo, CommaOf}
+use Rattle.c_types.specs.Typed.{APlace, VariableAt, PointedBy, ElementBy, AnExpression, SomeExpressions, NoExpressions, MoreExpressions, Constant, LiteralAt, ArrayAt, ReadOf, SizeofTerm, SizeOf, AddressOf, CallOf, StepOf, UnaryOf, CastTo, ConvertTo, ArithmeticOf, CompareOf, BothOf, EitherOf, AdvanceOf, AdvanceByOf, RetreatOf, DistanceOf, ChoiceOf, AssignTo, ArithmeticAssignTo, AdvanceAssignTo, RetreatAssignTo, CommaOf}
 use Rattle.c_program.specs.declared.program.Routine.{Routine}
-use Rattle.c_program.specs.Statements.{ADeclaration, KeepOf, ClearOf, BeginOf, Act, Acts, NoActs, MoreActs, DeclareOf, BlockOf, EvaluateOf, BreakOf, ContinueOf, ReturnOf, IfOf, IfElseOf, WhileOf, DoOf, ForOf}
+use Rattle.c_program.specs.Statements.{ADeclaration, KeepOf, ClearOf, BeginOf, AnAction, SomeActions, NoActions, MoreActions, DeclareOf, BlockOf, EvaluateOf, BreakOf, ContinueOf, ReturnOf, IfOf, IfElseOf, WhileOf, DoOf, ForOf}
 use Rattle.c_program.specs.Programs.{ARoutine, routine}
 use Rattle.c_program.specs.Longwords.{PlaceOfLongwords, OfLongwords, AllOfLongwords, MaybeOfLongwords, OneOfLongwords, DeclaredOfLongwords, ActOfLongwords, ActsOfLongwords}
 
@@ -20,12 +20,12 @@ four : {A B C D : Type 0} → IsProp A → IsProp B → IsProp C → IsProp D �
 four a b c d = hlevel (a, b, c, d)
 
 mutual
-  place_prop : (p : PlaceTerm) → IsProp (PlaceOfLongwords p)
+  place_prop : (p : APlace) → IsProp (PlaceOfLongwords p)
   place_prop (VariableAt t v) = unit_prop
   place_prop (PointedBy t e) = term_prop e
   place_prop (ElementBy t e) = term_prop e
 
-  term_prop : (e : Term) → IsProp (OfLongwords e)
+  term_prop : (e : AnExpression) → IsProp (OfLongwords e)
   term_prop (Constant n) = le_prop
   term_prop (LiteralAt object size) = unit_prop
   term_prop (ArrayAt t v size) = unit_prop
@@ -53,11 +53,11 @@ mutual
   term_prop (RetreatAssignTo p e) = ×_prop (place_prop p) (term_prop e)
   term_prop (CommaOf t l r) = ×_prop (term_prop l) (term_prop r)
 
-  terms_prop : (es : Terms) → IsProp (AllOfLongwords es)
-  terms_prop NoTerms = unit_prop
-  terms_prop (MoreTerms e es) = ×_prop (term_prop e) (terms_prop es)
+  terms_prop : (es : SomeExpressions) → IsProp (AllOfLongwords es)
+  terms_prop NoExpressions = unit_prop
+  terms_prop (MoreExpressions e es) = ×_prop (term_prop e) (terms_prop es)
 
-maybe_prop : (e : Option Term) → IsProp (MaybeOfLongwords e)
+maybe_prop : (e : Option AnExpression) → IsProp (MaybeOfLongwords e)
 maybe_prop None = unit_prop
 maybe_prop (Some e) = term_prop e
 
@@ -71,7 +71,7 @@ declared_prop [] = unit_prop
 declared_prop (d ∷ ds) = ×_prop (one_prop d) (declared_prop ds)
 
 mutual
-  act_prop : (a : Act) → IsProp (ActOfLongwords a)
+  act_prop : (a : AnAction) → IsProp (ActOfLongwords a)
   act_prop (DeclareOf ds) = declared_prop ds
   act_prop (BlockOf row) = acts_prop row
   act_prop (EvaluateOf e) = term_prop e
@@ -84,9 +84,9 @@ mutual
   act_prop (DoOf a c) = ×_prop (act_prop a) (term_prop c)
   act_prop (ForOf i c e a) = four (maybe_prop i) (maybe_prop c) (maybe_prop e) (act_prop a)
 
-  acts_prop : (row : Acts) → IsProp (ActsOfLongwords row)
-  acts_prop NoActs = unit_prop
-  acts_prop (MoreActs a rest) = ×_prop (act_prop a) (acts_prop rest)
+  acts_prop : (row : SomeActions) → IsProp (ActsOfLongwords row)
+  acts_prop NoActions = unit_prop
+  acts_prop (MoreActions a rest) = ×_prop (act_prop a) (acts_prop rest)
 
 own : (r : Routine) → ActsOfLongwords (routine r).body
 own r = ∥∥₁_elim r.longwords (acts_prop (routine r).body) (λ h. h)

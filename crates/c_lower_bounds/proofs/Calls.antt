@@ -3,7 +3,7 @@ use Rattle.std.proofs.Common.{ℕ, ◌+◌, ◌≤◌, List, [], ◌∷◌, refl
 use Rattle.std.specs.Prelude.{Bool}
 use Rattle.c_types.specs.declared.types.CType.{CType}
 use Rattle.c_lower_scheme.specs.Trees.{Tree, Item, Push, Call, Save}
-use Rattle.c_lower_scheme.specs.Expressions.{Low, Passing, over, pushes, args_count, called_drop, called_low, passed_as, no_arguments, pass_so}
+use Rattle.c_lower_scheme.specs.Expressions.{Lowered, Passing, over, pushes, args_count, called_drop, called_low, passed_as, no_arguments, pass_so}
 use Rattle.c_lower_bounds.proofs.Trees.{tree_forks, Narrow, none, next, behind}
 use Rattle.c_lower_bounds.proofs.Values.{Within, Ends, narrow_saving, saved_forks, next_one, fitted_forks, over_within}
 
@@ -25,7 +25,7 @@ narrow_pushes m (w ∷ ws) is h g = narrow_pushes m ws (Push w ∷ is) h.1 (next
 pub none_within : (t l : ℕ) → WithinPassing t 0 (no_arguments t l)
 none_within t l = record { temps = omega arith; trees = λ m le. tt; items = λ m le. none }
 
-pub pass_within : (b : Bool) {t m n : ℕ} {p : Low} {q : Passing} → Within t m p → WithinPassing p.temps n q
+pub pass_within : (b : Bool) {t m n : ℕ} {p : Lowered} {q : Passing} → Within t m p → WithinPassing p.temps n q
     → WithinPassing t (m + n) (pass_so b p q)
 pass_within b {m = m} {n = n} {p = p} {q = q} h g =
     let one = next_one b q.temps in
@@ -37,7 +37,7 @@ pass_within b {m = m} {n = n} {p = p} {q = q} h g =
           (behind (narrow_saving b q.temps p.tree k (omega (arith, h.tree))) (g.items k (omega arith)));
     }
 
-pub passed_within : (to : List CType) {t n : ℕ} {p : Low} → Within t n p → Within t n (over (passed_as to) p)
+pub passed_within : (to : List CType) {t n : ℕ} {p : Lowered} → Within t n p → Within t n (over (passed_as to) p)
 passed_within [] {n = n} h = over_within (passed_as []) (λ w. refl) n (omega arith) h
 passed_within (ty ∷ to) {n = n} h = over_within (passed_as (ty ∷ to)) (λ w. fitted_forks ty w) n (omega arith) h
 

@@ -1,17 +1,17 @@
 -- How many temporaries and forks `!`, `&&`, `||`, `?:` and `,` have.
 use Rattle.std.proofs.Common.{ℕ, suc, ◌+◌, arith}
 use Rattle.std.specs.Prelude.{Bool, true, false, not}
-use Rattle.c_lower_scheme.specs.Expressions.{Low, Done, Way, conditional, chained, same, goal, chain, chain_drop, choose, comma}
+use Rattle.c_lower_scheme.specs.Expressions.{Lowered, Emitted, Lowering, conditional, chained, same, goal, chain, chain_drop, choose, comma}
 use Rattle.c_lower_bounds.proofs.Trees.{none, next, behind}
 use Rattle.c_lower_bounds.proofs.Values.{Ends, ends_more, Bounded, conditional_bounded, effective_bounded, then_ends, drop_two_ends}
 
-pub not_bounded : {n : ℕ} {e : Way} → Bounded n e → Bounded (1 + n) (conditional (λ sense to t l. e.branch (not sense) to t l) e.drop)
+pub not_bounded : {n : ℕ} {e : Lowering} → Bounded n e → Bounded (1 + n) (conditional (λ sense to t l. e.branch (not sense) to t l) e.drop)
 not_bounded {n = n} h = conditional_bounded (omega arith)
     (λ sense to t l. ends_more 3 (1 + n) (omega arith) (omega arith) (h.branch (not sense) to t l))
     (λ t l. ends_more 1 (1 + n) (omega arith) (omega arith) (h.drop t l))
 
 -- a condition, and what is done behind it
-chained_ends : (stop : Bool) (l s : ℕ) {t m n : ℕ} {p : Done} (f : ℕ → ℕ → Done) → Ends 2 t m p → Ends s p.temps n (f p.temps p.labels)
+chained_ends : (stop : Bool) (l s : ℕ) {t m n : ℕ} {p : Emitted} (f : ℕ → ℕ → Emitted) → Ends 2 t m p → Ends s p.temps n (f p.temps p.labels)
     → Ends (2 + s) t (m + n) (chained stop l p f)
 chained_ends true l s f h g = then_ends 2 s h g
 chained_ends false l s {m = m} {n = n} f h g = record {
@@ -19,24 +19,24 @@ chained_ends false l s {m = m} {n = n} f h g = record {
   items = λ k le. behind (h.items k (omega arith)) (behind (g.items k (omega arith)) (next (omega arith) none));
 }
 
-pub chain_bounded : (stop : Bool) {m n : ℕ} {a b : Way} → Bounded m a → Bounded n b
+pub chain_bounded : (stop : Bool) {m n : ℕ} {a b : Lowering} → Bounded m a → Bounded n b
     → Bounded (1 + m + n) (conditional (chain stop a b) (chain_drop a stop b))
 chain_bounded stop {m = m} {n = n} {a = a} {b = b} h g = conditional_bounded (omega arith)
     (λ sense to t l.
     let turn : Bool = same stop sense in
-    let p : Done = a.branch stop (goal turn to l) t (suc l) in
+    let p : Emitted = a.branch stop (goal turn to l) t (suc l) in
     let c = chained_ends turn l 2 (b.branch sense to) (h.branch stop (goal turn to l) t (suc l)) (g.branch sense to p.temps p.labels) in
     ends_more 3 (1 + m + n) (omega arith) (omega arith) c)
     (λ t l.
-    let p : Done = a.branch stop l t (suc l) in
+    let p : Emitted = a.branch stop l t (suc l) in
     let c = chained_ends false l 1 b.drop (h.branch stop l t (suc l)) (g.drop p.temps p.labels) in
     ends_more 1 (1 + m + n) (omega arith) (omega arith) c)
 
-pub choose_bounded : {i m n : ℕ} {c a b : Way} → Bounded i c → Bounded m a → Bounded n b → Bounded (1 + i + m + n) (choose c a b)
+pub choose_bounded : {i m n : ℕ} {c a b : Lowering} → Bounded i c → Bounded m a → Bounded n b → Bounded (1 + i + m + n) (choose c a b)
 choose_bounded {i = i} {m = m} {n = n} {c = c} {a = a} {b = b} f h g = effective_bounded
     (λ t l.
-    let p : Done = c.branch false l (suc t) (suc (suc l)) in
-    let q : Low = a.low p.temps p.labels in
+    let p : Emitted = c.branch false l (suc t) (suc (suc l)) in
+    let q : Lowered = a.low p.temps p.labels in
     let x = f.branch false l (suc t) (suc (suc l)) in
     let y = h.low p.temps p.labels in
     let z = g.low q.temps q.labels in
@@ -49,8 +49,8 @@ choose_bounded {i = i} {m = m} {n = n} {c = c} {a = a} {b = b} f h g = effective
           behind (x.items k (omega arith)) (behind (y.items k (omega arith)) then_last);
     })
     (λ t l.
-    let p : Done = c.branch false l t (suc (suc l)) in
-    let q : Done = a.drop p.temps p.labels in
+    let p : Emitted = c.branch false l t (suc (suc l)) in
+    let q : Emitted = a.drop p.temps p.labels in
     let x = f.branch false l t (suc (suc l)) in
     let y = h.drop p.temps p.labels in
     let z = g.drop q.temps q.labels in
@@ -61,10 +61,10 @@ choose_bounded {i = i} {m = m} {n = n} {c = c} {a = a} {b = b} f h g = effective
           behind (x.items k (omega arith)) (behind (y.items k (omega arith)) (next (omega arith) (next (omega arith) last)));
     })
 
-pub comma_bounded : {m n : ℕ} {a b : Way} → Bounded m a → Bounded n b → Bounded (1 + m + n) (comma a b)
+pub comma_bounded : {m n : ℕ} {a b : Lowering} → Bounded m a → Bounded n b → Bounded (1 + m + n) (comma a b)
 comma_bounded {m = m} {n = n} {a = a} h g = record {
   low = λ t l.
-      let p : Done = a.drop t l in
+      let p : Emitted = a.drop t l in
       let x = h.drop t l in
       let y = g.low p.temps p.labels in
       record {
@@ -73,7 +73,7 @@ comma_bounded {m = m} {n = n} {a = a} h g = record {
         items = λ k le. behind (x.items k (omega arith)) (y.items k (omega arith));
       };
   branch = λ sense to t l.
-      let p : Done = a.drop t l in
+      let p : Emitted = a.drop t l in
       ends_more 2 (1 + m + n) (omega arith) (omega arith) (then_ends 1 2 (h.drop t l) (g.branch sense to p.temps p.labels));
   drop = λ t l. ends_more 1 (1 + m + n) (omega arith) (omega arith) (drop_two_ends h g t l);
 }

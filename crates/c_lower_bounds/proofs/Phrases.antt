@@ -6,10 +6,10 @@ use Rattle.c_types.specs.declared.typed.UnaryOperator.{UnaryOperator}
 use Rattle.c_types.specs.declared.typed.UnaryOperator.TheVariants as unaries
 use Rattle.c_types.specs.declared.typed.ArithmeticOperator.TheVariants as ariths
 use Rattle.c_types.specs.Constants.{scale}
-use Rattle.c_types.specs.Typed.{PlaceTerm, VariableAt, PointedBy, ElementBy, Term, Constant, LiteralAt, ArrayAt, ReadOf, SizeofTerm, SizeOf, AddressOf, CallOf, StepOf, UnaryOf, CastTo, ConvertTo, ArithmeticOf, CompareOf, BothOf, EitherOf, AdvanceOf, AdvanceByOf, RetreatOf, DistanceOf, ChoiceOf, AssignTo, ArithmeticAssignTo, AdvanceAssignTo, RetreatAssignTo, CommaOf, Terms, NoTerms, MoreTerms}
+use Rattle.c_types.specs.Typed.{APlace, VariableAt, PointedBy, ElementBy, AnExpression, Constant, LiteralAt, ArrayAt, ReadOf, SizeofTerm, SizeOf, AddressOf, CallOf, StepOf, UnaryOf, CastTo, ConvertTo, ArithmeticOf, CompareOf, BothOf, EitherOf, AdvanceOf, AdvanceByOf, RetreatOf, DistanceOf, ChoiceOf, AssignTo, ArithmeticAssignTo, AdvanceAssignTo, RetreatAssignTo, CommaOf, SomeExpressions, NoExpressions, MoreExpressions}
 use Rattle.c_program.specs.Need.{place_nodes, nodes, all_nodes}
 use Rattle.c_lower_scheme.specs.Trees.{Tree, Num, Gaddr, Neg, Com, Bin}
-use Rattle.c_lower_scheme.specs.Expressions.{Low, Way, Found, Passing, due, valued, is_nil, where_of, address_tree, scaled_by, shared_by, advance, advance_by, retreat, apart}
+use Rattle.c_lower_scheme.specs.Expressions.{Lowered, Lowering, Located, Passing, due, valued, is_nil, where_of, address_tree, scaled_by, shared_by, advance, advance_by, retreat, apart}
 use Rattle.c_lower_scheme.specs.Expressions.{over, fitted, callee_number, passed_as, others, must_hold, must_pass, assigned, updated, update_by, unary, seek, way, pass}
 use Rattle.c_lower_bounds.proofs.Trees.{tree_forks}
 use Rattle.c_lower_bounds.proofs.Values.{AddsTwo, Bounded, fitted_forks, due_within, valued_bounded, effective_bounded, mapped_bounded, binary_bounded, relation_bounded}
@@ -45,25 +45,25 @@ apart_forks : (ty : CType) → AddsTwo (apart ty)
 apart_forks ty v w = let h = shared_forks (scale ty) (Bin ariths.Subtract v w) in omega (arith, h)
 
 module _ (size count : ℕ) where
-  assigned_within : (between : Bool) {t m n : ℕ} {p : Found} {e : Way} → WithinFound t m p → Bounded n e
+  assigned_within : (between : Bool) {t m n : ℕ} {p : Located} {e : Lowering} → WithinFound t m p → Bounded n e
       → WithinReady t (1 + m + n) (assigned size count between p e.low)
   assigned_within between {p = p} {e = e} h g =
-      let q : Low = e.low p.temps p.labels in
+      let q : Lowered = e.low p.temps p.labels in
       ready_within (must_hold size count between q.items q.tree p.place) h (g.low p.temps p.labels)
 
-  updated_within : (f : CType → Tree → Tree → Tree) → ((ty : CType) → AddsTwo (f ty)) → {t m n : ℕ} {p : Found} {e : Way}
+  updated_within : (f : CType → Tree → Tree → Tree) → ((ty : CType) → AddsTwo (f ty)) → {t m n : ℕ} {p : Located} {e : Lowering}
       → WithinFound t m p → Bounded n e → WithinReady t (1 + m + n) (updated size count f p e.low)
   updated_within f two {p = p} {e = e} h g =
-      let q : Low = e.low p.temps p.labels in
+      let q : Lowered = e.low p.temps p.labels in
       update_within size count (not (is_nil q.items)) (f p.type) (two p.type) h (g.low p.temps p.labels)
 
-  update_bounded : (f : CType → Tree → Tree → Tree) → ((ty : CType) → AddsTwo (f ty)) → {m n : ℕ} {p : ℕ → ℕ → Found} {e : Way}
+  update_bounded : (f : CType → Tree → Tree → Tree) → ((ty : CType) → AddsTwo (f ty)) → {m n : ℕ} {p : ℕ → ℕ → Located} {e : Lowering}
       → ((t l : ℕ) → WithinFound t m (p t l)) → Bounded n e → Bounded (1 + m + n) (update_by size count f p e)
   update_bounded f two h g = effective_bounded
       (λ t l. store_low_within (updated_within f two (h t l) g))
       (λ t l. store_drop_ends (updated_within f two (h t l) g))
 
-  unary_bounded : (op : UnaryOperator) {n : ℕ} {e : Way} → Bounded n e → Bounded (1 + n) (unary size count op e)
+  unary_bounded : (op : UnaryOperator) {n : ℕ} {e : Lowering} → Bounded n e → Bounded (1 + n) (unary size count op e)
   unary_bounded unaries.Plus {n = n} h = mapped_bounded (λ w. w) (λ w. refl) (1 + n) (omega arith) h
   unary_bounded unaries.Minus {n = n} h = mapped_bounded Neg (λ w. refl) (1 + n) (omega arith) h
   unary_bounded unaries.Complement {n = n} h = mapped_bounded Com (λ w. refl) (1 + n) (omega arith) h
@@ -73,12 +73,12 @@ module _ (size count : ℕ) where
   leaf_bounded w h n le = valued_bounded (due_within w h n le)
 
   mutual
-    pub place_within : (p : PlaceTerm) (t l : ℕ) → WithinFound t (place_nodes p) (seek size count p t l)
+    pub place_within : (p : APlace) (t l : ℕ) → WithinFound t (place_nodes p) (seek size count p t l)
     place_within (VariableAt ty v) t l = found_within ty v t l
     place_within (PointedBy ty e) t l = pointed_within ty (1 + nodes e) (omega arith) ((way_bounded e).low t l)
     place_within (ElementBy ty e) t l = pointed_within ty (nodes e) (omega arith) ((way_bounded e).low t l)
 
-    pub way_bounded : (e : Term) → Bounded (nodes e) (way size count e)
+    pub way_bounded : (e : AnExpression) → Bounded (nodes e) (way size count e)
     way_bounded (Constant n) = leaf_bounded (Num n) refl 1 (omega arith)
     way_bounded (LiteralAt n bytes) = leaf_bounded (Gaddr n) refl 1 (omega arith)
     way_bounded (ArrayAt ty v bytes) = leaf_bounded (address_tree (where_of v)) (array_forks v) 1 (omega arith)
@@ -114,10 +114,10 @@ module _ (size count : ℕ) where
     way_bounded (RetreatAssignTo p e) = update_bounded retreat retreat_forks (place_within p) (way_bounded e)
     way_bounded (CommaOf ty a b) = comma_bounded (way_bounded a) (way_bounded b)
 
-    pub passing_within : (es : Terms) (to : List CType) (t l : ℕ) → WithinPassing t (all_nodes es) (pass size count es to t l)
-    passing_within NoTerms to t l = none_within t l
-    passing_within (MoreTerms e es) to t l =
-        let p : Low = over (passed_as to) ((way size count e).low t l) in
+    pub passing_within : (es : SomeExpressions) (to : List CType) (t l : ℕ) → WithinPassing t (all_nodes es) (pass size count es to t l)
+    passing_within NoExpressions to t l = none_within t l
+    passing_within (MoreExpressions e es) to t l =
+        let p : Lowered = over (passed_as to) ((way size count e).low t l) in
         let q : Passing = pass size count es (others to) p.temps p.labels in
         let first = passed_within to ((way_bounded e).low t l) in
         pass_within (must_pass size count p.tree q) first (passing_within es (others to) p.temps p.labels)

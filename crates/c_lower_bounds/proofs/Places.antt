@@ -10,7 +10,7 @@ use Rattle.c_types.specs.declared.typed.Moment.{Moment}
 use Rattle.c_types.specs.declared.typed.Moment.TheVariants as moments
 use Rattle.c_types.specs.Constants.{scale}
 use Rattle.c_lower_scheme.specs.Trees.{Tree, Num, Gaddr, Loc, Arg, Indir, Conv, Neg, Com, Bin, Item, stable, is_leaf}
-use Rattle.c_lower_scheme.specs.Expressions.{Low, Where, InLoc, InArg, InMem, Found, Ready, saved, next_if, read_from, assign_to, address_tree, where_of, step, found, pointed, read_low, address_low, holding, held, ready_so, update_so, store_drop, store_low_at, store_low, must_keep, step_tree, step_ready, step_low}
+use Rattle.c_lower_scheme.specs.Expressions.{Lowered, Where, InLoc, InArg, InMem, Located, Assignable, saved, next_if, read_from, assign_to, address_tree, where_of, step, found, pointed, read_low, address_low, holding, held, ready_so, update_so, store_drop, store_low_at, store_low, must_keep, step_tree, step_ready, step_low}
 use Rattle.c_lower_bounds.proofs.Trees.{tree_forks, item_forks, Narrow, none, next, behind}
 use Rattle.c_lower_bounds.proofs.Values.{Within, Ends, AddsTwo, narrow_saving, saved_forks, next_one, fitted_forks}
 
@@ -19,13 +19,13 @@ abbrev pub place_forks : Where → ℕ
 place_forks s = tree_forks (address_tree s)
 
 -- a place of n nodes
-pub record WithinFound (t n : ℕ) (p : Found) : Type 0 where
+pub record WithinFound (t n : ℕ) (p : Located) : Type 0 where
   pub temps : 2 + p.temps ≤ t + (n + n)
   pub place : suc (place_forks p.place) ≤ n
   pub items : (m : ℕ) → n ≤ m → Narrow m p.items
 
 -- an assignment of n nodes that is due
-pub record WithinReady (t n : ℕ) (r : Ready) : Type 0 where
+pub record WithinReady (t n : ℕ) (r : Assignable) : Type 0 where
   pub temps : 3 + r.temps ≤ t + (n + n)
   pub root : suc (place_forks r.place + tree_forks r.value) ≤ n
   pub items : (m : ℕ) → n ≤ m → Narrow m r.items
@@ -52,19 +52,19 @@ array_forks v = where_forks v
 pub found_within : (ty : CType) (v : Variable) (t l : ℕ) → WithinFound t 1 (found ty (where_of v) t l)
 found_within ty v t l = let h = where_forks v in record { temps = omega arith; place = omega (arith, h); items = λ m le. none }
 
-pub pointed_within : (ty : CType) (k : ℕ) {t n : ℕ} {p : Low} → n ≤ k → Within t n p → WithinFound t k (pointed ty p)
+pub pointed_within : (ty : CType) (k : ℕ) {t n : ℕ} {p : Lowered} → n ≤ k → Within t n p → WithinFound t k (pointed ty p)
 pointed_within ty k {t = t} {n = n} le h = record {
   temps = omega (arith, h.temps);
   place = omega (arith, h.tree);
   items = λ m le'. h.items m (omega arith);
 }
 
-pub read_within : {t n : ℕ} {p : Found} → WithinFound t n p → Within t n (read_low p)
+pub read_within : {t n : ℕ} {p : Located} → WithinFound t n p → Within t n (read_low p)
 read_within {p = p} h =
     let less = read_forks p.type p.place in
     record { temps = h.temps; tree = omega (arith, h.place, less); items = h.items }
 
-pub address_within : {t n : ℕ} {p : Found} → WithinFound t n p → Within t (1 + n) (address_low p)
+pub address_within : {t n : ℕ} {p : Located} → WithinFound t n p → Within t (1 + n) (address_low p)
 address_within {n = n} h = record { temps = omega (arith, h.temps); tree = omega (arith, h.place); items = λ m le. h.items m (omega arith) }
 
 narrow_holding : (b : Bool) (u : ℕ) (s : Where) (m : ℕ) → suc (place_forks s) ≤ m → Narrow m (holding b u s)
@@ -77,7 +77,7 @@ held_forks b u (InLoc n) = omega arith
 held_forks b u (InArg n) = omega arith
 held_forks b u (InMem a) = saved_forks b u a
 
-pub ready_within : (b : Bool) {t m n : ℕ} {p : Found} {q : Low} → WithinFound t m p → Within p.temps n q
+pub ready_within : (b : Bool) {t m n : ℕ} {p : Located} {q : Lowered} → WithinFound t m p → Within p.temps n q
     → WithinReady t (1 + m + n) (ready_so b p q)
 ready_within b {m = m} {n = n} {p = p} {q = q} h g =
     let one = next_one b q.temps in
@@ -116,12 +116,12 @@ alone_forks (Neg a) u = refl
 alone_forks (Com a) u = refl
 alone_forks (Bin op a b) u = refl
 
-pub store_drop_ends : {t n : ℕ} {r : Ready} → WithinReady t n r → Ends 1 t n (store_drop r)
+pub store_drop_ends : {t n : ℕ} {r : Assignable} → WithinReady t n r → Ends 1 t n (store_drop r)
 store_drop_ends {r = r} h =
     let most = assign_forks r.type r.place r.value in
     record { temps = omega (arith, h.temps); items = λ k le. behind (h.items k le) (next (omega (arith, h.root, most)) none) }
 
-store_low_at_within : (s : Where) {t n : ℕ} {r : Ready} → suc (place_forks s + tree_forks r.value) ≤ n → WithinReady t n r
+store_low_at_within : (s : Where) {t n : ℕ} {r : Assignable} → suc (place_forks s + tree_forks r.value) ≤ n → WithinReady t n r
     → Within t n (store_low_at s r)
 store_low_at_within (InLoc x) {r = r} root h =
     let same = fitted_forks r.type r.value in
@@ -137,7 +137,7 @@ store_low_at_within (InMem a) {r = r} root h =
       items = λ k le. behind (h.items k le) (next (omega arith) (next (omega arith) none));
     }
 
-pub store_low_within : {t n : ℕ} {r : Ready} → WithinReady t n r → Within t n (store_low r)
+pub store_low_within : {t n : ℕ} {r : Assignable} → WithinReady t n r → Within t n (store_low r)
 store_low_within {r = r} h = store_low_at_within r.place h.root h
 
 step_forks : (by : Direction) (v w : Tree) → tree_forks (step by v w) ≡ suc (tree_forks v + tree_forks w)
@@ -152,7 +152,7 @@ module _ (size count : ℕ) where
   kept_forks (i ∷ is) (InMem a) u = leaf_forks a u (stable size a)
 
   -- a place that is read and then assigned to
-  pub update_within : (c : Bool) (f : Tree → Tree → Tree) → AddsTwo f → {t m n : ℕ} {p : Found} {q : Low}
+  pub update_within : (c : Bool) (f : Tree → Tree → Tree) → AddsTwo f → {t m n : ℕ} {p : Located} {q : Lowered}
       → WithinFound t m p → Within p.temps n q → WithinReady t (1 + m + n) (update_so (must_keep size count q.items p.place) c f p q)
   update_within c f two {m = m} {n = n} {p = p} {q = q} h g =
       let b : Bool = must_keep size count q.items p.place in
@@ -173,7 +173,7 @@ module _ (size count : ℕ) where
             behind (h.items k (omega arith)) (behind (narrow_holding b q.temps p.place k (omega (arith, h.place))) last);
       }
 
-  pub step_within : (by : Direction) {t m : ℕ} {p : Found} → WithinFound t m p → WithinReady t (1 + m) (step_ready size count by p)
+  pub step_within : (by : Direction) {t m : ℕ} {p : Located} → WithinFound t m p → WithinReady t (1 + m) (step_ready size count by p)
   step_within by {m = m} {p = p} h =
       let b : Bool = must_keep size count [] p.place in
       let s : Where = held b p.temps p.place in
@@ -187,7 +187,7 @@ module _ (size count : ℕ) where
         items = λ k le. behind (h.items k (omega arith)) (behind (narrow_holding b p.temps p.place k (omega (arith, h.place))) none);
       }
 
-  pub step_low_within : (m : Moment) (by : Direction) {t n : ℕ} {p : Found} → WithinFound t n p
+  pub step_low_within : (m : Moment) (by : Direction) {t n : ℕ} {p : Located} → WithinFound t n p
       → Within t (1 + n) (step_low size count m by p)
   step_low_within moments.Before by {n = n} {p = p} h =
       let b : Bool = must_keep size count [] p.place in

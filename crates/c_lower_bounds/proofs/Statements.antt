@@ -1,65 +1,65 @@
 -- How many temporaries and forks each statement has, by the nodes of its largest full expression.
 use Rattle.std.proofs.Common.{ℕ, suc, ◌+◌, ◌≤◌, List, [], ◌∷◌, arith}
 use Rattle.std.specs.Prelude.{Bool, true, false, Option, Some, None}
-use Rattle.c_types.specs.Typed.{Term}
-use Rattle.c_program.specs.Statements.{ADeclaration, KeepOf, ClearOf, BeginOf, Act, Acts, NoActs, MoreActs, DeclareOf, BlockOf, EvaluateOf, BreakOf, ContinueOf, ReturnOf, IfOf, IfElseOf, WhileOf, DoOf, ForOf}
+use Rattle.c_types.specs.Typed.{AnExpression}
+use Rattle.c_program.specs.Statements.{ADeclaration, KeepOf, ClearOf, BeginOf, AnAction, SomeActions, NoActions, MoreActions, DeclareOf, BlockOf, EvaluateOf, BreakOf, ContinueOf, ReturnOf, IfOf, IfElseOf, WhileOf, DoOf, ForOf}
 use Rattle.c_program.specs.Need.{nodes, maybe_nodes, returned_nodes, declared_nodes, largest, largest_of}
 use Rattle.c_lower_scheme.specs.Trees.{Num, Item, AssignLoc, Jump, Ret}
-use Rattle.c_lower_scheme.specs.Expressions.{Low, Done, nothing, way}
+use Rattle.c_lower_scheme.specs.Expressions.{Lowered, Emitted, nothing, way}
 use Rattle.c_lower_scheme.specs.Statements.{mentions, two_done, ret_of, clearing, begin_of, if_done, if_else_done, while_done, do_done, for_done, ever_done, unless, when, effect, returning, declare, for_of, lower, lower_row}
 use Rattle.c_lower_bounds.proofs.Trees.{item_forks, Narrow, none, next, behind}
 use Rattle.c_lower_bounds.proofs.Values.{Within, Ends}
 use Rattle.c_lower_bounds.proofs.Phrases.{way_bounded}
 
 -- fewer temporaries than two for each of m nodes, and items with at most m forks
-pub record Holds (size m : ℕ) (p : Done) : Type 0 where
+pub record Holds (size m : ℕ) (p : Emitted) : Type 0 where
   pub temps : suc p.temps ≤ size + (m + m)
   pub items : Narrow m p.items
 
-ends_hold : (spare : ℕ) {size n m : ℕ} {p : Done} → 1 ≤ spare → n ≤ m → Ends spare size n p → Holds size m p
+ends_hold : (spare : ℕ) {size n m : ℕ} {p : Emitted} → 1 ≤ spare → n ≤ m → Ends spare size n p → Holds size m p
 ends_hold spare {m = m} one le h = record { temps = omega (arith, h.temps); items = h.items m le }
 
-two_hold : {size m : ℕ} {a b : Done} → Holds size m a → Holds size m b → Holds size m (two_done a b)
+two_hold : {size m : ℕ} {a b : Emitted} → Holds size m a → Holds size m b → Holds size m (two_done a b)
 two_hold h g = record { temps = omega (arith, h.temps, g.temps); items = behind h.items g.items }
 
-ret_holds : {size n m : ℕ} {p : Low} → n ≤ m → Within size n p → Holds size m (ret_of p)
+ret_holds : {size n m : ℕ} {p : Lowered} → n ≤ m → Within size n p → Holds size m (ret_of p)
 ret_holds {m = m} le h = record { temps = omega (arith, h.temps); items = behind (h.items m le) (next (omega (arith, h.tree)) none) }
 
 narrow_clearing : (b : Bool) (n m : ℕ) → 1 ≤ m → Narrow m (clearing b n)
 narrow_clearing true n m one = next (omega arith) none
 narrow_clearing false n m one = none
 
-begin_holds : (b : Bool) (x : ℕ) {size n m : ℕ} {p : Low} → 1 ≤ m → n ≤ m → Within size n p → Holds size m (begin_of b x p)
+begin_holds : (b : Bool) (x : ℕ) {size n m : ℕ} {p : Lowered} → 1 ≤ m → n ≤ m → Within size n p → Holds size m (begin_of b x p)
 begin_holds b x {m = m} one le h = record {
   temps = omega (arith, h.temps);
   items = behind (narrow_clearing b x m one) (behind (h.items m le) (next (omega (arith, h.tree)) none));
 }
 
-if_holds : (l : ℕ) {size m : ℕ} {p a : Done} → Holds size m p → Holds size m a → Holds size m (if_done l p a)
+if_holds : (l : ℕ) {size m : ℕ} {p a : Emitted} → Holds size m p → Holds size m a → Holds size m (if_done l p a)
 if_holds l h g = record {
   temps = omega (arith, h.temps, g.temps);
   items = behind h.items (behind g.items (next (omega arith) none));
 }
 
-if_else_holds : (l : ℕ) {size m : ℕ} {p a b : Done} → Holds size m p → Holds size m a → Holds size m b → Holds size m (if_else_done l p a b)
+if_else_holds : (l : ℕ) {size m : ℕ} {p a b : Emitted} → Holds size m p → Holds size m a → Holds size m b → Holds size m (if_else_done l p a b)
 if_else_holds l h g f = record {
   temps = omega (arith, h.temps, g.temps, f.temps);
   items = behind h.items (behind g.items (next (omega arith) (next (omega arith) (behind f.items (next (omega arith) none)))));
 }
 
-while_holds : (l : ℕ) {size m : ℕ} {p a : Done} → Holds size m p → Holds size m a → Holds size m (while_done l p a)
+while_holds : (l : ℕ) {size m : ℕ} {p a : Emitted} → Holds size m p → Holds size m a → Holds size m (while_done l p a)
 while_holds l h g = record {
   temps = omega (arith, h.temps, g.temps);
   items = next (omega arith) (behind h.items (behind g.items (next (omega arith) (next (omega arith) none))));
 }
 
-do_holds : (l : ℕ) {size m : ℕ} {a p : Done} → Holds size m a → Holds size m p → Holds size m (do_done l a p)
+do_holds : (l : ℕ) {size m : ℕ} {a p : Emitted} → Holds size m a → Holds size m p → Holds size m (do_done l a p)
 do_holds l g h = record {
   temps = omega (arith, h.temps, g.temps);
   items = next (omega arith) (next (omega arith) (behind g.items (next (omega arith) (behind h.items (next (omega arith) none)))));
 }
 
-for_holds : (l : ℕ) {size m : ℕ} {p a s : Done} → Holds size m p → Holds size m a → Holds size m s → Holds size m (for_done l p a s)
+for_holds : (l : ℕ) {size m : ℕ} {p a s : Emitted} → Holds size m p → Holds size m a → Holds size m s → Holds size m (for_done l p a s)
 for_holds l h g f = record {
   temps = omega (arith, h.temps, g.temps, f.temps);
   items =
@@ -67,7 +67,7 @@ for_holds l h g f = record {
       next (omega arith) (behind h.items (behind g.items (next (omega arith) last)));
 }
 
-ever_holds : (l : ℕ) {size m : ℕ} {a s : Done} → Holds size m a → Holds size m s → Holds size m (ever_done l a s)
+ever_holds : (l : ℕ) {size m : ℕ} {a s : Emitted} → Holds size m a → Holds size m s → Holds size m (ever_done l a s)
 ever_holds l g f = record {
   temps = omega (arith, g.temps, f.temps);
   items =
@@ -82,20 +82,20 @@ module _ (size count m : ℕ) (one : 1 ≤ m) where
   one_holds : (i : Item) → item_forks i ≤ m → (l : ℕ) → Holds size m (record { items = i ∷ []; temps = size; labels = l })
   one_holds i h l = record { temps = omega arith; items = next h none }
 
-  unless_holds : (c : Term) → nodes c ≤ m → (to l : ℕ) → Holds size m (unless size count c to l)
+  unless_holds : (c : AnExpression) → nodes c ≤ m → (to l : ℕ) → Holds size m (unless size count c to l)
   unless_holds c le to l = ends_hold 2 (omega arith) le ((way_bounded size count c).branch false to size l)
 
-  when_holds : (c : Term) → nodes c ≤ m → (to l : ℕ) → Holds size m (when size count c to l)
+  when_holds : (c : AnExpression) → nodes c ≤ m → (to l : ℕ) → Holds size m (when size count c to l)
   when_holds c le to l = ends_hold 2 (omega arith) le ((way_bounded size count c).branch true to size l)
 
-  drop_holds : (e : Term) → nodes e ≤ m → (l : ℕ) → Holds size m ((way size count e).drop size l)
+  drop_holds : (e : AnExpression) → nodes e ≤ m → (l : ℕ) → Holds size m ((way size count e).drop size l)
   drop_holds e le l = ends_hold 1 (omega arith) le ((way_bounded size count e).drop size l)
 
-  effect_holds : (e : Option Term) → maybe_nodes e ≤ m → (l : ℕ) → Holds size m (effect size count e l)
+  effect_holds : (e : Option AnExpression) → maybe_nodes e ≤ m → (l : ℕ) → Holds size m (effect size count e l)
   effect_holds None le l = nothing_holds l
   effect_holds (Some e) le l = drop_holds e le l
 
-  returning_holds : (e : Option Term) → returned_nodes e ≤ m → (l : ℕ) → Holds size m (returning size count e l)
+  returning_holds : (e : Option AnExpression) → returned_nodes e ≤ m → (l : ℕ) → Holds size m (returning size count e l)
   returning_holds None le l = one_holds (Ret (Num 0)) (omega arith) l
   returning_holds (Some e) le l = ret_holds le ((way_bounded size count e).low size l)
 
@@ -104,23 +104,23 @@ module _ (size count m : ℕ) (one : 1 ≤ m) where
   declare_holds (KeepOf object ∷ ds) le l = declare_holds ds (omega arith) l
   declare_holds (ClearOf n ∷ ds) le l = two_hold (one_holds (AssignLoc n (Num 0)) (omega arith) l) (declare_holds ds (omega arith) l)
   declare_holds (BeginOf n e ∷ ds) le l =
-      let p : Low = (way size count e).low size l in
+      let p : Lowered = (way size count e).low size l in
       let first = begin_holds (mentions n e) n one (omega arith) ((way_bounded size count e).low size l) in
       two_hold first (declare_holds ds (omega arith) p.labels)
 
   -- the parts of a `for` behind its first
-  turns_hold : (l : ℕ) (c e : Option Term) (f : ℕ → Done) → maybe_nodes c ≤ m → maybe_nodes e ≤ m → ((k : ℕ) → Holds size m (f k))
+  turns_hold : (l : ℕ) (c e : Option AnExpression) (f : ℕ → Emitted) → maybe_nodes c ≤ m → maybe_nodes e ≤ m → ((k : ℕ) → Holds size m (f k))
       → Holds size m (for_of size count l c e f)
   turns_hold l None e f lc le h =
-      let a : Done = f (suc (suc (suc l))) in
+      let a : Emitted = f (suc (suc (suc l))) in
       ever_holds l (h (suc (suc (suc l)))) (effect_holds e le a.labels)
   turns_hold l (Some c) e f lc le h =
-      let p : Done = unless size count c (suc (suc l)) (suc (suc (suc l))) in
-      let a : Done = f p.labels in
+      let p : Emitted = unless size count c (suc (suc l)) (suc (suc (suc l))) in
+      let a : Emitted = f p.labels in
       for_holds l (unless_holds c lc (suc (suc l)) (suc (suc (suc l)))) (h p.labels) (effect_holds e le a.labels)
 
   mutual
-    pub lower_holds : (a : Act) → largest a ≤ m → (lb lc l : ℕ) → Holds size m (lower size count a lb lc l)
+    pub lower_holds : (a : AnAction) → largest a ≤ m → (lb lc l : ℕ) → Holds size m (lower size count a lb lc l)
     lower_holds (DeclareOf ds) le lb lc l = declare_holds ds le l
     lower_holds (BlockOf row) le lb lc l = row_holds row le lb lc l
     lower_holds (EvaluateOf e) le lb lc l = drop_holds e le l
@@ -128,28 +128,28 @@ module _ (size count m : ℕ) (one : 1 ≤ m) where
     lower_holds ContinueOf le lb lc l = one_holds (Jump lc) (omega arith) l
     lower_holds (ReturnOf e) le lb lc l = returning_holds e le l
     lower_holds (IfOf c a) le lb lc l =
-        let p : Done = unless size count c l (suc l) in
+        let p : Emitted = unless size count c l (suc l) in
         if_holds l (unless_holds c (omega arith) l (suc l)) (lower_holds a (omega arith) lb lc p.labels)
     lower_holds (IfElseOf c a b) le lb lc l =
-        let p : Done = unless size count c l (suc (suc l)) in
-        let q : Done = lower size count a lb lc p.labels in
+        let p : Emitted = unless size count c l (suc (suc l)) in
+        let q : Emitted = lower size count a lb lc p.labels in
         let test = unless_holds c (omega arith) l (suc (suc l)) in
         if_else_holds l test (lower_holds a (omega arith) lb lc p.labels) (lower_holds b (omega arith) lb lc q.labels)
     lower_holds (WhileOf c a) le lb lc l =
-        let p : Done = unless size count c (suc l) (suc (suc l)) in
+        let p : Emitted = unless size count c (suc l) (suc (suc l)) in
         while_holds l (unless_holds c (omega arith) (suc l) (suc (suc l))) (lower_holds a (omega arith) (suc l) l p.labels)
     lower_holds (DoOf a c) le lb lc l =
-        let q : Done = lower size count a (suc (suc l)) (suc l) (suc (suc (suc l))) in
+        let q : Emitted = lower size count a (suc (suc l)) (suc l) (suc (suc (suc l))) in
         do_holds l (lower_holds a (omega arith) (suc (suc l)) (suc l) (suc (suc (suc l)))) (when_holds c (omega arith) l q.labels)
     lower_holds (ForOf i c e a) le lb lc l =
-        let p : Done = effect size count i l in
+        let p : Emitted = effect size count i l in
         let k : ℕ = p.labels in
-        let body : ℕ → Done = lower size count a (suc (suc k)) (suc k) in
+        let body : ℕ → Emitted = lower size count a (suc (suc k)) (suc k) in
         let turns : (n : ℕ) → Holds size m (body n) = lower_holds a (omega arith) (suc (suc k)) (suc k) in
         two_hold (effect_holds i (omega arith) l) (turns_hold k c e body (omega arith) (omega arith) turns)
 
-    pub row_holds : (row : Acts) → largest_of row ≤ m → (lb lc l : ℕ) → Holds size m (lower_row size count row lb lc l)
-    row_holds NoActs le lb lc l = nothing_holds l
-    row_holds (MoreActs a row) le lb lc l =
-        let p : Done = lower size count a lb lc l in
+    pub row_holds : (row : SomeActions) → largest_of row ≤ m → (lb lc l : ℕ) → Holds size m (lower_row size count row lb lc l)
+    row_holds NoActions le lb lc l = nothing_holds l
+    row_holds (MoreActions a row) le lb lc l =
+        let p : Emitted = lower size count a lb lc l in
         two_hold (lower_holds a (omega arith) lb lc l) (row_holds row (omega arith) lb lc p.labels)

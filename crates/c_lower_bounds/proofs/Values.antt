@@ -6,30 +6,30 @@ use Rattle.c_types.specs.declared.types.Integer.{Integer}
 use Rattle.c_types.specs.declared.types.Integer.TheVariants as ints
 use Rattle.c_types.specs.declared.types.CType.{CType}
 use Rattle.c_lower_scheme.specs.Trees.{Tree, breaks}
-use Rattle.c_lower_scheme.specs.Expressions.{Low, Two, Done, Way, due, saving, saved, next_if, integer_of, conv, fitted, over}
+use Rattle.c_lower_scheme.specs.Expressions.{Lowered, Pair, Emitted, Lowering, due, saving, saved, next_if, integer_of, conv, fitted, over}
 use Rattle.c_lower_scheme.specs.Expressions.{then_done, test, dropped, valued, conditional, effective, mapped, drop_two, join_so, must, binary, relation, joined}
 use Rattle.c_lower_bounds.proofs.Trees.{tree_forks, Narrow, none, next, behind}
 
 -- A value of n nodes, from the temporary t on. It takes at least two temporaries less than twice its nodes;
 -- its tree has fewer forks than nodes, and none of its items has more.
-pub record Within (t n : ℕ) (p : Low) : Type 0 where
+pub record Within (t n : ℕ) (p : Lowered) : Type 0 where
   pub temps : 2 + p.temps ≤ t + (n + n)
   pub tree : suc (tree_forks p.tree) ≤ n
   pub items : (m : ℕ) → n ≤ m → Narrow m p.items
 
 -- two values
-pub record WithinTwo (t n : ℕ) (p : Two) : Type 0 where
+pub record WithinTwo (t n : ℕ) (p : Pair) : Type 0 where
   pub temps : 3 + p.temps ≤ t + (n + n)
   pub trees : 2 + (tree_forks p.first + tree_forks p.second) ≤ n
   pub items : (m : ℕ) → n ≤ m → Narrow m p.items
 
 -- items alone, with so many temporaries to spare
-pub record Ends (spare t n : ℕ) (p : Done) : Type 0 where
+pub record Ends (spare t n : ℕ) (p : Emitted) : Type 0 where
   pub temps : spare + p.temps ≤ t + (n + n)
   pub items : (m : ℕ) → n ≤ m → Narrow m p.items
 
 -- the three ways to lower an expression of n nodes
-pub record Bounded (n : ℕ) (e : Way) : Type 0 where
+pub record Bounded (n : ℕ) (e : Lowering) : Type 0 where
   pub low : (t l : ℕ) → Within t n (e.low t l)
   pub branch : (sense : Bool) (to t l : ℕ) → Ends 2 t n (e.branch sense to t l)
   pub drop : (t l : ℕ) → Ends 1 t n (e.drop t l)
@@ -64,21 +64,21 @@ pub fitted_forks : (t : CType) → Keeps (fitted t)
 fitted_forks t w = conv_forks (integer_of t) w
 
 -- more nodes than there are
-pub ends_more : (s k : ℕ) {r t n : ℕ} {p : Done} → n ≤ k → s + (n + n) ≤ r + (k + k) → Ends r t n p → Ends s t k p
+pub ends_more : (s k : ℕ) {r t n : ℕ} {p : Emitted} → n ≤ k → s + (n + n) ≤ r + (k + k) → Ends r t n p → Ends s t k p
 ends_more s k {r = r} {t = t} {n = n} le room h = record { temps = omega (arith, h.temps); items = λ m le'. h.items m (omega arith) }
 
 pub due_within : (w : Tree) → tree_forks w ≡ 0 → (n : ℕ) → 1 ≤ n → (t l : ℕ) → Within t n (due w t l)
 due_within w h n one t l = record { temps = omega arith; tree = omega arith; items = λ m le. none }
 
-pub over_within : (f : Tree → Tree) → Keeps f → (k : ℕ) {t n : ℕ} {p : Low} → n ≤ k → Within t n p → Within t k (over f p)
+pub over_within : (f : Tree → Tree) → Keeps f → (k : ℕ) {t n : ℕ} {p : Lowered} → n ≤ k → Within t n p → Within t k (over f p)
 over_within f same k {t = t} {n = n} {p = p} le h =
     let e = same p.tree in
     record { temps = omega (arith, h.temps); tree = omega (arith, h.tree, e); items = λ m le'. h.items m (omega arith) }
 
-pub test_ends : (sense : Bool) (to : ℕ) {t n : ℕ} {p : Low} → Within t n p → Ends 2 t n (test sense to p)
+pub test_ends : (sense : Bool) (to : ℕ) {t n : ℕ} {p : Lowered} → Within t n p → Ends 2 t n (test sense to p)
 test_ends sense to h = record { temps = h.temps; items = λ m le. behind (h.items m le) (next (omega (arith, h.tree)) none) }
 
-pub dropped_ends : {t n : ℕ} {p : Low} → Within t n p → Ends 1 t n (dropped p)
+pub dropped_ends : {t n : ℕ} {p : Lowered} → Within t n p → Ends 1 t n (dropped p)
 dropped_ends {p = p} h =
     let one = next_one (breaks p.tree) p.temps in
     record {
@@ -86,20 +86,20 @@ dropped_ends {p = p} h =
       items = λ m le. behind (h.items m le) (narrow_saving (breaks p.tree) p.temps p.tree m (omega (arith, h.tree)));
     }
 
-pub then_ends : (s r : ℕ) {t m n : ℕ} {a b : Done} → Ends s t m a → Ends r a.temps n b → Ends (s + r) t (m + n) (then_done a b)
+pub then_ends : (s r : ℕ) {t m n : ℕ} {a b : Emitted} → Ends s t m a → Ends r a.temps n b → Ends (s + r) t (m + n) (then_done a b)
 then_ends s r {m = m} {n = n} h g = record {
   temps = omega (arith, h.temps, g.temps);
   items = λ k le. behind (h.items k (omega arith)) (g.items k (omega arith));
 }
 
-pub valued_bounded : {n : ℕ} {f : ℕ → ℕ → Low} → ((t l : ℕ) → Within t n (f t l)) → Bounded n (valued f)
+pub valued_bounded : {n : ℕ} {f : ℕ → ℕ → Lowered} → ((t l : ℕ) → Within t n (f t l)) → Bounded n (valued f)
 valued_bounded h = record { low = h; branch = λ sense to t l. test_ends sense to (h t l); drop = λ t l. dropped_ends (h t l) }
 
-pub effective_bounded : {n : ℕ} {f : ℕ → ℕ → Low} {d : ℕ → ℕ → Done}
+pub effective_bounded : {n : ℕ} {f : ℕ → ℕ → Lowered} {d : ℕ → ℕ → Emitted}
     → ((t l : ℕ) → Within t n (f t l)) → ((t l : ℕ) → Ends 1 t n (d t l)) → Bounded n (effective f d)
 effective_bounded h g = record { low = h; branch = λ sense to t l. test_ends sense to (h t l); drop = g }
 
-pub conditional_bounded : {n : ℕ} {f : Bool → ℕ → ℕ → ℕ → Done} {d : ℕ → ℕ → Done} → 1 ≤ n
+pub conditional_bounded : {n : ℕ} {f : Bool → ℕ → ℕ → ℕ → Emitted} {d : ℕ → ℕ → Emitted} → 1 ≤ n
     → ((sense : Bool) (to t l : ℕ) → Ends 3 t n (f sense to t l)) → ((t l : ℕ) → Ends 1 t n (d t l)) → Bounded n (conditional f d)
 conditional_bounded {n = n} one h g = record {
   low = λ t l. let c = h false l (suc t) (suc l) in record {
@@ -112,16 +112,16 @@ conditional_bounded {n = n} one h g = record {
 }
 
 -- a pure operator, which is a node or none
-pub mapped_bounded : (f : Tree → Tree) → Keeps f → (k : ℕ) {n : ℕ} {e : Way} → n ≤ k → Bounded n e → Bounded k (mapped f e)
+pub mapped_bounded : (f : Tree → Tree) → Keeps f → (k : ℕ) {n : ℕ} {e : Lowering} → n ≤ k → Bounded n e → Bounded k (mapped f e)
 mapped_bounded f same k {n = n} le h = effective_bounded
     (λ t l. over_within f same k le (h.low t l))
     (λ t l. ends_more 1 k le (omega arith) (h.drop t l))
 
-pub drop_two_ends : {m n : ℕ} {a b : Way} → Bounded m a → Bounded n b → (t l : ℕ) → Ends 2 t (m + n) (drop_two a b t l)
+pub drop_two_ends : {m n : ℕ} {a b : Lowering} → Bounded m a → Bounded n b → (t l : ℕ) → Ends 2 t (m + n) (drop_two a b t l)
 drop_two_ends {a = a} h g t l = then_ends 1 1 (h.drop t l) (g.drop (a.drop t l).temps (a.drop t l).labels)
 
 module _ (size count : ℕ) where
-  two_within : (b : Bool) {t m n : ℕ} {p q : Low} → Within t m p → Within p.temps n q → WithinTwo t (m + n) (join_so size count b p q)
+  two_within : (b : Bool) {t m n : ℕ} {p q : Lowered} → Within t m p → Within p.temps n q → WithinTwo t (m + n) (join_so size count b p q)
   two_within b {t = t} {m = m} {n = n} {p = p} {q = q} h g =
       let one = next_one b q.temps in
       let less = saved_forks b q.temps p.tree in
@@ -132,22 +132,22 @@ module _ (size count : ℕ) where
             (behind (narrow_saving b q.temps p.tree k (omega (arith, h.tree))) (g.items k (omega arith)));
       }
 
-  joined_within : {m n : ℕ} {a b : Way} → Bounded m a → Bounded n b → (t l : ℕ) → WithinTwo t (m + n) (joined size count a b t l)
+  joined_within : {m n : ℕ} {a b : Lowering} → Bounded m a → Bounded n b → (t l : ℕ) → WithinTwo t (m + n) (joined size count a b t l)
   joined_within {a = a} {b = b} h g t l =
       let p = a.low t l in
       let q = b.low p.temps p.labels in
       two_within (must size count q.items p.tree q.tree) (h.low t l) (g.low p.temps p.labels)
 
   -- an operator over two values
-  pub binary_bounded : (f : Tree → Tree → Tree) → AddsTwo f → {m n : ℕ} {a b : Way} → Bounded m a → Bounded n b
+  pub binary_bounded : (f : Tree → Tree → Tree) → AddsTwo f → {m n : ℕ} {a b : Lowering} → Bounded m a → Bounded n b
       → Bounded (1 + m + n) (binary size count f a b)
   binary_bounded f two {m = m} {n = n} {a = a} {b = b} h g = valued_bounded (λ t l.
-      let p : Two = joined size count a b t l in
+      let p : Pair = joined size count a b t l in
       let c = joined_within h g t l in
       let most = two p.first p.second in
       record { temps = omega (arith, c.temps); tree = omega (arith, c.trees, most); items = λ k le. c.items k (omega arith) })
 
-  pub relation_bounded : (r : Rel) {m n : ℕ} {a b : Way} → Bounded m a → Bounded n b → Bounded (1 + m + n) (relation size count r a b)
+  pub relation_bounded : (r : Rel) {m n : ℕ} {a b : Lowering} → Bounded m a → Bounded n b → Bounded (1 + m + n) (relation size count r a b)
   relation_bounded r {m = m} {n = n} {a = a} {b = b} h g = conditional_bounded (omega arith)
       (λ sense to t l.
       let c = joined_within h g t l in

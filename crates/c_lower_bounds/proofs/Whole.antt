@@ -4,14 +4,14 @@ use Rattle.std.specs.Prelude.{max, slice_get}
 use Rattle.tree_core.specs.declared.program.TreeFn.{TreeFn}
 use Rattle.c_program.specs.Need.{largest_of, need_of}
 use Rattle.c_program.specs.Programs.{ARoutine}
-use Rattle.c_lower_scheme.specs.Expressions.{Done}
+use Rattle.c_lower_scheme.specs.Expressions.{Emitted}
 use Rattle.c_lower_scheme.specs.Programs.{body_of, items_of, function_of, lower_all}
 use Rattle.c_lower_bounds.specs.Claim.{FitsFrame, EachFunctionFits, FunctionsStay}
 use Rattle.c_lower_bounds.proofs.Trees.{Narrow, none, next, behind, root_forks}
 use Rattle.c_lower_bounds.proofs.Statements.{Holds, row_holds}
 
 -- A function whose body holds a number of nodes has room for three for each behind its locals.
-holds_fits : (g : ARoutine) (m : ℕ) (p : Done) → Holds (length g.locals) m p → FitsFrame (length g.locals + 3 * m) (function_of g p)
+holds_fits : (g : ARoutine) (m : ℕ) (p : Emitted) → Holds (length g.locals) m p → FitsFrame (length g.locals + 3 * m) (function_of g p)
 holds_fits g m p h = record {
   locals = omega (arith, h.temps);
   roots = λ n w e.

@@ -6,29 +6,29 @@ use Rattle.c_types.specs.declared.types.Integer.{Integer}
 use Rattle.c_types.specs.declared.types.Integer.TheVariants as ints
 use Rattle.c_types.specs.declared.types.CType.{CType}
 use Rattle.c_lower_scheme.specs.Trees.{Tree, Num, Gaddr, Loc, Arg, Indir, Conv, Neg, Com, Bin, Item, divides_by, divides, reads, breaks, stable, is_leaf}
-use Rattle.c_lower_scheme.specs.Expressions.{Low, Two, Done, Way, Found, Ready, due, saving, saved, integer_of, conv, fitted, address_tree, over, test, dropped, valued, conditional, effective, mapped, chained, same, goal, chain, chain_drop, drop_two, choose, comma, must, joined, binary, relation}
+use Rattle.c_lower_scheme.specs.Expressions.{Lowered, Pair, Emitted, Lowering, Located, Assignable, due, saving, saved, integer_of, conv, fitted, address_tree, over, test, dropped, valued, conditional, effective, mapped, chained, same, goal, chain, chain_drop, drop_two, choose, comma, must, joined, binary, relation}
 use Rattle.c_lower_calm.proofs.Trees.{Apart, IsCalm, AreCalm, none, next, behind}
 
-pub record CalmLow (p : Low) : Type 0 where
+pub record CalmLow (p : Lowered) : Type 0 where
   pub tree : IsCalm p.tree
   pub items : AreCalm p.items
 
-pub record CalmTwo (p : Two) : Type 0 where
+pub record CalmTwo (p : Pair) : Type 0 where
   pub first : IsCalm p.first
   pub second : IsCalm p.second
   pub apart : Apart p.first p.second
   pub items : AreCalm p.items
 
-pub record CalmWay (e : Way) : Type 0 where
+pub record CalmWay (e : Lowering) : Type 0 where
   pub low : (t l : ℕ) → CalmLow (e.low t l)
   pub branch : (sense : Bool) (to t l : ℕ) → AreCalm (e.branch sense to t l).items
   pub drop : (t l : ℕ) → AreCalm (e.drop t l).items
 
-pub record CalmFound (p : Found) : Type 0 where
+pub record CalmFound (p : Located) : Type 0 where
   pub place : IsCalm (address_tree p.place)
   pub items : AreCalm p.items
 
-pub record CalmReady (r : Ready) : Type 0 where
+pub record CalmReady (r : Assignable) : Type 0 where
   pub place : IsCalm (address_tree r.place)
   pub value : IsCalm r.value
   pub apart : Apart (address_tree r.place) r.value
@@ -63,22 +63,22 @@ calm_fitted t w h = calm_conv (integer_of t) w h
 pub due_calm : (w : Tree) → IsCalm w → (t l : ℕ) → CalmLow (due w t l)
 due_calm w h t l = record { tree = h; items = none }
 
-pub over_calm : (f : Tree → Tree) → ((w : Tree) → IsCalm w → IsCalm (f w)) → {p : Low} → CalmLow p → CalmLow (over f p)
+pub over_calm : (f : Tree → Tree) → ((w : Tree) → IsCalm w → IsCalm (f w)) → {p : Lowered} → CalmLow p → CalmLow (over f p)
 over_calm f keeps {p = p} h = record { tree = keeps p.tree h.tree; items = h.items }
 
-pub test_calm : (sense : Bool) (to : ℕ) {p : Low} → CalmLow p → AreCalm (test sense to p).items
+pub test_calm : (sense : Bool) (to : ℕ) {p : Lowered} → CalmLow p → AreCalm (test sense to p).items
 test_calm sense to h = behind h.items (next (h.tree, tt, λ e. refl) none)
 
-pub dropped_calm : {p : Low} → CalmLow p → AreCalm (dropped p).items
+pub dropped_calm : {p : Lowered} → CalmLow p → AreCalm (dropped p).items
 dropped_calm {p = p} h = behind h.items (calm_saving (breaks p.tree) p.temps p.tree h.tree)
 
-pub valued_calm : {f : ℕ → ℕ → Low} → ((t l : ℕ) → CalmLow (f t l)) → CalmWay (valued f)
+pub valued_calm : {f : ℕ → ℕ → Lowered} → ((t l : ℕ) → CalmLow (f t l)) → CalmWay (valued f)
 valued_calm h = record { low = h; branch = λ sense to t l. test_calm sense to (h t l); drop = λ t l. dropped_calm (h t l) }
 
-pub effective_calm : {f : ℕ → ℕ → Low} {d : ℕ → ℕ → Done} → ((t l : ℕ) → CalmLow (f t l)) → ((t l : ℕ) → AreCalm (d t l).items) → CalmWay (effective f d)
+pub effective_calm : {f : ℕ → ℕ → Lowered} {d : ℕ → ℕ → Emitted} → ((t l : ℕ) → CalmLow (f t l)) → ((t l : ℕ) → AreCalm (d t l).items) → CalmWay (effective f d)
 effective_calm h g = record { low = h; branch = λ sense to t l. test_calm sense to (h t l); drop = g }
 
-pub conditional_calm : {f : Bool → ℕ → ℕ → ℕ → Done} {d : ℕ → ℕ → Done}
+pub conditional_calm : {f : Bool → ℕ → ℕ → ℕ → Emitted} {d : ℕ → ℕ → Emitted}
     → ((sense : Bool) (to t l : ℕ) → AreCalm (f sense to t l).items) → ((t l : ℕ) → AreCalm (d t l).items) → CalmWay (conditional f d)
 conditional_calm h g = record {
   low = λ t l. record { tree = tt; items = next tt (behind (h false l (suc t) (suc l)) (next tt (next tt none))) };
@@ -86,34 +86,34 @@ conditional_calm h g = record {
   drop = g;
 }
 
-pub mapped_calm : (f : Tree → Tree) → ((w : Tree) → IsCalm w → IsCalm (f w)) → {e : Way} → CalmWay e → CalmWay (mapped f e)
+pub mapped_calm : (f : Tree → Tree) → ((w : Tree) → IsCalm w → IsCalm (f w)) → {e : Lowering} → CalmWay e → CalmWay (mapped f e)
 mapped_calm f keeps h = effective_calm (λ t l. over_calm f keeps (h.low t l)) h.drop
 
-pub drop_two_calm : {a b : Way} → CalmWay a → CalmWay b → (t l : ℕ) → AreCalm (drop_two a b t l).items
+pub drop_two_calm : {a b : Lowering} → CalmWay a → CalmWay b → (t l : ℕ) → AreCalm (drop_two a b t l).items
 drop_two_calm {a = a} h g t l = behind (h.drop t l) (g.drop (a.drop t l).temps (a.drop t l).labels)
 
-pub not_calm : {e : Way} → CalmWay e → CalmWay (conditional (λ sense to t l. e.branch (not sense) to t l) e.drop)
+pub not_calm : {e : Lowering} → CalmWay e → CalmWay (conditional (λ sense to t l. e.branch (not sense) to t l) e.drop)
 not_calm h = conditional_calm (λ sense to t l. h.branch (not sense) to t l) h.drop
 
-chained_calm : (stop : Bool) (l : ℕ) {p : Done} (f : ℕ → ℕ → Done) → AreCalm p.items → AreCalm (f p.temps p.labels).items → AreCalm (chained stop l p f).items
+chained_calm : (stop : Bool) (l : ℕ) {p : Emitted} (f : ℕ → ℕ → Emitted) → AreCalm p.items → AreCalm (f p.temps p.labels).items → AreCalm (chained stop l p f).items
 chained_calm true l f h g = behind h g
 chained_calm false l f h g = behind h (behind g (next tt none))
 
-pub chain_calm : (stop : Bool) {a b : Way} → CalmWay a → CalmWay b → CalmWay (conditional (chain stop a b) (chain_drop a stop b))
+pub chain_calm : (stop : Bool) {a b : Lowering} → CalmWay a → CalmWay b → CalmWay (conditional (chain stop a b) (chain_drop a stop b))
 chain_calm stop {a = a} {b = b} h g = conditional_calm
     (λ sense to t l.
     let turn : Bool = same stop sense in
-    let p : Done = a.branch stop (goal turn to l) t (suc l) in
+    let p : Emitted = a.branch stop (goal turn to l) t (suc l) in
     chained_calm turn l (b.branch sense to) (h.branch stop (goal turn to l) t (suc l)) (g.branch sense to p.temps p.labels))
     (λ t l.
-    let p : Done = a.branch stop l t (suc l) in
+    let p : Emitted = a.branch stop l t (suc l) in
     chained_calm false l b.drop (h.branch stop l t (suc l)) (g.drop p.temps p.labels))
 
-pub choose_calm : {c a b : Way} → CalmWay c → CalmWay a → CalmWay b → CalmWay (choose c a b)
+pub choose_calm : {c a b : Lowering} → CalmWay c → CalmWay a → CalmWay b → CalmWay (choose c a b)
 choose_calm {c = c} {a = a} {b = b} f h g = effective_calm
     (λ t l.
-    let p : Done = c.branch false l (suc t) (suc (suc l)) in
-    let q : Low = a.low p.temps p.labels in
+    let p : Emitted = c.branch false l (suc t) (suc (suc l)) in
+    let q : Lowered = a.low p.temps p.labels in
     let y = h.low p.temps p.labels in
     let z = g.low q.temps q.labels in
     record {
@@ -121,14 +121,14 @@ choose_calm {c = c} {a = a} {b = b} f h g = effective_calm
       items = behind (f.branch false l (suc t) (suc (suc l))) (behind y.items (next y.tree (next tt (next tt (behind z.items (next z.tree (next tt none)))))));
     })
     (λ t l.
-    let p : Done = c.branch false l t (suc (suc l)) in
-    let q : Done = a.drop p.temps p.labels in
+    let p : Emitted = c.branch false l t (suc (suc l)) in
+    let q : Emitted = a.drop p.temps p.labels in
     behind (f.branch false l t (suc (suc l))) (behind (h.drop p.temps p.labels) (next tt (next tt (behind (g.drop q.temps q.labels) (next tt none))))))
 
-pub comma_calm : {a b : Way} → CalmWay a → CalmWay b → CalmWay (comma a b)
+pub comma_calm : {a b : Lowering} → CalmWay a → CalmWay b → CalmWay (comma a b)
 comma_calm {a = a} h g = record {
   low = λ t l.
-      let p : Done = a.drop t l in
+      let p : Emitted = a.drop t l in
       let y = g.low p.temps p.labels in
       record { tree = y.tree; items = behind (h.drop t l) y.items };
   branch = λ sense to t l. behind (h.drop t l) (g.branch sense to (a.drop t l).temps (a.drop t l).labels);
@@ -196,10 +196,10 @@ module _ (size count : ℕ) where
   saved_apart true u a b h = never
   saved_apart false u a b h = h refl
 
-  joined_calm : {a b : Way} → CalmWay a → CalmWay b → (t l : ℕ) → CalmTwo (joined size count a b t l)
+  joined_calm : {a b : Lowering} → CalmWay a → CalmWay b → (t l : ℕ) → CalmTwo (joined size count a b t l)
   joined_calm {a = a} {b = b} h g t l =
-      let p : Low = a.low t l in
-      let q : Low = b.low p.temps p.labels in
+      let p : Lowered = a.low t l in
+      let q : Lowered = b.low p.temps p.labels in
       let c : Bool = must size count q.items p.tree q.tree in
       let x = h.low t l in
       let y = g.low p.temps p.labels in
@@ -210,14 +210,14 @@ module _ (size count : ℕ) where
         items = behind x.items (behind (calm_saving c q.temps p.tree x.tree) y.items);
       }
 
-  pub binary_calm : (f : Tree → Tree → Tree) → ((v w : Tree) → IsCalm v → IsCalm w → Apart v w → IsCalm (f v w)) → {a b : Way}
+  pub binary_calm : (f : Tree → Tree → Tree) → ((v w : Tree) → IsCalm v → IsCalm w → Apart v w → IsCalm (f v w)) → {a b : Lowering}
       → CalmWay a → CalmWay b → CalmWay (binary size count f a b)
   binary_calm f keeps {a = a} {b = b} h g = valued_calm (λ t l.
-      let p : Two = joined size count a b t l in
+      let p : Pair = joined size count a b t l in
       let c = joined_calm h g t l in
       record { tree = keeps p.first p.second c.first c.second c.apart; items = c.items })
 
-  pub relation_calm : (r : Rel) {a b : Way} → CalmWay a → CalmWay b → CalmWay (relation size count r a b)
+  pub relation_calm : (r : Rel) {a b : Lowering} → CalmWay a → CalmWay b → CalmWay (relation size count r a b)
   relation_calm r h g = conditional_calm
       (λ sense to t l. let c = joined_calm h g t l in behind c.items (next (c.first, c.second, c.apart) none))
       (drop_two_calm h g)

@@ -4,42 +4,42 @@ use Rattle.std.specs.Prelude.{Bool, true, false, not}
 use Rattle.c_types.specs.declared.types.CType.{CType}
 use Rattle.c_types.specs.declared.typed.UnaryOperator.{UnaryOperator}
 use Rattle.c_types.specs.declared.typed.UnaryOperator.TheVariants as unaries
-use Rattle.c_types.specs.Typed.{PlaceTerm, VariableAt, PointedBy, ElementBy, Term, Constant, LiteralAt, ArrayAt, ReadOf, SizeofTerm, SizeOf, AddressOf, CallOf, StepOf, UnaryOf, CastTo, ConvertTo, ArithmeticOf, CompareOf, BothOf, EitherOf, AdvanceOf, AdvanceByOf, RetreatOf, DistanceOf, ChoiceOf, AssignTo, ArithmeticAssignTo, AdvanceAssignTo, RetreatAssignTo, CommaOf, Terms, NoTerms, MoreTerms}
+use Rattle.c_types.specs.Typed.{APlace, VariableAt, PointedBy, ElementBy, AnExpression, Constant, LiteralAt, ArrayAt, ReadOf, SizeofTerm, SizeOf, AddressOf, CallOf, StepOf, UnaryOf, CastTo, ConvertTo, ArithmeticOf, CompareOf, BothOf, EitherOf, AdvanceOf, AdvanceByOf, RetreatOf, DistanceOf, ChoiceOf, AssignTo, ArithmeticAssignTo, AdvanceAssignTo, RetreatAssignTo, CommaOf, SomeExpressions, NoExpressions, MoreExpressions}
 use Rattle.c_lower_scheme.specs.Trees.{Tree, Num, Gaddr, Neg, Com, Bin}
-use Rattle.c_lower_scheme.specs.Expressions.{Low, Way, Found, Passing, is_nil, where_of, address_tree, advance, advance_by, retreat, apart, over, fitted, callee_number, passed_as, others, must_pass, assigned, updated, update_by, unary, seek, way, pass}
+use Rattle.c_lower_scheme.specs.Expressions.{Lowered, Lowering, Located, Passing, is_nil, where_of, address_tree, advance, advance_by, retreat, apart, over, fitted, callee_number, passed_as, others, must_pass, assigned, updated, update_by, unary, seek, way, pass}
 use Rattle.c_lower_calm.proofs.Trees.{Apart, IsCalm, none}
 use Rattle.c_lower_calm.proofs.Parts.{CalmWay, CalmFound, CalmReady, due_calm, valued_calm, effective_calm, mapped_calm, not_calm, chain_calm, choose_calm, comma_calm, binary_calm, relation_calm, calm_fitted}
 use Rattle.c_lower_calm.proofs.Places.{array_calm, found_calm, pointed_calm, read_calm, address_calm, store_drop_calm, store_low_calm, assigned_calm, update_calm, step_ready_calm, step_low_calm, advance_calm, advance_by_calm, retreat_calm, apart_calm, CalmPassing, no_trees, pass_calm, passed_calm, called_low_calm, called_drop_calm}
 
 module _ (size count : ℕ) where
-  stored_calm : (between : Bool) {p : Found} {e : Way} → CalmFound p → CalmWay e → CalmReady (assigned size count between p e.low)
+  stored_calm : (between : Bool) {p : Located} {e : Lowering} → CalmFound p → CalmWay e → CalmReady (assigned size count between p e.low)
   stored_calm between {p = p} h g = assigned_calm size count between h (g.low p.temps p.labels)
 
-  updated_calm : (f : CType → Tree → Tree → Tree) → ((ty : CType) (v w : Tree) → IsCalm v → IsCalm w → Apart v w → IsCalm (f ty v w)) → {p : Found} {e : Way}
+  updated_calm : (f : CType → Tree → Tree → Tree) → ((ty : CType) (v w : Tree) → IsCalm v → IsCalm w → Apart v w → IsCalm (f ty v w)) → {p : Located} {e : Lowering}
       → CalmFound p → CalmWay e → CalmReady (updated size count f p e.low)
   updated_calm f keeps {p = p} {e = e} h g =
-      let q : Low = e.low p.temps p.labels in
+      let q : Lowered = e.low p.temps p.labels in
       update_calm size count (not (is_nil q.items)) (f p.type) (keeps p.type) h (g.low p.temps p.labels)
 
-  update_by_calm : (f : CType → Tree → Tree → Tree) → ((ty : CType) (v w : Tree) → IsCalm v → IsCalm w → Apart v w → IsCalm (f ty v w)) → {p : ℕ → ℕ → Found} {e : Way}
+  update_by_calm : (f : CType → Tree → Tree → Tree) → ((ty : CType) (v w : Tree) → IsCalm v → IsCalm w → Apart v w → IsCalm (f ty v w)) → {p : ℕ → ℕ → Located} {e : Lowering}
       → ((t l : ℕ) → CalmFound (p t l)) → CalmWay e → CalmWay (update_by size count f p e)
   update_by_calm f keeps h g = effective_calm
       (λ t l. store_low_calm (updated_calm f keeps (h t l) g))
       (λ t l. store_drop_calm (updated_calm f keeps (h t l) g))
 
-  unary_calm : (op : UnaryOperator) {e : Way} → CalmWay e → CalmWay (unary size count op e)
+  unary_calm : (op : UnaryOperator) {e : Lowering} → CalmWay e → CalmWay (unary size count op e)
   unary_calm unaries.Plus h = mapped_calm (λ w. w) (λ w c. c) h
   unary_calm unaries.Minus h = mapped_calm Neg (λ w c. c) h
   unary_calm unaries.Complement h = mapped_calm Com (λ w c. c) h
   unary_calm unaries.Not h = not_calm h
 
   mutual
-    place_calm : (p : PlaceTerm) (t l : ℕ) → CalmFound (seek size count p t l)
+    place_calm : (p : APlace) (t l : ℕ) → CalmFound (seek size count p t l)
     place_calm (VariableAt ty v) t l = found_calm ty v t l
     place_calm (PointedBy ty e) t l = pointed_calm ty ((way_calm e).low t l)
     place_calm (ElementBy ty e) t l = pointed_calm ty ((way_calm e).low t l)
 
-    pub way_calm : (e : Term) → CalmWay (way size count e)
+    pub way_calm : (e : AnExpression) → CalmWay (way size count e)
     way_calm (Constant n) = valued_calm (due_calm (Num n) tt)
     way_calm (LiteralAt n bytes) = valued_calm (due_calm (Gaddr n) tt)
     way_calm (ArrayAt ty v bytes) = valued_calm (due_calm (address_tree (where_of v)) (array_calm v))
@@ -67,9 +67,9 @@ module _ (size count : ℕ) where
     way_calm (RetreatAssignTo p e) = update_by_calm retreat retreat_calm (place_calm p) (way_calm e)
     way_calm (CommaOf ty a b) = comma_calm (way_calm a) (way_calm b)
 
-    passing_calm : (es : Terms) (to : List CType) (t l : ℕ) → CalmPassing (pass size count es to t l)
-    passing_calm NoTerms to t l = record { trees = no_trees; items = none }
-    passing_calm (MoreTerms e es) to t l =
-        let p : Low = over (passed_as to) ((way size count e).low t l) in
+    passing_calm : (es : SomeExpressions) (to : List CType) (t l : ℕ) → CalmPassing (pass size count es to t l)
+    passing_calm NoExpressions to t l = record { trees = no_trees; items = none }
+    passing_calm (MoreExpressions e es) to t l =
+        let p : Lowered = over (passed_as to) ((way size count e).low t l) in
         let q : Passing = pass size count es (others to) p.temps p.labels in
         pass_calm (must_pass size count p.tree q) (passed_calm to ((way_calm e).low t l)) (passing_calm es (others to) p.temps p.labels)

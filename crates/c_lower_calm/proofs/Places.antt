@@ -11,7 +11,7 @@ use Rattle.c_types.specs.declared.typed.Moment.TheVariants as moments
 use Rattle.c_types.specs.declared.typed.ArithmeticOperator.TheVariants as ariths
 use Rattle.c_types.specs.Constants.{scale}
 use Rattle.c_lower_scheme.specs.Trees.{Tree, Num, Loc, Bin, Item, divides, reads, breaks, stable, is_leaf}
-use Rattle.c_lower_scheme.specs.Expressions.{Low, Where, InLoc, InArg, InMem, Found, Passing, Ready, saved, next_if, read_from, assign_to, address_tree, where_of, scaled_by, advance, advance_by, retreat, apart, step, found, pointed, read_low, address_low, pushes, called_drop, called_low, passed_as, holding, held, ready_so, update_so, store_drop, store_low_at, store_low, pass_so, must, must_hold, must_keep, step_tree, step_ready, step_low, over}
+use Rattle.c_lower_scheme.specs.Expressions.{Lowered, Where, InLoc, InArg, InMem, Located, Passing, Assignable, saved, next_if, read_from, assign_to, address_tree, where_of, scaled_by, advance, advance_by, retreat, apart, step, found, pointed, read_low, address_low, pushes, called_drop, called_low, passed_as, holding, held, ready_so, update_so, store_drop, store_low_at, store_low, pass_so, must, must_hold, must_keep, step_tree, step_ready, step_low, over}
 use Rattle.c_lower_calm.proofs.Trees.{Apart, IsCalm, IsCalmItem, AreCalm, none, next, behind, none_left}
 use Rattle.c_lower_calm.proofs.Parts.{CalmLow, CalmFound, CalmReady, never, inert_apart, calm_saving, calm_saved, calm_fitted, over_calm, leaf_inert, must_apart}
 
@@ -32,13 +32,13 @@ calm_read ty (InMem a) h = h
 pub found_calm : (ty : CType) (v : Variable) (t l : ℕ) → CalmFound (found ty (where_of v) t l)
 found_calm ty v t l = record { place = calm_where v; items = none }
 
-pub pointed_calm : (ty : CType) {p : Low} → CalmLow p → CalmFound (pointed ty p)
+pub pointed_calm : (ty : CType) {p : Lowered} → CalmLow p → CalmFound (pointed ty p)
 pointed_calm ty h = record { place = h.tree; items = h.items }
 
-pub read_calm : {p : Found} → CalmFound p → CalmLow (read_low p)
+pub read_calm : {p : Located} → CalmFound p → CalmLow (read_low p)
 read_calm {p = p} h = record { tree = calm_read p.type p.place h.place; items = h.items }
 
-pub address_calm : {p : Found} → CalmFound p → CalmLow (address_low p)
+pub address_calm : {p : Located} → CalmFound p → CalmLow (address_low p)
 address_calm h = record { tree = h.place; items = h.items }
 
 calm_holding : (b : Bool) (u : ℕ) (s : Where) → IsCalm (address_tree s) → AreCalm (holding b u s)
@@ -56,10 +56,10 @@ assign_calm ty (InLoc n) w h g a = calm_fitted ty w g
 assign_calm ty (InArg n) w h g a = calm_fitted ty w g
 assign_calm ty (InMem m) w h g a = (h, g, a)
 
-pub store_drop_calm : {r : Ready} → CalmReady r → AreCalm (store_drop r).items
+pub store_drop_calm : {r : Assignable} → CalmReady r → AreCalm (store_drop r).items
 store_drop_calm {r = r} h = behind h.items (next (assign_calm r.type r.place r.value h.place h.value h.apart) none)
 
-store_low_at_calm : (s : Where) {r : Ready} → IsCalm (address_tree s) → CalmReady r → CalmLow (store_low_at s r)
+store_low_at_calm : (s : Where) {r : Assignable} → IsCalm (address_tree s) → CalmReady r → CalmLow (store_low_at s r)
 store_low_at_calm (InLoc x) {r = r} place h = record { tree = tt; items = behind h.items (next (calm_fitted r.type r.value h.value) none) }
 store_low_at_calm (InArg x) {r = r} place h = record { tree = tt; items = behind h.items (next (calm_fitted r.type r.value h.value) none) }
 store_low_at_calm (InMem a) {r = r} place h = record {
@@ -67,7 +67,7 @@ store_low_at_calm (InMem a) {r = r} place h = record {
   items = behind h.items (next (calm_fitted r.type r.value h.value) (next (place, tt, λ e. refl) none));
 }
 
-pub store_low_calm : {r : Ready} → CalmReady r → CalmLow (store_low r)
+pub store_low_calm : {r : Assignable} → CalmReady r → CalmLow (store_low r)
 store_low_calm {r = r} h = store_low_at_calm r.place h.place h
 
 calm_step : (by : Direction) (v : Tree) (n : ℕ) → IsCalm v → IsCalm (step by v (Num n))
@@ -108,7 +108,7 @@ module _ (size count : ℕ) where
       by true h = never
       by false h = h refl
 
-  pub assigned_calm : (between : Bool) {p : Found} {q : Low} → CalmFound p → CalmLow q → CalmReady (ready_so (must_hold size count between q.items q.tree p.place) p q)
+  pub assigned_calm : (between : Bool) {p : Located} {q : Lowered} → CalmFound p → CalmLow q → CalmReady (ready_so (must_hold size count between q.items q.tree p.place) p q)
   assigned_calm between {p = p} {q = q} h g =
       let c : Bool = must_hold size count between q.items q.tree p.place in
       record {
@@ -124,7 +124,7 @@ module _ (size count : ℕ) where
   kept_inert [] (InMem a) u = keep_inert (not (is_leaf a)) u a (not_false (is_leaf a))
   kept_inert (i ∷ is) (InMem a) u = keep_inert (not (is_leaf a && stable size a)) u a (not_false_and (is_leaf a) (stable size a))
 
-  pub update_calm : (c : Bool) (f : Tree → Tree → Tree) → ((v w : Tree) → IsCalm v → IsCalm w → Apart v w → IsCalm (f v w)) → {p : Found} {q : Low}
+  pub update_calm : (c : Bool) (f : Tree → Tree → Tree) → ((v w : Tree) → IsCalm v → IsCalm w → Apart v w → IsCalm (f v w)) → {p : Located} {q : Lowered}
       → CalmFound p → CalmLow q → CalmReady (update_so (must_keep size count q.items p.place) c f p q)
   update_calm c f keeps {p = p} {q = q} h g =
       let b : Bool = must_keep size count q.items p.place in
@@ -145,10 +145,10 @@ module _ (size count : ℕ) where
   step_keeps directions.Up v w h g a = (h, g, a)
   step_keeps directions.Down v w h g a = (h, g, a)
 
-  pub step_ready_calm : (by : Direction) {p : Found} → CalmFound p → CalmReady (step_ready size count by p)
+  pub step_ready_calm : (by : Direction) {p : Located} → CalmFound p → CalmReady (step_ready size count by p)
   step_ready_calm by h = update_calm false (step by) (step_keeps by) h (record { tree = tt; items = none })
 
-  pub step_low_calm : (m : Moment) (by : Direction) {p : Found} → CalmFound p → CalmLow (step_low size count m by p)
+  pub step_low_calm : (m : Moment) (by : Direction) {p : Located} → CalmFound p → CalmLow (step_low size count m by p)
   step_low_calm moments.Before by {p = p} h =
       let b : Bool = must_keep size count [] p.place in
       let s : Where = held b p.temps p.place in
@@ -213,13 +213,13 @@ calm_pushes : {ws : List Tree} {is : List Item} → CalmTrees ws → AreCalm is 
 calm_pushes no_trees g = g
 calm_pushes (more_trees h rest) g = calm_pushes rest (next h g)
 
-pub pass_calm : (b : Bool) {p : Low} {q : Passing} → CalmLow p → CalmPassing q → CalmPassing (pass_so b p q)
+pub pass_calm : (b : Bool) {p : Lowered} {q : Passing} → CalmLow p → CalmPassing q → CalmPassing (pass_so b p q)
 pass_calm b {p = p} {q = q} h g = record {
   trees = more_trees (calm_saved b q.temps p.tree h.tree) g.trees;
   items = behind h.items (behind (calm_saving b q.temps p.tree h.tree) g.items);
 }
 
-pub passed_calm : (to : List CType) {p : Low} → CalmLow p → CalmLow (over (passed_as to) p)
+pub passed_calm : (to : List CType) {p : Lowered} → CalmLow p → CalmLow (over (passed_as to) p)
 passed_calm [] h = over_calm (passed_as []) (λ w c. c) h
 passed_calm (ty ∷ to) h = over_calm (passed_as (ty ∷ to)) (calm_fitted ty) h
 

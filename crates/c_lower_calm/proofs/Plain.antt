@@ -8,11 +8,11 @@ use Rattle.c_types.specs.declared.typed.UnaryOperator.{UnaryOperator}
 use Rattle.c_types.specs.declared.typed.UnaryOperator.TheVariants as unaries
 use Rattle.c_types.specs.declared.typed.ArithmeticOperator.TheVariants as ariths
 use Rattle.c_types.specs.Constants.{scale}
-use Rattle.c_types.specs.Typed.{PlaceTerm, VariableAt, PointedBy, ElementBy, Term, Constant, LiteralAt, ArrayAt, ReadOf, SizeofTerm, SizeOf, AddressOf, CallOf, StepOf, UnaryOf, CastTo, ConvertTo, ArithmeticOf, CompareOf, BothOf, EitherOf, AdvanceOf, AdvanceByOf, RetreatOf, DistanceOf, ChoiceOf, AssignTo, ArithmeticAssignTo, AdvanceAssignTo, RetreatAssignTo, CommaOf}
+use Rattle.c_types.specs.Typed.{APlace, VariableAt, PointedBy, ElementBy, AnExpression, Constant, LiteralAt, ArrayAt, ReadOf, SizeofTerm, SizeOf, AddressOf, CallOf, StepOf, UnaryOf, CastTo, ConvertTo, ArithmeticOf, CompareOf, BothOf, EitherOf, AdvanceOf, AdvanceByOf, RetreatOf, DistanceOf, ChoiceOf, AssignTo, ArithmeticAssignTo, AdvanceAssignTo, RetreatAssignTo, CommaOf}
 use Rattle.tree_core.specs.declared.program.TreeItem.{TreeItem}
 use Rattle.tree_core.specs.declared.program.TreeItem.TheVariants as item
 use Rattle.c_lower_scheme.specs.Trees.{Tree, Num, Neg, Com, Bin, Item, divides, reads, breaks}
-use Rattle.c_lower_scheme.specs.Expressions.{Low, Way, Where, InLoc, InArg, InMem, Found, due, over, over_two, integer_of, conv, fitted, read_from, assign_to, address_tree, scaled_by, shared_by, advance, advance_by, retreat, apart, pointed, read_low, ready_so, store_drop, join, join_so, joined, assigned, assign_ready, unary, seek, way}
+use Rattle.c_lower_scheme.specs.Expressions.{Lowered, Lowering, Where, InLoc, InArg, InMem, Located, due, over, over_two, integer_of, conv, fitted, read_from, assign_to, address_tree, scaled_by, shared_by, advance, advance_by, retreat, apart, pointed, read_low, ready_so, store_drop, join, join_so, joined, assigned, assign_ready, unary, seek, way}
 use Rattle.c_lower_scheme.specs.Statements.{ret_of}
 use Rattle.c_lower_scheme.specs.Spelling.{spelled}
 use Rattle.c_lower_calm.specs.Plain.{PlainPlace, Plain, PlainUnary, unary_tree, type_at, place_at, plain_tree}
@@ -21,7 +21,7 @@ use Rattle.c_lower_calm.proofs.Trees.{Apart, IsCalm, IsCalmItem, RootIsCalm}
 use Rattle.c_lower_calm.proofs.Backs.{item_back}
 
 -- a place that is due as it stands
-abbrev found_at : CType → Where → ℕ → ℕ → Found
+abbrev found_at : CType → Where → ℕ → ℕ → Located
 found_at ty s t l = record { items = []; type = ty; place = s; temps = t; labels = l }
 
 and_false : (a b : Bool) → (a ≡ true → b ≡ false) → a && b ≡ false
@@ -76,33 +76,33 @@ shared_parts s a b = by (s == 1)
 
 module _ (size count : ℕ) where
   -- the way of an expression whose value is due as this tree
-  abbrev IsDue : Way → Tree → Type 0
+  abbrev IsDue : Lowering → Tree → Type 0
   IsDue e w = (t l : ℕ) → e.low t l ≡ due w t l
 
-  over_due : (f : Tree → Tree) (e : Way) (w : Tree) → IsDue e w → (t l : ℕ) → over f (e.low t l) ≡ due (f w) t l
+  over_due : (f : Tree → Tree) (e : Lowering) (w : Tree) → IsDue e w → (t l : ℕ) → over f (e.low t l) ≡ due (f w) t l
   over_due f e w h t l = ap (over f) (h t l)
 
   -- two trees, the first of which needs not be saved
-  joined_due : (f : Tree → Tree → Tree) (a b : Way) (v w : Tree) → IsDue a v → IsDue b w → Apart v w
+  joined_due : (f : Tree → Tree → Tree) (a b : Lowering) (v w : Tree) → IsDue a v → IsDue b w → Apart v w
       → (t l : ℕ) → over_two f (joined size count a b t l) ≡ due (f v w) t l
   joined_due f a b v w h g calm t l =
-      ap (λ (p : Low). over_two f (join size count p (b.low p.temps p.labels))) (h t l)
-      ∙ ap (λ (q : Low). over_two f (join size count (due v t l) q)) (g t l)
+      ap (λ (p : Lowered). over_two f (join size count p (b.low p.temps p.labels))) (h t l)
+      ∙ ap (λ (q : Lowered). over_two f (join size count (due v t l) q)) (g t l)
       ∙ ap (λ c. over_two f (join_so size count c (due v t l) (due w t l))) (and_false (divides v) (reads w) calm)
 
-  unary_due : (op : UnaryOperator) (e : Way) (w : Tree) → PlainUnary op → IsDue e w → IsDue (unary size count op e) (unary_tree op w)
+  unary_due : (op : UnaryOperator) (e : Lowering) (w : Tree) → PlainUnary op → IsDue e w → IsDue (unary size count op e) (unary_tree op w)
   unary_due unaries.Plus e w p h t l = over_due (λ v. v) e w h t l
   unary_due unaries.Minus e w p h t l = ap (over Neg) (h t l)
   unary_due unaries.Complement e w p h t l = ap (over Com) (h t l)
   unary_due unaries.Not e w p h t l = absurd p
 
   mutual
-    place_due : (p : PlaceTerm) → PlainPlace p → IsCalm (address_tree (place_at p)) → (t l : ℕ) → seek size count p t l ≡ found_at (type_at p) (place_at p) t l
+    place_due : (p : APlace) → PlainPlace p → IsCalm (address_tree (place_at p)) → (t l : ℕ) → seek size count p t l ≡ found_at (type_at p) (place_at p) t l
     place_due (VariableAt ty v) p h t l = refl
     place_due (PointedBy ty e) p h t l = ap (pointed ty) (plain_due e p h t l)
     place_due (ElementBy ty e) p h t l = ap (pointed ty) (plain_due e p h t l)
 
-    plain_due : (e : Term) → Plain e → IsCalm (plain_tree e) → IsDue (way size count e) (plain_tree e)
+    plain_due : (e : AnExpression) → Plain e → IsCalm (plain_tree e) → IsDue (way size count e) (plain_tree e)
     plain_due (Constant n) p h t l = refl
     plain_due (LiteralAt n bytes) p h t l = refl
     plain_due (ArrayAt ty v bytes) p h t l = refl
@@ -165,7 +165,7 @@ plain_is_one_tree = record {
   returns = λ size count lb lc l e p h. ap ret_of (plain_due size count e p (calm_item (returned e) h) size l);
   stores = λ size count lb lc l p e pp pe h.
       let c = parts_of size count (type_at p) (place_at p) (plain_tree e) (calm_item (stored p e) h) in
-      ap (λ (x : Found). store_drop (assigned size count false x (way size count e).low)) (place_due size count p pp c.0 size l)
-      ∙ ap (λ (q : Low). store_drop (assign_ready size count false (found_at (type_at p) (place_at p) size l) q)) (plain_due size count e pe c.1 size l)
+      ap (λ (x : Located). store_drop (assigned size count false x (way size count e).low)) (place_due size count p pp c.0 size l)
+      ∙ ap (λ (q : Lowered). store_drop (assign_ready size count false (found_at (type_at p) (place_at p) size l) q)) (plain_due size count e pe c.1 size l)
       ∙ stored_due size count (type_at p) (place_at p) (plain_tree e) c.2 size l;
 }

@@ -1,9 +1,9 @@
 -- That each statement is lowered to calm items.
 use Rattle.std.proofs.Common.{ℕ, suc, List, [], ◌∷◌}
 use Rattle.std.specs.Prelude.{Bool, true, false, Option, Some, None}
-use Rattle.c_types.specs.Typed.{Term}
-use Rattle.c_program.specs.Statements.{ADeclaration, KeepOf, ClearOf, BeginOf, Act, Acts, NoActs, MoreActs, DeclareOf, BlockOf, EvaluateOf, BreakOf, ContinueOf, ReturnOf, IfOf, IfElseOf, WhileOf, DoOf, ForOf}
-use Rattle.c_lower_scheme.specs.Expressions.{Low, Done, way}
+use Rattle.c_types.specs.Typed.{AnExpression}
+use Rattle.c_program.specs.Statements.{ADeclaration, KeepOf, ClearOf, BeginOf, AnAction, SomeActions, NoActions, MoreActions, DeclareOf, BlockOf, EvaluateOf, BreakOf, ContinueOf, ReturnOf, IfOf, IfElseOf, WhileOf, DoOf, ForOf}
+use Rattle.c_lower_scheme.specs.Expressions.{Lowered, Emitted, way}
 use Rattle.c_lower_scheme.specs.Statements.{mentions, clearing, unless, effect, returning, declare, for_of, lower, lower_row}
 use Rattle.c_lower_calm.proofs.Trees.{AreCalm, none, next, behind}
 use Rattle.c_lower_calm.proofs.Phrases.{way_calm}
@@ -13,11 +13,11 @@ calm_clearing true n = next tt none
 calm_clearing false n = none
 
 module _ (size count : ℕ) where
-  effect_calm : (e : Option Term) (l : ℕ) → AreCalm (effect size count e l).items
+  effect_calm : (e : Option AnExpression) (l : ℕ) → AreCalm (effect size count e l).items
   effect_calm None l = none
   effect_calm (Some e) l = (way_calm size count e).drop size l
 
-  returning_calm : (e : Option Term) (l : ℕ) → AreCalm (returning size count e l).items
+  returning_calm : (e : Option AnExpression) (l : ℕ) → AreCalm (returning size count e l).items
   returning_calm None l = next tt none
   returning_calm (Some e) l = let h = (way_calm size count e).low size l in behind h.items (next h.tree none)
 
@@ -26,22 +26,22 @@ module _ (size count : ℕ) where
   declare_calm (KeepOf object ∷ ds) l = declare_calm ds l
   declare_calm (ClearOf n ∷ ds) l = next tt (declare_calm ds l)
   declare_calm (BeginOf n e ∷ ds) l =
-      let p : Low = (way size count e).low size l in
+      let p : Lowered = (way size count e).low size l in
       let h = (way_calm size count e).low size l in
       behind (behind (calm_clearing (mentions n e) n) (behind h.items (next h.tree none))) (declare_calm ds p.labels)
 
-  turns_calm : (l : ℕ) (c e : Option Term) (f : ℕ → Done) → ((k : ℕ) → AreCalm (f k).items) → AreCalm (for_of size count l c e f).items
+  turns_calm : (l : ℕ) (c e : Option AnExpression) (f : ℕ → Emitted) → ((k : ℕ) → AreCalm (f k).items) → AreCalm (for_of size count l c e f).items
   turns_calm l None e f h =
-      let a : Done = f (suc (suc (suc l))) in
+      let a : Emitted = f (suc (suc (suc l))) in
       next tt (next tt (behind (h (suc (suc (suc l)))) (next tt (behind (effect_calm e a.labels) (next tt (next tt none))))))
   turns_calm l (Some c) e f h =
-      let p : Done = unless size count c (suc (suc l)) (suc (suc (suc l))) in
-      let a : Done = f p.labels in
+      let p : Emitted = unless size count c (suc (suc l)) (suc (suc (suc l))) in
+      let a : Emitted = f p.labels in
       let test = (way_calm size count c).branch false (suc (suc l)) size (suc (suc (suc l))) in
       next tt (behind test (behind (h p.labels) (next tt (behind (effect_calm e a.labels) (next tt (next tt none))))))
 
   mutual
-    lower_calm : (a : Act) (lb lc l : ℕ) → AreCalm (lower size count a lb lc l).items
+    lower_calm : (a : AnAction) (lb lc l : ℕ) → AreCalm (lower size count a lb lc l).items
     lower_calm (DeclareOf ds) lb lc l = declare_calm ds l
     lower_calm (BlockOf row) lb lc l = row_calm row lb lc l
     lower_calm (EvaluateOf e) lb lc l = (way_calm size count e).drop size l
@@ -49,27 +49,27 @@ module _ (size count : ℕ) where
     lower_calm ContinueOf lb lc l = next tt none
     lower_calm (ReturnOf e) lb lc l = returning_calm e l
     lower_calm (IfOf c a) lb lc l =
-        let p : Done = unless size count c l (suc l) in
+        let p : Emitted = unless size count c l (suc l) in
         behind ((way_calm size count c).branch false l size (suc l)) (behind (lower_calm a lb lc p.labels) (next tt none))
     lower_calm (IfElseOf c a b) lb lc l =
-        let p : Done = unless size count c l (suc (suc l)) in
-        let q : Done = lower size count a lb lc p.labels in
+        let p : Emitted = unless size count c l (suc (suc l)) in
+        let q : Emitted = lower size count a lb lc p.labels in
         let last = next tt (next tt (behind (lower_calm b lb lc q.labels) (next tt none))) in
         behind ((way_calm size count c).branch false l size (suc (suc l))) (behind (lower_calm a lb lc p.labels) last)
     lower_calm (WhileOf c a) lb lc l =
-        let p : Done = unless size count c (suc l) (suc (suc l)) in
+        let p : Emitted = unless size count c (suc l) (suc (suc l)) in
         next tt (behind ((way_calm size count c).branch false (suc l) size (suc (suc l))) (behind (lower_calm a (suc l) l p.labels) (next tt (next tt none))))
     lower_calm (DoOf a c) lb lc l =
-        let q : Done = lower size count a (suc (suc l)) (suc l) (suc (suc (suc l))) in
+        let q : Emitted = lower size count a (suc (suc l)) (suc l) (suc (suc (suc l))) in
         let last = next tt (behind ((way_calm size count c).branch true l size q.labels) (next tt none)) in
         next tt (next tt (behind (lower_calm a (suc (suc l)) (suc l) (suc (suc (suc l)))) last))
     lower_calm (ForOf i c e a) lb lc l =
-        let p : Done = effect size count i l in
+        let p : Emitted = effect size count i l in
         let k : ℕ = p.labels in
         behind (effect_calm i l) (turns_calm k c e (lower size count a (suc (suc k)) (suc k)) (lower_calm a (suc (suc k)) (suc k)))
 
-    pub row_calm : (row : Acts) (lb lc l : ℕ) → AreCalm (lower_row size count row lb lc l).items
-    row_calm NoActs lb lc l = none
-    row_calm (MoreActs a row) lb lc l =
-        let p : Done = lower size count a lb lc l in
+    pub row_calm : (row : SomeActions) (lb lc l : ℕ) → AreCalm (lower_row size count row lb lc l).items
+    row_calm NoActions lb lc l = none
+    row_calm (MoreActions a row) lb lc l =
+        let p : Emitted = lower size count a lb lc l in
         behind (lower_calm a lb lc l) (row_calm row lb lc p.labels)

@@ -2,7 +2,7 @@
 use Rattle.c_types.specs.declared.types.CType.{CType}
 use Rattle.c_types.specs.declared.typed.UnaryOperator.{UnaryOperator}
 use Rattle.c_types.specs.declared.typed.UnaryOperator.TheVariants as unaries
-use Rattle.c_types.specs.Typed.{PlaceTerm, VariableAt, PointedBy, ElementBy, Term, Constant, LiteralAt, ArrayAt, ReadOf, SizeofTerm, SizeOf, AddressOf, CallOf, StepOf, UnaryOf, CastTo, ConvertTo, ArithmeticOf, CompareOf, BothOf, EitherOf, AdvanceOf, AdvanceByOf, RetreatOf, DistanceOf, ChoiceOf, AssignTo, ArithmeticAssignTo, AdvanceAssignTo, RetreatAssignTo, CommaOf}
+use Rattle.c_types.specs.Typed.{APlace, VariableAt, PointedBy, ElementBy, AnExpression, Constant, LiteralAt, ArrayAt, ReadOf, SizeofTerm, SizeOf, AddressOf, CallOf, StepOf, UnaryOf, CastTo, ConvertTo, ArithmeticOf, CompareOf, BothOf, EitherOf, AdvanceOf, AdvanceByOf, RetreatOf, DistanceOf, ChoiceOf, AssignTo, ArithmeticAssignTo, AdvanceAssignTo, RetreatAssignTo, CommaOf}
 use Rattle.c_lower_scheme.specs.Trees.{Tree, Num, Gaddr, Neg, Com, Bin}
 use Rattle.c_lower_scheme.specs.Expressions.{Where, InMem, where_of, address_tree, read_from, fitted, advance, advance_by, retreat, apart}
 
@@ -15,12 +15,12 @@ PlainUnary unaries.Not = ⊥
 
 -- built of numbers, literals, `sizeof`, names of variables, indexes, `*`, unary and binary operators, casts and conversions
 abbrev mutual
-  pub PlainPlace : PlaceTerm → Type 0
+  pub PlainPlace : APlace → Type 0
   PlainPlace (VariableAt t v) = Unit {0}
   PlainPlace (PointedBy t e) = Plain e
   PlainPlace (ElementBy t e) = Plain e
 
-  pub Plain : Term → Type 0
+  pub Plain : AnExpression → Type 0
   Plain (Constant n) = Unit {0}
   Plain (LiteralAt object size) = Unit {0}
   Plain (ArrayAt t v size) = Unit {0}
@@ -55,19 +55,19 @@ unary_tree unaries.Minus w = Neg w
 unary_tree unaries.Complement w = Com w
 unary_tree unaries.Not w = w
 
-abbrev pub type_at : PlaceTerm → CType
+abbrev pub type_at : APlace → CType
 type_at (VariableAt t v) = t
 type_at (PointedBy t e) = t
 type_at (ElementBy t e) = t
 
 -- A number is its constant, a local or parameter its slot, memory is read at its address, and an operator stands over its parts. Phrases that are not plain have no tree of their own, and stand here as 0.
 abbrev mutual
-  pub place_at : PlaceTerm → Where
+  pub place_at : APlace → Where
   place_at (VariableAt t v) = where_of v
   place_at (PointedBy t e) = InMem (plain_tree e)
   place_at (ElementBy t e) = InMem (plain_tree e)
 
-  pub plain_tree : Term → Tree
+  pub plain_tree : AnExpression → Tree
   plain_tree (Constant n) = Num n
   plain_tree (LiteralAt object size) = Gaddr object
   plain_tree (ArrayAt t v size) = address_tree (where_of v)

@@ -2,9 +2,9 @@
 use Rattle.std.proofs.Common.{◌≡◌, ℕ, suc, List, [], ◌∷◌, ◌++◌, Bool, not, refl, ap, sym, ◌∙◌, append_assoc}
 use Rattle.c_types.specs.declared.types.CType.{CType}
 use Rattle.c_lower_scheme.specs.Trees.{Tree, Item, Loc, AssignLoc}
-use Rattle.c_lower_scheme.specs.Expressions.{Low, Found, Ready, Where, is_nil, saving, saved, next_if, holding, held, read_from, assign_to, must_keep, update_ready, postfix}
+use Rattle.c_lower_scheme.specs.Expressions.{Lowered, Located, Assignable, Where, is_nil, saving, saved, next_if, holding, held, read_from, assign_to, must_keep, update_ready, postfix}
 
-pub updated : (l f : ℕ) (g : Tree → Tree → Tree) (p : Found) (q : Low) (b c : Bool) (n m : ℕ) (s s' : Where) (rd old val : Tree) (first second all : List Item)
+pub updated : (l f : ℕ) (g : Tree → Tree → Tree) (p : Located) (q : Lowered) (b c : Bool) (n m : ℕ) (s s' : Where) (rd old val : Tree) (first second all : List Item)
     → b ≡ must_keep l f q.items p.place
     → c ≡ not (is_nil q.items)
     → n ≡ next_if b q.temps
@@ -23,7 +23,7 @@ updated l f g p q b c n m s s' rd old val first second all is_b is_c is_n is_m i
     let two = append_assoc p.items (holding b q.temps p.place) (saving c n rd ++ q.items) in
     cc
 
-pub stepped : (l f : ℕ) (g : Tree → Tree) (p : Found) (b : Bool) (n m : ℕ) (s s' : Where) (rd new : Tree) (put : Item) (first second all : List Item)
+pub stepped : (l f : ℕ) (g : Tree → Tree) (p : Located) (b : Bool) (n m : ℕ) (s s' : Where) (rd new : Tree) (put : Item) (first second all : List Item)
     → b ≡ must_keep l f [] p.place
     → n ≡ next_if b p.temps
     → m ≡ suc n

@@ -2,27 +2,27 @@
 use Rattle.std.proofs.Common.{◌≡◌, ◌≤◌, ℕ, List, [], ◌∷◌, ◌++◌, arith, refl, ap, sym, ◌∙◌, append_assoc}
 use Rattle.std.specs.Prelude.{max}
 use Rattle.std.proofs.lemmas.List.{append-nil}
-use Rattle.c_program.specs.Statements.{ADeclaration, KeepOf, ClearOf, BeginOf, Act, Acts, NoActs, MoreActs}
+use Rattle.c_program.specs.Statements.{ADeclaration, KeepOf, ClearOf, BeginOf, AnAction, SomeActions, NoActions, MoreActions}
 use Rattle.c_lower_scheme.specs.Trees.{Item}
-use Rattle.c_lower_scheme.specs.Expressions.{Done, nothing}
+use Rattle.c_lower_scheme.specs.Expressions.{Emitted, nothing}
 use Rattle.c_lower_scheme.specs.Statements.{two_done, declare, lower, lower_row}
 use Rattle.c_lower_code.specs.Declarations.{one_declared}
 
-abbrev Same : Done → Done → Type 0
+abbrev Same : Emitted → Emitted → Type 0
 Same p q = p ≡ q
 
 done_is : (is js : List Item) (t u l m : ℕ) → is ≡ js → t ≡ u → l ≡ m → Same (record { items = is; temps = t; labels = l }) (record { items = js; temps = u; labels = m })
 done_is is js t u l m a b c = cc
 
 -- nothing in front of what has at least its temporaries
-pub nothing_before : (size l : ℕ) (p : Done) → size ≤ p.temps → two_done (nothing size l) p ≡ p
+pub nothing_before : (size l : ℕ) (p : Emitted) → size ≤ p.temps → two_done (nothing size l) p ≡ p
 nothing_before size l p le = done_is _ _ _ _ _ _ refl (omega arith) refl
 
 -- and behind it
-pub nothing_behind : (size : ℕ) (p : Done) → size ≤ p.temps → two_done p (nothing size p.labels) ≡ p
+pub nothing_behind : (size : ℕ) (p : Emitted) → size ≤ p.temps → two_done p (nothing size p.labels) ≡ p
 nothing_behind size p le = done_is _ _ _ _ _ _ (append-nil p.items) (omega arith) refl
 
-pub two_assoc : (a b c : Done) → two_done a (two_done b c) ≡ two_done (two_done a b) c
+pub two_assoc : (a b c : Emitted) → two_done a (two_done b c) ≡ two_done (two_done a b) c
 two_assoc a b c = done_is _ _ _ _ _ _ (sym (append_assoc a.items b.items c.items)) (omega arith) refl
 
 module _ (size count : ℕ) where
@@ -37,18 +37,18 @@ module _ (size count : ℕ) where
   declare_more (ClearOf n) ds l = refl
   declare_more (BeginOf n e) ds l = refl
 
-  pub row_temps : (row : Acts) (lb lc l : ℕ) → size ≤ (lower_row size count row lb lc l).temps
-  row_temps NoActs lb lc l = omega arith
-  row_temps (MoreActs a row) lb lc l = let h = row_temps row lb lc (lower size count a lb lc l).labels in omega arith
+  pub row_temps : (row : SomeActions) (lb lc l : ℕ) → size ≤ (lower_row size count row lb lc l).temps
+  row_temps NoActions lb lc l = omega arith
+  row_temps (MoreActions a row) lb lc l = let h = row_temps row lb lc (lower size count a lb lc l).labels in omega arith
 
-  pub row_begins : (w : Done) (row : Acts) (lb lc l : ℕ) → w ≡ nothing size l → (two_done w (lower_row size count row lb lc w.labels) ≡ lower_row size count row lb lc l) × (size ≤ w.temps)
+  pub row_begins : (w : Emitted) (row : SomeActions) (lb lc l : ℕ) → w ≡ nothing size l → (two_done w (lower_row size count row lb lc w.labels) ≡ lower_row size count row lb lc l) × (size ≤ w.temps)
   row_begins w row lb lc l is =
       let h = row_temps row lb lc l in
       let same = nothing_before size l (lower_row size count row lb lc l) h in
       let temps : w.temps ≡ size = ap (λ p. p.temps) is in
       (ap (λ p. two_done p (lower_row size count row lb lc p.labels)) is ∙ same, omega arith)
 
-  pub declare_begins : (w : Done) (ds : List ADeclaration) (l : ℕ) → w ≡ nothing size l → (two_done w (declare size count ds w.labels) ≡ declare size count ds l) × (size ≤ w.temps)
+  pub declare_begins : (w : Emitted) (ds : List ADeclaration) (l : ℕ) → w ≡ nothing size l → (two_done w (declare size count ds w.labels) ≡ declare size count ds l) × (size ≤ w.temps)
   declare_begins w ds l is =
       let h = declare_temps ds l in
       let same = nothing_before size l (declare size count ds l) h in
@@ -56,7 +56,7 @@ module _ (size count : ℕ) where
       (ap (λ p. two_done p (declare size count ds p.labels)) is ∙ same, omega arith)
 
   -- one declaration more behind others
-  pub declare_goes : (w one next whole : Done) (d : ADeclaration) (ds : List ADeclaration) → two_done w (declare size count (d ∷ ds) w.labels) ≡ whole → one ≡ one_declared size count d w.labels → next ≡ two_done w one → two_done next (declare size count ds next.labels) ≡ whole
+  pub declare_goes : (w one next whole : Emitted) (d : ADeclaration) (ds : List ADeclaration) → two_done w (declare size count (d ∷ ds) w.labels) ≡ whole → one ≡ one_declared size count d w.labels → next ≡ two_done w one → two_done next (declare size count ds next.labels) ≡ whole
   declare_goes w one next whole d ds so is put =
       let more = declare_more d ds w.labels in
       let split = two_assoc w (one_declared size count d w.labels) (declare size count ds (one_declared size count d w.labels).labels) in

@@ -1,10 +1,10 @@
 -- One declaration of several, as the lowering of all of them takes it.
 use Rattle.std.specs.Prelude.{ℕ, true}
 use Rattle.c_program.specs.Statements.{ADeclaration, KeepOf, ClearOf, BeginOf}
-use Rattle.c_lower_scheme.specs.Expressions.{Done, nothing, way}
+use Rattle.c_lower_scheme.specs.Expressions.{Emitted, nothing, way}
 use Rattle.c_lower_scheme.specs.Statements.{clearing, begin_of, mentions}
 
-abbrev pub one_declared : ℕ → ℕ → ADeclaration → ℕ → Done
+abbrev pub one_declared : ℕ → ℕ → ADeclaration → ℕ → Emitted
 one_declared size count (KeepOf object) l = nothing size l
 one_declared size count (ClearOf n) l = record { items = clearing true n; temps = size; labels = l }
 one_declared size count (BeginOf n e) l = begin_of (mentions n e) n ((way size count e).low size l)

@@ -1,14 +1,14 @@
 -- How large phrases are: what a lowering of their parts goes down by.
 use Rattle.std.specs.Prelude.{ℕ, suc, ◌+◌}
-use Rattle.c_types.specs.Typed.{PlaceTerm, VariableAt, PointedBy, ElementBy, Term, Constant, LiteralAt, ArrayAt, ReadOf, SizeofTerm, SizeOf, AddressOf, CallOf, StepOf, UnaryOf, CastTo, ConvertTo, ArithmeticOf, CompareOf, BothOf, EitherOf, AdvanceOf, AdvanceByOf, RetreatOf, DistanceOf, ChoiceOf, AssignTo, ArithmeticAssignTo, AdvanceAssignTo, RetreatAssignTo, CommaOf, Terms, NoTerms, MoreTerms}
+use Rattle.c_types.specs.Typed.{APlace, VariableAt, PointedBy, ElementBy, AnExpression, Constant, LiteralAt, ArrayAt, ReadOf, SizeofTerm, SizeOf, AddressOf, CallOf, StepOf, UnaryOf, CastTo, ConvertTo, ArithmeticOf, CompareOf, BothOf, EitherOf, AdvanceOf, AdvanceByOf, RetreatOf, DistanceOf, ChoiceOf, AssignTo, ArithmeticAssignTo, AdvanceAssignTo, RetreatAssignTo, CommaOf, SomeExpressions, NoExpressions, MoreExpressions}
 
 abbrev mutual
-  pub place_size : PlaceTerm → ℕ
+  pub place_size : APlace → ℕ
   place_size (VariableAt t v) = 1
   place_size (PointedBy t e) = 1 + size e
   place_size (ElementBy t e) = 1 + size e
 
-  pub size : Term → ℕ
+  pub size : AnExpression → ℕ
   size (Constant n) = 1
   size (LiteralAt n bytes) = 1
   size (ArrayAt t v bytes) = 1
@@ -36,6 +36,6 @@ abbrev mutual
   size (RetreatAssignTo p e) = 1 + place_size p + size e
   size (CommaOf t a b) = 1 + size a + size b
 
-  pub all_size : Terms → ℕ
-  all_size NoTerms = 1
-  all_size (MoreTerms e es) = 1 + size e + all_size es
+  pub all_size : SomeExpressions → ℕ
+  all_size NoExpressions = 1
+  all_size (MoreExpressions e es) = 1 + size e + all_size es

@@ -4,14 +4,14 @@ use Rattle.c_lower_code.specs.declared.tree.Tree.{Tree}
 use Rattle.c_lower_code.specs.declared.tree.Tree.TheVariants as trees
 use Rattle.c_lower_code.specs.declared.item.Item.{Item}
 use Rattle.c_lower_code.specs.declared.item.Item.TheVariants as items
-use Rattle.c_lower_code.specs.declared.part.Low.{Low}
-use Rattle.c_lower_code.specs.declared.part.Two.{Two}
+use Rattle.c_lower_code.specs.declared.part.Lowered.{Lowered}
+use Rattle.c_lower_code.specs.declared.part.Pair.{Pair}
 use Rattle.c_lower_code.specs.declared.part.Storage.{Storage}
 use Rattle.c_lower_code.specs.declared.part.Storage.TheVariants as storages
-use Rattle.c_lower_code.specs.declared.part.Found.{Found}
-use Rattle.c_lower_code.specs.declared.part.Ready.{Ready}
+use Rattle.c_lower_code.specs.declared.part.Located.{Located}
+use Rattle.c_lower_code.specs.declared.part.Assignable.{Assignable}
 use Rattle.c_lower_code.specs.declared.part.Passing.{Passing}
-use Rattle.c_lower_code.specs.declared.part.Done.{Done}
+use Rattle.c_lower_code.specs.declared.part.Emitted.{Emitted}
 use Rattle.c_lower_scheme.specs.Trees as mirror
 use Rattle.c_lower_scheme.specs.Expressions as parts
 
@@ -44,10 +44,10 @@ all_items is = map item is
 abbrev pub all_trees : List Tree → List mirror.Tree
 all_trees ws = map tree ws
 
-abbrev pub low : Low → parts.Low
+abbrev pub low : Lowered → parts.Lowered
 low p = record { items = all_items p.items.items; tree = tree p.tree; temps = p.temps; labels = p.labels }
 
-abbrev pub two : Two → parts.Two
+abbrev pub two : Pair → parts.Pair
 two p = record { items = all_items p.items.items; first = tree p.first; second = tree p.second; temps = p.temps; labels = p.labels }
 
 abbrev pub storage : Storage → parts.Where
@@ -55,14 +55,14 @@ storage (storages.Local n) = parts.InLoc n
 storage (storages.Parameter n) = parts.InArg n
 storage (storages.Memory a) = parts.InMem (tree a)
 
-abbrev pub found : Found → parts.Found
+abbrev pub found : Located → parts.Located
 found p = record { items = all_items p.items.items; type = p.ctype; place = storage p.storage; temps = p.temps; labels = p.labels }
 
-abbrev pub ready : Ready → parts.Ready
+abbrev pub ready : Assignable → parts.Assignable
 ready p = record { items = all_items p.items.items; type = p.ctype; place = storage p.storage; value = tree p.value; temps = p.temps; labels = p.labels }
 
 abbrev pub passing : Passing → parts.Passing
 passing p = record { items = all_items p.items.items; trees = all_trees p.trees.items; quiet = p.is_quiet; temps = p.temps; labels = p.labels }
 
-abbrev pub done : Done → parts.Done
+abbrev pub done : Emitted → parts.Emitted
 done p = record { items = all_items p.items.items; temps = p.temps; labels = p.labels }

@@ -6,8 +6,8 @@ ghost use Rattle.c_lower_code.specs.Changes.{applied};
 
 use crate::item::Item;
 use crate::part::{
-    Done, Found, Frame, Low, Ready, Storage, after, after_if, assign_to, is_nil, must_keep, put,
-    put_all, put_held, put_saved, read_from,
+    Assignable, Emitted, Frame, Located, Lowered, Storage, after, after_if, assign_to, is_nil,
+    must_keep, put, put_all, put_held, put_saved, read_from,
 };
 use crate::tree::{Tree, advance, binary, fitted, integer_of, retreat, step};
 use c_types::constant::scale;
@@ -42,9 +42,9 @@ impl Change {
 pub(crate) fn update_ready(
     frame: Frame,
     change: Change,
-    p: Found,
-    q: Low,
-) -> Result<Ready, NoMemory>
+    p: Located,
+    q: Lowered,
+) -> Result<Assignable, NoMemory>
     ensures { IfOk result (λ r. ready r ≡ parts.update_ready frame.locals frame.functions (applied change p.ctype) (found p) (low q)) }
 {
     let is_held = must_keep(frame, &q.items, &p.storage);
@@ -57,7 +57,7 @@ pub(crate) fn update_ready(
     let old = put_saved(&mut items, is_saved, next, old)?;
     put_all(&mut items, q.items)?;
     let value = change.apply(frame.alloc, p.ctype, old, q.tree)?;
-    Ok(Ready {
+    Ok(Assignable {
         items,
         ctype: p.ctype,
         storage,
@@ -68,10 +68,10 @@ pub(crate) fn update_ready(
 }
 
 /// A step by one, or by the size of what is pointed to, ready to be stored.
-pub(crate) fn step_ready(frame: Frame, by: Direction, p: Found) -> Result<Ready, NoMemory>
+pub(crate) fn step_ready(frame: Frame, by: Direction, p: Located) -> Result<Assignable, NoMemory>
     ensures { IfOk result (λ r. ready r ≡ parts.step_ready frame.locals frame.functions by (found p)) }
 {
-    let size = Low {
+    let size = Lowered {
         items: Vec::new(frame.alloc),
         tree: Tree::Number(scale(p.ctype)),
         temps: p.temps,
@@ -81,7 +81,7 @@ pub(crate) fn step_ready(frame: Frame, by: Direction, p: Found) -> Result<Ready,
 }
 
 /// A step whose value is that before it.
-pub(crate) fn step_before(frame: Frame, by: Direction, p: Found) -> Result<Low, NoMemory>
+pub(crate) fn step_before(frame: Frame, by: Direction, p: Located) -> Result<Lowered, NoMemory>
     ensures { IfOk result (λ r. low r ≡ parts.postfix frame.locals frame.functions (parts.step_tree frame.locals frame.functions by p.ctype) (found p)) }
 {
     let none = Vec::new(frame.alloc);
@@ -99,7 +99,7 @@ pub(crate) fn step_before(frame: Frame, by: Direction, p: Found) -> Result<Low, 
         Tree::Number(scale(p.ctype)),
     )?;
     put(&mut items, assign_to(frame.alloc, p.ctype, storage, new)?)?;
-    Ok(Low {
+    Ok(Lowered {
         items,
         tree: Tree::Local(kept),
         temps,
@@ -108,12 +108,12 @@ pub(crate) fn step_before(frame: Frame, by: Direction, p: Found) -> Result<Low, 
 }
 
 /// An assignment for its effect: one root.
-pub(crate) fn store_drop(alloc: Global, r: Ready) -> Result<Done, NoMemory>
+pub(crate) fn store_drop(alloc: Global, r: Assignable) -> Result<Emitted, NoMemory>
     ensures { IfOk result (λ d. done d ≡ parts.store_drop (ready r)) }
 {
     let mut items = r.items;
     put(&mut items, assign_to(alloc, r.ctype, r.storage, r.value)?)?;
-    Ok(Done {
+    Ok(Emitted {
         items,
         temps: r.temps,
         labels: r.labels,
@@ -121,7 +121,7 @@ pub(crate) fn store_drop(alloc: Global, r: Ready) -> Result<Done, NoMemory>
 }
 
 /// An assignment for its value: the variable itself, or a temporary.
-pub(crate) fn store_low(alloc: Global, r: Ready) -> Result<Low, NoMemory>
+pub(crate) fn store_low(alloc: Global, r: Assignable) -> Result<Lowered, NoMemory>
     ensures { IfOk result (λ p. low p ≡ parts.store_low (ready r)) }
 {
     let (ctype, temps, labels) = (r.ctype, r.temps, r.labels);
@@ -131,7 +131,7 @@ pub(crate) fn store_low(alloc: Global, r: Ready) -> Result<Low, NoMemory>
     match storage {
         Storage::Local(n) => {
             put(&mut items, Item::AssignLocal(n, value))?;
-            Ok(Low {
+            Ok(Lowered {
                 items,
                 tree: Tree::Local(n),
                 temps,
@@ -140,7 +140,7 @@ pub(crate) fn store_low(alloc: Global, r: Ready) -> Result<Low, NoMemory>
         }
         Storage::Parameter(n) => {
             put(&mut items, Item::AssignParameter(n, value))?;
-            Ok(Low {
+            Ok(Lowered {
                 items,
                 tree: Tree::Parameter(n),
                 temps,
@@ -154,7 +154,7 @@ pub(crate) fn store_low(alloc: Global, r: Ready) -> Result<Low, NoMemory>
                 &mut items,
                 Item::AssignMemory(integer_of(ctype), address, Tree::Local(temps)),
             )?;
-            Ok(Low {
+            Ok(Lowered {
                 items,
                 tree: Tree::Local(temps),
                 temps: next,

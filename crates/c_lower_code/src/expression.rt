@@ -11,9 +11,9 @@ use crate::operation::{
     negated_low, retreat_low,
 };
 use crate::part::{
-    Done, Found, Frame, Low, Passing, Ready, Two, address_low, address_of, after, assign_ready,
-    choose_drop, choose_low, compare, dropped, due, join, labelled, pointed, read_low, sensed,
-    storage_of, test, then_done, truth_of, with_done,
+    Assignable, Emitted, Frame, Located, Lowered, Pair, Passing, address_low, address_of, after,
+    assign_ready, choose_drop, choose_low, compare, dropped, due, join, labelled, pointed,
+    read_low, sensed, storage_of, test, then_done, truth_of, with_done,
 };
 use crate::passing::{
     called_drop, called_low, callee_number, no_arguments, others, pass_on, passed_as,
@@ -24,12 +24,12 @@ use gg_base::{NoMemory, Rel};
 
 /// A place, from the first free temporary and label on.
 #[cycle(expression)]
-pub(crate) fn seek(frame: Frame, place: &Place, t: u32, l: u32) -> Result<Found, NoMemory>
+pub(crate) fn seek(frame: Frame, place: &Place, t: u32, l: u32) -> Result<Located, NoMemory>
     ensures { IfOk result (λ r. found r ≡ parts.seek frame.locals frame.functions (place_of place.now) t l) }
 {
     match place {
         Place::Variable(of, v) => {
-            Ok(Found {
+            Ok(Located {
                 items: Vec::new(frame.alloc),
                 ctype: *of,
                 storage: storage_of(*v),
@@ -44,7 +44,7 @@ pub(crate) fn seek(frame: Frame, place: &Place, t: u32, l: u32) -> Result<Found,
 
 // Two values that are due in turn.
 #[cycle(expression)]
-fn joined(frame: Frame, a: &Expression, b: &Expression, t: u32, l: u32) -> Result<Two, NoMemory>
+fn joined(frame: Frame, a: &Expression, b: &Expression, t: u32, l: u32) -> Result<Pair, NoMemory>
     ensures { IfOk result (λ r. two r ≡ parts.joined frame.locals frame.functions (parts.way frame.locals frame.functions (term a.now)) (parts.way frame.locals frame.functions (term b.now)) t l) }
 {
     let p = value(frame, a, t, l)?;
@@ -62,7 +62,7 @@ fn relation(
     to: u32,
     t: u32,
     l: u32,
-) -> Result<Done, NoMemory>
+) -> Result<Emitted, NoMemory>
     ensures { IfOk result (λ d. done d ≡ parts.compare r to (parts.joined frame.locals frame.functions (parts.way frame.locals frame.functions (term a.now)) (parts.way frame.locals frame.functions (term b.now)) t l)) }
 {
     compare(r, to, joined(frame, a, b, t, l)?)
@@ -79,7 +79,7 @@ fn chain(
     to: u32,
     t: u32,
     l: u32,
-) -> Result<Done, NoMemory>
+) -> Result<Emitted, NoMemory>
     ensures { IfOk result (λ d. done d ≡ parts.chain stop (parts.way frame.locals frame.functions (term a.now)) (parts.way frame.locals frame.functions (term b.now)) sense to t l) }
 {
     let inner = after(l)?;
@@ -103,7 +103,7 @@ fn drop_chain(
     b: &Expression,
     t: u32,
     l: u32,
-) -> Result<Done, NoMemory>
+) -> Result<Emitted, NoMemory>
     ensures { IfOk result (λ d. done d ≡ parts.chain_drop (parts.way frame.locals frame.functions (term a.now)) stop (parts.way frame.locals frame.functions (term b.now)) t l) }
 {
     let p = branch(frame, a, stop, l, t, after(l)?)?;
@@ -113,7 +113,13 @@ fn drop_chain(
 
 // The effects of two expressions.
 #[cycle(expression)]
-fn drop_two(frame: Frame, a: &Expression, b: &Expression, t: u32, l: u32) -> Result<Done, NoMemory>
+fn drop_two(
+    frame: Frame,
+    a: &Expression,
+    b: &Expression,
+    t: u32,
+    l: u32,
+) -> Result<Emitted, NoMemory>
     ensures { IfOk result (λ d. done d ≡ parts.drop_two (parts.way frame.locals frame.functions (term a.now)) (parts.way frame.locals frame.functions (term b.now)) t l) }
 {
     let p = discard(frame, a, t, l)?;
@@ -130,7 +136,7 @@ fn updated(
     e: &Expression,
     t: u32,
     l: u32,
-) -> Result<Ready, NoMemory>
+) -> Result<Assignable, NoMemory>
     ensures { IfOk result (λ r. ready r ≡ parts.updated frame.locals frame.functions (applied change) (parts.seek frame.locals frame.functions (place_of place.now) t l) (parts.way frame.locals frame.functions (term e.now)).low) }
 {
     let p = seek(frame, place, t, l)?;
@@ -147,7 +153,7 @@ fn changed(
     e: &Expression,
     t: u32,
     l: u32,
-) -> Result<Low, NoMemory>
+) -> Result<Lowered, NoMemory>
     ensures { IfOk result (λ r. low r ≡ parts.store_low (parts.updated frame.locals frame.functions (applied change) (parts.seek frame.locals frame.functions (place_of place.now) t l) (parts.way frame.locals frame.functions (term e.now)).low)) }
 {
     store_low(frame.alloc, updated(frame, change, place, e, t, l)?)
@@ -162,7 +168,7 @@ fn drop_changed(
     e: &Expression,
     t: u32,
     l: u32,
-) -> Result<Done, NoMemory>
+) -> Result<Emitted, NoMemory>
     ensures { IfOk result (λ r. done r ≡ parts.store_drop (parts.updated frame.locals frame.functions (applied change) (parts.seek frame.locals frame.functions (place_of place.now) t l) (parts.way frame.locals frame.functions (term e.now)).low)) }
 {
     store_drop(frame.alloc, updated(frame, change, place, e, t, l)?)
@@ -177,7 +183,7 @@ fn assigned(
     e: &Expression,
     t: u32,
     l: u32,
-) -> Result<Ready, NoMemory>
+) -> Result<Assignable, NoMemory>
     ensures { IfOk result (λ r. ready r ≡ parts.assigned frame.locals frame.functions between (parts.seek frame.locals frame.functions (place_of place.now) t l) (parts.way frame.locals frame.functions (term e.now)).low) }
 {
     let p = seek(frame, place, t, l)?;
@@ -209,7 +215,7 @@ fn chosen(
     b: &Expression,
     t: u32,
     l: u32,
-) -> Result<Low, NoMemory>
+) -> Result<Lowered, NoMemory>
     ensures { IfOk result (λ r. low r ≡ (parts.choose (parts.way frame.locals frame.functions (term c.now)) (parts.way frame.locals frame.functions (term a.now)) (parts.way frame.locals frame.functions (term b.now))).low t l) }
 {
     let p = branch(frame, c, false, l, after(t)?, after(after(l)?)?)?;
@@ -227,7 +233,7 @@ fn drop_chosen(
     b: &Expression,
     t: u32,
     l: u32,
-) -> Result<Done, NoMemory>
+) -> Result<Emitted, NoMemory>
     ensures { IfOk result (λ r. done r ≡ (parts.choose (parts.way frame.locals frame.functions (term c.now)) (parts.way frame.locals frame.functions (term a.now)) (parts.way frame.locals frame.functions (term b.now))).drop t l) }
 {
     let p = branch(frame, c, false, l, t, after(after(l)?)?)?;
@@ -237,7 +243,7 @@ fn drop_chosen(
 }
 
 // A step's value.
-fn step_value(frame: Frame, moment: Moment, by: Direction, p: Found) -> Result<Low, NoMemory>
+fn step_value(frame: Frame, moment: Moment, by: Direction, p: Located) -> Result<Lowered, NoMemory>
     ensures { IfOk result (λ r. low r ≡ parts.step_low frame.locals frame.functions moment by (found p)) }
 {
     match moment {
@@ -248,7 +254,13 @@ fn step_value(frame: Frame, moment: Moment, by: Direction, p: Found) -> Result<L
 
 // The value of an operator on one operand.
 #[cycle(expression)]
-fn unary(frame: Frame, op: UnaryOperator, e: &Expression, t: u32, l: u32) -> Result<Low, NoMemory>
+fn unary(
+    frame: Frame,
+    op: UnaryOperator,
+    e: &Expression,
+    t: u32,
+    l: u32,
+) -> Result<Lowered, NoMemory>
     ensures { IfOk result (λ r. low r ≡ (parts.unary frame.locals frame.functions op (parts.way frame.locals frame.functions (term e.now))).low t l) }
 {
     match op {
@@ -266,7 +278,7 @@ fn unary(frame: Frame, op: UnaryOperator, e: &Expression, t: u32, l: u32) -> Res
 
 /// An expression for its value, from the first free temporary and label on.
 #[cycle(expression)]
-pub(crate) fn value(frame: Frame, e: &Expression, t: u32, l: u32) -> Result<Low, NoMemory>
+pub(crate) fn value(frame: Frame, e: &Expression, t: u32, l: u32) -> Result<Lowered, NoMemory>
     ensures { IfOk result (λ r. low r ≡ (parts.way frame.locals frame.functions (term e.now)).low t l) }
 {
     let alloc = frame.alloc;
@@ -331,7 +343,7 @@ pub(crate) fn value(frame: Frame, e: &Expression, t: u32, l: u32) -> Result<Low,
 
 // The effect of one expression, and then the value of another.
 #[cycle(expression)]
-fn comma(frame: Frame, a: &Expression, b: &Expression, t: u32, l: u32) -> Result<Low, NoMemory>
+fn comma(frame: Frame, a: &Expression, b: &Expression, t: u32, l: u32) -> Result<Lowered, NoMemory>
     ensures { IfOk result (λ r. low r ≡ (parts.comma (parts.way frame.locals frame.functions (term a.now)) (parts.way frame.locals frame.functions (term b.now))).low t l) }
 {
     let p = discard(frame, a, t, l)?;
@@ -348,7 +360,7 @@ fn tested(
     to: u32,
     t: u32,
     l: u32,
-) -> Result<Done, NoMemory>
+) -> Result<Emitted, NoMemory>
     ensures { IfOk result (λ r. done r ≡ parts.test sense to ((parts.way frame.locals frame.functions (term e.now)).low t l)) }
 {
     test(sense, to, value(frame, e, t, l)?)
@@ -364,7 +376,7 @@ fn unary_branch(
     to: u32,
     t: u32,
     l: u32,
-) -> Result<Done, NoMemory>
+) -> Result<Emitted, NoMemory>
     ensures { IfOk result (λ r. done r ≡ (parts.unary frame.locals frame.functions op (parts.way frame.locals frame.functions (term e.now))).branch sense to t l) }
 {
     match op {
@@ -388,7 +400,7 @@ pub(crate) fn branch(
     to: u32,
     t: u32,
     l: u32,
-) -> Result<Done, NoMemory>
+) -> Result<Emitted, NoMemory>
     ensures { IfOk result (λ r. done r ≡ (parts.way frame.locals frame.functions (term e.now)).branch sense to t l) }
 {
     match e {
@@ -426,7 +438,7 @@ pub(crate) fn branch(
 }
 
 // A step for its effect.
-fn step_drop(frame: Frame, by: Direction, p: Found) -> Result<Done, NoMemory>
+fn step_drop(frame: Frame, by: Direction, p: Located) -> Result<Emitted, NoMemory>
     ensures { IfOk result (λ r. done r ≡ parts.store_drop (parts.step_ready frame.locals frame.functions by (found p))) }
 {
     store_drop(frame.alloc, step_ready(frame, by, p)?)
@@ -434,7 +446,7 @@ fn step_drop(frame: Frame, by: Direction, p: Found) -> Result<Done, NoMemory>
 
 // A value that is not wanted.
 #[cycle(expression)]
-fn unwanted(frame: Frame, e: &Expression, t: u32, l: u32) -> Result<Done, NoMemory>
+fn unwanted(frame: Frame, e: &Expression, t: u32, l: u32) -> Result<Emitted, NoMemory>
     ensures { IfOk result (λ r. done r ≡ parts.dropped ((parts.way frame.locals frame.functions (term e.now)).low t l)) }
 {
     dropped(value(frame, e, t, l)?)
@@ -442,7 +454,7 @@ fn unwanted(frame: Frame, e: &Expression, t: u32, l: u32) -> Result<Done, NoMemo
 
 /// An expression for its effect alone.
 #[cycle(expression)]
-pub(crate) fn discard(frame: Frame, e: &Expression, t: u32, l: u32) -> Result<Done, NoMemory>
+pub(crate) fn discard(frame: Frame, e: &Expression, t: u32, l: u32) -> Result<Emitted, NoMemory>
     ensures { IfOk result (λ r. done r ≡ (parts.way frame.locals frame.functions (term e.now)).drop t l) }
 {
     match e {
@@ -495,7 +507,7 @@ fn unary_drop(
     e: &Expression,
     t: u32,
     l: u32,
-) -> Result<Done, NoMemory>
+) -> Result<Emitted, NoMemory>
     ensures { IfOk result (λ r. done r ≡ (parts.unary frame.locals frame.functions op (parts.way frame.locals frame.functions (term e.now))).drop t l) }
 {
     match op {

@@ -4,18 +4,18 @@ ghost use Rattle.c_lower_scheme.specs.Statements as statements;
 ghost use Rattle.c_lower_code.specs.Views.{low, done};
 
 use crate::item::Item;
-use crate::part::{Done, Frame, Low, after, put, put_all};
+use crate::part::{Emitted, Frame, Lowered, after, put, put_all};
 use crate::tree::Tree;
 use gg_base::NoMemory;
 use std::alloc::Global;
 
 /// One statement behind another.
-pub(crate) fn two_done(a: Done, b: Done) -> Result<Done, NoMemory>
+pub(crate) fn two_done(a: Emitted, b: Emitted) -> Result<Emitted, NoMemory>
     ensures { IfOk result (λ r. done r ≡ statements.two_done (done a) (done b)) }
 {
     let mut items = a.items;
     put_all(&mut items, b.items)?;
-    Ok(Done {
+    Ok(Emitted {
         items,
         temps: a.temps.max(b.temps),
         labels: b.labels,
@@ -23,12 +23,12 @@ pub(crate) fn two_done(a: Done, b: Done) -> Result<Done, NoMemory>
 }
 
 /// A value that leaves the function.
-pub(crate) fn ret_of(p: Low) -> Result<Done, NoMemory>
+pub(crate) fn ret_of(p: Lowered) -> Result<Emitted, NoMemory>
     ensures { IfOk result (λ r. done r ≡ statements.ret_of (low p)) }
 {
     let mut items = p.items;
     put(&mut items, Item::Return(p.tree))?;
-    Ok(Done {
+    Ok(Emitted {
         items,
         temps: p.temps,
         labels: p.labels,
@@ -36,7 +36,12 @@ pub(crate) fn ret_of(p: Low) -> Result<Done, NoMemory>
 }
 
 /// An automatic local that begins with a value; it is 0 before where its initialiser reads it.
-pub(crate) fn begin_of(alloc: Global, is_read: bool, local: u32, p: Low) -> Result<Done, NoMemory>
+pub(crate) fn begin_of(
+    alloc: Global,
+    is_read: bool,
+    local: u32,
+    p: Lowered,
+) -> Result<Emitted, NoMemory>
     ensures { IfOk result (λ r. done r ≡ statements.begin_of is_read local (low p)) }
 {
     let mut items = Vec::new(alloc);
@@ -45,7 +50,7 @@ pub(crate) fn begin_of(alloc: Global, is_read: bool, local: u32, p: Low) -> Resu
     }
     put_all(&mut items, p.items)?;
     put(&mut items, Item::AssignLocal(local, p.tree))?;
-    Ok(Done {
+    Ok(Emitted {
         items,
         temps: p.temps,
         labels: p.labels,
@@ -53,13 +58,13 @@ pub(crate) fn begin_of(alloc: Global, is_read: bool, local: u32, p: Low) -> Resu
 }
 
 /// An `if`, whose end is the label l.
-pub(crate) fn if_done(l: u32, p: Done, a: Done) -> Result<Done, NoMemory>
+pub(crate) fn if_done(l: u32, p: Emitted, a: Emitted) -> Result<Emitted, NoMemory>
     ensures { IfOk result (λ r. done r ≡ statements.if_done l (done p) (done a)) }
 {
     let mut items = p.items;
     put_all(&mut items, a.items)?;
     put(&mut items, Item::Label(l))?;
-    Ok(Done {
+    Ok(Emitted {
         items,
         temps: p.temps.max(a.temps),
         labels: a.labels,
@@ -67,7 +72,7 @@ pub(crate) fn if_done(l: u32, p: Done, a: Done) -> Result<Done, NoMemory>
 }
 
 /// An `if` with an `else`.
-pub(crate) fn if_else_done(l: u32, p: Done, a: Done, b: Done) -> Result<Done, NoMemory>
+pub(crate) fn if_else_done(l: u32, p: Emitted, a: Emitted, b: Emitted) -> Result<Emitted, NoMemory>
     ensures { IfOk result (λ r. done r ≡ statements.if_else_done l (done p) (done a) (done b)) }
 {
     let end = after(l)?;
@@ -77,7 +82,7 @@ pub(crate) fn if_else_done(l: u32, p: Done, a: Done, b: Done) -> Result<Done, No
     put(&mut items, Item::Label(l))?;
     put_all(&mut items, b.items)?;
     put(&mut items, Item::Label(end))?;
-    Ok(Done {
+    Ok(Emitted {
         items,
         temps: p.temps.max(a.temps.max(b.temps)),
         labels: b.labels,
@@ -85,7 +90,7 @@ pub(crate) fn if_else_done(l: u32, p: Done, a: Done, b: Done) -> Result<Done, No
 }
 
 /// A `while`, whose test stands at the label l, and whose end is the next label.
-pub(crate) fn while_done(alloc: Global, l: u32, p: Done, a: Done) -> Result<Done, NoMemory>
+pub(crate) fn while_done(alloc: Global, l: u32, p: Emitted, a: Emitted) -> Result<Emitted, NoMemory>
     ensures { IfOk result (λ r. done r ≡ statements.while_done l (done p) (done a)) }
 {
     let end = after(l)?;
@@ -95,7 +100,7 @@ pub(crate) fn while_done(alloc: Global, l: u32, p: Done, a: Done) -> Result<Done
     put_all(&mut items, a.items)?;
     put(&mut items, Item::Jump(l))?;
     put(&mut items, Item::Label(end))?;
-    Ok(Done {
+    Ok(Emitted {
         items,
         temps: p.temps.max(a.temps),
         labels: a.labels,
@@ -103,7 +108,7 @@ pub(crate) fn while_done(alloc: Global, l: u32, p: Done, a: Done) -> Result<Done
 }
 
 /// A `do`: `continue` goes to the label behind l, and the end is the one behind that.
-pub(crate) fn do_done(alloc: Global, l: u32, a: Done, p: Done) -> Result<Done, NoMemory>
+pub(crate) fn do_done(alloc: Global, l: u32, a: Emitted, p: Emitted) -> Result<Emitted, NoMemory>
     ensures { IfOk result (λ r. done r ≡ statements.do_done l (done a) (done p)) }
 {
     let onward = after(l)?;
@@ -115,7 +120,7 @@ pub(crate) fn do_done(alloc: Global, l: u32, a: Done, p: Done) -> Result<Done, N
     put(&mut items, Item::Label(onward))?;
     put_all(&mut items, p.items)?;
     put(&mut items, Item::Label(end))?;
-    Ok(Done {
+    Ok(Emitted {
         items,
         temps: a.temps.max(p.temps),
         labels: p.labels,
@@ -123,7 +128,13 @@ pub(crate) fn do_done(alloc: Global, l: u32, a: Done, p: Done) -> Result<Done, N
 }
 
 /// A `for` with a test.
-pub(crate) fn for_done(alloc: Global, l: u32, p: Done, a: Done, s: Done) -> Result<Done, NoMemory>
+pub(crate) fn for_done(
+    alloc: Global,
+    l: u32,
+    p: Emitted,
+    a: Emitted,
+    s: Emitted,
+) -> Result<Emitted, NoMemory>
     ensures { IfOk result (λ r. done r ≡ statements.for_done l (done p) (done a) (done s)) }
 {
     let onward = after(l)?;
@@ -136,7 +147,7 @@ pub(crate) fn for_done(alloc: Global, l: u32, p: Done, a: Done, s: Done) -> Resu
     put_all(&mut items, s.items)?;
     put(&mut items, Item::Jump(l))?;
     put(&mut items, Item::Label(end))?;
-    Ok(Done {
+    Ok(Emitted {
         items,
         temps: p.temps.max(a.temps.max(s.temps)),
         labels: s.labels,
@@ -144,7 +155,7 @@ pub(crate) fn for_done(alloc: Global, l: u32, p: Done, a: Done, s: Done) -> Resu
 }
 
 /// A `for` without a test.
-pub(crate) fn ever_done(alloc: Global, l: u32, a: Done, s: Done) -> Result<Done, NoMemory>
+pub(crate) fn ever_done(alloc: Global, l: u32, a: Emitted, s: Emitted) -> Result<Emitted, NoMemory>
     ensures { IfOk result (λ r. done r ≡ statements.ever_done l (done a) (done s)) }
 {
     let onward = after(l)?;
@@ -157,7 +168,7 @@ pub(crate) fn ever_done(alloc: Global, l: u32, a: Done, s: Done) -> Result<Done,
     put_all(&mut items, s.items)?;
     put(&mut items, Item::Jump(l))?;
     put(&mut items, Item::Label(end))?;
-    Ok(Done {
+    Ok(Emitted {
         items,
         temps: a.temps.max(s.temps),
         labels: s.labels,
@@ -165,12 +176,12 @@ pub(crate) fn ever_done(alloc: Global, l: u32, a: Done, s: Done) -> Result<Done,
 }
 
 /// A jump to a label.
-pub(crate) fn jump(frame: Frame, to: u32, l: u32) -> Result<Done, NoMemory>
+pub(crate) fn jump(frame: Frame, to: u32, l: u32) -> Result<Emitted, NoMemory>
     ensures { IfOk result (λ r. done r ≡ record { items = mirror.Jump to ∷ []; temps = frame.locals; labels = l }) }
 {
     let mut items = Vec::new(frame.alloc);
     put(&mut items, Item::Jump(to))?;
-    Ok(Done {
+    Ok(Emitted {
         items,
         temps: frame.locals,
         labels: l,

@@ -4,7 +4,7 @@ ghost use Rattle.c_lower_scheme.specs.Trees.{Neg, Com, Bin};
 ghost use Rattle.c_lower_scheme.specs.Expressions as parts;
 ghost use Rattle.c_lower_code.specs.Views.{low, two};
 
-use crate::part::{Low, Two};
+use crate::part::{Lowered, Pair};
 use crate::tree::{
     Tree, advance, advance_by, apart, binary, complemented, fitted, negated, retreat,
 };
@@ -13,11 +13,11 @@ use gg_base::NoMemory;
 use std::alloc::Global;
 
 /// The value with the opposite sign.
-pub(crate) fn negated_low(alloc: Global, p: Low) -> Result<Low, NoMemory>
+pub(crate) fn negated_low(alloc: Global, p: Lowered) -> Result<Lowered, NoMemory>
     ensures { IfOk result (λ r. low r ≡ parts.over Neg (low p)) }
 {
     let tree = negated(alloc, p.tree)?;
-    Ok(Low {
+    Ok(Lowered {
         items: p.items,
         tree,
         temps: p.temps,
@@ -26,11 +26,11 @@ pub(crate) fn negated_low(alloc: Global, p: Low) -> Result<Low, NoMemory>
 }
 
 /// The value with all bits turned.
-pub(crate) fn complemented_low(alloc: Global, p: Low) -> Result<Low, NoMemory>
+pub(crate) fn complemented_low(alloc: Global, p: Lowered) -> Result<Lowered, NoMemory>
     ensures { IfOk result (λ r. low r ≡ parts.over Com (low p)) }
 {
     let tree = complemented(alloc, p.tree)?;
-    Ok(Low {
+    Ok(Lowered {
         items: p.items,
         tree,
         temps: p.temps,
@@ -39,11 +39,11 @@ pub(crate) fn complemented_low(alloc: Global, p: Low) -> Result<Low, NoMemory>
 }
 
 /// The value that is converted to a type.
-pub(crate) fn fitted_low(alloc: Global, t: CType, p: Low) -> Result<Low, NoMemory>
+pub(crate) fn fitted_low(alloc: Global, t: CType, p: Lowered) -> Result<Lowered, NoMemory>
     ensures { IfOk result (λ r. low r ≡ parts.over (parts.fitted t) (low p)) }
 {
     let tree = fitted(alloc, t, p.tree)?;
-    Ok(Low {
+    Ok(Lowered {
         items: p.items,
         tree,
         temps: p.temps,
@@ -52,11 +52,15 @@ pub(crate) fn fitted_low(alloc: Global, t: CType, p: Low) -> Result<Low, NoMemor
 }
 
 /// An operator on two numbers.
-pub(crate) fn arithmetic_low(alloc: Global, op: ArithmeticOperator, p: Two) -> Result<Low, NoMemory>
+pub(crate) fn arithmetic_low(
+    alloc: Global,
+    op: ArithmeticOperator,
+    p: Pair,
+) -> Result<Lowered, NoMemory>
     ensures { IfOk result (λ r. low r ≡ parts.over_two (Bin op) (two p)) }
 {
     let tree = binary(alloc, op, p.first, p.second)?;
-    Ok(Low {
+    Ok(Lowered {
         items: p.items,
         tree,
         temps: p.temps,
@@ -65,11 +69,11 @@ pub(crate) fn arithmetic_low(alloc: Global, op: ArithmeticOperator, p: Two) -> R
 }
 
 /// A pointer of the type plus a number.
-pub(crate) fn advance_low(alloc: Global, t: CType, p: Two) -> Result<Low, NoMemory>
+pub(crate) fn advance_low(alloc: Global, t: CType, p: Pair) -> Result<Lowered, NoMemory>
     ensures { IfOk result (λ r. low r ≡ parts.over_two (parts.advance t) (two p)) }
 {
     let tree = advance(alloc, t, p.first, p.second)?;
-    Ok(Low {
+    Ok(Lowered {
         items: p.items,
         tree,
         temps: p.temps,
@@ -78,11 +82,11 @@ pub(crate) fn advance_low(alloc: Global, t: CType, p: Two) -> Result<Low, NoMemo
 }
 
 /// A number plus a pointer of the type.
-pub(crate) fn advance_by_low(alloc: Global, t: CType, p: Two) -> Result<Low, NoMemory>
+pub(crate) fn advance_by_low(alloc: Global, t: CType, p: Pair) -> Result<Lowered, NoMemory>
     ensures { IfOk result (λ r. low r ≡ parts.over_two (parts.advance_by t) (two p)) }
 {
     let tree = advance_by(alloc, t, p.first, p.second)?;
-    Ok(Low {
+    Ok(Lowered {
         items: p.items,
         tree,
         temps: p.temps,
@@ -91,11 +95,11 @@ pub(crate) fn advance_by_low(alloc: Global, t: CType, p: Two) -> Result<Low, NoM
 }
 
 /// A pointer of the type less a number.
-pub(crate) fn retreat_low(alloc: Global, t: CType, p: Two) -> Result<Low, NoMemory>
+pub(crate) fn retreat_low(alloc: Global, t: CType, p: Pair) -> Result<Lowered, NoMemory>
     ensures { IfOk result (λ r. low r ≡ parts.over_two (parts.retreat t) (two p)) }
 {
     let tree = retreat(alloc, t, p.first, p.second)?;
-    Ok(Low {
+    Ok(Lowered {
         items: p.items,
         tree,
         temps: p.temps,
@@ -104,11 +108,11 @@ pub(crate) fn retreat_low(alloc: Global, t: CType, p: Two) -> Result<Low, NoMemo
 }
 
 /// How many elements lie between two pointers of the type.
-pub(crate) fn apart_low(alloc: Global, t: CType, p: Two) -> Result<Low, NoMemory>
+pub(crate) fn apart_low(alloc: Global, t: CType, p: Pair) -> Result<Lowered, NoMemory>
     ensures { IfOk result (λ r. low r ≡ parts.over_two (parts.apart t) (two p)) }
 {
     let tree = apart(alloc, t, p.first, p.second)?;
-    Ok(Low {
+    Ok(Lowered {
         items: p.items,
         tree,
         temps: p.temps,

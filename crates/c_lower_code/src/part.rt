@@ -12,7 +12,7 @@ use std::alloc::Global;
 
 /// Items, and a tree that is due directly behind them; behind them the first temporary and the first label that are free.
 #[derive(Drop)]
-pub struct Low {
+pub struct Lowered {
     pub items: Vec<Item>,
     pub tree: Tree,
     pub temps: u32,
@@ -21,7 +21,7 @@ pub struct Low {
 
 /// The same with two trees, which are due in turn.
 #[derive(Drop)]
-pub struct Two {
+pub struct Pair {
     pub items: Vec<Item>,
     pub first: Tree,
     pub second: Tree,
@@ -39,7 +39,7 @@ pub enum Storage {
 
 /// The same with a place, whose address is due, and the type of what is kept there.
 #[derive(Drop)]
-pub struct Found {
+pub struct Located {
     pub items: Vec<Item>,
     pub ctype: CType,
     pub storage: Storage,
@@ -49,7 +49,7 @@ pub struct Found {
 
 /// The same with a place and the value that is assigned to it, both due.
 #[derive(Drop)]
-pub struct Ready {
+pub struct Assignable {
     pub items: Vec<Item>,
     pub ctype: CType,
     pub storage: Storage,
@@ -70,7 +70,7 @@ pub struct Passing {
 
 /// Items alone.
 #[derive(Drop)]
-pub struct Done {
+pub struct Emitted {
     pub items: Vec<Item>,
     pub temps: u32,
     pub labels: u32,
@@ -136,10 +136,10 @@ pub(crate) fn put_saved(
 }
 
 /// A tree without items.
-pub(crate) fn due(alloc: Global, w: Tree, t: u32, l: u32) -> Low
+pub(crate) fn due(alloc: Global, w: Tree, t: u32, l: u32) -> Lowered
     ensures { low result ≡ parts.due (tree w) t l }
 {
-    Low {
+    Lowered {
         items: Vec::new(alloc),
         tree: w,
         temps: t,
@@ -148,10 +148,10 @@ pub(crate) fn due(alloc: Global, w: Tree, t: u32, l: u32) -> Low
 }
 
 /// Nothing at all.
-pub(crate) fn nothing(alloc: Global, t: u32, l: u32) -> Done
+pub(crate) fn nothing(alloc: Global, t: u32, l: u32) -> Emitted
     ensures { done result ≡ parts.nothing t l }
 {
-    Done {
+    Emitted {
         items: Vec::new(alloc),
         temps: t,
         labels: l,
@@ -159,12 +159,12 @@ pub(crate) fn nothing(alloc: Global, t: u32, l: u32) -> Done
 }
 
 /// Other items in front.
-pub(crate) fn with_done(a: Done, p: Low) -> Result<Low, NoMemory>
+pub(crate) fn with_done(a: Emitted, p: Lowered) -> Result<Lowered, NoMemory>
     ensures { IfOk result (λ r. low r ≡ parts.with_done (done a) (low p)) }
 {
     let mut items = a.items;
     put_all(&mut items, p.items)?;
-    Ok(Low {
+    Ok(Lowered {
         items,
         tree: p.tree,
         temps: p.temps,
@@ -173,12 +173,12 @@ pub(crate) fn with_done(a: Done, p: Low) -> Result<Low, NoMemory>
 }
 
 /// One part behind another.
-pub(crate) fn then_done(a: Done, b: Done) -> Result<Done, NoMemory>
+pub(crate) fn then_done(a: Emitted, b: Emitted) -> Result<Emitted, NoMemory>
     ensures { IfOk result (λ r. done r ≡ parts.then_done (done a) (done b)) }
 {
     let mut items = a.items;
     put_all(&mut items, b.items)?;
-    Ok(Done {
+    Ok(Emitted {
         items,
         temps: b.temps,
         labels: b.labels,
@@ -211,7 +211,7 @@ pub(crate) fn sensed(sense: bool, r: Rel) -> Rel
 }
 
 /// The value of a condition is made in the temporary t; the items go to the label l where it is false.
-pub(crate) fn truth_of(frame: Frame, t: u32, l: u32, p: Done) -> Result<Low, NoMemory>
+pub(crate) fn truth_of(frame: Frame, t: u32, l: u32, p: Emitted) -> Result<Lowered, NoMemory>
     ensures { IfOk result (λ r. low r ≡ parts.truth_of t l (done p)) }
 {
     let mut items = Vec::new(frame.alloc);
@@ -219,7 +219,7 @@ pub(crate) fn truth_of(frame: Frame, t: u32, l: u32, p: Done) -> Result<Low, NoM
     put_all(&mut items, p.items)?;
     put(&mut items, Item::AssignLocal(t, Tree::Number(1)))?;
     put(&mut items, Item::Label(l))?;
-    Ok(Low {
+    Ok(Lowered {
         items,
         tree: Tree::Local(t),
         temps: p.temps,
@@ -228,7 +228,7 @@ pub(crate) fn truth_of(frame: Frame, t: u32, l: u32, p: Done) -> Result<Low, NoM
 }
 
 /// A value as a condition.
-pub(crate) fn test(sense: bool, to: u32, p: Low) -> Result<Done, NoMemory>
+pub(crate) fn test(sense: bool, to: u32, p: Lowered) -> Result<Emitted, NoMemory>
     ensures { IfOk result (λ r. done r ≡ parts.test sense to (low p)) }
 {
     let mut items = p.items;
@@ -236,7 +236,7 @@ pub(crate) fn test(sense: bool, to: u32, p: Low) -> Result<Done, NoMemory>
         &mut items,
         Item::Branch(sensed(sense, Rel::Ne), to, p.tree, Tree::Number(0)),
     )?;
-    Ok(Done {
+    Ok(Emitted {
         items,
         temps: p.temps,
         labels: p.labels,
@@ -244,12 +244,12 @@ pub(crate) fn test(sense: bool, to: u32, p: Low) -> Result<Done, NoMemory>
 }
 
 /// Two values as a condition.
-pub(crate) fn compare(r: Rel, to: u32, p: Two) -> Result<Done, NoMemory>
+pub(crate) fn compare(r: Rel, to: u32, p: Pair) -> Result<Emitted, NoMemory>
     ensures { IfOk result (λ d. done d ≡ parts.compare r to (two p)) }
 {
     let mut items = p.items;
     put(&mut items, Item::Branch(r, to, p.first, p.second))?;
-    Ok(Done {
+    Ok(Emitted {
         items,
         temps: p.temps,
         labels: p.labels,
@@ -257,14 +257,14 @@ pub(crate) fn compare(r: Rel, to: u32, p: Two) -> Result<Done, NoMemory>
 }
 
 /// A value that is dropped: it is evaluated where that may break.
-pub(crate) fn dropped(p: Low) -> Result<Done, NoMemory>
+pub(crate) fn dropped(p: Lowered) -> Result<Emitted, NoMemory>
     ensures { IfOk result (λ r. done r ≡ parts.dropped (low p)) }
 {
     let is_evaluated = p.tree.breaks();
     let temps = after_if(is_evaluated, p.temps)?;
     let mut items = p.items;
     put_saved(&mut items, is_evaluated, p.temps, p.tree)?;
-    Ok(Done {
+    Ok(Emitted {
         items,
         temps,
         labels: p.labels,
@@ -272,10 +272,10 @@ pub(crate) fn dropped(p: Low) -> Result<Done, NoMemory>
 }
 
 /// Another tree in place of the one that is due.
-pub(crate) fn with_tree(p: Low, w: Tree) -> Low
+pub(crate) fn with_tree(p: Lowered, w: Tree) -> Lowered
     ensures { low result ≡ parts.over (λ v. tree w) (low p) }
 {
-    Low {
+    Lowered {
         items: p.items,
         tree: w,
         temps: p.temps,
@@ -284,7 +284,13 @@ pub(crate) fn with_tree(p: Low, w: Tree) -> Low
 }
 
 /// The value of a choice, in the temporary t, by the labels l and the one behind it.
-pub(crate) fn choose_low(t: u32, l: u32, p: Done, q: Low, r: Low) -> Result<Low, NoMemory>
+pub(crate) fn choose_low(
+    t: u32,
+    l: u32,
+    p: Emitted,
+    q: Lowered,
+    r: Lowered,
+) -> Result<Lowered, NoMemory>
     ensures { IfOk result (λ x. low x ≡ parts.choose_low t l (done p) (low q) (low r)) }
 {
     let end = after(l)?;
@@ -296,7 +302,7 @@ pub(crate) fn choose_low(t: u32, l: u32, p: Done, q: Low, r: Low) -> Result<Low,
     put_all(&mut items, r.items)?;
     put(&mut items, Item::AssignLocal(t, r.tree))?;
     put(&mut items, Item::Label(end))?;
-    Ok(Low {
+    Ok(Lowered {
         items,
         tree: Tree::Local(t),
         temps: r.temps,
@@ -305,7 +311,7 @@ pub(crate) fn choose_low(t: u32, l: u32, p: Done, q: Low, r: Low) -> Result<Low,
 }
 
 /// The effect of a choice.
-pub(crate) fn choose_drop(l: u32, p: Done, q: Done, r: Done) -> Result<Done, NoMemory>
+pub(crate) fn choose_drop(l: u32, p: Emitted, q: Emitted, r: Emitted) -> Result<Emitted, NoMemory>
     ensures { IfOk result (λ x. done x ≡ parts.choose_drop l (done p) (done q) (done r)) }
 {
     let end = after(l)?;
@@ -315,7 +321,7 @@ pub(crate) fn choose_drop(l: u32, p: Done, q: Done, r: Done) -> Result<Done, NoM
     put(&mut items, Item::Label(l))?;
     put_all(&mut items, r.items)?;
     put(&mut items, Item::Label(end))?;
-    Ok(Done {
+    Ok(Emitted {
         items,
         temps: r.temps,
         labels: r.labels,
@@ -323,12 +329,12 @@ pub(crate) fn choose_drop(l: u32, p: Done, q: Done, r: Done) -> Result<Done, NoM
 }
 
 /// A part, and the label l behind it.
-pub(crate) fn labelled(l: u32, p: Done) -> Result<Done, NoMemory>
+pub(crate) fn labelled(l: u32, p: Emitted) -> Result<Emitted, NoMemory>
     ensures { IfOk result (λ r. done r ≡ record { items = all_items p.items.items ++ (mirror.Label l ∷ []); temps = p.temps; labels = p.labels }) }
 {
     let mut items = p.items;
     put(&mut items, Item::Label(l))?;
-    Ok(Done {
+    Ok(Emitted {
         items,
         temps: p.temps,
         labels: p.labels,
@@ -411,10 +417,10 @@ pub(crate) fn put_held(
 }
 
 /// A place whose address is the value of an expression.
-pub(crate) fn pointed(t: CType, p: Low) -> Found
+pub(crate) fn pointed(t: CType, p: Lowered) -> Located
     ensures { found result ≡ parts.pointed t (low p) }
 {
-    Found {
+    Located {
         items: p.items,
         ctype: t,
         storage: Storage::Memory(p.tree),
@@ -424,11 +430,11 @@ pub(crate) fn pointed(t: CType, p: Low) -> Found
 }
 
 /// The value that a place holds.
-pub(crate) fn read_low(alloc: Global, p: Found) -> Result<Low, NoMemory>
+pub(crate) fn read_low(alloc: Global, p: Located) -> Result<Lowered, NoMemory>
     ensures { IfOk result (λ r. low r ≡ parts.read_low (found p)) }
 {
     let tree = read_from(alloc, p.ctype, p.storage)?;
-    Ok(Low {
+    Ok(Lowered {
         items: p.items,
         tree,
         temps: p.temps,
@@ -437,10 +443,10 @@ pub(crate) fn read_low(alloc: Global, p: Found) -> Result<Low, NoMemory>
 }
 
 /// The address of a place.
-pub(crate) fn address_low(p: Found) -> Low
+pub(crate) fn address_low(p: Located) -> Lowered
     ensures { low result ≡ parts.address_low (found p) }
 {
-    Low {
+    Lowered {
         items: p.items,
         tree: address_of(p.storage),
         temps: p.temps,
@@ -467,7 +473,7 @@ fn must(frame: Frame, items: &Vec<Item>, a: &Tree, b: &Tree) -> bool
 }
 
 /// Two values that are due in turn.
-pub(crate) fn join(frame: Frame, p: Low, q: Low) -> Result<Two, NoMemory>
+pub(crate) fn join(frame: Frame, p: Lowered, q: Lowered) -> Result<Pair, NoMemory>
     ensures { IfOk result (λ r. two r ≡ parts.join frame.locals frame.functions (low p) (low q)) }
 {
     let is_saved = must(frame, &q.items, &p.tree, &q.tree);
@@ -475,7 +481,7 @@ pub(crate) fn join(frame: Frame, p: Low, q: Low) -> Result<Two, NoMemory>
     let mut items = p.items;
     let first = put_saved(&mut items, is_saved, q.temps, p.tree)?;
     put_all(&mut items, q.items)?;
-    Ok(Two {
+    Ok(Pair {
         items,
         first,
         second: q.tree,
@@ -496,7 +502,12 @@ fn must_hold(frame: Frame, between: bool, items: &Vec<Item>, w: &Tree, s: &Stora
 }
 
 /// A place, and the value that is assigned to it; something may be done between the two.
-pub(crate) fn assign_ready(frame: Frame, between: bool, p: Found, q: Low) -> Result<Ready, NoMemory>
+pub(crate) fn assign_ready(
+    frame: Frame,
+    between: bool,
+    p: Located,
+    q: Lowered,
+) -> Result<Assignable, NoMemory>
     ensures { IfOk result (λ r. ready r ≡ parts.assign_ready frame.locals frame.functions between (found p) (low q)) }
 {
     let is_saved = must_hold(frame, between, &q.items, &q.tree, &p.storage);
@@ -504,7 +515,7 @@ pub(crate) fn assign_ready(frame: Frame, between: bool, p: Found, q: Low) -> Res
     let mut items = p.items;
     let storage = put_held(&mut items, is_saved, q.temps, p.storage)?;
     put_all(&mut items, q.items)?;
-    Ok(Ready {
+    Ok(Assignable {
         items,
         ctype: p.ctype,
         storage,

@@ -4,7 +4,7 @@ ghost use Rattle.c_lower_scheme.specs.Expressions as parts;
 ghost use Rattle.c_lower_code.specs.Views.{tree, all_items, all_trees, low, passing, done};
 
 use crate::item::Item;
-use crate::part::{Done, Frame, Low, Passing, after, after_if, put, put_all, put_saved};
+use crate::part::{Emitted, Frame, Lowered, Passing, after, after_if, put, put_all, put_saved};
 use crate::tree::{Tree, fitted};
 use c_types::{CType, Callee};
 use gg_base::NoMemory;
@@ -42,14 +42,14 @@ fn push_all(items: &mut Vec<Item>, mut trees: Vec<Tree>) -> Result<(), NoMemory>
 }
 
 /// A call whose result is dropped.
-pub(crate) fn called_drop(f: u32, p: Passing) -> Result<Done, NoMemory>
+pub(crate) fn called_drop(f: u32, p: Passing) -> Result<Emitted, NoMemory>
     ensures { IfOk result (λ r. done r ≡ parts.called_drop f (passing p)) }
 {
     let count = args_count(&p.trees)?;
     let mut items = p.items;
     push_all(&mut items, p.trees)?;
     put(&mut items, Item::Call(f, count))?;
-    Ok(Done {
+    Ok(Emitted {
         items,
         temps: p.temps,
         labels: p.labels,
@@ -57,7 +57,7 @@ pub(crate) fn called_drop(f: u32, p: Passing) -> Result<Done, NoMemory>
 }
 
 /// A call, whose result is saved directly behind it.
-pub(crate) fn called_low(f: u32, p: Passing) -> Result<Low, NoMemory>
+pub(crate) fn called_low(f: u32, p: Passing) -> Result<Lowered, NoMemory>
     ensures { IfOk result (λ r. low r ≡ parts.called_low f (passing p)) }
 {
     let temps = after(p.temps)?;
@@ -66,7 +66,7 @@ pub(crate) fn called_low(f: u32, p: Passing) -> Result<Low, NoMemory>
     push_all(&mut items, p.trees)?;
     put(&mut items, Item::Call(f, count))?;
     put(&mut items, Item::Save(p.temps))?;
-    Ok(Low {
+    Ok(Lowered {
         items,
         tree: Tree::Local(p.temps),
         temps,
@@ -75,14 +75,14 @@ pub(crate) fn called_low(f: u32, p: Passing) -> Result<Low, NoMemory>
 }
 
 /// An argument that is converted to its parameter's type, the first of these.
-pub(crate) fn passed_as(alloc: Global, to: &[CType], p: Low) -> Result<Low, NoMemory>
+pub(crate) fn passed_as(alloc: Global, to: &[CType], p: Lowered) -> Result<Lowered, NoMemory>
     ensures { IfOk result (λ r. low r ≡ parts.over (parts.passed_as to.now) (low p)) }
 {
     match to.first() {
         None => Ok(p),
         Some(t) => {
             let tree = fitted(alloc, *t, p.tree)?;
-            Ok(Low {
+            Ok(Lowered {
                 items: p.items,
                 tree,
                 temps: p.temps,
@@ -123,7 +123,7 @@ fn must_pass(frame: Frame, w: &Tree, q: &Passing) -> bool
 }
 
 /// One more argument in front.
-pub(crate) fn pass_on(frame: Frame, p: Low, q: Passing) -> Result<Passing, NoMemory>
+pub(crate) fn pass_on(frame: Frame, p: Lowered, q: Passing) -> Result<Passing, NoMemory>
     ensures { IfOk result (λ r. passing r ≡ parts.pass_on frame.locals frame.functions (low p) (passing q)) }
 {
     let is_saved = must_pass(frame, &p.tree, &q);

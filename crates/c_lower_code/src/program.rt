@@ -8,7 +8,7 @@ ghost use Rattle.c_lower_code.specs.Bytes.{AllHoldBytes};
 ghost use Rattle.c_lower_code.specs.Views.{all_items, done};
 
 use crate::item::Item;
-use crate::part::{Done, Frame, put};
+use crate::part::{Emitted, Frame, put};
 use crate::spelling::spelled;
 use crate::statement::row;
 use crate::tree::Tree;
@@ -95,7 +95,7 @@ fn spelled_items(alloc: Global, items: &[Item]) -> Result<Vec<TreeItem>, NoMemor
 }
 
 // A function from its body; behind its statements it answers 0.
-fn function_of(alloc: Global, of: &Routine, body: Done) -> Result<TreeFn, NoMemory>
+fn function_of(alloc: Global, of: &Routine, body: Emitted) -> Result<TreeFn, NoMemory>
     ensures { IfOk result (λ f. f ≡ programs.function_of (routine of.now) (done body)) }
 {
     let mut items = body.items;
@@ -112,7 +112,7 @@ fn function_of(alloc: Global, of: &Routine, body: Done) -> Result<TreeFn, NoMemo
 }
 
 // A function's body, from the first free label on.
-fn body_of(alloc: Global, functions: u32, of: &Routine, l: u32) -> Result<Done, NoMemory>
+fn body_of(alloc: Global, functions: u32, of: &Routine, l: u32) -> Result<Emitted, NoMemory>
     ensures { IfOk result (λ r. done r ≡ programs.body_of functions (routine of.now) l) }
 {
     let locals = count_of(of.locals.as_slice().len())?;

@@ -12,28 +12,28 @@ use crate::flow::{
 };
 use crate::item::Item;
 use crate::mention::mentions;
-use crate::part::{Done, Frame, after, nothing, put};
+use crate::part::{Emitted, Frame, after, nothing, put};
 use crate::tree::Tree;
 use c_program::{Action, Declaration};
 use c_types::Expression;
 use gg_base::NoMemory;
 
 // A condition that falls through where it holds, and else goes to a label.
-fn unless(frame: Frame, c: &Expression, to: u32, l: u32) -> Result<Done, NoMemory>
+fn unless(frame: Frame, c: &Expression, to: u32, l: u32) -> Result<Emitted, NoMemory>
     ensures { IfOk result (λ r. done r ≡ statements.unless frame.locals frame.functions (term c.now) to l) }
 {
     branch(frame, c, false, to, frame.locals, l)
 }
 
 // A condition that goes to a label where it holds.
-fn when(frame: Frame, c: &Expression, to: u32, l: u32) -> Result<Done, NoMemory>
+fn when(frame: Frame, c: &Expression, to: u32, l: u32) -> Result<Emitted, NoMemory>
     ensures { IfOk result (λ r. done r ≡ statements.when frame.locals frame.functions (term c.now) to l) }
 {
     branch(frame, c, true, to, frame.locals, l)
 }
 
 // What is evaluated for its effect, if there is something.
-fn effect(frame: Frame, e: &Option<Expression>, l: u32) -> Result<Done, NoMemory>
+fn effect(frame: Frame, e: &Option<Expression>, l: u32) -> Result<Emitted, NoMemory>
     ensures { IfOk result (λ r. done r ≡ statements.effect frame.locals frame.functions (maybe_term e.now) l) }
 {
     match e {
@@ -43,14 +43,14 @@ fn effect(frame: Frame, e: &Option<Expression>, l: u32) -> Result<Done, NoMemory
 }
 
 // A `return`.
-fn returning(frame: Frame, e: &Option<Expression>, l: u32) -> Result<Done, NoMemory>
+fn returning(frame: Frame, e: &Option<Expression>, l: u32) -> Result<Emitted, NoMemory>
     ensures { IfOk result (λ r. done r ≡ statements.returning frame.locals frame.functions (maybe_term e.now) l) }
 {
     match e {
         None => {
             let mut items = Vec::new(frame.alloc);
             put(&mut items, Item::Return(Tree::Number(0)))?;
-            Ok(Done {
+            Ok(Emitted {
                 items,
                 temps: frame.locals,
                 labels: l,
@@ -61,7 +61,7 @@ fn returning(frame: Frame, e: &Option<Expression>, l: u32) -> Result<Done, NoMem
 }
 
 // One declaration.
-fn one_declared(frame: Frame, d: &Declaration, l: u32) -> Result<Done, NoMemory>
+fn one_declared(frame: Frame, d: &Declaration, l: u32) -> Result<Emitted, NoMemory>
     ensures { IfOk result (λ r. done r ≡ one_declared frame.locals frame.functions (declaration d.now) l) }
 {
     match d {
@@ -69,7 +69,7 @@ fn one_declared(frame: Frame, d: &Declaration, l: u32) -> Result<Done, NoMemory>
         Declaration::Clear(n) => {
             let mut items = Vec::new(frame.alloc);
             put(&mut items, Item::AssignLocal(*n, Tree::Number(0)))?;
-            Ok(Done {
+            Ok(Emitted {
                 items,
                 temps: frame.locals,
                 labels: l,
@@ -86,7 +86,7 @@ fn one_declared(frame: Frame, d: &Declaration, l: u32) -> Result<Done, NoMemory>
 
 // Declarations, in order.
 #[tactic(auto, using(crate::proofs::Rows::declare_begins, crate::proofs::Rows::declare_goes, crate::proofs::Rows::nothing_behind))]
-fn declare(frame: Frame, ds: &[Declaration], l: u32) -> Result<Done, NoMemory>
+fn declare(frame: Frame, ds: &[Declaration], l: u32) -> Result<Emitted, NoMemory>
     ensures { IfOk result (λ r. done r ≡ statements.declare frame.locals frame.functions (map declaration ds.now) l) }
 {
     let mut whole = nothing(frame.alloc, frame.locals, l);
@@ -105,7 +105,7 @@ fn for_of(
     c: &Option<Expression>,
     e: &Option<Expression>,
     body: &Action,
-) -> Result<Done, NoMemory>
+) -> Result<Emitted, NoMemory>
     ensures { IfOk result (λ r. done r ≡ statements.for_of frame.locals frame.functions l (maybe_term c.now) (maybe_term e.now) (statements.lower frame.locals frame.functions (act body.now) (suc (suc l)) (suc l))) }
 {
     let onward = after(l)?;
@@ -128,7 +128,7 @@ fn for_of(
 
 // A `while`.
 #[cycle(statement)]
-fn while_of(frame: Frame, body: &Action, c: &Expression, l: u32) -> Result<Done, NoMemory>
+fn while_of(frame: Frame, body: &Action, c: &Expression, l: u32) -> Result<Emitted, NoMemory>
     ensures { IfOk result (λ r. done r ≡ statements.lower frame.locals frame.functions (WhileOf (term c.now) (act body.now)) 0 0 l) }
 {
     let end = after(l)?;
@@ -139,7 +139,7 @@ fn while_of(frame: Frame, body: &Action, c: &Expression, l: u32) -> Result<Done,
 
 // A `do`.
 #[cycle(statement)]
-fn do_of(frame: Frame, body: &Action, c: &Expression, l: u32) -> Result<Done, NoMemory>
+fn do_of(frame: Frame, body: &Action, c: &Expression, l: u32) -> Result<Emitted, NoMemory>
     ensures { IfOk result (λ r. done r ≡ statements.lower frame.locals frame.functions (DoOf (act body.now) (term c.now)) 0 0 l) }
 {
     let onward = after(l)?;
@@ -158,7 +158,7 @@ fn if_of(
     broken: u32,
     onward: u32,
     l: u32,
-) -> Result<Done, NoMemory>
+) -> Result<Emitted, NoMemory>
     ensures { IfOk result (λ r. done r ≡ statements.lower frame.locals frame.functions (IfOf (term c.now) (act a.now)) broken onward l) }
 {
     let p = unless(frame, c, l, after(l)?)?;
@@ -174,7 +174,7 @@ pub(crate) fn statement(
     broken: u32,
     onward: u32,
     l: u32,
-) -> Result<Done, NoMemory>
+) -> Result<Emitted, NoMemory>
     ensures { IfOk result (λ r. done r ≡ statements.lower frame.locals frame.functions (act a.now) broken onward l) }
 {
     match a {
@@ -209,7 +209,7 @@ pub(crate) fn row(
     broken: u32,
     onward: u32,
     l: u32,
-) -> Result<Done, NoMemory>
+) -> Result<Emitted, NoMemory>
     ensures { IfOk result (λ r. done r ≡ statements.lower_row frame.locals frame.functions (acts all.now) broken onward l) }
 {
     let mut whole = nothing(frame.alloc, frame.locals, l);

@@ -14,7 +14,7 @@ use Rattle.c_meaning.specs.declared.store.Spot.TheVariants.{Local, Parameter, Me
 use Rattle.c_meaning.specs.State.{State}
 use Rattle.c_meaning.specs.Meaning.{Rest, RestAt, read_at, store_at}
 use Rattle.c_lower_scheme.specs.Trees.{Tree, Loc, Arg, Indir, Item, AssignLoc, divides, reads, breaks, stable, is_leaf}
-use Rattle.c_lower_scheme.specs.Expressions.{held, must, ready_so, must_hold, assign_ready, stays, must_keep, update_so, update_ready, postfix_so, postfix, Low, Where, InLoc, InArg, InMem, Found, Ready, is_nil, saving, saved, next_if, integer_of, read_from, assign_to}
+use Rattle.c_lower_scheme.specs.Expressions.{held, must, ready_so, must_hold, assign_ready, stays, must_keep, update_so, update_ready, postfix_so, postfix, Lowered, Where, InLoc, InArg, InMem, Located, Assignable, is_nil, saving, saved, next_if, integer_of, read_from, assign_to}
 use Rattle.c_lower_follows.proofs.Values.{SmallTree}
 use Rattle.c_lower_follows.proofs.Leads.{Leads}
 use Rattle.c_lower_follows.proofs.Steps.{Desk, on, Resolves, resolves_back}
@@ -30,13 +30,13 @@ module _ (program : TreeProgram) (code : List TreeItem) (callers : List Activati
   abbrev pub gone : List Item → Desk → Runs
   gone is d = go program code callers size count scope level within is d
 
-  abbrev pub DoesLow : Low → ℕ → (Rest → State → Runs) → Type 0
+  abbrev pub DoesLow : Lowered → ℕ → (Rest → State → Runs) → Type 0
   DoesLow p t m = DoesIt program code callers size count scope level within p t m
 
-  abbrev pub DoesFound : Found → ℕ → (RestAt → State → Runs) → Type 0
+  abbrev pub DoesFound : Located → ℕ → (RestAt → State → Runs) → Type 0
   DoesFound p t m = IsPlace program code callers size count scope level within p t m
 
-  abbrev pub DoesRest : Ready → ℕ → ((CType → Spot → Rest) → State → Runs) → Type 0
+  abbrev pub DoesRest : Assignable → ℕ → ((CType → Spot → Rest) → State → Runs) → Type 0
   DoesRest r t m = IsReady program code callers size count scope level within r t m
 
   abbrev pub onward : (k : ℕ) (a b is : List Item) (d : Desk) (r : Runs) → Leads k r (gone (a ++ (b ++ is)) d) → Leads k r (gone ((a ++ b) ++ is) d)
@@ -64,7 +64,7 @@ module _ (program : TreeProgram) (code : List TreeItem) (callers : List Activati
   must_not (i ∷ is) a b e = inr (not-false (stable size a) e)
 
   -- a place and the value that is assigned to it
-  ready_by : (b : Bool) (a : Tree) (is0 : List Item) (ty : CType) (u l t : ℕ) (q : Low) (m : RestAt → State → Runs) (n : Rest → State → Runs) → size ≤ t → (b ≡ false → (q.items ≡ []) ⊎ (stable size a ≡ true))
+  ready_by : (b : Bool) (a : Tree) (is0 : List Item) (ty : CType) (u l t : ℕ) (q : Lowered) (m : RestAt → State → Runs) (n : Rest → State → Runs) → size ≤ t → (b ≡ false → (q.items ≡ []) ⊎ (stable size a ≡ true))
       → DoesFound (record { items = is0; type = ty; place = InMem a; temps = u; labels = l }) t m → DoesLow q u n → DoesRest (ready_so b (record { items = is0; type = ty; place = InMem a; temps = u; labels = l }) q) t (λ κ. m (λ ty s. n (λ v. κ ty s v)))
   ready_by true a is0 ty u l t q m n sz rest does does' = record {
     grows = omega (arith, does.grows, does'.grows);
@@ -90,7 +90,7 @@ module _ (program : TreeProgram) (code : List TreeItem) (callers : List Activati
         (λ st2 d2 ag2 s2. h st2 d2 ag2 (since_both program code callers size count scope level within t u q.temps is0 q.items st st1 st2 d d1 d2 does.grows does'.grows s1 s2))));
   }
 
-  plain_ready : (s : Where) (f : Spot) (is0 : List Item) (ty : CType) (u l t : ℕ) (q : Low) (m : RestAt → State → Runs) (n : Rest → State → Runs) → ((d : Desk) (g : Spot → Runs) → place_on program s d g ≡ g f) → ((v w : ℕ) → v ≤ w → FitsPlace program code callers size count scope level v s → FitsPlace program code callers size count scope level w s)
+  plain_ready : (s : Where) (f : Spot) (is0 : List Item) (ty : CType) (u l t : ℕ) (q : Lowered) (m : RestAt → State → Runs) (n : Rest → State → Runs) → ((d : Desk) (g : Spot → Runs) → place_on program s d g ≡ g f) → ((v w : ℕ) → v ≤ w → FitsPlace program code callers size count scope level v s → FitsPlace program code callers size count scope level w s)
       → DoesFound (record { items = is0; type = ty; place = s; temps = u; labels = l }) t m → DoesLow q u n → DoesRest (record { items = is0 ++ q.items; type = ty; place = s; value = q.tree; temps = q.temps; labels = q.labels }) t (λ κ. m (λ ty s. n (λ v. κ ty s v)))
   plain_ready s f is0 ty u l t q m n spot more does does' = record {
     grows = omega (arith, does.grows, does'.grows);
@@ -105,7 +105,7 @@ module _ (program : TreeProgram) (code : List TreeItem) (callers : List Activati
         (λ st2 d2 ag2 s2. subst (λ r. Leads k r (gone is d2)) (spot d2 (λ s. on (value program q.tree d2) (λ v. κ ty s v st2))) (h st2 d2 ag2 (since_both program code callers size count scope level within t u q.temps is0 q.items st st1 st2 d d1 d2 does.grows does'.grows s1 s2))))));
   }
 
-  assign_by : (between : Bool) (s : Where) (is0 : List Item) (ty : CType) (u l t : ℕ) (q : Low) (m : RestAt → State → Runs) (n : Rest → State → Runs) → size ≤ t
+  assign_by : (between : Bool) (s : Where) (is0 : List Item) (ty : CType) (u l t : ℕ) (q : Lowered) (m : RestAt → State → Runs) (n : Rest → State → Runs) → size ≤ t
       → DoesFound (record { items = is0; type = ty; place = s; temps = u; labels = l }) t m → DoesLow q u n → DoesRest (ready_so (must_hold size count between q.items q.tree s) (record { items = is0; type = ty; place = s; temps = u; labels = l }) q) t (λ κ. m (λ ty s. n (λ v. κ ty s v)))
   assign_by between (InLoc x) is0 ty u l t q m n sz does does' = plain_ready (InLoc x) (Local x) is0 ty u l t q m n (λ d g. refl) (λ v w le h. h) does does'
   assign_by between (InArg x) is0 ty u l t q m n sz does does' = plain_ready (InArg x) (Parameter x) is0 ty u l t q m n (λ d g. refl) (λ v w le h. h) does does'
@@ -113,7 +113,7 @@ module _ (program : TreeProgram) (code : List TreeItem) (callers : List Activati
       ready_by (must_hold size count between q.items q.tree (InMem a)) a is0 ty u l t q m n sz
       (λ e. must_not q.items a q.tree (or_parts (must size count q.items a q.tree) (between && breaks a) e).0) does does'
 
-  pub assign_does : (between : Bool) (p : Found) (q : Low) (t : ℕ) (m : RestAt → State → Runs) (n : Rest → State → Runs) → size ≤ t → DoesFound p t m → DoesLow q p.temps n → DoesRest (assign_ready size count between p q) t (λ κ. m (λ ty s. n (λ v. κ ty s v)))
+  pub assign_does : (between : Bool) (p : Located) (q : Lowered) (t : ℕ) (m : RestAt → State → Runs) (n : Rest → State → Runs) → size ≤ t → DoesFound p t m → DoesLow q p.temps n → DoesRest (assign_ready size count between p q) t (λ κ. m (λ ty s. n (λ v. κ ty s v)))
   assign_does between p q t m n sz does does' = assign_by between p.place p.items p.type p.temps p.labels t q m n sz does does'
 
   pure_so : (b : Bool) (u : ℕ) (a : Tree) → (b ≡ false → divides a ≡ false) → divides (saved b u a) ≡ false
@@ -126,7 +126,7 @@ module _ (program : TreeProgram) (code : List TreeItem) (callers : List Activati
   assign_pure_by is w u (InArg n) = tt
   assign_pure_by is w u (InMem a) = pure_so (must_hold size count true is w (InMem a)) u a (λ e. (or_parts (divides a) (reads a) (or_parts (must size count is a w) (true && breaks a) e).1).0)
 
-  pub assign_pure : (p : Found) (q : Low) → PurePlace (assign_ready size count true p q).place
+  pub assign_pure : (p : Located) (q : Lowered) → PurePlace (assign_ready size count true p q).place
   assign_pure p q = assign_pure_by q.items q.tree q.temps p.place
 
   abbrev StaysAt : Where → Desk → Desk → Type 0
@@ -146,7 +146,7 @@ module _ (program : TreeProgram) (code : List TreeItem) (callers : List Activati
   MakesIt f g = Makes program code callers size count scope level within f g
 
   -- a place is read, and then the other side comes to a value
-  change : (c : Bool) (s : Where) (ty : CType) (f : Tree → Tree → Tree) (g : ℕ → ℕ → Rest → State → Runs) (t0 u : ℕ) (q : Low) (n : Rest → State → Runs) (k : ℕ) → k ≤ level → (is : List Item) (κ : CType → Spot → Rest) (st : State) (d : Desk) → (c ≡ false → q.items ≡ []) → size ≤ t0 → q.temps ≤ u → PurePlace s → SmallPlace s → FitsPlace program code callers size count scope level u s → MakesIt f g → DoesLow q t0 n → Resolves code ((saving c u (read_from ty s) ++ q.items) ++ is) → agreed st d
+  change : (c : Bool) (s : Where) (ty : CType) (f : Tree → Tree → Tree) (g : ℕ → ℕ → Rest → State → Runs) (t0 u : ℕ) (q : Lowered) (n : Rest → State → Runs) (k : ℕ) → k ≤ level → (is : List Item) (κ : CType → Spot → Rest) (st : State) (d : Desk) → (c ≡ false → q.items ≡ []) → size ≤ t0 → q.temps ≤ u → PurePlace s → SmallPlace s → FitsPlace program code callers size count scope level u s → MakesIt f g → DoesLow q t0 n → Resolves code ((saving c u (read_from ty s) ++ q.items) ++ is) → agreed st d
       → ((st' : State) (d' : Desk) → Held size t0 q.temps u (saving c u (read_from ty s) ++ q.items) st d st' d' → StaysAt s d d')
       → ((st' : State) (d' : Desk) → agreed st' d' → Held size t0 q.temps u (saving c u (read_from ty s) ++ q.items) st d st' d' → Leads k (place_on program s d' (λ s'. on (value program (f (saved c u (read_from ty s)) q.tree) d') (λ v. κ ty s' v st'))) (gone is d'))
       → Leads k (place_on program s d (λ s'. read_at ty s' (λ x. n (λ y. g x y (κ ty s'))) st)) (gone ((saving c u (read_from ty s) ++ q.items) ++ is) d)
@@ -194,7 +194,7 @@ module _ (program : TreeProgram) (code : List TreeItem) (callers : List Activati
   next_le false u = omega arith
 
   -- a place that stands as it is
-  change_plain : (c : Bool) (s : Where) (is0 : List Item) (ty : CType) (p l t : ℕ) (f : Tree → Tree → Tree) (g : CType → ℕ → ℕ → Rest → State → Runs) (q : Low) (m : RestAt → State → Runs) (n : CType → Rest → State → Runs) → (c ≡ false → q.items ≡ []) → size ≤ t → PurePlace s → MakesIt f (g ty) → ((u v : ℕ) → u ≤ v → FitsPlace program code callers size count scope level u s → FitsPlace program code callers size count scope level v s)
+  change_plain : (c : Bool) (s : Where) (is0 : List Item) (ty : CType) (p l t : ℕ) (f : Tree → Tree → Tree) (g : CType → ℕ → ℕ → Rest → State → Runs) (q : Lowered) (m : RestAt → State → Runs) (n : CType → Rest → State → Runs) → (c ≡ false → q.items ≡ []) → size ≤ t → PurePlace s → MakesIt f (g ty) → ((u v : ℕ) → u ≤ v → FitsPlace program code callers size count scope level u s → FitsPlace program code callers size count scope level v s)
       → ((st : State) (d : Desk) (st' : State) (d' : Desk) → FitsPlace program code callers size count scope level p s → Held size p q.temps q.temps (saving c q.temps (read_from ty s) ++ q.items) st d st' d' → StaysAt s d d')
       → DoesFound (record { items = is0; type = ty; place = s; temps = p; labels = l }) t m → DoesLow q p (n ty)
       → DoesRest (record { items = is0 ++ (saving c q.temps (read_from ty s) ++ q.items); type = ty; place = s; value = f (saved c q.temps (read_from ty s)) q.tree; temps = next_if c q.temps; labels = q.labels }) t (λ κ. m (λ ty s. read_at ty s (λ x. n ty (λ y. g ty x y (κ ty s)))))
@@ -215,7 +215,7 @@ module _ (program : TreeProgram) (code : List TreeItem) (callers : List Activati
       }
 
   -- a place whose address is saved first
-  change_saved : (c : Bool) (a : Tree) (is0 : List Item) (ty : CType) (p l t : ℕ) (f : Tree → Tree → Tree) (g : CType → ℕ → ℕ → Rest → State → Runs) (q : Low) (m : RestAt → State → Runs) (n : CType → Rest → State → Runs) → (c ≡ false → q.items ≡ []) → size ≤ t → MakesIt f (g ty)
+  change_saved : (c : Bool) (a : Tree) (is0 : List Item) (ty : CType) (p l t : ℕ) (f : Tree → Tree → Tree) (g : CType → ℕ → ℕ → Rest → State → Runs) (q : Lowered) (m : RestAt → State → Runs) (n : CType → Rest → State → Runs) → (c ≡ false → q.items ≡ []) → size ≤ t → MakesIt f (g ty)
       → DoesFound (record { items = is0; type = ty; place = InMem a; temps = p; labels = l }) t m → DoesLow q p (n ty)
       → DoesRest (update_so true c f (record { items = is0; type = ty; place = InMem a; temps = p; labels = l }) q) t (λ κ. m (λ ty s. read_at ty s (λ x. n ty (λ y. g ty x y (κ ty s)))))
   change_saved c a is0 ty p l t f g q m n none sz made does does' =
@@ -256,7 +256,7 @@ module _ (program : TreeProgram) (code : List TreeItem) (callers : List Activati
   stays_same [] a p v u ty st d st' d' e below s le = ap (value program a) (s.same refl).1
   stays_same (i ∷ is) a p v u ty st d st' d' e below s le = value_stable program size p a d d' (and_parts (is_leaf a) (stable size a) e).1 below (λ j szj lt. s.keeps j szj (inl lt) (λ e. omega arith))
 
-  update_mem : (b : Bool) (a : Tree) (is0 : List Item) (ty : CType) (p l t : ℕ) (f : Tree → Tree → Tree) (g : CType → ℕ → ℕ → Rest → State → Runs) (q : Low) (m : RestAt → State → Runs) (n : CType → Rest → State → Runs) → not (stays size count q.items a) ≡ b → size ≤ t → MakesIt f (g ty)
+  update_mem : (b : Bool) (a : Tree) (is0 : List Item) (ty : CType) (p l t : ℕ) (f : Tree → Tree → Tree) (g : CType → ℕ → ℕ → Rest → State → Runs) (q : Lowered) (m : RestAt → State → Runs) (n : CType → Rest → State → Runs) → not (stays size count q.items a) ≡ b → size ≤ t → MakesIt f (g ty)
       → DoesFound (record { items = is0; type = ty; place = InMem a; temps = p; labels = l }) t m → DoesLow q p (n ty)
       → DoesRest (update_so b (not (is_nil q.items)) f (record { items = is0; type = ty; place = InMem a; temps = p; labels = l }) q) t (λ κ. m (λ ty s. read_at ty s (λ x. n ty (λ y. g ty x y (κ ty s)))))
   update_mem true a is0 ty p l t f g q m n e sz made does does' = change_saved (not (is_nil q.items)) a is0 ty p l t f g q m n (not_nil_false q.items) sz made does does'
@@ -265,14 +265,14 @@ module _ (program : TreeProgram) (code : List TreeItem) (callers : List Activati
       change_plain (not (is_nil q.items)) (InMem a) is0 ty p l t f g q m n (not_nil_false q.items) sz (is_leaf_pure a (stays_leaf q.items a stay)) made (λ u v le h. below_more u v a le h)
       (λ st d st' d' fit s. stays_same q.items a p q.temps q.temps ty st d st' d' stay fit s does'.grows) does does'
 
-  update_place : (s : Where) (is0 : List Item) (ty : CType) (p l t : ℕ) (f : Tree → Tree → Tree) (g : CType → ℕ → ℕ → Rest → State → Runs) (q : Low) (m : RestAt → State → Runs) (n : CType → Rest → State → Runs) → size ≤ t → MakesIt f (g ty)
+  update_place : (s : Where) (is0 : List Item) (ty : CType) (p l t : ℕ) (f : Tree → Tree → Tree) (g : CType → ℕ → ℕ → Rest → State → Runs) (q : Lowered) (m : RestAt → State → Runs) (n : CType → Rest → State → Runs) → size ≤ t → MakesIt f (g ty)
       → DoesFound (record { items = is0; type = ty; place = s; temps = p; labels = l }) t m → DoesLow q p (n ty)
       → DoesRest (update_ready size count f (record { items = is0; type = ty; place = s; temps = p; labels = l }) q) t (λ κ. m (λ ty s. read_at ty s (λ x. n ty (λ y. g ty x y (κ ty s)))))
   update_place (InLoc x) is0 ty p l t f g q m n sz made does does' = change_plain (not (is_nil q.items)) (InLoc x) is0 ty p l t f g q m n (not_nil_false q.items) sz tt made (λ u v le h. h) (λ st d st' d' fit s. tt) does does'
   update_place (InArg x) is0 ty p l t f g q m n sz made does does' = change_plain (not (is_nil q.items)) (InArg x) is0 ty p l t f g q m n (not_nil_false q.items) sz tt made (λ u v le h. h) (λ st d st' d' fit s. tt) does does'
   update_place (InMem a) is0 ty p l t f g q m n sz made does does' = update_mem (not (stays size count q.items a)) a is0 ty p l t f g q m n refl sz made does does'
 
-  pub update_does : (f : Tree → Tree → Tree) (g : CType → ℕ → ℕ → Rest → State → Runs) (p : Found) (q : Low) (t : ℕ) (m : RestAt → State → Runs) (n : CType → Rest → State → Runs) → size ≤ t → MakesIt f (g p.type) → DoesFound p t m → DoesLow q p.temps (n p.type) → DoesRest (update_ready size count f p q) t (λ κ. m (λ ty s. read_at ty s (λ x. n ty (λ y. g ty x y (κ ty s)))))
+  pub update_does : (f : Tree → Tree → Tree) (g : CType → ℕ → ℕ → Rest → State → Runs) (p : Located) (q : Lowered) (t : ℕ) (m : RestAt → State → Runs) (n : CType → Rest → State → Runs) → size ≤ t → MakesIt f (g p.type) → DoesFound p t m → DoesLow q p.temps (n p.type) → DoesRest (update_ready size count f p q) t (λ κ. m (λ ty s. read_at ty s (λ x. n ty (λ y. g ty x y (κ ty s)))))
   update_does f g p q t m n sz made does does' = update_place p.place p.items p.type p.temps p.labels t f g q m n sz made does does'
 
   update_pure_by : (is : List Item) (u : ℕ) (s : Where) → PurePlace (held (must_keep size count is s) u s)
@@ -280,7 +280,7 @@ module _ (program : TreeProgram) (code : List TreeItem) (callers : List Activati
   update_pure_by is u (InArg n) = tt
   update_pure_by is u (InMem a) = pure_so (not (stays size count is a)) u a (λ e. is_leaf_pure a (stays_leaf is a (not-false (stays size count is a) e)))
 
-  pub update_pure : (f : Tree → Tree → Tree) (p : Found) (q : Low) → PurePlace (update_ready size count f p q).place
+  pub update_pure : (f : Tree → Tree → Tree) (p : Located) (q : Lowered) → PurePlace (update_ready size count f p q).place
   update_pure f p q = update_pure_by q.items q.temps p.place
 
   abbrev pub MapsIt : (Tree → Tree) → (ℕ → ℕ) → Type 0
@@ -388,5 +388,5 @@ module _ (program : TreeProgram) (code : List TreeItem) (callers : List Activati
   post_by (InArg n) is0 ty u l t f g m sz made does = post_plain (InArg n) is0 ty u l t f g m sz tt made does
   post_by (InMem a) is0 ty u l t f g m sz made does = post_mem (not (is_leaf a)) a is0 ty u l t f g m refl sz made does
 
-  pub post_does : (p : Found) (t : ℕ) (f : Tree → Tree) (g : CType → ℕ → ℕ) (m : RestAt → State → Runs) → size ≤ t → MapsIt f (g p.type) → DoesFound p t m → DoesLow (postfix size count f p) t (λ κ. m (λ ty s. read_at ty s (λ x. store_at ty s (g ty x) (λ y. κ x))))
+  pub post_does : (p : Located) (t : ℕ) (f : Tree → Tree) (g : CType → ℕ → ℕ) (m : RestAt → State → Runs) → size ≤ t → MapsIt f (g p.type) → DoesFound p t m → DoesLow (postfix size count f p) t (λ κ. m (λ ty s. read_at ty s (λ x. store_at ty s (g ty x) (λ y. κ x))))
   post_does p t f g m sz made does = post_by p.place p.items p.type p.temps p.labels t f g m sz made does

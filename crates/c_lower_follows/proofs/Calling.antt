@@ -14,7 +14,7 @@ use Rattle.c_meaning.specs.State.{State}
 use Rattle.c_meaning.specs.Meaning.{RestAll, Behind, Next, Body, Rest}
 use Rattle.c_lower_scheme.specs.Trees.{Push, Call, Save, Tree, Loc, Item, AssignLoc, divides, reads, breaks, stable}
 use Rattle.c_lower_scheme.specs.Spelling.{spelled_all}
-use Rattle.c_lower_scheme.specs.Expressions.{Passing, pushes, args_count, called_drop, called_low, must_pass_by, must_pass, pass_on, pass_so, no_arguments, callee_number, stays, Low, is_nil}
+use Rattle.c_lower_scheme.specs.Expressions.{Passing, pushes, args_count, called_drop, called_low, must_pass_by, must_pass, pass_on, pass_so, no_arguments, callee_number, stays, Lowered, is_nil}
 use Rattle.c_sound.specs.Fits.{AreBytes}
 use Rattle.c_lower_follows.proofs.Values.{SmallTree, Ranged, Small, worth_small}
 use Rattle.c_lower_follows.proofs.Leads.{Leads, leads_deep, leads_none, leads_below, leads_counted, leads_quiet, leads_emit}
@@ -93,7 +93,7 @@ module _ (program : TreeProgram) (code : List TreeItem) (callers : List Activati
   abbrev pub run : List Item → Desk → Runs
   run is d = gone program code callers size count scope level within is d
 
-  abbrev pub DoesOne : Low → ℕ → (Rest → State → Runs) → Type 0
+  abbrev pub DoesOne : Lowered → ℕ → (Rest → State → Runs) → Type 0
   DoesOne p t m = DoesLow program code callers size count scope level within p t m
 
   -- what the items of arguments leave
@@ -115,7 +115,7 @@ module _ (program : TreeProgram) (code : List TreeItem) (callers : List Activati
   none_does t l = record { grows = omega arith; below = tt; small = tt; pure = tt; none = λ e. refl; runs = λ k le is κ res st d ag h. h st d ag (record { keeps = λ j sz o. refl; same = λ e. (refl, refl); still = λ e. (refl, record { locals = λ j lt. refl; arguments = refl; area = refl }) }) }
 
   -- one more argument, whose tree waits: what its value is behind the others
-  passing_by : (p : Low) (q : Passing) (n : RestAll → State → Runs) (k : ℕ) → k ≤ level → (is : List Item) (κ : RestAll) (st1 : State) (d1 : Desk) (o : Value) → DoesAll q p.temps n → (value program p.tree d1 ≡ ZeroDivisor → Leads k (stop ends.Trapped) (run (q.items ++ is) d1)) → Resolves code (q.items ++ is) → value program p.tree d1 ≡ o → well st1 d1
+  passing_by : (p : Lowered) (q : Passing) (n : RestAll → State → Runs) (k : ℕ) → k ≤ level → (is : List Item) (κ : RestAll) (st1 : State) (d1 : Desk) (o : Value) → DoesAll q p.temps n → (value program p.tree d1 ≡ ZeroDivisor → Leads k (stop ends.Trapped) (run (q.items ++ is) d1)) → Resolves code (q.items ++ is) → value program p.tree d1 ≡ o → well st1 d1
       → ((v : ℕ) (st2 : State) (d2 : Desk) → value program p.tree d1 ≡ Number v → well st2 d2 → SinceAll p.temps q.temps q.quiet q.items st1 d1 st2 d2 → Leads k (on_all program q.trees d2 (λ vs. κ (v ∷ vs) st2)) (run is d2)) → Leads k (on o (λ x. n (λ xs. κ (x ∷ xs)) st1)) (run (q.items ++ is) d1)
   passing_by p q n k le is κ st1 d1 (Number v) does' trap res e ag h = does'.runs k le is (λ xs. κ (v ∷ xs)) res st1 d1 ag (λ st2 d2 ag2 s2. h v st2 d2 e ag2 s2)
   passing_by p q n k le is κ st1 d1 ZeroDivisor does' trap res e ag h = trap e
@@ -135,7 +135,7 @@ module _ (program : TreeProgram) (code : List TreeItem) (callers : List Activati
       nil_of [] e = refl
       nil_of (i ∷ is) e = absurd (cc)
 
-  pass_saved : (p : Low) (q : Passing) (t : ℕ) (m : Rest → State → Runs) (n : RestAll → State → Runs) → size ≤ t → DoesOne p t m → DoesAll q p.temps n → DoesAll (pass_so true p q) t (λ κ. m (λ x. n (λ xs. κ (x ∷ xs))))
+  pass_saved : (p : Lowered) (q : Passing) (t : ℕ) (m : Rest → State → Runs) (n : RestAll → State → Runs) → size ≤ t → DoesOne p t m → DoesAll q p.temps n → DoesAll (pass_so true p q) t (λ κ. m (λ x. n (λ xs. κ (x ∷ xs))))
   pass_saved p q t m n sz does does' = record {
     grows = omega (arith, does.grows, does'.grows);
     below = (omega arith, below_all_more q.temps (suc q.temps) q.trees (omega arith) does'.below);
@@ -166,7 +166,7 @@ module _ (program : TreeProgram) (code : List TreeItem) (callers : List Activati
         }))))));
   }
 
-  pass_waits : (p : Low) (q : Passing) (t : ℕ) (m : Rest → State → Runs) (n : RestAll → State → Runs) → ((divides p.tree ≡ false) ⊎ (q.trees ≡ [])) → ((st1 : State) (d1 : Desk) (st2 : State) (d2 : Desk) → SinceAll p.temps q.temps q.quiet q.items st1 d1 st2 d2 → value program p.tree d2 ≡ value program p.tree d1) → DoesOne p t m → DoesAll q p.temps n → DoesAll (pass_so false p q) t (λ κ. m (λ x. n (λ xs. κ (x ∷ xs))))
+  pass_waits : (p : Lowered) (q : Passing) (t : ℕ) (m : Rest → State → Runs) (n : RestAll → State → Runs) → ((divides p.tree ≡ false) ⊎ (q.trees ≡ [])) → ((st1 : State) (d1 : Desk) (st2 : State) (d2 : Desk) → SinceAll p.temps q.temps q.quiet q.items st1 d1 st2 d2 → value program p.tree d2 ≡ value program p.tree d1) → DoesOne p t m → DoesAll q p.temps n → DoesAll (pass_so false p q) t (λ κ. m (λ x. n (λ xs. κ (x ∷ xs))))
   pass_waits p q t m n traps stays does does' = record {
     grows = omega (arith, does.grows, does'.grows);
     below = (below_more p.temps q.temps p.tree does'.grows does.below, does'.below);
@@ -191,7 +191,7 @@ module _ (program : TreeProgram) (code : List TreeItem) (callers : List Activati
   ways w quiet [] e = inl refl
   ways w quiet (v ∷ vs) e = inr (⊎_elim (λ s. inl s) (λ h. let parts = and_parts quiet (not (breaks w)) h in inr (parts.0, not-true (breaks w) parts.1)) (or_cases (stable size w) (quiet && not (breaks w)) (not-false (stable size w || (quiet && not (breaks w))) e)))
 
-  pass_by : (b : Bool) (p : Low) (q : Passing) (t : ℕ) (m : Rest → State → Runs) (n : RestAll → State → Runs) → must_pass_by size count p.tree q.quiet q.trees ≡ b → size ≤ t → DoesOne p t m → DoesAll q p.temps n → DoesAll (pass_so b p q) t (λ κ. m (λ x. n (λ xs. κ (x ∷ xs))))
+  pass_by : (b : Bool) (p : Lowered) (q : Passing) (t : ℕ) (m : Rest → State → Runs) (n : RestAll → State → Runs) → must_pass_by size count p.tree q.quiet q.trees ≡ b → size ≤ t → DoesOne p t m → DoesAll q p.temps n → DoesAll (pass_so b p q) t (λ κ. m (λ x. n (λ xs. κ (x ∷ xs))))
   pass_by true p q t m n e sz does does' = pass_saved p q t m n sz does does'
   pass_by false p q t m n e sz does does' =
       ⊎_elim
@@ -202,7 +202,7 @@ module _ (program : TreeProgram) (code : List TreeItem) (callers : List Activati
       o)
       (ways p.tree q.quiet q.trees e)
 
-  pub pass_does : (p : Low) (q : Passing) (t : ℕ) (m : Rest → State → Runs) (n : RestAll → State → Runs) → size ≤ t → DoesOne p t m → DoesAll q p.temps n → DoesAll (pass_on size count p q) t (λ κ. m (λ x. n (λ xs. κ (x ∷ xs))))
+  pub pass_does : (p : Lowered) (q : Passing) (t : ℕ) (m : Rest → State → Runs) (n : RestAll → State → Runs) → size ≤ t → DoesOne p t m → DoesAll q p.temps n → DoesAll (pass_on size count p q) t (λ κ. m (λ x. n (λ xs. κ (x ∷ xs))))
   pass_does p q t m n sz does does' = pass_by (must_pass size count p.tree q) p q t m n refl sz does does'
 
   first_push : (w x : Tree) (ws : List Tree) (k : ℕ) (is : List Item) (κ : List ℕ → Runs) (d : Desk) → SmallTree w → divides w ≡ false → Ranged (desk_sight d) → ((vs : List ℕ) → length vs ≡ args_count (w ∷ x ∷ ws) → AllSmall vs → Leads k (κ vs) (run is (record d { pushed = vs ++ d.pushed }))) → (o : Value) → value program w d ≡ o

@@ -11,7 +11,7 @@ use Rattle.c_meaning.specs.State.{State}
 use Rattle.c_meaning.specs.Meaning.{Rest, chosen}
 use Rattle.c_lower_scheme.specs.Trees.{Jump, Num, Item, Label, AssignLoc, Cbr}
 use Rattle.c_lower_scheme.specs.Spelling.{spelled_all}
-use Rattle.c_lower_scheme.specs.Expressions.{with_done, then_done, truth_of, compare, conditional, chain, chain_drop, drop_two, choose_low, choose_drop, choose, comma, sensed, opposite, relation, Low, Two, Done, Way, joined}
+use Rattle.c_lower_scheme.specs.Expressions.{with_done, then_done, truth_of, compare, conditional, chain, chain_drop, drop_two, choose_low, choose_drop, choose, comma, sensed, opposite, relation, Lowered, Pair, Emitted, Lowering, joined}
 use Rattle.c_lower_follows.proofs.Leads.{Leads, leads_quiet}
 use Rattle.c_lower_follows.proofs.Steps.{label_step, label_counts, jump_step, Desk, Resolves, resolves_back, at_items, moves, cbr_step}
 use Rattle.c_lower_follows.proofs.Agreeing.{Since, set_same, set_other, not_nil, back_nil}
@@ -92,16 +92,16 @@ module _ (program : TreeProgram) (code : List TreeItem) (callers : List Activati
   abbrev going : List Item → Desk → Runs
   going is d = here program code callers size count scope level is d
 
-  abbrev AsksIt : Done → Bool → ℕ → ℕ → (Rest → State → Runs) → Type 0
+  abbrev AsksIt : Emitted → Bool → ℕ → ℕ → (Rest → State → Runs) → Type 0
   AsksIt p sense to t m = Asks program code callers size count scope level p sense to t m
 
-  abbrev DropsIt : Done → ℕ → (Rest → State → Runs) → Type 0
+  abbrev DropsIt : Emitted → ℕ → (Rest → State → Runs) → Type 0
   DropsIt p t m = Drops program code callers size count scope level p t m
 
-  abbrev LowIt : Low → ℕ → (Rest → State → Runs) → Type 0
+  abbrev LowIt : Lowered → ℕ → (Rest → State → Runs) → Type 0
   LowIt p t m = Does program code callers size count scope level p t m
 
-  abbrev WayIt : Way → (Rest → State → Runs) → Type 0
+  abbrev WayIt : Lowering → (Rest → State → Runs) → Type 0
   WayIt w m = DoesWay program code callers size count scope level w m
 
   abbrev bind_up : (k : ℕ) (a b is : List Item) (d : Desk) (r : Runs) → Leads k r (going (a ++ (b ++ is)) d) → Leads k r (going ((a ++ b) ++ is) d)
@@ -111,7 +111,7 @@ module _ (program : TreeProgram) (code : List TreeItem) (callers : List Activati
   take_down a b is h = split program code callers size count scope level a b is h
 
   -- the value of a condition
-  truth_does : (t l : ℕ) (b : Done) (m : Rest → State → Runs) → size ≤ t → ((κ : Rest) (st : State) → m κ st ≡ m (λ v st. chosen v (κ 1 st) (κ 0 st)) st) → AsksIt b false l (suc t) m → LowIt (truth_of t l b) t m
+  truth_does : (t l : ℕ) (b : Emitted) (m : Rest → State → Runs) → size ≤ t → ((κ : Rest) (st : State) → m κ st ≡ m (λ v st. chosen v (κ 1 st) (κ 0 st)) st) → AsksIt b false l (suc t) m → LowIt (truth_of t l b) t m
   truth_does t l b m sz logic asks = record {
     grows = omega (arith, asks.grows);
     below = omega (arith, asks.grows);
@@ -139,7 +139,7 @@ module _ (program : TreeProgram) (code : List TreeItem) (callers : List Activati
         (h st1 d2 ag2 (since 0 st1 d2 (λ j szj o. set_other d1.locals t w j (λ e. ⊎_elim (λ lt. omega arith) (λ ge. omega (arith, asks.grows)) o) ∙ outside st1 d1 s1 j szj o))))))))));
   }
 
-  pub conditional_does : (f : Bool → ℕ → ℕ → ℕ → Done) (g : ℕ → ℕ → Done) (m : Rest → State → Runs) → ((κ : Rest) (st : State) → m κ st ≡ m (λ v st. chosen v (κ 1 st) (κ 0 st)) st) → ((sense : Bool) (to t l : ℕ) → size ≤ t → AsksIt (f sense to t l) sense to t m) → ((t l : ℕ) → size ≤ t → DropsIt (g t l) t m) → WayIt (conditional f g) m
+  pub conditional_does : (f : Bool → ℕ → ℕ → ℕ → Emitted) (g : ℕ → ℕ → Emitted) (m : Rest → State → Runs) → ((κ : Rest) (st : State) → m κ st ≡ m (λ v st. chosen v (κ 1 st) (κ 0 st)) st) → ((sense : Bool) (to t l : ℕ) → size ≤ t → AsksIt (f sense to t l) sense to t m) → ((t l : ℕ) → size ≤ t → DropsIt (g t l) t m) → WayIt (conditional f g) m
   conditional_does f g m logic asks drops = record {
     low = λ t l sz. truth_does t l (f false l (suc t) (suc l)) m sz logic (asks false l (suc t) (suc l) (omega arith));
     branch = asks;
@@ -147,7 +147,7 @@ module _ (program : TreeProgram) (code : List TreeItem) (callers : List Activati
   }
 
   -- two effects in turn
-  pub then_drops : (p q : Done) (t : ℕ) (m n : Rest → State → Runs) → DropsIt p t m → DropsIt q p.temps n → DropsIt (then_done p q) t (λ κ. m (λ x. n κ))
+  pub then_drops : (p q : Emitted) (t : ℕ) (m n : Rest → State → Runs) → DropsIt p t m → DropsIt q p.temps n → DropsIt (then_done p q) t (λ κ. m (λ x. n κ))
   then_drops p q t m n drops drops' = record {
     grows = omega (arith, drops.grows, drops'.grows);
     runs = λ k le is κ res st d ag h.
@@ -163,7 +163,7 @@ module _ (program : TreeProgram) (code : List TreeItem) (callers : List Activati
   compare_by false r x y true met unmet e = truth_unmet (holds r x y) met unmet (not-true (holds r x y) (sym (opposite_holds r x y) ∙ e))
   compare_by false r x y false met unmet e = truth_met (holds r x y) met unmet (not-false (holds r x y) (sym (opposite_holds r x y) ∙ e))
 
-  relation_asks : (sense : Bool) (r : Rel) (to : ℕ) (p : Two) (t : ℕ) (m : (ℕ → Rest) → State → Runs) → DoesTwo program code callers size count scope level p t m → AsksIt (compare (sensed sense r) to p) sense to t (λ κ. m (λ x y. κ (truth (holds r x y))))
+  relation_asks : (sense : Bool) (r : Rel) (to : ℕ) (p : Pair) (t : ℕ) (m : (ℕ → Rest) → State → Runs) → DoesTwo program code callers size count scope level p t m → AsksIt (compare (sensed sense r) to p) sense to t (λ κ. m (λ x y. κ (truth (holds r x y))))
   relation_asks sense r to p t m does = record {
     grows = does.grows;
     runs = λ k le is met unmet res st d ag taken falls.
@@ -185,7 +185,7 @@ module _ (program : TreeProgram) (code : List TreeItem) (callers : List Activati
       pick_false true a b met unmet st e f = f
       pick_false false a b met unmet st e f = e
 
-  pub relation_does : (r : Rel) (a b : Way) (m n : Rest → State → Runs) → WayIt a m → WayIt b n → WayIt (relation size count r a b) (λ κ. m (λ x. n (λ y. κ (truth (holds r x y)))))
+  pub relation_does : (r : Rel) (a b : Lowering) (m n : Rest → State → Runs) → WayIt a m → WayIt b n → WayIt (relation size count r a b) (λ κ. m (λ x. n (λ y. κ (truth (holds r x y)))))
   relation_does r a b m n does does' =
       conditional_does (λ sense to t l. compare (sensed sense r) to (joined size count a b t l)) (drop_two a b) (λ κ. m (λ x. n (λ y. κ (truth (holds r x y)))))
       (λ κ st j. m (λ x. n (λ y st. chosen_truth (holds r x y) κ st j)) st)
@@ -198,14 +198,14 @@ module _ (program : TreeProgram) (code : List TreeItem) (callers : List Activati
       record { grows = both.grows; runs = λ k le is κ res st d ag h. both.runs k le is κ res st d ag h })
 
   -- the truth of `!e`
-  pub not_does : (e : Way) (m : Rest → State → Runs) → WayIt e m → WayIt (conditional (λ sense to t l. e.branch (not sense) to t l) e.drop) (λ κ. m (λ v. κ (apply_unary unaries.Not v)))
+  pub not_does : (e : Lowering) (m : Rest → State → Runs) → WayIt e m → WayIt (conditional (λ sense to t l. e.branch (not sense) to t l) e.drop) (λ κ. m (λ v. κ (apply_unary unaries.Not v)))
   not_does e m does =
       conditional_does (λ sense to t l. e.branch (not sense) to t l) e.drop (λ κ. m (λ v. κ (apply_unary unaries.Not v)))
       (λ κ st j. m (λ v st. not_value v κ st j) st)
       (λ sense to t l sz. not_asks sense to (e.branch (not sense) to t l) t (does.branch (not sense) to t l sz))
       (λ t l sz. let drops = does.drop t l sz in record { grows = drops.grows; runs = λ k le is κ res st d ag h. drops.runs k le is κ res st d ag h })
     where
-      not_asks : (sense : Bool) (to : ℕ) (p : Done) (t : ℕ) → AsksIt p (not sense) to t m → AsksIt p sense to t (λ κ. m (λ v. κ (apply_unary unaries.Not v)))
+      not_asks : (sense : Bool) (to : ℕ) (p : Emitted) (t : ℕ) → AsksIt p (not sense) to t m → AsksIt p sense to t (λ κ. m (λ v. κ (apply_unary unaries.Not v)))
       not_asks true to p t asks = record {
         grows = asks.grows;
         runs = λ k le is met unmet res st d ag taken falls. subst (λ κ. Leads k (m κ st) (going (p.items ++ is) d)) (λ j v st. sym (not_zero v (met st) (unmet st)) j) (asks.runs k le is unmet met res st d ag taken falls);
@@ -231,7 +231,7 @@ module _ (program : TreeProgram) (code : List TreeItem) (callers : List Activati
   then_asks_low k l is d r h = label_counts program code callers k l is d r h
 
   -- both sides go to the label
-  chain_direct : (stop : Bool) (to : ℕ) (p q : Done) (t : ℕ) (m n : Rest → State → Runs) → AsksIt p stop to t m → AsksIt q stop to p.temps n → AsksIt (then_done p q) stop to t (Chained stop m n)
+  chain_direct : (stop : Bool) (to : ℕ) (p q : Emitted) (t : ℕ) (m n : Rest → State → Runs) → AsksIt p stop to t m → AsksIt q stop to p.temps n → AsksIt (then_done p q) stop to t (Chained stop m n)
   chain_direct true to p q t m n asks asks' = record {
     grows = omega (arith, asks.grows, asks'.grows);
     runs = λ k le is met unmet res st d ag taken falls.
@@ -257,7 +257,7 @@ module _ (program : TreeProgram) (code : List TreeItem) (callers : List Activati
         (λ st2 d2 ag2 s2. falls st2 d2 ag2 (since_both program code callers size count scope level within t p.temps q.temps p.items q.items st st1 st2 d d1 d2 asks.grows asks'.grows s1 s2))))));
   }
 
-  chain_inner_true : (to l : ℕ) (p q : Done) (t : ℕ) (m n : Rest → State → Runs) → AsksIt p true l t m → AsksIt q false to p.temps n → AsksIt (record { items = p.items ++ (q.items ++ (Label l ∷ [])); temps = q.temps; labels = q.labels }) false to t (Chained true m n)
+  chain_inner_true : (to l : ℕ) (p q : Emitted) (t : ℕ) (m n : Rest → State → Runs) → AsksIt p true l t m → AsksIt q false to p.temps n → AsksIt (record { items = p.items ++ (q.items ++ (Label l ∷ [])); temps = q.temps; labels = q.labels }) false to t (Chained true m n)
   chain_inner_true to l p q t m n asks asks' = record {
     grows = omega (arith, asks.grows, asks'.grows);
     runs = λ k le is met unmet res st d ag taken falls.
@@ -275,7 +275,7 @@ module _ (program : TreeProgram) (code : List TreeItem) (callers : List Activati
         (λ st2 d2 ag2 s2. then_asks_low k l is d2 _ (falls st2 d2 ag2 (whole st1 d1 st2 d2 s1 s2))))))));
   }
 
-  chain_inner_false : (to l : ℕ) (p q : Done) (t : ℕ) (m n : Rest → State → Runs) → AsksIt p false l t m → AsksIt q true to p.temps n → AsksIt (record { items = p.items ++ (q.items ++ (Label l ∷ [])); temps = q.temps; labels = q.labels }) true to t (Chained false m n)
+  chain_inner_false : (to l : ℕ) (p q : Emitted) (t : ℕ) (m n : Rest → State → Runs) → AsksIt p false l t m → AsksIt q true to p.temps n → AsksIt (record { items = p.items ++ (q.items ++ (Label l ∷ [])); temps = q.temps; labels = q.labels }) true to t (Chained false m n)
   chain_inner_false to l p q t m n asks asks' = record {
     grows = omega (arith, asks.grows, asks'.grows);
     runs = λ k le is met unmet res st d ag taken falls.
@@ -293,7 +293,7 @@ module _ (program : TreeProgram) (code : List TreeItem) (callers : List Activati
         (λ st2 d2 ag2 s2. then_asks_low k l is d2 _ (falls st2 d2 ag2 (whole st1 d1 st2 d2 s1 s2))))))));
   }
 
-  chain_asks : (stop sense : Bool) (a b : Way) (to t l : ℕ) (m n : Rest → State → Runs) → size ≤ t → WayIt a m → WayIt b n → AsksIt (chain stop a b sense to t l) sense to t (Chained stop m n)
+  chain_asks : (stop sense : Bool) (a b : Lowering) (to t l : ℕ) (m n : Rest → State → Runs) → size ≤ t → WayIt a m → WayIt b n → AsksIt (chain stop a b sense to t l) sense to t (Chained stop m n)
   chain_asks true true a b to t l m n sz does does' =
       let p = a.branch true to t (suc l) in
       let first = does.branch true to t (suc l) sz in
@@ -316,7 +316,7 @@ module _ (program : TreeProgram) (code : List TreeItem) (callers : List Activati
   chain_logic false m n κ st = λ j. m (λ x st. chosen x (n (λ y st. (logical_value y κ st ∙ sym (logical_chosen y (κ 1 st) (κ 0 st))) j) st) (κ 0 st)) st
 
   -- the left side, and the right one where it is needed
-  chain_drops_by : (stop : Bool) (l : ℕ) (p q : Done) (t : ℕ) (m n : Rest → State → Runs) → AsksIt p stop l t m → DropsIt q p.temps n → DropsIt (record { items = p.items ++ (q.items ++ (Label l ∷ [])); temps = q.temps; labels = q.labels }) t (Chained stop m n)
+  chain_drops_by : (stop : Bool) (l : ℕ) (p q : Emitted) (t : ℕ) (m n : Rest → State → Runs) → AsksIt p stop l t m → DropsIt q p.temps n → DropsIt (record { items = p.items ++ (q.items ++ (Label l ∷ [])); temps = q.temps; labels = q.labels }) t (Chained stop m n)
   chain_drops_by stop l p q t m n asks drops = record {
     grows = omega (arith, asks.grows, drops.grows);
     runs = λ k le is κ res st d ag h.
@@ -337,7 +337,7 @@ module _ (program : TreeProgram) (code : List TreeItem) (callers : List Activati
       sides true asks k le is κ res st d ag out into = asks.runs k le ((q.items ++ (Label l ∷ [])) ++ is) κ (n (λ y. κ)) res st d ag out into
       sides false asks k le is κ res st d ag out into = asks.runs k le ((q.items ++ (Label l ∷ [])) ++ is) (n (λ y. κ)) κ res st d ag out into
 
-  pub chain_does : (stop : Bool) (a b : Way) (m n : Rest → State → Runs) → WayIt a m → WayIt b n → WayIt (conditional (chain stop a b) (chain_drop a stop b)) (Chained stop m n)
+  pub chain_does : (stop : Bool) (a b : Lowering) (m n : Rest → State → Runs) → WayIt a m → WayIt b n → WayIt (conditional (chain stop a b) (chain_drop a stop b)) (Chained stop m n)
   chain_does stop a b m n does does' =
       conditional_does (chain stop a b) (chain_drop a stop b) (Chained stop m n) (chain_logic stop m n)
       (λ sense to t l sz. chain_asks stop sense a b to t l m n sz does does')
@@ -350,7 +350,7 @@ module _ (program : TreeProgram) (code : List TreeItem) (callers : List Activati
   abbrev pub Chosen : (Rest → State → Runs) → (Rest → State → Runs) → (Rest → State → Runs) → Rest → State → Runs
   Chosen m n o κ = m (λ x st. chosen x (n κ st) (o κ st))
 
-  choose_low_does : (t l : ℕ) (p : Done) (q r : Low) (m n o : Rest → State → Runs) → size ≤ t → AsksIt p false l (suc t) m → LowIt q p.temps n → LowIt r q.temps o → LowIt (choose_low t l p q r) t (Chosen m n o)
+  choose_low_does : (t l : ℕ) (p : Emitted) (q r : Lowered) (m n o : Rest → State → Runs) → size ≤ t → AsksIt p false l (suc t) m → LowIt q p.temps n → LowIt r q.temps o → LowIt (choose_low t l p q r) t (Chosen m n o)
   choose_low_does t l p q r m n o sz asks does does' = record {
     grows = omega (arith, asks.grows, does.grows, does'.grows);
     below = omega (arith, asks.grows, does.grows, does'.grows);
@@ -385,7 +385,7 @@ module _ (program : TreeProgram) (code : List TreeItem) (callers : List Activati
         (h st2 d3 ag3 (since d3 st2 (λ j szj o. set_other d2.locals t v j (λ e. ⊎_elim (λ lt. omega arith) (λ ge. omega (arith, asks.grows, does.grows, does'.grows)) o) ∙ s2.keeps j szj (⊎_elim (λ lt. inl (omega (arith, asks.grows))) (λ ge. inr (omega (arith, does'.grows))) o) ∙ s1.keeps j szj (⊎_elim (λ lt. inl (omega arith)) (λ ge. inr (omega (arith, does.grows, does'.grows))) o))))))))))));
   }
 
-  choose_drop_does : (t l : ℕ) (p q r : Done) (m n o : Rest → State → Runs) → AsksIt p false l t m → DropsIt q p.temps n → DropsIt r q.temps o → DropsIt (choose_drop l p q r) t (Chosen m n o)
+  choose_drop_does : (t l : ℕ) (p q r : Emitted) (m n o : Rest → State → Runs) → AsksIt p false l t m → DropsIt q p.temps n → DropsIt r q.temps o → DropsIt (choose_drop l p q r) t (Chosen m n o)
   choose_drop_does t l p q r m n o asks drops drops' = record {
     grows = omega (arith, asks.grows, drops.grows, drops'.grows);
     runs = λ k le is κ res st d ag h.
@@ -410,7 +410,7 @@ module _ (program : TreeProgram) (code : List TreeItem) (callers : List Activati
         (h st2 d2 ag2 (since d2 st2 (λ j szj o. s2.keeps j szj (⊎_elim (λ lt. inl (omega (arith, asks.grows))) (λ ge. inr (omega (arith, drops'.grows))) o) ∙ s1.keeps j szj (⊎_elim (λ lt. inl lt) (λ ge. inr (omega (arith, drops.grows, drops'.grows))) o))))))))));
   }
 
-  pub choose_does : (c a b : Way) (m n o : Rest → State → Runs) → WayIt c m → WayIt a n → WayIt b o → WayIt (choose c a b) (Chosen m n o)
+  pub choose_does : (c a b : Lowering) (m n o : Rest → State → Runs) → WayIt c m → WayIt a n → WayIt b o → WayIt (choose c a b) (Chosen m n o)
   choose_does c a b m n o first second third = effective_does program code callers size count scope level within _ _ (Chosen m n o)
       (λ t l sz.
       let p = c.branch false l (suc t) (suc (suc l)) in
@@ -425,7 +425,7 @@ module _ (program : TreeProgram) (code : List TreeItem) (callers : List Activati
       let g = second.drop p.temps p.labels (omega (arith, f.grows)) in
       choose_drop_does t l p q (b.drop q.temps q.labels) m n o f g (third.drop q.temps q.labels (omega (arith, f.grows, g.grows))))
 
-  comma_low : (p : Done) (q : Low) (t : ℕ) (m n : Rest → State → Runs) → DropsIt p t m → LowIt q p.temps n → LowIt (with_done p q) t (λ κ. m (λ x. n κ))
+  comma_low : (p : Emitted) (q : Lowered) (t : ℕ) (m n : Rest → State → Runs) → DropsIt p t m → LowIt q p.temps n → LowIt (with_done p q) t (λ κ. m (λ x. n κ))
   comma_low p q t m n drops does = record {
     grows = omega (arith, drops.grows, does.grows);
     below = does.below;
@@ -437,7 +437,7 @@ module _ (program : TreeProgram) (code : List TreeItem) (callers : List Activati
         (λ st2 d2 ag2 s2. h st2 d2 ag2 (since_both program code callers size count scope level within t p.temps q.temps p.items q.items st st1 st2 d d1 d2 drops.grows does.grows s1 s2))));
   }
 
-  comma_asks : (p q : Done) (sense : Bool) (to t : ℕ) (m n : Rest → State → Runs) → DropsIt p t m → AsksIt q sense to p.temps n → AsksIt (then_done p q) sense to t (λ κ. m (λ x. n κ))
+  comma_asks : (p q : Emitted) (sense : Bool) (to t : ℕ) (m n : Rest → State → Runs) → DropsIt p t m → AsksIt q sense to p.temps n → AsksIt (then_done p q) sense to t (λ κ. m (λ x. n κ))
   comma_asks p q sense to t m n drops asks = record {
     grows = omega (arith, drops.grows, asks.grows);
     runs = λ k le is met unmet res st d ag taken falls.
@@ -448,7 +448,7 @@ module _ (program : TreeProgram) (code : List TreeItem) (callers : List Activati
         (λ st2 d2 ag2 s2. falls st2 d2 ag2 (since_both program code callers size count scope level within t p.temps q.temps p.items q.items st st1 st2 d d1 d2 drops.grows asks.grows s1 s2))));
   }
 
-  pub comma_does : (a b : Way) (m n : Rest → State → Runs) → WayIt a m → WayIt b n → WayIt (comma a b) (λ κ. m (λ x. n κ))
+  pub comma_does : (a b : Lowering) (m n : Rest → State → Runs) → WayIt a m → WayIt b n → WayIt (comma a b) (λ κ. m (λ x. n κ))
   comma_does a b m n does does' = record {
     low = λ t l sz. let f = does.drop t l sz in let p = a.drop t l in comma_low p (b.low p.temps p.labels) t m n f (does'.low p.temps p.labels (omega (arith, f.grows)));
     branch = λ sense to t l sz. let f = does.drop t l sz in let p = a.drop t l in comma_asks p (b.branch sense to p.temps p.labels) sense to t m n f (does'.branch sense to p.temps p.labels (omega (arith, f.grows)));

@@ -15,7 +15,7 @@ use Rattle.c_meaning.specs.State.{State}
 use Rattle.c_meaning.specs.Meaning.{Rest, chosen}
 use Rattle.c_lower_scheme.specs.Trees.{Tree, Num, Item, AssignLoc, Cbr, divides, reads, breaks, stable}
 use Rattle.c_lower_scheme.specs.Spelling.{spelled, spelled_all}
-use Rattle.c_lower_scheme.specs.Expressions.{Low, Two, Done, Way, due, saving, next_if, must, join_so, join, valued, effective, mapped, test, over, over_two, binary, joined}
+use Rattle.c_lower_scheme.specs.Expressions.{Lowered, Pair, Emitted, Lowering, due, saving, next_if, must, join_so, join, valued, effective, mapped, test, over, over_two, binary, joined}
 use Rattle.c_lower_follows.proofs.Values.{SmallTree, Small, worth_small}
 use Rattle.c_lower_follows.proofs.Leads.{Leads, leads_wild}
 use Rattle.c_lower_follows.proofs.Steps.{Desk, desk_sight, on, Resolves, resolves_back, at, at_items, state, moves, lost, silent, assign_loc_step, cbr_step}
@@ -47,13 +47,13 @@ module _ (program : TreeProgram) (code : List TreeItem) (callers : List Activati
   abbrev pub Onto : (k t u : ℕ) (items is : List Item) (st : State) (d : Desk) (r : State → Desk → Runs) → Type 0
   Onto k t u items is st d r = (st' : State) (d' : Desk) → Agrees st' d' → Since size t u items st d st' d' → Leads k (r st' d') (here is d')
 
-  pub record Does (p : Low) (t : ℕ) (m : Rest → State → Runs) : Type 0 where
+  pub record Does (p : Lowered) (t : ℕ) (m : Rest → State → Runs) : Type 0 where
     pub grows : t ≤ p.temps
     pub below : Below p.temps p.tree
     pub small : SmallTree p.tree
     pub runs : (k : ℕ) → k ≤ level → (is : List Item) (κ : Rest) → Resolves code (p.items ++ is) → (st : State) (d : Desk) → Agrees st d → Onto k t p.temps p.items is st d (λ st' d'. on (value program p.tree d') (λ v. κ v st')) → Leads k (m κ st) (here (p.items ++ is) d)
 
-  pub record DoesTwo (p : Two) (t : ℕ) (m : (ℕ → Rest) → State → Runs) : Type 0 where
+  pub record DoesTwo (p : Pair) (t : ℕ) (m : (ℕ → Rest) → State → Runs) : Type 0 where
     pub grows : t ≤ p.temps
     pub below_first : Below p.temps p.first
     pub below_second : Below p.temps p.second
@@ -62,7 +62,7 @@ module _ (program : TreeProgram) (code : List TreeItem) (callers : List Activati
     pub runs : (k : ℕ) → k ≤ level → (is : List Item) (κ : ℕ → Rest) → Resolves code (p.items ++ is) → (st : State) (d : Desk) → Agrees st d → Onto k t p.temps p.items is st d (λ st' d'. on (value program p.first d') (λ x. on (value program p.second d') (λ y. κ x y st'))) → Leads k (m κ st) (here (p.items ++ is) d)
 
   -- for the effect alone
-  pub record Drops (p : Done) (t : ℕ) (m : Rest → State → Runs) : Type 0 where
+  pub record Drops (p : Emitted) (t : ℕ) (m : Rest → State → Runs) : Type 0 where
     pub grows : t ≤ p.temps
     pub runs : (k : ℕ) → k ≤ level → (is : List Item) (κ : State → Runs) → Resolves code (p.items ++ is) → (st : State) (d : Desk) → Agrees st d → Onto k t p.temps p.items is st d (λ st' d'. κ st') → Leads k (m (λ v. κ) st) (here (p.items ++ is) d)
 
@@ -70,14 +70,14 @@ module _ (program : TreeProgram) (code : List TreeItem) (callers : List Activati
   abbrev pub Out : (k t u : ℕ) (items : List Item) (st : State) (d : Desk) (r : State → Runs) (place : List TreeItem) → Type 0
   Out k t u items st d r place = (st' : State) (d' : Desk) → Agrees st' d' → Since size t u items st d st' d' → Leads k (r st') (counted (at_items program code callers place d'))
 
-  pub record Asks (p : Done) (sense : Bool) (to t : ℕ) (m : Rest → State → Runs) : Type 0 where
+  pub record Asks (p : Emitted) (sense : Bool) (to t : ℕ) (m : Rest → State → Runs) : Type 0 where
     pub grows : t ≤ p.temps
     pub runs : (k : ℕ) → k ≤ level → (is : List Item) (met unmet : State → Runs) → Resolves code (p.items ++ is) → (st : State) (d : Desk) → Agrees st d
         → Out k t p.temps p.items st d (either_way sense met unmet) (behind code to)
         → Out k t p.temps p.items st d (either_way sense unmet met) (spelled_all is)
         → Leads k (m (λ v st. chosen v (met st) (unmet st)) st) (here (p.items ++ is) d)
 
-  pub record DoesWay (w : Way) (m : Rest → State → Runs) : Type 0 where
+  pub record DoesWay (w : Lowering) (m : Rest → State → Runs) : Type 0 where
     pub low : (t l : ℕ) → size ≤ t → Does (w.low t l) t m
     pub branch : (sense : Bool) (to t l : ℕ) → size ≤ t → Asks (w.branch sense to t l) sense to t m
     pub drop : (t l : ℕ) → size ≤ t → Drops (w.drop t l) t m
@@ -108,7 +108,7 @@ module _ (program : TreeProgram) (code : List TreeItem) (callers : List Activati
         let lt : v < 2 ^ 32 = subst Small e (worth_small program.objects (desk_sight d) ag.ranged w small) in
         h v lt e (agree_temp size scope (length callers) within n v st d sz lt ag))
 
-    two_saved : (p q : Low) (t : ℕ) (m n : Rest → State → Runs) → size ≤ t → Does p t m → Does q p.temps n → DoesTwo (join_so size count true p q) t (λ κ. m (λ x. n (κ x)))
+    two_saved : (p q : Lowered) (t : ℕ) (m n : Rest → State → Runs) → size ≤ t → Does p t m → Does q p.temps n → DoesTwo (join_so size count true p q) t (λ κ. m (λ x. n (κ x)))
     two_saved p q t m n sz does does' = record {
       grows = omega (arith, does.grows, does'.grows);
       below_first = omega arith;
@@ -128,7 +128,7 @@ module _ (program : TreeProgram) (code : List TreeItem) (callers : List Activati
     }
 
     -- two parts, where the first waits for the second
-    pub waits_by : (p q : Low) (n : Rest → State → Runs) (k : ℕ) → k ≤ level → (is : List Item) (κ : ℕ → Rest) (st1 : State) (d1 : Desk) (o : Value) → Does q p.temps n → (value program p.tree d1 ≡ ZeroDivisor → Leads k (stop ends.Trapped) (here (q.items ++ is) d1)) → Resolves code (q.items ++ is) → value program p.tree d1 ≡ o → Agrees st1 d1
+    pub waits_by : (p q : Lowered) (n : Rest → State → Runs) (k : ℕ) → k ≤ level → (is : List Item) (κ : ℕ → Rest) (st1 : State) (d1 : Desk) (o : Value) → Does q p.temps n → (value program p.tree d1 ≡ ZeroDivisor → Leads k (stop ends.Trapped) (here (q.items ++ is) d1)) → Resolves code (q.items ++ is) → value program p.tree d1 ≡ o → Agrees st1 d1
         → ((v : ℕ) (st2 : State) (d2 : Desk) → value program p.tree d1 ≡ Number v → Agrees st2 d2 → Since size p.temps q.temps q.items st1 d1 st2 d2 → Leads k (on (value program q.tree d2) (λ y. κ v y st2)) (here is d2)) → Leads k (on o (λ x. n (κ x) st1)) (here (q.items ++ is) d1)
     waits_by p q n k le is κ st1 d1 (Number v) does' trap res e ag h = does'.runs k le is (κ v) res st1 d1 ag (λ st2 d2 ag2 s2. h v st2 d2 e ag2 s2)
     waits_by p q n k le is κ st1 d1 ZeroDivisor does' trap res e ag h = trap e
@@ -140,7 +140,7 @@ module _ (program : TreeProgram) (code : List TreeItem) (callers : List Activati
       same = λ e. let h = s.same (front_nil a b e) in let g = s'.same (back_nil a b e) in (g.0 ∙ h.0, g.1 ∙ h.1);
     }
 
-    two_stable : (p q : Low) (t : ℕ) (m n : Rest → State → Runs) → stable size p.tree ≡ true → Does p t m → Does q p.temps n → DoesTwo (join_so size count false p q) t (λ κ. m (λ x. n (κ x)))
+    two_stable : (p q : Lowered) (t : ℕ) (m n : Rest → State → Runs) → stable size p.tree ≡ true → Does p t m → Does q p.temps n → DoesTwo (join_so size count false p q) t (λ κ. m (λ x. n (κ x)))
     two_stable p q t m n stays does does' = record {
       grows = omega (arith, does.grows, does'.grows);
       below_first = below_more p.temps q.temps p.tree does'.grows does.below;
@@ -156,7 +156,7 @@ module _ (program : TreeProgram) (code : List TreeItem) (callers : List Activati
           subst (λ o. Leads k (on o (λ x. on (value program q.tree d2) (λ y. κ x y st2))) (here is d2)) kept (h st2 d2 ag2 (since_both t p.temps q.temps p.items q.items st st1 st2 d d1 d2 does.grows does'.grows s1 s2)))));
     }
 
-    two_quiet : (p q : Low) (t : ℕ) (m n : Rest → State → Runs) → q.items ≡ [] → Does p t m → Does q p.temps n → DoesTwo (join_so size count false p q) t (λ κ. m (λ x. n (κ x)))
+    two_quiet : (p q : Lowered) (t : ℕ) (m n : Rest → State → Runs) → q.items ≡ [] → Does p t m → Does q p.temps n → DoesTwo (join_so size count false p q) t (λ κ. m (λ x. n (κ x)))
     two_quiet p q t m n none does does' = record {
       grows = omega (arith, does.grows, does'.grows);
       below_first = below_more p.temps q.temps p.tree does'.grows does.below;
@@ -181,11 +181,11 @@ module _ (program : TreeProgram) (code : List TreeItem) (callers : List Activati
     must_not [] a b e = inl refl
     must_not (i ∷ is) a b e = inr (not-false (stable size a) e)
 
-    two_by : (p q : Low) (t : ℕ) (m n : Rest → State → Runs) (b : Bool) → must size count q.items p.tree q.tree ≡ b → size ≤ t → Does p t m → Does q p.temps n → DoesTwo (join_so size count b p q) t (λ κ. m (λ x. n (κ x)))
+    two_by : (p q : Lowered) (t : ℕ) (m n : Rest → State → Runs) (b : Bool) → must size count q.items p.tree q.tree ≡ b → size ≤ t → Does p t m → Does q p.temps n → DoesTwo (join_so size count b p q) t (λ κ. m (λ x. n (κ x)))
     two_by p q t m n true e sz does does' = two_saved p q t m n sz does does'
     two_by p q t m n false e sz does does' = ⊎_elim (λ none. two_quiet p q t m n none does does') (λ stays. two_stable p q t m n stays does does') (must_not q.items p.tree q.tree e)
 
-    pub two_does : (p q : Low) (t : ℕ) (m n : Rest → State → Runs) → size ≤ t → Does p t m → Does q p.temps n → DoesTwo (join size count p q) t (λ κ. m (λ x. n (κ x)))
+    pub two_does : (p q : Lowered) (t : ℕ) (m n : Rest → State → Runs) → size ≤ t → Does p t m → Does q p.temps n → DoesTwo (join size count p q) t (λ κ. m (λ x. n (κ x)))
     two_does p q t m n sz does does' = two_by p q t m n (must size count q.items p.tree q.tree) refl sz does does'
 
     pub since_more : (t u v : ℕ) (is js : List Item) (st : State) (d : Desk) (st' : State) (d' : Desk) → u ≤ v → Since size t u is st d st' d' → Since size t v (is ++ js) st d st' d'
@@ -207,7 +207,7 @@ module _ (program : TreeProgram) (code : List TreeItem) (callers : List Activati
     some_chosen (suc x) y r q e h = refl
     some_chosen zero y r q e h = absurd (let z : 0 ≡ y = cc in eqb-false 0 y h z)
 
-    test_asks : (sense : Bool) (to : ℕ) (p : Low) (t : ℕ) (m : Rest → State → Runs) → Does p t m → Asks (test sense to p) sense to t m
+    test_asks : (sense : Bool) (to : ℕ) (p : Lowered) (t : ℕ) (m : Rest → State → Runs) → Does p t m → Asks (test sense to p) sense to t m
     test_asks true to p t m does = record {
       grows = does.grows;
       runs = λ k le is met unmet res st d ag taken falls.
@@ -233,7 +233,7 @@ module _ (program : TreeProgram) (code : List TreeItem) (callers : List Activati
     unused k ZeroDivisor r q n s h = absurd (n refl)
     unused k Wild r q n s h = leads_wild k q s
 
-    dropped_by : (p : Low) (t : ℕ) (m : Rest → State → Runs) (b : Bool) → breaks p.tree ≡ b → size ≤ t → Does p t m → Drops (record { items = p.items ++ saving b p.temps p.tree; temps = next_if b p.temps; labels = p.labels }) t m
+    dropped_by : (p : Lowered) (t : ℕ) (m : Rest → State → Runs) (b : Bool) → breaks p.tree ≡ b → size ≤ t → Does p t m → Drops (record { items = p.items ++ saving b p.temps p.tree; temps = next_if b p.temps; labels = p.labels }) t m
     dropped_by p t m true e sz does = record {
       grows = omega (arith, does.grows);
       runs = λ k le is κ res st d ag h.
@@ -249,14 +249,14 @@ module _ (program : TreeProgram) (code : List TreeItem) (callers : List Activati
           (λ st1 d1 ag1 s1. unused k (value program p.tree d1) (κ st1) (here is d1) (value_pure program p.tree d1 (or_parts (divides p.tree) (reads p.tree) e).0) (silent program code callers (arrived (state program code callers (spelled_all is) d1))) (h st1 d1 ag1 (since_more t p.temps p.temps p.items [] st d st1 d1 (omega arith) s1))));
     }
 
-    pub valued_does : (f : ℕ → ℕ → Low) (m : Rest → State → Runs) → ((t l : ℕ) → size ≤ t → Does (f t l) t m) → DoesWay (valued f) m
+    pub valued_does : (f : ℕ → ℕ → Lowered) (m : Rest → State → Runs) → ((t l : ℕ) → size ≤ t → Does (f t l) t m) → DoesWay (valued f) m
     valued_does f m does = record {
       low = does;
       branch = λ sense to t l sz. test_asks sense to (f t l) t m (does t l sz);
       drop = λ t l sz. dropped_by (f t l) t m (breaks (f t l).tree) refl sz (does t l sz);
     }
 
-    pub effective_does : (f : ℕ → ℕ → Low) (g : ℕ → ℕ → Done) (m : Rest → State → Runs) → ((t l : ℕ) → size ≤ t → Does (f t l) t m) → ((t l : ℕ) → size ≤ t → Drops (g t l) t m) → DoesWay (effective f g) m
+    pub effective_does : (f : ℕ → ℕ → Lowered) (g : ℕ → ℕ → Emitted) (m : Rest → State → Runs) → ((t l : ℕ) → size ≤ t → Does (f t l) t m) → ((t l : ℕ) → size ≤ t → Drops (g t l) t m) → DoesWay (effective f g) m
     effective_does f g m does drops = record {
       low = does;
       branch = λ sense to t l sz. test_asks sense to (f t l) t m (does t l sz);
@@ -269,7 +269,7 @@ module _ (program : TreeProgram) (code : List TreeItem) (callers : List Activati
       pub small : (a b : Tree) → SmallTree a → SmallTree b → SmallTree (f a b)
       pub makes : (a b : Tree) (st : State) (d : Desk) (κ : Rest) → SmallTree a → SmallTree b → Agrees st d → on (value program (f a b) d) (λ v. κ v st) ≡ on (value program a d) (λ x. on (value program b d) (λ y. g x y κ st))
 
-    pub over_two_does : (f : Tree → Tree → Tree) (g : ℕ → ℕ → Rest → State → Runs) (p : Two) (t : ℕ) (m : (ℕ → Rest) → State → Runs) → Makes f g → DoesTwo p t m → Does (over_two f p) t (λ κ. m (λ x y. g x y κ))
+    pub over_two_does : (f : Tree → Tree → Tree) (g : ℕ → ℕ → Rest → State → Runs) (p : Pair) (t : ℕ) (m : (ℕ → Rest) → State → Runs) → Makes f g → DoesTwo p t m → Does (over_two f p) t (λ κ. m (λ x y. g x y κ))
     over_two_does f g p t m made does = record {
       grows = does.grows;
       below = made.below p.temps p.first p.second does.below_first does.below_second;
@@ -278,7 +278,7 @@ module _ (program : TreeProgram) (code : List TreeItem) (callers : List Activati
           (λ st1 d1 ag1 s1. subst (λ r. Leads k r (here is d1)) (made.makes p.first p.second st1 d1 κ does.small_first does.small_second ag1) (h st1 d1 ag1 s1));
     }
 
-    pub binary_does : (f : Tree → Tree → Tree) (g : ℕ → ℕ → Rest → State → Runs) (a b : Way) (m n : Rest → State → Runs) → Makes f g → DoesWay a m → DoesWay b n → DoesWay (binary size count f a b) (λ κ. m (λ x. n (λ y. g x y κ)))
+    pub binary_does : (f : Tree → Tree → Tree) (g : ℕ → ℕ → Rest → State → Runs) (a b : Lowering) (m n : Rest → State → Runs) → Makes f g → DoesWay a m → DoesWay b n → DoesWay (binary size count f a b) (λ κ. m (λ x. n (λ y. g x y κ)))
     binary_does f g a b m n made does does' =
         valued_does (λ t l. over_two f (joined size count a b t l)) (λ κ. m (λ x. n (λ y. g x y κ)))
         (λ t l sz.
@@ -291,7 +291,7 @@ module _ (program : TreeProgram) (code : List TreeItem) (callers : List Activati
       pub small : (a : Tree) → SmallTree a → SmallTree (f a)
       pub maps : (a : Tree) (d : Desk) (κ : ℕ → Runs) → on (value program (f a) d) κ ≡ on (value program a d) (λ x. κ (g x))
 
-    pub over_does : (f : Tree → Tree) (g : ℕ → ℕ) (p : Low) (t : ℕ) (m : Rest → State → Runs) → Maps f g → Does p t m → Does (over f p) t (λ κ. m (λ x. κ (g x)))
+    pub over_does : (f : Tree → Tree) (g : ℕ → ℕ) (p : Lowered) (t : ℕ) (m : Rest → State → Runs) → Maps f g → Does p t m → Does (over f p) t (λ κ. m (λ x. κ (g x)))
     over_does f g p t m made does = record {
       grows = does.grows;
       below = made.below p.temps p.tree does.below;
@@ -300,7 +300,7 @@ module _ (program : TreeProgram) (code : List TreeItem) (callers : List Activati
           (λ st1 d1 ag1 s1. subst (λ r. Leads k r (here is d1)) (made.maps p.tree d1 (λ v. κ v st1)) (h st1 d1 ag1 s1));
     }
 
-    pub mapped_does : (f : Tree → Tree) (g : ℕ → ℕ) (e : Way) (m : Rest → State → Runs) → Maps f g → DoesWay e m → DoesWay (mapped f e) (λ κ. m (λ x. κ (g x)))
+    pub mapped_does : (f : Tree → Tree) (g : ℕ → ℕ) (e : Lowering) (m : Rest → State → Runs) → Maps f g → DoesWay e m → DoesWay (mapped f e) (λ κ. m (λ x. κ (g x)))
     mapped_does f g e m made does =
         effective_does (λ t l. over f (e.low t l)) e.drop (λ κ. m (λ x. κ (g x)))
         (λ t l sz. over_does f g (e.low t l) t m made (does.low t l sz))

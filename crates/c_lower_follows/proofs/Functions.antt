@@ -13,7 +13,7 @@ use Rattle.c_meaning.specs.State.{State}
 use Rattle.c_meaning.specs.Meaning.{Behind, Task, Body, Next, task, begun}
 use Rattle.c_lower_scheme.specs.Trees.{Num, Ret}
 use Rattle.c_lower_scheme.specs.Spelling.{spelled_all}
-use Rattle.c_lower_scheme.specs.Expressions.{Done}
+use Rattle.c_lower_scheme.specs.Expressions.{Emitted}
 use Rattle.c_lower_scheme.specs.Programs.{body_of, items_of}
 use Rattle.c_sound.specs.Fits.{AreBytes, FitsActs, no_local}
 use Rattle.c_lower_follows.proofs.Leads.{Leads}
@@ -32,7 +32,7 @@ module _ (program : TreeProgram) (count : ℕ) (p : AProgram) (next : Next) (cou
       → Leads k (next (Body g.body) κ (begun g vs st)) (runs program (arrived (record { running = begun_tree tf vs; callers = cs; area = st.area; input = st.input })))
   body_does level calls k le f g at_f tf own vs small κ cs backed st active area input =
       let size = length g.locals in
-      let q : Done = body_of count g own.label in
+      let q : Emitted = body_of count g own.label in
       let d : Desk = record { locals = λ n. None; arguments = vs; pushed = []; result = 0; area = st.area; input = st.input } in
       let agree : Agree size no_local (length cs) (begun g vs st) d = record {
         local = λ x h. absurd h;

@@ -13,8 +13,8 @@ use Rattle.c_types.specs.declared.typed.Moment.{Moment}
 use Rattle.c_types.specs.declared.typed.Moment.TheVariants as moments
 use Rattle.c_types.specs.declared.typed.Direction.{Direction}
 use Rattle.c_types.specs.Constants.{scale}
-use Rattle.c_types.specs.Typed.{PlaceTerm, VariableAt, PointedBy, ElementBy, Term, Constant, LiteralAt, ArrayAt, ReadOf, SizeofTerm, SizeOf, AddressOf, CallOf, StepOf, UnaryOf, CastTo, ConvertTo, ArithmeticOf, CompareOf, BothOf, EitherOf, AdvanceOf, AdvanceByOf, RetreatOf, DistanceOf, ChoiceOf, AssignTo, ArithmeticAssignTo, AdvanceAssignTo, RetreatAssignTo, CommaOf, Terms, NoTerms, MoreTerms}
-use Rattle.c_program.specs.Statements.{ADeclaration, KeepOf, ClearOf, BeginOf, Act, Acts, NoActs, MoreActs, DeclareOf, BlockOf, EvaluateOf, BreakOf, ContinueOf, ReturnOf, IfOf, IfElseOf, WhileOf, DoOf, ForOf}
+use Rattle.c_types.specs.Typed.{APlace, VariableAt, PointedBy, ElementBy, AnExpression, Constant, LiteralAt, ArrayAt, ReadOf, SizeofTerm, SizeOf, AddressOf, CallOf, StepOf, UnaryOf, CastTo, ConvertTo, ArithmeticOf, CompareOf, BothOf, EitherOf, AdvanceOf, AdvanceByOf, RetreatOf, DistanceOf, ChoiceOf, AssignTo, ArithmeticAssignTo, AdvanceAssignTo, RetreatAssignTo, CommaOf, SomeExpressions, NoExpressions, MoreExpressions}
+use Rattle.c_program.specs.Statements.{ADeclaration, KeepOf, ClearOf, BeginOf, AnAction, SomeActions, NoActions, MoreActions, DeclareOf, BlockOf, EvaluateOf, BreakOf, ContinueOf, ReturnOf, IfOf, IfElseOf, WhileOf, DoOf, ForOf}
 use Rattle.c_program.specs.Programs.{ARoutine}
 use Rattle.c_lower_scheme.specs.Trees.{Tree, Num, Loc, Neg, Com, Bin, Item, Label, AssignLoc, AssignArg, AssignMem, Cbr, Jump, Push, Call, Save, Ret, breaks}
 use Rattle.c_lower_scheme.specs.Spelling.{spelled, spelled_all}
@@ -159,26 +159,26 @@ stands_pushes m [] is = refl
 stands_pushes m (w ∷ ws) is = let h = stands_pushes m ws (Push w ∷ is) in omega arith
 
 -- in each of the three ways
-pub record OnceWay (w : Expressions.Way) : Type 0 where
+pub record OnceWay (w : Expressions.Lowering) : Type 0 where
   pub low : (t l : ℕ) → Once l (w.low t l).labels (w.low t l).items
   pub branch : (sense : Bool) (to t l : ℕ) → Once l (w.branch sense to t l).labels (w.branch sense to t l).items
   pub drop : (t l : ℕ) → Once l (w.drop t l).labels (w.drop t l).items
 
-once_valued : (f : ℕ → ℕ → Expressions.Low) → ((t l : ℕ) → Once l (f t l).labels (f t l).items) → OnceWay (Expressions.valued f)
+once_valued : (f : ℕ → ℕ → Expressions.Lowered) → ((t l : ℕ) → Once l (f t l).labels (f t l).items) → OnceWay (Expressions.valued f)
 once_valued f h = record {
   low = h;
   branch = λ sense to t l. once_plain l (f t l).labels (f t l).items _ (h t l) (λ m. refl);
   drop = λ t l. once_plain l (f t l).labels (f t l).items _ (h t l) (none_saving (breaks (f t l).tree) (f t l).temps (f t l).tree);
 }
 
-once_effective : (f : ℕ → ℕ → Expressions.Low) (g : ℕ → ℕ → Expressions.Done) → ((t l : ℕ) → Once l (f t l).labels (f t l).items) → ((t l : ℕ) → Once l (g t l).labels (g t l).items) → OnceWay (Expressions.effective f g)
+once_effective : (f : ℕ → ℕ → Expressions.Lowered) (g : ℕ → ℕ → Expressions.Emitted) → ((t l : ℕ) → Once l (f t l).labels (f t l).items) → ((t l : ℕ) → Once l (g t l).labels (g t l).items) → OnceWay (Expressions.effective f g)
 once_effective f g h h' = record {
   low = h;
   branch = λ sense to t l. once_plain l (f t l).labels (f t l).items _ (h t l) (λ m. refl);
   drop = h';
 }
 
-once_conditional : (f : Bool → ℕ → ℕ → ℕ → Expressions.Done) (g : ℕ → ℕ → Expressions.Done) → ((sense : Bool) (to t l : ℕ) → Once l (f sense to t l).labels (f sense to t l).items) → ((t l : ℕ) → Once l (g t l).labels (g t l).items) → OnceWay (Expressions.conditional f g)
+once_conditional : (f : Bool → ℕ → ℕ → ℕ → Expressions.Emitted) (g : ℕ → ℕ → Expressions.Emitted) → ((sense : Bool) (to t l : ℕ) → Once l (f sense to t l).labels (f sense to t l).items) → ((t l : ℕ) → Once l (g t l).labels (g t l).items) → OnceWay (Expressions.conditional f g)
 once_conditional f g h h' = record {
   low = λ t l. let b = f false l (suc t) (suc l) in once_count l b.labels b.items _ (h false l (suc t) (suc l)) (λ m. omega (arith, stands_append m b.items (AssignLoc t (Num 1) ∷ Label l ∷ [])));
   branch = h;
@@ -194,13 +194,13 @@ once_inner l p q a c h g = once_count l q (a ++ c) (a ++ (c ++ (Label l ∷ []))
 once_direct : (l p q : ℕ) (a c : List Item) → Once (suc l) p a → Once p q c → Once l q (a ++ c)
 once_direct l p q a c h g = once_wider l (suc l) q (a ++ c) (omega arith) (once_append (suc l) p q a c h g)
 
-once_chain : (stop sense : Bool) (a b : Expressions.Way) (to t l : ℕ) → OnceWay a → OnceWay b → Once l (Expressions.chain stop a b sense to t l).labels (Expressions.chain stop a b sense to t l).items
+once_chain : (stop sense : Bool) (a b : Expressions.Lowering) (to t l : ℕ) → OnceWay a → OnceWay b → Once l (Expressions.chain stop a b sense to t l).labels (Expressions.chain stop a b sense to t l).items
 once_chain true true a b to t l h g = once_direct l _ _ _ _ (h.branch true to t (suc l)) (g.branch true to (a.branch true to t (suc l)).temps (a.branch true to t (suc l)).labels)
 once_chain true false a b to t l h g = once_inner l _ _ _ _ (h.branch true l t (suc l)) (g.branch false to (a.branch true l t (suc l)).temps (a.branch true l t (suc l)).labels)
 once_chain false true a b to t l h g = once_inner l _ _ _ _ (h.branch false l t (suc l)) (g.branch true to (a.branch false l t (suc l)).temps (a.branch false l t (suc l)).labels)
 once_chain false false a b to t l h g = once_direct l _ _ _ _ (h.branch false to t (suc l)) (g.branch false to (a.branch false to t (suc l)).temps (a.branch false to t (suc l)).labels)
 
-once_drops : (a b : Expressions.Way) (t l : ℕ) → OnceWay a → OnceWay b → Once l (Expressions.drop_two a b t l).labels (Expressions.drop_two a b t l).items
+once_drops : (a b : Expressions.Lowering) (t l : ℕ) → OnceWay a → OnceWay b → Once l (Expressions.drop_two a b t l).labels (Expressions.drop_two a b t l).items
 once_drops a b t l h g = once_append l _ _ _ _ (h.drop t l) (g.drop (a.drop t l).temps (a.drop t l).labels)
 
 -- a part, a jump over the other part, and that part
@@ -215,7 +215,7 @@ once_fork l p q r a b c b1 c1 z z' h f g =
     once_count l r (Label (suc l) ∷ inner) (a ++ T1) one
     (λ m. omega (arith, stands_append m a T1, stands_append m b (b1 ++ T2), stands_append m b1 T2, stands_append m c T3, stands_append m c1 (Label (suc l) ∷ []), stands_append m a (b ++ c), stands_append m b c, z m, z' m))
 
-once_choose : (c a b : Expressions.Way) → OnceWay c → OnceWay a → OnceWay b → OnceWay (Expressions.choose c a b)
+once_choose : (c a b : Expressions.Lowering) → OnceWay c → OnceWay a → OnceWay b → OnceWay (Expressions.choose c a b)
 once_choose c a b h f g = once_effective _ _
     (λ t l.
     let p = c.branch false l (suc t) (suc (suc l)) in
@@ -228,12 +228,12 @@ once_choose c a b h f g = once_effective _ _
     let r = b.drop q.temps q.labels in
     once_fork l p.labels q.labels r.labels p.items q.items r.items [] [] (λ m. refl) (λ m. refl) (h.branch false l t (suc (suc l))) (f.drop p.temps p.labels) (g.drop q.temps q.labels))
 
-once_store_low : (s : Expressions.Where) (r : Expressions.Ready) (l : ℕ) → Once l r.labels r.items → Once l (Expressions.store_low_at s r).labels (Expressions.store_low_at s r).items
+once_store_low : (s : Expressions.Where) (r : Expressions.Assignable) (l : ℕ) → Once l r.labels r.items → Once l (Expressions.store_low_at s r).labels (Expressions.store_low_at s r).items
 once_store_low (Expressions.InLoc n) r l h = once_plain l r.labels r.items _ h (λ m. refl)
 once_store_low (Expressions.InArg n) r l h = once_plain l r.labels r.items _ h (λ m. refl)
 once_store_low (Expressions.InMem a) r l h = once_plain l r.labels r.items _ h (λ m. refl)
 
-once_store_drop : (r : Expressions.Ready) (l : ℕ) → Once l r.labels r.items → Once l (Expressions.store_drop r).labels (Expressions.store_drop r).items
+once_store_drop : (r : Expressions.Assignable) (l : ℕ) → Once l r.labels r.items → Once l (Expressions.store_drop r).labels (Expressions.store_drop r).items
 once_store_drop r l h = once_plain l r.labels r.items _ h (λ m. omega (arith, none_assign r.type r.place r.value m))
 
 once_ready : (b : Bool) (u : ℕ) (s : Expressions.Where) (l p q : ℕ) (a c : List Item) → Once l p a → Once p q c → Once l q (a ++ (Expressions.holding b u s ++ c))
@@ -252,37 +252,37 @@ once_call_drop : (f : ℕ) (q : Expressions.Passing) (l : ℕ) → Once l q.labe
 once_call_drop f q l h = once_plain l q.labels q.items _ h (λ m. stands_pushes m q.trees _)
 
 module _ (size count : ℕ) where
-  once_joined : (a b : Expressions.Way) (t l : ℕ) → OnceWay a → OnceWay b → Once l (Expressions.joined size count a b t l).labels (Expressions.joined size count a b t l).items
+  once_joined : (a b : Expressions.Lowering) (t l : ℕ) → OnceWay a → OnceWay b → Once l (Expressions.joined size count a b t l).labels (Expressions.joined size count a b t l).items
   once_joined a b t l h g = once_two _ _ _ l (a.low t l).labels _ _ _ (h.low t l) (g.low (a.low t l).temps (a.low t l).labels)
 
-  once_binary : (f : Tree → Tree → Tree) (a b : Expressions.Way) → OnceWay a → OnceWay b → OnceWay (Expressions.binary size count f a b)
+  once_binary : (f : Tree → Tree → Tree) (a b : Expressions.Lowering) → OnceWay a → OnceWay b → OnceWay (Expressions.binary size count f a b)
   once_binary f a b h g = once_valued _ (λ t l. once_joined a b t l h g)
 
-  once_mapped : (f : Tree → Tree) (e : Expressions.Way) → OnceWay e → OnceWay (Expressions.mapped f e)
+  once_mapped : (f : Tree → Tree) (e : Expressions.Lowering) → OnceWay e → OnceWay (Expressions.mapped f e)
   once_mapped f e h = once_effective _ _ (λ t l. h.low t l) h.drop
 
-  once_unary : (op : UnaryOperator) (e : Expressions.Way) → OnceWay e → OnceWay (Expressions.unary size count op e)
+  once_unary : (op : UnaryOperator) (e : Expressions.Lowering) → OnceWay e → OnceWay (Expressions.unary size count op e)
   once_unary unaries.Plus e h = once_mapped (λ w. w) e h
   once_unary unaries.Minus e h = once_mapped Neg e h
   once_unary unaries.Complement e h = once_mapped Com e h
   once_unary unaries.Not e h = once_conditional _ e.drop (λ sense to t l. h.branch (not sense) to t l) h.drop
 
-  once_updates : (f : CType → Tree → Tree → Tree) (p : ℕ → ℕ → Expressions.Found) (e : Expressions.Way) → ((t l : ℕ) → Once l (p t l).labels (p t l).items) → OnceWay e → OnceWay (Expressions.update_by size count f p e)
+  once_updates : (f : CType → Tree → Tree → Tree) (p : ℕ → ℕ → Expressions.Located) (e : Expressions.Lowering) → ((t l : ℕ) → Once l (p t l).labels (p t l).items) → OnceWay e → OnceWay (Expressions.update_by size count f p e)
   once_updates f p e h g = once_effective _ _
       (λ t l. let r = Expressions.updated size count f (p t l) e.low in once_store_low r.place r l (once_update _ _ _ _ _ _ l (p t l).labels _ _ _ (h t l) (g.low (p t l).temps (p t l).labels)))
       (λ t l. let r = Expressions.updated size count f (p t l) e.low in once_store_drop r l (once_update _ _ _ _ _ _ l (p t l).labels _ _ _ (h t l) (g.low (p t l).temps (p t l).labels)))
 
-  once_step : (m : Moment) (by : Direction) (p : Expressions.Found) (l : ℕ) → Once l p.labels p.items → Once l (Expressions.step_low size count m by p).labels (Expressions.step_low size count m by p).items
+  once_step : (m : Moment) (by : Direction) (p : Expressions.Located) (l : ℕ) → Once l p.labels p.items → Once l (Expressions.step_low size count m by p).labels (Expressions.step_low size count m by p).items
   once_step moments.Before by p l h = once_post _ _ _ _ _ p.type _ (Expressions.step by (Loc (Expressions.next_if (Expressions.must_keep size count [] p.place) p.temps)) (Num (scale p.type))) l p.labels _ h
   once_step moments.After by p l h = let r = Expressions.step_ready size count by p in once_store_low r.place r l (once_ready _ _ _ l p.labels p.labels _ [] h (once_nil p.labels))
 
   mutual
-    pub once_seek : (a : PlaceTerm) (t l : ℕ) → Once l (Expressions.seek size count a t l).labels (Expressions.seek size count a t l).items
+    pub once_seek : (a : APlace) (t l : ℕ) → Once l (Expressions.seek size count a t l).labels (Expressions.seek size count a t l).items
     once_seek (VariableAt ty v) t l = once_nil l
     once_seek (PointedBy ty e) t l = (once_way e).low t l
     once_seek (ElementBy ty e) t l = (once_way e).low t l
 
-    pub once_way : (e : Term) → OnceWay (Expressions.way size count e)
+    pub once_way : (e : AnExpression) → OnceWay (Expressions.way size count e)
     once_way (Constant n) = once_valued _ (λ t l. once_nil l)
     once_way (LiteralAt n bytes) = once_valued _ (λ t l. once_nil l)
     once_way (ArrayAt ty v bytes) = once_valued _ (λ t l. once_nil l)
@@ -316,15 +316,15 @@ module _ (size count : ℕ) where
       drop = λ t l. once_drops _ _ t l (once_way a) (once_way b);
     }
 
-    pub once_pass : (es : Terms) (to : List CType) (t l : ℕ) → Once l (Expressions.pass size count es to t l).labels (Expressions.pass size count es to t l).items
-    once_pass NoTerms to t l = once_nil l
-    once_pass (MoreTerms e es) to t l = once_two _ _ _ l ((Expressions.way size count e).low t l).labels _ _ _ ((once_way e).low t l) (once_pass es (Expressions.others to) _ _)
+    pub once_pass : (es : SomeExpressions) (to : List CType) (t l : ℕ) → Once l (Expressions.pass size count es to t l).labels (Expressions.pass size count es to t l).items
+    once_pass NoExpressions to t l = once_nil l
+    once_pass (MoreExpressions e es) to t l = once_two _ _ _ l ((Expressions.way size count e).low t l).labels _ _ _ ((once_way e).low t l) (once_pass es (Expressions.others to) _ _)
 
-  once_effect : (e : Option Term) (l : ℕ) → Once l (Statements.effect size count e l).labels (Statements.effect size count e l).items
+  once_effect : (e : Option AnExpression) (l : ℕ) → Once l (Statements.effect size count e l).labels (Statements.effect size count e l).items
   once_effect None l = once_nil l
   once_effect (Some e) l = (once_way e).drop size l
 
-  once_returning : (e : Option Term) (l : ℕ) → Once l (Statements.returning size count e l).labels (Statements.returning size count e l).items
+  once_returning : (e : Option AnExpression) (l : ℕ) → Once l (Statements.returning size count e l).labels (Statements.returning size count e l).items
   once_returning None l = once_same l l [] _ (once_nil l) (λ m. refl)
   once_returning (Some e) l = once_plain l _ _ _ ((once_way e).low size l) (λ m. refl)
 
@@ -375,7 +375,7 @@ module _ (size count : ℕ) where
       let T1 : List Item = b ++ T2 in
       once_three l r (a ++ (b ++ c)) _ (once_append (suc (suc (suc l))) p r a (b ++ c) h (once_append p q r b c g f)) (λ m. omega (arith, stands_append m a T1, stands_append m b T2, stands_append m c T3, stands_append m a (b ++ c), stands_append m b c))
 
-  once_fors : (c e : Option Term) (l : ℕ) (f : ℕ → Expressions.Done) → ((m : ℕ) → Once m (f m).labels (f m).items) → Once l (Statements.for_of size count l c e f).labels (Statements.for_of size count l c e f).items
+  once_fors : (c e : Option AnExpression) (l : ℕ) (f : ℕ → Expressions.Emitted) → ((m : ℕ) → Once m (f m).labels (f m).items) → Once l (Statements.for_of size count l c e f).labels (Statements.for_of size count l c e f).items
   once_fors None e l f h = let b = f (suc (suc (suc l))) in once_ever l b.labels _ b.items _ (h (suc (suc (suc l)))) (once_effect e b.labels)
   once_fors (Some c) e l f h =
       let q = Statements.unless size count c (suc (suc l)) (suc (suc (suc l))) in
@@ -383,7 +383,7 @@ module _ (size count : ℕ) where
       once_for l q.labels b.labels _ q.items b.items _ ((once_way c).branch false (suc (suc l)) size (suc (suc (suc l)))) (h q.labels) (once_effect e b.labels)
 
   mutual
-    once_act : (a : Act) (lb lc l : ℕ) → Once l (Statements.lower size count a lb lc l).labels (Statements.lower size count a lb lc l).items
+    once_act : (a : AnAction) (lb lc l : ℕ) → Once l (Statements.lower size count a lb lc l).labels (Statements.lower size count a lb lc l).items
     once_act (DeclareOf ds) lb lc l = once_declare ds l
     once_act (BlockOf row) lb lc l = once_row row lb lc l
     once_act (EvaluateOf e) lb lc l = (once_way e).drop size l
@@ -399,9 +399,9 @@ module _ (size count : ℕ) where
     once_act (DoOf a c) lb lc l = let x = Statements.lower size count a (suc (suc l)) (suc l) (suc (suc (suc l))) in once_do l x.labels _ x.items _ (once_act a (suc (suc l)) (suc l) (suc (suc (suc l)))) ((once_way c).branch true l size x.labels)
     once_act (ForOf i c e a) lb lc l = let x = Statements.effect size count i l in once_append l x.labels _ x.items _ (once_effect i l) (once_fors c e x.labels (Statements.lower size count a (suc (suc x.labels)) (suc x.labels)) (λ m. once_act a (suc (suc x.labels)) (suc x.labels) m))
 
-    pub once_row : (row : Acts) (lb lc l : ℕ) → Once l (Statements.lower_row size count row lb lc l).labels (Statements.lower_row size count row lb lc l).items
-    once_row NoActs lb lc l = once_nil l
-    once_row (MoreActs a row) lb lc l = let x = Statements.lower size count a lb lc l in once_append l x.labels _ x.items _ (once_act a lb lc l) (once_row row lb lc x.labels)
+    pub once_row : (row : SomeActions) (lb lc l : ℕ) → Once l (Statements.lower_row size count row lb lc l).labels (Statements.lower_row size count row lb lc l).items
+    once_row NoActions lb lc l = once_nil l
+    once_row (MoreActions a row) lb lc l = let x = Statements.lower size count a lb lc l in once_append l x.labels _ x.items _ (once_act a lb lc l) (once_row row lb lc x.labels)
 
 -- each function's code
 pub code_of : (count : ℕ) (g : ARoutine) (l : ℕ) → CodeOf count g (function_of g (body_of count g l)).items

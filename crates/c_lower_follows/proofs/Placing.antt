@@ -30,7 +30,7 @@ use Rattle.c_meaning.specs.State.{State, integer_access, set_at, with_locals, wi
 use Rattle.c_meaning.specs.Meaning.{Rest, RestAt, or_wild, written, read_at, address_of}
 use Rattle.c_lower_scheme.specs.Trees.{Tree, Indir, Item, divides}
 use Rattle.c_lower_scheme.specs.Spelling.{spelled_all}
-use Rattle.c_lower_scheme.specs.Expressions.{Where, InLoc, InArg, InMem, Found, Ready, integer_of, conv, fitted, read_from, address_tree, read_low, address_low}
+use Rattle.c_lower_scheme.specs.Expressions.{Where, InLoc, InArg, InMem, Located, Assignable, integer_of, conv, fitted, read_from, address_tree, read_low, address_low}
 use Rattle.c_sound.specs.Fits.{AreBytes}
 use Rattle.c_lower_follows.proofs.Values.{bytes_take, bytes_drop, bytes_append, SmallTree}
 use Rattle.c_lower_follows.proofs.Leads.{Leads, leads_wild}
@@ -132,14 +132,14 @@ module _ (program : TreeProgram) (code : List TreeItem) (callers : List Activati
   FitsPlace u (InArg n) = Unit {0}
   FitsPlace u (InMem a) = Below u a
 
-  pub record DoesPlace (p : Found) (t : ℕ) (m : RestAt → State → Runs) : Type 0 where
+  pub record DoesPlace (p : Located) (t : ℕ) (m : RestAt → State → Runs) : Type 0 where
     pub grows : t ≤ p.temps
     pub fits : FitsPlace p.temps p.place
     pub small : SmallPlace p.place
     pub runs : (k : ℕ) → k ≤ level → (is : List Item) (κ : RestAt) → Resolves code (p.items ++ is) → (st : State) (d : Desk) → ok st d → Onto program code callers size count scope level k t p.temps p.items is st d (λ st' d'. place_on program p.place d' (λ s. κ p.type s st')) → Leads k (m κ st) (run_at (p.items ++ is) d)
 
   -- a place and a value for it
-  pub record DoesReady (r : Ready) (t : ℕ) (m : (CType → Spot → Rest) → State → Runs) : Type 0 where
+  pub record DoesReady (r : Assignable) (t : ℕ) (m : (CType → Spot → Rest) → State → Runs) : Type 0 where
     pub grows : t ≤ r.temps
     pub fits : FitsPlace r.temps r.place
     pub small : SmallPlace r.place
@@ -191,7 +191,7 @@ module _ (program : TreeProgram) (code : List TreeItem) (callers : List Activati
     small_read (InArg n) ty h = tt
     small_read (InMem a) ty h = h
 
-    pub read_does : (p : Found) (t : ℕ) (m : RestAt → State → Runs) → size ≤ t → DoesPlace p t m → Does program code callers size count scope level (read_low p) t (λ κ. m (λ ty s. read_at ty s κ))
+    pub read_does : (p : Located) (t : ℕ) (m : RestAt → State → Runs) → size ≤ t → DoesPlace p t m → Does program code callers size count scope level (read_low p) t (λ κ. m (λ ty s. read_at ty s κ))
     read_does p t m sz does = record {
       grows = does.grows;
       below = below_read p.place p.type p.temps (omega (arith, does.grows)) does.fits;
@@ -200,7 +200,7 @@ module _ (program : TreeProgram) (code : List TreeItem) (callers : List Activati
           (λ st1 d1 ag1 s1. read_place p.place p.type p.temps k is κ st1 d1 does.fits ag1 (h st1 d1 ag1 s1));
     }
 
-    pub address_does : (p : Found) (t : ℕ) (m : RestAt → State → Runs) → DoesPlace p t m → Does program code callers size count scope level (address_low p) t (λ κ. m (λ ty s. address_of s κ))
+    pub address_does : (p : Located) (t : ℕ) (m : RestAt → State → Runs) → DoesPlace p t m → Does program code callers size count scope level (address_low p) t (λ κ. m (λ ty s. address_of s κ))
     address_does p t m does = record {
       grows = does.grows;
       below = below_address p.temps p.place does.fits;

@@ -14,8 +14,8 @@ use Rattle.tree_meaning.specs.Meaning.{runs}
 use Rattle.c_types.specs.declared.types.CType.{CType}
 use Rattle.c_types.specs.declared.typed.Variable.{Variable}
 use Rattle.c_types.specs.declared.typed.Variable.TheVariants as variables
-use Rattle.c_types.specs.Typed.{PlaceTerm, VariableAt, PointedBy, ElementBy, Term, Constant, LiteralAt, ArrayAt, ReadOf, SizeofTerm, SizeOf, AddressOf, CallOf, StepOf, UnaryOf, CastTo, ConvertTo, ArithmeticOf, CompareOf, BothOf, EitherOf, AdvanceOf, AdvanceByOf, RetreatOf, DistanceOf, ChoiceOf, AssignTo, ArithmeticAssignTo, AdvanceAssignTo, RetreatAssignTo, CommaOf, Terms, NoTerms, MoreTerms}
-use Rattle.c_program.specs.Statements.{ADeclaration, KeepOf, ClearOf, BeginOf, Act, Acts, NoActs, MoreActs, DeclareOf, BlockOf, EvaluateOf, BreakOf, ContinueOf, ReturnOf, IfOf, IfElseOf, WhileOf, DoOf, ForOf}
+use Rattle.c_types.specs.Typed.{APlace, VariableAt, PointedBy, ElementBy, AnExpression, Constant, LiteralAt, ArrayAt, ReadOf, SizeofTerm, SizeOf, AddressOf, CallOf, StepOf, UnaryOf, CastTo, ConvertTo, ArithmeticOf, CompareOf, BothOf, EitherOf, AdvanceOf, AdvanceByOf, RetreatOf, DistanceOf, ChoiceOf, AssignTo, ArithmeticAssignTo, AdvanceAssignTo, RetreatAssignTo, CommaOf, SomeExpressions, NoExpressions, MoreExpressions}
+use Rattle.c_program.specs.Statements.{ADeclaration, KeepOf, ClearOf, BeginOf, AnAction, SomeActions, NoActions, MoreActions, DeclareOf, BlockOf, EvaluateOf, BreakOf, ContinueOf, ReturnOf, IfOf, IfElseOf, WhileOf, DoOf, ForOf}
 use Rattle.c_program.specs.Programs.{ARoutine, AProgram}
 use Rattle.c_meaning.specs.declared.flow.Flow.TheVariants.{Onward, Broke, Continued, Returned}
 use Rattle.c_meaning.specs.State.{State, with_locals, put_local}
@@ -23,7 +23,7 @@ use Rattle.c_meaning.specs.Meaning.{Behind, ALoop, plain_loop, for_loop, Task, L
 use Rattle.c_meaning.specs.Meaning.{returned as returned_source}
 use Rattle.c_lower_scheme.specs.Trees.{Tree, Num, Item, Label, AssignLoc, Jump, Ret}
 use Rattle.c_lower_scheme.specs.Spelling.{spelled_all}
-use Rattle.c_lower_scheme.specs.Expressions.{Done, way}
+use Rattle.c_lower_scheme.specs.Expressions.{Emitted, way}
 use Rattle.c_lower_scheme.specs.Statements.{is_local, place_mentions, mentions, any_mentions, begin_of, if_done, if_else_done, while_done, do_done, for_done, ever_done, unless, when, effect, returning, declare, for_of, lower, lower_row}
 use Rattle.c_sound.specs.Fits.{AreBytes, StandsIn, FitsAt, Fits, FitsAll, FitsMaybe, more, declaring, behind_act, FitsDeclared, FitsAct, FitsActs}
 use Rattle.c_lower_follows.proofs.Values.{SmallTree, Small, worth_small}
@@ -46,12 +46,12 @@ variable_without scope n (variables.Global m) e h = tt
 variable_without scope n (variables.Static m) e h = tt
 
 mutual
-  place_without : (scope : ℕ → Type 0) (n : ℕ) (a : PlaceTerm) → place_mentions n a ≡ false → FitsAt (more scope n) a → FitsAt (without scope n) a
+  place_without : (scope : ℕ → Type 0) (n : ℕ) (a : APlace) → place_mentions n a ≡ false → FitsAt (more scope n) a → FitsAt (without scope n) a
   place_without scope n (VariableAt t v) e h = variable_without scope n v e h
   place_without scope n (PointedBy t x) e h = fits_without scope n x e h
   place_without scope n (ElementBy t x) e h = fits_without scope n x e h
 
-  fits_without : (scope : ℕ → Type 0) (n : ℕ) (x : Term) → mentions n x ≡ false → Fits (more scope n) x → Fits (without scope n) x
+  fits_without : (scope : ℕ → Type 0) (n : ℕ) (x : AnExpression) → mentions n x ≡ false → Fits (more scope n) x → Fits (without scope n) x
   fits_without scope n (Constant v) e h = h
   fits_without scope n (LiteralAt object bytes) e h = tt
   fits_without scope n (ArrayAt t v bytes) e h = tt
@@ -82,10 +82,10 @@ mutual
   fits_without scope n (AdvanceAssignTo a b) e h = let q = or_parts (place_mentions n a) (mentions n b) e in (place_without scope n a q.0 h.0, fits_without scope n b q.1 h.1)
   fits_without scope n (RetreatAssignTo a b) e h = let q = or_parts (place_mentions n a) (mentions n b) e in (place_without scope n a q.0 h.0, fits_without scope n b q.1 h.1)
 
-  all_without : (scope : ℕ → Type 0) (n : ℕ) (xs : Terms) (to : List CType) → any_mentions n xs ≡ false → FitsAll (more scope n) xs to → FitsAll (without scope n) xs to
-  all_without scope n NoTerms to e h = tt
-  all_without scope n (MoreTerms x xs) [] e h = h
-  all_without scope n (MoreTerms x xs) (t ∷ to) e h = let q = or_parts (mentions n x) (any_mentions n xs) e in (fits_without scope n x q.0 h.0, all_without scope n xs to q.1 h.1)
+  all_without : (scope : ℕ → Type 0) (n : ℕ) (xs : SomeExpressions) (to : List CType) → any_mentions n xs ≡ false → FitsAll (more scope n) xs to → FitsAll (without scope n) xs to
+  all_without scope n NoExpressions to e h = tt
+  all_without scope n (MoreExpressions x xs) [] e h = h
+  all_without scope n (MoreExpressions x xs) (t ∷ to) e h = let q = or_parts (mentions n x) (any_mentions n xs) e in (fits_without scope n x q.0 h.0, all_without scope n xs to q.1 h.1)
 
 -- scopes only grow within a block
 declaring_more : (scope : ℕ → Type 0) (ds : List ADeclaration) (x : ℕ) → scope x → declaring scope ds x
@@ -94,7 +94,7 @@ declaring_more scope (KeepOf object ∷ ds) x h = declaring_more scope ds x h
 declaring_more scope (ClearOf n ∷ ds) x h = declaring_more (more scope n) ds x (inl h)
 declaring_more scope (BeginOf n e ∷ ds) x h = declaring_more (more scope n) ds x (inl h)
 
-behind_more : (scope : ℕ → Type 0) (a : Act) (x : ℕ) → scope x → behind_act scope a x
+behind_more : (scope : ℕ → Type 0) (a : AnAction) (x : ℕ) → scope x → behind_act scope a x
 behind_more scope (DeclareOf ds) x h = declaring_more scope ds x h
 behind_more scope (BlockOf row) x h = h
 behind_more scope (EvaluateOf e) x h = h
@@ -117,7 +117,7 @@ declaring_within size scope (KeepOf object ∷ ds) fit within x h = declaring_wi
 declaring_within size scope (ClearOf n ∷ ds) fit within x h = declaring_within size (more scope n) ds fit.1 (more_within size scope n fit.0 within) x h
 declaring_within size scope (BeginOf n e ∷ ds) fit within x h = declaring_within size (more scope n) ds fit.2 (more_within size scope n fit.0 within) x h
 
-behind_within : (size : ℕ) (scope : ℕ → Type 0) (inside : Bool) (a : Act) → FitsAct size scope inside a → ((x : ℕ) → scope x → x < size) → (x : ℕ) → behind_act scope a x → x < size
+behind_within : (size : ℕ) (scope : ℕ → Type 0) (inside : Bool) (a : AnAction) → FitsAct size scope inside a → ((x : ℕ) → scope x → x < size) → (x : ℕ) → behind_act scope a x → x < size
 behind_within size scope inside (DeclareOf ds) fit within x h = declaring_within size scope ds fit within x h
 behind_within size scope inside (BlockOf row) fit within x h = within x h
 behind_within size scope inside (EvaluateOf e) fit within x h = within x h
@@ -147,7 +147,7 @@ module _ (program : TreeProgram) (code : List TreeItem) (callers : List Activati
     pub continued : inside ≡ true → (st : State) (d : Desk) → fair outer st d → Leads k (κ Continued st) (at_items program code callers (behind code lc) d)
     pub left : (v : ℕ) (st : State) → v < 2 ^ 32 → AreBytes st.area → AreBytes st.input → Leads k (κ (Returned v) st) (runs program (returned v callers st.area st.input))
 
-  abbrev pub DoesStmt : (q : Done) (lb lc : ℕ) (inside : Bool) (outer scope after : ℕ → Type 0) (m : Behind → State → Runs) → Type 0
+  abbrev pub DoesStmt : (q : Emitted) (lb lc : ℕ) (inside : Bool) (outer scope after : ℕ → Type 0) (m : Behind → State → Runs) → Type 0
   DoesStmt q lb lc inside outer scope after m = (k : ℕ) → k ≤ level → (is : List Item) (κ : Behind) → Resolves code (q.items ++ is) → Lands k lb lc inside outer after is κ → (st : State) (d : Desk) → fair scope st d → Leads k (m κ st) (from (q.items ++ is) d)
 
   joined_at : (k : ℕ) (a b is : List Item) (d : Desk) (r : Runs) → Leads k r (from (a ++ (b ++ is)) d) → Leads k r (from ((a ++ b) ++ is) d)
@@ -217,15 +217,15 @@ module _ (program : TreeProgram) (code : List TreeItem) (callers : List Activati
       (λ v e. local_step n v k scope after is κ st d (subst Small e (worth_small program.objects (desk_sight d) ag.ranged w small)) sub ag (λ ag'. h _ _ ag'))
 
   module _ (p : AProgram) (next : Next) (counts_all : length program.functions ≡ count) (lowers : (f : ℕ) (g : ARoutine) → slice_get p.routines f ≡ Some g → (tf : TreeFn) × (slice_get program.functions f ≡ Some tf) × CodeOf count g tf.items) (calls : Calls program count p next level) (objects_are : program.objects ≡ p.objects) (addresses : (n : ℕ) (o : Object) → slice_get p.objects n ≡ Some o → o.address < 2 ^ 32) (next_is : (t : Task) (κ : Behind) (st : State) → next t κ st ≡ task p next t κ st) where
-    expression : (scope : ℕ → Type 0) → ((x : ℕ) → scope x → x < size) → (e : Term) → Fits scope e → DoesWay program code callers size count scope level (way size count e) (expr p next e)
+    expression : (scope : ℕ → Type 0) → ((x : ℕ) → scope x → x < size) → (e : AnExpression) → Fits scope e → DoesWay program code callers size count scope level (way size count e) (expr p next e)
     expression scope within e fit = way_does program code callers size count scope level within p next counts_all lowers calls objects_are addresses e fit
 
-    effect_does : (scope : ℕ → Type 0) → ((x : ℕ) → scope x → x < size) → (e : Option Term) → FitsMaybe scope e → (l k : ℕ) → k ≤ level → (is : List Item) (κ : State → Runs) → Resolves code ((effect size count e l).items ++ is) → (st : State) (d : Desk) → fair scope st d → ((st' : State) (d' : Desk) → fair scope st' d' → Leads k (κ st') (from is d')) → Leads k (dropped p next e κ st) (from ((effect size count e l).items ++ is) d)
+    effect_does : (scope : ℕ → Type 0) → ((x : ℕ) → scope x → x < size) → (e : Option AnExpression) → FitsMaybe scope e → (l k : ℕ) → k ≤ level → (is : List Item) (κ : State → Runs) → Resolves code ((effect size count e l).items ++ is) → (st : State) (d : Desk) → fair scope st d → ((st' : State) (d' : Desk) → fair scope st' d' → Leads k (κ st') (from is d')) → Leads k (dropped p next e κ st) (from ((effect size count e l).items ++ is) d)
     effect_does scope within None fit l k le is κ res st d ag h = h st d ag
     effect_does scope within (Some e) fit l k le is κ res st d ag h = ((expression scope within e fit).drop size l (omega arith)).runs k le is κ res st d ag (λ st' d' ag' s. h st' d' ag')
 
     -- declarations
-    begin_does : (b : Bool) (n : ℕ) (e : Term) (scope : ℕ → Type 0) → ((x : ℕ) → scope x → x < size) → n < size → mentions n e ≡ b → Fits (more scope n) e → (l k : ℕ) → k ≤ level → (is : List Item) (κ : State → Runs) → Resolves code ((begin_of b n ((way size count e).low size l)).items ++ is) → (st : State) (d : Desk) → fair scope st d
+    begin_does : (b : Bool) (n : ℕ) (e : AnExpression) (scope : ℕ → Type 0) → ((x : ℕ) → scope x → x < size) → n < size → mentions n e ≡ b → Fits (more scope n) e → (l k : ℕ) → k ≤ level → (is : List Item) (κ : State → Runs) → Resolves code ((begin_of b n ((way size count e).low size l)).items ++ is) → (st : State) (d : Desk) → fair scope st d
         → ((st' : State) (d' : Desk) → fair (more scope n) st' d' → Leads k (κ st') (from is d'))
         → Leads k (local_set p next n 0 (expr p next e (λ v. local_set p next n v κ)) st) (from ((begin_of b n ((way size count e).low size l)).items ++ is) d)
     begin_does true n e scope within lt mentioned fit l k le is κ res st d ag h =
@@ -258,7 +258,7 @@ module _ (program : TreeProgram) (code : List TreeItem) (callers : List Activati
         (λ st1 d1 ag1. declare_does ds (more scope n) (more_within size scope n fit.0 within) fit.2 a.labels k le is κ (resolves_back code a.items (rest.items ++ is) res') st1 d1 ag1 h))
 
     -- a return
-    return_does : (e : Option Term) (scope outer : ℕ → Type 0) → ((x : ℕ) → scope x → x < size) → FitsMaybe scope e → (inside : Bool) (lb lc l : ℕ) → DoesStmt (returning size count e l) lb lc inside outer scope scope (returned_source p next e)
+    return_does : (e : Option AnExpression) (scope outer : ℕ → Type 0) → ((x : ℕ) → scope x → x < size) → FitsMaybe scope e → (inside : Bool) (lb lc l : ℕ) → DoesStmt (returning size count e l) lb lc inside outer scope scope (returned_source p next e)
     return_does None scope outer within fit inside lb lc l k le is κ res h st d ag =
         ret_step program code callers k (Num 0) is (λ v. κ (Returned 0) st) d (omega arith) ag.ranged
         (λ v e. let z : 0 ≡ v = cc in subst (λ v. Leads k (κ (Returned 0) st) (runs program (returned v callers d.area d.input))) z (left_at 0 k κ st d (omega arith) ag h))
@@ -279,7 +279,7 @@ module _ (program : TreeProgram) (code : List TreeItem) (callers : List Activati
         subst (λ a. Leads k (κ (Returned v) st1) (runs program (returned v callers a d1.input))) (sym ag1.area) (subst (λ i. Leads k (κ (Returned v) st1) (runs program (returned v callers st1.area i))) (sym ag1.input) done))))
 
     -- conditions
-    if_does : (c : Term) (l : ℕ) (a : Done) (scope outer after : ℕ → Type 0) (n : Behind → State → Runs) → ((x : ℕ) → scope x → x < size) → Fits scope c → ((x : ℕ) → scope x → after x) → (inside : Bool) (lb lc : ℕ) → DoesStmt a lb lc inside outer scope after n → DoesStmt (if_done l (unless size count c l (suc l)) a) lb lc inside outer scope scope (λ κ. expr p next c (λ v st. chosen v (n κ st) (κ Onward st)))
+    if_does : (c : AnExpression) (l : ℕ) (a : Emitted) (scope outer after : ℕ → Type 0) (n : Behind → State → Runs) → ((x : ℕ) → scope x → x < size) → Fits scope c → ((x : ℕ) → scope x → after x) → (inside : Bool) (lb lc : ℕ) → DoesStmt a lb lc inside outer scope after n → DoesStmt (if_done l (unless size count c l (suc l)) a) lb lc inside outer scope scope (λ κ. expr p next c (λ v st. chosen v (n κ st) (κ Onward st)))
     if_does c l a scope outer after n within fit sub inside lb lc does k le is κ res h st d ag =
         let q = unless size count c l (suc l) in
         let asks = (expression scope within c fit).branch false l size (suc l) (omega arith) in
@@ -292,7 +292,7 @@ module _ (program : TreeProgram) (code : List TreeItem) (callers : List Activati
         (λ st1 d1 ag1 s1. leads_quiet k _ _ (joined_at k a.items (Label l ∷ []) is d1 _ (does k le (Label l ∷ is) κ res2
         (record { onward = λ st2 d2 ag2. label_step program code callers k l is d2 _ (h.onward st2 d2 (agree_less size (length callers) scope after st2 d2 sub ag2)); broke = h.broke; continued = h.continued; left = h.left }) st1 d1 ag1))))
 
-    if_else_does : (c : Term) (l : ℕ) (a b : Done) (scope outer after after' : ℕ → Type 0) (n o : Behind → State → Runs) → ((x : ℕ) → scope x → x < size) → Fits scope c → ((x : ℕ) → scope x → after x) → ((x : ℕ) → scope x → after' x) → (inside : Bool) (lb lc : ℕ) → DoesStmt a lb lc inside outer scope after n → DoesStmt b lb lc inside outer scope after' o → DoesStmt (if_else_done l (unless size count c l (suc (suc l))) a b) lb lc inside outer scope scope (λ κ. expr p next c (λ v st. chosen v (n κ st) (o κ st)))
+    if_else_does : (c : AnExpression) (l : ℕ) (a b : Emitted) (scope outer after after' : ℕ → Type 0) (n o : Behind → State → Runs) → ((x : ℕ) → scope x → x < size) → Fits scope c → ((x : ℕ) → scope x → after x) → ((x : ℕ) → scope x → after' x) → (inside : Bool) (lb lc : ℕ) → DoesStmt a lb lc inside outer scope after n → DoesStmt b lb lc inside outer scope after' o → DoesStmt (if_else_done l (unless size count c l (suc (suc l))) a b) lb lc inside outer scope scope (λ κ. expr p next c (λ v st. chosen v (n κ st) (o κ st)))
     if_else_does c l a b scope outer after after' n o within fit sub sub' inside lb lc does does' k le is κ res h st d ag =
         let q = unless size count c l (suc (suc l)) in
         let asks = (expression scope within c fit).branch false l size (suc (suc l)) (omega arith) in
@@ -313,7 +313,7 @@ module _ (program : TreeProgram) (code : List TreeItem) (callers : List Activati
         (record { onward = λ st2 d2 ag2. jump_step program code callers k (suc l) (Label l ∷ ((b.items ++ T3) ++ is)) _ d2 (moves program code callers k (behind code (suc l)) (spelled_all is) d2 _ end_at (h.onward st2 d2 (agree_less size (length callers) scope after st2 d2 sub ag2))); broke = h.broke; continued = h.continued; left = h.left }) st1 d1 ag1))))
 
     -- `while`, from behind its first label
-    while_look : (c : Term) (a : Act) (l : ℕ) (b : Done) (scope after : ℕ → Type 0) → ((x : ℕ) → scope x → x < size) → Fits scope c → ((x : ℕ) → scope x → after x) → DoesStmt b (suc l) l true scope scope after (stmt p next a) → (inside : Bool) (lb lc : ℕ) (outer : ℕ → Type 0) (is : List Item) → Resolves code ((while_done l (unless size count c (suc l) (suc (suc l))) b).items ++ is) → (k : ℕ) → k ≤ level → (κ : Behind) → Lands k lb lc inside outer scope is κ → (st : State) (d : Desk) → fair scope st d → Leads k (look_by p next (plain_loop c a) (stmt p next a) κ st) (from (((unless size count c (suc l) (suc (suc l))).items ++ (b.items ++ (Jump l ∷ Label (suc l) ∷ []))) ++ is) d)
+    while_look : (c : AnExpression) (a : AnAction) (l : ℕ) (b : Emitted) (scope after : ℕ → Type 0) → ((x : ℕ) → scope x → x < size) → Fits scope c → ((x : ℕ) → scope x → after x) → DoesStmt b (suc l) l true scope scope after (stmt p next a) → (inside : Bool) (lb lc : ℕ) (outer : ℕ → Type 0) (is : List Item) → Resolves code ((while_done l (unless size count c (suc l) (suc (suc l))) b).items ++ is) → (k : ℕ) → k ≤ level → (κ : Behind) → Lands k lb lc inside outer scope is κ → (st : State) (d : Desk) → fair scope st d → Leads k (look_by p next (plain_loop c a) (stmt p next a) κ st) (from (((unless size count c (suc l) (suc (suc l))).items ++ (b.items ++ (Jump l ∷ Label (suc l) ∷ []))) ++ is) d)
     while_look c a l b scope after within fit sub body inside lb lc outer is res zero le κ h st d ag = leads_none _ _
     while_look c a l b scope after within fit sub body inside lb lc outer is res (suc k) le κ h st d ag =
         let q = unless size count c (suc l) (suc (suc l)) in
@@ -336,12 +336,12 @@ module _ (program : TreeProgram) (code : List TreeItem) (callers : List Activati
           left = low_h.left;
         }) st1 d1 ag1))))
 
-    while_does : (c : Term) (a : Act) (l : ℕ) (b : Done) (scope after outer : ℕ → Type 0) → ((x : ℕ) → scope x → x < size) → Fits scope c → ((x : ℕ) → scope x → after x) → DoesStmt b (suc l) l true scope scope after (stmt p next a) → (inside : Bool) (lb lc : ℕ) → DoesStmt (while_done l (unless size count c (suc l) (suc (suc l))) b) lb lc inside outer scope scope (stmt p next (WhileOf c a))
+    while_does : (c : AnExpression) (a : AnAction) (l : ℕ) (b : Emitted) (scope after outer : ℕ → Type 0) → ((x : ℕ) → scope x → x < size) → Fits scope c → ((x : ℕ) → scope x → after x) → DoesStmt b (suc l) l true scope scope after (stmt p next a) → (inside : Bool) (lb lc : ℕ) → DoesStmt (while_done l (unless size count c (suc l) (suc (suc l))) b) lb lc inside outer scope scope (stmt p next (WhileOf c a))
     while_does c a l b scope after outer within fit sub body inside lb lc k le is κ res h st d ag =
         label_step program code callers k l (((unless size count c (suc l) (suc (suc l))).items ++ (b.items ++ (Jump l ∷ Label (suc l) ∷ []))) ++ is) d _ (while_look c a l b scope after within fit sub body inside lb lc outer is res k le κ h st d ag)
 
     -- `do`: a turn, whose tree is still to be counted
-    do_turn : (c : Term) (a : Act) (l : ℕ) (b : Done) (scope after : ℕ → Type 0) → ((x : ℕ) → scope x → x < size) → Fits scope c → ((x : ℕ) → scope x → after x) → DoesStmt b (suc (suc l)) (suc l) true scope scope after (stmt p next a) → (inside : Bool) (lb lc : ℕ) (outer : ℕ → Type 0) (is : List Item) → Resolves code ((do_done l b (when size count c l b.labels)).items ++ is) → (k : ℕ) → k ≤ level → (κ : Behind) → Lands k lb lc inside outer scope is κ → (st : State) (d : Desk) → fair scope st d → Leads k (turn_by p next (plain_loop c a) (stmt p next a) κ st) (counted (at_items program code callers (behind code l) d))
+    do_turn : (c : AnExpression) (a : AnAction) (l : ℕ) (b : Emitted) (scope after : ℕ → Type 0) → ((x : ℕ) → scope x → x < size) → Fits scope c → ((x : ℕ) → scope x → after x) → DoesStmt b (suc (suc l)) (suc l) true scope scope after (stmt p next a) → (inside : Bool) (lb lc : ℕ) (outer : ℕ → Type 0) (is : List Item) → Resolves code ((do_done l b (when size count c l b.labels)).items ++ is) → (k : ℕ) → k ≤ level → (κ : Behind) → Lands k lb lc inside outer scope is κ → (st : State) (d : Desk) → fair scope st d → Leads k (turn_by p next (plain_loop c a) (stmt p next a) κ st) (counted (at_items program code callers (behind code l) d))
     do_turn c a l b scope after within fit sub body inside lb lc outer is res zero le κ h st d ag = leads_none _ _
     do_turn c a l b scope after within fit sub body inside lb lc outer is res (suc k) le κ h st d ag =
         let q = when size count c l b.labels in
@@ -369,13 +369,13 @@ module _ (program : TreeProgram) (code : List TreeItem) (callers : List Activati
           left = low_h.left;
         }) st d ag)))
 
-    do_does : (c : Term) (a : Act) (l : ℕ) (b : Done) (scope after outer : ℕ → Type 0) → ((x : ℕ) → scope x → x < size) → Fits scope c → ((x : ℕ) → scope x → after x) → DoesStmt b (suc (suc l)) (suc l) true scope scope after (stmt p next a) → (inside : Bool) (lb lc : ℕ) → DoesStmt (do_done l b (when size count c l b.labels)) lb lc inside outer scope scope (stmt p next (DoOf a c))
+    do_does : (c : AnExpression) (a : AnAction) (l : ℕ) (b : Emitted) (scope after outer : ℕ → Type 0) → ((x : ℕ) → scope x → x < size) → Fits scope c → ((x : ℕ) → scope x → after x) → DoesStmt b (suc (suc l)) (suc l) true scope scope after (stmt p next a) → (inside : Bool) (lb lc : ℕ) → DoesStmt (do_done l b (when size count c l b.labels)) lb lc inside outer scope scope (stmt p next (DoOf a c))
     do_does c a l b scope after outer within fit sub body inside lb lc k le is κ res h st d ag =
         jump_counts program code callers k l (Label l ∷ ((b.items ++ (Label (suc l) ∷ ((when size count c l b.labels).items ++ (Label (suc (suc l)) ∷ [])))) ++ is)) _ d
         (do_turn c a l b scope after within fit sub body inside lb lc outer is res k le κ h st d ag)
 
     -- `for` with a test, from behind its first label
-    for_look : (c : Term) (e : Option Term) (a : Act) (l : ℕ) (b : Done) (scope after : ℕ → Type 0) → ((x : ℕ) → scope x → x < size) → Fits scope c → FitsMaybe scope e → ((x : ℕ) → scope x → after x) → DoesStmt b (suc (suc l)) (suc l) true scope scope after (stmt p next a) → (inside : Bool) (lb lc : ℕ) (outer : ℕ → Type 0) (is : List Item) → Resolves code ((for_done l (unless size count c (suc (suc l)) (suc (suc (suc l)))) b (effect size count e b.labels)).items ++ is) → (k : ℕ) → k ≤ level → (κ : Behind) → Lands k lb lc inside outer scope is κ → (st : State) (d : Desk) → fair scope st d → Leads k (look_by p next (for_loop (Some c) e a) (stmt p next a) κ st) (from (((unless size count c (suc (suc l)) (suc (suc (suc l)))).items ++ (b.items ++ (Label (suc l) ∷ ((effect size count e b.labels).items ++ (Jump l ∷ Label (suc (suc l)) ∷ []))))) ++ is) d)
+    for_look : (c : AnExpression) (e : Option AnExpression) (a : AnAction) (l : ℕ) (b : Emitted) (scope after : ℕ → Type 0) → ((x : ℕ) → scope x → x < size) → Fits scope c → FitsMaybe scope e → ((x : ℕ) → scope x → after x) → DoesStmt b (suc (suc l)) (suc l) true scope scope after (stmt p next a) → (inside : Bool) (lb lc : ℕ) (outer : ℕ → Type 0) (is : List Item) → Resolves code ((for_done l (unless size count c (suc (suc l)) (suc (suc (suc l)))) b (effect size count e b.labels)).items ++ is) → (k : ℕ) → k ≤ level → (κ : Behind) → Lands k lb lc inside outer scope is κ → (st : State) (d : Desk) → fair scope st d → Leads k (look_by p next (for_loop (Some c) e a) (stmt p next a) κ st) (from (((unless size count c (suc (suc l)) (suc (suc (suc l)))).items ++ (b.items ++ (Label (suc l) ∷ ((effect size count e b.labels).items ++ (Jump l ∷ Label (suc (suc l)) ∷ []))))) ++ is) d)
     for_look c e a l b scope after within fit fit' sub body inside lb lc outer is res zero le κ h st d ag = leads_none _ _
     for_look c e a l b scope after within fit fit' sub body inside lb lc outer is res (suc k) le κ h st d ag =
         let lp : ALoop = for_loop (Some c) e a in
@@ -406,7 +406,7 @@ module _ (program : TreeProgram) (code : List TreeItem) (callers : List Activati
         }) st1 d1 ag1))))
 
     -- `for` without a test: a turn, whose tree is still to be counted
-    ever_turn : (e : Option Term) (a : Act) (l : ℕ) (b : Done) (scope after : ℕ → Type 0) → ((x : ℕ) → scope x → x < size) → FitsMaybe scope e → ((x : ℕ) → scope x → after x) → DoesStmt b (suc (suc l)) (suc l) true scope scope after (stmt p next a) → (inside : Bool) (lb lc : ℕ) (outer : ℕ → Type 0) (is : List Item) → Resolves code ((ever_done l b (effect size count e b.labels)).items ++ is) → (k : ℕ) → k ≤ level → (κ : Behind) → Lands k lb lc inside outer scope is κ → (st : State) (d : Desk) → fair scope st d → Leads k (turn_by p next (for_loop None e a) (stmt p next a) κ st) (counted (at_items program code callers (behind code l) d))
+    ever_turn : (e : Option AnExpression) (a : AnAction) (l : ℕ) (b : Emitted) (scope after : ℕ → Type 0) → ((x : ℕ) → scope x → x < size) → FitsMaybe scope e → ((x : ℕ) → scope x → after x) → DoesStmt b (suc (suc l)) (suc l) true scope scope after (stmt p next a) → (inside : Bool) (lb lc : ℕ) (outer : ℕ → Type 0) (is : List Item) → Resolves code ((ever_done l b (effect size count e b.labels)).items ++ is) → (k : ℕ) → k ≤ level → (κ : Behind) → Lands k lb lc inside outer scope is κ → (st : State) (d : Desk) → fair scope st d → Leads k (turn_by p next (for_loop None e a) (stmt p next a) κ st) (counted (at_items program code callers (behind code l) d))
     ever_turn e a l b scope after within fit' sub body inside lb lc outer is res zero le κ h st d ag = leads_none _ _
     ever_turn e a l b scope after within fit' sub body inside lb lc outer is res (suc k) le κ h st d ag =
         let lp : ALoop = for_loop None e a in
@@ -432,7 +432,7 @@ module _ (program : TreeProgram) (code : List TreeItem) (callers : List Activati
           left = low_h.left;
         }) st d ag)))
 
-    for_does : (c e : Option Term) (a : Act) (l : ℕ) (scope after outer : ℕ → Type 0) → ((x : ℕ) → scope x → x < size) → FitsMaybe scope c → FitsMaybe scope e → ((x : ℕ) → scope x → after x) → ((m : ℕ) → DoesStmt (lower size count a (suc (suc l)) (suc l) m) (suc (suc l)) (suc l) true scope scope after (stmt p next a)) → (inside : Bool) (lb lc : ℕ) → DoesStmt (for_of size count l c e (lower size count a (suc (suc l)) (suc l))) lb lc inside outer scope scope (look_by p next (for_loop c e a) (stmt p next a))
+    for_does : (c e : Option AnExpression) (a : AnAction) (l : ℕ) (scope after outer : ℕ → Type 0) → ((x : ℕ) → scope x → x < size) → FitsMaybe scope c → FitsMaybe scope e → ((x : ℕ) → scope x → after x) → ((m : ℕ) → DoesStmt (lower size count a (suc (suc l)) (suc l) m) (suc (suc l)) (suc l) true scope scope after (stmt p next a)) → (inside : Bool) (lb lc : ℕ) → DoesStmt (for_of size count l c e (lower size count a (suc (suc l)) (suc l))) lb lc inside outer scope scope (look_by p next (for_loop c e a) (stmt p next a))
     for_does None e a l scope after outer within fit fit' sub body inside lb lc k le is κ res h st d ag =
         let b = lower size count a (suc (suc l)) (suc l) (suc (suc (suc l))) in
         jump_counts program code callers k l (Label l ∷ ((b.items ++ (Label (suc l) ∷ ((effect size count e b.labels).items ++ (Jump l ∷ Label (suc (suc l)) ∷ [])))) ++ is)) _ d
@@ -444,7 +444,7 @@ module _ (program : TreeProgram) (code : List TreeItem) (callers : List Activati
         (for_look c e a l b scope after within fit fit' sub (body q.labels) inside lb lc outer is res k le κ h st d ag)
 
     mutual
-      act_does : (a : Act) (scope outer : ℕ → Type 0) → ((x : ℕ) → scope x → x < size) → ((x : ℕ) → outer x → scope x) → (inside : Bool) → FitsAct size scope inside a → (lb lc l : ℕ) → DoesStmt (lower size count a lb lc l) lb lc inside outer scope (behind_act scope a) (stmt p next a)
+      act_does : (a : AnAction) (scope outer : ℕ → Type 0) → ((x : ℕ) → scope x → x < size) → ((x : ℕ) → outer x → scope x) → (inside : Bool) → FitsAct size scope inside a → (lb lc l : ℕ) → DoesStmt (lower size count a lb lc l) lb lc inside outer scope (behind_act scope a) (stmt p next a)
       act_does (DeclareOf ds) scope outer within sub inside fit lb lc l = λ k le is κ res h st d ag. declare_does ds scope within fit l k le is κ res st d ag h.onward
       act_does (BlockOf row) scope outer within sub inside fit lb lc l = rows_do row scope outer scope within sub (λ x h. h) inside fit lb lc l
       act_does (EvaluateOf e) scope outer within sub inside fit lb lc l = λ k le is κ res h st d ag. ((expression scope within e fit).drop size l (omega arith)).runs k le is (κ Onward) res st d ag (λ st' d' ag' s. h.onward st' d' ag')
@@ -470,9 +470,9 @@ module _ (program : TreeProgram) (code : List TreeItem) (callers : List Activati
           joined_at k x.items y.items is d _ (effect_does scope within i fit.0 l k le (y.items ++ is) (look_by p next (for_loop c e a) (stmt p next a) κ) res' st d ag
           (λ st1 d1 ag1. for_does c e a x.labels scope (behind_act scope a) outer within fit.1 fit.2 (behind_more scope a) (λ m. act_does a scope scope within (λ x h. h) true fit.3 (suc (suc x.labels)) (suc x.labels) m) inside lb lc k le is κ (resolves_back code x.items (y.items ++ is) res') h st1 d1 ag1))
 
-      pub rows_do : (row : Acts) (scope outer base : ℕ → Type 0) → ((x : ℕ) → scope x → x < size) → ((x : ℕ) → outer x → scope x) → ((x : ℕ) → base x → scope x) → (inside : Bool) → FitsActs size scope inside row → (lb lc l : ℕ) → DoesStmt (lower_row size count row lb lc l) lb lc inside outer scope base (stmts p next row)
-      rows_do NoActs scope outer base within sub sub' inside fit lb lc l k le is κ res h st d ag = h.onward st d (agree_less size (length callers) base scope st d sub' ag)
-      rows_do (MoreActs a row) scope outer base within sub sub' inside fit lb lc l k le is κ res h st d ag =
+      pub rows_do : (row : SomeActions) (scope outer base : ℕ → Type 0) → ((x : ℕ) → scope x → x < size) → ((x : ℕ) → outer x → scope x) → ((x : ℕ) → base x → scope x) → (inside : Bool) → FitsActs size scope inside row → (lb lc l : ℕ) → DoesStmt (lower_row size count row lb lc l) lb lc inside outer scope base (stmts p next row)
+      rows_do NoActions scope outer base within sub sub' inside fit lb lc l k le is κ res h st d ag = h.onward st d (agree_less size (length callers) base scope st d sub' ag)
+      rows_do (MoreActions a row) scope outer base within sub sub' inside fit lb lc l k le is κ res h st d ag =
           let x = lower size count a lb lc l in
           let y = lower_row size count row lb lc x.labels in
           let res' = parted x.items y.items is res in

@@ -19,7 +19,7 @@ use Rattle.c_meaning.specs.State.{State, integer_access, with_locals, with_param
 use Rattle.c_meaning.specs.Meaning.{Rest, RestAt, written, store_at}
 use Rattle.c_lower_scheme.specs.Trees.{Gaddr, Neg, Com, Bin, Tree, Num, Loc, Arg, Indir, Conv, Item, AssignLoc, AssignArg, AssignMem, divides, stable, is_leaf}
 use Rattle.c_lower_scheme.specs.Spelling.{spelled_all}
-use Rattle.c_lower_scheme.specs.Expressions.{Low, Where, InLoc, InArg, InMem, Found, Ready, saving, saved, integer_of, fitted, assign_to, store_drop, store_low_at, store_low}
+use Rattle.c_lower_scheme.specs.Expressions.{Lowered, Where, InLoc, InArg, InMem, Located, Assignable, saving, saved, integer_of, fitted, assign_to, store_drop, store_low_at, store_low}
 use Rattle.c_lower_follows.proofs.Values.{SmallTree, Small, worth_small}
 use Rattle.c_lower_follows.proofs.Leads.{Leads}
 use Rattle.c_lower_follows.proofs.Steps.{Desk, desk_sight, on, Resolves, lost, narrowed, written_at, assign_loc_step, assign_arg_step, assign_mem_step}
@@ -50,13 +50,13 @@ module _ (program : TreeProgram) (code : List TreeItem) (callers : List Activati
   abbrev pub go : List Item → Desk → Runs
   go is d = run_at program code callers size count scope level is d
 
-  abbrev pub DoesIt : Low → ℕ → (Rest → State → Runs) → Type 0
+  abbrev pub DoesIt : Lowered → ℕ → (Rest → State → Runs) → Type 0
   DoesIt p t m = Does program code callers size count scope level p t m
 
-  abbrev pub IsReady : Ready → ℕ → ((CType → Spot → Rest) → State → Runs) → Type 0
+  abbrev pub IsReady : Assignable → ℕ → ((CType → Spot → Rest) → State → Runs) → Type 0
   IsReady r t m = DoesReady program code callers size count scope level r t m
 
-  abbrev pub IsPlace : Found → ℕ → (RestAt → State → Runs) → Type 0
+  abbrev pub IsPlace : Located → ℕ → (RestAt → State → Runs) → Type 0
   IsPlace p t m = DoesPlace program code callers size count scope level p t m
 
   abbrev pub then_at : (k : ℕ) (a b is : List Item) (d : Desk) (r : Runs) → Leads k r (go (a ++ (b ++ is)) d) → Leads k r (go ((a ++ b) ++ is) d)
@@ -99,7 +99,7 @@ module _ (program : TreeProgram) (code : List TreeItem) (callers : List Activati
       (λ x v ex ev. put_memory_step program code callers size count scope level within ty x (converted ty v) v k is (λ v. κ) st d (narrow_same ty d.area x v) ag
       (λ area ag'. h _ _ ag' (λ j sz. refl)))
 
-  pub store_drop_does : (r : Ready) (t : ℕ) (m : (CType → Spot → Rest) → State → Runs) → size ≤ t → IsReady r t m → Drops program code callers size count scope level (store_drop r) t (λ κ. m (λ ty s v. store_at ty s v κ))
+  pub store_drop_does : (r : Assignable) (t : ℕ) (m : (CType → Spot → Rest) → State → Runs) → size ≤ t → IsReady r t m → Drops program code callers size count scope level (store_drop r) t (λ κ. m (λ ty s v. store_at ty s v κ))
   store_drop_does r t m sz does = record {
     grows = does.grows;
     runs = λ k le is κ res st d ag h.
@@ -193,11 +193,11 @@ module _ (program : TreeProgram) (code : List TreeItem) (callers : List Activati
         (subst (λ o. Leads k (on o (λ y. on (value program (Loc u) d2) (λ v. R))) (go (j ∷ is) d2)) there_a run))))));
   }
 
-  pub store_low_does : (r : Ready) (t : ℕ) (m : (CType → Spot → Rest) → State → Runs) → size ≤ t → PurePlace r.place → IsReady r t m → DoesIt (store_low r) t (λ κ. m (λ ty s v. store_at ty s v κ))
+  pub store_low_does : (r : Assignable) (t : ℕ) (m : (CType → Spot → Rest) → State → Runs) → size ≤ t → PurePlace r.place → IsReady r t m → DoesIt (store_low r) t (λ κ. m (λ ty s v. store_at ty s v κ))
   store_low_does r t m sz pure does = store_low_by r.place r.items r.type r.value r.temps r.labels t m sz pure does
 
   -- a part that may be saved, and then another part: where its tree stays, nothing changes it
-  pub hold : (b : Bool) (w : Tree) (t0 u : ℕ) (q : Low) (n : Rest → State → Runs) (k : ℕ) → k ≤ level → (is : List Item) (κ : ℕ → Rest) (st : State) (d : Desk) → size ≤ t0 → q.temps ≤ u → SmallTree w → DoesIt q t0 n → Resolves code ((saving b u w ++ q.items) ++ is) → (b ≡ false → (q.items ≡ []) ⊎ ((stable size w ≡ true) × Below t0 w)) → good st d
+  pub hold : (b : Bool) (w : Tree) (t0 u : ℕ) (q : Lowered) (n : Rest → State → Runs) (k : ℕ) → k ≤ level → (is : List Item) (κ : ℕ → Rest) (st : State) (d : Desk) → size ≤ t0 → q.temps ≤ u → SmallTree w → DoesIt q t0 n → Resolves code ((saving b u w ++ q.items) ++ is) → (b ≡ false → (q.items ≡ []) ⊎ ((stable size w ≡ true) × Below t0 w)) → good st d
       → ((st' : State) (d' : Desk) → good st' d' → Held size t0 q.temps u (saving b u w ++ q.items) st d st' d' → Leads k (on (value program (saved b u w) d') (λ x. on (value program q.tree d') (λ y. κ x y st'))) (go is d'))
       → Leads k (on (value program w d) (λ x. n (κ x) st)) (go ((saving b u w ++ q.items) ++ is) d)
   hold true w t0 u q n k le is κ st d sz le' small does res rest ag h =
@@ -234,7 +234,7 @@ module _ (program : TreeProgram) (code : List TreeItem) (callers : List Activati
           subst (λ o. Leads k (on o (λ x. on (value program q.tree d2) (λ y. κ x y st2))) (go is d2)) same (h st2 d2 ag2 (leave st2 d2 s2)))
 
   -- the same, with the frame of the second part alone
-  pub waits : (w : Tree) (t0 : ℕ) (q : Low) (n : Rest → State → Runs) (k : ℕ) → k ≤ level → (is : List Item) (κ : ℕ → Rest) (st : State) (d : Desk) → size ≤ t0 → SmallTree w → Below t0 w → DoesIt q t0 n → Resolves code (q.items ++ is) → (q.items ≡ []) ⊎ (stable size w ≡ true) → good st d
+  pub waits : (w : Tree) (t0 : ℕ) (q : Lowered) (n : Rest → State → Runs) (k : ℕ) → k ≤ level → (is : List Item) (κ : ℕ → Rest) (st : State) (d : Desk) → size ≤ t0 → SmallTree w → Below t0 w → DoesIt q t0 n → Resolves code (q.items ++ is) → (q.items ≡ []) ⊎ (stable size w ≡ true) → good st d
       → ((st' : State) (d' : Desk) → good st' d' → Since size t0 q.temps q.items st d st' d' → Leads k (on (value program w d') (λ x. on (value program q.tree d') (λ y. κ x y st'))) (go is d'))
       → Leads k (on (value program w d) (λ x. n (κ x) st)) (go (q.items ++ is) d)
   waits w t0 q n k le is κ st d sz small below does res (inl none) ag h =

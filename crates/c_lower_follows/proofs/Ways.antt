@@ -32,14 +32,14 @@ use Rattle.c_types.specs.declared.typed.Direction.{Direction}
 use Rattle.c_types.specs.declared.typed.Direction.TheVariants as directions
 use Rattle.c_types.specs.Types.{size_of, target, integer_size}
 use Rattle.c_types.specs.Constants.{converted, apply_unary, apply, scale, advanced, retreated, distance}
-use Rattle.c_types.specs.Typed.{PlaceTerm, VariableAt, PointedBy, ElementBy, Term, Constant, LiteralAt, ArrayAt, ReadOf, SizeofTerm, SizeOf, AddressOf, CallOf, StepOf, UnaryOf, CastTo, ConvertTo, ArithmeticOf, CompareOf, BothOf, EitherOf, AdvanceOf, AdvanceByOf, RetreatOf, DistanceOf, ChoiceOf, AssignTo, ArithmeticAssignTo, AdvanceAssignTo, RetreatAssignTo, CommaOf, Terms, NoTerms, MoreTerms}
+use Rattle.c_types.specs.Typed.{APlace, VariableAt, PointedBy, ElementBy, AnExpression, Constant, LiteralAt, ArrayAt, ReadOf, SizeofTerm, SizeOf, AddressOf, CallOf, StepOf, UnaryOf, CastTo, ConvertTo, ArithmeticOf, CompareOf, BothOf, EitherOf, AdvanceOf, AdvanceByOf, RetreatOf, DistanceOf, ChoiceOf, AssignTo, ArithmeticAssignTo, AdvanceAssignTo, RetreatAssignTo, CommaOf, SomeExpressions, NoExpressions, MoreExpressions}
 use Rattle.c_program.specs.Programs.{ARoutine, AProgram}
 use Rattle.c_meaning.specs.declared.store.Spot.{Spot}
 use Rattle.c_meaning.specs.declared.store.Spot.TheVariants.{Memory}
 use Rattle.c_meaning.specs.State.{State, address, spot_of}
 use Rattle.c_meaning.specs.Meaning.{Rest, RestAt, Next, or_wild, or_trap, read_at, store_at, stepped, of_moment, step_at, address_of, located, array_address, expr, place, arguments}
 use Rattle.c_lower_scheme.specs.Trees.{Tree, Num, Gaddr, Neg, Com, Bin, Item}
-use Rattle.c_lower_scheme.specs.Expressions.{Low, Way, Found, due, where_of, address_tree, scaled_by, advance, advance_by, retreat, apart, step, over, fitted, found, pointed, read_low, address_low, store_low, store_drop, assign_ready, update_ready, step_tree, step_ready, step_low, unary, update_by, seek, way, pass}
+use Rattle.c_lower_scheme.specs.Expressions.{Lowered, Lowering, Located, due, where_of, address_tree, scaled_by, advance, advance_by, retreat, apart, step, over, fitted, found, pointed, read_low, address_low, store_low, store_drop, assign_ready, update_ready, step_tree, step_ready, step_low, unary, update_by, seek, way, pass}
 use Rattle.c_sound.specs.Fits.{StandsIn, FitsAt, Fits, FitsAll}
 use Rattle.c_lower_follows.proofs.Values.{SmallTree, Small, worth_small, or_zero}
 use Rattle.c_lower_follows.proofs.Leads.{Leads, leads_wild}
@@ -246,13 +246,13 @@ located_at None f st = refl
 located_at (Some a) f st = refl
 
 module _ (program : TreeProgram) (code : List TreeItem) (callers : List Activation) (size count : ℕ) (scope : ℕ → Type 0) (level : ℕ) (within : (x : ℕ) → scope x → x < size) (p : AProgram) (next : Next) (counts_all : length program.functions ≡ count) (lowers : (f : ℕ) (g : ARoutine) → slice_get p.routines f ≡ Some g → (tf : TreeFn) × (slice_get program.functions f ≡ Some tf) × CodeOf count g tf.items) (calls : Calls program count p next level) (objects_are : program.objects ≡ p.objects) (addresses : (n : ℕ) (o : Object) → slice_get p.objects n ≡ Some o → o.address < 2 ^ 32) where
-  abbrev pub WayOf : Way → (Rest → State → Runs) → Type 0
+  abbrev pub WayOf : Lowering → (Rest → State → Runs) → Type 0
   WayOf w m = DoesWay program code callers size count scope level w m
 
-  abbrev LowOf : Low → ℕ → (Rest → State → Runs) → Type 0
+  abbrev LowOf : Lowered → ℕ → (Rest → State → Runs) → Type 0
   LowOf q t m = Does program code callers size count scope level q t m
 
-  abbrev PlaceOf : Found → ℕ → (RestAt → State → Runs) → Type 0
+  abbrev PlaceOf : Located → ℕ → (RestAt → State → Runs) → Type 0
   PlaceOf q t m = DoesPlace program code callers size count scope level q t m
 
   abbrev there_is : List Item → Desk → Runs
@@ -281,23 +281,23 @@ module _ (program : TreeProgram) (code : List TreeItem) (callers : List Activati
   variable_does ty (variables.Global n) t l fit = record { grows = omega arith; fits = tt; small = tt; runs = λ k le is κ res st d ag h. subst (λ r. Leads k r (there_is is d)) (gaddr n d (λ x. κ ty (Memory x) st) ∙ located_at (address p.objects n) (κ ty) st) (h st d ag (since_start size t t [] st d)) }
   variable_does ty (variables.Static n) t l fit = record { grows = omega arith; fits = tt; small = tt; runs = λ k le is κ res st d ag h. subst (λ r. Leads k r (there_is is d)) (gaddr n d (λ x. κ ty (Memory x) st) ∙ located_at (address p.objects n) (κ ty) st) (h st d ag (since_start size t t [] st d)) }
 
-  pointed_does : (ty : CType) (q : Low) (t : ℕ) (m : Rest → State → Runs) → LowOf q t m → PlaceOf (pointed ty q) t (λ κ. m (λ a. κ ty (Memory a)))
+  pointed_does : (ty : CType) (q : Lowered) (t : ℕ) (m : Rest → State → Runs) → LowOf q t m → PlaceOf (pointed ty q) t (λ κ. m (λ a. κ ty (Memory a)))
   pointed_does ty q t m does = record { grows = does.grows; fits = does.below; small = does.small; runs = λ k le is κ res st d ag h. does.runs k le is (λ a. κ ty (Memory a)) res st d ag h }
 
   number_does : (n : ℕ) → n < 2 ^ 32 → (t l : ℕ) → LowOf (due (Num n) t l) t (λ κ. κ n)
   number_does n lt t l = due_does program code callers size count scope level within (Num n) t l (λ κ. κ n) tt lt (λ k is κ st d ag h. h)
 
-  unary_does : (op : UnaryOperator) (e : Way) (m : Rest → State → Runs) → WayOf e m → WayOf (unary size count op e) (λ κ. m (λ v. κ (apply_unary op v)))
+  unary_does : (op : UnaryOperator) (e : Lowering) (m : Rest → State → Runs) → WayOf e m → WayOf (unary size count op e) (λ κ. m (λ v. κ (apply_unary op v)))
   unary_does unaries.Plus e m does = mapped_does program code callers size count scope level within (λ w. w) (apply_unary unaries.Plus) e m (plus_maps program code callers size count scope level within) does
   unary_does unaries.Minus e m does = mapped_does program code callers size count scope level within Neg (apply_unary unaries.Minus) e m (minus_maps program code callers size count scope level within) does
   unary_does unaries.Complement e m does = mapped_does program code callers size count scope level within Com (apply_unary unaries.Complement) e m (complement_maps program code callers size count scope level within) does
   unary_does unaries.Not e m does = not_does program code callers size count scope level within e m does
 
   -- `++` and `--`, whose other side is the size
-  step_ready_does : (by : Direction) (q : Found) (t : ℕ) (m : RestAt → State → Runs) → size ≤ t → PlaceOf q t m → DoesReady program code callers size count scope level (step_ready size count by q) t (λ κ. m (λ ty s. read_at ty s (λ x. κ ty s (stepping program code callers size count scope level within by x (scale ty)))))
+  step_ready_does : (by : Direction) (q : Located) (t : ℕ) (m : RestAt → State → Runs) → size ≤ t → PlaceOf q t m → DoesReady program code callers size count scope level (step_ready size count by q) t (λ κ. m (λ ty s. read_at ty s (λ x. κ ty s (stepping program code callers size count scope level within by x (scale ty)))))
   step_ready_does by q t m sz does = update_does program code callers size count scope level within (step by) (λ ty x y κ. κ (stepping program code callers size count scope level within by x y)) q (due (Num (scale q.type)) q.temps q.labels) t m (λ ty κ. κ (scale ty)) sz (step_makes program code callers size count scope level within by) does (number_does (scale q.type) (scale_small q.type) q.temps q.labels)
 
-  step_does : (moment : Moment) (by : Direction) (a : PlaceTerm) (m : RestAt → State → Runs) → ((t l : ℕ) → size ≤ t → PlaceOf (seek size count a t l) t m) → WayOf (way size count (StepOf moment by a)) (λ κ. m (λ ty s. step_at moment by ty s κ))
+  step_does : (moment : Moment) (by : Direction) (a : APlace) (m : RestAt → State → Runs) → ((t l : ℕ) → size ≤ t → PlaceOf (seek size count a t l) t m) → WayOf (way size count (StepOf moment by a)) (λ κ. m (λ ty s. step_at moment by ty s κ))
   step_does moment by a m does = effective_does program code callers size count scope level within _ _ (λ κ. m (λ ty s. step_at moment by ty s κ))
       (λ t l sz. low_of moment t l sz) (λ t l sz. drop_of moment t l sz)
     where
@@ -322,7 +322,7 @@ module _ (program : TreeProgram) (code : List TreeItem) (callers : List Activati
           any_moment moment κ = λ j ty s. read_at ty s (λ x. store_at ty s (sym (stepped_is program code callers size count scope level within by ty x) j) (λ v. κ))
 
   -- assignments
-  assign_way : (a : PlaceTerm) (e : Term) (m : RestAt → State → Runs) (n : Rest → State → Runs) → ((t l : ℕ) → size ≤ t → PlaceOf (seek size count a t l) t m) → WayOf (way size count e) n → WayOf (way size count (AssignTo a e)) (λ κ. m (λ ty s. n (λ v. store_at ty s v κ)))
+  assign_way : (a : APlace) (e : AnExpression) (m : RestAt → State → Runs) (n : Rest → State → Runs) → ((t l : ℕ) → size ≤ t → PlaceOf (seek size count a t l) t m) → WayOf (way size count e) n → WayOf (way size count (AssignTo a e)) (λ κ. m (λ ty s. n (λ v. store_at ty s v κ)))
   assign_way a e m n does does' = effective_does program code callers size count scope level within _ _ (λ κ. m (λ ty s. n (λ v. store_at ty s v κ)))
       (λ t l sz.
       let q = seek size count a t l in
@@ -339,7 +339,7 @@ module _ (program : TreeProgram) (code : List TreeItem) (callers : List Activati
       let drops = store_drop_does program code callers size count scope level within (assign_ready size count false q v) t (λ κ. m (λ ty s. n (λ v. κ ty s v))) sz r in
       record { grows = drops.grows; runs = λ k le is κ res st d ag h. drops.runs k le is κ res st d ag h })
 
-  update_way : (f : CType → Tree → Tree → Tree) (g : CType → ℕ → ℕ → Rest → State → Runs) (a : PlaceTerm) (e : Term) (m : RestAt → State → Runs) (n : Rest → State → Runs) → ((ty : CType) → MakesOf program code callers size count scope level within (f ty) (g ty)) → ((t l : ℕ) → size ≤ t → PlaceOf (seek size count a t l) t m) → WayOf (way size count e) n → WayOf (update_by size count f (seek size count a) (way size count e)) (λ κ. m (λ ty s. read_at ty s (λ x. n (λ y. g ty x y (λ v. store_at ty s v κ)))))
+  update_way : (f : CType → Tree → Tree → Tree) (g : CType → ℕ → ℕ → Rest → State → Runs) (a : APlace) (e : AnExpression) (m : RestAt → State → Runs) (n : Rest → State → Runs) → ((ty : CType) → MakesOf program code callers size count scope level within (f ty) (g ty)) → ((t l : ℕ) → size ≤ t → PlaceOf (seek size count a t l) t m) → WayOf (way size count e) n → WayOf (update_by size count f (seek size count a) (way size count e)) (λ κ. m (λ ty s. read_at ty s (λ x. n (λ y. g ty x y (λ v. store_at ty s v κ)))))
   update_way f g a e m n made does does' = effective_does program code callers size count scope level within _ _ (λ κ. m (λ ty s. read_at ty s (λ x. n (λ y. g ty x y (λ v. store_at ty s v κ)))))
       (λ t l sz.
       let q = seek size count a t l in
@@ -356,18 +356,18 @@ module _ (program : TreeProgram) (code : List TreeItem) (callers : List Activati
       let drops = store_drop_does program code callers size count scope level within (update_ready size count (f q.type) q v) t (λ κ. m (λ ty s. read_at ty s (λ x. n (λ y. g ty x y (κ ty s))))) sz r in
       record { grows = drops.grows; runs = λ k le is κ res st d ag h. drops.runs k le is κ res st d ag h })
 
-  call_way : (ty : CType) (f : Callee) (to : List CType) (es : Terms) → ((t l : ℕ) → size ≤ t → DoesAll program code callers size count scope level within (pass size count es to t l) t (arguments p next es to)) → WayOf (way size count (CallOf ty f to es)) (expr p next (CallOf ty f to es))
+  call_way : (ty : CType) (f : Callee) (to : List CType) (es : SomeExpressions) → ((t l : ℕ) → size ≤ t → DoesAll program code callers size count scope level within (pass size count es to t l) t (arguments p next es to)) → WayOf (way size count (CallOf ty f to es)) (expr p next (CallOf ty f to es))
   call_way ty f to es does = effective_does program code callers size count scope level within _ _ (expr p next (CallOf ty f to es))
       (λ t l sz. called_low_does program code callers size count scope level within p next counts_all lowers calls f (pass size count es to t l) t (arguments p next es to) sz (does t l sz))
       (λ t l sz. called_drop_does program code callers size count scope level within p next counts_all lowers calls f (pass size count es to t l) t (arguments p next es to) sz (does t l sz))
 
   mutual
-    pub seek_does : (a : PlaceTerm) → FitsAt scope a → (t l : ℕ) → size ≤ t → PlaceOf (seek size count a t l) t (place p next a)
+    pub seek_does : (a : APlace) → FitsAt scope a → (t l : ℕ) → size ≤ t → PlaceOf (seek size count a t l) t (place p next a)
     seek_does (VariableAt ty v) fit t l sz = variable_does ty v t l fit
     seek_does (PointedBy ty e) fit t l sz = pointed_does ty ((way size count e).low t l) t (expr p next e) ((way_does e fit).low t l sz)
     seek_does (ElementBy ty e) fit t l sz = pointed_does ty ((way size count e).low t l) t (expr p next e) ((way_does e fit).low t l sz)
 
-    pub way_does : (e : Term) → Fits scope e → WayOf (way size count e) (expr p next e)
+    pub way_does : (e : AnExpression) → Fits scope e → WayOf (way size count e) (expr p next e)
     way_does (Constant n) fit = valued_does program code callers size count scope level within (due (Num n)) (λ κ. κ n) (λ t l sz. number_does n fit t l)
     way_does (LiteralAt n bytes) fit = valued_does program code callers size count scope level within (due (Gaddr n)) (λ κ. or_wild (address p.objects n) κ) (λ t l sz. literal_does n t l)
     way_does (ArrayAt ty v bytes) fit = valued_does program code callers size count scope level within (due (address_tree (where_of v))) (array_address p v) (λ t l sz. array_does v t l)
@@ -395,10 +395,10 @@ module _ (program : TreeProgram) (code : List TreeItem) (callers : List Activati
     way_does (RetreatAssignTo a e) fit = update_way retreat (λ ty x y κ. κ (retreated ty x y)) a e (place p next a) (expr p next e) (λ ty. retreat_makes program code callers size count scope level within ty) (λ t l sz. seek_does a fit.0 t l sz) (way_does e fit.1)
     way_does (CommaOf ty a b) fit = comma_does program code callers size count scope level within (way size count a) (way size count b) (expr p next a) (expr p next b) (way_does a fit.0) (way_does b fit.1)
 
-    pub all_do : (es : Terms) (to : List CType) → FitsAll scope es to → (t l : ℕ) → size ≤ t → DoesAll program code callers size count scope level within (pass size count es to t l) t (arguments p next es to)
-    all_do NoTerms to fit t l sz = none_does program code callers size count scope level within t l
-    all_do (MoreTerms e es) [] fit t l sz = absurd fit
-    all_do (MoreTerms e es) (ty ∷ to) fit t l sz =
-        let q : Low = over (fitted ty) ((way size count e).low t l) in
+    pub all_do : (es : SomeExpressions) (to : List CType) → FitsAll scope es to → (t l : ℕ) → size ≤ t → DoesAll program code callers size count scope level within (pass size count es to t l) t (arguments p next es to)
+    all_do NoExpressions to fit t l sz = none_does program code callers size count scope level within t l
+    all_do (MoreExpressions e es) [] fit t l sz = absurd fit
+    all_do (MoreExpressions e es) (ty ∷ to) fit t l sz =
+        let q : Lowered = over (fitted ty) ((way size count e).low t l) in
         let f = over_does program code callers size count scope level within (fitted ty) (converted ty) ((way size count e).low t l) t (expr p next e) (fitted_maps program code callers size count scope level within ty) ((way_does e fit.0).low t l sz) in
         pass_does program code callers size count scope level within q (pass size count es to q.temps q.labels) t (λ κ. expr p next e (λ v. κ (converted ty v))) (arguments p next es to) sz f (all_do es to fit.1 q.temps q.labels (omega (arith, f.grows)))

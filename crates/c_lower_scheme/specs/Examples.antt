@@ -10,8 +10,8 @@ use Rattle.c_types.specs.declared.typed.UnaryOperator.TheVariants as unaries
 use Rattle.c_types.specs.declared.typed.ArithmeticOperator.TheVariants as ariths
 use Rattle.c_types.specs.declared.typed.Moment.TheVariants as moments
 use Rattle.c_types.specs.declared.typed.Direction.TheVariants as directions
-use Rattle.c_types.specs.Typed.{PlaceTerm, VariableAt, PointedBy, ElementBy, Term, Constant, ArrayAt, ReadOf, CallOf, StepOf, UnaryOf, CastTo, ArithmeticOf, CompareOf, BothOf, AdvanceOf, ChoiceOf, AssignTo, ArithmeticAssignTo, NoTerms, MoreTerms}
-use Rattle.c_program.specs.Statements.{ClearOf, BeginOf, Act, Acts, NoActs, MoreActs, DeclareOf, EvaluateOf, ReturnOf}
+use Rattle.c_types.specs.Typed.{APlace, VariableAt, PointedBy, ElementBy, AnExpression, Constant, ArrayAt, ReadOf, CallOf, StepOf, UnaryOf, CastTo, ArithmeticOf, CompareOf, BothOf, AdvanceOf, ChoiceOf, AssignTo, ArithmeticAssignTo, NoExpressions, MoreExpressions}
+use Rattle.c_program.specs.Statements.{ClearOf, BeginOf, AnAction, SomeActions, NoActions, MoreActions, DeclareOf, EvaluateOf, ReturnOf}
 use Rattle.c_lower_scheme.specs.Trees.{Tree, Num, Gaddr, Loc, Indir, Conv, Bin, Item, Label, AssignLoc, AssignMem, Cbr, Jump, Push, Call, Save, Ret}
 use Rattle.c_lower_scheme.specs.Statements.{lower_row}
 
@@ -24,28 +24,28 @@ char = types.Integer ints.Char
 abbrev pointer : CType
 pointer = types.Pointer ints.Int 0
 
-abbrev local : CType → ℕ → PlaceTerm
+abbrev local : CType → ℕ → APlace
 local t n = VariableAt t (variables.Automatic n)
 
-abbrev global : CType → ℕ → PlaceTerm
+abbrev global : CType → ℕ → APlace
 global t n = VariableAt t (variables.Global n)
 
-abbrev array : ℕ → Term
+abbrev array : ℕ → AnExpression
 array n = ArrayAt pointer (variables.Global n) 16
 
-abbrev element : ℕ → Term → PlaceTerm
+abbrev element : ℕ → AnExpression → APlace
 element n i = ElementBy int (AdvanceOf pointer (array n) i)
 
-abbrev incremented : PlaceTerm → Term
+abbrev incremented : APlace → AnExpression
 incremented p = StepOf moments.Before directions.Up p
 
-abbrev block : List Act → Acts
-block [] = NoActs
-block (a ∷ rest) = MoreActs a (block rest)
+abbrev block : List AnAction → SomeActions
+block [] = NoActions
+block (a ∷ rest) = MoreActions a (block rest)
 
 -- int z; int g(int a, int b); int main() { return g(1/z, *(int*)0); }
-abbrev calling : Acts
-calling = block (ReturnOf (Some (CallOf int (callees.Defined 0) (int ∷ int ∷ []) (MoreTerms (ArithmeticOf ariths.Divide (Constant 1) (ReadOf (global int 0))) (MoreTerms (ReadOf (PointedBy int (CastTo pointer (Constant 0)))) NoTerms)))) ∷ [])
+abbrev calling : SomeActions
+calling = block (ReturnOf (Some (CallOf int (callees.Defined 0) (int ∷ int ∷ []) (MoreExpressions (ArithmeticOf ariths.Divide (Constant 1) (ReadOf (global int 0))) (MoreExpressions (ReadOf (PointedBy int (CastTo pointer (Constant 0)))) NoExpressions)))) ∷ [])
 
 abbrev calling_items : List Item
 calling_items =
@@ -58,7 +58,7 @@ calling_items =
     ∷ []
 
 -- int a[4]; int main() { int i; char c; i = 0; c = a[i++] + i; a[i] += i++; return i < c && !a[c]; }
-abbrev indexing : Acts
+abbrev indexing : SomeActions
 indexing = block (
     DeclareOf (ClearOf 0 ∷ [])
     ∷ DeclareOf (ClearOf 1 ∷ [])
@@ -93,11 +93,11 @@ indexing_items =
     ∷ []
 
 -- char h; int *p; int f(); int main() { int x = (h = 300); *p++ = f(); h += f(); return x ? h : *p; }
-abbrev storing : Acts
+abbrev storing : SomeActions
 storing = block (
     DeclareOf (BeginOf 0 (AssignTo (global char 0) (Constant 300)) ∷ [])
-    ∷ EvaluateOf (AssignTo (PointedBy int (incremented (global pointer 1))) (CallOf int (callees.Defined 0) [] NoTerms))
-    ∷ EvaluateOf (ArithmeticAssignTo ariths.Add (global char 0) (CallOf int (callees.Defined 0) [] NoTerms))
+    ∷ EvaluateOf (AssignTo (PointedBy int (incremented (global pointer 1))) (CallOf int (callees.Defined 0) [] NoExpressions))
+    ∷ EvaluateOf (ArithmeticAssignTo ariths.Add (global char 0) (CallOf int (callees.Defined 0) [] NoExpressions))
     ∷ ReturnOf (Some (ChoiceOf int (ReadOf (local int 0)) (ReadOf (global char 0)) (ReadOf (PointedBy int (ReadOf (global pointer 1))))))
     ∷ [])
 

@@ -5,17 +5,17 @@ use Rattle.tree_core.specs.declared.program.TreeProgram.{TreeProgram}
 use Rattle.c_program.specs.Programs.{ARoutine, AProgram}
 use Rattle.c_lower_scheme.specs.Trees.{Item, Num, Ret}
 use Rattle.c_lower_scheme.specs.Spelling.{spelled_all}
-use Rattle.c_lower_scheme.specs.Expressions.{Done}
+use Rattle.c_lower_scheme.specs.Expressions.{Emitted}
 use Rattle.c_lower_scheme.specs.Statements.{lower_row}
 
 -- A function's items, from the first free label on: behind its statements it answers 0. It has no loop around it, so no `break` or `continue` goes to the label 0 that is named here.
-abbrev pub body_of : ℕ → ARoutine → ℕ → Done
+abbrev pub body_of : ℕ → ARoutine → ℕ → Emitted
 body_of count g l = lower_row (length g.locals) count g.body 0 0 l
 
-abbrev pub items_of : Done → List Item
+abbrev pub items_of : Emitted → List Item
 items_of p = p.items ++ (Ret (Num 0) ∷ [])
 
-abbrev pub function_of : ARoutine → Done → TreeFn
+abbrev pub function_of : ARoutine → Emitted → TreeFn
 function_of g p = record { name = g.name; args = length g.parameters; locals = p.temps; items = spelled_all (items_of p) }
 
 abbrev pub lower_all : ℕ → List ARoutine → ℕ → List TreeFn

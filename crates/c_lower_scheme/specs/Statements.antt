@@ -2,10 +2,10 @@
 use Rattle.std.specs.Prelude.{ℕ, suc, max, ◌==◌, List, [], ◌∷◌, ◌++◌, Option, Some, None, Bool, true, false, ◌||◌}
 use Rattle.c_types.specs.declared.typed.Variable.{Variable}
 use Rattle.c_types.specs.declared.typed.Variable.TheVariants as variables
-use Rattle.c_types.specs.Typed.{PlaceTerm, VariableAt, PointedBy, ElementBy, Term, Constant, LiteralAt, ArrayAt, ReadOf, SizeofTerm, SizeOf, AddressOf, CallOf, StepOf, UnaryOf, CastTo, ConvertTo, ArithmeticOf, CompareOf, BothOf, EitherOf, AdvanceOf, AdvanceByOf, RetreatOf, DistanceOf, ChoiceOf, AssignTo, ArithmeticAssignTo, AdvanceAssignTo, RetreatAssignTo, CommaOf, Terms, NoTerms, MoreTerms}
-use Rattle.c_program.specs.Statements.{ADeclaration, KeepOf, ClearOf, BeginOf, Act, Acts, NoActs, MoreActs, DeclareOf, BlockOf, EvaluateOf, BreakOf, ContinueOf, ReturnOf, IfOf, IfElseOf, WhileOf, DoOf, ForOf}
+use Rattle.c_types.specs.Typed.{APlace, VariableAt, PointedBy, ElementBy, AnExpression, Constant, LiteralAt, ArrayAt, ReadOf, SizeofTerm, SizeOf, AddressOf, CallOf, StepOf, UnaryOf, CastTo, ConvertTo, ArithmeticOf, CompareOf, BothOf, EitherOf, AdvanceOf, AdvanceByOf, RetreatOf, DistanceOf, ChoiceOf, AssignTo, ArithmeticAssignTo, AdvanceAssignTo, RetreatAssignTo, CommaOf, SomeExpressions, NoExpressions, MoreExpressions}
+use Rattle.c_program.specs.Statements.{ADeclaration, KeepOf, ClearOf, BeginOf, AnAction, SomeActions, NoActions, MoreActions, DeclareOf, BlockOf, EvaluateOf, BreakOf, ContinueOf, ReturnOf, IfOf, IfElseOf, WhileOf, DoOf, ForOf}
 use Rattle.c_lower_scheme.specs.Trees.{Item, Num, Label, AssignLoc, Jump, Ret}
-use Rattle.c_lower_scheme.specs.Expressions.{Low, Done, nothing, way}
+use Rattle.c_lower_scheme.specs.Expressions.{Lowered, Emitted, nothing, way}
 
 -- an automatic local stands in an expression
 abbrev pub is_local : ℕ → Variable → Bool
@@ -15,12 +15,12 @@ is_local n (variables.Global m) = false
 is_local n (variables.Static m) = false
 
 abbrev mutual
-  pub place_mentions : ℕ → PlaceTerm → Bool
+  pub place_mentions : ℕ → APlace → Bool
   place_mentions n (VariableAt t v) = is_local n v
   place_mentions n (PointedBy t e) = mentions n e
   place_mentions n (ElementBy t e) = mentions n e
 
-  pub mentions : ℕ → Term → Bool
+  pub mentions : ℕ → AnExpression → Bool
   mentions n (Constant v) = false
   mentions n (LiteralAt object size) = false
   mentions n (ArrayAt t v size) = is_local n v
@@ -48,19 +48,19 @@ abbrev mutual
   mentions n (RetreatAssignTo p e) = place_mentions n p || mentions n e
   mentions n (CommaOf t l r) = mentions n l || mentions n r
 
-  pub any_mentions : ℕ → Terms → Bool
-  any_mentions n NoTerms = false
-  any_mentions n (MoreTerms e es) = mentions n e || any_mentions n es
+  pub any_mentions : ℕ → SomeExpressions → Bool
+  any_mentions n NoExpressions = false
+  any_mentions n (MoreExpressions e es) = mentions n e || any_mentions n es
 
 -- One statement behind another: the temporaries are those of the one with more of them.
-abbrev pub two_done : Done → Done → Done
+abbrev pub two_done : Emitted → Emitted → Emitted
 two_done a b = record { items = a.items ++ b.items; temps = max a.temps b.temps; labels = b.labels }
 
-abbrev pub done_by : Done → (ℕ → Done) → Done
+abbrev pub done_by : Emitted → (ℕ → Emitted) → Emitted
 done_by a f = two_done a (f a.labels)
 
 -- the tree of a value that leaves the function
-abbrev pub ret_of : Low → Done
+abbrev pub ret_of : Lowered → Emitted
 ret_of p = record { items = p.items ++ (Ret p.tree ∷ []); temps = p.temps; labels = p.labels }
 
 -- the local is 0 before its initialiser where that reads it
@@ -68,81 +68,81 @@ abbrev pub clearing : Bool → ℕ → List Item
 clearing true n = AssignLoc n (Num 0) ∷ []
 clearing false n = []
 
-abbrev pub begin_of : Bool → ℕ → Low → Done
+abbrev pub begin_of : Bool → ℕ → Lowered → Emitted
 begin_of b n p = record { items = clearing b n ++ (p.items ++ (AssignLoc n p.tree ∷ [])); temps = p.temps; labels = p.labels }
 
-abbrev pub if_done : ℕ → Done → Done → Done
+abbrev pub if_done : ℕ → Emitted → Emitted → Emitted
 if_done l p a = record { items = p.items ++ (a.items ++ (Label l ∷ [])); temps = max p.temps a.temps; labels = a.labels }
 
-abbrev pub if_of : ℕ → Done → (ℕ → Done) → Done
+abbrev pub if_of : ℕ → Emitted → (ℕ → Emitted) → Emitted
 if_of l p f = if_done l p (f p.labels)
 
-abbrev pub if_else_done : ℕ → Done → Done → Done → Done
+abbrev pub if_else_done : ℕ → Emitted → Emitted → Emitted → Emitted
 if_else_done l p a b = record { items = p.items ++ (a.items ++ (Jump (suc l) ∷ Label l ∷ (b.items ++ (Label (suc l) ∷ [])))); temps = max p.temps (max a.temps b.temps); labels = b.labels }
 
-abbrev pub if_else_by : ℕ → Done → Done → (ℕ → Done) → Done
+abbrev pub if_else_by : ℕ → Emitted → Emitted → (ℕ → Emitted) → Emitted
 if_else_by l p a g = if_else_done l p a (g a.labels)
 
-abbrev pub if_else_of : ℕ → Done → (ℕ → Done) → (ℕ → Done) → Done
+abbrev pub if_else_of : ℕ → Emitted → (ℕ → Emitted) → (ℕ → Emitted) → Emitted
 if_else_of l p f g = if_else_by l p (f p.labels) g
 
 -- `while`: the test stands at the label l, the end is suc l
-abbrev pub while_done : ℕ → Done → Done → Done
+abbrev pub while_done : ℕ → Emitted → Emitted → Emitted
 while_done l p a = record { items = Label l ∷ (p.items ++ (a.items ++ (Jump l ∷ Label (suc l) ∷ []))); temps = max p.temps a.temps; labels = a.labels }
 
-abbrev pub while_of : ℕ → Done → (ℕ → Done) → Done
+abbrev pub while_of : ℕ → Emitted → (ℕ → Emitted) → Emitted
 while_of l p f = while_done l p (f p.labels)
 
 -- `do`: the jump counts the first turn; `continue` goes to suc l, and the end is suc (suc l)
-abbrev pub do_done : ℕ → Done → Done → Done
+abbrev pub do_done : ℕ → Emitted → Emitted → Emitted
 do_done l a p = record { items = Jump l ∷ Label l ∷ (a.items ++ (Label (suc l) ∷ (p.items ++ (Label (suc (suc l)) ∷ [])))); temps = max a.temps p.temps; labels = p.labels }
 
-abbrev pub do_of : ℕ → Done → (ℕ → Done) → Done
+abbrev pub do_of : ℕ → Emitted → (ℕ → Emitted) → Emitted
 do_of l a f = do_done l a (f a.labels)
 
 -- `for` with a test, and without one, where a jump counts each turn
-abbrev pub for_done : ℕ → Done → Done → Done → Done
+abbrev pub for_done : ℕ → Emitted → Emitted → Emitted → Emitted
 for_done l p a s = record { items = Label l ∷ (p.items ++ (a.items ++ (Label (suc l) ∷ (s.items ++ (Jump l ∷ Label (suc (suc l)) ∷ []))))); temps = max p.temps (max a.temps s.temps); labels = s.labels }
 
-abbrev pub ever_done : ℕ → Done → Done → Done
+abbrev pub ever_done : ℕ → Emitted → Emitted → Emitted
 ever_done l a s = record { items = Jump l ∷ Label l ∷ (a.items ++ (Label (suc l) ∷ (s.items ++ (Jump l ∷ Label (suc (suc l)) ∷ [])))); temps = max a.temps s.temps; labels = s.labels }
 
-abbrev pub for_by : ℕ → Done → Done → (ℕ → Done) → Done
+abbrev pub for_by : ℕ → Emitted → Emitted → (ℕ → Emitted) → Emitted
 for_by l p a g = for_done l p a (g a.labels)
 
-abbrev pub ever_by : ℕ → Done → (ℕ → Done) → Done
+abbrev pub ever_by : ℕ → Emitted → (ℕ → Emitted) → Emitted
 ever_by l a g = ever_done l a (g a.labels)
 
 module _ (size count : ℕ) where
   -- a condition that falls through where it holds, and else goes to a label; and one that goes there where it holds
-  abbrev pub unless : Term → ℕ → ℕ → Done
+  abbrev pub unless : AnExpression → ℕ → ℕ → Emitted
   unless c to l = (way size count c).branch false to size l
 
-  abbrev pub when : Term → ℕ → ℕ → Done
+  abbrev pub when : AnExpression → ℕ → ℕ → Emitted
   when c to l = (way size count c).branch true to size l
 
-  abbrev pub effect : Option Term → ℕ → Done
+  abbrev pub effect : Option AnExpression → ℕ → Emitted
   effect None l = nothing size l
   effect (Some e) l = (way size count e).drop size l
 
-  abbrev pub returning : Option Term → ℕ → Done
+  abbrev pub returning : Option AnExpression → ℕ → Emitted
   returning None l = record { items = Ret (Num 0) ∷ []; temps = size; labels = l }
   returning (Some e) l = ret_of ((way size count e).low size l)
 
-  abbrev pub declare : List ADeclaration → ℕ → Done
+  abbrev pub declare : List ADeclaration → ℕ → Emitted
   declare [] l = nothing size l
   declare (KeepOf object ∷ ds) l = declare ds l
   declare (ClearOf n ∷ ds) l = two_done (record { items = clearing true n; temps = size; labels = l }) (declare ds l)
   declare (BeginOf n e ∷ ds) l = done_by (begin_of (mentions n e) n ((way size count e).low size l)) (declare ds)
 
   -- the body and the step of a `for`, in turn behind its test
-  abbrev pub for_of : ℕ → Option Term → Option Term → (ℕ → Done) → Done
+  abbrev pub for_of : ℕ → Option AnExpression → Option AnExpression → (ℕ → Emitted) → Emitted
   for_of l None e f = ever_by l (f (suc (suc (suc l)))) (effect e)
   for_of l (Some c) e f = for_by l (unless c (suc (suc l)) (suc (suc (suc l)))) (f (unless c (suc (suc l)) (suc (suc (suc l)))).labels) (effect e)
 
   abbrev mutual
     -- a statement, whose `break` and `continue` go to two labels
-    pub lower : Act → ℕ → ℕ → ℕ → Done
+    pub lower : AnAction → ℕ → ℕ → ℕ → Emitted
     lower (DeclareOf ds) lb lc l = declare ds l
     lower (BlockOf row) lb lc l = lower_row row lb lc l
     lower (EvaluateOf e) lb lc l = (way size count e).drop size l
@@ -155,6 +155,6 @@ module _ (size count : ℕ) where
     lower (DoOf a c) lb lc l = do_of l (lower a (suc (suc l)) (suc l) (suc (suc (suc l)))) (when c l)
     lower (ForOf i c e a) lb lc l = done_by (effect i l) (λ m. for_of m c e (lower a (suc (suc m)) (suc m)))
 
-    pub lower_row : Acts → ℕ → ℕ → ℕ → Done
-    lower_row NoActs lb lc l = nothing size l
-    lower_row (MoreActs a row) lb lc l = done_by (lower a lb lc l) (lower_row row lb lc)
+    pub lower_row : SomeActions → ℕ → ℕ → ℕ → Emitted
+    lower_row NoActions lb lc l = nothing size l
+    lower_row (MoreActions a row) lb lc l = done_by (lower a lb lc l) (lower_row row lb lc)

@@ -3,12 +3,12 @@ use Rattle.std.proofs.Common.{◌≡◌, ⊎_elim, ℕ, suc, ◌<◌, List, [], 
 use Rattle.std.specs.Prelude.{Bool, true, false, max}
 use Rattle.c_types.specs.declared.typed.Variable.{Variable}
 use Rattle.c_types.specs.declared.typed.Callee.{Callee}
-use Rattle.c_types.specs.Typed.{Term}
-use Rattle.c_program.specs.Statements.{ADeclaration, KeepOf, ClearOf, BeginOf, Act, Acts, NoActs, MoreActs, DeclareOf, BlockOf, EvaluateOf, BreakOf, ContinueOf, ReturnOf, IfOf, IfElseOf, WhileOf, DoOf, ForOf}
+use Rattle.c_types.specs.Typed.{AnExpression}
+use Rattle.c_program.specs.Statements.{ADeclaration, KeepOf, ClearOf, BeginOf, AnAction, SomeActions, NoActions, MoreActions, DeclareOf, BlockOf, EvaluateOf, BreakOf, ContinueOf, ReturnOf, IfOf, IfElseOf, WhileOf, DoOf, ForOf}
 use Rattle.c_sound.specs.Fits.{Fits, FitsMaybe, more, declaring, behind_act, FitsDeclared, FitsAct, FitsActs}
 use Rattle.c_sound.specs.Stands.{IsThere, StandsMaybe, StandsDeclared, StandsAct, StandsActs}
 use Rattle.c_lower_scheme.specs.Trees.{Num, Item, Label, AssignLoc, Jump, Ret}
-use Rattle.c_lower_scheme.specs.Expressions.{Low, Done, nothing, callee_number}
+use Rattle.c_lower_scheme.specs.Expressions.{Lowered, Emitted, nothing, callee_number}
 use Rattle.c_lower_scheme.specs.Expressions
 use Rattle.c_lower_scheme.specs.Statements.{mentions, two_done, ret_of, clearing, begin_of, if_done, if_else_done, while_done, do_done, for_done, ever_done}
 use Rattle.c_lower_scheme.specs.Statements
@@ -26,7 +26,7 @@ within_declared size scope (ClearOf m ∷ ds) within f n h = within_declared siz
 within_declared size scope (BeginOf m e ∷ ds) within f n h = within_declared size (more scope m) ds
     (λ k. ⊎_elim (λ s. within k s) (λ e. let lt = f.0 in omega arith)) f.2 n h
 
-within_act : (size : ℕ) (scope : ℕ → Type 0) (inside : Bool) (a : Act) → ((n : ℕ) → scope n → n < size) → FitsAct size scope inside a
+within_act : (size : ℕ) (scope : ℕ → Type 0) (inside : Bool) (a : AnAction) → ((n : ℕ) → scope n → n < size) → FitsAct size scope inside a
     → (n : ℕ) → behind_act scope a n → n < size
 within_act size scope inside (DeclareOf ds) within f n h = within_declared size scope ds within f n h
 within_act size scope inside (BlockOf row) within f n h = within n h
@@ -42,13 +42,13 @@ within_act size scope inside (ForOf i c e a) within f n h = within n h
 
 module _ (scene : Scene) (size count : ℕ) (takes : Callee → ℕ → Type 0)
     (calls : (f : Callee) (n : ℕ) → takes f n → scene.callable (callee_number count f) n) where
-  abbrev Dones : Done → Type 0
+  abbrev Dones : Emitted → Type 0
   Dones p = FineDone scene size p
 
   abbrev There : Variable → Type 0
   There v = IsThere scene.objects scene.params v
 
-  fine_two : (a b : Done) → Dones a → Dones b → Dones (two_done a b)
+  fine_two : (a b : Emitted) → Dones a → Dones b → Dones (two_done a b)
   fine_two a b h g =
       let u = max a.temps b.temps in
       let le = h.grows in
@@ -64,14 +64,14 @@ module _ (scene : Scene) (size count : ℕ) (takes : Callee → ℕ → Type 0)
   fine_jump : (to l : ℕ) → Dones (record { items = Jump to ∷ []; temps = size; labels = l })
   fine_jump to l = record { grows = omega arith; items = fine_one scene size (Jump to) tt tt }
 
-  fine_ret : (p : Low) → FineLow scene size p → Dones (ret_of p)
+  fine_ret : (p : Lowered) → FineLow scene size p → Dones (ret_of p)
   fine_ret p h = record { grows = h.grows; items = fine_behind scene p.temps p.items (Ret p.tree) h.items tt h.tree }
 
   fine_clearing : (b : Bool) (n u : ℕ) → n < u → Fine scene u (clearing b n)
   fine_clearing true n u lt = fine_one scene u (AssignLoc n (Num 0)) tt (lt, tt)
   fine_clearing false n u lt = fine_nil scene u
 
-  fine_begin : (b : Bool) (n : ℕ) (p : Low) → n < size → FineLow scene size p → Dones (begin_of b n p)
+  fine_begin : (b : Bool) (n : ℕ) (p : Lowered) → n < size → FineLow scene size p → Dones (begin_of b n p)
   fine_begin b n p lt h =
       let le = h.grows in
       let here : n < p.temps = omega arith in
@@ -81,7 +81,7 @@ module _ (scene : Scene) (size count : ℕ) (takes : Callee → ℕ → Type 0)
             (fine_one scene p.temps (AssignLoc n p.tree) tt (here, h.tree));
       }
 
-  fine_if : (l : ℕ) (p a : Done) → Dones p → Dones a → Dones (if_done l p a)
+  fine_if : (l : ℕ) (p a : Emitted) → Dones p → Dones a → Dones (if_done l p a)
   fine_if l p a h g =
       let u = max p.temps a.temps in
       let le = h.grows in
@@ -91,7 +91,7 @@ module _ (scene : Scene) (size count : ℕ) (takes : Callee → ℕ → Type 0)
             (fine_up scene a.temps u a.items (omega arith) g.items) (fine_one scene u (Label l) tt tt);
       }
 
-  fine_if_else : (l : ℕ) (p a b : Done) → Dones p → Dones a → Dones b → Dones (if_else_done l p a b)
+  fine_if_else : (l : ℕ) (p a b : Emitted) → Dones p → Dones a → Dones b → Dones (if_else_done l p a b)
   fine_if_else l p a b h g f =
       let u = max p.temps (max a.temps b.temps) in
       let le = h.grows in
@@ -105,7 +105,7 @@ module _ (scene : Scene) (size count : ℕ) (takes : Callee → ℕ → Type 0)
             (fine_behind scene u b.items (Label (suc l)) (fine_up scene b.temps u b.items (omega arith) f.items) tt tt)));
       }
 
-  fine_while : (l : ℕ) (p a : Done) → Dones p → Dones a → Dones (while_done l p a)
+  fine_while : (l : ℕ) (p a : Emitted) → Dones p → Dones a → Dones (while_done l p a)
   fine_while l p a h g =
       let u = max p.temps a.temps in
       let le = h.grows in
@@ -117,7 +117,7 @@ module _ (scene : Scene) (size count : ℕ) (takes : Callee → ℕ → Type 0)
             (fine_more scene u (Jump l) _ tt tt (fine_one scene u (Label (suc l)) tt tt)));
       }
 
-  fine_do : (l : ℕ) (a p : Done) → Dones a → Dones p → Dones (do_done l a p)
+  fine_do : (l : ℕ) (a p : Emitted) → Dones a → Dones p → Dones (do_done l a p)
   fine_do l a p h g =
       let u = max a.temps p.temps in
       let le = h.grows in
@@ -134,7 +134,7 @@ module _ (scene : Scene) (size count : ℕ) (takes : Callee → ℕ → Type 0)
   fine_again u l s h = fine_more scene u (Label (suc l)) _ tt tt
       (fine_append scene u s _ h (fine_more scene u (Jump l) _ tt tt (fine_one scene u (Label (suc (suc l))) tt tt)))
 
-  fine_for : (l : ℕ) (p a s : Done) → Dones p → Dones a → Dones s → Dones (for_done l p a s)
+  fine_for : (l : ℕ) (p a s : Emitted) → Dones p → Dones a → Dones s → Dones (for_done l p a s)
   fine_for l p a s h g f =
       let u = max p.temps (max a.temps s.temps) in
       let le = h.grows in
@@ -146,7 +146,7 @@ module _ (scene : Scene) (size count : ℕ) (takes : Callee → ℕ → Type 0)
             (fine_again u l s.items (fine_up scene s.temps u s.items (omega arith) f.items)));
       }
 
-  fine_ever : (l : ℕ) (a s : Done) → Dones a → Dones s → Dones (ever_done l a s)
+  fine_ever : (l : ℕ) (a s : Emitted) → Dones a → Dones s → Dones (ever_done l a s)
   fine_ever l a s h g =
       let u = max a.temps s.temps in
       let le = h.grows in
@@ -158,22 +158,22 @@ module _ (scene : Scene) (size count : ℕ) (takes : Callee → ℕ → Type 0)
       }
 
   module _ (scope : ℕ → Type 0) (within : (n : ℕ) → scope n → n < size) where
-    fine_test_of : (sense : Bool) (c : Term) (to l : ℕ) → Fits scope c → StandsMaybe There takes scene.objects (Some c)
+    fine_test_of : (sense : Bool) (c : AnExpression) (to l : ℕ) → Fits scope c → StandsMaybe There takes scene.objects (Some c)
         → Dones ((Expressions.way size count c).branch sense to size l)
     fine_test_of sense c to l f s = (fine_way scene size count takes calls scope within c f s).branch sense to size l (omega arith)
 
-    fine_effect : (e : Option Term) (l : ℕ) → FitsMaybe scope e → StandsMaybe There takes scene.objects e
+    fine_effect : (e : Option AnExpression) (l : ℕ) → FitsMaybe scope e → StandsMaybe There takes scene.objects e
         → Dones (Statements.effect size count e l)
     fine_effect None l f s = fine_nothing l
     fine_effect (Some e) l f s = (fine_way scene size count takes calls scope within e f s).drop size l (omega arith)
 
-    fine_returning : (e : Option Term) (l : ℕ) → FitsMaybe scope e → StandsMaybe There takes scene.objects e
+    fine_returning : (e : Option AnExpression) (l : ℕ) → FitsMaybe scope e → StandsMaybe There takes scene.objects e
         → Dones (Statements.returning size count e l)
     fine_returning None l f s = record { grows = omega arith; items = fine_one scene size (Ret (Num 0)) tt tt }
     fine_returning (Some e) l f s = fine_ret ((Expressions.way size count e).low size l)
         ((fine_way scene size count takes calls scope within e f s).low size l (omega arith))
 
-    fine_for_of : (l : ℕ) (c e : Option Term) (f : ℕ → Done) → FitsMaybe scope c → FitsMaybe scope e
+    fine_for_of : (l : ℕ) (c e : Option AnExpression) (f : ℕ → Emitted) → FitsMaybe scope c → FitsMaybe scope e
         → StandsMaybe There takes scene.objects c → StandsMaybe There takes scene.objects e → ((m : ℕ) → Dones (f m))
         → Dones (Statements.for_of size count l c e f)
     fine_for_of l None e f k k' s s' h = let b = f (suc (suc (suc l))) in
@@ -190,7 +190,7 @@ module _ (scene : Scene) (size count : ℕ) (takes : Callee → ℕ → Type 0)
   fine_declare scope within (KeepOf object ∷ ds) l f s = fine_declare scope within ds l f s
   fine_declare scope within (ClearOf n ∷ ds) l f s =
       let wider = λ (k : ℕ). ⊎_elim (λ (h : scope k). within k h) (λ (e : k ≡ n). let lt = f.0 in let r : k < size = omega arith in r) in
-      let first : Done = record { items = clearing true n; temps = size; labels = l } in
+      let first : Emitted = record { items = clearing true n; temps = size; labels = l } in
       fine_two first (Statements.declare size count ds l) (record { grows = omega arith; items = fine_clearing true n size f.0 })
       (fine_declare (more scope n) wider ds l f.1 s)
   fine_declare scope within (BeginOf n e ∷ ds) l f s =
@@ -201,7 +201,7 @@ module _ (scene : Scene) (size count : ℕ) (takes : Callee → ℕ → Type 0)
       (fine_declare (more scope n) wider ds q.labels f.2 s.1)
 
   mutual
-    fine_act : (scope : ℕ → Type 0) (within : (n : ℕ) → scope n → n < size) (inside : Bool) (a : Act) (lb lc l : ℕ)
+    fine_act : (scope : ℕ → Type 0) (within : (n : ℕ) → scope n → n < size) (inside : Bool) (a : AnAction) (lb lc l : ℕ)
         → FitsAct size scope inside a → StandsAct There takes scene.objects a → Dones (Statements.lower size count a lb lc l)
     fine_act scope within inside (DeclareOf ds) lb lc l f s = fine_declare scope within ds l f s
     fine_act scope within inside (BlockOf row) lb lc l f s = fine_acts scope within inside row lb lc l f s
@@ -234,10 +234,10 @@ module _ (scene : Scene) (size count : ℕ) (takes : Callee → ℕ → Type 0)
         fine_two p (Statements.for_of size count m c e body) (fine_effect scope within i l f.0 s.0)
         (fine_for_of scope within m c e body f.1 f.2 s.1 s.2 (λ k. fine_act scope within true a (suc (suc m)) (suc m) k f.3 s.3))
 
-    pub fine_acts : (scope : ℕ → Type 0) (within : (n : ℕ) → scope n → n < size) (inside : Bool) (row : Acts) (lb lc l : ℕ)
+    pub fine_acts : (scope : ℕ → Type 0) (within : (n : ℕ) → scope n → n < size) (inside : Bool) (row : SomeActions) (lb lc l : ℕ)
         → FitsActs size scope inside row → StandsActs There takes scene.objects row → Dones (Statements.lower_row size count row lb lc l)
-    fine_acts scope within inside NoActs lb lc l f s = fine_nothing l
-    fine_acts scope within inside (MoreActs a row) lb lc l f s =
+    fine_acts scope within inside NoActions lb lc l f s = fine_nothing l
+    fine_acts scope within inside (MoreActions a row) lb lc l f s =
         let p = Statements.lower size count a lb lc l in
         fine_two p (Statements.lower_row size count row lb lc p.labels) (fine_act scope within inside a lb lc l f.0 s.0)
         (fine_acts (behind_act scope a) (within_act size scope inside a within f.0) inside row lb lc p.labels f.1 s.1)

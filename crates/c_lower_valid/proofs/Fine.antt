@@ -10,7 +10,7 @@ use Rattle.c_types.specs.declared.typed.Direction.{Direction}
 use Rattle.c_types.specs.declared.typed.Direction.TheVariants as directions
 use Rattle.c_types.specs.Constants.{scale}
 use Rattle.c_lower_scheme.specs.Trees.{Tree, Num, Loc, Bin, Item, Label, AssignLoc, AssignArg, AssignMem, Cbr, Push, breaks}
-use Rattle.c_lower_scheme.specs.Expressions.{Low, Two, Where, InLoc, InArg, InMem, Found, Passing, Done, Ready, saving, saved, next_if, integer_of, conv, fitted, read_from, assign_to, address_tree, scaled_by, shared_by, advance, advance_by, retreat, apart, step, sensed, over, over_two, truth_of, test, compare, dropped, pushes, args_count, holding, held, ready_so, update_so, postfix_so, store_drop, store_low_at, store_low, pass_so, called_drop, called_low, read_low, address_low}
+use Rattle.c_lower_scheme.specs.Expressions.{Lowered, Pair, Where, InLoc, InArg, InMem, Located, Passing, Emitted, Assignable, saving, saved, next_if, integer_of, conv, fitted, read_from, assign_to, address_tree, scaled_by, shared_by, advance, advance_by, retreat, apart, step, sensed, over, over_two, truth_of, test, compare, dropped, pushes, args_count, holding, held, ready_so, update_so, postfix_so, store_drop, store_low_at, store_low, pass_so, called_drop, called_low, read_low, address_low}
 use Rattle.c_lower_scheme.specs.Expressions
 use Rattle.c_lower_valid.proofs.Named.{Scene, Names, ItemNames, AllName, names_more, all_more, all_append}
 use Rattle.c_lower_valid.proofs.Orders.{Orderly, IsQuiet, orderly_nil, orderly_append, orderly_more, orderly_call, orderly_saved}
@@ -70,18 +70,18 @@ module _ (scene : Scene) where
   trees_up u v (w ∷ ws) le h = (ok_up u v w le h.0, trees_up u v ws le h.1)
 
   -- parts whose first free temporary was t
-  pub record FineLow (t : ℕ) (p : Low) : Type 0 where
+  pub record FineLow (t : ℕ) (p : Lowered) : Type 0 where
     pub grows : t ≤ p.temps
     pub items : Fine p.temps p.items
     pub tree : Ok p.temps p.tree
 
-  pub record FineTwo (t : ℕ) (p : Two) : Type 0 where
+  pub record FineTwo (t : ℕ) (p : Pair) : Type 0 where
     pub grows : t ≤ p.temps
     pub items : Fine p.temps p.items
     pub first : Ok p.temps p.first
     pub second : Ok p.temps p.second
 
-  pub record FineFound (t : ℕ) (p : Found) : Type 0 where
+  pub record FineFound (t : ℕ) (p : Located) : Type 0 where
     pub grows : t ≤ p.temps
     pub items : Fine p.temps p.items
     pub place : OkWhere p.temps p.place
@@ -91,11 +91,11 @@ module _ (scene : Scene) where
     pub items : Fine p.temps p.items
     pub trees : AllOk p.temps p.trees
 
-  pub record FineDone (t : ℕ) (p : Done) : Type 0 where
+  pub record FineDone (t : ℕ) (p : Emitted) : Type 0 where
     pub grows : t ≤ p.temps
     pub items : Fine p.temps p.items
 
-  pub record FineReady (t : ℕ) (p : Ready) : Type 0 where
+  pub record FineReady (t : ℕ) (p : Assignable) : Type 0 where
     pub grows : t ≤ p.temps
     pub items : Fine p.temps p.items
     pub place : OkWhere p.temps p.place
@@ -148,14 +148,14 @@ module _ (scene : Scene) where
   ok_step directions.Up u a b h g = (h, g)
   ok_step directions.Down u a b h g = (h, g)
 
-  pub fine_over : (f : Tree → Tree) → ((u : ℕ) (w : Tree) → Ok u w → Ok u (f w)) → (t : ℕ) (p : Low) → FineLow t p → FineLow t (over f p)
+  pub fine_over : (f : Tree → Tree) → ((u : ℕ) (w : Tree) → Ok u w → Ok u (f w)) → (t : ℕ) (p : Lowered) → FineLow t p → FineLow t (over f p)
   fine_over f k t p h = record { grows = h.grows; items = h.items; tree = k p.temps p.tree h.tree }
 
-  pub fine_over_two : (f : Tree → Tree → Tree) → ((u : ℕ) (a b : Tree) → Ok u a → Ok u b → Ok u (f a b)) → (t : ℕ) (p : Two)
+  pub fine_over_two : (f : Tree → Tree → Tree) → ((u : ℕ) (a b : Tree) → Ok u a → Ok u b → Ok u (f a b)) → (t : ℕ) (p : Pair)
       → FineTwo t p → FineLow t (over_two f p)
   fine_over_two f k t p h = record { grows = h.grows; items = h.items; tree = k p.temps p.first p.second h.first h.second }
 
-  pub fine_truth : (t l : ℕ) (p : Done) → FineDone (suc t) p → FineLow t (truth_of t l p)
+  pub fine_truth : (t l : ℕ) (p : Emitted) → FineDone (suc t) p → FineLow t (truth_of t l p)
   fine_truth t l p h =
       let le = h.grows in
       let lt : t < p.temps = omega arith in
@@ -167,21 +167,21 @@ module _ (scene : Scene) where
         tree = lt;
       }
 
-  pub fine_test : (sense : Bool) (to t : ℕ) (p : Low) → FineLow t p → FineDone t (test sense to p)
+  pub fine_test : (sense : Bool) (to t : ℕ) (p : Lowered) → FineLow t p → FineDone t (test sense to p)
   fine_test sense to t p h = record {
     grows = h.grows;
     items = fine_behind p.temps p.items (Cbr _ to p.tree (Num 0)) h.items tt
         (h.tree, tt);
   }
 
-  pub fine_compare : (r : Rel) (to t : ℕ) (p : Two) → FineTwo t p → FineDone t (compare r to p)
+  pub fine_compare : (r : Rel) (to t : ℕ) (p : Pair) → FineTwo t p → FineDone t (compare r to p)
   fine_compare r to t p h = record {
     grows = h.grows;
     items = fine_behind p.temps p.items (Cbr r to p.first p.second) h.items tt
         (h.first, h.second);
   }
 
-  pub fine_dropped : (t : ℕ) (p : Low) → FineLow t p → FineDone t (dropped p)
+  pub fine_dropped : (t : ℕ) (p : Lowered) → FineLow t p → FineDone t (dropped p)
   fine_dropped t p h =
       let b = breaks p.tree in
       let g = next_grows b p.temps in
@@ -192,7 +192,7 @@ module _ (scene : Scene) where
             (fine_up p.temps (next_if b p.temps) p.items g h.items) (fine_saving b p.temps p.tree h.tree);
       }
 
-  pub fine_join : (size count : ℕ) (b : Bool) (t : ℕ) (p q : Low) → FineLow t p → FineLow p.temps q
+  pub fine_join : (size count : ℕ) (b : Bool) (t : ℕ) (p q : Lowered) → FineLow t p → FineLow p.temps q
       → FineTwo t (Expressions.join_so size count b p q)
   fine_join size count b t p q h g =
       let u = next_if b q.temps in
@@ -242,13 +242,13 @@ module _ (scene : Scene) where
   fine_assign : (ty : CType) (u : ℕ) (s : Where) (w : Tree) → OkWhere u s → Ok u w → Fine u (assign_to ty s w ∷ [])
   fine_assign ty u s w h g = fine_one u (assign_to ty s w) (quiet_assign ty s w) (ok_assign ty u s w h g)
 
-  pub fine_read : (t : ℕ) (p : Found) → FineFound t p → FineLow t (read_low p)
+  pub fine_read : (t : ℕ) (p : Located) → FineFound t p → FineLow t (read_low p)
   fine_read t p h = record { grows = h.grows; items = h.items; tree = ok_read p.type p.temps p.place h.place }
 
-  pub fine_address : (t : ℕ) (p : Found) → FineFound t p → FineLow t (address_low p)
+  pub fine_address : (t : ℕ) (p : Located) → FineFound t p → FineLow t (address_low p)
   fine_address t p h = record { grows = h.grows; items = h.items; tree = ok_address p.temps p.place h.place }
 
-  pub fine_ready : (b : Bool) (t : ℕ) (p : Found) (q : Low) → FineFound t p → FineLow p.temps q → FineReady t (ready_so b p q)
+  pub fine_ready : (b : Bool) (t : ℕ) (p : Located) (q : Lowered) → FineFound t p → FineLow p.temps q → FineReady t (ready_so b p q)
   fine_ready b t p q h g =
       let u = next_if b q.temps in
       let up = next_grows b q.temps in
@@ -264,7 +264,7 @@ module _ (scene : Scene) where
       }
 
   pub fine_update : (b c : Bool) (f : Tree → Tree → Tree) → ((u : ℕ) (x y : Tree) → Ok u x → Ok u y → Ok u (f x y))
-      → (t : ℕ) (p : Found) (q : Low) → FineFound t p → FineLow p.temps q → FineReady t (update_so b c f p q)
+      → (t : ℕ) (p : Located) (q : Lowered) → FineFound t p → FineLow p.temps q → FineReady t (update_so b c f p q)
   fine_update b c f k t p q h g =
       let u = next_if b q.temps in
       let v = next_if c u in
@@ -286,7 +286,7 @@ module _ (scene : Scene) where
         value = k v (saved c u old) q.tree (ok_saved c u old ok_old) (ok_up q.temps v q.tree (omega arith) g.tree);
       }
 
-  pub fine_postfix : (b : Bool) (f : Tree → Tree) → ((u : ℕ) (w : Tree) → Ok u w → Ok u (f w)) → (t : ℕ) (p : Found) → FineFound t p
+  pub fine_postfix : (b : Bool) (f : Tree → Tree) → ((u : ℕ) (w : Tree) → Ok u w → Ok u (f w)) → (t : ℕ) (p : Located) → FineFound t p
       → FineLow t (postfix_so b f p)
   fine_postfix b f k t p h =
       let u = next_if b p.temps in
@@ -308,14 +308,14 @@ module _ (scene : Scene) where
         tree = here;
       }
 
-  pub fine_store_drop : (t : ℕ) (r : Ready) → FineReady t r → FineDone t (store_drop r)
+  pub fine_store_drop : (t : ℕ) (r : Assignable) → FineReady t r → FineDone t (store_drop r)
   fine_store_drop t r h = record {
     grows = h.grows;
     items = fine_append r.temps r.items _ h.items
         (fine_assign r.type r.temps r.place r.value h.place h.value);
   }
 
-  fine_store_at : (s : Where) (t : ℕ) (r : Ready) → OkWhere r.temps s → FineReady t r → FineLow t (store_low_at s r)
+  fine_store_at : (s : Where) (t : ℕ) (r : Assignable) → OkWhere r.temps s → FineReady t r → FineLow t (store_low_at s r)
   fine_store_at (InLoc n) t r ok h = record {
     grows = h.grows;
     items = fine_behind r.temps r.items (AssignLoc n (fitted r.type r.value))
@@ -342,11 +342,11 @@ module _ (scene : Scene) where
         tree = here;
       }
 
-  pub fine_store_low : (t : ℕ) (r : Ready) → FineReady t r → FineLow t (store_low r)
+  pub fine_store_low : (t : ℕ) (r : Assignable) → FineReady t r → FineLow t (store_low r)
   fine_store_low t r h = fine_store_at r.place t r h.place h
 
   -- calls
-  pub fine_pass : (b : Bool) (t : ℕ) (p : Low) (q : Passing) → FineLow t p → FinePassing p.temps q → FinePassing t (pass_so b p q)
+  pub fine_pass : (b : Bool) (t : ℕ) (p : Lowered) (q : Passing) → FineLow t p → FinePassing p.temps q → FinePassing t (pass_so b p q)
   fine_pass b t p q h g =
       let u = next_if b q.temps in
       let up = next_grows b q.temps in

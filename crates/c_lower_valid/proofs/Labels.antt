@@ -8,12 +8,12 @@ use Rattle.c_types.specs.declared.typed.Moment.{Moment}
 use Rattle.c_types.specs.declared.typed.Moment.TheVariants as moments
 use Rattle.c_types.specs.declared.typed.Direction.{Direction}
 use Rattle.c_types.specs.Constants.{scale}
-use Rattle.c_types.specs.Typed.{PlaceTerm, VariableAt, PointedBy, ElementBy, Term, Constant, LiteralAt, ArrayAt, ReadOf, SizeofTerm, SizeOf, AddressOf, CallOf, StepOf, UnaryOf, CastTo, ConvertTo, ArithmeticOf, CompareOf, BothOf, EitherOf, AdvanceOf, AdvanceByOf, RetreatOf, DistanceOf, ChoiceOf, AssignTo, ArithmeticAssignTo, AdvanceAssignTo, RetreatAssignTo, CommaOf, Terms, NoTerms, MoreTerms}
+use Rattle.c_types.specs.Typed.{APlace, VariableAt, PointedBy, ElementBy, AnExpression, Constant, LiteralAt, ArrayAt, ReadOf, SizeofTerm, SizeOf, AddressOf, CallOf, StepOf, UnaryOf, CastTo, ConvertTo, ArithmeticOf, CompareOf, BothOf, EitherOf, AdvanceOf, AdvanceByOf, RetreatOf, DistanceOf, ChoiceOf, AssignTo, ArithmeticAssignTo, AdvanceAssignTo, RetreatAssignTo, CommaOf, SomeExpressions, NoExpressions, MoreExpressions}
 use Rattle.c_lower_scheme.specs.Trees.{Tree, Num, Loc, Neg, Com, Bin, Item, AssignLoc}
 use Rattle.c_lower_scheme.specs.Expressions
 use Rattle.c_lower_valid.proofs.Marks.{nowhere, at, Marked, marked_nil, marked_out, marked_append, marked_plain, marked_front, mute_saving, mute_holding, mute_assign, mute_append, mute_pushes, MarkedWay, marked_branch, marked_valued, marked_effective, marked_conditional, marked_two, marked_chain, marked_chain_drop, marked_drops, marked_fork}
 
-marked_choose : (c a b : Expressions.Way) → MarkedWay c → MarkedWay a → MarkedWay b → MarkedWay (Expressions.choose c a b)
+marked_choose : (c a b : Expressions.Lowering) → MarkedWay c → MarkedWay a → MarkedWay b → MarkedWay (Expressions.choose c a b)
 marked_choose c a b h f g = marked_effective _ _
     (λ t l.
     let p = c.branch false l (suc t) (suc (suc l)) in
@@ -28,13 +28,13 @@ marked_choose c a b h f g = marked_effective _ _
     marked_fork nowhere l p.labels q.labels r.labels p.items q.items r.items [] [] (λ m. refl) (λ m. refl)
     (h.branch false l t (suc (suc l))) (f.drop p.temps p.labels) (g.drop q.temps q.labels))
 
-marked_store_low : (s : Expressions.Where) (r : Expressions.Ready) (l : ℕ) → Marked nowhere l r.labels r.items
+marked_store_low : (s : Expressions.Where) (r : Expressions.Assignable) (l : ℕ) → Marked nowhere l r.labels r.items
     → Marked nowhere l (Expressions.store_low_at s r).labels (Expressions.store_low_at s r).items
 marked_store_low (Expressions.InLoc n) r l h = marked_plain nowhere l r.labels r.items _ h (λ m. refl)
 marked_store_low (Expressions.InArg n) r l h = marked_plain nowhere l r.labels r.items _ h (λ m. refl)
 marked_store_low (Expressions.InMem a) r l h = marked_plain nowhere l r.labels r.items _ h (λ m. refl)
 
-marked_store_drop : (r : Expressions.Ready) (l : ℕ) → Marked nowhere l r.labels r.items
+marked_store_drop : (r : Expressions.Assignable) (l : ℕ) → Marked nowhere l r.labels r.items
     → Marked nowhere l (Expressions.store_drop r).labels (Expressions.store_drop r).items
 marked_store_drop r l h = marked_plain nowhere l r.labels r.items _ h (mute_assign r.type r.place r.value)
 
@@ -65,24 +65,24 @@ marked_call_drop : (f : ℕ) (q : Expressions.Passing) (l : ℕ) → Marked nowh
 marked_call_drop f q l h = marked_plain nowhere l q.labels q.items _ h (mute_pushes q.trees _ (λ m. refl))
 
 module _ (size count : ℕ) where
-  marked_joined : (a b : Expressions.Way) (t l : ℕ) → MarkedWay a → MarkedWay b
+  marked_joined : (a b : Expressions.Lowering) (t l : ℕ) → MarkedWay a → MarkedWay b
       → Marked nowhere l (Expressions.joined size count a b t l).labels (Expressions.joined size count a b t l).items
   marked_joined a b t l h g = marked_two nowhere _ _ _ l (a.low t l).labels _ _ _ (h.low t l) (g.low (a.low t l).temps (a.low t l).labels)
 
-  marked_binary : (f : Tree → Tree → Tree) (a b : Expressions.Way) → MarkedWay a → MarkedWay b
+  marked_binary : (f : Tree → Tree → Tree) (a b : Expressions.Lowering) → MarkedWay a → MarkedWay b
       → MarkedWay (Expressions.binary size count f a b)
   marked_binary f a b h g = marked_valued _ (λ t l. marked_joined a b t l h g)
 
-  marked_mapped : (f : Tree → Tree) (e : Expressions.Way) → MarkedWay e → MarkedWay (Expressions.mapped f e)
+  marked_mapped : (f : Tree → Tree) (e : Expressions.Lowering) → MarkedWay e → MarkedWay (Expressions.mapped f e)
   marked_mapped f e h = marked_effective _ _ (λ t l. h.low t l) h.drop
 
-  marked_unary : (op : UnaryOperator) (e : Expressions.Way) → MarkedWay e → MarkedWay (Expressions.unary size count op e)
+  marked_unary : (op : UnaryOperator) (e : Expressions.Lowering) → MarkedWay e → MarkedWay (Expressions.unary size count op e)
   marked_unary unaries.Plus e h = marked_mapped (λ w. w) e h
   marked_unary unaries.Minus e h = marked_mapped Neg e h
   marked_unary unaries.Complement e h = marked_mapped Com e h
   marked_unary unaries.Not e h = marked_conditional _ e.drop (λ sense to t l. h.branch (not sense) to t l) h.drop
 
-  marked_updates : (f : CType → Tree → Tree → Tree) (p : ℕ → ℕ → Expressions.Found) (e : Expressions.Way)
+  marked_updates : (f : CType → Tree → Tree → Tree) (p : ℕ → ℕ → Expressions.Located) (e : Expressions.Lowering)
       → ((t l : ℕ) → Marked nowhere l (p t l).labels (p t l).items) → MarkedWay e → MarkedWay (Expressions.update_by size count f p e)
   marked_updates f p e h g = marked_effective _ _
       (λ t l. let r = Expressions.updated size count f (p t l) e.low in
@@ -90,7 +90,7 @@ module _ (size count : ℕ) where
       (λ t l. let r = Expressions.updated size count f (p t l) e.low in
       marked_store_drop r l (marked_update _ _ _ _ _ _ l (p t l).labels _ _ _ (h t l) (g.low (p t l).temps (p t l).labels)))
 
-  marked_step : (m : Moment) (by : Direction) (p : Expressions.Found) (l : ℕ) → Marked nowhere l p.labels p.items
+  marked_step : (m : Moment) (by : Direction) (p : Expressions.Located) (l : ℕ) → Marked nowhere l p.labels p.items
       → Marked nowhere l (Expressions.step_low size count m by p).labels (Expressions.step_low size count m by p).items
   marked_step moments.Before by p l h = marked_post _ _ _ _ _ p.type _
       (Expressions.step by (Loc (Expressions.next_if (Expressions.must_keep size count [] p.place) p.temps)) (Num (scale p.type))) l
@@ -99,13 +99,13 @@ module _ (size count : ℕ) where
       marked_store_low r.place r l (marked_ready _ _ _ l p.labels p.labels _ [] h (marked_nil nowhere p.labels))
 
   mutual
-    pub marked_seek : (a : PlaceTerm) (t l : ℕ) → Marked nowhere l (Expressions.seek size count a t l).labels
+    pub marked_seek : (a : APlace) (t l : ℕ) → Marked nowhere l (Expressions.seek size count a t l).labels
         (Expressions.seek size count a t l).items
     marked_seek (VariableAt ty v) t l = marked_nil nowhere l
     marked_seek (PointedBy ty e) t l = (marked_way e).low t l
     marked_seek (ElementBy ty e) t l = (marked_way e).low t l
 
-    pub marked_way : (e : Term) → MarkedWay (Expressions.way size count e)
+    pub marked_way : (e : AnExpression) → MarkedWay (Expressions.way size count e)
     marked_way (Constant n) = marked_valued _ (λ t l. marked_nil nowhere l)
     marked_way (LiteralAt n bytes) = marked_valued _ (λ t l. marked_nil nowhere l)
     marked_way (ArrayAt ty v bytes) = marked_valued _ (λ t l. marked_nil nowhere l)
@@ -158,8 +158,8 @@ module _ (size count : ℕ) where
       drop = λ t l. marked_drops _ _ t l (marked_way a) (marked_way b);
     }
 
-    pub marked_pass : (es : Terms) (to : List CType) (t l : ℕ)
+    pub marked_pass : (es : SomeExpressions) (to : List CType) (t l : ℕ)
         → Marked nowhere l (Expressions.pass size count es to t l).labels (Expressions.pass size count es to t l).items
-    marked_pass NoTerms to t l = marked_nil nowhere l
-    marked_pass (MoreTerms e es) to t l = marked_two nowhere _ _ _ l ((Expressions.way size count e).low t l).labels _ _ _
+    marked_pass NoExpressions to t l = marked_nil nowhere l
+    marked_pass (MoreExpressions e es) to t l = marked_two nowhere _ _ _ l ((Expressions.way size count e).low t l).labels _ _ _
         ((marked_way e).low t l) (marked_pass es (Expressions.others to) _ _)

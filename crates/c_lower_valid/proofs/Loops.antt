@@ -1,8 +1,8 @@
 -- Labels among the items of statements: `break` and `continue` go out, unless a loop is around them.
 use Rattle.std.proofs.Common.{◌≡◌, ℕ, suc, ◌+◌, ◌<◌, List, [], ◌∷◌, ◌++◌, Option, Some, None, refl, arith}
 use Rattle.std.specs.Prelude.{Bool, true, false}
-use Rattle.c_types.specs.Typed.{Term}
-use Rattle.c_program.specs.Statements.{ADeclaration, KeepOf, ClearOf, BeginOf, Act, Acts, NoActs, MoreActs, DeclareOf, BlockOf, EvaluateOf, BreakOf, ContinueOf, ReturnOf, IfOf, IfElseOf, WhileOf, DoOf, ForOf}
+use Rattle.c_types.specs.Typed.{AnExpression}
+use Rattle.c_program.specs.Statements.{ADeclaration, KeepOf, ClearOf, BeginOf, AnAction, SomeActions, NoActions, MoreActions, DeclareOf, BlockOf, EvaluateOf, BreakOf, ContinueOf, ReturnOf, IfOf, IfElseOf, WhileOf, DoOf, ForOf}
 use Rattle.c_sound.specs.Fits.{behind_act, FitsAct, FitsActs}
 use Rattle.c_lower_scheme.specs.Trees.{Num, Item, Label, AssignLoc, Jump, Ret}
 use Rattle.c_lower_scheme.specs.Expressions
@@ -84,12 +84,12 @@ mute_clearing true n m = refl
 mute_clearing false n m = refl
 
 module _ (size count : ℕ) where
-  marked_effect : (e : Option Term) (l : ℕ) → Marked nowhere l (Statements.effect size count e l).labels
+  marked_effect : (e : Option AnExpression) (l : ℕ) → Marked nowhere l (Statements.effect size count e l).labels
       (Statements.effect size count e l).items
   marked_effect None l = marked_nil nowhere l
   marked_effect (Some e) l = (marked_way size count e).drop size l
 
-  marked_returning : (e : Option Term) (l : ℕ) → Marked nowhere l (Statements.returning size count e l).labels
+  marked_returning : (e : Option AnExpression) (l : ℕ) → Marked nowhere l (Statements.returning size count e l).labels
       (Statements.returning size count e l).items
   marked_returning None l = marked_plain nowhere l l [] (Ret (Num 0) ∷ []) (marked_nil nowhere l) (λ m. refl)
   marked_returning (Some e) l = marked_plain nowhere l _ _ _ ((marked_way size count e).low size l) (λ m. refl)
@@ -107,7 +107,7 @@ module _ (size count : ℕ) where
       (marked_plain nowhere l q.labels q.items (AssignLoc n q.tree ∷ []) ((marked_way size count e).low size l) (λ m. refl)))
       (marked_declare ds q.labels)
 
-  marked_for_of : (out : ℕ → ℕ) (c e : Option Term) (l : ℕ) (f : ℕ → Expressions.Done)
+  marked_for_of : (out : ℕ → ℕ) (c e : Option AnExpression) (l : ℕ) (f : ℕ → Expressions.Emitted)
       → ((m : ℕ) → Marked (leaving true (suc (suc l)) (suc l)) m (f m).labels (f m).items)
       → Marked out l (Statements.for_of size count l c e f).labels (Statements.for_of size count l c e f).items
   marked_for_of out None e l f h = let b = f (suc (suc (suc l))) in
@@ -119,7 +119,7 @@ module _ (size count : ℕ) where
       ((marked_way size count c).branch false (suc (suc l)) size (suc (suc (suc l)))) (h q.labels) (marked_effect e b.labels)
 
   mutual
-    marked_act : (scope : ℕ → Type 0) (inside : Bool) (a : Act) (lb lc l : ℕ) → FitsAct size scope inside a
+    marked_act : (scope : ℕ → Type 0) (inside : Bool) (a : AnAction) (lb lc l : ℕ) → FitsAct size scope inside a
         → Marked (leaving inside lb lc) l (Statements.lower size count a lb lc l).labels (Statements.lower size count a lb lc l).items
     marked_act scope inside (DeclareOf ds) lb lc l f = marked_out nowhere (leaving inside lb lc) l _ _ (λ m. omega arith)
         (marked_declare ds l)
@@ -159,11 +159,11 @@ module _ (size count : ℕ) where
         (marked_for_of (leaving inside lb lc) c e x.labels (Statements.lower size count a (suc (suc x.labels)) (suc x.labels))
         (λ m. marked_act scope true a (suc (suc x.labels)) (suc x.labels) m f.3))
 
-    pub marked_row : (scope : ℕ → Type 0) (inside : Bool) (row : Acts) (lb lc l : ℕ) → FitsActs size scope inside row
+    pub marked_row : (scope : ℕ → Type 0) (inside : Bool) (row : SomeActions) (lb lc l : ℕ) → FitsActs size scope inside row
         → Marked (leaving inside lb lc) l (Statements.lower_row size count row lb lc l).labels
         (Statements.lower_row size count row lb lc l).items
-    marked_row scope inside NoActs lb lc l f = marked_nil (leaving inside lb lc) l
-    marked_row scope inside (MoreActs a row) lb lc l f =
+    marked_row scope inside NoActions lb lc l f = marked_nil (leaving inside lb lc) l
+    marked_row scope inside (MoreActions a row) lb lc l f =
         let x = Statements.lower size count a lb lc l in
         marked_append (leaving inside lb lc) l x.labels _ x.items _ (marked_act scope inside a lb lc l f.0)
         (marked_row (behind_act scope a) inside row lb lc x.labels f.1)

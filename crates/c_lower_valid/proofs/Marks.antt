@@ -158,7 +158,7 @@ mute_pushes [] is h = h
 mute_pushes (w ∷ ws) is h = mute_pushes ws (Push w ∷ is) (λ m. omega (arith, h m))
 
 -- in each of the three ways
-pub record MarkedWay (w : Expressions.Way) : Type 0 where
+pub record MarkedWay (w : Expressions.Lowering) : Type 0 where
   pub low : (t l : ℕ) → Marked nowhere l (w.low t l).labels (w.low t l).items
   pub branch : (sense : Bool) (to t l : ℕ) → Marked (at to) l (w.branch sense to t l).labels (w.branch sense to t l).items
   pub drop : (t l : ℕ) → Marked nowhere l (w.drop t l).labels (w.drop t l).items
@@ -170,7 +170,7 @@ marked_branch r to a b l u is h = marked_same (at to) l u is (is ++ (Cbr r to a 
     (marked_out nowhere (at to) l u is (λ m. omega arith) h) (λ m. omega (arith, stands_append m is (Cbr r to a b ∷ [])))
     (λ m lt. omega (arith, aims_append m is (Cbr r to a b ∷ [])))
 
-pub marked_valued : (f : ℕ → ℕ → Expressions.Low) → ((t l : ℕ) → Marked nowhere l (f t l).labels (f t l).items)
+pub marked_valued : (f : ℕ → ℕ → Expressions.Lowered) → ((t l : ℕ) → Marked nowhere l (f t l).labels (f t l).items)
     → MarkedWay (Expressions.valued f)
 marked_valued f h = record {
   low = h;
@@ -179,7 +179,7 @@ marked_valued f h = record {
       (mute_saving (breaks (f t l).tree) (f t l).temps (f t l).tree);
 }
 
-pub marked_effective : (f : ℕ → ℕ → Expressions.Low) (g : ℕ → ℕ → Expressions.Done)
+pub marked_effective : (f : ℕ → ℕ → Expressions.Lowered) (g : ℕ → ℕ → Expressions.Emitted)
     → ((t l : ℕ) → Marked nowhere l (f t l).labels (f t l).items) → ((t l : ℕ) → Marked nowhere l (g t l).labels (g t l).items)
     → MarkedWay (Expressions.effective f g)
 marked_effective f g h h' = record {
@@ -188,7 +188,7 @@ marked_effective f g h h' = record {
   drop = h';
 }
 
-pub marked_conditional : (f : Bool → ℕ → ℕ → ℕ → Expressions.Done) (g : ℕ → ℕ → Expressions.Done)
+pub marked_conditional : (f : Bool → ℕ → ℕ → ℕ → Expressions.Emitted) (g : ℕ → ℕ → Expressions.Emitted)
     → ((sense : Bool) (to t l : ℕ) → Marked (at to) l (f sense to t l).labels (f sense to t l).items)
     → ((t l : ℕ) → Marked nowhere l (g t l).labels (g t l).items) → MarkedWay (Expressions.conditional f g)
 marked_conditional f g h h' = record {
@@ -221,7 +221,7 @@ marked_inner out l p q a c h g =
 pub marked_direct : (out : ℕ → ℕ) (l p q : ℕ) (a c : List Item) → Marked out (suc l) p a → Marked out p q c → Marked out l q (a ++ c)
 marked_direct out l p q a c h g = marked_wider out l (suc l) q (a ++ c) (omega arith) (marked_append out (suc l) p q a c h g)
 
-pub marked_chain : (stop sense : Bool) (a b : Expressions.Way) (to t l : ℕ) → MarkedWay a → MarkedWay b
+pub marked_chain : (stop sense : Bool) (a b : Expressions.Lowering) (to t l : ℕ) → MarkedWay a → MarkedWay b
     → Marked (at to) l (Expressions.chain stop a b sense to t l).labels (Expressions.chain stop a b sense to t l).items
 marked_chain true true a b to t l h g = marked_direct (at to) l _ _ _ _ (h.branch true to t (suc l))
     (g.branch true to (a.branch true to t (suc l)).temps (a.branch true to t (suc l)).labels)
@@ -232,12 +232,12 @@ marked_chain false true a b to t l h g = marked_inner (at to) l _ _ _ _ (h.branc
 marked_chain false false a b to t l h g = marked_direct (at to) l _ _ _ _ (h.branch false to t (suc l))
     (g.branch false to (a.branch false to t (suc l)).temps (a.branch false to t (suc l)).labels)
 
-pub marked_chain_drop : (stop : Bool) (a b : Expressions.Way) (t l : ℕ) → MarkedWay a → MarkedWay b
+pub marked_chain_drop : (stop : Bool) (a b : Expressions.Lowering) (t l : ℕ) → MarkedWay a → MarkedWay b
     → Marked nowhere l (Expressions.chain_drop a stop b t l).labels (Expressions.chain_drop a stop b t l).items
 marked_chain_drop stop a b t l h g = marked_inner nowhere l _ _ _ _ (h.branch stop l t (suc l))
     (g.drop (a.branch stop l t (suc l)).temps (a.branch stop l t (suc l)).labels)
 
-pub marked_drops : (a b : Expressions.Way) (t l : ℕ) → MarkedWay a → MarkedWay b
+pub marked_drops : (a b : Expressions.Lowering) (t l : ℕ) → MarkedWay a → MarkedWay b
     → Marked nowhere l (Expressions.drop_two a b t l).labels (Expressions.drop_two a b t l).items
 marked_drops a b t l h g = marked_append nowhere l _ _ _ _ (h.drop t l) (g.drop (a.drop t l).temps (a.drop t l).labels)
 

@@ -5,7 +5,7 @@ use Rattle.c_types.specs.declared.types.CType.{CType}
 use Rattle.c_types.specs.declared.typed.Variable.{Variable}
 use Rattle.c_types.specs.declared.typed.Variable.TheVariants as variables
 use Rattle.c_types.specs.declared.typed.Callee.{Callee}
-use Rattle.c_types.specs.Typed.{PlaceTerm, VariableAt, PointedBy, ElementBy, Term, Constant, LiteralAt, ArrayAt, ReadOf, SizeofTerm, SizeOf, AddressOf, CallOf, StepOf, UnaryOf, CastTo, ConvertTo, ArithmeticOf, CompareOf, BothOf, EitherOf, AdvanceOf, AdvanceByOf, RetreatOf, DistanceOf, ChoiceOf, AssignTo, ArithmeticAssignTo, AdvanceAssignTo, RetreatAssignTo, CommaOf, Terms, NoTerms, MoreTerms}
+use Rattle.c_types.specs.Typed.{APlace, VariableAt, PointedBy, ElementBy, AnExpression, Constant, LiteralAt, ArrayAt, ReadOf, SizeofTerm, SizeOf, AddressOf, CallOf, StepOf, UnaryOf, CastTo, ConvertTo, ArithmeticOf, CompareOf, BothOf, EitherOf, AdvanceOf, AdvanceByOf, RetreatOf, DistanceOf, ChoiceOf, AssignTo, ArithmeticAssignTo, AdvanceAssignTo, RetreatAssignTo, CommaOf, SomeExpressions, NoExpressions, MoreExpressions}
 use Rattle.c_sound.specs.Fits.{StandsIn, Fits, FitsAt, FitsAll}
 use Rattle.c_sound.specs.Stands.{Stands, StandsAt, StandAll, arguments, IsThere}
 use Rattle.c_lower_scheme.specs.Trees.{Num, Gaddr, Bin}
@@ -15,10 +15,10 @@ use Rattle.c_lower_valid.proofs.Named.{Scene}
 use Rattle.c_lower_valid.proofs.Fine.{Ok, fine_nil, OkWhere, FineFound, FinePassing, ok_fitted, ok_advance, ok_advance_by, ok_retreat, ok_apart, fine_over, fine_read, fine_address, fine_store_drop, fine_store_low, fine_pass, fine_called_drop, fine_called_low}
 use Rattle.c_lower_valid.proofs.Ways.{FineWay, fine_due, fine_valued, fine_effective, fine_conditional, fine_mapped, fine_binary, fine_relation, fine_chain, fine_chain_drop, fine_choose, fine_comma, fine_unary, fine_update_by, fine_step_ready, fine_step, fine_assigned}
 
-passes_all : (size count : ℕ) (es : Terms) (to : List CType) (t l : ℕ)
+passes_all : (size count : ℕ) (es : SomeExpressions) (to : List CType) (t l : ℕ)
     → args_count (Expressions.pass size count es to t l).trees ≡ arguments es
-passes_all size count NoTerms to t l = refl
-passes_all size count (MoreTerms e es) to t l =
+passes_all size count NoExpressions to t l = refl
+passes_all size count (MoreExpressions e es) to t l =
     let p = (Expressions.way size count e).low t l in
     let h = passes_all size count es (others to) p.temps p.labels in
     omega (arith, h)
@@ -38,19 +38,19 @@ module _ (scene : Scene) (size count : ℕ) (takes : Callee → ℕ → Type 0)
   ok_variable scope within (variables.Global n) u le k h = h
   ok_variable scope within (variables.Static n) u le k h = h
 
-  callable_so : (f : Callee) (es : Terms) (to : List CType) (t l : ℕ) → takes f (arguments es)
+  callable_so : (f : Callee) (es : SomeExpressions) (to : List CType) (t l : ℕ) → takes f (arguments es)
       → scene.callable (callee_number count f) (args_count (Expressions.pass size count es to t l).trees)
   callable_so f es to t l h = subst (λ n. scene.callable (callee_number count f) n) (sym (passes_all size count es to t l))
       (calls f (arguments es) h)
 
-  abbrev Way : Term → Type 0
-  Way e = FineWay scene size count (Expressions.way size count e)
+  abbrev Lowering : AnExpression → Type 0
+  Lowering e = FineWay scene size count (Expressions.way size count e)
 
   abbrev There : Variable → Type 0
   There v = IsThere scene.objects scene.params v
 
   mutual
-    pub fine_seek : (scope : ℕ → Type 0) (within : (n : ℕ) → scope n → n < size) (a : PlaceTerm) → FitsAt scope a
+    pub fine_seek : (scope : ℕ → Type 0) (within : (n : ℕ) → scope n → n < size) (a : APlace) → FitsAt scope a
         → StandsAt There takes scene.objects a → (t l : ℕ) → size ≤ t → FineFound scene t (Expressions.seek size count a t l)
     fine_seek scope within (VariableAt ty v) f s t l le = record
         { grows = omega arith; items = fine_nil scene t; place = ok_variable scope within v t le f s }
@@ -59,8 +59,8 @@ module _ (scene : Scene) (size count : ℕ) (takes : Callee → ℕ → Type 0)
     fine_seek scope within (ElementBy ty e) f s t l le = let h = (fine_way scope within e f s).low t l le in
         record { grows = h.grows; items = h.items; place = h.tree }
 
-    pub fine_way : (scope : ℕ → Type 0) (within : (n : ℕ) → scope n → n < size) (e : Term) → Fits scope e
-        → Stands There takes scene.objects e → Way e
+    pub fine_way : (scope : ℕ → Type 0) (within : (n : ℕ) → scope n → n < size) (e : AnExpression) → Fits scope e
+        → Stands There takes scene.objects e → Lowering e
     fine_way scope within (Constant n) f s = fine_valued scene size count _ (λ t l le. fine_due scene size count (Num n) t l tt)
     fine_way scope within (LiteralAt n bytes) f s = fine_valued scene size count _ (λ t l le. fine_due scene size count (Gaddr n) t l s)
     fine_way scope within (ArrayAt ty v bytes) f s = fine_valued scene size count _
@@ -133,11 +133,11 @@ module _ (scene : Scene) (size count : ℕ) (takes : Callee → ℕ → Type 0)
     fine_way scope within (CommaOf ty a b) f s = fine_comma scene size count (Expressions.way size count a)
         (Expressions.way size count b) (fine_way scope within a f.0 s.0) (fine_way scope within b f.1 s.1)
 
-    fine_passing : (scope : ℕ → Type 0) (within : (n : ℕ) → scope n → n < size) (es : Terms) (to : List CType) → FitsAll scope es to
+    fine_passing : (scope : ℕ → Type 0) (within : (n : ℕ) → scope n → n < size) (es : SomeExpressions) (to : List CType) → FitsAll scope es to
         → StandAll There takes scene.objects es → (t l : ℕ) → size ≤ t → FinePassing scene t (Expressions.pass size count es to t l)
-    fine_passing scope within NoTerms to f s t l le = record { grows = omega arith; items = fine_nil scene t; trees = tt }
-    fine_passing scope within (MoreTerms e es) [] f s t l le = absurd f
-    fine_passing scope within (MoreTerms e es) (ty ∷ to) f s t l le =
+    fine_passing scope within NoExpressions to f s t l le = record { grows = omega arith; items = fine_nil scene t; trees = tt }
+    fine_passing scope within (MoreExpressions e es) [] f s t l le = absurd f
+    fine_passing scope within (MoreExpressions e es) (ty ∷ to) f s t l le =
         let p = (Expressions.way size count e).low t l in
         let h = (fine_way scope within e f.0 s.0).low t l le in
         let lx = h.grows in

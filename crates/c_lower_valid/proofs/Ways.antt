@@ -10,20 +10,20 @@ use Rattle.c_types.specs.declared.typed.Moment.TheVariants as moments
 use Rattle.c_types.specs.declared.typed.Direction.{Direction}
 use Rattle.c_types.specs.Constants.{scale}
 use Rattle.c_lower_scheme.specs.Trees.{Tree, Num, Neg, Com, Label, AssignLoc, Jump}
-use Rattle.c_lower_scheme.specs.Expressions.{Low, Where, InLoc, InArg, InMem, Found, Done, Way, due, where_of, address_tree, fitted, read_from, test, dropped, truth_of, valued, conditional, effective, mapped, chained, goal, chain, chain_drop, drop_two, choose_low, choose_drop, choose, comma, pointed, advance, advance_by, retreat, apart, step, sensed, compare, passed_as, others, args_count, callee_number, store_low, store_drop}
+use Rattle.c_lower_scheme.specs.Expressions.{Lowered, Where, InLoc, InArg, InMem, Located, Emitted, Lowering, due, where_of, address_tree, fitted, read_from, test, dropped, truth_of, valued, conditional, effective, mapped, chained, goal, chain, chain_drop, drop_two, choose_low, choose_drop, choose, comma, pointed, advance, advance_by, retreat, apart, step, sensed, compare, passed_as, others, args_count, callee_number, store_low, store_drop}
 use Rattle.c_lower_scheme.specs.Expressions
 use Rattle.c_lower_valid.proofs.Named.{Scene}
 use Rattle.c_lower_valid.proofs.Fine.{Ok, ok_up, fine_nil, fine_append, fine_up, fine_more, fine_one, fine_behind, fine_three, FineLow, FineTwo, FineFound, FineDone, FineReady, ok_step, fine_over, fine_over_two, fine_truth, fine_test, fine_compare, fine_dropped, fine_join, fine_ready, fine_update, fine_postfix, fine_store_drop, fine_store_low}
 
 module _ (scene : Scene) (size count : ℕ) where
-  abbrev Lows : ℕ → Low → Type 0
+  abbrev Lows : ℕ → Lowered → Type 0
   Lows t p = FineLow scene t p
 
-  abbrev Dones : ℕ → Done → Type 0
+  abbrev Dones : ℕ → Emitted → Type 0
   Dones t p = FineDone scene t p
 
   -- in each of the three ways, from a temporary on that is no local of the function's own
-  pub record FineWay (w : Way) : Type 0 where
+  pub record FineWay (w : Lowering) : Type 0 where
     pub low : (t l : ℕ) → size ≤ t → Lows t (w.low t l)
     pub branch : (sense : Bool) (to t l : ℕ) → size ≤ t → Dones t (w.branch sense to t l)
     pub drop : (t l : ℕ) → size ≤ t → Dones t (w.drop t l)
@@ -31,14 +31,14 @@ module _ (scene : Scene) (size count : ℕ) where
   pub fine_due : (w : Tree) (t l : ℕ) → Ok scene t w → Lows t (due w t l)
   fine_due w t l h = record { grows = omega arith; items = fine_nil scene t; tree = h }
 
-  pub fine_valued : (f : ℕ → ℕ → Low) → ((t l : ℕ) → size ≤ t → Lows t (f t l)) → FineWay (valued f)
+  pub fine_valued : (f : ℕ → ℕ → Lowered) → ((t l : ℕ) → size ≤ t → Lows t (f t l)) → FineWay (valued f)
   fine_valued f h = record {
     low = h;
     branch = λ sense to t l le. fine_test scene sense to t (f t l) (h t l le);
     drop = λ t l le. fine_dropped scene t (f t l) (h t l le);
   }
 
-  pub fine_effective : (f : ℕ → ℕ → Low) (d : ℕ → ℕ → Done) → ((t l : ℕ) → size ≤ t → Lows t (f t l))
+  pub fine_effective : (f : ℕ → ℕ → Lowered) (d : ℕ → ℕ → Emitted) → ((t l : ℕ) → size ≤ t → Lows t (f t l))
       → ((t l : ℕ) → size ≤ t → Dones t (d t l)) → FineWay (effective f d)
   fine_effective f d h g = record {
     low = h;
@@ -46,7 +46,7 @@ module _ (scene : Scene) (size count : ℕ) where
     drop = g;
   }
 
-  pub fine_conditional : (f : Bool → ℕ → ℕ → ℕ → Done) (d : ℕ → ℕ → Done)
+  pub fine_conditional : (f : Bool → ℕ → ℕ → ℕ → Emitted) (d : ℕ → ℕ → Emitted)
       → ((sense : Bool) (to t l : ℕ) → size ≤ t → Dones t (f sense to t l)) → ((t l : ℕ) → size ≤ t → Dones t (d t l))
       → FineWay (conditional f d)
   fine_conditional f d h g = record {
@@ -55,24 +55,24 @@ module _ (scene : Scene) (size count : ℕ) where
     drop = g;
   }
 
-  pub fine_mapped : (f : Tree → Tree) → ((u : ℕ) (w : Tree) → Ok scene u w → Ok scene u (f w)) → (e : Way) → FineWay e
+  pub fine_mapped : (f : Tree → Tree) → ((u : ℕ) (w : Tree) → Ok scene u w → Ok scene u (f w)) → (e : Lowering) → FineWay e
       → FineWay (mapped f e)
   fine_mapped f k e h = fine_effective _ _ (λ t l le. fine_over scene f k t (e.low t l) (h.low t l le)) h.drop
 
-  fine_joined : (a b : Way) → FineWay a → FineWay b → (t l : ℕ) → size ≤ t → FineTwo scene t (Expressions.joined size count a b t l)
+  fine_joined : (a b : Lowering) → FineWay a → FineWay b → (t l : ℕ) → size ≤ t → FineTwo scene t (Expressions.joined size count a b t l)
   fine_joined a b h g t l le =
       let p = a.low t l in
       let x = h.low t l le in
       let lx = x.grows in
       fine_join scene size count _ t p (b.low p.temps p.labels) x (g.low p.temps p.labels (omega arith))
 
-  pub fine_binary : (f : Tree → Tree → Tree) → ((u : ℕ) (a b : Tree) → Ok scene u a → Ok scene u b → Ok scene u (f a b)) → (a b : Way)
+  pub fine_binary : (f : Tree → Tree → Tree) → ((u : ℕ) (a b : Tree) → Ok scene u a → Ok scene u b → Ok scene u (f a b)) → (a b : Lowering)
       → FineWay a → FineWay b → FineWay (Expressions.binary size count f a b)
   fine_binary f k a b h g = fine_valued _ (λ t l le. fine_over_two scene f k t (Expressions.joined size count a b t l)
       (fine_joined a b h g t l le))
 
   -- one part behind another
-  fine_then : (t : ℕ) (a b : Done) → Dones t a → Dones a.temps b → Dones t (Expressions.then_done a b)
+  fine_then : (t : ℕ) (a b : Emitted) → Dones t a → Dones a.temps b → Dones t (Expressions.then_done a b)
   fine_then t a b h g =
       let le = h.grows in
       let le' = g.grows in
@@ -82,18 +82,18 @@ module _ (scene : Scene) (size count : ℕ) where
             (fine_up scene a.temps b.temps a.items le' h.items) g.items;
       }
 
-  fine_drop_two : (a b : Way) → FineWay a → FineWay b → (t l : ℕ) → size ≤ t → Dones t (drop_two a b t l)
+  fine_drop_two : (a b : Lowering) → FineWay a → FineWay b → (t l : ℕ) → size ≤ t → Dones t (drop_two a b t l)
   fine_drop_two a b h g t l le =
       let p = a.drop t l in
       let x = h.drop t l le in
       let lx = x.grows in
       fine_then t p (b.drop p.temps p.labels) x (g.drop p.temps p.labels (omega arith))
 
-  pub fine_relation : (r : Rel) (a b : Way) → FineWay a → FineWay b → FineWay (Expressions.relation size count r a b)
+  pub fine_relation : (r : Rel) (a b : Lowering) → FineWay a → FineWay b → FineWay (Expressions.relation size count r a b)
   fine_relation r a b h g = fine_conditional _ _ (λ sense to t l le. fine_compare scene (sensed sense r) to t
       (Expressions.joined size count a b t l) (fine_joined a b h g t l le)) (fine_drop_two a b h g)
 
-  fine_chained : (s : Bool) (t l : ℕ) (p : Done) (f : ℕ → ℕ → Done) → Dones t p → Dones p.temps (f p.temps p.labels)
+  fine_chained : (s : Bool) (t l : ℕ) (p : Emitted) (f : ℕ → ℕ → Emitted) → Dones t p → Dones p.temps (f p.temps p.labels)
       → Dones t (chained s l p f)
   fine_chained true t l p f h g = fine_then t p (f p.temps p.labels) h g
   fine_chained false t l p f h g =
@@ -106,7 +106,7 @@ module _ (scene : Scene) (size count : ℕ) where
             (fine_up scene p.temps q.temps p.items le' h.items) g.items (fine_one scene q.temps (Label l) tt tt);
       }
 
-  pub fine_chain : (stop : Bool) (a b : Way) → FineWay a → FineWay b → (sense : Bool) (to t l : ℕ) → size ≤ t
+  pub fine_chain : (stop : Bool) (a b : Lowering) → FineWay a → FineWay b → (sense : Bool) (to t l : ℕ) → size ≤ t
       → Dones t (chain stop a b sense to t l)
   fine_chain stop a b h g sense to t l le =
       let s = Expressions.same stop sense in
@@ -115,14 +115,14 @@ module _ (scene : Scene) (size count : ℕ) where
       let lx = x.grows in
       fine_chained s t l p (b.branch sense to) x (g.branch sense to p.temps p.labels (omega arith))
 
-  pub fine_chain_drop : (stop : Bool) (a b : Way) → FineWay a → FineWay b → (t l : ℕ) → size ≤ t → Dones t (chain_drop a stop b t l)
+  pub fine_chain_drop : (stop : Bool) (a b : Lowering) → FineWay a → FineWay b → (t l : ℕ) → size ≤ t → Dones t (chain_drop a stop b t l)
   fine_chain_drop stop a b h g t l le =
       let p = a.branch stop l t (suc l) in
       let x = h.branch stop l t (suc l) le in
       let lx = x.grows in
       fine_chained false t l p b.drop x (g.drop p.temps p.labels (omega arith))
 
-  fine_choose_low : (t v l : ℕ) (p : Done) (q r : Low) → t < v → Dones v p → Lows p.temps q → Lows q.temps r → Lows t (choose_low t l p q r)
+  fine_choose_low : (t v l : ℕ) (p : Emitted) (q r : Lowered) → t < v → Dones v p → Lows p.temps q → Lows q.temps r → Lows t (choose_low t l p q r)
   fine_choose_low t v l p q r lt h g f =
       let le = h.grows in
       let le' = g.grows in
@@ -142,7 +142,7 @@ module _ (scene : Scene) (size count : ℕ) where
         tree = here;
       }
 
-  fine_choose_drop : (t l : ℕ) (p q r : Done) → Dones t p → Dones p.temps q → Dones q.temps r → Dones t (choose_drop l p q r)
+  fine_choose_drop : (t l : ℕ) (p q r : Emitted) → Dones t p → Dones p.temps q → Dones q.temps r → Dones t (choose_drop l p q r)
   fine_choose_drop t l p q r h g f =
       let le = h.grows in
       let le' = g.grows in
@@ -157,7 +157,7 @@ module _ (scene : Scene) (size count : ℕ) where
             (fine_behind scene r.temps r.items (Label (suc l)) f.items tt tt)));
       }
 
-  pub fine_choose : (c a b : Way) → FineWay c → FineWay a → FineWay b → FineWay (choose c a b)
+  pub fine_choose : (c a b : Lowering) → FineWay c → FineWay a → FineWay b → FineWay (choose c a b)
   fine_choose c a b h g f = fine_effective _ _
       (λ t l le.
       let p = c.branch false l (suc t) (suc (suc l)) in
@@ -176,7 +176,7 @@ module _ (scene : Scene) (size count : ℕ) where
       let ly = y.grows in
       fine_choose_drop t l p q (b.drop q.temps q.labels) x y (f.drop q.temps q.labels (omega arith)))
 
-  pub fine_comma : (a b : Way) → FineWay a → FineWay b → FineWay (comma a b)
+  pub fine_comma : (a b : Lowering) → FineWay a → FineWay b → FineWay (comma a b)
   fine_comma a b h g = record {
     low = λ t l le.
         let p = a.drop t l in
@@ -199,7 +199,7 @@ module _ (scene : Scene) (size count : ℕ) where
     drop = fine_drop_two a b h g;
   }
 
-  pub fine_unary : (op : UnaryOperator) (e : Way) → FineWay e → FineWay (Expressions.unary size count op e)
+  pub fine_unary : (op : UnaryOperator) (e : Lowering) → FineWay e → FineWay (Expressions.unary size count op e)
   fine_unary unaries.Plus e h = fine_mapped (λ w. w) (λ u w k. k) e h
   fine_unary unaries.Minus e h = fine_mapped Neg (λ u w k. k) e h
   fine_unary unaries.Complement e h = fine_mapped Com (λ u w k. k) e h
@@ -207,30 +207,30 @@ module _ (scene : Scene) (size count : ℕ) where
 
   -- `x op= e`, and `++` and `--`
   fine_updated : (f : CType → Tree → Tree → Tree) → ((ty : CType) (u : ℕ) (a b : Tree) → Ok scene u a → Ok scene u b
-      → Ok scene u (f ty a b)) → (t : ℕ) (p : Found) (e : Way) → size ≤ t → FineFound scene t p → FineWay e
+      → Ok scene u (f ty a b)) → (t : ℕ) (p : Located) (e : Lowering) → size ≤ t → FineFound scene t p → FineWay e
       → FineReady scene t (Expressions.updated size count f p e.low)
   fine_updated f k t p e le h g =
       let lx = h.grows in
       fine_update scene _ _ (f p.type) (k p.type) t p (e.low p.temps p.labels) h (g.low p.temps p.labels (omega arith))
 
   pub fine_update_by : (f : CType → Tree → Tree → Tree)
-      → ((ty : CType) (u : ℕ) (a b : Tree) → Ok scene u a → Ok scene u b → Ok scene u (f ty a b)) → (p : ℕ → ℕ → Found) (e : Way)
+      → ((ty : CType) (u : ℕ) (a b : Tree) → Ok scene u a → Ok scene u b → Ok scene u (f ty a b)) → (p : ℕ → ℕ → Located) (e : Lowering)
       → ((t l : ℕ) → size ≤ t → FineFound scene t (p t l)) → FineWay e → FineWay (Expressions.update_by size count f p e)
   fine_update_by f k p e h g = fine_effective _ _
       (λ t l le. fine_store_low scene t (Expressions.updated size count f (p t l) e.low) (fine_updated f k t (p t l) e le (h t l le) g))
       (λ t l le. fine_store_drop scene t (Expressions.updated size count f (p t l) e.low) (fine_updated f k t (p t l) e le (h t l le) g))
 
-  pub fine_step_ready : (by : Direction) (t : ℕ) (p : Found) → FineFound scene t p
+  pub fine_step_ready : (by : Direction) (t : ℕ) (p : Located) → FineFound scene t p
       → FineReady scene t (Expressions.step_ready size count by p)
   fine_step_ready by t p h = fine_update scene _ false (step by) (ok_step scene by) t p _ h
       (fine_due (Num (scale p.type)) p.temps p.labels tt)
 
-  pub fine_step : (m : Moment) (by : Direction) (t : ℕ) (p : Found) → FineFound scene t p → Lows t (Expressions.step_low size count m by p)
+  pub fine_step : (m : Moment) (by : Direction) (t : ℕ) (p : Located) → FineFound scene t p → Lows t (Expressions.step_low size count m by p)
   fine_step moments.Before by t p h = fine_postfix scene _ (Expressions.step_tree size count by p.type)
       (λ u w k. ok_step scene by u w (Num (scale p.type)) k tt) t p h
   fine_step moments.After by t p h = fine_store_low scene t (Expressions.step_ready size count by p) (fine_step_ready by t p h)
 
-  pub fine_assigned : (between : Bool) (t : ℕ) (p : Found) (e : Way) → size ≤ t → FineFound scene t p → FineWay e
+  pub fine_assigned : (between : Bool) (t : ℕ) (p : Located) (e : Lowering) → size ≤ t → FineFound scene t p → FineWay e
       → FineReady scene t (Expressions.assigned size count between p e.low)
   fine_assigned between t p e le h g =
       let lx = h.grows in

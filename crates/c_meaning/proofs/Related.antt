@@ -11,8 +11,8 @@ use Rattle.c_types.specs.declared.typed.Variable.{Variable}
 use Rattle.c_types.specs.declared.typed.Direction.{Direction}
 use Rattle.c_types.specs.declared.typed.Moment.{Moment}
 use Rattle.c_types.specs.Constants.{converted, apply, distance}
-use Rattle.c_types.specs.Typed.{PlaceTerm, VariableAt, PointedBy, ElementBy, Term, Constant, LiteralAt, ArrayAt, ReadOf, SizeofTerm, SizeOf, AddressOf, CallOf, StepOf, UnaryOf, CastTo, ConvertTo, ArithmeticOf, CompareOf, BothOf, EitherOf, AdvanceOf, AdvanceByOf, RetreatOf, DistanceOf, ChoiceOf, AssignTo, ArithmeticAssignTo, AdvanceAssignTo, RetreatAssignTo, CommaOf, Terms, NoTerms, MoreTerms}
-use Rattle.c_program.specs.Statements.{ADeclaration, KeepOf, ClearOf, BeginOf, Act, Acts, NoActs, MoreActs, DeclareOf, BlockOf, EvaluateOf, BreakOf, ContinueOf, ReturnOf, IfOf, IfElseOf, WhileOf, DoOf, ForOf}
+use Rattle.c_types.specs.Typed.{APlace, VariableAt, PointedBy, ElementBy, AnExpression, Constant, LiteralAt, ArrayAt, ReadOf, SizeofTerm, SizeOf, AddressOf, CallOf, StepOf, UnaryOf, CastTo, ConvertTo, ArithmeticOf, CompareOf, BothOf, EitherOf, AdvanceOf, AdvanceByOf, RetreatOf, DistanceOf, ChoiceOf, AssignTo, ArithmeticAssignTo, AdvanceAssignTo, RetreatAssignTo, CommaOf, SomeExpressions, NoExpressions, MoreExpressions}
+use Rattle.c_program.specs.Statements.{ADeclaration, KeepOf, ClearOf, BeginOf, AnAction, SomeActions, NoActions, MoreActions, DeclareOf, BlockOf, EvaluateOf, BreakOf, ContinueOf, ReturnOf, IfOf, IfElseOf, WhileOf, DoOf, ForOf}
 use Rattle.c_program.specs.Programs.{ARoutine, AProgram}
 use Rattle.c_meaning.specs.declared.store.Spot.{Spot}
 use Rattle.c_meaning.specs.declared.store.Spot.TheVariants.{Local, Parameter, Memory}
@@ -137,7 +137,7 @@ module _ (R : ℕ → Runs → Runs → Type 0) (kept : Kept R) where
     call_kept k le callees.Getchar vs κ μ h st = got_kept k st.input κ μ h st
 
     mutual
-      pub expr_kept : (e : Term) (k : ℕ) → k ≤ suc n → (κ μ : Rest) → OnRest R k κ μ → OnState R k (expr p f e κ) (expr p g e μ)
+      pub expr_kept : (e : AnExpression) (k : ℕ) → k ≤ suc n → (κ μ : Rest) → OnRest R k κ μ → OnState R k (expr p f e κ) (expr p g e μ)
       expr_kept (Constant x) k le κ μ h = h x
       expr_kept (LiteralAt x size) k le κ μ h = wild_kept k (address p.objects x) κ μ h
       expr_kept (ArrayAt t v size) k le κ μ h = located_kept k (spot_of p.objects v) _ _ (λ s. address_kept k s κ μ h)
@@ -165,20 +165,20 @@ module _ (R : ℕ → Runs → Runs → Type 0) (kept : Kept R) where
       expr_kept (RetreatAssignTo a e) k le κ μ h = place_kept a k le _ _ (λ t s. read_kept k t s _ _ (λ x. expr_kept e k le _ _ (λ y. store_kept k t s _ κ μ h)))
       expr_kept (CommaOf t l r) k le κ μ h = expr_kept l k le _ _ (λ x. expr_kept r k le κ μ h)
 
-      pub place_kept : (a : PlaceTerm) (k : ℕ) → k ≤ suc n → (κ μ : RestAt) → OnAt R k κ μ → OnState R k (place p f a κ) (place p g a μ)
+      pub place_kept : (a : APlace) (k : ℕ) → k ≤ suc n → (κ μ : RestAt) → OnAt R k κ μ → OnState R k (place p f a κ) (place p g a μ)
       place_kept (VariableAt t v) k le κ μ h = located_kept k (spot_of p.objects v) (κ t) (μ t) (h t)
       place_kept (PointedBy t e) k le κ μ h = expr_kept e k le _ _ (λ a. h t (Memory a))
       place_kept (ElementBy t e) k le κ μ h = expr_kept e k le _ _ (λ a. h t (Memory a))
 
-      pub arguments_kept : (es : Terms) (ts : List CType) (k : ℕ) → k ≤ suc n → (κ μ : RestAll) → ((vs : List ℕ) (st : State) → R k (κ vs st) (μ vs st)) → OnState R k (arguments p f es ts κ) (arguments p g es ts μ)
-      arguments_kept NoTerms ts k le κ μ h = h []
-      arguments_kept (MoreTerms e es) ts k le κ μ h = expr_kept e k le _ _ (λ v. passed_kept k ts v _ _ (λ x us. arguments_kept es us k le _ _ (λ xs. h _)))
+      pub arguments_kept : (es : SomeExpressions) (ts : List CType) (k : ℕ) → k ≤ suc n → (κ μ : RestAll) → ((vs : List ℕ) (st : State) → R k (κ vs st) (μ vs st)) → OnState R k (arguments p f es ts κ) (arguments p g es ts μ)
+      arguments_kept NoExpressions ts k le κ μ h = h []
+      arguments_kept (MoreExpressions e es) ts k le κ μ h = expr_kept e k le _ _ (λ v. passed_kept k ts v _ _ (λ x us. arguments_kept es us k le _ _ (λ xs. h _)))
 
-    dropped_kept : (o : Option Term) (k : ℕ) → k ≤ suc n → (κ μ : State → Runs) → OnState R k κ μ → OnState R k (dropped p f o κ) (dropped p g o μ)
+    dropped_kept : (o : Option AnExpression) (k : ℕ) → k ≤ suc n → (κ μ : State → Runs) → OnState R k κ μ → OnState R k (dropped p f o κ) (dropped p g o μ)
     dropped_kept None k le κ μ h = h
     dropped_kept (Some e) k le κ μ h = expr_kept e k le _ _ (λ v. h)
 
-    tested_kept : (c : Option Term) (k : ℕ) → k ≤ suc n → (i o i' o' : State → Runs) → OnState R k i i' → OnState R k o o' → OnState R k (tested p f c i o) (tested p g c i' o')
+    tested_kept : (c : Option AnExpression) (k : ℕ) → k ≤ suc n → (i o i' o' : State → Runs) → OnState R k i i' → OnState R k o o' → OnState R k (tested p f c i o) (tested p g c i' o')
     tested_kept None k le i o i' o' h h' = h
     tested_kept (Some e) k le i o i' o' h h' = expr_kept e k le _ _ (λ v st. chosen_kept k v _ _ _ _ (h st) (h' st))
 
@@ -193,7 +193,7 @@ module _ (R : ℕ → Runs → Runs → Type 0) (kept : Kept R) where
     look_kept : (l : ALoop) (b c : Behind → State → Runs) → Bodies b c → (k : ℕ) → k ≤ suc n → (κ μ : Behind) → OnBehind R k κ μ → OnState R k (look_by p f l b κ) (look_by p g l c μ)
     look_kept l b c same k le κ μ h = tested_kept l.condition k le _ _ _ _ (turn_kept l b c same k le κ μ h) (h Onward)
 
-    returned_kept : (o : Option Term) (k : ℕ) → k ≤ suc n → (κ μ : Behind) → OnBehind R k κ μ → OnState R k (returned p f o κ) (returned p g o μ)
+    returned_kept : (o : Option AnExpression) (k : ℕ) → k ≤ suc n → (κ μ : Behind) → OnBehind R k κ μ → OnState R k (returned p f o κ) (returned p g o μ)
     returned_kept None k le κ μ h = h (Returned 0)
     returned_kept (Some e) k le κ μ h = expr_kept e k le _ _ (λ v. h (Returned v))
 
@@ -204,7 +204,7 @@ module _ (R : ℕ → Runs → Runs → Type 0) (kept : Kept R) where
     declared_kept (BeginOf x e ∷ ds) k le κ μ h = set_kept p f g k x 0 _ _ (expr_kept e k le _ _ (λ v. set_kept p f g k x v _ _ (declared_kept ds k le κ μ h)))
 
     mutual
-      pub stmt_kept : (a : Act) (k : ℕ) → k ≤ suc n → (κ μ : Behind) → OnBehind R k κ μ → OnState R k (stmt p f a κ) (stmt p g a μ)
+      pub stmt_kept : (a : AnAction) (k : ℕ) → k ≤ suc n → (κ μ : Behind) → OnBehind R k κ μ → OnState R k (stmt p f a κ) (stmt p g a μ)
       stmt_kept (DeclareOf ds) k le κ μ h = declared_kept ds k le κ μ h
       stmt_kept (BlockOf row) k le κ μ h = stmts_kept row k le κ μ h
       stmt_kept (EvaluateOf e) k le κ μ h = expr_kept e k le _ _ (λ v. h Onward)
@@ -217,9 +217,9 @@ module _ (R : ℕ → Runs → Runs → Type 0) (kept : Kept R) where
       stmt_kept (DoOf a c) k le κ μ h = turn_kept (plain_loop c a) _ _ (stmt_kept a) k le κ μ h
       stmt_kept (ForOf i c e a) k le κ μ h = dropped_kept i k le _ _ (look_kept (for_loop c e a) _ _ (stmt_kept a) k le κ μ h)
 
-      pub stmts_kept : (row : Acts) (k : ℕ) → k ≤ suc n → (κ μ : Behind) → OnBehind R k κ μ → OnState R k (stmts p f row κ) (stmts p g row μ)
-      stmts_kept NoActs k le κ μ h = h Onward
-      stmts_kept (MoreActs a row) k le κ μ h = stmt_kept a k le _ _ (followed_kept p f g k κ μ _ _ h (stmts_kept row k le κ μ h))
+      pub stmts_kept : (row : SomeActions) (k : ℕ) → k ≤ suc n → (κ μ : Behind) → OnBehind R k κ μ → OnState R k (stmts p f row κ) (stmts p g row μ)
+      stmts_kept NoActions k le κ μ h = h Onward
+      stmts_kept (MoreActions a row) k le κ μ h = stmt_kept a k le _ _ (followed_kept p f g k κ μ _ _ h (stmts_kept row k le κ μ h))
 
     pub task_kept : (k : ℕ) → k ≤ suc n → OnNext R k (task p f) (task p g)
     task_kept k le (Look l) κ μ h = look_kept l _ _ (stmt_kept l.body) k le κ μ h

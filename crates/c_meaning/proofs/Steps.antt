@@ -10,7 +10,7 @@ use Rattle.c_types.specs.declared.typed.Expression.{Expression}
 use Rattle.c_types.specs.declared.types.CType.{CType}
 use Rattle.c_types.specs.declared.typed.Callee.{Callee}
 use Rattle.c_types.specs.Constants.{converted}
-use Rattle.c_types.specs.Typed.{Terms, term}
+use Rattle.c_types.specs.Typed.{SomeExpressions, term}
 use Rattle.c_program.specs.declared.statement.Action.{Action}
 use Rattle.c_program.specs.Statements.{acts}
 use Rattle.gg_base.specs.declared.run.End.TheVariants.{Deep}
@@ -170,7 +170,7 @@ turns {new} {event} m l v h w =
     over w (chosen_some v (turn_at (program m.program.now) (means (program m.program.now)) (loop_of l) (with_flow (waits m)) (state m.store)) (waits m (Leaves Onward) (state m.store)) h) (omega arith)
 
 -- a further argument is there
-pub passes : {new : Machine} {event : Event} (m : Machine) (f : Callee) (done more : List ℕ) (x v : ℕ) (t : CType) (ts all : List CType) (es : Terms) → all ≡ t ∷ ts → x ≡ converted t v → more ≡ done ++ x ∷ [] → Makes m (λ κ. arguments (program m.program.now) (means (program m.program.now)) es ts (λ vs. call (program m.program.now) (means (program m.program.now)) f (more ++ vs) (with_value κ))) (arguments_work es) event new → Makes m (λ κ. passed all v (λ y us. arguments (program m.program.now) (means (program m.program.now)) es us (λ vs. call (program m.program.now) (means (program m.program.now)) f (done ++ y ∷ vs) (with_value κ)))) (arguments_work es + 1) event new
+pub passes : {new : Machine} {event : Event} (m : Machine) (f : Callee) (done more : List ℕ) (x v : ℕ) (t : CType) (ts all : List CType) (es : SomeExpressions) → all ≡ t ∷ ts → x ≡ converted t v → more ≡ done ++ x ∷ [] → Makes m (λ κ. arguments (program m.program.now) (means (program m.program.now)) es ts (λ vs. call (program m.program.now) (means (program m.program.now)) f (more ++ vs) (with_value κ))) (arguments_work es) event new → Makes m (λ κ. passed all v (λ y us. arguments (program m.program.now) (means (program m.program.now)) es us (λ vs. call (program m.program.now) (means (program m.program.now)) f (done ++ y ∷ vs) (with_value κ)))) (arguments_work es + 1) event new
 passes {new} {event} m f done more x v t ts all es is kept pushed w =
     let p = program m.program.now in
     let κ : Rest = with_value (waits m) in

@@ -14,8 +14,8 @@ use Rattle.c_types.specs.declared.typed.Direction.TheVariants.{Up, Down}
 use Rattle.c_types.specs.declared.typed.Moment.{Moment}
 use Rattle.c_types.specs.declared.typed.Moment.TheVariants.{Before, After}
 use Rattle.c_types.specs.Constants.{converted, truth, apply_unary, apply, advanced, retreated, distance}
-use Rattle.c_types.specs.Typed.{PlaceTerm, VariableAt, PointedBy, ElementBy, Term, Constant, LiteralAt, ArrayAt, ReadOf, SizeofTerm, SizeOf, AddressOf, CallOf, StepOf, UnaryOf, CastTo, ConvertTo, ArithmeticOf, CompareOf, BothOf, EitherOf, AdvanceOf, AdvanceByOf, RetreatOf, DistanceOf, ChoiceOf, AssignTo, ArithmeticAssignTo, AdvanceAssignTo, RetreatAssignTo, CommaOf, Terms, NoTerms, MoreTerms}
-use Rattle.c_program.specs.Statements.{ADeclaration, KeepOf, ClearOf, BeginOf, Act, Acts, NoActs, MoreActs, DeclareOf, BlockOf, EvaluateOf, BreakOf, ContinueOf, ReturnOf, IfOf, IfElseOf, WhileOf, DoOf, ForOf}
+use Rattle.c_types.specs.Typed.{APlace, VariableAt, PointedBy, ElementBy, AnExpression, Constant, LiteralAt, ArrayAt, ReadOf, SizeofTerm, SizeOf, AddressOf, CallOf, StepOf, UnaryOf, CastTo, ConvertTo, ArithmeticOf, CompareOf, BothOf, EitherOf, AdvanceOf, AdvanceByOf, RetreatOf, DistanceOf, ChoiceOf, AssignTo, ArithmeticAssignTo, AdvanceAssignTo, RetreatAssignTo, CommaOf, SomeExpressions, NoExpressions, MoreExpressions}
+use Rattle.c_program.specs.Statements.{ADeclaration, KeepOf, ClearOf, BeginOf, AnAction, SomeActions, NoActions, MoreActions, DeclareOf, BlockOf, EvaluateOf, BreakOf, ContinueOf, ReturnOf, IfOf, IfElseOf, WhileOf, DoOf, ForOf}
 use Rattle.c_program.specs.Programs.{ARoutine, AProgram}
 use Rattle.c_meaning.specs.declared.store.Spot.{Spot}
 use Rattle.c_meaning.specs.declared.store.Spot.TheVariants.{Local, Parameter, Memory}
@@ -38,21 +38,21 @@ Behind = Flow → State → Runs
 
 -- a loop: its condition, what is done behind each turn, and what a turn does
 pub record ALoop : Type 0 where
-  pub condition : Option Term
-  pub step : Option Term
-  pub body : Act
+  pub condition : Option AnExpression
+  pub step : Option AnExpression
+  pub body : AnAction
 
 -- the loop of a `while` or `do`, and that of a `for`
-abbrev pub plain_loop : Term → Act → ALoop
+abbrev pub plain_loop : AnExpression → AnAction → ALoop
 plain_loop c a = record { condition = Some c; step = None; body = a }
 
-abbrev pub for_loop : Option Term → Option Term → Act → ALoop
+abbrev pub for_loop : Option AnExpression → Option AnExpression → AnAction → ALoop
 for_loop c e a = record { condition = c; step = e; body = a }
 
 -- what is begun behind something that was counted: another look at a loop, or a function's body
 pub data Task : Type 0 where
   Look : (l : ALoop) → Task
-  Body : (row : Acts) → Task
+  Body : (row : SomeActions) → Task
 
 -- what the tasks mean
 abbrev pub Next : Type 0
@@ -161,7 +161,7 @@ call p next callees.Getchar vs κ st = got st.input κ st
 module _ (p : AProgram) (next : Next) where
   abbrev mutual
     -- an expression
-    pub expr : Term → Rest → State → Runs
+    pub expr : AnExpression → Rest → State → Runs
     expr (Constant n) κ = κ n
     expr (LiteralAt n size) κ = or_wild (address p.objects n) κ
     expr (ArrayAt t v size) κ = array_address p v κ
@@ -190,23 +190,23 @@ module _ (p : AProgram) (next : Next) where
     expr (CommaOf t l r) κ = expr l (λ x. expr r κ)
 
     -- the place of a variable, `*e`, and `a[i]`, by the sum of its parts
-    pub place : PlaceTerm → RestAt → State → Runs
+    pub place : APlace → RestAt → State → Runs
     place (VariableAt t v) κ = located (spot_of p.objects v) (κ t)
     place (PointedBy t e) κ = expr e (λ a. κ t (Memory a))
     place (ElementBy t e) κ = expr e (λ a. κ t (Memory a))
 
     -- the arguments of a call, whose parameters have these types
-    pub arguments : Terms → List CType → RestAll → State → Runs
-    arguments NoTerms ts κ = κ []
-    arguments (MoreTerms e es) ts κ = expr e (λ v. passed ts v (λ x us. arguments es us (λ xs. κ (x ∷ xs))))
+    pub arguments : SomeExpressions → List CType → RestAll → State → Runs
+    arguments NoExpressions ts κ = κ []
+    arguments (MoreExpressions e es) ts κ = expr e (λ v. passed ts v (λ x us. arguments es us (λ xs. κ (x ∷ xs))))
 
   -- what is evaluated for its effect alone, if there is something
-  abbrev pub dropped : Option Term → (State → Runs) → State → Runs
+  abbrev pub dropped : Option AnExpression → (State → Runs) → State → Runs
   dropped None κ = κ
   dropped (Some e) κ = expr e (λ v. κ)
 
   -- a condition, which is true where it is left out
-  abbrev pub tested : Option Term → (State → Runs) → (State → Runs) → State → Runs
+  abbrev pub tested : Option AnExpression → (State → Runs) → (State → Runs) → State → Runs
   tested None onward out = onward
   tested (Some e) onward out = expr e (λ v st. chosen v (onward st) (out st))
 
@@ -225,7 +225,7 @@ module _ (p : AProgram) (next : Next) where
   look_by l body κ = tested l.condition (turn_by l body κ) (κ Onward)
 
   -- a `return`
-  abbrev pub returned : Option Term → Behind → State → Runs
+  abbrev pub returned : Option AnExpression → Behind → State → Runs
   returned None κ = κ (Returned 0)
   returned (Some e) κ = expr e (λ v. κ (Returned v))
 
@@ -249,7 +249,7 @@ module _ (p : AProgram) (next : Next) where
 
   abbrev mutual
     -- a statement
-    pub stmt : Act → Behind → State → Runs
+    pub stmt : AnAction → Behind → State → Runs
     stmt (DeclareOf ds) κ = declared ds κ
     stmt (BlockOf row) κ = stmts row κ
     stmt (EvaluateOf e) κ = expr e (λ v. κ Onward)
@@ -263,9 +263,9 @@ module _ (p : AProgram) (next : Next) where
     stmt (ForOf i c e a) κ = dropped i (look_by (for_loop c e a) (stmt a) κ)
 
     -- the statements of a block
-    pub stmts : Acts → Behind → State → Runs
-    stmts NoActs κ = κ Onward
-    stmts (MoreActs a row) κ = stmt a (followed κ (stmts row κ))
+    pub stmts : SomeActions → Behind → State → Runs
+    stmts NoActions κ = κ Onward
+    stmts (MoreActions a row) κ = stmt a (followed κ (stmts row κ))
 
   -- a loop
   abbrev pub turn_at : ALoop → Behind → State → Runs

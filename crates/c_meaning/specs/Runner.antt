@@ -10,8 +10,8 @@ use Rattle.gg_base.specs.Relations.{holds}
 use Rattle.c_types.specs.declared.types.CType.{CType}
 use Rattle.c_types.specs.declared.typed.Expression.{Expression}
 use Rattle.c_types.specs.Constants.{converted, truth, apply_unary, apply, advanced, retreated, distance}
-use Rattle.c_types.specs.Typed.{PlaceTerm, VariableAt, PointedBy, ElementBy, Term, Constant, LiteralAt, ArrayAt, ReadOf, SizeofTerm, SizeOf, AddressOf, CallOf, StepOf, UnaryOf, CastTo, ConvertTo, ArithmeticOf, CompareOf, BothOf, EitherOf, AdvanceOf, AdvanceByOf, RetreatOf, DistanceOf, ChoiceOf, AssignTo, ArithmeticAssignTo, AdvanceAssignTo, RetreatAssignTo, CommaOf, Terms, NoTerms, MoreTerms, term, terms}
-use Rattle.c_program.specs.Statements.{ADeclaration, KeepOf, ClearOf, BeginOf, Act, Acts, NoActs, MoreActs, DeclareOf, BlockOf, EvaluateOf, BreakOf, ContinueOf, ReturnOf, IfOf, IfElseOf, WhileOf, DoOf, ForOf, act, acts, declaration}
+use Rattle.c_types.specs.Typed.{APlace, VariableAt, PointedBy, ElementBy, AnExpression, Constant, LiteralAt, ArrayAt, ReadOf, SizeofTerm, SizeOf, AddressOf, CallOf, StepOf, UnaryOf, CastTo, ConvertTo, ArithmeticOf, CompareOf, BothOf, EitherOf, AdvanceOf, AdvanceByOf, RetreatOf, DistanceOf, ChoiceOf, AssignTo, ArithmeticAssignTo, AdvanceAssignTo, RetreatAssignTo, CommaOf, SomeExpressions, NoExpressions, MoreExpressions, term, terms}
+use Rattle.c_program.specs.Statements.{ADeclaration, KeepOf, ClearOf, BeginOf, AnAction, SomeActions, NoActions, MoreActions, DeclareOf, BlockOf, EvaluateOf, BreakOf, ContinueOf, ReturnOf, IfOf, IfElseOf, WhileOf, DoOf, ForOf, act, acts, declaration}
 use Rattle.c_program.specs.Programs.{AProgram, program}
 use Rattle.c_meaning.specs.declared.flow.Flow.{Flow}
 use Rattle.c_meaning.specs.declared.flow.Flow.TheVariants.{Onward, Returned}
@@ -55,7 +55,7 @@ abbrev pub got_rest : List ℕ → List ℕ
 got_rest [] = []
 got_rest (b ∷ bs) = bs
 
-abbrev pub maybe_bor : Option (Bor Expression) → Option Term
+abbrev pub maybe_bor : Option (Bor Expression) → Option AnExpression
 maybe_bor None = None
 maybe_bor (Some e) = Some (term e.now)
 
@@ -171,7 +171,7 @@ to_come m = going (program m.program.now) m.control (waits m) (state m.store)
 
 -- the steps until the next moment that shows
 abbrev mutual
-  pub term_work : Term → ℕ
+  pub term_work : AnExpression → ℕ
   term_work (Constant n) = 2
   term_work (LiteralAt n size) = 2
   term_work (ArrayAt t v size) = 2
@@ -199,16 +199,16 @@ abbrev mutual
   term_work (RetreatAssignTo a e) = place_work a + (term_work e + 2)
   term_work (CommaOf t l r) = term_work l + term_work r + 2
 
-  pub place_work : PlaceTerm → ℕ
+  pub place_work : APlace → ℕ
   place_work (VariableAt t v) = 0
   place_work (PointedBy t e) = term_work e + 2
   place_work (ElementBy t e) = term_work e + 2
 
-  pub arguments_work : Terms → ℕ
-  arguments_work NoTerms = 2
-  arguments_work (MoreTerms e es) = term_work e + arguments_work es + 2
+  pub arguments_work : SomeExpressions → ℕ
+  arguments_work NoExpressions = 2
+  arguments_work (MoreExpressions e es) = term_work e + arguments_work es + 2
 
-abbrev pub maybe_work : Option Term → ℕ
+abbrev pub maybe_work : Option AnExpression → ℕ
 maybe_work None = 0
 maybe_work (Some e) = term_work e
 
@@ -225,7 +225,7 @@ abbrev pub again_to_do : ALoop → ℕ
 again_to_do l = maybe_work l.step + loop_work l + 1
 
 abbrev mutual
-  pub act_work : Act → ℕ
+  pub act_work : AnAction → ℕ
   act_work (DeclareOf ds) = declarations_work ds + 1
   act_work (BlockOf row) = acts_work row + 1
   act_work (EvaluateOf e) = term_work e + 2
@@ -238,9 +238,9 @@ abbrev mutual
   act_work (DoOf a c) = 0
   act_work (ForOf i c e a) = maybe_work i + maybe_work c + 3
 
-  pub acts_work : Acts → ℕ
-  acts_work NoActs = 2
-  acts_work (MoreActs a row) = act_work a + acts_work row + 2
+  pub acts_work : SomeActions → ℕ
+  acts_work NoActions = 2
+  acts_work (MoreActions a row) = act_work a + acts_work row + 2
 
 abbrev pub use_work : Use → ℕ
 use_work uses.Read = 2

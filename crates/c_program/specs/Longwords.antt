@@ -1,15 +1,15 @@
 -- Statements in which each number is a longword.
 use Rattle.std.specs.Prelude.{◌<◌, ◌^◌, List, [], ◌∷◌, Option, Some, None}
-use Rattle.c_types.specs.Typed.{PlaceTerm, VariableAt, PointedBy, ElementBy, Term, Terms, NoTerms, MoreTerms, Constant, LiteralAt, ArrayAt, ReadOf, SizeofTerm, SizeOf, AddressOf, CallOf, StepOf, UnaryOf, CastTo, ConvertTo, ArithmeticOf, CompareOf, BothOf, EitherOf, AdvanceOf, AdvanceByOf, RetreatOf, DistanceOf, ChoiceOf, AssignTo, ArithmeticAssignTo, AdvanceAssignTo, RetreatAssignTo, CommaOf}
-use Rattle.c_program.specs.Statements.{ADeclaration, KeepOf, ClearOf, BeginOf, Act, Acts, NoActs, MoreActs, DeclareOf, BlockOf, EvaluateOf, BreakOf, ContinueOf, ReturnOf, IfOf, IfElseOf, WhileOf, DoOf, ForOf}
+use Rattle.c_types.specs.Typed.{APlace, VariableAt, PointedBy, ElementBy, AnExpression, SomeExpressions, NoExpressions, MoreExpressions, Constant, LiteralAt, ArrayAt, ReadOf, SizeofTerm, SizeOf, AddressOf, CallOf, StepOf, UnaryOf, CastTo, ConvertTo, ArithmeticOf, CompareOf, BothOf, EitherOf, AdvanceOf, AdvanceByOf, RetreatOf, DistanceOf, ChoiceOf, AssignTo, ArithmeticAssignTo, AdvanceAssignTo, RetreatAssignTo, CommaOf}
+use Rattle.c_program.specs.Statements.{ADeclaration, KeepOf, ClearOf, BeginOf, AnAction, SomeActions, NoActions, MoreActions, DeclareOf, BlockOf, EvaluateOf, BreakOf, ContinueOf, ReturnOf, IfOf, IfElseOf, WhileOf, DoOf, ForOf}
 
 abbrev mutual
-  pub PlaceOfLongwords : PlaceTerm → Type 0
+  pub PlaceOfLongwords : APlace → Type 0
   PlaceOfLongwords (VariableAt t v) = Unit {0}
   PlaceOfLongwords (PointedBy t e) = OfLongwords e
   PlaceOfLongwords (ElementBy t sum) = OfLongwords sum
 
-  pub OfLongwords : Term → Type 0
+  pub OfLongwords : AnExpression → Type 0
   OfLongwords (Constant n) = n < 2 ^ 32
   OfLongwords (LiteralAt object size) = Unit {0}
   OfLongwords (ArrayAt t v size) = Unit {0}
@@ -37,11 +37,11 @@ abbrev mutual
   OfLongwords (RetreatAssignTo p e) = PlaceOfLongwords p × OfLongwords e
   OfLongwords (CommaOf t l r) = OfLongwords l × OfLongwords r
 
-  pub AllOfLongwords : Terms → Type 0
-  AllOfLongwords NoTerms = Unit {0}
-  AllOfLongwords (MoreTerms e es) = OfLongwords e × AllOfLongwords es
+  pub AllOfLongwords : SomeExpressions → Type 0
+  AllOfLongwords NoExpressions = Unit {0}
+  AllOfLongwords (MoreExpressions e es) = OfLongwords e × AllOfLongwords es
 
-abbrev pub MaybeOfLongwords : Option Term → Type 0
+abbrev pub MaybeOfLongwords : Option AnExpression → Type 0
 MaybeOfLongwords None = Unit {0}
 MaybeOfLongwords (Some e) = OfLongwords e
 
@@ -55,7 +55,7 @@ DeclaredOfLongwords [] = Unit {0}
 DeclaredOfLongwords (d ∷ ds) = OneOfLongwords d × DeclaredOfLongwords ds
 
 abbrev mutual
-  pub ActOfLongwords : Act → Type 0
+  pub ActOfLongwords : AnAction → Type 0
   ActOfLongwords (DeclareOf ds) = DeclaredOfLongwords ds
   ActOfLongwords (BlockOf row) = ActsOfLongwords row
   ActOfLongwords (EvaluateOf e) = OfLongwords e
@@ -68,6 +68,6 @@ abbrev mutual
   ActOfLongwords (DoOf a c) = ActOfLongwords a × OfLongwords c
   ActOfLongwords (ForOf i c e a) = MaybeOfLongwords i × MaybeOfLongwords c × MaybeOfLongwords e × ActOfLongwords a
 
-  pub ActsOfLongwords : Acts → Type 0
-  ActsOfLongwords NoActs = Unit {0}
-  ActsOfLongwords (MoreActs a rest) = ActOfLongwords a × ActsOfLongwords rest
+  pub ActsOfLongwords : SomeActions → Type 0
+  ActsOfLongwords NoActions = Unit {0}
+  ActsOfLongwords (MoreActions a rest) = ActOfLongwords a × ActsOfLongwords rest

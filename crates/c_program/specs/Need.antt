@@ -1,17 +1,17 @@
 -- How many longwords of its frame a function needs.
 use Rattle.std.specs.Prelude.{ℕ, ◌+◌, ◌*◌, max, List, [], ◌∷◌, length, Option, Some, None}
 use Rattle.c_types.specs.declared.types.CType.{CType}
-use Rattle.c_types.specs.Typed.{PlaceTerm, VariableAt, PointedBy, ElementBy, Term, Terms, NoTerms, MoreTerms, Constant, LiteralAt, ArrayAt, ReadOf, SizeofTerm, SizeOf, AddressOf, CallOf, StepOf, UnaryOf, CastTo, ConvertTo, ArithmeticOf, CompareOf, BothOf, EitherOf, AdvanceOf, AdvanceByOf, RetreatOf, DistanceOf, ChoiceOf, AssignTo, ArithmeticAssignTo, AdvanceAssignTo, RetreatAssignTo, CommaOf}
-use Rattle.c_program.specs.Statements.{ADeclaration, KeepOf, ClearOf, BeginOf, Act, Acts, NoActs, MoreActs, DeclareOf, BlockOf, EvaluateOf, BreakOf, ContinueOf, ReturnOf, IfOf, IfElseOf, WhileOf, DoOf, ForOf}
+use Rattle.c_types.specs.Typed.{APlace, VariableAt, PointedBy, ElementBy, AnExpression, SomeExpressions, NoExpressions, MoreExpressions, Constant, LiteralAt, ArrayAt, ReadOf, SizeofTerm, SizeOf, AddressOf, CallOf, StepOf, UnaryOf, CastTo, ConvertTo, ArithmeticOf, CompareOf, BothOf, EitherOf, AdvanceOf, AdvanceByOf, RetreatOf, DistanceOf, ChoiceOf, AssignTo, ArithmeticAssignTo, AdvanceAssignTo, RetreatAssignTo, CommaOf}
+use Rattle.c_program.specs.Statements.{ADeclaration, KeepOf, ClearOf, BeginOf, AnAction, SomeActions, NoActions, MoreActions, DeclareOf, BlockOf, EvaluateOf, BreakOf, ContinueOf, ReturnOf, IfOf, IfElseOf, WhileOf, DoOf, ForOf}
 
 -- Each name, number, literal, operator, index and call is one node, and a called function's name is a name. An index's sum and a conversion are none.
 abbrev mutual
-  pub place_nodes : PlaceTerm → ℕ
+  pub place_nodes : APlace → ℕ
   place_nodes (VariableAt t v) = 1
   place_nodes (PointedBy t e) = 1 + nodes e
   place_nodes (ElementBy t sum) = nodes sum
 
-  pub nodes : Term → ℕ
+  pub nodes : AnExpression → ℕ
   nodes (Constant n) = 1
   nodes (LiteralAt object size) = 1
   nodes (ArrayAt t v size) = 1
@@ -39,16 +39,16 @@ abbrev mutual
   nodes (RetreatAssignTo p e) = 1 + place_nodes p + nodes e
   nodes (CommaOf t l r) = 1 + nodes l + nodes r
 
-  pub all_nodes : Terms → ℕ
-  all_nodes NoTerms = 0
-  all_nodes (MoreTerms e es) = nodes e + all_nodes es
+  pub all_nodes : SomeExpressions → ℕ
+  all_nodes NoExpressions = 0
+  all_nodes (MoreExpressions e es) = nodes e + all_nodes es
 
-abbrev pub maybe_nodes : Option Term → ℕ
+abbrev pub maybe_nodes : Option AnExpression → ℕ
 maybe_nodes None = 0
 maybe_nodes (Some e) = nodes e
 
 -- a zero that the meaning supplies is a full expression of one node
-abbrev pub returned_nodes : Option Term → ℕ
+abbrev pub returned_nodes : Option AnExpression → ℕ
 returned_nodes None = 1
 returned_nodes (Some e) = nodes e
 
@@ -63,7 +63,7 @@ declared_nodes (d ∷ ds) = max (one_declared d) (declared_nodes ds)
 
 -- the nodes of the largest full expression
 abbrev mutual
-  pub largest : Act → ℕ
+  pub largest : AnAction → ℕ
   largest (DeclareOf ds) = declared_nodes ds
   largest (BlockOf row) = largest_of row
   largest (EvaluateOf e) = nodes e
@@ -76,10 +76,10 @@ abbrev mutual
   largest (DoOf a c) = max (largest a) (nodes c)
   largest (ForOf i c e a) = max (maybe_nodes i) (max (maybe_nodes c) (max (maybe_nodes e) (largest a)))
 
-  pub largest_of : Acts → ℕ
-  largest_of NoActs = 0
-  largest_of (MoreActs a rest) = max (largest a) (largest_of rest)
+  pub largest_of : SomeActions → ℕ
+  largest_of NoActions = 0
+  largest_of (MoreActions a rest) = max (largest a) (largest_of rest)
 
 -- The automatic locals, and three for each node of the largest full expression; the end of the body supplies a zero.
-unfoldable pub need_of : List CType → Acts → ℕ
+unfoldable pub need_of : List CType → SomeActions → ℕ
 need_of locals body = length locals + 3 * max 1 (largest_of body)

@@ -4,7 +4,7 @@ use Rattle.tree_core.specs.declared.program.Object.{Object}
 use Rattle.c_types.specs.declared.types.CType.{CType}
 use Rattle.c_program.specs.declared.program.Routine.{Routine}
 use Rattle.c_program.specs.declared.program.Program.{Program}
-use Rattle.c_program.specs.Statements.{Acts, acts}
+use Rattle.c_program.specs.Statements.{SomeActions, acts}
 
 -- a function: its name, the types of its result, its parameters and its automatic locals, what it does, and the longwords of its frame
 pub record ARoutine : Type 0 where
@@ -12,7 +12,7 @@ pub record ARoutine : Type 0 where
   pub result : CType
   pub parameters : List CType
   pub locals : List CType
-  pub body : Acts
+  pub body : SomeActions
   pub need : ℕ
 
 -- a program: the objects of its data area, its functions in order of definition, and the number of main

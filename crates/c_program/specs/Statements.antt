@@ -1,7 +1,7 @@
 -- Typed statements as plain data.
 use Rattle.std.specs.Prelude.{ℕ, List, [], ◌∷◌, map, Option, Some, None}
 use Rattle.c_types.specs.declared.typed.Expression.{Expression}
-use Rattle.c_types.specs.Typed.{Term, term}
+use Rattle.c_types.specs.Typed.{AnExpression, term}
 use Rattle.c_program.specs.declared.statement.Declaration.{Declaration}
 use Rattle.c_program.specs.declared.statement.Declaration.TheVariants as declarations
 use Rattle.c_program.specs.declared.statement.Action.{Action, Row_of-Action, end_of-Action, more_of-Action}
@@ -10,7 +10,7 @@ use Rattle.c_program.specs.declared.statement.Action.TheVariants as actions
 pub data ADeclaration : Type 0 where
   KeepOf : (object : ℕ) → ADeclaration
   ClearOf : (n : ℕ) → ADeclaration
-  BeginOf : (n : ℕ) (e : Term) → ADeclaration
+  BeginOf : (n : ℕ) (e : AnExpression) → ADeclaration
 
 abbrev pub declaration : Declaration → ADeclaration
 declaration (declarations.Keep object) = KeepOf object
@@ -18,29 +18,29 @@ declaration (declarations.Clear n) = ClearOf n
 declaration (declarations.Begin n e) = BeginOf n (term e)
 
 mutual
-  pub data Act : Type 0 where
-    DeclareOf : (ds : List ADeclaration) → Act
-    BlockOf : (row : Acts) → Act
-    EvaluateOf : (e : Term) → Act
-    BreakOf : Act
-    ContinueOf : Act
-    ReturnOf : (e : Option Term) → Act
-    IfOf : (c : Term) (a : Act) → Act
-    IfElseOf : (c : Term) (a b : Act) → Act
-    WhileOf : (c : Term) (a : Act) → Act
-    DoOf : (a : Act) (c : Term) → Act
-    ForOf : (i c e : Option Term) (a : Act) → Act
+  pub data AnAction : Type 0 where
+    DeclareOf : (ds : List ADeclaration) → AnAction
+    BlockOf : (row : SomeActions) → AnAction
+    EvaluateOf : (e : AnExpression) → AnAction
+    BreakOf : AnAction
+    ContinueOf : AnAction
+    ReturnOf : (e : Option AnExpression) → AnAction
+    IfOf : (c : AnExpression) (a : AnAction) → AnAction
+    IfElseOf : (c : AnExpression) (a b : AnAction) → AnAction
+    WhileOf : (c : AnExpression) (a : AnAction) → AnAction
+    DoOf : (a : AnAction) (c : AnExpression) → AnAction
+    ForOf : (i c e : Option AnExpression) (a : AnAction) → AnAction
 
-  pub data Acts : Type 0 where
-    NoActs : Acts
-    MoreActs : (a : Act) (rest : Acts) → Acts
+  pub data SomeActions : Type 0 where
+    NoActions : SomeActions
+    MoreActions : (a : AnAction) (rest : SomeActions) → SomeActions
 
-abbrev pub maybe_term : Option Expression → Option Term
+abbrev pub maybe_term : Option Expression → Option AnExpression
 maybe_term None = None
 maybe_term (Some e) = Some (term e)
 
 abbrev mutual
-  pub act : Action → Act
+  pub act : Action → AnAction
   act (actions.Declare ds) = DeclareOf (map declaration ds.items)
   act (actions.Block' shape row) = BlockOf (act_row row)
   act (actions.Evaluate e) = EvaluateOf (term e)
@@ -53,10 +53,10 @@ abbrev mutual
   act (actions.Do' p a c) = DoOf (act a) (term c)
   act (actions.For' i c e p a) = ForOf (maybe_term i) (maybe_term c) (maybe_term e) (act a)
 
-  pub act_row : {m : _} → Row_of-Action m → Acts
-  act_row end_of-Action = NoActs
-  act_row (more_of-Action a rest) = MoreActs (act a) (act_row rest)
+  pub act_row : {m : _} → Row_of-Action m → SomeActions
+  act_row end_of-Action = NoActions
+  act_row (more_of-Action a rest) = MoreActions (act a) (act_row rest)
 
-abbrev pub acts : List Action → Acts
-acts [] = NoActs
-acts (a ∷ rest) = MoreActs (act a) (acts rest)
+abbrev pub acts : List Action → SomeActions
+acts [] = NoActions
+acts (a ∷ rest) = MoreActions (act a) (acts rest)

@@ -3,8 +3,8 @@ use Rattle.std.specs.Prelude.{◌≡◌, ◌⊎◌, ℕ, ◌<◌, ◌^◌, List,
 use Rattle.c_types.specs.declared.types.CType.{CType}
 use Rattle.c_types.specs.declared.typed.Variable.{Variable}
 use Rattle.c_types.specs.declared.typed.Variable.TheVariants as variables
-use Rattle.c_types.specs.Typed.{PlaceTerm, VariableAt, PointedBy, ElementBy, Term, Constant, LiteralAt, ArrayAt, ReadOf, SizeofTerm, SizeOf, AddressOf, CallOf, StepOf, UnaryOf, CastTo, ConvertTo, ArithmeticOf, CompareOf, BothOf, EitherOf, AdvanceOf, AdvanceByOf, RetreatOf, DistanceOf, ChoiceOf, AssignTo, ArithmeticAssignTo, AdvanceAssignTo, RetreatAssignTo, CommaOf, Terms, NoTerms, MoreTerms}
-use Rattle.c_program.specs.Statements.{ADeclaration, KeepOf, ClearOf, BeginOf, Act, Acts, NoActs, MoreActs, DeclareOf, BlockOf, EvaluateOf, BreakOf, ContinueOf, ReturnOf, IfOf, IfElseOf, WhileOf, DoOf, ForOf}
+use Rattle.c_types.specs.Typed.{APlace, VariableAt, PointedBy, ElementBy, AnExpression, Constant, LiteralAt, ArrayAt, ReadOf, SizeofTerm, SizeOf, AddressOf, CallOf, StepOf, UnaryOf, CastTo, ConvertTo, ArithmeticOf, CompareOf, BothOf, EitherOf, AdvanceOf, AdvanceByOf, RetreatOf, DistanceOf, ChoiceOf, AssignTo, ArithmeticAssignTo, AdvanceAssignTo, RetreatAssignTo, CommaOf, SomeExpressions, NoExpressions, MoreExpressions}
+use Rattle.c_program.specs.Statements.{ADeclaration, KeepOf, ClearOf, BeginOf, AnAction, SomeActions, NoActions, MoreActions, DeclareOf, BlockOf, EvaluateOf, BreakOf, ContinueOf, ReturnOf, IfOf, IfElseOf, WhileOf, DoOf, ForOf}
 
 -- bytes, and longwords
 abbrev pub AreBytes : List ℕ → Type 0
@@ -20,12 +20,12 @@ StandsIn scope (variables.Static n) = Unit {0}
 
 -- Each automatic local that an expression names is in scope, each number is a longword, and each call has as many arguments as parameters.
 abbrev mutual
-  pub FitsAt : (ℕ → Type 0) → PlaceTerm → Type 0
+  pub FitsAt : (ℕ → Type 0) → APlace → Type 0
   FitsAt scope (VariableAt t v) = StandsIn scope v
   FitsAt scope (PointedBy t e) = Fits scope e
   FitsAt scope (ElementBy t e) = Fits scope e
 
-  pub Fits : (ℕ → Type 0) → Term → Type 0
+  pub Fits : (ℕ → Type 0) → AnExpression → Type 0
   Fits scope (Constant n) = n < 2 ^ 32
   Fits scope (LiteralAt n size) = Unit {0}
   Fits scope (ArrayAt t v size) = Unit {0}
@@ -53,12 +53,12 @@ abbrev mutual
   Fits scope (RetreatAssignTo a e) = FitsAt scope a × Fits scope e
   Fits scope (CommaOf t l r) = Fits scope l × Fits scope r
 
-  pub FitsAll : (ℕ → Type 0) → Terms → List CType → Type 0
-  FitsAll scope NoTerms to = Unit {0}
-  FitsAll scope (MoreTerms e es) [] = ⊥
-  FitsAll scope (MoreTerms e es) (t ∷ to) = Fits scope e × FitsAll scope es to
+  pub FitsAll : (ℕ → Type 0) → SomeExpressions → List CType → Type 0
+  FitsAll scope NoExpressions to = Unit {0}
+  FitsAll scope (MoreExpressions e es) [] = ⊥
+  FitsAll scope (MoreExpressions e es) (t ∷ to) = Fits scope e × FitsAll scope es to
 
-abbrev pub FitsMaybe : (ℕ → Type 0) → Option Term → Type 0
+abbrev pub FitsMaybe : (ℕ → Type 0) → Option AnExpression → Type 0
 FitsMaybe scope None = Unit {0}
 FitsMaybe scope (Some e) = Fits scope e
 
@@ -73,7 +73,7 @@ declaring scope (KeepOf object ∷ ds) = declaring scope ds
 declaring scope (ClearOf n ∷ ds) = declaring (more scope n) ds
 declaring scope (BeginOf n e ∷ ds) = declaring (more scope n) ds
 
-abbrev pub behind_act : (ℕ → Type 0) → Act → ℕ → Type 0
+abbrev pub behind_act : (ℕ → Type 0) → AnAction → ℕ → Type 0
 behind_act scope (DeclareOf ds) = declaring scope ds
 behind_act scope (BlockOf row) = scope
 behind_act scope (EvaluateOf e) = scope
@@ -95,7 +95,7 @@ FitsDeclared size scope (BeginOf n e ∷ ds) = (n < size) × Fits (more scope n)
 
 -- a statement's expressions fit, and `break` and `continue` stand in a loop; a statement below `if` or a loop declares for itself alone
 abbrev mutual
-  pub FitsAct : ℕ → (ℕ → Type 0) → Bool → Act → Type 0
+  pub FitsAct : ℕ → (ℕ → Type 0) → Bool → AnAction → Type 0
   FitsAct size scope inside (DeclareOf ds) = FitsDeclared size scope ds
   FitsAct size scope inside (BlockOf row) = FitsActs size scope inside row
   FitsAct size scope inside (EvaluateOf e) = Fits scope e
@@ -108,9 +108,9 @@ abbrev mutual
   FitsAct size scope inside (DoOf a c) = FitsAct size scope true a × Fits scope c
   FitsAct size scope inside (ForOf i c e a) = FitsMaybe scope i × FitsMaybe scope c × FitsMaybe scope e × FitsAct size scope true a
 
-  pub FitsActs : ℕ → (ℕ → Type 0) → Bool → Acts → Type 0
-  FitsActs size scope inside NoActs = Unit {0}
-  FitsActs size scope inside (MoreActs a row) = FitsAct size scope inside a × FitsActs size (behind_act scope a) inside row
+  pub FitsActs : ℕ → (ℕ → Type 0) → Bool → SomeActions → Type 0
+  FitsActs size scope inside NoActions = Unit {0}
+  FitsActs size scope inside (MoreActions a row) = FitsAct size scope inside a × FitsActs size (behind_act scope a) inside row
 
 -- no local is in scope where a function begins
 abbrev pub no_local : ℕ → Type 0

@@ -5,14 +5,14 @@ use Rattle.c_types.specs.declared.typed.Variable.{Variable}
 use Rattle.c_types.specs.declared.typed.Variable.TheVariants as variables
 use Rattle.c_types.specs.declared.typed.Callee.{Callee}
 use Rattle.c_types.specs.declared.typed.Callee.TheVariants as callees
-use Rattle.c_types.specs.Typed.{PlaceTerm, VariableAt, PointedBy, ElementBy, Term, Constant, LiteralAt, ArrayAt, ReadOf, SizeofTerm, SizeOf, AddressOf, CallOf, StepOf, UnaryOf, CastTo, ConvertTo, ArithmeticOf, CompareOf, BothOf, EitherOf, AdvanceOf, AdvanceByOf, RetreatOf, DistanceOf, ChoiceOf, AssignTo, ArithmeticAssignTo, AdvanceAssignTo, RetreatAssignTo, CommaOf, Terms, NoTerms, MoreTerms}
-use Rattle.c_program.specs.Statements.{ADeclaration, KeepOf, ClearOf, BeginOf, Act, Acts, NoActs, MoreActs, DeclareOf, BlockOf, EvaluateOf, BreakOf, ContinueOf, ReturnOf, IfOf, IfElseOf, WhileOf, DoOf, ForOf}
+use Rattle.c_types.specs.Typed.{APlace, VariableAt, PointedBy, ElementBy, AnExpression, Constant, LiteralAt, ArrayAt, ReadOf, SizeofTerm, SizeOf, AddressOf, CallOf, StepOf, UnaryOf, CastTo, ConvertTo, ArithmeticOf, CompareOf, BothOf, EitherOf, AdvanceOf, AdvanceByOf, RetreatOf, DistanceOf, ChoiceOf, AssignTo, ArithmeticAssignTo, AdvanceAssignTo, RetreatAssignTo, CommaOf, SomeExpressions, NoExpressions, MoreExpressions}
+use Rattle.c_program.specs.Statements.{ADeclaration, KeepOf, ClearOf, BeginOf, AnAction, SomeActions, NoActions, MoreActions, DeclareOf, BlockOf, EvaluateOf, BreakOf, ContinueOf, ReturnOf, IfOf, IfElseOf, WhileOf, DoOf, ForOf}
 use Rattle.c_program.specs.Programs.{ARoutine}
 
 -- how many arguments a call has
-abbrev pub arguments : Terms → ℕ
-arguments NoTerms = 0
-arguments (MoreTerms e es) = 1 + arguments es
+abbrev pub arguments : SomeExpressions → ℕ
+arguments NoExpressions = 0
+arguments (MoreExpressions e es) = 1 + arguments es
 
 -- where there are so many objects, and the function has so many parameters
 abbrev pub IsThere : (objects params : ℕ) → Variable → Type 0
@@ -35,12 +35,12 @@ Takes gs callees.Getchar count = count ≡ 0
 -- which variables are there, and which calls are right
 module _ (there : Variable → Type 0) (takes : Callee → ℕ → Type 0) (literals : ℕ) where
   abbrev mutual
-    pub StandsAt : PlaceTerm → Type 0
+    pub StandsAt : APlace → Type 0
     StandsAt (VariableAt t v) = there v
     StandsAt (PointedBy t e) = Stands e
     StandsAt (ElementBy t e) = Stands e
 
-    pub Stands : Term → Type 0
+    pub Stands : AnExpression → Type 0
     Stands (Constant n) = Unit {0}
     Stands (LiteralAt n size) = n < literals
     Stands (ArrayAt t v size) = there v
@@ -68,11 +68,11 @@ module _ (there : Variable → Type 0) (takes : Callee → ℕ → Type 0) (lite
     Stands (RetreatAssignTo a e) = StandsAt a × Stands e
     Stands (CommaOf t l r) = Stands l × Stands r
 
-    pub StandAll : Terms → Type 0
-    StandAll NoTerms = Unit {0}
-    StandAll (MoreTerms e es) = Stands e × StandAll es
+    pub StandAll : SomeExpressions → Type 0
+    StandAll NoExpressions = Unit {0}
+    StandAll (MoreExpressions e es) = Stands e × StandAll es
 
-  abbrev pub StandsMaybe : Option Term → Type 0
+  abbrev pub StandsMaybe : Option AnExpression → Type 0
   StandsMaybe None = Unit {0}
   StandsMaybe (Some e) = Stands e
 
@@ -83,7 +83,7 @@ module _ (there : Variable → Type 0) (takes : Callee → ℕ → Type 0) (lite
   StandsDeclared (BeginOf n e ∷ ds) = Stands e × StandsDeclared ds
 
   abbrev mutual
-    pub StandsAct : Act → Type 0
+    pub StandsAct : AnAction → Type 0
     StandsAct (DeclareOf ds) = StandsDeclared ds
     StandsAct (BlockOf row) = StandsActs row
     StandsAct (EvaluateOf e) = Stands e
@@ -96,6 +96,6 @@ module _ (there : Variable → Type 0) (takes : Callee → ℕ → Type 0) (lite
     StandsAct (DoOf a c) = StandsAct a × Stands c
     StandsAct (ForOf i c e a) = StandsMaybe i × StandsMaybe c × StandsMaybe e × StandsAct a
 
-    pub StandsActs : Acts → Type 0
-    StandsActs NoActs = Unit {0}
-    StandsActs (MoreActs a row) = StandsAct a × StandsActs row
+    pub StandsActs : SomeActions → Type 0
+    StandsActs NoActions = Unit {0}
+    StandsActs (MoreActions a row) = StandsAct a × StandsActs row

@@ -8,7 +8,7 @@ use Rattle.c_phrases.specs.Units.{AnInit, value, elements, ADeclarator}
 use Rattle.c_types.specs.declared.types.CType.{CType}
 use Rattle.c_types.specs.Answers.{Fault, ◌>>=◌}
 use Rattle.c_types.specs.Types.{size_of, pointer_to}
-use Rattle.c_types.specs.Typed.{Term, LiteralAt}
+use Rattle.c_types.specs.Typed.{AnExpression, LiteralAt}
 use Rattle.c_typed_scope.specs.declared.entry.Entry.{Entry}
 use Rattle.c_typed_scope.specs.declared.entry.Entry.TheVariants as entries
 use Rattle.c_typed_scope.specs.declared.entry.Signature.{Signature}
@@ -42,20 +42,20 @@ adds_further a b c h k = record {
 pub added_adds : (a : Area) (r : ℕ × Area) → Added a r → Adds a r.1
 added_adds a r h = record { more = h.last ∷ []; is = h.is }
 
-unchanged : (size : ℕ) (a : Area) (t : Term × Area) → t ≡ (LiteralAt 0 size, a) → Adds a t.1
+unchanged : (size : ℕ) (a : Area) (t : AnExpression × Area) → t ≡ (LiteralAt 0 size, a) → Adds a t.1
 unchanged size a t is = rw is (adds_none a)
 
-one_more : (size : ℕ) (a : Area) (t : Term × Area) (r : ℕ × Area) → Added a r → t ≡ (LiteralAt r.0 size, one_more_literal r.1) → Adds a t.1
+one_more : (size : ℕ) (a : Area) (t : AnExpression × Area) (r : ℕ × Area) → Added a r → t ≡ (LiteralAt r.0 size, one_more_literal r.1) → Adds a t.1
 one_more size a t r h is = rw is (record { more = h.last ∷ []; is = h.is })
 
-literal_by : (measures : Bool) (m : Result (ℕ × Area) Fault) (size : ℕ) (a : Area) (t : Term × Area) →
+literal_by : (measures : Bool) (m : Result (ℕ × Area) Fault) (size : ℕ) (a : Area) (t : AnExpression × Area) →
     (if measures then Ok (LiteralAt 0 size, a) else (m >>= λ r. Ok (LiteralAt r.0 size, one_more_literal r.1))) ≡ Ok t →
     ((r : ℕ × Area) → m ≡ Ok r → Added a r) → Adds a t.1
 literal_by true m size a t e h = unchanged size a t (cc)
 literal_by false (Ok r) size a t e h = one_more size a t r (h r refl) (cc)
 literal_by false (Err f) size a t e h = absurd (cc)
 
-literal_adds : (at : ℕ) (bytes : List ℕ) (a : Area) (t : Term × Area) → literal at bytes a ≡ Ok t → Adds a t.1
+literal_adds : (at : ℕ) (bytes : List ℕ) (a : Area) (t : AnExpression × Area) → literal at bytes a ≡ Ok t → Adds a t.1
 unfolding literal
 literal_adds at bytes a t e = literal_by a.measuring _ (length bytes + 1) a t e (λ r is. placed_adds _ _ _ _ _ a r is)
 

@@ -6,11 +6,11 @@ use Rattle.c_phrases.specs.declared.operator.Storage.TheVariants as storages
 use Rattle.c_phrases.specs.Phrases.{AnExp}
 use Rattle.c_phrases.specs.Units.{AnInit, value, elements, ADeclarator, local_item, statement_item, AStatement, block, empty, expression, break_off, continue_on, give_back, if_then, if_else, while_loop, do_loop, for_loop, SomeItems, no_items}
 use Rattle.c_types.specs.declared.types.CType.{CType}
-use Rattle.c_types.specs.Typed.{Term}
+use Rattle.c_types.specs.Typed.{AnExpression}
 use Rattle.c_typed_scope.specs.declared.entry.Entry.{Entry}
 use Rattle.c_typed_scope.specs.declared.entry.Signature.{Signature}
 use Rattle.c_typed_scope.specs.Layout.{Area}
-use Rattle.c_program.specs.Statements.{ADeclaration, Act, Acts}
+use Rattle.c_program.specs.Statements.{ADeclaration, AnAction, SomeActions}
 use Rattle.c_sound.specs.Fits.{declaring}
 use Rattle.c_typed_expressions.specs.Phrases.{init_in}
 use Rattle.c_typed_expressions.specs.Expressions.{written}
@@ -44,17 +44,17 @@ LaysObjects R names signatures parameters =
 
 module _ (R : Area → Area → Type 0) (l : Laying R) (names : List (List ℕ × Entry)) (signatures : List Signature) (parameters : ℕ)
     (object : LaysObjects R names signatures parameters) where
-  full_lays : (e : AnExp) (s : State) (r : Term × State) → IsFull names signatures e s r → R s.area r.1.area
+  full_lays : (e : AnExp) (s : State) (r : AnExpression × State) → IsFull names signatures e s r → R s.area r.1.area
   full_lays e s r j = rw (j.whole) (exp_lays R l names signatures s.scope e s.area j.part j.typed)
 
-  condition_lays : (e : AnExp) (s : State) (r : Term × State) → IsCondition names signatures e s r → R s.area r.1.area
+  condition_lays : (e : AnExp) (s : State) (r : AnExpression × State) → IsCondition names signatures e s r → R s.area r.1.area
   condition_lays e s r j = let k = j.whole in rw (k.whole) (full_lays e s j.part j.typed)
 
-  part_lays : (e : Option AnExp) (s : State) (r : Option Term × State) → IsPart names signatures e s r → R s.area r.1.area
+  part_lays : (e : Option AnExp) (s : State) (r : Option AnExpression × State) → IsPart names signatures e s r → R s.area r.1.area
   part_lays None s r j = rw j (l.same s.area)
   part_lays (Some e) s r j = rw (j.whole) (full_lays e s j.part j.typed)
 
-  turn_lays : (e : Option AnExp) (s : State) (r : Option Term × State) → IsTurn names signatures e s r → R s.area r.1.area
+  turn_lays : (e : Option AnExp) (s : State) (r : Option AnExpression × State) → IsTurn names signatures e s r → R s.area r.1.area
   turn_lays None s r j = rw j (l.same s.area)
   turn_lays (Some e) s r j = rw (j.whole) (condition_lays e s j.part j.typed)
 
@@ -86,13 +86,13 @@ module _ (R : Area → Area → Type 0) (l : Laying R) (names : List (List ℕ �
       (order_any (declaring any_local (j.part.0 ∷ [])) parameters j.part.1 first.order) j.whole)
 
   module _ (result_type : CType) where
-    return_lays : (e : Option AnExp) (s : State) (r : Act × State) → IsReturn names signatures result_type e s r → R s.area r.1.area
+    return_lays : (e : Option AnExp) (s : State) (r : AnAction × State) → IsReturn names signatures result_type e s r → R s.area r.1.area
     return_lays None s r j = rw j (l.same s.area)
     return_lays (Some e) s r j = let k = j.whole in rw (k.whole) (full_lays e s j.part j.typed)
 
     mutual
       -- across a statement
-      pub statement_lays : (looping : Bool) (a : AStatement) (s : State) (r : Act × State) → InOrder any_local parameters s →
+      pub statement_lays : (looping : Bool) (a : AStatement) (s : State) (r : AnAction × State) → InOrder any_local parameters s →
           IsStatement names signatures result_type looping a s r → R s.area r.1.area
       statement_lays looping (block row) s r o j =
           rw (j.whole) (items_lay looping row (entered s) j.part (order_entered signatures any_local parameters s o) j.typed)
@@ -136,7 +136,7 @@ module _ (R : Area → Area → Type 0) (l : Laying R) (names : List (List ℕ �
           (statement_lays true a m.part.1 q.part he.order q.typed))))
 
       -- across the items of a block
-      pub items_lay : (looping : Bool) (row : SomeItems) (s : State) (r : Acts × State) → InOrder any_local parameters s →
+      pub items_lay : (looping : Bool) (row : SomeItems) (s : State) (r : SomeActions × State) → InOrder any_local parameters s →
           AreItems names signatures result_type looping row s r → R s.area r.1.area
       items_lay looping no_items s r o j = rw j (l.same s.area)
       items_lay looping (local_item i rest) s r o j =

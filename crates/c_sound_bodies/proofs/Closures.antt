@@ -5,7 +5,7 @@ use Rattle.c_types.specs.declared.types.CType.{CType}
 use Rattle.c_types.specs.declared.typed.Variable.{Variable}
 use Rattle.c_types.specs.declared.typed.Variable.TheVariants as variables
 use Rattle.c_types.specs.declared.typed.Callee.{Callee}
-use Rattle.c_types.specs.Typed.{Term, Terms, NoTerms, MoreTerms}
+use Rattle.c_types.specs.Typed.{AnExpression, SomeExpressions, NoExpressions, MoreExpressions}
 use Rattle.c_typed_scope.specs.declared.entry.Entry.{Entry}
 use Rattle.c_typed_scope.specs.declared.entry.Signature.{Signature}
 use Rattle.c_typed_scope.specs.Layout.{Area}
@@ -28,14 +28,14 @@ stands_in scope locals parameters objects (variables.Global n) h = tt
 stands_in scope locals parameters objects (variables.Static n) h = tt
 
 -- a term whose numbers are longwords fits
-abbrev pub WillFit : (ℕ → Type 0) → Term → Type 0
+abbrev pub WillFit : (ℕ → Type 0) → AnExpression → Type 0
 WillFit scope x = OfLongwords x → Fits scope x
 
-fits_all : (scope : ℕ → Type 0) (es : Terms) (to : List CType) → arguments es ≡ length to → Every (WillFit scope) es →
+fits_all : (scope : ℕ → Type 0) (es : SomeExpressions) (to : List CType) → arguments es ≡ length to → Every (WillFit scope) es →
     AllOfLongwords es → FitsAll scope es to
-fits_all scope NoTerms to many all h = tt
-fits_all scope (MoreTerms e es) [] many all h = absurd (omega arith)
-fits_all scope (MoreTerms e es) (t ∷ to) many all h = (all.0 h.0, fits_all scope es to (omega arith) all.1 h.1)
+fits_all scope NoExpressions to many all h = tt
+fits_all scope (MoreExpressions e es) [] many all h = absurd (omega arith)
+fits_all scope (MoreExpressions e es) (t ∷ to) many all h = (all.0 h.0, fits_all scope es to (omega arith) all.1 h.1)
 
 abbrev pub any_call : Callee → ℕ → Type 0
 any_call f n = Unit {0}
@@ -81,13 +81,13 @@ is_there scope locals parameters known objects l (variables.Global n) h = omega 
 is_there scope locals parameters known objects l (variables.Static n) h = omega arith
 
 -- a term that names what is there stands
-abbrev pub WillStand : (objects parameters : ℕ) → List ARoutine → Term → Type 0
+abbrev pub WillStand : (objects parameters : ℕ) → List ARoutine → AnExpression → Type 0
 WillStand objects parameters gs x = Stands (IsThere objects parameters) (Takes gs) objects x
 
-stand_all : (objects parameters : ℕ) (gs : List ARoutine) (es : Terms) → Every (WillStand objects parameters gs) es →
+stand_all : (objects parameters : ℕ) (gs : List ARoutine) (es : SomeExpressions) → Every (WillStand objects parameters gs) es →
     StandAll (IsThere objects parameters) (Takes gs) objects es
-stand_all objects parameters gs NoTerms all = tt
-stand_all objects parameters gs (MoreTerms e es) all = (all.0, stand_all objects parameters gs es all.1)
+stand_all objects parameters gs NoExpressions all = tt
+stand_all objects parameters gs (MoreExpressions e es) all = (all.0, stand_all objects parameters gs es all.1)
 
 pub stands_closed : (scope : ℕ → Type 0) (locals parameters known objects : ℕ) (gs : List ARoutine) → known ≤ objects →
     Closed (IsKnown scope locals parameters known) (Takes gs) objects (WillStand objects parameters gs)
@@ -124,14 +124,14 @@ stands_closed scope locals parameters known objects gs l = record {
 
 module _ (names : List (List ℕ × Entry)) (signatures : List Signature) where
   -- what an expression is typed as fits, and stands
-  pub exp_fits : (scope : ℕ → Type 0) (parameters : ℕ) (s : State) (e : AnExp) (t : Term × Area) → InOrder scope parameters s →
+  pub exp_fits : (scope : ℕ → Type 0) (parameters : ℕ) (s : State) (e : AnExp) (t : AnExpression × Area) → InOrder scope parameters s →
       IsTyped names signatures s.scope e s.area t → WillFit scope t.0
   exp_fits scope parameters s e t o j =
       exp_has (IsKnown scope (length s.locals) parameters (length s.area.objects)) any_call (length t.1.objects) (WillFit scope)
       (fits_closed scope (length s.locals) parameters (length s.area.objects) (length t.1.objects))
       names signatures s.scope o.names (λ n g is. tt) e s.area t j (record { laying = o.laying; most = omega arith })
 
-  pub exp_stands : (scope : ℕ → Type 0) (parameters : ℕ) (s : State) (gs : List ARoutine) (objects : ℕ) (e : AnExp) (t : Term × Area) →
+  pub exp_stands : (scope : ℕ → Type 0) (parameters : ℕ) (s : State) (gs : List ARoutine) (objects : ℕ) (e : AnExp) (t : AnExpression × Area) →
       InOrder scope parameters s → length t.1.objects ≤ objects → AreDefined signatures gs →
       IsTyped names signatures s.scope e s.area t → WillStand objects parameters gs t.0
   exp_stands scope parameters s gs objects e t o l defined j =

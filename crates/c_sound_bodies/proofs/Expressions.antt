@@ -6,7 +6,7 @@ use Rattle.c_types.specs.declared.typed.Variable.{Variable}
 use Rattle.c_types.specs.declared.typed.Callee.{Callee}
 use Rattle.c_types.specs.declared.typed.Moment.TheVariants as moments
 use Rattle.c_types.specs.Answers.{Fault}
-use Rattle.c_types.specs.Typed.{Term, Terms, MoreTerms, CallOf, type_of}
+use Rattle.c_types.specs.Typed.{AnExpression, SomeExpressions, MoreExpressions, CallOf, type_of}
 use Rattle.c_typed_operators.specs.Rules.{comma_of}
 use Rattle.c_typed_scope.specs.declared.entry.Entry.{Entry}
 use Rattle.c_typed_scope.specs.declared.entry.Entry.TheVariants as entries
@@ -49,29 +49,29 @@ held : {A : Type 0} (test : Bool) (m : Result A Fault) (f : Fault) (u : A) → (
 held true m f u e = record { holds = refl; rest = e }
 held false m f u e = absurd (cc)
 
-module _ (known : Variable → Type 0) (calls : Callee → ℕ → Type 0) (objects : ℕ) (P : Term → Type 0)
+module _ (known : Variable → Type 0) (calls : Callee → ℕ → Type 0) (objects : ℕ) (P : AnExpression → Type 0)
     (c : Closed known calls objects P) where
-  literal_has : (at : ℕ) (bytes : List ℕ) (a : Area) (t : Term × Area) → literal at bytes a ≡ Ok t → Room objects a t.1 → P t.0
+  literal_has : (at : ℕ) (bytes : List ℕ) (a : Area) (t : AnExpression × Area) → literal at bytes a ≡ Ok t → Room objects a t.1 → P t.0
   literal_has at bytes a t e r =
       let l = literal_adds at bytes a t r.laying e in
       let most : length t.1.objects ≤ objects = r.most in
       let more : length t.1.objects ≡ length a.objects + 1 = l.objects in
       rw (l.is) (c.literal (length a.objects) l.size (omega arith))
 
-  call_by_has : (o : Option ℕ) (s : Signature) (n : ℕ) (xs : Terms) (u : Term) → call_unless o s n xs ≡ Ok u →
+  call_by_has : (o : Option ℕ) (s : Signature) (n : ℕ) (xs : SomeExpressions) (u : AnExpression) → call_unless o s n xs ≡ Ok u →
       calls (callee_of n) (length s.parameters) → arguments xs ≡ length s.parameters → Every P xs → P u
   call_by_has None s n xs u e defined many all = let is : u ≡ CallOf s.result (callee_of n) s.parameters xs = cc in
       rw is (c.call s.result (callee_of n) s.parameters xs defined many all)
   call_by_has (Some at) s n xs u e defined many all = absurd (cc)
 
-  comma_has : (a : Area) (t x y : Term × Area) → t ≡ (comma_of x.0 y.0, y.1) → Room objects a t.1 → Extends a x.1 → Extends x.1 y.1 →
+  comma_has : (a : Area) (t x y : AnExpression × Area) → t ≡ (comma_of x.0 y.0, y.1) → Room objects a t.1 → Extends a x.1 → Extends x.1 y.1 →
       (Room objects a x.1 → P x.0) → (Room objects x.1 y.1 → P y.0) → P t.0
   unfolding comma_of
   comma_has a t x y is r h k p q =
       let last : Room objects a y.1 = rw is at r in
       rw is (c.comma (type_of y.0) x.0 y.0 (p (before objects a x.1 y.1 k last)) (q (behind objects a x.1 y.1 h last)))
 
-  more_have : (a : Area) (t : Terms × Area) (x : Term × Area) (xs : Terms × Area) → t ≡ (MoreTerms x.0 xs.0, xs.1) →
+  more_have : (a : Area) (t : SomeExpressions × Area) (x : AnExpression × Area) (xs : SomeExpressions × Area) → t ≡ (MoreExpressions x.0 xs.0, xs.1) →
       Room objects a t.1 → Extends a x.1 → Extends x.1 xs.1 → (Room objects a x.1 → P x.0) → (Room objects x.1 xs.1 → Every P xs.0) →
       Every P t.0
   more_have a t x xs is r h k p q =
@@ -80,12 +80,12 @@ module _ (known : Variable → Type 0) (calls : Callee → ℕ → Type 0) (obje
 
   module _ (names : List (List ℕ × Entry)) (signatures : List Signature) (scope : Scope) (in_scope : ScopeOf known scope)
       (defined : (n : ℕ) (s : Signature) → slice_get signatures n ≡ Some s → calls (callee_of n) (length s.parameters)) where
-    named_has : (n : List ℕ) (t : Term) → IsNamed names signatures scope n t → P t
+    named_has : (n : List ℕ) (t : AnExpression) → IsNamed names signatures scope n t → P t
     named_has n t (NamesVariable of v found_it is) = rw is (c.variable of v (found known scope n (entries.Variable of v) in_scope found_it))
     named_has n t (NamesArray of v size found_it is) = rw is
         (c.array of v size (found known scope n (entries.Array of v size) in_scope found_it))
 
-    called_has : (o : Option Signature) (n opened : ℕ) (es : SomeExps) (xs : Terms) (u : Term) → slice_get signatures n ≡ o →
+    called_has : (o : Option Signature) (n opened : ℕ) (es : SomeExps) (xs : SomeExpressions) (u : AnExpression) → slice_get signatures n ≡ o →
         called_by o n opened es xs ≡ Ok u → arguments xs ≡ count es → Every P xs → P u
     called_has None n opened es xs u is e many all = absurd (cc)
     called_has (Some s) n opened es xs u is e many all =
@@ -93,21 +93,21 @@ module _ (known : Variable → Type 0) (calls : Callee → ℕ → Type 0) (obje
         call_by_has (unfit s.parameters es xs) s n xs u h.rest (defined n s is)
         (many ∙ sym (equal_counts (length s.parameters) (count es) h.holds)) all
 
-    call_has : (f : Option ℕ) (opened : ℕ) (es : SomeExps) (xs : Terms) (u : Term) → called signatures f opened es xs ≡ Ok u →
+    call_has : (f : Option ℕ) (opened : ℕ) (es : SomeExps) (xs : SomeExpressions) (u : AnExpression) → called signatures f opened es xs ≡ Ok u →
         arguments xs ≡ count es → Every P xs → P u
     call_has None opened es xs u e many all = absurd (cc)
     call_has (Some n) opened es xs u e many all = called_has (slice_get signatures n) n opened es xs u refl e many all
 
-    arguments_counted : (es : SomeExps) (a : Area) (t : Terms × Area) → AreTyped names signatures scope es a t → arguments t.0 ≡ count es
+    arguments_counted : (es : SomeExps) (a : Area) (t : SomeExpressions × Area) → AreTyped names signatures scope es a t → arguments t.0 ≡ count es
     arguments_counted no_exps a t j = rw j refl
     arguments_counted (exps e es) a t j =
         let k = j.whole in
         let rest : arguments k.part.0 ≡ count es = arguments_counted es j.part.1 k.part k.typed in
-        let is : t.0 ≡ MoreTerms j.part.0 k.part.0 = ap (λ (z : Terms × Area). z.0) k.whole in
+        let is : t.0 ≡ MoreExpressions j.part.0 k.part.0 = ap (λ (z : SomeExpressions × Area). z.0) k.whole in
         rw is (omega arith)
 
     mutual
-      pub exp_has : (e : AnExp) (a : Area) (t : Term × Area) → IsTyped names signatures scope e a t → Room objects a t.1 → P t.0
+      pub exp_has : (e : AnExp) (a : Area) (t : AnExpression × Area) → IsTyped names signatures scope e a t → Room objects a t.1 → P t.0
       exp_has (name n at) a t j r = named_has n t.0 j.typed
       exp_has (number v at) a t j r = rw j (c.number v)
       exp_has (str b at) a t j r = literal_has at b a t j r
@@ -161,7 +161,7 @@ module _ (known : Variable → Type 0) (calls : Callee → ℕ → Type 0) (obje
           (exp_extends names signatures scope x a j.part j.typed) (exp_extends names signatures scope y j.part.1 j.whole.part j.whole.typed)
           (exp_has x a j.part j.typed) (exp_has y j.part.1 j.whole.part j.whole.typed)
 
-      pub exps_have : (es : SomeExps) (a : Area) (t : Terms × Area) → AreTyped names signatures scope es a t → Room objects a t.1 →
+      pub exps_have : (es : SomeExps) (a : Area) (t : SomeExpressions × Area) → AreTyped names signatures scope es a t → Room objects a t.1 →
           Every P t.0
       exps_have no_exps a t j r = rw j tt
       exps_have (exps e es) a t j r = more_have a t j.part j.whole.part j.whole.whole r

@@ -3,7 +3,7 @@ use Rattle.std.proofs.Common.{[], ◌∷◌, ◌++◌, ◌≡◌, ℕ, ◌+◌, 
 use Rattle.std.specs.Prelude.{nat_lt, if◌then◌else◌}
 use Rattle.tree_core.specs.declared.program.Object.{Object}
 use Rattle.c_types.specs.Answers.{Fault, ◌>>=◌}
-use Rattle.c_types.specs.Typed.{Term, Terms, LiteralAt}
+use Rattle.c_types.specs.Typed.{AnExpression, SomeExpressions, LiteralAt}
 use Rattle.c_typed_scope.specs.declared.entry.Entry.{Entry}
 use Rattle.c_typed_scope.specs.declared.entry.Signature.{Signature}
 use Rattle.c_typed_scope.specs.Scopes.{Scope}
@@ -16,16 +16,16 @@ use Rattle.c_sound_bodies.specs.Claim.{Extends}
 pub record Laying (R : Area → Area → Type 0) : Type 0 where
   pub same : (a : Area) → R a a
   pub further : (a b c : Area) → R a b → R b c → R a c
-  pub literal : (at : ℕ) (bytes : List ℕ) (a : Area) (t : Term × Area) → literal at bytes a ≡ Ok t → R a t.1
+  pub literal : (at : ℕ) (bytes : List ℕ) (a : Area) (t : AnExpression × Area) → literal at bytes a ≡ Ok t → R a t.1
 
 module _ (R : Area → Area → Type 0) (l : Laying R) where
-  beside_lays : (Q : Term → Type 0) (a b : Area) (t : Term × Area) → R a b → Beside b Q t → R a t.1
+  beside_lays : (Q : AnExpression → Type 0) (a b : Area) (t : AnExpression × Area) → R a b → Beside b Q t → R a t.1
   beside_lays Q a b t h w = rw (w.left) h
 
   module _ (names : List (List ℕ × Entry)) (signatures : List Signature) (scope : Scope) where
     mutual
       -- then it holds across expressions
-      pub exp_lays : (e : AnExp) (a : Area) (t : Term × Area) → IsTyped names signatures scope e a t → R a t.1
+      pub exp_lays : (e : AnExp) (a : Area) (t : AnExpression × Area) → IsTyped names signatures scope e a t → R a t.1
       exp_lays (name n at) a t j = beside_lays _ a a t (l.same a) j
       exp_lays (number v at) a t j = rw j (l.same a)
       exp_lays (str b at) a t j = l.literal at b a t j
@@ -54,7 +54,7 @@ module _ (R : Area → Area → Type 0) (l : Laying R) where
       exp_lays (comma x y) a t j = let k = j.whole in rw (k.whole)
           (l.further a j.part.1 k.part.1 (exp_lays x a j.part j.typed) (exp_lays y j.part.1 k.part k.typed))
 
-      pub exps_lay : (es : SomeExps) (a : Area) (t : Terms × Area) → AreTyped names signatures scope es a t → R a t.1
+      pub exps_lay : (es : SomeExps) (a : Area) (t : SomeExpressions × Area) → AreTyped names signatures scope es a t → R a t.1
       exps_lay no_exps a t j = rw j (l.same a)
       exps_lay (exps e es) a t j = let k = j.whole in rw (k.whole)
           (l.further a j.part.1 k.part.1 (exp_lays e a j.part j.typed) (exps_lay es j.part.1 k.part k.typed))
@@ -95,23 +95,23 @@ placed_adds at label align size bytes a r e =
     added_is label align size bytes a r (cc)
 
 -- a literal that takes room is the last object
-pub record LiteralAdded (a : Area) (t : Term × Area) : Type 0 where
+pub record LiteralAdded (a : Area) (t : AnExpression × Area) : Type 0 where
   pub size : ℕ
   pub is : t.0 ≡ LiteralAt (length a.objects) size
   pub objects : length t.1.objects ≡ length a.objects + 1
 
-literal_is : (size : ℕ) (a : Area) (r : ℕ × Area) (t : Term × Area) → Added a r → t ≡ (LiteralAt r.0 size, one_more_literal r.1) →
+literal_is : (size : ℕ) (a : Area) (r : ℕ × Area) (t : AnExpression × Area) → Added a r → t ≡ (LiteralAt r.0 size, one_more_literal r.1) →
     LiteralAdded a t
 literal_is size a r t h is = rw is (record { size = size; is = ap (λ n. LiteralAt n size) h.number; objects = h.objects })
 
-literal_by : (measures : Bool) (m : Result (ℕ × Area) Fault) (size : ℕ) (a : Area) (t : Term × Area) → measures ≡ false →
+literal_by : (measures : Bool) (m : Result (ℕ × Area) Fault) (size : ℕ) (a : Area) (t : AnExpression × Area) → measures ≡ false →
     (if measures then Ok (LiteralAt 0 size, a) else (m >>= λ r. Ok (LiteralAt r.0 size, one_more_literal r.1))) ≡ Ok t →
     ((r : ℕ × Area) → m ≡ Ok r → Added a r) → LiteralAdded a t
 literal_by true m size a t free e h = absurd (cc)
 literal_by false (Ok r) size a t free e h = literal_is size a r t (h r refl) (cc)
 literal_by false (Err f) size a t free e h = absurd (cc)
 
-pub literal_adds : (at : ℕ) (bytes : List ℕ) (a : Area) (t : Term × Area) → a.measuring ≡ false → literal at bytes a ≡ Ok t →
+pub literal_adds : (at : ℕ) (bytes : List ℕ) (a : Area) (t : AnExpression × Area) → a.measuring ≡ false → literal at bytes a ≡ Ok t →
     LiteralAdded a t
 unfolding literal
 literal_adds at bytes a t free e = literal_by a.measuring _ (length bytes + 1) a t free e (λ r is. placed_adds _ _ _ _ _ a r is)
@@ -122,23 +122,23 @@ extends_same a = record { objects = omega arith; measuring = refl }
 pub extends_further : (a b c : Area) → Extends a b → Extends b c → Extends a c
 extends_further a b c h k = record { objects = omega arith; measuring = k.measuring ∙ h.measuring }
 
-added_extends : (size : ℕ) (a : Area) (t : Term × Area) (r : ℕ × Area) → Added a r → t ≡ (LiteralAt r.0 size, one_more_literal r.1) →
+added_extends : (size : ℕ) (a : Area) (t : AnExpression × Area) (r : ℕ × Area) → Added a r → t ≡ (LiteralAt r.0 size, one_more_literal r.1) →
     Extends a t.1
 added_extends size a t r h is =
     let more : length r.1.objects ≡ length a.objects + 1 = h.objects in
     rw is (record { objects = omega arith; measuring = h.measuring })
 
-unchanged : (size : ℕ) (a : Area) (t : Term × Area) → t ≡ (LiteralAt 0 size, a) → Extends a t.1
+unchanged : (size : ℕ) (a : Area) (t : AnExpression × Area) → t ≡ (LiteralAt 0 size, a) → Extends a t.1
 unchanged size a t is = rw is (extends_same a)
 
-literal_longer : (measures : Bool) (m : Result (ℕ × Area) Fault) (size : ℕ) (a : Area) (t : Term × Area) →
+literal_longer : (measures : Bool) (m : Result (ℕ × Area) Fault) (size : ℕ) (a : Area) (t : AnExpression × Area) →
     (if measures then Ok (LiteralAt 0 size, a) else (m >>= λ r. Ok (LiteralAt r.0 size, one_more_literal r.1))) ≡ Ok t →
     ((r : ℕ × Area) → m ≡ Ok r → Added a r) → Extends a t.1
 literal_longer true m size a t e h = unchanged size a t (cc)
 literal_longer false (Ok r) size a t e h = added_extends size a t r (h r refl) (cc)
 literal_longer false (Err f) size a t e h = absurd (cc)
 
-literal_extends : (at : ℕ) (bytes : List ℕ) (a : Area) (t : Term × Area) → literal at bytes a ≡ Ok t → Extends a t.1
+literal_extends : (at : ℕ) (bytes : List ℕ) (a : Area) (t : AnExpression × Area) → literal at bytes a ≡ Ok t → Extends a t.1
 unfolding literal
 literal_extends at bytes a t e = literal_longer a.measuring _ (length bytes + 1) a t e (λ r is. placed_adds _ _ _ _ _ a r is)
 
@@ -147,9 +147,9 @@ extending = record { same = extends_same; further = extends_further; literal = l
 
 -- an expression adds literals
 pub exp_extends : (names : List (List ℕ × Entry)) (signatures : List Signature) (scope : Scope) (e : AnExp) (a : Area)
-    (t : Term × Area) → IsTyped names signatures scope e a t → Extends a t.1
+    (t : AnExpression × Area) → IsTyped names signatures scope e a t → Extends a t.1
 exp_extends names signatures scope e a t j = exp_lays Extends extending names signatures scope e a t j
 
 pub exps_extend : (names : List (List ℕ × Entry)) (signatures : List Signature) (scope : Scope) (es : SomeExps) (a : Area)
-    (t : Terms × Area) → AreTyped names signatures scope es a t → Extends a t.1
+    (t : SomeExpressions × Area) → AreTyped names signatures scope es a t → Extends a t.1
 exps_extend names signatures scope es a t j = exps_lay Extends extending names signatures scope es a t j

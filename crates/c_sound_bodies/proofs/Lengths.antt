@@ -2,7 +2,7 @@
 use Rattle.std.proofs.Common.{◌≡◌, ℕ, Bool, true, false, List, Option, Some, None, Result, Ok, refl, sym, ap, ◌∙◌}
 use Rattle.std.specs.Prelude.{if◌then◌else◌}
 use Rattle.c_types.specs.Answers.{Fault}
-use Rattle.c_types.specs.Typed.{Term}
+use Rattle.c_types.specs.Typed.{AnExpression}
 use Rattle.c_typed_scope.specs.declared.entry.Entry.{Entry}
 use Rattle.c_typed_scope.specs.declared.entry.Signature.{Signature}
 use Rattle.c_typed_scope.specs.Scopes.{Scope}
@@ -21,22 +21,22 @@ Stays a b = a.measuring ≡ true → b ≡ a
 stays_further : (a b c : Area) → Stays a b → Stays b c → Stays a c
 stays_further a b c h k measures = let same = h measures in k (ap (λ (z : Area). z.measuring) same ∙ measures) ∙ same
 
-second : (x : Term) (a : Area) (t : Term × Area) → t ≡ (x, a) → t.1 ≡ a
-second x a t is = ap (λ (z : Term × Area). z.1) is
+second : (x : AnExpression) (a : Area) (t : AnExpression × Area) → t ≡ (x, a) → t.1 ≡ a
+second x a t is = ap (λ (z : AnExpression × Area). z.1) is
 
-literal_by : (measures : Bool) (m : Result (Term × Area) Fault) (x : Term) (a : Area) (t : Term × Area) →
+literal_by : (measures : Bool) (m : Result (AnExpression × Area) Fault) (x : AnExpression) (a : Area) (t : AnExpression × Area) →
     (if measures then Ok (x, a) else m) ≡ Ok t → measures ≡ true → t.1 ≡ a
 literal_by true m x a t e h = second x a t (cc)
 literal_by false m x a t e h = absurd (cc)
 
-literal_stays : (at : ℕ) (bytes : List ℕ) (a : Area) (t : Term × Area) → literal at bytes a ≡ Ok t → Stays a t.1
+literal_stays : (at : ℕ) (bytes : List ℕ) (a : Area) (t : AnExpression × Area) → literal at bytes a ≡ Ok t → Stays a t.1
 unfolding literal
 literal_stays at bytes a t e measures = literal_by a.measuring _ _ a t e measures
 
 staying : Laying Stays
 staying = record { same = λ a h. refl; further = stays_further; literal = literal_stays }
 
-pub exp_stays : (names : List (List ℕ × Entry)) (signatures : List Signature) (scope : Scope) (e : AnExp) (a : Area) (t : Term × Area) →
+pub exp_stays : (names : List (List ℕ × Entry)) (signatures : List Signature) (scope : Scope) (e : AnExp) (a : Area) (t : AnExpression × Area) →
     a.measuring ≡ true → IsTyped names signatures scope e a t → t.1 ≡ a
 exp_stays names signatures scope e a t measures j = exp_lays Stays staying names signatures scope e a t j measures
 

@@ -7,7 +7,7 @@ use Rattle.c_phrases.specs.Phrases.{AnExp}
 use Rattle.c_phrases.specs.Units.{AnInit, value, elements, ADeclarator}
 use Rattle.c_types.specs.declared.types.CType.{CType}
 use Rattle.c_types.specs.declared.typed.Variable.TheVariants as variables
-use Rattle.c_types.specs.Typed.{Term, ConvertTo}
+use Rattle.c_types.specs.Typed.{AnExpression, ConvertTo}
 use Rattle.c_typed_scope.specs.declared.entry.Entry.{Entry}
 use Rattle.c_typed_scope.specs.declared.entry.Entry.TheVariants as entries
 use Rattle.c_typed_scope.specs.declared.entry.Signature.{Signature}
@@ -105,7 +105,7 @@ module _ (names : List (List ℕ × Entry)) (signatures : List Signature) where
     grows = local_grows t n s;
   })
 
-  begun_is : (scope : ℕ → Type 0) (parameters : ℕ) (t : CType) (n : List ℕ) (s : State) (e : AnExp) (x : Term × Area)
+  begun_is : (scope : ℕ → Type 0) (parameters : ℕ) (t : CType) (n : List ℕ) (s : State) (e : AnExp) (x : AnExpression × Area)
       (r : ADeclaration × State) → InOrder scope parameters s → IsTyped names signatures (with_local t n s).scope e s.area x →
       r ≡ (BeginOf (length s.locals) (ConvertTo t x.0), with_area x.1 (with_local t n s)) →
       LocalIsSound signatures scope parameters s r.0 r.1
@@ -138,7 +138,7 @@ module _ (names : List (List ℕ × Entry)) (signatures : List Signature) where
   begun_sound scope parameters t n (Some (value e)) s r o j =
       let k = j.whole in
       begun_is scope parameters t n s e j.part r o j.typed
-      (k.whole ∙ ap (λ (y : Term). (BeginOf (length s.locals) y, with_area j.part.1 (with_local t n s))) k.typed.typed)
+      (k.whole ∙ ap (λ (y : AnExpression). (BeginOf (length s.locals) y, with_area j.part.1 (with_local t n s))) k.typed.typed)
 
   automatic_sound : (scope : ℕ → Type 0) (parameters : ℕ) (spec : Spec) (d : ADeclarator) (s : State) (r : ADeclaration × State) →
       InOrder scope parameters s → IsAutomatic names signatures spec d s r → LocalIsSound signatures scope parameters s r.0 r.1

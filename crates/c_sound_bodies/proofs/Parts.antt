@@ -1,9 +1,9 @@
 -- Statements are sound where their parts are.
 use Rattle.std.proofs.Common.{◌≡◌, ℕ, ◌≤◌, Bool, true, List, length, Option, Some, None, refl, ap, ◌∙◌, arith}
-use Rattle.c_types.specs.Typed.{Term}
+use Rattle.c_types.specs.Typed.{AnExpression}
 use Rattle.c_typed_scope.specs.declared.entry.Signature.{Signature}
 use Rattle.c_typed_scope.specs.Scopes.{Scope, leave}
-use Rattle.c_program.specs.Statements.{ADeclaration, Act, Acts, NoActs, MoreActs, DeclareOf, BlockOf, EvaluateOf, BreakOf, ContinueOf, ReturnOf, IfOf, IfElseOf, WhileOf, DoOf, ForOf}
+use Rattle.c_program.specs.Statements.{ADeclaration, AnAction, SomeActions, NoActions, MoreActions, DeclareOf, BlockOf, EvaluateOf, BreakOf, ContinueOf, ReturnOf, IfOf, IfElseOf, WhileOf, DoOf, ForOf}
 use Rattle.c_program.specs.Programs.{ARoutine}
 use Rattle.c_program.specs.Longwords.{OfLongwords, MaybeOfLongwords, ActOfLongwords, ActsOfLongwords}
 use Rattle.c_sound.specs.Fits.{Fits, FitsMaybe, FitsAct, FitsActs, behind_act, declaring}
@@ -15,7 +15,7 @@ use Rattle.c_sound_bodies.proofs.Names.{scope_entered, left_scope}
 use Rattle.c_sound_bodies.proofs.Locals.{LocalsAreSound, grows_same, grows_further, order_more}
 
 -- an expression of a statement
-pub record TermIsSound (signatures : List Signature) (scope : ℕ → Type 0) (parameters : ℕ) (s : State) (x : Term) (r : State) : Type 0 where
+pub record TermIsSound (signatures : List Signature) (scope : ℕ → Type 0) (parameters : ℕ) (s : State) (x : AnExpression) (r : State) : Type 0 where
   pub fits : OfLongwords x → Fits scope x
   pub stands : (gs : List ARoutine) (objects : ℕ) → length r.area.objects ≤ objects → AreDefined signatures gs →
       Stands (IsThere objects parameters) (Takes gs) objects x
@@ -24,7 +24,7 @@ pub record TermIsSound (signatures : List Signature) (scope : ℕ → Type 0) (p
   pub grows : Grows s r
 
 -- an expression that may be left out
-pub record PartIsSound (signatures : List Signature) (scope : ℕ → Type 0) (parameters : ℕ) (s : State) (x : Option Term)
+pub record PartIsSound (signatures : List Signature) (scope : ℕ → Type 0) (parameters : ℕ) (s : State) (x : Option AnExpression)
     (r : State) : Type 0 where
   pub fits : MaybeOfLongwords x → FitsMaybe scope x
   pub stands : (gs : List ARoutine) (objects : ℕ) → length r.area.objects ≤ objects → AreDefined signatures gs →
@@ -33,7 +33,7 @@ pub record PartIsSound (signatures : List Signature) (scope : ℕ → Type 0) (p
   pub order : InOrder scope parameters r
   pub grows : Grows s r
 
-abbrev pub DeclaresNothing : Act → Type 0
+abbrev pub DeclaresNothing : AnAction → Type 0
 DeclaresNothing (DeclareOf ds) = ⊥
 DeclaresNothing (BlockOf row) = Unit {0}
 DeclaresNothing (EvaluateOf e) = Unit {0}
@@ -47,7 +47,7 @@ DeclaresNothing (DoOf a c) = Unit {0}
 DeclaresNothing (ForOf i c e a) = Unit {0}
 
 -- a statement, which leaves what is in scope
-pub record ActIsSound (signatures : List Signature) (scope : ℕ → Type 0) (parameters : ℕ) (looping : Bool) (s : State) (a : Act)
+pub record ActIsSound (signatures : List Signature) (scope : ℕ → Type 0) (parameters : ℕ) (looping : Bool) (s : State) (a : AnAction)
     (r : State) : Type 0 where
   pub fits : (size : ℕ) → length r.locals ≤ size → ActOfLongwords a → FitsAct size scope looping a
   pub stands : (gs : List ARoutine) (objects : ℕ) → length r.area.objects ≤ objects → AreDefined signatures gs →
@@ -58,7 +58,7 @@ pub record ActIsSound (signatures : List Signature) (scope : ℕ → Type 0) (pa
   pub grows : Grows s r
 
 -- declarations and statements in a row
-pub record ActsAreSound (signatures : List Signature) (scope : ℕ → Type 0) (parameters : ℕ) (looping : Bool) (s : State) (acts : Acts)
+pub record ActsAreSound (signatures : List Signature) (scope : ℕ → Type 0) (parameters : ℕ) (looping : Bool) (s : State) (acts : SomeActions)
     (r : State) : Type 0 where
   pub fits : (size : ℕ) → length r.locals ≤ size → ActsOfLongwords acts → FitsActs size scope looping acts
   pub stands : (gs : List ARoutine) (objects : ℕ) → length r.area.objects ≤ objects → AreDefined signatures gs →
@@ -70,7 +70,7 @@ module _ (signatures : List Signature) (scope : ℕ → Type 0) (parameters : �
   pub part_none : (s : State) → InOrder scope parameters s → PartIsSound signatures scope parameters s None s
   part_none s o = record { fits = λ h. tt; stands = λ gs objects l defined. tt; names = refl; order = o; grows = grows_same s }
 
-  pub part_some : (s : State) (x : Term) (r : State) → TermIsSound signatures scope parameters s x r →
+  pub part_some : (s : State) (x : AnExpression) (r : State) → TermIsSound signatures scope parameters s x r →
       PartIsSound signatures scope parameters s (Some x) r
   part_some s x r h = record { fits = h.fits; stands = h.stands; names = h.names; order = h.order; grows = h.grows }
 
@@ -79,7 +79,7 @@ module _ (signatures : List Signature) (scope : ℕ → Type 0) (parameters : �
 
   module _ (looping : Bool) where
     -- a block ends with what was in scope where it began
-    pub block_sound : (s : State) (acts : Acts) (r : State) → InOrder scope parameters s →
+    pub block_sound : (s : State) (acts : SomeActions) (r : State) → InOrder scope parameters s →
         ActsAreSound signatures scope parameters looping (entered s) acts r →
         ActIsSound signatures scope parameters looping s (BlockOf acts) (left r)
     block_sound s acts r o h =
@@ -94,7 +94,7 @@ module _ (signatures : List Signature) (scope : ℕ → Type 0) (parameters : �
           grows = grows;
         }
 
-    pub empty_sound : (s : State) → InOrder scope parameters s → ActIsSound signatures scope parameters looping s (BlockOf NoActs) s
+    pub empty_sound : (s : State) → InOrder scope parameters s → ActIsSound signatures scope parameters looping s (BlockOf NoActions) s
     empty_sound s o = record {
       fits = λ size l h. tt;
       stands = λ gs objects l defined. tt;
@@ -104,7 +104,7 @@ module _ (signatures : List Signature) (scope : ℕ → Type 0) (parameters : �
       grows = grows_same s;
     }
 
-    pub evaluate_sound : (s : State) (x : Term) (r : State) → TermIsSound signatures scope parameters s x r →
+    pub evaluate_sound : (s : State) (x : AnExpression) (r : State) → TermIsSound signatures scope parameters s x r →
         ActIsSound signatures scope parameters looping s (EvaluateOf x) r
     evaluate_sound s x r h = record {
       fits = λ size l w. h.fits w;
@@ -115,7 +115,7 @@ module _ (signatures : List Signature) (scope : ℕ → Type 0) (parameters : �
       grows = h.grows;
     }
 
-    pub return_sound : (s : State) (x : Option Term) (r : State) → PartIsSound signatures scope parameters s x r →
+    pub return_sound : (s : State) (x : Option AnExpression) (r : State) → PartIsSound signatures scope parameters s x r →
         ActIsSound signatures scope parameters looping s (ReturnOf x) r
     return_sound s x r h = record {
       fits = λ size l w. h.fits w;
@@ -147,7 +147,7 @@ module _ (signatures : List Signature) (scope : ℕ → Type 0) (parameters : �
       grows = grows_same s;
     }
 
-    pub if_sound : (s m r : State) (c : Term) (a : Act) → TermIsSound signatures scope parameters s c m →
+    pub if_sound : (s m r : State) (c : AnExpression) (a : AnAction) → TermIsSound signatures scope parameters s c m →
         ActIsSound signatures scope parameters looping m a r → ActIsSound signatures scope parameters looping s (IfOf c a) r
     if_sound s m r c a h k =
         let objects : length m.area.objects ≤ length r.area.objects = k.grows.area.objects in
@@ -160,7 +160,7 @@ module _ (signatures : List Signature) (scope : ℕ → Type 0) (parameters : �
           grows = grows_further s m r h.grows k.grows;
         }
 
-    pub if_else_sound : (s m n r : State) (c : Term) (a b : Act) → TermIsSound signatures scope parameters s c m →
+    pub if_else_sound : (s m n r : State) (c : AnExpression) (a b : AnAction) → TermIsSound signatures scope parameters s c m →
         ActIsSound signatures scope parameters looping m a n → ActIsSound signatures scope parameters looping n b r →
         ActIsSound signatures scope parameters looping s (IfElseOf c a b) r
     if_else_sound s m n r c a b h k q =
@@ -180,7 +180,7 @@ module _ (signatures : List Signature) (scope : ℕ → Type 0) (parameters : �
           grows = grows_further s m r h.grows (grows_further m n r k.grows q.grows);
         }
 
-    pub while_sound : (s m r : State) (c : Term) (a : Act) → TermIsSound signatures scope parameters s c m →
+    pub while_sound : (s m r : State) (c : AnExpression) (a : AnAction) → TermIsSound signatures scope parameters s c m →
         ActIsSound signatures scope parameters true m a r → ActIsSound signatures scope parameters looping s (WhileOf c a) r
     while_sound s m r c a h k =
         let objects : length m.area.objects ≤ length r.area.objects = k.grows.area.objects in
@@ -193,7 +193,7 @@ module _ (signatures : List Signature) (scope : ℕ → Type 0) (parameters : �
           grows = grows_further s m r h.grows k.grows;
         }
 
-    pub do_sound : (s m r : State) (a : Act) (c : Term) → ActIsSound signatures scope parameters true s a m →
+    pub do_sound : (s m r : State) (a : AnAction) (c : AnExpression) → ActIsSound signatures scope parameters true s a m →
         TermIsSound signatures scope parameters m c r → ActIsSound signatures scope parameters looping s (DoOf a c) r
     do_sound s m r a c k h =
         let objects : length m.area.objects ≤ length r.area.objects = h.grows.area.objects in
@@ -207,7 +207,7 @@ module _ (signatures : List Signature) (scope : ℕ → Type 0) (parameters : �
           grows = grows_further s m r k.grows h.grows;
         }
 
-    pub for_sound : (s m n q r : State) (i c e : Option Term) (a : Act) → PartIsSound signatures scope parameters s i m →
+    pub for_sound : (s m n q r : State) (i c e : Option AnExpression) (a : AnAction) → PartIsSound signatures scope parameters s i m →
         PartIsSound signatures scope parameters m c n → PartIsSound signatures scope parameters n e q →
         ActIsSound signatures scope parameters true q a r → ActIsSound signatures scope parameters looping s (ForOf i c e a) r
     for_sound s m n q r i c e a hi hc he ha =
@@ -228,11 +228,11 @@ module _ (signatures : List Signature) (scope : ℕ → Type 0) (parameters : �
           grows = grows_further s m r hi.grows (grows_further m n r hc.grows (grows_further n q r he.grows ha.grows));
         }
 
-    pub none_sound : (s : State) → InOrder scope parameters s → ActsAreSound signatures scope parameters looping s NoActs s
+    pub none_sound : (s : State) → InOrder scope parameters s → ActsAreSound signatures scope parameters looping s NoActions s
     none_sound s o = record { fits = λ size l h. tt; stands = λ gs objects l defined. tt; order = o; grows = grows_same s }
 
     -- behind a statement the same is in scope
-    pub order_plain : (a : Act) (r : State) → DeclaresNothing a → InOrder scope parameters r → InOrder (behind_act scope a) parameters r
+    pub order_plain : (a : AnAction) (r : State) → DeclaresNothing a → InOrder scope parameters r → InOrder (behind_act scope a) parameters r
     order_plain (DeclareOf ds) r plain o = absurd plain
     order_plain (BlockOf row) r plain o = o
     order_plain (EvaluateOf e) r plain o = o
@@ -245,9 +245,9 @@ module _ (signatures : List Signature) (scope : ℕ → Type 0) (parameters : �
     order_plain (DoOf a c) r plain o = o
     order_plain (ForOf i c e a) r plain o = o
 
-    pub statement_first : (s m r : State) (a : Act) (row : Acts) → ActIsSound signatures scope parameters looping s a m →
+    pub statement_first : (s m r : State) (a : AnAction) (row : SomeActions) → ActIsSound signatures scope parameters looping s a m →
         ActsAreSound signatures (behind_act scope a) parameters looping m row r →
-        ActsAreSound signatures scope parameters looping s (MoreActs a row) r
+        ActsAreSound signatures scope parameters looping s (MoreActions a row) r
     statement_first s m r a row h k =
         let objects : length m.area.objects ≤ length r.area.objects = k.grows.area.objects in
         let locals : length m.locals ≤ length r.locals = k.grows.locals in
@@ -258,9 +258,9 @@ module _ (signatures : List Signature) (scope : ℕ → Type 0) (parameters : �
           grows = grows_further s m r h.grows k.grows;
         }
 
-    pub declaration_first : (s m r : State) (ds : List ADeclaration) (row : Acts) → LocalsAreSound signatures scope parameters s ds m →
+    pub declaration_first : (s m r : State) (ds : List ADeclaration) (row : SomeActions) → LocalsAreSound signatures scope parameters s ds m →
         ActsAreSound signatures (declaring scope ds) parameters looping m row r →
-        ActsAreSound signatures scope parameters looping s (MoreActs (DeclareOf ds) row) r
+        ActsAreSound signatures scope parameters looping s (MoreActions (DeclareOf ds) row) r
     declaration_first s m r ds row h k =
         let objects : length m.area.objects ≤ length r.area.objects = k.grows.area.objects in
         let locals : length m.locals ≤ length r.locals = k.grows.locals in

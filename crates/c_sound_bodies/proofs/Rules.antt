@@ -22,13 +22,13 @@ use Rattle.c_types.specs.declared.typed.ArithmeticOperator.{ArithmeticOperator}
 use Rattle.c_types.specs.declared.typed.ArithmeticOperator.TheVariants as ariths
 use Rattle.c_types.specs.Answers.{Fault, ◌>>=◌}
 use Rattle.c_types.specs.Types.{is_integer, is_scalar, target, pointer_to, size_of}
-use Rattle.c_types.specs.Typed.{PlaceTerm, VariableAt, PointedBy, ElementBy, Term, ReadOf, SizeofTerm, SizeOf, UnaryOf, CastTo, ArithmeticAssignTo, AssignTo, place_type, type_of, operand_size}
+use Rattle.c_types.specs.Typed.{APlace, VariableAt, PointedBy, ElementBy, AnExpression, ReadOf, SizeofTerm, SizeOf, UnaryOf, CastTo, ArithmeticAssignTo, AssignTo, place_type, type_of, operand_size}
 use Rattle.c_typed_operators.specs.Rules.{fits, plus, binary_of, unary, negation, indirection_at, indirection, element_at, element, index_of, address_by, address_of, address, prefix_of, direction, step_at, step, cast_of, sizeof_of, sizeof_type_of, arms, choice_by, choice_of, store, arithmetic_store, plus_store_at, minus_store_at, plus_store, minus_store, store_by, assign_of}
 use Rattle.c_typed_operators.specs.Table.{IsSum, SumOfIntegers, PointerPlus, PlusPointer, IsDifference, DifferenceOfIntegers, PointerMinus, DifferenceOfPointers, IsOrdered, OrderOfIntegers, OrderOfPointers, IsBinary}
 use Rattle.c_typed_operators.proofs.Rows.{binary_means}
 use Rattle.c_sound_bodies.proofs.Terms.{Closed}
 
-abbrev typed : Term → Result Term Fault
+abbrev typed : AnExpression → Result AnExpression Fault
 typed t = Ok t
 
 -- what a test let through
@@ -36,29 +36,29 @@ pub tested : {A : Type 0} (test : Bool) (m : Result A Fault) (f : Fault) (u : A)
 tested true m f u e = e
 tested false m f u e = absurd (cc)
 
-module _ (known : Variable → Type 0) (calls : Callee → ℕ → Type 0) (objects : ℕ) (P : Term → Type 0)
+module _ (known : Variable → Type 0) (calls : Callee → ℕ → Type 0) (objects : ℕ) (P : AnExpression → Type 0)
     (c : Closed known calls objects P) where
-  same : (t u : Term) → typed t ≡ Ok u → P t → P u
+  same : (t u : AnExpression) → typed t ≡ Ok u → P t → P u
   same t u e p = let is : u ≡ t = cc in rw is p
 
-  passed : (test : Bool) (t u : Term) (f : Fault) → (if test then Ok t else Err f) ≡ Ok u → P t → P u
+  passed : (test : Bool) (t u : AnExpression) (f : Fault) → (if test then Ok t else Err f) ≡ Ok u → P t → P u
   passed test t u f e p = same t u (tested test (Ok t) f u e) p
 
-  sum_has : (x y t : Term) → IsSum x y t → P x → P y → P t
+  sum_has : (x y t : AnExpression) → IsSum x y t → P x → P y → P t
   sum_has x y t (SumOfIntegers row) p q = rw (row.is) (c.arithmetic ariths.Add x y p q)
   sum_has x y t (PointerPlus left right is) p q = rw is (c.advance (type_of x) x y p q)
   sum_has x y t (PlusPointer left right is) p q = rw is (c.advance_by (type_of y) x y p q)
 
-  difference_has : (x y t : Term) → IsDifference x y t → P x → P y → P t
+  difference_has : (x y t : AnExpression) → IsDifference x y t → P x → P y → P t
   difference_has x y t (DifferenceOfIntegers row) p q = rw (row.is) (c.arithmetic ariths.Subtract x y p q)
   difference_has x y t (PointerMinus left right is) p q = rw is (c.retreat (type_of x) x y p q)
   difference_has x y t (DifferenceOfPointers both is) p q = rw is (c.distance (type_of x) x y p q)
 
-  order_has : (signed unsigned : Rel) (x y t : Term) → IsOrdered signed unsigned x y t → P x → P y → P t
+  order_has : (signed unsigned : Rel) (x y t : AnExpression) → IsOrdered signed unsigned x y t → P x → P y → P t
   order_has signed unsigned x y t (OrderOfIntegers left right is) p q = rw is (c.compare signed x y p q)
   order_has signed unsigned x y t (OrderOfPointers both is) p q = rw is (c.compare unsigned x y p q)
 
-  pub binary_has : (op : BinaryOperator) (x y t : Term) → IsBinary op x y t → P x → P y → P t
+  pub binary_has : (op : BinaryOperator) (x y t : AnExpression) → IsBinary op x y t → P x → P y → P t
   binary_has binaries.OrOr x y t row p q = rw (row.is) (c.either x y p q)
   binary_has binaries.AndAnd x y t row p q = rw (row.is) (c.both x y p q)
   binary_has binaries.Or x y t row p q = rw (row.is) (c.arithmetic ariths.Or x y p q)
@@ -78,49 +78,49 @@ module _ (known : Variable → Type 0) (calls : Callee → ℕ → Type 0) (obje
   binary_has binaries.Divide x y t row p q = rw (row.is) (c.arithmetic ariths.Divide x y p q)
   binary_has binaries.Remainder x y t row p q = rw (row.is) (c.arithmetic ariths.Remainder x y p q)
 
-  element_by : (t : CType) (at : ℕ) (x u : Term) → element_at t at x ≡ Ok u → P x → P u
+  element_by : (t : CType) (at : ℕ) (x u : AnExpression) → element_at t at x ≡ Ok u → P x → P u
   element_by Void at x u e p = absurd (cc)
   element_by (Integer b) at x u e p = absurd (cc)
   element_by (Pointer b n) at x u e p = same _ u e (c.element (target b n) x p)
 
-  element_has : (at : ℕ) (x u : Term) → element at x ≡ Ok u → P x → P u
+  element_has : (at : ℕ) (x u : AnExpression) → element at x ≡ Ok u → P x → P u
   unfolding element
   element_has at x u e p = element_by (type_of x) at x u e p
 
-  plus_has : (at : ℕ) (x y u : Term) → plus at x y ≡ Ok u → P x → P y → P u
+  plus_has : (at : ℕ) (x y u : AnExpression) → plus at x y ≡ Ok u → P x → P y → P u
   unfolding binary_of
   plus_has at x y u e p q = sum_has x y u ((binary_means binaries.Add at x y).found u e) p q
 
-  index_by : (m : Result Term Fault) (at : ℕ) (u : Term) → (m >>= λ sum. element at sum) ≡ Ok u → ((s : Term) → m ≡ Ok s → P s) → P u
+  index_by : (m : Result AnExpression Fault) (at : ℕ) (u : AnExpression) → (m >>= λ sum. element at sum) ≡ Ok u → ((s : AnExpression) → m ≡ Ok s → P s) → P u
   index_by (Ok s) at u e h = element_has at s u e (h s refl)
   index_by (Err f) at u e h = absurd (cc)
 
-  pub index_has : (at : ℕ) (x y u : Term) → index_of at x y ≡ Ok u → P x → P y → P u
+  pub index_has : (at : ℕ) (x y u : AnExpression) → index_of at x y ≡ Ok u → P x → P y → P u
   unfolding index_of
   index_has at x y u e p q = index_by (plus at x y) at u e (λ s is. plus_has at x y s is p q)
 
-  unary_has : (op : UnaryOperator) (at : ℕ) (x u : Term) → unary op at x ≡ Ok u → P x → P u
+  unary_has : (op : UnaryOperator) (at : ℕ) (x u : AnExpression) → unary op at x ≡ Ok u → P x → P u
   unfolding unary
   unary_has op at x u e p = passed (is_integer (type_of x)) (UnaryOf op x) u _ e (c.unary op x p)
 
-  negation_has : (at : ℕ) (x u : Term) → negation at x ≡ Ok u → P x → P u
+  negation_has : (at : ℕ) (x u : AnExpression) → negation at x ≡ Ok u → P x → P u
   unfolding negation
   negation_has at x u e p = passed (is_scalar (type_of x)) (UnaryOf unaries.Not x) u _ e (c.unary unaries.Not x p)
 
-  indirection_by : (t : CType) (at : ℕ) (x u : Term) → indirection_at t at x ≡ Ok u → P x → P u
+  indirection_by : (t : CType) (at : ℕ) (x u : AnExpression) → indirection_at t at x ≡ Ok u → P x → P u
   indirection_by Void at x u e p = absurd (cc)
   indirection_by (Integer b) at x u e p = absurd (cc)
   indirection_by (Pointer b n) at x u e p = same _ u e (c.pointed (target b n) x p)
 
-  indirection_has : (at : ℕ) (x u : Term) → indirection at x ≡ Ok u → P x → P u
+  indirection_has : (at : ℕ) (x u : AnExpression) → indirection at x ≡ Ok u → P x → P u
   unfolding indirection
   indirection_has at x u e p = indirection_by (type_of x) at x u e p
 
-  address_by_has : (o : Option CType) (at : ℕ) (p : PlaceTerm) (u : Term) → address_by o at p ≡ Ok u → P (ReadOf p) → P u
+  address_by_has : (o : Option CType) (at : ℕ) (p : APlace) (u : AnExpression) → address_by o at p ≡ Ok u → P (ReadOf p) → P u
   address_by_has None at p u e h = absurd (cc)
   address_by_has (Some t) at p u e h = same _ u e (c.address t p h)
 
-  address_of_has : (at : ℕ) (p : PlaceTerm) (u : Term) → address_of at p ≡ Ok u → P (ReadOf p) → P u
+  address_of_has : (at : ℕ) (p : APlace) (u : AnExpression) → address_of at p ≡ Ok u → P (ReadOf p) → P u
   unfolding address_of
   address_of_has at (VariableAt t (variables.Automatic n)) u e h = absurd (cc)
   address_of_has at (VariableAt t (variables.Parameter n)) u e h = absurd (cc)
@@ -131,12 +131,12 @@ module _ (known : Variable → Type 0) (calls : Callee → ℕ → Type 0) (obje
   address_of_has at (PointedBy t x) u e h = address_by_has (pointer_to (place_type (PointedBy t x))) at (PointedBy t x) u e h
   address_of_has at (ElementBy t x) u e h = address_by_has (pointer_to (place_type (ElementBy t x))) at (ElementBy t x) u e h
 
-  address_has : (at : ℕ) (x u : Term) → address at x ≡ Ok u → P x → P u
+  address_has : (at : ℕ) (x u : AnExpression) → address at x ≡ Ok u → P x → P u
   unfolding address
   address_has at (ReadOf p) u e h = address_of_has at p u e h
   address_has at x u e h = absurd (cc)
 
-  pub prefix_has : (op : PrefixOperator) (at : ℕ) (x u : Term) → prefix_of op at x ≡ Ok u → P x → P u
+  pub prefix_has : (op : PrefixOperator) (at : ℕ) (x u : AnExpression) → prefix_of op at x ≡ Ok u → P x → P u
   unfolding prefix_of
   prefix_has prefixes.Plus at x u e p = unary_has unaries.Plus at x u e p
   prefix_has prefixes.Minus at x u e p = unary_has unaries.Minus at x u e p
@@ -145,46 +145,46 @@ module _ (known : Variable → Type 0) (calls : Callee → ℕ → Type 0) (obje
   prefix_has prefixes.Indirection at x u e p = indirection_has at x u e p
   prefix_has prefixes.Address at x u e p = address_has at x u e p
 
-  step_by : (scalar : Bool) (moment : Moment) (op : StepOperator) (at : ℕ) (p : PlaceTerm) (u : Term) →
+  step_by : (scalar : Bool) (moment : Moment) (op : StepOperator) (at : ℕ) (p : APlace) (u : AnExpression) →
       step_at scalar moment op at p ≡ Ok u → P (ReadOf p) → P u
   step_by true moment op at p u e h = same _ u e (c.step moment (direction op) p h)
   step_by false moment op at p u e h = absurd (cc)
 
-  pub step_has : (moment : Moment) (op : StepOperator) (at : ℕ) (x u : Term) → step moment op at x ≡ Ok u → P x → P u
+  pub step_has : (moment : Moment) (op : StepOperator) (at : ℕ) (x u : AnExpression) → step moment op at x ≡ Ok u → P x → P u
   unfolding step
   step_has moment op at (ReadOf p) u e h = step_by (is_scalar (place_type p)) moment op at p u e h
   step_has moment op at x u e h = absurd (cc)
 
-  pub cast_has : (at : ℕ) (t : CType) (x u : Term) → cast_of at t x ≡ Ok u → P x → P u
+  pub cast_has : (at : ℕ) (t : CType) (x u : AnExpression) → cast_of at t x ≡ Ok u → P x → P u
   unfolding cast_of
   cast_has at t x u e p = passed _ (CastTo t x) u _ e (c.cast t x p)
 
-  pub sizeof_has : (at : ℕ) (x u : Term) → sizeof_of at x ≡ Ok u → P x → P u
+  pub sizeof_has : (at : ℕ) (x u : AnExpression) → sizeof_of at x ≡ Ok u → P x → P u
   unfolding sizeof_of
   sizeof_has at x u e p = passed (is_scalar (type_of x)) (SizeofTerm (operand_size x) x) u _ e (c.size_of_term (operand_size x) x p)
 
-  pub sizeof_type_has : (at : ℕ) (t : CType) (u : Term) → sizeof_type_of at t ≡ Ok u → P u
+  pub sizeof_type_has : (at : ℕ) (t : CType) (u : AnExpression) → sizeof_type_of at t ≡ Ok u → P u
   unfolding sizeof_type_of
   sizeof_type_has at t u e = passed (is_scalar t) (SizeOf (size_of t)) u _ e (c.size (size_of t))
 
-  choice_by_has : (o : Option CType) (at : ℕ) (z x y u : Term) → choice_by o at z x y ≡ Ok u → P z → P x → P y → P u
+  choice_by_has : (o : Option CType) (at : ℕ) (z x y u : AnExpression) → choice_by o at z x y ≡ Ok u → P z → P x → P y → P u
   choice_by_has None at z x y u e r p q = absurd (cc)
   choice_by_has (Some t) at z x y u e r p q = same _ u e (c.choice t z x y r p q)
 
-  pub choice_has : (at : ℕ) (z x y u : Term) → choice_of at z x y ≡ Ok u → P z → P x → P y → P u
+  pub choice_has : (at : ℕ) (z x y u : AnExpression) → choice_of at z x y ≡ Ok u → P z → P x → P y → P u
   unfolding choice_of
   choice_has at z x y u e r p q = choice_by_has (arms x y) at z x y u (tested (is_scalar (type_of z)) _ _ u e) r p q
 
-  arithmetic_store_has : (op : ArithmeticOperator) (at : ℕ) (p : PlaceTerm) (y u : Term) → arithmetic_store op at p y ≡ Ok u →
+  arithmetic_store_has : (op : ArithmeticOperator) (at : ℕ) (p : APlace) (y u : AnExpression) → arithmetic_store op at p y ≡ Ok u →
       P (ReadOf p) → P y → P u
   unfolding arithmetic_store
   arithmetic_store_has op at p y u e h q = passed _ (ArithmeticAssignTo op p y) u _ e (c.arithmetic_assign op p y h q)
 
-  store_has : (at : ℕ) (p : PlaceTerm) (y u : Term) → store at p y ≡ Ok u → P (ReadOf p) → P y → P u
+  store_has : (at : ℕ) (p : APlace) (y u : AnExpression) → store at p y ≡ Ok u → P (ReadOf p) → P y → P u
   unfolding store
   store_has at p y u e h q = passed (fits (place_type p) y) (AssignTo p y) u _ e (c.assign p y h q)
 
-  plus_store_by : (s t : CType) (at : ℕ) (p : PlaceTerm) (y u : Term) → plus_store_at s t at p y ≡ Ok u → P (ReadOf p) → P y → P u
+  plus_store_by : (s t : CType) (at : ℕ) (p : APlace) (y u : AnExpression) → plus_store_at s t at p y ≡ Ok u → P (ReadOf p) → P y → P u
   plus_store_by Void t at p y u e h q = absurd (cc)
   plus_store_by (Integer b) Void at p y u e h q = absurd (cc)
   plus_store_by (Integer b) (Integer d) at p y u e h q = same _ u e (c.arithmetic_assign ariths.Add p y h q)
@@ -193,7 +193,7 @@ module _ (known : Variable → Type 0) (calls : Callee → ℕ → Type 0) (obje
   plus_store_by (Pointer b m) (Integer d) at p y u e h q = same _ u e (c.advance_assign p y h q)
   plus_store_by (Pointer b m) (Pointer d n) at p y u e h q = absurd (cc)
 
-  minus_store_by : (s t : CType) (at : ℕ) (p : PlaceTerm) (y u : Term) → minus_store_at s t at p y ≡ Ok u → P (ReadOf p) → P y → P u
+  minus_store_by : (s t : CType) (at : ℕ) (p : APlace) (y u : AnExpression) → minus_store_at s t at p y ≡ Ok u → P (ReadOf p) → P y → P u
   minus_store_by Void t at p y u e h q = absurd (cc)
   minus_store_by (Integer b) Void at p y u e h q = absurd (cc)
   minus_store_by (Integer b) (Integer d) at p y u e h q = same _ u e (c.arithmetic_assign ariths.Subtract p y h q)
@@ -202,15 +202,15 @@ module _ (known : Variable → Type 0) (calls : Callee → ℕ → Type 0) (obje
   minus_store_by (Pointer b m) (Integer d) at p y u e h q = same _ u e (c.retreat_assign p y h q)
   minus_store_by (Pointer b m) (Pointer d n) at p y u e h q = absurd (cc)
 
-  plus_store_has : (at : ℕ) (p : PlaceTerm) (y u : Term) → plus_store at p y ≡ Ok u → P (ReadOf p) → P y → P u
+  plus_store_has : (at : ℕ) (p : APlace) (y u : AnExpression) → plus_store at p y ≡ Ok u → P (ReadOf p) → P y → P u
   unfolding plus_store
   plus_store_has at p y u e h q = plus_store_by (place_type p) (type_of y) at p y u e h q
 
-  minus_store_has : (at : ℕ) (p : PlaceTerm) (y u : Term) → minus_store at p y ≡ Ok u → P (ReadOf p) → P y → P u
+  minus_store_has : (at : ℕ) (p : APlace) (y u : AnExpression) → minus_store at p y ≡ Ok u → P (ReadOf p) → P y → P u
   unfolding minus_store
   minus_store_has at p y u e h q = minus_store_by (place_type p) (type_of y) at p y u e h q
 
-  store_by_has : (op : AssignOperator) (at : ℕ) (p : PlaceTerm) (y u : Term) → store_by op at p y ≡ Ok u → P (ReadOf p) → P y → P u
+  store_by_has : (op : AssignOperator) (at : ℕ) (p : APlace) (y u : AnExpression) → store_by op at p y ≡ Ok u → P (ReadOf p) → P y → P u
   unfolding store_by
   store_by_has assigns.Assign at p y u e h q = store_has at p y u e h q
   store_by_has assigns.Add at p y u e h q = plus_store_has at p y u e h q
@@ -224,7 +224,7 @@ module _ (known : Variable → Type 0) (calls : Callee → ℕ → Type 0) (obje
   store_by_has assigns.ShiftLeft at p y u e h q = arithmetic_store_has ariths.ShiftLeft at p y u e h q
   store_by_has assigns.ShiftRight at p y u e h q = arithmetic_store_has ariths.ShiftRight at p y u e h q
 
-  pub assign_has : (op : AssignOperator) (at : ℕ) (x y u : Term) → assign_of op at x y ≡ Ok u → P x → P y → P u
+  pub assign_has : (op : AssignOperator) (at : ℕ) (x y u : AnExpression) → assign_of op at x y ≡ Ok u → P x → P y → P u
   unfolding assign_of
   assign_has op at (ReadOf p) y u e h q = store_by_has op at p y u e h q
   assign_has op at x y u e h q = absurd (cc)

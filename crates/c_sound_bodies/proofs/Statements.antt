@@ -1,13 +1,13 @@
 -- Typed statements are sound, by one induction over statements.
 use Rattle.std.proofs.Common.{◌≡◌, ℕ, Bool, true, List, Option, Some, None, refl}
 use Rattle.c_types.specs.declared.types.CType.{CType}
-use Rattle.c_types.specs.Typed.{Term, ConvertTo}
+use Rattle.c_types.specs.Typed.{AnExpression, ConvertTo}
 use Rattle.c_typed_scope.specs.declared.entry.Entry.{Entry}
 use Rattle.c_typed_scope.specs.declared.entry.Signature.{Signature}
 use Rattle.c_typed_scope.specs.Layout.{Area}
 use Rattle.c_phrases.specs.Phrases.{AnExp}
 use Rattle.c_phrases.specs.Units.{local_item, statement_item, AStatement, block, empty, expression, break_off, continue_on, give_back, if_then, if_else, while_loop, do_loop, for_loop, SomeItems, no_items}
-use Rattle.c_program.specs.Statements.{Act, Acts, ReturnOf}
+use Rattle.c_program.specs.Statements.{AnAction, SomeActions, ReturnOf}
 use Rattle.c_sound.specs.Fits.{behind_act, declaring, no_local}
 use Rattle.c_typed_expressions.specs.Relations.{IsTyped}
 use Rattle.c_typed_definition.specs.Declarations.{State, with_area}
@@ -21,7 +21,7 @@ use Rattle.c_sound_bodies.proofs.Locals.{grows_area, order_more, locals_sound}
 use Rattle.c_sound_bodies.proofs.Parts.{TermIsSound, PartIsSound, ActIsSound, ActsAreSound, part_none, part_some, order_entered, block_sound, empty_sound, evaluate_sound, return_sound, break_sound, continue_sound, if_sound, if_else_sound, while_sound, do_sound, for_sound, none_sound, order_plain, statement_first, declaration_first}
 
 module _ (names : List (List ℕ × Entry)) (signatures : List Signature) (scope : ℕ → Type 0) (parameters : ℕ) where
-  term_is : (e : AnExp) (s : State) (x : Term × Area) (r : Term × State) → InOrder scope parameters s →
+  term_is : (e : AnExp) (s : State) (x : AnExpression × Area) (r : AnExpression × State) → InOrder scope parameters s →
       IsTyped names signatures s.scope e s.area x → r ≡ (x.0, with_area x.1 s) → TermIsSound signatures scope parameters s r.0 r.1
   term_is e s x r o j is =
       let further = grows_area s x.1 (exp_extends names signatures s.scope e s.area x j) in
@@ -33,42 +33,42 @@ module _ (names : List (List ℕ × Entry)) (signatures : List Signature) (scope
         grows = further;
       })
 
-  pub full_sound : (e : AnExp) (s : State) (r : Term × State) → InOrder scope parameters s → IsFull names signatures e s r →
+  pub full_sound : (e : AnExp) (s : State) (r : AnExpression × State) → InOrder scope parameters s → IsFull names signatures e s r →
       TermIsSound signatures scope parameters s r.0 r.1
   full_sound e s r o j = term_is e s j.part r o j.typed j.whole
 
-  condition_is : (s : State) (x r : Term × State) (c : Term) → TermIsSound signatures scope parameters s x.0 x.1 → c ≡ x.0 →
+  condition_is : (s : State) (x r : AnExpression × State) (c : AnExpression) → TermIsSound signatures scope parameters s x.0 x.1 → c ≡ x.0 →
       r ≡ (c, x.1) → TermIsSound signatures scope parameters s r.0 r.1
   condition_is s x r c h same is = rw (is, same) h
 
-  pub condition_sound : (e : AnExp) (s : State) (r : Term × State) → InOrder scope parameters s → IsCondition names signatures e s r →
+  pub condition_sound : (e : AnExp) (s : State) (r : AnExpression × State) → InOrder scope parameters s → IsCondition names signatures e s r →
       TermIsSound signatures scope parameters s r.0 r.1
   condition_sound e s r o j = let k = j.whole in condition_is s j.part r k.part (full_sound e s j.part o j.typed) k.typed.typed k.whole
 
-  left_out : (s : State) (r : Option Term × State) → InOrder scope parameters s → r ≡ (None, s) →
+  left_out : (s : State) (r : Option AnExpression × State) → InOrder scope parameters s → r ≡ (None, s) →
       PartIsSound signatures scope parameters s r.0 r.1
   left_out s r o is = rw is (part_none signatures scope parameters s o)
 
-  written_out : (s : State) (x : Term × State) (r : Option Term × State) → TermIsSound signatures scope parameters s x.0 x.1 →
+  written_out : (s : State) (x : AnExpression × State) (r : Option AnExpression × State) → TermIsSound signatures scope parameters s x.0 x.1 →
       r ≡ (Some x.0, x.1) → PartIsSound signatures scope parameters s r.0 r.1
   written_out s x r h is = rw is (part_some signatures scope parameters s x.0 x.1 h)
 
-  pub part_sound : (e : Option AnExp) (s : State) (r : Option Term × State) → InOrder scope parameters s → IsPart names signatures e s r →
+  pub part_sound : (e : Option AnExp) (s : State) (r : Option AnExpression × State) → InOrder scope parameters s → IsPart names signatures e s r →
       PartIsSound signatures scope parameters s r.0 r.1
   part_sound None s r o j = left_out s r o j
   part_sound (Some e) s r o j = written_out s j.part r (full_sound e s j.part o j.typed) j.whole
 
-  pub turn_sound : (e : Option AnExp) (s : State) (r : Option Term × State) → InOrder scope parameters s → IsTurn names signatures e s r →
+  pub turn_sound : (e : Option AnExp) (s : State) (r : Option AnExpression × State) → InOrder scope parameters s → IsTurn names signatures e s r →
       PartIsSound signatures scope parameters s r.0 r.1
   turn_sound None s r o j = left_out s r o j
   turn_sound (Some e) s r o j = written_out s j.part r (condition_sound e s j.part o j.typed) j.whole
 
-  converted_sound : (t : CType) (s : State) (x : Term) (r : State) → TermIsSound signatures scope parameters s x r →
+  converted_sound : (t : CType) (s : State) (x : AnExpression) (r : State) → TermIsSound signatures scope parameters s x r →
       TermIsSound signatures scope parameters s (ConvertTo t x) r
   converted_sound t s x r h = record { fits = h.fits; stands = h.stands; names = h.names; order = h.order; grows = h.grows }
 
 module _ (names : List (List ℕ × Entry)) (signatures : List Signature) (result_type : CType) (parameters : ℕ) where
-  returned_is : (scope : ℕ → Type 0) (looping : Bool) (s : State) (x : Term × State) (r : Act × State) (y : Term) →
+  returned_is : (scope : ℕ → Type 0) (looping : Bool) (s : State) (x : AnExpression × State) (r : AnAction × State) (y : AnExpression) →
       TermIsSound signatures scope parameters s x.0 x.1 → y ≡ ConvertTo result_type x.0 → r ≡ (ReturnOf (Some y), x.1) →
       ActIsSound signatures scope parameters looping s r.0 r.1
   returned_is scope looping s x r y h same is =
@@ -76,7 +76,7 @@ module _ (names : List (List ℕ × Entry)) (signatures : List Signature) (resul
       (part_some signatures scope parameters s (ConvertTo result_type x.0) x.1
       (converted_sound names signatures scope parameters result_type s x.0 x.1 h)))
 
-  returned_sound : (scope : ℕ → Type 0) (looping : Bool) (e : Option AnExp) (s : State) (r : Act × State) → InOrder scope parameters s →
+  returned_sound : (scope : ℕ → Type 0) (looping : Bool) (e : Option AnExp) (s : State) (r : AnAction × State) → InOrder scope parameters s →
       IsReturn names signatures result_type e s r → ActIsSound signatures scope parameters looping s r.0 r.1
   returned_sound scope looping None s r o j = rw j
       (return_sound signatures scope parameters looping s None s (part_none signatures scope parameters s o))
@@ -85,7 +85,7 @@ module _ (names : List (List ℕ × Entry)) (signatures : List Signature) (resul
       returned_is scope looping s j.part r k.part (full_sound names signatures scope parameters e s j.part o j.typed) k.typed.typed k.whole
 
   mutual
-    pub statement_sound : (scope : ℕ → Type 0) (looping : Bool) (a : AStatement) (s : State) (r : Act × State) →
+    pub statement_sound : (scope : ℕ → Type 0) (looping : Bool) (a : AStatement) (s : State) (r : AnAction × State) →
         InOrder scope parameters s → IsStatement names signatures result_type looping a s r →
         ActIsSound signatures scope parameters looping s r.0 r.1
     statement_sound scope looping (block row) s r o j =
@@ -131,7 +131,7 @@ module _ (names : List (List ℕ × Entry)) (signatures : List Signature) (resul
         j.part.0 k.part.0 m.part.0 q.part.0 hi hc he
         (statement_sound scope true a m.part.1 q.part he.order q.typed))
 
-    pub items_sound : (scope : ℕ → Type 0) (looping : Bool) (row : SomeItems) (s : State) (r : Acts × State) →
+    pub items_sound : (scope : ℕ → Type 0) (looping : Bool) (row : SomeItems) (s : State) (r : SomeActions × State) →
         InOrder scope parameters s → AreItems names signatures result_type looping row s r →
         ActsAreSound signatures scope parameters looping s r.0 r.1
     items_sound scope looping no_items s r o j = rw j (none_sound signatures scope parameters looping s o)

@@ -8,42 +8,42 @@ use Rattle.c_types.specs.declared.typed.Moment.{Moment}
 use Rattle.c_types.specs.declared.typed.Direction.{Direction}
 use Rattle.c_types.specs.declared.typed.UnaryOperator.{UnaryOperator}
 use Rattle.c_types.specs.declared.typed.ArithmeticOperator.{ArithmeticOperator}
-use Rattle.c_types.specs.Typed.{PlaceTerm, VariableAt, PointedBy, ElementBy, Term, Constant, LiteralAt, ArrayAt, ReadOf, SizeofTerm, SizeOf, AddressOf, CallOf, StepOf, UnaryOf, CastTo, ConvertTo, ArithmeticOf, CompareOf, BothOf, EitherOf, AdvanceOf, AdvanceByOf, RetreatOf, DistanceOf, ChoiceOf, AssignTo, ArithmeticAssignTo, AdvanceAssignTo, RetreatAssignTo, CommaOf, Terms, NoTerms, MoreTerms}
+use Rattle.c_types.specs.Typed.{APlace, VariableAt, PointedBy, ElementBy, AnExpression, Constant, LiteralAt, ArrayAt, ReadOf, SizeofTerm, SizeOf, AddressOf, CallOf, StepOf, UnaryOf, CastTo, ConvertTo, ArithmeticOf, CompareOf, BothOf, EitherOf, AdvanceOf, AdvanceByOf, RetreatOf, DistanceOf, ChoiceOf, AssignTo, ArithmeticAssignTo, AdvanceAssignTo, RetreatAssignTo, CommaOf, SomeExpressions, NoExpressions, MoreExpressions}
 use Rattle.c_sound.specs.Stands.{arguments}
 
 -- of each argument
-abbrev pub Every : (Term → Type 0) → Terms → Type 0
-Every P NoTerms = Unit {0}
-Every P (MoreTerms e es) = P e × Every P es
+abbrev pub Every : (AnExpression → Type 0) → SomeExpressions → Type 0
+Every P NoExpressions = Unit {0}
+Every P (MoreExpressions e es) = P e × Every P es
 
 -- where variables are known, calls have their functions, and there are so many objects; what holds of a place is what holds of reading it
-pub record Closed (known : Variable → Type 0) (calls : Callee → ℕ → Type 0) (objects : ℕ) (P : Term → Type 0) : Type 0 where
+pub record Closed (known : Variable → Type 0) (calls : Callee → ℕ → Type 0) (objects : ℕ) (P : AnExpression → Type 0) : Type 0 where
   pub number : (n : ℕ) → P (Constant n)
   pub literal : (n size : ℕ) → n < objects → P (LiteralAt n size)
   pub array : (t : CType) (v : Variable) (size : ℕ) → known v → P (ArrayAt t v size)
   pub variable : (t : CType) (v : Variable) → known v → P (ReadOf (VariableAt t v))
-  pub pointed : (t : CType) (x : Term) → P x → P (ReadOf (PointedBy t x))
-  pub element : (t : CType) (x : Term) → P x → P (ReadOf (ElementBy t x))
-  pub size_of_term : (n : ℕ) (x : Term) → P x → P (SizeofTerm n x)
+  pub pointed : (t : CType) (x : AnExpression) → P x → P (ReadOf (PointedBy t x))
+  pub element : (t : CType) (x : AnExpression) → P x → P (ReadOf (ElementBy t x))
+  pub size_of_term : (n : ℕ) (x : AnExpression) → P x → P (SizeofTerm n x)
   pub size : (n : ℕ) → P (SizeOf n)
-  pub address : (t : CType) (p : PlaceTerm) → P (ReadOf p) → P (AddressOf t p)
-  pub call : (t : CType) (f : Callee) (to : List CType) (es : Terms) → calls f (length to) → arguments es ≡ length to → Every P es →
+  pub address : (t : CType) (p : APlace) → P (ReadOf p) → P (AddressOf t p)
+  pub call : (t : CType) (f : Callee) (to : List CType) (es : SomeExpressions) → calls f (length to) → arguments es ≡ length to → Every P es →
       P (CallOf t f to es)
-  pub step : (m : Moment) (by : Direction) (p : PlaceTerm) → P (ReadOf p) → P (StepOf m by p)
-  pub unary : (op : UnaryOperator) (x : Term) → P x → P (UnaryOf op x)
-  pub cast : (t : CType) (x : Term) → P x → P (CastTo t x)
-  pub convert : (t : CType) (x : Term) → P x → P (ConvertTo t x)
-  pub arithmetic : (op : ArithmeticOperator) (x y : Term) → P x → P y → P (ArithmeticOf op x y)
-  pub compare : (rel : Rel) (x y : Term) → P x → P y → P (CompareOf rel x y)
-  pub both : (x y : Term) → P x → P y → P (BothOf x y)
-  pub either : (x y : Term) → P x → P y → P (EitherOf x y)
-  pub advance : (t : CType) (x y : Term) → P x → P y → P (AdvanceOf t x y)
-  pub advance_by : (t : CType) (x y : Term) → P x → P y → P (AdvanceByOf t x y)
-  pub retreat : (t : CType) (x y : Term) → P x → P y → P (RetreatOf t x y)
-  pub distance : (t : CType) (x y : Term) → P x → P y → P (DistanceOf t x y)
-  pub choice : (t : CType) (z x y : Term) → P z → P x → P y → P (ChoiceOf t z x y)
-  pub assign : (p : PlaceTerm) (y : Term) → P (ReadOf p) → P y → P (AssignTo p y)
-  pub arithmetic_assign : (op : ArithmeticOperator) (p : PlaceTerm) (y : Term) → P (ReadOf p) → P y → P (ArithmeticAssignTo op p y)
-  pub advance_assign : (p : PlaceTerm) (y : Term) → P (ReadOf p) → P y → P (AdvanceAssignTo p y)
-  pub retreat_assign : (p : PlaceTerm) (y : Term) → P (ReadOf p) → P y → P (RetreatAssignTo p y)
-  pub comma : (t : CType) (x y : Term) → P x → P y → P (CommaOf t x y)
+  pub step : (m : Moment) (by : Direction) (p : APlace) → P (ReadOf p) → P (StepOf m by p)
+  pub unary : (op : UnaryOperator) (x : AnExpression) → P x → P (UnaryOf op x)
+  pub cast : (t : CType) (x : AnExpression) → P x → P (CastTo t x)
+  pub convert : (t : CType) (x : AnExpression) → P x → P (ConvertTo t x)
+  pub arithmetic : (op : ArithmeticOperator) (x y : AnExpression) → P x → P y → P (ArithmeticOf op x y)
+  pub compare : (rel : Rel) (x y : AnExpression) → P x → P y → P (CompareOf rel x y)
+  pub both : (x y : AnExpression) → P x → P y → P (BothOf x y)
+  pub either : (x y : AnExpression) → P x → P y → P (EitherOf x y)
+  pub advance : (t : CType) (x y : AnExpression) → P x → P y → P (AdvanceOf t x y)
+  pub advance_by : (t : CType) (x y : AnExpression) → P x → P y → P (AdvanceByOf t x y)
+  pub retreat : (t : CType) (x y : AnExpression) → P x → P y → P (RetreatOf t x y)
+  pub distance : (t : CType) (x y : AnExpression) → P x → P y → P (DistanceOf t x y)
+  pub choice : (t : CType) (z x y : AnExpression) → P z → P x → P y → P (ChoiceOf t z x y)
+  pub assign : (p : APlace) (y : AnExpression) → P (ReadOf p) → P y → P (AssignTo p y)
+  pub arithmetic_assign : (op : ArithmeticOperator) (p : APlace) (y : AnExpression) → P (ReadOf p) → P y → P (ArithmeticAssignTo op p y)
+  pub advance_assign : (p : APlace) (y : AnExpression) → P (ReadOf p) → P y → P (AdvanceAssignTo p y)
+  pub retreat_assign : (p : APlace) (y : AnExpression) → P (ReadOf p) → P y → P (RetreatAssignTo p y)
+  pub comma : (t : CType) (x y : AnExpression) → P x → P y → P (CommaOf t x y)

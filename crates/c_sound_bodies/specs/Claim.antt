@@ -7,7 +7,7 @@ use Rattle.c_phrases.specs.Units.{ADeclarator, SomeItems}
 use Rattle.c_types.specs.declared.types.CType.{CType}
 use Rattle.c_types.specs.declared.typed.Variable.{Variable}
 use Rattle.c_types.specs.declared.typed.Variable.TheVariants as variables
-use Rattle.c_program.specs.Statements.{Acts, NoActs, MoreActs}
+use Rattle.c_program.specs.Statements.{SomeActions, NoActions, MoreActions}
 use Rattle.c_program.specs.Programs.{ARoutine}
 use Rattle.c_program.specs.Longwords.{ActsOfLongwords}
 use Rattle.c_sound.specs.Fits.{FitsActs, behind_act, no_local}
@@ -66,16 +66,16 @@ pub record Grows (s r : State) : Type 0 where
   pub outer : r.scope.outer ≡ s.scope.outer
 
 -- behind a row of statements
-abbrev pub behind_acts : (ℕ → Type 0) → Acts → ℕ → Type 0
-behind_acts scope NoActs = scope
-behind_acts scope (MoreActs a row) = behind_acts (behind_act scope a) row
+abbrev pub behind_acts : (ℕ → Type 0) → SomeActions → ℕ → Type 0
+behind_acts scope NoActions = scope
+behind_acts scope (MoreActions a row) = behind_acts (behind_act scope a) row
 
 -- each function of a text is one of these with as many parameters, or a service
 abbrev pub AreDefined : List Signature → List ARoutine → Type 0
 AreDefined signatures gs = (n : ℕ) (s : Signature) → slice_get signatures n ≡ Some s → Takes gs (callee_of n) (length s.parameters)
 
 -- what a body is typed as, from one state to another
-pub record BodyIsSound (signatures : List Signature) (looping : Bool) (parameters : ℕ) (s : State) (acts : Acts) (r : State) : Type 0 where
+pub record BodyIsSound (signatures : List Signature) (looping : Bool) (parameters : ℕ) (s : State) (acts : SomeActions) (r : State) : Type 0 where
   pub fits : (size : ℕ) → length r.locals ≤ size → ActsOfLongwords acts → FitsActs size no_local looping acts
   pub stands : (gs : List ARoutine) (objects : ℕ) → length r.area.objects ≤ objects → AreDefined signatures gs →
       StandsActs (IsThere objects parameters) (Takes gs) objects acts
@@ -86,7 +86,7 @@ pub record BodyIsSound (signatures : List Signature) (looping : Bool) (parameter
 abbrev pub BodiesAreSound : Type 0
 BodiesAreSound =
     (names : List (List ℕ × Entry)) (signatures : List Signature) (result : CType) (looping : Bool) (row : SomeItems) (parameters : ℕ)
-    (s r : State) (acts : Acts) →
+    (s r : State) (acts : SomeActions) →
     InOrder no_local parameters s → type_items names signatures result looping row s ≡ Ok (acts, r) →
     BodyIsSound signatures looping parameters s acts r
 
@@ -118,7 +118,7 @@ pub record Adds (a b : Area) : Type 0 where
 abbrev pub BodiesAdd : Type 0
 BodiesAdd =
     (names : List (List ℕ × Entry)) (signatures : List Signature) (result : CType) (looping : Bool) (row : SomeItems) (parameters : ℕ)
-    (s r : State) (acts : Acts) →
+    (s r : State) (acts : SomeActions) →
     InOrder no_local parameters s → type_items names signatures result looping row s ≡ Ok (acts, r) → Adds s.area r.area
 
 -- so does the declaration of a variable at file level,

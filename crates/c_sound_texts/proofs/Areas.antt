@@ -9,7 +9,7 @@ use Rattle.tree_core.specs.declared.program.Object.{Object}
 use Rattle.tree_core.specs.declared.program.Link.{Link}
 use Rattle.tree_core.specs.Valid.{object_lies, link_lies, LinksLie}
 use Rattle.c_types.specs.Answers.{Fault, ◌>>=◌}
-use Rattle.c_types.specs.Typed.{Term, LiteralAt}
+use Rattle.c_types.specs.Typed.{AnExpression, LiteralAt}
 use Rattle.c_typed_scope.specs.Layout.{Area, aligned, with_object, placed, one_more_literal, literal}
 use Rattle.c_sound_bodies.proofs.Growth.{Laying}
 
@@ -113,7 +113,7 @@ one_more label align size bytes a b fits whole within objects end measuring = re
   measuring = measuring;
 }
 
-literal_by : (at : ℕ) (bytes : List ℕ) (measures : Bool) (label : List ℕ) (a : Area) (m : Result (ℕ × Area) Fault) (t : Term × Area) →
+literal_by : (at : ℕ) (bytes : List ℕ) (measures : Bool) (label : List ℕ) (a : Area) (m : Result (ℕ × Area) Fault) (t : AnExpression × Area) →
     ((r : ℕ × Area) → m ≡ Ok r → Placed label 1 (length bytes + 1) (bytes ++ 0 ∷ []) a r) →
     (if measures then Ok (LiteralAt 0 (length bytes + 1), a)
     else (m >>= λ r. Ok (LiteralAt r.0 (length bytes + 1), one_more_literal r.1))) ≡ Ok t → Lays a t.1
@@ -125,7 +125,7 @@ literal_by at bytes false label a (Ok r) t h e =
     let area : r.1 ≡ with_object label 1 (length bytes + 1) (bytes ++ 0 ∷ []) a = ap (λ (x : ℕ × Area). x.1) p.is in
     rw (same, area) (one_more label 1 (length bytes + 1) (bytes ++ 0 ∷ []) a _ refl (length-append bytes (0 ∷ [])) p.within refl refl refl)
 
-literal_lays : (at : ℕ) (bytes : List ℕ) (a : Area) (t : Term × Area) → literal at bytes a ≡ Ok t → Lays a t.1
+literal_lays : (at : ℕ) (bytes : List ℕ) (a : Area) (t : AnExpression × Area) → literal at bytes a ≡ Ok t → Lays a t.1
 unfolding literal
 literal_lays at bytes a t e = literal_by at bytes a.measuring _ a _ t (λ r is. placed_is _ _ _ _ _ a r is) e
 

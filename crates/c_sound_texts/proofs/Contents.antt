@@ -13,7 +13,7 @@ use Rattle.tree_core.specs.Valid.{link_lies, LinksApart, Apart}
 use Rattle.c_types.specs.declared.types.CType.{CType}
 use Rattle.c_types.specs.declared.types.CType.TheVariants as types
 use Rattle.c_types.specs.Types.{integer_size, size_of}
-use Rattle.c_types.specs.Typed.{Term}
+use Rattle.c_types.specs.Typed.{AnExpression}
 use Rattle.c_typed_scope.specs.Contents.{low_bytes, Filled, with_value, address_at, with_link, filled_to}
 use Rattle.c_typed_law.specs.Values.{Null, Address, IsWritten}
 use Rattle.c_sound_texts.proofs.Areas.{link_more}
@@ -88,7 +88,7 @@ link_holds objects size n os f below h =
     }
 
 -- one value more
-pub written_holds : (objects size : ℕ) (t : CType) (x : Term) (os : List Object) (f g : Filled) → NamesObjects objects x →
+pub written_holds : (objects size : ℕ) (t : CType) (x : AnExpression) (os : List Object) (f g : Filled) → NamesObjects objects x →
     IsWritten t x os f g → Holds objects size f → Holds objects (size + size_of t) g
 unfolding size_of
 written_holds objects size types.Void x os f g named j h = absurd j

@@ -3,7 +3,7 @@ use Rattle.std.proofs.Common.{◌≡◌, ℕ, ◌<◌, ◌≤◌, List, length, 
 use Rattle.c_phrases.specs.Phrases.{AnExp}
 use Rattle.c_types.specs.declared.typed.Variable.{Variable}
 use Rattle.c_types.specs.declared.typed.Variable.TheVariants as variables
-use Rattle.c_types.specs.Typed.{PlaceTerm, VariableAt, PointedBy, ElementBy, Term, LiteralAt, ArrayAt, AddressOf, Terms, NoTerms, MoreTerms}
+use Rattle.c_types.specs.Typed.{APlace, VariableAt, PointedBy, ElementBy, AnExpression, LiteralAt, ArrayAt, AddressOf, SomeExpressions, NoExpressions, MoreExpressions}
 use Rattle.c_typed_scope.specs.declared.entry.Entry.{Entry}
 use Rattle.c_typed_scope.specs.declared.entry.Signature.{Signature}
 use Rattle.c_typed_scope.specs.Scopes.{Scope}
@@ -32,12 +32,12 @@ laid_more objects many l (variables.Global n) h = omega arith
 laid_more objects many l (variables.Static n) h = omega arith
 
 -- a term names objects that are there
-abbrev pub NamesObjects : ℕ → Term → Type 0
+abbrev pub NamesObjects : ℕ → AnExpression → Type 0
 NamesObjects objects x = Stands (IsLaid objects) any_call objects x
 
-all_name : (objects : ℕ) (es : Terms) → Every (NamesObjects objects) es → StandAll (IsLaid objects) any_call objects es
-all_name objects NoTerms all = tt
-all_name objects (MoreTerms e es) all = (all.0, all_name objects es all.1)
+all_name : (objects : ℕ) (es : SomeExpressions) → Every (NamesObjects objects) es → StandAll (IsLaid objects) any_call objects es
+all_name objects NoExpressions all = tt
+all_name objects (MoreExpressions e es) all = (all.0, all_name objects es all.1)
 
 closed : (objects : ℕ) → Closed (IsLaid objects) any_call objects (NamesObjects objects)
 closed objects = record {
@@ -73,7 +73,7 @@ closed objects = record {
 
 -- what an expression is typed as, in a scope whose variables are laid out
 pub exp_names : (names : List (List ℕ × Entry)) (signatures : List Signature) (scope : Scope) (e : AnExp) (a : Area)
-    (t : Term × Area) → ScopeOf (IsLaid (length a.objects)) scope → a.measuring ≡ false → Lays a t.1 →
+    (t : AnExpression × Area) → ScopeOf (IsLaid (length a.objects)) scope → a.measuring ≡ false → Lays a t.1 →
     IsTyped names signatures scope e a t → NamesObjects (length t.1.objects) t.0
 exp_names names signatures scope e a t o free h j =
     exp_has (IsLaid (length t.1.objects)) any_call (length t.1.objects) (NamesObjects (length t.1.objects)) (closed (length t.1.objects))
@@ -82,7 +82,7 @@ exp_names names signatures scope e a t o free h j =
     (laid_more (length a.objects) (length t.1.objects) (longer a t.1 h)) o)
     (λ n g is. tt) e a t j (record { laying = free; most = omega arith })
 
-place_below : (objects n : ℕ) (p : PlaceTerm) → StandsAt (IsLaid objects) any_call objects p → linked_place p ≡ Some n → n < objects
+place_below : (objects n : ℕ) (p : APlace) → StandsAt (IsLaid objects) any_call objects p → linked_place p ≡ Some n → n < objects
 place_below objects n (VariableAt t (variables.Global m)) h e = let same : n ≡ m = cc in omega arith
 place_below objects n (VariableAt t (variables.Automatic m)) h e = absurd (cc)
 place_below objects n (VariableAt t (variables.Parameter m)) h e = absurd (cc)
@@ -91,7 +91,7 @@ place_below objects n (PointedBy t x) h e = absurd (cc)
 place_below objects n (ElementBy t x) h e = absurd (cc)
 
 -- the object whose address it is
-pub linked_below : (objects n : ℕ) (x : Term) → NamesObjects objects x → linked x ≡ Some n → n < objects
+pub linked_below : (objects n : ℕ) (x : AnExpression) → NamesObjects objects x → linked x ≡ Some n → n < objects
 unfolding linked
 linked_below objects n (LiteralAt m size) h e = let same : n ≡ m = cc in omega arith
 linked_below objects n (ArrayAt t (variables.Global m) size) h e = let same : n ≡ m = cc in omega arith

@@ -10,13 +10,13 @@ use Rattle.c_phrases.specs.Units.{AnInit, value, elements, ADeclarator, local_it
 use Rattle.c_types.specs.declared.types.CType.{CType}
 use Rattle.c_types.specs.declared.typed.Variable.{Variable}
 use Rattle.c_types.specs.declared.typed.Variable.TheVariants as variables
-use Rattle.c_types.specs.Typed.{Term}
+use Rattle.c_types.specs.Typed.{AnExpression}
 use Rattle.c_typed_scope.specs.declared.entry.Entry.{Entry}
 use Rattle.c_typed_scope.specs.declared.entry.Entry.TheVariants as entries
 use Rattle.c_typed_scope.specs.declared.entry.Signature.{Signature}
 use Rattle.c_typed_scope.specs.Scopes.{Scope, leave}
 use Rattle.c_typed_scope.specs.Layout.{Area}
-use Rattle.c_program.specs.Statements.{ADeclaration, Act, Acts}
+use Rattle.c_program.specs.Statements.{ADeclaration, AnAction, SomeActions}
 use Rattle.c_typed_expressions.specs.Phrases.{init_in, brackets_in, params_in}
 use Rattle.c_typed_expressions.specs.Expressions.{written}
 use Rattle.c_typed_definition.specs.Declarations.{State, with_area, with_local, named_state}
@@ -135,31 +135,31 @@ module _ (start : Area) where
         locals_in_place storage spec ds (done ++ j.part.0 ∷ []) j.part.1 r
         (declared_in_place storage spec d s j.part o j.typed) j.whole
 
-    full_in_place : (e : AnExp) (s : State) (r : Term × State) → InPlace start s → IsFull names signatures e s r → InPlace start r.1
+    full_in_place : (e : AnExp) (s : State) (r : AnExpression × State) → InPlace start s → IsFull names signatures e s r → InPlace start r.1
     full_in_place e s r o j =
         rw (j.whole) (place_more start s j.part.1 o (exp_lays Lays laying names signatures s.scope e s.area j.part j.typed))
 
-    condition_in_place : (e : AnExp) (s : State) (r : Term × State) → InPlace start s → IsCondition names signatures e s r →
+    condition_in_place : (e : AnExp) (s : State) (r : AnExpression × State) → InPlace start s → IsCondition names signatures e s r →
         InPlace start r.1
     condition_in_place e s r o j = let k = j.whole in rw (k.whole) (full_in_place e s j.part o j.typed)
 
-    part_in_place : (e : Option AnExp) (s : State) (r : Option Term × State) → InPlace start s → IsPart names signatures e s r →
+    part_in_place : (e : Option AnExp) (s : State) (r : Option AnExpression × State) → InPlace start s → IsPart names signatures e s r →
         InPlace start r.1
     part_in_place None s r o j = rw j o
     part_in_place (Some e) s r o j = rw (j.whole) (full_in_place e s j.part o j.typed)
 
-    turn_in_place : (e : Option AnExp) (s : State) (r : Option Term × State) → InPlace start s → IsTurn names signatures e s r →
+    turn_in_place : (e : Option AnExp) (s : State) (r : Option AnExpression × State) → InPlace start s → IsTurn names signatures e s r →
         InPlace start r.1
     turn_in_place None s r o j = rw j o
     turn_in_place (Some e) s r o j = rw (j.whole) (condition_in_place e s j.part o j.typed)
 
-    returned_in_place : (result : CType) (e : Option AnExp) (s : State) (r : Act × State) → InPlace start s →
+    returned_in_place : (result : CType) (e : Option AnExp) (s : State) (r : AnAction × State) → InPlace start s →
         IsReturn names signatures result e s r → InPlace start r.1
     returned_in_place result None s r o j = rw j o
     returned_in_place result (Some e) s r o j = let k = j.whole in rw (k.whole) (full_in_place e s j.part o j.typed)
 
     mutual
-      statement_in_place : (result : CType) (looping : Bool) (a : AStatement) (s : State) (r : Act × State) → InPlace start s →
+      statement_in_place : (result : CType) (looping : Bool) (a : AStatement) (s : State) (r : AnAction × State) → InPlace start s →
           IsStatement names signatures result looping a s r → InPlace start r.1
       statement_in_place result looping (block row) s r o j =
           rw (j.whole) (left_in_place j.part.1 (items_in_place result looping row (entered s) j.part (entered_in_place s o) j.typed))
@@ -190,7 +190,7 @@ module _ (start : Area) where
           let second = turn_in_place c j.part.1 k.part first k.typed in
           rw (q.whole) (statement_in_place result true a m.part.1 q.part (part_in_place e k.part.1 m.part second m.typed) q.typed)
 
-      items_in_place : (result : CType) (looping : Bool) (row : SomeItems) (s : State) (r : Acts × State) → InPlace start s →
+      items_in_place : (result : CType) (looping : Bool) (row : SomeItems) (s : State) (r : SomeActions × State) → InPlace start s →
           AreItems names signatures result looping row s r → InPlace start r.1
       items_in_place result looping no_items s r o j = rw j o
       items_in_place result looping (local_item l rest) s r o j =

@@ -13,7 +13,7 @@ use Rattle.c_types.specs.declared.types.CType.{CType}
 use Rattle.c_types.specs.declared.fault.TypeKind.TheVariants.{DataFull}
 use Rattle.c_types.specs.Answers.{Fault, bad, ◌>>=◌}
 use Rattle.c_types.specs.Types.{size_of}
-use Rattle.c_types.specs.Typed.{Term, Terms, LiteralAt}
+use Rattle.c_types.specs.Typed.{AnExpression, SomeExpressions, LiteralAt}
 use Rattle.c_typed_scope.specs.declared.entry.Entry.{Entry}
 use Rattle.c_typed_scope.specs.declared.entry.Signature.{Signature}
 use Rattle.c_typed_scope.specs.Scopes.{Scope, find}
@@ -21,7 +21,7 @@ use Rattle.c_typed_scope.specs.Layout.{Area, aligned, added, with_object, placed
 use Rattle.c_typed_scope.specs.Contents.{Filled, holding, with_contents, filled, filled_to}
 use Rattle.c_typed_expressions.specs.Phrases.{init_in, brackets_in, params_in}
 use Rattle.c_typed_expressions.specs.Expressions.{integer_of, beside, sizeof_unless, is_function, type_exp, type_exps}
-use Rattle.c_program.specs.Statements.{ADeclaration, Act, Acts}
+use Rattle.c_program.specs.Statements.{ADeclaration, AnAction, SomeActions}
 use Rattle.c_program.specs.Programs.{AProgram}
 use Rattle.c_typed_definition.specs.Initialisers.{type_length, type_element, type_elements}
 use Rattle.c_typed_definition.specs.Declarations.{State, with_area, measuring, counted_static, laid, length_in, literals_in, contents_of, finished, object_with, plain_object, counted_array, array_object, object_by, type_object, with_local, begun, type_automatic, type_local, type_locals}
@@ -70,7 +70,7 @@ leave_then P Q S (Ok x) k one rest = record { leaves = λ r e p. (rest x).leaves
 abbrev LeavesArea : {X : Type 0} → Area → Result (X × Area) Fault → Type 0
 LeavesArea {X} a m = Leaves (IsLaid a) (λ (r : X × Area). IsLaid r.1) m
 
-beside_leaves : (a : Area) (m : Result Term Fault) → LeavesArea a (beside a m)
+beside_leaves : (a : Area) (m : Result AnExpression Fault) → LeavesArea a (beside a m)
 beside_leaves a m = leave_then _ _ _ _ _ (leave_any (IsLaid a) m) (λ t. leave_ok _ _ _ (λ p. p))
 
 placed_if : (test : Bool) (at n : ℕ) (a b : Area) → (test ≡ false → IsLaid a → IsLaid b) → LeavesArea a (if test then bad at DataFull else Ok (n, b))
@@ -97,7 +97,7 @@ unfolding filled
 filled_leaves n f a l = record { lie = lie_held 65536 a.end n f a.objects l.lie }
 
 module _ (names : List (List ℕ × Entry)) (signatures : List Signature) (scope : Scope) where
-  sizeof_leaves : (test : Bool) (at : ℕ) (a : Area) (m : Result (Term × Area) Fault) → LeavesArea a m → LeavesArea a (sizeof_unless test at m)
+  sizeof_leaves : (test : Bool) (at : ℕ) (a : Area) (m : Result (AnExpression × Area) Fault) → LeavesArea a m → LeavesArea a (sizeof_unless test at m)
   sizeof_leaves true at a m h = leave_bad _ _ _
   sizeof_leaves false at a m h = leave_then _ _ _ _ _ h (λ x. beside_leaves x.1 _)
 
@@ -223,7 +223,7 @@ module _ (names : List (List ℕ × Entry)) (signatures : List Signature) where
   maybe_condition_leaves None s = leave_ok _ _ _ (λ p. p)
   maybe_condition_leaves (Some e) s = leave_then _ _ _ _ _ (condition_leaves e s) (λ x. leave_ok _ _ _ (λ p. p))
 
-jump_leaves : (looping : Bool) (at : ℕ) (a : Act) (s : State) → LeavesState s (jump looping at a s)
+jump_leaves : (looping : Bool) (at : ℕ) (a : AnAction) (s : State) → LeavesState s (jump looping at a s)
 jump_leaves true at a s = leave_ok _ _ _ (λ p. p)
 jump_leaves false at a s = leave_bad _ _ _
 

@@ -18,7 +18,7 @@ use c_phrases::operator::Spec;
 use c_phrases::tree::{Declarator, Declared, External};
 use c_program::Routine;
 use c_typed_expressions::Functions;
-use c_typed_objects::{Desk, object};
+use c_typed_objects::{Environment, object};
 use c_typed_scope::{Block, Blocks, Data, Entry, Signature};
 use c_typed_statements::{Builder, function, signature};
 use c_types::{CType, Integer, TypeFault, TypeKind, Types};
@@ -120,12 +120,12 @@ fn globals(
     functions: &Functions,
     spec: Spec,
     ds: &[Declarator],
-    desk: &mut Desk,
+    environment: &mut Environment,
 ) -> Result<(), TypeFault>
-    ensures { OnlyTurns result (state desk.new) (type_globals functions.now.names functions.now.signatures.items spec (declarators_of ds.now) (state desk.old)) }
+    ensures { OnlyTurns result (state environment.new) (type_globals functions.now.names functions.now.signatures.items spec (declarators_of ds.now) (state environment.old)) }
 {
     for d in ds {
-        let _ = object(alloc, functions, false, spec, d, desk)?;
+        let _ = object(alloc, functions, false, spec, d, environment)?;
     }
     Ok(())
 }
@@ -140,7 +140,7 @@ fn external(
 {
     match &e.declared {
         Declared::Function(f) => function(alloc, functions, e.spec, f, builder),
-        Declared::Globals(ds) => globals(alloc, functions, e.spec, ds, &mut builder.desk),
+        Declared::Globals(ds) => globals(alloc, functions, e.spec, ds, &mut builder.environment),
     }
 }
 
@@ -164,7 +164,7 @@ fn begin(alloc: Global) -> Result<Builder, TypeFault>
     ensures { Gives (λ b. text b) result (Ok empty_text) }
 {
     Ok(Builder {
-        desk: Desk {
+        environment: Environment {
             blocks: Blocks {
                 outer: Vec::new(alloc),
                 here: service_names(alloc)?,
@@ -212,7 +212,11 @@ fn typed_unit(alloc: Global, ast: &Ast) -> Result<Program, TypeFault>
     let functions = known(alloc, &ast.externals)?;
     let mut builder = begin(alloc)?;
     externals(alloc, &functions, &ast.externals, &mut builder)?;
-    let Builder { desk, routines, .. } = builder;
+    let Builder {
+        environment,
+        routines,
+        ..
+    } = builder;
     match main_number(&routines) {
         None => Err(TypeFault::At {
             place: ast.end,
@@ -220,7 +224,7 @@ fn typed_unit(alloc: Global, ast: &Ast) -> Result<Program, TypeFault>
         }),
         Some(main) => Ok(Program {
             held: c_program::Program {
-                objects: Objects::from_vec(desk.layout.objects),
+                objects: Objects::from_vec(environment.layout.objects),
                 routines,
                 main,
             },

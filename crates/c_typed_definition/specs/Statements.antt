@@ -3,7 +3,7 @@ use Rattle.std.specs.Prelude.{◌≡◌, ℕ, ◌+◌, Bool, true, false, List, 
 use Rattle.c_types.specs.declared.types.CType.{CType}
 use Rattle.c_types.specs.declared.fault.TypeKind.TheVariants.{BadJump, BadType}
 use Rattle.c_types.specs.Answers.{Fault, bad, ◌>>=◌}
-use Rattle.c_types.specs.Typed.{Term}
+use Rattle.c_types.specs.Typed.{AnExpression}
 use Rattle.c_typed_operators.specs.Rules.{given, condition_of}
 use Rattle.c_typed_scope.specs.declared.entry.Entry.{Entry}
 use Rattle.c_typed_scope.specs.declared.entry.Signature.{Signature}
@@ -13,7 +13,7 @@ use Rattle.c_typed_expressions.specs.Phrases.{first}
 use Rattle.c_typed_scope.specs.Scopes.{enter, leave}
 use Rattle.c_typed_expressions.specs.Expressions.{type_exp}
 use Rattle.c_typed_definition.specs.Declarations.{State, with_area, type_locals}
-use Rattle.c_program.specs.Statements.{Act, Acts, NoActs, MoreActs, DeclareOf, BlockOf, EvaluateOf, BreakOf, ContinueOf, ReturnOf, IfOf, IfElseOf, WhileOf, DoOf, ForOf}
+use Rattle.c_program.specs.Statements.{AnAction, SomeActions, NoActions, MoreActions, DeclareOf, BlockOf, EvaluateOf, BreakOf, ContinueOf, ReturnOf, IfOf, IfElseOf, WhileOf, DoOf, ForOf}
 
 abbrev pub entered : State → State
 entered s = record { scope = enter s.scope; locals = s.locals; area = s.area }
@@ -21,40 +21,40 @@ entered s = record { scope = enter s.scope; locals = s.locals; area = s.area }
 abbrev pub left : State → State
 left s = record { scope = leave s.scope; locals = s.locals; area = s.area }
 
-abbrev pub jump : Bool → ℕ → Act → State → Result (Act × State) Fault
+abbrev pub jump : Bool → ℕ → AnAction → State → Result (AnAction × State) Fault
 jump true at a s = Ok (a, s)
 jump false at a s = bad at BadJump
 
 -- names and signatures of the functions of the text
 module _ (names : List (List ℕ × Entry)) (signatures : List Signature) where
   -- a full expression
-  unfoldable pub type_full : AnExp → State → Result (Term × State) Fault
+  unfoldable pub type_full : AnExp → State → Result (AnExpression × State) Fault
   type_full e s = type_exp names signatures s.scope e s.area >>= λ x. Ok (x.0, with_area x.1 s)
 
   -- a full expression that is a condition
-  unfoldable pub type_condition : AnExp → State → Result (Term × State) Fault
+  unfoldable pub type_condition : AnExp → State → Result (AnExpression × State) Fault
   type_condition e s = type_full e s >>= λ x. condition_of (first e) x.0 >>= λ c. Ok (c, x.1)
 
-  abbrev pub type_maybe : Option AnExp → State → Result (Option Term × State) Fault
+  abbrev pub type_maybe : Option AnExp → State → Result (Option AnExpression × State) Fault
   type_maybe None s = Ok (None, s)
   type_maybe (Some e) s = type_full e s >>= λ x. Ok (Some x.0, x.1)
 
-  abbrev pub type_maybe_condition : Option AnExp → State → Result (Option Term × State) Fault
+  abbrev pub type_maybe_condition : Option AnExp → State → Result (Option AnExpression × State) Fault
   type_maybe_condition None s = Ok (None, s)
   type_maybe_condition (Some e) s = type_condition e s >>= λ x. Ok (Some x.0, x.1)
 
 -- names and signatures of the functions of the text, and the result of the one that is read
 module _ (names : List (List ℕ × Entry)) (signatures : List Signature) (result_type : CType) where
   -- a value is converted to the result, which is not void
-  abbrev pub type_return : Option AnExp → State → Result (Act × State) Fault
+  abbrev pub type_return : Option AnExp → State → Result (AnAction × State) Fault
   type_return None s = Ok (ReturnOf None, s)
   type_return (Some e) s = type_full names signatures e s >>= λ x. given result_type (first e) x.0 >>= λ y. Ok (ReturnOf (Some y), x.1)
 
   -- whether a loop is around
   abbrev mutual
-    pub type_statement : Bool → AStatement → State → Result (Act × State) Fault
+    pub type_statement : Bool → AStatement → State → Result (AnAction × State) Fault
     type_statement looping (block row) s = type_items looping row (entered s) >>= λ r. Ok (BlockOf r.0, left r.1)
-    type_statement looping empty s = Ok (BlockOf NoActs, s)
+    type_statement looping empty s = Ok (BlockOf NoActions, s)
     type_statement looping (expression e) s = type_full names signatures e s >>= λ x. Ok (EvaluateOf x.0, x.1)
     type_statement looping (break_off at) s = jump looping at BreakOf s
     type_statement looping (continue_on at) s = jump looping at ContinueOf s
@@ -66,12 +66,12 @@ module _ (names : List (List ℕ × Entry)) (signatures : List Signature) (resul
     type_statement looping (for_loop at o i c e a) s = type_maybe names signatures i s >>= λ x. type_maybe_condition names signatures c x.1 >>= λ y. type_maybe names signatures e y.1 >>= λ z. type_statement true a z.1 >>= λ r. Ok (ForOf x.0 y.0 z.0 r.0, r.1)
 
     -- the first of these
-    pub type_item : Bool → SomeItems → State → Result (Act × State) Fault
-    type_item looping no_items s = Ok (BlockOf NoActs, s)
+    pub type_item : Bool → SomeItems → State → Result (AnAction × State) Fault
+    type_item looping no_items s = Ok (BlockOf NoActions, s)
     type_item looping (local_item l rest) s = type_locals names signatures l.storage l.spec l.declarators [] s >>= λ r. Ok (DeclareOf r.0, r.1)
     type_item looping (statement_item a rest) s = type_statement looping a s
 
-    pub type_items : Bool → SomeItems → State → Result (Acts × State) Fault
-    type_items looping no_items s = Ok (NoActs, s)
-    type_items looping (local_item l rest) s = type_locals names signatures l.storage l.spec l.declarators [] s >>= λ r. type_items looping rest r.1 >>= λ q. Ok (MoreActs (DeclareOf r.0) q.0, q.1)
-    type_items looping (statement_item a rest) s = type_statement looping a s >>= λ r. type_items looping rest r.1 >>= λ q. Ok (MoreActs r.0 q.0, q.1)
+    pub type_items : Bool → SomeItems → State → Result (SomeActions × State) Fault
+    type_items looping no_items s = Ok (NoActions, s)
+    type_items looping (local_item l rest) s = type_locals names signatures l.storage l.spec l.declarators [] s >>= λ r. type_items looping rest r.1 >>= λ q. Ok (MoreActions (DeclareOf r.0) q.0, q.1)
+    type_items looping (statement_item a rest) s = type_statement looping a s >>= λ r. type_items looping rest r.1 >>= λ q. Ok (MoreActions r.0 q.0, q.1)

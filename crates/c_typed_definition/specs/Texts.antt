@@ -25,7 +25,7 @@ use Rattle.c_typed_expressions.specs.Expressions.{integer_of, written}
 use Rattle.c_typed_definition.specs.Initialisers.{type_length}
 use Rattle.c_typed_definition.specs.Declarations.{State, with_area, named_state, type_object}
 use Rattle.c_typed_definition.specs.Statements.{type_items}
-use Rattle.c_program.specs.Statements.{Acts}
+use Rattle.c_program.specs.Statements.{SomeActions}
 use Rattle.c_program.specs.Programs.{ARoutine, AProgram}
 use Rattle.c_program.specs.Need.{need_of}
 
@@ -148,7 +148,7 @@ abbrev pub with_declared : Option ℕ → Spec → AFunction → Text → Text
 with_declared (Some n) spec f t = t
 with_declared None spec f t = record { state = named_state f.name (entries.Function (length t.declared)) t.state; declared = t.declared ++ signature_of spec f ∷ []; bodies = t.bodies }
 
-abbrev pub body_of : Spec → AFunction → List CType → Acts → ARoutine
+abbrev pub body_of : Spec → AFunction → List CType → SomeActions → ARoutine
 body_of spec f locals body = record { name = f.name; result = written spec f.stars; parameters = map parameter_type (params_in f.params); locals = locals; body = body; need = need_of locals body }
 
 abbrev pub with_body : ARoutine → Text → Text

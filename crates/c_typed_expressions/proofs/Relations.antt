@@ -3,7 +3,7 @@ use Rattle.std.proofs.Common.{◌≡◌, ℕ, Bool, true, false, List, Option, S
 use Rattle.c_types.specs.declared.typed.Moment.TheVariants as moments
 use Rattle.c_types.specs.declared.fault.TypeKind.TheVariants.{BadType}
 use Rattle.c_types.specs.Answers.{Fault, bad, ◌>>=◌}
-use Rattle.c_types.specs.Typed.{Term, NoTerms, MoreTerms, Constant}
+use Rattle.c_types.specs.Typed.{AnExpression, NoExpressions, MoreExpressions, Constant}
 use Rattle.c_typed_operators.specs.Rules.{prefix_of, index_of, step, cast_of, sizeof_of, sizeof_type_of, choice_of, comma_of, assign_of}
 use Rattle.c_typed_operators.specs.Table.{Means}
 use Rattle.c_typed_operators.proofs.Rows.{binary_means}
@@ -46,11 +46,11 @@ means_is m = record { found = λ x e. e; only = λ x e. e; faults = λ f e. e; f
 pub means_ok : {A : Type 0} (t : A) → Means (Ok t) (λ u. u ≡ t) (λ f. ⊥)
 means_ok t = record { found = λ x e. cc; only = λ x e. ap Ok (sym e); faults = λ f e. absurd (cc); first = λ f e. absurd e }
 
-paired : (t : Term × Area) (u : Term) (a : Area) → u ≡ t.0 → t.1 ≡ a → (u, a) ≡ t
+paired : (t : AnExpression × Area) (u : AnExpression) (a : Area) → u ≡ t.0 → t.1 ≡ a → (u, a) ≡ t
 paired t u a e f = ap (λ v. (v, a)) e ∙ ap (λ b. (t.0, b)) (sym f)
 
 -- with the data area that it leaves
-pub beside_means : (a : Area) (m : Result Term Fault) (R : Term → Type 0) (F : Fault → Type 0) → Means m R F → Means (beside a m) (Beside a R) F
+pub beside_means : (a : Area) (m : Result AnExpression Fault) (R : AnExpression → Type 0) (F : Fault → Type 0) → Means m R F → Means (beside a m) (Beside a R) F
 beside_means a (Ok u) R F h = record {
   found = λ t e. let same : (u, a) ≡ t = cc in record { typed = rw (← same) (h.found u refl); left = rw (← same) refl };
   only = λ t b. let same : u ≡ t.0 = cc (h.only t.0 b.typed) in ap Ok (paired t u a same b.left);
@@ -68,12 +68,12 @@ unless_first : (test : Bool) (at : ℕ) (e f : Fault) (F : Fault → Type 0) →
 unless_first test at e f F holds is (Refuses h q) = is ∙ sym q
 unless_first test at e f F holds is (Passes h later) = absurd (cc)
 
-passes_first : (test : Bool) (at : ℕ) (m : Result (Term × Area) Fault) (F : Fault → Type 0) (f : Fault) → test ≡ false → ((g : Fault) → F g → m ≡ Err g) → Unless test at BadType F f → m ≡ Err f
+passes_first : (test : Bool) (at : ℕ) (m : Result (AnExpression × Area) Fault) (F : Fault → Type 0) (f : Fault) → test ≡ false → ((g : Fault) → F g → m ≡ Err g) → Unless test at BadType F f → m ≡ Err f
 passes_first test at m F f fails first (Refuses h q) = absurd (cc)
 passes_first test at m F f fails first (Passes h later) = first f later
 
 -- a function's name under sizeof is refused first
-sizeof_means : (test : Bool) (at : ℕ) (m : Result (Term × Area) Fault) (R : Term × Area → Type 0) (F : Fault → Type 0) → Means (m >>= λ x. beside x.1 (sizeof_of at x.0)) R F → Means (sizeof_unless test at m) (λ t. (test ≡ false) × R t) (Unless test at BadType F)
+sizeof_means : (test : Bool) (at : ℕ) (m : Result (AnExpression × Area) Fault) (R : AnExpression × Area → Type 0) (F : Fault → Type 0) → Means (m >>= λ x. beside x.1 (sizeof_of at x.0)) R F → Means (sizeof_unless test at m) (λ t. (test ≡ false) × R t) (Unless test at BadType F)
 sizeof_means true at m R F h = record {
   found = λ t e. absurd (cc);
   only = λ t p. absurd (cc (p.0));
@@ -88,11 +88,11 @@ sizeof_means false at m R F h = record {
 }
 
 module _ (names : List (List ℕ × Entry)) (signatures : List Signature) (scope : Scope) where
-  named_only : (at : ℕ) (n : List ℕ) (t : Term) → IsNamed names signatures scope n t → named_by (lookup scope n) (find names n) at ≡ Ok t
+  named_only : (at : ℕ) (n : List ℕ) (t : AnExpression) → IsNamed names signatures scope n t → named_by (lookup scope n) (find names n) at ≡ Ok t
   named_only at n t (NamesVariable of v found is) = rw (found, is) refl
   named_only at n t (NamesArray of v size found is) = rw (found, is) refl
 
-  named_found : (at : ℕ) (n : List ℕ) (t : Term) (o f : Option Entry) → lookup scope n ≡ o → named_by o f at ≡ Ok t → IsNamed names signatures scope n t
+  named_found : (at : ℕ) (n : List ℕ) (t : AnExpression) (o f : Option Entry) → lookup scope n ≡ o → named_by o f at ≡ Ok t → IsNamed names signatures scope n t
   named_found at n t None None is e = absurd (cc)
   named_found at n t None (Some g) is e = absurd (cc)
   named_found at n t (Some (entries.Variable of v)) f is e = NamesVariable of v is (cc)
@@ -146,5 +146,5 @@ module _ (names : List (List ℕ × Entry)) (signatures : List Signature) (scope
     exp_means (comma l r) a = means_then _ _ _ _ _ _ (exp_means l a) (λ x. means_then _ _ _ _ _ _ (exp_means r x.1) (λ y. means_ok (comma_of x.0 y.0, y.1)))
 
     pub exps_mean : (es : SomeExps) (a : Area) → Means (type_exps names signatures scope es a) (AreTyped names signatures scope es a) (FirstFaultOf names signatures scope es a)
-    exps_mean no_exps a = means_ok (NoTerms, a)
-    exps_mean (exps e es) a = means_then _ _ _ _ _ _ (exp_means e a) (λ x. means_then _ _ _ _ _ _ (exps_mean es x.1) (λ xs. means_ok (MoreTerms x.0 xs.0, xs.1)))
+    exps_mean no_exps a = means_ok (NoExpressions, a)
+    exps_mean (exps e es) a = means_then _ _ _ _ _ _ (exp_means e a) (λ x. means_then _ _ _ _ _ _ (exps_mean es x.1) (λ xs. means_ok (MoreExpressions x.0 xs.0, xs.1)))

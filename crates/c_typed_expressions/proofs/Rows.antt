@@ -16,7 +16,7 @@ use Rattle.c_types.specs.declared.typed.Expression.{Expression}
 use Rattle.c_types.specs.declared.typed.Expression.TheVariants as typeds
 use Rattle.c_types.specs.declared.fault.TypeKind.TheVariants.{BadCall, BadType}
 use Rattle.c_types.specs.Answers.{Fault, ◌>>=◌, Fails, Gives}
-use Rattle.c_types.specs.Typed.{Terms, NoTerms, MoreTerms, term, terms}
+use Rattle.c_types.specs.Typed.{SomeExpressions, NoExpressions, MoreExpressions, term, terms}
 use Rattle.c_types.proofs.Rows.{term_call}
 use Rattle.c_typed_operators.specs.Rules.{fits}
 use Rattle.c_typed_scope.specs.declared.entry.Entry.{Entry}
@@ -40,26 +40,26 @@ count_is [] = refl
 count_is (e ∷ rest) = omega (arith, count_is rest)
 
 -- what was typed, in front of what is left
-abbrev pub terms_onto : List Expression → Terms → Terms
+abbrev pub terms_onto : List Expression → SomeExpressions → SomeExpressions
 terms_onto [] xs = xs
-terms_onto (x ∷ done) xs = MoreTerms (term x) (terms_onto done xs)
+terms_onto (x ∷ done) xs = MoreExpressions (term x) (terms_onto done xs)
 
-abbrev pub onto : List Expression → Result (Terms × Area) Fault → Result (Terms × Area) Fault
+abbrev pub onto : List Expression → Result (SomeExpressions × Area) Fault → Result (SomeExpressions × Area) Fault
 onto done m = m >>= λ r. Ok (terms_onto done r.0, r.1)
 
-onto_push : (done : List Expression) (x : Expression) (xs : Terms) → terms_onto (done ++ x ∷ []) xs ≡ terms_onto done (MoreTerms (term x) xs)
+onto_push : (done : List Expression) (x : Expression) (xs : SomeExpressions) → terms_onto (done ++ x ∷ []) xs ≡ terms_onto done (MoreExpressions (term x) xs)
 onto_push [] x xs = refl
-onto_push (y ∷ done) x xs = ap (MoreTerms (term y)) (onto_push done x xs)
+onto_push (y ∷ done) x xs = ap (MoreExpressions (term y)) (onto_push done x xs)
 
-onto_more : (done : List Expression) (x : Expression) (m : Result (Terms × Area) Fault) → onto (done ++ x ∷ []) m ≡ onto done (m >>= λ r. Ok (MoreTerms (term x) r.0, r.1))
+onto_more : (done : List Expression) (x : Expression) (m : Result (SomeExpressions × Area) Fault) → onto (done ++ x ∷ []) m ≡ onto done (m >>= λ r. Ok (MoreExpressions (term x) r.0, r.1))
 onto_more done x (Ok r) = ap (λ t. Ok (t, r.1)) (onto_push done x r.0)
 onto_more done x (Err e) = refl
 
-onto_end : (done : List Expression) → terms_onto done NoTerms ≡ terms done
+onto_end : (done : List Expression) → terms_onto done NoExpressions ≡ terms done
 onto_end [] = refl
-onto_end (x ∷ done) = ap (MoreTerms (term x)) (onto_end done)
+onto_end (x ∷ done) = ap (MoreExpressions (term x)) (onto_end done)
 
-onto_none : (m : Result (Terms × Area) Fault) → m ≡ onto [] m
+onto_none : (m : Result (SomeExpressions × Area) Fault) → m ≡ onto [] m
 onto_none (Ok r) = refl
 onto_none (Err e) = refl
 

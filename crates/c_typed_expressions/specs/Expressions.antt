@@ -11,7 +11,7 @@ use Rattle.c_types.specs.declared.typed.Callee.TheVariants as callees
 use Rattle.c_types.specs.declared.typed.Moment.TheVariants as moments
 use Rattle.c_types.specs.declared.fault.TypeKind.TheVariants.{UnknownName, BadType, BadCall}
 use Rattle.c_types.specs.Answers.{Fault, bad, ◌>>=◌}
-use Rattle.c_types.specs.Typed.{Term, Terms, NoTerms, MoreTerms, Constant, ReadOf, ArrayAt, CallOf, VariableAt}
+use Rattle.c_types.specs.Typed.{AnExpression, SomeExpressions, NoExpressions, MoreExpressions, Constant, ReadOf, ArrayAt, CallOf, VariableAt}
 use Rattle.c_typed_operators.specs.Rules.{fits, binary_of, prefix_of, index_of, step, cast_of, sizeof_of, sizeof_type_of, choice_of, comma_of, assign_of}
 use Rattle.c_typed_scope.specs.declared.entry.Entry.{Entry}
 use Rattle.c_typed_scope.specs.declared.entry.Entry.TheVariants as entries
@@ -39,11 +39,11 @@ unfoldable pub written : Spec → List ℕ → CType
 written spec stars = under_stars (integer_of spec) (length stars)
 
 -- a name that is in no block: a function of the text, or unknown
-abbrev pub named_function : Option Entry → ℕ → Result Term Fault
+abbrev pub named_function : Option Entry → ℕ → Result AnExpression Fault
 named_function None at = bad at UnknownName
 named_function (Some e) at = bad at BadType
 
-abbrev pub named_by : Option Entry → Option Entry → ℕ → Result Term Fault
+abbrev pub named_by : Option Entry → Option Entry → ℕ → Result AnExpression Fault
 named_by None f at = named_function f at
 named_by (Some (entries.Variable t v)) f at = Ok (ReadOf (VariableAt t v))
 named_by (Some (entries.Array t v n)) f at = Ok (ArrayAt t v n)
@@ -74,39 +74,39 @@ unfoldable pub callee_of : ℕ → Callee
 callee_of n = if n == 0 then callees.Putchar else if n == 1 then callees.Getchar else callees.Defined (n - 2)
 
 -- the place of the first argument that its parameter does not take
-abbrev pub unfit : List CType → SomeExps → Terms → Option ℕ
+abbrev pub unfit : List CType → SomeExps → SomeExpressions → Option ℕ
 unfit [] es xs = None
 unfit (t ∷ ts) no_exps xs = None
-unfit (t ∷ ts) (exps e es) NoTerms = None
-unfit (t ∷ ts) (exps e es) (MoreTerms x xs) = if fits t x then unfit ts es xs else Some (first e)
+unfit (t ∷ ts) (exps e es) NoExpressions = None
+unfit (t ∷ ts) (exps e es) (MoreExpressions x xs) = if fits t x then unfit ts es xs else Some (first e)
 
 abbrev pub count : SomeExps → ℕ
 count no_exps = 0
 count (exps e es) = count es + 1
 
-abbrev pub call_unless : Option ℕ → Signature → ℕ → Terms → Result Term Fault
+abbrev pub call_unless : Option ℕ → Signature → ℕ → SomeExpressions → Result AnExpression Fault
 call_unless None s n xs = Ok (CallOf s.result (callee_of n) s.parameters xs)
 call_unless (Some at) s n xs = bad at BadType
 
-abbrev pub called_by : Option Signature → ℕ → ℕ → SomeExps → Terms → Result Term Fault
+abbrev pub called_by : Option Signature → ℕ → ℕ → SomeExps → SomeExpressions → Result AnExpression Fault
 called_by None n opened es xs = bad opened BadCall
 called_by (Some s) n opened es xs = if length s.parameters == count es then call_unless (unfit s.parameters es xs) s n xs else bad opened BadCall
 
-abbrev pub called : List Signature → Option ℕ → ℕ → SomeExps → Terms → Result Term Fault
+abbrev pub called : List Signature → Option ℕ → ℕ → SomeExps → SomeExpressions → Result AnExpression Fault
 called signatures None opened es xs = bad opened BadCall
 called signatures (Some n) opened es xs = called_by (slice_get signatures n) n opened es xs
 
-abbrev pub beside : {A : Type 0} → A → Result Term Fault → Result (Term × A) Fault
+abbrev pub beside : {A : Type 0} → A → Result AnExpression Fault → Result (AnExpression × A) Fault
 beside a m = m >>= λ t. Ok (t, a)
 
 -- sizeof of a function's name is refused
-abbrev pub sizeof_unless : Bool → ℕ → Result (Term × Area) Fault → Result (Term × Area) Fault
+abbrev pub sizeof_unless : Bool → ℕ → Result (AnExpression × Area) Fault → Result (AnExpression × Area) Fault
 sizeof_unless true at m = bad at BadType
 sizeof_unless false at m = m >>= λ x. beside x.1 (sizeof_of at x.0)
 
 -- names of the functions that are defined in the text, and their signatures
 module _ (names : List (List ℕ × Entry)) (signatures : List Signature) (scope : Scope) where
-  unfoldable pub named : ℕ → List ℕ → Result Term Fault
+  unfoldable pub named : ℕ → List ℕ → Result AnExpression Fault
   named at n = named_by (lookup scope n) (find names n) at
 
   unfoldable pub callee : ℕ → List ℕ → Result (Option ℕ) Fault
@@ -119,7 +119,7 @@ module _ (names : List (List ℕ × Entry)) (signatures : List Signature) (scope
   is_function _ = false
 
   abbrev mutual
-    pub type_exp : AnExp → Area → Result (Term × Area) Fault
+    pub type_exp : AnExp → Area → Result (AnExpression × Area) Fault
     type_exp (name n at) a = beside a (named at n)
     type_exp (number v at) a = Ok (Constant v, a)
     type_exp (str b at) a = literal at b a
@@ -137,6 +137,6 @@ module _ (names : List (List ℕ × Entry)) (signatures : List Signature) (scope
     type_exp (assign p op at v) a = type_exp p a >>= λ x. type_exp v x.1 >>= λ y. beside y.1 (assign_of op at x.0 y.0)
     type_exp (comma l r) a = type_exp l a >>= λ x. type_exp r x.1 >>= λ y. Ok (comma_of x.0 y.0, y.1)
 
-    pub type_exps : SomeExps → Area → Result (Terms × Area) Fault
-    type_exps no_exps a = Ok (NoTerms, a)
-    type_exps (exps e es) a = type_exp e a >>= λ x. type_exps es x.1 >>= λ xs. Ok (MoreTerms x.0 xs.0, xs.1)
+    pub type_exps : SomeExps → Area → Result (SomeExpressions × Area) Fault
+    type_exps no_exps a = Ok (NoExpressions, a)
+    type_exps (exps e es) a = type_exp e a >>= λ x. type_exps es x.1 >>= λ xs. Ok (MoreExpressions x.0 xs.0, xs.1)

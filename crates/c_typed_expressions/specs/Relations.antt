@@ -6,7 +6,7 @@ use Rattle.c_types.specs.declared.typed.Moment.TheVariants as moments
 use Rattle.c_types.specs.declared.fault.TypeKind.{TypeKind}
 use Rattle.c_types.specs.declared.fault.TypeKind.TheVariants.{UnknownName, BadType}
 use Rattle.c_types.specs.Answers.{Fault}
-use Rattle.c_types.specs.Typed.{Term, Terms, NoTerms, MoreTerms, Constant, ReadOf, ArrayAt, VariableAt}
+use Rattle.c_types.specs.Typed.{AnExpression, SomeExpressions, NoExpressions, MoreExpressions, Constant, ReadOf, ArrayAt, VariableAt}
 use Rattle.c_typed_operators.specs.Rules.{prefix_of, index_of, step, cast_of, sizeof_of, sizeof_type_of, choice_of, comma_of, assign_of}
 use Rattle.c_typed_operators.specs.Table.{IsBinary, NoRow}
 use Rattle.c_typed_scope.specs.declared.entry.Entry.{Entry}
@@ -29,7 +29,7 @@ pub data FirstOf {A : Type 0} (R : A → Type 0) (F : Fault → Type 0) (G : A �
   Behind : (part : A) (typed : R part) (later : G part f) → FirstOf R F G f
 
 -- It is typed as a term, and leaves this data area.
-pub record Beside (a : Area) (R : Term → Type 0) (t : Term × Area) : Type 0 where
+pub record Beside (a : Area) (R : AnExpression → Type 0) (t : AnExpression × Area) : Type 0 where
   pub typed : R t.0
   pub left : t.1 ≡ a
 
@@ -41,7 +41,7 @@ pub data Unless (test : Bool) (place : ℕ) (kind : TypeKind) (F : Fault → Typ
 -- names of the functions that are defined in the text, and their signatures
 module _ (names : List (List ℕ × Entry)) (signatures : List Signature) (scope : Scope) where
   -- a variable, or an array as its first element's address
-  pub data IsNamed (n : List ℕ) (t : Term) : Type 0 where
+  pub data IsNamed (n : List ℕ) (t : AnExpression) : Type 0 where
     NamesVariable : (of : CType) (v : Variable) (found : lookup scope n ≡ Some (entries.Variable of v)) (is : t ≡ ReadOf (VariableAt of v)) → IsNamed n t
     NamesArray : (of : CType) (v : Variable) (size : ℕ) (found : lookup scope n ≡ Some (entries.Array of v size)) (is : t ≡ ArrayAt of v size) → IsNamed n t
 
@@ -51,7 +51,7 @@ module _ (names : List (List ℕ × Entry)) (signatures : List Signature) (scope
     NamesFunction : (function : is_function_by (lookup scope n) (find names n) ≡ true) (is : f ≡ record { place = at; kind = BadType }) → NamedFault at n f
 
   abbrev mutual
-    pub IsTyped : AnExp → Area → Term × Area → Type 0
+    pub IsTyped : AnExp → Area → AnExpression × Area → Type 0
     IsTyped (name n at) a t = Beside a (IsNamed n) t
     IsTyped (number v at) a t = t ≡ (Constant v, a)
     IsTyped (str b at) a t = literal at b a ≡ Ok t
@@ -69,9 +69,9 @@ module _ (names : List (List ℕ × Entry)) (signatures : List Signature) (scope
     IsTyped (assign p op at v) a t = Joint (IsTyped p a) (λ x. Joint (IsTyped v x.1) (λ y. Beside y.1 (λ u. assign_of op at x.0 y.0 ≡ Ok u))) t
     IsTyped (comma l r) a t = Joint (IsTyped l a) (λ x. Joint (IsTyped r x.1) (λ y u. u ≡ (comma_of x.0 y.0, y.1))) t
 
-    pub AreTyped : SomeExps → Area → Terms × Area → Type 0
-    AreTyped no_exps a ts = ts ≡ (NoTerms, a)
-    AreTyped (exps e es) a ts = Joint (IsTyped e a) (λ x. Joint (AreTyped es x.1) (λ xs u. u ≡ (MoreTerms x.0 xs.0, xs.1))) ts
+    pub AreTyped : SomeExps → Area → SomeExpressions × Area → Type 0
+    AreTyped no_exps a ts = ts ≡ (NoExpressions, a)
+    AreTyped (exps e es) a ts = Joint (IsTyped e a) (λ x. Joint (AreTyped es x.1) (λ xs u. u ≡ (MoreExpressions x.0 xs.0, xs.1))) ts
 
   abbrev mutual
     pub FirstFault : AnExp → Area → Fault → Type 0

@@ -7,7 +7,7 @@ use Rattle.c_phrases.specs.declared.operator.Storage.TheVariants as storages
 use Rattle.c_types.specs.declared.types.CType.{CType}
 use Rattle.c_types.specs.declared.fault.TypeKind.TheVariants.{Twice, LeftOut, BadInit, BadType}
 use Rattle.c_types.specs.Types.{size_of, pointer_to, is_scalar}
-use Rattle.c_types.specs.Typed.{Term, ConvertTo}
+use Rattle.c_types.specs.Typed.{AnExpression, ConvertTo}
 use Rattle.c_typed_operators.specs.Rules.{fits, given}
 use Rattle.c_typed_operators.specs.Table.{Means}
 use Rattle.c_typed_scope.specs.declared.entry.Entry.{Entry}
@@ -49,7 +49,7 @@ unfolding many
 many_means at count n = unless_means (nat_lt n count) at BadInit _ _ _ (means_ok n)
 
 -- a value is given to a type that takes it
-pub given_means : (t : CType) (place : ℕ) (x : Term) → Means (given t place x) (With (fits t x) (λ y. y ≡ ConvertTo t x)) (Lacking (fits t x) place BadType Never)
+pub given_means : (t : CType) (place : ℕ) (x : AnExpression) → Means (given t place x) (With (fits t x) (λ y. y ≡ ConvertTo t x)) (Lacking (fits t x) place BadType Never)
 unfolding given
 given_means t place x = with_means (fits t x) place BadType _ _ _ (means_ok (ConvertTo t x))
 

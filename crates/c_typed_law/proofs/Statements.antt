@@ -3,14 +3,14 @@ use Rattle.std.proofs.Common.{◌≡◌, ℕ, Bool, true, false, List, [], Optio
 use Rattle.c_types.specs.declared.types.CType.{CType}
 use Rattle.c_types.specs.declared.fault.TypeKind.TheVariants.{BadJump, BadType}
 use Rattle.c_types.specs.Types.{is_scalar}
-use Rattle.c_types.specs.Typed.{Term, type_of}
+use Rattle.c_types.specs.Typed.{AnExpression, type_of}
 use Rattle.c_typed_operators.specs.Rules.{condition_of}
 use Rattle.c_typed_operators.specs.Table.{Means}
 use Rattle.c_typed_scope.specs.declared.entry.Entry.{Entry}
 use Rattle.c_typed_scope.specs.declared.entry.Signature.{Signature}
 use Rattle.c_phrases.specs.Phrases.{AnExp}
 use Rattle.c_phrases.specs.Units.{local_item, statement_item, AStatement, block, empty, expression, break_off, continue_on, give_back, if_then, if_else, while_loop, do_loop, for_loop, SomeItems, no_items}
-use Rattle.c_program.specs.Statements.{Act, NoActs, MoreActs, DeclareOf, BlockOf, EvaluateOf, BreakOf, ContinueOf, ReturnOf, IfOf, IfElseOf, WhileOf, DoOf, ForOf}
+use Rattle.c_program.specs.Statements.{AnAction, NoActions, MoreActions, DeclareOf, BlockOf, EvaluateOf, BreakOf, ContinueOf, ReturnOf, IfOf, IfElseOf, WhileOf, DoOf, ForOf}
 use Rattle.c_typed_expressions.specs.Phrases.{first}
 use Rattle.c_typed_expressions.proofs.Relations.{means_then, means_ok, exp_means}
 use Rattle.c_typed_definition.specs.Declarations.{State, with_area}
@@ -20,11 +20,11 @@ use Rattle.c_typed_law.specs.Statements.{IsFull, FullFault, IsCondition, Conditi
 use Rattle.c_typed_law.proofs.Combined.{with_means}
 use Rattle.c_typed_law.proofs.Objects.{given_means, locals_mean}
 
-jump_means : (looping : Bool) (at : ℕ) (a : Act) (s : State) → Means (jump looping at a s) (With looping (λ u. u ≡ (a, s))) (Lacking looping at BadJump Never)
+jump_means : (looping : Bool) (at : ℕ) (a : AnAction) (s : State) → Means (jump looping at a s) (With looping (λ u. u ≡ (a, s))) (Lacking looping at BadJump Never)
 jump_means true at a s = with_means true at BadJump _ _ _ (means_ok (a, s))
 jump_means false at a s = with_means false at BadJump _ _ _ (means_ok (a, s))
 
-scalar_means : (place : ℕ) (x : Term) → Means (condition_of place x) (With (is_scalar (type_of x)) (λ c. c ≡ x)) (Lacking (is_scalar (type_of x)) place BadType Never)
+scalar_means : (place : ℕ) (x : AnExpression) → Means (condition_of place x) (With (is_scalar (type_of x)) (λ c. c ≡ x)) (Lacking (is_scalar (type_of x)) place BadType Never)
 unfolding condition_of
 scalar_means place x = with_means (is_scalar (type_of x)) place BadType _ _ _ (means_ok x)
 
@@ -53,7 +53,7 @@ module _ (names : List (List ℕ × Entry)) (signatures : List Signature) (resul
   mutual
     pub statement_means : (looping : Bool) (a : AStatement) (s : State) → Means (type_statement names signatures result_type looping a s) (IsStatement names signatures result_type looping a s) (StatementFault names signatures result_type looping a s)
     statement_means looping (block row) s = means_then _ _ _ _ _ _ (items_mean looping row (entered s)) (λ x. means_ok (BlockOf x.0, left x.1))
-    statement_means looping empty s = means_ok (BlockOf NoActs, s)
+    statement_means looping empty s = means_ok (BlockOf NoActions, s)
     statement_means looping (expression e) s = means_then _ _ _ _ _ _ (full_means names signatures e s) (λ x. means_ok (EvaluateOf x.0, x.1))
     statement_means looping (break_off at) s = jump_means looping at BreakOf s
     statement_means looping (continue_on at) s = jump_means looping at ContinueOf s
@@ -65,6 +65,6 @@ module _ (names : List (List ℕ × Entry)) (signatures : List Signature) (resul
     statement_means looping (for_loop at o i c e a) s = means_then _ _ _ _ _ _ (part_means names signatures i s) (λ x. means_then _ _ _ _ _ _ (turn_means names signatures c x.1) (λ y. means_then _ _ _ _ _ _ (part_means names signatures e y.1) (λ z. means_then _ _ _ _ _ _ (statement_means true a z.1) (λ w. means_ok (ForOf x.0 y.0 z.0 w.0, w.1)))))
 
     pub items_mean : (looping : Bool) (row : SomeItems) (s : State) → Means (type_items names signatures result_type looping row s) (AreItems names signatures result_type looping row s) (ItemsFault names signatures result_type looping row s)
-    items_mean looping no_items s = means_ok (NoActs, s)
-    items_mean looping (local_item l rest) s = means_then _ _ _ _ _ _ (locals_mean names signatures l.storage l.spec l.declarators [] s) (λ x. means_then _ _ _ _ _ _ (items_mean looping rest x.1) (λ y. means_ok (MoreActs (DeclareOf x.0) y.0, y.1)))
-    items_mean looping (statement_item a rest) s = means_then _ _ _ _ _ _ (statement_means looping a s) (λ x. means_then _ _ _ _ _ _ (items_mean looping rest x.1) (λ y. means_ok (MoreActs x.0 y.0, y.1)))
+    items_mean looping no_items s = means_ok (NoActions, s)
+    items_mean looping (local_item l rest) s = means_then _ _ _ _ _ _ (locals_mean names signatures l.storage l.spec l.declarators [] s) (λ x. means_then _ _ _ _ _ _ (items_mean looping rest x.1) (λ y. means_ok (MoreActions (DeclareOf x.0) y.0, y.1)))
+    items_mean looping (statement_item a rest) s = means_then _ _ _ _ _ _ (statement_means looping a s) (λ x. means_then _ _ _ _ _ _ (items_mean looping rest x.1) (λ y. means_ok (MoreActions x.0 y.0, y.1)))

@@ -7,7 +7,7 @@ use Rattle.c_types.specs.declared.types.CType.TheVariants as types
 use Rattle.c_types.specs.declared.types.Integer.{Integer}
 use Rattle.c_types.specs.declared.fault.TypeKind.TheVariants.{BadType}
 use Rattle.c_types.specs.Types.{same_type, integer_size, is_integer}
-use Rattle.c_types.specs.Typed.{Term, type_of, is_null}
+use Rattle.c_types.specs.Typed.{AnExpression, type_of, is_null}
 use Rattle.c_types.specs.Constants.{constant_of}
 use Rattle.c_typed_operators.specs.Table.{Means}
 use Rattle.c_typed_scope.specs.declared.entry.Entry.{Entry}
@@ -22,21 +22,21 @@ use Rattle.c_typed_definition.specs.Initialisers.{type_length, type_element, typ
 use Rattle.c_typed_law.specs.Values.{IsIntegerValue, IntegerFault, IsAddressValue, AddressFault, IsPointerValue, Null, Address, PointerFault, IsWritten, WrittenFault, IsLength, LengthFault, IsElement, ElementFault, AreElements, ElementsFault}
 use Rattle.c_typed_law.proofs.Combined.{means_bad, with_means, wanted_means}
 
-integer_means : (b : Integer) (place : ℕ) (x : Term) (f : Filled) → Means (integer_element b place x f) (IsIntegerValue b x f) (IntegerFault place x)
+integer_means : (b : Integer) (place : ℕ) (x : AnExpression) (f : Filled) → Means (integer_element b place x f) (IsIntegerValue b x f) (IntegerFault place x)
 integer_means b place x f = means_then _ _ _ _ _ _ (wanted_means (constant_of x) place) (λ v. with_means (is_integer (type_of x)) place BadType _ _ _ (means_ok (with_value (integer_size b) v f)))
 
-linked_means : (t : CType) (place : ℕ) (x : Term) (objects : List Object) (f : Filled) → Means (linked_element t place x objects f) (IsAddressValue t x objects f) (AddressFault t place x)
+linked_means : (t : CType) (place : ℕ) (x : AnExpression) (objects : List Object) (f : Filled) → Means (linked_element t place x objects f) (IsAddressValue t x objects f) (AddressFault t place x)
 linked_means t place x objects f = means_then _ _ _ _ _ _ (wanted_means (linked x) place) (λ n. with_means (same_type t (type_of x)) place BadType _ _ _ (means_ok (with_link objects n f)))
 
-null_only : (t : CType) (x : Term) (objects : List Object) (f g : Filled) → is_null x ≡ true → IsPointerValue t x objects f g → with_value 4 0 f ≡ g
+null_only : (t : CType) (x : AnExpression) (objects : List Object) (f g : Filled) → is_null x ≡ true → IsPointerValue t x objects f g → with_value 4 0 f ≡ g
 null_only t x objects f g null (Null h is) = cc
 null_only t x objects f g null (Address other address) = absurd (cc)
 
-other_only : (t : CType) (place : ℕ) (x : Term) (objects : List Object) (f g : Filled) → is_null x ≡ false → IsPointerValue t x objects f g → linked_element t place x objects f ≡ Ok g
+other_only : (t : CType) (place : ℕ) (x : AnExpression) (objects : List Object) (f g : Filled) → is_null x ≡ false → IsPointerValue t x objects f g → linked_element t place x objects f ≡ Ok g
 other_only t place x objects f g other (Null h is) = absurd (cc)
 other_only t place x objects f g other (Address h address) = (linked_means t place x objects f).only g address
 
-pointer_by : (null : Bool) (t : CType) (place : ℕ) (x : Term) (objects : List Object) (f : Filled) → is_null x ≡ null → Means (if null then Ok (with_value 4 0 f) else linked_element t place x objects f) (IsPointerValue t x objects f) (PointerFault t place x)
+pointer_by : (null : Bool) (t : CType) (place : ℕ) (x : AnExpression) (objects : List Object) (f : Filled) → is_null x ≡ null → Means (if null then Ok (with_value 4 0 f) else linked_element t place x objects f) (IsPointerValue t x objects f) (PointerFault t place x)
 pointer_by true t place x objects f is = record {
   found = λ g e. Null is (cc);
   only = λ g r. ap Ok (null_only t x objects f g is r);
@@ -50,7 +50,7 @@ pointer_by false t place x objects f is = record {
   first = λ g w. (linked_means t place x objects f).first g w.address;
 }
 
-written_means : (t : CType) (place : ℕ) (x : Term) (objects : List Object) (f : Filled) → Means (element_of t place x objects f) (IsWritten t x objects f) (WrittenFault t place x)
+written_means : (t : CType) (place : ℕ) (x : AnExpression) (objects : List Object) (f : Filled) → Means (element_of t place x objects f) (IsWritten t x objects f) (WrittenFault t place x)
 unfolding element_of
 written_means types.Void place x objects f = means_bad place BadType
 written_means (types.Integer b) place x objects f = integer_means b place x f

@@ -4,13 +4,13 @@ use Rattle.c_types.specs.declared.types.CType.{CType}
 use Rattle.c_types.specs.declared.fault.TypeKind.TheVariants.{BadJump, BadType}
 use Rattle.c_types.specs.Answers.{Fault}
 use Rattle.c_types.specs.Types.{is_scalar}
-use Rattle.c_types.specs.Typed.{Term, type_of, ConvertTo}
+use Rattle.c_types.specs.Typed.{AnExpression, type_of, ConvertTo}
 use Rattle.c_typed_operators.specs.Rules.{fits}
 use Rattle.c_typed_scope.specs.declared.entry.Entry.{Entry}
 use Rattle.c_typed_scope.specs.declared.entry.Signature.{Signature}
 use Rattle.c_phrases.specs.Phrases.{AnExp}
 use Rattle.c_phrases.specs.Units.{ALocal, local_item, statement_item, AStatement, block, empty, expression, break_off, continue_on, give_back, if_then, if_else, while_loop, do_loop, for_loop, SomeItems, no_items}
-use Rattle.c_program.specs.Statements.{ADeclaration, Act, Acts, NoActs, MoreActs, DeclareOf, BlockOf, EvaluateOf, BreakOf, ContinueOf, ReturnOf, IfOf, IfElseOf, WhileOf, DoOf, ForOf}
+use Rattle.c_program.specs.Statements.{ADeclaration, AnAction, SomeActions, NoActions, MoreActions, DeclareOf, BlockOf, EvaluateOf, BreakOf, ContinueOf, ReturnOf, IfOf, IfElseOf, WhileOf, DoOf, ForOf}
 use Rattle.c_typed_expressions.specs.Phrases.{first}
 use Rattle.c_typed_expressions.specs.Relations.{Joint, FirstOf, IsTyped, FirstFault}
 use Rattle.c_typed_definition.specs.Declarations.{State, with_area}
@@ -21,21 +21,21 @@ use Rattle.c_typed_law.specs.Objects.{AreLocals, LocalsFault}
 -- names and signatures of the functions of the text
 module _ (names : List (List ℕ × Entry)) (signatures : List Signature) where
   -- a full expression
-  abbrev pub IsFull : AnExp → State → Term × State → Type 0
+  abbrev pub IsFull : AnExp → State → AnExpression × State → Type 0
   IsFull e s r = Joint (IsTyped names signatures s.scope e s.area) (λ x u. u ≡ (x.0, with_area x.1 s)) r
 
   abbrev pub FullFault : AnExp → State → Fault → Type 0
   FullFault e s f = FirstOf (IsTyped names signatures s.scope e s.area) (FirstFault names signatures s.scope e s.area) (λ x. Never) f
 
   -- a condition is an integer or a pointer
-  abbrev pub IsCondition : AnExp → State → Term × State → Type 0
+  abbrev pub IsCondition : AnExp → State → AnExpression × State → Type 0
   IsCondition e s r = Joint (IsFull e s) (λ x. Joint (With (is_scalar (type_of x.0)) (λ c. c ≡ x.0)) (λ c u. u ≡ (c, x.1))) r
 
   abbrev pub ConditionFault : AnExp → State → Fault → Type 0
   ConditionFault e s f = FirstOf (IsFull e s) (FullFault e s) (λ x. FirstOf (With (is_scalar (type_of x.0)) (λ c. c ≡ x.0)) (Lacking (is_scalar (type_of x.0)) (first e) BadType Never) (λ c. Never)) f
 
   -- a part of a for that may be left out
-  abbrev pub IsPart : Option AnExp → State → Option Term × State → Type 0
+  abbrev pub IsPart : Option AnExp → State → Option AnExpression × State → Type 0
   IsPart None s r = r ≡ (None, s)
   IsPart (Some e) s r = Joint (IsFull e s) (λ x u. u ≡ (Some x.0, x.1)) r
 
@@ -43,7 +43,7 @@ module _ (names : List (List ℕ × Entry)) (signatures : List Signature) where
   PartFault None s f = ⊥
   PartFault (Some e) s f = FirstOf (IsFull e s) (FullFault e s) (λ x. Never) f
 
-  abbrev pub IsTurn : Option AnExp → State → Option Term × State → Type 0
+  abbrev pub IsTurn : Option AnExp → State → Option AnExpression × State → Type 0
   IsTurn None s r = r ≡ (None, s)
   IsTurn (Some e) s r = Joint (IsCondition e s) (λ x u. u ≡ (Some x.0, x.1)) r
 
@@ -61,7 +61,7 @@ module _ (names : List (List ℕ × Entry)) (signatures : List Signature) where
 -- names and signatures of the functions of the text, and the result of the one that is read
 module _ (names : List (List ℕ × Entry)) (signatures : List Signature) (result_type : CType) where
   -- what is given back is converted to the function's result
-  abbrev pub IsReturn : Option AnExp → State → Act × State → Type 0
+  abbrev pub IsReturn : Option AnExp → State → AnAction × State → Type 0
   IsReturn None s r = r ≡ (ReturnOf None, s)
   IsReturn (Some e) s r = Joint (IsFull names signatures e s) (λ x. Joint (With (fits result_type x.0) (λ y. y ≡ ConvertTo result_type x.0)) (λ y u. u ≡ (ReturnOf (Some y), x.1))) r
 
@@ -71,9 +71,9 @@ module _ (names : List (List ℕ × Entry)) (signatures : List Signature) (resul
 
   -- whether a loop is around: only there stand break and continue
   abbrev mutual
-    pub IsStatement : Bool → AStatement → State → Act × State → Type 0
+    pub IsStatement : Bool → AStatement → State → AnAction × State → Type 0
     IsStatement looping (block row) s r = Joint (AreItems looping row (entered s)) (λ x u. u ≡ (BlockOf x.0, left x.1)) r
-    IsStatement looping empty s r = r ≡ (BlockOf NoActs, s)
+    IsStatement looping empty s r = r ≡ (BlockOf NoActions, s)
     IsStatement looping (expression e) s r = Joint (IsFull names signatures e s) (λ x u. u ≡ (EvaluateOf x.0, x.1)) r
     IsStatement looping (break_off at) s r = With looping (λ u. u ≡ (BreakOf, s)) r
     IsStatement looping (continue_on at) s r = With looping (λ u. u ≡ (ContinueOf, s)) r
@@ -84,10 +84,10 @@ module _ (names : List (List ℕ × Entry)) (signatures : List Signature) (resul
     IsStatement looping (do_loop at a again o c) s r = Joint (IsStatement true a s) (λ y. Joint (IsCondition names signatures c y.1) (λ x u. u ≡ (DoOf y.0 x.0, x.1))) r
     IsStatement looping (for_loop at o i c e a) s r = Joint (IsPart names signatures i s) (λ x. Joint (IsTurn names signatures c x.1) (λ y. Joint (IsPart names signatures e y.1) (λ z. Joint (IsStatement true a z.1) (λ w u. u ≡ (ForOf x.0 y.0 z.0 w.0, w.1))))) r
 
-    pub AreItems : Bool → SomeItems → State → Acts × State → Type 0
-    AreItems looping no_items s r = r ≡ (NoActs, s)
-    AreItems looping (local_item l rest) s r = Joint (IsDeclared names signatures l s) (λ x. Joint (AreItems looping rest x.1) (λ y u. u ≡ (MoreActs (DeclareOf x.0) y.0, y.1))) r
-    AreItems looping (statement_item a rest) s r = Joint (IsStatement looping a s) (λ x. Joint (AreItems looping rest x.1) (λ y u. u ≡ (MoreActs x.0 y.0, y.1))) r
+    pub AreItems : Bool → SomeItems → State → SomeActions × State → Type 0
+    AreItems looping no_items s r = r ≡ (NoActions, s)
+    AreItems looping (local_item l rest) s r = Joint (IsDeclared names signatures l s) (λ x. Joint (AreItems looping rest x.1) (λ y u. u ≡ (MoreActions (DeclareOf x.0) y.0, y.1))) r
+    AreItems looping (statement_item a rest) s r = Joint (IsStatement looping a s) (λ x. Joint (AreItems looping rest x.1) (λ y u. u ≡ (MoreActions x.0 y.0, y.1))) r
 
   abbrev mutual
     pub StatementFault : Bool → AStatement → State → Fault → Type 0

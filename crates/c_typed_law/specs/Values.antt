@@ -7,7 +7,7 @@ use Rattle.c_types.specs.declared.types.Integer.{Integer}
 use Rattle.c_types.specs.declared.fault.TypeKind.TheVariants.{BadConst, BadType}
 use Rattle.c_types.specs.Answers.{Fault}
 use Rattle.c_types.specs.Types.{same_type, integer_size, is_integer}
-use Rattle.c_types.specs.Typed.{Term, type_of, is_null}
+use Rattle.c_types.specs.Typed.{AnExpression, type_of, is_null}
 use Rattle.c_types.specs.Constants.{constant_of}
 use Rattle.c_typed_operators.specs.Table.{NoRow}
 use Rattle.c_typed_scope.specs.declared.entry.Entry.{Entry}
@@ -21,35 +21,35 @@ use Rattle.c_typed_expressions.specs.Relations.{Joint, FirstOf, IsTyped, FirstFa
 use Rattle.c_typed_law.specs.Tests.{With, Lacking, Never, IsFault}
 
 -- an integer's initialiser: a constant of an integer type
-abbrev pub IsIntegerValue : Integer → Term → Filled → Filled → Type 0
+abbrev pub IsIntegerValue : Integer → AnExpression → Filled → Filled → Type 0
 IsIntegerValue b x f g = Joint (λ v. constant_of x ≡ Some v) (λ v. With (is_integer (type_of x)) (λ u. u ≡ with_value (integer_size b) v f)) g
 
-abbrev pub IntegerFault : ℕ → Term → Fault → Type 0
+abbrev pub IntegerFault : ℕ → AnExpression → Fault → Type 0
 IntegerFault place x f = FirstOf (λ v. constant_of x ≡ Some v) (NoRow (λ v. constant_of x ≡ Some v) place BadConst) (λ v. Lacking (is_integer (type_of x)) place BadType Never) f
 
 -- a pointer's initialiser: an object's address of its own type
-abbrev pub IsAddressValue : CType → Term → List Object → Filled → Filled → Type 0
+abbrev pub IsAddressValue : CType → AnExpression → List Object → Filled → Filled → Type 0
 IsAddressValue t x objects f g = Joint (λ n. linked x ≡ Some n) (λ n. With (same_type t (type_of x)) (λ u. u ≡ with_link objects n f)) g
 
-abbrev pub AddressFault : CType → ℕ → Term → Fault → Type 0
+abbrev pub AddressFault : CType → ℕ → AnExpression → Fault → Type 0
 AddressFault t place x f = FirstOf (λ n. linked x ≡ Some n) (NoRow (λ n. linked x ≡ Some n) place BadConst) (λ n. Lacking (same_type t (type_of x)) place BadType Never) f
 
 -- or the null constant
-pub data IsPointerValue (t : CType) (x : Term) (objects : List Object) (f g : Filled) : Type 0 where
+pub data IsPointerValue (t : CType) (x : AnExpression) (objects : List Object) (f g : Filled) : Type 0 where
   Null : (null : is_null x ≡ true) (is : g ≡ with_value 4 0 f) → IsPointerValue t x objects f g
   Address : (other : is_null x ≡ false) (address : IsAddressValue t x objects f g) → IsPointerValue t x objects f g
 
-pub record PointerFault (t : CType) (place : ℕ) (x : Term) (f : Fault) : Type 0 where
+pub record PointerFault (t : CType) (place : ℕ) (x : AnExpression) (f : Fault) : Type 0 where
   pub other : is_null x ≡ false
   pub address : AddressFault t place x f
 
 -- what one initialiser adds to the bytes and links that are written
-abbrev pub IsWritten : CType → Term → List Object → Filled → Filled → Type 0
+abbrev pub IsWritten : CType → AnExpression → List Object → Filled → Filled → Type 0
 IsWritten types.Void x objects f g = ⊥
 IsWritten (types.Integer b) x objects f g = IsIntegerValue b x f g
 IsWritten (types.Pointer b n) x objects f g = IsPointerValue (types.Pointer b n) x objects f g
 
-abbrev pub WrittenFault : CType → ℕ → Term → Fault → Type 0
+abbrev pub WrittenFault : CType → ℕ → AnExpression → Fault → Type 0
 WrittenFault types.Void place x f = IsFault place BadType f
 WrittenFault (types.Integer b) place x f = IntegerFault place x f
 WrittenFault (types.Pointer b n) place x f = PointerFault (types.Pointer b n) place x f

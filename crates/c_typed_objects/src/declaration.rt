@@ -6,7 +6,7 @@ ghost use Rattle.c_typed_scope.specs.Answers.{Turns};
 ghost use Rattle.c_typed_objects.specs.Views.{state};
 ghost use Rattle.c_typed_definition.specs.Declarations.{begun, type_automatic, type_local, type_locals};
 
-use crate::desk::{Desk, declare};
+use crate::environment::{Environment, declare};
 use crate::form::check_automatic;
 use crate::objects::object;
 use c_phrases::operator::{Spec, Storage};
@@ -26,9 +26,9 @@ fn begin(
     of: CType,
     number: u32,
     given: &Option<Initialised>,
-    desk: &mut Desk,
+    environment: &mut Environment,
 ) -> Result<Declaration, TypeFault>
-    ensures { Turns (λ x. declaration x) result (state desk.new) (begun functions.now.names functions.now.signatures.items of number (init_in (initialised_of given.now)) (state desk.old)) }
+    ensures { Turns (λ x. declaration x) result (state environment.new) (begun functions.now.names functions.now.signatures.items of number (init_in (initialised_of given.now)) (state environment.old)) }
 {
     let Some(given) = given else {
         return Ok(Declaration::Clear(number));
@@ -36,7 +36,13 @@ fn begin(
     match &given.with {
         Initialiser::List { .. } => Ok(Declaration::Clear(number)),
         Initialiser::Value(e) => {
-            let x = expression(alloc, functions, &desk.blocks, e, &mut desk.layout)?;
+            let x = expression(
+                alloc,
+                functions,
+                &environment.blocks,
+                e,
+                &mut environment.layout,
+            )?;
             let x = give(alloc, of, first(e), x)?;
             Ok(Declaration::Begin(number, x))
         }
@@ -52,21 +58,21 @@ fn automatic(
     functions: &Functions,
     spec: Spec,
     d: &Declarator,
-    desk: &mut Desk,
+    environment: &mut Environment,
 ) -> Result<Declaration, TypeFault>
-    ensures { Turns (λ x. declaration x) result (state desk.new) (type_automatic functions.now.names functions.now.signatures.items spec (declarator_of d.now) (state desk.old)) }
+    ensures { Turns (λ x. declaration x) result (state environment.new) (type_automatic functions.now.names functions.now.signatures.items spec (declarator_of d.now) (state environment.old)) }
 {
     let of = written(spec, &d.stars);
-    check_automatic(of, d, &desk.blocks)?;
-    let number = desk.locals.len();
+    check_automatic(of, d, &environment.blocks)?;
+    let number = environment.locals.len();
     if number > 0xffff_ffff {
         return Err(TypeFault::NoMemory);
     }
     let number = number as u32;
     let entry = Entry::Variable(of, Variable::Automatic(number));
-    declare(alloc, &mut desk.blocks, &d.name, entry)?;
-    desk.locals.push(of)?;
-    begin(alloc, functions, of, number, &d.initialiser, desk)
+    declare(alloc, &mut environment.blocks, &d.name, entry)?;
+    environment.locals.push(of)?;
+    begin(alloc, functions, of, number, &d.initialiser, environment)
 }
 
 fn local(
@@ -75,15 +81,15 @@ fn local(
     storage: Storage,
     spec: Spec,
     d: &Declarator,
-    desk: &mut Desk,
+    environment: &mut Environment,
 ) -> Result<Declaration, TypeFault>
-    ensures { Turns (λ x. declaration x) result (state desk.new) (type_local functions.now.names functions.now.signatures.items storage spec (declarator_of d.now) (state desk.old)) }
+    ensures { Turns (λ x. declaration x) result (state environment.new) (type_local functions.now.names functions.now.signatures.items storage spec (declarator_of d.now) (state environment.old)) }
 {
     match storage {
-        Storage::Automatic => automatic(alloc, functions, spec, d, desk),
-        Storage::Register { .. } => automatic(alloc, functions, spec, d, desk),
+        Storage::Automatic => automatic(alloc, functions, spec, d, environment),
+        Storage::Register { .. } => automatic(alloc, functions, spec, d, environment),
         Storage::Static { .. } => {
-            let number = object(alloc, functions, true, spec, d, desk)?;
+            let number = object(alloc, functions, true, spec, d, environment)?;
             Ok(Declaration::Keep(number))
         }
     }
@@ -96,13 +102,13 @@ pub fn locals(
     storage: Storage,
     spec: Spec,
     ds: &[Declarator],
-    desk: &mut Desk,
+    environment: &mut Environment,
 ) -> Result<Vec<Declaration>, TypeFault>
-    ensures { Turns (λ v. map declaration v.items) result (state desk.new) (type_locals functions.now.names functions.now.signatures.items storage spec (declarators_of ds.now) [] (state desk.old)) }
+    ensures { Turns (λ v. map declaration v.items) result (state environment.new) (type_locals functions.now.names functions.now.signatures.items storage spec (declarators_of ds.now) [] (state environment.old)) }
 {
     let mut done = Vec::new(alloc);
     for d in ds {
-        let x = local(alloc, functions, storage, spec, d, desk)?;
+        let x = local(alloc, functions, storage, spec, d, environment)?;
         done.push(x)?;
     }
     Ok(done)

@@ -2,11 +2,11 @@
 #![tactic(auto)]
 
 pub mod declaration;
-pub mod desk;
+pub mod environment;
 pub mod form;
 pub mod initialiser;
 pub mod objects;
 
 pub use declaration::locals;
-pub use desk::Desk;
+pub use environment::Environment;
 pub use objects::object;

@@ -10,7 +10,7 @@ ghost use Rattle.c_typed_expressions.specs.Phrases.{init_in};
 ghost use Rattle.c_typed_objects.specs.Views.{state};
 ghost use Rattle.c_typed_definition.specs.Declarations.{variable_of, label_of, counted_static, length_in, literals_in, contents_of, laid, plain_object, array_object, type_object};
 
-use crate::desk::{Desk, declare};
+use crate::environment::{Environment, declare};
 use crate::form::{check_form, given_count, own_length, text_of};
 use crate::initialiser::{array_length, element, elements};
 use c_phrases::operator::Spec;
@@ -145,17 +145,17 @@ fn declare_object(
     entry: Entry,
     number: u32,
     size: u32,
-    desk: &mut Desk,
+    environment: &mut Environment,
 ) -> Result<u32, TypeFault>
-    requires { find desk.old.blocks.here d.now.name ≡ None }
-    ensures { Turns (λ n. n) result (state desk.new) (object_with functions.now.names functions.now.signatures.items number size of is_array (declarator_of d.now) entry (state desk.old)) }
+    requires { find environment.old.blocks.here d.now.name ≡ None }
+    ensures { Turns (λ n. n) result (state environment.new) (object_with functions.now.names functions.now.signatures.items number size of is_array (declarator_of d.now) entry (state environment.old)) }
 {
-    declare(alloc, &mut desk.blocks, &d.name, entry)?;
-    let layout = &mut desk.layout;
+    declare(alloc, &mut environment.blocks, &d.name, entry)?;
+    let layout = &mut environment.layout;
     let contents = contents(
         alloc,
         functions,
-        &desk.blocks,
+        &environment.blocks,
         of,
         is_array,
         &d.initialiser,
@@ -174,11 +174,11 @@ fn plain_object(
     is_static: bool,
     of: CType,
     d: &Declarator,
-    desk: &mut Desk,
+    environment: &mut Environment,
 ) -> Result<u32, TypeFault>
-    requires free { find desk.old.blocks.here d.now.name ≡ None }
+    requires free { find environment.old.blocks.here d.now.name ≡ None }
     requires scalar { is_scalar of ≡ true }
-    ensures { Turns (λ n. n) result (state desk.new) (plain_object functions.now.names functions.now.signatures.items is_static of (declarator_of d.now) (state desk.old)) }
+    ensures { Turns (λ n. n) result (state environment.new) (plain_object functions.now.names functions.now.signatures.items is_static of (declarator_of d.now) (state environment.old)) }
 {
     let size = of.size();
     let number = lay_variable(
@@ -188,10 +188,20 @@ fn plain_object(
         &d.name,
         size,
         size,
-        &mut desk.layout,
+        &mut environment.layout,
     )?;
     let entry = Entry::Variable(of, variable_of(is_static, number));
-    declare_object(alloc, functions, of, false, d, entry, number, size, desk)
+    declare_object(
+        alloc,
+        functions,
+        of,
+        false,
+        d,
+        entry,
+        number,
+        size,
+        environment,
+    )
 }
 
 // The entry of an array holds the type of its first element's address.
@@ -222,11 +232,11 @@ fn counted_array(
     d: &Declarator,
     length: &Option<Expr>,
     count: u32,
-    desk: &mut Desk,
+    environment: &mut Environment,
 ) -> Result<u32, TypeFault>
-    requires free { find desk.old.blocks.here d.now.name ≡ None }
+    requires free { find environment.old.blocks.here d.now.name ≡ None }
     requires scalar { is_scalar of ≡ true }
-    ensures { Turns (λ n. n) result (state desk.new) (counted_array functions.now.names functions.now.signatures.items is_static of (declarator_of d.now) (part length.now) count (state desk.old)) }
+    ensures { Turns (λ n. n) result (state environment.new) (counted_array functions.now.names functions.now.signatures.items is_static of (declarator_of d.now) (part length.now) count (state environment.old)) }
 {
     let size = u64::from(count) * u64::from(of.size());
     if size > 0xffff_ffff {
@@ -243,11 +253,27 @@ fn counted_array(
         &d.name,
         of.size(),
         size,
-        &mut desk.layout,
+        &mut environment.layout,
     )?;
-    lay_literals(alloc, functions, &desk.blocks, length, &mut desk.layout)?;
+    lay_literals(
+        alloc,
+        functions,
+        &environment.blocks,
+        length,
+        &mut environment.layout,
+    )?;
     let entry = array_entry(of, variable_of(is_static, number), size)?;
-    declare_object(alloc, functions, of, true, d, entry, number, size, desk)
+    declare_object(
+        alloc,
+        functions,
+        of,
+        true,
+        d,
+        entry,
+        number,
+        size,
+        environment,
+    )
 }
 
 #[tactic(auto, unfolding(c_typed_definition::specs::Declarations::array_object, c_typed_definition::specs::Forms::many))]
@@ -258,17 +284,17 @@ fn array_object(
     of: CType,
     d: &Declarator,
     length: &Option<Expr>,
-    desk: &mut Desk,
+    environment: &mut Environment,
 ) -> Result<u32, TypeFault>
-    requires free { find desk.old.blocks.here d.now.name ≡ None }
+    requires free { find environment.old.blocks.here d.now.name ≡ None }
     requires scalar { is_scalar of ≡ true }
-    ensures { Turns (λ n. n) result (state desk.new) (array_object functions.now.names functions.now.signatures.items is_static of (declarator_of d.now) (part length.now) (state desk.old)) }
+    ensures { Turns (λ n. n) result (state environment.new) (array_object functions.now.names functions.now.signatures.items is_static of (declarator_of d.now) (part length.now) (state environment.old)) }
 {
-    let layout = &mut desk.layout;
+    let layout = &mut environment.layout;
     let count = measure(
         alloc,
         functions,
-        &desk.blocks,
+        &environment.blocks,
         length,
         &d.initialiser,
         layout,
@@ -279,7 +305,16 @@ fn array_object(
             kind: TypeKind::BadInit,
         });
     }
-    counted_array(alloc, functions, is_static, of, d, length, count, desk)
+    counted_array(
+        alloc,
+        functions,
+        is_static,
+        of,
+        d,
+        length,
+        count,
+        environment,
+    )
 }
 
 /// A global variable or a static local: the number of its object, and the variable in scope.
@@ -290,14 +325,22 @@ pub fn object(
     is_static: bool,
     spec: Spec,
     d: &Declarator,
-    desk: &mut Desk,
+    environment: &mut Environment,
 ) -> Result<u32, TypeFault>
-    ensures { Turns (λ n. n) result (state desk.new) (type_object functions.now.names functions.now.signatures.items is_static spec (declarator_of d.now) (state desk.old)) }
+    ensures { Turns (λ n. n) result (state environment.new) (type_object functions.now.names functions.now.signatures.items is_static spec (declarator_of d.now) (state environment.old)) }
 {
     let of = written(spec, &d.stars);
-    check_form(of, d, &desk.blocks)?;
+    check_form(of, d, &environment.blocks)?;
     match &d.length {
-        None => plain_object(alloc, functions, is_static, of, d, desk),
-        Some(length) => array_object(alloc, functions, is_static, of, d, &length.value, desk),
+        None => plain_object(alloc, functions, is_static, of, d, environment),
+        Some(length) => array_object(
+            alloc,
+            functions,
+            is_static,
+            of,
+            d,
+            &length.value,
+            environment,
+        ),
     }
 }

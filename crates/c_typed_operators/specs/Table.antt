@@ -14,66 +14,66 @@ use Rattle.c_types.specs.declared.fault.TypeFault.{TypeFault}
 use Rattle.c_types.specs.declared.fault.TypeFault.TheVariants as faults
 use Rattle.c_types.specs.Answers.{Fault}
 use Rattle.c_types.specs.Types.{same_type}
-use Rattle.c_types.specs.Typed.{Term, ArithmeticOf, CompareOf, BothOf, EitherOf, AdvanceOf, AdvanceByOf, RetreatOf, DistanceOf, type_of, is_null}
+use Rattle.c_types.specs.Typed.{AnExpression, ArithmeticOf, CompareOf, BothOf, EitherOf, AdvanceOf, AdvanceByOf, RetreatOf, DistanceOf, type_of, is_null}
 use Rattle.c_types.specs.Types.{is_scalar}
 
 -- an operand of an integer type
-pub record IsInteger (x : Term) : Type 0 where
+pub record IsInteger (x : AnExpression) : Type 0 where
   pub of : integers.Integer
   pub is : type_of x ≡ Integer of
 
 -- an operand of a pointer type
-pub record IsPointer (x : Term) : Type 0 where
+pub record IsPointer (x : AnExpression) : Type 0 where
   pub to : integers.Integer
   pub stars : ℕ
   pub is : type_of x ≡ Pointer to stars
 
 -- two pointers of one type
-pub record ArePointers (x y : Term) : Type 0 where
+pub record ArePointers (x y : AnExpression) : Type 0 where
   pub left : IsPointer x
   pub right : IsPointer y
   pub same : same_type (type_of x) (type_of y) ≡ true
 
-pub record IsArithmetic (op : ArithmeticOperator) (x y t : Term) : Type 0 where
+pub record IsArithmetic (op : ArithmeticOperator) (x y t : AnExpression) : Type 0 where
   pub left : IsInteger x
   pub right : IsInteger y
   pub is : t ≡ ArithmeticOf op x y
 
 -- two integers, or a pointer and an integer in either order
-pub data IsSum (x y t : Term) : Type 0 where
+pub data IsSum (x y t : AnExpression) : Type 0 where
   SumOfIntegers : (row : IsArithmetic ariths.Add x y t) → IsSum x y t
   PointerPlus : (left : IsPointer x) (right : IsInteger y) (is : t ≡ AdvanceOf (type_of x) x y) → IsSum x y t
   PlusPointer : (left : IsInteger x) (right : IsPointer y) (is : t ≡ AdvanceByOf (type_of y) x y) → IsSum x y t
 
 -- two integers, a pointer and an integer, or two pointers of one type
-pub data IsDifference (x y t : Term) : Type 0 where
+pub data IsDifference (x y t : AnExpression) : Type 0 where
   DifferenceOfIntegers : (row : IsArithmetic ariths.Subtract x y t) → IsDifference x y t
   PointerMinus : (left : IsPointer x) (right : IsInteger y) (is : t ≡ RetreatOf (type_of x) x y) → IsDifference x y t
   DifferenceOfPointers : (both : ArePointers x y) (is : t ≡ DistanceOf (type_of x) x y) → IsDifference x y t
 
 -- two integers by the signed relation, or two pointers of one type by the unsigned one
-pub data IsOrdered (signed unsigned : Rel) (x y t : Term) : Type 0 where
+pub data IsOrdered (signed unsigned : Rel) (x y t : AnExpression) : Type 0 where
   OrderOfIntegers : (left : IsInteger x) (right : IsInteger y) (is : t ≡ CompareOf signed x y) → IsOrdered signed unsigned x y t
   OrderOfPointers : (both : ArePointers x y) (is : t ≡ CompareOf unsigned x y) → IsOrdered signed unsigned x y t
 
 -- two integers, two pointers of one type, or a pointer and the null constant in either order
-pub data AreComparable (x y : Term) : Type 0 where
+pub data AreComparable (x y : AnExpression) : Type 0 where
   TwoIntegers : (left : IsInteger x) (right : IsInteger y) → AreComparable x y
   TwoPointers : (both : ArePointers x y) → AreComparable x y
   PointerAndNull : (left : IsPointer x) (right : is_null y ≡ true) → AreComparable x y
   NullAndPointer : (left : is_null x ≡ true) (integer : IsInteger x) (right : IsPointer y) → AreComparable x y
 
-pub record IsEquality (rel : Rel) (x y t : Term) : Type 0 where
+pub record IsEquality (rel : Rel) (x y t : AnExpression) : Type 0 where
   pub operands : AreComparable x y
   pub is : t ≡ CompareOf rel x y
 
 -- each an integer or a pointer
-pub record IsLogical (whole : Term) (x y t : Term) : Type 0 where
+pub record IsLogical (whole : AnExpression) (x y t : AnExpression) : Type 0 where
   pub left : is_scalar (type_of x) ≡ true
   pub right : is_scalar (type_of y) ≡ true
   pub is : t ≡ whole
 
-abbrev pub IsBinary : BinaryOperator → Term → Term → Term → Type 0
+abbrev pub IsBinary : BinaryOperator → AnExpression → AnExpression → AnExpression → Type 0
 IsBinary binaries.OrOr x y t = IsLogical (EitherOf x y) x y t
 IsBinary binaries.AndAnd x y t = IsLogical (BothOf x y) x y t
 IsBinary binaries.Or x y t = IsArithmetic ariths.Or x y t

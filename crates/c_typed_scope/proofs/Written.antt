@@ -10,7 +10,7 @@ use Rattle.std.proofs.Common.{Bool, true, false, cond, Result, Ok, Err}
 use Rattle.std.specs.Fmt.{decimal}
 use Rattle.c_types.specs.declared.fault.TypeKind.TheVariants.{DataFull}
 use Rattle.c_types.specs.Answers.{Fault, bad, ◌>>=◌}
-use Rattle.c_types.specs.Typed.{Term, LiteralAt}
+use Rattle.c_types.specs.Typed.{AnExpression, LiteralAt}
 use Rattle.c_typed_scope.specs.Layout.{Area, aligned, placed, literal, one_more_literal, with_object}
 use Rattle.c_typed_scope.specs.Contents.{low_bytes, address_at, Filled, holding, with_contents}
 

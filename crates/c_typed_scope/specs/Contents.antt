@@ -10,7 +10,7 @@ use Rattle.c_types.specs.declared.typed.Variable.TheVariants as variables
 use Rattle.c_types.specs.declared.fault.TypeKind.TheVariants.{BadConst, BadType}
 use Rattle.c_types.specs.Answers.{Fault, bad, ◌>>=◌}
 use Rattle.c_types.specs.Types.{same_type, integer_size, is_integer}
-use Rattle.c_types.specs.Typed.{PlaceTerm, VariableAt, Term, LiteralAt, ArrayAt, AddressOf, type_of, is_null}
+use Rattle.c_types.specs.Typed.{APlace, VariableAt, AnExpression, LiteralAt, ArrayAt, AddressOf, type_of, is_null}
 use Rattle.c_types.specs.Constants.{constant_of}
 use Rattle.c_typed_scope.specs.Layout.{Area}
 
@@ -23,15 +23,15 @@ abbrev pub in_range : Option ℕ → Option ℕ
 in_range None = None
 in_range (Some v) = if nat_lt 0 v && nat_lt v 1048577 then Some v else None
 
-unfoldable pub length_of : Term → Option ℕ
+unfoldable pub length_of : AnExpression → Option ℕ
 length_of x = if is_integer (type_of x) then in_range (constant_of x) else None
 
 -- the object whose address a pointer may be initialised with: a literal, a global array, or & of a global variable
-abbrev pub linked_place : PlaceTerm → Option ℕ
+abbrev pub linked_place : APlace → Option ℕ
 linked_place (VariableAt t (variables.Global n)) = Some n
 linked_place _ = None
 
-unfoldable pub linked : Term → Option ℕ
+unfoldable pub linked : AnExpression → Option ℕ
 linked (LiteralAt n size) = Some n
 linked (ArrayAt t (variables.Global n) size) = Some n
 linked (AddressOf t p) = linked_place p
@@ -79,18 +79,18 @@ unfoldable pub filled : ℕ → Filled → Area → Area
 filled n f a = record { objects = with_contents n f a.objects; end = a.end; literals = a.literals; statics = a.statics; measuring = a.measuring }
 
 -- an initialiser of an integer type is a constant
-abbrev pub integer_element : Integer → ℕ → Term → Filled → Result Filled Fault
+abbrev pub integer_element : Integer → ℕ → AnExpression → Filled → Result Filled Fault
 integer_element b place x f = wanted (constant_of x) place >>= λ v. if is_integer (type_of x) then Ok (with_value (integer_size b) v f) else bad place BadType
 
-abbrev pub linked_element : CType → ℕ → Term → List Object → Filled → Result Filled Fault
+abbrev pub linked_element : CType → ℕ → AnExpression → List Object → Filled → Result Filled Fault
 linked_element t place x objects f = wanted (linked x) place >>= λ n. if same_type t (type_of x) then Ok (with_link objects n f) else bad place BadType
 
 -- an initialiser of a pointer type is the null constant or an object's address
-abbrev pub pointer_element : CType → ℕ → Term → List Object → Filled → Result Filled Fault
+abbrev pub pointer_element : CType → ℕ → AnExpression → List Object → Filled → Result Filled Fault
 pointer_element t place x objects f = if is_null x then Ok (with_value 4 0 f) else linked_element t place x objects f
 
 -- one element, behind those that are written
-unfoldable pub element_of : CType → ℕ → Term → List Object → Filled → Result Filled Fault
+unfoldable pub element_of : CType → ℕ → AnExpression → List Object → Filled → Result Filled Fault
 element_of types.Void place x objects f = bad place BadType
 element_of (types.Integer b) place x objects f = integer_element b place x f
 element_of (types.Pointer b n) place x objects f = pointer_element (types.Pointer b n) place x objects f

@@ -5,7 +5,7 @@ use Rattle.tree_core.specs.declared.program.Object.{Object}
 use Rattle.tree_core.specs.declared.program.Link.{Link}
 use Rattle.c_types.specs.declared.fault.TypeKind.TheVariants.{DataFull}
 use Rattle.c_types.specs.Answers.{Fault, bad, ◌>>=◌}
-use Rattle.c_types.specs.Typed.{Term, LiteralAt}
+use Rattle.c_types.specs.Typed.{AnExpression, LiteralAt}
 
 -- The objects so far, the end of the last, and how many literals and static locals have one. While a length is measured, literals take no room.
 pub record Area : Type 0 where
@@ -34,7 +34,7 @@ abbrev pub one_more_literal : Area → Area
 one_more_literal a = record { objects = a.objects; end = a.end; literals = a.literals + 1; statics = a.statics; measuring = a.measuring }
 
 -- one byte a character, and a closing zero
-unfoldable pub literal : ℕ → List ℕ → Area → Result (Term × Area) Fault
+unfoldable pub literal : ℕ → List ℕ → Area → Result (AnExpression × Area) Fault
 literal at bytes a =
     if a.measuring then Ok (LiteralAt 0 (length bytes + 1), a)
     else placed at (83 ∷ decimal a.literals) 1 (length bytes + 1) (bytes ++ 0 ∷ []) a >>= λ r. Ok (LiteralAt r.0 (length bytes + 1), one_more_literal r.1)

@@ -20,7 +20,7 @@ use Rattle.c_program.specs.declared.statement.Action.{Action}
 use Rattle.c_program.specs.declared.statement.Action.TheVariants as actions
 use Rattle.c_program.proofs.Rows.{act_block}
 use Rattle.c_typed_definition.specs.Declarations.{State}
-use Rattle.c_program.specs.Statements.{Act, Acts, NoActs, MoreActs, DeclareOf, BlockOf, act, acts}
+use Rattle.c_program.specs.Statements.{AnAction, SomeActions, NoActions, MoreActions, DeclareOf, BlockOf, act, acts}
 use Rattle.c_typed_statements.specs.Views.{scoped}
 use Rattle.c_typed_definition.specs.Statements.{entered, left, type_item, type_items, type_statement}
 
@@ -32,56 +32,56 @@ pub block_is : (s : Statement) (row : Vec Item) (list : List Item) → s ≡ stm
 block_is s row list is same = ap statement_of is ∙ ap block (items_row_is _ (hidden-the_row-Item-0 row) ∙ ap items_of (items_hidden-the_row-Item-0 row ∙ sym same))
 
 -- what was typed, in front of what is left
-abbrev pub acts_onto : List Action → Acts → Acts
+abbrev pub acts_onto : List Action → SomeActions → SomeActions
 acts_onto [] xs = xs
-acts_onto (x ∷ done) xs = MoreActs (act x) (acts_onto done xs)
+acts_onto (x ∷ done) xs = MoreActions (act x) (acts_onto done xs)
 
-abbrev pub onto : List Action → Result (Acts × State) Fault → Result (Acts × State) Fault
+abbrev pub onto : List Action → Result (SomeActions × State) Fault → Result (SomeActions × State) Fault
 onto done m = m >>= λ r. Ok (acts_onto done r.0, r.1)
 
-onto_push : (done : List Action) (x : Action) (xs : Acts) → acts_onto (done ++ x ∷ []) xs ≡ acts_onto done (MoreActs (act x) xs)
+onto_push : (done : List Action) (x : Action) (xs : SomeActions) → acts_onto (done ++ x ∷ []) xs ≡ acts_onto done (MoreActions (act x) xs)
 onto_push [] x xs = refl
-onto_push (y ∷ done) x xs = ap (MoreActs (act y)) (onto_push done x xs)
+onto_push (y ∷ done) x xs = ap (MoreActions (act y)) (onto_push done x xs)
 
-onto_more : (done : List Action) (x : Action) (m : Result (Acts × State) Fault) → onto (done ++ x ∷ []) m ≡ onto done (m >>= λ b. Ok (MoreActs (act x) b.0, b.1))
+onto_more : (done : List Action) (x : Action) (m : Result (SomeActions × State) Fault) → onto (done ++ x ∷ []) m ≡ onto done (m >>= λ b. Ok (MoreActions (act x) b.0, b.1))
 onto_more done x (Ok r) = ap (λ a. Ok (a, r.1)) (onto_push done x r.0)
 onto_more done x (Err e) = refl
 
-onto_end : (done : List Action) → acts_onto done NoActs ≡ acts done
+onto_end : (done : List Action) → acts_onto done NoActions ≡ acts done
 onto_end [] = refl
-onto_end (x ∷ done) = ap (MoreActs (act x)) (onto_end done)
+onto_end (x ∷ done) = ap (MoreActions (act x)) (onto_end done)
 
-onto_none : (m : Result (Acts × State) Fault) → m ≡ onto [] m
+onto_none : (m : Result (SomeActions × State) Fault) → m ≡ onto [] m
 onto_none (Ok r) = refl
 onto_none (Err e) = refl
 
-abbrev joined : {B : Type 0} → (B → Acts → Acts) → B → Acts × State → Result (Acts × State) Fault
+abbrev joined : {B : Type 0} → (B → SomeActions → SomeActions) → B → SomeActions × State → Result (SomeActions × State) Fault
 joined g b q = Ok (g b q.0, q.1)
 
 abbrev renamed : {A B : Type 0} → (A → B) → A × State → Result (B × State) Fault
 renamed f r = Ok (f r.0, r.1)
 
-after_locals : {A B : Type 0} (m : Result (A × State) Fault) (f : A → B) (k : State → Result (Acts × State) Fault) (g : B → Acts → Acts) → (m >>= λ r. k r.1 >>= joined g (f r.0)) ≡ ((m >>= renamed f) >>= λ r. k r.1 >>= joined g r.0)
+after_locals : {A B : Type 0} (m : Result (A × State) Fault) (f : A → B) (k : State → Result (SomeActions × State) Fault) (g : B → SomeActions → SomeActions) → (m >>= λ r. k r.1 >>= joined g (f r.0)) ≡ ((m >>= renamed f) >>= λ r. k r.1 >>= joined g r.0)
 after_locals (Ok r) f k g = refl
 after_locals (Err e) f k g = refl
 
-abbrev as_block : Acts × State → Result (Act × State) Fault
+abbrev as_block : SomeActions × State → Result (AnAction × State) Fault
 as_block r = Ok (BlockOf r.0, left r.1)
 
-abbrev block_pair : Acts × State → Result (Act × State) Fault
+abbrev block_pair : SomeActions × State → Result (AnAction × State) Fault
 block_pair p = Ok (BlockOf p.0, p.1)
 
-abbrev answered : Acts × State → Result (Acts × State) Fault
+abbrev answered : SomeActions × State → Result (SomeActions × State) Fault
 answered p = Ok p
 
-same_pair : (x y : Acts × State) → answered x ≡ answered y → x ≡ y
+same_pair : (x y : SomeActions × State) → answered x ≡ answered y → x ≡ y
 same_pair x y h = cc
 
-blocked : (m : Result (Acts × State) Fault) (xs : Acts) (after : State) → scoped m ≡ Ok (xs, after) → (m >>= as_block) ≡ Ok (BlockOf xs, after)
+blocked : (m : Result (SomeActions × State) Fault) (xs : SomeActions) (after : State) → scoped m ≡ Ok (xs, after) → (m >>= as_block) ≡ Ok (BlockOf xs, after)
 blocked (Ok r) xs after h = ap block_pair (same_pair (r.0, left r.1) (xs, after) h)
 blocked (Err e) xs after h = absurd (cc)
 
-unblocked : (m : Result (Acts × State) Fault) (place : ℕ) (kind : TypeKind) → scoped m ≡ bad place kind → (m >>= as_block) ≡ bad place kind
+unblocked : (m : Result (SomeActions × State) Fault) (place : ℕ) (kind : TypeKind) → scoped m ≡ bad place kind → (m >>= as_block) ≡ bad place kind
 unblocked (Ok r) place kind h = absurd (cc)
 unblocked (Err e) place kind h =
     let same : e ≡ record { place = place; kind = kind } = cc in
@@ -89,14 +89,14 @@ unblocked (Err e) place kind h =
 
 module _ (names : List (List ℕ × Entry)) (signatures : List Signature) (gives : CType) (looping : Bool) where
   -- the first of a block's items, and then the others
-  abbrev one : Item → State → Result (Act × State) Fault
+  abbrev one : Item → State → Result (AnAction × State) Fault
   one i st = type_item names signatures gives looping (item_onto i no_items) st
 
-  abbrev all : List Item → State → Result (Acts × State) Fault
+  abbrev all : List Item → State → Result (SomeActions × State) Fault
   all is st = type_items names signatures gives looping (items_of is) st
 
-  pub first_and_rest : (i : Item) (rest : List Item) (st : State) → all (i ∷ rest) st ≡ (one i st >>= λ r. all rest r.1 >>= λ q. Ok (MoreActs r.0 q.0, q.1))
-  first_and_rest (items.Local l) rest st = after_locals _ DeclareOf (λ t. all rest t) MoreActs
+  pub first_and_rest : (i : Item) (rest : List Item) (st : State) → all (i ∷ rest) st ≡ (one i st >>= λ r. all rest r.1 >>= λ q. Ok (MoreActions r.0 q.0, q.1))
+  first_and_rest (items.Local l) rest st = after_locals _ DeclareOf (λ t. all rest t) MoreActions
   first_and_rest (items.Statement s) rest st = refl
 
   pub record SoFar (is : List Item) (old : State) (done : List Action) (left : List Item) (st : State) : Type 0 where

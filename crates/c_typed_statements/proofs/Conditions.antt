@@ -5,7 +5,7 @@ use Rattle.c_types.specs.declared.fault.TypeFault.{TypeFault}
 use Rattle.c_types.specs.declared.fault.TypeFault.TheVariants.{NoMemory, At}
 use Rattle.c_types.specs.declared.typed.Expression.{Expression}
 use Rattle.c_types.specs.Answers.{Fault, bad, ◌>>=◌, Fails, Gives}
-use Rattle.c_types.specs.Typed.{Term, term}
+use Rattle.c_types.specs.Typed.{AnExpression, term}
 use Rattle.c_typed_operators.specs.Rules.{condition_of}
 use Rattle.c_typed_scope.specs.declared.entry.Entry.{Entry}
 use Rattle.c_typed_scope.specs.declared.entry.Signature.{Signature}
@@ -23,7 +23,7 @@ module _ (names : List (List ℕ × Entry)) (signatures : List Signature) where
   full_turns e s b (Err NoMemory) h = tt
   full_turns e s b (Err (At place kind)) h = rw h refl
 
-  pub condition_turns : (e : AnExp) (s t : State) (x : Term) (place : ℕ) (result : Result Expression TypeFault) → type_full names signatures e s ≡ Ok (x, t) → place ≡ first e → Gives (λ y. term y) result (condition_of place x) → Turns (λ y. term y) result t (type_condition names signatures e s)
+  pub condition_turns : (e : AnExp) (s t : State) (x : AnExpression) (place : ℕ) (result : Result Expression TypeFault) → type_full names signatures e s ≡ Ok (x, t) → place ≡ first e → Gives (λ y. term y) result (condition_of place x) → Turns (λ y. term y) result t (type_condition names signatures e s)
   unfolding type_condition
   condition_turns e s t x place (Ok y) typed at h = rw (typed, ← at, h) refl
   condition_turns e s t x place (Err NoMemory) typed at h = tt

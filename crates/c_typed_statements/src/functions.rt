@@ -21,8 +21,8 @@ use c_program::need::need;
 use c_program::{Action, Routine};
 use c_typed_expressions::Functions;
 use c_typed_expressions::phrase::{integer_of, written};
-use c_typed_objects::Desk;
-use c_typed_objects::desk::declare;
+use c_typed_objects::Environment;
+use c_typed_objects::environment::declare;
 use c_typed_objects::initialiser::array_length;
 use c_typed_scope::{Block, Blocks, Data, Entry, Signature};
 use c_types::fault::bad_type;
@@ -33,7 +33,7 @@ use std::alloc::Global;
 /// A text so far: what is in scope, the functions that were declared, and those that are typed.
 #[derive(Drop)]
 pub struct Builder {
-    pub desk: Desk,
+    pub environment: Environment,
     pub declared: Vec<Signature>,
     pub routines: Vec<Routine>,
 }
@@ -178,12 +178,18 @@ fn declare_parameter(
     at: u32,
     number: usize,
     p: &Param,
-    desk: &mut Desk,
+    environment: &mut Environment,
 ) -> Result<(), TypeFault>
-    ensures { OnlyTurns result (state desk.new) (type_parameter functions.now.names functions.now.signatures.items defines at (param_of p.now) number (state desk.old)) }
+    ensures { OnlyTurns result (state environment.new) (type_parameter functions.now.names functions.now.signatures.items defines at (param_of p.now) number (state environment.old)) }
 {
-    check_parameter(defines, at, p, &desk.blocks)?;
-    measure_parameter(alloc, functions, &desk.blocks, &p.length, &mut desk.layout)?;
+    check_parameter(defines, at, p, &environment.blocks)?;
+    measure_parameter(
+        alloc,
+        functions,
+        &environment.blocks,
+        &p.length,
+        &mut environment.layout,
+    )?;
     match &p.name {
         None => Ok(()),
         Some(name) => {
@@ -191,7 +197,7 @@ fn declare_parameter(
                 return Err(TypeFault::NoMemory);
             }
             let entry = Entry::Variable(parameter_type(p), Variable::Parameter(number as u32));
-            declare(alloc, &mut desk.blocks, &name.name, entry)?;
+            declare(alloc, &mut environment.blocks, &name.name, entry)?;
             Ok(())
         }
     }
@@ -205,12 +211,20 @@ fn declare_parameters(
     defines: bool,
     at: u32,
     params: &[Param],
-    desk: &mut Desk,
+    environment: &mut Environment,
 ) -> Result<(), TypeFault>
-    ensures { OnlyTurns result (state desk.new) (type_parameters functions.now.names functions.now.signatures.items defines at (param_list params.now) 0 (state desk.old)) }
+    ensures { OnlyTurns result (state environment.new) (type_parameters functions.now.names functions.now.signatures.items defines at (param_list params.now) 0 (state environment.old)) }
 {
     for number in 0..params.len() {
-        declare_parameter(alloc, functions, defines, at, number, &params[number], desk)?;
+        declare_parameter(
+            alloc,
+            functions,
+            defines,
+            at,
+            number,
+            &params[number],
+            environment,
+        )?;
     }
     Ok(())
 }
@@ -252,7 +266,7 @@ fn introduce(
     f: &Function,
     builder: &mut Builder,
 ) -> Result<(), TypeFault>
-    requires { earlier_by (find builder.old.desk.blocks.here f.now.name) f.now.at ≡ Ok earlier }
+    requires { earlier_by (find builder.old.environment.blocks.here f.now.name) f.now.at ≡ Ok earlier }
     ensures { OnlyTurns result (text builder.new) (Ok (with_declared earlier spec (function_of f.now) (text builder.old))) }
 {
     match earlier {
@@ -261,7 +275,7 @@ fn introduce(
             let number = builder.declared.len();
             declare(
                 alloc,
-                &mut builder.desk.blocks,
+                &mut builder.environment.blocks,
                 &f.name,
                 Entry::Function(number),
             )?;
@@ -272,19 +286,19 @@ fn introduce(
 }
 
 // The parameters and the body's outermost block are one scope.
-fn open_function(alloc: Global, desk: &mut Desk) -> Result<(), TypeFault>
-    ensures { OnlyTurns result (state desk.new) (Ok (entered_function (state desk.old))) }
+fn open_function(alloc: Global, environment: &mut Environment) -> Result<(), TypeFault>
+    ensures { OnlyTurns result (state environment.new) (Ok (entered_function (state environment.old))) }
 {
-    desk.blocks.enter(alloc)?;
-    desk.locals = Vec::new(alloc);
+    environment.blocks.enter(alloc)?;
+    environment.locals = Vec::new(alloc);
     Ok(())
 }
 
-fn close_function(alloc: Global, desk: &mut Desk)
-    ensures { state desk.new ≡ left_function (state desk.old) }
+fn close_function(alloc: Global, environment: &mut Environment)
+    ensures { state environment.new ≡ left_function (state environment.old) }
 {
-    desk.blocks.leave();
-    desk.locals = Vec::new(alloc);
+    environment.blocks.leave();
+    environment.locals = Vec::new(alloc);
 }
 
 // The routine of a body that is typed, with the locals that it declared.
@@ -320,12 +334,19 @@ fn define(
     row: &[Item],
     builder: &mut Builder,
 ) -> Result<(), TypeFault>
-    ensures { OnlyTurns result (text builder.new) (type_body functions.now.names functions.now.signatures.items spec (function_of f.now) (Some (items_of row.now)) (state builder.old.desk) (text builder.old)) }
+    ensures { OnlyTurns result (text builder.new) (type_body functions.now.names functions.now.signatures.items spec (function_of f.now) (Some (items_of row.now)) (state builder.old.environment) (text builder.old)) }
 {
     let result = written(spec, &f.stars);
-    let body = items(alloc, functions, result, false, row, &mut builder.desk)?;
-    let locals = std::mem::replace(&mut builder.desk.locals, Vec::new(alloc));
-    close_function(alloc, &mut builder.desk);
+    let body = items(
+        alloc,
+        functions,
+        result,
+        false,
+        row,
+        &mut builder.environment,
+    )?;
+    let locals = std::mem::replace(&mut builder.environment.locals, Vec::new(alloc));
+    close_function(alloc, &mut builder.environment);
     let routine = routine(alloc, spec, f, locals, body)?;
     builder.routines.push(routine)?;
     Ok(())
@@ -343,21 +364,21 @@ fn introduced(
 ) -> Result<(), TypeFault>
     ensures { OnlyTurns result (text builder.new) (type_introduced functions.now.names functions.now.signatures.items earlier spec (function_of f.now) (text builder.old)) }
 {
-    let desk = &mut builder.desk;
-    open_function(alloc, desk)?;
+    let environment = &mut builder.environment;
+    open_function(alloc, environment)?;
     declare_parameters(
         alloc,
         functions,
         defines(f),
         f.at,
         parameters(&f.params),
-        desk,
+        environment,
     )?;
     let mine = signature(alloc, spec, f)?;
     check_agreement(earlier, &builder.declared, &mine, f.at)?;
     match &f.body {
         None => {
-            close_function(alloc, &mut builder.desk);
+            close_function(alloc, &mut builder.environment);
             Ok(())
         }
         Some(row) => define(alloc, functions, spec, f, row, builder),
@@ -376,7 +397,7 @@ pub fn function(
 ) -> Result<(), TypeFault>
     ensures { OnlyTurns result (text builder.new) (type_function functions.now.names functions.now.signatures.items spec (function_of f.now) (text builder.old)) }
 {
-    let before = earlier(&builder.desk.blocks.here, &f.name, f.at)?;
+    let before = earlier(&builder.environment.blocks.here, &f.name, f.at)?;
     check_head(functions, defines(f), spec, f, builder.routines.len())?;
     introduce(alloc, before, spec, f, builder)?;
     introduced(alloc, functions, before, spec, f, builder)

@@ -15,7 +15,7 @@ use c_phrases::tree::{Expr, Item, Statement};
 use c_program::Action;
 use c_typed_expressions::phrase::first;
 use c_typed_expressions::{Functions, expression};
-use c_typed_objects::{Desk, locals};
+use c_typed_objects::{Environment, locals};
 use c_typed_operators::rules::{condition, give};
 use c_types::{CType, Expression, TypeFault, TypeKind};
 use std::alloc::Global;
@@ -25,11 +25,17 @@ fn full(
     alloc: Global,
     functions: &Functions,
     e: &Expr,
-    desk: &mut Desk,
+    environment: &mut Environment,
 ) -> Result<Expression, TypeFault>
-    ensures { Turns (λ t. term t) result (state desk.new) (type_full functions.now.names functions.now.signatures.items (exp e.now) (state desk.old)) }
+    ensures { Turns (λ t. term t) result (state environment.new) (type_full functions.now.names functions.now.signatures.items (exp e.now) (state environment.old)) }
 {
-    expression(alloc, functions, &desk.blocks, e, &mut desk.layout)
+    expression(
+        alloc,
+        functions,
+        &environment.blocks,
+        e,
+        &mut environment.layout,
+    )
 }
 
 #[tactic(auto, unfolding(c_typed_definition::specs::Statements::type_condition))]
@@ -37,11 +43,11 @@ fn tested(
     alloc: Global,
     functions: &Functions,
     e: &Expr,
-    desk: &mut Desk,
+    environment: &mut Environment,
 ) -> Result<Expression, TypeFault>
-    ensures { Turns (λ t. term t) result (state desk.new) (type_condition functions.now.names functions.now.signatures.items (exp e.now) (state desk.old)) }
+    ensures { Turns (λ t. term t) result (state environment.new) (type_condition functions.now.names functions.now.signatures.items (exp e.now) (state environment.old)) }
 {
-    let x = full(alloc, functions, e, desk)?;
+    let x = full(alloc, functions, e, environment)?;
     condition(first(e), x)
 }
 
@@ -49,13 +55,13 @@ fn maybe_full(
     alloc: Global,
     functions: &Functions,
     e: &Option<Expr>,
-    desk: &mut Desk,
+    environment: &mut Environment,
 ) -> Result<Option<Expression>, TypeFault>
-    ensures { Turns (λ t. maybe_term t) result (state desk.new) (type_maybe functions.now.names functions.now.signatures.items (part e.now) (state desk.old)) }
+    ensures { Turns (λ t. maybe_term t) result (state environment.new) (type_maybe functions.now.names functions.now.signatures.items (part e.now) (state environment.old)) }
 {
     match e {
         None => Ok(None),
-        Some(e) => Ok(Some(full(alloc, functions, e, desk)?)),
+        Some(e) => Ok(Some(full(alloc, functions, e, environment)?)),
     }
 }
 
@@ -63,13 +69,13 @@ fn maybe_tested(
     alloc: Global,
     functions: &Functions,
     e: &Option<Expr>,
-    desk: &mut Desk,
+    environment: &mut Environment,
 ) -> Result<Option<Expression>, TypeFault>
-    ensures { Turns (λ t. maybe_term t) result (state desk.new) (type_maybe_condition functions.now.names functions.now.signatures.items (part e.now) (state desk.old)) }
+    ensures { Turns (λ t. maybe_term t) result (state environment.new) (type_maybe_condition functions.now.names functions.now.signatures.items (part e.now) (state environment.old)) }
 {
     match e {
         None => Ok(None),
-        Some(e) => Ok(Some(tested(alloc, functions, e, desk)?)),
+        Some(e) => Ok(Some(tested(alloc, functions, e, environment)?)),
     }
 }
 
@@ -78,14 +84,14 @@ fn returned(
     functions: &Functions,
     gives: CType,
     e: &Option<Expr>,
-    desk: &mut Desk,
+    environment: &mut Environment,
 ) -> Result<Action, TypeFault>
-    ensures { Turns (λ a. act a) result (state desk.new) (type_return functions.now.names functions.now.signatures.items gives (part e.now) (state desk.old)) }
+    ensures { Turns (λ a. act a) result (state environment.new) (type_return functions.now.names functions.now.signatures.items gives (part e.now) (state environment.old)) }
 {
     match e {
         None => Ok(Action::Return(None)),
         Some(e) => {
-            let x = full(alloc, functions, e, desk)?;
+            let x = full(alloc, functions, e, environment)?;
             let x = give(alloc, gives, first(e), x)?;
             Ok(Action::Return(Some(x)))
         }
@@ -113,27 +119,27 @@ pub fn statement(
     gives: CType,
     looping: bool,
     s: &Statement,
-    desk: &mut Desk,
+    environment: &mut Environment,
 ) -> Result<Action, TypeFault>
-    ensures { Turns (λ a. act a) result (state desk.new) (type_statement functions.now.names functions.now.signatures.items gives looping (statement_of s.now) (state desk.old)) }
+    ensures { Turns (λ a. act a) result (state environment.new) (type_statement functions.now.names functions.now.signatures.items gives looping (statement_of s.now) (state environment.old)) }
 {
     match s {
         Statement::Block(row) => {
-            let actions = block(alloc, functions, gives, looping, row, desk)?;
+            let actions = block(alloc, functions, gives, looping, row, environment)?;
             Ok(Action::Block(actions))
         }
         Statement::Empty => Ok(Action::Block(Vec::new(alloc))),
-        Statement::Expr(e) => Ok(Action::Evaluate(full(alloc, functions, e, desk)?)),
+        Statement::Expr(e) => Ok(Action::Evaluate(full(alloc, functions, e, environment)?)),
         Statement::Break { at } => jump(looping, *at, Action::Break),
         Statement::Continue { at } => jump(looping, *at, Action::Continue),
-        Statement::Return { value, .. } => returned(alloc, functions, gives, value, desk),
+        Statement::Return { value, .. } => returned(alloc, functions, gives, value, environment),
         Statement::If {
             condition,
             then,
             ..
         } => {
-            let c = tested(alloc, functions, condition, desk)?;
-            let a = statement(alloc, functions, gives, looping, then, desk)?;
+            let c = tested(alloc, functions, condition, environment)?;
+            let a = statement(alloc, functions, gives, looping, then, environment)?;
             Ok(Action::If(c, Box::new(alloc, a)?))
         }
         Statement::IfElse {
@@ -142,9 +148,9 @@ pub fn statement(
             otherwise,
             ..
         } => {
-            let c = tested(alloc, functions, condition, desk)?;
-            let a = statement(alloc, functions, gives, looping, then, desk)?;
-            let b = statement(alloc, functions, gives, looping, otherwise, desk)?;
+            let c = tested(alloc, functions, condition, environment)?;
+            let a = statement(alloc, functions, gives, looping, then, environment)?;
+            let b = statement(alloc, functions, gives, looping, otherwise, environment)?;
             Ok(Action::IfElse(c, Box::new(alloc, a)?, Box::new(alloc, b)?))
         }
         Statement::While {
@@ -152,8 +158,8 @@ pub fn statement(
             body,
             ..
         } => {
-            let c = tested(alloc, functions, condition, desk)?;
-            let a = statement(alloc, functions, gives, true, body, desk)?;
+            let c = tested(alloc, functions, condition, environment)?;
+            let a = statement(alloc, functions, gives, true, body, environment)?;
             Ok(Action::While(c, Box::new(alloc, a)?))
         }
         Statement::Do {
@@ -161,8 +167,8 @@ pub fn statement(
             condition,
             ..
         } => {
-            let a = statement(alloc, functions, gives, true, body, desk)?;
-            let c = tested(alloc, functions, condition, desk)?;
+            let a = statement(alloc, functions, gives, true, body, environment)?;
+            let c = tested(alloc, functions, condition, environment)?;
             Ok(Action::Do(Box::new(alloc, a)?, c))
         }
         Statement::For {
@@ -172,10 +178,10 @@ pub fn statement(
             body,
             ..
         } => {
-            let i = maybe_full(alloc, functions, start, desk)?;
-            let c = maybe_tested(alloc, functions, condition, desk)?;
-            let e = maybe_full(alloc, functions, step, desk)?;
-            let a = statement(alloc, functions, gives, true, body, desk)?;
+            let i = maybe_full(alloc, functions, start, environment)?;
+            let c = maybe_tested(alloc, functions, condition, environment)?;
+            let e = maybe_full(alloc, functions, step, environment)?;
+            let a = statement(alloc, functions, gives, true, body, environment)?;
             Ok(Action::For(i, c, e, Box::new(alloc, a)?))
         }
     }
@@ -189,13 +195,13 @@ fn block(
     gives: CType,
     looping: bool,
     row: &[Item],
-    desk: &mut Desk,
+    environment: &mut Environment,
 ) -> Result<Vec<Action>, TypeFault>
-    ensures { Turns (λ v. acts v.items) result (state desk.new) (scoped (type_items functions.now.names functions.now.signatures.items gives looping (items_of row.now) (entered (state desk.old)))) }
+    ensures { Turns (λ v. acts v.items) result (state environment.new) (scoped (type_items functions.now.names functions.now.signatures.items gives looping (items_of row.now) (entered (state environment.old)))) }
 {
-    desk.blocks.enter(alloc)?;
-    let actions = items(alloc, functions, gives, looping, row, desk)?;
-    desk.blocks.leave();
+    environment.blocks.enter(alloc)?;
+    let actions = items(alloc, functions, gives, looping, row, environment)?;
+    environment.blocks.leave();
     Ok(actions)
 }
 
@@ -206,9 +212,9 @@ fn one_item(
     gives: CType,
     looping: bool,
     i: &Item,
-    desk: &mut Desk,
+    environment: &mut Environment,
 ) -> Result<Action, TypeFault>
-    ensures { Turns (λ a. act a) result (state desk.new) (type_item functions.now.names functions.now.signatures.items gives looping (item_onto i.now no_items) (state desk.old)) }
+    ensures { Turns (λ a. act a) result (state environment.new) (type_item functions.now.names functions.now.signatures.items gives looping (item_onto i.now no_items) (state environment.old)) }
 {
     match i {
         Item::Local(l) => Ok(Action::Declare(locals(
@@ -217,9 +223,9 @@ fn one_item(
             l.storage,
             l.spec,
             &l.declarators,
-            desk,
+            environment,
         )?)),
-        Item::Statement(s) => statement(alloc, functions, gives, looping, s, desk),
+        Item::Statement(s) => statement(alloc, functions, gives, looping, s, environment),
     }
 }
 
@@ -231,13 +237,13 @@ pub fn items(
     gives: CType,
     looping: bool,
     row: &[Item],
-    desk: &mut Desk,
+    environment: &mut Environment,
 ) -> Result<Vec<Action>, TypeFault>
-    ensures { Turns (λ v. acts v.items) result (state desk.new) (type_items functions.now.names functions.now.signatures.items gives looping (items_of row.now) (state desk.old)) }
+    ensures { Turns (λ v. acts v.items) result (state environment.new) (type_items functions.now.names functions.now.signatures.items gives looping (items_of row.now) (state environment.old)) }
 {
     let mut actions = Vec::new(alloc);
     for i in row {
-        let a = one_item(alloc, functions, gives, looping, i, desk)?;
+        let a = one_item(alloc, functions, gives, looping, i, environment)?;
         actions.push(a)?;
     }
     Ok(actions)

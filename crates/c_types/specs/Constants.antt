@@ -9,7 +9,7 @@ use Rattle.c_types.specs.declared.typed.UnaryOperator.TheVariants as unaries
 use Rattle.c_types.specs.declared.typed.ArithmeticOperator.{ArithmeticOperator}
 use Rattle.c_types.specs.declared.typed.ArithmeticOperator.TheVariants as ariths
 use Rattle.c_types.specs.Types.{kept, size_of, target}
-use Rattle.c_types.specs.Typed.{Term, Constant, SizeofTerm, SizeOf, UnaryOf, CastTo, ArithmeticOf, CompareOf, BothOf, EitherOf, AdvanceOf, AdvanceByOf, RetreatOf, DistanceOf, ChoiceOf}
+use Rattle.c_types.specs.Typed.{AnExpression, Constant, SizeofTerm, SizeOf, UnaryOf, CastTo, ArithmeticOf, CompareOf, BothOf, EitherOf, AdvanceOf, AdvanceByOf, RetreatOf, DistanceOf, ChoiceOf}
 
 -- what becomes of a value that is converted to a type
 unfoldable pub converted : CType → ℕ → ℕ
@@ -65,7 +65,7 @@ unfoldable pub distance : CType → ℕ → ℕ → Option ℕ
 distance t p q = div32 (sub32 p q) (scale t)
 
 -- built of numbers, sizes and operators alone
-unfoldable pub is_constant : Term → Bool
+unfoldable pub is_constant : AnExpression → Bool
 is_constant (Constant n) = true
 is_constant (SizeofTerm n e) = true
 is_constant (SizeOf n) = true
@@ -87,7 +87,7 @@ option_of None f = None
 option_of (Some x) f = f x
 
 -- the value, where none traps; only what is needed is evaluated
-unfoldable pub value_of : Term → Option ℕ
+unfoldable pub value_of : AnExpression → Option ℕ
 value_of (Constant n) = Some n
 value_of (SizeofTerm n e) = Some n
 value_of (SizeOf n) = Some n
@@ -105,5 +105,5 @@ value_of (ChoiceOf t c l r) = option_of (value_of c) (λ a. if is_zero a then va
 value_of _ = None
 
 -- the value of a constant expression that does not trap
-unfoldable pub constant_of : Term → Option ℕ
+unfoldable pub constant_of : AnExpression → Option ℕ
 constant_of x = if is_constant x then value_of x else None

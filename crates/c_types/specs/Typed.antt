@@ -17,50 +17,50 @@ use Rattle.c_types.specs.declared.typed.Expression.TheVariants as exprs
 use Rattle.c_types.specs.Types.{size_of}
 
 mutual
-  pub data PlaceTerm : Type 0 where
-    VariableAt : (t : CType) (v : Variable) → PlaceTerm
-    PointedBy : (t : CType) (e : Term) → PlaceTerm
-    ElementBy : (t : CType) (sum : Term) → PlaceTerm
+  pub data APlace : Type 0 where
+    VariableAt : (t : CType) (v : Variable) → APlace
+    PointedBy : (t : CType) (e : AnExpression) → APlace
+    ElementBy : (t : CType) (sum : AnExpression) → APlace
 
-  pub data Term : Type 0 where
-    Constant : (n : ℕ) → Term
-    LiteralAt : (object : ℕ) (size : ℕ) → Term
-    ArrayAt : (t : CType) (v : Variable) (size : ℕ) → Term
-    ReadOf : (p : PlaceTerm) → Term
-    SizeofTerm : (n : ℕ) (e : Term) → Term
-    SizeOf : (n : ℕ) → Term
-    AddressOf : (t : CType) (p : PlaceTerm) → Term
-    CallOf : (t : CType) (f : Callee) (to : List CType) (es : Terms) → Term
-    StepOf : (m : Moment) (by : Direction) (p : PlaceTerm) → Term
-    UnaryOf : (op : UnaryOperator) (e : Term) → Term
-    CastTo : (t : CType) (e : Term) → Term
-    ConvertTo : (t : CType) (e : Term) → Term
-    ArithmeticOf : (op : ArithmeticOperator) (l : Term) (r : Term) → Term
-    CompareOf : (rel : Rel) (l : Term) (r : Term) → Term
-    BothOf : (l : Term) (r : Term) → Term
-    EitherOf : (l : Term) (r : Term) → Term
-    AdvanceOf : (t : CType) (l : Term) (r : Term) → Term
-    AdvanceByOf : (t : CType) (l : Term) (r : Term) → Term
-    RetreatOf : (t : CType) (l : Term) (r : Term) → Term
-    DistanceOf : (t : CType) (l : Term) (r : Term) → Term
-    ChoiceOf : (t : CType) (c : Term) (l : Term) (r : Term) → Term
-    AssignTo : (p : PlaceTerm) (e : Term) → Term
-    ArithmeticAssignTo : (op : ArithmeticOperator) (p : PlaceTerm) (e : Term) → Term
-    AdvanceAssignTo : (p : PlaceTerm) (e : Term) → Term
-    RetreatAssignTo : (p : PlaceTerm) (e : Term) → Term
-    CommaOf : (t : CType) (l : Term) (r : Term) → Term
+  pub data AnExpression : Type 0 where
+    Constant : (n : ℕ) → AnExpression
+    LiteralAt : (object : ℕ) (size : ℕ) → AnExpression
+    ArrayAt : (t : CType) (v : Variable) (size : ℕ) → AnExpression
+    ReadOf : (p : APlace) → AnExpression
+    SizeofTerm : (n : ℕ) (e : AnExpression) → AnExpression
+    SizeOf : (n : ℕ) → AnExpression
+    AddressOf : (t : CType) (p : APlace) → AnExpression
+    CallOf : (t : CType) (f : Callee) (to : List CType) (es : SomeExpressions) → AnExpression
+    StepOf : (m : Moment) (by : Direction) (p : APlace) → AnExpression
+    UnaryOf : (op : UnaryOperator) (e : AnExpression) → AnExpression
+    CastTo : (t : CType) (e : AnExpression) → AnExpression
+    ConvertTo : (t : CType) (e : AnExpression) → AnExpression
+    ArithmeticOf : (op : ArithmeticOperator) (l : AnExpression) (r : AnExpression) → AnExpression
+    CompareOf : (rel : Rel) (l : AnExpression) (r : AnExpression) → AnExpression
+    BothOf : (l : AnExpression) (r : AnExpression) → AnExpression
+    EitherOf : (l : AnExpression) (r : AnExpression) → AnExpression
+    AdvanceOf : (t : CType) (l : AnExpression) (r : AnExpression) → AnExpression
+    AdvanceByOf : (t : CType) (l : AnExpression) (r : AnExpression) → AnExpression
+    RetreatOf : (t : CType) (l : AnExpression) (r : AnExpression) → AnExpression
+    DistanceOf : (t : CType) (l : AnExpression) (r : AnExpression) → AnExpression
+    ChoiceOf : (t : CType) (c : AnExpression) (l : AnExpression) (r : AnExpression) → AnExpression
+    AssignTo : (p : APlace) (e : AnExpression) → AnExpression
+    ArithmeticAssignTo : (op : ArithmeticOperator) (p : APlace) (e : AnExpression) → AnExpression
+    AdvanceAssignTo : (p : APlace) (e : AnExpression) → AnExpression
+    RetreatAssignTo : (p : APlace) (e : AnExpression) → AnExpression
+    CommaOf : (t : CType) (l : AnExpression) (r : AnExpression) → AnExpression
 
-  pub data Terms : Type 0 where
-    NoTerms : Terms
-    MoreTerms : (e : Term) (rest : Terms) → Terms
+  pub data SomeExpressions : Type 0 where
+    NoExpressions : SomeExpressions
+    MoreExpressions : (e : AnExpression) (rest : SomeExpressions) → SomeExpressions
 
 abbrev mutual
-  pub place_of : Place → PlaceTerm
+  pub place_of : Place → APlace
   place_of (places.Variable t v) = VariableAt t v
   place_of (places.Indirection' t q e) = PointedBy t (term e)
   place_of (places.Index' t q e) = ElementBy t (term e)
 
-  pub term : Expression → Term
+  pub term : Expression → AnExpression
   term (exprs.Number n) = Constant n
   term (exprs.Literal object size) = LiteralAt object size
   term (exprs.Array t v size) = ArrayAt t v size
@@ -88,22 +88,22 @@ abbrev mutual
   term (exprs.RetreatAssign' p q1 e) = RetreatAssignTo (place_of p) (term e)
   term (exprs.Comma' t q1 l q2 r) = CommaOf t (term l) (term r)
 
-  pub term_row : {m : _} → Row_of-Expression m → Terms
-  term_row end_of-Expression = NoTerms
-  term_row (more_of-Expression e rest) = MoreTerms (term e) (term_row rest)
+  pub term_row : {m : _} → Row_of-Expression m → SomeExpressions
+  term_row end_of-Expression = NoExpressions
+  term_row (more_of-Expression e rest) = MoreExpressions (term e) (term_row rest)
 
-abbrev pub terms : List Expression → Terms
-terms [] = NoTerms
-terms (e ∷ rest) = MoreTerms (term e) (terms rest)
+abbrev pub terms : List Expression → SomeExpressions
+terms [] = NoExpressions
+terms (e ∷ rest) = MoreExpressions (term e) (terms rest)
 
 -- the type of what is kept in a place
-unfoldable pub place_type : PlaceTerm → CType
+unfoldable pub place_type : APlace → CType
 place_type (VariableAt t v) = t
 place_type (PointedBy t e) = t
 place_type (ElementBy t e) = t
 
 -- the type of a value
-unfoldable pub type_of : Term → CType
+unfoldable pub type_of : AnExpression → CType
 type_of (Constant n) = types.Integer ints.Int
 type_of (LiteralAt object size) = types.Pointer ints.Char 0
 type_of (ArrayAt t v size) = t
@@ -132,12 +132,12 @@ type_of (RetreatAssignTo p e) = place_type p
 type_of (CommaOf t l r) = t
 
 -- the number 0 as it is written
-unfoldable pub is_null : Term → Bool
+unfoldable pub is_null : AnExpression → Bool
 is_null (Constant n) = n == 0
 is_null _ = false
 
 -- what `sizeof` makes of an operand
-unfoldable pub operand_size : Term → ℕ
+unfoldable pub operand_size : AnExpression → ℕ
 operand_size (ArrayAt t v size) = size
 operand_size (LiteralAt object size) = size
 operand_size e = size_of (type_of e)

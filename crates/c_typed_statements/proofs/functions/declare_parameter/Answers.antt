@@ -4,4 +4,4 @@ use Rattle.c_typed_statements.proofs.Fresh.{parameter_free}
 use Rattle.c_typed_statements.proofs.functions.declare_parameter.Goals as goal
 
 pub declare-requires : goal.declare-requires
-declare-requires c = parameter_free c.args.p.now.name c.in-Some.name c.args.defines c.args.at (param_of c.args.p.now) (scope c.args.desk.now.blocks) c.in-Some.is c.in_ok-check_parameter.ensures
+declare-requires c = parameter_free c.args.p.now.name c.in-Some.name c.args.defines c.args.at (param_of c.args.p.now) (scope c.args.environment.now.blocks) c.in-Some.is c.in_ok-check_parameter.ensures

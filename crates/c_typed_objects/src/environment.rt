@@ -10,7 +10,7 @@ use std::alloc::{AllocError, Global};
 
 /// What is in scope and laid out while a function is read, and the types of its automatic locals so far.
 #[derive(Drop)]
-pub struct Desk {
+pub struct Environment {
     pub blocks: Blocks,
     pub locals: Vec<CType>,
     pub layout: Data,
