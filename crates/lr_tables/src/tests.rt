@@ -45,7 +45,7 @@ fn item_sets_are_counted(rt: HostRuntime) -> Result<(), Fail> {
     assert_eq!(rt; states(alloc, M_GG)?, 28);
     let bridged = format!(in alloc; "{M_GG}{BRIDGE}")?;
     assert_eq!(rt; states(alloc, bridged.as_str())?, 30);
-    assert_eq!(rt; states(alloc, VAX_GG)?, 128);
+    assert_eq!(rt; states(alloc, VAX_GG)?, 327);
     Ok(())
 }
 
