@@ -10,8 +10,6 @@ mod numbering;
 mod rows;
 mod sets;
 mod tables;
-#[cfg(test)]
-mod tests;
 mod types;
 
 pub use building::build;

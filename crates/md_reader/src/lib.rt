@@ -1,8 +1,6 @@
 //! Machine descriptions: reading one, with the first wrong line and what is wrong there.
 #![tactic(auto)]
 
-#[cfg(test)]
-mod cases;
 mod description;
 mod faults;
 mod forms;
@@ -12,8 +10,6 @@ mod reader;
 mod reading;
 mod rows;
 mod symbols;
-#[cfg(test)]
-mod tests;
 mod types;
 
 pub use description::Description;

@@ -6,13 +6,9 @@ mod known;
 mod part;
 mod pattern;
 mod role;
-#[cfg(test)]
-mod rows;
 mod same;
 mod show;
 mod stack;
-#[cfg(test)]
-mod tests;
 
 pub use effect::{Act, Effect, norm_effect};
 pub use known::{rule_facts, saved_facts};

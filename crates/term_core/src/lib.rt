@@ -10,12 +10,8 @@ mod node;
 mod normal;
 mod operator;
 mod order;
-#[cfg(test)]
-mod rows;
 mod same;
 mod term;
-#[cfg(test)]
-mod tests;
 mod text;
 
 pub use construct::{binary, copy, unary};

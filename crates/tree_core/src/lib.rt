@@ -21,5 +21,3 @@ pub use tree::{Att, Leaf, Tree, linear, show_tree};
 pub use typing::{trees_grow_back, typed};
 pub use valid::args_of;
 
-#[cfg(test)]
-mod tests;

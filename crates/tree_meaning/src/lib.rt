@@ -11,5 +11,3 @@ mod value;
 pub use run::TreeRun;
 pub use value::{Meaning, Value};
 
-#[cfg(test)]
-mod tests;

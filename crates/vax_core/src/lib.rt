@@ -12,5 +12,3 @@ pub use op::{Access, Op, OperandKind, Shape};
 pub use operand::{Addr, Base, Operand, Operands};
 pub use register::{Reg, RegSet};
 
-#[cfg(test)]
-mod tests;

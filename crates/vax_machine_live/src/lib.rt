@@ -7,5 +7,3 @@ pub mod frames;
 pub use frame::Frame;
 pub use frames::Frames;
 
-#[cfg(test)]
-mod tests;

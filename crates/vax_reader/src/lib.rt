@@ -14,5 +14,3 @@ pub mod reader;
 pub use fault::{AsmFault, AsmKind};
 pub use reader::read_code;
 
-#[cfg(test)]
-mod tests;

@@ -7,5 +7,3 @@ pub mod writer;
 
 pub use writer::write_code;
 
-#[cfg(test)]
-mod tests;
