@@ -1,2 +1,5 @@
 pub mod RegisterLaws
 pub mod ValidLaws
+pub mod MnemonicLaws
+pub mod NumberLaws
+pub mod SameLaws

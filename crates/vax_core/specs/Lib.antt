@@ -3,3 +3,7 @@ pub mod Ops
 pub mod Text
 pub mod First
 pub mod Valid
+pub mod Mnemonics
+pub mod Numbers
+pub mod Homes
+pub mod Same
