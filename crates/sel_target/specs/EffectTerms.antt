@@ -1,0 +1,54 @@
+-- What the laws ask of an effect: its terms, its divisors, and the relation of its branch.
+use Rattle.std.specs.Prelude.{◌≡◌, ℕ, List, [], ◌∷◌, ◌++◌, Bool, true, false}
+use Rattle.std.specs.List.{AllByRecursion as All}
+use Rattle.gg_base.specs.declared.relation.Rel.{Rel}
+use Rattle.gg_base.specs.declared.relation.Rel.TheVariants.{Ltu, Leu, Gtu, Geu}
+use Rattle.tree_core.specs.declared.token.Tok.TheVariants as tok
+use Rattle.md_reader.specs.declared.types.Sym.{Sym}
+use Rattle.md_reader.specs.declared.types.Sym.TheVariants as sym
+use Rattle.md_reader.specs.declared.types.Restriction.{Restriction}
+use Rattle.md_reader.specs.declared.types.Restriction.TheVariants as restriction
+use Rattle.term_core.specs.Shape.{Shape}
+use Rattle.sel_terms.specs.Effects.{ActShape, EffectShape, Value, Number, Address, PlaceHome, PlaceAt}
+use Rattle.sel_terms.specs.Effects.{StoreHome, StoreAt, Branch, Push, Call, Save, Return, Jump}
+use Rattle.sel_target.specs.Values.{View, value}
+
+-- the terms of an effect
+abbrev pub act_terms : ActShape → List Shape
+act_terms (Value t) = t ∷ []
+act_terms (Number t) = t ∷ []
+act_terms (Address t) = t ∷ []
+act_terms (PlaceHome size i) = []
+act_terms (PlaceAt size a) = a ∷ []
+act_terms (StoreHome size i t) = t ∷ []
+act_terms (StoreAt size a t) = a ∷ t ∷ []
+act_terms (Branch i a b) = a ∷ b ∷ []
+act_terms (Push t) = t ∷ []
+act_terms Call = []
+act_terms (Save i) = []
+act_terms (Return t) = t ∷ []
+act_terms Jump = []
+
+abbrev pub terms_of : EffectShape → List Shape
+terms_of e = act_terms e.act ++ e.divisors
+
+abbrev pub DividesByNone : View → EffectShape → Type 0
+DividesByNone v e = All (λ (d : Shape). value v d ≡ 0 → ⊥) e.divisors
+
+abbrev pub begins_with_save : List Sym → Bool
+begins_with_save (sym.Tok tok.Save ∷ right) = true
+begins_with_save right = false
+
+-- the relation compares with signs, or for equality
+abbrev pub compares_signed : Rel → Bool
+compares_signed Ltu = false
+compares_signed Leu = false
+compares_signed Gtu = false
+compares_signed Geu = false
+compares_signed rel = true
+
+-- a restriction that says so of symbol i holds of its relation
+abbrev pub IsSignedBy : ℕ → Rel → Restriction → Type 0
+IsSignedBy i rel (restriction.Same j k) = Unit {0}
+IsSignedBy i rel (restriction.Range j low high) = Unit {0}
+IsSignedBy i rel (restriction.Signed j) = j ≡ i → compares_signed rel ≡ true

@@ -1,0 +1,11 @@
+pub mod Calls
+pub mod Courses
+pub mod EffectTerms
+pub mod Instances
+pub mod Laws
+pub mod Meaning
+pub mod OperandLaws
+pub mod Outcomes
+pub mod SavingLaws
+pub mod TemplateLaws
+pub mod Values

@@ -1,0 +1,10 @@
+//! A machine as the selection of instructions sees it: what stands for a part of a tree, what a template does, and the calls of a target.
+#![tactic(auto)]
+
+mod attr;
+mod fault;
+mod target;
+
+pub use attr::Attr;
+pub use fault::{TargetFault, TemplateKind};
+pub use target::Target;
