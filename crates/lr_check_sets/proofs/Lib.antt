@@ -1,0 +1,16 @@
+pub mod Walks
+pub mod Beginnings
+pub mod Tables
+pub mod Asks
+pub mod Reached
+pub mod Faults
+pub mod Accepted
+pub mod Shapes
+pub mod Bound
+pub mod Ends_within
+pub mod Whole_sets
+pub mod Real
+pub mod Fixed
+pub mod Fixed_sums
+pub mod Own_trees
+pub mod Whole_ends

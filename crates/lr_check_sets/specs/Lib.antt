@@ -1,0 +1,12 @@
+pub mod Trees
+pub mod Automaton
+pub mod Sums
+pub mod Loose
+pub mod Items
+pub mod Shapes
+pub mod Faults
+pub mod Bound
+pub mod Answers
+pub mod Claims
+pub mod Samples
+pub mod Table
