@@ -1,0 +1,117 @@
+-- What instructions compute of longwords are longwords.
+use Rattle.std.proofs.Common.{◌≡◌, ℕ, ◌+◌, ◌-◌, ◌*◌, ◌/◌, ◌%◌, ◌^◌, ◌<◌, ◌≤◌, Bool, true, false, cond, Option, Some, None, arith}
+use Rattle.std.specs.Prelude.{min}
+use Rattle.std.specs.Int.Bits.{and_lt}
+use Rattle.std.proofs.lemmas.Nat.{or_lt, xor_lt, mod_below, shr_le}
+use Rattle.std.proofs.Math.Nat.{div-le_self}
+use Rattle.gg_base.specs.declared.size.Size.{Size}
+use Rattle.gg_base.specs.declared.size.Size.TheVariants.{Byte, Word, Long}
+use Rattle.gg_base.specs.Arithmetic.{add32, sub32, mul32, and32, or32, xor32, neg32, com32, sext8, sext16, zext8, zext16, is_negative, magnitude, same_sign, div32, shifted_left, shifted_right, ash32}
+use Rattle.vax_machine.specs.declared.function.Computed.{Computed}
+use Rattle.vax_machine.specs.declared.function.Function.{Function}
+use Rattle.vax_machine.specs.declared.function.Function.TheVariants as functions
+use Rattle.vax_machine.specs.Memory.{low, merged}
+use Rattle.vax_machine.specs.Functions.{extended, truncated, quotient, applied}
+
+pub add_small : (a b : ℕ) → add32 a b < 2 ^ 32
+add_small a b = mod_below (a + b) (2 ^ 32) (omega arith)
+
+pub sub_small : (a b : ℕ) → sub32 a b < 2 ^ 32
+sub_small a b = mod_below (a + (2 ^ 32 - b)) (2 ^ 32) (omega arith)
+
+pub mul_small : (a b : ℕ) → mul32 a b < 2 ^ 32
+mul_small a b = mod_below (a * b) (2 ^ 32) (omega arith)
+
+neg_small : (a : ℕ) → neg32 a < 2 ^ 32
+neg_small a = mod_below (2 ^ 32 - a) (2 ^ 32) (omega arith)
+
+com_small : (a : ℕ) → com32 a < 2 ^ 32
+com_small a = omega arith
+
+pub low_small : (s : Size) (v : ℕ) → v < 2 ^ 32 → low s v < 2 ^ 32
+low_small Byte v h = omega (arith, mod_below v (2 ^ 8) (omega arith))
+low_small Word v h = omega (arith, mod_below v (2 ^ 16) (omega arith))
+low_small Long v h = h
+
+pub merged_small : (s : Size) (old v : ℕ) → old < 2 ^ 32 → v < 2 ^ 32 → merged s old v < 2 ^ 32
+merged_small Byte old v h g = omega (arith, h)
+merged_small Word old v h g = omega (arith, h)
+merged_small Long old v h g = g
+
+either_small : (b : Bool) (x y : ℕ) → x < 2 ^ 32 → y < 2 ^ 32 → cond b x y < 2 ^ 32
+either_small true x y h g = h
+either_small false x y h g = g
+
+extended_small : (s : Size) (v : ℕ) → v < 2 ^ 32 → extended s v < 2 ^ 32
+extended_small Byte v h =
+    let b : v % 2 ^ 8 < 2 ^ 8 = mod_below v (2 ^ 8) (omega arith) in
+    either_small _ (zext8 v) (zext8 v + (2 ^ 32 - 2 ^ 8)) (omega (arith, b)) (omega (arith, b))
+extended_small Word v h =
+    let b : v % 2 ^ 16 < 2 ^ 16 = mod_below v (2 ^ 16) (omega arith) in
+    either_small _ (zext16 v) (zext16 v + (2 ^ 32 - 2 ^ 16)) (omega (arith, b)) (omega (arith, b))
+extended_small Long v h = h
+
+truncated_small : (s : Size) (v : ℕ) → v < 2 ^ 32 → truncated s v < 2 ^ 32
+truncated_small Byte v h = omega (arith, mod_below v (2 ^ 8) (omega arith))
+truncated_small Word v h = omega (arith, mod_below v (2 ^ 16) (omega arith))
+truncated_small Long v h = h
+
+-- a number, where there is one
+abbrev SmallSome : Option ℕ → Type 0
+SmallSome None = Unit {0}
+SmallSome (Some n) = n < 2 ^ 32
+
+-- a result, where there is one
+abbrev pub SmallResult : Option Computed → Type 0
+SmallResult None = Unit {0}
+SmallResult (Some c) = c.value < 2 ^ 32
+
+magnitude_small : (a : ℕ) → a < 2 ^ 32 → magnitude a < 2 ^ 32
+magnitude_small a h = either_small (is_negative a) (neg32 a) a (neg_small a) h
+
+div_by : (z s : Bool) (q : ℕ) → q < 2 ^ 32 → SmallSome (cond z None (cond s (Some q) (Some (neg32 q))))
+div_by true s q h = tt
+div_by false true q h = h
+div_by false false q h = neg_small q
+
+quotient_small : (o : Option ℕ) → SmallSome o → SmallResult (quotient o)
+quotient_small None h = tt
+quotient_small (Some q) h = h
+
+div_small : (a b : ℕ) → a < 2 ^ 32 → SmallResult (quotient (div32 a b))
+div_small a b h =
+    let m = magnitude_small a h in
+    let d = div-le_self (magnitude a) (magnitude b) in
+    quotient_small (div32 a b) (div_by _ (same_sign a b) (magnitude a / magnitude b) (omega (arith, m, d)))
+
+left_small : (places a : ℕ) → shifted_left places a < 2 ^ 32
+left_small places a = either_small _ ((a * 2 ^ places) % 2 ^ 32) 0 (mod_below (a * 2 ^ places) (2 ^ 32) (omega arith)) (omega arith)
+
+right_small : (places a : ℕ) → a < 2 ^ 32 → shifted_right places a < 2 ^ 32
+right_small places a h =
+    let d = shr_le a (min places 31) in
+    either_small (is_negative a) (com32 (com32 a / 2 ^ min places 31)) (a / 2 ^ min places 31) (com_small _) (omega (arith, h, d))
+
+shift_small : (count a : ℕ) → a < 2 ^ 32 → ash32 count a < 2 ^ 32
+shift_small count a h = either_small _ (shifted_left (zext8 count) a) (shifted_right (2 ^ 8 - zext8 count) a) (left_small (zext8 count) a) (right_small (2 ^ 8 - zext8 count) a h)
+
+pub applied_small : (f : Function) (a b : ℕ) (c : Bool) → a < 2 ^ 32 → b < 2 ^ 32 → SmallResult (applied f a b c)
+applied_small (functions.Copy size) a b c h g = h
+applied_small functions.Clear a b c h g = omega arith
+applied_small functions.Negate a b c h g = neg_small a
+applied_small functions.Complement a b c h g = com_small a
+applied_small (functions.SignExtend size) a b c h g = extended_small size a h
+applied_small (functions.Truncate size) a b c h g = truncated_small size a h
+applied_small functions.Add a b c h g = add_small a b
+applied_small functions.Subtract a b c h g = sub_small b a
+applied_small functions.Multiply a b c h g = mul_small a b
+applied_small functions.Divide a b c h g = div_small b a g
+applied_small functions.Increment a b c h g = add_small a 1
+applied_small functions.Decrement a b c h g = sub_small a 1
+applied_small functions.BitSet a b c h g = or_lt 32 a b h g
+applied_small functions.BitClear a b c h g = and_lt 32 b (com32 a) g (com_small a)
+applied_small functions.ExclusiveOr a b c h g = xor_lt 32 a b h g
+applied_small functions.BitTest a b c h g = and_lt 32 a b h g
+applied_small functions.Shift a b c h g = shift_small a b g
+applied_small (functions.Compare size) a b c h g = omega arith
+applied_small (functions.CompareWithZero size) a b c h g = omega arith
