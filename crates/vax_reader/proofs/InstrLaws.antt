@@ -14,12 +14,14 @@ use Rattle.vax_core.specs.Text.{operand_text, operands_text, tail_text, instr_te
 use Rattle.vax_core.specs.Valid.{allows, is_base, is_index, is_operand, are_operands, is_target, is_instr}
 use Rattle.vax_reader.specs.Fronts.{strip, run_len, name_front}
 use Rattle.vax_reader.specs.Operands.{operand_front}
-use Rattle.vax_reader.specs.Lines.{op_of, in_word, word_at, behind_word, is_last, comma, operands_front, some_target, target_front, made, checked, with_target, behind_operands, behind_tab, behind_mnemonic, instr_front}
+use Rattle.vax_core.specs.Mnemonics.{op_of}
+use Rattle.vax_reader.specs.Lines.{in_word, word_at, behind_word, is_last, comma, operands_front, some_target, target_front, made, checked, with_target, behind_operands, behind_tab, behind_mnemonic, instr_front}
 use Rattle.vax_reader.proofs.Choices.{map_some}
 use Rattle.vax_reader.proofs.FrontLaws.{strip_takes}
 use Rattle.vax_reader.proofs.NameLaws.{EndsName, name_takes, name_again}
 use Rattle.vax_reader.proofs.OperandLaws.{operand_takes, operand_again, EndsOperand, comma_ends}
-use Rattle.vax_reader.proofs.OpLaws.{op_takes, op_again, is_word}
+use Rattle.vax_core.proofs.MnemonicLaws.{op_takes, op_again}
+use Rattle.vax_reader.proofs.OpLaws.{is_word}
 
 -- operands, each with the comma behind it
 

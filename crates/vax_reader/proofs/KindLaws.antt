@@ -12,12 +12,14 @@ use Rattle.vax_reader.specs.declared.fault.AsmKind.TheVariants as kinds
 use Rattle.vax_reader.specs.declared.kind.Stage.{Stage}
 use Rattle.vax_reader.specs.declared.kind.Stage.TheVariants as stages
 use Rattle.vax_reader.specs.Fronts.{strip, run_len}
-use Rattle.vax_reader.specs.Lines.{op_of, in_word, word_at, behind_word, named_front}
+use Rattle.vax_core.specs.Mnemonics.{op_of}
+use Rattle.vax_reader.specs.Lines.{in_word, word_at, behind_word, named_front}
 use Rattle.vax_reader.specs.Kinds.{same, is_area_word, is_code_word, is_allowed, behind_first_tab, begins_allowed, is_label_line, has_line_feed, kind_of}
 use Rattle.vax_reader.specs.WrongLine.{BeginsLabel, IsAreaWord, IsCodeWord, IsAllowed, EndsWord, BeginsAllowed, IsKind}
 use Rattle.vax_reader.proofs.FrontLaws.{strip_takes}
 use Rattle.vax_reader.proofs.NameLaws.{run_len-append}
-use Rattle.vax_reader.proofs.OpLaws.{op_takes, op_again, is_word}
+use Rattle.vax_core.proofs.MnemonicLaws.{op_takes, op_again}
+use Rattle.vax_reader.proofs.OpLaws.{is_word}
 use Rattle.vax_reader.proofs.LineLaws.{named_takes, label_again}
 
 -- line feeds

@@ -7,7 +7,8 @@ use Rattle.vax_reader.specs.declared.fault.AsmKind.TheVariants as kinds
 use Rattle.vax_reader.specs.declared.kind.Stage.{Stage}
 use Rattle.vax_reader.specs.declared.kind.Stage.TheVariants as stages
 use Rattle.vax_reader.specs.Fronts.{strip}
-use Rattle.vax_reader.specs.Lines.{op_of, word_at, named_front}
+use Rattle.vax_core.specs.Mnemonics.{op_of}
+use Rattle.vax_reader.specs.Lines.{word_at, named_front}
 
 abbrev pub same : List ℕ → List ℕ → Bool
 same word wanted = pointwise nat_eq word wanted

@@ -12,36 +12,10 @@ use Rattle.vax_core.specs.declared.code.AreaItem.TheVariants as areas
 use Rattle.vax_core.specs.declared.code.CodeItem.{CodeItem}
 use Rattle.vax_core.specs.declared.code.CodeItem.TheVariants as items
 use Rattle.vax_core.specs.Ops.{shape}
+use Rattle.vax_core.specs.Mnemonics.{op_of}
 use Rattle.vax_core.specs.Valid.{is_instr}
 use Rattle.vax_reader.specs.Fronts.{either, strip, run_len, up_to, from_one, name_front, closed}
 use Rattle.vax_reader.specs.Operands.{addr_front, operand_front}
-
--- the instructions whose mnemonic begins with this letter
-abbrev pub ops_with : ℕ → List Op
-ops_with c =
-    if c == 97 then Addl2 ∷ (Addl3 ∷ (Ashl ∷ []))
-    else if c == 98 then Bisl2 ∷ (Bisl3 ∷ (Bicl2 ∷ (Bicl3 ∷ (Bitl ∷ []))))
-    else if c == 99 then Clrl ∷ (Cmpl ∷ (Calls ∷ (Clrb ∷ (Clrw ∷ (Cvtbl ∷ (Cvtwl ∷ (Cvtlb ∷ (Cvtlw ∷ (Cmpb ∷ (Cmpw ∷ []))))))))))
-    else if c == 100 then Divl2 ∷ (Divl3 ∷ (Decl ∷ []))
-    else if c == 105 then Incl ∷ []
-    else if c == 106 then Jbr ∷ (Jeql ∷ (Jneq ∷ (Jlss ∷ (Jleq ∷ (Jgtr ∷ (Jgeq ∷ (Jlssu ∷ (Jlequ ∷ (Jgtru ∷ (Jgequ ∷ []))))))))))
-    else if c == 109 then Movl ∷ (Movb ∷ (Movw ∷ (Mull2 ∷ (Mull3 ∷ (Moval ∷ (Movab ∷ (Movaw ∷ (Movzbl ∷ (Movzwl ∷ (Mnegl ∷ (Mcoml ∷ [])))))))))))
-    else if c == 112 then Pushl ∷ []
-    else if c == 114 then Ret ∷ []
-    else if c == 115 then Subl2 ∷ (Subl3 ∷ [])
-    else if c == 116 then Tstl ∷ (Tstb ∷ (Tstw ∷ []))
-    else if c == 120 then Xorl2 ∷ (Xorl3 ∷ [])
-    else []
-
--- the first of these instructions that is written so
-abbrev pub among : List Op → List ℕ → Option Op
-among [] word = None
-among (op ∷ ops) word = if pointwise nat_eq word (shape op).mnemonic then Some op else among ops word
-
--- the instruction of a mnemonic
-unfoldable pub op_of : List ℕ → Option Op
-op_of [] = None
-op_of (c ∷ cs) = among (ops_with c) (c ∷ cs)
 
 -- a byte of a word: neither a TAB nor a line feed
 abbrev pub in_word : ℕ → Bool

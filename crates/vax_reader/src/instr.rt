@@ -2,7 +2,7 @@
 ghost use Rattle.std.specs.Prelude.{◌≡◌, ◌≤◌, [], length};
 ghost use Rattle.std.specs.Option.{option_copied};
 ghost use Rattle.vax_reader.specs.Fronts.{run_len};
-ghost use Rattle.vax_reader.specs.Lines.{ops_with, among, op_of, in_word, is_last, comma};
+ghost use Rattle.vax_reader.specs.Lines.{in_word, is_last, comma};
 ghost use Rattle.vax_reader.specs.Lines.{operands_front, target_front, behind_mnemonic, instr_front};
 ghost use Rattle.vax_reader.specs.Answers.{Gives};
 
@@ -13,86 +13,6 @@ use crate::operand::operand;
 use gg_base::Name;
 use std::alloc::Global;
 use vax_core::{Instr, Op, OperandKind, Operands};
-
-// The instructions whose mnemonic begins with the letter, so that a mnemonic is compared with few others.
-fn ops_with(letter: u8) -> &'static [Op]
-    ensures { result.now ≡ ops_with letter }
-{
-    match letter {
-        b'a' => &[Op::Addl2, Op::Addl3, Op::Ashl],
-        b'b' => &[Op::Bisl2, Op::Bisl3, Op::Bicl2, Op::Bicl3, Op::Bitl],
-        b'c' => &[
-            Op::Clrl,
-            Op::Cmpl,
-            Op::Calls,
-            Op::Clrb,
-            Op::Clrw,
-            Op::Cvtbl,
-            Op::Cvtwl,
-            Op::Cvtlb,
-            Op::Cvtlw,
-            Op::Cmpb,
-            Op::Cmpw,
-        ],
-        b'd' => &[Op::Divl2, Op::Divl3, Op::Decl],
-        b'i' => &[Op::Incl],
-        b'j' => &[
-            Op::Jbr,
-            Op::Jeql,
-            Op::Jneq,
-            Op::Jlss,
-            Op::Jleq,
-            Op::Jgtr,
-            Op::Jgeq,
-            Op::Jlssu,
-            Op::Jlequ,
-            Op::Jgtru,
-            Op::Jgequ,
-        ],
-        b'm' => &[
-            Op::Movl,
-            Op::Movb,
-            Op::Movw,
-            Op::Mull2,
-            Op::Mull3,
-            Op::Moval,
-            Op::Movab,
-            Op::Movaw,
-            Op::Movzbl,
-            Op::Movzwl,
-            Op::Mnegl,
-            Op::Mcoml,
-        ],
-        b'p' => &[Op::Pushl],
-        b'r' => &[Op::Ret],
-        b's' => &[Op::Subl2, Op::Subl3],
-        b't' => &[Op::Tstl, Op::Tstb, Op::Tstw],
-        b'x' => &[Op::Xorl2, Op::Xorl3],
-        _ => &[],
-    }
-}
-
-fn among(ops: &[Op], word: &[u8]) -> Option<Op>
-    ensures { among ops.now word.now ≡ result }
-{
-    for op in ops {
-        if word == op.shape().mnemonic.as_bytes() {
-            return Some(*op);
-        }
-    }
-    None
-}
-
-/// The instruction of a mnemonic.
-#[tactic(auto, unfolding(crate::specs::Lines::op_of))]
-pub fn op_of(word: &[u8]) -> Option<Op>
-    ensures { op_of word.now ≡ result }
-{
-    let [letter, ..] = word else {
-        return None;
-    };
-    among(ops_with(*letter), word)
-}
 
 /// The length of the word at the front, which ends before a TAB, a line feed or the end.
 pub fn word_len(bytes: &[u8]) -> usize
@@ -199,7 +119,7 @@ pub fn instr(alloc: Global, bytes: &[u8]) -> Result<(Instr, &[u8]), LineFault>
     ensures { Gives result (instr_front bytes.now) }
 {
     let (word, rest) = bytes.split_at(word_len(bytes));
-    let Some(op) = op_of(word) else {
+    let Some(op) = Op::from_mnemonic(word) else {
         return Err(LineFault::NotOfForm);
     };
     behind_mnemonic(alloc, op, rest)

@@ -5,8 +5,9 @@ ghost use Rattle.vax_reader.specs.Kinds.{is_label_line, has_line_feed, kind_of};
 
 use crate::fault::AsmKind;
 use crate::fronts::strip;
-use crate::instr::{op_of, word_len};
+use crate::instr::word_len;
 use crate::line::named;
+use vax_core::Op;
 
 /// Where in a text a line stands.
 #[derive(Clone, Copy)]
@@ -40,7 +41,7 @@ fn is_area_word(word: &[u8]) -> bool
 fn is_code_word(word: &[u8]) -> bool
     ensures { result ≡ is_code_word word.now }
 {
-    same(word, b".globl") || same(word, b".word") || op_of(word).is_some()
+    same(word, b".globl") || same(word, b".word") || Op::from_mnemonic(word).is_some()
 }
 
 fn is_allowed(stage: Stage, word: &[u8]) -> bool

@@ -13,4 +13,3 @@ pub mod reader;
 
 pub use fault::{AsmFault, AsmKind};
 pub use reader::read_code;
-
