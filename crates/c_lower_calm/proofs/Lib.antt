@@ -7,3 +7,4 @@ pub mod Statements
 pub mod Whole
 pub mod Backs
 pub mod Plain
+pub mod Standing

@@ -1,13 +1,14 @@
 -- What is claimed of the trees of lowering, whatever the program.
-use Rattle.std.specs.Prelude.{◌≡◌, ℕ, List, [], ◌∷◌, Some, slice_get}
+use Rattle.std.specs.Prelude.{◌≡◌, ℕ, List, [], ◌∷◌, ◌++◌, Some, slice_get}
 use Rattle.tree_core.specs.declared.tree.Leaf.{Leaf}
+use Rattle.tree_core.specs.declared.program.TreeItem.{TreeItem}
 use Rattle.tree_core.specs.declared.program.TreeItem.TheVariants as item
 use Rattle.tree_core.specs.declared.program.TreeFn.{TreeFn}
 use Rattle.tree_core.specs.declared.program.TreeProgram.{TreeProgram}
 use Rattle.tree_core.specs.Calm.{Calm}
 use Rattle.c_types.specs.Typed.{APlace, AnExpression, AssignTo}
-use Rattle.c_program.specs.Statements.{EvaluateOf, ReturnOf}
-use Rattle.c_program.specs.Programs.{AProgram}
+use Rattle.c_program.specs.Statements.{AnAction, SomeActions, NoActions, MoreActions, DeclareOf, BlockOf, EvaluateOf, BreakOf, ContinueOf, ReturnOf, IfOf, IfElseOf, WhileOf, DoOf, ForOf}
+use Rattle.c_program.specs.Programs.{ARoutine, AProgram}
 use Rattle.c_lower_scheme.specs.Trees.{Item, Ret}
 use Rattle.c_lower_scheme.specs.Expressions.{Emitted, assign_to}
 use Rattle.c_lower_scheme.specs.Statements.{lower}
@@ -37,6 +38,45 @@ returned e = Ret (plain_tree e)
 
 abbrev pub stored : APlace → AnExpression → Item
 stored p e = assign_to (type_at p) (place_at p) (plain_tree e)
+
+-- the statements of a body in the order of the text, but for blocks, `if` and loops, whose parts stand in their place
+abbrev mutual
+  pub simple : AnAction → List AnAction
+  simple (DeclareOf ds) = DeclareOf ds ∷ []
+  simple (BlockOf row) = simple_of row
+  simple (EvaluateOf e) = EvaluateOf e ∷ []
+  simple BreakOf = BreakOf ∷ []
+  simple ContinueOf = ContinueOf ∷ []
+  simple (ReturnOf e) = ReturnOf e ∷ []
+  simple (IfOf c a) = simple a
+  simple (IfElseOf c a b) = simple a ++ simple b
+  simple (WhileOf c a) = simple a
+  simple (DoOf a c) = simple a
+  simple (ForOf i c e a) = simple a
+
+  pub simple_of : SomeActions → List AnAction
+  simple_of NoActions = []
+  simple_of (MoreActions a row) = simple a ++ simple_of row
+
+-- the item of a plain `return e` or `a = e`
+pub data IsPlainOne : AnAction → Item → Type 0 where
+  Returns : (e : AnExpression) → Plain e → IsPlainOne (ReturnOf (Some e)) (returned e)
+  Stores : (p : APlace) (e : AnExpression) → PlainPlace p → Plain e → IsPlainOne (EvaluateOf (AssignTo p e)) (stored p e)
+
+-- Each of these statements has its items among a function's, one statement's behind another's; those of a plain `return` or assignment whose tree is calm are that one root.
+pub data HaveItems : List AnAction → List TreeItem → Type 0 where
+  Ended : (items : List TreeItem) → HaveItems [] items
+  Next : (a : AnAction) (acts : List AnAction) (before own behind : List TreeItem) →
+      ((i : Item) → IsPlainOne a i → SpellsCalm i → own ≡ spelled i ∷ []) → HaveItems acts behind → HaveItems (a ∷ acts) (before ++ (own ++ behind))
+
+-- In each function of the trees the plain statements of the program's function are one root each, in the order of the text.
+abbrev pub PlainStatementsStand : AProgram → TreeProgram → Type 0
+PlainStatementsStand p q =
+    (n : ℕ) (g : ARoutine) (f : TreeFn) → slice_get p.routines n ≡ Some g → slice_get q.functions n ≡ Some f → HaveItems (simple_of g.body) f.items
+
+-- So it is for each program.
+abbrev pub PlainStatementsAreOneTree : Type 0
+PlainStatementsAreOneTree = (p : AProgram) → PlainStatementsStand p (lowered p)
 
 -- A plain statement whose tree is calm is that one tree.
 pub record PlainIsOneTree : Type 0 where

@@ -1,7 +1,7 @@
 //! Laws of lowering: in no tree is memory read behind a division, and a plain statement is one tree.
 #![tactic(auto)]
 
-ghost use Rattle.c_lower_calm.specs.Claim.{EachTreeIsCalm, PlainIsOneTree};
+ghost use Rattle.c_lower_calm.specs.Claim.{EachTreeIsCalm, PlainIsOneTree, PlainStatementsAreOneTree};
 
 /// The law: the trees that a program is lowered to are calm. It does nothing.
 #[tactic(auto, using(crate::proofs::Whole::each_tree_is_calm))]
@@ -12,4 +12,10 @@ pub fn each_tree_is_calm()
 /// The law: a plain `return e` or `a = e` whose tree is calm is that one tree, part for part. It does nothing.
 pub fn plain_is_one_tree()
     ensures { PlainIsOneTree }
+{}
+
+/// The law: in each function, the items of the program's statements stand in order, and those of a plain `return` or assignment
+/// whose tree is calm are that one root. It does nothing.
+pub fn plain_statements_are_one_tree()
+    ensures { PlainStatementsAreOneTree }
 {}
