@@ -1,0 +1,5 @@
+pub mod Pieces
+pub mod Touching
+pub mod Keeping
+pub mod Standing
+pub mod Sentences

@@ -1,0 +1,5 @@
+use Rattle.vax_states.proofs.Sentences.{areas_are_read}
+use Rattle.vax_states.proofs.laws.areas_are_read.Goals as goal
+
+pub returns : goal.returns
+returns c = areas_are_read

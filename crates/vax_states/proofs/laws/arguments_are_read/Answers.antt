@@ -1,0 +1,5 @@
+use Rattle.vax_states.proofs.Sentences.{arguments_are_read}
+use Rattle.vax_states.proofs.laws.arguments_are_read.Goals as goal
+
+pub returns : goal.returns
+returns c = arguments_are_read

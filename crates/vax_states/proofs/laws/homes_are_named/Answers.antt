@@ -1,0 +1,5 @@
+use Rattle.vax_states.proofs.Sentences.{homes_are_named}
+use Rattle.vax_states.proofs.laws.homes_are_named.Goals as goal
+
+pub returns : goal.returns
+returns c = homes_are_named

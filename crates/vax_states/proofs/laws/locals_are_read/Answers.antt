@@ -1,0 +1,5 @@
+use Rattle.vax_states.proofs.Sentences.{locals_are_read}
+use Rattle.vax_states.proofs.laws.locals_are_read.Goals as goal
+
+pub returns : goal.returns
+returns c = locals_are_read
