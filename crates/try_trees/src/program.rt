@@ -1,0 +1,92 @@
+// Programs of trees as text: a line `function NAME ARGUMENTS LOCALS` and its items, each indented by two blanks, a label as `L5:`; and a
+// line `object ADDRESS SIZE ALIGNMENT BYTE COUNT LINKS` for each object, whose bytes count up from BYTE, a link as `AT:OBJECT`.
+use crate::leaves::leaves_of;
+use gg_base::{Bytes, Name, NoMemory};
+use std::alloc::Global;
+use tree_core::{
+    Leaves, Link, Links, Object, Objects, TreeFn, TreeFns, TreeItem, TreeItems, TreeProgram,
+};
+
+fn item_of(alloc: Global, text: &str) -> Result<TreeItem, NoMemory> {
+    if let Some(rest) = text.strip_prefix("L") {
+        if let Some(digits) = rest.strip_suffix(":") {
+            return Ok(TreeItem::Label(digits.parse::<u32>().unwrap_or(0)));
+        }
+    }
+    Ok(TreeItem::Root(Leaves::from_vec(leaves_of(alloc, text)?)))
+}
+
+// A function from its name on.
+fn function_of(alloc: Global, text: &str) -> Result<TreeFn, NoMemory> {
+    let mut items = Vec::new(alloc);
+    for line in text.lines() {
+        if let Some(item) = line.strip_prefix("  ") {
+            items.push(item_of(alloc, item)?)?;
+        }
+    }
+    let head = text.lines().next().unwrap_or("");
+    let mut words = head.split(' ');
+    let name = words.next().unwrap_or("");
+    let args = words.next().unwrap_or("").parse::<u32>().unwrap_or(0);
+    let locals = words.next().unwrap_or("").parse::<u32>().unwrap_or(0);
+    Ok(TreeFn {
+        name: Name::from_vec(Vec::from_slice(alloc, name.as_bytes())?),
+        args,
+        locals,
+        items: TreeItems::from_vec(items),
+    })
+}
+
+fn bytes_of(alloc: Global, first: u8, count: u32) -> Result<Bytes, NoMemory> {
+    let mut bytes = Vec::new(alloc);
+    let mut byte = first;
+    for _ in 0..count {
+        bytes.push(byte)?;
+        byte = byte.wrapping_add(1);
+    }
+    Ok(Bytes::from_vec(bytes))
+}
+
+fn object_of(alloc: Global, text: &str) -> Result<Object, NoMemory> {
+    let mut words = text.split(' ');
+    let address = words.next().unwrap_or("").parse::<u32>().unwrap_or(0);
+    let size = words.next().unwrap_or("").parse::<u32>().unwrap_or(0);
+    let align = words.next().unwrap_or("").parse::<u32>().unwrap_or(0);
+    let first = words.next().unwrap_or("").parse::<u8>().unwrap_or(0);
+    let count = words.next().unwrap_or("").parse::<u32>().unwrap_or(0);
+    let mut links = Vec::new(alloc);
+    for word in words {
+        if let Some((at, object)) = word.split_once(':') {
+            links.push(Link {
+                at: at.parse::<u32>().unwrap_or(0),
+                object: object.parse::<u32>().unwrap_or(0),
+            })?;
+        }
+    }
+    Ok(Object {
+        label: Name::from_vec(Vec::from_slice(alloc, b"_x")?),
+        address,
+        size,
+        align,
+        bytes: bytes_of(alloc, first, count)?,
+        links: Links::from_vec(links),
+    })
+}
+
+/// The program that the lines write.
+pub fn program_of(alloc: Global, text: &str) -> Result<TreeProgram, NoMemory> {
+    let mut objects = Vec::new(alloc);
+    for line in text.lines() {
+        if let Some(object) = line.strip_prefix("object ") {
+            objects.push(object_of(alloc, object)?)?;
+        }
+    }
+    let mut functions = Vec::new(alloc);
+    for part in text.split("function ").skip(1) {
+        functions.push(function_of(alloc, part)?)?;
+    }
+    Ok(TreeProgram {
+        functions: TreeFns::from_vec(functions),
+        objects: Objects::from_vec(objects),
+    })
+}
