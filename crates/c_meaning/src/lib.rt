@@ -16,5 +16,3 @@ pub use flow::Flow;
 pub use run::{SourceRun, tasks_mean};
 pub use store::Spot;
 
-#[cfg(test)]
-mod tests;

@@ -8,5 +8,3 @@ pub mod statement;
 pub use program::{Program, Routine};
 pub use statement::{Action, Declaration};
 
-#[cfg(test)]
-mod tests;

@@ -13,5 +13,3 @@ pub use data::Data;
 pub use entry::{Entry, Signature};
 pub use scope::Blocks;
 
-#[cfg(test)]
-mod tests;

@@ -12,5 +12,3 @@ pub use typed::{
 };
 pub use types::{CType, Integer, Types};
 
-#[cfg(test)]
-mod tests;
