@@ -1,0 +1,12 @@
+pub mod Marks
+pub mod Forms
+pub mod Instructions
+pub mod Settings
+pub mod Standing
+pub mod Taking
+pub mod Giving
+pub mod Judging
+pub mod Found
+pub mod Filled
+pub mod FilledLines
+pub mod FrameWords
