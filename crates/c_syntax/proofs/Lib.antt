@@ -8,3 +8,4 @@ pub mod ListLaws
 pub mod ItemLaws
 pub mod UnitLaws
 pub mod Parsing
+pub mod Firsts

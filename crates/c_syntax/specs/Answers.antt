@@ -19,3 +19,16 @@ abbrev pub IsThat : Result Ast SyntaxFault → AUnit → Type 0
 IsThat (Ok x) u = unit_of x ≡ u
 IsThat (Err NoMemory) u = Unit {0}
 IsThat (Err f) u = ⊥
+
+-- this fault stands in these tokens
+abbrev pub HasFault : List Spanned → SyntaxFault → Type 0
+HasFault ts NoMemory = ⊥
+HasFault ts (NotHere place) = NotHereAt ts place
+HasFault ts (TooDeep place) = TooDeepAt ts place
+
+-- this fault is answered, or memory ran out
+abbrev pub IsOnlyFault : Result Ast SyntaxFault → SyntaxFault → Type 0
+IsOnlyFault (Ok x) f = ⊥
+IsOnlyFault (Err NoMemory) f = Unit {0}
+IsOnlyFault (Err (NotHere place)) f = NotHere place ≡ f
+IsOnlyFault (Err (TooDeep place)) f = TooDeep place ≡ f

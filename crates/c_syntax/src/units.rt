@@ -13,9 +13,10 @@ ghost use Rattle.c_syntax_goals.specs.Goals.{Stack, Want, TypeWords, OptName, Bo
 ghost use Rattle.c_syntax_goals.specs.Machine.{run};
 ghost use Rattle.c_phrases.specs.Levels.{limit};
 ghost use Rattle.c_phrases.specs.Fronts.{IsNot};
-ghost use Rattle.c_syntax_goals.specs.Refusals.{IsPlace};
+ghost use Rattle.c_syntax_goals.specs.Refusals.{IsEnded, IsPlace};
 ghost use Rattle.c_syntax.specs.Reads.{Fails, Leads};
-ghost use Rattle.c_syntax.specs.Answers.{IsThat, Refused};
+ghost use Rattle.c_syntax.specs.Answers.{IsThat, Refused, HasFault, IsOnlyFault};
+ghost use Rattle.c_syntax.specs.declared.fault.SyntaxFault.{SyntaxFault};
 ghost use Rattle.c_phrases.specs.Units.{AUnit, AnExternal, onto_named, onto_static};
 ghost use Rattle.c_phrases.specs.Fits.{IsUnit};
 ghost use Rattle.c_syntax.specs.Stands.{ReadsParam, ParamsSoFar, ReadsParams, NoVoidAlone, ReadsBody, ReadsDeclared, ReadsExternal, ReadsExternals, HasToken};
@@ -258,6 +259,7 @@ pub fn parse(alloc: Global, tokens: &[Spanned]) -> Result<Ast, SyntaxFault>
     ensures alone { (u : AUnit) → IsUnit (seen tokens.now) u → IfOk result (λ v. unit_of v ≡ u) }
     ensures only { (u : AUnit) → IsUnit (seen tokens.now) u → IsThat result u }
     ensures refused { IfErr result (Refused tokens.now) }
+    ensures first { IsEnded tokens.now → (f : SyntaxFault) → HasFault tokens.now f → IsOnlyFault result f }
 {
     match unit(alloc, tokens) {
         Ok(ast) => Ok(ast),
