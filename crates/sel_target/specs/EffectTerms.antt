@@ -1,5 +1,5 @@
 -- What the laws ask of an effect: its terms, its divisors, and the relation of its branch.
-use Rattle.std.specs.Prelude.{◌≡◌, ℕ, List, [], ◌∷◌, ◌++◌, Bool, true, false}
+use Rattle.std.specs.Prelude.{◌≡◌, ℕ, List, ◌∷◌, ◌++◌, Bool, true, false}
 use Rattle.std.specs.List.{AllByRecursion as All}
 use Rattle.gg_base.specs.declared.relation.Rel.{Rel}
 use Rattle.gg_base.specs.declared.relation.Rel.TheVariants.{Ltu, Leu, Gtu, Geu}
@@ -9,28 +9,13 @@ use Rattle.md_reader.specs.declared.types.Sym.TheVariants as sym
 use Rattle.md_reader.specs.declared.types.Restriction.{Restriction}
 use Rattle.md_reader.specs.declared.types.Restriction.TheVariants as restriction
 use Rattle.term_core.specs.Shape.{Shape}
-use Rattle.sel_terms.specs.Effects.{ActShape, EffectShape, Value, Number, Address, PlaceHome, PlaceAt}
-use Rattle.sel_terms.specs.Effects.{StoreHome, StoreAt, Branch, Push, Call, Save, Return, Jump}
+use Rattle.sel_terms.specs.Effects.{EffectShape}
+use Rattle.sel_terms_meaning.specs.Meaning.{terms_of_act}
 use Rattle.sel_target.specs.Values.{View, value}
 
 -- the terms of an effect
-abbrev pub act_terms : ActShape → List Shape
-act_terms (Value t) = t ∷ []
-act_terms (Number t) = t ∷ []
-act_terms (Address t) = t ∷ []
-act_terms (PlaceHome size i) = []
-act_terms (PlaceAt size a) = a ∷ []
-act_terms (StoreHome size i t) = t ∷ []
-act_terms (StoreAt size a t) = a ∷ t ∷ []
-act_terms (Branch i a b) = a ∷ b ∷ []
-act_terms (Push t) = t ∷ []
-act_terms Call = []
-act_terms (Save i) = []
-act_terms (Return t) = t ∷ []
-act_terms Jump = []
-
 abbrev pub terms_of : EffectShape → List Shape
-terms_of e = act_terms e.act ++ e.divisors
+terms_of e = terms_of_act e.act ++ e.divisors
 
 abbrev pub DividesByNone : View → EffectShape → Type 0
 DividesByNone v e = All (λ (d : Shape). value v d ≡ 0 → ⊥) e.divisors

@@ -12,6 +12,7 @@ use Rattle.term_core.specs.Shape.{Shape, Symbol}
 use Rattle.term_core.specs.Norm.{norm}
 use Rattle.sel_terms.specs.Effects.{EffectShape, Value, StoreHome}
 use Rattle.sel_terms.specs.RuleFacts.{saved_facts, size_of_saved}
+use Rattle.sel_terms_meaning.specs.Alike.{IsNarrowEffect}
 use Rattle.sel_target.specs.declared.attr.Attr.{Attr}
 use Rattle.sel_target.specs.declared.attr.Attr.TheVariants as attr
 use Rattle.sel_target.specs.Meaning.{Meaning, Extent, Spot, RegAt, WordAt, IsFree}
@@ -81,6 +82,8 @@ module _ {O I S F : Type 0} (of : Meaning O I S F) where
     pub reloaded : (q : TreeProgram) (f : Extent) (fs : List Extent) (l : Line) (s : Reloads l) (w r n : ℕ) (v : View) (m : S) →
         r < 12 → w < 1024 → IsSet q f fs v n s.term m → of.reads (of.slot w) Long m ≡ Some n → n < 2 ^ 32 →
         Sets of (reloading q l w r) (RegAt r) q Long (attr.Reg r) (value v s.term) m
+    -- the constants of a line's effect are longwords
+    pub saved_narrow : (k : Kind) (l : Line) (e : EffectShape) → of.spill_effect k l ≡ Ok e → IsNarrowEffect e
     -- these lines are valid instructions
     pub value_written : (q : TreeProgram) (size : Size) (l : Line) (a : Attr O) (w : ℕ) →
         of.can_write q → Saves (kind.Value size) l → IsValue size a → w < 1024 → of.is_instr (of.instr q l (a ∷ []) (attr.Place (of.slot w))) ≡ true

@@ -14,6 +14,7 @@ use Rattle.md_reader.specs.Patterns.{kind_at}
 use Rattle.md_reader.specs.Valid.{IsRule}
 use Rattle.term_core.specs.Shape.{Shape, Symbol}
 use Rattle.sel_terms.specs.Effects.{EffectShape, Value, Number, Address, PlaceHome, PlaceAt}
+use Rattle.sel_terms_meaning.specs.Alike.{IsNarrowEffect}
 use Rattle.sel_target.specs.declared.attr.Attr.{Attr}
 use Rattle.sel_target.specs.declared.attr.Attr.TheVariants as attr
 use Rattle.sel_target.specs.Courses.{comes, traps, followed}
@@ -40,6 +41,8 @@ module _ {O I S F : Type 0} (of : Meaning O I S F) where
         (hs : List (Attr O)) (res : Attr O) (v : View) (m : S) →
         Instance of false q f fs classes rule e hs v m → IsResult of rule.give hs res → e.divisors ≡ d ∷ [] → value v d ≡ 0 →
         of.run (lines_of of q rule hs res) m ≡ traps
+    -- the constants of an effect are longwords
+    pub narrow : (classes : List Class) (rule : Rule) (e : EffectShape) → of.effect classes rule ≡ Ok e → IsNarrowEffect e
     -- no rule divides twice
     pub one_divisor : (classes : List Class) (rule : Rule) (e : EffectShape) → of.effect classes rule ≡ Ok e → length e.divisors ≤ 1
     -- a statement has a line

@@ -1,7 +1,7 @@
 -- What the symbols of a rule stand for, and what the terms of an effect are worth: by the value of terms, with the symbols' values, and with
 -- the memory and the last result of a tree state.
-use Rattle.std.specs.Prelude.{◌≡◌, ℕ, ◌+◌, ◌-◌, ◌%◌, ◌^◌, ◌<◌, ◌==◌, ◌&&◌, ◌||◌, not, Bool, true, false, List, Option, Some, None, IsSome, unwrap_or}
-use Rattle.std.specs.Prelude.{slice_get}
+use Rattle.std.specs.Prelude.{◌≡◌, ℕ, ◌+◌, ◌-◌, ◌%◌, ◌^◌, ◌<◌, Bool, true, List, Option, Some, None, IsSome, unwrap_or, slice_get}
+use Rattle.std.specs.Prelude.{slice_index, length}
 use Rattle.std.specs.Prelude.{slice_index, length}
 use Rattle.gg_base.specs.declared.size.Size.{Size}
 use Rattle.gg_base.specs.declared.size.Size.TheVariants.{Byte, Word, Long}
@@ -12,14 +12,12 @@ use Rattle.tree_core.specs.declared.tree.Att.{Att}
 use Rattle.tree_core.specs.declared.tree.Att.TheVariants as att
 use Rattle.tree_core.specs.declared.program.Object.{Object}
 use Rattle.tree_core.specs.declared.program.TreeProgram.{TreeProgram}
-use Rattle.tree_core.specs.Area.{is_inside}
 use Rattle.tree_meaning.specs.State.{State}
 use Rattle.tree_meaning.specs.declared.value.Meaning.TheVariants as places
 use Rattle.tree_meaning.specs.declared.value.Meaning.{Meaning as Place}
-use Rattle.term_core.specs.declared.operator.BinaryOp.{BinaryOp}
-use Rattle.term_core.specs.declared.operator.BinaryOp.TheVariants as binary
-use Rattle.term_core.specs.Shape.{Shape, Constant, Symbol, LastResult, Memory, Unary, Binary}
+use Rattle.term_core.specs.Shape.{Shape}
 use Rattle.term_core.specs.Value as term
+use Rattle.term_core_accesses.specs.Accesses.{Safe}
 use Rattle.sel_target.specs.declared.attr.Attr.{Attr}
 use Rattle.sel_target.specs.declared.attr.Attr.TheVariants as attr
 use Rattle.sel_target.specs.Meaning.{Meaning, Extent}
@@ -40,28 +38,10 @@ term_state v = record {
 abbrev pub value : View → Shape → ℕ
 value v t = term.value (term_state v) t
 
-abbrev pub is_division : BinaryOp → Bool
-is_division binary.Div = true
-is_division op = false
-
--- no part of a term divides by zero
-abbrev pub divides_well : View → Shape → Bool
-divides_well v (Constant n) = true
-divides_well v (Symbol i) = true
-divides_well v LastResult = true
-divides_well v (Memory size a) = divides_well v a
-divides_well v (Unary op t) = divides_well v t
-divides_well v (Binary op a b) = divides_well v a && (divides_well v b && not (is_division op && (value v b == 0)))
-
 -- The symbols that a term names have numbers, and no access to memory that it makes breaks: every one, or all but those whose address divides
 -- by zero, which are never made.
 abbrev pub IsReadWhere : Bool → View → Shape → Type 0
-IsReadWhere every v (Constant n) = Unit {0}
-IsReadWhere every v (Symbol i) = IsSome (v.symbol i)
-IsReadWhere every v LastResult = Unit {0}
-IsReadWhere every v (Memory size a) = IsReadWhere every v a × ((every || divides_well v a) ≡ true → is_inside size v.state.area (value v a) ≡ true)
-IsReadWhere every v (Unary op t) = IsReadWhere every v t
-IsReadWhere every v (Binary op a b) = IsReadWhere every v a × IsReadWhere every v b
+IsReadWhere every v t = Safe every (λ i. IsSome (v.symbol i)) v.state.area (term_state v) t
 
 abbrev pub IsRead : View → Shape → Type 0
 IsRead v t = IsReadWhere true v t
