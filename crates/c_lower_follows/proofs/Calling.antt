@@ -26,13 +26,14 @@ use Rattle.std.specs.Prelude.{if◌then◌else◌}
 use Rattle.std.proofs.lemmas.List.{take_at, drop_at}
 use Rattle.tree_core.specs.declared.program.TreeFn.{TreeFn}
 use Rattle.tree_meaning.specs.State.{returned, begun as begun_tree}
-use Rattle.tree_meaning.specs.Meaning.{To, called as called_tree, called_as, run as run_tree, runs, ended as ended_tree}
+use Rattle.tree_meaning.specs.Steps.{called_as, served, got as got_step}
+use Rattle.tree_meaning.specs.Meaning.{To, carried, run as run_tree, runs, ended as ended_tree}
 use Rattle.c_program.specs.Programs.{ARoutine, AProgram}
 use Rattle.c_meaning.specs.declared.flow.Flow.{Flow}
 use Rattle.c_types.specs.declared.typed.Callee.{Callee}
 use Rattle.c_types.specs.declared.typed.Callee.TheVariants as callees
 use Rattle.gg_base.specs.Runs.{emit}
-use Rattle.tree_meaning.specs.Meaning.{served, got as got_tree}
+use Rattle.c_lower_follows.proofs.Carried.{called as called_tree, entered_is}
 use Rattle.std.proofs.lemmas.Option.{slice_get_past}
 use Rattle.c_meaning.specs.Meaning.{put_char, got, call, answer, back, begun as begun_source, entered, called as called_source}
 use Rattle.c_lower_scheme.specs.Programs.{body_of, items_of}
@@ -247,10 +248,10 @@ module _ (program : TreeProgram) (code : List TreeItem) (callers : List Activati
   abbrev going : List Item → Desk → Runs
   going is d = run program code callers size count scope level within is d
 
-  called_is : (to : To) (is : List TreeItem) (d : Desk) (f n : ℕ) (vs : List ℕ) → length vs ≡ n → called_tree program to (state program code callers is (record d { pushed = vs ++ d.pushed })) f n ≡ called_as to (state program code callers is d) (slice_get program.functions f) (f - length program.functions) vs
+  called_is : (to : To) (is : List TreeItem) (d : Desk) (f n : ℕ) (vs : List ℕ) → length vs ≡ n → called_tree program to (state program code callers is (record d { pushed = vs ++ d.pushed })) f n ≡ carried to (called_as (state program code callers is d) (slice_get program.functions f) (f - length program.functions) vs)
   called_is to is d f n vs len =
-      ap (λ (l : List ℕ). called_as to (state program code callers is (record d { pushed = l })) (slice_get program.functions f) (f - length program.functions) (take n (vs ++ d.pushed))) (drop_at vs d.pushed n len)
-      ∙ ap (called_as to (state program code callers is d) (slice_get program.functions f) (f - length program.functions)) (take_at vs d.pushed n len)
+      ap (λ (l : List ℕ). carried to (called_as (state program code callers is (record d { pushed = l })) (slice_get program.functions f) (f - length program.functions) (take n (vs ++ d.pushed)))) (drop_at vs d.pushed n len)
+      ∙ ap (λ (l : List ℕ). carried to (called_as (state program code callers is d) (slice_get program.functions f) (f - length program.functions) l)) (take_at vs d.pushed n len)
 
   -- what a caller is told: its own state, with a result, and the shared state as the call left it
   abbrev told : Desk → ℕ → State → Desk
@@ -290,7 +291,8 @@ module _ (program : TreeProgram) (code : List TreeItem) (callers : List Activati
       let deep : 1 + length callers ≡ st.active = omega (arith, ag.active) in
       call_counts program code callers (suc k) f n is (counted (entered next g vs κ st)) q (record d { pushed = vs ++ d.pushed })
       (λ m. called_is (run_tree program m) (spelled_all is) d f n vs len
-      ∙ ap (λ o. called_as (run_tree program m) (state program code callers (spelled_all is) d) o (f - length program.functions) vs) own.1
+      ∙ ap (λ o. carried (run_tree program m) (called_as (state program code callers (spelled_all is) d) o (f - length program.functions) vs)) own.1
+      ∙ entered_is program m (state program code callers (spelled_all is) d) own.0 vs
       ∙ ap (λ a. cond (nat_lt a 1024) (run_tree program m (arrived (record { running = begun_tree own.0 vs; callers = (state program code callers (spelled_all is) d).running ∷ callers; area = d.area; input = d.input }))) (ended_tree ends.Deep)) deep)
       (leads_counted k (entered next g vs κ st) q (enter_at (nat_lt st.active 1024) k f le g at_f own.0 own.2 vs small κ st d is ag (λ v st' lt ag'. leads_below k (suc k) _ _ (omega arith) (h v st' lt ag'))))
 
@@ -310,12 +312,12 @@ module _ (program : TreeProgram) (code : List TreeItem) (callers : List Activati
       let zero_of : count - length program.functions ≡ 0 = omega (arith, counts_all) in
       call_counts program code callers k count n is (emit b (κ b st)) q (record d { pushed = c ∷ (cs ++ d.pushed) })
       (λ m. called_is (run_tree program m) (spelled_all is) d count n (c ∷ cs) len
-      ∙ ap (λ o. called_as (run_tree program m) (state program code callers (spelled_all is) d) o (count - length program.functions) (c ∷ cs)) (none_at count (omega arith))
-      ∙ ap (λ z. served (run_tree program m) (state program code callers (spelled_all is) d) z (c ∷ cs)) zero_of)
+      ∙ ap (λ o. carried (run_tree program m) (called_as (state program code callers (spelled_all is) d) o (count - length program.functions) (c ∷ cs))) (none_at count (omega arith))
+      ∙ ap (λ z. carried (run_tree program m) (served (state program code callers (spelled_all is) d) z (c ∷ cs))) zero_of)
       (leads_quiet k _ q (leads_emit k b _ _ (h b (omega arith))))
 
   get_by : (n k : ℕ) (vs : List ℕ) → length vs ≡ n → (κ : Rest) (st : State) (d : Desk) (is : List Item) (i : List ℕ) → d.input ≡ i → fine st d → ((v : ℕ) (st' : State) → v < 2 ^ 32 → fine (record st' { call = st.call; active = st.active }) (told d v st') → Leads k (κ v (record st' { call = st.call; active = st.active })) (going is (told d v st')))
-      → Leads k (got i κ st) (λ m. got_tree (run_tree program m) (state program code callers (spelled_all is) d) i)
+      → Leads k (got i κ st) (λ m. carried (run_tree program m) (got_step (state program code callers (spelled_all is) d) i))
   get_by n k vs len κ st d is [] e ag h =
       let area : AreBytes st.area = subst AreBytes ag.area ag.ranged.area in
       let input : AreBytes st.input = subst AreBytes ag.input ag.bytes in
@@ -332,12 +334,12 @@ module _ (program : TreeProgram) (code : List TreeItem) (callers : List Activati
   get_step : (n k : ℕ) (vs : List ℕ) → length vs ≡ n → (κ : Rest) (st : State) (d : Desk) (is : List Item) → fine st d → ((v : ℕ) (st' : State) → v < 2 ^ 32 → fine (record st' { call = st.call; active = st.active }) (told d v st') → Leads k (κ v (record st' { call = st.call; active = st.active })) (going is (told d v st')))
       → Leads k (got st.input κ st) (going (Call (suc count) n ∷ is) (record d { pushed = vs ++ d.pushed }))
   get_step n k vs len κ st d is ag h =
-      let q : Runs = λ m. got_tree (run_tree program m) (state program code callers (spelled_all is) d) d.input in
+      let q : Runs = λ m. carried (run_tree program m) (got_step (state program code callers (spelled_all is) d) d.input) in
       let one_of : suc count - length program.functions ≡ 1 = omega (arith, counts_all) in
       call_counts program code callers k (suc count) n is (got st.input κ st) q (record d { pushed = vs ++ d.pushed })
       (λ m. called_is (run_tree program m) (spelled_all is) d (suc count) n vs len
-      ∙ ap (λ o. called_as (run_tree program m) (state program code callers (spelled_all is) d) o (suc count - length program.functions) vs) (none_at (suc count) (omega arith))
-      ∙ ap (λ z. served (run_tree program m) (state program code callers (spelled_all is) d) z vs) one_of)
+      ∙ ap (λ o. carried (run_tree program m) (called_as (state program code callers (spelled_all is) d) o (suc count - length program.functions) vs)) (none_at (suc count) (omega arith))
+      ∙ ap (λ z. carried (run_tree program m) (served (state program code callers (spelled_all is) d) z vs)) one_of)
       (leads_quiet k _ q (subst (λ i. Leads k (got i κ st) q) ag.input (get_by n k vs len κ st d is d.input refl ag h)))
 
   call_step : (f : Callee) (n k : ℕ) → k ≤ level → (vs : List ℕ) → length vs ≡ n → AllSmall vs → (κ : Rest) (st : State) (d : Desk) (is : List Item) → fine st d → ((v : ℕ) (st' : State) → v < 2 ^ 32 → fine (record st' { call = st.call; active = st.active }) (told d v st') → Leads k (κ v (record st' { call = st.call; active = st.active })) (going is (told d v st')))

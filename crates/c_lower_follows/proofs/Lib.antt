@@ -1,6 +1,7 @@
 pub mod Longwords
 pub mod Values
 pub mod Leads
+pub mod Carried
 pub mod Steps
 pub mod Agreeing
 pub mod Doing

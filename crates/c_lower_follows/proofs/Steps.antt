@@ -24,13 +24,16 @@ use Rattle.tree_meaning.specs.declared.value.Value.TheVariants.{Number, ZeroDivi
 use Rattle.tree_meaning.specs.declared.value.Meaning.TheVariants as meaning
 use Rattle.tree_meaning.specs.Values.{Sight, bind, read, at as in_memory}
 use Rattle.tree_meaning.specs.State.{Activation, State, with_local, behind, Next, over, tree_at, ahead, coming, returned, arrived}
-use Rattle.tree_meaning.specs.Meaning.{given, assigned, put, put_in, done, called, run, runs}
+use Rattle.tree_meaning.specs.Deeds.{Pushes, Returns, Puts}
+use Rattle.tree_meaning.specs.Steps.{deed_step, put_in}
+use Rattle.tree_meaning.specs.Meaning.{carried, run, runs}
 use Rattle.c_types.specs.declared.types.Integer.{Integer}
 use Rattle.c_types.specs.declared.types.Integer.TheVariants as ints
 use Rattle.c_meaning.specs.State.{integer_access}
 use Rattle.c_lower_scheme.specs.Trees.{Tree, Item, Label, AssignLoc, AssignArg, AssignMem, Cbr, Jump, Push, Call, Save, Ret}
 use Rattle.c_lower_scheme.specs.Spelling.{leaf, plain, leaves_onto, spelled_all}
 use Rattle.c_lower_follows.proofs.Values.{SmallTree, Ranged, planted, grown_one, grown_two, grown_tree, worth, stands, stands_is}
+use Rattle.c_lower_follows.proofs.Carried.{given, done, assigned, called, given_is, branched_is}
 use Rattle.c_lower_follows.proofs.Leads.{Leads, leads_quiet, leads_wild, leads_trapped}
 
 -- what follows a value, or the end where there is none
@@ -109,7 +112,7 @@ module _ (program : TreeProgram) (code : List TreeItem) (callers : List Activati
   on_step k Wild κ f h = leads_wild k _ refl
 
   pub silent : (x : Next) → (run program 0 x).output ≡ []
-  silent (over v) = refl
+  silent (over e) = refl
   silent (tree_at w s) = refl
 
   pub lost : (k : ℕ) (is : List TreeItem) (d : Desk) → Leads k (stop ends.Wild) (at_items is d)
@@ -133,7 +136,8 @@ module _ (program : TreeProgram) (code : List TreeItem) (callers : List Activati
       quiet k _ (tree (plain tok.AssignL) (tree (leaf tok.Loc (att.Slot n)) none (planted w none)) rest_of) (spelled_all is) d _
       (λ m. given (value w d) (λ v. at is (record d { locals = with_local d.locals n v }) m))
       (ap (λ h. tree (plain tok.AssignL) (firsts 2 (tree (leaf tok.Loc (att.Slot n)) none h)) (others 2 (tree (leaf tok.Loc (att.Slot n)) none h))) (grown_tree w (end_leaf ∷ [])))
-      (λ m. ap (λ o. given o (put (run program m) (state (spelled_all is) d) (meaning.Local n))) (reads w d small r))
+      (λ m. given_is program m (state (spelled_all is) d) (seen w d) (Puts (meaning.Local n))
+      ∙ ap (λ o. given o (λ v. carried (run program m) (deed_step program (state (spelled_all is) d) (Puts (meaning.Local n) v)))) (reads w d small r))
       (on_step k (value w d) κ (λ v. at is (record d { locals = with_local d.locals n v })) h)
 
   pub assign_arg_step : (k n : ℕ) (w : Tree) (is : List Item) (κ : ℕ → Runs) (d : Desk) → SmallTree w → Ranged (desk_sight d) → ((v : ℕ) → value w d ≡ Number v → Leads k (κ v) (at is (record d { arguments = slice_set d.arguments n v }))) → Leads k (on (value w d) κ) (at (AssignArg n w ∷ is) d)
@@ -142,7 +146,9 @@ module _ (program : TreeProgram) (code : List TreeItem) (callers : List Activati
       quiet k _ (tree (plain tok.AssignL) (tree (leaf tok.Arg (att.Slot (suc n))) none (planted w none)) rest_of) (spelled_all is) d _
       (λ m. given (value w d) (λ v. at is (record d { arguments = slice_set d.arguments n v }) m))
       (ap (λ h. tree (plain tok.AssignL) (firsts 2 (tree (leaf tok.Arg (att.Slot (suc n))) none h)) (others 2 (tree (leaf tok.Arg (att.Slot (suc n))) none h))) (grown_tree w (end_leaf ∷ [])))
-      (λ m. ap (λ o. given o (put (run program m) (state (spelled_all is) d) (meaning.Argument (suc n)))) (reads w d small r) ∙ ap (λ j. given (value w d) (λ v. at is (record d { arguments = slice_set d.arguments j v }) m)) e)
+      (λ m. given_is program m (state (spelled_all is) d) (seen w d) (Puts (meaning.Argument (suc n)))
+      ∙ ap (λ o. given o (λ v. carried (run program m) (deed_step program (state (spelled_all is) d) (Puts (meaning.Argument (suc n)) v)))) (reads w d small r)
+      ∙ ap (λ j. given (value w d) (λ v. at is (record d { arguments = slice_set d.arguments j v }) m)) e)
       (on_step k (value w d) κ (λ v. at is (record d { arguments = slice_set d.arguments n v })) h)
 
   -- a number's low bits
@@ -158,11 +164,11 @@ module _ (program : TreeProgram) (code : List TreeItem) (callers : List Activati
   written_at is d None = stop ends.Wild
   written_at is d (Some area) = at is (record d { area = area })
 
-  put_is : (is : List Item) (d : Desk) (o : Option (List ℕ)) (m : ℕ) → put_in (run program m) (state (spelled_all is) d) o ≡ written_at is d o m
+  put_is : (is : List Item) (d : Desk) (o : Option (List ℕ)) (m : ℕ) → carried (run program m) (put_in (state (spelled_all is) d) o) ≡ written_at is d o m
   put_is is d None m = refl
   put_is is d (Some area) m = refl
 
-  assigned_at : (is : List Item) (d : Desk) (z : Size) (u v : Value) (m : ℕ) → assigned (run program m) (state (spelled_all is) d) (Some (in_memory z u)) v ≡ given u (λ x. given v (λ y. written_at is d (stored z d.area x y) m))
+  assigned_at : (is : List Item) (d : Desk) (z : Size) (u v : Value) (m : ℕ) → assigned program (run program m) (state (spelled_all is) d) (Some (in_memory z u)) v ≡ given u (λ x. given v (λ y. written_at is d (stored z d.area x y) m))
   assigned_at is d z (Number x) (Number y) m = put_is is d (stored z d.area x y) m
   assigned_at is d z (Number x) ZeroDivisor m = refl
   assigned_at is d z (Number x) Wild m = refl
@@ -179,7 +185,7 @@ module _ (program : TreeProgram) (code : List TreeItem) (callers : List Activati
 
   narrow_step : (k : ℕ) (z : Size) (root place low : Tok) (g : ℕ → ℕ) (a w : Tree) (is : List Item) (κ : ℕ → ℕ → Runs) (d : Desk) → SmallTree a → SmallTree w → Ranged (desk_sight d)
       → grown (plain root ∷ plain place ∷ leaves_onto a (plain low ∷ leaves_onto w (end_leaf ∷ []))) ≡ tree (plain root) (tree (plain place) (planted a none) (tree (plain low) (planted w none) none)) rest_of
-      → ((m : ℕ) → done program (run program m) (state (spelled_all is) d) (tree (plain root) (tree (plain place) (planted a none) (tree (plain low) (planted w none) none)) rest_of) ≡ assigned (run program m) (state (spelled_all is) d) (Some (in_memory z (seen a d))) (bind (seen w d) (λ x. Number (g x))))
+      → ((m : ℕ) → done program (run program m) (state (spelled_all is) d) (tree (plain root) (tree (plain place) (planted a none) (tree (plain low) (planted w none) none)) rest_of) ≡ assigned program (run program m) (state (spelled_all is) d) (Some (in_memory z (seen a d))) (bind (seen w d) (λ x. Number (g x))))
       → ((x v : ℕ) → value a d ≡ Number x → value w d ≡ Number v → Leads k (κ x v) (written_at is d (stored z d.area x (g v))))
       → Leads k (on (value a d) (λ x. on (value w d) (κ x))) (at_items (item.Root (plain root ∷ plain place ∷ leaves_onto a (plain low ∷ leaves_onto w (end_leaf ∷ []))) ∷ spelled_all is) d)
   narrow_step k z root place low g a w is κ d small small' r grow same h =
@@ -231,7 +237,8 @@ module _ (program : TreeProgram) (code : List TreeItem) (callers : List Activati
   cbr_step k l rel a b is κ d small small' r h g =
       counts k _ (tree (leaf tok.Cbr (att.Branch rel l)) (planted a (planted b none)) rest_of) (spelled_all is) d _ (λ m. given (value a d) (λ x. given (value b d) (λ y. cond (holds rel x y) (at_items (behind code l) d m) (at is d m))))
       (grown_two (leaf tok.Cbr (att.Branch rel l)) (leaves_onto a (leaves_onto b (end_leaf ∷ []))) _ _ _ _ _ refl (grown_tree a (leaves_onto b (end_leaf ∷ [])) ∙ ap (planted a) (grown_tree b (end_leaf ∷ []))))
-      (λ m. ap (λ o. given o (λ x. given (seen b d) (λ y. cond (holds rel x y) (at_items (behind code l) d m) (at is d m)))) (reads a d small r)
+      (λ m. branched_is program m (state (spelled_all is) d) rel l (seen a d) (seen b d)
+      ∙ ap (λ o. given o (λ x. given (seen b d) (λ y. cond (holds rel x y) (at_items (behind code l) d m) (at is d m)))) (reads a d small r)
       ∙ ap (λ o. given (value a d) (λ x. given o (λ y. cond (holds rel x y) (at_items (behind code l) d m) (at is d m)))) (reads b d small' r))
       (branched_step k l rel (value a d) (value b d) is κ d h g)
 
@@ -245,7 +252,7 @@ module _ (program : TreeProgram) (code : List TreeItem) (callers : List Activati
   push_step k w is κ d small r h =
       quiet k _ (tree (plain tok.Push) (planted w none) rest_of) (spelled_all is) d _ (λ m. given (value w d) (λ v. at is (record d { pushed = v ∷ d.pushed }) m))
       (grown_one (plain tok.Push) (leaves_onto w (end_leaf ∷ [])) _ _ _ refl (grown_tree w (end_leaf ∷ [])))
-      (λ m. ap (λ o. given o (λ v. at is (record d { pushed = v ∷ d.pushed }) m)) (reads w d small r))
+      (λ m. given_is program m (state (spelled_all is) d) (seen w d) Pushes ∙ ap (λ o. given o (λ v. at is (record d { pushed = v ∷ d.pushed }) m)) (reads w d small r))
       (on_step k (value w d) κ (λ v. at is (record d { pushed = v ∷ d.pushed })) h)
 
   pub save_step : (k n : ℕ) (is : List Item) (r : Runs) (d : Desk) → Leads k r (at is (record d { locals = with_local d.locals n d.result })) → Leads k r (at (Save n ∷ is) d)
@@ -259,7 +266,7 @@ module _ (program : TreeProgram) (code : List TreeItem) (callers : List Activati
   ret_step k w is κ d small r h =
       quiet k _ (tree (plain tok.Ret) (planted w none) rest_of) (spelled_all is) d _ (λ m. given (value w d) (λ v. back v d.area d.input m))
       (grown_one (plain tok.Ret) (leaves_onto w (end_leaf ∷ [])) _ _ _ refl (grown_tree w (end_leaf ∷ [])))
-      (λ m. ap (λ o. given o (λ v. back v d.area d.input m)) (reads w d small r))
+      (λ m. given_is program m (state (spelled_all is) d) (seen w d) Returns ∙ ap (λ o. given o (λ v. back v d.area d.input m)) (reads w d small r))
       (on_step k (value w d) κ (λ v. back v d.area d.input) h)
 
   -- a call, still to be counted

@@ -8,7 +8,7 @@ use Rattle.gg_base.proofs.Lasting.{one_end_of}
 use Rattle.tree_core.specs.declared.program.Object.{Object}
 use Rattle.tree_core.specs.declared.program.TreeFn.{TreeFn}
 use Rattle.tree_core.specs.Area.{bytes_from}
-use Rattle.tree_meaning.specs.Meaning.{main_run, main_of as main_of_trees, tree_run}
+use Rattle.tree_meaning.specs.Meaning.{runs, main_at, main_of as main_of_trees, tree_run}
 use Rattle.tree_meaning.proofs.Ending.{tree_run_lasts}
 use Rattle.c_program.specs.Programs.{ARoutine, AProgram}
 use Rattle.c_meaning.specs.Meaning.{finished, means, at_first, main_of}
@@ -52,7 +52,7 @@ find_main count (h ∷ gs) l (suc n) g e main only =
     not_main true eb = absurd (let r = only 0 h refl eb in omega (arith, r))
     not_main false eb = eb
 
-main_leads : (p : AProgram) (input : List ℕ) → IsSound p → AreBytes input → (g : ARoutine) → slice_get p.routines p.main ≡ Some g → (tf : TreeFn) → CodeOf (length p.routines) g tf.items → (k : ℕ) → Leads k (main_of (Some g) p input) (main_run (lowered p) (Some tf) input)
+main_leads : (p : AProgram) (input : List ℕ) → IsSound p → AreBytes input → (g : ARoutine) → slice_get p.routines p.main ≡ Some g → (tf : TreeFn) → CodeOf (length p.routines) g tf.items → (k : ℕ) → Leads k (main_of (Some g) p input) (runs (lowered p) (main_at (lowered p) (Some tf) input))
 main_leads p input sound bytes g at_main tf own k =
     let backed : Backed (lowered p) k finished [] = record { goes = λ w st lt area i. leads_ended k _ } in
     let calls = calls_at (lowered p) (length p.routines) p (means p) (all_lowered (length p.routines) p.routines 0) (λ f h e. all_code (length p.routines) p.routines 0 f h e) refl sound.addresses (λ t κ st. means_is p t κ st) sound.fits (suc k) in
@@ -60,7 +60,7 @@ main_leads p input sound bytes g at_main tf own k =
 
 main_follows : (p : AProgram) (input : List ℕ) → IsSound p → AreBytes input → (g : ARoutine) → slice_get p.routines p.main ≡ Some g → (tf : TreeFn) → CodeOf (length p.routines) g tf.items → main_of_trees (lowered p).functions ≡ Some tf → Follows (main_of (Some g) p input) (tree_run (lowered p) input)
 main_follows p input sound bytes g at_main tf own found =
-    let to_tree : (k : ℕ) → Leads k (main_of (Some g) p input) (tree_run (lowered p) input) = λ k. subst (λ o. Leads k (main_of (Some g) p input) (main_run (lowered p) o input)) (sym found) (main_leads p input sound bytes g at_main tf own k) in
+    let to_tree : (k : ℕ) → Leads k (main_of (Some g) p input) (tree_run (lowered p) input) = λ k. subst (λ o. Leads k (main_of (Some g) p input) (runs (lowered p) (main_at (lowered p) o input))) (sym found) (main_leads p input sound bytes g at_main tf own k) in
     follows_led (main_of (Some g) p input) (tree_run (lowered p) input) to_tree (one_end_of (tree_run (lowered p) input) (tree_run_lasts (lowered p) input))
 
 pub lowering_follows : LoweringFollows

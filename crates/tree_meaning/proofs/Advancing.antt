@@ -1,133 +1,96 @@
 -- What an answer says of a run of trees.
-use Rattle.std.proofs.Common.{◌≡◌, ℕ, zero, suc, ◌+◌, ◌-◌, List, Option, Some, None, Bool, true, false, refl, sym, ap, ◌∙◌, subst, arith}
-use Rattle.gg_base.specs.declared.run.End.TheVariants as ends
+use Rattle.std.proofs.Common.{◌≡◌, ℕ, zero, suc, ◌+◌, ◌-◌, List, [], ◌∷◌, Option, Some, None, Bool, true, false, refl, sym, ap, ◌∙◌, subst, arith}
 use Rattle.gg_base.specs.declared.run.SourceTurn.{SourceTurn}
 use Rattle.gg_base.specs.declared.run.SourceTurn.TheVariants as turns
-use Rattle.gg_base.specs.Runs.{Outcome, Remaining, AdvancesBy, byte_first, one_first, after, Closed}
+use Rattle.gg_base.specs.Runs.{Remaining, AdvancesBy, one_first, after}
 use Rattle.tree_core.specs.declared.tree.Leaf.{Leaf}
 use Rattle.tree_core.specs.declared.program.TreeProgram.{TreeProgram}
 use Rattle.tree_core.specs.Trees.{grown}
 use Rattle.tree_meaning.specs.declared.machine.Finish.{Finish}
 use Rattle.tree_meaning.specs.declared.machine.Finish.TheVariants as finish
 use Rattle.tree_meaning.specs.declared.machine.Machine.{Machine}
-use Rattle.tree_meaning.specs.State.{arrived, tree_at}
-use Rattle.tree_meaning.specs.Meaning.{ended, done, run}
-use Rattle.tree_meaning.specs.View.{state, standing, to_come, end_of, turn_of, end_turn, turn_behind, first_written, Acted, Arrives}
-use Rattle.tree_meaning.specs.Turns.{counted_from, remaining, GoesOn, AdvancesTrees}
+use Rattle.tree_meaning.specs.State.{Activation, State, Next, over, tree_at, returned, arrived}
+use Rattle.tree_meaning.specs.Steps.{Step, Goes, Serves, GoesTo, Enters, GoesBack, Ends, tree_step, next, written}
+use Rattle.tree_meaning.specs.Meaning.{first_written, run}
+use Rattle.tree_meaning.specs.Turns.{turn_of, byte_turn, return_turn, turn, before, answers, Answers, Turns, counted_from, turns_at, AdvancesTrees}
+use Rattle.tree_meaning.specs.View.{state, turn_behind, turns_of, StepsBy, Arrives}
 
--- a machine that has come to a tree does that tree next
-comes_to : (m n : Machine) (w : List Leaf) → Arrives m (Some w) n → (j : ℕ) → to_come m j ≡ run m.program.now j (tree_at w (state n))
-comes_to m n w a j =
-    ap (λ (o : Option Finish). standing o (run m.program.now j (arrived (state m)))) a.1 ∙ ap (run m.program.now j) a.0
+abbrev Told : Turns → SourceTurn → Turns → Type 0
+Told old t new = Answers t old.answers new.answers × AdvancesTrees old.remaining t new.remaining
 
-number_is : (o : Outcome) (x y : ℕ) → x ≡ y → (let p : Outcome = record { output = o.output; end = o.end; number = x } in p) ≡ (let q : Outcome = record { output = o.output; end = o.end; number = y } in q)
-number_is o x y e = ap (λ (z : ℕ). let p : Outcome = record { output = o.output; end = o.end; number = z } in p) e
+abbrev one_tree : (old new : Remaining) (t : SourceTurn) → AdvancesBy 1 old t new → AdvancesTrees old t new
+one_tree old new t h = record { trees = 1; one_at_most = omega arith; one = λ g. refl; advances = h }
 
--- the number is used up
-pub used_up : (old : Remaining) (m n : Machine) (w : List Leaf) (left taken : ℕ) (spent failed : Bool) → remaining m left taken spent failed ≡ old → spent ≡ false → Arrives m (Some w) n → left ≡ 0 → AdvancesTrees old turns.Spent (remaining n left taken true failed)
-used_up old m n w left taken true failed view is a z = absurd cc
-used_up old m n w (suc j) taken false failed view is a z = absurd (omega arith)
-used_up old m n w zero taken false failed view is a z = record {
-  trees = 0;
-  one_at_most = omega arith;
-  one = λ g. absurd g;
-  advances = closed;
-}
-  where
-    spent_there : to_come m 0 ≡ ended ends.Spent
-    spent_there = comes_to m n w a 0
+module _ (program : TreeProgram) (n taken : ℕ) (failed : Bool) where
+  abbrev new_at : Next → Turns
+  new_at x = turns_at program (Some x) n (taken + 1) failed
 
-    same : taken + 0 ≡ taken
-    same = omega arith
+  -- what was to come, where a byte was written or none, and the run goes on or ends there
+  abbrev old_at : SourceTurn → Option ℕ → Next → Turns
+  old_at t b x = record {
+    answers = before t (answers program n x);
+    remaining = record { outcome = counted_from taken (one_first (first_written b (run program n x))); taken = taken; failed = failed };
+  }
 
-    closed : Closed 0 old ends.Spent (remaining n 0 taken true failed)
-    closed =
-        subst (λ (o : Remaining). Closed 0 o ends.Spent (remaining n 0 taken true failed)) view (
-          ap (counted_from taken) spent_there,
-          (λ i. record { outcome = counted_from taken (sym spent_there i); taken = sym same i; failed = failed }),
-        )
+  quiet : (x : Next) → (new_at x).remaining ≡ after 1 (old_at turns.Going None x).remaining
+  quiet x i =
+      let o = run program n x in
+      let count : taken + 1 + o.number ≡ taken + suc o.number = omega arith in
+      record { outcome = record { output = o.output; end = o.end; number = count i }; taken = taken + 1; failed = failed }
 
--- what a tree leaves of a run
-left_behind : (m n k : Machine) (w : List Leaf) (j taken : ℕ) (written : Option ℕ) → Arrives m (Some w) n → Acted n.program.now (λ to. done n.program.now to (state n) (grown w)) written k → counted_from taken (to_come m (suc j)) ≡ counted_from taken (one_first (first_written written (to_come k j)))
-left_behind m n k w j taken written a h =
-    ap (counted_from taken) (
-    comes_to m n w a (suc j)
-    ∙ ap (λ (p : TreeProgram). one_first (done p (run p j) (state n) (grown w))) (sym (ap (λ b. b.now) a.3))
-    ∙ ap one_first (h j)
-    )
+  goes_on : (x : Next) → Told (old_at turns.Going None x) turns.Going (new_at x)
+  goes_on x = (refl, one_tree _ _ _ (quiet x))
 
--- a tree has written a byte
-pub wrote_one : (old : Remaining) (m n k : Machine) (w : List Leaf) (left taken : ℕ) (spent failed : Bool) (b : ℕ) → remaining m left taken spent failed ≡ old → spent ≡ false → Arrives m (Some w) n → (left ≡ 0 → ⊥) → Acted n.program.now (λ to. done n.program.now to (state n) (grown w)) (Some b) k → AdvancesTrees old (turns.Wrote b) (remaining k (left - 1) (taken + 1) spent failed)
-wrote_one old m n k w left taken true failed b view is a some h = absurd cc
-wrote_one old m n k w zero taken false failed b view is a some h = absurd (some refl)
-wrote_one old m n k w (suc j) taken false failed b view is a some h = record {
-  trees = 1;
-  one_at_most = omega arith;
-  one = λ g. refl;
-  advances = so;
-}
-  where
-    there : suc j - 1 ≡ j
-    there = omega arith
+  wrote_one : (b : ℕ) (x : Next) → Told (old_at (turns.Wrote b) (Some b) x) (turns.Wrote b) (new_at x)
+  wrote_one b x =
+      let o = run program n x in
+      let count : taken + suc o.number ≡ taken + 1 + o.number = omega arith in
+      (refl, one_tree _ _ _ ((λ i. record { output = b ∷ o.output; end = o.end; number = count i }), refl, refl))
 
-    count : taken + suc (to_come k j).number ≡ taken + 1 + (to_come k j).number
-    count = omega arith
+  comes_to_end : (e : Finish) → Told (old_at (turn_of e) None (over e)) (turn_of e) (new_at (over e))
+  comes_to_end (finish.Ended v) = ((refl, refl), one_tree _ _ _ (refl, quiet (over (finish.Ended v))))
+  comes_to_end finish.Trapped = ((refl, refl), one_tree _ _ _ (refl, quiet (over finish.Trapped)))
+  comes_to_end finish.Wild = ((refl, refl), one_tree _ _ _ (refl, quiet (over finish.Wild)))
+  comes_to_end finish.Deep = ((refl, refl), one_tree _ _ _ (refl, quiet (over finish.Deep)))
 
-    so : AdvancesBy 1 old (turns.Wrote b) (remaining k (suc j - 1) (taken + 1) false failed)
-    so =
-        subst (λ (o : Remaining). AdvancesBy 1 o (turns.Wrote b) (remaining k (suc j - 1) (taken + 1) false failed)) view (
-          left_behind m n k w j taken (Some b) a h
-              ∙ number_is (byte_first b (to_come k j)) (taken + suc (to_come k j).number) (taken + 1 + (to_come k j).number) count
-              ∙ ap (λ (i : ℕ). byte_first b (counted_from (taken + 1) (to_come k i))) (sym there),
-          refl,
-          refl,
-        )
+  served : (b : Option ℕ) (s : State) → Told (old_at (byte_turn b) b (arrived s)) (byte_turn b) (new_at (arrived s))
+  served None s = goes_on (arrived s)
+  served (Some b) s = wrote_one b (arrived s)
 
--- a tree has written nothing, and the run goes on
-goes_on : (m n k : Machine) (w : List Leaf) (j taken : ℕ) (failed : Bool) → Arrives m (Some w) n → Acted n.program.now (λ to. done n.program.now to (state n) (grown w)) None k → remaining k (suc j - 1) (taken + 1) false failed ≡ after 1 (remaining m (suc j) taken false failed)
-goes_on m n k w j taken failed a h =
+  back : (v : ℕ) (s : State) (callers : List Activation)
+      → Told (old_at (return_turn callers v) None (returned v callers s.area s.input)) (return_turn callers v) (new_at (returned v callers s.area s.input))
+  back v s [] = comes_to_end (finish.Ended v)
+  back v s (f ∷ fs) = goes_on (returned v (f ∷ fs) s.area s.input)
+
+  step_told : (st : Step) → Told (old_at (turn st) (written st) (next st)) (turn st) (new_at (next st))
+  step_told (Goes s) = goes_on (arrived s)
+  step_told (Serves b s) = served b s
+  step_told (GoesTo label s) = goes_on _
+  step_told (Enters g arguments s) = goes_on _
+  step_told (GoesBack v s) = back v s s.callers
+  step_told (Ends e) = comes_to_end e
+
+-- ---- the machine
+
+-- a tree is next, which is as the machine says
+tree_next : (m n : Machine) (w : List Leaf) (left taken : ℕ) (failed : Bool)
+    → Arrives m (Some w) n → turns_of m left taken false failed ≡ turns_at n.program.now (Some (tree_at w (state n))) left taken failed
+tree_next m n w left taken failed a =
+    ap (λ (x : Next). turns_at m.program.now (Some x) left taken failed) a.0 ∙ ap (λ (p : TreeProgram). turns_at p (Some (tree_at w (state n))) left taken failed) (sym (ap (λ b. b.now) a.2))
+
+-- the tree is done
+pub stepped : (old : Turns) (m n k : Machine) (w : List Leaf) (left taken : ℕ) (spent failed : Bool) (byte : Option ℕ) (t : SourceTurn)
+    → turns_of m left taken spent failed ≡ old → spent ≡ false → Arrives m (Some w) n → (left ≡ 0 → ⊥)
+    → StepsBy n.program.now (tree_step n.program.now (state n) (grown w)) byte k → t ≡ turn_behind byte k.over
+    → Told old t (turns_of k (left - 1) (taken + 1) spent failed)
+stepped old m n k w left taken true failed byte t view is a some h e = absurd cc
+stepped old m n k w zero taken false failed byte t view is a some h e = absurd (some refl)
+stepped old m n k w (suc j) taken false failed byte t view is a some h e =
     let there : suc j - 1 ≡ j = omega arith in
-    let count : taken + 1 + (to_come k j).number ≡ taken + suc (to_come k j).number = omega arith in
-    let same : counted_from (taken + 1) (to_come k (suc j - 1)) ≡ counted_from taken (to_come m (suc j)) = ap (λ (i : ℕ). counted_from (taken + 1) (to_come k i)) there ∙ number_is (to_come k j) (taken + 1 + (to_come k j).number) (taken + suc (to_come k j).number) count ∙ sym (left_behind m n k w j taken None a h) in
-    ap (λ (o : Outcome). let r : Remaining = record { outcome = o; taken = taken + 1; failed = failed } in r) same
-
--- a tree has ended the run
-comes_to_end : (m n k : Machine) (w : List Leaf) (j taken : ℕ) (failed : Bool) (e : Finish) → Arrives m (Some w) n → Acted n.program.now (λ to. done n.program.now to (state n) (grown w)) None k → k.over ≡ Some e → Closed 1 (remaining m (suc j) taken false failed) (end_of e) (remaining k (suc j - 1) (taken + 1) false failed)
-comes_to_end m n k w j taken failed e a h o =
-    let there : to_come k j ≡ ended (end_of e) = ap (λ (f : Option Finish). standing f (run k.program.now j (arrived (state k)))) o in (
-      left_behind m n k w j taken None a h ∙ ap (λ (p : Outcome). counted_from taken (one_first p)) there,
-      goes_on m n k w j taken failed a h,
-    )
-
-by_turn : (old new : Remaining) (e : Finish) → Closed 1 old (end_of e) new → AdvancesBy 1 old (turn_of e) new
-by_turn old new (finish.Ended v) c = c
-by_turn old new finish.Trapped c = c
-by_turn old new finish.Wild c = c
-by_turn old new finish.Deep c = c
-
-no_goal : (e : Finish) → GoesOn (turn_of e) → ⊥
-no_goal (finish.Ended v) g = g
-no_goal finish.Trapped g = g
-no_goal finish.Wild g = g
-no_goal finish.Deep g = g
-
-by_over : (m n k : Machine) (w : List Leaf) (j taken : ℕ) (failed : Bool) (o : Option Finish) → k.over ≡ o → Arrives m (Some w) n → Acted n.program.now (λ to. done n.program.now to (state n) (grown w)) None k → AdvancesTrees (remaining m (suc j) taken false failed) (end_turn o) (remaining k (suc j - 1) (taken + 1) false failed)
-by_over m n k w j taken failed None is a h = record { trees = 1; one_at_most = omega arith; one = λ g. refl; advances = goes_on m n k w j taken failed a h }
-by_over m n k w j taken failed (Some e) is a h = record {
-  trees = 1;
-  one_at_most = omega arith;
-  one = λ g. absurd (no_goal e g);
-  advances = by_turn (remaining m (suc j) taken false failed) (remaining k (suc j - 1) (taken + 1) false failed) e (comes_to_end m n k w j taken failed e a h is);
-}
-
-pub wrote_none : (old : Remaining) (m n k : Machine) (w : List Leaf) (left taken : ℕ) (spent failed : Bool) → remaining m left taken spent failed ≡ old → spent ≡ false → Arrives m (Some w) n → (left ≡ 0 → ⊥) → Acted n.program.now (λ to. done n.program.now to (state n) (grown w)) None k → AdvancesTrees old (end_turn k.over) (remaining k (left - 1) (taken + 1) spent failed)
-wrote_none old m n k w left taken true failed view is a some h = absurd cc
-wrote_none old m n k w zero taken false failed view is a some h = absurd (some refl)
-wrote_none old m n k w (suc j) taken false failed view is a some h =
-    subst (λ (o : Remaining). AdvancesTrees o (end_turn k.over) (remaining k (suc j - 1) (taken + 1) false failed)) view (by_over m n k w j taken failed k.over refl a h)
-
-pub advanced : (old : Remaining) (m n k : Machine) (w : List Leaf) (left taken : ℕ) (spent failed : Bool) (written : Option ℕ) (turn : SourceTurn) → remaining m left taken spent failed ≡ old → spent ≡ false → Arrives m (Some w) n → (left ≡ 0 → ⊥) → Acted n.program.now (λ to. done n.program.now to (state n) (grown w)) written k → turn ≡ turn_behind written k.over → AdvancesTrees old turn (remaining k (left - 1) (taken + 1) spent failed)
-advanced old m n k w left taken spent failed None turn view is a some h e =
-    subst (λ (t : SourceTurn). AdvancesTrees old t (remaining k (left - 1) (taken + 1) spent failed)) (sym e) (wrote_none old m n k w left taken spent failed view is a some h)
-advanced old m n k w left taken spent failed (Some b) turn view is a some h e =
-    subst (λ (t : SourceTurn). AdvancesTrees old t (remaining k (left - 1) (taken + 1) spent failed)) (sym e) (wrote_one old m n k w left taken spent failed b view is a some h)
+    let st = tree_step n.program.now (state n) (grown w) in
+    let new : turns_of k (suc j - 1) (taken + 1) false failed ≡ turns_at n.program.now (Some (next st)) j (taken + 1) failed =
+    λ i. turns_at (h.2 i) (Some (h.1 i)) (there i) (taken + 1) failed in
+    subst (λ (x : Turns). Told x t (turns_of k (suc j - 1) (taken + 1) false failed)) (sym (tree_next m n w (suc j) taken failed a) ∙ view)
+    (subst (λ (x : Turns). Told (turns_at n.program.now (Some (tree_at w (state n))) (suc j) taken failed) t x) (sym new)
+    (subst (λ (x : SourceTurn). Told (turns_at n.program.now (Some (tree_at w (state n))) (suc j) taken failed) x (turns_at n.program.now (Some (next st)) j (taken + 1) failed))
+    (sym (e ∙ h.0)) (step_told n.program.now j taken failed st)))

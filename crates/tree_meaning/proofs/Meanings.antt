@@ -1,5 +1,5 @@
 -- What the first trees of a forest stand for.
-use Rattle.std.proofs.Common.{◌≡◌, ℕ, zero, suc, List, ◌∷◌, length, take, drop, Option, refl, sym, ap, ◌∙◌}
+use Rattle.std.proofs.Common.{◌≡◌, ℕ, zero, suc, List, ◌∷◌, length, take, drop, Option, refl, sym, ap, ◌∙◌, subst}
 use Rattle.tree_core.specs.declared.program.Object.{Object}
 use Rattle.tree_core.specs.declared.program.TreeProgram.{TreeProgram}
 use Rattle.tree_core.specs.declared.token.Sort.{Sort}
@@ -8,8 +8,9 @@ use Rattle.tree_core.specs.Grammar.{kids}
 use Rattle.tree_core.specs.Trees.{Forest, none, tree, firsts, others, grown}
 use Rattle.tree_meaning.specs.declared.machine.Machine.{Machine}
 use Rattle.tree_meaning.specs.State.{State, sight}
-use Rattle.tree_meaning.specs.Meaning.{acts, done, run}
-use Rattle.tree_meaning.specs.View.{Acted, kid_at}
+use Rattle.tree_meaning.specs.Deeds.{Deed, deed_of, tree_deed}
+use Rattle.tree_meaning.specs.Steps.{deed_step, tree_step}
+use Rattle.tree_meaning.specs.View.{StepsBy, kid_at}
 use Rattle.tree_meaning.specs.declared.value.Meaning.{Meaning}
 use Rattle.tree_meaning.specs.Values.{Sight, meanings, leaf_means}
 use Rattle.std.specs.Prelude.{slice_get}
@@ -26,10 +27,17 @@ meanings-others objects s (suc k) none = refl
 meanings-others objects s (suc k) (tree l below behind) = meanings-others objects s k behind
 
 -- a root does what the tree of its leaves does
-pub root_acts : (p : TreeProgram) (s : State) (w ks : List Leaf) (root : Leaf) (ms : List Meaning) (sorts : List Sort) (a b : Option Meaning) (written : Option ℕ) (new : Machine) → w ≡ root ∷ ks → ms ≡ meanings p.objects (sight s) (grown ks) → sorts ≡ kids root.tok → a ≡ kid_at ms (length sorts) 0 → b ≡ kid_at ms (length sorts) 1 → Acted p (λ to. acts p to s root.tok root.att a b) written new → Acted p (λ to. done p to s (grown w)) written new
-root_acts p s w ks root ms sorts a b written new e m k f g h n =
-    let at : (i : ℕ) → slice_get (meanings p.objects (sight s) (firsts (length (kids root.tok)) (grown ks))) i ≡ kid_at ms (length sorts) i = λ i. ap (λ (xs : List Meaning). slice_get xs i) (meanings-firsts p.objects (sight s) (length (kids root.tok)) (grown ks)) ∙ ap (λ (xs : List Meaning). kid_at xs (length (kids root.tok)) i) (sym m) ∙ ap (λ (xs : List Sort). kid_at ms (length xs) i) (sym k) in
-    ap (λ (v : List Leaf). done p (run p n) s (grown v)) e
-    ∙ ap (λ (x : Option Meaning). acts p (run p n) s root.tok root.att x (slice_get (meanings p.objects (sight s) (firsts (length (kids root.tok)) (grown ks))) 1)) (at 0 ∙ sym f)
-    ∙ ap (acts p (run p n) s root.tok root.att a) (at 1 ∙ sym g)
-    ∙ h n
+pub root_steps : (p : TreeProgram) (s : State) (w ks : List Leaf) (root : Leaf) (ms : List Meaning) (sorts : List Sort) (a b : Option Meaning) (byte : Option ℕ) (new : Machine)
+    → w ≡ root ∷ ks → ms ≡ meanings p.objects (sight s) (grown ks) → sorts ≡ kids root.tok → a ≡ kid_at ms (length sorts) 0 → b ≡ kid_at ms (length sorts) 1
+    → StepsBy p (deed_step p s (deed_of (sight s) root.tok root.att a b)) byte new → StepsBy p (tree_step p s (grown w)) byte new
+root_steps p s w ks root ms sorts a b byte new e m k f g h =
+    let at : (i : ℕ) → slice_get (meanings p.objects (sight s) (firsts (length (kids root.tok)) (grown ks))) i ≡ kid_at ms (length sorts) i =
+    λ i.
+    ap (λ (xs : List Meaning). slice_get xs i) (meanings-firsts p.objects (sight s) (length (kids root.tok)) (grown ks))
+    ∙ ap (λ (xs : List Meaning). kid_at xs (length (kids root.tok)) i) (sym m)
+    ∙ ap (λ (xs : List Sort). kid_at ms (length xs) i) (sym k) in
+    let deed : tree_deed p.objects (sight s) (grown w) ≡ deed_of (sight s) root.tok root.att a b =
+    ap (λ (v : List Leaf). tree_deed p.objects (sight s) (grown v)) e
+    ∙ ap (λ (x : Option Meaning). deed_of (sight s) root.tok root.att x (slice_get (meanings p.objects (sight s) (firsts (length (kids root.tok)) (grown ks))) 1)) (at 0 ∙ sym f)
+    ∙ ap (deed_of (sight s) root.tok root.att a) (at 1 ∙ sym g) in
+    subst (λ (d : Deed). StepsBy p (deed_step p s d) byte new) (sym deed) h

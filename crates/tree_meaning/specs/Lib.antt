@@ -1,6 +1,8 @@
 pub mod Operators
 pub mod Values
 pub mod State
+pub mod Deeds
+pub mod Steps
 pub mod Meaning
-pub mod View
 pub mod Turns
+pub mod View

@@ -4,6 +4,8 @@ use Rattle.tree_core.specs.declared.tree.Leaf.{Leaf}
 use Rattle.tree_core.specs.declared.program.TreeItem.{TreeItem}
 use Rattle.tree_core.specs.declared.program.TreeItem.TheVariants as item
 use Rattle.tree_core.specs.declared.program.TreeFn.{TreeFn}
+use Rattle.tree_meaning.specs.declared.machine.Finish.{Finish}
+use Rattle.tree_meaning.specs.declared.machine.Finish.TheVariants as finish
 use Rattle.tree_meaning.specs.Values.{Sight}
 
 -- A call that is active: its function's items, those still to come, the locals that it has written, its arguments from argument 1 on, the arguments that it has pushed, the last one first, and the result of its last call.
@@ -53,9 +55,9 @@ ahead [] = None
 ahead (item.Label l ∷ is) = ahead is
 ahead (item.Root w ∷ is) = Some (w, is)
 
--- where a run comes to: its end with a value, or a tree
+-- where a run comes to: its end, or a tree
 pub data Next : Type 0 where
-  over : (v : ℕ) → Next
+  over : (e : Finish) → Next
   tree_at : (w : List Leaf) (s : State) → Next
 
 abbrev pub coming : Option (List Leaf × List TreeItem) → Activation → List Activation → List ℕ → List ℕ → Next → Next
@@ -64,7 +66,7 @@ coming (Some r) f callers area input otherwise = tree_at r.0 (record { running =
 
 -- a call is left with a result; where a function's items have ended, it answers 0
 abbrev pub returned : ℕ → List Activation → List ℕ → List ℕ → Next
-returned v [] area input = over v
+returned v [] area input = over (finish.Ended v)
 returned v (f ∷ fs) area input = coming (ahead f.items) (record f { result = v }) fs area input (returned 0 fs area input)
 
 abbrev pub arrived : State → Next

@@ -1,22 +1,98 @@
--- What a run of trees still has to do, and what an answer says of it.
-use Rattle.std.specs.Prelude.{◌≡◌, ℕ, ◌+◌, ◌≤◌, [], Bool, true, false}
+-- The answers of a run of trees, one after another.
+use Rattle.std.specs.Prelude.{◌≡◌, ℕ, zero, suc, ◌+◌, ◌≤◌, List, [], ◌∷◌, Option, Some, None, Bool}
 use Rattle.gg_base.specs.declared.run.End.TheVariants as ends
 use Rattle.gg_base.specs.declared.run.SourceTurn.{SourceTurn}
 use Rattle.gg_base.specs.declared.run.SourceTurn.TheVariants as turns
 use Rattle.gg_base.specs.Runs.{Outcome, Remaining, AdvancesBy}
-use Rattle.tree_meaning.specs.declared.machine.Machine.{Machine}
-use Rattle.tree_meaning.specs.View.{to_come}
+use Rattle.tree_core.specs.declared.program.TreeProgram.{TreeProgram}
+use Rattle.tree_core.specs.Trees.{grown}
+use Rattle.tree_meaning.specs.declared.machine.Finish.{Finish}
+use Rattle.tree_meaning.specs.declared.machine.Finish.TheVariants as finish
+use Rattle.tree_meaning.specs.State.{Activation, Next, over, tree_at}
+use Rattle.tree_meaning.specs.Steps.{Step, Goes, Serves, GoesTo, Enters, GoesBack, Ends, tree_step, next}
+use Rattle.tree_meaning.specs.Meaning.{ended, run, first_at}
+
+-- ---- what is answered to a step
+
+-- the end of a run
+abbrev pub turn_of : Finish → SourceTurn
+turn_of (finish.Ended v) = turns.Ended v
+turn_of finish.Trapped = turns.Trapped
+turn_of finish.Wild = turns.Wild
+turn_of finish.Deep = turns.Deep
+
+abbrev pub byte_turn : Option ℕ → SourceTurn
+byte_turn None = turns.Going
+byte_turn (Some b) = turns.Wrote b
+
+-- main's value ends the run, any other call's doesn't
+abbrev pub return_turn : List Activation → ℕ → SourceTurn
+return_turn [] v = turns.Ended v
+return_turn (f ∷ fs) v = turns.Going
+
+abbrev pub turn : Step → SourceTurn
+turn (Goes s) = turns.Going
+turn (Serves b s) = byte_turn b
+turn (GoesTo label s) = turns.Going
+turn (Enters g arguments s) = turns.Going
+turn (GoesBack v s) = return_turn s.callers v
+turn (Ends e) = turn_of e
+
+-- Answers stand before others; behind an end that end is answered alone.
+abbrev pub before : SourceTurn → List SourceTurn → List SourceTurn
+before turns.Going more = turns.Going ∷ more
+before (turns.Wrote b) more = turns.Wrote b ∷ more
+before (turns.Ended v) more = turns.Ended v ∷ []
+before turns.Trapped more = turns.Trapped ∷ []
+before turns.Wild more = turns.Wild ∷ []
+before turns.Deep more = turns.Deep ∷ []
+before turns.Spent more = turns.Spent ∷ []
+
+-- what is answered one after another, from where a run comes to on and with at most so many trees; the last one is that of the end
+abbrev pub answers : TreeProgram → ℕ → Next → List SourceTurn
+answers program n (over e) = turn_of e ∷ []
+answers program zero (tree_at w s) = turns.Spent ∷ []
+answers program (suc n) (tree_at w s) = before (turn (tree_step program s (grown w))) (answers program n (next (tree_step program s (grown w))))
+
+abbrev pub tree_answers : TreeProgram → List ℕ → ℕ → List SourceTurn
+tree_answers program input n = answers program n (first_at program input)
+
+-- An answer is the first of those that were still to come; that of the end is answered again and again.
+abbrev pub Answers : SourceTurn → List SourceTurn → List SourceTurn → Type 0
+Answers turns.Going old new = old ≡ turns.Going ∷ new
+Answers (turns.Wrote b) old new = old ≡ turns.Wrote b ∷ new
+Answers (turns.Ended v) old new = (old ≡ turns.Ended v ∷ []) × (new ≡ old)
+Answers turns.Trapped old new = (old ≡ turns.Trapped ∷ []) × (new ≡ old)
+Answers turns.Wild old new = (old ≡ turns.Wild ∷ []) × (new ≡ old)
+Answers turns.Deep old new = (old ≡ turns.Deep ∷ []) × (new ≡ old)
+Answers turns.Spent old new = (old ≡ turns.Spent ∷ []) × (new ≡ old)
+
+-- ---- what is still to come of it
 
 -- the number counts from the run's begin
 abbrev pub counted_from : ℕ → Outcome → Outcome
 counted_from taken o = record { output = o.output; end = o.end; number = taken + o.number }
 
-abbrev pub to_go : Bool → Machine → ℕ → Outcome
-to_go true m left = record { output = []; end = ends.Spent; number = 0 }
-to_go false m left = to_come m left
+-- a run that is done tree by tree: the answers that are still to come, and what else is
+pub record Turns : Type 0 where
+  pub answers : List SourceTurn
+  pub remaining : Remaining
 
-abbrev pub remaining : Machine → ℕ → ℕ → Bool → Bool → Remaining
-remaining m left taken spent failed = record { outcome = counted_from taken (to_go spent m left); taken = taken; failed = failed }
+-- at none where it was answered that the number is used up
+abbrev pub answers_at : TreeProgram → Option Next → ℕ → List SourceTurn
+answers_at program None left = turns.Spent ∷ []
+answers_at program (Some x) left = answers program left x
+
+abbrev pub to_come : TreeProgram → Option Next → ℕ → Outcome
+to_come program None left = ended ends.Spent
+to_come program (Some x) left = run program left x
+
+abbrev pub turns_at : TreeProgram → Option Next → ℕ → ℕ → Bool → Turns
+turns_at program at left taken failed =
+    record {
+      answers = answers_at program at left;
+      remaining = record { outcome = counted_from taken (to_come program at left); taken = taken; failed = failed };
+    }
 
 -- the run goes on behind the answer
 abbrev pub GoesOn : SourceTurn → Type 0
@@ -28,7 +104,8 @@ GoesOn turns.Wild = ⊥
 GoesOn turns.Deep = ⊥
 GoesOn turns.Spent = ⊥
 
--- One tree begins at most, and it is counted then, whatever is answered: one does where the run goes on behind the answer, and none where it came to its end before.
+-- One tree begins at most, and it is counted then, whatever is answered: one does where the run goes on behind the answer, and none where it came to
+-- its end before.
 pub record AdvancesTrees (old : Remaining) (turn : SourceTurn) (new : Remaining) : Type 0 where
   pub trees : ℕ
   pub one_at_most : trees ≤ 1

@@ -1,8 +1,10 @@
 // What roots do.
 
 ghost use Rattle.std.specs.Prelude.{◌≡◌, IfOk, OnOk, None, Some};
-ghost use Rattle.tree_meaning.specs.Meaning.{put, assigned, branched, jumped_by, saved, pushed_on, returned_with, entered, wrote, got, served, called_with, called_by, acts};
-ghost use Rattle.tree_meaning.specs.View.{state, Acted, Quietly};
+ghost use Rattle.tree_meaning.specs.Deeds.{Pushes, Returns, given, assigned, branched, jumped_by, saved, called_by, deed_of};
+ghost use Rattle.tree_meaning.specs.State.{sight};
+ghost use Rattle.tree_meaning.specs.Steps.{put, entered, wrote, got, served, called_with};
+ghost use Rattle.tree_meaning.specs.View.{state, StepsBy, Does};
 
 use crate::frame::Frame;
 use crate::machine::{Finish, Machine};
@@ -24,7 +26,7 @@ impl<'a> Machine<'a> {
         second: Option<Meaning>,
     ) -> Result<Option<u8>, NoMemory>
         requires { self.old.over ≡ None }
-        ensures { IfOk result (λ written. Acted self.old.program.now (λ to. acts self.old.program.now to (state self.old) root.tok root.att first second) written self.new) }
+        ensures { IfOk result (λ byte. Does self.old (deed_of (sight (state self.old)) root.tok root.att first second) byte self.new) }
     {
         match root.tok {
             Tok::AssignB | Tok::AssignW | Tok::AssignL => {
@@ -61,7 +63,7 @@ impl<'a> Machine<'a> {
     // A number is put where a place is, which is tested now.
     fn put(&mut self, place: Meaning, number: u32) -> Result<(), NoMemory>
         requires { self.old.over ≡ None }
-        ensures { OnOk result (Quietly self.old.program.now (λ to. put to (state self.old) place number) self.new) }
+        ensures { OnOk result (StepsBy self.old.program.now (put (state self.old) place number) None self.new) }
     {
         match place {
             Meaning::Of(_) => self.end(Finish::Wild),
@@ -78,7 +80,7 @@ impl<'a> Machine<'a> {
 
     fn assign(&mut self, place: Option<Meaning>, value: Value) -> Result<(), NoMemory>
         requires { self.old.over ≡ None }
-        ensures { OnOk result (Quietly self.old.program.now (λ to. assigned to (state self.old) place value) self.new) }
+        ensures { OnOk result (Does self.old (assigned place value) None self.new) }
     {
         match place {
             None => self.end(Finish::Wild),
@@ -95,7 +97,7 @@ impl<'a> Machine<'a> {
 
     fn branch(&mut self, att: Att, v: Value, w: Value)
         requires { self.old.over ≡ None }
-        ensures { Quietly self.old.program.now (λ to. branched to (state self.old) att v w) self.new }
+        ensures { Does self.old (branched att v w) None self.new }
     {
         match att {
             Att::Branch { rel, label } => match (v, w) {
@@ -115,7 +117,7 @@ impl<'a> Machine<'a> {
 
     fn push(&mut self, value: Value) -> Result<(), NoMemory>
         requires { self.old.over ≡ None }
-        ensures { OnOk result (Quietly self.old.program.now (λ to. pushed_on to (state self.old) value) self.new) }
+        ensures { OnOk result (Does self.old (given value Pushes) None self.new) }
     {
         match value {
             Value::Number(number) => self.running.push(number)?,
@@ -127,7 +129,7 @@ impl<'a> Machine<'a> {
 
     fn give_back(&mut self, value: Value)
         requires { self.old.over ≡ None }
-        ensures { Quietly self.old.program.now (λ to. returned_with to (state self.old) value) self.new }
+        ensures { Does self.old (given value Returns) None self.new }
     {
         match value {
             Value::Number(number) => {
@@ -140,7 +142,7 @@ impl<'a> Machine<'a> {
 
     fn save(&mut self, att: Att) -> Result<(), NoMemory>
         requires { self.old.over ≡ None }
-        ensures { OnOk result (Quietly self.old.program.now (λ to. saved to (state self.old) att) self.new) }
+        ensures { OnOk result (Does self.old (saved att) None self.new) }
     {
         match att {
             Att::Slot(local) => self.put(Meaning::Local(local), self.running.result)?,
@@ -151,7 +153,7 @@ impl<'a> Machine<'a> {
 
     fn jump(&mut self, att: Att)
         requires { self.old.over ≡ None }
-        ensures { Quietly self.old.program.now (λ to. jumped_by to (state self.old) att) self.new }
+        ensures { Does self.old (jumped_by att) None self.new }
     {
         match att {
             Att::Label(label) => self.running.jump(label),
@@ -161,7 +163,7 @@ impl<'a> Machine<'a> {
 
     fn call(&mut self, alloc: Global, att: Att) -> Result<Option<u8>, NoMemory>
         requires { self.old.over ≡ None }
-        ensures { IfOk result (λ written. Acted self.old.program.now (λ to. called_by self.old.program.now to (state self.old) att) written self.new) }
+        ensures { IfOk result (λ byte. Does self.old (called_by att) byte self.new) }
     {
         match att {
             Att::Callee { function, count } => {
@@ -182,7 +184,7 @@ impl<'a> Machine<'a> {
         arguments: Vec<u32>,
     ) -> Result<Option<u8>, NoMemory>
         requires { self.old.over ≡ None }
-        ensures { IfOk result (λ written. Acted self.old.program.now (λ to. called_with self.old.program.now to (state self.old) function arguments.items) written self.new) }
+        ensures { IfOk result (λ byte. StepsBy self.old.program.now (called_with self.old.program.now (state self.old) function arguments.items) byte self.new) }
     {
         let functions = self.program.functions.as_slice();
         match functions.get(function as usize) {
@@ -202,7 +204,7 @@ impl<'a> Machine<'a> {
         arguments: Vec<u32>,
     ) -> Result<(), NoMemory>
         requires { self.old.over ≡ None }
-        ensures { OnOk result (Quietly self.old.program.now (λ to. entered to (state self.old) function.now arguments.items) self.new) }
+        ensures { OnOk result (StepsBy self.old.program.now (entered (state self.old) function.now arguments.items) None self.new) }
     {
         if 1 + self.callers.len() < ACTIVE_CALL_LIMIT as usize {
             let begun = Frame::begin(alloc, function, arguments);
@@ -217,7 +219,7 @@ impl<'a> Machine<'a> {
     // `putchar` is the service 0, and `getchar` the service 1.
     fn serve(&mut self, service: usize, arguments: &[u32]) -> Option<u8>
         requires { self.old.over ≡ None }
-        ensures { Acted self.old.program.now (λ to. served to (state self.old) service arguments.now) result self.new }
+        ensures { StepsBy self.old.program.now (served (state self.old) service arguments.now) result self.new }
     {
         match service {
             0 => self.write(arguments.first().copied()),
@@ -235,7 +237,7 @@ impl<'a> Machine<'a> {
     // The low byte of the argument is written, and is the result.
     fn write(&mut self, argument: Option<u32>) -> Option<u8>
         requires { self.old.over ≡ None }
-        ensures { Acted self.old.program.now (λ to. wrote to (state self.old) argument) result self.new }
+        ensures { StepsBy self.old.program.now (wrote (state self.old) argument) result self.new }
     {
         match argument {
             Some(value) => {
@@ -253,7 +255,7 @@ impl<'a> Machine<'a> {
     // The next byte of the input, or -1 at its end, is the result.
     fn get(&mut self)
         requires { self.old.over ≡ None }
-        ensures { Quietly self.old.program.now (λ to. got to (state self.old) (state self.old).input) self.new }
+        ensures { StepsBy self.old.program.now (got (state self.old) (state self.old).input) None self.new }
     {
         match self.input.split_first() {
             Some((byte, rest)) => {

@@ -3,11 +3,13 @@
 
 mod acts;
 mod frame;
+pub mod laws;
 mod machine;
 mod reading;
 mod run;
 mod value;
 
+pub use machine::Finish;
 pub use run::TreeRun;
 pub use value::{Meaning, Value};
 

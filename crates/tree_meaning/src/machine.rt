@@ -1,13 +1,16 @@
 // The machine that runs a tree program.
 
-ghost use Rattle.std.specs.Prelude.{◌≡◌, ◌+◌, ℕ, IfOk, None, Some, length, if◌then◌else◌};
+ghost use Rattle.std.specs.Prelude.{◌≡◌, ◌+◌, IfOk, None, Some, length, if◌then◌else◌};
 ghost use Rattle.std.specs.Bool.{OnTrue, OnFalse};
 ghost use Rattle.std.specs.Option.{option_copied};
 ghost use Rattle.tree_meaning.specs.declared.machine.Finish.TheVariants.{Ended};
 ghost use Rattle.tree_core.specs.Trees.{grown};
 ghost use Rattle.tree_meaning.specs.State.{returned, arrived, over};
-ghost use Rattle.tree_meaning.specs.Meaning.{done, main_of, tree_run};
-ghost use Rattle.tree_meaning.specs.View.{state, to_come, turn_of, turn_behind, Acted, Arrives};
+ghost use Rattle.tree_meaning.specs.Steps.{tree_step};
+ghost use Rattle.tree_meaning.specs.Meaning.{main_of, first_at};
+ghost use Rattle.gg_base.specs.declared.run.SourceTurn.TheVariants.{Going, Ended as EndedTurn};
+ghost use Rattle.tree_meaning.specs.Turns.{turn_of, return_turn};
+ghost use Rattle.tree_meaning.specs.View.{state, place, turn_behind, StepsBy, Arrives};
 
 use crate::frame::{Frame, next_root};
 use crate::reading::take_kids;
@@ -18,7 +21,7 @@ use tree_core::{Leaf, TreeFn, TreeProgram};
 
 /// How a run of trees comes to its end, unless its number is used up.
 #[derive(Clone, Copy, Debug, PartialEq, Eq)]
-pub(crate) enum Finish {
+pub enum Finish {
     Ended(u32),
     Trapped,
     Wild,
@@ -58,7 +61,7 @@ impl<'a> Machine<'a> {
         program: &'a TreeProgram,
         input: &'a [u8],
     ) -> Result<Machine<'a>, NoMemory>
-        ensures { IfOk result (λ m. (n : ℕ) → to_come m n ≡ tree_run program.now input.now n) }
+        ensures { IfOk result (λ m. (place m ≡ first_at program.now input.now) × (m.program.now ≡ program.now)) }
     {
         let area = opening(alloc, program.objects.as_slice())?;
         let running = match main_of(program.functions.as_slice()) {
@@ -105,7 +108,7 @@ impl<'a> Machine<'a> {
     /// Does the effect of a tree, and answers the byte that it writes.
     pub(crate) fn step(&mut self, alloc: Global, leaves: &'a [Leaf]) -> Result<Option<u8>, NoMemory>
         requires { self.old.over ≡ None }
-        ensures { IfOk result (λ written. Acted self.old.program.now (λ to. done self.old.program.now to (state self.old) (grown leaves.now)) written self.new) }
+        ensures { IfOk result (λ byte. StepsBy self.old.program.now (tree_step self.old.program.now (state self.old) (grown leaves.now)) byte self.new) }
     {
         let Some((root, kids)) = leaves.split_first() else {
             self.over = Some(Finish::Wild);
@@ -131,8 +134,9 @@ impl<'a> Machine<'a> {
     // The innermost call is left with a result. False where it was the last one.
     pub(crate) fn leave(&mut self, value: u32) -> bool
         ensures left { OnTrue result (arrived (state self.new) ≡ returned value (state self.old).callers (state self.old).area (state self.old).input) }
-        ensures over { OnFalse result (returned value (state self.old).callers (state self.old).area (state self.old).input ≡ over value) }
+        ensures over { OnFalse result (returned value (state self.old).callers (state self.old).area (state self.old).input ≡ over (Ended value)) }
         ensures end { self.new.over ≡ (if result then self.old.over else Some (Ended value)) }
+        ensures turn { return_turn (state self.old).callers value ≡ (if result then Going else EndedTurn value) }
         ensures fewer { OnTrue result (length self.new.callers.items + 1 ≡ length self.old.callers.items) }
         ensures program { self.new.program ≡ self.old.program }
     {

@@ -3,7 +3,7 @@
 ghost use Rattle.std.specs.Prelude.{◌≡◌, ◌≤◌, true, false, IfOk, IfErr, IsErr};
 ghost use Rattle.gg_base.specs.Runs.{OneEnd};
 ghost use Rattle.tree_meaning.specs.Meaning.{tree_run};
-ghost use Rattle.tree_meaning.specs.Turns.{AdvancesTrees};
+ghost use Rattle.tree_meaning.specs.Turns.{Answers, AdvancesTrees, tree_answers};
 
 use crate::machine::Machine;
 use gg_base::laws::lasting_is_enough;
@@ -25,13 +25,13 @@ pub struct TreeRun<'a> {
 
 impl<'a> Model for TreeRun<'a> {
     ghost use Rattle.std.specs.Prelude.{◌+◌, ◌<◌, ◌^◌};
-    ghost use Rattle.gg_base.specs.Runs.{Remaining};
+    ghost use Rattle.tree_meaning.specs.Turns.{Turns};
 
-    ghost Value = { Remaining };
+    ghost Value = { Turns };
 
-    ghost use Rattle.tree_meaning.specs.Turns.{remaining};
+    ghost use Rattle.tree_meaning.specs.View.{turns_of};
 
-    ghost view = { λ r. remaining r.machine r.left r.taken r.spent r.failed };
+    ghost view = { λ r. turns_of r.machine r.left r.taken r.spent r.failed };
 
     ghost invariant = { λ r. r.taken + r.left < 2 ^ 64 };
 }
@@ -45,7 +45,8 @@ impl<'a> TreeRun<'a> {
         input: &'a [u8],
         n: u64,
     ) -> Result<TreeRun<'a>, NoMemory>
-        ensures begins { IfOk result (λ run. run ≡ record { outcome = tree_run program.now input.now n; taken = 0; failed = false }) }
+        ensures begins { IfOk result (λ run. run.remaining ≡ record { outcome = tree_run program.now input.now n; taken = 0; failed = false }) }
+        ensures answers { IfOk result (λ run. run.answers ≡ tree_answers program.now input.now n) }
         ensures one_end { OneEnd (tree_run program.now input.now) }
     {
         lasting_is_enough();
@@ -63,10 +64,11 @@ impl<'a> TreeRun<'a> {
     /// Goes on to the next event: `Going` where one tree was done that wrote nothing and did not end
     /// the run. After an end it answers that end again, and after `NoMemory` it answers that again.
     pub fn advance(&mut self) -> Result<SourceTurn, NoMemory>
-        ensures turn { IfOk result (λ turn. AdvancesTrees self.old turn self.new) }
-        ensures wanting { IfErr result (λ _. self.new.failed ≡ true) }
-        ensures stays { self.old.failed ≡ true → IsErr result }
-        ensures within { self.new.taken ≤ self.new.outcome.number }
+        ensures turn { IfOk result (λ turn. Answers turn self.old.answers self.new.answers) }
+        ensures run { IfOk result (λ turn. AdvancesTrees self.old.remaining turn self.new.remaining) }
+        ensures wanting { IfErr result (λ _. self.new.remaining.failed ≡ true) }
+        ensures stays { self.old.remaining.failed ≡ true → IsErr result }
+        ensures within { self.new.remaining.taken ≤ self.new.remaining.outcome.number }
     {
         if self.failed {
             return Err(NoMemory);

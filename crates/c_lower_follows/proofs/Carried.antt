@@ -1,0 +1,59 @@
+-- How the run of a tree program goes on behind a tree, by the values that the tree reads.
+use Rattle.std.proofs.Common.{◌≡◌, ℕ, ◌+◌, Bool, true, false, cond, List, ◌∷◌, length, Option, refl, nat_lt}
+use Rattle.gg_base.specs.declared.run.End.TheVariants as ends
+use Rattle.gg_base.specs.declared.relation.Rel.{Rel}
+use Rattle.gg_base.specs.Relations.{holds}
+use Rattle.gg_base.specs.Runs.{Outcome}
+use Rattle.tree_core.specs.declared.program.TreeFn.{TreeFn}
+use Rattle.tree_core.specs.declared.program.TreeProgram.{TreeProgram}
+use Rattle.tree_core.specs.declared.tree.Att.TheVariants as att
+use Rattle.tree_core.specs.Trees.{Forest}
+use Rattle.tree_meaning.specs.declared.value.Value.{Value}
+use Rattle.tree_meaning.specs.declared.value.Value.TheVariants.{Number, ZeroDivisor, Wild}
+use Rattle.tree_meaning.specs.declared.value.Meaning.{Meaning}
+use Rattle.tree_meaning.specs.State.{State, arrived}
+use Rattle.tree_meaning.specs.Deeds.{Deed, assigned as assigned_deed, branched as branched_deed, given as given_deed}
+use Rattle.tree_meaning.specs.Steps.{Step, with_call, with_label, deed_step, tree_step, GoesTo, Goes}
+use Rattle.tree_meaning.specs.Steps as steps
+use Rattle.tree_meaning.specs.Meaning.{To, carried, run, ended}
+use Rattle.tree_meaning.specs.declared.machine.Finish.TheVariants as finish
+
+-- a value goes on, or the run ends
+abbrev pub given : Value → (ℕ → Outcome) → Outcome
+given (Number n) f = f n
+given ZeroDivisor f = ended ends.Trapped
+given Wild f = ended ends.Wild
+
+module _ (program : TreeProgram) (to : To) (s : State) where
+  abbrev pub done : Forest → Outcome
+  done f = carried to (tree_step program s f)
+
+  abbrev pub assigned : Option Meaning → Value → Outcome
+  assigned m v = carried to (deed_step program s (assigned_deed m v))
+
+  abbrev pub called : ℕ → ℕ → Outcome
+  called function count = carried to (steps.called program s function count)
+
+module _ (program : TreeProgram) (m : ℕ) (s : State) where
+  abbrev to : To
+  to = run program m
+
+  pub given_is : (v : Value) (f : ℕ → Deed) → carried to (deed_step program s (given_deed v f)) ≡ given v (λ n. carried to (deed_step program s (f n)))
+  given_is (Number n) f = refl
+  given_is ZeroDivisor f = refl
+  given_is Wild f = refl
+
+  either_is : (b : Bool) (x y : Step) → carried to (cond b x y) ≡ cond b (carried to x) (carried to y)
+  either_is true x y = refl
+  either_is false x y = refl
+
+  pub branched_is : (rel : Rel) (label : ℕ) (o p : Value)
+      → carried to (deed_step program s (branched_deed (att.Branch rel label) o p)) ≡ given o (λ x. given p (λ y. cond (holds rel x y) (to (arrived (with_label s label))) (to (arrived s))))
+  branched_is rel label (Number x) (Number y) = either_is (holds rel x y) (GoesTo label s) (Goes s)
+  branched_is rel label (Number x) ZeroDivisor = refl
+  branched_is rel label (Number x) Wild = refl
+  branched_is rel label ZeroDivisor p = refl
+  branched_is rel label Wild p = refl
+
+  pub entered_is : (g : TreeFn) (arguments : List ℕ) → carried to (steps.entered s g arguments) ≡ cond (nat_lt (1 + length s.callers) 1024) (to (arrived (with_call s g arguments))) (ended ends.Deep)
+  entered_is g arguments = either_is (nat_lt (1 + length s.callers) 1024) (steps.Enters g arguments s) (steps.Ends finish.Deep)
