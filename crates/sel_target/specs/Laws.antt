@@ -3,6 +3,7 @@ use Rattle.sel_target.specs.Meaning.{Meaning}
 use Rattle.sel_target.specs.OperandLaws.{SpellsItself, ReadsWhatIsThere}
 use Rattle.sel_target.specs.TemplateLaws.{RunsInOrder, DoesTemplates, GivesShapes}
 use Rattle.sel_target.specs.SavingLaws.{SavesAndReloads}
+use Rattle.sel_target.specs.StatementLaws.{DoesStatements}
 
 pub record IsLawful {O I S F : Type 0} (of : Meaning O I S F) : Type 0 where
   pub runs : RunsInOrder of
@@ -11,3 +12,4 @@ pub record IsLawful {O I S F : Type 0} (of : Meaning O I S F) : Type 0 where
   pub templates : DoesTemplates of
   pub shapes : GivesShapes of
   pub saves : SavesAndReloads of
+  pub statements : DoesStatements of

@@ -7,5 +7,6 @@ pub mod Meaning
 pub mod OperandLaws
 pub mod Outcomes
 pub mod SavingLaws
+pub mod StatementLaws
 pub mod TemplateLaws
 pub mod Values
