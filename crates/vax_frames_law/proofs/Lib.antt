@@ -1,0 +1,10 @@
+pub mod Entering
+pub mod FrameCode
+pub mod Functions
+pub mod Returning
+pub mod Guarding
+pub mod Closing
+pub mod Labelling
+pub mod Framing
+pub mod Masks
+pub mod Writing

@@ -1,0 +1,5 @@
+pub mod Calling
+pub mod Laws
+pub mod Guarding
+pub mod Within
+pub mod Writing
