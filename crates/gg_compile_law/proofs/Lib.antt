@@ -1,0 +1,13 @@
+pub mod Rooms
+pub mod Facts
+pub mod Forwards
+pub mod Placing
+pub mod Going
+pub mod Roots
+pub mod Following
+pub mod Starting
+pub mod Validity
+pub mod Areas
+pub mod Assembling
+pub mod Simple
+pub mod Demo

@@ -1,0 +1,163 @@
+-- The run of a program's code begins where the run of its trees begins, and follows it.
+use Rattle.std.proofs.Common.{◌≡◌, ℕ, zero, suc, ◌+◌, Bool, true, false, cond, List, [], ◌∷◌, length, Option, Some, None, refl, sym, ap, subst, ◌∙◌, arith}
+use Rattle.std.specs.Prelude.{slice_get, codes, replicate, nat_lt}
+use Rattle.std.specs.List.{find}
+use Rattle.std.specs.Str.{bytes_eq}
+use Rattle.std.proofs.lemmas.List.{length-replicate}
+use Rattle.std.proofs.lemmas.Slice.Eq.{bytes_eq-Decides}
+use Rattle.gg_base.specs.declared.run.End.TheVariants as ends
+use Rattle.gg_base.specs.Runs.{Outcome}
+use Rattle.gg_base.specs.Follows.{IsBroken, NeverBroken, Forward, Follows}
+use Rattle.gg_base.proofs.Following.{follows}
+use Rattle.vax_core.specs.declared.code.Code.{Code}
+use Rattle.vax_machine_live.specs.declared.frame.Frame.{Frame}
+use Rattle.vax_machine.specs.State.{State}
+use Rattle.vax_machine.specs.Area.{zeros}
+use Rattle.vax_machine.specs.Labels.{main_name, label_place}
+use Rattle.vax_machine.specs.Calls.{called}
+use Rattle.vax_machine.specs.Loading.{blank, begun as loaded, start}
+use Rattle.vax_machine.specs.Running.{state_run, run as code_run}
+use Rattle.vax_machine.proofs.Ends.{run_has_one_end}
+use Rattle.tree_core.specs.declared.tree.Leaf.{Leaf}
+use Rattle.tree_core.specs.declared.program.TreeFn.{TreeFn}
+use Rattle.tree_core.specs.declared.program.TreeProgram.{TreeProgram}
+use Rattle.tree_core.specs.Area.{opening}
+use Rattle.tree_core.specs.Trees.{grown}
+use Rattle.tree_meaning.specs.State.{begun, Next, over, tree_at, arrived}
+use Rattle.tree_meaning.specs.State.{State as Trees}
+use Rattle.tree_meaning.specs.Meaning.{run, runs, main_at, main_of, tree_run}
+use Rattle.tree_meaning.proofs.Ending.{tree_run_unbroken}
+use Rattle.vax_states.specs.Stack.{nobody}
+use Rattle.vax_machine_lists.specs.Sound.{AllBelow, IsSound}
+use Rattle.vax_frames.specs.Frames.{function_label}
+use Rattle.gg_compile_law.specs.Programs.{IsEmitted, StandsAt, Waits, ends_run, Stands, IsCompiled, CompiledFollow}
+use Rattle.vax_frames_law.specs.Laws.{Begins}
+use Rattle.gg_compile_law.proofs.Forwards.{asks_led}
+use Rattle.vax_frames_law.proofs.Entering.{CanCall}
+use Rattle.vax_frames_law.proofs.Functions.{begins_with}
+use Rattle.gg_compile_law.proofs.Following.{follows_forward}
+
+-- ---- the function called main
+
+pub found : (fs : List TreeFn) (g : TreeFn) → find (λ f. bytes_eq f.name (codes "main")) fs ≡ Some g → (number : ℕ) × (slice_get fs number ≡ Some g) × (g.name ≡ codes "main")
+found [] g e = absurd cc
+found (f ∷ fs) g e = by (bytes_eq f.name (codes "main")) refl e (found fs g)
+  where
+    some_same : (a b : TreeFn) → ◌≡◌ {A = Option TreeFn} (Some a) (Some b) → a ≡ b
+    some_same a b e = cc
+
+    by : (b : Bool) → bytes_eq f.name (codes "main") ≡ b → cond b (Some f) (find (λ f. bytes_eq f.name (codes "main")) fs) ≡ Some g
+        → (find (λ f. bytes_eq f.name (codes "main")) fs ≡ Some g → (number : ℕ) × (slice_get fs number ≡ Some g) × (g.name ≡ codes "main"))
+        → (number : ℕ) × (slice_get (f ∷ fs) number ≡ Some g) × (g.name ≡ codes "main")
+    by true eq e rest = (0, e, sym (ap (λ (x : TreeFn). x.name) (some_same f g e)) ∙ (bytes_eq-Decides f.name (codes "main")).0 eq)
+    by false eq e rest = let r = rest e in (suc r.0, r.1, r.2)
+
+-- ---- the state before the call of `_main`
+
+below_zeros : (n : ℕ) → AllBelow 256 (replicate n 0)
+below_zeros zero = tt
+below_zeros (suc n) = (omega arith, below_zeros n)
+
+zeros_below : (n : ℕ) → AllBelow 256 (zeros n)
+unfolding zeros
+zeros_below n = below_zeros n
+
+length_zeros : (n : ℕ) → length (zeros n) ≡ n
+unfolding zeros
+length_zeros n = length-replicate n 0
+
+module _ (program : TreeProgram) (c : Code) (h : IsCompiled program c) (input : List ℕ) (bytes : AllBelow 256 input) where
+  blank_sound : IsSound (blank c input)
+  blank_sound = record {
+    going = refl;
+    registers = refl;
+    longwords = (
+      omega arith,
+      (
+        omega arith,
+        (
+          omega arith,
+          (omega arith, (omega arith, (omega arith, (omega arith, (omega arith, (omega arith, (omega arith, (omega arith, (omega arith, (omega arith, (omega arith, (omega arith, tt)))))))))))),
+        ),
+      ),
+    );
+    stack = length_zeros 8388608;
+    stack_bytes = zeros_below 8388608;
+    area = omega (arith, ap length h.area, h.size);
+    area_bytes = subst (λ (l : List ℕ). AllBelow 256 l) (sym h.area) h.bytes;
+    input_bytes = bytes;
+  }
+
+  can : CanCall (blank c input)
+  can = record { sound = blank_sound; space = omega arith; top = omega arith; aligned = refl; live = omega arith; free = λ a k le. refl }
+
+  abbrev the_main : (number : ℕ) × (slice_get program.functions number ≡ Some h.main) × (h.main.name ≡ codes "main")
+  the_main = found program.functions h.main h.main_is
+
+  abbrev em : IsEmitted program c.items h.main
+  em = h.emitted the_main.0 h.main the_main.1
+
+  abbrev first : Trees
+  first = record { running = begun h.main []; callers = []; area = opening program.objects; input = input }
+
+  begins_main : Begins program.objects c.items h.main em.frame [] first (blank c input) 0 None
+  begins_main =
+      begins_with program.objects c.items h.main em.frame (blank c input) can (omega arith) refl 0 None (omega arith) [] [] [] (opening program.objects) input refl
+      (λ i v is. absurd (empty i v is)) h.labelled h.area refl nobody
+    where
+      empty : (i v : ℕ) → slice_get [] i ≡ Some v → ⊥
+      empty zero v e = cc
+      empty (suc i) v e = cc
+
+  stands : Stands program c.items first begins_main.state
+  stands =
+      let b = begins_main in
+      record {
+        e = record { locals = h.main.locals; words = em.frame.words };
+        es = [];
+        g = h.main;
+        is_behind = false;
+        agrees = b.agrees;
+        items = b.items;
+        active = record {
+          number = the_main.0;
+          function = the_main.1;
+          emitted = em;
+          words = refl;
+          locals = refl;
+          items = refl;
+          arguments = sym h.main_args;
+          here = subst (λ (p : ℕ). StandsAt program c.items h.main em.frame.words p h.main.items) (sym b.at) em.begins;
+          order = em.order;
+        };
+        result = λ e. absurd (no_true e);
+        waits = subst (λ (x : List Frame). Waits program c.items x [] []) (sym b.frames) (ends_run b.frame b.is_made.back_is);
+        shallow = omega arith;
+      }
+    where
+      no_true : false ≡ true → ⊥
+      no_true e = cc
+
+  name_is : function_label h.main.name ≡ main_name
+  name_is = ap function_label the_main.2
+
+  start_is : start c input ≡ begins_main.called_state
+  start_is =
+      ap (λ (name : List ℕ). loaded (blank c input) (called (blank c input) 0 (label_place c.items name) None)) (sym name_is)
+      ∙ ap (loaded (blank c input)) begins_main.does
+
+  forward : (k : ℕ) → Forward k (tree_run program input) (code_run c input)
+  forward k =
+      let b = begins_main in
+      subst (λ (g : Option TreeFn). Forward k (runs program (main_at program g input)) (code_run c input)) (sym h.main_is)
+      (subst (λ (m : State). Forward k (runs program (arrived first)) (state_run m)) (sym start_is)
+      (record {
+        at = λ n lt. asks_led b.called_state b.state [] b.steps b.leads n n (omega arith) (run program n (arrived first)).end (run program n (arrived first)).output
+            ((follows_forward program c.items h.emitted k first b.state stands).at n lt);
+      }))
+
+  follows_trees : Follows (tree_run program input) (code_run c input)
+  follows_trees = follows (tree_run program input) (code_run c input) (tree_run_unbroken program input) forward (run_has_one_end c input)
+
+pub compiled_follow : CompiledFollow
+compiled_follow program c h = λ input bytes. follows_trees program c h input bytes

@@ -1,0 +1,33 @@
+-- Returns in whole programs, and the stack's room.
+use Rattle.std.specs.Prelude.{◌≡◌, ℕ, ◌<◌, ◌≤◌, List, [], ◌∷◌, length}
+use Rattle.vax_core.specs.declared.register.Reg.TheVariants.{R0}
+use Rattle.vax_core.specs.declared.code.CodeItem.{CodeItem}
+use Rattle.vax_machine.specs.declared.turn.Stop.TheVariants.{Ended}
+use Rattle.vax_machine.specs.State.{State, reg}
+use Rattle.vax_machine.specs.Calls.{returned}
+use Rattle.tree_core.specs.declared.program.TreeProgram.{TreeProgram}
+use Rattle.tree_meaning.specs.State.{Activation}
+use Rattle.tree_meaning.specs.State.{State as Trees}
+use Rattle.vax_machine_lists.specs.Runs.{Leads, Halts, Gets}
+use Rattle.vax_states.specs.Stack.{Extent}
+use Rattle.vax_states.specs.Agreeing.{Agrees}
+use Rattle.vax_frames_law.specs.Laws.{IsRoomy}
+use Rattle.gg_compile_law.specs.Programs.{Waits, Stands}
+
+-- Behind a return with a value the run is over, or the caller goes on, in a state that stands for the trees' state behind the call.
+abbrev pub ComesBack : TreeProgram → List CodeItem → List Activation → Trees → ℕ → State → List ℕ → Type 0
+ComesBack program code [] t v m w = (count : ℕ) × Halts m w count (Ended v)
+ComesBack program code (c ∷ cs) t v m w =
+    (count : ℕ) × (n : State) × (1 ≤ count) × Leads m w count n × Stands program code (record { running = record c { result = v }; callers = cs; area = t.area; input = t.input }) n
+
+abbrev pub ReturnsComeBack : Type 0
+ReturnsComeBack =
+    (program : TreeProgram) (code : List CodeItem) (m : State) (w : List ℕ) (j : ℕ) (e : Extent) (es : List Extent) (t : Trees) (mr : State)
+    → Gets m w j (returned mr) → Agrees program.objects e es t mr → mr.items ≡ code → (v : ℕ) → reg mr R0 ≡ v
+    → Waits program code mr.frames es t.callers → length t.callers < 1024 → ComesBack program code t.callers t v m w
+
+-- The stack has room for a whole call, as long as at most 1,024 calls are active.
+abbrev pub StackHasRoom : Type 0
+StackHasRoom =
+    (program : TreeProgram) (code : List CodeItem) (e : Extent) (es : List Extent) (t : Trees) (m : State)
+    → Agrees program.objects e es t m → e.words ≤ 1024 → length t.running.pushed ≤ 255 → Waits program code m.frames es t.callers → length t.callers < 1024 → IsRoomy m
