@@ -265,8 +265,8 @@ pub fn expression(
             open,
             index: by,
         } => {
-            let x = expression(alloc, functions, blocks, base, layout)?;
-            let y = expression(alloc, functions, blocks, by, layout)?;
+            let x = boxed(alloc, functions, blocks, base, layout)?;
+            let y = boxed(alloc, functions, blocks, by, layout)?;
             index(alloc, *open, x, y)
         }
         Expr::StepAfter {
@@ -290,20 +290,20 @@ pub fn expression(
             at,
             operand,
         } => {
-            let x = expression(alloc, functions, blocks, operand, layout)?;
-            prefix(alloc, *operator, *at, x)
+            let x = boxed(alloc, functions, blocks, operand, layout)?;
+            prefix(*operator, *at, x)
         }
         Expr::SizeofExpr { at, operand } => {
             if is_function(functions, blocks, operand) {
                 return bad_type(*at);
             }
-            let x = expression(alloc, functions, blocks, operand, layout)?;
-            sizeof_expression(alloc, *at, x)
+            let x = boxed(alloc, functions, blocks, operand, layout)?;
+            sizeof_expression(*at, x)
         }
         Expr::SizeofType { at, of, .. } => sizeof_type(*at, written(of.spec, &of.stars)),
         Expr::Cast { open, to, operand } => {
-            let x = expression(alloc, functions, blocks, operand, layout)?;
-            cast(alloc, *open, written(to.spec, &to.stars), x)
+            let x = boxed(alloc, functions, blocks, operand, layout)?;
+            cast(*open, written(to.spec, &to.stars), x)
         }
         Expr::Binary {
             left,
@@ -311,9 +311,9 @@ pub fn expression(
             at,
             right,
         } => {
-            let x = expression(alloc, functions, blocks, left, layout)?;
-            let y = expression(alloc, functions, blocks, right, layout)?;
-            binary(alloc, *operator, *at, x, y)
+            let x = boxed(alloc, functions, blocks, left, layout)?;
+            let y = boxed(alloc, functions, blocks, right, layout)?;
+            binary(*operator, *at, x, y)
         }
         Expr::Choice {
             condition,
@@ -321,10 +321,10 @@ pub fn expression(
             first,
             second,
         } => {
-            let c = expression(alloc, functions, blocks, condition, layout)?;
-            let x = expression(alloc, functions, blocks, first, layout)?;
-            let y = expression(alloc, functions, blocks, second, layout)?;
-            choice(alloc, *at, c, x, y)
+            let c = boxed(alloc, functions, blocks, condition, layout)?;
+            let x = boxed(alloc, functions, blocks, first, layout)?;
+            let y = boxed(alloc, functions, blocks, second, layout)?;
+            choice(*at, c, x, y)
         }
         Expr::Assign {
             place,
@@ -332,16 +332,30 @@ pub fn expression(
             at,
             value,
         } => {
-            let x = expression(alloc, functions, blocks, place, layout)?;
-            let y = expression(alloc, functions, blocks, value, layout)?;
-            assign(alloc, *operator, *at, x, y)
+            let x = boxed(alloc, functions, blocks, place, layout)?;
+            let y = boxed(alloc, functions, blocks, value, layout)?;
+            assign(*operator, *at, x, y)
         }
         Expr::Comma { left, right } => {
-            let x = expression(alloc, functions, blocks, left, layout)?;
-            let y = expression(alloc, functions, blocks, right, layout)?;
-            comma(alloc, x, y)
+            let x = boxed(alloc, functions, blocks, left, layout)?;
+            let y = boxed(alloc, functions, blocks, right, layout)?;
+            Ok(comma(x, y))
         }
     }
+}
+
+// An operand, in a box of its own: a node is made of boxes, so that no large value is held while the next operand is read.
+#[cycle(phrase)]
+fn boxed(
+    alloc: Global,
+    functions: &Functions,
+    blocks: &Blocks,
+    e: &Expr,
+    layout: &mut Data,
+) -> Result<Box<Expression>, TypeFault>
+    ensures { Turns (λ t. term t.value) result (area layout.new) (type_exp functions.now.names functions.now.signatures.items (scope blocks.now) (exp e.now) (area layout.old)) }
+{
+    Ok(Box::new(alloc, expression(alloc, functions, blocks, e, layout)?)?)
 }
 
 /// Expressions one after another.

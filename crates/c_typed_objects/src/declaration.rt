@@ -43,7 +43,7 @@ fn begin(
                 e,
                 &mut environment.layout,
             )?;
-            let x = give(alloc, of, first(e), x)?;
+            let x = give(of, first(e), Box::new(alloc, x)?)?;
             Ok(Declaration::Begin(number, x))
         }
     }

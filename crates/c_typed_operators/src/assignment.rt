@@ -8,14 +8,13 @@ use crate::rules::fits;
 use c_phrases::operator::AssignOperator;
 use c_types::fault::bad_type;
 use c_types::{ArithmeticOperator, CType, Expression, Place, TypeFault};
-use std::alloc::Global;
 
 #[tactic(auto, unfolding(crate::specs::Rules::store))]
-fn store(alloc: Global, at: u32, place: Place, y: Expression) -> Result<Expression, TypeFault>
-    ensures { Gives (λ t. term t) result (store at (place_of place) (term y)) }
+fn store(at: u32, place: Place, y: Box<Expression>) -> Result<Expression, TypeFault>
+    ensures { Gives (λ t. term t) result (store at (place_of place) (term y.value)) }
 {
     if fits(place.ctype(), &y) {
-        Ok(Expression::Assign(place, Box::new(alloc, y)?))
+        Ok(Expression::Assign(place, y))
     } else {
         bad_type(at)
     }
@@ -23,24 +22,23 @@ fn store(alloc: Global, at: u32, place: Place, y: Expression) -> Result<Expressi
 
 #[tactic(auto, unfolding(crate::specs::Rules::arithmetic_store))]
 fn arithmetic_store(
-    alloc: Global,
     op: ArithmeticOperator,
     at: u32,
     place: Place,
-    y: Expression,
+    y: Box<Expression>,
 ) -> Result<Expression, TypeFault>
-    ensures { Gives (λ t. term t) result (arithmetic_store op at (place_of place) (term y)) }
+    ensures { Gives (λ t. term t) result (arithmetic_store op at (place_of place) (term y.value)) }
 {
     if place.ctype().is_integer() && y.ctype().is_integer() {
-        Ok(Expression::ArithmeticAssign(op, place, Box::new(alloc, y)?))
+        Ok(Expression::ArithmeticAssign(op, place, y))
     } else {
         bad_type(at)
     }
 }
 
 #[tactic(auto, unfolding(crate::specs::Rules::plus_store))]
-fn plus_store(alloc: Global, at: u32, place: Place, y: Expression) -> Result<Expression, TypeFault>
-    ensures { Gives (λ t. term t) result (plus_store at (place_of place) (term y)) }
+fn plus_store(at: u32, place: Place, y: Box<Expression>) -> Result<Expression, TypeFault>
+    ensures { Gives (λ t. term t) result (plus_store at (place_of place) (term y.value)) }
 {
     match place.ctype() {
         CType::Void => bad_type(at),
@@ -49,21 +47,21 @@ fn plus_store(alloc: Global, at: u32, place: Place, y: Expression) -> Result<Exp
             CType::Integer(_) => Ok(Expression::ArithmeticAssign(
                 ArithmeticOperator::Add,
                 place,
-                Box::new(alloc, y)?,
+                y,
             )),
             CType::Pointer(_, _) => bad_type(at),
         },
         CType::Pointer(_, _) => match y.ctype() {
             CType::Void => bad_type(at),
-            CType::Integer(_) => Ok(Expression::AdvanceAssign(place, Box::new(alloc, y)?)),
+            CType::Integer(_) => Ok(Expression::AdvanceAssign(place, y)),
             CType::Pointer(_, _) => bad_type(at),
         },
     }
 }
 
 #[tactic(auto, unfolding(crate::specs::Rules::minus_store))]
-fn minus_store(alloc: Global, at: u32, place: Place, y: Expression) -> Result<Expression, TypeFault>
-    ensures { Gives (λ t. term t) result (minus_store at (place_of place) (term y)) }
+fn minus_store(at: u32, place: Place, y: Box<Expression>) -> Result<Expression, TypeFault>
+    ensures { Gives (λ t. term t) result (minus_store at (place_of place) (term y.value)) }
 {
     match place.ctype() {
         CType::Void => bad_type(at),
@@ -72,13 +70,13 @@ fn minus_store(alloc: Global, at: u32, place: Place, y: Expression) -> Result<Ex
             CType::Integer(_) => Ok(Expression::ArithmeticAssign(
                 ArithmeticOperator::Subtract,
                 place,
-                Box::new(alloc, y)?,
+                y,
             )),
             CType::Pointer(_, _) => bad_type(at),
         },
         CType::Pointer(_, _) => match y.ctype() {
             CType::Void => bad_type(at),
-            CType::Integer(_) => Ok(Expression::RetreatAssign(place, Box::new(alloc, y)?)),
+            CType::Integer(_) => Ok(Expression::RetreatAssign(place, y)),
             CType::Pointer(_, _) => bad_type(at),
         },
     }
@@ -86,45 +84,25 @@ fn minus_store(alloc: Global, at: u32, place: Place, y: Expression) -> Result<Ex
 
 #[tactic(auto, unfolding(crate::specs::Rules::store_by))]
 fn store_by(
-    alloc: Global,
     op: AssignOperator,
     at: u32,
     place: Place,
-    y: Expression,
+    y: Box<Expression>,
 ) -> Result<Expression, TypeFault>
-    ensures { Gives (λ t. term t) result (store_by op at (place_of place) (term y)) }
+    ensures { Gives (λ t. term t) result (store_by op at (place_of place) (term y.value)) }
 {
     match op {
-        AssignOperator::Assign => store(alloc, at, place, y),
-        AssignOperator::Add => plus_store(alloc, at, place, y),
-        AssignOperator::Subtract => minus_store(alloc, at, place, y),
-        AssignOperator::Multiply => arithmetic_store(
-            alloc,
-            ArithmeticOperator::Multiply,
-            at,
-            place,
-            y,
-        ),
-        AssignOperator::Divide => arithmetic_store(alloc, ArithmeticOperator::Divide, at, place, y),
-        AssignOperator::Remainder => arithmetic_store(
-            alloc,
-            ArithmeticOperator::Remainder,
-            at,
-            place,
-            y,
-        ),
-        AssignOperator::And => arithmetic_store(alloc, ArithmeticOperator::And, at, place, y),
-        AssignOperator::Xor => arithmetic_store(alloc, ArithmeticOperator::Xor, at, place, y),
-        AssignOperator::Or => arithmetic_store(alloc, ArithmeticOperator::Or, at, place, y),
-        AssignOperator::ShiftLeft => arithmetic_store(
-            alloc,
-            ArithmeticOperator::ShiftLeft,
-            at,
-            place,
-            y,
-        ),
+        AssignOperator::Assign => store(at, place, y),
+        AssignOperator::Add => plus_store(at, place, y),
+        AssignOperator::Subtract => minus_store(at, place, y),
+        AssignOperator::Multiply => arithmetic_store(ArithmeticOperator::Multiply, at, place, y),
+        AssignOperator::Divide => arithmetic_store(ArithmeticOperator::Divide, at, place, y),
+        AssignOperator::Remainder => arithmetic_store(ArithmeticOperator::Remainder, at, place, y),
+        AssignOperator::And => arithmetic_store(ArithmeticOperator::And, at, place, y),
+        AssignOperator::Xor => arithmetic_store(ArithmeticOperator::Xor, at, place, y),
+        AssignOperator::Or => arithmetic_store(ArithmeticOperator::Or, at, place, y),
+        AssignOperator::ShiftLeft => arithmetic_store(ArithmeticOperator::ShiftLeft, at, place, y),
         AssignOperator::ShiftRight => arithmetic_store(
-            alloc,
             ArithmeticOperator::ShiftRight,
             at,
             place,
@@ -136,16 +114,15 @@ fn store_by(
 /// `=` or a compound assignment, whose left side has to be a place.
 #[tactic(auto, unfolding(crate::specs::Rules::assign_of))]
 pub fn assign(
-    alloc: Global,
     op: AssignOperator,
     at: u32,
-    x: Expression,
-    y: Expression,
+    x: Box<Expression>,
+    y: Box<Expression>,
 ) -> Result<Expression, TypeFault>
-    ensures { Gives (λ t. term t) result (assign_of op at (term x) (term y)) }
+    ensures { Gives (λ t. term t) result (assign_of op at (term x.value) (term y.value)) }
 {
-    match x {
-        Expression::Read(place) => store_by(alloc, op, at, place, y),
+    match Box::into_inner(x) {
+        Expression::Read(place) => store_by(op, at, place, y),
         _ => bad_type(at),
     }
 }

@@ -28,81 +28,56 @@ pub fn fits(to: CType, x: &Expression) -> bool
 
 #[tactic(auto, unfolding(crate::specs::Rules::arithmetic))]
 fn arithmetic(
-    alloc: Global,
     op: ArithmeticOperator,
     at: u32,
-    x: Expression,
-    y: Expression,
+    x: Box<Expression>,
+    y: Box<Expression>,
 ) -> Result<Expression, TypeFault>
-    ensures { Gives (λ t. term t) result (arithmetic op at (term x) (term y)) }
+    ensures { Gives (λ t. term t) result (arithmetic op at (term x.value) (term y.value)) }
 {
     if x.ctype().is_integer() && y.ctype().is_integer() {
-        Ok(Expression::Arithmetic(op, Box::new(alloc, x)?, Box::new(alloc, y)?))
+        Ok(Expression::Arithmetic(op, x, y))
     } else {
         bad_type(at)
     }
 }
 
 #[tactic(auto, unfolding(crate::specs::Rules::plus))]
-fn plus(alloc: Global, at: u32, x: Expression, y: Expression) -> Result<Expression, TypeFault>
-    ensures { Gives (λ t. term t) result (plus at (term x) (term y)) }
+fn plus(at: u32, x: Box<Expression>, y: Box<Expression>) -> Result<Expression, TypeFault>
+    ensures { Gives (λ t. term t) result (plus at (term x.value) (term y.value)) }
 {
     match x.ctype() {
         CType::Void => bad_type(at),
         CType::Integer(_) => match y.ctype() {
             CType::Void => bad_type(at),
-            CType::Integer(_) => Ok(Expression::Arithmetic(
-                ArithmeticOperator::Add,
-                Box::new(alloc, x)?,
-                Box::new(alloc, y)?,
-            )),
-            CType::Pointer(to, stars) => Ok(Expression::AdvanceBy(
-                CType::Pointer(to, stars),
-                Box::new(alloc, x)?,
-                Box::new(alloc, y)?,
-            )),
+            CType::Integer(_) => Ok(Expression::Arithmetic(ArithmeticOperator::Add, x, y)),
+            CType::Pointer(to, stars) => Ok(Expression::AdvanceBy(CType::Pointer(to, stars), x, y)),
         },
         CType::Pointer(to, stars) => match y.ctype() {
             CType::Void => bad_type(at),
-            CType::Integer(_) => Ok(Expression::Advance(
-                CType::Pointer(to, stars),
-                Box::new(alloc, x)?,
-                Box::new(alloc, y)?,
-            )),
+            CType::Integer(_) => Ok(Expression::Advance(CType::Pointer(to, stars), x, y)),
             CType::Pointer(_, _) => bad_type(at),
         },
     }
 }
 
 #[tactic(auto, unfolding(crate::specs::Rules::minus))]
-fn minus(alloc: Global, at: u32, x: Expression, y: Expression) -> Result<Expression, TypeFault>
-    ensures { Gives (λ t. term t) result (minus at (term x) (term y)) }
+fn minus(at: u32, x: Box<Expression>, y: Box<Expression>) -> Result<Expression, TypeFault>
+    ensures { Gives (λ t. term t) result (minus at (term x.value) (term y.value)) }
 {
     match x.ctype() {
         CType::Void => bad_type(at),
         CType::Integer(_) => match y.ctype() {
             CType::Void => bad_type(at),
-            CType::Integer(_) => Ok(Expression::Arithmetic(
-                ArithmeticOperator::Subtract,
-                Box::new(alloc, x)?,
-                Box::new(alloc, y)?,
-            )),
+            CType::Integer(_) => Ok(Expression::Arithmetic(ArithmeticOperator::Subtract, x, y)),
             CType::Pointer(_, _) => bad_type(at),
         },
         CType::Pointer(to, stars) => match y.ctype() {
             CType::Void => bad_type(at),
-            CType::Integer(_) => Ok(Expression::Retreat(
-                CType::Pointer(to, stars),
-                Box::new(alloc, x)?,
-                Box::new(alloc, y)?,
-            )),
+            CType::Integer(_) => Ok(Expression::Retreat(CType::Pointer(to, stars), x, y)),
             CType::Pointer(other, others) => {
                 if CType::Pointer(to, stars).is_same(CType::Pointer(other, others)) {
-                    Ok(Expression::Distance(
-                        CType::Pointer(to, stars),
-                        Box::new(alloc, x)?,
-                        Box::new(alloc, y)?,
-                    ))
+                    Ok(Expression::Distance(CType::Pointer(to, stars), x, y))
                 } else {
                     bad_type(at)
                 }
@@ -113,24 +88,19 @@ fn minus(alloc: Global, at: u32, x: Expression, y: Expression) -> Result<Express
 
 #[tactic(auto, unfolding(crate::specs::Rules::order))]
 fn order(
-    alloc: Global,
     signed: Rel,
     unsigned: Rel,
     at: u32,
-    x: Expression,
-    y: Expression,
+    x: Box<Expression>,
+    y: Box<Expression>,
 ) -> Result<Expression, TypeFault>
-    ensures { Gives (λ t. term t) result (order signed unsigned at (term x) (term y)) }
+    ensures { Gives (λ t. term t) result (order signed unsigned at (term x.value) (term y.value)) }
 {
     match x.ctype() {
         CType::Void => bad_type(at),
         CType::Integer(_) => match y.ctype() {
             CType::Void => bad_type(at),
-            CType::Integer(_) => Ok(Expression::Compare(
-                signed,
-                Box::new(alloc, x)?,
-                Box::new(alloc, y)?,
-            )),
+            CType::Integer(_) => Ok(Expression::Compare(signed, x, y)),
             CType::Pointer(_, _) => bad_type(at),
         },
         CType::Pointer(to, stars) => match y.ctype() {
@@ -138,7 +108,7 @@ fn order(
             CType::Integer(_) => bad_type(at),
             CType::Pointer(other, others) => {
                 if CType::Pointer(to, stars).is_same(CType::Pointer(other, others)) {
-                    Ok(Expression::Compare(unsigned, Box::new(alloc, x)?, Box::new(alloc, y)?))
+                    Ok(Expression::Compare(unsigned, x, y))
                 } else {
                     bad_type(at)
                 }
@@ -164,38 +134,37 @@ fn are_comparable(x: &Expression, y: &Expression) -> bool
 
 #[tactic(auto, unfolding(crate::specs::Rules::equality))]
 fn equality(
-    alloc: Global,
     rel: Rel,
     at: u32,
-    x: Expression,
-    y: Expression,
+    x: Box<Expression>,
+    y: Box<Expression>,
 ) -> Result<Expression, TypeFault>
-    ensures { Gives (λ t. term t) result (equality rel at (term x) (term y)) }
+    ensures { Gives (λ t. term t) result (equality rel at (term x.value) (term y.value)) }
 {
     if are_comparable(&x, &y) {
-        Ok(Expression::Compare(rel, Box::new(alloc, x)?, Box::new(alloc, y)?))
+        Ok(Expression::Compare(rel, x, y))
     } else {
         bad_type(at)
     }
 }
 
 #[tactic(auto, unfolding(crate::specs::Rules::both))]
-fn both(alloc: Global, at: u32, x: Expression, y: Expression) -> Result<Expression, TypeFault>
-    ensures { Gives (λ t. term t) result (both at (term x) (term y)) }
+fn both(at: u32, x: Box<Expression>, y: Box<Expression>) -> Result<Expression, TypeFault>
+    ensures { Gives (λ t. term t) result (both at (term x.value) (term y.value)) }
 {
     if x.ctype().is_scalar() && y.ctype().is_scalar() {
-        Ok(Expression::AndAnd(Box::new(alloc, x)?, Box::new(alloc, y)?))
+        Ok(Expression::AndAnd(x, y))
     } else {
         bad_type(at)
     }
 }
 
 #[tactic(auto, unfolding(crate::specs::Rules::either))]
-fn either(alloc: Global, at: u32, x: Expression, y: Expression) -> Result<Expression, TypeFault>
-    ensures { Gives (λ t. term t) result (either at (term x) (term y)) }
+fn either(at: u32, x: Box<Expression>, y: Box<Expression>) -> Result<Expression, TypeFault>
+    ensures { Gives (λ t. term t) result (either at (term x.value) (term y.value)) }
 {
     if x.ctype().is_scalar() && y.ctype().is_scalar() {
-        Ok(Expression::OrOr(Box::new(alloc, x)?, Box::new(alloc, y)?))
+        Ok(Expression::OrOr(x, y))
     } else {
         bad_type(at)
     }
@@ -204,93 +173,97 @@ fn either(alloc: Global, at: u32, x: Expression, y: Expression) -> Result<Expres
 /// A binary operator between two operands.
 #[tactic(auto, unfolding(crate::specs::Rules::binary_of))]
 pub fn binary(
-    alloc: Global,
     op: BinaryOperator,
     at: u32,
-    x: Expression,
-    y: Expression,
+    x: Box<Expression>,
+    y: Box<Expression>,
 ) -> Result<Expression, TypeFault>
-    ensures { Gives (λ t. term t) result (binary_of op at (term x) (term y)) }
+    ensures { Gives (λ t. term t) result (binary_of op at (term x.value) (term y.value)) }
 {
     match op {
-        BinaryOperator::OrOr => either(alloc, at, x, y),
-        BinaryOperator::AndAnd => both(alloc, at, x, y),
-        BinaryOperator::Or => arithmetic(alloc, ArithmeticOperator::Or, at, x, y),
-        BinaryOperator::Xor => arithmetic(alloc, ArithmeticOperator::Xor, at, x, y),
-        BinaryOperator::And => arithmetic(alloc, ArithmeticOperator::And, at, x, y),
-        BinaryOperator::Equal => equality(alloc, Rel::Eq, at, x, y),
-        BinaryOperator::NotEqual => equality(alloc, Rel::Ne, at, x, y),
-        BinaryOperator::Less => order(alloc, Rel::Lt, Rel::Ltu, at, x, y),
-        BinaryOperator::LessEqual => order(alloc, Rel::Le, Rel::Leu, at, x, y),
-        BinaryOperator::Greater => order(alloc, Rel::Gt, Rel::Gtu, at, x, y),
-        BinaryOperator::GreaterEqual => order(alloc, Rel::Ge, Rel::Geu, at, x, y),
-        BinaryOperator::ShiftLeft => arithmetic(alloc, ArithmeticOperator::ShiftLeft, at, x, y),
-        BinaryOperator::ShiftRight => arithmetic(alloc, ArithmeticOperator::ShiftRight, at, x, y),
-        BinaryOperator::Add => plus(alloc, at, x, y),
-        BinaryOperator::Subtract => minus(alloc, at, x, y),
-        BinaryOperator::Multiply => arithmetic(alloc, ArithmeticOperator::Multiply, at, x, y),
-        BinaryOperator::Divide => arithmetic(alloc, ArithmeticOperator::Divide, at, x, y),
-        BinaryOperator::Remainder => arithmetic(alloc, ArithmeticOperator::Remainder, at, x, y),
+        BinaryOperator::OrOr => either(at, x, y),
+        BinaryOperator::AndAnd => both(at, x, y),
+        BinaryOperator::Or => arithmetic(ArithmeticOperator::Or, at, x, y),
+        BinaryOperator::Xor => arithmetic(ArithmeticOperator::Xor, at, x, y),
+        BinaryOperator::And => arithmetic(ArithmeticOperator::And, at, x, y),
+        BinaryOperator::Equal => equality(Rel::Eq, at, x, y),
+        BinaryOperator::NotEqual => equality(Rel::Ne, at, x, y),
+        BinaryOperator::Less => order(Rel::Lt, Rel::Ltu, at, x, y),
+        BinaryOperator::LessEqual => order(Rel::Le, Rel::Leu, at, x, y),
+        BinaryOperator::Greater => order(Rel::Gt, Rel::Gtu, at, x, y),
+        BinaryOperator::GreaterEqual => order(Rel::Ge, Rel::Geu, at, x, y),
+        BinaryOperator::ShiftLeft => arithmetic(ArithmeticOperator::ShiftLeft, at, x, y),
+        BinaryOperator::ShiftRight => arithmetic(ArithmeticOperator::ShiftRight, at, x, y),
+        BinaryOperator::Add => plus(at, x, y),
+        BinaryOperator::Subtract => minus(at, x, y),
+        BinaryOperator::Multiply => arithmetic(ArithmeticOperator::Multiply, at, x, y),
+        BinaryOperator::Divide => arithmetic(ArithmeticOperator::Divide, at, x, y),
+        BinaryOperator::Remainder => arithmetic(ArithmeticOperator::Remainder, at, x, y),
     }
 }
 
 #[tactic(auto, unfolding(crate::specs::Rules::unary))]
-fn unary(alloc: Global, op: UnaryOperator, at: u32, x: Expression) -> Result<Expression, TypeFault>
-    ensures { Gives (λ t. term t) result (unary op at (term x)) }
+fn unary(op: UnaryOperator, at: u32, x: Box<Expression>) -> Result<Expression, TypeFault>
+    ensures { Gives (λ t. term t) result (unary op at (term x.value)) }
 {
     if x.ctype().is_integer() {
-        Ok(Expression::Unary(op, Box::new(alloc, x)?))
+        Ok(Expression::Unary(op, x))
     } else {
         bad_type(at)
     }
 }
 
 #[tactic(auto, unfolding(crate::specs::Rules::negation))]
-fn negation(alloc: Global, at: u32, x: Expression) -> Result<Expression, TypeFault>
-    ensures { Gives (λ t. term t) result (negation at (term x)) }
+fn negation(at: u32, x: Box<Expression>) -> Result<Expression, TypeFault>
+    ensures { Gives (λ t. term t) result (negation at (term x.value)) }
 {
     if x.ctype().is_scalar() {
-        Ok(Expression::Unary(UnaryOperator::Not, Box::new(alloc, x)?))
+        Ok(Expression::Unary(UnaryOperator::Not, x))
     } else {
         bad_type(at)
     }
 }
 
 #[tactic(auto, unfolding(crate::specs::Rules::indirection))]
-fn indirection(alloc: Global, at: u32, x: Expression) -> Result<Expression, TypeFault>
-    ensures { Gives (λ t. term t) result (indirection at (term x)) }
+fn indirection(at: u32, x: Box<Expression>) -> Result<Expression, TypeFault>
+    ensures { Gives (λ t. term t) result (indirection at (term x.value)) }
 {
     match x.ctype() {
         CType::Void => bad_type(at),
         CType::Integer(_) => bad_type(at),
         CType::Pointer(to, stars) => Ok(Expression::Read(Place::Indirection(
             CType::target(to, stars),
-            Box::new(alloc, x)?,
+            x,
         ))),
     }
 }
 
 #[tactic(auto, unfolding(crate::specs::Rules::element))]
-fn element(alloc: Global, at: u32, sum: Expression) -> Result<Expression, TypeFault>
-    ensures { Gives (λ t. term t) result (element at (term sum)) }
+fn element(at: u32, sum: Box<Expression>) -> Result<Expression, TypeFault>
+    ensures { Gives (λ t. term t) result (element at (term sum.value)) }
 {
     match sum.ctype() {
         CType::Void => bad_type(at),
         CType::Integer(_) => bad_type(at),
         CType::Pointer(to, stars) => Ok(Expression::Read(Place::Index(
             CType::target(to, stars),
-            Box::new(alloc, sum)?,
+            sum,
         ))),
     }
 }
 
 /// `a[i]`, with the pointer on either side.
 #[tactic(auto, unfolding(crate::specs::Rules::index_of))]
-pub fn index(alloc: Global, at: u32, x: Expression, y: Expression) -> Result<Expression, TypeFault>
-    ensures { Gives (λ t. term t) result (index_of at (term x) (term y)) }
+pub fn index(
+    alloc: Global,
+    at: u32,
+    x: Box<Expression>,
+    y: Box<Expression>,
+) -> Result<Expression, TypeFault>
+    ensures { Gives (λ t. term t) result (index_of at (term x.value) (term y.value)) }
 {
-    let sum = plus(alloc, at, x, y)?;
-    element(alloc, at, sum)
+    let sum = plus(at, x, y)?;
+    element(at, Box::new(alloc, sum)?)
 }
 
 #[tactic(auto, unfolding(crate::specs::Rules::address_of, c_types::specs::Types::pointer_to))]
@@ -324,21 +297,16 @@ fn address(at: u32, x: Expression) -> Result<Expression, TypeFault>
 
 /// An operator in front of its operand.
 #[tactic(auto, unfolding(crate::specs::Rules::prefix_of))]
-pub fn prefix(
-    alloc: Global,
-    op: PrefixOperator,
-    at: u32,
-    x: Expression,
-) -> Result<Expression, TypeFault>
-    ensures { Gives (λ t. term t) result (prefix_of op at (term x)) }
+pub fn prefix(op: PrefixOperator, at: u32, x: Box<Expression>) -> Result<Expression, TypeFault>
+    ensures { Gives (λ t. term t) result (prefix_of op at (term x.value)) }
 {
     match op {
-        PrefixOperator::Plus => unary(alloc, UnaryOperator::Plus, at, x),
-        PrefixOperator::Minus => unary(alloc, UnaryOperator::Minus, at, x),
-        PrefixOperator::Complement => unary(alloc, UnaryOperator::Complement, at, x),
-        PrefixOperator::Not => negation(alloc, at, x),
-        PrefixOperator::Indirection => indirection(alloc, at, x),
-        PrefixOperator::Address => address(at, x),
+        PrefixOperator::Plus => unary(UnaryOperator::Plus, at, x),
+        PrefixOperator::Minus => unary(UnaryOperator::Minus, at, x),
+        PrefixOperator::Complement => unary(UnaryOperator::Complement, at, x),
+        PrefixOperator::Not => negation(at, x),
+        PrefixOperator::Indirection => indirection(at, x),
+        PrefixOperator::Address => address(at, Box::into_inner(x)),
     }
 }
 
@@ -376,11 +344,11 @@ pub fn step(
 
 /// A cast to this type, from an integer or a pointer.
 #[tactic(auto, unfolding(crate::specs::Rules::cast_of))]
-pub fn cast(alloc: Global, at: u32, to: CType, x: Expression) -> Result<Expression, TypeFault>
-    ensures { Gives (λ t. term t) result (cast_of at to (term x)) }
+pub fn cast(at: u32, to: CType, x: Box<Expression>) -> Result<Expression, TypeFault>
+    ensures { Gives (λ t. term t) result (cast_of at to (term x.value)) }
 {
     if to.is_scalar() && x.ctype().is_scalar() {
-        Ok(Expression::Cast(to, Box::new(alloc, x)?))
+        Ok(Expression::Cast(to, x))
     } else {
         bad_type(at)
     }
@@ -388,12 +356,12 @@ pub fn cast(alloc: Global, at: u32, to: CType, x: Expression) -> Result<Expressi
 
 /// `sizeof` of an expression.
 #[tactic(auto, unfolding(crate::specs::Rules::sizeof_of))]
-pub fn sizeof_expression(alloc: Global, at: u32, x: Expression) -> Result<Expression, TypeFault>
-    ensures { Gives (λ t. term t) result (sizeof_of at (term x)) }
+pub fn sizeof_expression(at: u32, x: Box<Expression>) -> Result<Expression, TypeFault>
+    ensures { Gives (λ t. term t) result (sizeof_of at (term x.value)) }
 {
     if x.ctype().is_scalar() {
         let size = x.operand_size();
-        Ok(Expression::SizeofExpression(size, Box::new(alloc, x)?))
+        Ok(Expression::SizeofExpression(size, x))
     } else {
         bad_type(at)
     }
@@ -455,46 +423,38 @@ fn arms(x: &Expression, y: &Expression) -> Option<CType>
 /// `c ? x : y`
 #[tactic(auto, unfolding(crate::specs::Rules::choice_of))]
 pub fn choice(
-    alloc: Global,
     at: u32,
-    c: Expression,
-    x: Expression,
-    y: Expression,
+    c: Box<Expression>,
+    x: Box<Expression>,
+    y: Box<Expression>,
 ) -> Result<Expression, TypeFault>
-    ensures { Gives (λ t. term t) result (choice_of at (term c) (term x) (term y)) }
+    ensures { Gives (λ t. term t) result (choice_of at (term c.value) (term x.value) (term y.value)) }
 {
     if !c.ctype().is_scalar() {
         return bad_type(at);
     }
     match arms(&x, &y) {
         None => bad_type(at),
-        Some(t) => Ok(Expression::Choice(
-            t,
-            Box::new(alloc, c)?,
-            Box::new(alloc, x)?,
-            Box::new(alloc, y)?,
-        )),
+        Some(t) => Ok(Expression::Choice(t, c, x, y)),
     }
 }
 
 /// `x, y`
 #[tactic(auto, unfolding(crate::specs::Rules::comma_of))]
-pub fn comma(alloc: Global, x: Expression, y: Expression) -> Result<Expression, TypeFault>
-    ensures { Gives (λ t. term t) result (Ok (comma_of (term x) (term y))) }
+pub fn comma(x: Box<Expression>, y: Box<Expression>) -> Expression
+    ensures { term result ≡ comma_of (term x.value) (term y.value) }
 {
     let t = y.ctype();
-    Ok(Expression::Comma(t, Box::new(alloc, x)?, Box::new(alloc, y)?))
+    Expression::Comma(t, x, y)
 }
-
-ghost use Rattle.std.specs.Prelude.{Ok};
 
 /// A value that is given to a result or a local of this type; the place is its first token's.
 #[tactic(auto, unfolding(crate::specs::Rules::given))]
-pub fn give(alloc: Global, to: CType, place: u32, x: Expression) -> Result<Expression, TypeFault>
-    ensures { Gives (λ t. term t) result (given to place (term x)) }
+pub fn give(to: CType, place: u32, x: Box<Expression>) -> Result<Expression, TypeFault>
+    ensures { Gives (λ t. term t) result (given to place (term x.value)) }
 {
     if fits(to, &x) {
-        Ok(Expression::Convert(to, Box::new(alloc, x)?))
+        Ok(Expression::Convert(to, x))
     } else {
         bad_type(place)
     }

@@ -92,7 +92,7 @@ fn returned(
         None => Ok(Action::Return(None)),
         Some(e) => {
             let x = full(alloc, functions, e, environment)?;
-            let x = give(alloc, gives, first(e), x)?;
+            let x = give(gives, first(e), Box::new(alloc, x)?)?;
             Ok(Action::Return(Some(x)))
         }
     }
