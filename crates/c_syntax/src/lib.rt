@@ -13,5 +13,3 @@ pub use c_phrases::{Ast, operator, tree};
 pub use fault::SyntaxFault;
 pub use units::parse;
 
-#[cfg(test)]
-mod tests;

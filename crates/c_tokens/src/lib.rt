@@ -15,5 +15,3 @@ pub use reader::{place_of, tokens};
 pub use token::{Spanned, Token, TokenFault, TokenKind};
 pub use words::Key;
 
-#[cfg(test)]
-mod tests;

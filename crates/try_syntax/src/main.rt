@@ -1,7 +1,9 @@
-// The program `try_syntax NAME`: where the tokens or the phrases of a C source first go wrong, to be compared and timed.
+// The program `try_syntax NAME`: where the tokens or the phrases of a C source first go wrong, to be compared and timed. Without a name
+// it reads a source a line.
 #![tactic(auto)]
 
 mod reading;
+mod rows;
 
 use cmd_session::{Status, write_all};
 use gg_base::NoMemory;
@@ -21,7 +23,10 @@ fn name_of(rt: HostRuntime) -> Result<Option<String>, NoMemory> {
 fn run(rt: HostRuntime) -> Result<Status, NoMemory> {
     let alloc = rt.alloc();
     let Some(name) = name_of(rt)? else {
-        return Ok(Status::Usage);
+        return Ok(match rows::show_rows(rt) {
+            Ok(()) => Status::Done,
+            Err(_) => Status::WriteFault,
+        });
     };
     let mut folder = StdFolder::new(rt, alloc);
     let mut source = Vec::new(alloc);

@@ -8,9 +8,9 @@ use std::alloc::Global;
 
 /// What is wrong at an offset of a source.
 #[derive(Clone, Copy)]
-struct Wrong {
-    offset: u32,
-    kind: &'static str,
+pub struct Wrong {
+    pub offset: u32,
+    pub kind: &'static str,
 }
 
 fn token_kind(kind: TokenKind) -> &'static str {
@@ -24,7 +24,8 @@ fn token_kind(kind: TokenKind) -> &'static str {
     }
 }
 
-fn first_wrong(alloc: Global, source: &[u8]) -> Result<Option<Wrong>, NoMemory>
+/// What is wrong first in a source of at most 1,048,576 bytes.
+pub fn first_wrong(alloc: Global, source: &[u8]) -> Result<Option<Wrong>, NoMemory>
     requires { length source.now ≤ 1048576 }
 {
     let list = match tokens(alloc, source) {
