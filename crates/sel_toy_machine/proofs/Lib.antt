@@ -1,0 +1,12 @@
+pub mod InOrder
+pub mod Kept
+pub mod Lawful
+pub mod Readings
+pub mod Results
+pub mod Sample
+pub mod Saved
+pub mod Shaped
+pub mod Sources
+pub mod Spelled
+pub mod Stated
+pub mod Taken

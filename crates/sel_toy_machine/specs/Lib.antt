@@ -1,0 +1,7 @@
+pub mod Filling
+pub mod Forms
+pub mod Machine
+pub mod Running
+pub mod Sample
+pub mod Templates
+pub mod Toy

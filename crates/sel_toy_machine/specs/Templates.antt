@@ -1,0 +1,157 @@
+-- What the toy machine's templates do, and the instructions that they become.
+use Rattle.std.specs.Prelude.{ℕ, ◌==◌, ◌&&◌, Bool, true, false, List, [], ◌∷◌, Option, Some, None, unwrap_or, Result, Ok, Err, slice_get, if◌then◌else◌}
+use Rattle.gg_base.specs.declared.size.Size.{Size}
+use Rattle.gg_base.specs.declared.size.Size.TheVariants.{Long}
+use Rattle.gg_base.specs.Sizes.{bytes_of}
+use Rattle.tree_core.specs.declared.token.Tok.{Tok}
+use Rattle.tree_core.specs.declared.token.Tok.TheVariants as tok
+use Rattle.tree_core.specs.declared.tree.Att.{Att}
+use Rattle.tree_core.specs.declared.tree.Att.TheVariants as att
+use Rattle.tree_core.specs.declared.program.TreeProgram.{TreeProgram}
+use Rattle.md_reader_pieces.specs.declared.piece.Line.{Line}
+use Rattle.md_reader.specs.declared.types.Kind.{Kind}
+use Rattle.md_reader.specs.declared.types.Kind.TheVariants as kind
+use Rattle.md_reader.specs.declared.types.Class.{Class}
+use Rattle.md_reader.specs.declared.types.Sym.{Sym}
+use Rattle.md_reader.specs.declared.types.Sym.TheVariants as sym
+use Rattle.md_reader.specs.declared.types.Give.{Give}
+use Rattle.md_reader.specs.declared.types.Give.TheVariants as give
+use Rattle.md_reader.specs.declared.types.Rule.{Rule}
+use Rattle.md_reader.specs.Patterns.{kind_at}
+use Rattle.term_core.specs.declared.operator.BinaryOp.TheVariants as binary
+use Rattle.term_core.specs.Shape.{Symbol, Memory, Binary}
+use Rattle.sel_terms.specs.Effects.{ActShape, EffectShape, Value, Number, Address, PlaceHome, PlaceAt, StoreHome, StoreAt, Branch, Push, Call, Save, Return, Jump}
+use Rattle.sel_target.specs.declared.attr.Attr.{Attr}
+use Rattle.sel_target.specs.declared.attr.Attr.TheVariants as attr
+use Rattle.sel_target.specs.declared.fault.TemplateKind.TheVariants as faults
+use Rattle.sel_target.specs.Meaning.{Fault}
+use Rattle.sel_target.specs.Values.{address_of, slot_place}
+use Rattle.sel_target.specs.EffectTerms.{begins_with_save}
+use Rattle.sel_toy_machine.specs.declared.operand.Operand.{Operand}
+use Rattle.sel_toy_machine.specs.declared.operand.Operand.TheVariants as operands
+use Rattle.sel_toy_machine.specs.declared.operand.Source.{Source}
+use Rattle.sel_toy_machine.specs.declared.operand.Source.TheVariants as source
+use Rattle.sel_toy_machine.specs.declared.operand.Destination.{Destination}
+use Rattle.sel_toy_machine.specs.declared.operand.Destination.TheVariants as destination
+use Rattle.sel_toy_machine.specs.declared.operand.Instr.{Instr}
+use Rattle.sel_toy_machine.specs.declared.operand.Instr.TheVariants as instruction
+use Rattle.sel_toy_machine.specs.declared.form.Form.{Form}
+use Rattle.sel_toy_machine.specs.declared.form.Form.TheVariants as form
+use Rattle.sel_toy_machine.specs.declared.form.ShapeForm.{ShapeForm}
+use Rattle.sel_toy_machine.specs.declared.form.ShapeForm.TheVariants as shape
+use Rattle.sel_toy_machine.specs.Forms.{form_of, shape_of, is_sized}
+
+abbrev pub fault_at : ℕ → Fault
+fault_at line = record { line = line; kind = faults.NotInstr }
+
+abbrev pub or_fault : ℕ → Option EffectShape → Result EffectShape Fault
+or_fault line None = Err (fault_at line)
+or_fault line (Some e) = Ok e
+
+abbrev pub undivided : ActShape → EffectShape
+undivided a = record { act = a; divisors = [] }
+
+abbrev pub where_true : Bool → EffectShape → Option EffectShape
+where_true b e = if b then Some e else None
+
+abbrev pub gives_register : Give → Bool
+gives_register give.Fresh = true
+gives_register give.Reuse = true
+gives_register g = false
+
+abbrev pub sum : ℕ → ℕ → EffectShape
+sum i j = undivided (Value (Binary binary.Add (Symbol i) (Symbol j)))
+
+abbrev pub quotient : ℕ → ℕ → EffectShape
+quotient i j = record { act = Value (Binary binary.Div (Symbol i) (Symbol j)); divisors = Symbol j ∷ [] }
+
+abbrev pub gives_nothing : Give → Bool
+gives_nothing give.Nothing = true
+gives_nothing give.Scratch = true
+gives_nothing g = false
+
+abbrev pub is_register : Option Kind → Bool
+is_register (Some kind.Reg) = true
+is_register k = false
+
+abbrev pub is_place_of : Size → Option Kind → Bool
+is_place_of size (Some (kind.Place z)) = bytes_of z == bytes_of size
+is_place_of size k = false
+
+abbrev pub is_slot : Tok → Bool
+is_slot tok.Loc = true
+is_slot tok.Arg = true
+is_slot x = false
+
+-- the symbol is a register's, or a place of the size
+abbrev pub holds_register : List Class → Option Sym → Bool
+holds_register classes None = false
+holds_register classes (Some (sym.Tok x)) = false
+holds_register classes (Some (sym.Class c)) = is_register (kind_at classes c)
+
+abbrev pub is_home : List Class → Size → Option Sym → Bool
+is_home classes size None = false
+is_home classes size (Some (sym.Tok x)) = is_slot x && (bytes_of size == bytes_of Long)
+is_home classes size (Some (sym.Class c)) = is_place_of size (kind_at classes c)
+
+abbrev pub symbol : List Sym → ℕ → Option Sym
+symbol right Rattle.std.specs.Prelude.zero = None
+symbol right (Rattle.std.specs.Prelude.suc i) = slice_get right i
+
+-- what a line does, where its symbols are of the sizes
+abbrev pub found_form : List Class → Rule → Form → Option EffectShape
+found_form classes rule (form.Move size i) = where_true (gives_register rule.give && is_sized classes rule.right size i) (undivided (Value (Symbol i)))
+found_form classes rule (form.Address i) = None
+found_form classes rule (form.Add i j) =
+    where_true (gives_register rule.give && (is_sized classes rule.right Long i && is_sized classes rule.right Long j))
+    (sum i j)
+found_form classes rule (form.Divide i j) =
+    where_true (gives_register rule.give && (is_sized classes rule.right Long i && is_sized classes rule.right Long j))
+    (quotient i j)
+found_form classes rule (form.Store size i j) =
+    where_true (gives_nothing rule.give && (is_home classes size (symbol rule.right i) && is_sized classes rule.right Long j)) (undivided (StoreHome size i (Symbol j)))
+found_form classes rule (form.StoreAt size i j) =
+    where_true (gives_nothing rule.give && (holds_register classes (symbol rule.right i) && is_sized classes rule.right Long j))
+    (undivided (StoreAt size (Symbol i) (Symbol j)))
+found_form classes rule (form.Push i) = where_true (gives_nothing rule.give && is_sized classes rule.right Long i) (undivided (Push (Symbol i)))
+found_form classes rule (form.Branch i j k) =
+    where_true (gives_nothing rule.give && (is_sized classes rule.right Long j && is_sized classes rule.right Long k)) (undivided (Branch i (Symbol j) (Symbol k)))
+found_form classes rule (form.Jump i) = where_true (gives_nothing rule.give && (i == 1)) (undivided Jump)
+found_form classes rule (form.Call i) = where_true (gives_nothing rule.give && (i == 1)) (undivided Call)
+found_form classes rule (form.Return i) = where_true (gives_nothing rule.give && is_sized classes rule.right Long i) (undivided (Return (Symbol i)))
+found_form classes rule (form.Save i) = where_true (gives_nothing rule.give && begins_with_save rule.right) (undivided (Save i))
+
+abbrev pub found_line : List Class → Rule → Option Form → Option EffectShape
+found_line classes rule None = None
+found_line classes rule (Some f) = found_form classes rule f
+
+-- what a shape gives, by the kind of its class
+abbrev pub found_shape : List Class → List Sym → Option Kind → ShapeForm → Option EffectShape
+found_shape classes right (Some kind.Reg) (shape.Alone i) = where_true (holds_register classes (symbol right i)) (undivided (Value (Symbol i)))
+found_shape classes right (Some kind.Con) (shape.Alone i) = where_true (is_sized classes right Long i) (undivided (Number (Symbol i)))
+found_shape classes right (Some (kind.Place size)) (shape.Alone i) = where_true (is_home classes size (symbol right i)) (undivided (PlaceHome size i))
+found_shape classes right (Some (kind.Value size)) (shape.Based i) = where_true (holds_register classes (symbol right i)) (undivided (Value (Memory size (Symbol i))))
+found_shape classes right (Some (kind.Place size)) (shape.Based i) = where_true (holds_register classes (symbol right i)) (undivided (PlaceAt size (Symbol i)))
+found_shape classes right (Some kind.Ea) (shape.Based i) = where_true (holds_register classes (symbol right i)) (undivided (Address (Symbol i)))
+found_shape classes right k f = None
+
+-- a rule has one line, or a shape alone
+abbrev pub found_rule : List Class → Rule → List Line → Give → Result EffectShape Fault
+found_rule classes rule [] (give.Shape l) = or_fault l.line (found_shape classes rule.right (kind_at classes rule.left) (shape_of l.pieces))
+found_rule classes rule [] g = Err (fault_at 0)
+found_rule classes rule (l ∷ []) g = or_fault l.line (found_line classes rule (form_of l.pieces))
+found_rule classes rule (l ∷ k ∷ ls) g = Err (fault_at k.line)
+
+abbrev pub effect : List Class → Rule → Result EffectShape Fault
+effect classes rule = found_rule classes rule rule.lines rule.give
+
+-- a line that saves a value of its size, or an address, or that reloads
+abbrev pub found_spill : Kind → Option Form → Option EffectShape
+found_spill (kind.Value size) (Some (form.Move z i)) = where_true ((bytes_of z == bytes_of size) && (i == 1)) (undivided (StoreHome size 0 (Symbol 1)))
+found_spill (kind.Place size) (Some (form.Address i)) = where_true (i == 1) (undivided (StoreHome Long 0 (Symbol 1)))
+found_spill kind.Ea (Some (form.Address i)) = where_true (i == 1) (undivided (StoreHome Long 0 (Symbol 1)))
+found_spill kind.Reg (Some (form.Move Long i)) = where_true (i == 1) (undivided (Value (Symbol 1)))
+found_spill k f = None
+
+abbrev pub spill_effect : Kind → Line → Result EffectShape Fault
+spill_effect k l = or_fault l.line (found_spill k (form_of l.pieces))
