@@ -27,7 +27,7 @@ bytes_behind whole (x ∷ xs) ys at =
     ap (λ (l : List ℕ). item_bytes whole x at ++ l) (bytes_behind whole xs ys (at + size_at x at))
     ∙ sym (append_assoc (item_bytes whole x at) (bytes_from whole xs (at + size_at x at)) (bytes_from whole ys (end_from xs (at + size_at x at))))
 
-end_behind : (xs ys : List AreaItem) (at : ℕ) → end_from (xs ++ ys) at ≡ end_from ys (end_from xs at)
+pub end_behind : (xs ys : List AreaItem) (at : ℕ) → end_from (xs ++ ys) at ≡ end_from ys (end_from xs at)
 end_behind [] ys at = refl
 end_behind (x ∷ xs) ys at = end_behind xs ys (at + size_at x at)
 
@@ -56,7 +56,7 @@ pub record Lies (o : Object) (at power : ℕ) : Type 0 where
   pub whole : length o.bytes ≡ o.size
   pub high : o.address + o.size ≤ 1114112
 
-lies : (o : Object) (at power : ℕ) → 2 ^ power ≡ o.align → object_lies at o ≡ true → Lies o at power
+pub lies : (o : Object) (at power : ℕ) → 2 ^ power ≡ o.align → object_lies at o ≡ true → Lies o at power
 lies o at power e h =
     let a = and_parts (is_aligned o) (is_whole o && is_placed at o) h in
     let b = and_parts (is_whole o) (is_placed at o) a.1 in
@@ -67,7 +67,7 @@ lies o at power e h =
       high = leb-true (o.address + o.size) (65536 + 1048576) c.1;
     }
 
-zeros_are : (n m : ℕ) → n ≡ m → zeros n ≡ replicate m 0
+pub zeros_are : (n m : ℕ) → n ≡ m → zeros n ≡ replicate m 0
 unfolding zeros
 zeros_are n m e = ap (λ (k : ℕ). replicate k 0) e
 
@@ -163,14 +163,14 @@ not_double (areas.Label m) pre post n code e = by (is_service m) (has_area_label
     by false false true h e = absurd (no_some m e)
     by false false false h e = (other (bytes_eq m n) refl h, e)
 
-first_address : (pre post : List AreaItem) (n : List ℕ) (code : List CodeItem) (at : ℕ) → double_area_label (pre ++ areas.Label n ∷ post) code ≡ None
+pub first_address : (pre post : List AreaItem) (n : List ℕ) (code : List CodeItem) (at : ℕ) → double_area_label (pre ++ areas.Label n ∷ post) code ≡ None
     → address_from (pre ++ areas.Label n ∷ post) at n ≡ end_from pre at
 first_address [] post n code at e = ap (λ (b : Bool). cond b at (address_from post (at + 0) n)) ((bytes_eq-Decides n n).1 refl)
 first_address (x ∷ pre) post n code at e =
     let d = not_double x pre post n code e in
     ap (λ (b : Bool). cond b at (address_from (pre ++ areas.Label n ∷ post) (at + size_at x at) n)) d.0 ∙ first_address pre post n code (at + size_at x at) d.1
 
-area_labels_differ : (c : Code) → Loads c → double_area_label c.area c.items ≡ None
+pub area_labels_differ : (c : Code) → Loads c → double_area_label c.area c.items ≡ None
 area_labels_differ c h = by (double_area_label c.area c.items) (double_label c.items) h
   where
     by : (a b : Option (List ℕ)) → or_double (first_of a b) c ≡ None → a ≡ None

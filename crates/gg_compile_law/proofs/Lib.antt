@@ -11,3 +11,4 @@ pub mod Areas
 pub mod Assembling
 pub mod Simple
 pub mod Demo
+pub mod Spelling

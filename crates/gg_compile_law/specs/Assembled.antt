@@ -27,8 +27,10 @@ module _ (program : TreeProgram) where
   -- The code of some of a function's items: labels stay, and each root is instructions with its effect.
   pub data IsTreeCode (g : TreeFn) (words : ℕ) : List TreeItem → List CodeItem → Type 0 where
     nothing : IsTreeCode g words [] []
-    label : (l : ℕ) (is : List TreeItem) (code : List CodeItem) → IsTreeCode g words is code → IsTreeCode g words (item.Label l ∷ is) (items.Label (label_name l) ∷ code)
-    root : (w : List Leaf) (is : List TreeItem) (instrs : List Instr) (code : List CodeItem) → HasEffect program g.locals g.args words w instrs → IsTreeCode g words is code
+    label : (l : ℕ) (is : List TreeItem) (code : List CodeItem) → IsTreeCode g words is code
+        → IsTreeCode g words (item.Label l ∷ is) (items.Label (label_name l) ∷ code)
+    root : (w : List Leaf) (is : List TreeItem) (instrs : List Instr) (code : List CodeItem) → HasEffect program g.locals g.args words w instrs
+        → IsTreeCode g words is code
         → IsTreeCode g words (item.Root w ∷ is) (code_items instrs ++ code)
 
   -- items are a function's frame round the code of its items
@@ -67,4 +69,5 @@ FramesAreFunctionCodes =
 -- What the run of the trees follows, as the run of a source, is followed by the run of the code.
 abbrev pub SourceIsFollowed : Type 0
 SourceIsFollowed =
-    (program : TreeProgram) (c : Code) → IsAssembled program c → (source : Runs) (input : List ℕ) → AllBelow 256 input → Follows source (tree_run program input) → Follows source (run c input)
+    (program : TreeProgram) (c : Code) → IsAssembled program c → (source : Runs) (input : List ℕ) → AllBelow 256 input
+    → Follows source (tree_run program input) → Follows source (run c input)

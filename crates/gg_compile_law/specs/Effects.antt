@@ -34,7 +34,8 @@ module _ (objects : List Object) (e : Extent) (es : List Extent) (t : Trees) (m 
   Does (GoesOn s) c = (n : State) × (c ≡ record { written = []; ending = Comes n }) × Stays objects e es s m n
   Does (Serves b s) c = (n : State) × (c ≡ record { written = one_byte b; ending = Comes n }) × Stays objects e es s m n × HasResult s n
   Does (GoesTo label s) c = (n : State) × (c ≡ record { written = []; ending = Goes (label_name label) n }) × Stays objects e es s m n
-  Does (Enters g args s) c = (n : State) × (c ≡ record { written = []; ending = CallsOut (function_label g.name) (length args) n [] }) × Stays objects e es t m n
+  Does (Enters g args s) c =
+      (n : State) × (c ≡ record { written = []; ending = CallsOut (function_label g.name) (length args) n [] }) × Stays objects e es t m n
   Does (GoesBack v s) c = (n : State) × (c ≡ record { written = []; ending = Returns n }) × Stays objects e es t m n × (reg n R0 ≡ v)
   Does (Ends (finish.Ended v)) c = Unit {0}
   Does (Ends finish.Trapped) c = c ≡ record { written = []; ending = Stops stops.Trapped }

@@ -18,7 +18,8 @@ use Rattle.gg_compile_law.specs.Programs.{Waits, Stands}
 abbrev pub ComesBack : TreeProgram → List CodeItem → List Activation → Trees → ℕ → State → List ℕ → Type 0
 ComesBack program code [] t v m w = (count : ℕ) × Halts m w count (Ended v)
 ComesBack program code (c ∷ cs) t v m w =
-    (count : ℕ) × (n : State) × (1 ≤ count) × Leads m w count n × Stands program code (record { running = record c { result = v }; callers = cs; area = t.area; input = t.input }) n
+    (count : ℕ) × (n : State) × (1 ≤ count) × Leads m w count n
+    × Stands program code (record { running = record c { result = v }; callers = cs; area = t.area; input = t.input }) n
 
 abbrev pub ReturnsComeBack : Type 0
 ReturnsComeBack =
@@ -30,4 +31,5 @@ ReturnsComeBack =
 abbrev pub StackHasRoom : Type 0
 StackHasRoom =
     (program : TreeProgram) (code : List CodeItem) (e : Extent) (es : List Extent) (t : Trees) (m : State)
-    → Agrees program.objects e es t m → e.words ≤ 1024 → length t.running.pushed ≤ 255 → Waits program code m.frames es t.callers → length t.callers < 1024 → IsRoomy m
+    → Agrees program.objects e es t m → e.words ≤ 1024 → length t.running.pushed ≤ 255 → Waits program code m.frames es t.callers → length t.callers < 1024
+    → IsRoomy m

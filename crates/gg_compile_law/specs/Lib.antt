@@ -5,3 +5,4 @@ pub mod Areas
 pub mod Assembled
 pub mod Laws
 pub mod Demo
+pub mod Spelling

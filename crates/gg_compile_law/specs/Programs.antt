@@ -66,7 +66,8 @@ module _ (program : TreeProgram) where
   -- The code of some of a function's items: labels stay, and each root is its instructions.
   pub data IsBody (g : TreeFn) (words : ℕ) : List TreeItem → List CodeItem → Type 0 where
     nothing : IsBody g words [] []
-    label : (l : ℕ) (is : List TreeItem) (code : List CodeItem) → IsBody g words is code → IsBody g words (item.Label l ∷ is) (items.Label (label_name l) ∷ code)
+    label : (l : ℕ) (is : List TreeItem) (code : List CodeItem) → IsBody g words is code
+        → IsBody g words (item.Label l ∷ is) (items.Label (label_name l) ∷ code)
     root : (w : List Leaf) (is : List TreeItem) (instrs : List Instr) (code : List CodeItem) → IsSelected g words w instrs → IsBody g words is code
         → IsBody g words (item.Root w ∷ is) (code_items instrs ++ code)
 
@@ -100,7 +101,8 @@ module _ (program : TreeProgram) where
     pub data Waits : List Frame → List Extent → List Activation → Type 0 where
       ends_run : (f : Frame) → f.back ≡ None → Waits (f ∷ []) [] []
       goes_on : (outer inner all : List Frame) (h f : Frame) (g : TreeFn) (e : Extent) (es : List Extent) (a : Activation) (rest : List Activation) (place : ℕ)
-          → inner ≡ outer ++ h ∷ [] → all ≡ inner ++ f ∷ [] → f.back ≡ Some place → AllBelow (2 ^ 32) f.saved → slice_index f.saved 13 ≡ h.fp → slice_index f.saved 12 ≡ h.ap
+          → inner ≡ outer ++ h ∷ [] → all ≡ inner ++ f ∷ [] → f.back ≡ Some place → AllBelow (2 ^ 32) f.saved → slice_index f.saved 13 ≡ h.fp
+          → slice_index f.saved 12 ≡ h.ap
           → IsActive g e a place true → Waits inner es rest → Waits all (e ∷ es) (a ∷ rest)
 
     -- The machine's state stands where the trees' state stands.

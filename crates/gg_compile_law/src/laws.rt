@@ -4,6 +4,7 @@ ghost use Rattle.gg_compile_law.specs.Programs.{CompiledFollow};
 ghost use Rattle.gg_compile_law.specs.Areas.{BlocksHoldObjects};
 ghost use Rattle.gg_compile_law.specs.Assembled.{AssembledFollow, SourceIsFollowed, FramesAreFunctionCodes};
 ghost use Rattle.gg_compile_law.specs.Demo.{DemoFollows};
+ghost use Rattle.gg_compile_law.specs.Spelling.{AreasAreBlocks};
 
 /// The law: the stack has room for 1,024 active calls.
 #[tactic(auto, using(crate::proofs::Rooms::stack_has_room))]
@@ -51,4 +52,9 @@ pub fn frames_are_function_codes()
 #[tactic(auto, using(crate::proofs::Demo::demo_follows))]
 pub fn demo_follows()
     ensures { DemoFollows }
+{}
+
+/// The law: the data area that is spelled item by item, with a `.long` for each link, is the objects' blocks.
+pub fn areas_are_blocks()
+    ensures { AreasAreBlocks }
 {}

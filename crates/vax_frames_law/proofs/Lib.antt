@@ -8,3 +8,4 @@ pub mod Labelling
 pub mod Framing
 pub mod Masks
 pub mod Writing
+pub mod Undoing

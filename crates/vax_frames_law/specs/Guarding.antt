@@ -32,7 +32,8 @@ may_pass Return = false
 -- Each place of a code belongs to a function with a mask: its instructions name no other registers of r2 to r11, the run comes to no
 -- other function's place behind an instruction or by a branch, and an entry mask is the mask of the places behind it.
 pub record IsGuarded (code : List CodeItem) (mask_at : ℕ → ℕ) : Type 0 where
-  pub named : (p : ℕ) (i : Instr) (r : ℕ) → slice_get code p ≡ Some (items.Instr i) → 2 ≤ r → r < 12 → has (mask_at p) r ≡ false → operands_name i.operands r ≡ false
+  pub named : (p : ℕ) (i : Instr) (r : ℕ) → slice_get code p ≡ Some (items.Instr i) → 2 ≤ r → r < 12 → has (mask_at p) r ≡ false
+      → operands_name i.operands r ≡ false
   pub onward : (p : ℕ) (i : Instr) → slice_get code p ≡ Some (items.Instr i) → may_pass (action_of i.op) ≡ true → mask_at (next_item code (p + 1)) ≡ mask_at p
   pub branch : (p : ℕ) (i : Instr) (label : List ℕ) → slice_get code p ≡ Some (items.Instr i) → i.target ≡ Some label → (action_of i.op ≡ Call → ⊥)
       → mask_at (next_item code (label_place code label)) ≡ mask_at p
@@ -45,8 +46,10 @@ pub record IsIntact (code : List CodeItem) (mask_at : ℕ → ℕ) (f : Frame) (
 
 -- the same for all live frames, the innermost last, each suspended one with the registers that the frame inside it has saved
 pub data AreIntact (code : List CodeItem) (mask_at : ℕ → ℕ) : List Frame → ℕ → List ℕ → Type 0 where
-  outermost : (f : Frame) (place : ℕ) (registers : List ℕ) → f.back ≡ None → IsIntact code mask_at f place registers → AreIntact code mask_at (f ∷ []) place registers
-  inner : (outer all : List Frame) (f : Frame) (place back : ℕ) (registers : List ℕ) → all ≡ outer ++ f ∷ [] → f.back ≡ Some back → IsIntact code mask_at f place registers
+  outermost : (f : Frame) (place : ℕ) (registers : List ℕ) → f.back ≡ None → IsIntact code mask_at f place registers
+      → AreIntact code mask_at (f ∷ []) place registers
+  inner : (outer all : List Frame) (f : Frame) (place back : ℕ) (registers : List ℕ) → all ≡ outer ++ f ∷ [] → f.back ≡ Some back
+      → IsIntact code mask_at f place registers
       → AreIntact code mask_at outer back f.saved → AreIntact code mask_at all place registers
 
 -- a machine runs such a code, and its frames are intact
@@ -61,7 +64,9 @@ StepsKeep = (code : List CodeItem) (mask_at : ℕ → ℕ) → IsGuarded code ma
 
 -- A return gives r2 to r11 back as they were at the call.
 abbrev pub ReturnsRestore : Type 0
-ReturnsRestore = (code : List CodeItem) (mask_at : ℕ → ℕ) (m n : State) (outer : List Frame) (f : Frame) → KeepsRegisters code mask_at m → m.frames ≡ outer ++ f ∷ [] → returned m ≡ Ok (None, n)
+ReturnsRestore =
+    (code : List CodeItem) (mask_at : ℕ → ℕ) (m n : State) (outer : List Frame) (f : Frame) → KeepsRegisters code mask_at m → m.frames ≡ outer ++ f ∷ []
+    → returned m ≡ Ok (None, n)
     → (r : ℕ) → 2 ≤ r → r < 12 → slice_index n.registers r ≡ slice_index f.saved r
 
 -- A call saves r1 to r11 as they are, in one more frame.
@@ -76,4 +81,5 @@ CallsSave = (m n : State) (count place : ℕ) (back : Option ℕ) → called m c
 -- Where a run of a guarded code can begin, its first frame is intact.
 abbrev pub RunsBeginIntact : Type 0
 RunsBeginIntact =
-    (c : Code) (input : List ℕ) (mask_at : ℕ → ℕ) (n : State) → IsGuarded c.items mask_at → called (blank c input) 0 (label_place c.items main_name) None ≡ Ok n → KeepsRegisters c.items mask_at n
+    (c : Code) (input : List ℕ) (mask_at : ℕ → ℕ) (n : State) → IsGuarded c.items mask_at
+    → called (blank c input) 0 (label_place c.items main_name) None ≡ Ok n → KeepsRegisters c.items mask_at n

@@ -3,3 +3,4 @@ pub mod Laws
 pub mod Guarding
 pub mod Within
 pub mod Writing
+pub mod Undoing

@@ -69,7 +69,8 @@ KeepWithin body mask (items.Instr i ∷ rest) = IsWithin body mask i × KeepWith
 -- a code of frames, each round a body that keeps within it
 pub data AreFrames : List CodeItem → Type 0 where
   no_frame : AreFrames []
-  one_more : (label : List ℕ) (mask words : ℕ) (body rest all : List CodeItem) → KeepWithin body mask body → AreFrames rest → all ≡ frame_items label mask words body ++ rest → AreFrames all
+  one_more : (label : List ℕ) (mask words : ℕ) (body rest all : List CodeItem) → KeepWithin body mask body → AreFrames rest
+      → all ≡ frame_items label mask words body ++ rest → AreFrames all
 
 -- Such a code is guarded, where no label stands twice.
 abbrev pub FramesAreGuarded : Type 0
@@ -83,9 +84,11 @@ StaysInside body [] = Unit {0}
 StaysInside body (items.Label l ∷ rest) = StaysInside body rest
 StaysInside body (items.Globl l ∷ rest) = StaysInside body rest
 StaysInside body (items.Mask k ∷ rest) = ⊥
-StaysInside body (items.Instr i ∷ rest) = ((label : List ℕ) → i.target ≡ Some label → (action_of i.op ≡ Call → ⊥) → has_label body label ≡ true) × StaysInside body rest
+StaysInside body (items.Instr i ∷ rest) =
+    ((label : List ℕ) → i.target ≡ Some label → (action_of i.op ≡ Call → ⊥) → has_label body label ≡ true) × StaysInside body rest
 
 -- The code of a function with such a body keeps within its frame.
 abbrev pub FrameCodesKeepWithin : Type 0
 FrameCodesKeepWithin =
-    (name : List ℕ) (words : ℕ) (body code : List CodeItem) (h : IsFrameCode name words body code) → StaysInside body body → IsMask h.mask × KeepWithin body h.mask body
+    (name : List ℕ) (words : ℕ) (body code : List CodeItem) (h : IsFrameCode name words body code) → StaysInside body body
+    → IsMask h.mask × KeepWithin body h.mask body

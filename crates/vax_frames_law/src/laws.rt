@@ -3,6 +3,7 @@ ghost use Rattle.vax_frames_law.specs.Laws.{CallsBegin, ReturnsAgree, LastReturn
 ghost use Rattle.vax_frames_law.specs.Guarding.{StepsKeep, ReturnsRestore, CallsSave, RunsBeginIntact};
 ghost use Rattle.vax_frames_law.specs.Within.{ClosedIsGuarded, FramesAreGuarded, FrameCodesKeepWithin};
 ghost use Rattle.vax_frames_law.specs.Writing.{FrameCodesAreValid};
+ghost use Rattle.vax_frames_law.specs.Undoing.{CallsNote, ReturnsUndo};
 
 /// The law: a call comes to a state that stands for the trees' state in which the function begins.
 #[tactic(auto, using(crate::proofs::Functions::calls_begin))]
@@ -62,4 +63,15 @@ pub fn frame_codes_keep_within()
 /// The law: the code of a function can be written where its body can, its label is a name and it has at most 1,024 words.
 pub fn frame_codes_are_valid()
     ensures { FrameCodesAreValid }
+{}
+
+/// The law: a call notes in its frame where the number of arguments was pushed, fp and ap as they were, and where to go on.
+pub fn calls_note()
+    ensures { CallsNote }
+{}
+
+/// The law: where a call's frame is the innermost again and the number of arguments stands as it was pushed, a return gives fp and ap back, and
+/// takes the arguments off the stack.
+pub fn returns_undo()
+    ensures { ReturnsUndo }
 {}

@@ -75,7 +75,8 @@ HomesAreNamed = Always (λ objects e es t m h. (k : ℕ) → k < e.words → loc
 
 abbrev pub ArgumentsAreNamed : Type 0
 ArgumentsAreNamed =
-    Always (λ objects e es t m h. (i : ℕ) → i < length t.running.arguments → located m (argument_home (i + 1)).base Long ≡ Ok (locations.Memory (argument_of (reg m Ap) (i + 1)), m))
+    Always (λ objects e es t m h. (i : ℕ) → i < length t.running.arguments
+    → located m (argument_home (i + 1)).base Long ≡ Ok (locations.Memory (argument_of (reg m Ap) (i + 1)), m))
 
 -- there stand the locals that were written and the arguments, and the data area is read as trees read it
 abbrev pub LocalsAreRead : Type 0
@@ -116,7 +117,8 @@ ArgumentsAreWritten =
 
 abbrev pub AreasAreWritten : Type 0
 AreasAreWritten =
-    Always (λ objects e es t m h. (size : Size) (a v : ℕ) (area : List ℕ) → stored size t.area a v ≡ Some area → Leaves objects e es (record t { area = area }) (written m a size v))
+    Always (λ objects e es t m h. (size : Size) (a v : ℕ) (area : List ℕ) → stored size t.area a v ≡ Some area
+    → Leaves objects e es (record t { area = area }) (written m a size v))
 
 abbrev pub with_pushed : Trees → ℕ → Trees
 with_pushed t v = record t { running = record t.running { pushed = v ∷ t.running.pushed } }
