@@ -2,7 +2,7 @@
 use Rattle.std.proofs.Common.{◌≡◌, ℕ, zero, suc, ◌+◌, ◌-◌, ◌*◌, ◌%◌, ◌^◌, ◌<◌, ◌≤◌, List, [], ◌∷◌, ◌++◌, length, Option, Some, None, Bool, true, false, refl, sym, ap, ◌∙◌, subst}
 use Rattle.std.proofs.Common.{arith, take, drop}
 use Rattle.std.specs.Prelude.{slice_index, slice_set, nat_le, ◌&&◌, cond}
-use Rattle.std.specs.List.{AllByRecursion as All}
+use Rattle.std.specs.List.{AllByRecursion}
 use Rattle.std.specs.Int.{w16, w32, to_le_bytes, from_le_bytes}
 use Rattle.std.proofs.lemmas.Bool.Decides.{nat_tests}
 use Rattle.gg_base.specs.declared.size.Size.{Size}
@@ -22,7 +22,7 @@ untrue : false ≡ true → ⊥
 untrue e = cc
 
 abbrev pub Bytes : List ℕ → Type 0
-Bytes bytes = All (λ b. b < 256) bytes
+Bytes bytes = AllByRecursion (λ b. b < 256) bytes
 
 byte_at : (bytes : List ℕ) (n : ℕ) → Bytes bytes → slice_index bytes n < 256
 byte_at [] n h = omega arith

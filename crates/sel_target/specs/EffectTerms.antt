@@ -1,6 +1,6 @@
 -- What the laws ask of an effect: its terms, its divisors, and the relation of its branch.
 use Rattle.std.specs.Prelude.{◌≡◌, ℕ, List, ◌∷◌, ◌++◌, Bool, true, false}
-use Rattle.std.specs.List.{AllByRecursion as All}
+use Rattle.std.specs.List.{AllByRecursion}
 use Rattle.gg_base.specs.declared.relation.Rel.{Rel}
 use Rattle.gg_base.specs.declared.relation.Rel.TheVariants.{Ltu, Leu, Gtu, Geu}
 use Rattle.tree_core.specs.declared.token.Tok.TheVariants as tok
@@ -18,7 +18,7 @@ abbrev pub terms_of : EffectShape → List Shape
 terms_of e = terms_of_act e.act ++ e.divisors
 
 abbrev pub DividesByNone : View → EffectShape → Type 0
-DividesByNone v e = All (λ (d : Shape). value v d ≡ 0 → ⊥) e.divisors
+DividesByNone v e = AllByRecursion (λ (d : Shape). value v d ≡ 0 → ⊥) e.divisors
 
 abbrev pub begins_with_save : List Sym → Bool
 begins_with_save (sym.Tok tok.Save ∷ right) = true

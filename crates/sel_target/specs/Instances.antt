@@ -1,6 +1,6 @@
 -- An instance of a rule: its holes, what they are worth, and the state in which its lines are run.
 use Rattle.std.specs.Prelude.{◌≡◌, ℕ, zero, suc, ◌*◌, ◌^◌, ◌<◌, List, [], ◌∷◌, map, Option, Some, None, IsSome, Ok, true, false, Bool, slice_get}
-use Rattle.std.specs.List.{AllByRecursion as All}
+use Rattle.std.specs.List.{AllByRecursion}
 use Rattle.gg_base.specs.Sizes.{bytes_of}
 use Rattle.tree_core.specs.declared.token.Tok.{Tok}
 use Rattle.tree_core.specs.declared.token.Tok.TheVariants as tok
@@ -125,7 +125,7 @@ module _ {O I S F : Type 0} (of : Meaning O I S F) where
     pub homes : (i : ℕ) (h : Attr O) (o : O) → hole hs i ≡ Some h → own_operand of h ≡ Some o → IsSome (of.names o (size_at classes rule.right i) m)
     pub agrees : of.agrees q f fs v.state m
     pub room : of.has_room m
-    pub read : All (IsReadWhere every v) (terms_of e)
+    pub read : AllByRecursion (IsReadWhere every v) (terms_of e)
     -- only a rule that begins with Save looks at the last call's result
     pub answered : begins_with_save rule.right ≡ true → of.answer m ≡ v.state.running.result
 

@@ -1,6 +1,6 @@
 -- What operands spell, read and name: laws of a target.
 use Rattle.std.specs.Prelude.{◌≡◌, ◌↔◌, ℕ, ◌+◌, ◌*◌, ◌^◌, ◌<◌, List, [], ◌∷◌, length, Option, Some, None, IsSome, Ok, true, slice_get}
-use Rattle.std.specs.List.{AllByRecursion as All, list_any}
+use Rattle.std.specs.List.{AllByRecursion, list_any}
 use Rattle.gg_base.specs.declared.size.Size.{Size}
 use Rattle.gg_base.specs.declared.size.Size.TheVariants.{Long}
 use Rattle.gg_base.specs.Sizes.{bytes_of}
@@ -59,7 +59,7 @@ module _ {O I S F : Type 0} (of : Meaning O I S F) where
         of.agrees q f fs t m → of.reads o size m ≡ Some x → x < 2 ^ (8 * bytes_of size)
     pub names_small : (q : TreeProgram) (f : Extent) (fs : List Extent) (t : State) (o : O) (size : Size) (x : ℕ) (m : S) →
         of.agrees q f fs t m → of.names o size m ≡ Some x → x < 2 ^ 32
-    pub area_bytes : (q : TreeProgram) (f : Extent) (fs : List Extent) (t : State) (m : S) → of.agrees q f fs t m → All (λ b. b < 256) t.area
+    pub area_bytes : (q : TreeProgram) (f : Extent) (fs : List Extent) (t : State) (m : S) → of.agrees q f fs t m → AllByRecursion (λ b. b < 256) t.area
     -- an operand that names a place of the data area reads what stands there
     pub memory_read : (q : TreeProgram) (f : Extent) (fs : List Extent) (t : State) (o : O) (size : Size) (a x : ℕ) (m : S) →
         of.agrees q f fs t m → of.fits (kind.Place size) o ≡ true → of.names o size m ≡ Some a → fetched size t.area a ≡ Some x → of.reads o size m ≡ Some x

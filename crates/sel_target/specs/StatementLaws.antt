@@ -1,6 +1,6 @@
 -- What the lines of a statement do: a law of a target.
 use Rattle.std.specs.Prelude.{◌≡◌, ℕ, ◌<◌, List, [], ◌∷◌, length, Option, Some, None, true}
-use Rattle.std.specs.List.{AllByRecursion as All}
+use Rattle.std.specs.List.{AllByRecursion}
 use Rattle.gg_base.specs.declared.size.Size.{Size}
 use Rattle.tree_core.specs.declared.tree.Att.{Att}
 use Rattle.tree_core.specs.declared.tree.Att.TheVariants as att
@@ -64,7 +64,7 @@ module _ {O I S F : Type 0} (of : Meaning O I S F) where
   DoesAct q f rs hs v m (StoreHome size i t) (Puts g n) = HomeIs f v.state m hs i size g × (value v t ≡ n)
   DoesAct q f rs hs v m (StoreAt size a t) (Puts g n) = (g ≡ places.Memory size (value v a)) × (value v t ≡ n)
   DoesAct q f rs hs v m (Branch i a b) (Branches rel label x y) =
-      (att_of (hole hs i) ≡ Some (att.Branch rel label)) × All (IsSignedBy i rel) rs × (value v a ≡ x) × (value v b ≡ y)
+      (att_of (hole hs i) ≡ Some (att.Branch rel label)) × AllByRecursion (IsSignedBy i rel) rs × (value v a ≡ x) × (value v b ≡ y)
   DoesAct q f rs hs v m (Push t) (Pushes n) = value v t ≡ n
   DoesAct q f rs hs v m Call (Enters function count) =
       (att_of (hole hs 1) ≡ Some (att.Callee function count)) × (takes (args_of q.functions function) count ≡ true) × (length v.state.running.pushed ≡ count)

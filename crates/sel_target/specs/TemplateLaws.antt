@@ -1,6 +1,6 @@
 -- What the lines and the shape of a rule do: laws of a target.
 use Rattle.std.specs.Prelude.{◌≡◌, ℕ, ◌≤◌, List, [], ◌∷◌, ◌++◌, length, Option, Some, Ok, true, false}
-use Rattle.std.specs.List.{AllByRecursion as All}
+use Rattle.std.specs.List.{AllByRecursion}
 use Rattle.gg_base.specs.declared.size.Size.{Size}
 use Rattle.gg_base.specs.declared.size.Size.TheVariants.{Long}
 use Rattle.tree_core.specs.declared.program.TreeProgram.{TreeProgram}
@@ -51,7 +51,7 @@ module _ {O I S F : Type 0} (of : Meaning O I S F) where
     -- the lines of a program whose names can be spelled are valid instructions
     pub lines_written : (q : TreeProgram) (classes : List Class) (rule : Rule) (e : EffectShape) (hs : List (Attr O)) (res : Attr O) →
         of.can_write q → IsRule classes rule → of.effect classes rule ≡ Ok e → Fit of classes rule.right hs → IsResult of rule.give hs res →
-        All (λ i. of.is_instr i ≡ true) (lines_of of q rule hs res)
+        AllByRecursion (λ i. of.is_instr i ≡ true) (lines_of of q rule hs res)
 
   -- A rule that gives a shape: its lines change nothing, and the operand stands for what the rule gives.
   pub record GivesShapes : Type 0 where

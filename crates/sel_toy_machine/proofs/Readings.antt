@@ -2,7 +2,7 @@
 use Rattle.std.proofs.Common.{◌≡◌, ℕ, zero, suc, ◌+◌, ◌-◌, ◌*◌, ◌%◌, ◌^◌, ◌<◌, List, [], ◌∷◌, length, Option, Some, None, Bool, true, refl, sym, ap, ◌∙◌, subst, arith, slice_get}
 use Rattle.std.specs.Prelude.{IsSome}
 use Rattle.std.specs.Option.{option_map}
-use Rattle.std.specs.List.{AllByRecursion as All}
+use Rattle.std.specs.List.{AllByRecursion}
 use Rattle.gg_base.specs.declared.size.Size.{Size}
 use Rattle.gg_base.specs.declared.size.Size.TheVariants.{Byte, Word as Halfword, Long}
 use Rattle.gg_base.specs.Sizes.{bytes_of}
@@ -75,7 +75,7 @@ place_read m (Deferred w) size a x p some e g = absurd (some refl)
 place_read m (Argument k) size a x p some e g = absurd (some refl)
 place_read m (Number n) size a x p some e g = absurd (untrue p)
 
-long_at : (xs : List ℕ) (k x : ℕ) → All (λ n. n < 2 ^ 32) xs → slice_get xs k ≡ Some x → x < 2 ^ 32
+long_at : (xs : List ℕ) (k x : ℕ) → AllByRecursion (λ n. n < 2 ^ 32) xs → slice_get xs k ≡ Some x → x < 2 ^ 32
 long_at [] k x h e = absurd (none_some x e)
 long_at (y ∷ ys) zero x h e = subst (λ n. n < 2 ^ 32) (some_same y x e) h.0
 long_at (y ∷ ys) (suc k) x h e = long_at ys k x h.1 e

@@ -1,7 +1,7 @@
 -- The toy machine's templates do what their effects say.
 use Rattle.std.proofs.Common.{◌≡◌, ℕ, ◌/◌, ◌^◌, ◌<◌, ◌≤◌, ◌==◌, List, [], ◌∷◌, length, map, Option, Some, None, Bool, true, false, refl, sym, ap, ◌∙◌, subst, arith}
 use Rattle.std.specs.Prelude.{IsSome, Ok, unwrap_or, ◌&&◌, if◌then◌else◌}
-use Rattle.std.specs.List.{AllByRecursion as All}
+use Rattle.std.specs.List.{AllByRecursion}
 use Rattle.gg_base.specs.declared.size.Size.{Size}
 use Rattle.gg_base.specs.declared.size.Size.TheVariants.{Long}
 use Rattle.gg_base.specs.Arithmetic.{add32, div32, neg32, magnitude, same_sign}
@@ -304,7 +304,7 @@ is_narrow : (classes : List Class) (rule : Rule) (e : EffectShape) → Taken cla
 is_narrow classes rule e (by_line l g lines is found) = form_narrow classes rule g e found
 is_narrow classes rule e (by_shape l lines gives found) = shape_narrow classes rule (kind_at classes rule.left) (shape_of l.pieces) e found
 
-all_valid : (is : List Instr) → All (λ i. toy.is_instr i ≡ true) is
+all_valid : (is : List Instr) → AllByRecursion (λ i. toy.is_instr i ≡ true) is
 all_valid [] = tt
 all_valid (i ∷ is) = (refl, all_valid is)
 

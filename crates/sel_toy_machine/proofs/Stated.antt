@@ -3,7 +3,7 @@ use Rattle.std.proofs.Common.{◌≡◌, ℕ, zero, suc, ◌+◌, ◌-◌, ◌%�
 use Rattle.std.proofs.Common.{subst, arith, take, drop, slice_get}
 use Rattle.std.specs.Prelude.{IsSome, ◌&&◌, cond, slice_set, nat_lt}
 use Rattle.std.specs.Option.{option_map}
-use Rattle.std.specs.List.{AllByRecursion as All}
+use Rattle.std.specs.List.{AllByRecursion}
 use Rattle.std.specs.Int.{w16, w32, to_le_bytes}
 use Rattle.gg_base.specs.declared.relation.Rel.{Rel}
 use Rattle.gg_base.specs.declared.size.Size.{Size}
@@ -79,7 +79,7 @@ all_drop zero xs h = h
 all_drop (suc n) [] h = tt
 all_drop (suc n) (x ∷ xs) h = all_drop n xs h.1
 
-all_set : (bound n v : ℕ) (xs : List ℕ) → v < bound → All (λ x. x < bound) xs → All (λ x. x < bound) (slice_set xs n v)
+all_set : (bound n v : ℕ) (xs : List ℕ) → v < bound → AllByRecursion (λ x. x < bound) xs → AllByRecursion (λ x. x < bound) (slice_set xs n v)
 all_set bound n v [] lt h = tt
 all_set bound zero v (x ∷ xs) lt h = (lt, h.1)
 all_set bound (suc n) v (x ∷ xs) lt h = (h.0, all_set bound n v xs lt h.1)

@@ -2,7 +2,7 @@
 use Rattle.std.specs.Prelude.{◌≡◌, ℕ, ◌-◌, ◌*◌, ◌%◌, ◌^◌, ◌<◌, ◌==◌, nat_lt, List, [], ◌∷◌, Option, Some, None, Bool, true, false, cond, slice_get, slice_set}
 use Rattle.std.specs.Prelude.{length, map}
 use Rattle.std.specs.Option.{option_map}
-use Rattle.std.specs.List.{AllByRecursion as All}
+use Rattle.std.specs.List.{AllByRecursion}
 use Rattle.gg_base.specs.declared.size.Size.{Size}
 use Rattle.gg_base.specs.Sizes.{bytes_of}
 use Rattle.tree_core.specs.declared.program.TreeFn.{TreeFn}
@@ -119,9 +119,9 @@ pub record Stands (q : TreeProgram) (f : Extent) (fs : List Extent) (t : State) 
   pub callers : m.callers ≡ length t.callers
   pub functions : m.functions ≡ map (λ (g : TreeFn). g.name) q.functions
   pub locals : (k n : ℕ) → t.running.locals k ≡ Some n → (k < f.locals) × (long (in_word m k) ≡ n)
-  pub bytes : All (λ b. b < 256) t.area
-  pub inputs : All (λ b. b < 256) t.input
-  pub longwords : All (λ n. n < 2 ^ 32) t.running.arguments
+  pub bytes : AllByRecursion (λ b. b < 256) t.area
+  pub inputs : AllByRecursion (λ b. b < 256) t.input
+  pub longwords : AllByRecursion (λ n. n < 2 ^ 32) t.running.arguments
 
 abbrev pub with_register : Machine → ℕ → ℕ → Machine
 with_register m r x = record m { registers = record { at = r; value = x } ∷ m.registers }
