@@ -1,2 +1,3 @@
 pub mod Alike
 pub mod Narrow
+pub mod Depth
