@@ -14,7 +14,7 @@ use Rattle.tree_core.specs.Attributes.{end_leaf}
 use Rattle.tree_core.specs.Grammar.{kids}
 use Rattle.c_lower_scheme.specs.Trees.{Tree, Num, Gaddr, Loc, Arg, Indir, Conv, Neg, Com, Bin, Item, Label, AssignLoc, AssignArg, AssignMem, Cbr, Jump, Push, Call, Save, Ret}
 use Rattle.c_lower_scheme.specs.Spelling.{plain, constant_token, operator_token, indir_onto, conv_onto, leaves_onto, assign_onto, spelled, spelled_all}
-use Rattle.c_lower_bounds.specs.Claim.{fork, forks}
+use Rattle.tree_core_forks.specs.Forks.{fork, forks}
 
 -- the operators of a tree that have two operands
 abbrev pub tree_forks : Tree → ℕ

@@ -1,24 +1,12 @@
 -- What is claimed of lowering: each function stays, and has room in the frame that it needs.
-use Rattle.std.specs.Prelude.{◌≡◌, ℕ, ◌+◌, ◌≤◌, List, [], ◌∷◌, length, slice_get, Some}
-use Rattle.tree_core.specs.declared.token.Sort.{Sort}
+use Rattle.std.specs.Prelude.{◌≡◌, ℕ, ◌+◌, ◌≤◌, List, length, slice_get, Some}
 use Rattle.tree_core.specs.declared.tree.Leaf.{Leaf}
 use Rattle.tree_core.specs.declared.program.TreeItem.TheVariants as item
 use Rattle.tree_core.specs.declared.program.TreeFn.{TreeFn}
-use Rattle.tree_core.specs.Grammar.{kids}
+use Rattle.tree_core_forks.specs.Forks.{forks}
 use Rattle.c_program.specs.Need.{need_of}
 use Rattle.c_program.specs.Programs.{ARoutine, AProgram}
 use Rattle.c_lower_scheme.specs.Programs.{lowered}
-
--- a token with two kids
-abbrev pub fork : List Sort → ℕ
-fork [] = 0
-fork (a ∷ []) = 0
-fork (a ∷ b ∷ more) = 1
-
--- how many of a tree's leaves have two kids
-abbrev pub forks : List Leaf → ℕ
-forks [] = 0
-forks (l ∷ w) = fork (kids l.tok) + forks w
 
 -- A frame of so many longwords has room for a function: for its locals, and, with each of its trees, for one more and for one
 -- for each leaf with two kids.
