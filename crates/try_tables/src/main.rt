@@ -1,20 +1,23 @@
 // The program `try_tables`: reads a machine description from the input, builds its tables, and writes one
-// line: the numbers of its rules and item sets, or why it has no tables.
+// line: the numbers of its rules and item sets, or why it has no tables. `try_tables cases` reads many.
 #![tactic(auto)]
 
+mod cases;
 mod examining;
 
 ghost use Rattle.std.specs.Prelude.{◌≤◌, length};
 
+use cases::show_cases;
 use cmd_session::{InputFault, read_all, write_all};
 use examining::{Finding, MAX_BYTES, examine};
 use gg_base::NoMemory;
 use gg_outside::{StdSink, StdSource};
 use std::alloc::Global;
+use std::env;
 use std::process::ExitCode;
 
-// The line that is written of a text.
-fn line(alloc: Global, bytes: &[u8]) -> Result<String, NoMemory>
+/// The line that is written of a text.
+pub fn line(alloc: Global, bytes: &[u8]) -> Result<String, NoMemory>
     requires { length bytes.now ≤ 262144 }
 {
     let line = match examine(alloc, bytes)? {
@@ -41,8 +44,28 @@ fn run(rt: HostRuntime) -> Result<bool, NoMemory> {
     Ok(write_all(&mut out, line.as_bytes()).is_ok())
 }
 
+// Whether the word `cases` stands behind the program's name.
+fn are_cases(rt: HostRuntime) -> bool {
+    match env::args(&rt) {
+        Ok(words) => match words.skip(1).next() {
+            Some(word) => word.as_str() == "cases",
+            None => false,
+        },
+        Err(_) => false,
+    }
+}
+
+// Whether all was read and written.
+fn answer(rt: HostRuntime) -> Result<bool, NoMemory> {
+    if are_cases(rt) {
+        Ok(show_cases(rt).is_ok())
+    } else {
+        run(rt)
+    }
+}
+
 fn main(rt: HostRuntime) -> ExitCode {
-    match run(rt) {
+    match answer(rt) {
         Ok(true) => ExitCode::SUCCESS,
         _ => ExitCode::FAILURE,
     }
