@@ -11,3 +11,4 @@ pub mod Seen
 pub mod Meaning
 pub mod Law
 pub mod Only
+pub mod Typed

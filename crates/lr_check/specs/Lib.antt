@@ -3,3 +3,4 @@ pub mod Parse
 pub mod Order
 pub mod Steps
 pub mod Running
+pub mod Checking
