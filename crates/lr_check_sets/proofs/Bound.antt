@@ -99,7 +99,7 @@ module _ (A : Automaton) (k : ℕ) (final : (p : ℕ) → walk A 0 (symbol.Class
     (tops : (a : List Sym) (p : ℕ) (t : Tok) (r : Production) → walk A 0 a ≡ Some p → Free (A.candidates p t) (reduce r) →
     (b below : List Sym) × ((a ≡ b ++ below) × (length b ≡ size_of r) × IsTree b × (r.left < k))) where
   -- no stack comes again
-  no_circle : {a : List Sym} {v : List Tok} → Ends A a v → (t : Tok) (w : List Tok) → v ≡ t ∷ w → Circle A t a → ⊥
+  pub no_circle : {a : List Sym} {v : List Tok} → Ends A a v → (t : Tok) (w : List Tok) → v ≡ t ∷ w → Circle A t a → ⊥
   no_circle accepts t w e (circle y p r at f g path) =
       let s : tok.End ≡ t = cc in
       unlike r (subst (λ cs. Free cs (reduce r)) (final p at) (subst (λ z. Free (A.candidates p z) (reduce r)) (sym s) f))

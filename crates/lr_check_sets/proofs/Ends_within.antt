@@ -6,7 +6,7 @@ use Rattle.md_reader.specs.declared.types.Sym.{Sym}
 use Rattle.md_reader.specs.declared.types.Sym.TheVariants as symbol
 use Rattle.lr_check_sets.specs.Trees.{onto}
 use Rattle.lr_check_sets.specs.Automaton.{Automaton, Production, shift, reduce, walk, size_of, Free, Ends, IsTable}
-use Rattle.lr_check_sets.specs.Items.{Item, starts, moves, start_of, IsExact, HasNoEnd, HasNoEmpty}
+use Rattle.lr_check_sets.specs.Items.{Item, starts, moves, start_of, IsAutomatonOf, HasNoEnd, HasNoEmpty}
 use Rattle.lr_check_sets.specs.Shapes.{IsTree, HasTrees}
 use Rattle.lr_check_sets.specs.Bound.{HasClasses}
 use Rattle.lr_check_sets.specs.Claims.{EveryTreeEndsWithin}
@@ -15,17 +15,17 @@ use Rattle.lr_check_sets.proofs.Shapes.{OnTop, top_of_free}
 use Rattle.lr_check_sets.proofs.Whole_ends.{whole_trees_end}
 use Rattle.lr_check_sets.proofs.Bound.{bounded, ends_some, bare}
 
-module _ (G : List Production) (A : Automaton) (k : ℕ) (no_end : HasNoEnd G) (no_empty : HasNoEmpty G) (trees : HasTrees G) (classes : HasClasses G k) (exact : IsExact G A) where
+module _ (G : List Production) (A : Automaton) (k : ℕ) (no_end : HasNoEnd G) (no_empty : HasNoEmpty G) (trees : HasTrees G) (classes : HasClasses G k) (exact : IsAutomatonOf G A) where
   the_table : IsTable A
   the_table = table_of_items G A no_end no_empty exact
 
-  final : (p : ℕ) → walk A 0 (symbol.Class A.stmt ∷ []) ≡ Some p → A.candidates p tok.End ≡ shift ∷ []
+  pub final : (p : ℕ) → walk A 0 (symbol.Class A.stmt ∷ []) ≡ Some p → A.candidates p tok.End ≡ shift ∷ []
   final p at =
       let item : Item G A.stmt (symbol.Class A.stmt ∷ []) (start_of A.stmt) (symbol.Tok tok.End ∷ []) = moves (starts refl refl) in
       let there : (p' : ℕ) × (A.go p (symbol.Tok tok.End) ≡ Some p') = exact.goes_where (symbol.Class A.stmt ∷ []) p (symbol.Tok tok.End) (start_of A.stmt) [] at item in
       the_table.shift_alone (symbol.Class A.stmt ∷ []) p tok.End there.0 at there.1
 
-  tops : (a : List Sym) (p : ℕ) (t : Tok) (r : Production) → walk A 0 a ≡ Some p → Free (A.candidates p t) (reduce r) →
+  pub tops : (a : List Sym) (p : ℕ) (t : Tok) (r : Production) → walk A 0 a ≡ Some p → Free (A.candidates p t) (reduce r) →
       (b below : List Sym) × ((a ≡ b ++ below) × (length b ≡ size_of r) × IsTree b × (r.left < k))
   tops a p t r at f =
       let o : OnTop G A no_end no_empty trees exact r a = top_of_free G A no_end no_empty trees exact a p t r at f in

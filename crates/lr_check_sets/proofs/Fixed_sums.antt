@@ -10,7 +10,7 @@ use Rattle.md_reader.specs.declared.types.Sym.TheVariants as symbol
 use Rattle.tree_core.specs.Grammar.{kids}
 use Rattle.lr_check_sets.specs.Trees.{May, Begins, Tree, Trees, node, no_trees, more_trees, first}
 use Rattle.lr_check_sets.specs.Automaton.{Automaton, Production, Candidate, reduce, walk, size_of, Free, reduced, IsTable}
-use Rattle.lr_check_sets.specs.Items.{AreCandidates, the_shift, the_reductions, IsLongestFirst, IsExact, HasNoEnd, HasNoEmpty}
+use Rattle.lr_check_sets.specs.Items.{AreCandidates, the_shift, the_reductions, IsLongestFirst, IsAutomatonOf, HasNoEnd, HasNoEmpty}
 use Rattle.lr_check_sets.specs.Answers.{Entry, Leaf, symbols, next_token, leaves_all, pick, held_reduced, Step, reduces, Runs, then_step}
 use Rattle.lr_check_sets.specs.Shapes.{wanted, IsTree, HasTrees}
 use Rattle.lr_check_sets.specs.Sums.{Partly, Settling, Sum, opened, with_kid, whole, settled, sum}
@@ -108,7 +108,7 @@ goes_down : {G : List Production} {stmt : ℕ} {a : List Sym} {t : Tok} {cs : Li
 goes_down (the_shift r i) = tt
 goes_down (the_reductions rs none are e) = subst GoesDown (sym e) (down rs are.ordered)
 
-module _ (G : List Production) (A : Automaton) (no_end : HasNoEnd G) (no_empty : HasNoEmpty G) (trees : HasTrees G) (exact : IsExact G A) where
+module _ (G : List Production) (A : Automaton) (no_end : HasNoEnd G) (no_empty : HasNoEmpty G) (trees : HasTrees G) (exact : IsAutomatonOf G A) where
   table : IsTable A
   table = table_of_items G A no_end no_empty exact
 

@@ -14,3 +14,7 @@ pub mod Fixed
 pub mod Fixed_sums
 pub mod Own_trees
 pub mod Whole_ends
+pub mod Links
+pub mod Rows
+pub mod Patterned
+pub mod Meeting

@@ -1,7 +1,7 @@
 -- Each fault is met in the parse of a typed tree.
 use Rattle.std.proofs.Common.{◌≡◌, List}
 use Rattle.lr_check_sets.specs.Automaton.{Automaton, Production, IsTable}
-use Rattle.lr_check_sets.specs.Items.{IsExact, HasNoEnd, HasNoEmpty}
+use Rattle.lr_check_sets.specs.Items.{IsAutomatonOf, HasNoEnd, HasNoEmpty}
 use Rattle.lr_check_sets.specs.Shapes.{HasTrees}
 use Rattle.lr_check_sets.specs.Faults.{Fault, gap, dead, circle}
 use Rattle.lr_check_sets.specs.Claims.{Shown, blocks, loops, EveryFaultIsReal}
@@ -10,7 +10,7 @@ use Rattle.lr_check_sets.proofs.Whole_sets.{place_back, settling_back}
 use Rattle.lr_check_sets.proofs.Faults as Met
 use Rattle.lr_check_sets.proofs.Shapes as Gaps
 
-module _ (G : List Production) (A : Automaton) (no_end : HasNoEnd G) (no_empty : HasNoEmpty G) (trees : HasTrees G) (exact : IsExact G A) where
+module _ (G : List Production) (A : Automaton) (no_end : HasNoEnd G) (no_empty : HasNoEmpty G) (trees : HasTrees G) (exact : IsAutomatonOf G A) where
   table : IsTable A
   table = table_of_items G A no_end no_empty exact
 

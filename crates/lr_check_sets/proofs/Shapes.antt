@@ -8,7 +8,7 @@ use Rattle.md_reader.specs.declared.types.Sym.{Sym}
 use Rattle.md_reader.specs.declared.types.Sym.TheVariants as symbol
 use Rattle.tree_core.specs.Grammar.{kids}
 use Rattle.lr_check_sets.specs.Automaton.{Automaton, Production, Candidate, shift, reduce, walk, size_of, Free, CanBlock, reduced, Outside, IsTable}
-use Rattle.lr_check_sets.specs.Items.{Item, IsExact, HasNoEnd, HasNoEmpty}
+use Rattle.lr_check_sets.specs.Items.{Item, IsAutomatonOf, HasNoEnd, HasNoEmpty}
 use Rattle.lr_check_sets.specs.Loose.{LoosePlace, LoosePartly, LooseSettling, LooseSum, loose_start, loose_kid, loose_opened, loose_with_kid, loose_whole, loose_settled, loose_sum}
 use Rattle.lr_check_sets.specs.Shapes.{arity, wanted_behind, wanted, IsTree, HasTrees}
 use Rattle.lr_check_sets.proofs.Walks.{walk-append}
@@ -113,7 +113,7 @@ kid_shape s' s n tree part = record {
         by_lower b1 d e some rest (Some zero) f h = none_some (suc m) (sym (wanted-zero s' (tree_some s' tree)) ∙ (sym (wanted-append 1 0 s' b1 f) ∙ h))
         by_lower b1 d e some rest (Some (suc j)) f h = part.tops b1 d j e some rest f
 
-module _ (G : List Production) (A : Automaton) (no_end : HasNoEnd G) (no_empty : HasNoEmpty G) (trees : HasTrees G) (exact : IsExact G A) where
+module _ (G : List Production) (A : Automaton) (no_end : HasNoEnd G) (no_empty : HasNoEmpty G) (trees : HasTrees G) (exact : IsAutomatonOf G A) where
   -- the right side of a reduction stands on the stack, and is a tree
   pub record OnTop (r : Production) (a : List Sym) : Type 0 where
     pub top : List Sym

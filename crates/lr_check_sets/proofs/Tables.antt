@@ -7,7 +7,7 @@ use Rattle.tree_core.specs.declared.token.Tok.TheVariants as tok
 use Rattle.md_reader.specs.declared.types.Sym.{Sym}
 use Rattle.md_reader.specs.declared.types.Sym.TheVariants as symbol
 use Rattle.lr_check_sets.specs.Automaton.{Automaton, Production, Candidate, shift, reduce, walk, go_from, size_of, Free, reduced, IsTable}
-use Rattle.lr_check_sets.specs.Items.{start_of, Item, starts, opens, moves, Follow, AreCandidates, the_shift, the_reductions, IsExact, HasNoEnd, HasNoEmpty}
+use Rattle.lr_check_sets.specs.Items.{start_of, Item, starts, opens, moves, AreCandidates, the_shift, the_reductions, IsAutomatonOf, HasNoEnd, HasNoEmpty}
 
 reverse-cons : {X : Type 0} (x : X) (b c : List X) → reverse (x ∷ b) ++ c ≡ reverse b ++ (x ∷ c)
 reverse-cons x b c = ap (λ l. l ++ c) (reverse-append (x ∷ []) b) ∙ append_assoc (reverse b) (x ∷ []) c
@@ -105,7 +105,7 @@ reduce_item {G = G} {stmt = stmt} {a = a} {t = t} r (the_reductions rs none are 
     let found : (s : Production) × ((reduce r ≡ reduce s) × Contains rs s) = free-reductions rs (reduce r) (subst (λ cs. Free cs (reduce r)) e f) in
     let same : reduce r ≡ reduce found.0 = found.1.0 in
     let it : r ≡ found.0 = cc in
-    let each : Item G stmt a r [] × Contains G r × Follow G stmt r.left t = are.each r (subst (λ s. Contains rs s) (sym it) found.1.1) in
+    let each : Item G stmt a r [] × Contains G r = are.each r (subst (λ s. Contains rs s) (sym it) found.1.1) in
     (each.0, each.1)
 
 -- the state of a lower part
@@ -117,7 +117,7 @@ walk_below A q p (X ∷ s) a h = came_from (λ m e. walk_below A q m s a e) (wal
     came_from below None e g = cc
     came_from below (Some m) e g = below m e
 
-module _ (G : List Production) (A : Automaton) (no_end : HasNoEnd G) (no_empty : HasNoEmpty G) (exact : IsExact G A) where
+module _ (G : List Production) (A : Automaton) (no_end : HasNoEnd G) (no_empty : HasNoEmpty G) (exact : IsAutomatonOf G A) where
   reduces_law : (a : List Sym) (p : ℕ) (t : Tok) (r : Production) → walk A 0 a ≡ Some p → Item G A.stmt a r [] → Contains G r →
       (size_of r ≤ length a) × ((p' : ℕ) × (walk A 0 (reduced r a) ≡ Some p'))
   reduces_law a p t r at i m = go (item_stands i)

@@ -10,7 +10,7 @@ use Rattle.md_reader.specs.declared.types.Sym.TheVariants as symbol
 use Rattle.tree_core.specs.Grammar.{kids}
 use Rattle.lr_check_sets.specs.Trees.{Tree, Trees, node, no_trees, more_trees, onto, onto_all, root, first}
 use Rattle.lr_check_sets.specs.Automaton.{Automaton, Production, shift, reduce, walk, size_of, Free, CanBlock, reduced, Ends, accepts, goes, IsTable}
-use Rattle.lr_check_sets.specs.Items.{IsExact, HasNoEnd, HasNoEmpty}
+use Rattle.lr_check_sets.specs.Items.{IsAutomatonOf, HasNoEnd, HasNoEmpty}
 use Rattle.lr_check_sets.specs.Shapes.{HasTrees}
 use Rattle.lr_check_sets.specs.Sums.{Place, Partly, Settling, Sum, at_start, at_kid, opened, with_kid, whole, settled, sum}
 use Rattle.lr_check_sets.specs.Faults.{Calms, calms, NoFault}
@@ -32,7 +32,7 @@ no_more (more_trees {x = x} {xs = xs} v vs) e t w = absurd (unlike e)
     unlike : x ∷ xs ≡ [] → ⊥
     unlike e = cc
 
-module _ (G : List Production) (A : Automaton) (no_end : HasNoEnd G) (no_empty : HasNoEmpty G) (trees : HasTrees G) (exact : IsExact G A) (fine : NoFault A) where
+module _ (G : List Production) (A : Automaton) (no_end : HasNoEnd G) (no_empty : HasNoEmpty G) (trees : HasTrees G) (exact : IsAutomatonOf G A) (fine : NoFault A) where
   table : IsTable A
   table = table_of_items G A no_end no_empty exact
 

@@ -6,7 +6,7 @@ use Rattle.tree_core.specs.declared.token.Sort.{Sort}
 use Rattle.md_reader.specs.declared.types.Sym.{Sym}
 use Rattle.md_reader.specs.declared.types.Sym.TheVariants as symbol
 use Rattle.lr_check_sets.specs.Automaton.{Automaton, Production, Candidate, shift, reduce, walk, size_of, Free, reduced, Outside, IsTable}
-use Rattle.lr_check_sets.specs.Items.{IsExact, HasNoEnd, HasNoEmpty}
+use Rattle.lr_check_sets.specs.Items.{IsAutomatonOf, HasNoEnd, HasNoEmpty}
 use Rattle.lr_check_sets.specs.Loose.{LoosePlace, LoosePartly, LooseSettling, LooseSum, loose_start, loose_kid, loose_opened, loose_with_kid, loose_whole, loose_settled, loose_sum, WholeIsEnough}
 use Rattle.lr_check_sets.specs.Shapes.{IsTree, HasTrees}
 use Rattle.lr_check_sets.specs.Sums.{Place, Partly, Settling, Sum, at_start, at_kid, opened, with_kid, whole, settled, sum}
@@ -46,7 +46,7 @@ covered_sum {A = A} {t = t} (last {q = q} {s = s} {p = p0} {s' = s'} part ws0 co
     let kid_walk : walk A p0 s' ≡ Some p = sym (walk-append A q p0 s' s ws0) ∙ ws in
     sum c (whole (with_kid part ws0 refl (covered_sum cov p c kid_walk f (outside_kid c s' s o)))) ws f o
 
-module _ (G : List Production) (A : Automaton) (no_end : HasNoEnd G) (no_empty : HasNoEmpty G) (trees : HasTrees G) (exact : IsExact G A) where
+module _ (G : List Production) (A : Automaton) (no_end : HasNoEnd G) (no_empty : HasNoEmpty G) (trees : HasTrees G) (exact : IsAutomatonOf G A) where
   table : IsTable A
   table = table_of_items G A no_end no_empty exact
 

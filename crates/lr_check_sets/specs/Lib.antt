@@ -10,3 +10,4 @@ pub mod Answers
 pub mod Claims
 pub mod Samples
 pub mod Table
+pub mod Exact

@@ -9,7 +9,7 @@ use Rattle.md_reader.specs.declared.types.Sym.{Sym}
 use Rattle.md_reader.specs.declared.types.Sym.TheVariants as symbol
 use Rattle.lr_check_sets.specs.Trees.{May, Begins}
 use Rattle.lr_check_sets.specs.Automaton.{Automaton, Production, Candidate, reduce, walk, size_of, Free, reduced, Outside}
-use Rattle.lr_check_sets.specs.Items.{IsExact, HasNoEnd, HasNoEmpty}
+use Rattle.lr_check_sets.specs.Items.{IsAutomatonOf, HasNoEnd, HasNoEmpty}
 use Rattle.lr_check_sets.specs.Shapes.{HasTrees}
 use Rattle.lr_check_sets.specs.Sums.{Place, Sum}
 
@@ -52,4 +52,4 @@ pub record SameSets (A : Automaton) : Type 0 where
 -- reductions of parts are no loss, where the automaton is that of rules whose right sides are trees
 abbrev pub WholeIsEnough : Type 0
 WholeIsEnough =
-    (G : List Production) (A : Automaton) → HasNoEnd G → HasNoEmpty G → HasTrees G → IsExact G A → SameSets A
+    (G : List Production) (A : Automaton) → HasNoEnd G → HasNoEmpty G → HasTrees G → IsAutomatonOf G A → SameSets A

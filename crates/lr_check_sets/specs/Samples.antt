@@ -5,7 +5,7 @@ use Rattle.tree_core.specs.Grammar.{kids}
 use Rattle.md_reader.specs.declared.types.Sym.{Sym}
 use Rattle.lr_check_sets.specs.Trees.{Trees}
 use Rattle.lr_check_sets.specs.Automaton.{Automaton, Production, walk}
-use Rattle.lr_check_sets.specs.Items.{IsExact, HasNoEnd, HasNoEmpty}
+use Rattle.lr_check_sets.specs.Items.{IsAutomatonOf, HasNoEnd, HasNoEmpty}
 use Rattle.lr_check_sets.specs.Shapes.{HasTrees}
 use Rattle.lr_check_sets.specs.Sums.{Sum}
 use Rattle.lr_check_sets.specs.Answers.{Entry, Leaf, symbols, next_token, leaves_all, Runs}
@@ -21,5 +21,5 @@ pub record OwnTree (A : Automaton) (q : ℕ) (k t : Tok) (s : List Sym) : Type 0
 
 abbrev pub EverySumHasItsTree : Type 0
 EverySumHasItsTree =
-    (G : List Production) (A : Automaton) → HasNoEnd G → HasNoEmpty G → HasTrees G → IsExact G A →
+    (G : List Production) (A : Automaton) → HasNoEnd G → HasNoEmpty G → HasTrees G → IsAutomatonOf G A →
     (q : ℕ) (k t : Tok) (s : List Sym) → Sum A q k t s → OwnTree A q k t s

@@ -5,6 +5,7 @@
 ghost use Rattle.lr_check_sets.specs.Loose.{WholeIsEnough};
 ghost use Rattle.lr_check_sets.specs.Claims.{WholeTreesEnd, EveryTreeAccepts, EveryTreeEndsWithin, EveryFaultIsReal};
 ghost use Rattle.lr_check_sets.specs.Samples.{EverySumHasItsTree};
+ghost use Rattle.lr_check_sets.specs.Exact.{TablesMeetLaws};
 
 /// A law: reductions of parts of a list change neither set, so that those of whole lists are enough. It
 /// does nothing.
@@ -38,4 +39,10 @@ pub fn every_fault_is_real()
 /// A law: each sum has a tree with answers of its own, whatever stands below it. It does nothing.
 pub fn every_sum_has_its_tree()
     ensures { EverySumHasItsTree }
+{}
+
+/// A law: the automaton of a description's tables is that of its rules, as the other laws ask. It does
+/// nothing.
+pub fn tables_meet_laws()
+    ensures { TablesMeetLaws }
 {}
