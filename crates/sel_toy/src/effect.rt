@@ -13,8 +13,9 @@ ghost use Rattle.sel_target.specs.declared.fault.TargetFault.TheVariants as faul
 ghost use Rattle.sel_target.specs.declared.fault.TemplateKind.TheVariants as kinds;
 ghost use Rattle.sel_toy_machine.specs.Forms.{form_of, shape_of, is_sized};
 ghost use Rattle.sel_toy_machine.specs.Templates.{undivided, where_true, sum, quotient, or_fault, gives_register, gives_nothing};
+ghost use Rattle.sel_toy_machine.specs.Spills.{found_spill, spill_effect};
 ghost use Rattle.sel_toy_machine.specs.Templates.{found_form, found_line};
-ghost use Rattle.sel_toy_machine.specs.Templates.{holds_register, is_home, symbol, found_shape, effect, found_spill, spill_effect};
+ghost use Rattle.sel_toy_machine.specs.Templates.{holds_register, is_home, symbol, found_shape, effect};
 
 use crate::forms::{form_of, shape_of};
 use gg_base::{NoMemory, Size};

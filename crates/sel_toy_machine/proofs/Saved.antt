@@ -27,7 +27,8 @@ use Rattle.sel_toy_machine.specs.declared.form.Form.{Form}
 use Rattle.sel_toy_machine.specs.declared.form.Form.TheVariants as form
 use Rattle.sel_toy_machine.specs.Machine.{Machine, reads, names, with_register, with_word}
 use Rattle.sel_toy_machine.specs.Forms.{form_of}
-use Rattle.sel_toy_machine.specs.Templates.{undivided, where_true, found_spill}
+use Rattle.sel_toy_machine.specs.Templates.{undivided, where_true}
+use Rattle.sel_toy_machine.specs.Spills.{found_spill}
 use Rattle.sel_toy_machine.specs.Filling.{filled, source_of}
 use Rattle.sel_toy_machine.specs.Running.{taken, run}
 use Rattle.sel_toy_machine.proofs.Spelled.{equal_numbers, none_some, untrue}

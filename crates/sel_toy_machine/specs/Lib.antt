@@ -3,5 +3,6 @@ pub mod Forms
 pub mod Machine
 pub mod Running
 pub mod Sample
+pub mod Spills
 pub mod Templates
 pub mod Toy

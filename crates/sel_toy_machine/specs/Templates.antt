@@ -1,5 +1,5 @@
 -- What the toy machine's templates do, and the instructions that they become.
-use Rattle.std.specs.Prelude.{ℕ, ◌==◌, ◌&&◌, Bool, true, false, List, [], ◌∷◌, Option, Some, None, unwrap_or, Result, Ok, Err, slice_get, if◌then◌else◌}
+use Rattle.std.specs.Prelude.{ℕ, zero, suc, ◌==◌, ◌&&◌, Bool, true, false, List, [], ◌∷◌, Option, Some, None, unwrap_or, Result, Ok, Err, slice_get, if◌then◌else◌}
 use Rattle.gg_base.specs.declared.size.Size.{Size}
 use Rattle.gg_base.specs.declared.size.Size.TheVariants.{Long}
 use Rattle.gg_base.specs.Sizes.{bytes_of}
@@ -95,8 +95,8 @@ is_home classes size (Some (sym.Tok x)) = is_slot x && (bytes_of size == bytes_o
 is_home classes size (Some (sym.Class c)) = is_place_of size (kind_at classes c)
 
 abbrev pub symbol : List Sym → ℕ → Option Sym
-symbol right Rattle.std.specs.Prelude.zero = None
-symbol right (Rattle.std.specs.Prelude.suc i) = slice_get right i
+symbol right zero = None
+symbol right (suc i) = slice_get right i
 
 -- what a line does, where its symbols are of the sizes
 abbrev pub found_form : List Class → Rule → Form → Option EffectShape
@@ -144,14 +144,3 @@ found_rule classes rule (l ∷ k ∷ ls) g = Err (fault_at k.line)
 
 abbrev pub effect : List Class → Rule → Result EffectShape Fault
 effect classes rule = found_rule classes rule rule.lines rule.give
-
--- a line that saves a value of its size, or an address, or that reloads
-abbrev pub found_spill : Kind → Option Form → Option EffectShape
-found_spill (kind.Value size) (Some (form.Move z i)) = where_true ((bytes_of z == bytes_of size) && (i == 1)) (undivided (StoreHome size 0 (Symbol 1)))
-found_spill (kind.Place size) (Some (form.Address i)) = where_true (i == 1) (undivided (StoreHome Long 0 (Symbol 1)))
-found_spill kind.Ea (Some (form.Address i)) = where_true (i == 1) (undivided (StoreHome Long 0 (Symbol 1)))
-found_spill kind.Reg (Some (form.Move Long i)) = where_true (i == 1) (undivided (Value (Symbol 1)))
-found_spill k f = None
-
-abbrev pub spill_effect : Kind → Line → Result EffectShape Fault
-spill_effect k l = or_fault l.line (found_spill k (form_of l.pieces))

@@ -5,7 +5,8 @@ use Rattle.sel_toy_machine.specs.declared.operand.Operand.{Operand}
 use Rattle.sel_toy_machine.specs.declared.operand.Operand.TheVariants as operand
 use Rattle.sel_toy_machine.specs.declared.operand.Instr.{Instr}
 use Rattle.sel_toy_machine.specs.Machine.{Machine, in_register, Stands, long, reads, names, registers, word_of, same, fits}
-use Rattle.sel_toy_machine.specs.Templates.{effect, spill_effect}
+use Rattle.sel_toy_machine.specs.Templates.{effect}
+use Rattle.sel_toy_machine.specs.Spills.{spill_effect}
 use Rattle.sel_toy_machine.specs.Filling.{instr, operand_filled}
 use Rattle.sel_toy_machine.specs.Running.{run}
 
