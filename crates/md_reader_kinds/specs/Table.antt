@@ -1,0 +1,148 @@
+-- The table of kinds: what may be wrong with a line at the point where it stands, in the order in which it is answered.
+use Rattle.std.specs.Prelude.{◌≡◌, ℕ, ◌==◌, ◌||◌, not, nat_le, Bool, true, false, List, [], ◌∷◌, length, Option, Some, None, Result, Ok, Err, codes, if◌then◌else◌}
+use Rattle.std.specs.Option.{option_map}
+use Rattle.tree_core.specs.declared.token.Sort.{Sort}
+use Rattle.md_reader_pieces.specs.Pieces.{text_of, pieces}
+use Rattle.md_reader.specs.declared.types.Kind.{Kind}
+use Rattle.md_reader.specs.declared.types.Class.{Class}
+use Rattle.md_reader.specs.declared.types.Sym.{Sym}
+use Rattle.md_reader.specs.declared.types.Sym.TheVariants as sym
+use Rattle.md_reader.specs.declared.types.Restriction.{Restriction}
+use Rattle.md_reader.specs.declared.types.Give.{Give}
+use Rattle.md_reader.specs.declared.faults.DescKind.{DescKind}
+use Rattle.md_reader.specs.declared.faults.DescKind.TheVariants as fault
+use Rattle.md_reader.specs.declared.forms.Saved.{Saved}
+use Rattle.md_reader.specs.declared.reading.Stage.{Stage}
+use Rattle.md_reader.specs.declared.reading.Stage.TheVariants as stage
+use Rattle.md_reader.specs.Patterns.{kind_at, sort_of_symbol, sorted_test, walk, count}
+use Rattle.md_reader.specs.Symbols.{class_of, symbols_of}
+use Rattle.md_reader.specs.Forms.{is_skipped, are_both, pool_form, class_form, spill_form, saved_number, rule_form, if_form, do_form, give_form, plain_give}
+use Rattle.md_reader.specs.Rows.{restriction_fits, line_fits, pieces_fit, shape_fits, plain_fits, is_bare}
+use Rattle.md_reader.specs.State.{State}
+use Rattle.md_reader.specs.Steps.{has_stmt, line_step}
+
+-- what a line says by its form
+pub data Saying : Type 0 where
+  Head : Saying
+  NewClass : (name : List ℕ) (kind : Kind) → Saying
+  Spill : (text : Option (List ℕ)) → Saying
+  NewRule : (class : List ℕ) (right : List (List ℕ)) → Saying
+  If : (r : Restriction) → Saying
+  Do : (text : List ℕ) → Saying
+  Giving : (word : List ℕ) → Saying
+
+-- ---- the forms that are allowed at a point
+
+abbrev pub head_if : Bool → Option Saying
+head_if b = if b then Some Head else None
+
+-- spill lines stand in the order of what they save
+abbrev pub spill_said : State → Option (Saved × List (List ℕ)) → Option Saying
+spill_said s None = None
+spill_said s (Some x) = if saved_number x.0 == length s.spills then Some (Spill (text_of x.1)) else None
+
+abbrev pub class_said : State → Option (List ℕ × Kind) → List (List ℕ) → Option Saying
+class_said s (Some x) ws = Some (NewClass x.0 x.1)
+class_said s None ws = spill_said s (spill_form ws)
+
+-- `if` lines stand before the `do` lines
+abbrev pub do_said : Option (List (List ℕ)) → List (List ℕ) → Option Saying
+do_said (Some t) ws = option_map Do (text_of t)
+do_said None ws = option_map Giving (give_form ws)
+
+abbrev pub if_said : State → Option Restriction → List (List ℕ) → Option Saying
+if_said s (Some r) ws = if length s.lines == 0 then Some (If r) else None
+if_said s None ws = do_said (do_form ws) ws
+
+abbrev pub said_at : Stage → State → List (List ℕ) → Option Saying
+said_at stage.Version s ws = head_if (are_both ws (codes "version") (codes "1"))
+said_at stage.Target s ws = head_if (are_both ws (codes "target") (codes "vax"))
+said_at stage.Pool s ws = option_map (λ (m : ℕ). Head) (pool_form ws)
+said_at stage.Classes s ws = class_said s (class_form ws) ws
+said_at stage.Spills s ws = spill_said s (spill_form ws)
+said_at stage.Rules s ws = option_map (λ (x : List ℕ × List (List ℕ)). NewRule x.0 x.1) (rule_form ws)
+said_at stage.Template s ws = if_said s (if_form ws) ws
+
+abbrev pub said : State → List (List ℕ) → Option Saying
+said s ws = said_at s.stage s ws
+
+-- ---- the tests
+
+abbrev pub is_none : {A : Type 0} → Option A → Bool
+is_none None = true
+is_none (Some a) = false
+
+abbrev pub is_some : {A : Type 0} → Option A → Bool
+is_some None = false
+is_some (Some a) = true
+
+-- there is one, and it fails
+abbrev pub fails : {A : Type 0} → (A → Bool) → Option A → Bool
+fails test None = false
+fails test (Some a) = not (test a)
+
+-- none is there, or it fails
+abbrev pub lacks : {A : Type 0} → (A → Bool) → Option A → Bool
+lacks test None = true
+lacks test (Some a) = not (test a)
+
+-- a kid's sort doesn't fit, or the pattern's own, or the right side is a class of kind Nothing
+abbrev pub wrong_sorts : List Class → Option Sort → List Sym → Bool
+wrong_sorts classes None syms = true
+wrong_sorts classes (Some x) syms = is_bare classes syms || not (walk (sorted_test classes) (x ∷ []) syms)
+
+abbrev pub wrong_sort : List Class → Option ℕ → Option (List Sym) → Bool
+wrong_sort classes None syms = false
+wrong_sort classes (Some left) None = false
+wrong_sort classes (Some left) (Some syms) = wrong_sorts classes (sort_of_symbol classes (sym.Class left)) syms
+
+-- an operand has a bad hole, or isn't what a rule of the class gives
+abbrev pub bad_operand : State → Option Give → List ℕ → Bool
+bad_operand s (Some g) w = false
+bad_operand s None w = lacks (pieces_fit false s.right) (pieces w)
+
+abbrev pub bad_give : State → Option Give → List ℕ → Bool
+bad_give s (Some g) w = not (plain_fits (kind_at s.classes s.left) g)
+bad_give s None w = fails (shape_fits s.classes s.right (kind_at s.classes s.left)) (pieces w)
+
+-- ---- the table
+
+pub record Row : Type 0 where
+  pub kind : DescKind
+  pub applies : Bool
+
+abbrev pub row : DescKind → Bool → Row
+row kind applies = record { kind = kind; applies = applies }
+
+-- the kinds that may apply to a line that says this, in order; a line whose form isn't allowed is no saying
+abbrev pub rows : State → Bool → Option Saying → List Row
+rows s z None = row fault.BadWord true ∷ []
+rows s z (Some Head) = []
+rows s z (Some (NewClass name kind)) = row fault.Limit (nat_le 64 (length s.classes)) ∷ row fault.Twice (is_some (class_of s.classes name)) ∷ []
+rows s z (Some (Spill text)) =
+    row fault.MissingStmt (not (has_stmt s.classes)) ∷
+    row fault.BadWord (is_none text) ∷
+    row fault.BadHole (fails (λ (t : List ℕ). not (lacks (line_fits true (sym.Class 0 ∷ [])) (pieces t))) text) ∷ []
+rows s z (Some (NewRule class right)) =
+    row fault.Limit (nat_le 1000 (length s.rules) || not (nat_le (length right) 16)) ∷
+    row fault.UnknownClass (is_none (class_of s.classes class)) ∷
+    row fault.UnknownToken (is_none (symbols_of s.classes right)) ∷
+    row fault.NotATree (fails (count 1) (symbols_of s.classes right)) ∷
+    row fault.WrongSort (wrong_sort s.classes (class_of s.classes class) (symbols_of s.classes right)) ∷ []
+rows s z (Some (If r)) = row fault.Limit (nat_le 4 (length s.restrictions)) ∷ row fault.BadIf (not (restriction_fits s.classes s.right r)) ∷ []
+rows s z (Some (Do text)) = row fault.Limit (nat_le 8 (length s.lines)) ∷ row fault.BadHole (lacks (line_fits s.register s.right) (pieces text)) ∷ []
+rows s z (Some (Giving w)) = row fault.BadHole (bad_operand s (plain_give w) w) ∷ row fault.BadGive (bad_give s (plain_give w) w) ∷ []
+
+-- the first that applies
+abbrev pub first : List Row → Option DescKind
+first [] = None
+first (r ∷ rs) = if r.applies then Some r.kind else first rs
+
+-- what is wrong with a line, if it is
+abbrev pub kind_of : Result State DescKind → Option DescKind
+kind_of (Ok t) = None
+kind_of (Err k) = Some k
+
+-- The reader answers the first kind that applies to a line, and takes the line exactly where none does. A line that says nothing is taken.
+abbrev pub FirstKindIsAnswered : Type 0
+FirstKindIsAnswered = (s : State) (n : ℕ) (ws : List (List ℕ)) (z : Bool) → is_skipped ws ≡ false → kind_of (line_step s n ws z) ≡ first (rows s z (said s ws))
