@@ -8,7 +8,7 @@ use Rattle.std.proofs.lemmas.Slice.Eq.{bytes_eq-Decides}
 use Rattle.vax_core.specs.declared.code.Code.{Code}
 use Rattle.vax_core.specs.declared.code.CodeItem.{CodeItem}
 use Rattle.vax_core.specs.declared.code.CodeItem.TheVariants as items
-use Rattle.vax_machine.specs.Labels.{is_service, is_label, has_label, label_place, double_label, double_area_label, skipped, next_item, first_of}
+use Rattle.vax_machine.specs.Labels.{label_place, double_label, double_area_label, skipped, next_item, first_of}
 use Rattle.vax_machine.specs.Loading.{Loads, or_double}
 use Rattle.tree_core.specs.declared.program.TreeItem.{TreeItem}
 use Rattle.tree_core.specs.declared.program.TreeItem.TheVariants as item

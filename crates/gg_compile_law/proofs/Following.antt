@@ -1,8 +1,6 @@
 -- The run of the code follows the run of the trees.
-use Rattle.std.proofs.Common.{◌≡◌, ℕ, zero, suc, ◌+◌, ◌<◌, Bool, true, false, cond, List, [], ◌∷◌, ◌++◌, length, Option, Some, None, refl, sym, ap, subst, ◌∙◌, arith}
-use Rattle.std.specs.Prelude.{slice_get, nat_lt}
-use Rattle.std.proofs.lemmas.Bool.{ltb-true}
-use Rattle.gg_base.specs.declared.run.End.TheVariants as runs
+use Rattle.std.proofs.Common.{◌≡◌, ℕ, zero, suc, ◌+◌, ◌<◌, true, false, List, [], ◌∷◌, ◌++◌, length, Option, Some, None, refl, sym, ap, subst, ◌∙◌, arith}
+use Rattle.std.specs.Prelude.{slice_get}
 use Rattle.gg_base.specs.Runs.{Outcome, Runs}
 use Rattle.gg_base.specs.Follows.{AsksAt, Forward}
 use Rattle.vax_core.specs.declared.code.CodeItem.{CodeItem}
@@ -14,7 +12,7 @@ use Rattle.tree_core.specs.declared.program.TreeItem.TheVariants as item
 use Rattle.tree_core.specs.declared.program.TreeFn.{TreeFn}
 use Rattle.tree_core.specs.declared.program.TreeProgram.{TreeProgram}
 use Rattle.tree_core.specs.Trees.{grown}
-use Rattle.tree_meaning.specs.State.{Activation, begun, ahead, Next, tree_at, coming, returned, arrived}
+use Rattle.tree_meaning.specs.State.{Activation, ahead, Next, tree_at, coming, returned, arrived}
 use Rattle.tree_meaning.specs.State.{State as Trees}
 use Rattle.tree_meaning.specs.declared.machine.Finish.TheVariants as finish
 use Rattle.tree_meaning.specs.Steps.{Step, Goes, Serves, GoesTo, Enters, GoesBack, Ends, tree_step}

@@ -12,3 +12,5 @@ pub mod Assembling
 pub mod Simple
 pub mod Demo
 pub mod Spelling
+pub mod Names
+pub mod Loaded

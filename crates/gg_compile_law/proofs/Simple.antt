@@ -7,7 +7,7 @@ use Rattle.std.proofs.lemmas.List.{length-take-le}
 use Rattle.std.proofs.lemmas.Bool.{le-ltb}
 use Rattle.std.proofs.lemmas.Option.{slice_get_past}
 use Rattle.gg_base.specs.declared.size.Size.TheVariants.{Long}
-use Rattle.gg_base.specs.Arithmetic.{add32, sub32, neg32}
+use Rattle.gg_base.specs.Arithmetic.{add32, neg32}
 use Rattle.vax_core.specs.declared.register.Reg.TheVariants.{R0, Fp, Sp}
 use Rattle.vax_core.specs.declared.op.Op.TheVariants.{Pushl, Movl}
 use Rattle.vax_core.specs.declared.code.Instr.{Instr}

@@ -1,29 +1,25 @@
 -- The area that is spelled item by item is the objects' blocks.
-use Rattle.std.proofs.Common.{◌≡◌, ℕ, zero, suc, ◌+◌, ◌-◌, ◌%◌, ◌^◌, ◌<◌, ◌≤◌, Bool, true, false, cond, List, [], ◌∷◌, ◌++◌, length, take, drop, replicate, Option, Some, None, refl, sym, ap, subst, ◌∙◌, arith, append_assoc, length-append}
+use Rattle.std.proofs.Common.{◌≡◌, ℕ, zero, suc, ◌+◌, ◌-◌, ◌^◌, ◌<◌, ◌≤◌, Bool, true, false, cond, List, [], ◌∷◌, ◌++◌, length, take, drop, replicate, Option, Some, None, refl, sym, ap, subst, ◌∙◌, arith, append_assoc, length-append}
 use Rattle.std.specs.Prelude.{slice_get, ◌==◌, ◌&&◌, ◌||◌, nat_lt, nat_le}
-use Rattle.std.specs.List.{All, AllByRecursion}
+use Rattle.std.specs.List.{AllByRecursion}
 use Rattle.std.specs.Int.{w32, to_le_bytes}
 use Rattle.std.proofs.lemmas.Bool.{and_parts, eqb-true, leb-true, ltb-true, true≢false}
 use Rattle.std.proofs.lemmas.List.{drop_at, take-append-drop}
 use Rattle.std.proofs.lemmas.List.Elements.{recursion_from_All}
 use Rattle.gg_base.specs.Arithmetic.{add32}
-use Rattle.vax_core.specs.declared.code.Code.{Code}
 use Rattle.vax_core.specs.declared.code.CodeItem.{CodeItem}
 use Rattle.vax_core.specs.declared.code.AreaItem.{AreaItem}
 use Rattle.vax_core.specs.declared.code.AreaItem.TheVariants as areas
 use Rattle.vax_machine.specs.Area.{end_from, address_from, label_address, resolved, bytes_from}
 use Rattle.vax_machine.specs.Labels.{double_area_label}
-use Rattle.vax_machine.specs.Loading.{Loads}
 use Rattle.tree_core.specs.declared.program.Link.{Link}
 use Rattle.tree_core.specs.declared.program.Object.{Object}
-use Rattle.tree_core.specs.declared.program.TreeProgram.{TreeProgram}
-use Rattle.tree_core.specs.Valid.{is_aligned, is_whole, is_placed, object_lies, objects_lie, link_lies, LinksLie, IsValid}
-use Rattle.vax_machine_lists.specs.Sound.{AllBelow}
+use Rattle.tree_core.specs.Valid.{is_aligned, is_whole, is_placed, object_lies, objects_lie, link_lies, LinksLie}
 use Rattle.gg_compile_law.specs.Areas.{HasNoLabel, AreBlocks, none, more}
-use Rattle.gg_compile_law.specs.Spelling.{power_of, after_zeros, by_byte, label_of, link_addr, spelled, block_of, blocks_of, area_of, HoldsAddress, HoldsNumbers, AreasAreBlocks}
+use Rattle.gg_compile_law.specs.Spelling.{power_of, after_zeros, by_byte, label_of, link_addr, spelled, block_of, blocks_of, HoldsAddress, HoldsNumbers, AreasAreBlocks}
 use Rattle.gg_compile_law.proofs.Areas.{end_behind, zeros_are, Lies, lies, first_address, area_labels_differ}
 
-choose : (P : List AreaItem → Type 0) (t : Bool) (x y : List AreaItem) → (t ≡ true → P x) → (t ≡ false → P y) → P (cond t x y)
+pub choose : (P : List AreaItem → Type 0) (t : Bool) (x y : List AreaItem) → (t ≡ true → P x) → (t ≡ false → P y) → P (cond t x y)
 choose P true x y h g = h refl
 choose P false x y h g = g refl
 
@@ -64,12 +60,12 @@ byte_plain zeros go (suc c) h = zeros_plain zeros (areas.Byte (suc c) ∷ go 0) 
 -- ---- an object's bytes
 
 -- links lie in so many bytes
-abbrev FitAll : ℕ → List Link → Type 0
+abbrev pub FitAll : ℕ → List Link → Type 0
 FitAll size [] = Unit {0}
 FitAll size (l ∷ ls) = (l.at + 4 ≤ size) × FitAll size ls
 
 module _ (all : List Object) where
-  plain : (passed zeros : ℕ) (ls : List Link) (at : ℕ) (bs : List ℕ) → HasNoLabel (spelled all passed zeros ls at bs)
+  pub plain : (passed zeros : ℕ) (ls : List Link) (at : ℕ) (bs : List ℕ) → HasNoLabel (spelled all passed zeros ls at bs)
   plain passed zeros ls at [] = zeros_plain zeros [] tt
   plain (suc p) zeros ls at (b ∷ bs) = plain p zeros ls (at + 1) bs
   plain zero zeros [] at (b ∷ bs) = byte_plain zeros (λ (z : ℕ). spelled all zero z [] (at + 1) bs) b (λ z. plain zero z [] (at + 1) bs)
@@ -144,7 +140,7 @@ power_is align h = by (align == 1) (align == 2) (align == 4) refl refl refl h
     by false false true p q r h = sym (eqb-true align 4 r)
     by false false false p q r h = absurd (true≢false (sym h))
 
-aligned_so : (o : Object) (at : ℕ) → object_lies at o ≡ true → 2 ^ power_of o.align ≡ o.align
+pub aligned_so : (o : Object) (at : ℕ) → object_lies at o ≡ true → 2 ^ power_of o.align ≡ o.align
 aligned_so o at h = power_is o.align (and_parts (is_aligned o) (is_whole o && is_placed at o) h).0
 
 fit_all : (objects size : ℕ) (ls : List Link) → AllByRecursion (λ l. link_lies objects size l ≡ true) ls → FitAll size ls
@@ -152,7 +148,7 @@ fit_all objects size [] h = tt
 fit_all objects size (l ∷ ls) h = (leb-true (l.at + 4) size (and_parts (nat_le (l.at + 4) size) (nat_lt l.object objects) h.0).0, fit_all objects size ls h.1)
 
 module _ (all : List Object) where
-  block_end : (o : Object) (at : ℕ) → Lies o at (power_of o.align) → FitAll o.size o.links → end_from (block_of all o) at ≡ o.address + o.size
+  pub block_end : (o : Object) (at : ℕ) → Lies o at (power_of o.align) → FitAll o.size o.links → end_from (block_of all o) at ≡ o.address + o.size
   block_end o at l fits =
       let begins = l.begins in
       let size = l.whole in
@@ -163,7 +159,7 @@ module _ (all : List Object) where
     label : label_address whole o.label ≡ o.address
     low : o.address ≤ 1114112
 
-  abbrev LinksFit : List Object → Type 0
+  abbrev pub LinksFit : List Object → Type 0
   LinksFit [] = Unit {0}
   LinksFit (o ∷ os) = FitAll o.size o.links × LinksFit os
 
@@ -201,7 +197,7 @@ module _ (all : List Object) where
 
 -- ---- all of them
 
-found : (xs : List Object) (n : ℕ) → n < length xs → (x : Object) × (slice_get xs n ≡ Some x)
+pub found : (xs : List Object) (n : ℕ) → n < length xs → (x : Object) × (slice_get xs n ≡ Some x)
 found [] n lt = absurd (omega (arith, lt))
 found (x ∷ xs) zero lt = (x, refl)
 found (x ∷ xs) (suc n) lt = found xs n (omega (arith, lt))
@@ -243,7 +239,7 @@ module _ (all : List Object) (whole : List AreaItem) (places : (n : ℕ) (o : Ob
       })
       (are_blocks os (o.address + o.size) a.1 links.1 numbers.1)
 
-links_fit : (all : List Object) (objects : ℕ) (os : List Object) → AllByRecursion (LinksLie objects) os → LinksFit all os
+pub links_fit : (all : List Object) (objects : ℕ) (os : List Object) → AllByRecursion (LinksLie objects) os → LinksFit all os
 links_fit all objects [] h = tt
 links_fit all objects (o ∷ os) h = (fit_all objects o.size o.links (recursion_from_All (λ k. link_lies objects o.size k ≡ true) o.links h.0.0), links_fit all objects os h.1)
 

@@ -1,13 +1,11 @@
 -- The run of a program's code begins where the run of its trees begins, and follows it.
-use Rattle.std.proofs.Common.{◌≡◌, ℕ, zero, suc, ◌+◌, Bool, true, false, cond, List, [], ◌∷◌, length, Option, Some, None, refl, sym, ap, subst, ◌∙◌, arith}
-use Rattle.std.specs.Prelude.{slice_get, codes, replicate, nat_lt}
+use Rattle.std.proofs.Common.{◌≡◌, ℕ, zero, suc, Bool, true, false, cond, List, [], ◌∷◌, length, Option, Some, None, refl, sym, ap, subst, ◌∙◌, arith}
+use Rattle.std.specs.Prelude.{slice_get, codes, replicate}
 use Rattle.std.specs.List.{find}
 use Rattle.std.specs.Str.{bytes_eq}
 use Rattle.std.proofs.lemmas.List.{length-replicate}
 use Rattle.std.proofs.lemmas.Slice.Eq.{bytes_eq-Decides}
-use Rattle.gg_base.specs.declared.run.End.TheVariants as ends
-use Rattle.gg_base.specs.Runs.{Outcome}
-use Rattle.gg_base.specs.Follows.{IsBroken, NeverBroken, Forward, Follows}
+use Rattle.gg_base.specs.Follows.{Forward, Follows}
 use Rattle.gg_base.proofs.Following.{follows}
 use Rattle.vax_core.specs.declared.code.Code.{Code}
 use Rattle.vax_machine_live.specs.declared.frame.Frame.{Frame}
@@ -18,14 +16,12 @@ use Rattle.vax_machine.specs.Calls.{called}
 use Rattle.vax_machine.specs.Loading.{blank, begun as loaded, start}
 use Rattle.vax_machine.specs.Running.{state_run, run as code_run}
 use Rattle.vax_machine.proofs.Ends.{run_has_one_end}
-use Rattle.tree_core.specs.declared.tree.Leaf.{Leaf}
 use Rattle.tree_core.specs.declared.program.TreeFn.{TreeFn}
 use Rattle.tree_core.specs.declared.program.TreeProgram.{TreeProgram}
 use Rattle.tree_core.specs.Area.{opening}
-use Rattle.tree_core.specs.Trees.{grown}
-use Rattle.tree_meaning.specs.State.{begun, Next, over, tree_at, arrived}
+use Rattle.tree_meaning.specs.State.{begun, arrived}
 use Rattle.tree_meaning.specs.State.{State as Trees}
-use Rattle.tree_meaning.specs.Meaning.{run, runs, main_at, main_of, tree_run}
+use Rattle.tree_meaning.specs.Meaning.{run, runs, main_at, tree_run}
 use Rattle.tree_meaning.proofs.Ending.{tree_run_unbroken}
 use Rattle.vax_states.specs.Stack.{nobody}
 use Rattle.vax_machine_lists.specs.Sound.{AllBelow, IsSound}

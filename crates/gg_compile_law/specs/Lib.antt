@@ -6,3 +6,5 @@ pub mod Assembled
 pub mod Laws
 pub mod Demo
 pub mod Spelling
+pub mod Names
+pub mod Loaded

@@ -5,6 +5,8 @@ ghost use Rattle.gg_compile_law.specs.Areas.{BlocksHoldObjects};
 ghost use Rattle.gg_compile_law.specs.Assembled.{AssembledFollow, SourceIsFollowed, FramesAreFunctionCodes};
 ghost use Rattle.gg_compile_law.specs.Demo.{DemoFollows};
 ghost use Rattle.gg_compile_law.specs.Spelling.{AreasAreBlocks};
+ghost use Rattle.gg_compile_law.specs.Names.{CodeLabelsDiffer, MainStands};
+ghost use Rattle.gg_compile_law.specs.Loaded.{AssembledLoads};
 
 /// The law: the stack has room for 1,024 active calls.
 #[tactic(auto, using(crate::proofs::Rooms::stack_has_room))]
@@ -57,4 +59,19 @@ pub fn demo_follows()
 /// The law: the data area that is spelled item by item, with a `.long` for each link, is the objects' blocks.
 pub fn areas_are_blocks()
     ensures { AreasAreBlocks }
+{}
+
+/// The law: no label stands twice in the code of a valid program's functions, and none is a service's name.
+pub fn code_labels_differ()
+    ensures { CodeLabelsDiffer }
+{}
+
+/// The law: the code of a valid program's functions has a label for main.
+pub fn main_stands()
+    ensures { MainStands }
+{}
+
+/// The law: the code of a program loads, where its objects' labels are their own and its instructions name what is there.
+pub fn assembled_loads()
+    ensures { AssembledLoads }
 {}
