@@ -18,3 +18,4 @@ pub mod Links
 pub mod Rows
 pub mod Patterned
 pub mod Meeting
+pub mod Closing

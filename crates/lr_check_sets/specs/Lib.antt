@@ -11,3 +11,4 @@ pub mod Claims
 pub mod Samples
 pub mod Table
 pub mod Exact
+pub mod Closed

@@ -6,6 +6,7 @@ ghost use Rattle.lr_check_sets.specs.Loose.{WholeIsEnough};
 ghost use Rattle.lr_check_sets.specs.Claims.{WholeTreesEnd, EveryTreeAccepts, EveryTreeEndsWithin, EveryFaultIsReal};
 ghost use Rattle.lr_check_sets.specs.Samples.{EverySumHasItsTree};
 ghost use Rattle.lr_check_sets.specs.Exact.{TablesMeetLaws};
+ghost use Rattle.lr_check_sets.specs.Closed.{ClosedIsEnough};
 
 /// A law: reductions of parts of a list change neither set, so that those of whole lists are enough. It
 /// does nothing.
@@ -45,4 +46,10 @@ pub fn every_sum_has_its_tree()
 /// nothing.
 pub fn tables_meet_laws()
     ensures { TablesMeetLaws }
+{}
+
+/// A law: predicates that are closed under the rules of the sets, and of which no fault is true, show that
+/// the automaton has no fault. It does nothing.
+pub fn closed_is_enough()
+    ensures { ClosedIsEnough }
 {}
