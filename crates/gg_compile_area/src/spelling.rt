@@ -70,7 +70,9 @@ impl<'a> Spelling<'a> {
         items: &mut Vec<AreaItem>,
     ) -> Result<Spelling<'a>, NoMemory>
         requires { self.zeros < 1048576 }
-        ensures spells { IfOk result (λ r. (bs : List ℕ) → items.new.items ++ spelled objects.now r.passed r.zeros r.links.now (at + 1) bs ≡ items.old.items ++ spelled objects.now self.entry.passed self.entry.zeros self.entry.links.now at (b ∷ bs)) }
+        ensures spells { IfOk result (λ r. (bs : List ℕ) →
+            items.new.items ++ spelled objects.now r.passed r.zeros r.links.now (at + 1) bs
+            ≡ items.old.items ++ spelled objects.now self.entry.passed self.entry.zeros self.entry.links.now at (b ∷ bs)) }
         ensures few { IfOk result (λ r. r.zeros ≤ self.entry.zeros + 1) }
     {
         if self.passed != 0 {
