@@ -1,6 +1,6 @@
 -- The code of a program loads.
-use Rattle.std.proofs.Common.{◌≡◌, ◌⊎◌, inl, inr, ℕ, zero, suc, ◌+◌, ◌-◌, ◌^◌, ◌<◌, ◌≤◌, Bool, true, false, cond, List, [], ◌∷◌, ◌++◌, length, Option, Some, None, refl, sym, ap, subst, ◌∙◌, arith}
-use Rattle.std.specs.Prelude.{slice_get, ◌||◌, ◌==◌, ◌&&◌, nat_lt, nat_le}
+use Rattle.std.proofs.Common.{◌≡◌, ◌⊎◌, inl, inr, ℕ, zero, suc, ◌+◌, ◌^◌, ◌<◌, ◌≤◌, Bool, true, false, cond, List, [], ◌∷◌, ◌++◌, length, Option, Some, None, refl, sym, ap, subst, ◌∙◌, arith}
+use Rattle.std.specs.Prelude.{slice_get, ◌||◌, ◌==◌, nat_lt, nat_le}
 use Rattle.std.specs.List.{AllByRecursion}
 use Rattle.std.specs.Str.{bytes_eq}
 use Rattle.std.proofs.lemmas.Bool.{and_parts, le-ltb, ltb-true, true≢false}
@@ -12,13 +12,13 @@ use Rattle.vax_core.specs.declared.code.AreaItem.{AreaItem}
 use Rattle.vax_core.specs.declared.code.AreaItem.TheVariants as areas
 use Rattle.vax_machine.specs.declared.loading.LoadFault.TheVariants as faults
 use Rattle.vax_machine.specs.Area.{end_from, area_size, is_area_label, has_area_label}
-use Rattle.vax_machine.specs.Labels.{main_name, is_service, has_label, double_label, double_area_label, undefined_name, undefined_area_label, undefined_label, first_of}
-use Rattle.vax_machine.specs.Loading.{too_large, no_main, or_undefined, or_double, undefined_name_of, double_label_of, Loads}
+use Rattle.vax_machine.specs.Labels.{is_service, has_label, double_label, double_area_label, undefined_name, undefined_area_label, undefined_label, first_of}
+use Rattle.vax_machine.specs.Loading.{too_large, or_undefined, or_double, undefined_name_of, double_label_of}
 use Rattle.tree_core.specs.declared.program.Link.{Link}
 use Rattle.tree_core.specs.declared.program.Object.{Object}
 use Rattle.tree_core.specs.declared.program.TreeFn.{TreeFn}
 use Rattle.tree_core.specs.declared.program.TreeProgram.{TreeProgram}
-use Rattle.tree_core.specs.Valid.{object_lies, objects_lie, link_lies, LinksLie, IsValid}
+use Rattle.tree_core.specs.Valid.{object_lies, objects_lie, link_lies, LinksLie}
 use Rattle.vax_frames.specs.Frames.{function_label}
 use Rattle.gg_compile_law.specs.Areas.{HasNoLabel}
 use Rattle.gg_compile_law.specs.Effects.{label_name}

@@ -1,5 +1,5 @@
 -- The labels of a program's code.
-use Rattle.std.specs.Prelude.{◌≡◌, ℕ, ◌^◌, ◌<◌, List, [], ◌∷◌, None, true}
+use Rattle.std.specs.Prelude.{◌≡◌, ◌^◌, ◌<◌, List, [], ◌∷◌, None, true}
 use Rattle.vax_core.specs.declared.code.CodeItem.{CodeItem}
 use Rattle.vax_machine.specs.Labels.{main_name, has_label, double_label}
 use Rattle.tree_core.specs.declared.program.TreeItem.{TreeItem}

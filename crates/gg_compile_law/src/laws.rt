@@ -7,6 +7,7 @@ ghost use Rattle.gg_compile_law.specs.Demo.{DemoFollows};
 ghost use Rattle.gg_compile_law.specs.Spelling.{AreasAreBlocks};
 ghost use Rattle.gg_compile_law.specs.Names.{CodeLabelsDiffer, MainStands};
 ghost use Rattle.gg_compile_law.specs.Loaded.{AssembledLoads};
+ghost use Rattle.gg_compile_law.specs.Written.{WrittenCodesLoad, WrittenCodesFollow};
 
 /// The law: the stack has room for 1,024 active calls.
 #[tactic(auto, using(crate::proofs::Rooms::stack_has_room))]
@@ -74,4 +75,14 @@ pub fn main_stands()
 /// The law: the code of a program loads, where its objects' labels are their own and its instructions name what is there.
 pub fn assembled_loads()
     ensures { AssembledLoads }
+{}
+
+/// The law: a code that is written of a valid program loads.
+pub fn written_codes_load()
+    ensures { WrittenCodesLoad }
+{}
+
+/// The law: what the run of the trees follows, as the run of a source, is followed by the run of a code that is written of the program.
+pub fn written_codes_follow()
+    ensures { WrittenCodesFollow }
 {}
