@@ -1,5 +1,6 @@
 -- What a template does, and the first fault in it.
-use Rattle.std.specs.Prelude.{ℕ, Bool, true, false, ◌||◌, ◌&&◌, List, [], ◌∷◌, ◌++◌, Option, Some, None, is_none, Result, Ok, Err, if◌then◌else◌}
+use Rattle.std.specs.Prelude.{ℕ, ◌-◌, Bool, true, false, ◌||◌, ◌&&◌, List, [], ◌∷◌, ◌++◌, length, slice_get, Option, Some, None, is_none}
+use Rattle.std.specs.Prelude.{Result, Ok, Err, if◌then◌else◌}
 use Rattle.std.specs.List.{list_any, list_all}
 use Rattle.gg_base.specs.declared.size.Size.{Size}
 use Rattle.gg_base.specs.declared.size.Size.TheVariants.{Byte, Long}
@@ -68,11 +69,13 @@ abbrev pub lines_judged : Setting → List Hole → Bool → Progress → List L
 lines_judged s holes is_first p [] = Ok p
 lines_judged s holes is_first p (l ∷ ls) = judged s holes is_first l p >>= λ (q : Progress). lines_judged s holes false q ls
 
+abbrev pub line_or_zero : Option Line → ℕ
+line_or_zero None = 0
+line_or_zero (Some l) = l.line
+
 -- the number of the last line
 abbrev pub last_line : List Line → ℕ
-last_line [] = 0
-last_line (l ∷ []) = l.line
-last_line (l ∷ k ∷ ls) = last_line (k ∷ ls)
+last_line ls = line_or_zero (slice_get ls (length ls - 1))
 
 -- what is left in `%0`, or what the last line did
 abbrev pub left_value : Option Shape → Result ActShape TemplateKind

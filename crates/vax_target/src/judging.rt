@@ -1,0 +1,332 @@
+// What a line of a template does, and what is wrong with it.
+ghost use Rattle.std.specs.Prelude.{◌≡◌, IfOk, Ok};
+ghost use Rattle.std.specs.List.{list_any};
+ghost use Rattle.std.specs.Option.{option_map};
+ghost use Rattle.term_core.specs.Shape.{shape_of};
+ghost use Rattle.sel_terms.specs.Effects.{act_of};
+ghost use Rattle.vax_templates.specs.Judging.{leaves, ends, ends_statement, is_relation, branches, is_movl, is_last_result, puts, put};
+ghost use Rattle.vax_templates.specs.Judging.{computed, acted};
+ghost use Rattle.vax_templates.specs.Judging.{is_operand, index_is_operand, base_spells, spells_symbol, is_disordered, in_order, checked};
+ghost use Rattle.vax_templates.specs.Judging.{operated};
+ghost use Rattle.vax_templates.specs.Judging.{instruction_did, returned, did_behind, line_did};
+ghost use Rattle.vax_target.specs.Answers.{Judges};
+ghost use Rattle.vax_target.specs.Stages.{did_after, line_after};
+ghost use Rattle.vax_target.specs.Views.{term_of, target_of, arguments_of, given_of, last_of, deed_of, instruction_view};
+
+use crate::action::action_of;
+use crate::giving::{Outcome, given};
+use crate::instruction::{LineInstruction, instruction_of};
+use crate::refusal::{NOT_INSTR, Refusal};
+use crate::setting::hole_at;
+use crate::standing::Template;
+use crate::taking::{Destination, Operands};
+use gg_base::NoMemory;
+use md_reader::Piece;
+use sel_target::TemplateKind;
+use sel_terms::Act;
+use std::alloc::Global;
+use term_core::{Term, copy};
+use vax_core::Op;
+use vax_machine::function::Action;
+use vax_templates::{Base, Form, Hole};
+
+/// What a line leaves to the next: nothing, two numbers that were compared, one that was tested, a value in register 0, or the deed that
+/// ends the template.
+#[derive(Drop)]
+pub enum Before {
+    Plain,
+    Compared(Term, Term),
+    Tested(Term),
+    Returning(Term),
+    Ended(Act),
+}
+
+/// What a line puts into `%0`, what it leaves to the next, by what it divides, what it reads of memory, and whether an operand has another
+/// size.
+#[derive(Drop)]
+pub struct Step {
+    pub own: Option<Term>,
+    pub leaves: Before,
+    pub divisors: Vec<Term>,
+    pub reads: Vec<Term>,
+    pub is_missized: bool,
+}
+
+fn leaves(alloc: Global, before: Before) -> Step
+    ensures { deed_of result ≡ leaves (last_of before) }
+{
+    Step {
+        own: None,
+        leaves: before,
+        divisors: Vec::new(alloc),
+        reads: Vec::new(alloc),
+        is_missized: false,
+    }
+}
+
+fn ends(alloc: Global, deed: Act) -> Step
+    ensures { ends (act_of deed) ≡ Ok (deed_of result) }
+{
+    leaves(alloc, Before::Ended(deed))
+}
+
+fn puts(alloc: Global, t: Term) -> Step
+    ensures { deed_of result ≡ puts (shape_of t) }
+{
+    Step {
+        own: Some(t),
+        leaves: Before::Plain,
+        divisors: Vec::new(alloc),
+        reads: Vec::new(alloc),
+        is_missized: false,
+    }
+}
+
+fn is_relation(hole: Hole) -> bool
+    ensures { result ≡ is_relation hole }
+{
+    match hole {
+        Hole::Relation => true,
+        _ => false,
+    }
+}
+
+fn is_movl(op: Op) -> bool
+    ensures { result ≡ is_movl op }
+{
+    match op {
+        Op::Movl => true,
+        _ => false,
+    }
+}
+
+fn is_last_result(t: &Term) -> bool
+    ensures { result ≡ is_last_result (shape_of t.now) }
+{
+    match t {
+        Term::Res => true,
+        _ => false,
+    }
+}
+
+// A result at its destination.
+fn put(alloc: Global, op: Op, to: Destination, t: Term) -> Result<Step, Refusal>
+    ensures { Judges deed_of result (put op (Some (target_of to)) (shape_of t)) }
+{
+    match to {
+        Destination::Own => Ok(puts(alloc, t)),
+        Destination::Slot(size) => Ok(ends(alloc, Act::StoreHome(size, 0, t))),
+        Destination::Home(size, i) => Ok(ends(alloc, Act::StoreHome(size, i, t))),
+        Destination::Memory(size, a) => Ok(ends(alloc, Act::StoreAt(size, a, t))),
+        Destination::RegisterZero if is_movl(op) => Ok(leaves(alloc, Before::Returning(t))),
+        Destination::Saved(i) if is_movl(op) && is_last_result(&t) => {
+            Ok(ends(alloc, Act::Save(i)))
+        }
+        Destination::RegisterZero | Destination::Saved(_) => Err(NOT_INSTR),
+    }
+}
+
+fn put_at(alloc: Global, op: Op, to: Option<Destination>, t: Term) -> Result<Step, Refusal>
+    ensures { Judges deed_of result (put op (option_map target_of to) (shape_of t)) }
+{
+    match to {
+        Some(to) => put(alloc, op, to, t),
+        None => Err(NOT_INSTR),
+    }
+}
+
+fn computed(
+    alloc: Global,
+    op: Op,
+    to: Option<Destination>,
+    outcome: Outcome,
+) -> Result<Step, Refusal>
+    ensures { Judges deed_of result (computed op (option_map target_of to) (given_of outcome)) }
+{
+    match outcome {
+        Outcome::Computes(t) => put_at(alloc, op, to, t),
+        Outcome::Divides(t, divisor) => {
+            let mut step = put_at(alloc, op, to, t)?;
+            let mut divisors = Vec::new(alloc);
+            divisors.push(divisor)?;
+            step.divisors = divisors;
+            Ok(step)
+        }
+        Outcome::Compares(a, b) => Ok(leaves(alloc, Before::Compared(a, b))),
+        Outcome::Tests(t) => Ok(leaves(alloc, Before::Tested(t))),
+    }
+}
+
+fn is_operand(hole: Hole) -> bool
+    ensures { result ≡ is_operand hole }
+{
+    match hole {
+        Hole::Register => true,
+        Hole::Value(_) => true,
+        Hole::Place(_) => true,
+        Hole::Local => true,
+        Hole::SavedPlace(_) => true,
+        Hole::Address => true,
+        _ => false,
+    }
+}
+
+fn returned(alloc: Global, t: &Term, instruction: &LineInstruction) -> Result<Step, Refusal>
+    ensures { Judges deed_of result (returned (shape_of t.now) (instruction_view instruction.now)) }
+{
+    match instruction {
+        LineInstruction::Return => {
+            let t = copy(alloc, t)?;
+            Ok(ends(alloc, Act::Return(t)))
+        }
+        _ => Err(NOT_INSTR),
+    }
+}
+
+impl<'a> Template<'a> {
+    fn ends_statement(self, deed: Act) -> Result<Step, Refusal>
+        ensures { Judges deed_of result (ends_statement self.entry.setting (act_of deed)) }
+    {
+        if self.setting.is_statement {
+            Ok(ends(self.alloc, deed))
+        } else {
+            Err(NOT_INSTR)
+        }
+    }
+
+    // A branch by the relation of the symbol with this number.
+    fn branches(self, i: u8, before: &Before) -> Result<Step, Refusal>
+        ensures { Judges deed_of result (branches self.entry.setting i (last_of before.now)) }
+    {
+        match before {
+            Before::Compared(a, b) => {
+                let a = copy(self.alloc, a)?;
+                let b = copy(self.alloc, b)?;
+                self.ends_statement(Act::Branch(i, a, b))
+            }
+            Before::Tested(t) if self.setting.is_signed => {
+                let t = copy(self.alloc, t)?;
+                self.ends_statement(Act::Branch(i, t, Term::K(0)))
+            }
+            _ => Err(NOT_INSTR),
+        }
+    }
+
+    fn index_is_operand(self, index: Option<u8>) -> bool
+        ensures { result ≡ index_is_operand self.entry.holes.now index }
+    {
+        match index {
+            Some(i) => is_operand(hole_at(self.holes, i)),
+            None => false,
+        }
+    }
+
+    fn base_spells(self, base: Base) -> bool
+        ensures { result ≡ base_spells self.entry.holes.now base }
+    {
+        match base {
+            Base::Hole(i) => is_operand(hole_at(self.holes, i)),
+            Base::RegisterDeferred(i) => is_operand(hole_at(self.holes, i)),
+            Base::Displacement(_, i) => is_operand(hole_at(self.holes, i)),
+            Base::DisplacementDeferred(_, i) => is_operand(hole_at(self.holes, i)),
+            Base::Deferred(i) => is_operand(hole_at(self.holes, i)),
+            _ => false,
+        }
+    }
+
+    // Whether one of the operands is read of a symbol.
+    fn spell_symbols(self, forms: &[Form]) -> bool
+        ensures { result ≡ list_any (spells_symbol self.entry.holes.now) forms.now }
+    {
+        for form in forms {
+            if self.base_spells(form.base) || self.index_is_operand(form.index) {
+                return true;
+            }
+        }
+        false
+    }
+
+    fn acted(self, action: Action, op: Op, arguments: Operands) -> Result<Step, Refusal>
+        ensures { Judges deed_of result (acted self.entry.setting action op (arguments_of arguments)) }
+    {
+        match action {
+            Action::Compute(function) => {
+                let outcome = given(self.alloc, function, &arguments.first, &arguments.second)?;
+                computed(self.alloc, op, arguments.destination, outcome)
+            }
+            Action::Push => self.ends_statement(Act::Push(arguments.first)),
+            Action::Branch(_) | Action::Call | Action::Return => Err(NOT_INSTR),
+        }
+    }
+
+    fn is_disordered(self, is_first: bool, zero: &Option<Term>, forms: &[Form], step: &Step) -> bool
+        ensures { result ≡ is_disordered self.entry.setting self.entry.holes.now is_first (term_of zero.now) forms.now (deed_of step.now) }
+    {
+        (!is_first && !step.divisors.is_empty())
+            || (self.setting.is_reused && zero.is_some() && self.spell_symbols(forms))
+    }
+
+    #[tactic(auto, unfolding(vax_templates::specs::Judging::operated))]
+    fn operated(
+        self,
+        is_first: bool,
+        zero: &Option<Term>,
+        op: Op,
+        forms: &[Form],
+    ) -> Result<Step, Refusal>
+        ensures { Judges deed_of result (operated self.entry.setting self.entry.holes.now is_first (term_of zero.now) op forms.now) }
+    {
+        let mut arguments = self.all_evaluated(zero, op.shape().operands, forms)?;
+        let is_missized = arguments.is_missized;
+        let reads = std::mem::replace(&mut arguments.reads, Vec::new(self.alloc));
+        let mut step = self.acted(action_of(op), op, arguments)?;
+        step.reads = reads;
+        step.is_missized = is_missized;
+        if is_missized {
+            return Err(Refusal::Wrong(TemplateKind::WrongSize));
+        }
+        if self.is_disordered(is_first, zero, forms, &step) {
+            return Err(Refusal::Wrong(TemplateKind::Order));
+        }
+        Ok(step)
+    }
+
+    fn instruction_did(
+        self,
+        is_first: bool,
+        zero: &Option<Term>,
+        before: &Before,
+        instruction: &LineInstruction,
+    ) -> Result<Step, Refusal>
+        ensures { Judges deed_of result (did_after self.entry.setting self.entry.holes.now is_first zero.now before.now instruction.now) }
+    {
+        match instruction {
+            LineInstruction::Relation(i) if is_relation(hole_at(self.holes, *i)) => {
+                self.branches(*i, before)
+            }
+            LineInstruction::Jump => self.ends_statement(Act::Jump),
+            LineInstruction::Call => self.ends_statement(Act::Call),
+            LineInstruction::Operates(op, forms) => self.operated(is_first, zero, *op, forms),
+            LineInstruction::Relation(_) | LineInstruction::Return => Err(NOT_INSTR),
+        }
+    }
+
+    /// What a line does, where `%0` holds this and the line before left that.
+    #[tactic(auto, unfolding(vax_templates::specs::Judging::line_did))]
+    pub fn line_did(
+        self,
+        is_first: bool,
+        zero: &Option<Term>,
+        before: &Before,
+        pieces: &[Piece],
+    ) -> Result<Step, Refusal>
+        ensures { Judges deed_of result (line_after self.entry.setting self.entry.holes.now is_first zero.now before.now pieces.now) }
+    {
+        let instruction = instruction_of(self.alloc, pieces)?;
+        match before {
+            Before::Ended(_) => Err(NOT_INSTR),
+            Before::Returning(t) => returned(self.alloc, t, &instruction),
+            _ => self.instruction_did(is_first, zero, before, &instruction),
+        }
+    }
+}

@@ -1,0 +1,20 @@
+//! The VAX as a target: what templates do to symbols, and templates with their holes filled.
+#![tactic(auto)]
+
+mod action;
+mod filling;
+mod form;
+mod found;
+mod giving;
+mod instruction;
+mod judging;
+mod line;
+mod marks;
+mod refusal;
+mod setting;
+mod standing;
+mod taking;
+mod vax;
+mod word;
+
+pub use vax::Vax;
