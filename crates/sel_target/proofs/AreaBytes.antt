@@ -1,14 +1,13 @@
 -- The bytes of a data area: what is read there, and that terms read the same.
-use Rattle.std.proofs.Common.{◌≡◌, ℕ, zero, suc, ◌+◌, ◌-◌, ◌*◌, ◌%◌, ◌^◌, ◌<◌, ◌≤◌, List, [], ◌∷◌, ◌++◌, length, Option, Some, None, Bool, true, false, refl, sym, ap, ◌∙◌, subst}
+use Rattle.std.proofs.Common.{◌≡◌, ℕ, zero, suc, ◌+◌, ◌-◌, ◌*◌, ◌%◌, ◌^◌, ◌<◌, ◌≤◌, List, [], ◌∷◌, length, Some, None, Bool, true, false, refl, sym, ap, ◌∙◌, subst}
 use Rattle.std.proofs.Common.{arith, take, drop}
-use Rattle.std.specs.Prelude.{slice_index, slice_set, nat_le, ◌&&◌, cond}
+use Rattle.std.specs.Prelude.{slice_index, nat_le, ◌&&◌, cond}
 use Rattle.std.specs.List.{AllByRecursion}
-use Rattle.std.specs.Int.{w16, w32, to_le_bytes, from_le_bytes}
 use Rattle.std.proofs.lemmas.Bool.Decides.{nat_tests}
 use Rattle.gg_base.specs.declared.size.Size.{Size}
 use Rattle.gg_base.specs.declared.size.Size.TheVariants.{Byte, Word, Long}
 use Rattle.gg_base.specs.Sizes.{bytes_of}
-use Rattle.tree_core.specs.Area.{number_in, with_number, is_inside, fetched, stored}
+use Rattle.tree_core.specs.Area.{number_in, is_inside, fetched}
 use Rattle.term_core.specs.Value.{memory_at}
 use Rattle.sel_target.specs.Values.{View, term_state}
 

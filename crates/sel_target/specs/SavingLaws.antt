@@ -15,7 +15,7 @@ use Rattle.sel_terms.specs.RuleFacts.{saved_facts, size_of_saved}
 use Rattle.sel_terms_meaning.specs.Alike.{IsNarrowEffect}
 use Rattle.sel_target.specs.declared.attr.Attr.{Attr}
 use Rattle.sel_target.specs.declared.attr.Attr.TheVariants as attr
-use Rattle.sel_target.specs.Meaning.{Meaning, Extent, Spot, RegAt, WordAt, IsFree}
+use Rattle.sel_target.specs.Meaning.{Meaning, Extent, RegAt, WordAt, IsFree}
 use Rattle.sel_target.specs.Values.{View, value, IsRead, low, worth}
 use Rattle.sel_target.specs.Outcomes.{Sets, SetsName}
 

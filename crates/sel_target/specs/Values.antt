@@ -1,6 +1,6 @@
 -- What the symbols of a rule stand for, and what the terms of an effect are worth: by the value of terms, with the symbols' values, and with
 -- the memory and the last result of a tree state.
-use Rattle.std.specs.Prelude.{◌≡◌, ℕ, ◌+◌, ◌-◌, ◌%◌, ◌^◌, ◌<◌, Bool, true, List, Option, Some, None, IsSome, unwrap_or, slice_get}
+use Rattle.std.specs.Prelude.{◌≡◌, ℕ, ◌+◌, ◌-◌, ◌%◌, ◌^◌, ◌<◌, Bool, true, Option, Some, None, IsSome, unwrap_or, slice_get}
 use Rattle.std.specs.Prelude.{slice_index, length}
 use Rattle.std.specs.Prelude.{slice_index, length}
 use Rattle.gg_base.specs.declared.size.Size.{Size}

@@ -1,6 +1,6 @@
 -- The toy machine does instructions one after another.
 use Rattle.std.proofs.Common.{◌≡◌, ℕ, List, [], ◌∷◌, ◌++◌, refl, sym, ap, ◌∙◌, append_assoc, append-nil}
-use Rattle.sel_target.specs.Courses.{Ending, Comes, Goes, Calls, Returns, Traps, Breaks, Course, comes, bytes_first, behind, followed}
+use Rattle.sel_target.specs.Courses.{Ending, Comes, Goes, Calls, Returns, Traps, Breaks, Course, bytes_first, behind, followed}
 use Rattle.sel_target.specs.TemplateLaws.{RunsInOrder}
 use Rattle.sel_toy_machine.specs.declared.operand.Instr.{Instr}
 use Rattle.sel_toy_machine.specs.Machine.{Machine}

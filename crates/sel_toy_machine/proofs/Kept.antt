@@ -1,7 +1,6 @@
 -- What a write to a register or to a free word leaves as it was.
-use Rattle.std.proofs.Common.{◌≡◌, ℕ, ◌*◌, ◌^◌, ◌<◌, ◌==◌, List, [], ◌∷◌, Option, Some, None, Bool, true, false, refl, sym, ap, ◌∙◌, subst, arith}
+use Rattle.std.proofs.Common.{◌≡◌, ℕ, ◌*◌, ◌^◌, ◌<◌, ◌==◌, List, [], ◌∷◌, Some, Bool, true, false, refl, sym, ap, ◌∙◌, arith}
 use Rattle.std.specs.Prelude.{cond}
-use Rattle.std.specs.List.{AllByRecursion}
 use Rattle.std.specs.Int.{bit_at}
 use Rattle.gg_base.specs.declared.size.Size.{Size}
 use Rattle.gg_base.specs.declared.size.Size.TheVariants.{Long}
@@ -11,7 +10,7 @@ use Rattle.tree_core.specs.Area.{fetched}
 use Rattle.tree_meaning.specs.State.{State}
 use Rattle.sel_target.specs.declared.attr.Attr.TheVariants as attr
 use Rattle.sel_target.specs.Courses.{comes}
-use Rattle.sel_target.specs.Meaning.{Extent, Spot, RegAt, WordAt, IsFree, touches}
+use Rattle.sel_target.specs.Meaning.{Extent, RegAt, WordAt, IsFree, touches}
 use Rattle.sel_target.specs.Outcomes.{Keeps, Sets, SetsName}
 use Rattle.sel_toy_machine.specs.declared.operand.Operand.{Operand}
 use Rattle.sel_toy_machine.specs.declared.operand.Operand.TheVariants.{Register, Based, Word, Deferred, Argument, Number}

@@ -1,6 +1,6 @@
 -- The toy machine's templates do what their effects say.
 use Rattle.std.proofs.Common.{◌≡◌, ℕ, ◌/◌, ◌^◌, ◌<◌, ◌≤◌, ◌==◌, List, [], ◌∷◌, length, map, Option, Some, None, Bool, true, false, refl, sym, ap, ◌∙◌, subst, arith}
-use Rattle.std.specs.Prelude.{IsSome, Ok, unwrap_or, ◌&&◌, if◌then◌else◌}
+use Rattle.std.specs.Prelude.{IsSome, unwrap_or, ◌&&◌, if◌then◌else◌}
 use Rattle.std.specs.List.{AllByRecursion}
 use Rattle.gg_base.specs.declared.size.Size.{Size}
 use Rattle.gg_base.specs.declared.size.Size.TheVariants.{Long}
@@ -21,10 +21,10 @@ use Rattle.sel_terms.specs.Effects.{ActShape, EffectShape, Value, Number, Addres
 use Rattle.sel_terms_meaning.specs.Alike.{IsNarrowEffect}
 use Rattle.sel_target.specs.declared.attr.Attr.{Attr}
 use Rattle.sel_target.specs.declared.attr.Attr.TheVariants as attr
-use Rattle.sel_target.specs.Courses.{Course, ends, Breaks, comes, traps, followed}
+use Rattle.sel_target.specs.Courses.{comes, traps, followed}
 use Rattle.sel_target.specs.Meaning.{Extent, RegAt}
-use Rattle.sel_target.specs.Values.{View, term_state, value, IsReadWhere}
-use Rattle.sel_target.specs.EffectTerms.{terms_of, DividesByNone}
+use Rattle.sel_target.specs.Values.{View, term_state, value}
+use Rattle.sel_target.specs.EffectTerms.{DividesByNone}
 use Rattle.sel_target.specs.Instances.{IsResult, lines_of, Instance, Ready}
 use Rattle.sel_target.specs.Outcomes.{Sets}
 use Rattle.sel_target.specs.TemplateLaws.{DoesTemplates}
@@ -38,9 +38,9 @@ use Rattle.sel_toy_machine.specs.declared.form.Form.{Form}
 use Rattle.sel_toy_machine.specs.declared.form.Form.TheVariants as form
 use Rattle.sel_toy_machine.specs.declared.form.ShapeForm.{ShapeForm}
 use Rattle.sel_toy_machine.specs.declared.form.ShapeForm.TheVariants as shape
-use Rattle.sel_toy_machine.specs.Machine.{Machine, with_register}
-use Rattle.sel_toy_machine.specs.Forms.{form_of, shape_of, is_sized}
-use Rattle.sel_toy_machine.specs.Templates.{undivided, sum, quotient, gives_register, found_form, found_shape, effect}
+use Rattle.sel_toy_machine.specs.Machine.{Machine}
+use Rattle.sel_toy_machine.specs.Forms.{shape_of, is_sized}
+use Rattle.sel_toy_machine.specs.Templates.{undivided, sum, quotient, gives_register, found_form, found_shape}
 use Rattle.sel_toy_machine.specs.Filling.{source_at, destination_of, filled}
 use Rattle.sel_toy_machine.specs.Running.{taken, put_in, read_then, divided, run}
 use Rattle.sel_toy_machine.proofs.Spelled.{equal_numbers, none_some, untrue}

@@ -1,5 +1,5 @@
 -- The rule is ready, and leaves the sum.
-use Rattle.std.proofs.Common.{◌≡◌, ℕ, zero, suc, ◌+◌, ◌*◌, ◌^◌, ◌<◌, ◌≤◌, List, [], ◌∷◌, Option, Some, None, Bool, true, false, refl, sym, ap, ◌∙◌, subst, arith, cond}
+use Rattle.std.proofs.Common.{◌≡◌, ℕ, zero, suc, ◌+◌, ◌*◌, ◌^◌, ◌<◌, ◌≤◌, List, [], ◌∷◌, Some, None, Bool, true, false, refl, ap, ◌∙◌, subst, arith, cond}
 use Rattle.std.specs.Prelude.{IsSome, codes}
 use Rattle.std.specs.Str.{bytes_eq}
 use Rattle.std.proofs.lemmas.List.Elements.{All-from_recursion}
@@ -20,7 +20,6 @@ use Rattle.md_reader.specs.Patterns.{no_tree, node}
 use Rattle.md_reader.specs.Valid.{IsRule}
 use Rattle.sel_terms.specs.RuleFacts.{size_at}
 use Rattle.sel_target.specs.declared.attr.Attr.{Attr}
-use Rattle.sel_target.specs.declared.attr.Attr.TheVariants as attr
 use Rattle.sel_target.specs.Values.{worth, own_operand}
 use Rattle.sel_target.specs.Instances.{hole, IsWhole}
 use Rattle.sel_toy_machine.specs.declared.operand.Operand.{Operand}

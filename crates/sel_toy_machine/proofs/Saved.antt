@@ -1,6 +1,6 @@
 -- The toy machine saves and reloads.
-use Rattle.std.proofs.Common.{◌≡◌, ℕ, ◌*◌, ◌%◌, ◌^◌, ◌<◌, ◌==◌, List, [], ◌∷◌, Option, Some, None, Bool, true, false, refl, sym, ap, ◌∙◌, subst, arith}
-use Rattle.std.specs.Prelude.{Ok, ◌&&◌}
+use Rattle.std.proofs.Common.{◌≡◌, ℕ, ◌*◌, ◌^◌, ◌<◌, ◌==◌, [], ◌∷◌, Option, Some, None, true, refl, sym, ap, ◌∙◌, subst, arith}
+use Rattle.std.specs.Prelude.{◌&&◌}
 use Rattle.gg_base.specs.declared.size.Size.{Size}
 use Rattle.gg_base.specs.declared.size.Size.TheVariants.{Byte, Word as Halfword, Long}
 use Rattle.gg_base.specs.Sizes.{bytes_of}
@@ -13,8 +13,7 @@ use Rattle.sel_terms.specs.Effects.{ActShape, EffectShape, Value, StoreHome}
 use Rattle.sel_terms_meaning.specs.Alike.{IsNarrowEffect}
 use Rattle.sel_target.specs.declared.attr.Attr.{Attr}
 use Rattle.sel_target.specs.declared.attr.Attr.TheVariants as attr
-use Rattle.sel_target.specs.Courses.{comes}
-use Rattle.sel_target.specs.Meaning.{Extent, RegAt, WordAt}
+use Rattle.sel_target.specs.Meaning.{RegAt, WordAt}
 use Rattle.sel_target.specs.Values.{View, value, low, worth}
 use Rattle.sel_target.specs.Outcomes.{Sets, SetsName}
 use Rattle.sel_target.specs.SavingLaws.{Saves, Reloads, IsValue, operand as is_operand, register as is_register, saving, reloading, SavesAndReloads}
@@ -22,16 +21,15 @@ use Rattle.sel_toy_machine.specs.declared.operand.Operand.{Operand}
 use Rattle.sel_toy_machine.specs.declared.operand.Operand.TheVariants as operand
 use Rattle.sel_toy_machine.specs.declared.operand.Source.TheVariants as source
 use Rattle.sel_toy_machine.specs.declared.operand.Destination.TheVariants as destination
-use Rattle.sel_toy_machine.specs.declared.operand.Instr.{Instr}
 use Rattle.sel_toy_machine.specs.declared.form.Form.{Form}
 use Rattle.sel_toy_machine.specs.declared.form.Form.TheVariants as form
-use Rattle.sel_toy_machine.specs.Machine.{Machine, reads, names, with_register, with_word}
+use Rattle.sel_toy_machine.specs.Machine.{Machine, reads, names}
 use Rattle.sel_toy_machine.specs.Forms.{form_of}
-use Rattle.sel_toy_machine.specs.Templates.{undivided, where_true}
+use Rattle.sel_toy_machine.specs.Templates.{undivided}
 use Rattle.sel_toy_machine.specs.Spills.{found_spill}
 use Rattle.sel_toy_machine.specs.Filling.{filled, source_of}
-use Rattle.sel_toy_machine.specs.Running.{taken, run}
-use Rattle.sel_toy_machine.proofs.Spelled.{equal_numbers, none_some, untrue}
+use Rattle.sel_toy_machine.specs.Running.{taken}
+use Rattle.sel_toy_machine.proofs.Spelled.{equal_numbers, none_some}
 use Rattle.sel_toy_machine.proofs.Sources.{both, same_size, symbol_value}
 use Rattle.sel_toy_machine.proofs.Kept.{sets_register, sets_word, sets_name}
 use Rattle.sel_toy_machine.proofs.Taken.{or_ok, where_is}

@@ -1,6 +1,6 @@
 -- The toy machine's shapes stand for what their rules give.
-use Rattle.std.proofs.Common.{◌≡◌, ℕ, zero, suc, ◌*◌, ◌^◌, ◌<◌, ◌==◌, List, [], ◌∷◌, map, Option, Some, None, Bool, true, false, refl, sym, ap, ◌∙◌, subst, arith, slice_get}
-use Rattle.std.specs.Prelude.{IsSome, is_some, Ok, ◌&&◌}
+use Rattle.std.proofs.Common.{◌≡◌, ℕ, zero, suc, ◌*◌, ◌^◌, ◌<◌, List, [], ◌∷◌, map, Option, Some, None, Bool, true, false, refl, sym, ap, ◌∙◌, subst, slice_get}
+use Rattle.std.specs.Prelude.{IsSome, is_some, Ok}
 use Rattle.gg_base.specs.declared.size.Size.{Size}
 use Rattle.gg_base.specs.declared.size.Size.TheVariants.{Long}
 use Rattle.gg_base.specs.Sizes.{bytes_of}
@@ -8,18 +8,15 @@ use Rattle.tree_core.specs.declared.token.Tok.{Tok}
 use Rattle.tree_core.specs.declared.token.Tok.TheVariants as tok
 use Rattle.tree_core.specs.declared.tree.Att.{Att}
 use Rattle.tree_core.specs.declared.tree.Att.TheVariants as att
-use Rattle.tree_core.specs.declared.tree.Leaf.{Leaf}
 use Rattle.tree_core.specs.declared.program.TreeProgram.{TreeProgram}
-use Rattle.tree_core.specs.Area.{fetched, is_inside}
+use Rattle.tree_core.specs.Area.{fetched}
 use Rattle.tree_core.specs.Attributes.{attribute_of, is_of_kind}
 use Rattle.md_reader_pieces.specs.declared.piece.Line.{Line}
-use Rattle.md_reader_pieces.specs.declared.piece.Piece.TheVariants as piece
 use Rattle.md_reader.specs.declared.types.Kind.{Kind}
 use Rattle.md_reader.specs.declared.types.Kind.TheVariants as kind
 use Rattle.md_reader.specs.declared.types.Class.{Class}
 use Rattle.md_reader.specs.declared.types.Sym.{Sym}
 use Rattle.md_reader.specs.declared.types.Sym.TheVariants as symbols
-use Rattle.md_reader.specs.declared.types.Give.{Give}
 use Rattle.md_reader.specs.declared.types.Give.TheVariants as give
 use Rattle.md_reader.specs.declared.types.Rule.{Rule}
 use Rattle.md_reader.specs.Patterns.{kind_at}
@@ -29,11 +26,9 @@ use Rattle.sel_terms.specs.Effects.{ActShape, EffectShape, Value, Number, Addres
 use Rattle.sel_terms.specs.RuleFacts.{size_of_some, size_at}
 use Rattle.sel_target.specs.declared.attr.Attr.{Attr}
 use Rattle.sel_target.specs.declared.attr.Attr.TheVariants as attr
-use Rattle.sel_target.specs.Courses.{comes}
 use Rattle.sel_target.specs.Meaning.{Extent}
 use Rattle.sel_target.specs.Values.{View, value, worth, own_operand}
-use Rattle.sel_target.specs.Instances.{hole, KindFits, SymFits, Fit, lines_of, Instance, Ready}
-use Rattle.sel_target.specs.Outcomes.{Keeps}
+use Rattle.sel_target.specs.Instances.{hole, KindFits, SymFits, Fit, Instance}
 use Rattle.sel_target.specs.TemplateLaws.{GivesShapes}
 use Rattle.sel_toy_machine.specs.declared.operand.Operand.{Operand}
 use Rattle.sel_toy_machine.specs.declared.operand.Operand.TheVariants as operand
@@ -42,14 +37,13 @@ use Rattle.sel_toy_machine.specs.declared.form.Form.TheVariants as form
 use Rattle.sel_toy_machine.specs.declared.form.ShapeForm.{ShapeForm}
 use Rattle.sel_toy_machine.specs.declared.form.ShapeForm.TheVariants as shape
 use Rattle.sel_toy_machine.specs.Machine.{Machine, in_register, long, reads, names, fits, is_place}
-use Rattle.sel_toy_machine.specs.Forms.{shape_of, is_symbol, is_sized}
-use Rattle.sel_toy_machine.specs.Templates.{undivided, where_true, gives_register, gives_nothing, found_form, found_shape, is_register, is_place_of, is_slot, holds_register, is_home, symbol}
-use Rattle.sel_toy_machine.specs.Filling.{nought, operand_of, some_operand, operand_at, based, shaped, operand_filled}
+use Rattle.sel_toy_machine.specs.Forms.{shape_of, is_sized}
+use Rattle.sel_toy_machine.specs.Templates.{undivided, gives_register, gives_nothing, found_form, found_shape, is_register, is_place_of, is_slot, holds_register, is_home, symbol}
+use Rattle.sel_toy_machine.specs.Filling.{some_operand, based, shaped, operand_filled}
 use Rattle.sel_toy_machine.specs.Running.{run}
 use Rattle.sel_toy_machine.proofs.Spelled.{none_some, some_same, untrue, own_is}
-use Rattle.sel_target.proofs.AreaBytes.{Bytes, fetched_is}
-use Rattle.sel_toy_machine.proofs.Readings.{part_same, machine_bytes}
-use Rattle.sel_toy_machine.proofs.Sources.{both, same_size, the, symbol_value, size_suc, Filled, filled_at, numbered}
+use Rattle.sel_target.proofs.AreaBytes.{fetched_is}
+use Rattle.sel_toy_machine.proofs.Sources.{both, the, symbol_value, size_suc, filled_at, numbered}
 use Rattle.sel_toy_machine.proofs.Kept.{unchanged}
 use Rattle.sel_toy_machine.proofs.Taken.{Taken, by_line, by_shape, where_is, taken_by, shape_gives_none, shape_gives_register}
 use Rattle.sel_toy_machine.specs.Toy.{toy}

@@ -23,11 +23,11 @@ use Rattle.sel_target.specs.declared.attr.Attr.{Attr}
 use Rattle.sel_target.specs.declared.attr.Attr.TheVariants as attr
 use Rattle.sel_target.specs.Meaning.{Extent}
 use Rattle.sel_target.specs.Values.{View, value, worth, address_of, slot_place, read_of}
-use Rattle.sel_target.specs.Instances.{hole, KindFits, SymFits, Fit, Instance}
+use Rattle.sel_target.specs.Instances.{KindFits, SymFits, Fit, Instance}
 use Rattle.sel_toy_machine.specs.declared.operand.Operand.{Operand}
 use Rattle.sel_toy_machine.specs.declared.operand.Operand.TheVariants as operand
 use Rattle.sel_toy_machine.specs.Machine.{Machine, part}
-use Rattle.sel_toy_machine.specs.Forms.{is_symbol, is_sized}
+use Rattle.sel_toy_machine.specs.Forms.{is_sized}
 use Rattle.sel_toy_machine.specs.Filling.{nought, token_operand, source_of, some_source, source_at}
 use Rattle.sel_toy_machine.specs.Running.{taken}
 use Rattle.sel_toy_machine.proofs.Spelled.{equal_numbers, none_some, some_same, untrue}

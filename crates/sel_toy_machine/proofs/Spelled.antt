@@ -1,6 +1,6 @@
 -- What the toy machine's operands spell: they are told apart, and touch what they spell.
 use Rattle.std.proofs.Common.{◌≡◌, ℕ, zero, suc, ◌^◌, ◌<◌, ◌==◌, List, [], ◌∷◌, Option, Some, None, Bool, true, false, refl, sym, ap, ◌∙◌, subst, arith, slice_get}
-use Rattle.std.specs.Prelude.{◌↔◌, ◌||◌, nat_lt, cond, Ok, unwrap_or}
+use Rattle.std.specs.Prelude.{◌↔◌, ◌||◌, nat_lt, cond, unwrap_or}
 use Rattle.std.specs.List.{list_any}
 use Rattle.std.specs.Int.{bit_at}
 use Rattle.std.proofs.lemmas.Bool.Decides.{nat_tests}
@@ -20,7 +20,7 @@ use Rattle.sel_toy_machine.specs.declared.operand.Operand.{Operand}
 use Rattle.sel_toy_machine.specs.declared.operand.Operand.TheVariants.{Register, Based, Word, Deferred, Argument, Number}
 use Rattle.sel_toy_machine.specs.declared.form.ShapeForm.{ShapeForm}
 use Rattle.sel_toy_machine.specs.declared.form.ShapeForm.TheVariants as shape
-use Rattle.sel_toy_machine.specs.Machine.{bit_of, registers, same}
+use Rattle.sel_toy_machine.specs.Machine.{bit_of, same}
 use Rattle.sel_toy_machine.specs.Forms.{shape_of}
 use Rattle.sel_toy_machine.specs.Filling.{nought, token_operand, operand_of, some_operand, operand_at, based, shaped, operand_filled}
 use Rattle.sel_toy_machine.specs.Toy.{toy}

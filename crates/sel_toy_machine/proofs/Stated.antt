@@ -1,7 +1,7 @@
 -- The toy machine's statements do their deeds.
-use Rattle.std.proofs.Common.{◌≡◌, ℕ, zero, suc, ◌+◌, ◌-◌, ◌%◌, ◌^◌, ◌<◌, ◌≤◌, ◌==◌, List, [], ◌∷◌, ◌++◌, length, map, Option, Some, None, Bool, true, false, refl, sym, ap, ◌∙◌}
+use Rattle.std.proofs.Common.{◌≡◌, ℕ, zero, suc, ◌+◌, ◌-◌, ◌%◌, ◌^◌, ◌<◌, ◌==◌, List, [], ◌∷◌, ◌++◌, length, map, Option, Some, None, Bool, true, false, refl, sym, ap, ◌∙◌}
 use Rattle.std.proofs.Common.{subst, arith, take, drop, slice_get}
-use Rattle.std.specs.Prelude.{IsSome, ◌&&◌, cond, slice_set, nat_lt}
+use Rattle.std.specs.Prelude.{IsSome, ◌&&◌, cond, slice_set}
 use Rattle.std.specs.Option.{option_map}
 use Rattle.std.specs.List.{AllByRecursion}
 use Rattle.std.specs.Int.{w16, w32, to_le_bytes}
@@ -9,8 +9,6 @@ use Rattle.gg_base.specs.declared.relation.Rel.{Rel}
 use Rattle.gg_base.specs.declared.size.Size.{Size}
 use Rattle.gg_base.specs.declared.size.Size.TheVariants.{Byte, Word as Halfword, Long}
 use Rattle.gg_base.specs.Relations.{holds}
-use Rattle.tree_core.specs.declared.tree.Att.{Att}
-use Rattle.tree_core.specs.declared.tree.Att.TheVariants as att
 use Rattle.tree_core.specs.declared.program.TreeFn.{TreeFn}
 use Rattle.tree_core.specs.declared.program.TreeProgram.{TreeProgram}
 use Rattle.tree_core.specs.Area.{with_number, is_inside, stored}
@@ -20,7 +18,7 @@ use Rattle.tree_meaning.specs.declared.machine.Finish.TheVariants as finish
 use Rattle.tree_meaning.specs.declared.value.Meaning.{Meaning as Place}
 use Rattle.tree_meaning.specs.declared.value.Meaning.TheVariants as places
 use Rattle.tree_meaning.specs.Deeds.{Deed, Puts, Branches, Pushes, Returns as Leaves, Calls as CallDeed, Saves, Jumps, Traps, Strays}
-use Rattle.tree_meaning.specs.Steps.{Step, Goes as GoesOn, GoesTo, Serves, Enters, Ends, strays, with_local_set, with_argument_set, with_pushed, without_pushed, with_result}
+use Rattle.tree_meaning.specs.Steps.{Goes as GoesOn, GoesTo, Serves, Enters, Ends, strays, with_local_set, with_argument_set, with_pushed, without_pushed}
 use Rattle.tree_meaning.specs.Steps.{deed_step, put_in, wrote, got, called_as, served}
 use Rattle.md_reader_pieces.specs.declared.piece.Line.{Line}
 use Rattle.md_reader.specs.declared.types.Class.{Class}
@@ -32,12 +30,11 @@ use Rattle.term_core.specs.declared.operator.BinaryOp.TheVariants as binary
 use Rattle.term_core.specs.Shape.{Shape, Symbol, Memory, Binary}
 use Rattle.sel_terms.specs.Effects.{ActShape, EffectShape, Value, Number, Address, PlaceHome, PlaceAt, StoreHome, StoreAt, Branch, Push, Call, Save, Return, Jump}
 use Rattle.sel_target.specs.declared.attr.Attr.{Attr}
-use Rattle.sel_target.specs.declared.attr.Attr.TheVariants as attr
-use Rattle.sel_target.specs.Courses.{Course, Comes, Goes, Calls, Returns, Breaks, ends, comes, followed, label_name, function_label}
+use Rattle.sel_target.specs.Courses.{Course, Goes, Calls, Breaks, ends, comes, followed, label_name, function_label}
 use Rattle.sel_target.specs.Meaning.{Extent}
-use Rattle.sel_target.specs.Values.{View, value, own_operand, PlaceIs, local as is_local, argument as is_argument, memory as is_memory}
+use Rattle.sel_target.specs.Values.{View, value, PlaceIs, local as is_local, argument as is_argument, memory as is_memory}
 use Rattle.sel_target.specs.EffectTerms.{begins_with_save}
-use Rattle.sel_target.specs.Instances.{hole, lines_of, Instance, Ready}
+use Rattle.sel_target.specs.Instances.{hole, lines_of, Ready}
 use Rattle.sel_target.specs.StatementLaws.{att_of, Stays, IsStep, HomeIs, DoesAct, DoesStatements}
 use Rattle.sel_toy_machine.specs.declared.operand.Operand.{Operand}
 use Rattle.sel_toy_machine.specs.declared.operand.Operand.TheVariants as operand
@@ -49,19 +46,19 @@ use Rattle.sel_toy_machine.specs.declared.form.Form.TheVariants as form
 use Rattle.sel_toy_machine.specs.declared.form.ShapeForm.{ShapeForm}
 use Rattle.sel_toy_machine.specs.declared.form.ShapeForm.TheVariants as shape
 use Rattle.sel_toy_machine.specs.Machine.{Machine, in_register, in_word, long, names, Stands, with_register, with_word, with_argument, with_area}
-use Rattle.sel_toy_machine.specs.Forms.{form_of, shape_of, is_sized}
+use Rattle.sel_toy_machine.specs.Forms.{shape_of, is_sized}
 use Rattle.sel_toy_machine.specs.Templates.{undivided, sum, quotient, gives_nothing, found_form, found_shape, is_home, holds_register, symbol}
-use Rattle.sel_toy_machine.specs.Filling.{source_at, operand_at, operand_of, some_operand, based, branched, jumped, called, saved, filled}
+use Rattle.sel_toy_machine.specs.Filling.{source_at, operand_at, some_operand, based, branched, jumped, called, saved, filled}
 use Rattle.sel_toy_machine.specs.Running.{taken, read_then, put_area, put_place, taken_in, run, step}
 use Rattle.sel_toy_machine.specs.Running as running
 use Rattle.sel_toy_machine.specs.Toy.{toy}
-use Rattle.sel_toy_machine.proofs.Spelled.{equal_numbers, same_number, none_some, some_same, untrue, own_is}
+use Rattle.sel_toy_machine.proofs.Spelled.{equal_numbers, none_some, some_same, untrue, own_is}
 use Rattle.sel_target.proofs.AreaBytes.{Bytes, outside_0}
 use Rattle.sel_toy_machine.proofs.Readings.{part_same}
 use Rattle.sel_toy_machine.proofs.Sources.{both, source_taken}
 use Rattle.sel_toy_machine.proofs.Taken.{Taken, by_line, by_shape, where_is, taken_by}
 use Rattle.sel_toy_machine.proofs.Results.{value_small}
-use Rattle.sel_toy_machine.proofs.Shaped.{register_hole, register_holds, register_sized, act_of}
+use Rattle.sel_toy_machine.proofs.Shaped.{register_hole, register_holds, register_sized}
 
 -- ---- what is written keeps its range
 

@@ -1,6 +1,6 @@
 -- What a rule looks like that the toy machine takes.
-use Rattle.std.proofs.Common.{◌≡◌, ℕ, List, [], ◌∷◌, Option, Some, None, Bool, true, false, refl, sym, ap, ◌∙◌, subst}
-use Rattle.std.specs.Prelude.{Result, Ok, Err, if◌then◌else◌}
+use Rattle.std.proofs.Common.{◌≡◌, ℕ, List, [], ◌∷◌, Option, Some, None, Bool, true, false, refl, sym, ap, ◌∙◌}
+use Rattle.std.specs.Prelude.{Result, Ok, Err}
 use Rattle.md_reader_pieces.specs.declared.piece.Line.{Line}
 use Rattle.md_reader.specs.declared.types.Class.{Class}
 use Rattle.md_reader.specs.declared.types.Give.{Give}
@@ -10,7 +10,6 @@ use Rattle.md_reader.specs.Patterns.{kind_at}
 use Rattle.sel_terms.specs.Effects.{EffectShape}
 use Rattle.sel_target.specs.Meaning.{Fault}
 use Rattle.sel_toy_machine.specs.declared.form.Form.{Form}
-use Rattle.sel_toy_machine.specs.declared.form.Form.TheVariants as form
 use Rattle.sel_toy_machine.specs.Forms.{form_of, shape_of}
 use Rattle.sel_toy_machine.specs.Templates.{or_fault, fault_at, where_true, gives_register, gives_nothing, found_form, found_line, found_shape, found_rule, effect}
 use Rattle.sel_toy_machine.proofs.Spelled.{none_some, some_same, untrue}

@@ -1,5 +1,5 @@
 -- Lines and shapes with their holes filled.
-use Rattle.std.specs.Prelude.{ℕ, List, [], ◌∷◌, Option, Some, None, unwrap_or, slice_get}
+use Rattle.std.specs.Prelude.{ℕ, List, Option, Some, None, unwrap_or, slice_get}
 use Rattle.gg_base.specs.declared.size.Size.TheVariants.{Long}
 use Rattle.tree_core.specs.declared.token.Tok.{Tok}
 use Rattle.tree_core.specs.declared.tree.Att.{Att}

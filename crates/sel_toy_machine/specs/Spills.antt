@@ -1,5 +1,5 @@
 -- What the toy machine's lines do that save and reload.
-use Rattle.std.specs.Prelude.{ℕ, ◌==◌, ◌&&◌, [], Option, Some, None, Result, Ok, Err}
+use Rattle.std.specs.Prelude.{◌==◌, ◌&&◌, Option, Some, None, Result}
 use Rattle.gg_base.specs.declared.size.Size.TheVariants.{Long}
 use Rattle.gg_base.specs.Sizes.{bytes_of}
 use Rattle.md_reader_pieces.specs.declared.piece.Line.{Line}

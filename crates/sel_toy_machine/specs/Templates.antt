@@ -1,13 +1,10 @@
 -- What the toy machine's templates do, and the instructions that they become.
-use Rattle.std.specs.Prelude.{ℕ, zero, suc, ◌==◌, ◌&&◌, Bool, true, false, List, [], ◌∷◌, Option, Some, None, unwrap_or, Result, Ok, Err, slice_get, if◌then◌else◌}
+use Rattle.std.specs.Prelude.{ℕ, zero, suc, ◌==◌, ◌&&◌, Bool, true, false, List, [], ◌∷◌, Option, Some, None, Result, Ok, Err, slice_get, if◌then◌else◌}
 use Rattle.gg_base.specs.declared.size.Size.{Size}
 use Rattle.gg_base.specs.declared.size.Size.TheVariants.{Long}
 use Rattle.gg_base.specs.Sizes.{bytes_of}
 use Rattle.tree_core.specs.declared.token.Tok.{Tok}
 use Rattle.tree_core.specs.declared.token.Tok.TheVariants as tok
-use Rattle.tree_core.specs.declared.tree.Att.{Att}
-use Rattle.tree_core.specs.declared.tree.Att.TheVariants as att
-use Rattle.tree_core.specs.declared.program.TreeProgram.{TreeProgram}
 use Rattle.md_reader_pieces.specs.declared.piece.Line.{Line}
 use Rattle.md_reader.specs.declared.types.Kind.{Kind}
 use Rattle.md_reader.specs.declared.types.Kind.TheVariants as kind
@@ -21,20 +18,9 @@ use Rattle.md_reader.specs.Patterns.{kind_at}
 use Rattle.term_core.specs.declared.operator.BinaryOp.TheVariants as binary
 use Rattle.term_core.specs.Shape.{Symbol, Memory, Binary}
 use Rattle.sel_terms.specs.Effects.{ActShape, EffectShape, Value, Number, Address, PlaceHome, PlaceAt, StoreHome, StoreAt, Branch, Push, Call, Save, Return, Jump}
-use Rattle.sel_target.specs.declared.attr.Attr.{Attr}
-use Rattle.sel_target.specs.declared.attr.Attr.TheVariants as attr
 use Rattle.sel_target.specs.declared.fault.TemplateKind.TheVariants as faults
 use Rattle.sel_target.specs.Meaning.{Fault}
-use Rattle.sel_target.specs.Values.{address_of, slot_place}
 use Rattle.sel_target.specs.EffectTerms.{begins_with_save}
-use Rattle.sel_toy_machine.specs.declared.operand.Operand.{Operand}
-use Rattle.sel_toy_machine.specs.declared.operand.Operand.TheVariants as operands
-use Rattle.sel_toy_machine.specs.declared.operand.Source.{Source}
-use Rattle.sel_toy_machine.specs.declared.operand.Source.TheVariants as source
-use Rattle.sel_toy_machine.specs.declared.operand.Destination.{Destination}
-use Rattle.sel_toy_machine.specs.declared.operand.Destination.TheVariants as destination
-use Rattle.sel_toy_machine.specs.declared.operand.Instr.{Instr}
-use Rattle.sel_toy_machine.specs.declared.operand.Instr.TheVariants as instruction
 use Rattle.sel_toy_machine.specs.declared.form.Form.{Form}
 use Rattle.sel_toy_machine.specs.declared.form.Form.TheVariants as form
 use Rattle.sel_toy_machine.specs.declared.form.ShapeForm.{ShapeForm}
