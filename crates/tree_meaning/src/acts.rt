@@ -184,7 +184,8 @@ impl<'a> Machine<'a> {
         arguments: Vec<u32>,
     ) -> Result<Option<u8>, NoMemory>
         requires { self.old.over ≡ None }
-        ensures { IfOk result (λ byte. StepsBy self.old.program.now (called_with self.old.program.now (state self.old) function arguments.items) byte self.new) }
+        ensures { IfOk result (λ byte.
+            StepsBy self.old.program.now (called_with self.old.program.now (state self.old) function arguments.items) byte self.new) }
     {
         let functions = self.program.functions.as_slice();
         match functions.get(function as usize) {

@@ -12,4 +12,3 @@ mod value;
 pub use machine::Finish;
 pub use run::TreeRun;
 pub use value::{Meaning, Value};
-
