@@ -13,7 +13,7 @@ use Rattle.cmd_first.specs.Outcome.{program_text, IsSource, IsUnbuilt, IsToldSou
 -- a line was told with a status that is no want of memory
 pub told_line : (status result : Status) (line : List ℕ) (report : Change) → result ≡ status → IsRefused status line result report → (status ≡ statuses.NoMemory → ⊥) → Reports report line
 told_line status result line report is (inl h) some = h.1
-told_line status result line report is (inr none) some = absurd (some (sym is ∙ none))
+told_line status result line report is (inr none) some = absurd (some (sym is ∙ none.0))
 
 -- a program was finished
 pub finished : (result : Status) (call : Call) (program : ProgramShape) → IsSource call.file program → (result ≡ statuses.Done → IsDoneFor program call.out call.report) → (result ≡ statuses.WriteFault → IsCutFor program call.out call.report) → GainsFront call.out (program_text program) → (result ≡ statuses.Done) ⊎ ((result ≡ statuses.WriteFault) ⊎ (result ≡ statuses.NoMemory)) → Leaves result call
@@ -42,8 +42,8 @@ no_source Missing program u source = u
 no_source (Stored bytes) program u source = no_source_at bytes program source u
 
 not_cut : (call : Call) (program : ProgramShape) → HasNoFault call → IsCutFor program call.out call.report → ⊥
-not_cut call program none (inl cut) = none.of_out cut.rose
-not_cut call program none (inr cut) = none.of_report cut.rose
+not_cut call program none (inl cut) = none.of_out cut.cut.rises
+not_cut call program none (inr cut) = none.of_report cut.cut.rises
 
 done : (result : Status) (call : Call) → Leaves result call → HasNoFault call → (program : ProgramShape) → IsToldSource call.file program → IsAnswer statuses.Done result
 done statuses.Done call l none program source = inl refl
@@ -54,6 +54,8 @@ done statuses.InputFault call l none program source = absurd l
 done statuses.WriteFault call l none program source = absurd (not_cut call l.program none l.cut)
 done statuses.TooLong call l none program source = absurd l
 done statuses.SourceRefused call l none program source = absurd l
+done statuses.DescRefused call l none program source = absurd l
+done statuses.Full call l none program source = absurd l
 done statuses.AsmRefused call l none program source = absurd l
 done statuses.Spent call l none program source = absurd l
 done statuses.Trapped call l none program source = absurd l
@@ -71,6 +73,8 @@ unbuilt statuses.InputFault call l none told = absurd l
 unbuilt statuses.WriteFault call l none told = absurd (no_source call.file l.program told l.source)
 unbuilt statuses.TooLong call l none told = absurd l
 unbuilt statuses.SourceRefused call l none told = absurd l
+unbuilt statuses.DescRefused call l none told = absurd l
+unbuilt statuses.Full call l none told = absurd l
 unbuilt statuses.AsmRefused call l none told = absurd l
 unbuilt statuses.Spent call l none told = absurd l
 unbuilt statuses.Trapped call l none told = absurd l
@@ -89,4 +93,4 @@ exactly result call leaves none = record {
 pub unread : (result : Status) (call : Call) → GainsName call.name call.failed call.failed_now → IsUntouched call.out → IsRefused statuses.FileFault (cannot_read_line call.name) result call.report → Leaves result call
 unread result call noted untouched (inl h) =
     subst (λ (s : Status). Leaves s call) (sym h.0) (record { noted = noted; untouched = untouched; line = h.1 })
-unread result call noted untouched (inr is) = subst (λ (s : Status). Leaves s call) (sym is) (inl untouched)
+unread result call noted untouched (inr starved) = subst (λ (s : Status). Leaves s call) (sym starved.0) (inl untouched)

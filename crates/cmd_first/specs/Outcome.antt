@@ -13,7 +13,7 @@ use Rattle.first_code.specs.Keeps.{Keeps}
 use Rattle.cmd_session.specs.declared.status.Status.{Status}
 use Rattle.cmd_session.specs.declared.status.Status.TheVariants as statuses
 use Rattle.cmd_session.specs.Lines.{cannot_read_line, output_failed_line}
-use Rattle.cmd_session.specs.Writing.{Change, Gains, GainsFront, IsUntouched, Rises, Reports}
+use Rattle.cmd_session.specs.Writing.{Change, GainsFront, IsUntouched, Rises, TakesAll, IsCut as IsCutSink, Reports}
 
 -- the longest source
 abbrev pub source_limit : ℕ
@@ -60,24 +60,22 @@ TellsRun program bytes = (n : ℕ) → TellsOutcome (source_run program [] n) by
 -- a program was done: `out` gained the text of its code, which keeps it, and `report` gained what tells its run
 pub record IsDoneFor (program : ProgramShape) (out report : Change) : Type 0 where
   pub keeps : Keeps program (program_code program)
-  pub text : Gains out (program_text program)
+  pub text : TakesAll out (program_text program)
   pub told : List ℕ
   pub tells : TellsRun program told
-  pub reported : Gains report told
+  pub reported : TakesAll report told
 
 -- a write of the text failed: a front of it is in `out`, and the line of that in `report`
 pub record IsCutInText (program : ProgramShape) (out report : Change) : Type 0 where
-  pub rose : Rises out
-  pub front : GainsFront out (program_text program)
+  pub cut : IsCutSink out (program_text program)
   pub line : Reports report output_failed_line
 
 -- a write of the report failed: the whole text is in `out`, and in `report` a front of what tells the run
 pub record IsCutInReport (program : ProgramShape) (out report : Change) : Type 0 where
-  pub text : Gains out (program_text program)
-  pub rose : Rises report
+  pub text : TakesAll out (program_text program)
   pub told : List ℕ
   pub tells : TellsRun program told
-  pub front : GainsFront report told
+  pub cut : IsCutSink report told
 
 abbrev pub IsCutFor : ProgramShape → Change → Change → Type 0
 IsCutFor program out report = IsCutInText program out report ⊎ IsCutInReport program out report
@@ -135,6 +133,8 @@ Leaves statuses.InputFault call = ⊥
 Leaves statuses.WriteFault call = IsCut call.file call.out call.report
 Leaves statuses.TooLong call = ⊥
 Leaves statuses.SourceRefused call = ⊥
+Leaves statuses.DescRefused call = ⊥
+Leaves statuses.Full call = ⊥
 Leaves statuses.AsmRefused call = ⊥
 Leaves statuses.Spent call = ⊥
 Leaves statuses.Trapped call = ⊥

@@ -1,6 +1,3 @@
 pub mod Lines
 pub mod Moments
 pub mod Sources
-pub mod Refusing
-pub mod Outcome
-pub mod Exact

@@ -1,36 +1,45 @@
--- C sources in files.
-use Rattle.std.specs.Prelude.{◌≡◌, ◌≤◌, ℕ, List, length}
+-- C sources in files, and how their programs are run by their meaning.
+use Rattle.std.specs.Prelude.{◌≡◌, ℕ, List, None}
 use Rattle.gg_base.specs.declared.place.Place.{Place}
-use Rattle.gg_outside.specs.Outside.{Content, IsThat, IsLonger}
+use Rattle.gg_base.specs.declared.run.End.{End}
+use Rattle.gg_base.specs.declared.run.End.TheVariants as ends
+use Rattle.cmd_session.specs.declared.status.Status.TheVariants as statuses
+use Rattle.cmd_files.specs.Forms.{Form, Runner}
 use Rattle.c_program.specs.Programs.{AProgram}
 use Rattle.c_typed.specs.declared.source.SourceKind.{SourceKind}
 use Rattle.c_typed.specs.Sources.{Reads, IsFaultAt}
-use Rattle.cmd_meaning.specs.declared.source.FileFault.{FileFault}
-use Rattle.cmd_meaning.specs.declared.source.FileFault.TheVariants as faults
+use Rattle.c_meaning.specs.Meaning.{source}
+use Rattle.cmd_meaning.specs.Lines.{fault_line}
+use Rattle.cmd_meaning.specs.Moments.{coming}
 
 -- the longest source
 abbrev pub source_limit : ℕ
 source_limit = 1048576
 
--- the file is the source of this program, and of no other
-pub record IsSource (file : Content) (program : AProgram) : Type 0 where
-  pub bytes : List ℕ
-  pub stored : IsThat file bytes
-  pub within : length bytes ≤ source_limit
-  pub reads : Reads bytes program
-  pub only : (other : AProgram) → Reads bytes other → program ≡ other
+-- the line names the first fault of the bytes, and where that stands
+pub record NamesFirstFault (bytes line : List ℕ) : Type 0 where
+  pub place : Place
+  pub kind : SourceKind
+  pub first : IsFaultAt bytes place kind
+  pub named : line ≡ fault_line place kind
 
--- the file has this first fault, and is no program's source
-pub record IsNoSource (file : Content) (place : Place) (kind : SourceKind) : Type 0 where
-  pub bytes : List ℕ
-  pub stored : IsThat file bytes
-  pub within : length bytes ≤ source_limit
-  pub fault : IsFaultAt bytes place kind
-  pub unread : (program : AProgram) → Reads bytes program → ⊥
+-- a file is the source of a program
+abbrev pub source_form : Form AProgram
+source_form = record { limit = source_limit; reads = Reads; refuses = NamesFirstFault; status = statuses.SourceRefused; of_files = tt }
 
--- what a fault says of the file that was read
-abbrev pub IsRefusedSource : Content → FileFault → Type 0
-IsRefusedSource file faults.NoMemory = Unit {0}
-IsRefusedSource file faults.Failed = Unit {0}
-IsRefusedSource file faults.TooLong = IsLonger file source_limit
-IsRefusedSource file (faults.At place kind) = IsNoSource file place kind
+-- the ends of a source's run
+abbrev pub IsSourceEnd : End → Type 0
+IsSourceEnd (ends.Ended value) = Unit {0}
+IsSourceEnd ends.Trapped = Unit {0}
+IsSourceEnd ends.Wild = Unit {0}
+IsSourceEnd ends.Deep = Unit {0}
+IsSourceEnd ends.Spent = Unit {0}
+IsSourceEnd (ends.Broken kind) = ⊥
+
+-- each program can be run, with so many counted turns of loops and calls
+abbrev pub source_runner : Runner AProgram
+source_runner = record {
+  fault = λ program. None;
+  run = λ program input count. coming (source program input count);
+  ends = IsSourceEnd;
+}

@@ -1,51 +1,71 @@
-// Reading a C source from a file.
-ghost use Rattle.std.specs.Prelude.{◌≡◌, ℕ, List, IfOk, IfErr, IsErrOf};
-ghost use Rattle.gg_outside.specs.Outside.{OnlyName, GainsName};
-ghost use Rattle.c_typed_check.specs.Views.{typed};
-ghost use Rattle.cmd_meaning.specs.Sources.{IsSource, IsRefusedSource};
-ghost use Rattle.cmd_meaning.specs.declared.source.FileFault.TheVariants as faults;
+// C sources as files whose programs are run by their meaning.
+ghost use Rattle.std.specs.Prelude.{◌≡◌};
 
-use c_typed::{Program, SourceFault, SourceKind, read_source};
-use gg_base::Place;
+use crate::lines::fault_line;
+use crate::moments::MeaningRun;
+use c_meaning::SourceRun;
+use c_typed::{Program, SourceFault, read_source};
+use cmd_files::{FileForm, Refusal, Runs};
+use cmd_session::{Status, no_memory, tell_run};
+use gg_base::NoMemory;
 use gg_base::limits::SOURCE_LIMIT;
-use gg_outside::{Folder, FolderFault};
+use gg_outside::Sink;
 use std::alloc::Global;
 
-/// Why no program was read.
-#[derive(Clone, Copy, Debug, PartialEq, Eq)]
-pub enum FileFault {
-    NoMemory,
-    /// The file was not read.
-    Failed,
-    /// The file is over the limit of sources.
-    TooLong,
-    /// The first fault of the source.
-    At { place: Place, kind: SourceKind },
+/// The program of a C source.
+#[derive(Drop)]
+pub struct SourceText {
+    program: Program,
 }
 
-/// The program of the source in a file.
-pub fn read_program<F: Folder>(
-    alloc: Global,
-    folder: &mut F,
-    name: &str,
-) -> Result<Program, FileFault>
-    ensures program { IfOk result (λ program. IsSource (F.holds folder.old name.now) (typed program)) }
-    ensures refused { IfErr result (λ fault. IsRefusedSource (F.holds folder.old name.now) fault) }
-    ensures file { IsErrOf result faults.Failed
-        → GainsName name.now (F.failed folder.old) (F.failed folder.new) }
-    ensures names { OnlyName name.now (F.failed folder.old) (F.failed folder.new) }
-    ensures holds { (n : List ℕ) → F.holds folder.new n ≡ F.holds folder.old n }
-{
-    let mut bytes = Vec::new(alloc);
-    match folder.read_whole(name, SOURCE_LIMIT, &mut bytes) {
-        Ok(()) => {}
-        Err(FolderFault::NoMemory) => return Err(FileFault::NoMemory),
-        Err(FolderFault::Failed) => return Err(FileFault::Failed),
-        Err(FolderFault::TooLong) => return Err(FileFault::TooLong),
+impl FileForm for SourceText {
+    ghost use Rattle.c_program.specs.Programs.{AProgram};
+    ghost use Rattle.c_typed_check.specs.Views.{typed};
+    ghost use Rattle.cmd_meaning.specs.Sources.{source_form, source_runner};
+
+    ghost Item = { AProgram };
+
+    ghost form = { source_form };
+
+    ghost runner = { source_runner };
+
+    ghost item = { λ s. typed s.program };
+
+    fn limit() -> u64 {
+        SOURCE_LIMIT
     }
-    match read_source(alloc, bytes.as_slice()) {
-        Ok(program) => Ok(program),
-        Err(SourceFault::NoMemory) => Err(FileFault::NoMemory),
-        Err(SourceFault::At { place, kind }) => Err(FileFault::At { place, kind }),
+
+    fn status() -> Status {
+        Status::SourceRefused
+    }
+
+    fn read(alloc: Global, bytes: &[u8]) -> Result<Self, Refusal> {
+        match read_source(alloc, bytes) {
+            Ok(program) => Ok(SourceText { program }),
+            Err(SourceFault::NoMemory) => Err(Refusal::NoMemory),
+            Err(SourceFault::At { place, kind }) => {
+                let line = fault_line(alloc, place, kind)?;
+                Err(Refusal::Line(line))
+            }
+        }
+    }
+}
+
+impl Runs for SourceText {
+    fn tell<O: Sink, E: Sink>(
+        &self,
+        alloc: Global,
+        input: &[u8],
+        count: u64,
+        out: &mut O,
+        report: &mut E,
+    ) -> Status {
+        match SourceRun::new(alloc, self.program.plain(), input, count) {
+            Ok(run) => {
+                let mut run = MeaningRun { run };
+                tell_run(alloc, &mut run, count, out, report)
+            }
+            Err(NoMemory) => no_memory(report),
+        }
     }
 }

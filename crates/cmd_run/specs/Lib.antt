@@ -2,5 +2,3 @@ pub mod Lines
 pub mod Counting
 pub mod Texts
 pub mod Refusing
-pub mod Outcome
-pub mod Exact

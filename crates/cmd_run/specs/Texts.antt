@@ -1,35 +1,51 @@
--- Assembly texts in files.
-use Rattle.std.specs.Prelude.{◌≤◌, ℕ, List, length}
-use Rattle.gg_outside.specs.Outside.{Content, IsThat, IsLonger}
+-- Assembly texts in files, and how their codes are run.
+use Rattle.std.specs.Prelude.{◌≡◌, ℕ, List, Option, Some, None}
+use Rattle.gg_base.specs.declared.run.End.{End}
+use Rattle.gg_base.specs.declared.run.End.TheVariants as ends
+use Rattle.cmd_session.specs.declared.status.Status.TheVariants as statuses
+use Rattle.cmd_files.specs.Forms.{Form, Runner}
 use Rattle.vax_core.specs.declared.code.Code.{Code}
 use Rattle.vax_reader.specs.declared.fault.AsmKind.{AsmKind}
-use Rattle.vax_reader.specs.Grammar.{Reads, IsOnly, IsFirstWrong}
-use Rattle.cmd_run.specs.declared.text.TextFault.{TextFault}
-use Rattle.cmd_run.specs.declared.text.TextFault.TheVariants as faults
+use Rattle.vax_reader.specs.Grammar.{Reads, IsFirstWrong}
+use Rattle.vax_machine.specs.declared.loading.LoadFault.{LoadFault}
+use Rattle.vax_machine.specs.Loading.{load_fault}
+use Rattle.vax_machine.specs.Running.{run}
+use Rattle.cmd_run.specs.Counting.{coming_of}
+use Rattle.cmd_run.specs.Lines.{wrong_line, load_line}
 
 -- the longest text
 abbrev pub text_limit : ℕ
 text_limit = 67108864
 
--- the file is the text of this valid code, and of no other
-pub record IsText (file : Content) (code : Code) : Type 0 where
-  pub bytes : List ℕ
-  pub stored : IsThat file bytes
-  pub within : length bytes ≤ text_limit
-  pub reads : Reads bytes code
-  pub only : IsOnly bytes code
-
--- the file is no code's text: this is the number of the first line that is not of the grammar, and what is wrong with it
-pub record IsNoText (file : Content) (number : ℕ) (kind : AsmKind) : Type 0 where
-  pub bytes : List ℕ
-  pub stored : IsThat file bytes
-  pub within : length bytes ≤ text_limit
+-- the line names the first line of the bytes that is not of the grammar, and what is wrong with it
+pub record NamesFirstWrong (bytes line : List ℕ) : Type 0 where
+  pub number : ℕ
+  pub kind : AsmKind
   pub first : IsFirstWrong bytes number kind
-  pub unread : (code : Code) → Reads bytes code → ⊥
+  pub named : line ≡ wrong_line number kind
 
--- what a fault says of the file that was read
-abbrev pub IsRefusedText : Content → TextFault → Type 0
-IsRefusedText file faults.NoMemory = Unit {0}
-IsRefusedText file faults.FileFault = Unit {0}
-IsRefusedText file faults.TooLong = IsLonger file text_limit
-IsRefusedText file (faults.Line number kind) = IsNoText file number kind
+-- a file is the text of a valid code
+abbrev pub text_form : Form Code
+text_form = record { limit = text_limit; reads = Reads; refuses = NamesFirstWrong; status = statuses.AsmRefused; of_files = tt }
+
+-- why a code can't be run
+abbrev pub fault_line : Option LoadFault → Option (List ℕ)
+fault_line None = None
+fault_line (Some fault) = Some (load_line fault)
+
+-- the ends of a machine's run
+abbrev pub IsMachineEnd : End → Type 0
+IsMachineEnd (ends.Ended value) = Unit {0}
+IsMachineEnd ends.Trapped = Unit {0}
+IsMachineEnd ends.Wild = ⊥
+IsMachineEnd ends.Deep = ⊥
+IsMachineEnd ends.Spent = Unit {0}
+IsMachineEnd (ends.Broken kind) = Unit {0}
+
+-- a code is run from its loading on for so many steps
+abbrev pub code_runner : Runner Code
+code_runner = record {
+  fault = λ code. fault_line (load_fault code);
+  run = λ code input count. coming_of (run code input count);
+  ends = IsMachineEnd;
+}

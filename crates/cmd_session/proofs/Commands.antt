@@ -8,7 +8,7 @@ use Rattle.std.specs.declared.alloc.Global.{Global}
 use Rattle.std.specs.String.{string_bytes}
 use Rattle.std.proofs.lemmas.Fmt.{parse-decimal, decimal_injective}
 use Rattle.std.proofs.lemmas.Slice.Eq.{bytes_eq-Decides}
-use Rattle.cmd_session.specs.Words.{spelled, IsCount, SaysFirst, SaysCounted, NoFirst, OnlyFirst, NoCounted, OnlyCounted}
+use Rattle.cmd_session.specs.Words.{spelled, IsCount, SaysNamed, SaysCounted, NoNamed, OnlyNamed, NoCounted, OnlyCounted}
 
 two : {A : Type 0} (xs : List A) (a b : A) → 2 ≤ length xs → length xs < 3 → a ≡ get_or xs 0 a → b ≡ get_or xs 1 b → xs ≡ a ∷ (b ∷ [])
 two [] a b low high first second = absurd (omega arith)
@@ -60,14 +60,20 @@ other_spelling m n word text r is_number h text_is differs count is =
     cc
 
 -- words say one command
-pub only_first : (words : List (List ℕ)) (source : List ℕ) → SaysFirst words source → OnlyFirst words source
-only_first words source h other k = let same_as = sym k.words_are ∙ h.words_are in cc
+pub only_named : (word : List ℕ) (words : List (List ℕ)) (name : List ℕ) → SaysNamed word words name → OnlyNamed word words name
+only_named word words name h other k = let same_as = sym k.words_are ∙ h.words_are in cc
 
-pub first_not_counted : (words : List (List ℕ)) (source word : List ℕ) → SaysFirst words source → NoCounted word words
-first_not_counted words source word h name count k = let same_as = sym k.words_are ∙ h.words_are in cc
+pub named_not_other : (word other : List ℕ) (words : List (List ℕ)) (name : List ℕ) → SaysNamed word words name → (word ≡ other → ⊥) → NoNamed other words
+named_not_other word other words name h differs another k =
+    let same_as = sym h.words_are ∙ k.words_are in
+    let equal : word ≡ other = cc in
+    differs equal
 
-pub counted_not_first : (words : List (List ℕ)) (word name : List ℕ) (count : ℕ) → SaysCounted word words name count → NoFirst words
-counted_not_first words word name count h source k = let same_as = sym k.words_are ∙ h.words_are in cc
+pub named_not_counted : (word other : List ℕ) (words : List (List ℕ)) (name : List ℕ) → SaysNamed word words name → NoCounted other words
+named_not_counted word other words name h another count k = let same_as = sym k.words_are ∙ h.words_are in cc
+
+pub counted_not_named : (word other : List ℕ) (words : List (List ℕ)) (name : List ℕ) (count : ℕ) → SaysCounted word words name count → NoNamed other words
+counted_not_named word other words name count h another k = let same_as = sym k.words_are ∙ h.words_are in cc
 
 pub only_counted : (word : List ℕ) (words : List (List ℕ)) (name : List ℕ) (count : ℕ) → SaysCounted word words name count → OnlyCounted word words name count
 only_counted word words name count h other n k =
@@ -81,9 +87,24 @@ counted_not_other word other words name count h differs another n k =
     let equal : word ≡ other = cc in
     differs equal
 
--- the two words that come before a number
+-- the words that come first
+pub first_is_not_check : codes "first" ≡ codes "check" → ⊥
+first_is_not_check h = let first = ap (λ (l : List ℕ). get_or l 0 0) h in omega (arith, first)
+
 pub run_is_not_meaning : codes "run" ≡ codes "meaning" → ⊥
 run_is_not_meaning h = let first = ap (λ (l : List ℕ). get_or l 0 0) h in omega (arith, first)
+
+-- words that say a name are two, and the first is the word before it
+pub named_length : (words : List (String Global)) (word name : List ℕ) → SaysNamed word (spelled words) name → length words ≡ 2
+named_length [] word name h = let e = h.words_are in cc
+named_length (a ∷ []) word name h = let e = h.words_are in cc
+named_length (a ∷ (b ∷ [])) word name h = refl
+named_length (a ∷ (b ∷ (c ∷ rest))) word name h = let e = h.words_are in cc
+
+pub named_parts : (words : List (String Global)) (a b : String Global) (word name : List ℕ) → 2 ≤ length words → length words < 3 → a ≡ get_or words 0 a → b ≡ get_or words 1 b → SaysNamed word (spelled words) name → (string_bytes a ≡ word) × (string_bytes b ≡ name)
+named_parts words a b word name low high a_is b_is h =
+    let e : string_bytes a ∷ (string_bytes b ∷ []) ≡ word ∷ (name ∷ []) = sym (ap spelled (two words a b low high a_is b_is)) ∙ h.words_are in
+    (cc, cc)
 
 -- words that say a name and a number are three, and the first is the word before them
 pub counted_length : (words : List (String Global)) (word name : List ℕ) (count : ℕ) → SaysCounted word (spelled words) name count → length words ≡ 3

@@ -1,6 +1,8 @@
 -- What a source gives in a call.
-use Rattle.std.specs.Prelude.{◌≡◌, ◌<◌, ◌≤◌, ℕ, List, [], ◌++◌, length, Option, Some, None}
-use Rattle.gg_outside.specs.Outside.{Rose}
+use Rattle.std.specs.Prelude.{◌≡◌, ◌<◌, ◌≤◌, ℕ, List, [], ◌++◌, length, Option, Some, None, Result, Ok, Err}
+use Rattle.gg_outside.specs.Outside.{Rose, RoseAtMostOnce, next_count}
+use Rattle.cmd_session.specs.declared.input.InputFault.{InputFault}
+use Rattle.cmd_session.specs.declared.input.InputFault.TheVariants as faults
 
 -- an input before and after a call: what is left of it, where it tells that, and its count of faults
 pub record Intake : Type 0 where
@@ -37,9 +39,29 @@ abbrev pub HasOver : ℕ → Option (List ℕ) → Type 0
 HasOver limit None = Unit {0}
 HasOver limit (Some left) = limit < length left
 
--- the input's count of faults rose
+-- the input counted no fault
+abbrev pub IsUnbroken : Intake → Type 0
+IsUnbroken input = input.now ≡ input.before
+
+-- the input counted one fault
 abbrev pub Fails : Intake → Type 0
 Fails input = Rose input.before input.now
+
+-- the input counted one fault or none
+abbrev pub FailsAtMostOnce : Intake → Type 0
+FailsAtMostOnce input = RoseAtMostOnce input.before input.now
+
+-- nothing was taken of the input, and it counted no fault
+pub record IsUntaken (input : Intake) : Type 0 where
+  pub left : input.new ≡ input.old
+  pub unbroken : IsUnbroken input
+
+-- the input's count of faults behind its reading, by the answer
+abbrev pub count_after : {T : Type 0} → ℕ → Result T InputFault → ℕ
+count_after count (Ok x) = count
+count_after count (Err faults.NoMemory) = count
+count_after count (Err faults.Failed) = next_count count
+count_after count (Err faults.TooLong) = count
 
 -- so many bytes were moved from the front to the end of others, none only where nothing was left
 abbrev pub Moves : ℕ → Option (List ℕ) → Option (List ℕ) → List ℕ → List ℕ → Type 0

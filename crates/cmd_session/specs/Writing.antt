@@ -1,6 +1,6 @@
 -- What a sink gains in a call.
 use Rattle.std.specs.Prelude.{◌≡◌, ◌⊎◌, ℕ, List, ◌++◌, Option, Some, None}
-use Rattle.gg_outside.specs.Outside.{Rose}
+use Rattle.gg_outside.specs.Outside.{Rose, RoseAtMostOnce}
 
 -- a sink before and after a call: what it holds, where it tells that, and its count of faults
 pub record Change : Type 0 where
@@ -28,14 +28,33 @@ pub record GainsFront (sink : Change) (bytes : List ℕ) : Type 0 where
   pub split : bytes ≡ front ++ rest
   pub gains : Gains sink front
 
--- the sink gained nothing
-abbrev pub IsUntouched : Change → Type 0
-IsUntouched sink = sink.new ≡ sink.old
+-- the sink counted no fault
+abbrev pub IsQuiet : Change → Type 0
+IsQuiet sink = sink.now ≡ sink.before
 
--- the sink's count of faults rose
+-- the sink counted one fault
 abbrev pub Rises : Change → Type 0
 Rises sink = Rose sink.before sink.now
 
--- a report gained this line or, where its count rose, a front of it
+-- the sink counted one fault or none
+abbrev pub RisesAtMostOnce : Change → Type 0
+RisesAtMostOnce sink = RoseAtMostOnce sink.before sink.now
+
+-- the sink gained nothing and counted no fault
+pub record IsUntouched (sink : Change) : Type 0 where
+  pub held : sink.new ≡ sink.old
+  pub quiet : IsQuiet sink
+
+-- the sink gained these bytes and counted no fault
+pub record TakesAll (sink : Change) (bytes : List ℕ) : Type 0 where
+  pub gains : Gains sink bytes
+  pub quiet : IsQuiet sink
+
+-- a write failed: the sink gained a front of these bytes and counted that one fault, so nothing was written behind it
+pub record IsCut (sink : Change) (bytes : List ℕ) : Type 0 where
+  pub front : GainsFront sink bytes
+  pub rises : Rises sink
+
+-- a report gained this line or, where a write of it failed, a front of it
 abbrev pub Reports : Change → List ℕ → Type 0
-Reports report line = Gains report line ⊎ (Rises report × GainsFront report line)
+Reports report line = TakesAll report line ⊎ IsCut report line

@@ -1,6 +1,6 @@
 // Reading an input whole.
 ghost use Rattle.std.specs.Prelude.{◌≡◌, ◌<◌, ◌≤◌, ◌+◌, length, vec_len, IfOk, OnErr, IsErrOf};
-ghost use Rattle.cmd_session.specs.Reading.{intake, GivesAll, TakesAtMost, HasOver, Fails, Moves};
+ghost use Rattle.cmd_session.specs.Reading.{intake, GivesAll, TakesAtMost, HasOver, Moves, count_after};
 ghost use Rattle.cmd_session.specs.declared.input.InputFault.TheVariants as faults;
 
 use gg_base::Bytes;
@@ -61,8 +61,7 @@ fn read_piece<I: Source>(
     ensures within { IfOk result (λ n. n ≤ length piece.new) }
     ensures grown { IfOk result (λ n. vec_len bytes.new ≡ vec_len bytes.old + n) }
     ensures taken { OnErr result (TakesAtMost (length piece.new) (intake I.left I.faults input.old input.new)) }
-    ensures counts { I.faults input.old ≤ I.faults input.new }
-    ensures cause { IsErrOf result faults.Failed → Fails (intake I.left I.faults input.old input.new) }
+    ensures counts { I.faults input.new ≡ count_after (I.faults input.old) result }
     ensures no_limit { IsErrOf result faults.TooLong → ⊥ }
 {
     let n = input.read(piece)?;
@@ -77,8 +76,7 @@ pub fn read_all<I: Source>(alloc: Global, input: &mut I, limit: usize) -> Result
     ensures within { IfOk result (λ bytes. length bytes ≤ limit) }
     ensures too_long { IsErrOf result faults.TooLong → HasOver limit (I.left input.old) }
     ensures taken { TakesAtMost (limit + 1) (intake I.left I.faults input.old input.new) }
-    ensures counts { I.faults input.old ≤ I.faults input.new }
-    ensures cause { IsErrOf result faults.Failed → Fails (intake I.left I.faults input.old input.new) }
+    ensures counts { I.faults input.new ≡ count_after (I.faults input.old) result }
 {
     let mut piece = piece_of(alloc, PIECE)?;
     let mut bytes = Vec::new(alloc);

@@ -1,19 +1,18 @@
 // Writing to a sink until all is written or a write fails.
-ghost use Rattle.std.specs.Prelude.{◌≡◌, ◌≤◌, ℕ, List, OnOk, IfOk, IsErrOf};
-ghost use Rattle.gg_outside.specs.declared.faults.SinkFault.TheVariants as sink_faults;
-ghost use Rattle.cmd_session.specs.Writing.{change, Gains, GainsFront, Rises};
+ghost use Rattle.std.specs.Prelude.{◌≡◌, ℕ, List, OnOk, IfOk};
+ghost use Rattle.gg_outside.specs.Outside.{count_after_write};
+ghost use Rattle.cmd_session.specs.Writing.{change, Gains, GainsFront, RisesAtMostOnce};
 ghost use Rattle.cmd_session.specs.Telling.{IsRefused};
 
 use crate::status::Status;
 use gg_base::{NoMemory, Text};
 use gg_outside::{Sink, SinkFault};
 
-/// Writes all of the bytes, in as many calls as the sink wants.
+/// Writes all of the bytes, in as many calls as the sink wants, and nothing behind a call that failed.
 pub fn write_all<K: Sink>(sink: &mut K, bytes: &[u8]) -> Result<(), SinkFault>
     ensures all { OnOk result (Gains (change K.told K.faults sink.old sink.new) bytes.now) }
     ensures front { GainsFront (change K.told K.faults sink.old sink.new) bytes.now }
-    ensures counts { K.faults sink.old ≤ K.faults sink.new }
-    ensures cause { IsErrOf result sink_faults.Failed → Rises (change K.told K.faults sink.old sink.new) }
+    ensures counts { K.faults sink.new ≡ count_after_write (K.faults sink.old) result }
 {
     let mut rest = bytes;
     while !rest.is_empty() {
@@ -46,7 +45,8 @@ pub fn refuse_with<E: Sink>(report: &mut E, line: Result<Text, NoMemory>, status
 
 /// Writes the line of a want of memory, as far as can be.
 pub fn no_memory<E: Sink>(report: &mut E) -> Status
-    ensures { result ≡ Status.NoMemory }
+    ensures status { result ≡ Status.NoMemory }
+    ensures once { RisesAtMostOnce (change E.told E.faults report.old report.new) }
 {
     let _ = write_all(report, b"ggvax: no memory\n");
     Status::NoMemory

@@ -1,7 +1,7 @@
 // Writing a run's output while it goes on.
-ghost use Rattle.std.specs.Prelude.{◌≡◌, ◌≤◌, ℕ, IfOk, OnOk, IsErrOf};
-ghost use Rattle.gg_outside.specs.declared.faults.SinkFault.TheVariants as sink_faults;
-ghost use Rattle.cmd_session.specs.Writing.{change, Gains, GainsFront, Rises};
+ghost use Rattle.std.specs.Prelude.{◌≡◌, ℕ, IfOk, OnOk};
+ghost use Rattle.gg_outside.specs.Outside.{count_after_write};
+ghost use Rattle.cmd_session.specs.Writing.{change, Gains, GainsFront};
 ghost use Rattle.cmd_session.specs.Running.{Coming, Passes, Falls};
 ghost use Rattle.cmd_session.specs.Telling.{Tells};
 
@@ -46,8 +46,7 @@ pub fn write_run<R: Run, K: Sink>(alloc: Global, run: &mut R, out: &mut K) -> Re
     ensures end { IfOk result (λ end. (R.coming run.old).end ≡ end) }
     ensures output { OnOk result (Gains (change K.told K.faults out.old out.new) (R.coming run.old).output) }
     ensures front { GainsFront (change K.told K.faults out.old out.new) (R.coming run.old).output }
-    ensures counts { K.faults out.old ≤ K.faults out.new }
-    ensures cause { IsErrOf result sink_faults.Failed → Rises (change K.told K.faults out.old out.new) }
+    ensures counts { K.faults out.new ≡ count_after_write (K.faults out.old) result }
 {
     let mut piece = Vec::with_capacity(alloc, PIECE)?;
     loop {

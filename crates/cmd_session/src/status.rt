@@ -19,6 +19,10 @@ pub enum Status {
     TooLong = 6,
     /// The file is no source.
     SourceRefused = 7,
+    /// The file is no machine description.
+    DescRefused = 8,
+    /// The description has more item sets, or its check more summaries, than there may be.
+    Full = 9,
     /// The assembly text is no code's, or its code can't be run.
     AsmRefused = 15,
     /// The run used up its steps and would go on.

@@ -24,6 +24,7 @@ fn said(alloc: Global, text: &str) -> Result<String, AllocError> {
     let words = words_of(alloc, text)?;
     match command_of(words.as_slice()) {
         Some(Command::First(source)) => format!(in alloc; "first {source}"),
+        Some(Command::Check(description)) => format!(in alloc; "check {description}"),
         Some(Command::Run(text, count)) => format!(in alloc; "run {text} {count}"),
         Some(Command::Meaning(source, count)) => format!(in alloc; "meaning {source} {count}"),
         None => String::from_str(alloc, "nothing"),
@@ -33,7 +34,7 @@ fn said(alloc: Global, text: &str) -> Result<String, AllocError> {
 #[test]
 fn reads_words(rt: HostRuntime) -> Result<(), Fail> {
     let rows =
-        "first,s=first s;run,a.s,7=run a.s 7;run,a,1=run a 1;run,a,1000000000=run a 1000000000;\
+        "first,s=first s;check,d=check d;check=nothing;check,=nothing;check,d,d=nothing;run,a.s,7=run a.s 7;run,a,1=run a 1;run,a,1000000000=run a 1000000000;\
         =nothing;first=nothing;first,=nothing;first,s,s=nothing;last,s=nothing;run=nothing;run,a=nothing;\
         run,a,=nothing;run,,7=nothing;run,a,7,7=nothing;run,a,0=nothing;run,a,00=nothing;run,a,07=nothing;\
         run,a,+7=nothing;run,a,-7=nothing;run,a,7x=nothing;run,a,1000000001=nothing;\

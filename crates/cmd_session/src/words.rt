@@ -1,7 +1,7 @@
 // The words of the commands.
 ghost use Rattle.std.specs.Prelude.{◌≡◌, IfSome, IfNone, ℕ, List};
 ghost use Rattle.std.specs.Fmt.{decimal};
-ghost use Rattle.cmd_session.specs.Words.{spelled, IsCount, SaysCounted, Says, SaysOnly, SaysNone};
+ghost use Rattle.cmd_session.specs.Words.{spelled, IsCount, SaysNamed, SaysCounted, Says, SaysOnly, SaysNone};
 
 use itoa::Buffer;
 
@@ -10,6 +10,8 @@ use itoa::Buffer;
 pub enum Command<'a> {
     /// `first S`: the source's text and run.
     First(&'a str),
+    /// `check D`: the tables of the machine description D.
+    Check(&'a str),
     /// `run A N`: the run of the text A with at most N steps.
     Run(&'a str, u64),
     /// `meaning S N`: the run of the source S by its meaning, with at most N counted turns of loops and calls.
@@ -34,6 +36,17 @@ fn count_of(word: &str) -> Option<u64>
     Some(n)
 }
 
+// The name of the words `WORD NAME`. Names are not empty.
+fn named<'a>(words: &'a [String], word: &str) -> Option<&'a str>
+    ensures some { IfSome result (λ name. SaysNamed word.now (spelled words.now) name.now) }
+    ensures none { IfNone result ((name : List ℕ) → SaysNamed word.now (spelled words.now) name → ⊥) }
+{
+    match words {
+        [first, name] if first.as_str() == word && !name.is_empty() => Some(name.as_str()),
+        _ => None,
+    }
+}
+
 // The name and the number of the words `WORD NAME N`. Names are not empty.
 fn counted<'a>(words: &'a [String], word: &str) -> Option<(&'a str, u64)>
     ensures some { IfSome result (λ said. SaysCounted word.now (spelled words.now) said.0.now said.1) }
@@ -54,16 +67,15 @@ pub fn command_of(words: &[String]) -> Option<Command<'_>>
     ensures only { IfSome result (λ command. SaysOnly (spelled words.now) command) }
     ensures none { IfNone result (SaysNone (spelled words.now)) }
 {
+    if let Some(source) = named(words, "first") {
+        return Some(Command::First(source));
+    }
+    if let Some(description) = named(words, "check") {
+        return Some(Command::Check(description));
+    }
     if let Some((text, count)) = counted(words, "run") {
         return Some(Command::Run(text, count));
     }
-    if let Some((source, count)) = counted(words, "meaning") {
-        return Some(Command::Meaning(source, count));
-    }
-    match words {
-        [first, source] if first.as_str() == "first" && !source.is_empty() => {
-            Some(Command::First(source.as_str()))
-        }
-        _ => None,
-    }
+    let (source, count) = counted(words, "meaning")?;
+    Some(Command::Meaning(source, count))
 }

@@ -1,5 +1,5 @@
 -- A folder, a source and a sink in memory, and what each of their calls gives.
-use Rattle.std.specs.Prelude.{ℕ, ◌+◌, ◌≡◌, Bool, ◌==◌, nat_lt, min, List, [], ◌∷◌, ◌++◌, length, take, drop, Result, Ok, Err, if◌then◌else◌}
+use Rattle.std.specs.Prelude.{ℕ, ◌≡◌, Bool, ◌==◌, nat_lt, min, List, [], ◌∷◌, ◌++◌, length, take, drop, Result, Ok, Err, if◌then◌else◌}
 use Rattle.std.specs.List.{list_any}
 use Rattle.std.specs.Str.{bytes_eq}
 use Rattle.gg_outside.specs.declared.faults.Failed.{Failed}
@@ -8,11 +8,7 @@ use Rattle.gg_outside.specs.declared.faults.FolderFault.TheVariants as folder_fa
 use Rattle.gg_outside.specs.declared.faults.SinkFault.{SinkFault}
 use Rattle.gg_outside.specs.declared.faults.SinkFault.TheVariants as sink_faults
 use Rattle.gg_outside.specs.declared.memory.MemFile.{MemFile}
-use Rattle.gg_outside.specs.Outside.{Content, Untold, Missing, Stored, count_end}
-
--- a count, one higher where it is not at its end
-abbrev pub next_count : ℕ → ℕ
-next_count n = min (n + 1) count_end
+use Rattle.gg_outside.specs.Outside.{Content, Untold, Missing, Stored, next_count}
 
 -- a call of that number is among those that fail
 abbrev pub is_failing : ℕ → List ℕ → Bool
@@ -47,13 +43,6 @@ AnswersFile (Ok x) bytes given = given ≡ Ok bytes
 AnswersFile (Err folder_faults.NoMemory) bytes given = Unit {0}
 AnswersFile (Err folder_faults.Failed) bytes given = given ≡ Err folder_faults.Failed
 AnswersFile (Err folder_faults.TooLong) bytes given = given ≡ Err folder_faults.TooLong
-
--- the failed names after a reading, by its answer
-abbrev pub failed_after : {T : Type 0} → List (List ℕ) → List ℕ → Result T FolderFault → List (List ℕ)
-failed_after failed name (Ok x) = failed
-failed_after failed name (Err folder_faults.NoMemory) = failed
-failed_after failed name (Err folder_faults.Failed) = failed ++ (name ∷ [])
-failed_after failed name (Err folder_faults.TooLong) = failed
 
 -- a source: the bytes that are left, the most of one call, the numbers of the calls that fail, the calls and the faults so far
 pub record SourceInMemory : Type 0 where

@@ -1,9 +1,7 @@
 // A folder, a source and a sink in memory, which fail at the calls whose numbers they are given.
-ghost use Rattle.std.specs.Prelude.{◌≡◌, ◌<◌, ◌≤◌, ℕ, List, [], ◌++◌, length, drop, OnOk, OnErr, IfOk, IfSome, IfNone, IsErr, IsErrOf, Some};
-ghost use Rattle.gg_outside.specs.Outside.{Missing, Stored, Reads, OnlyName, GainsName, Takes, HandsOver, Rose};
-ghost use Rattle.gg_outside.specs.Memory.{content_of, file_given, AnswersFile, failed_after, next_count, read_given, source_after, write_given, AnswersWrite, sink_after};
-ghost use Rattle.gg_outside.specs.declared.faults.FolderFault.TheVariants as folder_faults;
-ghost use Rattle.gg_outside.specs.declared.faults.SinkFault.TheVariants as sink_faults;
+ghost use Rattle.std.specs.Prelude.{◌≡◌, ◌<◌, ◌≤◌, ℕ, List, [], ◌++◌, length, drop, OnOk, OnErr, IfOk, IfSome, IfNone, Some};
+ghost use Rattle.gg_outside.specs.Outside.{Missing, Stored, Reads, Takes, HandsOver, failed_after, count_after_read, count_after_write, next_count};
+ghost use Rattle.gg_outside.specs.Memory.{content_of, file_given, AnswersFile, read_given, source_after, write_given, AnswersWrite, sink_after};
 
 use crate::{Failed, Folder, FolderFault, Sink, SinkFault, Source};
 use gg_base::{Bytes, Name};
@@ -74,8 +72,7 @@ impl Folder for MemFolder {
         ensures told { Reads (content_of self.old.files name.now) limit result into.new.items }
         ensures refused { OnErr result (into.new.items ≡ []) }
         ensures keeps { (n : List ℕ) → content_of self.new.files n ≡ content_of self.old.files n }
-        ensures names { OnlyName name.now self.old.failed self.new.failed }
-        ensures cause { IsErrOf result folder_faults.Failed → GainsName name.now self.old.failed self.new.failed }
+        ensures names { self.new.failed ≡ failed_after self.old.failed name.now result }
 
         // Which calls fail, and what each leaves behind.
         ensures given { AnswersFile result into.new.items (file_given self.old name.now limit) }
@@ -150,8 +147,7 @@ impl Source for MemSource {
         requires { 0 < length into.old }
         ensures within { IfOk result (λ n. n ≤ length into.new) }
         ensures told { HandsOver (Some self.old.left) (Some self.new.left) result into.new }
-        ensures counts { self.old.faults ≤ self.new.faults }
-        ensures cause { IsErr result → Rose self.old.faults self.new.faults }
+        ensures counts { self.new.faults ≡ count_after_read self.old.faults result }
 
         // Which calls fail, how many bytes the others move, and what each leaves behind.
         ensures given { result ≡ read_given self.old (length into.old) }
@@ -226,8 +222,7 @@ impl Sink for MemSink {
         ensures some { IfOk result (λ n. 0 < n) }
         ensures within { IfOk result (λ n. n ≤ length piece.now) }
         ensures takes { Takes (Some self.old.bytes) (Some self.new.bytes) result piece.now }
-        ensures counts { self.old.faults ≤ self.new.faults }
-        ensures cause { IsErrOf result sink_faults.Failed → Rose self.old.faults self.new.faults }
+        ensures counts { self.new.faults ≡ count_after_write self.old.faults result }
 
         // Which calls fail, how many bytes the others take, and what each leaves behind.
         ensures given { AnswersWrite result (write_given self.old (length piece.now)) }

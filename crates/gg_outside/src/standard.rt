@@ -6,7 +6,7 @@ use crate::{Failed, Folder, FolderFault, Sink, SinkFault, Source};
 use gg_base::{Name, NoMemory};
 use std::alloc::Global;
 use std::fs::File;
-use std::io::{self, BufReader, ErrorKind, Read, Stderr, Stdin, Stdout, Write};
+use std::io::{self, ErrorKind, Read, Stderr, Stdin, Stdout, Write};
 use std::marker::Model;
 
 /// Files by their paths from the current folder.
@@ -73,10 +73,36 @@ fn read_file(rt: &HostRuntime, name: &str, limit: u64, into: &mut Vec<u8>) -> io
     Ok(())
 }
 
-/// Standard input.
+// Reads once, and again as long as a signal breaks the reading off.
+pub(crate) fn read_unbroken<R: Read>(stream: &mut R, into: &mut [u8]) -> io::Result<usize>
+    ensures { IfOk result (λ n. n ≤ length into.new) }
+{
+    for _ in 0..u64::MAX {
+        match stream.read(into) {
+            Err(e) if e.kind() == ErrorKind::Interrupted => {}
+            read => return read,
+        }
+    }
+    Err(io::Error::from(ErrorKind::Interrupted))
+}
+
+// Writes once, and again as long as a signal breaks the writing off.
+pub(crate) fn write_unbroken<W: Write>(stream: &mut W, piece: &[u8]) -> io::Result<usize>
+    ensures { IfOk result (λ n. n ≤ length piece.now) }
+{
+    for _ in 0..u64::MAX {
+        match stream.write(piece) {
+            Err(e) if e.kind() == ErrorKind::Interrupted => {}
+            written => return written,
+        }
+    }
+    Err(io::Error::from(ErrorKind::Interrupted))
+}
+
+/// Standard input. No more of it is taken than a call asks for.
 #[derive(Drop)]
 pub struct StdSource {
-    stream: BufReader<Stdin>,
+    stream: Stdin,
     faults: u64,
 }
 
@@ -89,12 +115,14 @@ impl Model for StdSource {
 }
 
 impl StdSource {
-    /// Standard input, of which no reading has failed.
-    pub fn new(rt: HostRuntime, alloc: Global) -> Result<Self, NoMemory>
-        ensures { IfOk result (λ source. source ≡ 0) }
+    /// Standard input, of which no reading has failed. It needs no memory, so it is always `Ok`.
+    pub fn new(rt: HostRuntime) -> Result<Self, NoMemory>
+        ensures { IsOkAnd result (λ source. source ≡ 0) }
     {
-        let stream = BufReader::new(alloc, rt.stdin()).map_err(|_| NoMemory)?;
-        Ok(StdSource { stream, faults: 0 })
+        Ok(StdSource {
+            stream: rt.stdin(),
+            faults: 0,
+        })
     }
 }
 
@@ -104,7 +132,7 @@ impl Source for StdSource {
     ghost faults = { λ s. s };
 
     fn read(&mut self, into: &mut [u8]) -> Result<usize, Failed> {
-        match self.stream.read(into) {
+        match read_unbroken(&mut self.stream, into) {
             Ok(n) => Ok(n),
             Err(_) => {
                 self.faults = self.faults.saturating_add(1);
@@ -165,8 +193,8 @@ impl Sink for StdSink {
 
     fn write(&mut self, piece: &[u8]) -> Result<usize, SinkFault> {
         let written = match &mut self.stream {
-            Stream::Output(stream) => stream.write(piece),
-            Stream::Errors(stream) => stream.write(piece),
+            Stream::Output(stream) => write_unbroken(stream, piece),
+            Stream::Errors(stream) => write_unbroken(stream, piece),
         };
         match written {
             Ok(0) | Err(_) => {

@@ -1,5 +1,7 @@
 // Each call once, and a table of calls that fail.
+ghost use Rattle.std.specs.Prelude.{◌≡◌, IfOk};
 
+use crate::standard::{read_unbroken, write_unbroken};
 use crate::{
     Failed, Folder, FolderFault, MemFile, MemFolder, MemSink, MemSource, Sink, SinkFault, Source,
     StdFolder, StdSink, StdSource,
@@ -7,6 +9,7 @@ use crate::{
 use gg_base::{Bytes, Name};
 use std::alloc::{AllocError, Global};
 use std::fs;
+use std::io::{self, ErrorKind, Read, Write};
 use std::test::Fail;
 
 // A file that a test writes and removes.
@@ -114,12 +117,68 @@ fn reads_real_files(rt: HostRuntime) -> Result<(), Fail> {
 
 #[test]
 fn reaches_the_standard_streams(rt: HostRuntime) -> Result<(), Fail> {
-    let mut source = StdSource::new(rt, rt.alloc()).ok().ok_or("no memory")?;
+    let mut source = StdSource::new(rt).ok().ok_or("no memory")?;
     let mut out = StdSink::out(rt).ok().ok_or("no memory")?;
     let mut report = StdSink::err(rt).ok().ok_or("no memory")?;
     let mut into = [0u8; 4];
     assert_eq!(rt; source.read(&mut into), Ok(0));
     assert_eq!(rt; out.write(b"\n"), Ok(1));
     assert_eq!(rt; report.write(b"\n"), Ok(1));
+    Ok(())
+}
+
+// A stream whose first calls a signal breaks off, and whose next is answered; then it fails.
+#[derive(Drop)]
+struct BrokenOff {
+    breaks: u32,
+    answered: bool,
+}
+
+impl BrokenOff {
+    fn next(&mut self) -> io::Result<usize>
+        ensures { IfOk result (λ n. n ≡ 0) }
+    {
+        if self.breaks > 0 {
+            self.breaks -= 1;
+            return Err(io::Error::from(ErrorKind::Interrupted));
+        }
+        if self.answered {
+            return Err(io::Error::from(ErrorKind::Other));
+        }
+        self.answered = true;
+        Ok(0)
+    }
+}
+
+impl Read for BrokenOff {
+    fn read(&mut self, _buf: &mut [u8]) -> io::Result<usize> {
+        self.next()
+    }
+}
+
+impl Write for BrokenOff {
+    fn write(&mut self, _buf: &[u8]) -> io::Result<usize> {
+        self.next()
+    }
+
+    fn flush(&mut self) -> io::Result<()> {
+        Ok(())
+    }
+}
+
+#[test]
+fn goes_on_behind_a_signal(rt: HostRuntime) -> Result<(), Fail> {
+    let mut stream = BrokenOff {
+        breaks: 3,
+        answered: false,
+    };
+    assert_eq!(rt; read_unbroken(&mut stream, &mut [0; 2]).ok(), Some(0));
+    assert_eq!(rt; read_unbroken(&mut stream, &mut [0; 2]).ok(), None);
+    let mut stream = BrokenOff {
+        breaks: 3,
+        answered: false,
+    };
+    assert_eq!(rt; write_unbroken(&mut stream, b"ab").ok(), Some(0));
+    assert_eq!(rt; write_unbroken(&mut stream, b"ab").ok(), None);
     Ok(())
 }

@@ -1,8 +1,6 @@
 // What is asked of a folder, a source and a sink.
-ghost use Rattle.std.specs.Prelude.{◌≡◌, ◌<◌, ◌≤◌, [], List, ℕ, Option, length, IfOk, OnErr, OnOk, IsErr, IsErrOf};
-ghost use Rattle.gg_outside.specs.Outside.{Content, Reads, OnlyName, GainsName, Takes, HandsOver, Rose};
-ghost use Rattle.gg_outside.specs.declared.faults.FolderFault.TheVariants as folder_faults;
-ghost use Rattle.gg_outside.specs.declared.faults.SinkFault.TheVariants as sink_faults;
+ghost use Rattle.std.specs.Prelude.{◌≡◌, ◌<◌, ◌≤◌, [], List, ℕ, Option, length, IfOk, OnErr, OnOk};
+ghost use Rattle.gg_outside.specs.Outside.{Content, Reads, Takes, HandsOver, failed_after, count_after_read, count_after_write};
 
 use crate::{Failed, FolderFault, SinkFault};
 
@@ -15,15 +13,14 @@ pub trait Folder {
     ghost failed: { Self → List (List ℕ) };
 
     /// Fills `into`, which is empty before, with a file of at most `limit` bytes. After a refusal it is empty again.
-    /// A missing file is `Failed`.
+    /// A missing file is `Failed`. At `Failed` the list of failed names gains this name, and at no other answer.
     fn read_whole(&mut self, name: &str, limit: u64, into: &mut Vec<u8>) -> Result<(), FolderFault>
         requires { into.old.items ≡ [] }
         ensures within { OnOk result (length into.new.items ≤ limit) }
         ensures told { Reads (holds self.old name.now) limit result into.new.items }
         ensures refused { OnErr result (into.new.items ≡ []) }
         ensures keeps { (n : List ℕ) → holds self.new n ≡ holds self.old n }
-        ensures names { OnlyName name.now (failed self.old) (failed self.new) }
-        ensures cause { IsErrOf result folder_faults.Failed → GainsName name.now (failed self.old) (failed self.new) };
+        ensures names { failed self.new ≡ failed_after (failed self.old) name.now result };
 }
 
 /// An input, read in order to its end.
@@ -34,13 +31,13 @@ pub trait Source {
     /// How often reading failed, up to the greatest value of 64 bits.
     ghost faults: { Self → ℕ };
 
-    /// Moves the next bytes to the front of `into` and answers how many. None are moved only at the end.
+    /// Moves the next bytes to the front of `into` and answers how many. None are moved only at the end. The count of faults
+    /// rises by one at a fault, and is else as it was.
     fn read(&mut self, into: &mut [u8]) -> Result<usize, Failed>
         requires { 0 < length into.old }
         ensures within { IfOk result (λ n. n ≤ length into.new) }
         ensures told { HandsOver (left self.old) (left self.new) result into.new }
-        ensures counts { faults self.old ≤ faults self.new }
-        ensures cause { IsErr result → Rose (faults self.old) (faults self.new) };
+        ensures counts { faults self.new ≡ count_after_read (faults self.old) result };
 }
 
 /// An output, written in order.
@@ -51,12 +48,12 @@ pub trait Sink {
     /// How often writing failed, up to the greatest value of 64 bits.
     ghost faults: { Self → ℕ };
 
-    /// Takes some bytes from the front of `piece`, one at least, and answers how many.
+    /// Takes some bytes from the front of `piece`, one at least, and answers how many. The count of faults rises by one at
+    /// `Failed`, and is else as it was.
     fn write(&mut self, piece: &[u8]) -> Result<usize, SinkFault>
         requires { 0 < length piece.now }
         ensures some { IfOk result (λ n. 0 < n) }
         ensures within { IfOk result (λ n. n ≤ length piece.now) }
         ensures takes { Takes (told self.old) (told self.new) result piece.now }
-        ensures counts { faults self.old ≤ faults self.new }
-        ensures cause { IsErrOf result sink_faults.Failed → Rose (faults self.old) (faults self.new) };
+        ensures counts { faults self.new ≡ count_after_write (faults self.old) result };
 }

@@ -1,17 +1,20 @@
 -- What holds of the command that was chosen holds of the one that the words say.
 use Rattle.std.proofs.Common.{◌≡◌, ℕ, List, codes, Bor, sym, subst}
 use Rattle.cmd_session.specs.declared.words.Command.{Command}
-use Rattle.cmd_session.specs.declared.words.Command.TheVariants.{First, Run, Meaning}
-use Rattle.cmd_session.specs.Words.{OnlyFirst, OnlyCounted, SaysOnly}
+use Rattle.cmd_session.specs.declared.words.Command.TheVariants.{First, Check, Run, Meaning}
+use Rattle.cmd_session.specs.Words.{OnlyNamed, OnlyCounted, SaysOnly}
 
-pub only_first : (words : List (List ℕ)) (command : Command) (source : Bor (List ℕ)) → SaysOnly words command → command ≡ First source → OnlyFirst words source.now
+pub only_first : (words : List (List ℕ)) (command : Command) (source : Bor (List ℕ)) → SaysOnly words command → command ≡ First source → OnlyNamed (codes "first") words source.now
 only_first words command source only is = (subst (SaysOnly words) is only).0
 
+pub only_check : (words : List (List ℕ)) (command : Command) (d : Bor (List ℕ)) → SaysOnly words command → command ≡ Check d → OnlyNamed (codes "check") words d.now
+only_check words command d only is = (subst (SaysOnly words) is only).1
+
 pub only_run : (words : List (List ℕ)) (command : Command) (text : Bor (List ℕ)) (count : ℕ) → SaysOnly words command → command ≡ Run text count → OnlyCounted (codes "run") words text.now count
-only_run words command text count only is = (subst (SaysOnly words) is only).1
+only_run words command text count only is = (subst (SaysOnly words) is only).2
 
 pub only_meaning : (words : List (List ℕ)) (command : Command) (source : Bor (List ℕ)) (count : ℕ) → SaysOnly words command → command ≡ Meaning source count → OnlyCounted (codes "meaning") words source.now count
-only_meaning words command source count only is = (subst (SaysOnly words) is only).2
+only_meaning words command source count only is = (subst (SaysOnly words) is only).3
 
 -- the name and the number are the only ones
 pub carried : (P : List ℕ → ℕ → Type 0) (name other : List ℕ) (count n : ℕ) → (other ≡ name) × (n ≡ count) → P name count → P other n

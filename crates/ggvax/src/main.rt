@@ -9,15 +9,20 @@ use cmd_session::Status;
 use gg_base::NoMemory;
 use gg_outside::{StdFolder, StdSink, StdSource};
 use std::env;
+use std::io::ErrorKind;
 use std::process::ExitCode;
 
-// The words behind the program's name; none where the system gives none.
+// The words behind the program's name; none where the system gives none, or one of them is no UTF-8.
 fn command_words(rt: HostRuntime) -> Result<Vec<String>, NoMemory> {
     let mut words = Vec::new(rt.alloc());
-    if let Ok(args) = env::args(&rt) {
-        for word in args.skip(1) {
-            words.push(word)?;
+    match env::args(&rt) {
+        Ok(args) => {
+            for word in args.skip(1) {
+                words.push(word)?;
+            }
         }
+        Err(e) if e.kind() == ErrorKind::OutOfMemory => return Err(NoMemory),
+        Err(_) => {}
     }
     Ok(words)
 }
@@ -26,7 +31,7 @@ fn run(rt: HostRuntime) -> Result<Status, NoMemory> {
     let alloc = rt.alloc();
     let words = command_words(rt)?;
     let mut folder = StdFolder::new(rt, alloc);
-    let mut input = StdSource::new(rt, alloc)?;
+    let mut input = StdSource::new(rt)?;
     let mut out = StdSink::out(rt)?;
     let mut report = StdSink::err(rt)?;
     Ok(top::ggvax(

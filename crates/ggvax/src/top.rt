@@ -3,15 +3,20 @@ ghost use Rattle.std.specs.Prelude.{◌≡◌, ◌+◌, ℕ, List};
 ghost use Rattle.gg_outside.specs.Outside.{OnlyName};
 ghost use Rattle.cmd_session.specs.Reading.{intake, TakesAtMost};
 ghost use Rattle.cmd_session.specs.Writing.{change, IsUntouched};
-ghost use Rattle.cmd_session.specs.Words.{spelled, SaysFirst, SaysRun, SaysMeaning, SaysNone};
+ghost use Rattle.cmd_session.specs.Words.{spelled, SaysFirst, SaysCheck, SaysRun, SaysMeaning, SaysNone};
 ghost use Rattle.cmd_session.specs.Lines.{usage_line};
 ghost use Rattle.cmd_session.specs.Telling.{IsRefused};
 ghost use Rattle.cmd_first.specs.Outcome.{Leaves as FirstLeaves, IsExact as FirstIsExact, call_of as first_call};
-ghost use Rattle.cmd_run.specs.Outcome.{Leaves as RunLeaves, call_of as run_call, input_limit};
-ghost use Rattle.cmd_run.specs.Exact.{IsExact as RunIsExact};
-ghost use Rattle.cmd_meaning.specs.Outcome.{Leaves as MeaningLeaves, call_of as meaning_call};
-ghost use Rattle.cmd_meaning.specs.Exact.{IsExact as MeaningIsExact};
+ghost use Rattle.cmd_files.specs.Outsides.{lookup, outside, FailsAtMost};
+ghost use Rattle.cmd_files.specs.Stages.{input_limit};
+ghost use Rattle.cmd_files.specs.Outcome.{call_of, Leaves};
+ghost use Rattle.cmd_files.specs.Exact.{IsExact};
+ghost use Rattle.cmd_check.specs.Outcome.{Leaves as CheckLeaves};
+ghost use Rattle.cmd_check.specs.Exact.{IsExact as CheckIsExact};
+ghost use Rattle.cmd_run.specs.Texts.{text_form, code_runner};
+ghost use Rattle.cmd_meaning.specs.Sources.{source_form, source_runner};
 
+use cmd_check::check_description;
 use cmd_first::first_source;
 use cmd_meaning::run_source;
 use cmd_run::run_text;
@@ -19,8 +24,8 @@ use cmd_session::{Command, Status, command_of, refuse};
 use gg_outside::{Folder, Sink, Source};
 use std::alloc::Global;
 
-/// The whole program: the command that the words say, or the line of the usage. Its commands are `first S`, `run A N`
-/// and `meaning S N`.
+/// The whole program: the command that the words say, or the line of the usage. Its commands are `check D`, `run A N`,
+/// `meaning S N` and `first S`.
 pub fn ggvax<F: Folder, I: Source, O: Sink, E: Sink>(
     alloc: Global,
     words: &[String],
@@ -39,25 +44,33 @@ pub fn ggvax<F: Folder, I: Source, O: Sink, E: Sink>(
         (F.failed folder.old) (F.failed folder.new)
         (change O.told O.faults out.old out.new) (change E.told E.faults report.old report.new)) }
 
+    // `check D`: the same of the machine description, of its tables and their line.
+    ensures check { (d : List ℕ) → SaysCheck (spelled words.now) d
+        → CheckLeaves result d (outside (lookup F.holds F.failed folder.old folder.new)
+        (change O.told O.faults out.old out.new) (change E.told E.faults report.old report.new)) }
+    ensures check_exact { (d : List ℕ) → SaysCheck (spelled words.now) d
+        → CheckIsExact result d (outside (lookup F.holds F.failed folder.old folder.new)
+        (change O.told O.faults out.old out.new) (change E.told E.faults report.old report.new)) }
+
     // `run A N`: the same of the text, of its code's run with N steps on the input, and of what was taken of the input.
     ensures run { (text : List ℕ) (count : ℕ) → SaysRun (spelled words.now) text count
-        → RunLeaves result (run_call text count (F.holds folder.old text)
-        (F.failed folder.old) (F.failed folder.new) (intake I.left I.faults input.old input.new)
-        (change O.told O.faults out.old out.new) (change E.told E.faults report.old report.new)) }
+        → Leaves text_form code_runner result (call_of text count (intake I.left I.faults input.old input.new)
+        (outside (lookup F.holds F.failed folder.old folder.new)
+        (change O.told O.faults out.old out.new) (change E.told E.faults report.old report.new))) }
     ensures run_exact { (text : List ℕ) (count : ℕ) → SaysRun (spelled words.now) text count
-        → RunIsExact result (run_call text count (F.holds folder.old text)
-        (F.failed folder.old) (F.failed folder.new) (intake I.left I.faults input.old input.new)
-        (change O.told O.faults out.old out.new) (change E.told E.faults report.old report.new)) }
+        → IsExact text_form code_runner result (call_of text count (intake I.left I.faults input.old input.new)
+        (outside (lookup F.holds F.failed folder.old folder.new)
+        (change O.told O.faults out.old out.new) (change E.told E.faults report.old report.new))) }
 
     // `meaning S N`: the same of the source, of its run by its meaning with at most N counted turns and calls, and of the input.
     ensures meaning { (source : List ℕ) (count : ℕ) → SaysMeaning (spelled words.now) source count
-        → MeaningLeaves result (meaning_call source count (F.holds folder.old source)
-        (F.failed folder.old) (F.failed folder.new) (intake I.left I.faults input.old input.new)
-        (change O.told O.faults out.old out.new) (change E.told E.faults report.old report.new)) }
+        → Leaves source_form source_runner result (call_of source count (intake I.left I.faults input.old input.new)
+        (outside (lookup F.holds F.failed folder.old folder.new)
+        (change O.told O.faults out.old out.new) (change E.told E.faults report.old report.new))) }
     ensures meaning_exact { (source : List ℕ) (count : ℕ) → SaysMeaning (spelled words.now) source count
-        → MeaningIsExact result (meaning_call source count (F.holds folder.old source)
-        (F.failed folder.old) (F.failed folder.new) (intake I.left I.faults input.old input.new)
-        (change O.told O.faults out.old out.new) (change E.told E.faults report.old report.new)) }
+        → IsExact source_form source_runner result (call_of source count (intake I.left I.faults input.old input.new)
+        (outside (lookup F.holds F.failed folder.old folder.new)
+        (change O.told O.faults out.old out.new) (change E.told E.faults report.old report.new))) }
 
     // Words that say no command, and these alone, are answered by the usage; nothing else is touched.
     ensures usage { result ≡ Status.Usage → SaysNone (spelled words.now) }
@@ -70,24 +83,28 @@ pub fn ggvax<F: Folder, I: Source, O: Sink, E: Sink>(
     // limit at most.
     ensures first_names { (source : List ℕ) → SaysFirst (spelled words.now) source
         → OnlyName source (F.failed folder.old) (F.failed folder.new) }
+    ensures check_names { (d : List ℕ) → SaysCheck (spelled words.now) d
+        → FailsAtMost d (lookup F.holds F.failed folder.old folder.new) }
     ensures run_names { (text : List ℕ) (count : ℕ) → SaysRun (spelled words.now) text count
-        → OnlyName text (F.failed folder.old) (F.failed folder.new) }
+        → FailsAtMost text (lookup F.holds F.failed folder.old folder.new) }
     ensures meaning_names { (source : List ℕ) (count : ℕ) → SaysMeaning (spelled words.now) source count
-        → OnlyName source (F.failed folder.old) (F.failed folder.new) }
+        → FailsAtMost source (lookup F.holds F.failed folder.old folder.new) }
     ensures holds { (n : List ℕ) → F.holds folder.new n ≡ F.holds folder.old n }
     ensures first_input { (source : List ℕ) → SaysFirst (spelled words.now) source → input.new ≡ input.old }
+    ensures check_input { (d : List ℕ) → SaysCheck (spelled words.now) d → input.new ≡ input.old }
     ensures usage_input { SaysNone (spelled words.now) → input.new ≡ input.old }
     ensures taken { TakesAtMost (input_limit + 1) (intake I.left I.faults input.old input.new) }
 {
     let Some(command) = command_of(words) else {
         return refuse(
             report,
-            b"ggvax: usage: first S | run A N | meaning S N\n",
+            b"ggvax: usage: check D | run A N | meaning S N | first S\n",
             Status::Usage,
         );
     };
     match command {
         Command::First(source) => first_source(alloc, source, folder, out, report),
+        Command::Check(description) => check_description(alloc, description, folder, out, report),
         Command::Run(text, count) => run_text(alloc, text, count, folder, input, out, report),
         Command::Meaning(source, count) => {
             run_source(alloc, source, count, folder, input, out, report)

@@ -72,7 +72,7 @@ fn line(alloc: Global, bytes: &[u8]) -> Result<String, NoMemory>
 // Whether the input was read and its lines written.
 fn run(rt: HostRuntime) -> Result<bool, NoMemory> {
     let alloc = rt.alloc();
-    let mut input = StdSource::new(rt, alloc)?;
+    let mut input = StdSource::new(rt)?;
     let line = match read_all(alloc, &mut input, MAX_BYTES) {
         Ok(bytes) => line(alloc, bytes.as_slice())?,
         Err(InputFault::TooLong) => String::from_str(alloc, "the description is too long\n")?,

@@ -7,7 +7,7 @@ abbrev pub invariant-loop-bytes : goal.invariant-loop-bytes
 invariant-loop-bytes g l = record {
   room : vec_len l.piece ≡ 65536;
   within : vec_len l.bytes ≤ l.limit;
-  counts : g.I.Source.faults l.initial.input ≤ g.I.Source.faults l.input;
+  unbroken : g.I.Source.faults l.input ≡ g.I.Source.faults l.initial.input;
   took : Loses (g.I.Source.left l.initial.input) (g.I.Source.left l.input) l.bytes.items;
 }
 

@@ -1,4 +1,4 @@
-use Rattle.std.proofs.Common.{◌∙◌, arith}
+use Rattle.std.proofs.Common.{◌∙◌}
 use Rattle.cmd_session.proofs.Runs.{gave, wrote, has_more}
 use Rattle.cmd_session.proofs.running.write_run.Goals as goal
 
@@ -12,7 +12,7 @@ loop-byte-preserved-then-len-ge-PIECE g c = record {
   stands =
       wrote _ _ _ _ _ _ _ _ (c.as_slice.ensures.value ∙ c.in_ok-push-in-Ok-Wrote.ensures.items) c.clear.ensures.items c.in_ok-write_all-in-Ok-Wrote.ensures.all
       (gave _ _ _ _ _ _ _ (rw c.in-Ok-Wrote.field-0-is at c.in-Ok-Wrote.ensures.passes) c.loop-byte.invariant.stands);
-  counts = omega arith;
+  quiet = c.in_ok-write_all-in-Ok-Wrote.ensures.counts ∙ c.loop-byte.invariant.quiet;
 }
 
 pub returns-in_err-write_all-in-Ok-Over-clause-front : goal.returns-in_err-write_all-in-Ok-Over-clause-front

@@ -1,0 +1,41 @@
+-- Machine descriptions in files, and how one that has no tables is told.
+use Rattle.std.specs.Prelude.{◌≡◌, ℕ, List}
+use Rattle.cmd_session.specs.declared.status.Status.{Status}
+use Rattle.cmd_session.specs.declared.status.Status.TheVariants as statuses
+use Rattle.cmd_session.specs.Writing.{Change, Reports}
+use Rattle.cmd_session.specs.Telling.{IsStarved}
+use Rattle.cmd_files.specs.Forms.{Form, Holds}
+use Rattle.cmd_files.specs.Outsides.{Lookup, IsUnfailed}
+use Rattle.cmd_files.specs.Stages.{FileRefused}
+use Rattle.md_reader.specs.declared.faults.DescKind.{DescKind}
+use Rattle.md_reader.specs.declared.faults.DescFault.TheVariants as faults
+use Rattle.md_reader.specs.State.{Content}
+use Rattle.md_reader.specs.Desc.{Desc}
+use Rattle.md_reader.specs.First.{IsFirst}
+use Rattle.lr_tables.specs.Promises.{HasTooManySets}
+use Rattle.cmd_check.specs.Lines.{wrong_line, full_line}
+
+-- the longest description
+abbrev pub description_limit : ℕ
+description_limit = 262144
+
+-- the line names the first wrong line of the bytes, and what is wrong there
+pub record NamesFirstWrong (bytes line : List ℕ) : Type 0 where
+  pub number : ℕ
+  pub kind : DescKind
+  pub first : IsFirst bytes (faults.Line number kind)
+  pub named : line ≡ wrong_line number kind
+
+-- a file is a machine description
+abbrev pub description_form : Form Content
+description_form = record { limit = description_limit; reads = Desc; refuses = NamesFirstWrong; status = statuses.DescRefused; of_files = tt }
+
+-- no tables were built of a description
+pub data BuildRefused (d : Content) (status : Status) (report : Change) : Type 0 where
+  TooMany : (is : status ≡ statuses.Full) (many : HasTooManySets d) (told : Reports report full_line) → BuildRefused d status report
+  StarvedBuild : (starved : IsStarved status report) → BuildRefused d status report
+
+-- the file of that name was not read as a description, or its description has no tables
+pub data TablesRefused (name : List ℕ) (folder : Lookup) (status : Status) (report : Change) : Type 0 where
+  NotRead : (refused : FileRefused description_form name folder status report) → TablesRefused name folder status report
+  NotBuilt : (d : Content) (holds : Holds description_form (folder.holds name) d) (unfailed : IsUnfailed folder) (refused : BuildRefused d status report) → TablesRefused name folder status report

@@ -1,0 +1,62 @@
+// The command `check D`.
+ghost use Rattle.std.specs.Prelude.{◌≡◌, ℕ, List};
+ghost use Rattle.cmd_session.specs.Writing.{change};
+ghost use Rattle.cmd_files.specs.Outsides.{lookup, outside, FailsAtMost};
+ghost use Rattle.cmd_check.specs.Outcome.{Leaves};
+ghost use Rattle.cmd_check.specs.Exact.{IsExact};
+
+use crate::lines::built_line;
+use crate::tables::read_tables;
+use cmd_files::write_out;
+use cmd_session::{Status, no_memory};
+use gg_base::NoMemory;
+use gg_outside::{Folder, Sink};
+use std::alloc::Global;
+
+// The command, with what each of its statuses says.
+fn read_and_tell<F: Folder, O: Sink, E: Sink>(
+    alloc: Global,
+    name: &str,
+    folder: &mut F,
+    out: &mut O,
+    report: &mut E,
+) -> Status
+    ensures leaves { Leaves result name.now (outside (lookup F.holds F.failed folder.old folder.new)
+        (change O.told O.faults out.old out.new) (change E.told E.faults report.old report.new)) }
+    ensures names { FailsAtMost name.now (lookup F.holds F.failed folder.old folder.new) }
+    ensures holds { (n : List ℕ) → F.holds folder.new n ≡ F.holds folder.old n }
+{
+    let tables = match read_tables(alloc, folder, name, report) {
+        Ok(tables) => tables,
+        Err(status) => return status,
+    };
+    match built_line(alloc, &tables) {
+        Ok(line) => match write_out(out, line.as_slice(), report) {
+            Ok(()) => Status::Done,
+            Err(status) => status,
+        },
+        Err(NoMemory) => no_memory(report),
+    }
+}
+
+/// The command `check D`: reads the machine description `name` and builds its tables. Then it writes to `out` how many rules
+/// the description has and how many states its tables. A refusal writes one line to `report`. Nothing of the input is taken.
+pub fn check_description<F: Folder, O: Sink, E: Sink>(
+    alloc: Global,
+    name: &str,
+    folder: &mut F,
+    out: &mut O,
+    report: &mut E,
+) -> Status
+    // What each status says of the file, of its tables, and of what both outputs gained.
+    ensures leaves { Leaves result name.now (outside (lookup F.holds F.failed folder.old folder.new)
+        (change O.told O.faults out.old out.new) (change E.told E.faults report.old report.new)) }
+    // And that each comes where its cause is there, but for counted faults and want of memory.
+    ensures exact { IsExact result name.now (outside (lookup F.holds F.failed folder.old folder.new)
+        (change O.told O.faults out.old out.new) (change E.told E.faults report.old report.new)) }
+    // The folder is asked for that name alone, and stays as it was.
+    ensures names { FailsAtMost name.now (lookup F.holds F.failed folder.old folder.new) }
+    ensures holds { (n : List ℕ) → F.holds folder.new n ≡ F.holds folder.old n }
+{
+    read_and_tell(alloc, name, folder, out, report)
+}

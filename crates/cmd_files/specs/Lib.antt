@@ -1,0 +1,6 @@
+pub mod Forms
+pub mod Refusals
+pub mod Outsides
+pub mod Stages
+pub mod Outcome
+pub mod Exact
