@@ -15,4 +15,3 @@ mod store;
 pub use flow::Flow;
 pub use run::{SourceRun, tasks_mean};
 pub use store::Spot;
-

@@ -7,4 +7,3 @@ pub mod statement;
 
 pub use program::{Program, Routine};
 pub use statement::{Action, Declaration};
-

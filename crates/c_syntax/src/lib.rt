@@ -12,4 +12,3 @@ mod units;
 pub use c_phrases::{Ast, operator, tree};
 pub use fault::SyntaxFault;
 pub use units::parse;
-

@@ -14,4 +14,3 @@ pub use marks::Mark;
 pub use reader::{place_of, tokens};
 pub use token::{Spanned, Token, TokenFault, TokenKind};
 pub use words::Key;
-

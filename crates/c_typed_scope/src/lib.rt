@@ -12,4 +12,3 @@ pub use contents::Contents;
 pub use data::Data;
 pub use entry::{Entry, Signature};
 pub use scope::Blocks;
-

@@ -11,4 +11,3 @@ pub use typed::{
     ArithmeticOperator, Callee, Direction, Expression, Moment, Place, UnaryOperator, Variable,
 };
 pub use types::{CType, Integer, Types};
-

@@ -20,4 +20,3 @@ pub use token::{AttKind, Sort, Tok};
 pub use tree::{Att, Leaf, Tree, linear, show_tree};
 pub use typing::{trees_grow_back, typed};
 pub use valid::args_of;
-

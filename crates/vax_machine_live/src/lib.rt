@@ -6,4 +6,3 @@ pub mod frames;
 
 pub use frame::Frame;
 pub use frames::Frames;
-

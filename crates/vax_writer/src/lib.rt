@@ -6,4 +6,3 @@ mod operand;
 pub mod writer;
 
 pub use writer::write_code;
-
