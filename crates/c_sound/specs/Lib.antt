@@ -1,3 +1,4 @@
 pub mod Fits
 pub mod Stands
+pub mod Labels
 pub mod Sound

@@ -1,5 +1,5 @@
 -- What typing guarantees of a program.
-use Rattle.std.specs.Prelude.{◌≡◌, ℕ, ◌<◌, ◌≤◌, ◌^◌, List, [], length, codes, Some, false, true, slice_get, IsTrue}
+use Rattle.std.specs.Prelude.{◌≡◌, ℕ, ◌<◌, ◌≤◌, ◌^◌, List, [], length, map, codes, Some, false, true, slice_get, IsTrue}
 use Rattle.std.specs.Str.{bytes_eq}
 use Rattle.std.specs.List.{All}
 use Rattle.tree_core.specs.declared.program.Object.{Object}
@@ -7,6 +7,7 @@ use Rattle.tree_core.specs.Valid.{objects_lie, LinksLie}
 use Rattle.c_program.specs.Programs.{ARoutine, AProgram}
 use Rattle.c_sound.specs.Fits.{AreBytes, FitsActs, no_local}
 use Rattle.c_sound.specs.Stands.{IsThere, Takes, StandsActs}
+use Rattle.c_sound.specs.Labels.{AreLabelled}
 
 -- a function called main
 abbrev pub IsMain : List ℕ → Type 0
@@ -39,3 +40,5 @@ pub record IsSound (p : AProgram) : Type 0 where
   pub links : All (LinksLie (length p.objects)) p.objects
   pub addresses : (n : ℕ) (o : Object) → slice_get p.objects n ≡ Some o → o.address < 2 ^ 32
   pub contents : HoldBytes p.objects
+  -- their labels differ from each other and from those of functions and services, and links hold addresses
+  pub labels : AreLabelled p.objects (map (λ (g : ARoutine). g.name) p.routines)

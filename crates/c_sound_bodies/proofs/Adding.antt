@@ -2,6 +2,8 @@
 use Rattle.std.proofs.Common.{◌≡◌, ℕ, ◌+◌, ◌*◌, Bool, true, false, List, [], ◌∷◌, ◌++◌, length, Option, Some, None, Result, Ok, Err, refl, sym, ap, subst, ◌∙◌, append_assoc, append-nil}
 use Rattle.std.specs.Prelude.{if◌then◌else◌}
 use Rattle.tree_core.specs.declared.program.Object.{Object}
+use Rattle.c_tokens.specs.declared.token.Token.{Token}
+use Rattle.c_tokens.specs.declared.token.Token.TheVariants as token
 use Rattle.c_phrases.specs.declared.operator.Spec.{Spec}
 use Rattle.c_phrases.specs.Phrases.{AnExp, SomeExps, no_exps, exps}
 use Rattle.c_phrases.specs.Units.{AnInit, value, elements, ADeclarator}
@@ -24,6 +26,8 @@ use Rattle.c_typed_law.specs.Objects.{AreLaid, HoldsAtFirst, IsFilled, IsPlainOb
 use Rattle.c_typed_law.proofs.Values.{length_means}
 use Rattle.c_typed_law.proofs.Objects.{object_means}
 use Rattle.c_typed_law.proofs.Statements.{items_mean}
+use Rattle.c_typed_words.specs.Phrases.{ExpOf, ExpsOf, PartOf, InitOf}
+use Rattle.c_typed_words.proofs.Any.{AnyToken, any_exp, any_part, any_init, any_items}
 use Rattle.c_sound_bodies.specs.Claim.{Adds, BodiesAdd, ObjectsAdd, LengthsAdd}
 use Rattle.c_sound_bodies.proofs.Growth.{Laying, exp_lays, Added, placed_adds}
 use Rattle.c_sound_bodies.proofs.Lengths.{count_stays}
@@ -55,11 +59,11 @@ literal_by true m size a t e h = unchanged size a t (cc)
 literal_by false (Ok r) size a t e h = one_more size a t r (h r refl) (cc)
 literal_by false (Err f) size a t e h = absurd (cc)
 
-literal_adds : (at : ℕ) (bytes : List ℕ) (a : Area) (t : AnExpression × Area) → literal at bytes a ≡ Ok t → Adds a t.1
+literal_adds : (at : ℕ) (bytes : List ℕ) (a : Area) (t : AnExpression × Area) → AnyToken (token.Str bytes) → literal at bytes a ≡ Ok t → Adds a t.1
 unfolding literal
-literal_adds at bytes a t e = literal_by a.measuring _ (length bytes + 1) a t e (λ r is. placed_adds _ _ _ _ _ a r is)
+literal_adds at bytes a t w e = literal_by a.measuring _ (length bytes + 1) a t e (λ r is. placed_adds _ _ _ _ _ a r is)
 
-pub adding : Laying Adds
+pub adding : Laying AnyToken Adds
 adding = record { same = adds_none; further = adds_further; literal = literal_adds }
 
 -- what the last object holds at first, and what is behind it
@@ -79,36 +83,36 @@ filled_adds f n a b c o number last h =
 
 module _ (names : List (List ℕ × Entry)) (signatures : List Signature) where
   length_adds : (scope : Scope) (e : AnExp) (a : Area) (r : ℕ × Area) → IsLength names signatures scope e a r → Adds a r.1
-  length_adds scope e a r j = let k = j.whole in rw (k.whole) (exp_lays Adds adding names signatures scope e a j.part j.typed)
+  length_adds scope e a r j = let k = j.whole in rw (k.whole) (exp_lays AnyToken Adds adding names signatures scope e (any_exp e) a j.part j.typed)
 
   -- the literals in what an object holds at first, for any such relation
-  module _ (R : Area → Area → Type 0) (l : Laying R) where
-    element_lays : (scope : Scope) (t : CType) (e : AnExp) (s r : Filled × Area) → IsElement names signatures scope t e s r → R s.1 r.1
-    element_lays scope t e s r j = let k = j.whole in rw (k.whole) (exp_lays R l names signatures scope e s.1 j.part j.typed)
+  module _ (T : Token → Type 0) (R : Area → Area → Type 0) (l : Laying T R) where
+    element_lays : (scope : Scope) (t : CType) (e : AnExp) → ExpOf T e → (s r : Filled × Area) → IsElement names signatures scope t e s r → R s.1 r.1
+    element_lays scope t e w s r j = let k = j.whole in rw (k.whole) (exp_lays T R l names signatures scope e w s.1 j.part j.typed)
 
-    elements_lay : (scope : Scope) (t : CType) (es : SomeExps) (s r : Filled × Area) → AreElements names signatures scope t es s r →
+    elements_lay : (scope : Scope) (t : CType) (es : SomeExps) → ExpsOf T es → (s r : Filled × Area) → AreElements names signatures scope t es s r →
         R s.1 r.1
-    elements_lay scope t no_exps s r j = rw j (l.same s.1)
-    elements_lay scope t (exps e es) s r j =
-        l.further s.1 j.part.1 r.1 (element_lays scope t e s j.part j.typed) (elements_lay scope t es j.part r j.whole)
+    elements_lay scope t no_exps w s r j = rw j (l.same s.1)
+    elements_lay scope t (exps e es) w s r j =
+        l.further s.1 j.part.1 r.1 (element_lays scope t e w.0 s j.part j.typed) (elements_lay scope t es w.1 j.part r j.whole)
 
-    pub contents_lay : (t : CType) (is_array : Bool) (i : Option AnInit) (scope : Scope) (a : Area) (r : Filled × Area) →
+    pub contents_lay : (t : CType) (is_array : Bool) (i : Option AnInit) → InitOf T i → (scope : Scope) (a : Area) (r : Filled × Area) →
         HoldsAtFirst names signatures t is_array i scope a r → R a r.1
-    contents_lay t is_array None scope a r j = rw j (l.same a)
-    contents_lay t is_array (Some (elements es comma)) scope a r j = elements_lay scope t es _ r j
-    contents_lay t true (Some (value e)) scope a r j = rw j (l.same a)
-    contents_lay t false (Some (value e)) scope a r j = element_lays scope t e _ r j
+    contents_lay t is_array None w scope a r j = rw j (l.same a)
+    contents_lay t is_array (Some (elements es comma)) w scope a r j = elements_lay scope t es w _ r j
+    contents_lay t true (Some (value e)) w scope a r j = rw j (l.same a)
+    contents_lay t false (Some (value e)) w scope a r j = element_lays scope t e w _ r j
 
-    pub literals_lay : (e : Option AnExp) (scope : Scope) (a b : Area) → AreLaid names signatures e scope a b → R a b
-    literals_lay None scope a b j = rw j (l.same a)
-    literals_lay (Some e) scope a b j = rw (j.whole) (exp_lays R l names signatures scope e a j.part j.typed)
+    pub literals_lay : (e : Option AnExp) → PartOf T e → (scope : Scope) (a b : Area) → AreLaid names signatures e scope a b → R a b
+    literals_lay None w scope a b j = rw j (l.same a)
+    literals_lay (Some e) w scope a b j = rw (j.whole) (exp_lays T R l names signatures scope e w a j.part j.typed)
 
   object_filled : (n size : ℕ) (t : CType) (is_array : Bool) (d : ADeclarator) (e : Entry) (a b : Area) (o : Object) (s : State)
       (r : ℕ × State) → n ≡ length a.objects → b.objects ≡ a.objects ++ o ∷ [] → Adds b s.area →
       IsFilled names signatures n size t is_array d e s r → Adds a r.1.area
   object_filled n size t is_array d e a b o s r number last h j =
       let i = j.typed in
-      let held = contents_lay Adds adding t is_array (init_in d.init) (with_name d.name e s.scope) s.area i.part i.typed in
+      let held = contents_lay AnyToken Adds adding t is_array (init_in d.init) (any_init (init_in d.init)) (with_name d.name e s.scope) s.area i.part i.typed in
       let is : r.1.area ≡ j.part = ap (λ (z : ℕ × State). z.1.area) (j.whole) in
       rw (is, i.whole) (filled_adds (filled_to size i.part.0) n a b i.part.1 o number last (adds_further b s.area i.part.1 h held))
 
@@ -125,7 +129,7 @@ module _ (names : List (List ℕ × Entry)) (signatures : List Signature) where
       let k = j.whole in
       let h = laid_adds is_static d.at d.name (size_of t) (n * size_of t) s.area j.part j.typed in
       object_filled j.part.0 (n * size_of t) t true d (array_entry (pointer_to t) (variable_of is_static j.part.0) (n * size_of t))
-      s.area j.part.1 h.last (with_area k.part s) r h.number h.is (literals_lay Adds adding e s.scope j.part.1 k.part k.typed) k.whole
+      s.area j.part.1 h.last (with_area k.part s) r h.number h.is (literals_lay AnyToken Adds adding e (any_part e) s.scope j.part.1 k.part k.typed) k.whole
 
   array_adds : (is_static : Bool) (t : CType) (d : ADeclarator) (e : Option AnExp) (s : State) (r : ℕ × State) →
       s.area.measuring ≡ false → IsArrayObject names signatures is_static t d e s r → Adds s.area r.1.area
@@ -154,7 +158,7 @@ objects_add names signatures is_static spec d n s r free e =
 
 pub bodies_add : BodiesAdd
 bodies_add names signatures result looping row parameters s r acts o e =
-    items_lay Adds adding names signatures parameters
-    (λ is_static spec d m q order j. object_adds names signatures is_static spec d m q order.laying j)
-    result looping row s (acts, r) (order_any no_local parameters s o)
+    items_lay AnyToken Adds adding names signatures parameters
+    (λ spec d m q w order j. object_adds names signatures true spec d m q order.laying j)
+    result looping row (any_items row) s (acts, r) (order_any no_local parameters s o)
     ((items_mean names signatures result looping row s).found (acts, r) e)

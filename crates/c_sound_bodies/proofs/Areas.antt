@@ -1,5 +1,6 @@
 -- A relation between data areas that holds across literals and objects holds across statements.
 use Rattle.std.proofs.Common.{ℕ, Bool, true, List, [], ◌∷◌, ◌++◌, length, Option, Some, None, arith}
+use Rattle.c_tokens.specs.declared.token.Token.{Token}
 use Rattle.c_phrases.specs.declared.operator.Spec.{Spec}
 use Rattle.c_phrases.specs.declared.operator.Storage.{Storage}
 use Rattle.c_phrases.specs.declared.operator.Storage.TheVariants as storages
@@ -18,6 +19,7 @@ use Rattle.c_typed_definition.specs.Declarations.{State, with_local}
 use Rattle.c_typed_definition.specs.Statements.{entered}
 use Rattle.c_typed_law.specs.Objects.{IsObject, IsBegun, IsAutomatic, IsLocal, AreLocals}
 use Rattle.c_typed_law.specs.Statements.{IsFull, IsCondition, IsPart, IsTurn, IsReturn, IsStatement, AreItems}
+use Rattle.c_typed_words.specs.Phrases.{ExpOf, PartOf, InitOf, DeclaratorOf, DeclaratorsOf, StatementOf, ItemsOf}
 use Rattle.c_sound_bodies.specs.Claim.{InOrder}
 use Rattle.c_sound_bodies.proofs.Names.{scope_more, known_more}
 use Rattle.c_sound_bodies.proofs.Growth.{Laying, exp_lays}
@@ -36,117 +38,117 @@ order_any scope parameters s o = record {
   laying = o.laying;
 }
 
--- what holds across each declaration of an object, where what is in scope is in order
-abbrev pub LaysObjects : (R : Area → Area → Type 0) (names : List (List ℕ × Entry)) (signatures : List Signature) (parameters : ℕ) → Type 0
-LaysObjects R names signatures parameters =
-    (is_static : Bool) (spec : Spec) (d : ADeclarator) (s : State) (r : ℕ × State) →
-    InOrder any_local parameters s → IsObject names signatures is_static spec d s r → R s.area r.1.area
+-- what holds across each declaration of a static local, where what is in scope is in order
+abbrev pub LaysObjects : (T : Token → Type 0) (R : Area → Area → Type 0) (names : List (List ℕ × Entry)) (signatures : List Signature) (parameters : ℕ) → Type 0
+LaysObjects T R names signatures parameters =
+    (spec : Spec) (d : ADeclarator) (s : State) (r : ℕ × State) → DeclaratorOf T d →
+    InOrder any_local parameters s → IsObject names signatures true spec d s r → R s.area r.1.area
 
-module _ (R : Area → Area → Type 0) (l : Laying R) (names : List (List ℕ × Entry)) (signatures : List Signature) (parameters : ℕ)
-    (object : LaysObjects R names signatures parameters) where
-  full_lays : (e : AnExp) (s : State) (r : AnExpression × State) → IsFull names signatures e s r → R s.area r.1.area
-  full_lays e s r j = rw (j.whole) (exp_lays R l names signatures s.scope e s.area j.part j.typed)
+module _ (T : Token → Type 0) (R : Area → Area → Type 0) (l : Laying T R) (names : List (List ℕ × Entry)) (signatures : List Signature) (parameters : ℕ)
+    (object : LaysObjects T R names signatures parameters) where
+  full_lays : (e : AnExp) → ExpOf T e → (s : State) (r : AnExpression × State) → IsFull names signatures e s r → R s.area r.1.area
+  full_lays e w s r j = rw (j.whole) (exp_lays T R l names signatures s.scope e w s.area j.part j.typed)
 
-  condition_lays : (e : AnExp) (s : State) (r : AnExpression × State) → IsCondition names signatures e s r → R s.area r.1.area
-  condition_lays e s r j = let k = j.whole in rw (k.whole) (full_lays e s j.part j.typed)
+  condition_lays : (e : AnExp) → ExpOf T e → (s : State) (r : AnExpression × State) → IsCondition names signatures e s r → R s.area r.1.area
+  condition_lays e w s r j = let k = j.whole in rw (k.whole) (full_lays e w s j.part j.typed)
 
-  part_lays : (e : Option AnExp) (s : State) (r : Option AnExpression × State) → IsPart names signatures e s r → R s.area r.1.area
-  part_lays None s r j = rw j (l.same s.area)
-  part_lays (Some e) s r j = rw (j.whole) (full_lays e s j.part j.typed)
+  part_lays : (e : Option AnExp) → PartOf T e → (s : State) (r : Option AnExpression × State) → IsPart names signatures e s r → R s.area r.1.area
+  part_lays None w s r j = rw j (l.same s.area)
+  part_lays (Some e) w s r j = rw (j.whole) (full_lays e w s j.part j.typed)
 
-  turn_lays : (e : Option AnExp) (s : State) (r : Option AnExpression × State) → IsTurn names signatures e s r → R s.area r.1.area
-  turn_lays None s r j = rw j (l.same s.area)
-  turn_lays (Some e) s r j = rw (j.whole) (condition_lays e s j.part j.typed)
+  turn_lays : (e : Option AnExp) → PartOf T e → (s : State) (r : Option AnExpression × State) → IsTurn names signatures e s r → R s.area r.1.area
+  turn_lays None w s r j = rw j (l.same s.area)
+  turn_lays (Some e) w s r j = rw (j.whole) (condition_lays e w s j.part j.typed)
 
-  begun_lays : (t : CType) (n : ℕ) (i : Option AnInit) (s : State) (r : ADeclaration × State) → IsBegun names signatures t n i s r →
+  begun_lays : (t : CType) (n : ℕ) (i : Option AnInit) → InitOf T i → (s : State) (r : ADeclaration × State) → IsBegun names signatures t n i s r →
       R s.area r.1.area
-  begun_lays t n None s r j = rw j (l.same s.area)
-  begun_lays t n (Some (elements es comma)) s r j = rw j (l.same s.area)
-  begun_lays t n (Some (value e)) s r j = let k = j.whole in rw (k.whole) (exp_lays R l names signatures s.scope e s.area j.part j.typed)
+  begun_lays t n None w s r j = rw j (l.same s.area)
+  begun_lays t n (Some (elements es comma)) w s r j = rw j (l.same s.area)
+  begun_lays t n (Some (value e)) w s r j = let k = j.whole in rw (k.whole) (exp_lays T R l names signatures s.scope e w s.area j.part j.typed)
 
-  automatic_lays : (spec : Spec) (d : ADeclarator) (s : State) (r : ADeclaration × State) → IsAutomatic names signatures spec d s r →
+  automatic_lays : (spec : Spec) (d : ADeclarator) → DeclaratorOf T d → (s : State) (r : ADeclaration × State) → IsAutomatic names signatures spec d s r →
       R s.area r.1.area
-  automatic_lays spec d s r j =
-      begun_lays (written spec d.stars) (length s.locals) (init_in d.init) (with_local (written spec d.stars) d.name s) r j.whole
+  automatic_lays spec d w s r j =
+      begun_lays (written spec d.stars) (length s.locals) (init_in d.init) w.2 (with_local (written spec d.stars) d.name s) r j.whole
 
-  local_lays : (storage : Storage) (spec : Spec) (d : ADeclarator) (s : State) (r : ADeclaration × State) →
+  local_lays : (storage : Storage) (spec : Spec) (d : ADeclarator) → DeclaratorOf T d → (s : State) (r : ADeclaration × State) →
       InOrder any_local parameters s → IsLocal names signatures storage spec d s r → R s.area r.1.area
-  local_lays storages.Automatic spec d s r o j = automatic_lays spec d s r j
-  local_lays (storages.Register at) spec d s r o j = automatic_lays spec d s r j
-  local_lays (storages.Static at) spec d s r o j = rw (j.whole) (object true spec d s j.part o j.typed)
+  local_lays storages.Automatic spec d w s r o j = automatic_lays spec d w s r j
+  local_lays (storages.Register at) spec d w s r o j = automatic_lays spec d w s r j
+  local_lays (storages.Static at) spec d w s r o j = rw (j.whole) (object spec d s j.part w o j.typed)
 
-  locals_lay : (storage : Storage) (spec : Spec) (ds : List ADeclarator) (done : List ADeclaration) (s : State)
+  locals_lay : (storage : Storage) (spec : Spec) (ds : List ADeclarator) → DeclaratorsOf T ds → (done : List ADeclaration) (s : State)
       (r : List ADeclaration × State) → InOrder any_local parameters s → AreLocals names signatures storage spec ds done s r →
       R s.area r.1.area
-  locals_lay storage spec [] done s r o j = rw j (l.same s.area)
-  locals_lay storage spec (d ∷ ds) done s r o j =
+  locals_lay storage spec [] w done s r o j = rw j (l.same s.area)
+  locals_lay storage spec (d ∷ ds) w done s r o j =
       let first = local_sound names signatures any_local parameters storage spec d s j.part o j.typed in
-      l.further s.area j.part.1.area r.1.area (local_lays storage spec d s j.part o j.typed)
-      (locals_lay storage spec ds (done ++ j.part.0 ∷ []) j.part.1 r
+      l.further s.area j.part.1.area r.1.area (local_lays storage spec d w.0 s j.part o j.typed)
+      (locals_lay storage spec ds w.1 (done ++ j.part.0 ∷ []) j.part.1 r
       (order_any (declaring any_local (j.part.0 ∷ [])) parameters j.part.1 first.order) j.whole)
 
   module _ (result_type : CType) where
-    return_lays : (e : Option AnExp) (s : State) (r : AnAction × State) → IsReturn names signatures result_type e s r → R s.area r.1.area
-    return_lays None s r j = rw j (l.same s.area)
-    return_lays (Some e) s r j = let k = j.whole in rw (k.whole) (full_lays e s j.part j.typed)
+    return_lays : (e : Option AnExp) → PartOf T e → (s : State) (r : AnAction × State) → IsReturn names signatures result_type e s r → R s.area r.1.area
+    return_lays None w s r j = rw j (l.same s.area)
+    return_lays (Some e) w s r j = let k = j.whole in rw (k.whole) (full_lays e w s j.part j.typed)
 
     mutual
       -- across a statement
-      pub statement_lays : (looping : Bool) (a : AStatement) (s : State) (r : AnAction × State) → InOrder any_local parameters s →
+      pub statement_lays : (looping : Bool) (a : AStatement) → StatementOf T a → (s : State) (r : AnAction × State) → InOrder any_local parameters s →
           IsStatement names signatures result_type looping a s r → R s.area r.1.area
-      statement_lays looping (block row) s r o j =
-          rw (j.whole) (items_lay looping row (entered s) j.part (order_entered signatures any_local parameters s o) j.typed)
-      statement_lays looping empty s r o j = rw j (l.same s.area)
-      statement_lays looping (expression e) s r o j = rw (j.whole) (full_lays e s j.part j.typed)
-      statement_lays looping (break_off at) s r o j = rw (j.typed) (l.same s.area)
-      statement_lays looping (continue_on at) s r o j = rw (j.typed) (l.same s.area)
-      statement_lays looping (give_back at e) s r o j = return_lays e s r j
-      statement_lays looping (if_then at opened c a) s r o j =
+      statement_lays looping (block row) w s r o j =
+          rw (j.whole) (items_lay looping row w (entered s) j.part (order_entered signatures any_local parameters s o) j.typed)
+      statement_lays looping empty w s r o j = rw j (l.same s.area)
+      statement_lays looping (expression e) w s r o j = rw (j.whole) (full_lays e w s j.part j.typed)
+      statement_lays looping (break_off at) w s r o j = rw (j.typed) (l.same s.area)
+      statement_lays looping (continue_on at) w s r o j = rw (j.typed) (l.same s.area)
+      statement_lays looping (give_back at e) w s r o j = return_lays e w s r j
+      statement_lays looping (if_then at opened c a) w s r o j =
           let k = j.whole in
           let h = condition_sound names signatures any_local parameters c s j.part o j.typed in
-          rw (k.whole) (l.further s.area j.part.1.area k.part.1.area (condition_lays c s j.part j.typed)
-          (statement_lays looping a j.part.1 k.part h.order k.typed))
-      statement_lays looping (if_else at opened c a other b) s r o j =
+          rw (k.whole) (l.further s.area j.part.1.area k.part.1.area (condition_lays c w.0 s j.part j.typed)
+          (statement_lays looping a w.1 j.part.1 k.part h.order k.typed))
+      statement_lays looping (if_else at opened c a other b) w s r o j =
           let k = j.whole in
           let m = k.whole in
           let h = condition_sound names signatures any_local parameters c s j.part o j.typed in
           let first = statement_sound names signatures result_type parameters any_local looping a j.part.1 k.part h.order k.typed in
-          rw (m.whole) (l.further s.area j.part.1.area m.part.1.area (condition_lays c s j.part j.typed)
-          (l.further j.part.1.area k.part.1.area m.part.1.area (statement_lays looping a j.part.1 k.part h.order k.typed)
-          (statement_lays looping b k.part.1 m.part first.order m.typed)))
-      statement_lays looping (while_loop at opened c a) s r o j =
+          rw (m.whole) (l.further s.area j.part.1.area m.part.1.area (condition_lays c w.0 s j.part j.typed)
+          (l.further j.part.1.area k.part.1.area m.part.1.area (statement_lays looping a w.1 j.part.1 k.part h.order k.typed)
+          (statement_lays looping b w.2 k.part.1 m.part first.order m.typed)))
+      statement_lays looping (while_loop at opened c a) w s r o j =
           let k = j.whole in
           let h = condition_sound names signatures any_local parameters c s j.part o j.typed in
-          rw (k.whole) (l.further s.area j.part.1.area k.part.1.area (condition_lays c s j.part j.typed)
-          (statement_lays true a j.part.1 k.part h.order k.typed))
-      statement_lays looping (do_loop at a again opened c) s r o j =
+          rw (k.whole) (l.further s.area j.part.1.area k.part.1.area (condition_lays c w.0 s j.part j.typed)
+          (statement_lays true a w.1 j.part.1 k.part h.order k.typed))
+      statement_lays looping (do_loop at a again opened c) w s r o j =
           let k = j.whole in
-          rw (k.whole) (l.further s.area j.part.1.area k.part.1.area (statement_lays true a s j.part o j.typed)
-          (condition_lays c j.part.1 k.part k.typed))
-      statement_lays looping (for_loop at opened i c e a) s r o j =
+          rw (k.whole) (l.further s.area j.part.1.area k.part.1.area (statement_lays true a w.0 s j.part o j.typed)
+          (condition_lays c w.1 j.part.1 k.part k.typed))
+      statement_lays looping (for_loop at opened i c e a) w s r o j =
           let k = j.whole in
           let m = k.whole in
           let q = m.whole in
           let hi = part_sound names signatures any_local parameters i s j.part o j.typed in
           let hc = turn_sound names signatures any_local parameters c j.part.1 k.part hi.order k.typed in
           let he = part_sound names signatures any_local parameters e k.part.1 m.part hc.order m.typed in
-          rw (q.whole) (l.further s.area j.part.1.area q.part.1.area (part_lays i s j.part j.typed)
-          (l.further j.part.1.area k.part.1.area q.part.1.area (turn_lays c j.part.1 k.part k.typed)
-          (l.further k.part.1.area m.part.1.area q.part.1.area (part_lays e k.part.1 m.part m.typed)
-          (statement_lays true a m.part.1 q.part he.order q.typed))))
+          rw (q.whole) (l.further s.area j.part.1.area q.part.1.area (part_lays i w.0 s j.part j.typed)
+          (l.further j.part.1.area k.part.1.area q.part.1.area (turn_lays c w.1 j.part.1 k.part k.typed)
+          (l.further k.part.1.area m.part.1.area q.part.1.area (part_lays e w.2 k.part.1 m.part m.typed)
+          (statement_lays true a w.3 m.part.1 q.part he.order q.typed))))
 
       -- across the items of a block
-      pub items_lay : (looping : Bool) (row : SomeItems) (s : State) (r : SomeActions × State) → InOrder any_local parameters s →
+      pub items_lay : (looping : Bool) (row : SomeItems) → ItemsOf T row → (s : State) (r : SomeActions × State) → InOrder any_local parameters s →
           AreItems names signatures result_type looping row s r → R s.area r.1.area
-      items_lay looping no_items s r o j = rw j (l.same s.area)
-      items_lay looping (local_item i rest) s r o j =
+      items_lay looping no_items w s r o j = rw j (l.same s.area)
+      items_lay looping (local_item i rest) w s r o j =
           let k = j.whole in
           let h = locals_sound names signatures any_local parameters i.storage i.spec i.declarators s j.part o j.typed in
           rw (k.whole) (l.further s.area j.part.1.area k.part.1.area
-          (locals_lay i.storage i.spec i.declarators [] s j.part o j.typed)
-          (items_lay looping rest j.part.1 k.part (order_any (declaring any_local j.part.0) parameters j.part.1 h.order) k.typed))
-      items_lay looping (statement_item a rest) s r o j =
+          (locals_lay i.storage i.spec i.declarators w.0 [] s j.part o j.typed)
+          (items_lay looping rest w.1 j.part.1 k.part (order_any (declaring any_local j.part.0) parameters j.part.1 h.order) k.typed))
+      items_lay looping (statement_item a rest) w s r o j =
           let k = j.whole in
           let h = statement_sound names signatures result_type parameters any_local looping a s j.part o j.typed in
-          rw (k.whole) (l.further s.area j.part.1.area k.part.1.area (statement_lays looping a s j.part o j.typed)
-          (items_lay looping rest j.part.1 k.part h.order k.typed))
+          rw (k.whole) (l.further s.area j.part.1.area k.part.1.area (statement_lays looping a w.0 s j.part o j.typed)
+          (items_lay looping rest w.1 j.part.1 k.part h.order k.typed))

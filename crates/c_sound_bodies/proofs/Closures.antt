@@ -1,16 +1,22 @@
 -- Fitting and standing hold of a term because they hold of its parts.
-use Rattle.std.proofs.Common.{◌≡◌, ℕ, ◌≤◌, List, [], ◌∷◌, length, arith}
+use Rattle.std.proofs.Common.{◌≡◌, ℕ, ◌≤◌, ◌<◌, ◌^◌, List, [], ◌∷◌, length, arith}
 use Rattle.c_phrases.specs.Phrases.{AnExp}
 use Rattle.c_types.specs.declared.types.CType.{CType}
+use Rattle.c_types.specs.declared.types.CType.TheVariants as types
+use Rattle.c_types.specs.declared.types.Integer.{Integer}
+use Rattle.c_types.specs.declared.types.Integer.TheVariants as ints
+use Rattle.c_types.specs.Types.{integer_size, size_of}
 use Rattle.c_types.specs.declared.typed.Variable.{Variable}
 use Rattle.c_types.specs.declared.typed.Variable.TheVariants as variables
 use Rattle.c_types.specs.declared.typed.Callee.{Callee}
-use Rattle.c_types.specs.Typed.{AnExpression, SomeExpressions, NoExpressions, MoreExpressions}
+use Rattle.c_types.specs.Typed.{AnExpression, SomeExpressions, NoExpressions, MoreExpressions, operand_size}
 use Rattle.c_typed_scope.specs.declared.entry.Entry.{Entry}
 use Rattle.c_typed_scope.specs.declared.entry.Signature.{Signature}
 use Rattle.c_typed_scope.specs.Layout.{Area}
 use Rattle.c_program.specs.Programs.{ARoutine}
-use Rattle.c_program.specs.Longwords.{OfLongwords, AllOfLongwords}
+use Rattle.c_typed_words.specs.Words.{IsToken}
+use Rattle.c_typed_words.specs.Phrases.{ExpOf}
+use Rattle.c_typed_words.proofs.Any.{AnyToken, any_exp}
 use Rattle.c_sound.specs.Fits.{StandsIn, Fits, FitsAll}
 use Rattle.c_sound.specs.Stands.{arguments, IsThere, Takes, Stands, StandAll}
 use Rattle.c_typed_expressions.specs.Relations.{IsTyped}
@@ -27,50 +33,64 @@ stands_in scope locals parameters objects (variables.Parameter n) h = tt
 stands_in scope locals parameters objects (variables.Global n) h = tt
 stands_in scope locals parameters objects (variables.Static n) h = tt
 
--- a term whose numbers are longwords fits
-abbrev pub WillFit : (ℕ → Type 0) → AnExpression → Type 0
-WillFit scope x = OfLongwords x → Fits scope x
+integer_small : (b : Integer) → integer_size b < 2 ^ 32
+unfolding integer_size
+integer_small ints.Char = omega arith
+integer_small ints.UnsignedChar = omega arith
+integer_small ints.Short = omega arith
+integer_small ints.UnsignedShort = omega arith
+integer_small ints.Int = omega arith
 
-fits_all : (scope : ℕ → Type 0) (es : SomeExpressions) (to : List CType) → arguments es ≡ length to → Every (WillFit scope) es →
-    AllOfLongwords es → FitsAll scope es to
-fits_all scope NoExpressions to many all h = tt
-fits_all scope (MoreExpressions e es) [] many all h = absurd (omega arith)
-fits_all scope (MoreExpressions e es) (t ∷ to) many all h = (all.0 h.0, fits_all scope es to (omega arith) all.1 h.1)
+type_small : (t : CType) → size_of t < 2 ^ 32
+unfolding size_of
+type_small types.Void = omega arith
+type_small (types.Integer b) = integer_small b
+type_small (types.Pointer b n) = omega arith
+
+-- a term that fits, whose size is a longword
+abbrev pub IsFit : (ℕ → Type 0) → AnExpression → Type 0
+IsFit scope x = Fits scope x × (operand_size x < 2 ^ 32)
+
+fits_all : (scope : ℕ → Type 0) (es : SomeExpressions) (to : List CType) → arguments es ≡ length to → Every (IsFit scope) es → FitsAll scope es to
+fits_all scope NoExpressions to many all = tt
+fits_all scope (MoreExpressions e es) [] many all = absurd (omega arith)
+fits_all scope (MoreExpressions e es) (t ∷ to) many all = (all.0.0, fits_all scope es to (omega arith) all.1)
 
 abbrev pub any_call : Callee → ℕ → Type 0
 any_call f n = Unit {0}
 
 pub fits_closed : (scope : ℕ → Type 0) (locals parameters known objects : ℕ) →
-    Closed (IsKnown scope locals parameters known) any_call objects (WillFit scope)
+    Closed IsToken (IsKnown scope locals parameters known) any_call objects (IsFit scope)
+unfolding operand_size
 fits_closed scope locals parameters known objects = record {
-  number = λ n h. h;
-  literal = λ n size l h. tt;
-  array = λ t v size k h. tt;
-  variable = λ t v k h. stands_in scope locals parameters known v k;
-  pointed = λ t x p. p;
-  element = λ t x p. p;
-  size_of_term = λ n x p h. h.0;
-  size = λ n h. h;
-  address = λ t p h. h;
-  call = λ t f to es takes many all h. fits_all scope es to many all h;
-  step = λ m by p h. h;
-  unary = λ op x p. p;
-  cast = λ t x p. p;
-  convert = λ t x p. p;
-  arithmetic = λ op x y p q h. (p h.0, q h.1);
-  compare = λ rel x y p q h. (p h.0, q h.1);
-  both = λ x y p q h. (p h.0, q h.1);
-  either = λ x y p q h. (p h.0, q h.1);
-  advance = λ t x y p q h. (p h.0, q h.1);
-  advance_by = λ t x y p q h. (p h.0, q h.1);
-  retreat = λ t x y p q h. (p h.0, q h.1);
-  distance = λ t x y p q h. (p h.0, q h.1);
-  choice = λ t z x y o p q h. (o h.0, p h.1, q h.2);
-  assign = λ p y a q h. (a h.0, q h.1);
-  arithmetic_assign = λ op p y a q h. (a h.0, q h.1);
-  advance_assign = λ p y a q h. (a h.0, q h.1);
-  retreat_assign = λ p y a q h. (a h.0, q h.1);
-  comma = λ t x y p q h. (p h.0, q h.1);
+  number = λ n small. (small, type_small _);
+  literal = λ n size l small. (tt, small);
+  array = λ t v size k small. (tt, small);
+  variable = λ t v k. (stands_in scope locals parameters known v k, type_small _);
+  pointed = λ t x p. (p.0, type_small _);
+  element = λ t x p. (p.0, type_small _);
+  size_of_term = λ x p. (p.1, type_small _);
+  size = λ t. (type_small t, type_small _);
+  address = λ t p h. (h.0, type_small _);
+  call = λ t f to es takes many all. (fits_all scope es to many all, type_small _);
+  step = λ m by p h. (h.0, type_small _);
+  unary = λ op x p. (p.0, type_small _);
+  cast = λ t x p. (p.0, type_small _);
+  convert = λ t x p. (p.0, type_small _);
+  arithmetic = λ op x y p q. ((p.0, q.0), type_small _);
+  compare = λ rel x y p q. ((p.0, q.0), type_small _);
+  both = λ x y p q. ((p.0, q.0), type_small _);
+  either = λ x y p q. ((p.0, q.0), type_small _);
+  advance = λ t x y p q. ((p.0, q.0), type_small _);
+  advance_by = λ t x y p q. ((p.0, q.0), type_small _);
+  retreat = λ t x y p q. ((p.0, q.0), type_small _);
+  distance = λ t x y p q. ((p.0, q.0), type_small _);
+  choice = λ t z x y o p q. ((o.0, p.0, q.0), type_small _);
+  assign = λ p y a q. ((a.0, q.0), type_small _);
+  arithmetic_assign = λ op p y a q. ((a.0, q.0), type_small _);
+  advance_assign = λ p y a q. ((a.0, q.0), type_small _);
+  retreat_assign = λ p y a q. ((a.0, q.0), type_small _);
+  comma = λ t x y p q. ((p.0, q.0), type_small _);
 }
 
 is_there : (scope : ℕ → Type 0) (locals parameters known objects : ℕ) → known ≤ objects → (v : Variable) →
@@ -90,16 +110,16 @@ stand_all objects parameters gs NoExpressions all = tt
 stand_all objects parameters gs (MoreExpressions e es) all = (all.0, stand_all objects parameters gs es all.1)
 
 pub stands_closed : (scope : ℕ → Type 0) (locals parameters known objects : ℕ) (gs : List ARoutine) → known ≤ objects →
-    Closed (IsKnown scope locals parameters known) (Takes gs) objects (WillStand objects parameters gs)
+    Closed AnyToken (IsKnown scope locals parameters known) (Takes gs) objects (WillStand objects parameters gs)
 stands_closed scope locals parameters known objects gs l = record {
-  number = λ n. tt;
-  literal = λ n size h. h;
-  array = λ t v size k. is_there scope locals parameters known objects l v k;
+  number = λ n w. tt;
+  literal = λ n size h small. h;
+  array = λ t v size k small. is_there scope locals parameters known objects l v k;
   variable = λ t v k. is_there scope locals parameters known objects l v k;
   pointed = λ t x p. p;
   element = λ t x p. p;
-  size_of_term = λ n x p. tt;
-  size = λ n. tt;
+  size_of_term = λ x p. tt;
+  size = λ t. tt;
   address = λ t p h. h;
   call = λ t f to es takes many all. (rw many takes, stand_all objects parameters gs es all);
   step = λ m by p h. h;
@@ -125,11 +145,11 @@ stands_closed scope locals parameters known objects gs l = record {
 module _ (names : List (List ℕ × Entry)) (signatures : List Signature) where
   -- what an expression is typed as fits, and stands
   pub exp_fits : (scope : ℕ → Type 0) (parameters : ℕ) (s : State) (e : AnExp) (t : AnExpression × Area) → InOrder scope parameters s →
-      IsTyped names signatures s.scope e s.area t → WillFit scope t.0
-  exp_fits scope parameters s e t o j =
-      exp_has (IsKnown scope (length s.locals) parameters (length s.area.objects)) any_call (length t.1.objects) (WillFit scope)
+      IsTyped names signatures s.scope e s.area t → ExpOf IsToken e → Fits scope t.0
+  exp_fits scope parameters s e t o j w =
+      (exp_has IsToken (IsKnown scope (length s.locals) parameters (length s.area.objects)) any_call (length t.1.objects) (IsFit scope)
       (fits_closed scope (length s.locals) parameters (length s.area.objects) (length t.1.objects))
-      names signatures s.scope o.names (λ n g is. tt) e s.area t j (record { laying = o.laying; most = omega arith })
+      names signatures s.scope o.names (λ n g is. tt) e w s.area t j (record { laying = o.laying; most = omega arith })).0
 
   pub exp_stands : (scope : ℕ → Type 0) (parameters : ℕ) (s : State) (gs : List ARoutine) (objects : ℕ) (e : AnExp) (t : AnExpression × Area) →
       InOrder scope parameters s → length t.1.objects ≤ objects → AreDefined signatures gs →
@@ -137,6 +157,6 @@ module _ (names : List (List ℕ × Entry)) (signatures : List Signature) where
   exp_stands scope parameters s gs objects e t o l defined j =
       let more = exp_extends names signatures s.scope e s.area t j in
       let first : length s.area.objects ≤ length t.1.objects = more.objects in
-      exp_has (IsKnown scope (length s.locals) parameters (length s.area.objects)) (Takes gs) objects (WillStand objects parameters gs)
+      exp_has AnyToken (IsKnown scope (length s.locals) parameters (length s.area.objects)) (Takes gs) objects (WillStand objects parameters gs)
       (stands_closed scope (length s.locals) parameters (length s.area.objects) objects gs (omega arith))
-      names signatures s.scope o.names defined e s.area t j (record { laying = o.laying; most = l })
+      names signatures s.scope o.names defined e (any_exp e) s.area t j (record { laying = o.laying; most = l })

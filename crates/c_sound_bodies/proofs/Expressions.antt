@@ -5,6 +5,7 @@ use Rattle.std.specs.Prelude.{slice_get, if◌then◌else◌}
 use Rattle.c_types.specs.declared.typed.Variable.{Variable}
 use Rattle.c_types.specs.declared.typed.Callee.{Callee}
 use Rattle.c_types.specs.declared.typed.Moment.TheVariants as moments
+use Rattle.c_tokens.specs.declared.token.Token.{Token}
 use Rattle.c_types.specs.Answers.{Fault}
 use Rattle.c_types.specs.Typed.{AnExpression, SomeExpressions, MoreExpressions, CallOf, type_of}
 use Rattle.c_typed_operators.specs.Rules.{comma_of}
@@ -17,6 +18,7 @@ use Rattle.c_phrases.specs.Phrases.{AnExp, name, number, str, paren, call, index
 use Rattle.c_typed_expressions.specs.Expressions.{written, callee_of, count, call_unless, called_by, called, unfit}
 use Rattle.c_typed_expressions.specs.Relations.{IsNamed, NamesVariable, NamesArray, IsTyped, AreTyped}
 use Rattle.c_sound.specs.Stands.{arguments}
+use Rattle.c_typed_words.specs.Phrases.{ExpOf, ExpsOf}
 use Rattle.c_sound_bodies.specs.Claim.{ScopeOf, Extends}
 use Rattle.c_sound_bodies.proofs.Terms.{Every, Closed}
 use Rattle.c_sound_bodies.proofs.Rules.{binary_has, index_has, prefix_has, step_has, cast_has, sizeof_has, sizeof_type_has, choice_has, assign_has}
@@ -49,14 +51,14 @@ held : {A : Type 0} (test : Bool) (m : Result A Fault) (f : Fault) (u : A) → (
 held true m f u e = record { holds = refl; rest = e }
 held false m f u e = absurd (cc)
 
-module _ (known : Variable → Type 0) (calls : Callee → ℕ → Type 0) (objects : ℕ) (P : AnExpression → Type 0)
-    (c : Closed known calls objects P) where
+module _ (T : Token → Type 0) (known : Variable → Type 0) (calls : Callee → ℕ → Type 0) (objects : ℕ) (P : AnExpression → Type 0)
+    (c : Closed T known calls objects P) where
   literal_has : (at : ℕ) (bytes : List ℕ) (a : Area) (t : AnExpression × Area) → literal at bytes a ≡ Ok t → Room objects a t.1 → P t.0
   literal_has at bytes a t e r =
       let l = literal_adds at bytes a t r.laying e in
       let most : length t.1.objects ≤ objects = r.most in
       let more : length t.1.objects ≡ length a.objects + 1 = l.objects in
-      rw (l.is) (c.literal (length a.objects) l.size (omega arith))
+      rw (l.is) (c.literal (length a.objects) l.size (omega arith) l.small)
 
   call_by_has : (o : Option ℕ) (s : Signature) (n : ℕ) (xs : SomeExpressions) (u : AnExpression) → call_unless o s n xs ≡ Ok u →
       calls (callee_of n) (length s.parameters) → arguments xs ≡ length s.parameters → Every P xs → P u
@@ -82,8 +84,9 @@ module _ (known : Variable → Type 0) (calls : Callee → ℕ → Type 0) (obje
       (defined : (n : ℕ) (s : Signature) → slice_get signatures n ≡ Some s → calls (callee_of n) (length s.parameters)) where
     named_has : (n : List ℕ) (t : AnExpression) → IsNamed names signatures scope n t → P t
     named_has n t (NamesVariable of v found_it is) = rw is (c.variable of v (found known scope n (entries.Variable of v) in_scope found_it))
-    named_has n t (NamesArray of v size found_it is) = rw is
-        (c.array of v size (found known scope n (entries.Array of v size) in_scope found_it))
+    named_has n t (NamesArray of v size found_it is) =
+        let h = found known scope n (entries.Array of v size) in_scope found_it in
+        rw is (c.array of v size h.0 h.1)
 
     called_has : (o : Option Signature) (n opened : ℕ) (es : SomeExps) (xs : SomeExpressions) (u : AnExpression) → slice_get signatures n ≡ o →
         called_by o n opened es xs ≡ Ok u → arguments xs ≡ count es → Every P xs → P u
@@ -107,64 +110,64 @@ module _ (known : Variable → Type 0) (calls : Callee → ℕ → Type 0) (obje
         rw is (omega arith)
 
     mutual
-      pub exp_has : (e : AnExp) (a : Area) (t : AnExpression × Area) → IsTyped names signatures scope e a t → Room objects a t.1 → P t.0
-      exp_has (name n at) a t j r = named_has n t.0 j.typed
-      exp_has (number v at) a t j r = rw j (c.number v)
-      exp_has (str b at) a t j r = literal_has at b a t j r
-      exp_has (paren o e) a t j r = exp_has e a t j r
-      exp_has (call n at o es) a t j r =
+      pub exp_has : (e : AnExp) → ExpOf T e → (a : Area) (t : AnExpression × Area) → IsTyped names signatures scope e a t → Room objects a t.1 → P t.0
+      exp_has (name n at) w a t j r = named_has n t.0 j.typed
+      exp_has (number v at) w a t j r = rw j (c.number v w)
+      exp_has (str b at) w a t j r = literal_has at b a t j r
+      exp_has (paren o e) w a t j r = exp_has e w a t j r
+      exp_has (call n at o es) w a t j r =
           let k = j.whole in
           call_has j.part o es k.part.0 t.0 k.whole.typed (arguments_counted es a k.part k.typed)
-          (exps_have es a k.part k.typed (room_is objects a k.part.1 t.1 k.whole.left r))
-      exp_has (index e o i) a t j r =
+          (exps_have es w.1 a k.part k.typed (room_is objects a k.part.1 t.1 k.whole.left r))
+      exp_has (index e o i) w a t j r =
           let k = j.whole in
           let q = room_is objects a k.part.1 t.1 k.whole.left r in
-          index_has known calls objects P c o j.part.0 k.part.0 t.0 k.whole.typed
-          (exp_has e a j.part j.typed (before objects a j.part.1 k.part.1 (exp_extends names signatures scope i j.part.1 k.part k.typed) q))
-          (exp_has i j.part.1 k.part k.typed (behind objects a j.part.1 k.part.1 (exp_extends names signatures scope e a j.part j.typed) q))
-      exp_has (step_after e op at) a t j r = step_has known calls objects P c moments.Before op at j.part.0 t.0 j.whole.typed
-          (exp_has e a j.part j.typed (room_is objects a j.part.1 t.1 j.whole.left r))
-      exp_has (step_before op at e) a t j r = step_has known calls objects P c moments.After op at j.part.0 t.0 j.whole.typed
-          (exp_has e a j.part j.typed (room_is objects a j.part.1 t.1 j.whole.left r))
-      exp_has (prefix op at e) a t j r = prefix_has known calls objects P c op at j.part.0 t.0 j.whole.typed
-          (exp_has e a j.part j.typed (room_is objects a j.part.1 t.1 j.whole.left r))
-      exp_has (sizeof_exp at e) a t p r = let j = p.1 in sizeof_has known calls objects P c at j.part.0 t.0 j.whole.typed
-          (exp_has e a j.part j.typed (room_is objects a j.part.1 t.1 j.whole.left r))
-      exp_has (sizeof_type at o of) a t j r = sizeof_type_has known calls objects P c at (written of.spec of.stars) t.0 j.typed
-      exp_has (cast o to e) a t j r = cast_has known calls objects P c o (written to.spec to.stars) j.part.0 t.0 j.whole.typed
-          (exp_has e a j.part j.typed (room_is objects a j.part.1 t.1 j.whole.left r))
-      exp_has (binary x op at y) a t j r =
+          index_has T known calls objects P c o j.part.0 k.part.0 t.0 k.whole.typed
+          (exp_has e w.0 a j.part j.typed (before objects a j.part.1 k.part.1 (exp_extends names signatures scope i j.part.1 k.part k.typed) q))
+          (exp_has i w.1 j.part.1 k.part k.typed (behind objects a j.part.1 k.part.1 (exp_extends names signatures scope e a j.part j.typed) q))
+      exp_has (step_after e op at) w a t j r = step_has T known calls objects P c moments.Before op at j.part.0 t.0 j.whole.typed
+          (exp_has e w a j.part j.typed (room_is objects a j.part.1 t.1 j.whole.left r))
+      exp_has (step_before op at e) w a t j r = step_has T known calls objects P c moments.After op at j.part.0 t.0 j.whole.typed
+          (exp_has e w a j.part j.typed (room_is objects a j.part.1 t.1 j.whole.left r))
+      exp_has (prefix op at e) w a t j r = prefix_has T known calls objects P c op at j.part.0 t.0 j.whole.typed
+          (exp_has e w a j.part j.typed (room_is objects a j.part.1 t.1 j.whole.left r))
+      exp_has (sizeof_exp at e) w a t p r = let j = p.1 in sizeof_has T known calls objects P c at j.part.0 t.0 j.whole.typed
+          (exp_has e w a j.part j.typed (room_is objects a j.part.1 t.1 j.whole.left r))
+      exp_has (sizeof_type at o of) w a t j r = sizeof_type_has T known calls objects P c at (written of.spec of.stars) t.0 j.typed
+      exp_has (cast o to e) w a t j r = cast_has T known calls objects P c o (written to.spec to.stars) j.part.0 t.0 j.whole.typed
+          (exp_has e w a j.part j.typed (room_is objects a j.part.1 t.1 j.whole.left r))
+      exp_has (binary x op at y) w a t j r =
           let k = j.whole in
           let q = room_is objects a k.part.1 t.1 k.whole.left r in
-          binary_has known calls objects P c op j.part.0 k.part.0 t.0 k.whole.typed
-          (exp_has x a j.part j.typed (before objects a j.part.1 k.part.1 (exp_extends names signatures scope y j.part.1 k.part k.typed) q))
-          (exp_has y j.part.1 k.part k.typed (behind objects a j.part.1 k.part.1 (exp_extends names signatures scope x a j.part j.typed) q))
-      exp_has (choice z at e d) a t j r =
+          binary_has T known calls objects P c op j.part.0 k.part.0 t.0 k.whole.typed
+          (exp_has x w.0 a j.part j.typed (before objects a j.part.1 k.part.1 (exp_extends names signatures scope y j.part.1 k.part k.typed) q))
+          (exp_has y w.1 j.part.1 k.part k.typed (behind objects a j.part.1 k.part.1 (exp_extends names signatures scope x a j.part j.typed) q))
+      exp_has (choice z at e d) w a t j r =
           let k = j.whole in
           let m = k.whole in
           let q = room_is objects a m.part.1 t.1 m.whole.left r in
           let u = before objects a k.part.1 m.part.1 (exp_extends names signatures scope d k.part.1 m.part m.typed) q in
           let first = exp_extends names signatures scope z a j.part j.typed in
           let second = exp_extends names signatures scope e j.part.1 k.part k.typed in
-          choice_has known calls objects P c at j.part.0 k.part.0 m.part.0 t.0 m.whole.typed
-          (exp_has z a j.part j.typed (before objects a j.part.1 k.part.1 second u))
-          (exp_has e j.part.1 k.part k.typed (behind objects a j.part.1 k.part.1 first u))
-          (exp_has d k.part.1 m.part m.typed (behind objects j.part.1 k.part.1 m.part.1 second
+          choice_has T known calls objects P c at j.part.0 k.part.0 m.part.0 t.0 m.whole.typed
+          (exp_has z w.0 a j.part j.typed (before objects a j.part.1 k.part.1 second u))
+          (exp_has e w.1 j.part.1 k.part k.typed (behind objects a j.part.1 k.part.1 first u))
+          (exp_has d w.2 k.part.1 m.part m.typed (behind objects j.part.1 k.part.1 m.part.1 second
           (behind objects a j.part.1 m.part.1 first q)))
-      exp_has (assign x op at y) a t j r =
+      exp_has (assign x op at y) w a t j r =
           let k = j.whole in
           let q = room_is objects a k.part.1 t.1 k.whole.left r in
-          assign_has known calls objects P c op at j.part.0 k.part.0 t.0 k.whole.typed
-          (exp_has x a j.part j.typed (before objects a j.part.1 k.part.1 (exp_extends names signatures scope y j.part.1 k.part k.typed) q))
-          (exp_has y j.part.1 k.part k.typed (behind objects a j.part.1 k.part.1 (exp_extends names signatures scope x a j.part j.typed) q))
-      exp_has (comma x y) a t j r = comma_has a t j.part j.whole.part j.whole.whole r
+          assign_has T known calls objects P c op at j.part.0 k.part.0 t.0 k.whole.typed
+          (exp_has x w.0 a j.part j.typed (before objects a j.part.1 k.part.1 (exp_extends names signatures scope y j.part.1 k.part k.typed) q))
+          (exp_has y w.1 j.part.1 k.part k.typed (behind objects a j.part.1 k.part.1 (exp_extends names signatures scope x a j.part j.typed) q))
+      exp_has (comma x y) w a t j r = comma_has a t j.part j.whole.part j.whole.whole r
           (exp_extends names signatures scope x a j.part j.typed) (exp_extends names signatures scope y j.part.1 j.whole.part j.whole.typed)
-          (exp_has x a j.part j.typed) (exp_has y j.part.1 j.whole.part j.whole.typed)
+          (exp_has x w.0 a j.part j.typed) (exp_has y w.1 j.part.1 j.whole.part j.whole.typed)
 
-      pub exps_have : (es : SomeExps) (a : Area) (t : SomeExpressions × Area) → AreTyped names signatures scope es a t → Room objects a t.1 →
+      pub exps_have : (es : SomeExps) → ExpsOf T es → (a : Area) (t : SomeExpressions × Area) → AreTyped names signatures scope es a t → Room objects a t.1 →
           Every P t.0
-      exps_have no_exps a t j r = rw j tt
-      exps_have (exps e es) a t j r = more_have a t j.part j.whole.part j.whole.whole r
+      exps_have no_exps w a t j r = rw j tt
+      exps_have (exps e es) w a t j r = more_have a t j.part j.whole.part j.whole.whole r
           (exp_extends names signatures scope e a j.part j.typed)
           (exps_extend names signatures scope es j.part.1 j.whole.part j.whole.typed)
-          (exp_has e a j.part j.typed) (exps_have es j.part.1 j.whole.part j.whole.typed)
+          (exp_has e w.0 a j.part j.typed) (exps_have es w.1 j.part.1 j.whole.part j.whole.typed)

@@ -1,6 +1,7 @@
 -- A length is measured without room for its literals, and leaves the data area as it was.
 use Rattle.std.proofs.Common.{◌≡◌, ℕ, Bool, true, false, List, Option, Some, None, Result, Ok, refl, sym, ap, ◌∙◌}
 use Rattle.std.specs.Prelude.{if◌then◌else◌}
+use Rattle.c_tokens.specs.declared.token.Token.TheVariants as token
 use Rattle.c_types.specs.Answers.{Fault}
 use Rattle.c_types.specs.Typed.{AnExpression}
 use Rattle.c_typed_scope.specs.declared.entry.Entry.{Entry}
@@ -12,6 +13,7 @@ use Rattle.c_phrases.specs.Units.{AnInit}
 use Rattle.c_typed_expressions.specs.Relations.{IsTyped}
 use Rattle.c_typed_definition.specs.Declarations.{measuring}
 use Rattle.c_typed_law.specs.Objects.{IsCount}
+use Rattle.c_typed_words.proofs.Any.{AnyToken, any_exp}
 use Rattle.c_sound_bodies.proofs.Growth.{Laying, exp_lays}
 
 -- while a length is measured nothing is added
@@ -29,16 +31,16 @@ literal_by : (measures : Bool) (m : Result (AnExpression × Area) Fault) (x : An
 literal_by true m x a t e h = second x a t (cc)
 literal_by false m x a t e h = absurd (cc)
 
-literal_stays : (at : ℕ) (bytes : List ℕ) (a : Area) (t : AnExpression × Area) → literal at bytes a ≡ Ok t → Stays a t.1
+literal_stays : (at : ℕ) (bytes : List ℕ) (a : Area) (t : AnExpression × Area) → AnyToken (token.Str bytes) → literal at bytes a ≡ Ok t → Stays a t.1
 unfolding literal
-literal_stays at bytes a t e measures = literal_by a.measuring _ _ a t e measures
+literal_stays at bytes a t w e measures = literal_by a.measuring _ _ a t e measures
 
-staying : Laying Stays
+staying : Laying AnyToken Stays
 staying = record { same = λ a h. refl; further = stays_further; literal = literal_stays }
 
 pub exp_stays : (names : List (List ℕ × Entry)) (signatures : List Signature) (scope : Scope) (e : AnExp) (a : Area) (t : AnExpression × Area) →
     a.measuring ≡ true → IsTyped names signatures scope e a t → t.1 ≡ a
-exp_stays names signatures scope e a t measures j = exp_lays Stays staying names signatures scope e a t j measures
+exp_stays names signatures scope e a t measures j = exp_lays AnyToken Stays staying names signatures scope e (any_exp e) a t j measures
 
 unmeasured : (a b : Area) → a.measuring ≡ false → b ≡ measuring true a → measuring false b ≡ a
 unmeasured a b free is = rw is (ap (λ (m : Bool). measuring m a) (sym free))

@@ -14,7 +14,8 @@ use Rattle.c_typed_scope.specs.declared.entry.Signature.{Signature}
 use Rattle.c_typed_scope.specs.Layout.{Area}
 use Rattle.c_program.specs.Statements.{ADeclaration, KeepOf, ClearOf, BeginOf}
 use Rattle.c_program.specs.Programs.{ARoutine}
-use Rattle.c_program.specs.Longwords.{OneOfLongwords, DeclaredOfLongwords}
+use Rattle.c_typed_words.specs.Words.{IsToken}
+use Rattle.c_typed_words.specs.Phrases.{ExpOf, InitOf, DeclaratorOf, DeclaratorsOf}
 use Rattle.c_sound.specs.Fits.{more, declaring, FitsDeclared}
 use Rattle.c_sound.specs.Stands.{IsThere, Takes, StandsDeclared}
 use Rattle.c_typed_expressions.specs.Phrases.{init_in}
@@ -51,19 +52,19 @@ order_more scope parameters s r o is h = record {
   laying = h.area.measuring ∙ o.laying;
 }
 
--- one declaration
-pub record LocalIsSound (signatures : List Signature) (scope : ℕ → Type 0) (parameters : ℕ) (s : State) (d : ADeclaration)
+-- one declaration, which fits where something holds of its phrase
+pub record LocalIsSound (W : Type 0) (signatures : List Signature) (scope : ℕ → Type 0) (parameters : ℕ) (s : State) (d : ADeclaration)
     (r : State) : Type 0 where
-  pub fits : (size : ℕ) → length r.locals ≤ size → OneOfLongwords d → FitsDeclared size scope (d ∷ [])
+  pub fits : (size : ℕ) → length r.locals ≤ size → W → FitsDeclared size scope (d ∷ [])
   pub stands : (gs : List ARoutine) (objects : ℕ) → length r.area.objects ≤ objects → AreDefined signatures gs →
       StandsDeclared (IsThere objects parameters) (Takes gs) objects (d ∷ [])
   pub order : InOrder (declaring scope (d ∷ [])) parameters r
   pub grows : Grows s r
 
 -- declarations in a row
-pub record LocalsAreSound (signatures : List Signature) (scope : ℕ → Type 0) (parameters : ℕ) (s : State) (ds : List ADeclaration)
+pub record LocalsAreSound (W : Type 0) (signatures : List Signature) (scope : ℕ → Type 0) (parameters : ℕ) (s : State) (ds : List ADeclaration)
     (r : State) : Type 0 where
-  pub fits : (size : ℕ) → length r.locals ≤ size → DeclaredOfLongwords ds → FitsDeclared size scope ds
+  pub fits : (size : ℕ) → length r.locals ≤ size → W → FitsDeclared size scope ds
   pub stands : (gs : List ARoutine) (objects : ℕ) → length r.area.objects ≤ objects → AreDefined signatures gs →
       StandsDeclared (IsThere objects parameters) (Takes gs) objects ds
   pub order : InOrder (declaring scope ds) parameters r
@@ -96,8 +97,8 @@ local_order scope parameters t n s o =
     }
 
 module _ (names : List (List ℕ × Entry)) (signatures : List Signature) where
-  cleared : (scope : ℕ → Type 0) (parameters : ℕ) (t : CType) (n : List ℕ) (s : State) (r : ADeclaration × State) →
-      InOrder scope parameters s → r ≡ (ClearOf (length s.locals), with_local t n s) → LocalIsSound signatures scope parameters s r.0 r.1
+  cleared : {W : Type 0} (scope : ℕ → Type 0) (parameters : ℕ) (t : CType) (n : List ℕ) (s : State) (r : ADeclaration × State) →
+      InOrder scope parameters s → r ≡ (ClearOf (length s.locals), with_local t n s) → LocalIsSound W signatures scope parameters s r.0 r.1
   cleared scope parameters t n s r o is = let longer = local_longer t n s in rw is (record {
     fits = λ size l h. (omega arith, tt);
     stands = λ gs objects l defined. tt;
@@ -108,7 +109,7 @@ module _ (names : List (List ℕ × Entry)) (signatures : List Signature) where
   begun_is : (scope : ℕ → Type 0) (parameters : ℕ) (t : CType) (n : List ℕ) (s : State) (e : AnExp) (x : AnExpression × Area)
       (r : ADeclaration × State) → InOrder scope parameters s → IsTyped names signatures (with_local t n s).scope e s.area x →
       r ≡ (BeginOf (length s.locals) (ConvertTo t x.0), with_area x.1 (with_local t n s)) →
-      LocalIsSound signatures scope parameters s r.0 r.1
+      LocalIsSound (ExpOf IsToken e) signatures scope parameters s r.0 r.1
   begun_is scope parameters t n s e x r o j is =
       let longer = local_longer t n s in
       let inner = local_order scope parameters t n s o in
@@ -132,7 +133,7 @@ module _ (names : List (List ℕ × Entry)) (signatures : List Signature) where
 
   begun_sound : (scope : ℕ → Type 0) (parameters : ℕ) (t : CType) (n : List ℕ) (i : Option AnInit) (s : State)
       (r : ADeclaration × State) → InOrder scope parameters s → IsBegun names signatures t (length s.locals) i (with_local t n s) r →
-      LocalIsSound signatures scope parameters s r.0 r.1
+      LocalIsSound (InitOf IsToken i) signatures scope parameters s r.0 r.1
   begun_sound scope parameters t n None s r o j = cleared scope parameters t n s r o j
   begun_sound scope parameters t n (Some (elements es comma)) s r o j = cleared scope parameters t n s r o j
   begun_sound scope parameters t n (Some (value e)) s r o j =
@@ -141,12 +142,13 @@ module _ (names : List (List ℕ × Entry)) (signatures : List Signature) where
       (k.whole ∙ ap (λ (y : AnExpression). (BeginOf (length s.locals) y, with_area j.part.1 (with_local t n s))) k.typed.typed)
 
   automatic_sound : (scope : ℕ → Type 0) (parameters : ℕ) (spec : Spec) (d : ADeclarator) (s : State) (r : ADeclaration × State) →
-      InOrder scope parameters s → IsAutomatic names signatures spec d s r → LocalIsSound signatures scope parameters s r.0 r.1
-  automatic_sound scope parameters spec d s r o j = begun_sound scope parameters (written spec d.stars) d.name
-      (init_in d.init) s r o j.whole
+      InOrder scope parameters s → IsAutomatic names signatures spec d s r → LocalIsSound (DeclaratorOf IsToken d) signatures scope parameters s r.0 r.1
+  automatic_sound scope parameters spec d s r o j =
+      let h = begun_sound scope parameters (written spec d.stars) d.name (init_in d.init) s r o j.whole in
+      record { fits = λ size l w. h.fits size l w.2; stands = h.stands; order = h.order; grows = h.grows }
 
-  kept_is : (scope : ℕ → Type 0) (parameters : ℕ) (name : List ℕ) (s : State) (x : ℕ × State) (r : ADeclaration × State) →
-      InOrder scope parameters s → Declares name s x.1 → r ≡ (KeepOf x.0, x.1) → LocalIsSound signatures scope parameters s r.0 r.1
+  kept_is : {W : Type 0} (scope : ℕ → Type 0) (parameters : ℕ) (name : List ℕ) (s : State) (x : ℕ × State) (r : ADeclaration × State) →
+      InOrder scope parameters s → Declares name s x.1 → r ≡ (KeepOf x.0, x.1) → LocalIsSound W signatures scope parameters s r.0 r.1
   kept_is scope parameters name s x r o h is = rw is (record {
     fits = λ size l h. tt;
     stands = λ gs objects l defined. tt;
@@ -156,7 +158,7 @@ module _ (names : List (List ℕ × Entry)) (signatures : List Signature) where
 
   pub local_sound : (scope : ℕ → Type 0) (parameters : ℕ) (storage : Storage) (spec : Spec) (d : ADeclarator) (s : State)
       (r : ADeclaration × State) → InOrder scope parameters s → IsLocal names signatures storage spec d s r →
-      LocalIsSound signatures scope parameters s r.0 r.1
+      LocalIsSound (DeclaratorOf IsToken d) signatures scope parameters s r.0 r.1
   local_sound scope parameters storages.Automatic spec d s r o j = automatic_sound scope parameters spec d s r o j
   local_sound scope parameters (storages.Register at) spec d s r o j = automatic_sound scope parameters spec d s r o j
   local_sound scope parameters (storages.Static at) spec d s r o j =
@@ -183,9 +185,9 @@ order_with scope parameters (KeepOf n) ds r o = o
 order_with scope parameters (ClearOf n) ds r o = o
 order_with scope parameters (BeginOf n e) ds r o = o
 
-locals_with : (signatures : List Signature) (scope : ℕ → Type 0) (parameters : ℕ) (s m r : State) (d : ADeclaration)
-    (ds : List ADeclaration) → LocalIsSound signatures scope parameters s d m →
-    LocalsAreSound signatures (declaring scope (d ∷ [])) parameters m ds r → LocalsAreSound signatures scope parameters s (d ∷ ds) r
+locals_with : {W V : Type 0} (signatures : List Signature) (scope : ℕ → Type 0) (parameters : ℕ) (s m r : State) (d : ADeclaration)
+    (ds : List ADeclaration) → LocalIsSound W signatures scope parameters s d m →
+    LocalsAreSound V signatures (declaring scope (d ∷ [])) parameters m ds r → LocalsAreSound (W × V) signatures scope parameters s (d ∷ ds) r
 locals_with signatures scope parameters s m r d ds h k =
     let locals : length m.locals ≤ length r.locals = k.grows.locals in
     let objects : length m.area.objects ≤ length r.area.objects = k.grows.area.objects in
@@ -198,14 +200,14 @@ locals_with signatures scope parameters s m r d ds h k =
     }
 
 -- what is behind the declarations that are done
-pub record Behind (signatures : List Signature) (scope : ℕ → Type 0) (parameters : ℕ) (s : State) (done : List ADeclaration)
+pub record Behind (W : Type 0) (signatures : List Signature) (scope : ℕ → Type 0) (parameters : ℕ) (s : State) (done : List ADeclaration)
     (r : List ADeclaration × State) : Type 0 where
   pub rest : List ADeclaration
   pub is : r.0 ≡ done ++ rest
-  pub sound : LocalsAreSound signatures scope parameters s rest r.1
+  pub sound : LocalsAreSound W signatures scope parameters s rest r.1
 
 none_behind : (signatures : List Signature) (scope : ℕ → Type 0) (parameters : ℕ) (s : State) (done : List ADeclaration)
-    (r : List ADeclaration × State) → InOrder scope parameters s → r ≡ (done, s) → Behind signatures scope parameters s done r
+    (r : List ADeclaration × State) → InOrder scope parameters s → r ≡ (done, s) → Behind (Unit {0}) signatures scope parameters s done r
 none_behind signatures scope parameters s done r o is = rw is (record {
   rest = [];
   is = sym (append-nil done);
@@ -215,7 +217,7 @@ none_behind signatures scope parameters s done r o is = rw is (record {
 module _ (names : List (List ℕ × Entry)) (signatures : List Signature) where
   locals_behind : (scope : ℕ → Type 0) (parameters : ℕ) (storage : Storage) (spec : Spec) (ds : List ADeclarator)
       (done : List ADeclaration) (s : State) (r : List ADeclaration × State) → InOrder scope parameters s →
-      AreLocals names signatures storage spec ds done s r → Behind signatures scope parameters s done r
+      AreLocals names signatures storage spec ds done s r → Behind (DeclaratorsOf IsToken ds) signatures scope parameters s done r
   locals_behind scope parameters storage spec [] done s r o j = none_behind signatures scope parameters s done r o j
   locals_behind scope parameters storage spec (d ∷ ds) done s r o j =
       let first = local_sound names signatures scope parameters storage spec d s j.part o j.typed in
@@ -230,6 +232,6 @@ module _ (names : List (List ℕ × Entry)) (signatures : List Signature) where
   -- the declarators of a declaration
   pub locals_sound : (scope : ℕ → Type 0) (parameters : ℕ) (storage : Storage) (spec : Spec) (ds : List ADeclarator) (s : State)
       (r : List ADeclaration × State) → InOrder scope parameters s → AreLocals names signatures storage spec ds [] s r →
-      LocalsAreSound signatures scope parameters s r.0 r.1
+      LocalsAreSound (DeclaratorsOf IsToken ds) signatures scope parameters s r.0 r.1
   locals_sound scope parameters storage spec ds s r o j = let b = locals_behind scope parameters storage spec ds [] s r o j in
       rw (b.is) (b.sound)

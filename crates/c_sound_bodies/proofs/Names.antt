@@ -39,7 +39,7 @@ found known s n e all is = later_by (OfVariable known) (find s.here n) (find_out
 
 pub variable_more : (k l : Variable → Type 0) → ((v : Variable) → k v → l v) → (e : Entry) → OfVariable k e → OfVariable l e
 variable_more k l f (entries.Variable t v) h = f v h
-variable_more k l f (entries.Array t v size) h = f v h
+variable_more k l f (entries.Array t v size) h = (f v h.0, h.1)
 variable_more k l f (entries.Function n) h = tt
 
 names_more : (k l : Variable → Type 0) → ((v : Variable) → k v → l v) → (es : List (List ℕ × Entry)) → NamesOf k es → NamesOf l es

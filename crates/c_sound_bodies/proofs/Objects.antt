@@ -26,10 +26,10 @@ use Rattle.c_typed_law.proofs.Objects.{object_means}
 use Rattle.c_sound_bodies.specs.Claim.{IsKnown, OfVariable, InOrder, Extends, Grows, ObjectsAreSound, LengthsAreSound}
 use Rattle.c_sound_bodies.proofs.Names.{variable_more, scope_more, scope_named, known_more, named_outer}
 use Rattle.c_sound_bodies.proofs.Lengths.{count_stays}
-use Rattle.c_sound_bodies.proofs.Growth.{Added, placed_adds, extends_same, extends_further, exp_extends}
+use Rattle.c_sound_bodies.proofs.Growth.{Added, placed_adds, placed_small, extends_same, extends_further, exp_extends}
 
 -- what an object holds at first leaves its place and number
-contents_length : (n : ℕ) (f : Filled) (os : List Object) → length (with_contents n f os) ≡ length os
+pub contents_length : (n : ℕ) (f : Filled) (os : List Object) → length (with_contents n f os) ≡ length os
 contents_length n f [] = refl
 contents_length zero f (o ∷ os) = refl
 contents_length (suc n) f (o ∷ os) = let rest = contents_length n f os in ap suc rest
@@ -55,6 +55,18 @@ unfolding laid
 laid_adds is_static at name align size a l e = laid_by is_static _ a l e
     (λ r is. placed_adds at (label_of is_static name a) align size [] a r is)
 
+small_by : (is_static : Bool) (size : ℕ) (m : Result (ℕ × Area) Fault) (l : ℕ × Area) →
+    (m >>= λ r. Ok (r.0, counted_static is_static r.1)) ≡ Ok l → ((r : ℕ × Area) → m ≡ Ok r → size ≤ 1114112) → size ≤ 1114112
+small_by is_static size (Ok r) l e h = h r refl
+small_by is_static size (Err f) l e h = absurd (cc)
+
+-- and lies in the data area
+pub laid_small : (is_static : Bool) (at : ℕ) (name : List ℕ) (align size : ℕ) (a : Area) (l : ℕ × Area) →
+    laid is_static at name align size a ≡ Ok l → size ≤ 1114112
+unfolding laid
+laid_small is_static at name align size a l e = small_by is_static size _ l e
+    (λ r is. placed_small at (label_of is_static name a) align size [] a r is)
+
 pub added_extends : (a : Area) (l : ℕ × Area) → Added a l → Extends a l.1
 added_extends a l h = let more : length l.1.objects ≡ length a.objects + 1 = h.objects in
     record { objects = omega arith; measuring = h.measuring }
@@ -77,14 +89,25 @@ variable_is : (is_static : Bool) (n objects : ℕ) → n < objects → IsObjectO
 variable_is true n objects h = h
 variable_is false n objects h = h
 
-array_is : (t : Option CType) (v : Variable) (size objects : ℕ) → IsObjectOf objects v →
+array_is : (t : Option CType) (v : Variable) (size objects : ℕ) → size ≤ 1114112 → IsObjectOf objects v →
     OfVariable (IsObjectOf objects) (array_entry t v size)
-array_is None v size objects h = h
-array_is (Some t) v size objects h = h
+array_is None v size objects small h = (h, omega arith)
+array_is (Some t) v size objects small h = (h, omega arith)
+
+-- a name that stands for no function
+abbrev pub IsVariable : Entry → Type 0
+IsVariable (entries.Variable t v) = Unit {0}
+IsVariable (entries.Array t v size) = Unit {0}
+IsVariable (entries.Function n) = ⊥
+
+array_is_variable : (t : Option CType) (v : Variable) (size : ℕ) → IsVariable (array_entry t v size)
+array_is_variable None v size = tt
+array_is_variable (Some t) v size = tt
 
 -- what a declaration of an object leaves
 pub record Declares (name : List ℕ) (s : State) (r : State) : Type 0 where
   pub entry : Entry
+  pub variable : IsVariable entry
   pub names : r.scope ≡ with_name name entry s.scope
   pub of : OfVariable (IsObjectOf (length r.area.objects)) entry
   pub locals : r.locals ≡ s.locals
@@ -98,9 +121,10 @@ object_more objects many l (variables.Static n) h = omega arith
 
 declares_is : (name : List ℕ) (e : Entry) (s : State) (n : ℕ) (a : Area) (r : ℕ × State) →
     r ≡ (n, record { scope = with_name name e s.scope; locals = s.locals; area = a }) → Extends s.area a →
-    OfVariable (IsObjectOf (length s.area.objects)) e → Declares name s r.1
-declares_is name e s n a r is h of = rw is (record {
+    OfVariable (IsObjectOf (length s.area.objects)) e → IsVariable e → Declares name s r.1
+declares_is name e s n a r is h of variable = rw is (record {
   entry = e;
+  variable = variable;
   names = refl;
   of = variable_more (IsObjectOf (length s.area.objects)) (IsObjectOf (length a.objects))
       (object_more (length s.area.objects) (length a.objects) h.objects) e of;
@@ -111,6 +135,7 @@ declares_is name e s n a r is h of = rw is (record {
 declares_from : (name : List ℕ) (s r : State) (a : Area) → Extends s.area a → Declares name (with_area a s) r → Declares name s r
 declares_from name s r a h d = record {
   entry = d.entry;
+  variable = d.variable;
   names = d.names;
   of = d.of;
   locals = d.locals;
@@ -154,12 +179,12 @@ module _ (names : List (List ℕ × Entry)) (signatures : List Signature) where
   literals_extend (Some e) scope a b j = rw (j.whole) (exp_extends names signatures scope e a j.part j.typed)
 
   filled_declares : (n size : ℕ) (t : CType) (is_array : Bool) (d : ADeclarator) (e : Entry) (s : State) (r : ℕ × State) →
-      IsFilled names signatures n size t is_array d e s r → OfVariable (IsObjectOf (length s.area.objects)) e → Declares d.name s r.1
-  filled_declares n size t is_array d e s r j of =
+      IsFilled names signatures n size t is_array d e s r → OfVariable (IsObjectOf (length s.area.objects)) e → IsVariable e → Declares d.name s r.1
+  filled_declares n size t is_array d e s r j of variable =
       let i = j.typed in
       let held = holds_extends t is_array (init_in d.init) (with_name d.name e s.scope) s.area i.part i.typed in
       let whole : Extends i.part.1 j.part = rw (i.whole) (filled_extends n (filled_to size i.part.0) i.part.1) in
-      declares_is d.name e s n j.part r j.whole (extends_further s.area i.part.1 j.part held whole) of
+      declares_is d.name e s n j.part r j.whole (extends_further s.area i.part.1 j.part held whole) of variable
 
   plain_declares : (is_static : Bool) (t : CType) (d : ADeclarator) (s : State) (r : ℕ × State) →
       IsPlainObject names signatures is_static t d s r → Declares d.name s r.1
@@ -167,7 +192,7 @@ module _ (names : List (List ℕ × Entry)) (signatures : List Signature) where
       let added = laid_adds is_static d.at d.name (size_of t) (size_of t) s.area j.part j.typed in
       declares_from d.name s r.1 j.part.1 (added_extends s.area j.part added)
       (filled_declares j.part.0 (size_of t) t false d (entries.Variable t (variable_of is_static j.part.0)) (with_area j.part.1 s) r j.whole
-      (variable_is is_static j.part.0 (length j.part.1.objects) (below_added s.area j.part.1 j.part added (extends_same j.part.1))))
+      (variable_is is_static j.part.0 (length j.part.1.objects) (below_added s.area j.part.1 j.part added (extends_same j.part.1))) tt)
 
   counted_declares : (is_static : Bool) (t : CType) (d : ADeclarator) (e : Option AnExp) (n : ℕ) (s : State) (r : ℕ × State) →
       IsCountedArray names signatures is_static t d e n s r → Declares d.name s r.1
@@ -180,7 +205,9 @@ module _ (names : List (List ℕ × Entry)) (signatures : List Signature) where
       (filled_declares j.part.0 size t true d (array_entry (pointer_to t) (variable_of is_static j.part.0) size)
       (with_area k.part s) r k.whole
       (array_is (pointer_to t) (variable_of is_static j.part.0) size (length k.part.objects)
-      (variable_is is_static j.part.0 (length k.part.objects) (below_added s.area k.part j.part added behind))))
+      (laid_small is_static d.at d.name (size_of t) (n * size_of t) s.area j.part j.typed)
+      (variable_is is_static j.part.0 (length k.part.objects) (below_added s.area k.part j.part added behind)))
+      (array_is_variable (pointer_to t) (variable_of is_static j.part.0) size))
 
   array_declares : (is_static : Bool) (t : CType) (d : ADeclarator) (e : Option AnExp) (s : State) (r : ℕ × State) →
       s.area.measuring ≡ false → IsArrayObject names signatures is_static t d e s r → Declares d.name s r.1

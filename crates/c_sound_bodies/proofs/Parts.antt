@@ -5,7 +5,6 @@ use Rattle.c_typed_scope.specs.declared.entry.Signature.{Signature}
 use Rattle.c_typed_scope.specs.Scopes.{Scope, leave}
 use Rattle.c_program.specs.Statements.{ADeclaration, AnAction, SomeActions, NoActions, MoreActions, DeclareOf, BlockOf, EvaluateOf, BreakOf, ContinueOf, ReturnOf, IfOf, IfElseOf, WhileOf, DoOf, ForOf}
 use Rattle.c_program.specs.Programs.{ARoutine}
-use Rattle.c_program.specs.Longwords.{OfLongwords, MaybeOfLongwords, ActOfLongwords, ActsOfLongwords}
 use Rattle.c_sound.specs.Fits.{Fits, FitsMaybe, FitsAct, FitsActs, behind_act, declaring}
 use Rattle.c_sound.specs.Stands.{IsThere, Takes, Stands, StandsMaybe, StandsAct, StandsActs}
 use Rattle.c_typed_definition.specs.Declarations.{State}
@@ -15,8 +14,8 @@ use Rattle.c_sound_bodies.proofs.Names.{scope_entered, left_scope}
 use Rattle.c_sound_bodies.proofs.Locals.{LocalsAreSound, grows_same, grows_further, order_more}
 
 -- an expression of a statement
-pub record TermIsSound (signatures : List Signature) (scope : ℕ → Type 0) (parameters : ℕ) (s : State) (x : AnExpression) (r : State) : Type 0 where
-  pub fits : OfLongwords x → Fits scope x
+pub record TermIsSound (W : Type 0) (signatures : List Signature) (scope : ℕ → Type 0) (parameters : ℕ) (s : State) (x : AnExpression) (r : State) : Type 0 where
+  pub fits : W → Fits scope x
   pub stands : (gs : List ARoutine) (objects : ℕ) → length r.area.objects ≤ objects → AreDefined signatures gs →
       Stands (IsThere objects parameters) (Takes gs) objects x
   pub names : r.scope ≡ s.scope
@@ -24,9 +23,9 @@ pub record TermIsSound (signatures : List Signature) (scope : ℕ → Type 0) (p
   pub grows : Grows s r
 
 -- an expression that may be left out
-pub record PartIsSound (signatures : List Signature) (scope : ℕ → Type 0) (parameters : ℕ) (s : State) (x : Option AnExpression)
+pub record PartIsSound (W : Type 0) (signatures : List Signature) (scope : ℕ → Type 0) (parameters : ℕ) (s : State) (x : Option AnExpression)
     (r : State) : Type 0 where
-  pub fits : MaybeOfLongwords x → FitsMaybe scope x
+  pub fits : W → FitsMaybe scope x
   pub stands : (gs : List ARoutine) (objects : ℕ) → length r.area.objects ≤ objects → AreDefined signatures gs →
       StandsMaybe (IsThere objects parameters) (Takes gs) objects x
   pub names : r.scope ≡ s.scope
@@ -47,9 +46,9 @@ DeclaresNothing (DoOf a c) = Unit {0}
 DeclaresNothing (ForOf i c e a) = Unit {0}
 
 -- a statement, which leaves what is in scope
-pub record ActIsSound (signatures : List Signature) (scope : ℕ → Type 0) (parameters : ℕ) (looping : Bool) (s : State) (a : AnAction)
+pub record ActIsSound (W : Type 0) (signatures : List Signature) (scope : ℕ → Type 0) (parameters : ℕ) (looping : Bool) (s : State) (a : AnAction)
     (r : State) : Type 0 where
-  pub fits : (size : ℕ) → length r.locals ≤ size → ActOfLongwords a → FitsAct size scope looping a
+  pub fits : (size : ℕ) → length r.locals ≤ size → W → FitsAct size scope looping a
   pub stands : (gs : List ARoutine) (objects : ℕ) → length r.area.objects ≤ objects → AreDefined signatures gs →
       StandsAct (IsThere objects parameters) (Takes gs) objects a
   pub names : r.scope ≡ s.scope
@@ -58,20 +57,20 @@ pub record ActIsSound (signatures : List Signature) (scope : ℕ → Type 0) (pa
   pub grows : Grows s r
 
 -- declarations and statements in a row
-pub record ActsAreSound (signatures : List Signature) (scope : ℕ → Type 0) (parameters : ℕ) (looping : Bool) (s : State) (acts : SomeActions)
+pub record ActsAreSound (W : Type 0) (signatures : List Signature) (scope : ℕ → Type 0) (parameters : ℕ) (looping : Bool) (s : State) (acts : SomeActions)
     (r : State) : Type 0 where
-  pub fits : (size : ℕ) → length r.locals ≤ size → ActsOfLongwords acts → FitsActs size scope looping acts
+  pub fits : (size : ℕ) → length r.locals ≤ size → W → FitsActs size scope looping acts
   pub stands : (gs : List ARoutine) (objects : ℕ) → length r.area.objects ≤ objects → AreDefined signatures gs →
       StandsActs (IsThere objects parameters) (Takes gs) objects acts
   pub order : InOrder (behind_acts scope acts) parameters r
   pub grows : Grows s r
 
 module _ (signatures : List Signature) (scope : ℕ → Type 0) (parameters : ℕ) where
-  pub part_none : (s : State) → InOrder scope parameters s → PartIsSound signatures scope parameters s None s
+  pub part_none : (s : State) → InOrder scope parameters s → PartIsSound (Unit {0}) signatures scope parameters s None s
   part_none s o = record { fits = λ h. tt; stands = λ gs objects l defined. tt; names = refl; order = o; grows = grows_same s }
 
-  pub part_some : (s : State) (x : AnExpression) (r : State) → TermIsSound signatures scope parameters s x r →
-      PartIsSound signatures scope parameters s (Some x) r
+  pub part_some : {W : Type 0} (s : State) (x : AnExpression) (r : State) → TermIsSound W signatures scope parameters s x r →
+      PartIsSound W signatures scope parameters s (Some x) r
   part_some s x r h = record { fits = h.fits; stands = h.stands; names = h.names; order = h.order; grows = h.grows }
 
   pub order_entered : (s : State) → InOrder scope parameters s → InOrder scope parameters (entered s)
@@ -79,9 +78,9 @@ module _ (signatures : List Signature) (scope : ℕ → Type 0) (parameters : �
 
   module _ (looping : Bool) where
     -- a block ends with what was in scope where it began
-    pub block_sound : (s : State) (acts : SomeActions) (r : State) → InOrder scope parameters s →
-        ActsAreSound signatures scope parameters looping (entered s) acts r →
-        ActIsSound signatures scope parameters looping s (BlockOf acts) (left r)
+    pub block_sound : {W : Type 0} (s : State) (acts : SomeActions) (r : State) → InOrder scope parameters s →
+        ActsAreSound W signatures scope parameters looping (entered s) acts r →
+        ActIsSound W signatures scope parameters looping s (BlockOf acts) (left r)
     block_sound s acts r o h =
         let names : leave r.scope ≡ s.scope = left_scope s.scope r.scope h.grows.outer in
         let grows : Grows s (left r) = record { locals = h.grows.locals; area = h.grows.area; outer = ap (λ (z : Scope). z.outer) names } in
@@ -94,7 +93,7 @@ module _ (signatures : List Signature) (scope : ℕ → Type 0) (parameters : �
           grows = grows;
         }
 
-    pub empty_sound : (s : State) → InOrder scope parameters s → ActIsSound signatures scope parameters looping s (BlockOf NoActions) s
+    pub empty_sound : (s : State) → InOrder scope parameters s → ActIsSound (Unit {0}) signatures scope parameters looping s (BlockOf NoActions) s
     empty_sound s o = record {
       fits = λ size l h. tt;
       stands = λ gs objects l defined. tt;
@@ -104,8 +103,8 @@ module _ (signatures : List Signature) (scope : ℕ → Type 0) (parameters : �
       grows = grows_same s;
     }
 
-    pub evaluate_sound : (s : State) (x : AnExpression) (r : State) → TermIsSound signatures scope parameters s x r →
-        ActIsSound signatures scope parameters looping s (EvaluateOf x) r
+    pub evaluate_sound : {W : Type 0} (s : State) (x : AnExpression) (r : State) → TermIsSound W signatures scope parameters s x r →
+        ActIsSound W signatures scope parameters looping s (EvaluateOf x) r
     evaluate_sound s x r h = record {
       fits = λ size l w. h.fits w;
       stands = h.stands;
@@ -115,8 +114,8 @@ module _ (signatures : List Signature) (scope : ℕ → Type 0) (parameters : �
       grows = h.grows;
     }
 
-    pub return_sound : (s : State) (x : Option AnExpression) (r : State) → PartIsSound signatures scope parameters s x r →
-        ActIsSound signatures scope parameters looping s (ReturnOf x) r
+    pub return_sound : {W : Type 0} (s : State) (x : Option AnExpression) (r : State) → PartIsSound W signatures scope parameters s x r →
+        ActIsSound W signatures scope parameters looping s (ReturnOf x) r
     return_sound s x r h = record {
       fits = λ size l w. h.fits w;
       stands = h.stands;
@@ -126,7 +125,7 @@ module _ (signatures : List Signature) (scope : ℕ → Type 0) (parameters : �
       grows = h.grows;
     }
 
-    pub break_sound : (s : State) → looping ≡ true → InOrder scope parameters s → ActIsSound signatures scope parameters looping s BreakOf s
+    pub break_sound : (s : State) → looping ≡ true → InOrder scope parameters s → ActIsSound (Unit {0}) signatures scope parameters looping s BreakOf s
     break_sound s inside o = record {
       fits = λ size l h. inside;
       stands = λ gs objects l defined. tt;
@@ -137,7 +136,7 @@ module _ (signatures : List Signature) (scope : ℕ → Type 0) (parameters : �
     }
 
     pub continue_sound : (s : State) → looping ≡ true → InOrder scope parameters s →
-        ActIsSound signatures scope parameters looping s ContinueOf s
+        ActIsSound (Unit {0}) signatures scope parameters looping s ContinueOf s
     continue_sound s inside o = record {
       fits = λ size l h. inside;
       stands = λ gs objects l defined. tt;
@@ -147,8 +146,8 @@ module _ (signatures : List Signature) (scope : ℕ → Type 0) (parameters : �
       grows = grows_same s;
     }
 
-    pub if_sound : (s m r : State) (c : AnExpression) (a : AnAction) → TermIsSound signatures scope parameters s c m →
-        ActIsSound signatures scope parameters looping m a r → ActIsSound signatures scope parameters looping s (IfOf c a) r
+    pub if_sound : {W V : Type 0} (s m r : State) (c : AnExpression) (a : AnAction) → TermIsSound W signatures scope parameters s c m →
+        ActIsSound V signatures scope parameters looping m a r → ActIsSound (W × V) signatures scope parameters looping s (IfOf c a) r
     if_sound s m r c a h k =
         let objects : length m.area.objects ≤ length r.area.objects = k.grows.area.objects in
         record {
@@ -160,9 +159,9 @@ module _ (signatures : List Signature) (scope : ℕ → Type 0) (parameters : �
           grows = grows_further s m r h.grows k.grows;
         }
 
-    pub if_else_sound : (s m n r : State) (c : AnExpression) (a b : AnAction) → TermIsSound signatures scope parameters s c m →
-        ActIsSound signatures scope parameters looping m a n → ActIsSound signatures scope parameters looping n b r →
-        ActIsSound signatures scope parameters looping s (IfElseOf c a b) r
+    pub if_else_sound : {W V U : Type 0} (s m n r : State) (c : AnExpression) (a b : AnAction) → TermIsSound W signatures scope parameters s c m →
+        ActIsSound V signatures scope parameters looping m a n → ActIsSound U signatures scope parameters looping n b r →
+        ActIsSound (W × V × U) signatures scope parameters looping s (IfElseOf c a b) r
     if_else_sound s m n r c a b h k q =
         let first : length m.area.objects ≤ length n.area.objects = k.grows.area.objects in
         let second : length n.area.objects ≤ length r.area.objects = q.grows.area.objects in
@@ -180,8 +179,8 @@ module _ (signatures : List Signature) (scope : ℕ → Type 0) (parameters : �
           grows = grows_further s m r h.grows (grows_further m n r k.grows q.grows);
         }
 
-    pub while_sound : (s m r : State) (c : AnExpression) (a : AnAction) → TermIsSound signatures scope parameters s c m →
-        ActIsSound signatures scope parameters true m a r → ActIsSound signatures scope parameters looping s (WhileOf c a) r
+    pub while_sound : {W V : Type 0} (s m r : State) (c : AnExpression) (a : AnAction) → TermIsSound W signatures scope parameters s c m →
+        ActIsSound V signatures scope parameters true m a r → ActIsSound (W × V) signatures scope parameters looping s (WhileOf c a) r
     while_sound s m r c a h k =
         let objects : length m.area.objects ≤ length r.area.objects = k.grows.area.objects in
         record {
@@ -193,8 +192,8 @@ module _ (signatures : List Signature) (scope : ℕ → Type 0) (parameters : �
           grows = grows_further s m r h.grows k.grows;
         }
 
-    pub do_sound : (s m r : State) (a : AnAction) (c : AnExpression) → ActIsSound signatures scope parameters true s a m →
-        TermIsSound signatures scope parameters m c r → ActIsSound signatures scope parameters looping s (DoOf a c) r
+    pub do_sound : {W V : Type 0} (s m r : State) (a : AnAction) (c : AnExpression) → ActIsSound W signatures scope parameters true s a m →
+        TermIsSound V signatures scope parameters m c r → ActIsSound (W × V) signatures scope parameters looping s (DoOf a c) r
     do_sound s m r a c k h =
         let objects : length m.area.objects ≤ length r.area.objects = h.grows.area.objects in
         let locals : length m.locals ≤ length r.locals = h.grows.locals in
@@ -207,9 +206,9 @@ module _ (signatures : List Signature) (scope : ℕ → Type 0) (parameters : �
           grows = grows_further s m r k.grows h.grows;
         }
 
-    pub for_sound : (s m n q r : State) (i c e : Option AnExpression) (a : AnAction) → PartIsSound signatures scope parameters s i m →
-        PartIsSound signatures scope parameters m c n → PartIsSound signatures scope parameters n e q →
-        ActIsSound signatures scope parameters true q a r → ActIsSound signatures scope parameters looping s (ForOf i c e a) r
+    pub for_sound : {W V U X : Type 0} (s m n q r : State) (i c e : Option AnExpression) (a : AnAction) → PartIsSound W signatures scope parameters s i m →
+        PartIsSound V signatures scope parameters m c n → PartIsSound U signatures scope parameters n e q →
+        ActIsSound X signatures scope parameters true q a r → ActIsSound (W × V × U × X) signatures scope parameters looping s (ForOf i c e a) r
     for_sound s m n q r i c e a hi hc he ha =
         let first : length m.area.objects ≤ length n.area.objects = hc.grows.area.objects in
         let second : length n.area.objects ≤ length q.area.objects = he.grows.area.objects in
@@ -228,7 +227,7 @@ module _ (signatures : List Signature) (scope : ℕ → Type 0) (parameters : �
           grows = grows_further s m r hi.grows (grows_further m n r hc.grows (grows_further n q r he.grows ha.grows));
         }
 
-    pub none_sound : (s : State) → InOrder scope parameters s → ActsAreSound signatures scope parameters looping s NoActions s
+    pub none_sound : (s : State) → InOrder scope parameters s → ActsAreSound (Unit {0}) signatures scope parameters looping s NoActions s
     none_sound s o = record { fits = λ size l h. tt; stands = λ gs objects l defined. tt; order = o; grows = grows_same s }
 
     -- behind a statement the same is in scope
@@ -245,9 +244,9 @@ module _ (signatures : List Signature) (scope : ℕ → Type 0) (parameters : �
     order_plain (DoOf a c) r plain o = o
     order_plain (ForOf i c e a) r plain o = o
 
-    pub statement_first : (s m r : State) (a : AnAction) (row : SomeActions) → ActIsSound signatures scope parameters looping s a m →
-        ActsAreSound signatures (behind_act scope a) parameters looping m row r →
-        ActsAreSound signatures scope parameters looping s (MoreActions a row) r
+    pub statement_first : {W V : Type 0} (s m r : State) (a : AnAction) (row : SomeActions) → ActIsSound W signatures scope parameters looping s a m →
+        ActsAreSound V signatures (behind_act scope a) parameters looping m row r →
+        ActsAreSound (W × V) signatures scope parameters looping s (MoreActions a row) r
     statement_first s m r a row h k =
         let objects : length m.area.objects ≤ length r.area.objects = k.grows.area.objects in
         let locals : length m.locals ≤ length r.locals = k.grows.locals in
@@ -258,9 +257,9 @@ module _ (signatures : List Signature) (scope : ℕ → Type 0) (parameters : �
           grows = grows_further s m r h.grows k.grows;
         }
 
-    pub declaration_first : (s m r : State) (ds : List ADeclaration) (row : SomeActions) → LocalsAreSound signatures scope parameters s ds m →
-        ActsAreSound signatures (declaring scope ds) parameters looping m row r →
-        ActsAreSound signatures scope parameters looping s (MoreActions (DeclareOf ds) row) r
+    pub declaration_first : {W V : Type 0} (s m r : State) (ds : List ADeclaration) (row : SomeActions) → LocalsAreSound W signatures scope parameters s ds m →
+        ActsAreSound V signatures (declaring scope ds) parameters looping m row r →
+        ActsAreSound (W × V) signatures scope parameters looping s (MoreActions (DeclareOf ds) row) r
     declaration_first s m r ds row h k =
         let objects : length m.area.objects ≤ length r.area.objects = k.grows.area.objects in
         let locals : length m.locals ≤ length r.locals = k.grows.locals in

@@ -2,6 +2,7 @@
 use Rattle.std.proofs.Common.{◌≡◌, ℕ, Bool, true, false, Option, Some, None, Result, Ok, Err, refl}
 use Rattle.std.specs.Prelude.{if◌then◌else◌}
 use Rattle.gg_base.specs.declared.relation.Rel.{Rel}
+use Rattle.c_tokens.specs.declared.token.Token.{Token}
 use Rattle.gg_base.specs.declared.relation.Rel.TheVariants as rels
 use Rattle.c_phrases.specs.declared.operator.BinaryOperator.{BinaryOperator}
 use Rattle.c_phrases.specs.declared.operator.BinaryOperator.TheVariants as binaries
@@ -36,8 +37,8 @@ pub tested : {A : Type 0} (test : Bool) (m : Result A Fault) (f : Fault) (u : A)
 tested true m f u e = e
 tested false m f u e = absurd (cc)
 
-module _ (known : Variable → Type 0) (calls : Callee → ℕ → Type 0) (objects : ℕ) (P : AnExpression → Type 0)
-    (c : Closed known calls objects P) where
+module _ (T : Token → Type 0) (known : Variable → Type 0) (calls : Callee → ℕ → Type 0) (objects : ℕ) (P : AnExpression → Type 0)
+    (c : Closed T known calls objects P) where
   same : (t u : AnExpression) → typed t ≡ Ok u → P t → P u
   same t u e p = let is : u ≡ t = cc in rw is p
 
@@ -161,11 +162,11 @@ module _ (known : Variable → Type 0) (calls : Callee → ℕ → Type 0) (obje
 
   pub sizeof_has : (at : ℕ) (x u : AnExpression) → sizeof_of at x ≡ Ok u → P x → P u
   unfolding sizeof_of
-  sizeof_has at x u e p = passed (is_scalar (type_of x)) (SizeofTerm (operand_size x) x) u _ e (c.size_of_term (operand_size x) x p)
+  sizeof_has at x u e p = passed (is_scalar (type_of x)) (SizeofTerm (operand_size x) x) u _ e (c.size_of_term x p)
 
   pub sizeof_type_has : (at : ℕ) (t : CType) (u : AnExpression) → sizeof_type_of at t ≡ Ok u → P u
   unfolding sizeof_type_of
-  sizeof_type_has at t u e = passed (is_scalar t) (SizeOf (size_of t)) u _ e (c.size (size_of t))
+  sizeof_type_has at t u e = passed (is_scalar t) (SizeOf (size_of t)) u _ e (c.size t)
 
   choice_by_has : (o : Option CType) (at : ℕ) (z x y u : AnExpression) → choice_by o at z x y ≡ Ok u → P z → P x → P y → P u
   choice_by_has None at z x y u e r p q = absurd (cc)

@@ -14,6 +14,8 @@ use Rattle.c_typed_definition.specs.Declarations.{State, with_area}
 use Rattle.c_typed_definition.specs.Statements.{entered}
 use Rattle.c_typed_law.specs.Statements.{IsFull, IsCondition, IsPart, IsTurn, IsReturn, IsStatement, AreItems}
 use Rattle.c_typed_law.proofs.Statements.{items_mean}
+use Rattle.c_typed_words.specs.Words.{IsToken}
+use Rattle.c_typed_words.specs.Phrases.{ExpOf, PartOf, StatementOf, ItemsOf}
 use Rattle.c_sound_bodies.specs.Claim.{InOrder, BodiesAreSound}
 use Rattle.c_sound_bodies.proofs.Growth.{exp_extends}
 use Rattle.c_sound_bodies.proofs.Closures.{exp_fits, exp_stands}
@@ -22,7 +24,7 @@ use Rattle.c_sound_bodies.proofs.Parts.{TermIsSound, PartIsSound, ActIsSound, Ac
 
 module _ (names : List (List ℕ × Entry)) (signatures : List Signature) (scope : ℕ → Type 0) (parameters : ℕ) where
   term_is : (e : AnExp) (s : State) (x : AnExpression × Area) (r : AnExpression × State) → InOrder scope parameters s →
-      IsTyped names signatures s.scope e s.area x → r ≡ (x.0, with_area x.1 s) → TermIsSound signatures scope parameters s r.0 r.1
+      IsTyped names signatures s.scope e s.area x → r ≡ (x.0, with_area x.1 s) → TermIsSound (ExpOf IsToken e) signatures scope parameters s r.0 r.1
   term_is e s x r o j is =
       let further = grows_area s x.1 (exp_extends names signatures s.scope e s.area x j) in
       rw is (record {
@@ -34,50 +36,50 @@ module _ (names : List (List ℕ × Entry)) (signatures : List Signature) (scope
       })
 
   pub full_sound : (e : AnExp) (s : State) (r : AnExpression × State) → InOrder scope parameters s → IsFull names signatures e s r →
-      TermIsSound signatures scope parameters s r.0 r.1
+      TermIsSound (ExpOf IsToken e) signatures scope parameters s r.0 r.1
   full_sound e s r o j = term_is e s j.part r o j.typed j.whole
 
-  condition_is : (s : State) (x r : AnExpression × State) (c : AnExpression) → TermIsSound signatures scope parameters s x.0 x.1 → c ≡ x.0 →
-      r ≡ (c, x.1) → TermIsSound signatures scope parameters s r.0 r.1
+  condition_is : {W : Type 0} (s : State) (x r : AnExpression × State) (c : AnExpression) → TermIsSound W signatures scope parameters s x.0 x.1 → c ≡ x.0 →
+      r ≡ (c, x.1) → TermIsSound W signatures scope parameters s r.0 r.1
   condition_is s x r c h same is = rw (is, same) h
 
   pub condition_sound : (e : AnExp) (s : State) (r : AnExpression × State) → InOrder scope parameters s → IsCondition names signatures e s r →
-      TermIsSound signatures scope parameters s r.0 r.1
+      TermIsSound (ExpOf IsToken e) signatures scope parameters s r.0 r.1
   condition_sound e s r o j = let k = j.whole in condition_is s j.part r k.part (full_sound e s j.part o j.typed) k.typed.typed k.whole
 
   left_out : (s : State) (r : Option AnExpression × State) → InOrder scope parameters s → r ≡ (None, s) →
-      PartIsSound signatures scope parameters s r.0 r.1
+      PartIsSound (Unit {0}) signatures scope parameters s r.0 r.1
   left_out s r o is = rw is (part_none signatures scope parameters s o)
 
-  written_out : (s : State) (x : AnExpression × State) (r : Option AnExpression × State) → TermIsSound signatures scope parameters s x.0 x.1 →
-      r ≡ (Some x.0, x.1) → PartIsSound signatures scope parameters s r.0 r.1
+  written_out : {W : Type 0} (s : State) (x : AnExpression × State) (r : Option AnExpression × State) → TermIsSound W signatures scope parameters s x.0 x.1 →
+      r ≡ (Some x.0, x.1) → PartIsSound W signatures scope parameters s r.0 r.1
   written_out s x r h is = rw is (part_some signatures scope parameters s x.0 x.1 h)
 
   pub part_sound : (e : Option AnExp) (s : State) (r : Option AnExpression × State) → InOrder scope parameters s → IsPart names signatures e s r →
-      PartIsSound signatures scope parameters s r.0 r.1
+      PartIsSound (PartOf IsToken e) signatures scope parameters s r.0 r.1
   part_sound None s r o j = left_out s r o j
   part_sound (Some e) s r o j = written_out s j.part r (full_sound e s j.part o j.typed) j.whole
 
   pub turn_sound : (e : Option AnExp) (s : State) (r : Option AnExpression × State) → InOrder scope parameters s → IsTurn names signatures e s r →
-      PartIsSound signatures scope parameters s r.0 r.1
+      PartIsSound (PartOf IsToken e) signatures scope parameters s r.0 r.1
   turn_sound None s r o j = left_out s r o j
   turn_sound (Some e) s r o j = written_out s j.part r (condition_sound e s j.part o j.typed) j.whole
 
-  converted_sound : (t : CType) (s : State) (x : AnExpression) (r : State) → TermIsSound signatures scope parameters s x r →
-      TermIsSound signatures scope parameters s (ConvertTo t x) r
+  converted_sound : {W : Type 0} (t : CType) (s : State) (x : AnExpression) (r : State) → TermIsSound W signatures scope parameters s x r →
+      TermIsSound W signatures scope parameters s (ConvertTo t x) r
   converted_sound t s x r h = record { fits = h.fits; stands = h.stands; names = h.names; order = h.order; grows = h.grows }
 
 module _ (names : List (List ℕ × Entry)) (signatures : List Signature) (result_type : CType) (parameters : ℕ) where
-  returned_is : (scope : ℕ → Type 0) (looping : Bool) (s : State) (x : AnExpression × State) (r : AnAction × State) (y : AnExpression) →
-      TermIsSound signatures scope parameters s x.0 x.1 → y ≡ ConvertTo result_type x.0 → r ≡ (ReturnOf (Some y), x.1) →
-      ActIsSound signatures scope parameters looping s r.0 r.1
+  returned_is : {W : Type 0} (scope : ℕ → Type 0) (looping : Bool) (s : State) (x : AnExpression × State) (r : AnAction × State) (y : AnExpression) →
+      TermIsSound W signatures scope parameters s x.0 x.1 → y ≡ ConvertTo result_type x.0 → r ≡ (ReturnOf (Some y), x.1) →
+      ActIsSound W signatures scope parameters looping s r.0 r.1
   returned_is scope looping s x r y h same is =
       rw (is, same) (return_sound signatures scope parameters looping s (Some (ConvertTo result_type x.0)) x.1
       (part_some signatures scope parameters s (ConvertTo result_type x.0) x.1
       (converted_sound names signatures scope parameters result_type s x.0 x.1 h)))
 
   returned_sound : (scope : ℕ → Type 0) (looping : Bool) (e : Option AnExp) (s : State) (r : AnAction × State) → InOrder scope parameters s →
-      IsReturn names signatures result_type e s r → ActIsSound signatures scope parameters looping s r.0 r.1
+      IsReturn names signatures result_type e s r → ActIsSound (PartOf IsToken e) signatures scope parameters looping s r.0 r.1
   returned_sound scope looping None s r o j = rw j
       (return_sound signatures scope parameters looping s None s (part_none signatures scope parameters s o))
   returned_sound scope looping (Some e) s r o j =
@@ -87,7 +89,7 @@ module _ (names : List (List ℕ × Entry)) (signatures : List Signature) (resul
   mutual
     pub statement_sound : (scope : ℕ → Type 0) (looping : Bool) (a : AStatement) (s : State) (r : AnAction × State) →
         InOrder scope parameters s → IsStatement names signatures result_type looping a s r →
-        ActIsSound signatures scope parameters looping s r.0 r.1
+        ActIsSound (StatementOf IsToken a) signatures scope parameters looping s r.0 r.1
     statement_sound scope looping (block row) s r o j =
         rw (j.whole) (block_sound signatures scope parameters looping s j.part.0 j.part.1 o
         (items_sound scope looping row (entered s) j.part (order_entered signatures scope parameters s o) j.typed))
@@ -133,7 +135,7 @@ module _ (names : List (List ℕ × Entry)) (signatures : List Signature) (resul
 
     pub items_sound : (scope : ℕ → Type 0) (looping : Bool) (row : SomeItems) (s : State) (r : SomeActions × State) →
         InOrder scope parameters s → AreItems names signatures result_type looping row s r →
-        ActsAreSound signatures scope parameters looping s r.0 r.1
+        ActsAreSound (ItemsOf IsToken row) signatures scope parameters looping s r.0 r.1
     items_sound scope looping no_items s r o j = rw j (none_sound signatures scope parameters looping s o)
     items_sound scope looping (local_item l rest) s r o j =
         let k = j.whole in

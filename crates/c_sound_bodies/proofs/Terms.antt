@@ -1,5 +1,7 @@
 -- What holds of each term because it holds of its parts.
-use Rattle.std.proofs.Common.{◌≡◌, ℕ, ◌<◌, List, length}
+use Rattle.std.proofs.Common.{◌≡◌, ℕ, ◌<◌, ◌^◌, List, length}
+use Rattle.c_tokens.specs.declared.token.Token.{Token}
+use Rattle.c_tokens.specs.declared.token.Token.TheVariants as token
 use Rattle.gg_base.specs.declared.relation.Rel.{Rel}
 use Rattle.c_types.specs.declared.types.CType.{CType}
 use Rattle.c_types.specs.declared.typed.Variable.{Variable}
@@ -8,7 +10,8 @@ use Rattle.c_types.specs.declared.typed.Moment.{Moment}
 use Rattle.c_types.specs.declared.typed.Direction.{Direction}
 use Rattle.c_types.specs.declared.typed.UnaryOperator.{UnaryOperator}
 use Rattle.c_types.specs.declared.typed.ArithmeticOperator.{ArithmeticOperator}
-use Rattle.c_types.specs.Typed.{APlace, VariableAt, PointedBy, ElementBy, AnExpression, Constant, LiteralAt, ArrayAt, ReadOf, SizeofTerm, SizeOf, AddressOf, CallOf, StepOf, UnaryOf, CastTo, ConvertTo, ArithmeticOf, CompareOf, BothOf, EitherOf, AdvanceOf, AdvanceByOf, RetreatOf, DistanceOf, ChoiceOf, AssignTo, ArithmeticAssignTo, AdvanceAssignTo, RetreatAssignTo, CommaOf, SomeExpressions, NoExpressions, MoreExpressions}
+use Rattle.c_types.specs.Types.{size_of}
+use Rattle.c_types.specs.Typed.{APlace, VariableAt, PointedBy, ElementBy, AnExpression, Constant, LiteralAt, ArrayAt, ReadOf, SizeofTerm, SizeOf, AddressOf, CallOf, StepOf, UnaryOf, CastTo, ConvertTo, ArithmeticOf, CompareOf, BothOf, EitherOf, AdvanceOf, AdvanceByOf, RetreatOf, DistanceOf, ChoiceOf, AssignTo, ArithmeticAssignTo, AdvanceAssignTo, RetreatAssignTo, CommaOf, SomeExpressions, NoExpressions, MoreExpressions, operand_size}
 use Rattle.c_sound.specs.Stands.{arguments}
 
 -- of each argument
@@ -16,16 +19,16 @@ abbrev pub Every : (AnExpression → Type 0) → SomeExpressions → Type 0
 Every P NoExpressions = Unit {0}
 Every P (MoreExpressions e es) = P e × Every P es
 
--- where variables are known, calls have their functions, and there are so many objects; what holds of a place is what holds of reading it
-pub record Closed (known : Variable → Type 0) (calls : Callee → ℕ → Type 0) (objects : ℕ) (P : AnExpression → Type 0) : Type 0 where
-  pub number : (n : ℕ) → P (Constant n)
-  pub literal : (n size : ℕ) → n < objects → P (LiteralAt n size)
-  pub array : (t : CType) (v : Variable) (size : ℕ) → known v → P (ArrayAt t v size)
+-- where something holds of each token, variables are known, calls have their functions, and there are so many objects; what holds of a place is what holds of reading it
+pub record Closed (T : Token → Type 0) (known : Variable → Type 0) (calls : Callee → ℕ → Type 0) (objects : ℕ) (P : AnExpression → Type 0) : Type 0 where
+  pub number : (n : ℕ) → T (token.Number n) → P (Constant n)
+  pub literal : (n size : ℕ) → n < objects → size < 2 ^ 32 → P (LiteralAt n size)
+  pub array : (t : CType) (v : Variable) (size : ℕ) → known v → size < 2 ^ 32 → P (ArrayAt t v size)
   pub variable : (t : CType) (v : Variable) → known v → P (ReadOf (VariableAt t v))
   pub pointed : (t : CType) (x : AnExpression) → P x → P (ReadOf (PointedBy t x))
   pub element : (t : CType) (x : AnExpression) → P x → P (ReadOf (ElementBy t x))
-  pub size_of_term : (n : ℕ) (x : AnExpression) → P x → P (SizeofTerm n x)
-  pub size : (n : ℕ) → P (SizeOf n)
+  pub size_of_term : (x : AnExpression) → P x → P (SizeofTerm (operand_size x) x)
+  pub size : (t : CType) → P (SizeOf (size_of t))
   pub address : (t : CType) (p : APlace) → P (ReadOf p) → P (AddressOf t p)
   pub call : (t : CType) (f : Callee) (to : List CType) (es : SomeExpressions) → calls f (length to) → arguments es ≡ length to → Every P es →
       P (CallOf t f to es)

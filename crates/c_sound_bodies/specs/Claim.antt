@@ -1,5 +1,5 @@
 -- What is claimed of the typing of function bodies: the typed statements fit and stand, and what is in scope stays in order.
-use Rattle.std.specs.Prelude.{◌≡◌, ℕ, ◌<◌, ◌≤◌, Bool, false, List, [], ◌∷◌, ◌++◌, length, Some, slice_get, Ok}
+use Rattle.std.specs.Prelude.{◌≡◌, ℕ, ◌<◌, ◌≤◌, ◌^◌, Bool, false, List, [], ◌∷◌, ◌++◌, length, Some, slice_get, Ok}
 use Rattle.tree_core.specs.declared.program.Object.{Object}
 use Rattle.c_phrases.specs.declared.operator.Spec.{Spec}
 use Rattle.c_phrases.specs.Phrases.{AnExp}
@@ -9,7 +9,8 @@ use Rattle.c_types.specs.declared.typed.Variable.{Variable}
 use Rattle.c_types.specs.declared.typed.Variable.TheVariants as variables
 use Rattle.c_program.specs.Statements.{SomeActions, NoActions, MoreActions}
 use Rattle.c_program.specs.Programs.{ARoutine}
-use Rattle.c_program.specs.Longwords.{ActsOfLongwords}
+use Rattle.c_typed_words.specs.Words.{IsToken}
+use Rattle.c_typed_words.specs.Phrases.{ItemsOf}
 use Rattle.c_sound.specs.Fits.{FitsActs, behind_act, no_local}
 use Rattle.c_sound.specs.Stands.{IsThere, Takes, StandsActs}
 use Rattle.c_typed_scope.specs.declared.entry.Entry.{Entry}
@@ -29,10 +30,10 @@ IsKnown scope locals parameters objects (variables.Parameter n) = n < parameters
 IsKnown scope locals parameters objects (variables.Global n) = n < objects
 IsKnown scope locals parameters objects (variables.Static n) = n < objects
 
--- what a name stands for, where it is a variable or an array
+-- what a name stands for, where it is a variable, or an array, whose size is a longword
 abbrev pub OfVariable : (Variable → Type 0) → Entry → Type 0
 OfVariable known (entries.Variable t v) = known v
-OfVariable known (entries.Array t v size) = known v
+OfVariable known (entries.Array t v size) = known v × (size < 2 ^ 32)
 OfVariable known (entries.Function n) = Unit {0}
 
 -- each variable that a block's names stand for
@@ -75,20 +76,20 @@ abbrev pub AreDefined : List Signature → List ARoutine → Type 0
 AreDefined signatures gs = (n : ℕ) (s : Signature) → slice_get signatures n ≡ Some s → Takes gs (callee_of n) (length s.parameters)
 
 -- what a body is typed as, from one state to another
-pub record BodyIsSound (signatures : List Signature) (looping : Bool) (parameters : ℕ) (s : State) (acts : SomeActions) (r : State) : Type 0 where
-  pub fits : (size : ℕ) → length r.locals ≤ size → ActsOfLongwords acts → FitsActs size no_local looping acts
+pub record BodyIsSound (signatures : List Signature) (looping : Bool) (parameters : ℕ) (row : SomeItems) (s : State) (acts : SomeActions) (r : State) : Type 0 where
+  pub fits : (size : ℕ) → length r.locals ≤ size → ItemsOf IsToken row → FitsActs size no_local looping acts
   pub stands : (gs : List ARoutine) (objects : ℕ) → length r.area.objects ≤ objects → AreDefined signatures gs →
       StandsActs (IsThere objects parameters) (Takes gs) objects acts
   pub order : InOrder (behind_acts no_local acts) parameters r
   pub grows : Grows s r
 
--- The statements of a function's body, where no local is in scope yet, fit and stand.
+-- The statements of a function's body, where no local is in scope yet, stand, and fit where they are of tokens of the grammar.
 abbrev pub BodiesAreSound : Type 0
 BodiesAreSound =
     (names : List (List ℕ × Entry)) (signatures : List Signature) (result : CType) (looping : Bool) (row : SomeItems) (parameters : ℕ)
     (s r : State) (acts : SomeActions) →
     InOrder no_local parameters s → type_items names signatures result looping row s ≡ Ok (acts, r) →
-    BodyIsSound signatures looping parameters s acts r
+    BodyIsSound signatures looping parameters row s acts r
 
 -- what the declaration of an object leaves
 pub record ObjectIsSound (parameters : ℕ) (s r : State) : Type 0 where

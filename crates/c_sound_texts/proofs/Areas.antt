@@ -3,6 +3,8 @@ use Rattle.std.proofs.Common.{◌≡◌, ℕ, ◌+◌, ◌≤◌, ◌==◌, ◌|
 use Rattle.std.proofs.lemmas.Bool.{and_from, le-leb, eq-eqb}
 use Rattle.std.proofs.lemmas.Bool.Decides.{nat_tests}
 use Rattle.std.proofs.lemmas.List.Elements.{All-nil, All-cons, All-append, All-weaker}
+use Rattle.std.proofs.lemmas.List.{map-append}
+use Rattle.c_typed_scope.specs.Contents.{Filled}
 use Rattle.std.specs.Prelude.{nat_lt, if◌then◌else◌}
 use Rattle.std.specs.List.{All}
 use Rattle.tree_core.specs.declared.program.Object.{Object}
@@ -11,7 +13,11 @@ use Rattle.tree_core.specs.Valid.{object_lies, link_lies, LinksLie}
 use Rattle.c_types.specs.Answers.{Fault, ◌>>=◌}
 use Rattle.c_types.specs.Typed.{AnExpression, LiteralAt}
 use Rattle.c_typed_scope.specs.Layout.{Area, aligned, with_object, placed, one_more_literal, literal}
+use Rattle.c_tokens.specs.declared.token.Token.TheVariants as token
+use Rattle.c_sound.specs.Fits.{AreBytes}
+use Rattle.c_typed_words.specs.Words.{IsToken}
 use Rattle.c_sound_bodies.proofs.Growth.{Laying}
+use Rattle.c_sound_texts.proofs.Held.{bytes_joined, places_of, Addressed, Contains, contains_more, contents, AreContained, contained_more}
 
 -- the objects lie one behind another from an address on, up to another
 abbrev pub LieTo : ℕ → List Object → ℕ → Type 0
@@ -22,12 +28,14 @@ lie_further : (at middle last : ℕ) (os more : List Object) → LieTo at os mid
 lie_further at middle last [] more h k = subst (λ m. LieTo m more last) h k
 lie_further at middle last (o ∷ os) more h k = (h.0, lie_further (o.address + o.size) middle last os more h.1 k)
 
--- objects are laid behind those of an area, with links that lie in them
+-- objects are laid behind those of an area, with links that lie in them, bytes, and addresses at their links
 pub record Lays (a b : Area) : Type 0 where
   pub more : List Object
   pub objects : b.objects ≡ a.objects ++ more
   pub lie : LieTo a.end more b.end
   pub links : All (LinksLie (length b.objects)) more
+  pub contents : AreContained (places_of b.objects) more
+  pub sizes : All (λ (o : Object). 1 ≤ o.size) more
   pub measuring : b.measuring ≡ a.measuring
 
 pub lays_same : (a : Area) → Lays a a
@@ -36,6 +44,8 @@ lays_same a = record {
   objects = sym (append-nil a.objects);
   lie = refl;
   links = All-nil (LinksLie (length a.objects));
+  contents = All-nil (λ (o : Object). Contains (places_of a.objects) (contents o));
+  sizes = All-nil (λ (o : Object). 1 ≤ o.size);
   measuring = refl;
 }
 
@@ -53,6 +63,15 @@ longer a b h =
     let sum = length-append a.objects h.more in
     omega arith
 
+pub places_further : (os ps more : List Object) → ps ≡ os ++ more → places_of ps ≡ places_of os ++ places_of more
+places_further os ps more is = ap places_of is ∙ map-append (λ (o : Object). o.address) os more
+
+-- what was held at first, where objects are laid behind
+pub contains_laid : (a b : Area) (f : Filled) → Lays a b → Contains (places_of a.objects) f → Contains (places_of b.objects) f
+contains_laid a b f h c =
+    subst (λ (ps : List ℕ). Contains ps f) (sym (places_further a.objects b.objects h.more h.objects))
+    (contains_more (places_of a.objects) (places_of h.more) f c)
+
 pub lays_further : (a b c : Area) → Lays a b → Lays b c → Lays a c
 lays_further a b c h k = record {
   more = h.more ++ k.more;
@@ -62,6 +81,10 @@ lays_further a b c h k = record {
       (All-weaker (LinksLie (length b.objects)) (LinksLie (length c.objects))
       (links_more (length b.objects) (length c.objects) (longer b c k))
       h.more h.links) k.links;
+  contents = All-append (λ (o : Object). Contains (places_of c.objects) (contents o)) h.more k.more
+      (subst (λ (ps : List ℕ). AreContained ps h.more) (sym (places_further b.objects c.objects k.more k.objects))
+      (contained_more (places_of b.objects) (places_of k.more) h.more h.contents)) k.contents;
+  sizes = All-append (λ (o : Object). 1 ≤ o.size) h.more k.more h.sizes k.sizes;
   measuring = k.measuring ∙ h.measuring;
 }
 
@@ -101,33 +124,37 @@ no_links : (n : ℕ) (o : Object) → o.links ≡ [] → LinksLie n o
 no_links n o none = rw none (All-nil (λ l. link_lies n o.size l ≡ true), λ i j d before within. absurd (omega arith))
 
 -- one more object, which is whole and has no links
-one_more : (label : List ℕ) (align size : ℕ) (bytes : List ℕ) (a b : Area) → is_alignment align ≡ true → length bytes ≡ size →
+one_more : (label : List ℕ) (align size : ℕ) (bytes : List ℕ) (a b : Area) → AreBytes bytes → 1 ≤ size → is_alignment align ≡ true → length bytes ≡ size →
     aligned a.end align + size ≤ 1114112 → b.objects ≡ a.objects ++ object_at label align size bytes [] a ∷ [] →
     b.end ≡ aligned a.end align + size → b.measuring ≡ a.measuring → Lays a b
-one_more label align size bytes a b fits whole within objects end measuring = record {
+one_more label align size bytes a b low some fits whole within objects end measuring = record {
   more = object_at label align size bytes [] a ∷ [];
   objects = objects;
   lie = (object_lies_at label align size bytes [] a fits whole within, end);
   links = All-cons (LinksLie (length b.objects)) (object_at label align size bytes [] a) []
       (no_links (length b.objects) (object_at label align size bytes [] a) refl) (All-nil (LinksLie (length b.objects)));
+  contents = All-cons (λ (o : Object). Contains (places_of b.objects) (contents o)) (object_at label align size bytes [] a) []
+      (record { bytes = low; links = All-nil (Addressed (places_of b.objects) bytes) })
+      (All-nil (λ (o : Object). Contains (places_of b.objects) (contents o)));
+  sizes = All-cons (λ (o : Object). 1 ≤ o.size) (object_at label align size bytes [] a) [] some (All-nil (λ (o : Object). 1 ≤ o.size));
   measuring = measuring;
 }
 
-literal_by : (at : ℕ) (bytes : List ℕ) (measures : Bool) (label : List ℕ) (a : Area) (m : Result (ℕ × Area) Fault) (t : AnExpression × Area) →
+literal_by : (at : ℕ) (bytes : List ℕ) → AreBytes bytes → (measures : Bool) (label : List ℕ) (a : Area) (m : Result (ℕ × Area) Fault) (t : AnExpression × Area) →
     ((r : ℕ × Area) → m ≡ Ok r → Placed label 1 (length bytes + 1) (bytes ++ 0 ∷ []) a r) →
     (if measures then Ok (LiteralAt 0 (length bytes + 1), a)
     else (m >>= λ r. Ok (LiteralAt r.0 (length bytes + 1), one_more_literal r.1))) ≡ Ok t → Lays a t.1
-literal_by at bytes true label a m t h e = let same : t ≡ (LiteralAt 0 (length bytes + 1), a) = cc in rw same (lays_same a)
-literal_by at bytes false label a (Err f) t h e = absurd (cc)
-literal_by at bytes false label a (Ok r) t h e =
+literal_by at bytes w true label a m t h e = let same : t ≡ (LiteralAt 0 (length bytes + 1), a) = cc in rw same (lays_same a)
+literal_by at bytes w false label a (Err f) t h e = absurd (cc)
+literal_by at bytes w false label a (Ok r) t h e =
     let p = h r refl in
     let same : t ≡ (LiteralAt r.0 (length bytes + 1), one_more_literal r.1) = cc in
     let area : r.1 ≡ with_object label 1 (length bytes + 1) (bytes ++ 0 ∷ []) a = ap (λ (x : ℕ × Area). x.1) p.is in
-    rw (same, area) (one_more label 1 (length bytes + 1) (bytes ++ 0 ∷ []) a _ refl (length-append bytes (0 ∷ [])) p.within refl refl refl)
+    rw (same, area) (one_more label 1 (length bytes + 1) (bytes ++ 0 ∷ []) a _ (bytes_joined bytes (0 ∷ []) w (omega arith, tt)) (omega arith) refl (length-append bytes (0 ∷ [])) p.within refl refl refl)
 
-literal_lays : (at : ℕ) (bytes : List ℕ) (a : Area) (t : AnExpression × Area) → literal at bytes a ≡ Ok t → Lays a t.1
+literal_lays : (at : ℕ) (bytes : List ℕ) (a : Area) (t : AnExpression × Area) → IsToken (token.Str bytes) → literal at bytes a ≡ Ok t → Lays a t.1
 unfolding literal
-literal_lays at bytes a t e = literal_by at bytes a.measuring _ a _ t (λ r is. placed_is _ _ _ _ _ a r is) e
+literal_lays at bytes a t w e = literal_by at bytes w a.measuring _ a _ t (λ r is. placed_is _ _ _ _ _ a r is) e
 
-pub laying : Laying Lays
+pub laying : Laying IsToken Lays
 laying = record { same = lays_same; further = lays_further; literal = literal_lays }

@@ -16,7 +16,8 @@ use Rattle.c_typed_scope.specs.declared.entry.Signature.{Signature}
 use Rattle.c_typed_scope.specs.Scopes.{Scope, enter}
 use Rattle.c_typed_scope.specs.Layout.{Area}
 use Rattle.c_program.specs.Programs.{ARoutine}
-use Rattle.c_program.specs.Longwords.{ActsOfLongwords}
+use Rattle.c_typed_words.specs.Words.{IsToken}
+use Rattle.c_typed_words.specs.Phrases.{BodyOf, DeclaredOf, ExternalsOf}
 use Rattle.c_sound.specs.Fits.{FitsActs, no_local}
 use Rattle.c_sound.specs.Stands.{IsThere, Takes, StandsActs}
 use Rattle.c_typed_expressions.specs.Phrases.{brackets_in, params_in}
@@ -36,7 +37,7 @@ use Rattle.c_sound_texts.proofs.Functions.{appended}
 
 -- a typed function, where there are so many objects
 pub record RoutineIsSound (signatures : List Signature) (objects : ℕ) (g : ARoutine) : Type 0 where
-  pub fits : ActsOfLongwords g.body → FitsActs (length g.locals) no_local false g.body
+  pub fits : FitsActs (length g.locals) no_local false g.body
   pub stands : (gs : List ARoutine) (many : ℕ) → objects ≤ many → AreDefined signatures gs →
       StandsActs (IsThere many (length g.parameters)) (Takes gs) many g.body
   pub parameters : length g.parameters ≤ 32
@@ -62,7 +63,7 @@ begins_known locals count parameters objects many le (variables.Parameter n) h =
 begins_known locals count parameters objects many le (variables.Global n) h = omega arith
 begins_known locals count parameters objects many le (variables.Static n) h = omega arith
 
-function_begins : (parameters : ℕ) (s : State) → InOrder no_local 0 s → InOrder no_local parameters (entered_function s)
+pub function_begins : (parameters : ℕ) (s : State) → InOrder no_local 0 s → InOrder no_local parameters (entered_function s)
 function_begins parameters s o = record {
   names = scope_entered (IsKnown no_local 0 parameters (length s.area.objects)) s.scope
       (scope_more (IsKnown no_local (length s.locals) 0 (length s.area.objects)) (IsKnown no_local 0 parameters (length s.area.objects))
@@ -92,9 +93,9 @@ named_grows : (n : List ℕ) (e : Entry) (s : State) → Grows s (named_state n 
 named_grows n e s = record { locals = omega arith; area = extends_same s.area; outer = named_outer n e s.scope }
 
 -- parameters that are declared
-record Parametered (parameters : ℕ) (s r : State) : Type 0 where
-  order : InOrder no_local parameters r
-  grows : Grows s r
+pub record Parametered (parameters : ℕ) (s r : State) : Type 0 where
+  pub order : InOrder no_local parameters r
+  pub grows : Grows s r
 
 parametered_same : (parameters : ℕ) (s : State) → InOrder no_local parameters s → Parametered parameters s s
 parametered_same parameters s o = record { order = o; grows = grows_same s }
@@ -130,7 +131,7 @@ module _ (names : List (List ℕ × Entry)) (signatures : List Signature) where
   parameter_length_extends (Some (Some e)) scope a b j =
       rw (j.whole) (length_extends names signatures scope e a j.part j.typed)
 
-  parameters_order : (parameters : ℕ) (defines : Bool) (ps : List AParam) (n : ℕ) (s r : State) → n + length ps ≤ parameters →
+  pub parameters_order : (parameters : ℕ) (defines : Bool) (ps : List AParam) (n : ℕ) (s r : State) → n + length ps ≤ parameters →
       InOrder no_local parameters s → AreParameters names signatures defines ps n s r → Parametered parameters s r
   parameters_order parameters defines [] n s r le o j = rw j (parametered_same parameters s o)
   parameters_order parameters defines (p ∷ ps) n s r le o j =
@@ -157,11 +158,11 @@ module _ (names : List (List ℕ × Entry)) (signatures : List Signature) where
     routines = λ i g here. elim (appended t.bodies b i g here) [ inl x ↦ h.routines i g x | inr x ↦ rw (x.1) one ];
   })
 
-  body_sound : (spec : Spec) (f : AFunction) (o : Option SomeItems) (s : State) (t r : Text) →
+  body_sound : (spec : Spec) (f : AFunction) (o : Option SomeItems) → BodyOf IsToken o → (s : State) (t r : Text) →
       length (map parameter_type (params_in f.params)) ≤ 32 → InOrder no_local (length (map parameter_type (params_in f.params))) s →
       Grows (entered_function t.state) s → TextIsSound signatures t → IsBody names signatures spec f o s t r → TextIsSound signatures r
-  body_sound spec f None s t r few order grows h j = ended t r s h grows.area grows.outer j
-  body_sound spec f (Some row) s t r few order grows h j =
+  body_sound spec f None w s t r few order grows h j = ended t r s h grows.area grows.outer j
+  body_sound spec f (Some row) w s t r few order grows h j =
       let x = j.part in
       let parameters = length (map parameter_type (params_in f.params)) in
       let sound = bodies_are_sound names signatures (written spec f.stars) false row parameters s x.1 x.0 order
@@ -169,12 +170,12 @@ module _ (names : List (List ℕ × Entry)) (signatures : List Signature) where
       let further = grows_further (entered_function t.state) s x.1 grows sound.grows in
       let behind = ended t (with_state (left_function x.1) t) x.1 h further.area further.outer refl in
       one_more (with_state (left_function x.1) t) r (body_of spec f x.1.locals x.0) behind (record {
-        fits = sound.fits (length x.1.locals) (omega arith);
+        fits = sound.fits (length x.1.locals) (omega arith) w;
         stands = λ gs many le defined. sound.stands gs many le defined;
         parameters = few;
       }) j.whole
 
-  declared_sound : (earlier : Option ℕ) (spec : Spec) (f : AFunction) (t : Text) → TextIsSound signatures t →
+  pub declared_sound : (earlier : Option ℕ) (spec : Spec) (f : AFunction) (t : Text) → TextIsSound signatures t →
       TextIsSound signatures (with_declared earlier spec f t)
   declared_sound (Some n) spec f t h = h
   declared_sound None spec f t h = record {
@@ -182,9 +183,9 @@ module _ (names : List (List ℕ × Entry)) (signatures : List Signature) where
     routines = h.routines;
   }
 
-  function_sound : (spec : Spec) (f : AFunction) (t r : Text) → TextIsSound signatures t → IsFunction names signatures spec f t r →
+  function_sound : (spec : Spec) (f : AFunction) → DeclaredOf IsToken (function f) → (t r : Text) → TextIsSound signatures t → IsFunction names signatures spec f t r →
       TextIsSound signatures r
-  function_sound spec f t r h j =
+  function_sound spec f w t r h j =
       let i = j.whole in
       let m = i.whole in
       let q = m.whole in
@@ -195,7 +196,7 @@ module _ (names : List (List ℕ × Entry)) (signatures : List Signature) where
       let k = declared_sound j.part spec f t h in
       let p = parameters_order parameters (is_some f.body) (params_in f.params) 0 (entered_function u.state) m.part (omega arith)
       (function_begins parameters u.state k.order) m.typed in
-      body_sound spec f f.body m.part u r (few_parameters parameters q.typed.fails) p.order p.grows k q.whole
+      body_sound spec f f.body w.2 m.part u r (few_parameters parameters q.typed.fails) p.order p.grows k q.whole
 
   globals_sound : (spec : Spec) (ds : List ADeclarator) (s r : State) → InOrder no_local 0 s → AreGlobals names signatures spec ds s r →
       Globals s r
@@ -208,10 +209,10 @@ module _ (names : List (List ℕ × Entry)) (signatures : List Signature) where
       let first = one.grows in
       record { order = rest.order; extends = extends_further s.area x.1.area r.area first.area rest.extends }
 
-  external_sound : (spec : Spec) (d : ADeclared) (t r : Text) → TextIsSound signatures t → IsExternalBy names signatures spec d t r →
+  pub external_sound : (spec : Spec) (d : ADeclared) → DeclaredOf IsToken d → (t r : Text) → TextIsSound signatures t → IsExternalBy names signatures spec d t r →
       TextIsSound signatures r
-  external_sound spec (function f) t r h j = function_sound spec f t r h j
-  external_sound spec (globals ds) t r h j =
+  external_sound spec (function f) w t r h j = function_sound spec f w t r h j
+  external_sound spec (globals ds) w t r h j =
       let s = j.part in
       let g = globals_sound spec ds t.state s h.order j.typed in
       rw (j.whole) (record {
@@ -220,8 +221,8 @@ module _ (names : List (List ℕ × Entry)) (signatures : List Signature) where
             routine_more signatures (length t.state.area.objects) (length s.area.objects) b g.extends.objects (h.routines i b here);
       })
 
-  pub externals_sound : (es : List AnExternal) (t r : Text) → TextIsSound signatures t → AreExternals names signatures es t r →
+  pub externals_sound : (es : List AnExternal) → ExternalsOf IsToken es → (t r : Text) → TextIsSound signatures t → AreExternals names signatures es t r →
       TextIsSound signatures r
-  externals_sound [] t r h j = rw j h
-  externals_sound (e ∷ es) t r h j =
-      externals_sound es j.part r (external_sound e.spec e.declared t j.part h j.typed) j.whole
+  externals_sound [] w t r h j = rw j h
+  externals_sound (e ∷ es) w t r h j =
+      externals_sound es w.1 j.part r (external_sound e.spec e.declared w.0 t j.part h j.typed) j.whole

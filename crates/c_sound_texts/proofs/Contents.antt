@@ -16,12 +16,23 @@ use Rattle.c_types.specs.Types.{integer_size, size_of}
 use Rattle.c_types.specs.Typed.{AnExpression}
 use Rattle.c_typed_scope.specs.Contents.{low_bytes, Filled, with_value, address_at, with_link, filled_to}
 use Rattle.c_typed_law.specs.Values.{Null, Address, IsWritten}
+use Rattle.c_sound_texts.proofs.Held.{Contains, places_of, value_contained, link_contained}
 use Rattle.c_sound_texts.proofs.Areas.{link_more}
 use Rattle.c_sound_texts.proofs.Linked.{NamesObjects, linked_below}
 
 low_length : (n v : ℕ) → length (low_bytes n v) ≡ n
 low_length zero v = refl
 low_length (suc n) v = ap suc (low_length n (v / 2 ^ 8))
+
+-- one value more
+pub written_contained : (t : CType) (x : AnExpression) (os : List Object) (f g : Filled) → NamesObjects (length os) x →
+    IsWritten t x os f g → Contains (places_of os) f → Contains (places_of os) g
+written_contained types.Void x os f g named j h = absurd j
+written_contained (types.Integer b) x os f g named j h =
+    let k = j.whole in rw (k.typed) (value_contained (places_of os) (integer_size b) j.part f h)
+written_contained (types.Pointer b n) x os f g named (Null null is) h = rw is (value_contained (places_of os) 4 0 f h)
+written_contained (types.Pointer b n) x os f g named (Address other j) h =
+    let k = j.whole in rw (k.typed) (link_contained os j.part f (linked_below (length os) j.part x named j.typed) h)
 
 -- so many bytes, with links that lie in them, where there are so many objects
 pub record Holds (objects size : ℕ) (f : Filled) : Type 0 where

@@ -57,7 +57,7 @@ find_if : (test : Bool) (x e : Entry) (o p : Option Entry) → (o ≡ Some e →
 find_if true x e o p more h = h
 find_if false x e o p more h = more h
 
-find_further : (es more : List (List ℕ × Entry)) (name : List ℕ) (e : Entry) → find es name ≡ Some e → find (es ++ more) name ≡ Some e
+pub find_further : (es more : List (List ℕ × Entry)) (name : List ℕ) (e : Entry) → find es name ≡ Some e → find (es ++ more) name ≡ Some e
 find_further [] more name e h = absurd (cc)
 find_further (x ∷ es) more name e h =
     find_if (bytes_eq name x.0) x.1 e (find es name) (find (es ++ more) name) (find_further es more name e) h

@@ -1,3 +1,4 @@
+pub mod Held
 pub mod Areas
 pub mod Linked
 pub mod Contents
@@ -6,4 +7,7 @@ pub mod Places
 pub mod Functions
 pub mod Main
 pub mod Bodies
+pub mod Labels
+pub mod Named
+pub mod Labelled
 pub mod Whole

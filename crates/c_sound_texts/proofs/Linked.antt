@@ -11,6 +11,7 @@ use Rattle.c_typed_scope.specs.Layout.{Area}
 use Rattle.c_typed_scope.specs.Contents.{linked_place, linked}
 use Rattle.c_sound.specs.Stands.{Stands, StandsAt, StandAll}
 use Rattle.c_typed_expressions.specs.Relations.{IsTyped}
+use Rattle.c_typed_words.proofs.Any.{AnyToken, any_exp}
 use Rattle.c_sound_bodies.specs.Claim.{ScopeOf}
 use Rattle.c_sound_bodies.proofs.Terms.{Every, Closed}
 use Rattle.c_sound_bodies.proofs.Names.{scope_more}
@@ -39,16 +40,16 @@ all_name : (objects : ℕ) (es : SomeExpressions) → Every (NamesObjects object
 all_name objects NoExpressions all = tt
 all_name objects (MoreExpressions e es) all = (all.0, all_name objects es all.1)
 
-closed : (objects : ℕ) → Closed (IsLaid objects) any_call objects (NamesObjects objects)
+closed : (objects : ℕ) → Closed AnyToken (IsLaid objects) any_call objects (NamesObjects objects)
 closed objects = record {
-  number = λ n. tt;
-  literal = λ n size h. h;
-  array = λ t v size k. k;
+  number = λ n w. tt;
+  literal = λ n size h small. h;
+  array = λ t v size k small. k;
   variable = λ t v k. k;
   pointed = λ t x p. p;
   element = λ t x p. p;
-  size_of_term = λ n x p. tt;
-  size = λ n. tt;
+  size_of_term = λ x p. tt;
+  size = λ t. tt;
   address = λ t p h. h;
   call = λ t f to es takes many all. (tt, all_name objects es all);
   step = λ m by p h. h;
@@ -76,11 +77,11 @@ pub exp_names : (names : List (List ℕ × Entry)) (signatures : List Signature)
     (t : AnExpression × Area) → ScopeOf (IsLaid (length a.objects)) scope → a.measuring ≡ false → Lays a t.1 →
     IsTyped names signatures scope e a t → NamesObjects (length t.1.objects) t.0
 exp_names names signatures scope e a t o free h j =
-    exp_has (IsLaid (length t.1.objects)) any_call (length t.1.objects) (NamesObjects (length t.1.objects)) (closed (length t.1.objects))
+    exp_has AnyToken (IsLaid (length t.1.objects)) any_call (length t.1.objects) (NamesObjects (length t.1.objects)) (closed (length t.1.objects))
     names signatures scope
     (scope_more (IsLaid (length a.objects)) (IsLaid (length t.1.objects)) scope
     (laid_more (length a.objects) (length t.1.objects) (longer a t.1 h)) o)
-    (λ n g is. tt) e a t j (record { laying = free; most = omega arith })
+    (λ n g is. tt) e (any_exp e) a t j (record { laying = free; most = omega arith })
 
 place_below : (objects n : ℕ) (p : APlace) → StandsAt (IsLaid objects) any_call objects p → linked_place p ≡ Some n → n < objects
 place_below objects n (VariableAt t (variables.Global m)) h e = let same : n ≡ m = cc in omega arith

@@ -25,6 +25,8 @@ use Rattle.c_typed_definition.specs.Texts.{parameter_type, Text, with_parameter,
 use Rattle.c_typed_law.specs.Objects.{IsBegun, IsLocal, AreLocals}
 use Rattle.c_typed_law.specs.Statements.{IsFull, IsCondition, IsPart, IsTurn, IsReturn, IsStatement, AreItems}
 use Rattle.c_typed_law.specs.Texts.{IsParameterLength, AreParameters, IsBody, IsFunction, AreGlobals, IsExternalBy, AreExternals}
+use Rattle.c_typed_words.specs.Words.{IsToken}
+use Rattle.c_typed_words.specs.Phrases.{ExpOf, PartOf, BracketsOf, InitOf, DeclaratorOf, DeclaratorsOf, StatementOf, ItemsOf, ParamsOf, BodyOf, DeclaredOf, ExternalsOf}
 use Rattle.c_sound_bodies.specs.Claim.{OfVariable, NamesOf, BlocksOf, ScopeOf}
 use Rattle.c_sound_bodies.proofs.Names.{scope_named, scope_entered}
 use Rattle.c_sound_bodies.proofs.Growth.{exp_lays}
@@ -109,149 +111,149 @@ module _ (start : Area) where
       named_in_place start t.state f.name (entries.Function (length t.declared)) o (λ objects. tt)
 
   module _ (names : List (List ℕ × Entry)) (signatures : List Signature) where
-    begun_in_place : (t : CType) (n : ℕ) (i : Option AnInit) (s : State) (r : ADeclaration × State) → InPlace start s →
+    begun_in_place : (t : CType) (n : ℕ) (i : Option AnInit) → InitOf IsToken i → (s : State) (r : ADeclaration × State) → InPlace start s →
         IsBegun names signatures t n i s r → InPlace start r.1
-    begun_in_place t n None s r o j = rw j o
-    begun_in_place t n (Some (elements es comma)) s r o j = rw j o
-    begun_in_place t n (Some (value e)) s r o j =
+    begun_in_place t n None w s r o j = rw j o
+    begun_in_place t n (Some (elements es comma)) w s r o j = rw j o
+    begun_in_place t n (Some (value e)) w s r o j =
         let k = j.whole in
-        rw (k.whole) (place_more start s j.part.1 o (exp_lays Lays laying names signatures s.scope e s.area j.part j.typed))
+        rw (k.whole) (place_more start s j.part.1 o (exp_lays IsToken Lays laying names signatures s.scope e w s.area j.part j.typed))
 
-    declared_in_place : (storage : Storage) (spec : Spec) (d : ADeclarator) (s : State) (r : ADeclaration × State) → InPlace start s →
+    declared_in_place : (storage : Storage) (spec : Spec) (d : ADeclarator) → DeclaratorOf IsToken d → (s : State) (r : ADeclaration × State) → InPlace start s →
         IsLocal names signatures storage spec d s r → InPlace start r.1
-    declared_in_place storages.Automatic spec d s r o j =
+    declared_in_place storages.Automatic spec d w s r o j =
         let t = written spec d.stars in
-        begun_in_place t (length s.locals) (init_in d.init) (with_local t d.name s) r (local_in_place t d.name s o) j.whole
-    declared_in_place (storages.Register at) spec d s r o j =
+        begun_in_place t (length s.locals) (init_in d.init) w.2 (with_local t d.name s) r (local_in_place t d.name s o) j.whole
+    declared_in_place (storages.Register at) spec d w s r o j =
         let t = written spec d.stars in
-        begun_in_place t (length s.locals) (init_in d.init) (with_local t d.name s) r (local_in_place t d.name s o) j.whole
-    declared_in_place (storages.Static at) spec d s r o j =
-        rw (j.whole) (object_in_place start names signatures true spec d s j.part o j.typed)
+        begun_in_place t (length s.locals) (init_in d.init) w.2 (with_local t d.name s) r (local_in_place t d.name s o) j.whole
+    declared_in_place (storages.Static at) spec d w s r o j =
+        rw (j.whole) (object_in_place start names signatures true spec d w s j.part o j.typed)
 
-    locals_in_place : (storage : Storage) (spec : Spec) (ds : List ADeclarator) (done : List ADeclaration) (s : State)
+    locals_in_place : (storage : Storage) (spec : Spec) (ds : List ADeclarator) → DeclaratorsOf IsToken ds → (done : List ADeclaration) (s : State)
         (r : List ADeclaration × State) → InPlace start s → AreLocals names signatures storage spec ds done s r → InPlace start r.1
-    locals_in_place storage spec [] done s r o j = rw j o
-    locals_in_place storage spec (d ∷ ds) done s r o j =
-        locals_in_place storage spec ds (done ++ j.part.0 ∷ []) j.part.1 r
-        (declared_in_place storage spec d s j.part o j.typed) j.whole
+    locals_in_place storage spec [] w done s r o j = rw j o
+    locals_in_place storage spec (d ∷ ds) w done s r o j =
+        locals_in_place storage spec ds w.1 (done ++ j.part.0 ∷ []) j.part.1 r
+        (declared_in_place storage spec d w.0 s j.part o j.typed) j.whole
 
-    full_in_place : (e : AnExp) (s : State) (r : AnExpression × State) → InPlace start s → IsFull names signatures e s r → InPlace start r.1
-    full_in_place e s r o j =
-        rw (j.whole) (place_more start s j.part.1 o (exp_lays Lays laying names signatures s.scope e s.area j.part j.typed))
+    full_in_place : (e : AnExp) → ExpOf IsToken e → (s : State) (r : AnExpression × State) → InPlace start s → IsFull names signatures e s r → InPlace start r.1
+    full_in_place e w s r o j =
+        rw (j.whole) (place_more start s j.part.1 o (exp_lays IsToken Lays laying names signatures s.scope e w s.area j.part j.typed))
 
-    condition_in_place : (e : AnExp) (s : State) (r : AnExpression × State) → InPlace start s → IsCondition names signatures e s r →
+    condition_in_place : (e : AnExp) → ExpOf IsToken e → (s : State) (r : AnExpression × State) → InPlace start s → IsCondition names signatures e s r →
         InPlace start r.1
-    condition_in_place e s r o j = let k = j.whole in rw (k.whole) (full_in_place e s j.part o j.typed)
+    condition_in_place e w s r o j = let k = j.whole in rw (k.whole) (full_in_place e w s j.part o j.typed)
 
-    part_in_place : (e : Option AnExp) (s : State) (r : Option AnExpression × State) → InPlace start s → IsPart names signatures e s r →
+    part_in_place : (e : Option AnExp) → PartOf IsToken e → (s : State) (r : Option AnExpression × State) → InPlace start s → IsPart names signatures e s r →
         InPlace start r.1
-    part_in_place None s r o j = rw j o
-    part_in_place (Some e) s r o j = rw (j.whole) (full_in_place e s j.part o j.typed)
+    part_in_place None w s r o j = rw j o
+    part_in_place (Some e) w s r o j = rw (j.whole) (full_in_place e w s j.part o j.typed)
 
-    turn_in_place : (e : Option AnExp) (s : State) (r : Option AnExpression × State) → InPlace start s → IsTurn names signatures e s r →
+    turn_in_place : (e : Option AnExp) → PartOf IsToken e → (s : State) (r : Option AnExpression × State) → InPlace start s → IsTurn names signatures e s r →
         InPlace start r.1
-    turn_in_place None s r o j = rw j o
-    turn_in_place (Some e) s r o j = rw (j.whole) (condition_in_place e s j.part o j.typed)
+    turn_in_place None w s r o j = rw j o
+    turn_in_place (Some e) w s r o j = rw (j.whole) (condition_in_place e w s j.part o j.typed)
 
-    returned_in_place : (result : CType) (e : Option AnExp) (s : State) (r : AnAction × State) → InPlace start s →
+    returned_in_place : (result : CType) (e : Option AnExp) → PartOf IsToken e → (s : State) (r : AnAction × State) → InPlace start s →
         IsReturn names signatures result e s r → InPlace start r.1
-    returned_in_place result None s r o j = rw j o
-    returned_in_place result (Some e) s r o j = let k = j.whole in rw (k.whole) (full_in_place e s j.part o j.typed)
+    returned_in_place result None w s r o j = rw j o
+    returned_in_place result (Some e) w s r o j = let k = j.whole in rw (k.whole) (full_in_place e w s j.part o j.typed)
 
     mutual
-      statement_in_place : (result : CType) (looping : Bool) (a : AStatement) (s : State) (r : AnAction × State) → InPlace start s →
+      statement_in_place : (result : CType) (looping : Bool) (a : AStatement) → StatementOf IsToken a → (s : State) (r : AnAction × State) → InPlace start s →
           IsStatement names signatures result looping a s r → InPlace start r.1
-      statement_in_place result looping (block row) s r o j =
-          rw (j.whole) (left_in_place j.part.1 (items_in_place result looping row (entered s) j.part (entered_in_place s o) j.typed))
-      statement_in_place result looping empty s r o j = rw j o
-      statement_in_place result looping (expression e) s r o j = rw (j.whole) (full_in_place e s j.part o j.typed)
-      statement_in_place result looping (break_off at) s r o j = rw (j.typed) o
-      statement_in_place result looping (continue_on at) s r o j = rw (j.typed) o
-      statement_in_place result looping (give_back at e) s r o j = returned_in_place result e s r o j
-      statement_in_place result looping (if_then at opened c a) s r o j =
+      statement_in_place result looping (block row) w s r o j =
+          rw (j.whole) (left_in_place j.part.1 (items_in_place result looping row w (entered s) j.part (entered_in_place s o) j.typed))
+      statement_in_place result looping empty w s r o j = rw j o
+      statement_in_place result looping (expression e) w s r o j = rw (j.whole) (full_in_place e w s j.part o j.typed)
+      statement_in_place result looping (break_off at) w s r o j = rw (j.typed) o
+      statement_in_place result looping (continue_on at) w s r o j = rw (j.typed) o
+      statement_in_place result looping (give_back at e) w s r o j = returned_in_place result e w s r o j
+      statement_in_place result looping (if_then at opened c a) w s r o j =
           let k = j.whole in
-          rw (k.whole) (statement_in_place result looping a j.part.1 k.part (condition_in_place c s j.part o j.typed) k.typed)
-      statement_in_place result looping (if_else at opened c a other b) s r o j =
+          rw (k.whole) (statement_in_place result looping a w.1 j.part.1 k.part (condition_in_place c w.0 s j.part o j.typed) k.typed)
+      statement_in_place result looping (if_else at opened c a other b) w s r o j =
           let k = j.whole in
           let m = k.whole in
-          rw (m.whole) (statement_in_place result looping b k.part.1 m.part
-          (statement_in_place result looping a j.part.1 k.part (condition_in_place c s j.part o j.typed) k.typed) m.typed)
-      statement_in_place result looping (while_loop at opened c a) s r o j =
+          rw (m.whole) (statement_in_place result looping b w.2 k.part.1 m.part
+          (statement_in_place result looping a w.1 j.part.1 k.part (condition_in_place c w.0 s j.part o j.typed) k.typed) m.typed)
+      statement_in_place result looping (while_loop at opened c a) w s r o j =
           let k = j.whole in
-          rw (k.whole) (statement_in_place result true a j.part.1 k.part (condition_in_place c s j.part o j.typed) k.typed)
-      statement_in_place result looping (do_loop at a again opened c) s r o j =
+          rw (k.whole) (statement_in_place result true a w.1 j.part.1 k.part (condition_in_place c w.0 s j.part o j.typed) k.typed)
+      statement_in_place result looping (do_loop at a again opened c) w s r o j =
           let k = j.whole in
-          rw (k.whole) (condition_in_place c j.part.1 k.part (statement_in_place result true a s j.part o j.typed) k.typed)
-      statement_in_place result looping (for_loop at opened i c e a) s r o j =
+          rw (k.whole) (condition_in_place c w.1 j.part.1 k.part (statement_in_place result true a w.0 s j.part o j.typed) k.typed)
+      statement_in_place result looping (for_loop at opened i c e a) w s r o j =
           let k = j.whole in
           let m = k.whole in
           let q = m.whole in
-          let first = part_in_place i s j.part o j.typed in
-          let second = turn_in_place c j.part.1 k.part first k.typed in
-          rw (q.whole) (statement_in_place result true a m.part.1 q.part (part_in_place e k.part.1 m.part second m.typed) q.typed)
+          let first = part_in_place i w.0 s j.part o j.typed in
+          let second = turn_in_place c w.1 j.part.1 k.part first k.typed in
+          rw (q.whole) (statement_in_place result true a w.3 m.part.1 q.part (part_in_place e w.2 k.part.1 m.part second m.typed) q.typed)
 
-      items_in_place : (result : CType) (looping : Bool) (row : SomeItems) (s : State) (r : SomeActions × State) → InPlace start s →
+      items_in_place : (result : CType) (looping : Bool) (row : SomeItems) → ItemsOf IsToken row → (s : State) (r : SomeActions × State) → InPlace start s →
           AreItems names signatures result looping row s r → InPlace start r.1
-      items_in_place result looping no_items s r o j = rw j o
-      items_in_place result looping (local_item l rest) s r o j =
+      items_in_place result looping no_items w s r o j = rw j o
+      items_in_place result looping (local_item l rest) w s r o j =
           let k = j.whole in
-          rw (k.whole) (items_in_place result looping rest j.part.1 k.part
-          (locals_in_place l.storage l.spec l.declarators [] s j.part o j.typed) k.typed)
-      items_in_place result looping (statement_item a rest) s r o j =
+          rw (k.whole) (items_in_place result looping rest w.1 j.part.1 k.part
+          (locals_in_place l.storage l.spec l.declarators w.0 [] s j.part o j.typed) k.typed)
+      items_in_place result looping (statement_item a rest) w s r o j =
           let k = j.whole in
-          rw (k.whole) (items_in_place result looping rest j.part.1 k.part
-          (statement_in_place result looping a s j.part o j.typed) k.typed)
+          rw (k.whole) (items_in_place result looping rest w.1 j.part.1 k.part
+          (statement_in_place result looping a w.0 s j.part o j.typed) k.typed)
 
-    parameter_length_lays : (l : Option (Option AnExp)) (scope : Scope) (a b : Area) →
+    parameter_length_lays : (l : Option (Option AnExp)) → BracketsOf IsToken l → (scope : Scope) (a b : Area) →
         IsParameterLength names signatures l scope a b → Lays a b
-    parameter_length_lays None scope a b j = rw j (lays_same a)
-    parameter_length_lays (Some None) scope a b j = rw j (lays_same a)
-    parameter_length_lays (Some (Some e)) scope a b j =
+    parameter_length_lays None w scope a b j = rw j (lays_same a)
+    parameter_length_lays (Some None) w scope a b j = rw j (lays_same a)
+    parameter_length_lays (Some (Some e)) w scope a b j =
         let k = j.typed in
         let m = k.whole in
         let area : b ≡ k.part.1 = j.whole ∙ ap (λ (x : ℕ × Area). x.1) m.whole in
-        rw area (exp_lays Lays laying names signatures scope e a k.part k.typed)
+        rw area (exp_lays IsToken Lays laying names signatures scope e w a k.part k.typed)
 
-    parameters_in_place : (defines : Bool) (ps : List AParam) (n : ℕ) (s r : State) → InPlace start s →
+    parameters_in_place : (defines : Bool) (ps : List AParam) → ParamsOf IsToken ps → (n : ℕ) (s r : State) → InPlace start s →
         AreParameters names signatures defines ps n s r → InPlace start r
-    parameters_in_place defines [] n s r o j = rw j o
-    parameters_in_place defines (p ∷ ps) n s r o j =
+    parameters_in_place defines [] w n s r o j = rw j o
+    parameters_in_place defines (p ∷ ps) w n s r o j =
         let i = j.typed in
         let k = i.whole in
-        let here = place_more start s k.part o (parameter_length_lays (brackets_in p.length) s.scope s.area k.part k.typed) in
-        parameters_in_place defines ps (n + 1) j.part r
+        let here = place_more start s k.part o (parameter_length_lays (brackets_in p.length) w.0.1 s.scope s.area k.part k.typed) in
+        parameters_in_place defines ps w.1 (n + 1) j.part r
         (rw (k.whole) (parameter_in_place p.name (parameter_type p) n (with_area k.part s) here)) j.whole
 
-    body_in_place : (spec : Spec) (f : AFunction) (row : Option SomeItems) (s : State) (t r : Text) → InPlace start s →
+    body_in_place : (spec : Spec) (f : AFunction) (row : Option SomeItems) → BodyOf IsToken row → (s : State) (t r : Text) → InPlace start s →
         IsBody names signatures spec f row s t r → InPlace start r.state
-    body_in_place spec f None s t r o j = rw j (function_left s o)
-    body_in_place spec f (Some row) s t r o j =
-        rw (j.whole) (function_left j.part.1 (items_in_place (written spec f.stars) false row s j.part o j.typed))
+    body_in_place spec f None w s t r o j = rw j (function_left s o)
+    body_in_place spec f (Some row) w s t r o j =
+        rw (j.whole) (function_left j.part.1 (items_in_place (written spec f.stars) false row w s j.part o j.typed))
 
-    function_in_place : (spec : Spec) (f : AFunction) (t r : Text) → InPlace start t.state → IsFunction names signatures spec f t r →
+    function_in_place : (spec : Spec) (f : AFunction) → DeclaredOf IsToken (function f) → (t r : Text) → InPlace start t.state → IsFunction names signatures spec f t r →
         InPlace start r.state
-    function_in_place spec f t r o j =
+    function_in_place spec f w t r o j =
         let k = j.whole in
         let i = k.whole in
         let m = i.whole in
         let named = function_named j.part spec f t o in
-        body_in_place spec f f.body i.part (with_declared j.part spec f t) r
-        (parameters_in_place (is_some f.body) (params_in f.params) 0 (entered_function (with_declared j.part spec f t).state) i.part
+        body_in_place spec f f.body w.2 i.part (with_declared j.part spec f t) r
+        (parameters_in_place (is_some f.body) (params_in f.params) w.1 0 (entered_function (with_declared j.part spec f t).state) i.part
         (function_entered (with_declared j.part spec f t).state named) i.typed) m.whole
 
-    globals_in_place : (spec : Spec) (ds : List ADeclarator) (s r : State) → InPlace start s → AreGlobals names signatures spec ds s r →
+    globals_in_place : (spec : Spec) (ds : List ADeclarator) → DeclaratorsOf IsToken ds → (s r : State) → InPlace start s → AreGlobals names signatures spec ds s r →
         InPlace start r
-    globals_in_place spec [] s r o j = rw j o
-    globals_in_place spec (d ∷ ds) s r o j =
-        globals_in_place spec ds j.part.1 r (object_in_place start names signatures false spec d s j.part o j.typed) j.whole
+    globals_in_place spec [] w s r o j = rw j o
+    globals_in_place spec (d ∷ ds) w s r o j =
+        globals_in_place spec ds w.1 j.part.1 r (object_in_place start names signatures false spec d w.0 s j.part o j.typed) j.whole
 
-    external_in_place : (spec : Spec) (d : ADeclared) (t r : Text) → InPlace start t.state → IsExternalBy names signatures spec d t r →
+    external_in_place : (spec : Spec) (d : ADeclared) → DeclaredOf IsToken d → (t r : Text) → InPlace start t.state → IsExternalBy names signatures spec d t r →
         InPlace start r.state
-    external_in_place spec (function f) t r o j = function_in_place spec f t r o j
-    external_in_place spec (globals ds) t r o j = rw (j.whole) (globals_in_place spec ds t.state j.part o j.typed)
+    external_in_place spec (function f) w t r o j = function_in_place spec f w t r o j
+    external_in_place spec (globals ds) w t r o j = rw (j.whole) (globals_in_place spec ds w t.state j.part o j.typed)
 
-    pub externals_in_place : (es : List AnExternal) (t r : Text) → InPlace start t.state → AreExternals names signatures es t r →
+    pub externals_in_place : (es : List AnExternal) → ExternalsOf IsToken es → (t r : Text) → InPlace start t.state → AreExternals names signatures es t r →
         InPlace start r.state
-    externals_in_place [] t r o j = rw j o
-    externals_in_place (e ∷ es) t r o j =
-        externals_in_place es j.part r (external_in_place e.spec e.declared t j.part o j.typed) j.whole
+    externals_in_place [] w t r o j = rw j o
+    externals_in_place (e ∷ es) w t r o j =
+        externals_in_place es w.1 j.part r (external_in_place e.spec e.declared w.0 t j.part o j.typed) j.whole

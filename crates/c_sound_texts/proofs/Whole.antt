@@ -1,6 +1,7 @@
 -- The program of a well-typed text is sound.
-use Rattle.std.proofs.Common.{◌≡◌, ℕ, zero, suc, ◌+◌, ◌<◌, ◌^◌, ◌==◌, ◌&&◌, true, List, [], ◌∷◌, length, Some, refl, sym, ap, subst, ◌∙◌, arith}
+use Rattle.std.proofs.Common.{◌≡◌, ℕ, zero, suc, ◌+◌, ◌<◌, ◌≤◌, ◌^◌, ◌==◌, ◌&&◌, true, List, [], ◌∷◌, length, Some, refl, sym, ap, subst, ◌∙◌, arith}
 use Rattle.std.proofs.lemmas.Bool.{and_from, and_parts, leb-true}
+use Rattle.std.proofs.lemmas.List.Elements.{All-head, All-tail}
 use Rattle.std.proofs.lemmas.Slice.Eq.{bytes_eq-Decides}
 use Rattle.std.specs.Prelude.{codes, slice_get, nat_le, IsTrue}
 use Rattle.std.specs.List.{All}
@@ -8,13 +9,19 @@ use Rattle.std.specs.Str.{bytes_eq}
 use Rattle.tree_core.specs.declared.program.Object.{Object}
 use Rattle.tree_core.specs.Valid.{LinksLie, is_aligned, is_whole, is_placed, rounded, object_lies, objects_lie}
 use Rattle.c_phrases.specs.Units.{AnExternal}
+use Rattle.c_typed_scope.specs.declared.entry.Entry.TheVariants as entries
 use Rattle.c_typed_scope.specs.declared.entry.Signature.{Signature}
 use Rattle.c_program.specs.Programs.{AProgram}
 use Rattle.c_sound.specs.Sound.{HoldBytes, IsSound}
 use Rattle.c_typed_definition.specs.Texts.{known, services, service_names, Known, Text, main_of, empty_text}
 use Rattle.c_typed_law.specs.Texts.{AreExternals, IsText}
-use Rattle.c_typed_law.proofs.Texts.{text_means}
-use Rattle.c_sound_texts.specs.Claim.{RoutinesOfLongwords, TypedIsSound}
+use Rattle.c_typed_words.specs.Words.{IsToken}
+use Rattle.c_typed_words.specs.Phrases.{ExternalsOf}
+use Rattle.c_typed_words.proofs.Spelled.{tokens_of}
+use Rattle.c_sound_texts.specs.Claim.{TypedIsSound}
+use Rattle.c_sound_texts.proofs.Held.{places_of, Contains, contents, AreContained}
+use Rattle.c_sound_texts.proofs.Named.{IsNamed, externals_named}
+use Rattle.c_sound_texts.proofs.Labelled.{are_labelled}
 use Rattle.c_sound_texts.proofs.Areas.{LieTo, lays_same}
 use Rattle.c_sound_texts.proofs.Objects.{InPlace}
 use Rattle.c_sound_texts.proofs.Places.{externals_in_place}
@@ -70,23 +77,43 @@ begins_in_place = record {
   lays = lays_same empty_text.state.area;
 }
 
+begins_named : IsNamed empty_text.state []
+begins_named = record {
+  each = tt;
+  differ = λ few. tt;
+  counted = omega arith;
+  functions = λ i g p. absurd (cc);
+  putchar = record { entry = entries.Function 0; found = refl; function = tt };
+  getchar = record { entry = entries.Function 1; found = refl; function = tt };
+}
+
+holds_bytes : (ps : List ℕ) (os : List Object) → AreContained ps os → HoldBytes os
+holds_bytes ps [] all n o here = absurd (cc)
+holds_bytes ps (x ∷ os) all zero o here =
+    let same : o ≡ x = cc in
+    let one = All-head (λ (z : Object). Contains ps (contents z)) x os all in
+    rw same (one.bytes)
+holds_bytes ps (x ∷ os) all (suc n) o here =
+    holds_bytes ps os (All-tail (λ (z : Object). Contains ps (contents z)) x os all) n o here
+
 -- the program of a text
-abbrev program_of : Text → ℕ → AProgram
+abbrev pub program_of : Text → ℕ → AProgram
 program_of t n = record { objects = t.state.area.objects; routines = t.bodies; main = n }
 
-whole_is_sound : (text : List AnExternal) (t : Text) (n : ℕ) →
-    AreExternals (known text).names (known text).signatures text empty_text t → main_of t.bodies ≡ Some n →
-    RoutinesOfLongwords (program_of t n) → HoldBytes t.state.area.objects → IsSound (program_of t n)
-whole_is_sound text t n j main numbers contents =
+whole_is_sound : (text : List AnExternal) (t : Text) (n : ℕ) → ExternalsOf IsToken text →
+    AreExternals (known text).names (known text).signatures text empty_text t → main_of t.bodies ≡ Some n → IsSound (program_of t n)
+whole_is_sound text t n w j main =
     let k = known text in
     let c = externals_correspond k.names k.signatures text beginning empty_text t refl j begins_corresponding in
-    let s = externals_sound k.names k.signatures text empty_text t (begins_sound k.signatures) j in
-    let place = externals_in_place empty_text.state.area k.names k.signatures text empty_text t begins_in_place j in
+    let s = externals_sound k.names k.signatures text w empty_text t (begins_sound k.signatures) j in
+    let named = externals_named k.names k.signatures text w empty_text t (begins_sound k.signatures) begins_named j in
+    let place = externals_in_place empty_text.state.area k.names k.signatures text w empty_text t begins_in_place j in
     let lays = place.lays in
     let os : t.state.area.objects ≡ lays.more = lays.objects in
+    let contained = subst (AreContained (places_of t.state.area.objects)) (sym os) lays.contents in
     let m = main_at t.bodies n main in
     record {
-      fits = λ f g here. (s.routines f g here).fits (numbers f g here);
+      fits = λ f g here. (s.routines f g here).fits;
       stands = λ f g here.
           (s.routines f g here).stands t.bodies (length t.state.area.objects) (omega arith) (corresponds_defined k t.bodies c);
       parameters = λ f g here. (s.routines f g here).parameters;
@@ -100,14 +127,18 @@ whole_is_sound text t n j main numbers contents =
       links = subst (All (LinksLie (length t.state.area.objects))) (sym os) lays.links;
       addresses = λ i o here.
           addresses_below 65536 lays.more t.state.area.end lays.lie i o (ap (λ (x : List Object). slice_get x i) (sym os) ∙ here);
-      contents = contents;
+      contents = holds_bytes (places_of t.state.area.objects) t.state.area.objects contained;
+      labels = are_labelled t.state t.bodies t.state.area.end named
+          (subst (λ (x : List Object). LieTo 65536 x t.state.area.end) (sym os) lays.lie)
+          (subst (All (λ (o : Object). 1 ≤ o.size)) (sym os) lays.sizes) contained;
     }
 
-pub typed_is_sound : TypedIsSound
+-- the program that a text whose phrases are of tokens of the grammar is typed as
+pub text_is_sound : (p : AProgram) (text : List AnExternal) → ExternalsOf IsToken text → IsText text p → IsSound p
 unfolding IsText
-typed_is_sound p text end typed numbers contents =
-    let j = (text_means text end).found p typed in
-    let w = j.whole in
-    subst IsSound (sym w.whole)
-    (whole_is_sound text j.part w.part j.typed w.typed (subst RoutinesOfLongwords w.whole numbers)
-    (subst (λ (x : AProgram). HoldBytes x.objects) w.whole contents))
+text_is_sound p text w j =
+    let k = j.whole in
+    subst IsSound (sym k.whole) (whole_is_sound text j.part k.part w j.typed k.typed)
+
+pub typed_is_sound : TypedIsSound
+typed_is_sound p unit w j = text_is_sound p unit.externals (tokens_of unit w) j

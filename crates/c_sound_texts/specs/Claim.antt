@@ -1,16 +1,10 @@
 -- What is claimed of typed texts.
-use Rattle.std.specs.Prelude.{◌≡◌, ℕ, List, Some, Ok, slice_get}
-use Rattle.c_phrases.specs.Units.{AnExternal}
-use Rattle.c_program.specs.Longwords.{ActsOfLongwords}
-use Rattle.c_program.specs.Programs.{ARoutine, AProgram}
-use Rattle.c_sound.specs.Sound.{HoldBytes, IsSound}
-use Rattle.c_typed_definition.specs.Texts.{type_text}
+use Rattle.c_phrases.specs.Units.{AUnit}
+use Rattle.c_program.specs.Programs.{AProgram}
+use Rattle.c_sound.specs.Sound.{IsSound}
+use Rattle.c_typed_law.specs.Texts.{IsText}
+use Rattle.c_typed_words.specs.Words.{HasTokens}
 
--- in each function's statements each number is a longword
-abbrev pub RoutinesOfLongwords : AProgram → Type 0
-RoutinesOfLongwords p = (f : ℕ) (g : ARoutine) → slice_get p.routines f ≡ Some g → ActsOfLongwords g.body
-
--- The program that a text is typed as is sound, where its numbers are longwords and its objects hold bytes.
+-- The program that a unit is typed as is sound, where the unit's tokens are those of the grammar.
 abbrev pub TypedIsSound : Type 0
-TypedIsSound =
-    (p : AProgram) (text : List AnExternal) (end : ℕ) → type_text text end ≡ Ok p → RoutinesOfLongwords p → HoldBytes p.objects → IsSound p
+TypedIsSound = (p : AProgram) (unit : AUnit) → HasTokens unit → IsText unit.externals p → IsSound p

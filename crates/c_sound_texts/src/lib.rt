@@ -3,7 +3,7 @@
 
 ghost use Rattle.c_sound_texts.specs.Claim.{TypedIsSound};
 
-/// The law: a typed program whose numbers are longwords and whose objects hold bytes is sound. It does nothing.
+/// The law: the program that a unit of tokens of the grammar is typed as is sound. It does nothing.
 pub fn typed_is_sound()
     ensures { TypedIsSound }
 {}

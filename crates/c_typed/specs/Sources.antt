@@ -13,9 +13,8 @@ use Rattle.c_phrases.specs.Fits.{IsUnit}
 use Rattle.c_syntax_goals.specs.Refusals.{NotHereAt, TooDeepAt}
 use Rattle.c_types.specs.declared.fault.TypeKind.{TypeKind}
 use Rattle.c_types.specs.declared.fault.TypeKind.TheVariants as types
-use Rattle.c_types.specs.Answers.{bad}
 use Rattle.c_program.specs.Programs.{AProgram}
-use Rattle.c_typed_definition.specs.Texts.{type_text}
+use Rattle.c_typed_law.specs.Texts.{IsText, TextFault}
 use Rattle.c_typed.specs.declared.source.SourceKind.{SourceKind}
 use Rattle.c_typed.specs.declared.source.SourceKind.TheVariants as kinds
 use Rattle.c_typed.specs.declared.source.SourceFault.{SourceFault}
@@ -29,11 +28,11 @@ pub record Spells (bytes : List ℕ) (unit : AUnit) : Type 0 where
   pub tokens : Tokens 0 bytes list
   pub phrases : IsUnit (seen list) unit
 
--- the bytes are the source of this program: the tokens of a unit that is typed so
+-- the bytes are the source of this program: the tokens of a unit that is well typed, as this program
 pub record Reads (bytes : List ℕ) (program : AProgram) : Type 0 where
   pub unit : AUnit
   pub spells : Spells bytes unit
-  pub typed : type_text unit.externals unit.end ≡ Ok program
+  pub typed : IsText unit.externals program
 
 -- the line and the column of an offset
 abbrev pub place_at : List ℕ → ℕ → Place
@@ -81,7 +80,7 @@ pub record HasTypeFault (bytes : List ℕ) (place : Place) (kind : SourceKind) :
   pub spells : Spells bytes unit
   pub offset : ℕ
   pub fault : TypeKind
-  pub first : type_text unit.externals unit.end ≡ bad offset fault
+  pub first : TextFault unit.externals unit.end (record { place = offset; kind = fault })
   pub kind_is : kind ≡ type_kind fault
   pub place_is : place ≡ place_at bytes offset
 
@@ -99,6 +98,12 @@ abbrev pub IsOnly : Result Program SourceFault → AProgram → Type 0
 IsOnly (Ok p) program = typed p ≡ program
 IsOnly (Err faults.NoMemory) program = Unit {0}
 IsOnly (Err (faults.At place kind)) program = ⊥
+
+-- the answer where this fault stands: this fault, or memory ran out
+abbrev pub IsOnlyFault : Result Program SourceFault → Place → SourceKind → Type 0
+IsOnlyFault (Ok p) place kind = ⊥
+IsOnlyFault (Err faults.NoMemory) place kind = Unit {0}
+IsOnlyFault (Err (faults.At p k)) place kind = (p ≡ place) × (k ≡ kind)
 
 -- the kind's name
 abbrev pub kind_name : SourceKind → List ℕ

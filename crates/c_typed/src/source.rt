@@ -4,12 +4,15 @@ ghost use Rattle.c_tokens.specs.declared.token.Spanned.{Spanned as ASpanned};
 ghost use Rattle.c_tokens.specs.Grammar.{Tokens};
 ghost use Rattle.c_program.specs.Programs.{AProgram};
 ghost use Rattle.c_typed_check.specs.Views.{typed};
-ghost use Rattle.c_typed.specs.Sources.{Reads, IsRefused, IsOnly, place_at, token_kind, type_kind, kind_name};
+ghost use Rattle.gg_base.specs.declared.place.Place.{Place};
+ghost use Rattle.c_typed.specs.declared.source.SourceKind.{SourceKind};
+ghost use Rattle.c_typed.specs.Sources.{Reads, IsRefused, IsOnly, IsFaultAt, IsOnlyFault, place_at, token_kind, type_kind, kind_name};
 
 use c_syntax::{SyntaxFault, parse};
 use c_syntax_goals::laws::tokens_are_ended;
 use c_tokens::{TokenFault, TokenKind, place_of, tokens};
 use c_typed_check::{Program, check};
+use c_typed_words::source_has_tokens;
 use c_types::{TypeFault, TypeKind};
 use gg_base::Place;
 use std::alloc::Global;
@@ -133,8 +136,10 @@ pub fn read_source(alloc: Global, bytes: &[u8]) -> Result<Program, SourceFault>
     ensures found { IfOk result (λ p. Reads bytes.now (typed p)) }
     ensures only { (p : AProgram) → Reads bytes.now p → IsOnly result p }
     ensures refused { IfErr result (λ fault. IsRefused bytes.now fault) }
+    ensures first { (place : Place) (kind : SourceKind) → IsFaultAt bytes.now place kind → IsOnlyFault result place kind }
 {
     tokens_are_ended();
+    source_has_tokens();
     let list = match tokens(alloc, bytes) {
         Ok(list) => list,
         Err(TokenFault::NoMemory) => return Err(SourceFault::NoMemory),

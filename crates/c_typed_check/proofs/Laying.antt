@@ -28,6 +28,7 @@ use Rattle.c_typed_definition.specs.Declarations.{State, with_area, measuring, c
 use Rattle.c_typed_definition.specs.Statements.{entered, left, jump, type_full, type_condition, type_maybe, type_maybe_condition, type_return, type_statement, type_items}
 use Rattle.c_typed_definition.specs.Texts.{with_parameter, Text, with_declared, entered_function, signature_of, agrees, earlier_by, head_of, is_below, type_parameter, parameter_length, type_parameters, type_body, type_introduced, type_function, type_globals, type_declared, type_externals, whole_by, main_of, known, empty_text, type_text}
 use Rattle.c_typed_check.specs.Laid.{LiesBehind, LieFrom, AreLaid}
+use Rattle.c_typed_law.proofs.Texts.{text_means}
 use Rattle.c_typed_check.specs.Typed.{IsTypedUnit}
 
 -- one more behind the others
@@ -307,4 +308,4 @@ whole_leaves (Some n) end t = leave_ok _ _ _ (λ l. record { last = t.state.area
 pub typed_are_laid : (p : AProgram) → IsTypedUnit p → AreLaid p.objects
 unfolding type_text
 typed_are_laid p given =
-    (leave_then _ _ _ _ _ (externals_leave (known given.unit.externals).names (known given.unit.externals).signatures given.unit.externals empty_text) (λ t. whole_leaves (main_of t.bodies) given.unit.end t)).leaves p given.typed (record { lie = refl })
+    (leave_then _ _ _ _ _ (externals_leave (known given.unit.externals).names (known given.unit.externals).signatures given.unit.externals empty_text) (λ t. whole_leaves (main_of t.bodies) given.unit.end t)).leaves p ((text_means given.unit.externals given.unit.end).only p given.typed) (record { lie = refl })

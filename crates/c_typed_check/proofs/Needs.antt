@@ -16,6 +16,7 @@ use Rattle.c_typed_expressions.specs.Expressions.{integer_of, written}
 use Rattle.c_typed_scope.specs.Scopes.{find}
 use Rattle.c_typed_definition.specs.Statements.{type_items}
 use Rattle.c_typed_definition.specs.Texts.{Text, with_declared, with_state, with_body, body_of, left_function, entered_function, signature_of, agrees, earlier_by, head_of, is_below, type_parameters, type_globals, type_body, type_introduced, type_function, type_declared, type_external, type_externals, main_of, whole_by, type_text, empty_text, known}
+use Rattle.c_typed_law.proofs.Texts.{text_means}
 use Rattle.c_typed_check.specs.Typed.{IsTypedUnit, need_in, need_at}
 
 pub record KeepsNeed (r : ARoutine) : Type 0 where
@@ -89,7 +90,7 @@ whole_keeps (Some n) end t p typed keep = subst (λ x. AllKeep x.routines) (ok_s
 pub typed_keeps : (p : AProgram) → IsTypedUnit p → AllKeep p.routines
 unfolding type_text
 typed_keeps p given =
-    let b = bound (type_externals (known given.unit.externals).names (known given.unit.externals).signatures given.unit.externals empty_text) (λ t. whole_by (main_of t.bodies) given.unit.end t) p given.typed in
+    let b = bound (type_externals (known given.unit.externals).names (known given.unit.externals).signatures given.unit.externals empty_text) (λ t. whole_by (main_of t.bodies) given.unit.end t) p ((text_means given.unit.externals given.unit.end).only p given.typed) in
     whole_keeps (main_of b.part.bodies) given.unit.end b.part p b.rest (externals_keep (known given.unit.externals).names (known given.unit.externals).signatures given.unit.externals empty_text b.part b.is tt)
 
 pub kept_need : (rs : List Routine) (n : ℕ) (d : Routine) → AllKeep (map routine rs) → n < length rs → (get_or rs n d).need ≡ need_in (slice_get (map routine rs) n)

@@ -1,14 +1,16 @@
 -- What each program keeps: its typing, and so the frame need of each function.
-use Rattle.std.specs.Prelude.{◌≡◌, ℕ, Option, Some, None, Ok, slice_get}
+use Rattle.std.specs.Prelude.{ℕ, Option, Some, None, slice_get}
 use Rattle.c_phrases.specs.Units.{AUnit}
 use Rattle.c_program.specs.Programs.{ARoutine, AProgram}
 use Rattle.c_program.specs.Need.{need_of}
-use Rattle.c_typed_definition.specs.Texts.{type_text}
+use Rattle.c_typed_law.specs.Texts.{IsText}
+use Rattle.c_typed_words.specs.Words.{HasTokens}
 
--- it is the typed program of some unit, which has no typing fault
+-- it is the typed program of some unit, whose tokens are those of the grammar
 pub record IsTypedUnit (p : AProgram) : Type 0 where
   pub unit : AUnit
-  pub typed : type_text unit.externals unit.end ≡ Ok p
+  pub tokens : HasTokens unit
+  pub typed : IsText unit.externals p
 
 -- the frame need of a function, by its number in order of definition
 abbrev pub need_in : Option ARoutine → ℕ

@@ -3,6 +3,7 @@ ghost use Rattle.std.specs.Prelude.{◌≡◌, ◌<◌, ◌∷◌, [], IfOk, IfE
 ghost use Rattle.c_types.specs.Answers.{Fault, Gives};
 ghost use Rattle.c_typed_operators.specs.Table.{Refused, OnlyAnswer, OnlyFault};
 ghost use Rattle.c_typed_law.specs.Texts.{IsText, TextFault};
+ghost use Rattle.c_typed_words.specs.Words.{HasTokens};
 ghost use Rattle.c_phrases.specs.UnitShapes.{external_of, externals_of, declarators_of, unit_of};
 ghost use Rattle.c_typed_scope.specs.Answers.{OnlyTurns};
 ghost use Rattle.c_typed_objects.specs.Views.{state};
@@ -28,7 +29,8 @@ use tree_core::{Object, Objects};
 
 const INT: CType = CType::Integer(Integer::Int);
 
-/// A program with its types and its layout: it is the typed program of some unit without a typing fault.
+/// A program with its types and its layout: it is the typed program of some unit without a typing fault, whose names, numbers
+/// and strings are tokens, at most 1,048,577 of them.
 #[derive(Drop)]
 pub struct Program {
     held: c_program::Program,
@@ -207,6 +209,7 @@ fn main_number(routines: &[Routine]) -> Option<usize>
 // The typed program of a unit, or its first fault, by the definition.
 #[tactic(auto, using(crate::proofs::Texts::no_fault))]
 fn typed_unit(alloc: Global, ast: &Ast) -> Result<Program, TypeFault>
+    requires { HasTokens (unit_of ast.now) }
     ensures computed { Gives (λ p. program p.held) result (type_text (unit_of ast.now).externals (unit_of ast.now).end) }
 {
     let functions = known(alloc, &ast.externals)?;
@@ -233,8 +236,10 @@ fn typed_unit(alloc: Global, ast: &Ast) -> Result<Program, TypeFault>
 }
 
 /// A unit with its types and its layout, or its first fault: externals in order, the parts of each from left to right,
-/// operands before their operator; NoMain, at the end of the text, behind all others.
+/// operands before their operator; NoMain, at the end of the text, behind all others. The unit has at most 1,048,577 tokens,
+/// and its names, numbers and strings are tokens of the grammar.
 pub fn check(alloc: Global, ast: &Ast) -> Result<Program, TypeFault>
+    requires { HasTokens (unit_of ast.now) }
     ensures computed { Gives (λ p. program p.held) result (type_text (unit_of ast.now).externals (unit_of ast.now).end) }
     ensures found { IfOk result (λ p. IsText (unit_of ast.now).externals (program p.held)) }
     ensures only { (p : AProgram) → IsText (unit_of ast.now).externals p → OnlyAnswer (λ p. program p.held) result p }

@@ -1,5 +1,5 @@
 -- What the form of a declarator tells by itself.
-use Rattle.std.specs.Prelude.{◌≡◌, ℕ, ◌+◌, ◌==◌, nat_lt, Bool, true, false, List, length, Option, Some, None, Result, Ok, if◌then◌else◌}
+use Rattle.std.specs.Prelude.{not, ◌≡◌, ℕ, ◌+◌, ◌==◌, nat_lt, Bool, true, false, List, length, Option, Some, None, Result, Ok, if◌then◌else◌}
 use Rattle.c_types.specs.declared.types.CType.{CType}
 use Rattle.c_types.specs.declared.fault.TypeKind.TheVariants.{Twice, LeftOut, BadInit, BadType}
 use Rattle.c_types.specs.Answers.{Fault, bad}
@@ -16,7 +16,7 @@ text_of (str b at) = Some b
 text_of (paren o e) = text_of e
 text_of _ = None
 
--- an array's initialiser is a list, or for one-byte elements a string literal; any other variable's is one value
+-- an array's initialiser is a list that is not empty, or for one-byte elements a string literal; any other variable's is one value
 abbrev pub text_fits : Option (List ℕ) → CType → Bool
 text_fits None t = false
 text_fits (Some b) t = size_of t == 1
@@ -24,7 +24,7 @@ text_fits (Some b) t = size_of t == 1
 abbrev pub array_form : CType → Option AnExp → Option AnInit → Bool
 array_form t None None = false
 array_form t (Some e) None = true
-array_form t l (Some (elements es comma)) = true
+array_form t l (Some (elements es comma)) = not (count es == 0)
 array_form t l (Some (value e)) = text_fits (text_of e) t
 
 abbrev pub form_fits : CType → Option (Option AnExp) → Option AnInit → Bool

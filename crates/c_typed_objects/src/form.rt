@@ -43,7 +43,9 @@ fn is_text(of: CType, e: &Expr) -> bool
 
 ghost use Rattle.c_typed_definition.specs.Forms.{text_fits};
 
-// An array's initialiser is a list, or for one-byte elements a string literal; any other variable's is one value.
+// An array's initialiser is a list that isn't empty, or for one-byte elements a string literal; any other variable's is
+// one value.
+#[tactic(auto, using(crate::proofs::Lists::count_is))]
 fn form_fits(of: CType, length: &Option<Length>, given: &Option<Initialised>) -> bool
     ensures { result ≡ form_fits of (brackets_in (length_of length.now)) (init_in (initialised_of given.now)) }
 {
@@ -58,7 +60,7 @@ fn form_fits(of: CType, length: &Option<Length>, given: &Option<Initialised>) ->
         Some(length) => match given {
             None => length.value.is_some(),
             Some(given) => match &given.with {
-                Initialiser::List { .. } => true,
+                Initialiser::List { items, .. } => !items.is_empty(),
                 Initialiser::Value(e) => is_text(of, e),
             },
         },

@@ -2,6 +2,7 @@ use Rattle.std.proofs.Common.{◌≡◌, refl, Ok}
 use Rattle.std.proofs.lemmas.Result.{err_from_is_err_and}
 use Rattle.c_phrases.specs.UnitShapes.{unit_of}
 use Rattle.c_typed_statements.specs.Views.{text}
+use Rattle.c_typed_law.proofs.Texts.{text_means}
 use Rattle.c_typed_check.specs.Functions.{functions_of}
 use Rattle.c_typed_check.proofs.Texts.{whole_runs, whole_fails, whole_lacks}
 use Rattle.c_typed_check.proofs.program.typed_unit.Goals as goal
@@ -22,7 +23,8 @@ pub invariant_of-result : goal.invariant_of-result
 invariant_of-result c = record {
   is_typed = ∣ record {
     unit = unit_of c.args.ast.now;
-    typed = whole_runs c.args.ast.now.externals.items c.deref.result.now c.deref-2.result.now c.args.ast.now.end (functions_of c.in_ok-functions.functions) (text c.in_ok-builder.builder) c.deref.ensures.value c.deref-2.ensures.value c.in_ok-functions.ensures c.in_ok-builder.ensures (text c.externals.new.builder) c.in-Some.main c.from_vec.result c.externals.new.builder.routines.items c.deref-3.result.now c.in_ok-externals.ensures c.in-Some.ensures c.deref-3.ensures.value refl c.from_vec.ensures;
+    tokens = c.requires;
+    typed = (text_means (unit_of c.args.ast.now).externals (unit_of c.args.ast.now).end).found _ (whole_runs c.args.ast.now.externals.items c.deref.result.now c.deref-2.result.now c.args.ast.now.end (functions_of c.in_ok-functions.functions) (text c.in_ok-builder.builder) c.deref.ensures.value c.deref-2.ensures.value c.in_ok-functions.ensures c.in_ok-builder.ensures (text c.externals.new.builder) c.in-Some.main c.from_vec.result c.externals.new.builder.routines.items c.deref-3.result.now c.in_ok-externals.ensures c.in-Some.ensures c.deref-3.ensures.value refl c.from_vec.ensures);
   } ∣₁;
 }
 
