@@ -1,0 +1,2 @@
+pub mod EachShown
+pub mod Telling

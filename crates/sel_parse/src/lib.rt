@@ -1,0 +1,9 @@
+//! Selection of instructions by a description's tables, for any target: first each rule is shown to do what its pattern says.
+#![tactic(auto)]
+
+mod fault;
+mod generator;
+mod showing;
+
+pub use fault::ShowFault;
+pub use generator::{Generator, show_rules};
