@@ -1,5 +1,5 @@
 -- Each status comes where its cause is there.
-use Rattle.std.proofs.Common.{◌≡◌, ◌<◌, ◌≤◌, ℕ, List, length, Option, Some, None, inl, inr, refl, sym, ap, subst, ◌∙◌, arith}
+use Rattle.std.proofs.Common.{◌≡◌, ◌<◌, ℕ, List, length, Option, Some, None, inl, inr, refl, sym, ap, subst, ◌∙◌, arith}
 use Rattle.gg_outside.specs.Outside.{Content, Stored, IsThat, IsLonger}
 use Rattle.cmd_session.specs.Reading.{Intake, LosesAll, GivesAll, HasOver, Fails as InputFails}
 use Rattle.cmd_session.specs.Lines.{end_status}
@@ -22,7 +22,8 @@ data Kind {A : Type 0} (form : Form A) (runner : Runner A) (result : Status) (ca
   FileLong : (is : result ≡ statuses.TooLong) (longer : IsLonger (file_of call) form.limit) → Kind form runner result call
   Wrong : (is : result ≡ form.status) (line : List ℕ) (wrong : HoldsNone form (file_of call) line) → Kind form runner result call
   InputLong : (is : result ≡ statuses.TooLong) (item : A) (holds : Holds form (file_of call) item) (over : HasOver input_limit call.input.old) → Kind form runner result call
-  Unable : (is : result ≡ form.status) (item : A) (holds : Holds form (file_of call) item) (bytes : List ℕ) (input : GetsInput call bytes) (line : List ℕ) (fault : runner.fault item ≡ Some line) → Kind form runner result call
+  Unable : (is : result ≡ form.status) (item : A) (holds : Holds form (file_of call) item) (bytes : List ℕ) (input : GetsInput call bytes) (line : List ℕ)
+      (fault : runner.fault item ≡ Some line) → Kind form runner result call
   Ran : (item : A) (bytes : List ℕ) (starts : Starts form runner call item bytes) (is : result ≡ end_status (runner.run item bytes call.count).end) → Kind form runner result call
 
 ran : {A : Type 0} (form : Form A) (runner : Runner A) (result : Status) (call : Call) (end : End) → RanTo form runner call end → result ≡ end_status end → Kind form runner result call
@@ -34,7 +35,8 @@ refused form runner status call r = elim r.why [
   | inr unable ↦ Unable (sym r.status_is) unable.item unable.finds.holds unable.bytes unable.input unable.line unable.fault
 ]
 
-kinds : {A : Type 0} (form : Form A) (runner : Runner A) (result : Status) (call : Call) → Leaves form runner result call → HasNoFault call.name call.at → (InputFails call.input → ⊥) → Kind form runner result call
+kinds : {A : Type 0} (form : Form A) (runner : Runner A) (result : Status) (call : Call) → Leaves form runner result call → HasNoFault call.name call.at →
+    (InputFails call.input → ⊥) → Kind form runner result call
 kinds form runner statuses.Done call l n f = ran form runner statuses.Done call _ l.ran refl
 kinds form runner statuses.Usage call l n f = absurd l
 kinds form runner statuses.NoMemory call l n f = Memory refl
@@ -103,7 +105,8 @@ bytes_not_over input bytes h over = omega (arith, over_is input.old bytes h.left
 fault_or_none : {A : Type 0} (runner : Runner A) (item other : A) (line : List ℕ) → other ≡ item → runner.fault item ≡ None → runner.fault other ≡ Some line → ⊥
 fault_or_none runner item other line same able found = let e : None ≡ Some line = sym able ∙ ap runner.fault (sym same) ∙ found in cc
 
-long_file : {A : Type 0} (form : Form A) (runner : Runner A) (result : Status) (call : Call) → IsLongFile form.limit (file_of call) → Kind form runner result call → IsAnswer statuses.TooLong result
+long_file : {A : Type 0} (form : Form A) (runner : Runner A) (result : Status) (call : Call) → IsLongFile form.limit (file_of call) → Kind form runner result call →
+    IsAnswer statuses.TooLong result
 long_file form runner result call h (Memory is) = inr is
 long_file form runner result call h (FileLong is longer) = inl is
 long_file form runner result call h (Wrong is line wrong) = absurd (long_not_wrong form (file_of call) line h wrong)
@@ -119,7 +122,8 @@ no_item form runner result call h (InputLong is item holds over) = absurd (none_
 no_item form runner result call h (Unable is item holds bytes input line fault) = inl is
 no_item form runner result call h (Ran item bytes starts is) = absurd (none_no_item form (file_of call) item h starts.finds.holds)
 
-long_input : {A : Type 0} (form : Form A) (runner : Runner A) (result : Status) (call : Call) (item : A) → IsItem form (file_of call) item → LeavesLong call.input → Kind form runner result call → IsAnswer statuses.TooLong result
+long_input : {A : Type 0} (form : Form A) (runner : Runner A) (result : Status) (call : Call) (item : A) → IsItem form (file_of call) item → LeavesLong call.input →
+    Kind form runner result call → IsAnswer statuses.TooLong result
 long_input form runner result call item h l (Memory is) = inr is
 long_input form runner result call item h l (FileLong is longer) = inl is
 long_input form runner result call item h l (Wrong is line wrong) = absurd (item_not_wrong form (file_of call) item line h wrong)
@@ -127,7 +131,8 @@ long_input form runner result call item h l (InputLong is other holds over) = in
 long_input form runner result call item h l (Unable is other holds bytes input line fault) = absurd (long_not_given call.input call bytes l input)
 long_input form runner result call item h l (Ran other bytes starts is) = absurd (long_not_given call.input call bytes l starts.input)
 
-unable : {A : Type 0} (form : Form A) (runner : Runner A) (result : Status) (call : Call) (item : A) (bytes : List ℕ) → IsItem form (file_of call) item → LeavesBytes call.input bytes → (runner.fault item ≡ None → ⊥) → Kind form runner result call → IsAnswer form.status result
+unable : {A : Type 0} (form : Form A) (runner : Runner A) (result : Status) (call : Call) (item : A) (bytes : List ℕ) → IsItem form (file_of call) item →
+    LeavesBytes call.input bytes → (runner.fault item ≡ None → ⊥) → Kind form runner result call → IsAnswer form.status result
 unable form runner result call item bytes h l f (Memory is) = inr is
 unable form runner result call item bytes h l f (FileLong is longer) = absurd (item_not_long form (file_of call) item h longer)
 unable form runner result call item bytes h l f (Wrong is line wrong) = inl is
@@ -136,7 +141,8 @@ unable form runner result call item bytes h l f (Unable is other holds given inp
 unable form runner result call item bytes h l f (Ran other given starts is) =
     absurd (f (ap runner.fault (sym (same_item form (file_of call) item other h starts.finds.holds)) ∙ starts.able))
 
-ends : {A : Type 0} (form : Form A) (runner : Runner A) (result : Status) (call : Call) (item : A) (bytes : List ℕ) → IsItem form (file_of call) item → LeavesBytes call.input bytes → runner.fault item ≡ None → Kind form runner result call → IsAnswer (end_status (runner.run item bytes call.count).end) result
+ends : {A : Type 0} (form : Form A) (runner : Runner A) (result : Status) (call : Call) (item : A) (bytes : List ℕ) → IsItem form (file_of call) item →
+    LeavesBytes call.input bytes → runner.fault item ≡ None → Kind form runner result call → IsAnswer (end_status (runner.run item bytes call.count).end) result
 ends form runner result call item bytes h l able (Memory is) = inr is
 ends form runner result call item bytes h l able (FileLong is longer) = absurd (item_not_long form (file_of call) item h longer)
 ends form runner result call item bytes h l able (Wrong is line wrong) = absurd (item_not_wrong form (file_of call) item line h wrong)
@@ -147,7 +153,8 @@ ends {A = A} form runner result call item bytes h l able (Ran other given starts
     inl (is ∙ ap (λ (x : A). end_status (runner.run x given call.count).end) (same_item form (file_of call) item other h starts.finds.holds)
     ∙ ap (λ (b : List ℕ). end_status (runner.run item b call.count).end) (gives_is call.input bytes given l.left starts.input.all))
 
-pub exactly : {A : Type 0} (form : Form A) (runner : Runner A) (result : Status) (call : Call) → Leaves form runner result call → HasNoFault call.name call.at → (InputFails call.input → ⊥) → Answers form runner result call
+pub exactly : {A : Type 0} (form : Form A) (runner : Runner A) (result : Status) (call : Call) → Leaves form runner result call → HasNoFault call.name call.at →
+    (InputFails call.input → ⊥) → Answers form runner result call
 exactly form runner result call leaves none unbroken =
     let kind = kinds form runner result call leaves none unbroken in
     record {

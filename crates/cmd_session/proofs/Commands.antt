@@ -27,14 +27,17 @@ same : (a b : List ℕ) → true ≡ bytes_eq a b → a ≡ b
 same a b e = (bytes_eq-Decides a b).0 (sym e)
 
 -- two words: the first is this one
-pub two_words : (words : List (String Global)) (a b : String Global) (first wanted second : List ℕ) → 2 ≤ length words → length words < 3 → a ≡ get_or words 0 a → b ≡ get_or words 1 b → first ≡ string_bytes a → true ≡ bytes_eq first wanted → second ≡ string_bytes b → spelled words ≡ wanted ∷ (second ∷ [])
+pub two_words : (words : List (String Global)) (a b : String Global) (first wanted second : List ℕ) → 2 ≤ length words → length words < 3 → a ≡ get_or words 0 a →
+    b ≡ get_or words 1 b → first ≡ string_bytes a → true ≡ bytes_eq first wanted → second ≡ string_bytes b → spelled words ≡ wanted ∷ (second ∷ [])
 two_words words a b first wanted second low high a_is b_is first_is said second_is =
     ap spelled (two words a b low high a_is b_is)
     ∙ ap (λ (x : List ℕ). x ∷ (string_bytes b ∷ [])) (sym first_is ∙ same first wanted said)
     ∙ ap (λ (x : List ℕ). wanted ∷ (x ∷ [])) (sym second_is)
 
 -- three words: the first is this one
-pub three_words : (words : List (String Global)) (a b c : String Global) (first wanted second third number : List ℕ) → 3 ≤ length words → length words < 4 → a ≡ get_or words 0 a → b ≡ get_or words 1 b → c ≡ get_or words 2 c → first ≡ string_bytes a → true ≡ bytes_eq first wanted → second ≡ string_bytes b → third ≡ string_bytes c → third ≡ number → spelled words ≡ wanted ∷ (second ∷ (number ∷ []))
+pub three_words : (words : List (String Global)) (a b c : String Global) (first wanted second third number : List ℕ) → 3 ≤ length words → length words < 4 →
+    a ≡ get_or words 0 a → b ≡ get_or words 1 b → c ≡ get_or words 2 c → first ≡ string_bytes a → true ≡ bytes_eq first wanted → second ≡ string_bytes b →
+    third ≡ string_bytes c → third ≡ number → spelled words ≡ wanted ∷ (second ∷ (number ∷ []))
 three_words words a b c first wanted second third number low high a_is b_is c_is first_is said second_is third_is number_is =
     ap spelled (three words a b c low high a_is b_is c_is)
     ∙ ap (λ (x : List ℕ). x ∷ (string_bytes b ∷ (string_bytes c ∷ []))) (sym first_is ∙ same first wanted said)
@@ -52,7 +55,8 @@ pub other_number : {E : Type 0} (m n : ℕ) (word : List ℕ) (r : Result ℕ E)
 other_number m n word r is_number h count is = let same_as = sym is_number ∙ parsed n word r count is h in cc
 
 -- a word that is not the number's spelling
-pub other_spelling : {E : Type 0} (m n : ℕ) (word text : List ℕ) (r : Result ℕ E) → r ≡ Ok m → ParsesUnsigned 64 10 word r → text ≡ decimal m → true ≡ not (bytes_eq text word) → IsCount n → word ≡ decimal n → ⊥
+pub other_spelling : {E : Type 0} (m n : ℕ) (word text : List ℕ) (r : Result ℕ E) → r ≡ Ok m → ParsesUnsigned 64 10 word r → text ≡ decimal m →
+    true ≡ not (bytes_eq text word) → IsCount n → word ≡ decimal n → ⊥
 other_spelling m n word text r is_number h text_is differs count is =
     let e : m ≡ n = other_number m n word r is_number h count is in
     let equal : bytes_eq text word ≡ true = (bytes_eq-Decides text word).1 (text_is ∙ ap decimal e ∙ sym is) in
@@ -101,7 +105,8 @@ named_length (a ∷ []) word name h = let e = h.words_are in cc
 named_length (a ∷ (b ∷ [])) word name h = refl
 named_length (a ∷ (b ∷ (c ∷ rest))) word name h = let e = h.words_are in cc
 
-pub named_parts : (words : List (String Global)) (a b : String Global) (word name : List ℕ) → 2 ≤ length words → length words < 3 → a ≡ get_or words 0 a → b ≡ get_or words 1 b → SaysNamed word (spelled words) name → (string_bytes a ≡ word) × (string_bytes b ≡ name)
+pub named_parts : (words : List (String Global)) (a b : String Global) (word name : List ℕ) → 2 ≤ length words → length words < 3 → a ≡ get_or words 0 a →
+    b ≡ get_or words 1 b → SaysNamed word (spelled words) name → (string_bytes a ≡ word) × (string_bytes b ≡ name)
 named_parts words a b word name low high a_is b_is h =
     let e : string_bytes a ∷ (string_bytes b ∷ []) ≡ word ∷ (name ∷ []) = sym (ap spelled (two words a b low high a_is b_is)) ∙ h.words_are in
     (cc, cc)
@@ -114,7 +119,9 @@ counted_length (a ∷ (b ∷ [])) word name count h = let e = h.words_are in cc
 counted_length (a ∷ (b ∷ (c ∷ []))) word name count h = refl
 counted_length (a ∷ (b ∷ (c ∷ (d ∷ rest)))) word name count h = let e = h.words_are in cc
 
-pub counted_parts : (words : List (String Global)) (a b c : String Global) (word name : List ℕ) (count : ℕ) → 3 ≤ length words → length words < 4 → a ≡ get_or words 0 a → b ≡ get_or words 1 b → c ≡ get_or words 2 c → SaysCounted word (spelled words) name count → (string_bytes a ≡ word) × (string_bytes b ≡ name) × (string_bytes c ≡ decimal count)
+pub counted_parts : (words : List (String Global)) (a b c : String Global) (word name : List ℕ) (count : ℕ) → 3 ≤ length words → length words < 4 →
+    a ≡ get_or words 0 a → b ≡ get_or words 1 b → c ≡ get_or words 2 c → SaysCounted word (spelled words) name count →
+    (string_bytes a ≡ word) × (string_bytes b ≡ name) × (string_bytes c ≡ decimal count)
 counted_parts words a b c word name count low high a_is b_is c_is h =
     let e : string_bytes a ∷ (string_bytes b ∷ (string_bytes c ∷ [])) ≡ word ∷ (name ∷ (decimal count ∷ [])) = sym (ap spelled (three words a b c low high a_is b_is c_is)) ∙ h.words_are in
     (cc, cc, cc)
