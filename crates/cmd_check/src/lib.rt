@@ -8,6 +8,3 @@ pub mod tables;
 
 pub use check::check_description;
 pub use tables::read_tables;
-
-#[cfg(test)]
-mod tests;
