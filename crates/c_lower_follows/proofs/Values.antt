@@ -8,6 +8,7 @@ use Rattle.std.proofs.lemmas.Nat.{and_mask, or_of_32, xor_of_32}
 use Rattle.gg_base.specs.declared.size.Size.{Size}
 use Rattle.gg_base.specs.declared.size.Size.TheVariants as size
 use Rattle.gg_base.specs.Arithmetic.{and32, neg32, com32, div32, sext8, sext16, zext8, zext16, shifted_left, shifted_right, ash32}
+use Rattle.gg_base.specs.LittleEndian.{number_in}
 use Rattle.c_lower_follows.proofs.Longwords.{SmallOption, sext8_small, sext16_small, sext8_zext8, sext16_zext16, and_small, div_small, ash_small}
 use Rattle.tree_core.specs.declared.token.Tok.TheVariants as tok
 use Rattle.tree_core.specs.declared.tree.Att.TheVariants as att
@@ -15,7 +16,7 @@ use Rattle.tree_core.specs.declared.tree.Leaf.{Leaf}
 use Rattle.tree_core.specs.declared.program.Object.{Object}
 use Rattle.tree_core.specs.Grammar.{kids}
 use Rattle.tree_core.specs.Trees.{Forest, none, tree, firsts, others, grown}
-use Rattle.tree_core.specs.Area.{fetched, number_in, is_inside}
+use Rattle.tree_core.specs.Area.{fetched, is_inside}
 use Rattle.tree_meaning.specs.declared.value.Value.{Value}
 use Rattle.tree_meaning.specs.declared.value.Value.TheVariants.{Number, ZeroDivisor, Wild}
 use Rattle.tree_meaning.specs.declared.value.Meaning.{Meaning}

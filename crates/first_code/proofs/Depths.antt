@@ -4,6 +4,7 @@ use Rattle.std.specs.Prelude.{nat_lt, nat_le}
 use Rattle.std.proofs.lemmas.Bool.{le-ltb, le-leb, lt-leb}
 use Rattle.gg_base.specs.declared.size.Size.TheVariants.{Long}
 use Rattle.gg_base.specs.Arithmetic.{add32, sub32}
+use Rattle.gg_base.specs.LittleEndian.{number_in, with_number}
 use Rattle.vax_core.specs.declared.register.Reg.TheVariants.{Sp}
 use Rattle.vax_core.specs.declared.code.CodeItem.{CodeItem}
 use Rattle.vax_machine.specs.declared.turn.Stop.{Stop}
@@ -12,7 +13,7 @@ use Rattle.vax_machine.specs.declared.function.Conditions.{Conditions}
 use Rattle.vax_machine.specs.declared.memory.Region.{Region}
 use Rattle.vax_machine.specs.declared.memory.Region.TheVariants.{Stack}
 use Rattle.vax_machine.specs.State.{State, ◌>>=◌}
-use Rattle.vax_machine.specs.Memory.{touched, number_in, with_number, number_at, with_number_at, read, written, register_set}
+use Rattle.vax_machine.specs.Memory.{touched, number_at, with_number_at, read, written, register_set}
 use Rattle.vax_machine.specs.Calls.{pushed}
 
 -- sp with d longwords on the stack

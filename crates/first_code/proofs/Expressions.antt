@@ -3,10 +3,10 @@ use Rattle.std.proofs.Common.{◌≡◌, ℕ, suc, ◌+◌, ◌%◌, ◌^◌, �
 use Rattle.std.specs.Prelude.{slice_get}
 use Rattle.gg_base.specs.declared.size.Size.TheVariants.{Long}
 use Rattle.gg_base.specs.Arithmetic.{add32, sub32}
+use Rattle.gg_base.specs.LittleEndian.{number_in, with_number}
 use Rattle.vax_core.specs.declared.code.CodeItem.{CodeItem}
 use Rattle.vax_core.specs.First.{act_item}
 use Rattle.vax_machine.specs.declared.function.Conditions.{Conditions}
-use Rattle.vax_machine.specs.Memory.{number_in, with_number}
 use Rattle.first_form.specs.declared.syntax.Sign.{Sign}
 use Rattle.first_form.specs.declared.syntax.Sign.TheVariants.{Plus, Minus}
 use Rattle.first_form.specs.Shapes.{Shape, Number, Signed, Parenthesised}

@@ -3,6 +3,7 @@ use Rattle.std.proofs.Common.{◌≡◌, ℕ, suc, ◌+◌, ◌%◌, ◌^◌, �
 use Rattle.std.specs.Prelude.{nat_le, nat_lt}
 use Rattle.gg_base.specs.declared.size.Size.TheVariants.{Long}
 use Rattle.gg_base.specs.Arithmetic.{add32, sub32}
+use Rattle.gg_base.specs.LittleEndian.{number_in, with_number}
 use Rattle.vax_core.specs.declared.register.Reg.TheVariants.{R0, Sp}
 use Rattle.vax_core.specs.declared.op.Op.{Op}
 use Rattle.vax_core.specs.declared.op.Op.TheVariants.{Pushl, Movl, Addl2, Subl2, Calls, Ret}
@@ -19,7 +20,7 @@ use Rattle.vax_machine.specs.declared.operands.Location.TheVariants as locations
 use Rattle.vax_machine.specs.declared.operands.Evaluated.{Evaluated}
 use Rattle.vax_machine.specs.declared.operands.Arguments.{Arguments}
 use Rattle.vax_machine.specs.State.{State, cleared, with_reg, with_conditions, ◌>>=◌}
-use Rattle.vax_machine.specs.Memory.{number_in, with_number, read, register_set, touched}
+use Rattle.vax_machine.specs.Memory.{read, register_set, touched}
 use Rattle.vax_machine.specs.Operands.{located, taken, evaluated, all_evaluated, only_number, with_destination, no_arguments, in_front, stored}
 use Rattle.vax_machine.specs.Functions.{action_of, valued}
 use Rattle.vax_machine.specs.Calls.{Acts, putchar, called_by_name, returned}

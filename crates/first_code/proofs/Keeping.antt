@@ -8,13 +8,13 @@ use Rattle.gg_base.specs.Arithmetic.{zext8}
 use Rattle.gg_base.specs.Runs.{Outcome, byte_first, stop}
 use Rattle.gg_base.specs.Follows.{Forward, NeverBroken, IsBroken, AsksAt}
 use Rattle.gg_base.proofs.Following.{follows}
+use Rattle.gg_base.specs.LittleEndian.{number_in}
 use Rattle.vax_core.specs.declared.code.CodeItem.{CodeItem}
 use Rattle.vax_core.specs.First.{Act}
 use Rattle.vax_core.specs.First.{Put, Pop, Return}
 use Rattle.vax_core.specs.First.{act_item, entry, IsAct, IsFirstCode}
 use Rattle.vax_machine.specs.declared.function.Conditions.{Conditions}
 use Rattle.vax_machine.specs.State.{State, cleared}
-use Rattle.vax_machine.specs.Memory.{number_in}
 use Rattle.vax_machine.specs.Running.{run}
 use Rattle.vax_machine.proofs.Ends.{run_has_one_end}
 use Rattle.first_form.specs.declared.syntax.Sign.{Sign}

@@ -4,7 +4,7 @@ use Rattle.std.specs.Int.{w32, to_le_bytes, from_le_bytes}
 use Rattle.std.proofs.lemmas.List.{drop_at, drop-drop, length-take-le, length-drop}
 use Rattle.std.proofs.lemmas.Nat.{from_le_bytes-to_le_bytes_4}
 use Rattle.gg_base.specs.declared.size.Size.TheVariants.{Long}
-use Rattle.vax_machine.specs.Memory.{number_in, with_number}
+use Rattle.gg_base.specs.LittleEndian.{number_in, with_number}
 
 pub length-with : (bytes : List ℕ) (at v : ℕ) → at + 4 ≤ length bytes → length (with_number Long bytes at v) ≡ length bytes
 length-with bytes at v le =

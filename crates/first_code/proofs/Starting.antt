@@ -4,10 +4,11 @@ use Rattle.std.specs.Int.RustNames.{count_ones}
 use Rattle.std.proofs.lemmas.List.{length-replicate}
 use Rattle.std.proofs.lemmas.Nat.{ones_le_self}
 use Rattle.gg_base.specs.declared.size.Size.TheVariants.{Long}
+use Rattle.gg_base.specs.LittleEndian.{with_number}
 use Rattle.vax_core.specs.First.{Act}
 use Rattle.vax_core.specs.First.{act_item, entry, first_code}
 use Rattle.vax_machine.specs.State.{cleared}
-use Rattle.vax_machine.specs.Memory.{touched, written, register_set, with_number}
+use Rattle.vax_machine.specs.Memory.{touched, written, register_set}
 use Rattle.vax_machine.specs.Calls.{pushed, reserved, called}
 use Rattle.vax_machine.specs.Area.{zeros}
 use Rattle.vax_machine.specs.Loading.{start}

@@ -1,4 +1,5 @@
 pub mod Sizes
+pub mod LittleEndian
 pub mod Relations
 pub mod Arithmetic
 pub mod Runs

@@ -5,6 +5,7 @@ pub mod arithmetic;
 pub mod bytes;
 pub mod laws;
 pub mod limits;
+pub mod little_endian;
 pub mod memory;
 pub mod place;
 pub mod relation;

@@ -15,26 +15,8 @@ pub const SOURCE_NAME_LIMIT: usize = 63;
 /// The longest name in an assembly text.
 pub const TEXT_NAME_LIMIT: usize = 64;
 
-/// How many levels may be open in a source.
-pub const LEVEL_LIMIT: u32 = 200;
-
 /// How many parameters a function may have.
 pub const PARAMETER_LIMIT: u32 = 32;
-
-/// How many classes a description may have.
-pub const CLASS_LIMIT: usize = 64;
-
-/// How many rules a description may have.
-pub const RULE_LIMIT: usize = 1_000;
-
-/// How many symbols a rule's right side may have.
-pub const SYMBOL_LIMIT: usize = 16;
-
-/// How many template lines a rule may have.
-pub const LINE_LIMIT: usize = 8;
-
-/// How many restrictions a rule may have.
-pub const RESTRICTION_LIMIT: usize = 4;
 
 /// How many item sets the tables of a description may have.
 pub const STATE_LIMIT: u32 = 4_096;

@@ -8,13 +8,14 @@ use Rattle.std.proofs.lemmas.Bool.{le-ltb}
 use Rattle.std.proofs.lemmas.Option.{slice_get_past}
 use Rattle.gg_base.specs.declared.size.Size.TheVariants.{Long}
 use Rattle.gg_base.specs.Arithmetic.{add32, neg32}
+use Rattle.gg_base.specs.LittleEndian.{with_number}
 use Rattle.vax_core.specs.declared.register.Reg.TheVariants.{R0, Fp, Sp}
 use Rattle.vax_core.specs.declared.op.Op.TheVariants.{Pushl, Movl}
 use Rattle.vax_core.specs.declared.code.Instr.{Instr}
 use Rattle.vax_machine.specs.declared.turn.Stop.{Stop}
 use Rattle.vax_machine.specs.declared.function.Conditions.{Conditions}
 use Rattle.vax_machine.specs.State.{State, reg, with_reg, with_conditions, cleared, stack_full, ◌>>=◌}
-use Rattle.vax_machine.specs.Memory.{read, written, register_set, with_number}
+use Rattle.vax_machine.specs.Memory.{read, written, register_set}
 use Rattle.vax_machine.specs.Operands.{evaluated, located, taken, stored}
 use Rattle.vax_machine.specs.Functions.{valued}
 use Rattle.vax_machine.specs.Labels.{putchar_name, getchar_name}

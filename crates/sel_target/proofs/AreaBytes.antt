@@ -7,7 +7,8 @@ use Rattle.std.proofs.lemmas.Bool.Decides.{nat_tests}
 use Rattle.gg_base.specs.declared.size.Size.{Size}
 use Rattle.gg_base.specs.declared.size.Size.TheVariants.{Byte, Word, Long}
 use Rattle.gg_base.specs.Sizes.{bytes_of}
-use Rattle.tree_core.specs.Area.{number_in, is_inside, fetched}
+use Rattle.gg_base.specs.LittleEndian.{number_in}
+use Rattle.tree_core.specs.Area.{is_inside, fetched}
 use Rattle.term_core.specs.Value.{memory_at}
 use Rattle.sel_target.specs.Values.{View, term_state}
 

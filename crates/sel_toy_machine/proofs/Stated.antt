@@ -9,9 +9,10 @@ use Rattle.gg_base.specs.declared.relation.Rel.{Rel}
 use Rattle.gg_base.specs.declared.size.Size.{Size}
 use Rattle.gg_base.specs.declared.size.Size.TheVariants.{Byte, Word as Halfword, Long}
 use Rattle.gg_base.specs.Relations.{holds}
+use Rattle.gg_base.specs.LittleEndian.{with_number}
 use Rattle.tree_core.specs.declared.program.TreeFn.{TreeFn}
 use Rattle.tree_core.specs.declared.program.TreeProgram.{TreeProgram}
-use Rattle.tree_core.specs.Area.{with_number, is_inside, stored}
+use Rattle.tree_core.specs.Area.{is_inside, stored}
 use Rattle.tree_core.specs.Valid.{args_of, args_or, service_args, takes}
 use Rattle.tree_meaning.specs.State.{State}
 use Rattle.tree_meaning.specs.declared.machine.Finish.TheVariants as finish

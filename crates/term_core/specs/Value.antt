@@ -1,6 +1,7 @@
 -- What a term is worth.
 use Rattle.std.specs.Prelude.{ℕ, ◌≡◌, ◌+◌, ◌*◌, ◌%◌, ◌^◌, ◌<◌, List, true}
 use Rattle.gg_base.specs.declared.size.Size.{Size}
+use Rattle.gg_base.specs.LittleEndian.{word_of, number_of}
 use Rattle.gg_base.specs.declared.size.Size.TheVariants.{Byte, Word, Long}
 use Rattle.term_core.specs.declared.facts.Fact.{Fact}
 use Rattle.term_core.specs.Facts.{has_size, is_count, same_as}
@@ -18,12 +19,10 @@ abbrev pub byte_at : State → ℕ → ℕ
 byte_at m address = m.byte address % 2 ^ 8
 
 abbrev pub word_at : State → ℕ → ℕ
-word_at m address = byte_at m address + 2 ^ 8 * byte_at m (address + 1)
+word_at m address = word_of (byte_at m) address
 
 abbrev pub memory_at : State → Size → ℕ → ℕ
-memory_at m Byte address = byte_at m address
-memory_at m Word address = word_at m address
-memory_at m Long address = word_at m address + 2 ^ 16 * word_at m (address + 2)
+memory_at m size address = number_of (byte_at m) size address
 
 abbrev pub value : State → Shape → ℕ
 value m (Constant n) = n % 2 ^ 32

@@ -1,22 +1,9 @@
 -- The data area: bytes from the address 65536 on, little-endian, unaligned accesses allowed.
-use Rattle.std.specs.Prelude.{ℕ, ◌+◌, ◌-◌, ◌%◌, ◌^◌, Bool, ◌&&◌, nat_le, List, [], ◌∷◌, ◌++◌, length, take, drop, slice_index, slice_set, replicate, Option, Some, None, cond}
-use Rattle.std.specs.Int.{w16, w32, to_le_bytes, from_le_bytes}
+use Rattle.std.specs.Prelude.{ℕ, ◌+◌, ◌-◌, Bool, ◌&&◌, nat_le, List, [], ◌∷◌, ◌++◌, length, replicate, Option, Some, None, cond}
 use Rattle.gg_base.specs.declared.size.Size.{Size}
-use Rattle.gg_base.specs.declared.size.Size.TheVariants.{Byte, Word, Long}
 use Rattle.gg_base.specs.Sizes.{bytes_of}
+use Rattle.gg_base.specs.LittleEndian.{number_in, with_number}
 use Rattle.tree_core.specs.declared.program.Object.{Object}
-
--- the number that stands at a place of some bytes
-abbrev pub number_in : Size → List ℕ → ℕ → ℕ
-number_in Byte bytes at = slice_index bytes at
-number_in Word bytes at = from_le_bytes w16 (take 2 (drop at bytes))
-number_in Long bytes at = from_le_bytes w32 (take 4 (drop at bytes))
-
--- the bytes with the low part of a number put there
-abbrev pub with_number : Size → List ℕ → ℕ → ℕ → List ℕ
-with_number Byte bytes at v = slice_set bytes at (v % 2 ^ 8)
-with_number Word bytes at v = take at bytes ++ (to_le_bytes w16 (v % 2 ^ 16) ++ drop (at + 2) bytes)
-with_number Long bytes at v = take at bytes ++ (to_le_bytes w32 v ++ drop (at + 4) bytes)
 
 -- all bytes of an access lie in the area
 abbrev pub is_inside : Size → List ℕ → ℕ → Bool

@@ -1,11 +1,11 @@
 // The data area: bytes from the address 65,536 on, little-endian, unaligned accesses allowed.
 
-ghost use Rattle.std.specs.Prelude.{◌≡◌, ◌+◌, ◌≤◌, ◌++◌, IfOk, OnOk, unwrap_or, replicate, length};
-ghost use Rattle.gg_base.specs.Sizes.{bytes_of};
-ghost use Rattle.tree_core.specs.Area.{number_in, with_number, is_inside, fetched, stored, bytes_from, opening};
+ghost use Rattle.std.specs.Prelude.{◌≡◌, ◌++◌, IfOk, OnOk, unwrap_or, replicate};
+ghost use Rattle.tree_core.specs.Area.{is_inside, fetched, stored, bytes_from, opening};
 
 use crate::program::Object;
 use gg_base::limits::AREA_START;
+use gg_base::little_endian::{number_in, put_number};
 use gg_base::{NoMemory, Size};
 use std::alloc::Global;
 
@@ -37,7 +37,7 @@ pub fn fetch(area: &[u8], size: Size, address: u32) -> Option<u32>
     ensures { result ≡ fetched size area.now address }
 {
     if is_inside(area, size, address) {
-        Some(number_in(area, size, (address - AREA_START) as usize))
+        Some(number_in(size, area, (address - AREA_START) as usize))
     } else {
         None
     }
@@ -50,7 +50,7 @@ pub fn store(area: &mut [u8], size: Size, address: u32, value: u32) -> bool
     ensures stored { area.new ≡ unwrap_or (stored size area.old address value) area.old }
 {
     if is_inside(area, size, address) {
-        put_number(area, size, (address - AREA_START) as usize, value);
+        put_number(size, area, (address - AREA_START) as usize, value);
         true
     } else {
         false
@@ -62,29 +62,4 @@ fn is_inside(area: &[u8], size: Size, address: u32) -> bool
 {
     let end = u64::from(address) + u64::from(size.bytes());
     AREA_START <= address && end <= u64::from(AREA_START) + area.len() as u64
-}
-
-fn number_in(bytes: &[u8], size: Size, at: usize) -> u32
-    requires { at + bytes_of size ≤ length bytes.now }
-    ensures { result ≡ number_in size bytes.now at }
-{
-    match size {
-        Size::Byte => u32::from(bytes[at]),
-        Size::Word => u32::from(u16::from_le_bytes([bytes[at], bytes[at + 1]])),
-        Size::Long => u32::from_le_bytes([bytes[at], bytes[at + 1], bytes[at + 2], bytes[at + 3]]),
-    }
-}
-
-fn put_number(bytes: &mut [u8], size: Size, at: usize, value: u32)
-    requires { at + bytes_of size ≤ length bytes.old }
-    ensures { bytes.new ≡ with_number size bytes.old at value }
-{
-    match size {
-        Size::Byte => bytes[at] = (value % 0x100) as u8,
-        Size::Word => {
-            let low = (value % 0x1_0000) as u16;
-            bytes[at..at + 2].copy_from_slice(&low.to_le_bytes());
-        }
-        Size::Long => bytes[at..at + 4].copy_from_slice(&value.to_le_bytes()),
-    }
 }

@@ -8,6 +8,7 @@ use Rattle.std.proofs.lemmas.Nat.{ones-le}
 use lib.Count.{ones_step}
 use Rattle.gg_base.specs.declared.size.Size.TheVariants.{Long}
 use Rattle.gg_base.specs.Arithmetic.{sub32}
+use Rattle.gg_base.specs.LittleEndian.{with_number}
 use Rattle.vax_core.specs.declared.register.Reg.TheVariants.{Ap, Fp, Sp}
 use Rattle.vax_core.specs.declared.code.CodeItem.{CodeItem}
 use Rattle.vax_core.specs.declared.code.CodeItem.TheVariants as items
@@ -16,7 +17,7 @@ use Rattle.vax_machine_live.specs.Control.{in_control}
 use Rattle.vax_machine.specs.declared.turn.Stop.{Stop}
 use Rattle.vax_machine.specs.declared.memory.Region.{Region}
 use Rattle.vax_machine.specs.State.{State, reg, with_reg, cleared, stack_full, ◌>>=◌}
-use Rattle.vax_machine.specs.Memory.{touched, written, register_set, with_number}
+use Rattle.vax_machine.specs.Memory.{touched, written, register_set}
 use Rattle.vax_machine.specs.Labels.{next_item}
 use Rattle.vax_machine.specs.Area.{label_address}
 use Rattle.vax_machine.specs.Calls.{pushed, reserved, all_reserved, entry_mask, entered, framed, called}

@@ -6,13 +6,14 @@ use Rattle.std.proofs.lemmas.Bool.{le-leb, lt-leb, eq-eqb, ne_eqb}
 use Rattle.std.proofs.lemmas.List.{get_or-take, get_or-drop, same_from_push, take_at}
 use Rattle.gg_base.specs.declared.size.Size.TheVariants.{Byte, Long}
 use Rattle.gg_base.specs.Arithmetic.{add32, mul32}
+use Rattle.gg_base.specs.LittleEndian.{number_in}
 use Rattle.vax_core.specs.declared.register.Reg.TheVariants.{R0, Fp, Sp}
 use Rattle.vax_machine_live.specs.declared.frame.Frame.{Frame}
 use Rattle.vax_machine_live.specs.Control.{in_control}
 use Rattle.vax_machine.specs.declared.turn.Stop.{Stop}
 use Rattle.vax_machine.specs.declared.turn.Stop.TheVariants.{Ended}
 use Rattle.vax_machine.specs.State.{State, reg, frame, ◌>>=◌}
-use Rattle.vax_machine.specs.Memory.{touched, read, number_in}
+use Rattle.vax_machine.specs.Memory.{touched, read}
 use Rattle.vax_machine.specs.Calls.{restored, back_to, left, returned_from, returned}
 use Rattle.tree_core.specs.declared.program.Object.{Object}
 use Rattle.tree_meaning.specs.State.{Activation}

@@ -1,9 +1,9 @@
 -- Memory: the data area and the stack, addressed by bytes, little-endian, unaligned accesses allowed. The control words of live frames take room in the stack and may not be touched.
-use Rattle.std.specs.Prelude.{ℕ, ◌+◌, ◌-◌, ◌%◌, ◌^◌, ◌&&◌, ◌==◌, nat_lt, nat_le, List, ◌++◌, length, take, drop, slice_index, slice_set, Result, Ok, Err, if◌then◌else◌}
-use Rattle.std.specs.Int.{w16, w32, to_le_bytes, from_le_bytes}
+use Rattle.std.specs.Prelude.{ℕ, ◌+◌, ◌-◌, ◌%◌, ◌^◌, ◌&&◌, ◌==◌, nat_lt, nat_le, length, Result, Ok, Err, if◌then◌else◌}
 use Rattle.gg_base.specs.declared.size.Size.{Size}
 use Rattle.gg_base.specs.declared.size.Size.TheVariants.{Byte, Word, Long}
 use Rattle.gg_base.specs.Sizes.{bytes_of}
+use Rattle.gg_base.specs.LittleEndian.{number_in, with_number}
 use Rattle.vax_core.specs.declared.register.Reg.{Reg}
 use Rattle.vax_core.specs.Registers.{reg_number}
 use Rattle.vax_machine_live.specs.Control.{in_control}
@@ -17,18 +17,6 @@ abbrev pub low : Size → ℕ → ℕ
 low Byte v = v % 2 ^ 8
 low Word v = v % 2 ^ 16
 low Long v = v
-
--- the number that stands at a place of some bytes
-abbrev pub number_in : Size → List ℕ → ℕ → ℕ
-number_in Byte bytes at = slice_index bytes at
-number_in Word bytes at = from_le_bytes w16 (take 2 (drop at bytes))
-number_in Long bytes at = from_le_bytes w32 (take 4 (drop at bytes))
-
--- the bytes with a number put there
-abbrev pub with_number : Size → List ℕ → ℕ → ℕ → List ℕ
-with_number Byte bytes at v = slice_set bytes at (v % 2 ^ 8)
-with_number Word bytes at v = take at bytes ++ (to_le_bytes w16 (v % 2 ^ 16) ++ drop (at + 2) bytes)
-with_number Long bytes at v = take at bytes ++ (to_le_bytes w32 v ++ drop (at + 4) bytes)
 
 -- where the bytes from an address on are kept: the data area begins at 65536, the stack lies from 2139095040 to 2147483648
 unfoldable pub touched : State → ℕ → Size → Result Region Stop

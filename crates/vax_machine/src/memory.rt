@@ -1,12 +1,12 @@
 // Memory: the data area and the stack, as bytes.
-ghost use Rattle.std.specs.Prelude.{◌≡◌, ◌+◌, ◌≤◌, ◌<◌, length, IfOk};
-ghost use Rattle.gg_base.specs.Sizes.{bytes_of};
-ghost use Rattle.vax_machine.specs.Memory.{low, number_in, with_number, merged};
+ghost use Rattle.std.specs.Prelude.{◌≡◌, ◌<◌, IfOk};
+ghost use Rattle.vax_machine.specs.Memory.{low, merged};
 ghost use Rattle.vax_core.specs.Registers.{reg_number};
 
 use crate::machine::Machine;
 use crate::turn::{ACCESS, FRAME, STACK_FULL, Stop};
 use gg_base::limits::{AREA_START, STACK_START, STACK_TOP};
+use gg_base::little_endian::{number_in, put_number};
 use gg_base::{Size, w32};
 use vax_core::Reg;
 
@@ -35,30 +35,6 @@ pub(crate) fn merged(size: Size, old: u32, value: u32) -> u32
         Size::Byte => old - old % 0x100 + value % 0x100,
         Size::Word => old - old % 0x1_0000 + value % 0x1_0000,
         Size::Long => value,
-    }
-}
-
-fn number_in(size: Size, bytes: &[u8], at: usize) -> u32
-    requires { at + bytes_of size ≤ length bytes.now }
-    ensures { result ≡ number_in size bytes.now at }
-{
-    match size {
-        Size::Byte => bytes[at] as u32,
-        Size::Word => u16::from_le_bytes([bytes[at], bytes[at + 1]]) as u32,
-        Size::Long => u32::from_le_bytes([bytes[at], bytes[at + 1], bytes[at + 2], bytes[at + 3]]),
-    }
-}
-
-fn put_number(size: Size, bytes: &mut [u8], at: usize, value: u32)
-    requires { at + bytes_of size ≤ length bytes.old }
-    ensures { bytes.new ≡ with_number size bytes.old at value }
-{
-    match size {
-        Size::Byte => bytes[at] = (value % 0x100) as u8,
-        Size::Word => {
-            bytes[at..at + 2].copy_from_slice(&((value % 0x1_0000) as u16).to_le_bytes());
-        }
-        Size::Long => bytes[at..at + 4].copy_from_slice(&value.to_le_bytes()),
     }
 }
 

@@ -7,7 +7,7 @@ use Rattle.std.proofs.lemmas.Nat.{from_le_bytes-to_le_bytes_4}
 use Rattle.gg_base.specs.declared.size.Size.{Size}
 use Rattle.gg_base.specs.declared.size.Size.TheVariants.{Byte, Word, Long}
 use Rattle.gg_base.specs.Sizes.{bytes_of}
-use Rattle.vax_machine.specs.Memory.{number_in, with_number}
+use Rattle.gg_base.specs.LittleEndian.{number_in, with_number}
 use Rattle.vax_machine_lists.specs.Sound.{AllBelow}
 
 pub length-with : (bytes : List ℕ) (at v : ℕ) → at + 4 ≤ length bytes → length (with_number Long bytes at v) ≡ length bytes

@@ -11,6 +11,7 @@ use Rattle.gg_base.specs.declared.size.Size.{Size}
 use Rattle.gg_base.specs.declared.size.Size.TheVariants.{Byte, Word, Long}
 use Rattle.gg_base.specs.Arithmetic.{add32, sub32, mul32}
 use Rattle.gg_base.specs.Sizes.{bytes_of}
+use Rattle.gg_base.specs.LittleEndian.{number_in, with_number}
 use Rattle.vax_core.specs.declared.register.Reg.{Reg}
 use Rattle.vax_core.specs.declared.register.Reg.TheVariants.{R0, Fp, Sp}
 use Rattle.vax_core.specs.declared.operand.Addr.{Addr}
@@ -43,7 +44,7 @@ use Rattle.vax_machine.specs.declared.function.Conditions.{Conditions}
 use Rattle.vax_machine.specs.declared.function.Action.TheVariants.{Compute, Push, Branch, Call, Return}
 use Rattle.vax_machine.specs.State.{State, reg, with_reg, with_conditions, cleared, access, frame, stack_full, bad_code, ◌>>=◌}
 use Rattle.vax_machine.specs.Area.{resolved, resolved_of, label_address}
-use Rattle.vax_machine.specs.Memory.{low, number_in, with_number, touched, read, written, register_set, number_at, with_number_at, merged}
+use Rattle.vax_machine.specs.Memory.{low, touched, read, written, register_set, number_at, with_number_at, merged}
 use Rattle.vax_machine.specs.Operands.{deferred, located, indexed, moved, fetched, address_of, taken, evaluated, all_evaluated, in_front, only_number, with_destination, put, stored}
 use Rattle.vax_machine.specs.Functions.{action_of, applied, passes}
 use Rattle.vax_machine.specs.Labels.{putchar_name, getchar_name, next_item, label_place}

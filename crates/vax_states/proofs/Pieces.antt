@@ -3,9 +3,9 @@ use Rattle.std.proofs.Common.{◌≡◌, ◌⊎◌, inl, inr, ℕ, zero, suc, �
 use Rattle.std.specs.Prelude.{slice_get, nat_lt, ◌||◌}
 use Rattle.std.proofs.lemmas.Bool.{le-ltb, or_from, and_left, and_right}
 use Rattle.gg_base.specs.declared.size.Size.TheVariants.{Long}
+use Rattle.gg_base.specs.LittleEndian.{with_number}
 use Rattle.vax_machine_live.specs.declared.frame.Frame.{Frame}
 use Rattle.vax_machine_live.specs.Control.{overlaps, in_control}
-use Rattle.vax_machine.specs.Memory.{with_number}
 use Rattle.tree_meaning.specs.State.{Activation}
 use Rattle.vax_states.specs.Stack.{long_at, Extent, word_of, argument_of, Holds, Hold, nobody, caller, SameFrom}
 use Rattle.vax_machine_lists.proofs.Longwords.{number-with, number-above, number-below}

@@ -6,13 +6,14 @@ use Rattle.gg_base.specs.declared.size.Size.{Size}
 use Rattle.gg_base.specs.declared.size.Size.TheVariants.{Byte, Word, Long}
 use Rattle.gg_base.specs.Arithmetic.{sub32}
 use Rattle.gg_base.specs.Sizes.{bytes_of}
+use Rattle.gg_base.specs.LittleEndian.{number_in, with_number}
 use Rattle.vax_core.specs.declared.register.Reg.{Reg}
 use Rattle.vax_core.specs.declared.register.Reg.TheVariants.{Ap, Fp, Sp}
 use Rattle.vax_core.specs.Registers.{reg_number}
 use Rattle.vax_machine_live.specs.declared.frame.Frame.{Frame}
 use Rattle.vax_machine_live.specs.Control.{in_control}
 use Rattle.vax_machine.specs.State.{State, reg, with_reg, stack_full, ◌>>=◌}
-use Rattle.vax_machine.specs.Memory.{read, written, register_set, number_in, with_number}
+use Rattle.vax_machine.specs.Memory.{read, written, register_set}
 use Rattle.vax_machine.specs.Calls.{pushed}
 use Rattle.vax_machine.specs.Area.{label_address}
 use Rattle.tree_core.specs.declared.program.Object.{Object}
@@ -77,18 +78,18 @@ module _ (objects : List Object) (e : Extent) (es : List Extent) (t : Trees) (m 
 
   -- a number in the data area
   area_read_by : (size : Size) (a v : ℕ) (b c : Bool) → nat_le 65536 a ≡ b → nat_le (a + bytes_of size) (65536 + length t.area) ≡ c
-      → cond (b && c) (Some (trees.number_in size t.area (a - 65536))) None ≡ Some v → read m a size ≡ Ok v
+      → cond (b && c) (Some (number_in size t.area (a - 65536))) None ≡ Some v → read m a size ≡ Ok v
   area_read_by size a v false c p q is = absurd cc
   area_read_by size a v true false p q is = absurd cc
   area_read_by size a v true true p q is =
       let low = leb-true 65536 a p in
       let up : a + bytes_of size ≤ 65536 + length m.area = omega (arith, leb-true (a + bytes_of size) (65536 + length t.area) q, ap length h.area) in
-      area_read m a size low up ∙ ap (λ (x : ℕ). Ok x) (same_number size (a - 65536) ∙ some_same (trees.number_in size t.area (a - 65536)) v is)
+      area_read m a size low up ∙ ap (λ (x : ℕ). Ok x) (same_number size (a - 65536) ∙ some_same (number_in size t.area (a - 65536)) v is)
     where
       some_same : (x y : ℕ) → ◌≡◌ {A = Option ℕ} (Some x) (Some y) → x ≡ y
       some_same x y e = cc
 
-      same_number : (size : Size) (at : ℕ) → number_in size m.area at ≡ trees.number_in size t.area at
+      same_number : (size : Size) (at : ℕ) → number_in size m.area at ≡ number_in size t.area at
       same_number Byte at = ap (λ (l : List ℕ). number_in Byte l at) h.area
       same_number Word at = ap (λ (l : List ℕ). number_in Word l at) h.area
       same_number Long at = ap (λ (l : List ℕ). number_in Long l at) h.area
@@ -196,14 +197,14 @@ module _ (objects : List Object) (e : Extent) (es : List Extent) (t : Trees) (m 
 
   -- a number in the data area
   area_by : (size : Size) (a v : ℕ) (area : List ℕ) (b c : Bool) → nat_le 65536 a ≡ b → nat_le (a + bytes_of size) (65536 + length t.area) ≡ c
-      → cond (b && c) (Some (trees.with_number size t.area (a - 65536) v)) None ≡ Some area
+      → cond (b && c) (Some (with_number size t.area (a - 65536) v)) None ≡ Some area
       → (written m a size v ≡ Ok (record m { area = area })) × Agrees objects e es (record t { area = area }) (record m { area = area })
   area_by size a v area false c p q is = absurd cc
   area_by size a v area true false p q is = absurd cc
   area_by size a v area true true p q is =
       let low = leb-true 65536 a p in
       let up : a + bytes_of size ≤ 65536 + length m.area = omega (arith, leb-true (a + bytes_of size) (65536 + length t.area) q, ap length h.area) in
-      let made : with_number size m.area (a - 65536) v ≡ area = same_bytes size (a - 65536) v ∙ some_same (trees.with_number size t.area (a - 65536) v) area is in
+      let made : with_number size m.area (a - 65536) v ≡ area = same_bytes size (a - 65536) v ∙ some_same (with_number size t.area (a - 65536) v) area is in
       let sound = sound_area m size (a - 65536) v h.sound (omega (arith, low, up)) in (
         area_written m a size v low up ∙ ap (λ (l : List ℕ). Ok (record m { area = l })) made,
         rebuilt (record m { area = area }) (record t { area = area }) (subst (λ (l : List ℕ). IsSound (record m { area = l })) made sound) refl refl h.input refl refl refl h.running refl
@@ -213,7 +214,7 @@ module _ (objects : List Object) (e : Extent) (es : List Extent) (t : Trees) (m 
       some_same : (x y : List ℕ) → ◌≡◌ {A = Option (List ℕ)} (Some x) (Some y) → x ≡ y
       some_same x y e = cc
 
-      same_bytes : (size : Size) (at v : ℕ) → with_number size m.area at v ≡ trees.with_number size t.area at v
+      same_bytes : (size : Size) (at v : ℕ) → with_number size m.area at v ≡ with_number size t.area at v
       same_bytes Byte at v = ap (λ (l : List ℕ). with_number Byte l at v) h.area
       same_bytes Word at v = ap (λ (l : List ℕ). with_number Word l at v) h.area
       same_bytes Long at v = ap (λ (l : List ℕ). with_number Long l at v) h.area

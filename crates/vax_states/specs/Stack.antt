@@ -4,8 +4,8 @@
 -- highest, directly below `fp`; and the arguments that the call has pushed, the last one lowest.
 use Rattle.std.specs.Prelude.{◌≡◌, ℕ, ◌+◌, ◌-◌, ◌*◌, ◌%◌, ◌<◌, ◌≤◌, List, [], ◌∷◌, ◌++◌, length, slice_get, Some}
 use Rattle.gg_base.specs.declared.size.Size.TheVariants.{Long}
+use Rattle.gg_base.specs.LittleEndian.{number_in}
 use Rattle.vax_machine_live.specs.declared.frame.Frame.{Frame}
-use Rattle.vax_machine.specs.Memory.{number_in}
 use Rattle.tree_meaning.specs.State.{Activation}
 
 -- the longword at an address of the stack
