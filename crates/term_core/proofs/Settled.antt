@@ -150,7 +150,7 @@ module _ (facts : List Fact) where
   binary_normal Xor a b ha hb = in_order_normal xor_ordered xor_ordered_normal (order a b) a b refl ha hb
   binary_normal Ash a b ha hb = ash_normal a b ha hb
 
-  norm_normal : AreSettled facts → (s : Shape) → IsNormal facts (norm facts s)
+  pub norm_normal : AreSettled facts → (s : Shape) → IsNormal facts (norm facts s)
   norm_normal settled (Constant n) = tt
   norm_normal settled (Symbol i) = settled i
   norm_normal settled LastResult = tt
@@ -158,7 +158,7 @@ module _ (facts : List Fact) where
   norm_normal settled (Unary op t) = unary_normal op (norm facts t) (norm_normal settled t)
   norm_normal settled (Binary op a b) = binary_normal op (norm facts a) (norm facts b) (norm_normal settled a) (norm_normal settled b)
 
-  normal_stays : (s : Shape) → IsNormal facts s → norm facts s ≡ s
+  pub normal_stays : (s : Shape) → IsNormal facts s → norm facts s ≡ s
   normal_stays (Constant n) h = refl
   normal_stays (Symbol i) h = ap Symbol h
   normal_stays LastResult h = refl
