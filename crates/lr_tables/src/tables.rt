@@ -5,9 +5,9 @@ ghost use Rattle.lr_tables.specs.Statements.{stmt_of};
 ghost use Rattle.lr_tables.specs.Leads.{target_at, actions_at};
 ghost use Rattle.lr_tables.specs.Promises.{AreCandidates, LeadsOn, IsNumbered};
 
-use crate::item::{TOKENS, number};
+use crate::item::{number, symbol_number};
 use crate::types::{Choice, Row, State};
-use md_reader::Description;
+use md_reader::{Description, Sym};
 use std::marker::Model;
 use tree_core::Tok;
 
@@ -70,11 +70,12 @@ impl Tables {
         }
     }
 
-    fn target(&self, state: State, class: u16) -> Option<State>
-        ensures { result ≡ target_at self.now state (sym.Class class) }
+    /// The state to which a state leads over a symbol, whatever comes next.
+    pub fn over(&self, state: State, symbol: Sym) -> Option<State>
+        ensures { result ≡ target_at self.now state symbol }
     {
         match self.rows.get(state.number() as usize) {
-            Some(row) => match row.targets().get(TOKENS + class as usize) {
+            Some(row) => match row.targets().get(symbol_number(symbol)) {
                 Some(target) => *target,
                 None => None,
             },
@@ -102,7 +103,7 @@ impl Tables {
     {
         self.is_valid();
         self.is_numbered();
-        self.target(state, class)
+        self.over(state, Sym::Class(class))
     }
 
     /// How many states there are, at most 4,096.
