@@ -1,0 +1,596 @@
+-- What a rule's wanted effect gives for the tree that its pattern covers.
+use Rattle.std.proofs.Common.{◌≡◌, ◌⊎◌, inl, inr, ℕ, suc, List, [], ◌∷◌, Option, Some, None, true, refl, sym, ap, subst, slice_get}
+use Rattle.std.specs.Option.{option_map}
+use Rattle.gg_base.specs.declared.size.Size.{Size}
+use Rattle.gg_base.specs.declared.size.Size.TheVariants as size
+use Rattle.tree_core.specs.declared.token.Tok.{Tok}
+use Rattle.tree_core.specs.declared.token.Tok.TheVariants as tok
+use Rattle.tree_core.specs.declared.token.Sort.{Sort}
+use Rattle.tree_core.specs.declared.token.Sort.TheVariants as sort
+use Rattle.tree_core.specs.declared.tree.Att.{Att}
+use Rattle.tree_core.specs.declared.tree.Att.TheVariants as att
+use Rattle.tree_core.specs.declared.tree.Leaf.{Leaf}
+use Rattle.tree_core.specs.declared.program.Object.{Object}
+use Rattle.tree_core.specs.Attributes.{attribute_of, is_of_kind}
+use Rattle.tree_core.specs.Grammar.{kids, sort_of, fits}
+use Rattle.tree_core.specs.Trees.{Forest, none, tree}
+use Rattle.tree_meaning.specs.declared.value.Value.{Value}
+use Rattle.tree_meaning.specs.declared.value.Value.TheVariants.{Number, ZeroDivisor, Wild}
+use Rattle.tree_meaning.specs.declared.value.Meaning.{Meaning}
+use Rattle.tree_meaning.specs.declared.value.Meaning.TheVariants.{Of, Local, Argument, Memory}
+use Rattle.tree_meaning.specs.Values.{Sight, read, kid, at, token_means, meanings}
+use Rattle.md_reader.specs.declared.types.Kind.{Kind}
+use Rattle.md_reader.specs.declared.types.Kind.TheVariants as kind
+use Rattle.md_reader.specs.declared.types.Class.{Class}
+use Rattle.md_reader.specs.declared.types.Sym.{Sym}
+use Rattle.md_reader.specs.Patterns.{sort_of_kind, sort_fits, kind_at, Trees, onto, sorted_test}
+use Rattle.term_core.specs.Shape.{Shape}
+use Rattle.term_core.specs.Value.{State}
+use Rattle.sel_terms.specs.Effects.{EffectShape}
+use Rattle.sel_terms.specs.Parts.{PartShape, SubtreeShape, Worth, Home, At, Does}
+use Rattle.sel_terms.specs.Wanted.{first_part, whole}
+use Rattle.sel_terms.specs.Reading.{stack_from}
+use Rattle.sel_terms_trees.specs.Senses.{Sense, OfNumber, OfPlace, IsPlace, IsNumber, IsSense, Sensed, StandsFor}
+use Rattle.tree_meaning_tame.specs.Tame.{tree_means}
+use Rattle.sel_terms_trees.specs.Senses as sense
+use Rattle.tree_meaning_tame.specs.Tame.{IsTame, Tame, IsUndivided}
+use Rattle.sel_terms_trees.specs.Effects.{GivesBy, TrapsBy}
+use Rattle.sel_terms_trees.proofs.Tokens.{IsWorth, IsZero, IsOf, IsSpot, IsZeroSpot, IsAt, StandsAt}
+use Rattle.sel_terms_trees.proofs.Patterns.{numbered, pattern_law}
+
+-- the effect of a part, by the kind of the class on the left
+abbrev pub effect_by : Option Kind → SubtreeShape → EffectShape
+effect_by k p = record { act = whole k p.part; divisors = p.divisors }
+
+module _ (objects : List Object) (s : Sight) where
+  -- a zero divisor comes first where this sort is wanted
+  abbrev pub IsZeroAt : Sort → Meaning → Type 0
+  IsZeroAt sort.Stmt g = ⊥
+  IsZeroAt sort.Long g = read s g ≡ ZeroDivisor
+  IsZeroAt sort.Byte g = read s g ≡ ZeroDivisor
+  IsZeroAt sort.Word g = read s g ≡ ZeroDivisor
+  IsZeroAt x g = g ≡ Of ZeroDivisor
+
+  pub zero_there : (y x : Sort) (g : Meaning) → fits y x ≡ true → IsZeroAt y g → IsUndivided objects s x g → ⊥
+  zero_there sort.Stmt sort.Stmt g e h u = h
+  zero_there sort.Stmt sort.Long g e h u = h
+  zero_there sort.Stmt sort.Byte g e h u = h
+  zero_there sort.Stmt sort.Word g e h u = h
+  zero_there sort.Stmt sort.PlaceB g e h u = h
+  zero_there sort.Stmt sort.PlaceW g e h u = h
+  zero_there sort.Stmt sort.PlaceL g e h u = h
+  zero_there sort.Long sort.Stmt g e h u = absurd (cc)
+  zero_there sort.Long sort.Long g e h u = u h
+  zero_there sort.Long sort.Byte g e h u = absurd (cc)
+  zero_there sort.Long sort.Word g e h u = absurd (cc)
+  zero_there sort.Long sort.PlaceB g e h u = absurd (cc)
+  zero_there sort.Long sort.PlaceW g e h u = absurd (cc)
+  zero_there sort.Long sort.PlaceL g e h u = absurd (cc)
+  zero_there sort.Byte sort.Stmt g e h u = absurd (cc)
+  zero_there sort.Byte sort.Long g e h u = absurd (cc)
+  zero_there sort.Byte sort.Byte g e h u = u h
+  zero_there sort.Byte sort.Word g e h u = absurd (cc)
+  zero_there sort.Byte sort.PlaceB g e h u = absurd (cc)
+  zero_there sort.Byte sort.PlaceW g e h u = absurd (cc)
+  zero_there sort.Byte sort.PlaceL g e h u = absurd (cc)
+  zero_there sort.Word sort.Stmt g e h u = absurd (cc)
+  zero_there sort.Word sort.Long g e h u = absurd (cc)
+  zero_there sort.Word sort.Byte g e h u = absurd (cc)
+  zero_there sort.Word sort.Word g e h u = u h
+  zero_there sort.Word sort.PlaceB g e h u = absurd (cc)
+  zero_there sort.Word sort.PlaceW g e h u = absurd (cc)
+  zero_there sort.Word sort.PlaceL g e h u = absurd (cc)
+  zero_there sort.PlaceB sort.Stmt g e h u = absurd (cc)
+  zero_there sort.PlaceB sort.Long g e h u = absurd (cc)
+  zero_there sort.PlaceB sort.Byte g e h u = u (ap (read s) h)
+  zero_there sort.PlaceB sort.Word g e h u = absurd (cc)
+  zero_there sort.PlaceB sort.PlaceB g e h u = u h
+  zero_there sort.PlaceB sort.PlaceW g e h u = absurd (cc)
+  zero_there sort.PlaceB sort.PlaceL g e h u = absurd (cc)
+  zero_there sort.PlaceW sort.Stmt g e h u = absurd (cc)
+  zero_there sort.PlaceW sort.Long g e h u = absurd (cc)
+  zero_there sort.PlaceW sort.Byte g e h u = absurd (cc)
+  zero_there sort.PlaceW sort.Word g e h u = u (ap (read s) h)
+  zero_there sort.PlaceW sort.PlaceB g e h u = absurd (cc)
+  zero_there sort.PlaceW sort.PlaceW g e h u = u h
+  zero_there sort.PlaceW sort.PlaceL g e h u = absurd (cc)
+  zero_there sort.PlaceL sort.Stmt g e h u = absurd (cc)
+  zero_there sort.PlaceL sort.Long g e h u = u (ap (read s) h)
+  zero_there sort.PlaceL sort.Byte g e h u = absurd (cc)
+  zero_there sort.PlaceL sort.Word g e h u = absurd (cc)
+  zero_there sort.PlaceL sort.PlaceB g e h u = absurd (cc)
+  zero_there sort.PlaceL sort.PlaceW g e h u = absurd (cc)
+  zero_there sort.PlaceL sort.PlaceL g e h u = u h
+
+  pub sort_tame : (y x : Sort) (g : Meaning) → fits y x ≡ true → IsTame objects s x g → IsTame objects s y g
+  sort_tame sort.Stmt sort.Stmt g e h = h
+  sort_tame sort.Stmt sort.Long g e h = tt
+  sort_tame sort.Stmt sort.Byte g e h = tt
+  sort_tame sort.Stmt sort.Word g e h = tt
+  sort_tame sort.Stmt sort.PlaceB g e h = tt
+  sort_tame sort.Stmt sort.PlaceW g e h = tt
+  sort_tame sort.Stmt sort.PlaceL g e h = tt
+  sort_tame sort.Long sort.Stmt g e h = absurd (cc)
+  sort_tame sort.Long sort.Long g e h = h
+  sort_tame sort.Long sort.Byte g e h = absurd (cc)
+  sort_tame sort.Long sort.Word g e h = absurd (cc)
+  sort_tame sort.Long sort.PlaceB g e h = absurd (cc)
+  sort_tame sort.Long sort.PlaceW g e h = absurd (cc)
+  sort_tame sort.Long sort.PlaceL g e h = absurd (cc)
+  sort_tame sort.Byte sort.Stmt g e h = absurd (cc)
+  sort_tame sort.Byte sort.Long g e h = absurd (cc)
+  sort_tame sort.Byte sort.Byte g e h = h
+  sort_tame sort.Byte sort.Word g e h = absurd (cc)
+  sort_tame sort.Byte sort.PlaceB g e h = absurd (cc)
+  sort_tame sort.Byte sort.PlaceW g e h = absurd (cc)
+  sort_tame sort.Byte sort.PlaceL g e h = absurd (cc)
+  sort_tame sort.Word sort.Stmt g e h = absurd (cc)
+  sort_tame sort.Word sort.Long g e h = absurd (cc)
+  sort_tame sort.Word sort.Byte g e h = absurd (cc)
+  sort_tame sort.Word sort.Word g e h = h
+  sort_tame sort.Word sort.PlaceB g e h = absurd (cc)
+  sort_tame sort.Word sort.PlaceW g e h = absurd (cc)
+  sort_tame sort.Word sort.PlaceL g e h = absurd (cc)
+  sort_tame sort.PlaceB sort.Stmt g e h = tt
+  sort_tame sort.PlaceB sort.Long g e h = tt
+  sort_tame sort.PlaceB sort.Byte g e h = tt
+  sort_tame sort.PlaceB sort.Word g e h = tt
+  sort_tame sort.PlaceB sort.PlaceB g e h = h
+  sort_tame sort.PlaceB sort.PlaceW g e h = tt
+  sort_tame sort.PlaceB sort.PlaceL g e h = tt
+  sort_tame sort.PlaceW sort.Stmt g e h = tt
+  sort_tame sort.PlaceW sort.Long g e h = tt
+  sort_tame sort.PlaceW sort.Byte g e h = tt
+  sort_tame sort.PlaceW sort.Word g e h = tt
+  sort_tame sort.PlaceW sort.PlaceB g e h = tt
+  sort_tame sort.PlaceW sort.PlaceW g e h = h
+  sort_tame sort.PlaceW sort.PlaceL g e h = tt
+  sort_tame sort.PlaceL sort.Stmt g e h = tt
+  sort_tame sort.PlaceL sort.Long g e h = tt
+  sort_tame sort.PlaceL sort.Byte g e h = tt
+  sort_tame sort.PlaceL sort.Word g e h = tt
+  sort_tame sort.PlaceL sort.PlaceB g e h = tt
+  sort_tame sort.PlaceL sort.PlaceW g e h = tt
+  sort_tame sort.PlaceL sort.PlaceL g e h = h
+
+  pub sort_undivided : (y x : Sort) (g : Meaning) → fits y x ≡ true → IsUndivided objects s x g → IsUndivided objects s y g
+  sort_undivided sort.Stmt sort.Stmt g e u = u
+  sort_undivided sort.Stmt sort.Long g e u = tt
+  sort_undivided sort.Stmt sort.Byte g e u = tt
+  sort_undivided sort.Stmt sort.Word g e u = tt
+  sort_undivided sort.Stmt sort.PlaceB g e u = tt
+  sort_undivided sort.Stmt sort.PlaceW g e u = tt
+  sort_undivided sort.Stmt sort.PlaceL g e u = tt
+  sort_undivided sort.Long sort.Stmt g e u = absurd (cc)
+  sort_undivided sort.Long sort.Long g e u = u
+  sort_undivided sort.Long sort.Byte g e u = absurd (cc)
+  sort_undivided sort.Long sort.Word g e u = absurd (cc)
+  sort_undivided sort.Long sort.PlaceB g e u = absurd (cc)
+  sort_undivided sort.Long sort.PlaceW g e u = absurd (cc)
+  sort_undivided sort.Long sort.PlaceL g e u = absurd (cc)
+  sort_undivided sort.Byte sort.Stmt g e u = absurd (cc)
+  sort_undivided sort.Byte sort.Long g e u = absurd (cc)
+  sort_undivided sort.Byte sort.Byte g e u = u
+  sort_undivided sort.Byte sort.Word g e u = absurd (cc)
+  sort_undivided sort.Byte sort.PlaceB g e u = absurd (cc)
+  sort_undivided sort.Byte sort.PlaceW g e u = absurd (cc)
+  sort_undivided sort.Byte sort.PlaceL g e u = absurd (cc)
+  sort_undivided sort.Word sort.Stmt g e u = absurd (cc)
+  sort_undivided sort.Word sort.Long g e u = absurd (cc)
+  sort_undivided sort.Word sort.Byte g e u = absurd (cc)
+  sort_undivided sort.Word sort.Word g e u = u
+  sort_undivided sort.Word sort.PlaceB g e u = absurd (cc)
+  sort_undivided sort.Word sort.PlaceW g e u = absurd (cc)
+  sort_undivided sort.Word sort.PlaceL g e u = absurd (cc)
+  sort_undivided sort.PlaceB sort.Stmt g e u = absurd (cc)
+  sort_undivided sort.PlaceB sort.Long g e u = absurd (cc)
+  sort_undivided sort.PlaceB sort.Byte g e u = λ h. u (ap (read s) h)
+  sort_undivided sort.PlaceB sort.Word g e u = absurd (cc)
+  sort_undivided sort.PlaceB sort.PlaceB g e u = u
+  sort_undivided sort.PlaceB sort.PlaceW g e u = absurd (cc)
+  sort_undivided sort.PlaceB sort.PlaceL g e u = absurd (cc)
+  sort_undivided sort.PlaceW sort.Stmt g e u = absurd (cc)
+  sort_undivided sort.PlaceW sort.Long g e u = absurd (cc)
+  sort_undivided sort.PlaceW sort.Byte g e u = absurd (cc)
+  sort_undivided sort.PlaceW sort.Word g e u = λ h. u (ap (read s) h)
+  sort_undivided sort.PlaceW sort.PlaceB g e u = absurd (cc)
+  sort_undivided sort.PlaceW sort.PlaceW g e u = u
+  sort_undivided sort.PlaceW sort.PlaceL g e u = absurd (cc)
+  sort_undivided sort.PlaceL sort.Stmt g e u = absurd (cc)
+  sort_undivided sort.PlaceL sort.Long g e u = λ h. u (ap (read s) h)
+  sort_undivided sort.PlaceL sort.Byte g e u = absurd (cc)
+  sort_undivided sort.PlaceL sort.Word g e u = absurd (cc)
+  sort_undivided sort.PlaceL sort.PlaceB g e u = absurd (cc)
+  sort_undivided sort.PlaceL sort.PlaceW g e u = absurd (cc)
+  sort_undivided sort.PlaceL sort.PlaceL g e u = u
+
+  -- a kind of values, of a sort
+  pub data IsValue : Kind → Sort → Type 0 where
+    reg : IsValue kind.Reg sort.Long
+    con : IsValue kind.Con sort.Long
+    ea : IsValue kind.Ea sort.Long
+    byte : IsValue (kind.Value size.Byte) sort.Byte
+    word : IsValue (kind.Value size.Word) sort.Word
+    long : IsValue (kind.Value size.Long) sort.Long
+
+  module _ (all : List Sense) (m : State) where
+    number_gives : {k : Kind} {y : Sort} → IsValue k y → (p : SubtreeShape) (n : ℕ) → IsWorth objects s all m p n → GivesBy objects s all (effect_by (Some k) p) (OfNumber n) m
+    number_gives reg p n h = record { divides = h.divides; gives = h.worth; safe = h.safe; divisors = h.divisors }
+    number_gives con p n h = record { divides = h.divides; gives = h.worth; safe = h.safe; divisors = h.divisors }
+    number_gives ea p n h = record { divides = h.divides; gives = h.worth; safe = h.safe; divisors = h.divisors }
+    number_gives byte p n h = record { divides = h.divides; gives = h.worth; safe = h.safe; divisors = h.divisors }
+    number_gives word p n h = record { divides = h.divides; gives = h.worth; safe = h.safe; divisors = h.divisors }
+    number_gives long p n h = record { divides = h.divides; gives = h.worth; safe = h.safe; divisors = h.divisors }
+
+    number_traps : {k : Kind} {y : Sort} → IsValue k y → (p : SubtreeShape) → IsZero objects s all m p → TrapsBy objects s all (effect_by (Some k) p) m
+    number_traps reg p h = record { divides = h.divides; safe = h.safe; divisors = h.divisors }
+    number_traps con p h = record { divides = h.divides; safe = h.safe; divisors = h.divisors }
+    number_traps ea p h = record { divides = h.divides; safe = h.safe; divisors = h.divisors }
+    number_traps byte p h = record { divides = h.divides; safe = h.safe; divisors = h.divisors }
+    number_traps word p h = record { divides = h.divides; safe = h.safe; divisors = h.divisors }
+    number_traps long p h = record { divides = h.divides; safe = h.safe; divisors = h.divisors }
+
+    number_at : {k : Kind} {y : Sort} → IsValue k y → (p : SubtreeShape) (g : Meaning) (v : Value) → read s g ≡ v → StandsAt objects s all m y p (Some g) → IsOf objects s all m p v
+    number_at reg p g v e h = subst (IsOf objects s all m p) e h
+    number_at con p g v e h = subst (IsOf objects s all m p) e h
+    number_at ea p g v e h = subst (IsOf objects s all m p) e h
+    number_at byte p g v e h = subst (IsOf objects s all m p) e h
+    number_at word p g v e h = subst (IsOf objects s all m p) e h
+    number_at long p g v e h = subst (IsOf objects s all m p) e h
+
+    spot_gives : (z : Size) (part : PartShape) (ds : List Shape) (g : Meaning) → IsSpot objects s all m (record { part = part; divisors = ds }) g
+        → GivesBy objects s all (effect_by (Some (kind.Place z)) (record { part = part; divisors = ds })) (OfPlace g) m
+    spot_gives z (Worth t) ds g h = absurd h.place
+    spot_gives z (Home y i) ds g h = record { divides = h.divides; gives = h.place; safe = tt; divisors = h.divisors }
+    spot_gives z (At y a) ds g h = record { divides = h.divides; gives = h.place.0; safe = h.place.1; divisors = h.divisors }
+    spot_gives z (Does a) ds g h = absurd h.place
+
+    spot_traps : (z : Size) (part : PartShape) (ds : List Shape) → IsZeroSpot objects s all m (record { part = part; divisors = ds })
+        → TrapsBy objects s all (effect_by (Some (kind.Place z)) (record { part = part; divisors = ds })) m
+    spot_traps z (Worth t) ds h = absurd h.ill
+    spot_traps z (Home y i) ds h = absurd h.ill
+    spot_traps z (At y a) ds h = record { divides = h.divides; safe = h.ill.1; divisors = h.divisors }
+    spot_traps z (Does a) ds h = absurd h.ill
+
+    place_at : (z : Size) (p : SubtreeShape) (g : Meaning) → StandsAt objects s all m (sort_of_kind (kind.Place z)) p (Some g) → IsAt objects s all m p g
+    place_at size.Byte p g h = h.0
+    place_at size.Word p g h = h.0
+    place_at size.Long p g h = h.0
+
+    place_gives : (z : Size) (p : SubtreeShape) (g : Meaning) → IsPlace z g → IsAt objects s all m p g → GivesBy objects s all (effect_by (Some (kind.Place z)) p) (OfPlace g) m
+    place_gives z p (Of v) e h = absurd e
+    place_gives z p (Local k) e h = spot_gives z p.part p.divisors (Local k) h
+    place_gives z p (Argument k) e h = spot_gives z p.part p.divisors (Argument k) h
+    place_gives z p (Memory y a) e h = spot_gives z p.part p.divisors (Memory y a) h
+
+    place_traps : (z : Size) (p : SubtreeShape) (g : Meaning) → g ≡ Of ZeroDivisor → IsAt objects s all m p g → TrapsBy objects s all (effect_by (Some (kind.Place z)) p) m
+    place_traps z p g e h = spot_traps z p.part p.divisors (subst (IsAt objects s all m p) e h)
+
+  -- what a place pattern covers, without a state of terms
+  abbrev PlaceFact : Size → Meaning → Type 0
+  PlaceFact z g = IsPlace z g ⊎ (g ≡ Of ZeroDivisor)
+
+  at_fact : (z : Size) (v : Value) → (v ≡ Wild → ⊥) → PlaceFact z (at z v)
+  at_fact z (Number n) h = inl refl
+  at_fact z ZeroDivisor h = inr refl
+  at_fact z Wild h = absurd (h refl)
+
+  slot_fact : (t : Tok) (a : Att) (v w : Value) → (t ≡ tok.Loc) ⊎ (t ≡ tok.Arg) → is_of_kind (attribute_of t) a ≡ true → PlaceFact size.Long (token_means objects s t a v w)
+  slot_fact t a v w (inl e) f = subst (λ (u : Tok). PlaceFact size.Long (token_means objects s u a v w)) (sym e) (by a (subst (λ (u : Tok). is_of_kind (attribute_of u) a ≡ true) e f))
+    where
+      by : (a : Att) → is_of_kind (attribute_of tok.Loc) a ≡ true → PlaceFact size.Long (token_means objects s tok.Loc a v w)
+      by att.Nothing f = absurd (cc)
+      by (att.Number n) f = absurd (cc)
+      by (att.Object o k) f = absurd (cc)
+      by (att.Slot n) f = inl refl
+      by (att.Branch r l) f = absurd (cc)
+      by (att.Label l) f = absurd (cc)
+      by (att.Callee g n) f = absurd (cc)
+  slot_fact t a v w (inr e) f = subst (λ (u : Tok). PlaceFact size.Long (token_means objects s u a v w)) (sym e) (by a (subst (λ (u : Tok). is_of_kind (attribute_of u) a ≡ true) e f))
+    where
+      by : (a : Att) → is_of_kind (attribute_of tok.Arg) a ≡ true → PlaceFact size.Long (token_means objects s tok.Arg a v w)
+      by att.Nothing f = absurd (cc)
+      by (att.Number n) f = absurd (cc)
+      by (att.Object o k) f = absurd (cc)
+      by (att.Slot n) f = inl refl
+      by (att.Branch r l) f = absurd (cc)
+      by (att.Label l) f = absurd (cc)
+      by (att.Callee g n) f = absurd (cc)
+
+  -- a kid whose value is wanted isn't wild
+  abbrev KidTame : Sort → Option Meaning → Type 0
+  KidTame sort.Long o = kid s o ≡ Wild → ⊥
+  KidTame sort.Byte o = kid s o ≡ Wild → ⊥
+  KidTame sort.Word o = kid s o ≡ Wild → ⊥
+  KidTame x o = Unit {0}
+
+  abbrev pub KidsTame : List Sort → List Meaning → ℕ → Type 0
+  KidsTame [] gs k = Unit {0}
+  KidsTame (x ∷ xs) gs k = KidTame x (slice_get gs k) × KidsTame xs gs (suc k)
+
+  kids_on : (xs : List Sort) (g : Meaning) (gs : List Meaning) (k : ℕ) → KidsTame xs gs k → KidsTame xs (g ∷ gs) (suc k)
+  kids_on [] g gs k h = h
+  kids_on (x ∷ xs) g gs k h = (h.0, kids_on xs g gs (suc k) h.1)
+
+  kid_tame : (x : Sort) (g : Meaning) → IsTame objects s x g → KidTame x (Some g)
+  kid_tame sort.Stmt g h = h
+  kid_tame sort.Long g h = h
+  kid_tame sort.Byte g h = h
+  kid_tame sort.Word g h = h
+  kid_tame sort.PlaceB g h = h
+  kid_tame sort.PlaceW g h = h
+  kid_tame sort.PlaceL g h = h
+
+  pub kids_tame : (classes : List Class) {xs : List Sort} {pattern : Trees (sorted_test classes) xs} {f : Forest} {us : List Sense} → Sensed objects s classes xs pattern f us
+      → Tame objects s xs f → KidsTame xs (meanings objects s f) 0
+  kids_tame classes sense.nothing h = tt
+  kids_tame classes (sense.token {x = x} {xs = xs} {f = f} {g = g} l passes below beside fit p q) h =
+      (kid_tame x (tree_means objects s l f) h.0, kids_on xs (tree_means objects s l f) (meanings objects s g) 0 (kids_tame classes q h.2))
+  kids_tame classes (sense.class {x = x} {xs = xs} {f = f} {g = g} {l = l} c v passes below beside is q) h =
+      (kid_tame x (tree_means objects s l f) h.0, kids_on xs (tree_means objects s l f) (meanings objects s g) 0 (kids_tame classes q h.2))
+
+  token_fact : (z : Size) (t : Tok) (a : Att) (gs : List Meaning) → sort_fits (sort_of t) (sort_of_kind (kind.Place z)) ≡ true → is_of_kind (attribute_of t) a ≡ true → KidsTame (kids t) gs 0
+      → PlaceFact z (token_means objects s t a (kid s (slice_get gs 0)) (kid s (slice_get gs 1)))
+  token_fact size.Byte tok.Zero a gs e f h = absurd (cc)
+  token_fact size.Byte tok.One a gs e f h = absurd (cc)
+  token_fact size.Byte tok.Two a gs e f h = absurd (cc)
+  token_fact size.Byte tok.Four a gs e f h = absurd (cc)
+  token_fact size.Byte tok.Eight a gs e f h = absurd (cc)
+  token_fact size.Byte tok.Const a gs e f h = absurd (cc)
+  token_fact size.Byte tok.Gaddr a gs e f h = absurd (cc)
+  token_fact size.Byte tok.Loc a gs e f h = absurd (cc)
+  token_fact size.Byte tok.Arg a gs e f h = absurd (cc)
+  token_fact size.Byte tok.IndirB a gs e f h = at_fact size.Byte (kid s (slice_get gs 0)) h.0
+  token_fact size.Byte tok.IndirW a gs e f h = absurd (cc)
+  token_fact size.Byte tok.IndirL a gs e f h = absurd (cc)
+  token_fact size.Byte tok.Plus a gs e f h = absurd (cc)
+  token_fact size.Byte tok.Minus a gs e f h = absurd (cc)
+  token_fact size.Byte tok.Mul a gs e f h = absurd (cc)
+  token_fact size.Byte tok.Div a gs e f h = absurd (cc)
+  token_fact size.Byte tok.Mod a gs e f h = absurd (cc)
+  token_fact size.Byte tok.And a gs e f h = absurd (cc)
+  token_fact size.Byte tok.Or a gs e f h = absurd (cc)
+  token_fact size.Byte tok.Xor a gs e f h = absurd (cc)
+  token_fact size.Byte tok.Lsh a gs e f h = absurd (cc)
+  token_fact size.Byte tok.Rsh a gs e f h = absurd (cc)
+  token_fact size.Byte tok.Neg a gs e f h = absurd (cc)
+  token_fact size.Byte tok.Com a gs e f h = absurd (cc)
+  token_fact size.Byte tok.Sxb a gs e f h = absurd (cc)
+  token_fact size.Byte tok.Zxb a gs e f h = absurd (cc)
+  token_fact size.Byte tok.Sxw a gs e f h = absurd (cc)
+  token_fact size.Byte tok.Zxw a gs e f h = absurd (cc)
+  token_fact size.Byte tok.Ncb a gs e f h = absurd (cc)
+  token_fact size.Byte tok.Ncw a gs e f h = absurd (cc)
+  token_fact size.Byte tok.AssignB a gs e f h = absurd (cc)
+  token_fact size.Byte tok.AssignW a gs e f h = absurd (cc)
+  token_fact size.Byte tok.AssignL a gs e f h = absurd (cc)
+  token_fact size.Byte tok.Cbr a gs e f h = absurd (cc)
+  token_fact size.Byte tok.Push a gs e f h = absurd (cc)
+  token_fact size.Byte tok.Ret a gs e f h = absurd (cc)
+  token_fact size.Byte tok.Call a gs e f h = absurd (cc)
+  token_fact size.Byte tok.Save a gs e f h = absurd (cc)
+  token_fact size.Byte tok.Jump a gs e f h = absurd (cc)
+  token_fact size.Byte tok.End a gs e f h = absurd (cc)
+  token_fact size.Word tok.Zero a gs e f h = absurd (cc)
+  token_fact size.Word tok.One a gs e f h = absurd (cc)
+  token_fact size.Word tok.Two a gs e f h = absurd (cc)
+  token_fact size.Word tok.Four a gs e f h = absurd (cc)
+  token_fact size.Word tok.Eight a gs e f h = absurd (cc)
+  token_fact size.Word tok.Const a gs e f h = absurd (cc)
+  token_fact size.Word tok.Gaddr a gs e f h = absurd (cc)
+  token_fact size.Word tok.Loc a gs e f h = absurd (cc)
+  token_fact size.Word tok.Arg a gs e f h = absurd (cc)
+  token_fact size.Word tok.IndirB a gs e f h = absurd (cc)
+  token_fact size.Word tok.IndirW a gs e f h = at_fact size.Word (kid s (slice_get gs 0)) h.0
+  token_fact size.Word tok.IndirL a gs e f h = absurd (cc)
+  token_fact size.Word tok.Plus a gs e f h = absurd (cc)
+  token_fact size.Word tok.Minus a gs e f h = absurd (cc)
+  token_fact size.Word tok.Mul a gs e f h = absurd (cc)
+  token_fact size.Word tok.Div a gs e f h = absurd (cc)
+  token_fact size.Word tok.Mod a gs e f h = absurd (cc)
+  token_fact size.Word tok.And a gs e f h = absurd (cc)
+  token_fact size.Word tok.Or a gs e f h = absurd (cc)
+  token_fact size.Word tok.Xor a gs e f h = absurd (cc)
+  token_fact size.Word tok.Lsh a gs e f h = absurd (cc)
+  token_fact size.Word tok.Rsh a gs e f h = absurd (cc)
+  token_fact size.Word tok.Neg a gs e f h = absurd (cc)
+  token_fact size.Word tok.Com a gs e f h = absurd (cc)
+  token_fact size.Word tok.Sxb a gs e f h = absurd (cc)
+  token_fact size.Word tok.Zxb a gs e f h = absurd (cc)
+  token_fact size.Word tok.Sxw a gs e f h = absurd (cc)
+  token_fact size.Word tok.Zxw a gs e f h = absurd (cc)
+  token_fact size.Word tok.Ncb a gs e f h = absurd (cc)
+  token_fact size.Word tok.Ncw a gs e f h = absurd (cc)
+  token_fact size.Word tok.AssignB a gs e f h = absurd (cc)
+  token_fact size.Word tok.AssignW a gs e f h = absurd (cc)
+  token_fact size.Word tok.AssignL a gs e f h = absurd (cc)
+  token_fact size.Word tok.Cbr a gs e f h = absurd (cc)
+  token_fact size.Word tok.Push a gs e f h = absurd (cc)
+  token_fact size.Word tok.Ret a gs e f h = absurd (cc)
+  token_fact size.Word tok.Call a gs e f h = absurd (cc)
+  token_fact size.Word tok.Save a gs e f h = absurd (cc)
+  token_fact size.Word tok.Jump a gs e f h = absurd (cc)
+  token_fact size.Word tok.End a gs e f h = absurd (cc)
+  token_fact size.Long tok.Zero a gs e f h = absurd (cc)
+  token_fact size.Long tok.One a gs e f h = absurd (cc)
+  token_fact size.Long tok.Two a gs e f h = absurd (cc)
+  token_fact size.Long tok.Four a gs e f h = absurd (cc)
+  token_fact size.Long tok.Eight a gs e f h = absurd (cc)
+  token_fact size.Long tok.Const a gs e f h = absurd (cc)
+  token_fact size.Long tok.Gaddr a gs e f h = absurd (cc)
+  token_fact size.Long tok.Loc a gs e f h = slot_fact tok.Loc a (kid s (slice_get gs 0)) (kid s (slice_get gs 1)) (inl refl) f
+  token_fact size.Long tok.Arg a gs e f h = slot_fact tok.Arg a (kid s (slice_get gs 0)) (kid s (slice_get gs 1)) (inr refl) f
+  token_fact size.Long tok.IndirB a gs e f h = absurd (cc)
+  token_fact size.Long tok.IndirW a gs e f h = absurd (cc)
+  token_fact size.Long tok.IndirL a gs e f h = at_fact size.Long (kid s (slice_get gs 0)) h.0
+  token_fact size.Long tok.Plus a gs e f h = absurd (cc)
+  token_fact size.Long tok.Minus a gs e f h = absurd (cc)
+  token_fact size.Long tok.Mul a gs e f h = absurd (cc)
+  token_fact size.Long tok.Div a gs e f h = absurd (cc)
+  token_fact size.Long tok.Mod a gs e f h = absurd (cc)
+  token_fact size.Long tok.And a gs e f h = absurd (cc)
+  token_fact size.Long tok.Or a gs e f h = absurd (cc)
+  token_fact size.Long tok.Xor a gs e f h = absurd (cc)
+  token_fact size.Long tok.Lsh a gs e f h = absurd (cc)
+  token_fact size.Long tok.Rsh a gs e f h = absurd (cc)
+  token_fact size.Long tok.Neg a gs e f h = absurd (cc)
+  token_fact size.Long tok.Com a gs e f h = absurd (cc)
+  token_fact size.Long tok.Sxb a gs e f h = absurd (cc)
+  token_fact size.Long tok.Zxb a gs e f h = absurd (cc)
+  token_fact size.Long tok.Sxw a gs e f h = absurd (cc)
+  token_fact size.Long tok.Zxw a gs e f h = absurd (cc)
+  token_fact size.Long tok.Ncb a gs e f h = absurd (cc)
+  token_fact size.Long tok.Ncw a gs e f h = absurd (cc)
+  token_fact size.Long tok.AssignB a gs e f h = absurd (cc)
+  token_fact size.Long tok.AssignW a gs e f h = absurd (cc)
+  token_fact size.Long tok.AssignL a gs e f h = absurd (cc)
+  token_fact size.Long tok.Cbr a gs e f h = absurd (cc)
+  token_fact size.Long tok.Push a gs e f h = absurd (cc)
+  token_fact size.Long tok.Ret a gs e f h = absurd (cc)
+  token_fact size.Long tok.Call a gs e f h = absurd (cc)
+  token_fact size.Long tok.Save a gs e f h = absurd (cc)
+  token_fact size.Long tok.Jump a gs e f h = absurd (cc)
+  token_fact size.Long tok.End a gs e f h = absurd (cc)
+
+  class_fact : (z : Size) (k : Option Kind) (g : Meaning) (v : Sense) → sort_fits (option_map sort_of_kind k) (sort_of_kind (kind.Place z)) ≡ true → IsSense objects s k g v → PlaceFact z g
+  class_fact z None g v e h = absurd h
+  class_fact size.Byte (Some kind.Reg) g v e h = absurd (cc)
+  class_fact size.Byte (Some kind.Con) g v e h = absurd (cc)
+  class_fact size.Byte (Some kind.Ea) g v e h = absurd (cc)
+  class_fact size.Byte (Some kind.Nothing) g v e h = absurd (cc)
+  class_fact size.Byte (Some (kind.Value size.Byte)) g v e h = absurd (cc)
+  class_fact size.Byte (Some (kind.Value size.Word)) g v e h = absurd (cc)
+  class_fact size.Byte (Some (kind.Value size.Long)) g v e h = absurd (cc)
+  class_fact size.Byte (Some (kind.Place size.Byte)) g v e h = inl h.1
+  class_fact size.Byte (Some (kind.Place size.Word)) g v e h = absurd (cc)
+  class_fact size.Byte (Some (kind.Place size.Long)) g v e h = absurd (cc)
+  class_fact size.Word (Some kind.Reg) g v e h = absurd (cc)
+  class_fact size.Word (Some kind.Con) g v e h = absurd (cc)
+  class_fact size.Word (Some kind.Ea) g v e h = absurd (cc)
+  class_fact size.Word (Some kind.Nothing) g v e h = absurd (cc)
+  class_fact size.Word (Some (kind.Value size.Byte)) g v e h = absurd (cc)
+  class_fact size.Word (Some (kind.Value size.Word)) g v e h = absurd (cc)
+  class_fact size.Word (Some (kind.Value size.Long)) g v e h = absurd (cc)
+  class_fact size.Word (Some (kind.Place size.Byte)) g v e h = absurd (cc)
+  class_fact size.Word (Some (kind.Place size.Word)) g v e h = inl h.1
+  class_fact size.Word (Some (kind.Place size.Long)) g v e h = absurd (cc)
+  class_fact size.Long (Some kind.Reg) g v e h = absurd (cc)
+  class_fact size.Long (Some kind.Con) g v e h = absurd (cc)
+  class_fact size.Long (Some kind.Ea) g v e h = absurd (cc)
+  class_fact size.Long (Some kind.Nothing) g v e h = absurd (cc)
+  class_fact size.Long (Some (kind.Value size.Byte)) g v e h = absurd (cc)
+  class_fact size.Long (Some (kind.Value size.Word)) g v e h = absurd (cc)
+  class_fact size.Long (Some (kind.Value size.Long)) g v e h = absurd (cc)
+  class_fact size.Long (Some (kind.Place size.Byte)) g v e h = absurd (cc)
+  class_fact size.Long (Some (kind.Place size.Word)) g v e h = absurd (cc)
+  class_fact size.Long (Some (kind.Place size.Long)) g v e h = inl h.1
+
+  place_fact : (classes : List Class) (z : Size) {y : Sort} {pattern : Trees (sorted_test classes) (y ∷ [])} {l : Leaf} {f : Forest} {us : List Sense} → y ≡ sort_of_kind (kind.Place z)
+      → Sensed objects s classes (y ∷ []) pattern (tree l f none) us → Tame objects s (kids l.tok) f → PlaceFact z (tree_means objects s l f)
+  place_fact classes z e (sense.token {f = f} l passes below beside fit p q) h =
+      token_fact z l.tok l.att (meanings objects s f) (subst (λ (x : Sort). sort_fits (sort_of l.tok) x ≡ true) e passes) fit (kids_tame classes p h)
+  place_fact classes z e (sense.class {f = f} {l = l} c v passes below beside is q) h =
+      class_fact z (kind_at classes c) (tree_means objects s l f) v (subst (λ (x : Sort). sort_fits (option_map sort_of_kind (kind_at classes c)) x ≡ true) e passes) is
+
+  -- a rule for a class of this kind gives what the class stands for, or divides by zero
+  pub record Comes (us : List Sense) (k : Kind) (p : SubtreeShape) (g : Meaning) : Type 0 where
+    pub sense : Sense
+    pub is : IsSense objects s (Some k) g sense
+    pub gives : (m : State) → StandsFor objects s us m → GivesBy objects s us (effect_by (Some k) p) sense m
+
+  pub record Fails (us : List Sense) (k : Kind) (p : SubtreeShape) (g : Meaning) : Type 0 where
+    pub zero : IsZeroAt (sort_of_kind k) g
+    pub traps : (m : State) → StandsFor objects s us m → TrapsBy objects s us (effect_by (Some k) p) m
+
+  module _ (us : List Sense) (p : SubtreeShape) (g : Meaning) where
+    value_comes : {k : Kind} {y : Sort} → IsValue k y → ((m : State) → StandsFor objects s us m → StandsAt objects s us m y p (Some g)) → (n : ℕ) → read s g ≡ Number n
+        → IsSense objects s (Some k) g (OfNumber n) → Comes us k p g
+    value_comes is law n e h = record { sense = OfNumber n; is = h; gives = λ m st. number_gives us m is p n (number_at us m is p g (Number n) e (law m st)) }
+
+    value_fails : {k : Kind} {y : Sort} → IsValue k y → ((m : State) → StandsFor objects s us m → StandsAt objects s us m y p (Some g)) → read s g ≡ ZeroDivisor → IsZeroAt (sort_of_kind k) g
+        → Fails us k p g
+    value_fails is law e h = record { zero = h; traps = λ m st. number_traps us m is p (number_at us m is p g ZeroDivisor e (law m st)) }
+
+    value_sense : {k : Kind} {y : Sort} → IsValue k y → (n : ℕ) → read s g ≡ Number n → IsSense objects s (Some k) g (OfNumber n)
+    value_sense reg n e = record { number = n; is = refl; reads = e }
+    value_sense con n e = record { number = n; is = refl; reads = e }
+    value_sense ea n e = record { number = n; is = refl; reads = e }
+    value_sense byte n e = record { number = n; is = refl; reads = e }
+    value_sense word n e = record { number = n; is = refl; reads = e }
+    value_sense long n e = record { number = n; is = refl; reads = e }
+
+    value_zero : {k : Kind} {y : Sort} → IsValue k y → read s g ≡ ZeroDivisor → IsZeroAt (sort_of_kind k) g
+    value_zero reg e = e
+    value_zero con e = e
+    value_zero ea e = e
+    value_zero byte e = e
+    value_zero word e = e
+    value_zero long e = e
+
+    value_tame : {k : Kind} {y : Sort} → IsValue k y → IsTame objects s (sort_of_kind k) g → read s g ≡ Wild → ⊥
+    value_tame reg h = h
+    value_tame con h = h
+    value_tame ea h = h
+    value_tame byte h = h
+    value_tame word h = h
+    value_tame long h = h
+
+    value_decided : {k : Kind} {y : Sort} → IsValue k y → IsTame objects s (sort_of_kind k) g → ((m : State) → StandsFor objects s us m → StandsAt objects s us m y p (Some g))
+        → Comes us k p g ⊎ Fails us k p g
+    value_decided {k = k} is tame law = by (read s g) refl
+      where
+        by : (v : Value) → read s g ≡ v → Comes us k p g ⊎ Fails us k p g
+        by (Number n) e = inl (value_comes is law n e (value_sense is n e))
+        by ZeroDivisor e = inr (value_fails is law e (value_zero is e))
+        by Wild e = absurd (value_tame is tame e)
+
+    zero_place : (z : Size) → g ≡ Of ZeroDivisor → IsZeroAt (sort_of_kind (kind.Place z)) g
+    zero_place size.Byte e = e
+    zero_place size.Word e = e
+    zero_place size.Long e = e
+
+    place_decided : (z : Size) → PlaceFact z g → ((m : State) → StandsFor objects s us m → StandsAt objects s us m (sort_of_kind (kind.Place z)) p (Some g))
+        → Comes us (kind.Place z) p g ⊎ Fails us (kind.Place z) p g
+    place_decided z (inl e) law = inl (record { sense = OfPlace g; is = (refl, e); gives = λ m st. place_gives us m z p g e (place_at us m z p g (law m st)) })
+    place_decided z (inr e) law = inr (record { zero = zero_place z e; traps = λ m st. place_traps us m z p g e (place_at us m z p g (law m st)) })
+
+  -- what a rule's symbols stand for is worth the tree
+  pub part_law : (classes : List Class) (right : List Sym) {x : Sort} {pattern : Trees (sorted_test classes) (x ∷ [])} {l : Leaf} {f : Forest} {us : List Sense}
+      → Sensed objects s classes (x ∷ []) pattern (tree l f none) us → onto pattern [] ≡ right → Tame objects s (x ∷ []) (tree l f none) →
+      (m : State) → StandsFor objects s us m → StandsAt objects s us m x (first_part (stack_from classes 1 right)) (Some (tree_means objects s l f))
+  part_law classes right {x = x} {l = l} {f = f} {us = us} sensed e tame m st =
+      let h = pattern_law objects s us m st classes sensed 1 [] (numbered us) tame in
+      subst (λ (w : List Sym). StandsAt objects s us m x (first_part (stack_from classes 1 w)) (Some (tree_means objects s l f))) e h.0
+
+  -- a rule whose class isn't of kind Nothing
+  pub decided : (classes : List Class) (k : Kind) (right : List Sym) {y : Sort} {pattern : Trees (sorted_test classes) (y ∷ [])} {l : Leaf} {f : Forest} {us : List Sense} → y ≡ sort_of_kind k
+      → Sensed objects s classes (y ∷ []) pattern (tree l f none) us → onto pattern [] ≡ right → Tame objects s (y ∷ []) (tree l f none) →
+      (k ≡ kind.Nothing → ⊥) → Comes us k (first_part (stack_from classes 1 right)) (tree_means objects s l f) ⊎ Fails us k (first_part (stack_from classes 1 right)) (tree_means objects s l f)
+  decided classes kind.Reg right {l = l} {f = f} {us = us} q sensed e tame some =
+      value_decided us (first_part (stack_from classes 1 right)) (tree_means objects s l f) reg (subst (λ (x : Sort). IsTame objects s x (tree_means objects s l f)) q tame.0)
+      (λ m st. subst (λ (x : Sort). StandsAt objects s us m x (first_part (stack_from classes 1 right)) (Some (tree_means objects s l f))) q (part_law classes right sensed e tame m st))
+  decided classes kind.Con right {l = l} {f = f} {us = us} q sensed e tame some =
+      value_decided us (first_part (stack_from classes 1 right)) (tree_means objects s l f) con (subst (λ (x : Sort). IsTame objects s x (tree_means objects s l f)) q tame.0)
+      (λ m st. subst (λ (x : Sort). StandsAt objects s us m x (first_part (stack_from classes 1 right)) (Some (tree_means objects s l f))) q (part_law classes right sensed e tame m st))
+  decided classes kind.Ea right {l = l} {f = f} {us = us} q sensed e tame some =
+      value_decided us (first_part (stack_from classes 1 right)) (tree_means objects s l f) ea (subst (λ (x : Sort). IsTame objects s x (tree_means objects s l f)) q tame.0)
+      (λ m st. subst (λ (x : Sort). StandsAt objects s us m x (first_part (stack_from classes 1 right)) (Some (tree_means objects s l f))) q (part_law classes right sensed e tame m st))
+  decided classes (kind.Value size.Byte) right {l = l} {f = f} {us = us} q sensed e tame some =
+      value_decided us (first_part (stack_from classes 1 right)) (tree_means objects s l f) byte (subst (λ (x : Sort). IsTame objects s x (tree_means objects s l f)) q tame.0)
+      (λ m st. subst (λ (x : Sort). StandsAt objects s us m x (first_part (stack_from classes 1 right)) (Some (tree_means objects s l f))) q (part_law classes right sensed e tame m st))
+  decided classes (kind.Value size.Word) right {l = l} {f = f} {us = us} q sensed e tame some =
+      value_decided us (first_part (stack_from classes 1 right)) (tree_means objects s l f) word (subst (λ (x : Sort). IsTame objects s x (tree_means objects s l f)) q tame.0)
+      (λ m st. subst (λ (x : Sort). StandsAt objects s us m x (first_part (stack_from classes 1 right)) (Some (tree_means objects s l f))) q (part_law classes right sensed e tame m st))
+  decided classes (kind.Value size.Long) right {l = l} {f = f} {us = us} q sensed e tame some =
+      value_decided us (first_part (stack_from classes 1 right)) (tree_means objects s l f) long (subst (λ (x : Sort). IsTame objects s x (tree_means objects s l f)) q tame.0)
+      (λ m st. subst (λ (x : Sort). StandsAt objects s us m x (first_part (stack_from classes 1 right)) (Some (tree_means objects s l f))) q (part_law classes right sensed e tame m st))
+  decided classes (kind.Place size.Byte) right {l = l} {f = f} {us = us} q sensed e tame some =
+      place_decided us (first_part (stack_from classes 1 right)) (tree_means objects s l f) size.Byte (place_fact classes size.Byte q sensed tame.1)
+      (λ m st. subst (λ (x : Sort). StandsAt objects s us m x (first_part (stack_from classes 1 right)) (Some (tree_means objects s l f))) q (part_law classes right sensed e tame m st))
+  decided classes (kind.Place size.Word) right {l = l} {f = f} {us = us} q sensed e tame some =
+      place_decided us (first_part (stack_from classes 1 right)) (tree_means objects s l f) size.Word (place_fact classes size.Word q sensed tame.1)
+      (λ m st. subst (λ (x : Sort). StandsAt objects s us m x (first_part (stack_from classes 1 right)) (Some (tree_means objects s l f))) q (part_law classes right sensed e tame m st))
+  decided classes (kind.Place size.Long) right {l = l} {f = f} {us = us} q sensed e tame some =
+      place_decided us (first_part (stack_from classes 1 right)) (tree_means objects s l f) size.Long (place_fact classes size.Long q sensed tame.1)
+      (λ m st. subst (λ (x : Sort). StandsAt objects s us m x (first_part (stack_from classes 1 right)) (Some (tree_means objects s l f))) q (part_law classes right sensed e tame m st))
+  decided classes kind.Nothing right q sensed e tame some = absurd (some refl)

@@ -1,0 +1,3 @@
+pub mod Senses
+pub mod Effects
+pub mod Claims

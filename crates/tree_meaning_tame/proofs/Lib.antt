@@ -1,0 +1,5 @@
+pub mod Strict
+pub mod Calm
+pub mod Sights
+pub mod Named
+pub mod Laws

@@ -1,0 +1,5 @@
+use Rattle.tree_meaning_tame.proofs.Laws.{deed_is_tame}
+use Rattle.tree_meaning_tame.proofs.deeds_are_tame.Goals as goal
+
+pub returns : goal.returns
+returns c = deed_is_tame

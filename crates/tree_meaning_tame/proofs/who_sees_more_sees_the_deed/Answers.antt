@@ -1,0 +1,5 @@
+use Rattle.tree_meaning_tame.proofs.Laws.{sees_the_deed}
+use Rattle.tree_meaning_tame.proofs.who_sees_more_sees_the_deed.Goals as goal
+
+pub returns : goal.returns
+returns c = sees_the_deed

@@ -1,0 +1,3 @@
+pub mod Tame
+pub mod Sights
+pub mod Claims
