@@ -1,4 +1,3 @@
 pub mod Statements
 pub mod Need
-pub mod Longwords
 pub mod Programs

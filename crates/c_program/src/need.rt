@@ -1,8 +1,7 @@
 // How many longwords of its frame a function needs.
-ghost use Rattle.std.specs.Prelude.{◌≡◌, ◌<◌, ◌≤◌, ◌^◌, min, map, max, ◌+◌, IfSome};
+ghost use Rattle.std.specs.Prelude.{◌≡◌, ◌<◌, ◌≤◌, ◌^◌, ◌↔◌, min, map, max, ◌+◌, IfSome, IsSome};
 ghost use Rattle.c_types.specs.Typed.{term, place_of, terms};
 ghost use Rattle.c_program.specs.Statements.{act, acts, declaration, maybe_term};
-ghost use Rattle.c_program.specs.Longwords.{PlaceOfLongwords, OfLongwords, AllOfLongwords, MaybeOfLongwords, OneOfLongwords, DeclaredOfLongwords, ActOfLongwords, ActsOfLongwords};
 ghost use Rattle.c_program.specs.Need.{nodes, place_nodes, all_nodes, maybe_nodes, returned_nodes, declared_nodes, largest, largest_of, need_of};
 
 use crate::statement::{Action, Declaration};
@@ -10,23 +9,13 @@ use c_types::{CType, Expression, Place};
 
 #[cycle(nodes)]
 fn place_nodes(place: &Place) -> u32
-    ensures count { result ≡ min (place_nodes (place_of place.now)) 4294967295 }
-    ensures longwords { PlaceOfLongwords (place_of place.now) }
+    ensures { result ≡ min (place_nodes (place_of place.now)) 4294967295 }
 {
     match place {
         Place::Variable(_, _) => 1,
         Place::Indirection(_, e) => nodes(e).saturating_add(1),
         Place::Index(_, sum) => nodes(sum),
     }
-}
-
-// A number is one node, and a longword.
-fn number_nodes(number: &u32) -> u32
-    ensures count { result ≡ 1 }
-    ensures longword { number.now < 2 ^ 32 }
-{
-    let _longword = *number;
-    1
 }
 
 fn joined(a: u32, b: u32) -> u32
@@ -38,16 +27,15 @@ fn joined(a: u32, b: u32) -> u32
 /// The nodes of an expression's source: each name, number, literal, operator, index and call is one, parentheses none.
 #[cycle(nodes)]
 pub fn nodes(e: &Expression) -> u32
-    ensures count { result ≡ min (nodes (term e.now)) 4294967295 }
-    ensures longwords { OfLongwords (term e.now) }
+    ensures { result ≡ min (nodes (term e.now)) 4294967295 }
 {
     match e {
-        Expression::Number(n) => number_nodes(n),
+        Expression::Number(_) => 1,
         Expression::Literal(_, _) => 1,
         Expression::Array(_, _, _) => 1,
         Expression::Read(p) => place_nodes(p),
-        Expression::SizeofExpression(n, e) => nodes(e).saturating_add(number_nodes(n)),
-        Expression::SizeofType(n) => number_nodes(n),
+        Expression::SizeofExpression(_, e) => nodes(e).saturating_add(1),
+        Expression::SizeofType(_) => 1,
         Expression::Address(_, p) => place_nodes(p).saturating_add(1),
         Expression::Call(_, _, _, es) => all_nodes(es).saturating_add(2),
         Expression::Step(_, _, p) => place_nodes(p).saturating_add(1),
@@ -73,8 +61,7 @@ pub fn nodes(e: &Expression) -> u32
 
 #[cycle(nodes)]
 fn all_nodes(es: &[Expression]) -> u32
-    ensures count { result ≡ min (all_nodes (terms es.now)) 4294967295 }
-    ensures longwords { AllOfLongwords (terms es.now) }
+    ensures { result ≡ min (all_nodes (terms es.now)) 4294967295 }
 {
     let mut sum = 0_u32;
     for e in es {
@@ -84,8 +71,7 @@ fn all_nodes(es: &[Expression]) -> u32
 }
 
 fn maybe_nodes(e: &Option<Expression>) -> u32
-    ensures count { result ≡ min (maybe_nodes (maybe_term e.now)) 4294967295 }
-    ensures longwords { MaybeOfLongwords (maybe_term e.now) }
+    ensures { result ≡ min (maybe_nodes (maybe_term e.now)) 4294967295 }
 {
     match e {
         None => 0,
@@ -94,8 +80,7 @@ fn maybe_nodes(e: &Option<Expression>) -> u32
 }
 
 fn returned_nodes(e: &Option<Expression>) -> u32
-    ensures count { result ≡ min (returned_nodes (maybe_term e.now)) 4294967295 }
-    ensures longwords { MaybeOfLongwords (maybe_term e.now) }
+    ensures { result ≡ min (returned_nodes (maybe_term e.now)) 4294967295 }
 {
     match e {
         None => 1,
@@ -104,8 +89,7 @@ fn returned_nodes(e: &Option<Expression>) -> u32
 }
 
 fn one_declared(d: &Declaration) -> u32
-    ensures count { result ≡ min (one_declared (declaration d.now)) 4294967295 }
-    ensures longwords { OneOfLongwords (declaration d.now) }
+    ensures { result ≡ min (one_declared (declaration d.now)) 4294967295 }
 {
     match d {
         Declaration::Keep(_) => 0,
@@ -115,8 +99,7 @@ fn one_declared(d: &Declaration) -> u32
 }
 
 fn declared_nodes(ds: &[Declaration]) -> u32
-    ensures count { result ≡ min (declared_nodes (map declaration ds.now)) 4294967295 }
-    ensures longwords { DeclaredOfLongwords (map declaration ds.now) }
+    ensures { result ≡ min (declared_nodes (map declaration ds.now)) 4294967295 }
 {
     let mut most = 0;
     for d in ds {
@@ -128,8 +111,7 @@ fn declared_nodes(ds: &[Declaration]) -> u32
 // The nodes of the largest full expression; a zero that the meaning supplies is one of one node.
 #[cycle(largest)]
 fn largest(a: &Action) -> u32
-    ensures count { result ≡ min (largest (act a.now)) 4294967295 }
-    ensures longwords { ActOfLongwords (act a.now) }
+    ensures { result ≡ min (largest (act a.now)) 4294967295 }
 {
     match a {
         Action::Declare(ds) => declared_nodes(ds),
@@ -151,8 +133,7 @@ fn largest(a: &Action) -> u32
 
 #[cycle(largest)]
 fn largest_of(row: &[Action]) -> u32
-    ensures count { result ≡ min (largest_of (acts row.now)) 4294967295 }
-    ensures longwords { ActsOfLongwords (acts row.now) }
+    ensures { result ≡ min (largest_of (acts row.now)) 4294967295 }
 {
     let mut most = 0;
     for a in row {
@@ -166,17 +147,11 @@ fn largest_of(row: &[Action]) -> u32
 #[tactic(auto, unfolding(crate::specs::Need::need_of))]
 pub fn need(locals: &[CType], body: &[Action]) -> Option<u32>
     ensures count { IfSome result (λ n. n ≡ need_of locals.now (acts body.now)) }
-    ensures longwords { ActsOfLongwords (acts body.now) }
+    ensures fits { IsSome result ↔ (need_of locals.now (acts body.now) < 2 ^ 32) }
 {
     let largest = u64::from(largest_of(body).max(1));
-    if largest == 0xffff_ffff || locals.len() > 0xffff_ffff {
-        return None;
-    }
-    let need = locals.len() as u64 + 3 * largest;
-    if need > 0xffff_ffff {
-        return None;
-    }
-    Some(need as u32)
+    let need = (locals.len() as u64).saturating_add(3 * largest);
+    u32::try_from(need).ok()
 }
 
 ghost use Rattle.c_program.specs.Need.{one_declared};

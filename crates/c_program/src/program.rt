@@ -1,13 +1,11 @@
 // Functions and programs.
-ghost use Rattle.c_program.specs.Statements.{acts};
-ghost use Rattle.c_program.specs.Longwords.{ActsOfLongwords};
 
 use crate::statement::Action;
 use c_types::{CType, Types};
 use gg_base::Name;
 use tree_core::Objects;
 
-/// A function that is typed. Each number in its statements is a longword.
+/// A function that is typed.
 #[derive(Drop)]
 pub struct Routine {
     pub name: Name,
@@ -19,7 +17,6 @@ pub struct Routine {
     pub body: Vec<Action>,
     /// The longwords of its frame: its automatic locals, and three for each node of its largest full expression.
     pub need: u32,
-    ghost longwords: { ∥ ActsOfLongwords (acts body.items) ∥₁ },
 }
 
 /// A program with its types and its layout.

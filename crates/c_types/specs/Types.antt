@@ -1,5 +1,5 @@
 -- Types.
-use Rattle.std.specs.Prelude.{ℕ, ◌+◌, ◌-◌, Bool, true, false, ◌&&◌, ◌==◌, Option, Some, None, if◌then◌else◌}
+use Rattle.std.specs.Prelude.{ℕ, ◌+◌, ◌-◌, ◌<◌, ◌^◌, Bool, true, false, ◌&&◌, ◌==◌, Option, Some, None, if◌then◌else◌}
 use Rattle.gg_base.specs.Arithmetic.{sext8, sext16, zext8, zext16}
 use Rattle.c_types.specs.declared.types.Integer.{Integer}
 use Rattle.c_types.specs.declared.types.Integer.TheVariants as ints
@@ -36,6 +36,12 @@ unfoldable pub pointer_to : CType → Option CType
 pointer_to types.Void = None
 pointer_to (types.Integer b) = Some (types.Pointer b 0)
 pointer_to (types.Pointer b n) = Some (types.Pointer b (n + 1))
+
+-- a place's address has a type, whose stars 64 bits count
+abbrev pub HasPointer : CType → Type 0
+HasPointer types.Void = ⊥
+HasPointer (types.Integer b) = Unit {0}
+HasPointer (types.Pointer b n) = n + 1 < 2 ^ 64
 
 unfoldable pub integer_size : Integer → ℕ
 integer_size ints.Char = 1

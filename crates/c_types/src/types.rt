@@ -1,6 +1,6 @@
 // The types of values and places.
-ghost use Rattle.std.specs.Prelude.{◌≡◌, ◌<◌, ◌≤◌, ◌+◌, ◌++◌, ◌∷◌, [], IfSome, OnOk, IfOk, Some};
-ghost use Rattle.c_types.specs.Types.{same_integer, same_type, target, pointer_to, integer_size, size_of, kept, is_integer, is_scalar};
+ghost use Rattle.std.specs.Prelude.{◌≡◌, ◌<◌, ◌≤◌, ◌+◌, ◌++◌, ◌∷◌, ◌↔◌, [], IfSome, IsSome, OnOk, IfOk, Some};
+ghost use Rattle.c_types.specs.Types.{same_integer, same_type, target, pointer_to, HasPointer, integer_size, size_of, kept, is_integer, is_scalar};
 
 use gg_base::w32::{sext8, sext16, zext8, zext16};
 use std::alloc::{AllocError, Global};
@@ -102,10 +102,11 @@ impl CType {
         }
     }
 
-    /// The type of an address of a place of this type. None for `void`, and where no memory could hold so many stars.
+    /// The type of an address of a place of this type. None for `void`, and where 64 bits count no further star.
     #[tactic(auto, unfolding(crate::specs::Types::pointer_to))]
     pub fn pointer(self) -> Option<CType>
-        ensures { IfSome result (λ t. pointer_to self ≡ Some t) }
+        ensures found { IfSome result (λ t. pointer_to self ≡ Some t) }
+        ensures there { IsSome result ↔ HasPointer self }
     {
         match self {
             CType::Void => None,
