@@ -31,11 +31,11 @@ pub fn alone(base: Base) -> Operand
     Operand { base, index: None }
 }
 
-// What stands where a hole has nothing that can be spelled there.
+// What stands where a hole has nothing that can be spelled there: `$0`.
 fn spare() -> Operand
     ensures { result ≡ spare }
 {
-    alone(Base::Reg(Reg::R0))
+    alone(Base::Imm(addr_number(0)))
 }
 
 fn register_in(attr: &Attr<Operand>) -> Reg
@@ -198,7 +198,7 @@ impl<'a> Filling<'a> {
         ensures { IfOk result (λ o. o ≡ filled_base self.entry.program.now self.entry.holes.now self.entry.zero.now base) }
     {
         match base {
-            FormBase::RegisterZero => Ok(spare()),
+            FormBase::RegisterZero => Ok(alone(Base::Reg(Reg::R0))),
             FormBase::Hole(i) => self.operand_in(self.attr_at(i)),
             FormBase::Immediate(n) => Ok(alone(Base::Imm(self.number_addr(n)?))),
             FormBase::Negative(i) => {

@@ -29,9 +29,12 @@ use Rattle.vax_templates.specs.Instructions.{shape_of_pieces}
 abbrev pub alone : Base → Operand
 alone b = record { base = b; index = None }
 
--- what stands where a hole has nothing that can be spelled there; templates that are shown have no such hole
+abbrev pub addr_number : ℕ → Addr
+addr_number n = record { name = None; offset = n }
+
+-- what stands where a hole has nothing that can be spelled there, `$0`, which names no register; templates that are shown have no such hole
 abbrev pub spare : Operand
-spare = alone (bases.Reg R0)
+spare = alone (bases.Imm (addr_number 0))
 
 abbrev pub attr_or : Attr Operand → Option (Attr Operand) → Attr Operand
 attr_or zero None = zero
@@ -45,12 +48,13 @@ abbrev pub register_or_zero : Option Reg → Reg
 register_or_zero None = R0
 register_or_zero (Some r) = r
 
-abbrev pub register_in : Attr Operand → Reg
-register_in (attr.Reg n) = register_or_zero (slice_get registers n)
-register_in a = R0
+-- the register with a number
+abbrev pub numbered : ℕ → Reg
+numbered n = register_or_zero (slice_get registers n)
 
-abbrev pub addr_number : ℕ → Addr
-addr_number n = record { name = None; offset = n }
+abbrev pub register_in : Attr Operand → Reg
+register_in (attr.Reg n) = numbered n
+register_in a = R0
 
 abbrev pub label_of : Option Object → Option (List ℕ)
 label_of None = None
@@ -117,7 +121,7 @@ deferred_in p a = spare
 
 -- an operand without its index
 unfoldable pub filled_base : TreeProgram → List (Attr Operand) → Attr Operand → FormBase → Operand
-filled_base p holes zero base.RegisterZero = spare
+filled_base p holes zero base.RegisterZero = alone (bases.Reg R0)
 filled_base p holes zero (base.Hole i) = operand_in p (attr_at holes zero i)
 filled_base p holes zero (base.Immediate n) = alone (bases.Imm (number_addr p holes zero n))
 filled_base p holes zero (base.Negative i) = alone (bases.Imm (addr_number (neg32 (addr_in p (attr_at holes zero i)).offset)))
