@@ -1,5 +1,5 @@
 -- Which rules are shown, and the first refusal where one isn't.
-use Rattle.std.specs.Prelude.{◌≡◌, ℕ, ◌+◌, ◌≤◌, nat_lt, count_ones, Bool, List, [], ◌∷◌, Option, Some, None, Result, Ok, Err, if◌then◌else◌}
+use Rattle.std.specs.Prelude.{◌≡◌, ℕ, ◌+◌, ◌≤◌, nat_lt, count_ones, Bool, List, [], ◌∷◌, Option, Some, None, is_none, Result, Ok, Err, if◌then◌else◌}
 use Rattle.std.specs.List.{AllByRecursion}
 use Rattle.gg_base.specs.declared.size.Size.TheVariants.{Byte, Word, Long}
 use Rattle.md_reader_pieces.specs.declared.piece.Line.{Line}
@@ -86,3 +86,19 @@ pub record IsShown (effect : List Class → Rule → Result EffectShape Fault) (
 -- all rules of a description
 abbrev pub AreShown : (List Class → Rule → Result EffectShape Fault) → Content → Type 0
 AreShown effect d = AllByRecursion (IsShown effect (count_ones d.pool) d.classes) d.rules
+
+-- A line that saves what is of a kind, or that reloads, is shown likewise.
+pub record IsLineShown (saved : Kind → Line → Result EffectShape Fault) (k : Kind) (l : Line) : Type 0 where
+  pub found : EffectShape
+  pub found_is : saved k l ≡ Ok found
+  pub alike : norm_effect (saved_facts k) (saved_wanted k) ≡ norm_effect (saved_facts k) found
+
+-- each line, for the kind of its place
+abbrev pub AreLinesShown : (Kind → Line → Result EffectShape Fault) → List Kind → List Line → Type 0
+AreLinesShown saved [] ls = Unit {0}
+AreLinesShown saved (k ∷ ks) [] = Unit {0}
+AreLinesShown saved (k ∷ ks) (l ∷ ls) = IsLineShown saved k l × AreLinesShown saved ks ls
+
+-- nothing stands against the rules and the lines of a description
+abbrev pub is_shown : (List Class → Rule → Result EffectShape Fault) → (Kind → Line → Result EffectShape Fault) → Content → Bool
+is_shown effect saved d = is_none (first_refusal effect saved d)

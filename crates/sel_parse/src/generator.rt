@@ -1,22 +1,32 @@
 // The tables of a description whose rules are all shown, with their target.
-ghost use Rattle.std.specs.Prelude.{◌≡◌, length, IfOk};
-ghost use Rattle.sel_parse.specs.Shown.{first_refusal, AreShown};
+ghost use Rattle.std.specs.Prelude.{◌≡◌, length, IfOk, true};
+ghost use Rattle.sel_parse.specs.Shown.{first_refusal, is_shown, saved_kinds, AreShown, AreLinesShown};
 ghost use Rattle.sel_parse.specs.Answers.{Shows};
 
 use crate::fault::ShowFault;
 use crate::showing::first_refusal;
 use lr_tables::Tables;
-use sel_target::Target;
+use sel_target::Templates;
 use std::alloc::Global;
 
-/// Tables each of whose rules does on the target what its pattern says.
+/// Tables each of whose rules does on the target what its pattern says, as do the lines that save and reload. No rule needs more registers
+/// than the pool has.
 #[derive(Drop)]
-pub struct Generator<T: Target> {
-    tables: Tables,
-    target: T,
+pub struct Generator<T: Templates> {
+    pub(crate) tables: Tables,
+    pub(crate) target: T,
+    pub ghost shown: { is_shown T.meaning.effect T.meaning.spill_effect tables.content ≡ true },
 }
 
-impl<T: Target> Generator<T> {
+impl<T: Templates> Generator<T> {
+    /// All rules are shown, and the lines that save and reload. The call does nothing: its clauses are the facts.
+    pub fn is_shown(&self)
+        ensures rules { AreShown T.meaning.effect self.now.tables.content }
+        ensures lines { AreLinesShown T.meaning.spill_effect saved_kinds self.now.tables.content.spills }
+    {
+        let _tables = &self.tables;
+    }
+
     /// How many rules there are.
     pub fn rules(&self) -> u32
         ensures { result ≡ length self.now.tables.content.rules }
@@ -35,7 +45,7 @@ impl<T: Target> Generator<T> {
 
 /// Shows each rule: it needs no more registers than the pool has, its template has no fault, and does what its pattern says. Otherwise the
 /// first refusal is answered, with the tables: pools go first, then the lines that save and reload, then the rules in order.
-pub fn show_rules<T: Target>(
+pub fn show_rules<T: Templates>(
     alloc: Global,
     tables: Tables,
     target: T,

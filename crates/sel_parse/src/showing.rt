@@ -14,7 +14,7 @@ use crate::fault::ShowFault;
 use gg_base::Size;
 use md_reader::{Class, Description, Kind, Line, Rule};
 use sel_regs::need;
-use sel_target::{Target, TargetFault};
+use sel_target::{TargetFault, Templates};
 use sel_terms::{
     Act, Effect, Fact, Term, norm_effect, pattern_effect, rule_facts, same_effect, saved_facts,
 };
@@ -64,7 +64,7 @@ fn unlike(
     })
 }
 
-fn rule_refused<T: Target>(
+fn rule_refused<T: Templates>(
     alloc: Global,
     target: &T,
     number: u32,
@@ -84,7 +84,7 @@ fn rule_refused<T: Target>(
     }
 }
 
-fn rules_refused<T: Target>(
+fn rules_refused<T: Templates>(
     alloc: Global,
     target: &T,
     classes: &[Class],
@@ -142,7 +142,7 @@ fn saved_wanted(alloc: Global, kind: Kind) -> Effect
     }
 }
 
-fn line_refused<T: Target>(
+fn line_refused<T: Templates>(
     alloc: Global,
     target: &T,
     kind: Kind,
@@ -161,7 +161,7 @@ fn line_refused<T: Target>(
     }
 }
 
-fn lines_refused<T: Target>(
+fn lines_refused<T: Templates>(
     alloc: Global,
     target: &T,
     kinds: &[Kind],
@@ -185,7 +185,7 @@ fn lines_refused<T: Target>(
 }
 
 /// The first refusal: of a pool that is too small, then of the lines that save and reload, then of the rules.
-pub fn first_refusal<T: Target>(
+pub fn first_refusal<T: Templates>(
     alloc: Global,
     description: &Description,
     target: &T,

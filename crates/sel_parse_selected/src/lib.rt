@@ -5,10 +5,10 @@
 ghost use Rattle.sel_parse_selected.specs.Claims.{HasOneCode, IsOneEnd, IsMade, IsFull};
 ghost use Rattle.sel_parse_selected.specs.Rows.{Rows};
 
-use sel_target::Target;
+use sel_target::Templates;
 
 /// A tree has one code, which is what the parse's moves make; the frame is full only where a spill was due and no frame word was free.
-pub fn trees_have_one_code<T: Target>(_target: &T)
+pub fn trees_have_one_code<T: Templates>(_target: &T)
     ensures one { HasOneCode T.meaning }
     ensures end { IsOneEnd T.meaning }
     ensures made { IsMade T.meaning }

@@ -7,4 +7,4 @@ mod target;
 
 pub use attr::Attr;
 pub use fault::{TargetFault, TemplateKind};
-pub use target::Target;
+pub use target::{Target, Templates};

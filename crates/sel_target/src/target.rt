@@ -1,4 +1,4 @@
-// A machine, as the selection of instructions sees it.
+// A machine, as the selection of instructions sees it: its calls, and the laws that they keep.
 
 ghost use Rattle.std.specs.Prelude.{◌≡◌, ◌<◌, IfOk, IfErr, Ok, true};
 ghost use Rattle.md_reader.specs.Valid.{IsRule, IsSpill};
@@ -15,8 +15,8 @@ use sel_terms::Effect;
 use std::alloc::Global;
 use tree_core::TreeProgram;
 
-/// A machine for which instructions are selected. Its meanings are one record, and the laws that selection stands on another.
-pub trait Target: Sized + Drop {
+/// A machine's templates: what they do, and what they become with their holes filled. What they mean is one record.
+pub trait Templates: Sized + Drop {
     /// An operand of an instruction.
     type Operand: Drop;
 
@@ -87,7 +87,10 @@ pub trait Target: Sized + Drop {
     /// Whether two operands are spelled alike.
     fn same(&self, a: &Self::Operand, b: &Self::Operand) -> bool
         ensures { result ≡ meaning.same a.now b.now };
+}
 
-    /// The laws that the meanings keep.
-    ghost lawful: { IsLawful meaning };
+/// A machine whose meanings keep the laws that selection stands on, which are one record.
+pub trait Target: Templates {
+    /// The laws.
+    ghost lawful: { IsLawful Self.meaning };
 }

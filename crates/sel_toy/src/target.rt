@@ -6,7 +6,7 @@ ghost use Rattle.sel_toy_machine.specs.Machine.{bit_of};
 use crate::{effect, filling};
 use gg_base::NoMemory;
 use md_reader::{Class, Kind, Line, Rule};
-use sel_target::{Attr, Target, TargetFault};
+use sel_target::{Attr, Target, TargetFault, Templates};
 use sel_terms::Effect;
 use sel_toy_machine::{Instr, Operand};
 use std::alloc::Global;
@@ -32,9 +32,8 @@ impl Model for State {
 #[derive(Clone, Copy, Debug, PartialEq, Eq)]
 pub struct Toy;
 
-impl Target for Toy {
+impl Templates for Toy {
     ghost use Rattle.sel_toy_machine.specs.Toy.{toy};
-    ghost use Rattle.sel_toy_machine.proofs.Lawful.{toy_is_lawful};
 
     type Operand = Operand;
 
@@ -109,6 +108,10 @@ impl Target for Toy {
             _ => false,
         }
     }
+}
+
+impl Target for Toy {
+    ghost use Rattle.sel_toy_machine.proofs.Lawful.{toy_is_lawful};
 
     ghost lawful = { toy_is_lawful };
 }

@@ -9,7 +9,7 @@ abbrev pub invariant-loop-kinds_left : goal.invariant-loop-kinds_left
 invariant-loop-kinds_left g l = record {
   kinds : all_saved l.kinds_left ≡ true;
   lines : AllByRecursion IsSpill l.left;
-  same : lines_refused g.T.Target.meaning.spill_effect l.kinds l.lines ≡ lines_refused g.T.Target.meaning.spill_effect l.kinds_left l.left;
+  same : lines_refused g.T.Templates.meaning.spill_effect l.kinds l.lines ≡ lines_refused g.T.Templates.meaning.spill_effect l.kinds_left l.left;
 }
 
 abbrev pub decreases-loop-kinds_left : goal.decreases-loop-kinds_left

@@ -1,4 +1,4 @@
-use Rattle.std.proofs.Common.{◌∙◌, sym}
+use Rattle.std.proofs.Common.{◌∙◌}
 use Rattle.sel_parse.proofs.Telling.{compared_told}
 use Rattle.sel_parse.proofs.showing.rule_refused.Goals as goal
 

@@ -8,7 +8,7 @@ abbrev pub invariant-loop-left : goal.invariant-loop-left
 invariant-loop-left g l = record {
   valid : AllByRecursion (IsRule l.classes) l.left;
   few : l.number + length l.left ≤ 1001;
-  same : rules_refused g.T.Target.meaning.effect l.classes 1 l.rules ≡ rules_refused g.T.Target.meaning.effect l.classes l.number l.left;
+  same : rules_refused g.T.Templates.meaning.effect l.classes 1 l.rules ≡ rules_refused g.T.Templates.meaning.effect l.classes l.number l.left;
 }
 
 abbrev pub decreases-loop-left : goal.decreases-loop-left
