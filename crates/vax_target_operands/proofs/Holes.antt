@@ -1,0 +1,314 @@
+-- What a hole means, as a number, a register, or an operand.
+use Rattle.std.proofs.Common.{◌≡◌, ℕ, ◌-◌, ◌%◌, ◌^◌, ◌<◌, ◌==◌, Bool, true, false, cond, List, [], ◌∷◌, Option, Some, None, IsSome, Result, Ok, Err, refl, sym, ap, subst, ◌∙◌, arith}
+use Rattle.std.specs.Prelude.{slice_get}
+use Rattle.std.specs.List.{AllByRecursion}
+use Rattle.gg_base.specs.declared.size.Size.{Size}
+use Rattle.gg_base.specs.declared.size.Size.TheVariants.{Long}
+use Rattle.tree_core.specs.Area as trees
+use Rattle.term_core.specs.Shape.{Shape, Constant, Symbol, Memory}
+use Rattle.sel_target.specs.declared.fault.TemplateKind.TheVariants.{NotInstr}
+use Rattle.sel_target.specs.declared.attr.Attr.{Attr}
+use Rattle.sel_target.specs.declared.attr.Attr.TheVariants as attr
+use Rattle.sel_target.specs.Values.{IsRead}
+use Rattle.sel_target.proofs.AreaBytes.{fetched_is}
+use Rattle.vax_core.specs.declared.operand.Addr.{Addr}
+use Rattle.vax_core.specs.declared.operand.Base.{Base as MachineBase}
+use Rattle.vax_core.specs.declared.operand.Base.TheVariants as bases
+use Rattle.vax_core.specs.declared.operand.Operand.{Operand}
+use Rattle.vax_machine.specs.declared.turn.Stop.{Stop}
+use Rattle.vax_machine.specs.declared.operands.Location.{Location}
+use Rattle.vax_machine.specs.declared.operands.Location.TheVariants as locations
+use Rattle.vax_machine.specs.State.{State, reg, ◌>>=◌}
+use Rattle.vax_machine.specs.Area.{resolved, resolved_of}
+use Rattle.vax_machine.specs.Memory.{read}
+use Rattle.vax_machine.specs.Operands.{located, indexed, fetched, deferred}
+use Rattle.vax_machine_lists.specs.Sound.{AllBelow}
+use Rattle.vax_templates.specs.declared.form.Number.{Number}
+use Rattle.vax_templates.specs.declared.form.Number.TheVariants as number
+use Rattle.vax_templates.specs.declared.setting.Hole.{Hole}
+use Rattle.vax_templates.specs.declared.setting.Hole.TheVariants as hole
+use Rattle.vax_templates.specs.declared.setting.Own.{Own}
+use Rattle.vax_templates.specs.declared.setting.Own.TheVariants as own
+use Rattle.vax_templates.specs.Settings.{hole_or_other}
+use Rattle.vax_templates.specs.Judging.{is_operand}
+use Rattle.vax_templates.specs.Standing.{Where, Register, OwnRegister, Value, Place, Local, SavedPlace, Saved, At, constant_of, address_of, absolute_term, number_term, own_value, register_of, register_term, where_own, where_hole, where_deferred}
+use Rattle.vax_templates.specs.Filled.{alone, addr_number, attr_or, numbered, register_in, addr_in, number_addr, operand_in, deferred_in}
+use Rattle.vax_core.specs.declared.register.Reg.TheVariants.{Fp}
+use Rattle.vax_core.specs.Homes.{home, word_addr}
+use Rattle.vax_target_meaning.specs.Reading.{named, names, reads, displaced}
+use Rattle.vax_target_operands.specs.Scenes.{Scene, worth, role_at, filling_at, is_lost, Means, IsRegister, IsPlace, IsLocal, Names, IsNumber, IsObject, OwnIs, IsOwnRegister, IsOwnSlot, Holds, Sees}
+use Rattle.vax_target_operands.specs.Places.{StandsAt, InRegister, IsHome, IsWhere, CanStand, Stands, IsShort}
+use Rattle.vax_target_operands.proofs.Binds.{err_ok, ok_same}
+use Rattle.vax_target_operands.proofs.Machine.{some_same, area_is_read, named_located, names_stand, ReadsAt, reads_stand, reg_found}
+
+pub below_all : (xs : List ℕ) → AllBelow 256 xs → AllByRecursion (λ b. b < 256) xs
+below_all [] h = tt
+below_all (x ∷ xs) h = (h.0, below_all xs h.1)
+
+-- an operand is found at one place
+pub stands_same : (m : State) (o : Operand) (size : Size) (k l : Location) → StandsAt m o size k → StandsAt m o size l → k ≡ l
+stands_same m o size k l p q =
+    let e : p.base ≡ q.base = same_base p.base q.base (sym p.found ∙ q.found) in
+    sym p.is ∙ ap (λ x. indexed m x o.index size) e ∙ q.is
+  where
+    same_base : (x y : Location) → ◌≡◌ {A = Result (Location × State) Stop} (Ok (x, m)) (Ok (y, m)) → x ≡ y
+    same_base x y h = ap (λ (z : Location × State). z.0) (ok_same (x, m) (y, m) h)
+
+pub rel_found : (m : State) (a : Addr) (size : Size) → located m (bases.Rel a) size ≡ Ok (locations.Memory (resolved m.layout a), m)
+unfolding located
+rel_found m a size = refl
+
+pub rel_deferred : (m : State) (a : Addr) (size : Size) → located m (bases.RelDef a) size ≡ deferred m (resolved m.layout a)
+unfolding located
+rel_deferred m a size = refl
+
+-- an operand without an index stands where its base does
+pub plain_stands : (m : State) (o : Operand) (size : Size) (l : Location) → o.index ≡ None → located m o.base size ≡ Ok (l, m) → StandsAt m o size l
+plain_stands m o size l none found = record { base = l; found = found; is = ap (λ x. indexed m l x size) none }
+
+module _ (c : Scene) (m : State) where
+  -- ---- numbers
+
+  pub number_resolved : (a : Attr Operand) (n : ℕ) → IsNumber c a n → resolved m.layout (addr_in c.program a) ≡ n
+  number_resolved a n k = ap (λ o. resolved_of m.layout o (addr_in c.program a).offset) k.nameless ∙ k.is
+
+  pub constant_known : (r : Hole) (i : ℕ) (t : Shape) (a : Attr Operand) → Means c m r i a → constant_of r i ≡ Ok t → IsNumber c a (worth c t)
+  constant_known hole.Register i t a k e = absurd (err_ok _ t e)
+  constant_known (hole.Value z) i t a k e = absurd (err_ok _ t e)
+  constant_known (hole.Place z) i t a k e = absurd (err_ok _ t e)
+  constant_known hole.Local i t a k e = absurd (err_ok _ t e)
+  constant_known (hole.SavedPlace z) i t a k e = absurd (err_ok _ t e)
+  constant_known hole.Address i t a k e = absurd (err_ok _ t e)
+  constant_known hole.Constant i t a k e = subst (λ s. IsNumber c a (worth c s)) (ok_same (Symbol i) t e) k
+  constant_known (hole.Literal n) i t a k e =
+      subst (λ s. IsNumber c a (worth c s)) (ok_same (Constant n) t e)
+      (subst (λ x. IsNumber c a x) (let small : n ≡ n % 2 ^ 32 = omega (arith, k.low) in small) k)
+  constant_known hole.Object i t a k e = absurd (err_ok _ t e)
+  constant_known hole.Saved i t a k e = absurd (err_ok _ t e)
+  constant_known hole.Relation i t a k e = absurd (err_ok _ t e)
+  constant_known hole.Other i t a k e = absurd (err_ok _ t e)
+
+  pub address_known : (r : Hole) (i : ℕ) (t : Shape) (a : Attr Operand) → Means c m r i a → address_of r i ≡ Ok t → resolved m.layout (addr_in c.program a) ≡ worth c t
+  address_known hole.Register i t a k e = absurd (err_ok _ t e)
+  address_known (hole.Value z) i t a k e = absurd (err_ok _ t e)
+  address_known (hole.Place z) i t a k e = absurd (err_ok _ t e)
+  address_known hole.Local i t a k e = absurd (err_ok _ t e)
+  address_known (hole.SavedPlace z) i t a k e = absurd (err_ok _ t e)
+  address_known hole.Address i t a k e = absurd (err_ok _ t e)
+  address_known hole.Constant i t a k e = number_resolved a (worth c t) (constant_known hole.Constant i t a k e)
+  address_known (hole.Literal n) i t a k e = number_resolved a (worth c t) (constant_known (hole.Literal n) i t a k e)
+  address_known hole.Object i t a k e = k.address ∙ ap (worth c) (ok_same (Symbol i) t e)
+  address_known hole.Saved i t a k e = absurd (err_ok _ t e)
+  address_known hole.Relation i t a k e = absurd (err_ok _ t e)
+  address_known hole.Other i t a k e = absurd (err_ok _ t e)
+
+  -- a number stands in no register
+  pub number_no_operand : (r : Hole) (i : ℕ) (t : Shape) → address_of r i ≡ Ok t → is_operand r ≡ false
+  number_no_operand hole.Register i t e = absurd (err_ok _ t e)
+  number_no_operand (hole.Value z) i t e = absurd (err_ok _ t e)
+  number_no_operand (hole.Place z) i t e = absurd (err_ok _ t e)
+  number_no_operand hole.Local i t e = absurd (err_ok _ t e)
+  number_no_operand (hole.SavedPlace z) i t e = absurd (err_ok _ t e)
+  number_no_operand hole.Address i t e = absurd (err_ok _ t e)
+  number_no_operand hole.Constant i t e = refl
+  number_no_operand (hole.Literal n) i t e = refl
+  number_no_operand hole.Object i t e = refl
+  number_no_operand hole.Saved i t e = refl
+  number_no_operand hole.Relation i t e = refl
+  number_no_operand hole.Other i t e = refl
+
+  pub constant_address : (r : Hole) (i : ℕ) (t : Shape) → constant_of r i ≡ Ok t → address_of r i ≡ Ok t
+  constant_address hole.Register i t e = e
+  constant_address (hole.Value z) i t e = e
+  constant_address (hole.Place z) i t e = e
+  constant_address hole.Local i t e = e
+  constant_address (hole.SavedPlace z) i t e = e
+  constant_address hole.Address i t e = e
+  constant_address hole.Constant i t e = e
+  constant_address (hole.Literal n) i t e = e
+  constant_address hole.Object i t e = absurd (err_ok _ t e)
+  constant_address hole.Saved i t e = e
+  constant_address hole.Relation i t e = e
+  constant_address hole.Other i t e = e
+
+  -- ---- registers
+
+  pub register_known : (r : Hole) (i : ℕ) (t : Shape) (a : Attr Operand) → Means c m r i a → register_of r i ≡ Ok t → reg m (register_in a) ≡ worth c t
+  register_known hole.Register i t a k e = ap (λ x. reg m (register_in x)) k.is ∙ k.holds ∙ ap (worth c) (ok_same (Symbol i) t e)
+  register_known (hole.Value z) i t a k e = absurd (err_ok _ t e)
+  register_known (hole.Place z) i t a k e = absurd (err_ok _ t e)
+  register_known hole.Local i t a k e = absurd (err_ok _ t e)
+  register_known (hole.SavedPlace z) i t a k e = absurd (err_ok _ t e)
+  register_known hole.Address i t a k e = absurd (err_ok _ t e)
+  register_known hole.Constant i t a k e = absurd (err_ok _ t e)
+  register_known (hole.Literal n) i t a k e = absurd (err_ok _ t e)
+  register_known hole.Object i t a k e = absurd (err_ok _ t e)
+  register_known hole.Saved i t a k e = absurd (err_ok _ t e)
+  register_known hole.Relation i t a k e = absurd (err_ok _ t e)
+  register_known hole.Other i t a k e = absurd (err_ok _ t e)
+
+  -- ---- operands that are holes
+
+  -- an operand stands where its template says, before an index is put behind it
+  abbrev pub BaseStands : Where → Operand → Size → Type 0
+  BaseStands (At a p) o size = (o.index ≡ None) × (located m o.base size ≡ Ok (locations.Memory (worth c a), m))
+  BaseStands w o size = Stands c m o w size
+
+  home_stands : (i : ℕ) (size : Size) (address : ℕ) → names (operand_in c.program (filling_at c i)) size m ≡ Some address →
+      (IsSome (c.view.symbol i) → ReadsAt m (operand_in c.program (filling_at c i)) size (worth c (Symbol i))) → IsHome c m i size (locations.Memory address)
+  home_stands i size address e h = record {
+    address = address;
+    is = refl;
+    named_so = e;
+    holds = λ some. at_place (h some);
+  }
+    where
+      at_place : ReadsAt m (operand_in c.program (filling_at c i)) size (worth c (Symbol i)) → fetched m (locations.Memory address) size ≡ Ok (worth c (Symbol i))
+      at_place r =
+          subst (λ l. fetched m l size ≡ Ok (worth c (Symbol i)))
+          (stands_same m (operand_in c.program (filling_at c i)) size r.place (locations.Memory address) r.at (names_stand (operand_in c.program (filling_at c i)) size m address e)) r.reads_so
+
+  pub register_stands : (a : Attr Operand) (n : ℕ) (size : Size) → a ≡ attr.Reg n → StandsAt m (operand_in c.program a) size (locations.Register (register_in a))
+  register_stands a n size e =
+      subst (λ x. StandsAt m (operand_in c.program x) size (locations.Register (register_in x))) (sym e)
+      (record { base = locations.Register (numbered n); found = reg_found m (numbered n) size; is = refl })
+
+  pub hole_stands : (r : Hole) (i : ℕ) (w : Where) (size : Size) →
+      Means c m r i (filling_at c i) → where_hole r i ≡ Ok w → CanStand c w size → BaseStands w (operand_in c.program (filling_at c i)) size
+  hole_stands hole.Register i w size k e can =
+      subst (λ x. BaseStands x (operand_in c.program (filling_at c i)) size) (ok_same (Register (Symbol i)) w e)
+      (record {
+        place = locations.Register (register_in (filling_at c i));
+        at = register_stands (filling_at c i) k.number size k.is;
+        is = record { register = register_in (filling_at c i); is = refl; holds = ap (λ x. reg m (register_in x)) k.is ∙ k.holds };
+      })
+  hole_stands (hole.Value z) i w size k e can =
+      subst (λ x. CanStand c x size → BaseStands x (operand_in c.program (filling_at c i)) size) (ok_same (Value z i) w e) by can
+    where
+      by : z ≡ size → Stands c m (operand_in c.program (filling_at c i)) (Value z i) size
+      by same =
+          let r = reads_stand (operand_in c.program (filling_at c i)) size m (worth c (Symbol i)) (subst (λ y. reads (operand_in c.program (filling_at c i)) y m ≡ Some (worth c (Symbol i))) same k) in
+          record { place = r.place; at = r.at; is = r.reads_so }
+  hole_stands (hole.Place z) i w size k e can =
+      subst (λ x. CanStand c x size → BaseStands x (operand_in c.program (filling_at c i)) size) (ok_same (Place z i) w e) by can
+    where
+      by : z ≡ size → Stands c m (operand_in c.program (filling_at c i)) (Place z i) size
+      by same =
+          let p = subst (λ y. IsPlace c m y i (filling_at c i)) same k in
+          record {
+            place = locations.Memory p.address;
+            at = names_stand (operand_in c.program (filling_at c i)) size m p.address p.named_so;
+            is = home_stands i size p.address p.named_so (λ some. reads_stand (operand_in c.program (filling_at c i)) size m (worth c (Symbol i)) (p.holds some));
+          }
+  hole_stands hole.Local i w size k e can =
+      subst (λ x. CanStand c x size → BaseStands x (operand_in c.program (filling_at c i)) size) (ok_same (Local i) w e) by can
+    where
+      by : Long ≡ size → Stands c m (operand_in c.program (filling_at c i)) (Local i) size
+      by same =
+          subst (λ y. Stands c m (operand_in c.program (filling_at c i)) (Local i) y) same
+          (let r = reads_stand (operand_in c.program (filling_at c i)) Long m (worth c (Symbol i)) k.holds in
+          let there = names_stand (operand_in c.program (filling_at c i)) Long m k.address k.named_so in
+          record {
+            place = locations.Memory k.address;
+            at = there;
+            is = (
+              home_stands i Long k.address k.named_so (λ some. r),
+              subst (λ l. fetched m l Long ≡ Ok (worth c (Symbol i))) (stands_same m (operand_in c.program (filling_at c i)) Long r.place (locations.Memory k.address) r.at there) r.reads_so,
+            );
+          })
+  hole_stands (hole.SavedPlace z) i w size k e can =
+      subst (λ x. CanStand c x size → BaseStands x (operand_in c.program (filling_at c i)) size) (ok_same (SavedPlace z i) w e) by can
+    where
+      by : z ≡ size → Stands c m (operand_in c.program (filling_at c i)) (SavedPlace z i) size
+      by same =
+          record {
+            place = locations.Memory (worth c (Symbol i));
+            at = names_stand (operand_in c.program (filling_at c i)) size m (worth c (Symbol i)) (subst (λ y. names (operand_in c.program (filling_at c i)) y m ≡ Some (worth c (Symbol i))) same k);
+            is = refl;
+          }
+  hole_stands hole.Address i w size k e can =
+      subst (λ x. BaseStands x (operand_in c.program (filling_at c i)) size) (ok_same (At (Symbol i) None) w e)
+      (k.plain, named_located m (operand_in c.program (filling_at c i)).base size (worth c (Symbol i)) k.named_so)
+  hole_stands hole.Constant i w size k e can = absurd (err_ok _ w e)
+  hole_stands (hole.Literal n) i w size k e can = absurd (err_ok _ w e)
+  hole_stands hole.Object i w size k e can =
+      subst (λ x. BaseStands x (operand_in c.program (filling_at c i)) size) (ok_same (At (Symbol i) None) w e)
+      (subst (λ o. BaseStands (At (Symbol i) None) o size) (sym k.operand_is)
+      (refl, rel_found m (addr_in c.program (filling_at c i)) size ∙ ap (λ (x : ℕ). Ok (locations.Memory x, m)) k.address))
+  hole_stands hole.Saved i w size k e can =
+      subst (λ x. BaseStands x (operand_in c.program (filling_at c i)) size) (ok_same (Saved i) w e)
+      (let at = plain_stands m (operand_in c.program (filling_at c i)) size (locations.Memory k.0) k.1.plain (named_located m (operand_in c.program (filling_at c i)).base size k.0 k.1.named_so) in
+      record { place = locations.Memory k.0; at = at; is = at })
+  hole_stands hole.Relation i w size k e can = absurd (err_ok _ w e)
+  hole_stands hole.Other i w size k e can = absurd (err_ok _ w e)
+
+  -- ---- `%0`
+
+  own_stands : (o : Own) (w : Where) (size : Size) → OwnIs c o → where_own o ≡ Ok w → BaseStands w (operand_in c.program c.own) size
+  own_stands own.Nothing w size k e = absurd (err_ok _ w e)
+  own_stands own.Register w size k e =
+      subst (λ x. BaseStands x (operand_in c.program c.own) size) (ok_same OwnRegister w e)
+      (let at = register_stands c.own k.number size k.is in record { place = locations.Register (register_in c.own); at = at; is = at })
+  own_stands (own.Slot z) w size k e =
+      subst (λ x. BaseStands x (operand_in c.program c.own) size) (ok_same OwnRegister w e)
+      (subst (λ a. Stands c m (operand_in c.program c.own) OwnRegister size) k.is (slot_stands k.word k.is))
+    where
+      slot_stands : (word : ℕ) → c.own ≡ attr.Place (home word) → Stands c m (operand_in c.program c.own) OwnRegister size
+      slot_stands word is =
+          let at = subst (λ a. StandsAt m (operand_in c.program a) size (locations.Memory (displaced m Fp (word_addr word)))) (sym is)
+          (names_stand (home word) size m _ refl) in
+          record { place = _; at = at; is = at }
+
+  pub own_held : (o : Own) (z : Option Shape) (t : Shape) → Holds c m z → own_value o z ≡ Ok t → reg m (register_in c.own) ≡ worth c t
+  own_held own.Nothing z t h e = absurd (err_ok _ t e)
+  own_held own.Register None t h e = absurd (err_ok _ t e)
+  own_held own.Register (Some x) t h e = h ∙ ap (worth c) (ok_same x t e)
+  own_held (own.Slot z) y t h e = absurd (err_ok _ t e)
+
+-- ---- in a state that is seen
+
+module _ (c : Scene) (zero : Option Shape) (m : State) (h : Sees c zero m) where
+  pub area_bytes : AllByRecursion (λ b. b < 256) c.view.state.area
+  area_bytes = subst (λ l. AllByRecursion (λ b. b < 256) l) h.area (below_all m.area h.sound.area_bytes)
+
+  -- memory that may be read holds what the term says
+  pub memory_read : (size : Size) (a : Shape) (x : ℕ) → x ≡ worth c a → IsRead c.view (Memory size a) → read m x size ≡ Ok (worth c (Memory size a))
+  memory_read size a x e safe =
+      area_is_read m size x (worth c (Memory size a))
+      (ap (λ l. trees.fetched size l x) h.area ∙ ap (trees.fetched size c.view.state.area) e ∙ fetched_is c.view size (worth c a) area_bytes (safe.1 refl))
+
+  pub pointer_read : (a : Shape) (x : ℕ) → x ≡ worth c a → IsRead c.view (Memory Long a) → deferred m x ≡ Ok (locations.Memory (worth c (Memory Long a)), m)
+  pointer_read a x e safe = ap (λ (r : Result ℕ Stop). r >>= λ (n : ℕ). Ok (locations.Memory n, m)) (memory_read Long a x e safe)
+
+  -- a hole that is a number
+  pub number_means : (i : ℕ) (t : Shape) → address_of (role_at c i) i ≡ Ok t → Means c m (role_at c i) i (filling_at c i)
+  number_means i t e = h.means i (λ lost. number_no_operand c m (role_at c i) i t e)
+
+  pub number_is : (n : Number) (t : Shape) → IsShort n → number_term c.roles n ≡ Ok t → resolved m.layout (number_addr c.program c.holes c.own n) ≡ worth c t
+  number_is (number.Itself n) t short e = (let same : n ≡ n % 2 ^ 32 = omega (arith, short) in same) ∙ ap (worth c) (ok_same (Constant n) t e)
+  number_is (number.Symbol i) t short e = address_known c m (role_at c i) i t (filling_at c i) (number_means i t e) e
+
+  pub absolute_is : (n : Number) (t : Shape) → IsShort n → absolute_term c.roles n ≡ Ok t → (number_addr c.program c.holes c.own n).offset ≡ worth c t
+  absolute_is (number.Itself n) t short e = (let same : n ≡ n % 2 ^ 32 = omega (arith, short) in same) ∙ ap (worth c) (ok_same (Constant n) t e)
+  absolute_is (number.Symbol i) t short e =
+      (constant_known c m (role_at c i) i t (filling_at c i) (number_means i t (constant_address c m (role_at c i) i t e)) e).is
+
+  -- a register that a hole spells, `%0` too
+  pub register_is : (i : ℕ) (t : Shape) → (is_lost c zero ≡ true → is_operand (role_at c i) ≡ false) →
+      register_term c.setting c.roles zero i ≡ Ok t → reg m (register_in (filling_at c i)) ≡ worth c t
+  register_is i t free e = by (i == 0) (h.means i free) e where
+    by : (b : Bool) → Means c m (cond b hole.Other (hole_or_other (slice_get c.roles (i - 1)))) i (cond b c.own (attr_or c.own (slice_get c.holes (i - 1)))) →
+        cond b (own_value c.setting.own zero) (register_of (cond b hole.Other (hole_or_other (slice_get c.roles (i - 1)))) i) ≡ Ok t →
+        reg m (register_in (cond b c.own (attr_or c.own (slice_get c.holes (i - 1))))) ≡ worth c t
+    by true k e = own_held c m c.setting.own zero t h.holds e
+    by false k e = register_known c m (hole_or_other (slice_get c.roles (i - 1))) i t (attr_or c.own (slice_get c.holes (i - 1))) k e
+
+  -- a hole alone, `%0` too
+  pub alone_stands : (i : ℕ) (w : Where) (size : Size) → (is_lost c zero ≡ true → is_operand (role_at c i) ≡ false) →
+      cond (i == 0) (where_own c.setting.own) (where_hole (role_at c i) i) ≡ Ok w → CanStand c w size → BaseStands c m w (operand_in c.program (filling_at c i)) size
+  alone_stands i w size free e can = by (i == 0) refl e where
+    by : (b : Bool) → (i == 0) ≡ b → cond b (where_own c.setting.own) (where_hole (role_at c i) i) ≡ Ok w → BaseStands c m w (operand_in c.program (filling_at c i)) size
+    by true zero_is e =
+        subst (λ a. BaseStands c m w (operand_in c.program a) size) (sym (ap (λ b. cond b c.own (attr_or c.own (slice_get c.holes (i - 1)))) zero_is))
+        (own_stands c m c.setting.own w size h.own_is e)
+    by false zero_is e = hole_stands c m (role_at c i) i w size (h.means i free) e can

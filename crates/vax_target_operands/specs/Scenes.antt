@@ -1,0 +1,133 @@
+-- Where the lines of a template are run: what fills the holes, and what each hole means in a state of the machine.
+use Rattle.std.specs.Prelude.{◌≡◌, ℕ, ◌%◌, ◌^◌, ◌<◌, Bool, true, false, List, Option, Some, None, IsSome}
+use Rattle.gg_base.specs.declared.size.Size.{Size}
+use Rattle.gg_base.specs.declared.size.Size.TheVariants.{Long}
+use Rattle.tree_core.specs.declared.program.TreeProgram.{TreeProgram}
+use Rattle.term_core.specs.Shape.{Shape, Symbol, LastResult}
+use Rattle.sel_target.specs.declared.attr.Attr.{Attr}
+use Rattle.sel_target.specs.declared.attr.Attr.TheVariants as attr
+use Rattle.sel_target.specs.Values.{View, value}
+use Rattle.vax_core.specs.declared.register.Reg.TheVariants.{R0}
+use Rattle.vax_core.specs.declared.operand.Base.TheVariants as bases
+use Rattle.vax_core.specs.declared.operand.Operand.{Operand}
+use Rattle.vax_core.specs.Homes.{home}
+use Rattle.vax_machine.specs.State.{State, reg}
+use Rattle.vax_machine.specs.Area.{resolved}
+use Rattle.vax_machine_lists.specs.Sound.{IsSound}
+use Rattle.vax_templates.specs.declared.setting.Hole.{Hole}
+use Rattle.vax_templates.specs.declared.setting.Hole.TheVariants as hole
+use Rattle.vax_templates.specs.declared.setting.Own.{Own}
+use Rattle.vax_templates.specs.declared.setting.Own.TheVariants as own
+use Rattle.vax_templates.specs.declared.setting.Opening.TheVariants as opening
+use Rattle.vax_templates.specs.declared.setting.Setting.{Setting}
+use Rattle.vax_templates.specs.Settings.{hole_at}
+use Rattle.vax_templates.specs.Judging.{is_operand}
+use Rattle.vax_templates.specs.Filled.{alone, attr_at, numbered, register_in, addr_in, operand_in, deferred_in}
+use Rattle.vax_target_meaning.specs.Reading.{named, names, reads}
+
+-- the program, what the lines may do, what each hole stands for, what fills it, what fills `%0`, and what the symbols are worth
+pub record Scene : Type 0 where
+  pub program : TreeProgram
+  pub setting : Setting
+  pub roles : List Hole
+  pub holes : List (Attr Operand)
+  pub own : Attr Operand
+  pub view : View
+
+abbrev pub worth : Scene → Shape → ℕ
+worth c t = value c.view t
+
+-- a register that holds the symbol's value
+pub record IsRegister (c : Scene) (m : State) (i : ℕ) (h : Attr Operand) : Type 0 where
+  pub number : ℕ
+  pub is : h ≡ attr.Reg number
+  pub low : number < 12
+  pub holds : reg m (numbered number) ≡ worth c (Symbol i)
+
+-- a place of a size: its address can be found, and where the symbol has a value, it stands there
+pub record IsPlace (c : Scene) (m : State) (size : Size) (i : ℕ) (h : Attr Operand) : Type 0 where
+  pub address : ℕ
+  pub named_so : names (operand_in c.program h) size m ≡ Some address
+  pub holds : IsSome (c.view.symbol i) → reads (operand_in c.program h) size m ≡ Some (worth c (Symbol i))
+
+-- a local or an argument: its value stands at its place, and so does an address behind `*`
+pub record IsLocal (c : Scene) (m : State) (i : ℕ) (h : Attr Operand) : Type 0 where
+  pub address : ℕ
+  pub named_so : names (operand_in c.program h) Long m ≡ Some address
+  pub holds : reads (operand_in c.program h) Long m ≡ Some (worth c (Symbol i))
+  pub plain : (deferred_in c.program h).index ≡ None
+  pub deferred : named m (deferred_in c.program h).base ≡ Some (worth c (Symbol i))
+
+-- an operand without index that names this address
+pub record Names (m : State) (o : Operand) (address : ℕ) : Type 0 where
+  pub plain : o.index ≡ None
+  pub named_so : named m o.base ≡ Some address
+
+-- a number that is spelled without a name
+pub record IsNumber (c : Scene) (h : Attr Operand) (n : ℕ) : Type 0 where
+  pub nameless : (addr_in c.program h).name ≡ None
+  pub is : (addr_in c.program h).offset ≡ n
+  pub low : n < 2 ^ 32
+
+-- an object's label stands at its address
+pub record IsObject (c : Scene) (m : State) (i : ℕ) (h : Attr Operand) : Type 0 where
+  pub address : resolved m.layout (addr_in c.program h) ≡ worth c (Symbol i)
+  pub operand_is : operand_in c.program h ≡ alone (bases.Rel (addr_in c.program h))
+  pub deferred_is : deferred_in c.program h ≡ alone (bases.RelDef (addr_in c.program h))
+
+-- what fills a hole is what the hole stands for
+abbrev pub Means : Scene → State → Hole → ℕ → Attr Operand → Type 0
+Means c m hole.Register i h = IsRegister c m i h
+Means c m (hole.Value size) i h = reads (operand_in c.program h) size m ≡ Some (worth c (Symbol i))
+Means c m (hole.Place size) i h = IsPlace c m size i h
+Means c m hole.Local i h = IsLocal c m i h
+Means c m (hole.SavedPlace size) i h = names (operand_in c.program h) size m ≡ Some (worth c (Symbol i))
+Means c m hole.Address i h = Names m (operand_in c.program h) (worth c (Symbol i))
+Means c m hole.Constant i h = IsNumber c h (worth c (Symbol i))
+Means c m (hole.Literal n) i h = IsNumber c h n
+Means c m hole.Object i h = IsObject c m i h
+Means c m hole.Saved i h = (address : ℕ) × Names m (operand_in c.program h) address
+Means c m hole.Relation i h = Unit {0}
+Means c m hole.Other i h = Unit {0}
+
+abbrev pub role_at : Scene → ℕ → Hole
+role_at c i = hole_at c.roles i
+
+abbrev pub filling_at : Scene → ℕ → Attr Operand
+filling_at c i = attr_at c.holes c.own i
+
+-- a register among r0 to r11, or the operand of a frame word
+pub record IsOwnRegister (c : Scene) : Type 0 where
+  pub number : ℕ
+  pub is : c.own ≡ attr.Reg number
+  pub low : number < 12
+
+pub record IsOwnSlot (c : Scene) : Type 0 where
+  pub word : ℕ
+  pub is : c.own ≡ attr.Place (home word)
+
+-- what fills `%0` is what it is to be
+abbrev pub OwnIs : Scene → Own → Type 0
+OwnIs c own.Nothing = Unit {0}
+OwnIs c own.Register = IsOwnRegister c
+OwnIs c (own.Slot size) = IsOwnSlot c
+
+-- what `%0` holds, where it has a value
+abbrev pub Holds : Scene → State → Option Shape → Type 0
+Holds c m None = Unit {0}
+Holds c m (Some t) = reg m (register_in c.own) ≡ worth c t
+
+-- `%0` has a value, and perhaps took an operand's register
+abbrev pub is_lost : Scene → Option Shape → Bool
+is_lost c None = false
+is_lost c (Some t) = c.setting.is_reused
+
+-- A state in which a line is run: the data area is the view's, each hole means what it stands for, unless `%0` took its register, `%0` holds its
+-- value, and before it has one, register 0 is the last call's result to a rule that saves it.
+pub record Sees (c : Scene) (zero : Option Shape) (m : State) : Type 0 where
+  pub sound : IsSound m
+  pub area : m.area ≡ c.view.state.area
+  pub means : (i : ℕ) → (is_lost c zero ≡ true → is_operand (role_at c i) ≡ false) → Means c m (role_at c i) i (filling_at c i)
+  pub own_is : OwnIs c c.setting.own
+  pub holds : Holds c m zero
+  pub answered : c.setting.opening ≡ opening.Save → zero ≡ None → reg m R0 ≡ worth c LastResult
