@@ -1,7 +1,7 @@
 // What the holes of a template stand for, and what its lines may do.
 ghost use Rattle.std.specs.Prelude.{◌≡◌, IfOk};
 ghost use Rattle.vax_templates.specs.Settings.{hole_of_token, hole_of_kind, hole_of, holes_of, saved_hole, hole_at, own_of, is_reuse};
-ghost use Rattle.vax_templates.specs.Settings.{opening_of};
+ghost use Rattle.vax_templates.specs.Settings.{opening_of, opening_by};
 ghost use Rattle.vax_templates.specs.Settings.{is_signed, setting_of, saved_own, is_reload, saved_setting};
 ghost use Rattle.md_reader.specs.Patterns.{kind_at};
 ghost use Rattle.md_reader.specs.Rows.{is_nothing};
@@ -127,6 +127,16 @@ fn opening_of(right: &[Sym]) -> Opening
     }
 }
 
+// A rule that gives an operand neither returns nor saves.
+fn opening_by(give: &Give, right: &[Sym]) -> Opening
+    ensures { result ≡ opening_by give.now right.now }
+{
+    match give {
+        Give::Shape(_) => Opening::Other,
+        Give::Fresh | Give::Reuse | Give::Scratch | Give::Nothing => opening_of(right),
+    }
+}
+
 fn is_signed(restrictions: &[Restriction]) -> bool
     ensures { result ≡ is_signed restrictions.now }
 {
@@ -155,7 +165,7 @@ pub fn setting_of(classes: &[Class], rule: &Rule) -> Setting
         own: own_of(&rule.give),
         is_reused: is_reuse(&rule.give),
         is_signed: is_signed(rule.restrictions.as_slice()),
-        opening: opening_of(rule.right.as_slice()),
+        opening: opening_by(&rule.give, rule.right.as_slice()),
         is_statement: is_nothing(kind_at(classes, rule.left)),
     }
 }

@@ -86,6 +86,11 @@ opening_of (sym.Tok tok.Ret ∷ right) = opening.Return
 opening_of (sym.Tok tok.Save ∷ right) = opening.Save
 opening_of right = opening.Other
 
+-- a rule that gives an operand neither returns nor saves
+abbrev pub opening_by : Give → List Sym → Opening
+opening_by (give.Shape l) right = opening.Other
+opening_by g right = opening_of right
+
 abbrev pub is_signed : List Restriction → Bool
 is_signed [] = false
 is_signed (restriction.Signed i ∷ rs) = true
@@ -96,7 +101,7 @@ setting_of classes rule = record {
   own = own_of rule.give;
   is_reused = is_reuse rule.give;
   is_signed = is_signed rule.restrictions;
-  opening = opening_of rule.right;
+  opening = opening_by rule.give rule.right;
   is_statement = is_nothing (kind_at classes rule.left);
 }
 

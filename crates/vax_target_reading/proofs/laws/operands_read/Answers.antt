@@ -1,0 +1,5 @@
+use Rattle.vax_target_reading.proofs.Reading.{operands_read}
+use Rattle.vax_target_reading.proofs.laws.operands_read.Goals as goal
+
+pub returns : goal.returns
+returns c = operands_read

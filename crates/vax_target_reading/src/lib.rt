@@ -1,0 +1,4 @@
+//! What operands of the VAX read and name in a state that stands for a tree state.
+#![tactic(auto)]
+
+pub mod laws;

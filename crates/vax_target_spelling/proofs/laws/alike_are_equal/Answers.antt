@@ -1,0 +1,5 @@
+use Rattle.vax_target_spelling.proofs.Spelling.{alike_are_equal}
+use Rattle.vax_target_spelling.proofs.laws.alike_are_equal.Goals as goal
+
+pub returns : goal.returns
+returns c = alike_are_equal

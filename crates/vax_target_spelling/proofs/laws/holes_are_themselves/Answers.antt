@@ -1,0 +1,5 @@
+use Rattle.vax_target_spelling.proofs.Spelling.{holes_are_themselves}
+use Rattle.vax_target_spelling.proofs.laws.holes_are_themselves.Goals as goal
+
+pub returns : goal.returns
+returns c = holes_are_themselves

@@ -1,0 +1,5 @@
+use Rattle.vax_target_spelling.proofs.Spelling.{registers_spell}
+use Rattle.vax_target_spelling.proofs.laws.registers_spell.Goals as goal
+
+pub returns : goal.returns
+returns c = registers_spell

@@ -1,0 +1,5 @@
+use Rattle.vax_target_spelling.proofs.Spelling.{shapes_touch}
+use Rattle.vax_target_spelling.proofs.laws.shapes_touch.Goals as goal
+
+pub returns : goal.returns
+returns c = shapes_touch

@@ -1,0 +1,5 @@
+use Rattle.vax_target_spelling.proofs.Spelling.{words_spell}
+use Rattle.vax_target_spelling.proofs.laws.words_spell.Goals as goal
+
+pub returns : goal.returns
+returns c = words_spell

@@ -1,0 +1,274 @@
+-- What stands for the holes of a rule, or of a line that saves or reloads, can be spelled; so its lines are valid instructions.
+use Rattle.std.proofs.Common.{◌≡◌, ℕ, zero, suc, ◌+◌, ◌*◌, ◌^◌, ◌<◌, ◌≤◌, ◌==◌, Bool, true, false, cond, not, ◌&&◌, Option, Some, None, List, [], ◌∷◌, length, refl, sym, subst, arith, slice_get}
+use Rattle.std.specs.Prelude.{nat_lt, nat_le, is_none}
+use Rattle.std.specs.List.{AllByRecursion}
+use Rattle.std.proofs.lemmas.Bool.Decides.{nat_tests}
+use Rattle.gg_base.specs.Arithmetic.{neg32}
+use Rattle.tree_core.specs.declared.token.Tok.{Tok}
+use Rattle.tree_core.specs.declared.token.Tok.TheVariants as tok
+use Rattle.tree_core.specs.declared.token.AttKind.TheVariants as attkind
+use Rattle.tree_core.specs.declared.tree.Att.{Att}
+use Rattle.tree_core.specs.declared.tree.Att.TheVariants as att
+use Rattle.tree_core.specs.declared.program.Object.{Object}
+use Rattle.tree_core.specs.declared.program.TreeProgram.{TreeProgram}
+use Rattle.tree_core.specs.Attributes.{attribute_of, is_of_kind}
+use Rattle.md_reader.specs.declared.types.Kind.{Kind}
+use Rattle.md_reader.specs.declared.types.Kind.TheVariants as kind
+use Rattle.md_reader.specs.declared.types.Class.{Class}
+use Rattle.md_reader.specs.declared.types.Sym.{Sym}
+use Rattle.md_reader.specs.declared.types.Sym.TheVariants as sym
+use Rattle.md_reader.specs.declared.types.Give.{Give}
+use Rattle.md_reader.specs.declared.types.Give.TheVariants as give
+use Rattle.md_reader.specs.Patterns.{kind_at}
+use Rattle.sel_target.specs.declared.attr.Attr.{Attr}
+use Rattle.sel_target.specs.declared.attr.Attr.TheVariants as attr
+use Rattle.sel_target.specs.Instances.{InFrame, KindFits, SymFits, Fit, IsResult}
+use Rattle.vax_core.specs.declared.register.Reg.{Reg}
+use Rattle.vax_core.specs.declared.operand.Base.{Base}
+use Rattle.vax_core.specs.declared.operand.Base.TheVariants as bases
+use Rattle.vax_core.specs.declared.operand.Operand.{Operand}
+use Rattle.vax_core.specs.Homes.{home, at_home, argument_home}
+use Rattle.vax_core.specs.Valid.{is_name, is_long, is_addr_of, is_named_addr, is_base, is_index, is_memory}
+use Rattle.vax_templates.specs.Settings.{hole_of_token, hole_of_kind, hole_of, holes_of, own_of}
+use Rattle.vax_templates.specs.Filled.{alone, spare, numbered, label_of, object_addr, addr_of_att, addr_number, word_operand, slot_operand, slot_deferred, leaf_operand, leaf_deferred, operand_in, deferred_in, addr_in}
+use Rattle.vax_target_meaning.specs.Fitting.{steps, is_steady, is_place, fits, CanWrite}
+use Rattle.vax_target_meaning.specs.Vax.{vax}
+use Rattle.vax_target_writing.specs.Spelled.{IsSpelled, TokenIsSpelled, AreSpelled}
+use Rattle.vax_target_writing.proofs.Operands.{IsReadable, IsMemory, IsPlain, IsNumber, IsObject, IsLocal, Spells, AllSpell, OwnSpells, both_true}
+
+-- ---- tests
+
+pub first : (a b : Bool) → (a && b) ≡ true → a ≡ true
+first true b e = refl
+first false b e = absurd (cc)
+
+pub second : (a b : Bool) → (a && b) ≡ true → b ≡ true
+second true b e = e
+second false b e = absurd (cc)
+
+pub is_below : (n k : ℕ) → n < k → nat_lt n k ≡ true
+is_below n k lt = grind (arith, nat_tests)
+
+pub is_at_most : (n k : ℕ) → nat_le n k ≡ true → n ≤ k
+is_at_most n k e = grind (arith, nat_tests)
+
+neg32_below : (n : ℕ) → neg32 n < 2 ^ 32
+neg32_below n = omega arith
+
+-- ---- the words of a frame and the arguments
+
+home_base : (k : ℕ) → is_base (home k).base ≡ true
+home_base k = is_below (neg32 (4 * (k + 1))) (2 ^ 32) (neg32_below (4 * (k + 1)))
+
+pub home_memory : (k : ℕ) → IsMemory (home k)
+home_memory k = record { memory = refl; base = home_base k }
+
+pub at_home_plain : (k : ℕ) → IsPlain (at_home k)
+at_home_plain k = record { memory = record { memory = refl; base = home_base k }; bare = refl }
+
+word_memory : (k : ℕ) → k < 1024 → IsMemory (word_operand k)
+word_memory k lt = subst (λ b. IsMemory (cond b (home k) spare)) (sym (is_below k 1024 lt)) (home_memory k)
+
+word_deferred : (k : ℕ) → k < 1024 → IsPlain (cond (nat_lt k 1024) (at_home k) spare)
+word_deferred k lt = subst (λ b. IsPlain (cond b (at_home k) spare)) (sym (is_below k 1024 lt)) (at_home_plain k)
+
+few_long : (k : ℕ) → k ≤ 255 → is_long (4 * k) ≡ true
+few_long k le = is_below (4 * k) (2 ^ 32) (omega arith)
+
+argument_memory : (k : ℕ) → nat_le k 255 ≡ true → IsMemory (slot_operand tok.Arg k)
+argument_memory k e = subst (λ b. IsMemory (cond b (argument_home k) spare)) (sym e) (record { memory = refl; base = few_long k (is_at_most k 255 e) })
+
+argument_deferred : (k : ℕ) → nat_le k 255 ≡ true → IsPlain (slot_deferred tok.Arg k)
+argument_deferred k e =
+    subst (λ b. IsPlain (cond b (Rattle.vax_templates.specs.Filled.argument_deferred k) spare)) (sym e)
+    (record { memory = record { memory = refl; base = few_long k (is_at_most k 255 e) }; bare = refl })
+
+-- ---- operands that fit
+
+readable : (o : Operand) → is_steady o ≡ true → IsReadable o
+readable o e = e
+
+pub memory : (o : Operand) → is_place o ≡ true → IsMemory o
+memory o e = by o.base o.index e where
+  based : (b : Base) (x : Option Reg) → (is_base b && is_index b x) ≡ true → is_base b ≡ true
+  based b x e = first (is_base b) (is_index b x) e
+
+  by : (b : Base) (x : Option Reg) → (is_memory b && (not (steps b) && (is_base b && is_index b x))) ≡ true → IsMemory (record { base = b; index = x })
+  by (bases.Imm a) x e = absurd (cc)
+  by (bases.Reg r) x e = absurd (cc)
+  by (bases.Def r) x e = record { memory = refl; base = refl }
+  by (bases.Inc r) x e = absurd (cc)
+  by (bases.IncDef r) x e = absurd (cc)
+  by (bases.Dec r) x e = absurd (cc)
+  by (bases.Disp a r) x e = record { memory = refl; base = based (bases.Disp a r) x e }
+  by (bases.DispDef a r) x e = record { memory = refl; base = based (bases.DispDef a r) x e }
+  by (bases.Abs n) x e = record { memory = refl; base = based (bases.Abs n) x e }
+  by (bases.Rel a) x e = record { memory = refl; base = based (bases.Rel a) x e }
+  by (bases.RelDef a) x e = record { memory = refl; base = based (bases.RelDef a) x e }
+
+pub plain : (o : Operand) → fits kind.Ea o ≡ true → IsPlain o
+plain o e = record { memory = memory o (second (is_none o.index) (is_place o) e); bare = first (is_none o.index) (is_place o) e }
+
+-- ---- holes
+
+named_is_addr : (n : Option (List ℕ)) (offset : ℕ) → is_named_addr n offset ≡ true → is_addr_of n offset ≡ true
+named_is_addr None offset e = absurd (cc)
+named_is_addr (Some name) offset e = e
+
+module _ (q : TreeProgram) (can : CanWrite q) where
+  own_number : (k : ℕ) (a : Att) → is_of_kind (attkind.Own k) a ≡ true → IsSpelled q a → IsNumber (addr_of_att q a)
+  own_number k (att.Number n) e lt = record { addr = is_below n (2 ^ 32) lt; long = is_below n (2 ^ 32) lt }
+  own_number k att.Nothing e lt = absurd (cc)
+  own_number k (att.Object object offset) e lt = absurd (cc)
+  own_number k (att.Slot n) e lt = absurd (cc)
+  own_number k (att.Branch rel label) e lt = absurd (cc)
+  own_number k (att.Label label) e lt = absurd (cc)
+  own_number k (att.Callee function count) e lt = absurd (cc)
+
+  other_number : (a : Att) → is_of_kind attkind.Other a ≡ true → IsSpelled q a → IsNumber (addr_of_att q a)
+  other_number (att.Number n) e lt = record { addr = is_below n (2 ^ 32) lt; long = is_below n (2 ^ 32) lt }
+  other_number att.Nothing e lt = absurd (cc)
+  other_number (att.Object object offset) e lt = absurd (cc)
+  other_number (att.Slot n) e lt = absurd (cc)
+  other_number (att.Branch rel label) e lt = absurd (cc)
+  other_number (att.Label label) e lt = absurd (cc)
+  other_number (att.Callee function count) e lt = absurd (cc)
+
+  label_named : (objects : List Object) (object offset : ℕ) → AllByRecursion (λ (o : Object). is_name o.label ≡ true) objects → object < length objects →
+      (is_long offset && not (offset == 2 ^ 31)) ≡ true → is_named_addr (label_of (slice_get objects object)) offset ≡ true
+  label_named [] object offset all lt e = absurd (omega arith)
+  label_named (o ∷ os) zero offset all lt e = both_true (is_name o.label) (is_long offset && not (offset == 2 ^ 31)) all.0 e
+  label_named (o ∷ os) (suc object) offset all lt e = label_named os object offset all.1 (omega arith) e
+
+  object_named : (object offset : ℕ) → not (offset == 2 ^ 31) ≡ true → IsSpelled q (att.Object object offset) →
+      is_named_addr (label_of (slice_get q.objects object)) offset ≡ true
+  object_named object offset e h =
+      label_named q.objects object offset can.objects h.0 (both_true (is_long offset) (not (offset == 2 ^ 31)) (is_below offset (2 ^ 32) h.1) e)
+
+  object_spells : (a : Att) → is_of_kind attkind.Object a ≡ true → IsSpelled q a → IsObject q (attr.Token (record { tok = tok.Gaddr; att = a }))
+  object_spells (att.Object object offset) e h =
+      let n = object_named object offset e h in
+      record {
+        place = record { memory = record { memory = refl; base = n }; bare = refl };
+        deferred = record { memory = record { memory = refl; base = n }; bare = refl };
+        addr = named_is_addr (label_of (slice_get q.objects object)) offset n;
+      }
+  object_spells att.Nothing e h = absurd (cc)
+  object_spells (att.Number n) e h = absurd (cc)
+  object_spells (att.Slot n) e h = absurd (cc)
+  object_spells (att.Branch rel label) e h = absurd (cc)
+  object_spells (att.Label label) e h = absurd (cc)
+  object_spells (att.Callee function count) e h = absurd (cc)
+
+  local_spells : (a : Att) → is_of_kind attkind.Local a ≡ true → InFrame a → IsLocal q (attr.Token (record { tok = tok.Loc; att = a }))
+  local_spells (att.Slot k) e lt = record { place = word_memory k lt; deferred = word_deferred k lt }
+  local_spells att.Nothing e lt = absurd (cc)
+  local_spells (att.Number n) e lt = absurd (cc)
+  local_spells (att.Object object offset) e lt = absurd (cc)
+  local_spells (att.Branch rel label) e lt = absurd (cc)
+  local_spells (att.Label label) e lt = absurd (cc)
+  local_spells (att.Callee function count) e lt = absurd (cc)
+
+  argument_spells : (a : Att) → is_of_kind attkind.Argument a ≡ true → IsLocal q (attr.Token (record { tok = tok.Arg; att = a }))
+  argument_spells (att.Slot k) e =
+      let few = second (nat_le 1 k) (nat_le k 255) e in
+      record { place = argument_memory k few; deferred = argument_deferred k few }
+  argument_spells att.Nothing e = absurd (cc)
+  argument_spells (att.Number n) e = absurd (cc)
+  argument_spells (att.Object object offset) e = absurd (cc)
+  argument_spells (att.Branch rel label) e = absurd (cc)
+  argument_spells (att.Label label) e = absurd (cc)
+  argument_spells (att.Callee function count) e = absurd (cc)
+
+  saved_spells : (a : Att) → is_of_kind attkind.Local a ≡ true → InFrame a → IsMemory (operand_in q (attr.Token (record { tok = tok.Save; att = a })))
+  saved_spells (att.Slot k) e lt = word_memory k lt
+  saved_spells att.Nothing e lt = absurd (cc)
+  saved_spells (att.Number n) e lt = absurd (cc)
+  saved_spells (att.Object object offset) e lt = absurd (cc)
+  saved_spells (att.Branch rel label) e lt = absurd (cc)
+  saved_spells (att.Label label) e lt = absurd (cc)
+  saved_spells (att.Callee function count) e lt = absurd (cc)
+
+  token_spells : (x : Tok) (a : Att) → is_of_kind (attribute_of x) a ≡ true → InFrame a → IsSpelled q a →
+      Spells q (hole_of_token x) (attr.Token (record { tok = x; att = a }))
+  token_spells tok.Zero a e f h = own_number 0 a e h
+  token_spells tok.One a e f h = own_number 1 a e h
+  token_spells tok.Two a e f h = own_number 2 a e h
+  token_spells tok.Four a e f h = own_number 4 a e h
+  token_spells tok.Eight a e f h = own_number 8 a e h
+  token_spells tok.Const a e f h = other_number a e h
+  token_spells tok.Gaddr a e f h = object_spells a e h
+  token_spells tok.Loc a e f h = local_spells a e f
+  token_spells tok.Arg a e f h = argument_spells a e
+  token_spells tok.Save a e f h = saved_spells a e f
+  token_spells x a e f h = tt
+
+  class_spells : (k : Option Kind) (h : Attr Operand) → KindFits vax k h → Spells q (hole_of_kind k) h
+  class_spells None h f = absurd f
+  class_spells (Some kind.Reg) (attr.Reg r) f = refl
+  class_spells (Some kind.Reg) (attr.InSlot w) f = absurd f
+  class_spells (Some kind.Reg) (attr.Value o) f = absurd f
+  class_spells (Some kind.Reg) (attr.Place o) f = absurd f
+  class_spells (Some kind.Reg) (attr.Con n) f = absurd f
+  class_spells (Some kind.Reg) (attr.Ea o) f = absurd f
+  class_spells (Some kind.Reg) (attr.Token l) f = absurd f
+  class_spells (Some kind.Reg) attr.Nothing f = absurd f
+  class_spells (Some (kind.Value z)) (attr.Value o) f = f
+  class_spells (Some (kind.Value z)) (attr.Reg r) f = absurd f
+  class_spells (Some (kind.Value z)) (attr.InSlot w) f = absurd f
+  class_spells (Some (kind.Value z)) (attr.Place o) f = absurd f
+  class_spells (Some (kind.Value z)) (attr.Con n) f = absurd f
+  class_spells (Some (kind.Value z)) (attr.Ea o) f = absurd f
+  class_spells (Some (kind.Value z)) (attr.Token l) f = absurd f
+  class_spells (Some (kind.Value z)) attr.Nothing f = absurd f
+  class_spells (Some (kind.Place z)) (attr.Place o) f = memory o f
+  class_spells (Some (kind.Place z)) (attr.Reg r) f = absurd f
+  class_spells (Some (kind.Place z)) (attr.InSlot w) f = absurd f
+  class_spells (Some (kind.Place z)) (attr.Value o) f = absurd f
+  class_spells (Some (kind.Place z)) (attr.Con n) f = absurd f
+  class_spells (Some (kind.Place z)) (attr.Ea o) f = absurd f
+  class_spells (Some (kind.Place z)) (attr.Token l) f = absurd f
+  class_spells (Some (kind.Place z)) attr.Nothing f = absurd f
+  class_spells (Some kind.Con) (attr.Con n) f = record { addr = is_below n (2 ^ 32) f; long = is_below n (2 ^ 32) f }
+  class_spells (Some kind.Con) (attr.Reg r) f = absurd f
+  class_spells (Some kind.Con) (attr.InSlot w) f = absurd f
+  class_spells (Some kind.Con) (attr.Value o) f = absurd f
+  class_spells (Some kind.Con) (attr.Place o) f = absurd f
+  class_spells (Some kind.Con) (attr.Ea o) f = absurd f
+  class_spells (Some kind.Con) (attr.Token l) f = absurd f
+  class_spells (Some kind.Con) attr.Nothing f = absurd f
+  class_spells (Some kind.Ea) (attr.Ea o) f = plain o f
+  class_spells (Some kind.Ea) (attr.Reg r) f = absurd f
+  class_spells (Some kind.Ea) (attr.InSlot w) f = absurd f
+  class_spells (Some kind.Ea) (attr.Value o) f = absurd f
+  class_spells (Some kind.Ea) (attr.Place o) f = absurd f
+  class_spells (Some kind.Ea) (attr.Con n) f = absurd f
+  class_spells (Some kind.Ea) (attr.Token l) f = absurd f
+  class_spells (Some kind.Ea) attr.Nothing f = absurd f
+  class_spells (Some kind.Nothing) h f = tt
+
+  symbol_spells : (classes : List Class) (s : Sym) (h : Attr Operand) → SymFits vax classes s h → TokenIsSpelled q h → Spells q (hole_of classes s) h
+  symbol_spells classes (sym.Class c) h f sp = class_spells (kind_at classes c) h f
+  symbol_spells classes (sym.Tok x) (attr.Token l) f sp =
+      subst (λ y. Spells q (hole_of_token y) (attr.Token l)) f.0 (token_spells l.tok l.att f.1 f.2 sp)
+  symbol_spells classes (sym.Tok x) (attr.Reg r) f sp = absurd f
+  symbol_spells classes (sym.Tok x) (attr.InSlot w) f sp = absurd f
+  symbol_spells classes (sym.Tok x) (attr.Value o) f sp = absurd f
+  symbol_spells classes (sym.Tok x) (attr.Place o) f sp = absurd f
+  symbol_spells classes (sym.Tok x) (attr.Con n) f sp = absurd f
+  symbol_spells classes (sym.Tok x) (attr.Ea o) f sp = absurd f
+  symbol_spells classes (sym.Tok x) attr.Nothing f sp = absurd f
+
+  pub all_spell : (classes : List Class) (right : List Sym) (hs : List (Attr Operand)) → Fit vax classes right hs → AreSpelled q hs → AllSpell q (holes_of classes right) hs
+  all_spell classes [] [] f sp = tt
+  all_spell classes [] (h ∷ hs) f sp = absurd f
+  all_spell classes (s ∷ right) [] f sp = absurd f
+  all_spell classes (s ∷ right) (h ∷ hs) f sp = (symbol_spells classes s h f.0 sp.0, all_spell classes right hs f.1 sp.1)
+
+  pub own_spells : (g : Give) (hs : List (Attr Operand)) (res : Attr Operand) → IsResult vax g hs res → OwnSpells q (own_of g) res
+  own_spells give.Fresh hs (attr.Reg r) h = record { place = refl; readable = refl }
+  own_spells give.Reuse hs (attr.Reg r) h = record { place = refl; readable = refl }
+  own_spells give.Scratch hs (attr.Reg r) h = record { place = refl; readable = refl }
+  own_spells give.Nothing hs res h = tt
+  own_spells (give.Shape l) hs res h = tt
+  own_spells g hs res h = absurd h

@@ -1,0 +1,10 @@
+pub mod Each
+pub mod Longs
+pub mod Table
+pub mod Lines
+pub mod Operands
+pub mod Written
+pub mod Fitting
+pub mod Naming
+pub mod Given
+pub mod Spilling
