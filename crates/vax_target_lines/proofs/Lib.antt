@@ -1,0 +1,4 @@
+pub mod Takings
+pub mod Short
+pub mod Rows
+pub mod Performing

@@ -1,0 +1,104 @@
+-- What an instruction of a template takes of its operands on the machine, by what their terms say.
+use Rattle.std.specs.Prelude.{◌≡◌, ℕ, ◌≤◌, Bool, true, false, List, [], ◌∷◌, length, map, take, Option, Some, None, Ok}
+use Rattle.std.specs.List.{AllByRecursion}
+use Rattle.gg_base.specs.declared.size.Size.{Size}
+use Rattle.gg_base.specs.declared.size.Size.TheVariants.{Long}
+use Rattle.term_core.specs.Shape.{Shape}
+use Rattle.sel_target.specs.Values.{IsRead}
+use Rattle.vax_core.specs.declared.register.Reg.TheVariants.{R0}
+use Rattle.vax_core.specs.declared.op.Access.{Access}
+use Rattle.vax_core.specs.declared.op.Access.TheVariants as access
+use Rattle.vax_core.specs.declared.op.OperandKind.{OperandKind}
+use Rattle.vax_machine.specs.declared.operands.Location.{Location}
+use Rattle.vax_machine.specs.declared.operands.Location.TheVariants as locations
+use Rattle.vax_machine.specs.declared.operands.Destination.{Destination}
+use Rattle.vax_machine.specs.declared.operands.Arguments.{Arguments as Numbers}
+use Rattle.vax_machine.specs.State.{State}
+use Rattle.vax_machine.specs.Operands as machine
+use Rattle.vax_templates.specs.declared.form.Form.{Form}
+use Rattle.vax_templates.specs.declared.setting.Own.TheVariants as own
+use Rattle.vax_templates.specs.Taking.{Target, ToOwn, ToSlot, ToHome, ToMemory, ToZero, ToSaved, Arguments, all_evaluated}
+use Rattle.vax_templates.specs.Filled.{operand_in, filled}
+use Rattle.vax_target_operands.specs.Scenes.{Scene, worth, filling_at, Sees}
+use Rattle.vax_target_operands.specs.Places.{StandsAt, IsHome, BaseIsShort, MayBeRead}
+use Rattle.vax_target_operands.specs.Conditions.{IsNarrow}
+
+-- a location is what is to be written
+abbrev pub IsTarget : Scene → State → Target → Location → Size → Type 0
+IsTarget c m ToOwn l size = StandsAt m (operand_in c.program c.own) size l × (size ≡ Long) × (c.setting.own ≡ own.Register)
+IsTarget c m (ToSlot z) l size = StandsAt m (operand_in c.program c.own) size l × (z ≡ size) × ((y : Size) × (c.setting.own ≡ own.Slot y))
+IsTarget c m (ToHome z i) l size = IsHome c m i size l × (z ≡ size)
+IsTarget c m (ToMemory z a) l size = (l ≡ locations.Memory (worth c a)) × (z ≡ size)
+IsTarget c m ToZero l size = l ≡ locations.Register R0
+IsTarget c m (ToSaved i) l size = StandsAt m (operand_in c.program (filling_at c i)) size l
+
+abbrev pub IsDestination : Scene → State → Option Target → Option Destination → Type 0
+IsDestination c m None None = Unit {0}
+IsDestination c m None (Some d) = ⊥
+IsDestination c m (Some t) None = ⊥
+IsDestination c m (Some t) (Some d) = IsTarget c m t d.location d.size
+
+-- memory that is read can be, and the address of memory that is written
+abbrev pub AreRead : Scene → List Shape → Type 0
+AreRead c ts = AllByRecursion (λ (t : Shape). IsRead c.view t) ts
+
+abbrev pub CanAim : Scene → Option Target → Type 0
+CanAim c (Some (ToMemory z a)) = IsRead c.view a
+CanAim c t = Unit {0}
+
+-- a number that is read is of the operand's size
+abbrev pub IsOfSize : OperandKind → ℕ → Type 0
+IsOfSize k n = k.access ≡ access.Read → IsNarrow k.size n
+
+abbrev pub AreOfSize : List OperandKind → ℕ → ℕ → Type 0
+AreOfSize [] a b = Unit {0}
+AreOfSize (k ∷ []) a b = IsOfSize k a
+AreOfSize (k ∷ j ∷ ks) a b = IsOfSize k a × IsOfSize j b
+
+abbrev pub AtSize : Option Destination → Size → Type 0
+AtSize None size = Unit {0}
+AtSize (Some d) size = d.size ≡ size
+
+abbrev pub last_size : List OperandKind → Size
+last_size [] = Long
+last_size (k ∷ []) = k.size
+last_size (k ∷ j ∷ ks) = last_size (j ∷ ks)
+
+-- what is taken on the machine is what the terms say
+pub record AreArguments (c : Scene) (m : State) (kinds : List OperandKind) (x : Arguments) (y : Numbers) : Type 0 where
+  pub first : y.first ≡ worth c x.first
+  pub second : y.second ≡ worth c x.second
+  pub destination : IsDestination c m x.target y.destination
+  pub at_size : AtSize y.destination (last_size kinds)
+  pub sizes : AreOfSize kinds y.first y.second
+
+-- an operand's access has a destination
+abbrev pub aims : Access → Bool
+aims access.Read = false
+aims access.Modify = true
+aims access.Write = true
+aims access.Address = false
+aims access.Count = false
+
+-- only the last operand is written
+abbrev pub LastIsWritten : List OperandKind → Type 0
+LastIsWritten [] = Unit {0}
+LastIsWritten (k ∷ []) = Unit {0}
+LastIsWritten (k ∷ j ∷ ks) = (aims k.access ≡ false) × LastIsWritten (j ∷ ks)
+
+-- the operands of a line that are spelled
+pub record MayStand (c : Scene) (zero : Option Shape) (f : Form) : Type 0 where
+  pub short : BaseIsShort f.base
+  pub may : MayBeRead c zero f
+
+-- the machine takes what the terms say
+pub record Takes (c : Scene) (m : State) (kinds : List OperandKind) (forms : List Form) (n : ℕ) (x : Arguments) : Type 0 where
+  pub numbers : Numbers
+  pub is : machine.all_evaluated kinds (map (filled c.program c.holes c.own) (take n forms)) m ≡ Ok (numbers, m)
+  pub so : AreArguments c m kinds x numbers
+
+-- Where what is read can be read, and no operand has a wrong size, an instruction's operands are evaluated, and nothing changes by that.
+abbrev pub OperandsAreTaken : Type 0
+OperandsAreTaken = (c : Scene) (zero : Option Shape) (m : State) (kinds : List OperandKind) (forms : List Form) (n : ℕ) (x : Arguments) →
+    Sees c zero m → LastIsWritten kinds → length kinds ≤ n → AllByRecursion (MayStand c zero) forms →
+    all_evaluated c.setting c.roles zero kinds forms ≡ Ok x → x.missized ≡ false → AreRead c x.reads → CanAim c x.target → Takes c m kinds forms n x
