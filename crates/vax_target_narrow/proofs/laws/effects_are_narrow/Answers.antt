@@ -1,0 +1,5 @@
+use Rattle.vax_target_narrow.proofs.Narrow.{effects_are_narrow}
+use Rattle.vax_target_narrow.proofs.laws.effects_are_narrow.Goals as goal
+
+pub returns : goal.returns
+returns c = effects_are_narrow
