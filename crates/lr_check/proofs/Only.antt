@@ -69,7 +69,7 @@ module _ (rules : List Rule) (stmt : ℕ) where
       (λ x. let e = x.0 in let l = x.1 in ⊎_elim (λ gt. omega (arith, e, gt)) (λ y. let k = y.1 in omega (arith, l, k)) b)
       a
 
-  reductions_same : (a : List Sym) (t : Tok) (ns ms : List ℕ) → AreReductions rules stmt a t ns → AreReductions rules stmt a t ms → ns ≡ ms
+  pub reductions_same : (a : List Sym) (t : Tok) (ns ms : List ℕ) → AreReductions rules stmt a t ns → AreReductions rules stmt a t ms → ns ≡ ms
   reductions_same a t ns ms p q = same_lists (GoesFirst rules stmt) goes_first_apart ns ms p.ordered q.ordered (λ n c. (q.exactly n).1 ((p.exactly n).0 c)) (λ n c. (p.exactly n).1 ((q.exactly n).0 c))
 
   rule_same : (n : ℕ) (r q : Rule) → slice_get rules n ≡ Some r → slice_get rules n ≡ Some q → r ≡ q
@@ -104,10 +104,10 @@ module _ (rules : List Rule) (stmt : ℕ) where
       let stands : StandsBefore rules stmt (symbol.Class stmt ∷ []) (symbol.Tok tok.End) = record { item = record { rule = None; dot = 1 }; valid = moves starts refl refl; before = refl } in
       subst (λ (b : List Sym). StandsBefore rules stmt b (symbol.Tok k)) (sym e) (subst (λ (t : Tok). StandsBefore rules stmt (symbol.Class stmt ∷ []) (symbol.Tok t)) (sym f) stands)
 
-  not_shifted : {ws : List Token} {s u : List Part} {o : Option ℕ} → Reduction rules stmt ws s o u → symbols s ≡ symbol.Class stmt ∷ [] → coming ws ≡ tok.End → ⊥
+  pub not_shifted : {ws : List Token} {s u : List Part} {o : Option ℕ} → Reduction rules stmt ws s o u → symbols s ≡ symbol.Class stmt ∷ [] → coming ws ≡ tok.End → ⊥
   not_shifted {ws = ws} {s = s} r e f = r.no_shift (statement_ends (symbols s) (coming ws) e f)
 
-  ends_same : {at : ℕ} {before : List (List Sym)} {ws : List Token} {s : List Part} {o p : Outcome} → Ends rules stmt at before ws s o → Ends rules stmt at before ws s p → p ≡ o
+  pub ends_same : {at : ℕ} {before : List (List Sym)} {ws : List Token} {s : List Part} {o p : Outcome} → Ends rules stmt at before ws s o → Ends rules stmt at before ws s p → p ≡ o
   ends_same (loops h) (loops k) = refl
   ends_same (loops h) (accepts n e f) = absurd (n h)
   ends_same (loops h) (shifts n e b x) = absurd (n h)

@@ -5,7 +5,7 @@ use Rattle.std.proofs.lemmas.Bool.{cases_lt}
 use Rattle.tree_core.specs.declared.token.Sort.{Sort}
 use Rattle.tree_core.specs.Grammar.{kids}
 use Rattle.lr_check.specs.Tree.{Node}
-use Rattle.lr_check.specs.Checking.{fits_at, KidsFit, AreTyped}
+use Rattle.lr_check.specs.Statement.{fits_at, KidsFit, AreTyped}
 
 Some-same : {X : Type 0} (x y : X) → Some x ≡ Some y → x ≡ y
 Some-same x y e = cc

@@ -3,4 +3,4 @@ pub mod Parse
 pub mod Order
 pub mod Steps
 pub mod Running
-pub mod Checking
+pub mod Statement

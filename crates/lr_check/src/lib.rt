@@ -1,7 +1,6 @@
-//! Trees with answers, how their parse by the tables ends, and whether one of them blocks or loops.
+//! Trees with answers, and how their parse by the tables ends.
 #![tactic(auto)]
 
-mod checking;
 mod ordering;
 mod parse;
 mod replaying;
@@ -11,6 +10,6 @@ mod stack;
 mod tests;
 mod typing;
 
-pub use checking::{CheckFault, Checked, check};
 pub use replaying::replay;
 pub use sample::{Outcome, Sample, SampleNode};
+pub use typing::is_statement;

@@ -1,5 +1,5 @@
 // Samples that are replayed on the tables of small descriptions.
-use crate::{CheckFault, Outcome, Sample, SampleNode, check, replay};
+use crate::{Outcome, Sample, SampleNode, replay};
 use gg_texts::M_GG;
 use lr_tables::{Tables, build};
 use md_reader::read_description;
@@ -188,30 +188,5 @@ fn kids_have_lower_numbers(rt: HostRuntime) -> Result<(), Fail> {
     assert!(rt; !own_kid.is_numbered());
     assert!(rt; !Sample::new(Vec::new(alloc)).is_numbered());
     assert!(rt; indexed(alloc)?.is_numbered());
-    Ok(())
-}
-
-fn nodes_of(fault: CheckFault) -> Option<usize> {
-    match fault {
-        CheckFault::Blocks(sample) => Some(sample.nodes().len()),
-        _ => None,
-    }
-}
-
-// How many nodes the tree has by which a description is refused as blocking, if it is.
-fn blocking(alloc: Global, text: &str) -> Result<Option<usize>, Fail> {
-    match tables(alloc, text)? {
-        Some(tables) => match check(alloc, tables) {
-            Ok(_) => Ok(None),
-            Err((_, fault)) => Ok(nodes_of(fault)),
-        },
-        None => Ok(None),
-    }
-}
-
-#[test]
-fn a_description_without_assignments_is_refused(rt: HostRuntime) -> Result<(), Fail> {
-    let alloc = rt.alloc();
-    assert_eq!(rt; blocking(alloc, M_GG)?, Some(5));
     Ok(())
 }

@@ -1,6 +1,6 @@
 // Whether a sample is a well-typed statement.
 ghost use Rattle.std.specs.Prelude.{◌≡◌, IsTrue, slice_get};
-ghost use Rattle.lr_check.specs.Checking.{fits_at, KidsFit, AreTyped, IsStatement};
+ghost use Rattle.lr_check.specs.Statement.{fits_at, KidsFit, AreTyped, IsStatement};
 
 use crate::sample::{Sample, SampleNode};
 use tree_core::Sort;

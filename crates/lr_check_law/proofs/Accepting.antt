@@ -48,28 +48,28 @@ Some-same x y e = cc
 nil_cons : {X : Type 0} (x : X) (xs : List X) → [] ≡ x ∷ xs → ⊥
 nil_cons x xs e = cc
 
-head_same : {X : Type 0} (x y : X) (xs ys : List X) → x ∷ xs ≡ y ∷ ys → x ≡ y
+pub head_same : {X : Type 0} (x y : X) (xs ys : List X) → x ∷ xs ≡ y ∷ ys → x ≡ y
 head_same x y xs ys e = cc
 
-tail_same : {X : Type 0} (x y : X) (xs ys : List X) → x ∷ xs ≡ y ∷ ys → xs ≡ ys
+pub tail_same : {X : Type 0} (x y : X) (xs ys : List X) → x ∷ xs ≡ y ∷ ys → xs ≡ ys
 tail_same x y xs ys e = cc
 
-symbols-used : (depth : ℕ) (s : List Part) → symbols (used_at depth s) ≡ symbols s
+pub symbols-used : (depth : ℕ) (s : List Part) → symbols (used_at depth s) ≡ symbols s
 symbols-used depth [] = refl
 symbols-used zero (p ∷ s) = refl
 symbols-used (suc depth) (p ∷ s) = ap (λ l. p.symbol ∷ l) (symbols-used depth s)
 
 -- the tokens to come, the end included
-abbrev toks : List Token → List Tok
+abbrev pub toks : List Token → List Tok
 toks [] = tok.End ∷ []
 toks (w ∷ ws) = w.tok ∷ toks ws
 
 -- none of them is the end
-abbrev NoEnds : List Token → Type 0
+abbrev pub NoEnds : List Token → Type 0
 NoEnds [] = Unit {0}
 NoEnds (w ∷ ws) = (w.tok ≡ tok.End → ⊥) × NoEnds ws
 
-coming-is : (ws : List Token) (k : Tok) (u : List Tok) → toks ws ≡ k ∷ u → coming ws ≡ k
+pub coming-is : (ws : List Token) (k : Tok) (u : List Tok) → toks ws ≡ k ∷ u → coming ws ≡ k
 coming-is [] k u e = head_same tok.End k [] u e
 coming-is (w ∷ ws) k u e = head_same w.tok k (toks ws) u e
 
@@ -83,7 +83,7 @@ record Picks (rules : List Rule) (ns : List ℕ) (s : List Part) : Type 0 where
   free : (n : ℕ) → taken ≡ Some n → (r : Rule) × ((slice_get rules n ≡ Some r) × Free (map reduce (rules_of rules ns)) (reduce (production r)))
 
 module _ (rules : List Rule) where
-  is_first : (n : ℕ) (r : Rule) → slice_get rules n ≡ Some r → (ns : List ℕ) → rules_of rules (n ∷ ns) ≡ production r ∷ rules_of rules ns
+  pub is_first : (n : ℕ) (r : Rule) → slice_get rules n ≡ Some r → (ns : List ℕ) → rules_of rules (n ∷ ns) ≡ production r ∷ rules_of rules ns
   is_first n r e ns = ap (λ (o : Option Rule). rule_of o ++ rules_of rules ns) e
 
   picks_first : (n : ℕ) (ns : List ℕ) (s after : List Part) (r : Rule) → slice_get rules n ≡ Some r → Takes rules s (n ∷ ns) (Some n) after → symbols after ≡ symbols s → Picks rules (n ∷ ns) s
@@ -103,7 +103,7 @@ module _ (rules : List Rule) where
     );
   }
 
-  asks_more : (r : Rule) (j : ℕ) → length r.restrictions ≡ suc j → (production r).asks ≡ true
+  pub asks_more : (r : Rule) (j : ℕ) → length r.restrictions ≡ suc j → (production r).asks ≡ true
   asks_more r j f = by (length r.restrictions == 0) refl
     where
       by : (b : Bool) → (length r.restrictions == 0) ≡ b → (if b then false else true) ≡ true
@@ -140,7 +140,7 @@ module _ (rules : List Rule) where
 none_in : {X : Type 0} (x : X) → Contains [] x → ⊥
 none_in x h = omega (arith, h.1)
 
-toks-some : (ws : List Token) → (u : List Tok) × (toks ws ≡ coming ws ∷ u)
+pub toks-some : (ws : List Token) → (u : List Tok) × (toks ws ≡ coming ws ∷ u)
 toks-some [] = ([], refl)
 toks-some (w ∷ ws) = (toks ws, refl)
 
@@ -269,7 +269,7 @@ module _ (t : TableView) (v : IsValid t.content) (b : IsNumbered t) where
       (candidates t.content.rules (stmt_of t.content.classes) (length t.content.classes) (is_grammar t.content v) t.content t.rows b a p k (leads t a p here)) refl
 
 mutual
-  toks-tree : {x : Sort} (v : Tree x) (w : List Leaf) → toks (map (λ (l : Leaf). record { tok = l.tok; answers = l.answers }) (leaves v w)) ≡ onto v
+  pub toks-tree : {x : Sort} (v : Tree x) (w : List Leaf) → toks (map (λ (l : Leaf). record { tok = l.tok; answers = l.answers }) (leaves v w)) ≡ onto v
       (toks (map (λ (l : Leaf). record { tok = l.tok; answers = l.answers }) w))
   toks-tree (node k m c vs) w = ap (λ l. k ∷ l) (toks-trees vs w)
 

@@ -69,11 +69,11 @@ module _ (A : Automaton) (P : ℕ → Tok → Tok → Type 0) (T S : ℕ → Tok
   data Stage (q : ℕ) (k t : Tok) (s : List Sym) (xs : List Sort) (n : Tok) : Type 0 where
     at_token : (p : ℕ) → P q k t → A.go q (symbol.Tok k) ≡ Some p → Begins (kids k) t n → kids k ≡ xs → s ≡ symbol.Tok k ∷ [] → Stage q k t s xs n
     behind_only : (p : ℕ) (m : Tok) (x : Sort) (z : List Sym) →
-        P q k t → kids k ≡ x ∷ [] → A.go q (symbol.Tok k) ≡ Some p → S p m t z → s ≡ z ++ (symbol.Tok k ∷ []) → xs ≡ [] → Stage q k t s xs n
+        P q k t → kids k ≡ x ∷ [] → A.go q (symbol.Tok k) ≡ Some p → May m x → S p m t z → s ≡ z ++ (symbol.Tok k ∷ []) → xs ≡ [] → Stage q k t s xs n
     behind_first : (p : ℕ) (m : Tok) (x y : Sort) (z : List Sym) →
-        P q k t → kids k ≡ x ∷ y ∷ [] → A.go q (symbol.Tok k) ≡ Some p → S p m n z → May n y → s ≡ z ++ (symbol.Tok k ∷ []) → xs ≡ y ∷ [] → Stage q k t s xs n
+        P q k t → kids k ≡ x ∷ y ∷ [] → A.go q (symbol.Tok k) ≡ Some p → May m x → S p m n z → May n y → s ≡ z ++ (symbol.Tok k ∷ []) → xs ≡ y ∷ [] → Stage q k t s xs n
     behind_both : (p j : ℕ) (m l : Tok) (x y : Sort) (z w : List Sym) →
-        P q k t → kids k ≡ x ∷ y ∷ [] → A.go q (symbol.Tok k) ≡ Some p → S p m l z → walk A q (z ++ (symbol.Tok k ∷ [])) ≡ Some j → S j l t w →
+        P q k t → kids k ≡ x ∷ y ∷ [] → A.go q (symbol.Tok k) ≡ Some p → May m x → May l y → S p m l z → walk A q (z ++ (symbol.Tok k ∷ [])) ≡ Some j → S j l t w →
         s ≡ w ++ (z ++ (symbol.Tok k ∷ [])) → xs ≡ [] → Stage q k t s xs n
 
   -- the state behind the token
@@ -86,30 +86,30 @@ module _ (A : Automaton) (P : ℕ → Tok → Tok → Type 0) (T S : ℕ → Tok
   kid_place q p k t n m s x (y ∷ []) (at_token j place go bg e es) ws may =
       closed.first q p k t n m x y place e (same_state q p j k s go es ws) (subst (λ l. Begins l t n) e bg) may
   kid_place q p k t n m s x (y ∷ z ∷ xs) (at_token j place go bg e es) ws may = absurd (let long : length (kids k) ≡ length (x ∷ y ∷ z ∷ xs) = ap length e in let le = few k in omega (arith, long, le))
-  kid_place q p k t n m s x xs (behind_only j l y z place e go kid es none) ws bg = absurd (cons_nil x xs none)
-  kid_place q p k t n m s x xs (behind_first j l w y z place e go kid may es one) ws bg =
+  kid_place q p k t n m s x xs (behind_only j l y z place e go fit kid es none) ws bg = absurd (cons_nil x xs none)
+  kid_place q p k t n m s x xs (behind_first j l w y z place e go fit kid may es one) ws bg =
       let same : m ≡ t = subst (λ (c : List Sort). Begins c t m) (tail_nil x y xs one) bg in
-      subst (P p n) (sym same) (closed.second q j p k t l n w y z place e go may kid (subst (λ c. walk A q c ≡ Some p) es ws))
-  kid_place q p k t n m s x xs (behind_both i j a l w y z v place e go kid ws' kid' es none) ws bg = absurd (cons_nil x xs none)
+      subst (P p n) (sym same) (closed.second q j p k t l n w y z place e go fit may kid (subst (λ c. walk A q c ≡ Some p) es ws))
+  kid_place q p k t n m s x xs (behind_both i j a l w y z v place e go fit fit' kid ws' kid' es none) ws bg = absurd (cons_nil x xs none)
 
   kid_stage : (q p : ℕ) (k t n m : Tok) (s z : List Sym) (x : Sort) (xs : List Sort) → Stage q k t s (x ∷ xs) n → walk A q s ≡ Some p → Begins xs t m → S p n m z → Stage q k t (z ++ s) xs m
   kid_stage q p k t n m s z x [] (at_token j place go bg e es) ws same sm =
-      behind_only p n x z place e (same_state q p j k s go es ws) (subst (λ b. S p n b z) same sm) (ap (λ l. z ++ l) es) refl
+      behind_only p n x z place e (same_state q p j k s go es ws) (subst (λ l. Begins l t n) e bg) (subst (λ b. S p n b z) same sm) (ap (λ l. z ++ l) es) refl
   kid_stage q p k t n m s z x (y ∷ []) (at_token j place go bg e es) ws may sm =
-      behind_first p n x y z place e (same_state q p j k s go es ws) sm may (ap (λ l. z ++ l) es) refl
+      behind_first p n x y z place e (same_state q p j k s go es ws) (subst (λ l. Begins l t n) e bg) sm may (ap (λ l. z ++ l) es) refl
   kid_stage q p k t n m s z x (y ∷ w ∷ xs) (at_token j place go bg e es) ws may sm = absurd (let long : length (kids k) ≡ length (x ∷ y ∷ w ∷ xs) = ap length e in let le = few k in omega (arith, long, le))
-  kid_stage q p k t n m s z x xs (behind_only j l y v place e go kid es none) ws bg sm = absurd (cons_nil x xs none)
-  kid_stage q p k t n m s z x xs (behind_first j l w y v place e go kid may es one) ws bg sm =
+  kid_stage q p k t n m s z x xs (behind_only j l y v place e go fit kid es none) ws bg sm = absurd (cons_nil x xs none)
+  kid_stage q p k t n m s z x xs (behind_first j l w y v place e go fit kid may es one) ws bg sm =
       let none : xs ≡ [] = tail_nil x y xs one in
       let same : m ≡ t = subst (λ (c : List Sort). Begins c t m) none bg in
-      behind_both j p l n w y v z place e go kid (subst (λ c. walk A q c ≡ Some p) es ws) (subst (λ b. S p n b z) same sm) (ap (λ c. z ++ c) es) none
-  kid_stage q p k t n m s z x xs (behind_both i j a l w y u v place e go kid ws' kid' es none) ws bg sm = absurd (cons_nil x xs none)
+      behind_both j p l n w y v z place e go fit may kid (subst (λ c. walk A q c ≡ Some p) es ws) (subst (λ b. S p n b z) same sm) (ap (λ c. z ++ c) es) none
+  kid_stage q p k t n m s z x xs (behind_both i j a l w y u v place e go fit fit' kid ws' kid' es none) ws bg sm = absurd (cons_nil x xs none)
 
   whole_in : (q : ℕ) (k t n : Tok) (s : List Sym) → Stage q k t s [] n → T q k t s
   whole_in q k t n s (at_token p place go bg e es) = subst (T q k t) (sym es) (closed.alone q p k t place e go)
-  whole_in q k t n s (behind_only p m x z place e go kid es none) = subst (T q k t) (sym es) (closed.only_in q p k t m x z place e go kid)
-  whole_in q k t n s (behind_first p m x y z place e go kid may es one) = absurd (cons_nil y [] (sym one))
-  whole_in q k t n s (behind_both p j m l x y z w place e go kid ws kid' es none) = subst (T q k t) (sym es) (closed.both_in q p j k t m l x y z w place e go kid ws kid')
+  whole_in q k t n s (behind_only p m x z place e go fit kid es none) = subst (T q k t) (sym es) (closed.only_in q p k t m x z place e go fit kid)
+  whole_in q k t n s (behind_first p m x y z place e go fit kid may es one) = absurd (cons_nil y [] (sym one))
+  whole_in q k t n s (behind_both p j m l x y z w place e go fit fit' kid ws kid' es none) = subst (T q k t) (sym es) (closed.both_in q p j k t m l x y z w place e go fit fit' kid ws kid')
 
   mutual
     pub place_in : {q : ℕ} {k t : Tok} → Place A q k t → P q k t
@@ -128,16 +128,11 @@ module _ (A : Automaton) (P : ℕ → Tok → Tok → Type 0) (T S : ℕ → Tok
     sum_in (sum {q = q} {k = k} {t = t} {s = s} {p = p} c set ws f o) = closed.sums q p k t s c (settling_in set) ws f o
 
   module _ (fine : IsFine A P T) where
-    ranked : (q : ℕ) (k t : Tok) (n : ℕ) (s : List Sym) → T q k t s → fine.rank q k t s < n → Calms A q t s
-    ranked q k t zero s set lt = absurd (omega (arith, lt))
-    ranked q k t (suc n) s set lt =
-        calms (λ r p ws f e. let less = fine.falls q p k t s r set ws f e in ranked q k t n (reduced r s) (closed.settles q p k t s r set ws f e) (omega (arith, less, lt)))
-
     pub no_fault : NoFault A
     no_fault = record {
       shifts = λ q k t place. fine.shifts q k t (place_in place);
       takes = λ q k t s p set ws can. fine.takes q p k t s (settling_in set) ws can;
-      ends = λ q k t s part. ranked q k t (suc (fine.rank q k t s)) s (whole_in q k t t s (part_in part)) (omega arith);
+      ends = λ q k t s part. fine.ends q k t s (whole_in q k t t s (part_in part));
     }
 
 pub closed_is_enough : ClosedIsEnough

@@ -2,7 +2,7 @@
 //! symbols that may replace it, and the smallest tree of the first fault that shows there.
 #![tactic(auto)]
 
-mod choices;
+mod finding;
 mod lists;
 mod nodes;
 mod places;
@@ -10,5 +10,5 @@ mod rounds;
 mod settling;
 mod turning;
 
+pub use finding::{Finding, find_fault};
 pub use nodes::Node;
-pub use rounds::{Finding, find_fault};

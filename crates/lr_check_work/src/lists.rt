@@ -1,51 +1,10 @@
 // Lists of symbols, each held once, and the tokens in order.
 use gg_base::NoMemory;
 use indexmap::IndexSet;
+use lr_check_closed::TOKENS;
+use md_reader::Sym;
 use std::alloc::Global;
 use tree_core::{Sort, Tok};
-
-/// The tokens of trees, in table order: all but `End`.
-pub const TOKENS: [Tok; 39] = [
-    Tok::Zero,
-    Tok::One,
-    Tok::Two,
-    Tok::Four,
-    Tok::Eight,
-    Tok::Const,
-    Tok::Gaddr,
-    Tok::Loc,
-    Tok::Arg,
-    Tok::IndirB,
-    Tok::IndirW,
-    Tok::IndirL,
-    Tok::Plus,
-    Tok::Minus,
-    Tok::Mul,
-    Tok::Div,
-    Tok::Mod,
-    Tok::And,
-    Tok::Or,
-    Tok::Xor,
-    Tok::Lsh,
-    Tok::Rsh,
-    Tok::Neg,
-    Tok::Com,
-    Tok::Sxb,
-    Tok::Zxb,
-    Tok::Sxw,
-    Tok::Zxw,
-    Tok::Ncb,
-    Tok::Ncw,
-    Tok::AssignB,
-    Tok::AssignW,
-    Tok::AssignL,
-    Tok::Cbr,
-    Tok::Push,
-    Tok::Ret,
-    Tok::Call,
-    Tok::Save,
-    Tok::Jump,
-];
 
 /// The tokens that may come behind a tree: those of trees, and `End`.
 pub const BEHIND: [Tok; 40] = [
@@ -158,6 +117,14 @@ impl Symbol {
     pub fn class(class: u16) -> Self {
         Symbol(class.saturating_add(40))
     }
+
+    // The symbol itself.
+    fn symbol(self) -> Sym {
+        match TOKENS.get(self.0 as usize) {
+            Some(token) => Sym::Tok(*token),
+            None => Sym::Class(self.0.saturating_sub(40)),
+        }
+    }
 }
 
 /// Lists of symbols by number, each held once. A list has its last symbol first.
@@ -179,6 +146,19 @@ impl Lists {
             Some(list) => list.as_slice(),
             None => &[],
         }
+    }
+
+    pub fn len(&self) -> usize {
+        self.held.len()
+    }
+
+    /// The symbols of the list with this number.
+    pub fn symbols(&self, alloc: Global, number: usize) -> Result<Vec<Sym>, NoMemory> {
+        let mut symbols = Vec::new(alloc);
+        for symbol in self.get(number) {
+            symbols.push(symbol.symbol())?;
+        }
+        Ok(symbols)
     }
 
     /// The number of the list, which is held from now on.

@@ -1,8 +1,9 @@
 // The tree of a fault.
-use crate::places::{Origin, Place};
+use crate::places::Origin;
 use crate::rounds::{Fault, Work};
 use crate::settling::Settling;
 use gg_base::NoMemory;
+use lr_check_closed::Place;
 use std::alloc::Global;
 use tree_core::{Sort, Tok};
 

@@ -1,16 +1,8 @@
 // The places at which subtrees may begin, and how they were found.
 use gg_base::NoMemory;
+use lr_check_closed::Place;
 use lr_tables::State;
 use std::alloc::Global;
-use tree_core::Tok;
-
-/// A place: a subtree that begins with the token may begin in the state, with a token behind it.
-#[derive(Clone, Copy, Debug, PartialEq, Eq)]
-pub struct Place {
-    pub state: State,
-    pub token: Tok,
-    pub behind: Tok,
-}
 
 /// How a place was found: for the whole tree, for the first kid of a place's token, or for its second
 /// behind the first kid's settling. Places and settlings stand by their numbers.

@@ -1,12 +1,12 @@
 // Rounds: each adds what follows from the places and sums that the rounds before have found.
-use crate::choices::{Leads, Seen, candidate, shifted};
-use crate::lists::{BEHIND, Lists, Symbol, TOKENS, firsts};
-use crate::nodes::{Node, nodes_of};
-use crate::places::{Origin, Place, Places};
+use crate::lists::{BEHIND, Lists, Symbol, firsts};
+use crate::places::{Origin, Places};
 use crate::settling::{Answers, Settling, Settlings};
 use crate::turning::turns;
 use gg_base::NoMemory;
+use lr_check_closed::{Leads, Place, Seen, TOKENS, candidate};
 use lr_tables::{Choice, State, Tables};
+use md_reader::Sym;
 use std::alloc::{AllocError, AllocFailed, Global};
 use tree_core::{Sort, Tok};
 
@@ -15,15 +15,6 @@ pub const MAX_TUPLES: usize = 4_000_000;
 
 // More rounds than there can be places and settlings in memory.
 const MAX_ROUNDS: u64 = 1 << 62;
-
-/// What the work comes to: how many tuples there are, without a fault; the nodes of a tree that blocks or
-/// loops, the root last; or more than 4,000,000 tuples.
-#[derive(Drop)]
-pub enum Finding {
-    Fine { tuples: usize },
-    Faulty(Vec<Node>),
-    Full,
-}
 
 /// What is wrong: the place's token is not shifted; at the settling some answers take nothing; or
 /// reductions lead back to the settling's list, with these answers. Both stand by their numbers.
@@ -34,9 +25,9 @@ pub enum Fault {
     Turn { settling: usize, own: Vec<bool> },
 }
 
-// Why the work stops early.
+/// Why the work stops early.
 #[derive(Clone, Copy, Debug)]
-enum Stop {
+pub enum Stop {
     NoMemory,
     Full,
 }
@@ -106,13 +97,13 @@ pub struct Work {
     pub lists: Lists,
     pub places: Places,
     pub settlings: Settlings,
-    // How many settlings are sums, and the first fault.
-    tuples: usize,
-    fault: Option<Fault>,
+    /// How many settlings are sums, and the first fault.
+    pub tuples: usize,
+    pub fault: Option<Fault>,
 }
 
 impl Work {
-    fn new(alloc: Global, tables: &Tables) -> Result<Self, NoMemory> {
+    pub fn new(alloc: Global, tables: &Tables) -> Result<Self, NoMemory> {
         Ok(Work {
             lists: Lists::new(alloc),
             places: Places::new(alloc, tables.states())?,
@@ -253,12 +244,12 @@ impl Work {
         answers: &mut Answers,
     ) -> Result<(), Stop> {
         match seen.leads {
-            Leads::Out { beyond } => {
+            Leads::Out(beyond) => {
                 if seen.asks {
                     answers.refuse_at(beyond)?;
                 }
             }
-            Leads::Whole { class } => {
+            Leads::Whole(class) => {
                 if let Some(next) = tables.go(from, class) {
                     let list = self.class_list(alloc, class)?;
                     let taken = answers.taken(alloc, seen.asks)?;
@@ -286,7 +277,7 @@ impl Work {
         let mut answers = self.settlings.answers(alloc, number)?;
         let mut leads_out = false;
         for choice in choices {
-            let seen = candidate(tables, *choice, size);
+            let seen = candidate(tables.description().rules(), *choice, size);
             leads_out = leads_out || seen.leads_out();
             self.take(alloc, tables, number, from, &seen, &mut answers)?;
             if !seen.asks {
@@ -591,7 +582,7 @@ impl Work {
     ) -> Result<(), Stop> {
         for behind in BEHIND {
             if let Some(number) = self.find(round, state, token, behind) {
-                match shifted(tables, state, token) {
+                match tables.over(state, Sym::Tok(token)) {
                     Some(next) => self.visit_shifted(alloc, round, number, token, next)?,
                     None => self.note(Fault::Gap { place: number }),
                 }
@@ -614,7 +605,7 @@ impl Work {
         if kids.len() != 2 {
             return Ok(());
         }
-        let next = match shifted(tables, state, token) {
+        let next = match tables.over(state, Sym::Tok(token)) {
             Some(next) => next,
             None => return Ok(()),
         };
@@ -648,8 +639,8 @@ impl Work {
         Ok(())
     }
 
-    // Rounds until one adds nothing. Each adds a place or a settling, and there is no memory for as many.
-    fn complete(&mut self, alloc: Global, tables: &Tables) -> Result<(), Stop> {
+    /// Rounds until one adds nothing. Each adds a place or a settling, and there is no memory for as many.
+    pub fn complete(&mut self, alloc: Global, tables: &Tables) -> Result<(), Stop> {
         self.begin(alloc)?;
         let mut last = Count {
             places: 0,
@@ -667,22 +658,5 @@ impl Work {
             last = now;
         }
         Err(Stop::NoMemory)
-    }
-}
-
-/// Decides whether some well-typed tree blocks the parser by the tables or makes it turn for ever,
-/// whatever its questions answer.
-pub fn find_fault(alloc: Global, tables: &Tables) -> Result<Finding, NoMemory> {
-    let mut work = Work::new(alloc, tables)?;
-    match work.complete(alloc, tables) {
-        Err(Stop::NoMemory) => return Err(NoMemory),
-        Err(Stop::Full) => return Ok(Finding::Full),
-        Ok(()) => {}
-    }
-    match &work.fault {
-        None => Ok(Finding::Fine {
-            tuples: work.tuples,
-        }),
-        Some(fault) => Ok(Finding::Faulty(nodes_of(alloc, &work, fault)?)),
     }
 }

@@ -1,7 +1,6 @@
 // Whether reductions of a single class lead back to it.
-use crate::choices::{Leads, candidate};
-use crate::places::Place;
 use gg_base::NoMemory;
+use lr_check_closed::{Leads, Place, candidate};
 use lr_tables::Tables;
 use std::alloc::Global;
 
@@ -40,8 +39,8 @@ fn follow(
         None => return Ok(None),
     };
     for choice in tables.action(state, place.behind) {
-        let seen = candidate(tables, *choice, 1);
-        if let Leads::Whole { class } = seen.leads {
+        let seen = candidate(tables.description().rules(), *choice, 1);
+        if let Leads::Whole(class) = seen.leads {
             let mut next = copied(alloc, own.as_slice())?;
             if seen.asks {
                 next.push(true)?;

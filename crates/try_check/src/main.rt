@@ -6,7 +6,8 @@ ghost use Rattle.std.specs.Prelude.{◌≤◌, length};
 use cmd_session::{InputFault, read_all, write_all};
 use gg_base::NoMemory;
 use gg_outside::{StdSink, StdSource};
-use lr_check::{CheckFault, Sample, check};
+use lr_check::Sample;
+use lr_checked::{CheckFault, check};
 use lr_tables::build;
 use md_reader::read_description;
 use std::alloc::Global;
@@ -42,6 +43,7 @@ fn refused(alloc: Global, fault: CheckFault) -> Result<String, NoMemory> {
     match fault {
         CheckFault::NoMemory => Err(NoMemory),
         CheckFault::CheckFull => Ok(String::from_str(alloc, "too many tuples\n")?),
+        CheckFault::Unshown => Ok(String::from_str(alloc, "not shown\n")?),
         CheckFault::Blocks(sample) => shown(alloc, "blocks\n", &sample),
         CheckFault::Loops(sample) => shown(alloc, "loops\n", &sample),
     }

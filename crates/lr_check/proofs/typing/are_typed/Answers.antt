@@ -2,7 +2,7 @@ use Rattle.std.proofs.Common.{ap, ◌∙◌, subst}
 use Rattle.std.specs.Prelude.{List, ℕ}
 use Rattle.tree_core.specs.declared.token.Sort.{Sort}
 use Rattle.tree_core.specs.Grammar.{kids}
-use Rattle.lr_check.specs.Checking.{KidsFit}
+use Rattle.lr_check.specs.Statement.{KidsFit}
 use Rattle.lr_check.proofs.Typed.{typed_turn, typed_all}
 use Rattle.lr_check.proofs.typing.are_typed.Goals as goal
 

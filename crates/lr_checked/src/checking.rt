@@ -1,27 +1,29 @@
 // Whether some tree blocks the parser or makes it turn for ever.
 ghost use Rattle.std.specs.Prelude.{◌≡◌, IfOk, IfErr};
-ghost use Rattle.lr_check.specs.Checking.{FaultIsReal};
+ghost use Rattle.lr_checked.specs.Accepted.{NeverStops};
+ghost use Rattle.lr_checked.specs.Refusals.{FaultIsReal};
 
-use crate::replaying::replay;
-use crate::sample::{Outcome, Sample, SampleNode};
-use crate::typing::is_statement;
+use crate::laws::no_fault_is_enough;
 use gg_base::NoMemory;
+use lr_check::{Outcome, Sample, SampleNode, is_statement, replay};
 use lr_check_work::{Finding, Node, find_fault};
 use lr_tables::Tables;
 use std::alloc::Global;
 use std::marker::Model;
 
-/// Why tables are refused: there is no memory; some tree blocks the parser, or makes it turn for ever; or
-/// there are more than 4,000,000 ways in which symbols may replace a subtree.
+/// Why tables are refused: there is no memory; some tree blocks the parser, or makes it turn for ever;
+/// there are more than 4,000,000 ways in which symbols may replace a subtree; or the work came to no
+/// answer that is shown, which is not known to come.
 #[derive(Drop)]
 pub enum CheckFault {
     NoMemory,
     Blocks(Sample),
     Loops(Sample),
     CheckFull,
+    Unshown,
 }
 
-/// Tables by which the work has found no tree that blocks or loops.
+/// Tables by which each typed statement is parsed to its end, whatever its questions answer.
 #[derive(Drop)]
 pub struct Checked {
     tables: Tables,
@@ -30,10 +32,13 @@ pub struct Checked {
 
 impl Model for Checked {
     ghost use Rattle.lr_tables.specs.View.{TableView};
+    ghost use Rattle.lr_checked.specs.Accepted.{NeverStops};
 
     ghost Value = { TableView };
 
     ghost view = { λ c. c.tables };
+
+    ghost invariant = { λ c. NeverStops c.tables.content };
 }
 
 impl Checked {
@@ -47,6 +52,13 @@ impl Checked {
     pub fn tuples(&self) -> usize {
         self.tuples
     }
+
+    /// No typed statement stops the parse. The call does nothing: its clause is the fact.
+    pub fn never_stops(&self)
+        ensures { NeverStops self.now.content }
+    {
+        let _tables = &self.tables;
+    }
 }
 
 // The nodes as a sample.
@@ -58,27 +70,33 @@ fn sample_of(alloc: Global, nodes: Vec<Node>) -> Result<Sample, NoMemory> {
     Ok(Sample::new(held))
 }
 
-// The refusal that the sample shows. Where its parse shows none, there is no answer but `NoMemory`.
+// The refusal that the sample shows.
 fn refusal(alloc: Global, tables: &Tables, sample: Sample) -> CheckFault
     ensures { FaultIsReal tables.now.content result }
 {
     if !is_statement(&sample) {
-        return CheckFault::NoMemory;
+        return CheckFault::Unshown;
     }
     match replay(alloc, tables, &sample) {
         Ok(Outcome::Blocks(_)) => CheckFault::Blocks(sample),
         Ok(Outcome::Loops(_)) => CheckFault::Loops(sample),
-        _ => CheckFault::NoMemory,
+        Ok(_) => CheckFault::Unshown,
+        Err(NoMemory) => CheckFault::NoMemory,
     }
 }
 
 // How many tuples there are, or why the tables are refused.
 fn verdict(alloc: Global, tables: &Tables) -> Result<usize, CheckFault>
-    ensures { IfErr result (λ f. FaultIsReal tables.now.content f) }
+    ensures fine { IfOk result (λ n. NeverStops tables.now.content) }
+    ensures real { IfErr result (λ f. FaultIsReal tables.now.content f) }
 {
+    tables.is_numbered();
+    tables.description().is_valid();
+    no_fault_is_enough();
     let nodes = match find_fault(alloc, tables) {
-        Ok(Finding::Fine { tuples }) => return Ok(tuples),
+        Ok(Finding::Fine(tuples)) => return Ok(tuples),
         Ok(Finding::Full) => return Err(CheckFault::CheckFull),
+        Ok(Finding::Open) => return Err(CheckFault::Unshown),
         Ok(Finding::Faulty(nodes)) => nodes,
         Err(_) => return Err(CheckFault::NoMemory),
     };
@@ -88,11 +106,12 @@ fn verdict(alloc: Global, tables: &Tables) -> Result<usize, CheckFault>
     }
 }
 
-/// The tables, if no tree is found that blocks the parser or makes it turn for ever, whatever its
-/// questions answer; or the tables again and why they are refused. A refusal comes with a tree whose
-/// parse shows it.
+/// The tables, if no tree blocks the parser or makes it turn for ever, whatever its questions answer; or
+/// the tables again and why they are refused. A refusal comes with a tree whose parse shows it.
 pub fn check(alloc: Global, tables: Tables) -> Result<Checked, (Tables, CheckFault)>
     ensures tables { IfOk result (λ c. c ≡ tables) }
+    // The parse of each typed statement ends with accepting, whatever its questions answer.
+    ensures accepted { IfOk result (λ c. NeverStops tables.content) }
     ensures back { IfErr result (λ e. e.0 ≡ tables) }
     // The sample of a refusal is a typed statement whose parse blocks, or loops, with its own answers.
     ensures real { IfErr result (λ e. FaultIsReal tables.content e.1) }

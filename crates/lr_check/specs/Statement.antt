@@ -1,14 +1,9 @@
--- What a refusal says: its sample is a well-typed statement whose parse blocks, or loops, with its own answers.
+-- Samples that stand for well-typed statements.
 use Rattle.std.specs.Prelude.{◌≡◌, ℕ, ◌-◌, List, Option, Some, None, Bool, true, false, length, slice_get}
 use Rattle.tree_core.specs.declared.token.Sort.{Sort}
 use Rattle.tree_core.specs.declared.token.Sort.TheVariants as sort
 use Rattle.tree_core.specs.Grammar.{kids, sort_of, fits}
-use Rattle.md_reader.specs.State.{Content}
-use Rattle.lr_check.specs.declared.sample.Outcome.TheVariants as outcome
-use Rattle.lr_check.specs.declared.checking.CheckFault.{CheckFault}
-use Rattle.lr_check.specs.declared.checking.CheckFault.TheVariants as faults
 use Rattle.lr_check.specs.Tree.{Node, IsSample}
-use Rattle.lr_check.specs.Parse.{Replays}
 
 abbrev pub sort_fits : Option Sort → Sort → Bool
 sort_fits None x = false
@@ -33,21 +28,3 @@ pub record IsStatement (nodes : List Node) : Type 0 where
   pub sample : IsSample nodes
   pub root : fits_at (slice_get nodes (length nodes - 1)) sort.Stmt ≡ true
   pub typed : AreTyped nodes
-
--- its parse blocks before a token
-pub record Blocking (d : Content) (nodes : List Node) : Type 0 where
-  pub statement : IsStatement nodes
-  pub at : ℕ
-  pub parse : Replays d nodes (outcome.Blocks at)
-
--- its parse comes to the same stack again before a token
-pub record Looping (d : Content) (nodes : List Node) : Type 0 where
-  pub statement : IsStatement nodes
-  pub at : ℕ
-  pub parse : Replays d nodes (outcome.Loops at)
-
-abbrev pub FaultIsReal : Content → CheckFault → Type 0
-FaultIsReal d faults.NoMemory = Unit {0}
-FaultIsReal d faults.CheckFull = Unit {0}
-FaultIsReal d (faults.Blocks nodes) = Blocking d nodes
-FaultIsReal d (faults.Loops nodes) = Looping d nodes

@@ -1,0 +1,124 @@
+-- What the free choices are, as candidates.
+use Rattle.std.proofs.Common.{◌≡◌, ◌⊎◌, ℕ, zero, suc, ◌+◌, ◌≤◌, ◌<◌, List, [], ◌∷◌, ◌++◌, Option, Some, None, Contains, Bool, true, false, length, get_or, take, slice_get, refl, sym, ap, ◌∙◌, subst, inl, inr, ⊎_elim, arith, true≢false}
+use Rattle.std.specs.Prelude.{nat_lt, ◌==◌, if◌then◌else◌}
+use Rattle.std.proofs.lemmas.Option.{slice_get_within, get_or_from_slice_get, slice_get-get_or}
+use Rattle.std.proofs.lemmas.List.{get_or-take, length-take-le}
+use Rattle.std.proofs.lemmas.Bool.{cases_lt, lt-ltb}
+use Rattle.md_reader.specs.declared.types.Rule.{Rule}
+use Rattle.md_reader.specs.declared.types.Restriction.{Restriction}
+use Rattle.lr_tables.specs.declared.types.Choice.{Choice}
+use Rattle.lr_tables.specs.declared.types.Choice.TheVariants as choice
+use Rattle.lr_check_sets.specs.Automaton.{Candidate, shift, reduce, Free, CanBlock}
+use Rattle.lr_check_sets.specs.Table.{production, reduced_by, candidates_of}
+use Rattle.lr_check_closed.specs.Choices.{seen_rule, CandidateOf, may_pass, HasFree}
+
+asks_passes : (xs : List Restriction) → (if length xs == 0 then false else true) ≡ true → nat_lt 0 (length xs) ≡ true
+asks_passes [] e = absurd (true≢false (sym e))
+asks_passes (x ∷ xs) e = lt-ltb 0 (length (x ∷ xs)) (omega arith)
+
+Some-same : {X : Type 0} (x y : X) → Some x ≡ Some y → x ≡ y
+Some-same x y e = cc
+
+-- a choice no further than the n-th is the candidate
+pub record FreeAt (rules : List Rule) (cs : List Choice) (n : ℕ) (c : Candidate) : Type 0 where
+  pub at : ℕ
+  pub one : Choice
+  pub near : at ≤ n
+  pub there : slice_get cs at ≡ Some one
+  pub is : CandidateOf rules one c
+
+later : (rules : List Rule) (d : Choice) (cs : List Choice) (n : ℕ) (c : Candidate) → FreeAt rules cs n c → FreeAt rules (d ∷ cs) (suc n) c
+later rules d cs n c h = record { at = suc h.at; one = h.one; near = let le = h.near in omega (arith, le); there = h.there; is = h.is }
+
+-- those before the n-th may be answered no
+abbrev pub PassBelow : List Rule → List Choice → ℕ → Type 0
+PassBelow rules cs n = (k : ℕ) (d : Choice) → k < n → slice_get cs k ≡ Some d → may_pass rules d ≡ true
+
+abbrev pub StopsAt : List Rule → List Choice → ℕ → Type 0
+StopsAt rules cs n = (d : Choice) → slice_get cs n ≡ Some d → may_pass rules d ≡ false
+
+-- behind a choice that passes
+behind : (rules : List Rule) (d : Choice) (cs : List Choice) (n : ℕ) (c : Candidate) → may_pass rules d ≡ true → PassBelow rules (d ∷ cs) n → StopsAt rules (d ∷ cs) n →
+    ((m : ℕ) → PassBelow rules cs m → StopsAt rules cs m → FreeAt rules cs m c) → FreeAt rules (d ∷ cs) n c
+behind rules d cs zero c pass below stop ih = absurd (true≢false (sym pass ∙ stop d refl))
+behind rules d cs (suc m) c pass below stop ih = later rules d cs m c (ih m (λ k x lt e. below (suc k) x (omega (arith, lt)) e) (λ x e. stop x e))
+
+free_reduce : (rules : List Rule) (n : ℕ) (cs : List Choice) (at : ℕ) (c : Candidate) (o : Option Rule) → slice_get rules n ≡ o → PassBelow rules (choice.Reduce n ∷ cs) at →
+    StopsAt rules (choice.Reduce n ∷ cs) at → ((m : ℕ) → PassBelow rules cs m → StopsAt rules cs m → Free (candidates_of rules cs) c → FreeAt rules cs m c) →
+    Free (reduced_by o ++ candidates_of rules cs) c → FreeAt rules (choice.Reduce n ∷ cs) at c
+free_reduce rules n cs at c None e below stop ih free =
+    behind rules (choice.Reduce n) cs at c (ap (λ (o : Option Rule). (seen_rule 0 o).asks) e) below stop (λ m b s. ih m b s free)
+free_reduce rules n cs at c (Some r) e below stop ih free =
+    ⊎_elim
+    (λ h. record { at = 0; one = choice.Reduce n; near = omega arith; there = refl; is = (r, (e, h)) })
+    (λ h. behind rules (choice.Reduce n) cs at c (ap (λ (o : Option Rule). (seen_rule 0 o).asks) e ∙ asks_passes r.restrictions h.0) below stop (λ m b s. ih m b s h.1))
+    free
+
+pub free_at : (rules : List Rule) (cs : List Choice) (n : ℕ) (c : Candidate) → PassBelow rules cs n → StopsAt rules cs n → Free (candidates_of rules cs) c → FreeAt rules cs n c
+free_at rules [] n c below stop free = absurd free
+free_at rules (choice.Shift q ∷ cs) n c below stop free = record { at = 0; one = choice.Shift q; near = omega arith; there = refl; is = free }
+free_at rules (choice.Accept ∷ cs) n c below stop free = record { at = 0; one = choice.Accept; near = omega arith; there = refl; is = free }
+free_at rules (choice.Reduce m ∷ cs) n c below stop free =
+    free_reduce rules m cs n c (slice_get rules m) refl below stop (λ k b s f. free_at rules cs k c b s f) free
+
+-- the turns of the loop: one more passes
+pub pass_turn : (rules : List Rule) (cs : List Choice) (n : ℕ) (d : Choice) → PassBelow rules cs n → d ≡ get_or cs n d → may_pass rules d ≡ true → PassBelow rules cs (n + 1)
+pass_turn rules cs n d below is pass k x less e =
+    ⊎_elim
+    (λ l. below k x l e)
+    (λ ge.
+    let same : k ≡ n = omega (arith, less, ge) in
+    let here : d ≡ x = is ∙ (ap (λ i. get_or cs i d) (sym same) ∙ get_or_from_slice_get cs k x d e) in
+    subst (λ y. may_pass rules y ≡ true) here pass)
+    (cases_lt k n)
+
+-- those up to the first that doesn't pass
+pub free_up_to : (rules : List Rule) (cs : List Choice) (n : ℕ) (d : Choice) → PassBelow rules cs n → n < length cs → d ≡ get_or cs n d → may_pass rules d ≡ false →
+    HasFree rules cs (take (n + 1) cs)
+free_up_to rules cs n d below lt is stop = record { each = λ c free. found c (free_at rules cs n c below stops free) }
+  where
+    stops : StopsAt rules cs n
+    stops x e = subst (λ y. may_pass rules y ≡ false) (is ∙ get_or_from_slice_get cs n x d e) stop
+
+    found : (c : Candidate) → FreeAt rules cs n c → (x : Choice) × (Contains (take (n + 1) cs) x × CandidateOf rules x c)
+    found c h =
+        let within : h.at < length cs = slice_get_within cs h.at h.one h.there in
+        let le = h.near in
+        let long : length (take (n + 1) cs) ≡ n + 1 = length-take-le (n + 1) cs (omega (arith, lt)) in
+        (h.one, ((h.at, omega (arith, long, le), get_or-take (n + 1) cs h.at h.one (omega (arith, le)) ∙ get_or_from_slice_get cs h.at h.one h.one h.there), h.is))
+
+-- or all of them
+pub free_all : (rules : List Rule) (cs : List Choice) (n : ℕ) → PassBelow rules cs n → length cs ≤ n → HasFree rules cs cs
+free_all rules cs n below le = record { each = λ c free. found c (free_at rules cs (length cs) c shorter stops free) }
+  where
+    shorter : PassBelow rules cs (length cs)
+    shorter k x lt e = below k x (omega (arith, lt, le)) e
+
+    stops : StopsAt rules cs (length cs)
+    stops x e = absurd (let lt = slice_get_within cs (length cs) x e in omega (arith, lt))
+
+    found : (c : Candidate) → FreeAt rules cs (length cs) c → (x : Choice) × (Contains cs x × CandidateOf rules x c)
+    found c h = (h.one, ((h.at, slice_get_within cs h.at h.one h.there, get_or_from_slice_get cs h.at h.one h.one h.there), h.is))
+
+pass_reduce : (rules : List Rule) (n : ℕ) (cs : List Choice) (k : ℕ) (d : Choice) (o : Option Rule) → slice_get rules n ≡ o → CanBlock (reduced_by o ++ candidates_of rules cs) →
+    ((m : ℕ) → CanBlock (candidates_of rules cs) → slice_get cs m ≡ Some d → may_pass rules d ≡ true) → slice_get (choice.Reduce n ∷ cs) k ≡ Some d → may_pass rules d ≡ true
+pass_reduce rules n cs zero d None e can ih there =
+    subst (λ x. may_pass rules x ≡ true) (Some-same (choice.Reduce n) d there) (ap (λ (o : Option Rule). (seen_rule 0 o).asks) e)
+pass_reduce rules n cs zero d (Some r) e can ih there =
+    subst (λ x. may_pass rules x ≡ true) (Some-same (choice.Reduce n) d there) (ap (λ (o : Option Rule). (seen_rule 0 o).asks) e ∙ asks_passes r.restrictions can.0)
+pass_reduce rules n cs (suc k) d None e can ih there = ih k can there
+pass_reduce rules n cs (suc k) d (Some r) e can ih there = ih k can.1 there
+
+none_some : {X : Type 0} (x : X) → None ≡ Some x → ⊥
+none_some x e = cc
+
+-- where nothing need be taken each choice passes
+pub passes_at : (rules : List Rule) (cs : List Choice) (k : ℕ) (d : Choice) → CanBlock (candidates_of rules cs) → slice_get cs k ≡ Some d → may_pass rules d ≡ true
+passes_at rules [] k d can e = absurd (none_some d e)
+passes_at rules (choice.Shift q ∷ cs) k d can e = absurd can
+passes_at rules (choice.Accept ∷ cs) k d can e = absurd can
+passes_at rules (choice.Reduce n ∷ cs) k d can e = pass_reduce rules n cs k d (slice_get rules n) refl can (λ m c x. passes_at rules cs m d c x) e
+
+-- one that doesn't pass shows that something is taken
+pub not_blocked : (rules : List Rule) (cs : List Choice) (n : ℕ) (d : Choice) → n < length cs → d ≡ get_or cs n d → may_pass rules d ≡ false → CanBlock (candidates_of rules cs) → false ≡ true
+not_blocked rules cs n d lt is stop can = sym stop ∙ passes_at rules cs n d can (slice_get-get_or cs n d lt ∙ ap Some (sym is))

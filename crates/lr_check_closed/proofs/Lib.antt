@@ -1,0 +1,6 @@
+pub mod Enough
+pub mod Choosing
+pub mod Behind
+pub mod Gaining
+pub mod Tokens
+pub mod Following

@@ -1,0 +1,3 @@
+pub mod Trees
+pub mod Counting
+pub mod Never

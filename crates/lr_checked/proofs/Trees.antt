@@ -1,0 +1,79 @@
+-- Tokens of a typed statement, with answers, are those of a tree.
+use Rattle.std.proofs.Common.{◌≡◌, List, [], ◌∷◌, ◌++◌, Option, Some, None, map, true, refl, sym, ap, ◌∙◌, subst}
+use Rattle.std.specs.Prelude.{IsTrue, Bool}
+use Rattle.tree_core.specs.declared.token.Tok.{Tok}
+use Rattle.tree_core.specs.declared.token.Sort.{Sort}
+use Rattle.tree_core.specs.declared.token.Sort.TheVariants as sort
+use Rattle.tree_core.specs.Grammar.{kids, sort_of}
+use Rattle.tree_core.specs.Trees.{sort_fits}
+use Rattle.lr_check_sets.specs.Trees.{Tree, Trees, node, no_trees, more_trees, May, fits_in}
+use Rattle.lr_check_sets.specs.Answers.{Leaf, leaves, leaves_all}
+use Rattle.lr_check.specs.Tree.{Token}
+use Rattle.lr_check_law.specs.Accepting.{tokens_of}
+use Rattle.lr_check_parse.specs.Typed.{AreTyped, ends, begins, IsStatement}
+use Rattle.lr_checked.specs.Accepted.{tokens}
+
+-- a tree's leaves as tokens
+abbrev as_tokens : List Leaf → List Token
+as_tokens w = map (λ (l : Leaf). record { tok = l.tok; answers = l.answers }) w
+
+fit_may : (o : Option Sort) (x : Sort) → IsTrue (sort_fits o x) → fits_in o x ≡ true
+fit_may None x h = h
+fit_may (Some y) x h = h
+
+-- trees of the first sorts, and those of the others behind them
+record Parted (xs ys : List Sort) (vs : Trees (xs ++ ys)) (w : List Leaf) : Type 0 where
+  before : Trees xs
+  behind : Trees ys
+  same : leaves_all before (leaves_all behind w) ≡ leaves_all vs w
+
+parted_more : (x : Sort) (xs ys : List Sort) (v : Tree x) (vs : Trees (xs ++ ys)) (w : List Leaf) → Parted xs ys vs w → Parted (x ∷ xs) ys (more_trees v vs) w
+parted_more x xs ys v vs w p = record { before = more_trees v p.before; behind = p.behind; same = ap (leaves v) p.same }
+
+parted : (xs ys : List Sort) (vs : Trees (xs ++ ys)) (w : List Leaf) → Parted xs ys vs w
+parted [] ys vs w = record { before = no_trees; behind = vs; same = refl }
+parted (x ∷ xs) ys (more_trees v vs) w = parted_more x xs ys v vs w (parted xs ys vs w)
+
+-- trees with these tokens
+record Grown (xs : List Sort) (w : List Token) : Type 0 where
+  trees : Trees xs
+  same : as_tokens (leaves_all trees []) ≡ w
+
+nil_cons : (t : Tok) (u : List Tok) → [] ≡ t ∷ u → ⊥
+nil_cons t u e = cc
+
+cons_nil : (t : Tok) (u : List Tok) → t ∷ u ≡ [] → ⊥
+cons_nil t u e = cc
+
+head_same : (t k : Tok) (u v : List Tok) → t ∷ u ≡ k ∷ v → t ≡ k
+head_same t k u v e = cc
+
+tail_same : (t k : Tok) (u v : List Tok) → t ∷ u ≡ k ∷ v → u ≡ v
+tail_same t k u v e = cc
+
+grown_more : (x : Sort) (xs : List Sort) (t : Tok) (f : Token) (w : List Token) → f.tok ≡ t → May t x → Grown (kids t ++ xs) w → Grown (x ∷ xs) (f ∷ w)
+grown_more x xs t f w e may g =
+    let p = parted (kids t) xs g.trees [] in
+    let tail : as_tokens (leaves_all p.before (leaves_all p.behind [])) ≡ w = ap as_tokens p.same ∙ g.same in
+    let head : ◌≡◌ {A = Token} (record { tok = t; answers = f.answers }) f = ap {B = Token} (λ (k : Tok). record { tok = k; answers = f.answers }) (sym e) in
+    record {
+      trees = more_trees (node t may f.answers p.before) p.behind;
+      same = ap (λ (z : List Token). record { tok = t; answers = f.answers } ∷ z) tail ∙ ap (λ (z : Token). z ∷ w) head;
+    }
+
+grown : {xs : List Sort} {u : List Tok} → AreTyped xs u → (w : List Token) → tokens w ≡ u → Grown xs w
+grown ends [] e = record { trees = no_trees; same = refl }
+grown ends (f ∷ w) e = absurd (cons_nil f.tok (tokens w) e)
+grown (begins {w = u} t fit more) [] e = absurd (nil_cons t u e)
+grown (begins {x = x} {xs = xs} {w = u} t fit more) (f ∷ w) e =
+    grown_more x xs t f w (head_same f.tok t (tokens w) u e) (fit_may (sort_of t) x fit) (grown more w (tail_same f.tok t (tokens w) u e))
+
+-- the tree of a statement
+pub statement_tree : (w : List Token) → IsStatement (tokens w) → (v : Tree sort.Stmt) × (tokens_of v ≡ w)
+statement_tree w h = one (grown h w refl)
+  where
+    one : Grown (sort.Stmt ∷ []) w → (v : Tree sort.Stmt) × (tokens_of v ≡ w)
+    one g = by g.trees g.same
+      where
+        by : (vs : Trees (sort.Stmt ∷ [])) → as_tokens (leaves_all vs []) ≡ w → (v : Tree sort.Stmt) × (tokens_of v ≡ w)
+        by (more_trees v no_trees) e = (v, e)
