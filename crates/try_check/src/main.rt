@@ -1,4 +1,4 @@
-// The program `try_check`: reads a machine description from the input, and says whether every tree is parsed.
+// The program `try_check`: reads machine descriptions from the input, and says of each whether every tree is parsed.
 #![tactic(auto)]
 
 ghost use Rattle.std.specs.Prelude.{◌≤◌, length};
@@ -6,9 +6,9 @@ ghost use Rattle.std.specs.Prelude.{◌≤◌, length};
 use cmd_session::{InputFault, read_all, write_all};
 use gg_base::NoMemory;
 use gg_outside::{StdSink, StdSource};
-use lr_check::Sample;
+use lr_check::{Outcome, Sample, replay};
 use lr_checked::{CheckFault, check};
-use lr_tables::build;
+use lr_tables::{Tables, build};
 use md_reader::read_description;
 use std::alloc::Global;
 use std::process::ExitCode;
@@ -16,8 +16,8 @@ use std::process::ExitCode;
 /// The most bytes of a description.
 const MAX_BYTES: usize = 262_144;
 
-// What the sample shows, and its nodes.
-fn shown(alloc: Global, what: &str, sample: &Sample) -> Result<String, NoMemory> {
+// What the sample shows, its nodes, and its replay.
+fn shown(alloc: Global, what: &str, tables: &Tables, sample: &Sample) -> Result<String, NoMemory> {
     let mut text = String::from_str(alloc, what)?;
     let nodes = sample.nodes();
     for number in 0..nodes.len() {
@@ -35,21 +35,36 @@ fn shown(alloc: Global, what: &str, sample: &Sample) -> Result<String, NoMemory>
         }
         text.push_str("\n")?;
     }
+    let end = replayed(alloc, tables, sample)?;
+    text.push_str(&end)?;
     Ok(text)
 }
 
 // Why the tables are refused.
-fn refused(alloc: Global, fault: CheckFault) -> Result<String, NoMemory> {
+fn refused(alloc: Global, tables: &Tables, fault: CheckFault) -> Result<String, NoMemory> {
     match fault {
         CheckFault::NoMemory => Err(NoMemory),
         CheckFault::CheckFull => Ok(String::from_str(alloc, "too many tuples\n")?),
         CheckFault::Unshown => Ok(String::from_str(alloc, "not shown\n")?),
-        CheckFault::Blocks(sample) => shown(alloc, "blocks\n", &sample),
-        CheckFault::Loops(sample) => shown(alloc, "loops\n", &sample),
+        CheckFault::Blocks(sample) => shown(alloc, "blocks\n", tables, &sample),
+        CheckFault::Loops(sample) => shown(alloc, "loops\n", tables, &sample),
     }
 }
 
-// The line, or the lines of a sample, that are written of a description.
+// How the sample's parse by the tables ends.
+fn replayed(alloc: Global, tables: &Tables, sample: &Sample) -> Result<String, NoMemory> {
+    if !sample.is_numbered() {
+        return Ok(String::from_str(alloc, "no tree\n")?);
+    }
+    match replay(alloc, tables, sample)? {
+        Outcome::Done => Ok(String::from_str(alloc, "replay accepts\n")?),
+        Outcome::Blocks(at) => Ok(format!(in alloc; "replay blocks at {at}\n")?),
+        Outcome::Loops(at) => Ok(format!(in alloc; "replay loops at {at}\n")?),
+        Outcome::Long => Ok(String::from_str(alloc, "the tree is too long\n")?),
+    }
+}
+
+// The line, or the lines of a sample and of its replay, that are written of a description.
 fn line(alloc: Global, bytes: &[u8]) -> Result<String, NoMemory>
     requires { length bytes.now ≤ 262144 }
 {
@@ -67,8 +82,28 @@ fn line(alloc: Global, bytes: &[u8]) -> Result<String, NoMemory>
             let tuples = checked.tuples();
             Ok(format!(in alloc; "accepted: {states} item sets, {tuples} tuples\n")?)
         }
-        Err((_, fault)) => refused(alloc, fault),
+        Err((tables, fault)) => refused(alloc, &tables, fault),
     }
+}
+
+// The lines of each description: they stand one after another, with a line of `=` between them.
+fn lines(alloc: Global, bytes: &[u8]) -> Result<String, NoMemory>
+    requires { length bytes.now ≤ 262144 }
+{
+    let mut text = String::new(alloc);
+    let mut begin = 0;
+    for at in 0..bytes.len() {
+        if bytes[at] == b'=' && begin <= at {
+            let line = line(alloc, &bytes[begin..at])?;
+            text.push_str(&line)?;
+            begin = at + 1;
+        }
+    }
+    if begin <= bytes.len() {
+        let line = line(alloc, &bytes[begin..])?;
+        text.push_str(&line)?;
+    }
+    Ok(text)
 }
 
 // Whether the input was read and its lines written.
@@ -76,7 +111,7 @@ fn run(rt: HostRuntime) -> Result<bool, NoMemory> {
     let alloc = rt.alloc();
     let mut input = StdSource::new(rt)?;
     let line = match read_all(alloc, &mut input, MAX_BYTES) {
-        Ok(bytes) => line(alloc, bytes.as_slice())?,
+        Ok(bytes) => lines(alloc, bytes.as_slice())?,
         Err(InputFault::TooLong) => String::from_str(alloc, "the description is too long\n")?,
         Err(InputFault::NoMemory) => return Err(NoMemory),
         Err(InputFault::Failed) => return Ok(false),
