@@ -237,8 +237,11 @@ module _ (c : Scene) (m : State) where
       (refl, rel_found m (addr_in c.program (filling_at c i)) size ∙ ap (λ (x : ℕ). Ok (locations.Memory x, m)) k.address))
   hole_stands hole.Saved i w size k e can =
       subst (λ x. BaseStands x (operand_in c.program (filling_at c i)) size) (ok_same (Saved i) w e)
-      (let at = plain_stands m (operand_in c.program (filling_at c i)) size (locations.Memory k.0) k.1.plain (named_located m (operand_in c.program (filling_at c i)).base size k.0 k.1.named_so) in
-      record { place = locations.Memory k.0; at = at; is = at })
+      (let at =
+      subst (λ o. StandsAt m o size (locations.Memory (displaced m Fp (word_addr k.local)))) (sym k.is)
+      (plain_stands m (home k.local) size (locations.Memory (displaced m Fp (word_addr k.local))) refl
+      (named_located m (home k.local).base size (displaced m Fp (word_addr k.local)) refl)) in
+      record { place = locations.Memory (displaced m Fp (word_addr k.local)); at = at; is = at })
   hole_stands hole.Relation i w size k e can = absurd (err_ok _ w e)
   hole_stands hole.Other i w size k e can = absurd (err_ok _ w e)
 

@@ -75,6 +75,12 @@ pub record IsObject (c : Scene) (m : State) (i : ℕ) (h : Attr Operand) : Type 
   pub operand_is : operand_in c.program h ≡ alone (bases.Rel (addr_in c.program h))
   pub deferred_is : deferred_in c.program h ≡ alone (bases.RelDef (addr_in c.program h))
 
+-- a local's home
+pub record IsSavedLocal (c : Scene) (h : Attr Operand) : Type 0 where
+  pub local : ℕ
+  pub low : local < 1024
+  pub is : operand_in c.program h ≡ home local
+
 -- what fills a hole is what the hole stands for
 abbrev pub Means : Scene → State → Hole → ℕ → Attr Operand → Type 0
 Means c m hole.Register i h = IsRegister c m i h
@@ -86,7 +92,7 @@ Means c m hole.Address i h = Names m (operand_in c.program h) (worth c (Symbol i
 Means c m hole.Constant i h = IsNumber c h (worth c (Symbol i))
 Means c m (hole.Literal n) i h = IsNumber c h n
 Means c m hole.Object i h = IsObject c m i h
-Means c m hole.Saved i h = (address : ℕ) × Names m (operand_in c.program h) address
+Means c m hole.Saved i h = IsSavedLocal c h
 Means c m hole.Relation i h = Unit {0}
 Means c m hole.Other i h = Unit {0}
 

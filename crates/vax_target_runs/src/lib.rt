@@ -1,0 +1,4 @@
+//! Laws of the lines of a template, one after another: what they change, and where they end.
+#![tactic(auto)]
+
+pub mod laws;
