@@ -60,7 +60,7 @@ module _ (A : Automaton) (f : Found) (all : AllIn A f) where
       subst (λ (l : List Sym). ListIn A f (spot_of q k b t.place) t.settles.entry l p) t.settles.list
       (e.here p (subst (λ (l : List Sym). walk A q l ≡ Some p) (sym t.settles.list) ws))
 
-  closed : IsClosed A (HasPlace f) (HasSettling f) (HasSum f)
+  pub closed : IsClosed A (HasPlace f) (HasSettling f) (HasSum f)
   closed = record {
     starts = all.starts;
     alone = λ q p k b place e go. settling q k b (symbol.Tok k ∷ []) place (kids_at q p k b [] place e go);

@@ -4,3 +4,4 @@ pub mod Behind
 pub mod Gaining
 pub mod Tokens
 pub mod Following
+pub mod Counted

@@ -1,17 +1,17 @@
 // Whether all that follows from what was found is found, and no fault shows.
-ghost use Rattle.std.specs.Prelude.{IsTrue, IfOk, Contains};
+ghost use Rattle.std.specs.Prelude.{◌≡◌, ◌≤◌, IsTrue, IfOk, Contains, count_by, sum_by};
 ghost use Rattle.tree_core.specs.declared.token.Tok.{Tok};
 ghost use Rattle.tree_core.specs.declared.token.Tok.TheVariants as tok;
 ghost use Rattle.tree_core.specs.declared.token.Sort.TheVariants as sort;
 ghost use Rattle.tree_core.specs.Grammar.{kids};
 ghost use Rattle.lr_tables.specs.declared.types.Choice.{Choice};
 ghost use Rattle.lr_check_sets.specs.Trees.{May};
-ghost use Rattle.lr_check_sets.specs.Faults.{NoFault};
 ghost use Rattle.lr_check_sets.specs.Table.{automaton_of};
 ghost use Rattle.lr_check_closed.specs.declared.facts.Entry.{Entry};
 ghost use Rattle.lr_check_closed.specs.Found.{HasPlace};
 ghost use Rattle.lr_check_closed.specs.Choices.{seen};
-ghost use Rattle.lr_check_closed.specs.Closed.{OnlyIn, SumIn, SecondIn, FirstIn, BothIn, KidsIn, ChoiceIn, EntryIn, SpotIn};
+ghost use Rattle.lr_check_closed.specs.Closed.{OnlyIn, SumIn, SecondIn, FirstIn, BothIn, KidsIn, ChoiceIn, EntryIn, SpotIn, AllIn};
+ghost use Rattle.lr_check_closed.specs.Count.{sums_at, IsJudged};
 
 use crate::calm::are_calm;
 use crate::choices::{Leads, can_block, candidate, free_choices};
@@ -317,10 +317,31 @@ fn starts_in(facts: &Facts) -> bool
     true
 }
 
-/// Whether all that follows from the places and lists is among them, and none of them shows a fault:
-/// then there is no fault. Where it isn't said, there may be none.
-pub fn is_closed(alloc: Global, tables: &Tables, facts: &Facts) -> Result<bool, NoMemory>
-    ensures { IfOk result (λ b. IsTrue b → NoFault (automaton_of tables.now)) }
+// How many of the entries are sums.
+fn count_sums(entries: &[Entry]) -> usize
+    ensures { result ≡ count_by (λ e. e.is_sum) entries.now }
+{
+    entries.iter().filter(|entry| entry.is_sum).count()
+}
+
+// Whether there are at most so many sums.
+fn has_at_most(facts: &Facts, most: usize) -> bool
+    ensures { IsTrue result → sum_by sums_at facts.now.spots ≤ most }
+{
+    let mut left = most;
+    for spot in facts.spots() {
+        let count = count_sums(spot.entries());
+        if count > left {
+            return false;
+        }
+        left -= count;
+    }
+    true
+}
+
+// Whether all that follows from the places and lists is among them, and none of them shows a fault.
+fn all_in(alloc: Global, tables: &Tables, facts: &Facts) -> Result<bool, NoMemory>
+    ensures { IfOk result (λ b. IsTrue b → AllIn (automaton_of tables.now) facts.now) }
 {
     if !starts_in(facts) {
         return Ok(false);
@@ -331,4 +352,20 @@ pub fn is_closed(alloc: Global, tables: &Tables, facts: &Facts) -> Result<bool, 
         }
     }
     Ok(true)
+}
+
+/// Whether all that follows from the places and lists is among them, none of them shows a fault, and they
+/// have at most so many sums: then this is so of the sets of the tables. Where it isn't said, it may be so.
+pub fn is_closed(
+    alloc: Global,
+    tables: &Tables,
+    facts: &Facts,
+    most: usize,
+) -> Result<bool, NoMemory>
+    ensures { IfOk result (λ b. IsTrue b → IsJudged (automaton_of tables.now) most) }
+{
+    if !has_at_most(facts, most) {
+        return Ok(false);
+    }
+    all_in(alloc, tables, facts)
 }

@@ -1,10 +1,10 @@
 // What the work comes to.
 ghost use Rattle.std.specs.Prelude.{IfOk};
 ghost use Rattle.lr_check_sets.specs.Table.{automaton_of};
-ghost use Rattle.lr_check_work.specs.Finding.{ShowsNoFault};
+ghost use Rattle.lr_check_work.specs.Finding.{IsSo};
 
 use crate::nodes::{Node, nodes_of};
-use crate::rounds::{Stop, Work};
+use crate::rounds::{MAX_TUPLES, Stop, Work};
 use gg_base::NoMemory;
 use lr_check_closed::{Entry, Facts, is_closed};
 use lr_tables::Tables;
@@ -60,10 +60,10 @@ fn facts_of(alloc: Global, tables: &Tables, work: &Work) -> Result<Facts, NoMemo
 
 // Without a fault: whether all that follows from what was found is found.
 fn closed(alloc: Global, tables: &Tables, work: &Work) -> Result<Finding, NoMemory>
-    ensures { IfOk result (λ f. ShowsNoFault (automaton_of tables.now) f) }
+    ensures { IfOk result (λ f. IsSo (automaton_of tables.now) f) }
 {
     let facts = facts_of(alloc, tables, work)?;
-    if is_closed(alloc, tables, &facts)? {
+    if is_closed(alloc, tables, &facts, MAX_TUPLES)? {
         Ok(Finding::Fine(work.tuples))
     } else {
         Ok(Finding::Open)
@@ -73,8 +73,8 @@ fn closed(alloc: Global, tables: &Tables, work: &Work) -> Result<Finding, NoMemo
 /// Decides whether some well-typed tree blocks the parser by the tables or makes it turn for ever,
 /// whatever its questions answer.
 pub fn find_fault(alloc: Global, tables: &Tables) -> Result<Finding, NoMemory>
-    // `Fine` comes only where the sets of the tables have no fault.
-    ensures { IfOk result (λ f. ShowsNoFault (automaton_of tables.now) f) }
+    // `Fine` comes only where the sets of the tables have no fault, and at most 4,000,000 tuples.
+    ensures { IfOk result (λ f. IsSo (automaton_of tables.now) f) }
 {
     let mut work = Work::new(alloc, tables)?;
     match work.complete(alloc, tables) {

@@ -1,3 +1,4 @@
 pub mod Trees
 pub mod Counting
 pub mod Never
+pub mod Printing

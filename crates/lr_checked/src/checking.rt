@@ -1,5 +1,7 @@
 // Whether some tree blocks the parser or makes it turn for ever.
 ghost use Rattle.std.specs.Prelude.{◌≡◌, IfOk, IfErr};
+ghost use Rattle.lr_check_sets.specs.Table.{automaton_of};
+ghost use Rattle.lr_check_closed.specs.Count.{HasMore};
 ghost use Rattle.lr_checked.specs.Accepted.{NeverStops};
 ghost use Rattle.lr_checked.specs.Refusals.{FaultIsReal};
 
@@ -88,6 +90,7 @@ fn refusal(alloc: Global, tables: &Tables, sample: Sample) -> CheckFault
 // How many tuples there are, or why the tables are refused.
 fn verdict(alloc: Global, tables: &Tables) -> Result<usize, CheckFault>
     ensures fine { IfOk result (λ n. NeverStops tables.now.content) }
+    ensures few { IfOk result (λ n. ¬ HasMore (automaton_of tables.now) 4000000) }
     ensures real { IfErr result (λ f. FaultIsReal tables.now.content f) }
 {
     tables.is_numbered();
@@ -112,6 +115,8 @@ pub fn check(alloc: Global, tables: Tables) -> Result<Checked, (Tables, CheckFau
     ensures tables { IfOk result (λ c. c ≡ tables) }
     // The parse of each typed statement ends with accepting, whatever its questions answer.
     ensures accepted { IfOk result (λ c. NeverStops tables.content) }
+    // The set of sums has at most 4,000,000 tuples.
+    ensures few { IfOk result (λ c. ¬ HasMore (automaton_of tables) 4000000) }
     ensures back { IfErr result (λ e. e.0 ≡ tables) }
     // The sample of a refusal is a typed statement whose parse blocks, or loops, with its own answers.
     ensures real { IfErr result (λ e. FaultIsReal tables.content e.1) }

@@ -3,6 +3,8 @@
 
 mod checking;
 mod laws;
+mod lines;
 
 pub use checking::{CheckFault, Checked, check};
 pub use laws::{no_fault_is_enough, parses_accept};
+pub use lines::sample_lines;

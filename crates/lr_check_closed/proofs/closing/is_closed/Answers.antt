@@ -1,16 +1,7 @@
-use Rattle.std.proofs.Common.{List, Contains, subst}
-use Rattle.lr_check_closed.proofs.Gaining.{none_below, one_more, one_more_at, of_all}
 use Rattle.lr_check_sets.specs.Table.{automaton_of}
-use Rattle.lr_check_closed.specs.Found.{SpotView}
-use Rattle.lr_check_closed.specs.Closed.{SpotIn}
-use Rattle.lr_check_closed.proofs.Enough.{all_in_is_enough}
+use Rattle.lr_check_closed.proofs.Following.{ok_map}
+use Rattle.lr_check_closed.proofs.Counted.{judged}
 use Rattle.lr_check_closed.proofs.closing.is_closed.Goals as goal
 
-pub loop-spot-init : goal.loop-spot-init
-loop-spot-init c = none_below _ _
-
-pub loop-spot-preserved : goal.loop-spot-preserved
-loop-spot-preserved c = one_more _ _ _ c.spot-item.result c.loop-spot.invariant c.spot-item.is (c.in_ok-spot_in.ensures c.if-not-branch.false)
-
 pub returns : goal.returns
-returns c = λ u. all_in_is_enough (automaton_of c.args.tables.now) c.args.facts.now (record { starts = c.starts_in.ensures c.if-not-starts_in.false; spots = subst (λ (vs : List SpotView). (v : SpotView) → Contains vs v → SpotIn (automaton_of c.args.tables.now) c.args.facts.now v) c.spots-spot-items.ensures (of_all _ _ _ c.loop-spot.invariant c.loop-spot-test.false) })
+returns c = ok_map _ _ _ (λ h. judged (automaton_of c.args.tables.now) c.args.facts.now c.args.most h (c.has_at_most.ensures c.if-not-has_at_most.false)) c.all_in.ensures
