@@ -1,0 +1,23 @@
+-- The laws of this crate: instructions are done in order, and what a template divides by and consists of.
+use Rattle.std.specs.Prelude.{◌≡◌, ◌≤◌, List, length, Some, Ok}
+use Rattle.md_reader.specs.declared.types.Kind.TheVariants as kind
+use Rattle.md_reader.specs.declared.types.Class.{Class}
+use Rattle.md_reader.specs.declared.types.Rule.{Rule}
+use Rattle.md_reader.specs.Patterns.{kind_at}
+use Rattle.sel_terms.specs.Effects.{EffectShape}
+use Rattle.sel_target.specs.TemplateLaws.{RunsInOrder}
+use Rattle.vax_target_meaning.specs.Vax.{vax}
+
+-- instructions are done one after another
+abbrev pub InstructionsRun : Type 0
+InstructionsRun = RunsInOrder vax
+
+-- no rule divides twice
+abbrev pub RulesDivideOnce : Type 0
+RulesDivideOnce = (classes : List Class) (rule : Rule) (e : EffectShape) → vax.effect classes rule ≡ Ok e → length e.divisors ≤ 1
+
+-- a statement has a line
+abbrev pub StatementsHaveLines : Type 0
+StatementsHaveLines =
+    (classes : List Class) (rule : Rule) (e : EffectShape)
+    → vax.effect classes rule ≡ Ok e → kind_at classes rule.left ≡ Some kind.Nothing → 1 ≤ length rule.lines

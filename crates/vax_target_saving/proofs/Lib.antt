@@ -1,0 +1,10 @@
+pub mod Bytes
+pub mod Words
+pub mod Storing
+pub mod Found
+pub mod Parts
+pub mod Scene
+pub mod Lines
+pub mod Saving
+pub mod Owned
+pub mod Reloading
