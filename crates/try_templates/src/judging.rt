@@ -10,7 +10,7 @@ use sel_terms::{
 };
 use std::alloc::Global;
 use term_core::Fact;
-use vax_target::Vax;
+use vax_target::found::{found, saved_found};
 
 // The lines that save and reload, in their order.
 const SAVED: [Kind; 8] = [
@@ -77,7 +77,7 @@ fn wanted_of(alloc: Global, kind: Kind) -> Effect {
 
 fn say_saved(alloc: Global, text: &mut String, kind: Kind, line: &Line) -> Result<(), NoMemory> {
     let wanted = wanted_of(alloc, kind);
-    let found = Vax.spill_effect(alloc, kind, line);
+    let found = saved_found(alloc, kind, line);
     text.push_str("rule 0")?;
     say(alloc, text, &saved_facts(kind), &wanted, found)
 }
@@ -94,7 +94,7 @@ fn say_rule(
     }
     let facts = rule_facts(alloc, rule, classes)?;
     let wanted = pattern_effect(alloc, rule, classes)?;
-    let found = Vax.effect(alloc, rule, classes);
+    let found = found(alloc, rule, classes);
     write!(text, "rule {number}")?;
     say(alloc, text, &facts, &wanted, found)
 }

@@ -1,11 +1,11 @@
 // What a line of a template does, and what is wrong with it.
-ghost use Rattle.std.specs.Prelude.{◌≡◌, IfOk, Ok};
+ghost use Rattle.std.specs.Prelude.{◌≡◌, IfOk, Ok, map, ◌∷◌, []};
 ghost use Rattle.std.specs.List.{list_any};
 ghost use Rattle.std.specs.Option.{option_map};
 ghost use Rattle.term_core.specs.Shape.{shape_of};
 ghost use Rattle.sel_terms.specs.Effects.{act_of};
 ghost use Rattle.vax_templates.specs.Judging.{leaves, ends, ends_statement, is_relation, branches, is_movl, is_last_result, puts, put};
-ghost use Rattle.vax_templates.specs.Judging.{computed, acted};
+ghost use Rattle.vax_templates.specs.Judging.{divided, computed, acted};
 ghost use Rattle.vax_templates.specs.Judging.{is_operand, index_is_operand, base_spells, spells_symbol, is_disordered, in_order, checked};
 ghost use Rattle.vax_templates.specs.Judging.{operated};
 ghost use Rattle.vax_templates.specs.Judging.{instruction_did, returned, did_behind, line_did};
@@ -135,6 +135,28 @@ fn put_at(alloc: Global, op: Op, to: Option<Destination>, t: Term) -> Result<Ste
     }
 }
 
+// The one term as a list.
+fn only(alloc: Global, t: Term) -> Result<Vec<Term>, NoMemory>
+    ensures { IfOk result (λ v. map shape_of v.items ≡ shape_of t ∷ []) }
+{
+    let mut terms = Vec::new(alloc);
+    terms.push(t)?;
+    Ok(terms)
+}
+
+// The step divides by this.
+fn divided(alloc: Global, mut step: Step, divisor: Term) -> Result<Step, Refusal>
+    ensures { Judges deed_of result (divided (shape_of divisor) (deed_of step)) }
+{
+    match only(alloc, divisor) {
+        Ok(divisors) => {
+            step.divisors = divisors;
+            Ok(step)
+        }
+        Err(NoMemory) => Err(Refusal::NoMemory),
+    }
+}
+
 fn computed(
     alloc: Global,
     op: Op,
@@ -145,15 +167,25 @@ fn computed(
 {
     match outcome {
         Outcome::Computes(t) => put_at(alloc, op, to, t),
-        Outcome::Divides(t, divisor) => {
-            let mut step = put_at(alloc, op, to, t)?;
-            let mut divisors = Vec::new(alloc);
-            divisors.push(divisor)?;
-            step.divisors = divisors;
-            Ok(step)
-        }
+        Outcome::Divides(t, divisor) => match put_at(alloc, op, to, t) {
+            Ok(step) => divided(alloc, step, divisor),
+            Err(refusal) => Err(refusal),
+        },
         Outcome::Compares(a, b) => Ok(leaves(alloc, Before::Compared(a, b))),
         Outcome::Tests(t) => Ok(leaves(alloc, Before::Tested(t))),
+    }
+}
+
+// The step, if no operand has another size and it does not come in disorder.
+fn in_order(disordered: bool, step: Step) -> Result<Step, Refusal>
+    ensures { Judges deed_of result (in_order disordered (deed_of step)) }
+{
+    if step.is_missized {
+        Err(Refusal::Wrong(TemplateKind::WrongSize))
+    } else if disordered {
+        Err(Refusal::Wrong(TemplateKind::Order))
+    } else {
+        Ok(step)
     }
 }
 
@@ -251,8 +283,10 @@ impl<'a> Template<'a> {
     {
         match action {
             Action::Compute(function) => {
-                let outcome = given(self.alloc, function, &arguments.first, &arguments.second)?;
-                computed(self.alloc, op, arguments.destination, outcome)
+                match given(self.alloc, function, &arguments.first, &arguments.second) {
+                    Ok(outcome) => computed(self.alloc, op, arguments.destination, outcome),
+                    Err(NoMemory) => Err(Refusal::NoMemory),
+                }
             }
             Action::Push => self.ends_statement(Act::Push(arguments.first)),
             Action::Branch(_) | Action::Call | Action::Return => Err(NOT_INSTR),
@@ -279,16 +313,14 @@ impl<'a> Template<'a> {
         let mut arguments = self.all_evaluated(zero, op.shape().operands, forms)?;
         let is_missized = arguments.is_missized;
         let reads = std::mem::replace(&mut arguments.reads, Vec::new(self.alloc));
-        let mut step = self.acted(action_of(op), op, arguments)?;
-        step.reads = reads;
-        step.is_missized = is_missized;
-        if is_missized {
-            return Err(Refusal::Wrong(TemplateKind::WrongSize));
+        match self.acted(action_of(op), op, arguments) {
+            Ok(mut step) => {
+                step.reads = reads;
+                step.is_missized = is_missized;
+                in_order(self.is_disordered(is_first, zero, forms, &step), step)
+            }
+            Err(refusal) => Err(refusal),
         }
-        if self.is_disordered(is_first, zero, forms, &step) {
-            return Err(Refusal::Wrong(TemplateKind::Order));
-        }
-        Ok(step)
     }
 
     fn instruction_did(

@@ -4,7 +4,7 @@
 mod action;
 mod filling;
 mod form;
-mod found;
+pub mod found;
 mod giving;
 mod instruction;
 mod judging;
@@ -17,4 +17,4 @@ mod taking;
 mod vax;
 mod word;
 
-pub use vax::Vax;
+pub use vax::{State, Vax};
