@@ -1,0 +1,10 @@
+pub mod Effects
+pub mod Giving
+pub mod Homes
+pub mod Reducing
+pub mod Shapes
+pub mod Gives
+pub mod Doing
+pub mod Growing
+pub mod Interpreting
+pub mod Final

@@ -1,0 +1,9 @@
+pub mod Symbols
+pub mod Loaded
+pub mod Carrying
+pub mod Instances
+pub mod Keeping
+pub mod Parting
+pub mod Saving
+pub mod Desks
+pub mod Laws
