@@ -58,7 +58,7 @@ use Rattle.vax_target_operands.specs.Conditions as codes
 use Rattle.vax_target_operands.proofs.Binds.{err_ok, ok_same, Chained, chained, cond_ok}
 use Rattle.vax_target_operands.proofs.Tables.{functions_mean}
 use Rattle.vax_target_lines.specs.Takings.{IsTarget, IsDestination, AreRead, CanAim, AreOfSize, AtSize, last_size, AreArguments, aims, LastIsWritten, MayStand, Takes}
-use Rattle.vax_target_lines.specs.Lines.{CodesMean, ZeroHolds, IsStored, putting, Puts, IsMet, DoesDeed, with_own, with_last, GoesOn, DoesLine, terms_of_last, NoneIsZero, LinesDo, LinesTrap}
+use Rattle.vax_target_lines.specs.Lines.{CodesMean, ZeroHolds, IsStored, putting, Puts, IsMet, DoesDeed, with_own, with_last, MayEnd, GoesOn, DoesLine, EndIsRead, NoneIsZero, LinesDo, LinesTrap}
 use Rattle.vax_target_lines.proofs.Rows.{Suits, IsRow, row_of}
 use Rattle.vax_target_lines.proofs.Short.{AreShort, IsShortLine, instruction_short}
 use Rattle.vax_target_lines.proofs.Takings.{own_place, all_taken, evaluated_plain}
@@ -113,8 +113,8 @@ module _ (c : Scene) (held : Option Shape) (m : State) (h : Sees c held m) where
   abbrev Did : Deed → Course → Type 0
   Did d did = DoesLine c m d.own did d.last
 
-  ended : (deed : ActShape) (d : Deed) (did : Course) → DoesDeed c m deed did → judging.ends deed ≡ Ok d → Did d did
-  ended deed d did x e = subst (λ (y : Deed). Did y did) (ok_same (leaves (Ended deed)) d e) x
+  ended : (deed : ActShape) (d : Deed) (did : Course) → MayEnd c → DoesDeed c m deed did → judging.ends deed ≡ Ok d → Did d did
+  ended deed d did may x e = subst (λ (y : Deed). Did y did) (ok_same (leaves (Ended deed)) d e) (may, x)
 
   put_did : (op : Op) (to : Option Target) (dest : Option Destination) (t : Shape) (v : ℕ) (k : Conditions) (d : Deed) (size : Size) →
       put op to t ≡ Ok d → v ≡ worth c t → IsDestination c m to dest → AtSize dest size → (is_movl op ≡ true → size ≡ Long) → Did d (storing dest v k)
@@ -128,9 +128,11 @@ module _ (c : Scene) (held : Option Shape) (m : State) (h : Sees c held m) where
             ∙ in_register (register_in c.own) v k (own_low aim.2)
             ∙ ap (λ n. comes (with_conditions (with_reg m (register_in c.own) n) k)) is;
         codes_mean = tt;
+        may = aim.2;
+        last_may = tt;
       })
   put_did op (Some (ToSlot z)) (Some x) t v k d size e is aim at long =
-      ended (act.StoreHome z 0 t) d (storing (Some x) v k)
+      ended (act.StoreHome z 0 t) d (storing (Some x) v k) (inr aim.2)
       (record {
         place = x.location;
         conditions = k;
@@ -138,7 +140,7 @@ module _ (c : Scene) (held : Option Shape) (m : State) (h : Sees c held m) where
         is = stored_there x v k x.location z refl (sym aim.1) ∙ ap (λ n. putting m x.location z n k) is;
       }) e
   put_did op (Some (ToHome z i)) (Some x) t v k d size e is aim at long =
-      ended (act.StoreHome z i t) d (storing (Some x) v k)
+      ended (act.StoreHome z i t) d (storing (Some x) v k) (inl aim.2)
       (record {
         place = x.location;
         conditions = k;
@@ -146,7 +148,7 @@ module _ (c : Scene) (held : Option Shape) (m : State) (h : Sees c held m) where
         is = stored_there x v k x.location z refl (sym aim.1) ∙ ap (λ n. putting m x.location z n k) is;
       }) e
   put_did op (Some (ToMemory z a)) (Some x) t v k d size e is aim at long =
-      ended (act.StoreAt z a t) d (storing (Some x) v k)
+      ended (act.StoreAt z a t) d (storing (Some x) v k) (inl aim.2)
       (record {
         place = x.location;
         conditions = k;
@@ -158,8 +160,10 @@ module _ (c : Scene) (held : Option Shape) (m : State) (h : Sees c held m) where
       subst (λ (y : Deed). Did y (storing (Some x) v k)) r.1
       (record {
         conditions = k;
-        is = stored_there x v k (locations.Register R0) Long aim (at ∙ long r.0) ∙ in_register R0 v k (omega arith) ∙ ap (λ n. comes (with_conditions (with_reg m R0 n) k)) is;
+        is = stored_there x v k (locations.Register R0) Long aim.0 (at ∙ long r.0) ∙ in_register R0 v k (omega arith) ∙ ap (λ n. comes (with_conditions (with_reg m R0 n) k)) is;
         codes_mean = tt;
+        may = tt;
+        last_may = aim.1;
       })
   put_did op (Some (ToSaved i)) (Some x) t v k d size e is aim at long = by (is_movl op && is_last_result t) refl e where
     left : (a b : Bool) → (a && b) ≡ true → a ≡ true
@@ -182,11 +186,11 @@ module _ (c : Scene) (held : Option Shape) (m : State) (h : Sees c held m) where
     by false q e = absurd (err_ok _ d e)
     by true q e =
         let size_is = at ∙ long (left (is_movl op) (is_last_result t) q) in
-        ended (act.Save i) d (storing (Some x) v k)
+        ended (act.Save i) d (storing (Some x) v k) (inl aim.2)
         (record {
           place = x.location;
           conditions = k;
-          there = subst (λ y. StandsAt m (operand_in c.program (filling_at c i)) y x.location) size_is aim;
+          there = (subst (λ y. StandsAt m (operand_in c.program (filling_at c i)) y x.location) size_is aim.0, aim.1);
           is = stored_there x v k x.location Long refl size_is
               ∙ ap (λ n. putting m x.location Long n k) (is ∙ ap (worth c) (last_is t (right (is_movl op) (is_last_result t) q)));
         }) e
@@ -229,6 +233,8 @@ module _ (c : Scene) (held : Option Shape) (m : State) (h : Sees c held m) where
         conditions = x.result.conditions;
         is = ap (λ y. course_of (finished m dest y)) x.is ∙ ap (λ y. storing y x.result.value x.result.conditions) none ∙ codes_only x.result;
         codes_mean = x.so;
+        may = tt;
+        last_may = tt;
       })
   computed_did op to (Tests t) o dest d size e x aim at long plain some =
       let none = no_aim dest (subst (λ y. IsDestination c m y dest) (plain refl) aim) in
@@ -237,6 +243,8 @@ module _ (c : Scene) (held : Option Shape) (m : State) (h : Sees c held m) where
         conditions = x.result.conditions;
         is = ap (λ y. course_of (finished m dest y)) x.is ∙ ap (λ y. storing y x.result.value x.result.conditions) none ∙ codes_only x.result;
         codes_mean = x.so;
+        may = tt;
+        last_may = tt;
       })
 
   -- ---- functions and their operands
@@ -299,23 +307,23 @@ module _ (c : Scene) (held : Option Shape) (m : State) (h : Sees c held m) where
 
   -- ---- what is written can be found
 
-  put_aims : (op : Op) (to : Option Target) (t : Shape) (d : Deed) → put op to t ≡ Ok d → AreRead c (terms_of_last d.last) → CanAim c to
+  put_aims : (op : Op) (to : Option Target) (t : Shape) (d : Deed) → put op to t ≡ Ok d → EndIsRead c d.last → CanAim c to
   put_aims op None t d e reads = tt
   put_aims op (Some ToOwn) t d e reads = tt
   put_aims op (Some (ToSlot z)) t d e reads = tt
   put_aims op (Some (ToHome z i)) t d e reads = tt
-  put_aims op (Some (ToMemory z a)) t d e reads = (subst (λ (y : Deed). AreRead c (terms_of_last y.last)) (sym (ok_same (leaves (Ended (act.StoreAt z a t))) d e)) reads).0
+  put_aims op (Some (ToMemory z a)) t d e reads = λ is. (subst (λ (y : Deed). EndIsRead c y.last) (sym (ok_same (leaves (Ended (act.StoreAt z a t))) d e)) reads is).0
   put_aims op (Some ToZero) t d e reads = tt
   put_aims op (Some (ToSaved i)) t d e reads = tt
 
   none_aims : (to : Option Target) → to ≡ None → CanAim c to
   none_aims to e = subst (CanAim c) (sym e) tt
 
-  computed_aims : (op : Op) (to : Option Target) (g : Given) (d : Deed) → computed op to g ≡ Ok d → (no_result g ≡ true → to ≡ None) → AreRead c (terms_of_last d.last) → CanAim c to
+  computed_aims : (op : Op) (to : Option Target) (g : Given) (d : Deed) → computed op to g ≡ Ok d → (no_result g ≡ true → to ≡ None) → EndIsRead c d.last → CanAim c to
   computed_aims op to (Computes t) d e plain reads = put_aims op to t d e reads
   computed_aims op to (Divides t w) d e plain reads =
       let u = chained (put op to t) (divided w) d e in
-      put_aims op to t u.first u.is (subst (λ (y : Deed). AreRead c (terms_of_last y.last)) (sym (ok_same (record u.first { divisors = w ∷ [] }) d u.then_so)) reads)
+      put_aims op to t u.first u.is (subst (λ (y : Deed). EndIsRead c y.last) (sym (ok_same (record u.first { divisors = w ∷ [] }) d u.then_so)) reads)
   computed_aims op to (Compares a b) d e plain reads = none_aims to (plain refl)
   computed_aims op to (Tests t) d e plain reads = none_aims to (plain refl)
 
@@ -323,7 +331,7 @@ module _ (c : Scene) (held : Option Shape) (m : State) (h : Sees c held m) where
   push_plain ks s = subst ArePlain (sym s) (refl, tt)
 
   acted_aims : (a : Action) (op : Op) (fs : List Form) (x : Arguments) (ks : List OperandKind) (d : Deed) → Suits a ks → all_evaluated c.setting c.roles held ks fs ≡ Ok x →
-      acted c.setting a op x ≡ Ok d → AreRead c (terms_of_last d.last) → CanAim c x.target
+      acted c.setting a op x ≡ Ok d → EndIsRead c d.last → CanAim c x.target
   acted_aims (action.Compute f) op fs x ks d s e is reads =
       computed_aims op x.target (given f x.first x.second) d is (λ no. all_plain ks fs x (given_plain f x.first x.second ks s no) e) reads
   acted_aims action.Push op fs x ks d s e is reads = none_aims x.target (all_plain ks fs x (push_plain ks s) e)
@@ -337,8 +345,12 @@ module _ (c : Scene) (held : Option Shape) (m : State) (h : Sees c held m) where
   statement_of true deed d e = ok_same (leaves (Ended deed)) d e
   statement_of false deed d e = absurd (err_ok _ d e)
 
-  statement_did : (b : Bool) (deed : ActShape) (d : Deed) (did : Course) → cond b (judging.ends deed) (Err NotInstr) ≡ Ok d → DoesDeed c m deed did → Did d did
-  statement_did b deed d did e x = subst (λ (y : Deed). Did y did) (statement_of b deed d e) x
+  statement_true : (b : Bool) (deed : ActShape) (d : Deed) → cond b (judging.ends deed) (Err NotInstr) ≡ Ok d → b ≡ true
+  statement_true true deed d e = refl
+  statement_true false deed d e = absurd (err_ok _ d e)
+
+  statement_did : (b : Bool) (deed : ActShape) (d : Deed) (did : Course) → c.setting.is_statement ≡ b → cond b (judging.ends deed) (Err NotInstr) ≡ Ok d → DoesDeed c m deed did → Did d did
+  statement_did b deed d did is e x = subst (λ (y : Deed). Did y did) (statement_of b deed d e) (inl (is ∙ statement_true b deed d e), x)
 
   computes_so : (f : Function) (x : Arguments) (y : Numbers) (ks : List OperandKind) → Suits (action.Compute f) ks → AreArguments c m ks x y →
       IsGiven c (given f x.first x.second) (applied f y.first y.second m.conditions.carry)
@@ -354,7 +366,7 @@ module _ (c : Scene) (held : Option Shape) (m : State) (h : Sees c held m) where
       computed_did op x.target (given f x.first x.second) _ y.destination d (last_size ks) is (computes_so f x y ks s a) a.destination a.at_size long
       (λ no. all_plain ks fs x (given_plain f x.first x.second ks s no) e) some
   acted_did action.Push op fs x y ks d s e long is a some =
-      statement_did c.setting.is_statement (act.Push x.first) d (course_of (pushing m y.first)) is (ap (λ n. course_of (pushing m n)) a.first)
+      statement_did c.setting.is_statement (act.Push x.first) d (course_of (pushing m y.first)) refl is (ap (λ n. course_of (pushing m n)) a.first)
   acted_did (action.Branch t) op fs x y ks d s e long is a some = absurd (err_ok _ d is)
   acted_did action.Call op fs x y ks d s e long is a some = absurd (err_ok _ d is)
   acted_did action.Return op fs x y ks d s e long is a some = absurd (err_ok _ d is)
@@ -406,7 +418,7 @@ module _ (c : Scene) (held : Option Shape) (m : State) (h : Sees c held m) where
   unfolding performed
   performed_is op fs x t = ap (evaluated_then (record { op = op; operands = map (filled c.program c.holes c.own) (take 3 fs); target = None })) t.is
 
-  operated_ran : (is_first : Bool) (op : Op) (fs : List Form) (d : Deed) → AreShort fs → operated c.setting c.roles is_first held op fs ≡ Ok d → AreRead c d.reads → AreRead c (terms_of_last d.last) →
+  operated_ran : (is_first : Bool) (op : Op) (fs : List Form) (d : Deed) → AreShort fs → operated c.setting c.roles is_first held op fs ≡ Ok d → AreRead c d.reads → EndIsRead c d.last →
       Ran op fs d (performed (record { op = op; operands = map (filled c.program c.holes c.own) (take 3 fs); target = None }) m)
   unfolding operated
   operated_ran is_first op fs d short e reads ends_read =
@@ -416,7 +428,7 @@ module _ (c : Scene) (held : Option Shape) (m : State) (h : Sees c held m) where
       let o = in_order_ok (is_disordered c.setting c.roles is_first held fs u.first) (with_reads x.first u.first) d u.then_so in
       let t = all_taken c held m h 3 (shape op).operands fs x.first row.last row.few (spelled fs short (may_spell fs held (not is_first && has_some u.first.divisors) o.1)) x.is o.0
       (subst (λ (y : Deed). AreRead c y.reads) (sym o.2) reads)
-      (acted_aims (action_of op) op fs x.first (shape op).operands u.first row.suits x.is u.is (subst (λ (y : Deed). AreRead c (terms_of_last y.last)) (sym o.2) ends_read)) in
+      (acted_aims (action_of op) op fs x.first (shape op).operands u.first row.suits x.is u.is (subst (λ (y : Deed). EndIsRead c y.last) (sym o.2) ends_read)) in
       record {
         arguments = x.first;
         numbers = t.numbers;
@@ -428,7 +440,7 @@ module _ (c : Scene) (held : Option Shape) (m : State) (h : Sees c held m) where
         is = performed_is op fs x.first t;
       }
 
-  operated_did : (is_first : Bool) (op : Op) (fs : List Form) (d : Deed) → AreShort fs → operated c.setting c.roles is_first held op fs ≡ Ok d → AreRead c d.reads → AreRead c (terms_of_last d.last) →
+  operated_did : (is_first : Bool) (op : Op) (fs : List Form) (d : Deed) → AreShort fs → operated c.setting c.roles is_first held op fs ≡ Ok d → AreRead c d.reads → EndIsRead c d.last →
       NoneIsZero c d.divisors → Did d (performed (record { op = op; operands = map (filled c.program c.holes c.own) (take 3 fs); target = None }) m)
   operated_did is_first op fs d short e reads ends_read some =
       let r = operated_ran is_first op fs d short e reads ends_read in
@@ -448,10 +460,10 @@ module _ (c : Scene) (held : Option Shape) (m : State) (h : Sees c held m) where
 
   branches_did : (i : ℕ) (before : Last) (d : Deed) → CodesMean c m.conditions before → branches c.setting i before ≡ Ok d → Did d (performed (F (Relation i)) m)
   branches_did i Plain d k e = absurd (err_ok _ d e)
-  branches_did i (Compared a b) d k e = statement_did c.setting.is_statement (act.Branch i a b) d _ e (inl k, refl)
+  branches_did i (Compared a b) d k e = statement_did c.setting.is_statement (act.Branch i a b) d _ refl e (inl k, refl)
   branches_did i (Tested t) d k e = by c.setting.is_signed refl e where
     by : (b : Bool) → c.setting.is_signed ≡ b → cond b (ends_statement c.setting (act.Branch i t (Constant 0))) (Err NotInstr) ≡ Ok d → Did d (performed (F (Relation i)) m)
-    by true is e = statement_did c.setting.is_statement (act.Branch i t (Constant 0)) d _ e (inr (is, refl, k), refl)
+    by true is e = statement_did c.setting.is_statement (act.Branch i t (Constant 0)) d _ refl e (inr (is, refl, k), refl)
     by false is e = absurd (err_ok _ d e)
   branches_did i (Returning t) d k e = absurd (err_ok _ d e)
   branches_did i (Ended deed) d k e = absurd (err_ok _ d e)
@@ -463,22 +475,22 @@ module _ (c : Scene) (held : Option Shape) (m : State) (h : Sees c held m) where
     by false e = absurd (err_ok _ d e)
 
   instruction_did_so : (is_first : Bool) (before : Last) (i : Instruction) (d : Deed) → IsShortLine i → CodesMean c m.conditions before → instruction_did c.setting c.roles is_first held before i ≡ Ok d →
-      AreRead c d.reads → AreRead c (terms_of_last d.last) → NoneIsZero c d.divisors → Did d (performed (F i) m)
+      AreRead c d.reads → EndIsRead c d.last → NoneIsZero c d.divisors → Did d (performed (F i) m)
   instruction_did_so is_first before (Relation i) d short k e reads ends_read some = relation_did (hole_at c.roles i) i before d k e
-  instruction_did_so is_first before Jump d short k e reads ends_read some = statement_did c.setting.is_statement act.Jump d _ e refl
-  instruction_did_so is_first before Calls d short k e reads ends_read some = statement_did c.setting.is_statement act.Call d _ e refl
+  instruction_did_so is_first before Jump d short k e reads ends_read some = statement_did c.setting.is_statement act.Jump d _ refl e refl
+  instruction_did_so is_first before Calls d short k e reads ends_read some = statement_did c.setting.is_statement act.Call d _ refl e refl
   instruction_did_so is_first before Ret d short k e reads ends_read some = absurd (err_ok _ d e)
   instruction_did_so is_first before (Operates op fs) d short k e reads ends_read some = operated_did is_first op fs d short e reads ends_read some
 
-  returned_did : (t : Shape) (i : Instruction) (d : Deed) → reg m R0 ≡ worth c t → returned t i ≡ Ok d → Did d (performed (F i) m)
+  returned_did : (t : Shape) (i : Instruction) (d : Deed) → ZeroHolds c m (Returning t) → returned t i ≡ Ok d → Did d (performed (F i) m)
   returned_did t (Relation i) d holds e = absurd (err_ok _ d e)
   returned_did t Jump d holds e = absurd (err_ok _ d e)
   returned_did t Calls d holds e = absurd (err_ok _ d e)
-  returned_did t Ret d holds e = ended (act.Return t) d (performed plain_return m) (returns_so, holds) e
+  returned_did t Ret d holds e = ended (act.Return t) d (performed plain_return m) (inl holds.1) (returns_so, holds.0) e
   returned_did t (Operates op fs) d holds e = absurd (err_ok _ d e)
 
   behind_did : (is_first : Bool) (before : Last) (i : Instruction) (d : Deed) → IsShortLine i → CodesMean c m.conditions before → ZeroHolds c m before →
-      did_behind c.setting c.roles is_first held before i ≡ Ok d → AreRead c d.reads → AreRead c (terms_of_last d.last) → NoneIsZero c d.divisors → Did d (performed (F i) m)
+      did_behind c.setting c.roles is_first held before i ≡ Ok d → AreRead c d.reads → EndIsRead c d.last → NoneIsZero c d.divisors → Did d (performed (F i) m)
   behind_did is_first Plain i d short k z e reads ends_read some = instruction_did_so is_first Plain i d short k e reads ends_read some
   behind_did is_first (Compared a b) i d short k z e reads ends_read some = instruction_did_so is_first (Compared a b) i d short k e reads ends_read some
   behind_did is_first (Tested t) i d short k z e reads ends_read some = instruction_did_so is_first (Tested t) i d short k e reads ends_read some
@@ -490,7 +502,7 @@ module _ (c : Scene) (held : Option Shape) (m : State) (h : Sees c held m) where
   read_is (Some j) i e = ap Some (ok_same j i e)
 
   pub line_did_so : (is_first : Bool) (before : Last) (ps : List Piece) (d : Deed) → CodesMean c m.conditions before → ZeroHolds c m before → line_did c.setting c.roles is_first held before ps ≡ Ok d →
-      AreRead c d.reads → AreRead c (terms_of_last d.last) → NoneIsZero c d.divisors → Did d (performed (filled_line c.program ps c.holes c.own) m)
+      AreRead c d.reads → EndIsRead c d.last → NoneIsZero c d.divisors → Did d (performed (filled_line c.program ps c.holes c.own) m)
   unfolding line_did
   line_did_so is_first before ps d k z e reads ends_read some =
       let i = chained (judging.read (instruction_of ps)) (did_behind c.setting c.roles is_first held before) d e in
@@ -543,7 +555,7 @@ module _ (c : Scene) (held : Option Shape) (m : State) (h : Sees c held m) where
   acted_trap action.Return op x y ks d w s is a ds z = absurd (err_ok _ d is)
 
   operated_trap : (is_first : Bool) (op : Op) (fs : List Form) (d : Deed) (w : Shape) → AreShort fs → operated c.setting c.roles is_first held op fs ≡ Ok d → AreRead c d.reads →
-      AreRead c (terms_of_last d.last) → d.divisors ≡ w ∷ [] → worth c w ≡ 0 → performed (F (Operates op fs)) m ≡ ends (Stops Trapped)
+      EndIsRead c d.last → d.divisors ≡ w ∷ [] → worth c w ≡ 0 → performed (F (Operates op fs)) m ≡ ends (Stops Trapped)
   operated_trap is_first op fs d w short e reads ends_read ds z =
       let r = operated_ran is_first op fs d short e reads ends_read in
       r.is ∙ acted_trap (action_of op) op r.arguments r.numbers (shape op).operands r.acts w (row_of op).suits r.acted_so r.are (ap (λ (y : Deed). y.divisors) r.same ∙ ds) z
@@ -559,7 +571,7 @@ module _ (c : Scene) (held : Option Shape) (m : State) (h : Sees c held m) where
   branches_undivided i (Ended deed) d e = absurd (err_ok _ d e)
 
   instruction_trap : (is_first : Bool) (before : Last) (i : Instruction) (d : Deed) (w : Shape) → IsShortLine i → instruction_did c.setting c.roles is_first held before i ≡ Ok d →
-      AreRead c d.reads → AreRead c (terms_of_last d.last) → d.divisors ≡ w ∷ [] → worth c w ≡ 0 → performed (F i) m ≡ ends (Stops Trapped)
+      AreRead c d.reads → EndIsRead c d.last → d.divisors ≡ w ∷ [] → worth c w ≡ 0 → performed (F i) m ≡ ends (Stops Trapped)
   instruction_trap is_first before (Relation i) d w short e reads ends_read ds z = absurd (no_divisor d.divisors w (by (is_relation (hole_at c.roles i)) e) ds) where
     by : (b : Bool) → cond b (branches c.setting i before) (Err NotInstr) ≡ Ok d → d.divisors ≡ []
     by true e = branches_undivided i before d e
@@ -577,7 +589,7 @@ module _ (c : Scene) (held : Option Shape) (m : State) (h : Sees c held m) where
   returned_undivided t (Operates op fs) d e = absurd (err_ok _ d e)
 
   behind_trap : (is_first : Bool) (before : Last) (i : Instruction) (d : Deed) (w : Shape) → IsShortLine i → did_behind c.setting c.roles is_first held before i ≡ Ok d →
-      AreRead c d.reads → AreRead c (terms_of_last d.last) → d.divisors ≡ w ∷ [] → worth c w ≡ 0 → performed (F i) m ≡ ends (Stops Trapped)
+      AreRead c d.reads → EndIsRead c d.last → d.divisors ≡ w ∷ [] → worth c w ≡ 0 → performed (F i) m ≡ ends (Stops Trapped)
   behind_trap is_first Plain i d w short e reads ends_read ds z = instruction_trap is_first Plain i d w short e reads ends_read ds z
   behind_trap is_first (Compared a b) i d w short e reads ends_read ds z = instruction_trap is_first (Compared a b) i d w short e reads ends_read ds z
   behind_trap is_first (Tested t) i d w short e reads ends_read ds z = instruction_trap is_first (Tested t) i d w short e reads ends_read ds z
@@ -585,7 +597,7 @@ module _ (c : Scene) (held : Option Shape) (m : State) (h : Sees c held m) where
   behind_trap is_first (Ended deed) i d w short e reads ends_read ds z = absurd (err_ok _ d e)
 
   pub line_trap_so : (is_first : Bool) (before : Last) (ps : List Piece) (d : Deed) (w : Shape) → line_did c.setting c.roles is_first held before ps ≡ Ok d →
-      AreRead c d.reads → AreRead c (terms_of_last d.last) → d.divisors ≡ w ∷ [] → worth c w ≡ 0 → performed (filled_line c.program ps c.holes c.own) m ≡ ends (Stops Trapped)
+      AreRead c d.reads → EndIsRead c d.last → d.divisors ≡ w ∷ [] → worth c w ≡ 0 → performed (filled_line c.program ps c.holes c.own) m ≡ ends (Stops Trapped)
   unfolding line_did
   line_trap_so is_first before ps d w e reads ends_read ds z =
       let i = chained (judging.read (instruction_of ps)) (did_behind c.setting c.roles is_first held before) d e in

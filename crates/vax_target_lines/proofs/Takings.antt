@@ -285,6 +285,10 @@ module _ (c : Scene) (held : Option Shape) (m : State) (h : Sees c held m) where
 
   -- ---- what is written
 
+  statement_true : {A : Type 0} (b : Bool) (x : Result A TemplateKind) (y : A) → cond b x (Err NotInstr) ≡ Ok y → b ≡ true
+  statement_true true x y e = refl
+  statement_true false x y e = absurd (err_ok _ y e)
+
   statement_of : {A : Type 0} (b : Bool) (x : Result A TemplateKind) (y : A) → cond b x (Err NotInstr) ≡ Ok y → x ≡ Ok y
   statement_of true x y e = e
   statement_of false x y e = absurd (err_ok _ y e)
@@ -318,7 +322,8 @@ module _ (c : Scene) (held : Option Shape) (m : State) (h : Sees c held m) where
   targeted_can (SavedPlace z i) size x p e none can = absurd (err_ok _ x (statement_of c.setting.is_statement _ x e))
   targeted_can (Saved i) size x p e none can = tt
   targeted_can (At a q) size x p e none can =
-      p (subst (λ (y : Target × Bool). CanAim c (Some y.0)) (sym (memory_target_is c.setting.own a size x (statement_of c.setting.is_statement _ x e))) can)
+      p (subst (λ (y : Target × Bool). CanAim c (Some y.0)) (sym (memory_target_is c.setting.own a size x (statement_of c.setting.is_statement _ x e))) can
+      (statement_true c.setting.is_statement _ x e))
 
   abbrev IsAimed : Location → Size → Target × Bool → Type 0
   IsAimed l size x = x.1 ≡ false → IsTarget c m x.0 l size
@@ -336,14 +341,14 @@ module _ (c : Scene) (held : Option Shape) (m : State) (h : Sees c held m) where
   targeted_means (Register a) size x l e is = absurd (err_ok _ x (statement_of c.setting.is_statement _ x e))
   targeted_means OwnRegister size x l e is = own_aimed c.setting.own size x l refl e is
   targeted_means RegisterZero size x l e is =
-      subst (IsAimed l size) (zero_target_is c.setting.opening x (statement_of c.setting.is_statement _ x e)) (λ none. is)
+      subst (IsAimed l size) (zero_target_is c.setting.opening x (statement_of c.setting.is_statement _ x e)) (λ none. (is, statement_true c.setting.is_statement _ x e))
   targeted_means (Value z i) size x l e is = absurd (err_ok _ x (statement_of c.setting.is_statement _ x e))
-  targeted_means (Place z i) size x l e is = subst (IsAimed l size) (ok_same _ x (statement_of c.setting.is_statement _ x e)) (λ none. (is, refl))
-  targeted_means (Local i) size x l e is = subst (IsAimed l size) (ok_same _ x (statement_of c.setting.is_statement _ x e)) (λ none. (is.0, refl))
+  targeted_means (Place z i) size x l e is = subst (IsAimed l size) (ok_same _ x (statement_of c.setting.is_statement _ x e)) (λ none. (is, refl, statement_true c.setting.is_statement _ x e))
+  targeted_means (Local i) size x l e is = subst (IsAimed l size) (ok_same _ x (statement_of c.setting.is_statement _ x e)) (λ none. (is.0, refl, statement_true c.setting.is_statement _ x e))
   targeted_means (SavedPlace z i) size x l e is = absurd (err_ok _ x (statement_of c.setting.is_statement _ x e))
-  targeted_means (Saved i) size x l e is = subst (IsAimed l size) (ok_same _ x (statement_of c.setting.is_statement _ x e)) (λ none. is)
+  targeted_means (Saved i) size x l e is = subst (IsAimed l size) (ok_same _ x (statement_of c.setting.is_statement _ x e)) (λ none. (is.0, is.1, statement_true c.setting.is_statement _ x e))
   targeted_means (At a p) size x l e is =
-      subst (IsAimed l size) (memory_target_is c.setting.own a size x (statement_of c.setting.is_statement _ x e)) (λ none. (is, refl))
+      subst (IsAimed l size) (memory_target_is c.setting.own a size x (statement_of c.setting.is_statement _ x e)) (λ none. (is, refl, statement_true c.setting.is_statement _ x e))
 
   -- ---- by the operand's access
 

@@ -23,7 +23,7 @@ use Rattle.vax_templates.specs.declared.setting.Own.TheVariants as own
 use Rattle.vax_templates.specs.Judging.{Last, Plain, Compared, Tested, Returning, Ended, Deed, line_did}
 use Rattle.vax_templates.specs.Filled.{register_in, operand_in}
 use Rattle.vax_templates.specs.FilledLines.{op_in, branch_to, call_of, callee_among, filled_line}
-use Rattle.vax_target_operands.specs.Scenes.{Scene, worth, filling_at, Sees}
+use Rattle.vax_target_operands.specs.Scenes.{Scene, worth, filling_at, IsSavedLocal, Sees}
 use Rattle.vax_target_operands.specs.Places.{StandsAt, IsHome}
 use Rattle.vax_target_operands.specs.Conditions as codes
 use Rattle.vax_target_lines.specs.Takings.{AreRead}
@@ -38,7 +38,7 @@ CodesMean c k (Ended deed) = Unit {0}
 
 -- a value that is to be returned is in register 0
 abbrev pub ZeroHolds : Scene → State → Last → Type 0
-ZeroHolds c m (Returning t) = reg m R0 ≡ worth c t
+ZeroHolds c m (Returning t) = (reg m R0 ≡ worth c t) × (c.setting.is_statement ≡ true)
 ZeroHolds c m l = Unit {0}
 
 -- the place that a line saves in, or a symbol's own
@@ -59,19 +59,20 @@ pub record Puts (c : Scene) (m : State) (size : Size) (v : ℕ) (IsThere : Locat
 abbrev pub IsMet : Scene → Conditions → Shape → Shape → Type 0
 IsMet c k a b = codes.Compared k (worth c a) (worth c b) ⊎ ((c.setting.is_signed ≡ true) × (b ≡ Constant 0) × codes.Tested k (worth c a))
 
--- what the deed of a last line does
+-- what the deed of a last line does; a value, a number, an address or a place is none
 abbrev pub DoesDeed : Scene → State → ActShape → Course → Type 0
-DoesDeed c m (Value t) did = Unit {0}
-DoesDeed c m (Number t) did = Unit {0}
-DoesDeed c m (Address t) did = Unit {0}
-DoesDeed c m (PlaceHome z i) did = Unit {0}
-DoesDeed c m (PlaceAt z a) did = Unit {0}
+DoesDeed c m (Value t) did = ⊥
+DoesDeed c m (Number t) did = ⊥
+DoesDeed c m (Address t) did = ⊥
+DoesDeed c m (PlaceHome z i) did = ⊥
+DoesDeed c m (PlaceAt z a) did = ⊥
 DoesDeed c m (StoreHome z i t) did = Puts c m z (worth c t) (IsStored c m z i) did
 DoesDeed c m (StoreAt z a t) did = Puts c m z (worth c t) (λ l. l ≡ locations.Memory (worth c a)) did
 DoesDeed c m (Branch i a b) did = IsMet c m.conditions a b × (did ≡ performed (branch_to (op_in (filling_at c i)) c.holes) m)
 DoesDeed c m (Push t) did = did ≡ course_of (pushing m (worth c t))
 DoesDeed c m Call did = did ≡ performed (call_of c.program (callee_among c.holes)) m
-DoesDeed c m (Save i) did = Puts c m Long (worth c LastResult) (StandsAt m (operand_in c.program (filling_at c i)) Long) did
+DoesDeed c m (Save i) did =
+    Puts c m Long (worth c LastResult) (λ l. StandsAt m (operand_in c.program (filling_at c i)) Long l × IsSavedLocal c (filling_at c i)) did
 DoesDeed c m (Return t) did = (did ≡ ends (Returns m)) × (reg m R0 ≡ worth c t)
 DoesDeed c m Jump did = did ≡ performed (branch_to ops.Jbr c.holes) m
 
@@ -84,20 +85,39 @@ abbrev pub with_last : Scene → State → Last → State
 with_last c m (Returning t) = with_reg m R0 (worth c t)
 with_last c m l = m
 
+-- only a statement returns, and only a statement or a line that saves does a deed
+abbrev pub MayReturn : Scene → Last → Type 0
+MayReturn c (Returning t) = c.setting.is_statement ≡ true
+MayReturn c l = Unit {0}
+
+abbrev pub MayEnd : Scene → Type 0
+MayEnd c = (c.setting.is_statement ≡ true) ⊎ ((y : Size) × (c.setting.own ≡ own.Slot y))
+
+-- `%0` is a register, if it has a value
+abbrev pub MayHold : Scene → Option Shape → Type 0
+MayHold c None = Unit {0}
+MayHold c (Some t) = c.setting.own ≡ own.Register
+
 -- the run comes behind a line that puts this into `%0` and leaves that
 pub record GoesOn (c : Scene) (m : State) (own_is : Option Shape) (last : Last) (did : Course) : Type 0 where
   pub conditions : Conditions
   pub is : did ≡ comes (with_conditions (with_last c (with_own c m own_is) last) conditions)
   pub codes_mean : CodesMean c conditions last
+  pub may : MayHold c own_is
+  pub last_may : MayReturn c last
 
 abbrev pub DoesLine : Scene → State → Option Shape → Course → Last → Type 0
-DoesLine c m o did (Ended deed) = DoesDeed c m deed did
+DoesLine c m o did (Ended deed) = MayEnd c × DoesDeed c m deed did
 DoesLine c m o did l = GoesOn c m o l did
 
 -- the terms of a last line's deed
 abbrev pub terms_of_last : Last → List Shape
 terms_of_last (Ended deed) = terms_of_act deed
 terms_of_last l = []
+
+-- they can be read
+abbrev pub EndIsRead : Scene → Last → Type 0
+EndIsRead c l = c.setting.is_statement ≡ true → AreRead c (terms_of_last l)
 
 abbrev pub NoneIsZero : Scene → List Shape → Type 0
 NoneIsZero c ds = AllByRecursion (λ (d : Shape). worth c d ≡ 0 → ⊥) ds
@@ -106,11 +126,11 @@ NoneIsZero c ds = AllByRecursion (λ (d : Shape). worth c d ≡ 0 → ⊥) ds
 abbrev pub LinesDo : Type 0
 LinesDo = (c : Scene) (held : Option Shape) (m : State) (is_first : Bool) (before : Last) (ps : List Piece) (d : Deed) →
     Sees c held m → CodesMean c m.conditions before → ZeroHolds c m before →
-    line_did c.setting c.roles is_first held before ps ≡ Ok d → AreRead c d.reads → AreRead c (terms_of_last d.last) → NoneIsZero c d.divisors →
+    line_did c.setting c.roles is_first held before ps ≡ Ok d → AreRead c d.reads → EndIsRead c d.last → NoneIsZero c d.divisors →
     DoesLine c m d.own (performed (filled_line c.program ps c.holes c.own) m) d.last
 
 -- It traps where its divisor is 0.
 abbrev pub LinesTrap : Type 0
 LinesTrap = (c : Scene) (held : Option Shape) (m : State) (is_first : Bool) (before : Last) (ps : List Piece) (d : Deed) (divisor : Shape) →
-    Sees c held m → line_did c.setting c.roles is_first held before ps ≡ Ok d → AreRead c d.reads → AreRead c (terms_of_last d.last) →
+    Sees c held m → line_did c.setting c.roles is_first held before ps ≡ Ok d → AreRead c d.reads → EndIsRead c d.last →
     d.divisors ≡ divisor ∷ [] → worth c divisor ≡ 0 → performed (filled_line c.program ps c.holes c.own) m ≡ ends (Stops Trapped)

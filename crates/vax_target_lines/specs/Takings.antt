@@ -19,18 +19,19 @@ use Rattle.vax_templates.specs.declared.form.Form.{Form}
 use Rattle.vax_templates.specs.declared.setting.Own.TheVariants as own
 use Rattle.vax_templates.specs.Taking.{Target, ToOwn, ToSlot, ToHome, ToMemory, ToZero, ToSaved, Arguments, all_evaluated}
 use Rattle.vax_templates.specs.Filled.{operand_in, filled}
-use Rattle.vax_target_operands.specs.Scenes.{Scene, worth, filling_at, Sees}
+use Rattle.vax_target_operands.specs.Scenes.{Scene, worth, filling_at, IsSavedLocal, Sees}
 use Rattle.vax_target_operands.specs.Places.{StandsAt, IsHome, BaseIsShort, MayBeRead}
 use Rattle.vax_target_operands.specs.Conditions.{IsNarrow}
 
--- a location is what is to be written
+-- a location is what is to be written; only a statement writes something else than `%0`
 abbrev pub IsTarget : Scene → State → Target → Location → Size → Type 0
 IsTarget c m ToOwn l size = StandsAt m (operand_in c.program c.own) size l × (size ≡ Long) × (c.setting.own ≡ own.Register)
 IsTarget c m (ToSlot z) l size = StandsAt m (operand_in c.program c.own) size l × (z ≡ size) × ((y : Size) × (c.setting.own ≡ own.Slot y))
-IsTarget c m (ToHome z i) l size = IsHome c m i size l × (z ≡ size)
-IsTarget c m (ToMemory z a) l size = (l ≡ locations.Memory (worth c a)) × (z ≡ size)
-IsTarget c m ToZero l size = l ≡ locations.Register R0
-IsTarget c m (ToSaved i) l size = StandsAt m (operand_in c.program (filling_at c i)) size l
+IsTarget c m (ToHome z i) l size = IsHome c m i size l × (z ≡ size) × (c.setting.is_statement ≡ true)
+IsTarget c m (ToMemory z a) l size = (l ≡ locations.Memory (worth c a)) × (z ≡ size) × (c.setting.is_statement ≡ true)
+IsTarget c m ToZero l size = (l ≡ locations.Register R0) × (c.setting.is_statement ≡ true)
+IsTarget c m (ToSaved i) l size =
+    StandsAt m (operand_in c.program (filling_at c i)) size l × IsSavedLocal c (filling_at c i) × (c.setting.is_statement ≡ true)
 
 abbrev pub IsDestination : Scene → State → Option Target → Option Destination → Type 0
 IsDestination c m None None = Unit {0}
@@ -43,7 +44,7 @@ abbrev pub AreRead : Scene → List Shape → Type 0
 AreRead c ts = AllByRecursion (λ (t : Shape). IsRead c.view t) ts
 
 abbrev pub CanAim : Scene → Option Target → Type 0
-CanAim c (Some (ToMemory z a)) = IsRead c.view a
+CanAim c (Some (ToMemory z a)) = c.setting.is_statement ≡ true → IsRead c.view a
 CanAim c t = Unit {0}
 
 -- a number that is read is of the operand's size

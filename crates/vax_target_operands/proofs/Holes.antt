@@ -241,7 +241,7 @@ module _ (c : Scene) (m : State) where
       subst (λ o. StandsAt m o size (locations.Memory (displaced m Fp (word_addr k.local)))) (sym k.is)
       (plain_stands m (home k.local) size (locations.Memory (displaced m Fp (word_addr k.local))) refl
       (named_located m (home k.local).base size (displaced m Fp (word_addr k.local)) refl)) in
-      record { place = locations.Memory (displaced m Fp (word_addr k.local)); at = at; is = at })
+      record { place = locations.Memory (displaced m Fp (word_addr k.local)); at = at; is = (at, k) })
   hole_stands hole.Relation i w size k e can = absurd (err_ok _ w e)
   hole_stands hole.Other i w size k e can = absurd (err_ok _ w e)
 

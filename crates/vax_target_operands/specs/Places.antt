@@ -21,7 +21,7 @@ use Rattle.vax_templates.specs.Standing.{Where, Immediate, Register, OwnRegister
 use Rattle.vax_target_meaning.specs.Reading.{names}
 use Rattle.vax_templates.specs.Judging.{spells_symbol}
 use Rattle.vax_templates.specs.Standing.{form_where}
-use Rattle.vax_target_operands.specs.Scenes.{Scene, worth, filling_at, is_lost, Sees}
+use Rattle.vax_target_operands.specs.Scenes.{Scene, worth, filling_at, IsSavedLocal, is_lost, Sees}
 
 -- the machine finds the operand's place there, and nothing changes by that
 pub record StandsAt (m : State) (o : Operand) (size : Size) (l : Location) : Type 0 where
@@ -52,7 +52,7 @@ IsWhere c m (Value z i) size l = fetched m l size ≡ Ok (worth c (Symbol i))
 IsWhere c m (Place z i) size l = IsHome c m i size l
 IsWhere c m (Local i) size l = IsHome c m i size l × (fetched m l size ≡ Ok (worth c (Symbol i)))
 IsWhere c m (SavedPlace z i) size l = l ≡ locations.Memory (worth c (Symbol i))
-IsWhere c m (Saved i) size l = StandsAt m (operand_in c.program (filling_at c i)) size l
+IsWhere c m (Saved i) size l = StandsAt m (operand_in c.program (filling_at c i)) size l × IsSavedLocal c (filling_at c i)
 IsWhere c m (At a p) size l = l ≡ locations.Memory (worth c a)
 
 abbrev pub IsReadIfAny : Scene → Option Shape → Type 0

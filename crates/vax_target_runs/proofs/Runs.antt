@@ -29,6 +29,7 @@ use Rattle.vax_templates.specs.declared.setting.Hole.TheVariants as hole
 use Rattle.vax_templates.specs.declared.setting.Own.{Own}
 use Rattle.vax_templates.specs.declared.setting.Own.TheVariants as own
 use Rattle.vax_templates.specs.declared.setting.Opening.TheVariants as opening
+use Rattle.vax_templates.specs.declared.setting.Setting.{Setting}
 use Rattle.vax_templates.specs.Standing.{◌>>=◌}
 use Rattle.vax_templates.specs.Instructions.{Instruction, Relation, Jump, Calls as CallsLine, Ret, Operates, instruction_of}
 use Rattle.vax_templates.specs.Judging.{Last, Plain, Compared, Tested, Returning, Ended, Deed, leaves, returned, did_behind, line_did, is_operand}
@@ -40,11 +41,11 @@ use Rattle.vax_target_meaning.specs.Vax.{vax}
 use Rattle.vax_target_operands.specs.Scenes.{Scene, worth, role_at, filling_at, is_lost, Means, OwnIs, Holds, Sees}
 use Rattle.vax_target_operands.proofs.Binds.{err_ok, ok_same, Chained, chained}
 use Rattle.vax_target_lines.specs.Takings.{AreRead}
-use Rattle.vax_target_lines.specs.Lines.{CodesMean, ZeroHolds, DoesDeed, with_own, with_last, GoesOn, DoesLine, terms_of_last, NoneIsZero}
+use Rattle.vax_target_lines.specs.Lines.{CodesMean, ZeroHolds, DoesDeed, with_own, with_last, MayHold, GoesOn, DoesLine, EndIsRead, NoneIsZero}
 use Rattle.vax_target_lines.proofs.Performing.{lines_do}
 use Rattle.vax_target_runs.specs.Kept.{Differs}
 use Rattle.vax_target_runs.proofs.Seen.{means_kept}
-use Rattle.vax_target_runs.specs.Runs.{OwnChanged, ZeroChanged, Changed, SeesBehind, Reaches, EndsIn, ComesTo, RunsTo, IsApart, line_of, AllRead, IsCalm, LinesRun}
+use Rattle.vax_target_runs.specs.Runs.{OwnChanged, ZeroChanged, Changed, SeesBehind, Reaches, IsReturn, EndsIn, ComesTo, RunsTo, IsApart, line_of, AllRead, IsCalm, LinesRun}
 
 -- ---- states that differ
 
@@ -97,19 +98,19 @@ followed_none d = ending_none d.written d.ending
 -- ---- judgements
 
 -- a line that was judged
-pub record IsJudged (c : Scene) (is_first : Bool) (l : Line) (p q : Progress) : Type 0 where
+pub record IsJudged (s : Setting) (roles : List Hole) (is_first : Bool) (l : Line) (p q : Progress) : Type 0 where
   pub deed : Deed
-  pub did : line_did c.setting c.roles is_first p.own p.last l.pieces ≡ Ok deed
+  pub did : line_did s roles is_first p.own p.last l.pieces ≡ Ok deed
   pub is : progressed l.line p deed ≡ q
 
-at_line_is : {A : Type 0} (line : ℕ) (r : Result A TemplateKind) (x : A) → at_line line r ≡ Ok x → r ≡ Ok x
+pub at_line_is : {A : Type 0} (line : ℕ) (r : Result A TemplateKind) (x : A) → at_line line r ≡ Ok x → r ≡ Ok x
 at_line_is line (Ok y) x e = ap (λ z. Ok z) (ok_same y x e)
 at_line_is line (Err k) x e = absurd (err_ok _ x e)
 
-pub judged_is : (c : Scene) (is_first : Bool) (l : Line) (p q : Progress) → judged c.setting c.roles is_first l p ≡ Ok q → IsJudged c is_first l p q
-judged_is c is_first l p q e =
-    let d = chained (at_line l.line (line_did c.setting c.roles is_first p.own p.last l.pieces)) (kept l.line p) q e in
-    record { deed = d.first; did = at_line_is l.line (line_did c.setting c.roles is_first p.own p.last l.pieces) d.first d.is; is = ok_same (progressed l.line p d.first) q d.then_so }
+pub judged_is : (s : Setting) (roles : List Hole) (is_first : Bool) (l : Line) (p q : Progress) → judged s roles is_first l p ≡ Ok q → IsJudged s roles is_first l p q
+judged_is s roles is_first l p q e =
+    let d = chained (at_line l.line (line_did s roles is_first p.own p.last l.pieces)) (kept l.line p) q e in
+    record { deed = d.first; did = at_line_is l.line (line_did s roles is_first p.own p.last l.pieces) d.first d.is; is = ok_same (progressed l.line p d.first) q d.then_so }
 
 all_front : {A : Type 0} (P : A → Type 0) (xs ys : List A) → AllByRecursion P (xs ++ ys) → AllByRecursion P xs
 all_front P [] ys h = tt
@@ -125,14 +126,14 @@ module _ (c : Scene) where
   reads_before [] is_first p q e h = subst (λ (x : Progress). AllRead c x.reads) (sym (ok_same p q e)) h
   reads_before (l ∷ ls) is_first p q e h =
       let d = chained (judged c.setting c.roles is_first l p) (λ (x : Progress). lines_judged c.setting c.roles false x ls) q e in
-      let j = judged_is c is_first l p d.first d.is in
+      let j = judged_is c.setting c.roles is_first l p d.first d.is in
       all_front (λ (r : ℕ × List Shape). AreRead c r.1) p.reads ((l.line, j.deed.reads) ∷ []) (subst (λ (x : Progress). AllRead c x.reads) (sym j.is) (reads_before ls false d.first q d.then_so h))
 
   pub divisors_before : (ls : List Line) (is_first : Bool) (p q : Progress) → lines_judged c.setting c.roles is_first p ls ≡ Ok q → NoneIsZero c q.divisors → NoneIsZero c p.divisors
   divisors_before [] is_first p q e h = subst (λ (x : Progress). NoneIsZero c x.divisors) (sym (ok_same p q e)) h
   divisors_before (l ∷ ls) is_first p q e h =
       let d = chained (judged c.setting c.roles is_first l p) (λ (x : Progress). lines_judged c.setting c.roles false x ls) q e in
-      let j = judged_is c is_first l p d.first d.is in
+      let j = judged_is c.setting c.roles is_first l p d.first d.is in
       all_front (λ (w : Shape). worth c w ≡ 0 → ⊥) p.divisors j.deed.divisors (subst (λ (x : Progress). NoneIsZero c x.divisors) (sym j.is) (divisors_before ls false d.first q d.then_so h))
 
   -- nothing stands behind a deed
@@ -146,7 +147,7 @@ module _ (c : Scene) where
   closed [] is_first p q deed is e = (refl, ap (λ (x : Progress). x.last) (sym (ok_same p q e)) ∙ is)
   closed (l ∷ ls) is_first p q deed is e =
       let d = chained (judged c.setting c.roles is_first l p) (λ (x : Progress). lines_judged c.setting c.roles false x ls) q e in
-      let j = judged_is c is_first l p d.first d.is in
+      let j = judged_is c.setting c.roles is_first l p d.first d.is in
       absurd (nothing_behind is_first p.own deed l.pieces j.deed (subst (λ x. line_did c.setting c.roles is_first p.own x l.pieces ≡ Ok j.deed) is j.did))
 
   -- `ret` stands behind a value that is to be returned
@@ -203,15 +204,15 @@ module _ (c : Scene) (m : State) (apart : IsApart c) (low : reg_number (register
   own_low (Some t) x e = subst (λ y. y < 12) (sym e) low
 
   -- the register of `%0` is no operand's
-  is_off : (i : ℕ) → (c.setting.is_reused ≡ true → is_operand (role_at c i) ≡ false) → is_operand (role_at c i) ≡ true → (x : ℕ) → x ≡ reg_number (register_in c.own) →
+  is_off : c.setting.own ≡ own.Register → (i : ℕ) → (c.setting.is_reused ≡ true → is_operand (role_at c i) ≡ false) → is_operand (role_at c i) ≡ true → (x : ℕ) → x ≡ reg_number (register_in c.own) →
       attr_touches vax (filling_at c i) (RegAt x) ≡ false
-  is_off i free op x e = by c.setting.is_reused refl where
+  is_off may i free op x e = by c.setting.is_reused refl where
     by : (b : Bool) → c.setting.is_reused ≡ b → attr_touches vax (filling_at c i) (RegAt x) ≡ false
     by true is = absurd (let r : true ≡ false = sym op ∙ free is in cc)
-    by false is = ap (λ y. attr_touches vax (filling_at c i) (RegAt y)) e ∙ apart is i op
+    by false is = ap (λ y. attr_touches vax (filling_at c i) (RegAt y)) e ∙ apart may is i op
 
-  sees_own : (held o : Option Shape) (n : State) (k : Conditions) → Sees c held n → Sees c (kept_or_put held o) (with_conditions (with_own c n o) k)
-  sees_own held None n k h = record {
+  sees_own : (held o : Option Shape) (n : State) (k : Conditions) → MayHold c o → Sees c held n → Sees c (kept_or_put held o) (with_conditions (with_own c n o) k)
+  sees_own held None n k may h = record {
     sound = conditions_sound n k h.sound;
     area = h.area;
     means = λ i free. means_kept c (λ x. ⊥) n (with_conditions n k) (codes_differ n k h.sound) (λ x e. absurd e) (role_at c i) i (filling_at c i) (λ op x e. absurd e) (h.means i free);
@@ -219,13 +220,13 @@ module _ (c : Scene) (m : State) (apart : IsApart c) (low : reg_number (register
     holds = holds_kept held n k h.holds;
     answered = h.answered;
   }
-  sees_own held (Some t) n k h =
+  sees_own held (Some t) n k may h =
       let d = set_differs n (register_in c.own) (worth c t) k h.sound (worth_small t) in
       record {
         sound = d.sound;
         area = h.area;
         means = λ i free. means_kept c (λ x. x ≡ reg_number (register_in c.own)) n (with_conditions (with_own c n (Some t)) k) d (λ x e. subst (λ y. y < 12) (sym e) low) (role_at c i) i
-            (filling_at c i) (is_off i free) (h.means i (λ lost. free (lost_so held lost)));
+            (filling_at c i) (is_off may i free) (h.means i (λ lost. free (lost_so held lost)));
         own_is = h.own_is;
         holds = get_or-set_same n.registers (reg_number (register_in c.own)) (worth c t) 0 (omega (arith, low, h.sound.registers));
         answered = λ o none. cc;
@@ -240,11 +241,16 @@ module _ (c : Scene) (m : State) (apart : IsApart c) (low : reg_number (register
   own_before (Some s) None r e = e
   own_before (Some s) (Some t) r e = e
 
+  abbrev IsReturned : Last → Type 0
+  IsReturned (Ended deed) = IsReturn deed
+  IsReturned l = ⊥
+
   -- what a line behind others did
   record LineRan (held : Option Shape) (l0 : Last) (n : State) (o : Option Shape) (l : Last) (did : Course) : Type 0 where
     does : DoesLine c n o did l
     seen : IsOpen l → Sees c held n
     quiet : IsOpen l → (r : ℕ) → ZeroChanged l0 r → ⊥
+    settled : IsReturned l ⊎ ((r : ℕ) → ZeroChanged l0 r → ⊥)
 
   before : (held o : Option Shape) (l0 l : Last) → ((r : ℕ) → ZeroChanged l0 r → ⊥) → (r : ℕ) → Changed c held l0 r → Changed c (kept_or_put held o) l r
   before held o l0 l quiet r (inl e) = inl (own_before held o r e)
@@ -271,17 +277,21 @@ module _ (c : Scene) (m : State) (apart : IsApart c) (low : reg_number (register
   fifteen : (o : Option Shape) (n : State) → IsSound n → 0 < length (with_own c n o).registers
   fifteen o n s = let d = own_step o n n.conditions s in let e = d.sound.registers in omega (arith, e)
 
+  may_after : (held o : Option Shape) → MayHold c held → MayHold c o → MayHold c (kept_or_put held o)
+  may_after held None h g = h
+  may_after held (Some t) h g = g
+
   -- where a line goes on
   next : (held o : Option Shape) (l0 l : Last) (n : State) (did : Course) → Reaches c held l0 m n → LineRan held l0 n o l did → IsOpen l → ComesTo c (kept_or_put held o) l m did
   next held o l0 Plain n did r x open_ = made x.does where
     made : GoesOn c n o Plain did → ComesTo c (kept_or_put held o) Plain m did
-    made g = record { state = with_conditions (with_own c n o) g.conditions; is = g.is; reaches = record { differs = goes_plain held o l0 Plain n g.conditions r (x.seen tt) (x.quiet tt); codes = g.codes_mean; zero_holds = tt; sees = sees_own held o n g.conditions (x.seen tt) } }
+    made g = record { state = with_conditions (with_own c n o) g.conditions; is = g.is; reaches = record { differs = goes_plain held o l0 Plain n g.conditions r (x.seen tt) (x.quiet tt); codes = g.codes_mean; zero_holds = tt; sees = sees_own held o n g.conditions g.may (x.seen tt); may = may_after held o r.may g.may } }
   next held o l0 (Compared a b) n did r x open_ = made x.does where
     made : GoesOn c n o (Compared a b) did → ComesTo c (kept_or_put held o) (Compared a b) m did
-    made g = record { state = with_conditions (with_own c n o) g.conditions; is = g.is; reaches = record { differs = goes_plain held o l0 (Compared a b) n g.conditions r (x.seen tt) (x.quiet tt); codes = g.codes_mean; zero_holds = tt; sees = sees_own held o n g.conditions (x.seen tt) } }
+    made g = record { state = with_conditions (with_own c n o) g.conditions; is = g.is; reaches = record { differs = goes_plain held o l0 (Compared a b) n g.conditions r (x.seen tt) (x.quiet tt); codes = g.codes_mean; zero_holds = tt; sees = sees_own held o n g.conditions g.may (x.seen tt); may = may_after held o r.may g.may } }
   next held o l0 (Tested t) n did r x open_ = made x.does where
     made : GoesOn c n o (Tested t) did → ComesTo c (kept_or_put held o) (Tested t) m did
-    made g = record { state = with_conditions (with_own c n o) g.conditions; is = g.is; reaches = record { differs = goes_plain held o l0 (Tested t) n g.conditions r (x.seen tt) (x.quiet tt); codes = g.codes_mean; zero_holds = tt; sees = sees_own held o n g.conditions (x.seen tt) } }
+    made g = record { state = with_conditions (with_own c n o) g.conditions; is = g.is; reaches = record { differs = goes_plain held o l0 (Tested t) n g.conditions r (x.seen tt) (x.quiet tt); codes = g.codes_mean; zero_holds = tt; sees = sees_own held o n g.conditions g.may (x.seen tt); may = may_after held o r.may g.may } }
   next held o l0 (Returning t) n did r x open_ = made x.does where
     made : GoesOn c n o (Returning t) did → ComesTo c (kept_or_put held o) (Returning t) m did
     made g = record {
@@ -290,35 +300,39 @@ module _ (c : Scene) (m : State) (apart : IsApart c) (low : reg_number (register
       reaches = record {
         differs = goes_returning held o l0 t n g.conditions r (x.seen tt) (x.quiet tt);
         codes = tt;
-        zero_holds = get_or-set_same (with_own c n o).registers 0 (worth c t) 0 (fifteen o n (x.seen tt).sound);
+        zero_holds = (get_or-set_same (with_own c n o).registers 0 (worth c t) 0 (fifteen o n (x.seen tt).sound), g.last_may);
         sees = tt;
+        may = may_after held o r.may g.may;
       };
     }
   next held o l0 (Ended deed) n did r x open_ = absurd open_
 
   -- a line behind others
   line_ran : (held : Option Shape) (l0 : Last) (is_first : Bool) (n : State) (ps : List Piece) (d : Deed) → Reaches c held l0 m n → IsOpen l0 →
-      line_did c.setting c.roles is_first held l0 ps ≡ Ok d → AreRead c d.reads → AreRead c (terms_of_last d.last) → NoneIsZero c d.divisors →
+      line_did c.setting c.roles is_first held l0 ps ≡ Ok d → AreRead c d.reads → EndIsRead c d.last → NoneIsZero c d.divisors →
       LineRan held l0 n d.own d.last (performed (filled_line c.program ps c.holes c.own) n)
   line_ran held Plain is_first n ps d r op e reads ends_read some = record {
     does = lines_do c held n is_first Plain ps d r.sees r.codes r.zero_holds e reads ends_read some;
     seen = λ o. r.sees;
     quiet = λ o x z. z;
+    settled = inr (λ x z. z);
   }
   line_ran held (Compared a b) is_first n ps d r op e reads ends_read some = record {
     does = lines_do c held n is_first (Compared a b) ps d r.sees r.codes r.zero_holds e reads ends_read some;
     seen = λ o. r.sees;
     quiet = λ o x z. z;
+    settled = inr (λ x z. z);
   }
   line_ran held (Tested t) is_first n ps d r op e reads ends_read some = record {
     does = lines_do c held n is_first (Tested t) ps d r.sees r.codes r.zero_holds e reads ends_read some;
     seen = λ o. r.sees;
     quiet = λ o x z. z;
+    settled = inr (λ x z. z);
   }
   line_ran held (Returning t) is_first n ps d r op e reads ends_read some =
       let x = returning_leaves c is_first held t n ps d e in
       subst (λ l. LineRan held (Returning t) n d.own l (performed (filled_line c.program ps c.holes c.own) n)) (sym x.0)
-      (record { does = (x.1, r.zero_holds); seen = λ o. absurd o; quiet = λ o. absurd o })
+      (record { does = (inl r.zero_holds.1, (x.1, r.zero_holds.0)); seen = λ o. absurd o; quiet = λ o. absurd o; settled = inl tt })
   line_ran held (Ended deed) is_first n ps d r op e reads ends_read some = absurd op
 
   -- where no line is left
@@ -333,12 +347,12 @@ module _ (c : Scene) (m : State) (apart : IsApart c) (low : reg_number (register
   none_left o (Ended deed) n op r = absurd op
 
   -- the terms of a last line's deed can be read
-  ends_so : (l : Last) (q : Progress) → IsCalm c q → ((deed : ActShape) → l ≡ Ended deed → q.last ≡ Ended deed) → AreRead c (terms_of_last l)
-  ends_so Plain q h same = tt
-  ends_so (Compared a b) q h same = tt
-  ends_so (Tested t) q h same = tt
-  ends_so (Returning t) q h same = tt
-  ends_so (Ended deed) q h same = subst (λ x. AreRead c (terms_of_last x)) (same deed refl) h.ends_read
+  ends_so : (l : Last) (q : Progress) → IsCalm c q → ((deed : ActShape) → l ≡ Ended deed → q.last ≡ Ended deed) → EndIsRead c l
+  ends_so Plain q h same = λ is. tt
+  ends_so (Compared a b) q h same = λ is. tt
+  ends_so (Tested t) q h same = λ is. tt
+  ends_so (Returning t) q h same = λ is. tt
+  ends_so (Ended deed) q h same = subst (EndIsRead c) (same deed refl) h.ends_read
 
   -- a line is done, and the others behind it
   goes_on : (held o : Option Shape) (l0 l : Last) (n : State) (did : Course) (rest : List Instr) (q : Progress) → Reaches c held l0 m n → LineRan held l0 n o l did →
@@ -356,14 +370,14 @@ module _ (c : Scene) (m : State) (apart : IsApart c) (low : reg_number (register
       let y = end deed refl in
       subst (λ l. RunsTo c q.own m (followed did rest (exec rest)) l) (sym y.1)
       (subst (λ is. EndsIn c m deed (followed did is (exec is))) (sym y.0)
-      (subst (EndsIn c m deed) (sym (followed_none did)) (record { own_is = held; last = l0; state = n; reaches = r; does = x.does })))
+      (subst (EndsIn c m deed) (sym (followed_none did)) (record { own_is = held; last = l0; state = n; reaches = r; may = x.does.0; settled = x.settled; does = x.does.1 })))
 
   pub all_run : (ls : List Line) (is_first : Bool) (p q : Progress) (n : State) → lines_judged c.setting c.roles is_first p ls ≡ Ok q → IsOpen p.last → Reaches c p.own p.last m n → IsCalm c q →
       NoneIsZero c q.divisors → Ended_in q (exec (map (line_of c) ls) n)
   all_run [] is_first p q n e op r calm some = subst (λ x. Ended_in x (comes n)) (ok_same p q e) (none_left p.own p.last n op r)
   all_run (l ∷ ls) is_first p q n e op r calm some =
       let d = chained (judged c.setting c.roles is_first l p) (λ (x : Progress). lines_judged c.setting c.roles false x ls) q e in
-      let j = judged_is c is_first l p d.first d.is in
+      let j = judged_is c.setting c.roles is_first l p d.first d.is in
       let then_so = subst (λ x. lines_judged c.setting c.roles false x ls ≡ Ok q) (sym j.is) d.then_so in
       let reads = (all_back (λ (x : ℕ × List Shape). AreRead c x.1) p.reads ((l.line, j.deed.reads) ∷ []) (reads_before c ls false (progressed l.line p j.deed) q then_so calm.reads)).0 in
       let divisors = all_back (λ (w : Shape). worth c w ≡ 0 → ⊥) p.divisors j.deed.divisors (divisors_before c ls false (progressed l.line p j.deed) q then_so some) in
@@ -380,6 +394,7 @@ begins c m h = record {
   codes = tt;
   zero_holds = tt;
   sees = h;
+  may = tt;
 }
 
 pub lines_run : LinesRun

@@ -3,7 +3,7 @@ use Rattle.std.specs.Prelude.{◌≡◌, ◌<◌, ◌⊎◌, ℕ, Bool, true, fa
 use Rattle.std.specs.List.{AllByRecursion}
 use Rattle.md_reader_pieces.specs.declared.piece.Line.{Line}
 use Rattle.term_core.specs.Shape.{Shape}
-use Rattle.sel_terms.specs.Effects.{ActShape}
+use Rattle.sel_terms.specs.Effects.{ActShape, Return}
 use Rattle.sel_target.specs.Meaning.{RegAt}
 use Rattle.sel_target.specs.Instances.{attr_touches}
 use Rattle.vax_core.specs.Registers.{reg_number}
@@ -11,6 +11,7 @@ use Rattle.vax_core.specs.declared.code.Instr.{Instr}
 use Rattle.vax_machine.specs.declared.turn.Stop.TheVariants.{Trapped}
 use Rattle.vax_machine.specs.State.{State}
 use Rattle.vax_machine_lists.specs.Instructions.{Course, Stops, ends, comes, exec}
+use Rattle.vax_templates.specs.declared.setting.Own.TheVariants as own
 use Rattle.vax_templates.specs.Judging.{Last, Plain, Returning, Ended, is_operand}
 use Rattle.vax_templates.specs.Found.{Progress, start, lines_judged}
 use Rattle.vax_templates.specs.Filled.{register_in}
@@ -18,7 +19,7 @@ use Rattle.vax_templates.specs.FilledLines.{filled_line}
 use Rattle.vax_target_meaning.specs.Vax.{vax}
 use Rattle.vax_target_operands.specs.Scenes.{Scene, worth, role_at, filling_at, Sees}
 use Rattle.vax_target_lines.specs.Takings.{AreRead}
-use Rattle.vax_target_lines.specs.Lines.{CodesMean, ZeroHolds, DoesDeed, terms_of_last, NoneIsZero}
+use Rattle.vax_target_lines.specs.Lines.{CodesMean, ZeroHolds, DoesDeed, MayHold, MayEnd, EndIsRead, NoneIsZero}
 use Rattle.vax_target_runs.specs.Kept.{Differs}
 
 -- the registers that lines have changed: that of `%0` where it has a value, and register 0 where a value is to be returned
@@ -44,6 +45,11 @@ pub record Reaches (c : Scene) (o : Option Shape) (l : Last) (m n : State) : Typ
   pub codes : CodesMean c n.conditions l
   pub zero_holds : ZeroHolds c n l
   pub sees : SeesBehind c o l n
+  pub may : MayHold c o
+
+abbrev pub IsReturn : ActShape → Type 0
+IsReturn (Return t) = Unit {0}
+IsReturn a = ⊥
 
 -- the last line does its deed behind others that lead to its state
 pub record EndsIn (c : Scene) (m : State) (deed : ActShape) (did : Course) : Type 0 where
@@ -51,6 +57,8 @@ pub record EndsIn (c : Scene) (m : State) (deed : ActShape) (did : Course) : Typ
   pub last : Last
   pub state : State
   pub reaches : Reaches c own_is last m state
+  pub may : MayEnd c
+  pub settled : IsReturn deed ⊎ ((r : ℕ) → ZeroChanged last r → ⊥)
   pub does : DoesDeed c state deed did
 
 pub record ComesTo (c : Scene) (o : Option Shape) (l : Last) (m : State) (did : Course) : Type 0 where
@@ -65,7 +73,7 @@ RunsTo c o m did l = ComesTo c o l m did
 -- the register of `%0` is no operand's, unless it may be
 abbrev pub IsApart : Scene → Type 0
 IsApart c =
-    c.setting.is_reused ≡ false → (i : ℕ) → is_operand (role_at c i) ≡ true → attr_touches vax (filling_at c i) (RegAt (reg_number (register_in c.own))) ≡ false
+    c.setting.own ≡ own.Register → c.setting.is_reused ≡ false → (i : ℕ) → is_operand (role_at c i) ≡ true → attr_touches vax (filling_at c i) (RegAt (reg_number (register_in c.own))) ≡ false
 
 abbrev pub line_of : Scene → Line → Instr
 line_of c l = filled_line c.program l.pieces c.holes c.own
@@ -76,7 +84,7 @@ AllRead c rs = AllByRecursion (λ (r : ℕ × List Shape). AreRead c r.1) rs
 -- what the lines read can be read
 pub record IsCalm (c : Scene) (p : Progress) : Type 0 where
   pub reads : AllRead c p.reads
-  pub ends_read : AreRead c (terms_of_last p.last)
+  pub ends_read : EndIsRead c p.last
 
 -- Lines do what they are judged to do, one after another, where no divisor is 0.
 abbrev pub LinesRun : Type 0

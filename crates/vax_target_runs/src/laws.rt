@@ -13,7 +13,6 @@ pub fn codes_are_kept()
 {}
 
 /// The law: the lines of a template do what they are judged to do, one after another.
-#[tactic(auto, using(crate::proofs::Runs::lines_run))]
 pub fn lines_run()
     ensures { LinesRun }
 {}

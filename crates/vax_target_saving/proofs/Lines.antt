@@ -108,6 +108,6 @@ module _ (q : TreeProgram) (k : Kind) (a : Attr Operand) (w : ℕ) (v : View) (m
       let last : d.last ≡ Ended (StoreHome size 0 t) = g.act ∙ ap Ended act in
       let does = lines_do the None m true Plain l.pieces d sees_m tt tt g.line.did
       (stored_reads v e size 0 t act none read d.reads g.line.reads)
-      (subst (λ (x : Last). AllByRecursion (λ (r : Shape). IsRead v r) (terms_of_last x)) (sym last) (read, tt))
+      (λ s. subst (λ (x : Last). AllByRecursion (λ (r : Shape). IsRead v r) (terms_of_last x)) (sym last) (read, tt))
       (none_zero d.divisors (g.line.divisors ∙ none)) in
-      stores size t l (subst (λ (x : Last). DoesLine the m d.own (performed (vax.instr q l (a ∷ []) (attr.Place (home w))) m) x) last does)
+      stores size t l (subst (λ (x : Last). DoesLine the m d.own (performed (vax.instr q l (a ∷ []) (attr.Place (home w))) m) x) last does).1

@@ -71,7 +71,7 @@ lines_reload q f fs l s w r n v m low slot set e fits =
     let none : AllByRecursion (λ (t : Shape). worth c t ≡ 0 → ⊥) d.divisors =
     subst (λ (x : List Shape). AllByRecursion (λ (t : Shape). worth c t ≡ 0 → ⊥) x) (sym (g.line.divisors ∙ s.undivided)) tt in
     let ends : AllByRecursion (λ (t : Shape). IsRead v t) (terms_of_last d.last) = subst (λ (x : Last). AllByRecursion (λ (t : Shape). IsRead v t) (terms_of_last x)) (sym plain) tt in
-    let does = lines_do c None m true Plain l.pieces d seen tt tt g.line.did (value_reads v s.effect s.term s.act s.undivided set.read d.reads g.line.reads) ends none in
+    let does = lines_do c None m true Plain l.pieces d seen tt tt g.line.did (value_reads v s.effect s.term s.act s.undivided set.read d.reads g.line.reads) (λ b. ends) none in
     let i = vax.instr q l (attr.Value (home w) ∷ []) (attr.Reg r) in
     let so : DoesLine c m (Some s.term) (performed i m) Plain =
     subst (λ (o : Option Shape). DoesLine c m o (performed i m) Plain) (g.own ∙ ap Some term) (subst (λ (x : Last). DoesLine c m d.own (performed i m) x) plain does) in

@@ -1,0 +1,470 @@
+-- In an instance of a rule each hole means what it stands for.
+use Rattle.std.proofs.Common.{◌≡◌, ℕ, zero, suc, ◌+◌, ◌-◌, ◌*◌, ◌%◌, ◌^◌, ◌<◌, ◌≤◌, ◌==◌, Bool, true, false, cond, List, [], ◌∷◌, map, Option, Some, None, refl, sym, ap, subst, ◌∙◌, arith}
+use Rattle.std.specs.Prelude.{IsSome, is_some, is_none, unwrap_or, ◌&&◌, not, nat_lt, nat_le, slice_get}
+use Rattle.std.specs.Option.{option_map}
+use Rattle.std.proofs.lemmas.Bool.{eqb-true, lt-ltb}
+use Rattle.gg_base.specs.declared.size.Size.{Size}
+use Rattle.gg_base.specs.declared.size.Size.TheVariants.{Byte, Word, Long}
+use Rattle.gg_base.specs.Sizes.{bytes_of}
+use Rattle.gg_base.specs.Arithmetic.{add32}
+use Rattle.tree_core.specs.declared.token.Tok.{Tok}
+use Rattle.tree_core.specs.declared.token.Tok.TheVariants as tok
+use Rattle.tree_core.specs.declared.token.AttKind.TheVariants as kinds
+use Rattle.tree_core.specs.declared.tree.Att.{Att}
+use Rattle.tree_core.specs.declared.tree.Att.TheVariants as att
+use Rattle.tree_core.specs.declared.program.Object.{Object}
+use Rattle.tree_core.specs.declared.program.TreeProgram.{TreeProgram}
+use Rattle.tree_core.specs.Attributes.{attribute_of, is_of_kind, leaf_fits}
+use Rattle.md_reader.specs.declared.types.Kind.{Kind}
+use Rattle.md_reader.specs.declared.types.Kind.TheVariants as kind
+use Rattle.md_reader.specs.declared.types.Class.{Class}
+use Rattle.md_reader.specs.declared.types.Sym.{Sym}
+use Rattle.md_reader.specs.declared.types.Sym.TheVariants as symbols
+use Rattle.md_reader.specs.declared.types.Give.{Give}
+use Rattle.md_reader.specs.declared.types.Give.TheVariants as give
+use Rattle.md_reader.specs.declared.types.Rule.{Rule}
+use Rattle.md_reader.specs.Patterns.{kind_at}
+use Rattle.term_core.specs.Shape.{Shape, Symbol, LastResult}
+use Rattle.term_core.proofs.Values.{small}
+use Rattle.sel_terms.specs.Effects.{EffectShape}
+use Rattle.sel_terms.specs.RuleFacts.{size_of_kind, size_of_symbol, size_of_some, size_at}
+use Rattle.sel_target.specs.declared.attr.Attr.{Attr}
+use Rattle.sel_target.specs.declared.attr.Attr.TheVariants as attr
+use Rattle.sel_target.specs.Meaning.{Extent}
+use Rattle.sel_target.specs.Values.{View, term_state, address_of, own_operand, token_operand, token_worth}
+use Rattle.sel_target.specs.Values as target
+use Rattle.sel_target.specs.EffectTerms.{begins_with_save}
+use Rattle.sel_target.specs.Instances.{hole, InFrame, TokenIsWhole, IsWhole, KindFits, SymFits, Fit, IsResult, Instance}
+use Rattle.vax_core.specs.declared.register.Reg.{Reg}
+use Rattle.vax_core.specs.declared.register.Reg.TheVariants.{R0}
+use Rattle.vax_core.specs.declared.operand.Base.TheVariants as bases
+use Rattle.vax_core.specs.declared.operand.Operand.{Operand}
+use Rattle.vax_core.specs.Homes.{home, at_home, argument_home}
+use Rattle.vax_machine.specs.State.{State, reg}
+use Rattle.vax_machine.specs.Area.{resolved_of, label_address}
+use Rattle.vax_states.specs.Agreeing.{AreLabelled, Agrees}
+use Rattle.vax_states.proofs.Keeping.{reg_small}
+use Rattle.vax_templates.specs.declared.setting.Hole.{Hole}
+use Rattle.vax_templates.specs.declared.setting.Hole.TheVariants as holes
+use Rattle.vax_templates.specs.declared.setting.Own.TheVariants as own
+use Rattle.vax_templates.specs.declared.setting.Opening.{Opening}
+use Rattle.vax_templates.specs.declared.setting.Opening.TheVariants as opening
+use Rattle.vax_templates.specs.Settings.{hole_of_token, hole_of_kind, hole_of, holes_of, hole_or_other, hole_at, own_of, opening_of, opening_by, setting_of}
+use Rattle.vax_templates.specs.Filled.{alone, spare, attr_or, attr_at, numbered, label_of, word_operand, slot_operand, argument_deferred, operand_in, deferred_in, addr_in}
+use Rattle.vax_target_meaning.specs.Reading.{named, moved, names, reads}
+use Rattle.vax_target_meaning.specs.Vax.{vax}
+use Rattle.vax_target_operands.specs.Scenes.{Scene, worth, role_at, filling_at, IsRegister, IsPlace, IsLocal, Names, IsNumber, IsObject, IsSavedLocal, Means, OwnIs, IsOwnRegister, Sees}
+use Rattle.vax_target_operands.proofs.Machine.{none_some, some_same, mapped, left_true, right_true}
+use Rattle.vax_target_rules.specs.Scene.{scene_of, InstancesAreSeen}
+
+pub some_of : (o : Option ℕ) → IsSome o → (x : ℕ) × (o ≡ Some x)
+some_of None h = absurd (let e : false ≡ true = h in cc)
+some_of (Some x) h = (x, refl)
+
+low_long : (size : Size) (x : ℕ) → x < 2 ^ (8 * bytes_of size) → x % 2 ^ 32 ≡ x
+low_long Byte x lt = omega (arith, lt)
+low_long Word x lt = omega (arith, lt)
+low_long Long x lt = omega (arith, lt)
+
+-- ---- a symbol and what fills it
+
+module _ (c : Scene) (m : State) (i : ℕ) (labelled : AreLabelled c.program.objects m) where
+  worth_small : (t : Shape) → worth c t < 2 ^ 32
+  worth_small t = small (term_state c.view) t
+
+  abbrev token : Tok → Att → Attr Operand
+  token t a = attr.Token (record { tok = t; att = a })
+
+  -- what fills the hole is worth the symbol, where that has a number
+  abbrev Knows : Size → Attr Operand → Type 0
+  Knows size h = IsSome (c.view.symbol i) → target.worth vax c.program size h m ≡ Some (worth c (Symbol i))
+
+  abbrev KnowsToken : Tok → Att → Type 0
+  KnowsToken t a = IsSome (c.view.symbol i) → token_worth vax c.program t a m ≡ Some (worth c (Symbol i))
+
+  abbrev HasHome : Size → Attr Operand → Type 0
+  HasHome size h = (o : Operand) → own_operand vax h ≡ Some o → IsSome (names o size m)
+
+  abbrev HasTokenHome : Tok → Att → Type 0
+  HasTokenHome t a = (o : Operand) → token_operand vax t a ≡ Some o → IsSome (names o Long m)
+
+  none_index : (o : Operand) → is_none o.index ≡ true → o.index ≡ None
+  none_index o e = by o.index e where
+    by : (x : Option Reg) → is_none x ≡ true → x ≡ None
+    by None e = refl
+    by (Some r) e = cc
+
+  address_means : (o : Operand) → vax.fits kind.Ea o ≡ true → names o Long m ≡ Some (worth c (Symbol i)) → Names m o (worth c (Symbol i))
+  address_means o fits e =
+      let none = none_index o (left_true (is_none o.index) _ fits) in
+      let r = mapped (moved m o.index Long) (named m o.base) (worth c (Symbol i)) e in
+      record { plain = none; named_so = r.1 ∙ ap (λ (x : ℕ). Some x) (sym (ap (λ x. moved m x Long r.0) none) ∙ r.2) }
+
+  object_by : (o : Option Object) (object offset : ℕ) → slice_get c.program.objects object ≡ o → address_of o offset ≡ Some (worth c (Symbol i)) → IsObject c m i (token tok.Gaddr (att.Object object offset))
+  object_by None object offset is e = absurd (none_some (worth c (Symbol i)) e)
+  object_by (Some o) object offset is e = record {
+    address = ap (λ x. resolved_of m.layout (label_of x) offset) is ∙ ap (λ x. add32 x offset) (labelled object o is) ∙ some_same (add32 o.address offset) (worth c (Symbol i)) e;
+    operand_is = refl;
+    deferred_is = refl;
+  }
+
+  abbrev LocalBy : Operand → Operand → Type 0
+  LocalBy o p = (reads o Long m ≡ Some (worth c (Symbol i))) → IsSome (names o Long m) → (p.index ≡ None) × (named m p.base ≡ Some (worth c (Symbol i)))
+
+  local_by : (b : Bool) (k : ℕ) → nat_lt k 1024 ≡ true → reads (word_operand k) Long m ≡ Some (worth c (Symbol i)) → IsSome (names (word_operand k) Long m) → IsLocal c m i (token tok.Loc (att.Slot k))
+  local_by b k is e some =
+      let a = some_of (names (word_operand k) Long m) some in
+      let h : reads (home k) Long m ≡ Some (worth c (Symbol i)) = ap (λ x. reads (cond x (home k) spare) Long m) (sym is) ∙ e in
+      record {
+        address = a.0;
+        named_so = a.1;
+        holds = e;
+        plain = ap (λ x. (cond x (at_home k) spare).index) is;
+        deferred = ap (λ x. named m (cond x (at_home k) spare).base) is ∙ h;
+      }
+
+  argument_by : (b : Bool) (k : ℕ) → nat_le k 255 ≡ true → reads (slot_operand tok.Arg k) Long m ≡ Some (worth c (Symbol i)) → IsSome (names (slot_operand tok.Arg k) Long m) →
+      IsLocal c m i (token tok.Arg (att.Slot k))
+  argument_by b k is e some =
+      let a = some_of (names (slot_operand tok.Arg k) Long m) some in
+      let h : reads (argument_home k) Long m ≡ Some (worth c (Symbol i)) = ap (λ x. reads (cond x (argument_home k) spare) Long m) (sym is) ∙ e in
+      record {
+        address = a.0;
+        named_so = a.1;
+        holds = e;
+        plain = ap (λ x. (cond x (argument_deferred k) spare).index) is;
+        deferred = ap (λ x. named m (cond x (argument_deferred k) spare).base) is ∙ h;
+      }
+
+  literal_means : (t : Tok) (k : ℕ) → k < 2 ^ 32 → (a : Att) → is_of_kind (kinds.Own k) a ≡ true → IsNumber c (token t a) k
+  literal_means t k lt att.Nothing fits = cc
+  literal_means t k lt (att.Number n) fits = record { nameless = refl; is = eqb-true n k fits; low = lt }
+  literal_means t k lt (att.Object object offset) fits = cc
+  literal_means t k lt (att.Slot w) fits = cc
+  literal_means t k lt (att.Branch rel label) fits = cc
+  literal_means t k lt (att.Label label) fits = cc
+  literal_means t k lt (att.Callee function count) fits = cc
+
+  constant_means : (a : Att) → is_of_kind kinds.Other a ≡ true → KnowsToken tok.Const a → TokenIsWhole tok.Const a (c.view.symbol i) → IsNumber c (token tok.Const a) (worth c (Symbol i))
+  constant_means att.Nothing fits known whole = cc
+  constant_means (att.Number n) fits known whole = record { nameless = refl; is = some_same n (worth c (Symbol i)) (known whole); low = worth_small (Symbol i) }
+  constant_means (att.Object object offset) fits known whole = cc
+  constant_means (att.Slot k) fits known whole = cc
+  constant_means (att.Branch rel label) fits known whole = cc
+  constant_means (att.Label label) fits known whole = cc
+  constant_means (att.Callee function count) fits known whole = cc
+
+  object_means : (a : Att) → is_of_kind kinds.Object a ≡ true → KnowsToken tok.Gaddr a → TokenIsWhole tok.Gaddr a (c.view.symbol i) → IsObject c m i (token tok.Gaddr a)
+  object_means att.Nothing fits known whole = cc
+  object_means (att.Number n) fits known whole = cc
+  object_means (att.Object object offset) fits known whole = object_by (slice_get c.program.objects object) object offset refl (known whole)
+  object_means (att.Slot k) fits known whole = cc
+  object_means (att.Branch rel label) fits known whole = cc
+  object_means (att.Label label) fits known whole = cc
+  object_means (att.Callee function count) fits known whole = cc
+
+  local_means : (a : Att) → is_of_kind kinds.Local a ≡ true → InFrame a → KnowsToken tok.Loc a → TokenIsWhole tok.Loc a (c.view.symbol i) → HasTokenHome tok.Loc a → IsLocal c m i (token tok.Loc a)
+  local_means att.Nothing fits low known whole homes = cc
+  local_means (att.Number n) fits low known whole homes = cc
+  local_means (att.Object object offset) fits low known whole homes = cc
+  local_means (att.Slot k) fits low known whole homes = local_by (nat_lt k 1024) k (lt-ltb k 1024 low) (known whole) (homes (word_operand k) refl)
+  local_means (att.Branch rel label) fits low known whole homes = cc
+  local_means (att.Label label) fits low known whole homes = cc
+  local_means (att.Callee function count) fits low known whole homes = cc
+
+  argument_means : (a : Att) → is_of_kind kinds.Argument a ≡ true → KnowsToken tok.Arg a → TokenIsWhole tok.Arg a (c.view.symbol i) → HasTokenHome tok.Arg a → IsLocal c m i (token tok.Arg a)
+  argument_means att.Nothing fits known whole homes = cc
+  argument_means (att.Number n) fits known whole homes = cc
+  argument_means (att.Object object offset) fits known whole homes = cc
+  argument_means (att.Slot k) fits known whole homes = argument_by (nat_le k 255) k (right_true (nat_le 1 k) (nat_le k 255) fits) (known whole) (homes (slot_operand tok.Arg k) refl)
+  argument_means (att.Branch rel label) fits known whole homes = cc
+  argument_means (att.Label label) fits known whole homes = cc
+  argument_means (att.Callee function count) fits known whole homes = cc
+
+  saved_means : (a : Att) → is_of_kind kinds.Local a ≡ true → InFrame a → IsSavedLocal c (token tok.Save a)
+  saved_means att.Nothing fits low = cc
+  saved_means (att.Number n) fits low = cc
+  saved_means (att.Object object offset) fits low = cc
+  saved_means (att.Slot k) fits low = record { local = k; low = low; is = ap (λ b. cond b (home k) spare) (lt-ltb k 1024 low) }
+  saved_means (att.Branch rel label) fits low = cc
+  saved_means (att.Label label) fits low = cc
+  saved_means (att.Callee function count) fits low = cc
+
+  class_means : (k : Option Kind) (h : Attr Operand) → KindFits vax k h → Knows (size_of_kind k) h → IsWhole h (c.view.symbol i) → HasHome (size_of_kind k) h → Means c m (hole_of_kind k) i h
+  class_means None h fits known whole homes = tt
+  class_means (Some kind.Reg) (attr.Reg r) fits known whole homes = record { number = r; is = refl; low = fits; holds = some_same (reg m (numbered r)) (worth c (Symbol i)) (known whole) }
+  class_means (Some kind.Reg) (attr.InSlot k) fits known whole homes = absurd fits
+  class_means (Some kind.Reg) (attr.Value o) fits known whole homes = absurd fits
+  class_means (Some kind.Reg) (attr.Place o) fits known whole homes = absurd fits
+  class_means (Some kind.Reg) (attr.Con n) fits known whole homes = absurd fits
+  class_means (Some kind.Reg) (attr.Ea o) fits known whole homes = absurd fits
+  class_means (Some kind.Reg) (attr.Token l) fits known whole homes = absurd fits
+  class_means (Some kind.Reg) attr.Nothing fits known whole homes = absurd fits
+  class_means (Some (kind.Value z)) (attr.Reg r) fits known whole homes = absurd fits
+  class_means (Some (kind.Value z)) (attr.InSlot k) fits known whole homes = absurd fits
+  class_means (Some (kind.Value z)) (attr.Value o) fits known whole homes = known whole
+  class_means (Some (kind.Value z)) (attr.Place o) fits known whole homes = absurd fits
+  class_means (Some (kind.Value z)) (attr.Con n) fits known whole homes = absurd fits
+  class_means (Some (kind.Value z)) (attr.Ea o) fits known whole homes = absurd fits
+  class_means (Some (kind.Value z)) (attr.Token l) fits known whole homes = absurd fits
+  class_means (Some (kind.Value z)) attr.Nothing fits known whole homes = absurd fits
+  class_means (Some (kind.Place z)) (attr.Reg r) fits known whole homes = absurd fits
+  class_means (Some (kind.Place z)) (attr.InSlot k) fits known whole homes = absurd fits
+  class_means (Some (kind.Place z)) (attr.Value o) fits known whole homes = absurd fits
+  class_means (Some (kind.Place z)) (attr.Place o) fits known whole homes = (let x = some_of (names o z m) (homes o refl) in record { address = x.0; named_so = x.1; holds = known })
+  class_means (Some (kind.Place z)) (attr.Con n) fits known whole homes = absurd fits
+  class_means (Some (kind.Place z)) (attr.Ea o) fits known whole homes = absurd fits
+  class_means (Some (kind.Place z)) (attr.Token l) fits known whole homes = absurd fits
+  class_means (Some (kind.Place z)) attr.Nothing fits known whole homes = absurd fits
+  class_means (Some kind.Con) (attr.Reg r) fits known whole homes = absurd fits
+  class_means (Some kind.Con) (attr.InSlot k) fits known whole homes = absurd fits
+  class_means (Some kind.Con) (attr.Value o) fits known whole homes = absurd fits
+  class_means (Some kind.Con) (attr.Place o) fits known whole homes = absurd fits
+  class_means (Some kind.Con) (attr.Con n) fits known whole homes = record { nameless = refl; is = some_same n (worth c (Symbol i)) (known whole); low = worth_small (Symbol i) }
+  class_means (Some kind.Con) (attr.Ea o) fits known whole homes = absurd fits
+  class_means (Some kind.Con) (attr.Token l) fits known whole homes = absurd fits
+  class_means (Some kind.Con) attr.Nothing fits known whole homes = absurd fits
+  class_means (Some kind.Ea) (attr.Reg r) fits known whole homes = absurd fits
+  class_means (Some kind.Ea) (attr.InSlot k) fits known whole homes = absurd fits
+  class_means (Some kind.Ea) (attr.Value o) fits known whole homes = absurd fits
+  class_means (Some kind.Ea) (attr.Place o) fits known whole homes = absurd fits
+  class_means (Some kind.Ea) (attr.Con n) fits known whole homes = absurd fits
+  class_means (Some kind.Ea) (attr.Ea o) fits known whole homes = address_means o fits (known whole)
+  class_means (Some kind.Ea) (attr.Token l) fits known whole homes = absurd fits
+  class_means (Some kind.Ea) attr.Nothing fits known whole homes = absurd fits
+  class_means (Some kind.Nothing) h fits known whole homes = tt
+
+  token_means : (t : Tok) (a : Att) → is_of_kind (attribute_of t) a ≡ true → InFrame a → KnowsToken t a → TokenIsWhole t a (c.view.symbol i) → HasTokenHome t a →
+      Means c m (hole_of_token t) i (token t a)
+  token_means tok.Zero a fits low known whole homes = literal_means tok.Zero 0 (omega arith) a fits
+  token_means tok.One a fits low known whole homes = literal_means tok.One 1 (omega arith) a fits
+  token_means tok.Two a fits low known whole homes = literal_means tok.Two 2 (omega arith) a fits
+  token_means tok.Four a fits low known whole homes = literal_means tok.Four 4 (omega arith) a fits
+  token_means tok.Eight a fits low known whole homes = literal_means tok.Eight 8 (omega arith) a fits
+  token_means tok.Const a fits low known whole homes = constant_means a fits known whole
+  token_means tok.Gaddr a fits low known whole homes = object_means a fits known whole
+  token_means tok.Loc a fits low known whole homes = local_means a fits low known whole homes
+  token_means tok.Arg a fits low known whole homes = argument_means a fits known whole homes
+  token_means tok.IndirB a fits low known whole homes = tt
+  token_means tok.IndirW a fits low known whole homes = tt
+  token_means tok.IndirL a fits low known whole homes = tt
+  token_means tok.Plus a fits low known whole homes = tt
+  token_means tok.Minus a fits low known whole homes = tt
+  token_means tok.Mul a fits low known whole homes = tt
+  token_means tok.Div a fits low known whole homes = tt
+  token_means tok.Mod a fits low known whole homes = tt
+  token_means tok.And a fits low known whole homes = tt
+  token_means tok.Or a fits low known whole homes = tt
+  token_means tok.Xor a fits low known whole homes = tt
+  token_means tok.Lsh a fits low known whole homes = tt
+  token_means tok.Rsh a fits low known whole homes = tt
+  token_means tok.Neg a fits low known whole homes = tt
+  token_means tok.Com a fits low known whole homes = tt
+  token_means tok.Sxb a fits low known whole homes = tt
+  token_means tok.Zxb a fits low known whole homes = tt
+  token_means tok.Sxw a fits low known whole homes = tt
+  token_means tok.Zxw a fits low known whole homes = tt
+  token_means tok.Ncb a fits low known whole homes = tt
+  token_means tok.Ncw a fits low known whole homes = tt
+  token_means tok.AssignB a fits low known whole homes = tt
+  token_means tok.AssignW a fits low known whole homes = tt
+  token_means tok.AssignL a fits low known whole homes = tt
+  token_means tok.Cbr a fits low known whole homes = tt
+  token_means tok.Push a fits low known whole homes = tt
+  token_means tok.Ret a fits low known whole homes = tt
+  token_means tok.Call a fits low known whole homes = tt
+  token_means tok.Save a fits low known whole homes = saved_means a fits low
+  token_means tok.Jump a fits low known whole homes = tt
+  token_means tok.End a fits low known whole homes = tt
+
+  symbol_means : (classes : List Class) (s : Sym) (h : Attr Operand) → SymFits vax classes s h → Knows (size_of_symbol classes s) h → IsWhole h (c.view.symbol i) →
+      HasHome (size_of_symbol classes s) h → Means c m (hole_of classes s) i h
+  symbol_means classes (symbols.Class x) h fits known whole homes = class_means (kind_at classes x) h fits known whole homes
+  symbol_means classes (symbols.Tok t) (attr.Token l) fits known whole homes =
+      by l.tok l.att fits.0 fits.1 fits.2 known whole homes
+    where
+      by : (x : Tok) (a : Att) → x ≡ t → leaf_fits (record { tok = x; att = a }) ≡ true → InFrame a → KnowsToken x a → TokenIsWhole x a (c.view.symbol i) → HasTokenHome x a → Means c m (hole_of_token t) i (token x a)
+      by x a same fits low known whole homes = subst (λ y. Means c m (hole_of_token y) i (token x a)) same (token_means x a fits low known whole homes)
+  symbol_means classes (symbols.Tok t) (attr.Reg r) fits known whole homes = absurd fits
+  symbol_means classes (symbols.Tok t) (attr.InSlot k) fits known whole homes = absurd fits
+  symbol_means classes (symbols.Tok t) (attr.Value o) fits known whole homes = absurd fits
+  symbol_means classes (symbols.Tok t) (attr.Place o) fits known whole homes = absurd fits
+  symbol_means classes (symbols.Tok t) (attr.Con n) fits known whole homes = absurd fits
+  symbol_means classes (symbols.Tok t) (attr.Ea o) fits known whole homes = absurd fits
+  symbol_means classes (symbols.Tok t) attr.Nothing fits known whole homes = absurd fits
+
+-- ---- the holes of a rule
+
+-- a symbol with what fills it
+pub record IsFilled (classes : List Class) (right : List Sym) (hs : List (Attr Operand)) (j : ℕ) (s : Sym) : Type 0 where
+  pub attribute : Attr Operand
+  pub at : slice_get hs j ≡ Some attribute
+  pub fits : SymFits vax classes s attribute
+
+pub filled_at : (classes : List Class) (right : List Sym) (hs : List (Attr Operand)) (j : ℕ) (s : Sym) → Fit vax classes right hs → slice_get right j ≡ Some s → IsFilled classes right hs j s
+filled_at classes [] hs j s fit e = absurd (none_sym s e) where
+  none_sym : (s : Sym) → None ≡ Some s → ⊥
+  none_sym s e = cc
+filled_at classes (x ∷ right) [] j s fit e = absurd fit
+filled_at classes (x ∷ right) (h ∷ hs) zero s fit e = record { attribute = h; at = refl; fits = subst (λ y. SymFits vax classes y h) (some_sym x s e) fit.0 } where
+  some_sym : (x y : Sym) → Some x ≡ Some y → x ≡ y
+  some_sym x y e = cc
+filled_at classes (x ∷ right) (h ∷ hs) (suc j) s fit e = let r = filled_at classes right hs j s fit.1 e in record { attribute = r.attribute; at = r.at; fits = r.fits }
+
+pub mapped_at : (classes : List Class) (right : List Sym) (j : ℕ) → slice_get (map (hole_of classes) right) j ≡ option_map (hole_of classes) (slice_get right j)
+mapped_at classes [] j = refl
+mapped_at classes (s ∷ right) zero = refl
+mapped_at classes (s ∷ right) (suc j) = mapped_at classes right j
+
+-- symbols are numbered from 1
+one_back : (j : ℕ) → suc j - 1 ≡ j
+one_back j = omega arith
+
+not_zero : (j : ℕ) → (suc j == 0) ≡ false
+not_zero j = by (suc j == 0) refl where
+  by : (b : Bool) → (suc j == 0) ≡ b → (suc j == 0) ≡ false
+  by true e = absurd (let h = eqb-true (suc j) 0 e in omega (arith, h))
+  by false e = e
+
+pub role_is : (c : Scene) (j : ℕ) → role_at c (suc j) ≡ hole_or_other (slice_get c.roles j)
+role_is c j = ap (λ b. cond b holes.Other (hole_or_other (slice_get c.roles (suc j - 1)))) (not_zero j) ∙ ap (λ k. hole_or_other (slice_get c.roles k)) (one_back j)
+
+pub filling_is : (c : Scene) (j : ℕ) → filling_at c (suc j) ≡ attr_or c.own (slice_get c.holes j)
+filling_is c j = ap (λ b. cond b c.own (attr_or c.own (slice_get c.holes (suc j - 1)))) (not_zero j) ∙ ap (λ k. attr_or c.own (slice_get c.holes k)) (one_back j)
+
+pub size_is : (classes : List Class) (right : List Sym) (j : ℕ) → size_at classes right (suc j) ≡ size_of_some classes (slice_get right j)
+size_is classes right j = ap (λ b. cond b Long (size_of_some classes (slice_get right (suc j - 1)))) (not_zero j) ∙ ap (λ k. size_of_some classes (slice_get right k)) (one_back j)
+
+-- what stands for `%0` is a register where it has a value
+pub register_result : (g : Give) (hs : List (Attr Operand)) (a : Attr Operand) → own_of g ≡ own.Register → IsResult vax g hs a → (n : ℕ) × (a ≡ attr.Reg n) × (n < 12)
+register_result give.Fresh hs (attr.Reg n) is r = (n, refl, r.0)
+register_result give.Fresh hs (attr.InSlot k) is r = absurd r
+register_result give.Fresh hs (attr.Value o) is r = absurd r
+register_result give.Fresh hs (attr.Place o) is r = absurd r
+register_result give.Fresh hs (attr.Con n) is r = absurd r
+register_result give.Fresh hs (attr.Ea o) is r = absurd r
+register_result give.Fresh hs (attr.Token l) is r = absurd r
+register_result give.Fresh hs attr.Nothing is r = absurd r
+register_result give.Reuse hs (attr.Reg n) is r = (n, refl, r)
+register_result give.Reuse hs (attr.InSlot k) is r = absurd r
+register_result give.Reuse hs (attr.Value o) is r = absurd r
+register_result give.Reuse hs (attr.Place o) is r = absurd r
+register_result give.Reuse hs (attr.Con n) is r = absurd r
+register_result give.Reuse hs (attr.Ea o) is r = absurd r
+register_result give.Reuse hs (attr.Token l) is r = absurd r
+register_result give.Reuse hs attr.Nothing is r = absurd r
+register_result give.Scratch hs (attr.Reg n) is r = (n, refl, r.0)
+register_result give.Scratch hs (attr.InSlot k) is r = absurd r
+register_result give.Scratch hs (attr.Value o) is r = absurd r
+register_result give.Scratch hs (attr.Place o) is r = absurd r
+register_result give.Scratch hs (attr.Con n) is r = absurd r
+register_result give.Scratch hs (attr.Ea o) is r = absurd r
+register_result give.Scratch hs (attr.Token l) is r = absurd r
+register_result give.Scratch hs attr.Nothing is r = absurd r
+register_result give.Nothing hs a is r = cc
+register_result (give.Shape l) hs a is r = cc
+
+module _ (every : Bool) (q : TreeProgram) (f : Extent) (fs : List Extent) (classes : List Class) (rule : Rule) (e : EffectShape) (hs : List (Attr Operand)) (res : Attr Operand) (v : View) (m : State)
+    (inst : Instance vax every q f fs classes rule e hs v m) where
+  abbrev scene : Scene
+  scene = scene_of q classes rule hs res v
+
+  -- a symbol's number is what the symbol is worth
+  pub symbol_worth : (i x : ℕ) → v.symbol i ≡ Some x → worth scene (Symbol i) ≡ x
+  symbol_worth i x is = ap (λ o. unwrap_or o 0 % 2 ^ 32) is ∙ low_long (size_at classes rule.right i) x (inst.small i x is)
+
+  hole_known : (i : ℕ) (h : Attr Operand) (size : Size) → hole hs i ≡ Some h → size_at classes rule.right i ≡ size → IsSome (v.symbol i) → target.worth vax q size h m ≡ Some (worth scene (Symbol i))
+  hole_known i h size at sized some =
+      let x = some_of (v.symbol i) some in
+      subst (λ z. target.worth vax q z h m ≡ Some (worth scene (Symbol i))) sized (inst.values i x.0 h at x.1 ∙ ap (λ (y : ℕ). Some y) (sym (symbol_worth i x.0 x.1)))
+
+  means_by : (j : ℕ) (o : Option Sym) → slice_get rule.right j ≡ o → Means scene m (role_at scene (suc j)) (suc j) (filling_at scene (suc j))
+  means_by j None is =
+      subst (λ r. Means scene m r (suc j) (filling_at scene (suc j)))
+      (sym (role_is scene j ∙ ap hole_or_other (mapped_at classes rule.right j ∙ ap (option_map (hole_of classes)) is))) tt
+  means_by j (Some s) is =
+      let x = filled_at classes rule.right hs j s inst.holes_fit is in
+      let sized : size_at classes rule.right (suc j) ≡ size_of_symbol classes s = size_is classes rule.right j ∙ ap (size_of_some classes) is in
+      subst (λ r. Means scene m r (suc j) (filling_at scene (suc j)))
+      (sym (role_is scene j ∙ ap hole_or_other (mapped_at classes rule.right j ∙ ap (option_map (hole_of classes)) is)))
+      (subst (λ a. Means scene m (hole_of classes s) (suc j) a) (sym (filling_is scene j ∙ ap (attr_or res) x.at))
+      (symbol_means scene m (suc j) inst.agrees.labelled classes s x.attribute x.fits
+      (hole_known (suc j) x.attribute (size_of_symbol classes s) x.at sized)
+      (inst.whole (suc j) x.attribute x.at)
+      (λ o is. subst (λ z. IsSome (names o z m)) sized (inst.homes (suc j) x.attribute o x.at is))))
+
+  means_all : (i : ℕ) → Means scene m (role_at scene i) i (filling_at scene i)
+  means_all zero = tt
+  means_all (suc j) = means_by j (slice_get rule.right j) refl
+
+  own_by : (g : Give) → IsResult vax g hs res → OwnIs scene (own_of g)
+  own_by give.Fresh r = let x = register_result give.Fresh hs res refl r in record { number = x.0; is = x.1; low = x.2 }
+  own_by give.Reuse r = let x = register_result give.Reuse hs res refl r in record { number = x.0; is = x.1; low = x.2 }
+  own_by give.Scratch r = let x = register_result give.Scratch hs res refl r in record { number = x.0; is = x.1; low = x.2 }
+  own_by give.Nothing r = tt
+  own_by (give.Shape l) r = tt
+
+  save_begins : (right : List Sym) → opening_of right ≡ opening.Save → begins_with_save right ≡ true
+  save_begins [] o = cc
+  save_begins (symbols.Class x ∷ right) o = cc
+  save_begins (symbols.Tok tok.Zero ∷ right) o = cc
+  save_begins (symbols.Tok tok.One ∷ right) o = cc
+  save_begins (symbols.Tok tok.Two ∷ right) o = cc
+  save_begins (symbols.Tok tok.Four ∷ right) o = cc
+  save_begins (symbols.Tok tok.Eight ∷ right) o = cc
+  save_begins (symbols.Tok tok.Const ∷ right) o = cc
+  save_begins (symbols.Tok tok.Gaddr ∷ right) o = cc
+  save_begins (symbols.Tok tok.Loc ∷ right) o = cc
+  save_begins (symbols.Tok tok.Arg ∷ right) o = cc
+  save_begins (symbols.Tok tok.IndirB ∷ right) o = cc
+  save_begins (symbols.Tok tok.IndirW ∷ right) o = cc
+  save_begins (symbols.Tok tok.IndirL ∷ right) o = cc
+  save_begins (symbols.Tok tok.Plus ∷ right) o = cc
+  save_begins (symbols.Tok tok.Minus ∷ right) o = cc
+  save_begins (symbols.Tok tok.Mul ∷ right) o = cc
+  save_begins (symbols.Tok tok.Div ∷ right) o = cc
+  save_begins (symbols.Tok tok.Mod ∷ right) o = cc
+  save_begins (symbols.Tok tok.And ∷ right) o = cc
+  save_begins (symbols.Tok tok.Or ∷ right) o = cc
+  save_begins (symbols.Tok tok.Xor ∷ right) o = cc
+  save_begins (symbols.Tok tok.Lsh ∷ right) o = cc
+  save_begins (symbols.Tok tok.Rsh ∷ right) o = cc
+  save_begins (symbols.Tok tok.Neg ∷ right) o = cc
+  save_begins (symbols.Tok tok.Com ∷ right) o = cc
+  save_begins (symbols.Tok tok.Sxb ∷ right) o = cc
+  save_begins (symbols.Tok tok.Zxb ∷ right) o = cc
+  save_begins (symbols.Tok tok.Sxw ∷ right) o = cc
+  save_begins (symbols.Tok tok.Zxw ∷ right) o = cc
+  save_begins (symbols.Tok tok.Ncb ∷ right) o = cc
+  save_begins (symbols.Tok tok.Ncw ∷ right) o = cc
+  save_begins (symbols.Tok tok.AssignB ∷ right) o = cc
+  save_begins (symbols.Tok tok.AssignW ∷ right) o = cc
+  save_begins (symbols.Tok tok.AssignL ∷ right) o = cc
+  save_begins (symbols.Tok tok.Cbr ∷ right) o = cc
+  save_begins (symbols.Tok tok.Push ∷ right) o = cc
+  save_begins (symbols.Tok tok.Ret ∷ right) o = cc
+  save_begins (symbols.Tok tok.Call ∷ right) o = cc
+  save_begins (symbols.Tok tok.Save ∷ right) o = refl
+  save_begins (symbols.Tok tok.Jump ∷ right) o = cc
+  save_begins (symbols.Tok tok.End ∷ right) o = cc
+
+  save_by : (g : Give) → opening_by g rule.right ≡ opening.Save → begins_with_save rule.right ≡ true
+  save_by give.Fresh o = save_begins rule.right o
+  save_by give.Reuse o = save_begins rule.right o
+  save_by give.Scratch o = save_begins rule.right o
+  save_by give.Nothing o = save_begins rule.right o
+  save_by (give.Shape l) o = cc
+
+  pub instance_seen : IsResult vax rule.give hs res → Sees scene None m
+  instance_seen r = record {
+    sound = inst.agrees.sound;
+    area = inst.agrees.area;
+    means = λ i free. means_all i;
+    own_is = own_by rule.give r;
+    holds = tt;
+    answered = λ o none. (let is = inst.answered (save_by rule.give o) in let lt = reg_small m R0 inst.agrees.sound in
+        (let same : reg m R0 ≡ reg m R0 % 2 ^ 32 = omega (arith, lt) in same) ∙ ap (λ x. x % 2 ^ 32) is);
+  }
+
+pub instances_are_seen : InstancesAreSeen
+instances_are_seen every q f fs classes rule e hs res v m inst r = instance_seen every q f fs classes rule e hs res v m inst r
