@@ -1,0 +1,4 @@
+pub mod Naming
+pub mod Valued
+pub mod Shapes
+pub mod Homes

@@ -1,0 +1,5 @@
+use Rattle.vax_target_shapes.proofs.Shapes.{shapes_stand}
+use Rattle.vax_target_shapes.proofs.laws.shapes_stand.Goals as goal
+
+pub returns : goal.returns
+returns c = shapes_stand
