@@ -5,3 +5,4 @@ pub mod Steps
 pub mod Runs
 pub mod Begin
 pub mod Unbroken
+pub mod Coming

@@ -38,6 +38,7 @@ use Rattle.c_meaning.specs.declared.frame.Control.{Control}
 use Rattle.c_meaning.specs.declared.frame.Control.TheVariants as controls
 use Rattle.c_meaning.specs.declared.machine.Machine.{Machine}
 use Rattle.c_meaning.specs.State.{Call, State}
+use Rattle.c_meaning.specs.Turns.{answers, Turns}
 use Rattle.c_meaning.specs.Meaning.{Rest, RestAll, RestAt, Behind, ALoop, Look, Body, chosen, logical, or_wild, or_trap, read_at, store_at, step_at, address_of, passed, answer, call, expr, place, arguments, dropped, tested, turned, look_at, turn_at, local_set, declared, followed, stmt, stmts, means, finished}
 
 -- the parts of a machine as the meaning has them
@@ -359,3 +360,11 @@ to_go false m left = to_come m left
 
 abbrev pub remaining : Machine → ℕ → ℕ → Bool → Bool → Remaining
 remaining m left taken spent failed = record { outcome = counted_from taken (to_go spent m left); taken = taken; failed = failed }
+
+-- the answers that are still to come: one alone once the number was used up
+abbrev pub answers_left : Bool → Machine → ℕ → List SourceTurn
+answers_left true m left = turns.Spent ∷ []
+answers_left false m left = answers (to_come m) left
+
+abbrev pub turns_of : Machine → ℕ → ℕ → Bool → Bool → Turns
+turns_of m left taken spent failed = record { answers = answers_left spent m left; remaining = remaining m left taken spent failed }

@@ -7,6 +7,7 @@ ghost use Rattle.gg_base.specs.Runs.{OneEnd, Advances};
 ghost use Rattle.c_program.specs.Programs.{AProgram, program as plain};
 ghost use Rattle.c_meaning.specs.State.{State};
 ghost use Rattle.c_meaning.specs.Meaning.{source, Behind, Task, task, means};
+ghost use Rattle.c_meaning.specs.Turns.{answers, Answers};
 
 use crate::flow::Event;
 use crate::machine::Machine;
@@ -28,13 +29,13 @@ pub struct SourceRun<'a> {
 
 impl<'a> Model for SourceRun<'a> {
     ghost use Rattle.std.specs.Prelude.{◌+◌, ◌<◌, ◌^◌};
-    ghost use Rattle.gg_base.specs.Runs.{Remaining};
+    ghost use Rattle.c_meaning.specs.Turns.{Turns};
 
-    ghost Value = { Remaining };
+    ghost Value = { Turns };
 
-    ghost use Rattle.c_meaning.specs.Runner.{remaining};
+    ghost use Rattle.c_meaning.specs.Runner.{turns_of};
 
-    ghost view = { λ r. remaining r.machine r.left r.taken r.spent r.failed };
+    ghost view = { λ r. turns_of r.machine r.left r.taken r.spent r.failed };
 
     ghost invariant = { λ r. r.taken + r.left < 2 ^ 64 };
 }
@@ -48,7 +49,8 @@ impl<'a> SourceRun<'a> {
         input: &'a [u8],
         n: u64,
     ) -> Result<SourceRun<'a>, NoMemory>
-        ensures begins { IfOk result (λ run. run ≡ record { outcome = source (plain program.now) input.now n; taken = 0; failed = false }) }
+        ensures begins { IfOk result (λ run. run.remaining ≡ record { outcome = source (plain program.now) input.now n; taken = 0; failed = false }) }
+        ensures answers { IfOk result (λ run. run.answers ≡ answers (source (plain program.now) input.now) n) }
         ensures one_end { OneEnd (source (plain program.now) input.now) }
         ensures unbroken { (count : ℕ) (kind : ABreak) → (source (plain program.now) input.now count).end ≡ Broken kind → ⊥ }
     {
@@ -66,10 +68,11 @@ impl<'a> SourceRun<'a> {
     /// Goes on to the next event: `Going` where one turn of a loop or one call was counted. After an end it answers that
     /// end again, and after `NoMemory` it answers that again.
     pub fn advance(&mut self) -> Result<SourceTurn, NoMemory>
-        ensures turn { IfOk result (λ turn. Advances self.old turn self.new) }
-        ensures wanting { IfErr result (λ _. self.new.failed ≡ true) }
-        ensures stays { self.old.failed ≡ true → IsErr result }
-        ensures within { self.new.taken ≤ self.new.outcome.number }
+        ensures turn { IfOk result (λ turn. Answers turn self.old.answers self.new.answers) }
+        ensures run { IfOk result (λ turn. Advances self.old.remaining turn self.new.remaining) }
+        ensures wanting { IfErr result (λ _. self.new.remaining.failed ≡ true) }
+        ensures stays { self.old.remaining.failed ≡ true → IsErr result }
+        ensures within { self.new.remaining.taken ≤ self.new.remaining.outcome.number }
     {
         if self.failed {
             return Err(NoMemory);

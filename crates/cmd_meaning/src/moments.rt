@@ -12,9 +12,9 @@ pub struct MeaningRun<'a> {
 impl Run for MeaningRun<'_> {
     ghost use Rattle.cmd_meaning.specs.Moments.{coming, left_of};
 
-    ghost coming = { λ r. coming r.run.outcome };
+    ghost coming = { λ r. coming r.run.remaining.outcome };
 
-    ghost left = { λ r. left_of r.run };
+    ghost left = { λ r. left_of r.run.remaining };
 
     fn advance(&mut self) -> Result<Moment, NoMemory> {
         match self.run.advance()? {
