@@ -55,7 +55,7 @@ use Rattle.vax_target_rules.proofs.Instances.{IsFilled, filled_at, mapped_at, ro
 
 -- ---- the register of the result
 
-avoids_at : (s : Spot) (hs : List (Attr Operand)) (j : ℕ) (h : Attr Operand) → Avoids vax s hs → slice_get hs j ≡ Some h → attr_touches vax h s ≡ false
+pub avoids_at : (s : Spot) (hs : List (Attr Operand)) (j : ℕ) (h : Attr Operand) → Avoids vax s hs → slice_get hs j ≡ Some h → attr_touches vax h s ≡ false
 avoids_at s [] j h a e = absurd (none_attr h e) where
   none_attr : (h : Attr Operand) → None ≡ Some h → ⊥
   none_attr h e = cc
@@ -65,7 +65,7 @@ avoids_at s (x ∷ hs) zero h a e = subst (λ y. attr_touches vax y s ≡ false)
 avoids_at s (x ∷ hs) (suc j) h a e = avoids_at s hs j h a.1 e
 
 -- where the operands' registers are avoided
-avoided : (g : Give) (hs : List (Attr Operand)) (n : ℕ) → is_reuse g ≡ false → IsResult vax g hs (attr.Reg n) → Avoids vax (RegAt n) hs
+pub avoided : (g : Give) (hs : List (Attr Operand)) (n : ℕ) → is_reuse g ≡ false → IsResult vax g hs (attr.Reg n) → Avoids vax (RegAt n) hs
 avoided give.Fresh hs n e r = r.1
 avoided give.Reuse hs n e r = cc
 avoided give.Scratch hs n e r = r.1

@@ -1,0 +1,219 @@
+-- The last line of a statement does the deed of its act.
+use Rattle.std.proofs.Common.{◌≡◌, ℕ, zero, suc, ◌+◌, ◌-◌, ◌*◌, ◌^◌, ◌<◌, ◌≤◌, ◌==◌, ◌⊎◌, inl, inr, Bool, true, false, cond, List, [], ◌∷◌, length, map, Option, Some, None, Result, Ok, Err, refl, sym, ap, subst, ◌∙◌, arith}
+use Rattle.std.specs.Prelude.{slice_get, slice_set, nat_lt, unwrap_or}
+use Rattle.std.proofs.lemmas.Bool.{lt-ltb}
+use Rattle.gg_base.specs.declared.size.Size.{Size}
+use Rattle.gg_base.specs.declared.size.Size.TheVariants.{Long}
+use Rattle.tree_core.specs.declared.program.TreeProgram.{TreeProgram}
+use Rattle.tree_core.specs.declared.token.Tok.{Tok}
+use Rattle.tree_core.specs.declared.token.Tok.TheVariants as tok
+use Rattle.tree_core.specs.declared.tree.Att.{Att}
+use Rattle.tree_core.specs.declared.tree.Att.TheVariants as att
+use Rattle.tree_core.specs.Area.{stored}
+use Rattle.tree_meaning.specs.State.{State as Trees}
+use Rattle.tree_meaning.specs.Steps as steps
+use Rattle.tree_meaning.specs.Steps.{Step, deed_step, put_in, with_argument_set}
+use Rattle.tree_meaning.specs.Deeds.{Deed, Puts as PutsDeed, Pushes, Returns as Leaves}
+use Rattle.tree_meaning.specs.declared.value.Meaning.{Meaning as Place}
+use Rattle.tree_meaning.specs.declared.value.Meaning.TheVariants as places
+use Rattle.md_reader.specs.declared.types.Class.{Class}
+use Rattle.md_reader.specs.declared.types.Give.{Give}
+use Rattle.md_reader.specs.declared.types.Give.TheVariants as give
+use Rattle.md_reader.specs.declared.types.Rule.{Rule}
+use Rattle.term_core.specs.Shape.{Shape}
+use Rattle.term_core.proofs.Values.{small}
+use Rattle.sel_terms.specs.Effects.{ActShape, EffectShape, StoreHome, StoreAt, Push, Return}
+use Rattle.sel_target.specs.declared.attr.Attr.{Attr}
+use Rattle.sel_target.specs.declared.attr.Attr.TheVariants as attr
+use Rattle.sel_target.specs.Courses.{Course as TargetCourse, Comes, Returns as ReturnsOut}
+use Rattle.sel_target.specs.Courses as courses
+use Rattle.sel_target.specs.Meaning.{Extent, RegAt}
+use Rattle.sel_target.specs.Values.{View, term_state, value, slot_place, own_operand, token_operand, PlaceIs, local as is_local, argument as is_argument, memory as is_memory}
+use Rattle.sel_target.specs.Instances.{hole, attr_touches, Ready}
+use Rattle.sel_target.specs.StatementLaws.{Stays, IsStep, HomeIs}
+use Rattle.vax_core.specs.declared.register.Reg.TheVariants.{R0, Ap, Fp}
+use Rattle.vax_core.specs.declared.operand.Operand.{Operand}
+use Rattle.vax_core.specs.declared.code.Instr.{Instr}
+use Rattle.vax_core.specs.Homes.{home, argument_home, word_addr}
+use Rattle.vax_core.specs.Registers.{reg_number}
+use Rattle.vax_machine.specs.declared.turn.Stop.{Stop}
+use Rattle.vax_machine.specs.declared.function.Conditions.{Conditions}
+use Rattle.vax_machine.specs.declared.operands.Location.{Location}
+use Rattle.vax_machine.specs.declared.operands.Location.TheVariants as locations
+use Rattle.vax_machine.specs.State.{State, reg, with_conditions, ◌>>=◌}
+use Rattle.vax_machine.specs.Memory.{written}
+use Rattle.vax_machine.specs.Operands.{put}
+use Rattle.vax_machine.specs.Calls.{pushed}
+use Rattle.vax_machine.specs.Functions.{valued}
+use Rattle.vax_machine.specs.Step.{pushing}
+use Rattle.vax_machine_lists.specs.Instructions as lists
+use Rattle.vax_machine_lists.specs.Instructions.{Course, exec}
+use Rattle.vax_states.specs.Stack.{word_of, argument_of}
+use Rattle.vax_states.proofs.Standing.{local_written, argument_written, area_written_so, push_written}
+use Rattle.vax_states.proofs.Keeping.{reg_small}
+use Rattle.vax_states.proofs.Sentences.{word_address}
+use Rattle.vax_templates.specs.declared.setting.Own.{Own}
+use Rattle.vax_templates.specs.declared.setting.Own.TheVariants as own
+use Rattle.vax_templates.specs.Settings.{own_of}
+use Rattle.vax_templates.specs.Filled.{spare, word_operand, slot_operand, leaf_operand, operand_in, attr_or, register_in}
+use Rattle.vax_target_meaning.specs.Reading.{named, moved, names, displaced}
+use Rattle.vax_target_meaning.specs.Running.{course_of, run}
+use Rattle.vax_target_meaning.specs.Vax.{vax, stands}
+use Rattle.vax_target_operands.specs.Scenes.{Scene, worth, filling_at}
+use Rattle.vax_target_operands.specs.Places.{IsHome}
+use Rattle.vax_target_operands.proofs.Machine.{some_same, none_some}
+use Rattle.vax_target_lines.specs.Lines.{IsStored, putting, Puts}
+use Rattle.vax_target_runs.specs.Runs.{OwnChanged, ZeroChanged, Changed, IsReturn, EndsIn}
+use Rattle.vax_target_runs.proofs.Kept.{names_same}
+use Rattle.vax_target_rules.proofs.Instances.{filling_is, register_result}
+use Rattle.vax_target_statements.proofs.Acts.{c, did, statement_ends, far, agrees_there, room_there, live_there, codes_agree}
+
+-- what fills a hole that is there
+pub filled_hole : (s : Scene) (i : ℕ) (h : Attr Operand) → hole s.holes i ≡ Some h → filling_at s i ≡ h
+filled_hole s zero h e = cc
+filled_hole s (suc j) h e = filling_is s j ∙ ap (attr_or s.own) e
+
+-- a symbol's own place is what its hole spells
+pub own_is : (q : TreeProgram) (h : Attr Operand) (o : Operand) → own_operand vax h ≡ Some o → operand_in q h ≡ o
+own_is q (attr.Reg r) o e = absurd (none_op o e) where
+  none_op : (o : Operand) → None ≡ Some o → ⊥
+  none_op o e = cc
+own_is q (attr.InSlot w) o e = absurd (none_op o e) where
+  none_op : (o : Operand) → None ≡ Some o → ⊥
+  none_op o e = cc
+own_is q (attr.Value p) o e = absurd (none_op o e) where
+  none_op : (o : Operand) → None ≡ Some o → ⊥
+  none_op o e = cc
+own_is q (attr.Place p) o e = some_op p o e where
+  some_op : (p o : Operand) → Some p ≡ Some o → p ≡ o
+  some_op p o e = cc
+own_is q (attr.Con n) o e = absurd (none_op o e) where
+  none_op : (o : Operand) → None ≡ Some o → ⊥
+  none_op o e = cc
+own_is q (attr.Ea p) o e = absurd (none_op o e) where
+  none_op : (o : Operand) → None ≡ Some o → ⊥
+  none_op o e = cc
+own_is q (attr.Token l) o e = token_is l.tok l.att o e where
+  none_op : (o : Operand) → None ≡ Some o → ⊥
+  none_op o e = cc
+
+  some_op : (p o : Operand) → Some p ≡ Some o → p ≡ o
+  some_op p o e = cc
+
+  slot_is : (t : Tok) (k : ℕ) (o : Operand) → slot_place vax.local vax.argument t k ≡ Some o → slot_operand t k ≡ o
+  slot_is tok.Zero k o e = absurd (none_op o e)
+  slot_is tok.One k o e = absurd (none_op o e)
+  slot_is tok.Two k o e = absurd (none_op o e)
+  slot_is tok.Four k o e = absurd (none_op o e)
+  slot_is tok.Eight k o e = absurd (none_op o e)
+  slot_is tok.Const k o e = absurd (none_op o e)
+  slot_is tok.Gaddr k o e = absurd (none_op o e)
+  slot_is tok.Loc k o e = some_op _ o e
+  slot_is tok.Arg k o e = some_op _ o e
+  slot_is tok.IndirB k o e = absurd (none_op o e)
+  slot_is tok.IndirW k o e = absurd (none_op o e)
+  slot_is tok.IndirL k o e = absurd (none_op o e)
+  slot_is tok.Plus k o e = absurd (none_op o e)
+  slot_is tok.Minus k o e = absurd (none_op o e)
+  slot_is tok.Mul k o e = absurd (none_op o e)
+  slot_is tok.Div k o e = absurd (none_op o e)
+  slot_is tok.Mod k o e = absurd (none_op o e)
+  slot_is tok.And k o e = absurd (none_op o e)
+  slot_is tok.Or k o e = absurd (none_op o e)
+  slot_is tok.Xor k o e = absurd (none_op o e)
+  slot_is tok.Lsh k o e = absurd (none_op o e)
+  slot_is tok.Rsh k o e = absurd (none_op o e)
+  slot_is tok.Neg k o e = absurd (none_op o e)
+  slot_is tok.Com k o e = absurd (none_op o e)
+  slot_is tok.Sxb k o e = absurd (none_op o e)
+  slot_is tok.Zxb k o e = absurd (none_op o e)
+  slot_is tok.Sxw k o e = absurd (none_op o e)
+  slot_is tok.Zxw k o e = absurd (none_op o e)
+  slot_is tok.Ncb k o e = absurd (none_op o e)
+  slot_is tok.Ncw k o e = absurd (none_op o e)
+  slot_is tok.AssignB k o e = absurd (none_op o e)
+  slot_is tok.AssignW k o e = absurd (none_op o e)
+  slot_is tok.AssignL k o e = absurd (none_op o e)
+  slot_is tok.Cbr k o e = absurd (none_op o e)
+  slot_is tok.Push k o e = absurd (none_op o e)
+  slot_is tok.Ret k o e = absurd (none_op o e)
+  slot_is tok.Call k o e = absurd (none_op o e)
+  slot_is tok.Save k o e = absurd (none_op o e)
+  slot_is tok.Jump k o e = absurd (none_op o e)
+  slot_is tok.End k o e = absurd (none_op o e)
+
+  token_is : (t : Tok) (a : Att) (o : Operand) → token_operand vax t a ≡ Some o → leaf_operand q t a ≡ o
+  token_is t att.Nothing o e = absurd (none_op o e)
+  token_is t (att.Number n) o e = absurd (none_op o e)
+  token_is t (att.Object object offset) o e = absurd (none_op o e)
+  token_is t (att.Slot k) o e = slot_is t k o e
+  token_is t (att.Branch rel label) o e = absurd (none_op o e)
+  token_is t (att.Label label) o e = absurd (none_op o e)
+  token_is t (att.Callee function count) o e = absurd (none_op o e)
+own_is q attr.Nothing o e = absurd (none_op o e) where
+  none_op : (o : Operand) → None ≡ Some o → ⊥
+  none_op o e = cc
+
+module _ (q : TreeProgram) (f : Extent) (fs : List Extent) (classes : List Class) (rule : Rule) (e : EffectShape) (hs : List (Attr Operand)) (res : Attr Operand) (v : View) (m : State)
+    (ready : Ready vax q f fs classes rule e hs res v m) where
+  abbrev S : Scene
+  S = c q f fs classes rule e hs res v m ready
+
+  abbrev D : Course
+  D = did q f fs classes rule e hs res v m ready
+
+  abbrev pub Steps : Course → Step → Type 0
+  Steps x s = IsStep vax q f fs v.state m (course_of x) s
+
+  -- something is written, and the run goes on
+  pub goes : (n s : State) (l : Location) (size : Size) (x : ℕ) (k : Conditions) (d : Course) (t : Trees) → d ≡ putting n l size x k → put n l size x ≡ Ok s → stands q f fs t s → s.frames ≡ m.frames →
+      Steps d (steps.Goes t)
+  goes n s l size x k d t is done stand frames = (
+    with_conditions s k,
+    ap course_of (is ∙ ap (λ (r : Result State Stop). lists.course_of (r >>= λ (y : State). Ok (None, with_conditions y k))) done),
+    record { agrees = codes_agree q f fs t s k stand; live = frames },
+  )
+
+  -- a number in the data area
+  pub area_goes : (n : State) (a : ℕ) (size : Size) (x : ℕ) (k : Conditions) (d : Course) → stands q f fs v.state n → n.frames ≡ m.frames → d ≡ putting n (locations.Memory a) size x k →
+      (o : Option (List ℕ)) → stored size v.state.area a x ≡ o → Steps d (put_in v.state o)
+  area_goes n a size x k d stand frames is None e' = tt
+  area_goes n a size x k d stand frames is (Some area) e' =
+      let w = area_written_so q.objects _ _ v.state n stand size a x area e' in
+      goes n (record n { area = area }) (locations.Memory a) size x k d (record v.state { area = area }) is w.0 w.1 frames
+
+  module _ (a : ActShape) (x : EndsIn S m a D) where
+    abbrev n : State
+    n = x.state
+
+    agrees : stands q f fs v.state n
+    agrees = agrees_there q f fs classes rule e hs res v m ready a x
+
+    frames : n.frames ≡ m.frames
+    frames = live_there q f fs classes rule e hs res v m ready a x
+
+    pub at_goes : (size : Size) (address t : Shape) (g : Place) (y : ℕ) → Puts S n size (worth S t) (λ l. l ≡ locations.Memory (worth S address)) D →
+        g ≡ places.Memory size (value v address) → value v t ≡ y → Steps D (deed_step q v.state (PutsDeed g y))
+    at_goes size address t g y p is worth_so =
+        subst (λ z. Steps D (deed_step q v.state (PutsDeed z y))) (sym is)
+        (subst (λ z. Steps D (deed_step q v.state (PutsDeed (places.Memory size (value v address)) z))) worth_so
+        (area_goes n (worth S address) size (worth S t) p.conditions D agrees frames (p.is ∙ ap (λ l. putting n l size (worth S t) p.conditions) p.there)
+        (stored size v.state.area (worth S address) (worth S t)) refl))
+
+    pub pushes : (t : Shape) (y : ℕ) → D ≡ lists.course_of (pushing n (worth S t)) → value v t ≡ y → Steps D (deed_step q v.state (Pushes y))
+    pushes t y is worth_so =
+        subst (λ z. Steps D (deed_step q v.state (Pushes z))) worth_so
+        (let w = push_written q.objects _ _ v.state n agrees (worth S t) (room_there q f fs classes rule e hs res v m ready a x) (small (term_state v) t) in (
+          _,
+          ap course_of (is ∙ ap (λ (r : Result State Stop). lists.course_of (r >>= λ (s : State). Ok (None, with_conditions s (valued Long (worth S t) n.conditions.carry).conditions))) w.0),
+          record { agrees = codes_agree q f fs _ _ (valued Long (worth S t) n.conditions.carry).conditions w.1; live = frames },
+        ))
+
+    pub leaves : (t : Shape) (y : ℕ) → D ≡ lists.ends (lists.Returns n) → reg n R0 ≡ worth S t → value v t ≡ y → Steps D (deed_step q v.state (Leaves y))
+    leaves t y is holds worth_so = (
+      n,
+      ap course_of is,
+      record { agrees = agrees; live = frames },
+      holds ∙ worth_so,
+      room_there q f fs classes rule e hs res v m ready a x,
+    )

@@ -1,0 +1,6 @@
+pub mod Acts
+pub mod Deeds
+pub mod Homes
+pub mod Firsts
+pub mod Controls
+pub mod Stated

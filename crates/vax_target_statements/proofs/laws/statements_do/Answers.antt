@@ -1,0 +1,6 @@
+-- The lemma of `Stated`.
+use Rattle.vax_target_statements.proofs.Stated.{statements_do}
+use Rattle.vax_target_statements.proofs.laws.statements_do.Goals as goal
+
+pub returns : goal.returns
+returns c = statements_do

@@ -1,0 +1,4 @@
+//! What the statements of the VAX do.
+#![tactic(auto)]
+
+pub mod laws;
