@@ -1,5 +1,5 @@
 -- What the free choices are, as candidates.
-use Rattle.std.proofs.Common.{◌≡◌, ◌⊎◌, ℕ, zero, suc, ◌+◌, ◌≤◌, ◌<◌, List, [], ◌∷◌, ◌++◌, Option, Some, None, Contains, Bool, true, false, length, get_or, take, slice_get, refl, sym, ap, ◌∙◌, subst, inl, inr, ⊎_elim, arith, true≢false}
+use Rattle.std.proofs.Common.{◌≡◌, ℕ, zero, suc, ◌+◌, ◌≤◌, ◌<◌, List, [], ◌∷◌, ◌++◌, Option, Some, None, Contains, true, false, length, get_or, take, slice_get, refl, sym, ap, ◌∙◌, subst, ⊎_elim, arith, true≢false}
 use Rattle.std.specs.Prelude.{nat_lt, ◌==◌, if◌then◌else◌}
 use Rattle.std.proofs.lemmas.Option.{slice_get_within, get_or_from_slice_get, slice_get-get_or}
 use Rattle.std.proofs.lemmas.List.{get_or-take, length-take-le}
@@ -8,8 +8,8 @@ use Rattle.md_reader.specs.declared.types.Rule.{Rule}
 use Rattle.md_reader.specs.declared.types.Restriction.{Restriction}
 use Rattle.lr_tables.specs.declared.types.Choice.{Choice}
 use Rattle.lr_tables.specs.declared.types.Choice.TheVariants as choice
-use Rattle.lr_check_sets.specs.Automaton.{Candidate, shift, reduce, Free, CanBlock}
-use Rattle.lr_check_sets.specs.Table.{production, reduced_by, candidates_of}
+use Rattle.lr_check_sets.specs.Automaton.{Candidate, Free, CanBlock}
+use Rattle.lr_check_sets.specs.Table.{reduced_by, candidates_of}
 use Rattle.lr_check_closed.specs.Choices.{seen_rule, CandidateOf, may_pass, HasFree}
 
 asks_passes : (xs : List Restriction) → (if length xs == 0 then false else true) ≡ true → nat_lt 0 (length xs) ≡ true

@@ -1,14 +1,12 @@
 -- Sums that are found are at least as many as the least set has.
-use Rattle.std.proofs.Common.{◌≡◌, ◌⊎◌, ℕ, zero, suc, ◌+◌, ◌-◌, ◌≤◌, ◌<◌, List, [], ◌∷◌, ◌++◌, Bool, true, false, cond, Contains, length, get_or, take, refl, sym, ap, ◌∙◌, subst, inl, inr, ⊎_elim, arith, true≢false, length-append}
+use Rattle.std.proofs.Common.{◌≡◌, ℕ, zero, suc, ◌+◌, ◌-◌, ◌≤◌, ◌<◌, List, [], ◌∷◌, ◌++◌, Bool, true, false, cond, Contains, length, get_or, take, refl, sym, ap, ◌∙◌, subst, inl, inr, arith, true≢false, length-append}
 use Rattle.std.specs.Prelude.{AllPairs, if◌then◌else◌, sum_by, count_by}
 use Rattle.std.proofs.Math.Seq.{take-suc, take-length}
-use Rattle.std.proofs.lemmas.List.{get_or_default}
 use Rattle.std.proofs.lemmas.List.Sums.{sum_by-cons, sum_by-append}
 use Rattle.tree_core.specs.declared.token.Tok.{Tok}
 use Rattle.md_reader.specs.declared.types.Sym.{Sym}
 use Rattle.lr_tables.proofs.Members.{In, In-left, In-right, In-Contains, Contains-In, slice_get-In}
 use Rattle.lr_check_sets.specs.Automaton.{Automaton}
-use Rattle.lr_check_sets.specs.Sums.{Sum}
 use Rattle.lr_check_sets.proofs.Closing.{sum_in}
 use Rattle.lr_check_closed.specs.declared.facts.Place.{Place}
 use Rattle.lr_check_closed.specs.declared.facts.Entry.{Entry}
@@ -111,7 +109,8 @@ pub left_turn : (vs : List SpotView) (n : ℕ) (v : SpotView) (left count most :
 left_turn vs n v left count most e lt is many le =
     let more : take (n + 1) vs ≡ take n vs ++ (get_or vs n v ∷ []) = ap (λ k. take k vs) (let s : n + 1 ≡ suc n = omega arith in s) ∙ take-suc vs n v lt in
     let one : sum_by sums_at (get_or vs n v ∷ []) ≡ sums_at v = sum_by-cons sums_at (get_or vs n v) [] ∙ (ap (λ (w : SpotView). sums_at w + 0) (sym is) ∙ omega arith) in
-    let all : sum_by sums_at (take (n + 1) vs) ≡ sum_by sums_at (take n vs) + sums_at v = ap (sum_by sums_at) more ∙ (sum_by-append sums_at (take n vs) (get_or vs n v ∷ []) ∙ ap (λ k. sum_by sums_at (take n vs) + k) one) in
+    let all : sum_by sums_at (take (n + 1) vs) ≡ sum_by sums_at (take n vs) + sums_at v = ap (sum_by sums_at) more ∙
+    (sum_by-append sums_at (take n vs) (get_or vs n v ∷ []) ∙ ap (λ k. sum_by sums_at (take n vs) + k) one) in
     count_turn left count most (sum_by sums_at (take n vs)) (sum_by sums_at (take (n + 1) vs)) (sums_at v) e many le all
   where
     count_turn : (left count most a b c : ℕ) → left + a ≡ most → count ≡ c → count ≤ left → b ≡ a + c → (left - count) + b ≡ most

@@ -1,21 +1,18 @@
 -- Where all that follows is found and no fault shows, there is no fault.
-use Rattle.std.proofs.Common.{◌≡◌, ℕ, List, [], ◌∷◌, ◌++◌, Option, Some, None, Contains, length, get_or, slice_get, refl, sym, ap, ◌∙◌, subst}
+use Rattle.std.proofs.Common.{◌≡◌, ℕ, List, [], ◌∷◌, ◌++◌, Option, Some, Contains, slice_get, sym, ap, ◌∙◌, subst}
 use Rattle.std.proofs.lemmas.Option.{slice_get_within, get_or_from_slice_get}
 use Rattle.tree_core.specs.declared.token.Tok.{Tok}
-use Rattle.tree_core.specs.declared.token.Tok.TheVariants as tok
 use Rattle.tree_core.specs.declared.token.Sort.{Sort}
 use Rattle.tree_core.specs.Grammar.{kids}
 use Rattle.md_reader.specs.declared.types.Sym.{Sym}
 use Rattle.md_reader.specs.declared.types.Sym.TheVariants as symbol
-use Rattle.lr_check_sets.specs.Trees.{May}
-use Rattle.lr_check_sets.specs.Automaton.{Automaton, Production, Candidate, reduce, walk, go_from, size_of, Free, CanBlock, reduced, Outside}
+use Rattle.lr_check_sets.specs.Automaton.{Automaton, walk, go_from, reduced}
 use Rattle.lr_check_sets.specs.Faults.{Calms, NoFault}
 use Rattle.lr_check_sets.specs.Closed.{IsClosed, IsFine}
 use Rattle.lr_check_sets.proofs.Closing.{no_fault}
 use Rattle.lr_check_closed.specs.declared.facts.Place.{Place}
-use Rattle.lr_check_closed.specs.declared.facts.Entry.{Entry}
-use Rattle.lr_check_closed.specs.Found.{SpotView, Found, list_at, place_of, IsAt, HasPlace, Settles, Sums, HasSettling, HasSum}
-use Rattle.lr_check_closed.specs.Closed.{token_list, OnlyIn, SecondIn, FirstIn, BothIn, KidsIn, ListIn, EntryIn, IsCalm, SpotIn, AllIn}
+use Rattle.lr_check_closed.specs.Found.{SpotView, Found, place_of, IsAt, HasPlace, Settles, HasSettling, HasSum}
+use Rattle.lr_check_closed.specs.Closed.{KidsIn, ListIn, SpotIn, AllIn}
 
 Some-same : {X : Type 0} (x y : X) → Some x ≡ Some y → x ≡ y
 Some-same x y e = cc

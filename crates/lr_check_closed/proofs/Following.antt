@@ -1,7 +1,7 @@
 -- The turns of the loops over kids, entries and places.
-use Rattle.std.proofs.Common.{◌≡◌, ◌⊎◌, ℕ, zero, suc, ◌+◌, ◌-◌, ◌≤◌, ◌<◌, List, [], ◌∷◌, ◌++◌, Option, Some, None, Contains, Bool, true, false, length, get_or, drop, set, replicate, slice_get, refl, sym, ap, ◌∙◌, subst, inl, inr, ⊎_elim, arith, true≢false}
+use Rattle.std.proofs.Common.{◌≡◌, ◌⊎◌, ℕ, zero, suc, ◌-◌, ◌≤◌, ◌<◌, List, [], ◌∷◌, ◌++◌, Option, Some, None, Contains, Bool, true, false, length, get_or, drop, set, replicate, slice_get, refl, sym, ap, ◌∙◌, subst, inl, inr, arith, true≢false}
 use Rattle.std.specs.Prelude.{slice_index_or, not, Result, Ok, Err, IfOk, IfSome, IsTrue}
-use Rattle.std.proofs.lemmas.Option.{slice_get_within, get_or_from_slice_get, slice_get-get_or}
+use Rattle.std.proofs.lemmas.Option.{get_or_from_slice_get, slice_get-get_or}
 use Rattle.std.proofs.lemmas.List.{get_or-set_other}
 use Rattle.std.proofs.lemmas.Bool.{cases_lt}
 use Rattle.tree_core.specs.declared.token.Tok.{Tok}
@@ -15,7 +15,6 @@ use Rattle.lr_tables.specs.declared.types.Choice.{Choice}
 use Rattle.lr_tables.specs.declared.types.Choice.TheVariants as choice
 use Rattle.lr_tables.specs.View.{TableView}
 use Rattle.lr_tables.specs.Leads.{actions_at, target_at}
-use Rattle.lr_check_sets.specs.Trees.{May, may}
 use Rattle.lr_check_sets.specs.Automaton.{Automaton, Production, Candidate, shift, reduce, walk, size_of, Free, CanBlock, reduced, Outside}
 use Rattle.lr_check_sets.specs.Faults.{Calms, calms}
 use Rattle.lr_check_sets.specs.Table.{production, candidates_of, candidates_at, automaton_of}
@@ -24,13 +23,11 @@ use Rattle.lr_check_closed.specs.declared.facts.Place.{Place}
 use Rattle.lr_check_closed.specs.declared.facts.Entry.{Entry}
 use Rattle.lr_check_closed.specs.declared.choices.Leads.{Leads}
 use Rattle.lr_check_closed.specs.declared.choices.Seen.{Seen}
-use Rattle.lr_check_closed.specs.declared.choices.Leads.TheVariants.{Out, Whole, Inside}
+use Rattle.lr_check_closed.specs.declared.choices.Leads.TheVariants.{Out, Whole}
 use Rattle.lr_check_closed.specs.Found.{SpotView, Found, list_at, place_of, IsAt, HasPlace, Settles, HasSum}
-use Rattle.lr_check_closed.specs.Choices.{leads_by, seen_rule, seen, CandidateOf, may_pass, HasFree}
+use Rattle.lr_check_closed.specs.Choices.{leads_by, seen_rule, seen, CandidateOf, HasFree}
 use Rattle.lr_check_closed.specs.Closed.{token_list, AreFirsts, OnlyIn, SumIn, SecondIn, FirstIn, KidsIn, LeadsIn, ChoiceIn, ListIn, EntryIn, IsCalm, SpotIn, AreMarked, IsMarked, LeadsCalm}
 use Rattle.lr_check_closed.proofs.Enough.{one_spot}
-use Rattle.lr_check_closed.proofs.Choosing.{passes_at}
-use Rattle.lr_check_closed.proofs.Gaining.{Below, none_below, one_more, of_all}
 
 Some-same : {X : Type 0} (x y : X) → Some x ≡ Some y → x ≡ y
 Some-same x y e = cc
@@ -189,7 +186,8 @@ seen_same : (t : TableView) (f : Found) (e : Entry) (d : Content) (rules : List 
     seen rules (length s) c ≡ seen t.content.rules (length (list_at f e.list)) c
 seen_same t f e d rules s c se de re = ap (λ (rs : List Rule). seen rs (length s) c) (re ∙ ap (λ (x : Content). x.rules) de) ∙ ap (λ (l : List Sym). seen t.content.rules (length l) c) se
 
-pub calm_found : (t : TableView) (f : Found) (v : SpotView) (e : Entry) (marks : List Bool) (x : Place) (s : List Sym) (r : Option ℕ) (p : ℕ) (d : Content) (rules : List Rule) (choices free : List Choice) →
+pub calm_found : (t : TableView) (f : Found) (v : SpotView) (e : Entry) (marks : List Bool) (x : Place) (s : List Sym) (r : Option ℕ) (p : ℕ) (d : Content) (rules : List Rule)
+    (choices free : List Choice) →
     x ≡ v.place → s ≡ list_at f e.list → r ≡ walk (automaton_of t) x.state s → r ≡ Some p → d ≡ t.content → rules ≡ d.rules → choices ≡ actions_at t p x.behind → HasFree rules choices free →
     AreMarked (automaton_of t) f v marks → ((c : Choice) → Contains free c → LeadsCalm f v marks (seen rules (length s) c).leads) → IsCalm (automaton_of t) f v e
 calm_found t f v e marks x s r p d rules choices free xe se re pe de rue ce has marked each =
@@ -265,7 +263,8 @@ pub not_both : (b : Bool) → not b ≡ true → b ≡ true → ⊥
 not_both true n e = false_true n
 not_both false n e = false_true e
 
-pub sum_found : (f : Found) (v : SpotView) (e : Entry) (x : Place) (l first : List Sym) → l ≡ list_at f e.list → x ≡ v.place → Settles f v (l ++ (first ++ (symbol.Tok x.token ∷ []))) → SumIn f v e first
+pub sum_found : (f : Found) (v : SpotView) (e : Entry) (x : Place) (l first : List Sym) → l ≡ list_at f e.list → x ≡ v.place → Settles f v (l ++ (first ++ (symbol.Tok x.token ∷ []))) → SumIn f v
+    e first
 sum_found f v e x l first le xe h = record {
   settles = λ is. subst (λ (y : Place). Settles f v (list_at f e.list ++ (first ++ (symbol.Tok y.token ∷ [])))) xe
       (subst (λ (z : List Sym). Settles f v (z ++ (first ++ (symbol.Tok x.token ∷ [])))) le h);

@@ -1,5 +1,5 @@
 -- The tokens of trees are listed.
-use Rattle.std.proofs.Common.{◌≡◌, ℕ, List, Contains, refl, false, true, sym, subst, arith}
+use Rattle.std.proofs.Common.{◌≡◌, List, Contains, refl, false, true, sym, subst, arith}
 use Rattle.tree_core.specs.declared.token.Tok.{Tok}
 use Rattle.tree_core.specs.declared.token.Tok.TheVariants as tok
 use Rattle.tree_core.specs.declared.token.Sort.{Sort}

@@ -1,6 +1,5 @@
 -- How many tuples the set of sums has, and how many sums are found.
 use Rattle.std.specs.Prelude.{◌≡◌, ℕ, ◌<◌, List, [], ◌∷◌, ◌++◌, Contains, AllPairs, length, count_by, if◌then◌else◌}
-use Rattle.tree_core.specs.declared.token.Tok.{Tok}
 use Rattle.md_reader.specs.declared.types.Sym.{Sym}
 use Rattle.lr_check_sets.specs.Automaton.{Automaton}
 use Rattle.lr_check_sets.specs.Sums.{Sum}

@@ -4,14 +4,15 @@ use crate::places::{Origin, Places};
 use crate::settling::{Answers, Settling, Settlings};
 use crate::turning::turns;
 use gg_base::NoMemory;
+use gg_base::limits::SUMMARY_LIMIT;
 use lr_check_closed::{Leads, Place, Seen, TOKENS, candidate};
 use lr_tables::{Choice, State, Tables};
 use md_reader::Sym;
 use std::alloc::{AllocError, AllocFailed, Global};
 use tree_core::{Sort, Tok};
 
-/// The most tuples of `Sums`.
-pub const MAX_TUPLES: usize = 4_000_000;
+/// The most sums.
+pub const MAX_TUPLES: usize = SUMMARY_LIMIT as usize;
 
 // More rounds than there can be places and settlings in memory.
 const MAX_ROUNDS: u64 = 1 << 62;

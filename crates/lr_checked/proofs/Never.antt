@@ -2,12 +2,7 @@
 use Rattle.std.proofs.Common.{◌≡◌, ◌⊎◌, ℕ, suc, ◌+◌, ◌*◌, ◌≤◌, List, [], ◌∷◌, Bool, length, map, refl, sym, ap, ◌∙◌, subst, inl, inr, arith}
 use Rattle.tree_core.specs.declared.token.Tok.{Tok}
 use Rattle.tree_core.specs.declared.token.Tok.TheVariants as tok
-use Rattle.md_reader.specs.State.{Content}
-use Rattle.md_reader.specs.Valid.{IsValid}
 use Rattle.lr_tables.specs.Statements.{stmt_of}
-use Rattle.lr_tables.specs.View.{TableView}
-use Rattle.lr_tables.specs.Promises.{IsNumbered}
-use Rattle.lr_check_sets.specs.Faults.{NoFault}
 use Rattle.lr_check_sets.specs.Trees.{onto}
 use Rattle.lr_check_sets.specs.Exact.{MeetsLaws}
 use Rattle.lr_check_sets.specs.Table.{productions, automaton_of}
@@ -19,12 +14,12 @@ use Rattle.lr_check.specs.Tree.{Token}
 use Rattle.lr_check.specs.Parse.{Ends}
 use Rattle.lr_check.proofs.Only.{ends_same}
 use Rattle.lr_check_law.proofs.Accepting.{toks, toks-tree, every_tree_is_accepted}
-use Rattle.lr_check_parse.specs.Moves.{Answering, Move, Ending, Accepts, Blocks, Loops, Refuses, Parses}
+use Rattle.lr_check_parse.specs.Moves.{Answering, Ending, Accepts, Blocks, Loops, Refuses}
 use Rattle.lr_check_parse.specs.Lists.{EndsSo}
-use Rattle.lr_check_parse.specs.Claims.{questioned, HasAnswers}
+use Rattle.lr_check_parse.specs.Claims.{questioned}
 use Rattle.lr_check_parse.specs.Typed.{IsStatement}
 use Rattle.lr_check_parse.proofs.Sources.{parse_answered}
-use Rattle.lr_checked.specs.Accepted.{tokens, moves, NeverStops}
+use Rattle.lr_checked.specs.Accepted.{tokens, moves}
 use Rattle.lr_checked.specs.Claims.{NoFaultIsEnough, ParsesAccept}
 use Rattle.lr_checked.proofs.Trees.{statement_tree}
 use Rattle.lr_checked.proofs.Counting.{counted}

@@ -7,11 +7,12 @@ use cmd_session::{InputFault, read_all, write_all};
 use gg_base::NoMemory;
 use gg_outside::{StdSink, StdSource};
 use lr_check::{Outcome, Sample, replay};
-use lr_checked::{CheckFault, check};
+use lr_checked::{CheckFault, check, sample_lines};
 use lr_tables::{Tables, build};
 use md_reader::read_description;
 use std::alloc::Global;
 use std::process::ExitCode;
+use std::str;
 
 /// The most bytes of a description.
 const MAX_BYTES: usize = 262_144;
@@ -19,21 +20,9 @@ const MAX_BYTES: usize = 262_144;
 // What the sample shows, its nodes, and its replay.
 fn shown(alloc: Global, what: &str, tables: &Tables, sample: &Sample) -> Result<String, NoMemory> {
     let mut text = String::from_str(alloc, what)?;
-    let nodes = sample.nodes();
-    for number in 0..nodes.len() {
-        let node = &nodes[number];
-        let name = node.tok().name();
-        let line = format!(in alloc; "{number} {name}")?;
-        text.push_str(&line)?;
-        for kid in node.kids() {
-            let kid = *kid;
-            let line = format!(in alloc; " {kid}")?;
-            text.push_str(&line)?;
-        }
-        for answer in node.answers() {
-            text.push_str(if *answer { " yes" } else { " no" })?;
-        }
-        text.push_str("\n")?;
+    let lines = sample_lines(alloc, sample)?;
+    if let Ok(lines) = str::from_utf8(lines.as_slice()) {
+        text.push_str(lines)?;
     }
     let end = replayed(alloc, tables, sample)?;
     text.push_str(&end)?;

@@ -1,10 +1,12 @@
-use Rattle.std.proofs.Common.{List, sym, ◌∙◌, ap, subst, refl, arith, Some, None}
+use Rattle.std.proofs.Common.{None}
 use Rattle.lr_check_sets.specs.Table.{automaton_of}
 use Rattle.lr_check_closed.proofs.Following.{calm_found, calm_nowhere, walked}
 use Rattle.lr_check_closed.proofs.calm.is_calm.Goals as goal
 
 pub returns-in-None : goal.returns-in-None
-returns-in-None c = λ u. calm_nowhere (automaton_of c.args.tables.now) c.args.facts.now c.args.spot.now c.args.entry (walked (automaton_of c.args.tables.now) _ _ _ _ _ None c.place-place.ensures c.list-list.ensures c.state_behind.ensures c.in-None.is)
+returns-in-None c = λ u. calm_nowhere (automaton_of c.args.tables.now) c.args.facts.now c.args.spot.now c.args.entry
+    (walked (automaton_of c.args.tables.now) _ _ _ _ _ None c.place-place.ensures c.list-list.ensures c.state_behind.ensures c.in-None.is)
 
 pub returns : goal.returns
-returns c = λ u. calm_found c.args.tables.now c.args.facts.now c.args.spot.now c.args.entry c.args.marks.now _ _ _ c.in-Some.state _ _ _ c.free_choices-free.result.now c.place-place.ensures c.list-list.ensures c.state_behind.ensures c.in-Some.is c.description.ensures c.rules-rules.ensures c.action.ensures.value c.free_choices-free.ensures c.requires (c.lead_calm.ensures u)
+returns c = λ u. calm_found c.args.tables.now c.args.facts.now c.args.spot.now c.args.entry c.args.marks.now _ _ _ c.in-Some.state _ _ _ c.free_choices-free.result.now c.place-place.ensures
+    c.list-list.ensures c.state_behind.ensures c.in-Some.is c.description.ensures c.rules-rules.ensures c.action.ensures.value c.free_choices-free.ensures c.requires (c.lead_calm.ensures u)

@@ -1,4 +1,4 @@
-use Rattle.std.proofs.Common.{List, sym, ◌∙◌, ap, subst, refl, arith, Some, None}
+use Rattle.std.proofs.Common.{sym, ◌∙◌, ap, subst}
 use Rattle.lr_check_closed.specs.declared.choices.Seen.{Seen}
 use Rattle.lr_check_closed.specs.Closed.{LeadsCalm}
 use Rattle.lr_check_closed.proofs.calm.leads_calm.Goals as goal

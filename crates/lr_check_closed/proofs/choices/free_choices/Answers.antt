@@ -9,7 +9,8 @@ pub loop-at-preserved : goal.loop-at-preserved
 loop-at-preserved c = pass_turn c.args.rules.now c.args.choices.now c.loop-at.at c.index-choices-at.result c.loop-at.invariant c.index-choices-at.is (sym c.may_pass.ensures ∙ c.if-not-may_pass.false)
 
 pub returns-then-not-may_pass : goal.returns-then-not-may_pass
-returns-then-not-may_pass c = free_up_to c.args.rules.now c.args.choices.now c.loop-at.at c.index-choices-at.result c.loop-at.invariant c.loop-at-test.true c.index-choices-at.is (sym c.may_pass.ensures ∙ c.if-not-may_pass.true)
+returns-then-not-may_pass c = free_up_to c.args.rules.now c.args.choices.now c.loop-at.at c.index-choices-at.result c.loop-at.invariant c.loop-at-test.true c.index-choices-at.is
+    (sym c.may_pass.ensures ∙ c.if-not-may_pass.true)
 
 pub returns : goal.returns
 returns c = free_all c.args.rules.now c.args.choices.now c.loop-at.at c.loop-at.invariant c.loop-at-test.false

@@ -1,4 +1,4 @@
-use Rattle.lr_check_closed.proofs.Gaining.{none_below, one_more, one_more_at, of_all}
+use Rattle.lr_check_closed.proofs.Gaining.{none_below, one_more, of_all}
 use Rattle.lr_check_closed.proofs.closing.choices_in.Goals as goal
 
 pub loop-choice-init : goal.loop-choice-init

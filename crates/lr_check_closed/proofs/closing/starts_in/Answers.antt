@@ -1,4 +1,4 @@
-use Rattle.lr_check_closed.proofs.Gaining.{none_below, one_more, one_more_at, of_all}
+use Rattle.lr_check_closed.proofs.Gaining.{none_below, one_more_at, of_all}
 use Rattle.tree_core.specs.declared.token.Sort.TheVariants as sort
 use Rattle.lr_check_closed.proofs.Tokens.{listed_in}
 use Rattle.lr_check_closed.proofs.closing.starts_in.Goals as goal

@@ -1,4 +1,4 @@
-use Rattle.std.proofs.Common.{List, sym, ◌∙◌, ap, subst, refl, arith, Some, None}
+use Rattle.std.proofs.Common.{List, sym, ◌∙◌, subst}
 use Rattle.lr_check_closed.specs.declared.facts.Entry.{Entry}
 use Rattle.lr_check_closed.specs.Found.{HasSums}
 use Rattle.lr_check_closed.proofs.Gaining.{added, added_none}
@@ -8,4 +8,5 @@ pub returns-then-not-may : goal.returns-then-not-may
 returns-then-not-may c = λ u. added_none c.args.facts.now c.args.place.now c.args.sort c.args.numbers.now.items (sym c.may.ensures ∙ c.if-not-may.true)
 
 pub returns-in_ok-add_sums-in-Some : goal.returns-in_ok-add_sums-in-Some
-returns-in_ok-add_sums-in-Some c = λ u. added c.args.facts.now c.args.place.now c.args.sort c.in-Some.spot.now _ _ c.in-Some.ensures (subst (λ (es : List Entry). HasSums es c.args.numbers.now.items c.add_sums.new.numbers.items) c.entries.ensures c.in_ok-add_sums-in-Some.ensures)
+returns-in_ok-add_sums-in-Some c = λ u. added c.args.facts.now c.args.place.now c.args.sort c.in-Some.spot.now _ _ c.in-Some.ensures
+    (subst (λ (es : List Entry). HasSums es c.args.numbers.now.items c.add_sums.new.numbers.items) c.entries.ensures c.in_ok-add_sums-in-Some.ensures)
