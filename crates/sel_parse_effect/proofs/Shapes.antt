@@ -85,7 +85,7 @@ at_suc right j = by (suc j == 0) refl
     by true e = absurd (let h = Rattle.sel_parse_stands.proofs.Symbols.equal_numbers (suc j) 0 e in omega (arith, h))
     by false e = ap (λ b. cond b None (slice_get right (suc j - 1))) e ∙ ap (slice_get right) (let back : suc j - 1 ≡ j = omega arith in back)
 
-one_hole : (right : List Sym) (ps : List Piece) (x : Sym) → only_symbol right ps ≡ Some x → OneHole right ps (Some x)
+pub one_hole : (right : List Sym) (ps : List Piece) (x : Sym) → only_symbol right ps ≡ Some x → OneHole right ps (Some x)
 one_hole right [] x e = absurd (none_some x e)
 one_hole right (piece.Hole zero ∷ []) x e = absurd (none_some x e)
 one_hole right (piece.Hole (suc j) ∷ []) x e = record { index = j; is = refl; there = sym (at_suc right j) ∙ e }
@@ -95,7 +95,7 @@ one_hole right (piece.Label ∷ ps) x e = absurd (none_some x e)
 one_hole right (piece.Callee ∷ ps) x e = absurd (none_some x e)
 one_hole right (piece.Count ∷ ps) x e = absurd (none_some x e)
 
-reg_symbol : (classes : List Class) (o : Option Sym) → is_reg (kind_of_symbol classes o) ≡ true → (c : ℕ) × (o ≡ Some (symbol.Class c)) × (kind_at classes c ≡ Some kind.Reg)
+pub reg_symbol : (classes : List Class) (o : Option Sym) → is_reg (kind_of_symbol classes o) ≡ true → (c : ℕ) × (o ≡ Some (symbol.Class c)) × (kind_at classes c ≡ Some kind.Reg)
 reg_symbol classes None e = absurd (cc)
 reg_symbol classes (Some (symbol.Tok x)) e = absurd (cc)
 reg_symbol classes (Some (symbol.Class c)) e = (c, refl, is_kind (kind_at classes c) e)
@@ -113,7 +113,7 @@ pub data IsNumeric (classes : List Class) : (x : Sym) → Type 0 where
   constant : (x : Tok) → is_constant (Some (symbol.Tok x)) ≡ true → IsNumeric classes (symbol.Tok x)
   class : (c : ℕ) → kind_at classes c ≡ Some kind.Con → IsNumeric classes (symbol.Class c)
 
-con_symbol : (classes : List Class) (o : Option Sym) → (is_con (kind_of_symbol classes o) || is_constant o) ≡ true → (x : Sym) × (o ≡ Some x) × IsNumeric classes x
+pub con_symbol : (classes : List Class) (o : Option Sym) → (is_con (kind_of_symbol classes o) || is_constant o) ≡ true → (x : Sym) × (o ≡ Some x) × IsNumeric classes x
 con_symbol classes None e = absurd (cc)
 con_symbol classes (Some (symbol.Tok x)) e = (symbol.Tok x, refl, constant x e)
 con_symbol classes (Some (symbol.Class c)) e = (symbol.Class c, refl, class c (is_kind (kind_at classes c) e))
@@ -127,7 +127,7 @@ con_symbol classes (Some (symbol.Class c)) e = (symbol.Class c, refl, class c (i
     is_kind (Some kind.Ea) e = absurd (cc)
     is_kind (Some kind.Nothing) e = absurd (cc)
 
-const_number : (x : Tok) (a : Att) → is_constant (Some (symbol.Tok x)) ≡ true → is_of_kind (attribute_of x) a ≡ true → (n : ℕ) × (a ≡ att.Number n)
+pub const_number : (x : Tok) (a : Att) → is_constant (Some (symbol.Tok x)) ≡ true → is_of_kind (attribute_of x) a ≡ true → (n : ℕ) × (a ≡ att.Number n)
 const_number tok.Zero att.Nothing c e = absurd (cc)
 const_number tok.Zero (att.Number n) c e = (n, refl)
 const_number tok.Zero (att.Object object offset) c e = absurd (cc)

@@ -66,7 +66,7 @@ last_off (a ∷ d ∷ v) [] e h = absurd (let q = cons_first a e (d ∷ (v ++ e 
 last_off (a ∷ v) (b ∷ w) e h = (let q = cons_first a b (v ++ e ∷ []) (w ++ e ∷ []) h in let r = last_off v w e q.1 in (ap (λ (x : Leaf). x ∷ v) q.0 ∙ ap (λ (t : List Leaf). b ∷ t) r))
 
 -- the leaves of a typed tree
-leaves_of : (w : List Leaf) → IsTyped (root w) sort.Stmt → AreLeaves w
+pub leaves_of : (w : List Leaf) → IsTyped (root w) sort.Stmt → AreLeaves w
 leaves_of w h = subst AreLeaves (last_off (leaves_onto h.trees []) w end_leaf (leaves_before h.trees [] (end_leaf ∷ []) ∙ h.spelled)) (typed_leaves (sort.Stmt ∷ []) h.trees [] h.typed tt)
 
 -- the parse covers the whole tree

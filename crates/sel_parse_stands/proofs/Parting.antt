@@ -22,12 +22,12 @@ piled_is : {X : Type 0} (ys below : List X) → piled ys below ≡ reverse ys ++
 piled_is [] below = refl
 piled_is (y ∷ ys) below = piled_is ys (y ∷ below) ∙ assoc (reverse ys) (y ∷ []) below ∙ ap (λ l. l ++ below) (sym (reverse_onto ys y []))
 
-taken_off : {X : Type 0} (n : ℕ) (ys below : List X) → length ys ≡ n → reverse (take n (piled ys below)) ≡ ys
+pub taken_off : {X : Type 0} (n : ℕ) (ys below : List X) → length ys ≡ n → reverse (take n (piled ys below)) ≡ ys
 taken_off n ys below e =
     ap (λ k. reverse (take k (piled ys below))) (sym (length-reverse ys ∙ e)) ∙ ap (λ l. reverse (take (length (reverse ys)) l)) (piled_is ys below)
     ∙ ap reverse (take-append_seam (reverse ys) below) ∙ reverse-reverse ys
 
-left_below : {X : Type 0} (n : ℕ) (ys below : List X) → length ys ≡ n → drop n (piled ys below) ≡ below
+pub left_below : {X : Type 0} (n : ℕ) (ys below : List X) → length ys ≡ n → drop n (piled ys below) ≡ below
 left_below n ys below e =
     ap (λ k. drop k (piled ys below)) (sym (length-reverse ys ∙ e)) ∙ ap (λ l. drop (length (reverse ys)) l) (piled_is ys below) ∙ drop-append_seam (reverse ys) below
 
