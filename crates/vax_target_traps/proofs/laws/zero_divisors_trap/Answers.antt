@@ -1,0 +1,6 @@
+-- The lemma of `Trapping`.
+use Rattle.vax_target_traps.proofs.Trapping.{zero_divisors_trap}
+use Rattle.vax_target_traps.proofs.laws.zero_divisors_trap.Goals as goal
+
+pub returns : goal.returns
+returns c = zero_divisors_trap
