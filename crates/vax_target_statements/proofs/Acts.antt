@@ -1,11 +1,10 @@
 -- The lines of a statement end in its act.
-use Rattle.std.proofs.Common.{◌≡◌, ℕ, zero, suc, ◌+◌, ◌-◌, ◌*◌, ◌^◌, ◌<◌, ◌≤◌, ◌==◌, ◌⊎◌, inl, inr, Bool, true, false, cond, List, [], ◌∷◌, length, map, Option, Some, None, Result, Ok, Err, refl, sym, ap, subst, ◌∙◌, arith}
+use Rattle.std.proofs.Common.{◌≡◌, ℕ, ◌≤◌, inl, inr, Bool, true, false, cond, List, map, Option, Some, None, Result, Ok, Err, refl, sym, ap, subst, arith}
 use Rattle.std.specs.Prelude.{is_none}
 use Rattle.gg_base.specs.declared.size.Size.{Size}
 use Rattle.gg_base.specs.declared.size.Size.TheVariants.{Long, Byte}
 use Rattle.tree_core.specs.declared.program.TreeProgram.{TreeProgram}
 use Rattle.tree_meaning.specs.State.{State as Trees}
-use Rattle.md_reader_pieces.specs.declared.piece.Line.{Line}
 use Rattle.md_reader.specs.declared.types.Kind.{Kind}
 use Rattle.md_reader.specs.declared.types.Kind.TheVariants as kind
 use Rattle.md_reader.specs.declared.types.Class.{Class}
@@ -14,7 +13,7 @@ use Rattle.md_reader.specs.declared.types.Give.TheVariants as give
 use Rattle.md_reader.specs.declared.types.Rule.{Rule}
 use Rattle.md_reader.specs.Patterns.{kind_at}
 use Rattle.term_core.specs.Shape.{Shape}
-use Rattle.sel_terms.specs.Effects.{ActShape, EffectShape, Value, Number, Address, PlaceHome, PlaceAt, StoreHome, StoreAt, Branch, Push, Call, Save, Return, Jump}
+use Rattle.sel_terms.specs.Effects.{ActShape, EffectShape, Value, Number, Address, PlaceHome, PlaceAt}
 use Rattle.sel_target.specs.declared.fault.TemplateKind.{TemplateKind}
 use Rattle.sel_target.specs.declared.fault.TemplateKind.TheVariants.{NotInstr, WrongSize}
 use Rattle.sel_target.specs.declared.attr.Attr.{Attr}
@@ -22,7 +21,6 @@ use Rattle.sel_target.specs.Meaning.{Extent}
 use Rattle.sel_target.specs.Values.{View}
 use Rattle.sel_target.specs.Instances.{Ready}
 use Rattle.vax_core.specs.declared.operand.Operand.{Operand}
-use Rattle.vax_core.specs.Registers.{reg_number}
 use Rattle.vax_machine.specs.declared.function.Conditions.{Conditions}
 use Rattle.vax_machine.specs.State.{State, with_conditions}
 use Rattle.vax_machine_lists.specs.Sound.{IsSound}
@@ -36,14 +34,12 @@ use Rattle.vax_templates.specs.declared.setting.Setting.{Setting}
 use Rattle.vax_templates.specs.Settings.{holes_of, setting_of, hole_at}
 use Rattle.vax_templates.specs.Instructions.{shape_of_pieces}
 use Rattle.vax_templates.specs.Standing.{Where, Immediate, Register, OwnRegister, RegisterZero, Value as ValueAt, Place, Local, SavedPlace, Saved, At, constant_of, form_where, ◌>>=◌}
-use Rattle.vax_templates.specs.Taking.{Taken, fetched}
+use Rattle.vax_templates.specs.Taking.{fetched}
 use Rattle.vax_templates.specs.Judging.{Last, Plain, Compared, Tested, Returning, Ended}
-use Rattle.vax_templates.specs.Found.{left_value, last_deed, register_given, number_given, base_number, address_given, value_given, home_given, place_given, without_index, shape_given, shape_read, given_by}
-use Rattle.vax_templates.specs.Filled.{register_in}
+use Rattle.vax_templates.specs.Found.{left_value, last_deed, register_given, number_given, base_number, address_given, value_given, place_given, shape_given, shape_read, given_by}
 use Rattle.vax_target_meaning.specs.Vax.{vax, stands}
 use Rattle.vax_target_operands.specs.Scenes.{Scene}
-use Rattle.vax_target_operands.proofs.Binds.{err_ok, ok_same, Chained, chained}
-use Rattle.vax_target_runs.specs.Kept.{Differs}
+use Rattle.vax_target_operands.proofs.Binds.{err_ok, ok_same, chained}
 use Rattle.vax_target_runs.specs.Runs.{OwnChanged, ZeroChanged, Changed, EndsIn, line_of}
 use Rattle.vax_target_runs.proofs.Kept.{agrees_same, room_same}
 use Rattle.vax_target_rules.proofs.Founds.{IsFound}
@@ -141,7 +137,7 @@ left_plain None a e = absurd (err_ok _ a e)
 left_plain (Some t) a e = given_plain (Value t) a (λ x. x) e
 
 -- a template with such an act ends in its last line
-last_given : (s : Setting) (roles : List Hole) (k : Option Kind) (o : Option Shape) (l : Last) (g : Give) (a : ActShape) → given_by s roles k o l g ≡ Ok a → IsDeed a → last_deed l ≡ Ok a
+pub last_given : (s : Setting) (roles : List Hole) (k : Option Kind) (o : Option Shape) (l : Last) (g : Give) (a : ActShape) → given_by s roles k o l g ≡ Ok a → IsDeed a → last_deed l ≡ Ok a
 last_given s roles k o l give.Fresh a e d = absurd (left_plain o a e d)
 last_given s roles k o l give.Reuse a e d = absurd (left_plain o a e d)
 last_given s roles k o l give.Scratch a e d = e

@@ -1,23 +1,18 @@
 -- Statements that branch and jump.
-use Rattle.std.proofs.Common.{◌≡◌, ℕ, zero, suc, ◌+◌, ◌-◌, ◌*◌, ◌^◌, ◌<◌, ◌≤◌, ◌==◌, ◌⊎◌, inl, inr, Bool, true, false, cond, List, [], ◌∷◌, length, Option, Some, None, Result, Ok, Err, refl, sym, ap, subst, ◌∙◌, arith}
-use Rattle.std.specs.Prelude.{slice_get, nat_lt, nat_le}
+use Rattle.std.proofs.Common.{◌≡◌, ℕ, zero, suc, ◌-◌, ◌==◌, inl, inr, Bool, true, false, cond, List, [], ◌∷◌, Option, Some, None, refl, sym, ap, subst, ◌∙◌, arith}
+use Rattle.std.specs.Prelude.{slice_get}
 use Rattle.std.specs.Option.{option_map}
 use Rattle.std.specs.List.{AllByRecursion}
-use Rattle.std.proofs.lemmas.Bool.{lt-ltb, eqb-true}
-use Rattle.gg_base.specs.declared.size.Size.TheVariants.{Long}
 use Rattle.gg_base.specs.declared.relation.Rel.{Rel}
 use Rattle.gg_base.specs.declared.relation.Rel.TheVariants as rel
 use Rattle.gg_base.specs.Relations.{holds}
-use Rattle.gg_base.specs.Arithmetic.{neg32}
 use Rattle.tree_core.specs.declared.program.TreeProgram.{TreeProgram}
-use Rattle.tree_core.specs.declared.token.Tok.{Tok}
-use Rattle.tree_core.specs.declared.token.Tok.TheVariants as tok
 use Rattle.tree_core.specs.declared.tree.Att.{Att}
 use Rattle.tree_core.specs.declared.tree.Att.TheVariants as att
 use Rattle.tree_core.specs.declared.tree.Leaf.{Leaf}
 use Rattle.tree_meaning.specs.Steps as steps
 use Rattle.tree_meaning.specs.Steps.{Step, deed_step}
-use Rattle.tree_meaning.specs.Deeds.{Branches, Jumps, Saves}
+use Rattle.tree_meaning.specs.Deeds.{Branches, Jumps}
 use Rattle.md_reader.specs.declared.types.Class.{Class}
 use Rattle.md_reader.specs.declared.types.Restriction.{Restriction}
 use Rattle.md_reader.specs.declared.types.Restriction.TheVariants as restriction
@@ -25,54 +20,36 @@ use Rattle.md_reader.specs.declared.types.Sym.{Sym}
 use Rattle.md_reader.specs.declared.types.Rule.{Rule}
 use Rattle.md_reader.specs.Rows.{symbol_at, is_branch}
 use Rattle.md_reader.specs.Valid.{MayRestrict}
-use Rattle.term_core.specs.Shape.{Shape, Constant, LastResult}
-use Rattle.sel_terms.specs.Effects.{ActShape, EffectShape, Branch, Jump, Save}
+use Rattle.term_core.specs.Shape.{Shape}
+use Rattle.sel_terms.specs.Effects.{EffectShape}
 use Rattle.sel_target.specs.declared.attr.Attr.{Attr}
 use Rattle.sel_target.specs.declared.attr.Attr.TheVariants as attr
 use Rattle.sel_target.specs.Courses.{label_name}
 use Rattle.sel_target.specs.Meaning.{Extent}
 use Rattle.sel_target.specs.Values.{View, value}
 use Rattle.sel_target.specs.EffectTerms.{compares_signed, IsSignedBy}
-use Rattle.sel_target.specs.Instances.{hole, InFrame, SymFits, Ready}
+use Rattle.sel_target.specs.Instances.{hole, Ready}
 use Rattle.sel_target.specs.StatementLaws.{att_of}
-use Rattle.vax_core.specs.declared.register.Reg.TheVariants.{Ap, Fp}
-use Rattle.vax_core.specs.declared.operand.Base.{Base}
-use Rattle.vax_core.specs.declared.operand.Base.TheVariants as bases
-use Rattle.vax_core.specs.Same.{offset_in}
-use Rattle.vax_core.specs.declared.op.Op.{Op}
 use Rattle.vax_core.specs.declared.op.Op.TheVariants as ops
 use Rattle.vax_core.specs.declared.operand.Operand.{Operand}
-use Rattle.vax_core.specs.Homes.{home, argument_home, word_addr}
-use Rattle.vax_machine.specs.declared.operands.Location.{Location}
-use Rattle.vax_machine.specs.declared.operands.Location.TheVariants as locations
 use Rattle.vax_machine.specs.Functions.{passes}
-use Rattle.vax_machine.specs.State.{State, reg}
-use Rattle.vax_machine_lists.specs.Instructions.{Course, Goes, ends, comes, branching, performed}
-use Rattle.vax_states.specs.Stack.{word_of}
-use Rattle.vax_states.proofs.Standing.{local_written}
-use Rattle.vax_states.proofs.Keeping.{reg_small}
-use Rattle.vax_states.proofs.Sentences.{word_address}
+use Rattle.vax_machine.specs.State.{State}
+use Rattle.vax_machine_lists.specs.Instructions.{Course, Goes, ends, branching, performed}
 use Rattle.vax_templates.specs.Settings.{is_signed}
-use Rattle.vax_templates.specs.Filled.{spare, word_operand, slot_operand, leaf_operand, operand_in}
 use Rattle.vax_templates.specs.FilledLines.{op_of_relation, op_of_att, op_in, label_of_att, label_in, first_of, label_among, branch_to}
-use Rattle.vax_target_meaning.specs.Reading.{displaced}
 use Rattle.vax_target_meaning.specs.Running.{course_of}
 use Rattle.vax_target_meaning.specs.Vax.{vax, stands}
-use Rattle.vax_target_operands.specs.Scenes.{Scene, worth, filling_at, IsSavedLocal}
-use Rattle.vax_target_operands.specs.Places.{StandsAt}
+use Rattle.vax_target_operands.specs.Scenes.{Scene, worth, filling_at}
 use Rattle.vax_target_operands.specs.Conditions.{test_of}
-use Rattle.vax_target_operands.specs.Conditions as codes
-use Rattle.vax_target_operands.proofs.Machine.{names_stand}
-use Rattle.vax_target_operands.proofs.Holes.{stands_same}
-use Rattle.vax_target_lines.specs.Lines.{putting, Puts, IsMet}
+use Rattle.vax_target_lines.specs.Lines.{IsMet}
 use Rattle.vax_target_runs.specs.Runs.{EndsIn}
 use Rattle.vax_target_statements.proofs.Acts.{c, did, agrees_there, live_there}
-use Rattle.vax_target_statements.proofs.Deeds.{filled_hole, Steps, goes}
+use Rattle.vax_target_statements.proofs.Deeds.{filled_hole, Steps}
 use Rattle.vax_target_statements.proofs.Firsts.{rest_of, branch_first, branch_hole}
 
 -- ---- labels
 
-token_is : (h : Attr Operand) (a : Att) → att_of (Some h) ≡ Some a → (l : Leaf) × (h ≡ attr.Token l) × (l.att ≡ a)
+pub token_is : (h : Attr Operand) (a : Att) → att_of (Some h) ≡ Some a → (l : Leaf) × (h ≡ attr.Token l) × (l.att ≡ a)
 token_is (attr.Reg r) a e = cc
 token_is (attr.InSlot w) a e = cc
 token_is (attr.Value o) a e = cc

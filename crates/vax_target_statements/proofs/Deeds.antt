@@ -1,7 +1,5 @@
 -- The last line of a statement does the deed of its act.
-use Rattle.std.proofs.Common.{◌≡◌, ℕ, zero, suc, ◌+◌, ◌-◌, ◌*◌, ◌^◌, ◌<◌, ◌≤◌, ◌==◌, ◌⊎◌, inl, inr, Bool, true, false, cond, List, [], ◌∷◌, length, map, Option, Some, None, Result, Ok, Err, refl, sym, ap, subst, ◌∙◌, arith}
-use Rattle.std.specs.Prelude.{slice_get, slice_set, nat_lt, unwrap_or}
-use Rattle.std.proofs.lemmas.Bool.{lt-ltb}
+use Rattle.std.proofs.Common.{◌≡◌, ℕ, zero, suc, List, Option, Some, None, Result, Ok, refl, sym, ap, subst, ◌∙◌}
 use Rattle.gg_base.specs.declared.size.Size.{Size}
 use Rattle.gg_base.specs.declared.size.Size.TheVariants.{Long}
 use Rattle.tree_core.specs.declared.program.TreeProgram.{TreeProgram}
@@ -13,60 +11,41 @@ use Rattle.tree_core.specs.Area.{stored}
 use Rattle.tree_meaning.specs.State.{State as Trees}
 use Rattle.tree_meaning.specs.Steps as steps
 use Rattle.tree_meaning.specs.Steps.{Step, deed_step, put_in, with_argument_set}
-use Rattle.tree_meaning.specs.Deeds.{Deed, Puts as PutsDeed, Pushes, Returns as Leaves}
+use Rattle.tree_meaning.specs.Deeds.{Puts as PutsDeed, Pushes, Returns as Leaves}
 use Rattle.tree_meaning.specs.declared.value.Meaning.{Meaning as Place}
 use Rattle.tree_meaning.specs.declared.value.Meaning.TheVariants as places
 use Rattle.md_reader.specs.declared.types.Class.{Class}
-use Rattle.md_reader.specs.declared.types.Give.{Give}
-use Rattle.md_reader.specs.declared.types.Give.TheVariants as give
 use Rattle.md_reader.specs.declared.types.Rule.{Rule}
 use Rattle.term_core.specs.Shape.{Shape}
 use Rattle.term_core.proofs.Values.{small}
-use Rattle.sel_terms.specs.Effects.{ActShape, EffectShape, StoreHome, StoreAt, Push, Return}
+use Rattle.sel_terms.specs.Effects.{ActShape, EffectShape}
 use Rattle.sel_target.specs.declared.attr.Attr.{Attr}
 use Rattle.sel_target.specs.declared.attr.Attr.TheVariants as attr
-use Rattle.sel_target.specs.Courses.{Course as TargetCourse, Comes, Returns as ReturnsOut}
-use Rattle.sel_target.specs.Courses as courses
-use Rattle.sel_target.specs.Meaning.{Extent, RegAt}
-use Rattle.sel_target.specs.Values.{View, term_state, value, slot_place, own_operand, token_operand, PlaceIs, local as is_local, argument as is_argument, memory as is_memory}
-use Rattle.sel_target.specs.Instances.{hole, attr_touches, Ready}
-use Rattle.sel_target.specs.StatementLaws.{Stays, IsStep, HomeIs}
-use Rattle.vax_core.specs.declared.register.Reg.TheVariants.{R0, Ap, Fp}
+use Rattle.sel_target.specs.Meaning.{Extent}
+use Rattle.sel_target.specs.Values.{View, term_state, value, slot_place, own_operand, token_operand}
+use Rattle.sel_target.specs.Instances.{hole, Ready}
+use Rattle.sel_target.specs.StatementLaws.{IsStep}
+use Rattle.vax_core.specs.declared.register.Reg.TheVariants.{R0}
 use Rattle.vax_core.specs.declared.operand.Operand.{Operand}
-use Rattle.vax_core.specs.declared.code.Instr.{Instr}
-use Rattle.vax_core.specs.Homes.{home, argument_home, word_addr}
-use Rattle.vax_core.specs.Registers.{reg_number}
 use Rattle.vax_machine.specs.declared.turn.Stop.{Stop}
 use Rattle.vax_machine.specs.declared.function.Conditions.{Conditions}
 use Rattle.vax_machine.specs.declared.operands.Location.{Location}
 use Rattle.vax_machine.specs.declared.operands.Location.TheVariants as locations
 use Rattle.vax_machine.specs.State.{State, reg, with_conditions, ◌>>=◌}
-use Rattle.vax_machine.specs.Memory.{written}
 use Rattle.vax_machine.specs.Operands.{put}
-use Rattle.vax_machine.specs.Calls.{pushed}
 use Rattle.vax_machine.specs.Functions.{valued}
 use Rattle.vax_machine.specs.Step.{pushing}
 use Rattle.vax_machine_lists.specs.Instructions as lists
 use Rattle.vax_machine_lists.specs.Instructions.{Course, exec}
-use Rattle.vax_states.specs.Stack.{word_of, argument_of}
-use Rattle.vax_states.proofs.Standing.{local_written, argument_written, area_written_so, push_written}
-use Rattle.vax_states.proofs.Keeping.{reg_small}
-use Rattle.vax_states.proofs.Sentences.{word_address}
-use Rattle.vax_templates.specs.declared.setting.Own.{Own}
-use Rattle.vax_templates.specs.declared.setting.Own.TheVariants as own
-use Rattle.vax_templates.specs.Settings.{own_of}
-use Rattle.vax_templates.specs.Filled.{spare, word_operand, slot_operand, leaf_operand, operand_in, attr_or, register_in}
-use Rattle.vax_target_meaning.specs.Reading.{named, moved, names, displaced}
-use Rattle.vax_target_meaning.specs.Running.{course_of, run}
+use Rattle.vax_states.proofs.Standing.{area_written_so, push_written}
+use Rattle.vax_templates.specs.Filled.{slot_operand, leaf_operand, operand_in, attr_or}
+use Rattle.vax_target_meaning.specs.Running.{course_of}
 use Rattle.vax_target_meaning.specs.Vax.{vax, stands}
 use Rattle.vax_target_operands.specs.Scenes.{Scene, worth, filling_at}
-use Rattle.vax_target_operands.specs.Places.{IsHome}
-use Rattle.vax_target_operands.proofs.Machine.{some_same, none_some}
-use Rattle.vax_target_lines.specs.Lines.{IsStored, putting, Puts}
-use Rattle.vax_target_runs.specs.Runs.{OwnChanged, ZeroChanged, Changed, IsReturn, EndsIn}
-use Rattle.vax_target_runs.proofs.Kept.{names_same}
-use Rattle.vax_target_rules.proofs.Instances.{filling_is, register_result}
-use Rattle.vax_target_statements.proofs.Acts.{c, did, statement_ends, far, agrees_there, room_there, live_there, codes_agree}
+use Rattle.vax_target_lines.specs.Lines.{putting, Puts}
+use Rattle.vax_target_runs.specs.Runs.{EndsIn}
+use Rattle.vax_target_rules.proofs.Instances.{filling_is}
+use Rattle.vax_target_statements.proofs.Acts.{c, did, agrees_there, room_there, live_there, codes_agree}
 
 -- what fills a hole that is there
 pub filled_hole : (s : Scene) (i : ℕ) (h : Attr Operand) → hole s.holes i ≡ Some h → filling_at s i ≡ h

@@ -1,8 +1,7 @@
--- Only the first symbol of a rule branches.
-use Rattle.std.proofs.Common.{◌≡◌, ℕ, zero, suc, ◌-◌, ◌==◌, Bool, true, false, List, [], ◌∷◌, Option, Some, None, refl, sym, ap, subst, ◌∙◌, arith}
+-- Only the first symbol of a rule branches or saves.
+use Rattle.std.proofs.Common.{◌≡◌, ℕ, zero, suc, Bool, true, false, List, [], ◌∷◌, Option, Some, None, refl, sym, subst, ◌∙◌}
 use Rattle.std.specs.Prelude.{slice_get, not, ◌&&◌}
 use Rattle.std.specs.List.{AllByRecursion, list_all}
-use Rattle.std.proofs.lemmas.Bool.{eqb-true}
 use Rattle.gg_base.specs.declared.relation.Rel.{Rel}
 use Rattle.tree_core.specs.declared.token.Tok.{Tok}
 use Rattle.tree_core.specs.declared.token.Tok.TheVariants as tok
@@ -11,17 +10,17 @@ use Rattle.tree_core.specs.declared.token.Sort.TheVariants as sort
 use Rattle.tree_core.specs.declared.tree.Att.TheVariants as att
 use Rattle.tree_core.specs.declared.tree.Leaf.{Leaf}
 use Rattle.tree_core.specs.Grammar.{kids, sort_of, fits}
-use Rattle.tree_core.specs.Attributes.{attribute_of, is_of_kind, leaf_fits}
+use Rattle.tree_core.specs.Attributes.{attribute_of, is_of_kind}
 use Rattle.md_reader.specs.declared.types.Kind.{Kind}
 use Rattle.md_reader.specs.declared.types.Kind.TheVariants as kind
 use Rattle.md_reader.specs.declared.types.Class.{Class}
 use Rattle.md_reader.specs.declared.types.Sym.{Sym}
 use Rattle.md_reader.specs.declared.types.Sym.TheVariants as symbols
-use Rattle.md_reader.specs.Patterns.{kind_at, kids_of, sort_of_symbol, sort_fits, Trees, no_tree, node, onto, sorted_test, IsSorted}
-use Rattle.md_reader.specs.Rows.{symbol_at, is_branch}
+use Rattle.md_reader.specs.Patterns.{kind_at, kids_of, sort_fits, Trees, no_tree, node, onto, sorted_test, IsSorted}
+use Rattle.md_reader.specs.Rows.{is_branch}
 use Rattle.sel_target.specs.declared.attr.Attr.{Attr}
 use Rattle.sel_target.specs.declared.attr.Attr.TheVariants as attr
-use Rattle.sel_target.specs.Instances.{hole, KindFits, SymFits, Fit}
+use Rattle.sel_target.specs.Instances.{KindFits, SymFits, Fit}
 use Rattle.vax_core.specs.declared.operand.Operand.{Operand}
 use Rattle.vax_target_meaning.specs.Vax.{vax}
 
@@ -32,8 +31,14 @@ is_statement x = false
 abbrev no_statement : List Sort → Bool
 no_statement xs = list_all (λ x. not (is_statement x)) xs
 
+-- a token that branches or saves
+abbrev pub is_root : Option Sym → Bool
+is_root (Some (symbols.Tok tok.Cbr)) = true
+is_root (Some (symbols.Tok tok.Save)) = true
+is_root s = false
+
 abbrev AreQuiet : List Sym → Type 0
-AreQuiet w = AllByRecursion (λ (s : Sym). is_branch (Some s) ≡ false) w
+AreQuiet w = AllByRecursion (λ (s : Sym). is_root (Some s) ≡ false) w
 
 abbrev pub IsRest : List Sym → Type 0
 IsRest [] = Unit {0}
@@ -94,7 +99,7 @@ branch_is_statement sort.PlaceB e h = cc
 branch_is_statement sort.PlaceW e h = cc
 branch_is_statement sort.PlaceL e h = cc
 
-token_quiet : (t : Tok) (x : Sort) → sort_fits (sort_of t) x ≡ true → not (is_statement x) ≡ true → is_branch (Some (symbols.Tok t)) ≡ false
+token_quiet : (t : Tok) (x : Sort) → sort_fits (sort_of t) x ≡ true → not (is_statement x) ≡ true → is_root (Some (symbols.Tok t)) ≡ false
 token_quiet tok.Zero x e h = refl
 token_quiet tok.One x e h = refl
 token_quiet tok.Two x e h = refl
@@ -132,7 +137,7 @@ token_quiet tok.Cbr x e h = absurd (branch_is_statement x e h)
 token_quiet tok.Push x e h = refl
 token_quiet tok.Ret x e h = refl
 token_quiet tok.Call x e h = refl
-token_quiet tok.Save x e h = refl
+token_quiet tok.Save x e h = absurd (branch_is_statement x e h)
 token_quiet tok.Jump x e h = refl
 token_quiet tok.End x e h = refl
 
@@ -140,7 +145,7 @@ both : (a b : Bool) → (a && b) ≡ true → (a ≡ true) × (b ≡ true)
 both true b e = (refl, e)
 both false b e = cc
 
-symbol_quiet : (classes : List Class) (s : Sym) (x : Sort) → sorted_test classes s x ≡ true → not (is_statement x) ≡ true → is_branch (Some s) ≡ false
+symbol_quiet : (classes : List Class) (s : Sym) (x : Sort) → sorted_test classes s x ≡ true → not (is_statement x) ≡ true → is_root (Some s) ≡ false
 symbol_quiet classes (symbols.Tok t) x e h = token_quiet t x e h
 symbol_quiet classes (symbols.Class k) x e h = refl
 
@@ -156,16 +161,62 @@ tree_rest classes x (node s passes below beside) = trees_quiet classes (kids_of 
 pub rest_of : (classes : List Class) (left : Sort) (right : List Sym) → IsSorted classes left right → IsRest right
 rest_of classes left right s = subst IsRest s.spelled (tree_rest classes left s.tree)
 
-quiet_at : (w : List Sym) (j : ℕ) (s : Sym) → AreQuiet w → slice_get w j ≡ Some s → is_branch (Some s) ≡ false
+quiet_at : (w : List Sym) (j : ℕ) (s : Sym) → AreQuiet w → slice_get w j ≡ Some s → is_root (Some s) ≡ false
 quiet_at [] j s h e = cc
-quiet_at (x ∷ w) zero s h e = subst (λ o. is_branch o ≡ false) e h.0
+quiet_at (x ∷ w) zero s h e = subst (λ o. is_root o ≡ false) e h.0
 quiet_at (x ∷ w) (suc j) s h e = quiet_at w j s h.1 e
 
--- a symbol that branches is the first
+-- a symbol that branches or saves is the first
+pub root_first : (right : List Sym) (j : ℕ) (s : Sym) → IsRest right → slice_get right j ≡ Some s → is_root (Some s) ≡ true → j ≡ 0
+root_first [] j s h e b = cc
+root_first (x ∷ w) zero s h e b = refl
+root_first (x ∷ w) (suc j) s h e b = absurd (let r : true ≡ false = sym b ∙ quiet_at w j s h e in cc)
+
+branch_is_root : (t : Tok) → is_branch (Some (symbols.Tok t)) ≡ true → is_root (Some (symbols.Tok t)) ≡ true
+branch_is_root tok.Zero e = cc
+branch_is_root tok.One e = cc
+branch_is_root tok.Two e = cc
+branch_is_root tok.Four e = cc
+branch_is_root tok.Eight e = cc
+branch_is_root tok.Const e = cc
+branch_is_root tok.Gaddr e = cc
+branch_is_root tok.Loc e = cc
+branch_is_root tok.Arg e = cc
+branch_is_root tok.IndirB e = cc
+branch_is_root tok.IndirW e = cc
+branch_is_root tok.IndirL e = cc
+branch_is_root tok.Plus e = cc
+branch_is_root tok.Minus e = cc
+branch_is_root tok.Mul e = cc
+branch_is_root tok.Div e = cc
+branch_is_root tok.Mod e = cc
+branch_is_root tok.And e = cc
+branch_is_root tok.Or e = cc
+branch_is_root tok.Xor e = cc
+branch_is_root tok.Lsh e = cc
+branch_is_root tok.Rsh e = cc
+branch_is_root tok.Neg e = cc
+branch_is_root tok.Com e = cc
+branch_is_root tok.Sxb e = cc
+branch_is_root tok.Zxb e = cc
+branch_is_root tok.Sxw e = cc
+branch_is_root tok.Zxw e = cc
+branch_is_root tok.Ncb e = cc
+branch_is_root tok.Ncw e = cc
+branch_is_root tok.AssignB e = cc
+branch_is_root tok.AssignW e = cc
+branch_is_root tok.AssignL e = cc
+branch_is_root tok.Cbr e = refl
+branch_is_root tok.Push e = cc
+branch_is_root tok.Ret e = cc
+branch_is_root tok.Call e = cc
+branch_is_root tok.Save e = cc
+branch_is_root tok.Jump e = cc
+branch_is_root tok.End e = cc
+
 pub branch_first : (right : List Sym) (j : ℕ) (s : Sym) → IsRest right → slice_get right j ≡ Some s → is_branch (Some s) ≡ true → j ≡ 0
-branch_first [] j s h e b = cc
-branch_first (x ∷ w) zero s h e b = refl
-branch_first (x ∷ w) (suc j) s h e b = absurd (let r : true ≡ false = sym b ∙ quiet_at w j s h e in cc)
+branch_first right j (symbols.Tok t) h e b = root_first right j (symbols.Tok t) h e (branch_is_root t b)
+branch_first right j (symbols.Class k) h e b = cc
 
 -- ---- the symbol of a hole
 
@@ -225,7 +276,7 @@ branches_only tok.Save rel label e = cc
 branches_only tok.Jump rel label e = cc
 branches_only tok.End rel label e = cc
 
-no_class : (k : Option Kind) (l : Leaf) → KindFits vax k (attr.Token l) → ⊥
+pub no_class : (k : Option Kind) (l : Leaf) → KindFits vax k (attr.Token l) → ⊥
 no_class None l h = h
 no_class (Some kind.Reg) l h = h
 no_class (Some (kind.Value size)) l h = h

@@ -1,21 +1,19 @@
 -- A statement that stores in a symbol's own place.
-use Rattle.std.proofs.Common.{◌≡◌, ℕ, zero, suc, ◌+◌, ◌-◌, ◌*◌, ◌^◌, ◌<◌, ◌≤◌, ◌==◌, ◌⊎◌, inl, inr, Bool, true, false, cond, List, [], ◌∷◌, length, map, Option, Some, None, Result, Ok, Err, refl, sym, ap, subst, ◌∙◌, arith}
-use Rattle.std.specs.Prelude.{slice_get, slice_set, nat_lt, nat_le}
+use Rattle.std.proofs.Common.{◌≡◌, ℕ, zero, suc, ◌+◌, ◌-◌, ◌*◌, ◌<◌, ◌==◌, ◌⊎◌, inl, inr, false, cond, List, length, Option, Some, None, Ok, refl, sym, ap, subst, ◌∙◌, arith}
+use Rattle.std.specs.Prelude.{slice_get, slice_set}
 use Rattle.std.specs.Int.{bit_at}
 use Rattle.std.proofs.lemmas.Bool.{lt-ltb, le-leb}
 use Rattle.gg_base.specs.declared.size.Size.{Size}
 use Rattle.gg_base.specs.declared.size.Size.TheVariants.{Long}
-use Rattle.gg_base.specs.Arithmetic.{add32, neg32}
+use Rattle.gg_base.specs.Arithmetic.{add32}
 use Rattle.gg_base.specs.LittleEndian.{with_number}
 use Rattle.tree_core.specs.declared.program.TreeProgram.{TreeProgram}
 use Rattle.tree_core.specs.declared.token.Tok.TheVariants as tok
 use Rattle.tree_core.specs.Area.{stored}
-use Rattle.tree_meaning.specs.State.{State as Trees}
 use Rattle.tree_meaning.specs.Steps as steps
 use Rattle.tree_meaning.specs.Steps.{Step, deed_step}
 use Rattle.tree_meaning.specs.Deeds.{Puts as PutsDeed}
 use Rattle.tree_meaning.specs.declared.value.Meaning.{Meaning as Place}
-use Rattle.tree_meaning.specs.declared.value.Meaning.TheVariants as places
 use Rattle.md_reader.specs.declared.types.Class.{Class}
 use Rattle.md_reader.specs.declared.types.Give.{Give}
 use Rattle.md_reader.specs.declared.types.Give.TheVariants as give
@@ -23,41 +21,36 @@ use Rattle.md_reader.specs.declared.types.Rule.{Rule}
 use Rattle.md_reader.specs.Patterns.{kind_at}
 use Rattle.term_core.specs.Shape.{Shape}
 use Rattle.term_core.proofs.Values.{small}
-use Rattle.sel_terms.specs.Effects.{ActShape, EffectShape, StoreHome}
+use Rattle.sel_terms.specs.Effects.{EffectShape}
 use Rattle.sel_target.specs.declared.attr.Attr.{Attr}
 use Rattle.sel_target.specs.declared.attr.Attr.TheVariants as attr
 use Rattle.sel_target.specs.Meaning.{Extent, Spot, RegAt, touches}
-use Rattle.sel_target.specs.Values.{View, term_state, value, own_operand, token_operand, PlaceIs, local as is_local, argument as is_argument, memory as is_memory}
+use Rattle.sel_target.specs.Values.{View, term_state, value, own_operand, PlaceIs, local as is_local, argument as is_argument, memory as is_memory}
 use Rattle.sel_target.specs.Instances.{hole, some_touches, attr_touches, IsResult, Ready}
 use Rattle.sel_target.specs.StatementLaws.{HomeIs}
-use Rattle.vax_core.specs.declared.register.Reg.TheVariants.{Ap, Fp, Sp}
+use Rattle.vax_core.specs.declared.register.Reg.TheVariants.{Ap, Fp}
 use Rattle.vax_core.specs.declared.operand.Operand.{Operand}
 use Rattle.vax_core.specs.Homes.{home, argument_home, word_addr}
 use Rattle.vax_core.specs.Registers.{reg_number, operand_bits}
-use Rattle.vax_machine.specs.declared.operands.Location.{Location}
 use Rattle.vax_machine.specs.declared.operands.Location.TheVariants as locations
 use Rattle.vax_machine.specs.State.{State, reg}
-use Rattle.vax_machine.specs.Memory.{written}
 use Rattle.vax_machine_lists.specs.Instructions.{Course}
 use Rattle.vax_states.specs.Stack.{word_of, argument_of}
 use Rattle.vax_states.proofs.Standing.{local_written, argument_written, high_top}
 use Rattle.vax_states.proofs.Keeping.{reg_small}
 use Rattle.vax_states.proofs.Sentences.{word_address}
-use Rattle.vax_templates.specs.declared.setting.Own.{Own}
 use Rattle.vax_templates.specs.declared.setting.Own.TheVariants as own
 use Rattle.vax_templates.specs.Settings.{holes_of, setting_of, own_of, is_reuse}
-use Rattle.vax_templates.specs.Judging.{Last}
 use Rattle.vax_templates.specs.Found.{given_by}
 use Rattle.vax_templates.specs.Filled.{spare, word_operand, slot_operand, operand_in, register_in}
 use Rattle.vax_target_meaning.specs.Reading.{names, displaced}
 use Rattle.vax_target_meaning.specs.Vax.{vax, stands}
 use Rattle.vax_target_operands.specs.Scenes.{Scene, worth, filling_at}
-use Rattle.vax_target_operands.specs.Places.{IsHome}
 use Rattle.vax_target_operands.proofs.Machine.{some_same}
 use Rattle.vax_target_lines.specs.Lines.{MayHold, IsStored, putting, Puts}
 use Rattle.vax_target_lines.proofs.Performing.{number_is}
 use Rattle.vax_target_runs.specs.Runs.{OwnChanged, ZeroChanged, Changed, IsReturn, EndsIn}
-use Rattle.vax_target_runs.proofs.Kept.{Away, base_untouched, index_untouched, names_same}
+use Rattle.vax_target_runs.proofs.Kept.{base_untouched, index_untouched, names_same}
 use Rattle.vax_target_rules.proofs.Founds.{IsFound}
 use Rattle.vax_target_rules.proofs.Instances.{register_result}
 use Rattle.vax_target_rules.proofs.Results.{found_so, low, avoids_at, avoided}

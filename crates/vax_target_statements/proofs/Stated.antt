@@ -1,5 +1,5 @@
 -- The lines of a statement do its deed.
-use Rattle.std.proofs.Common.{◌≡◌, ℕ, List, refl, sym, ap, subst}
+use Rattle.std.proofs.Common.{◌≡◌, ℕ, List, refl, sym, subst}
 use Rattle.gg_base.specs.declared.size.Size.{Size}
 use Rattle.tree_core.specs.declared.program.TreeProgram.{TreeProgram}
 use Rattle.tree_meaning.specs.Deeds.{Deed, Puts, Branches, Pushes, Returns as Leaves, Calls as Enters, Saves, Jumps, Traps, Strays}
@@ -23,6 +23,7 @@ use Rattle.vax_target_statements.proofs.Acts.{c, did, IsDeed, statement_ends}
 use Rattle.vax_target_statements.proofs.Deeds.{Steps, at_goes, pushes, leaves}
 use Rattle.vax_target_statements.proofs.Homes.{home_goes}
 use Rattle.vax_target_statements.proofs.Controls.{jumps, branches}
+use Rattle.vax_target_statements.proofs.Saves.{saves}
 
 module _ (q : TreeProgram) (f : Extent) (fs : List Extent) (classes : List Class) (rule : Rule) (e : EffectShape) (hs : List (Attr Operand)) (res : Attr Operand) (v : View) (m : State)
     (ready : Ready vax q f fs classes rule e hs res v m) where
@@ -107,6 +108,17 @@ module _ (q : TreeProgram) (f : Extent) (fs : List Extent) (classes : List Class
   jump Traps is h = absurd h
   jump Strays is h = absurd h
 
+  save : (i : ℕ) (d : Deed) → e.act ≡ (Save i) → Act (Save i) d → G d
+  save i (Puts g y) is h = absurd h
+  save i (Branches r label y z') is h = absurd h
+  save i (Pushes y) is h = absurd h
+  save i (Leaves y) is h = absurd h
+  save i (Enters g y) is h = absurd h
+  save i (Saves k) is h = saves q f fs classes rule e hs res v m ready (ends (Save i) is tt) i k is h.0 h.1 (done (ends (Save i) is tt) (Save i) is)
+  save i (Jumps label) is h = absurd h
+  save i Traps is h = absurd h
+  save i Strays is h = absurd h
+
   pub statement_does : (a : ActShape) (d : Deed) → e.act ≡ a → IsOrdinary a → Act a d → G d
   statement_does (Value t) d is o h = absurd o
   statement_does (Number t) d is o h = absurd o
@@ -118,7 +130,7 @@ module _ (q : TreeProgram) (f : Extent) (fs : List Extent) (classes : List Class
   statement_does (Branch i a b) d is o h = branch i a b d is h
   statement_does (Push t) d is o h = push t d is h
   statement_does Call d is o h = absurd o
-  statement_does (Save i) d is o h = absurd o
+  statement_does (Save i) d is o h = save i d is h
   statement_does (Return t) d is o h = return_ t d is h
   statement_does Jump d is o h = jump d is h
 

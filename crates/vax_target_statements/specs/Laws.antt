@@ -5,7 +5,7 @@ use Rattle.tree_meaning.specs.Deeds.{Deed}
 use Rattle.tree_meaning.specs.Steps.{deed_step}
 use Rattle.md_reader.specs.declared.types.Class.{Class}
 use Rattle.md_reader.specs.declared.types.Rule.{Rule}
-use Rattle.sel_terms.specs.Effects.{ActShape, EffectShape, StoreHome, StoreAt, Branch, Push, Return, Jump}
+use Rattle.sel_terms.specs.Effects.{ActShape, EffectShape, StoreHome, StoreAt, Branch, Push, Save, Return, Jump}
 use Rattle.sel_target.specs.declared.attr.Attr.{Attr}
 use Rattle.sel_target.specs.Meaning.{Extent}
 use Rattle.sel_target.specs.Values.{View}
@@ -15,12 +15,13 @@ use Rattle.vax_core.specs.declared.operand.Operand.{Operand}
 use Rattle.vax_machine.specs.State.{State}
 use Rattle.vax_target_meaning.specs.Vax.{vax}
 
--- a store, a branch, a push, a return or a jump
+-- a store, a branch, a push, a saved result, a return or a jump
 abbrev pub IsOrdinary : ActShape → Type 0
 IsOrdinary (StoreHome z i t) = Unit {0}
 IsOrdinary (StoreAt z a t) = Unit {0}
 IsOrdinary (Branch i a b) = Unit {0}
 IsOrdinary (Push t) = Unit {0}
+IsOrdinary (Save i) = Unit {0}
 IsOrdinary (Return t) = Unit {0}
 IsOrdinary Jump = Unit {0}
 IsOrdinary a = ⊥
