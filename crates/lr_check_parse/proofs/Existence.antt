@@ -23,25 +23,25 @@ use Rattle.lr_check_parse.specs.Claims.{HasEnd}
 use Rattle.lr_check_parse.proofs.Choosing.{Some-same, taken_among}
 use Rattle.lr_check_parse.proofs.Bounds.{left, count_most, mark_count, shift_less, long_less, unit_less, length-drop, one_or_more, Marks}
 
-nowhere_in : (a : List Sym) → Contains [] a → ⊥
+pub nowhere_in : (a : List Sym) → Contains [] a → ⊥
 nowhere_in a h = (let lt = h.1 in omega (arith, lt))
 
 -- what is left falls
 new_size : (w i : ℕ) (seen new : List Bool) → length new ≡ length seen → left w i new ≡ (2 * w + i) * (length seen + 1) + count_by not new
 new_size w i seen new e = ap (λ (n : ℕ). (2 * w + i) * (n + 1) + count_by not new) e
 
-shift_falls : (w i : ℕ) (seen new : List Bool) → length new ≡ length seen → left w (i + 1) new + 1 ≤ left (w + 1) i seen
+pub shift_falls : (w i : ℕ) (seen new : List Bool) → length new ≡ length seen → left w (i + 1) new + 1 ≤ left (w + 1) i seen
 shift_falls w i seen new e =
     let s = new_size w (i + 1) seen new e in
     let most = count_most new in
     shift_less w i (length seen) (left w (i + 1) new) (count_by not seen) (count_by not new) (omega (arith, s)) (omega (arith, most, e))
 
-unit_falls : (w i : ℕ) (seen new : List Bool) → length new ≡ length seen → count_by not new + 1 ≡ count_by not seen → left w (i + 1) new + 1 ≤ left w (i + 1) seen
+pub unit_falls : (w i : ℕ) (seen new : List Bool) → length new ≡ length seen → count_by not new + 1 ≡ count_by not seen → left w (i + 1) new + 1 ≤ left w (i + 1) seen
 unit_falls w i seen new e c =
     let s = new_size w (i + 1) seen new e in
     unit_less w i (length seen) (left w (i + 1) new) (count_by not seen) (count_by not new) (omega (arith, s)) c
 
-long_falls : (w i d : ℕ) (seen new : List Bool) → length new ≡ length seen → left w (i + 1) new + 1 ≤ left w (i + 2 + d) seen
+pub long_falls : (w i d : ℕ) (seen new : List Bool) → length new ≡ length seen → left w (i + 1) new + 1 ≤ left w (i + 2 + d) seen
 long_falls w i d seen new e =
     let s = new_size w (i + 1) seen new e in
     let most = count_most new in
@@ -179,6 +179,12 @@ module _ {L X : Type 0} (of : Answering L X) (rules : List Rule) (stmt classes :
   ends : (n : ℕ) → Go n
   ends zero at before ws a x seen q lt marks new lead = absurd (omega (arith, lt))
   ends (suc n) at before ws a x seen q lt marks new lead = step n at before ws a x seen q (actions_at t q (coming of ws)) lt marks new lead (choices a q (coming of ws) lead) (ends n)
+
+  -- also from a stack that leads to a state, with the classes that were on top as marks
+  pub from_here : (at : ℕ) (before : List (List Sym)) (ws : List L) (a : List Sym) (x : X) (seen : List Bool) (q : ℕ)
+      → Marks of rules stmt classes g before a seen → (Contains before a → ⊥) → Leads t a q
+      → (log : List (Move L)) × (e : Ending X) × Parses of rules stmt at before ws a x log e
+  from_here at before ws a x seen q marks new lead = ends (suc (left (length ws) (length a) seen)) at before ws a x seen q (omega arith) marks new lead
 
   pub from_start : (w : List L) (x : X) → End 0 [] w [] x
   from_start w x =

@@ -1,2 +1,5 @@
 pub mod EachShown
 pub mod Telling
+pub mod States
+pub mod Placing
+pub mod Going

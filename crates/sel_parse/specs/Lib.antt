@@ -1,2 +1,4 @@
 pub mod Shown
 pub mod Answers
+pub mod Steps
+pub mod Faults

@@ -3,7 +3,9 @@
 
 mod fault;
 mod generator;
+mod selection;
 mod showing;
 
 pub use fault::ShowFault;
 pub use generator::{Generator, show_rules};
+pub use selection::{SelectFault, Selected, select};

@@ -13,7 +13,7 @@ use Rattle.sel_target.specs.declared.attr.Attr.TheVariants as attr
 use Rattle.sel_target.specs.Meaning.{Extent, RegAt, WordAt, IsFree}
 use Rattle.sel_target.specs.Values.{View, value, low, worth}
 use Rattle.sel_target.specs.Outcomes.{Keeps, Sets, SetsName}
-use Rattle.sel_target.specs.SavingLaws.{Saves, Reloads, IsValue, IsSet, IsSlot, saving, reloading}
+use Rattle.sel_target.specs.SavingLaws.{Saves, Reloads, IsValue, IsSet, IsSlot, saving, reloading, SavesAndReloads}
 use Rattle.vax_core.specs.declared.operand.Operand.{Operand}
 use Rattle.vax_core.specs.declared.register.Reg.TheVariants.{Fp}
 use Rattle.vax_machine.specs.declared.function.Conditions.{Conditions}
@@ -58,3 +58,7 @@ LinesReload =
     (q : TreeProgram) (f : Extent) (fs : List Extent) (l : Line) (s : Reloads vax l) (w r n : ℕ) (v : View) (m : State)
     → r < 12 → w < 1024 → IsSet vax q f fs v n s.term m → vax.reads (vax.slot w) Long m ≡ Some n → n < 2 ^ 32
     → Sets vax (reloading vax q l w r) (RegAt r) q Long (attr.Reg r) (value v s.term) m
+
+-- the laws of a target on what is saved and reloaded
+abbrev pub TargetSaves : Type 0
+TargetSaves = SavesAndReloads vax

@@ -1,5 +1,5 @@
 // The laws. Each function does nothing; its clause is the law.
-ghost use Rattle.vax_target_saving.specs.Laws.{FreeWordsStore, LinesSave, LinesReload};
+ghost use Rattle.vax_target_saving.specs.Laws.{FreeWordsStore, LinesSave, LinesReload, TargetSaves};
 
 /// The law: a number goes into a free word of the frame, where it is read; every other operand, the state of trees, the room and the live
 /// frames are kept.
@@ -15,4 +15,9 @@ pub fn lines_save()
 /// The law: a line that was checked to reload brings a slot's longword back to its register; all else is kept.
 pub fn lines_reload()
     ensures { LinesReload }
+{}
+
+/// The law: the VAX keeps the laws of a target on what is saved and reloaded: these lines do so, and are instructions that can be written.
+pub fn target_saves()
+    ensures { TargetSaves }
 {}

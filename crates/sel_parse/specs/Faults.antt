@@ -1,0 +1,10 @@
+-- Which refusal of a reduction is which of a selection.
+use Rattle.sel_parse_desk.specs.declared.desk.DeskFault.{DeskFault}
+use Rattle.sel_parse_desk.specs.declared.desk.DeskFault.TheVariants as desk
+use Rattle.sel_parse.specs.declared.selection.SelectFault.{SelectFault}
+use Rattle.sel_parse.specs.declared.selection.SelectFault.TheVariants as fault
+
+abbrev pub fault_of : DeskFault → SelectFault
+fault_of desk.NoMemory = fault.NoMemory
+fault_of desk.FrameFull = fault.FrameFull
+fault_of desk.NoRegister = fault.Blocked

@@ -1,0 +1,7 @@
+pub mod JoinedLemmas
+pub mod Counting
+pub mod Reversing
+pub mod Searching
+pub mod Tallies
+pub mod Reloading
+pub mod Asking

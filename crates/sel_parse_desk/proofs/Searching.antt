@@ -1,0 +1,101 @@
+-- Searches from a number on.
+use Rattle.std.proofs.Common.{◌≡◌, ℕ, zero, suc, ◌+◌, ◌-◌, ◌<◌, ◌≤◌, List, [], ◌∷◌, length, take, get_or, Option, Some, None, Bool, true, false, refl, ap, sym, ◌∙◌, subst, arith}
+use Rattle.std.specs.Prelude.{◌||◌, if◌then◌else◌}
+use Rattle.std.specs.List.{list_any}
+use Rattle.sel_parse_desk.specs.Desk.{lowest}
+use Rattle.sel_parse_desk.specs.Spills.{behind_one, first_that}
+
+-- the lowest number that passes
+pub lowest_here : (p : ℕ → Bool) (i n : ℕ) → i < n → p i ≡ true → lowest p i (n - i) ≡ Some i
+lowest_here p i n lt e = by (n - i) (omega (arith, lt))
+  where
+    by : (m : ℕ) → 0 < m → lowest p i m ≡ Some i
+    by zero h = absurd (omega (arith, h))
+    by (suc m) h = ap (λ (b : Bool). if b then Some i else lowest p (i + 1) m) e
+
+pub lowest_later : (p : ℕ → Bool) (i n : ℕ) → i < n → p i ≡ false → lowest p i (n - i) ≡ lowest p (i + 1) (n - (i + 1))
+lowest_later p i n lt e = by (n - i) (n - (i + 1)) (omega (arith, lt))
+  where
+    by : (m k : ℕ) → m ≡ k + 1 → lowest p i m ≡ lowest p (i + 1) k
+    by zero k h = absurd (omega (arith, h))
+    by (suc m) k h =
+        ap (λ (b : Bool). if b then Some i else lowest p (i + 1) m) e ∙ ap (λ (j : ℕ). lowest p (i + 1) j) (let s : m ≡ k = omega (arith, h) in s)
+
+pub lowest_none : (p : ℕ → Bool) (i n : ℕ) → n ≤ i → lowest p i (n - i) ≡ None
+lowest_none p i n le = ap (λ (m : ℕ). lowest p i m) (let s : n - i ≡ 0 = omega (arith, le) in s)
+
+-- the first element that passes
+module _ {X : Type 0} (p : X → Bool) where
+  pub first_here : (xs : List X) (i : ℕ) (x : X) → list_any p (take i xs) ≡ false → i < length xs → x ≡ get_or xs i x → p x ≡ true → first_that p xs ≡ Some i
+  first_here [] i x none lt e f = absurd (omega (arith, lt))
+  first_here (y ∷ xs) zero x none lt e f = ap (λ (b : Bool). if b then Some 0 else behind_one (first_that p xs)) (ap p (sym e) ∙ f)
+  first_here (y ∷ xs) (suc i) x none lt e f =
+      by (p y) none (λ h. first_here xs i x h (omega (arith, lt)) e f)
+    where
+      by : (b : Bool) → (b || list_any p (take i xs)) ≡ false → (list_any p (take i xs) ≡ false → first_that p xs ≡ Some i)
+          → (if b then Some 0 else behind_one (first_that p xs)) ≡ Some (suc i)
+      by true h go = absurd (cc)
+      by false h go = ap behind_one (go h) ∙ ap (λ (k : ℕ). Some k) (let s : i + 1 ≡ suc i = omega arith in s)
+
+  pub first_end : (xs : List X) (i : ℕ) → list_any p (take i xs) ≡ false → length xs ≤ i → first_that p xs ≡ None
+  first_end [] i h le = refl
+  first_end (y ∷ xs) zero h le = absurd (omega (arith, le))
+  first_end (y ∷ xs) (suc i) h le = by (p y) h (λ f. first_end xs i f (omega (arith, le)))
+    where
+      by : (b : Bool) → (b || list_any p (take i xs)) ≡ false → (list_any p (take i xs) ≡ false → first_that p xs ≡ None)
+          → (if b then Some 0 else behind_one (first_that p xs)) ≡ None
+      by true f go = absurd (cc)
+      by false f go = ap behind_one (go f)
+
+  pub first_nowhere : (xs : List X) → list_any p xs ≡ false → first_that p xs ≡ None
+  first_nowhere [] h = refl
+  first_nowhere (y ∷ xs) h = by (p y) h (first_nowhere xs)
+    where
+      by : (b : Bool) → (b || list_any p xs) ≡ false → (list_any p xs ≡ false → first_that p xs ≡ None)
+          → (if b then Some 0 else behind_one (first_that p xs)) ≡ None
+      by true h go = absurd (cc)
+      by false h go = ap behind_one (go h)
+
+  -- before the first element that passes none does
+  pub first_before : (xs : List X) (i : ℕ) → first_that p xs ≡ Some i → (i < length xs) × (list_any p (take i xs) ≡ false)
+  first_before [] i e = absurd (cc)
+  first_before (y ∷ xs) i e = by (p y) refl (first_that p xs) (λ k f. first_before xs k f) e
+    where
+      Some-same : (m n : ℕ) → Some m ≡ Some n → m ≡ n
+      Some-same m n f = cc
+
+      later : (k : ℕ) → p y ≡ false → list_any p (take k xs) ≡ false → list_any p (take (k + 1) (y ∷ xs)) ≡ false
+      later k off f = ap (λ (j : ℕ). list_any p (take j (y ∷ xs))) (let s : k + 1 ≡ suc k = omega arith in s) ∙ ap (λ (b : Bool). b || list_any p (take k xs)) off ∙ f
+
+      by : (b : Bool) → p y ≡ b → (o : Option ℕ) → ((k : ℕ) → o ≡ Some k → (k < length xs) × (list_any p (take k xs) ≡ false))
+          → (if b then Some 0 else behind_one o) ≡ Some i → (i < length (y ∷ xs)) × (list_any p (take i (y ∷ xs)) ≡ false)
+      by true here o go f = subst (λ (j : ℕ). (j < length (y ∷ xs)) × (list_any p (take j (y ∷ xs)) ≡ false)) (Some-same 0 i f) (omega arith, refl)
+      by false off None go f = absurd (cc)
+      by false off (Some k) go f =
+          let h = go k refl in
+          subst (λ (j : ℕ). (j < length (y ∷ xs)) × (list_any p (take j (y ∷ xs)) ≡ false)) (Some-same (k + 1) i f) (omega (arith, h.0), later k off h.1)
+
+  pub first_none : (xs : List X) (n : ℕ) → first_that p xs ≡ None → list_any p (take n xs) ≡ false
+  first_none xs zero e = refl
+  first_none [] (suc n) e = refl
+  first_none (y ∷ xs) (suc n) e = by (p y) (first_that p xs) (λ f. first_none xs n f) e
+    where
+      by : (b : Bool) (o : Option ℕ) → (o ≡ None → list_any p (take n xs) ≡ false) → (if b then Some 0 else behind_one o) ≡ None
+          → (b || list_any p (take n xs)) ≡ false
+      by true o go f = absurd (cc)
+      by false None go f = go refl
+      by false (Some k) go f = absurd (cc)
+
+  -- one more element that doesn't pass
+  pub none_more : (xs : List X) (i : ℕ) (x : X) → list_any p (take i xs) ≡ false → i < length xs → x ≡ get_or xs i x → p x ≡ false
+      → list_any p (take (i + 1) xs) ≡ false
+  none_more [] i x none lt e f = absurd (omega (arith, lt))
+  none_more (y ∷ xs) zero x none lt e f = ap (λ (b : Bool). b || false) (ap p (sym e) ∙ f)
+  none_more (y ∷ xs) (suc i) x none lt e f =
+      ap (λ (j : ℕ). list_any p (take j (y ∷ xs))) (let s : suc i + 1 ≡ suc (i + 1) = omega arith in s)
+      ∙ by (p y) none (λ h. none_more xs i x h (omega (arith, lt)) e f)
+    where
+      by : (b : Bool) → (b || list_any p (take i xs)) ≡ false → (list_any p (take i xs) ≡ false → list_any p (take (i + 1) xs) ≡ false)
+          → (b || list_any p (take (i + 1) xs)) ≡ false
+      by true h go = absurd (cc)
+      by false h go = go h

@@ -1,0 +1,28 @@
+use Rattle.std.proofs.Common.{◌≡◌, ℕ, ◌+◌, ◌<◌, ◌≤◌, List, sym, subst, arith}
+use Rattle.std.specs.Prelude.{slice_index, count_by}
+use Rattle.sel_target.specs.declared.attr.Attr.{Attr}
+use Rattle.sel_parse_desk.specs.Entries.{in_register, in_word}
+use Rattle.sel_parse_desk.proofs.Tallies.{part_tallied, part_some}
+use Rattle.sel_parse_desk.proofs.stack.part.Goals as goal
+
+pub lower_all-requires-clause-in_registers : goal.lower_all-requires-clause-in_registers
+lower_all-requires-clause-in_registers g c = λ r small.
+    subst (λ (hs : List (Attr g.row.T-Operand.Denot)). count_by (in_register g.T.Templates.meaning r) hs ≤ slice_index c.args.stack.now.registers.items r) (sym c.attrs.ensures.attrs)
+    (part_some g.T.Templates.meaning (in_register g.T.Templates.meaning r) c.args.stack.now.entries c.in_ok-taken.taken c.saturating_sub-base.result (slice_index c.args.stack.now.registers.items r)
+    c.in_ok-taken.ensures.behind (c.requires.tallied.each_register r small))
+
+pub lower_all-requires-clause-in_words : goal.lower_all-requires-clause-in_words
+lower_all-requires-clause-in_words g c = λ w small.
+    subst (λ (hs : List (Attr g.row.T-Operand.Denot)). count_by (in_word g.T.Templates.meaning w) hs ≤ slice_index c.args.stack.now.words.items w) (sym c.attrs.ensures.attrs)
+    (part_some g.T.Templates.meaning (in_word g.T.Templates.meaning w) c.args.stack.now.entries c.in_ok-taken.taken c.saturating_sub-base.result (slice_index c.args.stack.now.words.items w)
+    c.in_ok-taken.ensures.behind (c.requires.tallied.each_word w small))
+
+pub returns-clause-tallied : goal.returns-clause-tallied
+returns-clause-tallied g c =
+    part_tallied g.T.Templates.meaning c.args.stack.now.entries c.split_off.new.self c.in_ok-taken.taken c.saturating_sub-base.result
+    c.args.stack.now.registers.items c.args.stack.now.words.items c.lower_all.new.registers.items c.lower_all.new.words.items c.args.stack.now.settled c.smaller-stack.result
+    c.in_ok-taken.ensures.before c.in_ok-taken.ensures.behind c.smaller-stack.ensures.b c.smaller-stack.ensures.a
+    (let s = c.saturating_sub-base.ensures in let l = c.len-long.ensures in omega (arith, s, l))
+    c.requires.tallied c.lower_all.ensures.twelve c.lower_all.ensures.all_words
+    (subst (λ (hs : List (Attr g.row.T-Operand.Denot)). (r : ℕ) → r < 12 → slice_index c.lower_all.new.registers.items r + count_by (in_register g.T.Templates.meaning r) hs ≡ slice_index c.args.stack.now.registers.items r) c.attrs.ensures.attrs c.lower_all.ensures.registers)
+    (subst (λ (hs : List (Attr g.row.T-Operand.Denot)). (w : ℕ) → w < 1024 → slice_index c.lower_all.new.words.items w + count_by (in_word g.T.Templates.meaning w) hs ≡ slice_index c.args.stack.now.words.items w) c.attrs.ensures.attrs c.lower_all.ensures.words)

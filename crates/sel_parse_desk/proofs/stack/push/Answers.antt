@@ -1,0 +1,18 @@
+use Rattle.std.proofs.Common.{◌≡◌, ℕ, ◌+◌, ◌<◌, List, get_or, ap, ◌∙◌, subst}
+use Rattle.std.specs.Prelude.{slice_index}
+use Rattle.sel_target.specs.declared.attr.Attr.{Attr}
+use Rattle.sel_parse_desk.specs.Entries.{in_register, in_word}
+use Rattle.sel_parse_desk.specs.Tallied.{one}
+use Rattle.sel_parse_desk.proofs.Tallies.{pushed_tallied, pushed_there}
+use Rattle.sel_parse_desk.proofs.stack.push.Goals as goal
+
+pub returns-clause-tallied : goal.returns-clause-tallied
+returns-clause-tallied g c =
+    let there : c.index-attrs-at.result ≡ c.args.attr =
+    pushed_there g.T.Templates.meaning c.args.stack.now.entries c.push.new.self (record { kind = c.args.kind; attr = c.args.attr }) c.len-at.result c.index-attrs-at.result
+    c.in_ok-push.ensures c.len-at.ensures (c.index-attrs-at.is ∙ ap (λ (hs : List (Attr g.row.T-Operand.Denot)). get_or hs c.len-at.result c.index-attrs-at.result) c.attrs.ensures.attrs) in
+    pushed_tallied g.T.Templates.meaning c.args.stack.now.entries c.push.new.self (record { kind = c.args.kind; attr = c.args.attr })
+    c.args.stack.now.registers.items c.args.stack.now.words.items c.raise.new.registers.items c.raise.new.words.items c.args.stack.now.settled
+    c.in_ok-push.ensures c.requires.tallied c.raise.ensures.twelve c.raise.ensures.all_words
+    (subst (λ (a : Attr g.row.T-Operand.Denot). (r : ℕ) → r < 12 → slice_index c.raise.new.registers.items r ≡ slice_index c.args.stack.now.registers.items r + one (in_register g.T.Templates.meaning r a)) there c.raise.ensures.registers)
+    (subst (λ (a : Attr g.row.T-Operand.Denot). (w : ℕ) → w < 1024 → slice_index c.raise.new.words.items w ≡ slice_index c.args.stack.now.words.items w + one (in_word g.T.Templates.meaning w a)) there c.raise.ensures.words)

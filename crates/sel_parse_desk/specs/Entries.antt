@@ -1,0 +1,121 @@
+-- What stands beside a symbol of the parse stack, and what the restrictions of a rule ask of it.
+use Rattle.std.specs.Prelude.{ℕ, ◌==◌, ◌&&◌, List, [], ◌∷◌, map, Option, Some, None, Bool, false, slice_get}
+use Rattle.std.specs.Int.{bit_at}
+use Rattle.gg_base.specs.declared.relation.Rel.{Rel}
+use Rattle.gg_base.specs.declared.size.Size.{Size}
+use Rattle.gg_base.specs.declared.size.Size.TheVariants.{Long}
+use Rattle.tree_core.specs.declared.tree.Att.{Att}
+use Rattle.tree_core.specs.declared.tree.Att.TheVariants as att
+use Rattle.tree_core.specs.declared.token.Tok.{Tok}
+use Rattle.tree_core.specs.declared.token.Tok.TheVariants as tok
+use Rattle.tree_core.specs.declared.tree.Leaf.{Leaf}
+use Rattle.tree_core.specs.declared.program.TreeProgram.{TreeProgram}
+use Rattle.md_reader_pieces.specs.declared.piece.Line.{Line}
+use Rattle.md_reader_pieces.specs.declared.piece.Piece.TheVariants as piece
+use Rattle.md_reader.specs.declared.types.Kind.{Kind}
+use Rattle.md_reader.specs.Rows.{size_of_kind, same_size}
+use Rattle.sel_target.specs.declared.attr.Attr.{Attr}
+use Rattle.sel_target.specs.declared.attr.Attr.TheVariants as attr
+use Rattle.sel_target.specs.Meaning.{Meaning, is_word}
+use Rattle.sel_target.specs.Values.{address_of}
+
+-- an attribute with the kind of its symbol's class, by which it is saved; a token has no class
+pub record Entry (O : Type 0) : Type 0 where
+  pub kind : Option Kind
+  pub attr : Attr O
+
+abbrev pub attrs : {O : Type 0} → List (Entry O) → List (Attr O)
+attrs {O = O} es = map (λ (e : Entry O). e.attr) es
+
+-- the kind of an entry, and the frame word in which a register's symbol stands
+abbrev pub kind_in : {O : Type 0} → Option (Entry O) → Option Kind
+kind_in None = None
+kind_in (Some e) = e.kind
+
+abbrev pub slot_of : {O : Type 0} → Attr O → Option ℕ
+slot_of (attr.InSlot w) = Some w
+slot_of a = None
+
+abbrev pub slot_in : {O : Type 0} → Option (Entry O) → Option ℕ
+slot_in None = None
+slot_in (Some e) = slot_of e.attr
+
+-- the number of a constant: a token's, or that of a class
+abbrev pub token_number : TreeProgram → Att → Option ℕ
+token_number q (att.Number n) = Some n
+token_number q (att.Object object offset) = address_of (slice_get q.objects object) offset
+token_number q a = None
+
+abbrev pub constant_of : {O : Type 0} → TreeProgram → Attr O → Option ℕ
+constant_of q (attr.Con n) = Some n
+constant_of q (attr.Token l) = token_number q l.att
+constant_of q a = None
+
+-- the relation of a branch
+abbrev pub branch_relation : Att → Option Rel
+branch_relation (att.Branch rel label) = Some rel
+branch_relation a = None
+
+abbrev pub relation_of : {O : Type 0} → Attr O → Option Rel
+relation_of (attr.Token l) = branch_relation l.att
+relation_of a = None
+
+-- the size of what stands for a value or a place; a local and an argument are longwords
+abbrev pub size_of_entry : Option Kind → Option Size
+size_of_entry None = Some Long
+size_of_entry k = size_of_kind k
+
+-- a shape of one hole, for the first symbol
+abbrev pub alone : Line
+alone = record { line = 0; pieces = piece.Hole 1 ∷ [] }
+
+module _ {O I S F : Type 0} (of : Meaning O I S F) where
+  -- the operand of a value, a place, a local or an argument
+  abbrev pub spelled_leaf : TreeProgram → Leaf → Tok → Option O
+  spelled_leaf q l tok.Loc = Some (of.operand q alone (attr.Token l ∷ []))
+  spelled_leaf q l tok.Arg = Some (of.operand q alone (attr.Token l ∷ []))
+  spelled_leaf q l t = None
+
+  abbrev pub spelled : TreeProgram → Attr O → Option O
+  spelled q (attr.Reg r) = None
+  spelled q (attr.InSlot w) = None
+  spelled q (attr.Value o) = Some o
+  spelled q (attr.Place o) = Some o
+  spelled q (attr.Con n) = None
+  spelled q (attr.Ea o) = None
+  spelled q (attr.Token l) = spelled_leaf q l l.tok
+  spelled q attr.Nothing = None
+
+  abbrev pub same_operands : Option O → Option O → Bool
+  same_operands None o = false
+  same_operands (Some o) None = false
+  same_operands (Some o) (Some p) = of.same o p
+
+  -- of one size, and spelled alike
+  abbrev pub alike : TreeProgram → Entry O → Entry O → Bool
+  alike q a b = same_size (size_of_entry a.kind) (size_of_entry b.kind) && same_operands (spelled q a.attr) (spelled q b.attr)
+
+  -- an attribute holds a register: its own, or one that its operand spells
+  abbrev pub in_register : ℕ → Attr O → Bool
+  in_register q (attr.Reg r) = r == q
+  in_register q (attr.InSlot w) = false
+  in_register q (attr.Value o) = bit_at (of.registers o) q == 1
+  in_register q (attr.Place o) = bit_at (of.registers o) q == 1
+  in_register q (attr.Con n) = false
+  in_register q (attr.Ea o) = bit_at (of.registers o) q == 1
+  in_register q (attr.Token l) = false
+  in_register q attr.Nothing = false
+
+  -- the frame word that an attribute holds: its own, or the one that its operand reads
+  abbrev pub word_of : Attr O → Option ℕ
+  word_of (attr.Reg r) = None
+  word_of (attr.InSlot w) = Some w
+  word_of (attr.Value o) = of.word o
+  word_of (attr.Place o) = of.word o
+  word_of (attr.Con n) = None
+  word_of (attr.Ea o) = of.word o
+  word_of (attr.Token l) = None
+  word_of attr.Nothing = None
+
+  abbrev pub in_word : ℕ → Attr O → Bool
+  in_word w a = is_word (word_of a) w

@@ -1,0 +1,38 @@
+-- What the code works on, as the definition of a selection sees it.
+use Rattle.std.specs.Prelude.{◌≡◌, ℕ, ◌≤◌, List, map, reverse}
+use Rattle.tree_core.specs.declared.program.TreeProgram.{TreeProgram}
+use Rattle.md_reader_pieces.specs.declared.piece.Line.{Line}
+use Rattle.sel_target.specs.declared.attr.Attr.{Attr}
+use Rattle.sel_target.specs.declared.attr.Attr.TheVariants as attr
+use Rattle.sel_target.specs.Meaning.{Meaning}
+use Rattle.sel_parse_desk.specs.Desk.{Desk, Stack, Outcome, Full, Stuck}
+use Rattle.sel_parse_desk.specs.declared.desk.Desk.{Desk as Held}
+use Rattle.sel_parse_desk.specs.declared.desk.DeskFault.{DeskFault}
+use Rattle.sel_parse_desk.specs.declared.desk.DeskFault.TheVariants as fault
+use Rattle.sel_parse_desk.specs.Tallied.{IsTallied}
+
+abbrev pub desk_of : {O I : Type 0} → Held O I → Desk O I
+desk_of k = record { below = k.stack.entries; symbols = k.symbols; late = k.late.items; code = k.code.items; most = k.most }
+
+-- between two reductions
+abbrev pub stack_of : {O I : Type 0} → Held O I → Stack O I
+stack_of k = record { entries = reverse k.stack.entries; code = k.code.items; most = k.most }
+
+-- the counts are right, and the words that were used are those of a frame
+abbrev pub IsReady : {O I S F : Type 0} → Meaning O I S F → Held O I → Type 0
+IsReady of k = IsTallied of k.stack × (k.most ≤ 1024)
+
+-- the refusal is the definition's
+abbrev pub Fails : {X : Type 0} → DeskFault → Outcome X → Type 0
+Fails fault.NoMemory o = Unit {0}
+Fails fault.FrameFull o = o ≡ Full
+Fails fault.NoRegister o = o ≡ Stuck
+
+module _ {O I S F : Type 0} (of : Meaning O I S F) where
+  -- the instruction that saves an attribute alone in a word
+  abbrev pub saved_line : TreeProgram → Line → List (Attr O) → ℕ → I
+  saved_line q l alone w = of.instr q l alone (attr.Place (of.slot w))
+
+  -- lines with their holes filled
+  abbrev pub filled_lines : TreeProgram → List Line → List (Attr O) → Attr O → List I
+  filled_lines q ls hs zero = map (λ (l : Line). of.instr q l hs zero) ls

@@ -1,0 +1,334 @@
+// What the restrictions of a rule ask.
+ghost use Rattle.std.specs.Prelude.{◌≡◌, ◌∷◌, [], ◌-◌, ◌<◌, Some, length, drop, IfOk, IfSome};
+ghost use Rattle.md_reader.specs.Rows.{same_size};
+ghost use Rattle.lr_check_parse.specs.Attributes.{signed, in_range, is_signed, attribute_at, constant_at, relation_at, same_spelling};
+ghost use Rattle.lr_check_parse.specs.Attributes.{holds, answered};
+ghost use Rattle.sel_target.specs.declared.attr.Attr.TheVariants as attr;
+ghost use Rattle.sel_parse_desk.specs.Entries.{constant_of, relation_of, token_number, size_of_entry, alone, spelled_leaf, spelled};
+ghost use Rattle.sel_parse_desk.specs.Entries.{same_operands};
+ghost use Rattle.sel_parse_desk.specs.Selected.{selecting};
+ghost use Rattle.sel_parse_desk.specs.Joined.{entry_at};
+ghost use Rattle.sel_parse_desk.specs.Mirror.{stack_of};
+
+use crate::desk::{Desk, Setting};
+use crate::entries::Entries;
+use gg_base::{NoMemory, Rel, Size, w32};
+use md_reader::{Kind, Line, Piece, Pieces, Restriction, Rule};
+use sel_target::{Attr, Templates};
+use std::alloc::Global;
+use tree_core::{Att, Leaf, Tok, TreeProgram};
+
+// The size of what stands for a value or a place; a token's is a longword.
+fn size_of_entry(kind: Option<Kind>) -> Option<Size>
+    ensures { result ≡ size_of_entry kind }
+{
+    match kind {
+        None => Some(Size::Long),
+        Some(Kind::Value(size)) => Some(size),
+        Some(Kind::Place(size)) => Some(size),
+        _ => None,
+    }
+}
+
+fn same_size(a: Option<Size>, b: Option<Size>) -> bool
+    ensures { result ≡ same_size a b }
+{
+    match (a, b) {
+        (Some(Size::Byte), Some(Size::Byte)) => true,
+        (Some(Size::Word), Some(Size::Word)) => true,
+        (Some(Size::Long), Some(Size::Long)) => true,
+        _ => false,
+    }
+}
+
+// A shape of one hole, for the first symbol.
+fn alone(alloc: Global) -> Result<Line, NoMemory>
+    ensures { IfOk result (λ l. l ≡ alone) }
+{
+    let pieces = vec![in alloc; Piece::Hole(1)]?;
+    Ok(Line {
+        line: 0,
+        pieces: Pieces::from_vec(pieces),
+    })
+}
+
+/// An attribute alone, as the only hole of a line.
+pub fn alone_in<O: Drop>(alloc: Global, attr: Attr<O>) -> Result<Vec<Attr<O>>, NoMemory>
+    ensures { IfOk result (λ v. v.items ≡ attr ∷ []) }
+{
+    let mut holes = Vec::new(alloc);
+    holes.push(attr)?;
+    Ok(holes)
+}
+
+// The place of a local's or an argument's token.
+fn leaf_place<T: Templates>(setting: &Setting<T>, leaf: Leaf) -> Result<T::Operand, NoMemory>
+    ensures { IfOk result (λ o. o ≡ T.meaning.operand setting.now.program.now alone (attr.Token leaf ∷ [])) }
+{
+    let shape = alone(setting.alloc)?;
+    let holes = alone_in(setting.alloc, Attr::Token(leaf))?;
+    setting
+        .target
+        .operand(setting.alloc, setting.program, &shape, &holes)
+}
+
+// Whether an operand is spelled as a leaf is.
+fn same_as_leaf<T: Templates>(
+    setting: &Setting<T>,
+    operand: &T::Operand,
+    leaf: Leaf,
+) -> Result<bool, NoMemory>
+    ensures { IfOk result (λ b. b ≡ same_operands T.meaning (Some operand.now)
+        (spelled_leaf T.meaning setting.now.program.now leaf leaf.tok)) }
+{
+    match leaf.tok {
+        Tok::Loc | Tok::Arg => {
+            let place = leaf_place(setting, leaf)?;
+            Ok(setting.target.same(operand, &place))
+        }
+        _ => Ok(false),
+    }
+}
+
+// Whether an operand is spelled as an attribute is.
+fn same_as<T: Templates>(
+    setting: &Setting<T>,
+    operand: &T::Operand,
+    attr: &Attr<T::Operand>,
+) -> Result<bool, NoMemory>
+    ensures { IfOk result (λ b. b ≡ same_operands T.meaning (Some operand.now) (spelled T.meaning setting.now.program.now attr.now)) }
+{
+    match attr {
+        Attr::Value(other) => Ok(setting.target.same(operand, other)),
+        Attr::Place(other) => Ok(setting.target.same(operand, other)),
+        Attr::Token(leaf) => same_as_leaf(setting, operand, *leaf),
+        Attr::Reg(_) | Attr::InSlot(_) | Attr::Con(_) | Attr::Ea(_) | Attr::Nothing => Ok(false),
+    }
+}
+
+fn leaf_same_as<T: Templates>(
+    setting: &Setting<T>,
+    leaf: Leaf,
+    attr: &Attr<T::Operand>,
+) -> Result<bool, NoMemory>
+    ensures { IfOk result (λ b. b ≡ same_operands T.meaning (spelled_leaf T.meaning setting.now.program.now leaf leaf.tok)
+        (spelled T.meaning setting.now.program.now attr.now)) }
+{
+    match leaf.tok {
+        Tok::Loc | Tok::Arg => {
+            let place = leaf_place(setting, leaf)?;
+            same_as(setting, &place, attr)
+        }
+        _ => Ok(false),
+    }
+}
+
+// Whether two attributes are spelled alike.
+fn spelled_alike<T: Templates>(
+    setting: &Setting<T>,
+    a: &Attr<T::Operand>,
+    b: &Attr<T::Operand>,
+) -> Result<bool, NoMemory>
+    ensures { IfOk result (λ yes. yes ≡ same_operands T.meaning (spelled T.meaning setting.now.program.now a.now)
+        (spelled T.meaning setting.now.program.now b.now)) }
+{
+    match a {
+        Attr::Value(operand) => same_as(setting, operand, b),
+        Attr::Place(operand) => same_as(setting, operand, b),
+        Attr::Token(leaf) => leaf_same_as(setting, *leaf, b),
+        Attr::Reg(_) | Attr::InSlot(_) | Attr::Con(_) | Attr::Ea(_) | Attr::Nothing => Ok(false),
+    }
+}
+
+fn token_number(program: &TreeProgram, att: Att) -> Option<u32>
+    ensures { result ≡ token_number program.now att }
+{
+    match att {
+        Att::Number(number) => Some(number),
+        Att::Object { object, offset } => match program.objects.as_slice().get(object as usize) {
+            Some(object) => Some(w32::add(object.address, offset)),
+            None => None,
+        },
+        _ => None,
+    }
+}
+
+/// The number of a constant: a token's, or that of a class.
+pub fn constant_of<O>(program: &TreeProgram, attr: &Attr<O>) -> Option<u32>
+    ensures { result ≡ constant_of program.now attr.now }
+{
+    match attr {
+        Attr::Con(number) => Some(*number),
+        Attr::Token(leaf) => token_number(program, leaf.att),
+        Attr::Reg(_)
+        | Attr::InSlot(_)
+        | Attr::Value(_)
+        | Attr::Place(_)
+        | Attr::Ea(_)
+        | Attr::Nothing => None,
+    }
+}
+
+fn relation_of<O>(attr: &Attr<O>) -> Option<Rel>
+    ensures { result ≡ relation_of attr.now }
+{
+    let Attr::Token(leaf) = attr else {
+        return None;
+    };
+    match leaf.att {
+        Att::Branch { rel, .. } => Some(rel),
+        _ => None,
+    }
+}
+
+// Whether the relation compares with signs, or for equality.
+fn is_signed(relation: Option<Rel>) -> bool
+    ensures { result ≡ is_signed relation }
+{
+    match relation {
+        None | Some(Rel::Ltu | Rel::Leu | Rel::Gtu | Rel::Geu) => false,
+        _ => true,
+    }
+}
+
+// A longword, read with its sign.
+fn signed(number: u32) -> i32
+    ensures { result ≡ signed number }
+{
+    if number < 0x8000_0000 {
+        number as i32
+    } else {
+        -1 - (w32::com(number) as i32)
+    }
+}
+
+fn in_range(low: i32, high: i32, constant: Option<u32>) -> bool
+    ensures { result ≡ in_range low high constant }
+{
+    match constant {
+        None => false,
+        Some(number) => {
+            let value = signed(number);
+            low <= value && value <= high
+        }
+    }
+}
+
+// The place of a rule's symbol with this number, from 1, on a stack whose top the rule covers.
+fn place_of<O: Drop>(entries: &Entries<O>, size: usize, number: u8) -> Option<usize>
+    ensures place { attribute_at (drop (length entries.now - size) entries.now) number ≡ entry_at entries.now result }
+    ensures within { IfSome result (λ i. i < length entries.now) }
+{
+    let long = entries.len();
+    let base = if size < long { long - size } else { 0 };
+    if number == 0 {
+        return None;
+    }
+    let at = number as usize - 1;
+    if at < long - base {
+        Some(base + at)
+    } else {
+        None
+    }
+}
+
+// Whether two symbols are of one size, and spelled alike.
+fn alike<T: Templates>(
+    setting: &Setting<T>,
+    entries: &Entries<T::Operand>,
+    a: Option<usize>,
+    b: Option<usize>,
+) -> Result<bool, NoMemory>
+    requires a { IfSome a (λ i. i < length entries.now) }
+    requires b { IfSome b (λ i. i < length entries.now) }
+    ensures { IfOk result (λ yes. yes ≡ same_spelling (selecting T.meaning setting.now.program.now setting.now.description.now
+        setting.now.first) (entry_at entries.now a) (entry_at entries.now b)) }
+{
+    let (Some(a), Some(b)) = (a, b) else {
+        return Ok(false);
+    };
+    if !same_size(
+        size_of_entry(entries.kind(a)),
+        size_of_entry(entries.kind(b)),
+    ) {
+        return Ok(false);
+    }
+    spelled_alike(setting, &entries.attrs()[a], &entries.attrs()[b])
+}
+
+fn constant_at<T: Templates>(
+    setting: &Setting<T>,
+    entries: &Entries<T::Operand>,
+    at: Option<usize>,
+) -> Option<u32>
+    requires { IfSome at (λ i. i < length entries.now) }
+    ensures { result ≡ constant_at (selecting T.meaning setting.now.program.now setting.now.description.now setting.now.first)
+        (entry_at entries.now at) }
+{
+    match at {
+        Some(at) => constant_of(setting.program, entries.attr(at)),
+        None => None,
+    }
+}
+
+fn relation_at<T: Templates>(
+    _setting: &Setting<T>,
+    entries: &Entries<T::Operand>,
+    at: Option<usize>,
+) -> Option<Rel>
+    requires { IfSome at (λ i. i < length entries.now) }
+    ensures { result ≡ relation_at (selecting T.meaning _setting.now.program.now _setting.now.description.now _setting.now.first)
+        (entry_at entries.now at) }
+{
+    match at {
+        Some(at) => relation_of(entries.attr(at)),
+        None => None,
+    }
+}
+
+// Whether a restriction holds of the symbols that a rule covers.
+fn holds<T: Templates>(
+    setting: &Setting<T>,
+    entries: &Entries<T::Operand>,
+    size: usize,
+    restriction: Restriction,
+) -> Result<bool, NoMemory>
+    ensures { IfOk result (λ yes. yes ≡ holds (selecting T.meaning setting.now.program.now setting.now.description.now
+        setting.now.first) (drop (length entries.now - size) entries.now) restriction) }
+{
+    match restriction {
+        Restriction::Same(i, j) => {
+            let a = place_of(entries, size, i);
+            let b = place_of(entries, size, j);
+            alike(setting, entries, a, b)
+        }
+        Restriction::Range(i, low, high) => {
+            let at = place_of(entries, size, i);
+            Ok(in_range(low, high, constant_at(setting, entries, at)))
+        }
+        Restriction::Signed(i) => {
+            let at = place_of(entries, size, i);
+            Ok(is_signed(relation_at(setting, entries, at)))
+        }
+    }
+}
+
+/// Whether the restrictions of a rule hold of the symbols that it covers on top of the stack.
+pub fn answered<T: Templates>(
+    setting: &Setting<T>,
+    desk: &Desk<T::Operand, T::Instr>,
+    rule: &Rule,
+) -> Result<bool, NoMemory>
+    ensures { IfOk result (λ yes. yes ≡ answered (selecting T.meaning setting.now.program.now setting.now.description.now
+        setting.now.first) rule.now (Some (stack_of desk.now))) }
+{
+    let size = rule.right.as_slice().len();
+    let mut left = rule.restrictions.as_slice();
+    while let [restriction, others @ ..] = left {
+        if !holds(setting, &desk.stack.entries, size, *restriction)? {
+            return Ok(false);
+        }
+        left = others;
+    }
+    Ok(true)
+}

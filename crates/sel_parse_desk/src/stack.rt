@@ -1,0 +1,287 @@
+// The stack below a rule's symbols, with what its entries hold.
+ghost use Rattle.std.specs.Prelude.{◌≡◌, ℕ, ◌∷◌, ◌++◌, [], ◌+◌, ◌-◌, ◌<◌, ◌≤◌, ◌^◌, length, take, drop, replicate, true, false, OnOk, IfOk, IfSome};
+ghost use Rattle.std.specs.List.{list_any, count_by, slice_get, slice_set, slice_index};
+ghost use Rattle.sel_parse_desk.specs.Entries.{attrs, kind_in, in_register, in_word};
+ghost use Rattle.sel_parse_desk.specs.Desk.{register_held, word_held};
+ghost use Rattle.sel_parse_desk.specs.Spills.{holds_some, first_that};
+ghost use Rattle.sel_parse_desk.specs.Joined.{is_low};
+ghost use Rattle.sel_parse_desk.specs.Tallied.{one, IsTallied};
+
+use crate::entries::Entries;
+use crate::holding::{holds_some, in_register, word_of};
+use gg_base::NoMemory;
+use md_reader::Kind;
+use sel_target::{Attr, Templates};
+use std::alloc::Global;
+
+/// How many words a frame may have.
+pub const WORDS: usize = 1024;
+
+/// The entries of a parse stack, the deepest first; for each register and each frame word, how many of them hold it; and a place before which
+/// none holds a register.
+#[derive(Drop)]
+pub struct Stack<O> {
+    pub entries: Entries<O>,
+    pub registers: Vec<usize>,
+    pub words: Vec<usize>,
+    pub settled: usize,
+}
+
+fn raise_registers<T: Templates>(target: &T, counts: &mut [usize], attr: &Attr<T::Operand>)
+    requires long { length counts.old ≡ 12 }
+    requires room { (r : ℕ) → r < 12 → slice_index counts.old r + one (in_register T.meaning r attr.now) < 2 ^ 64 }
+    ensures { (r : ℕ) → r < 12 → slice_index counts.new r ≡ slice_index counts.old r + one (in_register T.meaning r attr.now) }
+{
+    for register in 0..12u8 {
+        if in_register(target, register, attr) {
+            counts[register as usize] += 1;
+        }
+    }
+}
+
+fn lower_registers<T: Templates>(target: &T, counts: &mut [usize], attr: &Attr<T::Operand>)
+    requires long { length counts.old ≡ 12 }
+    requires held { (r : ℕ) → r < 12 → one (in_register T.meaning r attr.now) ≤ slice_index counts.old r }
+    ensures { (r : ℕ) → r < 12 → slice_index counts.new r + one (in_register T.meaning r attr.now) ≡ slice_index counts.old r }
+{
+    for register in 0..12u8 {
+        if in_register(target, register, attr) {
+            counts[register as usize] -= 1;
+        }
+    }
+}
+
+fn raise_word<T: Templates>(target: &T, counts: &mut [usize], attr: &Attr<T::Operand>)
+    requires long { length counts.old ≡ 1024 }
+    requires room { (w : ℕ) → w < 1024 → slice_index counts.old w + one (in_word T.meaning w attr.now) < 2 ^ 64 }
+    ensures { (w : ℕ) → w < 1024 → slice_index counts.new w ≡ slice_index counts.old w + one (in_word T.meaning w attr.now) }
+{
+    if let Some(word) = word_of(target, attr) {
+        let at = word as usize;
+        if at < counts.len() {
+            counts[at] += 1;
+        }
+    }
+}
+
+fn lower_word<T: Templates>(target: &T, counts: &mut [usize], attr: &Attr<T::Operand>)
+    requires long { length counts.old ≡ 1024 }
+    requires held { (w : ℕ) → w < 1024 → one (in_word T.meaning w attr.now) ≤ slice_index counts.old w }
+    ensures { (w : ℕ) → w < 1024 → slice_index counts.new w + one (in_word T.meaning w attr.now) ≡ slice_index counts.old w }
+{
+    if let Some(word) = word_of(target, attr) {
+        let at = word as usize;
+        if at < counts.len() {
+            counts[at] -= 1;
+        }
+    }
+}
+
+// The attribute is counted.
+fn raise<T: Templates>(
+    target: &T,
+    registers: &mut Vec<usize>,
+    words: &mut Vec<usize>,
+    attr: &Attr<T::Operand>,
+)
+    requires twelve { length registers.old.items ≡ 12 }
+    requires all_words { length words.old.items ≡ 1024 }
+    requires register_room { (r : ℕ) → r < 12 → slice_index registers.old.items r + one (in_register T.meaning r attr.now) < 2 ^ 64 }
+    requires word_room { (w : ℕ) → w < 1024 → slice_index words.old.items w + one (in_word T.meaning w attr.now) < 2 ^ 64 }
+    ensures twelve { length registers.new.items ≡ 12 }
+    ensures all_words { length words.new.items ≡ 1024 }
+    ensures registers { (r : ℕ) → r < 12 → slice_index registers.new.items r
+        ≡ slice_index registers.old.items r + one (in_register T.meaning r attr.now) }
+    ensures words { (w : ℕ) → w < 1024 → slice_index words.new.items w
+        ≡ slice_index words.old.items w + one (in_word T.meaning w attr.now) }
+{
+    raise_registers(target, registers, attr);
+    raise_word(target, words, attr);
+}
+
+// The attribute is counted no more.
+fn lower<T: Templates>(
+    target: &T,
+    registers: &mut Vec<usize>,
+    words: &mut Vec<usize>,
+    attr: &Attr<T::Operand>,
+)
+    requires twelve { length registers.old.items ≡ 12 }
+    requires all_words { length words.old.items ≡ 1024 }
+    requires in_registers { (r : ℕ) → r < 12 → one (in_register T.meaning r attr.now) ≤ slice_index registers.old.items r }
+    requires in_words { (w : ℕ) → w < 1024 → one (in_word T.meaning w attr.now) ≤ slice_index words.old.items w }
+    ensures twelve { length registers.new.items ≡ 12 }
+    ensures all_words { length words.new.items ≡ 1024 }
+    ensures registers { (r : ℕ) → r < 12 → slice_index registers.new.items r + one (in_register T.meaning r attr.now)
+        ≡ slice_index registers.old.items r }
+    ensures words { (w : ℕ) → w < 1024 → slice_index words.new.items w + one (in_word T.meaning w attr.now)
+        ≡ slice_index words.old.items w }
+{
+    lower_registers(target, registers, attr);
+    lower_word(target, words, attr);
+}
+
+// The attributes are counted no more.
+fn lower_all<T: Templates>(
+    target: &T,
+    registers: &mut Vec<usize>,
+    words: &mut Vec<usize>,
+    attrs: &[Attr<T::Operand>],
+)
+    requires twelve { length registers.old.items ≡ 12 }
+    requires all_words { length words.old.items ≡ 1024 }
+    requires in_registers { (r : ℕ) → r < 12 → count_by (in_register T.meaning r) attrs.now ≤ slice_index registers.old.items r }
+    requires in_words { (w : ℕ) → w < 1024 → count_by (in_word T.meaning w) attrs.now ≤ slice_index words.old.items w }
+    ensures twelve { length registers.new.items ≡ 12 }
+    ensures all_words { length words.new.items ≡ 1024 }
+    ensures registers { (r : ℕ) → r < 12 → slice_index registers.new.items r + count_by (in_register T.meaning r) attrs.now
+        ≡ slice_index registers.old.items r }
+    ensures words { (w : ℕ) → w < 1024 → slice_index words.new.items w + count_by (in_word T.meaning w) attrs.now
+        ≡ slice_index words.old.items w }
+{
+    for attr in attrs {
+        lower(target, registers, words, attr);
+    }
+}
+
+fn zeros(alloc: Global, count: usize) -> Result<Vec<usize>, NoMemory>
+    ensures { IfOk result (λ v. v.items ≡ replicate count 0) }
+{
+    Ok(vec![in alloc; 0; count]?)
+}
+
+/// No entries.
+pub fn empty<T: Templates>(_target: &T, alloc: Global) -> Result<Stack<T::Operand>, NoMemory>
+    ensures entries { IfOk result (λ s. s.entries ≡ []) }
+    ensures tallied { IfOk result (λ s. IsTallied T.meaning s) }
+{
+    let registers = zeros(alloc, 12)?;
+    let words = zeros(alloc, WORDS)?;
+    Ok(Stack {
+        entries: Entries::new(alloc),
+        registers,
+        words,
+        settled: 0,
+    })
+}
+
+/// One more entry.
+pub fn push<T: Templates>(
+    target: &T,
+    stack: &mut Stack<T::Operand>,
+    kind: Option<Kind>,
+    attr: Attr<T::Operand>,
+) -> Result<(), NoMemory>
+    requires low { is_low attr ≡ true }
+    requires tallied { IsTallied T.meaning stack.old }
+    ensures entries { OnOk result (stack.new.entries ≡ stack.old.entries ++ record { kind = kind; attr = attr } ∷ []) }
+    ensures tallied { OnOk result (IsTallied T.meaning stack.new) }
+{
+    let at = stack.entries.len();
+    stack.entries.push(kind, attr)?;
+    let _long = stack.entries.len();
+    let attr = &stack.entries.attrs()[at];
+    raise(target, &mut stack.registers, &mut stack.words, attr);
+    Ok(())
+}
+
+/// The deepest entry that holds a register gets another attribute.
+pub fn put<T: Templates>(
+    target: &T,
+    stack: &mut Stack<T::Operand>,
+    at: usize,
+    attr: Attr<T::Operand>,
+)
+    requires within { at < length stack.old.entries }
+    requires unsettled { stack.old.settled ≤ at }
+    requires low { is_low attr ≡ true }
+    requires tallied { IsTallied T.meaning stack.old }
+    ensures entries { stack.new.entries ≡ slice_set stack.old.entries at (record {
+      kind = kind_in
+          (slice_get stack.old.entries at);
+      attr = attr;
+    }) }
+    ensures tallied { IsTallied T.meaning stack.new }
+{
+    let _long = stack.entries.len();
+    let former = &stack.entries.attrs()[at];
+    lower(target, &mut stack.registers, &mut stack.words, former);
+    raise(target, &mut stack.registers, &mut stack.words, &attr);
+    stack.entries.put(at, attr);
+}
+
+fn smaller(a: usize, b: usize) -> usize
+    ensures a { result ≤ a }
+    ensures b { result ≤ b }
+{
+    if a < b { a } else { b }
+}
+
+/// The top entries, so many of them, are taken off.
+pub fn part<T: Templates>(
+    target: &T,
+    stack: &mut Stack<T::Operand>,
+    count: usize,
+) -> Result<Entries<T::Operand>, NoMemory>
+    requires tallied { IsTallied T.meaning stack.old }
+    ensures below { OnOk result (stack.new.entries ≡ take (length stack.old.entries - count) stack.old.entries) }
+    ensures taken { IfOk result (λ e. e ≡ drop (length stack.old.entries - count) stack.old.entries) }
+    ensures tallied { OnOk result (IsTallied T.meaning stack.new) }
+{
+    let long = stack.entries.len();
+    let base = long.saturating_sub(count);
+    let taken = stack.entries.split_off(base)?;
+    lower_all(
+        target,
+        &mut stack.registers,
+        &mut stack.words,
+        taken.attrs(),
+    );
+    stack.settled = smaller(stack.settled, base);
+    Ok(taken)
+}
+
+/// Whether an entry holds a register.
+pub fn holds_register<T: Templates>(_target: &T, stack: &Stack<T::Operand>, register: u8) -> bool
+    requires register { register < 12 }
+    requires tallied { IsTallied T.meaning stack.now }
+    ensures { result ≡ register_held T.meaning (attrs stack.now.entries) register }
+{
+    stack.registers[register as usize] != 0
+}
+
+/// Whether an entry holds a frame word.
+pub fn holds_word<T: Templates>(_target: &T, stack: &Stack<T::Operand>, word: u32) -> bool
+    requires word { word < 1024 }
+    requires tallied { IsTallied T.meaning stack.now }
+    ensures { result ≡ word_held T.meaning (attrs stack.now.entries) word }
+{
+    stack.words[word as usize] != 0
+}
+
+// The first attribute that holds a register, of which those before a place hold none.
+fn first_from<T: Templates>(target: &T, attrs: &[Attr<T::Operand>], from: usize) -> Option<usize>
+    requires within { from ≤ length attrs.now }
+    requires none_before { list_any (holds_some T.meaning) (take from attrs.now) ≡ false }
+    ensures { result ≡ first_that (holds_some T.meaning) attrs.now }
+{
+    for at in from..attrs.len() {
+        if holds_some(target, &attrs[at]) {
+            return Some(at);
+        }
+    }
+    None
+}
+
+/// The place of the deepest entry that holds a register.
+pub fn deepest<T: Templates>(target: &T, stack: &mut Stack<T::Operand>) -> Option<usize>
+    requires tallied { IsTallied T.meaning stack.old }
+    ensures place { result ≡ first_that (holds_some T.meaning) (attrs stack.old.entries) }
+    ensures unsettled { IfSome result (λ i. (i < length stack.old.entries) × (stack.new.settled ≤ i)) }
+    ensures entries { stack.new.entries ≡ stack.old.entries }
+    ensures tallied { IsTallied T.meaning stack.new }
+{
+    let found = first_from(target, stack.entries.attrs(), stack.settled);
+    stack.settled = found.unwrap_or(stack.entries.len());
+    found
+}
