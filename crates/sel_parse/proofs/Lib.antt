@@ -3,3 +3,4 @@ pub mod Telling
 pub mod States
 pub mod Placing
 pub mod Going
+pub mod Excluding

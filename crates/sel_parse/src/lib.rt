@@ -3,6 +3,7 @@
 
 mod fault;
 mod generator;
+pub mod laws;
 mod selection;
 mod showing;
 
