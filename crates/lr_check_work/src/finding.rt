@@ -63,7 +63,10 @@ fn closed(alloc: Global, tables: &Tables, work: &Work) -> Result<Finding, NoMemo
     ensures { IfOk result (λ f. IsSo (automaton_of tables.now) f) }
 {
     let facts = facts_of(alloc, tables, work)?;
-    if is_closed(alloc, tables, &facts, MAX_TUPLES)? {
+    if work.tuples > MAX_TUPLES {
+        return Ok(Finding::Open);
+    }
+    if is_closed(alloc, tables, &facts, work.tuples)? {
         Ok(Finding::Fine(work.tuples))
     } else {
         Ok(Finding::Open)
@@ -73,7 +76,7 @@ fn closed(alloc: Global, tables: &Tables, work: &Work) -> Result<Finding, NoMemo
 /// Decides whether some well-typed tree blocks the parser by the tables or makes it turn for ever,
 /// whatever its questions answer.
 pub fn find_fault(alloc: Global, tables: &Tables) -> Result<Finding, NoMemory>
-    // `Fine` comes only where the sets of the tables have no fault, and at most 4,000,000 tuples.
+    // `Fine` comes only where the sets of the tables have no fault, and at most so many tuples.
     ensures { IfOk result (λ f. IsSo (automaton_of tables.now) f) }
 {
     let mut work = Work::new(alloc, tables)?;

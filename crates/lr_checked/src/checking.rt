@@ -3,6 +3,7 @@ ghost use Rattle.std.specs.Prelude.{◌≡◌, IfOk, IfErr};
 ghost use Rattle.lr_check_sets.specs.Table.{automaton_of};
 ghost use Rattle.lr_check_closed.specs.Count.{HasMore};
 ghost use Rattle.lr_checked.specs.Accepted.{NeverStops};
+ghost use Rattle.lr_checked.specs.Counted.{IsCounted};
 ghost use Rattle.lr_checked.specs.Refusals.{FaultIsReal};
 
 use crate::laws::no_fault_is_enough;
@@ -35,12 +36,13 @@ pub struct Checked {
 impl Model for Checked {
     ghost use Rattle.lr_tables.specs.View.{TableView};
     ghost use Rattle.lr_checked.specs.Accepted.{NeverStops};
+    ghost use Rattle.lr_checked.specs.Counted.{IsCounted};
 
     ghost Value = { TableView };
 
     ghost view = { λ c. c.tables };
 
-    ghost invariant = { λ c. NeverStops c.tables.content };
+    ghost invariant = { λ c. NeverStops c.tables.content × IsCounted c.tables c.tuples };
 }
 
 impl Checked {
@@ -50,8 +52,11 @@ impl Checked {
         &self.tables
     }
 
-    /// How many tuples the work has found: a place, and symbols that may replace its subtree.
-    pub fn tuples(&self) -> usize {
+    /// How many tuples the work has found: a place, and symbols that may replace its subtree. The set of
+    /// sums has no more.
+    pub fn tuples(&self) -> usize
+        ensures { IsCounted self.now result }
+    {
         self.tuples
     }
 
@@ -90,7 +95,7 @@ fn refusal(alloc: Global, tables: &Tables, sample: Sample) -> CheckFault
 // How many tuples there are, or why the tables are refused.
 fn verdict(alloc: Global, tables: &Tables) -> Result<usize, CheckFault>
     ensures fine { IfOk result (λ n. NeverStops tables.now.content) }
-    ensures few { IfOk result (λ n. ¬ HasMore (automaton_of tables.now) 4000000) }
+    ensures few { IfOk result (λ n. IsCounted tables.now n) }
     ensures real { IfErr result (λ f. FaultIsReal tables.now.content f) }
 {
     tables.is_numbered();
