@@ -1,0 +1,23 @@
+-- The law of this crate: what the lines of a statement that calls do.
+use Rattle.std.specs.Prelude.{◌≡◌, List}
+use Rattle.tree_core.specs.declared.program.TreeProgram.{TreeProgram}
+use Rattle.tree_meaning.specs.Deeds.{Deed}
+use Rattle.tree_meaning.specs.Steps.{deed_step}
+use Rattle.md_reader.specs.declared.types.Class.{Class}
+use Rattle.md_reader.specs.declared.types.Rule.{Rule}
+use Rattle.sel_terms.specs.Effects.{EffectShape, Call}
+use Rattle.sel_target.specs.declared.attr.Attr.{Attr}
+use Rattle.sel_target.specs.Meaning.{Extent}
+use Rattle.sel_target.specs.Values.{View}
+use Rattle.sel_target.specs.Instances.{lines_of, Ready}
+use Rattle.sel_target.specs.StatementLaws.{IsStep, DoesAct}
+use Rattle.vax_core.specs.declared.operand.Operand.{Operand}
+use Rattle.vax_machine.specs.State.{State}
+use Rattle.vax_target_meaning.specs.Vax.{vax}
+
+-- the lines of a statement that calls do its deed
+abbrev pub CallsDo : Type 0
+CallsDo = (q : TreeProgram) (f : Extent) (fs : List Extent) (classes : List Class) (rule : Rule) (e : EffectShape) (d : Deed)
+    (hs : List (Attr Operand)) (res : Attr Operand) (v : View) (m : State) →
+    Ready vax q f fs classes rule e hs res v m → e.act ≡ Call → DoesAct vax q f rule.restrictions hs v m e.act d →
+    IsStep vax q f fs v.state m (vax.run (lines_of vax q rule hs res) m) (deed_step q v.state d)
