@@ -1,0 +1,36 @@
+// From a tree program to its code.
+ghost use Rattle.std.specs.Prelude.{◌≤◌, IfOk, IfErr, length};
+ghost use Rattle.std.specs.List.{All};
+ghost use Rattle.vax_target_meaning.specs.Vax.{vax};
+ghost use Rattle.gg_compile_code.specs.Selecting.{SelectedAll};
+ghost use Rattle.gg_compile_code.specs.Stops.{AllStopFor};
+
+use crate::fault::AssembleFault;
+use crate::functions::functions;
+use gg_compile_area::area_items;
+use sel_parse::Generator;
+use std::alloc::Global;
+use tree_core::TreeProgram;
+use vax_core::{Code, CodeItems};
+use vax_target::Vax;
+
+/// The code of a tree program by a description's tables: each function is a frame round the code that is selected of its trees, in
+/// order, and the data area is that of the objects; or the first tree without code. A function has at most 1,024 locals, an object
+/// at most 1,048,576 bytes.
+pub fn assemble(
+    alloc: Global,
+    generator: &Generator<Vax>,
+    program: &TreeProgram,
+) -> Result<Code, AssembleFault>
+    requires locals { All (λ f. f.locals ≤ 1024) program.now.functions }
+    requires objects { All (λ o. length o.bytes ≤ 1048576) program.now.objects }
+    ensures code { IfOk result (λ c. SelectedAll vax generator.now.tables.content program.now c) }
+    ensures stops { IfErr result (AllStopFor vax generator.now.tables.content program.now) }
+{
+    let items = functions(alloc, generator, program)?;
+    let area = area_items(alloc, program.objects.as_slice())?;
+    Ok(Code {
+        area,
+        items: CodeItems::from_vec(items),
+    })
+}

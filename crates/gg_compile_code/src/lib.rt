@@ -1,0 +1,10 @@
+//! The code of a tree program: each function is a frame round the code that is selected of its trees.
+#![tactic(auto)]
+
+mod assembling;
+mod fault;
+mod functions;
+mod items;
+
+pub use assembling::assemble;
+pub use fault::AssembleFault;
