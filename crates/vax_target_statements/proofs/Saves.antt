@@ -226,9 +226,9 @@ module _ (q : TreeProgram) (f : Extent) (fs : List Extent) (classes : List Class
       let same : k ≡ p.there.1.local = saved_word l.tok k p.there.1.local below p.there.1.low word in
       let address = word_address (reg n Fp) k (let a = agrees.fp in let b = agrees.running.words in let d = agrees.bottom in let w = agrees.running.locals in omega (arith, a, b, d, w, lt)) (reg_small n Fp agrees.sound) in
       let location : p.place ≡ locations.Memory (word_of (reg n Fp) k) =
-          stands_same n (operand_in q (filling_at S i)) Long p.place (locations.Memory (word_of (reg n Fp) k)) p.there.0
-          (subst (λ o. StandsAt n o Long (locations.Memory (word_of (reg n Fp) k))) (sym (p.there.1.is ∙ ap home (sym same)))
-          (subst (λ a. StandsAt n (home k) Long (locations.Memory a)) address (names_stand (home k) Long n (displaced n Fp (word_addr k)) refl))) in
+      stands_same n (operand_in q (filling_at S i)) Long p.place (locations.Memory (word_of (reg n Fp) k)) p.there.0
+      (subst (λ o. StandsAt n o Long (locations.Memory (word_of (reg n Fp) k))) (sym (p.there.1.is ∙ ap home (sym same)))
+      (subst (λ a. StandsAt n (home k) Long (locations.Memory a)) address (names_stand (home k) Long n (displaced n Fp (word_addr k)) refl))) in
       let w = local_written q.objects _ _ v.state n agrees k (worth S LastResult) lt (small (term_state v) LastResult) in
       goes q f fs classes rule e hs res v m ready n _ (locations.Memory (word_of (reg n Fp) k)) Long (worth S LastResult) p.conditions D (steps.with_local_set v.state k (worth S LastResult))
       (p.is ∙ ap (λ y. putting n y Long (worth S LastResult) p.conditions) location) w.0 w.1 frames
@@ -251,7 +251,7 @@ module _ (q : TreeProgram) (f : Extent) (fs : List Extent) (classes : List Class
     by l there slot (symbols.Class z) stands_there fit p = absurd (no_class (kind_at classes z) l fit)
     by l there slot (symbols.Tok t) stands_there fit p =
         let role : hole_of_token t ≡ holes.Saved =
-            sym (ap hole_or_other (ap (λ (o : Option Sym). option_map (hole_of classes) o) stands_there)) ∙ sym (ap hole_or_other (mapped_at classes rule.right j)) ∙ sym (role_is S j) ∙ saved_role (suc j) is in
+        sym (ap hole_or_other (ap (λ (o : Option Sym). option_map (hole_of classes) o) stands_there)) ∙ sym (ap hole_or_other (mapped_at classes rule.right j)) ∙ sym (role_is S j) ∙ saved_role (suc j) is in
         let saving : t ≡ tok.Save = hole_is_save t role in
         let first : j ≡ 0 = root_first rule.right j (symbols.Tok t) (rest_of classes _ rule.right ready.instance_of.rule_fits.sides.sorted) stands_there (subst (λ y. is_root (Some (symbols.Tok y)) ≡ true) (sym saving) refl) in
         let begins_so = begins rule.right t (subst (λ y. slice_get rule.right y ≡ Some (symbols.Tok t)) first stands_there) saving in
