@@ -6,7 +6,9 @@ use Rattle.c_types.specs.declared.typed.UnaryOperator.{UnaryOperator}
 use Rattle.c_types.specs.declared.typed.UnaryOperator.TheVariants as unaries
 use Rattle.c_types.specs.declared.typed.ArithmeticOperator.TheVariants as ariths
 use Rattle.c_types.specs.Constants.{scale}
-use Rattle.c_types.specs.Typed.{APlace, VariableAt, PointedBy, ElementBy, AnExpression, Constant, LiteralAt, ArrayAt, ReadOf, SizeofTerm, SizeOf, AddressOf, CallOf, StepOf, UnaryOf, CastTo, ConvertTo, ArithmeticOf, CompareOf, BothOf, EitherOf, AdvanceOf, AdvanceByOf, RetreatOf, DistanceOf, ChoiceOf, AssignTo, ArithmeticAssignTo, AdvanceAssignTo, RetreatAssignTo, CommaOf, SomeExpressions, NoExpressions, MoreExpressions}
+use Rattle.c_types.specs.Typed.{APlace, VariableAt, PointedBy, ElementBy, AnExpression, Constant, LiteralAt, ArrayAt, ReadOf, SizeofTerm, SizeOf, AddressOf, CallOf, StepOf}
+use Rattle.c_types.specs.Typed.{UnaryOf, CastTo, ConvertTo, ArithmeticOf, CompareOf, BothOf, EitherOf, AdvanceOf, AdvanceByOf, RetreatOf, DistanceOf, ChoiceOf, AssignTo}
+use Rattle.c_types.specs.Typed.{ArithmeticAssignTo, AdvanceAssignTo, RetreatAssignTo, CommaOf, SomeExpressions, NoExpressions, MoreExpressions}
 use Rattle.c_program.specs.Need.{place_nodes, nodes, all_nodes}
 use Rattle.c_lower_scheme.specs.Trees.{Tree, Num, Gaddr, Neg, Com, Bin}
 use Rattle.c_lower_scheme.specs.Expressions.{Lowered, Lowering, Located, Passing, due, valued, is_nil, where_of, address_tree, scaled_by, shared_by, advance, advance_by, retreat, apart}
@@ -14,7 +16,8 @@ use Rattle.c_lower_scheme.specs.Expressions.{over, fitted, callee_number, passed
 use Rattle.c_lower_bounds.proofs.Trees.{tree_forks}
 use Rattle.c_lower_bounds.proofs.Values.{AddsTwo, Bounded, fitted_forks, due_within, valued_bounded, effective_bounded, mapped_bounded, binary_bounded, relation_bounded}
 use Rattle.c_lower_bounds.proofs.Conditions.{not_bounded, chain_bounded, choose_bounded, comma_bounded}
-use Rattle.c_lower_bounds.proofs.Places.{WithinFound, WithinReady, array_forks, found_within, pointed_within, read_within, address_within, ready_within, update_within, step_within, step_low_within, store_drop_ends, store_low_within}
+use Rattle.c_lower_bounds.proofs.Places.{WithinFound, WithinReady, array_forks, found_within, pointed_within, read_within, address_within, ready_within, update_within, step_within}
+use Rattle.c_lower_bounds.proofs.Places.{step_low_within, store_drop_ends, store_low_within}
 use Rattle.c_lower_bounds.proofs.Calls.{WithinPassing, none_within, pass_within, passed_within, called_low_within, called_drop_ends}
 
 -- scaling is one fork, or none

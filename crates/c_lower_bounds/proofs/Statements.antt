@@ -2,11 +2,13 @@
 use Rattle.std.proofs.Common.{ℕ, suc, ◌+◌, ◌≤◌, List, [], ◌∷◌, arith}
 use Rattle.std.specs.Prelude.{Bool, true, false, Option, Some, None}
 use Rattle.c_types.specs.Typed.{AnExpression}
-use Rattle.c_program.specs.Statements.{ADeclaration, KeepOf, ClearOf, BeginOf, AnAction, SomeActions, NoActions, MoreActions, DeclareOf, BlockOf, EvaluateOf, BreakOf, ContinueOf, ReturnOf, IfOf, IfElseOf, WhileOf, DoOf, ForOf}
+use Rattle.c_program.specs.Statements.{ADeclaration, KeepOf, ClearOf, BeginOf, AnAction, SomeActions, NoActions, MoreActions, DeclareOf, BlockOf, EvaluateOf, BreakOf, ContinueOf}
+use Rattle.c_program.specs.Statements.{ReturnOf, IfOf, IfElseOf, WhileOf, DoOf, ForOf}
 use Rattle.c_program.specs.Need.{nodes, maybe_nodes, returned_nodes, declared_nodes, largest, largest_of}
 use Rattle.c_lower_scheme.specs.Trees.{Num, Item, AssignLoc, Jump, Ret}
 use Rattle.c_lower_scheme.specs.Expressions.{Lowered, Emitted, nothing, way}
-use Rattle.c_lower_scheme.specs.Statements.{mentions, two_done, ret_of, clearing, begin_of, if_done, if_else_done, while_done, do_done, for_done, ever_done, unless, when, effect, returning, declare, for_of, lower, lower_row}
+use Rattle.c_lower_scheme.specs.Statements.{mentions, two_done, ret_of, clearing, begin_of, if_done, if_else_done, while_done, do_done, for_done, ever_done, unless, when, effect}
+use Rattle.c_lower_scheme.specs.Statements.{returning, declare, for_of, lower, lower_row}
 use Rattle.c_lower_bounds.proofs.Trees.{item_forks, Narrow, none, next, behind}
 use Rattle.c_lower_bounds.proofs.Values.{Within, Ends}
 use Rattle.c_lower_bounds.proofs.Phrases.{way_bounded}

@@ -12,7 +12,8 @@ use Rattle.tree_core.specs.Attributes.{end_leaf}
 use Rattle.tree_core.specs.Grammar.{kids}
 use Rattle.tree_core.specs.Trees.{Forest, none, tree, leaves_onto, firsts, others, grown}
 use Rattle.tree_core.specs.Calm.{divides as token_divides, reads_memory, ReadsNothing, CalmBefore, Calm}
-use Rattle.c_lower_scheme.specs.Trees.{Tree, Num, Gaddr, Loc, Arg, Indir, Conv, Neg, Com, Bin, Item, Label, AssignLoc, AssignArg, AssignMem, Cbr, Jump, Push, Call, Save, Ret, divides_by, divides, reads}
+use Rattle.c_lower_scheme.specs.Trees.{Tree, Num, Gaddr, Loc, Arg, Indir, Conv, Neg, Com, Bin, Item, Label, AssignLoc, AssignArg, AssignMem, Cbr, Jump, Push, Call, Save, Ret}
+use Rattle.c_lower_scheme.specs.Trees.{divides_by, divides, reads}
 use Rattle.c_lower_scheme.specs.Spelling.{leaf, plain, constant_token, operator_token, indir_onto, conv_onto, leaves_onto as spelled_onto, assign_onto, spelled}
 use Rattle.c_lower_calm.proofs.Trees.{Apart, IsCalm, IsCalmItem, RootIsCalm, constant_leaf, operator_two}
 

@@ -4,12 +4,18 @@ use Rattle.std.specs.Prelude.{Bool, true, false, not}
 use Rattle.c_types.specs.declared.types.CType.{CType}
 use Rattle.c_types.specs.declared.typed.UnaryOperator.{UnaryOperator}
 use Rattle.c_types.specs.declared.typed.UnaryOperator.TheVariants as unaries
-use Rattle.c_types.specs.Typed.{APlace, VariableAt, PointedBy, ElementBy, AnExpression, Constant, LiteralAt, ArrayAt, ReadOf, SizeofTerm, SizeOf, AddressOf, CallOf, StepOf, UnaryOf, CastTo, ConvertTo, ArithmeticOf, CompareOf, BothOf, EitherOf, AdvanceOf, AdvanceByOf, RetreatOf, DistanceOf, ChoiceOf, AssignTo, ArithmeticAssignTo, AdvanceAssignTo, RetreatAssignTo, CommaOf, SomeExpressions, NoExpressions, MoreExpressions}
+use Rattle.c_types.specs.Typed.{APlace, VariableAt, PointedBy, ElementBy, AnExpression, Constant, LiteralAt, ArrayAt, ReadOf, SizeofTerm, SizeOf, AddressOf, CallOf, StepOf}
+use Rattle.c_types.specs.Typed.{UnaryOf, CastTo, ConvertTo, ArithmeticOf, CompareOf, BothOf, EitherOf, AdvanceOf, AdvanceByOf, RetreatOf, DistanceOf, ChoiceOf, AssignTo}
+use Rattle.c_types.specs.Typed.{ArithmeticAssignTo, AdvanceAssignTo, RetreatAssignTo, CommaOf, SomeExpressions, NoExpressions, MoreExpressions}
 use Rattle.c_lower_scheme.specs.Trees.{Tree, Num, Gaddr, Neg, Com, Bin}
-use Rattle.c_lower_scheme.specs.Expressions.{Lowered, Lowering, Located, Passing, is_nil, where_of, address_tree, advance, advance_by, retreat, apart, over, fitted, callee_number, passed_as, others, must_pass, assigned, updated, update_by, unary, seek, way, pass}
+use Rattle.c_lower_scheme.specs.Expressions.{Lowered, Lowering, Located, Passing, is_nil, where_of, address_tree, advance, advance_by, retreat, apart, over, fitted, callee_number}
+use Rattle.c_lower_scheme.specs.Expressions.{passed_as, others, must_pass, assigned, updated, update_by, unary, seek, way, pass}
 use Rattle.c_lower_calm.proofs.Trees.{Apart, IsCalm, none}
-use Rattle.c_lower_calm.proofs.Parts.{CalmWay, CalmFound, CalmReady, due_calm, valued_calm, effective_calm, mapped_calm, not_calm, chain_calm, choose_calm, comma_calm, binary_calm, relation_calm, calm_fitted}
-use Rattle.c_lower_calm.proofs.Places.{array_calm, found_calm, pointed_calm, read_calm, address_calm, store_drop_calm, store_low_calm, assigned_calm, update_calm, step_ready_calm, step_low_calm, advance_calm, advance_by_calm, retreat_calm, apart_calm, CalmPassing, no_trees, pass_calm, passed_calm, called_low_calm, called_drop_calm}
+use Rattle.c_lower_calm.proofs.Parts.{CalmWay, CalmFound, CalmReady, due_calm, valued_calm, effective_calm, mapped_calm, not_calm, chain_calm, choose_calm, comma_calm, binary_calm}
+use Rattle.c_lower_calm.proofs.Parts.{relation_calm, calm_fitted}
+use Rattle.c_lower_calm.proofs.Places.{array_calm, found_calm, pointed_calm, read_calm, address_calm, store_drop_calm, store_low_calm, assigned_calm, update_calm, step_ready_calm}
+use Rattle.c_lower_calm.proofs.Places.{step_low_calm, advance_calm, advance_by_calm, retreat_calm, apart_calm, CalmPassing, no_trees, pass_calm, passed_calm, called_low_calm}
+use Rattle.c_lower_calm.proofs.Places.{called_drop_calm}
 
 module _ (size count : ℕ) where
   stored_calm : (between : Bool) {p : Located} {e : Lowering} → CalmFound p → CalmWay e → CalmReady (assigned size count between p e.low)

@@ -8,11 +8,15 @@ use Rattle.c_types.specs.declared.typed.UnaryOperator.{UnaryOperator}
 use Rattle.c_types.specs.declared.typed.UnaryOperator.TheVariants as unaries
 use Rattle.c_types.specs.declared.typed.ArithmeticOperator.TheVariants as ariths
 use Rattle.c_types.specs.Constants.{scale}
-use Rattle.c_types.specs.Typed.{APlace, VariableAt, PointedBy, ElementBy, AnExpression, Constant, LiteralAt, ArrayAt, ReadOf, SizeofTerm, SizeOf, AddressOf, CallOf, StepOf, UnaryOf, CastTo, ConvertTo, ArithmeticOf, CompareOf, BothOf, EitherOf, AdvanceOf, AdvanceByOf, RetreatOf, DistanceOf, ChoiceOf, AssignTo, ArithmeticAssignTo, AdvanceAssignTo, RetreatAssignTo, CommaOf}
+use Rattle.c_types.specs.Typed.{APlace, VariableAt, PointedBy, ElementBy, AnExpression, Constant, LiteralAt, ArrayAt, ReadOf, SizeofTerm, SizeOf, AddressOf, CallOf, StepOf}
+use Rattle.c_types.specs.Typed.{UnaryOf, CastTo, ConvertTo, ArithmeticOf, CompareOf, BothOf, EitherOf, AdvanceOf, AdvanceByOf, RetreatOf, DistanceOf, ChoiceOf, AssignTo}
+use Rattle.c_types.specs.Typed.{ArithmeticAssignTo, AdvanceAssignTo, RetreatAssignTo, CommaOf}
 use Rattle.tree_core.specs.declared.program.TreeItem.{TreeItem}
 use Rattle.tree_core.specs.declared.program.TreeItem.TheVariants as item
 use Rattle.c_lower_scheme.specs.Trees.{Tree, Num, Neg, Com, Bin, Item, divides, reads, breaks}
-use Rattle.c_lower_scheme.specs.Expressions.{Lowered, Lowering, Where, InLoc, InArg, InMem, Located, due, over, over_two, integer_of, conv, fitted, read_from, assign_to, address_tree, scaled_by, shared_by, advance, advance_by, retreat, apart, pointed, read_low, ready_so, store_drop, join, join_so, joined, assigned, assign_ready, unary, seek, way}
+use Rattle.c_lower_scheme.specs.Expressions.{Lowered, Lowering, Where, InLoc, InArg, InMem, Located, due, over, over_two, integer_of, conv, fitted, read_from, assign_to}
+use Rattle.c_lower_scheme.specs.Expressions.{address_tree, scaled_by, shared_by, advance, advance_by, retreat, apart, pointed, read_low, ready_so, store_drop, join, join_so}
+use Rattle.c_lower_scheme.specs.Expressions.{joined, assigned, assign_ready, unary, seek, way}
 use Rattle.c_lower_scheme.specs.Statements.{ret_of}
 use Rattle.c_lower_scheme.specs.Spelling.{spelled}
 use Rattle.c_lower_calm.specs.Plain.{PlainPlace, Plain, PlainUnary, unary_tree, type_at, place_at, plain_tree}

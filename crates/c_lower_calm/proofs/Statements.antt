@@ -2,7 +2,8 @@
 use Rattle.std.proofs.Common.{ℕ, suc, List, [], ◌∷◌}
 use Rattle.std.specs.Prelude.{Bool, true, false, Option, Some, None}
 use Rattle.c_types.specs.Typed.{AnExpression}
-use Rattle.c_program.specs.Statements.{ADeclaration, KeepOf, ClearOf, BeginOf, AnAction, SomeActions, NoActions, MoreActions, DeclareOf, BlockOf, EvaluateOf, BreakOf, ContinueOf, ReturnOf, IfOf, IfElseOf, WhileOf, DoOf, ForOf}
+use Rattle.c_program.specs.Statements.{ADeclaration, KeepOf, ClearOf, BeginOf, AnAction, SomeActions, NoActions, MoreActions, DeclareOf, BlockOf, EvaluateOf, BreakOf, ContinueOf}
+use Rattle.c_program.specs.Statements.{ReturnOf, IfOf, IfElseOf, WhileOf, DoOf, ForOf}
 use Rattle.c_lower_scheme.specs.Expressions.{Lowered, Emitted, way}
 use Rattle.c_lower_scheme.specs.Statements.{mentions, clearing, unless, effect, returning, declare, for_of, lower, lower_row}
 use Rattle.c_lower_calm.proofs.Trees.{AreCalm, none, next, behind}

@@ -14,7 +14,8 @@ use Rattle.tree_core.specs.declared.program.TreeItem.TheVariants as item
 use Rattle.tree_core.specs.Attributes.{end_leaf}
 use Rattle.tree_core.specs.Grammar.{kids}
 use Rattle.tree_core.specs.Calm.{divides as token_divides, reads_memory, Calm}
-use Rattle.c_lower_scheme.specs.Trees.{Tree, Num, Gaddr, Loc, Arg, Indir, Conv, Neg, Com, Bin, Item, Label, AssignLoc, AssignArg, AssignMem, Cbr, Jump, Push, Call, Save, Ret, divides_by, divides, reads}
+use Rattle.c_lower_scheme.specs.Trees.{Tree, Num, Gaddr, Loc, Arg, Indir, Conv, Neg, Com, Bin, Item, Label, AssignLoc, AssignArg, AssignMem, Cbr, Jump, Push, Call, Save, Ret}
+use Rattle.c_lower_scheme.specs.Trees.{divides_by, divides, reads}
 use Rattle.c_lower_scheme.specs.Spelling.{leaf, plain, constant_token, operator_token, indir_onto, conv_onto, leaves_onto, assign_onto, spelled, spelled_all}
 use Rattle.c_lower_calm.proofs.Pieces.{Piece, leaf_piece, one_piece, two_piece, whole_piece}
 
@@ -165,10 +166,14 @@ arg_piece : (n : ℕ) → Piece (λ w. leaf tok.Arg (att.Slot n) ∷ w) false fa
 arg_piece n = leaf_piece (leaf tok.Arg (att.Slot n)) refl refl refl
 
 assign_calm : (i : Integer) (a w : Tree) → IsCalm a → IsCalm w → Apart a w → Calm (assign_onto i a w (end_leaf ∷ []))
-assign_calm ints.Char a w h g apart = whole_piece (root_piece (plain tok.AssignB) refl refl apart (read_piece tok.IndirB refl refl (tree_piece a h)) (pure_piece tok.Ncb refl refl refl (tree_piece w g)))
-assign_calm ints.UnsignedChar a w h g apart = whole_piece (root_piece (plain tok.AssignB) refl refl apart (read_piece tok.IndirB refl refl (tree_piece a h)) (pure_piece tok.Ncb refl refl refl (tree_piece w g)))
-assign_calm ints.Short a w h g apart = whole_piece (root_piece (plain tok.AssignW) refl refl apart (read_piece tok.IndirW refl refl (tree_piece a h)) (pure_piece tok.Ncw refl refl refl (tree_piece w g)))
-assign_calm ints.UnsignedShort a w h g apart = whole_piece (root_piece (plain tok.AssignW) refl refl apart (read_piece tok.IndirW refl refl (tree_piece a h)) (pure_piece tok.Ncw refl refl refl (tree_piece w g)))
+assign_calm ints.Char a w h g apart = whole_piece (root_piece (plain tok.AssignB) refl refl apart (read_piece tok.IndirB refl refl (tree_piece a h))
+    (pure_piece tok.Ncb refl refl refl (tree_piece w g)))
+assign_calm ints.UnsignedChar a w h g apart = whole_piece (root_piece (plain tok.AssignB) refl refl apart (read_piece tok.IndirB refl refl (tree_piece a h))
+    (pure_piece tok.Ncb refl refl refl (tree_piece w g)))
+assign_calm ints.Short a w h g apart = whole_piece (root_piece (plain tok.AssignW) refl refl apart (read_piece tok.IndirW refl refl (tree_piece a h))
+    (pure_piece tok.Ncw refl refl refl (tree_piece w g)))
+assign_calm ints.UnsignedShort a w h g apart = whole_piece (root_piece (plain tok.AssignW) refl refl apart (read_piece tok.IndirW refl refl (tree_piece a h))
+    (pure_piece tok.Ncw refl refl refl (tree_piece w g)))
 assign_calm ints.Int a w h g apart = whole_piece (root_piece (plain tok.AssignL) refl refl apart (read_piece tok.IndirL refl refl (tree_piece a h)) (tree_piece w g))
 
 -- what an item is spelled as

@@ -135,11 +135,13 @@ module _ (program : TreeProgram) where
   value_alike u (Gaddr n) d d' b h = refl
   value_alike u (Loc n) d d' b h = ap there (h.locals n b)
   value_alike u (Arg n) d d' b h = ap (λ xs. there (slice_get xs n)) h.arguments
-  value_alike u (Indir i a) d d' b h = ap (λ v. bind v (λ x. bind (there (fetched (integer_access i) d'.area x)) (λ v. Number (kept i v)))) (value_alike u a d d' b h) ∙ ap (λ z. bind (value a d) (λ x. bind (there (fetched (integer_access i) z x)) (λ v. Number (kept i v)))) h.area
+  value_alike u (Indir i a) d d' b h = ap (λ v. bind v (λ x. bind (there (fetched (integer_access i) d'.area x)) (λ v. Number (kept i v)))) (value_alike u a d d' b h)
+      ∙ ap (λ z. bind (value a d) (λ x. bind (there (fetched (integer_access i) z x)) (λ v. Number (kept i v)))) h.area
   value_alike u (Conv i w) d d' b h = ap (λ v. bind v (λ x. Number (kept i x))) (value_alike u w d d' b h)
   value_alike u (Neg w) d d' b h = ap (λ v. bind v (λ x. Number (neg32 x))) (value_alike u w d d' b h)
   value_alike u (Com w) d d' b h = ap (λ v. bind v (λ x. Number (com32 x))) (value_alike u w d d' b h)
-  value_alike u (Bin op a b) d d' c h = ap (λ v. bind v (λ x. bind (value b d') (λ y. or_zero (apply op x y)))) (value_alike u a d d' c.0 h) ∙ ap (λ v. bind (value a d) (λ x. bind v (λ y. or_zero (apply op x y)))) (value_alike u b d d' c.1 h)
+  value_alike u (Bin op a b) d d' c h = ap (λ v. bind v (λ x. bind (value b d') (λ y. or_zero (apply op x y)))) (value_alike u a d d' c.0 h)
+      ∙ ap (λ v. bind (value a d) (λ x. bind v (λ y. or_zero (apply op x y)))) (value_alike u b d d' c.1 h)
 
   pub value_stable : (size u : ℕ) (w : Tree) (d d' : Desk) → stable size w ≡ true → Below u w → ((j : ℕ) → size ≤ j → j < u → d'.locals j ≡ d.locals j) → value w d' ≡ value w d
   value_stable size u (Num n) d d' s b h = refl
@@ -152,7 +154,8 @@ module _ (program : TreeProgram) where
   value_stable size u (Com w) d d' s b h = ap (λ v. bind v (λ x. Number (com32 x))) (value_stable size u w d d' s b h)
   value_stable size u (Bin op a b) d d' s c h =
       let parts = and_parts (stable size a) (stable size b) (and_parts (not (divides_by op)) (stable size a && stable size b) s).1 in
-      ap (λ v. bind v (λ x. bind (value b d') (λ y. or_zero (apply op x y)))) (value_stable size u a d d' parts.0 c.0 h) ∙ ap (λ v. bind (value a d) (λ x. bind v (λ y. or_zero (apply op x y)))) (value_stable size u b d d' parts.1 c.1 h)
+      ap (λ v. bind v (λ x. bind (value b d') (λ y. or_zero (apply op x y)))) (value_stable size u a d d' parts.0 c.0 h)
+      ∙ ap (λ v. bind (value a d) (λ x. bind v (λ y. or_zero (apply op x y)))) (value_stable size u b d d' parts.1 c.1 h)
 
   pub value_pure : (w : Tree) (d : Desk) → divides w ≡ false → value w d ≡ ZeroDivisor → ⊥
   value_pure (Num n) d e h = cc
@@ -213,7 +216,8 @@ ranged_set d n v lt r = record {
 }
 
 -- a temporary is written
-pub agree_temp : (size : ℕ) (scope : ℕ → Type 0) (depth : ℕ) → ((x : ℕ) → scope x → x < size) → (n v : ℕ) (st : State) (d : Desk) → size ≤ n → v < 2 ^ 32 → Agree size scope depth st d → Agree size scope depth st (record d { locals = with_local d.locals n v })
+pub agree_temp : (size : ℕ) (scope : ℕ → Type 0) (depth : ℕ) → ((x : ℕ) → scope x → x < size) → (n v : ℕ) (st : State) (d : Desk) → size ≤ n → v < 2 ^ 32 → Agree size scope depth st d
+    → Agree size scope depth st (record d { locals = with_local d.locals n v })
 agree_temp size scope depth within n v st d le lt h = record {
   local = λ x sc. set_other d.locals n v x (λ e. let lt' = within x sc in omega arith) ∙ h.local x sc;
   count = h.count;

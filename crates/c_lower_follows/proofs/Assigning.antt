@@ -14,7 +14,8 @@ use Rattle.c_meaning.specs.declared.store.Spot.TheVariants.{Local, Parameter, Me
 use Rattle.c_meaning.specs.State.{State}
 use Rattle.c_meaning.specs.Meaning.{Rest, RestAt, read_at, store_at}
 use Rattle.c_lower_scheme.specs.Trees.{Tree, Loc, Arg, Indir, Item, AssignLoc, divides, reads, breaks, stable, is_leaf}
-use Rattle.c_lower_scheme.specs.Expressions.{held, must, ready_so, must_hold, assign_ready, stays, must_keep, update_so, update_ready, postfix_so, postfix, Lowered, Where, InLoc, InArg, InMem, Located, Assignable, is_nil, saving, saved, next_if, integer_of, read_from, assign_to}
+use Rattle.c_lower_scheme.specs.Expressions.{held, must, ready_so, must_hold, assign_ready, stays, must_keep, update_so, update_ready, postfix_so, postfix, Lowered, Where, InLoc}
+use Rattle.c_lower_scheme.specs.Expressions.{InArg, InMem, Located, Assignable, is_nil, saving, saved, next_if, integer_of, read_from, assign_to}
 use Rattle.c_lower_follows.proofs.Values.{SmallTree}
 use Rattle.c_lower_follows.proofs.Leads.{Leads}
 use Rattle.c_lower_follows.proofs.Steps.{Desk, on, Resolves, resolves_back}
@@ -46,16 +47,20 @@ module _ (program : TreeProgram) (code : List TreeItem) (callers : List Activati
   cut a b is h = apart program code callers size count scope level within a b is h
 
   -- the frame of two parts, the first of whose tree may be saved at u
-  since_held : (t p v u w : ℕ) (a b : List Item) (st : State) (d : Desk) (st1 : State) (d1 : Desk) (st2 : State) (d2 : Desk) → t ≤ p → p ≤ v → v ≤ u → u < w → Since size t p a st d st1 d1 → Held size p v u b st1 d1 st2 d2 → Since size t w (a ++ b) st d st2 d2
+  since_held : (t p v u w : ℕ) (a b : List Item) (st : State) (d : Desk) (st1 : State) (d1 : Desk) (st2 : State) (d2 : Desk) → t ≤ p → p ≤ v → v ≤ u → u < w → Since size t p a st d st1 d1
+      → Held size p v u b st1 d1 st2 d2 → Since size t w (a ++ b) st d st2 d2
   since_held t p v u w a b st d st1 d1 st2 d2 tp pv vu uw s s' = record {
-    keeps = λ j szj o. s'.keeps j szj (⊎_elim (λ lt. inl (omega arith)) (λ ge. inr (omega arith)) o) (λ e. ⊎_elim (λ lt. omega arith) (λ ge. omega arith) o) ∙ s.keeps j szj (⊎_elim (λ lt. inl lt) (λ ge. inr (omega arith)) o);
+    keeps = λ j szj o. s'.keeps j szj (⊎_elim (λ lt. inl (omega arith)) (λ ge. inr (omega arith)) o) (λ e. ⊎_elim (λ lt. omega arith) (λ ge. omega arith) o)
+        ∙ s.keeps j szj (⊎_elim (λ lt. inl lt) (λ ge. inr (omega arith)) o);
     same = λ e. let h = s.same (front_nil a b e) in let g = s'.same (back_nil a b e) in (g.0 ∙ h.0, g.1 ∙ h.1);
   }
 
   -- the same where nothing was saved
-  since_free : (t p v u : ℕ) (a b : List Item) (st : State) (d : Desk) (st1 : State) (d1 : Desk) (st2 : State) (d2 : Desk) → t ≤ p → p ≤ v → Since size t p a st d st1 d1 → Held size p v u b st1 d1 st2 d2 → ((j : ℕ) → size ≤ j → d2.locals u ≡ d1.locals u) → Since size t v (a ++ b) st d st2 d2
+  since_free : (t p v u : ℕ) (a b : List Item) (st : State) (d : Desk) (st1 : State) (d1 : Desk) (st2 : State) (d2 : Desk) → t ≤ p → p ≤ v → Since size t p a st d st1 d1
+      → Held size p v u b st1 d1 st2 d2 → ((j : ℕ) → size ≤ j → d2.locals u ≡ d1.locals u) → Since size t v (a ++ b) st d st2 d2
   since_free t p v u a b st d st1 d1 st2 d2 tp pv s s' free = record {
-    keeps = λ j szj o. ⊎_elim (λ e. subst (λ i. d2.locals i ≡ d1.locals i) (sym e) (free j szj)) (λ ne. s'.keeps j szj (⊎_elim (λ lt. inl (omega arith)) (λ ge. inr ge) o) ne) (cases_eq j u) ∙ s.keeps j szj (⊎_elim (λ lt. inl lt) (λ ge. inr (omega arith)) o);
+    keeps = λ j szj o. ⊎_elim (λ e. subst (λ i. d2.locals i ≡ d1.locals i) (sym e) (free j szj)) (λ ne. s'.keeps j szj (⊎_elim (λ lt. inl (omega arith)) (λ ge. inr ge) o) ne)
+        (cases_eq j u) ∙ s.keeps j szj (⊎_elim (λ lt. inl lt) (λ ge. inr (omega arith)) o);
     same = λ e. let h = s.same (front_nil a b e) in let g = s'.same (back_nil a b e) in (g.0 ∙ h.0, g.1 ∙ h.1);
   }
 
@@ -64,8 +69,10 @@ module _ (program : TreeProgram) (code : List TreeItem) (callers : List Activati
   must_not (i ∷ is) a b e = inr (not-false (stable size a) e)
 
   -- a place and the value that is assigned to it
-  ready_by : (b : Bool) (a : Tree) (is0 : List Item) (ty : CType) (u l t : ℕ) (q : Lowered) (m : RestAt → State → Runs) (n : Rest → State → Runs) → size ≤ t → (b ≡ false → (q.items ≡ []) ⊎ (stable size a ≡ true))
-      → DoesFound (record { items = is0; type = ty; place = InMem a; temps = u; labels = l }) t m → DoesLow q u n → DoesRest (ready_so b (record { items = is0; type = ty; place = InMem a; temps = u; labels = l }) q) t (λ κ. m (λ ty s. n (λ v. κ ty s v)))
+  ready_by : (b : Bool) (a : Tree) (is0 : List Item) (ty : CType) (u l t : ℕ) (q : Lowered) (m : RestAt → State → Runs) (n : Rest → State → Runs) → size ≤ t
+      → (b ≡ false → (q.items ≡ []) ⊎ (stable size a ≡ true))
+      → DoesFound (record { items = is0; type = ty; place = InMem a; temps = u; labels = l }) t m → DoesLow q u n
+      → DoesRest (ready_so b (record { items = is0; type = ty; place = InMem a; temps = u; labels = l }) q) t (λ κ. m (λ ty s. n (λ v. κ ty s v)))
   ready_by true a is0 ty u l t q m n sz rest does does' = record {
     grows = omega (arith, does.grows, does'.grows);
     fits = omega arith;
@@ -75,7 +82,8 @@ module _ (program : TreeProgram) (code : List TreeItem) (callers : List Activati
     runs = λ k le is κ res st d ag h.
         let tail : List Item = AssignLoc q.temps a ∷ q.items in
         onward k is0 tail is d _ (does.runs k le (tail ++ is) (λ ty s. n (λ v. κ ty s v)) (cut is0 tail is res) st d ag
-        (λ st1 d1 ag1 s1. hold program code callers size count scope level within true a u q.temps q n k le is (λ x v. κ ty (Memory x) v) st1 d1 (omega (arith, does.grows)) (omega arith) does.small does' (resolves_back code is0 (tail ++ is) (cut is0 tail is res)) (λ e. absurd (cc)) ag1
+        (λ st1 d1 ag1 s1. hold program code callers size count scope level within true a u q.temps q n k le is (λ x v. κ ty (Memory x) v) st1 d1 (omega (arith, does.grows)) (omega arith)
+        does.small does' (resolves_back code is0 (tail ++ is) (cut is0 tail is res)) (λ e. absurd (cc)) ag1
         (λ st2 d2 ag2 s2. h st2 d2 ag2 (since_held t u q.temps q.temps (suc q.temps) is0 tail st d st1 d1 st2 d2 does.grows does'.grows (omega arith) (omega arith) s1 s2))));
   }
   ready_by false a is0 ty u l t q m n sz rest does does' = record {
@@ -86,12 +94,16 @@ module _ (program : TreeProgram) (code : List TreeItem) (callers : List Activati
     small_value = does'.small;
     runs = λ k le is κ res st d ag h.
         onward k is0 q.items is d _ (does.runs k le (q.items ++ is) (λ ty s. n (λ v. κ ty s v)) (cut is0 q.items is res) st d ag
-        (λ st1 d1 ag1 s1. waits program code callers size count scope level within a u q n k le is (λ x v. κ ty (Memory x) v) st1 d1 (omega (arith, does.grows)) does.small does.fits does' (resolves_back code is0 (q.items ++ is) (cut is0 q.items is res)) (rest refl) ag1
+        (λ st1 d1 ag1 s1. waits program code callers size count scope level within a u q n k le is (λ x v. κ ty (Memory x) v) st1 d1 (omega (arith, does.grows)) does.small does.fits does'
+        (resolves_back code is0 (q.items ++ is) (cut is0 q.items is res)) (rest refl) ag1
         (λ st2 d2 ag2 s2. h st2 d2 ag2 (since_both program code callers size count scope level within t u q.temps is0 q.items st st1 st2 d d1 d2 does.grows does'.grows s1 s2))));
   }
 
-  plain_ready : (s : Where) (f : Spot) (is0 : List Item) (ty : CType) (u l t : ℕ) (q : Lowered) (m : RestAt → State → Runs) (n : Rest → State → Runs) → ((d : Desk) (g : Spot → Runs) → place_on program s d g ≡ g f) → ((v w : ℕ) → v ≤ w → FitsPlace program code callers size count scope level v s → FitsPlace program code callers size count scope level w s)
-      → DoesFound (record { items = is0; type = ty; place = s; temps = u; labels = l }) t m → DoesLow q u n → DoesRest (record { items = is0 ++ q.items; type = ty; place = s; value = q.tree; temps = q.temps; labels = q.labels }) t (λ κ. m (λ ty s. n (λ v. κ ty s v)))
+  plain_ready : (s : Where) (f : Spot) (is0 : List Item) (ty : CType) (u l t : ℕ) (q : Lowered) (m : RestAt → State → Runs) (n : Rest → State → Runs)
+      → ((d : Desk) (g : Spot → Runs) → place_on program s d g ≡ g f) → ((v w : ℕ) → v ≤ w → FitsPlace program code callers size count scope level v s
+      → FitsPlace program code callers size count scope level w s)
+      → DoesFound (record { items = is0; type = ty; place = s; temps = u; labels = l }) t m → DoesLow q u n
+      → DoesRest (record { items = is0 ++ q.items; type = ty; place = s; value = q.tree; temps = q.temps; labels = q.labels }) t (λ κ. m (λ ty s. n (λ v. κ ty s v)))
   plain_ready s f is0 ty u l t q m n spot more does does' = record {
     grows = omega (arith, does.grows, does'.grows);
     fits = more u q.temps does'.grows does.fits;
@@ -102,18 +114,21 @@ module _ (program : TreeProgram) (code : List TreeItem) (callers : List Activati
         onward k is0 q.items is d _ (does.runs k le (q.items ++ is) (λ ty s. n (λ v. κ ty s v)) (cut is0 q.items is res) st d ag
         (λ st1 d1 ag1 s1. subst (λ r. Leads k r (gone (q.items ++ is) d1)) (sym (spot d1 (λ s. n (λ v. κ ty s v) st1)))
         (does'.runs k le is (λ v. κ ty f v) (resolves_back code is0 (q.items ++ is) (cut is0 q.items is res)) st1 d1 ag1
-        (λ st2 d2 ag2 s2. subst (λ r. Leads k r (gone is d2)) (spot d2 (λ s. on (value program q.tree d2) (λ v. κ ty s v st2))) (h st2 d2 ag2 (since_both program code callers size count scope level within t u q.temps is0 q.items st st1 st2 d d1 d2 does.grows does'.grows s1 s2))))));
+        (λ st2 d2 ag2 s2. subst (λ r. Leads k r (gone is d2)) (spot d2 (λ s. on (value program q.tree d2) (λ v. κ ty s v st2)))
+        (h st2 d2 ag2 (since_both program code callers size count scope level within t u q.temps is0 q.items st st1 st2 d d1 d2 does.grows does'.grows s1 s2))))));
   }
 
   assign_by : (between : Bool) (s : Where) (is0 : List Item) (ty : CType) (u l t : ℕ) (q : Lowered) (m : RestAt → State → Runs) (n : Rest → State → Runs) → size ≤ t
-      → DoesFound (record { items = is0; type = ty; place = s; temps = u; labels = l }) t m → DoesLow q u n → DoesRest (ready_so (must_hold size count between q.items q.tree s) (record { items = is0; type = ty; place = s; temps = u; labels = l }) q) t (λ κ. m (λ ty s. n (λ v. κ ty s v)))
+      → DoesFound (record { items = is0; type = ty; place = s; temps = u; labels = l }) t m → DoesLow q u n
+      → DoesRest (ready_so (must_hold size count between q.items q.tree s) (record { items = is0; type = ty; place = s; temps = u; labels = l }) q) t (λ κ. m (λ ty s. n (λ v. κ ty s v)))
   assign_by between (InLoc x) is0 ty u l t q m n sz does does' = plain_ready (InLoc x) (Local x) is0 ty u l t q m n (λ d g. refl) (λ v w le h. h) does does'
   assign_by between (InArg x) is0 ty u l t q m n sz does does' = plain_ready (InArg x) (Parameter x) is0 ty u l t q m n (λ d g. refl) (λ v w le h. h) does does'
   assign_by between (InMem a) is0 ty u l t q m n sz does does' =
       ready_by (must_hold size count between q.items q.tree (InMem a)) a is0 ty u l t q m n sz
       (λ e. must_not q.items a q.tree (or_parts (must size count q.items a q.tree) (between && breaks a) e).0) does does'
 
-  pub assign_does : (between : Bool) (p : Located) (q : Lowered) (t : ℕ) (m : RestAt → State → Runs) (n : Rest → State → Runs) → size ≤ t → DoesFound p t m → DoesLow q p.temps n → DoesRest (assign_ready size count between p q) t (λ κ. m (λ ty s. n (λ v. κ ty s v)))
+  pub assign_does : (between : Bool) (p : Located) (q : Lowered) (t : ℕ) (m : RestAt → State → Runs) (n : Rest → State → Runs) → size ≤ t → DoesFound p t m → DoesLow q p.temps n
+      → DoesRest (assign_ready size count between p q) t (λ κ. m (λ ty s. n (λ v. κ ty s v)))
   assign_does between p q t m n sz does does' = assign_by between p.place p.items p.type p.temps p.labels t q m n sz does does'
 
   pure_so : (b : Bool) (u : ℕ) (a : Tree) → (b ≡ false → divides a ≡ false) → divides (saved b u a) ≡ false
@@ -146,9 +161,12 @@ module _ (program : TreeProgram) (code : List TreeItem) (callers : List Activati
   MakesIt f g = Makes program code callers size count scope level within f g
 
   -- a place is read, and then the other side comes to a value
-  change : (c : Bool) (s : Where) (ty : CType) (f : Tree → Tree → Tree) (g : ℕ → ℕ → Rest → State → Runs) (t0 u : ℕ) (q : Lowered) (n : Rest → State → Runs) (k : ℕ) → k ≤ level → (is : List Item) (κ : CType → Spot → Rest) (st : State) (d : Desk) → (c ≡ false → q.items ≡ []) → size ≤ t0 → q.temps ≤ u → PurePlace s → SmallPlace s → FitsPlace program code callers size count scope level u s → MakesIt f g → DoesLow q t0 n → Resolves code ((saving c u (read_from ty s) ++ q.items) ++ is) → agreed st d
+  change : (c : Bool) (s : Where) (ty : CType) (f : Tree → Tree → Tree) (g : ℕ → ℕ → Rest → State → Runs) (t0 u : ℕ) (q : Lowered) (n : Rest → State → Runs) (k : ℕ) → k ≤ level
+      → (is : List Item) (κ : CType → Spot → Rest) (st : State) (d : Desk) → (c ≡ false → q.items ≡ []) → size ≤ t0 → q.temps ≤ u → PurePlace s → SmallPlace s
+      → FitsPlace program code callers size count scope level u s → MakesIt f g → DoesLow q t0 n → Resolves code ((saving c u (read_from ty s) ++ q.items) ++ is) → agreed st d
       → ((st' : State) (d' : Desk) → Held size t0 q.temps u (saving c u (read_from ty s) ++ q.items) st d st' d' → StaysAt s d d')
-      → ((st' : State) (d' : Desk) → agreed st' d' → Held size t0 q.temps u (saving c u (read_from ty s) ++ q.items) st d st' d' → Leads k (place_on program s d' (λ s'. on (value program (f (saved c u (read_from ty s)) q.tree) d') (λ v. κ ty s' v st'))) (gone is d'))
+      → ((st' : State) (d' : Desk) → agreed st' d' → Held size t0 q.temps u (saving c u (read_from ty s) ++ q.items) st d st' d'
+      → Leads k (place_on program s d' (λ s'. on (value program (f (saved c u (read_from ty s)) q.tree) d') (λ v. κ ty s' v st'))) (gone is d'))
       → Leads k (place_on program s d (λ s'. read_at ty s' (λ x. n (λ y. g x y (κ ty s'))) st)) (gone ((saving c u (read_from ty s) ++ q.items) ++ is) d)
   change c (InLoc m) ty f g t0 u q n k le is κ st d none sz le' pure small fit made does res ag stay h =
       read_place program code callers size count scope level (InLoc m) ty u k ((saving c u (Loc m) ++ q.items) ++ is) (λ x. n (λ y. g x y (κ ty (Local m)))) st d fit ag
@@ -177,7 +195,8 @@ module _ (program : TreeProgram) (code : List TreeItem) (callers : List Activati
   not_nil_false (i ∷ is) e = absurd (cc)
 
   -- the frame behind a change
-  since_change : (c : Bool) (t p v u : ℕ) (w : Tree) (a b : List Item) (st : State) (d : Desk) (st1 : State) (d1 : Desk) (st2 : State) (d2 : Desk) → (c ≡ false → b ≡ []) → t ≤ p → p ≤ v → v ≤ u → Since size t p a st d st1 d1 → Held size p v u (saving c u w ++ b) st1 d1 st2 d2 → Since size t (next_if c u) (a ++ (saving c u w ++ b)) st d st2 d2
+  since_change : (c : Bool) (t p v u : ℕ) (w : Tree) (a b : List Item) (st : State) (d : Desk) (st1 : State) (d1 : Desk) (st2 : State) (d2 : Desk) → (c ≡ false → b ≡ []) → t ≤ p → p ≤ v
+      → v ≤ u → Since size t p a st d st1 d1 → Held size p v u (saving c u w ++ b) st1 d1 st2 d2 → Since size t (next_if c u) (a ++ (saving c u w ++ b)) st d st2 d2
   since_change true t p v u w a b st d st1 d1 st2 d2 none tp pv vu s s' = since_held t p v u (suc u) a (AssignLoc u w ∷ b) st d st1 d1 st2 d2 tp pv vu (omega arith) s s'
   since_change false t p v u w a b st d st1 d1 st2 d2 none tp pv vu s s' =
       let eq = s'.same (none refl) in
@@ -186,7 +205,8 @@ module _ (program : TreeProgram) (code : List TreeItem) (callers : List Activati
         same = λ e. let h = s.same (front_nil a b e) in (eq.0 ∙ h.0, eq.1 ∙ h.1);
       }
 
-  made_below : (f : Tree → Tree → Tree) (g : ℕ → ℕ → Rest → State → Runs) (c : Bool) (u : ℕ) (w v : Tree) → MakesIt f g → Below (next_if c u) v → (c ≡ false → Below (next_if c u) w) → Below (next_if c u) (f (saved c u w) v)
+  made_below : (f : Tree → Tree → Tree) (g : ℕ → ℕ → Rest → State → Runs) (c : Bool) (u : ℕ) (w v : Tree) → MakesIt f g → Below (next_if c u) v → (c ≡ false → Below (next_if c u) w)
+      → Below (next_if c u) (f (saved c u w) v)
   made_below f g c u w v made h h' = made.below (next_if c u) (saved c u w) v (below_saved c u (next_if c u) w (omega arith) h') h
 
   next_le : (c : Bool) (u : ℕ) → u ≤ next_if c u
@@ -194,10 +214,21 @@ module _ (program : TreeProgram) (code : List TreeItem) (callers : List Activati
   next_le false u = omega arith
 
   -- a place that stands as it is
-  change_plain : (c : Bool) (s : Where) (is0 : List Item) (ty : CType) (p l t : ℕ) (f : Tree → Tree → Tree) (g : CType → ℕ → ℕ → Rest → State → Runs) (q : Lowered) (m : RestAt → State → Runs) (n : CType → Rest → State → Runs) → (c ≡ false → q.items ≡ []) → size ≤ t → PurePlace s → MakesIt f (g ty) → ((u v : ℕ) → u ≤ v → FitsPlace program code callers size count scope level u s → FitsPlace program code callers size count scope level v s)
-      → ((st : State) (d : Desk) (st' : State) (d' : Desk) → FitsPlace program code callers size count scope level p s → Held size p q.temps q.temps (saving c q.temps (read_from ty s) ++ q.items) st d st' d' → StaysAt s d d')
+  change_plain : (c : Bool) (s : Where) (is0 : List Item) (ty : CType) (p l t : ℕ) (f : Tree → Tree → Tree) (g : CType → ℕ → ℕ → Rest → State → Runs) (q : Lowered)
+      (m : RestAt → State → Runs) (n : CType → Rest → State → Runs) → (c ≡ false → q.items ≡ []) → size ≤ t → PurePlace s → MakesIt f (g ty)
+      → ((u v : ℕ) → u ≤ v → FitsPlace program code callers size count scope level u s → FitsPlace program code callers size count scope level v s)
+      → ((st : State) (d : Desk) (st' : State) (d' : Desk) → FitsPlace program code callers size count scope level p s
+      → Held size p q.temps q.temps (saving c q.temps (read_from ty s) ++ q.items) st d st' d' → StaysAt s d d')
       → DoesFound (record { items = is0; type = ty; place = s; temps = p; labels = l }) t m → DoesLow q p (n ty)
-      → DoesRest (record { items = is0 ++ (saving c q.temps (read_from ty s) ++ q.items); type = ty; place = s; value = f (saved c q.temps (read_from ty s)) q.tree; temps = next_if c q.temps; labels = q.labels }) t (λ κ. m (λ ty s. read_at ty s (λ x. n ty (λ y. g ty x y (κ ty s)))))
+      → DoesRest (record {
+        items = is0 ++ (saving c q.temps (read_from ty s) ++ q.items);
+        type = ty;
+        place = s;
+        value = f (saved c q.temps (read_from ty s)) q.tree;
+        temps =
+            next_if c q.temps;
+        labels = q.labels;
+      }) t (λ κ. m (λ ty s. read_at ty s (λ x. n ty (λ y. g ty x y (κ ty s)))))
   change_plain c s is0 ty p l t f g q m n none sz pure made more stay does does' =
       let u = q.temps in
       let up : p ≤ next_if c u = omega (arith, next_le c u, does'.grows) in
@@ -205,17 +236,20 @@ module _ (program : TreeProgram) (code : List TreeItem) (callers : List Activati
         grows = omega (arith, does.grows, up);
         fits = more p (next_if c u) up does.fits;
         small = does.small;
-        below_value = made_below f (g ty) c u (read_from ty s) q.tree made (below_more u (next_if c u) q.tree (next_le c u) does'.below) (λ e. below_read program code callers size count scope level within s ty (next_if c u) (omega (arith, does.grows, up)) (more p (next_if c u) up does.fits));
+        below_value = made_below f (g ty) c u (read_from ty s) q.tree made (below_more u (next_if c u) q.tree (next_le c u) does'.below)
+            (λ e. below_read program code callers size count scope level within s ty (next_if c u) (omega (arith, does.grows, up)) (more p (next_if c u) up does.fits));
         small_value = made.small (saved c u (read_from ty s)) q.tree (small_saved c u (read_from ty s) (small_read program code callers size count scope level within s ty does.small)) does'.small;
         runs = λ k le is κ res st d ag h.
             let b : List Item = saving c u (read_from ty s) ++ q.items in
             onward k is0 b is d _ (does.runs k le (b ++ is) (λ ty s. read_at ty s (λ x. n ty (λ y. g ty x y (κ ty s)))) (cut is0 b is res) st d ag
-            (λ st1 d1 ag1 s1. change c s ty f (g ty) p u q (n ty) k le is κ st1 d1 none (omega (arith, does.grows)) (omega arith) pure does.small (more p u does'.grows does.fits) made does' (resolves_back code is0 (b ++ is) (cut is0 b is res)) ag1 (λ st2 d2 s2. stay st1 d1 st2 d2 does.fits s2)
+            (λ st1 d1 ag1 s1. change c s ty f (g ty) p u q (n ty) k le is κ st1 d1 none (omega (arith, does.grows)) (omega arith) pure does.small (more p u does'.grows does.fits) made
+            does' (resolves_back code is0 (b ++ is) (cut is0 b is res)) ag1 (λ st2 d2 s2. stay st1 d1 st2 d2 does.fits s2)
             (λ st2 d2 ag2 s2. h st2 d2 ag2 (since_change c t p u u (read_from ty s) is0 q.items st d st1 d1 st2 d2 none does.grows does'.grows (omega arith) s1 s2))));
       }
 
   -- a place whose address is saved first
-  change_saved : (c : Bool) (a : Tree) (is0 : List Item) (ty : CType) (p l t : ℕ) (f : Tree → Tree → Tree) (g : CType → ℕ → ℕ → Rest → State → Runs) (q : Lowered) (m : RestAt → State → Runs) (n : CType → Rest → State → Runs) → (c ≡ false → q.items ≡ []) → size ≤ t → MakesIt f (g ty)
+  change_saved : (c : Bool) (a : Tree) (is0 : List Item) (ty : CType) (p l t : ℕ) (f : Tree → Tree → Tree) (g : CType → ℕ → ℕ → Rest → State → Runs) (q : Lowered)
+      (m : RestAt → State → Runs) (n : CType → Rest → State → Runs) → (c ≡ false → q.items ≡ []) → size ≤ t → MakesIt f (g ty)
       → DoesFound (record { items = is0; type = ty; place = InMem a; temps = p; labels = l }) t m → DoesLow q p (n ty)
       → DoesRest (update_so true c f (record { items = is0; type = ty; place = InMem a; temps = p; labels = l }) q) t (λ κ. m (λ ty s. read_at ty s (λ x. n ty (λ y. g ty x y (κ ty s)))))
   change_saved c a is0 ty p l t f g q m n none sz made does does' =
@@ -233,7 +267,8 @@ module _ (program : TreeProgram) (code : List TreeItem) (callers : List Activati
             let tail : List Item = AssignLoc u1 a ∷ b in
             let res1 = resolves_back code is0 (tail ++ is) (cut is0 tail is res) in
             onward k is0 tail is d _ (does.runs k le (tail ++ is) (λ ty s. read_at ty s (λ x. n ty (λ y. g ty x y (κ ty s)))) (cut is0 tail is res) st d ag
-            (λ st1 d1 ag1 s1. save_temp program code callers size count scope level within k u1 a (b ++ is) (λ x. read_at ty (Memory x) (λ x'. n ty (λ y. g ty x' y (κ ty (Memory x)))) st1) st1 d1 (omega (arith, does.grows, does'.grows)) does.small ag1
+            (λ st1 d1 ag1 s1. save_temp program code callers size count scope level within k u1 a (b ++ is) (λ x. read_at ty (Memory x) (λ x'. n ty (λ y. g ty x' y (κ ty (Memory x)))) st1)
+            st1 d1 (omega (arith, does.grows, does'.grows)) does.small ag1
             (λ x lt ex ag1'.
             let d1' : Desk = record d1 { locals = with_local d1.locals u1 x } in
             let at_x : value program (Loc u1) d1' ≡ Number x = ap there (set_same d1.locals u1 x) in
@@ -243,7 +278,9 @@ module _ (program : TreeProgram) (code : List TreeItem) (callers : List Activati
             (λ st2 d2 ag2 s2.
             let back = since_change c p p u1 u w [] q.items st1 d1' st1 d1' st2 d2 none (omega arith) does'.grows (omega arith) (since_start size p p [] st1 d1') s2 in
             h st2 d2 ag2 (record {
-              keeps = λ j szj o. back.keeps j szj (⊎_elim (λ lt. inl (omega (arith, does.grows))) (λ ge. inr ge) o) ∙ set_other d1.locals u1 x j (λ e. ⊎_elim (λ lt. omega (arith, does.grows, does'.grows)) (λ ge. omega (arith, next_le c u)) o) ∙ s1.keeps j szj (⊎_elim (λ lt. inl lt) (λ ge. inr (omega (arith, does'.grows, next_le c u))) o);
+              keeps = λ j szj o. back.keeps j szj (⊎_elim (λ lt. inl (omega (arith, does.grows))) (λ ge. inr ge) o)
+                  ∙ set_other d1.locals u1 x j (λ e. ⊎_elim (λ lt. omega (arith, does.grows, does'.grows)) (λ ge. omega (arith, next_le c u)) o)
+                  ∙ s1.keeps j szj (⊎_elim (λ lt. inl lt) (λ ge. inr (omega (arith, does'.grows, next_le c u))) o);
               same = λ e. absurd (not_nil is0 (AssignLoc u1 a) b e);
             }))))));
       }
@@ -252,27 +289,35 @@ module _ (program : TreeProgram) (code : List TreeItem) (callers : List Activati
   stays_leaf [] a e = e
   stays_leaf (i ∷ is) a e = (and_parts (is_leaf a) (stable size a) e).0
 
-  stays_same : (is : List Item) (a : Tree) (p v u : ℕ) (ty : CType) (st : State) (d : Desk) (st' : State) (d' : Desk) → stays size count is a ≡ true → Below p a → Held size p v u (saving (not (is_nil is)) u (read_from ty (InMem a)) ++ is) st d st' d' → p ≤ u → value program a d' ≡ value program a d
+  stays_same : (is : List Item) (a : Tree) (p v u : ℕ) (ty : CType) (st : State) (d : Desk) (st' : State) (d' : Desk) → stays size count is a ≡ true → Below p a
+      → Held size p v u (saving (not (is_nil is)) u (read_from ty (InMem a)) ++ is) st d st' d' → p ≤ u → value program a d' ≡ value program a d
   stays_same [] a p v u ty st d st' d' e below s le = ap (value program a) (s.same refl).1
   stays_same (i ∷ is) a p v u ty st d st' d' e below s le = value_stable program size p a d d' (and_parts (is_leaf a) (stable size a) e).1 below (λ j szj lt. s.keeps j szj (inl lt) (λ e. omega arith))
 
-  update_mem : (b : Bool) (a : Tree) (is0 : List Item) (ty : CType) (p l t : ℕ) (f : Tree → Tree → Tree) (g : CType → ℕ → ℕ → Rest → State → Runs) (q : Lowered) (m : RestAt → State → Runs) (n : CType → Rest → State → Runs) → not (stays size count q.items a) ≡ b → size ≤ t → MakesIt f (g ty)
+  update_mem : (b : Bool) (a : Tree) (is0 : List Item) (ty : CType) (p l t : ℕ) (f : Tree → Tree → Tree) (g : CType → ℕ → ℕ → Rest → State → Runs) (q : Lowered) (m : RestAt → State → Runs)
+      (n : CType → Rest → State → Runs) → not (stays size count q.items a) ≡ b → size ≤ t → MakesIt f (g ty)
       → DoesFound (record { items = is0; type = ty; place = InMem a; temps = p; labels = l }) t m → DoesLow q p (n ty)
-      → DoesRest (update_so b (not (is_nil q.items)) f (record { items = is0; type = ty; place = InMem a; temps = p; labels = l }) q) t (λ κ. m (λ ty s. read_at ty s (λ x. n ty (λ y. g ty x y (κ ty s)))))
+      → DoesRest (update_so b (not (is_nil q.items)) f (record { items = is0; type = ty; place = InMem a; temps = p; labels = l }) q) t
+      (λ κ. m (λ ty s. read_at ty s (λ x. n ty (λ y. g ty x y (κ ty s)))))
   update_mem true a is0 ty p l t f g q m n e sz made does does' = change_saved (not (is_nil q.items)) a is0 ty p l t f g q m n (not_nil_false q.items) sz made does does'
   update_mem false a is0 ty p l t f g q m n e sz made does does' =
       let stay : stays size count q.items a ≡ true = not-false (stays size count q.items a) e in
       change_plain (not (is_nil q.items)) (InMem a) is0 ty p l t f g q m n (not_nil_false q.items) sz (is_leaf_pure a (stays_leaf q.items a stay)) made (λ u v le h. below_more u v a le h)
       (λ st d st' d' fit s. stays_same q.items a p q.temps q.temps ty st d st' d' stay fit s does'.grows) does does'
 
-  update_place : (s : Where) (is0 : List Item) (ty : CType) (p l t : ℕ) (f : Tree → Tree → Tree) (g : CType → ℕ → ℕ → Rest → State → Runs) (q : Lowered) (m : RestAt → State → Runs) (n : CType → Rest → State → Runs) → size ≤ t → MakesIt f (g ty)
+  update_place : (s : Where) (is0 : List Item) (ty : CType) (p l t : ℕ) (f : Tree → Tree → Tree) (g : CType → ℕ → ℕ → Rest → State → Runs) (q : Lowered) (m : RestAt → State → Runs)
+      (n : CType → Rest → State → Runs) → size ≤ t → MakesIt f (g ty)
       → DoesFound (record { items = is0; type = ty; place = s; temps = p; labels = l }) t m → DoesLow q p (n ty)
       → DoesRest (update_ready size count f (record { items = is0; type = ty; place = s; temps = p; labels = l }) q) t (λ κ. m (λ ty s. read_at ty s (λ x. n ty (λ y. g ty x y (κ ty s)))))
-  update_place (InLoc x) is0 ty p l t f g q m n sz made does does' = change_plain (not (is_nil q.items)) (InLoc x) is0 ty p l t f g q m n (not_nil_false q.items) sz tt made (λ u v le h. h) (λ st d st' d' fit s. tt) does does'
-  update_place (InArg x) is0 ty p l t f g q m n sz made does does' = change_plain (not (is_nil q.items)) (InArg x) is0 ty p l t f g q m n (not_nil_false q.items) sz tt made (λ u v le h. h) (λ st d st' d' fit s. tt) does does'
+  update_place (InLoc x) is0 ty p l t f g q m n sz made does does' = change_plain (not (is_nil q.items)) (InLoc x) is0 ty p l t f g q m n (not_nil_false q.items) sz tt made (λ u v le h. h)
+      (λ st d st' d' fit s. tt) does does'
+  update_place (InArg x) is0 ty p l t f g q m n sz made does does' = change_plain (not (is_nil q.items)) (InArg x) is0 ty p l t f g q m n (not_nil_false q.items) sz tt made (λ u v le h. h)
+      (λ st d st' d' fit s. tt) does does'
   update_place (InMem a) is0 ty p l t f g q m n sz made does does' = update_mem (not (stays size count q.items a)) a is0 ty p l t f g q m n refl sz made does does'
 
-  pub update_does : (f : Tree → Tree → Tree) (g : CType → ℕ → ℕ → Rest → State → Runs) (p : Located) (q : Lowered) (t : ℕ) (m : RestAt → State → Runs) (n : CType → Rest → State → Runs) → size ≤ t → MakesIt f (g p.type) → DoesFound p t m → DoesLow q p.temps (n p.type) → DoesRest (update_ready size count f p q) t (λ κ. m (λ ty s. read_at ty s (λ x. n ty (λ y. g ty x y (κ ty s)))))
+  pub update_does : (f : Tree → Tree → Tree) (g : CType → ℕ → ℕ → Rest → State → Runs) (p : Located) (q : Lowered) (t : ℕ) (m : RestAt → State → Runs) (n : CType → Rest → State → Runs)
+      → size ≤ t → MakesIt f (g p.type) → DoesFound p t m → DoesLow q p.temps (n p.type)
+      → DoesRest (update_ready size count f p q) t (λ κ. m (λ ty s. read_at ty s (λ x. n ty (λ y. g ty x y (κ ty s)))))
   update_does f g p q t m n sz made does does' = update_place p.place p.items p.type p.temps p.labels t f g q m n sz made does does'
 
   update_pure_by : (is : List Item) (u : ℕ) (s : Where) → PurePlace (held (must_keep size count is s) u s)
@@ -287,7 +332,8 @@ module _ (program : TreeProgram) (code : List TreeItem) (callers : List Activati
   MapsIt f g = Maps program code callers size count scope level within f g
 
   -- a place is read into a temporary, and then stepped
-  post_at : (s : Where) (ty : CType) (f : Tree → Tree) (g : ℕ → ℕ) (o k : ℕ) (is : List Item) (κ : Rest) (st : State) (d : Desk) → size ≤ o → MapsIt f g → PurePlace s → SmallPlace s → FitsPlace program code callers size count scope level o s → agreed st d
+  post_at : (s : Where) (ty : CType) (f : Tree → Tree) (g : ℕ → ℕ) (o k : ℕ) (is : List Item) (κ : Rest) (st : State) (d : Desk) → size ≤ o → MapsIt f g → PurePlace s → SmallPlace s
+      → FitsPlace program code callers size count scope level o s → agreed st d
       → ((x : ℕ) (st' : State) (d' : Desk) → agreed st' d' → ((j : ℕ) → size ≤ j → (j ≡ o → ⊥) → d'.locals j ≡ d.locals j) → d'.locals o ≡ Some x → Leads k (κ x st') (gone is d'))
       → Leads k (place_on program s d (λ s'. read_at ty s' (λ x. store_at ty s' (g x) (λ y. κ x)) st)) (gone (AssignLoc o (read_from ty s) ∷ assign_to ty s (f (Loc o)) ∷ is) d)
   post_at (InLoc n) ty f g o k is κ st d sz made pure small fit ag h =
@@ -297,7 +343,8 @@ module _ (program : TreeProgram) (code : List TreeItem) (callers : List Activati
       (λ x lt ex ag1.
       let d1 : Desk = record d { locals = with_local d.locals o x } in
       let at_x : value program (Loc o) d1 ≡ Number x = ap there (set_same d.locals o x) in
-      let run = assign_root program code callers size count scope level within (InLoc n) ty (f (Loc o)) k is (κ x) st d1 tt (made.small (Loc o) tt) ag1 (λ st2 d2 ag2 kept. h x st2 d2 ag2 (λ j szj ne. kept j szj ∙ set_other d.locals o x j ne) (kept o sz ∙ set_same d.locals o x)) in
+      let run = assign_root program code callers size count scope level within (InLoc n) ty (f (Loc o)) k is (κ x) st d1 tt (made.small (Loc o) tt) ag1
+      (λ st2 d2 ag2 kept. h x st2 d2 ag2 (λ j szj ne. kept j szj ∙ set_other d.locals o x j ne) (kept o sz ∙ set_same d.locals o x)) in
       let one = subst (λ r. Leads k r (gone (i ∷ is) d1)) (made.maps (Loc o) d1 (λ v. store_at ty (Local n) v (λ v. κ x) st)) run in
       subst (λ o. Leads k (on o (λ y. store_at ty (Local n) (g y) (λ v. κ x) st)) (gone (i ∷ is) d1)) at_x one))
   post_at (InArg n) ty f g o k is κ st d sz made pure small fit ag h =
@@ -307,7 +354,8 @@ module _ (program : TreeProgram) (code : List TreeItem) (callers : List Activati
       (λ x lt ex ag1.
       let d1 : Desk = record d { locals = with_local d.locals o x } in
       let at_x : value program (Loc o) d1 ≡ Number x = ap there (set_same d.locals o x) in
-      let run = assign_root program code callers size count scope level within (InArg n) ty (f (Loc o)) k is (κ x) st d1 tt (made.small (Loc o) tt) ag1 (λ st2 d2 ag2 kept. h x st2 d2 ag2 (λ j szj ne. kept j szj ∙ set_other d.locals o x j ne) (kept o sz ∙ set_same d.locals o x)) in
+      let run = assign_root program code callers size count scope level within (InArg n) ty (f (Loc o)) k is (κ x) st d1 tt (made.small (Loc o) tt) ag1
+      (λ st2 d2 ag2 kept. h x st2 d2 ag2 (λ j szj ne. kept j szj ∙ set_other d.locals o x j ne) (kept o sz ∙ set_same d.locals o x)) in
       let one = subst (λ r. Leads k r (gone (i ∷ is) d1)) (made.maps (Loc o) d1 (λ v. store_at ty (Parameter n) v (λ v. κ x) st)) run in
       subst (λ o. Leads k (on o (λ y. store_at ty (Parameter n) (g y) (λ v. κ x) st)) (gone (i ∷ is) d1)) at_x one))
   post_at (InMem a) ty f g o k is κ st d sz made pure small fit ag h =
@@ -324,14 +372,16 @@ module _ (program : TreeProgram) (code : List TreeItem) (callers : List Activati
       let d1 : Desk = record d { locals = with_local d.locals o x } in
       let at_x : value program (Loc o) d1 ≡ Number x = ap there (set_same d.locals o x) in
       let at_p : value program a d1 ≡ Number p = value_alike program o a d d1 fit (alike_set o o x d (omega arith)) ∙ ep in
-      let run = assign_root program code callers size count scope level within (InMem a) ty (f (Loc o)) k is (κ x) st d1 small (made.small (Loc o) tt) ag1 (λ st2 d2 ag2 kept. h x st2 d2 ag2 (λ j szj ne. kept j szj ∙ set_other d.locals o x j ne) (kept o sz ∙ set_same d.locals o x)) in
+      let run = assign_root program code callers size count scope level within (InMem a) ty (f (Loc o)) k is (κ x) st d1 small (made.small (Loc o) tt) ag1
+      (λ st2 d2 ag2 kept. h x st2 d2 ag2 (λ j szj ne. kept j szj ∙ set_other d.locals o x j ne) (kept o sz ∙ set_same d.locals o x)) in
       let one = subst (λ o'. Leads k (on o' (λ z. on (value program (f (Loc o)) d1) (λ v. store_at ty (Memory z) v (λ v. κ x) st))) (gone (i ∷ is) d1)) at_p run in
       let two = subst (λ r. Leads k r (gone (i ∷ is) d1)) (made.maps (Loc o) d1 (λ v. store_at ty (Memory p) v (λ v. κ x) st)) one in
       subst (λ o. Leads k (on o (λ y. store_at ty (Memory p) (g y) (λ v. κ x) st)) (gone (i ∷ is) d1)) at_x two))))
 
   post_plain : (s : Where) (is0 : List Item) (ty : CType) (u l t : ℕ) (f : Tree → Tree) (g : CType → ℕ → ℕ) (m : RestAt → State → Runs) → size ≤ t → PurePlace s → MapsIt f (g ty)
       → DoesFound (record { items = is0; type = ty; place = s; temps = u; labels = l }) t m
-      → DoesLow (record { items = is0 ++ (AssignLoc u (read_from ty s) ∷ assign_to ty s (f (Loc u)) ∷ []); tree = Loc u; temps = suc u; labels = l }) t (λ κ. m (λ ty s. read_at ty s (λ x. store_at ty s (g ty x) (λ y. κ x))))
+      → DoesLow (record { items = is0 ++ (AssignLoc u (read_from ty s) ∷ assign_to ty s (f (Loc u)) ∷ []); tree = Loc u; temps = suc u; labels = l }) t
+      (λ κ. m (λ ty s. read_at ty s (λ x. store_at ty s (g ty x) (λ y. κ x))))
   post_plain s is0 ty u l t f g m sz pure made does = record {
     grows = omega (arith, does.grows);
     below = omega arith;
@@ -362,7 +412,8 @@ module _ (program : TreeProgram) (code : List TreeItem) (callers : List Activati
         let j = assign_to ty s (f (Loc o)) in
         let tail : List Item = AssignLoc u a ∷ i ∷ j ∷ [] in
         onward k is0 tail is d _ (does.runs k le (tail ++ is) (λ ty s. read_at ty s (λ x. store_at ty s (g ty x) (λ y. κ x))) (cut is0 tail is res) st d ag
-        (λ st1 d1 ag1 s1. save_temp program code callers size count scope level within k u a (i ∷ j ∷ is) (λ p. read_at ty (Memory p) (λ x. store_at ty (Memory p) (g ty x) (λ y. κ x)) st1) st1 d1 (omega (arith, does.grows)) does.small ag1
+        (λ st1 d1 ag1 s1. save_temp program code callers size count scope level within k u a (i ∷ j ∷ is) (λ p. read_at ty (Memory p) (λ x. store_at ty (Memory p) (g ty x) (λ y. κ x)) st1)
+        st1 d1 (omega (arith, does.grows)) does.small ag1
         (λ p lt ep ag1'.
         let d1' : Desk = record d1 { locals = with_local d1.locals u p } in
         let at_p : value program (Loc u) d1' ≡ Number p = ap there (set_same d1.locals u p) in
@@ -370,7 +421,8 @@ module _ (program : TreeProgram) (code : List TreeItem) (callers : List Activati
         (post_at s ty f (g ty) o k is κ st1 d1' (omega (arith, does.grows)) made refl tt (omega arith) ag1'
         (λ x st2 d2 ag2 kept at_x. use_number program code callers size count scope level within k (d2.locals o) x is κ st2 d2 at_x
         (h st2 d2 ag2 (record {
-          keeps = λ q szq w. kept q szq (λ e. ⊎_elim (λ lt. omega (arith, does.grows)) (λ ge. omega arith) w) ∙ set_other d1.locals u p q (λ e. ⊎_elim (λ lt. omega (arith, does.grows)) (λ ge. omega arith) w) ∙ s1.keeps q szq (⊎_elim (λ lt. inl lt) (λ ge. inr (omega arith)) w);
+          keeps = λ q szq w. kept q szq (λ e. ⊎_elim (λ lt. omega (arith, does.grows)) (λ ge. omega arith) w)
+              ∙ set_other d1.locals u p q (λ e. ⊎_elim (λ lt. omega (arith, does.grows)) (λ ge. omega arith) w) ∙ s1.keeps q szq (⊎_elim (λ lt. inl lt) (λ ge. inr (omega arith)) w);
           same = λ e. absurd (not_nil is0 (AssignLoc u a) (i ∷ j ∷ []) e);
         })))))));
   }
@@ -388,5 +440,6 @@ module _ (program : TreeProgram) (code : List TreeItem) (callers : List Activati
   post_by (InArg n) is0 ty u l t f g m sz made does = post_plain (InArg n) is0 ty u l t f g m sz tt made does
   post_by (InMem a) is0 ty u l t f g m sz made does = post_mem (not (is_leaf a)) a is0 ty u l t f g m refl sz made does
 
-  pub post_does : (p : Located) (t : ℕ) (f : Tree → Tree) (g : CType → ℕ → ℕ) (m : RestAt → State → Runs) → size ≤ t → MapsIt f (g p.type) → DoesFound p t m → DoesLow (postfix size count f p) t (λ κ. m (λ ty s. read_at ty s (λ x. store_at ty s (g ty x) (λ y. κ x))))
+  pub post_does : (p : Located) (t : ℕ) (f : Tree → Tree) (g : CType → ℕ → ℕ) (m : RestAt → State → Runs) → size ≤ t → MapsIt f (g p.type) → DoesFound p t m
+      → DoesLow (postfix size count f p) t (λ κ. m (λ ty s. read_at ty s (λ x. store_at ty s (g ty x) (λ y. κ x))))
   post_does p t f g m sz made does = post_by p.place p.items p.type p.temps p.labels t f g m sz made does

@@ -11,7 +11,8 @@ use Rattle.c_meaning.specs.State.{State}
 use Rattle.c_meaning.specs.Meaning.{Rest, chosen}
 use Rattle.c_lower_scheme.specs.Trees.{Jump, Num, Item, Label, AssignLoc, Cbr}
 use Rattle.c_lower_scheme.specs.Spelling.{spelled_all}
-use Rattle.c_lower_scheme.specs.Expressions.{with_done, then_done, truth_of, compare, conditional, chain, chain_drop, drop_two, choose_low, choose_drop, choose, comma, sensed, opposite, relation, Lowered, Pair, Emitted, Lowering, joined}
+use Rattle.c_lower_scheme.specs.Expressions.{with_done, then_done, truth_of, compare, conditional, chain, chain_drop, drop_two, choose_low, choose_drop, choose, comma, sensed}
+use Rattle.c_lower_scheme.specs.Expressions.{opposite, relation, Lowered, Pair, Emitted, Lowering, joined}
 use Rattle.c_lower_follows.proofs.Leads.{Leads, leads_quiet}
 use Rattle.c_lower_follows.proofs.Steps.{label_step, label_counts, jump_step, Desk, Resolves, resolves_back, at_items, moves, cbr_step}
 use Rattle.c_lower_follows.proofs.Agreeing.{Since, set_same, set_other, not_nil, back_nil}
@@ -111,7 +112,8 @@ module _ (program : TreeProgram) (code : List TreeItem) (callers : List Activati
   take_down a b is h = split program code callers size count scope level a b is h
 
   -- the value of a condition
-  truth_does : (t l : ℕ) (b : Emitted) (m : Rest → State → Runs) → size ≤ t → ((κ : Rest) (st : State) → m κ st ≡ m (λ v st. chosen v (κ 1 st) (κ 0 st)) st) → AsksIt b false l (suc t) m → LowIt (truth_of t l b) t m
+  truth_does : (t l : ℕ) (b : Emitted) (m : Rest → State → Runs) → size ≤ t → ((κ : Rest) (st : State) → m κ st ≡ m (λ v st. chosen v (κ 1 st) (κ 0 st)) st) → AsksIt b false l (suc t) m
+      → LowIt (truth_of t l b) t m
   truth_does t l b m sz logic asks = record {
     grows = omega (arith, asks.grows);
     below = omega (arith, asks.grows);
@@ -124,12 +126,17 @@ module _ (program : TreeProgram) (code : List TreeItem) (callers : List Activati
         (λ v lt e ag0.
         let z : 0 ≡ v = cc in
         let d0 : Desk = record d { locals = with_local d.locals t v } in
-        let since : (u : ℕ) (st1 : State) (d1 : Desk) → ((j : ℕ) → size ≤ j → (j < t) ⊎ (b.temps ≤ j) → d1.locals j ≡ d.locals j) → Since size t b.temps (AssignLoc t (Num 0) ∷ (b.items ++ T)) st d st1 d1 = λ u st1 d1 kept. record { keeps = kept; same = λ e. absurd (not_nil [] (AssignLoc t (Num 0)) (b.items ++ T) e) } in
-        let outside : (st1 : State) (d1 : Desk) → Since size (suc t) b.temps b.items st d0 st1 d1 → (j : ℕ) → size ≤ j → (j < t) ⊎ (b.temps ≤ j) → d1.locals j ≡ d.locals j = λ st1 d1 s1 j szj o. s1.keeps j szj (⊎_elim (λ lt. inl (omega arith)) (λ ge. inr ge) o) ∙ set_other d.locals t v j (λ e. ⊎_elim (λ lt. omega arith) (λ ge. omega (arith, asks.grows)) o) in
+        let since : (u : ℕ) (st1 : State) (d1 : Desk) → ((j : ℕ) → size ≤ j → (j < t) ⊎ (b.temps ≤ j) → d1.locals j ≡ d.locals j)
+        → Since size t b.temps (AssignLoc t (Num 0) ∷ (b.items ++ T)) st d st1 d1 = λ u st1 d1 kept.
+        record { keeps = kept; same = λ e. absurd (not_nil [] (AssignLoc t (Num 0)) (b.items ++ T) e) } in
+        let outside : (st1 : State) (d1 : Desk) → Since size (suc t) b.temps b.items st d0 st1 d1 → (j : ℕ) → size ≤ j → (j < t) ⊎ (b.temps ≤ j) → d1.locals j
+        ≡ d.locals j = λ st1 d1 s1 j szj o. s1.keeps j szj (⊎_elim (λ lt. inl (omega arith)) (λ ge. inr ge) o)
+        ∙ set_other d.locals t v j (λ e. ⊎_elim (λ lt. omega arith) (λ ge. omega (arith, asks.grows)) o) in
         subst (λ r. Leads k r (going ((b.items ++ T) ++ is) d0)) (sym (logic κ st))
         (bind_up k b.items T is d0 _ (asks.runs k le (T ++ is) (κ 1) (κ 0) res1 st d0 ag0
         (λ st1 d1 ag1 s1. leads_quiet k _ _ (moves program code callers k (behind code l) (spelled_all is) d1 _ end_at
-        (use_number program code callers size count scope level within k (d1.locals t) 0 is κ st1 d1 (s1.keeps t sz (inl (omega arith)) ∙ set_same d.locals t v ∙ ap Some (sym z)) (h st1 d1 ag1 (since 0 st1 d1 (outside st1 d1 s1))))))
+        (use_number program code callers size count scope level within k (d1.locals t) 0 is κ st1 d1 (s1.keeps t sz (inl (omega arith)) ∙ set_same d.locals t v ∙ ap Some (sym z))
+        (h st1 d1 ag1 (since 0 st1 d1 (outside st1 d1 s1))))))
         (λ st1 d1 ag1 s1. leads_quiet k _ _ (save_temp program code callers size count scope level within k t (Num 1) (Label l ∷ is) (λ v. κ 1 st1) st1 d1 sz (omega arith) ag1
         (λ w lt' e' ag2.
         let one : 1 ≡ w = cc in
@@ -139,7 +146,8 @@ module _ (program : TreeProgram) (code : List TreeItem) (callers : List Activati
         (h st1 d2 ag2 (since 0 st1 d2 (λ j szj o. set_other d1.locals t w j (λ e. ⊎_elim (λ lt. omega arith) (λ ge. omega (arith, asks.grows)) o) ∙ outside st1 d1 s1 j szj o))))))))));
   }
 
-  pub conditional_does : (f : Bool → ℕ → ℕ → ℕ → Emitted) (g : ℕ → ℕ → Emitted) (m : Rest → State → Runs) → ((κ : Rest) (st : State) → m κ st ≡ m (λ v st. chosen v (κ 1 st) (κ 0 st)) st) → ((sense : Bool) (to t l : ℕ) → size ≤ t → AsksIt (f sense to t l) sense to t m) → ((t l : ℕ) → size ≤ t → DropsIt (g t l) t m) → WayIt (conditional f g) m
+  pub conditional_does : (f : Bool → ℕ → ℕ → ℕ → Emitted) (g : ℕ → ℕ → Emitted) (m : Rest → State → Runs) → ((κ : Rest) (st : State) → m κ st ≡ m (λ v st. chosen v (κ 1 st) (κ 0 st)) st)
+      → ((sense : Bool) (to t l : ℕ) → size ≤ t → AsksIt (f sense to t l) sense to t m) → ((t l : ℕ) → size ≤ t → DropsIt (g t l) t m) → WayIt (conditional f g) m
   conditional_does f g m logic asks drops = record {
     low = λ t l sz. truth_does t l (f false l (suc t) (suc l)) m sz logic (asks false l (suc t) (suc l) (omega arith));
     branch = asks;
@@ -163,7 +171,8 @@ module _ (program : TreeProgram) (code : List TreeItem) (callers : List Activati
   compare_by false r x y true met unmet e = truth_unmet (holds r x y) met unmet (not-true (holds r x y) (sym (opposite_holds r x y) ∙ e))
   compare_by false r x y false met unmet e = truth_met (holds r x y) met unmet (not-false (holds r x y) (sym (opposite_holds r x y) ∙ e))
 
-  relation_asks : (sense : Bool) (r : Rel) (to : ℕ) (p : Pair) (t : ℕ) (m : (ℕ → Rest) → State → Runs) → DoesTwo program code callers size count scope level p t m → AsksIt (compare (sensed sense r) to p) sense to t (λ κ. m (λ x y. κ (truth (holds r x y))))
+  relation_asks : (sense : Bool) (r : Rel) (to : ℕ) (p : Pair) (t : ℕ) (m : (ℕ → Rest) → State → Runs) → DoesTwo program code callers size count scope level p t m
+      → AsksIt (compare (sensed sense r) to p) sense to t (λ κ. m (λ x y. κ (truth (holds r x y))))
   relation_asks sense r to p t m does = record {
     grows = does.grows;
     runs = λ k le is met unmet res st d ag taken falls.
@@ -173,8 +182,10 @@ module _ (program : TreeProgram) (code : List TreeItem) (callers : List Activati
         (λ st1 d1 ag1 s1.
         let more = since_more program code callers size count scope level within t p.temps p.temps p.items (i ∷ []) st d st1 d1 (omega arith) s1 in
         cbr_step program code callers k to (sensed sense r) p.first p.second is (K st1) d1 does.small_first does.small_second ag1.ranged
-        (λ x y ex ey b. subst (λ r. Leads k r (counted (at_items program code callers (behind code to) d1))) (sym (compare_by sense r x y true (met st1) (unmet st1) b ∙ pick_true sense (met st1) (unmet st1) met unmet st1 refl refl)) (taken st1 d1 ag1 more))
-        (λ x y ex ey b. subst (λ r. Leads k r (counted (going is d1))) (sym (compare_by sense r x y false (met st1) (unmet st1) b ∙ pick_false sense (met st1) (unmet st1) met unmet st1 refl refl)) (falls st1 d1 ag1 more))));
+        (λ x y ex ey b. subst (λ r. Leads k r (counted (at_items program code callers (behind code to) d1)))
+        (sym (compare_by sense r x y true (met st1) (unmet st1) b ∙ pick_true sense (met st1) (unmet st1) met unmet st1 refl refl)) (taken st1 d1 ag1 more))
+        (λ x y ex ey b. subst (λ r. Leads k r (counted (going is d1))) (sym
+        (compare_by sense r x y false (met st1) (unmet st1) b ∙ pick_false sense (met st1) (unmet st1) met unmet st1 refl refl)) (falls st1 d1 ag1 more))));
   }
     where
       pick_true : (sense : Bool) (a b : Runs) (met unmet : State → Runs) (st : State) → a ≡ met st → b ≡ unmet st → pick true sense a b ≡ either_way sense met unmet st
@@ -191,7 +202,9 @@ module _ (program : TreeProgram) (code : List TreeItem) (callers : List Activati
       (λ κ st j. m (λ x. n (λ y st. chosen_truth (holds r x y) κ st j)) st)
       (λ sense to t l sz.
       let first = does.low t l sz in
-      relation_asks sense r to (joined size count a b t l) t (λ κ. m (λ x. n (κ x))) (two_does program code callers size count scope level within (a.low t l) (b.low (a.low t l).temps (a.low t l).labels) t m n sz first (does'.low (a.low t l).temps (a.low t l).labels (omega (arith, first.grows)))))
+      relation_asks sense r to (joined size count a b t l) t (λ κ. m (λ x. n (κ x)))
+      (two_does program code callers size count scope level within (a.low t l) (b.low (a.low t l).temps (a.low t l).labels) t m n sz first
+      (does'.low (a.low t l).temps (a.low t l).labels (omega (arith, first.grows)))))
       (λ t l sz.
       let first = does.drop t l sz in
       let both = then_drops (a.drop t l) (b.drop (a.drop t l).temps (a.drop t l).labels) t m n first (does'.drop (a.drop t l).temps (a.drop t l).labels (omega (arith, first.grows))) in
@@ -208,11 +221,13 @@ module _ (program : TreeProgram) (code : List TreeItem) (callers : List Activati
       not_asks : (sense : Bool) (to : ℕ) (p : Emitted) (t : ℕ) → AsksIt p (not sense) to t m → AsksIt p sense to t (λ κ. m (λ v. κ (apply_unary unaries.Not v)))
       not_asks true to p t asks = record {
         grows = asks.grows;
-        runs = λ k le is met unmet res st d ag taken falls. subst (λ κ. Leads k (m κ st) (going (p.items ++ is) d)) (λ j v st. sym (not_zero v (met st) (unmet st)) j) (asks.runs k le is unmet met res st d ag taken falls);
+        runs = λ k le is met unmet res st d ag taken falls. subst (λ κ. Leads k (m κ st) (going (p.items ++ is) d)) (λ j v st. sym (not_zero v (met st) (unmet st)) j)
+            (asks.runs k le is unmet met res st d ag taken falls);
       }
       not_asks false to p t asks = record {
         grows = asks.grows;
-        runs = λ k le is met unmet res st d ag taken falls. subst (λ κ. Leads k (m κ st) (going (p.items ++ is) d)) (λ j v st. sym (not_zero v (met st) (unmet st)) j) (asks.runs k le is unmet met res st d ag taken falls);
+        runs = λ k le is met unmet res st d ag taken falls. subst (λ κ. Leads k (m κ st) (going (p.items ++ is) d)) (λ j v st. sym (not_zero v (met st) (unmet st)) j)
+            (asks.runs k le is unmet met res st d ag taken falls);
       }
 
   -- the left side decides alone where its truth is `stop`
@@ -257,7 +272,8 @@ module _ (program : TreeProgram) (code : List TreeItem) (callers : List Activati
         (λ st2 d2 ag2 s2. falls st2 d2 ag2 (since_both program code callers size count scope level within t p.temps q.temps p.items q.items st st1 st2 d d1 d2 asks.grows asks'.grows s1 s2))))));
   }
 
-  chain_inner_true : (to l : ℕ) (p q : Emitted) (t : ℕ) (m n : Rest → State → Runs) → AsksIt p true l t m → AsksIt q false to p.temps n → AsksIt (record { items = p.items ++ (q.items ++ (Label l ∷ [])); temps = q.temps; labels = q.labels }) false to t (Chained true m n)
+  chain_inner_true : (to l : ℕ) (p q : Emitted) (t : ℕ) (m n : Rest → State → Runs) → AsksIt p true l t m → AsksIt q false to p.temps n
+      → AsksIt (record { items = p.items ++ (q.items ++ (Label l ∷ [])); temps = q.temps; labels = q.labels }) false to t (Chained true m n)
   chain_inner_true to l p q t m n asks asks' = record {
     grows = omega (arith, asks.grows, asks'.grows);
     runs = λ k le is met unmet res st d ag taken falls.
@@ -266,16 +282,22 @@ module _ (program : TreeProgram) (code : List TreeItem) (callers : List Activati
         let res2 = take_down q.items (Label l ∷ []) is (resolves_back code p.items (T ++ is) res1) in
         let end_at : behind code l ≡ spelled_all is = (resolves_back code q.items (Label l ∷ is) res2).0 in
         let K : Rest = λ v st. chosen v (met st) (unmet st) in
-        let whole : (st1 : State) (d1 : Desk) (st2 : State) (d2 : Desk) → Since size t p.temps p.items st d st1 d1 → Since size p.temps q.temps q.items st1 d1 st2 d2 → Since size t q.temps (p.items ++ T) st d st2 d2 = λ st1 d1 st2 d2 s1 s2. since_both program code callers size count scope level within t p.temps q.temps p.items T st st1 st2 d d1 d2 asks.grows asks'.grows s1 (since_more program code callers size count scope level within p.temps q.temps q.temps q.items (Label l ∷ []) st1 d1 st2 d2 (omega arith) s2) in
+        let whole : (st1 : State) (d1 : Desk) (st2 : State) (d2 : Desk) → Since size t p.temps p.items st d st1 d1 → Since size p.temps q.temps q.items st1 d1 st2 d2
+        → Since size t q.temps (p.items ++ T) st d st2 d2 = λ st1 d1 st2 d2 s1 s2.
+        since_both program code callers size count scope level within t p.temps q.temps p.items T st st1 st2 d d1 d2 asks.grows asks'.grows s1
+        (since_more program code callers size count scope level within p.temps q.temps q.temps q.items (Label l ∷ []) st1 d1 st2 d2 (omega arith) s2) in
         bind_up k p.items T is d _ (asks.runs k le (T ++ is) met (n (λ y. K (logical y))) res1 st d ag
-        (λ st1 d1 ag1 s1. subst (λ j. Leads k (met st1) (counted (at_items program code callers j d1))) (sym end_at) (falls st1 d1 ag1 (since_more program code callers size count scope level within t p.temps q.temps p.items T st d st1 d1 asks'.grows s1)))
-        (λ st1 d1 ag1 s1. leads_quiet k _ _ (bind_up k q.items (Label l ∷ []) is d1 _ (subst (λ κ. Leads k (n κ st1) (going (q.items ++ (Label l ∷ is)) d1)) (λ j y st. sym (logical_chosen y (met st) (unmet st)) j)
+        (λ st1 d1 ag1 s1. subst (λ j. Leads k (met st1) (counted (at_items program code callers j d1))) (sym end_at)
+        (falls st1 d1 ag1 (since_more program code callers size count scope level within t p.temps q.temps p.items T st d st1 d1 asks'.grows s1)))
+        (λ st1 d1 ag1 s1. leads_quiet k _ _ (bind_up k q.items (Label l ∷ []) is d1 _
+        (subst (λ κ. Leads k (n κ st1) (going (q.items ++ (Label l ∷ is)) d1)) (λ j y st. sym (logical_chosen y (met st) (unmet st)) j)
         (asks'.runs k le (Label l ∷ is) met unmet res2 st1 d1 ag1
         (λ st2 d2 ag2 s2. taken st2 d2 ag2 (whole st1 d1 st2 d2 s1 s2))
         (λ st2 d2 ag2 s2. then_asks_low k l is d2 _ (falls st2 d2 ag2 (whole st1 d1 st2 d2 s1 s2))))))));
   }
 
-  chain_inner_false : (to l : ℕ) (p q : Emitted) (t : ℕ) (m n : Rest → State → Runs) → AsksIt p false l t m → AsksIt q true to p.temps n → AsksIt (record { items = p.items ++ (q.items ++ (Label l ∷ [])); temps = q.temps; labels = q.labels }) true to t (Chained false m n)
+  chain_inner_false : (to l : ℕ) (p q : Emitted) (t : ℕ) (m n : Rest → State → Runs) → AsksIt p false l t m → AsksIt q true to p.temps n
+      → AsksIt (record { items = p.items ++ (q.items ++ (Label l ∷ [])); temps = q.temps; labels = q.labels }) true to t (Chained false m n)
   chain_inner_false to l p q t m n asks asks' = record {
     grows = omega (arith, asks.grows, asks'.grows);
     runs = λ k le is met unmet res st d ag taken falls.
@@ -284,10 +306,15 @@ module _ (program : TreeProgram) (code : List TreeItem) (callers : List Activati
         let res2 = take_down q.items (Label l ∷ []) is (resolves_back code p.items (T ++ is) res1) in
         let end_at : behind code l ≡ spelled_all is = (resolves_back code q.items (Label l ∷ is) res2).0 in
         let K : Rest = λ v st. chosen v (met st) (unmet st) in
-        let whole : (st1 : State) (d1 : Desk) (st2 : State) (d2 : Desk) → Since size t p.temps p.items st d st1 d1 → Since size p.temps q.temps q.items st1 d1 st2 d2 → Since size t q.temps (p.items ++ T) st d st2 d2 = λ st1 d1 st2 d2 s1 s2. since_both program code callers size count scope level within t p.temps q.temps p.items T st st1 st2 d d1 d2 asks.grows asks'.grows s1 (since_more program code callers size count scope level within p.temps q.temps q.temps q.items (Label l ∷ []) st1 d1 st2 d2 (omega arith) s2) in
+        let whole : (st1 : State) (d1 : Desk) (st2 : State) (d2 : Desk) → Since size t p.temps p.items st d st1 d1 → Since size p.temps q.temps q.items st1 d1 st2 d2
+        → Since size t q.temps (p.items ++ T) st d st2 d2 = λ st1 d1 st2 d2 s1 s2.
+        since_both program code callers size count scope level within t p.temps q.temps p.items T st st1 st2 d d1 d2 asks.grows asks'.grows s1
+        (since_more program code callers size count scope level within p.temps q.temps q.temps q.items (Label l ∷ []) st1 d1 st2 d2 (omega arith) s2) in
         bind_up k p.items T is d _ (asks.runs k le (T ++ is) (n (λ y. K (logical y))) unmet res1 st d ag
-        (λ st1 d1 ag1 s1. subst (λ j. Leads k (unmet st1) (counted (at_items program code callers j d1))) (sym end_at) (falls st1 d1 ag1 (since_more program code callers size count scope level within t p.temps q.temps p.items T st d st1 d1 asks'.grows s1)))
-        (λ st1 d1 ag1 s1. leads_quiet k _ _ (bind_up k q.items (Label l ∷ []) is d1 _ (subst (λ κ. Leads k (n κ st1) (going (q.items ++ (Label l ∷ is)) d1)) (λ j y st. sym (logical_chosen y (met st) (unmet st)) j)
+        (λ st1 d1 ag1 s1. subst (λ j. Leads k (unmet st1) (counted (at_items program code callers j d1))) (sym end_at)
+        (falls st1 d1 ag1 (since_more program code callers size count scope level within t p.temps q.temps p.items T st d st1 d1 asks'.grows s1)))
+        (λ st1 d1 ag1 s1. leads_quiet k _ _ (bind_up k q.items (Label l ∷ []) is d1 _
+        (subst (λ κ. Leads k (n κ st1) (going (q.items ++ (Label l ∷ is)) d1)) (λ j y st. sym (logical_chosen y (met st) (unmet st)) j)
         (asks'.runs k le (Label l ∷ is) met unmet res2 st1 d1 ag1
         (λ st2 d2 ag2 s2. taken st2 d2 ag2 (whole st1 d1 st2 d2 s1 s2))
         (λ st2 d2 ag2 s2. then_asks_low k l is d2 _ (falls st2 d2 ag2 (whole st1 d1 st2 d2 s1 s2))))))));
@@ -316,7 +343,8 @@ module _ (program : TreeProgram) (code : List TreeItem) (callers : List Activati
   chain_logic false m n κ st = λ j. m (λ x st. chosen x (n (λ y st. (logical_value y κ st ∙ sym (logical_chosen y (κ 1 st) (κ 0 st))) j) st) (κ 0 st)) st
 
   -- the left side, and the right one where it is needed
-  chain_drops_by : (stop : Bool) (l : ℕ) (p q : Emitted) (t : ℕ) (m n : Rest → State → Runs) → AsksIt p stop l t m → DropsIt q p.temps n → DropsIt (record { items = p.items ++ (q.items ++ (Label l ∷ [])); temps = q.temps; labels = q.labels }) t (Chained stop m n)
+  chain_drops_by : (stop : Bool) (l : ℕ) (p q : Emitted) (t : ℕ) (m n : Rest → State → Runs) → AsksIt p stop l t m → DropsIt q p.temps n
+      → DropsIt (record { items = p.items ++ (q.items ++ (Label l ∷ [])); temps = q.temps; labels = q.labels }) t (Chained stop m n)
   chain_drops_by stop l p q t m n asks drops = record {
     grows = omega (arith, asks.grows, drops.grows);
     runs = λ k le is κ res st d ag h.
@@ -324,13 +352,21 @@ module _ (program : TreeProgram) (code : List TreeItem) (callers : List Activati
         let res1 = take_down p.items T is res in
         let res2 = take_down q.items (Label l ∷ []) is (resolves_back code p.items (T ++ is) res1) in
         let end_at : behind code l ≡ spelled_all is = (resolves_back code q.items (Label l ∷ is) res2).0 in
-        let out : (st1 : State) (d1 : Desk) → sure st1 d1 → Since size t p.temps p.items st d st1 d1 → Leads k (κ st1) (counted (at_items program code callers (behind code l) d1)) = λ st1 d1 ag1 s1. leads_quiet k _ _ (subst (λ j. Leads k (κ st1) (at_items program code callers j d1)) (sym end_at) (h st1 d1 ag1 (since_more program code callers size count scope level within t p.temps q.temps p.items T st d st1 d1 drops.grows s1))) in
-        let into : (st1 : State) (d1 : Desk) → sure st1 d1 → Since size t p.temps p.items st d st1 d1 → Leads k (n (λ y. κ) st1) (counted (going (T ++ is) d1)) = λ st1 d1 ag1 s1. leads_quiet k _ _ (bind_up k q.items (Label l ∷ []) is d1 _ (drops.runs k le (Label l ∷ is) κ res2 st1 d1 ag1
-        (λ st2 d2 ag2 s2. label_step program code callers k l is d2 (κ st2) (h st2 d2 ag2 (since_both program code callers size count scope level within t p.temps q.temps p.items T st st1 st2 d d1 d2 asks.grows drops.grows s1 (since_more program code callers size count scope level within p.temps q.temps q.temps q.items (Label l ∷ []) st1 d1 st2 d2 (omega arith) s2)))))) in
+        let out : (st1 : State) (d1 : Desk) → sure st1 d1 → Since size t p.temps p.items st d st1 d1
+        → Leads k (κ st1) (counted (at_items program code callers (behind code l) d1)) = λ st1 d1 ag1 s1.
+        leads_quiet k _ _ (subst (λ j. Leads k (κ st1) (at_items program code callers j d1)) (sym end_at)
+        (h st1 d1 ag1 (since_more program code callers size count scope level within t p.temps q.temps p.items T st d st1 d1 drops.grows s1))) in
+        let into : (st1 : State) (d1 : Desk) → sure st1 d1 → Since size t p.temps p.items st d st1 d1
+        → Leads k (n (λ y. κ) st1) (counted (going (T ++ is) d1)) = λ st1 d1 ag1 s1.
+        leads_quiet k _ _ (bind_up k q.items (Label l ∷ []) is d1 _ (drops.runs k le (Label l ∷ is) κ res2 st1 d1 ag1
+        (λ st2 d2 ag2 s2. label_step program code callers k l is d2 (κ st2)
+        (h st2 d2 ag2 (since_both program code callers size count scope level within t p.temps q.temps p.items T st st1 st2 d d1 d2 asks.grows drops.grows s1
+        (since_more program code callers size count scope level within p.temps q.temps q.temps q.items (Label l ∷ []) st1 d1 st2 d2 (omega arith) s2)))))) in
         bind_up k p.items T is d _ (sides stop asks k le is κ res1 st d ag out into);
   }
     where
-      sides : (stop : Bool) → AsksIt p stop l t m → (k : ℕ) → k ≤ level → (is : List Item) (κ : State → Runs) → Resolves code (p.items ++ ((q.items ++ (Label l ∷ [])) ++ is)) → (st : State) (d : Desk) → sure st d
+      sides : (stop : Bool) → AsksIt p stop l t m → (k : ℕ) → k ≤ level → (is : List Item) (κ : State → Runs) → Resolves code (p.items ++ ((q.items ++ (Label l ∷ [])) ++ is))
+          → (st : State) (d : Desk) → sure st d
           → ((st1 : State) (d1 : Desk) → sure st1 d1 → Since size t p.temps p.items st d st1 d1 → Leads k (κ st1) (counted (at_items program code callers (behind code l) d1)))
           → ((st1 : State) (d1 : Desk) → sure st1 d1 → Since size t p.temps p.items st d st1 d1 → Leads k (n (λ y. κ) st1) (counted (going ((q.items ++ (Label l ∷ [])) ++ is) d1)))
           → Leads k (Chained stop m n (λ v. κ) st) (going (p.items ++ ((q.items ++ (Label l ∷ [])) ++ is)) d)
@@ -350,7 +386,8 @@ module _ (program : TreeProgram) (code : List TreeItem) (callers : List Activati
   abbrev pub Chosen : (Rest → State → Runs) → (Rest → State → Runs) → (Rest → State → Runs) → Rest → State → Runs
   Chosen m n o κ = m (λ x st. chosen x (n κ st) (o κ st))
 
-  choose_low_does : (t l : ℕ) (p : Emitted) (q r : Lowered) (m n o : Rest → State → Runs) → size ≤ t → AsksIt p false l (suc t) m → LowIt q p.temps n → LowIt r q.temps o → LowIt (choose_low t l p q r) t (Chosen m n o)
+  choose_low_does : (t l : ℕ) (p : Emitted) (q r : Lowered) (m n o : Rest → State → Runs) → size ≤ t → AsksIt p false l (suc t) m → LowIt q p.temps n → LowIt r q.temps o
+      → LowIt (choose_low t l p q r) t (Chosen m n o)
   choose_low_does t l p q r m n o sz asks does does' = record {
     grows = omega (arith, asks.grows, does.grows, does'.grows);
     below = omega (arith, asks.grows, does.grows, does'.grows);
@@ -365,7 +402,9 @@ module _ (program : TreeProgram) (code : List TreeItem) (callers : List Activati
         let else_at : behind code l ≡ spelled_all ((r.items ++ T3) ++ is) = res2.1.1.0 in
         let res3 = take_down r.items T3 is res2.1.1.1 in
         let end_at : behind code (suc l) ≡ spelled_all is = (resolves_back code r.items (T3 ++ is) res3).1.0 in
-        let since : (d' : Desk) (st' : State) → ((j : ℕ) → size ≤ j → (j < t) ⊎ (r.temps ≤ j) → d'.locals j ≡ d.locals j) → Since size t r.temps (p.items ++ T1) st d st' d' = λ d' st' kept. record { keeps = kept; same = λ e. absurd (not_nil q.items (AssignLoc t q.tree) (Jump (suc l) ∷ Label l ∷ (r.items ++ T3)) (back_nil p.items T1 e)) } in
+        let since : (d' : Desk) (st' : State) → ((j : ℕ) → size ≤ j → (j < t) ⊎ (r.temps ≤ j) → d'.locals j ≡ d.locals j)
+        → Since size t r.temps (p.items ++ T1) st d st' d' = λ d' st' kept.
+        record { keeps = kept; same = λ e. absurd (not_nil q.items (AssignLoc t q.tree) (Jump (suc l) ∷ Label l ∷ (r.items ++ T3)) (back_nil p.items T1 e)) } in
         bind_up k p.items T1 is d _ (asks.runs k le (T1 ++ is) (n κ) (o κ) res0 st d ag
         (λ st1 d1 ag1 s1. leads_quiet k _ _ (moves program code callers k (behind code l) (spelled_all ((r.items ++ T3) ++ is)) d1 _ else_at
         (bind_up k r.items T3 is d1 _ (does'.runs k le (T3 ++ is) κ res3 st1 d1 ag1
@@ -374,7 +413,9 @@ module _ (program : TreeProgram) (code : List TreeItem) (callers : List Activati
         let d3 : Desk = record d2 { locals = with_local d2.locals t v } in
         label_step program code callers k (suc l) is d3 _
         (use_number program code callers size count scope level within k (d3.locals t) v is κ st2 d3 (set_same d2.locals t v)
-        (h st2 d3 ag3 (since d3 st2 (λ j szj o. set_other d2.locals t v j (λ e. ⊎_elim (λ lt. omega arith) (λ ge. omega (arith, asks.grows, does.grows, does'.grows)) o) ∙ s2.keeps j szj (⊎_elim (λ lt. inl (omega (arith, asks.grows, does.grows))) (λ ge. inr ge) o) ∙ s1.keeps j szj (⊎_elim (λ lt. inl (omega arith)) (λ ge. inr (omega (arith, does.grows, does'.grows))) o)))))))))))
+        (h st2 d3 ag3 (since d3 st2 (λ j szj o. set_other d2.locals t v j (λ e. ⊎_elim (λ lt. omega arith) (λ ge. omega (arith, asks.grows, does.grows, does'.grows)) o)
+        ∙ s2.keeps j szj (⊎_elim (λ lt. inl (omega (arith, asks.grows, does.grows))) (λ ge. inr ge) o)
+        ∙ s1.keeps j szj (⊎_elim (λ lt. inl (omega arith)) (λ ge. inr (omega (arith, does.grows, does'.grows))) o)))))))))))
         (λ st1 d1 ag1 s1. leads_quiet k _ _ (bind_up k q.items T2 is d1 _ (does.runs k le (T2 ++ is) κ res1 st1 d1 ag1
         (λ st2 d2 ag2 s2. save_temp program code callers size count scope level within k t q.tree (Jump (suc l) ∷ Label l ∷ ((r.items ++ T3) ++ is)) (λ v. κ v st2) st2 d2 sz does.small ag2
         (λ v lt e ag3.
@@ -382,7 +423,9 @@ module _ (program : TreeProgram) (code : List TreeItem) (callers : List Activati
         jump_step program code callers k (suc l) (Label l ∷ ((r.items ++ T3) ++ is)) _ d3
         (moves program code callers k (behind code (suc l)) (spelled_all is) d3 _ end_at
         (use_number program code callers size count scope level within k (d3.locals t) v is κ st2 d3 (set_same d2.locals t v)
-        (h st2 d3 ag3 (since d3 st2 (λ j szj o. set_other d2.locals t v j (λ e. ⊎_elim (λ lt. omega arith) (λ ge. omega (arith, asks.grows, does.grows, does'.grows)) o) ∙ s2.keeps j szj (⊎_elim (λ lt. inl (omega (arith, asks.grows))) (λ ge. inr (omega (arith, does'.grows))) o) ∙ s1.keeps j szj (⊎_elim (λ lt. inl (omega arith)) (λ ge. inr (omega (arith, does.grows, does'.grows))) o))))))))))));
+        (h st2 d3 ag3 (since d3 st2 (λ j szj o. set_other d2.locals t v j (λ e. ⊎_elim (λ lt. omega arith) (λ ge. omega (arith, asks.grows, does.grows, does'.grows)) o)
+        ∙ s2.keeps j szj (⊎_elim (λ lt. inl (omega (arith, asks.grows))) (λ ge. inr (omega (arith, does'.grows))) o)
+        ∙ s1.keeps j szj (⊎_elim (λ lt. inl (omega arith)) (λ ge. inr (omega (arith, does.grows, does'.grows))) o))))))))))));
   }
 
   choose_drop_does : (t l : ℕ) (p q r : Emitted) (m n o : Rest → State → Runs) → AsksIt p false l t m → DropsIt q p.temps n → DropsIt r q.temps o → DropsIt (choose_drop l p q r) t (Chosen m n o)
@@ -398,16 +441,20 @@ module _ (program : TreeProgram) (code : List TreeItem) (callers : List Activati
         let else_at : behind code l ≡ spelled_all ((r.items ++ T3) ++ is) = res2.1.0 in
         let res3 = take_down r.items T3 is res2.1.1 in
         let end_at : behind code (suc l) ≡ spelled_all is = (resolves_back code r.items (T3 ++ is) res3).0 in
-        let since : (d' : Desk) (st' : State) → ((j : ℕ) → size ≤ j → (j < t) ⊎ (r.temps ≤ j) → d'.locals j ≡ d.locals j) → Since size t r.temps (p.items ++ T1) st d st' d' = λ d' st' kept. record { keeps = kept; same = λ e. absurd (not_nil q.items (Jump (suc l)) (Label l ∷ (r.items ++ T3)) (back_nil p.items T1 e)) } in
+        let since : (d' : Desk) (st' : State) → ((j : ℕ) → size ≤ j → (j < t) ⊎ (r.temps ≤ j) → d'.locals j ≡ d.locals j)
+        → Since size t r.temps (p.items ++ T1) st d st' d' = λ d' st' kept.
+        record { keeps = kept; same = λ e. absurd (not_nil q.items (Jump (suc l)) (Label l ∷ (r.items ++ T3)) (back_nil p.items T1 e)) } in
         bind_up k p.items T1 is d _ (asks.runs k le (T1 ++ is) (n (λ v. κ)) (o (λ v. κ)) res0 st d ag
         (λ st1 d1 ag1 s1. leads_quiet k _ _ (moves program code callers k (behind code l) (spelled_all ((r.items ++ T3) ++ is)) d1 _ else_at
         (bind_up k r.items T3 is d1 _ (drops'.runs k le (T3 ++ is) κ res3 st1 d1 ag1
         (λ st2 d2 ag2 s2. label_step program code callers k (suc l) is d2 _
-        (h st2 d2 ag2 (since d2 st2 (λ j szj o. s2.keeps j szj (⊎_elim (λ lt. inl (omega (arith, asks.grows, drops.grows))) (λ ge. inr ge) o) ∙ s1.keeps j szj (⊎_elim (λ lt. inl lt) (λ ge. inr (omega (arith, drops.grows, drops'.grows))) o)))))))))
+        (h st2 d2 ag2 (since d2 st2 (λ j szj o. s2.keeps j szj (⊎_elim (λ lt. inl (omega (arith, asks.grows, drops.grows))) (λ ge. inr ge) o)
+        ∙ s1.keeps j szj (⊎_elim (λ lt. inl lt) (λ ge. inr (omega (arith, drops.grows, drops'.grows))) o)))))))))
         (λ st1 d1 ag1 s1. leads_quiet k _ _ (bind_up k q.items T2 is d1 _ (drops.runs k le (T2 ++ is) κ res1 st1 d1 ag1
         (λ st2 d2 ag2 s2. jump_step program code callers k (suc l) (Label l ∷ ((r.items ++ T3) ++ is)) _ d2
         (moves program code callers k (behind code (suc l)) (spelled_all is) d2 _ end_at
-        (h st2 d2 ag2 (since d2 st2 (λ j szj o. s2.keeps j szj (⊎_elim (λ lt. inl (omega (arith, asks.grows))) (λ ge. inr (omega (arith, drops'.grows))) o) ∙ s1.keeps j szj (⊎_elim (λ lt. inl lt) (λ ge. inr (omega (arith, drops.grows, drops'.grows))) o))))))))));
+        (h st2 d2 ag2 (since d2 st2 (λ j szj o. s2.keeps j szj (⊎_elim (λ lt. inl (omega (arith, asks.grows))) (λ ge. inr (omega (arith, drops'.grows))) o)
+        ∙ s1.keeps j szj (⊎_elim (λ lt. inl lt) (λ ge. inr (omega (arith, drops.grows, drops'.grows))) o))))))))));
   }
 
   pub choose_does : (c a b : Lowering) (m n o : Rest → State → Runs) → WayIt c m → WayIt a n → WayIt b o → WayIt (choose c a b) (Chosen m n o)

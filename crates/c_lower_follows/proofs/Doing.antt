@@ -51,7 +51,8 @@ module _ (program : TreeProgram) (code : List TreeItem) (callers : List Activati
     pub grows : t ≤ p.temps
     pub below : Below p.temps p.tree
     pub small : SmallTree p.tree
-    pub runs : (k : ℕ) → k ≤ level → (is : List Item) (κ : Rest) → Resolves code (p.items ++ is) → (st : State) (d : Desk) → Agrees st d → Onto k t p.temps p.items is st d (λ st' d'. on (value program p.tree d') (λ v. κ v st')) → Leads k (m κ st) (here (p.items ++ is) d)
+    pub runs : (k : ℕ) → k ≤ level → (is : List Item) (κ : Rest) → Resolves code (p.items ++ is) → (st : State) (d : Desk) → Agrees st d
+        → Onto k t p.temps p.items is st d (λ st' d'. on (value program p.tree d') (λ v. κ v st')) → Leads k (m κ st) (here (p.items ++ is) d)
 
   pub record DoesTwo (p : Pair) (t : ℕ) (m : (ℕ → Rest) → State → Runs) : Type 0 where
     pub grows : t ≤ p.temps
@@ -59,12 +60,14 @@ module _ (program : TreeProgram) (code : List TreeItem) (callers : List Activati
     pub below_second : Below p.temps p.second
     pub small_first : SmallTree p.first
     pub small_second : SmallTree p.second
-    pub runs : (k : ℕ) → k ≤ level → (is : List Item) (κ : ℕ → Rest) → Resolves code (p.items ++ is) → (st : State) (d : Desk) → Agrees st d → Onto k t p.temps p.items is st d (λ st' d'. on (value program p.first d') (λ x. on (value program p.second d') (λ y. κ x y st'))) → Leads k (m κ st) (here (p.items ++ is) d)
+    pub runs : (k : ℕ) → k ≤ level → (is : List Item) (κ : ℕ → Rest) → Resolves code (p.items ++ is) → (st : State) (d : Desk) → Agrees st d
+        → Onto k t p.temps p.items is st d (λ st' d'. on (value program p.first d') (λ x. on (value program p.second d') (λ y. κ x y st'))) → Leads k (m κ st) (here (p.items ++ is) d)
 
   -- for the effect alone
   pub record Drops (p : Emitted) (t : ℕ) (m : Rest → State → Runs) : Type 0 where
     pub grows : t ≤ p.temps
-    pub runs : (k : ℕ) → k ≤ level → (is : List Item) (κ : State → Runs) → Resolves code (p.items ++ is) → (st : State) (d : Desk) → Agrees st d → Onto k t p.temps p.items is st d (λ st' d'. κ st') → Leads k (m (λ v. κ) st) (here (p.items ++ is) d)
+    pub runs : (k : ℕ) → k ≤ level → (is : List Item) (κ : State → Runs) → Resolves code (p.items ++ is) → (st : State) (d : Desk) → Agrees st d
+        → Onto k t p.temps p.items is st d (λ st' d'. κ st') → Leads k (m (λ v. κ) st) (here (p.items ++ is) d)
 
   -- as a condition: each way leaves by a tree that is still to be counted
   abbrev pub Out : (k t u : ℕ) (items : List Item) (st : State) (d : Desk) (r : State → Runs) (place : List TreeItem) → Type 0
@@ -90,18 +93,23 @@ module _ (program : TreeProgram) (code : List TreeItem) (callers : List Activati
 
   module _ (within : (x : ℕ) → scope x → x < size) where
     -- a value's tree that has no items
-    pub due_does : (w : Tree) (t l : ℕ) (m : Rest → State → Runs) → Below t w → SmallTree w → ((k : ℕ) (is : List Item) (κ : Rest) (st : State) (d : Desk) → Agrees st d → Leads k (on (value program w d) (λ v. κ v st)) (here is d) → Leads k (m κ st) (here is d)) → Does (due w t l) t m
+    pub due_does : (w : Tree) (t l : ℕ) (m : Rest → State → Runs) → Below t w → SmallTree w
+        → ((k : ℕ) (is : List Item) (κ : Rest) (st : State) (d : Desk) → Agrees st d → Leads k (on (value program w d) (λ v. κ v st)) (here is d) → Leads k (m κ st) (here is d)) → Does (due w t l) t m
     due_does w t l m below small same = record { grows = omega arith; below = below; small = small; runs = λ k le is κ res st d ag h. same k is κ st d ag (h st d ag (since_start size t t [] st d)) }
 
     -- two parts, the first of which is saved
-    since_saved : (t p q v : ℕ) (a b : List Item) (i : Item) (st st1 st2 : State) (d d1 d2 : Desk) → t ≤ p → p ≤ q → Since size t p a st d st1 d1 → Since size p q b st1 (record d1 { locals = with_local d1.locals q v }) st2 d2 → Since size t (suc q) (a ++ (i ∷ b)) st d st2 d2
+    since_saved : (t p q v : ℕ) (a b : List Item) (i : Item) (st st1 st2 : State) (d d1 d2 : Desk) → t ≤ p → p ≤ q → Since size t p a st d st1 d1
+        → Since size p q b st1 (record d1 { locals = with_local d1.locals q v }) st2 d2 → Since size t (suc q) (a ++ (i ∷ b)) st d st2 d2
     since_saved t p q v a b i st st1 st2 d d1 d2 le le' s s' = record {
-      keeps = λ j sz o. s'.keeps j sz (⊎_elim (λ lt. inl (omega arith)) (λ ge. inr (omega arith)) o) ∙ set_other d1.locals q v j (λ e. ⊎_elim (λ lt. omega arith) (λ ge. omega arith) o) ∙ s.keeps j sz (⊎_elim (λ lt. inl lt) (λ ge. inr (omega arith)) o);
+      keeps = λ j sz o. s'.keeps j sz (⊎_elim (λ lt. inl (omega arith)) (λ ge. inr (omega arith)) o) ∙ set_other d1.locals q v j (λ e. ⊎_elim (λ lt. omega arith) (λ ge. omega arith) o)
+          ∙ s.keeps j sz (⊎_elim (λ lt. inl lt) (λ ge. inr (omega arith)) o);
       same = λ e. absurd (not_nil a i b e);
     }
 
     -- a tree's value is put into a temporary
-    pub save_temp : (k n : ℕ) (w : Tree) (is : List Item) (κ : ℕ → Runs) (st : State) (d : Desk) → size ≤ n → SmallTree w → Agrees st d → ((v : ℕ) → v < 2 ^ 32 → value program w d ≡ Number v → Agrees st (record d { locals = with_local d.locals n v }) → Leads k (κ v) (here is (record d { locals = with_local d.locals n v }))) → Leads k (on (value program w d) κ) (here (AssignLoc n w ∷ is) d)
+    pub save_temp : (k n : ℕ) (w : Tree) (is : List Item) (κ : ℕ → Runs) (st : State) (d : Desk) → size ≤ n → SmallTree w → Agrees st d
+        → ((v : ℕ) → v < 2 ^ 32 → value program w d ≡ Number v → Agrees st (record d { locals = with_local d.locals n v })
+        → Leads k (κ v) (here is (record d { locals = with_local d.locals n v }))) → Leads k (on (value program w d) κ) (here (AssignLoc n w ∷ is) d)
     save_temp k n w is κ st d sz small ag h =
         assign_loc_step program code callers k n w is κ d small ag.ranged
         (λ v e.
@@ -128,13 +136,16 @@ module _ (program : TreeProgram) (code : List TreeItem) (callers : List Activati
     }
 
     -- two parts, where the first waits for the second
-    pub waits_by : (p q : Lowered) (n : Rest → State → Runs) (k : ℕ) → k ≤ level → (is : List Item) (κ : ℕ → Rest) (st1 : State) (d1 : Desk) (o : Value) → Does q p.temps n → (value program p.tree d1 ≡ ZeroDivisor → Leads k (stop ends.Trapped) (here (q.items ++ is) d1)) → Resolves code (q.items ++ is) → value program p.tree d1 ≡ o → Agrees st1 d1
-        → ((v : ℕ) (st2 : State) (d2 : Desk) → value program p.tree d1 ≡ Number v → Agrees st2 d2 → Since size p.temps q.temps q.items st1 d1 st2 d2 → Leads k (on (value program q.tree d2) (λ y. κ v y st2)) (here is d2)) → Leads k (on o (λ x. n (κ x) st1)) (here (q.items ++ is) d1)
+    pub waits_by : (p q : Lowered) (n : Rest → State → Runs) (k : ℕ) → k ≤ level → (is : List Item) (κ : ℕ → Rest) (st1 : State) (d1 : Desk) (o : Value) → Does q p.temps n
+        → (value program p.tree d1 ≡ ZeroDivisor → Leads k (stop ends.Trapped) (here (q.items ++ is) d1)) → Resolves code (q.items ++ is) → value program p.tree d1 ≡ o → Agrees st1 d1
+        → ((v : ℕ) (st2 : State) (d2 : Desk) → value program p.tree d1 ≡ Number v → Agrees st2 d2 → Since size p.temps q.temps q.items st1 d1 st2 d2
+        → Leads k (on (value program q.tree d2) (λ y. κ v y st2)) (here is d2)) → Leads k (on o (λ x. n (κ x) st1)) (here (q.items ++ is) d1)
     waits_by p q n k le is κ st1 d1 (Number v) does' trap res e ag h = does'.runs k le is (κ v) res st1 d1 ag (λ st2 d2 ag2 s2. h v st2 d2 e ag2 s2)
     waits_by p q n k le is κ st1 d1 ZeroDivisor does' trap res e ag h = trap e
     waits_by p q n k le is κ st1 d1 Wild does' trap res e ag h = lost program code callers k (spelled_all (q.items ++ is)) d1
 
-    pub since_both : (t p q : ℕ) (a b : List Item) (st st1 st2 : State) (d d1 d2 : Desk) → t ≤ p → p ≤ q → Since size t p a st d st1 d1 → Since size p q b st1 d1 st2 d2 → Since size t q (a ++ b) st d st2 d2
+    pub since_both : (t p q : ℕ) (a b : List Item) (st st1 st2 : State) (d d1 d2 : Desk) → t ≤ p → p ≤ q → Since size t p a st d st1 d1 → Since size p q b st1 d1 st2 d2
+        → Since size t q (a ++ b) st d st2 d2
     since_both t p q a b st st1 st2 d d1 d2 le le' s s' = record {
       keeps = λ j sz o. s'.keeps j sz (⊎_elim (λ lt. inl (omega arith)) (λ ge. inr (omega arith)) o) ∙ s.keeps j sz (⊎_elim (λ lt. inl lt) (λ ge. inr (omega arith)) o);
       same = λ e. let h = s.same (front_nil a b e) in let g = s'.same (back_nil a b e) in (g.0 ∙ h.0, g.1 ∙ h.1);
@@ -150,10 +161,12 @@ module _ (program : TreeProgram) (code : List TreeItem) (callers : List Activati
       runs = λ k le is κ res st d ag h.
           let res' = split p.items q.items is res in
           assoc k p.items q.items is d _ (does.runs k le (q.items ++ is) (λ x. n (κ x)) res' st d ag
-          (λ st1 d1 ag1 s1. waits_by p q n k le is κ st1 d1 (value program p.tree d1) does' (λ e. absurd (value_pure program p.tree d1 (stable_pure size p.tree stays) e)) (resolves_back code p.items (q.items ++ is) res') refl ag1
+          (λ st1 d1 ag1 s1. waits_by p q n k le is κ st1 d1 (value program p.tree d1) does' (λ e. absurd (value_pure program p.tree d1 (stable_pure size p.tree stays) e))
+          (resolves_back code p.items (q.items ++ is) res') refl ag1
           (λ v st2 d2 e ag2 s2.
           let kept : value program p.tree d2 ≡ Number v = value_stable program size p.temps p.tree d1 d2 stays does.below (λ j sz lt. s2.keeps j sz (inl lt)) ∙ e in
-          subst (λ o. Leads k (on o (λ x. on (value program q.tree d2) (λ y. κ x y st2))) (here is d2)) kept (h st2 d2 ag2 (since_both t p.temps q.temps p.items q.items st st1 st2 d d1 d2 does.grows does'.grows s1 s2)))));
+          subst (λ o. Leads k (on o (λ x. on (value program q.tree d2) (λ y. κ x y st2))) (here is d2)) kept
+          (h st2 d2 ag2 (since_both t p.temps q.temps p.items q.items st st1 st2 d d1 d2 does.grows does'.grows s1 s2)))));
     }
 
     two_quiet : (p q : Lowered) (t : ℕ) (m n : Rest → State → Runs) → q.items ≡ [] → Does p t m → Does q p.temps n → DoesTwo (join_so size count false p q) t (λ κ. m (λ x. n (κ x)))
@@ -165,14 +178,17 @@ module _ (program : TreeProgram) (code : List TreeItem) (callers : List Activati
       small_second = does'.small;
       runs = λ k le is κ res st d ag h.
           let res' = split p.items q.items is res in
-          let whole : (st1 : State) (d1 : Desk) → Since size t p.temps p.items st d st1 d1 → Since size t q.temps (p.items ++ q.items) st d st1 d1 = λ st1 d1 s1. record { keeps = λ j sz o. s1.keeps j sz (⊎_elim (λ lt. inl lt) (λ ge. inr (omega (arith, does'.grows))) o); same = λ e. s1.same (front_nil p.items q.items e) } in
+          let whole : (st1 : State) (d1 : Desk) → Since size t p.temps p.items st d st1 d1
+          → Since size t q.temps (p.items ++ q.items) st d st1 d1 = λ st1 d1 s1.
+          record { keeps = λ j sz o. s1.keeps j sz (⊎_elim (λ lt. inl lt) (λ ge. inr (omega (arith, does'.grows))) o); same = λ e. s1.same (front_nil p.items q.items e) } in
           assoc k p.items q.items is d _ (does.runs k le (q.items ++ is) (λ x. n (κ x)) res' st d ag
           (λ st1 d1 ag1 s1. waits_by p q n k le is κ st1 d1 (value program p.tree d1) does'
           (λ e. let done = subst (λ o. Leads k (on o (λ x. on (value program q.tree d1) (λ y. κ x y st1))) (here is d1)) e (h st1 d1 ag1 (whole st1 d1 s1)) in subst (λ l. Leads k (stop ends.Trapped) (here (l ++ is) d1)) (sym none) done)
           (resolves_back code p.items (q.items ++ is) res') refl ag1
           (λ v st2 d2 e ag2 s2.
           let eq = s2.same none in
-          let done : Leads k (on (value program q.tree d1) (λ y. κ v y st1)) (here is d1) = subst (λ o. Leads k (on o (λ x. on (value program q.tree d1) (λ y. κ x y st1))) (here is d1)) e (h st1 d1 ag1 (whole st1 d1 s1)) in
+          let done : Leads k (on (value program q.tree d1) (λ y. κ v y st1)) (here is d1) =
+          subst (λ o. Leads k (on o (λ x. on (value program q.tree d1) (λ y. κ x y st1))) (here is d1)) e (h st1 d1 ag1 (whole st1 d1 s1)) in
           let there = subst (λ d. Leads k (on (value program q.tree d) (λ y. κ v y st1)) (here is d)) (sym eq.1) done in
           subst (λ st. Leads k (on (value program q.tree d2) (λ y. κ v y st)) (here is d2)) (sym eq.0) there)));
     }
@@ -181,7 +197,8 @@ module _ (program : TreeProgram) (code : List TreeItem) (callers : List Activati
     must_not [] a b e = inl refl
     must_not (i ∷ is) a b e = inr (not-false (stable size a) e)
 
-    two_by : (p q : Lowered) (t : ℕ) (m n : Rest → State → Runs) (b : Bool) → must size count q.items p.tree q.tree ≡ b → size ≤ t → Does p t m → Does q p.temps n → DoesTwo (join_so size count b p q) t (λ κ. m (λ x. n (κ x)))
+    two_by : (p q : Lowered) (t : ℕ) (m n : Rest → State → Runs) (b : Bool) → must size count q.items p.tree q.tree ≡ b → size ≤ t → Does p t m → Does q p.temps n
+        → DoesTwo (join_so size count b p q) t (λ κ. m (λ x. n (κ x)))
     two_by p q t m n true e sz does does' = two_saved p q t m n sz does does'
     two_by p q t m n false e sz does does' = ⊎_elim (λ none. two_quiet p q t m n none does does') (λ stays. two_stable p q t m n stays does does') (must_not q.items p.tree q.tree e)
 
@@ -192,7 +209,8 @@ module _ (program : TreeProgram) (code : List TreeItem) (callers : List Activati
     since_more t u v is js st d st' d' le s = record { keeps = λ j sz o. s.keeps j sz (⊎_elim (λ lt. inl lt) (λ ge. inr (omega arith)) o); same = λ e. s.same (front_nil is js e) }
 
     -- a temporary is written behind some items
-    pub since_temp : (t u n v : ℕ) (is js : List Item) (i : Item) (st : State) (d : Desk) (st' : State) (d' : Desk) → t ≤ u → u ≤ n → Since size t u is st d st' d' → Since size t (suc n) (is ++ (i ∷ js)) st d st' (record d' { locals = with_local d'.locals n v })
+    pub since_temp : (t u n v : ℕ) (is js : List Item) (i : Item) (st : State) (d : Desk) (st' : State) (d' : Desk) → t ≤ u → u ≤ n → Since size t u is st d st' d'
+        → Since size t (suc n) (is ++ (i ∷ js)) st d st' (record d' { locals = with_local d'.locals n v })
     since_temp t u n v is js i st d st' d' le le' s = record {
       keeps = λ j sz o. set_other d'.locals n v j (λ e. ⊎_elim (λ lt. omega arith) (λ ge. omega arith) o) ∙ s.keeps j sz (⊎_elim (λ lt. inl lt) (λ ge. inr (omega arith)) o);
       same = λ e. absurd (not_nil is i js e);
@@ -214,8 +232,10 @@ module _ (program : TreeProgram) (code : List TreeItem) (callers : List Activati
           let i = Cbr rel.Ne to p.tree (Num 0) in
           assoc k p.items (i ∷ []) is d _ (does.runs k le (i ∷ is) (λ v st. chosen v (met st) (unmet st)) (split p.items (i ∷ []) is res) st d ag
           (λ st1 d1 ag1 s1. cbr_step program code callers k to rel.Ne p.tree (Num 0) is (λ x y. chosen x (met st1) (unmet st1)) d1 does.small (omega arith) ag1.ranged
-          (λ x y ex ey b. subst (λ r. Leads k r (counted (at_items program code callers (behind code to) d1))) (sym (some_chosen x y (met st1) (unmet st1) ey (not-true (x == y) b))) (taken st1 d1 ag1 (since_more t p.temps p.temps p.items (i ∷ []) st d st1 d1 (omega arith) s1)))
-          (λ x y ex ey b. subst (λ r. Leads k r (counted (here is d1))) (sym (zero_chosen x y (met st1) (unmet st1) ey (not-false (x == y) b))) (falls st1 d1 ag1 (since_more t p.temps p.temps p.items (i ∷ []) st d st1 d1 (omega arith) s1)))));
+          (λ x y ex ey b. subst (λ r. Leads k r (counted (at_items program code callers (behind code to) d1))) (sym (some_chosen x y (met st1) (unmet st1) ey (not-true (x == y) b)))
+          (taken st1 d1 ag1 (since_more t p.temps p.temps p.items (i ∷ []) st d st1 d1 (omega arith) s1)))
+          (λ x y ex ey b. subst (λ r. Leads k r (counted (here is d1))) (sym (zero_chosen x y (met st1) (unmet st1) ey (not-false (x == y) b)))
+          (falls st1 d1 ag1 (since_more t p.temps p.temps p.items (i ∷ []) st d st1 d1 (omega arith) s1)))));
     }
     test_asks false to p t m does = record {
       grows = does.grows;
@@ -223,8 +243,10 @@ module _ (program : TreeProgram) (code : List TreeItem) (callers : List Activati
           let i = Cbr rel.Eq to p.tree (Num 0) in
           assoc k p.items (i ∷ []) is d _ (does.runs k le (i ∷ is) (λ v st. chosen v (met st) (unmet st)) (split p.items (i ∷ []) is res) st d ag
           (λ st1 d1 ag1 s1. cbr_step program code callers k to rel.Eq p.tree (Num 0) is (λ x y. chosen x (met st1) (unmet st1)) d1 does.small (omega arith) ag1.ranged
-          (λ x y ex ey b. subst (λ r. Leads k r (counted (at_items program code callers (behind code to) d1))) (sym (zero_chosen x y (met st1) (unmet st1) ey b)) (taken st1 d1 ag1 (since_more t p.temps p.temps p.items (i ∷ []) st d st1 d1 (omega arith) s1)))
-          (λ x y ex ey b. subst (λ r. Leads k r (counted (here is d1))) (sym (some_chosen x y (met st1) (unmet st1) ey b)) (falls st1 d1 ag1 (since_more t p.temps p.temps p.items (i ∷ []) st d st1 d1 (omega arith) s1)))));
+          (λ x y ex ey b. subst (λ r. Leads k r (counted (at_items program code callers (behind code to) d1))) (sym (zero_chosen x y (met st1) (unmet st1) ey b))
+          (taken st1 d1 ag1 (since_more t p.temps p.temps p.items (i ∷ []) st d st1 d1 (omega arith) s1)))
+          (λ x y ex ey b. subst (λ r. Leads k r (counted (here is d1))) (sym (some_chosen x y (met st1) (unmet st1) ey b))
+          (falls st1 d1 ag1 (since_more t p.temps p.temps p.items (i ∷ []) st d st1 d1 (omega arith) s1)))));
     }
 
     -- a value that is dropped
@@ -233,7 +255,8 @@ module _ (program : TreeProgram) (code : List TreeItem) (callers : List Activati
     unused k ZeroDivisor r q n s h = absurd (n refl)
     unused k Wild r q n s h = leads_wild k q s
 
-    dropped_by : (p : Lowered) (t : ℕ) (m : Rest → State → Runs) (b : Bool) → breaks p.tree ≡ b → size ≤ t → Does p t m → Drops (record { items = p.items ++ saving b p.temps p.tree; temps = next_if b p.temps; labels = p.labels }) t m
+    dropped_by : (p : Lowered) (t : ℕ) (m : Rest → State → Runs) (b : Bool) → breaks p.tree ≡ b → size ≤ t → Does p t m
+        → Drops (record { items = p.items ++ saving b p.temps p.tree; temps = next_if b p.temps; labels = p.labels }) t m
     dropped_by p t m true e sz does = record {
       grows = omega (arith, does.grows);
       runs = λ k le is κ res st d ag h.
@@ -246,7 +269,8 @@ module _ (program : TreeProgram) (code : List TreeItem) (callers : List Activati
       grows = does.grows;
       runs = λ k le is κ res st d ag h.
           assoc k p.items [] is d _ (does.runs k le is (λ v. κ) (split p.items [] is res) st d ag
-          (λ st1 d1 ag1 s1. unused k (value program p.tree d1) (κ st1) (here is d1) (value_pure program p.tree d1 (or_parts (divides p.tree) (reads p.tree) e).0) (silent program code callers (arrived (state program code callers (spelled_all is) d1))) (h st1 d1 ag1 (since_more t p.temps p.temps p.items [] st d st1 d1 (omega arith) s1))));
+          (λ st1 d1 ag1 s1. unused k (value program p.tree d1) (κ st1) (here is d1) (value_pure program p.tree d1 (or_parts (divides p.tree) (reads p.tree) e).0)
+          (silent program code callers (arrived (state program code callers (spelled_all is) d1))) (h st1 d1 ag1 (since_more t p.temps p.temps p.items [] st d st1 d1 (omega arith) s1))));
     }
 
     pub valued_does : (f : ℕ → ℕ → Lowered) (m : Rest → State → Runs) → ((t l : ℕ) → size ≤ t → Does (f t l) t m) → DoesWay (valued f) m
@@ -256,7 +280,8 @@ module _ (program : TreeProgram) (code : List TreeItem) (callers : List Activati
       drop = λ t l sz. dropped_by (f t l) t m (breaks (f t l).tree) refl sz (does t l sz);
     }
 
-    pub effective_does : (f : ℕ → ℕ → Lowered) (g : ℕ → ℕ → Emitted) (m : Rest → State → Runs) → ((t l : ℕ) → size ≤ t → Does (f t l) t m) → ((t l : ℕ) → size ≤ t → Drops (g t l) t m) → DoesWay (effective f g) m
+    pub effective_does : (f : ℕ → ℕ → Lowered) (g : ℕ → ℕ → Emitted) (m : Rest → State → Runs) → ((t l : ℕ) → size ≤ t → Does (f t l) t m) → ((t l : ℕ) → size ≤ t → Drops (g t l) t m)
+        → DoesWay (effective f g) m
     effective_does f g m does drops = record {
       low = does;
       branch = λ sense to t l sz. test_asks sense to (f t l) t m (does t l sz);
@@ -267,9 +292,11 @@ module _ (program : TreeProgram) (code : List TreeItem) (callers : List Activati
     pub record Makes (f : Tree → Tree → Tree) (g : ℕ → ℕ → Rest → State → Runs) : Type 0 where
       pub below : (u : ℕ) (a b : Tree) → Below u a → Below u b → Below u (f a b)
       pub small : (a b : Tree) → SmallTree a → SmallTree b → SmallTree (f a b)
-      pub makes : (a b : Tree) (st : State) (d : Desk) (κ : Rest) → SmallTree a → SmallTree b → Agrees st d → on (value program (f a b) d) (λ v. κ v st) ≡ on (value program a d) (λ x. on (value program b d) (λ y. g x y κ st))
+      pub makes : (a b : Tree) (st : State) (d : Desk) (κ : Rest) → SmallTree a → SmallTree b → Agrees st d → on (value program (f a b) d) (λ v. κ v st)
+          ≡ on (value program a d) (λ x. on (value program b d) (λ y. g x y κ st))
 
-    pub over_two_does : (f : Tree → Tree → Tree) (g : ℕ → ℕ → Rest → State → Runs) (p : Pair) (t : ℕ) (m : (ℕ → Rest) → State → Runs) → Makes f g → DoesTwo p t m → Does (over_two f p) t (λ κ. m (λ x y. g x y κ))
+    pub over_two_does : (f : Tree → Tree → Tree) (g : ℕ → ℕ → Rest → State → Runs) (p : Pair) (t : ℕ) (m : (ℕ → Rest) → State → Runs) → Makes f g → DoesTwo p t m
+        → Does (over_two f p) t (λ κ. m (λ x y. g x y κ))
     over_two_does f g p t m made does = record {
       grows = does.grows;
       below = made.below p.temps p.first p.second does.below_first does.below_second;
@@ -278,12 +305,14 @@ module _ (program : TreeProgram) (code : List TreeItem) (callers : List Activati
           (λ st1 d1 ag1 s1. subst (λ r. Leads k r (here is d1)) (made.makes p.first p.second st1 d1 κ does.small_first does.small_second ag1) (h st1 d1 ag1 s1));
     }
 
-    pub binary_does : (f : Tree → Tree → Tree) (g : ℕ → ℕ → Rest → State → Runs) (a b : Lowering) (m n : Rest → State → Runs) → Makes f g → DoesWay a m → DoesWay b n → DoesWay (binary size count f a b) (λ κ. m (λ x. n (λ y. g x y κ)))
+    pub binary_does : (f : Tree → Tree → Tree) (g : ℕ → ℕ → Rest → State → Runs) (a b : Lowering) (m n : Rest → State → Runs) → Makes f g → DoesWay a m → DoesWay b n
+        → DoesWay (binary size count f a b) (λ κ. m (λ x. n (λ y. g x y κ)))
     binary_does f g a b m n made does does' =
         valued_does (λ t l. over_two f (joined size count a b t l)) (λ κ. m (λ x. n (λ y. g x y κ)))
         (λ t l sz.
         let first = does.low t l sz in
-        over_two_does f g (joined size count a b t l) t (λ κ. m (λ x. n (κ x))) made (two_does (a.low t l) (b.low (a.low t l).temps (a.low t l).labels) t m n sz first (does'.low (a.low t l).temps (a.low t l).labels (omega (arith, first.grows)))))
+        over_two_does f g (joined size count a b t l) t (λ κ. m (λ x. n (κ x))) made
+        (two_does (a.low t l) (b.low (a.low t l).temps (a.low t l).labels) t m n sz first (does'.low (a.low t l).temps (a.low t l).labels (omega (arith, first.grows)))))
 
     -- a pure operator over a value
     pub record Maps (f : Tree → Tree) (g : ℕ → ℕ) : Type 0 where

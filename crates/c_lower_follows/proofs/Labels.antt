@@ -13,8 +13,11 @@ use Rattle.c_types.specs.declared.typed.Moment.{Moment}
 use Rattle.c_types.specs.declared.typed.Moment.TheVariants as moments
 use Rattle.c_types.specs.declared.typed.Direction.{Direction}
 use Rattle.c_types.specs.Constants.{scale}
-use Rattle.c_types.specs.Typed.{APlace, VariableAt, PointedBy, ElementBy, AnExpression, Constant, LiteralAt, ArrayAt, ReadOf, SizeofTerm, SizeOf, AddressOf, CallOf, StepOf, UnaryOf, CastTo, ConvertTo, ArithmeticOf, CompareOf, BothOf, EitherOf, AdvanceOf, AdvanceByOf, RetreatOf, DistanceOf, ChoiceOf, AssignTo, ArithmeticAssignTo, AdvanceAssignTo, RetreatAssignTo, CommaOf, SomeExpressions, NoExpressions, MoreExpressions}
-use Rattle.c_program.specs.Statements.{ADeclaration, KeepOf, ClearOf, BeginOf, AnAction, SomeActions, NoActions, MoreActions, DeclareOf, BlockOf, EvaluateOf, BreakOf, ContinueOf, ReturnOf, IfOf, IfElseOf, WhileOf, DoOf, ForOf}
+use Rattle.c_types.specs.Typed.{APlace, VariableAt, PointedBy, ElementBy, AnExpression, Constant, LiteralAt, ArrayAt, ReadOf, SizeofTerm, SizeOf, AddressOf, CallOf, StepOf}
+use Rattle.c_types.specs.Typed.{UnaryOf, CastTo, ConvertTo, ArithmeticOf, CompareOf, BothOf, EitherOf, AdvanceOf, AdvanceByOf, RetreatOf, DistanceOf, ChoiceOf, AssignTo}
+use Rattle.c_types.specs.Typed.{ArithmeticAssignTo, AdvanceAssignTo, RetreatAssignTo, CommaOf, SomeExpressions, NoExpressions, MoreExpressions}
+use Rattle.c_program.specs.Statements.{ADeclaration, KeepOf, ClearOf, BeginOf, AnAction, SomeActions, NoActions, MoreActions, DeclareOf, BlockOf, EvaluateOf, BreakOf, ContinueOf}
+use Rattle.c_program.specs.Statements.{ReturnOf, IfOf, IfElseOf, WhileOf, DoOf, ForOf}
 use Rattle.c_program.specs.Programs.{ARoutine}
 use Rattle.c_lower_scheme.specs.Trees.{Tree, Num, Loc, Neg, Com, Bin, Item, Label, AssignLoc, AssignArg, AssignMem, Cbr, Jump, Push, Call, Save, Ret, breaks}
 use Rattle.c_lower_scheme.specs.Spelling.{spelled, spelled_all}
@@ -113,7 +116,8 @@ once_append : (l u w : ℕ) (a b : List Item) → Once l u a → Once u w b → 
 once_append l u w a b h g = record {
   grows = omega (arith, h.grows, g.grows);
   once = λ m. ⊎_elim (λ lt. omega (arith, stands_append m a b, h.once m, g.inside m (inl lt))) (λ ge. omega (arith, stands_append m a b, g.once m, h.inside m (inr ge))) (cases_lt m u);
-  inside = λ m o. ⊎_elim (λ lt. omega (arith, stands_append m a b, h.inside m (inl lt), g.inside m (inl (omega (arith, h.grows))))) (λ ge. omega (arith, stands_append m a b, g.inside m (inr ge), h.inside m (inr (omega (arith, g.grows))))) o;
+  inside = λ m o. ⊎_elim (λ lt. omega (arith, stands_append m a b, h.inside m (inl lt), g.inside m (inl (omega (arith, h.grows)))))
+      (λ ge. omega (arith, stands_append m a b, g.inside m (inr ge), h.inside m (inr (omega (arith, g.grows))))) o;
 }
 
 tag_by : (l m : ℕ) → ((l ≡ m) × (one_if (l == m) ≡ 1)) ⊎ ((l ≡ m → ⊥) × (one_if (l == m) ≡ 0))
@@ -171,14 +175,16 @@ once_valued f h = record {
   drop = λ t l. once_plain l (f t l).labels (f t l).items _ (h t l) (none_saving (breaks (f t l).tree) (f t l).temps (f t l).tree);
 }
 
-once_effective : (f : ℕ → ℕ → Expressions.Lowered) (g : ℕ → ℕ → Expressions.Emitted) → ((t l : ℕ) → Once l (f t l).labels (f t l).items) → ((t l : ℕ) → Once l (g t l).labels (g t l).items) → OnceWay (Expressions.effective f g)
+once_effective : (f : ℕ → ℕ → Expressions.Lowered) (g : ℕ → ℕ → Expressions.Emitted) → ((t l : ℕ) → Once l (f t l).labels (f t l).items) → ((t l : ℕ) → Once l (g t l).labels (g t l).items)
+    → OnceWay (Expressions.effective f g)
 once_effective f g h h' = record {
   low = h;
   branch = λ sense to t l. once_plain l (f t l).labels (f t l).items _ (h t l) (λ m. refl);
   drop = h';
 }
 
-once_conditional : (f : Bool → ℕ → ℕ → ℕ → Expressions.Emitted) (g : ℕ → ℕ → Expressions.Emitted) → ((sense : Bool) (to t l : ℕ) → Once l (f sense to t l).labels (f sense to t l).items) → ((t l : ℕ) → Once l (g t l).labels (g t l).items) → OnceWay (Expressions.conditional f g)
+once_conditional : (f : Bool → ℕ → ℕ → ℕ → Expressions.Emitted) (g : ℕ → ℕ → Expressions.Emitted) → ((sense : Bool) (to t l : ℕ) → Once l (f sense to t l).labels (f sense to t l).items)
+    → ((t l : ℕ) → Once l (g t l).labels (g t l).items) → OnceWay (Expressions.conditional f g)
 once_conditional f g h h' = record {
   low = λ t l. let b = f false l (suc t) (suc l) in once_count l b.labels b.items _ (h false l (suc t) (suc l)) (λ m. omega (arith, stands_append m b.items (AssignLoc t (Num 1) ∷ Label l ∷ [])));
   branch = h;
@@ -189,12 +195,14 @@ once_two : (u : ℕ) (b : Bool) (w : Tree) (l p q : ℕ) (a c : List Item) → O
 once_two u b w l p q a c h g = once_append l p q a (Expressions.saving b u w ++ c) h (once_front p q (Expressions.saving b u w) c (none_saving b u w) g)
 
 once_inner : (l p q : ℕ) (a c : List Item) → Once (suc l) p a → Once p q c → Once l q (a ++ (c ++ (Label l ∷ [])))
-once_inner l p q a c h g = once_count l q (a ++ c) (a ++ (c ++ (Label l ∷ []))) (once_append (suc l) p q a c h g) (λ m. omega (arith, stands_append m a (c ++ (Label l ∷ [])), stands_append m c (Label l ∷ []), stands_append m a c))
+once_inner l p q a c h g = once_count l q (a ++ c) (a ++ (c ++ (Label l ∷ []))) (once_append (suc l) p q a c h g)
+    (λ m. omega (arith, stands_append m a (c ++ (Label l ∷ [])), stands_append m c (Label l ∷ []), stands_append m a c))
 
 once_direct : (l p q : ℕ) (a c : List Item) → Once (suc l) p a → Once p q c → Once l q (a ++ c)
 once_direct l p q a c h g = once_wider l (suc l) q (a ++ c) (omega arith) (once_append (suc l) p q a c h g)
 
-once_chain : (stop sense : Bool) (a b : Expressions.Lowering) (to t l : ℕ) → OnceWay a → OnceWay b → Once l (Expressions.chain stop a b sense to t l).labels (Expressions.chain stop a b sense to t l).items
+once_chain : (stop sense : Bool) (a b : Expressions.Lowering) (to t l : ℕ) → OnceWay a → OnceWay b
+    → Once l (Expressions.chain stop a b sense to t l).labels (Expressions.chain stop a b sense to t l).items
 once_chain true true a b to t l h g = once_direct l _ _ _ _ (h.branch true to t (suc l)) (g.branch true to (a.branch true to t (suc l)).temps (a.branch true to t (suc l)).labels)
 once_chain true false a b to t l h g = once_inner l _ _ _ _ (h.branch true l t (suc l)) (g.branch false to (a.branch true l t (suc l)).temps (a.branch true l t (suc l)).labels)
 once_chain false true a b to t l h g = once_inner l _ _ _ _ (h.branch false l t (suc l)) (g.branch true to (a.branch false l t (suc l)).temps (a.branch false l t (suc l)).labels)
@@ -204,7 +212,8 @@ once_drops : (a b : Expressions.Lowering) (t l : ℕ) → OnceWay a → OnceWay 
 once_drops a b t l h g = once_append l _ _ _ _ (h.drop t l) (g.drop (a.drop t l).temps (a.drop t l).labels)
 
 -- a part, a jump over the other part, and that part
-once_fork : (l p q r : ℕ) (a b c b1 c1 : List Item) → ((m : ℕ) → stands m b1 ≡ 0) → ((m : ℕ) → stands m c1 ≡ 0) → Once (suc (suc l)) p a → Once p q b → Once q r c → Once l r (a ++ (b ++ (b1 ++ (Jump (suc l) ∷ Label l ∷ (c ++ (c1 ++ (Label (suc l) ∷ [])))))))
+once_fork : (l p q r : ℕ) (a b c b1 c1 : List Item) → ((m : ℕ) → stands m b1 ≡ 0) → ((m : ℕ) → stands m c1 ≡ 0) → Once (suc (suc l)) p a → Once p q b → Once q r c
+    → Once l r (a ++ (b ++ (b1 ++ (Jump (suc l) ∷ Label l ∷ (c ++ (c1 ++ (Label (suc l) ∷ [])))))))
 once_fork l p q r a b c b1 c1 z z' h f g =
     let T3 : List Item = c1 ++ (Label (suc l) ∷ []) in
     let T2 : List Item = Jump (suc l) ∷ Label l ∷ (c ++ T3) in
@@ -213,7 +222,18 @@ once_fork l p q r a b c b1 c1 z z' h f g =
     let all = once_append (suc (suc l)) p r a (b ++ c) h (once_append p q r b c f g) in
     let one = once_count (suc l) r inner (Label (suc l) ∷ inner) all (λ m. refl) in
     once_count l r (Label (suc l) ∷ inner) (a ++ T1) one
-    (λ m. omega (arith, stands_append m a T1, stands_append m b (b1 ++ T2), stands_append m b1 T2, stands_append m c T3, stands_append m c1 (Label (suc l) ∷ []), stands_append m a (b ++ c), stands_append m b c, z m, z' m))
+    (λ m. omega (
+      arith,
+      stands_append m a T1,
+      stands_append m b (b1 ++ T2),
+      stands_append m b1 T2,
+      stands_append m c T3,
+      stands_append m c1 (Label (suc l) ∷ []),
+      stands_append m a (b ++ c),
+      stands_append m b c,
+      z m,
+      z' m,
+    ))
 
 once_choose : (c a b : Expressions.Lowering) → OnceWay c → OnceWay a → OnceWay b → OnceWay (Expressions.choose c a b)
 once_choose c a b h f g = once_effective _ _
@@ -221,7 +241,8 @@ once_choose c a b h f g = once_effective _ _
     let p = c.branch false l (suc t) (suc (suc l)) in
     let q = a.low p.temps p.labels in
     let r = b.low q.temps q.labels in
-    once_fork l p.labels q.labels r.labels p.items q.items r.items (AssignLoc t q.tree ∷ []) (AssignLoc t r.tree ∷ []) (λ m. refl) (λ m. refl) (h.branch false l (suc t) (suc (suc l))) (f.low p.temps p.labels) (g.low q.temps q.labels))
+    once_fork l p.labels q.labels r.labels p.items q.items r.items (AssignLoc t q.tree ∷ []) (AssignLoc t r.tree ∷ []) (λ m. refl) (λ m. refl) (h.branch false l (suc t) (suc (suc l)))
+    (f.low p.temps p.labels) (g.low q.temps q.labels))
     (λ t l.
     let p = c.branch false l t (suc (suc l)) in
     let q = a.drop p.temps p.labels in
@@ -239,11 +260,14 @@ once_store_drop r l h = once_plain l r.labels r.items _ h (λ m. omega (arith, n
 once_ready : (b : Bool) (u : ℕ) (s : Expressions.Where) (l p q : ℕ) (a c : List Item) → Once l p a → Once p q c → Once l q (a ++ (Expressions.holding b u s ++ c))
 once_ready b u s l p q a c h g = once_append l p q a _ h (once_front p q (Expressions.holding b u s) c (none_holding b u s) g)
 
-once_update : (b : Bool) (u : ℕ) (s : Expressions.Where) (c : Bool) (v : ℕ) (w : Tree) (l p q : ℕ) (a d : List Item) → Once l p a → Once p q d → Once l q (a ++ (Expressions.holding b u s ++ (Expressions.saving c v w ++ d)))
+once_update : (b : Bool) (u : ℕ) (s : Expressions.Where) (c : Bool) (v : ℕ) (w : Tree) (l p q : ℕ) (a d : List Item) → Once l p a → Once p q d
+    → Once l q (a ++ (Expressions.holding b u s ++ (Expressions.saving c v w ++ d)))
 once_update b u s c v w l p q a d h g = once_ready b u s l p q a (Expressions.saving c v w ++ d) h (once_front p q (Expressions.saving c v w) d (none_saving c v w) g)
 
-once_post : (b : Bool) (u : ℕ) (s : Expressions.Where) (n : ℕ) (w : Tree) (ty : CType) (s' : Expressions.Where) (w' : Tree) (l p : ℕ) (a : List Item) → Once l p a → Once l p (a ++ (Expressions.holding b u s ++ (AssignLoc n w ∷ Expressions.assign_to ty s' w' ∷ [])))
-once_post b u s n w ty s' w' l p a h = once_plain l p a _ h (λ m. omega (arith, stands_append m (Expressions.holding b u s) (AssignLoc n w ∷ Expressions.assign_to ty s' w' ∷ []), none_holding b u s m, none_assign ty s' w' m))
+once_post : (b : Bool) (u : ℕ) (s : Expressions.Where) (n : ℕ) (w : Tree) (ty : CType) (s' : Expressions.Where) (w' : Tree) (l p : ℕ) (a : List Item) → Once l p a
+    → Once l p (a ++ (Expressions.holding b u s ++ (AssignLoc n w ∷ Expressions.assign_to ty s' w' ∷ [])))
+once_post b u s n w ty s' w' l p a h = once_plain l p a _ h (λ m. omega
+    (arith, stands_append m (Expressions.holding b u s) (AssignLoc n w ∷ Expressions.assign_to ty s' w' ∷ []), none_holding b u s m, none_assign ty s' w' m))
 
 once_call : (f : ℕ) (q : Expressions.Passing) (l : ℕ) → Once l q.labels q.items → Once l (Expressions.called_low f q).labels (Expressions.called_low f q).items
 once_call f q l h = once_plain l q.labels q.items _ h (λ m. stands_pushes m q.trees _)
@@ -267,13 +291,16 @@ module _ (size count : ℕ) where
   once_unary unaries.Complement e h = once_mapped Com e h
   once_unary unaries.Not e h = once_conditional _ e.drop (λ sense to t l. h.branch (not sense) to t l) h.drop
 
-  once_updates : (f : CType → Tree → Tree → Tree) (p : ℕ → ℕ → Expressions.Located) (e : Expressions.Lowering) → ((t l : ℕ) → Once l (p t l).labels (p t l).items) → OnceWay e → OnceWay (Expressions.update_by size count f p e)
+  once_updates : (f : CType → Tree → Tree → Tree) (p : ℕ → ℕ → Expressions.Located) (e : Expressions.Lowering) → ((t l : ℕ) → Once l (p t l).labels (p t l).items) → OnceWay e
+      → OnceWay (Expressions.update_by size count f p e)
   once_updates f p e h g = once_effective _ _
       (λ t l. let r = Expressions.updated size count f (p t l) e.low in once_store_low r.place r l (once_update _ _ _ _ _ _ l (p t l).labels _ _ _ (h t l) (g.low (p t l).temps (p t l).labels)))
       (λ t l. let r = Expressions.updated size count f (p t l) e.low in once_store_drop r l (once_update _ _ _ _ _ _ l (p t l).labels _ _ _ (h t l) (g.low (p t l).temps (p t l).labels)))
 
-  once_step : (m : Moment) (by : Direction) (p : Expressions.Located) (l : ℕ) → Once l p.labels p.items → Once l (Expressions.step_low size count m by p).labels (Expressions.step_low size count m by p).items
-  once_step moments.Before by p l h = once_post _ _ _ _ _ p.type _ (Expressions.step by (Loc (Expressions.next_if (Expressions.must_keep size count [] p.place) p.temps)) (Num (scale p.type))) l p.labels _ h
+  once_step : (m : Moment) (by : Direction) (p : Expressions.Located) (l : ℕ) → Once l p.labels p.items
+      → Once l (Expressions.step_low size count m by p).labels (Expressions.step_low size count m by p).items
+  once_step moments.Before by p l h = once_post _ _ _ _ _ p.type _ (Expressions.step by (Loc (Expressions.next_if (Expressions.must_keep size count [] p.place) p.temps))
+      (Num (scale p.type))) l p.labels _ h
   once_step moments.After by p l h = let r = Expressions.step_ready size count by p in once_store_low r.place r l (once_ready _ _ _ l p.labels p.labels _ [] h (once_nil p.labels))
 
   mutual
@@ -290,15 +317,21 @@ module _ (size count : ℕ) where
     once_way (SizeofTerm n e) = once_valued _ (λ t l. once_nil l)
     once_way (SizeOf n) = once_valued _ (λ t l. once_nil l)
     once_way (AddressOf ty a) = once_valued _ (λ t l. once_seek a t l)
-    once_way (CallOf ty f to es) = once_effective _ _ (λ t l. once_call _ (Expressions.pass size count es to t l) l (once_pass es to t l)) (λ t l. once_call_drop _ (Expressions.pass size count es to t l) l (once_pass es to t l))
-    once_way (StepOf m by a) = once_effective _ _ (λ t l. once_step m by (Expressions.seek size count a t l) l (once_seek a t l)) (λ t l. once_store_drop (Expressions.step_ready size count by (Expressions.seek size count a t l)) l (once_ready _ _ _ l (Expressions.seek size count a t l).labels (Expressions.seek size count a t l).labels _ [] (once_seek a t l) (once_nil (Expressions.seek size count a t l).labels)))
+    once_way (CallOf ty f to es) = once_effective _ _ (λ t l. once_call _ (Expressions.pass size count es to t l) l (once_pass es to t l))
+        (λ t l. once_call_drop _ (Expressions.pass size count es to t l) l (once_pass es to t l))
+    once_way (StepOf m by a) = once_effective _ _ (λ t l. once_step m by (Expressions.seek size count a t l) l (once_seek a t l))
+        (λ t l. once_store_drop (Expressions.step_ready size count by (Expressions.seek size count a t l)) l
+        (once_ready _ _ _ l (Expressions.seek size count a t l).labels (Expressions.seek size count a t l).labels _ [] (once_seek a t l) (once_nil (Expressions.seek size count a t l).labels)))
     once_way (UnaryOf op e) = once_unary op _ (once_way e)
     once_way (CastTo ty e) = once_mapped (Expressions.fitted ty) _ (once_way e)
     once_way (ConvertTo ty e) = once_mapped (Expressions.fitted ty) _ (once_way e)
     once_way (ArithmeticOf op a b) = once_binary (Bin op) _ _ (once_way a) (once_way b)
-    once_way (CompareOf r a b) = once_conditional _ _ (λ sense to t l. once_plain l _ _ _ (once_joined _ _ t l (once_way a) (once_way b)) (λ m. refl)) (λ t l. once_drops _ _ t l (once_way a) (once_way b))
-    once_way (BothOf a b) = once_conditional _ _ (λ sense to t l. once_chain false sense _ _ to t l (once_way a) (once_way b)) (λ t l. once_inner l _ _ _ _ ((once_way a).branch false l t (suc l)) ((once_way b).drop _ _))
-    once_way (EitherOf a b) = once_conditional _ _ (λ sense to t l. once_chain true sense _ _ to t l (once_way a) (once_way b)) (λ t l. once_inner l _ _ _ _ ((once_way a).branch true l t (suc l)) ((once_way b).drop _ _))
+    once_way (CompareOf r a b) = once_conditional _ _ (λ sense to t l. once_plain l _ _ _ (once_joined _ _ t l (once_way a) (once_way b)) (λ m. refl))
+        (λ t l. once_drops _ _ t l (once_way a) (once_way b))
+    once_way (BothOf a b) = once_conditional _ _ (λ sense to t l. once_chain false sense _ _ to t l (once_way a) (once_way b))
+        (λ t l. once_inner l _ _ _ _ ((once_way a).branch false l t (suc l)) ((once_way b).drop _ _))
+    once_way (EitherOf a b) = once_conditional _ _ (λ sense to t l. once_chain true sense _ _ to t l (once_way a) (once_way b))
+        (λ t l. once_inner l _ _ _ _ ((once_way a).branch true l t (suc l)) ((once_way b).drop _ _))
     once_way (AdvanceOf ty a b) = once_binary (Expressions.advance ty) _ _ (once_way a) (once_way b)
     once_way (AdvanceByOf ty a b) = once_binary (Expressions.advance_by ty) _ _ (once_way a) (once_way b)
     once_way (RetreatOf ty a b) = once_binary (Expressions.retreat ty) _ _ (once_way a) (once_way b)
@@ -339,7 +372,8 @@ module _ (size count : ℕ) where
   once_declare (BeginOf n e ∷ ds) l =
       let q = (Expressions.way size count e).low size l in
       let b = Statements.mentions n e in
-      once_append l q.labels _ _ _ (once_front l q.labels (Statements.clearing b n) (q.items ++ (AssignLoc n q.tree ∷ [])) (none_clearing b n) (once_plain l q.labels q.items (AssignLoc n q.tree ∷ []) ((once_way e).low size l) (λ m. refl))) (once_declare ds q.labels)
+      once_append l q.labels _ _ _ (once_front l q.labels (Statements.clearing b n) (q.items ++ (AssignLoc n q.tree ∷ [])) (none_clearing b n)
+      (once_plain l q.labels q.items (AssignLoc n q.tree ∷ []) ((once_way e).low size l) (λ m. refl))) (once_declare ds q.labels)
 
   once_while : (l p q : ℕ) (a b : List Item) → Once (suc (suc l)) p a → Once p q b → Once l q (Label l ∷ (a ++ (b ++ (Jump l ∷ Label (suc l) ∷ []))))
   once_while l p q a b h g =
@@ -350,7 +384,8 @@ module _ (size count : ℕ) where
       once_count l q (Label (suc l) ∷ inner) (Label l ∷ (a ++ T1)) one (λ m. omega (arith, stands_append m a T1, stands_append m b T2, stands_append m a b))
 
   -- three labels: the top's, the one for `continue`, the end's
-  once_three : (l q : ℕ) (inner js : List Item) → Once (suc (suc (suc l))) q inner → ((m : ℕ) → stands m js ≡ one_if (l == m) + (one_if (suc l == m) + (one_if (suc (suc l) == m) + stands m inner))) → Once l q js
+  once_three : (l q : ℕ) (inner js : List Item) → Once (suc (suc (suc l))) q inner
+      → ((m : ℕ) → stands m js ≡ one_if (l == m) + (one_if (suc l == m) + (one_if (suc (suc l) == m) + stands m inner))) → Once l q js
   once_three l q inner js h e =
       let one = once_count (suc (suc l)) q inner (Label (suc (suc l)) ∷ inner) h (λ m. refl) in
       let two = once_count (suc l) q (Label (suc (suc l)) ∷ inner) (Label (suc l) ∷ Label (suc (suc l)) ∷ inner) one (λ m. refl) in
@@ -368,14 +403,17 @@ module _ (size count : ℕ) where
       let T1 : List Item = Label (suc l) ∷ (b ++ T2) in
       once_three l q (a ++ b) _ (once_append (suc (suc (suc l))) p q a b h g) (λ m. omega (arith, stands_append m a T1, stands_append m b T2, stands_append m a b))
 
-  once_for : (l p q r : ℕ) (a b c : List Item) → Once (suc (suc (suc l))) p a → Once p q b → Once q r c → Once l r (Label l ∷ (a ++ (b ++ (Label (suc l) ∷ (c ++ (Jump l ∷ Label (suc (suc l)) ∷ []))))))
+  once_for : (l p q r : ℕ) (a b c : List Item) → Once (suc (suc (suc l))) p a → Once p q b → Once q r c
+      → Once l r (Label l ∷ (a ++ (b ++ (Label (suc l) ∷ (c ++ (Jump l ∷ Label (suc (suc l)) ∷ []))))))
   once_for l p q r a b c h g f =
       let T3 : List Item = Jump l ∷ Label (suc (suc l)) ∷ [] in
       let T2 : List Item = Label (suc l) ∷ (c ++ T3) in
       let T1 : List Item = b ++ T2 in
-      once_three l r (a ++ (b ++ c)) _ (once_append (suc (suc (suc l))) p r a (b ++ c) h (once_append p q r b c g f)) (λ m. omega (arith, stands_append m a T1, stands_append m b T2, stands_append m c T3, stands_append m a (b ++ c), stands_append m b c))
+      once_three l r (a ++ (b ++ c)) _ (once_append (suc (suc (suc l))) p r a (b ++ c) h (once_append p q r b c g f))
+      (λ m. omega (arith, stands_append m a T1, stands_append m b T2, stands_append m c T3, stands_append m a (b ++ c), stands_append m b c))
 
-  once_fors : (c e : Option AnExpression) (l : ℕ) (f : ℕ → Expressions.Emitted) → ((m : ℕ) → Once m (f m).labels (f m).items) → Once l (Statements.for_of size count l c e f).labels (Statements.for_of size count l c e f).items
+  once_fors : (c e : Option AnExpression) (l : ℕ) (f : ℕ → Expressions.Emitted) → ((m : ℕ) → Once m (f m).labels (f m).items)
+      → Once l (Statements.for_of size count l c e f).labels (Statements.for_of size count l c e f).items
   once_fors None e l f h = let b = f (suc (suc (suc l))) in once_ever l b.labels _ b.items _ (h (suc (suc (suc l)))) (once_effect e b.labels)
   once_fors (Some c) e l f h =
       let q = Statements.unless size count c (suc (suc l)) (suc (suc (suc l))) in

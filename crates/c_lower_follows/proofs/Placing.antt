@@ -47,8 +47,10 @@ bytes_set (x ∷ xs) (suc n) v lt h = (h.0, bytes_set xs n v lt h.1)
 
 number_bytes : (z : Size) (area : List ℕ) (x v : ℕ) → AreBytes area → AreBytes (with_number z area x v)
 number_bytes sizes.Byte area x v h = bytes_set area x (v % 2 ^ 8) (omega arith) h
-number_bytes sizes.Word area x v h = bytes_append (take x area) _ (bytes_take x area h) (bytes_append (to_le_bytes w16 (v % 2 ^ 16)) (drop (x + 2) area) (omega arith, (omega arith, tt)) (bytes_drop (x + 2) area h))
-number_bytes sizes.Long area x v h = bytes_append (take x area) _ (bytes_take x area h) (bytes_append (to_le_bytes w32 v) (drop (x + 4) area) (omega arith, (omega arith, (omega arith, (omega arith, tt)))) (bytes_drop (x + 4) area h))
+number_bytes sizes.Word area x v h = bytes_append (take x area) _ (bytes_take x area h)
+    (bytes_append (to_le_bytes w16 (v % 2 ^ 16)) (drop (x + 2) area) (omega arith, (omega arith, tt)) (bytes_drop (x + 2) area h))
+number_bytes sizes.Long area x v h = bytes_append (take x area) _ (bytes_take x area h)
+    (bytes_append (to_le_bytes w32 v) (drop (x + 4) area) (omega arith, (omega arith, (omega arith, (omega arith, tt)))) (bytes_drop (x + 4) area h))
 
 stored_by : (b : Bool) (xs ys : List ℕ) → cond b (Some xs) None ≡ Some ys → xs ≡ ys
 stored_by true xs ys e = cc
@@ -85,7 +87,8 @@ stored_kept ints.Short area x v = stored_zext16 area x (sext16 v) v (low_sext16 
 stored_kept ints.UnsignedShort area x v = stored_zext16 area x (zext16 v) v (low_zext16 v)
 stored_kept ints.Int area x v = refl
 
-pub stored_narrowed : (program : TreeProgram) (code : List TreeItem) (callers : List Activation) (i : Integer) (area : List ℕ) (x v : ℕ) → stored (integer_access i) area x (narrowed program code callers i v) ≡ stored (integer_access i) area x v
+pub stored_narrowed : (program : TreeProgram) (code : List TreeItem) (callers : List Activation) (i : Integer) (area : List ℕ) (x v : ℕ)
+    → stored (integer_access i) area x (narrowed program code callers i v) ≡ stored (integer_access i) area x v
 stored_narrowed p c cs ints.Char area x v = stored_zext8 area x (zext8 v) v (low_zext8 v)
 stored_narrowed p c cs ints.UnsignedChar area x v = stored_zext8 area x (zext8 v) v (low_zext8 v)
 stored_narrowed p c cs ints.Short area x v = stored_zext16 area x (zext16 v) v (low_zext16 v)
@@ -137,7 +140,8 @@ module _ (program : TreeProgram) (code : List TreeItem) (callers : List Activati
     pub grows : t ≤ p.temps
     pub fits : FitsPlace p.temps p.place
     pub small : SmallPlace p.place
-    pub runs : (k : ℕ) → k ≤ level → (is : List Item) (κ : RestAt) → Resolves code (p.items ++ is) → (st : State) (d : Desk) → ok st d → Onto program code callers size count scope level k t p.temps p.items is st d (λ st' d'. place_on program p.place d' (λ s. κ p.type s st')) → Leads k (m κ st) (run_at (p.items ++ is) d)
+    pub runs : (k : ℕ) → k ≤ level → (is : List Item) (κ : RestAt) → Resolves code (p.items ++ is) → (st : State) (d : Desk) → ok st d
+        → Onto program code callers size count scope level k t p.temps p.items is st d (λ st' d'. place_on program p.place d' (λ s. κ p.type s st')) → Leads k (m κ st) (run_at (p.items ++ is) d)
 
   -- a place and a value for it
   pub record DoesReady (r : Assignable) (t : ℕ) (m : (CType → Spot → Rest) → State → Runs) : Type 0 where
@@ -146,7 +150,9 @@ module _ (program : TreeProgram) (code : List TreeItem) (callers : List Activati
     pub small : SmallPlace r.place
     pub below_value : Below r.temps r.value
     pub small_value : SmallTree r.value
-    pub runs : (k : ℕ) → k ≤ level → (is : List Item) (κ : CType → Spot → Rest) → Resolves code (r.items ++ is) → (st : State) (d : Desk) → ok st d → Onto program code callers size count scope level k t r.temps r.items is st d (λ st' d'. place_on program r.place d' (λ s. on (value program r.value d') (λ v. κ r.type s v st'))) → Leads k (m κ st) (run_at (r.items ++ is) d)
+    pub runs : (k : ℕ) → k ≤ level → (is : List Item) (κ : CType → Spot → Rest) → Resolves code (r.items ++ is) → (st : State) (d : Desk) → ok st d
+        → Onto program code callers size count scope level k t r.temps r.items is st d (λ st' d'. place_on program r.place d' (λ s. on (value program r.value d') (λ v. κ r.type s v st')))
+        → Leads k (m κ st) (run_at (r.items ++ is) d)
 
   void_by : (k : ℕ) (o : Value) (f : ℕ → Value) (κ : ℕ → Runs) (q : Runs) → (q 0).output ≡ [] → Leads k (on (bind o f) κ) q → Leads k (on o (λ x. stop ends.Wild)) q
   void_by k (Number x) f κ q s h = leads_wild k q s
@@ -158,7 +164,8 @@ module _ (program : TreeProgram) (code : List TreeItem) (callers : List Activati
   loaded_by i None κ st = refl
   loaded_by i (Some v) κ st = refl
 
-  loaded_pointer : (i : Integer) (n : ℕ) (o : Option ℕ) (κ : Rest) (st : State) → on (bind (there o) (λ v. Number (kept ints.Int v))) (λ v. κ v st) ≡ or_wild (option_map (converted (types.Pointer i n)) o) κ st
+  loaded_pointer : (i : Integer) (n : ℕ) (o : Option ℕ) (κ : Rest) (st : State) → on (bind (there o) (λ v. Number (kept ints.Int v))) (λ v. κ v st)
+      ≡ or_wild (option_map (converted (types.Pointer i n)) o) κ st
   unfolding converted kept
   loaded_pointer i n None κ st = refl
   loaded_pointer i n (Some v) κ st = refl
@@ -171,12 +178,18 @@ module _ (program : TreeProgram) (code : List TreeItem) (callers : List Activati
   quiet_written is d (Some area) = quiet_at is (record d { area = area })
 
   -- reading a place
-  pub read_mem : (ty : CType) (a : Tree) (k : ℕ) (is : List Item) (κ : Rest) (st : State) (d : Desk) → ok st d → Leads k (on (value program (Indir (integer_of ty) a) d) (λ v. κ v st)) (run_at is d) → Leads k (on (value program a d) (λ x. read_at ty (Memory x) κ st)) (run_at is d)
+  pub read_mem : (ty : CType) (a : Tree) (k : ℕ) (is : List Item) (κ : Rest) (st : State) (d : Desk) → ok st d
+      → Leads k (on (value program (Indir (integer_of ty) a) d) (λ v. κ v st)) (run_at is d) → Leads k (on (value program a d) (λ x. read_at ty (Memory x) κ st)) (run_at is d)
   read_mem types.Void a k is κ st d ag h = void_by k (value program a d) _ (λ v. κ v st) (run_at is d) (quiet_at is d) h
-  read_mem (types.Integer i) a k is κ st d ag h = subst (λ r. Leads k r (run_at is d)) (on_bind (value program a d) _ (λ v. κ v st) ∙ (λ j. on (value program a d) (λ x. loaded_by i (fetched (integer_access i) d.area x) κ st j)) ∙ ap (λ z. on (value program a d) (λ x. or_wild (option_map (converted (types.Integer i)) (fetched (integer_access i) z x)) κ st)) ag.area) h
-  read_mem (types.Pointer i n) a k is κ st d ag h = subst (λ r. Leads k r (run_at is d)) (on_bind (value program a d) _ (λ v. κ v st) ∙ (λ j. on (value program a d) (λ x. loaded_pointer i n (fetched sizes.Long d.area x) κ st j)) ∙ ap (λ z. on (value program a d) (λ x. or_wild (option_map (converted (types.Pointer i n)) (fetched sizes.Long z x)) κ st)) ag.area) h
+  read_mem (types.Integer i) a k is κ st d ag h = subst (λ r. Leads k r (run_at is d))
+      (on_bind (value program a d) _ (λ v. κ v st) ∙ (λ j. on (value program a d) (λ x. loaded_by i (fetched (integer_access i) d.area x) κ st j))
+      ∙ ap (λ z. on (value program a d) (λ x. or_wild (option_map (converted (types.Integer i)) (fetched (integer_access i) z x)) κ st)) ag.area) h
+  read_mem (types.Pointer i n) a k is κ st d ag h = subst (λ r. Leads k r (run_at is d))
+      (on_bind (value program a d) _ (λ v. κ v st) ∙ (λ j. on (value program a d) (λ x. loaded_pointer i n (fetched sizes.Long d.area x) κ st j))
+      ∙ ap (λ z. on (value program a d) (λ x. or_wild (option_map (converted (types.Pointer i n)) (fetched sizes.Long z x)) κ st)) ag.area) h
 
-  pub read_place : (s : Where) (ty : CType) (u k : ℕ) (is : List Item) (κ : Rest) (st : State) (d : Desk) → FitsPlace u s → ok st d → Leads k (on (value program (read_from ty s) d) (λ v. κ v st)) (run_at is d) → Leads k (place_on program s d (λ s. read_at ty s κ st)) (run_at is d)
+  pub read_place : (s : Where) (ty : CType) (u k : ℕ) (is : List Item) (κ : Rest) (st : State) (d : Desk) → FitsPlace u s → ok st d
+      → Leads k (on (value program (read_from ty s) d) (λ v. κ v st)) (run_at is d) → Leads k (place_on program s d (λ s. read_at ty s κ st)) (run_at is d)
   read_place (InLoc n) ty u k is κ st d fit ag h = subst (λ r. Leads k r (run_at is d)) (on_there (d.locals n) κ st ∙ ap (λ o. or_wild o κ st) (ag.local n fit)) h
   read_place (InArg n) ty u k is κ st d fit ag h = subst (λ r. Leads k r (run_at is d)) (on_there (slice_get d.arguments n) κ st ∙ ap (λ l. or_wild (slice_get l n) κ st) ag.arguments) h
   read_place (InMem a) ty u k is κ st d fit ag h = read_mem ty a k is κ st d ag h
@@ -220,7 +233,8 @@ module _ (program : TreeProgram) (code : List TreeItem) (callers : List Activati
         small_address (InArg n) h = omega arith
         small_address (InMem a) h = h
 
-        address_place : (k : ℕ) (s : Where) (is : List Item) (κ : Rest) (st : State) (d : Desk) → Leads k (on (value program (address_tree s) d) (λ v. κ v st)) (run_at is d) → Leads k (place_on program s d (λ s. address_of s κ st)) (run_at is d)
+        address_place : (k : ℕ) (s : Where) (is : List Item) (κ : Rest) (st : State) (d : Desk) → Leads k (on (value program (address_tree s) d) (λ v. κ v st)) (run_at is d)
+            → Leads k (place_on program s d (λ s. address_of s κ st)) (run_at is d)
         address_place k (InLoc n) is κ st d h = leads_wild k _ (quiet_at is d)
         address_place k (InArg n) is κ st d h = leads_wild k _ (quiet_at is d)
         address_place k (InMem a) is κ st d h = h
@@ -265,7 +279,8 @@ module _ (program : TreeProgram) (code : List TreeItem) (callers : List Activati
 
     -- a value is put where a place is, on both sides
     put_local_by : (n u k : ℕ) (is : List Item) (κ : Rest) (st : State) (d : Desk) (b : Bool) → nat_lt n (length st.call.locals) ≡ b → u < 2 ^ 32 → ok st d
-        → (n < size → ok (with_locals st (slice_set st.call.locals n u)) (record d { locals = with_local d.locals n u }) → Leads k (κ u (with_locals st (slice_set st.call.locals n u))) (run_at is (record d { locals = with_local d.locals n u })))
+        → (n < size → ok (with_locals st (slice_set st.call.locals n u)) (record d { locals = with_local d.locals n u })
+        → Leads k (κ u (with_locals st (slice_set st.call.locals n u))) (run_at is (record d { locals = with_local d.locals n u })))
         → Leads k (written (option_map (with_locals st) (cond b (Some (slice_set st.call.locals n u)) None)) u κ) (run_at is (record d { locals = with_local d.locals n u }))
     put_local_by n u k is κ st d false e lt ag h = leads_wild k _ (quiet_at is _)
     put_local_by n u k is κ st d true e lt ag h =
@@ -283,7 +298,8 @@ module _ (program : TreeProgram) (code : List TreeItem) (callers : List Activati
         })
 
     pub put_local_step : (n u k : ℕ) (is : List Item) (κ : Rest) (st : State) (d : Desk) → u < 2 ^ 32 → ok st d
-        → (n < size → ok (with_locals st (slice_set st.call.locals n u)) (record d { locals = with_local d.locals n u }) → Leads k (κ u (with_locals st (slice_set st.call.locals n u))) (run_at is (record d { locals = with_local d.locals n u })))
+        → (n < size → ok (with_locals st (slice_set st.call.locals n u)) (record d { locals = with_local d.locals n u })
+        → Leads k (κ u (with_locals st (slice_set st.call.locals n u))) (run_at is (record d { locals = with_local d.locals n u })))
         → Leads k (written (put_local n u st) u κ) (run_at is (record d { locals = with_local d.locals n u }))
     put_local_step n u k is κ st d lt ag h = put_local_by n u k is κ st d (nat_lt n (length st.call.locals)) refl lt ag h
 
@@ -295,7 +311,8 @@ module _ (program : TreeProgram) (code : List TreeItem) (callers : List Activati
         (cases_eq m n)
 
     put_argument_by : (n u k : ℕ) (is : List Item) (κ : Rest) (st : State) (d : Desk) (b : Bool) → nat_lt n (length st.call.parameters) ≡ b → u < 2 ^ 32 → ok st d
-        → (n < length d.arguments → ok (with_parameters st (slice_set st.call.parameters n u)) (record d { arguments = slice_set d.arguments n u }) → Leads k (κ u (with_parameters st (slice_set st.call.parameters n u))) (run_at is (record d { arguments = slice_set d.arguments n u })))
+        → (n < length d.arguments → ok (with_parameters st (slice_set st.call.parameters n u)) (record d { arguments = slice_set d.arguments n u })
+        → Leads k (κ u (with_parameters st (slice_set st.call.parameters n u))) (run_at is (record d { arguments = slice_set d.arguments n u })))
         → Leads k (written (option_map (with_parameters st) (cond b (Some (slice_set st.call.parameters n u)) None)) u κ) (run_at is (record d { arguments = slice_set d.arguments n u }))
     put_argument_by n u k is κ st d false e lt ag h = leads_wild k _ (quiet_at is _)
     put_argument_by n u k is κ st d true e lt ag h =
@@ -314,7 +331,8 @@ module _ (program : TreeProgram) (code : List TreeItem) (callers : List Activati
         })
 
     pub put_argument_step : (n u k : ℕ) (is : List Item) (κ : Rest) (st : State) (d : Desk) → u < 2 ^ 32 → ok st d
-        → (n < length d.arguments → ok (with_parameters st (slice_set st.call.parameters n u)) (record d { arguments = slice_set d.arguments n u }) → Leads k (κ u (with_parameters st (slice_set st.call.parameters n u))) (run_at is (record d { arguments = slice_set d.arguments n u })))
+        → (n < length d.arguments → ok (with_parameters st (slice_set st.call.parameters n u)) (record d { arguments = slice_set d.arguments n u })
+        → Leads k (κ u (with_parameters st (slice_set st.call.parameters n u))) (run_at is (record d { arguments = slice_set d.arguments n u })))
         → Leads k (written (option_map (with_parameters st) (set_at st.call.parameters n u)) u κ) (run_at is (record d { arguments = slice_set d.arguments n u }))
     put_argument_step n u k is κ st d lt ag h = put_argument_by n u k is κ st d (nat_lt n (length st.call.parameters)) refl lt ag h
 
@@ -344,9 +362,11 @@ module _ (program : TreeProgram) (code : List TreeItem) (callers : List Activati
         let two = subst (λ a. Leads k (written (option_map (with_area st) (stored z a x v)) u κ) (written_at program code callers is d (stored z d.area x v))) ag.area one in
         subst (λ o. Leads k (written (option_map (with_area st) (stored z st.area x v)) u κ) (written_at program code callers is d o)) (sym same) two
 
-    pub put_memory_step : (ty : CType) (x v w k : ℕ) (is : List Item) (κ : Rest) (st : State) (d : Desk) → stored (integer_access (integer_of ty)) d.area x (narrowed program code callers (integer_of ty) w) ≡ stored (integer_access (integer_of ty)) d.area x v → ok st d
+    pub put_memory_step : (ty : CType) (x v w k : ℕ) (is : List Item) (κ : Rest) (st : State) (d : Desk)
+        → stored (integer_access (integer_of ty)) d.area x (narrowed program code callers (integer_of ty) w) ≡ stored (integer_access (integer_of ty)) d.area x v → ok st d
         → ((area : List ℕ) → ok (with_area st area) (record d { area = area }) → Leads k (κ v (with_area st area)) (run_at is (record d { area = area })))
         → Leads k (written (put ty (Memory x) v st) v κ) (written_at program code callers is d (stored (integer_access (integer_of ty)) d.area x (narrowed program code callers (integer_of ty) w)))
-    put_memory_step types.Void x v w k is κ st d same ag h = leads_wild k _ (quiet_written is d (stored (integer_access (integer_of types.Void)) d.area x (narrowed program code callers (integer_of types.Void) w)))
+    put_memory_step types.Void x v w k is κ st d same ag h = leads_wild k _
+        (quiet_written is d (stored (integer_access (integer_of types.Void)) d.area x (narrowed program code callers (integer_of types.Void) w)))
     put_memory_step (types.Integer i) x v w k is κ st d same ag h = put_area_step (integer_access i) x v _ v k is κ st d same ag h
     put_memory_step (types.Pointer i n) x v w k is κ st d same ag h = put_area_step sizes.Long x v _ v k is κ st d same ag h

@@ -14,8 +14,11 @@ use Rattle.tree_meaning.specs.Meaning.{runs}
 use Rattle.c_types.specs.declared.types.CType.{CType}
 use Rattle.c_types.specs.declared.typed.Variable.{Variable}
 use Rattle.c_types.specs.declared.typed.Variable.TheVariants as variables
-use Rattle.c_types.specs.Typed.{APlace, VariableAt, PointedBy, ElementBy, AnExpression, Constant, LiteralAt, ArrayAt, ReadOf, SizeofTerm, SizeOf, AddressOf, CallOf, StepOf, UnaryOf, CastTo, ConvertTo, ArithmeticOf, CompareOf, BothOf, EitherOf, AdvanceOf, AdvanceByOf, RetreatOf, DistanceOf, ChoiceOf, AssignTo, ArithmeticAssignTo, AdvanceAssignTo, RetreatAssignTo, CommaOf, SomeExpressions, NoExpressions, MoreExpressions}
-use Rattle.c_program.specs.Statements.{ADeclaration, KeepOf, ClearOf, BeginOf, AnAction, SomeActions, NoActions, MoreActions, DeclareOf, BlockOf, EvaluateOf, BreakOf, ContinueOf, ReturnOf, IfOf, IfElseOf, WhileOf, DoOf, ForOf}
+use Rattle.c_types.specs.Typed.{APlace, VariableAt, PointedBy, ElementBy, AnExpression, Constant, LiteralAt, ArrayAt, ReadOf, SizeofTerm, SizeOf, AddressOf, CallOf, StepOf}
+use Rattle.c_types.specs.Typed.{UnaryOf, CastTo, ConvertTo, ArithmeticOf, CompareOf, BothOf, EitherOf, AdvanceOf, AdvanceByOf, RetreatOf, DistanceOf, ChoiceOf, AssignTo}
+use Rattle.c_types.specs.Typed.{ArithmeticAssignTo, AdvanceAssignTo, RetreatAssignTo, CommaOf, SomeExpressions, NoExpressions, MoreExpressions}
+use Rattle.c_program.specs.Statements.{ADeclaration, KeepOf, ClearOf, BeginOf, AnAction, SomeActions, NoActions, MoreActions, DeclareOf, BlockOf, EvaluateOf, BreakOf, ContinueOf}
+use Rattle.c_program.specs.Statements.{ReturnOf, IfOf, IfElseOf, WhileOf, DoOf, ForOf}
 use Rattle.c_program.specs.Programs.{ARoutine, AProgram}
 use Rattle.c_meaning.specs.declared.flow.Flow.TheVariants.{Onward, Broke, Continued, Returned}
 use Rattle.c_meaning.specs.State.{State, with_locals, put_local}
@@ -24,7 +27,8 @@ use Rattle.c_meaning.specs.Meaning.{returned as returned_source}
 use Rattle.c_lower_scheme.specs.Trees.{Tree, Num, Item, Label, AssignLoc, Jump, Ret}
 use Rattle.c_lower_scheme.specs.Spelling.{spelled_all}
 use Rattle.c_lower_scheme.specs.Expressions.{Emitted, way}
-use Rattle.c_lower_scheme.specs.Statements.{is_local, place_mentions, mentions, any_mentions, begin_of, if_done, if_else_done, while_done, do_done, for_done, ever_done, unless, when, effect, returning, declare, for_of, lower, lower_row}
+use Rattle.c_lower_scheme.specs.Statements.{is_local, place_mentions, mentions, any_mentions, begin_of, if_done, if_else_done, while_done, do_done, for_done, ever_done, unless}
+use Rattle.c_lower_scheme.specs.Statements.{when, effect, returning, declare, for_of, lower, lower_row}
 use Rattle.c_sound.specs.Fits.{AreBytes, StandsIn, FitsAt, Fits, FitsAll, FitsMaybe, more, declaring, behind_act, FitsDeclared, FitsAct, FitsActs}
 use Rattle.c_lower_follows.proofs.Values.{SmallTree, Small, worth_small}
 use Rattle.c_lower_follows.proofs.Leads.{Leads, leads_wild, leads_quiet, leads_counted, leads_none, leads_below}
@@ -131,7 +135,17 @@ behind_within size scope inside (DoOf a c) fit within x h = within x h
 behind_within size scope inside (ForOf i c e a) fit within x h = within x h
 
 pub agree_less : (size depth : ℕ) (less scope : ℕ → Type 0) (st : State) (d : Desk) → ((x : ℕ) → less x → scope x) → Agree size scope depth st d → Agree size less depth st d
-agree_less size depth less scope st d sub h = record { local = λ x l. h.local x (sub x l); count = h.count; arguments = h.arguments; area = h.area; input = h.input; pushed = h.pushed; active = h.active; ranged = h.ranged; bytes = h.bytes }
+agree_less size depth less scope st d sub h = record {
+  local = λ x l. h.local x (sub x l);
+  count = h.count;
+  arguments = h.arguments;
+  area = h.area;
+  input = h.input;
+  pushed = h.pushed;
+  active = h.active;
+  ranged = h.ranged;
+  bytes = h.bytes;
+}
 
 module _ (program : TreeProgram) (code : List TreeItem) (callers : List Activation) (size count level : ℕ) where
   abbrev fair : (ℕ → Type 0) → State → Desk → Type 0
@@ -148,7 +162,8 @@ module _ (program : TreeProgram) (code : List TreeItem) (callers : List Activati
     pub left : (v : ℕ) (st : State) → v < 2 ^ 32 → AreBytes st.area → AreBytes st.input → Leads k (κ (Returned v) st) (runs program (returned v callers st.area st.input))
 
   abbrev pub DoesStmt : (q : Emitted) (lb lc : ℕ) (inside : Bool) (outer scope after : ℕ → Type 0) (m : Behind → State → Runs) → Type 0
-  DoesStmt q lb lc inside outer scope after m = (k : ℕ) → k ≤ level → (is : List Item) (κ : Behind) → Resolves code (q.items ++ is) → Lands k lb lc inside outer after is κ → (st : State) (d : Desk) → fair scope st d → Leads k (m κ st) (from (q.items ++ is) d)
+  DoesStmt q lb lc inside outer scope after m = (k : ℕ) → k ≤ level → (is : List Item) (κ : Behind) → Resolves code (q.items ++ is) → Lands k lb lc inside outer after is κ
+      → (st : State) (d : Desk) → fair scope st d → Leads k (m κ st) (from (q.items ++ is) d)
 
   joined_at : (k : ℕ) (a b is : List Item) (d : Desk) (r : Runs) → Leads k r (from (a ++ (b ++ is)) d) → Leads k r (from ((a ++ b) ++ is) d)
   joined_at k a b is d r h = moves program code callers k (spelled_all ((a ++ b) ++ is)) (spelled_all (a ++ (b ++ is))) d r (ap spelled_all (append_assoc a b is)) h
@@ -165,10 +180,13 @@ module _ (program : TreeProgram) (code : List TreeItem) (callers : List Activati
   }
 
   -- a local is set, and is in scope from there on
-  local_by : (n u k : ℕ) (scope after : ℕ → Type 0) (is : List Item) (κ : State → Runs) (st : State) (d : Desk) (b : Bool) → nat_lt n (length st.call.locals) ≡ b → u < 2 ^ 32 → ((x : ℕ) → after x → (x ≡ n → ⊥) → scope x) → fair scope st d
-      → (fair after (with_locals st (slice_set st.call.locals n u)) (record d { locals = with_local d.locals n u }) → Leads k (κ (with_locals st (slice_set st.call.locals n u))) (from is (record d { locals = with_local d.locals n u })))
+  local_by : (n u k : ℕ) (scope after : ℕ → Type 0) (is : List Item) (κ : State → Runs) (st : State) (d : Desk) (b : Bool) → nat_lt n (length st.call.locals) ≡ b → u < 2 ^ 32
+      → ((x : ℕ) → after x → (x ≡ n → ⊥) → scope x) → fair scope st d
+      → (fair after (with_locals st (slice_set st.call.locals n u)) (record d { locals = with_local d.locals n u })
+      → Leads k (κ (with_locals st (slice_set st.call.locals n u))) (from is (record d { locals = with_local d.locals n u })))
       → Leads k (written (option_map (with_locals st) (cond b (Some (slice_set st.call.locals n u)) None)) u (λ v. κ)) (from is (record d { locals = with_local d.locals n u }))
-  local_by n u k scope after is κ st d false e lt sub ag h = leads_wild k _ (silent program code callers (arrived (state program code callers (spelled_all is) (record d { locals = with_local d.locals n u }))))
+  local_by n u k scope after is κ st d false e lt sub ag h = leads_wild k _
+      (silent program code callers (arrived (state program code callers (spelled_all is) (record d { locals = with_local d.locals n u }))))
   local_by n u k scope after is κ st d true e lt sub ag h =
       let inside : n < length st.call.locals = ltb-true n (length st.call.locals) e in
       h (record {
@@ -187,7 +205,8 @@ module _ (program : TreeProgram) (code : List TreeItem) (callers : List Activati
       })
 
   local_step : (n u k : ℕ) (scope after : ℕ → Type 0) (is : List Item) (κ : State → Runs) (st : State) (d : Desk) → u < 2 ^ 32 → ((x : ℕ) → after x → (x ≡ n → ⊥) → scope x) → fair scope st d
-      → (fair after (with_locals st (slice_set st.call.locals n u)) (record d { locals = with_local d.locals n u }) → Leads k (κ (with_locals st (slice_set st.call.locals n u))) (from is (record d { locals = with_local d.locals n u })))
+      → (fair after (with_locals st (slice_set st.call.locals n u)) (record d { locals = with_local d.locals n u })
+      → Leads k (κ (with_locals st (slice_set st.call.locals n u))) (from is (record d { locals = with_local d.locals n u })))
       → Leads k (written (put_local n u st) u (λ v. κ)) (from is (record d { locals = with_local d.locals n u }))
   local_step n u k scope after is κ st d lt sub ag h = local_by n u k scope after is κ st d (nat_lt n (length st.call.locals)) refl lt sub ag h
 
@@ -220,12 +239,15 @@ module _ (program : TreeProgram) (code : List TreeItem) (callers : List Activati
     expression : (scope : ℕ → Type 0) → ((x : ℕ) → scope x → x < size) → (e : AnExpression) → Fits scope e → DoesWay program code callers size count scope level (way size count e) (expr p next e)
     expression scope within e fit = way_does program code callers size count scope level within p next counts_all lowers calls objects_are addresses e fit
 
-    effect_does : (scope : ℕ → Type 0) → ((x : ℕ) → scope x → x < size) → (e : Option AnExpression) → FitsMaybe scope e → (l k : ℕ) → k ≤ level → (is : List Item) (κ : State → Runs) → Resolves code ((effect size count e l).items ++ is) → (st : State) (d : Desk) → fair scope st d → ((st' : State) (d' : Desk) → fair scope st' d' → Leads k (κ st') (from is d')) → Leads k (dropped p next e κ st) (from ((effect size count e l).items ++ is) d)
+    effect_does : (scope : ℕ → Type 0) → ((x : ℕ) → scope x → x < size) → (e : Option AnExpression) → FitsMaybe scope e → (l k : ℕ) → k ≤ level → (is : List Item) (κ : State → Runs)
+        → Resolves code ((effect size count e l).items ++ is) → (st : State) (d : Desk) → fair scope st d → ((st' : State) (d' : Desk) → fair scope st' d' → Leads k (κ st') (from is d'))
+        → Leads k (dropped p next e κ st) (from ((effect size count e l).items ++ is) d)
     effect_does scope within None fit l k le is κ res st d ag h = h st d ag
     effect_does scope within (Some e) fit l k le is κ res st d ag h = ((expression scope within e fit).drop size l (omega arith)).runs k le is κ res st d ag (λ st' d' ag' s. h st' d' ag')
 
     -- declarations
-    begin_does : (b : Bool) (n : ℕ) (e : AnExpression) (scope : ℕ → Type 0) → ((x : ℕ) → scope x → x < size) → n < size → mentions n e ≡ b → Fits (more scope n) e → (l k : ℕ) → k ≤ level → (is : List Item) (κ : State → Runs) → Resolves code ((begin_of b n ((way size count e).low size l)).items ++ is) → (st : State) (d : Desk) → fair scope st d
+    begin_does : (b : Bool) (n : ℕ) (e : AnExpression) (scope : ℕ → Type 0) → ((x : ℕ) → scope x → x < size) → n < size → mentions n e ≡ b → Fits (more scope n) e → (l k : ℕ) → k ≤ level
+        → (is : List Item) (κ : State → Runs) → Resolves code ((begin_of b n ((way size count e).low size l)).items ++ is) → (st : State) (d : Desk) → fair scope st d
         → ((st' : State) (d' : Desk) → fair (more scope n) st' d' → Leads k (κ st') (from is d'))
         → Leads k (local_set p next n 0 (expr p next e (λ v. local_set p next n v κ)) st) (from ((begin_of b n ((way size count e).low size l)).items ++ is) d)
     begin_does true n e scope within lt mentioned fit l k le is κ res st d ag h =
@@ -244,7 +266,9 @@ module _ (program : TreeProgram) (code : List TreeItem) (callers : List Activati
         (λ ag1. joined_at k q.items (i ∷ []) is d _ (does.runs k le (i ∷ is) (λ v. local_set p next n v κ) (parted q.items (i ∷ []) is res) (with_locals st (slice_set st.call.locals n 0)) d ag1
         (λ st2 d2 ag2 s2. set_local n k q.tree (without scope n) (more scope n) is κ st2 d2 does.small (λ x sc ne. ⊎_elim (λ s. (s, ne)) (λ eq. absurd (ne eq)) sc) ag2 h)))
 
-    declare_does : (ds : List ADeclaration) (scope : ℕ → Type 0) → ((x : ℕ) → scope x → x < size) → FitsDeclared size scope ds → (l k : ℕ) → k ≤ level → (is : List Item) (κ : Behind) → Resolves code ((declare size count ds l).items ++ is) → (st : State) (d : Desk) → fair scope st d → ((st' : State) (d' : Desk) → fair (declaring scope ds) st' d' → Leads k (κ Onward st') (from is d')) → Leads k (declared p next ds κ st) (from ((declare size count ds l).items ++ is) d)
+    declare_does : (ds : List ADeclaration) (scope : ℕ → Type 0) → ((x : ℕ) → scope x → x < size) → FitsDeclared size scope ds → (l k : ℕ) → k ≤ level → (is : List Item) (κ : Behind)
+        → Resolves code ((declare size count ds l).items ++ is) → (st : State) (d : Desk) → fair scope st d
+        → ((st' : State) (d' : Desk) → fair (declaring scope ds) st' d' → Leads k (κ Onward st') (from is d')) → Leads k (declared p next ds κ st) (from ((declare size count ds l).items ++ is) d)
     declare_does [] scope within fit l k le is κ res st d ag h = h st d ag
     declare_does (KeepOf object ∷ ds) scope within fit l k le is κ res st d ag h = declare_does ds scope within fit l k le is κ res st d ag h
     declare_does (ClearOf n ∷ ds) scope within fit l k le is κ res st d ag h =
@@ -258,15 +282,18 @@ module _ (program : TreeProgram) (code : List TreeItem) (callers : List Activati
         (λ st1 d1 ag1. declare_does ds (more scope n) (more_within size scope n fit.0 within) fit.2 a.labels k le is κ (resolves_back code a.items (rest.items ++ is) res') st1 d1 ag1 h))
 
     -- a return
-    return_does : (e : Option AnExpression) (scope outer : ℕ → Type 0) → ((x : ℕ) → scope x → x < size) → FitsMaybe scope e → (inside : Bool) (lb lc l : ℕ) → DoesStmt (returning size count e l) lb lc inside outer scope scope (returned_source p next e)
+    return_does : (e : Option AnExpression) (scope outer : ℕ → Type 0) → ((x : ℕ) → scope x → x < size) → FitsMaybe scope e → (inside : Bool) (lb lc l : ℕ)
+        → DoesStmt (returning size count e l) lb lc inside outer scope scope (returned_source p next e)
     return_does None scope outer within fit inside lb lc l k le is κ res h st d ag =
         ret_step program code callers k (Num 0) is (λ v. κ (Returned 0) st) d (omega arith) ag.ranged
         (λ v e. let z : 0 ≡ v = cc in subst (λ v. Leads k (κ (Returned 0) st) (runs program (returned v callers d.area d.input))) z (left_at 0 k κ st d (omega arith) ag h))
       where
-        left_at : (v k : ℕ) (κ : Behind) (st : State) (d : Desk) → v < 2 ^ 32 → fair scope st d → Lands k lb lc inside outer scope is κ → Leads k (κ (Returned v) st) (runs program (returned v callers d.area d.input))
+        left_at : (v k : ℕ) (κ : Behind) (st : State) (d : Desk) → v < 2 ^ 32 → fair scope st d → Lands k lb lc inside outer scope is κ
+            → Leads k (κ (Returned v) st) (runs program (returned v callers d.area d.input))
         left_at v k κ st d lt ag h =
             let done = h.left v st lt (subst AreBytes ag.area ag.ranged.area) (subst AreBytes ag.input ag.bytes) in
-            subst (λ a. Leads k (κ (Returned v) st) (runs program (returned v callers a d.input))) (sym ag.area) (subst (λ i. Leads k (κ (Returned v) st) (runs program (returned v callers st.area i))) (sym ag.input) done)
+            subst (λ a. Leads k (κ (Returned v) st) (runs program (returned v callers a d.input))) (sym ag.area)
+            (subst (λ i. Leads k (κ (Returned v) st) (runs program (returned v callers st.area i))) (sym ag.input) done)
     return_does (Some e) scope outer within fit inside lb lc l k le is κ res h st d ag =
         let q = (way size count e).low size l in
         let i = Ret q.tree in
@@ -276,10 +303,13 @@ module _ (program : TreeProgram) (code : List TreeItem) (callers : List Activati
         (λ v ev.
         let lt : v < 2 ^ 32 = subst Small ev (worth_small program.objects (desk_sight d1) ag1.ranged q.tree does.small) in
         let done = h.left v st1 lt (subst AreBytes ag1.area ag1.ranged.area) (subst AreBytes ag1.input ag1.bytes) in
-        subst (λ a. Leads k (κ (Returned v) st1) (runs program (returned v callers a d1.input))) (sym ag1.area) (subst (λ i. Leads k (κ (Returned v) st1) (runs program (returned v callers st1.area i))) (sym ag1.input) done))))
+        subst (λ a. Leads k (κ (Returned v) st1) (runs program (returned v callers a d1.input))) (sym ag1.area)
+        (subst (λ i. Leads k (κ (Returned v) st1) (runs program (returned v callers st1.area i))) (sym ag1.input) done))))
 
     -- conditions
-    if_does : (c : AnExpression) (l : ℕ) (a : Emitted) (scope outer after : ℕ → Type 0) (n : Behind → State → Runs) → ((x : ℕ) → scope x → x < size) → Fits scope c → ((x : ℕ) → scope x → after x) → (inside : Bool) (lb lc : ℕ) → DoesStmt a lb lc inside outer scope after n → DoesStmt (if_done l (unless size count c l (suc l)) a) lb lc inside outer scope scope (λ κ. expr p next c (λ v st. chosen v (n κ st) (κ Onward st)))
+    if_does : (c : AnExpression) (l : ℕ) (a : Emitted) (scope outer after : ℕ → Type 0) (n : Behind → State → Runs) → ((x : ℕ) → scope x → x < size) → Fits scope c
+        → ((x : ℕ) → scope x → after x) → (inside : Bool) (lb lc : ℕ) → DoesStmt a lb lc inside outer scope after n
+        → DoesStmt (if_done l (unless size count c l (suc l)) a) lb lc inside outer scope scope (λ κ. expr p next c (λ v st. chosen v (n κ st) (κ Onward st)))
     if_does c l a scope outer after n within fit sub inside lb lc does k le is κ res h st d ag =
         let q = unless size count c l (suc l) in
         let asks = (expression scope within c fit).branch false l size (suc l) (omega arith) in
@@ -290,9 +320,17 @@ module _ (program : TreeProgram) (code : List TreeItem) (callers : List Activati
         joined_at k q.items T is d _ (asks.runs k le (T ++ is) (n κ) (κ Onward) res1 st d ag
         (λ st1 d1 ag1 s1. leads_quiet k _ _ (moves program code callers k (behind code l) (spelled_all is) d1 _ end_at (h.onward st1 d1 ag1)))
         (λ st1 d1 ag1 s1. leads_quiet k _ _ (joined_at k a.items (Label l ∷ []) is d1 _ (does k le (Label l ∷ is) κ res2
-        (record { onward = λ st2 d2 ag2. label_step program code callers k l is d2 _ (h.onward st2 d2 (agree_less size (length callers) scope after st2 d2 sub ag2)); broke = h.broke; continued = h.continued; left = h.left }) st1 d1 ag1))))
+        (record {
+          onward = λ st2 d2 ag2. label_step program code callers k l is d2 _ (h.onward st2 d2 (agree_less size (length callers) scope after st2 d2 sub ag2));
+          broke = h.broke;
+          continued = h.continued;
+          left = h.left;
+        }) st1 d1 ag1))))
 
-    if_else_does : (c : AnExpression) (l : ℕ) (a b : Emitted) (scope outer after after' : ℕ → Type 0) (n o : Behind → State → Runs) → ((x : ℕ) → scope x → x < size) → Fits scope c → ((x : ℕ) → scope x → after x) → ((x : ℕ) → scope x → after' x) → (inside : Bool) (lb lc : ℕ) → DoesStmt a lb lc inside outer scope after n → DoesStmt b lb lc inside outer scope after' o → DoesStmt (if_else_done l (unless size count c l (suc (suc l))) a b) lb lc inside outer scope scope (λ κ. expr p next c (λ v st. chosen v (n κ st) (o κ st)))
+    if_else_does : (c : AnExpression) (l : ℕ) (a b : Emitted) (scope outer after after' : ℕ → Type 0) (n o : Behind → State → Runs) → ((x : ℕ) → scope x → x < size) → Fits scope c
+        → ((x : ℕ) → scope x → after x) → ((x : ℕ) → scope x → after' x) → (inside : Bool) (lb lc : ℕ) → DoesStmt a lb lc inside outer scope after n
+        → DoesStmt b lb lc inside outer scope after' o → DoesStmt (if_else_done l (unless size count c l (suc (suc l))) a b) lb lc inside outer scope scope
+        (λ κ. expr p next c (λ v st. chosen v (n κ st) (o κ st)))
     if_else_does c l a b scope outer after after' n o within fit sub sub' inside lb lc does does' k le is κ res h st d ag =
         let q = unless size count c l (suc (suc l)) in
         let asks = (expression scope within c fit).branch false l size (suc (suc l)) (omega arith) in
@@ -308,12 +346,29 @@ module _ (program : TreeProgram) (code : List TreeItem) (callers : List Activati
         joined_at k q.items T1 is d _ (asks.runs k le (T1 ++ is) (n κ) (o κ) res0 st d ag
         (λ st1 d1 ag1 s1. leads_quiet k _ _ (moves program code callers k (behind code l) (spelled_all ((b.items ++ T3) ++ is)) d1 _ else_at
         (joined_at k b.items T3 is d1 _ (does' k le (T3 ++ is) κ res3
-        (record { onward = λ st2 d2 ag2. label_step program code callers k (suc l) is d2 _ (h.onward st2 d2 (agree_less size (length callers) scope after' st2 d2 sub' ag2)); broke = h.broke; continued = h.continued; left = h.left }) st1 d1 ag1))))
+        (record {
+          onward = λ st2 d2 ag2. label_step program code callers k (suc l) is d2 _ (h.onward st2 d2 (agree_less size (length callers) scope after' st2 d2 sub' ag2));
+          broke =
+              h.broke;
+          continued = h.continued;
+          left = h.left;
+        }) st1 d1 ag1))))
         (λ st1 d1 ag1 s1. leads_quiet k _ _ (joined_at k a.items T2 is d1 _ (does k le (T2 ++ is) κ res1
-        (record { onward = λ st2 d2 ag2. jump_step program code callers k (suc l) (Label l ∷ ((b.items ++ T3) ++ is)) _ d2 (moves program code callers k (behind code (suc l)) (spelled_all is) d2 _ end_at (h.onward st2 d2 (agree_less size (length callers) scope after st2 d2 sub ag2))); broke = h.broke; continued = h.continued; left = h.left }) st1 d1 ag1))))
+        (record {
+          onward = λ st2 d2 ag2. jump_step program code callers k (suc l) (Label l ∷ ((b.items ++ T3) ++ is)) _ d2
+              (moves program code callers k (behind code (suc l)) (spelled_all is) d2 _ end_at (h.onward st2 d2 (agree_less size (length callers) scope after st2 d2 sub ag2)));
+          broke =
+              h.broke;
+          continued = h.continued;
+          left = h.left;
+        }) st1 d1 ag1))))
 
     -- `while`, from behind its first label
-    while_look : (c : AnExpression) (a : AnAction) (l : ℕ) (b : Emitted) (scope after : ℕ → Type 0) → ((x : ℕ) → scope x → x < size) → Fits scope c → ((x : ℕ) → scope x → after x) → DoesStmt b (suc l) l true scope scope after (stmt p next a) → (inside : Bool) (lb lc : ℕ) (outer : ℕ → Type 0) (is : List Item) → Resolves code ((while_done l (unless size count c (suc l) (suc (suc l))) b).items ++ is) → (k : ℕ) → k ≤ level → (κ : Behind) → Lands k lb lc inside outer scope is κ → (st : State) (d : Desk) → fair scope st d → Leads k (look_by p next (plain_loop c a) (stmt p next a) κ st) (from (((unless size count c (suc l) (suc (suc l))).items ++ (b.items ++ (Jump l ∷ Label (suc l) ∷ []))) ++ is) d)
+    while_look : (c : AnExpression) (a : AnAction) (l : ℕ) (b : Emitted) (scope after : ℕ → Type 0) → ((x : ℕ) → scope x → x < size) → Fits scope c → ((x : ℕ) → scope x → after x)
+        → DoesStmt b (suc l) l true scope scope after (stmt p next a) → (inside : Bool) (lb lc : ℕ) (outer : ℕ → Type 0) (is : List Item)
+        → Resolves code ((while_done l (unless size count c (suc l) (suc (suc l))) b).items ++ is) → (k : ℕ) → k ≤ level → (κ : Behind) → Lands k lb lc inside outer scope is κ
+        → (st : State) (d : Desk) → fair scope st d → Leads k (look_by p next (plain_loop c a) (stmt p next a) κ st)
+        (from (((unless size count c (suc l) (suc (suc l))).items ++ (b.items ++ (Jump l ∷ Label (suc l) ∷ []))) ++ is) d)
     while_look c a l b scope after within fit sub body inside lb lc outer is res zero le κ h st d ag = leads_none _ _
     while_look c a l b scope after within fit sub body inside lb lc outer is res (suc k) le κ h st d ag =
         let q = unless size count c (suc l) (suc (suc l)) in
@@ -325,7 +380,10 @@ module _ (program : TreeProgram) (code : List TreeItem) (callers : List Activati
         let end_at : behind code (suc l) ≡ spelled_all is = (resolves_back code b.items (T2 ++ is) res1).1.0 in
         let top_at : behind code l ≡ spelled_all ((q.items ++ T1) ++ is) = res.0 in
         let low_h = lands_below k (suc k) lb lc inside outer scope is κ (omega arith) h in
-        let again : (st : State) (d : Desk) → fair scope st d → Leads k (next (Look (plain_loop c a)) κ st) (at_items program code callers (behind code l) d) = λ st d ag. subst (λ r. Leads k r (at_items program code callers (behind code l) d)) (sym (next_is (Look (plain_loop c a)) κ st)) (moves program code callers k (behind code l) (spelled_all ((q.items ++ T1) ++ is)) d _ top_at (while_look c a l b scope after within fit sub body inside lb lc outer is res k (omega arith) κ low_h st d ag)) in
+        let again : (st : State) (d : Desk) → fair scope st d → Leads k (next (Look (plain_loop c a)) κ st) (at_items program code callers (behind code l) d) = λ st d ag.
+        subst (λ r. Leads k r (at_items program code callers (behind code l) d)) (sym (next_is (Look (plain_loop c a)) κ st))
+        (moves program code callers k (behind code l) (spelled_all ((q.items ++ T1) ++ is)) d _ top_at
+        (while_look c a l b scope after within fit sub body inside lb lc outer is res k (omega arith) κ low_h st d ag)) in
         joined_at (suc k) q.items T1 is d _ (asks.runs (suc k) le (T1 ++ is) (turn_by p next (plain_loop c a) (stmt p next a) κ) (κ Onward) res0 st d ag
         (λ st1 d1 ag1 s1. leads_quiet (suc k) _ _ (moves program code callers (suc k) (behind code (suc l)) (spelled_all is) d1 _ end_at (h.onward st1 d1 ag1)))
         (λ st1 d1 ag1 s1. leads_counted k _ _ (joined_at k b.items T2 is d1 _ (body k (omega arith) (T2 ++ is) (turned p next κ (next (Look (plain_loop c a)) κ)) res1
@@ -336,12 +394,18 @@ module _ (program : TreeProgram) (code : List TreeItem) (callers : List Activati
           left = low_h.left;
         }) st1 d1 ag1))))
 
-    while_does : (c : AnExpression) (a : AnAction) (l : ℕ) (b : Emitted) (scope after outer : ℕ → Type 0) → ((x : ℕ) → scope x → x < size) → Fits scope c → ((x : ℕ) → scope x → after x) → DoesStmt b (suc l) l true scope scope after (stmt p next a) → (inside : Bool) (lb lc : ℕ) → DoesStmt (while_done l (unless size count c (suc l) (suc (suc l))) b) lb lc inside outer scope scope (stmt p next (WhileOf c a))
+    while_does : (c : AnExpression) (a : AnAction) (l : ℕ) (b : Emitted) (scope after outer : ℕ → Type 0) → ((x : ℕ) → scope x → x < size) → Fits scope c → ((x : ℕ) → scope x → after x)
+        → DoesStmt b (suc l) l true scope scope after (stmt p next a) → (inside : Bool) (lb lc : ℕ)
+        → DoesStmt (while_done l (unless size count c (suc l) (suc (suc l))) b) lb lc inside outer scope scope (stmt p next (WhileOf c a))
     while_does c a l b scope after outer within fit sub body inside lb lc k le is κ res h st d ag =
-        label_step program code callers k l (((unless size count c (suc l) (suc (suc l))).items ++ (b.items ++ (Jump l ∷ Label (suc l) ∷ []))) ++ is) d _ (while_look c a l b scope after within fit sub body inside lb lc outer is res k le κ h st d ag)
+        label_step program code callers k l (((unless size count c (suc l) (suc (suc l))).items ++ (b.items ++ (Jump l ∷ Label (suc l) ∷ []))) ++ is) d _
+        (while_look c a l b scope after within fit sub body inside lb lc outer is res k le κ h st d ag)
 
     -- `do`: a turn, whose tree is still to be counted
-    do_turn : (c : AnExpression) (a : AnAction) (l : ℕ) (b : Emitted) (scope after : ℕ → Type 0) → ((x : ℕ) → scope x → x < size) → Fits scope c → ((x : ℕ) → scope x → after x) → DoesStmt b (suc (suc l)) (suc l) true scope scope after (stmt p next a) → (inside : Bool) (lb lc : ℕ) (outer : ℕ → Type 0) (is : List Item) → Resolves code ((do_done l b (when size count c l b.labels)).items ++ is) → (k : ℕ) → k ≤ level → (κ : Behind) → Lands k lb lc inside outer scope is κ → (st : State) (d : Desk) → fair scope st d → Leads k (turn_by p next (plain_loop c a) (stmt p next a) κ st) (counted (at_items program code callers (behind code l) d))
+    do_turn : (c : AnExpression) (a : AnAction) (l : ℕ) (b : Emitted) (scope after : ℕ → Type 0) → ((x : ℕ) → scope x → x < size) → Fits scope c → ((x : ℕ) → scope x → after x)
+        → DoesStmt b (suc (suc l)) (suc l) true scope scope after (stmt p next a) → (inside : Bool) (lb lc : ℕ) (outer : ℕ → Type 0) (is : List Item)
+        → Resolves code ((do_done l b (when size count c l b.labels)).items ++ is) → (k : ℕ) → k ≤ level → (κ : Behind) → Lands k lb lc inside outer scope is κ → (st : State) (d : Desk)
+        → fair scope st d → Leads k (turn_by p next (plain_loop c a) (stmt p next a) κ st) (counted (at_items program code callers (behind code l) d))
     do_turn c a l b scope after within fit sub body inside lb lc outer is res zero le κ h st d ag = leads_none _ _
     do_turn c a l b scope after within fit sub body inside lb lc outer is res (suc k) le κ h st d ag =
         let q = when size count c l b.labels in
@@ -356,7 +420,8 @@ module _ (program : TreeProgram) (code : List TreeItem) (callers : List Activati
         let res3 = parted q.items T3 is res2.1 in
         let end_at : behind code (suc (suc l)) ≡ spelled_all is = (resolves_back code q.items (T3 ++ is) res3).0 in
         let low_h = lands_below k (suc k) lb lc inside outer scope is κ (omega arith) h in
-        let test_it : (st : State) (d : Desk) → fair scope st d → Leads k (next (Look (plain_loop c a)) κ st) (from ((q.items ++ T3) ++ is) d) = λ st d ag. subst (λ r. Leads k r (from ((q.items ++ T3) ++ is) d)) (sym (next_is (Look (plain_loop c a)) κ st))
+        let test_it : (st : State) (d : Desk) → fair scope st d → Leads k (next (Look (plain_loop c a)) κ st) (from ((q.items ++ T3) ++ is) d) = λ st d ag.
+        subst (λ r. Leads k r (from ((q.items ++ T3) ++ is) d)) (sym (next_is (Look (plain_loop c a)) κ st))
         (joined_at k q.items T3 is d _ (asks.runs k (omega arith) (T3 ++ is) (turn_by p next (plain_loop c a) (stmt p next a) κ) (κ Onward) res3 st d ag
         (λ st1 d1 ag1 s1. do_turn c a l b scope after within fit sub body inside lb lc outer is res k (omega arith) κ low_h st1 d1 ag1)
         (λ st1 d1 ag1 s1. label_counts program code callers k (suc (suc l)) is d1 _ (leads_quiet k _ _ (low_h.onward st1 d1 ag1))))) in
@@ -369,13 +434,21 @@ module _ (program : TreeProgram) (code : List TreeItem) (callers : List Activati
           left = low_h.left;
         }) st d ag)))
 
-    do_does : (c : AnExpression) (a : AnAction) (l : ℕ) (b : Emitted) (scope after outer : ℕ → Type 0) → ((x : ℕ) → scope x → x < size) → Fits scope c → ((x : ℕ) → scope x → after x) → DoesStmt b (suc (suc l)) (suc l) true scope scope after (stmt p next a) → (inside : Bool) (lb lc : ℕ) → DoesStmt (do_done l b (when size count c l b.labels)) lb lc inside outer scope scope (stmt p next (DoOf a c))
+    do_does : (c : AnExpression) (a : AnAction) (l : ℕ) (b : Emitted) (scope after outer : ℕ → Type 0) → ((x : ℕ) → scope x → x < size) → Fits scope c → ((x : ℕ) → scope x → after x)
+        → DoesStmt b (suc (suc l)) (suc l) true scope scope after (stmt p next a) → (inside : Bool) (lb lc : ℕ)
+        → DoesStmt (do_done l b (when size count c l b.labels)) lb lc inside outer scope scope (stmt p next (DoOf a c))
     do_does c a l b scope after outer within fit sub body inside lb lc k le is κ res h st d ag =
         jump_counts program code callers k l (Label l ∷ ((b.items ++ (Label (suc l) ∷ ((when size count c l b.labels).items ++ (Label (suc (suc l)) ∷ [])))) ++ is)) _ d
         (do_turn c a l b scope after within fit sub body inside lb lc outer is res k le κ h st d ag)
 
     -- `for` with a test, from behind its first label
-    for_look : (c : AnExpression) (e : Option AnExpression) (a : AnAction) (l : ℕ) (b : Emitted) (scope after : ℕ → Type 0) → ((x : ℕ) → scope x → x < size) → Fits scope c → FitsMaybe scope e → ((x : ℕ) → scope x → after x) → DoesStmt b (suc (suc l)) (suc l) true scope scope after (stmt p next a) → (inside : Bool) (lb lc : ℕ) (outer : ℕ → Type 0) (is : List Item) → Resolves code ((for_done l (unless size count c (suc (suc l)) (suc (suc (suc l)))) b (effect size count e b.labels)).items ++ is) → (k : ℕ) → k ≤ level → (κ : Behind) → Lands k lb lc inside outer scope is κ → (st : State) (d : Desk) → fair scope st d → Leads k (look_by p next (for_loop (Some c) e a) (stmt p next a) κ st) (from (((unless size count c (suc (suc l)) (suc (suc (suc l)))).items ++ (b.items ++ (Label (suc l) ∷ ((effect size count e b.labels).items ++ (Jump l ∷ Label (suc (suc l)) ∷ []))))) ++ is) d)
+    for_look : (c : AnExpression) (e : Option AnExpression) (a : AnAction) (l : ℕ) (b : Emitted) (scope after : ℕ → Type 0) → ((x : ℕ) → scope x → x < size) → Fits scope c
+        → FitsMaybe scope e → ((x : ℕ) → scope x → after x) → DoesStmt b (suc (suc l)) (suc l) true scope scope after (stmt p next a)
+        → (inside : Bool) (lb lc : ℕ) (outer : ℕ → Type 0) (is : List Item)
+        → Resolves code ((for_done l (unless size count c (suc (suc l)) (suc (suc (suc l)))) b (effect size count e b.labels)).items ++ is) → (k : ℕ) → k ≤ level → (κ : Behind)
+        → Lands k lb lc inside outer scope is κ → (st : State) (d : Desk) → fair scope st d
+        → Leads k (look_by p next (for_loop (Some c) e a) (stmt p next a) κ st)
+        (from (((unless size count c (suc (suc l)) (suc (suc (suc l)))).items ++ (b.items ++ (Label (suc l) ∷ ((effect size count e b.labels).items ++ (Jump l ∷ Label (suc (suc l)) ∷ []))))) ++ is) d)
     for_look c e a l b scope after within fit fit' sub body inside lb lc outer is res zero le κ h st d ag = leads_none _ _
     for_look c e a l b scope after within fit fit' sub body inside lb lc outer is res (suc k) le κ h st d ag =
         let lp : ALoop = for_loop (Some c) e a in
@@ -393,8 +466,13 @@ module _ (program : TreeProgram) (code : List TreeItem) (callers : List Activati
         let res3 = parted s.items T3 is res2.1 in
         let end_at : behind code (suc (suc l)) ≡ spelled_all is = (resolves_back code s.items (T3 ++ is) res3).1.0 in
         let low_h = lands_below k (suc k) lb lc inside outer scope is κ (omega arith) h in
-        let again : (st : State) (d : Desk) → fair scope st d → Leads k (next (Look lp) κ st) (at_items program code callers (behind code l) d) = λ st d ag. subst (λ r. Leads k r (at_items program code callers (behind code l) d)) (sym (next_is (Look lp) κ st)) (moves program code callers k (behind code l) (spelled_all ((q.items ++ T1) ++ is)) d _ top_at (for_look c e a l b scope after within fit fit' sub body inside lb lc outer is res k (omega arith) κ low_h st d ag)) in
-        let step_it : (st : State) (d : Desk) → fair scope st d → Leads k (dropped p next e (next (Look lp) κ) st) (from ((s.items ++ T3) ++ is) d) = λ st d ag. joined_at k s.items T3 is d _ (effect_does scope within e fit' b.labels k (omega arith) (T3 ++ is) (next (Look lp) κ) res3 st d ag (λ st1 d1 ag1. jump_step program code callers k l (Label (suc (suc l)) ∷ is) _ d1 (again st1 d1 ag1))) in
+        let again : (st : State) (d : Desk) → fair scope st d → Leads k (next (Look lp) κ st) (at_items program code callers (behind code l) d) = λ st d ag.
+        subst (λ r. Leads k r (at_items program code callers (behind code l) d)) (sym (next_is (Look lp) κ st))
+        (moves program code callers k (behind code l) (spelled_all ((q.items ++ T1) ++ is)) d _ top_at
+        (for_look c e a l b scope after within fit fit' sub body inside lb lc outer is res k (omega arith) κ low_h st d ag)) in
+        let step_it : (st : State) (d : Desk) → fair scope st d → Leads k (dropped p next e (next (Look lp) κ) st) (from ((s.items ++ T3) ++ is) d) = λ st d ag.
+        joined_at k s.items T3 is d _ (effect_does scope within e fit' b.labels k (omega arith) (T3 ++ is) (next (Look lp) κ) res3 st d ag
+        (λ st1 d1 ag1. jump_step program code callers k l (Label (suc (suc l)) ∷ is) _ d1 (again st1 d1 ag1))) in
         joined_at (suc k) q.items T1 is d _ (asks.runs (suc k) le (T1 ++ is) (turn_by p next lp (stmt p next a) κ) (κ Onward) res0 st d ag
         (λ st1 d1 ag1 s1. leads_quiet (suc k) _ _ (moves program code callers (suc k) (behind code (suc (suc l))) (spelled_all is) d1 _ end_at (h.onward st1 d1 ag1)))
         (λ st1 d1 ag1 s1. leads_counted k _ _ (joined_at k b.items T2 is d1 _ (body k (omega arith) (T2 ++ is) (turned p next κ (dropped p next e (next (Look lp) κ))) res1
@@ -406,7 +484,10 @@ module _ (program : TreeProgram) (code : List TreeItem) (callers : List Activati
         }) st1 d1 ag1))))
 
     -- `for` without a test: a turn, whose tree is still to be counted
-    ever_turn : (e : Option AnExpression) (a : AnAction) (l : ℕ) (b : Emitted) (scope after : ℕ → Type 0) → ((x : ℕ) → scope x → x < size) → FitsMaybe scope e → ((x : ℕ) → scope x → after x) → DoesStmt b (suc (suc l)) (suc l) true scope scope after (stmt p next a) → (inside : Bool) (lb lc : ℕ) (outer : ℕ → Type 0) (is : List Item) → Resolves code ((ever_done l b (effect size count e b.labels)).items ++ is) → (k : ℕ) → k ≤ level → (κ : Behind) → Lands k lb lc inside outer scope is κ → (st : State) (d : Desk) → fair scope st d → Leads k (turn_by p next (for_loop None e a) (stmt p next a) κ st) (counted (at_items program code callers (behind code l) d))
+    ever_turn : (e : Option AnExpression) (a : AnAction) (l : ℕ) (b : Emitted) (scope after : ℕ → Type 0) → ((x : ℕ) → scope x → x < size) → FitsMaybe scope e
+        → ((x : ℕ) → scope x → after x) → DoesStmt b (suc (suc l)) (suc l) true scope scope after (stmt p next a) → (inside : Bool) (lb lc : ℕ) (outer : ℕ → Type 0) (is : List Item)
+        → Resolves code ((ever_done l b (effect size count e b.labels)).items ++ is) → (k : ℕ) → k ≤ level → (κ : Behind) → Lands k lb lc inside outer scope is κ → (st : State) (d : Desk)
+        → fair scope st d → Leads k (turn_by p next (for_loop None e a) (stmt p next a) κ st) (counted (at_items program code callers (behind code l) d))
     ever_turn e a l b scope after within fit' sub body inside lb lc outer is res zero le κ h st d ag = leads_none _ _
     ever_turn e a l b scope after within fit' sub body inside lb lc outer is res (suc k) le κ h st d ag =
         let lp : ALoop = for_loop None e a in
@@ -421,8 +502,12 @@ module _ (program : TreeProgram) (code : List TreeItem) (callers : List Activati
         let res3 = parted s.items T3 is res2.1 in
         let end_at : behind code (suc (suc l)) ≡ spelled_all is = (resolves_back code s.items (T3 ++ is) res3).1.0 in
         let low_h = lands_below k (suc k) lb lc inside outer scope is κ (omega arith) h in
-        let again : (st : State) (d : Desk) → fair scope st d → Leads k (next (Look lp) κ st) (counted (at_items program code callers (behind code l) d)) = λ st d ag. subst (λ r. Leads k r (counted (at_items program code callers (behind code l) d))) (sym (next_is (Look lp) κ st)) (ever_turn e a l b scope after within fit' sub body inside lb lc outer is res k (omega arith) κ low_h st d ag) in
-        let step_it : (st : State) (d : Desk) → fair scope st d → Leads k (dropped p next e (next (Look lp) κ) st) (from ((s.items ++ T3) ++ is) d) = λ st d ag. joined_at k s.items T3 is d _ (effect_does scope within e fit' b.labels k (omega arith) (T3 ++ is) (next (Look lp) κ) res3 st d ag (λ st1 d1 ag1. jump_counts program code callers k l (Label (suc (suc l)) ∷ is) _ d1 (again st1 d1 ag1))) in
+        let again : (st : State) (d : Desk) → fair scope st d → Leads k (next (Look lp) κ st) (counted (at_items program code callers (behind code l) d)) = λ st d ag.
+        subst (λ r. Leads k r (counted (at_items program code callers (behind code l) d))) (sym (next_is (Look lp) κ st))
+        (ever_turn e a l b scope after within fit' sub body inside lb lc outer is res k (omega arith) κ low_h st d ag) in
+        let step_it : (st : State) (d : Desk) → fair scope st d → Leads k (dropped p next e (next (Look lp) κ) st) (from ((s.items ++ T3) ++ is) d) = λ st d ag.
+        joined_at k s.items T3 is d _ (effect_does scope within e fit' b.labels k (omega arith) (T3 ++ is) (next (Look lp) κ) res3 st d ag
+        (λ st1 d1 ag1. jump_counts program code callers k l (Label (suc (suc l)) ∷ is) _ d1 (again st1 d1 ag1))) in
         leads_counted k _ _ (moves program code callers k (behind code l) (spelled_all (T1 ++ is)) d _ top_at
         (joined_at k b.items T2 is d _ (body k (omega arith) (T2 ++ is) (turned p next κ (dropped p next e (next (Look lp) κ))) res1
         (record {
@@ -432,7 +517,9 @@ module _ (program : TreeProgram) (code : List TreeItem) (callers : List Activati
           left = low_h.left;
         }) st d ag)))
 
-    for_does : (c e : Option AnExpression) (a : AnAction) (l : ℕ) (scope after outer : ℕ → Type 0) → ((x : ℕ) → scope x → x < size) → FitsMaybe scope c → FitsMaybe scope e → ((x : ℕ) → scope x → after x) → ((m : ℕ) → DoesStmt (lower size count a (suc (suc l)) (suc l) m) (suc (suc l)) (suc l) true scope scope after (stmt p next a)) → (inside : Bool) (lb lc : ℕ) → DoesStmt (for_of size count l c e (lower size count a (suc (suc l)) (suc l))) lb lc inside outer scope scope (look_by p next (for_loop c e a) (stmt p next a))
+    for_does : (c e : Option AnExpression) (a : AnAction) (l : ℕ) (scope after outer : ℕ → Type 0) → ((x : ℕ) → scope x → x < size) → FitsMaybe scope c → FitsMaybe scope e
+        → ((x : ℕ) → scope x → after x) → ((m : ℕ) → DoesStmt (lower size count a (suc (suc l)) (suc l) m) (suc (suc l)) (suc l) true scope scope after (stmt p next a))
+        → (inside : Bool) (lb lc : ℕ) → DoesStmt (for_of size count l c e (lower size count a (suc (suc l)) (suc l))) lb lc inside outer scope scope (look_by p next (for_loop c e a) (stmt p next a))
     for_does None e a l scope after outer within fit fit' sub body inside lb lc k le is κ res h st d ag =
         let b = lower size count a (suc (suc l)) (suc l) (suc (suc (suc l))) in
         jump_counts program code callers k l (Label l ∷ ((b.items ++ (Label (suc l) ∷ ((effect size count e b.labels).items ++ (Jump l ∷ Label (suc (suc l)) ∷ [])))) ++ is)) _ d
@@ -444,33 +531,43 @@ module _ (program : TreeProgram) (code : List TreeItem) (callers : List Activati
         (for_look c e a l b scope after within fit fit' sub (body q.labels) inside lb lc outer is res k le κ h st d ag)
 
     mutual
-      act_does : (a : AnAction) (scope outer : ℕ → Type 0) → ((x : ℕ) → scope x → x < size) → ((x : ℕ) → outer x → scope x) → (inside : Bool) → FitsAct size scope inside a → (lb lc l : ℕ) → DoesStmt (lower size count a lb lc l) lb lc inside outer scope (behind_act scope a) (stmt p next a)
+      act_does : (a : AnAction) (scope outer : ℕ → Type 0) → ((x : ℕ) → scope x → x < size) → ((x : ℕ) → outer x → scope x) → (inside : Bool) → FitsAct size scope inside a → (lb lc l : ℕ)
+          → DoesStmt (lower size count a lb lc l) lb lc inside outer scope (behind_act scope a) (stmt p next a)
       act_does (DeclareOf ds) scope outer within sub inside fit lb lc l = λ k le is κ res h st d ag. declare_does ds scope within fit l k le is κ res st d ag h.onward
       act_does (BlockOf row) scope outer within sub inside fit lb lc l = rows_do row scope outer scope within sub (λ x h. h) inside fit lb lc l
-      act_does (EvaluateOf e) scope outer within sub inside fit lb lc l = λ k le is κ res h st d ag. ((expression scope within e fit).drop size l (omega arith)).runs k le is (κ Onward) res st d ag (λ st' d' ag' s. h.onward st' d' ag')
-      act_does BreakOf scope outer within sub inside fit lb lc l = λ k le is κ res h st d ag. jump_step program code callers k lb is _ d (h.broke fit st d (agree_less size (length callers) outer scope st d sub ag))
-      act_does ContinueOf scope outer within sub inside fit lb lc l = λ k le is κ res h st d ag. jump_step program code callers k lc is _ d (h.continued fit st d (agree_less size (length callers) outer scope st d sub ag))
+      act_does (EvaluateOf e) scope outer within sub inside fit lb lc l = λ k le is κ res h st d ag.
+          ((expression scope within e fit).drop size l (omega arith)).runs k le is (κ Onward) res st d ag (λ st' d' ag' s. h.onward st' d' ag')
+      act_does BreakOf scope outer within sub inside fit lb lc l = λ k le is κ res h st d ag.
+          jump_step program code callers k lb is _ d (h.broke fit st d (agree_less size (length callers) outer scope st d sub ag))
+      act_does ContinueOf scope outer within sub inside fit lb lc l = λ k le is κ res h st d ag.
+          jump_step program code callers k lc is _ d (h.continued fit st d (agree_less size (length callers) outer scope st d sub ag))
       act_does (ReturnOf e) scope outer within sub inside fit lb lc l = return_does e scope outer within fit inside lb lc l
       act_does (IfOf c a) scope outer within sub inside fit lb lc l =
           let q = unless size count c l (suc l) in
-          if_does c l (lower size count a lb lc q.labels) scope outer (behind_act scope a) (stmt p next a) within fit.0 (behind_more scope a) inside lb lc (act_does a scope outer within sub inside fit.1 lb lc q.labels)
+          if_does c l (lower size count a lb lc q.labels) scope outer (behind_act scope a) (stmt p next a) within fit.0 (behind_more scope a) inside lb lc
+          (act_does a scope outer within sub inside fit.1 lb lc q.labels)
       act_does (IfElseOf c a b) scope outer within sub inside fit lb lc l =
           let q = unless size count c l (suc (suc l)) in
           let x = lower size count a lb lc q.labels in
-          if_else_does c l x (lower size count b lb lc x.labels) scope outer (behind_act scope a) (behind_act scope b) (stmt p next a) (stmt p next b) within fit.0 (behind_more scope a) (behind_more scope b) inside lb lc (act_does a scope outer within sub inside fit.1 lb lc q.labels) (act_does b scope outer within sub inside fit.2 lb lc x.labels)
+          if_else_does c l x (lower size count b lb lc x.labels) scope outer (behind_act scope a) (behind_act scope b) (stmt p next a) (stmt p next b) within fit.0 (behind_more scope a)
+          (behind_more scope b) inside lb lc (act_does a scope outer within sub inside fit.1 lb lc q.labels) (act_does b scope outer within sub inside fit.2 lb lc x.labels)
       act_does (WhileOf c a) scope outer within sub inside fit lb lc l =
           let q = unless size count c (suc l) (suc (suc l)) in
-          while_does c a l (lower size count a (suc l) l q.labels) scope (behind_act scope a) outer within fit.0 (behind_more scope a) (act_does a scope scope within (λ x h. h) true fit.1 (suc l) l q.labels) inside lb lc
+          while_does c a l (lower size count a (suc l) l q.labels) scope (behind_act scope a) outer within fit.0 (behind_more scope a)
+          (act_does a scope scope within (λ x h. h) true fit.1 (suc l) l q.labels) inside lb lc
       act_does (DoOf a c) scope outer within sub inside fit lb lc l =
-          do_does c a l (lower size count a (suc (suc l)) (suc l) (suc (suc (suc l)))) scope (behind_act scope a) outer within fit.1 (behind_more scope a) (act_does a scope scope within (λ x h. h) true fit.0 (suc (suc l)) (suc l) (suc (suc (suc l)))) inside lb lc
+          do_does c a l (lower size count a (suc (suc l)) (suc l) (suc (suc (suc l)))) scope (behind_act scope a) outer within fit.1 (behind_more scope a)
+          (act_does a scope scope within (λ x h. h) true fit.0 (suc (suc l)) (suc l) (suc (suc (suc l)))) inside lb lc
       act_does (ForOf i c e a) scope outer within sub inside fit lb lc l = λ k le is κ res h st d ag.
           let x = effect size count i l in
           let y = for_of size count x.labels c e (lower size count a (suc (suc x.labels)) (suc x.labels)) in
           let res' = parted x.items y.items is res in
           joined_at k x.items y.items is d _ (effect_does scope within i fit.0 l k le (y.items ++ is) (look_by p next (for_loop c e a) (stmt p next a) κ) res' st d ag
-          (λ st1 d1 ag1. for_does c e a x.labels scope (behind_act scope a) outer within fit.1 fit.2 (behind_more scope a) (λ m. act_does a scope scope within (λ x h. h) true fit.3 (suc (suc x.labels)) (suc x.labels) m) inside lb lc k le is κ (resolves_back code x.items (y.items ++ is) res') h st1 d1 ag1))
+          (λ st1 d1 ag1. for_does c e a x.labels scope (behind_act scope a) outer within fit.1 fit.2 (behind_more scope a)
+          (λ m. act_does a scope scope within (λ x h. h) true fit.3 (suc (suc x.labels)) (suc x.labels) m) inside lb lc k le is κ (resolves_back code x.items (y.items ++ is) res') h st1 d1 ag1))
 
-      pub rows_do : (row : SomeActions) (scope outer base : ℕ → Type 0) → ((x : ℕ) → scope x → x < size) → ((x : ℕ) → outer x → scope x) → ((x : ℕ) → base x → scope x) → (inside : Bool) → FitsActs size scope inside row → (lb lc l : ℕ) → DoesStmt (lower_row size count row lb lc l) lb lc inside outer scope base (stmts p next row)
+      pub rows_do : (row : SomeActions) (scope outer base : ℕ → Type 0) → ((x : ℕ) → scope x → x < size) → ((x : ℕ) → outer x → scope x) → ((x : ℕ) → base x → scope x) → (inside : Bool)
+          → FitsActs size scope inside row → (lb lc l : ℕ) → DoesStmt (lower_row size count row lb lc l) lb lc inside outer scope base (stmts p next row)
       rows_do NoActions scope outer base within sub sub' inside fit lb lc l k le is κ res h st d ag = h.onward st d (agree_less size (length callers) base scope st d sub' ag)
       rows_do (MoreActions a row) scope outer base within sub sub' inside fit lb lc l k le is κ res h st d ag =
           let x = lower size count a lb lc l in
@@ -478,7 +575,8 @@ module _ (program : TreeProgram) (code : List TreeItem) (callers : List Activati
           let res' = parted x.items y.items is res in
           joined_at k x.items y.items is d _ (act_does a scope outer within sub inside fit.0 lb lc l k le (y.items ++ is) (followed p next κ (stmts p next row κ)) res'
           (record {
-            onward = λ st1 d1 ag1. rows_do row (behind_act scope a) outer base (behind_within size scope inside a fit.0 within) (λ z o. behind_more scope a z (sub z o)) (λ z o. behind_more scope a z (sub' z o)) inside fit.1 lb lc x.labels k le is κ (resolves_back code x.items (y.items ++ is) res') h st1 d1 ag1;
+            onward = λ st1 d1 ag1. rows_do row (behind_act scope a) outer base (behind_within size scope inside a fit.0 within) (λ z o. behind_more scope a z (sub z o))
+                (λ z o. behind_more scope a z (sub' z o)) inside fit.1 lb lc x.labels k le is κ (resolves_back code x.items (y.items ++ is) res') h st1 d1 ag1;
             broke = h.broke;
             continued = h.continued;
             left = h.left;

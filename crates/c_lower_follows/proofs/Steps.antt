@@ -94,15 +94,18 @@ module _ (program : TreeProgram) (code : List TreeItem) (callers : List Activati
   moves k is js d r e h = subst (λ x. Leads k r (at_items x d)) (sym e) h
 
   -- a root that comes next is counted, and acts
-  root_at : (w : List Leaf) (f : Forest) (is : List TreeItem) (d : Desk) (q : ℕ → Outcome) → grown w ≡ f → ((n : ℕ) → done program (run program n) (state is d) f ≡ q n) → (n : ℕ) → counted q n ≡ run program n (tree_at w (state is d))
+  root_at : (w : List Leaf) (f : Forest) (is : List TreeItem) (d : Desk) (q : ℕ → Outcome) → grown w ≡ f → ((n : ℕ) → done program (run program n) (state is d) f ≡ q n) → (n : ℕ)
+      → counted q n ≡ run program n (tree_at w (state is d))
   root_at w f is d q e same zero = refl
   root_at w f is d q e same (suc n) = ap one_first (sym (ap (done program (run program n) (state is d)) e ∙ same n))
 
-  pub quiet : (k : ℕ) (w : List Leaf) (f : Forest) (is : List TreeItem) (d : Desk) (r q : Runs) → grown w ≡ f → ((n : ℕ) → done program (run program n) (state is d) f ≡ q n) → Leads k r q → Leads k r (at_items (item.Root w ∷ is) d)
+  pub quiet : (k : ℕ) (w : List Leaf) (f : Forest) (is : List TreeItem) (d : Desk) (r q : Runs) → grown w ≡ f → ((n : ℕ) → done program (run program n) (state is d) f ≡ q n) → Leads k r q
+      → Leads k r (at_items (item.Root w ∷ is) d)
   quiet k w f is d r q e same h = subst (Leads k r) (λ j n. root_at w f is d q e same n j) (leads_quiet k r q h)
 
   -- the same root, still to be counted
-  pub counts : (k : ℕ) (w : List Leaf) (f : Forest) (is : List TreeItem) (d : Desk) (r q : Runs) → grown w ≡ f → ((n : ℕ) → done program (run program n) (state is d) f ≡ q n) → Leads k r (counted q) → Leads k r (at_items (item.Root w ∷ is) d)
+  pub counts : (k : ℕ) (w : List Leaf) (f : Forest) (is : List TreeItem) (d : Desk) (r q : Runs) → grown w ≡ f → ((n : ℕ) → done program (run program n) (state is d) f ≡ q n)
+      → Leads k r (counted q) → Leads k r (at_items (item.Root w ∷ is) d)
   counts k w f is d r q e same h = subst (Leads k r) (λ j n. root_at w f is d q e same n j) h
 
   -- a tree's value is what goes on, or both sides break
@@ -131,7 +134,8 @@ module _ (program : TreeProgram) (code : List TreeItem) (callers : List Activati
   abbrev rest_of : Forest
   rest_of = grown (end_leaf ∷ [])
 
-  pub assign_loc_step : (k n : ℕ) (w : Tree) (is : List Item) (κ : ℕ → Runs) (d : Desk) → SmallTree w → Ranged (desk_sight d) → ((v : ℕ) → value w d ≡ Number v → Leads k (κ v) (at is (record d { locals = with_local d.locals n v }))) → Leads k (on (value w d) κ) (at (AssignLoc n w ∷ is) d)
+  pub assign_loc_step : (k n : ℕ) (w : Tree) (is : List Item) (κ : ℕ → Runs) (d : Desk) → SmallTree w → Ranged (desk_sight d)
+      → ((v : ℕ) → value w d ≡ Number v → Leads k (κ v) (at is (record d { locals = with_local d.locals n v }))) → Leads k (on (value w d) κ) (at (AssignLoc n w ∷ is) d)
   assign_loc_step k n w is κ d small r h =
       quiet k _ (tree (plain tok.AssignL) (tree (leaf tok.Loc (att.Slot n)) none (planted w none)) rest_of) (spelled_all is) d _
       (λ m. given (value w d) (λ v. at is (record d { locals = with_local d.locals n v }) m))
@@ -140,7 +144,8 @@ module _ (program : TreeProgram) (code : List TreeItem) (callers : List Activati
       ∙ ap (λ o. given o (λ v. carried (run program m) (deed_step program (state (spelled_all is) d) (Puts (meaning.Local n) v)))) (reads w d small r))
       (on_step k (value w d) κ (λ v. at is (record d { locals = with_local d.locals n v })) h)
 
-  pub assign_arg_step : (k n : ℕ) (w : Tree) (is : List Item) (κ : ℕ → Runs) (d : Desk) → SmallTree w → Ranged (desk_sight d) → ((v : ℕ) → value w d ≡ Number v → Leads k (κ v) (at is (record d { arguments = slice_set d.arguments n v }))) → Leads k (on (value w d) κ) (at (AssignArg n w ∷ is) d)
+  pub assign_arg_step : (k n : ℕ) (w : Tree) (is : List Item) (κ : ℕ → Runs) (d : Desk) → SmallTree w → Ranged (desk_sight d)
+      → ((v : ℕ) → value w d ≡ Number v → Leads k (κ v) (at is (record d { arguments = slice_set d.arguments n v }))) → Leads k (on (value w d) κ) (at (AssignArg n w ∷ is) d)
   assign_arg_step k n w is κ d small r h =
       let e : suc n - 1 ≡ n = omega arith in
       quiet k _ (tree (plain tok.AssignL) (tree (leaf tok.Arg (att.Slot (suc n))) none (planted w none)) rest_of) (spelled_all is) d _
@@ -168,7 +173,8 @@ module _ (program : TreeProgram) (code : List TreeItem) (callers : List Activati
   put_is is d None m = refl
   put_is is d (Some area) m = refl
 
-  assigned_at : (is : List Item) (d : Desk) (z : Size) (u v : Value) (m : ℕ) → assigned program (run program m) (state (spelled_all is) d) (Some (in_memory z u)) v ≡ given u (λ x. given v (λ y. written_at is d (stored z d.area x y) m))
+  assigned_at : (is : List Item) (d : Desk) (z : Size) (u v : Value) (m : ℕ) → assigned program (run program m) (state (spelled_all is) d) (Some (in_memory z u)) v
+      ≡ given u (λ x. given v (λ y. written_at is d (stored z d.area x y) m))
   assigned_at is d z (Number x) (Number y) m = put_is is d (stored z d.area x y) m
   assigned_at is d z (Number x) ZeroDivisor m = refl
   assigned_at is d z (Number x) Wild m = refl
@@ -180,12 +186,15 @@ module _ (program : TreeProgram) (code : List TreeItem) (callers : List Activati
   given_bind ZeroDivisor g f = refl
   given_bind Wild g f = refl
 
-  on_two : (k : ℕ) (o p : Value) (κ f : ℕ → ℕ → Runs) → ((x y : ℕ) → o ≡ Number x → p ≡ Number y → Leads k (κ x y) (f x y)) → Leads k (on o (λ x. on p (κ x))) (λ n. given o (λ x. given p (λ y. f x y n)))
+  on_two : (k : ℕ) (o p : Value) (κ f : ℕ → ℕ → Runs) → ((x y : ℕ) → o ≡ Number x → p ≡ Number y → Leads k (κ x y) (f x y))
+      → Leads k (on o (λ x. on p (κ x))) (λ n. given o (λ x. given p (λ y. f x y n)))
   on_two k o p κ f h = on_step k o (λ x. on p (κ x)) (λ x n. given p (λ y. f x y n)) (λ x e. on_step k p (κ x) (f x) (λ y e'. h x y e e'))
 
   narrow_step : (k : ℕ) (z : Size) (root place low : Tok) (g : ℕ → ℕ) (a w : Tree) (is : List Item) (κ : ℕ → ℕ → Runs) (d : Desk) → SmallTree a → SmallTree w → Ranged (desk_sight d)
-      → grown (plain root ∷ plain place ∷ leaves_onto a (plain low ∷ leaves_onto w (end_leaf ∷ []))) ≡ tree (plain root) (tree (plain place) (planted a none) (tree (plain low) (planted w none) none)) rest_of
-      → ((m : ℕ) → done program (run program m) (state (spelled_all is) d) (tree (plain root) (tree (plain place) (planted a none) (tree (plain low) (planted w none) none)) rest_of) ≡ assigned program (run program m) (state (spelled_all is) d) (Some (in_memory z (seen a d))) (bind (seen w d) (λ x. Number (g x))))
+      → grown (plain root ∷ plain place ∷ leaves_onto a (plain low ∷ leaves_onto w (end_leaf ∷ [])))
+      ≡ tree (plain root) (tree (plain place) (planted a none) (tree (plain low) (planted w none) none)) rest_of
+      → ((m : ℕ) → done program (run program m) (state (spelled_all is) d) (tree (plain root) (tree (plain place) (planted a none) (tree (plain low) (planted w none) none)) rest_of)
+      ≡ assigned program (run program m) (state (spelled_all is) d) (Some (in_memory z (seen a d))) (bind (seen w d) (λ x. Number (g x))))
       → ((x v : ℕ) → value a d ≡ Number x → value w d ≡ Number v → Leads k (κ x v) (written_at is d (stored z d.area x (g v))))
       → Leads k (on (value a d) (λ x. on (value w d) (κ x))) (at_items (item.Root (plain root ∷ plain place ∷ leaves_onto a (plain low ∷ leaves_onto w (end_leaf ∷ []))) ∷ spelled_all is) d)
   narrow_step k z root place low g a w is κ d small small' r grow same h =
@@ -196,27 +205,38 @@ module _ (program : TreeProgram) (code : List TreeItem) (callers : List Activati
       ∙ (λ j. given (value a d) (λ x. given_bind (value w d) g (λ y. written_at is d (stored z d.area x y) m) j)))
       (on_two k (value a d) (value w d) κ (λ x y. written_at is d (stored z d.area x (g y))) h)
 
-  grown_narrow : (root place low : Tok) (a w : Tree) → length (kids root) ≡ 2 → length (kids place) ≡ 1 → length (kids low) ≡ 1 → grown (plain root ∷ plain place ∷ leaves_onto a (plain low ∷ leaves_onto w (end_leaf ∷ []))) ≡ tree (plain root) (tree (plain place) (planted a none) (tree (plain low) (planted w none) none)) rest_of
+  grown_narrow : (root place low : Tok) (a w : Tree) → length (kids root) ≡ 2 → length (kids place) ≡ 1 → length (kids low) ≡ 1
+      → grown (plain root ∷ plain place ∷ leaves_onto a (plain low ∷ leaves_onto w (end_leaf ∷ [])))
+      ≡ tree (plain root) (tree (plain place) (planted a none) (tree (plain low) (planted w none) none)) rest_of
   grown_narrow root place low a w er ep el =
       grown_two (plain root) (plain place ∷ leaves_onto a (plain low ∷ leaves_onto w (end_leaf ∷ []))) _ _ _ _ _ er
       (grown_one (plain place) (leaves_onto a (plain low ∷ leaves_onto w (end_leaf ∷ []))) _ _ _ ep
       (grown_tree a (plain low ∷ leaves_onto w (end_leaf ∷ [])) ∙ ap (planted a) (grown_one (plain low) (leaves_onto w (end_leaf ∷ [])) _ _ _ el (grown_tree w (end_leaf ∷ [])))))
 
-  pub assign_mem_step : (k : ℕ) (i : Integer) (a w : Tree) (is : List Item) (κ : ℕ → ℕ → Runs) (d : Desk) → SmallTree a → SmallTree w → Ranged (desk_sight d) → ((x v : ℕ) → value a d ≡ Number x → value w d ≡ Number v → Leads k (κ x v) (written_at is d (stored (integer_access i) d.area x (narrowed i v)))) → Leads k (on (value a d) (λ x. on (value w d) (κ x))) (at (AssignMem i a w ∷ is) d)
-  assign_mem_step k ints.Char a w is κ d small small' r h = narrow_step k size.Byte tok.AssignB tok.IndirB tok.Ncb zext8 a w is κ d small small' r (grown_narrow tok.AssignB tok.IndirB tok.Ncb a w refl refl refl) (λ m. refl) h
-  assign_mem_step k ints.UnsignedChar a w is κ d small small' r h = narrow_step k size.Byte tok.AssignB tok.IndirB tok.Ncb zext8 a w is κ d small small' r (grown_narrow tok.AssignB tok.IndirB tok.Ncb a w refl refl refl) (λ m. refl) h
-  assign_mem_step k ints.Short a w is κ d small small' r h = narrow_step k size.Word tok.AssignW tok.IndirW tok.Ncw zext16 a w is κ d small small' r (grown_narrow tok.AssignW tok.IndirW tok.Ncw a w refl refl refl) (λ m. refl) h
-  assign_mem_step k ints.UnsignedShort a w is κ d small small' r h = narrow_step k size.Word tok.AssignW tok.IndirW tok.Ncw zext16 a w is κ d small small' r (grown_narrow tok.AssignW tok.IndirW tok.Ncw a w refl refl refl) (λ m. refl) h
+  pub assign_mem_step : (k : ℕ) (i : Integer) (a w : Tree) (is : List Item) (κ : ℕ → ℕ → Runs) (d : Desk) → SmallTree a → SmallTree w → Ranged (desk_sight d)
+      → ((x v : ℕ) → value a d ≡ Number x → value w d ≡ Number v → Leads k (κ x v) (written_at is d (stored (integer_access i) d.area x (narrowed i v))))
+      → Leads k (on (value a d) (λ x. on (value w d) (κ x))) (at (AssignMem i a w ∷ is) d)
+  assign_mem_step k ints.Char a w is κ d small small' r h = narrow_step k size.Byte tok.AssignB tok.IndirB tok.Ncb zext8 a w is κ d small small' r
+      (grown_narrow tok.AssignB tok.IndirB tok.Ncb a w refl refl refl) (λ m. refl) h
+  assign_mem_step k ints.UnsignedChar a w is κ d small small' r h = narrow_step k size.Byte tok.AssignB tok.IndirB tok.Ncb zext8 a w is κ d small small' r
+      (grown_narrow tok.AssignB tok.IndirB tok.Ncb a w refl refl refl) (λ m. refl) h
+  assign_mem_step k ints.Short a w is κ d small small' r h = narrow_step k size.Word tok.AssignW tok.IndirW tok.Ncw zext16 a w is κ d small small' r
+      (grown_narrow tok.AssignW tok.IndirW tok.Ncw a w refl refl refl) (λ m. refl) h
+  assign_mem_step k ints.UnsignedShort a w is κ d small small' r h = narrow_step k size.Word tok.AssignW tok.IndirW tok.Ncw zext16 a w is κ d small small' r
+      (grown_narrow tok.AssignW tok.IndirW tok.Ncw a w refl refl refl) (λ m. refl) h
   assign_mem_step k ints.Int a w is κ d small small' r h =
-      quiet k _ (tree (plain tok.AssignL) (tree (plain tok.IndirL) (planted a none) (planted w none)) rest_of) (spelled_all is) d _ (λ m. given (value a d) (λ x. given (value w d) (λ y. written_at is d (stored size.Long d.area x y) m)))
-      (grown_two (plain tok.AssignL) (plain tok.IndirL ∷ leaves_onto a (leaves_onto w (end_leaf ∷ []))) _ _ _ _ _ refl (grown_one (plain tok.IndirL) (leaves_onto a (leaves_onto w (end_leaf ∷ []))) _ _ _ refl (grown_tree a (leaves_onto w (end_leaf ∷ [])) ∙ ap (planted a) (grown_tree w (end_leaf ∷ [])))))
+      quiet k _ (tree (plain tok.AssignL) (tree (plain tok.IndirL) (planted a none) (planted w none)) rest_of) (spelled_all is) d _
+      (λ m. given (value a d) (λ x. given (value w d) (λ y. written_at is d (stored size.Long d.area x y) m)))
+      (grown_two (plain tok.AssignL) (plain tok.IndirL ∷ leaves_onto a (leaves_onto w (end_leaf ∷ []))) _ _ _ _ _ refl
+      (grown_one (plain tok.IndirL) (leaves_onto a (leaves_onto w (end_leaf ∷ []))) _ _ _ refl (grown_tree a (leaves_onto w (end_leaf ∷ [])) ∙ ap (planted a) (grown_tree w (end_leaf ∷ [])))))
       (λ m. assigned_at is d size.Long (seen a d) (seen w d) m
       ∙ ap (λ o. given o (λ x. given (seen w d) (λ y. written_at is d (stored size.Long d.area x y) m))) (reads a d small r)
       ∙ ap (λ o. given (value a d) (λ x. given o (λ y. written_at is d (stored size.Long d.area x y) m))) (reads w d small' r))
       (on_two k (value a d) (value w d) κ (λ x y. written_at is d (stored size.Long d.area x y)) h)
 
   -- a branch, whose tree is still to be counted on both ways
-  chosen_step : (k l : ℕ) (b : Bool) (is : List Item) (d : Desk) (r : Runs) → (b ≡ true → Leads k r (counted (at_items (behind code l) d))) → (b ≡ false → Leads k r (counted (at is d))) → Leads k r (counted (λ m. cond b (at_items (behind code l) d m) (at is d m)))
+  chosen_step : (k l : ℕ) (b : Bool) (is : List Item) (d : Desk) (r : Runs) → (b ≡ true → Leads k r (counted (at_items (behind code l) d))) → (b ≡ false → Leads k r (counted (at is d)))
+      → Leads k r (counted (λ m. cond b (at_items (behind code l) d m) (at is d m)))
   chosen_step k l true is d r h g = h refl
   chosen_step k l false is d r h g = g refl
 
@@ -235,8 +255,10 @@ module _ (program : TreeProgram) (code : List TreeItem) (callers : List Activati
       → ((x y : ℕ) → value a d ≡ Number x → value b d ≡ Number y → holds rel x y ≡ false → Leads k (κ x y) (counted (at is d)))
       → Leads k (on (value a d) (λ x. on (value b d) (κ x))) (at (Cbr rel l a b ∷ is) d)
   cbr_step k l rel a b is κ d small small' r h g =
-      counts k _ (tree (leaf tok.Cbr (att.Branch rel l)) (planted a (planted b none)) rest_of) (spelled_all is) d _ (λ m. given (value a d) (λ x. given (value b d) (λ y. cond (holds rel x y) (at_items (behind code l) d m) (at is d m))))
-      (grown_two (leaf tok.Cbr (att.Branch rel l)) (leaves_onto a (leaves_onto b (end_leaf ∷ []))) _ _ _ _ _ refl (grown_tree a (leaves_onto b (end_leaf ∷ [])) ∙ ap (planted a) (grown_tree b (end_leaf ∷ []))))
+      counts k _ (tree (leaf tok.Cbr (att.Branch rel l)) (planted a (planted b none)) rest_of) (spelled_all is) d _
+      (λ m. given (value a d) (λ x. given (value b d) (λ y. cond (holds rel x y) (at_items (behind code l) d m) (at is d m))))
+      (grown_two (leaf tok.Cbr (att.Branch rel l)) (leaves_onto a (leaves_onto b (end_leaf ∷ []))) _ _ _ _ _ refl
+      (grown_tree a (leaves_onto b (end_leaf ∷ [])) ∙ ap (planted a) (grown_tree b (end_leaf ∷ []))))
       (λ m. branched_is program m (state (spelled_all is) d) rel l (seen a d) (seen b d)
       ∙ ap (λ o. given o (λ x. given (seen b d) (λ y. cond (holds rel x y) (at_items (behind code l) d m) (at is d m)))) (reads a d small r)
       ∙ ap (λ o. given (value a d) (λ x. given o (λ y. cond (holds rel x y) (at_items (behind code l) d m) (at is d m)))) (reads b d small' r))
@@ -248,7 +270,8 @@ module _ (program : TreeProgram) (code : List TreeItem) (callers : List Activati
   pub jump_step : (k l : ℕ) (is : List Item) (r : Runs) (d : Desk) → Leads k r (at_items (behind code l) d) → Leads k r (at (Jump l ∷ is) d)
   jump_step k l is r d h = jump_counts k l is r d (leads_quiet k r _ h)
 
-  pub push_step : (k : ℕ) (w : Tree) (is : List Item) (κ : ℕ → Runs) (d : Desk) → SmallTree w → Ranged (desk_sight d) → ((v : ℕ) → value w d ≡ Number v → Leads k (κ v) (at is (record d { pushed = v ∷ d.pushed }))) → Leads k (on (value w d) κ) (at (Push w ∷ is) d)
+  pub push_step : (k : ℕ) (w : Tree) (is : List Item) (κ : ℕ → Runs) (d : Desk) → SmallTree w → Ranged (desk_sight d)
+      → ((v : ℕ) → value w d ≡ Number v → Leads k (κ v) (at is (record d { pushed = v ∷ d.pushed }))) → Leads k (on (value w d) κ) (at (Push w ∷ is) d)
   push_step k w is κ d small r h =
       quiet k _ (tree (plain tok.Push) (planted w none) rest_of) (spelled_all is) d _ (λ m. given (value w d) (λ v. at is (record d { pushed = v ∷ d.pushed }) m))
       (grown_one (plain tok.Push) (leaves_onto w (end_leaf ∷ [])) _ _ _ refl (grown_tree w (end_leaf ∷ [])))
@@ -262,7 +285,8 @@ module _ (program : TreeProgram) (code : List TreeItem) (callers : List Activati
   abbrev pub back : ℕ → List ℕ → List ℕ → Runs
   back v area input = runs program (returned v callers area input)
 
-  pub ret_step : (k : ℕ) (w : Tree) (is : List Item) (κ : ℕ → Runs) (d : Desk) → SmallTree w → Ranged (desk_sight d) → ((v : ℕ) → value w d ≡ Number v → Leads k (κ v) (back v d.area d.input)) → Leads k (on (value w d) κ) (at (Ret w ∷ is) d)
+  pub ret_step : (k : ℕ) (w : Tree) (is : List Item) (κ : ℕ → Runs) (d : Desk) → SmallTree w → Ranged (desk_sight d)
+      → ((v : ℕ) → value w d ≡ Number v → Leads k (κ v) (back v d.area d.input)) → Leads k (on (value w d) κ) (at (Ret w ∷ is) d)
   ret_step k w is κ d small r h =
       quiet k _ (tree (plain tok.Ret) (planted w none) rest_of) (spelled_all is) d _ (λ m. given (value w d) (λ v. back v d.area d.input m))
       (grown_one (plain tok.Ret) (leaves_onto w (end_leaf ∷ [])) _ _ _ refl (grown_tree w (end_leaf ∷ [])))
@@ -270,11 +294,13 @@ module _ (program : TreeProgram) (code : List TreeItem) (callers : List Activati
       (on_step k (value w d) κ (λ v. back v d.area d.input) h)
 
   -- a call, still to be counted
-  pub call_counts : (k f n : ℕ) (is : List Item) (r q : Runs) (d : Desk) → ((m : ℕ) → called program (run program m) (state (spelled_all is) d) f n ≡ q m) → Leads k r (counted q) → Leads k r (at (Call f n ∷ is) d)
+  pub call_counts : (k f n : ℕ) (is : List Item) (r q : Runs) (d : Desk) → ((m : ℕ) → called program (run program m) (state (spelled_all is) d) f n ≡ q m) → Leads k r (counted q)
+      → Leads k r (at (Call f n ∷ is) d)
   call_counts k f n is r q d same h = counts k _ (tree (leaf tok.Call (att.Callee f n)) none rest_of) (spelled_all is) d r q refl same h
 
   -- labels are passed
-  coming_same : (o : Option (List Leaf × List TreeItem)) (is js : List TreeItem) (d : Desk) (x : Next) → coming o (activation is d) callers d.area d.input x ≡ coming o (activation js d) callers d.area d.input x
+  coming_same : (o : Option (List Leaf × List TreeItem)) (is js : List TreeItem) (d : Desk) (x : Next) → coming o (activation is d) callers d.area d.input x
+      ≡ coming o (activation js d) callers d.area d.input x
   coming_same None is js d x = refl
   coming_same (Some r) is js d x = refl
 
@@ -282,4 +308,5 @@ module _ (program : TreeProgram) (code : List TreeItem) (callers : List Activati
   label_step k l is d r h = subst (λ x. Leads k r (runs program x)) (coming_same (ahead (spelled_all is)) (spelled_all is) (item.Label l ∷ spelled_all is) d (returned 0 callers d.area d.input)) h
 
   pub label_counts : (k l : ℕ) (is : List Item) (d : Desk) (r : Runs) → Leads k r (counted (at is d)) → Leads k r (counted (at (Label l ∷ is) d))
-  label_counts k l is d r h = subst (λ x. Leads k r (counted (runs program x))) (coming_same (ahead (spelled_all is)) (spelled_all is) (item.Label l ∷ spelled_all is) d (returned 0 callers d.area d.input)) h
+  label_counts k l is d r h = subst (λ x. Leads k r (counted (runs program x)))
+      (coming_same (ahead (spelled_all is)) (spelled_all is) (item.Label l ∷ spelled_all is) d (returned 0 callers d.area d.input)) h

@@ -24,7 +24,8 @@ use Rattle.c_lower_follows.proofs.Values.{SmallTree, Small, worth_small}
 use Rattle.c_lower_follows.proofs.Leads.{Leads}
 use Rattle.c_lower_follows.proofs.Steps.{Desk, desk_sight, on, Resolves, lost, narrowed, written_at, assign_loc_step, assign_arg_step, assign_mem_step}
 use Rattle.c_lower_follows.proofs.Agreeing.{Below, alike_set, value, value_alike, value_stable, value_pure, stable_pure, Since, set_same, set_other, get_same, not_nil}
-use Rattle.c_lower_follows.proofs.Placing.{stored_kept, stored_narrowed, conv_value, place_on, SmallPlace, PurePlace, ok, run_at, DoesPlace, DoesReady, fitted_maps, put_local_step, put_argument_step, put_memory_step}
+use Rattle.c_lower_follows.proofs.Placing.{stored_kept, stored_narrowed, conv_value, place_on, SmallPlace, PurePlace, ok, run_at, DoesPlace, DoesReady, fitted_maps, put_local_step}
+use Rattle.c_lower_follows.proofs.Placing.{put_argument_step, put_memory_step}
 use Rattle.c_lower_follows.proofs.Doing.{waits_by, Does, Drops, assoc, split, save_temp}
 
 pub is_leaf_pure : (a : Tree) → is_leaf a ≡ true → divides a ≡ false
@@ -77,8 +78,10 @@ module _ (program : TreeProgram) (code : List TreeItem) (callers : List Activati
   fit_small : (ty : CType) (w : Tree) → SmallTree w → SmallTree (fitted ty w)
   fit_small ty w h = (fitted_maps program code callers size count scope level within ty).small w h
 
-  narrow_same : (ty : CType) (area : List ℕ) (x v : ℕ) → stored (integer_access (integer_of ty)) area x (narrowed program code callers (integer_of ty) v) ≡ stored (integer_access (integer_of ty)) area x (converted ty v)
-  narrow_same ty area x v = stored_narrowed program code callers (integer_of ty) area x v ∙ sym (stored_kept (integer_of ty) area x v) ∙ ap (stored (integer_access (integer_of ty)) area x) (sym (conv_value ty v))
+  narrow_same : (ty : CType) (area : List ℕ) (x v : ℕ) → stored (integer_access (integer_of ty)) area x (narrowed program code callers (integer_of ty) v)
+      ≡ stored (integer_access (integer_of ty)) area x (converted ty v)
+  narrow_same ty area x v = stored_narrowed program code callers (integer_of ty) area x v ∙ sym (stored_kept (integer_of ty) area x v)
+      ∙ ap (stored (integer_access (integer_of ty)) area x) (sym (conv_value ty v))
 
   -- one root assigns
   pub assign_root : (s : Where) (ty : CType) (w : Tree) (k : ℕ) (is : List Item) (κ : State → Runs) (st : State) (d : Desk) → SmallPlace s → SmallTree w → good st d
@@ -99,7 +102,8 @@ module _ (program : TreeProgram) (code : List TreeItem) (callers : List Activati
       (λ x v ex ev. put_memory_step program code callers size count scope level within ty x (converted ty v) v k is (λ v. κ) st d (narrow_same ty d.area x v) ag
       (λ area ag'. h _ _ ag' (λ j sz. refl)))
 
-  pub store_drop_does : (r : Assignable) (t : ℕ) (m : (CType → Spot → Rest) → State → Runs) → size ≤ t → IsReady r t m → Drops program code callers size count scope level (store_drop r) t (λ κ. m (λ ty s v. store_at ty s v κ))
+  pub store_drop_does : (r : Assignable) (t : ℕ) (m : (CType → Spot → Rest) → State → Runs) → size ≤ t → IsReady r t m
+      → Drops program code callers size count scope level (store_drop r) t (λ κ. m (λ ty s v. store_at ty s v κ))
   store_drop_does r t m sz does = record {
     grows = does.grows;
     runs = λ k le is κ res st d ag h.
@@ -110,12 +114,14 @@ module _ (program : TreeProgram) (code : List TreeItem) (callers : List Activati
   }
 
   -- the address of memory has a value, or both sides break
-  pub address_by : (k : ℕ) (a : Tree) (is : List Item) (f : Spot → Runs) (d : Desk) (o : Value) → value program a d ≡ o → divides a ≡ false → ((x : ℕ) → value program a d ≡ Number x → Leads k (f (Memory x)) (go is d)) → Leads k (on o (λ x. f (Memory x))) (go is d)
+  pub address_by : (k : ℕ) (a : Tree) (is : List Item) (f : Spot → Runs) (d : Desk) (o : Value) → value program a d ≡ o → divides a ≡ false
+      → ((x : ℕ) → value program a d ≡ Number x → Leads k (f (Memory x)) (go is d)) → Leads k (on o (λ x. f (Memory x))) (go is d)
   address_by k a is f d (Number x) e pure h = h x e
   address_by k a is f d ZeroDivisor e pure h = absurd (value_pure program a d pure e)
   address_by k a is f d Wild e pure h = lost_at k is d
 
-  since_end : (t u v : ℕ) (a b : List Item) (i : Item) (st : State) (d : Desk) (st1 : State) (d1 : Desk) (st2 : State) (d2 : Desk) → t ≤ u → u ≤ v → Since size t u a st d st1 d1 → ((j : ℕ) → size ≤ j → (j < u) ⊎ (v ≤ j) → d2.locals j ≡ d1.locals j) → Since size t v (a ++ (i ∷ b)) st d st2 d2
+  since_end : (t u v : ℕ) (a b : List Item) (i : Item) (st : State) (d : Desk) (st1 : State) (d1 : Desk) (st2 : State) (d2 : Desk) → t ≤ u → u ≤ v → Since size t u a st d st1 d1
+      → ((j : ℕ) → size ≤ j → (j < u) ⊎ (v ≤ j) → d2.locals j ≡ d1.locals j) → Since size t v (a ++ (i ∷ b)) st d st2 d2
   since_end t u v a b i st d st1 d1 st2 d2 le le' s kept = record {
     keeps = λ j szj o. kept j szj (⊎_elim (λ lt. inl (omega arith)) (λ ge. inr ge) o) ∙ s.keeps j szj (⊎_elim (λ lt. inl lt) (λ ge. inr (omega arith)) o);
     same = λ e. absurd (not_nil a i b e);
@@ -124,7 +130,9 @@ module _ (program : TreeProgram) (code : List TreeItem) (callers : List Activati
   pub use_number : (k : ℕ) (o : Option ℕ) (x : ℕ) (is : List Item) (κ : Rest) (st : State) (d : Desk) → o ≡ Some x → Leads k (on (there o) (λ v. κ v st)) (go is d) → Leads k (κ x st) (go is d)
   use_number k o x is κ st d e h = subst (λ o. Leads k (on (there o) (λ v. κ v st)) (go is d)) e h
 
-  store_low_by : (s : Where) (is0 : List Item) (ty : CType) (w : Tree) (u l t : ℕ) (m : (CType → Spot → Rest) → State → Runs) → size ≤ t → PurePlace s → IsReady (record { items = is0; type = ty; place = s; value = w; temps = u; labels = l }) t m → DoesIt (store_low_at s (record { items = is0; type = ty; place = s; value = w; temps = u; labels = l })) t (λ κ. m (λ ty s v. store_at ty s v κ))
+  store_low_by : (s : Where) (is0 : List Item) (ty : CType) (w : Tree) (u l t : ℕ) (m : (CType → Spot → Rest) → State → Runs) → size ≤ t → PurePlace s
+      → IsReady (record { items = is0; type = ty; place = s; value = w; temps = u; labels = l }) t m
+      → DoesIt (store_low_at s (record { items = is0; type = ty; place = s; value = w; temps = u; labels = l })) t (λ κ. m (λ ty s v. store_at ty s v κ))
   store_low_by (InLoc n) is0 ty w u l t m sz pure does = record {
     grows = does.grows;
     below = let lt = within n does.fits in omega (arith, does.grows);
@@ -170,7 +178,8 @@ module _ (program : TreeProgram) (code : List TreeItem) (callers : List Activati
         (λ st1 d1 ag1 s1. address_by k a (i ∷ j ∷ is) (λ s. on (value program w d1) (λ v. store_at ty s v κ st1)) d1 (value program a d1) refl pure
         (λ x ex.
         subst (λ r. Leads k r (go (i ∷ j ∷ is) d1)) (fit ty w d1 (λ c. written (put ty (Memory x) c st1) c κ))
-        (save_temp program code callers size count scope level within k u (fitted ty w) (j ∷ is) (λ c. written (put ty (Memory x) c st1) c κ) st1 d1 (omega (arith, does.grows)) (fit_small ty w does.small_value) ag1
+        (save_temp program code callers size count scope level within k u (fitted ty w) (j ∷ is) (λ c. written (put ty (Memory x) c st1) c κ) st1 d1 (omega (arith, does.grows))
+        (fit_small ty w does.small_value) ag1
         (λ c lt ec ag2.
         let d2 : Desk = record d1 { locals = with_local d1.locals u c } in
         let there_a : value program a d2 ≡ Number x = value_alike program u a d1 d2 does.fits (alike_set u u c d1 (omega arith)) ∙ ex in
@@ -187,18 +196,22 @@ module _ (program : TreeProgram) (code : List TreeItem) (callers : List Activati
         (λ area ag3.
         let d3 : Desk = record d2 { area = area } in
         use_number k (d3.locals u) c is κ (with_area st1 area) d3 (set_same d1.locals u c)
-        (h (with_area st1 area) d3 ag3 (since_end t u (suc u) is0 (j ∷ []) i st d st1 d1 (with_area st1 area) d3 does.grows (omega arith) s1 (λ q szq o. set_other d1.locals u c q (λ e. ⊎_elim (λ lt. omega arith) (λ ge. omega arith) o))))))))
+        (h (with_area st1 area) d3 ag3 (since_end t u (suc u) is0 (j ∷ []) i st d st1 d1 (with_area st1 area) d3 does.grows (omega arith) s1
+        (λ q szq o. set_other d1.locals u c q (λ e. ⊎_elim (λ lt. omega arith) (λ ge. omega arith) o))))))))
         in
         subst (λ o. Leads k (on o (λ v. R)) (go (j ∷ is) d2)) there_u
         (subst (λ o. Leads k (on o (λ y. on (value program (Loc u) d2) (λ v. R))) (go (j ∷ is) d2)) there_a run))))));
   }
 
-  pub store_low_does : (r : Assignable) (t : ℕ) (m : (CType → Spot → Rest) → State → Runs) → size ≤ t → PurePlace r.place → IsReady r t m → DoesIt (store_low r) t (λ κ. m (λ ty s v. store_at ty s v κ))
+  pub store_low_does : (r : Assignable) (t : ℕ) (m : (CType → Spot → Rest) → State → Runs) → size ≤ t → PurePlace r.place → IsReady r t m
+      → DoesIt (store_low r) t (λ κ. m (λ ty s v. store_at ty s v κ))
   store_low_does r t m sz pure does = store_low_by r.place r.items r.type r.value r.temps r.labels t m sz pure does
 
   -- a part that may be saved, and then another part: where its tree stays, nothing changes it
-  pub hold : (b : Bool) (w : Tree) (t0 u : ℕ) (q : Lowered) (n : Rest → State → Runs) (k : ℕ) → k ≤ level → (is : List Item) (κ : ℕ → Rest) (st : State) (d : Desk) → size ≤ t0 → q.temps ≤ u → SmallTree w → DoesIt q t0 n → Resolves code ((saving b u w ++ q.items) ++ is) → (b ≡ false → (q.items ≡ []) ⊎ ((stable size w ≡ true) × Below t0 w)) → good st d
-      → ((st' : State) (d' : Desk) → good st' d' → Held size t0 q.temps u (saving b u w ++ q.items) st d st' d' → Leads k (on (value program (saved b u w) d') (λ x. on (value program q.tree d') (λ y. κ x y st'))) (go is d'))
+  pub hold : (b : Bool) (w : Tree) (t0 u : ℕ) (q : Lowered) (n : Rest → State → Runs) (k : ℕ) → k ≤ level → (is : List Item) (κ : ℕ → Rest) (st : State) (d : Desk) → size ≤ t0
+      → q.temps ≤ u → SmallTree w → DoesIt q t0 n → Resolves code ((saving b u w ++ q.items) ++ is) → (b ≡ false → (q.items ≡ []) ⊎ ((stable size w ≡ true) × Below t0 w)) → good st d
+      → ((st' : State) (d' : Desk) → good st' d' → Held size t0 q.temps u (saving b u w ++ q.items) st d st' d'
+      → Leads k (on (value program (saved b u w) d') (λ x. on (value program q.tree d') (λ y. κ x y st'))) (go is d'))
       → Leads k (on (value program w d) (λ x. n (κ x) st)) (go ((saving b u w ++ q.items) ++ is) d)
   hold true w t0 u q n k le is κ st d sz le' small does res rest ag h =
       save_temp program code callers size count scope level within k u w (q.items ++ is) (λ x. n (κ x) st) st d (omega (arith, does.grows)) small ag
@@ -234,7 +247,8 @@ module _ (program : TreeProgram) (code : List TreeItem) (callers : List Activati
           subst (λ o. Leads k (on o (λ x. on (value program q.tree d2) (λ y. κ x y st2))) (go is d2)) same (h st2 d2 ag2 (leave st2 d2 s2)))
 
   -- the same, with the frame of the second part alone
-  pub waits : (w : Tree) (t0 : ℕ) (q : Lowered) (n : Rest → State → Runs) (k : ℕ) → k ≤ level → (is : List Item) (κ : ℕ → Rest) (st : State) (d : Desk) → size ≤ t0 → SmallTree w → Below t0 w → DoesIt q t0 n → Resolves code (q.items ++ is) → (q.items ≡ []) ⊎ (stable size w ≡ true) → good st d
+  pub waits : (w : Tree) (t0 : ℕ) (q : Lowered) (n : Rest → State → Runs) (k : ℕ) → k ≤ level → (is : List Item) (κ : ℕ → Rest) (st : State) (d : Desk) → size ≤ t0 → SmallTree w
+      → Below t0 w → DoesIt q t0 n → Resolves code (q.items ++ is) → (q.items ≡ []) ⊎ (stable size w ≡ true) → good st d
       → ((st' : State) (d' : Desk) → good st' d' → Since size t0 q.temps q.items st d st' d' → Leads k (on (value program w d') (λ x. on (value program q.tree d') (λ y. κ x y st'))) (go is d'))
       → Leads k (on (value program w d) (λ x. n (κ x) st)) (go (q.items ++ is) d)
   waits w t0 q n k le is κ st d sz small below does res (inl none) ag h =

@@ -305,7 +305,8 @@ module _ (objects : List Object) (s : Sight) where
   worth_small r (Gaddr n) h = address_small (slice_get objects n)
   worth_small r (Loc n) h = there_small (s.locals n) (r.local n)
   worth_small r (Arg n) h = there_small (slice_get s.arguments n) (r.argument n)
-  worth_small r (Indir i a) h = bind_small (worth a) _ (worth_small r a h) (λ x lt. bind_small (there (fetched (integer_access i) s.area x)) _ (fetched_small (integer_access i) s.area x r.area) (λ v lt. kept_small i v lt))
+  worth_small r (Indir i a) h = bind_small (worth a) _ (worth_small r a h)
+      (λ x lt. bind_small (there (fetched (integer_access i) s.area x)) _ (fetched_small (integer_access i) s.area x r.area) (λ v lt. kept_small i v lt))
   worth_small r (Conv i w) h = bind_small (worth w) _ (worth_small r w h) (λ v lt. kept_small i v lt)
   worth_small r (Neg w) h = bind_small (worth w) _ (worth_small r w h) (λ v lt. omega arith)
   worth_small r (Com w) h = bind_small (worth w) _ (worth_small r w h) (λ v lt. omega arith)
@@ -315,7 +316,9 @@ module _ (objects : List Object) (s : Sight) where
   abbrev pub stands : Tree → Meaning
   stands w = leaf_means objects s (top w) (slice_get (meanings objects s (under w)) 0) (slice_get (meanings objects s (under w)) 1)
 
-  num_by : (n : ℕ) (v w : Value) (a b c d e : Bool) → (n == 0) ≡ a → (n == 1) ≡ b → (n == 2) ≡ c → (n == 4) ≡ d → (n == 8) ≡ e → token_means objects s (if a then tok.Zero else if b then tok.One else if c then tok.Two else if d then tok.Four else if e then tok.Eight else tok.Const) (att.Number n) v w ≡ meaning.Of (Number n)
+  num_by : (n : ℕ) (v w : Value) (a b c d e : Bool) → (n == 0) ≡ a → (n == 1) ≡ b → (n == 2) ≡ c → (n == 4) ≡ d → (n == 8) ≡ e
+      → token_means objects s (if a then tok.Zero else if b then tok.One else if c then tok.Two else if d then tok.Four else if e then tok.Eight else tok.Const) (att.Number n) v w
+      ≡ meaning.Of (Number n)
   num_by n v w true b c d e ea eb ec ed ee = ap (λ x. meaning.Of (Number x)) (sym (eqb-true n 0 ea))
   num_by n v w false true c d e ea eb ec ed ee = ap (λ x. meaning.Of (Number x)) (sym (eqb-true n 1 eb))
   num_by n v w false false true d e ea eb ec ed ee = ap (λ x. meaning.Of (Number x)) (sym (eqb-true n 2 ec))
@@ -383,10 +386,14 @@ module _ (objects : List Object) (s : Sight) where
   stands_is r (Gaddr n) h = refl
   stands_is r (Loc n) h = refl
   stands_is r (Arg n) h = let e : suc n - 1 ≡ n = omega arith in ap (λ i. there (slice_get s.arguments i)) e
-  stands_is r (Indir ints.Char a) h = ap (λ v. bind v (λ x. Number (sext8 x))) (at_is size.Byte (read s (stands a))) ∙ bind_bind (read s (stands a)) _ _ ∙ ap (λ v. bind v (λ x. bind (there (fetched size.Byte s.area x)) (λ v. Number (sext8 v)))) (stands_is r a h)
-  stands_is r (Indir ints.UnsignedChar a) h = ap (λ v. bind v (λ x. Number (zext8 x))) (at_is size.Byte (read s (stands a))) ∙ bind_bind (read s (stands a)) _ _ ∙ ap (λ v. bind v (λ x. bind (there (fetched size.Byte s.area x)) (λ v. Number (zext8 v)))) (stands_is r a h)
-  stands_is r (Indir ints.Short a) h = ap (λ v. bind v (λ x. Number (sext16 x))) (at_is size.Word (read s (stands a))) ∙ bind_bind (read s (stands a)) _ _ ∙ ap (λ v. bind v (λ x. bind (there (fetched size.Word s.area x)) (λ v. Number (sext16 v)))) (stands_is r a h)
-  stands_is r (Indir ints.UnsignedShort a) h = ap (λ v. bind v (λ x. Number (zext16 x))) (at_is size.Word (read s (stands a))) ∙ bind_bind (read s (stands a)) _ _ ∙ ap (λ v. bind v (λ x. bind (there (fetched size.Word s.area x)) (λ v. Number (zext16 v)))) (stands_is r a h)
+  stands_is r (Indir ints.Char a) h = ap (λ v. bind v (λ x. Number (sext8 x))) (at_is size.Byte (read s (stands a))) ∙ bind_bind (read s (stands a)) _ _
+      ∙ ap (λ v. bind v (λ x. bind (there (fetched size.Byte s.area x)) (λ v. Number (sext8 v)))) (stands_is r a h)
+  stands_is r (Indir ints.UnsignedChar a) h = ap (λ v. bind v (λ x. Number (zext8 x))) (at_is size.Byte (read s (stands a))) ∙ bind_bind (read s (stands a)) _ _
+      ∙ ap (λ v. bind v (λ x. bind (there (fetched size.Byte s.area x)) (λ v. Number (zext8 v)))) (stands_is r a h)
+  stands_is r (Indir ints.Short a) h = ap (λ v. bind v (λ x. Number (sext16 x))) (at_is size.Word (read s (stands a))) ∙ bind_bind (read s (stands a)) _ _
+      ∙ ap (λ v. bind v (λ x. bind (there (fetched size.Word s.area x)) (λ v. Number (sext16 v)))) (stands_is r a h)
+  stands_is r (Indir ints.UnsignedShort a) h = ap (λ v. bind v (λ x. Number (zext16 x))) (at_is size.Word (read s (stands a))) ∙ bind_bind (read s (stands a)) _ _
+      ∙ ap (λ v. bind v (λ x. bind (there (fetched size.Word s.area x)) (λ v. Number (zext16 v)))) (stands_is r a h)
   stands_is r (Indir ints.Int a) h = at_is size.Long (read s (stands a)) ∙ ap (λ v. bind v (λ x. there (fetched size.Long s.area x))) (stands_is r a h) ∙ long_is (worth a)
     where
       long_is : (v : Value) → bind v (λ x. there (fetched size.Long s.area x)) ≡ bind v (λ x. bind (there (fetched size.Long s.area x)) (λ v. Number v))

@@ -32,14 +32,18 @@ use Rattle.c_types.specs.declared.typed.Direction.{Direction}
 use Rattle.c_types.specs.declared.typed.Direction.TheVariants as directions
 use Rattle.c_types.specs.Types.{size_of, target, integer_size}
 use Rattle.c_types.specs.Constants.{converted, apply_unary, apply, scale, advanced, retreated, distance}
-use Rattle.c_types.specs.Typed.{APlace, VariableAt, PointedBy, ElementBy, AnExpression, Constant, LiteralAt, ArrayAt, ReadOf, SizeofTerm, SizeOf, AddressOf, CallOf, StepOf, UnaryOf, CastTo, ConvertTo, ArithmeticOf, CompareOf, BothOf, EitherOf, AdvanceOf, AdvanceByOf, RetreatOf, DistanceOf, ChoiceOf, AssignTo, ArithmeticAssignTo, AdvanceAssignTo, RetreatAssignTo, CommaOf, SomeExpressions, NoExpressions, MoreExpressions}
+use Rattle.c_types.specs.Typed.{APlace, VariableAt, PointedBy, ElementBy, AnExpression, Constant, LiteralAt, ArrayAt, ReadOf, SizeofTerm, SizeOf, AddressOf, CallOf, StepOf}
+use Rattle.c_types.specs.Typed.{UnaryOf, CastTo, ConvertTo, ArithmeticOf, CompareOf, BothOf, EitherOf, AdvanceOf, AdvanceByOf, RetreatOf, DistanceOf, ChoiceOf, AssignTo}
+use Rattle.c_types.specs.Typed.{ArithmeticAssignTo, AdvanceAssignTo, RetreatAssignTo, CommaOf, SomeExpressions, NoExpressions, MoreExpressions}
 use Rattle.c_program.specs.Programs.{ARoutine, AProgram}
 use Rattle.c_meaning.specs.declared.store.Spot.{Spot}
 use Rattle.c_meaning.specs.declared.store.Spot.TheVariants.{Memory}
 use Rattle.c_meaning.specs.State.{State, address, spot_of}
 use Rattle.c_meaning.specs.Meaning.{Rest, RestAt, Next, or_wild, or_trap, read_at, store_at, stepped, of_moment, step_at, address_of, located, array_address, expr, place, arguments}
 use Rattle.c_lower_scheme.specs.Trees.{Tree, Num, Gaddr, Neg, Com, Bin, Item}
-use Rattle.c_lower_scheme.specs.Expressions.{Lowered, Lowering, Located, due, where_of, address_tree, scaled_by, advance, advance_by, retreat, apart, step, over, fitted, found, pointed, read_low, address_low, store_low, store_drop, assign_ready, update_ready, step_tree, step_ready, step_low, unary, update_by, seek, way, pass}
+use Rattle.c_lower_scheme.specs.Expressions.{Lowered, Lowering, Located, due, where_of, address_tree, scaled_by, advance, advance_by, retreat, apart, step, over, fitted, found}
+use Rattle.c_lower_scheme.specs.Expressions.{pointed, read_low, address_low, store_low, store_drop, assign_ready, update_ready, step_tree, step_ready, step_low, unary, update_by}
+use Rattle.c_lower_scheme.specs.Expressions.{seek, way, pass}
 use Rattle.c_sound.specs.Fits.{StandsIn, FitsAt, Fits, FitsAll}
 use Rattle.c_lower_follows.proofs.Values.{SmallTree, Small, worth_small, or_zero}
 use Rattle.c_lower_follows.proofs.Leads.{Leads, leads_wild}
@@ -117,8 +121,10 @@ module _ (program : TreeProgram) (code : List TreeItem) (callers : List Activati
   abbrev holding : State → Desk → Type 0
   holding st d = Agrees program code callers size count scope level st d
 
-  bin_on : (op : ArithmeticOperator) (a b : Tree) (d : Desk) (κ : ℕ → Runs) → on (value program (Bin op a b) d) κ ≡ on (value program a d) (λ x. on (value program b d) (λ y. on (or_zero (apply op x y)) κ))
-  bin_on op a b d κ = on_bind (value program a d) (λ x. bind (value program b d) (λ y. or_zero (apply op x y))) κ ∙ (λ j. on (value program a d) (λ x. on_bind (value program b d) (λ y. or_zero (apply op x y)) κ j))
+  bin_on : (op : ArithmeticOperator) (a b : Tree) (d : Desk) (κ : ℕ → Runs) → on (value program (Bin op a b) d) κ
+      ≡ on (value program a d) (λ x. on (value program b d) (λ y. on (or_zero (apply op x y)) κ))
+  bin_on op a b d κ = on_bind (value program a d) (λ x. bind (value program b d) (λ y. or_zero (apply op x y))) κ
+      ∙ (λ j. on (value program a d) (λ x. on_bind (value program b d) (λ y. or_zero (apply op x y)) κ j))
 
   bin_makes : (op : ArithmeticOperator) → MakesOf (Bin op) (λ x y. or_trap (apply op x y))
   bin_makes op = record {
@@ -130,7 +136,8 @@ module _ (program : TreeProgram) (code : List TreeItem) (callers : List Activati
   small_at : (b : Tree) (st : State) (d : Desk) → holding st d → SmallTree b → Small (value program b d)
   small_at b st d ag h = worth_small program.objects (desk_sight d) ag.ranged b h
 
-  scaled_on : (s : ℕ) (c : Bool) → (s == 1) ≡ c → (b : Tree) (d : Desk) (κ : ℕ → Runs) → Small (value program b d) → on (value program (if c then b else Bin ariths.Multiply (Num s) b) d) κ ≡ on (value program b d) (λ y. κ (mul32 y s))
+  scaled_on : (s : ℕ) (c : Bool) → (s == 1) ≡ c → (b : Tree) (d : Desk) (κ : ℕ → Runs) → Small (value program b d) → on (value program (if c then b else Bin ariths.Multiply (Num s) b) d) κ
+      ≡ on (value program b d) (λ y. κ (mul32 y s))
   scaled_on s true e b d κ h = on_same (value program b d) κ (λ y. κ (mul32 y s)) (λ y ey. ap κ (mul_one y s (eqb-true s 1 e) (subst Small ey h)))
   scaled_on s false e b d κ h = bin_on ariths.Multiply (Num s) b d κ ∙ (λ j. on (value program b d) (λ y. (multiply_is s y κ ∙ ap κ (mul_turned s y)) j))
 
@@ -172,12 +179,16 @@ module _ (program : TreeProgram) (code : List TreeItem) (callers : List Activati
         ∙ (λ j. on (value program a d) (λ x. on (value program b d) (λ y. subtract_is x (mul32 y (scale t)) (λ v. κ v st) j)));
   }
 
-  shared_on : (s : ℕ) (c : Bool) → (s == 1) ≡ c → (a b : Tree) (d : Desk) (κ : Rest) (st : State) → on (value program (if c then Bin ariths.Subtract a b else Bin ariths.Divide (Bin ariths.Subtract a b) (Num s)) d) (λ v. κ v st) ≡ on (value program a d) (λ x. on (value program b d) (λ y. or_trap (div32 (sub32 x y) s) κ st))
-  shared_on s true e a b d κ st = bin_on ariths.Subtract a b d (λ v. κ v st) ∙ (λ j. on (value program a d) (λ x. on (value program b d) (λ y. (subtract_is x y (λ v. κ v st) ∙ ap (λ o. or_trap o κ st) (sym (div_one (sub32 x y) s (eqb-true s 1 e) (omega arith)))) j)))
+  shared_on : (s : ℕ) (c : Bool) → (s == 1) ≡ c → (a b : Tree) (d : Desk) (κ : Rest) (st : State)
+      → on (value program (if c then Bin ariths.Subtract a b else Bin ariths.Divide (Bin ariths.Subtract a b) (Num s)) d) (λ v. κ v st)
+      ≡ on (value program a d) (λ x. on (value program b d) (λ y. or_trap (div32 (sub32 x y) s) κ st))
+  shared_on s true e a b d κ st = bin_on ariths.Subtract a b d (λ v. κ v st)
+      ∙ (λ j. on (value program a d) (λ x. on (value program b d) (λ y. (subtract_is x y (λ v. κ v st) ∙ ap (λ o. or_trap o κ st) (sym (div_one (sub32 x y) s (eqb-true s 1 e) (omega arith)))) j)))
   shared_on s false e a b d κ st =
       bin_on ariths.Divide (Bin ariths.Subtract a b) (Num s) d (λ v. κ v st)
       ∙ bin_on ariths.Subtract a b d (λ z. on (or_zero (apply ariths.Divide z s)) (λ v. κ v st))
-      ∙ (λ j. on (value program a d) (λ x. on (value program b d) (λ y. (subtract_is x y (λ z. on (or_zero (apply ariths.Divide z s)) (λ v. κ v st)) ∙ divide_is (sub32 x y) s (λ v. κ v st) ∙ trap_on (div32 (sub32 x y) s) κ st) j)))
+      ∙ (λ j. on (value program a d) (λ x. on (value program b d) (λ y.
+      (subtract_is x y (λ z. on (or_zero (apply ariths.Divide z s)) (λ v. κ v st)) ∙ divide_is (sub32 x y) s (λ v. κ v st) ∙ trap_on (div32 (sub32 x y) s) κ st) j)))
 
   shared_small : (s : ℕ) (c : Bool) → s < 2 ^ 32 → (w : Tree) → SmallTree w → SmallTree (if c then w else Bin ariths.Divide w (Num s))
   shared_small s true lt w h = h
@@ -201,8 +212,18 @@ module _ (program : TreeProgram) (code : List TreeItem) (callers : List Activati
   stepping directions.Down x y = sub32 x y
 
   step_makes : (by : Direction) → MakesOf (step by) (λ x y κ. κ (stepping by x y))
-  step_makes directions.Up = record { below = λ u a b h g. (h, g); small = λ a b h g. (h, g); makes = λ a b st d κ sa sb ag. bin_on ariths.Add a b d (λ v. κ v st) ∙ (λ j. on (value program a d) (λ x. on (value program b d) (λ y. add_is x y (λ v. κ v st) j))) }
-  step_makes directions.Down = record { below = λ u a b h g. (h, g); small = λ a b h g. (h, g); makes = λ a b st d κ sa sb ag. bin_on ariths.Subtract a b d (λ v. κ v st) ∙ (λ j. on (value program a d) (λ x. on (value program b d) (λ y. subtract_is x y (λ v. κ v st) j))) }
+  step_makes directions.Up = record {
+    below = λ u a b h g. (h, g);
+    small = λ a b h g. (h, g);
+    makes = λ a b st d κ sa sb ag. bin_on ariths.Add a b d (λ v. κ v st)
+        ∙ (λ j. on (value program a d) (λ x. on (value program b d) (λ y. add_is x y (λ v. κ v st) j)));
+  }
+  step_makes directions.Down = record {
+    below = λ u a b h g. (h, g);
+    small = λ a b h g. (h, g);
+    makes = λ a b st d κ sa sb ag. bin_on ariths.Subtract a b d (λ v. κ v st)
+        ∙ (λ j. on (value program a d) (λ x. on (value program b d) (λ y. subtract_is x y (λ v. κ v st) j)));
+  }
 
   one_times : (s : ℕ) → s < 2 ^ 32 → mul32 1 s ≡ s
   one_times s lt = omega arith
@@ -213,8 +234,18 @@ module _ (program : TreeProgram) (code : List TreeItem) (callers : List Activati
   stepped_is directions.Down t x = ap (sub32 x) (one_times (scale t) (scale_small t))
 
   step_maps : (by : Direction) (t : CType) → MapsOf (step_tree size count by t) (stepped by t)
-  step_maps directions.Up t = record { below = λ u a h. (h, tt); small = λ a h. (h, scale_small t); maps = λ a d κ. bin_on ariths.Add a (Num (scale t)) d κ ∙ (λ j. on (value program a d) (λ x. (add_is x (scale t) κ ∙ ap κ (sym (stepped_is directions.Up t x))) j)) }
-  step_maps directions.Down t = record { below = λ u a h. (h, tt); small = λ a h. (h, scale_small t); maps = λ a d κ. bin_on ariths.Subtract a (Num (scale t)) d κ ∙ (λ j. on (value program a d) (λ x. (subtract_is x (scale t) κ ∙ ap κ (sym (stepped_is directions.Down t x))) j)) }
+  step_maps directions.Up t = record {
+    below = λ u a h. (h, tt);
+    small = λ a h. (h, scale_small t);
+    maps = λ a d κ. bin_on ariths.Add a (Num (scale t)) d κ
+        ∙ (λ j. on (value program a d) (λ x. (add_is x (scale t) κ ∙ ap κ (sym (stepped_is directions.Up t x))) j));
+  }
+  step_maps directions.Down t = record {
+    below = λ u a h. (h, tt);
+    small = λ a h. (h, scale_small t);
+    maps = λ a d κ. bin_on ariths.Subtract a (Num (scale t)) d κ
+        ∙ (λ j. on (value program a d) (λ x. (subtract_is x (scale t) κ ∙ ap κ (sym (stepped_is directions.Down t x))) j));
+  }
 
   plus_maps : MapsOf (λ w. w) (apply_unary unaries.Plus)
   unfolding apply_unary
@@ -270,16 +301,30 @@ module _ (program : TreeProgram) (code : List TreeItem) (callers : List Activati
       (λ k is κ st d ag h. subst (λ r. Leads k r (there_is is d)) (gaddr n d (λ v. κ v st) ∙ located_at (address p.objects n) (λ s. address_of s κ) st) h)
 
   array_does : (v : Variable) (t l : ℕ) → LowOf (due (address_tree (where_of v)) t l) t (array_address p v)
-  array_does (variables.Automatic n) t l = due_does program code callers size count scope level within (Num 0) t l _ tt (omega arith) (λ k is κ st d ag h. leads_wild k _ (quiet_at program code callers size count scope level is d))
-  array_does (variables.Parameter n) t l = due_does program code callers size count scope level within (Num 0) t l _ tt (omega arith) (λ k is κ st d ag h. leads_wild k _ (quiet_at program code callers size count scope level is d))
+  array_does (variables.Automatic n) t l = due_does program code callers size count scope level within (Num 0) t l _ tt (omega arith)
+      (λ k is κ st d ag h. leads_wild k _ (quiet_at program code callers size count scope level is d))
+  array_does (variables.Parameter n) t l = due_does program code callers size count scope level within (Num 0) t l _ tt (omega arith)
+      (λ k is κ st d ag h. leads_wild k _ (quiet_at program code callers size count scope level is d))
   array_does (variables.Global n) t l = object_does n t l
   array_does (variables.Static n) t l = object_does n t l
 
   variable_does : (ty : CType) (v : Variable) (t l : ℕ) → StandsIn scope v → PlaceOf (found ty (where_of v) t l) t (λ κ. located (spot_of p.objects v) (κ ty))
   variable_does ty (variables.Automatic n) t l fit = record { grows = omega arith; fits = fit; small = tt; runs = λ k le is κ res st d ag h. h st d ag (since_start size t t [] st d) }
   variable_does ty (variables.Parameter n) t l fit = record { grows = omega arith; fits = tt; small = tt; runs = λ k le is κ res st d ag h. h st d ag (since_start size t t [] st d) }
-  variable_does ty (variables.Global n) t l fit = record { grows = omega arith; fits = tt; small = tt; runs = λ k le is κ res st d ag h. subst (λ r. Leads k r (there_is is d)) (gaddr n d (λ x. κ ty (Memory x) st) ∙ located_at (address p.objects n) (κ ty) st) (h st d ag (since_start size t t [] st d)) }
-  variable_does ty (variables.Static n) t l fit = record { grows = omega arith; fits = tt; small = tt; runs = λ k le is κ res st d ag h. subst (λ r. Leads k r (there_is is d)) (gaddr n d (λ x. κ ty (Memory x) st) ∙ located_at (address p.objects n) (κ ty) st) (h st d ag (since_start size t t [] st d)) }
+  variable_does ty (variables.Global n) t l fit = record {
+    grows = omega arith;
+    fits = tt;
+    small = tt;
+    runs = λ k le is κ res st d ag h.
+        subst (λ r. Leads k r (there_is is d)) (gaddr n d (λ x. κ ty (Memory x) st) ∙ located_at (address p.objects n) (κ ty) st) (h st d ag (since_start size t t [] st d));
+  }
+  variable_does ty (variables.Static n) t l fit = record {
+    grows = omega arith;
+    fits = tt;
+    small = tt;
+    runs = λ k le is κ res st d ag h.
+        subst (λ r. Leads k r (there_is is d)) (gaddr n d (λ x. κ ty (Memory x) st) ∙ located_at (address p.objects n) (κ ty) st) (h st d ag (since_start size t t [] st d));
+  }
 
   pointed_does : (ty : CType) (q : Lowered) (t : ℕ) (m : Rest → State → Runs) → LowOf q t m → PlaceOf (pointed ty q) t (λ κ. m (λ a. κ ty (Memory a)))
   pointed_does ty q t m does = record { grows = does.grows; fits = does.below; small = does.small; runs = λ k le is κ res st d ag h. does.runs k le is (λ a. κ ty (Memory a)) res st d ag h }
@@ -288,20 +333,29 @@ module _ (program : TreeProgram) (code : List TreeItem) (callers : List Activati
   number_does n lt t l = due_does program code callers size count scope level within (Num n) t l (λ κ. κ n) tt lt (λ k is κ st d ag h. h)
 
   unary_does : (op : UnaryOperator) (e : Lowering) (m : Rest → State → Runs) → WayOf e m → WayOf (unary size count op e) (λ κ. m (λ v. κ (apply_unary op v)))
-  unary_does unaries.Plus e m does = mapped_does program code callers size count scope level within (λ w. w) (apply_unary unaries.Plus) e m (plus_maps program code callers size count scope level within) does
-  unary_does unaries.Minus e m does = mapped_does program code callers size count scope level within Neg (apply_unary unaries.Minus) e m (minus_maps program code callers size count scope level within) does
-  unary_does unaries.Complement e m does = mapped_does program code callers size count scope level within Com (apply_unary unaries.Complement) e m (complement_maps program code callers size count scope level within) does
+  unary_does unaries.Plus e m does = mapped_does program code callers size count scope level within (λ w. w) (apply_unary unaries.Plus) e m
+      (plus_maps program code callers size count scope level within) does
+  unary_does unaries.Minus e m does = mapped_does program code callers size count scope level within Neg (apply_unary unaries.Minus) e m
+      (minus_maps program code callers size count scope level within) does
+  unary_does unaries.Complement e m does = mapped_does program code callers size count scope level within Com (apply_unary unaries.Complement) e m
+      (complement_maps program code callers size count scope level within) does
   unary_does unaries.Not e m does = not_does program code callers size count scope level within e m does
 
   -- `++` and `--`, whose other side is the size
-  step_ready_does : (by : Direction) (q : Located) (t : ℕ) (m : RestAt → State → Runs) → size ≤ t → PlaceOf q t m → DoesReady program code callers size count scope level (step_ready size count by q) t (λ κ. m (λ ty s. read_at ty s (λ x. κ ty s (stepping program code callers size count scope level within by x (scale ty)))))
-  step_ready_does by q t m sz does = update_does program code callers size count scope level within (step by) (λ ty x y κ. κ (stepping program code callers size count scope level within by x y)) q (due (Num (scale q.type)) q.temps q.labels) t m (λ ty κ. κ (scale ty)) sz (step_makes program code callers size count scope level within by) does (number_does (scale q.type) (scale_small q.type) q.temps q.labels)
+  step_ready_does : (by : Direction) (q : Located) (t : ℕ) (m : RestAt → State → Runs) → size ≤ t → PlaceOf q t m
+      → DoesReady program code callers size count scope level (step_ready size count by q) t
+      (λ κ. m (λ ty s. read_at ty s (λ x. κ ty s (stepping program code callers size count scope level within by x (scale ty)))))
+  step_ready_does by q t m sz does = update_does program code callers size count scope level within (step by)
+      (λ ty x y κ. κ (stepping program code callers size count scope level within by x y)) q (due (Num (scale q.type)) q.temps q.labels) t m (λ ty κ. κ (scale ty)) sz
+      (step_makes program code callers size count scope level within by) does (number_does (scale q.type) (scale_small q.type) q.temps q.labels)
 
-  step_does : (moment : Moment) (by : Direction) (a : APlace) (m : RestAt → State → Runs) → ((t l : ℕ) → size ≤ t → PlaceOf (seek size count a t l) t m) → WayOf (way size count (StepOf moment by a)) (λ κ. m (λ ty s. step_at moment by ty s κ))
+  step_does : (moment : Moment) (by : Direction) (a : APlace) (m : RestAt → State → Runs) → ((t l : ℕ) → size ≤ t → PlaceOf (seek size count a t l) t m)
+      → WayOf (way size count (StepOf moment by a)) (λ κ. m (λ ty s. step_at moment by ty s κ))
   step_does moment by a m does = effective_does program code callers size count scope level within _ _ (λ κ. m (λ ty s. step_at moment by ty s κ))
       (λ t l sz. low_of moment t l sz) (λ t l sz. drop_of moment t l sz)
     where
-      stepped_path : (moment : Moment) (κ : Rest) → ◌≡◌ {A = RestAt} (λ ty s. read_at ty s (λ x. store_at ty s (stepping program code callers size count scope level within by x (scale ty)) (λ y. κ (of_moment moment x y)))) (λ ty s. step_at moment by ty s κ)
+      stepped_path : (moment : Moment) (κ : Rest) → ◌≡◌ {A = RestAt} (λ ty s.
+          read_at ty s (λ x. store_at ty s (stepping program code callers size count scope level within by x (scale ty)) (λ y. κ (of_moment moment x y)))) (λ ty s. step_at moment by ty s κ)
       stepped_path moment κ = λ j ty s. read_at ty s (λ x. store_at ty s (sym (stepped_is program code callers size count scope level within by ty x) j) (λ y. κ (of_moment moment x y)))
 
       low_of : (moment : Moment) (t l : ℕ) → size ≤ t → LowOf (step_low size count moment by (seek size count a t l)) t (λ κ. m (λ ty s. step_at moment by ty s κ))
@@ -309,27 +363,44 @@ module _ (program : TreeProgram) (code : List TreeItem) (callers : List Activati
           post_does program code callers size count scope level within q t (step_tree size count by q.type) (stepped by) m sz (step_maps program code callers size count scope level within by q.type) f
       low_of moments.After t l sz = let q = seek size count a t l in
           let r = step_ready_does by q t m sz (does t l sz) in
-          let low = store_low_does program code callers size count scope level within (step_ready size count by q) t (λ κ. m (λ ty s. read_at ty s (λ x. κ ty s (stepping program code callers size count scope level within by x (scale ty))))) sz (update_pure program code callers size count scope level within (step by) q (due (Num (scale q.type)) q.temps q.labels)) r in
-          record { grows = low.grows; below = low.below; small = low.small; runs = λ k le is κ res st d ag h. subst (λ K. Leads k (m K st) (there_is ((store_low (step_ready size count by q)).items ++ is) d)) (stepped_path moments.After κ) (low.runs k le is κ res st d ag h) }
+          let low = store_low_does program code callers size count scope level within (step_ready size count by q) t
+          (λ κ. m (λ ty s. read_at ty s (λ x. κ ty s (stepping program code callers size count scope level within by x (scale ty))))) sz
+          (update_pure program code callers size count scope level within (step by) q (due (Num (scale q.type)) q.temps q.labels)) r in
+          record {
+            grows = low.grows;
+            below = low.below;
+            small = low.small;
+            runs = λ k le is κ res st d ag h.
+                subst (λ K. Leads k (m K st) (there_is ((store_low (step_ready size count by q)).items ++ is) d)) (stepped_path moments.After κ) (low.runs k le is κ res st d ag h);
+          }
 
-      drop_of : (moment : Moment) (t l : ℕ) → size ≤ t → Drops program code callers size count scope level (store_drop (step_ready size count by (seek size count a t l))) t (λ κ. m (λ ty s. step_at moment by ty s κ))
+      drop_of : (moment : Moment) (t l : ℕ) → size ≤ t → Drops program code callers size count scope level (store_drop (step_ready size count by (seek size count a t l))) t
+          (λ κ. m (λ ty s. step_at moment by ty s κ))
       drop_of moment t l sz = let q = seek size count a t l in
           let r = step_ready_does by q t m sz (does t l sz) in
-          let drops = store_drop_does program code callers size count scope level within (step_ready size count by q) t (λ κ. m (λ ty s. read_at ty s (λ x. κ ty s (stepping program code callers size count scope level within by x (scale ty))))) sz r in
-          record { grows = drops.grows; runs = λ k le is κ res st d ag h. subst (λ K. Leads k (m K st) (there_is ((store_drop (step_ready size count by q)).items ++ is) d)) (any_moment moment κ) (drops.runs k le is κ res st d ag h) }
+          let drops = store_drop_does program code callers size count scope level within (step_ready size count by q) t
+          (λ κ. m (λ ty s. read_at ty s (λ x. κ ty s (stepping program code callers size count scope level within by x (scale ty))))) sz r in
+          record {
+            grows = drops.grows;
+            runs = λ k le is κ res st d ag h.
+                subst (λ K. Leads k (m K st) (there_is ((store_drop (step_ready size count by q)).items ++ is) d)) (any_moment moment κ) (drops.runs k le is κ res st d ag h);
+          }
         where
-          any_moment : (moment : Moment) (κ : State → Runs) → ◌≡◌ {A = RestAt} (λ ty s. read_at ty s (λ x. store_at ty s (stepping program code callers size count scope level within by x (scale ty)) (λ v. κ))) (λ ty s. step_at moment by ty s (λ v. κ))
+          any_moment : (moment : Moment) (κ : State → Runs) → ◌≡◌ {A = RestAt}
+              (λ ty s. read_at ty s (λ x. store_at ty s (stepping program code callers size count scope level within by x (scale ty)) (λ v. κ))) (λ ty s. step_at moment by ty s (λ v. κ))
           any_moment moment κ = λ j ty s. read_at ty s (λ x. store_at ty s (sym (stepped_is program code callers size count scope level within by ty x) j) (λ v. κ))
 
   -- assignments
-  assign_way : (a : APlace) (e : AnExpression) (m : RestAt → State → Runs) (n : Rest → State → Runs) → ((t l : ℕ) → size ≤ t → PlaceOf (seek size count a t l) t m) → WayOf (way size count e) n → WayOf (way size count (AssignTo a e)) (λ κ. m (λ ty s. n (λ v. store_at ty s v κ)))
+  assign_way : (a : APlace) (e : AnExpression) (m : RestAt → State → Runs) (n : Rest → State → Runs) → ((t l : ℕ) → size ≤ t → PlaceOf (seek size count a t l) t m)
+      → WayOf (way size count e) n → WayOf (way size count (AssignTo a e)) (λ κ. m (λ ty s. n (λ v. store_at ty s v κ)))
   assign_way a e m n does does' = effective_does program code callers size count scope level within _ _ (λ κ. m (λ ty s. n (λ v. store_at ty s v κ)))
       (λ t l sz.
       let q = seek size count a t l in
       let f = does t l sz in
       let v = (way size count e).low q.temps q.labels in
       let r = assign_does program code callers size count scope level within true q v t m n sz f (does'.low q.temps q.labels (omega (arith, f.grows))) in
-      let low = store_low_does program code callers size count scope level within (assign_ready size count true q v) t (λ κ. m (λ ty s. n (λ v. κ ty s v))) sz (assign_pure program code callers size count scope level within q v) r in
+      let low = store_low_does program code callers size count scope level within (assign_ready size count true q v) t (λ κ. m (λ ty s. n (λ v. κ ty s v))) sz
+      (assign_pure program code callers size count scope level within q v) r in
       record { grows = low.grows; below = low.below; small = low.small; runs = λ k le is κ res st d ag h. low.runs k le is κ res st d ag h })
       (λ t l sz.
       let q = seek size count a t l in
@@ -339,24 +410,30 @@ module _ (program : TreeProgram) (code : List TreeItem) (callers : List Activati
       let drops = store_drop_does program code callers size count scope level within (assign_ready size count false q v) t (λ κ. m (λ ty s. n (λ v. κ ty s v))) sz r in
       record { grows = drops.grows; runs = λ k le is κ res st d ag h. drops.runs k le is κ res st d ag h })
 
-  update_way : (f : CType → Tree → Tree → Tree) (g : CType → ℕ → ℕ → Rest → State → Runs) (a : APlace) (e : AnExpression) (m : RestAt → State → Runs) (n : Rest → State → Runs) → ((ty : CType) → MakesOf program code callers size count scope level within (f ty) (g ty)) → ((t l : ℕ) → size ≤ t → PlaceOf (seek size count a t l) t m) → WayOf (way size count e) n → WayOf (update_by size count f (seek size count a) (way size count e)) (λ κ. m (λ ty s. read_at ty s (λ x. n (λ y. g ty x y (λ v. store_at ty s v κ)))))
+  update_way : (f : CType → Tree → Tree → Tree) (g : CType → ℕ → ℕ → Rest → State → Runs) (a : APlace) (e : AnExpression) (m : RestAt → State → Runs) (n : Rest → State → Runs)
+      → ((ty : CType) → MakesOf program code callers size count scope level within (f ty) (g ty)) → ((t l : ℕ) → size ≤ t → PlaceOf (seek size count a t l) t m)
+      → WayOf (way size count e) n → WayOf (update_by size count f (seek size count a) (way size count e)) (λ κ. m (λ ty s. read_at ty s (λ x. n (λ y. g ty x y (λ v. store_at ty s v κ)))))
   update_way f g a e m n made does does' = effective_does program code callers size count scope level within _ _ (λ κ. m (λ ty s. read_at ty s (λ x. n (λ y. g ty x y (λ v. store_at ty s v κ)))))
       (λ t l sz.
       let q = seek size count a t l in
       let h = does t l sz in
       let v = (way size count e).low q.temps q.labels in
       let r = update_does program code callers size count scope level within (f q.type) g q v t m (λ ty. n) sz (made q.type) h (does'.low q.temps q.labels (omega (arith, h.grows))) in
-      let low = store_low_does program code callers size count scope level within (update_ready size count (f q.type) q v) t (λ κ. m (λ ty s. read_at ty s (λ x. n (λ y. g ty x y (κ ty s))))) sz (update_pure program code callers size count scope level within (f q.type) q v) r in
+      let low = store_low_does program code callers size count scope level within (update_ready size count (f q.type) q v) t
+      (λ κ. m (λ ty s. read_at ty s (λ x. n (λ y. g ty x y (κ ty s))))) sz (update_pure program code callers size count scope level within (f q.type) q v) r in
       record { grows = low.grows; below = low.below; small = low.small; runs = λ k le is κ res st d ag h. low.runs k le is κ res st d ag h })
       (λ t l sz.
       let q = seek size count a t l in
       let h = does t l sz in
       let v = (way size count e).low q.temps q.labels in
       let r = update_does program code callers size count scope level within (f q.type) g q v t m (λ ty. n) sz (made q.type) h (does'.low q.temps q.labels (omega (arith, h.grows))) in
-      let drops = store_drop_does program code callers size count scope level within (update_ready size count (f q.type) q v) t (λ κ. m (λ ty s. read_at ty s (λ x. n (λ y. g ty x y (κ ty s))))) sz r in
+      let drops = store_drop_does program code callers size count scope level within (update_ready size count (f q.type) q v) t
+      (λ κ. m (λ ty s. read_at ty s (λ x. n (λ y. g ty x y (κ ty s))))) sz r in
       record { grows = drops.grows; runs = λ k le is κ res st d ag h. drops.runs k le is κ res st d ag h })
 
-  call_way : (ty : CType) (f : Callee) (to : List CType) (es : SomeExpressions) → ((t l : ℕ) → size ≤ t → DoesAll program code callers size count scope level within (pass size count es to t l) t (arguments p next es to)) → WayOf (way size count (CallOf ty f to es)) (expr p next (CallOf ty f to es))
+  call_way : (ty : CType) (f : Callee) (to : List CType) (es : SomeExpressions)
+      → ((t l : ℕ) → size ≤ t → DoesAll program code callers size count scope level within (pass size count es to t l) t (arguments p next es to))
+      → WayOf (way size count (CallOf ty f to es)) (expr p next (CallOf ty f to es))
   call_way ty f to es does = effective_does program code callers size count scope level within _ _ (expr p next (CallOf ty f to es))
       (λ t l sz. called_low_does program code callers size count scope level within p next counts_all lowers calls f (pass size count es to t l) t (arguments p next es to) sz (does t l sz))
       (λ t l sz. called_drop_does program code callers size count scope level within p next counts_all lowers calls f (pass size count es to t l) t (arguments p next es to) sz (does t l sz))
@@ -371,34 +448,54 @@ module _ (program : TreeProgram) (code : List TreeItem) (callers : List Activati
     way_does (Constant n) fit = valued_does program code callers size count scope level within (due (Num n)) (λ κ. κ n) (λ t l sz. number_does n fit t l)
     way_does (LiteralAt n bytes) fit = valued_does program code callers size count scope level within (due (Gaddr n)) (λ κ. or_wild (address p.objects n) κ) (λ t l sz. literal_does n t l)
     way_does (ArrayAt ty v bytes) fit = valued_does program code callers size count scope level within (due (address_tree (where_of v))) (array_address p v) (λ t l sz. array_does v t l)
-    way_does (ReadOf a) fit = valued_does program code callers size count scope level within (λ t l. read_low (seek size count a t l)) (λ κ. place p next a (λ ty s. read_at ty s κ)) (λ t l sz. read_does program code callers size count scope level within (seek size count a t l) t (place p next a) sz (seek_does a fit t l sz))
+    way_does (ReadOf a) fit = valued_does program code callers size count scope level within (λ t l. read_low (seek size count a t l)) (λ κ. place p next a (λ ty s. read_at ty s κ))
+        (λ t l sz. read_does program code callers size count scope level within (seek size count a t l) t (place p next a) sz (seek_does a fit t l sz))
     way_does (SizeofTerm n e) fit = valued_does program code callers size count scope level within (due (Num n)) (λ κ. κ n) (λ t l sz. number_does n fit t l)
     way_does (SizeOf n) fit = valued_does program code callers size count scope level within (due (Num n)) (λ κ. κ n) (λ t l sz. number_does n fit t l)
-    way_does (AddressOf ty a) fit = valued_does program code callers size count scope level within (λ t l. address_low (seek size count a t l)) (λ κ. place p next a (λ ty s. address_of s κ)) (λ t l sz. address_does program code callers size count scope level within (seek size count a t l) t (place p next a) (seek_does a fit t l sz))
+    way_does (AddressOf ty a) fit = valued_does program code callers size count scope level within (λ t l. address_low (seek size count a t l))
+        (λ κ. place p next a (λ ty s. address_of s κ)) (λ t l sz. address_does program code callers size count scope level within (seek size count a t l) t (place p next a) (seek_does a fit t l sz))
     way_does (CallOf ty f to es) fit = call_way ty f to es (λ t l sz. all_do es to fit t l sz)
     way_does (StepOf moment by a) fit = step_does moment by a (place p next a) (λ t l sz. seek_does a fit t l sz)
     way_does (UnaryOf op e) fit = unary_does op (way size count e) (expr p next e) (way_does e fit)
-    way_does (CastTo ty e) fit = mapped_does program code callers size count scope level within (fitted ty) (converted ty) (way size count e) (expr p next e) (fitted_maps program code callers size count scope level within ty) (way_does e fit)
-    way_does (ConvertTo ty e) fit = mapped_does program code callers size count scope level within (fitted ty) (converted ty) (way size count e) (expr p next e) (fitted_maps program code callers size count scope level within ty) (way_does e fit)
-    way_does (ArithmeticOf op a b) fit = binary_does program code callers size count scope level within (Bin op) (λ x y. or_trap (apply op x y)) (way size count a) (way size count b) (expr p next a) (expr p next b) (bin_makes program code callers size count scope level within op) (way_does a fit.0) (way_does b fit.1)
-    way_does (CompareOf r a b) fit = relation_does program code callers size count scope level within r (way size count a) (way size count b) (expr p next a) (expr p next b) (way_does a fit.0) (way_does b fit.1)
-    way_does (BothOf a b) fit = chain_does program code callers size count scope level within false (way size count a) (way size count b) (expr p next a) (expr p next b) (way_does a fit.0) (way_does b fit.1)
-    way_does (EitherOf a b) fit = chain_does program code callers size count scope level within true (way size count a) (way size count b) (expr p next a) (expr p next b) (way_does a fit.0) (way_does b fit.1)
-    way_does (AdvanceOf ty a b) fit = binary_does program code callers size count scope level within (advance ty) (λ x y κ. κ (advanced ty x y)) (way size count a) (way size count b) (expr p next a) (expr p next b) (advance_makes program code callers size count scope level within ty) (way_does a fit.0) (way_does b fit.1)
-    way_does (AdvanceByOf ty a b) fit = binary_does program code callers size count scope level within (advance_by ty) (λ i x κ. κ (advanced ty x i)) (way size count a) (way size count b) (expr p next a) (expr p next b) (advance_by_makes program code callers size count scope level within ty) (way_does a fit.0) (way_does b fit.1)
-    way_does (RetreatOf ty a b) fit = binary_does program code callers size count scope level within (retreat ty) (λ x y κ. κ (retreated ty x y)) (way size count a) (way size count b) (expr p next a) (expr p next b) (retreat_makes program code callers size count scope level within ty) (way_does a fit.0) (way_does b fit.1)
-    way_does (DistanceOf ty a b) fit = binary_does program code callers size count scope level within (apart ty) (λ x y. or_trap (distance ty x y)) (way size count a) (way size count b) (expr p next a) (expr p next b) (apart_makes program code callers size count scope level within ty) (way_does a fit.0) (way_does b fit.1)
-    way_does (ChoiceOf ty c a b) fit = choose_does program code callers size count scope level within (way size count c) (way size count a) (way size count b) (expr p next c) (expr p next a) (expr p next b) (way_does c fit.0) (way_does a fit.1) (way_does b fit.2)
+    way_does (CastTo ty e) fit = mapped_does program code callers size count scope level within (fitted ty) (converted ty) (way size count e) (expr p next e)
+        (fitted_maps program code callers size count scope level within ty) (way_does e fit)
+    way_does (ConvertTo ty e) fit = mapped_does program code callers size count scope level within (fitted ty) (converted ty) (way size count e) (expr p next e)
+        (fitted_maps program code callers size count scope level within ty) (way_does e fit)
+    way_does (ArithmeticOf op a b) fit = binary_does program code callers size count scope level within (Bin op) (λ x y. or_trap (apply op x y)) (way size count a) (way size count b)
+        (expr p next a) (expr p next b) (bin_makes program code callers size count scope level within op) (way_does a fit.0) (way_does b fit.1)
+    way_does (CompareOf r a b) fit = relation_does program code callers size count scope level within r (way size count a) (way size count b) (expr p next a) (expr p next b)
+        (way_does a fit.0) (way_does b fit.1)
+    way_does (BothOf a b) fit = chain_does program code callers size count scope level within false (way size count a) (way size count b) (expr p next a) (expr p next b) (way_does a fit.0)
+        (way_does b fit.1)
+    way_does (EitherOf a b) fit = chain_does program code callers size count scope level within true (way size count a) (way size count b) (expr p next a) (expr p next b)
+        (way_does a fit.0) (way_does b fit.1)
+    way_does (AdvanceOf ty a b) fit = binary_does program code callers size count scope level within (advance ty) (λ x y κ. κ (advanced ty x y)) (way size count a) (way size count b)
+        (expr p next a) (expr p next b) (advance_makes program code callers size count scope level within ty) (way_does a fit.0) (way_does b fit.1)
+    way_does (AdvanceByOf ty a b) fit = binary_does program code callers size count scope level within (advance_by ty) (λ i x κ. κ (advanced ty x i)) (way size count a) (way size count b)
+        (expr p next a) (expr p next b) (advance_by_makes program code callers size count scope level within ty) (way_does a fit.0) (way_does b fit.1)
+    way_does (RetreatOf ty a b) fit = binary_does program code callers size count scope level within (retreat ty) (λ x y κ. κ (retreated ty x y)) (way size count a) (way size count b)
+        (expr p next a) (expr p next b) (retreat_makes program code callers size count scope level within ty) (way_does a fit.0) (way_does b fit.1)
+    way_does (DistanceOf ty a b) fit = binary_does program code callers size count scope level within (apart ty) (λ x y. or_trap (distance ty x y)) (way size count a) (way size count b)
+        (expr p next a) (expr p next b) (apart_makes program code callers size count scope level within ty) (way_does a fit.0) (way_does b fit.1)
+    way_does (ChoiceOf ty c a b) fit = choose_does program code callers size count scope level within (way size count c) (way size count a) (way size count b) (expr p next c)
+        (expr p next a) (expr p next b) (way_does c fit.0) (way_does a fit.1) (way_does b fit.2)
     way_does (AssignTo a e) fit = assign_way a e (place p next a) (expr p next e) (λ t l sz. seek_does a fit.0 t l sz) (way_does e fit.1)
-    way_does (ArithmeticAssignTo op a e) fit = update_way (λ ty. Bin op) (λ ty x y. or_trap (apply op x y)) a e (place p next a) (expr p next e) (λ ty. bin_makes program code callers size count scope level within op) (λ t l sz. seek_does a fit.0 t l sz) (way_does e fit.1)
-    way_does (AdvanceAssignTo a e) fit = update_way advance (λ ty x y κ. κ (advanced ty x y)) a e (place p next a) (expr p next e) (λ ty. advance_makes program code callers size count scope level within ty) (λ t l sz. seek_does a fit.0 t l sz) (way_does e fit.1)
-    way_does (RetreatAssignTo a e) fit = update_way retreat (λ ty x y κ. κ (retreated ty x y)) a e (place p next a) (expr p next e) (λ ty. retreat_makes program code callers size count scope level within ty) (λ t l sz. seek_does a fit.0 t l sz) (way_does e fit.1)
-    way_does (CommaOf ty a b) fit = comma_does program code callers size count scope level within (way size count a) (way size count b) (expr p next a) (expr p next b) (way_does a fit.0) (way_does b fit.1)
+    way_does (ArithmeticAssignTo op a e) fit = update_way (λ ty. Bin op) (λ ty x y. or_trap (apply op x y)) a e (place p next a) (expr p next e)
+        (λ ty. bin_makes program code callers size count scope level within op) (λ t l sz. seek_does a fit.0 t l sz) (way_does e fit.1)
+    way_does (AdvanceAssignTo a e) fit = update_way advance (λ ty x y κ. κ (advanced ty x y)) a e (place p next a) (expr p next e)
+        (λ ty. advance_makes program code callers size count scope level within ty) (λ t l sz. seek_does a fit.0 t l sz) (way_does e fit.1)
+    way_does (RetreatAssignTo a e) fit = update_way retreat (λ ty x y κ. κ (retreated ty x y)) a e (place p next a) (expr p next e)
+        (λ ty. retreat_makes program code callers size count scope level within ty) (λ t l sz. seek_does a fit.0 t l sz) (way_does e fit.1)
+    way_does (CommaOf ty a b) fit = comma_does program code callers size count scope level within (way size count a) (way size count b) (expr p next a) (expr p next b) (way_does a fit.0)
+        (way_does b fit.1)
 
-    pub all_do : (es : SomeExpressions) (to : List CType) → FitsAll scope es to → (t l : ℕ) → size ≤ t → DoesAll program code callers size count scope level within (pass size count es to t l) t (arguments p next es to)
+    pub all_do : (es : SomeExpressions) (to : List CType) → FitsAll scope es to → (t l : ℕ) → size ≤ t
+        → DoesAll program code callers size count scope level within (pass size count es to t l) t (arguments p next es to)
     all_do NoExpressions to fit t l sz = none_does program code callers size count scope level within t l
     all_do (MoreExpressions e es) [] fit t l sz = absurd fit
     all_do (MoreExpressions e es) (ty ∷ to) fit t l sz =
         let q : Lowered = over (fitted ty) ((way size count e).low t l) in
-        let f = over_does program code callers size count scope level within (fitted ty) (converted ty) ((way size count e).low t l) t (expr p next e) (fitted_maps program code callers size count scope level within ty) ((way_does e fit.0).low t l sz) in
-        pass_does program code callers size count scope level within q (pass size count es to q.temps q.labels) t (λ κ. expr p next e (λ v. κ (converted ty v))) (arguments p next es to) sz f (all_do es to fit.1 q.temps q.labels (omega (arith, f.grows)))
+        let f = over_does program code callers size count scope level within (fitted ty) (converted ty) ((way size count e).low t l) t (expr p next e)
+        (fitted_maps program code callers size count scope level within ty) ((way_does e fit.0).low t l sz) in
+        pass_does program code callers size count scope level within q (pass size count es to q.temps q.labels) t (λ κ. expr p next e (λ v. κ (converted ty v))) (arguments p next es to) sz
+        f (all_do es to fit.1 q.temps q.labels (omega (arith, f.grows)))

@@ -34,13 +34,15 @@ zeros (suc n) = (omega arith, zeros n)
 -- the data area holds bytes
 opening_bytes : (at : ℕ) (os : List Object) → ((n : ℕ) (o : Object) → slice_get os n ≡ Some o → AreBytes o.bytes) → AreBytes (bytes_from at os)
 opening_bytes at [] h = tt
-opening_bytes at (o ∷ os) h = bytes_append (replicate (o.address - at) 0) _ (zeros (o.address - at)) (bytes_append o.bytes _ (h 0 o refl) (opening_bytes (o.address + o.size) os (λ n x e. h (suc n) x e)))
+opening_bytes at (o ∷ os) h = bytes_append (replicate (o.address - at) 0) _ (zeros (o.address - at))
+    (bytes_append o.bytes _ (h 0 o refl) (opening_bytes (o.address + o.size) os (λ n x e. h (suc n) x e)))
 
 abbrev is_main : TreeFn → Bool
 is_main f = bytes_eq f.name (codes "main")
 
 -- the only function called main is found
-find_main : (count : ℕ) (gs : List ARoutine) (l n : ℕ) (g : ARoutine) → slice_get gs n ≡ Some g → IsMain g.name → ((f : ℕ) (h : ARoutine) → slice_get gs f ≡ Some h → IsMain h.name → f ≡ n) → find is_main (lower_all count gs l) ≡ slice_get (lower_all count gs l) n
+find_main : (count : ℕ) (gs : List ARoutine) (l n : ℕ) (g : ARoutine) → slice_get gs n ≡ Some g → IsMain g.name → ((f : ℕ) (h : ARoutine) → slice_get gs f ≡ Some h → IsMain h.name → f ≡ n)
+    → find is_main (lower_all count gs l) ≡ slice_get (lower_all count gs l) n
 find_main count [] l n g e main only = absurd (cc)
 find_main count (h ∷ gs) l zero g e main only = let same : h ≡ g = cc in ap (λ b. cond b (Some (function_of h (body_of count h l))) (find is_main (lower_all count gs (body_of count h l).labels))) (subst (λ (x : ARoutine). IsMain x.name) (sym same) main)
 find_main count (h ∷ gs) l (suc n) g e main only =
@@ -52,15 +54,19 @@ find_main count (h ∷ gs) l (suc n) g e main only =
     not_main true eb = absurd (let r = only 0 h refl eb in omega (arith, r))
     not_main false eb = eb
 
-main_leads : (p : AProgram) (input : List ℕ) → IsSound p → AreBytes input → (g : ARoutine) → slice_get p.routines p.main ≡ Some g → (tf : TreeFn) → CodeOf (length p.routines) g tf.items → (k : ℕ) → Leads k (main_of (Some g) p input) (runs (lowered p) (main_at (lowered p) (Some tf) input))
+main_leads : (p : AProgram) (input : List ℕ) → IsSound p → AreBytes input → (g : ARoutine) → slice_get p.routines p.main ≡ Some g → (tf : TreeFn) → CodeOf (length p.routines) g tf.items
+    → (k : ℕ) → Leads k (main_of (Some g) p input) (runs (lowered p) (main_at (lowered p) (Some tf) input))
 main_leads p input sound bytes g at_main tf own k =
     let backed : Backed (lowered p) k finished [] = record { goes = λ w st lt area i. leads_ended k _ } in
-    let calls = calls_at (lowered p) (length p.routines) p (means p) (all_lowered (length p.routines) p.routines 0) (λ f h e. all_code (length p.routines) p.routines 0 f h e) refl sound.addresses (λ t κ st. means_is p t κ st) sound.fits (suc k) in
+    let calls = calls_at (lowered p) (length p.routines) p (means p) (all_lowered (length p.routines) p.routines 0) (λ f h e. all_code (length p.routines) p.routines 0 f h e) refl
+    sound.addresses (λ t κ st. means_is p t κ st) sound.fits (suc k) in
     calls.runs_body k (omega arith) p.main g at_main tf own [] tt finished [] backed (at_first p input) refl (opening_bytes 65536 p.objects sound.contents) bytes
 
-main_follows : (p : AProgram) (input : List ℕ) → IsSound p → AreBytes input → (g : ARoutine) → slice_get p.routines p.main ≡ Some g → (tf : TreeFn) → CodeOf (length p.routines) g tf.items → main_of_trees (lowered p).functions ≡ Some tf → Follows (main_of (Some g) p input) (tree_run (lowered p) input)
+main_follows : (p : AProgram) (input : List ℕ) → IsSound p → AreBytes input → (g : ARoutine) → slice_get p.routines p.main ≡ Some g → (tf : TreeFn) → CodeOf (length p.routines) g tf.items
+    → main_of_trees (lowered p).functions ≡ Some tf → Follows (main_of (Some g) p input) (tree_run (lowered p) input)
 main_follows p input sound bytes g at_main tf own found =
-    let to_tree : (k : ℕ) → Leads k (main_of (Some g) p input) (tree_run (lowered p) input) = λ k. subst (λ o. Leads k (main_of (Some g) p input) (runs (lowered p) (main_at (lowered p) o input))) (sym found) (main_leads p input sound bytes g at_main tf own k) in
+    let to_tree : (k : ℕ) → Leads k (main_of (Some g) p input) (tree_run (lowered p) input) = λ k.
+    subst (λ o. Leads k (main_of (Some g) p input) (runs (lowered p) (main_at (lowered p) o input))) (sym found) (main_leads p input sound bytes g at_main tf own k) in
     follows_led (main_of (Some g) p input) (tree_run (lowered p) input) to_tree (one_end_of (tree_run (lowered p) input) (tree_run_lasts (lowered p) input))
 
 pub lowering_follows : LoweringFollows

@@ -10,7 +10,8 @@ use Rattle.c_types.specs.declared.typed.UnaryOperator.TheVariants as unaries
 use Rattle.c_types.specs.declared.typed.ArithmeticOperator.TheVariants as ariths
 use Rattle.c_types.specs.declared.typed.Moment.TheVariants as moments
 use Rattle.c_types.specs.declared.typed.Direction.TheVariants as directions
-use Rattle.c_types.specs.Typed.{APlace, VariableAt, PointedBy, ElementBy, AnExpression, Constant, ArrayAt, ReadOf, CallOf, StepOf, UnaryOf, CastTo, ArithmeticOf, CompareOf, BothOf, AdvanceOf, ChoiceOf, AssignTo, ArithmeticAssignTo, NoExpressions, MoreExpressions}
+use Rattle.c_types.specs.Typed.{APlace, VariableAt, PointedBy, ElementBy, AnExpression, Constant, ArrayAt, ReadOf, CallOf, StepOf, UnaryOf, CastTo, ArithmeticOf, CompareOf, BothOf}
+use Rattle.c_types.specs.Typed.{AdvanceOf, ChoiceOf, AssignTo, ArithmeticAssignTo, NoExpressions, MoreExpressions}
 use Rattle.c_program.specs.Statements.{ClearOf, BeginOf, AnAction, SomeActions, NoActions, MoreActions, DeclareOf, EvaluateOf, ReturnOf}
 use Rattle.c_lower_scheme.specs.Trees.{Tree, Num, Gaddr, Loc, Indir, Conv, Bin, Item, Label, AssignLoc, AssignMem, Cbr, Jump, Push, Call, Save, Ret}
 use Rattle.c_lower_scheme.specs.Statements.{lower_row}
@@ -45,7 +46,8 @@ block (a ∷ rest) = MoreActions a (block rest)
 
 -- int z; int g(int a, int b); int main() { return g(1/z, *(int*)0); }
 abbrev calling : SomeActions
-calling = block (ReturnOf (Some (CallOf int (callees.Defined 0) (int ∷ int ∷ []) (MoreExpressions (ArithmeticOf ariths.Divide (Constant 1) (ReadOf (global int 0))) (MoreExpressions (ReadOf (PointedBy int (CastTo pointer (Constant 0)))) NoExpressions)))) ∷ [])
+calling = block (ReturnOf (Some (CallOf int (callees.Defined 0) (int ∷ int ∷ [])
+    (MoreExpressions (ArithmeticOf ariths.Divide (Constant 1) (ReadOf (global int 0))) (MoreExpressions (ReadOf (PointedBy int (CastTo pointer (Constant 0)))) NoExpressions)))) ∷ [])
 
 abbrev calling_items : List Item
 calling_items =

@@ -18,8 +18,11 @@ use Rattle.c_types.specs.declared.typed.Moment.TheVariants as moments
 use Rattle.c_types.specs.declared.typed.Direction.{Direction}
 use Rattle.c_types.specs.declared.typed.Direction.TheVariants as directions
 use Rattle.c_types.specs.Constants.{scale}
-use Rattle.c_types.specs.Typed.{APlace, VariableAt, PointedBy, ElementBy, AnExpression, Constant, LiteralAt, ArrayAt, ReadOf, SizeofTerm, SizeOf, AddressOf, CallOf, StepOf, UnaryOf, CastTo, ConvertTo, ArithmeticOf, CompareOf, BothOf, EitherOf, AdvanceOf, AdvanceByOf, RetreatOf, DistanceOf, ChoiceOf, AssignTo, ArithmeticAssignTo, AdvanceAssignTo, RetreatAssignTo, CommaOf, SomeExpressions, NoExpressions, MoreExpressions}
-use Rattle.c_lower_scheme.specs.Trees.{Tree, Num, Gaddr, Loc, Arg, Indir, Conv, Neg, Com, Bin, Item, Label, AssignLoc, AssignArg, AssignMem, Cbr, Jump, Push, Call, Save, divides, reads, breaks, stable, is_leaf}
+use Rattle.c_types.specs.Typed.{APlace, VariableAt, PointedBy, ElementBy, AnExpression, Constant, LiteralAt, ArrayAt, ReadOf, SizeofTerm, SizeOf, AddressOf, CallOf, StepOf}
+use Rattle.c_types.specs.Typed.{UnaryOf, CastTo, ConvertTo, ArithmeticOf, CompareOf, BothOf, EitherOf, AdvanceOf, AdvanceByOf, RetreatOf, DistanceOf, ChoiceOf, AssignTo}
+use Rattle.c_types.specs.Typed.{ArithmeticAssignTo, AdvanceAssignTo, RetreatAssignTo, CommaOf, SomeExpressions, NoExpressions, MoreExpressions}
+use Rattle.c_lower_scheme.specs.Trees.{Tree, Num, Gaddr, Loc, Arg, Indir, Conv, Neg, Com, Bin, Item, Label, AssignLoc, AssignArg, AssignMem, Cbr, Jump, Push, Call, Save, divides}
+use Rattle.c_lower_scheme.specs.Trees.{reads, breaks, stable, is_leaf}
 
 -- Items, and a tree that is due directly behind them: it is evaluated, or saved, before anything else is done. Behind them, the first temporary and the first label that are free.
 pub record Lowered : Type 0 where
@@ -64,7 +67,8 @@ pub record Emitted : Type 0 where
   pub temps : ℕ
   pub labels : ℕ
 
--- The three ways to lower an expression, from the first free temporary and label on: for its value; as a condition, which goes to a label where its truth is the given one, and else falls through; and for its effect alone.
+-- The three ways to lower an expression, from the first free temporary and label on: for its value; as a condition, which goes to a label where its truth is the given one, and
+-- else falls through; and for its effect alone.
 pub record Lowering : Type 0 where
   pub low : ℕ → ℕ → Lowered
   pub branch : Bool → ℕ → ℕ → ℕ → Emitted
@@ -253,7 +257,12 @@ drop_two a b t l = then_done (a.drop t l) (behind_done (a.drop t l) b.drop)
 
 -- `c ? a : b`, whose value is in the temporary t
 abbrev pub choose_low : ℕ → ℕ → Emitted → Lowered → Lowered → Lowered
-choose_low t l p q r = record { items = p.items ++ (q.items ++ (AssignLoc t q.tree ∷ Jump (suc l) ∷ Label l ∷ (r.items ++ (AssignLoc t r.tree ∷ Label (suc l) ∷ [])))); tree = Loc t; temps = r.temps; labels = r.labels }
+choose_low t l p q r = record {
+  items = p.items ++ (q.items ++ (AssignLoc t q.tree ∷ Jump (suc l) ∷ Label l ∷ (r.items ++ (AssignLoc t r.tree ∷ Label (suc l) ∷ []))));
+  tree = Loc t;
+  temps = r.temps;
+  labels = r.labels;
+}
 
 abbrev pub choose_drop : ℕ → Emitted → Emitted → Emitted → Emitted
 choose_drop l p q r = record { items = p.items ++ (q.items ++ (Jump (suc l) ∷ Label l ∷ (r.items ++ (Label (suc l) ∷ [])))); temps = r.temps; labels = r.labels }
@@ -359,7 +368,8 @@ update_so b c f p q = record {
 
 abbrev pub postfix_so : Bool → (Tree → Tree) → Located → Lowered
 postfix_so b f p = record {
-  items = p.items ++ (holding b p.temps p.place ++ (AssignLoc (next_if b p.temps) (read_from p.type (held b p.temps p.place)) ∷ assign_to p.type (held b p.temps p.place) (f (Loc (next_if b p.temps))) ∷ []));
+  items = p.items ++ (holding b p.temps p.place ++ (AssignLoc (next_if b p.temps) (read_from p.type (held b p.temps p.place)) ∷ assign_to p.type (held b p.temps p.place)
+      (f (Loc (next_if b p.temps))) ∷ []));
   tree = Loc (next_if b p.temps);
   temps = suc (next_if b p.temps);
   labels = p.labels;
@@ -373,14 +383,26 @@ store_drop r = record { items = r.items ++ (assign_to r.type r.place r.value ∷
 abbrev pub store_low_at : Where → Assignable → Lowered
 store_low_at (InLoc n) r = record { items = r.items ++ (AssignLoc n (fitted r.type r.value) ∷ []); tree = Loc n; temps = r.temps; labels = r.labels }
 store_low_at (InArg n) r = record { items = r.items ++ (AssignArg n (fitted r.type r.value) ∷ []); tree = Arg n; temps = r.temps; labels = r.labels }
-store_low_at (InMem a) r = record { items = r.items ++ (AssignLoc r.temps (fitted r.type r.value) ∷ AssignMem (integer_of r.type) a (Loc r.temps) ∷ []); tree = Loc r.temps; temps = suc r.temps; labels = r.labels }
+store_low_at (InMem a) r = record {
+  items = r.items ++ (AssignLoc r.temps (fitted r.type r.value) ∷ AssignMem (integer_of r.type) a (Loc r.temps) ∷ []);
+  tree = Loc r.temps;
+  temps =
+      suc r.temps;
+  labels = r.labels;
+}
 
 abbrev pub store_low : Assignable → Lowered
 store_low r = store_low_at r.place r
 
 -- one more argument in front
 abbrev pub pass_so : Bool → Lowered → Passing → Passing
-pass_so b p q = record { items = p.items ++ (saving b q.temps p.tree ++ q.items); trees = saved b q.temps p.tree ∷ q.trees; quiet = is_nil p.items && q.quiet; temps = next_if b q.temps; labels = q.labels }
+pass_so b p q = record {
+  items = p.items ++ (saving b q.temps p.tree ++ q.items);
+  trees = saved b q.temps p.tree ∷ q.trees;
+  quiet = is_nil p.items && q.quiet;
+  temps = next_if b q.temps;
+  labels = q.labels;
+}
 
 -- the number of automatic locals, behind which the temporaries stand, and the number of functions
 module _ (size count : ℕ) where

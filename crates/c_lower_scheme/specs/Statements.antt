@@ -2,8 +2,11 @@
 use Rattle.std.specs.Prelude.{ℕ, suc, max, ◌==◌, List, [], ◌∷◌, ◌++◌, Option, Some, None, Bool, true, false, ◌||◌}
 use Rattle.c_types.specs.declared.typed.Variable.{Variable}
 use Rattle.c_types.specs.declared.typed.Variable.TheVariants as variables
-use Rattle.c_types.specs.Typed.{APlace, VariableAt, PointedBy, ElementBy, AnExpression, Constant, LiteralAt, ArrayAt, ReadOf, SizeofTerm, SizeOf, AddressOf, CallOf, StepOf, UnaryOf, CastTo, ConvertTo, ArithmeticOf, CompareOf, BothOf, EitherOf, AdvanceOf, AdvanceByOf, RetreatOf, DistanceOf, ChoiceOf, AssignTo, ArithmeticAssignTo, AdvanceAssignTo, RetreatAssignTo, CommaOf, SomeExpressions, NoExpressions, MoreExpressions}
-use Rattle.c_program.specs.Statements.{ADeclaration, KeepOf, ClearOf, BeginOf, AnAction, SomeActions, NoActions, MoreActions, DeclareOf, BlockOf, EvaluateOf, BreakOf, ContinueOf, ReturnOf, IfOf, IfElseOf, WhileOf, DoOf, ForOf}
+use Rattle.c_types.specs.Typed.{APlace, VariableAt, PointedBy, ElementBy, AnExpression, Constant, LiteralAt, ArrayAt, ReadOf, SizeofTerm, SizeOf, AddressOf, CallOf, StepOf}
+use Rattle.c_types.specs.Typed.{UnaryOf, CastTo, ConvertTo, ArithmeticOf, CompareOf, BothOf, EitherOf, AdvanceOf, AdvanceByOf, RetreatOf, DistanceOf, ChoiceOf, AssignTo}
+use Rattle.c_types.specs.Typed.{ArithmeticAssignTo, AdvanceAssignTo, RetreatAssignTo, CommaOf, SomeExpressions, NoExpressions, MoreExpressions}
+use Rattle.c_program.specs.Statements.{ADeclaration, KeepOf, ClearOf, BeginOf, AnAction, SomeActions, NoActions, MoreActions, DeclareOf, BlockOf, EvaluateOf, BreakOf, ContinueOf}
+use Rattle.c_program.specs.Statements.{ReturnOf, IfOf, IfElseOf, WhileOf, DoOf, ForOf}
 use Rattle.c_lower_scheme.specs.Trees.{Item, Num, Label, AssignLoc, Jump, Ret}
 use Rattle.c_lower_scheme.specs.Expressions.{Lowered, Emitted, nothing, way}
 
@@ -102,7 +105,11 @@ do_of l a f = do_done l a (f a.labels)
 
 -- `for` with a test, and without one, where a jump counts each turn
 abbrev pub for_done : ℕ → Emitted → Emitted → Emitted → Emitted
-for_done l p a s = record { items = Label l ∷ (p.items ++ (a.items ++ (Label (suc l) ∷ (s.items ++ (Jump l ∷ Label (suc (suc l)) ∷ []))))); temps = max p.temps (max a.temps s.temps); labels = s.labels }
+for_done l p a s = record {
+  items = Label l ∷ (p.items ++ (a.items ++ (Label (suc l) ∷ (s.items ++ (Jump l ∷ Label (suc (suc l)) ∷ [])))));
+  temps = max p.temps (max a.temps s.temps);
+  labels = s.labels;
+}
 
 abbrev pub ever_done : ℕ → Emitted → Emitted → Emitted
 ever_done l a s = record { items = Jump l ∷ Label l ∷ (a.items ++ (Label (suc l) ∷ (s.items ++ (Jump l ∷ Label (suc (suc l)) ∷ [])))); temps = max a.temps s.temps; labels = s.labels }

@@ -10,7 +10,10 @@ use Rattle.c_types.specs.declared.typed.Direction.{Direction}
 use Rattle.c_types.specs.declared.typed.Direction.TheVariants as directions
 use Rattle.c_types.specs.Constants.{scale}
 use Rattle.c_lower_scheme.specs.Trees.{Tree, Num, Loc, Bin, Item, Label, AssignLoc, AssignArg, AssignMem, Cbr, Push, breaks}
-use Rattle.c_lower_scheme.specs.Expressions.{Lowered, Pair, Where, InLoc, InArg, InMem, Located, Passing, Emitted, Assignable, saving, saved, next_if, integer_of, conv, fitted, read_from, assign_to, address_tree, scaled_by, shared_by, advance, advance_by, retreat, apart, step, sensed, over, over_two, truth_of, test, compare, dropped, pushes, args_count, holding, held, ready_so, update_so, postfix_so, store_drop, store_low_at, store_low, pass_so, called_drop, called_low, read_low, address_low}
+use Rattle.c_lower_scheme.specs.Expressions.{Lowered, Pair, Where, InLoc, InArg, InMem, Located, Passing, Emitted, Assignable, saving, saved, next_if, integer_of, conv, fitted}
+use Rattle.c_lower_scheme.specs.Expressions.{read_from, assign_to, address_tree, scaled_by, shared_by, advance, advance_by, retreat, apart, step, sensed, over, over_two, truth_of}
+use Rattle.c_lower_scheme.specs.Expressions.{test, compare, dropped, pushes, args_count, holding, held, ready_so, update_so, postfix_so, store_drop, store_low_at, store_low}
+use Rattle.c_lower_scheme.specs.Expressions.{pass_so, called_drop, called_low, read_low, address_low}
 use Rattle.c_lower_scheme.specs.Expressions
 use Rattle.c_lower_valid.proofs.Named.{Scene, Names, ItemNames, AllName, names_more, all_more, all_append}
 use Rattle.c_lower_valid.proofs.Orders.{Orderly, IsQuiet, orderly_nil, orderly_append, orderly_more, orderly_call, orderly_saved}

@@ -8,10 +8,14 @@ use Rattle.c_types.specs.declared.typed.Moment.{Moment}
 use Rattle.c_types.specs.declared.typed.Moment.TheVariants as moments
 use Rattle.c_types.specs.declared.typed.Direction.{Direction}
 use Rattle.c_types.specs.Constants.{scale}
-use Rattle.c_types.specs.Typed.{APlace, VariableAt, PointedBy, ElementBy, AnExpression, Constant, LiteralAt, ArrayAt, ReadOf, SizeofTerm, SizeOf, AddressOf, CallOf, StepOf, UnaryOf, CastTo, ConvertTo, ArithmeticOf, CompareOf, BothOf, EitherOf, AdvanceOf, AdvanceByOf, RetreatOf, DistanceOf, ChoiceOf, AssignTo, ArithmeticAssignTo, AdvanceAssignTo, RetreatAssignTo, CommaOf, SomeExpressions, NoExpressions, MoreExpressions}
+use Rattle.c_types.specs.Typed.{APlace, VariableAt, PointedBy, ElementBy, AnExpression, Constant, LiteralAt, ArrayAt, ReadOf, SizeofTerm, SizeOf, AddressOf, CallOf, StepOf}
+use Rattle.c_types.specs.Typed.{UnaryOf, CastTo, ConvertTo, ArithmeticOf, CompareOf, BothOf, EitherOf, AdvanceOf, AdvanceByOf, RetreatOf, DistanceOf, ChoiceOf, AssignTo}
+use Rattle.c_types.specs.Typed.{ArithmeticAssignTo, AdvanceAssignTo, RetreatAssignTo, CommaOf, SomeExpressions, NoExpressions, MoreExpressions}
 use Rattle.c_lower_scheme.specs.Trees.{Tree, Num, Loc, Neg, Com, Bin, Item, AssignLoc}
 use Rattle.c_lower_scheme.specs.Expressions
-use Rattle.c_lower_valid.proofs.Marks.{nowhere, at, Marked, marked_nil, marked_out, marked_append, marked_plain, marked_front, mute_saving, mute_holding, mute_assign, mute_append, mute_pushes, MarkedWay, marked_branch, marked_valued, marked_effective, marked_conditional, marked_two, marked_chain, marked_chain_drop, marked_drops, marked_fork}
+use Rattle.c_lower_valid.proofs.Marks.{nowhere, at, Marked, marked_nil, marked_out, marked_append, marked_plain, marked_front, mute_saving, mute_holding, mute_assign, mute_append}
+use Rattle.c_lower_valid.proofs.Marks.{mute_pushes, MarkedWay, marked_branch, marked_valued, marked_effective, marked_conditional, marked_two, marked_chain, marked_chain_drop}
+use Rattle.c_lower_valid.proofs.Marks.{marked_drops, marked_fork}
 
 marked_choose : (c a b : Expressions.Lowering) → MarkedWay c → MarkedWay a → MarkedWay b → MarkedWay (Expressions.choose c a b)
 marked_choose c a b h f g = marked_effective _ _

@@ -2,12 +2,14 @@
 use Rattle.std.proofs.Common.{◌≡◌, ℕ, suc, ◌+◌, ◌<◌, List, [], ◌∷◌, ◌++◌, Option, Some, None, refl, arith}
 use Rattle.std.specs.Prelude.{Bool, true, false}
 use Rattle.c_types.specs.Typed.{AnExpression}
-use Rattle.c_program.specs.Statements.{ADeclaration, KeepOf, ClearOf, BeginOf, AnAction, SomeActions, NoActions, MoreActions, DeclareOf, BlockOf, EvaluateOf, BreakOf, ContinueOf, ReturnOf, IfOf, IfElseOf, WhileOf, DoOf, ForOf}
+use Rattle.c_program.specs.Statements.{ADeclaration, KeepOf, ClearOf, BeginOf, AnAction, SomeActions, NoActions, MoreActions, DeclareOf, BlockOf, EvaluateOf, BreakOf, ContinueOf}
+use Rattle.c_program.specs.Statements.{ReturnOf, IfOf, IfElseOf, WhileOf, DoOf, ForOf}
 use Rattle.c_sound.specs.Fits.{behind_act, FitsAct, FitsActs}
 use Rattle.c_lower_scheme.specs.Trees.{Num, Item, Label, AssignLoc, Jump, Ret}
 use Rattle.c_lower_scheme.specs.Expressions
 use Rattle.c_lower_scheme.specs.Statements
-use Rattle.c_lower_valid.proofs.Marks.{at, stands, aims, stands_append, aims_append, nowhere, Marked, marked_nil, marked_out, marked_append, marked_same, marked_plain, marked_front, marked_count, IsMute, marked_inner, marked_fork}
+use Rattle.c_lower_valid.proofs.Marks.{at, stands, aims, stands_append, aims_append, nowhere, Marked, marked_nil, marked_out, marked_append, marked_same, marked_plain}
+use Rattle.c_lower_valid.proofs.Marks.{marked_front, marked_count, IsMute, marked_inner, marked_fork}
 use Rattle.c_lower_valid.proofs.Labels.{marked_way}
 
 -- the labels to which `break` and `continue` go, in a loop

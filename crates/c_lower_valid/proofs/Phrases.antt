@@ -5,15 +5,19 @@ use Rattle.c_types.specs.declared.types.CType.{CType}
 use Rattle.c_types.specs.declared.typed.Variable.{Variable}
 use Rattle.c_types.specs.declared.typed.Variable.TheVariants as variables
 use Rattle.c_types.specs.declared.typed.Callee.{Callee}
-use Rattle.c_types.specs.Typed.{APlace, VariableAt, PointedBy, ElementBy, AnExpression, Constant, LiteralAt, ArrayAt, ReadOf, SizeofTerm, SizeOf, AddressOf, CallOf, StepOf, UnaryOf, CastTo, ConvertTo, ArithmeticOf, CompareOf, BothOf, EitherOf, AdvanceOf, AdvanceByOf, RetreatOf, DistanceOf, ChoiceOf, AssignTo, ArithmeticAssignTo, AdvanceAssignTo, RetreatAssignTo, CommaOf, SomeExpressions, NoExpressions, MoreExpressions}
+use Rattle.c_types.specs.Typed.{APlace, VariableAt, PointedBy, ElementBy, AnExpression, Constant, LiteralAt, ArrayAt, ReadOf, SizeofTerm, SizeOf, AddressOf, CallOf, StepOf}
+use Rattle.c_types.specs.Typed.{UnaryOf, CastTo, ConvertTo, ArithmeticOf, CompareOf, BothOf, EitherOf, AdvanceOf, AdvanceByOf, RetreatOf, DistanceOf, ChoiceOf, AssignTo}
+use Rattle.c_types.specs.Typed.{ArithmeticAssignTo, AdvanceAssignTo, RetreatAssignTo, CommaOf, SomeExpressions, NoExpressions, MoreExpressions}
 use Rattle.c_sound.specs.Fits.{StandsIn, Fits, FitsAt, FitsAll}
 use Rattle.c_sound.specs.Stands.{Stands, StandsAt, StandAll, arguments, IsThere}
 use Rattle.c_lower_scheme.specs.Trees.{Num, Gaddr, Bin}
 use Rattle.c_lower_scheme.specs.Expressions.{where_of, address_tree, fitted, advance, advance_by, retreat, apart, args_count, callee_number, others}
 use Rattle.c_lower_scheme.specs.Expressions
 use Rattle.c_lower_valid.proofs.Named.{Scene}
-use Rattle.c_lower_valid.proofs.Fine.{Ok, fine_nil, OkWhere, FineFound, FinePassing, ok_fitted, ok_advance, ok_advance_by, ok_retreat, ok_apart, fine_over, fine_read, fine_address, fine_store_drop, fine_store_low, fine_pass, fine_called_drop, fine_called_low}
-use Rattle.c_lower_valid.proofs.Ways.{FineWay, fine_due, fine_valued, fine_effective, fine_conditional, fine_mapped, fine_binary, fine_relation, fine_chain, fine_chain_drop, fine_choose, fine_comma, fine_unary, fine_update_by, fine_step_ready, fine_step, fine_assigned}
+use Rattle.c_lower_valid.proofs.Fine.{Ok, fine_nil, OkWhere, FineFound, FinePassing, ok_fitted, ok_advance, ok_advance_by, ok_retreat, ok_apart, fine_over, fine_read, fine_address}
+use Rattle.c_lower_valid.proofs.Fine.{fine_store_drop, fine_store_low, fine_pass, fine_called_drop, fine_called_low}
+use Rattle.c_lower_valid.proofs.Ways.{FineWay, fine_due, fine_valued, fine_effective, fine_conditional, fine_mapped, fine_binary, fine_relation, fine_chain, fine_chain_drop}
+use Rattle.c_lower_valid.proofs.Ways.{fine_choose, fine_comma, fine_unary, fine_update_by, fine_step_ready, fine_step, fine_assigned}
 
 passes_all : (size count : ℕ) (es : SomeExpressions) (to : List CType) (t l : ℕ)
     → args_count (Expressions.pass size count es to t l).trees ≡ arguments es

@@ -10,10 +10,15 @@ use Rattle.c_types.specs.declared.typed.Moment.TheVariants as moments
 use Rattle.c_types.specs.declared.typed.Direction.{Direction}
 use Rattle.c_types.specs.Constants.{scale}
 use Rattle.c_lower_scheme.specs.Trees.{Tree, Num, Neg, Com, Label, AssignLoc, Jump}
-use Rattle.c_lower_scheme.specs.Expressions.{Lowered, Where, InLoc, InArg, InMem, Located, Emitted, Lowering, due, where_of, address_tree, fitted, read_from, test, dropped, truth_of, valued, conditional, effective, mapped, chained, goal, chain, chain_drop, drop_two, choose_low, choose_drop, choose, comma, pointed, advance, advance_by, retreat, apart, step, sensed, compare, passed_as, others, args_count, callee_number, store_low, store_drop}
+use Rattle.c_lower_scheme.specs.Expressions.{Lowered, Where, InLoc, InArg, InMem, Located, Emitted, Lowering, due, where_of, address_tree, fitted, read_from, test, dropped}
+use Rattle.c_lower_scheme.specs.Expressions.{truth_of, valued, conditional, effective, mapped, chained, goal, chain, chain_drop, drop_two, choose_low, choose_drop, choose, comma}
+use Rattle.c_lower_scheme.specs.Expressions.{pointed, advance, advance_by, retreat, apart, step, sensed, compare, passed_as, others, args_count, callee_number, store_low}
+use Rattle.c_lower_scheme.specs.Expressions.{store_drop}
 use Rattle.c_lower_scheme.specs.Expressions
 use Rattle.c_lower_valid.proofs.Named.{Scene}
-use Rattle.c_lower_valid.proofs.Fine.{Ok, ok_up, fine_nil, fine_append, fine_up, fine_more, fine_one, fine_behind, fine_three, FineLow, FineTwo, FineFound, FineDone, FineReady, ok_step, fine_over, fine_over_two, fine_truth, fine_test, fine_compare, fine_dropped, fine_join, fine_ready, fine_update, fine_postfix, fine_store_drop, fine_store_low}
+use Rattle.c_lower_valid.proofs.Fine.{Ok, ok_up, fine_nil, fine_append, fine_up, fine_more, fine_one, fine_behind, fine_three, FineLow, FineTwo, FineFound, FineDone, FineReady}
+use Rattle.c_lower_valid.proofs.Fine.{ok_step, fine_over, fine_over_two, fine_truth, fine_test, fine_compare, fine_dropped, fine_join, fine_ready, fine_update, fine_postfix}
+use Rattle.c_lower_valid.proofs.Fine.{fine_store_drop, fine_store_low}
 
 module _ (scene : Scene) (size count : ℕ) where
   abbrev Lows : ℕ → Lowered → Type 0

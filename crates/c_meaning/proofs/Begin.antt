@@ -17,10 +17,14 @@ use Rattle.c_meaning.specs.Meaning.{Body, stmts, means, begun, at_first, finishe
 use Rattle.c_meaning.specs.Runner.{with_flow, stack, bottom, state, to_come}
 use Rattle.c_meaning.proofs.Related.{means_is}
 
-pub begins : (typed : Bor Program) (input : Bor (List ℕ)) (g : Routine) (b : Bor (List Action)) (frames : Vec Frame) (store : Store) (locals area : List ℕ) → slice_get (program typed.now).routines typed.now.main ≡ Some (routine g) → b.now ≡ g.body.items → frames.items ≡ [] → state store ≡ record { call = record { locals = locals; parameters = [] }; area = area; input = input.now; active = 1 } → locals ≡ replicate (length g.locals) 0 → area ≡ opening typed.now.objects → to_come (record { program = typed; control = Block b; frames = frames; store = store }) ≡ source (program typed.now) input.now
+pub begins : (typed : Bor Program) (input : Bor (List ℕ)) (g : Routine) (b : Bor (List Action)) (frames : Vec Frame) (store : Store) (locals area : List ℕ)
+    → slice_get (program typed.now).routines typed.now.main ≡ Some (routine g) → b.now ≡ g.body.items → frames.items ≡ [] → state store
+    ≡ record { call = record { locals = locals; parameters = [] }; area = area; input = input.now; active = 1 } → locals ≡ replicate (length g.locals) 0 → area ≡ opening typed.now.objects
+    → to_come (record { program = typed; control = Block b; frames = frames; store = store }) ≡ source (program typed.now) input.now
 begins typed input g b frames store locals area is body none at zeros opened =
     let p = program typed.now in
-    let first : state store ≡ begun (routine g) [] (at_first p input.now) = at ∙ (λ i. record { call = record { locals = zeros i; parameters = [] }; area = opened i; input = input.now; active = 1 }) in
+    let first : state store ≡ begun (routine g) [] (at_first p input.now) = at
+    ∙ (λ i. record { call = record { locals = zeros i; parameters = [] }; area = opened i; input = input.now; active = 1 }) in
     ap (λ l. stmts p (means p) (acts l) (with_flow (stack p (bottom p) frames.items)) (state store)) body
     ∙ ap (λ fs. stmts p (means p) (routine g).body (with_flow (stack p (bottom p) fs)) (state store)) none
     ∙ ap (λ st. stmts p (means p) (routine g).body finished st) first

@@ -11,15 +11,20 @@ use Rattle.c_types.specs.declared.typed.Variable.{Variable}
 use Rattle.c_types.specs.declared.typed.Direction.{Direction}
 use Rattle.c_types.specs.declared.typed.Moment.{Moment}
 use Rattle.c_types.specs.Constants.{converted, apply, distance}
-use Rattle.c_types.specs.Typed.{APlace, VariableAt, PointedBy, ElementBy, AnExpression, Constant, LiteralAt, ArrayAt, ReadOf, SizeofTerm, SizeOf, AddressOf, CallOf, StepOf, UnaryOf, CastTo, ConvertTo, ArithmeticOf, CompareOf, BothOf, EitherOf, AdvanceOf, AdvanceByOf, RetreatOf, DistanceOf, ChoiceOf, AssignTo, ArithmeticAssignTo, AdvanceAssignTo, RetreatAssignTo, CommaOf, SomeExpressions, NoExpressions, MoreExpressions}
-use Rattle.c_program.specs.Statements.{ADeclaration, KeepOf, ClearOf, BeginOf, AnAction, SomeActions, NoActions, MoreActions, DeclareOf, BlockOf, EvaluateOf, BreakOf, ContinueOf, ReturnOf, IfOf, IfElseOf, WhileOf, DoOf, ForOf}
+use Rattle.c_types.specs.Typed.{APlace, VariableAt, PointedBy, ElementBy, AnExpression, Constant, LiteralAt, ArrayAt, ReadOf, SizeofTerm, SizeOf, AddressOf, CallOf, StepOf}
+use Rattle.c_types.specs.Typed.{UnaryOf, CastTo, ConvertTo, ArithmeticOf, CompareOf, BothOf, EitherOf, AdvanceOf, AdvanceByOf, RetreatOf, DistanceOf, ChoiceOf, AssignTo}
+use Rattle.c_types.specs.Typed.{ArithmeticAssignTo, AdvanceAssignTo, RetreatAssignTo, CommaOf, SomeExpressions, NoExpressions, MoreExpressions}
+use Rattle.c_program.specs.Statements.{ADeclaration, KeepOf, ClearOf, BeginOf, AnAction, SomeActions, NoActions, MoreActions, DeclareOf, BlockOf, EvaluateOf, BreakOf, ContinueOf}
+use Rattle.c_program.specs.Statements.{ReturnOf, IfOf, IfElseOf, WhileOf, DoOf, ForOf}
 use Rattle.c_program.specs.Programs.{ARoutine, AProgram}
 use Rattle.c_meaning.specs.declared.store.Spot.{Spot}
 use Rattle.c_meaning.specs.declared.store.Spot.TheVariants.{Local, Parameter, Memory}
 use Rattle.c_meaning.specs.declared.flow.Flow.{Flow}
 use Rattle.c_meaning.specs.declared.flow.Flow.TheVariants.{Onward, Broke, Continued, Returned}
 use Rattle.c_meaning.specs.State.{State, address, spot_of, held, put_local, put}
-use Rattle.c_meaning.specs.Meaning.{Rest, RestAll, RestAt, Behind, ALoop, plain_loop, for_loop, Task, Look, Body, Next, chosen, or_wild, or_trap, written, read_at, store_at, stepped, of_moment, step_at, address_of, located, array_address, passed, put_char, got, back, begun, called, call, expr, place, arguments, dropped, tested, turned, turn_by, look_by, returned, local_set, declared, followed, stmt, stmts, task, task_at, means}
+use Rattle.c_meaning.specs.Meaning.{Rest, RestAll, RestAt, Behind, ALoop, plain_loop, for_loop, Task, Look, Body, Next, chosen, or_wild, or_trap, written, read_at, store_at}
+use Rattle.c_meaning.specs.Meaning.{stepped, of_moment, step_at, address_of, located, array_address, passed, put_char, got, back, begun, called, call, expr, place, arguments}
+use Rattle.c_meaning.specs.Meaning.{dropped, tested, turned, turn_by, look_by, returned, local_set, declared, followed, stmt, stmts, task, task_at, means}
 
 -- what the meaning stops with
 abbrev pub IsStop : End → Type 0
@@ -94,7 +99,8 @@ module _ (R : ℕ → Runs → Runs → Type 0) (kept : Kept R) where
   located_kept k None κ μ h st = kept.stops k Wild tt
   located_kept k (Some s) κ μ h st = h s st
 
-  passed_kept : (k : ℕ) (ts : List CType) (v : ℕ) (κ μ : ℕ → List CType → State → Runs) → ((x : ℕ) (us : List CType) (st : State) → R k (κ x us st) (μ x us st)) → OnState R k (passed ts v κ) (passed ts v μ)
+  passed_kept : (k : ℕ) (ts : List CType) (v : ℕ) (κ μ : ℕ → List CType → State → Runs) → ((x : ℕ) (us : List CType) (st : State) → R k (κ x us st) (μ x us st))
+      → OnState R k (passed ts v κ) (passed ts v μ)
   passed_kept k [] v κ μ h st = kept.stops k Wild tt
   passed_kept k (t ∷ ts) v κ μ h st = h _ ts st
 
@@ -122,7 +128,8 @@ module _ (R : ℕ → Runs → Runs → Type 0) (kept : Kept R) where
   turned_kept p f g k κ μ go ho h i (Returned v) st = h (Returned v) st
 
   module _ (p : AProgram) (n : ℕ) (f g : Next) (close : (k : ℕ) → k ≤ n → OnNext R k f g) where
-    entered_kept : (k : ℕ) → k ≤ n → (b : Bool) (h : ARoutine) (vs : List ℕ) (κ μ : Rest) → OnRest R k κ μ → (st : State) → R k (if b then f (Body h.body) (back κ st) (begun h vs st) else stop Deep) (if b then g (Body h.body) (back μ st) (begun h vs st) else stop Deep)
+    entered_kept : (k : ℕ) → k ≤ n → (b : Bool) (h : ARoutine) (vs : List ℕ) (κ μ : Rest) → OnRest R k κ μ → (st : State)
+        → R k (if b then f (Body h.body) (back κ st) (begun h vs st) else stop Deep) (if b then g (Body h.body) (back μ st) (begun h vs st) else stop Deep)
     entered_kept k le true h vs κ μ s st = close k le (Body h.body) (back κ st) (back μ st) (λ w st'. s _ _) (begun h vs st)
     entered_kept k le false h vs κ μ s st = kept.stops k Deep tt
 
@@ -160,7 +167,8 @@ module _ (R : ℕ → Runs → Runs → Type 0) (kept : Kept R) where
       expr_kept (DistanceOf t l r) k le κ μ h = expr_kept l k le _ _ (λ x. expr_kept r k le _ _ (λ y. trap_kept k (distance t x y) κ μ h))
       expr_kept (ChoiceOf t c l r) k le κ μ h = expr_kept c k le _ _ (λ x st. chosen_kept k x _ _ _ _ (expr_kept l k le κ μ h st) (expr_kept r k le κ μ h st))
       expr_kept (AssignTo a e) k le κ μ h = place_kept a k le _ _ (λ t s. expr_kept e k le _ _ (λ v. store_kept k t s v κ μ h))
-      expr_kept (ArithmeticAssignTo op a e) k le κ μ h = place_kept a k le _ _ (λ t s. read_kept k t s _ _ (λ x. expr_kept e k le _ _ (λ y. trap_kept k (apply op x y) _ _ (λ v. store_kept k t s v κ μ h))))
+      expr_kept (ArithmeticAssignTo op a e) k le κ μ h = place_kept a k le _ _
+          (λ t s. read_kept k t s _ _ (λ x. expr_kept e k le _ _ (λ y. trap_kept k (apply op x y) _ _ (λ v. store_kept k t s v κ μ h))))
       expr_kept (AdvanceAssignTo a e) k le κ μ h = place_kept a k le _ _ (λ t s. read_kept k t s _ _ (λ x. expr_kept e k le _ _ (λ y. store_kept k t s _ κ μ h)))
       expr_kept (RetreatAssignTo a e) k le κ μ h = place_kept a k le _ _ (λ t s. read_kept k t s _ _ (λ x. expr_kept e k le _ _ (λ y. store_kept k t s _ κ μ h)))
       expr_kept (CommaOf t l r) k le κ μ h = expr_kept l k le _ _ (λ x. expr_kept r k le κ μ h)
@@ -170,7 +178,8 @@ module _ (R : ℕ → Runs → Runs → Type 0) (kept : Kept R) where
       place_kept (PointedBy t e) k le κ μ h = expr_kept e k le _ _ (λ a. h t (Memory a))
       place_kept (ElementBy t e) k le κ μ h = expr_kept e k le _ _ (λ a. h t (Memory a))
 
-      pub arguments_kept : (es : SomeExpressions) (ts : List CType) (k : ℕ) → k ≤ suc n → (κ μ : RestAll) → ((vs : List ℕ) (st : State) → R k (κ vs st) (μ vs st)) → OnState R k (arguments p f es ts κ) (arguments p g es ts μ)
+      pub arguments_kept : (es : SomeExpressions) (ts : List CType) (k : ℕ) → k ≤ suc n → (κ μ : RestAll) → ((vs : List ℕ) (st : State) → R k (κ vs st) (μ vs st))
+          → OnState R k (arguments p f es ts κ) (arguments p g es ts μ)
       arguments_kept NoExpressions ts k le κ μ h = h []
       arguments_kept (MoreExpressions e es) ts k le κ μ h = expr_kept e k le _ _ (λ v. passed_kept k ts v _ _ (λ x us. arguments_kept es us k le _ _ (λ xs. h _)))
 
@@ -266,4 +275,5 @@ module _ (p : AProgram) where
 -- a relation that looks at no higher number is kept by what the tasks mean
 pub means_kept : (R : ℕ → Runs → Runs → Type 0) → Kept R → ((k : ℕ) (r r' q q' : Runs) → Same k r r' → Same k q q' → R k r q → R k r' q') → (p : AProgram) (k : ℕ) → OnNext R k (means p) (means p)
 means_kept R kept looks p k t κ μ h st =
-    looks k (task_at p k t κ st) (means p t κ st) (task_at p k t μ st) (means p t μ st) (means_close p k k (omega arith) t κ κ (λ w st' i lt. refl) st) (means_close p k k (omega arith) t μ μ (λ w st' i lt. refl) st) (deep_kept R kept p k k k (omega arith) (omega arith) t κ μ h st)
+    looks k (task_at p k t κ st) (means p t κ st) (task_at p k t μ st) (means p t μ st) (means_close p k k (omega arith) t κ κ (λ w st' i lt. refl) st)
+    (means_close p k k (omega arith) t μ μ (λ w st' i lt. refl) st) (deep_kept R kept p k k k (omega arith) (omega arith) t κ μ h st)

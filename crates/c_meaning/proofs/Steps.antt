@@ -1,5 +1,6 @@
 -- One step of the machine at a time.
-use Rattle.std.proofs.Common.{◌≡◌, ℕ, zero, suc, ◌+◌, ◌<◌, ◌≤◌, List, [], ◌∷◌, ◌++◌, Some, None, Option, refl, sym, ap, ◌∙◌, subst, arith, length, get_or, false, append_assoc, lt-ltb, le-ltb, ltb-false, replicate}
+use Rattle.std.proofs.Common.{◌≡◌, ℕ, zero, suc, ◌+◌, ◌<◌, ◌≤◌, List, [], ◌∷◌, ◌++◌, Some, None, Option, refl, sym, ap, ◌∙◌, subst, arith, length, get_or, false, append_assoc}
+use Rattle.std.proofs.Common.{lt-ltb, le-ltb, ltb-false, replicate}
 use Rattle.std.proofs.lemmas.Option.{slice_get_read, slice_get_past, slice_get-map}
 use Rattle.std.specs.Prelude.{slice_get, nat_lt, map, is_some, unwrap_or, true, if◌then◌else◌}
 use Rattle.std.specs.Option.{option_map}
@@ -36,7 +37,9 @@ use Rattle.c_meaning.specs.State.{State}
 use Rattle.c_meaning.specs.declared.frame.Loop.{Loop}
 use Rattle.c_meaning.specs.Meaning.{Rest, RestAll, Look, Body, chosen, dropped, look_at, turn_at, means, passed, arguments, call, called, back, begun, expr, stmts}
 use Rattle.c_meaning.proofs.Related.{means_is}
-use Rattle.c_meaning.specs.Runner.{with_value, with_flow, loop_of, maybe_bor, end_of, arguments_work, Signal, Valued, Leaves, Then, state, waits, to_come, stack, bottom, before, going, term_work, value_work, flow_work, frame_work, frames_work, control_work, work, Progress, Makes, Does, Steps, Goes, Waiting, Counts, Resumes, GoesOn, Reaches}
+use Rattle.c_meaning.specs.Runner.{with_value, with_flow, loop_of, maybe_bor, end_of, arguments_work, Signal, Valued, Leaves, Then, state, waits, to_come, stack, bottom, before}
+use Rattle.c_meaning.specs.Runner.{going, term_work, value_work, flow_work, frame_work, frames_work, control_work, work, Progress, Makes, Does, Steps, Goes, Waiting, Counts}
+use Rattle.c_meaning.specs.Runner.{Resumes, GoesOn, Reaches}
 
 -- the work of one that is equal
 pub term_same : {a b : Expression} → a ≡ b → term_work (term a) ≡ term_work (term b)
@@ -57,7 +60,8 @@ more_bound run a b Counted new le p = p
 more_bound run a b (Stopped e) new le p = p
 
 -- progress with one run is progress with another that is the same there
-pub over : {m k new : Machine} {event : Event} {F G : Then → State → Runs} {a b : ℕ} → Makes k F a event new → G (waits m) (state m.store) ≡ F (waits k) (state k.store) → a + frames_work k.frames.items ≤ b + frames_work m.frames.items → Makes m G b event new
+pub over : {m k new : Machine} {event : Event} {F G : Then → State → Runs} {a b : ℕ} → Makes k F a event new → G (waits m) (state m.store) ≡ F (waits k) (state k.store) → a
+    + frames_work k.frames.items ≤ b + frames_work m.frames.items → Makes m G b event new
 over {m} {k} {new} {event} {F} {G} {a} {b} h same le =
     record { progress = subst (λ r. Progress r (b + frames_work m.frames.items) event new) (sym same) (more_bound (F (waits k) (state k.store)) _ _ event new le h.progress) }
 
@@ -65,7 +69,8 @@ over {m} {k} {new} {event} {F} {G} {a} {b} h same le =
 pub goes : (m : Machine) (c : Control) → Goes m c Quiet (record m { control = c })
 goes m c = record { progress = (refl, omega arith) }
 
-pushed : (m : Machine) (f : Frame) (c : Control) (v : Vec Frame) → v.items ≡ m.frames.items ++ f ∷ [] → going (program m.program.now) c (before (program m.program.now) f (waits m)) (state m.store) ≡ to_come (record m { control = c; frames = v })
+pushed : (m : Machine) (f : Frame) (c : Control) (v : Vec Frame) → v.items ≡ m.frames.items ++ f ∷ []
+    → going (program m.program.now) c (before (program m.program.now) f (waits m)) (state m.store) ≡ to_come (record m { control = c; frames = v })
 pushed m f c v push =
     let p = program m.program.now in
     sym (ap (λ fs. going p c (stack p (bottom p) fs) (state m.store)) push ∙ ap (λ κ. going p c κ (state m.store)) (stack_push p (bottom p) m.frames.items f))
@@ -78,15 +83,18 @@ pub counts : (m : Machine) (f : Frame) (c : Control) (v : Vec Frame) → v.items
 counts m f c v push = record { progress = ap counted (pushed m f c v push) }
 
 -- the last frame is taken off the list
-popped : (m : Machine) (v : Vec Frame) (f : Frame) (x : Signal) → m.frames.items ≡ v.items ++ f ∷ [] → waits m x (state m.store) ≡ before (program m.program.now) f (waits (record m { frames = v })) x (state m.store)
+popped : (m : Machine) (v : Vec Frame) (f : Frame) (x : Signal) → m.frames.items ≡ v.items ++ f ∷ [] → waits m x (state m.store)
+    ≡ before (program m.program.now) f (waits (record m { frames = v })) x (state m.store)
 popped m v f x pop =
     let p = program m.program.now in
     ap (λ fs. stack p (bottom p) fs x (state m.store)) pop ∙ ap (λ κ. κ x (state m.store)) (stack_push p (bottom p) v.items f)
 
-pub popped_value : (m : Machine) (v : Vec Frame) (f : ValueFrame) (x : ℕ) {event : Event} {new : Machine} → m.frames.items ≡ v.items ++ ForValue f ∷ [] → Resumes (record m { frames = v }) f x event new → Does m (controls.Value x) event new
+pub popped_value : (m : Machine) (v : Vec Frame) (f : ValueFrame) (x : ℕ) {event : Event} {new : Machine} → m.frames.items ≡ v.items ++ ForValue f ∷ []
+    → Resumes (record m { frames = v }) f x event new → Does m (controls.Value x) event new
 popped_value m v f x pop h = over h (popped m v (ForValue f) (Valued x) pop) (omega (arith, ap frames_work pop, work_push v.items (ForValue f)))
 
-pub popped_flow : (m : Machine) (v : Vec Frame) (f : FlowFrame) (w : Flow) {event : Event} {new : Machine} → m.frames.items ≡ v.items ++ ForFlow f ∷ [] → GoesOn (record m { frames = v }) f w event new → Does m (controls.Left w) event new
+pub popped_flow : (m : Machine) (v : Vec Frame) (f : FlowFrame) (w : Flow) {event : Event} {new : Machine} → m.frames.items ≡ v.items ++ ForFlow f ∷ []
+    → GoesOn (record m { frames = v }) f w event new → Does m (controls.Left w) event new
 popped_flow m v f w pop h = over h (popped m v (ForFlow f) (Leaves w) pop) (omega (arith, ap frames_work pop, work_push v.items (ForFlow f)))
 
 -- a frame that is not for a value, or not for a statement that is left, is passed
@@ -117,10 +125,12 @@ flow_work_pos (leaving.Statements ss) = omega arith
 flow_work_pos (leaving.Turn l) = omega arith
 flow_work_pos (leaving.Call c active) = omega arith
 
-pub passed_value : (m : Machine) (v : Vec Frame) (f : FlowFrame) (x : ℕ) {event : Event} {new : Machine} → m.frames.items ≡ v.items ++ ForFlow f ∷ [] → Goes (record m { frames = v }) (controls.Value x) event new → Does m (controls.Value x) event new
+pub passed_value : (m : Machine) (v : Vec Frame) (f : FlowFrame) (x : ℕ) {event : Event} {new : Machine} → m.frames.items ≡ v.items ++ ForFlow f ∷ []
+    → Goes (record m { frames = v }) (controls.Value x) event new → Does m (controls.Value x) event new
 passed_value m v f x pop h = over h (popped m v (ForFlow f) (Valued x) pop) (omega (arith, ap frames_work pop, work_push v.items (ForFlow f), flow_work_pos f))
 
-pub passed_flow : (m : Machine) (v : Vec Frame) (f : ValueFrame) (w : Flow) {event : Event} {new : Machine} → m.frames.items ≡ v.items ++ ForValue f ∷ [] → Goes (record m { frames = v }) (controls.Left w) event new → Does m (controls.Left w) event new
+pub passed_flow : (m : Machine) (v : Vec Frame) (f : ValueFrame) (w : Flow) {event : Event} {new : Machine} → m.frames.items ≡ v.items ++ ForValue f ∷ []
+    → Goes (record m { frames = v }) (controls.Left w) event new → Does m (controls.Left w) event new
 passed_flow m v f w pop h = over h (popped m v (ForValue f) (Leaves w) pop) (omega (arith, ap frames_work pop, work_push v.items (ForValue f), value_work_pos f))
 
 -- steps up to what shows
@@ -151,26 +161,35 @@ chosen_some zero a b h = absurd (h refl)
 chosen_some (suc v) a b h = refl
 
 -- another look at a loop that has no step
-pub look_is : (m : Machine) (l : Loop) → l.step ≡ None → dropped (program m.program.now) (means (program m.program.now)) (loop_of l).step (means (program m.program.now) (Look (loop_of l)) (with_flow (waits m))) (state m.store) ≡ look_at (program m.program.now) (means (program m.program.now)) (loop_of l) (with_flow (waits m)) (state m.store)
+pub look_is : (m : Machine) (l : Loop) → l.step ≡ None → dropped (program m.program.now) (means (program m.program.now)) (loop_of l).step
+    (means (program m.program.now) (Look (loop_of l)) (with_flow (waits m))) (state m.store)
+    ≡ look_at (program m.program.now) (means (program m.program.now)) (loop_of l) (with_flow (waits m)) (state m.store)
 look_is m l none =
     let p = program m.program.now in
     ap (λ o. dropped p (means p) (maybe_bor o) (means p (Look (loop_of l)) (with_flow (waits m))) (state m.store)) none
     ∙ means_is p (Look (loop_of l)) (with_flow (waits m)) (state m.store)
 
 -- the same, where it has one
-pub look_behind : (m : Machine) (l : Loop) (e : Bor Expression) → l.step ≡ Some e → dropped (program m.program.now) (means (program m.program.now)) (loop_of l).step (means (program m.program.now) (Look (loop_of l)) (with_flow (waits m))) (state m.store) ≡ expr (program m.program.now) (means (program m.program.now)) (term e.now) (λ v. look_at (program m.program.now) (means (program m.program.now)) (loop_of l) (with_flow (waits m))) (state m.store)
+pub look_behind : (m : Machine) (l : Loop) (e : Bor Expression) → l.step ≡ Some e
+    → dropped (program m.program.now) (means (program m.program.now)) (loop_of l).step (means (program m.program.now) (Look (loop_of l)) (with_flow (waits m))) (state m.store)
+    ≡ expr (program m.program.now) (means (program m.program.now)) (term e.now) (λ v. look_at (program m.program.now) (means (program m.program.now)) (loop_of l) (with_flow (waits m))) (state m.store)
 look_behind m l e is =
     let p = program m.program.now in
     ap (λ o. dropped p (means p) (maybe_bor o) (means p (Look (loop_of l)) (with_flow (waits m))) (state m.store)) is
     ∙ ap (λ (κ : State → Runs). expr p (means p) (term e.now) (λ v. κ) (state m.store)) (λ i st. means_is p (Look (loop_of l)) (with_flow (waits m)) st i)
 
 -- a turn of a loop whose condition is true
-pub turns : {new : Machine} {event : Event} (m : Machine) (l : Loop) (v : ℕ) → (v ≡ 0 → ⊥) → Makes m (λ κ. turn_at (program m.program.now) (means (program m.program.now)) (loop_of l) (with_flow κ)) 0 event new → Resumes m (waiting.Test l) v event new
+pub turns : {new : Machine} {event : Event} (m : Machine) (l : Loop) (v : ℕ) → (v ≡ 0 → ⊥)
+    → Makes m (λ κ. turn_at (program m.program.now) (means (program m.program.now)) (loop_of l) (with_flow κ)) 0 event new → Resumes m (waiting.Test l) v event new
 turns {new} {event} m l v h w =
     over w (chosen_some v (turn_at (program m.program.now) (means (program m.program.now)) (loop_of l) (with_flow (waits m)) (state m.store)) (waits m (Leaves Onward) (state m.store)) h) (omega arith)
 
 -- a further argument is there
-pub passes : {new : Machine} {event : Event} (m : Machine) (f : Callee) (done more : List ℕ) (x v : ℕ) (t : CType) (ts all : List CType) (es : SomeExpressions) → all ≡ t ∷ ts → x ≡ converted t v → more ≡ done ++ x ∷ [] → Makes m (λ κ. arguments (program m.program.now) (means (program m.program.now)) es ts (λ vs. call (program m.program.now) (means (program m.program.now)) f (more ++ vs) (with_value κ))) (arguments_work es) event new → Makes m (λ κ. passed all v (λ y us. arguments (program m.program.now) (means (program m.program.now)) es us (λ vs. call (program m.program.now) (means (program m.program.now)) f (done ++ y ∷ vs) (with_value κ)))) (arguments_work es + 1) event new
+pub passes : {new : Machine} {event : Event} (m : Machine) (f : Callee) (done more : List ℕ) (x v : ℕ) (t : CType) (ts all : List CType) (es : SomeExpressions) → all ≡ t ∷ ts → x
+    ≡ converted t v → more ≡ done ++ x ∷ [] → Makes m (λ κ. arguments (program m.program.now) (means (program m.program.now)) es ts
+    (λ vs. call (program m.program.now) (means (program m.program.now)) f (more ++ vs) (with_value κ))) (arguments_work es) event new
+    → Makes m (λ κ. passed all v (λ y us. arguments (program m.program.now) (means (program m.program.now)) es us
+    (λ vs. call (program m.program.now) (means (program m.program.now)) f (done ++ y ∷ vs) (with_value κ)))) (arguments_work es + 1) event new
 passes {new} {event} m f done more x v t ts all es is kept pushed w =
     let p = program m.program.now in
     let κ : Rest = with_value (waits m) in
@@ -183,7 +202,10 @@ passes {new} {event} m f done more x v t ts all es is kept pushed w =
     ) (omega arith)
 
 -- a call of a function begins, or would be one too many
-pub call_begins : {new : Machine} {event : Event} (b : Bor (List Action)) (m : Machine) (s : Store) (g : Routine) (vs locals : List ℕ) (caller : Activation) → m.store.active < 1024 → b.now ≡ g.body.items → state s ≡ record (state m.store) { call = record { locals = locals; parameters = vs }; active = m.store.active + 1 } → locals ≡ replicate (length g.locals) 0 → caller ≡ m.store.call → Counts (record m { store = s }) (ForFlow (leaving.Call caller m.store.active)) (controls.Block b) event new → Makes m (λ κ. called (Some (routine g)) (means (program m.program.now)) vs (with_value κ)) 2 event new
+pub call_begins : {new : Machine} {event : Event} (b : Bor (List Action)) (m : Machine) (s : Store) (g : Routine) (vs locals : List ℕ) (caller : Activation) → m.store.active < 1024 → b.now
+    ≡ g.body.items → state s ≡ record (state m.store) { call = record { locals = locals; parameters = vs }; active = m.store.active + 1 } → locals ≡ replicate (length g.locals) 0 → caller
+    ≡ m.store.call → Counts (record m { store = s }) (ForFlow (leaving.Call caller m.store.active)) (controls.Block b) event new
+    → Makes m (λ κ. called (Some (routine g)) (means (program m.program.now)) vs (with_value κ)) 2 event new
 call_begins {new} {event} b m s g vs locals caller lt body at zeros back_to w =
     let p = program m.program.now in
     let κ : Rest = with_value (waits m) in
@@ -198,7 +220,8 @@ call_begins {new} {event} b m s g vs locals caller lt body at zeros back_to w =
     ∙ ap (λ c. stmts p (means p) (acts b.now) (with_flow (before p (ForFlow (leaving.Call c m.store.active)) (waits m))) (state s)) (sym back_to))
     ) (omega arith)
 
-pub call_deep : {new : Machine} {event : Event} (m : Machine) (g : Routine) (vs : List ℕ) → 1024 ≤ m.store.active → Makes m (λ κ st. counted (stop (end_of finish.Deep))) 0 event new → Makes m (λ κ. called (Some (routine g)) (means (program m.program.now)) vs (with_value κ)) 2 event new
+pub call_deep : {new : Machine} {event : Event} (m : Machine) (g : Routine) (vs : List ℕ) → 1024 ≤ m.store.active → Makes m (λ κ st. counted (stop (end_of finish.Deep))) 0 event new
+    → Makes m (λ κ. called (Some (routine g)) (means (program m.program.now)) vs (with_value κ)) 2 event new
 call_deep {new} {event} m g vs le w =
     let p = program m.program.now in
     let κ : Rest = with_value (waits m) in

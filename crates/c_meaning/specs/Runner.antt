@@ -10,8 +10,11 @@ use Rattle.gg_base.specs.Relations.{holds}
 use Rattle.c_types.specs.declared.types.CType.{CType}
 use Rattle.c_types.specs.declared.typed.Expression.{Expression}
 use Rattle.c_types.specs.Constants.{converted, truth, apply_unary, apply, advanced, retreated, distance}
-use Rattle.c_types.specs.Typed.{APlace, VariableAt, PointedBy, ElementBy, AnExpression, Constant, LiteralAt, ArrayAt, ReadOf, SizeofTerm, SizeOf, AddressOf, CallOf, StepOf, UnaryOf, CastTo, ConvertTo, ArithmeticOf, CompareOf, BothOf, EitherOf, AdvanceOf, AdvanceByOf, RetreatOf, DistanceOf, ChoiceOf, AssignTo, ArithmeticAssignTo, AdvanceAssignTo, RetreatAssignTo, CommaOf, SomeExpressions, NoExpressions, MoreExpressions, term, terms}
-use Rattle.c_program.specs.Statements.{ADeclaration, KeepOf, ClearOf, BeginOf, AnAction, SomeActions, NoActions, MoreActions, DeclareOf, BlockOf, EvaluateOf, BreakOf, ContinueOf, ReturnOf, IfOf, IfElseOf, WhileOf, DoOf, ForOf, act, acts, declaration}
+use Rattle.c_types.specs.Typed.{APlace, VariableAt, PointedBy, ElementBy, AnExpression, Constant, LiteralAt, ArrayAt, ReadOf, SizeofTerm, SizeOf, AddressOf, CallOf, StepOf}
+use Rattle.c_types.specs.Typed.{UnaryOf, CastTo, ConvertTo, ArithmeticOf, CompareOf, BothOf, EitherOf, AdvanceOf, AdvanceByOf, RetreatOf, DistanceOf, ChoiceOf, AssignTo}
+use Rattle.c_types.specs.Typed.{ArithmeticAssignTo, AdvanceAssignTo, RetreatAssignTo, CommaOf, SomeExpressions, NoExpressions, MoreExpressions, term, terms}
+use Rattle.c_program.specs.Statements.{ADeclaration, KeepOf, ClearOf, BeginOf, AnAction, SomeActions, NoActions, MoreActions, DeclareOf, BlockOf, EvaluateOf, BreakOf, ContinueOf}
+use Rattle.c_program.specs.Statements.{ReturnOf, IfOf, IfElseOf, WhileOf, DoOf, ForOf, act, acts, declaration}
 use Rattle.c_program.specs.Programs.{AProgram, program}
 use Rattle.c_meaning.specs.declared.flow.Flow.{Flow}
 use Rattle.c_meaning.specs.declared.flow.Flow.TheVariants.{Onward, Returned}
@@ -39,7 +42,8 @@ use Rattle.c_meaning.specs.declared.frame.Control.TheVariants as controls
 use Rattle.c_meaning.specs.declared.machine.Machine.{Machine}
 use Rattle.c_meaning.specs.State.{Call, State}
 use Rattle.c_meaning.specs.Turns.{answers, Turns}
-use Rattle.c_meaning.specs.Meaning.{Rest, RestAll, RestAt, Behind, ALoop, Look, Body, chosen, logical, or_wild, or_trap, read_at, store_at, step_at, address_of, passed, answer, call, expr, place, arguments, dropped, tested, turned, look_at, turn_at, local_set, declared, followed, stmt, stmts, means, finished}
+use Rattle.c_meaning.specs.Meaning.{Rest, RestAll, RestAt, Behind, ALoop, Look, Body, chosen, logical, or_wild, or_trap, read_at, store_at, step_at, address_of, passed, answer}
+use Rattle.c_meaning.specs.Meaning.{call, expr, place, arguments, dropped, tested, turned, look_at, turn_at, local_set, declared, followed, stmt, stmts, means, finished}
 
 -- the parts of a machine as the meaning has them
 abbrev pub activation : Activation → Call

@@ -6,7 +6,8 @@ use Rattle.c_typed_scope.specs.declared.entry.Entry.{Entry}
 use Rattle.c_typed_scope.specs.declared.entry.Signature.{Signature}
 use Rattle.c_typed_scope.specs.Layout.{Area}
 use Rattle.c_phrases.specs.Phrases.{AnExp}
-use Rattle.c_phrases.specs.Units.{local_item, statement_item, AStatement, block, empty, expression, break_off, continue_on, give_back, if_then, if_else, while_loop, do_loop, for_loop, SomeItems, no_items}
+use Rattle.c_phrases.specs.Units.{local_item, statement_item, AStatement, block, empty, expression, break_off, continue_on, give_back, if_then, if_else, while_loop, do_loop}
+use Rattle.c_phrases.specs.Units.{for_loop, SomeItems, no_items}
 use Rattle.c_program.specs.Statements.{AnAction, SomeActions, ReturnOf}
 use Rattle.c_sound.specs.Fits.{behind_act, declaring, no_local}
 use Rattle.c_typed_expressions.specs.Relations.{IsTyped}
@@ -20,7 +21,9 @@ use Rattle.c_sound_bodies.specs.Claim.{InOrder, BodiesAreSound}
 use Rattle.c_sound_bodies.proofs.Growth.{exp_extends}
 use Rattle.c_sound_bodies.proofs.Closures.{exp_fits, exp_stands}
 use Rattle.c_sound_bodies.proofs.Locals.{grows_area, order_more, locals_sound}
-use Rattle.c_sound_bodies.proofs.Parts.{TermIsSound, PartIsSound, ActIsSound, ActsAreSound, part_none, part_some, order_entered, block_sound, empty_sound, evaluate_sound, return_sound, break_sound, continue_sound, if_sound, if_else_sound, while_sound, do_sound, for_sound, none_sound, order_plain, statement_first, declaration_first}
+use Rattle.c_sound_bodies.proofs.Parts.{TermIsSound, PartIsSound, ActIsSound, ActsAreSound, part_none, part_some, order_entered, block_sound, empty_sound, evaluate_sound}
+use Rattle.c_sound_bodies.proofs.Parts.{return_sound, break_sound, continue_sound, if_sound, if_else_sound, while_sound, do_sound, for_sound, none_sound, order_plain}
+use Rattle.c_sound_bodies.proofs.Parts.{statement_first, declaration_first}
 
 module _ (names : List (List ℕ × Entry)) (signatures : List Signature) (scope : ℕ → Type 0) (parameters : ℕ) where
   term_is : (e : AnExp) (s : State) (x : AnExpression × Area) (r : AnExpression × State) → InOrder scope parameters s →

@@ -150,7 +150,8 @@ literal_by at bytes w false label a (Ok r) t h e =
     let p = h r refl in
     let same : t ≡ (LiteralAt r.0 (length bytes + 1), one_more_literal r.1) = cc in
     let area : r.1 ≡ with_object label 1 (length bytes + 1) (bytes ++ 0 ∷ []) a = ap (λ (x : ℕ × Area). x.1) p.is in
-    rw (same, area) (one_more label 1 (length bytes + 1) (bytes ++ 0 ∷ []) a _ (bytes_joined bytes (0 ∷ []) w (omega arith, tt)) (omega arith) refl (length-append bytes (0 ∷ [])) p.within refl refl refl)
+    rw (same, area) (one_more label 1 (length bytes + 1) (bytes ++ 0 ∷ []) a _ (bytes_joined bytes (0 ∷ []) w (omega arith, tt)) (omega arith) refl (length-append bytes (0 ∷ [])) p.within
+    refl refl refl)
 
 literal_lays : (at : ℕ) (bytes : List ℕ) (a : Area) (t : AnExpression × Area) → IsToken (token.Str bytes) → literal at bytes a ≡ Ok t → Lays a t.1
 unfolding literal

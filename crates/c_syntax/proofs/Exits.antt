@@ -20,18 +20,22 @@ use Rattle.c_syntax_goals.specs.declared.fault.Fault.TheVariants.{NoMemory, NotH
 use Rattle.c_phrases.specs.declared.tree.TypeName.{TypeName}
 use Rattle.c_phrases.specs.Classes.{Placed, Class, class_of, key_class, mark_class, word, sign}
 use Rattle.c_phrases.specs.Classes as c
-use Rattle.c_phrases.specs.Phrases.{AnExp, name, number, str, paren, call, index, step_after, sizeof_exp, comma, SomeExps, no_exps, exps, onto_name, onto_exp, onto_first, onto_others, after_exp, IsAt, AllAt, binary_mark, prefix_mark, step_mark, assign_mark}
+use Rattle.c_phrases.specs.Phrases.{AnExp, name, number, str, paren, call, index, step_after, sizeof_exp, comma, SomeExps, no_exps, exps, onto_name, onto_exp, onto_first}
+use Rattle.c_phrases.specs.Phrases.{onto_others, after_exp, IsAt, AllAt, binary_mark, prefix_mark, step_mark, assign_mark}
 use Rattle.c_phrases.specs.Levels.{LowExp, LowExps, limit}
 use Rattle.c_phrases.specs.Takes.{IsTypeWord, NoTypeWord, assign_of, prefix_of, step_of, NoPrefix, NoPrefixMark, NoStep, NoStepMark, NoAssign, NoAssignMark}
 use Rattle.c_phrases.specs.Fronts.{Quiet, IsNot, NoCast}
-use Rattle.c_syntax.specs.Reads.{NoName, NoNumber, NoString, BeginsCast, StopClass, IsStop, IsPart, IsRead, ReadsType, ArgumentsSoFar, ReadsArguments, IsSome, Fails, Leads, TailFails, TailLeads, PostFails, CommasFail}
+use Rattle.c_syntax.specs.Reads.{NoName, NoNumber, NoString, BeginsCast, StopClass, IsStop, IsPart, IsRead, ReadsType, ArgumentsSoFar, ReadsArguments, IsSome, Fails, Leads}
+use Rattle.c_syntax.specs.Reads.{TailFails, TailLeads, PostFails, CommasFail}
 use Rattle.c_syntax_goals.specs.Goals as Goals
 use Rattle.c_syntax_goals.specs.Goals.{Goal, Val, Stack, Want, Steps, Opens, Refuses, turn, insert, type_goals, cast_behind, paren_behind, sizeof_behind, cond_goals}
-use Rattle.c_syntax_goals.specs.Goals.{Expr, Commas, Assign, Cond, Cast, Unary, Primary, Parens, CallTail, PostTail, Ended, Tail, Group, SizeofTail, SizeofGroup, Arguments, MoreArguments, Back, WantParen, WantBracket, WantColon}
+use Rattle.c_syntax_goals.specs.Goals.{Expr, Commas, Assign, Cond, Cast, Unary, Primary, Parens, CallTail, PostTail, Ended, Tail, Group, SizeofTail, SizeofGroup, Arguments}
+use Rattle.c_syntax_goals.specs.Goals.{MoreArguments, Back, WantParen, WantBracket, WantColon}
 use Rattle.c_syntax_goals.specs.Machine.{run}
 use Rattle.c_syntax_goals.proofs.Tokens.{single, token_of}
 use Rattle.c_syntax_goals.proofs.PhraseLaws.{limit_low}
-use Rattle.c_syntax_goals.proofs.Steps.{Unset, NoSet, step_opens, step_deep, step_refuses, tail_binary, tail_assign, unary_prefix, unary_step, post_step, back, loosen, quiet_call, group_type, sizeof_group_type, cast_plain, assign_plain, sizeof_is_plain, assign_cast, expand_expr, expand_cond, expand_arguments}
+use Rattle.c_syntax_goals.proofs.Steps.{Unset, NoSet, step_opens, step_deep, step_refuses, tail_binary, tail_assign, unary_prefix, unary_step, post_step, back, loosen, quiet_call}
+use Rattle.c_syntax_goals.proofs.Steps.{group_type, sizeof_group_type, cast_plain, assign_plain, sizeof_is_plain, assign_cast, expand_expr, expand_cond, expand_arguments}
 use Rattle.c_syntax_goals.proofs.Going.{StartClass, Starts, starts, not_start, quiet_others, law_exp, law_assign, law_operand, law_unary, law_first}
 
 -- a fault that is no want of memory
@@ -58,10 +62,12 @@ high : (m : ℕ) → 200 < m → limit m ≡ false
 high m le = grind (arith, nat_tests)
 
 -- a token that opens levels, of which there are too many or not
-pub deep : (g : Goal) (n k : ℕ) (t : Placed) (ts after : List Placed) (f : Fault) (S : (Val g → Stack) → Stack) → ((κ : Val g → Stack) → turn g (class_of t.kind) t n κ ≡ Steps (Opens k (S κ))) → ts ≡ t ∷ after → (f ≡ TooDeep (length ts)) × (200 < n + k) → Fails (Want g) n ts f
+pub deep : (g : Goal) (n k : ℕ) (t : Placed) (ts after : List Placed) (f : Fault) (S : (Val g → Stack) → Stack)
+    → ((κ : Val g → Stack) → turn g (class_of t.kind) t n κ ≡ Steps (Opens k (S κ))) → ts ≡ t ∷ after → (f ≡ TooDeep (length ts)) × (200 < n + k) → Fails (Want g) n ts f
 deep g n k t ts after f S h e d = rw (d.0, e) (λ κ. step_deep limit g κ t n k (S κ) after (h κ) (high (n + k) d.1))
 
-pub opens : (g : Goal) (κ : Val g → Stack) (n m k : ℕ) (t : Placed) (ts after : List Placed) (s : Stack) → turn g (class_of t.kind) t n κ ≡ Steps (Opens k s) → ts ≡ t ∷ after → (m ≡ n + k) × (n + k ≤ 200) → run limit (Want g κ) n ts ≡ run limit s m after
+pub opens : (g : Goal) (κ : Val g → Stack) (n m k : ℕ) (t : Placed) (ts after : List Placed) (s : Stack) → turn g (class_of t.kind) t n κ ≡ Steps (Opens k s) → ts ≡ t ∷ after → (m ≡ n + k)
+    × (n + k ≤ 200) → run limit (Want g κ) n ts ≡ run limit s m after
 opens g κ n m k t ts after s h e up = rw (e, up.0) (step_opens limit g κ t n k s after h (limit_low (n + k) up.1))
 
 -- what was read leads on
@@ -118,7 +124,8 @@ no_parens : (n : ℕ) (κ : AnExp → Stack) (ts : List Placed) → IsNot (token
 no_parens n κ [] h = refl
 no_parens n κ (t ∷ ts) h = rw (parens_by (class_of t.kind) (class_not t.kind (token.Mark marks.OpenParenthesis) refl h) t n κ) refl
 
-no_more : (n : ℕ) (κ : SomeExps → Stack) (ts : List Placed) → IsNot (token.Mark marks.CloseParenthesis) ts → IsNot (token.Mark marks.Comma) ts → run limit (Want MoreArguments κ) n ts ≡ Err (NotHere (length ts))
+no_more : (n : ℕ) (κ : SomeExps → Stack) (ts : List Placed) → IsNot (token.Mark marks.CloseParenthesis) ts → IsNot (token.Mark marks.Comma) ts → run limit (Want MoreArguments κ) n ts
+    ≡ Err (NotHere (length ts))
 no_more n κ [] h i = refl
 no_more n κ (t ∷ ts) h i = rw (more_by (class_of t.kind) (class_not t.kind (token.Mark marks.CloseParenthesis) refl h) (class_not t.kind (token.Mark marks.Comma) refl i) n κ) refl
 
@@ -136,8 +143,10 @@ commas_deep n ts after f e d = λ l. deep (Commas l) n 1 (sign marks.Comma 0) ts
 pub commas_err : (n i : ℕ) (ts after : List Placed) (f : Fault) → ts ≡ sign marks.Comma 0 ∷ after → (i ≡ n + 1) × (n + 1 ≤ 200) → Fails (Want Assign) i after f → CommasFail n ts f
 commas_err n i ts after f e up h = λ l. fails_when (Want (Commas l)) n ts f (λ r κ. opens (Commas l) κ n i 1 (sign marks.Comma 0) ts after _ refl e up ∙ real (Want Assign) i after f h r _)
 
-pub commas_more : (n i m : ℕ) (ts after rest : List Placed) (e : AnExp) (f : Fault) → ts ≡ sign marks.Comma 0 ∷ after → (i ≡ n + 1) × (n + 1 ≤ 200) → IsRead 1 1 i after e rest m → CommasFail m rest f → CommasFail n ts f
-commas_more n i m ts after rest e f t up g h = λ l. fails_when (Want (Commas l)) n ts f (λ r κ. opens (Commas l) κ n i 1 (sign marks.Comma 0) ts after _ refl t up ∙ assign_leads i m after rest e g _ ∙ real (Want (Commas (comma l e))) m rest f (h (comma l e)) r κ)
+pub commas_more : (n i m : ℕ) (ts after rest : List Placed) (e : AnExp) (f : Fault) → ts ≡ sign marks.Comma 0 ∷ after → (i ≡ n + 1) × (n + 1 ≤ 200) → IsRead 1 1 i after e rest m
+    → CommasFail m rest f → CommasFail n ts f
+commas_more n i m ts after rest e f t up g h = λ l. fails_when (Want (Commas l)) n ts f
+    (λ r κ. opens (Commas l) κ n i 1 (sign marks.Comma 0) ts after _ refl t up ∙ assign_leads i m after rest e g _ ∙ real (Want (Commas (comma l e))) m rest f (h (comma l e)) r κ)
 
 -- assignment
 cast_begins : (n : ℕ) (ts : List Placed) (κ : AnExp → Stack) → BeginsCast ts → run limit (Want Assign κ) n ts ≡ run limit (cond_goals κ) n ts
@@ -183,13 +192,20 @@ unset_of [] h = tt
 unset_of (t ∷ ts) h = no_set_of t.kind h
 
 pub assign_unary_tail : (n m : ℕ) (ts rest : List Placed) (e : AnExp) (f : Fault) → NoCast ts → IsRead 14 13 n ts e rest m → NoAssign rest → TailFails m rest f → Fails (Want Assign) n ts f
-assign_unary_tail n m ts rest e f b i a h = fails_when (Want Assign) n ts f (λ r κ. assign_plain limit n κ ts b ∙ unary_leads n m ts rest e i _ ∙ loosen limit m e κ rest (unset_of rest a) ∙ real (Want (Tail false e)) m rest f (h e) r κ)
+assign_unary_tail n m ts rest e f b i a h = fails_when (Want Assign) n ts f
+    (λ r κ. assign_plain limit n κ ts b ∙ unary_leads n m ts rest e i _ ∙ loosen limit m e κ rest (unset_of rest a) ∙ real (Want (Tail false e)) m rest f (h e) r κ)
 
-pub assign_deep : (n m : ℕ) (ts rest after : List Placed) (e : AnExp) (op : AssignOperator) (at : ℕ) (f : Fault) → NoCast ts → IsRead 14 13 n ts e rest m → rest ≡ sign (assign_mark op) at ∷ after → (f ≡ TooDeep (length rest)) × (200 < m + 1) → Fails (Want Assign) n ts f
-assign_deep n m ts rest after e op at f b i t d = fails_when (Want Assign) n ts f (λ r κ. assign_plain limit n κ ts b ∙ unary_leads n m ts rest e i _ ∙ real (Want (Tail true e)) m rest f (deep (Tail true e) m 1 (sign (assign_mark op) at) rest after f _ (λ g. tail_assign op at m e g) t d) r κ)
+pub assign_deep : (n m : ℕ) (ts rest after : List Placed) (e : AnExp) (op : AssignOperator) (at : ℕ) (f : Fault) → NoCast ts → IsRead 14 13 n ts e rest m → rest
+    ≡ sign (assign_mark op) at ∷ after → (f ≡ TooDeep (length rest)) × (200 < m + 1) → Fails (Want Assign) n ts f
+assign_deep n m ts rest after e op at f b i t d = fails_when (Want Assign) n ts f
+    (λ r κ. assign_plain limit n κ ts b ∙ unary_leads n m ts rest e i _
+    ∙ real (Want (Tail true e)) m rest f (deep (Tail true e) m 1 (sign (assign_mark op) at) rest after f _ (λ g. tail_assign op at m e g) t d) r κ)
 
-pub assign_err : (n m i : ℕ) (ts rest after : List Placed) (e : AnExp) (op : AssignOperator) (at : ℕ) (f : Fault) → NoCast ts → IsRead 14 13 n ts e rest m → rest ≡ sign (assign_mark op) at ∷ after → (i ≡ m + 1) × (m + 1 ≤ 200) → Fails (Want Assign) i after f → Fails (Want Assign) n ts f
-assign_err n m i ts rest after e op at f b g t up h = fails_when (Want Assign) n ts f (λ r κ. assign_plain limit n κ ts b ∙ unary_leads n m ts rest e g _ ∙ opens (Tail true e) κ m i 1 (sign (assign_mark op) at) rest after _ (tail_assign op at m e κ) t up ∙ real (Want Assign) i after f h r _)
+pub assign_err : (n m i : ℕ) (ts rest after : List Placed) (e : AnExp) (op : AssignOperator) (at : ℕ) (f : Fault) → NoCast ts → IsRead 14 13 n ts e rest m → rest
+    ≡ sign (assign_mark op) at ∷ after → (i ≡ m + 1) × (m + 1 ≤ 200) → Fails (Want Assign) i after f → Fails (Want Assign) n ts f
+assign_err n m i ts rest after e op at f b g t up h = fails_when (Want Assign) n ts f
+    (λ r κ. assign_plain limit n κ ts b ∙ unary_leads n m ts rest e g _ ∙ opens (Tail true e) κ m i 1 (sign (assign_mark op) at) rest after _ (tail_assign op at m e κ) t up
+    ∙ real (Want Assign) i after f h r _)
 
 -- what is not assigned to
 set_refused : (k : Class) → (NoSet k → ⊥) → (t : Placed) (n : ℕ) (l : AnExp) (κ : AnExp → Stack) → Goals.tail_turn k t n false l κ ≡ Steps Refuses
@@ -201,48 +217,68 @@ assign_sets : (op : AssignOperator) → NoSet (mark_class (assign_mark op)) → 
 assign_sets assigns.Assign h = h
 assign_sets op h = h
 
-pub tail_assigned : (n m : ℕ) (ts rest after : List Placed) (op : AssignOperator) (at : ℕ) (f : Fault) → TailLeads n ts m rest → rest ≡ sign (assign_mark op) at ∷ after → f ≡ NotHere (length rest) → TailFails n ts f
+pub tail_assigned : (n m : ℕ) (ts rest after : List Placed) (op : AssignOperator) (at : ℕ) (f : Fault) → TailLeads n ts m rest → rest ≡ sign (assign_mark op) at ∷ after → f
+    ≡ NotHere (length rest) → TailFails n ts f
 tail_assigned n m ts rest after op at f l e g = l f (λ x. fails_here (Want (Tail false x)) m rest (length rest) f g (λ κ. rw e (by x κ)))
   where
     by : (x : AnExp) (κ : AnExp → Stack) → run limit (Want (Tail false x) κ) m (sign (assign_mark op) at ∷ after) ≡ Err (NotHere (length (sign (assign_mark op) at ∷ after)))
     by x κ = step_refuses limit (Tail false x) κ (sign (assign_mark op) at) m after (set_refused (mark_class (assign_mark op)) (assign_sets op) (sign (assign_mark op) at) m x κ)
 
 -- choices
-pub choice_deep : (n m : ℕ) (ts rest inner : List Placed) (at : ℕ) (f : Fault) → TailLeads n ts m rest → rest ≡ sign marks.Question at ∷ inner → (f ≡ TooDeep (length rest)) × (200 < m + 1) → TailFails n ts f
+pub choice_deep : (n m : ℕ) (ts rest inner : List Placed) (at : ℕ) (f : Fault) → TailLeads n ts m rest → rest ≡ sign marks.Question at ∷ inner → (f ≡ TooDeep (length rest)) × (200 < m + 1)
+    → TailFails n ts f
 choice_deep n m ts rest inner at f l e d = l f (λ x. deep (Tail false x) m 1 (sign marks.Question at) rest inner f _ (λ κ. refl) e d)
 
-pub choice_err : (n m i : ℕ) (ts rest inner : List Placed) (at : ℕ) (f : Fault) → TailLeads n ts m rest → rest ≡ sign marks.Question at ∷ inner → (i ≡ m + 1) × (m + 1 ≤ 200) → Fails (Want Expr) i inner f → TailFails n ts f
-choice_err n m i ts rest inner at f l e up h = l f (λ x. fails_when (Want (Tail false x)) m rest f (λ r κ. opens (Tail false x) κ m i 1 (sign marks.Question at) rest inner _ refl e up ∙ real (Want Expr) i inner f h r _))
+pub choice_err : (n m i : ℕ) (ts rest inner : List Placed) (at : ℕ) (f : Fault) → TailLeads n ts m rest → rest ≡ sign marks.Question at ∷ inner → (i ≡ m + 1) × (m + 1 ≤ 200)
+    → Fails (Want Expr) i inner f → TailFails n ts f
+choice_err n m i ts rest inner at f l e up h = l f (λ x. fails_when (Want (Tail false x)) m rest f
+    (λ r κ. opens (Tail false x) κ m i 1 (sign marks.Question at) rest inner _ refl e up ∙ real (Want Expr) i inner f h r _))
 
-pub choice_colon : (n m i j : ℕ) (ts rest inner next : List Placed) (at : ℕ) (e : AnExp) (f : Fault) → TailLeads n ts m rest → rest ≡ sign marks.Question at ∷ inner → (i ≡ m + 1) × (m + 1 ≤ 200) → IsRead 0 0 i inner e next j → (f ≡ NotHere (length next)) × IsNot (token.Mark marks.Colon) next → TailFails n ts f
-choice_colon n m i j ts rest inner next at e f l t up g h = l f (λ x. fails_here (Want (Tail false x)) m rest (length next) f h.0 (λ κ. opens (Tail false x) κ m i 1 (sign marks.Question at) rest inner _ refl t up ∙ exp_leads i j inner next e g _ ∙ no_colon j _ next h.1))
+pub choice_colon : (n m i j : ℕ) (ts rest inner next : List Placed) (at : ℕ) (e : AnExp) (f : Fault) → TailLeads n ts m rest → rest ≡ sign marks.Question at ∷ inner → (i ≡ m + 1)
+    × (m + 1 ≤ 200) → IsRead 0 0 i inner e next j → (f ≡ NotHere (length next)) × IsNot (token.Mark marks.Colon) next → TailFails n ts f
+choice_colon n m i j ts rest inner next at e f l t up g h = l f (λ x. fails_here (Want (Tail false x)) m rest (length next) f h.0
+    (λ κ. opens (Tail false x) κ m i 1 (sign marks.Question at) rest inner _ refl t up ∙ exp_leads i j inner next e g _ ∙ no_colon j _ next h.1))
 
 colon_leads : (j : ℕ) (next last : List Placed) (κ : AnExp → Stack) → next ≡ sign marks.Colon 0 ∷ last → run limit (Want WantColon (λ y. Want Cond κ)) j next ≡ run limit (cond_goals κ) j last
 colon_leads j next last κ e = rw e (expand_cond limit j κ last)
 
-pub choice_operand : (n m i j : ℕ) (ts rest inner next last : List Placed) (at : ℕ) (e : AnExp) (f : Fault) → TailLeads n ts m rest → rest ≡ sign marks.Question at ∷ inner → (i ≡ m + 1) × (m + 1 ≤ 200) → IsRead 0 0 i inner e next j → next ≡ sign marks.Colon 0 ∷ last → Fails (Want Cast) j last f → TailFails n ts f
-choice_operand n m i j ts rest inner next last at e f l t up g b h = l f (λ x. fails_when (Want (Tail false x)) m rest f (λ r κ. opens (Tail false x) κ m i 1 (sign marks.Question at) rest inner _ refl t up ∙ exp_leads i j inner next e g _ ∙ colon_leads j next last _ b ∙ real (Want Cast) j last f h r _))
+pub choice_operand : (n m i j : ℕ) (ts rest inner next last : List Placed) (at : ℕ) (e : AnExp) (f : Fault) → TailLeads n ts m rest → rest ≡ sign marks.Question at ∷ inner → (i ≡ m + 1)
+    × (m + 1 ≤ 200) → IsRead 0 0 i inner e next j → next ≡ sign marks.Colon 0 ∷ last → Fails (Want Cast) j last f → TailFails n ts f
+choice_operand n m i j ts rest inner next last at e f l t up g b h = l f
+    (λ x. fails_when (Want (Tail false x)) m rest f (λ r κ. opens (Tail false x) κ m i 1 (sign marks.Question at) rest inner _ refl t up ∙ exp_leads i j inner next e g _
+    ∙ colon_leads j next last _ b ∙ real (Want Cast) j last f h r _))
 
-pub choice_tail : (n m i j k : ℕ) (ts rest inner next last end : List Placed) (at : ℕ) (e d : AnExp) (f : Fault) → TailLeads n ts m rest → rest ≡ sign marks.Question at ∷ inner → (i ≡ m + 1) × (m + 1 ≤ 200) → IsRead 0 0 i inner e next j → next ≡ sign marks.Colon 0 ∷ last → IsRead 13 13 j last d end k → TailFails k end f → TailFails n ts f
-choice_tail n m i j k ts rest inner next last end at e d f l t up g b o h = l f (λ x. fails_when (Want (Tail false x)) m rest f (λ r κ. opens (Tail false x) κ m i 1 (sign marks.Question at) rest inner _ refl t up ∙ exp_leads i j inner next e g _ ∙ colon_leads j next last _ b ∙ operand_leads j k last end d o _ ∙ real (Want (Tail false d)) k end f (h d) r _))
+pub choice_tail : (n m i j k : ℕ) (ts rest inner next last end : List Placed) (at : ℕ) (e d : AnExp) (f : Fault) → TailLeads n ts m rest → rest ≡ sign marks.Question at ∷ inner
+    → (i ≡ m + 1) × (m + 1 ≤ 200) → IsRead 0 0 i inner e next j → next ≡ sign marks.Colon 0 ∷ last → IsRead 13 13 j last d end k → TailFails k end f → TailFails n ts f
+choice_tail n m i j k ts rest inner next last end at e d f l t up g b o h =
+    l f (λ x. fails_when (Want (Tail false x)) m rest f (λ r κ. opens (Tail false x) κ m i 1 (sign marks.Question at) rest inner _ refl t up ∙ exp_leads i j inner next e g _
+    ∙ colon_leads j next last _ b ∙ operand_leads j k last end d o _ ∙ real (Want (Tail false d)) k end f (h d) r _))
 
-pub choice_leads : (n m i j k q : ℕ) (ts rest inner next last end out : List Placed) (at : ℕ) (e d : AnExp) → TailLeads n ts m rest → rest ≡ sign marks.Question at ∷ inner → (i ≡ m + 1) × (m + 1 ≤ 200) → IsRead 0 0 i inner e next j → next ≡ sign marks.Colon 0 ∷ last → IsRead 13 13 j last d end k → TailLeads k end q out → TailLeads n ts q out
+pub choice_leads : (n m i j k q : ℕ) (ts rest inner next last end out : List Placed) (at : ℕ) (e d : AnExp) → TailLeads n ts m rest → rest ≡ sign marks.Question at ∷ inner → (i ≡ m + 1)
+    × (m + 1 ≤ 200) → IsRead 0 0 i inner e next j → next ≡ sign marks.Colon 0 ∷ last → IsRead 13 13 j last d end k → TailLeads k end q out → TailLeads n ts q out
 choice_leads n m i j k q ts rest inner next last end out at e d l t up g b o p = λ f h. choice_tail n m i j k ts rest inner next last end at e d f l t up g b o (p f h)
 
 -- rows of binary operators
 pub row_deep : (n : ℕ) (ts after : List Placed) (op : BinaryOperator) (at : ℕ) (f : Fault) → ts ≡ sign (binary_mark op) at ∷ after → (f ≡ TooDeep (length ts)) × (200 < n + 1) → TailFails n ts f
 row_deep n ts after op at f e d = λ l. deep (Tail false l) n 1 (sign (binary_mark op) at) ts after f _ (λ κ. tail_binary op at n false l κ) e d
 
-pub row_operand : (n i : ℕ) (ts after : List Placed) (op : BinaryOperator) (at : ℕ) (f : Fault) → ts ≡ sign (binary_mark op) at ∷ after → (i ≡ n + 1) × (n + 1 ≤ 200) → Fails (Want Cast) i after f → TailFails n ts f
-row_operand n i ts after op at f e up h = λ l. fails_when (Want (Tail false l)) n ts f (λ r κ. opens (Tail false l) κ n i 1 (sign (binary_mark op) at) ts after _ (tail_binary op at n false l κ) e up ∙ real (Want Cast) i after f h r _)
+pub row_operand : (n i : ℕ) (ts after : List Placed) (op : BinaryOperator) (at : ℕ) (f : Fault) → ts ≡ sign (binary_mark op) at ∷ after → (i ≡ n + 1) × (n + 1 ≤ 200)
+    → Fails (Want Cast) i after f → TailFails n ts f
+row_operand n i ts after op at f e up h = λ l. fails_when (Want (Tail false l)) n ts f
+    (λ r κ. opens (Tail false l) κ n i 1 (sign (binary_mark op) at) ts after _ (tail_binary op at n false l κ) e up ∙ real (Want Cast) i after f h r _)
 
-pub row_tail : (n i m : ℕ) (ts after rest : List Placed) (op : BinaryOperator) (at : ℕ) (e : AnExp) (f : Fault) → ts ≡ sign (binary_mark op) at ∷ after → (i ≡ n + 1) × (n + 1 ≤ 200) → IsRead 13 13 i after e rest m → TailFails m rest f → TailFails n ts f
-row_tail n i m ts after rest op at e f t up g h = λ l. fails_when (Want (Tail false l)) n ts f (λ r κ. opens (Tail false l) κ n i 1 (sign (binary_mark op) at) ts after _ (tail_binary op at n false l κ) t up ∙ operand_leads i m after rest e g _ ∙ real (Want (Tail false (insert l op at e))) m rest f (h (insert l op at e)) r κ)
+pub row_tail : (n i m : ℕ) (ts after rest : List Placed) (op : BinaryOperator) (at : ℕ) (e : AnExp) (f : Fault) → ts ≡ sign (binary_mark op) at ∷ after → (i ≡ n + 1) × (n + 1 ≤ 200)
+    → IsRead 13 13 i after e rest m → TailFails m rest f → TailFails n ts f
+row_tail n i m ts after rest op at e f t up g h = λ l. fails_when (Want (Tail false l)) n ts f
+    (λ r κ. opens (Tail false l) κ n i 1 (sign (binary_mark op) at) ts after _ (tail_binary op at n false l κ) t up ∙ operand_leads i m after rest e g _
+    ∙ real (Want (Tail false (insert l op at e))) m rest f (h (insert l op at e)) r κ)
 
-pub row_more : (n i m j : ℕ) (ts after rest next : List Placed) (op : BinaryOperator) (at : ℕ) (e : AnExp) (f : Fault) → ts ≡ sign (binary_mark op) at ∷ after → (i ≡ n + 1) × (n + 1 ≤ 200) → IsRead 13 13 i after e rest m → TailLeads m rest j next → TailFails j next f → TailFails n ts f
+pub row_more : (n i m j : ℕ) (ts after rest next : List Placed) (op : BinaryOperator) (at : ℕ) (e : AnExp) (f : Fault) → ts ≡ sign (binary_mark op) at ∷ after → (i ≡ n + 1) × (n + 1 ≤ 200)
+    → IsRead 13 13 i after e rest m → TailLeads m rest j next → TailFails j next f → TailFails n ts f
 row_more n i m j ts after rest next op at e f t up g l h = row_tail n i m ts after rest op at e f t up g (l f h)
 
-pub row_leads : (n i m j k : ℕ) (ts after rest next end : List Placed) (op : BinaryOperator) (at : ℕ) (e : AnExp) → ts ≡ sign (binary_mark op) at ∷ after → (i ≡ n + 1) × (n + 1 ≤ 200) → IsRead 13 13 i after e rest m → TailLeads m rest j next → TailLeads j next k end → TailLeads n ts k end
+pub row_leads : (n i m j k : ℕ) (ts after rest next end : List Placed) (op : BinaryOperator) (at : ℕ) (e : AnExp) → ts ≡ sign (binary_mark op) at ∷ after → (i ≡ n + 1) × (n + 1 ≤ 200)
+    → IsRead 13 13 i after e rest m → TailLeads m rest j next → TailLeads j next k end → TailLeads n ts k end
 row_leads n i m j k ts after rest next end op at e t up g l p = λ f h. row_more n i m j ts after rest next op at e f t up g l (p f h)
 
 -- cast
@@ -252,39 +288,51 @@ cast_unary_err n ts f b h = fails_when (Want Cast) n ts f (λ r κ. cast_plain l
 pub cast_deep : (n o : ℕ) (ts inner : List Placed) (f : Fault) → (ts ≡ sign marks.OpenParenthesis o ∷ inner) × IsTypeWord inner → (f ≡ TooDeep (length ts)) × (200 < n + 1) → Fails (Want Cast) n ts f
 cast_deep n o ts inner f e d = deep Cast n 1 (sign marks.OpenParenthesis o) ts inner f (λ κ. Want (Group o n) κ) (λ κ. refl) e.0 d
 
-cast_opens : (n i o : ℕ) (ts inner : List Placed) (κ : AnExp → Stack) → (ts ≡ sign marks.OpenParenthesis o ∷ inner) × IsTypeWord inner → (i ≡ n + 1) × (n + 1 ≤ 200) → run limit (Want Cast κ) n ts ≡ run limit (type_goals (cast_behind o κ)) i inner
+cast_opens : (n i o : ℕ) (ts inner : List Placed) (κ : AnExp → Stack) → (ts ≡ sign marks.OpenParenthesis o ∷ inner) × IsTypeWord inner → (i ≡ n + 1) × (n + 1 ≤ 200)
+    → run limit (Want Cast κ) n ts ≡ run limit (type_goals (cast_behind o κ)) i inner
 cast_opens n i o ts inner κ e up = opens Cast κ n i 1 (sign marks.OpenParenthesis o) ts inner (Want (Group o n) κ) refl e.0 up ∙ group_type limit o n i κ inner e.1
 
-pub cast_type_err : (n i o : ℕ) (ts inner : List Placed) (f : Fault) → (ts ≡ sign marks.OpenParenthesis o ∷ inner) × IsTypeWord inner → (i ≡ n + 1) × (n + 1 ≤ 200) → Fails type_goals i inner f → Fails (Want Cast) n ts f
+pub cast_type_err : (n i o : ℕ) (ts inner : List Placed) (f : Fault) → (ts ≡ sign marks.OpenParenthesis o ∷ inner) × IsTypeWord inner → (i ≡ n + 1) × (n + 1 ≤ 200)
+    → Fails type_goals i inner f → Fails (Want Cast) n ts f
 cast_type_err n i o ts inner f e up h = fails_when (Want Cast) n ts f (λ r κ. cast_opens n i o ts inner κ e up ∙ real type_goals i inner f h r (cast_behind o κ))
 
-pub cast_close : (n i o : ℕ) (ts inner rest : List Placed) (t : TypeName) (f : Fault) → (ts ≡ sign marks.OpenParenthesis o ∷ inner) × IsTypeWord inner → (i ≡ n + 1) × (n + 1 ≤ 200) → ReadsType inner t rest → (f ≡ NotHere (length rest)) × IsNot (token.Mark marks.CloseParenthesis) rest → Fails (Want Cast) n ts f
+pub cast_close : (n i o : ℕ) (ts inner rest : List Placed) (t : TypeName) (f : Fault) → (ts ≡ sign marks.OpenParenthesis o ∷ inner) × IsTypeWord inner → (i ≡ n + 1) × (n + 1 ≤ 200)
+    → ReadsType inner t rest → (f ≡ NotHere (length rest)) × IsNot (token.Mark marks.CloseParenthesis) rest → Fails (Want Cast) n ts f
 cast_close n i o ts inner rest t f e up g h = fails_here (Want Cast) n ts (length rest) f h.0 (λ κ. cast_opens n i o ts inner κ e up ∙ g.leads i (cast_behind o κ) ∙ no_close i _ rest h.1)
 
 close_leads : (i : ℕ) (rest last : List Placed) (κ : Unit {0} → Stack) → rest ≡ sign marks.CloseParenthesis 0 ∷ last → run limit (Want WantParen κ) i rest ≡ run limit (κ tt) i last
 close_leads i rest last κ e = rw e refl
 
-pub cast_err : (n i o : ℕ) (ts inner rest last : List Placed) (t : TypeName) (f : Fault) → (ts ≡ sign marks.OpenParenthesis o ∷ inner) × IsTypeWord inner → (i ≡ n + 1) × (n + 1 ≤ 200) → ReadsType inner t rest → rest ≡ sign marks.CloseParenthesis 0 ∷ last → Fails (Want Cast) i last f → Fails (Want Cast) n ts f
-cast_err n i o ts inner rest last t f e up g b h = fails_when (Want Cast) n ts f (λ r κ. cast_opens n i o ts inner κ e up ∙ g.leads i (cast_behind o κ) ∙ close_leads i rest last _ b ∙ real (Want Cast) i last f h r _)
+pub cast_err : (n i o : ℕ) (ts inner rest last : List Placed) (t : TypeName) (f : Fault) → (ts ≡ sign marks.OpenParenthesis o ∷ inner) × IsTypeWord inner → (i ≡ n + 1) × (n + 1 ≤ 200)
+    → ReadsType inner t rest → rest ≡ sign marks.CloseParenthesis 0 ∷ last → Fails (Want Cast) i last f → Fails (Want Cast) n ts f
+cast_err n i o ts inner rest last t f e up g b h = fails_when (Want Cast) n ts f
+    (λ r κ. cast_opens n i o ts inner κ e up ∙ g.leads i (cast_behind o κ) ∙ close_leads i rest last _ b ∙ real (Want Cast) i last f h r _)
 
 -- unary
-pub prefix_deep : (n : ℕ) (ts after : List Placed) (op : PrefixOperator) (at : ℕ) (f : Fault) → ts ≡ sign (prefix_mark op) at ∷ after → (f ≡ TooDeep (length ts)) × (200 < n + 1) → Fails (Want Unary) n ts f
+pub prefix_deep : (n : ℕ) (ts after : List Placed) (op : PrefixOperator) (at : ℕ) (f : Fault) → ts ≡ sign (prefix_mark op) at ∷ after → (f ≡ TooDeep (length ts)) × (200 < n + 1)
+    → Fails (Want Unary) n ts f
 prefix_deep n ts after op at f e d = deep Unary n 1 (sign (prefix_mark op) at) ts after f _ (λ κ. unary_prefix op at n κ) e d
 
-pub prefix_err : (n i : ℕ) (ts after : List Placed) (op : PrefixOperator) (at : ℕ) (f : Fault) → ts ≡ sign (prefix_mark op) at ∷ after → (i ≡ n + 1) × (n + 1 ≤ 200) → Fails (Want Cast) i after f → Fails (Want Unary) n ts f
-prefix_err n i ts after op at f e up h = fails_when (Want Unary) n ts f (λ r κ. opens Unary κ n i 1 (sign (prefix_mark op) at) ts after _ (unary_prefix op at n κ) e up ∙ real (Want Cast) i after f h r _)
+pub prefix_err : (n i : ℕ) (ts after : List Placed) (op : PrefixOperator) (at : ℕ) (f : Fault) → ts ≡ sign (prefix_mark op) at ∷ after → (i ≡ n + 1) × (n + 1 ≤ 200)
+    → Fails (Want Cast) i after f → Fails (Want Unary) n ts f
+prefix_err n i ts after op at f e up h = fails_when (Want Unary) n ts f
+    (λ r κ. opens Unary κ n i 1 (sign (prefix_mark op) at) ts after _ (unary_prefix op at n κ) e up ∙ real (Want Cast) i after f h r _)
 
-pub step_deeper : (n : ℕ) (ts after : List Placed) (op : StepOperator) (at : ℕ) (f : Fault) → ts ≡ sign (step_mark op) at ∷ after → (f ≡ TooDeep (length ts)) × (200 < n + 1) → Fails (Want Unary) n ts f
+pub step_deeper : (n : ℕ) (ts after : List Placed) (op : StepOperator) (at : ℕ) (f : Fault) → ts ≡ sign (step_mark op) at ∷ after → (f ≡ TooDeep (length ts)) × (200 < n + 1)
+    → Fails (Want Unary) n ts f
 step_deeper n ts after op at f e d = deep Unary n 1 (sign (step_mark op) at) ts after f _ (λ κ. unary_step op at n κ) e d
 
-pub step_err : (n i : ℕ) (ts after : List Placed) (op : StepOperator) (at : ℕ) (f : Fault) → ts ≡ sign (step_mark op) at ∷ after → (i ≡ n + 1) × (n + 1 ≤ 200) → Fails (Want Unary) i after f → Fails (Want Unary) n ts f
+pub step_err : (n i : ℕ) (ts after : List Placed) (op : StepOperator) (at : ℕ) (f : Fault) → ts ≡ sign (step_mark op) at ∷ after → (i ≡ n + 1) × (n + 1 ≤ 200)
+    → Fails (Want Unary) i after f → Fails (Want Unary) n ts f
 step_err n i ts after op at f e up h = fails_when (Want Unary) n ts f (λ r κ. opens Unary κ n i 1 (sign (step_mark op) at) ts after _ (unary_step op at n κ) e up ∙ real (Want Unary) i after f h r _)
 
 pub size_deep : (n : ℕ) (ts after : List Placed) (at : ℕ) (f : Fault) → ts ≡ word keys.Sizeof at ∷ after → (f ≡ TooDeep (length ts)) × (200 < n + 1) → Fails (Want Unary) n ts f
 size_deep n ts after at f e d = deep Unary n 1 (word keys.Sizeof at) ts after f (λ κ. Want (SizeofTail at) κ) (λ κ. refl) e d
 
-pub size_err : (n i : ℕ) (ts after : List Placed) (at : ℕ) (f : Fault) → ts ≡ word keys.Sizeof at ∷ after → (i ≡ n + 1) × (n + 1 ≤ 200) → Fails (Want (SizeofTail at)) i after f → Fails (Want Unary) n ts f
-size_err n i ts after at f e up h = fails_when (Want Unary) n ts f (λ r κ. opens Unary κ n i 1 (word keys.Sizeof at) ts after (Want (SizeofTail at) κ) refl e up ∙ real (Want (SizeofTail at)) i after f h r κ)
+pub size_err : (n i : ℕ) (ts after : List Placed) (at : ℕ) (f : Fault) → ts ≡ word keys.Sizeof at ∷ after → (i ≡ n + 1) × (n + 1 ≤ 200) → Fails (Want (SizeofTail at)) i after f
+    → Fails (Want Unary) n ts f
+size_err n i ts after at f e up h = fails_when (Want Unary) n ts f (λ r κ. opens Unary κ n i 1 (word keys.Sizeof at) ts after (Want (SizeofTail at) κ) refl e up
+    ∙ real (Want (SizeofTail at)) i after f h r κ)
 
 -- a primary and what follows it
 abbrev NoOperator : Class → Type 0
@@ -343,31 +391,38 @@ primary_by c.Step h i j t n κ = absurd i
 primary_by c.Sizeof h i j t n κ = absurd (j refl)
 primary_by k h i j t n κ = refl
 
-plain_unary : (n : ℕ) (ts : List Placed) (κ : AnExp → Stack) → NoPrefix ts → NoStep ts → IsNot (token.Key keys.Sizeof) ts → run limit (Want Unary κ) n ts ≡ run limit (Want Primary (λ p. Want (PostTail p) κ)) n ts
+plain_unary : (n : ℕ) (ts : List Placed) (κ : AnExp → Stack) → NoPrefix ts → NoStep ts → IsNot (token.Key keys.Sizeof) ts → run limit (Want Unary κ) n ts
+    ≡ run limit (Want Primary (λ p. Want (PostTail p) κ)) n ts
 plain_unary n [] κ h i j = refl
 plain_unary n (t ∷ ts) κ h i j = rw (primary_by (class_of t.kind) (no_operator_of t.kind h) (no_step_of t.kind i) (class_not t.kind (token.Key keys.Sizeof) refl j) t n κ) refl
 
 pub unary_primary_err : (n : ℕ) (ts : List Placed) (f : Fault) → NoPrefix ts → NoStep ts → IsNot (token.Key keys.Sizeof) ts → Fails (Want Primary) n ts f → Fails (Want Unary) n ts f
 unary_primary_err n ts f p s z h = fails_when (Want Unary) n ts f (λ r κ. plain_unary n ts κ p s z ∙ real (Want Primary) n ts f h r _)
 
-pub unary_post_err : (n m : ℕ) (ts rest : List Placed) (e : AnExp) (f : Fault) → NoPrefix ts → NoStep ts → IsNot (token.Key keys.Sizeof) ts → Leads (Want Primary) n ts e m rest → PostFails m rest f → Fails (Want Unary) n ts f
+pub unary_post_err : (n m : ℕ) (ts rest : List Placed) (e : AnExp) (f : Fault) → NoPrefix ts → NoStep ts → IsNot (token.Key keys.Sizeof) ts → Leads (Want Primary) n ts e m rest
+    → PostFails m rest f → Fails (Want Unary) n ts f
 unary_post_err n m ts rest e f p s z l h = fails_when (Want Unary) n ts f (λ r κ. plain_unary n ts κ p s z ∙ l (λ q. Want (PostTail q) κ) ∙ real (Want (PostTail e)) m rest f (h e) r κ)
 
 -- sizeof
 pub sizeof_unary_err : (at n : ℕ) (ts : List Placed) (f : Fault) → NoCast ts → Fails (Want Unary) n ts f → Fails (Want (SizeofTail at)) n ts f
 sizeof_unary_err at n ts f b h = fails_when (Want (SizeofTail at)) n ts f (λ r κ. sizeof_is_plain limit at n κ ts b ∙ real (Want Unary) n ts f h r _)
 
-pub sizeof_deep : (at n o : ℕ) (ts inner : List Placed) (f : Fault) → (ts ≡ sign marks.OpenParenthesis o ∷ inner) × IsTypeWord inner → (f ≡ TooDeep (length ts)) × (200 < n + 1) → Fails (Want (SizeofTail at)) n ts f
+pub sizeof_deep : (at n o : ℕ) (ts inner : List Placed) (f : Fault) → (ts ≡ sign marks.OpenParenthesis o ∷ inner) × IsTypeWord inner → (f ≡ TooDeep (length ts)) × (200 < n + 1)
+    → Fails (Want (SizeofTail at)) n ts f
 sizeof_deep at n o ts inner f e d = deep (SizeofTail at) n 1 (sign marks.OpenParenthesis o) ts inner f (λ κ. Want (SizeofGroup at o n) κ) (λ κ. refl) e.0 d
 
-sizeof_opens : (at n i o : ℕ) (ts inner : List Placed) (κ : AnExp → Stack) → (ts ≡ sign marks.OpenParenthesis o ∷ inner) × IsTypeWord inner → (i ≡ n + 1) × (n + 1 ≤ 200) → run limit (Want (SizeofTail at) κ) n ts ≡ run limit (type_goals (sizeof_behind at o n κ)) i inner
+sizeof_opens : (at n i o : ℕ) (ts inner : List Placed) (κ : AnExp → Stack) → (ts ≡ sign marks.OpenParenthesis o ∷ inner) × IsTypeWord inner → (i ≡ n + 1) × (n + 1 ≤ 200)
+    → run limit (Want (SizeofTail at) κ) n ts ≡ run limit (type_goals (sizeof_behind at o n κ)) i inner
 sizeof_opens at n i o ts inner κ e up = opens (SizeofTail at) κ n i 1 (sign marks.OpenParenthesis o) ts inner (Want (SizeofGroup at o n) κ) refl e.0 up ∙ sizeof_group_type limit at o n i κ inner e.1
 
-pub sizeof_type_err : (at n i o : ℕ) (ts inner : List Placed) (f : Fault) → (ts ≡ sign marks.OpenParenthesis o ∷ inner) × IsTypeWord inner → (i ≡ n + 1) × (n + 1 ≤ 200) → Fails type_goals i inner f → Fails (Want (SizeofTail at)) n ts f
+pub sizeof_type_err : (at n i o : ℕ) (ts inner : List Placed) (f : Fault) → (ts ≡ sign marks.OpenParenthesis o ∷ inner) × IsTypeWord inner → (i ≡ n + 1) × (n + 1 ≤ 200)
+    → Fails type_goals i inner f → Fails (Want (SizeofTail at)) n ts f
 sizeof_type_err at n i o ts inner f e up h = fails_when (Want (SizeofTail at)) n ts f (λ r κ. sizeof_opens at n i o ts inner κ e up ∙ real type_goals i inner f h r (sizeof_behind at o n κ))
 
-pub sizeof_close : (at n i o : ℕ) (ts inner rest : List Placed) (t : TypeName) (f : Fault) → (ts ≡ sign marks.OpenParenthesis o ∷ inner) × IsTypeWord inner → (i ≡ n + 1) × (n + 1 ≤ 200) → ReadsType inner t rest → (f ≡ NotHere (length rest)) × IsNot (token.Mark marks.CloseParenthesis) rest → Fails (Want (SizeofTail at)) n ts f
-sizeof_close at n i o ts inner rest t f e up g h = fails_here (Want (SizeofTail at)) n ts (length rest) f h.0 (λ κ. sizeof_opens at n i o ts inner κ e up ∙ g.leads i (sizeof_behind at o n κ) ∙ no_close i _ rest h.1)
+pub sizeof_close : (at n i o : ℕ) (ts inner rest : List Placed) (t : TypeName) (f : Fault) → (ts ≡ sign marks.OpenParenthesis o ∷ inner) × IsTypeWord inner → (i ≡ n + 1) × (n + 1 ≤ 200)
+    → ReadsType inner t rest → (f ≡ NotHere (length rest)) × IsNot (token.Mark marks.CloseParenthesis) rest → Fails (Want (SizeofTail at)) n ts f
+sizeof_close at n i o ts inner rest t f e up g h = fails_here (Want (SizeofTail at)) n ts (length rest) f h.0
+    (λ κ. sizeof_opens at n i o ts inner κ e up ∙ g.leads i (sizeof_behind at o n κ) ∙ no_close i _ rest h.1)
 
 stop_by : (k : Class) → StopClass k → (n : ℕ) → Goals.ended_turn k n ≡ Steps Refuses
 stop_by c.OpenParen h n = refl
@@ -379,8 +434,10 @@ stopped : (n : ℕ) (κ : Unit {0} → Stack) (ts : List Placed) → IsStop ts �
 stopped n κ [] h = absurd h
 stopped n κ (t ∷ ts) h = rw (stop_by (class_of t.kind) h n) refl
 
-pub sizeof_ended : (at n i o : ℕ) (ts inner rest last : List Placed) (t : TypeName) (f : Fault) → (ts ≡ sign marks.OpenParenthesis o ∷ inner) × IsTypeWord inner → (i ≡ n + 1) × (n + 1 ≤ 200) → ReadsType inner t rest → rest ≡ sign marks.CloseParenthesis 0 ∷ last → (f ≡ NotHere (length last)) × IsStop last → Fails (Want (SizeofTail at)) n ts f
-sizeof_ended at n i o ts inner rest last t f e up g b h = fails_here (Want (SizeofTail at)) n ts (length last) f h.0 (λ κ. sizeof_opens at n i o ts inner κ e up ∙ g.leads i (sizeof_behind at o n κ) ∙ close_leads i rest last _ b ∙ back limit n i _ last ∙ stopped n _ last h.1)
+pub sizeof_ended : (at n i o : ℕ) (ts inner rest last : List Placed) (t : TypeName) (f : Fault) → (ts ≡ sign marks.OpenParenthesis o ∷ inner) × IsTypeWord inner → (i ≡ n + 1)
+    × (n + 1 ≤ 200) → ReadsType inner t rest → rest ≡ sign marks.CloseParenthesis 0 ∷ last → (f ≡ NotHere (length last)) × IsStop last → Fails (Want (SizeofTail at)) n ts f
+sizeof_ended at n i o ts inner rest last t f e up g b h = fails_here (Want (SizeofTail at)) n ts (length last) f h.0
+    (λ κ. sizeof_opens at n i o ts inner κ e up ∙ g.leads i (sizeof_behind at o n κ) ∙ close_leads i rest last _ b ∙ back limit n i _ last ∙ stopped n _ last h.1)
 
 -- a primary
 pub primary_named_err : (n at : ℕ) (x : List ℕ) (ts rest : List Placed) (f : Fault) → ts ≡ onto_name x at rest → Fails (Want (CallTail x at)) n rest f → Fails (Want Primary) n ts f
@@ -415,11 +472,15 @@ parens_deep n o ts inner f e d = deep Parens n 1 (sign marks.OpenParenthesis o) 
 pub parens_err : (n i o : ℕ) (ts inner : List Placed) (f : Fault) → ts ≡ sign marks.OpenParenthesis o ∷ inner → (i ≡ n + 1) × (n + 1 ≤ 200) → Fails (Want Expr) i inner f → Fails (Want Parens) n ts f
 parens_err n i o ts inner f e up h = fails_when (Want Parens) n ts f (λ r κ. opens Parens κ n i 1 (sign marks.OpenParenthesis o) ts inner _ refl e up ∙ real (Want Expr) i inner f h r _)
 
-pub parens_close : (n i j o : ℕ) (ts inner rest : List Placed) (e : AnExp) (f : Fault) → ts ≡ sign marks.OpenParenthesis o ∷ inner → (i ≡ n + 1) × (n + 1 ≤ 200) → IsRead 0 0 i inner e rest j → (f ≡ NotHere (length rest)) × IsNot (token.Mark marks.CloseParenthesis) rest → Fails (Want Parens) n ts f
-parens_close n i j o ts inner rest e f t up g h = fails_here (Want Parens) n ts (length rest) f h.0 (λ κ. opens Parens κ n i 1 (sign marks.OpenParenthesis o) ts inner _ refl t up ∙ exp_leads i j inner rest e g _ ∙ no_close j _ rest h.1)
+pub parens_close : (n i j o : ℕ) (ts inner rest : List Placed) (e : AnExp) (f : Fault) → ts ≡ sign marks.OpenParenthesis o ∷ inner → (i ≡ n + 1) × (n + 1 ≤ 200)
+    → IsRead 0 0 i inner e rest j → (f ≡ NotHere (length rest)) × IsNot (token.Mark marks.CloseParenthesis) rest → Fails (Want Parens) n ts f
+parens_close n i j o ts inner rest e f t up g h = fails_here (Want Parens) n ts (length rest) f h.0
+    (λ κ. opens Parens κ n i 1 (sign marks.OpenParenthesis o) ts inner _ refl t up ∙ exp_leads i j inner rest e g _ ∙ no_close j _ rest h.1)
 
-pub parens_leads : (n i j o : ℕ) (ts inner rest last : List Placed) (e : AnExp) → ts ≡ sign marks.OpenParenthesis o ∷ inner → (i ≡ n + 1) × (n + 1 ≤ 200) → IsRead 0 0 i inner e rest j → rest ≡ sign marks.CloseParenthesis 0 ∷ last → Leads (Want Parens) n ts (paren o e) n last
-parens_leads n i j o ts inner rest last e t up g b = λ κ. opens Parens κ n i 1 (sign marks.OpenParenthesis o) ts inner _ refl t up ∙ exp_leads i j inner rest e g _ ∙ close_leads j rest last _ b ∙ back limit n j _ last
+pub parens_leads : (n i j o : ℕ) (ts inner rest last : List Placed) (e : AnExp) → ts ≡ sign marks.OpenParenthesis o ∷ inner → (i ≡ n + 1) × (n + 1 ≤ 200) → IsRead 0 0 i inner e rest j
+    → rest ≡ sign marks.CloseParenthesis 0 ∷ last → Leads (Want Parens) n ts (paren o e) n last
+parens_leads n i j o ts inner rest last e t up g b = λ κ. opens Parens κ n i 1 (sign marks.OpenParenthesis o) ts inner _ refl t up ∙ exp_leads i j inner rest e g _
+    ∙ close_leads j rest last _ b ∙ back limit n j _ last
 
 -- behind a name
 call_not : (k : Class) → (k ≢ c.OpenParen) → (t : Placed) (n : ℕ) (x : List ℕ) (at : ℕ) (κ : AnExp → Stack) → Goals.call_turn k t n x at κ ≡ Goals.Passes n (name x at)
@@ -430,31 +491,38 @@ pub name_leads : (n at : ℕ) (x : List ℕ) (ts : List Placed) → IsNot (token
 name_leads n at x [] h = λ κ. refl
 name_leads n at x (t ∷ ts) h = λ κ. rw (call_not (class_of t.kind) (class_not t.kind (token.Mark marks.OpenParenthesis) refl h) t n x at κ) refl
 
-pub call_deep : (n at o : ℕ) (x : List ℕ) (ts inner : List Placed) (f : Fault) → ts ≡ sign marks.OpenParenthesis o ∷ inner → (f ≡ TooDeep (length ts)) × (200 < n + 2) → Fails (Want (CallTail x at)) n ts f
+pub call_deep : (n at o : ℕ) (x : List ℕ) (ts inner : List Placed) (f : Fault) → ts ≡ sign marks.OpenParenthesis o ∷ inner → (f ≡ TooDeep (length ts)) × (200 < n + 2)
+    → Fails (Want (CallTail x at)) n ts f
 call_deep n at o x ts inner f e d = deep (CallTail x at) n 2 (sign marks.OpenParenthesis o) ts inner f _ (λ κ. refl) e d
 
-pub call_err : (n i at o : ℕ) (x : List ℕ) (ts inner : List Placed) (f : Fault) → ts ≡ sign marks.OpenParenthesis o ∷ inner → (i ≡ n + 2) × (n + 2 ≤ 200) → Fails (Want Arguments) i inner f → Fails (Want (CallTail x at)) n ts f
-call_err n i at o x ts inner f e up h = fails_when (Want (CallTail x at)) n ts f (λ r κ. opens (CallTail x at) κ n i 2 (sign marks.OpenParenthesis o) ts inner _ refl e up ∙ real (Want Arguments) i inner f h r _)
+pub call_err : (n i at o : ℕ) (x : List ℕ) (ts inner : List Placed) (f : Fault) → ts ≡ sign marks.OpenParenthesis o ∷ inner → (i ≡ n + 2) × (n + 2 ≤ 200) → Fails (Want Arguments) i inner f
+    → Fails (Want (CallTail x at)) n ts f
+call_err n i at o x ts inner f e up h = fails_when (Want (CallTail x at)) n ts f
+    (λ r κ. opens (CallTail x at) κ n i 2 (sign marks.OpenParenthesis o) ts inner _ refl e up ∙ real (Want Arguments) i inner f h r _)
 
 arguments_lead : (n : ℕ) (ts rest : List Placed) (es : SomeExps) (κ : SomeExps → Stack) → ReadsArguments n ts es rest → run limit (Want Arguments κ) n ts ≡ run limit (κ es) n rest
 arguments_lead n ts rest es κ r = rw (r.text) (law_first limit es κ n rest r.at r.low)
 
-pub call_leads : (n i at o : ℕ) (x : List ℕ) (ts inner rest : List Placed) (es : SomeExps) → ts ≡ sign marks.OpenParenthesis o ∷ inner → (i ≡ n + 2) × (n + 2 ≤ 200) → ReadsArguments i inner es rest → Leads (Want (CallTail x at)) n ts (call x at o es) (n + 1) rest
-call_leads n i at o x ts inner rest es e up r = λ κ. opens (CallTail x at) κ n i 2 (sign marks.OpenParenthesis o) ts inner _ refl e up ∙ arguments_lead i inner rest es _ r ∙ back limit (n + 1) i _ rest
+pub call_leads : (n i at o : ℕ) (x : List ℕ) (ts inner rest : List Placed) (es : SomeExps) → ts ≡ sign marks.OpenParenthesis o ∷ inner → (i ≡ n + 2) × (n + 2 ≤ 200)
+    → ReadsArguments i inner es rest → Leads (Want (CallTail x at)) n ts (call x at o es) (n + 1) rest
+call_leads n i at o x ts inner rest es e up r = λ κ. opens (CallTail x at) κ n i 2 (sign marks.OpenParenthesis o) ts inner _ refl e up ∙ arguments_lead i inner rest es _ r
+    ∙ back limit (n + 1) i _ rest
 
 -- arguments
 abbrev joined : SomeExps → SomeExps → SomeExps
 joined no_exps fs = fs
 joined (exps e es) fs = exps e (joined es fs)
 
-more_so_far : (es : SomeExps) (κ : SomeExps → Stack) (n : ℕ) (w : List Placed) → AllAt es → LowExps limit es n → Quiet 1 w → run limit (Want MoreArguments κ) n (onto_others es w) ≡ run limit (Want MoreArguments (λ fs. κ (joined es fs))) n w
+more_so_far : (es : SomeExps) (κ : SomeExps → Stack) (n : ℕ) (w : List Placed) → AllAt es → LowExps limit es n → Quiet 1 w → run limit (Want MoreArguments κ) n (onto_others es w)
+    ≡ run limit (Want MoreArguments (λ fs. κ (joined es fs))) n w
 more_so_far no_exps κ n w at low q = refl
 more_so_far (exps e es) κ n w at low q =
     law_assign limit e (λ a. Want (Back n) (λ x. Want MoreArguments (λ fs. κ (exps a fs)))) n (onto_others es w) at.0 low.0 (quiet_others es w q)
     ∙ back limit n (after_exp e n) (λ x. Want MoreArguments (λ fs. κ (exps e fs))) (onto_others es w)
     ∙ more_so_far es (λ fs. κ (exps e fs)) n w at.1 low.1 q
 
-first_so_far : (es : SomeExps) (κ : SomeExps → Stack) (n : ℕ) (w : List Placed) → IsSome es → AllAt es → LowExps limit es n → Quiet 1 w → run limit (Want Arguments κ) n (onto_first es w) ≡ run limit (Want MoreArguments (λ fs. κ (joined es fs))) n w
+first_so_far : (es : SomeExps) (κ : SomeExps → Stack) (n : ℕ) (w : List Placed) → IsSome es → AllAt es → LowExps limit es n → Quiet 1 w → run limit (Want Arguments κ) n (onto_first es w)
+    ≡ run limit (Want MoreArguments (λ fs. κ (joined es fs))) n w
 first_so_far no_exps κ n w s at low q = absurd s
 first_so_far (exps e es) κ n w s at low q =
     expand_arguments limit n κ (onto_exp e (onto_others es w)) (not_start (token.Mark marks.CloseParenthesis) _ (λ x. x) (starts e _))
@@ -462,16 +530,20 @@ first_so_far (exps e es) κ n w s at low q =
     ∙ back limit n (after_exp e n) (λ x. Want MoreArguments (λ fs. κ (exps e fs))) (onto_others es w)
     ∙ more_so_far es (λ fs. κ (exps e fs)) n w at.1 low.1 q
 
-so_far : (n : ℕ) (ts rest : List Placed) (es : SomeExps) (κ : SomeExps → Stack) → ArgumentsSoFar n ts es rest → run limit (Want Arguments κ) n ts ≡ run limit (Want MoreArguments (λ fs. κ (joined es fs))) n rest
+so_far : (n : ℕ) (ts rest : List Placed) (es : SomeExps) (κ : SomeExps → Stack) → ArgumentsSoFar n ts es rest → run limit (Want Arguments κ) n ts
+    ≡ run limit (Want MoreArguments (λ fs. κ (joined es fs))) n rest
 so_far n ts rest es κ s = rw (s.text) (first_so_far es κ n rest s.some s.at s.low s.quiet)
 
 pub arguments_first_err : (n : ℕ) (ts : List Placed) (f : Fault) → IsNot (token.Mark marks.CloseParenthesis) ts → Fails (Want Assign) n ts f → Fails (Want Arguments) n ts f
 arguments_first_err n ts f i h = fails_when (Want Arguments) n ts f (λ r κ. expand_arguments limit n κ ts i ∙ real (Want Assign) n ts f h r _)
 
-pub arguments_err : (n : ℕ) (ts rest after : List Placed) (es : SomeExps) (f : Fault) → ArgumentsSoFar n ts es rest → rest ≡ sign marks.Comma 0 ∷ after → Fails (Want Assign) n after f → Fails (Want Arguments) n ts f
-arguments_err n ts rest after es f s e h = fails_when (Want Arguments) n ts f (λ r κ. so_far n ts rest es κ s ∙ rw e (real (Want Assign) n after f h r (λ a. Want (Back n) (λ x. Want MoreArguments (λ fs. κ (joined es (exps a fs)))))))
+pub arguments_err : (n : ℕ) (ts rest after : List Placed) (es : SomeExps) (f : Fault) → ArgumentsSoFar n ts es rest → rest ≡ sign marks.Comma 0 ∷ after → Fails (Want Assign) n after f
+    → Fails (Want Arguments) n ts f
+arguments_err n ts rest after es f s e h = fails_when (Want Arguments) n ts f
+    (λ r κ. so_far n ts rest es κ s ∙ rw e (real (Want Assign) n after f h r (λ a. Want (Back n) (λ x. Want MoreArguments (λ fs. κ (joined es (exps a fs)))))))
 
-pub arguments_close : (n : ℕ) (ts rest : List Placed) (es : SomeExps) (f : Fault) → ArgumentsSoFar n ts es rest → IsNot (token.Mark marks.Comma) rest → (f ≡ NotHere (length rest)) × IsNot (token.Mark marks.CloseParenthesis) rest → Fails (Want Arguments) n ts f
+pub arguments_close : (n : ℕ) (ts rest : List Placed) (es : SomeExps) (f : Fault) → ArgumentsSoFar n ts es rest → IsNot (token.Mark marks.Comma) rest → (f ≡ NotHere (length rest))
+    × IsNot (token.Mark marks.CloseParenthesis) rest → Fails (Want Arguments) n ts f
 arguments_close n ts rest es f s i h = fails_here (Want Arguments) n ts (length rest) f h.0 (λ κ. so_far n ts rest es κ s ∙ no_more n _ rest h.1 i)
 
 -- indexes and steps
@@ -481,20 +553,26 @@ index_deep n o ts inner f e d = λ l. deep (PostTail l) n 2 (sign marks.OpenBrac
 pub index_err : (n i o : ℕ) (ts inner : List Placed) (f : Fault) → ts ≡ sign marks.OpenBracket o ∷ inner → (i ≡ n + 2) × (n + 2 ≤ 200) → Fails (Want Expr) i inner f → PostFails n ts f
 index_err n i o ts inner f e up h = λ l. fails_when (Want (PostTail l)) n ts f (λ r κ. opens (PostTail l) κ n i 2 (sign marks.OpenBracket o) ts inner _ refl e up ∙ real (Want Expr) i inner f h r _)
 
-pub index_close : (n i j o : ℕ) (ts inner rest : List Placed) (e : AnExp) (f : Fault) → ts ≡ sign marks.OpenBracket o ∷ inner → (i ≡ n + 2) × (n + 2 ≤ 200) → IsRead 0 0 i inner e rest j → (f ≡ NotHere (length rest)) × IsNot (token.Mark marks.CloseBracket) rest → PostFails n ts f
-index_close n i j o ts inner rest e f t up g h = λ l. fails_here (Want (PostTail l)) n ts (length rest) f h.0 (λ κ. opens (PostTail l) κ n i 2 (sign marks.OpenBracket o) ts inner _ refl t up ∙ exp_leads i j inner rest e g _ ∙ no_bracket j _ rest h.1)
+pub index_close : (n i j o : ℕ) (ts inner rest : List Placed) (e : AnExp) (f : Fault) → ts ≡ sign marks.OpenBracket o ∷ inner → (i ≡ n + 2) × (n + 2 ≤ 200) → IsRead 0 0 i inner e rest j
+    → (f ≡ NotHere (length rest)) × IsNot (token.Mark marks.CloseBracket) rest → PostFails n ts f
+index_close n i j o ts inner rest e f t up g h = λ l. fails_here (Want (PostTail l)) n ts (length rest) f h.0
+    (λ κ. opens (PostTail l) κ n i 2 (sign marks.OpenBracket o) ts inner _ refl t up ∙ exp_leads i j inner rest e g _ ∙ no_bracket j _ rest h.1)
 
 bracket_leads : (j : ℕ) (rest last : List Placed) (κ : Unit {0} → Stack) → rest ≡ sign marks.CloseBracket 0 ∷ last → run limit (Want WantBracket κ) j rest ≡ run limit (κ tt) j last
 bracket_leads j rest last κ e = rw e refl
 
-pub index_more : (n i j o : ℕ) (ts inner rest last : List Placed) (e : AnExp) (f : Fault) → ts ≡ sign marks.OpenBracket o ∷ inner → (i ≡ n + 2) × (n + 2 ≤ 200) → IsRead 0 0 i inner e rest j → rest ≡ sign marks.CloseBracket 0 ∷ last → PostFails (n + 1) last f → PostFails n ts f
-index_more n i j o ts inner rest last e f t up g b h = λ l. fails_when (Want (PostTail l)) n ts f (λ r κ. opens (PostTail l) κ n i 2 (sign marks.OpenBracket o) ts inner _ refl t up ∙ exp_leads i j inner rest e g _ ∙ bracket_leads j rest last _ b ∙ back limit (n + 1) j _ last ∙ real (Want (PostTail (index l o e))) (n + 1) last f (h (index l o e)) r κ)
+pub index_more : (n i j o : ℕ) (ts inner rest last : List Placed) (e : AnExp) (f : Fault) → ts ≡ sign marks.OpenBracket o ∷ inner → (i ≡ n + 2) × (n + 2 ≤ 200)
+    → IsRead 0 0 i inner e rest j → rest ≡ sign marks.CloseBracket 0 ∷ last → PostFails (n + 1) last f → PostFails n ts f
+index_more n i j o ts inner rest last e f t up g b h = λ l. fails_when (Want (PostTail l)) n ts f
+    (λ r κ. opens (PostTail l) κ n i 2 (sign marks.OpenBracket o) ts inner _ refl t up ∙ exp_leads i j inner rest e g _ ∙ bracket_leads j rest last _ b ∙ back limit (n + 1) j _ last
+    ∙ real (Want (PostTail (index l o e))) (n + 1) last f (h (index l o e)) r κ)
 
 pub post_deep : (n : ℕ) (ts after : List Placed) (op : StepOperator) (at : ℕ) (f : Fault) → ts ≡ sign (step_mark op) at ∷ after → (f ≡ TooDeep (length ts)) × (200 < n + 1) → PostFails n ts f
 post_deep n ts after op at f e d = λ l. deep (PostTail l) n 1 (sign (step_mark op) at) ts after f _ (λ κ. post_step op at n l κ) e d
 
 pub post_more : (n i : ℕ) (ts after : List Placed) (op : StepOperator) (at : ℕ) (f : Fault) → ts ≡ sign (step_mark op) at ∷ after → (i ≡ n + 1) × (n + 1 ≤ 200) → PostFails i after f → PostFails n ts f
-post_more n i ts after op at f e up h = λ l. fails_when (Want (PostTail l)) n ts f (λ r κ. opens (PostTail l) κ n i 1 (sign (step_mark op) at) ts after _ (post_step op at n l κ) e up ∙ real (Want (PostTail (step_after l op at))) i after f (h (step_after l op at)) r κ)
+post_more n i ts after op at f e up h = λ l. fails_when (Want (PostTail l)) n ts f
+    (λ r κ. opens (PostTail l) κ n i 1 (sign (step_mark op) at) ts after _ (post_step op at n l κ) e up ∙ real (Want (PostTail (step_after l op at))) i after f (h (step_after l op at)) r κ)
 
 post_refuses : (k : Class) → StopClass k → (k ≢ c.OpenBracket) → NoStepClass k → (t : Placed) (n : ℕ) (l : AnExp) (κ : AnExp → Stack) → Goals.post_turn k t n l κ ≡ Steps Refuses
 post_refuses c.OpenParen h i j t n l κ = refl
@@ -502,7 +580,8 @@ post_refuses c.OpenBracket h i j t n l κ = absurd (i refl)
 post_refuses c.Step h i j t n l κ = absurd j
 post_refuses k h i j t n l κ = absurd h
 
-post_stopped : (n : ℕ) (l : AnExp) (κ : AnExp → Stack) (ts : List Placed) → IsStop ts → IsNot (token.Mark marks.OpenBracket) ts → NoStep ts → run limit (Want (PostTail l) κ) n ts ≡ Err (NotHere (length ts))
+post_stopped : (n : ℕ) (l : AnExp) (κ : AnExp → Stack) (ts : List Placed) → IsStop ts → IsNot (token.Mark marks.OpenBracket) ts → NoStep ts → run limit (Want (PostTail l) κ) n ts
+    ≡ Err (NotHere (length ts))
 post_stopped n l κ [] h i j = absurd h
 post_stopped n l κ (t ∷ ts) h i j = rw (post_refuses (class_of t.kind) h (class_not t.kind (token.Mark marks.OpenBracket) refl i) (no_step_of t.kind j) t n l κ) refl
 

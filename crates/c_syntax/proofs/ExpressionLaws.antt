@@ -9,7 +9,9 @@ use Rattle.c_phrases.specs.declared.tree.Expr.{Expr, Row_of-Expr, end_of-Expr, m
 use Rattle.c_phrases.specs.declared.tree.Expr.TheBlock.{hidden-the_row-Expr-0, items_hidden-the_row-Expr-0}
 use Rattle.c_phrases.specs.declared.tree.Expr.TheVariants.{Call}
 use Rattle.c_phrases.specs.Classes.{Placed, sign}
-use Rattle.c_phrases.specs.Phrases.{AnExp, name, number, str, paren, call, index, step_after, step_before, prefix, sizeof_exp, sizeof_type, cast, binary, choice, assign, comma, SomeExps, no_exps, exps, onto_exp, onto_first, onto_others, onto_type, onto_spec, onto_stars, onto_int, onto_name, IsAt, AllAt, level_of, binary_mark, step_mark, assign_mark}
+use Rattle.c_phrases.specs.Phrases.{AnExp, name, number, str, paren, call, index, step_after, step_before, prefix, sizeof_exp, sizeof_type, cast, binary, choice, assign, comma}
+use Rattle.c_phrases.specs.Phrases.{SomeExps, no_exps, exps, onto_exp, onto_first, onto_others, onto_type, onto_spec, onto_stars, onto_int, onto_name, IsAt, AllAt, level_of}
+use Rattle.c_phrases.specs.Phrases.{binary_mark, step_mark, assign_mark}
 use Rattle.c_phrases.specs.declared.tree.TypeName.{TypeName}
 use Rattle.c_phrases.specs.declared.operator.Spec.{Spec}
 use Rattle.c_phrases.specs.declared.operator.Spec.TheVariants as specs
@@ -18,9 +20,11 @@ use Rattle.std.proofs.lemmas.Bool.Decides.{nat_tests}
 use Rattle.c_phrases.specs.Levels.{LowExp, LowExps, limit}
 use Rattle.c_phrases.specs.Shapes.{exp, exps_row, exp_list}
 use Rattle.c_phrases.specs.Fronts.{Quiet, mark_strength}
+use Rattle.c_phrases.specs.Takes.{NoBinary}
+use Rattle.c_syntax.proofs.Stops.{quiet_unjoined}
 use Rattle.c_syntax_goals.proofs.PhraseLaws.{lower, binary_strength, level_top, quieter, limit_low}
 use Rattle.c_syntax_goals.specs.Goals.{Want, CallTail}
-use Rattle.c_syntax.specs.Reads.{Leads, IsPart, IsRead, Ready, IsSome, ArgumentsSoFar, ReadsArguments}
+use Rattle.c_syntax.specs.Reads.{Leads, IsPart, IsRead, IsMore, Ready, IsSome, ArgumentsSoFar, ReadsArguments}
 
 -- a call's arguments as a list
 exps_is : (c : _) (row : Row_of-Expr c) → exps_row row ≡ exp_list (items-the_row-Expr c row)
@@ -30,10 +34,12 @@ exps_is c (more_of-Expr e rest) = ap (exps (exp e)) (exps_is _ rest)
 pub call_is : (n : List ℕ) (at o : ℕ) (list : Vec Expr Global) → exp (Call n at o list) ≡ call n at o (exp_list list.items)
 call_is n at o list = ap (call n at o) (exps_is _ (hidden-the_row-Expr-0 list) ∙ ap exp_list (items_hidden-the_row-Expr-0 list))
 
-pub call_as : (n m : ℕ) (f : List ℕ) (at o : ℕ) (ts : List Placed) (list : Vec Expr Global) (rest : List Placed) → IsPart n ts (call f at o (exp_list list.items)) rest m → IsPart n ts (exp (Call f at o list)) rest m
+pub call_as : (n m : ℕ) (f : List ℕ) (at o : ℕ) (ts : List Placed) (list : Vec Expr Global) (rest : List Placed) → IsPart n ts (call f at o (exp_list list.items)) rest m
+    → IsPart n ts (exp (Call f at o list)) rest m
 call_as n m f at o ts list rest h = subst (λ (x : AnExp). IsPart n ts x rest m) (sym (call_is f at o list)) h
 
-pub call_led : (n m : ℕ) (f : List ℕ) (at o : ℕ) (ts : List Placed) (list : Vec Expr Global) (rest : List Placed) → Leads (Want (CallTail f at)) n ts (call f at o (exp_list list.items)) m rest → Leads (Want (CallTail f at)) n ts (exp (Call f at o list)) m rest
+pub call_led : (n m : ℕ) (f : List ℕ) (at o : ℕ) (ts : List Placed) (list : Vec Expr Global) (rest : List Placed)
+    → Leads (Want (CallTail f at)) n ts (call f at o (exp_list list.items)) m rest → Leads (Want (CallTail f at)) n ts (exp (Call f at o list)) m rest
 call_led n m f at o ts list rest h = subst (λ (x : AnExp). Leads (Want (CallTail f at)) n ts x m rest) (sym (call_is f at o list)) h
 
 -- one more at the end
@@ -65,7 +71,8 @@ pub some_end : (es : SomeExps) (e : AnExp) → IsSome (exps_end es e)
 some_end no_exps e = tt
 some_end (exps f fs) e = tt
 
-pub arguments_more : (n m : ℕ) (ts rest after behind : List Placed) (es : SomeExps) (e : AnExp) → ArgumentsSoFar n ts es rest → rest ≡ sign marks.Comma 0 ∷ after → IsRead 1 1 n after e behind m → ArgumentsSoFar n ts (exps_end es e) behind
+pub arguments_more : (n m : ℕ) (ts rest after behind : List Placed) (es : SomeExps) (e : AnExp) → ArgumentsSoFar n ts es rest → rest ≡ sign marks.Comma 0 ∷ after
+    → IsRead 1 1 n after e behind m → ArgumentsSoFar n ts (exps_end es e) behind
 arguments_more n m ts rest after behind es e s f r = record {
   text = s.text ∙ (ap (onto_first es) (f ∙ ap (λ (l : List Placed). sign marks.Comma 0 ∷ l) r.text) ∙ sym (first_end es e behind s.some));
   some = some_end es e;
@@ -109,7 +116,12 @@ mutual
   longer_exp (sizeof_type at o t) w = omega (arith, longer_type t (sign marks.CloseParenthesis 0 ∷ w))
   longer_exp (cast o t e) w = omega (arith, longer_type t (sign marks.CloseParenthesis 0 ∷ onto_exp e w), longer_exp e w)
   longer_exp (binary l op at r) w = omega (arith, longer_exp l (sign (binary_mark op) at ∷ onto_exp r w), longer_exp r w)
-  longer_exp (choice c at e d) w = omega (arith, longer_exp c (sign marks.Question at ∷ onto_exp e (sign marks.Colon 0 ∷ onto_exp d w)), longer_exp e (sign marks.Colon 0 ∷ onto_exp d w), longer_exp d w)
+  longer_exp (choice c at e d) w = omega (
+    arith,
+    longer_exp c (sign marks.Question at ∷ onto_exp e (sign marks.Colon 0 ∷ onto_exp d w)),
+    longer_exp e (sign marks.Colon 0 ∷ onto_exp d w),
+    longer_exp d w,
+  )
   longer_exp (assign p op at v) w = omega (arith, longer_exp p (sign (assign_mark op) at ∷ onto_exp v w), longer_exp v w)
   longer_exp (comma l r) w = omega (arith, longer_exp l (sign marks.Comma 0 ∷ onto_exp r w), longer_exp r w)
 
@@ -125,7 +137,8 @@ pub arguments_shorter : (n m : ℕ) (rest after behind : List Placed) (e : AnExp
 arguments_shorter n m rest after behind e f r = omega (arith, ap length f, ap length r.text, longer_exp e behind)
 
 -- the operator takes what stands in front of it as its left operand
-pub ready_more : (lowest : ℕ) (l r : AnExp) (op : BinaryOperator) (at : ℕ) (ts after rest : List Placed) → Ready lowest l ts → ts ≡ sign (binary_mark op) at ∷ after → lowest ≤ level_of op → IsAt (level_of op + 1) r → Quiet (level_of op + 1) rest → Ready lowest (binary l op at r) rest
+pub ready_more : (lowest : ℕ) (l r : AnExp) (op : BinaryOperator) (at : ℕ) (ts after rest : List Placed) → Ready lowest l ts → ts ≡ sign (binary_mark op) at ∷ after → lowest ≤ level_of op
+    → IsAt (level_of op + 1) r → Quiet (level_of op + 1) rest → Ready lowest (binary l op at r) rest
 ready_more lowest l r op at ts after rest d e le h q =
     let s : mark_strength (binary_mark op) ≤ d.phrase + 1 = subst (Quiet (d.phrase + 1)) e d.quiet in
     let same : mark_strength (binary_mark op) ≡ level_of op + 1 = binary_strength op in
@@ -138,10 +151,12 @@ ready_more lowest l r op at ts after rest d e le h q =
       operators = quieter (level_of op + 1) 13 rest (omega arith) q;
     }
 
-pub ready_as : (lowest p q : ℕ) (l r a b : AnExp) (op : BinaryOperator) (at : ℕ) (ts after rest : List Placed) → Ready lowest l ts → ts ≡ sign (binary_mark op) at ∷ after → p ≡ level_of op → q ≡ level_of op → lowest ≤ p → IsAt (q + 1) r → Quiet (q + 1) rest → a ≡ l → b ≡ r → Ready lowest (binary a op at b) rest
+pub ready_as : (lowest p q : ℕ) (l r a b : AnExp) (op : BinaryOperator) (at : ℕ) (ts after rest : List Placed) → Ready lowest l ts → ts ≡ sign (binary_mark op) at ∷ after → p ≡ level_of op
+    → q ≡ level_of op → lowest ≤ p → IsAt (q + 1) r → Quiet (q + 1) rest → a ≡ l → b ≡ r → Ready lowest (binary a op at b) rest
 ready_as lowest p q l r a b op at ts after rest d e f g le h i j k = rw (j, k) (ready_more lowest l r op at ts after rest d e (omega arith) (rw g at h) (rw g at i))
 
-pub call_read : (n m : ℕ) (f : List ℕ) (at o : ℕ) (ts after : List Placed) (es : SomeExps) (rest : List Placed) → ts ≡ sign marks.OpenParenthesis o ∷ after → (m ≡ n + 2) × (n + 2 ≤ 200) → ReadsArguments m after es rest → IsPart n (onto_name f at ts) (call f at o es) rest (n + 1)
+pub call_read : (n m : ℕ) (f : List ℕ) (at o : ℕ) (ts after : List Placed) (es : SomeExps) (rest : List Placed) → ts ≡ sign marks.OpenParenthesis o ∷ after → (m ≡ n + 2) × (n + 2 ≤ 200)
+    → ReadsArguments m after es rest → IsPart n (onto_name f at ts) (call f at o es) rest (n + 1)
 call_read n m f at o ts after es rest e up r =
     let low : n + 2 ≤ 200 = up.1 in
     record {
@@ -151,4 +166,44 @@ call_read n m f at o ts after es rest e up r =
       level = refl;
       rises = omega arith;
       top = omega arith;
+    }
+
+-- an expression of a phrase is one of each lower phrase
+pub read_lower : (j k q n : ℕ) (ts : List Placed) (e : AnExp) (rest : List Placed) (m : ℕ) → j ≤ k → IsRead k q n ts e rest m → IsRead j q n ts e rest m
+read_lower j k q n ts e rest m le h =
+    record { text = h.text; at = lower j k e le h.at; low = h.low; level = h.level; quiet = h.quiet; rises = h.rises; top = h.top }
+
+pub more_lower : (j k q p n : ℕ) (ts : List Placed) (f e : AnExp) (rest : List Placed) (m : ℕ) → j ≤ k → Quiet p rest → IsMore k q n ts f e rest m →
+    IsMore j p n ts f e rest m
+more_lower j k q p n ts f e rest m le quiet h =
+    record { text = h.text; at = lower j k e le h.at; low = h.low; quiet = quiet; rises = h.rises; top = h.top }
+
+-- nothing more is read behind an operand
+pub no_more : (lowest n : ℕ) (e : AnExp) (ts : List Placed) → Ready lowest e ts → Quiet lowest ts → n ≤ 200 → IsMore lowest lowest n ts e e ts n
+no_more lowest n e ts r quiet le =
+    record { text = refl; at = lower lowest r.phrase e r.least r.at; low = λ b low is. (low, is); quiet = quiet; rises = omega arith; top = le }
+
+-- no operator of the level and above stands behind an operand
+pub unjoined : (lowest : ℕ) (e : AnExp) (ts : List Placed) → 3 ≤ lowest → Ready lowest e ts → NoBinary ts → Quiet lowest ts
+unjoined lowest e ts le r none = quieter 3 lowest ts le (quiet_unjoined ts r.operators none)
+
+pub looser : (lowest p : ℕ) (op : BinaryOperator) (at : ℕ) (ts after : List Placed) → ts ≡ sign (binary_mark op) at ∷ after → p ≡ level_of op → p < lowest →
+    Quiet lowest ts
+looser lowest p op at ts after is level less =
+    let same : mark_strength (binary_mark op) ≡ level_of op + 1 = binary_strength op in
+    let low : mark_strength (binary_mark op) ≤ lowest = omega arith in
+    subst (Quiet lowest) (sym is) low
+
+-- what stands behind a primary
+pub part_more : (n m p : ℕ) (ts rest w : List Placed) (f e : AnExp) → IsPart n ts f rest m → IsMore 15 13 m rest f e w p → IsRead 14 13 n ts e w p
+part_more n m p ts rest w f e h k =
+    let low = k.low n h.low h.level in
+    record {
+      text = h.text ∙ k.text;
+      at = lower 14 15 e (omega arith) k.at;
+      low = low.0;
+      level = low.1;
+      quiet = k.quiet;
+      rises = omega (arith, h.rises, k.rises);
+      top = k.top;
     }

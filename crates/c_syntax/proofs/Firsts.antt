@@ -9,7 +9,8 @@ use Rattle.c_phrases.specs.Levels.{limit}
 use Rattle.c_phrases.specs.Units.{AUnit, unit_tokens}
 use Rattle.c_phrases.specs.Fits.{IsUnit}
 use Rattle.c_syntax_goals.specs.Openings.{Opening, levelled}
-use Rattle.c_syntax_goals.specs.Refusals.{IsEnded, NoneDeep, FirstAreLow, FirstDeepIs, Begins, NotHereAt, TooDeepAt}
+use Rattle.c_tokens.specs.Grammar.{IsEnded}
+use Rattle.c_syntax_goals.specs.Refusals.{NoneDeep, FirstAreLow, FirstDeepIs, Begins, NotHereAt, TooDeepAt}
 use Rattle.c_syntax_goals.proofs.Lowness.{low_both}
 use Rattle.c_syntax.specs.declared.fault.SyntaxFault.{SyntaxFault}
 use Rattle.c_syntax.specs.declared.fault.SyntaxFault.TheVariants.{NoMemory, NotHere, TooDeep}

@@ -18,7 +18,9 @@ use Rattle.c_phrases.specs.declared.tree.Statement.TheVariants.{Block}
 use Rattle.c_phrases.specs.Classes.{Placed, word, sign}
 use Rattle.c_phrases.specs.Phrases.{AnExp, onto_spec, onto_int}
 use Rattle.c_phrases.specs.Levels.{limit}
-use Rattle.c_phrases.specs.Units.{AStatement, block, empty, expression, break_off, continue_on, give_back, if_then, if_else, while_loop, do_loop, for_loop, SomeItems, no_items, local_item, statement_item, ADeclarator, ALocal, onto_part, onto_condition, onto_statement, onto_items, onto_local, onto_storage, onto_declarators, onto_more_declarators}
+use Rattle.c_phrases.specs.Units.{AStatement, block, empty, expression, break_off, continue_on, give_back, if_then, if_else, while_loop, do_loop, for_loop, SomeItems, no_items}
+use Rattle.c_phrases.specs.Units.{local_item, statement_item, ADeclarator, ALocal, onto_part, onto_condition, onto_statement, onto_items, onto_local, onto_storage}
+use Rattle.c_phrases.specs.Units.{onto_declarators, onto_more_declarators}
 use Rattle.c_phrases.specs.Fits.{ItemsFit, LowItems}
 use Rattle.c_phrases.specs.UnitShapes.{local_of, statement_of, item_onto, items_row, items_of}
 use Rattle.c_syntax.specs.Stands.{ReadsItems, ReadsStatement}
@@ -35,7 +37,8 @@ block_is body = ap block (row_is _ (hidden-the_row-Item-0 body) ∙ ap items_of 
 limit_low : (m : ℕ) → m ≤ 200 → limit m ≡ true
 limit_low m le = grind (arith, nat_tests)
 
-pub block_read : (n m : ℕ) (ts inner rest : List Placed) (body : Vec Item Global) → ts ≡ sign marks.OpenBrace 0 ∷ inner → (m ≡ n + 1) × (n + 1 ≤ 200) → ReadsItems m inner (items_of body.items) (sign marks.CloseBrace 0 ∷ rest) → ReadsStatement n ts (statement_of (Block body)) rest
+pub block_read : (n m : ℕ) (ts inner rest : List Placed) (body : Vec Item Global) → ts ≡ sign marks.OpenBrace 0 ∷ inner → (m ≡ n + 1) × (n + 1 ≤ 200)
+    → ReadsItems m inner (items_of body.items) (sign marks.CloseBrace 0 ∷ rest) → ReadsStatement n ts (statement_of (Block body)) rest
 block_read n m ts inner rest body e up r = subst (λ (s : AStatement). ReadsStatement n ts s rest) (sym (block_is body)) (record {
   text = e ∙ ap (λ (l : List Placed). sign marks.OpenBrace 0 ∷ l) r.text;
   fits = r.fits;
@@ -110,7 +113,12 @@ longer_storage (storages.Static at) w = omega arith
 longer_storage (storages.Register at) w = omega arith
 
 longer_local : (l : ALocal) (w : List Placed) → length w < length (onto_local l w)
-longer_local l w = omega (arith, longer_storage l.storage (onto_spec l.spec (onto_declarators l.declarators (sign marks.Semicolon 0 ∷ w))), longer_spec l.spec (onto_declarators l.declarators (sign marks.Semicolon 0 ∷ w)), longer_declarators l.declarators (sign marks.Semicolon 0 ∷ w))
+longer_local l w = omega (
+  arith,
+  longer_storage l.storage (onto_spec l.spec (onto_declarators l.declarators (sign marks.Semicolon 0 ∷ w))),
+  longer_spec l.spec (onto_declarators l.declarators (sign marks.Semicolon 0 ∷ w)),
+  longer_declarators l.declarators (sign marks.Semicolon 0 ∷ w),
+)
 
 mutual
   longer_statement : (s : AStatement) (w : List Placed) → length w < length (onto_statement s w)
@@ -121,10 +129,26 @@ mutual
   longer_statement (continue_on at) w = omega arith
   longer_statement (give_back at e) w = omega (arith, longer_part e (sign marks.Semicolon 0 ∷ w))
   longer_statement (if_then at o e s) w = omega (arith, longer_exp e (sign marks.CloseParenthesis 0 ∷ onto_statement s w), longer_statement s w)
-  longer_statement (if_else at o e s other t) w = omega (arith, longer_exp e (sign marks.CloseParenthesis 0 ∷ onto_statement s (word keys.Else other ∷ onto_statement t w)), longer_statement s (word keys.Else other ∷ onto_statement t w), longer_statement t w)
+  longer_statement (if_else at o e s other t) w = omega (
+    arith,
+    longer_exp e (sign marks.CloseParenthesis 0 ∷ onto_statement s (word keys.Else other ∷ onto_statement t w)),
+    longer_statement s (word keys.Else other ∷ onto_statement t w),
+    longer_statement t w,
+  )
   longer_statement (while_loop at o e s) w = omega (arith, longer_exp e (sign marks.CloseParenthesis 0 ∷ onto_statement s w), longer_statement s w)
-  longer_statement (do_loop at s again o e) w = omega (arith, longer_statement s (word keys.While again ∷ onto_condition o e (sign marks.Semicolon 0 ∷ w)), longer_exp e (sign marks.CloseParenthesis 0 ∷ sign marks.Semicolon 0 ∷ w))
-  longer_statement (for_loop at o a b c s) w = omega (arith, longer_part a (sign marks.Semicolon 0 ∷ onto_part b (sign marks.Semicolon 0 ∷ onto_part c (sign marks.CloseParenthesis 0 ∷ onto_statement s w))), longer_part b (sign marks.Semicolon 0 ∷ onto_part c (sign marks.CloseParenthesis 0 ∷ onto_statement s w)), longer_part c (sign marks.CloseParenthesis 0 ∷ onto_statement s w), longer_statement s w)
+  longer_statement (do_loop at s again o e) w = omega (
+    arith,
+    longer_statement s (word keys.While again ∷ onto_condition o e (sign marks.Semicolon 0 ∷ w)),
+    longer_exp e (sign marks.CloseParenthesis 0 ∷ sign marks.Semicolon 0 ∷ w),
+  )
+  longer_statement (for_loop at o a b c s) w = omega (
+    arith,
+    longer_part a
+        (sign marks.Semicolon 0 ∷ onto_part b (sign marks.Semicolon 0 ∷ onto_part c (sign marks.CloseParenthesis 0 ∷ onto_statement s w))),
+    longer_part b (sign marks.Semicolon 0 ∷ onto_part c (sign marks.CloseParenthesis 0 ∷ onto_statement s w)),
+    longer_part c (sign marks.CloseParenthesis 0 ∷ onto_statement s w),
+    longer_statement s w,
+  )
 
   pub longer_items : (is : SomeItems) (w : List Placed) → length w ≤ length (onto_items is w)
   longer_items no_items w = omega arith

@@ -7,7 +7,8 @@ use Rattle.c_phrases.specs.Classes.{Placed, sign}
 use Rattle.c_phrases.specs.Phrases.{AnExp, SomeExps, no_exps, exps, onto_first, onto_stars, onto_name}
 use Rattle.c_phrases.specs.Levels.{LowExps, limit}
 use Rattle.c_syntax.specs.Reads.{ArgumentsSoFar, IsSome as IsSomeExps}
-use Rattle.c_phrases.specs.Units.{ALength, AnInit, value, elements, AnInitialised, ADeclarator, onto_part, onto_length, onto_trailing, onto_init, onto_initialised, onto_declarator, onto_more_declarators, onto_declarators}
+use Rattle.c_phrases.specs.Units.{ALength, AnInit, value, elements, AnInitialised, ADeclarator, onto_part, onto_length, onto_trailing, onto_init, onto_initialised, onto_declarator}
+use Rattle.c_phrases.specs.Units.{onto_more_declarators, onto_declarators}
 use Rattle.c_phrases.specs.Fits.{DeclaratorFits, DeclaratorsFit, HasDeclarator, IsSome, LowDeclarator, LowDeclarators}
 use Rattle.c_phrases.specs.UnitShapes.{declarator_of, declarators_of}
 use Rattle.c_syntax.specs.Stands.{ReadsElements, ReadsDeclarator, DeclaratorsSoFar}
@@ -25,7 +26,8 @@ elements_end m ts rest last es s e = record {
   low = λ n f h. (h, subst (LowExps limit es) f s.low);
 }
 
-pub elements_comma_end : (m : ℕ) (ts rest after last : List Placed) (es : SomeExps) → ArgumentsSoFar m ts es rest → rest ≡ sign marks.Comma 0 ∷ after → after ≡ sign marks.CloseBrace 0 ∷ last → ReadsElements m ts (elements es true) last
+pub elements_comma_end : (m : ℕ) (ts rest after last : List Placed) (es : SomeExps) → ArgumentsSoFar m ts es rest → rest ≡ sign marks.Comma 0 ∷ after → after
+    ≡ sign marks.CloseBrace 0 ∷ last → ReadsElements m ts (elements es true) last
 elements_comma_end m ts rest after last es s e f = record {
   text = ap (λ (l : List Placed). sign marks.OpenBrace 0 ∷ l) (s.text ∙ ap (onto_first es) (e ∙ ap (λ (l : List Placed). sign marks.Comma 0 ∷ l) f));
   fits = (same_some es s.some, s.at);
@@ -60,7 +62,8 @@ has_end (x ∷ xs) d = tt
 pub declarators_begin : (n : ℕ) (d : ADeclarator) (ts : List Placed) → DeclaratorFits d × LowDeclarator limit d n → DeclaratorsSoFar n (onto_declarator d ts) (d ∷ []) ts
 declarators_begin n d ts h = record { text = refl; some = tt; fits = (h.0, tt); low = (h.1, tt) }
 
-pub declarators_more : (n : ℕ) (ts rest after behind : List Placed) (ds : List ADeclarator) (d : ADeclarator) → DeclaratorsSoFar n ts ds rest → rest ≡ sign marks.Comma 0 ∷ after → ReadsDeclarator n after d behind → DeclaratorsSoFar n ts (ds ++ d ∷ []) behind
+pub declarators_more : (n : ℕ) (ts rest after behind : List Placed) (ds : List ADeclarator) (d : ADeclarator) → DeclaratorsSoFar n ts ds rest → rest ≡ sign marks.Comma 0 ∷ after
+    → ReadsDeclarator n after d behind → DeclaratorsSoFar n ts (ds ++ d ∷ []) behind
 declarators_more n ts rest after behind ds d s e r = record {
   text = s.text ∙ (ap (onto_declarators ds) (e ∙ ap (λ (l : List Placed). sign marks.Comma 0 ∷ l) r.text) ∙ sym (declarators_end ds d behind s.some));
   some = has_end ds d;
@@ -93,7 +96,12 @@ longer_initialised None w = omega arith
 longer_initialised (Some i) w = omega (arith, longer_init i.with_init w)
 
 pub longer_declarator : (d : ADeclarator) (w : List Placed) → length w < length (onto_declarator d w)
-longer_declarator d w = omega (arith, longer_stars d.stars (onto_name d.name d.at (onto_length d.length (onto_initialised d.init w))), longer_length d.length (onto_initialised d.init w), longer_initialised d.init w)
+longer_declarator d w = omega (
+  arith,
+  longer_stars d.stars (onto_name d.name d.at (onto_length d.length (onto_initialised d.init w))),
+  longer_length d.length (onto_initialised d.init w),
+  longer_initialised d.init w,
+)
 
 pub declarators_shorter : (n : ℕ) (rest after behind : List Placed) (d : ADeclarator) → rest ≡ sign marks.Comma 0 ∷ after → ReadsDeclarator n after d behind → length behind < length rest
 declarators_shorter n rest after behind d e r = omega (arith, ap length e, ap length r.text, longer_declarator d behind)

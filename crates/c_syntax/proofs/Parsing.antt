@@ -6,7 +6,8 @@ use Rattle.c_tokens.specs.declared.token.Spanned.{Spanned}
 use Rattle.c_phrases.specs.declared.tree.Ast.{Ast}
 use Rattle.c_phrases.specs.UnitShapes.{unit_of}
 use Rattle.c_phrases.specs.Classes.{seen}
-use Rattle.c_syntax_goals.specs.Refusals.{IsEnded, IsPlace, NotHereAt, Stops, TooDeepAt}
+use Rattle.c_tokens.specs.Grammar.{IsEnded}
+use Rattle.c_syntax_goals.specs.Refusals.{IsPlace, NotHereAt, Stops, TooDeepAt}
 use Rattle.c_phrases.specs.Levels.{limit}
 use Rattle.c_phrases.specs.Units.{AUnit, unit_tokens}
 use Rattle.c_phrases.specs.Fits.{IsUnit}

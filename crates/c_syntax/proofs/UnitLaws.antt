@@ -12,7 +12,8 @@ use Rattle.c_phrases.specs.declared.tree.External.{External}
 use Rattle.c_phrases.specs.Classes.{Placed, word, sign}
 use Rattle.c_phrases.specs.Phrases.{onto_spec, onto_stars, onto_name}
 use Rattle.c_phrases.specs.Levels.{limit}
-use Rattle.c_phrases.specs.Units.{ALength, AParam, SomeParams, no_params, void_word, params, SomeItems, AnExternal, ADeclared, function, globals, onto_params, onto_body, onto_length, onto_named, onto_param, onto_more_params, onto_param_list, onto_external, onto_externals, onto_static, onto_declared}
+use Rattle.c_phrases.specs.Units.{ALength, AParam, SomeParams, no_params, void_word, params, SomeItems, AnExternal, ADeclared, function, globals, onto_params, onto_body}
+use Rattle.c_phrases.specs.Units.{onto_length, onto_named, onto_param, onto_more_params, onto_param_list, onto_external, onto_externals, onto_static, onto_declared}
 use Rattle.c_phrases.specs.Fits.{ParamFits, ParamsFit, IsVoid, IsBare, SomeParamsFit, ExternalsFit, LowLength, LowParams, LowExternals}
 use Rattle.c_phrases.specs.UnitShapes.{param_of, param_list, external_of, externals_of}
 use Rattle.c_phrases.specs.Fits.{IsUnit}
@@ -47,7 +48,8 @@ has_param_end (x ∷ xs) p = tt
 pub params_begin : (n : ℕ) (ts : List Placed) (p : AParam) (rest : List Placed) → ReadsParam n ts p rest → ParamsSoFar n ts (p ∷ []) rest
 params_begin n ts p rest r = record { text = r.text; some = tt; fits = (r.fits, tt); low = (r.low, tt) }
 
-pub params_more : (n : ℕ) (ts rest after behind : List Placed) (ps : List AParam) (p : AParam) → ParamsSoFar n ts ps rest → rest ≡ sign marks.Comma 0 ∷ after → ReadsParam n after p behind → ParamsSoFar n ts (ps ++ p ∷ []) behind
+pub params_more : (n : ℕ) (ts rest after behind : List Placed) (ps : List AParam) (p : AParam) → ParamsSoFar n ts ps rest → rest ≡ sign marks.Comma 0 ∷ after → ReadsParam n after p behind
+    → ParamsSoFar n ts (ps ++ p ∷ []) behind
 params_more n ts rest after behind ps p s e r = record {
   text = s.text ∙ (ap (onto_param_list ps) (e ∙ ap (λ (l : List Placed). sign marks.Comma 0 ∷ l) r.text) ∙ sym (param_list_end ps p behind s.some));
   some = has_param_end ps p;
@@ -64,7 +66,13 @@ longer_named None w = omega arith
 longer_named (Some n) w = omega arith
 
 longer_param : (p : AParam) (w : List Placed) → length w < length (onto_param p w)
-longer_param p w = omega (arith, longer_spec p.spec (onto_stars p.stars (onto_named p.name (onto_length p.length w))), longer_stars p.stars (onto_named p.name (onto_length p.length w)), longer_named p.name (onto_length p.length w), longer_length p.length w)
+longer_param p w = omega (
+  arith,
+  longer_spec p.spec (onto_stars p.stars (onto_named p.name (onto_length p.length w))),
+  longer_stars p.stars (onto_named p.name (onto_length p.length w)),
+  longer_named p.name (onto_length p.length w),
+  longer_length p.length w,
+)
 
 pub params_shorter : (n : ℕ) (rest after behind : List Placed) (p : AParam) → rest ≡ sign marks.Comma 0 ∷ after → ReadsParam n after p behind → length behind < length rest
 params_shorter n rest after behind p e r = omega (arith, ap length e, ap length r.text, longer_param p behind)
@@ -73,7 +81,8 @@ params_shorter n rest after behind p e r = omega (arith, ap length e, ap length 
 bare_tokens : (p : AParam) (w : List Placed) → IsBare p → (at : ℕ) × (onto_param p w ≡ word keys.Void at ∷ w)
 bare_tokens p w h = by p.spec p.stars p.name p.length h.0 h.1.0 h.1.1.0 h.1.1.1
   where
-    by : (s : Spec) (stars : List ℕ) (n : Option Named) (l : Option ALength) → IsVoid s → stars ≡ [] → n ≡ None → l ≡ None → (at : ℕ) × (onto_spec s (onto_stars stars (onto_named n (onto_length l w))) ≡ word keys.Void at ∷ w)
+    by : (s : Spec) (stars : List ℕ) (n : Option Named) (l : Option ALength) → IsVoid s → stars ≡ [] → n ≡ None → l ≡ None → (at : ℕ)
+        × (onto_spec s (onto_stars stars (onto_named n (onto_length l w))) ≡ word keys.Void at ∷ w)
     by (specs.Void at) stars n l v e f g = (at, rw (e, f, g) refl)
     by s stars n l v e f g = absurd v
 
@@ -109,7 +118,8 @@ externals_more ts rest behind xs x s r = record {
   low = low_externals_end xs x s.low (r.low, tt);
 }
 
-pub unit_ends : (ts rest behind : List Placed) (xs : List AnExternal) (at : ℕ) → ReadsExternals ts xs rest → rest ≡ record { kind = token.End; at = at } ∷ behind → behind ≡ [] → IsUnit ts (record { externals = xs; end = at })
+pub unit_ends : (ts rest behind : List Placed) (xs : List AnExternal) (at : ℕ) → ReadsExternals ts xs rest → rest ≡ record { kind = token.End; at = at } ∷ behind → behind ≡ []
+    → IsUnit ts (record { externals = xs; end = at })
 unit_ends ts rest behind xs at s e n = record { text = s.text ∙ ap (onto_externals xs) (e ∙ ap (λ (l : List Placed). record { kind = token.End; at = at } ∷ l) n); fits = s.fits; low = s.low }
 
 -- an external has a token
@@ -128,7 +138,13 @@ longer_body None w = omega arith
 longer_body (Some is) w = omega (arith, longer_items is (sign marks.CloseBrace 0 ∷ w))
 
 longer_declared : (d : ADeclared) (w : List Placed) → length w ≤ length (onto_declared d w)
-longer_declared (function f) w = omega (arith, longer_stars f.stars (onto_name f.name f.at (sign marks.OpenParenthesis f.opened ∷ onto_params f.params (sign marks.CloseParenthesis 0 ∷ onto_body f.body w))), longer_some_params f.params (sign marks.CloseParenthesis 0 ∷ onto_body f.body w), longer_body f.body w)
+longer_declared (function f) w = omega (
+  arith,
+  longer_stars f.stars (onto_name f.name f.at
+      (sign marks.OpenParenthesis f.opened ∷ onto_params f.params (sign marks.CloseParenthesis 0 ∷ onto_body f.body w))),
+  longer_some_params f.params (sign marks.CloseParenthesis 0 ∷ onto_body f.body w),
+  longer_body f.body w,
+)
 longer_declared (globals ds) w = omega (arith, longer_declarators ds (sign marks.Semicolon 0 ∷ w))
 
 longer_static : (s : Option ℕ) (w : List Placed) → length w ≤ length (onto_static s w)
@@ -136,4 +152,10 @@ longer_static None w = omega arith
 longer_static (Some at) w = omega arith
 
 pub external_shorter : (rest : List Placed) (x : AnExternal) (behind : List Placed) → ReadsExternal rest x behind → length behind < length rest
-external_shorter rest x behind r = omega (arith, ap length r.text, longer_static x.static_at (onto_spec x.spec (onto_declared x.declared behind)), longer_spec x.spec (onto_declared x.declared behind), longer_declared x.declared behind)
+external_shorter rest x behind r = omega (
+  arith,
+  ap length r.text,
+  longer_static x.static_at (onto_spec x.spec (onto_declared x.declared behind)),
+  longer_spec x.spec (onto_declared x.declared behind),
+  longer_declared x.declared behind,
+)

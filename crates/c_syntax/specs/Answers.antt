@@ -4,7 +4,8 @@ use Rattle.c_tokens.specs.declared.token.Spanned.{Spanned}
 use Rattle.c_phrases.specs.declared.tree.Ast.{Ast}
 use Rattle.c_phrases.specs.UnitShapes.{unit_of}
 use Rattle.c_phrases.specs.Units.{AUnit}
-use Rattle.c_syntax_goals.specs.Refusals.{IsEnded, NotHereAt, TooDeepAt}
+use Rattle.c_tokens.specs.Grammar.{IsEnded}
+use Rattle.c_syntax_goals.specs.Refusals.{NotHereAt, TooDeepAt}
 use Rattle.c_syntax.specs.declared.fault.SyntaxFault.{SyntaxFault}
 use Rattle.c_syntax.specs.declared.fault.SyntaxFault.TheVariants.{NoMemory, NotHere, TooDeep}
 

@@ -12,7 +12,7 @@ ghost use Rattle.c_phrases.specs.Units.{onto_declarator};
 ghost use Rattle.c_phrases.specs.Fits.{DeclaratorFits, LowDeclarator};
 ghost use Rattle.c_syntax.specs.Stands.{ReadsLength, ReadsInit, ReadsElements, ReadsInitialised, ReadsDeclarator, ReadsDeclarators};
 
-use crate::expressions::{assignment, cast, conditional, take_name};
+use crate::expressions::{assignment, cast, conditional, put, take_name};
 use crate::take::{not_here, open_levels, take_mark, want_mark};
 use crate::types::stars;
 use c_phrases::tree::{Declarator, Expr, Initialised, Initialiser, Length, Stars};
@@ -26,9 +26,9 @@ pub fn whole_conditional(
     alloc: Global,
     tokens: &[Spanned],
     level: u32,
-) -> Result<(Expr, &[Spanned], u32), Fault>
+) -> Result<(Box<Expr>, &[Spanned], u32), Fault>
     requires { level ≤ 200 }
-    ensures read { IfOk result (λ x. IsRead 2 2 level (seen tokens.now) (exp x.0) (seen x.1.now) x.2) }
+    ensures read { IfOk result (λ x. IsRead 2 2 level (seen tokens.now) (exp x.0.value) (seen x.1.now) x.2) }
     ensures leads { IfOk result (λ x. CondLeads level (seen tokens.now) x.2 (seen x.1.now)) }
     ensures fails { IfErr result (Fails cond_goals level (seen tokens.now)) }
 {
@@ -59,7 +59,7 @@ pub fn length_part(
     Ok((
         Some(Length {
             open,
-            value: Some(value),
+            value: Some(Box::into_inner(value)),
         }),
         rest,
     ))
@@ -77,7 +77,7 @@ fn elements(
 {
     let (first, mut rest, _) = assignment(alloc, tokens, level)?;
     let mut items = Vec::new(alloc);
-    items.push(first)?;
+    put(&mut items, first)?;
     loop {
         if let Some((_, last)) = take_mark(rest, Mark::CloseBrace) {
             let whole = Initialiser::List {
@@ -95,7 +95,7 @@ fn elements(
             return Ok((whole, last));
         }
         let (next, behind, _) = assignment(alloc, after, level)?;
-        items.push(next)?;
+        put(&mut items, next)?;
         rest = behind;
     }
 }
@@ -112,7 +112,7 @@ fn initialiser(
 {
     let Some((_, inner)) = take_mark(tokens, Mark::OpenBrace) else {
         let (value, rest, _) = assignment(alloc, tokens, level)?;
-        return Ok((Initialiser::Value(value), rest));
+        return Ok((Initialiser::Value(Box::into_inner(value)), rest));
     };
     let up = open_levels(level, 1, tokens)?;
     elements(alloc, inner, up)

@@ -1,5 +1,5 @@
 // Expressions. The levels bound the recursion.
-ghost use Rattle.std.specs.Prelude.{◌≡◌, ◌≤◌, ◌+◌, ◌∷◌, length, IfOk, IfSome, IfNone, MatchOption};
+ghost use Rattle.std.specs.Prelude.{◌≡◌, ◌≤◌, ◌+◌, ◌∷◌, ◌++◌, [], length, IfOk, OnOk, IfSome, IfNone, MatchOption};
 ghost use Rattle.c_tokens.specs.declared.marks.Mark.TheVariants as marks;
 ghost use Rattle.c_phrases.specs.Classes.{seen, sign};
 ghost use Rattle.c_phrases.specs.Phrases.{IsAt, onto_name};
@@ -131,15 +131,24 @@ fn begins_cast(tokens: &[Spanned]) -> bool
     cast_head(tokens).is_some()
 }
 
+/// One more expression at the end of a list.
+pub fn put(list: &mut Vec<Expr>, e: Box<Expr>) -> Result<(), Fault>
+    ensures items { OnOk result (list.new.items ≡ list.old.items ++ (e.value ∷ [])) }
+    ensures memory { IfErr result (λ f. f ≡ faults.NoMemory) }
+{
+    list.push(Box::into_inner(e))?;
+    Ok(())
+}
+
 /// `expr`
 #[cycle(expression)]
 pub fn expression(
     alloc: Global,
     tokens: &[Spanned],
     level: u32,
-) -> Result<(Expr, &[Spanned], u32), Fault>
+) -> Result<(Box<Expr>, &[Spanned], u32), Fault>
     requires low { level ≤ 200 }
-    ensures read { IfOk result (λ x. IsRead 0 0 level (seen tokens.now) (exp x.0) (seen x.1.now) x.2) }
+    ensures read { IfOk result (λ x. IsRead 0 0 level (seen tokens.now) (exp x.0.value) (seen x.1.now) x.2) }
     ensures fails { IfErr result (Fails (Want ExprGoal) level (seen tokens.now)) }
 {
     let (first, rest, now) = assignment(alloc, tokens, level)?;
@@ -149,14 +158,14 @@ pub fn expression(
 #[cycle(expression)]
 fn commas(
     alloc: Global,
-    left: Expr,
+    left: Box<Expr>,
     tokens: &[Spanned],
     level: u32,
-) -> Result<(Expr, &[Spanned], u32), Fault>
+) -> Result<(Box<Expr>, &[Spanned], u32), Fault>
     requires low { level ≤ 200 }
-    requires at { IsAt 0 (exp left) }
+    requires at { IsAt 0 (exp left.value) }
     requires quiet { Quiet 1 (seen tokens.now) }
-    ensures read { IfOk result (λ x. IsMore 0 0 level (seen tokens.now) (exp left) (exp x.0) (seen x.1.now) x.2) }
+    ensures read { IfOk result (λ x. IsMore 0 0 level (seen tokens.now) (exp left.value) (exp x.0.value) (seen x.1.now) x.2) }
     ensures fails { IfErr result (CommasFail level (seen tokens.now)) }
 {
     let Some((_, after)) = take_mark(tokens, Mark::Comma) else {
@@ -164,10 +173,7 @@ fn commas(
     };
     let up = open_levels(level, 1, tokens)?;
     let (right, rest, now) = assignment(alloc, after, up)?;
-    let both = Expr::Comma {
-        left: Box::new(alloc, left)?,
-        right: Box::new(alloc, right)?,
-    };
+    let both = Box::new(alloc, Expr::Comma { left, right })?;
     commas(alloc, both, rest, now)
 }
 
@@ -177,9 +183,9 @@ pub fn assignment(
     alloc: Global,
     tokens: &[Spanned],
     level: u32,
-) -> Result<(Expr, &[Spanned], u32), Fault>
+) -> Result<(Box<Expr>, &[Spanned], u32), Fault>
     requires low { level ≤ 200 }
-    ensures read { IfOk result (λ x. IsRead 1 1 level (seen tokens.now) (exp x.0) (seen x.1.now) x.2) }
+    ensures read { IfOk result (λ x. IsRead 1 1 level (seen tokens.now) (exp x.0.value) (seen x.1.now) x.2) }
     ensures fails { IfErr result (Fails (Want AssignGoal) level (seen tokens.now)) }
 {
     if begins_cast(tokens) {
@@ -193,26 +199,26 @@ pub fn assignment(
     let up = open_levels(now, 1, rest)?;
     let (value, rest, now) = assignment(alloc, after, up)?;
     let whole = Expr::Assign {
-        place: Box::new(alloc, operand)?,
+        place: operand,
         operator,
         at,
-        value: Box::new(alloc, value)?,
+        value,
     };
-    Ok((whole, rest, now))
+    Ok((Box::new(alloc, whole)?, rest, now))
 }
 
 // `cond` from its first operand on, behind which nothing is assigned.
 #[cycle(expression)]
 fn unassigned(
     alloc: Global,
-    first: Expr,
+    first: Box<Expr>,
     tokens: &[Spanned],
     level: u32,
-) -> Result<(Expr, &[Spanned], u32), Fault>
+) -> Result<(Box<Expr>, &[Spanned], u32), Fault>
     requires low { level ≤ 200 }
-    requires at { IsAt 13 (exp first) }
+    requires at { IsAt 13 (exp first.value) }
     requires quiet { Quiet 13 (seen tokens.now) }
-    ensures read { IfOk result (λ x. IsMore 1 1 level (seen tokens.now) (exp first) (exp x.0) (seen x.1.now) x.2) }
+    ensures read { IfOk result (λ x. IsMore 1 1 level (seen tokens.now) (exp first.value) (exp x.0.value) (seen x.1.now) x.2) }
     ensures fails { IfErr result (TailFails level (seen tokens.now)) }
 {
     let (whole, rest, now) = conditional(alloc, first, tokens, level)?;
@@ -226,14 +232,14 @@ fn unassigned(
 #[cycle(expression)]
 pub fn conditional(
     alloc: Global,
-    first: Expr,
+    first: Box<Expr>,
     tokens: &[Spanned],
     level: u32,
-) -> Result<(Expr, &[Spanned], u32), Fault>
+) -> Result<(Box<Expr>, &[Spanned], u32), Fault>
     requires low { level ≤ 200 }
-    requires at { IsAt 13 (exp first) }
+    requires at { IsAt 13 (exp first.value) }
     requires quiet { Quiet 13 (seen tokens.now) }
-    ensures read { IfOk result (λ x. IsMore 2 2 level (seen tokens.now) (exp first) (exp x.0) (seen x.1.now) x.2) }
+    ensures read { IfOk result (λ x. IsMore 2 2 level (seen tokens.now) (exp first.value) (exp x.0.value) (seen x.1.now) x.2) }
     ensures fails { IfErr result (TailFails level (seen tokens.now)) }
     ensures leads { IfOk result (λ x. TailLeads level (seen tokens.now) x.2 (seen x.1.now)) }
 {
@@ -247,27 +253,27 @@ pub fn conditional(
     let (operand, rest, now) = cast(alloc, rest, now)?;
     let (other, rest, now) = conditional(alloc, operand, rest, now)?;
     let whole = Expr::Choice {
-        condition: Box::new(alloc, condition)?,
+        condition,
         at,
-        first: Box::new(alloc, chosen)?,
-        second: Box::new(alloc, other)?,
+        first: chosen,
+        second: other,
     };
-    Ok((whole, rest, now))
+    Ok((Box::new(alloc, whole)?, rest, now))
 }
 
 // Binary operators of the level `lowest` and above, behind an operand; each groups to the left.
 #[cycle(expression)]
 fn binary(
     alloc: Global,
-    left: Expr,
+    left: Box<Expr>,
     tokens: &[Spanned],
     level: u32,
     lowest: u32,
-) -> Result<(Expr, &[Spanned], u32), Fault>
+) -> Result<(Box<Expr>, &[Spanned], u32), Fault>
     requires low { level ≤ 200 }
     requires least { 3 ≤ lowest }
-    requires ready { Ready lowest (exp left) (seen tokens.now) }
-    ensures read { IfOk result (λ x. IsMore lowest lowest level (seen tokens.now) (exp left) (exp x.0) (seen x.1.now) x.2) }
+    requires ready { Ready lowest (exp left.value) (seen tokens.now) }
+    ensures read { IfOk result (λ x. IsMore lowest lowest level (seen tokens.now) (exp left.value) (exp x.0.value) (seen x.1.now) x.2) }
     ensures fails { IfErr result (TailFails level (seen tokens.now)) }
     ensures leads { IfOk result (λ x. TailLeads level (seen tokens.now) x.2 (seen x.1.now)) }
 {
@@ -281,19 +287,23 @@ fn binary(
     let (operand, rest, now) = cast(alloc, after, up)?;
     let (right, rest, now) = binary(alloc, operand, rest, now, operator.level() + 1)?;
     let both = Expr::Binary {
-        left: Box::new(alloc, left)?,
+        left,
         operator,
         at,
-        right: Box::new(alloc, right)?,
+        right,
     };
-    binary(alloc, both, rest, now, lowest)
+    binary(alloc, Box::new(alloc, both)?, rest, now, lowest)
 }
 
 /// `cast`
 #[cycle(expression)]
-pub fn cast(alloc: Global, tokens: &[Spanned], level: u32) -> Result<(Expr, &[Spanned], u32), Fault>
+pub fn cast(
+    alloc: Global,
+    tokens: &[Spanned],
+    level: u32,
+) -> Result<(Box<Expr>, &[Spanned], u32), Fault>
     requires low { level ≤ 200 }
-    ensures read { IfOk result (λ x. IsRead 13 13 level (seen tokens.now) (exp x.0) (seen x.1.now) x.2) }
+    ensures read { IfOk result (λ x. IsRead 13 13 level (seen tokens.now) (exp x.0.value) (seen x.1.now) x.2) }
     ensures fails { IfErr result (Fails (Want CastGoal) level (seen tokens.now)) }
 {
     let Some((open, inner)) = cast_head(tokens) else {
@@ -303,47 +313,39 @@ pub fn cast(alloc: Global, tokens: &[Spanned], level: u32) -> Result<(Expr, &[Sp
     let (to, rest) = type_name(alloc, inner)?;
     let rest = want_mark(rest, Mark::CloseParenthesis)?;
     let (operand, rest, now) = cast(alloc, rest, up)?;
-    let whole = Expr::Cast {
-        open,
-        to,
-        operand: Box::new(alloc, operand)?,
-    };
-    Ok((whole, rest, now))
+    let whole = Expr::Cast { open, to, operand };
+    Ok((Box::new(alloc, whole)?, rest, now))
 }
 
 #[cycle(expression)]
-fn unary(alloc: Global, tokens: &[Spanned], level: u32) -> Result<(Expr, &[Spanned], u32), Fault>
+fn unary(
+    alloc: Global,
+    tokens: &[Spanned],
+    level: u32,
+) -> Result<(Box<Expr>, &[Spanned], u32), Fault>
     requires low { level ≤ 200 }
-    ensures read { IfOk result (λ x. IsRead 14 13 level (seen tokens.now) (exp x.0) (seen x.1.now) x.2) }
+    ensures read { IfOk result (λ x. IsRead 14 13 level (seen tokens.now) (exp x.0.value) (seen x.1.now) x.2) }
     ensures fails { IfErr result (Fails (Want Unary) level (seen tokens.now)) }
 {
     if let Some((operator, at, after)) = take_prefix(tokens) {
         let up = open_levels(level, 1, tokens)?;
         let (operand, rest, now) = cast(alloc, after, up)?;
-        let operand = Box::new(alloc, operand)?;
-        return Ok((
-            Expr::Prefix {
-                operator,
-                at,
-                operand,
-            },
-            rest,
-            now,
-        ));
+        let whole = Expr::Prefix {
+            operator,
+            at,
+            operand,
+        };
+        return Ok((Box::new(alloc, whole)?, rest, now));
     }
     if let Some((operator, at, after)) = take_step(tokens) {
         let up = open_levels(level, 1, tokens)?;
         let (operand, rest, now) = unary(alloc, after, up)?;
-        let operand = Box::new(alloc, operand)?;
-        return Ok((
-            Expr::StepBefore {
-                operator,
-                at,
-                operand,
-            },
-            rest,
-            now,
-        ));
+        let whole = Expr::StepBefore {
+            operator,
+            at,
+            operand,
+        };
+        return Ok((Box::new(alloc, whole)?, rest, now));
     }
     if let Some((at, after)) = take_key(tokens, Key::Sizeof) {
         let up = open_levels(level, 1, tokens)?;
@@ -360,38 +362,45 @@ fn sizeof(
     at: u32,
     tokens: &[Spanned],
     level: u32,
-) -> Result<(Expr, &[Spanned], u32), Fault>
+) -> Result<(Box<Expr>, &[Spanned], u32), Fault>
     requires low { level ≤ 200 }
-    ensures read { IfOk result (λ x. ReadsSizeof at level (seen tokens.now) (exp x.0) (seen x.1.now) x.2) }
+    ensures read { IfOk result (λ x. ReadsSizeof at level (seen tokens.now) (exp x.0.value) (seen x.1.now) x.2) }
     ensures fails { IfErr result (Fails (Want (SizeofTail at)) level (seen tokens.now)) }
 {
     let Some((open, inner)) = cast_head(tokens) else {
         let (operand, rest, now) = unary(alloc, tokens, level)?;
-        let operand = Box::new(alloc, operand)?;
-        return Ok((Expr::SizeofExpr { at, operand }, rest, now));
+        let whole = Expr::SizeofExpr { at, operand };
+        return Ok((Box::new(alloc, whole)?, rest, now));
     };
     let _up = open_levels(level, 1, tokens)?;
     let (of, rest) = type_name(alloc, inner)?;
     let rest = want_mark(rest, Mark::CloseParenthesis)?;
     ended(rest)?;
-    Ok((Expr::SizeofType { at, open, of }, rest, level))
+    let whole = Expr::SizeofType { at, open, of };
+    Ok((Box::new(alloc, whole)?, rest, level))
 }
 
 #[cycle(expression)]
-fn primary(alloc: Global, tokens: &[Spanned], level: u32) -> Result<(Expr, &[Spanned], u32), Fault>
+fn primary(
+    alloc: Global,
+    tokens: &[Spanned],
+    level: u32,
+) -> Result<(Box<Expr>, &[Spanned], u32), Fault>
     requires low { level ≤ 200 }
-    ensures read { IfOk result (λ x. IsPart level (seen tokens.now) (exp x.0) (seen x.1.now) x.2) }
+    ensures read { IfOk result (λ x. IsPart level (seen tokens.now) (exp x.0.value) (seen x.1.now) x.2) }
     ensures fails { IfErr result (Fails (Want Primary) level (seen tokens.now)) }
-    ensures leads { IfOk result (λ x. Leads (Want Primary) level (seen tokens.now) (exp x.0) x.2 (seen x.1.now)) }
+    ensures leads { IfOk result (λ x. Leads (Want Primary) level (seen tokens.now) (exp x.0.value) x.2 (seen x.1.now)) }
 {
     if let Some((name, at, rest)) = take_name(alloc, tokens)? {
         return named(alloc, name, at, rest, level);
     }
     if let Some((value, at, rest)) = take_number(tokens) {
-        return Ok((Expr::Number { value, at }, rest, level));
+        let whole = Expr::Number { value, at };
+        return Ok((Box::new(alloc, whole)?, rest, level));
     }
     if let Some((bytes, at, rest)) = take_string(alloc, tokens)? {
-        return Ok((Expr::Str { bytes, at }, rest, level));
+        let whole = Expr::Str { bytes, at };
+        return Ok((Box::new(alloc, whole)?, rest, level));
     }
     parenthesised(alloc, tokens, level)
 }
@@ -401,11 +410,11 @@ fn parenthesised(
     alloc: Global,
     tokens: &[Spanned],
     level: u32,
-) -> Result<(Expr, &[Spanned], u32), Fault>
+) -> Result<(Box<Expr>, &[Spanned], u32), Fault>
     requires low { level ≤ 200 }
-    ensures read { IfOk result (λ x. IsPart level (seen tokens.now) (exp x.0) (seen x.1.now) x.2) }
+    ensures read { IfOk result (λ x. IsPart level (seen tokens.now) (exp x.0.value) (seen x.1.now) x.2) }
     ensures fails { IfErr result (Fails (Want Parens) level (seen tokens.now)) }
-    ensures leads { IfOk result (λ x. Leads (Want Parens) level (seen tokens.now) (exp x.0) x.2 (seen x.1.now)) }
+    ensures leads { IfOk result (λ x. Leads (Want Parens) level (seen tokens.now) (exp x.0.value) x.2 (seen x.1.now)) }
 {
     let Some((open, inner)) = take_mark(tokens, Mark::OpenParenthesis) else {
         return Err(not_here(tokens));
@@ -413,8 +422,8 @@ fn parenthesised(
     let up = open_levels(level, 1, tokens)?;
     let (inner, rest, _) = expression(alloc, inner, up)?;
     let rest = want_mark(rest, Mark::CloseParenthesis)?;
-    let inner = Box::new(alloc, inner)?;
-    Ok((Expr::Paren { open, inner }, rest, level))
+    let whole = Expr::Paren { open, inner };
+    Ok((Box::new(alloc, whole)?, rest, level))
 }
 
 // Behind a name: a call where a bracket opens.
@@ -425,27 +434,25 @@ fn named(
     at: u32,
     tokens: &[Spanned],
     level: u32,
-) -> Result<(Expr, &[Spanned], u32), Fault>
+) -> Result<(Box<Expr>, &[Spanned], u32), Fault>
     requires low { level ≤ 200 }
-    ensures read { IfOk result (λ x. IsPart level (onto_name name at (seen tokens.now)) (exp x.0) (seen x.1.now) x.2) }
+    ensures read { IfOk result (λ x. IsPart level (onto_name name at (seen tokens.now)) (exp x.0.value) (seen x.1.now) x.2) }
     ensures fails { IfErr result (Fails (Want (CallTail name at)) level (seen tokens.now)) }
-    ensures leads { IfOk result (λ x. Leads (Want (CallTail name at)) level (seen tokens.now) (exp x.0) x.2 (seen x.1.now)) }
+    ensures leads { IfOk result (λ x. Leads (Want (CallTail name at)) level (seen tokens.now) (exp x.0.value) x.2 (seen x.1.now)) }
 {
     let Some((open, inner)) = take_mark(tokens, Mark::OpenParenthesis) else {
-        return Ok((Expr::Name { name, at }, tokens, level));
+        let whole = Expr::Name { name, at };
+        return Ok((Box::new(alloc, whole)?, tokens, level));
     };
     let up = open_levels(level, 2, tokens)?;
     let (arguments, rest) = arguments(alloc, inner, up)?;
-    Ok((
-        Expr::Call {
-            name,
-            at,
-            open,
-            arguments,
-        },
-        rest,
-        level + 1,
-    ))
+    let whole = Expr::Call {
+        name,
+        at,
+        open,
+        arguments,
+    };
+    Ok((Box::new(alloc, whole)?, rest, level + 1))
 }
 
 #[cycle(expression)]
@@ -463,10 +470,10 @@ fn arguments(
         return Ok((list, rest));
     }
     let (first, mut rest, _) = assignment(alloc, tokens, level)?;
-    list.push(first)?;
+    put(&mut list, first)?;
     while let Some((_, after)) = take_mark(rest, Mark::Comma) {
         let (next, behind, _) = assignment(alloc, after, level)?;
-        list.push(next)?;
+        put(&mut list, next)?;
         rest = behind;
     }
     let rest = want_mark(rest, Mark::CloseParenthesis)?;
@@ -477,39 +484,30 @@ fn arguments(
 #[cycle(expression)]
 fn postfix(
     alloc: Global,
-    base: Expr,
+    base: Box<Expr>,
     tokens: &[Spanned],
     level: u32,
-) -> Result<(Expr, &[Spanned], u32), Fault>
+) -> Result<(Box<Expr>, &[Spanned], u32), Fault>
     requires low { level ≤ 200 }
-    requires at { IsAt 15 (exp base) }
-    ensures read { IfOk result (λ x. IsMore 15 13 level (seen tokens.now) (exp base) (exp x.0) (seen x.1.now) x.2) }
+    requires at { IsAt 15 (exp base.value) }
+    ensures read { IfOk result (λ x. IsMore 15 13 level (seen tokens.now) (exp base.value) (exp x.0.value) (seen x.1.now) x.2) }
     ensures fails { IfErr result (PostFails level (seen tokens.now)) }
 {
     if let Some((open, inner)) = take_mark(tokens, Mark::OpenBracket) {
         let up = open_levels(level, 2, tokens)?;
         let (index, rest, _) = expression(alloc, inner, up)?;
         let rest = want_mark(rest, Mark::CloseBracket)?;
-        let whole = Expr::Index {
-            base: Box::new(alloc, base)?,
-            open,
-            index: Box::new(alloc, index)?,
-        };
-        return postfix(alloc, whole, rest, level + 1);
+        let whole = Expr::Index { base, open, index };
+        return postfix(alloc, Box::new(alloc, whole)?, rest, level + 1);
     }
     if let Some((operator, at, rest)) = take_step(tokens) {
         let up = open_levels(level, 1, tokens)?;
-        let operand = Box::new(alloc, base)?;
-        return postfix(
-            alloc,
-            Expr::StepAfter {
-                operand,
-                operator,
-                at,
-            },
-            rest,
-            up,
-        );
+        let whole = Expr::StepAfter {
+            operand: base,
+            operator,
+            at,
+        };
+        return postfix(alloc, Box::new(alloc, whole)?, rest, up);
     }
     ended(tokens)?;
     Ok((base, tokens, level))

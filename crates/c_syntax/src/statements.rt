@@ -45,7 +45,7 @@ fn part_until(
     }
     let (value, rest, _) = expression(alloc, tokens, level)?;
     let rest = want_mark(rest, end)?;
-    Ok((Some(value), rest))
+    Ok((Some(Box::into_inner(value)), rest))
 }
 
 // `"(" expr ")"`, with the offset of the bracket.
@@ -53,9 +53,9 @@ fn condition(
     alloc: Global,
     tokens: &[Spanned],
     level: u32,
-) -> Result<(u32, Expr, &[Spanned]), Fault>
+) -> Result<(u32, Box<Expr>, &[Spanned]), Fault>
     requires { level ≤ 200 }
-    ensures read { IfOk result (λ x. ReadsCondition level x.0 (seen tokens.now) (exp x.1) (seen x.2.now)) }
+    ensures read { IfOk result (λ x. ReadsCondition level x.0 (seen tokens.now) (exp x.1.value) (seen x.2.now)) }
     ensures fails { IfErr result (Fails (Want Condition) level (seen tokens.now)) }
 {
     let Some((open, inner)) = take_mark(tokens, Mark::OpenParenthesis) else {
@@ -149,7 +149,7 @@ fn simple(alloc: Global, tokens: &[Spanned], level: u32) -> Result<(Statement, &
     }
     let (value, rest, _) = expression(alloc, tokens, level)?;
     let rest = want_mark(rest, Mark::Semicolon)?;
-    Ok((Statement::Expr(value), rest))
+    Ok((Statement::Expr(Box::into_inner(value)), rest))
 }
 
 /// `statement`
@@ -205,19 +205,20 @@ fn if_behind(
         let whole = Statement::If {
             at,
             open,
-            condition,
+            condition: Box::into_inner(condition),
             then,
         };
         return Ok((whole, rest));
     };
     let (otherwise, rest) = statement(alloc, after, level)?;
+    let otherwise = Box::new(alloc, otherwise)?;
     let whole = Statement::IfElse {
         at,
         open,
-        condition,
+        condition: Box::into_inner(condition),
         then,
         else_at,
-        otherwise: Box::new(alloc, otherwise)?,
+        otherwise,
     };
     Ok((whole, rest))
 }
@@ -235,11 +236,12 @@ fn while_behind(
 {
     let (open, condition, rest) = condition(alloc, tokens, level)?;
     let (body, rest) = statement(alloc, rest, level)?;
+    let body = Box::new(alloc, body)?;
     let whole = Statement::While {
         at,
         open,
-        condition,
-        body: Box::new(alloc, body)?,
+        condition: Box::into_inner(condition),
+        body,
     };
     Ok((whole, rest))
 }
@@ -267,7 +269,7 @@ fn do_behind(
         body,
         while_at,
         open,
-        condition,
+        condition: Box::into_inner(condition),
     };
     Ok((whole, rest))
 }
@@ -288,16 +290,20 @@ fn for_behind(
     };
     let up = open_levels(level, 1, tokens)?;
     let (start, rest) = part_until(alloc, inner, up, Mark::Semicolon)?;
+    let start = Box::new(alloc, start)?;
     let (condition, rest) = part_until(alloc, rest, up, Mark::Semicolon)?;
+    let condition = Box::new(alloc, condition)?;
     let (step, rest) = part_until(alloc, rest, up, Mark::CloseParenthesis)?;
+    let step = Box::new(alloc, step)?;
     let (body, rest) = statement(alloc, rest, level)?;
+    let body = Box::new(alloc, body)?;
     let whole = Statement::For {
         at,
         open,
-        start,
-        condition,
-        step,
-        body: Box::new(alloc, body)?,
+        start: Box::into_inner(start),
+        condition: Box::into_inner(condition),
+        step: Box::into_inner(step),
+        body,
     };
     Ok((whole, rest))
 }

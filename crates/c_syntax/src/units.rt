@@ -13,7 +13,8 @@ ghost use Rattle.c_syntax_goals.specs.Goals.{Stack, Want, TypeWords, OptName, Bo
 ghost use Rattle.c_syntax_goals.specs.Machine.{run};
 ghost use Rattle.c_phrases.specs.Levels.{limit};
 ghost use Rattle.c_phrases.specs.Fronts.{IsNot};
-ghost use Rattle.c_syntax_goals.specs.Refusals.{IsEnded, IsPlace};
+ghost use Rattle.c_tokens.specs.Grammar.{IsEnded};
+ghost use Rattle.c_syntax_goals.specs.Refusals.{IsPlace};
 ghost use Rattle.c_syntax.specs.Reads.{Fails, Leads};
 ghost use Rattle.c_syntax.specs.Answers.{IsThat, Refused, HasFault, IsOnlyFault};
 ghost use Rattle.c_syntax.specs.declared.fault.SyntaxFault.{SyntaxFault};

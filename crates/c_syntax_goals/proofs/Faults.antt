@@ -12,7 +12,8 @@ use Rattle.c_phrases.specs.Levels.{free, limit}
 use Rattle.c_phrases.specs.Units.{AUnit, unit_tokens}
 use Rattle.c_phrases.specs.Fits.{ExternalsFit}
 use Rattle.c_syntax_goals.specs.Openings.{Opening, tokens_of, levelled}
-use Rattle.c_syntax_goals.specs.Refusals.{IsEnded, IsPlace, FirstAreLow, FirstDeepIs, Begins, BeginsUnit, NotHereAt, Stops, TooDeepAt}
+use Rattle.c_tokens.specs.Grammar.{IsEnded}
+use Rattle.c_syntax_goals.specs.Refusals.{IsPlace, FirstAreLow, FirstDeepIs, Begins, BeginsUnit, NotHereAt, Stops, TooDeepAt}
 use Rattle.c_syntax_goals.specs.Goals.{Goal, Val, Stack, Done, Want, Takes, Opens, Finishes, Refuses, Turn, Steps, Passes, turn, Whole, Expr}
 use Rattle.c_syntax_goals.specs.Machine.{Next, Goes, Ends, Deep, Stuck, closing, at_end, on, pick, next, run}
 use Rattle.c_syntax_goals.proofs.Stating.{law_unit}

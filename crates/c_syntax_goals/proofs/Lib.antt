@@ -16,4 +16,3 @@ pub mod Viable
 pub mod Levelling
 pub mod Faults
 pub mod Lowness
-pub mod Ended

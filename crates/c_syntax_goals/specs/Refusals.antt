@@ -1,7 +1,6 @@
 -- What a fault says of the tokens: how far they begin a unit, and where the levels are passed.
 use Rattle.std.specs.Prelude.{◌≡◌, ℕ, zero, suc, List, [], ◌∷◌, ◌++◌, length, Err, true, false}
 use Rattle.c_tokens.specs.declared.token.Spanned.{Spanned}
-use Rattle.c_tokens.specs.declared.token.Token.TheVariants.{End}
 use Rattle.c_phrases.specs.Classes.{Placed, placed, seen}
 use Rattle.c_phrases.specs.Levels.{limit}
 use Rattle.c_phrases.specs.Units.{AUnit, unit_tokens}
@@ -14,12 +13,6 @@ use Rattle.c_syntax_goals.specs.Openings.{Opening, levelled}
 -- The run of a text stops with this fault.
 abbrev pub Stops : List Spanned → Fault → Type 0
 Stops ts f = run limit (Want Whole Done) 0 (seen ts) ≡ Err f
-
--- The last token is the end of the text.
-abbrev pub IsEnded : List Spanned → Type 0
-IsEnded [] = ⊥
-IsEnded (t ∷ []) = t.kind ≡ End
-IsEnded (t ∷ u ∷ ts) = IsEnded (u ∷ ts)
 
 -- The offset of the token with which k tokens are left.
 abbrev pub IsPlace : List Spanned → (k place : ℕ) → Type 0

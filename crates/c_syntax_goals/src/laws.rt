@@ -2,7 +2,7 @@
 ghost use Rattle.std.specs.Prelude.{◌≡◌, ◌↔◌, ℕ, suc, List, ◌∷◌, ◌++◌, length, Bool, Ok, Err};
 ghost use Rattle.c_syntax_goals.specs.declared.fault.Fault.TheVariants.{NotHere, TooDeep};
 ghost use Rattle.c_tokens.specs.declared.token.Spanned.{Spanned};
-ghost use Rattle.c_tokens.specs.Grammar.{Tokens};
+ghost use Rattle.c_tokens.specs.Grammar.{IsEnded};
 ghost use Rattle.c_phrases.specs.Classes.{Placed};
 ghost use Rattle.c_phrases.specs.Phrases.{AnExp, IsAt, onto_exp, after_exp};
 ghost use Rattle.c_phrases.specs.Levels.{LowExp, limit};
@@ -12,7 +12,7 @@ ghost use Rattle.c_phrases.specs.Fits.{ExternalsFit, LowExternals};
 ghost use Rattle.c_syntax_goals.specs.Goals.{Stack, Want, Done, Expr, Whole};
 ghost use Rattle.c_syntax_goals.specs.Machine.{run};
 ghost use Rattle.c_syntax_goals.specs.Openings.{levelled, tokens_of};
-ghost use Rattle.c_syntax_goals.specs.Refusals.{IsEnded, IsPlace, NoneDeep, NotHereAt, Stops, TooDeepAt};
+ghost use Rattle.c_syntax_goals.specs.Refusals.{IsPlace, NoneDeep, NotHereAt, Stops, TooDeepAt};
 
 /// An expression within the levels is read, whatever is to be read behind it.
 #[tactic(auto, using(crate::proofs::Going::law_exp))]
@@ -66,10 +66,4 @@ pub fn refused_here()
 #[tactic(auto, using(crate::proofs::Faults::too_deep_there))]
 pub fn first_too_deep()
     ensures { (ts : List Spanned) (k place : ℕ) → Stops ts (TooDeep k) → IsPlace ts k place → TooDeepAt ts place }
-{}
-
-/// The last token of a text is its end.
-#[tactic(auto, using(crate::proofs::Ended::tokens_ended))]
-pub fn tokens_are_ended()
-    ensures { (at : ℕ) (text : List ℕ) (ts : List Spanned) → Tokens at text ts → IsEnded ts }
 {}

@@ -98,3 +98,9 @@ pub data IsPiece : List ℕ → Option Token → List ℕ → Type 0 where
 pub data Tokens : (at : ℕ) → List ℕ → List Spanned → Type 0 where
   ended : (at : ℕ) → Tokens at [] (record { kind = token.End; start = at; end = at } ∷ [])
   piece : (at : ℕ) (text : List ℕ) (t : Option Token) (rest : List ℕ) (n : ℕ) (ts : List Spanned) → IsPiece text t rest → n + length rest ≡ length text → Tokens (at + n) rest ts → Tokens at text (spanned t at (at + n) ++ ts)
+
+-- the last token is the end of the text
+abbrev pub IsEnded : List Spanned → Type 0
+IsEnded [] = ⊥
+IsEnded (t ∷ []) = t.kind ≡ token.End
+IsEnded (t ∷ u ∷ ts) = IsEnded (u ∷ ts)

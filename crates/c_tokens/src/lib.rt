@@ -2,6 +2,7 @@
 #![tactic(auto)]
 
 mod escapes;
+pub mod laws;
 mod letters;
 pub mod marks;
 mod numbers;

@@ -3,14 +3,14 @@ use Rattle.std.proofs.Common.{◌≡◌, ◌<◌, ◌⊎◌, inl, inr, ℕ, zero
 use Rattle.gg_base.specs.declared.place.Place.{Place}
 use Rattle.c_tokens.specs.declared.token.Spanned.{Spanned}
 use Rattle.c_tokens.specs.declared.token.TokenKind.{TokenKind}
-use Rattle.c_tokens.specs.Grammar.{Tokens}
+use Rattle.c_tokens.specs.Grammar.{Tokens, IsEnded}
 use Rattle.c_tokens.specs.Wrong.{FirstFault}
 use Rattle.c_phrases.specs.declared.tree.Ast.{Ast}
 use Rattle.c_phrases.specs.Classes.{seen}
 use Rattle.c_phrases.specs.Units.{AUnit}
 use Rattle.c_phrases.specs.UnitShapes.{unit_of}
 use Rattle.c_phrases.specs.Fits.{IsUnit}
-use Rattle.c_syntax_goals.specs.Refusals.{IsEnded, NotHereAt, TooDeepAt}
+use Rattle.c_syntax_goals.specs.Refusals.{NotHereAt, TooDeepAt}
 use Rattle.c_syntax.specs.declared.fault.SyntaxFault.{SyntaxFault}
 use Rattle.c_syntax.specs.declared.fault.SyntaxFault.TheVariants as syntax
 use Rattle.c_syntax.specs.Answers as parsed

@@ -9,7 +9,7 @@ ghost use Rattle.c_typed.specs.declared.source.SourceKind.{SourceKind};
 ghost use Rattle.c_typed.specs.Sources.{Reads, IsRefused, IsOnly, IsFaultAt, IsOnlyFault, place_at, token_kind, type_kind, kind_name};
 
 use c_syntax::{SyntaxFault, parse};
-use c_syntax_goals::laws::tokens_are_ended;
+use c_tokens::laws::tokens_are_ended;
 use c_tokens::{TokenFault, TokenKind, place_of, tokens};
 use c_typed_check::{Program, check};
 use c_typed_words::source_has_tokens;

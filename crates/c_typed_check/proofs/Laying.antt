@@ -1,5 +1,6 @@
 -- Whatever is typed, objects are laid one behind another.
-use Rattle.std.proofs.Common.{◌≡◌, ℕ, zero, suc, ◌+◌, ◌<◌, ◌≤◌, Bool, true, false, nat_lt, List, [], ◌∷◌, ◌++◌, refl, ap, sym, subst, ◌∙◌, Option, Some, None, Result, Ok, Err, arith, if◌then◌else◌, length, ◌*◌}
+use Rattle.std.proofs.Common.{◌≡◌, ℕ, zero, suc, ◌+◌, ◌<◌, ◌≤◌, Bool, true, false, nat_lt, List, [], ◌∷◌, ◌++◌, refl, ap, sym, subst, ◌∙◌, Option, Some, None, Result, Ok, Err}
+use Rattle.std.proofs.Common.{arith, if◌then◌else◌, length, ◌*◌}
 use Rattle.std.proofs.lemmas.Bool.Decides.{nat_tests}
 use Rattle.std.specs.Prelude.{is_some}
 use Rattle.tree_core.specs.declared.program.Object.{Object}
@@ -7,8 +8,11 @@ use Rattle.c_phrases.specs.declared.operator.Spec.{Spec}
 use Rattle.c_phrases.specs.declared.operator.Storage.{Storage}
 use Rattle.c_phrases.specs.declared.operator.Storage.TheVariants as storages
 use Rattle.c_phrases.specs.declared.tree.Named.{Named}
-use Rattle.c_phrases.specs.Phrases.{AnExp, name, number, str, paren, call, index, step_after, step_before, prefix, sizeof_exp, sizeof_type, cast, binary, choice, assign, comma, SomeExps, no_exps, exps}
-use Rattle.c_phrases.specs.Units.{AnInit, value, elements, ADeclarator, ALocal, AStatement, block, empty, expression, break_off, continue_on, give_back, if_then, if_else, while_loop, do_loop, for_loop, SomeItems, no_items, local_item, statement_item, AParam, AFunction, ADeclared, function, globals, AnExternal, AUnit}
+use Rattle.c_phrases.specs.Phrases.{AnExp, name, number, str, paren, call, index, step_after, step_before, prefix, sizeof_exp, sizeof_type, cast, binary, choice, assign, comma}
+use Rattle.c_phrases.specs.Phrases.{SomeExps, no_exps, exps}
+use Rattle.c_phrases.specs.Units.{AnInit, value, elements, ADeclarator, ALocal, AStatement, block, empty, expression, break_off, continue_on, give_back, if_then, if_else}
+use Rattle.c_phrases.specs.Units.{while_loop, do_loop, for_loop, SomeItems, no_items, local_item, statement_item, AParam, AFunction, ADeclared, function, globals, AnExternal}
+use Rattle.c_phrases.specs.Units.{AUnit}
 use Rattle.c_types.specs.declared.types.CType.{CType}
 use Rattle.c_types.specs.declared.fault.TypeKind.TheVariants.{DataFull}
 use Rattle.c_types.specs.Answers.{Fault, bad, ◌>>=◌}
@@ -24,9 +28,12 @@ use Rattle.c_typed_expressions.specs.Expressions.{integer_of, beside, sizeof_unl
 use Rattle.c_program.specs.Statements.{ADeclaration, AnAction, SomeActions}
 use Rattle.c_program.specs.Programs.{AProgram}
 use Rattle.c_typed_definition.specs.Initialisers.{type_length, type_element, type_elements}
-use Rattle.c_typed_definition.specs.Declarations.{State, with_area, measuring, counted_static, laid, length_in, literals_in, contents_of, finished, object_with, plain_object, counted_array, array_object, object_by, type_object, with_local, begun, type_automatic, type_local, type_locals}
+use Rattle.c_typed_definition.specs.Declarations.{State, with_area, measuring, counted_static, laid, length_in, literals_in, contents_of, finished, object_with, plain_object}
+use Rattle.c_typed_definition.specs.Declarations.{counted_array, array_object, object_by, type_object, with_local, begun, type_automatic, type_local, type_locals}
 use Rattle.c_typed_definition.specs.Statements.{entered, left, jump, type_full, type_condition, type_maybe, type_maybe_condition, type_return, type_statement, type_items}
-use Rattle.c_typed_definition.specs.Texts.{with_parameter, Text, with_declared, entered_function, signature_of, agrees, earlier_by, head_of, is_below, type_parameter, parameter_length, type_parameters, type_body, type_introduced, type_function, type_globals, type_declared, type_externals, whole_by, main_of, known, empty_text, type_text}
+use Rattle.c_typed_definition.specs.Texts.{with_parameter, Text, with_declared, entered_function, signature_of, agrees, earlier_by, head_of, is_below, type_parameter}
+use Rattle.c_typed_definition.specs.Texts.{parameter_length, type_parameters, type_body, type_introduced, type_function, type_globals, type_declared, type_externals, whole_by}
+use Rattle.c_typed_definition.specs.Texts.{main_of, known, empty_text, type_text}
 use Rattle.c_typed_check.specs.Laid.{LiesBehind, LieFrom, AreLaid}
 use Rattle.c_typed_law.proofs.Texts.{text_means}
 use Rattle.c_typed_check.specs.Typed.{IsTypedUnit}
@@ -85,7 +92,8 @@ placed_leaves : (at : ℕ) (label : List ℕ) (align size : ℕ) (bytes : List �
 unfolding placed
 placed_leaves at label align size bytes a = placed_if _ _ _ a _ (λ e l. record { lie = lie_more 65536 a.end a.objects _ l.lie (record { begins = refl; within = not_above _ e }) })
 
-literal_if : (test : Bool) (a : Area) (n : ℕ) (m : Result (ℕ × Area) Fault) → LeavesArea a m → LeavesArea a (if test then Ok (LiteralAt 0 n, a) else m >>= λ r. Ok (LiteralAt r.0 n, one_more_literal r.1))
+literal_if : (test : Bool) (a : Area) (n : ℕ) (m : Result (ℕ × Area) Fault) → LeavesArea a m
+    → LeavesArea a (if test then Ok (LiteralAt 0 n, a) else m >>= λ r. Ok (LiteralAt r.0 n, one_more_literal r.1))
 literal_if true a n m h = leave_ok _ _ _ (λ p. p)
 literal_if false a n m h = leave_then _ _ _ _ _ h (λ x. leave_ok _ _ _ (λ l. record { lie = l.lie }))
 
@@ -154,7 +162,10 @@ LeavesAlone s m = Leaves (IsLaid s.area) (λ (r : State). IsLaid r.area) m
 module _ (names : List (List ℕ × Entry)) (signatures : List Signature) where
   length_in_leaves : (l : Option AnExp) (i : Option AnInit) (scope : Scope) (a : Area) → LeavesArea a (length_in names signatures l i scope a)
   length_in_leaves None i scope a = leave_ok _ _ _ (λ p. p)
-  length_in_leaves (Some e) i scope a = record { leaves = λ r given p. (leave_then _ _ _ _ _ (length_leaves names signatures scope e (measuring true a)) (λ x. leave_ok _ (λ (y : ℕ × Area). IsLaid y.1) _ (λ l. record { lie = l.lie }))).leaves r given (record { lie = p.lie }) }
+  length_in_leaves (Some e) i scope a = record {
+    leaves = λ r given p. (leave_then _ _ _ _ _ (length_leaves names signatures scope e (measuring true a))
+        (λ x. leave_ok _ (λ (y : ℕ × Area). IsLaid y.1) _ (λ l. record { lie = l.lie }))).leaves r given (record { lie = p.lie });
+  }
 
   literals_leave : (l : Option AnExp) (scope : Scope) (a : Area) → Leaves (IsLaid a) IsLaid (literals_in names signatures l scope a)
   literals_leave None scope a = leave_ok _ _ _ (λ p. p)
@@ -168,7 +179,8 @@ module _ (names : List (List ℕ × Entry)) (signatures : List Signature) where
 
   object_with_leaves : (n size : ℕ) (t : CType) (is_array : Bool) (d : ADeclarator) (e : Entry) (s : State) → LeavesState s (object_with names signatures n size t is_array d e s)
   unfolding object_with
-  object_with_leaves n size t is_array d e s = leave_then _ IsLaid _ _ _ (leave_then _ _ _ _ _ (contents_leave t is_array (init_in d.init) _ s.area) (λ r. leave_ok _ _ _ (filled_leaves n (filled_to size r.0) r.1))) (λ a. leave_ok _ _ _ (λ p. p))
+  object_with_leaves n size t is_array d e s = leave_then _ IsLaid _ _ _
+      (leave_then _ _ _ _ _ (contents_leave t is_array (init_in d.init) _ s.area) (λ r. leave_ok _ _ _ (filled_leaves n (filled_to size r.0) r.1))) (λ a. leave_ok _ _ _ (λ p. p))
 
   plain_leaves : (is_static : Bool) (t : CType) (d : ADeclarator) (s : State) → LeavesState s (plain_object names signatures is_static t d s)
   unfolding plain_object
@@ -176,11 +188,13 @@ module _ (names : List (List ℕ × Entry)) (signatures : List Signature) where
 
   counted_array_leaves : (is_static : Bool) (t : CType) (d : ADeclarator) (l : Option AnExp) (n : ℕ) (s : State) → LeavesState s (counted_array names signatures is_static t d l n s)
   unfolding counted_array
-  counted_array_leaves is_static t d l n s = leave_then _ _ _ _ _ (laid_leaves is_static d.at d.name (size_of t) (n * size_of t) s.area) (λ r. leave_then _ _ _ _ _ (literals_leave l s.scope r.1) (λ a. object_with_leaves r.0 (n * size_of t) t true d _ (with_area a s)))
+  counted_array_leaves is_static t d l n s = leave_then _ _ _ _ _ (laid_leaves is_static d.at d.name (size_of t) (n * size_of t) s.area)
+      (λ r. leave_then _ _ _ _ _ (literals_leave l s.scope r.1) (λ a. object_with_leaves r.0 (n * size_of t) t true d _ (with_area a s)))
 
   array_leaves : (is_static : Bool) (t : CType) (d : ADeclarator) (l : Option AnExp) (s : State) → LeavesState s (array_object names signatures is_static t d l s)
   unfolding array_object
-  array_leaves is_static t d l s = leave_then _ _ _ _ _ (length_in_leaves l (init_in d.init) s.scope s.area) (λ m. leave_then _ _ _ _ _ (leave_any (IsLaid m.1) _) (λ n. counted_array_leaves is_static t d l n (with_area m.1 s)))
+  array_leaves is_static t d l s = leave_then _ _ _ _ _ (length_in_leaves l (init_in d.init) s.scope s.area)
+      (λ m. leave_then _ _ _ _ _ (leave_any (IsLaid m.1) _) (λ n. counted_array_leaves is_static t d l n (with_area m.1 s)))
 
   object_by_leaves : (is_static : Bool) (t : CType) (d : ADeclarator) (l : Option (Option AnExp)) (s : State) → LeavesState s (object_by names signatures is_static t d l s)
   object_by_leaves is_static t d None s = plain_leaves is_static t d s
@@ -241,15 +255,22 @@ module _ (names : List (List ℕ × Entry)) (signatures : List Signature) (gives
     statement_leaves looping (break_off at) s = jump_leaves looping at _ s
     statement_leaves looping (continue_on at) s = jump_leaves looping at _ s
     statement_leaves looping (give_back at e) s = return_leaves e s
-    statement_leaves looping (if_then at o c a) s = leave_then _ _ _ _ _ (condition_leaves names signatures c s) (λ x. leave_then _ _ _ _ _ (statement_leaves looping a x.1) (λ r. leave_ok _ _ _ (λ p. p)))
-    statement_leaves looping (if_else at o c a other b) s = leave_then _ _ _ _ _ (condition_leaves names signatures c s) (λ x. leave_then _ _ _ _ _ (statement_leaves looping a x.1) (λ r. leave_then _ _ _ _ _ (statement_leaves looping b r.1) (λ q. leave_ok _ _ _ (λ p. p))))
-    statement_leaves looping (while_loop at o c a) s = leave_then _ _ _ _ _ (condition_leaves names signatures c s) (λ x. leave_then _ _ _ _ _ (statement_leaves true a x.1) (λ r. leave_ok _ _ _ (λ p. p)))
-    statement_leaves looping (do_loop at a again o c) s = leave_then _ _ _ _ _ (statement_leaves true a s) (λ r. leave_then _ _ _ _ _ (condition_leaves names signatures c r.1) (λ x. leave_ok _ _ _ (λ p. p)))
-    statement_leaves looping (for_loop at o i c e a) s = leave_then _ _ _ _ _ (maybe_leaves names signatures i s) (λ x. leave_then _ _ _ _ _ (maybe_condition_leaves names signatures c x.1) (λ y. leave_then _ _ _ _ _ (maybe_leaves names signatures e y.1) (λ z. leave_then _ _ _ _ _ (statement_leaves true a z.1) (λ r. leave_ok _ _ _ (λ p. p)))))
+    statement_leaves looping (if_then at o c a) s = leave_then _ _ _ _ _ (condition_leaves names signatures c s)
+        (λ x. leave_then _ _ _ _ _ (statement_leaves looping a x.1) (λ r. leave_ok _ _ _ (λ p. p)))
+    statement_leaves looping (if_else at o c a other b) s = leave_then _ _ _ _ _ (condition_leaves names signatures c s)
+        (λ x. leave_then _ _ _ _ _ (statement_leaves looping a x.1) (λ r. leave_then _ _ _ _ _ (statement_leaves looping b r.1) (λ q. leave_ok _ _ _ (λ p. p))))
+    statement_leaves looping (while_loop at o c a) s = leave_then _ _ _ _ _ (condition_leaves names signatures c s)
+        (λ x. leave_then _ _ _ _ _ (statement_leaves true a x.1) (λ r. leave_ok _ _ _ (λ p. p)))
+    statement_leaves looping (do_loop at a again o c) s = leave_then _ _ _ _ _ (statement_leaves true a s)
+        (λ r. leave_then _ _ _ _ _ (condition_leaves names signatures c r.1) (λ x. leave_ok _ _ _ (λ p. p)))
+    statement_leaves looping (for_loop at o i c e a) s = leave_then _ _ _ _ _ (maybe_leaves names signatures i s)
+        (λ x. leave_then _ _ _ _ _ (maybe_condition_leaves names signatures c x.1)
+        (λ y. leave_then _ _ _ _ _ (maybe_leaves names signatures e y.1) (λ z. leave_then _ _ _ _ _ (statement_leaves true a z.1) (λ r. leave_ok _ _ _ (λ p. p)))))
 
     items_leave : (looping : Bool) (row : SomeItems) (s : State) → LeavesState s (type_items names signatures gives looping row s)
     items_leave looping no_items s = leave_ok _ _ _ (λ p. p)
-    items_leave looping (local_item l rest) s = leave_then _ _ _ _ _ (locals_leave names signatures l.storage l.spec l.declarators [] s) (λ r. leave_then _ _ _ _ _ (items_leave looping rest r.1) (λ q. leave_ok _ _ _ (λ p. p)))
+    items_leave looping (local_item l rest) s = leave_then _ _ _ _ _ (locals_leave names signatures l.storage l.spec l.declarators [] s)
+        (λ r. leave_then _ _ _ _ _ (items_leave looping rest r.1) (λ q. leave_ok _ _ _ (λ p. p)))
     items_leave looping (statement_item a rest) s = leave_then _ _ _ _ _ (statement_leaves looping a s) (λ r. leave_then _ _ _ _ _ (items_leave looping rest r.1) (λ q. leave_ok _ _ _ (λ p. p)))
 
 abbrev LeavesText : Text → Result Text Fault → Type 0
@@ -271,7 +292,8 @@ module _ (names : List (List ℕ × Entry)) (signatures : List Signature) where
 
   parameter_leaves : (defines : Bool) (at : ℕ) (p : AParam) (n : ℕ) (s : State) → LeavesAlone s (type_parameter names signatures defines at p n s)
   unfolding type_parameter
-  parameter_leaves defines at p n s = leave_then _ _ _ _ _ (leave_any (IsLaid s.area) _) (λ ok. leave_then _ _ _ _ _ (parameter_length_leaves (brackets_in p.length) s.scope s.area) (λ a. leave_ok _ _ _ (subst IsLaid (sym (parameter_area p.name _ n (with_area a s))))))
+  parameter_leaves defines at p n s = leave_then _ _ _ _ _ (leave_any (IsLaid s.area) _)
+      (λ ok. leave_then _ _ _ _ _ (parameter_length_leaves (brackets_in p.length) s.scope s.area) (λ a. leave_ok _ _ _ (subst IsLaid (sym (parameter_area p.name _ n (with_area a s))))))
 
   parameters_leave : (defines : Bool) (at : ℕ) (ps : List AParam) (n : ℕ) (s : State) → LeavesAlone s (type_parameters names signatures defines at ps n s)
   parameters_leave defines at [] n s = leave_ok _ _ _ (λ p. p)
@@ -283,11 +305,15 @@ module _ (names : List (List ℕ × Entry)) (signatures : List Signature) where
 
   introduced_leaves : (earlier : Option ℕ) (spec : Spec) (f : AFunction) (t : Text) → LeavesText t (type_introduced names signatures earlier spec f t)
   unfolding type_introduced
-  introduced_leaves earlier spec f t = leave_then _ _ _ _ _ (parameters_leave (is_some f.body) f.at (params_in f.params) 0 (entered_function t.state)) (λ s. leave_then _ _ _ _ _ (leave_any (IsLaid s.area) (agrees earlier t.declared (signature_of spec f) f.at)) (λ ok. body_leaves spec f f.body s t))
+  introduced_leaves earlier spec f t = leave_then _ _ _ _ _ (parameters_leave (is_some f.body) f.at (params_in f.params) 0 (entered_function t.state))
+      (λ s. leave_then _ _ _ _ _ (leave_any (IsLaid s.area) (agrees earlier t.declared (signature_of spec f) f.at)) (λ ok. body_leaves spec f f.body s t))
 
   function_leaves : (spec : Spec) (f : AFunction) (t : Text) → LeavesText t (type_function names signatures spec f t)
   unfolding type_function
-  function_leaves spec f t = leave_then _ _ _ _ _ (leave_any (IsLaid t.state.area) (earlier_by (find t.state.scope.here f.name) f.at)) (λ earlier. leave_then _ _ _ _ _ (leave_any (IsLaid t.state.area) (head_of (is_some f.body) (is_below (find names f.name) (length t.bodies + 2)) (integer_of spec) f.stars f.at)) (λ ok. subst (λ a. Leaves (IsLaid a) (λ (r : Text). IsLaid r.state.area) (type_introduced names signatures earlier spec f (with_declared earlier spec f t))) (declared_area earlier spec f t) (introduced_leaves earlier spec f (with_declared earlier spec f t))))
+  function_leaves spec f t = leave_then _ _ _ _ _ (leave_any (IsLaid t.state.area) (earlier_by (find t.state.scope.here f.name) f.at))
+      (λ earlier. leave_then _ _ _ _ _ (leave_any (IsLaid t.state.area) (head_of (is_some f.body) (is_below (find names f.name) (length t.bodies + 2)) (integer_of spec) f.stars f.at))
+      (λ ok. subst (λ a. Leaves (IsLaid a) (λ (r : Text). IsLaid r.state.area) (type_introduced names signatures earlier spec f (with_declared earlier spec f t)))
+      (declared_area earlier spec f t) (introduced_leaves earlier spec f (with_declared earlier spec f t))))
 
   globals_leave : (spec : Spec) (ds : List ADeclarator) (s : State) → LeavesAlone s (type_globals names signatures spec ds s)
   globals_leave spec [] s = leave_ok _ _ _ (λ p. p)
@@ -308,4 +334,5 @@ whole_leaves (Some n) end t = leave_ok _ _ _ (λ l. record { last = t.state.area
 pub typed_are_laid : (p : AProgram) → IsTypedUnit p → AreLaid p.objects
 unfolding type_text
 typed_are_laid p given =
-    (leave_then _ _ _ _ _ (externals_leave (known given.unit.externals).names (known given.unit.externals).signatures given.unit.externals empty_text) (λ t. whole_leaves (main_of t.bodies) given.unit.end t)).leaves p ((text_means given.unit.externals given.unit.end).only p given.typed) (record { lie = refl })
+    (leave_then _ _ _ _ _ (externals_leave (known given.unit.externals).names (known given.unit.externals).signatures given.unit.externals empty_text)
+    (λ t. whole_leaves (main_of t.bodies) given.unit.end t)).leaves p ((text_means given.unit.externals given.unit.end).only p given.typed) (record { lie = refl })

@@ -15,7 +15,9 @@ use Rattle.c_typed_expressions.specs.Phrases.{params_in}
 use Rattle.c_typed_expressions.specs.Expressions.{integer_of, written}
 use Rattle.c_typed_scope.specs.Scopes.{find}
 use Rattle.c_typed_definition.specs.Statements.{type_items}
-use Rattle.c_typed_definition.specs.Texts.{Text, with_declared, with_state, with_body, body_of, left_function, entered_function, signature_of, agrees, earlier_by, head_of, is_below, type_parameters, type_globals, type_body, type_introduced, type_function, type_declared, type_external, type_externals, main_of, whole_by, type_text, empty_text, known}
+use Rattle.c_typed_definition.specs.Texts.{Text, with_declared, with_state, with_body, body_of, left_function, entered_function, signature_of, agrees, earlier_by, head_of}
+use Rattle.c_typed_definition.specs.Texts.{is_below, type_parameters, type_globals, type_body, type_introduced, type_function, type_declared, type_external, type_externals}
+use Rattle.c_typed_definition.specs.Texts.{main_of, whole_by, type_text, empty_text, known}
 use Rattle.c_typed_law.proofs.Texts.{text_means}
 use Rattle.c_typed_check.specs.Typed.{IsTypedUnit, need_in, need_at}
 
@@ -55,20 +57,25 @@ module _ (names : List (List ℕ × Entry)) (signatures : List Signature) where
   body_keeps spec f None s t u typed keep = subst (λ x. AllKeep x.bodies) (ok_same _ _ typed) keep
   body_keeps spec f (Some row) s t u typed keep =
       let b = bound (type_items names signatures (written spec f.stars) false row s) (λ r. fine (with_body (body_of spec f r.1.locals r.0) (with_state (left_function r.1) t))) u typed in
-      subst (λ x. AllKeep x.bodies) (ok_same (with_body (body_of spec f b.part.1.locals b.part.0) (with_state (left_function b.part.1) t)) u b.rest) (all_keep_more t.bodies (body_of spec f b.part.1.locals b.part.0) keep (record { need_is = refl }))
+      subst (λ x. AllKeep x.bodies) (ok_same (with_body (body_of spec f b.part.1.locals b.part.0) (with_state (left_function b.part.1) t)) u b.rest)
+      (all_keep_more t.bodies (body_of spec f b.part.1.locals b.part.0) keep (record { need_is = refl }))
 
   introduced_keeps : (earlier : Option ℕ) (spec : Spec) (f : AFunction) (t u : Text) → type_introduced names signatures earlier spec f t ≡ Ok u → AllKeep t.bodies → AllKeep u.bodies
   unfolding type_introduced
   introduced_keeps earlier spec f t u typed keep =
-      let a = bound (type_parameters names signatures (is_some f.body) f.at (params_in f.params) 0 (entered_function t.state)) (λ s. agrees earlier t.declared (signature_of spec f) f.at >>= λ same. type_body names signatures spec f f.body s t) u typed in
+      let a = bound (type_parameters names signatures (is_some f.body) f.at (params_in f.params) 0 (entered_function t.state))
+      (λ s. agrees earlier t.declared (signature_of spec f) f.at >>= λ same. type_body names signatures spec f f.body s t) u typed in
       let b = bound (agrees earlier t.declared (signature_of spec f) f.at) (λ same. type_body names signatures spec f f.body a.part t) u a.rest in
       body_keeps spec f f.body a.part t u b.rest keep
 
   function_keeps : (spec : Spec) (f : AFunction) (t u : Text) → type_function names signatures spec f t ≡ Ok u → AllKeep t.bodies → AllKeep u.bodies
   unfolding type_function
   function_keeps spec f t u typed keep =
-      let a = bound (earlier_by (find t.state.scope.here f.name) f.at) (λ earlier. head_of (is_some f.body) (is_below (find names f.name) (length t.bodies + 2)) (integer_of spec) f.stars f.at >>= λ ok. type_introduced names signatures earlier spec f (with_declared earlier spec f t)) u typed in
-      let b = bound (head_of (is_some f.body) (is_below (find names f.name) (length t.bodies + 2)) (integer_of spec) f.stars f.at) (λ ok. type_introduced names signatures a.part spec f (with_declared a.part spec f t)) u a.rest in
+      let a = bound (earlier_by (find t.state.scope.here f.name) f.at) (λ earlier.
+      head_of (is_some f.body) (is_below (find names f.name) (length t.bodies + 2)) (integer_of spec) f.stars f.at >>= λ ok.
+      type_introduced names signatures earlier spec f (with_declared earlier spec f t)) u typed in
+      let b = bound (head_of (is_some f.body) (is_below (find names f.name) (length t.bodies + 2)) (integer_of spec) f.stars f.at)
+      (λ ok. type_introduced names signatures a.part spec f (with_declared a.part spec f t)) u a.rest in
       introduced_keeps a.part spec f (with_declared a.part spec f t) u b.rest (subst AllKeep (sym (same_bodies a.part spec f t)) keep)
 
   declared_keeps : (spec : Spec) (d : ADeclared) (t u : Text) → type_declared names signatures spec d t ≡ Ok u → AllKeep t.bodies → AllKeep u.bodies
@@ -90,8 +97,10 @@ whole_keeps (Some n) end t p typed keep = subst (λ x. AllKeep x.routines) (ok_s
 pub typed_keeps : (p : AProgram) → IsTypedUnit p → AllKeep p.routines
 unfolding type_text
 typed_keeps p given =
-    let b = bound (type_externals (known given.unit.externals).names (known given.unit.externals).signatures given.unit.externals empty_text) (λ t. whole_by (main_of t.bodies) given.unit.end t) p ((text_means given.unit.externals given.unit.end).only p given.typed) in
-    whole_keeps (main_of b.part.bodies) given.unit.end b.part p b.rest (externals_keep (known given.unit.externals).names (known given.unit.externals).signatures given.unit.externals empty_text b.part b.is tt)
+    let b = bound (type_externals (known given.unit.externals).names (known given.unit.externals).signatures given.unit.externals empty_text)
+    (λ t. whole_by (main_of t.bodies) given.unit.end t) p ((text_means given.unit.externals given.unit.end).only p given.typed) in
+    whole_keeps (main_of b.part.bodies) given.unit.end b.part p b.rest (externals_keep (known given.unit.externals).names (known given.unit.externals).signatures given.unit.externals
+    empty_text b.part b.is tt)
 
 pub kept_need : (rs : List Routine) (n : ℕ) (d : Routine) → AllKeep (map routine rs) → n < length rs → (get_or rs n d).need ≡ need_in (slice_get (map routine rs) n)
 kept_need [] n d keep lt = absurd (omega arith)

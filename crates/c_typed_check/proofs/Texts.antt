@@ -20,7 +20,8 @@ use Rattle.c_typed_definition.specs.Texts.{Known, known, known_with, known_from,
 abbrev fine : {A : Type 0} → A → Result A Fault
 fine x = Ok x
 
-pub known_step : (es : List External) (i : ℕ) (e d : External) (k next : Known) → i < length es → e ≡ get_or es i d → fine (known_with (external_of e) k) ≡ Ok next → known_from (externals_of (drop i es)) k ≡ known_from (externals_of (drop (i + 1) es)) next
+pub known_step : (es : List External) (i : ℕ) (e d : External) (k next : Known) → i < length es → e ≡ get_or es i d → fine (known_with (external_of e) k) ≡ Ok next
+    → known_from (externals_of (drop i es)) k ≡ known_from (externals_of (drop (i + 1) es)) next
 known_step es i e d k next lt is made =
     let same : known_with (external_of e) k ≡ next = cc in
     rw (drop_more es i d lt, ← is) (ap (known_from (externals_of (drop (i + 1) es))) same)
@@ -29,20 +30,25 @@ pub known_end : (es : List External) (i : ℕ) (k : Known) → length es ≤ i �
 known_end es i k le = rw (drop_all i es le) refl
 
 module _ (names : List (List ℕ × Entry)) (signatures : List Signature) where
-  pub global_step : (spec : Spec) (ds : List Declarator) (i : ℕ) (d other : Declarator) (s next : State) (n : ℕ) → i < length ds → d ≡ get_or ds i other → type_object names signatures false spec (declarator_of d) s ≡ Ok (n, next) → type_globals names signatures spec (declarators_of (drop i ds)) s ≡ type_globals names signatures spec (declarators_of (drop (i + 1) ds)) next
+  pub global_step : (spec : Spec) (ds : List Declarator) (i : ℕ) (d other : Declarator) (s next : State) (n : ℕ) → i < length ds → d ≡ get_or ds i other
+      → type_object names signatures false spec (declarator_of d) s ≡ Ok (n, next) → type_globals names signatures spec (declarators_of (drop i ds)) s
+      ≡ type_globals names signatures spec (declarators_of (drop (i + 1) ds)) next
   global_step spec ds i d other s next n lt is typed = rw (drop_more ds i other lt, ← is, typed) refl
 
-  pub global_fails : (spec : Spec) (ds : List Declarator) (i : ℕ) (d other : Declarator) (s : State) (f : TypeFault) → i < length ds → d ≡ get_or ds i other → Fails f (type_object names signatures false spec (declarator_of d) s) → Fails f (type_globals names signatures spec (declarators_of (drop i ds)) s)
+  pub global_fails : (spec : Spec) (ds : List Declarator) (i : ℕ) (d other : Declarator) (s : State) (f : TypeFault) → i < length ds → d ≡ get_or ds i other
+      → Fails f (type_object names signatures false spec (declarator_of d) s) → Fails f (type_globals names signatures spec (declarators_of (drop i ds)) s)
   global_fails spec ds i d other s NoMemory lt is failed = tt
   global_fails spec ds i d other s (At place kind) lt is failed = rw (drop_more ds i other lt, ← is, failed) refl
 
   pub globals_end : (spec : Spec) (ds : List Declarator) (i : ℕ) (s : State) → length ds ≤ i → type_globals names signatures spec (declarators_of (drop i ds)) s ≡ Ok s
   globals_end spec ds i s le = rw (drop_all i ds le) refl
 
-  pub external_step : (es : List External) (i : ℕ) (e d : External) (t next : Text) → i < length es → e ≡ get_or es i d → type_external names signatures (external_of e) t ≡ Ok next → type_externals names signatures (externals_of (drop i es)) t ≡ type_externals names signatures (externals_of (drop (i + 1) es)) next
+  pub external_step : (es : List External) (i : ℕ) (e d : External) (t next : Text) → i < length es → e ≡ get_or es i d → type_external names signatures (external_of e) t ≡ Ok next
+      → type_externals names signatures (externals_of (drop i es)) t ≡ type_externals names signatures (externals_of (drop (i + 1) es)) next
   external_step es i e d t next lt is typed = rw (drop_more es i d lt, ← is, typed) refl
 
-  pub external_fails : (es : List External) (i : ℕ) (e d : External) (t : Text) (f : TypeFault) → i < length es → e ≡ get_or es i d → Fails f (type_external names signatures (external_of e) t) → Fails f (type_externals names signatures (externals_of (drop i es)) t)
+  pub external_fails : (es : List External) (i : ℕ) (e d : External) (t : Text) (f : TypeFault) → i < length es → e ≡ get_or es i d
+      → Fails f (type_external names signatures (external_of e) t) → Fails f (type_externals names signatures (externals_of (drop i es)) t)
   external_fails es i e d t NoMemory lt is failed = tt
   external_fails es i e d t (At place kind) lt is failed = rw (drop_more es i d lt, ← is, failed) refl
 
@@ -68,7 +74,8 @@ main_begins rs = rw (from_none (main_of (map routine rs))) refl
 pub main_here : (rs : List Routine) (i : ℕ) (r d : Routine) (n : ℕ) → i < length rs → r ≡ get_or rs i d → is_main (routine r) ≡ true → from_on i (main_of (map routine (drop i rs))) ≡ Some i
 main_here rs i r d n lt is main = rw (drop_more rs i d lt, ← is, main) (ap Some (omega arith))
 
-pub main_later : (rs : List Routine) (i : ℕ) (r d : Routine) → i < length rs → r ≡ get_or rs i d → is_main (routine r) ≡ false → from_on i (main_of (map routine (drop i rs))) ≡ from_on (i + 1) (main_of (map routine (drop (i + 1) rs)))
+pub main_later : (rs : List Routine) (i : ℕ) (r d : Routine) → i < length rs → r ≡ get_or rs i d → is_main (routine r) ≡ false → from_on i (main_of (map routine (drop i rs)))
+    ≡ from_on (i + 1) (main_of (map routine (drop (i + 1) rs)))
 main_later rs i r d lt is main = rw (drop_more rs i d lt, ← is, main) (from_behind i (main_of (map routine (drop (i + 1) rs))))
 
 pub main_nowhere : (rs : List Routine) (i : ℕ) → length rs ≤ i → from_on i (main_of (map routine (drop i rs))) ≡ None
@@ -84,7 +91,9 @@ module _ (items l m : List External) (end : ℕ) (f : Known) (begun : Text) (is_
   all_begun : empty_text ≡ begun
   all_begun = cc
 
-  pub whole_runs : (t : Text) (n : ℕ) (os : List Object) (rs found : List Routine) → type_externals f.names f.signatures (externals_of m) begun ≡ Ok t → Some n ≡ main_of (map routine found) → found ≡ rs → t.bodies ≡ map routine rs → os ≡ t.state.area.objects → type_text (externals_of items) end ≡ Ok (record { objects = os; routines = map routine rs; main = n })
+  pub whole_runs : (t : Text) (n : ℕ) (os : List Object) (rs found : List Routine) → type_externals f.names f.signatures (externals_of m) begun ≡ Ok t → Some n
+      ≡ main_of (map routine found) → found ≡ rs → t.bodies ≡ map routine rs → os ≡ t.state.area.objects → type_text (externals_of items) end
+      ≡ Ok (record { objects = os; routines = map routine rs; main = n })
   unfolding type_text
   whole_runs t n os rs found typed main same bodies objects =
       let ty : type_externals f.names f.signatures (externals_of items) begun ≡ Ok t = ap (λ x. type_externals f.names f.signatures (externals_of x) begun) (sym is_m) ∙ typed in
@@ -98,7 +107,8 @@ module _ (items l m : List External) (end : ℕ) (f : Known) (begun : Text) (is_
       let ty : type_externals f.names f.signatures (externals_of items) begun ≡ bad place kind = ap (λ x. type_externals f.names f.signatures (externals_of x) begun) (sym is_m) ∙ failed in
       rw (all_known, all_begun, ty) refl
 
-  pub whole_lacks : (t : Text) (rs found : List Routine) → type_externals f.names f.signatures (externals_of m) begun ≡ Ok t → None ≡ main_of (map routine found) → found ≡ rs → t.bodies ≡ map routine rs → type_text (externals_of items) end ≡ bad end NoMain
+  pub whole_lacks : (t : Text) (rs found : List Routine) → type_externals f.names f.signatures (externals_of m) begun ≡ Ok t → None ≡ main_of (map routine found) → found ≡ rs → t.bodies
+      ≡ map routine rs → type_text (externals_of items) end ≡ bad end NoMain
   unfolding type_text
   whole_lacks t rs found typed main same bodies =
       let ty : type_externals f.names f.signatures (externals_of items) begun ≡ Ok t = ap (λ x. type_externals f.names f.signatures (externals_of x) begun) (sym is_m) ∙ typed in

@@ -17,12 +17,14 @@ refused_first : {A : Type 0} (test : Bool) (at : ℕ) (kind : TypeKind) (f : Fau
 refused_first test at kind f F holds (Refuses h is) = ap Err (sym is)
 refused_first test at kind f F holds (Passes h later) = absurd (cc)
 
-passed_first : {A : Type 0} (test : Bool) (at : ℕ) (kind : TypeKind) (m : Result A Fault) (F : Fault → Type 0) (f : Fault) → test ≡ false → ((g : Fault) → F g → m ≡ Err g) → Unless test at kind F f → m ≡ Err f
+passed_first : {A : Type 0} (test : Bool) (at : ℕ) (kind : TypeKind) (m : Result A Fault) (F : Fault → Type 0) (f : Fault) → test ≡ false → ((g : Fault) → F g → m ≡ Err g)
+    → Unless test at kind F f → m ≡ Err f
 passed_first test at kind m F f fails first (Refuses h is) = absurd (cc)
 passed_first test at kind m F f fails first (Passes h later) = first f later
 
 -- a test that refuses first
-pub unless_means : {A : Type 0} (test : Bool) (at : ℕ) (kind : TypeKind) (m : Result A Fault) (R : A → Type 0) (F : Fault → Type 0) → Means m R F → Means (if test then bad at kind else m) (Without test R) (Unless test at kind F)
+pub unless_means : {A : Type 0} (test : Bool) (at : ℕ) (kind : TypeKind) (m : Result A Fault) (R : A → Type 0) (F : Fault → Type 0) → Means m R F
+    → Means (if test then bad at kind else m) (Without test R) (Unless test at kind F)
 unless_means true at kind m R F h = record {
   found = λ t e. absurd (cc);
   only = λ t w. absurd (cc (w.fails));
@@ -40,12 +42,14 @@ lacking_first : {A : Type 0} (test : Bool) (at : ℕ) (kind : TypeKind) (f : Fau
 lacking_first test at kind f F fails (Fails h is) = ap Err (sym is)
 lacking_first test at kind f F fails (Holds h later) = absurd (cc)
 
-held_first : {A : Type 0} (test : Bool) (at : ℕ) (kind : TypeKind) (m : Result A Fault) (F : Fault → Type 0) (f : Fault) → test ≡ true → ((g : Fault) → F g → m ≡ Err g) → Lacking test at kind F f → m ≡ Err f
+held_first : {A : Type 0} (test : Bool) (at : ℕ) (kind : TypeKind) (m : Result A Fault) (F : Fault → Type 0) (f : Fault) → test ≡ true → ((g : Fault) → F g → m ≡ Err g)
+    → Lacking test at kind F f → m ≡ Err f
 held_first test at kind m F f holds first (Fails h is) = absurd (cc)
 held_first test at kind m F f holds first (Holds h later) = first f later
 
 -- a test that has to hold
-pub with_means : {A : Type 0} (test : Bool) (at : ℕ) (kind : TypeKind) (m : Result A Fault) (R : A → Type 0) (F : Fault → Type 0) → Means m R F → Means (if test then m else bad at kind) (With test R) (Lacking test at kind F)
+pub with_means : {A : Type 0} (test : Bool) (at : ℕ) (kind : TypeKind) (m : Result A Fault) (R : A → Type 0) (F : Fault → Type 0) → Means m R F
+    → Means (if test then m else bad at kind) (With test R) (Lacking test at kind F)
 with_means true at kind m R F h = record {
   found = λ t e. record { holds = refl; typed = h.found t e };
   only = λ t w. h.only t w.typed;

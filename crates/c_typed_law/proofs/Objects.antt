@@ -23,9 +23,13 @@ use Rattle.c_typed_expressions.specs.Phrases.{first, init_in, brackets_in}
 use Rattle.c_typed_expressions.specs.Expressions.{written}
 use Rattle.c_typed_expressions.proofs.Relations.{means_then, means_ok, means_is, exp_means}
 use Rattle.c_typed_definition.specs.Forms.{text_of, form_fits, given_count, own_length, form_of, automatic_by, automatic_form, many}
-use Rattle.c_typed_definition.specs.Declarations.{State, with_area, measuring, variable_of, array_entry, laid, text_contents, with_local, length_in, literals_in, contents_of, object_with, plain_object, counted_array, array_object, object_by, type_object, begun, type_automatic, type_local, type_locals}
+use Rattle.c_typed_definition.specs.Declarations.{State, with_area, measuring, variable_of, array_entry, laid, text_contents, with_local, length_in, literals_in, contents_of}
+use Rattle.c_typed_definition.specs.Declarations.{object_with, plain_object, counted_array, array_object, object_by, type_object, begun, type_automatic, type_local, type_locals}
 use Rattle.c_typed_law.specs.Tests.{With, Without, Lacking, Never}
-use Rattle.c_typed_law.specs.Objects.{IsForm, FormFault, IsPlainForm, PlainFault, IsAutomaticForm, AutomaticFormFault, IsCount, CountFault, AreLaid, LaidFault, HoldsAtFirst, HoldsFault, IsFilled, FilledFault, IsPlainObject, PlainObjectFault, IsCountedArray, CountedArrayFault, IsArrayObject, ArrayObjectFault, IsObjectBy, ObjectFaultBy, IsObject, ObjectFault, IsBegun, BegunFault, IsAutomatic, AutomaticFault, IsLocal, LocalFault, AreLocals, LocalsFault}
+use Rattle.c_typed_law.specs.Objects.{IsForm, FormFault, IsPlainForm, PlainFault, IsAutomaticForm, AutomaticFormFault, IsCount, CountFault, AreLaid, LaidFault, HoldsAtFirst}
+use Rattle.c_typed_law.specs.Objects.{HoldsFault, IsFilled, FilledFault, IsPlainObject, PlainObjectFault, IsCountedArray, CountedArrayFault, IsArrayObject, ArrayObjectFault}
+use Rattle.c_typed_law.specs.Objects.{IsObjectBy, ObjectFaultBy, IsObject, ObjectFault, IsBegun, BegunFault, IsAutomatic, AutomaticFault, IsLocal, LocalFault, AreLocals}
+use Rattle.c_typed_law.specs.Objects.{LocalsFault}
 use Rattle.c_typed_expressions.specs.Relations.{Unless}
 use Rattle.c_typed_law.proofs.Combined.{means_bad, unless_means, with_means}
 use Rattle.c_typed_law.proofs.Values.{length_means, element_means, elements_mean}
@@ -54,7 +58,8 @@ unfolding given
 given_means t place x = with_means (fits t x) place BadType _ _ _ (means_ok (ConvertTo t x))
 
 module _ (names : List (List ℕ × Entry)) (signatures : List Signature) where
-  count_means : (l : Option AnExp) (i : Option AnInit) (scope : Scope) (a : Area) → Means (length_in names signatures l i scope a) (IsCount names signatures l i scope a) (CountFault names signatures l i scope a)
+  count_means : (l : Option AnExp) (i : Option AnInit) (scope : Scope) (a : Area)
+      → Means (length_in names signatures l i scope a) (IsCount names signatures l i scope a) (CountFault names signatures l i scope a)
   count_means None i scope a = means_ok (own_length i, a)
   count_means (Some e) i scope a = means_then _ _ _ _ _ _ (length_means names signatures scope e (measuring true a)) (λ x. means_ok (x.0, measuring false x.1))
 
@@ -62,43 +67,50 @@ module _ (names : List (List ℕ × Entry)) (signatures : List Signature) where
   laid_means None scope a = means_ok a
   laid_means (Some e) scope a = means_then _ _ _ _ _ _ (exp_means names signatures scope e a) (λ x. means_ok (x.1))
 
-  holds_means : (t : CType) (is_array : Bool) (i : Option AnInit) (scope : Scope) (a : Area) → Means (contents_of names signatures t is_array i scope a) (HoldsAtFirst names signatures t is_array i scope a) (HoldsFault names signatures t is_array i scope a)
+  holds_means : (t : CType) (is_array : Bool) (i : Option AnInit) (scope : Scope) (a : Area)
+      → Means (contents_of names signatures t is_array i scope a) (HoldsAtFirst names signatures t is_array i scope a) (HoldsFault names signatures t is_array i scope a)
   holds_means t is_array None scope a = means_ok (record { bytes = []; links = [] }, a)
   holds_means t is_array (Some (elements es comma)) scope a = elements_mean names signatures scope t es (record { bytes = []; links = [] }, a)
   holds_means t true (Some (value e)) scope a = means_ok (text_contents (text_of e), a)
   holds_means t false (Some (value e)) scope a = element_means names signatures scope t e (record { bytes = []; links = [] }, a)
 
-  filled_means : (n size : ℕ) (t : CType) (is_array : Bool) (d : ADeclarator) (e : Entry) (s : State) → Means (object_with names signatures n size t is_array d e s) (IsFilled names signatures n size t is_array d e s) (FilledFault names signatures n size t is_array d e s)
+  filled_means : (n size : ℕ) (t : CType) (is_array : Bool) (d : ADeclarator) (e : Entry) (s : State)
+      → Means (object_with names signatures n size t is_array d e s) (IsFilled names signatures n size t is_array d e s) (FilledFault names signatures n size t is_array d e s)
   unfolding object_with
   filled_means n size t is_array d e s =
       means_then _ _ _ _ _ _
       (means_then _ _ _ _ _ _ (holds_means t is_array (init_in d.init) (with_name d.name e s.scope) s.area) (λ h. means_ok (filled n (filled_to size h.0) h.1)))
       (λ a. means_ok (n, record { scope = with_name d.name e s.scope; locals = s.locals; area = a }))
 
-  plain_object_means : (is_static : Bool) (t : CType) (d : ADeclarator) (s : State) → Means (plain_object names signatures is_static t d s) (IsPlainObject names signatures is_static t d s) (PlainObjectFault names signatures is_static t d s)
+  plain_object_means : (is_static : Bool) (t : CType) (d : ADeclarator) (s : State)
+      → Means (plain_object names signatures is_static t d s) (IsPlainObject names signatures is_static t d s) (PlainObjectFault names signatures is_static t d s)
   unfolding plain_object
   plain_object_means is_static t d s =
       means_then _ _ _ _ _ _ (means_is (laid is_static d.at d.name (size_of t) (size_of t) s.area))
       (λ l. filled_means l.0 (size_of t) t false d (entries.Variable t (variable_of is_static l.0)) (with_area l.1 s))
 
-  counted_array_means : (is_static : Bool) (t : CType) (d : ADeclarator) (e : Option AnExp) (n : ℕ) (s : State) → Means (counted_array names signatures is_static t d e n s) (IsCountedArray names signatures is_static t d e n s) (CountedArrayFault names signatures is_static t d e n s)
+  counted_array_means : (is_static : Bool) (t : CType) (d : ADeclarator) (e : Option AnExp) (n : ℕ) (s : State)
+      → Means (counted_array names signatures is_static t d e n s) (IsCountedArray names signatures is_static t d e n s) (CountedArrayFault names signatures is_static t d e n s)
   unfolding counted_array
   counted_array_means is_static t d e n s =
       means_then _ _ _ _ _ _ (means_is (laid is_static d.at d.name (size_of t) (n * size_of t) s.area))
       (λ l. means_then _ _ _ _ _ _ (laid_means e s.scope l.1)
       (λ a. filled_means l.0 (n * size_of t) t true d (array_entry (pointer_to t) (variable_of is_static l.0) (n * size_of t)) (with_area a s)))
 
-  array_object_means : (is_static : Bool) (t : CType) (d : ADeclarator) (e : Option AnExp) (s : State) → Means (array_object names signatures is_static t d e s) (IsArrayObject names signatures is_static t d e s) (ArrayObjectFault names signatures is_static t d e s)
+  array_object_means : (is_static : Bool) (t : CType) (d : ADeclarator) (e : Option AnExp) (s : State)
+      → Means (array_object names signatures is_static t d e s) (IsArrayObject names signatures is_static t d e s) (ArrayObjectFault names signatures is_static t d e s)
   unfolding array_object
   array_object_means is_static t d e s =
       means_then _ _ _ _ _ _ (count_means e (init_in d.init) s.scope s.area)
       (λ m. means_then _ _ _ _ _ _ (many_means d.at (given_count (init_in d.init)) m.0) (λ n. counted_array_means is_static t d e n (with_area m.1 s)))
 
-  object_by_means : (is_static : Bool) (t : CType) (d : ADeclarator) (l : Option (Option AnExp)) (s : State) → Means (object_by names signatures is_static t d l s) (IsObjectBy names signatures is_static t d l s) (ObjectFaultBy names signatures is_static t d l s)
+  object_by_means : (is_static : Bool) (t : CType) (d : ADeclarator) (l : Option (Option AnExp)) (s : State)
+      → Means (object_by names signatures is_static t d l s) (IsObjectBy names signatures is_static t d l s) (ObjectFaultBy names signatures is_static t d l s)
   object_by_means is_static t d None s = plain_object_means is_static t d s
   object_by_means is_static t d (Some e) s = array_object_means is_static t d e s
 
-  pub object_means : (is_static : Bool) (spec : Spec) (d : ADeclarator) (s : State) → Means (type_object names signatures is_static spec d s) (IsObject names signatures is_static spec d s) (ObjectFault names signatures is_static spec d s)
+  pub object_means : (is_static : Bool) (spec : Spec) (d : ADeclarator) (s : State)
+      → Means (type_object names signatures is_static spec d s) (IsObject names signatures is_static spec d s) (ObjectFault names signatures is_static spec d s)
   unfolding type_object
   object_means is_static spec d s =
       means_then _ _ _ _ _ _ (form_means d (written spec d.stars) s.scope) (λ ok. object_by_means is_static (written spec d.stars) d (brackets_in d.length) s)
@@ -112,13 +124,16 @@ module _ (names : List (List ℕ × Entry)) (signatures : List Signature) where
   automatic_means : (spec : Spec) (d : ADeclarator) (s : State) → Means (type_automatic names signatures spec d s) (IsAutomatic names signatures spec d s) (AutomaticFault names signatures spec d s)
   unfolding type_automatic
   automatic_means spec d s =
-      means_then _ _ _ _ _ _ (automatic_form_means d (written spec d.stars) s.scope) (λ ok. begun_means (written spec d.stars) (length s.locals) (init_in d.init) (with_local (written spec d.stars) d.name s))
+      means_then _ _ _ _ _ _ (automatic_form_means d (written spec d.stars) s.scope)
+      (λ ok. begun_means (written spec d.stars) (length s.locals) (init_in d.init) (with_local (written spec d.stars) d.name s))
 
-  local_means : (storage : Storage) (spec : Spec) (d : ADeclarator) (s : State) → Means (type_local names signatures storage spec d s) (IsLocal names signatures storage spec d s) (LocalFault names signatures storage spec d s)
+  local_means : (storage : Storage) (spec : Spec) (d : ADeclarator) (s : State)
+      → Means (type_local names signatures storage spec d s) (IsLocal names signatures storage spec d s) (LocalFault names signatures storage spec d s)
   local_means storages.Automatic spec d s = automatic_means spec d s
   local_means (storages.Register at) spec d s = automatic_means spec d s
   local_means (storages.Static at) spec d s = means_then _ _ _ _ _ _ (object_means true spec d s) (λ x. means_ok (KeepOf x.0, x.1))
 
-  pub locals_mean : (storage : Storage) (spec : Spec) (ds : List ADeclarator) (done : List ADeclaration) (s : State) → Means (type_locals names signatures storage spec ds done s) (AreLocals names signatures storage spec ds done s) (LocalsFault names signatures storage spec ds done s)
+  pub locals_mean : (storage : Storage) (spec : Spec) (ds : List ADeclarator) (done : List ADeclaration) (s : State)
+      → Means (type_locals names signatures storage spec ds done s) (AreLocals names signatures storage spec ds done s) (LocalsFault names signatures storage spec ds done s)
   locals_mean storage spec [] done s = means_ok (done, s)
   locals_mean storage spec (d ∷ ds) done s = means_then _ _ _ _ _ _ (local_means storage spec d s) (λ x. locals_mean storage spec ds (done ++ x.0 ∷ []) x.1)

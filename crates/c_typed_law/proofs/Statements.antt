@@ -9,7 +9,8 @@ use Rattle.c_typed_operators.specs.Table.{Means}
 use Rattle.c_typed_scope.specs.declared.entry.Entry.{Entry}
 use Rattle.c_typed_scope.specs.declared.entry.Signature.{Signature}
 use Rattle.c_phrases.specs.Phrases.{AnExp}
-use Rattle.c_phrases.specs.Units.{local_item, statement_item, AStatement, block, empty, expression, break_off, continue_on, give_back, if_then, if_else, while_loop, do_loop, for_loop, SomeItems, no_items}
+use Rattle.c_phrases.specs.Units.{local_item, statement_item, AStatement, block, empty, expression, break_off, continue_on, give_back, if_then, if_else, while_loop, do_loop}
+use Rattle.c_phrases.specs.Units.{for_loop, SomeItems, no_items}
 use Rattle.c_program.specs.Statements.{AnAction, NoActions, MoreActions, DeclareOf, BlockOf, EvaluateOf, BreakOf, ContinueOf, ReturnOf, IfOf, IfElseOf, WhileOf, DoOf, ForOf}
 use Rattle.c_typed_expressions.specs.Phrases.{first}
 use Rattle.c_typed_expressions.proofs.Relations.{means_then, means_ok, exp_means}
@@ -51,20 +52,30 @@ module _ (names : List (List ℕ × Entry)) (signatures : List Signature) (resul
   return_means (Some e) s = means_then _ _ _ _ _ _ (full_means names signatures e s) (λ x. means_then _ _ _ _ _ _ (given_means result_type (first e) x.0) (λ y. means_ok (ReturnOf (Some y), x.1)))
 
   mutual
-    pub statement_means : (looping : Bool) (a : AStatement) (s : State) → Means (type_statement names signatures result_type looping a s) (IsStatement names signatures result_type looping a s) (StatementFault names signatures result_type looping a s)
+    pub statement_means : (looping : Bool) (a : AStatement) (s : State)
+        → Means (type_statement names signatures result_type looping a s) (IsStatement names signatures result_type looping a s) (StatementFault names signatures result_type looping a s)
     statement_means looping (block row) s = means_then _ _ _ _ _ _ (items_mean looping row (entered s)) (λ x. means_ok (BlockOf x.0, left x.1))
     statement_means looping empty s = means_ok (BlockOf NoActions, s)
     statement_means looping (expression e) s = means_then _ _ _ _ _ _ (full_means names signatures e s) (λ x. means_ok (EvaluateOf x.0, x.1))
     statement_means looping (break_off at) s = jump_means looping at BreakOf s
     statement_means looping (continue_on at) s = jump_means looping at ContinueOf s
     statement_means looping (give_back at e) s = return_means e s
-    statement_means looping (if_then at o c a) s = means_then _ _ _ _ _ _ (condition_means names signatures c s) (λ x. means_then _ _ _ _ _ _ (statement_means looping a x.1) (λ y. means_ok (IfOf x.0 y.0, y.1)))
-    statement_means looping (if_else at o c a other b) s = means_then _ _ _ _ _ _ (condition_means names signatures c s) (λ x. means_then _ _ _ _ _ _ (statement_means looping a x.1) (λ y. means_then _ _ _ _ _ _ (statement_means looping b y.1) (λ z. means_ok (IfElseOf x.0 y.0 z.0, z.1))))
-    statement_means looping (while_loop at o c a) s = means_then _ _ _ _ _ _ (condition_means names signatures c s) (λ x. means_then _ _ _ _ _ _ (statement_means true a x.1) (λ y. means_ok (WhileOf x.0 y.0, y.1)))
-    statement_means looping (do_loop at a again o c) s = means_then _ _ _ _ _ _ (statement_means true a s) (λ y. means_then _ _ _ _ _ _ (condition_means names signatures c y.1) (λ x. means_ok (DoOf y.0 x.0, x.1)))
-    statement_means looping (for_loop at o i c e a) s = means_then _ _ _ _ _ _ (part_means names signatures i s) (λ x. means_then _ _ _ _ _ _ (turn_means names signatures c x.1) (λ y. means_then _ _ _ _ _ _ (part_means names signatures e y.1) (λ z. means_then _ _ _ _ _ _ (statement_means true a z.1) (λ w. means_ok (ForOf x.0 y.0 z.0 w.0, w.1)))))
+    statement_means looping (if_then at o c a) s = means_then _ _ _ _ _ _ (condition_means names signatures c s)
+        (λ x. means_then _ _ _ _ _ _ (statement_means looping a x.1) (λ y. means_ok (IfOf x.0 y.0, y.1)))
+    statement_means looping (if_else at o c a other b) s = means_then _ _ _ _ _ _ (condition_means names signatures c s)
+        (λ x. means_then _ _ _ _ _ _ (statement_means looping a x.1) (λ y. means_then _ _ _ _ _ _ (statement_means looping b y.1) (λ z. means_ok (IfElseOf x.0 y.0 z.0, z.1))))
+    statement_means looping (while_loop at o c a) s = means_then _ _ _ _ _ _ (condition_means names signatures c s)
+        (λ x. means_then _ _ _ _ _ _ (statement_means true a x.1) (λ y. means_ok (WhileOf x.0 y.0, y.1)))
+    statement_means looping (do_loop at a again o c) s = means_then _ _ _ _ _ _ (statement_means true a s)
+        (λ y. means_then _ _ _ _ _ _ (condition_means names signatures c y.1) (λ x. means_ok (DoOf y.0 x.0, x.1)))
+    statement_means looping (for_loop at o i c e a) s = means_then _ _ _ _ _ _ (part_means names signatures i s)
+        (λ x. means_then _ _ _ _ _ _ (turn_means names signatures c x.1)
+        (λ y. means_then _ _ _ _ _ _ (part_means names signatures e y.1) (λ z. means_then _ _ _ _ _ _ (statement_means true a z.1) (λ w. means_ok (ForOf x.0 y.0 z.0 w.0, w.1)))))
 
-    pub items_mean : (looping : Bool) (row : SomeItems) (s : State) → Means (type_items names signatures result_type looping row s) (AreItems names signatures result_type looping row s) (ItemsFault names signatures result_type looping row s)
+    pub items_mean : (looping : Bool) (row : SomeItems) (s : State) → Means (type_items names signatures result_type looping row s) (AreItems names signatures result_type looping row s)
+        (ItemsFault names signatures result_type looping row s)
     items_mean looping no_items s = means_ok (NoActions, s)
-    items_mean looping (local_item l rest) s = means_then _ _ _ _ _ _ (locals_mean names signatures l.storage l.spec l.declarators [] s) (λ x. means_then _ _ _ _ _ _ (items_mean looping rest x.1) (λ y. means_ok (MoreActions (DeclareOf x.0) y.0, y.1)))
-    items_mean looping (statement_item a rest) s = means_then _ _ _ _ _ _ (statement_means looping a s) (λ x. means_then _ _ _ _ _ _ (items_mean looping rest x.1) (λ y. means_ok (MoreActions x.0 y.0, y.1)))
+    items_mean looping (local_item l rest) s = means_then _ _ _ _ _ _ (locals_mean names signatures l.storage l.spec l.declarators [] s)
+        (λ x. means_then _ _ _ _ _ _ (items_mean looping rest x.1) (λ y. means_ok (MoreActions (DeclareOf x.0) y.0, y.1)))
+    items_mean looping (statement_item a rest) s = means_then _ _ _ _ _ _ (statement_means looping a s)
+        (λ x. means_then _ _ _ _ _ _ (items_mean looping rest x.1) (λ y. means_ok (MoreActions x.0 y.0, y.1)))

@@ -19,8 +19,14 @@ use Rattle.c_typed_expressions.specs.Expressions.{integer_of, written}
 use Rattle.c_typed_expressions.specs.Relations.{Joint}
 use Rattle.c_typed_expressions.proofs.Relations.{means_then, means_ok}
 use Rattle.c_typed_definition.specs.Declarations.{State, with_area}
-use Rattle.c_typed_definition.specs.Texts.{parameter_type, signature_of, known, Text, with_state, same_signature, earlier_by, is_below, head_by, head_of, word_of, parameter_form, with_parameter, agrees_by, agrees_with, agrees, parameter_length, type_parameter, type_parameters, with_declared, body_of, with_body, entered_function, left_function, type_body, type_introduced, type_function, type_globals, type_declared, type_externals, main_of, whole_by, empty_text, type_text}
-use Rattle.c_typed_law.specs.Texts.{IsEarlier, EarlierFault, IsResult, ResultFault, IsHead, HeadFault, IsParameterForm, ParameterFormFault, IsSameAs, SameFault, AgreesWith, DisagreesWith, Agrees, AgreesFault, IsParameterLength, ParameterLengthFault, IsParameter, ParameterFault, AreParameters, ParametersFault, IsBody, BodyFault, IsIntroduced, IntroducedFault, IsFunction, FunctionFault, AreGlobals, GlobalsFault, IsExternalBy, ExternalFaultBy, AreExternals, ExternalsFault, IsWhole, WholeFault, IsText, TextFault}
+use Rattle.c_typed_definition.specs.Texts.{parameter_type, signature_of, known, Text, with_state, same_signature, earlier_by, is_below, head_by, head_of, word_of, parameter_form}
+use Rattle.c_typed_definition.specs.Texts.{with_parameter, agrees_by, agrees_with, agrees, parameter_length, type_parameter, type_parameters, with_declared, body_of, with_body}
+use Rattle.c_typed_definition.specs.Texts.{entered_function, left_function, type_body, type_introduced, type_function, type_globals, type_declared, type_externals, main_of}
+use Rattle.c_typed_definition.specs.Texts.{whole_by, empty_text, type_text}
+use Rattle.c_typed_law.specs.Texts.{IsEarlier, EarlierFault, IsResult, ResultFault, IsHead, HeadFault, IsParameterForm, ParameterFormFault, IsSameAs, SameFault, AgreesWith}
+use Rattle.c_typed_law.specs.Texts.{DisagreesWith, Agrees, AgreesFault, IsParameterLength, ParameterLengthFault, IsParameter, ParameterFault, AreParameters, ParametersFault}
+use Rattle.c_typed_law.specs.Texts.{IsBody, BodyFault, IsIntroduced, IntroducedFault, IsFunction, FunctionFault, AreGlobals, GlobalsFault, IsExternalBy, ExternalFaultBy}
+use Rattle.c_typed_law.specs.Texts.{AreExternals, ExternalsFault, IsWhole, WholeFault, IsText, TextFault}
 use Rattle.c_typed_law.proofs.Combined.{means_bad, unless_means, with_means}
 use Rattle.c_typed_law.proofs.Values.{length_means}
 use Rattle.c_typed_law.proofs.Objects.{object_means}
@@ -37,11 +43,13 @@ result_means (Some b) stars at = means_ok tt
 result_means None [] at = means_ok tt
 result_means None (s ∷ ss) at = means_bad at BadType
 
-head_means : (defines defined : Bool) (b : Option Integer) (stars : List ℕ) (at : ℕ) → Means (head_of defines defined b stars at) (IsHead defines defined b stars) (HeadFault defines defined b stars at)
+head_means : (defines defined : Bool) (b : Option Integer) (stars : List ℕ) (at : ℕ)
+    → Means (head_of defines defined b stars at) (IsHead defines defined b stars) (HeadFault defines defined b stars at)
 unfolding head_of
 head_means defines defined b stars at = unless_means (defines && defined) at Twice _ _ _ (result_means b stars at)
 
-parameter_form_means : (n : Option Named) (defines : Bool) (at : ℕ) (p : AParam) (s : Scope) → Means (parameter_form n defines at p s) (IsParameterForm n defines p s) (ParameterFormFault n defines at p s)
+parameter_form_means : (n : Option Named) (defines : Bool) (at : ℕ) (p : AParam) (s : Scope)
+    → Means (parameter_form n defines at p s) (IsParameterForm n defines p s) (ParameterFormFault n defines at p s)
 parameter_form_means (Some n) defines at p s = unless_means (is_taken s n.name) n.at Twice _ _ _ (with_means (is_scalar (written p.spec p.stars)) n.at BadType _ _ _ (means_ok tt))
 parameter_form_means None defines at p s = with_means (is_scalar (written p.spec p.stars)) (word_of p.spec) BadType _ _ _ (unless_means defines at BadType _ _ _ (means_ok tt))
 
@@ -49,36 +57,43 @@ same_means : (s : Option Signature) (mine : Signature) (at : ℕ) → Means (agr
 same_means None mine at = means_ok tt
 same_means (Some s) mine at = with_means (same_signature s mine) at BadType _ _ _ (means_ok tt)
 
-agrees_with_means : (earlier : Option ℕ) (declared : List Signature) (mine : Signature) (at : ℕ) → Means (agrees_with earlier declared mine at) (AgreesWith earlier declared mine) (DisagreesWith earlier declared mine at)
+agrees_with_means : (earlier : Option ℕ) (declared : List Signature) (mine : Signature) (at : ℕ)
+    → Means (agrees_with earlier declared mine at) (AgreesWith earlier declared mine) (DisagreesWith earlier declared mine at)
 agrees_with_means None declared mine at = means_ok tt
 agrees_with_means (Some n) declared mine at = same_means (slice_get declared n) mine at
 
-agrees_means : (earlier : Option ℕ) (declared : List Signature) (mine : Signature) (at : ℕ) → Means (agrees earlier declared mine at) (Agrees earlier declared mine) (AgreesFault earlier declared mine at)
+agrees_means : (earlier : Option ℕ) (declared : List Signature) (mine : Signature) (at : ℕ)
+    → Means (agrees earlier declared mine at) (Agrees earlier declared mine) (AgreesFault earlier declared mine at)
 unfolding agrees
 agrees_means earlier declared mine at = unless_means (nat_lt 32 (length mine.parameters)) at BadType _ _ _ (agrees_with_means earlier declared mine at)
 
 module _ (names : List (List ℕ × Entry)) (signatures : List Signature) where
-  parameter_length_means : (l : Option (Option AnExp)) (scope : Scope) (a : Area) → Means (parameter_length names signatures l scope a) (IsParameterLength names signatures l scope a) (ParameterLengthFault names signatures l scope a)
+  parameter_length_means : (l : Option (Option AnExp)) (scope : Scope) (a : Area)
+      → Means (parameter_length names signatures l scope a) (IsParameterLength names signatures l scope a) (ParameterLengthFault names signatures l scope a)
   parameter_length_means None scope a = means_ok a
   parameter_length_means (Some None) scope a = means_ok a
   parameter_length_means (Some (Some e)) scope a = means_then _ _ _ _ _ _ (length_means names signatures scope e a) (λ x. means_ok (x.1))
 
-  parameter_means : (defines : Bool) (at : ℕ) (p : AParam) (n : ℕ) (s : State) → Means (type_parameter names signatures defines at p n s) (IsParameter names signatures defines p n s) (ParameterFault names signatures defines at p s)
+  parameter_means : (defines : Bool) (at : ℕ) (p : AParam) (n : ℕ) (s : State)
+      → Means (type_parameter names signatures defines at p n s) (IsParameter names signatures defines p n s) (ParameterFault names signatures defines at p s)
   unfolding type_parameter
   parameter_means defines at p n s =
       means_then _ _ _ _ _ _ (parameter_form_means p.name defines at p s.scope)
       (λ ok. means_then _ _ _ _ _ _ (parameter_length_means (brackets_in p.length) s.scope s.area) (λ a. means_ok (with_parameter p.name (parameter_type p) n (with_area a s))))
 
-  parameters_mean : (defines : Bool) (at : ℕ) (ps : List AParam) (n : ℕ) (s : State) → Means (type_parameters names signatures defines at ps n s) (AreParameters names signatures defines ps n s) (ParametersFault names signatures defines at ps n s)
+  parameters_mean : (defines : Bool) (at : ℕ) (ps : List AParam) (n : ℕ) (s : State)
+      → Means (type_parameters names signatures defines at ps n s) (AreParameters names signatures defines ps n s) (ParametersFault names signatures defines at ps n s)
   parameters_mean defines at [] n s = means_ok s
   parameters_mean defines at (p ∷ ps) n s = means_then _ _ _ _ _ _ (parameter_means defines at p n s) (λ next. parameters_mean defines at ps (n + 1) next)
 
-  body_means : (spec : Spec) (f : AFunction) (b : Option SomeItems) (s : State) (t : Text) → Means (type_body names signatures spec f b s t) (IsBody names signatures spec f b s t) (BodyFault names signatures spec f b s)
+  body_means : (spec : Spec) (f : AFunction) (b : Option SomeItems) (s : State) (t : Text)
+      → Means (type_body names signatures spec f b s t) (IsBody names signatures spec f b s t) (BodyFault names signatures spec f b s)
   body_means spec f None s t = means_ok (with_state (left_function s) t)
   body_means spec f (Some row) s t =
       means_then _ _ _ _ _ _ (items_mean names signatures (written spec f.stars) false row s) (λ x. means_ok (with_body (body_of spec f x.1.locals x.0) (with_state (left_function x.1) t)))
 
-  introduced_means : (earlier : Option ℕ) (spec : Spec) (f : AFunction) (t : Text) → Means (type_introduced names signatures earlier spec f t) (IsIntroduced names signatures earlier spec f t) (IntroducedFault names signatures earlier spec f t)
+  introduced_means : (earlier : Option ℕ) (spec : Spec) (f : AFunction) (t : Text)
+      → Means (type_introduced names signatures earlier spec f t) (IsIntroduced names signatures earlier spec f t) (IntroducedFault names signatures earlier spec f t)
   unfolding type_introduced
   introduced_means earlier spec f t =
       means_then _ _ _ _ _ _ (parameters_mean (is_some f.body) f.at (params_in f.params) 0 (entered_function t.state)) (λ s.
@@ -104,7 +119,8 @@ module _ (names : List (List ℕ × Entry)) (signatures : List Signature) where
   externals_mean [] t = means_ok t
   externals_mean (e ∷ es) t = means_then _ _ _ _ _ _ (external_means e.spec e.declared t) (λ next. externals_mean es next)
 
-main_is : (o : Option ℕ) (end : ℕ) (t : Text) → Means (whole_by o end t) (Joint (λ n. o ≡ Some n) (λ n u. u ≡ record { objects = t.state.area.objects; routines = t.bodies; main = n })) (NoRow (λ n. o ≡ Some n) end NoMain)
+main_is : (o : Option ℕ) (end : ℕ) (t : Text) → Means (whole_by o end t) (Joint (λ n. o ≡ Some n) (λ n u. u ≡ record { objects = t.state.area.objects; routines = t.bodies; main = n }))
+    (NoRow (λ n. o ≡ Some n) end NoMain)
 main_is None end t = record {
   found = λ p e. absurd (cc);
   only = λ p j. absurd (cc (j.typed));

@@ -19,7 +19,8 @@ use Rattle.c_phrases.specs.Phrases.{AnExp, SomeExps, no_exps, exps}
 use Rattle.c_typed_expressions.specs.Phrases.{first}
 use Rattle.c_typed_expressions.proofs.Relations.{means_then, means_ok, exp_means}
 use Rattle.c_typed_definition.specs.Initialisers.{type_length, type_element, type_elements}
-use Rattle.c_typed_law.specs.Values.{IsIntegerValue, IntegerFault, IsAddressValue, AddressFault, IsPointerValue, Null, Address, PointerFault, IsWritten, WrittenFault, IsLength, LengthFault, IsElement, ElementFault, AreElements, ElementsFault}
+use Rattle.c_typed_law.specs.Values.{IsIntegerValue, IntegerFault, IsAddressValue, AddressFault, IsPointerValue, Null, Address, PointerFault, IsWritten, WrittenFault, IsLength}
+use Rattle.c_typed_law.specs.Values.{LengthFault, IsElement, ElementFault, AreElements, ElementsFault}
 use Rattle.c_typed_law.proofs.Combined.{means_bad, with_means, wanted_means}
 
 integer_means : (b : Integer) (place : ℕ) (x : AnExpression) (f : Filled) → Means (integer_element b place x f) (IsIntegerValue b x f) (IntegerFault place x)
@@ -36,7 +37,8 @@ other_only : (t : CType) (place : ℕ) (x : AnExpression) (objects : List Object
 other_only t place x objects f g other (Null h is) = absurd (cc)
 other_only t place x objects f g other (Address h address) = (linked_means t place x objects f).only g address
 
-pointer_by : (null : Bool) (t : CType) (place : ℕ) (x : AnExpression) (objects : List Object) (f : Filled) → is_null x ≡ null → Means (if null then Ok (with_value 4 0 f) else linked_element t place x objects f) (IsPointerValue t x objects f) (PointerFault t place x)
+pointer_by : (null : Bool) (t : CType) (place : ℕ) (x : AnExpression) (objects : List Object) (f : Filled) → is_null x ≡ null
+    → Means (if null then Ok (with_value 4 0 f) else linked_element t place x objects f) (IsPointerValue t x objects f) (PointerFault t place x)
 pointer_by true t place x objects f is = record {
   found = λ g e. Null is (cc);
   only = λ g r. ap Ok (null_only t x objects f g is r);
@@ -61,10 +63,12 @@ module _ (names : List (List ℕ × Entry)) (signatures : List Signature) (scope
   unfolding type_length
   length_means e a = means_then _ _ _ _ _ _ (exp_means names signatures scope e a) (λ x. means_then _ _ _ _ _ _ (wanted_means (length_of x.0) (first e)) (λ n. means_ok (n, x.1)))
 
-  pub element_means : (t : CType) (e : AnExp) (s : Filled × Area) → Means (type_element names signatures scope t e s) (IsElement names signatures scope t e s) (ElementFault names signatures scope t e s)
+  pub element_means : (t : CType) (e : AnExp) (s : Filled × Area) → Means (type_element names signatures scope t e s) (IsElement names signatures scope t e s)
+      (ElementFault names signatures scope t e s)
   unfolding type_element
   element_means t e s = means_then _ _ _ _ _ _ (exp_means names signatures scope e s.1) (λ x. means_then _ _ _ _ _ _ (written_means t (first e) x.0 x.1.objects s.0) (λ f. means_ok (f, x.1)))
 
-  pub elements_mean : (t : CType) (es : SomeExps) (s : Filled × Area) → Means (type_elements names signatures scope t es s) (AreElements names signatures scope t es s) (ElementsFault names signatures scope t es s)
+  pub elements_mean : (t : CType) (es : SomeExps) (s : Filled × Area) → Means (type_elements names signatures scope t es s) (AreElements names signatures scope t es s)
+      (ElementsFault names signatures scope t es s)
   elements_mean t no_exps s = means_ok s
   elements_mean t (exps e es) s = means_then _ _ _ _ _ _ (element_means t e s) (λ next. elements_mean t es next)

@@ -115,7 +115,8 @@ module _ (names : List (List ℕ × Entry)) (signatures : List Signature) where
   abbrev pub CountedArrayFault : Bool → CType → ADeclarator → Option AnExp → ℕ → State → Fault → Type 0
   CountedArrayFault is_static t d e n s f =
       FirstOf (λ l. laid is_static d.at d.name (size_of t) (n * size_of t) s.area ≡ Ok l) (λ g. laid is_static d.at d.name (size_of t) (n * size_of t) s.area ≡ Err g)
-      (λ l. FirstOf (AreLaid e s.scope l.1) (LaidFault e s.scope l.1) (λ a. FilledFault l.0 (n * size_of t) t true d (array_entry (pointer_to t) (variable_of is_static l.0) (n * size_of t)) (with_area a s))) f
+      (λ l. FirstOf (AreLaid e s.scope l.1) (LaidFault e s.scope l.1) (λ a.
+      FilledFault l.0 (n * size_of t) t true d (array_entry (pointer_to t) (variable_of is_static l.0) (n * size_of t)) (with_area a s))) f
 
   -- an array: its length, which is no less than its initialiser's, and then the object
   abbrev pub IsArrayObject : Bool → CType → ADeclarator → Option AnExp → State → ℕ × State → Type 0
@@ -126,7 +127,8 @@ module _ (names : List (List ℕ × Entry)) (signatures : List Signature) where
   abbrev pub ArrayObjectFault : Bool → CType → ADeclarator → Option AnExp → State → Fault → Type 0
   ArrayObjectFault is_static t d e s f =
       FirstOf (IsCount e (init_in d.init) s.scope s.area) (CountFault e (init_in d.init) s.scope s.area)
-      (λ m. FirstOf (Without (nat_lt m.0 (given_count (init_in d.init))) (λ n. n ≡ m.0)) (Unless (nat_lt m.0 (given_count (init_in d.init))) d.at BadInit Never) (λ n. CountedArrayFault is_static t d e n (with_area m.1 s))) f
+      (λ m. FirstOf (Without (nat_lt m.0 (given_count (init_in d.init))) (λ n. n ≡ m.0)) (Unless (nat_lt m.0 (given_count (init_in d.init))) d.at BadInit Never)
+      (λ n. CountedArrayFault is_static t d e n (with_area m.1 s))) f
 
   abbrev pub IsObjectBy : Bool → CType → ADeclarator → Option (Option AnExp) → State → ℕ × State → Type 0
   IsObjectBy is_static t d None s r = IsPlainObject is_static t d s r
@@ -141,7 +143,8 @@ module _ (names : List (List ℕ × Entry)) (signatures : List Signature) where
   IsObject is_static spec d s r = Joint (IsForm d (written spec d.stars) s.scope) (λ ok. IsObjectBy is_static (written spec d.stars) d (brackets_in d.length) s) r
 
   abbrev pub ObjectFault : Bool → Spec → ADeclarator → State → Fault → Type 0
-  ObjectFault is_static spec d s f = FirstOf (IsForm d (written spec d.stars) s.scope) (FormFault d (written spec d.stars) s.scope) (λ ok. ObjectFaultBy is_static (written spec d.stars) d (brackets_in d.length) s) f
+  ObjectFault is_static spec d s f = FirstOf (IsForm d (written spec d.stars) s.scope) (FormFault d (written spec d.stars) s.scope)
+      (λ ok. ObjectFaultBy is_static (written spec d.stars) d (brackets_in d.length) s) f
 
   -- the value that an automatic local begins with is converted to its type; one without a value begins with zero
   abbrev pub IsBegun : CType → ℕ → Option AnInit → State → ADeclaration × State → Type 0
@@ -154,14 +157,17 @@ module _ (names : List (List ℕ × Entry)) (signatures : List Signature) where
   BegunFault t n None s f = ⊥
   BegunFault t n (Some (elements es comma)) s f = ⊥
   BegunFault t n (Some (value e)) s f =
-      FirstOf (IsTyped names signatures s.scope e s.area) (FirstFault names signatures s.scope e s.area) (λ x. FirstOf (With (fits t x.0) (λ y. y ≡ ConvertTo t x.0)) (Lacking (fits t x.0) (first e) BadType Never) (λ y. Never)) f
+      FirstOf (IsTyped names signatures s.scope e s.area) (FirstFault names signatures s.scope e s.area)
+      (λ x. FirstOf (With (fits t x.0) (λ y. y ≡ ConvertTo t x.0)) (Lacking (fits t x.0) (first e) BadType Never) (λ y. Never)) f
 
   -- an automatic local, whose name is in scope in its own initialiser
   abbrev pub IsAutomatic : Spec → ADeclarator → State → ADeclaration × State → Type 0
-  IsAutomatic spec d s r = Joint (IsAutomaticForm d (written spec d.stars) s.scope) (λ ok. IsBegun (written spec d.stars) (length s.locals) (init_in d.init) (with_local (written spec d.stars) d.name s)) r
+  IsAutomatic spec d s r = Joint (IsAutomaticForm d (written spec d.stars) s.scope)
+      (λ ok. IsBegun (written spec d.stars) (length s.locals) (init_in d.init) (with_local (written spec d.stars) d.name s)) r
 
   abbrev pub AutomaticFault : Spec → ADeclarator → State → Fault → Type 0
-  AutomaticFault spec d s f = FirstOf (IsAutomaticForm d (written spec d.stars) s.scope) (AutomaticFormFault d (written spec d.stars) s.scope) (λ ok. BegunFault (written spec d.stars) (length s.locals) (init_in d.init) (with_local (written spec d.stars) d.name s)) f
+  AutomaticFault spec d s f = FirstOf (IsAutomaticForm d (written spec d.stars) s.scope) (AutomaticFormFault d (written spec d.stars) s.scope)
+      (λ ok. BegunFault (written spec d.stars) (length s.locals) (init_in d.init) (with_local (written spec d.stars) d.name s)) f
 
   -- a declarator of a block, by its storage
   abbrev pub IsLocal : Storage → Spec → ADeclarator → State → ADeclaration × State → Type 0

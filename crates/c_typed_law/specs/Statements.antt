@@ -9,7 +9,8 @@ use Rattle.c_typed_operators.specs.Rules.{fits}
 use Rattle.c_typed_scope.specs.declared.entry.Entry.{Entry}
 use Rattle.c_typed_scope.specs.declared.entry.Signature.{Signature}
 use Rattle.c_phrases.specs.Phrases.{AnExp}
-use Rattle.c_phrases.specs.Units.{ALocal, local_item, statement_item, AStatement, block, empty, expression, break_off, continue_on, give_back, if_then, if_else, while_loop, do_loop, for_loop, SomeItems, no_items}
+use Rattle.c_phrases.specs.Units.{ALocal, local_item, statement_item, AStatement, block, empty, expression, break_off, continue_on, give_back, if_then, if_else, while_loop}
+use Rattle.c_phrases.specs.Units.{do_loop, for_loop, SomeItems, no_items}
 use Rattle.c_program.specs.Statements.{ADeclaration, AnAction, SomeActions, NoActions, MoreActions, DeclareOf, BlockOf, EvaluateOf, BreakOf, ContinueOf, ReturnOf, IfOf, IfElseOf, WhileOf, DoOf, ForOf}
 use Rattle.c_typed_expressions.specs.Phrases.{first}
 use Rattle.c_typed_expressions.specs.Relations.{Joint, FirstOf, IsTyped, FirstFault}
@@ -67,7 +68,8 @@ module _ (names : List (List ℕ × Entry)) (signatures : List Signature) (resul
 
   abbrev pub ReturnFault : Option AnExp → State → Fault → Type 0
   ReturnFault None s f = ⊥
-  ReturnFault (Some e) s f = FirstOf (IsFull names signatures e s) (FullFault names signatures e s) (λ x. FirstOf (With (fits result_type x.0) (λ y. y ≡ ConvertTo result_type x.0)) (Lacking (fits result_type x.0) (first e) BadType Never) (λ y. Never)) f
+  ReturnFault (Some e) s f = FirstOf (IsFull names signatures e s) (FullFault names signatures e s)
+      (λ x. FirstOf (With (fits result_type x.0) (λ y. y ≡ ConvertTo result_type x.0)) (Lacking (fits result_type x.0) (first e) BadType Never) (λ y. Never)) f
 
   -- whether a loop is around: only there stand break and continue
   abbrev mutual
@@ -79,10 +81,12 @@ module _ (names : List (List ℕ × Entry)) (signatures : List Signature) (resul
     IsStatement looping (continue_on at) s r = With looping (λ u. u ≡ (ContinueOf, s)) r
     IsStatement looping (give_back at e) s r = IsReturn e s r
     IsStatement looping (if_then at o c a) s r = Joint (IsCondition names signatures c s) (λ x. Joint (IsStatement looping a x.1) (λ y u. u ≡ (IfOf x.0 y.0, y.1))) r
-    IsStatement looping (if_else at o c a other b) s r = Joint (IsCondition names signatures c s) (λ x. Joint (IsStatement looping a x.1) (λ y. Joint (IsStatement looping b y.1) (λ z u. u ≡ (IfElseOf x.0 y.0 z.0, z.1)))) r
+    IsStatement looping (if_else at o c a other b) s r = Joint (IsCondition names signatures c s)
+        (λ x. Joint (IsStatement looping a x.1) (λ y. Joint (IsStatement looping b y.1) (λ z u. u ≡ (IfElseOf x.0 y.0 z.0, z.1)))) r
     IsStatement looping (while_loop at o c a) s r = Joint (IsCondition names signatures c s) (λ x. Joint (IsStatement true a x.1) (λ y u. u ≡ (WhileOf x.0 y.0, y.1))) r
     IsStatement looping (do_loop at a again o c) s r = Joint (IsStatement true a s) (λ y. Joint (IsCondition names signatures c y.1) (λ x u. u ≡ (DoOf y.0 x.0, x.1))) r
-    IsStatement looping (for_loop at o i c e a) s r = Joint (IsPart names signatures i s) (λ x. Joint (IsTurn names signatures c x.1) (λ y. Joint (IsPart names signatures e y.1) (λ z. Joint (IsStatement true a z.1) (λ w u. u ≡ (ForOf x.0 y.0 z.0 w.0, w.1))))) r
+    IsStatement looping (for_loop at o i c e a) s r = Joint (IsPart names signatures i s)
+        (λ x. Joint (IsTurn names signatures c x.1) (λ y. Joint (IsPart names signatures e y.1) (λ z. Joint (IsStatement true a z.1) (λ w u. u ≡ (ForOf x.0 y.0 z.0 w.0, w.1))))) r
 
     pub AreItems : Bool → SomeItems → State → SomeActions × State → Type 0
     AreItems looping no_items s r = r ≡ (NoActions, s)
@@ -97,13 +101,21 @@ module _ (names : List (List ℕ × Entry)) (signatures : List Signature) (resul
     StatementFault looping (break_off at) s f = Lacking looping at BadJump Never f
     StatementFault looping (continue_on at) s f = Lacking looping at BadJump Never f
     StatementFault looping (give_back at e) s f = ReturnFault e s f
-    StatementFault looping (if_then at o c a) s f = FirstOf (IsCondition names signatures c s) (ConditionFault names signatures c s) (λ x. FirstOf (IsStatement looping a x.1) (StatementFault looping a x.1) (λ y. Never)) f
-    StatementFault looping (if_else at o c a other b) s f = FirstOf (IsCondition names signatures c s) (ConditionFault names signatures c s) (λ x. FirstOf (IsStatement looping a x.1) (StatementFault looping a x.1) (λ y. FirstOf (IsStatement looping b y.1) (StatementFault looping b y.1) (λ z. Never))) f
-    StatementFault looping (while_loop at o c a) s f = FirstOf (IsCondition names signatures c s) (ConditionFault names signatures c s) (λ x. FirstOf (IsStatement true a x.1) (StatementFault true a x.1) (λ y. Never)) f
-    StatementFault looping (do_loop at a again o c) s f = FirstOf (IsStatement true a s) (StatementFault true a s) (λ y. FirstOf (IsCondition names signatures c y.1) (ConditionFault names signatures c y.1) (λ x. Never)) f
-    StatementFault looping (for_loop at o i c e a) s f = FirstOf (IsPart names signatures i s) (PartFault names signatures i s) (λ x. FirstOf (IsTurn names signatures c x.1) (TurnFault names signatures c x.1) (λ y. FirstOf (IsPart names signatures e y.1) (PartFault names signatures e y.1) (λ z. FirstOf (IsStatement true a z.1) (StatementFault true a z.1) (λ w. Never)))) f
+    StatementFault looping (if_then at o c a) s f = FirstOf (IsCondition names signatures c s) (ConditionFault names signatures c s)
+        (λ x. FirstOf (IsStatement looping a x.1) (StatementFault looping a x.1) (λ y. Never)) f
+    StatementFault looping (if_else at o c a other b) s f = FirstOf (IsCondition names signatures c s) (ConditionFault names signatures c s)
+        (λ x. FirstOf (IsStatement looping a x.1) (StatementFault looping a x.1) (λ y. FirstOf (IsStatement looping b y.1) (StatementFault looping b y.1) (λ z. Never))) f
+    StatementFault looping (while_loop at o c a) s f = FirstOf (IsCondition names signatures c s) (ConditionFault names signatures c s)
+        (λ x. FirstOf (IsStatement true a x.1) (StatementFault true a x.1) (λ y. Never)) f
+    StatementFault looping (do_loop at a again o c) s f = FirstOf (IsStatement true a s) (StatementFault true a s)
+        (λ y. FirstOf (IsCondition names signatures c y.1) (ConditionFault names signatures c y.1) (λ x. Never)) f
+    StatementFault looping (for_loop at o i c e a) s f = FirstOf (IsPart names signatures i s) (PartFault names signatures i s)
+        (λ x. FirstOf (IsTurn names signatures c x.1) (TurnFault names signatures c x.1)
+        (λ y. FirstOf (IsPart names signatures e y.1) (PartFault names signatures e y.1) (λ z. FirstOf (IsStatement true a z.1) (StatementFault true a z.1) (λ w. Never)))) f
 
     pub ItemsFault : Bool → SomeItems → State → Fault → Type 0
     ItemsFault looping no_items s f = ⊥
-    ItemsFault looping (local_item l rest) s f = FirstOf (IsDeclared names signatures l s) (DeclaredFault names signatures l s) (λ x. FirstOf (AreItems looping rest x.1) (ItemsFault looping rest x.1) (λ y. Never)) f
-    ItemsFault looping (statement_item a rest) s f = FirstOf (IsStatement looping a s) (StatementFault looping a s) (λ x. FirstOf (AreItems looping rest x.1) (ItemsFault looping rest x.1) (λ y. Never)) f
+    ItemsFault looping (local_item l rest) s f = FirstOf (IsDeclared names signatures l s) (DeclaredFault names signatures l s)
+        (λ x. FirstOf (AreItems looping rest x.1) (ItemsFault looping rest x.1) (λ y. Never)) f
+    ItemsFault looping (statement_item a rest) s f = FirstOf (IsStatement looping a s) (StatementFault looping a s)
+        (λ x. FirstOf (AreItems looping rest x.1) (ItemsFault looping rest x.1) (λ y. Never)) f

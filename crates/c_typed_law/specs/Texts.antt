@@ -19,7 +19,8 @@ use Rattle.c_typed_expressions.specs.Phrases.{params_in, brackets_in}
 use Rattle.c_typed_expressions.specs.Expressions.{integer_of, written}
 use Rattle.c_typed_expressions.specs.Relations.{Joint, FirstOf, Unless}
 use Rattle.c_typed_definition.specs.Declarations.{State, with_area}
-use Rattle.c_typed_definition.specs.Texts.{parameter_type, signature_of, known, Text, with_state, same_signature, is_below, word_of, with_parameter, with_declared, body_of, with_body, entered_function, left_function, main_of, empty_text}
+use Rattle.c_typed_definition.specs.Texts.{parameter_type, signature_of, known, Text, with_state, same_signature, is_below, word_of, with_parameter, with_declared, body_of}
+use Rattle.c_typed_definition.specs.Texts.{with_body, entered_function, left_function, main_of, empty_text}
 use Rattle.c_typed_law.specs.Tests.{With, Without, Lacking, Never, IsFault}
 use Rattle.c_typed_law.specs.Values.{IsLength, LengthFault}
 use Rattle.c_typed_law.specs.Objects.{IsObject, ObjectFault}
@@ -109,7 +110,8 @@ module _ (names : List (List ℕ × Entry)) (signatures : List Signature) where
 
   abbrev pub ParameterFault : Bool → ℕ → AParam → State → Fault → Type 0
   ParameterFault defines at p s f =
-      FirstOf (IsParameterForm p.name defines p s.scope) (ParameterFormFault p.name defines at p s.scope) (λ ok. FirstOf (IsParameterLength (brackets_in p.length) s.scope s.area) (ParameterLengthFault (brackets_in p.length) s.scope s.area) (λ a. Never)) f
+      FirstOf (IsParameterForm p.name defines p s.scope) (ParameterFormFault p.name defines at p s.scope)
+      (λ ok. FirstOf (IsParameterLength (brackets_in p.length) s.scope s.area) (ParameterLengthFault (brackets_in p.length) s.scope s.area) (λ a. Never)) f
 
   -- the parameters from left to right, from number n on
   abbrev pub AreParameters : Bool → List AParam → ℕ → State → State → Type 0
@@ -153,7 +155,8 @@ module _ (names : List (List ℕ × Entry)) (signatures : List Signature) where
   abbrev pub FunctionFault : Spec → AFunction → Text → Fault → Type 0
   FunctionFault spec f t g =
       FirstOf (IsEarlier (find t.state.scope.here f.name)) (EarlierFault (find t.state.scope.here f.name) f.at) (λ earlier.
-      FirstOf (IsHead (is_some f.body) (is_below (find names f.name) (length t.bodies + 2)) (integer_of spec) f.stars) (HeadFault (is_some f.body) (is_below (find names f.name) (length t.bodies + 2)) (integer_of spec) f.stars f.at) (λ ok.
+      FirstOf (IsHead (is_some f.body) (is_below (find names f.name) (length t.bodies + 2)) (integer_of spec) f.stars)
+      (HeadFault (is_some f.body) (is_below (find names f.name) (length t.bodies + 2)) (integer_of spec) f.stars f.at) (λ ok.
       IntroducedFault earlier spec f (with_declared earlier spec f t))) g
 
   -- the global variables of one declaration from left to right

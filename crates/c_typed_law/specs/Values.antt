@@ -61,14 +61,16 @@ module _ (names : List (List ℕ × Entry)) (signatures : List Signature) (scope
   IsLength e a r = Joint (IsTyped names signatures scope e a) (λ x. Joint (λ n. length_of x.0 ≡ Some n) (λ n u. u ≡ (n, x.1))) r
 
   abbrev pub LengthFault : AnExp → Area → Fault → Type 0
-  LengthFault e a f = FirstOf (IsTyped names signatures scope e a) (FirstFault names signatures scope e a) (λ x. FirstOf (λ n. length_of x.0 ≡ Some n) (NoRow (λ n. length_of x.0 ≡ Some n) (first e) BadConst) (λ n. Never)) f
+  LengthFault e a f = FirstOf (IsTyped names signatures scope e a) (FirstFault names signatures scope e a)
+      (λ x. FirstOf (λ n. length_of x.0 ≡ Some n) (NoRow (λ n. length_of x.0 ≡ Some n) (first e) BadConst) (λ n. Never)) f
 
   -- one value of an object, behind those that are written
   abbrev pub IsElement : CType → AnExp → Filled × Area → Filled × Area → Type 0
   IsElement t e s r = Joint (IsTyped names signatures scope e s.1) (λ x. Joint (IsWritten t x.0 x.1.objects s.0) (λ f u. u ≡ (f, x.1))) r
 
   abbrev pub ElementFault : CType → AnExp → Filled × Area → Fault → Type 0
-  ElementFault t e s f = FirstOf (IsTyped names signatures scope e s.1) (FirstFault names signatures scope e s.1) (λ x. FirstOf (IsWritten t x.0 x.1.objects s.0) (WrittenFault t (first e) x.0) (λ g. Never)) f
+  ElementFault t e s f = FirstOf (IsTyped names signatures scope e s.1) (FirstFault names signatures scope e s.1)
+      (λ x. FirstOf (IsWritten t x.0 x.1.objects s.0) (WrittenFault t (first e) x.0) (λ g. Never)) f
 
   -- the values of a list, from left to right
   abbrev pub AreElements : CType → SomeExps → Filled × Area → Filled × Area → Type 0

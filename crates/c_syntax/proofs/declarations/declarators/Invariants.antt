@@ -6,7 +6,8 @@ use Rattle.c_syntax.specs.Stands.{DeclaratorsSoFar, MoreLeads}
 use Rattle.c_syntax.proofs.declarations.declarators.Given as goal
 
 abbrev pub invariant-loop-last : goal.invariant-loop-last
-invariant-loop-last l = DeclaratorsSoFar l.fn.level (onto_declarator (declarator_of l.fn.first) (seen l.fn.tokens)) (declarators_of l.list.items) (seen l.rest) × MoreLeads l.fn.level (seen l.fn.tokens) (seen l.rest)
+invariant-loop-last l = DeclaratorsSoFar l.fn.level (onto_declarator (declarator_of l.fn.first) (seen l.fn.tokens)) (declarators_of l.list.items) (seen l.rest)
+    × MoreLeads l.fn.level (seen l.fn.tokens) (seen l.rest)
 
 abbrev pub decreases-loop-last : goal.decreases-loop-last
 decreases-loop-last l = length (seen l.rest)

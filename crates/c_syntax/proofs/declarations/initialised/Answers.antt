@@ -13,4 +13,5 @@ returns-in_err-with-clause-fails c =
     rw (p.1, p.2) (initialised_err c.args.level c.in-Some.at (seen c.args.tokens.now) (seen c.in-Some.after.now) c.in_err-with.field-0.0 c.in-Some.ensures.found c.in_err-with.ensures.fails)
 
 pub returns-clause-leads : goal.returns-clause-leads
-returns-clause-leads c = initialised_some c.args.level c.in-Some.at (seen c.args.tokens.now) (seen c.in-Some.after.now) (seen c.in_ok-with.rest.now) (init_of c.in_ok-with.with) c.in-Some.ensures.found c.in_ok-with.ensures.leads
+returns-clause-leads c = initialised_some c.args.level c.in-Some.at (seen c.args.tokens.now) (seen c.in-Some.after.now) (seen c.in_ok-with.rest.now) (init_of c.in_ok-with.with)
+    c.in-Some.ensures.found c.in_ok-with.ensures.leads

@@ -12,10 +12,13 @@ returns-in_err-value-clause-fails c =
     rw (p.1, p.2) (init_value_err c.args.level (seen c.args.tokens.now) c.in_err-value.field-0.0 c.in_default.ensures.none c.in_err-value.ensures.fails)
 
 pub returns-in_default-clause-leads : goal.returns-in_default-clause-leads
-returns-in_default-clause-leads c = init_value c.args.level c.in_ok-value.field-0-2 (seen c.args.tokens.now) (seen c.in_ok-value.rest.now) (exp c.in_ok-value.value) c.in_default.ensures.none c.in_ok-value.ensures.read
+returns-in_default-clause-leads c = rw c.into_inner.ensures (init_value c.args.level c.in_ok-value.field-0-2 (seen c.args.tokens.now) (seen c.in_ok-value.rest.now)
+    (exp c.in_ok-value.value.value) c.in_default.ensures.none c.in_ok-value.ensures.read)
 
 pub returns-clause-fails : goal.returns-clause-fails
-returns-clause-fails c = err_map c.elements.result _ _ (λ f h. init_elements_err c.args.level c.in_ok-up.up (seen c.args.tokens.now) (seen c.in-Some.inner.now) f c.in-Some.ensures.found c.in_ok-up.ensures.opened h) c.elements.ensures.fails
+returns-clause-fails c = err_map c.elements.result _ _ (λ f h. init_elements_err c.args.level c.in_ok-up.up (seen c.args.tokens.now) (seen c.in-Some.inner.now) f c.in-Some.ensures.found
+    c.in_ok-up.ensures.opened h) c.elements.ensures.fails
 
 pub returns-clause-leads : goal.returns-clause-leads
-returns-clause-leads c = ok_map c.elements.result _ _ (λ x h. init_elements c.args.level c.in_ok-up.up (seen c.args.tokens.now) (seen c.in-Some.inner.now) (seen x.1.now) (init_of x.0) c.requires c.in-Some.ensures.found c.in_ok-up.ensures.opened h) c.elements.ensures.read
+returns-clause-leads c = ok_map c.elements.result _ _ (λ x h. init_elements c.args.level c.in_ok-up.up (seen c.args.tokens.now) (seen c.in-Some.inner.now) (seen x.1.now) (init_of x.0)
+    c.requires c.in-Some.ensures.found c.in_ok-up.ensures.opened h) c.elements.ensures.read

@@ -11,7 +11,9 @@ returns-in_err-operand-clause-fails c =
     rw (p.1, p.2) (cond_err c.args.level (seen c.args.tokens.now) c.in_err-operand.field-0.0 c.in_err-operand.ensures.fails)
 
 pub returns-clause-fails : goal.returns-clause-fails
-returns-clause-fails c = err_map c.conditional.result _ _ (λ f h. cond_tail c.args.level c.in_ok-operand.now (seen c.args.tokens.now) (seen c.in_ok-operand.rest.now) (exp c.in_ok-operand.operand) f c.in_ok-operand.ensures.read h) c.conditional.ensures.fails
+returns-clause-fails c = err_map c.conditional.result _ _ (λ f h. cond_tail c.args.level c.in_ok-operand.now (seen c.args.tokens.now) (seen c.in_ok-operand.rest.now)
+    (exp c.in_ok-operand.operand.value) f c.in_ok-operand.ensures.read h) c.conditional.ensures.fails
 
 pub returns-clause-leads : goal.returns-clause-leads
-returns-clause-leads c = ok_map c.conditional.result _ _ (λ x h. cond_leads_on c.args.level c.in_ok-operand.now x.2 (seen c.args.tokens.now) (seen c.in_ok-operand.rest.now) (seen x.1.now) (exp c.in_ok-operand.operand) c.in_ok-operand.ensures.read h) c.conditional.ensures.leads
+returns-clause-leads c = ok_map c.conditional.result _ _ (λ x h. cond_leads_on c.args.level c.in_ok-operand.now x.2 (seen c.args.tokens.now) (seen c.in_ok-operand.rest.now) (seen x.1.now)
+    (exp c.in_ok-operand.operand.value) c.in_ok-operand.ensures.read h) c.conditional.ensures.leads

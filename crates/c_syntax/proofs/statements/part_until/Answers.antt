@@ -12,4 +12,5 @@ returns-in_err-value-clause-fails c =
 pub returns-in_err-rest-clause-fails : goal.returns-in_err-rest-clause-fails
 returns-in_err-rest-clause-fails c =
     let p = err_from_is_err_and c.from_residual-in_err-rest.result c.from_residual-in_err-rest.ensures.1 in
-    rw (p.1, p.2) (part_end c.args.end c.args.level c.in_ok-value.field-0-2 (seen c.args.tokens.now) (seen c.in_ok-value.rest.now) (exp c.in_ok-value.value) c.in_err-rest.field-0.0 c.in_default.ensures.none c.in_ok-value.ensures.read c.in_err-rest.ensures.other)
+    rw (p.1, p.2) (part_end c.args.end c.args.level c.in_ok-value.field-0-2 (seen c.args.tokens.now) (seen c.in_ok-value.rest.now) (exp c.in_ok-value.value.value) c.in_err-rest.field-0.0
+    c.in_default.ensures.none c.in_ok-value.ensures.read c.in_err-rest.ensures.other)

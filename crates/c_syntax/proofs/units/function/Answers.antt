@@ -12,4 +12,5 @@ returns-in_err-params-clause-fails c =
 pub returns-in_err-body-clause-fails : goal.returns-in_err-body-clause-fails
 returns-in_err-body-clause-fails c =
     let p = err_from_is_err_and c.from_residual-in_err-body.result c.from_residual-in_err-body.ensures.1 in
-    rw (p.1, p.2) (function_body_err c.args.stars c.args.name c.args.at c.args.bracket (seen c.args.tokens.now) (seen c.in_ok-params.rest.now) (params_of c.in_ok-params.params) c.in_err-body.field-0.0 c.in_ok-params.ensures.read c.in_err-body.ensures.fails)
+    rw (p.1, p.2) (function_body_err c.args.stars c.args.name c.args.at c.args.bracket (seen c.args.tokens.now) (seen c.in_ok-params.rest.now) (params_of c.in_ok-params.params)
+    c.in_err-body.field-0.0 c.in_ok-params.ensures.read c.in_err-body.ensures.fails)

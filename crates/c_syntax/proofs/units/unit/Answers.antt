@@ -13,15 +13,23 @@ pub loop-end-smaller : goal.loop-end-smaller
 loop-end-smaller c = external_shorter (seen c.loop-end.rest.now) (external_of c.in_ok-next.next) (seen c.in_ok-next.behind.now) c.in_ok-next.ensures.read
 
 pub loop-end-preserved : goal.loop-end-preserved
-loop-end-preserved c = (rw (c.in_ok-push.ensures.items, externals_push c.loop-end.externals.items c.in_ok-next.next) (externals_more (seen c.args.tokens.now) (seen c.loop-end.rest.now) (seen c.in_ok-next.behind.now) (externals_of c.loop-end.externals.items) (external_of c.in_ok-next.next) c.loop-end.invariant.0 c.in_ok-next.ensures.read), whole_more (seen c.args.tokens.now) (seen c.loop-end.rest.now) (seen c.in_ok-next.behind.now) (external_of c.in_ok-next.next) c.loop-end.invariant.1 c.in_default.ensures.none c.in_ok-next.ensures.read)
+loop-end-preserved c = (
+  rw (c.in_ok-push.ensures.items, externals_push c.loop-end.externals.items c.in_ok-next.next)
+      (externals_more (seen c.args.tokens.now) (seen c.loop-end.rest.now) (seen c.in_ok-next.behind.now) (externals_of c.loop-end.externals.items) (external_of c.in_ok-next.next)
+      c.loop-end.invariant.0 c.in_ok-next.ensures.read),
+  whole_more (seen c.args.tokens.now) (seen c.loop-end.rest.now) (seen c.in_ok-next.behind.now) (external_of c.in_ok-next.next)
+      c.loop-end.invariant.1 c.in_default.ensures.none c.in_ok-next.ensures.read,
+)
 
 pub returns-in-Some-clause-read : goal.returns-in-Some-clause-read
-returns-in-Some-clause-read c = unit_ends (seen c.args.tokens.now) (seen c.loop-end.rest.now) (seen c.in-Some.behind.now) (externals_of c.loop-end.externals.items) c.in-Some.end c.loop-end.invariant.0 c.in-Some.ensures.found c.in_ok-nothing_behind.ensures.nothing
+returns-in-Some-clause-read c = unit_ends (seen c.args.tokens.now) (seen c.loop-end.rest.now) (seen c.in-Some.behind.now) (externals_of c.loop-end.externals.items) c.in-Some.end
+    c.loop-end.invariant.0 c.in-Some.ensures.found c.in_ok-nothing_behind.ensures.nothing
 
 pub returns-in_err-nothing_behind-clause-fails : goal.returns-in_err-nothing_behind-clause-fails
 returns-in_err-nothing_behind-clause-fails c =
     let p = err_from_is_err_and c.from_residual.result c.from_residual.ensures.1 in
-    rw (p.1, p.2) (after_end (seen c.args.tokens.now) (seen c.loop-end.rest.now) (seen c.in-Some.behind.now) c.in-Some.end c.in_err-nothing_behind.field-0.0 c.loop-end.invariant.1 c.in-Some.ensures.found c.in_err-nothing_behind.ensures.other)
+    rw (p.1, p.2) (after_end (seen c.args.tokens.now) (seen c.loop-end.rest.now) (seen c.in-Some.behind.now) c.in-Some.end c.in_err-nothing_behind.field-0.0 c.loop-end.invariant.1
+    c.in-Some.ensures.found c.in_err-nothing_behind.ensures.other)
 
 pub returns-in_err-next-clause-fails : goal.returns-in_err-next-clause-fails
 returns-in_err-next-clause-fails c =

@@ -5,4 +5,5 @@ use Rattle.c_typed_definition.specs.Texts.{type_externals}
 use Rattle.c_typed_check.proofs.program.externals.Given as goal
 
 abbrev pub invariant-loop-e : goal.invariant-loop-e
-invariant-loop-e l = type_externals l.functions.names l.functions.signatures.items (externals_of (drop l.e-index l.es)) (text l.builder) ≡ type_externals l.functions.names l.functions.signatures.items (externals_of l.es) (text l.fn.builder)
+invariant-loop-e l = type_externals l.functions.names l.functions.signatures.items (externals_of (drop l.e-index l.es)) (text l.builder)
+    ≡ type_externals l.functions.names l.functions.signatures.items (externals_of l.es) (text l.fn.builder)

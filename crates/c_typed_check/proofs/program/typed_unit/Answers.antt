@@ -11,12 +11,15 @@ pub returns-in_err-externals : goal.returns-in_err-externals
 returns-in_err-externals c = record {
   computed =
       let p = err_from_is_err_and c.from_residual-in_err-externals.result c.from_residual-in_err-externals.ensures.1 in
-      rw (p.1, p.2) (whole_fails c.args.ast.now.externals.items c.deref.result.now c.deref-2.result.now c.args.ast.now.end (functions_of c.in_ok-functions.functions) (text c.in_ok-builder.builder) c.deref.ensures.value c.deref-2.ensures.value c.in_ok-functions.ensures c.in_ok-builder.ensures c.in_err-externals.field-0.0 c.in_err-externals.ensures);
+      rw (p.1, p.2) (whole_fails c.args.ast.now.externals.items c.deref.result.now c.deref-2.result.now c.args.ast.now.end (functions_of c.in_ok-functions.functions)
+      (text c.in_ok-builder.builder) c.deref.ensures.value c.deref-2.ensures.value c.in_ok-functions.ensures c.in_ok-builder.ensures c.in_err-externals.field-0.0 c.in_err-externals.ensures);
 }
 
 pub returns-in-None : goal.returns-in-None
 returns-in-None c = record {
-  computed = whole_lacks c.args.ast.now.externals.items c.deref.result.now c.deref-2.result.now c.args.ast.now.end (functions_of c.in_ok-functions.functions) (text c.in_ok-builder.builder) c.deref.ensures.value c.deref-2.ensures.value c.in_ok-functions.ensures c.in_ok-builder.ensures (text c.externals.new.builder) c.externals.new.builder.routines.items c.deref-3.result.now c.in_ok-externals.ensures c.in-None.ensures c.deref-3.ensures.value refl;
+  computed = whole_lacks c.args.ast.now.externals.items c.deref.result.now c.deref-2.result.now c.args.ast.now.end (functions_of c.in_ok-functions.functions) (text c.in_ok-builder.builder)
+      c.deref.ensures.value c.deref-2.ensures.value c.in_ok-functions.ensures c.in_ok-builder.ensures (text c.externals.new.builder) c.externals.new.builder.routines.items
+      c.deref-3.result.now c.in_ok-externals.ensures c.in-None.ensures c.deref-3.ensures.value refl;
 }
 
 pub invariant_of-result : goal.invariant_of-result
@@ -24,11 +27,16 @@ invariant_of-result c = record {
   is_typed = ∣ record {
     unit = unit_of c.args.ast.now;
     tokens = c.requires;
-    typed = (text_means (unit_of c.args.ast.now).externals (unit_of c.args.ast.now).end).found _ (whole_runs c.args.ast.now.externals.items c.deref.result.now c.deref-2.result.now c.args.ast.now.end (functions_of c.in_ok-functions.functions) (text c.in_ok-builder.builder) c.deref.ensures.value c.deref-2.ensures.value c.in_ok-functions.ensures c.in_ok-builder.ensures (text c.externals.new.builder) c.in-Some.main c.from_vec.result c.externals.new.builder.routines.items c.deref-3.result.now c.in_ok-externals.ensures c.in-Some.ensures c.deref-3.ensures.value refl c.from_vec.ensures);
+    typed = (text_means (unit_of c.args.ast.now).externals (unit_of c.args.ast.now).end).found _
+        (whole_runs c.args.ast.now.externals.items c.deref.result.now c.deref-2.result.now c.args.ast.now.end (functions_of c.in_ok-functions.functions) (text c.in_ok-builder.builder)
+        c.deref.ensures.value c.deref-2.ensures.value c.in_ok-functions.ensures c.in_ok-builder.ensures (text c.externals.new.builder) c.in-Some.main c.from_vec.result
+        c.externals.new.builder.routines.items c.deref-3.result.now c.in_ok-externals.ensures c.in-Some.ensures c.deref-3.ensures.value refl c.from_vec.ensures);
   } ∣₁;
 }
 
 pub returns : goal.returns
 returns c = record {
-  computed = whole_runs c.args.ast.now.externals.items c.deref.result.now c.deref-2.result.now c.args.ast.now.end (functions_of c.in_ok-functions.functions) (text c.in_ok-builder.builder) c.deref.ensures.value c.deref-2.ensures.value c.in_ok-functions.ensures c.in_ok-builder.ensures (text c.externals.new.builder) c.in-Some.main c.from_vec.result c.externals.new.builder.routines.items c.deref-3.result.now c.in_ok-externals.ensures c.in-Some.ensures c.deref-3.ensures.value refl c.from_vec.ensures;
+  computed = whole_runs c.args.ast.now.externals.items c.deref.result.now c.deref-2.result.now c.args.ast.now.end (functions_of c.in_ok-functions.functions) (text c.in_ok-builder.builder)
+      c.deref.ensures.value c.deref-2.ensures.value c.in_ok-functions.ensures c.in_ok-builder.ensures (text c.externals.new.builder) c.in-Some.main c.from_vec.result
+      c.externals.new.builder.routines.items c.deref-3.result.now c.in_ok-externals.ensures c.in-Some.ensures c.deref-3.ensures.value refl c.from_vec.ensures;
 }

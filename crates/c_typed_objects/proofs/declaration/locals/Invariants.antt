@@ -6,4 +6,5 @@ use Rattle.c_typed_definition.specs.Declarations.{type_locals}
 use Rattle.c_typed_objects.proofs.declaration.locals.Given as goal
 
 abbrev pub invariant-loop-d : goal.invariant-loop-d
-invariant-loop-d l = type_locals l.functions.names l.functions.signatures.items l.storage l.spec (declarators_of (drop l.d-index l.ds)) (map declaration l.done.items) (state l.environment) ≡ type_locals l.functions.names l.functions.signatures.items l.storage l.spec (declarators_of l.ds) [] (state l.fn.environment)
+invariant-loop-d l = type_locals l.functions.names l.functions.signatures.items l.storage l.spec (declarators_of (drop l.d-index l.ds)) (map declaration l.done.items) (state l.environment)
+    ≡ type_locals l.functions.names l.functions.signatures.items l.storage l.spec (declarators_of l.ds) [] (state l.fn.environment)

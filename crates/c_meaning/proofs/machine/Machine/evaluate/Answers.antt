@@ -34,7 +34,8 @@ pub returns-in-Cast : goal.returns-in-Cast
 returns-in-Cast c = IfOk-weaker _ _ _ (λ event w. over w (rw (c.in-Cast.is, c.deref-in-Cast.ensures) refl) (rw (c.in-Cast.is, c.deref-in-Cast.ensures) (omega arith))) c.wait-in-Cast.ensures
 
 pub returns-in-Convert : goal.returns-in-Convert
-returns-in-Convert c = IfOk-weaker _ _ _ (λ event w. over w (rw (c.in-Convert.is, c.deref-in-Convert.ensures) refl) (rw (c.in-Convert.is, c.deref-in-Convert.ensures) (omega arith))) c.wait-in-Convert.ensures
+returns-in-Convert c = IfOk-weaker _ _ _ (λ event w. over w (rw (c.in-Convert.is, c.deref-in-Convert.ensures) refl) (rw (c.in-Convert.is, c.deref-in-Convert.ensures) (omega arith)))
+    c.wait-in-Convert.ensures
 
 pub returns-in-Arithmetic : goal.returns-in-Arithmetic
 returns-in-Arithmetic c = IfOk-weaker _ _ _ (λ event w. over w (rw (c.in-Arithmetic.is) refl) (rw (c.in-Arithmetic.is) (omega arith))) c.operands.ensures
@@ -43,7 +44,8 @@ pub returns-in-Compare : goal.returns-in-Compare
 returns-in-Compare c = IfOk-weaker _ _ _ (λ event w. over w (rw (c.in-Compare.is) refl) (rw (c.in-Compare.is) (omega arith))) c.operands-in-Compare.ensures
 
 pub returns-in-AndAnd : goal.returns-in-AndAnd
-returns-in-AndAnd c = IfOk-weaker _ _ _ (λ event w. over w (rw (c.in-AndAnd.is, c.deref-in-AndAnd.ensures) refl) (rw (c.in-AndAnd.is, c.deref-in-AndAnd.ensures) (omega arith))) c.wait-in-AndAnd.ensures
+returns-in-AndAnd c = IfOk-weaker _ _ _ (λ event w. over w (rw (c.in-AndAnd.is, c.deref-in-AndAnd.ensures) refl) (rw (c.in-AndAnd.is, c.deref-in-AndAnd.ensures) (omega arith)))
+    c.wait-in-AndAnd.ensures
 
 pub returns-in-OrOr : goal.returns-in-OrOr
 returns-in-OrOr c = IfOk-weaker _ _ _ (λ event w. over w (rw (c.in-OrOr.is, c.deref-in-OrOr.ensures) refl) (rw (c.in-OrOr.is, c.deref-in-OrOr.ensures) (omega arith))) c.wait-in-OrOr.ensures
@@ -61,7 +63,8 @@ pub returns-in-Distance : goal.returns-in-Distance
 returns-in-Distance c = IfOk-weaker _ _ _ (λ event w. over w (rw (c.in-Distance.is) refl) (rw (c.in-Distance.is) (omega arith))) c.operands-in-Distance.ensures
 
 pub returns-in-Choice : goal.returns-in-Choice
-returns-in-Choice c = IfOk-weaker _ _ _ (λ event w. over w (rw (c.in-Choice.is, c.deref-in-Choice.ensures) refl) (rw (c.in-Choice.is, c.deref-in-Choice.ensures) (omega arith))) c.wait-in-Choice.ensures
+returns-in-Choice c = IfOk-weaker _ _ _ (λ event w. over w (rw (c.in-Choice.is, c.deref-in-Choice.ensures) refl) (rw (c.in-Choice.is, c.deref-in-Choice.ensures) (omega arith)))
+    c.wait-in-Choice.ensures
 
 pub returns-in-Assign : goal.returns-in-Assign
 returns-in-Assign c = IfOk-weaker _ _ _ (λ event w. over w (rw (c.in-Assign.is) refl) (rw (c.in-Assign.is) (omega arith))) c.find-in-Assign.ensures

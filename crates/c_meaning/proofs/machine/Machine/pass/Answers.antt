@@ -11,4 +11,5 @@ returns-in-None c = let none : c.args.to.now ≡ [] = nil_from_length _ c.in-Non
 
 pub returns-in_ok-push-in-Some : goal.returns-in_ok-push-in-Some
 returns-in_ok-push-in-Some c = let more = c.in-Some.ensures.cases.0 in
-    IfOk-weaker c.argue.result _ _ (λ event w. passes c.args.self.now c.args.callee c.args.done.items _ c.convert.result c.args.value c.in-Some.first.now c.in-Some.to.now c.args.to.now (terms c.args.rest.now) more c.convert.ensures c.in_ok-push-in-Some.ensures.items w) c.argue.ensures
+    IfOk-weaker c.argue.result _ _ (λ event w. passes c.args.self.now c.args.callee c.args.done.items _ c.convert.result c.args.value c.in-Some.first.now c.in-Some.to.now c.args.to.now
+    (terms c.args.rest.now) more c.convert.ensures c.in_ok-push-in-Some.ensures.items w) c.argue.ensures

@@ -33,7 +33,9 @@ pub returns-in-Do : goal.returns-in-Do
 returns-in-Do c = IfOk-weaker _ _ _ (λ event w. over w (rw (c.in-Do.is) refl) (rw (c.in-Do.is) (omega arith))) c.turn.ensures
 
 pub returns-in-None : goal.returns-in-None
-returns-in-None c = IfOk-weaker _ _ _ (λ event w. over w (rw (c.in-For.is, c.in-None.is, c.part.ensures, c.part-in-For.ensures) refl) (rw (c.in-For.is, c.in-None.is, c.part.ensures) (omega arith))) c.look-in-None.ensures
+returns-in-None c = IfOk-weaker _ _ _ (λ event w. over w (rw (c.in-For.is, c.in-None.is, c.part.ensures, c.part-in-For.ensures) refl)
+    (rw (c.in-For.is, c.in-None.is, c.part.ensures) (omega arith))) c.look-in-None.ensures
 
 pub returns-in-Some : goal.returns-in-Some
-returns-in-Some c = IfOk-weaker _ _ _ (λ event w. over w (rw (c.in-For.is, c.in-Some.is, ← c.part.ensures, ← c.part-in-For.ensures) refl) (rw (c.in-For.is, c.in-Some.is, ← c.part.ensures) (omega arith))) c.wait-in-Some.ensures
+returns-in-Some c = IfOk-weaker _ _ _ (λ event w. over w (rw (c.in-For.is, c.in-Some.is, ← c.part.ensures, ← c.part-in-For.ensures) refl)
+    (rw (c.in-For.is, c.in-Some.is, ← c.part.ensures) (omega arith))) c.wait-in-Some.ensures

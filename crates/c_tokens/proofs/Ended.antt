@@ -3,9 +3,8 @@ use Rattle.std.proofs.Common.{◌≡◌, ℕ, List, [], ◌∷◌, ◌++◌, ref
 use Rattle.std.specs.Prelude.{Option, Some, None}
 use Rattle.c_tokens.specs.declared.token.Token.{Token}
 use Rattle.c_tokens.specs.declared.token.Spanned.{Spanned}
-use Rattle.c_tokens.specs.Grammar.{Tokens, ended, piece}
+use Rattle.c_tokens.specs.Grammar.{Tokens, ended, piece, IsEnded}
 use Rattle.c_tokens.specs.Reading.{spanned}
-use Rattle.c_syntax_goals.specs.Refusals.{IsEnded}
 
 still_ended : (t : Option Token) (at end : ℕ) (ts : List Spanned) → IsEnded ts → IsEnded (spanned t at end ++ ts)
 still_ended None at end ts h = h
