@@ -1,0 +1,9 @@
+pub mod Trees
+pub mod Parts
+pub mod Places
+pub mod Phrases
+pub mod Statements
+pub mod Whole
+pub mod Names
+pub mod Sources
+pub mod Locals

@@ -1,0 +1,36 @@
+-- Functions' labels.
+use Rattle.std.proofs.Common.{◌≡◌, ℕ, zero, suc, List, [], ◌∷◌, length, Some, refl, arith}
+use Rattle.std.specs.Prelude.{Bool, true, ◌&&◌, nat_le, slice_get}
+use Rattle.std.specs.List.{AllByRecursion, list_all}
+use Rattle.std.proofs.lemmas.Bool.{le-leb}
+use Rattle.std.proofs.lemmas.Bool.Decides.{nat_tests}
+use Rattle.tree_core.specs.declared.program.TreeFn.{TreeFn}
+use Rattle.c_tokens.specs.Letters.{in_word}
+use Rattle.c_tokens.specs.Grammar.{Pass}
+use Rattle.c_typed_words.specs.Words.{IsName}
+use Rattle.c_program.specs.Programs.{ARoutine}
+use Rattle.c_lower_scheme.specs.Programs.{body_of, lower_all}
+use Rattle.vax_core.specs.Valid.{is_name_part, is_name}
+use Rattle.vax_frames.specs.Frames.{function_label}
+use Rattle.c_lower_spelled.specs.Claims.{NamesAreSpelled}
+
+and_from : (a b : Bool) → a ≡ true → b ≡ true → a && b ≡ true
+and_from a b h g = cc
+
+letter_part : (b : ℕ) → in_word b ≡ true → is_name_part b ≡ true
+letter_part b h = grind (arith, nat_tests)
+
+letters_are_parts : (n : List ℕ) → Pass in_word n → list_all is_name_part n ≡ true
+letters_are_parts [] h = refl
+letters_are_parts (b ∷ n) h = and_from (is_name_part b) (list_all is_name_part n) (letter_part b h.0) (letters_are_parts n h.1)
+
+name_spelled : (n : List ℕ) → IsName n → is_name (function_label n) ≡ true
+name_spelled n h = and_from (nat_le (length n) 63) (list_all is_name_part n) (le-leb _ _ h.short) (letters_are_parts n h.letters)
+
+each_spelled : (count : ℕ) (gs : List ARoutine) (l : ℕ) → ((n : ℕ) (g : ARoutine) → slice_get gs n ≡ Some g → IsName g.name)
+    → AllByRecursion (λ (f : TreeFn). is_name (function_label f.name) ≡ true) (lower_all count gs l)
+each_spelled count [] l h = tt
+each_spelled count (g ∷ gs) l h = (name_spelled g.name (h zero g refl), each_spelled count gs (body_of count g l).labels (λ n x e. h (suc n) x e))
+
+pub names_are_spelled : NamesAreSpelled
+names_are_spelled p h = each_spelled (length p.routines) p.routines 0 h
