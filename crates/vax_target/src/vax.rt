@@ -7,7 +7,7 @@ use crate::word::word_of;
 use bitflags::Flags;
 use gg_base::NoMemory;
 use md_reader::{Class, Kind, Line, Rule};
-use sel_target::{Attr, TargetFault, Templates};
+use sel_target::{Attr, Target, TargetFault, Templates};
 use sel_terms::Effect;
 use std::alloc::Global;
 use std::marker::Model;
@@ -113,4 +113,10 @@ impl Templates for Vax {
     fn same(&self, a: &Operand, b: &Operand) -> bool {
         a.same(b)
     }
+}
+
+impl Target for Vax {
+    ghost use Rattle.vax_target_laws.proofs.Lawful.{vax_is_lawful};
+
+    ghost lawful = { vax_is_lawful };
 }

@@ -20,7 +20,7 @@ or_more true false c e = cc
 or_more false b c e = cc
 
 -- an instruction of the machine is one to whatever label it goes
-written : (i : Instr) → core.is_instr i ≡ true → is_instr i ≡ true
+pub written : (i : Instr) → core.is_instr i ≡ true → is_instr i ≡ true
 written i e = or_more (are_operands (shape i.op).operands i.operands) (is_target (shape i.op).target i.target) ((shape i.op).target && goes_to_label i.target) e
 
 pub target_saves : SavesAndReloads vax

@@ -33,7 +33,7 @@ use Rattle.vax_templates.specs.Settings.{hole_of_token, hole_of_kind, hole_of, h
 use Rattle.vax_templates.specs.Filled.{alone, spare, numbered, label_of, object_addr, addr_of_att, addr_number, word_operand, slot_operand, slot_deferred, leaf_operand, leaf_deferred, operand_in, deferred_in, addr_in}
 use Rattle.vax_target_meaning.specs.Fitting.{steps, is_steady, is_place, fits, CanWrite}
 use Rattle.vax_target_meaning.specs.Vax.{vax}
-use Rattle.vax_target_writing.specs.Spelled.{IsSpelled, TokenIsSpelled, AreSpelled}
+use Rattle.sel_target.specs.Spelled.{IsSpelled, TokenIsSpelled, AreSpelled}
 use Rattle.vax_target_writing.proofs.Operands.{IsReadable, IsMemory, IsPlain, IsNumber, IsObject, IsLocal, Spells, AllSpell, OwnSpells, both_true}
 
 -- ---- tests

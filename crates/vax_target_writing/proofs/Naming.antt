@@ -37,7 +37,7 @@ use Rattle.vax_core.specs.Valid.{is_name, is_name_part}
 use Rattle.vax_templates.specs.FilledLines.{label_in, label_of_att, first_of, label_among, label_name, callee_in, callee_of_att, first_callee, callee_among, function_name}
 use Rattle.vax_target_meaning.specs.Fitting.{CanWrite}
 use Rattle.vax_target_meaning.specs.Vax.{vax}
-use Rattle.vax_target_writing.specs.Spelled.{IsSpelled, TokenIsSpelled, AreSpelled}
+use Rattle.sel_target.specs.Spelled.{IsSpelled, TokenIsSpelled, AreSpelled}
 use Rattle.vax_target_writing.proofs.Lines.{is_label_piece, is_count_piece}
 use Rattle.vax_target_writing.proofs.Operands.{both_true}
 use Rattle.vax_target_writing.proofs.Written.{CanGo, CanCall, Names}

@@ -22,7 +22,7 @@ use Rattle.vax_core.specs.Valid.{is_instr}
 use Rattle.vax_core.specs.Homes.{home, at_home}
 use Rattle.vax_target_meaning.specs.Fitting.{fits, CanWrite}
 use Rattle.vax_target_meaning.specs.Vax.{vax}
-use Rattle.vax_target_writing.specs.Spelled.{AreSpelled}
+use Rattle.sel_target.specs.Spelled.{AreSpelled}
 
 abbrev pub IsValid : Instr → Type 0
 IsValid i = is_instr i ≡ true

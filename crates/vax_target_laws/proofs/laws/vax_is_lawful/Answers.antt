@@ -1,0 +1,5 @@
+use Rattle.vax_target_laws.proofs.Lawful.{vax_is_lawful}
+use Rattle.vax_target_laws.proofs.laws.vax_is_lawful.Goals as goal
+
+pub returns : goal.returns
+returns c = vax_is_lawful

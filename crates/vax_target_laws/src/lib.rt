@@ -1,0 +1,4 @@
+//! The VAX keeps the laws of a target.
+#![tactic(auto)]
+
+pub mod laws;
