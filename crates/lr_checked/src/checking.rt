@@ -52,6 +52,12 @@ impl Checked {
         &self.tables
     }
 
+    pub fn into_tables(self) -> Tables
+        ensures { result ≡ self }
+    {
+        self.tables
+    }
+
     /// How many tuples the work has found: a place, and symbols that may replace its subtree. The set of
     /// sums has no more.
     pub fn tuples(&self) -> usize

@@ -1,4 +1,4 @@
-// Why a description's rules are not shown.
+// Why the rules of a description are not shown.
 
 use gg_base::NoMemory;
 use sel_target::TemplateKind;

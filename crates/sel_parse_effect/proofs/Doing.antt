@@ -351,7 +351,7 @@ module _ {O I S F : Type 0} (of : Meaning O I S F) (law : IsLawful of) (stores :
         let w = att_at 1 (att.Callee function count) has (λ k. cc) in
         let tok_is = callee_tok w.leaf.tok function count (subst (λ a. is_of_kind (attribute_of w.leaf.tok) a ≡ true) w.att_is w.found.fits) in
         let named : NamedBy of q d first f fs t s m0 tok.Call (att.Callee function count) =
-        subst (λ x. NamedBy of q d first f fs t s m0 x (att.Callee function count)) tok_is (subst (NamedBy of q d first f fs t s m0 w.leaf.tok) w.att_is w.found.named) in
+        subst (λ x. NamedBy of q d first f fs t s m0 x (att.Callee function count)) tok_is (subst (NamedBy of q d first f fs t s m0 w.leaf.tok) w.att_is w.found.named.0) in
         subst (λ a. Act a (Calls function count)) (sym h) (att_later m' es' 1 (att.Callee function count) later.carried w, named.0, named.1)
 
     -- the symbol that a rule saves to is its Save
@@ -379,7 +379,7 @@ module _ {O I S F : Type 0} (of : Meaning O I S F) (law : IsLawful of) (stores :
         let index : w.index ≡ 0 = (let g = w.is in omega (arith, one, g)) in
         let tok_is : w.leaf.tok ≡ tok.Save = same_tok w.leaf.tok (sym w.found.there ∙ ap (slice_get rule.right) index ∙ saved_first i e) in
         let named : NamedBy of q d first f fs t s m0 tok.Save (att.Slot k) =
-        subst (λ x. NamedBy of q d first f fs t s m0 x (att.Slot k)) tok_is (subst (NamedBy of q d first f fs t s m0 w.leaf.tok) w.att_is w.found.named) in
+        subst (λ x. NamedBy of q d first f fs t s m0 x (att.Slot k)) tok_is (subst (NamedBy of q d first f fs t s m0 w.leaf.tok) w.att_is w.found.named.0) in
         subst (λ a. Act a (Saves k)) (sym h) (att_later m' es' i (att.Slot k) later.carried w, named.0)
       where
         same_tok : (x : Tok) → Some (symbol.Tok x) ≡ Some (symbol.Tok tok.Save) → x ≡ tok.Save

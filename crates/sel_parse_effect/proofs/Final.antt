@@ -312,7 +312,7 @@ module _ {O I S F : Type 0} (of : Meaning O I S F) (law : IsLawful of) (q : Tree
   all_there (tree l below behind) w h =
       let a = all_there below (leaves_onto behind w) h.1 in
       let b = all_there behind w a.1 in
-      ((is_there l.tok l.att h.0.0 h.0.1, a.0, b.0), b.1)
+      ((is_there l.tok l.att h.0.0 h.0.1.0, a.0, b.0), b.1)
 
   fits_all : (xs : List Sort) (g : Forest) (w : List Leaf) → Typed xs g → All (λ l. leaf_fits l ≡ true) w → All (λ l. leaf_fits l ≡ true) (leaves_onto g w)
   fits_all [] none w h k = k
@@ -326,7 +326,7 @@ module _ {O I S F : Type 0} (of : Meaning O I S F) (law : IsLawful of) (q : Tree
   both_all (l ∷ w) h k = ((h.0, k.0), both_all w h.1 k.1)
 
   with_end : (w : List Leaf) → All (Names of q d first f fs t (frame_sight of f t m) m) w → All (Names of q d first f fs t (frame_sight of f t m) m) (root w)
-  with_end [] h = (tt, tt)
+  with_end [] h = ((tt, tt), tt)
   with_end (l ∷ w) h = (h.0, with_end w h.1)
 
   there_grown : (w : List Leaf) → IsTyped (root w) sort.Stmt → All (Names of q d first f fs t (frame_sight of f t m) m) w → AllThere q.objects (frame_sight of f t m) (grown (root w))

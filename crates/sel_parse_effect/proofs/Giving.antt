@@ -36,6 +36,7 @@ use Rattle.sel_target.specs.declared.attr.Attr.TheVariants as attr
 use Rattle.sel_target.specs.Meaning.{Meaning, Extent, RegAt}
 use Rattle.sel_target.specs.Values.{View, term_state, value}
 use Rattle.sel_target.specs.Laws.{IsLawful}
+use Rattle.sel_target.specs.Spelled.{AreSpelled}
 use Rattle.sel_target.specs.Instances.{IsResult, Instance, lines_of}
 use Rattle.sel_target.specs.Outcomes.{Sets, Keeps}
 use Rattle.sel_target.specs.EffectTerms.{begins_with_save, DividesByNone}
@@ -53,7 +54,7 @@ use Rattle.sel_parse.specs.Shown.{IsShown}
 use Rattle.sel_parse_stands.proofs.Symbols.{equal_numbers}
 use Rattle.sel_parse_stands.proofs.Loaded.{AllLoaded}
 use Rattle.sel_parse_stands.proofs.Carrying.{AllCarried}
-use Rattle.sel_parse_stands.proofs.Instances.{Hold, view, stands_for, known, instance}
+use Rattle.sel_parse_stands.proofs.Instances.{Hold, view, stands_for, known, instance, spelled_now}
 use Rattle.sel_parse_effect.proofs.Effects.{safe_map, alike_effects, effect_reads, divides_none, value_alike, address_alike, place_alike}
 
 head_save : (s : Sym) (w : List Sym) → begins_with_save (s ∷ w) ≡ true → s ≡ symbol.Tok tok.Save
@@ -257,6 +258,9 @@ module _ {O I S F : Type 0} (of : Meaning O I S F) (law : IsLawful of) (q : Tree
         pub sense_is : v ≡ OfNumber number
         pub sets : Sets of (lines_of of q rule (attrs es') (attr.Reg r)) (RegAt r) q Long (attr.Reg r) number m'
 
+      spelled : AreSpelled q (attrs es')
+      spelled = spelled_now of law q d first f fs t s m0 frame m sees m' later.seen es' rule.right vs later.now
+
       -- the lines of a rule with a result leave what its pattern gives
       pub leaves : (r : ℕ) → kind_at d.classes rule.left ≡ Some kind.Reg → IsResult of rule.give (attrs es') (attr.Reg r) → Leaves r
       leaves r is result =
@@ -292,7 +296,7 @@ module _ {O I S F : Type 0} (of : Meaning O I S F) (law : IsLawful of) (q : Tree
           (subst (ActsAlike (facts_of d.classes rule) (λ i. is_some (V.symbol i)) s.area (term_state V) found.act) act_is alike.act) in
           let behind = quiet l mode in
           let reads = law.shapes.value_shape q f fs d.classes rule found val.term z l (attrs es') V m' given.inst mode is val.is in
-          let fits = law.spells.shape_fits q d.classes rule found (kind.Value z) l (attrs es') can is_rule shown.found_is mode is given.inst.holes_fit in
+          let fits = law.spells.shape_fits q d.classes rule found (kind.Value z) l (attrs es') can is_rule shown.found_is mode is given.inst.holes_fit spelled in
           let number = gives_number (term_state V) vs (wanted_term rule) v (subst (λ a. Gives q.objects s (term_state V) vs a v) act_is by.gives) in
           record {
             state = behind.0;
@@ -311,7 +315,7 @@ module _ {O I S F : Type 0} (of : Meaning O I S F) (law : IsLawful of) (q : Tree
           (subst (ActsAlike (facts_of d.classes rule) (λ i. is_some (V.symbol i)) s.area (term_state V) found.act) act_is alike.act) in
           let behind = quiet l mode in
           let names = law.shapes.address_shape q f fs d.classes rule found val.term Long l (attrs es') V m' given.inst mode is val.is in
-          let fits = law.spells.shape_fits q d.classes rule found kind.Ea l (attrs es') can is_rule shown.found_is mode is given.inst.holes_fit in
+          let fits = law.spells.shape_fits q d.classes rule found kind.Ea l (attrs es') can is_rule shown.found_is mode is given.inst.holes_fit spelled in
           let number = gives_address (term_state V) vs (wanted_term rule) v (subst (λ a. Gives q.objects s (term_state V) vs a v) act_is by.gives) in
           record {
             state = behind.0;
@@ -330,7 +334,7 @@ module _ {O I S F : Type 0} (of : Meaning O I S F) (law : IsLawful of) (q : Tree
           (subst (ActsAlike (facts_of d.classes rule) (λ i. is_some (V.symbol i)) s.area (term_state V) found.act) act_is alike.act) in
           let behind = quiet l mode in
           let names = law.shapes.place_shape q f fs d.classes rule found val.term z l (attrs es') V m' given.inst mode is val.is in
-          let fits = law.spells.shape_fits q d.classes rule found (kind.Place z) l (attrs es') can is_rule shown.found_is mode is given.inst.holes_fit in
+          let fits = law.spells.shape_fits q d.classes rule found (kind.Place z) l (attrs es') can is_rule shown.found_is mode is given.inst.holes_fit spelled in
           record {
             state = behind.0;
             ran = behind.1;

@@ -177,7 +177,7 @@ module _ {O I S F : Type 0} (of : Meaning O I S F) (law : IsLawful of) (q : Tree
   -- a symbol that stands for a place has an operand that does
   symbol_place : (m : S) (x : Sym) (k : Option Kind) (a : Attr O) (v : Sense) (z : Size) (g : Place) → IsSymbol m x k a v
       → means q.objects s v ≡ g → IsPlace z g → Stood m z (own_operand of a) g × (size_of_entry k ≡ Some z)
-  symbol_place m x k a v z g (stands.token l fit named) e h = token_place m l.tok l.att z g named e h
+  symbol_place m x k a v z g (stands.token l fit named) e h = token_place m l.tok l.att z g named.0 e h
   symbol_place m x k a v z g (stands.class c a' v' is) e h = class_place m (kind_at d.classes c) a v z g is e h
 
   class_sized : (m : S) (c : ℕ) (k : Option Kind) (a : Attr O) (v : Sense) (z : Size) → ClassIs of q d first f fs t s m0 m k a v → size_of_entry k ≡ Some z

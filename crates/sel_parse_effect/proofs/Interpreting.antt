@@ -116,7 +116,7 @@ module _ {O I S F : Type 0} (of : Meaning O I S F) (law : IsLawful of) (stores :
       record {
         leaf = l;
         is = refl;
-        answered_is = slot_att l.att (subst (λ w. is_of_kind (attribute_of w) l.att ≡ true) same fit) (subst (λ w. NamedBy of q d first f fs t s m0 w l.att) same named);
+        answered_is = slot_att l.att (subst (λ w. is_of_kind (attribute_of w) l.att ≡ true) same fit) (subst (λ w. NamedBy of q d first f fs t s m0 w l.att) same named.0);
       }
   save_symbol m x k a v (stands.class c a' v' is) e = absurd (cc)
 

@@ -52,7 +52,7 @@ use Rattle.sel_parse_stands.specs.Stands as stands
 use Rattle.sel_parse_stands.specs.Stands.{NamedBy, ClassIs, SymbolIs, Sees, IsFrame, Holds}
 use Rattle.sel_parse_stands.proofs.Loaded.{IsLoaded, AllLoaded}
 use Rattle.sel_parse_stands.proofs.Carrying.{place_kept}
-use Rattle.sel_parse_stands.proofs.Instances.{Hold, known}
+use Rattle.sel_parse_stands.proofs.Instances.{Hold, known, spelled_now}
 use Rattle.sel_parse_effect.proofs.Effects.{home_alike, value_alike, number_alike}
 use Rattle.sel_parse_effect.proofs.Giving as giving
 use Rattle.sel_parse_effect.proofs.Giving.{V, Later, Shaped}
@@ -247,7 +247,8 @@ module _ {O I S F : Type 0} (of : Meaning O I S F) (law : IsLawful of) (q : Tree
         state = quiet_end.0;
         ran = quiet_end.1;
         is = subst (λ w. ClassIs of q d first f fs t s m0 quiet_end.0 (Some (kind.Place z)) (attr.Place (of.operand q l (attrs es'))) w) (sym sense)
-            (stands.place z (of.operand q l (attrs es')) g (law.spells.shape_fits q d.classes rule shown.found (kind.Place z) l (attrs es') can is_rule shown.found_is mode is inst.holes_fit)
+            (stands.place z (of.operand q l (attrs es')) g (law.spells.shape_fits q d.classes rule shown.found (kind.Place z) l (attrs es') can is_rule shown.found_is mode is inst.holes_fit
+            (spelled_now of law q d first f fs t s m0 frame m sees m' later.seen es' rule.right vs later.now))
             (place_kept of q d f t [] m' quiet_end.0 z (of.operand q l (attrs es')) g quiet_end.2 tt place));
         keeps = quiet_end.2;
       }
@@ -430,7 +431,7 @@ module _ {O I S F : Type 0} (of : Meaning O I S F) (law : IsLawful of) (q : Tree
   constant_symbol : (x : Sym) (k : Option Kind) (a : Attr O) (u : Sense) (y : Sym) → IsNumeric d.classes y → x ≡ y → SymbolIs of q d first f fs t s m0 m' x k a u → IsConstant a
   constant_symbol x k a u y (constant w c) e (stands.token b fit named) =
       let same : b.tok ≡ w = cc in
-      constant_token b.tok b.att named (subst (λ z. is_constant (Some (symbol.Tok z)) ≡ true) (sym same) c) fit
+      constant_token b.tok b.att named.0 (subst (λ z. is_constant (Some (symbol.Tok z)) ≡ true) (sym same) c) fit
   constant_symbol x k a u y (class c g) e (stands.token b fit named) = absurd (cc)
   constant_symbol x k a u y (constant w c) e (stands.class c' a' u' is) = absurd (cc)
   constant_symbol x k a u y (class c g) e (stands.class c' a' u' is) =

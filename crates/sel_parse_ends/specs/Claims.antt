@@ -38,5 +38,5 @@ module _ {O I S F : Type 0} (of : Meaning O I S F) where
   SelectionsEnd =
       (q : TreeProgram) (t : TableView) (first : ℕ) (w : List Leaf)
       → of.can_write q → IsTaken of t.content → IsNumbered t → NeverStops t.content
-      → IsTyped (root w) sort.Stmt → AllByRecursion (λ (l : Leaf). IsOwn first l.tok l.att) w
+      → IsTyped (root w) sort.Stmt → AllByRecursion (λ (l : Leaf). IsOwn q first l.tok l.att) w
       → first + (forks w + 1) ≤ 1024 → HasCode q t.content first w ⊎ IsStuck q t.content first w

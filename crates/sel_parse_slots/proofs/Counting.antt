@@ -24,7 +24,7 @@ use Rattle.sel_parse_selected.specs.Reductions.{loaded, reloaded_by, reloaded_at
 use Rattle.sel_parse_stands.proofs.Loaded.{IsLoaded}
 use Rattle.sel_parse_stands.proofs.Saving.{lowest_found}
 use Rattle.sel_parse_stands.proofs.Desks.{first_passes, last_passes}
-use Rattle.sel_parse_slots.proofs.Counts.{count, tick, tick_or, count_two, count_any, below_lowest, none_lowest, total, total_set, total_append, equal_same, unequal}
+use Rattle.sel_parse_slots.proofs.Counts.{count, tick, count_any, below_lowest, none_lowest, total, total_set, total_append, equal_same, unequal}
 use Rattle.sel_parse_slots.proofs.Fine as fine
 use Rattle.sel_parse_slots.proofs.Fine.{words, charge, weight, weight_charge, IsFine, fine_words, slot_word_one, fine_spilled}
 
@@ -104,16 +104,16 @@ sum (g ∷ gs) = g + sum gs
 
 module _ {O I S F : Type 0} (of : Meaning O I S F) (law : IsLawful of) (q : TreeProgram) (d : Content) (first : ℕ) where
   abbrev pub words_of : Entry O → ℕ
-  words_of e = words of law d first e.attr
+  words_of e = words of law q d first e.attr
 
   abbrev pub charge_of : Entry O → ℕ
-  charge_of e = charge of law d first e.attr
+  charge_of e = charge of law q d first e.attr
 
   abbrev pub weight_of : Entry O → ℕ
-  weight_of e = weight of law d first e.attr
+  weight_of e = weight of law q d first e.attr
 
   abbrev pub Fine : Sym → Attr O → Type 0
-  Fine s a = IsFine of law d first s a
+  Fine s a = IsFine of law q d first s a
 
   abbrev pub AllFine : List Sym → List (Entry O) → Type 0
   AllFine [] [] = Unit {0}
@@ -140,7 +140,7 @@ module _ {O I S F : Type 0} (of : Meaning O I S F) (law : IsLawful of) (q : Tree
   )
   within_set (x ∷ es) (g ∷ gs) (suc i) a b e le h = (h.0, within_set es gs i a b e le h.1)
 
-  fine_at : (ss : List Sym) (es : List (Entry O)) (i : ℕ) (e : Entry O) → AllFine ss es → slice_get es i ≡ Some e → (s : Sym) × (slice_get ss i ≡ Some s) × Fine s e.attr
+  pub fine_at : (ss : List Sym) (es : List (Entry O)) (i : ℕ) (e : Entry O) → AllFine ss es → slice_get es i ≡ Some e → (s : Sym) × (slice_get ss i ≡ Some s) × Fine s e.attr
   fine_at ss [] i e h at = absurd (none_some e at)
   fine_at [] (x ∷ es) i e h at = absurd h
   fine_at (s ∷ ss) (x ∷ es) zero e h at = (s, refl, subst (λ (w : Entry O). Fine s w.attr) (some_same x e at) h.0)
@@ -157,7 +157,7 @@ module _ {O I S F : Type 0} (of : Meaning O I S F) (law : IsLawful of) (q : Tree
   fine_total [] [] h = omega arith
   fine_total [] (e ∷ es) h = absurd h
   fine_total (s ∷ ss) [] h = absurd h
-  fine_total (s ∷ ss) (e ∷ es) h = (let a = fine_words of law d first s e.attr h.0 in let b = fine_total ss es h.1 in omega (arith, a, b))
+  fine_total (s ∷ ss) (e ∷ es) h = (let a = fine_words of law q d first s e.attr h.0 in let b = fine_total ss es h.1 in omega (arith, a, b))
 
   -- less by one at a place at least
   fine_less : (ss : List Sym) (es : List (Entry O)) (i : ℕ) (e : Entry O) → AllFine ss es → slice_get es i ≡ Some e → words_of e + 1 ≤ weight_of e → total words_of es + 1 ≤ total weight_of es
@@ -169,13 +169,13 @@ module _ {O I S F : Type 0} (of : Meaning O I S F) (law : IsLawful of) (q : Tree
       let c = fine_total ss es h.1 in
       omega (arith, a, b, c, lt)
   fine_less (s ∷ ss) (x ∷ es) (suc i) e h at lt =
-      let a = fine_words of law d first s x.attr h.0 in
+      let a = fine_words of law q d first s x.attr h.0 in
       let b = fine_less ss es i e h.1 at lt in
       omega (arith, a, b)
 
   pub weights : (es : List (Entry O)) → total weight_of es ≤ total charge_of es
   weights [] = omega arith
-  weights (e ∷ es) = (let a = weight_charge of law d first e.attr in let b = weights es in omega (arith, a, b))
+  weights (e ∷ es) = (let a = weight_charge of law q d first e.attr in let b = weights es in omega (arith, a, b))
 
   charges_less : (ss : List Sym) (es : List (Entry O)) → AllFine ss es → total words_of es ≤ total charge_of es
   charges_less ss es h = (let a = fine_total ss es h in let b = weights es in omega (arith, a, b))
@@ -189,8 +189,8 @@ module _ {O I S F : Type 0} (of : Meaning O I S F) (law : IsLawful of) (q : Tree
       let c = charges_less ss es h.1 in
       omega (arith, a, b, c, lt)
   charge_less (s ∷ ss) (x ∷ es) (suc i) e h at lt =
-      let a = fine_words of law d first s x.attr h.0 in
-      let w = weight_charge of law d first x.attr in
+      let a = fine_words of law q d first s x.attr h.0 in
+      let w = weight_charge of law q d first x.attr in
       let b = charge_less ss es i e h.1 at lt in
       omega (arith, a, b, w)
 
@@ -220,7 +220,7 @@ module _ {O I S F : Type 0} (of : Meaning O I S F) (law : IsLawful of) (q : Tree
     SlotsStay old new = (j w : ℕ) (k : Option Kind) → slice_get old j ≡ Some (record { kind = k; attr = attr.InSlot w }) → slice_get new j ≡ Some (record { kind = k; attr = attr.InSlot w })
 
     -- an entry that may go
-    data Goes (desk : Desk O I) : (p : Where) (e : Entry O) → Type 0 where
+    pub data Goes (desk : Desk O I) : (p : Where) (e : Entry O) → Type 0 where
       below : (j : ℕ) (e : Entry O) → slice_get desk.below j ≡ Some e → holds_register of e ≡ true → Goes desk (Below j) e
       among : (j : ℕ) (e : Entry O) → slice_get desk.symbols j ≡ Some e → holds_register of e ≡ true → (is_register e.attr ≡ true → ⊥) → Goes desk (Among j) e
 
@@ -229,7 +229,7 @@ module _ {O I S F : Type 0} (of : Meaning O I S F) (law : IsLawful of) (q : Tree
         → count (λ v. not (is_free_word of desk v)) first (1024 - first) + 1 ≤ c
     tight i desk p e h (below j e' at holding) =
         let s = fine_at a desk.below j e h.below_fine at in
-        let sp = fine_spilled of law d first s.0 e.kind e.attr 0 (omega arith) s.2 holding in
+        let sp = fine_spilled of law q d first s.0 e.kind e.attr 0 (omega arith) s.2 holding in
         let x = taken desk in
         let y = charge_less a desk.below j e h.below_fine at sp.held_less in
         let z = fine_total right desk.symbols h.symbols_fine in
@@ -237,7 +237,7 @@ module _ {O I S F : Type 0} (of : Meaning O I S F) (law : IsLawful of) (q : Tree
         omega (arith, x, y, z, w)
     tight i desk p e h (among j e' at holding apart) =
         let s = fine_at right desk.symbols j e h.symbols_fine at in
-        let sp = fine_spilled of law d first s.0 e.kind e.attr 0 (omega arith) s.2 holding in
+        let sp = fine_spilled of law q d first s.0 e.kind e.attr 0 (omega arith) s.2 holding in
         let x = taken desk in
         let y = fine_less right desk.symbols j e h.symbols_fine at (sp.held_symbol apart) in
         let z = charges_less a desk.below h.below_fine in
@@ -268,7 +268,7 @@ module _ {O I S F : Type 0} (of : Meaning O I S F) (law : IsLawful of) (q : Tree
         let r1 = range.below in
         let low : w < 1024 = omega (arith, r0, r1) in
         let s = fine_at a desk.below j e h.below_fine at in
-        let sp = fine_spilled of law d first s.0 e.kind e.attr w low s.2 holding in
+        let sp = fine_spilled of law q d first s.0 e.kind e.attr w low s.2 holding in
         let room = tight i desk p e h (below j e at holding) in
         let w_low = below_lowest (is_free_word of desk) first (1024 - first) w free in
         let set = total_set charge_of desk.below j e (entry_in_slot of e w) at in
@@ -294,7 +294,7 @@ module _ {O I S F : Type 0} (of : Meaning O I S F) (law : IsLawful of) (q : Tree
         let r1 = range.below in
         let low : w < 1024 = omega (arith, r0, r1) in
         let s = fine_at right desk.symbols j e h.symbols_fine at in
-        let sp = fine_spilled of law d first s.0 e.kind e.attr w low s.2 holding in
+        let sp = fine_spilled of law q d first s.0 e.kind e.attr w low s.2 holding in
         let room = tight i desk p e h (among j e at holding apart) in
         let w_low = below_lowest (is_free_word of desk) first (1024 - first) w free in
         let set = total_set weight_of desk.symbols j e (entry_in_slot of e w) at in
@@ -302,7 +302,7 @@ module _ {O I S F : Type 0} (of : Meaning O I S F) (law : IsLawful of) (q : Tree
         let all = h.held_in_all in
         let g0 = sp.charge_is in
         let g1 = sp.held_symbol apart in
-        let g2 = weight_charge of law d first (in_slot of e.attr w) in
+        let g2 = weight_charge of law q d first (in_slot of e.attr w) in
         let g3 = sp.held_less in
         record {
           counted = record {
@@ -347,7 +347,7 @@ module _ {O I S F : Type 0} (of : Meaning O I S F) (law : IsLawful of) (q : Tree
     abbrev pub top : ℕ
     top = first + c
 
-    goes_of : (given : Bool) (desk : Desk O I) (p : Where) → victim of given desk ≡ Some p → (e : Entry O) × (entry_at of desk p ≡ Some e) × Goes desk p e
+    pub goes_of : (given : Bool) (desk : Desk O I) (p : Where) → victim of given desk ≡ Some p → (e : Entry O) × (entry_at of desk p ≡ Some e) × Goes desk p e
     goes_of given desk p h = by (last_that (holds_register of) desk.below) refl h
       where
         Goal : Where → Type 0
@@ -382,7 +382,7 @@ module _ {O I S F : Type 0} (of : Meaning O I S F) (law : IsLawful of) (q : Tree
         by None at = tt
         by (Some r) at = (let g = lowest_found (is_free_register of d given x) 0 12 r at in let b = g.below in record { small = omega (arith, b); after = h })
 
-    spilled_good : (i : ℕ) (given : Bool) (desk : Desk O I) → Counted i desk → Good top (spilled of q d first desk (victim of given desk)) (After i desk)
+    pub spilled_good : (i : ℕ) (given : Bool) (desk : Desk O I) → Counted i desk → Good top (spilled of q d first desk (victim of given desk)) (After i desk)
     spilled_good i given desk h = by (victim of given desk) refl
       where
         saved_by : (p : Where) (e : Entry O) → Goes desk p e → (o : Option ℕ) → free_slot of first desk ≡ o → Good top (saved_in of q d first desk p (Some e) o) (After i desk)
@@ -412,7 +412,7 @@ module _ {O I S F : Type 0} (of : Meaning O I S F) (law : IsLawful of) (q : Tree
 
     -- ---- reloads
 
-    slot_kind : (s : Sym) (w : ℕ) (b : Attr O) → Fine s b → b ≡ attr.InSlot w → (w' : ℕ) × (w' ≡ w) × (w' < 1024) × (c' : ℕ) × (s ≡ symbol.Class c') × (kind_at d.classes c' ≡ Some kind.Reg)
+    pub slot_kind : (s : Sym) (w : ℕ) (b : Attr O) → Fine s b → b ≡ attr.InSlot w → (w' : ℕ) × (w' ≡ w) × (w' < 1024) × (c' : ℕ) × (s ≡ symbol.Class c') × (kind_at d.classes c' ≡ Some kind.Reg)
     slot_kind s w b (fine.token l fit own) e = absurd (cc)
     slot_kind s w b (fine.class c' b' h) e = absurd (no_slot (kind_at d.classes c') b h e)
       where
@@ -437,7 +437,7 @@ module _ {O I S F : Type 0} (of : Meaning O I S F) (law : IsLawful of) (q : Tree
         let low : w < 1024 = subst (λ x. x < 1024) sk.1 sk.2 in
         let set = total_set weight_of y.symbols i (record { kind = k; attr = attr.InSlot w }) (record { kind = k; attr = attr.Reg p.0 }) there in
         let add = total_append words_of y.former (record { kind = k; attr = attr.InSlot w } ∷ []) in
-        let one = slot_word_one of law d first w low in
+        let one = slot_word_one of law q d first w low in
         let all = n.held_in_all in
         record {
           held_in_all = omega (arith, set, add, one, all);
@@ -473,7 +473,7 @@ module _ {O I S F : Type 0} (of : Meaning O I S F) (law : IsLawful of) (q : Tree
       by j e there (inl g) = here e (ap (slice_get desk.symbols) (sym g) ∙ there)
       by j e there (inr lt) = h.loaded_to j e lt there
 
-    one_good : (i : ℕ) (desk : Desk O I) → Counted i desk → Good top (reloaded_at of q d first i desk (slice_get desk.symbols i)) (Counted (suc i))
+    pub one_good : (i : ℕ) (desk : Desk O I) → Counted i desk → Good top (reloaded_at of q d first i desk (slice_get desk.symbols i)) (Counted (suc i))
     one_good i desk h = at (slice_get desk.symbols i) refl
       where
         is : (e b : Entry O) → slice_get desk.symbols i ≡ Some e → IsLoaded e.attr → slice_get desk.symbols i ≡ Some b → IsLoaded b.attr

@@ -8,6 +8,7 @@ use Rattle.tree_core.specs.declared.token.Tok.TheVariants as tok
 use Rattle.tree_core.specs.declared.tree.Att.{Att}
 use Rattle.tree_core.specs.declared.tree.Att.TheVariants as att
 use Rattle.tree_core.specs.declared.tree.Leaf.{Leaf}
+use Rattle.tree_core.specs.declared.program.TreeProgram.{TreeProgram}
 use Rattle.tree_core.specs.Attributes.{leaf_fits}
 use Rattle.md_reader.specs.declared.types.Kind.{Kind}
 use Rattle.md_reader.specs.declared.types.Kind.TheVariants as kind
@@ -34,7 +35,7 @@ found_some (Some x) e = (x, refl)
 one_false : (b : Bool) → b ≡ false → b ≡ true → ⊥
 one_false b e f = cc
 
-module _ {O I S F : Type 0} (of : Meaning O I S F) (law : IsLawful of) (d : Content) (first : ℕ) where
+module _ {O I S F : Type 0} (of : Meaning O I S F) (law : IsLawful of) (q : TreeProgram) (d : Content) (first : ℕ) where
   abbrev pub registers : Attr O → ℕ
   registers a = count (λ r. attr_touches of a (RegAt r)) 0 12
 
@@ -75,7 +76,7 @@ module _ {O I S F : Type 0} (of : Meaning O I S F) (law : IsLawful of) (d : Cont
 
   -- an entry that may stand for its symbol
   pub data IsFine : (s : Sym) (a : Attr O) → Type 0 where
-    token : (l : Leaf) → leaf_fits l ≡ true → IsOwn first l.tok l.att → IsFine (symbol.Tok l.tok) (attr.Token l)
+    token : (l : Leaf) → leaf_fits l ≡ true → IsOwn q first l.tok l.att → IsFine (symbol.Tok l.tok) (attr.Token l)
     class : (c : ℕ) (a : Attr O) → KindFits of (kind_at d.classes c) a → IsFine (symbol.Class c) a
     slot : (c w : ℕ) → kind_at d.classes c ≡ Some kind.Reg → w < 1024 → IsFine (symbol.Class c) (attr.InSlot w)
     statement : (c : ℕ) → kind_at d.classes c ≡ Some kind.Nothing → IsFine (symbol.Class c) attr.Nothing
@@ -124,14 +125,14 @@ module _ {O I S F : Type 0} (of : Meaning O I S F) (law : IsLawful of) (d : Cont
   pub no_words : count (λ v. false) first (1024 - first) ≡ 0
   no_words = count_none (λ v. false) first (1024 - first) (λ v le. refl)
 
-  slot_words : (x : Tok) (k : ℕ) → IsOwn first x (att.Slot k) → count (λ v. some_touches of (token_operand of x (att.Slot k)) (WordAt v)) first (1024 - first) ≡ 0
+  slot_words : (x : Tok) (k : ℕ) → IsOwn q first x (att.Slot k) → count (λ v. some_touches of (token_operand of x (att.Slot k)) (WordAt v)) first (1024 - first) ≡ 0
   slot_words tok.Loc k own =
       count_none (λ v. touches of (of.local k) (WordAt v)) first (1024 - first)
       (λ v le. ap (λ o. is_word o v) (law.spells.local_word k own.in_frame) ∙ unequal k v (λ e. (let lt = own.own_local k refl refl in omega (arith, lt, le, e))))
   slot_words tok.Arg k own = count_none (λ v. touches of (of.argument k) (WordAt v)) first (1024 - first) (λ v le. ap (λ o. is_word o v) (law.spells.argument_word k))
   slot_words x k own = no_words
 
-  pub token_words : (x : Tok) (a : Att) → IsOwn first x a → count (λ v. some_touches of (token_operand of x a) (WordAt v)) first (1024 - first) ≡ 0
+  pub token_words : (x : Tok) (a : Att) → IsOwn q first x a → count (λ v. some_touches of (token_operand of x a) (WordAt v)) first (1024 - first) ≡ 0
   token_words x att.Nothing own = no_words
   token_words x (att.Number n) own = no_words
   token_words x (att.Object object offset) own = no_words

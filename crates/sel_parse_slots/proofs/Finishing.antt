@@ -39,8 +39,9 @@ use Rattle.sel_parse_selected.specs.Spills.{due}
 use Rattle.sel_parse_selected.specs.Reductions.{first_hole, own_register, own_number, shaped, finished, with_result, with_scratch, given_by, reloaded, reduced}
 use Rattle.sel_parse_stands.proofs.Loaded.{IsLoaded, AllLoaded}
 use Rattle.sel_parse_effect.proofs.Reducing.{reg_is, nothing_is}
-use Rattle.sel_parse_effect.proofs.Shapes.{OneHole, one_hole, reg_symbol, con_symbol, IsNumeric, const_number}
+use Rattle.sel_parse_effect.proofs.Shapes.{one_hole, reg_symbol, con_symbol, IsNumeric, const_number}
 use Rattle.sel_parse_effect.proofs.Shapes as shapes
+use Rattle.sel_target.specs.Spelled.{IsSpelled, TokenIsSpelled, AreSpelled}
 use Rattle.sel_parse_slots.specs.Claims.{IsOwn}
 use Rattle.sel_parse_slots.proofs.Counts.{count, count_less, count_any, count_one, tick, total}
 use Rattle.sel_parse_slots.proofs.Fine as fine
@@ -104,7 +105,7 @@ right_none classes r k is_rule is apart =
 module _ {O I S F : Type 0} (of : Meaning O I S F) (law : IsLawful of) (q : TreeProgram) (can : of.can_write q) (d : Content) (first : ℕ) where
   -- ---- symbols in place are holes that fit
 
-  sym_fits : (s : Sym) (a : Attr O) → IsFine of law d first s a → IsLoaded a → IsNoStatement d.classes s → SymFits of d.classes s a
+  sym_fits : (s : Sym) (a : Attr O) → IsFine of law q d first s a → IsLoaded a → IsNoStatement d.classes s → SymFits of d.classes s a
   sym_fits s a (fine.token l fit own) h n = (refl, fit, own.in_frame)
   sym_fits s a (fine.class c a' fit) h n = fit
   sym_fits s a (fine.slot c w e lt) h n = absurd h
@@ -116,9 +117,29 @@ module _ {O I S F : Type 0} (of : Meaning O I S F) (law : IsLawful of) (q : Tree
   all_fit (s ∷ ss) [] h k n = absurd h
   all_fit (s ∷ ss) (e ∷ es) h k n = (sym_fits s e.attr h.0 k.0 n.0, all_fit ss es h.1 k.1 n.1)
 
+  class_spelled : (k : Option Kind) (a : Attr O) → KindFits of k a → TokenIsSpelled q a
+  class_spelled (Some kind.Reg) (attr.Reg r) h = tt
+  class_spelled (Some (kind.Value z)) (attr.Value o) h = tt
+  class_spelled (Some (kind.Place z)) (attr.Place o) h = tt
+  class_spelled (Some kind.Con) (attr.Con n) h = tt
+  class_spelled (Some kind.Ea) (attr.Ea o) h = tt
+  class_spelled k a h = absurd h
+
+  sym_spelled : (s : Sym) (a : Attr O) → IsFine of law q d first s a → TokenIsSpelled q a
+  sym_spelled s a (fine.token l fit own) = own.spelled
+  sym_spelled s a (fine.class c a' fit) = class_spelled (kind_at d.classes c) a fit
+  sym_spelled s a (fine.slot c w e lt) = tt
+  sym_spelled s a (fine.statement c e) = tt
+
+  all_spelled : (ss : List Sym) (es : List (Entry O)) → AllFine of law q d first ss es → AreSpelled q (attrs es)
+  all_spelled [] [] h = tt
+  all_spelled [] (e ∷ es) h = absurd h
+  all_spelled (s ∷ ss) [] h = absurd h
+  all_spelled (s ∷ ss) (e ∷ es) h = (sym_spelled s e.attr h.0, all_spelled ss es h.1)
+
   -- ---- a shape holds no more than its symbols
 
-  register_one : (r : ℕ) → r < 12 → registers of law d first (attr.Reg r) ≤ 1
+  register_one : (r : ℕ) → r < 12 → registers of law q d first (attr.Reg r) ≤ 1
   register_one r lt =
       let a = count_less (λ v. touches of (of.register r) (RegAt v)) (λ v. r == v) (λ v. same v) 0 12 in
       let b = count_one r 0 12 in
@@ -148,25 +169,25 @@ module _ {O I S F : Type 0} (of : Meaning O I S F) (law : IsLawful of) (q : Tree
               let a = ap tick bit in
               omega (arith, a)
 
-  class_held : (k : Option Kind) (a : Attr O) → KindFits of k a → registers of law d first a + words of law d first a ≤ charge of law d first a
-  class_held (Some kind.Reg) (attr.Reg r) h = (let x = register_one r h in let y = fine.register_words of law d first r h in omega (arith, x, y))
+  class_held : (k : Option Kind) (a : Attr O) → KindFits of k a → registers of law q d first a + words of law q d first a ≤ charge of law q d first a
+  class_held (Some kind.Reg) (attr.Reg r) h = (let x = register_one r h in let y = fine.register_words of law q d first r h in omega (arith, x, y))
   class_held (Some (kind.Value z)) (attr.Value o) h = omega arith
   class_held (Some (kind.Place z)) (attr.Place o) h = omega arith
-  class_held (Some kind.Con) (attr.Con n) h = (let y = fine.no_words of law d first in omega (arith, y))
+  class_held (Some kind.Con) (attr.Con n) h = (let y = fine.no_words of law q d first in omega (arith, y))
   class_held (Some kind.Ea) (attr.Ea o) h = omega arith
   class_held k a h = absurd h
 
-  held_fine : (s : Sym) (a : Attr O) → IsFine of law d first s a → IsLoaded a → registers of law d first a + words of law d first a ≤ charge of law d first a
+  held_fine : (s : Sym) (a : Attr O) → IsFine of law q d first s a → IsLoaded a → registers of law q d first a + words of law q d first a ≤ charge of law q d first a
   held_fine s a (fine.token l fit own) h =
-      let x = fine.token_registers of law d first l.tok l.att in
-      let y = fine.token_words of law d first l.tok l.att own in
+      let x = fine.token_registers of law q d first l.tok l.att in
+      let y = fine.token_words of law q d first l.tok l.att own in
       omega (arith, x, y)
   held_fine s a (fine.class c a' fit) h = class_held (kind_at d.classes c) a fit
   held_fine s a (fine.slot c w e lt) h = absurd h
-  held_fine s a (fine.statement c e) h = (let y = fine.no_words of law d first in omega (arith, y))
+  held_fine s a (fine.statement c e) h = (let y = fine.no_words of law q d first in omega (arith, y))
 
   held_all : (ss : List Sym) (es : List (Entry O)) → AllFine of law q d first ss es → AllLoaded es
-      → total (λ (a : Attr O). registers of law d first a) (attrs es) + total (λ (a : Attr O). words of law d first a) (attrs es) ≤ total (charge_of of law q d first) es
+      → total (λ (a : Attr O). registers of law q d first a) (attrs es) + total (λ (a : Attr O). words of law q d first a) (attrs es) ≤ total (charge_of of law q d first) es
   held_all [] [] h k = omega arith
   held_all [] (e ∷ es) h k = absurd h
   held_all (s ∷ ss) [] h k = absurd h
@@ -192,8 +213,8 @@ module _ {O I S F : Type 0} (of : Meaning O I S F) (law : IsLawful of) (q : Tree
   -- ---- what a rule gives
 
   pub record Given (left g : ℕ) (a : Attr O) : Type 0 where
-    pub fine_is : IsFine of law d first (symbol.Class left) a
-    pub charge_is : charge of law d first a ≤ g
+    pub fine_is : IsFine of law q d first (symbol.Class left) a
+    pub charge_is : charge of law q d first a ≤ g
 
   module _ (rule : Rule) (is_rule : IsRule d.classes rule) (effect : EffectShape) (taken : of.effect d.classes rule ≡ Ok effect) (g : ℕ) (some : 1 ≤ g) where
     register_given : (r : ℕ) → r < 12 → kind_at d.classes rule.left ≡ Some kind.Reg → Given rule.left g (attr.Reg r)
@@ -213,17 +234,17 @@ module _ {O I S F : Type 0} (of : Meaning O I S F) (law : IsLawful of) (q : Tree
           omega (arith, x, within)
 
       fits_shape : (k : Kind) (l : Line) → kind_at d.classes rule.left ≡ Some k → (k ≡ kind.Nothing → ⊥) → rule.give ≡ give.Shape l → of.fits k (of.operand q l (attrs es)) ≡ true
-      fits_shape k l is apart mode = law.spells.shape_fits q d.classes rule effect k l (attrs es) can is_rule taken mode is (holes k is apart)
+      fits_shape k l is apart mode = law.spells.shape_fits q d.classes rule effect k l (attrs es) can is_rule taken mode is (holes k is apart) (all_spelled rule.right es h)
 
       at_symbol : (ss : List Sym) (bs : List (Entry O)) (j : ℕ) (s : Sym) → AllFine of law q d first ss bs → AllLoaded bs → slice_get ss j ≡ Some s
-          → (a : Attr O) × (slice_get (attrs bs) j ≡ Some a) × IsFine of law d first s a × IsLoaded a
+          → (a : Attr O) × (slice_get (attrs bs) j ≡ Some a) × IsFine of law q d first s a × IsLoaded a
       at_symbol [] [] j s h k e = absurd (none_some s e)
       at_symbol [] (b ∷ bs) j s h k e = absurd h
       at_symbol (x ∷ ss) [] j s h k e = absurd h
-      at_symbol (x ∷ ss) (b ∷ bs) zero s h k e = (b.attr, refl, subst (λ w. IsFine of law d first w b.attr) (some_same x s e) h.0, k.0)
+      at_symbol (x ∷ ss) (b ∷ bs) zero s h k e = (b.attr, refl, subst (λ w. IsFine of law q d first w b.attr) (some_same x s e) h.0, k.0)
       at_symbol (x ∷ ss) (b ∷ bs) (suc j) s h k e = at_symbol ss bs j s h.1 k.1 e
 
-      own_reg : (s : Sym) (c : ℕ) (a : Attr O) → IsFine of law d first s a → IsLoaded a → s ≡ symbol.Class c → kind_at d.classes c ≡ Some kind.Reg → (r : ℕ) × (a ≡ attr.Reg r) × (r < 12)
+      own_reg : (s : Sym) (c : ℕ) (a : Attr O) → IsFine of law q d first s a → IsLoaded a → s ≡ symbol.Class c → kind_at d.classes c ≡ Some kind.Reg → (r : ℕ) × (a ≡ attr.Reg r) × (r < 12)
       own_reg s c a (fine.token l fit own) k e is = absurd (cc)
       own_reg s c a (fine.class c' a' fit) k e is = by (kind_at d.classes c') a fit (ap (kind_at d.classes) (let same : c' ≡ c = cc in same) ∙ is)
         where
@@ -246,11 +267,11 @@ module _ {O I S F : Type 0} (of : Meaning O I S F) (law : IsLawful of) (q : Tree
         small : number < 2 ^ 32
         own : own_number of q d first (Some a) ≡ attr.Con number
 
-      number_token : (x : Tok) (a : Att) → IsOwn first x a → Rattle.md_reader.specs.Rows.is_constant (Some (symbol.Tok x)) ≡ true → is_of_kind (attribute_of x) a ≡ true
+      number_token : (x : Tok) (a : Att) → IsOwn q first x a → Rattle.md_reader.specs.Rows.is_constant (Some (symbol.Tok x)) ≡ true → is_of_kind (attribute_of x) a ≡ true
           → IsNumber (attr.Token (record { tok = x; att = a }))
       number_token x a own c fit =
           let r = const_number x a c fit in
-          let low = own.longword r.0 r.1 in
+          let low : r.0 < 2 ^ 32 = subst (IsSpelled q) r.1 own.spelled in
           subst (λ b. IsNumber (attr.Token (record { tok = x; att = b }))) (sym r.1) (record { number = r.0; small = low; own = refl })
 
       number_class : (k : Option Kind) (a : Attr O) → KindFits of k a → k ≡ Some kind.Con → IsNumber a
@@ -261,7 +282,7 @@ module _ {O I S F : Type 0} (of : Meaning O I S F) (law : IsLawful of) (q : Tree
       number_class (Some kind.Ea) (attr.Ea o) h e = absurd (cc)
       number_class k a h e = absurd h
 
-      number_symbol : (s : Sym) (a : Attr O) → IsFine of law d first s a → IsLoaded a → (y : Sym) → IsNumeric d.classes y → s ≡ y → IsNumber a
+      number_symbol : (s : Sym) (a : Attr O) → IsFine of law q d first s a → IsLoaded a → (y : Sym) → IsNumeric d.classes y → s ≡ y → IsNumber a
       number_symbol s a (fine.token l fit own) k y (shapes.constant w c) e =
           let same : l.tok ≡ w = cc in
           number_token l.tok l.att own (subst (λ z. Rattle.md_reader.specs.Rows.is_constant (Some (symbol.Tok z)) ≡ true) (sym same) c) fit
@@ -275,17 +296,22 @@ module _ {O I S F : Type 0} (of : Meaning O I S F) (law : IsLawful of) (q : Tree
           apart : Some kind.Con ≡ Some kind.Nothing → ⊥
           apart e = cc
 
-      pub shape_given : (l : Line) → rule.give ≡ give.Shape l → (k : Option Kind) → kind_at d.classes rule.left ≡ k → shape_fits d.classes rule.right k l.pieces ≡ true
-          → Given rule.left g (shaped of q d first k l (attrs es))
-      shape_given l mode None is fits = absurd (cc)
-      shape_given l mode (Some kind.Reg) is fits =
+      -- the symbol that a register's shape names is a register
+      pub shape_register : (l : Line) → shape_fits d.classes rule.right (Some kind.Reg) l.pieces ≡ true
+          → (r : ℕ) × (r < 12) × (hole (attrs es) (first_hole l.pieces) ≡ Some (attr.Reg r))
+      shape_register l fits =
           let sy = reg_symbol d.classes _ fits in
           let one = one_hole rule.right l.pieces (symbol.Class sy.0) sy.1 in
           let w = at_symbol rule.right es one.index (symbol.Class sy.0) h loaded one.there in
           let r = own_reg (symbol.Class sy.0) sy.0 w.0 w.2 w.3 refl sy.2 in
-          let result : own_register of q d first (hole (attrs es) (first_hole l.pieces)) ≡ attr.Reg r.0 =
-          ap (λ p. own_register of q d first (hole (attrs es) (first_hole p))) one.is ∙ ap (own_register of q d first) w.1 ∙ r.1 in
-          subst (Given rule.left g) (sym result) (register_given r.0 r.2 is)
+          (r.0, r.2, ap (λ p. hole (attrs es) (first_hole p)) one.is ∙ w.1 ∙ ap Some r.1)
+
+      pub shape_given : (l : Line) → rule.give ≡ give.Shape l → (k : Option Kind) → kind_at d.classes rule.left ≡ k → shape_fits d.classes rule.right k l.pieces ≡ true
+          → Given rule.left g (shaped of q d first k l (attrs es))
+      shape_given l mode None is fits = absurd (cc)
+      shape_given l mode (Some kind.Reg) is fits =
+          let r = shape_register l fits in
+          subst (Given rule.left g) (sym (ap (own_register of q d first) r.2)) (register_given r.0 r.1 is)
       shape_given l mode (Some (kind.Value z)) is fits =
           let apart : kind.Value z ≡ kind.Nothing → ⊥ = λ e. cc in
           record {
@@ -342,6 +368,17 @@ module _ {O I S F : Type 0} (of : Meaning O I S F) (law : IsLawful of) (q : Tree
       fine_length (s ∷ ss) [] h = absurd h
       fine_length (s ∷ ss) (e ∷ es) h = ap suc (fine_length ss es h.1)
 
+      all_loaded : (y : Desk O I) → In (0 + length rule.right) y → AllLoaded y.symbols
+      all_loaded y h = (let size = fine_length rule.right y.symbols h.symbols_fine in all_in y.symbols (0 + length rule.right) (omega (arith, size)) h.loaded_to)
+
+      all_low : (y : Desk O I) → In (0 + length rule.right) y → total (charge_of of law q d first) y.symbols ≤ g
+      all_low y h = (let in_all = within_total of law q d first y.symbols gs h.symbols_within in omega (arith, in_all, low))
+
+      -- behind the reloads the symbol that a register's shape names is a register
+      pub register_named : (y : Desk O I) → In (0 + length rule.right) y → (l : Line) → shape_fits d.classes rule.right (Some kind.Reg) l.pieces ≡ true
+          → (r : ℕ) × (r < 12) × (hole (attrs y.symbols) (first_hole l.pieces) ≡ Some (attr.Reg r))
+      register_named y h l fits = shape_register y.symbols h.symbols_fine (all_loaded y h) (all_low y h) l fits
+
       given_good : (gv : Give) (y : Desk O I) → In (0 + length rule.right) y → rule.give ≡ gv → MayGive d.classes rule.left rule.right gv
           → Good (first + c) (given_by of q d first rule gv y) Reduced
       given_good give.Fresh y h mode may =
@@ -358,23 +395,20 @@ module _ {O I S F : Type 0} (of : Meaning O I S F) (law : IsLawful of) (q : Tree
           (λ p k. done (0 + length rule.right) p.1 (attr.Reg p.0) attr.Nothing k.after.counted (nothing_given (nothing_is (kind_at d.classes rule.left) may)))
       given_good give.Nothing y h mode may = done (0 + length rule.right) y attr.Nothing attr.Nothing h (nothing_given (nothing_is (kind_at d.classes rule.left) may))
       given_good (give.Shape l) y h mode may =
-          let size = fine_length rule.right y.symbols h.symbols_fine in
-          let loaded = all_in y.symbols (0 + length rule.right) (omega (arith, size)) h.loaded_to in
-          let in_all = within_total of law q d first y.symbols gs h.symbols_within in
           done (0 + length rule.right) y attr.Nothing (shaped of q d first (kind_at d.classes rule.left) l (attrs y.symbols)) h
-          (shape_given y.symbols h.symbols_fine loaded (omega (arith, in_all, low)) l mode (kind_at d.classes rule.left) refl may.1)
+          (shape_given y.symbols h.symbols_fine (all_loaded y h) (all_low y h) l mode (kind_at d.classes rule.left) refl may.1)
 
-      pub reduction_good : (x : Stack O I) → x.most ≤ first + c → sum gb + sum gs ≤ c
+      -- before the reloads
+      pub started : (x : Stack O I) → x.most ≤ first + c → sum gb + sum gs ≤ c
           → AllFine of law q d first a (desk_of (length rule.right) x).below → AllFine of law q d first rule.right (desk_of (length rule.right) x).symbols
           → Within of law q d first (desk_of (length rule.right) x).below gb → Within of law q d first (desk_of (length rule.right) x).symbols gs
-          → Good (first + c) (reduced of q d first rule x) Reduced
-      reduction_good x most bound fb fs wb ws =
+          → In 0 (desk_of (length rule.right) x)
+      started x most bound fb fs wb ws =
           let start = desk_of (length rule.right) x in
           let u = within_total of law q d first start.below gb wb in
           let v = within_total of law q d first start.symbols gs ws in
           let w = weights of law q d first start.symbols in
-          good_bind (first + c) (reloaded of q d first (length rule.right) 0 start) (given_by of q d first rule rule.give) (In (0 + length rule.right)) Reduced
-          (reloaded_good of law q d first rule.right a c gb gs (length rule.right) 0 start (record {
+          record {
             held_in_all = omega (arith, u, v, w, bound);
             most_within = most;
             below_within = wb;
@@ -382,5 +416,11 @@ module _ {O I S F : Type 0} (of : Meaning O I S F) (law : IsLawful of) (q : Tree
             below_fine = fb;
             symbols_fine = fs;
             loaded_to = λ j e lt there. absurd (omega (arith, lt));
-          }))
+          }
+
+      pub reduction_good : (x : Stack O I) → In 0 (desk_of (length rule.right) x) → Good (first + c) (reduced of q d first rule x) Reduced
+      reduction_good x h =
+          let start = desk_of (length rule.right) x in
+          good_bind (first + c) (reloaded of q d first (length rule.right) 0 start) (given_by of q d first rule rule.give) (In (0 + length rule.right)) Reduced
+          (reloaded_good of law q d first rule.right a c gb gs (length rule.right) 0 start h)
           (λ y k. given_good rule.give y k refl is_rule.gives)

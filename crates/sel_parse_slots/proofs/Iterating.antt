@@ -1,5 +1,5 @@
 -- A parse uses no more words than the tree has tokens with two kids, and one.
-use Rattle.std.proofs.Common.{◌≡◌, ℕ, zero, suc, ◌+◌, ◌≤◌, ◌<◌, List, [], ◌∷◌, ◌++◌, length, map, Some, None, refl, sym, ap, ◌∙◌, subst, arith, slice_get, take, drop}
+use Rattle.std.proofs.Common.{◌≡◌, ℕ, zero, suc, ◌+◌, ◌≤◌, ◌<◌, List, [], ◌∷◌, ◌++◌, length, map, Some, None, true, refl, sym, ap, ◌∙◌, subst, arith, slice_get, take, drop}
 use Rattle.std.proofs.Common.{length-append}
 use Rattle.std.specs.Prelude.{reverse, Ok}
 use Rattle.std.specs.List.{AllByRecursion}
@@ -11,9 +11,12 @@ use Rattle.tree_core.specs.declared.program.TreeProgram.{TreeProgram}
 use Rattle.tree_core.specs.Grammar.{kids}
 use Rattle.tree_core.specs.Trees.{IsTyped}
 use Rattle.tree_core_forks.specs.Forks.{forks}
+use Rattle.md_reader_pieces.specs.declared.piece.Line.{Line}
+use Rattle.md_reader.specs.declared.types.Kind.TheVariants as kind
 use Rattle.md_reader.specs.declared.types.Rule.{Rule}
 use Rattle.md_reader.specs.declared.types.Sym.{Sym}
 use Rattle.md_reader.specs.declared.types.Sym.TheVariants as symbol
+use Rattle.md_reader.specs.Rows.{shape_fits}
 use Rattle.md_reader.specs.State.{Content}
 use Rattle.md_reader.specs.Valid.{IsRule}
 use Rattle.lr_tables.specs.Statements.{stmt_of}
@@ -24,21 +27,23 @@ use Rattle.lr_check_parse.specs.Typed.{AreTyped, begins}
 use Rattle.lr_check_parse.proofs.Typing.{leaves_are_tokens}
 use Rattle.sel_terms.specs.Effects.{EffectShape}
 use Rattle.sel_terms_trees.specs.Senses.{piled}
+use Rattle.sel_target.specs.declared.attr.Attr.TheVariants as attr
 use Rattle.sel_target.specs.Meaning.{Meaning}
+use Rattle.sel_target.specs.Instances.{hole}
 use Rattle.sel_target.specs.Laws.{IsLawful}
 use Rattle.sel_parse_moves.specs.Claims.{root}
 use Rattle.sel_parse_moves.proofs.Covering.{AreLeaves, known}
 use Rattle.sel_parse_moves.proofs.Moves.{leaves_of, rule_at}
-use Rattle.sel_parse_selected.specs.Entries.{Entry}
-use Rattle.sel_parse_selected.specs.Desk.{Stack, desk_of, Outcome, Full, Stuck, Done}
-use Rattle.sel_parse_selected.specs.Reductions.{reduced}
+use Rattle.sel_parse_selected.specs.Entries.{Entry, attrs}
+use Rattle.sel_parse_selected.specs.Desk.{Stack, Desk, desk_of, Outcome, Full, Stuck, Done}
+use Rattle.sel_parse_selected.specs.Reductions.{first_hole, reduced}
 use Rattle.sel_parse_stands.proofs.Parting.{taken_off, left_below}
 use Rattle.sel_parse_selected.specs.Selected.{Kept, shifted, kept_of, reduced_by, selecting}
 use Rattle.sel_parse_slots.specs.Claims.{IsOwn, IsTaken, UsesFewSlots, HasRoom}
 use Rattle.sel_parse_slots.proofs.Counts.{total}
 use Rattle.sel_parse_slots.proofs.Fine as fine
-use Rattle.sel_parse_slots.proofs.Counting.{Good, sum, charge_of, Fine, AllFine, Within}
-use Rattle.sel_parse_slots.proofs.Finishing.{Reduced, reduction_good}
+use Rattle.sel_parse_slots.proofs.Counting.{Good, sum, charge_of, Fine, AllFine, Within, Counted}
+use Rattle.sel_parse_slots.proofs.Finishing.{Reduced, started, register_named, reduction_good}
 use Rattle.sel_parse_slots.proofs.Prefixes.{Part, Whole, gamma, opens, twos, ends, held_in_all, part_of, Marks, ends_of, opens_of, marks_ends, marks_opens, part_twos, arity, whole_ends}
 use Rattle.sel_parse_slots.proofs.Prefixes.{total_piled, sum_gamma}
 
@@ -67,12 +72,12 @@ begun ys t w (begins {xs = xs} t' fit h) = record { others = xs; one_more = refl
 
 module _ {O I S F : Type 0} (of : Meaning O I S F) (law : IsLawful of) (q : TreeProgram) (can : of.can_write q) (d : Content) (fit : IsTaken of d) (first : ℕ) where
   -- symbols, their entries, and what they are parts of
-  abbrev Held : List Sym → List (Entry O) → List Part → Type 0
+  abbrev pub Held : List Sym → List (Entry O) → List Part → Type 0
   Held [] [] [] = Unit {0}
   Held (s ∷ ss) (e ∷ es) (p ∷ ps) = (Fine of law q d first s e.attr × (charge_of of law q d first e ≤ gamma p) × Marks s p) × Held ss es ps
   Held ss es ps = ⊥
 
-  held_fine : (ss : List Sym) (es : List (Entry O)) (ps : List Part) → Held ss es ps → AllFine of law q d first ss es
+  pub held_fine : (ss : List Sym) (es : List (Entry O)) (ps : List Part) → Held ss es ps → AllFine of law q d first ss es
   held_fine [] [] [] h = tt
   held_fine [] [] (p ∷ ps) h = absurd h
   held_fine [] (e ∷ es) ps h = absurd h
@@ -113,18 +118,18 @@ module _ {O I S F : Type 0} (of : Meaning O I S F) (law : IsLawful of) (q : Tree
   joined (s ∷ ss) (e ∷ old) [] (p ∷ ps) h f w = absurd f
   joined (s ∷ ss) (e ∷ old) (b ∷ new) (p ∷ ps) h f w = ((f.0, w.0, h.0.2), joined ss old new ps h.1 f.1 w.1)
 
-  record Split (right b : List Sym) (es : List (Entry O)) (ps : List Part) : Type 0 where
-    symbols : List (Entry O)
-    below : List (Entry O)
-    high : List Part
-    low : List Part
-    entries_are : es ≡ piled symbols below
-    parts_are : ps ≡ piled high low
-    top : Held right symbols high
-    rest : Held b below low
-    size : length symbols ≡ length right
+  pub record Split (right b : List Sym) (es : List (Entry O)) (ps : List Part) : Type 0 where
+    pub symbols : List (Entry O)
+    pub below : List (Entry O)
+    pub high : List Part
+    pub low : List Part
+    pub entries_are : es ≡ piled symbols below
+    pub parts_are : ps ≡ piled high low
+    pub top : Held right symbols high
+    pub rest : Held b below low
+    pub size : length symbols ≡ length right
 
-  split : (right b : List Sym) (es : List (Entry O)) (ps : List Part) → Held (piled right b) es ps → Split right b es ps
+  pub split : (right b : List Sym) (es : List (Entry O)) (ps : List Part) → Held (piled right b) es ps → Split right b es ps
   split [] b es ps h = record { symbols = []; below = es; high = []; low = ps; entries_are = refl; parts_are = refl; top = tt; rest = h; size = refl }
   split (y ∷ right) b es ps h = by (split right (y ∷ b) es ps h)
     where
@@ -143,18 +148,18 @@ module _ {O I S F : Type 0} (of : Meaning O I S F) (law : IsLawful of) (q : Tree
     abbrev most_of : ℕ
     most_of = first + (k + 1)
 
-    record At (ws : List Leaf) (a : List Sym) (x : Stack O I) : Type 0 where
-      parts : List Part
-      held : Held a x.entries parts
-      most_within : x.most ≤ first + (k + 1)
-      twos_in : total twos parts + forks ws ≤ k
-      sorts : List Sort
-      typed : AreTyped sorts (tokens ws)
-      ends_are : total ends parts + length sorts ≡ 1 + total opens parts
-      leaves : AreLeaves ws
-      own : AllByRecursion (λ (l : Leaf). IsOwn first l.tok l.att) ws
+    pub record At (ws : List Leaf) (a : List Sym) (x : Stack O I) : Type 0 where
+      pub parts : List Part
+      pub held : Held a x.entries parts
+      pub most_within : x.most ≤ first + (k + 1)
+      pub twos_in : total twos parts + forks ws ≤ k
+      pub sorts : List Sort
+      pub typed : AreTyped sorts (tokens ws)
+      pub ends_are : total ends parts + length sorts ≡ 1 + total opens parts
+      pub leaves : AreLeaves ws
+      pub own : AllByRecursion (λ (l : Leaf). IsOwn q first l.tok l.att) ws
 
-    abbrev Before : List Leaf → List Sym → Kept O I → Type 0
+    abbrev pub Before : List Leaf → List Sym → Kept O I → Type 0
     Before ws a None = Unit {0}
     Before ws a (Some x) = At ws a x
 
@@ -169,7 +174,7 @@ module _ {O I S F : Type 0} (of : Meaning O I S F) (law : IsLawful of) (q : Tree
     accepted ws a None h = tt
     accepted ws a (Some x) h = h.most_within
 
-    shift : (l : Leaf) (ws : List Leaf) (a : List Sym) (x : Kept O I) → Before (l ∷ ws) a x → Before ws (symbol.Tok l.tok ∷ a) (shifted l x)
+    pub shift : (l : Leaf) (ws : List Leaf) (a : List Sym) (x : Kept O I) → Before (l ∷ ws) a x → Before ws (symbol.Tok l.tok ∷ a) (shifted l x)
     shift l ws a None h = tt
     shift l ws a (Some x) h =
         let b = begun h.sorts l.tok (tokens ws) h.typed in
@@ -238,13 +243,23 @@ module _ {O I S F : Type 0} (of : Meaning O I S F) (law : IsLawful of) (q : Tree
       abbrev Done_well : Stack O I → Type 0
       Done_well y = Reduced of law q can d first r valid effect has g some b (k + 1) (map gamma s.low) (map gamma s.high) low_sum y
 
-      good : Good (first + (k + 1)) (reduced of q d first r x) Done_well
-      good =
-          reduction_good of law q can d first r valid effect has g some b (k + 1) (map gamma s.low) (map gamma s.high) low_sum x h.most_within all_sum
+      -- before the reloads
+      pub begun_in : Counted of law q d first r.right b (k + 1) (map gamma s.low) (map gamma s.high) 0 (desk_of (length r.right) x)
+      begun_in =
+          started of law q can d first r valid effect has g some b (k + 1) (map gamma s.low) (map gamma s.high) low_sum x h.most_within all_sum
           (subst (AllFine of law q d first b) (sym below_is) (held_fine b s.below s.low s.rest))
           (subst (AllFine of law q d first r.right) (sym symbols_are) (held_fine r.right s.symbols s.high s.top))
           (subst (λ l. Within of law q d first l (map gamma s.low)) (sym below_is) (held_within b s.below s.low s.rest))
           (subst (λ l. Within of law q d first l (map gamma s.high)) (sym symbols_are) (held_within r.right s.symbols s.high s.top))
+
+      -- behind them the symbol that a register's shape names is a register
+      pub named : (y : Desk O I) → Counted of law q d first r.right b (k + 1) (map gamma s.low) (map gamma s.high) (0 + length r.right) y
+          → (l : Line) → shape_fits d.classes r.right (Some kind.Reg) l.pieces ≡ true
+          → (n : ℕ) × (n < 12) × (hole (attrs y.symbols) (first_hole l.pieces) ≡ Some (attr.Reg n))
+      named = register_named of law q can d first r valid effect has g some b (k + 1) (map gamma s.low) (map gamma s.high) low_sum
+
+      good : Good (first + (k + 1)) (reduced of q d first r x) Done_well
+      good = reduction_good of law q can d first r valid effect has g some b (k + 1) (map gamma s.low) (map gamma s.high) low_sum x begun_in
 
       next : (y : Stack O I) → Done_well y → At ws (symbol.Class r.left ∷ b) y
       next y w = by y.entries refl
@@ -284,13 +299,13 @@ module _ {O I S F : Type 0} (of : Meaning O I S F) (law : IsLawful of) (q : Tree
       full (Done y) w e = absurd (none_some (Some y) (sym e))
 
     module _ (n : ℕ) (r : Rule) (there : slice_get d.rules n ≡ Some r) (ws : List Leaf) (a : List Sym) (on : piled r.right (drop (length r.right) a) ≡ a) where
-      is_valid : IsRule d.classes r
+      pub is_valid : IsRule d.classes r
       is_valid = rule_at d.classes d.rules n r fit.valid.rules there
 
-      has_effect : (e : EffectShape) × (of.effect d.classes r ≡ Ok e)
+      pub has_effect : (e : EffectShape) × (of.effect d.classes r ≡ Ok e)
       has_effect = all_at (λ (r : Rule). (e : EffectShape) × (of.effect d.classes r ≡ Ok e)) d.rules n r fit.taken there
 
-      reduce : (x z : Kept O I) → Before ws a x → reduced_by of q d first (Some r) x ≡ Some z → Before ws (symbol.Class r.left ∷ drop (length r.right) a) z
+      pub reduce : (x z : Kept O I) → Before ws a x → reduced_by of q d first (Some r) x ≡ Some z → Before ws (symbol.Class r.left ∷ drop (length r.right) a) z
       reduce None z h e = subst (Before ws (symbol.Class r.left ∷ drop (length r.right) a)) (some_same None z e) tt
       reduce (Some x) z h e =
           let b = drop (length r.right) a in
@@ -319,7 +334,7 @@ module _ {O I S F : Type 0} (of : Meaning O I S F) (law : IsLawful of) (q : Tree
         refuse n r there ws a m.on x b (ap (λ o. reduced_by of q d first o x) (sym there) ∙ ap (λ u. reduced_by of q d first (slice_get d.rules n) u) m.same ∙ red)
     iterate (parse.blocks h c) b = tt
 
-  begin : (w : List Leaf) → IsTyped (root w) sort.Stmt → AllByRecursion (λ (l : Leaf). IsOwn first l.tok l.att) w → At (forks w) w [] (record { entries = []; code = []; most = first })
+  pub begin : (w : List Leaf) → IsTyped (root w) sort.Stmt → AllByRecursion (λ (l : Leaf). IsOwn q first l.tok l.att) w → At (forks w) w [] (record { entries = []; code = []; most = first })
   begin w h own = record {
     parts = [];
     held = tt;

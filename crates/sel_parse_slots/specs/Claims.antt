@@ -1,5 +1,5 @@
 -- How many frame words a selection uses.
-use Rattle.std.specs.Prelude.{◌≡◌, ℕ, ◌+◌, ◌≤◌, ◌<◌, ◌^◌, List, Ok}
+use Rattle.std.specs.Prelude.{◌≡◌, ℕ, ◌+◌, ◌≤◌, ◌<◌, List, Ok}
 use Rattle.std.specs.List.{AllByRecursion}
 use Rattle.tree_core.specs.declared.token.Tok.{Tok}
 use Rattle.tree_core.specs.declared.token.Tok.TheVariants as tok
@@ -16,15 +16,16 @@ use Rattle.md_reader.specs.Valid.{IsValid}
 use Rattle.sel_terms.specs.Effects.{EffectShape}
 use Rattle.sel_target.specs.Meaning.{Meaning}
 use Rattle.sel_target.specs.Instances.{InFrame}
+use Rattle.sel_target.specs.Spelled.{IsSpelled}
 use Rattle.sel_parse_moves.specs.Claims.{root}
 use Rattle.sel_parse_selected.specs.Selected.{Selected, FrameFull}
 
 -- A leaf of a function whose locals lie before the first slot: a local that it names is one of these, operands name its local or its
--- argument, and its number is a longword.
-pub record IsOwn (first : ℕ) (x : Tok) (a : Att) : Type 0 where
+-- argument, its number, offset or label is a longword, and its object is the program's.
+pub record IsOwn (q : TreeProgram) (first : ℕ) (x : Tok) (a : Att) : Type 0 where
   pub in_frame : InFrame a
   pub own_local : (k : ℕ) → x ≡ tok.Loc → a ≡ att.Slot k → k < first
-  pub longword : (n : ℕ) → a ≡ att.Number n → n < 2 ^ 32
+  pub spelled : IsSpelled q a
 
 module _ {O I S F : Type 0} (of : Meaning O I S F) where
   -- a valid description, each of whose templates has an effect
@@ -36,12 +37,12 @@ module _ {O I S F : Type 0} (of : Meaning O I S F) where
   abbrev pub UsesFewSlots : Type 0
   UsesFewSlots =
       (q : TreeProgram) (d : Content) (first : ℕ) (w : List Leaf) (code : List I) (most : ℕ)
-      → of.can_write q → IsTaken d → IsTyped (root w) sort.Stmt → AllByRecursion (λ (l : Leaf). IsOwn first l.tok l.att) w
+      → of.can_write q → IsTaken d → IsTyped (root w) sort.Stmt → AllByRecursion (λ (l : Leaf). IsOwn q first l.tok l.att) w
       → Selected of q d first w code most → most ≤ first + (forks w + 1)
 
   -- so where these words are ones that operands name, the frame isn't full
   abbrev pub HasRoom : Type 0
   HasRoom =
       (q : TreeProgram) (d : Content) (first : ℕ) (w : List Leaf)
-      → of.can_write q → IsTaken d → IsTyped (root w) sort.Stmt → AllByRecursion (λ (l : Leaf). IsOwn first l.tok l.att) w
+      → of.can_write q → IsTaken d → IsTyped (root w) sort.Stmt → AllByRecursion (λ (l : Leaf). IsOwn q first l.tok l.att) w
       → first + (forks w + 1) ≤ 1024 → FrameFull of q d first w → ⊥

@@ -22,6 +22,7 @@ use Rattle.sel_target.specs.declared.attr.Attr.{Attr}
 use Rattle.sel_target.specs.Meaning.{Meaning, Extent}
 use Rattle.sel_target.specs.Values.{View, term_state, IsReadWhere, worth, own_operand}
 use Rattle.sel_target.specs.Laws.{IsLawful}
+use Rattle.sel_target.specs.Spelled.{AreSpelled}
 use Rattle.sel_target.specs.Instances.{Fit, IsWhole, hole, Instance}
 use Rattle.sel_target.specs.EffectTerms.{terms_of, begins_with_save}
 use Rattle.sel_target.proofs.AreaBytes.{area_read}
@@ -30,7 +31,7 @@ use Rattle.sel_parse_selected.specs.Entries.{Entry, attrs}
 use Rattle.sel_parse_stands.specs.Stands.{SymbolIs, Sees, IsFrame, Holds}
 use Rattle.sel_parse_stands.proofs.Loaded.{AllLoaded}
 use Rattle.sel_parse_stands.proofs.Carrying.{AllCarried, carried_at}
-use Rattle.sel_parse_stands.proofs.Symbols.{symbol_reads, symbol_small, symbol_fits, symbol_whole, symbol_homes, equal_numbers}
+use Rattle.sel_parse_stands.proofs.Symbols.{symbol_reads, symbol_small, symbol_fits, symbol_spells, symbol_whole, symbol_homes, equal_numbers}
 
 size_small : (z : Size) (n : ℕ) → n < 2 ^ (8 * bytes_of z) → n % 2 ^ 32 ≡ n
 size_small Byte n lt = omega (arith, lt)
@@ -152,6 +153,16 @@ module _ {O I S F : Type 0} (of : Meaning O I S F) (law : IsLawful of) (q : Tree
   module _ (m' : S) (sees' : Sees of q d first f fs t s m0 m') where
     abbrev pub HoldNow : List (Entry O) → List Sym → List Sense → Type 0
     HoldNow es right vs = Holds of q d first f fs t s m0 m' es right vs
+
+    pub spelled_now : (es : List (Entry O)) (right : List Sym) (vs : List Sense) → HoldNow es right vs → AreSpelled q (attrs es)
+    spelled_now [] [] [] holds = tt
+    spelled_now [] [] (v ∷ vs) holds = absurd holds
+    spelled_now [] (x ∷ xs) vs holds = absurd holds
+    spelled_now (e ∷ es) [] [] holds = absurd holds
+    spelled_now (e ∷ es) [] (v ∷ vs) holds = absurd holds
+    spelled_now (e ∷ es) (x ∷ xs) [] holds = absurd holds
+    spelled_now (e ∷ es) (x ∷ xs) (v ∷ vs) holds =
+        (symbol_spells of law q d first f fs t s m0 frame m' sees' x e.kind e.attr v holds.0, spelled_now es xs vs holds.1)
 
     pub instance : (every : Bool) (es es' : List (Entry O)) (rule : Rule) (vs : List Sense) (e : EffectShape)
         → IsValid q → IsRule d.classes rule → of.effect d.classes rule ≡ Ok e → AllLoaded es' → Hold es rule.right vs → HoldNow es' rule.right vs

@@ -30,6 +30,7 @@ use Rattle.sel_target.specs.declared.attr.Attr.TheVariants as attr
 use Rattle.sel_target.specs.Meaning.{Meaning, Extent}
 use Rattle.sel_target.specs.Values.{address_of, worth, token_worth, own_operand}
 use Rattle.sel_target.specs.Laws.{IsLawful}
+use Rattle.sel_target.specs.Spelled.{TokenIsSpelled}
 use Rattle.sel_target.specs.Instances.{KindFits, SymFits, TokenIsWhole, IsWhole, InFrame}
 use Rattle.sel_terms_trees.specs.Senses.{Sense, means}
 use Rattle.sel_parse_stands.specs.Stands.{NamedBy, ClassIs, register, in_slot, value, place, number, address, SymbolIs, token, class, Sees, IsFrame}
@@ -191,7 +192,7 @@ module _ {O I S F : Type 0} (of : Meaning O I S F) (law : IsLawful of) (q : Tree
   -- where a symbol stands for a number, its attribute is worth it
   pub symbol_reads : (x : Sym) (k : Option Kind) (a : Attr O) (v : Sense) (n : ℕ) → SymbolIs of q d first f fs t s m0 m x k a v → read s (means q.objects s v) ≡ values.Number n
       → worth of q (size_of_symbol d.classes x) a m ≡ Some n
-  symbol_reads x k a v n (token l fit named) e = token_reads l.tok l.att n fit named e
+  symbol_reads x k a v n (token l fit named) e = token_reads l.tok l.att n fit named.0 e
   symbol_reads x k a v n (class c a' v' is) e = class_reads (kind_at d.classes c) a v n is e
 
   -- a symbol's number is of its size
@@ -491,7 +492,7 @@ module _ {O I S F : Type 0} (of : Meaning O I S F) (law : IsLawful of) (q : Tree
 
   pub symbol_small : (x : Sym) (k : Option Kind) (a : Attr O) (v : Sense) (n : ℕ) → SymbolIs of q d first f fs t s m0 m x k a v → worth of q (size_of_symbol d.classes x) a m ≡ Some n
       → n < 2 ^ (8 * bytes_of (size_of_symbol d.classes x))
-  symbol_small x k a v n (token l fit named) e = token_small l.tok l.att n fit named e
+  symbol_small x k a v n (token l fit named) e = token_small l.tok l.att n fit named.0 e
   symbol_small x k a v n (class c a' v' is) e = class_small (kind_at d.classes c) a v n is e
 
   -- an entry that isn't in a slot fits its symbol
@@ -786,8 +787,20 @@ module _ {O I S F : Type 0} (of : Meaning O I S F) (law : IsLawful of) (q : Tree
   in_frame tok.End (att.Callee function count) fit named = tt
 
   pub symbol_fits : (x : Sym) (k : Option Kind) (a : Attr O) (v : Sense) → IsLoaded a → SymbolIs of q d first f fs t s m0 m x k a v → SymFits of d.classes x a
-  symbol_fits x k a v loaded (token l fit named) = (refl, fit, in_frame l.tok l.att fit named)
+  symbol_fits x k a v loaded (token l fit named) = (refl, fit, in_frame l.tok l.att fit named.0)
   symbol_fits x k a v loaded (class c a' v' is) = class_fits (kind_at d.classes c) a v loaded is
+
+  class_spells : (k : Option Kind) (a : Attr O) (v : Sense) → ClassIs of q d first f fs t s m0 m k a v → TokenIsSpelled q a
+  class_spells k a v (register r n lt is) = tt
+  class_spells k a v (in_slot w n le lt is) = tt
+  class_spells k a v (value z o n fits is) = tt
+  class_spells k a v (place z o g fits is) = tt
+  class_spells k a v (number n lt) = tt
+  class_spells k a v (address o n fits is) = tt
+
+  pub symbol_spells : (x : Sym) (k : Option Kind) (a : Attr O) (v : Sense) → SymbolIs of q d first f fs t s m0 m x k a v → TokenIsSpelled q a
+  symbol_spells x k a v (token l fit named) = named.1
+  symbol_spells x k a v (class c a' v' is) = class_spells (kind_at d.classes c) a v is
 
   argument_whole : (k : ℕ) → 1 ≤ k → k ≤ length t.running.arguments → IsSome (of.reads (of.argument k) Long m)
   argument_whole zero one le = absurd (omega (arith, one))
@@ -1097,7 +1110,7 @@ module _ {O I S F : Type 0} (of : Meaning O I S F) (law : IsLawful of) (q : Tree
   class_whole k a v (address o x fits is) = is_some (of.names o Long m) x is
 
   pub symbol_whole : (x : Sym) (k : Option Kind) (a : Attr O) (v : Sense) → SymbolIs of q d first f fs t s m0 m x k a v → IsWhole a (worth of q (size_of_symbol d.classes x) a m)
-  symbol_whole x k a v (token l fit named) = token_whole l.tok l.att fit named
+  symbol_whole x k a v (token l fit named) = token_whole l.tok l.att fit named.0
   symbol_whole x k a v (class c a' v' is) = class_whole (kind_at d.classes c) a v is
 
   some_same : (x y : O) → Some x ≡ Some y → x ≡ y
@@ -1404,5 +1417,5 @@ module _ {O I S F : Type 0} (of : Meaning O I S F) (law : IsLawful of) (q : Tree
 
   pub symbol_homes : (x : Sym) (k : Option Kind) (a : Attr O) (v : Sense) (p : O) → SymbolIs of q d first f fs t s m0 m x k a v → own_operand of a ≡ Some p
       → IsSome (of.names p (size_of_symbol d.classes x) m)
-  symbol_homes x k a v p (token l fit named) e = token_homes l.tok l.att p fit named e
+  symbol_homes x k a v p (token l fit named) e = token_homes l.tok l.att p fit named.0 e
   symbol_homes x k a v p (class c a' v' is) e = class_homes (kind_at d.classes c) a v p is e

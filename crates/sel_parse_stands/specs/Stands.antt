@@ -24,6 +24,7 @@ use Rattle.sel_target.specs.declared.attr.Attr.{Attr}
 use Rattle.sel_target.specs.declared.attr.Attr.TheVariants as attr
 use Rattle.sel_target.specs.Meaning.{Meaning, Extent}
 use Rattle.sel_target.specs.Values.{PlaceIs, address_of}
+use Rattle.sel_target.specs.Spelled.{IsSpelled}
 use Rattle.sel_parse_selected.specs.Entries.{Entry}
 
 -- A tree of the program q is selected by the description d for a call whose frame has the extent f, with slots from the first on. The
@@ -40,8 +41,9 @@ module _ {O I S F : Type 0} (of : Meaning O I S F) (q : TreeProgram) (d : Conten
   NamedBy x (att.Object object offset) = IsSome (address_of (slice_get q.objects object) offset)
   NamedBy x a = Unit {0}
 
+  -- and its numbers, offset and label are longwords
   abbrev pub Names : Leaf → Type 0
-  Names l = NamedBy l.tok l.att
+  Names l = NamedBy l.tok l.att × IsSpelled q l.att
 
   -- the entry of a class of a kind stands for a sense
   pub data ClassIs (m : S) : (k : Option Kind) (a : Attr O) (v : Sense) → Type 0 where

@@ -7,6 +7,7 @@ pub mod Meaning
 pub mod OperandLaws
 pub mod Outcomes
 pub mod SavingLaws
+pub mod Spelled
 pub mod StatementLaws
 pub mod TemplateLaws
 pub mod Values

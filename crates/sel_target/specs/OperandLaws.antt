@@ -20,6 +20,7 @@ use Rattle.sel_terms.specs.Effects.{EffectShape}
 use Rattle.sel_target.specs.declared.attr.Attr.{Attr}
 use Rattle.sel_target.specs.Meaning.{Meaning, Extent, Spot, touches}
 use Rattle.sel_target.specs.Values.{own_operand}
+use Rattle.sel_target.specs.Spelled.{AreSpelled}
 use Rattle.sel_target.specs.Instances.{hole, attr_touches, Fit}
 
 module _ {O I S F : Type 0} (of : Meaning O I S F) where
@@ -44,13 +45,14 @@ module _ {O I S F : Type 0} (of : Meaning O I S F) where
     -- a hole alone, of a symbol that is a place, is that place
     pub alone : (q : TreeProgram) (l : Line) (i : ℕ) (hs : List (Attr O)) (h : Attr O) (o : O) →
         l.pieces ≡ piece.Hole i ∷ [] → hole hs i ≡ Some h → own_operand of h ≡ Some o → of.operand q l hs ≡ o
-    -- a slot may stand for a value, a deferred slot for a place or an address, and a shape for what its rule gives
+    -- a slot may stand for a value, and a deferred slot for a place or an address
     pub slot_fits : (size : Size) (w : ℕ) → w < 1024 → of.fits (kind.Value size) (of.slot w) ≡ true
     pub deferred_fits : (size : Size) (w : ℕ) → w < 1024 → of.fits (kind.Place size) (of.slot_deferred w) ≡ true
     pub deferred_fits_address : (w : ℕ) → w < 1024 → of.fits kind.Ea (of.slot_deferred w) ≡ true
+    -- A shape may stand for what its rule gives, with its tokens' numbers longwords and their objects the program's.
     pub shape_fits : (q : TreeProgram) (classes : List Class) (rule : Rule) (e : EffectShape) (k : Kind) (l : Line) (hs : List (Attr O)) →
         of.can_write q → IsRule classes rule → of.effect classes rule ≡ Ok e → rule.give ≡ give.Shape l → kind_at classes rule.left ≡ Some k →
-        Fit of classes rule.right hs → of.fits k (of.operand q l hs) ≡ true
+        Fit of classes rule.right hs → AreSpelled q hs → of.fits k (of.operand q l hs) ≡ true
 
   -- In a state that stands for a tree state, operands read and name what is there.
   pub record ReadsWhatIsThere : Type 0 where

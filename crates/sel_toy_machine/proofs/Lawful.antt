@@ -29,7 +29,7 @@ toy_spells = record {
   slot_fits = λ size w lt. refl;
   deferred_fits = λ size w lt. refl;
   deferred_fits_address = λ w lt. refl;
-  shape_fits = λ q classes rule e k l hs can fits taken gives is fit. shape_fits q classes rule e k l hs taken gives is fit;
+  shape_fits = λ q classes rule e k l hs can fits taken gives is fit spelled. shape_fits q classes rule e k l hs taken gives is fit;
 }
 
 pub toy_is_lawful : IsLawful toy

@@ -1,0 +1,5 @@
+pub mod Turning
+pub mod Holding
+pub mod Spilling
+pub mod Reducing
+pub mod Parsing

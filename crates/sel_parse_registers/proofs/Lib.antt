@@ -1,0 +1,4 @@
+pub mod Pools
+pub mod Owning
+pub mod Serving
+pub mod Never

@@ -1,0 +1,2 @@
+mod Norming
+mod Patterns
