@@ -1,0 +1,5 @@
+pub mod Digits
+pub mod Pieces
+pub mod Reading
+pub mod Lines
+pub mod Texts
