@@ -104,6 +104,7 @@ module _ (program : TreeProgram) (code : List CodeItem) (emitted : (n : ℕ) (g 
       room = has_room.room;
       same_locals = here.active.locals;
       words = omega arith;
+      few = few_words;
       arguments = here.active.arguments;
       pushed = calls_with (role_of w) order;
       result = saves_with (role_of w) order;

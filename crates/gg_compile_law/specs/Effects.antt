@@ -47,6 +47,7 @@ pub record IsReady (locals args most : ℕ) (w : List Leaf) (e : Extent) (t : Tr
   pub room : HasRoom m
   pub same_locals : e.locals ≡ locals
   pub words : most ≤ e.words
+  pub few : e.words ≤ 1024
   pub arguments : length t.running.arguments ≡ args
   -- before a call just its arguments are pushed, and a result is saved directly behind its call
   pub pushed : (function count : ℕ) → role_of w ≡ Calls function count → length t.running.pushed ≡ count

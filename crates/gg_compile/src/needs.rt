@@ -1,0 +1,28 @@
+// Which functions fit a frame.
+ghost use Rattle.std.specs.Prelude.{IfErr, OnOk};
+ghost use Rattle.c_program.specs.Programs.{program};
+ghost use Rattle.gg_compile.specs.Needs.{AllFit, IsOver};
+
+use crate::fault::CompileFault;
+use c_typed::Program;
+use gg_base::NoMemory;
+use gg_base::limits::NEED_LIMIT;
+
+/// Refuses a program with a function that needs more than 1,024 words of its frame: the first such function.
+#[tactic(auto, using(crate::proofs::Needing::one_fits, crate::proofs::Needing::all_fit, crate::proofs::Needing::first_over))]
+pub fn check_needs(source: &Program) -> Result<(), CompileFault>
+    ensures fit { OnOk result (AllFit (program source.now.held)) }
+    ensures over { IfErr result (IsOver (program source.now.held)) }
+{
+    let count = source.plain().routines.len();
+    let mut function = 0;
+    while (function as usize) < count {
+        let need = source.need(function);
+        if need > NEED_LIMIT {
+            return Err(CompileFault::FrameFull { function, need });
+        }
+        // More functions than 32 bits can number count as want of memory.
+        function = function.checked_add(1).ok_or(NoMemory)?;
+    }
+    Ok(())
+}

@@ -1,0 +1,4 @@
+pub mod Trees
+pub mod Naming
+pub mod Courses
+pub mod Effect

@@ -1,0 +1,5 @@
+pub mod Leaves
+pub mod Trees
+pub mod Functions
+pub mod Names
+pub mod Keeping

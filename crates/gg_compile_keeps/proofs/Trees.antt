@@ -1,0 +1,123 @@
+-- The code that is selected of a function's trees, one after another.
+use Rattle.std.proofs.Common.{◌≡◌, ℕ, suc, ◌≤◌, List, ◌∷◌, length, Some, refl, sym, subst, arith}
+use Rattle.std.specs.Prelude.{slice_get}
+use Rattle.std.proofs.lemmas.Bool.Decides.{nat_tests}
+use Rattle.tree_core.specs.declared.token.Sort.TheVariants as sort
+use Rattle.tree_core.specs.declared.tree.Leaf.{Leaf}
+use Rattle.tree_core.specs.declared.program.TreeItem.{TreeItem}
+use Rattle.tree_core.specs.declared.program.TreeItem.TheVariants as item
+use Rattle.tree_core.specs.declared.program.TreeFn.{TreeFn}
+use Rattle.tree_core.specs.declared.program.TreeProgram.{TreeProgram}
+use Rattle.tree_core.specs.Trees.{IsTyped}
+use Rattle.tree_core.specs.Valid.{ItemStands, ItemsStand}
+use Rattle.md_reader.specs.State.{Content}
+use Rattle.sel_regs.specs.Slots.{larger_of}
+use Rattle.sel_parse_desk.specs.Selected.{tree_of}
+use Rattle.sel_parse_desk.specs.Selected as desk
+use Rattle.sel_parse_selected.specs.Selected.{Selected}
+use Rattle.sel_parse_effect.specs.Claims.{IsFit}
+use Rattle.sel_parse_lines.proofs.Words.{selections_use_few_words}
+use Rattle.sel_parse_joined.proofs.Parsing.{same_code}
+use Rattle.vax_core.specs.declared.code.Instr.{Instr}
+use Rattle.vax_core.specs.declared.code.CodeItem.{CodeItem}
+use Rattle.vax_target_meaning.specs.Vax.{vax}
+use Rattle.vax_target_laws.proofs.Lawful.{vax_is_lawful}
+use Rattle.gg_compile_law.specs.Effects.{HasEffect}
+use Rattle.gg_compile_law.specs.Assembled.{IsTreeCode}
+use Rattle.gg_compile_law.specs.Assembled as assembled
+use Rattle.gg_compile_law.proofs.Validity.{all_at, IsIn}
+use Rattle.gg_compile_effect.specs.Claims.{IsTreeOf}
+use Rattle.gg_compile_effect.proofs.Trees.{root_is}
+use Rattle.gg_compile_effect.proofs.Effect.{all_taken, selected_trees_have_effect}
+use Rattle.gg_compile_code.specs.Selecting.{AreSelected, nothing, label, tree}
+use Rattle.gg_compile_keeps.specs.Programs.{IsSelectable}
+use Rattle.gg_compile_keeps.proofs.Leaves.{tree_own}
+
+larger_left : (n m : ℕ) → n ≤ larger_of n m
+larger_left n m = grind (arith, nat_tests)
+
+larger_right : (n m : ℕ) → m ≤ larger_of n m
+larger_right n m = grind (arith, nat_tests)
+
+larger_within : (n m k : ℕ) → n ≤ k → m ≤ k → larger_of n m ≤ k
+larger_within n m k a b = grind (arith, nat_tests)
+
+-- where a frame has more words, the code has its effect all the more
+wider : (q : TreeProgram) (locals args most words : ℕ) (w : List Leaf) (code : List Instr) → most ≤ words → HasEffect q locals args most w code → HasEffect q locals args words w code
+wider q locals args most words w code le h = record {
+  some = h.some;
+  does = λ e es t m agrees ready. h.does e es t m agrees
+      (record {
+        room = ready.room;
+        same_locals = ready.same_locals;
+        words = (let enough = ready.words in omega (arith, enough, le));
+        few = ready.few;
+        arguments = ready.arguments;
+        pushed = ready.pushed;
+        result = ready.result;
+      });
+}
+
+module _ (q : TreeProgram) (ok : IsSelectable q) (d : Content) (fit : IsFit vax d) (n : ℕ) (g : TreeFn) (there : slice_get q.functions n ≡ Some g) where
+  pub stands : ItemsStand q.functions (length q.objects) g
+  stands = all_at (ItemsStand q.functions (length q.objects)) q.functions n g ok.valid.roots there
+
+  pub tree_of_it : (w : List Leaf) → IsIn (item.Root w) g.items → IsTreeOf q g w
+  tree_of_it w at = record {
+    stands = all_at (ItemStands q.functions (length q.objects) g) g.items at.0 (item.Root w) stands at.1;
+    spelled = ok.longwords n at.0 g w there at.1;
+    calm = ok.calm n at.0 g w there at.1;
+  }
+
+  -- the selection that is computed is the one of which the laws speak
+  pub selected : (w : List Leaf) → IsIn (item.Root w) g.items → (instrs : List Instr) (most : ℕ) → desk.Selected vax q d g.locals (tree_of w) instrs most
+      → Selected vax q d g.locals (tree_of w) instrs most
+  selected w at instrs most s =
+      let t = tree_of_it w at in
+      same_code vax vax_is_lawful q d g.locals (tree_of w) instrs most
+      (record {
+        spelled = ok.names;
+        taken = record { valid = fit.valid; taken = all_taken d.classes _ d.rules fit.rules };
+        typed = subst (λ (x : List Leaf). IsTyped x sort.Stmt) (sym (root_is w t.stands.0)) t.stands.0;
+        own = tree_own q g (ok.locals n g there) w t.stands.0 t.stands.1 t.spelled;
+      })
+      s
+
+  effect : (w : List Leaf) → IsIn (item.Root w) g.items → (instrs : List Instr) (most : ℕ) → desk.Selected vax q d g.locals (tree_of w) instrs most
+      → HasEffect q g.locals g.args most w instrs
+  effect w at instrs most s = selected_trees_have_effect q d g w instrs most ok.valid ok.names fit (tree_of_it w at) (selected w at instrs most s)
+
+  few : (w : List Leaf) → IsIn (item.Root w) g.items → (instrs : List Instr) (most : ℕ) → desk.Selected vax q d g.locals (tree_of w) instrs most → most ≤ 1024
+  few w at instrs most s = selections_use_few_words vax q d g.locals (tree_of w) instrs most (ok.locals n g there) (selected w at instrs most s)
+
+  -- ---- all items
+
+  abbrev pub Among : List TreeItem → Type 0
+  Among is = (w : List Leaf) → IsIn (item.Root w) is → IsIn (item.Root w) g.items
+
+  pub behind : (i : TreeItem) (is : List TreeItem) → Among (i ∷ is) → Among is
+  behind i is sub w at = sub w (suc at.0, at.1)
+
+  pub used_up : (used most : ℕ) (is : List TreeItem) (code : List CodeItem) → AreSelected vax d q g.locals used is code most → used ≤ most
+  used_up used most is code (nothing u) = omega arith
+  used_up used most is code (label u m l js rest h) = used_up u most js rest h
+  used_up used most is code (tree u k m w js instrs rest one h) =
+      let a = used_up (larger_of u k) most js rest h in
+      let b = larger_left u k in
+      omega (arith, a, b)
+
+  pub words_few : (used most : ℕ) (is : List TreeItem) (code : List CodeItem) → Among is → used ≤ 1024 → AreSelected vax d q g.locals used is code most → most ≤ 1024
+  words_few used most is code sub le (nothing u) = le
+  words_few used most is code sub le (label u m l js rest h) = words_few u most js rest (behind (item.Label l) js sub) le h
+  words_few used most is code sub le (tree u k m w js instrs rest one h) =
+      words_few (larger_of u k) most js rest (behind (item.Root w) js sub) (larger_within u k 1024 le (few w (sub w (0, refl)) instrs k one)) h
+
+  pub tree_code : (words used most : ℕ) (is : List TreeItem) (code : List CodeItem) → Among is → most ≤ words → AreSelected vax d q g.locals used is code most
+      → IsTreeCode q g words is code
+  tree_code words used most is code sub le (nothing u) = assembled.nothing
+  tree_code words used most is code sub le (label u m l js rest h) = assembled.label l js rest (tree_code words u most js rest (behind (item.Label l) js sub) le h)
+  tree_code words used most is code sub le (tree u k m w js instrs rest one h) =
+      let up = used_up (larger_of u k) most js rest h in
+      let right = larger_right u k in
+      assembled.root w js instrs rest (wider q g.locals g.args k words w instrs (omega (arith, up, right, le)) (effect w (sub w (0, refl)) instrs k one))
+      (tree_code words (larger_of u k) most js rest (behind (item.Root w) js sub) le h)

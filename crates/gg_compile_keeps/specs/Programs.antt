@@ -1,0 +1,31 @@
+-- Tree programs of which code is selected.
+use Rattle.std.specs.Prelude.{◌≡◌, ℕ, ◌≤◌, List, Some, slice_get}
+use Rattle.std.specs.List.{All, AllByRecursion}
+use Rattle.tree_core.specs.declared.tree.Leaf.{Leaf}
+use Rattle.tree_core.specs.declared.program.TreeItem.TheVariants as item
+use Rattle.tree_core.specs.declared.program.TreeFn.{TreeFn}
+use Rattle.tree_core.specs.declared.program.TreeProgram.{TreeProgram}
+use Rattle.tree_core.specs.Calm.{Calm}
+use Rattle.tree_core.specs.Valid.{IsValid}
+use Rattle.sel_target.specs.Spelled.{IsSpelled}
+use Rattle.vax_target_meaning.specs.Fitting.{CanWrite}
+use Rattle.gg_compile_law.specs.Spelling.{HoldsNumbers}
+use Rattle.gg_compile_law.specs.Names.{HaveSmall}
+use Rattle.gg_compile_law.specs.Loaded.{AreApart}
+
+-- it holds of each tree of each function
+abbrev pub EachTree : (List Leaf → Type 0) → TreeProgram → Type 0
+EachTree P q = (f n : ℕ) (g : TreeFn) (w : List Leaf) → slice_get q.functions f ≡ Some g → slice_get g.items n ≡ Some (item.Root w) → P w
+
+-- A tree program that code can be selected of: it is valid, in none of its trees is memory read behind a division, each function's locals fit
+-- its frame, and its objects have labels of their own, and bytes as contents, a link's being the linked address.
+pub record IsSelectable (q : TreeProgram) : Type 0 where
+  pub valid : IsValid q
+  pub calm : EachTree Calm q
+  pub locals : (n : ℕ) (g : TreeFn) → slice_get q.functions n ≡ Some g → g.locals ≤ 1024
+  pub apart : AreApart q.objects q.functions
+  pub numbers : All (HoldsNumbers q.objects) q.objects
+  -- its names can be spelled, and its numbers, offsets and labels are longwords
+  pub names : CanWrite q
+  pub longwords : EachTree (λ (w : List Leaf). AllByRecursion (λ (l : Leaf). IsSpelled q l.att) w) q
+  pub small : HaveSmall q.functions

@@ -1,0 +1,4 @@
+//! The code that is selected of a program's trees keeps them.
+#![tactic(auto)]
+
+pub mod laws;
