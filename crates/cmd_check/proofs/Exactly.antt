@@ -1,82 +1,233 @@
 -- Each status comes where its cause is there.
-use Rattle.std.proofs.Common.{◌≡◌, ℕ, List, inl, inr, refl, sym, subst}
-use Rattle.gg_outside.specs.Outside.{IsLonger}
+use Rattle.std.proofs.Common.{◌≡◌, ◌∙◌, ◌⊎◌, ℕ, List, Option, Some, None, inl, inr, refl, sym, ap, subst}
+use Rattle.gg_outside.specs.Outside.{Content as File, IsLonger}
 use Rattle.cmd_session.specs.declared.status.Status.{Status}
 use Rattle.cmd_session.specs.declared.status.Status.TheVariants as statuses
+use Rattle.cmd_session.specs.Writing.{Change}
+use Rattle.cmd_session.specs.Telling.{IsRefused}
 use Rattle.cmd_files.specs.Forms.{Holds, HoldsNone}
-use Rattle.cmd_files.specs.Outsides.{Outside, HasNoFault}
+use Rattle.cmd_files.specs.Outsides.{Lookup, Outside, Fails, HasNoFault}
+use Rattle.cmd_files.specs.Stages.{FileRefused, Unread, LongFile, WrongFile, StarvedFile}
 use Rattle.cmd_files.specs.Exact.{IsLongFile, IsNoItem, IsItem, IsAnswer}
 use Rattle.cmd_files.proofs.Exactly.{long_no_item, long_not_wrong, item_not_long, none_not_long, none_no_item, item_not_wrong, same_item}
 use Rattle.md_reader.specs.State.{Content}
 use Rattle.lr_tables.specs.View.{TableView}
 use Rattle.lr_tables.specs.Promises.{HasTooManySets}
-use Rattle.cmd_check.specs.Descriptions.{description_limit, description_form}
+use Rattle.lr_checked.specs.declared.checking.CheckFault.{CheckFault}
+use Rattle.lr_checked.specs.declared.checking.CheckFault.TheVariants as faults
+use Rattle.lr_checked.specs.Accepted.{NeverStops}
+use Rattle.lr_checked.specs.Refusals.{FaultIsReal}
+use Rattle.sel_parse.specs.Shown.{Refusal}
+use Rattle.cmd_check.specs.Descriptions.{description_limit, description_form, IsAccepted, BuildRefused, TooMany, StarvedBuild, NotRead, NotBuilt, GeneratorRefused, NoTables, Stopped, NoRules}
+use Rattle.cmd_check.specs.Rules.{vax_refusal, refusal_status, RulesRefused, NotShown, StarvedShow}
+use Rattle.cmd_check.specs.Stops.{stop_status, TellsStop}
 use Rattle.cmd_check.specs.Outcome.{Builds, Leaves}
-use Rattle.cmd_check.specs.Exact.{Answers}
+use Rattle.cmd_check.specs.Exact.{MayAnswer, IsStop, Refuses, Answers}
+use Rattle.cmd_check.proofs.Samples.{not_blocking, not_looping}
+
+-- how a description can be refused without a counted fault
+pub data OfDescription (result : Status) (file : File) : Type 0 where
+  Long : (is : result ≡ statuses.TooLong) (longer : IsLonger file description_limit) → OfDescription result file
+  Wrong : (is : result ≡ statuses.DescRefused) (line : List ℕ) (wrong : HoldsNone description_form file line) → OfDescription result file
+  Full : (is : result ≡ statuses.Full) (d : Content) (holds : Holds description_form file d) (many : HasTooManySets d) → OfDescription result file
+  Stops : (d : Content) (fault : CheckFault) (is : result ≡ stop_status fault) (holds : Holds description_form file d) (few : ¬ HasTooManySets d)
+      (real : FaultIsReal d fault) → OfDescription result file
+  Unshown : (d : Content) (r : Refusal) (is : result ≡ refusal_status r) (holds : Holds description_form file d) (few : ¬ HasTooManySets d)
+      (never : NeverStops d) (first : vax_refusal d ≡ Some r) → OfDescription result file
+
+-- what reading a description may come to without a counted fault
+pub data Comes (result : Status) (file : File) : Type 0 where
+  Memory : (is : result ≡ statuses.NoMemory) → Comes result file
+  Refused : (of : OfDescription result file) → Comes result file
+  Accepted : (d : Content) (holds : Holds description_form file d) (accepted : IsAccepted d) → Comes result file
+
+-- ---- from what was told
+
+-- memory ran out, or the description was refused
+abbrev pub IsNot : Status → File → Type 0
+IsNot result file = (result ≡ statuses.NoMemory) ⊎ OfDescription result file
+
+module _ (result : Status) (name : List ℕ) (folder : Lookup) (report : Change) where
+  told : (status : Status) (line : List ℕ) → IsRefused status line result report → (result ≡ status → OfDescription result (folder.holds name))
+      → IsNot result (folder.holds name)
+  told status line (inl is) go = inr (go is.0)
+  told status line (inr starved) go = inl starved.0
+
+  of_file : (Fails name folder → ⊥) → FileRefused description_form name folder result report → IsNot result (folder.holds name)
+  of_file unfailed (Unread is noted line) = absurd (unfailed noted)
+  of_file unfailed (LongFile is longer kept line) = inr (Long is longer)
+  of_file unfailed (WrongFile is line wrong kept said) = inr (Wrong is line wrong)
+  of_file unfailed (StarvedFile starved once) = inl starved.0
+
+  of_tables : (d : Content) → Holds description_form (folder.holds name) d → BuildRefused d result report → IsNot result (folder.holds name)
+  of_tables d holds (TooMany is many line) = inr (Full is d holds many)
+  of_tables d holds (StarvedBuild starved) = inl starved.0
+
+  of_fault : (d : Content) → Holds description_form (folder.holds name) d → ¬ HasTooManySets d → (fault : CheckFault) → FaultIsReal d fault
+      → TellsStop fault result report → IsNot result (folder.holds name)
+  of_fault d holds few faults.NoMemory real starved = inl starved.0
+  of_fault d holds few (faults.Blocks nodes) real said = told _ _ said (λ is. Stops d (faults.Blocks nodes) is holds few real)
+  of_fault d holds few (faults.Loops nodes) real said = told _ _ said (λ is. Stops d (faults.Loops nodes) is holds few real)
+  of_fault d holds few faults.CheckFull real said = told _ _ said (λ is. Stops d faults.CheckFull is holds few real)
+  of_fault d holds few faults.Unshown real said = told _ _ said (λ is. Stops d faults.Unshown is holds few real)
+
+  of_rules : (d : Content) → Holds description_form (folder.holds name) d → ¬ HasTooManySets d → NeverStops d → RulesRefused d result report
+      → IsNot result (folder.holds name)
+  of_rules d holds few never (NotShown r first said) = told _ _ said (λ is. Unshown d r is holds few never first)
+  of_rules d holds few never (StarvedShow starved) = inl starved.0
+
+  pub of_generator : (Fails name folder → ⊥) → GeneratorRefused name folder result report → IsNot result (folder.holds name)
+  of_generator unfailed (NoTables (NotRead r)) = of_file unfailed r
+  of_generator unfailed (NoTables (NotBuilt d holds kept r)) = of_tables d holds r
+  of_generator unfailed (Stopped d holds kept few r) = of_fault d holds few r.fault r.real r.told
+  of_generator unfailed (NoRules d holds kept few never r) = of_rules d holds few never r
+
+-- ---- each refusal
+
+module _ (result : Status) (file : File) where
+  -- what holds of the description that is told holds of the one that was read
+  read : (P : Content → Type 0) (d e : Content) → IsItem description_form file d → Holds description_form file e → P d → P e
+  read P d e h holds x = subst P (sym (same_item description_form file d e h holds)) x
+
+  other : {A : Type 0} (o : Option A) (a b : A) → o ≡ Some a → o ≡ Some b → a ≡ b
+  other o a b e f = cc
+
+  none_some : {A : Type 0} (o : Option A) (a : A) → o ≡ None → o ≡ Some a → ⊥
+  none_some o a e f = cc
+
+  long : IsLongFile description_limit file → Comes result file → IsAnswer statuses.TooLong result
+  long h (Memory is) = inr is
+  long h (Refused (Long is longer)) = inl is
+  long h (Refused (Wrong is line wrong)) = absurd (long_not_wrong description_form file line h wrong)
+  long h (Refused (Full is d holds many)) = absurd (long_no_item description_form file d h holds)
+  long h (Refused (Stops d fault is holds few real)) = absurd (long_no_item description_form file d h holds)
+  long h (Refused (Unshown d r is holds few never first)) = absurd (long_no_item description_form file d h holds)
+  long h (Accepted d holds accepted) = absurd (long_no_item description_form file d h holds)
+
+  wrong_file : IsNoItem description_form file → Comes result file → IsAnswer statuses.DescRefused result
+  wrong_file h (Memory is) = inr is
+  wrong_file h (Refused (Long is longer)) = absurd (none_not_long description_form file h longer)
+  wrong_file h (Refused (Wrong is line wrong)) = inl is
+  wrong_file h (Refused (Full is d holds many)) = absurd (none_no_item description_form file d h holds)
+  wrong_file h (Refused (Stops d fault is holds few real)) = absurd (none_no_item description_form file d h holds)
+  wrong_file h (Refused (Unshown d r is holds few never first)) = absurd (none_no_item description_form file d h holds)
+  wrong_file h (Accepted d holds accepted) = absurd (none_no_item description_form file d h holds)
+
+  full : (d : Content) → IsItem description_form file d → HasTooManySets d → Comes result file → IsAnswer statuses.Full result
+  full d h many (Memory is) = inr is
+  full d h many (Refused (Long is longer)) = absurd (item_not_long description_form file d h longer)
+  full d h many (Refused (Wrong is line wrong)) = absurd (item_not_wrong description_form file d line h wrong)
+  full d h many (Refused (Full is e holds more)) = inl is
+  full d h many (Refused (Stops e fault is holds few real)) = absurd (few (read HasTooManySets d e h holds many))
+  full d h many (Refused (Unshown e r is holds few never first)) = absurd (few (read HasTooManySets d e h holds many))
+  full d h many (Accepted e holds accepted) = absurd (accepted.few (read HasTooManySets d e h holds many))
+
+  stop_of : (fault : CheckFault) → result ≡ stop_status fault → IsStop result
+  stop_of faults.NoMemory is = inl (inl (inr is))
+  stop_of (faults.Blocks nodes) is = inl (inl (inl is))
+  stop_of (faults.Loops nodes) is = inr is
+  stop_of faults.CheckFull is = inl (inr (inl is))
+  stop_of faults.Unshown is = inl (inr (inr is))
+
+  stops : (d : Content) → IsItem description_form file d → ¬ HasTooManySets d → ¬ NeverStops d → Comes result file → IsStop result
+  stops d h few not (Memory is) = inl (inl (inr is))
+  stops d h few not (Refused (Long is longer)) = absurd (item_not_long description_form file d h longer)
+  stops d h few not (Refused (Wrong is line wrong)) = absurd (item_not_wrong description_form file d line h wrong)
+  stops d h few not (Refused (Full is e holds many)) = absurd (read (λ (x : Content). ¬ HasTooManySets x) d e h holds few many)
+  stops d h few not (Refused (Stops e fault is holds less real)) = stop_of fault is
+  stops d h few not (Refused (Unshown e r is holds less never first)) = absurd (read (λ (x : Content). ¬ NeverStops x) d e h holds not never)
+  stops d h few not (Accepted e holds accepted) = absurd (read (λ (x : Content). ¬ NeverStops x) d e h holds not accepted.never)
+
+  -- where no typed statement stops the parse, the check came to no end
+  undecided : (d : Content) (fault : CheckFault) (status : Status) → NeverStops d → FaultIsReal d fault → result ≡ stop_status fault → MayAnswer status result
+  undecided d faults.NoMemory status never real is = inl (inr is)
+  undecided d (faults.Blocks nodes) status never real is = absurd (not_blocking d nodes never real)
+  undecided d (faults.Loops nodes) status never real is = absurd (not_looping d nodes never real)
+  undecided d faults.CheckFull status never real is = inr (inl is)
+  undecided d faults.Unshown status never real is = inr (inr is)
+
+  unshown : (d : Content) (r : Refusal) → IsItem description_form file d → ¬ HasTooManySets d → NeverStops d → vax_refusal d ≡ Some r → Comes result file
+      → MayAnswer (refusal_status r) result
+  unshown d r h few never first (Memory is) = inl (inr is)
+  unshown d r h few never first (Refused (Long is longer)) = absurd (item_not_long description_form file d h longer)
+  unshown d r h few never first (Refused (Wrong is line wrong)) = absurd (item_not_wrong description_form file d line h wrong)
+  unshown d r h few never first (Refused (Full is e holds many)) = absurd (read (λ (x : Content). ¬ HasTooManySets x) d e h holds few many)
+  unshown d r h few never first (Refused (Stops e fault is holds less real)) =
+      undecided e fault (refusal_status r) (read NeverStops d e h holds never) real is
+  unshown d r h few never first (Refused (Unshown e q is holds less same one)) =
+      inl (inl (is ∙ ap refusal_status (other (vax_refusal e) q r one (read (λ (x : Content). vax_refusal x ≡ Some r) d e h holds first))))
+  unshown d r h few never first (Accepted e holds accepted) =
+      absurd (none_some (vax_refusal e) r accepted.shown (read (λ (x : Content). vax_refusal x ≡ Some r) d e h holds first))
+
+  pub refuses : Comes result file → Refuses result file
+  refuses c = record {
+    long = λ h. long h c;
+    wrong = λ h. wrong_file h c;
+    full = λ d h many. full d h many c;
+    stops = λ d h few not. stops d h few not c;
+    unshown = λ d r h few never first. unshown d r h few never first c;
+  }
+
+  -- an accepted description is refused only where the check came to no end
+  pub not_refused : (d : Content) (status : Status) → IsItem description_form file d → IsAccepted d → OfDescription result file → MayAnswer status result
+  not_refused d status h a (Long is longer) = absurd (item_not_long description_form file d h longer)
+  not_refused d status h a (Wrong is line wrong) = absurd (item_not_wrong description_form file d line h wrong)
+  not_refused d status h a (Full is e holds many) = absurd (read (λ (x : Content). ¬ HasTooManySets x) d e h holds a.few many)
+  not_refused d status h a (Stops e fault is holds few real) = undecided e fault status (read NeverStops d e h holds a.never) real is
+  not_refused d status h a (Unshown e r is holds few never first) =
+      absurd (none_some (vax_refusal e) r (read (λ (x : Content). vax_refusal x ≡ None) d e h holds a.shown) first)
+
+-- ---- the command
 
 -- what a call may come to without a counted fault
 data Kind (result : Status) (name : List ℕ) (at : Outside) : Type 0 where
-  Memory : (is : result ≡ statuses.NoMemory) → Kind result name at
-  FileLong : (is : result ≡ statuses.TooLong) (longer : IsLonger (at.folder.holds name) description_limit) → Kind result name at
-  Wrong : (is : result ≡ statuses.DescRefused) (line : List ℕ) (wrong : HoldsNone description_form (at.folder.holds name) line) → Kind result name at
-  Full : (is : result ≡ statuses.Full) (d : Content) (holds : Holds description_form (at.folder.holds name) d) (many : HasTooManySets d) → Kind result name at
+  Starved : (is : result ≡ statuses.NoMemory) → Kind result name at
+  Before : (of : OfDescription result (at.folder.holds name)) → Kind result name at
   Built : (is : result ≡ statuses.Done) (t : TableView) (builds : Builds name at t) → Kind result name at
 
 kinds : (result : Status) (name : List ℕ) (at : Outside) → Leaves result name at → HasNoFault name at → Kind result name at
 kinds statuses.Done name at l n = Built refl l.tables l.builds
 kinds statuses.Usage name at l n = absurd l
-kinds statuses.NoMemory name at l n = Memory refl
+kinds statuses.NoMemory name at l n = Starved refl
 kinds statuses.FileFault name at l n = absurd (n.of_folder l.noted)
 kinds statuses.InputFault name at l n = absurd l
 kinds statuses.WriteFault name at l n = absurd (n.of_out l.cut.rises)
-kinds statuses.TooLong name at l n = FileLong refl l.longer
+kinds statuses.TooLong name at l n = Before (Long refl l.longer)
 kinds statuses.SourceRefused name at l n = absurd l
-kinds statuses.DescRefused name at l n = Wrong refl l.line l.wrong
-kinds statuses.Full name at l n = Full refl l.description l.finds.holds l.many
+kinds statuses.DescRefused name at l n = Before (Wrong refl l.line l.wrong)
+kinds statuses.Full name at (inl l) n = Before (Full refl l.description l.finds.holds l.many)
+kinds statuses.Full name at (inr l) n = Before (Stops l.description faults.CheckFull refl l.finds.holds l.few l.real)
+kinds statuses.Blocks name at l n =
+    Before (Stops l.stops.description (faults.Blocks l.sample) refl l.stops.finds.holds l.stops.few l.stops.real)
+kinds statuses.Loops name at l n =
+    Before (Stops l.stops.description (faults.Loops l.sample) refl l.stops.finds.holds l.stops.few l.stops.real)
+kinds statuses.PoolSmall name at l n = Before (Unshown l.description l.refusal (sym l.status_is) l.finds.holds l.few l.never l.first)
+kinds statuses.Unshown name at l n = Before (Unshown l.description l.refusal (sym l.status_is) l.finds.holds l.few l.never l.first)
+kinds statuses.FrameFull name at l n = absurd l
 kinds statuses.AsmRefused name at l n = absurd l
 kinds statuses.Spent name at l n = absurd l
 kinds statuses.Trapped name at l n = absurd l
 kinds statuses.Wild name at l n = absurd l
 kinds statuses.Deep name at l n = absurd l
 kinds statuses.Broken name at l n = absurd l
-kinds statuses.Unbuilt name at l n = absurd l
+kinds statuses.Blocked name at l n = absurd l
+kinds statuses.Unproved name at l n = Before (Stops l.description faults.Unshown refl l.finds.holds l.few l.real)
 
-long : (result : Status) (name : List ℕ) (at : Outside) → IsLongFile description_limit (at.folder.holds name) → Kind result name at → IsAnswer statuses.TooLong result
-long result name at h (Memory is) = inr is
-long result name at h (FileLong is longer) = inl is
-long result name at h (Wrong is line wrong) = absurd (long_not_wrong description_form (at.folder.holds name) line h wrong)
-long result name at h (Full is d holds many) = absurd (long_no_item description_form (at.folder.holds name) d h holds)
-long result name at h (Built is t builds) = absurd (long_no_item description_form (at.folder.holds name) t.content h builds.finds.holds)
+comes : (result : Status) (name : List ℕ) (at : Outside) → Kind result name at → Comes result (at.folder.holds name)
+comes result name at (Starved is) = Memory is
+comes result name at (Before of) = Refused of
+comes result name at (Built is t builds) = Accepted t.content builds.finds.holds builds.accepted
 
-wrong_file : (result : Status) (name : List ℕ) (at : Outside) → IsNoItem description_form (at.folder.holds name) → Kind result name at → IsAnswer statuses.DescRefused result
-wrong_file result name at h (Memory is) = inr is
-wrong_file result name at h (FileLong is longer) = absurd (none_not_long description_form (at.folder.holds name) h longer)
-wrong_file result name at h (Wrong is line wrong) = inl is
-wrong_file result name at h (Full is d holds many) = absurd (none_no_item description_form (at.folder.holds name) d h holds)
-wrong_file result name at h (Built is t builds) = absurd (none_no_item description_form (at.folder.holds name) t.content h builds.finds.holds)
-
-full : (result : Status) (name : List ℕ) (at : Outside) (d : Content) → IsItem description_form (at.folder.holds name) d → HasTooManySets d → Kind result name at → IsAnswer statuses.Full result
-full result name at d h many (Memory is) = inr is
-full result name at d h many (FileLong is longer) = absurd (item_not_long description_form (at.folder.holds name) d h longer)
-full result name at d h many (Wrong is line wrong) = absurd (item_not_wrong description_form (at.folder.holds name) d line h wrong)
-full result name at d h many (Full is e holds more) = inl is
-full result name at d h many (Built is t builds) =
-    absurd (builds.few (subst HasTooManySets (sym (same_item description_form (at.folder.holds name) d t.content h builds.finds.holds)) many))
-
-done : (result : Status) (name : List ℕ) (at : Outside) (d : Content) → IsItem description_form (at.folder.holds name) d → ¬ HasTooManySets d → Kind result name at → IsAnswer statuses.Done result
-done result name at d h few (Memory is) = inr is
-done result name at d h few (FileLong is longer) = absurd (item_not_long description_form (at.folder.holds name) d h longer)
-done result name at d h few (Wrong is line wrong) = absurd (item_not_wrong description_form (at.folder.holds name) d line h wrong)
-done result name at d h few (Full is e holds more) =
-    absurd (few (subst HasTooManySets (same_item description_form (at.folder.holds name) d e h holds) more))
-done result name at d h few (Built is t builds) = inl is
+done : (result : Status) (name : List ℕ) (at : Outside) (d : Content) → IsItem description_form (at.folder.holds name) d → IsAccepted d
+    → Kind result name at → MayAnswer statuses.Done result
+done result name at d h a (Starved is) = inl (inr is)
+done result name at d h a (Before of) = not_refused result (at.folder.holds name) d statuses.Done h a of
+done result name at d h a (Built is t builds) = inl (inl is)
 
 pub exactly : (result : Status) (name : List ℕ) (at : Outside) → Leaves result name at → HasNoFault name at → Answers result name at
 exactly result name at leaves none =
     let kind = kinds result name at leaves none in
     record {
-      long = λ h. long result name at h kind;
-      wrong = λ h. wrong_file result name at h kind;
-      full = λ d h many. full result name at d h many kind;
-      done = λ d h few. done result name at d h few kind;
+      refuses = refuses result (at.folder.holds name) (comes result name at kind);
+      done = λ d h a. done result name at d h a kind;
     }

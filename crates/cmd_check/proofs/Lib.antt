@@ -1,2 +1,4 @@
+pub mod Samples
 pub mod Leaving
 pub mod Exactly
+pub mod Telling

@@ -1,5 +1,5 @@
--- Machine descriptions in files, and how one that has no tables is told.
-use Rattle.std.specs.Prelude.{◌≡◌, ℕ, List}
+-- Machine descriptions in files, which of them are accepted, and how another is told.
+use Rattle.std.specs.Prelude.{◌≡◌, ℕ, List, None}
 use Rattle.cmd_session.specs.declared.status.Status.{Status}
 use Rattle.cmd_session.specs.declared.status.Status.TheVariants as statuses
 use Rattle.cmd_session.specs.Writing.{Change, Reports}
@@ -13,7 +13,10 @@ use Rattle.md_reader.specs.State.{Content}
 use Rattle.md_reader.specs.Desc.{Desc}
 use Rattle.md_reader.specs.First.{IsFirst}
 use Rattle.lr_tables.specs.Promises.{HasTooManySets}
+use Rattle.lr_checked.specs.Accepted.{NeverStops}
 use Rattle.cmd_check.specs.Lines.{wrong_line, full_line}
+use Rattle.cmd_check.specs.Stops.{StopRefused}
+use Rattle.cmd_check.specs.Rules.{vax_refusal, RulesRefused}
 
 -- the longest description
 abbrev pub description_limit : ℕ
@@ -30,6 +33,12 @@ pub record NamesFirstWrong (bytes line : List ℕ) : Type 0 where
 abbrev pub description_form : Form Content
 description_form = record { limit = description_limit; reads = Desc; refuses = NamesFirstWrong; status = statuses.DescRefused; of_files = tt }
 
+-- a description is accepted: it has tables, by which no typed statement stops the parse, and all its rules are shown
+pub record IsAccepted (d : Content) : Type 0 where
+  pub few : ¬ HasTooManySets d
+  pub never : NeverStops d
+  pub shown : vax_refusal d ≡ None
+
 -- no tables were built of a description
 pub data BuildRefused (d : Content) (status : Status) (report : Change) : Type 0 where
   TooMany : (is : status ≡ statuses.Full) (many : HasTooManySets d) (told : Reports report full_line) → BuildRefused d status report
@@ -39,3 +48,11 @@ pub data BuildRefused (d : Content) (status : Status) (report : Change) : Type 0
 pub data TablesRefused (name : List ℕ) (folder : Lookup) (status : Status) (report : Change) : Type 0 where
   NotRead : (refused : FileRefused description_form name folder status report) → TablesRefused name folder status report
   NotBuilt : (d : Content) (holds : Holds description_form (folder.holds name) d) (unfailed : IsUnfailed folder) (refused : BuildRefused d status report) → TablesRefused name folder status report
+
+-- the same, or its tables were refused, or their rules are not all shown
+pub data GeneratorRefused (name : List ℕ) (folder : Lookup) (status : Status) (report : Change) : Type 0 where
+  NoTables : (refused : TablesRefused name folder status report) → GeneratorRefused name folder status report
+  Stopped : (d : Content) (holds : Holds description_form (folder.holds name) d) (unfailed : IsUnfailed folder) (few : ¬ HasTooManySets d)
+      (refused : StopRefused d status report) → GeneratorRefused name folder status report
+  NoRules : (d : Content) (holds : Holds description_form (folder.holds name) d) (unfailed : IsUnfailed folder) (few : ¬ HasTooManySets d)
+      (never : NeverStops d) (refused : RulesRefused d status report) → GeneratorRefused name folder status report

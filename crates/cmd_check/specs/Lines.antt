@@ -33,7 +33,9 @@ wrong_line line kind = codes "ggvax: description line " ++ (decimal line ++ (cod
 abbrev pub full_line : List ℕ
 full_line = codes "ggvax: more than 4096 item sets\n"
 
--- the numbers of a description's rules and of its tables' states
-abbrev pub built_line : TableView → List ℕ
-built_line t =
-    codes "built: " ++ (decimal (length t.content.rules) ++ (codes " rules, " ++ (decimal (length t.rows) ++ codes " states\n")))
+-- an accepted description: the numbers of its rules and of its tables' states
+abbrev pub ok_line : ℕ → ℕ → List ℕ
+ok_line rules states = codes "ok: " ++ (decimal rules ++ (codes " rules, " ++ (decimal states ++ codes " states\n")))
+
+abbrev pub tables_line : TableView → List ℕ
+tables_line t = ok_line (length t.content.rules) (length t.rows)

@@ -5,8 +5,8 @@ ghost use Rattle.cmd_files.specs.Outsides.{lookup, outside, FailsAtMost};
 ghost use Rattle.cmd_check.specs.Outcome.{Leaves};
 ghost use Rattle.cmd_check.specs.Exact.{IsExact};
 
-use crate::lines::built_line;
-use crate::tables::read_tables;
+use crate::generator::read_generator;
+use crate::lines::ok_line;
 use cmd_files::write_out;
 use cmd_session::{Status, no_memory};
 use gg_base::NoMemory;
@@ -26,11 +26,11 @@ fn read_and_tell<F: Folder, O: Sink, E: Sink>(
     ensures names { FailsAtMost name.now (lookup F.holds F.failed folder.old folder.new) }
     ensures holds { (n : List ℕ) → F.holds folder.new n ≡ F.holds folder.old n }
 {
-    let tables = match read_tables(alloc, folder, name, report) {
-        Ok(tables) => tables,
+    let generator = match read_generator(alloc, folder, name, report) {
+        Ok(generator) => generator,
         Err(status) => return status,
     };
-    match built_line(alloc, &tables) {
+    match ok_line(alloc, generator.rules(), generator.states()) {
         Ok(line) => match write_out(out, line.as_slice(), report) {
             Ok(()) => Status::Done,
             Err(status) => status,
@@ -39,8 +39,9 @@ fn read_and_tell<F: Folder, O: Sink, E: Sink>(
     }
 }
 
-/// The command `check D`: reads the machine description `name` and builds its tables. Then it writes to `out` how many rules
-/// the description has and how many states its tables. A refusal writes one line to `report`. Nothing of the input is taken.
+/// The command `check D`: reads the machine description `name`, builds its tables, checks that no tree stops the parse by them, and shows
+/// its rules on the VAX. Then it writes to `out` how many rules the description has and how many states its tables. A refusal writes its
+/// lines to `report`. Nothing of the input is taken.
 pub fn check_description<F: Folder, O: Sink, E: Sink>(
     alloc: Global,
     name: &str,
@@ -48,7 +49,7 @@ pub fn check_description<F: Folder, O: Sink, E: Sink>(
     out: &mut O,
     report: &mut E,
 ) -> Status
-    // What each status says of the file, of its tables, and of what both outputs gained.
+    // What each status says of the file, of its tables and rules, and of what both outputs gained.
     ensures leaves { Leaves result name.now (outside (lookup F.holds F.failed folder.old folder.new)
         (change O.told O.faults out.old out.new) (change E.told E.faults report.old report.new)) }
     // And that each comes where its cause is there, but for counted faults and want of memory.

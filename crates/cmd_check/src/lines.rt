@@ -1,9 +1,8 @@
 // The lines of a description's check.
 ghost use Rattle.std.specs.Prelude.{◌≡◌, IfOk};
-ghost use Rattle.cmd_check.specs.Lines.{kind_name, wrong_line, built_line};
+ghost use Rattle.cmd_check.specs.Lines.{kind_name, wrong_line, ok_line};
 
 use gg_base::{NoMemory, Text};
-use lr_tables::Tables;
 use md_reader::DescKind;
 use std::alloc::Global;
 
@@ -40,12 +39,10 @@ pub fn wrong_line(alloc: Global, line: u32, kind: DescKind) -> Result<Text, NoMe
     Ok(Text::from_vec(text.into_bytes()))
 }
 
-/// The line that tells how many rules a description has, and how many states its tables have.
-pub fn built_line(alloc: Global, tables: &Tables) -> Result<Text, NoMemory>
-    ensures { IfOk result (λ text. text ≡ built_line tables.now) }
+/// The line of an accepted description: how many rules it has, and how many states its tables have.
+pub fn ok_line(alloc: Global, rules: u32, states: u32) -> Result<Text, NoMemory>
+    ensures { IfOk result (λ text. text ≡ ok_line rules states) }
 {
-    let rules = tables.description().rules().len();
-    let states = tables.states();
-    let text = format!(in alloc; "built: {rules} rules, {states} states\n")?;
+    let text = format!(in alloc; "ok: {rules} rules, {states} states\n")?;
     Ok(Text::from_vec(text.into_bytes()))
 }

@@ -49,13 +49,19 @@ kinds form runner statuses.TooLong call (inr h) n f = InputLong refl h.item h.fi
 kinds form runner statuses.SourceRefused call l n f = refused form runner statuses.SourceRefused call l
 kinds form runner statuses.DescRefused call l n f = refused form runner statuses.DescRefused call l
 kinds form runner statuses.Full call l n f = absurd l
+kinds form runner statuses.Blocks call l n f = absurd l
+kinds form runner statuses.Loops call l n f = absurd l
+kinds form runner statuses.PoolSmall call l n f = absurd l
+kinds form runner statuses.Unshown call l n f = absurd l
+kinds form runner statuses.FrameFull call l n f = absurd l
 kinds form runner statuses.AsmRefused call l n f = refused form runner statuses.AsmRefused call l
 kinds form runner statuses.Spent call l n f = ran form runner statuses.Spent call _ l.ran refl
 kinds form runner statuses.Trapped call l n f = ran form runner statuses.Trapped call _ l.ran refl
 kinds form runner statuses.Wild call l n f = ran form runner statuses.Wild call _ l.ran refl
 kinds form runner statuses.Deep call l n f = ran form runner statuses.Deep call _ l.ran refl
 kinds form runner statuses.Broken call l n f = ran form runner statuses.Broken call _ l.halted.ran refl
-kinds form runner statuses.Unbuilt call l n f = absurd l
+kinds form runner statuses.Blocked call l n f = absurd l
+kinds form runner statuses.Unproved call l n f = absurd l
 
 -- told bytes are the only ones
 that_is : (file : Content) (b c : List ℕ) → file ≡ Stored b → IsThat file c → c ≡ b

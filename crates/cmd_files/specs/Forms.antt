@@ -19,13 +19,19 @@ IsOfFiles statuses.TooLong = ⊥
 IsOfFiles statuses.SourceRefused = Unit {0}
 IsOfFiles statuses.DescRefused = Unit {0}
 IsOfFiles statuses.Full = ⊥
+IsOfFiles statuses.Blocks = ⊥
+IsOfFiles statuses.Loops = ⊥
+IsOfFiles statuses.PoolSmall = ⊥
+IsOfFiles statuses.Unshown = ⊥
+IsOfFiles statuses.FrameFull = ⊥
 IsOfFiles statuses.AsmRefused = Unit {0}
 IsOfFiles statuses.Spent = ⊥
 IsOfFiles statuses.Trapped = ⊥
 IsOfFiles statuses.Wild = ⊥
 IsOfFiles statuses.Deep = ⊥
 IsOfFiles statuses.Broken = ⊥
-IsOfFiles statuses.Unbuilt = ⊥
+IsOfFiles statuses.Blocked = ⊥
+IsOfFiles statuses.Unproved = ⊥
 
 -- a form of files: the longest one, which bytes are which item's, and the lines that refuse other bytes, with their status
 pub record Form (A : Type 0) : Type 1 where

@@ -8,6 +8,7 @@ pub mod moments;
 pub mod source;
 
 pub use meaning::run_source;
+pub use source::SourceText;
 
 #[cfg(test)]
 mod tests;

@@ -18,6 +18,15 @@ pub struct SourceText {
     program: Program,
 }
 
+impl SourceText {
+    /// The program.
+    pub fn program(&self) -> &Program
+        ensures { result.now ≡ self.now.program }
+    {
+        &self.program
+    }
+}
+
 impl FileForm for SourceText {
     ghost use Rattle.c_program.specs.Programs.{AProgram};
     ghost use Rattle.c_typed_check.specs.Views.{typed};

@@ -8,7 +8,7 @@ use Rattle.std.specs.declared.alloc.Global.{Global}
 use Rattle.std.specs.String.{string_bytes}
 use Rattle.std.proofs.lemmas.Fmt.{parse-decimal, decimal_injective}
 use Rattle.std.proofs.lemmas.Slice.Eq.{bytes_eq-Decides}
-use Rattle.cmd_session.specs.Words.{spelled, IsCount, SaysNamed, SaysCounted, NoNamed, OnlyNamed, NoCounted, OnlyCounted}
+use Rattle.cmd_session.specs.Words.{spelled, IsCount, SaysNamed, SaysPaired, SaysCounted, NoNamed, OnlyNamed, NoPaired, OnlyPaired, NoCounted, OnlyCounted}
 
 two : {A : Type 0} (xs : List A) (a b : A) → 2 ≤ length xs → length xs < 3 → a ≡ get_or xs 0 a → b ≡ get_or xs 1 b → xs ≡ a ∷ (b ∷ [])
 two [] a b low high first second = absurd (omega arith)
@@ -67,17 +67,23 @@ other_spelling m n word text r is_number h text_is differs count is =
 pub only_named : (word : List ℕ) (words : List (List ℕ)) (name : List ℕ) → SaysNamed word words name → OnlyNamed word words name
 only_named word words name h other k = let same_as = sym k.words_are ∙ h.words_are in cc
 
-pub named_not_other : (word other : List ℕ) (words : List (List ℕ)) (name : List ℕ) → SaysNamed word words name → (word ≡ other → ⊥) → NoNamed other words
-named_not_other word other words name h differs another k =
-    let same_as = sym h.words_are ∙ k.words_are in
-    let equal : word ≡ other = cc in
-    differs equal
+pub named_not_paired : (word other : List ℕ) (words : List (List ℕ)) (name : List ℕ) → SaysNamed word words name → NoPaired other words
+named_not_paired word other words name h one another k = let same_as = sym k.words_are ∙ h.words_are in cc
 
 pub named_not_counted : (word other : List ℕ) (words : List (List ℕ)) (name : List ℕ) → SaysNamed word words name → NoCounted other words
 named_not_counted word other words name h another count k = let same_as = sym k.words_are ∙ h.words_are in cc
 
-pub counted_not_named : (word other : List ℕ) (words : List (List ℕ)) (name : List ℕ) (count : ℕ) → SaysCounted word words name count → NoNamed other words
-counted_not_named word other words name count h another k = let same_as = sym k.words_are ∙ h.words_are in cc
+pub paired_not_named : (word other : List ℕ) (words : List (List ℕ)) (one name : List ℕ) → SaysPaired word words one name → NoNamed other words
+paired_not_named word other words one name h another k = let same_as = sym k.words_are ∙ h.words_are in cc
+
+pub only_paired : (word : List ℕ) (words : List (List ℕ)) (one other : List ℕ) → SaysPaired word words one other → OnlyPaired word words one other
+only_paired word words one other h first second k = let same_as = sym k.words_are ∙ h.words_are in (cc, cc)
+
+pub paired_not_counted : (word other : List ℕ) (words : List (List ℕ)) (one name : List ℕ) → SaysPaired word words one name → (word ≡ other → ⊥) → NoCounted other words
+paired_not_counted word other words one name h differs another n k =
+    let same_as = sym h.words_are ∙ k.words_are in
+    let equal : word ≡ other = cc in
+    differs equal
 
 pub only_counted : (word : List ℕ) (words : List (List ℕ)) (name : List ℕ) (count : ℕ) → SaysCounted word words name count → OnlyCounted word words name count
 only_counted word words name count h other n k =
@@ -92,8 +98,11 @@ counted_not_other word other words name count h differs another n k =
     differs equal
 
 -- the words that come first
-pub first_is_not_check : codes "first" ≡ codes "check" → ⊥
-first_is_not_check h = let first = ap (λ (l : List ℕ). get_or l 0 0) h in omega (arith, first)
+pub compile_is_not_run : codes "compile" ≡ codes "run" → ⊥
+compile_is_not_run h = let first = ap (λ (l : List ℕ). get_or l 0 0) h in omega (arith, first)
+
+pub compile_is_not_meaning : codes "compile" ≡ codes "meaning" → ⊥
+compile_is_not_meaning h = let first = ap (λ (l : List ℕ). get_or l 0 0) h in omega (arith, first)
 
 pub run_is_not_meaning : codes "run" ≡ codes "meaning" → ⊥
 run_is_not_meaning h = let first = ap (λ (l : List ℕ). get_or l 0 0) h in omega (arith, first)
@@ -110,6 +119,21 @@ pub named_parts : (words : List (String Global)) (a b : String Global) (word nam
 named_parts words a b word name low high a_is b_is h =
     let e : string_bytes a ∷ (string_bytes b ∷ []) ≡ word ∷ (name ∷ []) = sym (ap spelled (two words a b low high a_is b_is)) ∙ h.words_are in
     (cc, cc)
+
+-- words that say two names are three
+pub paired_length : (words : List (String Global)) (word one other : List ℕ) → SaysPaired word (spelled words) one other → length words ≡ 3
+paired_length [] word one other h = let e = h.words_are in cc
+paired_length (a ∷ []) word one other h = let e = h.words_are in cc
+paired_length (a ∷ (b ∷ [])) word one other h = let e = h.words_are in cc
+paired_length (a ∷ (b ∷ (c ∷ []))) word one other h = refl
+paired_length (a ∷ (b ∷ (c ∷ (d ∷ rest)))) word one other h = let e = h.words_are in cc
+
+pub paired_parts : (words : List (String Global)) (a b c : String Global) (word one other : List ℕ) → 3 ≤ length words → length words < 4 →
+    a ≡ get_or words 0 a → b ≡ get_or words 1 b → c ≡ get_or words 2 c → SaysPaired word (spelled words) one other →
+    (string_bytes a ≡ word) × (string_bytes b ≡ one) × (string_bytes c ≡ other)
+paired_parts words a b c word one other low high a_is b_is c_is h =
+    let e : string_bytes a ∷ (string_bytes b ∷ (string_bytes c ∷ [])) ≡ word ∷ (one ∷ (other ∷ [])) = sym (ap spelled (three words a b c low high a_is b_is c_is)) ∙ h.words_are in
+    (cc, cc, cc)
 
 -- words that say a name and a number are three, and the first is the word before them
 pub counted_length : (words : List (String Global)) (word name : List ℕ) (count : ℕ) → SaysCounted word (spelled words) name count → length words ≡ 3

@@ -5,7 +5,7 @@ use Rattle.std.specs.declared.string.String.{String}
 use Rattle.std.specs.declared.alloc.Global.{Global}
 use Rattle.std.specs.String.{string_bytes}
 use Rattle.cmd_session.specs.declared.words.Command.{Command}
-use Rattle.cmd_session.specs.declared.words.Command.TheVariants.{First, Check, Run, Meaning}
+use Rattle.cmd_session.specs.declared.words.Command.TheVariants.{Check, Compile, Run, Meaning}
 
 -- the bytes of each word
 abbrev pub spelled : List (String Global) → List (List ℕ)
@@ -24,19 +24,25 @@ pub record SaysNamed (word : List ℕ) (words : List (List ℕ)) (name : List �
   pub words_are : words ≡ word ∷ (name ∷ [])
   pub named : 0 < length name
 
+-- a word and two names
+pub record SaysPaired (word : List ℕ) (words : List (List ℕ)) (first second : List ℕ) : Type 0 where
+  pub words_are : words ≡ word ∷ (first ∷ (second ∷ []))
+  pub first_named : 0 < length first
+  pub second_named : 0 < length second
+
 -- a word, a name, and a number in decimal without a leading zero
 pub record SaysCounted (word : List ℕ) (words : List (List ℕ)) (name : List ℕ) (count : ℕ) : Type 0 where
   pub words_are : words ≡ word ∷ (name ∷ (decimal count ∷ []))
   pub named : 0 < length name
   pub counts : IsCount count
 
--- `first S`
-abbrev pub SaysFirst : List (List ℕ) → List ℕ → Type 0
-SaysFirst words source = SaysNamed (codes "first") words source
-
 -- `check D`
 abbrev pub SaysCheck : List (List ℕ) → List ℕ → Type 0
 SaysCheck words description = SaysNamed (codes "check") words description
+
+-- `compile D S`
+abbrev pub SaysCompile : List (List ℕ) → List ℕ → List ℕ → Type 0
+SaysCompile words description source = SaysPaired (codes "compile") words description source
 
 -- `run A N`
 abbrev pub SaysRun : List (List ℕ) → List ℕ → ℕ → Type 0
@@ -48,8 +54,8 @@ SaysMeaning words source count = SaysCounted (codes "meaning") words source coun
 
 -- the words say this command
 abbrev pub Says : List (List ℕ) → Command → Type 0
-Says words (First source) = SaysFirst words source.now
 Says words (Check description) = SaysCheck words description.now
+Says words (Compile description source) = SaysCompile words description.now source.now
 Says words (Run text count) = SaysRun words text.now count
 Says words (Meaning source count) = SaysMeaning words source.now count
 
@@ -60,6 +66,12 @@ NoNamed word words = (name : List ℕ) → SaysNamed word words name → ⊥
 abbrev pub OnlyNamed : List ℕ → List (List ℕ) → List ℕ → Type 0
 OnlyNamed word words name = (other : List ℕ) → SaysNamed word words other → other ≡ name
 
+abbrev pub NoPaired : List ℕ → List (List ℕ) → Type 0
+NoPaired word words = (first second : List ℕ) → SaysPaired word words first second → ⊥
+
+abbrev pub OnlyPaired : List ℕ → List (List ℕ) → List ℕ → List ℕ → Type 0
+OnlyPaired word words first second = (one other : List ℕ) → SaysPaired word words one other → (one ≡ first) × (other ≡ second)
+
 abbrev pub NoCounted : List ℕ → List (List ℕ) → Type 0
 NoCounted word words = (name : List ℕ) (count : ℕ) → SaysCounted word words name count → ⊥
 
@@ -68,18 +80,18 @@ OnlyCounted word words name count = (other : List ℕ) (n : ℕ) → SaysCounted
 
 -- the words say no other command than this
 abbrev pub SaysOnly : List (List ℕ) → Command → Type 0
-SaysOnly words (First source) =
-    OnlyNamed (codes "first") words source.now × NoNamed (codes "check") words × NoCounted (codes "run") words × NoCounted (codes "meaning") words
 SaysOnly words (Check description) =
-    NoNamed (codes "first") words × OnlyNamed (codes "check") words description.now × NoCounted (codes "run") words × NoCounted (codes "meaning") words
+    OnlyNamed (codes "check") words description.now × NoPaired (codes "compile") words × NoCounted (codes "run") words × NoCounted (codes "meaning") words
+SaysOnly words (Compile description source) =
+    NoNamed (codes "check") words × OnlyPaired (codes "compile") words description.now source.now × NoCounted (codes "run") words × NoCounted (codes "meaning") words
 SaysOnly words (Run text count) =
-    NoNamed (codes "first") words × NoNamed (codes "check") words × OnlyCounted (codes "run") words text.now count × NoCounted (codes "meaning") words
+    NoNamed (codes "check") words × NoPaired (codes "compile") words × OnlyCounted (codes "run") words text.now count × NoCounted (codes "meaning") words
 SaysOnly words (Meaning source count) =
-    NoNamed (codes "first") words × NoNamed (codes "check") words × NoCounted (codes "run") words × OnlyCounted (codes "meaning") words source.now count
+    NoNamed (codes "check") words × NoPaired (codes "compile") words × NoCounted (codes "run") words × OnlyCounted (codes "meaning") words source.now count
 
 -- the words say no command
 pub record SaysNone (words : List (List ℕ)) : Type 0 where
-  pub no_first : NoNamed (codes "first") words
   pub no_check : NoNamed (codes "check") words
+  pub no_compile : NoPaired (codes "compile") words
   pub no_run : NoCounted (codes "run") words
   pub no_meaning : NoCounted (codes "meaning") words

@@ -23,6 +23,16 @@ pub enum Status {
     DescRefused = 8,
     /// The description has more item sets, or its check more summaries, than there may be.
     Full = 9,
+    /// The parse of a tree by the description blocks.
+    Blocks = 10,
+    /// The parse of a tree by the description turns in a circle.
+    Loops = 11,
+    /// A rule of the description needs more registers than its pool has.
+    PoolSmall = 12,
+    /// A rule of the description is not shown to do what its pattern says.
+    Unshown = 13,
+    /// A function needs more words of its frame than there may be.
+    FrameFull = 14,
     /// The assembly text is no code's, or its code can't be run.
     AsmRefused = 15,
     /// The run used up its steps and would go on.
@@ -35,6 +45,9 @@ pub enum Status {
     Deep = 19,
     /// The run of a code broke.
     Broken = 20,
-    /// The source is of a form that is not built yet.
-    Unbuilt = 21,
+    /// The parse of a tree blocks, or turns in a circle.
+    Blocked = 22,
+    /// What is not yet proved never to come: a frame whose words don't last though the need fits, or a code of which no text can be
+    /// written.
+    Unproved = 24,
 }

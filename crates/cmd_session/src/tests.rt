@@ -23,8 +23,8 @@ fn words_of(alloc: Global, text: &str) -> Result<Vec<String>, AllocError> {
 fn said(alloc: Global, text: &str) -> Result<String, AllocError> {
     let words = words_of(alloc, text)?;
     match command_of(words.as_slice()) {
-        Some(Command::First(source)) => format!(in alloc; "first {source}"),
         Some(Command::Check(description)) => format!(in alloc; "check {description}"),
+        Some(Command::Compile(d, source)) => format!(in alloc; "compile {d} {source}"),
         Some(Command::Run(text, count)) => format!(in alloc; "run {text} {count}"),
         Some(Command::Meaning(source, count)) => format!(in alloc; "meaning {source} {count}"),
         None => String::from_str(alloc, "nothing"),
@@ -34,8 +34,9 @@ fn said(alloc: Global, text: &str) -> Result<String, AllocError> {
 #[test]
 fn reads_words(rt: HostRuntime) -> Result<(), Fail> {
     let rows =
-        "first,s=first s;check,d=check d;check=nothing;check,=nothing;check,d,d=nothing;run,a.s,7=run a.s 7;run,a,1=run a 1;run,a,1000000000=run a 1000000000;\
-        =nothing;first=nothing;first,=nothing;first,s,s=nothing;last,s=nothing;run=nothing;run,a=nothing;\
+        "check,d=check d;check=nothing;check,=nothing;check,d,d=nothing;compile,d,s=compile d s;compile,d,7=compile d 7;compile=nothing;\
+        compile,d=nothing;compile,d,=nothing;compile,,s=nothing;compile,d,s,s=nothing;run,a.s,7=run a.s 7;run,a,1=run a 1;run,a,1000000000=run a 1000000000;\
+        =nothing;first,s=nothing;run=nothing;run,a=nothing;\
         run,a,=nothing;run,,7=nothing;run,a,7,7=nothing;run,a,0=nothing;run,a,00=nothing;run,a,07=nothing;\
         run,a,+7=nothing;run,a,-7=nothing;run,a,7x=nothing;run,a,1000000001=nothing;\
         run,a,18446744073709551617=nothing;Run,a,7=nothing;meaning,s.c,7=meaning s.c 7;\

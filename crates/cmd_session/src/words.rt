@@ -1,17 +1,17 @@
 // The words of the commands.
 ghost use Rattle.std.specs.Prelude.{◌≡◌, IfSome, IfNone, ℕ, List};
 ghost use Rattle.std.specs.Fmt.{decimal};
-ghost use Rattle.cmd_session.specs.Words.{spelled, IsCount, SaysNamed, SaysCounted, Says, SaysOnly, SaysNone};
+ghost use Rattle.cmd_session.specs.Words.{spelled, IsCount, SaysNamed, SaysPaired, SaysCounted, Says, SaysOnly, SaysNone};
 
 use itoa::Buffer;
 
 /// A command that is built.
 #[derive(Clone, Copy)]
 pub enum Command<'a> {
-    /// `first S`: the source's text and run.
-    First(&'a str),
     /// `check D`: the tables of the machine description D.
     Check(&'a str),
+    /// `compile D S`: the text of the source S by the machine description D.
+    Compile(&'a str, &'a str),
     /// `run A N`: the run of the text A with at most N steps.
     Run(&'a str, u64),
     /// `meaning S N`: the run of the source S by its meaning, with at most N counted turns of loops and calls.
@@ -47,6 +47,19 @@ fn named<'a>(words: &'a [String], word: &str) -> Option<&'a str>
     }
 }
 
+// The two names of the words `WORD NAME NAME`. Names are not empty.
+fn paired<'a>(words: &'a [String], word: &str) -> Option<(&'a str, &'a str)>
+    ensures some { IfSome result (λ said. SaysPaired word.now (spelled words.now) said.0.now said.1.now) }
+    ensures none { IfNone result ((one other : List ℕ) → SaysPaired word.now (spelled words.now) one other → ⊥) }
+{
+    match words {
+        [first, one, other] if first.as_str() == word && !one.is_empty() && !other.is_empty() => {
+            Some((one.as_str(), other.as_str()))
+        }
+        _ => None,
+    }
+}
+
 // The name and the number of the words `WORD NAME N`. Names are not empty.
 fn counted<'a>(words: &'a [String], word: &str) -> Option<(&'a str, u64)>
     ensures some { IfSome result (λ said. SaysCounted word.now (spelled words.now) said.0.now said.1) }
@@ -67,11 +80,11 @@ pub fn command_of(words: &[String]) -> Option<Command<'_>>
     ensures only { IfSome result (λ command. SaysOnly (spelled words.now) command) }
     ensures none { IfNone result (SaysNone (spelled words.now)) }
 {
-    if let Some(source) = named(words, "first") {
-        return Some(Command::First(source));
-    }
     if let Some(description) = named(words, "check") {
         return Some(Command::Check(description));
+    }
+    if let Some((description, source)) = paired(words, "compile") {
+        return Some(Command::Compile(description, source));
     }
     if let Some((text, count)) = counted(words, "run") {
         return Some(Command::Run(text, count));

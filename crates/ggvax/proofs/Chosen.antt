@@ -1,14 +1,14 @@
 -- What holds of the command that was chosen holds of the one that the words say.
 use Rattle.std.proofs.Common.{◌≡◌, ℕ, List, codes, Bor, sym, subst}
 use Rattle.cmd_session.specs.declared.words.Command.{Command}
-use Rattle.cmd_session.specs.declared.words.Command.TheVariants.{First, Check, Run, Meaning}
-use Rattle.cmd_session.specs.Words.{OnlyNamed, OnlyCounted, SaysOnly}
-
-pub only_first : (words : List (List ℕ)) (command : Command) (source : Bor (List ℕ)) → SaysOnly words command → command ≡ First source → OnlyNamed (codes "first") words source.now
-only_first words command source only is = (subst (SaysOnly words) is only).0
+use Rattle.cmd_session.specs.declared.words.Command.TheVariants.{Check, Compile, Run, Meaning}
+use Rattle.cmd_session.specs.Words.{OnlyNamed, OnlyPaired, OnlyCounted, SaysOnly}
 
 pub only_check : (words : List (List ℕ)) (command : Command) (d : Bor (List ℕ)) → SaysOnly words command → command ≡ Check d → OnlyNamed (codes "check") words d.now
-only_check words command d only is = (subst (SaysOnly words) is only).1
+only_check words command d only is = (subst (SaysOnly words) is only).0
+
+pub only_compile : (words : List (List ℕ)) (command : Command) (d source : Bor (List ℕ)) → SaysOnly words command → command ≡ Compile d source → OnlyPaired (codes "compile") words d.now source.now
+only_compile words command d source only is = (subst (SaysOnly words) is only).1
 
 pub only_run : (words : List (List ℕ)) (command : Command) (text : Bor (List ℕ)) (count : ℕ) → SaysOnly words command → command ≡ Run text count → OnlyCounted (codes "run") words text.now count
 only_run words command text count only is = (subst (SaysOnly words) is only).2
@@ -22,3 +22,6 @@ carried P name other count n same h = subst (λ (s : List ℕ). P s n) (sym same
 
 pub named : (P : List ℕ → Type 0) (name other : List ℕ) → other ≡ name → P name → P other
 named P name other same h = subst P (sym same) h
+
+pub paired : (P : List ℕ → List ℕ → Type 0) (one other first second : List ℕ) → (first ≡ one) × (second ≡ other) → P one other → P first second
+paired P one other first second same h = subst (λ (s : List ℕ). P s second) (sym same.0) (subst (P one) (sym same.1) h)

@@ -4,6 +4,7 @@ use crate::top::ggvax;
 use cmd_session::Status;
 use gg_base::{Bytes, Name};
 use gg_outside::{MemFile, MemFolder, MemSink, MemSource};
+use gg_texts::{M_GG, VAX_GG};
 use std::alloc::{AllocError, Global};
 use std::process::Abort;
 use std::test::Fail;
@@ -12,16 +13,6 @@ const HI: &str = "int main(){putchar(72);putchar(105);return 0;}";
 
 const HI_TEXT: &str =
     "\t.data\n\t.text\n\t.globl\t_main\n_main:\n\t.word\t0\n\tpushl\t$72\n\tcalls\t$1,_putchar\n\tpushl\t$105\n\tcalls\t$1,_putchar\n\tpushl\t$0\n\tmovl\t(sp)+,r0\n\tret\n";
-
-const GROUPED: &str = "int main(){return 7-(2-3);}";
-
-const GROUPED_TEXT: &str =
-    "\t.data\n\t.text\n\t.globl\t_main\n_main:\n\t.word\t0\n\tpushl\t$7\n\tpushl\t$2\n\tpushl\t$3\n\tsubl2\t(sp)+,(sp)\n\tsubl2\t(sp)+,(sp)\n\tmovl\t(sp)+,r0\n\tret\n";
-
-const SUM: &str = "int main(){return 1+2-4;}";
-
-const SUM_TEXT: &str =
-    "\t.data\n\t.text\n\t.globl\t_main\n_main:\n\t.word\t0\n\tpushl\t$1\n\tpushl\t$2\n\taddl2\t(sp)+,(sp)\n\tpushl\t$4\n\tsubl2\t(sp)+,(sp)\n\tmovl\t(sp)+,r0\n\tret\n";
 
 // The words of a command between commas, the bytes of the file `s`, and the numbers of the calls that fail.
 #[derive(Clone, Copy)]
@@ -84,25 +75,8 @@ fn check(rt: &impl Abort, alloc: Global, case: &Case, left: &Left) -> Result<(),
 
 #[test]
 fn answers_each_command(rt: HostRuntime) -> Result<(), Fail> {
+    let usage = "ggvax: usage: check D | compile D S | run A N | meaning S N\n";
     let rows = [
-        ("first,s", HI, Status::Done, HI_TEXT, "Hiended 0\n"),
-        ("first,s", GROUPED, Status::Done, GROUPED_TEXT, "ended 8\n"),
-        ("first,s", SUM, Status::Done, SUM_TEXT, "ended -1\n"),
-        (
-            "first,s",
-            "int main(){return 1;};",
-            Status::Unbuilt,
-            "",
-            "ggvax: not built\n",
-        ),
-        ("first,s", "", Status::Unbuilt, "", "ggvax: not built\n"),
-        (
-            "first,none",
-            HI,
-            Status::FileFault,
-            "",
-            "ggvax: cannot read none\n",
-        ),
         ("run,s,7", HI_TEXT, Status::Done, "Hi", "ended 0\n"),
         ("run,s,6", HI_TEXT, Status::Spent, "Hi", "spent 6\n"),
         (
@@ -135,61 +109,47 @@ fn answers_each_command(rt: HostRuntime) -> Result<(), Fail> {
             "ggvax: cannot read none\n",
         ),
         (
-            "run,s,0",
-            HI_TEXT,
-            Status::Usage,
+            "check,s",
             "",
-            "ggvax: usage: check D | run A N | meaning S N | first S\n",
+            Status::DescRefused,
+            "",
+            "ggvax: description line 1: MissingVersion\n",
         ),
         (
-            "run,s,07",
-            HI_TEXT,
-            Status::Usage,
+            "check,s",
+            VAX_GG,
+            Status::Done,
+            "ok: 150 rules, 327 states\n",
             "",
-            "ggvax: usage: check D | run A N | meaning S N | first S\n",
         ),
         (
-            "run,s",
-            HI_TEXT,
-            Status::Usage,
+            "check,s",
+            M_GG,
+            Status::Blocks,
             "",
-            "ggvax: usage: check D | run A N | meaning S N | first S\n",
+            "ggvax: blocks\n  0 Zero\n  1 IndirB 0\n  2 Zero\n  3 Ncb 2\n  4 AssignB 1 3\n",
         ),
         (
-            "",
+            "compile,s,s",
             HI,
-            Status::Usage,
+            Status::DescRefused,
             "",
-            "ggvax: usage: check D | run A N | meaning S N | first S\n",
+            "ggvax: description line 1: BadWord\n",
         ),
         (
-            "first",
+            "compile,none,s",
             HI,
-            Status::Usage,
+            Status::FileFault,
             "",
-            "ggvax: usage: check D | run A N | meaning S N | first S\n",
+            "ggvax: cannot read none\n",
         ),
-        (
-            "first,",
-            HI,
-            Status::Usage,
-            "",
-            "ggvax: usage: check D | run A N | meaning S N | first S\n",
-        ),
-        (
-            "last,s",
-            HI,
-            Status::Usage,
-            "",
-            "ggvax: usage: check D | run A N | meaning S N | first S\n",
-        ),
-        (
-            "first,s,s",
-            HI,
-            Status::Usage,
-            "",
-            "ggvax: usage: check D | run A N | meaning S N | first S\n",
-        ),
+        ("run,s,0", HI_TEXT, Status::Usage, "", usage),
+        ("run,s,07", HI_TEXT, Status::Usage, "", usage),
+        ("run,s", HI_TEXT, Status::Usage, "", usage),
+        ("", HI, Status::Usage, "", usage),
+        ("compile,s", HI, Status::Usage, "", usage),
+        ("compile,s,", HI, Status::Usage, "", usage),
+        ("first,s", HI, Status::Usage, "", usage),
     ];
     for (words, source, status, out, report) in rows {
         let case = Case {
@@ -209,69 +169,21 @@ fn answers_each_command(rt: HostRuntime) -> Result<(), Fail> {
     Ok(())
 }
 
-// A call that fails tells no more than the bytes before it; one behind the last fails nowhere.
-#[test]
-fn tells_each_failing_call(rt: HostRuntime) -> Result<(), Fail> {
-    let text = HI_TEXT.as_bytes();
-    let told = b"Hiended 0\n".as_slice();
-    for call in 0..=text.len() {
-        let failing = [call as u64];
-        let case = Case {
-            words: "first,s",
-            source: HI.as_bytes(),
-            folder: &[],
-            out: &failing,
-            report: &[],
-        };
-        let left = if call < text.len() {
-            Left {
-                status: Status::WriteFault,
-                out: &text[..call],
-                report: b"ggvax: output failed\n",
-            }
-        } else {
-            Left {
-                status: Status::Done,
-                out: text,
-                report: told,
-            }
-        };
-        check(&rt, rt.alloc(), &case, &left)?;
-    }
-    for call in 0..=told.len() {
-        let failing = [call as u64];
-        let case = Case {
-            words: "first,s",
-            source: HI.as_bytes(),
-            folder: &[],
-            out: &[],
-            report: &failing,
-        };
-        let status = if call < told.len() {
-            Status::WriteFault
-        } else {
-            Status::Done
-        };
-        check(
-            &rt,
-            rt.alloc(),
-            &case,
-            &Left {
-                status,
-                out: text,
-                report: &told[..call],
-            },
-        )?;
-    }
-    Ok(())
-}
-
-// An output that takes 16 bytes of its first call and fails at its second holds those 16.
+// A text of 16 bytes of its first call is taken; the second call fails, and the 16 are held.
 #[test]
 fn holds_what_was_taken(rt: HostRuntime) -> Result<(), Fail> {
     let alloc = rt.alloc();
-    let words = words_of(alloc, "first,s")?;
-    let mut folder = folder_of(alloc, HI.as_bytes(), &[])?;
+    let words = words_of(alloc, "compile,d,s")?;
+    let mut files = Vec::new(alloc);
+    files.push(MemFile {
+        name: Name::from_vec(Vec::from_slice(alloc, b"d")?),
+        bytes: Bytes::from_vec(Vec::from_slice(alloc, VAX_GG.as_bytes())?),
+    })?;
+    files.push(MemFile {
+        name: Name::from_vec(Vec::from_slice(alloc, b"s")?),
+        bytes: Bytes::from_vec(Vec::from_slice(alloc, HI.as_bytes())?),
+    })?;
+    let mut folder = MemFolder::new(alloc, files, Vec::new(alloc));
     let mut input = MemSource::new(Vec::new(alloc), 1, Vec::new(alloc));
     let mut out = MemSink::new(alloc, 16, Vec::from_slice(alloc, &[1])?);
     let mut report = MemSink::new(alloc, 64, Vec::new(alloc));
@@ -292,10 +204,9 @@ fn holds_what_was_taken(rt: HostRuntime) -> Result<(), Fail> {
 // The first refusal decides, and a failing write of its own line changes nothing.
 #[test]
 fn tells_failing_refusals(rt: HostRuntime) -> Result<(), Fail> {
-    let source = HI.as_bytes();
     let unread = Case {
-        words: "first,s",
-        source,
+        words: "meaning,s,7",
+        source: HI.as_bytes(),
         folder: &[0],
         out: &[],
         report: &[],
@@ -322,76 +233,6 @@ fn tells_failing_refusals(rt: HostRuntime) -> Result<(), Fail> {
             status: Status::FileFault,
             out: b"",
             report: b"ggvax: ca",
-        },
-    )?;
-    let unbuilt = Case {
-        words: "first,s",
-        source: b"int",
-        folder: &[],
-        out: &[],
-        report: &[2],
-    };
-    check(
-        &rt,
-        rt.alloc(),
-        &unbuilt,
-        &Left {
-            status: Status::Unbuilt,
-            out: b"",
-            report: b"gg",
-        },
-    )?;
-    let cut = Case {
-        words: "first,s",
-        source,
-        folder: &[],
-        out: &[3],
-        report: &[4],
-    };
-    check(
-        &rt,
-        rt.alloc(),
-        &cut,
-        &Left {
-            status: Status::WriteFault,
-            out: b"\t.d",
-            report: b"ggva",
-        },
-    )?;
-    Ok(())
-}
-
-// A source of so many writes of the byte 1, which returns the number: 21 bytes, those of the number, and 11 for each write.
-fn long_source(alloc: Global, writes: usize, number: &[u8]) -> Result<Vec<u8>, AllocError> {
-    let mut source = Vec::from_slice(alloc, b"int main(){")?;
-    for _ in 0..writes {
-        source.extend_from_slice(b"putchar(1);")?;
-    }
-    source.extend_from_slice(b"return ")?;
-    source.extend_from_slice(number)?;
-    source.extend_from_slice(b";}")?;
-    Ok(source)
-}
-
-#[test]
-fn refuses_a_source_over_the_limit(rt: HostRuntime) -> Result<(), Fail> {
-    let source = long_source(rt.alloc(), 95323, b"1000")?;
-    assert_eq!(rt; source.len(), 1048577);
-    let case = Case {
-        words: "first,s",
-        source: source.as_slice(),
-        folder: &[],
-        out: &[],
-        report: &[],
-    };
-    check(
-        &rt,
-        rt.alloc(),
-        &case,
-        &Left {
-            status: Status::Unbuilt,
-            out: b"",
-            report: b"ggvax: not built\n",
         },
     )?;
     Ok(())

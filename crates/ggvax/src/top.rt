@@ -1,31 +1,31 @@
 // The top call: the words choose the command.
 ghost use Rattle.std.specs.Prelude.{◌≡◌, ◌+◌, ℕ, List};
-ghost use Rattle.gg_outside.specs.Outside.{OnlyName};
 ghost use Rattle.cmd_session.specs.Reading.{intake, TakesAtMost};
 ghost use Rattle.cmd_session.specs.Writing.{change, IsUntouched};
-ghost use Rattle.cmd_session.specs.Words.{spelled, SaysFirst, SaysCheck, SaysRun, SaysMeaning, SaysNone};
+ghost use Rattle.cmd_session.specs.Words.{spelled, SaysCheck, SaysCompile, SaysRun, SaysMeaning, SaysNone};
 ghost use Rattle.cmd_session.specs.Lines.{usage_line};
 ghost use Rattle.cmd_session.specs.Telling.{IsRefused};
-ghost use Rattle.cmd_first.specs.Outcome.{Leaves as FirstLeaves, IsExact as FirstIsExact, call_of as first_call};
 ghost use Rattle.cmd_files.specs.Outsides.{lookup, outside, FailsAtMost};
 ghost use Rattle.cmd_files.specs.Stages.{input_limit};
 ghost use Rattle.cmd_files.specs.Outcome.{call_of, Leaves};
 ghost use Rattle.cmd_files.specs.Exact.{IsExact};
 ghost use Rattle.cmd_check.specs.Outcome.{Leaves as CheckLeaves};
 ghost use Rattle.cmd_check.specs.Exact.{IsExact as CheckIsExact};
+ghost use Rattle.cmd_compile.specs.Outcome.{files, FailAtMost, Leaves as CompileLeaves};
+ghost use Rattle.cmd_compile.specs.Exact.{IsExact as CompileIsExact};
 ghost use Rattle.cmd_run.specs.Texts.{text_form, code_runner};
 ghost use Rattle.cmd_meaning.specs.Sources.{source_form, source_runner};
 
 use cmd_check::check_description;
-use cmd_first::first_source;
+use cmd_compile::compile_source;
 use cmd_meaning::run_source;
 use cmd_run::run_text;
 use cmd_session::{Command, Status, command_of, refuse};
 use gg_outside::{Folder, Sink, Source};
 use std::alloc::Global;
 
-/// The whole program: the command that the words say, or the line of the usage. Its commands are `check D`, `run A N`,
-/// `meaning S N` and `first S`.
+/// The whole program: the command that the words say, or the line of the usage. Its commands are `check D`, `compile D S`, `run A N`
+/// and `meaning S N`.
 pub fn ggvax<F: Folder, I: Source, O: Sink, E: Sink>(
     alloc: Global,
     words: &[String],
@@ -34,22 +34,21 @@ pub fn ggvax<F: Folder, I: Source, O: Sink, E: Sink>(
     out: &mut O,
     report: &mut E,
 ) -> Status
-    // `first S`: what each status says of the source, of its text and its run, and that each comes where its cause is there.
-    ensures first { (source : List ℕ) → SaysFirst (spelled words.now) source
-        → FirstLeaves result (first_call source (F.holds folder.old source)
-        (F.failed folder.old) (F.failed folder.new)
-        (change O.told O.faults out.old out.new) (change E.told E.faults report.old report.new)) }
-    ensures first_exact { (source : List ℕ) → SaysFirst (spelled words.now) source
-        → FirstIsExact result (first_call source (F.holds folder.old source)
-        (F.failed folder.old) (F.failed folder.new)
-        (change O.told O.faults out.old out.new) (change E.told E.faults report.old report.new)) }
-
-    // `check D`: the same of the machine description, of its tables and their line.
+    // `check D`: what each status says of the machine description, of its tables and rules and what is written, and that each comes where its
+    // cause is there.
     ensures check { (d : List ℕ) → SaysCheck (spelled words.now) d
         → CheckLeaves result d (outside (lookup F.holds F.failed folder.old folder.new)
         (change O.told O.faults out.old out.new) (change E.told E.faults report.old report.new)) }
     ensures check_exact { (d : List ℕ) → SaysCheck (spelled words.now) d
         → CheckIsExact result d (outside (lookup F.holds F.failed folder.old folder.new)
+        (change O.told O.faults out.old out.new) (change E.told E.faults report.old report.new)) }
+
+    // `compile D S`: the same of the machine description, of the source and of the text of its code.
+    ensures compile { (d source : List ℕ) → SaysCompile (spelled words.now) d source
+        → CompileLeaves result (files d source) (outside (lookup F.holds F.failed folder.old folder.new)
+        (change O.told O.faults out.old out.new) (change E.told E.faults report.old report.new)) }
+    ensures compile_exact { (d source : List ℕ) → SaysCompile (spelled words.now) d source
+        → CompileIsExact result (files d source) (outside (lookup F.holds F.failed folder.old folder.new)
         (change O.told O.faults out.old out.new) (change E.told E.faults report.old report.new)) }
 
     // `run A N`: the same of the text, of its code's run with N steps on the input, and of what was taken of the input.
@@ -79,32 +78,34 @@ pub fn ggvax<F: Folder, I: Source, O: Sink, E: Sink>(
     ensures usage_out { SaysNone (spelled words.now) → IsUntouched (change O.told O.faults out.old out.new) }
     ensures usage_names { SaysNone (spelled words.now) → F.failed folder.new ≡ F.failed folder.old }
 
-    // The folder is asked for the command's name alone. `input` is read by `run` and `meaning` alone, one byte beyond its
+    // The folder is asked for the command's names alone. `input` is read by `run` and `meaning` alone, one byte beyond its
     // limit at most.
-    ensures first_names { (source : List ℕ) → SaysFirst (spelled words.now) source
-        → OnlyName source (F.failed folder.old) (F.failed folder.new) }
     ensures check_names { (d : List ℕ) → SaysCheck (spelled words.now) d
         → FailsAtMost d (lookup F.holds F.failed folder.old folder.new) }
+    ensures compile_names { (d source : List ℕ) → SaysCompile (spelled words.now) d source
+        → FailAtMost (files d source) (lookup F.holds F.failed folder.old folder.new) }
     ensures run_names { (text : List ℕ) (count : ℕ) → SaysRun (spelled words.now) text count
         → FailsAtMost text (lookup F.holds F.failed folder.old folder.new) }
     ensures meaning_names { (source : List ℕ) (count : ℕ) → SaysMeaning (spelled words.now) source count
         → FailsAtMost source (lookup F.holds F.failed folder.old folder.new) }
     ensures holds { (n : List ℕ) → F.holds folder.new n ≡ F.holds folder.old n }
-    ensures first_input { (source : List ℕ) → SaysFirst (spelled words.now) source → input.new ≡ input.old }
     ensures check_input { (d : List ℕ) → SaysCheck (spelled words.now) d → input.new ≡ input.old }
+    ensures compile_input { (d source : List ℕ) → SaysCompile (spelled words.now) d source → input.new ≡ input.old }
     ensures usage_input { SaysNone (spelled words.now) → input.new ≡ input.old }
     ensures taken { TakesAtMost (input_limit + 1) (intake I.left I.faults input.old input.new) }
 {
     let Some(command) = command_of(words) else {
         return refuse(
             report,
-            b"ggvax: usage: check D | run A N | meaning S N | first S\n",
+            b"ggvax: usage: check D | compile D S | run A N | meaning S N\n",
             Status::Usage,
         );
     };
     match command {
-        Command::First(source) => first_source(alloc, source, folder, out, report),
         Command::Check(description) => check_description(alloc, description, folder, out, report),
+        Command::Compile(description, source) => {
+            compile_source(alloc, description, source, folder, out, report)
+        }
         Command::Run(text, count) => run_text(alloc, text, count, folder, input, out, report),
         Command::Meaning(source, count) => {
             run_source(alloc, source, count, folder, input, out, report)

@@ -1,12 +1,17 @@
-use Rattle.cmd_check.proofs.Leaving.{unwritten}
+use Rattle.std.proofs.Common.{refl}
+use Rattle.cmd_check.proofs.Leaving.{unwritten, counted, refused}
 use Rattle.cmd_check.proofs.check.read_and_tell.Goals as goal
 
-pub returns-in-Ok-built_line-clause-leaves : goal.returns-in-Ok-built_line-clause-leaves
-returns-in-Ok-built_line-clause-leaves g c =
-    unwritten _ _ _ c.in-Ok.tables c.in-Ok-built_line.line _
+pub returns-in-Ok-ok_line-clause-leaves : goal.returns-in-Ok-ok_line-clause-leaves
+returns-in-Ok-ok_line-clause-leaves g c =
+    unwritten _ _ _ c.in-Ok.generator.tables c.in-Ok-ok_line.line _
     (record {
       finds = record { holds = c.in-Ok.ensures.description; unfailed = c.in-Ok.ensures.unfailed };
-      few = c.in-Ok.ensures.few;
       numbered = c.in-Ok.ensures.numbered;
+      accepted = c.in-Ok.ensures.accepted;
     })
-    c.as_slice.ensures c.in-Ok-built_line.ensures (rw c.in-Ok.ensures.untold at c.in-Err-write_out.ensures.refused)
+    c.as_slice.ensures (counted _ _ _ c.in-Ok.generator.tables c.rules.ensures c.states.ensures c.in-Ok-ok_line.ensures)
+    (rw c.in-Ok.ensures.untold at c.in-Err-write_out.ensures.refused)
+
+pub returns-in-Err-clause-leaves : goal.returns-in-Err-clause-leaves
+returns-in-Err-clause-leaves g c = refused _ _ _ c.in-Err.ensures.refused (record { held = refl; quiet = refl })

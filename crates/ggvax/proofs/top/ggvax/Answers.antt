@@ -7,8 +7,9 @@ use Rattle.cmd_meaning.specs.Sources.{source_form, source_runner}
 use Rattle.cmd_run.specs.Texts.{text_form, code_runner}
 use Rattle.cmd_check.specs.Outcome.{Leaves as CheckLeaves}
 use Rattle.cmd_check.specs.Exact.{IsExact as CheckIsExact}
-use Rattle.cmd_first.specs.Outcome.{Leaves as FirstLeaves, IsExact as FirstIsExact, call_of as first_call}
-use Rattle.ggvax.proofs.Chosen.{only_first, only_check, only_run, only_meaning, carried, named}
+use Rattle.cmd_compile.specs.Outcome.{files, FailAtMost, Leaves as CompileLeaves}
+use Rattle.cmd_compile.specs.Exact.{IsExact as CompileIsExact}
+use Rattle.ggvax.proofs.Chosen.{only_check, only_compile, only_run, only_meaning, carried, named, paired}
 use Rattle.ggvax.proofs.top.ggvax.Goals as goal
 
 pub returns-in-Meaning-clause-meaning : goal.returns-in-Meaning-clause-meaning
@@ -47,22 +48,6 @@ returns-in-Run-clause-run_exact g c = λ text count said.
     (change g.E.Sink.told g.E.Sink.faults c.args.report.now c.run_text.new.report))))
     _ _ _ _ (only_run _ _ _ _ c.in-Some.ensures.only c.in-Run.is text count said) c.run_text.ensures.exact
 
-pub returns-in-First-clause-first : goal.returns-in-First-clause-first
-returns-in-First-clause-first g c = λ source said.
-    named (λ s. FirstLeaves c.first_source.result (first_call s (g.F.Folder.holds c.args.folder.now s)
-    (g.F.Folder.failed c.args.folder.now) (g.F.Folder.failed c.first_source.new.folder)
-    (change g.O.Sink.told g.O.Sink.faults c.args.out.now c.first_source.new.out)
-    (change g.E.Sink.told g.E.Sink.faults c.args.report.now c.first_source.new.report)))
-    _ _ (only_first _ _ _ c.in-Some.ensures.only c.in-First.is source said) c.first_source.ensures.leaves
-
-pub returns-in-First-clause-first_exact : goal.returns-in-First-clause-first_exact
-returns-in-First-clause-first_exact g c = λ source said.
-    named (λ s. FirstIsExact c.first_source.result (first_call s (g.F.Folder.holds c.args.folder.now s)
-    (g.F.Folder.failed c.args.folder.now) (g.F.Folder.failed c.first_source.new.folder)
-    (change g.O.Sink.told g.O.Sink.faults c.args.out.now c.first_source.new.out)
-    (change g.E.Sink.told g.E.Sink.faults c.args.report.now c.first_source.new.report)))
-    _ _ (only_first _ _ _ c.in-Some.ensures.only c.in-First.is source said) c.first_source.ensures.exact
-
 pub returns-in-Check-clause-check : goal.returns-in-Check-clause-check
 returns-in-Check-clause-check g c = λ d said.
     named (λ s. CheckLeaves c.check_description.result s (outside
@@ -78,3 +63,24 @@ returns-in-Check-clause-check_exact g c = λ d said.
     (change g.O.Sink.told g.O.Sink.faults c.args.out.now c.check_description.new.out)
     (change g.E.Sink.told g.E.Sink.faults c.args.report.now c.check_description.new.report)))
     _ _ (only_check _ _ _ c.in-Some.ensures.only c.in-Check.is d said) c.check_description.ensures.exact
+
+pub returns-in-Compile-clause-compile : goal.returns-in-Compile-clause-compile
+returns-in-Compile-clause-compile g c = λ d source said.
+    paired (λ x y. CompileLeaves c.compile_source.result (files x y)
+    (outside (lookup g.F.Folder.holds g.F.Folder.failed c.args.folder.now c.compile_source.new.folder)
+    (change g.O.Sink.told g.O.Sink.faults c.args.out.now c.compile_source.new.out)
+    (change g.E.Sink.told g.E.Sink.faults c.args.report.now c.compile_source.new.report)))
+    _ _ _ _ (only_compile _ _ _ _ c.in-Some.ensures.only c.in-Compile.is d source said) c.compile_source.ensures.leaves
+
+pub returns-in-Compile-clause-compile_exact : goal.returns-in-Compile-clause-compile_exact
+returns-in-Compile-clause-compile_exact g c = λ d source said.
+    paired (λ x y. CompileIsExact c.compile_source.result (files x y)
+    (outside (lookup g.F.Folder.holds g.F.Folder.failed c.args.folder.now c.compile_source.new.folder)
+    (change g.O.Sink.told g.O.Sink.faults c.args.out.now c.compile_source.new.out)
+    (change g.E.Sink.told g.E.Sink.faults c.args.report.now c.compile_source.new.report)))
+    _ _ _ _ (only_compile _ _ _ _ c.in-Some.ensures.only c.in-Compile.is d source said) c.compile_source.ensures.exact
+
+pub returns-in-Compile-clause-compile_names : goal.returns-in-Compile-clause-compile_names
+returns-in-Compile-clause-compile_names g c = λ d source said.
+    paired (λ x y. FailAtMost (files x y) (lookup g.F.Folder.holds g.F.Folder.failed c.args.folder.now c.compile_source.new.folder))
+    _ _ _ _ (only_compile _ _ _ _ c.in-Some.ensures.only c.in-Compile.is d source said) c.compile_source.ensures.names
