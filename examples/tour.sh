@@ -1,6 +1,6 @@
 #!/bin/sh
 # Shows one program as its source, its trees and its assembly text, and what its source and its text do: the same.
-# Usage: examples/tour.sh [SOURCE], a source of the first form (default examples/hi.c). The first call proves and builds what it runs.
+# Usage: examples/tour.sh [SOURCE] (default examples/hi.c). The first call proves and builds what it runs.
 set -eu
 here=$(CDPATH='' cd -- "$(dirname -- "$0")/.." && pwd)
 source=${1:-$here/examples/hi.c}
@@ -21,9 +21,9 @@ echo "== its trees"
     "$trees" table.txt | sed -n '/^  /p'
 )
 echo "== its text"
-(cd "$work" && "$here/ggvax" first source.c >text.s 2>/dev/null)
+(cd "$work" && "$here/ggvax" compile "$here/examples/vax.gg" source.c >text.s)
 cat "$work/text.s"
 echo "== what the source does"
-(cd "$work" && "$here/ggvax" meaning source.c 1000000 </dev/null 2>&1) || true
+(cd "$work" && "$here/ggvax" meaning source.c 1000000000 </dev/null 2>&1) || true
 echo "== what the text does"
-(cd "$work" && "$here/ggvax" run text.s 1000000 </dev/null 2>&1) || true
+(cd "$work" && "$here/ggvax" run text.s 1000000000 </dev/null 2>&1) || true
