@@ -1,5 +1,6 @@
 // The tables of a description whose rules are all shown, with their target.
 ghost use Rattle.std.specs.Prelude.{◌≡◌, length, IfOk, true};
+ghost use Rattle.md_reader.specs.Valid.{IsValid};
 ghost use Rattle.sel_parse.specs.Shown.{first_refusal, is_shown, saved_kinds, AreShown, AreLinesShown};
 ghost use Rattle.sel_parse.specs.Answers.{Shows};
 
@@ -19,12 +20,14 @@ pub struct Generator<T: Templates> {
 }
 
 impl<T: Templates> Generator<T> {
-    /// All rules are shown, and the lines that save and reload. The call does nothing: its clauses are the facts.
+    /// The description is valid, and all rules are shown, and the lines that save and reload. The call does nothing: its clauses
+    /// are the facts.
     pub fn is_shown(&self)
         ensures rules { AreShown T.meaning.effect self.now.tables.content }
         ensures lines { AreLinesShown T.meaning.spill_effect saved_kinds self.now.tables.content.spills }
+        ensures valid { IsValid self.now.tables.content }
     {
-        let _tables = &self.tables;
+        self.tables.description().is_valid();
     }
 
     /// How many rules there are.
