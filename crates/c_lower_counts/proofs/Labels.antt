@@ -1,0 +1,112 @@
+-- Lowering takes at most three labels for each node, branch and loop.
+use Rattle.std.proofs.Common.{ℕ, suc, ◌+◌, ◌*◌, ◌≤◌, List, [], ◌∷◌, length, arith}
+use Rattle.std.specs.Prelude.{true, false, Option, Some, None}
+use Rattle.c_types.specs.Typed.{AnExpression}
+use Rattle.c_program.specs.Need.{nodes, maybe_nodes}
+use Rattle.c_program.specs.Programs.{ARoutine}
+use Rattle.c_program.specs.Statements.{ADeclaration, KeepOf, ClearOf, BeginOf, AnAction, SomeActions, NoActions, MoreActions, DeclareOf, BlockOf, EvaluateOf, BreakOf, ContinueOf}
+use Rattle.c_program.specs.Statements.{ReturnOf, IfOf, IfElseOf, WhileOf, DoOf, ForOf}
+use Rattle.c_lower_scheme.specs.Expressions.{Lowered, Emitted, way}
+use Rattle.c_lower_scheme.specs.Statements.{unless, when, effect, returning, declare, for_of, lower, lower_row}
+use Rattle.c_lower_scheme.specs.Programs.{body_of}
+use Rattle.c_lower_spelled.specs.Claims.{labels_behind}
+use Rattle.c_lower_counts.specs.Sizes.{declared_size, act_size, row_size, routines_size}
+use Rattle.c_lower_counts.specs.Claims.{LabelsAreFew}
+use Rattle.c_lower_counts.proofs.Expressions.{way_takes}
+
+module _ (size count : ℕ) where
+  unless_takes : (c : AnExpression) (to l : ℕ) → (unless size count c to l).labels ≤ l + 2 * nodes c
+  unless_takes c to l = (way_takes size count c).branch false to size l
+
+  when_takes : (c : AnExpression) (to l : ℕ) → (when size count c to l).labels ≤ l + 2 * nodes c
+  when_takes c to l = (way_takes size count c).branch true to size l
+
+  effect_takes : (e : Option AnExpression) (l : ℕ) → (effect size count e l).labels ≤ l + 2 * maybe_nodes e
+  effect_takes None l = omega arith
+  effect_takes (Some e) l = (way_takes size count e).drop size l
+
+  returning_takes : (e : Option AnExpression) (l : ℕ) → (returning size count e l).labels ≤ l + 2 * maybe_nodes e
+  returning_takes None l = omega arith
+  returning_takes (Some e) l = (way_takes size count e).low size l
+
+  declare_takes : (ds : List ADeclaration) (l : ℕ) → (declare size count ds l).labels ≤ l + 3 * declared_size ds
+  declare_takes [] l = omega arith
+  declare_takes (KeepOf object ∷ ds) l = declare_takes ds l
+  declare_takes (ClearOf n ∷ ds) l = declare_takes ds l
+  declare_takes (BeginOf n e ∷ ds) l =
+      let p : Lowered = (way size count e).low size l in
+      let x = (way_takes size count e).low size l in
+      let y = declare_takes ds p.labels in
+      omega arith
+
+  -- the test, the body and the step of a `for`
+  turns_take : (n l : ℕ) (c e : Option AnExpression) (f : ℕ → Emitted) → ((k : ℕ) → (f k).labels ≤ k + 3 * n)
+      → (for_of size count l c e f).labels ≤ l + 3 * (1 + maybe_nodes c + maybe_nodes e + n)
+  turns_take n l None e f h =
+      let a : Emitted = f (suc (suc (suc l))) in
+      let x = h (suc (suc (suc l))) in
+      let y = effect_takes e a.labels in
+      omega arith
+  turns_take n l (Some c) e f h =
+      let p : Emitted = unless size count c (suc (suc l)) (suc (suc (suc l))) in
+      let a : Emitted = f p.labels in
+      let x = unless_takes c (suc (suc l)) (suc (suc (suc l))) in
+      let y = h p.labels in
+      let z = effect_takes e a.labels in
+      omega arith
+
+  mutual
+    act_takes : (a : AnAction) (lb lc l : ℕ) → (lower size count a lb lc l).labels ≤ l + 3 * act_size a
+    act_takes (DeclareOf ds) lb lc l = declare_takes ds l
+    act_takes (BlockOf row) lb lc l = row_takes row lb lc l
+    act_takes (EvaluateOf e) lb lc l = let x = (way_takes size count e).drop size l in omega arith
+    act_takes BreakOf lb lc l = omega arith
+    act_takes ContinueOf lb lc l = omega arith
+    act_takes (ReturnOf e) lb lc l = let x = returning_takes e l in omega arith
+    act_takes (IfOf c a) lb lc l =
+        let p : Emitted = unless size count c l (suc l) in
+        let x = unless_takes c l (suc l) in
+        let y = act_takes a lb lc p.labels in
+        omega arith
+    act_takes (IfElseOf c a b) lb lc l =
+        let p : Emitted = unless size count c l (suc (suc l)) in
+        let q : Emitted = lower size count a lb lc p.labels in
+        let x = unless_takes c l (suc (suc l)) in
+        let y = act_takes a lb lc p.labels in
+        let z = act_takes b lb lc q.labels in
+        omega arith
+    act_takes (WhileOf c a) lb lc l =
+        let p : Emitted = unless size count c (suc l) (suc (suc l)) in
+        let x = unless_takes c (suc l) (suc (suc l)) in
+        let y = act_takes a (suc l) l p.labels in
+        omega arith
+    act_takes (DoOf a c) lb lc l =
+        let q : Emitted = lower size count a (suc (suc l)) (suc l) (suc (suc (suc l))) in
+        let x = act_takes a (suc (suc l)) (suc l) (suc (suc (suc l))) in
+        let y = when_takes c l q.labels in
+        omega arith
+    act_takes (ForOf i c e a) lb lc l =
+        let p : Emitted = effect size count i l in
+        let m : ℕ = p.labels in
+        let x = effect_takes i l in
+        let y = turns_take (act_size a) m c e (lower size count a (suc (suc m)) (suc m)) (λ k. act_takes a (suc (suc m)) (suc m) k) in
+        omega arith
+
+    row_takes : (row : SomeActions) (lb lc l : ℕ) → (lower_row size count row lb lc l).labels ≤ l + 3 * row_size row
+    row_takes NoActions lb lc l = omega arith
+    row_takes (MoreActions a row) lb lc l =
+        let p : Emitted = lower size count a lb lc l in
+        let x = act_takes a lb lc l in
+        let y = row_takes row lb lc p.labels in
+        omega arith
+
+routines_take : (count : ℕ) (gs : List ARoutine) (l : ℕ) → labels_behind count gs l ≤ l + 3 * routines_size gs
+routines_take count [] l = omega arith
+routines_take count (g ∷ gs) l =
+    let p : Emitted = body_of count g l in
+    let x = row_takes (length g.locals) count g.body 0 0 l in
+    let y = routines_take count gs p.labels in
+    omega arith
+
+pub labels_are_few : LabelsAreFew
+labels_are_few p = let x = routines_take (length p.routines) p.routines 0 in omega arith

@@ -1,0 +1,40 @@
+-- How large a program is: its nodes, branches and loops.
+use Rattle.std.specs.Prelude.{ℕ, ◌+◌, List, [], ◌∷◌}
+use Rattle.c_program.specs.Need.{nodes, maybe_nodes}
+use Rattle.c_program.specs.Programs.{ARoutine, AProgram}
+use Rattle.c_program.specs.Statements.{ADeclaration, KeepOf, ClearOf, BeginOf, AnAction, SomeActions, NoActions, MoreActions, DeclareOf, BlockOf, EvaluateOf, BreakOf, ContinueOf}
+use Rattle.c_program.specs.Statements.{ReturnOf, IfOf, IfElseOf, WhileOf, DoOf, ForOf}
+
+-- the nodes of all initialisers
+abbrev pub declared_size : List ADeclaration → ℕ
+declared_size [] = 0
+declared_size (KeepOf object ∷ ds) = declared_size ds
+declared_size (ClearOf n ∷ ds) = declared_size ds
+declared_size (BeginOf n e ∷ ds) = nodes e + declared_size ds
+
+-- the nodes of all expressions of a statement, and one for each branch and each loop
+abbrev mutual
+  pub act_size : AnAction → ℕ
+  act_size (DeclareOf ds) = declared_size ds
+  act_size (BlockOf row) = row_size row
+  act_size (EvaluateOf e) = nodes e
+  act_size BreakOf = 0
+  act_size ContinueOf = 0
+  act_size (ReturnOf e) = maybe_nodes e
+  act_size (IfOf c a) = 1 + nodes c + act_size a
+  act_size (IfElseOf c a b) = 1 + nodes c + act_size a + act_size b
+  act_size (WhileOf c a) = 1 + nodes c + act_size a
+  act_size (DoOf a c) = 1 + act_size a + nodes c
+  act_size (ForOf i c e a) = 1 + maybe_nodes i + maybe_nodes c + maybe_nodes e + act_size a
+
+  pub row_size : SomeActions → ℕ
+  row_size NoActions = 0
+  row_size (MoreActions a row) = act_size a + row_size row
+
+-- the same of all functions of a program
+abbrev pub routines_size : List ARoutine → ℕ
+routines_size [] = 0
+routines_size (g ∷ gs) = row_size g.body + routines_size gs
+
+abbrev pub program_size : AProgram → ℕ
+program_size p = routines_size p.routines
