@@ -1,0 +1,50 @@
+-- All tokens are listed.
+use Rattle.std.proofs.Common.{List, Contains, refl, arith, sym, subst, ◌≡◌}
+use Rattle.tree_core.specs.declared.token.Tok.{Tok}
+use Rattle.tree_core.specs.declared.token.Tok.TheVariants as tok
+use Rattle.lr_check_found.specs.declared.places.TheConstants.{TOKENS}
+
+listed : (k : Tok) → Contains TOKENS k
+listed tok.Zero = (0, omega arith, refl)
+listed tok.One = (1, omega arith, refl)
+listed tok.Two = (2, omega arith, refl)
+listed tok.Four = (3, omega arith, refl)
+listed tok.Eight = (4, omega arith, refl)
+listed tok.Const = (5, omega arith, refl)
+listed tok.Gaddr = (6, omega arith, refl)
+listed tok.Loc = (7, omega arith, refl)
+listed tok.Arg = (8, omega arith, refl)
+listed tok.IndirB = (9, omega arith, refl)
+listed tok.IndirW = (10, omega arith, refl)
+listed tok.IndirL = (11, omega arith, refl)
+listed tok.Plus = (12, omega arith, refl)
+listed tok.Minus = (13, omega arith, refl)
+listed tok.Mul = (14, omega arith, refl)
+listed tok.Div = (15, omega arith, refl)
+listed tok.Mod = (16, omega arith, refl)
+listed tok.And = (17, omega arith, refl)
+listed tok.Or = (18, omega arith, refl)
+listed tok.Xor = (19, omega arith, refl)
+listed tok.Lsh = (20, omega arith, refl)
+listed tok.Rsh = (21, omega arith, refl)
+listed tok.Neg = (22, omega arith, refl)
+listed tok.Com = (23, omega arith, refl)
+listed tok.Sxb = (24, omega arith, refl)
+listed tok.Zxb = (25, omega arith, refl)
+listed tok.Sxw = (26, omega arith, refl)
+listed tok.Zxw = (27, omega arith, refl)
+listed tok.Ncb = (28, omega arith, refl)
+listed tok.Ncw = (29, omega arith, refl)
+listed tok.AssignB = (30, omega arith, refl)
+listed tok.AssignW = (31, omega arith, refl)
+listed tok.AssignL = (32, omega arith, refl)
+listed tok.Cbr = (33, omega arith, refl)
+listed tok.Push = (34, omega arith, refl)
+listed tok.Ret = (35, omega arith, refl)
+listed tok.Call = (36, omega arith, refl)
+listed tok.Save = (37, omega arith, refl)
+listed tok.Jump = (38, omega arith, refl)
+listed tok.End = (39, omega arith, refl)
+
+pub listed_in : (tokens : List Tok) → tokens ≡ TOKENS → (k : Tok) → Contains tokens k
+listed_in tokens e k = subst (λ (l : List Tok). Contains l k) (sym e) (listed k)

@@ -1,0 +1,71 @@
+-- No two places have one slot.
+use Rattle.std.proofs.Common.{◌≡◌, ℕ, ◌+◌, ◌*◌, ◌<◌, ap, ◌∙◌, arith}
+use Rattle.tree_core.specs.declared.token.Tok.{Tok}
+use Rattle.tree_core.specs.declared.token.Tok.TheVariants as tok
+use Rattle.lr_tables.specs.Symbols.{number}
+use Rattle.lr_tables.proofs.Symbols_apart.{number_same}
+use Rattle.lr_check_found.specs.declared.places.Place.{Place}
+use Rattle.lr_check_found.specs.Found.{slot, place_of}
+
+below : (t : Tok) → number t < 40
+below tok.Zero = omega arith
+below tok.One = omega arith
+below tok.Two = omega arith
+below tok.Four = omega arith
+below tok.Eight = omega arith
+below tok.Const = omega arith
+below tok.Gaddr = omega arith
+below tok.Loc = omega arith
+below tok.Arg = omega arith
+below tok.IndirB = omega arith
+below tok.IndirW = omega arith
+below tok.IndirL = omega arith
+below tok.Plus = omega arith
+below tok.Minus = omega arith
+below tok.Mul = omega arith
+below tok.Div = omega arith
+below tok.Mod = omega arith
+below tok.And = omega arith
+below tok.Or = omega arith
+below tok.Xor = omega arith
+below tok.Lsh = omega arith
+below tok.Rsh = omega arith
+below tok.Neg = omega arith
+below tok.Com = omega arith
+below tok.Sxb = omega arith
+below tok.Zxb = omega arith
+below tok.Sxw = omega arith
+below tok.Zxw = omega arith
+below tok.Ncb = omega arith
+below tok.Ncw = omega arith
+below tok.AssignB = omega arith
+below tok.AssignW = omega arith
+below tok.AssignL = omega arith
+below tok.Cbr = omega arith
+below tok.Push = omega arith
+below tok.Ret = omega arith
+below tok.Call = omega arith
+below tok.Save = omega arith
+below tok.Jump = omega arith
+below tok.End = omega arith
+
+upper : (a b c d : ℕ) → b < 40 → d < 40 → a * 40 + b ≡ c * 40 + d → a ≡ c
+upper a b c d l k e = omega arith
+
+lower : (a b c d : ℕ) → b < 40 → d < 40 → a * 40 + b ≡ c * 40 + d → b ≡ d
+lower a b c d l k e = omega arith
+
+-- two places
+pub same_place : (x y : Place) → x.state ≡ y.state → number x.token ≡ number y.token → number x.behind ≡ number y.behind → x ≡ y
+same_place x y s t b =
+    let token : x.token ≡ y.token = number_same x.token y.token t in
+    let behind : x.behind ≡ y.behind = number_same x.behind y.behind b in
+    ap (λ (q : ℕ). place_of q x.token x.behind) s ∙ (ap (λ (k : Tok). place_of y.state k x.behind) token ∙ ap (λ (k : Tok). place_of y.state y.token k) behind)
+
+pub one_slot : (x y : Place) → slot x ≡ slot y → x ≡ y
+one_slot x y e =
+    let pair : x.state * 40 + number x.token ≡ y.state * 40 + number y.token =
+    upper (x.state * 40 + number x.token) (number x.behind) (y.state * 40 + number y.token) (number y.behind) (below x.behind) (below y.behind) e in
+    same_place x y (upper x.state (number x.token) y.state (number y.token) (below x.token) (below y.token) pair)
+    (lower x.state (number x.token) y.state (number y.token) (below x.token) (below y.token) pair)
+    (lower (x.state * 40 + number x.token) (number x.behind) (y.state * 40 + number y.token) (number y.behind) (below x.behind) (below y.behind) e)
