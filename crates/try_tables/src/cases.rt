@@ -1,13 +1,17 @@
 // Cases: descriptions one after another, and what is found of each.
 //
 // A case is the lines before a line `=>`, which is written with what is found behind it. The lines before `=> front` stand before each
-// later case instead. `* N A / B` stands for N times the lines A and B, and `^ N` for N rules that share no item set behind their first
+// later case instead. A line `=> sets` is written with the item sets of the lines before it, and `=> stack` and a tree's tokens with the
+// stack where the tree's parse stops; the case goes on behind them. `* N A / B` stands for N times the lines A and B, and `^ N` for N rules that share no item set behind their first
 // symbols: the ten unary tokens of each are the binary digits of its number.
 ghost use Rattle.std.specs.Prelude.{◌≤◌, length};
 
 use crate::examining::MAX_BYTES;
 use crate::line;
-use std::alloc::AllocError;
+use crate::picture::{sets_picture, stack_picture};
+use lr_tables::build;
+use md_reader::read_description;
+use std::alloc::{AllocError, Global};
 use std::io;
 
 fn put_repeated(text: &mut String, count: u32, lines: &str) -> Result<(), AllocError> {
@@ -55,6 +59,29 @@ fn show_case(rt: HostRuntime, text: &str) -> io::Result<()> {
     }
 }
 
+// The picture of a description's tables: of the stack where the parse of the words' tokens stops, or of all item sets. Nothing of a text
+// without tables.
+fn picture(alloc: Global, text: &[u8], words: Option<&str>) -> Result<String, AllocError>
+    requires { length text.now ≤ 262144 }
+{
+    let Ok(description) = read_description(alloc, text) else {
+        return Ok(String::new(alloc));
+    };
+    match (build(alloc, description), words) {
+        (Ok(tables), Some(words)) => stack_picture(alloc, &tables, words),
+        (Ok(tables), None) => sets_picture(alloc, &tables),
+        (Err(_), _) => Ok(String::new(alloc)),
+    }
+}
+
+fn show_picture(rt: HostRuntime, text: &str, words: Option<&str>) -> io::Result<()> {
+    if text.len() > MAX_BYTES {
+        return println!(rt; "=> too long");
+    }
+    let picture = picture(rt.alloc(), text.as_bytes(), words)?;
+    print!(rt; "{picture}")
+}
+
 /// Writes each case of the input with what is found of it.
 pub fn show_cases(rt: HostRuntime) -> io::Result<()> {
     let alloc = rt.alloc();
@@ -73,9 +100,16 @@ pub fn show_cases(rt: HostRuntime) -> io::Result<()> {
                 front.clear();
                 front.push_str(text.as_str())?;
             }
-            _ => {
+            "=> sets" => {
                 println!(rt; "{line}")?;
-                put_line(&mut text, line.as_str())?;
+                show_picture(rt, text.as_str(), None)?;
+            }
+            other => {
+                println!(rt; "{line}")?;
+                match other.strip_prefix("=> stack ") {
+                    Some(words) => show_picture(rt, text.as_str(), Some(words))?,
+                    None => put_line(&mut text, other)?,
+                }
             }
         }
     }

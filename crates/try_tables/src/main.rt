@@ -1,9 +1,11 @@
 // The program `try_tables`: reads a machine description from the input, builds its tables, and writes one
-// line: the numbers of its rules and item sets, or why it has no tables. `try_tables cases` reads many.
+// line: the numbers of its rules and item sets, or why it has no tables. `try_tables cases` reads many, and draws
+// pictures of item sets.
 #![tactic(auto)]
 
 mod cases;
 mod examining;
+mod picture;
 
 ghost use Rattle.std.specs.Prelude.{◌≤◌, length};
 
