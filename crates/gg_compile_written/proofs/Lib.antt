@@ -1,0 +1,5 @@
+pub mod Tests
+pub mod Areas
+pub mod Trees
+pub mod Functions
+pub mod Programs

@@ -1,0 +1,5 @@
+pub mod Rights
+pub mod Classes
+pub mod Spilling
+pub mod Reducing
+pub mod Iterating

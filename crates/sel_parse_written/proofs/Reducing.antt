@@ -1,0 +1,162 @@
+-- The lines of a reduction pass.
+use Rattle.std.proofs.Common.{◌≡◌, ℕ, zero, suc, ◌+◌, ◌<◌, ◌≤◌, ◌==◌, List, [], ◌∷◌, length, Option, Some, Bool, true, false, refl, sym, ap, subst, arith, slice_get}
+use Rattle.std.specs.Prelude.{not, ◌&&◌, ◌||◌, Ok}
+use Rattle.std.specs.Int.{bit_at}
+use Rattle.tree_core.specs.declared.program.TreeProgram.{TreeProgram}
+use Rattle.md_reader.specs.declared.types.Kind.{Kind}
+use Rattle.md_reader.specs.declared.types.Kind.TheVariants as kind
+use Rattle.md_reader.specs.declared.types.Give.{Give}
+use Rattle.md_reader.specs.declared.types.Give.TheVariants as give
+use Rattle.md_reader.specs.declared.types.Rule.{Rule}
+use Rattle.md_reader.specs.declared.types.Sym.{Sym}
+use Rattle.md_reader.specs.declared.types.Sym.TheVariants as symbol
+use Rattle.md_reader.specs.Patterns.{kind_at}
+use Rattle.md_reader.specs.State.{Content}
+use Rattle.md_reader.specs.Valid.{IsRule}
+use Rattle.sel_terms.specs.Effects.{EffectShape}
+use Rattle.sel_target.specs.declared.attr.Attr.{Attr}
+use Rattle.sel_target.specs.declared.attr.Attr.TheVariants as attr
+use Rattle.sel_target.specs.Meaning.{Meaning, Spot, RegAt}
+use Rattle.sel_target.specs.Laws.{IsLawful}
+use Rattle.sel_target.specs.Instances.{attr_touches, Avoids, KindFits, IsResult, lines_of}
+use Rattle.sel_target.specs.Spelled.{TokenIsSpelled, AreSpelled}
+use Rattle.sel_parse_selected.specs.Entries.{Entry, attrs}
+use Rattle.sel_parse_selected.specs.Desk.{Stack, Desk, desk_of, held, is_free_register}
+use Rattle.sel_parse_selected.specs.Spills.{due}
+use Rattle.sel_parse_selected.specs.Reductions.{reloaded, finished, shaped, with_result, with_scratch, given_by, reduced}
+use Rattle.sel_parse_stands.specs.Lines.{LinesSave}
+use Rattle.sel_parse_stands.proofs.Loaded.{IsLoaded, AllLoaded}
+use Rattle.sel_parse_lines.proofs.Each.{all_append, Each, each_bind}
+use Rattle.sel_parse_slots.proofs.Fine as fine
+use Rattle.sel_parse_slots.proofs.Fine.{IsFine}
+use Rattle.sel_parse_slots.proofs.Counting.{AllFine, Counted}
+use Rattle.sel_parse_slots.proofs.Finishing.{all_fit}
+use Rattle.sel_parse_written.specs.Claims.{LinesPass}
+use Rattle.sel_parse_written.proofs.Rights.{right_none}
+use Rattle.sel_parse_written.proofs.Classes.{AllKinds}
+use Rattle.sel_parse_written.proofs.Spilling.{Passes, Written, IsTaken, due_taken, Brought, reloaded_written}
+
+and_right : (a b : Bool) → (a && b) ≡ true → b ≡ true
+and_right true b e = e
+and_right false b e = absurd (cc)
+
+not_true : (a : Bool) → not a ≡ true → a ≡ false
+not_true true e = absurd (cc)
+not_true false e = refl
+
+neither : (a b : Bool) → (a || b) ≡ false → (a ≡ false) × (b ≡ false)
+neither true b e = absurd (cc)
+neither false b e = (refl, e)
+
+module _ {O I S F : Type 0} (of : Meaning O I S F) (law : IsLawful of) (q : TreeProgram) (can : of.can_write q) (d : Content) (first : ℕ) (good : I → Bool)
+    (pass : LinesPass of q d good) (lines : LinesSave of d) where
+  -- ---- a register that is free is apart from the symbols
+
+  held_avoids : (s : Spot) (es : List (Entry O)) → held of es s ≡ false → Avoids of s (attrs es)
+  held_avoids s [] h = tt
+  held_avoids s (e ∷ es) h = let k = neither (attr_touches of e.attr s) (held of es s) h in (k.0, held_avoids s es k.1)
+
+  free_avoids : (desk : Desk O I) (r : ℕ) → is_free_register of d false desk r ≡ true → Avoids of (RegAt r) (attrs desk.symbols)
+  free_avoids desk r h =
+      held_avoids (RegAt r) desk.symbols
+      (not_true (held of desk.symbols (RegAt r))
+      (and_right (not (held of desk.below (RegAt r))) (not (held of desk.symbols (RegAt r)))
+      (and_right (bit_at d.pool r == 1) (not (held of desk.below (RegAt r)) && not (held of desk.symbols (RegAt r))) h)))
+
+  -- ---- symbols in place can be spelled
+
+  class_spelled : (k : Option Kind) (a : Attr O) → KindFits of k a → TokenIsSpelled q a
+  class_spelled (Some kind.Reg) (attr.Reg r) h = tt
+  class_spelled (Some (kind.Value z)) (attr.Value o) h = tt
+  class_spelled (Some (kind.Place z)) (attr.Place o) h = tt
+  class_spelled (Some kind.Con) (attr.Con n) h = tt
+  class_spelled (Some kind.Ea) (attr.Ea o) h = tt
+  class_spelled k a h = absurd h
+
+  sym_spelled : (s : Sym) (a : Attr O) → IsFine of law q d first s a → TokenIsSpelled q a
+  sym_spelled s a (fine.token l fit own) = own.spelled
+  sym_spelled s a (fine.class c a' fit) = class_spelled (kind_at d.classes c) a fit
+  sym_spelled s a (fine.slot c w e lt) = tt
+  sym_spelled s a (fine.statement c e) = tt
+
+  all_spelled : (ss : List Sym) (es : List (Entry O)) → AllFine of law q d first ss es → AreSpelled q (attrs es)
+  all_spelled [] [] h = tt
+  all_spelled [] (e ∷ es) h = absurd h
+  all_spelled (s ∷ ss) [] h = absurd h
+  all_spelled (s ∷ ss) (e ∷ es) h = (sym_spelled s e.attr h.0, all_spelled ss es h.1)
+
+  fine_length : (ss : List Sym) (es : List (Entry O)) → AllFine of law q d first ss es → length es ≡ length ss
+  fine_length [] [] h = refl
+  fine_length [] (e ∷ es) h = absurd h
+  fine_length (s ∷ ss) [] h = absurd h
+  fine_length (s ∷ ss) (e ∷ es) h = ap suc (fine_length ss es h.1)
+
+  all_in : (es : List (Entry O)) (n : ℕ) → length es ≤ n → ((j : ℕ) (e : Entry O) → j < n → slice_get es j ≡ Some e → IsLoaded e.attr) → AllLoaded es
+  all_in [] n le h = tt
+  all_in (e ∷ es) zero le h = absurd (omega (arith, le))
+  all_in (e ∷ es) (suc n) le h = (h zero e (omega arith) refl, all_in es n (omega (arith, le)) (λ j x lt there. h (suc j) x (omega (arith, lt)) there))
+
+  -- entries with their classes' kinds, and a code that passes
+  pub record IsStacked (a : List Sym) (x : Stack O I) : Type 0 where
+    pub kinds : AllKinds d a x.entries
+    pub code : Passes of law q d first good pass lines x.code
+
+  -- ---- one rule
+  module _ (rule : Rule) (is_rule : IsRule d.classes rule) (effect : EffectShape) (taken : of.effect d.classes rule ≡ Ok effect) (a : List Sym) (c : ℕ) (gb gs : List ℕ) where
+    abbrev Count : ℕ → Desk O I → Type 0
+    Count i y = Counted of law q d first rule.right a c gb gs i y
+
+    abbrev Wrote : Desk O I → Type 0
+    Wrote y = Written of law q d first good pass lines rule.right a c gb gs y
+
+    abbrev Taken : Bool → Desk O I → ℕ × Desk O I → Type 0
+    Taken given y p = IsTaken of law q d first good pass lines rule.right a c gb gs (0 + length rule.right) given y p
+
+    abbrev Stacked : Stack O I → Type 0
+    Stacked x = IsStacked (symbol.Class rule.left ∷ a) x
+
+    finished_passes : (y : Desk O I) (result given : Attr O) → Count (0 + length rule.right) y → Wrote y → IsResult of rule.give (attrs y.symbols) result
+        → Each Stacked (finished of q d first rule result given y)
+    finished_passes y result given h g is =
+        let size = fine_length rule.right y.symbols h.symbols_fine in
+        let loaded = all_in y.symbols (0 + length rule.right) (omega (arith, size)) h.loaded_to in
+        let fits = all_fit of law q can d first rule.right y.symbols h.symbols_fine loaded (right_none d.classes rule is_rule) in
+        record {
+          kinds = (refl, g.below);
+          code = all_append (λ (i : I). good i ≡ true) y.code (lines_of of q rule (attrs y.symbols) result) g.code
+              (pass.rules rule effect (attrs y.symbols) result is_rule taken fits (all_spelled rule.right y.symbols h.symbols_fine) is);
+        }
+
+    abbrev Due : Bool → Desk O I → Type 0
+    Due given y = Count (0 + length rule.right) y → Wrote y → Each (Taken given y) (due of q d first given y)
+
+    register_due : (given : Bool) (y : Desk O I) → Due given y
+    register_due given y h g = due_taken of law q d first good pass lines rule.right a c gb gs (0 + length rule.right) given y h g
+
+    -- the result, as the rule takes it
+    as_given : (gv : Give) (hs : List (Attr O)) (result : Attr O) → rule.give ≡ gv → IsResult of gv hs result → IsResult of rule.give hs result
+    as_given gv hs result mode is = subst (λ (x : Give). IsResult of x hs result) (sym mode) is
+
+    given_passes : (gv : Give) (y : Desk O I) → Count (0 + length rule.right) y → Wrote y → rule.give ≡ gv → Each Stacked (given_by of q d first rule gv y)
+    given_passes give.Fresh y h g mode =
+        each_bind (Taken false y) Stacked (due of q d first false y) (with_result of q d first rule) (register_due false y h g)
+        (λ p k. finished_passes p.1 (attr.Reg p.0) (attr.Reg p.0) k.0.after.counted k.1.written
+        (as_given give.Fresh (attrs p.1.symbols) (attr.Reg p.0) mode (k.0.small, free_avoids p.1 p.0 k.1.free)))
+    given_passes give.Reuse y h g mode =
+        each_bind (Taken true y) Stacked (due of q d first true y) (with_result of q d first rule) (register_due true y h g)
+        (λ p k. finished_passes p.1 (attr.Reg p.0) (attr.Reg p.0) k.0.after.counted k.1.written (as_given give.Reuse (attrs p.1.symbols) (attr.Reg p.0) mode k.0.small))
+    given_passes give.Scratch y h g mode =
+        each_bind (Taken false y) Stacked (due of q d first false y) (with_scratch of q d first rule) (register_due false y h g)
+        (λ p k. finished_passes p.1 (attr.Reg p.0) attr.Nothing k.0.after.counted k.1.written
+        (as_given give.Scratch (attrs p.1.symbols) (attr.Reg p.0) mode (k.0.small, free_avoids p.1 p.0 k.1.free)))
+    given_passes give.Nothing y h g mode = finished_passes y attr.Nothing attr.Nothing h g (as_given give.Nothing (attrs y.symbols) attr.Nothing mode tt)
+    given_passes (give.Shape l) y h g mode =
+        finished_passes y attr.Nothing (shaped of q d first (kind_at d.classes rule.left) l (attrs y.symbols)) h g
+        (as_given (give.Shape l) (attrs y.symbols) attr.Nothing mode tt)
+
+    pub reduced_passes : (x : Stack O I) → Count 0 (desk_of (length rule.right) x) → Wrote (desk_of (length rule.right) x) → Each Stacked (reduced of q d first rule x)
+    reduced_passes x h g =
+        let start = desk_of (length rule.right) x in
+        each_bind (Brought of law q d first good pass lines rule.right a c gb gs (0 + length rule.right)) Stacked (reloaded of q d first (length rule.right) 0 start)
+        (given_by of q d first rule rule.give) (reloaded_written of law q d first good pass lines rule.right a c gb gs (length rule.right) 0 start h g)
+        (λ y k. given_passes rule.give y k.0 k.1 refl)
