@@ -1,41 +1,46 @@
 #!/bin/sh
-# Compares `try_check` with a plain Rust program: on the shipped description, on changed ones, from which rules are dropped and to
-# which chain rules, restrictions and classes that turn in a circle are added, and on random small ones, which have a rule for each token
-# and some patterns more. Both must accept the same, with as many tuples; the replay of each sample must say what the refusal says; and the
-# shipped description may take at most 10 times the plain program's time.
-# Usage: bench/check.sh [COUNT [RULES]]; so many changed and so many small descriptions (default 500). With RULES, a description of so many
-# rules comes last, with some millions of tuples: it may take at most 3 GiB.
-# MD_REFERENCE names the folder of the plain program, a Cargo project whose command `check F` writes `.. tuples T ..` and then `.. faults N`
-# of the description in the file F. Where it isn't set or isn't there, nothing is compared.
+# Compares `ggvax check` with a plain Rust program: on the shipped description, on random small ones, which have a rule for each token and
+# some patterns more, and on changed ones, from which rules are dropped and to which chain rules, restrictions and classes that turn in a
+# circle are added. Both must say the same: that a description is accepted, and then which rule isn't shown; or that some tree blocks or
+# loops, and then the plain program parses the tree that `ggvax check` tells to that very end. Where `try_check` is there, the numbers of
+# tuples must be the same too. The shipped description may take at most 10 times the plain program's processor time, and 100 MiB.
+# Usage: bench/check.sh [SMALL [CHANGED [RULES]]]; so many small (default 500) and so many changed descriptions (default 20: each takes as
+# long as the shipped one). With RULES, a description of so many rules comes last, with some millions of tuples: it may take at most 3 GiB.
+# MD_REFERENCE names the folder of the plain program, a Cargo project with the modules that bench/descriptions_plain.rs names: where it
+# isn't set or isn't there, nothing is compared. BUILT may name a folder with programs that were built before; else they are built here.
 set -eu
 here=$(CDPATH='' cd -- "$(dirname -- "$0")/.." && pwd)
-count=${1:-500}
-rules=${2:-0}
-reference=${MD_REFERENCE:-}
+small=${1:-500}
+changed=${2:-20}
+rules=${3:-0}
+work=$(mktemp -d)
+trap 'rm -rf "$work"' EXIT
+. "$here/bench/common.sh"
 
-if [ -z "$reference" ] || [ ! -f "$reference/Cargo.toml" ]; then
+plain=$(plain_of "${MD_REFERENCE:-}" descriptions_plain.rs)
+if [ -z "$plain" ]; then
     echo "skipped: MD_REFERENCE names no folder of a plain program"
     exit 0
 fi
-work=$(mktemp -d)
-trap 'rm -rf "$work"' EXIT
+program=$(program_of ggvax)
+counter=$(program_of try_check)
+[ -n "$program" ] || echo "there is no ggvax: what it says is not compared"
+[ -n "$counter" ] || echo "there is no try_check: the numbers of tuples are not compared"
 
-cargo build --quiet --release --manifest-path "$reference/Cargo.toml" --target-dir "$work/target"
-plain=$(find "$work/target/release" -maxdepth 1 -type f -perm -u+x | head -n 1)
-(cd "$here/crates/try_check" && rt run) <"$here/crates/try_check/stdin" >/dev/null 2>&1
-
-python3 - "$here" "$plain" "$work" "$count" "$rules" <<'PY'
+python3 - "$program" "$counter" "$plain" "$work" "$here/examples/vax.gg" "$small" "$changed" "$rules" <<'PY'
 import itertools
+import os
 import random
 import re
-import resource
 import subprocess
 import sys
-import time
 
-here, plain, work, count, many = sys.argv[1], sys.argv[2], sys.argv[3], int(sys.argv[4]), int(sys.argv[5])
-program = f"{here}/crates/try_check/out/try_check"
+program, counter, plain, work, shipped = sys.argv[1:6]
+smalls, changes, many = int(sys.argv[6]), int(sys.argv[7]), int(sys.argv[8])
+os.chdir(work)
 random.seed(1)
+ROUNDS = 5
+OK, FULL, BLOCKS, LOOPS, POOL_SMALL, UNSHOWN = 0, 9, 10, 11, 12, 13
 
 
 def parts(text):
@@ -108,7 +113,8 @@ EACH = (
     [f"con : {token}" for token in CONSTANTS]
     + [f"val : {token} val" for token in UNARY]
     + [f"val : {token} val val" for token in BINARY]
-    + "val : con|val : reg|reg : val|val : Gaddr|lpl : Loc|lpl : Arg|lpl : IndirL val|val : lpl|bpl : IndirB val|bval : bpl|wpl : IndirW val|wval : wpl".split("|")
+    + "val : con|val : reg|reg : val|val : Gaddr|lpl : Loc|lpl : Arg|lpl : IndirL val|val : lpl".split("|")
+    + "bpl : IndirB val|bval : bpl|wpl : IndirW val|wval : wpl".split("|")
     + "val : Sxb bval|val : Zxb bval|val : Sxw wval|val : Zxw wval|bval : Ncb val|wval : Ncw val".split("|")
     + "stmt : AssignB bpl bval|stmt : AssignW wpl wval|stmt : AssignL lpl val|stmt : Cbr val val|stmt : Push val|stmt : Ret val".split("|")
     + "stmt : Call|stmt : Save|stmt : Jump".split("|")
@@ -153,68 +159,128 @@ def small():
     return SMALL + "\n".join("\n".join(rule_of(line)) for line in lines) + "\n"
 
 
-def long_patterns(count):
-    """So many patterns of eight signs and complements before a value, and shorter ones."""
-    words = [list(word) for size in (8, 7, 6, 5) for word in itertools.product(UNARY, repeat=size)]
-    return [f"rule reg : {' '.join(word)} rval\n  do movl %{len(word) + 1},%0\n  give fresh" for word in words[:count]]
+def long_rules(count):
+    """So many rules, up to 850, whose patterns have five to eight signs and complements before a value: they make many tuples."""
+    words = [" ".join(word) for size in (8, 7, 6, 5) for word in itertools.product(UNARY, repeat=size)]
+    values = [f"rule reg : {word} rval\n  do movl %{word.count(' ') + 2},%0\n  give fresh" for word in words[100:]]
+    pushes = [f"rule stmt : Push {word} rval\n  do pushl %{word.count(' ') + 3}\n  give nothing" for word in words]
+    return (values + pushes)[:count]
 
 
-def timed(words, given):
-    begin = time.perf_counter()
-    done = subprocess.run(words, input=given, stdout=subprocess.PIPE, check=True)
-    return done.stdout.decode(), time.perf_counter() - begin
+class Done:
+    """What a program left: its status, what it told, its processor seconds, and the most MiB that it held."""
+
+    def __init__(self, words, given=""):
+        with open("given", "w") as file:
+            file.write(given)
+        with open("given") as given, open("told", "w") as told, open("report", "w") as report:
+            child = subprocess.Popen(words, stdin=given, stdout=told, stderr=report)
+            _, status, used = os.wait4(child.pid, 0)
+        self.status = child.returncode = os.waitstatus_to_exitcode(status)
+        self.told, self.report = open("told").read(), open("report").read()
+        self.seconds, self.peak = used.ru_utime + used.ru_stime, used.ru_maxrss / 1024
 
 
-def ours(text):
-    told, spent = timed([program], text.encode())
-    accepted = re.search(r"accepted: \d+ item sets, (\d+) tuples", told)
-    if accepted:
-        return int(accepted.group(1)), spent
-    kind = told.split("\n")[0]
-    if kind in ("blocks", "loops"):
-        return "refused" if re.search(f"\nreplay {kind} at \\d+\n$", told) else f"{kind} without a sample that does", spent
-    return kind, spent
-
-
-def theirs(text):
-    path = f"{work}/description"
-    with open(path, "w") as file:
+def put(name, text):
+    with open(name, "w") as file:
         file.write(text)
-    begin = time.perf_counter()
-    done = subprocess.run([plain, "check", path, "4000000"], stdout=subprocess.PIPE)
-    spent = time.perf_counter() - begin
-    told = done.stdout.decode()
-    tuples, faults = re.search(r" tuples (\d+)", told), re.search(r"faults (\d+)", told)
-    if not tuples or not faults:
-        return "no description" if "description line" in told else "no tables", spent
-    return (int(tuples.group(1)) if faults.group(1) == "0" else "refused"), spent
 
 
-with open(f"{here}/crates/gg_texts/src/vax.rt") as file:
-    shipped = re.search(r'"(#.*)";', file.read(), re.S).group(1)
-mine, yours = ours(shipped), theirs(shipped)
-ratio = mine[1] / yours[1]
-print(f"the shipped description: {mine[0]} and {yours[0]} tuples, {mine[1]:.2f} s, {ratio:.1f} times the plain program's (at most 10)")
-differences = int(mine[0] != yours[0])
-head, rules = parts(shipped)
-for what, make in (("changed", lambda: changed(head, rules)), ("small", small)):
-    verdicts, different = {}, 0
-    for _ in range(count):
-        text = make()
-        mine, yours = ours(text)[0], theirs(text)[0]
-        kind = mine if isinstance(mine, str) else "accepted"
-        verdicts[kind] = verdicts.get(kind, 0) + 1
-        if mine != yours:
-            different += 1
-            print(f"{mine} against {yours}")
-            print(text if what == "small" else "")
-    print(f"{count} {what} descriptions: {verdicts}; {different} differences")
-    differences += different
-size = 0
-if many:
-    text = "\n".join(head + ["\n".join(rule) for rule in rules] + long_patterns(many - len(rules))) + "\n"
-    told, spent = ours(text)
-    size = resource.getrusage(resource.RUSAGE_CHILDREN).ru_maxrss / 1024 / 1024
-    print(f"{text.count('rule ')} rules: {told} tuples, {spent:.0f} s, {size:.2f} GiB (at most 3)")
-sys.exit(1 if differences or ratio > 10 or size > 3 else 0)
+def difference(text):
+    """How `ggvax check` ends, and what the plain program says otherwise, or nothing."""
+    put("d.gg", text)
+    mine = Done([program, "check", "d.gg"])
+    other = Done([plain, "check", "d.gg"]).told.rstrip("\n").split("\n")
+    first, _, rest = mine.report.removeprefix("ggvax: ").partition("\n")
+    if mine.status in (OK, POOL_SMALL, UNSHOWN):
+        kind, wanted = ("shown" if mine.status == OK else "not shown"), "\n".join(other[2:])
+        same = other[1:2] == ["accepted"] and (wanted + "\n" if wanted else "") == mine.report.removeprefix("ggvax: ")
+    elif mine.status in (BLOCKS, LOOPS):
+        put("sample", rest)
+        kind, end = first, Done([plain, "replay", "d.gg", "sample"]).told
+        same = other[-1].startswith("refused") and kind in other[-1].split() and end.startswith(f"{kind} at ")
+        other.append(f"its own parse of the tree: {end.rstrip()}")
+    else:
+        kind, same = first, first == other[-1] or mine.status == FULL and other[-1].startswith("too many")
+    return kind, None if same else f"{mine.status}: {mine.report}against: " + "\n".join(other)
+
+
+def tuples(texts):
+    """The numbers of tuples by `try_check` of each description that it accepts."""
+    told = Done([counter], "=".join(texts)).told
+    return [int(number) for number in re.findall(r"^accepted: \d+ item sets, (\d+) tuples$", told, re.M)]
+
+
+def plain_tuples(texts):
+    found = []
+    for text in texts:
+        put("d.gg", text)
+        told = Done([plain, "check", "d.gg"]).told
+        found += [int(number) for number in re.findall(r"(\d+) tuples\naccepted", told)]
+    return found
+
+
+def compare(what, texts):
+    """The number of descriptions of which something else is said."""
+    kinds, wrong = {}, 0
+    for number, text in enumerate(texts):
+        kind, other = difference(text)
+        kinds[kind] = kinds.get(kind, 0) + 1
+        if other:
+            wrong += 1
+            print(f"{what} {number}: {other}")
+            put(f"{what}{number}.gg", text)
+    told = ", ".join(f"{n} {kind}" for kind, n in sorted(kinds.items()))
+    print(f"{len(texts)} {what} descriptions ({told}): {wrong} differ", flush=True)
+    return wrong
+
+
+def compare_tuples(what, texts, at_once):
+    wrong, counted = 0, 0
+    for at in range(0, len(texts), at_once):
+        some = texts[at : at + at_once]
+        mine, other = tuples(some), plain_tuples(some)
+        counted += len(mine)
+        if mine != other:
+            wrong += 1
+            print(f"{what} {at} and behind: the numbers of tuples differ: {mine} against {other}")
+    same = "some differ" if wrong else "all the same"
+    print(f"the numbers of tuples of {counted} {what} descriptions that are accepted: {same}", flush=True)
+    return wrong
+
+
+def compare_speed(text):
+    """The shipped description, each as often; the plain program does the same work."""
+    put("vax.gg", text)
+    mine = [Done([program, "check", "vax.gg"]) for _ in range(ROUNDS)]
+    other = [Done([plain, "check", "vax.gg"]) for _ in range(ROUNDS)]
+    least, wanted = min(done.seconds for done in mine), min(done.seconds for done in other)
+    peak = max(done.peak for done in mine)
+    print(f"the shipped description: {mine[0].told.rstrip()}, {other[0].told.split(chr(10))[0]}")
+    print(f"  {least:.2f} s of processor against {wanted:.2f} s, {least / wanted:.1f} times (at most 10),", end=" ")
+    print(f"{peak:.0f} MiB (at most 100)", flush=True)
+    return least > 10 * wanted or peak > 100
+
+
+def check_many(head, rules):
+    """A description with so many rules, all trees of which are parsed; the templates of the added ones aren't shown."""
+    put("many.gg", "\n".join(head + ["\n".join(rule) for rule in rules] + long_rules(many - len(rules))) + "\n")
+    mine, other = Done([program, "check", "many.gg"]), Done([plain, "check", "many.gg"])
+    said = mine.report.split("\n")[0]
+    print(f"{many} rules: {said}; {other.told.split(chr(10))[0]}:", end=" ")
+    print(f"{mine.seconds:.0f} s of processor against {other.seconds:.0f} s, {mine.peak / 1024:.2f} GiB (at most 3)", flush=True)
+    return mine.status != UNSHOWN or mine.peak > 3 * 1024
+
+
+text = open(shipped).read()
+head, rules = parts(text)
+some_small, some_changed = [small() for _ in range(smalls)], [changed(head, rules) for _ in range(changes)]
+bad = []
+if program:
+    bad += [compare_speed(text), compare("small", some_small), compare("changed", some_changed)]
+if counter:
+    bad += [compare_tuples("small", some_small, 40), compare_tuples("changed", [text] + some_changed, 1)]
+if program and many:
+    bad.append(check_many(head, rules))
+sys.exit(1 if any(bad) else 0)
 PY

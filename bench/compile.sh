@@ -1,154 +1,247 @@
 #!/bin/sh
-# Compiles generated programs with several descriptions, runs their texts, and compares with the runs of the sources by their meaning. Then it
-# times `ggvax compile` on 100 and on 1,000 functions and on a 1 MiB source, and tells how many instructions the programs of examples/ execute.
-# Usage: bench/compile.sh [PROGRAMS [SEED]]; PROGRAMS (default 2000) generated programs from the seed SEED (default 1) on.
-# C_REFERENCE names the folder of a Cargo project whose command `gen SEED` writes a C program: where it isn't set or isn't there, no generated
-# program is compared. DESCRIPTIONS names further descriptions, with blanks between, beside the shipped one and that with two registers.
+# Compiles generated programs by several descriptions, runs their texts, and compares each run with the run of the source by its meaning.
+# Before that it tells how many instructions the programs of examples/ execute, and times `ggvax compile` on 100 and on 1,000 functions and
+# on a 1 MiB source.
+# Usage: bench/compile.sh [PROGRAMS [SEED [ALONE]]]; PROGRAMS (default 2000) generated programs from the seed SEED (default 1) on.
+#
+# What is compared: each compilation checks its description anew, so the programs stand 50 in a source, each with a mark of its own before
+# its names; the source's `main` reads a byte and calls the `main` of the program with that number. The source is compiled once by each
+# description, and its text and the source itself are run once for each of its programs, on the program's number and up to 40 bytes of
+# input. A run that ends or traps by the meaning must leave the same output and the same end; of one that becomes wild or deep, or goes on
+# behind 20,000 turns of loops and calls, the output up to that moment must come. Two of three programs may trap, be wild, be deep or go on.
+# Besides, of each way to end the first ALONE (default 3) programs are compiled, run and compared as they are, each a source of its own.
+# The descriptions: the shipped one; the same with two registers, so that values are saved; bench/reloads.gg; and the same with three
+# registers, so that values are reloaded.
+#
+# C_REFERENCE names the folder of a Cargo project whose command `gen SEED [--free]` writes a C program: where it isn't set or isn't there,
+# no generated program is compared. BUILT may name a folder with a `ggvax` that was built before; else it is built here.
 set -eu
 here=$(CDPATH='' cd -- "$(dirname -- "$0")/.." && pwd)
 programs=${1:-2000}
 seed=${2:-1}
-reference=${C_REFERENCE:-}
+alone=${3:-3}
 work=$(mktemp -d)
 trap 'rm -rf "$work"' EXIT
+. "$here/bench/common.sh"
 
-plain=
-if [ -n "$reference" ] && [ -f "$reference/Cargo.toml" ]; then
-    cargo build --quiet --release --manifest-path "$reference/Cargo.toml" --target-dir "$work/target"
-    plain=$(find "$work/target/release" -maxdepth 1 -type f -perm -u+x | head -n 1)
-else
-    echo "C_REFERENCE names no folder of a generator: no generated program is compared"
+plain=$(plain_of "${C_REFERENCE:-}")
+[ -n "$plain" ] || echo "C_REFERENCE names no folder of a generator: no generated program is compared"
+program=$(program_of ggvax)
+if [ -z "$program" ]; then
+    echo "skipped: BUILT names a folder without ggvax"
+    exit 0
 fi
-cp "$here/examples/vax.gg" "$work/vax.gg"
-sed 's/^pool .*/pool r0 r1/' "$work/vax.gg" >"$work/two.gg"
-number=0
-for description in ${DESCRIPTIONS:-}; do
-    number=$((number + 1))
-    cp "$description" "$work/more$number.gg"
-done
-# The front script builds the program where it is stale; with no words it only tells its usage.
-"$here/ggvax" >/dev/null 2>&1 || true
+cp "$here/examples/vax.gg" "$here/bench/reloads.gg" "$work"
+sed 's/^pool .*/pool r0 r1/' "$work/vax.gg" >"$work/vax-two.gg"
+sed 's/^pool .*/pool r0 r1 r2/' "$work/reloads.gg" >"$work/reloads-three.gg"
 
-python3 - "$here/crates/ggvax/out/ggvax" "$plain" "$work" "$here/examples" "$programs" "$seed" <<'PY'
+python3 - "$program" "$plain" "$work" "$here/examples" "$programs" "$seed" "$alone" <<'PY'
 import glob
 import os
-from concurrent.futures import ThreadPoolExecutor
 import random
+import re
 import shutil
 import subprocess
 import sys
-import time
 
 program, plain, work, examples = sys.argv[1:5]
-programs, first_seed = int(sys.argv[5]), int(sys.argv[6])
+programs, first_seed, alone = (int(word) for word in sys.argv[5:8])
+DESCRIPTIONS = ("vax.gg", "vax-two.gg", "reloads.gg", "reloads-three.gg")
+IN_A_SOURCE = 50
 TURNS = 20_000
-STEPS = 20_000_000
-DONE, SPENT, TRAPPED, WILD, DEEP, BROKEN = 0, 16, 17, 18, 19, 20
+STEPS, STEPS_BEHIND = 20_000_000, 2_000_000
+DONE, REFUSED, SPENT, TRAPPED, WILD, DEEP = 0, 14, 16, 17, 18, 19
+ENDS = {DONE: "end", SPENT: "go on", TRAPPED: "trap", WILD: "are wild", DEEP: "are deep"}
+KEPT = set("int char short unsigned void static register if else while do for break continue return sizeof putchar getchar".split())
+WORD = re.compile(r"""//[^\n]*|/\*.*?\*/|"(?:\\.|[^"\\])*"|'(?:\\.|[^'\\])*'|\w+""", re.S)
 os.chdir(work)
 
 
-def call(*words, given=b"", folder="."):
-    done = subprocess.run([program, *words], input=given, stdout=subprocess.PIPE, stderr=subprocess.PIPE, cwd=folder)
-    return done.returncode, done.stdout, done.stderr
+class Done:
+    """What a program left: its status, what it wrote and told, its processor seconds, and the most MiB that it held."""
+
+    def __init__(self, words, given=b""):
+        with open("given", "wb") as file:
+            file.write(given)
+        with open("given", "rb") as given, open("written", "wb") as written, open("report", "wb") as report:
+            child = subprocess.Popen(words, stdin=given, stdout=written, stderr=report)
+            _, status, used = os.wait4(child.pid, 0)
+        self.status = child.returncode = os.waitstatus_to_exitcode(status)
+        self.written, self.report = open("written", "rb").read(), open("report", "rb").read()
+        self.seconds, self.peak = used.ru_utime + used.ru_stime, used.ru_maxrss / 1024
 
 
-def agree(meaning, run):
-    """Whether a text's run is what the source's run allows."""
-    (wanted, output, end), (status, written, said) = meaning, run
-    both = output.startswith(written) or written.startswith(output)
-    if status == SPENT:
-        return both
-    if wanted in (WILD, DEEP):
-        return written.startswith(output)
-    if wanted == SPENT:
-        return written.startswith(output) and status != BROKEN
-    return (wanted, output, end) == (status, written, said)
+def put(name, content):
+    with open(name, "wb") as file:
+        file.write(content if isinstance(content, bytes) else content.encode())
 
 
-def compare_one(turn, given, descriptions):
-    """How a program's run by its meaning ends, and for each description what differs: nothing, a refusal, or a line that tells it."""
-    folder = f"turn{turn}"
-    os.mkdir(folder)
-    words = ["gen", str(first_seed + turn)] + (["--free"] if turn % 3 == 2 else [])
-    with open(f"{folder}/source.c", "wb") as file:
-        file.write(subprocess.run([plain, *words], stdout=subprocess.PIPE, check=True).stdout)
-    meaning = call("meaning", "source.c", str(TURNS), given=given, folder=folder)
-    refused, wrong = 0, []
-    for description in descriptions:
-        status, text, said = call("compile", f"../{description}", "source.c", folder=folder)
-        if status != DONE:
-            refused += 1
-            if b" needs " not in said:
-                wrong.append(f"{' '.join(words)} with {description}: {status} {said!r}")
-            continue
-        with open(f"{folder}/text.s", "wb") as file:
-            file.write(text)
-        run = call("run", "text.s", str(STEPS), given=given, folder=folder)
-        if not agree(meaning, run):
-            wrong.append(f"{' '.join(words)} with {description}: {run[0]} {run[2]!r}, by its meaning {meaning[0]} {meaning[2]!r}")
-    shutil.rmtree(folder)
-    return meaning[0], refused, wrong
+class Program:
+    """A generated program, the words that generate it, and an input."""
+
+    def __init__(self, turn, chance):
+        self.words = ["gen", str(first_seed + turn)] + (["--free"] if turn % 3 else [])
+        self.source = subprocess.run([plain, *self.words], stdout=subprocess.PIPE, check=True).stdout.decode()
+        self.given = bytes(chance.randrange(256) for _ in range(chance.randrange(41)))
+
+    def marked(self, mark):
+        """The source with a mark before each name that it declares."""
+
+        def changed(found):
+            word = found.group()
+            return mark + word if re.match(r"[A-Za-z_]", word) and word not in KEPT else word
+
+        return WORD.sub(changed, self.source)
+
+
+def joined(some):
+    """One source of programs by their numbers."""
+    parts = [one.marked(f"p{number}_") for number, one in some.items()]
+    calls = [f"  if (n == {number}) return p{number}_main();\n" for number in some]
+    return "\n".join(parts) + "int main() {\n  int n;\n  n = getchar();\n" + "".join(calls) + "  return 0 - 1;\n}\n"
+
+
+def as_they_are(some):
+    return "".join(one.source for one in some.values())
+
+
+def difference(meaning, run):
+    """What a text's run has otherwise than the source's, or nothing."""
+    front = run.written.startswith(meaning.written)
+    if meaning.status in (WILD, DEEP, SPENT):
+        same = front or (run.status == SPENT and meaning.written.startswith(run.written))
+    else:
+        same = (run.status, run.written, run.report) == (meaning.status, meaning.written, meaning.report)
+    if same:
+        return None
+    output = "the output begins so" if front else "the output differs"
+    return f"{run.status} {run.report!r}, by its meaning {meaning.status} {meaning.report!r}, {output}"
+
+
+def compiled(description):
+    """What compiling source.c left; its text is then in text.s."""
+    done = Done([program, "compile", description, "source.c"])
+    if done.status == DONE:
+        put("text.s", done.written)
+    return done
+
+
+def frame_words(text):
+    return sum(int(words) // 4 for words in re.findall(rb"^\tsubl2\t\$(\d+),sp$", text, re.M))
+
+
+class Tally:
+    """What was compared by each description: texts, runs, and the words of all frames; what differs, and what was refused."""
+
+    def __init__(self):
+        self.wrong, self.refused, self.ends = 0, 0, {}
+        self.texts, self.runs, self.frames = ({description: 0 for description in DESCRIPTIONS} for _ in range(3))
+
+    def differs(self, line):
+        self.wrong += 1
+        print(line, flush=True)
+
+    def run_all(self, some, description, text, meanings):
+        """The runs of a text on each program's input."""
+        self.texts[description] += 1
+        self.frames[description] += frame_words(text)
+        for number, (given, meaning) in meanings.items():
+            run = Done([program, "run", "text.s", str(STEPS_BEHIND if meaning.status == SPENT else STEPS)], given)
+            self.runs[description] += 1
+            line = difference(meaning, run)
+            if line:
+                self.differs(f"{' '.join(some[number].words)} by {description}: {line}")
+
+    def compare(self, some, source_of, given_of):
+        """Compiles the source of some programs by each description, and runs it; the answer is how each program ends by its meaning. A
+        program whose frame would be too long is left out: the refusal names it."""
+        some, meanings = dict(some), None
+        for description in DESCRIPTIONS:
+            put("source.c", source_of(some))
+            done = compiled(description)
+            while done.status == REFUSED and some:
+                found = re.match(rb"ggvax: p(\d+)_", done.report)
+                del some[int(found.group(1)) if found else next(iter(some))]
+                self.refused += 1
+                put("source.c", source_of(some))
+                done = compiled(description)
+            if meanings is None:
+                givens = {number: given_of(number, one) for number, one in some.items()}
+                meanings = {number: (given, Done([program, "meaning", "source.c", str(TURNS)], given)) for number, given in givens.items()}
+            if done.status != DONE:
+                self.differs(f"{[one.words for one in some.values()]} by {description}: {done.status} {done.report!r}")
+                continue
+            self.run_all(some, description, done.written, meanings)
+        return {number: meaning.status for number, (_, meaning) in meanings.items()}
 
 
 def compare():
-    """On as many processors as there are: each compilation checks its description anew."""
     chance = random.Random(first_seed)
-    descriptions = sorted(glob.glob("*.gg"))
-    inputs = [bytes(chance.randrange(256) for _ in range(chance.randrange(41))) for _ in range(programs)]
-    ends, refused, differ = {}, 0, 0
-    with ThreadPoolExecutor(os.cpu_count()) as workers:
-        for end, refusals, wrong in workers.map(lambda turn: compare_one(turn, inputs[turn], descriptions), range(programs)):
-            ends[end] = ends.get(end, 0) + 1
-            refused += refusals
-            differ += len(wrong)
-            for line in wrong:
-                print(line)
-    told = ", ".join(f"{n} of status {s}" for s, n in sorted(ends.items()))
-    print(f"{programs} programs ({told}) with {len(descriptions)} descriptions: {differ} differ, {refused} refused")
-    return differ
+    tally, by_end = Tally(), {}
+    for turn in range(0, programs, IN_A_SOURCE):
+        some = {number: Program(turn + number, chance) for number in range(min(IN_A_SOURCE, programs - turn))}
+        for number, end in tally.compare(some, joined, lambda number, one: bytes([number]) + one.given).items():
+            by_end.setdefault(end, []).append(some[number])
+        print(f"{turn + len(some)} programs: {tally.wrong} differ so far", file=sys.stderr, flush=True)
+    together = sum(tally.texts.values())
+    for end in sorted(by_end):
+        for one in by_end[end][:alone]:
+            tally.compare({0: one}, as_they_are, lambda _, one: one.given)
+    told = ", ".join(f"{len(some)} {ENDS[end]}" for end, some in sorted(by_end.items()))
+    print(f"{programs} programs ({told}; {tally.refused} refused): {together} texts of many, {sum(tally.texts.values()) - together} of one")
+    for description in DESCRIPTIONS:
+        runs, texts, words = tally.runs[description], tally.texts[description], tally.frames[description]
+        print(f"  {description}: {runs} runs of {texts} texts, whose frames have {words} words")
+    print(f"{tally.wrong} differ", flush=True)
+    return tally.wrong
 
 
-def generated(count):
-    """A source of so many functions, each of which calls none, and a main that calls all."""
-    lines = ["int t[64];"]
-    for i in range(count):
-        lines.append(f"int f{i}(int x){{int y;y=x*{2 * i + 1}+{i};t[x&63]=t[y&63]+y;return y^(y>>3);}}")
-    lines.append("int main(){int s;s=1;")
-    lines += [f"s=f{i}(s+{i});" for i in range(count)]
-    lines.append("while(s){putchar(65+(s&15));s=(s>>4)&268435455;}putchar(10);return 0;}")
-    return "\n".join(lines) + "\n"
+PARTS = (
+    "int f{n}(int a,char*b){{int i;for(i=0;i<a;i++){{b[i]=(char)(a*i+{n});if(b[i]>100)return b[i]-i;else a^=i<<2;}}return a;}}\n",
+    "int t{n};short u{n}(short x,int y){{while(x>0&&y!={n}||!y){{x-=y++;if(x==y)continue;t{n}+=x*y;}}return x+t{n};}}\n",
+    "void g{n}(void){{char*s;s=\"some text {n}\";while(*s)putchar(*s++);}}\n",
+    "int h{n}(int x){{return x?h{n}(x-1)%7:(x&0xff)|(x>>3)&~x;}}\n",
+    "int k{n}(int*p,int*q,int i){{p[i]=q[i+1]/(i+1)+p[-i];*p++=*q--;return p<q?p-q:k{n}(p,q,i-1)+k{n}(q,p,p[i]);}}\n",
+)
+TAIL = "int main(){return 0;}\n"
 
 
-def seconds(words, rounds=5):
-    best = None
-    for _ in range(rounds):
-        begin = time.perf_counter()
-        done = subprocess.run(words, stdout=subprocess.PIPE, stderr=subprocess.PIPE)
-        spent = time.perf_counter() - begin
-        assert done.returncode == 0, done.stderr[-200:]
-        best = spent if best is None else min(best, spent)
-    return best
+def functions(count=None, length=1_048_576):
+    """A source of so many functions, or of as many as the length in bytes has room for, and their number."""
+    made, size = [], len(TAIL)
+    while count is None or len(made) < count:
+        part = PARTS[len(made) % len(PARTS)].format(n=len(made))
+        if size + len(part) > length:
+            break
+        made.append(part)
+        size += len(part)
+    return "".join(made) + TAIL, len(made)
+
+
+def least(words, rounds):
+    """The least processor seconds of some runs, and the most MiB."""
+    done = [Done(words) for _ in range(rounds)]
+    assert all(one.status == DONE for one in done), done[0].report
+    return min(one.seconds for one in done), max(one.peak for one in done)
 
 
 def compare_speed():
-    """The time of `check` is that of reading the description, building and checking its tables, which each compilation does too."""
-    slow = False
-    tables = seconds([program, "check", "vax.gg"])
-    times = {}
-    long_source = generated(8_000)
-    for name, source in (("100", generated(100)), ("1000", generated(1_000)), ("1 MiB", long_source)):
-        with open("timed.c", "w") as file:
-            file.write(source)
-        times[name] = seconds([program, "compile", "vax.gg", "timed.c"]) - tables
-        line = f"{name}: {len(source)} bytes in {times[name]:.3f} s behind the check's {tables:.3f} s"
+    """Each compilation checks its description first, so the time behind the check of the same description is told too."""
+    check, _ = least([program, "check", "vax.gg"], 5)
+    times, behind, peak = {}, {}, 0
+    for name, (source, count), rounds in (("100", functions(100), 5), ("1000", functions(1_000), 5), ("1 MiB", functions(), 2)):
+        put("timed.c", source)
+        times[name], peak = least([program, "compile", "vax.gg", "timed.c"], rounds)
+        behind[name] = times[name] - check
+        line = f"{count} functions, {len(source)} bytes: {times[name]:.2f} s of processor,"
+        line += f" {behind[name]:.2f} behind the check, {peak:.0f} MiB"
         if shutil.which("gcc"):
-            theirs = seconds(["gcc", "-O0", "-S", "-o", "/dev/null", "timed.c"])
-            line += f", {times[name] / theirs:.2f} times gcc -O0 -S"
-        print(line)
-    ratio = times["1000"] / times["100"]
-    print(f"1,000 functions against 100: {ratio:.1f} times (at most 12)")
-    slow = ratio > 12 or times["1 MiB"] + tables > 60
-    return slow
+            theirs, _ = least(["gcc", "-w", "-O0", "-S", "-o", "timed.s", "timed.c"], rounds)
+            line += f"; gcc -O0 -S {theirs:.2f} s, so {times[name] / theirs:.1f} times, {behind[name] / theirs:.1f} behind the check"
+        print(line, flush=True)
+    whole, alone = (some["1000"] / some["100"] for some in (times, behind))
+    print(f"1,000 functions against 100: {whole:.1f} times (at most 12), {alone:.1f} behind the check")
+    return times["1000"] > 12 * times["100"] or times["1 MiB"] > 60 or peak > 2048
 
 
 def least_steps(given):
@@ -156,7 +249,7 @@ def least_steps(given):
     low, high = 0, STEPS
     while high - low > 1:
         middle = (low + high) // 2
-        if call("run", "text.s", str(middle), given=given)[0] == SPENT:
+        if Done([program, "run", "text.s", str(middle)], given).status == SPENT:
             low = middle
         else:
             high = middle
@@ -164,21 +257,17 @@ def least_steps(given):
 
 
 def count_examples():
-    print("| Program | Text, in lines | Instructions executed |")
+    print("| Program | Text, in bytes | Instructions |")
     print("|---|---|---|")
     for path in sorted(glob.glob(f"{examples}/*.c")):
-        status, text, said = call("compile", "vax.gg", path)
-        name = os.path.basename(path)
-        if status != DONE:
-            print(f"| `{name}` | {said.decode().strip()} | |")
-            continue
-        with open("text.s", "wb") as file:
-            file.write(text)
-        print(f"| `{name}` | {text.count(10):,} | {least_steps(b'echo'):,} |")
+        shutil.copy(path, "source.c")
+        done = compiled("vax.gg")
+        told = f"{len(done.written):,} | {least_steps(b'AB'):,}" if done.status == DONE else f"{done.report.decode().strip()} |"
+        print(f"| `{os.path.basename(path)}` | {told} |", flush=True)
 
 
-wrong = compare() if plain else 0
-slow = compare_speed()
 count_examples()
+slow = compare_speed()
+wrong = compare() if plain and programs else 0
 sys.exit(1 if wrong or slow else 0)
 PY
