@@ -5,6 +5,7 @@ use Rattle.std.proofs.lemmas.List.Elements.{recursion_from_All}
 use Rattle.tree_core.specs.declared.program.Object.{Object}
 use Rattle.c_program.specs.Programs.{AProgram}
 use Rattle.c_sound.specs.Sound.{IsSound}
+use Rattle.c_sound_texts.proofs.Whole.{typed_is_sound}
 use Rattle.c_lower_scheme.specs.Programs.{lowered}
 use Rattle.c_lower_valid.proofs.Whole.{lowered_is_valid}
 use Rattle.vax_core.specs.declared.code.AreaItem.{AreaItem}
@@ -13,7 +14,8 @@ use Rattle.vax_machine_lists.specs.Sound.{AllBelow}
 use Rattle.vax_target_meaning.specs.Fitting.{CanWrite}
 use Rattle.gg_compile_law.specs.Spelling.{HoldsNumbers}
 use Rattle.gg_compile_sources.proofs.Objects.{hold_numbers, objects_named}
-use Rattle.gg_compile_written.specs.Claims.{HasPlainObjects, SelectedCodesCanBeWritten, SelectedProgramsCanBeWritten}
+use Rattle.gg_compile_within.proofs.Limits.{typed_programs_are_within_limits}
+use Rattle.gg_compile_written.specs.Claims.{HasPlainObjects, SelectedCodesCanBeWritten, SelectedProgramsCanBeWritten, TypedCodesCanBeWritten}
 use Rattle.gg_compile_written.proofs.Tests.{both, all_true}
 use Rattle.gg_compile_written.proofs.Areas.{area_fine}
 use Rattle.gg_compile_written.proofs.Areas as areas
@@ -41,3 +43,7 @@ plain_objects p s = record {
 pub selected_programs_can_be_written : SelectedProgramsCanBeWritten
 selected_programs_can_be_written p d c s limits fit selected =
     selected_codes_can_be_written (lowered p) d c (lowered_is_valid p s) limits (plain_objects p s) fit selected
+
+pub typed_codes_can_be_written : TypedCodesCanBeWritten
+typed_codes_can_be_written p d c t fit shown selected =
+    selected_programs_can_be_written p d c (typed_is_sound p t.unit t.tokens t.typed) (typed_programs_are_within_limits p t fit) shown selected

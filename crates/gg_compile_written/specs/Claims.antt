@@ -5,6 +5,7 @@ use Rattle.tree_core.specs.declared.program.Object.{Object}
 use Rattle.tree_core.specs.declared.program.TreeProgram.{TreeProgram}
 use Rattle.tree_core.specs.Valid.{IsValid}
 use Rattle.c_program.specs.Programs.{AProgram}
+use Rattle.c_typed_check.specs.Typed.{IsTypedUnit}
 use Rattle.c_sound.specs.Sound.{IsSound}
 use Rattle.c_lower_scheme.specs.Programs.{lowered}
 use Rattle.md_reader.specs.State.{Content}
@@ -15,6 +16,7 @@ use Rattle.vax_machine_lists.specs.Sound.{AllBelow}
 use Rattle.vax_target_meaning.specs.Vax.{vax}
 use Rattle.gg_compile_code.specs.Selecting.{SelectedAll}
 use Rattle.gg_compile_sources.specs.Claims.{IsWithinLimits}
+use Rattle.gg_compile_within.specs.Claims.{FitFrames}
 
 -- The labels of a program's objects can be spelled, and what they hold are bytes.
 pub record HasPlainObjects (q : TreeProgram) : Type 0 where
@@ -33,3 +35,8 @@ abbrev pub SelectedProgramsCanBeWritten : Type 0
 SelectedProgramsCanBeWritten =
     (p : AProgram) (d : Content) (c : Code) → IsSound p → IsWithinLimits (lowered p) → IsFit vax d → SelectedAll vax d (lowered p) c
     → is_code c ≡ true
+
+-- So it is with every typed program none of whose functions needs more than 1,024 words of its frame.
+abbrev pub TypedCodesCanBeWritten : Type 0
+TypedCodesCanBeWritten =
+    (p : AProgram) (d : Content) (c : Code) → IsTypedUnit p → FitFrames p → IsFit vax d → SelectedAll vax d (lowered p) c → is_code c ≡ true
