@@ -34,9 +34,12 @@ fn show_layout(rt: HostRuntime, program: &Program) -> io::Result<()> {
 }
 
 fn show_need(rt: HostRuntime, program: &Program) -> io::Result<()> {
-    for routine in program.plain().routines.as_slice() {
-        let name = spelled(rt, &routine.name)?;
-        println!(rt; "  {name} needs {}", routine.need)?;
+    let routines = program.plain().routines.as_slice();
+    for number in 0..routines.len() {
+        let name = spelled(rt, &routines[number].name)?;
+        if let Ok(function) = u32::try_from(number) {
+            println!(rt; "  {name} needs {}", program.need(function))?;
+        }
     }
     Ok(())
 }
