@@ -1,0 +1,198 @@
+-- The questions that are asked before a reduction of a whole list, and that these answers take it.
+use Rattle.std.proofs.Common.{◌≡◌, ℕ, zero, suc, ◌+◌, ◌-◌, ◌≤◌, ◌<◌, List, [], ◌∷◌, ◌++◌, Option, Some, None, Bool, true, false, length, take, drop, refl, ap, sym, ◌∙◌, inl, inr, ⊎_elim, subst, arith, append_assoc, length-append, take_at, one-add}
+use Rattle.std.specs.Prelude.{◌==◌, nat_lt, if◌then◌else◌}
+use Rattle.std.proofs.lemmas.Bool.{cases_lt, eq-eqb, ne_eqb, lt-ltb, le-ltb, eqb-true, and_parts, and_from, true≢false}
+use Rattle.md_reader.specs.declared.types.Sym.{Sym}
+use Rattle.lr_check_sets.specs.Automaton.{Automaton, Production, Candidate, shift, reduce, walk, size_of, Free}
+use Rattle.lr_check_sets.specs.Answers.{Entry, pick}
+use Rattle.lr_check_sets.specs.Shapes.{wanted, IsTree}
+use Rattle.lr_check_sets.proofs.Asks.{push, pick_free, pick_yes, pick_no}
+use Rattle.lr_check_sets.proofs.Shapes.{wanted-append, wanted-none, wanted-more, wanted-zero, none_some, some_same, tree_some, cut}
+use Rattle.lr_check_sets.proofs.Reached.{hold, length-hold}
+use Rattle.lr_check_sets.proofs.Fixed.{push_at, pushes, GoesDown, DeepIn}
+use Rattle.lr_check_samples.specs.Answering.{is_wanted, answers_to, depths_to}
+
+-- a push by a right side is a push at a depth
+push_is : (right : List Sym) (d : ℕ) (z : List Entry) → length right ≡ suc d → push right false z ≡ push_at d z
+push_is right d [] e = refl
+push_is [] d (h ∷ a) e = absurd (omega arith)
+push_is (X ∷ []) zero (h ∷ a) e = refl
+push_is (X ∷ []) (suc d) (h ∷ a) e = absurd (omega arith)
+push_is (X ∷ Y ∷ right) zero (h ∷ a) e = absurd (omega arith)
+push_is (X ∷ Y ∷ right) (suc d) (h ∷ a) e = ap (λ l. h ∷ l) (push_is (Y ∷ right) d a (omega arith))
+
+-- at the root of a list, and below it
+push-root : (right s : List Sym) (x : Bool) (b : List Bool) (z : List Entry) → length right ≡ length s → 0 < length s → push right x (hold s b ++ z) ≡ hold s (x ∷ b) ++ z
+push-root right [] x b z e lt = absurd (omega arith)
+push-root [] (X ∷ s) x b z e lt = absurd (omega arith)
+push-root (Y ∷ []) (X ∷ []) x b z e lt = refl
+push-root (Y ∷ V ∷ right) (X ∷ []) x b z e lt = absurd (omega arith)
+push-root (Y ∷ []) (X ∷ W ∷ s) x b z e lt = absurd (omega arith)
+push-root (Y ∷ V ∷ right) (X ∷ W ∷ s) x b z e lt = ap (λ l. record { symbol = X; answers = [] } ∷ l) (push-root (V ∷ right) (W ∷ s) x b z (omega arith) (omega arith))
+
+push-below : (right s : List Sym) (d : ℕ) (b : List Bool) (z : List Entry) → length right ≡ length s + suc d → 0 < length s → push right false (hold s b ++ z) ≡ hold s b ++ push_at d z
+push-below right [] d b z e lt = absurd (omega arith)
+push-below [] (X ∷ s) d b z e lt = absurd (omega arith)
+push-below (Y ∷ []) (X ∷ s) d b z e lt = absurd (omega arith)
+push-below (Y ∷ V ∷ right) (X ∷ []) d b z e lt = ap (λ l. record { symbol = X; answers = b } ∷ l) (push_is (V ∷ right) d z (omega arith))
+push-below (Y ∷ V ∷ right) (X ∷ W ∷ s) d b z e lt = ap (λ l. record { symbol = X; answers = [] } ∷ l) (push-below (V ∷ right) (W ∷ s) d b z (omega arith) (omega arith))
+
+-- below a tree, one more is wanted before it
+one_more : (s u : List Sym) → IsTree s → wanted 1 (s ++ u) ≡ Some 0 → wanted 1 u ≡ Some 1
+one_more s u tree h = go (wanted 1 u) refl
+  where
+    go : (w : Option ℕ) → wanted 1 u ≡ w → wanted 1 u ≡ Some 1
+    go None f = absurd (none_some 0 (sym (wanted-none 1 s u f) ∙ h))
+    go (Some zero) f = absurd (none_some 0 (sym (wanted-zero s (tree_some s tree)) ∙ (sym (wanted-append 1 0 s u f) ∙ h)))
+    go (Some (suc j)) f =
+        let more : wanted (1 + j) s ≡ Some (0 + j) = wanted-more 1 0 j s tree in
+        let all : wanted (suc j) s ≡ Some 0 = sym (wanted-append 1 (suc j) s u f) ∙ h in
+        let none : 0 + j ≡ 0 = some_same (0 + j) 0 (sym more ∙ (ap (λ n. wanted n s) (one-add j) ∙ all)) in
+        f ∙ ap Some (omega arith)
+
+-- a right side on a stack: the list and some symbols below it
+reaches : (s a top below : List Sym) (d : ℕ) → s ++ a ≡ top ++ below → length top ≡ length s + suc d → (d < length a) × (top ≡ s ++ take (d + 1) a)
+reaches s a top below d e size =
+    let rest : List Sym = drop (length s) top in
+    let split : top ≡ s ++ rest = cut top below s a (sym e) (omega arith) in
+    let long : length rest ≡ d + 1 = omega (arith, ap length split, length-append s rest) in
+    let lower : a ≡ rest ++ below = same_tail s a (rest ++ below) (e ∙ (ap (λ l. l ++ below) split ∙ append_assoc s rest below)) in
+    (omega (arith, ap length lower, length-append rest below), split ∙ ap (λ l. s ++ l) (sym (ap (take (d + 1)) lower ∙ take_at rest below (d + 1) long)))
+  where
+    same_tail : (p u v : List Sym) → p ++ u ≡ p ++ v → u ≡ v
+    same_tail [] u v e = e
+    same_tail (X ∷ p) u v e = same_tail p u v (cc)
+
+-- the right side of a candidate stands on each stack of the state, and is a tree
+abbrev pub StandsOn : Automaton → ℕ → List Sym → Production → Type 0
+StandsOn A q s x = (a : List Sym) → walk A 0 a ≡ Some q → (top below : List Sym) × ((s ++ a ≡ top ++ below) × (length top ≡ size_of x) × IsTree top)
+
+-- what takes a reduction of the whole list to the class
+pub record Taking (A : Automaton) (q : ℕ) (s : List Sym) (cs : List Candidate) (own : List Bool) (ds : List ℕ) (c : ℕ) : Type 0 where
+  pub rule : Production
+  pub left : rule.left ≡ c
+  pub size : size_of rule ≡ length s
+  pub deep : (a : List Sym) → walk A 0 a ≡ Some q → DeepIn a ds
+  pub picks : (b : List Bool) (z : List Entry) → pick cs (hold s (own ++ b) ++ pushes ds z) ≡ record { taken = Some (reduce rule); stack = hold s b ++ z }
+
+by_if : {X : Type 0} (b c : Bool) (x y : X) → b ≡ c → (if b then x else y) ≡ (if c then x else y)
+by_if b c x y e = ap (λ (d : Bool). if d then x else y) e
+
+module _ (A : Automaton) (q : ℕ) (s : List Sym) (tree : IsTree s) (c : ℕ) where
+  some : 0 < length s
+  some = tree_some s tree
+
+  abbrev Takes : List Candidate → Type 0
+  Takes cs = Taking A q s cs (answers_to cs (length s) c) (depths_to cs (length s) c) c
+
+  taking_as : {cs : List Candidate} {own own' : List Bool} {ds ds' : List ℕ} → own ≡ own' → ds ≡ ds' → Taking A q s cs own ds c → Taking A q s cs own' ds' c
+  taking_as {cs = cs} {own = own} {ds' = ds'} e f k = subst (λ l. Taking A q s cs l ds' c) e (subst (λ l. Taking A q s cs own l c) f k)
+
+  -- the wanted one
+  here : (x : Production) (cs : List Candidate) → x.left ≡ c → size_of x ≡ length s → (b : Bool) → x.asks ≡ b → Taking A q s (reduce x ∷ cs) (if b then true ∷ [] else []) [] c
+  here x cs left size false e = record {
+    rule = x;
+    left = left;
+    size = size;
+    deep = λ a at. tt;
+    picks = λ b z. pick_free x cs (hold s b ++ z) e;
+  }
+  here x cs left size true e = record {
+    rule = x;
+    left = left;
+    size = size;
+    deep = λ a at. tt;
+    picks = λ b z.
+        ap (pick (reduce x ∷ cs)) (sym (push-root x.right s true b z size some))
+        ∙ pick_yes x cs (hold s b ++ z) e (omega (arith, size, some)) (omega (arith, size, length-append (hold s b) z, length-hold s b));
+  }
+
+  -- one that is asked before, of the whole list
+  equal : (x : Production) (cs : List Candidate) {own : List Bool} {ds : List ℕ} → x.asks ≡ true → size_of x ≡ length s → Taking A q s cs own ds c →
+      Taking A q s (reduce x ∷ cs) (false ∷ own) ds c
+  equal x cs {own = own} {ds = ds} e size k = record {
+    rule = k.rule;
+    left = k.left;
+    size = k.size;
+    deep = k.deep;
+    picks = λ b z.
+        ap (pick (reduce x ∷ cs)) (sym (push-root x.right s false (own ++ b) (pushes ds z) size some))
+        ∙ pick_no x cs (hold s (own ++ b) ++ pushes ds z) (record { taken = Some (reduce k.rule); stack = hold s b ++ z }) e (k.picks b z);
+  }
+
+  -- one that is asked before, of a longer right side
+  longer : (x : Production) (cs : List Candidate) {own : List Bool} {ds : List ℕ} → x.asks ≡ true → length s < size_of x → StandsOn A q s x → Taking A q s cs own ds c →
+      Taking A q s (reduce x ∷ cs) own ((size_of x - length s - 1) ∷ ds) c
+  longer x cs {own = own} {ds = ds} e lt on k =
+      let d : ℕ = size_of x - length s - 1 in
+      let size : size_of x ≡ length s + suc d = omega (arith, lt) in
+      record {
+        rule = k.rule;
+        left = k.left;
+        size = k.size;
+        deep = λ a at.
+            let o : (top below : List Sym) × ((s ++ a ≡ top ++ below) × (length top ≡ size_of x) × IsTree top) = on a at in
+            let g : (d < length a) × (o.0 ≡ s ++ take (d + 1) a) = reaches s a o.0 o.1 d o.2.0 (o.2.1 ∙ size) in
+            ((g.0, one_more s (take (d + 1) a) tree (ap (wanted 1) (sym g.1) ∙ o.2.2)), k.deep a at);
+        picks = λ b z.
+            ap (pick (reduce x ∷ cs)) (sym (push-below x.right s d (own ++ b) (pushes ds z) size some))
+            ∙ pick_no x cs (hold s (own ++ b) ++ pushes ds z) (record { taken = Some (reduce k.rule); stack = hold s b ++ z }) e (k.picks b z);
+      }
+
+  -- how the definitions go on at a candidate
+  answers_here : (x : Production) (cs : List Candidate) → is_wanted (length s) c x ≡ true → answers_to (reduce x ∷ cs) (length s) c ≡ (if x.asks then true ∷ [] else [])
+  answers_here x cs e = by_if (is_wanted (length s) c x) true (if x.asks then true ∷ [] else []) (if size_of x == length s then false ∷ answers_to cs (length s) c else answers_to cs (length s) c) e
+
+  depths_here : (x : Production) (cs : List Candidate) → is_wanted (length s) c x ≡ true → depths_to (reduce x ∷ cs) (length s) c ≡ []
+  depths_here x cs e = by_if (is_wanted (length s) c x) true []
+      (if nat_lt (length s) (size_of x) then (size_of x - length s - 1) ∷ depths_to cs (length s) c else depths_to cs (length s) c) e
+
+  answers_past : (x : Production) (cs : List Candidate) (b : Bool) → is_wanted (length s) c x ≡ false → (size_of x == length s) ≡ b →
+      answers_to (reduce x ∷ cs) (length s) c ≡ (if b then false ∷ answers_to cs (length s) c else answers_to cs (length s) c)
+  answers_past x cs b e f =
+      by_if (is_wanted (length s) c x) false (if x.asks then true ∷ [] else []) (if size_of x == length s then false ∷ answers_to cs (length s) c else answers_to cs (length s) c) e
+      ∙ by_if (size_of x == length s) b (false ∷ answers_to cs (length s) c) (answers_to cs (length s) c) f
+
+  depths_past : (x : Production) (cs : List Candidate) (b : Bool) → is_wanted (length s) c x ≡ false → nat_lt (length s) (size_of x) ≡ b →
+      depths_to (reduce x ∷ cs) (length s) c ≡ (if b then (size_of x - length s - 1) ∷ depths_to cs (length s) c else depths_to cs (length s) c)
+  depths_past x cs b e f =
+      by_if (is_wanted (length s) c x) false [] (if nat_lt (length s) (size_of x) then (size_of x - length s - 1) ∷ depths_to cs (length s) c else depths_to cs (length s) c) e
+      ∙ by_if (nat_lt (length s) (size_of x)) b ((size_of x - length s - 1) ∷ depths_to cs (length s) c) (depths_to cs (length s) c) f
+
+  wanted_here : (x : Production) (cs : List Candidate) → is_wanted (length s) c x ≡ true → Takes (reduce x ∷ cs)
+  wanted_here x cs e =
+      let parts : ((size_of x == length s) ≡ true) × ((x.left == c) ≡ true) = and_parts (size_of x == length s) (x.left == c) e in
+      taking_as (sym (answers_here x cs e)) (sym (depths_here x cs e))
+      (here x cs (eqb-true x.left c parts.1) (eqb-true (size_of x) (length s) parts.0) x.asks refl)
+
+  passed : (x : Production) (cs : List Candidate) → is_wanted (length s) c x ≡ false → x.asks ≡ true → length s ≤ size_of x → StandsOn A q s x → Takes cs → Takes (reduce x ∷ cs)
+  passed x cs e asks le on k = ⊎_elim
+      (λ lt. taking_as (sym (answers_past x cs false e (ne_eqb (size_of x) (length s) (λ g. absurd (omega (arith, g, lt))))))
+      (sym (depths_past x cs true e (lt-ltb (length s) (size_of x) lt))) (longer x cs asks lt on k))
+      (λ ge. taking_as (sym (answers_past x cs true e (eq-eqb (size_of x) (length s) (omega (arith, ge, le)))))
+      (sym (depths_past x cs false e (le-ltb (length s) (size_of x) ge))) (equal x cs asks (omega (arith, ge, le)) k))
+      (cases_lt (length s) (size_of x))
+
+  pub taking : (cs : List Candidate) (r : Production) → ((x : Production) → Free cs (reduce x) → StandsOn A q s x) → GoesDown cs → Free cs (reduce r) → size_of r ≡ length s → r.left ≡ c →
+      Takes cs
+  taking [] r on down f size left = absurd f
+  taking (shift ∷ cs) r on down f size left = absurd (unlike f)
+    where
+      unlike : reduce r ≡ shift → ⊥
+      unlike e = cc
+  taking (reduce x ∷ cs) r on down f size left =
+      other (λ h. taking cs r (λ y g. on y (inr (h.0, g))) down.1 h.1 size left) (is_wanted (length s) c x) refl
+    where
+      same_rule : reduce r ≡ reduce x → r ≡ x
+      same_rule e = cc
+
+      is_it : reduce r ≡ reduce x → is_wanted (length s) c x ≡ true
+      is_it e = let same : r ≡ x = same_rule e in
+          and_from (size_of x == length s) (x.left == c) (eq-eqb (size_of x) (length s) (ap size_of (sym same) ∙ size)) (eq-eqb x.left c (ap (λ (y : Production). y.left) (sym same) ∙ left))
+
+      other : ((x.asks ≡ true) × Free cs (reduce r) → Takes cs) → (b : Bool) → is_wanted (length s) c x ≡ b → Takes (reduce x ∷ cs)
+      other ih true u = wanted_here x cs u
+      other ih false u = ⊎_elim
+          (λ e. absurd (true≢false (sym (is_it e) ∙ u)))
+          (λ h. passed x cs u h.0 (omega (arith, down.0 r h.1, size)) (on x (inl refl)) (ih h))
+          f

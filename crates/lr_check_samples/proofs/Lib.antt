@@ -1,0 +1,14 @@
+mod Alike
+mod Splitting
+mod Asking
+mod Leading
+mod Making
+mod Found_trees
+mod Beginning
+mod Round
+mod Typing
+mod Stopping
+mod Ruling
+mod Following
+mod Shown
+mod Having

@@ -1,0 +1,92 @@
+-- What is proved of the trees of what was found.
+use Rattle.std.specs.Prelude.{◌≡◌, ℕ, List, [], ◌∷◌, ◌++◌, Some, Bool, map}
+use Rattle.md_reader.specs.declared.types.Sym.{Sym}
+use Rattle.md_reader.specs.declared.types.Sym.TheVariants as symbol
+use Rattle.md_reader.specs.Valid.{IsValid}
+use Rattle.lr_tables.specs.View.{TableView}
+use Rattle.lr_tables.specs.Promises.{IsNumbered}
+use Rattle.lr_check_sets.specs.Automaton.{Automaton, walk, CanBlock}
+use Rattle.lr_check_sets.specs.Faults.{Circles}
+use Rattle.lr_check_sets.specs.Table.{automaton_of}
+use Rattle.lr_check_sets.specs.Answers.{Entry, Leaf, next_token, the_end, Runs}
+use Rattle.lr_check.specs.Tree.{Token}
+use Rattle.lr_check_found.specs.declared.places.Place.{Place}
+use Rattle.lr_check_found.specs.declared.settlings.Settling.{Settling}
+use Rattle.lr_check_found.specs.Found.{FoundView, IsPlaceAt, IsSettlingAt, SettlesAt}
+use Rattle.lr_check_found.specs.Sound.{IsFound}
+use Rattle.lr_check_samples.specs.Quiet.{IsQuiet}
+use Rattle.lr_check_samples.specs.Fixed.{leaf, Fixed, Context}
+use Rattle.lr_check_samples.specs.Samples.{BlockingSample, LoopingSample}
+use Rattle.lr_check_samples.specs.Stops.{Blocking, Looping}
+
+-- some steps lead to a stack of these symbols all of whose answers are no
+pub record Quietly (A : Automaton) (z : List Entry) (w : List Leaf) (a : List Sym) (v : List Leaf) : Type 0 where
+  pub stack : List Entry
+  pub quiet : IsQuiet a stack
+  pub runs : Runs A z w stack v
+
+-- From each stack of its place's state, where all answers are no, the tree of a settling is parsed to the settling's list by its own
+-- answers.
+abbrev pub FoundTreesLead : Type 0
+FoundTreesLead =
+    (t : TableView) → IsValid t.content → IsNumbered t → (f : FoundView) → IsFound (automaton_of t) f →
+    (i p : ℕ) (x : Place) (s : List Sym) (ws : List Leaf) (own : List Bool) (ds : List ℕ) → SettlesAt f i x s p →
+    Fixed (automaton_of t) f i ws own ds →
+    (a : List Sym) (z : List Entry) (w : List Leaf) → walk (automaton_of t) 0 a ≡ Some x.state → IsQuiet a z →
+    next_token w ≡ Some x.behind →
+    Quietly (automaton_of t) z (leaf x.token own ∷ (ws ++ w)) (s ++ a) w
+
+-- the parse of a tree round a place comes to the place: with its state, all answers no, and its token behind to come behind it
+pub record IsReached (A : Automaton) (x : Place) (before behind : List Leaf) : Type 0 where
+  pub below : List Sym
+  pub at : walk A 0 below ≡ Some x.state
+  pub next : next_token (behind ++ the_end) ≡ Some x.behind
+  pub comes : (w : List Leaf) → next_token w ≡ Some x.token → Quietly A [] (before ++ w) below w
+
+abbrev pub ContextsLead : Type 0
+ContextsLead =
+    (t : TableView) → IsValid t.content → IsNumbered t → (f : FoundView) → IsFound (automaton_of t) f →
+    (n : ℕ) (x : Place) (before behind : List Leaf) → IsPlaceAt f n x → Context (automaton_of t) f n before behind →
+    IsReached (automaton_of t) x before behind
+
+-- each settling has its tree, and each place a tree round it
+pub record HasTree (A : Automaton) (f : FoundView) (i : ℕ) : Type 0 where
+  pub leaves : List Leaf
+  pub own : List Bool
+  pub depths : List ℕ
+  pub fixed : Fixed A f i leaves own depths
+
+pub record HasContext (A : Automaton) (f : FoundView) (n : ℕ) : Type 0 where
+  pub before : List Leaf
+  pub behind : List Leaf
+  pub context : Context A f n before behind
+
+-- leaves as tokens with answers
+abbrev pub sample_tokens : List Leaf → List Token
+sample_tokens w = map (λ (l : Leaf). record { tok = l.tok; answers = l.answers }) w
+
+-- a sample of a gap or of a list at which nothing may be taken is a typed statement whose parse over the rules blocks
+abbrev pub SamplesBlock : Type 0
+SamplesBlock =
+    (t : TableView) → IsValid t.content → IsNumbered t → (f : FoundView) → IsFound (automaton_of t) f →
+    (w : List Leaf) → BlockingSample (automaton_of t) f w → Blocking t.content (sample_tokens w)
+
+-- a sample of a circle is a typed statement whose parse over the rules turns
+abbrev pub SamplesLoop : Type 0
+SamplesLoop =
+    (t : TableView) → IsValid t.content → IsNumbered t → (f : FoundView) → IsFound (automaton_of t) f →
+    (w : List Leaf) → LoopingSample (automaton_of t) f w → Looping t.content (sample_tokens w)
+
+-- Each fault of what was found has a sample.
+pub record HaveSamples (A : Automaton) (f : FoundView) : Type 0 where
+  pub trees : (i : ℕ) (e : Settling) → IsSettlingAt f i e → HasTree A f i
+  pub contexts : (n : ℕ) (x : Place) → IsPlaceAt f n x → HasContext A f n
+  pub gap : (n : ℕ) (x : Place) → IsPlaceAt f n x → ((p : ℕ) → A.go x.state (symbol.Tok x.token) ≡ Some p → ⊥) →
+      (w : List Leaf) × BlockingSample A f w
+  pub dead : (i p : ℕ) (x : Place) (s : List Sym) → SettlesAt f i x s p → CanBlock (A.candidates p x.behind) →
+      (w : List Leaf) × BlockingSample A f w
+  pub circle : (i p : ℕ) (x : Place) (s : List Sym) → SettlesAt f i x s p → Circles A x.state x.behind s s →
+      (w : List Leaf) × LoopingSample A f w
+
+abbrev pub FaultsHaveSamples : Type 0
+FaultsHaveSamples = (A : Automaton) (f : FoundView) → IsFound A f → HaveSamples A f
