@@ -12,3 +12,4 @@ mod Ruling
 mod Following
 mod Shown
 mod Having
+mod Replaying

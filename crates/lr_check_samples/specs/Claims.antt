@@ -17,7 +17,7 @@ use Rattle.lr_check_found.specs.Sound.{IsFound}
 use Rattle.lr_check_samples.specs.Quiet.{IsQuiet}
 use Rattle.lr_check_samples.specs.Fixed.{leaf, Fixed, Context}
 use Rattle.lr_check_samples.specs.Samples.{BlockingSample, LoopingSample}
-use Rattle.lr_check_samples.specs.Stops.{Blocking, Looping}
+use Rattle.lr_check_samples.specs.Stops.{Blocks, Loops, Blocking, Looping, EndsAt, EndsTurning}
 
 -- some steps lead to a stack of these symbols all of whose answers are no
 pub record Quietly (A : Automaton) (z : List Entry) (w : List Leaf) (a : List Sym) (v : List Leaf) : Type 0 where
@@ -90,3 +90,10 @@ pub record HaveSamples (A : Automaton) (f : FoundView) : Type 0 where
 
 abbrev pub FaultsHaveSamples : Type 0
 FaultsHaveSamples = (A : Automaton) (f : FoundView) → IsFound A f → HaveSamples A f
+
+-- What blocks step by step ends blocked, or at a stack that came twice before; what turns ends turning. So `replay` says of a tree of at most
+-- 100,000 tokens.
+abbrev pub StopsEnd : Type 0
+StopsEnd =
+    (t : TableView) → IsValid t.content → IsNumbered t → (w : List Token) →
+    (Blocks t.content w → EndsAt t.content w) × (Loops t.content w → EndsTurning t.content w)

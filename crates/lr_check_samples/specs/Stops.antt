@@ -7,7 +7,8 @@ use Rattle.md_reader.specs.State.{Content}
 use Rattle.lr_tables.specs.Statements.{stmt_of}
 use Rattle.lr_tables.specs.Candidates.{StandsBefore}
 use Rattle.lr_check.specs.Tree.{Token}
-use Rattle.lr_check.specs.Parse.{Part, symbols, reduced, Reduction}
+use Rattle.lr_check.specs.declared.sample.Outcome.TheVariants as outcome
+use Rattle.lr_check.specs.Parse.{Part, symbols, reduced, Reduction, Ends}
 use Rattle.lr_check_parse.specs.Typed.{IsStatement}
 
 -- a token is shifted where an item stands before it, or a rule is taken
@@ -56,3 +57,13 @@ pub record Blocking (d : Content) (w : List Token) : Type 0 where
 pub record Looping (d : Content) (w : List Token) : Type 0 where
   pub statement : IsStatement (map (λ (l : Token). l.tok) w)
   pub loops : Loops d w
+
+-- how the parse of `lr_check` ends, which stops at the first stack that comes twice
+pub data EndsAt (d : Content) (w : List Token) : Type 0 where
+  ends_blocked : (at : ℕ) → Ends d.rules (stmt_of d.classes) 0 [] w [] (outcome.Blocks at) → EndsAt d w
+  ends_turning : (at : ℕ) → Ends d.rules (stmt_of d.classes) 0 [] w [] (outcome.Loops at) → EndsAt d w
+
+-- it ends with turning
+pub record EndsTurning (d : Content) (w : List Token) : Type 0 where
+  pub at : ℕ
+  pub ends : Ends d.rules (stmt_of d.classes) 0 [] w [] (outcome.Loops at)

@@ -1,5 +1,5 @@
 // The laws. The functions do nothing; their clauses are the laws.
-ghost use Rattle.lr_check_samples.specs.Claims.{FoundTreesLead, ContextsLead, SamplesBlock, SamplesLoop, FaultsHaveSamples};
+ghost use Rattle.lr_check_samples.specs.Claims.{FoundTreesLead, ContextsLead, SamplesBlock, SamplesLoop, FaultsHaveSamples, StopsEnd};
 
 /// The law: the tree of a found settling is parsed to its list by its own answers, on each stack that fits.
 pub fn found_trees_lead()
@@ -24,4 +24,9 @@ pub fn samples_loop()
 /// The law: each found settling has its tree, each place a tree round it, and each fault of what was found a sample.
 pub fn faults_have_samples()
     ensures { FaultsHaveSamples }
+{}
+
+/// The law: what blocks step by step ends blocked or turning, and what turns ends turning. It does nothing.
+pub fn stops_end()
+    ensures { StopsEnd }
 {}
