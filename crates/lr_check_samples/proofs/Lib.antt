@@ -1,15 +1,18 @@
-mod Alike
-mod Splitting
-mod Asking
-mod Leading
-mod Making
-mod Found_trees
-mod Beginning
-mod Round
-mod Typing
-mod Stopping
-mod Ruling
-mod Following
-mod Shown
-mod Having
-mod Replaying
+pub mod Alike
+pub mod Splitting
+pub mod Asking
+pub mod Leading
+pub mod Making
+pub mod Found_trees
+pub mod Beginning
+pub mod Round
+pub mod Typing
+pub mod Stopping
+pub mod Ruling
+pub mod Following
+pub mod Shown
+pub mod Having
+pub mod Replaying
+pub mod Drawing
+pub mod Drawn_samples
+pub mod Lasting

@@ -1,5 +1,5 @@
 -- What is proved of the trees of what was found.
-use Rattle.std.specs.Prelude.{◌≡◌, ℕ, List, [], ◌∷◌, ◌++◌, Some, Bool, map}
+use Rattle.std.specs.Prelude.{◌≡◌, ℕ, List, [], ◌∷◌, ◌++◌, Some, Bool}
 use Rattle.md_reader.specs.declared.types.Sym.{Sym}
 use Rattle.md_reader.specs.declared.types.Sym.TheVariants as symbol
 use Rattle.md_reader.specs.Valid.{IsValid}
@@ -9,14 +9,18 @@ use Rattle.lr_check_sets.specs.Automaton.{Automaton, walk, CanBlock}
 use Rattle.lr_check_sets.specs.Faults.{Circles}
 use Rattle.lr_check_sets.specs.Table.{automaton_of}
 use Rattle.lr_check_sets.specs.Answers.{Entry, Leaf, next_token, the_end, Runs}
-use Rattle.lr_check.specs.Tree.{Token}
+use Rattle.tree_core.specs.Grammar.{kids}
+use Rattle.lr_check.specs.Tree.{Node, Token}
+use Rattle.lr_check.specs.Statement.{KidsFit}
 use Rattle.lr_check_found.specs.declared.places.Place.{Place}
 use Rattle.lr_check_found.specs.declared.settlings.Settling.{Settling}
 use Rattle.lr_check_found.specs.Found.{FoundView, IsPlaceAt, IsSettlingAt, SettlesAt}
 use Rattle.lr_check_found.specs.Sound.{IsFound}
 use Rattle.lr_check_samples.specs.Quiet.{IsQuiet}
-use Rattle.lr_check_samples.specs.Fixed.{leaf, Fixed, Context}
+use Rattle.lr_check_samples.specs.Fixed.{leaf, sample_tokens, Fixed, Context}
+use Rattle.lr_check_samples.specs.Nodes.{Stands, DrawnKids, DrawnRound}
 use Rattle.lr_check_samples.specs.Samples.{BlockingSample, LoopingSample}
+use Rattle.lr_check_samples.specs.Drawn.{DrawnBlocking, DrawnLooping, BlockingNodes, LoopingNodes}
 use Rattle.lr_check_samples.specs.Stops.{Blocks, Loops, Blocking, Looping, EndsAt, EndsTurning}
 
 -- some steps lead to a stack of these symbols all of whose answers are no
@@ -61,10 +65,6 @@ pub record HasContext (A : Automaton) (f : FoundView) (n : ℕ) : Type 0 where
   pub behind : List Leaf
   pub context : Context A f n before behind
 
--- leaves as tokens with answers
-abbrev pub sample_tokens : List Leaf → List Token
-sample_tokens w = map (λ (l : Leaf). record { tok = l.tok; answers = l.answers }) w
-
 -- a sample of a gap or of a list at which nothing may be taken is a typed statement whose parse over the rules blocks
 abbrev pub SamplesBlock : Type 0
 SamplesBlock =
@@ -91,9 +91,37 @@ pub record HaveSamples (A : Automaton) (f : FoundView) : Type 0 where
 abbrev pub FaultsHaveSamples : Type 0
 FaultsHaveSamples = (A : Automaton) (f : FoundView) → IsFound A f → HaveSamples A f
 
--- What blocks step by step ends blocked, or at a stack that came twice before; what turns ends turning. So `replay` says of a tree of at most
--- 100,000 tokens.
+-- nodes stand for a settling's kids, and the settling has its tree with these leaves
+pub record IsDrawn (A : Automaton) (f : FoundView) (nodes : List Node) (i : ℕ) (ks : List ℕ) (own : List Bool) (ds : List ℕ) : Type 0 where
+  pub leaves : List Leaf
+  pub fixed : Fixed A f i leaves own ds
+  pub stands : Stands nodes ks leaves
+  -- they fit the token of the settling's place
+  pub fit : (x : Place) (s : List Sym) (p : ℕ) → SettlesAt f i x s p → KidsFit nodes ks (kids x.token)
+
+-- what stands for a place's node stands, with the tree round the place, below the root
+pub record IsRound (A : Automaton) (f : FoundView) (nodes : List Node) (n root : ℕ) (ws : List Leaf) : Type 0 where
+  pub before : List Leaf
+  pub behind : List Leaf
+  pub context : Context A f n before behind
+  pub stands : Stands nodes (root ∷ []) (before ++ (ws ++ behind))
+
+abbrev pub DrawnTreesStand : Type 0
+DrawnTreesStand =
+    (A : Automaton) (f : FoundView) (nodes : List Node) → IsFound A f →
+    ((i : ℕ) (ks : List ℕ) (own : List Bool) (ds : List ℕ) → DrawnKids A f nodes i ks own ds → IsDrawn A f nodes i ks own ds) ×
+    ((n top root : ℕ) (ws : List Leaf) → DrawnRound A f nodes n top root → Stands nodes (top ∷ []) ws → IsRound A f nodes n root ws)
+
+-- What blocks step by step ends blocked, or at a stack that came twice before; what turns ends turning. So `replay` says of a tree of
+-- at most 100,000 tokens.
 abbrev pub StopsEnd : Type 0
 StopsEnd =
     (t : TableView) → IsValid t.content → IsNumbered t → (w : List Token) →
     (Blocks t.content w → EndsAt t.content w) × (Loops t.content w → EndsTurning t.content w)
+
+-- What is drawn for a fault stands for a typed statement whose parse blocks, or turns, by the answers of its nodes.
+abbrev pub DrawnSamplesStop : Type 0
+DrawnSamplesStop =
+    (t : TableView) → IsValid t.content → IsNumbered t → (f : FoundView) → IsFound (automaton_of t) f → (nodes : List Node) →
+    (DrawnBlocking (automaton_of t) f nodes → BlockingNodes t.content nodes) ×
+    (DrawnLooping (automaton_of t) f nodes → LoopingNodes t.content nodes)

@@ -7,6 +7,7 @@ use Rattle.tree_core.specs.Grammar.{kids}
 use Rattle.md_reader.specs.declared.types.Sym.{Sym}
 use Rattle.lr_check_sets.specs.Automaton.{Automaton}
 use Rattle.lr_check_sets.specs.Answers.{Leaf}
+use Rattle.lr_check.specs.Tree.{Token}
 use Rattle.lr_check_parse.specs.Typed.{AreTyped}
 use Rattle.lr_check_found.specs.declared.places.Place.{Place}
 use Rattle.lr_check_found.specs.declared.places.Origin.{Origin}
@@ -22,6 +23,10 @@ tokens w = map (λ (l : Leaf). l.tok) w
 
 abbrev pub leaf : Tok → List Bool → Leaf
 leaf k answers = record { tok = k; answers = answers }
+
+-- leaves as tokens with answers
+abbrev pub sample_tokens : List Leaf → List Token
+sample_tokens w = map (λ (l : Leaf). record { tok = l.tok; answers = l.answers }) w
 
 -- the settling with the number was found so
 pub record IsMadeBy (f : FoundView) (i : ℕ) (h : How) : Type 0 where

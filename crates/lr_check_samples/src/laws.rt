@@ -1,5 +1,5 @@
 // The laws. The functions do nothing; their clauses are the laws.
-ghost use Rattle.lr_check_samples.specs.Claims.{FoundTreesLead, ContextsLead, SamplesBlock, SamplesLoop, FaultsHaveSamples, StopsEnd};
+ghost use Rattle.lr_check_samples.specs.Claims.{FoundTreesLead, ContextsLead, SamplesBlock, SamplesLoop, FaultsHaveSamples, StopsEnd, DrawnTreesStand, DrawnSamplesStop};
 
 /// The law: the tree of a found settling is parsed to its list by its own answers, on each stack that fits.
 pub fn found_trees_lead()
@@ -29,4 +29,14 @@ pub fn faults_have_samples()
 /// The law: what blocks step by step ends blocked or turning, and what turns ends turning. It does nothing.
 pub fn stops_end()
     ensures { StopsEnd }
+{}
+
+/// The law: nodes that are drawn for what was found unfold to its trees.
+pub fn drawn_trees_stand()
+    ensures { DrawnTreesStand }
+{}
+
+/// The law: what is drawn for a fault stands for a typed statement whose parse blocks, or turns, by its own answers.
+pub fn drawn_samples_stop()
+    ensures { DrawnSamplesStop }
 {}
