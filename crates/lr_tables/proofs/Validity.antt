@@ -6,7 +6,7 @@ use Rattle.std.specs.Option.{option_map}
 use Rattle.std.proofs.lemmas.Option.{slice_get_within}
 use Rattle.tree_core.specs.declared.token.Sort.{Sort}
 use Rattle.tree_core.specs.declared.token.Tok.TheVariants as tok
-use Rattle.md_reader_text.specs.Words.{same}
+use Rattle.std.specs.Str.{bytes_eq}
 use Rattle.md_reader.specs.declared.types.Class.{Class}
 use Rattle.md_reader.specs.declared.types.Rule.{Rule}
 use Rattle.md_reader.specs.declared.types.Sym.{Sym}
@@ -55,7 +55,7 @@ tree_some classes (node q passes below beside) = omega arith
 
 stmt_within : (n : ℕ) (cs : List Class) → list_any is_stmt cs ≡ true → stmt_from n cs < n + length cs
 stmt_within n [] e = cc
-stmt_within n (c ∷ cs) e = by (same c.name (codes "stmt")) (λ h. stmt_within (n + 1) cs h) e
+stmt_within n (c ∷ cs) e = by (bytes_eq c.name (codes "stmt")) (λ h. stmt_within (n + 1) cs h) e
   where
     by : (b : Bool) → (list_any is_stmt cs ≡ true → stmt_from (n + 1) cs < n + 1 + length cs) → ((b && is_nothing (Some c.kind)) || list_any is_stmt cs) ≡ true → cond b n (stmt_from (n + 1) cs) < n + length (c ∷ cs)
     by true ih h = omega arith

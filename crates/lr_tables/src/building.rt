@@ -7,7 +7,6 @@ use crate::numbering::BuildFault;
 use crate::rows::all_rows;
 use crate::tables::Tables;
 use md_reader::{Class, Description};
-use md_reader_text::is_word;
 use std::alloc::Global;
 
 // The number of the class of statements.
@@ -17,7 +16,7 @@ fn statements(classes: &[Class]) -> u16
 {
     let mut number: u16 = 0;
     for class in classes {
-        if is_word(class.name.as_slice(), "stmt") {
+        if class.name.as_slice() == b"stmt".as_slice() {
             return number;
         }
         number += 1;
