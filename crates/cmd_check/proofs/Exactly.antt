@@ -18,7 +18,7 @@ use Rattle.lr_checked.specs.declared.checking.CheckFault.TheVariants as faults
 use Rattle.lr_checked.specs.Accepted.{NeverStops}
 use Rattle.lr_checked.specs.Refusals.{FaultIsReal}
 use Rattle.sel_parse.specs.Shown.{Refusal}
-use Rattle.cmd_check.specs.Descriptions.{description_limit, description_form, IsAccepted, BuildRefused, TooMany, StarvedBuild, NotRead, NotBuilt, GeneratorRefused, NoTables, Stopped, NoRules}
+use Rattle.cmd_check.specs.Descriptions.{description_limit, description_form, IsAccepted, BuildRefused, TooMany, StarvedBuild, NotRead, NotBuilt, NotAccepted, NoTables, Stopped, NoRules}
 use Rattle.cmd_check.specs.Rules.{vax_refusal, refusal_status, RulesRefused, NotShown, StarvedShow}
 use Rattle.cmd_check.specs.Stops.{stop_status, TellsStop}
 use Rattle.cmd_check.specs.Outcome.{Builds, Leaves}
@@ -76,11 +76,11 @@ module _ (result : Status) (name : List ℕ) (folder : Lookup) (report : Change)
   of_rules d holds few never (NotShown r first said) = told _ _ said (λ is. Unshown d r is holds few never first)
   of_rules d holds few never (StarvedShow starved) = inl starved.0
 
-  pub of_generator : (Fails name folder → ⊥) → GeneratorRefused name folder result report → IsNot result (folder.holds name)
-  of_generator unfailed (NoTables (NotRead r)) = of_file unfailed r
-  of_generator unfailed (NoTables (NotBuilt d holds kept r)) = of_tables d holds r
-  of_generator unfailed (Stopped d holds kept few r) = of_fault d holds few r.fault r.real r.told
-  of_generator unfailed (NoRules d holds kept few never r) = of_rules d holds few never r
+  pub of_description : (Fails name folder → ⊥) → NotAccepted name folder result report → IsNot result (folder.holds name)
+  of_description unfailed (NoTables (NotRead r)) = of_file unfailed r
+  of_description unfailed (NoTables (NotBuilt d holds kept r)) = of_tables d holds r
+  of_description unfailed (Stopped d holds kept few r) = of_fault d holds few r.fault r.real r.told
+  of_description unfailed (NoRules d holds kept few never r) = of_rules d holds few never r
 
 -- ---- each refusal
 

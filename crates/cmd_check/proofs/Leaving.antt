@@ -17,7 +17,7 @@ use Rattle.lr_checked.specs.Accepted.{NeverStops}
 use Rattle.lr_checked.specs.Refusals.{FaultIsReal}
 use Rattle.cmd_check.specs.Lines.{ok_line, tables_line}
 use Rattle.cmd_check.specs.Rules.{vax_refusal, refusal_lines, refusal_status, RulesRefused, NotShown, StarvedShow}
-use Rattle.cmd_check.specs.Descriptions.{description_form, BuildRefused, TooMany, StarvedBuild, TablesRefused, NotRead, NotBuilt, GeneratorRefused}
+use Rattle.cmd_check.specs.Descriptions.{description_form, BuildRefused, TooMany, StarvedBuild, TablesRefused, NotRead, NotBuilt, NotAccepted}
 use Rattle.cmd_check.specs.Descriptions.{NoTables, Stopped, NoRules}
 use Rattle.cmd_check.specs.Stops.{stop_lines, TellsStop}
 use Rattle.cmd_check.specs.Outcome.{Builds, Stops, Leaves}
@@ -144,7 +144,7 @@ rules_refused status name at d holds unfailed few never (NotShown r first (inl t
 rules_refused status name at d holds unfailed few never (NotShown r first (inr starved)) untouched = stopped status name at starved (inl unfailed) untouched
 rules_refused status name at d holds unfailed few never (StarvedShow starved) untouched = stopped status name at starved (inl unfailed) untouched
 
-pub refused : (status : Status) (name : List ℕ) (at : Outside) → GeneratorRefused name at.folder status at.report → IsUntouched at.out → Leaves status name at
+pub refused : (status : Status) (name : List ℕ) (at : Outside) → NotAccepted name at.folder status at.report → IsUntouched at.out → Leaves status name at
 refused status name at (NoTables r) untouched = tables_refused status name at r untouched
 refused status name at (Stopped d holds unfailed few r) untouched = stop_refused status name at d holds unfailed few r.fault r.real r.told untouched
 refused status name at (NoRules d holds unfailed few never r) untouched = rules_refused status name at d holds unfailed few never r untouched

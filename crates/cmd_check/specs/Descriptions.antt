@@ -50,9 +50,9 @@ pub data TablesRefused (name : List ℕ) (folder : Lookup) (status : Status) (re
   NotBuilt : (d : Content) (holds : Holds description_form (folder.holds name) d) (unfailed : IsUnfailed folder) (refused : BuildRefused d status report) → TablesRefused name folder status report
 
 -- the same, or its tables were refused, or their rules are not all shown
-pub data GeneratorRefused (name : List ℕ) (folder : Lookup) (status : Status) (report : Change) : Type 0 where
-  NoTables : (refused : TablesRefused name folder status report) → GeneratorRefused name folder status report
+pub data NotAccepted (name : List ℕ) (folder : Lookup) (status : Status) (report : Change) : Type 0 where
+  NoTables : (refused : TablesRefused name folder status report) → NotAccepted name folder status report
   Stopped : (d : Content) (holds : Holds description_form (folder.holds name) d) (unfailed : IsUnfailed folder) (few : ¬ HasTooManySets d)
-      (refused : StopRefused d status report) → GeneratorRefused name folder status report
+      (refused : StopRefused d status report) → NotAccepted name folder status report
   NoRules : (d : Content) (holds : Holds description_form (folder.holds name) d) (unfailed : IsUnfailed folder) (few : ¬ HasTooManySets d)
-      (never : NeverStops d) (refused : RulesRefused d status report) → GeneratorRefused name folder status report
+      (never : NeverStops d) (refused : RulesRefused d status report) → NotAccepted name folder status report

@@ -5,7 +5,7 @@ ghost use Rattle.cmd_files.specs.Outsides.{lookup, outside, FailsAtMost};
 ghost use Rattle.cmd_check.specs.Outcome.{Leaves};
 ghost use Rattle.cmd_check.specs.Exact.{IsExact};
 
-use crate::generator::read_generator;
+use crate::accepted::read_accepted;
 use crate::lines::ok_line;
 use cmd_files::write_out;
 use cmd_session::{Status, no_memory};
@@ -26,11 +26,11 @@ fn read_and_tell<F: Folder, O: Sink, E: Sink>(
     ensures names { FailsAtMost name.now (lookup F.holds F.failed folder.old folder.new) }
     ensures holds { (n : List ℕ) → F.holds folder.new n ≡ F.holds folder.old n }
 {
-    let generator = match read_generator(alloc, folder, name, report) {
-        Ok(generator) => generator,
+    let accepted = match read_accepted(alloc, folder, name, report) {
+        Ok(accepted) => accepted,
         Err(status) => return status,
     };
-    match ok_line(alloc, generator.rules(), generator.states()) {
+    match ok_line(alloc, accepted.rules(), accepted.states()) {
         Ok(line) => match write_out(out, line.as_slice(), report) {
             Ok(()) => Status::Done,
             Err(status) => status,

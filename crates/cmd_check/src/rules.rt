@@ -5,14 +5,15 @@ ghost use Rattle.sel_terms.specs.Effects.{effect_of};
 ghost use Rattle.cmd_check.specs.Rules.{vax_refusal, template_kind_name, need_line, template_line, unlike_lines, TellsFault, RulesRefused};
 
 use cmd_session::{Status, no_memory, refuse_with};
+use gg_accepted::{Accepted, accept};
 use gg_base::{NoMemory, Text};
 use gg_outside::Sink;
+use lr_checked::Checked;
 use lr_tables::Tables;
-use sel_parse::{Generator, ShowFault, show_rules};
+use sel_parse::ShowFault;
 use sel_target::TemplateKind;
 use sel_terms::{Effect, show_effect};
 use std::alloc::Global;
-use vax_target::Vax;
 
 fn template_kind_name(kind: TemplateKind) -> &'static str
     ensures { result.now ≡ template_kind_name kind }
@@ -82,20 +83,16 @@ fn tell_refused<E: Sink>(alloc: Global, refused: (Tables, ShowFault), report: &m
     tell_fault(alloc, &refused.1, report)
 }
 
-/// Shows each rule of the tables' description on the VAX. Where one isn't, the lines of the first refusal were written to `report`, and
+/// Shows each rule of a checked description on the VAX. Where one isn't, the lines of the first refusal were written to `report`, and
 /// its status is answered.
-pub fn shown<E: Sink>(
-    alloc: Global,
-    tables: Tables,
-    report: &mut E,
-) -> Result<Generator<Vax>, Status>
-    ensures tables { IfOk result (λ g. g.tables ≡ tables) }
-    ensures shown { OnOk result (vax_refusal tables.content ≡ None) }
+pub fn shown<E: Sink>(alloc: Global, checked: Checked, report: &mut E) -> Result<Accepted, Status>
+    ensures tables { IfOk result (λ a. a ≡ checked) }
+    ensures shown { OnOk result (vax_refusal checked.content ≡ None) }
     ensures untold { OnOk result (report.new ≡ report.old) }
-    ensures refused { IfErr result (λ status. RulesRefused tables.content status (change E.told E.faults report.old report.new)) }
+    ensures refused { IfErr result (λ status. RulesRefused checked.content status (change E.told E.faults report.old report.new)) }
 {
-    match show_rules(alloc, tables, Vax) {
-        Ok(generator) => Ok(generator),
+    match accept(alloc, checked) {
+        Ok(accepted) => Ok(accepted),
         Err(refused) => Err(tell_refused(alloc, refused, report)),
     }
 }

@@ -9,7 +9,7 @@ use cmd_session::{Status, no_memory, refuse, refuse_with};
 use gg_base::{NoMemory, Text};
 use gg_outside::Sink;
 use lr_check::Sample;
-use lr_checked::{CheckFault, check, sample_lines};
+use lr_checked::{CheckFault, Checked, check, sample_lines};
 use lr_tables::Tables;
 use std::alloc::Global;
 
@@ -55,16 +55,16 @@ fn tell_refused<E: Sink>(alloc: Global, refused: (Tables, CheckFault), report: &
     tell_stop(alloc, &refused.1, report)
 }
 
-/// The tables again, where no typed statement stops the parse by them. Where one does, its lines were written to `report`, and the status
-/// of that refusal is answered.
-pub fn checked<E: Sink>(alloc: Global, tables: Tables, report: &mut E) -> Result<Tables, Status>
-    ensures tables { IfOk result (λ t. t ≡ tables) }
+/// The tables as checked, where no typed statement stops the parse by them. Where one does, its lines were written to `report`, and the
+/// status of that refusal is answered.
+pub fn checked<E: Sink>(alloc: Global, tables: Tables, report: &mut E) -> Result<Checked, Status>
+    ensures tables { IfOk result (λ c. c ≡ tables) }
     ensures never { OnOk result (NeverStops tables.content) }
     ensures untold { OnOk result (report.new ≡ report.old) }
     ensures refused { IfErr result (λ status. StopRefused tables.content status (change E.told E.faults report.old report.new)) }
 {
     match check(alloc, tables) {
-        Ok(accepted) => Ok(accepted.into_tables()),
+        Ok(checked) => Ok(checked),
         Err(refused) => Err(tell_refused(alloc, refused, report)),
     }
 }

@@ -12,27 +12,22 @@ use Rattle.cmd_files.specs.Exact.{IsLongFile, IsNoItem, IsItem}
 use Rattle.cmd_files.proofs.Exactly.{long_no_item, long_not_wrong, item_not_long, none_not_long, none_no_item, item_not_wrong, same_item}
 use Rattle.md_reader.specs.State.{Content}
 use Rattle.c_program.specs.Programs.{AProgram}
-use Rattle.cmd_check.specs.Descriptions.{GeneratorRefused}
-use Rattle.cmd_check.specs.Exact.{MayAnswer, Refuses}
+use Rattle.cmd_check.specs.Exact.{MayAnswer}
 use Rattle.cmd_check.proofs.Exactly as check
-use Rattle.cmd_check.proofs.Exactly.{OfDescription, Comes, IsNot, of_generator, not_refused, refuses}
+use Rattle.cmd_check.proofs.Exactly.{OfDescription, Comes, IsNot, of_description, not_refused, refuses}
 use Rattle.cmd_meaning.specs.Sources.{source_limit, source_form}
-use Rattle.vax_target_meaning.specs.Vax.{vax}
-use Rattle.gg_compile.specs.declared.fault.CompileFault.{CompileFault}
-use Rattle.gg_compile.specs.declared.fault.CompileFault.TheVariants as faults
 use Rattle.gg_compile.specs.Needs.{AllFit, IsFirstOver}
-use Rattle.gg_compile.specs.Faults.{HasCause}
-use Rattle.cmd_compile.specs.Lines.{fault_status}
+use Rattle.cmd_compile.specs.Texts.{FrameIsFull, StarvedText}
 use Rattle.cmd_compile.specs.Outcome.{Files, FindsDescription, Leaves, NoDescription, NoProgram, NoText, NotWritten, Written}
-use Rattle.cmd_compile.specs.Exact.{Works, Given, IsEnd, Answers, HasNoFaults}
+use Rattle.cmd_compile.specs.Exact.{Works, Given, Answers, HasNoFaults}
 
 -- how a source ends behind an accepted description
 data OfSource (result : Status) (names : Files) (at : Outside) (d : Content) : Type 0 where
   LongSource : (is : result ≡ statuses.TooLong) (longer : IsLonger (at.folder.holds names.source) source_limit) → OfSource result names at d
   WrongSource : (is : result ≡ statuses.SourceRefused) (line : List ℕ) (wrong : HoldsNone source_form (at.folder.holds names.source) line)
       → OfSource result names at d
-  Refused : (p : AProgram) (holds : Holds source_form (at.folder.holds names.source) p) (fault : CompileFault) (is : result ≡ fault_status fault)
-      (cause : HasCause vax d p fault) → OfSource result names at d
+  Over : (p : AProgram) (holds : Holds source_form (at.folder.holds names.source) p) (function need : ℕ) (is : result ≡ statuses.FrameFull)
+      (over : IsFirstOver p function need) → OfSource result names at d
   Done : (is : result ≡ statuses.Done) (p : AProgram) (holds : Holds source_form (at.folder.holds names.source) p) (fit : AllFit p)
       → OfSource result names at d
 
@@ -54,9 +49,9 @@ module _ (result : Status) (names : Files) (at : Outside) where
   refused status line report (inl told) go = go told.0
   refused status line report (inr starved) go = Memory starved.0
 
-  of_description : IsNot result (at.folder.holds names.description) → Kind result names at
-  of_description (inl is) = Memory is
-  of_description (inr of) = Before of
+  of_refused : IsNot result (at.folder.holds names.description) → Kind result names at
+  of_refused (inl is) = Memory is
+  of_refused (inr of) = Before of
 
   of_source : HasNoFaults names at → (d : Content) → FindsDescription names at d → FileRefused source_form names.source at.folder result at.report
       → Kind result names at
@@ -70,12 +65,13 @@ module _ (result : Status) (names : Files) (at : Outside) where
   of_output n text (StarvedOutput starved front once) = Memory starved.0
 
   kind_of : HasNoFaults names at → Leaves result names at → Kind result names at
-  kind_of n (NoDescription untouched r) = of_description (of_generator result names.description at.folder at.report n.description.of_folder r)
+  kind_of n (NoDescription untouched r) = of_refused (of_description result names.description at.folder at.report n.description.of_folder r)
   kind_of n (NoProgram d finds untouched r) = of_source n d finds r
-  kind_of n (NoText d p finds untouched r) =
-      refused _ _ at.report r.told (λ is. Behind d finds.description (Refused p finds.holds r.fault is r.cause))
+  kind_of n (NoText d p finds untouched (FrameIsFull f k over told)) =
+      refused _ _ at.report told (λ is. Behind d finds.description (Over p finds.holds f k is over))
+  kind_of n (NoText d p finds untouched (StarvedText starved)) = Memory starved.0
   kind_of n (NotWritten d p finds text is_text r) = of_output n text r
-  kind_of n (Written is d p finds text is_text takes untold) = Behind d finds.description (Done is p finds.holds is_text.fit)
+  kind_of n (Written is w) = Behind w.description w.finds.description (Done is w.program w.finds.holds w.is_text.fit)
 
   -- an accepted description is refused only where the check came to no end
   before : (d : Content) (status : Status) → Works names at d → OfDescription result (at.folder.holds names.description) → MayAnswer status result
@@ -87,7 +83,7 @@ module _ (result : Status) (names : Files) (at : Outside) where
   long_source d w h (Before of) = before d statuses.TooLong w of
   long_source d w h (Behind e finds (LongSource is longer)) = inl (inl is)
   long_source d w h (Behind e finds (WrongSource is line wrong)) = absurd (long_not_wrong source_form (at.folder.holds names.source) line h wrong)
-  long_source d w h (Behind e finds (Refused p holds fault is cause)) = absurd (long_no_item source_form (at.folder.holds names.source) p h holds)
+  long_source d w h (Behind e finds (Over p holds f k is over)) = absurd (long_no_item source_form (at.folder.holds names.source) p h holds)
   long_source d w h (Behind e finds (Done is p holds fit)) = absurd (long_no_item source_form (at.folder.holds names.source) p h holds)
 
   wrong_source : (d : Content) → Works names at d → IsNoItem source_form (at.folder.holds names.source) → Kind result names at
@@ -96,7 +92,7 @@ module _ (result : Status) (names : Files) (at : Outside) where
   wrong_source d w h (Before of) = before d statuses.SourceRefused w of
   wrong_source d w h (Behind e finds (LongSource is longer)) = absurd (none_not_long source_form (at.folder.holds names.source) h longer)
   wrong_source d w h (Behind e finds (WrongSource is line wrong)) = inl (inl is)
-  wrong_source d w h (Behind e finds (Refused p holds fault is cause)) = absurd (none_no_item source_form (at.folder.holds names.source) p h holds)
+  wrong_source d w h (Behind e finds (Over p holds f k is over)) = absurd (none_no_item source_form (at.folder.holds names.source) p h holds)
   wrong_source d w h (Behind e finds (Done is p holds fit)) = absurd (none_no_item source_form (at.folder.holds names.source) p h holds)
 
   -- what holds of the program that is told holds of the one that was read
@@ -108,40 +104,24 @@ module _ (result : Status) (names : Files) (at : Outside) where
   over_not_fit : (p : AProgram) (function need : ℕ) → IsFirstOver p function need → AllFit p → ⊥
   over_not_fit p function need o fit = omega (arith, o.over, o.need_is, fit function o.there)
 
-  fault_over : (d : Content) (p : AProgram) (function need : ℕ) (fault : CompileFault) → IsFirstOver p function need → HasCause vax d p fault
-      → result ≡ fault_status fault → MayAnswer statuses.FrameFull result
-  fault_over d p function need faults.NoMemory o cause is = inl (inr is)
-  fault_over d p function need (faults.FrameFull f k) o cause is = inl (inl is)
-  fault_over d p function need (faults.Blocked f t) o cause is = absurd (over_not_fit p function need o cause.fit)
-  fault_over d p function need (faults.Crowded f t) o cause is = absurd (over_not_fit p function need o cause.fit)
-  fault_over d p function need faults.Unwritable o cause is = absurd (over_not_fit p function need o cause.fit)
-
   over : (p : AProgram) (function need : ℕ) → Given names at p → IsFirstOver p function need → Kind result names at → MayAnswer statuses.FrameFull result
   over p function need g o (Memory is) = inl (inr is)
   over p function need g o (Before of) = before g.description statuses.FrameFull g.works of
   over p function need g o (Behind e finds (LongSource is longer)) = absurd (item_not_long source_form (at.folder.holds names.source) p g.item longer)
   over p function need g o (Behind e finds (WrongSource is line wrong)) =
       absurd (item_not_wrong source_form (at.folder.holds names.source) p line g.item wrong)
-  over p function need g o (Behind e finds (Refused q holds fault is cause)) =
-      fault_over e q function need fault (given (λ (x : AProgram). IsFirstOver x function need) p q g.item holds o) cause is
+  over p function need g o (Behind e finds (Over q holds f k is same)) = inl (inl is)
   over p function need g o (Behind e finds (Done is q holds fit)) =
       absurd (over_not_fit q function need (given (λ (x : AProgram). IsFirstOver x function need) p q g.item holds o) fit)
 
-  fault_fits : (d : Content) (p : AProgram) (fault : CompileFault) → AllFit p → HasCause vax d p fault → result ≡ fault_status fault → IsEnd result
-  fault_fits d p faults.NoMemory fit cause is = inl (inl (inr is))
-  fault_fits d p (faults.FrameFull f k) fit cause is = absurd (over_not_fit p f k cause fit)
-  fault_fits d p (faults.Blocked f t) fit cause is = inr is
-  fault_fits d p (faults.Crowded f t) fit cause is = inl (inr (inr is))
-  fault_fits d p faults.Unwritable fit cause is = inl (inr (inr is))
-
-  fits : (p : AProgram) → Given names at p → AllFit p → Kind result names at → IsEnd result
-  fits p g fit (Memory is) = inl (inl (inr is))
-  fits p g fit (Before of) = inl (before g.description statuses.Done g.works of)
+  fits : (p : AProgram) → Given names at p → AllFit p → Kind result names at → MayAnswer statuses.Done result
+  fits p g fit (Memory is) = inl (inr is)
+  fits p g fit (Before of) = before g.description statuses.Done g.works of
   fits p g fit (Behind e finds (LongSource is longer)) = absurd (item_not_long source_form (at.folder.holds names.source) p g.item longer)
   fits p g fit (Behind e finds (WrongSource is line wrong)) =
       absurd (item_not_wrong source_form (at.folder.holds names.source) p line g.item wrong)
-  fits p g fit (Behind e finds (Refused q holds fault is cause)) = fault_fits e q fault (given AllFit p q g.item holds fit) cause is
-  fits p g fit (Behind e finds (Done is q holds less)) = inl (inl (inl is))
+  fits p g fit (Behind e finds (Over q holds f k is o)) = absurd (over_not_fit q f k o (given AllFit p q g.item holds fit))
+  fits p g fit (Behind e finds (Done is q holds less)) = inl (inl is)
 
 pub exactly : (result : Status) (names : Files) (at : Outside) → Leaves result names at → HasNoFaults names at → Answers result names at
 exactly result names at leaves none =

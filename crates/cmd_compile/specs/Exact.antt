@@ -1,9 +1,9 @@
 -- What the command `compile D S` must answer, where the folder tells what it holds and no fault is counted.
-use Rattle.std.specs.Prelude.{◌≡◌, ◌⊎◌, ℕ, List}
+use Rattle.std.specs.Prelude.{ℕ}
 use Rattle.cmd_session.specs.declared.status.Status.{Status}
 use Rattle.cmd_session.specs.declared.status.Status.TheVariants as statuses
 use Rattle.cmd_files.specs.Outsides.{Outside, HasNoFault}
-use Rattle.cmd_files.specs.Exact.{IsLongFile, IsNoItem, IsItem, IsAnswer}
+use Rattle.cmd_files.specs.Exact.{IsLongFile, IsNoItem, IsItem}
 use Rattle.md_reader.specs.State.{Content}
 use Rattle.c_program.specs.Programs.{AProgram}
 use Rattle.cmd_check.specs.Descriptions.{description_form, IsAccepted}
@@ -23,10 +23,6 @@ pub record Given (names : Files) (at : Outside) (p : AProgram) : Type 0 where
   pub works : Works names at description
   pub item : IsItem source_form (at.folder.holds names.source) p
 
--- A program whose functions fit has a text, unless a tree of it has no code, or that can't be written.
-abbrev pub IsEnd : Status → Type 0
-IsEnd result = MayAnswer statuses.Done result ⊎ (result ≡ statuses.Blocked)
-
 -- each status where its cause is there
 pub record Answers (result : Status) (names : Files) (at : Outside) : Type 0 where
   pub description : Refuses result (at.folder.holds names.description)
@@ -35,7 +31,8 @@ pub record Answers (result : Status) (names : Files) (at : Outside) : Type 0 whe
   pub no_source : (d : Content) → Works names at d → IsNoItem source_form (at.folder.holds names.source)
       → MayAnswer statuses.SourceRefused result
   pub over : (p : AProgram) (function need : ℕ) → Given names at p → IsFirstOver p function need → MayAnswer statuses.FrameFull result
-  pub fits : (p : AProgram) → Given names at p → AllFit p → IsEnd result
+  -- a program whose functions fit is answered by its text
+  pub fits : (p : AProgram) → Given names at p → AllFit p → MayAnswer statuses.Done result
 
 -- no fault was counted: the folder's list gained neither name, and the count of no output rose
 pub record HasNoFaults (names : Files) (at : Outside) : Type 0 where

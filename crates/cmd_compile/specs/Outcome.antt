@@ -8,7 +8,7 @@ use Rattle.cmd_files.specs.Outsides.{Lookup, Outside, IsUnfailed, FailsAtMost}
 use Rattle.cmd_files.specs.Stages.{FileRefused, OutputRefused}
 use Rattle.md_reader.specs.State.{Content}
 use Rattle.c_program.specs.Programs.{AProgram}
-use Rattle.cmd_check.specs.Descriptions.{description_form, IsAccepted, GeneratorRefused}
+use Rattle.cmd_check.specs.Descriptions.{description_form, IsAccepted, NotAccepted}
 use Rattle.cmd_meaning.specs.Sources.{source_form}
 use Rattle.cmd_compile.specs.Texts.{IsTextOf, HasNoText}
 
@@ -35,20 +35,29 @@ pub record FindsProgram (names : Files) (at : Outside) (d : Content) (p : AProgr
   pub holds : Holds source_form (at.folder.holds names.source) p
   pub unfailed : IsUnfailed at.folder
 
+-- the first file is an accepted description, the second the source of a program, and `out` gained a text of that program
+pub record IsCompiled (names : Files) (at : Outside) : Type 0 where
+  pub description : Content
+  pub program : AProgram
+  pub finds : FindsProgram names at description program
+  pub text : List ℕ
+  pub is_text : IsTextOf description program text
+  pub takes : TakesAll at.out text
+  pub untold : IsUntouched at.report
+
 -- What the command came to, in its order. Nothing is written to `out` before a text is there.
 pub data Leaves (result : Status) (names : Files) (at : Outside) : Type 0 where
   -- the first file gave no accepted description
-  NoDescription : (untouched : IsUntouched at.out) (refused : GeneratorRefused names.description at.folder result at.report)
+  NoDescription : (untouched : IsUntouched at.out) (refused : NotAccepted names.description at.folder result at.report)
       → Leaves result names at
   -- the second file gave no program
   NoProgram : (d : Content) (finds : FindsDescription names at d) (untouched : IsUntouched at.out)
       (refused : FileRefused source_form names.source at.folder result at.report) → Leaves result names at
   -- the program has no text
   NoText : (d : Content) (p : AProgram) (finds : FindsProgram names at d p) (untouched : IsUntouched at.out)
-      (refused : HasNoText d p result at.report) → Leaves result names at
+      (refused : HasNoText p result at.report) → Leaves result names at
   -- the program's text was not written whole
   NotWritten : (d : Content) (p : AProgram) (finds : FindsProgram names at d p) (text : List ℕ) (is_text : IsTextOf d p text)
       (refused : OutputRefused text result at.out at.report) → Leaves result names at
   -- the program's text is in `out`
-  Written : (is : result ≡ statuses.Done) (d : Content) (p : AProgram) (finds : FindsProgram names at d p) (text : List ℕ)
-      (is_text : IsTextOf d p text) (takes : TakesAll at.out text) (untold : IsUntouched at.report) → Leaves result names at
+  Written : (is : result ≡ statuses.Done) (compiled : IsCompiled names at) → Leaves result names at

@@ -6,7 +6,7 @@ ghost use Rattle.cmd_compile.specs.Outcome.{files, FailAtMost, Leaves};
 ghost use Rattle.cmd_compile.specs.Exact.{IsExact};
 
 use crate::text::text_of;
-use cmd_check::read_generator;
+use cmd_check::read_accepted;
 use cmd_files::{read_file, write_out};
 use cmd_meaning::SourceText;
 use cmd_session::Status;
@@ -27,15 +27,15 @@ fn read_and_write<F: Folder, O: Sink, E: Sink>(
     ensures names { FailAtMost (files description.now source.now) (lookup F.holds F.failed folder.old folder.new) }
     ensures holds { (n : List ℕ) → F.holds folder.new n ≡ F.holds folder.old n }
 {
-    let generator = match read_generator(alloc, folder, description, report) {
-        Ok(generator) => generator,
+    let accepted = match read_accepted(alloc, folder, description, report) {
+        Ok(accepted) => accepted,
         Err(status) => return status,
     };
     let program: SourceText = match read_file(alloc, folder, source, report) {
         Ok(program) => program,
         Err(status) => return status,
     };
-    let text = match text_of(alloc, &generator, program.program(), report) {
+    let text = match text_of(alloc, &accepted, program.program(), report) {
         Ok(text) => text,
         Err(status) => return status,
     };
@@ -46,8 +46,8 @@ fn read_and_write<F: Folder, O: Sink, E: Sink>(
 }
 
 /// The command `compile D S`: reads the machine description `description` and the C source `source`, and writes to `out` the
-/// assembly text of the source's code by the description. A refusal writes one line to `report`. Nothing of the input is taken,
-/// and nothing is written to `out` before the whole text is there.
+/// assembly text of the source's code by the description, whose run does on every input what the source's does. A refusal writes
+/// its lines to `report`. Nothing of the input is taken, and nothing is written to `out` before the whole text is there.
 pub fn compile_source<F: Folder, O: Sink, E: Sink>(
     alloc: Global,
     description: &str,

@@ -4,35 +4,34 @@ ghost use Rattle.c_program.specs.Programs.{program};
 ghost use Rattle.cmd_session.specs.Writing.{change};
 ghost use Rattle.cmd_compile.specs.Texts.{IsTextOf, HasNoText};
 
-use crate::lines::{fault_line, fault_status};
+use crate::lines::frame_line;
 use c_typed::Program;
 use cmd_session::{Status, no_memory, refuse_with};
+use gg_accepted::Accepted;
 use gg_base::NoMemory;
 use gg_compile::{CompileFault, compile};
 use gg_outside::Sink;
-use sel_parse::Generator;
 use std::alloc::Global;
-use vax_target::Vax;
 use vax_writer::write_code;
 
-/// The text of a program's code. Where there is none, one line was written to `report`, and the status of that refusal is answered.
+/// The text of a program's code by an accepted description. Where there is none, one line was written to `report`, and the status of that refusal is answered.
 pub fn text_of<E: Sink>(
     alloc: Global,
-    generator: &Generator<Vax>,
+    accepted: &Accepted,
     source: &Program,
     report: &mut E,
 ) -> Result<String, Status>
-    ensures text { IfOk result (λ text. IsTextOf generator.now.tables.content (program source.now.held) (string_bytes text)) }
+    ensures text { IfOk result (λ text. IsTextOf accepted.now.content (program source.now.held) (string_bytes text)) }
     ensures untold { OnOk result (report.new ≡ report.old) }
-    ensures refused { IfErr result (λ status. HasNoText generator.now.tables.content (program source.now.held) status
+    ensures refused { IfErr result (λ status. HasNoText (program source.now.held) status
         (change E.told E.faults report.old report.new)) }
 {
-    let compiled = match compile(alloc, generator, source) {
+    let compiled = match compile(alloc, accepted, source) {
         Ok(compiled) => compiled,
         Err(CompileFault::NoMemory) => return Err(no_memory(report)),
-        Err(fault) => {
-            let line = fault_line(alloc, source, fault);
-            return Err(refuse_with(report, line, fault_status(fault)));
+        Err(CompileFault::FrameFull { function, need }) => {
+            let line = frame_line(alloc, source, function, need);
+            return Err(refuse_with(report, line, Status::FrameFull));
         }
     };
     let mut text = String::new(alloc);

@@ -1,5 +1,5 @@
 -- One function more fits.
-use Rattle.std.proofs.Common.{◌≡◌, ℕ, suc, ◌+◌, ◌<◌, ◌≤◌, length, map, subst, arith, below_more}
+use Rattle.std.proofs.Common.{◌≡◌, ℕ, ◌+◌, ◌<◌, ◌≤◌, length, map, arith, below_more}
 use Rattle.std.proofs.lemmas.List.{length-map}
 use Rattle.c_program.specs.declared.program.Program.{Program}
 use Rattle.c_program.specs.Programs.{AProgram, routine, program}

@@ -24,10 +24,7 @@ pub record IsFirstOver (p : AProgram) (function need : ℕ) : Type 0 where
   pub over : need_limit < need
   pub first : FitBefore p function
 
--- why not all functions fit
+-- why a program has no code
 abbrev pub IsOver : AProgram → CompileFault → Type 0
 IsOver p faults.NoMemory = Unit {0}
 IsOver p (faults.FrameFull function need) = IsFirstOver p function need
-IsOver p (faults.Blocked function tree) = ⊥
-IsOver p (faults.Crowded function tree) = ⊥
-IsOver p faults.Unwritable = ⊥

@@ -25,7 +25,8 @@ use gg_outside::{Folder, Sink, Source};
 use std::alloc::Global;
 
 /// The whole program: the command that the words say, or the line of the usage. Its commands are `check D`, `compile D S`, `run A N`
-/// and `meaning S N`.
+/// and `meaning S N`. What `compile` writes does, read again and run, what the source does: until the source makes a wild access or
+/// nests over 1,024 calls.
 pub fn ggvax<F: Folder, I: Source, O: Sink, E: Sink>(
     alloc: Global,
     words: &[String],
@@ -43,7 +44,8 @@ pub fn ggvax<F: Folder, I: Source, O: Sink, E: Sink>(
         → CheckIsExact result d (outside (lookup F.holds F.failed folder.old folder.new)
         (change O.told O.faults out.old out.new) (change E.told E.faults report.old report.new)) }
 
-    // `compile D S`: the same of the machine description, of the source and of the text of its code.
+    // `compile D S`: the same of the machine description, of the source and of the text of its code. Where a text is written, it is that of one
+    // code, which loads and on every input does what the source does; and a source whose functions fit their frames has one.
     ensures compile { (d source : List ℕ) → SaysCompile (spelled words.now) d source
         → CompileLeaves result (files d source) (outside (lookup F.holds F.failed folder.old folder.new)
         (change O.told O.faults out.old out.new) (change E.told E.faults report.old report.new)) }

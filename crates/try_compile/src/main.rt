@@ -4,19 +4,18 @@
 // where that differs. A description is read and checked once for the lines that name it one behind another.
 #![tactic(auto)]
 
-use cmd_check::read_generator;
+use cmd_check::read_accepted;
 use cmd_compile::text::text_of;
 use cmd_files::read_file;
 use cmd_meaning::{SourceText, run_source};
 use cmd_run::run_text;
 use cmd_session::Status;
+use gg_accepted::Accepted;
 use gg_base::{Bytes, Name};
 use gg_outside::{MemFile, MemFolder, MemSink, MemSource};
 use gg_texts::VAX_GG;
-use sel_parse::Generator;
 use std::alloc::{AllocError, Global};
 use std::io;
-use vax_target::Vax;
 
 fn put_file(
     alloc: Global,
@@ -99,11 +98,11 @@ fn description(alloc: Global, registers: &str) -> Result<String, AllocError> {
     }
 }
 
-// The description with so many registers: its generator, or what `compile` leaves behind where it is refused.
+// The description with so many registers, accepted, or what `compile` leaves behind where it is refused.
 #[derive(Drop)]
 struct Opened {
     registers: String,
-    generator: Result<Generator<Vax>, String>,
+    accepted: Result<Accepted, String>,
 }
 
 fn open(alloc: Global, registers: &str) -> Result<Opened, AllocError> {
@@ -111,20 +110,20 @@ fn open(alloc: Global, registers: &str) -> Result<Opened, AllocError> {
     let registers = String::from_str(alloc, registers)?;
     let mut folder = folder_of(alloc, "d", text.as_bytes())?;
     let mut report = MemSink::new(alloc, 1, Vec::new(alloc));
-    let generator = match read_generator(alloc, &mut folder, "d", &mut report) {
-        Ok(generator) => Ok(generator),
+    let accepted = match read_accepted(alloc, &mut folder, "d", &mut report) {
+        Ok(accepted) => Ok(accepted),
         Err(status) => Err(refusal(alloc, status, &report)?),
     };
     Ok(Opened {
         registers,
-        generator,
+        accepted,
     })
 }
 
 // The text of the source, or what `compile` leaves behind where there is none.
 fn compiled(
     alloc: Global,
-    generator: &Generator<Vax>,
+    accepted: &Accepted,
     source: &str,
 ) -> Result<Result<String, String>, AllocError> {
     let mut folder = folder_of(alloc, "a.c", source.as_bytes())?;
@@ -133,7 +132,7 @@ fn compiled(
         Ok(program) => program,
         Err(status) => return Ok(Err(refusal(alloc, status, &report)?)),
     };
-    match text_of(alloc, generator, program.program(), &mut report) {
+    match text_of(alloc, accepted, program.program(), &mut report) {
         Ok(text) => Ok(Ok(text)),
         Err(status) => Ok(Err(refusal(alloc, status, &report)?)),
     }
@@ -166,8 +165,8 @@ fn told(
     count: u64,
     input: &str,
 ) -> Result<String, AllocError> {
-    match &opened.generator {
-        Ok(generator) => match compiled(alloc, generator, source)? {
+    match &opened.accepted {
+        Ok(accepted) => match compiled(alloc, accepted, source)? {
             Ok(text) => both(alloc, text.as_str(), source, count, input),
             Err(told) => Ok(told),
         },

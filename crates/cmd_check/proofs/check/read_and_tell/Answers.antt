@@ -4,13 +4,13 @@ use Rattle.cmd_check.proofs.check.read_and_tell.Goals as goal
 
 pub returns-in-Ok-ok_line-clause-leaves : goal.returns-in-Ok-ok_line-clause-leaves
 returns-in-Ok-ok_line-clause-leaves g c =
-    unwritten _ _ _ c.in-Ok.generator.tables c.in-Ok-ok_line.line _
+    unwritten _ _ _ c.in-Ok.accepted c.in-Ok-ok_line.line _
     (record {
       finds = record { holds = c.in-Ok.ensures.description; unfailed = c.in-Ok.ensures.unfailed };
       numbered = c.in-Ok.ensures.numbered;
       accepted = c.in-Ok.ensures.accepted;
     })
-    c.as_slice.ensures (counted _ _ _ c.in-Ok.generator.tables c.rules.ensures c.states.ensures c.in-Ok-ok_line.ensures)
+    c.as_slice.ensures (counted _ _ _ c.in-Ok.accepted c.rules.ensures c.states.ensures c.in-Ok-ok_line.ensures)
     (rw c.in-Ok.ensures.untold at c.in-Err-write_out.ensures.refused)
 
 pub returns-in-Err-clause-leaves : goal.returns-in-Err-clause-leaves

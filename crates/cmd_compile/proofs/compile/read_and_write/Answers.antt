@@ -11,43 +11,45 @@ returns-in-Err-clause-leaves g c = NoDescription (record { held = refl; quiet = 
 
 pub returns-in-Err-read_file-clause-leaves : goal.returns-in-Err-read_file-clause-leaves
 returns-in-Err-read_file-clause-leaves g c =
-    NoProgram c.in-Ok.generator.tables.content
+    NoProgram c.in-Ok.accepted.content
     (record { holds = c.in-Ok.ensures.description; accepted = c.in-Ok.ensures.accepted })
     (record { held = refl; quiet = refl })
-    (file_refused source_form c.args.source.now _ _ _ _ _ (c.read_generator.ensures.holds c.args.source.now) c.in-Ok.ensures.unfailed _ _
+    (file_refused source_form c.args.source.now _ _ _ _ _ (c.read_accepted.ensures.holds c.args.source.now) c.in-Ok.ensures.unfailed _ _
     (rw c.in-Ok.ensures.untold at c.in-Err-read_file.ensures.refused))
 
 pub returns-in-Err-text_of-clause-leaves : goal.returns-in-Err-text_of-clause-leaves
 returns-in-Err-text_of-clause-leaves g c =
-    NoText c.in-Ok.generator.tables.content (program c.in-Ok-read_file.program.program.held)
+    NoText c.in-Ok.accepted.content (program c.in-Ok-read_file.program.program.held)
     (record {
       description = record { holds = c.in-Ok.ensures.description; accepted = c.in-Ok.ensures.accepted };
-      holds = file_held source_form _ _ _ (c.read_generator.ensures.holds c.args.source.now) c.in-Ok-read_file.ensures.item;
+      holds = file_held source_form _ _ _ (c.read_accepted.ensures.holds c.args.source.now) c.in-Ok-read_file.ensures.item;
       unfailed = c.in-Ok-read_file.ensures.unfailed ∙ c.in-Ok.ensures.unfailed;
     })
     (record { held = refl; quiet = refl })
     (rw (c.program.ensures, c.in-Ok-read_file.ensures.untold, c.in-Ok.ensures.untold) at c.in-Err-text_of.ensures.refused)
 
 pub returns-in-Ok-write_out-clause-leaves : goal.returns-in-Ok-write_out-clause-leaves
-returns-in-Ok-write_out-clause-leaves g c =
-    Written refl c.in-Ok.generator.tables.content (program c.in-Ok-read_file.program.program.held)
-    (record {
-      description = record { holds = c.in-Ok.ensures.description; accepted = c.in-Ok.ensures.accepted };
-      holds = file_held source_form _ _ _ (c.read_generator.ensures.holds c.args.source.now) c.in-Ok-read_file.ensures.item;
-      unfailed = c.in-Ok-read_file.ensures.unfailed ∙ c.in-Ok.ensures.unfailed;
-    })
-    (string_bytes c.in-Ok-text_of.text)
-    (rw c.program.ensures at c.in-Ok-text_of.ensures.text)
-    (rw c.as_bytes.ensures.value at c.in-Ok-write_out.ensures.all)
-    (untouched g.E.Sink.told g.E.Sink.faults c.args.report.now c.write_out.new.report
-    (c.in-Ok-write_out.ensures.untold ∙ c.in-Ok-text_of.ensures.untold ∙ c.in-Ok-read_file.ensures.untold ∙ c.in-Ok.ensures.untold))
+returns-in-Ok-write_out-clause-leaves g c = Written refl (record {
+  description = c.in-Ok.accepted.content;
+  program = program c.in-Ok-read_file.program.program.held;
+  finds = record {
+    description = record { holds = c.in-Ok.ensures.description; accepted = c.in-Ok.ensures.accepted };
+    holds = file_held source_form _ _ _ (c.read_accepted.ensures.holds c.args.source.now) c.in-Ok-read_file.ensures.item;
+    unfailed = c.in-Ok-read_file.ensures.unfailed ∙ c.in-Ok.ensures.unfailed;
+  };
+  text = string_bytes c.in-Ok-text_of.text;
+  is_text = rw c.program.ensures at c.in-Ok-text_of.ensures.text;
+  takes = rw c.as_bytes.ensures.value at c.in-Ok-write_out.ensures.all;
+  untold = untouched g.E.Sink.told g.E.Sink.faults c.args.report.now c.write_out.new.report
+      (c.in-Ok-write_out.ensures.untold ∙ c.in-Ok-text_of.ensures.untold ∙ c.in-Ok-read_file.ensures.untold ∙ c.in-Ok.ensures.untold);
+})
 
 pub returns-clause-leaves : goal.returns-clause-leaves
 returns-clause-leaves g c =
-    NotWritten c.in-Ok.generator.tables.content (program c.in-Ok-read_file.program.program.held)
+    NotWritten c.in-Ok.accepted.content (program c.in-Ok-read_file.program.program.held)
     (record {
       description = record { holds = c.in-Ok.ensures.description; accepted = c.in-Ok.ensures.accepted };
-      holds = file_held source_form _ _ _ (c.read_generator.ensures.holds c.args.source.now) c.in-Ok-read_file.ensures.item;
+      holds = file_held source_form _ _ _ (c.read_accepted.ensures.holds c.args.source.now) c.in-Ok-read_file.ensures.item;
       unfailed = c.in-Ok-read_file.ensures.unfailed ∙ c.in-Ok.ensures.unfailed;
     })
     (string_bytes c.in-Ok-text_of.text)

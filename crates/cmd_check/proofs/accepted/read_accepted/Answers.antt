@@ -2,9 +2,9 @@ use Rattle.std.proofs.lemmas.Result.{IfErr-weaker}
 use Rattle.cmd_session.specs.declared.status.Status.{Status}
 use Rattle.cmd_session.specs.Writing.{change}
 use Rattle.cmd_files.specs.Outsides.{lookup}
-use Rattle.cmd_check.specs.Descriptions.{GeneratorRefused, NoTables, Stopped, NoRules}
+use Rattle.cmd_check.specs.Descriptions.{NotAccepted, NoTables, Stopped, NoRules}
 use Rattle.cmd_check.specs.Rules.{RulesRefused}
-use Rattle.cmd_check.proofs.generator.read_generator.Goals as goal
+use Rattle.cmd_check.proofs.accepted.read_accepted.Goals as goal
 
 pub returns-in-Err-clause-refused : goal.returns-in-Err-clause-refused
 returns-in-Err-clause-refused g c = NoTables c.in-Err.ensures.refused
@@ -18,7 +18,7 @@ pub returns-in-Ok-checked-clause-refused : goal.returns-in-Ok-checked-clause-ref
 returns-in-Ok-checked-clause-refused g c =
     IfErr-weaker c.shown.result
     (λ (s : Status). RulesRefused c.in-Ok.tables.content s (change g.E.Sink.told g.E.Sink.faults c.args.report.now c.shown.new.report))
-    (λ (s : Status). GeneratorRefused c.args.name.now (lookup g.F.Folder.holds g.F.Folder.failed c.args.folder.now c.read_tables.new.folder) s
+    (λ (s : Status). NotAccepted c.args.name.now (lookup g.F.Folder.holds g.F.Folder.failed c.args.folder.now c.read_tables.new.folder) s
     (change g.E.Sink.told g.E.Sink.faults c.args.report.now c.shown.new.report))
     (λ s r. NoRules c.in-Ok.tables.content c.in-Ok.ensures.description c.in-Ok.ensures.unfailed c.in-Ok.ensures.few c.in-Ok-checked.ensures.never r)
     (rw (c.in-Ok-checked.ensures.tables, c.in-Ok-checked.ensures.untold, c.in-Ok.ensures.untold) at c.shown.ensures.refused)

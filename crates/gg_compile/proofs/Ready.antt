@@ -1,0 +1,48 @@
+-- By an accepted description the trees of a program whose functions fit all have code; it can be written, and keeps the program.
+use Rattle.std.proofs.Common.{◌≡◌, ℕ, true, sym, subst}
+use Rattle.std.proofs.Math.Bool.{Bool-set}
+use Rattle.std.proofs.Math.Logic.{∥∥₁_map, ∥∥₁_elim}
+use Rattle.tree_core.specs.declared.program.TreeProgram.{TreeProgram}
+use Rattle.md_reader.specs.State.{Content}
+use Rattle.lr_checked.specs.Accepted.{NeverStops}
+use Rattle.sel_parse_effect.specs.Claims.{IsFit}
+use Rattle.c_program.specs.Programs.{program}
+use Rattle.c_typed_check.specs.declared.program.Program.{Program}
+use Rattle.c_lower_scheme.specs.Programs.{lowered}
+use Rattle.vax_core.specs.declared.code.Code.{Code}
+use Rattle.vax_core.specs.Valid.{is_code}
+use Rattle.vax_target_meaning.specs.Vax.{vax}
+use Rattle.gg_compile_code.specs.Selecting.{SelectedAll}
+use Rattle.gg_compile_code.specs.Stops.{StopsAt, Blocks, Fills}
+use Rattle.gg_compile_sources.specs.Claims.{Keeps}
+use Rattle.gg_compile_answers.specs.Claims.{HasReadyTrees}
+use Rattle.gg_compile_answers.proofs.Stopping.{no_tree_stops}
+use Rattle.gg_compile_within.proofs.Limits.{typed_codes_keep_programs}
+use Rattle.gg_compile_within.proofs.Ready.{typed_programs_are_ready}
+use Rattle.gg_compile_written.proofs.Programs.{typed_codes_can_be_written}
+use Rattle.gg_compile.specs.Needs.{AllFit}
+
+no_prop : IsProp ⊥
+no_prop = hlevel
+
+-- no tree of trees that are ready blocks, turns or finds its frame full
+module _ (q : TreeProgram) (d : Content) (ok : ∥ HasReadyTrees q ∥₁) (fit : IsFit vax d) (never : NeverStops d) (function tree : ℕ) where
+  pub none_blocks : StopsAt vax d q (Blocks vax d q) function tree → ⊥
+  none_blocks stops = ∥∥₁_elim ok no_prop (λ r. (no_tree_stops q d r fit never).blocks function tree stops)
+
+  pub none_fills : StopsAt vax d q (Fills vax d q) function tree → ⊥
+  none_fills stops = ∥∥₁_elim ok no_prop (λ r. (no_tree_stops q d r fit never).fills function tree stops)
+
+module _ (s : Program) (q : TreeProgram) (is : q ≡ lowered (program s.held)) (fit : AllFit (program s.held)) where
+  pub ready : ∥ HasReadyTrees q ∥₁
+  ready = ∥∥₁_map s.is_typed (λ t. subst HasReadyTrees (sym is) (typed_programs_are_ready (program s.held) t fit))
+
+  module _ (d : Content) (c : Code) (shown : IsFit vax d) (selected : SelectedAll vax d q c) where
+    of_it : SelectedAll vax d (lowered (program s.held)) c
+    of_it = subst (λ (x : TreeProgram). SelectedAll vax d x c) is selected
+
+    pub code_keeps : ∥ Keeps (program s.held) c ∥₁
+    code_keeps = ∥∥₁_map s.is_typed (λ t. typed_codes_keep_programs (program s.held) d c t fit shown of_it)
+
+    pub code_valid : is_code c ≡ true
+    code_valid = ∥∥₁_elim s.is_typed (Bool-set _ _) (λ t. typed_codes_can_be_written (program s.held) d c t fit shown of_it)

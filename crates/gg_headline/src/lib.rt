@@ -1,0 +1,4 @@
+//! The text that `compile` writes, read again and run, does what the source does.
+#![tactic(auto)]
+
+pub mod laws;
