@@ -1,20 +1,20 @@
 -- As many sums are found as the set of sums has tuples at least.
-use Rattle.std.proofs.Common.{◌≡◌, ℕ, zero, suc, ◌+◌, ◌<◌, List, [], ◌∷◌, Some, None, Contains, Bool, true, false, cond, length, get_or, slice_get, refl, sym, ap, ◌∙◌, subst, inl, inr, arith}
+use Rattle.std.proofs.Common.{◌≡◌, ℕ, zero, suc, ◌+◌, ◌≤◌, ◌<◌, List, [], ◌∷◌, Some, None, Contains, Bool, true, false, cond, length, get_or, slice_get, refl, sym, ap, ◌∙◌, subst, inl, inr, arith, true≢false}
 use Rattle.std.specs.Prelude.{AllPairs, slice_index_or, count_by, if◌then◌else◌}
 use Rattle.std.proofs.lemmas.List.Sums.{sum_by-cons}
 use Rattle.std.proofs.lemmas.Option.{get_or_from_slice_get}
 use Rattle.tree_core.specs.declared.token.Tok.TheVariants as tok
 use Rattle.md_reader.specs.declared.types.Sym.{Sym}
-use Rattle.lr_tables.proofs.Members.{In, Contains-In}
+use Rattle.lr_tables.proofs.Members.{In, In-Contains, Contains-In}
 use Rattle.lr_check_sets.specs.Automaton.{Automaton}
 use Rattle.lr_check_sets.specs.Sums as sets
 use Rattle.lr_check_found.specs.declared.places.Place.{Place}
 use Rattle.lr_check_found.specs.declared.settlings.Settling.{Settling}
 use Rattle.lr_check_found.specs.Lists.{IsList}
-use Rattle.lr_check_found.specs.Found.{FoundView, slot, place_of, IsSettlingAt}
+use Rattle.lr_check_found.specs.Found.{FoundView, slot, place_of, IsSettlingAt, SumAt}
 use Rattle.lr_check_found.specs.Sound.{IsSoundSettling, IsFound}
 use Rattle.lr_check_found.specs.Count.{Tuple, HasMore}
-use Rattle.lr_check_found.proofs.Reading.{Some-same}
+use Rattle.lr_check_found.proofs.Reading.{Some-same, none_some}
 use Rattle.lr_check_found.proofs.Pushing.{one_number}
 
 -- the settling's place and list
@@ -121,3 +121,78 @@ module _ (A : Automaton) (f : FoundView) (found : IsFound A f) where
     apart = pairs (tuples_of f f.settlings) (apart_from 0 f.settlings (λ i e h. subst (λ k. IsSettlingAt f k e) (let s : i ≡ 0 + i = omega arith in s) h));
     each = each;
   }
+
+-- ---- no more sums than are found, where each sum is
+
+without : (x : Tuple) (ys : List Tuple) → In x ys → List Tuple
+without x [] h = absurd h
+without x (y ∷ ys) (inl e) = ys
+without x (y ∷ ys) (inr m) = y ∷ without x ys m
+
+one_less : (x : Tuple) (ys : List Tuple) (h : In x ys) → length ys ≡ suc (length (without x ys h))
+unfolding without
+one_less x [] h = absurd h
+one_less x (y ∷ ys) (inl e) = refl
+one_less x (y ∷ ys) (inr m) = ap suc (one_less x ys m)
+
+still_in : (x z : Tuple) (ys : List Tuple) (h : In x ys) → (x ≡ z → ⊥) → In z ys → In z (without x ys h)
+unfolding without
+still_in x z [] h apart k = absurd h
+still_in x z (y ∷ ys) (inl e) apart (inl f) = absurd (apart (sym e ∙ f))
+still_in x z (y ∷ ys) (inl e) apart (inr k) = k
+still_in x z (y ∷ ys) (inr m) apart (inl f) = inl f
+still_in x z (y ∷ ys) (inr m) apart (inr k) = inr (still_in x z ys m apart k)
+
+-- a list without repetition whose elements are in another is no longer
+no_longer : (xs ys : List Tuple) → Apart xs → ((z : Tuple) → In z xs → In z ys) → length xs ≤ length ys
+no_longer [] ys apart all = omega arith
+no_longer (x ∷ xs) ys apart all =
+    let h : In x ys = all x (inl refl) in
+    let rest : length xs ≤ length (without x ys h) = no_longer xs (without x ys h) apart.1 (λ z m. still_in x z ys h (apart.0 z m) (all z (inr m))) in
+    let less = one_less x ys h in
+    omega (arith, rest, less)
+
+are_apart : (xs : List Tuple) → AllPairs (λ (x y : Tuple). x ≡ y → ⊥) xs → Apart xs
+are_apart [] h = tt
+are_apart (x ∷ xs) h = (λ z m e. by z (In-Contains z xs m) e, are_apart xs (λ i j d lt le. h (suc i) (suc j) d (omega (arith, lt)) (omega (arith, le))))
+  where
+    by : (z : Tuple) → Contains xs z → x ≡ z → ⊥
+    by z c e = let lt = c.1 in h zero (suc c.0) z (omega arith) (omega (arith, lt)) (e ∙ sym c.2)
+
+in_if : (b : Bool) (t : Tuple) (ts : List Tuple) (u : Tuple) → b ≡ true → t ≡ u → In u (if b then t ∷ ts else ts)
+in_if true t ts u e f = inl f
+in_if false t ts u e f = absurd (true≢false (sym e))
+
+in_later : (b : Bool) (t : Tuple) (ts : List Tuple) (u : Tuple) → In u ts → In u (if b then t ∷ ts else ts)
+in_later true t ts u h = inr h
+in_later false t ts u h = h
+
+listed : (f : FoundView) (es : List Settling) (i : ℕ) (e : Settling) (u : Tuple) → slice_get es i ≡ Some e → e.is_sum ≡ true → tuple_of f e ≡ u → In u (tuples_of f es)
+unfolding tuples_of
+listed f [] i e u at is same = absurd (none_some e at)
+listed f (d ∷ es) zero e u at is same =
+    in_if d.is_sum (tuple_of f d) (tuples_of f es) u (ap (λ (z : Settling). z.is_sum) (Some-same d e at) ∙ is) (ap (tuple_of f) (Some-same d e at) ∙ same)
+listed f (d ∷ es) (suc i) e u at is same = in_later d.is_sum (tuple_of f d) (tuples_of f es) u (listed f es i e u at is same)
+
+-- a sum that is found
+pub record IsSumOf (f : FoundView) (u : Tuple) : Type 0 where
+  pub number : ℕ
+  pub behind : ℕ
+  pub sum : SumAt f number u.place u.list behind
+
+tuple_is : (f : FoundView) (u : Tuple) (h : IsSumOf f u) → tuple_of f h.sum.entry ≡ u
+unfolding tuple_of
+tuple_is f u h =
+    ap (λ (x : Place). let t : Tuple = record { place = x; list = slice_index_or f.lists.all h.sum.entry.list [] } in t)
+    (get_or_from_slice_get f.places h.sum.entry.place u.place (place_of 0 tok.Zero tok.Zero) h.sum.place)
+    ∙ ap (λ (s : List Sym). let t : Tuple = record { place = u.place; list = s } in t) (get_or_from_slice_get f.lists.all h.sum.entry.list u.list [] h.sum.list)
+
+pub no_more : (A : Automaton) (f : FoundView) → IsFound A f → ((u : Tuple) → sets.Sum A u.place.state u.place.token u.place.behind u.list → IsSumOf f u) → HasMore A f.tuples → ⊥
+no_more A f found all h =
+    let within : length h.tuples ≤ length (tuples_of f f.settlings) =
+    no_longer h.tuples (tuples_of f f.settlings) (are_apart h.tuples h.apart)
+    (λ u m. let s = all u (h.each u (In-Contains u h.tuples m)) in listed f f.settlings s.number s.sum.entry u s.sum.there s.sum.is_sum (tuple_is f u s)) in
+    let size = counted f f.settlings in
+    let is = found.tuples in
+    let many = h.many in
+    omega (arith, within, size, is, many)

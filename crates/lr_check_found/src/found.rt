@@ -77,7 +77,8 @@ impl Model for Found {
 impl Found {
     /// Nothing.
     pub fn new(alloc: Global) -> Result<Self, NoMemory>
-        ensures { IfOk result (λ f. (A : Automaton) → IsFound A f) }
+        ensures found { IfOk result (λ f. (A : Automaton) → IsFound A f) }
+        ensures none { IfOk result (λ f. f.tuples ≡ 0) }
     {
         Ok(Found {
             lists: Lists::new(alloc)?,

@@ -2,3 +2,4 @@ pub mod Trees
 pub mod Counting
 pub mod Never
 pub mod Printing
+pub mod Fewer

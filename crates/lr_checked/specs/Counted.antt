@@ -2,7 +2,7 @@
 use Rattle.std.specs.Prelude.{ℕ, ◌≤◌}
 use Rattle.lr_tables.specs.View.{TableView}
 use Rattle.lr_check_sets.specs.Table.{automaton_of}
-use Rattle.lr_check_closed.specs.Count.{HasMore}
+use Rattle.lr_check_found.specs.Count.{HasMore}
 
 -- the set of sums has at most so many tuples, no two of them the same, and these are no more than 4,000,000
 pub record IsCounted (t : TableView) (n : ℕ) : Type 0 where

@@ -5,6 +5,8 @@ use Rattle.lr_check.specs.declared.sample.Outcome.TheVariants as outcome
 use Rattle.lr_check.specs.Tree.{Node}
 use Rattle.lr_check.specs.Parse.{Replays}
 use Rattle.lr_check.specs.Statement.{IsStatement}
+use Rattle.lr_check_sets.specs.Automaton.{Automaton}
+use Rattle.lr_check_found.specs.Count.{HasMore}
 use Rattle.lr_checked.specs.declared.checking.CheckFault.{CheckFault}
 use Rattle.lr_checked.specs.declared.checking.CheckFault.TheVariants as faults
 
@@ -27,3 +29,11 @@ FaultIsReal d faults.CheckFull = Unit {0}
 FaultIsReal d faults.Unshown = Unit {0}
 FaultIsReal d (faults.Blocks nodes) = Blocking d nodes
 FaultIsReal d (faults.Loops nodes) = Looping d nodes
+
+-- `CheckFull` says that there are more than 4,000,000 sums; where another refusal comes there are not, unless there was no memory
+abbrev pub FullIsFirst : Automaton → CheckFault → Type 0
+FullIsFirst A faults.NoMemory = Unit {0}
+FullIsFirst A faults.CheckFull = HasMore A 4000000
+FullIsFirst A faults.Unshown = HasMore A 4000000 → ⊥
+FullIsFirst A (faults.Blocks nodes) = HasMore A 4000000 → ⊥
+FullIsFirst A (faults.Loops nodes) = HasMore A 4000000 → ⊥

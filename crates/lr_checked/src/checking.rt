@@ -1,22 +1,24 @@
 // Whether some tree blocks the parser or makes it turn for ever.
 ghost use Rattle.std.specs.Prelude.{◌≡◌, IfOk, IfErr};
 ghost use Rattle.lr_check_sets.specs.Table.{automaton_of};
-ghost use Rattle.lr_check_closed.specs.Count.{HasMore};
+ghost use Rattle.lr_check_found.specs.Count.{HasMore};
 ghost use Rattle.lr_checked.specs.Accepted.{NeverStops};
 ghost use Rattle.lr_checked.specs.Counted.{IsCounted};
-ghost use Rattle.lr_checked.specs.Refusals.{FaultIsReal};
+ghost use Rattle.lr_checked.specs.Refusals.{FaultIsReal, FullIsFirst};
 
 use crate::laws::no_fault_is_enough;
 use gg_base::NoMemory;
 use lr_check::{Outcome, Sample, SampleNode, is_statement, replay};
+use lr_check_complete::complete;
+use lr_check_found::Stop;
 use lr_check_work::{Finding, Node, find_fault};
 use lr_tables::Tables;
 use std::alloc::Global;
 use std::marker::Model;
 
 /// Why tables are refused: there is no memory; some tree blocks the parser, or makes it turn for ever;
-/// there are more than 4,000,000 ways in which symbols may replace a subtree; or the work came to no
-/// answer that is shown, which is not known to come.
+/// there are more than 4,000,000 ways in which symbols may replace a subtree; or no tree is shown, which is
+/// not known to come.
 #[derive(Drop)]
 pub enum CheckFault {
     NoMemory,
@@ -85,7 +87,8 @@ fn sample_of(alloc: Global, nodes: Vec<Node>) -> Result<Sample, NoMemory> {
 
 // The refusal that the sample shows.
 fn refusal(alloc: Global, tables: &Tables, sample: Sample) -> CheckFault
-    ensures { FaultIsReal tables.now.content result }
+    ensures real { FaultIsReal tables.now.content result }
+    ensures few { (HasMore (automaton_of tables.now) 4000000 → ⊥) → FullIsFirst (automaton_of tables.now) result }
 {
     if !is_statement(&sample) {
         return CheckFault::Unshown;
@@ -98,26 +101,46 @@ fn refusal(alloc: Global, tables: &Tables, sample: Sample) -> CheckFault
     }
 }
 
+// The refusal that the tree with the nodes shows.
+fn shown(alloc: Global, tables: &Tables, nodes: Vec<Node>) -> CheckFault
+    ensures real { FaultIsReal tables.now.content result }
+    ensures few { (HasMore (automaton_of tables.now) 4000000 → ⊥) → FullIsFirst (automaton_of tables.now) result }
+{
+    match sample_of(alloc, nodes) {
+        Ok(sample) => refusal(alloc, tables, sample),
+        Err(_) => CheckFault::NoMemory,
+    }
+}
+
+// The refusal of tables that are not accepted, once all of the sets is found or they are too large.
+fn refused(alloc: Global, tables: &Tables, nodes: Vec<Node>) -> CheckFault
+    ensures real { FaultIsReal tables.now.content result }
+    ensures full { FullIsFirst (automaton_of tables.now) result }
+{
+    match complete(alloc, tables) {
+        Ok(_) => shown(alloc, tables, nodes),
+        Err(Stop::Full) => CheckFault::CheckFull,
+        Err(Stop::NoMemory) => CheckFault::NoMemory,
+    }
+}
+
 // How many tuples there are, or why the tables are refused.
 fn verdict(alloc: Global, tables: &Tables) -> Result<usize, CheckFault>
     ensures fine { IfOk result (λ n. NeverStops tables.now.content) }
     ensures few { IfOk result (λ n. IsCounted tables.now n) }
     ensures real { IfErr result (λ f. FaultIsReal tables.now.content f) }
+    ensures full { IfErr result (λ f. FullIsFirst (automaton_of tables.now) f) }
 {
     tables.is_numbered();
     tables.description().is_valid();
     no_fault_is_enough();
     let nodes = match find_fault(alloc, tables) {
         Ok(Finding::Fine(tuples)) => return Ok(tuples),
-        Ok(Finding::Full) => return Err(CheckFault::CheckFull),
-        Ok(Finding::Open) => return Err(CheckFault::Unshown),
         Ok(Finding::Faulty(nodes)) => nodes,
+        Ok(_) => Vec::new(alloc),
         Err(_) => return Err(CheckFault::NoMemory),
     };
-    match sample_of(alloc, nodes) {
-        Ok(sample) => Err(refusal(alloc, tables, sample)),
-        Err(_) => Err(CheckFault::NoMemory),
-    }
+    Err(refused(alloc, tables, nodes))
 }
 
 /// The tables, if no tree blocks the parser or makes it turn for ever, whatever its questions answer; or
@@ -131,6 +154,8 @@ pub fn check(alloc: Global, tables: Tables) -> Result<Checked, (Tables, CheckFau
     ensures back { IfErr result (λ e. e.0 ≡ tables) }
     // The sample of a refusal is a typed statement whose parse blocks, or loops, with its own answers.
     ensures real { IfErr result (λ e. FaultIsReal tables.content e.1) }
+    // `CheckFull` comes exactly where there are more than 4,000,000 tuples, before any other fault but memory.
+    ensures full { IfErr result (λ e. FullIsFirst (automaton_of tables) e.1) }
 {
     match verdict(alloc, &tables) {
         Ok(tuples) => Ok(Checked { tables, tuples }),

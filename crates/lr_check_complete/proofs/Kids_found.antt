@@ -1,0 +1,77 @@
+-- Kids that were found, as items.
+use Rattle.std.proofs.Common.{◌≡◌, ℕ, List, [], ◌∷◌, ◌++◌, Option, Some, Contains, slice_get, refl, sym, ap, ◌∙◌, subst}
+use Rattle.std.specs.Prelude.{slice_index_or}
+use Rattle.tree_core.specs.declared.token.Tok.{Tok}
+use Rattle.tree_core.specs.declared.token.Sort.{Sort}
+use Rattle.md_reader.specs.declared.types.Sym.{Sym}
+use Rattle.md_reader.specs.declared.types.Sym.TheVariants as symbol
+use Rattle.lr_check_sets.specs.Trees.{May}
+use Rattle.lr_check_sets.specs.Automaton.{Automaton, walk}
+use Rattle.lr_check_sets.specs.Sums as sets
+use Rattle.lr_check_found.specs.declared.places.Place.{Place}
+use Rattle.lr_check_found.specs.declared.places.Origin.TheVariants as origin
+use Rattle.lr_check_found.specs.declared.settlings.Settling.{Settling}
+use Rattle.lr_check_found.specs.declared.settlings.How.TheVariants as how
+use Rattle.lr_check_found.specs.Lists.{IsList}
+use Rattle.lr_check_found.specs.Found.{FoundView, place_of, IsPlaceAt, SumAt, Settles}
+use Rattle.lr_check_found.specs.Items.{HasOne, Begun, Made, HasMade}
+use Rattle.lr_check_found.specs.Sound.{IsSoundSettling, IsFound}
+use Rattle.lr_check_found.specs.Adding.{list_number, number_in}
+use Rattle.lr_check_found.proofs.Reading.{Some-same}
+use Rattle.lr_check_complete.specs.Kids.{OneKid, OneIn, OnlyAt}
+
+-- a place has one number
+pub one_place : (A : Automaton) (f : FoundView) (n m : ℕ) (x : Place) → IsFound A f → IsPlaceAt f n x → IsPlaceAt f m x → n ≡ m
+one_place A f n m x found a b = Some-same n m (sym (found.numbered n x a) ∙ found.numbered m x b)
+
+-- a sum leads to a state
+leads : (A : Automaton) (q : ℕ) (k t : Tok) (s : List Sym) → sets.Sum A q k t s → (p : ℕ) × (walk A q s ≡ Some p)
+leads A q k t s (sets.sum {p = p} c set ws f o) = (p, ws)
+
+-- a sum that is held at a place
+pub record HeldSum (f : FoundView) (i : ℕ) (y : Place) : Type 0 where
+  pub list : List Sym
+  pub behind : ℕ
+  pub sum : SumAt f i y list behind
+
+pub held_sum : (A : Automaton) (f : FoundView) (n i : ℕ) (y : Place) → IsFound A f → IsPlaceAt f n y → Contains (slice_index_or f.sums n []) i → HeldSum f i y
+held_sum A f n i y found at c =
+    let h = found.sums n i c in
+    let e : IsSoundSettling A f i h.entry = found.settlings i h.entry h.there in
+    let place : IsPlaceAt f h.entry.place y = subst (λ k. IsPlaceAt f k y) (sym h.place) at in
+    let l = leads A e.place.state e.place.token e.place.behind e.list (e.sum h.is_sum) in
+    record {
+      list = e.list;
+      behind = l.0;
+      sum = record { entry = h.entry; there = h.there; place = place; list = e.symbols; behind = e.behind ∙ l.1; is_sum = h.is_sum };
+    }
+
+-- a sum of a place is held there
+pub sum_held : (A : Automaton) (f : FoundView) (n i j : ℕ) (y : Place) (s : List Sym) → IsFound A f → IsPlaceAt f n y → SumAt f i y s j → Contains (slice_index_or f.sums n []) i
+sum_held A f n i j y s found at h =
+    subst (λ k. Contains (slice_index_or f.sums k []) i) (one_place A f h.entry.place n y found h.place at) (found.all_sums i h.entry h.there h.is_sum)
+
+-- the list of a sum
+pub list_is : (f : FoundView) (i j : ℕ) (y : Place) (s : List Sym) → SumAt f i y s j → IsList f.lists (list_number f i) s
+list_is f i j y s h = ap (λ (o : Option Settling). slice_get f.lists.all (number_in o)) h.there ∙ h.list
+
+-- ---- one kid
+
+pub one_made : (A : Automaton) (f : FoundView) (n i : ℕ) (x y : Place) → OneKid A f n x y → HeldSum f i y → HasMade A f n (how.One i)
+one_made A f n i x y kid h = record { place = x; list = h.list ++ (symbol.Tok x.token ∷ []); there = kid.there; made = Made.one kid.one h.sum kid.fits }
+
+pub only_begun : (A : Automaton) (f : FoundView) (n : ℕ) (x y : Place) → OneKid A f n x y → Begun A f y (origin.First n)
+only_begun A f n x y kid = Begun.only kid.there kid.one kid.fits
+
+pub one_in : (A : Automaton) (f : FoundView) (n i : ℕ) (k : Tok) → IsFound A f →
+    ((u l : List Sym) → IsList f.lists (list_number f i) u → IsList f.lists 0 l → Settles f n (u ++ (l ++ (symbol.Tok k ∷ [])))) → OneIn f n k i
+one_in A f n i k found h = record { settles = λ y s j sum. h s [] (list_is f i j y s sum) found.lists.first }
+
+pub only_at : (A : Automaton) (f : FoundView) (n m : ℕ) (k : Tok) (y : Place) → IsFound A f → IsPlaceAt f m y → ((i : ℕ) → Contains (slice_index_or f.sums m []) i → OneIn f n k i) → OnlyAt f n k y
+only_at A f n m k y found at each = record {
+  place = record { number = m; at = at };
+  sums = λ s h. (each h.number (sum_held A f m h.number h.behind y s found at h.sum)).settles y s h.behind h.sum;
+}
+
+pub one_kid : (A : Automaton) (f : FoundView) (n p : ℕ) (x : Place) (t : Tok) (w : Sort) → IsPlaceAt f n x → HasOne A x w p → May t w → OneKid A f n x (place_of p t x.behind)
+one_kid A f n p x t w there one may = record { there = there; sort = w; behind = p; one = one; fits = record { state = refl; may = may; behind = refl } }

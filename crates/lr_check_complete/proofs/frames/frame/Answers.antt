@@ -1,0 +1,20 @@
+use Rattle.std.proofs.Common.{ℕ, List, Contains, sym, ◌∙◌, subst}
+use Rattle.lr_check_sets.specs.Table.{automaton_of}
+use Rattle.lr_check_complete.proofs.Turns.{on_ok, looks_map, looks_there}
+use Rattle.lr_check_complete.proofs.Framing.{frame_in}
+use Rattle.lr_check_found.proofs.Reading.{none_some}
+use Rattle.lr_check_complete.proofs.frames.frame.Goals as goal
+
+pub returns-in-None : goal.returns-in-None
+returns-in-None c = looks_there (automaton_of c.args.tables.now) c.args.found.now c.args.window _ _ (record { each = λ p n b go at. absurd (none_some p (sym c.in-None.is ∙ (c.over.ensures ∙ go))) })
+
+pub returns : goal.returns
+returns c = on_ok _ _ _
+    (looks_map (automaton_of c.args.tables.now) c.args.found.now c.args.window _ _ _ _
+    (frame_in (automaton_of c.args.tables.now) c.args.found.now c.args.state c.in-Some.over c.args.token c.deref.result.now (sym c.over.ensures ∙ c.in-Some.is)
+    (λ n b at. subst (λ (l : List ℕ). Contains l n) (sym c.deref.ensures.value) (c.in_ok-numbers.ensures.all (automaton_of c.args.tables.now) n b c.requires at))))
+    (c.all_kids.ensures (automaton_of c.args.tables.now) c.args.state c.requires (record {
+      go = sym c.over.ensures ∙ c.in-Some.is;
+      places = λ n m. c.in_ok-numbers.ensures.places n (subst (λ (l : List ℕ). Contains l n) c.deref.ensures.value m);
+      all = λ n b at. subst (λ (l : List ℕ). Contains l n) (sym c.deref.ensures.value) (c.in_ok-numbers.ensures.all (automaton_of c.args.tables.now) n b c.requires at);
+    }))

@@ -1,0 +1,15 @@
+use Rattle.lr_check_sets.specs.Trees.{May}
+use Rattle.lr_check_sets.specs.Automaton.{Automaton}
+use Rattle.lr_check_found.specs.Found.{place_of, IsPlaceAt}
+use Rattle.lr_check_found.specs.Sound.{IsFound}
+use Rattle.lr_check_found.specs.Items.{HasOne}
+use Rattle.lr_check_found.proofs.Below.{Below}
+use Rattle.lr_check_complete.specs.Looks.{Looks}
+use Rattle.lr_check_complete.specs.Kids.{OnlyAt}
+use Rattle.lr_check_complete.proofs.kids.only.Given as goal
+
+abbrev pub invariant-loop-token : goal.invariant-loop-token
+invariant-loop-token l =
+    (A : Automaton) → IsFound A l.found → IsPlaceAt l.found l.number l.place → HasOne A l.place l.wanted l.over →
+    Looks A l.found l.window l.fn.into.items l.into.items
+    (Below l.token-items l.token-index (λ t. May t l.wanted → OnlyAt l.found l.number l.place.token (place_of l.over t l.place.behind)))

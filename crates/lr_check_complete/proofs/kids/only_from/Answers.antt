@@ -1,0 +1,9 @@
+use Rattle.std.proofs.Common.{sym, ◌∙◌, true≢false}
+use Rattle.lr_check_complete.proofs.Turns.{on_ok, looks_map, looks_there}
+use Rattle.lr_check_complete.proofs.kids.only_from.Goals as goal
+
+pub returns-then-not-may : goal.returns-then-not-may
+returns-then-not-may c = λ A x found kid. looks_there A c.args.found.now c.args.window _ _ (λ m. absurd (true≢false (sym m ∙ (sym c.may.ensures ∙ c.if-not-may.true))))
+
+pub returns : goal.returns
+returns c = λ A x found kid. on_ok _ _ _ (looks_map A c.args.found.now c.args.window _ _ _ _ (λ g m. g)) (c.only_at.ensures A x found (kid (sym c.may.ensures ∙ c.if-not-may.false)))

@@ -1,0 +1,19 @@
+use Rattle.std.proofs.Common.{ℕ, ◌<◌, length}
+use Rattle.lr_check_sets.specs.Closed.{IsClosed}
+use Rattle.lr_check_sets.specs.Table.{automaton_of}
+use Rattle.lr_check_complete.specs.Sets.{HasPlace, HasSettling, HasSum}
+use Rattle.lr_check_complete.specs.Kids.{ReducesIn}
+use Rattle.lr_check_complete.proofs.Turns.{on_ok, looks_both}
+use Rattle.lr_check_complete.proofs.Complete_sets.{closed}
+use Rattle.lr_check_complete.proofs.lacking.push_lacking.Goals as goal
+
+pub returns : goal.returns
+returns c =
+    let A = automaton_of c.args.tables.now in
+    let f = c.args.found.now in
+    let Reduces : Type 0 = (i : ℕ) → i < length f.settlings → ReducesIn A f i in
+    let Closed : Type 0 = IsClosed A (HasPlace f) (HasSettling f) (HasSum f) in
+    on_ok _ _ _
+    (looks_both A f c.args.window _ _ _ (Reduces → Closed) Reduces Closed (λ g h. g h)
+    (looks_both A f c.args.window _ _ _ _ _ (Reduces → Closed) (λ a b d. closed c.args.tables.now f c.requires a b d) (c.in_ok-starts.ensures A c.args.window) c.in_ok-frames.ensures))
+    c.all_reductions.ensures

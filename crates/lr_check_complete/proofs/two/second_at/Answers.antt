@@ -1,0 +1,18 @@
+use Rattle.std.proofs.Common.{ℕ, List, Contains, subst}
+use Rattle.lr_check_found.specs.declared.settlings.Item.TheVariants as item
+use Rattle.lr_check_found.specs.declared.places.Origin.TheVariants as origin
+use Rattle.lr_check_complete.proofs.Turns.{on_ok, looks_map, looks_pushed}
+use Rattle.lr_check_complete.proofs.Kids_found.{held_sum}
+use Rattle.lr_check_complete.proofs.Both.{two_made, second_found, second_begun}
+use Rattle.lr_check_complete.proofs.two.second_at.Goals as goal
+
+pub returns-in-Some : goal.returns-in-Some
+returns-in-Some c = λ A x found kid. on_ok _ _ _
+    (looks_map A c.args.found.now c.args.window _ _ _ _
+    (second_found A c.args.found.now c.args.number c.in-Some.place c.args.first c.args.token c.args.kid _ found c.in-Some.ensures.there c.sums.ensures))
+    (c.second_sums.ensures A (λ i m. two_made A c.args.found.now c.args.number c.args.first i x c.args.kid kid
+    (held_sum A c.args.found.now c.in-Some.place i c.args.kid found c.in-Some.ensures.there (subst (λ (l : List ℕ). Contains l i) c.sums.ensures m))))
+
+pub returns-in_ok-push-in-None : goal.returns-in_ok-push-in-None
+returns-in_ok-push-in-None c = λ A x found kid. looks_pushed A c.args.found.now c.args.window _ _ (item.Place c.args.kid (origin.Second c.args.number c.args.first)) _
+    (second_begun A c.args.found.now c.args.number c.args.first x c.args.kid kid) c.in_ok-push-in-None.ensures.items

@@ -1,0 +1,5 @@
+pub mod Sets
+pub mod Looks
+pub mod Kids
+pub mod Firsts
+pub mod Seconds
