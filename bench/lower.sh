@@ -21,6 +21,30 @@ if [ -n "$reference" ] && [ -f "$reference/Cargo.toml" ]; then
     sed -i 's/^ *TK::Call(c, args, tys) => self.call(\*c, args, tys),$/&\
             TK::Un(_, a) | TK::Cast(a) => self.drop(a),\
             TK::Bin(op, a, b) if rel(*op, false).is_some() => { self.drop(a); self.drop(b); }/' "$work/plain/src/lower.rs"
+    # Its loops have their tests in front; here those that are not constants stand behind the body.
+    sed -i 's/^fn constant(/pub fn constant(/' "$work/plain/src/typed.rs"
+    sed -i '/^ *TS::While(c, b) => {$/i\
+            TS::While(c, b) if !crate::typed::constant(c) => {\
+                let (top, cont, end) = (self.new_label(), self.new_label(), self.new_label());\
+                self.jump_to(cont);\
+                self.place_label(top);\
+                self.body(b, end, cont);\
+                self.place_label(cont);\
+                self.full(|s| s.branch(c, top, true));\
+                self.place_label(end);\
+            }\
+            TS::For(a, Some(b), c, d) if !crate::typed::constant(b) => {\
+                let (top, cont, end, test) = (self.new_label(), self.new_label(), self.new_label(), self.new_label());\
+                if let Some(a) = a { self.full(|s| s.drop(a)); }\
+                self.jump_to(test);\
+                self.place_label(top);\
+                self.body(d, end, cont);\
+                self.place_label(cont);\
+                if let Some(c) = c { self.full(|s| s.drop(c)); }\
+                self.place_label(test);\
+                self.full(|s| s.branch(b, top, true));\
+                self.place_label(end);\
+            }' "$work/plain/src/lower.rs"
     RUSTFLAGS=-Awarnings cargo build --quiet --release --manifest-path "$work/plain/Cargo.toml" --target-dir "$work/target"
     plain=$(find "$work/target/release" -maxdepth 1 -type f -perm -u+x | head -n 1)
 else

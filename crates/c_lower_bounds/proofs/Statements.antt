@@ -1,14 +1,15 @@
 -- How many temporaries and forks each statement has, by the nodes of its largest full expression.
 use Rattle.std.proofs.Common.{ℕ, suc, ◌+◌, ◌≤◌, List, [], ◌∷◌, arith}
 use Rattle.std.specs.Prelude.{Bool, true, false, Option, Some, None}
+use Rattle.c_types.specs.Constants.{constant_of}
 use Rattle.c_types.specs.Typed.{AnExpression}
 use Rattle.c_program.specs.Statements.{ADeclaration, KeepOf, ClearOf, BeginOf, AnAction, SomeActions, NoActions, MoreActions, DeclareOf, BlockOf, EvaluateOf, BreakOf, ContinueOf}
 use Rattle.c_program.specs.Statements.{ReturnOf, IfOf, IfElseOf, WhileOf, DoOf, ForOf}
 use Rattle.c_program.specs.Need.{nodes, maybe_nodes, returned_nodes, declared_nodes, largest, largest_of}
 use Rattle.c_lower_scheme.specs.Trees.{Num, Item, AssignLoc, Jump, Ret}
 use Rattle.c_lower_scheme.specs.Expressions.{Lowered, Emitted, nothing, way}
-use Rattle.c_lower_scheme.specs.Statements.{mentions, two_done, ret_of, clearing, begin_of, if_done, if_else_done, while_done, do_done, for_done, ever_done, unless, when, effect}
-use Rattle.c_lower_scheme.specs.Statements.{returning, declare, for_of, lower, lower_row}
+use Rattle.c_lower_scheme.specs.Statements.{mentions, two_done, ret_of, clearing, begin_of, if_done, if_else_done, loop_done, while_done, turns_done, for_done, ever_done, unless, when, effect}
+use Rattle.c_lower_scheme.specs.Statements.{returning, declare, while_by, for_tested, for_of, lower, lower_row}
 use Rattle.c_lower_bounds.proofs.Trees.{item_forks, Narrow, none, next, behind}
 use Rattle.c_lower_bounds.proofs.Values.{Within, Ends}
 use Rattle.c_lower_bounds.proofs.Phrases.{way_bounded}
@@ -55,10 +56,18 @@ while_holds l h g = record {
   items = next (omega arith) (behind h.items (behind g.items (next (omega arith) (next (omega arith) none))));
 }
 
-do_holds : (l : ℕ) {size m : ℕ} {a p : Emitted} → Holds size m a → Holds size m p → Holds size m (do_done l a p)
-do_holds l g h = record {
+loop_holds : (to l : ℕ) {size m : ℕ} {a p : Emitted} → Holds size m a → Holds size m p → Holds size m (loop_done to l a p)
+loop_holds to l g h = record {
   temps = omega (arith, h.temps, g.temps);
   items = next (omega arith) (next (omega arith) (behind g.items (next (omega arith) (behind h.items (next (omega arith) none)))));
+}
+
+turns_hold : (l : ℕ) {size m : ℕ} {a s p : Emitted} → Holds size m a → Holds size m s → Holds size m p → Holds size m (turns_done l a s p)
+turns_hold l g f h = record {
+  temps = omega (arith, h.temps, g.temps, f.temps);
+  items =
+      let last = behind f.items (next (omega arith) (behind h.items (next (omega arith) none))) in
+      next (omega arith) (next (omega arith) (behind g.items (next (omega arith) last)));
 }
 
 for_holds : (l : ℕ) {size m : ℕ} {p a s : Emitted} → Holds size m p → Holds size m a → Holds size m s → Holds size m (for_done l p a s)
@@ -110,16 +119,33 @@ module _ (size count m : ℕ) (one : 1 ≤ m) where
       let first = begin_holds (mentions n e) n one (omega arith) ((way_bounded size count e).low size l) in
       two_hold first (declare_holds ds (omega arith) p.labels)
 
-  -- the parts of a `for` behind its first
-  turns_hold : (l : ℕ) (c e : Option AnExpression) (f : ℕ → Emitted) → maybe_nodes c ≤ m → maybe_nodes e ≤ m → ((k : ℕ) → Holds size m (f k))
-      → Holds size m (for_of size count l c e f)
-  turns_hold l None e f lc le h =
-      let a : Emitted = f (suc (suc (suc l))) in
-      ever_holds l (h (suc (suc (suc l)))) (effect_holds e le a.labels)
-  turns_hold l (Some c) e f lc le h =
+  while_by_holds : (o : Option ℕ) (l : ℕ) (c : AnExpression) (f : ℕ → ℕ → ℕ → Emitted) → nodes c ≤ m → ((lb lc k : ℕ) → Holds size m (f lb lc k))
+      → Holds size m (while_by size count o c f l)
+  while_by_holds (Some v) l c f le h =
+      let p : Emitted = unless size count c (suc l) (suc (suc l)) in
+      while_holds l (unless_holds c le (suc l) (suc (suc l))) (h (suc l) l p.labels)
+  while_by_holds None l c f le h =
+      let q : Emitted = f (suc (suc l)) (suc l) (suc (suc (suc l))) in
+      loop_holds (suc l) l (h (suc (suc l)) (suc l) (suc (suc (suc l)))) (when_holds c le l q.labels)
+
+  tested_holds : (o : Option ℕ) (l : ℕ) (c : AnExpression) (e : Option AnExpression) (f : ℕ → Emitted) → nodes c ≤ m → maybe_nodes e ≤ m → ((k : ℕ) → Holds size m (f k))
+      → Holds size m (for_tested size count o l c e f)
+  tested_holds (Some v) l c e f lc le h =
       let p : Emitted = unless size count c (suc (suc l)) (suc (suc (suc l))) in
       let a : Emitted = f p.labels in
       for_holds l (unless_holds c lc (suc (suc l)) (suc (suc (suc l)))) (h p.labels) (effect_holds e le a.labels)
+  tested_holds None l c e f lc le h =
+      let a : Emitted = f (suc (suc (suc (suc l)))) in
+      let s : Emitted = effect size count e a.labels in
+      turns_hold l (h (suc (suc (suc (suc l))))) (effect_holds e le a.labels) (when_holds c lc l s.labels)
+
+  -- the parts of a `for` behind its first
+  rest_holds : (l : ℕ) (c e : Option AnExpression) (f : ℕ → Emitted) → maybe_nodes c ≤ m → maybe_nodes e ≤ m → ((k : ℕ) → Holds size m (f k))
+      → Holds size m (for_of size count l c e f)
+  rest_holds l None e f lc le h =
+      let a : Emitted = f (suc (suc (suc l))) in
+      ever_holds l (h (suc (suc (suc l)))) (effect_holds e le a.labels)
+  rest_holds l (Some c) e f lc le h = tested_holds (constant_of c) l c e f lc le h
 
   mutual
     pub lower_holds : (a : AnAction) → largest a ≤ m → (lb lc l : ℕ) → Holds size m (lower size count a lb lc l)
@@ -138,17 +164,17 @@ module _ (size count m : ℕ) (one : 1 ≤ m) where
         let test = unless_holds c (omega arith) l (suc (suc l)) in
         if_else_holds l test (lower_holds a (omega arith) lb lc p.labels) (lower_holds b (omega arith) lb lc q.labels)
     lower_holds (WhileOf c a) le lb lc l =
-        let p : Emitted = unless size count c (suc l) (suc (suc l)) in
-        while_holds l (unless_holds c (omega arith) (suc l) (suc (suc l))) (lower_holds a (omega arith) (suc l) l p.labels)
+        let turns : (x y k : ℕ) → Holds size m (lower size count a x y k) = lower_holds a (omega arith) in
+        while_by_holds (constant_of c) l c (lower size count a) (omega arith) turns
     lower_holds (DoOf a c) le lb lc l =
         let q : Emitted = lower size count a (suc (suc l)) (suc l) (suc (suc (suc l))) in
-        do_holds l (lower_holds a (omega arith) (suc (suc l)) (suc l) (suc (suc (suc l)))) (when_holds c (omega arith) l q.labels)
+        loop_holds l l (lower_holds a (omega arith) (suc (suc l)) (suc l) (suc (suc (suc l)))) (when_holds c (omega arith) l q.labels)
     lower_holds (ForOf i c e a) le lb lc l =
         let p : Emitted = effect size count i l in
         let k : ℕ = p.labels in
         let body : ℕ → Emitted = lower size count a (suc (suc k)) (suc k) in
         let turns : (n : ℕ) → Holds size m (body n) = lower_holds a (omega arith) (suc (suc k)) (suc k) in
-        two_hold (effect_holds i (omega arith) l) (turns_hold k c e body (omega arith) (omega arith) turns)
+        two_hold (effect_holds i (omega arith) l) (rest_holds k c e body (omega arith) (omega arith) turns)
 
     pub row_holds : (row : SomeActions) → largest_of row ≤ m → (lb lc l : ℕ) → Holds size m (lower_row size count row lb lc l)
     row_holds NoActions le lb lc l = nothing_holds l

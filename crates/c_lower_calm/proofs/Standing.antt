@@ -3,12 +3,13 @@ use Rattle.std.proofs.Common.{◌≡◌, ℕ, zero, suc, List, [], ◌∷◌, �
 use Rattle.std.specs.Prelude.{slice_get}
 use Rattle.tree_core.specs.declared.program.TreeItem.{TreeItem}
 use Rattle.tree_core.specs.declared.program.TreeFn.{TreeFn}
+use Rattle.c_types.specs.Constants.{constant_of}
 use Rattle.c_types.specs.Typed.{AnExpression}
 use Rattle.c_program.specs.Statements.{AnAction, SomeActions, NoActions, MoreActions, DeclareOf, BlockOf, EvaluateOf, BreakOf, ContinueOf, ReturnOf, IfOf, IfElseOf, WhileOf, DoOf, ForOf}
 use Rattle.c_program.specs.Programs.{ARoutine}
 use Rattle.c_lower_scheme.specs.Trees.{Item, Num, Label, Jump, Ret}
 use Rattle.c_lower_scheme.specs.Expressions.{Emitted}
-use Rattle.c_lower_scheme.specs.Statements.{unless, effect, for_of, lower, lower_row}
+use Rattle.c_lower_scheme.specs.Statements.{unless, effect, while_by, for_tested, for_of, lower, lower_row}
 use Rattle.c_lower_scheme.specs.Spelling.{spelled, spelled_all}
 use Rattle.c_lower_scheme.specs.Programs.{body_of, items_of, function_of, lower_all}
 use Rattle.c_lower_calm.specs.Claim.{SpellsCalm, simple, simple_of, IsPlainOne, Returns, Stores, HaveItems, Ended, Next, PlainStatementsAreOneTree}
@@ -85,16 +86,35 @@ module _ (size count : ℕ) where
   never_one _ never items _ (Returns e plain) calm = absurd never
   never_one _ never items _ (Stores p e place plain) calm = absurd never
 
+  -- a `while` by its body's items
+  while_stands : (o : Option ℕ) (c : AnExpression) (a : AnAction) (l : ℕ) (acts : List AnAction) →
+      ((lb lc k : ℕ) → Onto (lower size count a lb lc k).items (simple a) acts) → Onto (while_by size count o c (lower size count a) l).items (simple a) acts
+  while_stands (Some v) c a l acts body =
+      let p = unless size count c (suc l) (suc (suc l)) in
+      second (Label l ∷ []) _ (simple a) acts
+      (second p.items _ (simple a) acts (first (lower size count a (suc l) l p.labels).items _ (simple a) acts (body (suc l) l p.labels)))
+  while_stands None c a l acts body =
+      second (Jump (suc l) ∷ Label l ∷ []) _ (simple a) acts
+      (first (lower size count a (suc (suc l)) (suc l) (suc (suc (suc l)))).items _ (simple a) acts (body (suc (suc l)) (suc l) (suc (suc (suc l)))))
+
   -- a `for` behind its first part, by its body's items
+  tested_stands : (o : Option ℕ) (c : AnExpression) (e : Option AnExpression) (a : AnAction) (m : ℕ) (acts : List AnAction) →
+      ((l : ℕ) → Onto (lower size count a (suc (suc m)) (suc m) l).items (simple a) acts) →
+      Onto (for_tested size count o m c e (lower size count a (suc (suc m)) (suc m))).items (simple a) acts
+  tested_stands (Some v) c e a m acts body =
+      let p = unless size count c (suc (suc m)) (suc (suc (suc m))) in
+      second (Label m ∷ []) _ (simple a) acts
+      (second p.items _ (simple a) acts (first (lower size count a (suc (suc m)) (suc m) p.labels).items _ (simple a) acts (body p.labels)))
+  tested_stands None c e a m acts body =
+      second (Jump (suc (suc (suc m))) ∷ Label m ∷ []) _ (simple a) acts
+      (first (lower size count a (suc (suc m)) (suc m) (suc (suc (suc (suc m))))).items _ (simple a) acts (body (suc (suc (suc (suc m))))))
+
   for_stands : (c e : Option AnExpression) (a : AnAction) (m : ℕ) (acts : List AnAction) →
       ((l : ℕ) → Onto (lower size count a (suc (suc m)) (suc m) l).items (simple a) acts) → Onto (for_items c e a m) (simple a) acts
   for_stands None e a m acts body =
       second (Jump m ∷ Label m ∷ []) _ (simple a) acts
       (first (lower size count a (suc (suc m)) (suc m) (suc (suc (suc m)))).items _ (simple a) acts (body (suc (suc (suc m)))))
-  for_stands (Some c) e a m acts body =
-      let p = unless size count c (suc (suc m)) (suc (suc (suc m))) in
-      second (Label m ∷ []) _ (simple a) acts
-      (second p.items _ (simple a) acts (first (lower size count a (suc (suc m)) (suc m) p.labels).items _ (simple a) acts (body p.labels)))
+  for_stands (Some c) e a m acts body = tested_stands (constant_of c) c e a m acts body
 
   mutual
     act_stands : (a : AnAction) (lb lc l : ℕ) (acts : List AnAction) → Onto (lower size count a lb lc l).items (simple a) acts
@@ -115,10 +135,7 @@ module _ (size count : ℕ) where
         second p.items _ (simple a ++ simple b) acts
         (joined x.items _ (simple a) (simple b) acts (act_stands a lb lc p.labels (simple b ++ acts))
         (second (Jump (suc l) ∷ Label l ∷ []) _ (simple b) acts (first y.items _ (simple b) acts (act_stands b lb lc x.labels acts))))
-    act_stands (WhileOf c a) lb lc l acts =
-        let p = unless size count c (suc l) (suc (suc l)) in
-        second (Label l ∷ []) _ (simple a) acts
-        (second p.items _ (simple a) acts (first (lower size count a (suc l) l p.labels).items _ (simple a) acts (act_stands a (suc l) l p.labels acts)))
+    act_stands (WhileOf c a) lb lc l acts = while_stands (constant_of c) c a l acts (λ x y k. act_stands a x y k acts)
     act_stands (DoOf a c) lb lc l acts =
         let x = lower size count a (suc (suc l)) (suc l) (suc (suc (suc l))) in
         second (Jump l ∷ Label l ∷ []) _ (simple a) acts

@@ -1,11 +1,12 @@
 -- That each statement is lowered to calm items.
 use Rattle.std.proofs.Common.{ℕ, suc, List, [], ◌∷◌}
 use Rattle.std.specs.Prelude.{Bool, true, false, Option, Some, None}
+use Rattle.c_types.specs.Constants.{constant_of}
 use Rattle.c_types.specs.Typed.{AnExpression}
 use Rattle.c_program.specs.Statements.{ADeclaration, KeepOf, ClearOf, BeginOf, AnAction, SomeActions, NoActions, MoreActions, DeclareOf, BlockOf, EvaluateOf, BreakOf, ContinueOf}
 use Rattle.c_program.specs.Statements.{ReturnOf, IfOf, IfElseOf, WhileOf, DoOf, ForOf}
 use Rattle.c_lower_scheme.specs.Expressions.{Lowered, Emitted, way}
-use Rattle.c_lower_scheme.specs.Statements.{mentions, clearing, unless, effect, returning, declare, for_of, lower, lower_row}
+use Rattle.c_lower_scheme.specs.Statements.{mentions, clearing, unless, effect, returning, declare, while_by, for_tested, for_of, lower, lower_row}
 use Rattle.c_lower_calm.proofs.Trees.{AreCalm, none, next, behind}
 use Rattle.c_lower_calm.proofs.Phrases.{way_calm}
 
@@ -31,15 +32,34 @@ module _ (size count : ℕ) where
       let h = (way_calm size count e).low size l in
       behind (behind (calm_clearing (mentions n e) n) (behind h.items (next h.tree none))) (declare_calm ds p.labels)
 
-  turns_calm : (l : ℕ) (c e : Option AnExpression) (f : ℕ → Emitted) → ((k : ℕ) → AreCalm (f k).items) → AreCalm (for_of size count l c e f).items
-  turns_calm l None e f h =
-      let a : Emitted = f (suc (suc (suc l))) in
-      next tt (next tt (behind (h (suc (suc (suc l)))) (next tt (behind (effect_calm e a.labels) (next tt (next tt none))))))
-  turns_calm l (Some c) e f h =
+  while_by_calm : (o : Option ℕ) (l : ℕ) (c : AnExpression) (f : ℕ → ℕ → ℕ → Emitted) → ((lb lc k : ℕ) → AreCalm (f lb lc k).items)
+      → AreCalm (while_by size count o c f l).items
+  while_by_calm (Some v) l c f h =
+      let p : Emitted = unless size count c (suc l) (suc (suc l)) in
+      next tt (behind ((way_calm size count c).branch false (suc l) size (suc (suc l))) (behind (h (suc l) l p.labels) (next tt (next tt none))))
+  while_by_calm None l c f h =
+      let q : Emitted = f (suc (suc l)) (suc l) (suc (suc (suc l))) in
+      let last = next tt (behind ((way_calm size count c).branch true l size q.labels) (next tt none)) in
+      next tt (next tt (behind (h (suc (suc l)) (suc l) (suc (suc (suc l)))) last))
+
+  tested_calm : (o : Option ℕ) (l : ℕ) (c : AnExpression) (e : Option AnExpression) (f : ℕ → Emitted) → ((k : ℕ) → AreCalm (f k).items)
+      → AreCalm (for_tested size count o l c e f).items
+  tested_calm (Some v) l c e f h =
       let p : Emitted = unless size count c (suc (suc l)) (suc (suc (suc l))) in
       let a : Emitted = f p.labels in
       let test = (way_calm size count c).branch false (suc (suc l)) size (suc (suc (suc l))) in
       next tt (behind test (behind (h p.labels) (next tt (behind (effect_calm e a.labels) (next tt (next tt none))))))
+  tested_calm None l c e f h =
+      let a : Emitted = f (suc (suc (suc (suc l)))) in
+      let s : Emitted = effect size count e a.labels in
+      let last = next tt (behind ((way_calm size count c).branch true l size s.labels) (next tt none)) in
+      next tt (next tt (behind (h (suc (suc (suc (suc l))))) (next tt (behind (effect_calm e a.labels) last))))
+
+  turns_calm : (l : ℕ) (c e : Option AnExpression) (f : ℕ → Emitted) → ((k : ℕ) → AreCalm (f k).items) → AreCalm (for_of size count l c e f).items
+  turns_calm l None e f h =
+      let a : Emitted = f (suc (suc (suc l))) in
+      next tt (next tt (behind (h (suc (suc (suc l)))) (next tt (behind (effect_calm e a.labels) (next tt (next tt none))))))
+  turns_calm l (Some c) e f h = tested_calm (constant_of c) l c e f h
 
   mutual
     lower_calm : (a : AnAction) (lb lc l : ℕ) → AreCalm (lower size count a lb lc l).items
@@ -57,9 +77,7 @@ module _ (size count : ℕ) where
         let q : Emitted = lower size count a lb lc p.labels in
         let last = next tt (next tt (behind (lower_calm b lb lc q.labels) (next tt none))) in
         behind ((way_calm size count c).branch false l size (suc (suc l))) (behind (lower_calm a lb lc p.labels) last)
-    lower_calm (WhileOf c a) lb lc l =
-        let p : Emitted = unless size count c (suc l) (suc (suc l)) in
-        next tt (behind ((way_calm size count c).branch false (suc l) size (suc (suc l))) (behind (lower_calm a (suc l) l p.labels) (next tt (next tt none))))
+    lower_calm (WhileOf c a) lb lc l = while_by_calm (constant_of c) l c (lower size count a) (lower_calm a)
     lower_calm (DoOf a c) lb lc l =
         let q : Emitted = lower size count a (suc (suc l)) (suc l) (suc (suc (suc l))) in
         let last = next tt (behind ((way_calm size count c).branch true l size q.labels) (next tt none)) in

@@ -89,7 +89,34 @@ pub(crate) fn if_else_done(l: u32, p: Emitted, a: Emitted, b: Emitted) -> Result
     })
 }
 
-/// A `while`, whose test stands at the label l, and whose end is the next label.
+/// A loop whose test stands behind its body, from a jump on: the top is the label l, the test and `continue` the one behind l, and the end
+/// the one behind that.
+pub(crate) fn loop_done(
+    alloc: Global,
+    to: u32,
+    l: u32,
+    a: Emitted,
+    p: Emitted,
+) -> Result<Emitted, NoMemory>
+    ensures { IfOk result (λ r. done r ≡ statements.loop_done to l (done a) (done p)) }
+{
+    let onward = after(l)?;
+    let end = after(onward)?;
+    let mut items = Vec::new(alloc);
+    put(&mut items, Item::Jump(to))?;
+    put(&mut items, Item::Label(l))?;
+    put_all(&mut items, a.items)?;
+    put(&mut items, Item::Label(onward))?;
+    put_all(&mut items, p.items)?;
+    put(&mut items, Item::Label(end))?;
+    Ok(Emitted {
+        items,
+        temps: a.temps.max(p.temps),
+        labels: p.labels,
+    })
+}
+
+/// A `while` whose test stands in front, at the label l, and whose end is the next label.
 pub(crate) fn while_done(alloc: Global, l: u32, p: Emitted, a: Emitted) -> Result<Emitted, NoMemory>
     ensures { IfOk result (λ r. done r ≡ statements.while_done l (done p) (done a)) }
 {
@@ -107,27 +134,36 @@ pub(crate) fn while_done(alloc: Global, l: u32, p: Emitted, a: Emitted) -> Resul
     })
 }
 
-/// A `do`: `continue` goes to the label behind l, and the end is the one behind that.
-pub(crate) fn do_done(alloc: Global, l: u32, a: Emitted, p: Emitted) -> Result<Emitted, NoMemory>
-    ensures { IfOk result (λ r. done r ≡ statements.do_done l (done a) (done p)) }
+/// A `for` whose test stands behind its step: the top is the label l, then come the labels of `continue`, of the end and of the test.
+pub(crate) fn turns_done(
+    alloc: Global,
+    l: u32,
+    a: Emitted,
+    s: Emitted,
+    p: Emitted,
+) -> Result<Emitted, NoMemory>
+    ensures { IfOk result (λ r. done r ≡ statements.turns_done l (done a) (done s) (done p)) }
 {
     let onward = after(l)?;
     let end = after(onward)?;
+    let test = after(end)?;
     let mut items = Vec::new(alloc);
-    put(&mut items, Item::Jump(l))?;
+    put(&mut items, Item::Jump(test))?;
     put(&mut items, Item::Label(l))?;
     put_all(&mut items, a.items)?;
     put(&mut items, Item::Label(onward))?;
+    put_all(&mut items, s.items)?;
+    put(&mut items, Item::Label(test))?;
     put_all(&mut items, p.items)?;
     put(&mut items, Item::Label(end))?;
     Ok(Emitted {
         items,
-        temps: a.temps.max(p.temps),
+        temps: a.temps.max(s.temps.max(p.temps)),
         labels: p.labels,
     })
 }
 
-/// A `for` with a test.
+/// A `for` whose test stands in front.
 pub(crate) fn for_done(
     alloc: Global,
     l: u32,

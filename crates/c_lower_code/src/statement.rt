@@ -7,8 +7,8 @@ ghost use Rattle.c_lower_code.specs.Views.{done};
 
 use crate::expression::{branch, discard, value};
 use crate::flow::{
-    begin_of, do_done, ever_done, for_done, if_done, if_else_done, jump, ret_of, two_done,
-    while_done,
+    begin_of, ever_done, for_done, if_done, if_else_done, jump, loop_done, ret_of, turns_done,
+    two_done, while_done,
 };
 use crate::item::Item;
 use crate::mention::mentions;
@@ -16,6 +16,7 @@ use crate::part::{Emitted, Frame, after, nothing, put};
 use crate::tree::Tree;
 use c_program::{Action, Declaration};
 use c_types::Expression;
+use c_types::constant::constant;
 use gg_base::NoMemory;
 
 // A condition that falls through where it holds, and else goes to a label.
@@ -97,7 +98,7 @@ fn declare(frame: Frame, ds: &[Declaration], l: u32) -> Result<Emitted, NoMemory
     Ok(whole)
 }
 
-// The body and the step of a `for`, behind what is done first.
+// The test, the body and the step of a `for`, behind what is done first: a test stands in front where it is a constant.
 #[cycle(statement)]
 fn for_of(
     frame: Frame,
@@ -110,31 +111,49 @@ fn for_of(
 {
     let onward = after(l)?;
     let end = after(onward)?;
-    let inner = after(end)?;
+    let test = after(end)?;
     match c {
         None => {
-            let a = statement(frame, body, end, onward, inner)?;
+            let a = statement(frame, body, end, onward, test)?;
             let s = effect(frame, e, a.labels)?;
             ever_done(frame.alloc, l, a, s)
         }
-        Some(c) => {
-            let p = unless(frame, c, end, inner)?;
-            let a = statement(frame, body, end, onward, p.labels)?;
-            let s = effect(frame, e, a.labels)?;
-            for_done(frame.alloc, l, p, a, s)
-        }
+        Some(c) => match constant(c) {
+            Some(_) => {
+                let p = unless(frame, c, end, test)?;
+                let a = statement(frame, body, end, onward, p.labels)?;
+                let s = effect(frame, e, a.labels)?;
+                for_done(frame.alloc, l, p, a, s)
+            }
+            None => {
+                let a = statement(frame, body, end, onward, after(test)?)?;
+                let s = effect(frame, e, a.labels)?;
+                let p = when(frame, c, l, s.labels)?;
+                turns_done(frame.alloc, l, a, s, p)
+            }
+        },
     }
 }
 
-// A `while`.
+// A `while`: its test stands in front where it is a constant, and else behind the body.
 #[cycle(statement)]
 fn while_of(frame: Frame, body: &Action, c: &Expression, l: u32) -> Result<Emitted, NoMemory>
     ensures { IfOk result (λ r. done r ≡ statements.lower frame.locals frame.functions (WhileOf (term c.now) (act body.now)) 0 0 l) }
 {
-    let end = after(l)?;
-    let p = unless(frame, c, end, after(end)?)?;
-    let a = statement(frame, body, end, l, p.labels)?;
-    while_done(frame.alloc, l, p, a)
+    let onward = after(l)?;
+    let end = after(onward)?;
+    match constant(c) {
+        Some(_) => {
+            let p = unless(frame, c, onward, end)?;
+            let a = statement(frame, body, onward, l, p.labels)?;
+            while_done(frame.alloc, l, p, a)
+        }
+        None => {
+            let a = statement(frame, body, end, onward, after(end)?)?;
+            let p = when(frame, c, l, a.labels)?;
+            loop_done(frame.alloc, onward, l, a, p)
+        }
+    }
 }
 
 // A `do`.
@@ -146,7 +165,7 @@ fn do_of(frame: Frame, body: &Action, c: &Expression, l: u32) -> Result<Emitted,
     let end = after(onward)?;
     let a = statement(frame, body, end, onward, after(end)?)?;
     let p = when(frame, c, l, a.labels)?;
-    do_done(frame.alloc, l, a, p)
+    loop_done(frame.alloc, l, l, a, p)
 }
 
 // An `if` without an `else`.

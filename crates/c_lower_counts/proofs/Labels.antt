@@ -1,18 +1,56 @@
 -- Lowering takes at most three labels for each node, branch and loop.
 use Rattle.std.proofs.Common.{ℕ, suc, ◌+◌, ◌*◌, ◌≤◌, List, [], ◌∷◌, length, arith}
 use Rattle.std.specs.Prelude.{true, false, Option, Some, None}
-use Rattle.c_types.specs.Typed.{AnExpression}
-use Rattle.c_program.specs.Need.{nodes, maybe_nodes}
+use Rattle.c_types.specs.Constants.{constant_of}
+use Rattle.c_types.specs.Typed.{APlace, VariableAt, PointedBy, ElementBy, AnExpression, Constant, LiteralAt, ArrayAt, ReadOf, SizeofTerm, SizeOf, AddressOf, CallOf, StepOf}
+use Rattle.c_types.specs.Typed.{UnaryOf, CastTo, ConvertTo, ArithmeticOf, CompareOf, BothOf, EitherOf, AdvanceOf, AdvanceByOf, RetreatOf, DistanceOf, ChoiceOf, AssignTo}
+use Rattle.c_types.specs.Typed.{ArithmeticAssignTo, AdvanceAssignTo, RetreatAssignTo, CommaOf}
+use Rattle.c_program.specs.Need.{nodes, place_nodes, maybe_nodes}
 use Rattle.c_program.specs.Programs.{ARoutine}
 use Rattle.c_program.specs.Statements.{ADeclaration, KeepOf, ClearOf, BeginOf, AnAction, SomeActions, NoActions, MoreActions, DeclareOf, BlockOf, EvaluateOf, BreakOf, ContinueOf}
 use Rattle.c_program.specs.Statements.{ReturnOf, IfOf, IfElseOf, WhileOf, DoOf, ForOf}
 use Rattle.c_lower_scheme.specs.Expressions.{Lowered, Emitted, way}
-use Rattle.c_lower_scheme.specs.Statements.{unless, when, effect, returning, declare, for_of, lower, lower_row}
+use Rattle.c_lower_scheme.specs.Statements.{unless, when, effect, returning, declare, while_by, for_tested, for_of, lower, lower_row}
 use Rattle.c_lower_scheme.specs.Programs.{body_of}
 use Rattle.c_lower_spelled.specs.Claims.{labels_behind}
 use Rattle.c_lower_counts.specs.Sizes.{declared_size, act_size, row_size, routines_size}
 use Rattle.c_lower_counts.specs.Claims.{LabelsAreFew}
 use Rattle.c_lower_counts.proofs.Expressions.{way_takes}
+
+-- each expression has a node
+mutual
+  place_has_nodes : (p : APlace) → 1 ≤ place_nodes p
+  place_has_nodes (VariableAt t v) = omega arith
+  place_has_nodes (PointedBy t e) = omega arith
+  place_has_nodes (ElementBy t sum) = has_nodes sum
+
+  has_nodes : (e : AnExpression) → 1 ≤ nodes e
+  has_nodes (Constant n) = omega arith
+  has_nodes (LiteralAt object size) = omega arith
+  has_nodes (ArrayAt t v size) = omega arith
+  has_nodes (ReadOf p) = place_has_nodes p
+  has_nodes (SizeofTerm n e) = omega arith
+  has_nodes (SizeOf n) = omega arith
+  has_nodes (AddressOf t p) = omega arith
+  has_nodes (CallOf t f to es) = omega arith
+  has_nodes (StepOf m op p) = omega arith
+  has_nodes (UnaryOf op e) = omega arith
+  has_nodes (CastTo t e) = omega arith
+  has_nodes (ConvertTo t e) = has_nodes e
+  has_nodes (ArithmeticOf op l r) = omega arith
+  has_nodes (CompareOf rel l r) = omega arith
+  has_nodes (BothOf l r) = omega arith
+  has_nodes (EitherOf l r) = omega arith
+  has_nodes (AdvanceOf t l r) = omega arith
+  has_nodes (AdvanceByOf t l r) = omega arith
+  has_nodes (RetreatOf t l r) = omega arith
+  has_nodes (DistanceOf t l r) = omega arith
+  has_nodes (ChoiceOf t c l r) = omega arith
+  has_nodes (AssignTo p e) = omega arith
+  has_nodes (ArithmeticAssignTo op p e) = omega arith
+  has_nodes (AdvanceAssignTo p e) = omega arith
+  has_nodes (RetreatAssignTo p e) = omega arith
+  has_nodes (CommaOf t l r) = omega arith
 
 module _ (size count : ℕ) where
   unless_takes : (c : AnExpression) (to l : ℕ) → (unless size count c to l).labels ≤ l + 2 * nodes c
@@ -39,7 +77,39 @@ module _ (size count : ℕ) where
       let y = declare_takes ds p.labels in
       omega arith
 
-  -- the test, the body and the step of a `for`
+  -- a `while`, by its body
+  while_by_takes : (o : Option ℕ) (n l : ℕ) (c : AnExpression) (f : ℕ → ℕ → ℕ → Emitted) → ((lb lc k : ℕ) → (f lb lc k).labels ≤ k + 3 * n)
+      → (while_by size count o c f l).labels ≤ l + 3 * (1 + nodes c + n)
+  while_by_takes (Some v) n l c f h =
+      let p : Emitted = unless size count c (suc l) (suc (suc l)) in
+      let x = unless_takes c (suc l) (suc (suc l)) in
+      let y = h (suc l) l p.labels in
+      omega arith
+  while_by_takes None n l c f h =
+      let q : Emitted = f (suc (suc l)) (suc l) (suc (suc (suc l))) in
+      let x = h (suc (suc l)) (suc l) (suc (suc (suc l))) in
+      let y = when_takes c l q.labels in
+      omega arith
+
+  -- the test, the body and the step of a `for`: where the test stands behind the step, its own label is counted with its nodes
+  tested_takes : (o : Option ℕ) (n l : ℕ) (c : AnExpression) (e : Option AnExpression) (f : ℕ → Emitted) → ((k : ℕ) → (f k).labels ≤ k + 3 * n)
+      → (for_tested size count o l c e f).labels ≤ l + 3 * (1 + nodes c + maybe_nodes e + n)
+  tested_takes (Some v) n l c e f h =
+      let p : Emitted = unless size count c (suc (suc l)) (suc (suc (suc l))) in
+      let a : Emitted = f p.labels in
+      let x = unless_takes c (suc (suc l)) (suc (suc (suc l))) in
+      let y = h p.labels in
+      let z = effect_takes e a.labels in
+      omega arith
+  tested_takes None n l c e f h =
+      let a : Emitted = f (suc (suc (suc (suc l)))) in
+      let s : Emitted = effect size count e a.labels in
+      let x = h (suc (suc (suc (suc l)))) in
+      let y = effect_takes e a.labels in
+      let z = when_takes c l s.labels in
+      let one = has_nodes c in
+      omega arith
+
   turns_take : (n l : ℕ) (c e : Option AnExpression) (f : ℕ → Emitted) → ((k : ℕ) → (f k).labels ≤ k + 3 * n)
       → (for_of size count l c e f).labels ≤ l + 3 * (1 + maybe_nodes c + maybe_nodes e + n)
   turns_take n l None e f h =
@@ -47,13 +117,7 @@ module _ (size count : ℕ) where
       let x = h (suc (suc (suc l))) in
       let y = effect_takes e a.labels in
       omega arith
-  turns_take n l (Some c) e f h =
-      let p : Emitted = unless size count c (suc (suc l)) (suc (suc (suc l))) in
-      let a : Emitted = f p.labels in
-      let x = unless_takes c (suc (suc l)) (suc (suc (suc l))) in
-      let y = h p.labels in
-      let z = effect_takes e a.labels in
-      omega arith
+  turns_take n l (Some c) e f h = tested_takes (constant_of c) n l c e f h
 
   mutual
     act_takes : (a : AnAction) (lb lc l : ℕ) → (lower size count a lb lc l).labels ≤ l + 3 * act_size a
@@ -75,11 +139,7 @@ module _ (size count : ℕ) where
         let y = act_takes a lb lc p.labels in
         let z = act_takes b lb lc q.labels in
         omega arith
-    act_takes (WhileOf c a) lb lc l =
-        let p : Emitted = unless size count c (suc l) (suc (suc l)) in
-        let x = unless_takes c (suc l) (suc (suc l)) in
-        let y = act_takes a (suc l) l p.labels in
-        omega arith
+    act_takes (WhileOf c a) lb lc l = while_by_takes (constant_of c) (act_size a) l c (lower size count a) (λ x y k. act_takes a x y k)
     act_takes (DoOf a c) lb lc l =
         let q : Emitted = lower size count a (suc (suc l)) (suc l) (suc (suc (suc l))) in
         let x = act_takes a (suc (suc l)) (suc l) (suc (suc (suc l))) in

@@ -12,7 +12,7 @@ use Rattle.c_types.specs.declared.typed.UnaryOperator.TheVariants as unaries
 use Rattle.c_types.specs.declared.typed.Moment.{Moment}
 use Rattle.c_types.specs.declared.typed.Moment.TheVariants as moments
 use Rattle.c_types.specs.declared.typed.Direction.{Direction}
-use Rattle.c_types.specs.Constants.{scale}
+use Rattle.c_types.specs.Constants.{scale, constant_of}
 use Rattle.c_types.specs.Typed.{APlace, VariableAt, PointedBy, ElementBy, AnExpression, Constant, LiteralAt, ArrayAt, ReadOf, SizeofTerm, SizeOf, AddressOf, CallOf, StepOf}
 use Rattle.c_types.specs.Typed.{UnaryOf, CastTo, ConvertTo, ArithmeticOf, CompareOf, BothOf, EitherOf, AdvanceOf, AdvanceByOf, RetreatOf, DistanceOf, ChoiceOf, AssignTo}
 use Rattle.c_types.specs.Typed.{ArithmeticAssignTo, AdvanceAssignTo, RetreatAssignTo, CommaOf, SomeExpressions, NoExpressions, MoreExpressions}
@@ -391,8 +391,8 @@ module _ (size count : ℕ) where
       let two = once_count (suc l) q (Label (suc (suc l)) ∷ inner) (Label (suc l) ∷ Label (suc (suc l)) ∷ inner) one (λ m. refl) in
       once_count l q (Label (suc l) ∷ Label (suc (suc l)) ∷ inner) js two e
 
-  once_do : (l p q : ℕ) (a b : List Item) → Once (suc (suc (suc l))) p a → Once p q b → Once l q (Jump l ∷ Label l ∷ (a ++ (Label (suc l) ∷ (b ++ (Label (suc (suc l)) ∷ [])))))
-  once_do l p q a b h g =
+  once_loop : (to l p q : ℕ) (a b : List Item) → Once (suc (suc (suc l))) p a → Once p q b → Once l q (Jump to ∷ Label l ∷ (a ++ (Label (suc l) ∷ (b ++ (Label (suc (suc l)) ∷ [])))))
+  once_loop to l p q a b h g =
       let T2 : List Item = Label (suc (suc l)) ∷ [] in
       let T1 : List Item = Label (suc l) ∷ (b ++ T2) in
       once_three l q (a ++ b) _ (once_append (suc (suc (suc l))) p q a b h g) (λ m. omega (arith, stands_append m a T1, stands_append m b T2, stands_append m a b))
@@ -412,13 +412,42 @@ module _ (size count : ℕ) where
       once_three l r (a ++ (b ++ c)) _ (once_append (suc (suc (suc l))) p r a (b ++ c) h (once_append p q r b c g f))
       (λ m. omega (arith, stands_append m a T1, stands_append m b T2, stands_append m c T3, stands_append m a (b ++ c), stands_append m b c))
 
-  once_fors : (c e : Option AnExpression) (l : ℕ) (f : ℕ → Expressions.Emitted) → ((m : ℕ) → Once m (f m).labels (f m).items)
-      → Once l (Statements.for_of size count l c e f).labels (Statements.for_of size count l c e f).items
-  once_fors None e l f h = let b = f (suc (suc (suc l))) in once_ever l b.labels _ b.items _ (h (suc (suc (suc l)))) (once_effect e b.labels)
-  once_fors (Some c) e l f h =
+  -- four labels: the test's behind the step too
+  once_turns : (l p q r : ℕ) (a b c : List Item) → Once (suc (suc (suc (suc l)))) p a → Once p q b → Once q r c
+      → Once l r (Jump (suc (suc (suc l))) ∷ Label l ∷ (a ++ (Label (suc l) ∷ (b ++ (Label (suc (suc (suc l))) ∷ (c ++ (Label (suc (suc l)) ∷ [])))))))
+  once_turns l p q r a b c h g f =
+      let T3 : List Item = Label (suc (suc l)) ∷ [] in
+      let T2 : List Item = Label (suc (suc (suc l))) ∷ (c ++ T3) in
+      let T1 : List Item = Label (suc l) ∷ (b ++ T2) in
+      let inner : List Item = a ++ (b ++ c) in
+      let one = once_count (suc (suc (suc l))) r inner (Label (suc (suc (suc l))) ∷ inner) (once_append (suc (suc (suc (suc l)))) p r a (b ++ c) h (once_append p q r b c g f)) (λ m. refl) in
+      once_three l r (Label (suc (suc (suc l))) ∷ inner) _ one
+      (λ m. omega (arith, stands_append m a T1, stands_append m b T2, stands_append m c T3, stands_append m a (b ++ c), stands_append m b c))
+
+  once_while_by : (o : Option ℕ) (c : AnExpression) (f : ℕ → ℕ → ℕ → Expressions.Emitted) (l : ℕ) → ((lb lc m : ℕ) → Once m (f lb lc m).labels (f lb lc m).items)
+      → Once l (Statements.while_by size count o c f l).labels (Statements.while_by size count o c f l).items
+  once_while_by (Some v) c f l h =
+      let q = Statements.unless size count c (suc l) (suc (suc l)) in
+      once_while l q.labels _ q.items _ ((once_way c).branch false (suc l) size (suc (suc l))) (h (suc l) l q.labels)
+  once_while_by None c f l h =
+      let x = f (suc (suc l)) (suc l) (suc (suc (suc l))) in
+      once_loop (suc l) l x.labels _ x.items _ (h (suc (suc l)) (suc l) (suc (suc (suc l)))) ((once_way c).branch true l size x.labels)
+
+  once_tested : (o : Option ℕ) (c : AnExpression) (e : Option AnExpression) (l : ℕ) (f : ℕ → Expressions.Emitted) → ((m : ℕ) → Once m (f m).labels (f m).items)
+      → Once l (Statements.for_tested size count o l c e f).labels (Statements.for_tested size count o l c e f).items
+  once_tested (Some v) c e l f h =
       let q = Statements.unless size count c (suc (suc l)) (suc (suc (suc l))) in
       let b = f q.labels in
       once_for l q.labels b.labels _ q.items b.items _ ((once_way c).branch false (suc (suc l)) size (suc (suc (suc l)))) (h q.labels) (once_effect e b.labels)
+  once_tested None c e l f h =
+      let b = f (suc (suc (suc (suc l)))) in
+      let s = Statements.effect size count e b.labels in
+      once_turns l b.labels s.labels _ b.items s.items _ (h (suc (suc (suc (suc l))))) (once_effect e b.labels) ((once_way c).branch true l size s.labels)
+
+  once_fors : (c e : Option AnExpression) (l : ℕ) (f : ℕ → Expressions.Emitted) → ((m : ℕ) → Once m (f m).labels (f m).items)
+      → Once l (Statements.for_of size count l c e f).labels (Statements.for_of size count l c e f).items
+  once_fors None e l f h = let b = f (suc (suc (suc l))) in once_ever l b.labels _ b.items _ (h (suc (suc (suc l)))) (once_effect e b.labels)
+  once_fors (Some c) e l f h = once_tested (constant_of c) c e l f h
 
   mutual
     once_act : (a : AnAction) (lb lc l : ℕ) → Once l (Statements.lower size count a lb lc l).labels (Statements.lower size count a lb lc l).items
@@ -433,8 +462,8 @@ module _ (size count : ℕ) where
         let q = Statements.unless size count c l (suc (suc l)) in
         let x = Statements.lower size count a lb lc q.labels in
         once_fork l q.labels x.labels _ q.items x.items _ [] [] (λ m. refl) (λ m. refl) ((once_way c).branch false l size (suc (suc l))) (once_act a lb lc q.labels) (once_act b lb lc x.labels)
-    once_act (WhileOf c a) lb lc l = let q = Statements.unless size count c (suc l) (suc (suc l)) in once_while l q.labels _ q.items _ ((once_way c).branch false (suc l) size (suc (suc l))) (once_act a (suc l) l q.labels)
-    once_act (DoOf a c) lb lc l = let x = Statements.lower size count a (suc (suc l)) (suc l) (suc (suc (suc l))) in once_do l x.labels _ x.items _ (once_act a (suc (suc l)) (suc l) (suc (suc (suc l)))) ((once_way c).branch true l size x.labels)
+    once_act (WhileOf c a) lb lc l = once_while_by (constant_of c) c (Statements.lower size count a) l (λ x y m. once_act a x y m)
+    once_act (DoOf a c) lb lc l = let x = Statements.lower size count a (suc (suc l)) (suc l) (suc (suc (suc l))) in once_loop l l x.labels _ x.items _ (once_act a (suc (suc l)) (suc l) (suc (suc (suc l)))) ((once_way c).branch true l size x.labels)
     once_act (ForOf i c e a) lb lc l = let x = Statements.effect size count i l in once_append l x.labels _ x.items _ (once_effect i l) (once_fors c e x.labels (Statements.lower size count a (suc (suc x.labels)) (suc x.labels)) (λ m. once_act a (suc (suc x.labels)) (suc x.labels) m))
 
     pub once_row : (row : SomeActions) (lb lc l : ℕ) → Once l (Statements.lower_row size count row lb lc l).labels (Statements.lower_row size count row lb lc l).items

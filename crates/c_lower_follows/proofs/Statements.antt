@@ -14,6 +14,7 @@ use Rattle.tree_meaning.specs.Meaning.{runs}
 use Rattle.c_types.specs.declared.types.CType.{CType}
 use Rattle.c_types.specs.declared.typed.Variable.{Variable}
 use Rattle.c_types.specs.declared.typed.Variable.TheVariants as variables
+use Rattle.c_types.specs.Constants.{constant_of}
 use Rattle.c_types.specs.Typed.{APlace, VariableAt, PointedBy, ElementBy, AnExpression, Constant, LiteralAt, ArrayAt, ReadOf, SizeofTerm, SizeOf, AddressOf, CallOf, StepOf}
 use Rattle.c_types.specs.Typed.{UnaryOf, CastTo, ConvertTo, ArithmeticOf, CompareOf, BothOf, EitherOf, AdvanceOf, AdvanceByOf, RetreatOf, DistanceOf, ChoiceOf, AssignTo}
 use Rattle.c_types.specs.Typed.{ArithmeticAssignTo, AdvanceAssignTo, RetreatAssignTo, CommaOf, SomeExpressions, NoExpressions, MoreExpressions}
@@ -27,8 +28,8 @@ use Rattle.c_meaning.specs.Meaning.{returned as returned_source}
 use Rattle.c_lower_scheme.specs.Trees.{Tree, Num, Item, Label, AssignLoc, Jump, Ret}
 use Rattle.c_lower_scheme.specs.Spelling.{spelled_all}
 use Rattle.c_lower_scheme.specs.Expressions.{Emitted, way}
-use Rattle.c_lower_scheme.specs.Statements.{is_local, place_mentions, mentions, any_mentions, begin_of, if_done, if_else_done, while_done, do_done, for_done, ever_done, unless}
-use Rattle.c_lower_scheme.specs.Statements.{when, effect, returning, declare, for_of, lower, lower_row}
+use Rattle.c_lower_scheme.specs.Statements.{is_local, place_mentions, mentions, any_mentions, begin_of, if_done, if_else_done, loop_done, while_done, turns_done, for_done, ever_done, unless}
+use Rattle.c_lower_scheme.specs.Statements.{when, effect, returning, declare, while_by, for_tested, for_of, lower, lower_row}
 use Rattle.c_sound.specs.Fits.{AreBytes, StandsIn, FitsAt, Fits, FitsAll, FitsMaybe, more, declaring, behind_act, FitsDeclared, FitsAct, FitsActs}
 use Rattle.c_lower_follows.proofs.Values.{SmallTree, Small, worth_small}
 use Rattle.c_lower_follows.proofs.Leads.{Leads, leads_wild, leads_quiet, leads_counted, leads_none, leads_below}
@@ -363,7 +364,7 @@ module _ (program : TreeProgram) (code : List TreeItem) (callers : List Activati
           left = h.left;
         }) st1 d1 ag1))))
 
-    -- `while`, from behind its first label
+    -- `while` with its test in front, from behind its first label
     while_look : (c : AnExpression) (a : AnAction) (l : ℕ) (b : Emitted) (scope after : ℕ → Type 0) → ((x : ℕ) → scope x → x < size) → Fits scope c → ((x : ℕ) → scope x → after x)
         → DoesStmt b (suc l) l true scope scope after (stmt p next a) → (inside : Bool) (lb lc : ℕ) (outer : ℕ → Type 0) (is : List Item)
         → Resolves code ((while_done l (unless size count c (suc l) (suc (suc l))) b).items ++ is) → (k : ℕ) → k ≤ level → (κ : Behind) → Lands k lb lc inside outer scope is κ
@@ -401,15 +402,31 @@ module _ (program : TreeProgram) (code : List TreeItem) (callers : List Activati
         label_step program code callers k l (((unless size count c (suc l) (suc (suc l))).items ++ (b.items ++ (Jump l ∷ Label (suc l) ∷ []))) ++ is) d _
         (while_look c a l b scope after within fit sub body inside lb lc outer is res k le κ h st d ag)
 
-    -- `do`: a turn, whose tree is still to be counted
-    do_turn : (c : AnExpression) (a : AnAction) (l : ℕ) (b : Emitted) (scope after : ℕ → Type 0) → ((x : ℕ) → scope x → x < size) → Fits scope c → ((x : ℕ) → scope x → after x)
-        → DoesStmt b (suc (suc l)) (suc l) true scope scope after (stmt p next a) → (inside : Bool) (lb lc : ℕ) (outer : ℕ → Type 0) (is : List Item)
-        → Resolves code ((do_done l b (when size count c l b.labels)).items ++ is) → (k : ℕ) → k ≤ level → (κ : Behind) → Lands k lb lc inside outer scope is κ → (st : State) (d : Desk)
-        → fair scope st d → Leads k (turn_by p next (plain_loop c a) (stmt p next a) κ st) (counted (at_items program code callers (behind code l) d))
-    do_turn c a l b scope after within fit sub body inside lb lc outer is res zero le κ h st d ag = leads_none _ _
-    do_turn c a l b scope after within fit sub body inside lb lc outer is res (suc k) le κ h st d ag =
+    -- a loop whose test stands behind its body: the test, by the turns behind it
+    loop_look : (c : AnExpression) (a : AnAction) (to l : ℕ) (b : Emitted) (scope : ℕ → Type 0) → ((x : ℕ) → scope x → x < size) → Fits scope c → (inside : Bool) (lb lc : ℕ)
+        → (outer : ℕ → Type 0) (is : List Item) → Resolves code ((loop_done to l b (when size count c l b.labels)).items ++ is) → (k : ℕ) → k ≤ level → (κ : Behind)
+        → Lands k lb lc inside outer scope is κ
+        → ((st : State) (d : Desk) → fair scope st d → Leads k (turn_by p next (plain_loop c a) (stmt p next a) κ st) (counted (at_items program code callers (behind code l) d)))
+        → (st : State) (d : Desk) → fair scope st d
+        → Leads k (look_by p next (plain_loop c a) (stmt p next a) κ st) (from (((when size count c l b.labels).items ++ (Label (suc (suc l)) ∷ [])) ++ is) d)
+    loop_look c a to l b scope within fit inside lb lc outer is res k le κ h turns st d ag =
         let q = when size count c l b.labels in
         let asks = (expression scope within c fit).branch true l size b.labels (omega arith) in
+        let T3 : List Item = Label (suc (suc l)) ∷ [] in
+        let T2 : List Item = Label (suc l) ∷ (q.items ++ T3) in
+        let res3 = parted q.items T3 is (resolves_back code b.items (T2 ++ is) (parted b.items T2 is res.1.1)).1 in
+        joined_at k q.items T3 is d _ (asks.runs k le (T3 ++ is) (turn_by p next (plain_loop c a) (stmt p next a) κ) (κ Onward) res3 st d ag
+        (λ st1 d1 ag1 s1. turns st1 d1 ag1)
+        (λ st1 d1 ag1 s1. label_counts program code callers k (suc (suc l)) is d1 _ (leads_quiet k _ _ (h.onward st1 d1 ag1))))
+
+    -- and a turn, whose tree is still to be counted
+    loop_turn : (c : AnExpression) (a : AnAction) (to l : ℕ) (b : Emitted) (scope after : ℕ → Type 0) → ((x : ℕ) → scope x → x < size) → Fits scope c → ((x : ℕ) → scope x → after x)
+        → DoesStmt b (suc (suc l)) (suc l) true scope scope after (stmt p next a) → (inside : Bool) (lb lc : ℕ) (outer : ℕ → Type 0) (is : List Item)
+        → Resolves code ((loop_done to l b (when size count c l b.labels)).items ++ is) → (k : ℕ) → k ≤ level → (κ : Behind) → Lands k lb lc inside outer scope is κ → (st : State) (d : Desk)
+        → fair scope st d → Leads k (turn_by p next (plain_loop c a) (stmt p next a) κ st) (counted (at_items program code callers (behind code l) d))
+    loop_turn c a to l b scope after within fit sub body inside lb lc outer is res zero le κ h st d ag = leads_none _ _
+    loop_turn c a to l b scope after within fit sub body inside lb lc outer is res (suc k) le κ h st d ag =
+        let q = when size count c l b.labels in
         let T3 : List Item = Label (suc (suc l)) ∷ [] in
         let T2 : List Item = Label (suc l) ∷ (q.items ++ T3) in
         let T1 : List Item = b.items ++ T2 in
@@ -422,9 +439,8 @@ module _ (program : TreeProgram) (code : List TreeItem) (callers : List Activati
         let low_h = lands_below k (suc k) lb lc inside outer scope is κ (omega arith) h in
         let test_it : (st : State) (d : Desk) → fair scope st d → Leads k (next (Look (plain_loop c a)) κ st) (from ((q.items ++ T3) ++ is) d) = λ st d ag.
         subst (λ r. Leads k r (from ((q.items ++ T3) ++ is) d)) (sym (next_is (Look (plain_loop c a)) κ st))
-        (joined_at k q.items T3 is d _ (asks.runs k (omega arith) (T3 ++ is) (turn_by p next (plain_loop c a) (stmt p next a) κ) (κ Onward) res3 st d ag
-        (λ st1 d1 ag1 s1. do_turn c a l b scope after within fit sub body inside lb lc outer is res k (omega arith) κ low_h st1 d1 ag1)
-        (λ st1 d1 ag1 s1. label_counts program code callers k (suc (suc l)) is d1 _ (leads_quiet k _ _ (low_h.onward st1 d1 ag1))))) in
+        (loop_look c a to l b scope within fit inside lb lc outer is res k (omega arith) κ low_h
+        (λ st1 d1 ag1. loop_turn c a to l b scope after within fit sub body inside lb lc outer is res k (omega arith) κ low_h st1 d1 ag1) st d ag) in
         leads_counted k _ _ (moves program code callers k (behind code l) (spelled_all (T1 ++ is)) d _ top_at
         (joined_at k b.items T2 is d _ (body k (omega arith) (T2 ++ is) (turned p next κ (next (Look (plain_loop c a)) κ)) res1
         (record {
@@ -434,14 +450,37 @@ module _ (program : TreeProgram) (code : List TreeItem) (callers : List Activati
           left = low_h.left;
         }) st d ag)))
 
+    -- `do` begins with a turn, `while` with the test
     do_does : (c : AnExpression) (a : AnAction) (l : ℕ) (b : Emitted) (scope after outer : ℕ → Type 0) → ((x : ℕ) → scope x → x < size) → Fits scope c → ((x : ℕ) → scope x → after x)
         → DoesStmt b (suc (suc l)) (suc l) true scope scope after (stmt p next a) → (inside : Bool) (lb lc : ℕ)
-        → DoesStmt (do_done l b (when size count c l b.labels)) lb lc inside outer scope scope (stmt p next (DoOf a c))
+        → DoesStmt (loop_done l l b (when size count c l b.labels)) lb lc inside outer scope scope (stmt p next (DoOf a c))
     do_does c a l b scope after outer within fit sub body inside lb lc k le is κ res h st d ag =
         jump_counts program code callers k l (Label l ∷ ((b.items ++ (Label (suc l) ∷ ((when size count c l b.labels).items ++ (Label (suc (suc l)) ∷ [])))) ++ is)) _ d
-        (do_turn c a l b scope after within fit sub body inside lb lc outer is res k le κ h st d ag)
+        (loop_turn c a l l b scope after within fit sub body inside lb lc outer is res k le κ h st d ag)
 
-    -- `for` with a test, from behind its first label
+    late_does : (c : AnExpression) (a : AnAction) (l : ℕ) (b : Emitted) (scope after outer : ℕ → Type 0) → ((x : ℕ) → scope x → x < size) → Fits scope c → ((x : ℕ) → scope x → after x)
+        → DoesStmt b (suc (suc l)) (suc l) true scope scope after (stmt p next a) → (inside : Bool) (lb lc : ℕ)
+        → DoesStmt (loop_done (suc l) l b (when size count c l b.labels)) lb lc inside outer scope scope (stmt p next (WhileOf c a))
+    late_does c a l b scope after outer within fit sub body inside lb lc k le is κ res h st d ag =
+        let q = when size count c l b.labels in
+        let T3 : List Item = Label (suc (suc l)) ∷ [] in
+        let T2 : List Item = Label (suc l) ∷ (q.items ++ T3) in
+        let test_at : behind code (suc l) ≡ spelled_all ((q.items ++ T3) ++ is) = (resolves_back code b.items (T2 ++ is) (parted b.items T2 is res.1.1)).0 in
+        jump_step program code callers k (suc l) (Label l ∷ ((b.items ++ T2) ++ is)) _ d (moves program code callers k (behind code (suc l)) (spelled_all ((q.items ++ T3) ++ is)) d _ test_at
+        (loop_look c a (suc l) l b scope within fit inside lb lc outer is res k le κ h
+        (λ st1 d1 ag1. loop_turn c a (suc l) l b scope after within fit sub body inside lb lc outer is res k le κ h st1 d1 ag1) st d ag))
+
+    -- a `while` in either form
+    while_by_does : (o : Option ℕ) (c : AnExpression) (a : AnAction) (l : ℕ) (scope after outer : ℕ → Type 0) → ((x : ℕ) → scope x → x < size) → Fits scope c → ((x : ℕ) → scope x → after x)
+        → ((lb lc m : ℕ) → DoesStmt (lower size count a lb lc m) lb lc true scope scope after (stmt p next a)) → (inside : Bool) (lb lc : ℕ)
+        → DoesStmt (while_by size count o c (lower size count a) l) lb lc inside outer scope scope (stmt p next (WhileOf c a))
+    while_by_does (Some v) c a l scope after outer within fit sub body inside lb lc =
+        let q = unless size count c (suc l) (suc (suc l)) in
+        while_does c a l (lower size count a (suc l) l q.labels) scope after outer within fit sub (body (suc l) l q.labels) inside lb lc
+    while_by_does None c a l scope after outer within fit sub body inside lb lc =
+        late_does c a l (lower size count a (suc (suc l)) (suc l) (suc (suc (suc l)))) scope after outer within fit sub (body (suc (suc l)) (suc l) (suc (suc (suc l)))) inside lb lc
+
+    -- `for` with its test in front, from behind its first label
     for_look : (c : AnExpression) (e : Option AnExpression) (a : AnAction) (l : ℕ) (b : Emitted) (scope after : ℕ → Type 0) → ((x : ℕ) → scope x → x < size) → Fits scope c
         → FitsMaybe scope e → ((x : ℕ) → scope x → after x) → DoesStmt b (suc (suc l)) (suc l) true scope scope after (stmt p next a)
         → (inside : Bool) (lb lc : ℕ) (outer : ℕ → Type 0) (is : List Item)
@@ -517,6 +556,91 @@ module _ (program : TreeProgram) (code : List TreeItem) (callers : List Activati
           left = low_h.left;
         }) st d ag)))
 
+    -- `for` with its test behind the step: the test, by the turns behind it
+    turns_look : (c : AnExpression) (e : Option AnExpression) (a : AnAction) (l : ℕ) (b : Emitted) (scope : ℕ → Type 0) → ((x : ℕ) → scope x → x < size) → Fits scope c
+        → (inside : Bool) (lb lc : ℕ) (outer : ℕ → Type 0) (is : List Item)
+        → Resolves code ((turns_done l b (effect size count e b.labels) (when size count c l (effect size count e b.labels).labels)).items ++ is) → (k : ℕ) → k ≤ level → (κ : Behind)
+        → Lands k lb lc inside outer scope is κ
+        → ((st : State) (d : Desk) → fair scope st d → Leads k (turn_by p next (for_loop (Some c) e a) (stmt p next a) κ st) (counted (at_items program code callers (behind code l) d)))
+        → (st : State) (d : Desk) → fair scope st d → Leads k (look_by p next (for_loop (Some c) e a) (stmt p next a) κ st)
+        (from (((when size count c l (effect size count e b.labels).labels).items ++ (Label (suc (suc l)) ∷ [])) ++ is) d)
+    turns_look c e a l b scope within fit inside lb lc outer is res k le κ h turns st d ag =
+        let s = effect size count e b.labels in
+        let q = when size count c l s.labels in
+        let asks = (expression scope within c fit).branch true l size s.labels (omega arith) in
+        let T4 : List Item = Label (suc (suc l)) ∷ [] in
+        let T3 : List Item = Label (suc (suc (suc l))) ∷ (q.items ++ T4) in
+        let T2 : List Item = Label (suc l) ∷ (s.items ++ T3) in
+        let res3 = parted s.items T3 is (resolves_back code b.items (T2 ++ is) (parted b.items T2 is res.1.1)).1 in
+        let res4 = parted q.items T4 is (resolves_back code s.items (T3 ++ is) res3).1 in
+        joined_at k q.items T4 is d _ (asks.runs k le (T4 ++ is) (turn_by p next (for_loop (Some c) e a) (stmt p next a) κ) (κ Onward) res4 st d ag
+        (λ st1 d1 ag1 s1. turns st1 d1 ag1)
+        (λ st1 d1 ag1 s1. label_counts program code callers k (suc (suc l)) is d1 _ (leads_quiet k _ _ (h.onward st1 d1 ag1))))
+
+    -- and a turn, whose tree is still to be counted
+    turns_turn : (c : AnExpression) (e : Option AnExpression) (a : AnAction) (l : ℕ) (b : Emitted) (scope after : ℕ → Type 0) → ((x : ℕ) → scope x → x < size) → Fits scope c
+        → FitsMaybe scope e → ((x : ℕ) → scope x → after x) → DoesStmt b (suc (suc l)) (suc l) true scope scope after (stmt p next a)
+        → (inside : Bool) (lb lc : ℕ) (outer : ℕ → Type 0) (is : List Item)
+        → Resolves code ((turns_done l b (effect size count e b.labels) (when size count c l (effect size count e b.labels).labels)).items ++ is) → (k : ℕ) → k ≤ level → (κ : Behind)
+        → Lands k lb lc inside outer scope is κ → (st : State) (d : Desk) → fair scope st d
+        → Leads k (turn_by p next (for_loop (Some c) e a) (stmt p next a) κ st) (counted (at_items program code callers (behind code l) d))
+    turns_turn c e a l b scope after within fit fit' sub body inside lb lc outer is res zero le κ h st d ag = leads_none _ _
+    turns_turn c e a l b scope after within fit fit' sub body inside lb lc outer is res (suc k) le κ h st d ag =
+        let lp : ALoop = for_loop (Some c) e a in
+        let s = effect size count e b.labels in
+        let q = when size count c l s.labels in
+        let T4 : List Item = Label (suc (suc l)) ∷ [] in
+        let T3 : List Item = Label (suc (suc (suc l))) ∷ (q.items ++ T4) in
+        let T2 : List Item = Label (suc l) ∷ (s.items ++ T3) in
+        let T1 : List Item = b.items ++ T2 in
+        let top_at : behind code l ≡ spelled_all (T1 ++ is) = res.1.0 in
+        let res1 = parted b.items T2 is res.1.1 in
+        let res2 = resolves_back code b.items (T2 ++ is) res1 in
+        let step_at : behind code (suc l) ≡ spelled_all ((s.items ++ T3) ++ is) = res2.0 in
+        let res3 = parted s.items T3 is res2.1 in
+        let res4 = parted q.items T4 is (resolves_back code s.items (T3 ++ is) res3).1 in
+        let end_at : behind code (suc (suc l)) ≡ spelled_all is = (resolves_back code q.items (T4 ++ is) res4).0 in
+        let low_h = lands_below k (suc k) lb lc inside outer scope is κ (omega arith) h in
+        let test_it : (st : State) (d : Desk) → fair scope st d → Leads k (next (Look lp) κ st) (from ((q.items ++ T4) ++ is) d) = λ st d ag.
+        subst (λ r. Leads k r (from ((q.items ++ T4) ++ is) d)) (sym (next_is (Look lp) κ st))
+        (turns_look c e a l b scope within fit inside lb lc outer is res k (omega arith) κ low_h
+        (λ st1 d1 ag1. turns_turn c e a l b scope after within fit fit' sub body inside lb lc outer is res k (omega arith) κ low_h st1 d1 ag1) st d ag) in
+        let step_it : (st : State) (d : Desk) → fair scope st d → Leads k (dropped p next e (next (Look lp) κ) st) (from ((s.items ++ T3) ++ is) d) = λ st d ag.
+        joined_at k s.items T3 is d _ (effect_does scope within e fit' b.labels k (omega arith) (T3 ++ is) (next (Look lp) κ) res3 st d ag
+        (λ st1 d1 ag1. label_step program code callers k (suc (suc (suc l))) ((q.items ++ T4) ++ is) d1 _ (test_it st1 d1 ag1))) in
+        leads_counted k _ _ (moves program code callers k (behind code l) (spelled_all (T1 ++ is)) d _ top_at
+        (joined_at k b.items T2 is d _ (body k (omega arith) (T2 ++ is) (turned p next κ (dropped p next e (next (Look lp) κ))) res1
+        (record {
+          onward = λ st2 d2 ag2. label_step program code callers k (suc l) ((s.items ++ T3) ++ is) d2 _ (step_it st2 d2 (agree_less size (length callers) scope after st2 d2 sub ag2));
+          broke = λ e st2 d2 ag2. moves program code callers k (behind code (suc (suc l))) (spelled_all is) d2 _ end_at (low_h.onward st2 d2 ag2);
+          continued = λ e st2 d2 ag2. moves program code callers k (behind code (suc l)) (spelled_all ((s.items ++ T3) ++ is)) d2 _ step_at (step_it st2 d2 ag2);
+          left = low_h.left;
+        }) st d ag)))
+
+    -- a `for` with a test, in either form
+    tested_does : (o : Option ℕ) (c : AnExpression) (e : Option AnExpression) (a : AnAction) (l : ℕ) (scope after outer : ℕ → Type 0) → ((x : ℕ) → scope x → x < size) → Fits scope c → FitsMaybe scope e
+        → ((x : ℕ) → scope x → after x) → ((m : ℕ) → DoesStmt (lower size count a (suc (suc l)) (suc l) m) (suc (suc l)) (suc l) true scope scope after (stmt p next a))
+        → (inside : Bool) (lb lc : ℕ)
+        → DoesStmt (for_tested size count o l c e (lower size count a (suc (suc l)) (suc l))) lb lc inside outer scope scope (look_by p next (for_loop (Some c) e a) (stmt p next a))
+    tested_does (Some v) c e a l scope after outer within fit fit' sub body inside lb lc k le is κ res h st d ag =
+        let q = unless size count c (suc (suc l)) (suc (suc (suc l))) in
+        let b = lower size count a (suc (suc l)) (suc l) q.labels in
+        label_step program code callers k l ((q.items ++ (b.items ++ (Label (suc l) ∷ ((effect size count e b.labels).items ++ (Jump l ∷ Label (suc (suc l)) ∷ []))))) ++ is) d _
+        (for_look c e a l b scope after within fit fit' sub (body q.labels) inside lb lc outer is res k le κ h st d ag)
+    tested_does None c e a l scope after outer within fit fit' sub body inside lb lc k le is κ res h st d ag =
+        let b = lower size count a (suc (suc l)) (suc l) (suc (suc (suc (suc l)))) in
+        let s = effect size count e b.labels in
+        let q = when size count c l s.labels in
+        let T4 : List Item = Label (suc (suc l)) ∷ [] in
+        let T3 : List Item = Label (suc (suc (suc l))) ∷ (q.items ++ T4) in
+        let T2 : List Item = Label (suc l) ∷ (s.items ++ T3) in
+        let res3 = parted s.items T3 is (resolves_back code b.items (T2 ++ is) (parted b.items T2 is res.1.1)).1 in
+        let test_at : behind code (suc (suc (suc l))) ≡ spelled_all ((q.items ++ T4) ++ is) = (resolves_back code s.items (T3 ++ is) res3).0 in
+        jump_step program code callers k (suc (suc (suc l))) (Label l ∷ ((b.items ++ T2) ++ is)) _ d
+        (moves program code callers k (behind code (suc (suc (suc l)))) (spelled_all ((q.items ++ T4) ++ is)) d _ test_at
+        (turns_look c e a l b scope within fit inside lb lc outer is res k le κ h
+        (λ st1 d1 ag1. turns_turn c e a l b scope after within fit fit' sub (body (suc (suc (suc (suc l))))) inside lb lc outer is res k le κ h st1 d1 ag1) st d ag))
+
     for_does : (c e : Option AnExpression) (a : AnAction) (l : ℕ) (scope after outer : ℕ → Type 0) → ((x : ℕ) → scope x → x < size) → FitsMaybe scope c → FitsMaybe scope e
         → ((x : ℕ) → scope x → after x) → ((m : ℕ) → DoesStmt (lower size count a (suc (suc l)) (suc l) m) (suc (suc l)) (suc l) true scope scope after (stmt p next a))
         → (inside : Bool) (lb lc : ℕ) → DoesStmt (for_of size count l c e (lower size count a (suc (suc l)) (suc l))) lb lc inside outer scope scope (look_by p next (for_loop c e a) (stmt p next a))
@@ -525,10 +649,7 @@ module _ (program : TreeProgram) (code : List TreeItem) (callers : List Activati
         jump_counts program code callers k l (Label l ∷ ((b.items ++ (Label (suc l) ∷ ((effect size count e b.labels).items ++ (Jump l ∷ Label (suc (suc l)) ∷ [])))) ++ is)) _ d
         (ever_turn e a l b scope after within fit' sub (body (suc (suc (suc l)))) inside lb lc outer is res k le κ h st d ag)
     for_does (Some c) e a l scope after outer within fit fit' sub body inside lb lc k le is κ res h st d ag =
-        let q = unless size count c (suc (suc l)) (suc (suc (suc l))) in
-        let b = lower size count a (suc (suc l)) (suc l) q.labels in
-        label_step program code callers k l ((q.items ++ (b.items ++ (Label (suc l) ∷ ((effect size count e b.labels).items ++ (Jump l ∷ Label (suc (suc l)) ∷ []))))) ++ is) d _
-        (for_look c e a l b scope after within fit fit' sub (body q.labels) inside lb lc outer is res k le κ h st d ag)
+        tested_does (constant_of c) c e a l scope after outer within fit fit' sub body inside lb lc k le is κ res h st d ag
 
     mutual
       act_does : (a : AnAction) (scope outer : ℕ → Type 0) → ((x : ℕ) → scope x → x < size) → ((x : ℕ) → outer x → scope x) → (inside : Bool) → FitsAct size scope inside a → (lb lc l : ℕ)
@@ -552,9 +673,8 @@ module _ (program : TreeProgram) (code : List TreeItem) (callers : List Activati
           if_else_does c l x (lower size count b lb lc x.labels) scope outer (behind_act scope a) (behind_act scope b) (stmt p next a) (stmt p next b) within fit.0 (behind_more scope a)
           (behind_more scope b) inside lb lc (act_does a scope outer within sub inside fit.1 lb lc q.labels) (act_does b scope outer within sub inside fit.2 lb lc x.labels)
       act_does (WhileOf c a) scope outer within sub inside fit lb lc l =
-          let q = unless size count c (suc l) (suc (suc l)) in
-          while_does c a l (lower size count a (suc l) l q.labels) scope (behind_act scope a) outer within fit.0 (behind_more scope a)
-          (act_does a scope scope within (λ x h. h) true fit.1 (suc l) l q.labels) inside lb lc
+          while_by_does (constant_of c) c a l scope (behind_act scope a) outer within fit.0 (behind_more scope a)
+          (λ x y m. act_does a scope scope within (λ x h. h) true fit.1 x y m) inside lb lc
       act_does (DoOf a c) scope outer within sub inside fit lb lc l =
           do_does c a l (lower size count a (suc (suc l)) (suc l) (suc (suc (suc l)))) scope (behind_act scope a) outer within fit.1 (behind_more scope a)
           (act_does a scope scope within (λ x h. h) true fit.0 (suc (suc l)) (suc l) (suc (suc (suc l)))) inside lb lc

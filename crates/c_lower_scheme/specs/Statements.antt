@@ -2,6 +2,7 @@
 use Rattle.std.specs.Prelude.{ℕ, suc, max, ◌==◌, List, [], ◌∷◌, ◌++◌, Option, Some, None, Bool, true, false, ◌||◌}
 use Rattle.c_types.specs.declared.typed.Variable.{Variable}
 use Rattle.c_types.specs.declared.typed.Variable.TheVariants as variables
+use Rattle.c_types.specs.Constants.{constant_of}
 use Rattle.c_types.specs.Typed.{APlace, VariableAt, PointedBy, ElementBy, AnExpression, Constant, LiteralAt, ArrayAt, ReadOf, SizeofTerm, SizeOf, AddressOf, CallOf, StepOf}
 use Rattle.c_types.specs.Typed.{UnaryOf, CastTo, ConvertTo, ArithmeticOf, CompareOf, BothOf, EitherOf, AdvanceOf, AdvanceByOf, RetreatOf, DistanceOf, ChoiceOf, AssignTo}
 use Rattle.c_types.specs.Typed.{ArithmeticAssignTo, AdvanceAssignTo, RetreatAssignTo, CommaOf, SomeExpressions, NoExpressions, MoreExpressions}
@@ -89,21 +90,35 @@ if_else_by l p a g = if_else_done l p a (g a.labels)
 abbrev pub if_else_of : ℕ → Emitted → (ℕ → Emitted) → (ℕ → Emitted) → Emitted
 if_else_of l p f g = if_else_by l p (f p.labels) g
 
--- `while`: the test stands at the label l, the end is suc l
+-- A loop whose test stands behind its body, from a first jump on: to the label l of the top, or to suc l, where the test stands and `continue` goes. The end is suc (suc l).
+abbrev pub loop_done : ℕ → ℕ → Emitted → Emitted → Emitted
+loop_done to l a p = record { items = Jump to ∷ Label l ∷ (a.items ++ (Label (suc l) ∷ (p.items ++ (Label (suc (suc l)) ∷ [])))); temps = max a.temps p.temps; labels = p.labels }
+
+abbrev pub loop_of : ℕ → ℕ → Emitted → (ℕ → Emitted) → Emitted
+loop_of to l a f = loop_done to l a (f a.labels)
+
+-- `while` with a constant test: it stands in front, at the label l, and the end is suc l
 abbrev pub while_done : ℕ → Emitted → Emitted → Emitted
 while_done l p a = record { items = Label l ∷ (p.items ++ (a.items ++ (Jump l ∷ Label (suc l) ∷ []))); temps = max p.temps a.temps; labels = a.labels }
 
 abbrev pub while_of : ℕ → Emitted → (ℕ → Emitted) → Emitted
 while_of l p f = while_done l p (f p.labels)
 
--- `do`: the jump counts the first turn; `continue` goes to suc l, and the end is suc (suc l)
-abbrev pub do_done : ℕ → Emitted → Emitted → Emitted
-do_done l a p = record { items = Jump l ∷ Label l ∷ (a.items ++ (Label (suc l) ∷ (p.items ++ (Label (suc (suc l)) ∷ [])))); temps = max a.temps p.temps; labels = p.labels }
+-- `for`: its test stands behind the step, at suc (suc (suc l)), where the first jump goes. The top is l, `continue` goes to suc l, and the end is suc (suc l).
+abbrev pub turns_done : ℕ → Emitted → Emitted → Emitted → Emitted
+turns_done l a s p = record {
+  items = Jump (suc (suc (suc l))) ∷ Label l ∷ (a.items ++ (Label (suc l) ∷ (s.items ++ (Label (suc (suc (suc l))) ∷ (p.items ++ (Label (suc (suc l)) ∷ []))))));
+  temps = max a.temps (max s.temps p.temps);
+  labels = p.labels;
+}
 
-abbrev pub do_of : ℕ → Emitted → (ℕ → Emitted) → Emitted
-do_of l a f = do_done l a (f a.labels)
+abbrev pub turns_of : ℕ → Emitted → Emitted → (ℕ → Emitted) → Emitted
+turns_of l a s f = turns_done l a s (f s.labels)
 
--- `for` with a test, and without one, where a jump counts each turn
+abbrev pub turns_by : ℕ → Emitted → (ℕ → Emitted) → (ℕ → Emitted) → Emitted
+turns_by l a g f = turns_of l a (g a.labels) f
+
+-- `for` with a constant test in front, and without one, where a jump counts each turn
 abbrev pub for_done : ℕ → Emitted → Emitted → Emitted → Emitted
 for_done l p a s = record {
   items = Label l ∷ (p.items ++ (a.items ++ (Label (suc l) ∷ (s.items ++ (Jump l ∷ Label (suc (suc l)) ∷ [])))));
@@ -142,10 +157,19 @@ module _ (size count : ℕ) where
   declare (ClearOf n ∷ ds) l = two_done (record { items = clearing true n; temps = size; labels = l }) (declare ds l)
   declare (BeginOf n e ∷ ds) l = done_by (begin_of (mentions n e) n ((way size count e).low size l)) (declare ds)
 
-  -- the body and the step of a `for`, in turn behind its test
+  -- A `while`, by its body, behind the labels of `break` and `continue`: where the test is a constant, it stands in front.
+  abbrev pub while_by : Option ℕ → AnExpression → (ℕ → ℕ → ℕ → Emitted) → ℕ → Emitted
+  while_by (Some v) c f l = while_of l (unless c (suc l) (suc (suc l))) (f (suc l) l)
+  while_by None c f l = loop_of (suc l) l (f (suc (suc l)) (suc l) (suc (suc (suc l)))) (when c l)
+
+  -- the test, the body and the step of a `for`
+  abbrev pub for_tested : Option ℕ → ℕ → AnExpression → Option AnExpression → (ℕ → Emitted) → Emitted
+  for_tested (Some v) l c e f = for_by l (unless c (suc (suc l)) (suc (suc (suc l)))) (f (unless c (suc (suc l)) (suc (suc (suc l)))).labels) (effect e)
+  for_tested None l c e f = turns_by l (f (suc (suc (suc (suc l))))) (effect e) (when c l)
+
   abbrev pub for_of : ℕ → Option AnExpression → Option AnExpression → (ℕ → Emitted) → Emitted
   for_of l None e f = ever_by l (f (suc (suc (suc l)))) (effect e)
-  for_of l (Some c) e f = for_by l (unless c (suc (suc l)) (suc (suc (suc l)))) (f (unless c (suc (suc l)) (suc (suc (suc l)))).labels) (effect e)
+  for_of l (Some c) e f = for_tested (constant_of c) l c e f
 
   abbrev mutual
     -- a statement, whose `break` and `continue` go to two labels
@@ -158,8 +182,8 @@ module _ (size count : ℕ) where
     lower (ReturnOf e) lb lc l = returning e l
     lower (IfOf c a) lb lc l = if_of l (unless c l (suc l)) (lower a lb lc)
     lower (IfElseOf c a b) lb lc l = if_else_of l (unless c l (suc (suc l))) (lower a lb lc) (lower b lb lc)
-    lower (WhileOf c a) lb lc l = while_of l (unless c (suc l) (suc (suc l))) (lower a (suc l) l)
-    lower (DoOf a c) lb lc l = do_of l (lower a (suc (suc l)) (suc l) (suc (suc (suc l)))) (when c l)
+    lower (WhileOf c a) lb lc l = while_by (constant_of c) c (lower a) l
+    lower (DoOf a c) lb lc l = loop_of l l (lower a (suc (suc l)) (suc l) (suc (suc (suc l)))) (when c l)
     lower (ForOf i c e a) lb lc l = done_by (effect i l) (λ m. for_of m c e (lower a (suc (suc m)) (suc m)))
 
     pub lower_row : SomeActions → ℕ → ℕ → ℕ → Emitted

@@ -3,13 +3,14 @@ use Rattle.std.proofs.Common.{◌≡◌, ℕ, suc, ◌<◌, List, [], ◌∷◌,
 use Rattle.std.specs.Prelude.{Bool, true, false, Option, Some, None}
 use Rattle.c_types.specs.declared.typed.Callee.{Callee}
 use Rattle.c_types.specs.declared.typed.Variable.{Variable}
+use Rattle.c_types.specs.Constants.{constant_of}
 use Rattle.c_types.specs.Typed.{AnExpression}
 use Rattle.c_program.specs.Statements.{ADeclaration, KeepOf, ClearOf, BeginOf, AnAction, SomeActions, NoActions, MoreActions, DeclareOf, BlockOf, EvaluateOf, BreakOf, ContinueOf}
 use Rattle.c_program.specs.Statements.{ReturnOf, IfOf, IfElseOf, WhileOf, DoOf, ForOf}
 use Rattle.c_sound.specs.Fits.{Fits, FitsMaybe, more, behind_act, FitsDeclared, FitsAct, FitsActs}
 use Rattle.c_sound.specs.Stands.{Stands, StandsMaybe, StandsDeclared, StandsAct, StandsActs, IsThere}
 use Rattle.c_lower_scheme.specs.Expressions.{Lowered, Emitted, way}
-use Rattle.c_lower_scheme.specs.Statements.{mentions, two_done, clearing, unless, when, effect, returning, declare, for_of, lower, lower_row}
+use Rattle.c_lower_scheme.specs.Statements.{mentions, two_done, clearing, unless, when, effect, returning, declare, while_by, for_tested, for_of, lower, lower_row}
 use Rattle.c_lower_spelled.proofs.Trees.{AreLong, none, next, behind}
 use Rattle.c_lower_spelled.proofs.Parts.{LongEnds, nought}
 use Rattle.c_lower_spelled.proofs.Phrases.{way_long}
@@ -57,7 +58,80 @@ module _ (objects most params size count : ℕ) (takes : Callee → ℕ → Type
         let h = (way_long objects most params size count takes scope e f s).low size l in
         record { grows = h.grows; items = λ y le. behind (h.items le) (next h.tree none) }
 
+    -- a `while`, by its body
+    while_by_long : (o : Option ℕ) (l : ℕ) (c : AnExpression) (f : ℕ → ℕ → ℕ → Emitted) → Fits scope c → Stands There takes objects c
+        → ((lb lc k : ℕ) → Ends (Loops true lb lc) k (f lb lc k)) → Ends (Unit {0}) l (while_by size count o c f l)
+    while_by_long (Some v) l c f k s h =
+        let p : Emitted = unless size count c (suc l) (suc (suc l)) in
+        let x = unless_long c (suc l) (suc (suc l)) k s in
+        let y = h (suc l) l p.labels in
+        let up = x.grows in
+        let up' = y.grows in
+        record {
+          grows = omega arith;
+          items = λ t le.
+              let lt : l < most = omega arith in
+              let lt' : suc l < most = omega arith in
+              next lt (behind (x.items lt' (omega arith)) (behind (y.items (λ i. (lt', lt)) le) (next lt (next lt' none))));
+        }
+    while_by_long None l c f k s h =
+        let q : Emitted = f (suc (suc l)) (suc l) (suc (suc (suc l))) in
+        let x = h (suc (suc l)) (suc l) (suc (suc (suc l))) in
+        let y = when_long c l q.labels k s in
+        let up = x.grows in
+        let up' = y.grows in
+        record {
+          grows = omega arith;
+          items = λ t le.
+              let lt : l < most = omega arith in
+              let lt' : suc l < most = omega arith in
+              let lt'' : suc (suc l) < most = omega arith in
+              let last = next lt' (behind (y.items lt le) (next lt'' none)) in
+              next lt' (next lt (behind (x.items (λ i. (lt'', lt')) (omega arith)) last));
+        }
+
     -- the test, the body and the step of a `for`
+    tested_long : (o : Option ℕ) (l : ℕ) (c : AnExpression) (e : Option AnExpression) (f : ℕ → Emitted) → Fits scope c → FitsMaybe scope e
+        → Stands There takes objects c → StandsMaybe There takes objects e
+        → ((k : ℕ) → Ends (Loops true (suc (suc l)) (suc l)) k (f k)) → Ends (Unit {0}) l (for_tested size count o l c e f)
+    tested_long (Some v) l c e f k k' s s' h =
+        let p : Emitted = unless size count c (suc (suc l)) (suc (suc (suc l))) in
+        let a : Emitted = f p.labels in
+        let z = unless_long c (suc (suc l)) (suc (suc (suc l))) k s in
+        let x = h p.labels in
+        let y = effect_long e a.labels k' s' in
+        let up = z.grows in
+        let up' = x.grows in
+        let up'' = y.grows in
+        record {
+          grows = omega arith;
+          items = λ t le.
+              let lt : l < most = omega arith in
+              let lt' : suc l < most = omega arith in
+              let lt'' : suc (suc l) < most = omega arith in
+              let last = next lt' (behind (y.items tt le) (next lt (next lt'' none))) in
+              next lt (behind (z.items lt'' (omega arith)) (behind (x.items (λ i. (lt'', lt')) (omega arith)) last));
+        }
+    tested_long None l c e f k k' s s' h =
+        let a : Emitted = f (suc (suc (suc (suc l)))) in
+        let b : Emitted = effect size count e a.labels in
+        let x = h (suc (suc (suc (suc l)))) in
+        let y = effect_long e a.labels k' s' in
+        let z = when_long c l b.labels k s in
+        let up = x.grows in
+        let up' = y.grows in
+        let up'' = z.grows in
+        record {
+          grows = omega arith;
+          items = λ t le.
+              let lt : l < most = omega arith in
+              let lt' : suc l < most = omega arith in
+              let lt'' : suc (suc l) < most = omega arith in
+              let far : suc (suc (suc l)) < most = omega arith in
+              let last = next far (behind (z.items lt le) (next lt'' none)) in
+              next far (next lt (behind (x.items (λ i. (lt'', lt')) (omega arith)) (next lt' (behind (y.items tt (omega arith)) last))));
+        }
+
     turns_long : (l : ℕ) (c e : Option AnExpression) (f : ℕ → Emitted) → FitsMaybe scope c → FitsMaybe scope e
         → StandsMaybe There takes objects c → StandsMaybe There takes objects e
         → ((k : ℕ) → Ends (Loops true (suc (suc l)) (suc l)) k (f k)) → Ends (Unit {0}) l (for_of size count l c e f)
@@ -76,24 +150,7 @@ module _ (objects most params size count : ℕ) (takes : Callee → ℕ → Type
               let last = next lt' (behind (y.items tt le) (next lt (next lt'' none))) in
               next lt (next lt (behind (x.items (λ i. (lt'', lt')) (omega arith)) last));
         }
-    turns_long l (Some c) e f k k' s s' h =
-        let p : Emitted = unless size count c (suc (suc l)) (suc (suc (suc l))) in
-        let a : Emitted = f p.labels in
-        let z = unless_long c (suc (suc l)) (suc (suc (suc l))) k s in
-        let x = h p.labels in
-        let y = effect_long e a.labels k' s' in
-        let up = z.grows in
-        let up' = x.grows in
-        let up'' = y.grows in
-        record {
-          grows = omega arith;
-          items = λ t le.
-              let lt : l < most = omega arith in
-              let lt' : suc l < most = omega arith in
-              let lt'' : suc (suc l) < most = omega arith in
-              let last = next lt' (behind (y.items tt le) (next lt (next lt'' none))) in
-              next lt (behind (z.items lt'' (omega arith)) (behind (x.items (λ i. (lt'', lt')) (omega arith)) last));
-        }
+    turns_long l (Some c) e f k k' s s' h = tested_long (constant_of c) l c e f k k' s s' h
 
   declare_long : (scope : ℕ → Type 0) (ds : List ADeclaration) (l : ℕ) → FitsDeclared size scope ds → StandsDeclared There takes objects ds
       → Ends (Unit {0}) l (declare size count ds l)
@@ -152,18 +209,7 @@ module _ (objects most params size count : ℕ) (takes : Callee → ℕ → Type
               behind (x.items lt (omega arith)) (behind (y.items k (omega arith)) last);
         }
     lower_long scope inside (WhileOf c a) lb lc l f s =
-        let p : Emitted = unless size count c (suc l) (suc (suc l)) in
-        let x = unless_long scope c (suc l) (suc (suc l)) f.0 s.0 in
-        let y = lower_long scope true a (suc l) l p.labels f.1 s.1 in
-        let up = x.grows in
-        let up' = y.grows in
-        record {
-          grows = omega arith;
-          items = λ k le.
-              let lt : l < most = omega arith in
-              let lt' : suc l < most = omega arith in
-              next lt (behind (x.items lt' (omega arith)) (behind (y.items (λ i. (lt', lt)) le) (next lt (next lt' none))));
-        }
+        always _ l _ (while_by_long scope (constant_of c) l c (lower size count a) f.0 s.0 (λ x y k. lower_long scope true a x y k f.1 s.1))
     lower_long scope inside (DoOf a c) lb lc l f s =
         let q : Emitted = lower size count a (suc (suc l)) (suc l) (suc (suc (suc l))) in
         let x = lower_long scope true a (suc (suc l)) (suc l) (suc (suc (suc l))) f.0 s.0 in

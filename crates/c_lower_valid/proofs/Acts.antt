@@ -3,6 +3,7 @@ use Rattle.std.proofs.Common.{◌≡◌, ⊎_elim, ℕ, suc, ◌<◌, List, [], 
 use Rattle.std.specs.Prelude.{Bool, true, false, max}
 use Rattle.c_types.specs.declared.typed.Variable.{Variable}
 use Rattle.c_types.specs.declared.typed.Callee.{Callee}
+use Rattle.c_types.specs.Constants.{constant_of}
 use Rattle.c_types.specs.Typed.{AnExpression}
 use Rattle.c_program.specs.Statements.{ADeclaration, KeepOf, ClearOf, BeginOf, AnAction, SomeActions, NoActions, MoreActions, DeclareOf, BlockOf, EvaluateOf, BreakOf, ContinueOf}
 use Rattle.c_program.specs.Statements.{ReturnOf, IfOf, IfElseOf, WhileOf, DoOf, ForOf}
@@ -11,7 +12,7 @@ use Rattle.c_sound.specs.Stands.{IsThere, StandsMaybe, StandsDeclared, StandsAct
 use Rattle.c_lower_scheme.specs.Trees.{Num, Item, Label, AssignLoc, Jump, Ret}
 use Rattle.c_lower_scheme.specs.Expressions.{Lowered, Emitted, nothing, callee_number}
 use Rattle.c_lower_scheme.specs.Expressions
-use Rattle.c_lower_scheme.specs.Statements.{mentions, two_done, ret_of, clearing, begin_of, if_done, if_else_done, while_done, do_done, for_done, ever_done}
+use Rattle.c_lower_scheme.specs.Statements.{mentions, two_done, ret_of, clearing, begin_of, if_done, if_else_done, loop_done, while_done, turns_done, for_done, ever_done}
 use Rattle.c_lower_scheme.specs.Statements
 use Rattle.c_lower_valid.proofs.Named.{Scene}
 use Rattle.c_lower_valid.proofs.Fine.{Fine, fine_nil, fine_append, fine_up, fine_more, fine_one, fine_behind, fine_three, FineLow, FineDone}
@@ -118,16 +119,30 @@ module _ (scene : Scene) (size count : ℕ) (takes : Callee → ℕ → Type 0)
             (fine_more scene u (Jump l) _ tt tt (fine_one scene u (Label (suc l)) tt tt)));
       }
 
-  fine_do : (l : ℕ) (a p : Emitted) → Dones a → Dones p → Dones (do_done l a p)
-  fine_do l a p h g =
+  fine_loop : (to l : ℕ) (a p : Emitted) → Dones a → Dones p → Dones (loop_done to l a p)
+  fine_loop to l a p h g =
       let u = max a.temps p.temps in
       let le = h.grows in
       record {
         grows = omega arith;
-        items = fine_more scene u (Jump l) _ tt tt (fine_more scene u (Label l) _ tt tt (fine_append scene u a.items _
+        items = fine_more scene u (Jump to) _ tt tt (fine_more scene u (Label l) _ tt tt (fine_append scene u a.items _
             (fine_up scene a.temps u a.items (omega arith) h.items)
             (fine_more scene u (Label (suc l)) _ tt tt
             (fine_behind scene u p.items (Label (suc (suc l))) (fine_up scene p.temps u p.items (omega arith) g.items) tt tt))));
+      }
+
+  fine_turns : (l : ℕ) (a s p : Emitted) → Dones a → Dones s → Dones p → Dones (turns_done l a s p)
+  fine_turns l a s p h g f =
+      let u = max a.temps (max s.temps p.temps) in
+      let le = h.grows in
+      record {
+        grows = omega arith;
+        items = fine_more scene u (Jump (suc (suc (suc l)))) _ tt tt (fine_more scene u (Label l) _ tt tt (fine_append scene u a.items _
+            (fine_up scene a.temps u a.items (omega arith) h.items)
+            (fine_more scene u (Label (suc l)) _ tt tt (fine_append scene u s.items _
+            (fine_up scene s.temps u s.items (omega arith) g.items)
+            (fine_more scene u (Label (suc (suc (suc l)))) _ tt tt
+            (fine_behind scene u p.items (Label (suc (suc l))) (fine_up scene p.temps u p.items (omega arith) f.items) tt tt))))));
       }
 
   -- the step of a `for`, and the jump back
@@ -174,16 +189,35 @@ module _ (scene : Scene) (size count : ℕ) (takes : Callee → ℕ → Type 0)
     fine_returning (Some e) l f s = fine_ret ((Expressions.way size count e).low size l)
         ((fine_way scene size count takes calls scope within e f s).low size l (omega arith))
 
+    fine_while_by : (o : Option ℕ) (l : ℕ) (c : AnExpression) (f : ℕ → ℕ → ℕ → Emitted) → Fits scope c → StandsMaybe There takes scene.objects (Some c)
+        → ((lb lc m : ℕ) → Dones (f lb lc m)) → Dones (Statements.while_by size count o c f l)
+    fine_while_by (Some v) l c f k s h =
+        let p = Statements.unless size count c (suc l) (suc (suc l)) in
+        fine_while l p (f (suc l) l p.labels) (fine_test_of false c (suc l) (suc (suc l)) k s) (h (suc l) l p.labels)
+    fine_while_by None l c f k s h =
+        let q = f (suc (suc l)) (suc l) (suc (suc (suc l))) in
+        fine_loop (suc l) l q (Statements.when size count c l q.labels) (h (suc (suc l)) (suc l) (suc (suc (suc l)))) (fine_test_of true c l q.labels k s)
+
+    fine_tested : (o : Option ℕ) (l : ℕ) (c : AnExpression) (e : Option AnExpression) (f : ℕ → Emitted) → Fits scope c → FitsMaybe scope e
+        → StandsMaybe There takes scene.objects (Some c) → StandsMaybe There takes scene.objects e → ((m : ℕ) → Dones (f m))
+        → Dones (Statements.for_tested size count o l c e f)
+    fine_tested (Some v) l c e f k k' s s' h =
+        let p = Statements.unless size count c (suc (suc l)) (suc (suc (suc l))) in
+        let b = f p.labels in
+        fine_for l p b (Statements.effect size count e b.labels) (fine_test_of false c (suc (suc l)) (suc (suc (suc l))) k s)
+        (h p.labels) (fine_effect e b.labels k' s')
+    fine_tested None l c e f k k' s s' h =
+        let b = f (suc (suc (suc (suc l)))) in
+        let t = Statements.effect size count e b.labels in
+        fine_turns l b t (Statements.when size count c l t.labels) (h (suc (suc (suc (suc l))))) (fine_effect e b.labels k' s')
+        (fine_test_of true c l t.labels k s)
+
     fine_for_of : (l : ℕ) (c e : Option AnExpression) (f : ℕ → Emitted) → FitsMaybe scope c → FitsMaybe scope e
         → StandsMaybe There takes scene.objects c → StandsMaybe There takes scene.objects e → ((m : ℕ) → Dones (f m))
         → Dones (Statements.for_of size count l c e f)
     fine_for_of l None e f k k' s s' h = let b = f (suc (suc (suc l))) in
         fine_ever l b (Statements.effect size count e b.labels) (h (suc (suc (suc l)))) (fine_effect e b.labels k' s')
-    fine_for_of l (Some c) e f k k' s s' h =
-        let p = Statements.unless size count c (suc (suc l)) (suc (suc (suc l))) in
-        let b = f p.labels in
-        fine_for l p b (Statements.effect size count e b.labels) (fine_test_of false c (suc (suc l)) (suc (suc (suc l))) k s)
-        (h p.labels) (fine_effect e b.labels k' s')
+    fine_for_of l (Some c) e f k k' s s' h = fine_tested (constant_of c) l c e f k k' s s' h
 
   fine_declare : (scope : ℕ → Type 0) (within : (n : ℕ) → scope n → n < size) (ds : List ADeclaration) (l : ℕ)
       → FitsDeclared size scope ds → StandsDeclared There takes scene.objects ds → Dones (Statements.declare size count ds l)
@@ -220,12 +254,10 @@ module _ (scene : Scene) (size count : ℕ) (takes : Callee → ℕ → Type 0)
         fine_if_else l p q (Statements.lower size count b lb lc q.labels) (fine_test_of scope within false c l (suc (suc l)) f.0 s.0)
         (fine_act scope within inside a lb lc p.labels f.1 s.1) (fine_act scope within inside b lb lc q.labels f.2 s.2)
     fine_act scope within inside (WhileOf c a) lb lc l f s =
-        let p = Statements.unless size count c (suc l) (suc (suc l)) in
-        fine_while l p (Statements.lower size count a (suc l) l p.labels)
-        (fine_test_of scope within false c (suc l) (suc (suc l)) f.0 s.0) (fine_act scope within true a (suc l) l p.labels f.1 s.1)
+        fine_while_by scope within (constant_of c) l c (Statements.lower size count a) f.0 s.0 (λ x y m. fine_act scope within true a x y m f.1 s.1)
     fine_act scope within inside (DoOf a c) lb lc l f s =
         let q = Statements.lower size count a (suc (suc l)) (suc l) (suc (suc (suc l))) in
-        fine_do l q (Statements.when size count c l q.labels)
+        fine_loop l l q (Statements.when size count c l q.labels)
         (fine_act scope within true a (suc (suc l)) (suc l) (suc (suc (suc l))) f.0 s.0)
         (fine_test_of scope within true c l q.labels f.1 s.1)
     fine_act scope within inside (ForOf i c e a) lb lc l f s =

@@ -1,6 +1,7 @@
 -- Labels among the items of statements: `break` and `continue` go out, unless a loop is around them.
-use Rattle.std.proofs.Common.{◌≡◌, ℕ, suc, ◌+◌, ◌<◌, List, [], ◌∷◌, ◌++◌, Option, Some, None, refl, arith}
+use Rattle.std.proofs.Common.{◌≡◌, ℕ, suc, ◌+◌, ◌≤◌, ◌<◌, List, [], ◌∷◌, ◌++◌, Option, Some, None, refl, arith}
 use Rattle.std.specs.Prelude.{Bool, true, false}
+use Rattle.c_types.specs.Constants.{constant_of}
 use Rattle.c_types.specs.Typed.{AnExpression}
 use Rattle.c_program.specs.Statements.{ADeclaration, KeepOf, ClearOf, BeginOf, AnAction, SomeActions, NoActions, MoreActions, DeclareOf, BlockOf, EvaluateOf, BreakOf, ContinueOf}
 use Rattle.c_program.specs.Statements.{ReturnOf, IfOf, IfElseOf, WhileOf, DoOf, ForOf}
@@ -47,13 +48,18 @@ marked_three out l q inner js h e k =
     (λ m. omega arith) (λ m. refl) (λ m lt. omega arith) in
     marked_count out top l q (Label (suc l) ∷ Label (suc (suc l)) ∷ inner) js next (λ m. omega arith) e (λ m lt. omega (arith, k m lt))
 
-marked_do : (out : ℕ → ℕ) (l p q : ℕ) (a b : List Item) → Marked (leaving true (suc (suc l)) (suc l)) (suc (suc (suc l))) p a
-    → Marked (at l) p q b → Marked out l q (Jump l ∷ Label l ∷ (a ++ (Label (suc l) ∷ (b ++ (Label (suc (suc l)) ∷ [])))))
-marked_do out l p q a b h g =
+-- a first jump goes to the top or to the test
+marked_loop : (out : ℕ → ℕ) (to l p q : ℕ) (a b : List Item) → ((m : ℕ) → at to m ≤ at l m + at (suc l) m)
+    → Marked (leaving true (suc (suc l)) (suc l)) (suc (suc (suc l))) p a → Marked (at l) p q b
+    → Marked out l q (Jump to ∷ Label l ∷ (a ++ (Label (suc l) ∷ (b ++ (Label (suc (suc l)) ∷ [])))))
+marked_loop out to l p q a b first h g =
     let T2 : List Item = Label (suc (suc l)) ∷ [] in
     let T1 : List Item = Label (suc l) ∷ (b ++ T2) in
-    marked_three out l q (a ++ b) _ (marked_append (three l) (suc (suc (suc l))) p q a b
-    (marked_out _ (three l) (suc (suc (suc l))) p a (λ m. omega arith) h) (marked_out (at l) (three l) p q b (λ m. omega arith) g))
+    let inner : List Item = a ++ b in
+    let all = marked_append (three l) (suc (suc (suc l))) p q a b
+    (marked_out _ (three l) (suc (suc (suc l))) p a (λ m. omega arith) h) (marked_out (at l) (three l) p q b (λ m. omega arith) g) in
+    let begun = marked_same (three l) (suc (suc (suc l))) q inner (Jump to ∷ inner) all (λ m. omega arith) (λ m lt. omega (arith, first m)) in
+    marked_three out l q (Jump to ∷ inner) _ begun
     (λ m. omega (arith, stands_append m a T1, stands_append m b T2, stands_append m a b))
     (λ m lt. omega (arith, aims_append m a T1, aims_append m b T2, aims_append m a b))
 
@@ -78,6 +84,23 @@ marked_for out l p q r a b c h g f =
     (marked_append (three l) (suc (suc (suc l))) p r a (b ++ c) (marked_out _ (three l) (suc (suc (suc l))) p a (λ m. omega arith) h)
     (marked_append (three l) p q r b c (marked_out _ (three l) p q b (λ m. omega arith) g)
     (marked_out nowhere (three l) q r c (λ m. omega arith) f)))
+    (λ m. omega (arith, stands_append m a T1, stands_append m b T2, stands_append m c T3, stands_append m a (b ++ c), stands_append m b c))
+    (λ m lt. omega (arith, aims_append m a T1, aims_append m b T2, aims_append m c T3, aims_append m a (b ++ c), aims_append m b c))
+
+-- four labels: the test's behind the step too
+marked_turns : (out : ℕ → ℕ) (l p q r : ℕ) (a b c : List Item) → Marked (leaving true (suc (suc l)) (suc l)) (suc (suc (suc (suc l)))) p a
+    → Marked nowhere p q b → Marked (at l) q r c
+    → Marked out l r (Jump (suc (suc (suc l))) ∷ Label l ∷ (a ++ (Label (suc l) ∷ (b ++ (Label (suc (suc (suc l))) ∷ (c ++ (Label (suc (suc l)) ∷ [])))))))
+marked_turns out l p q r a b c h g f =
+    let T3 : List Item = Label (suc (suc l)) ∷ [] in
+    let T2 : List Item = Label (suc (suc (suc l))) ∷ (c ++ T3) in
+    let T1 : List Item = Label (suc l) ∷ (b ++ T2) in
+    let inner : List Item = a ++ (b ++ c) in
+    let all = marked_append (three l) (suc (suc (suc (suc l)))) p r a (b ++ c) (marked_out _ (three l) (suc (suc (suc (suc l)))) p a (λ m. omega arith) h)
+    (marked_append (three l) p q r b c (marked_out nowhere (three l) p q b (λ m. omega arith) g) (marked_out (at l) (three l) q r c (λ m. omega arith) f)) in
+    let begun : List Item = Jump (suc (suc (suc l))) ∷ Label (suc (suc (suc l))) ∷ inner in
+    let one = marked_count (three l) (three l) (suc (suc (suc l))) r inner begun all (λ m. omega arith) (λ m. omega arith) (λ m lt. omega arith) in
+    marked_three out l r begun _ one
     (λ m. omega (arith, stands_append m a T1, stands_append m b T2, stands_append m c T3, stands_append m a (b ++ c), stands_append m b c))
     (λ m lt. omega (arith, aims_append m a T1, aims_append m b T2, aims_append m c T3, aims_append m a (b ++ c), aims_append m b c))
 
@@ -109,16 +132,36 @@ module _ (size count : ℕ) where
       (marked_plain nowhere l q.labels q.items (AssignLoc n q.tree ∷ []) ((marked_way size count e).low size l) (λ m. refl)))
       (marked_declare ds q.labels)
 
+  marked_while_by : (out : ℕ → ℕ) (o : Option ℕ) (c : AnExpression) (f : ℕ → ℕ → ℕ → Expressions.Emitted) (l : ℕ)
+      → ((lb lc m : ℕ) → Marked (leaving true lb lc) m (f lb lc m).labels (f lb lc m).items)
+      → Marked out l (Statements.while_by size count o c f l).labels (Statements.while_by size count o c f l).items
+  marked_while_by out (Some v) c f l h =
+      let q = Statements.unless size count c (suc l) (suc (suc l)) in
+      marked_while out l q.labels _ q.items _ ((marked_way size count c).branch false (suc l) size (suc (suc l))) (h (suc l) l q.labels)
+  marked_while_by out None c f l h =
+      let x = f (suc (suc l)) (suc l) (suc (suc (suc l))) in
+      marked_loop out (suc l) l x.labels _ x.items _ (λ m. omega arith) (h (suc (suc l)) (suc l) (suc (suc (suc l)))) ((marked_way size count c).branch true l size x.labels)
+
+  marked_tested : (out : ℕ → ℕ) (o : Option ℕ) (c : AnExpression) (e : Option AnExpression) (l : ℕ) (f : ℕ → Expressions.Emitted)
+      → ((m : ℕ) → Marked (leaving true (suc (suc l)) (suc l)) m (f m).labels (f m).items)
+      → Marked out l (Statements.for_tested size count o l c e f).labels (Statements.for_tested size count o l c e f).items
+  marked_tested out (Some v) c e l f h =
+      let q = Statements.unless size count c (suc (suc l)) (suc (suc (suc l))) in
+      let b = f q.labels in
+      marked_for out l q.labels b.labels _ q.items b.items _
+      ((marked_way size count c).branch false (suc (suc l)) size (suc (suc (suc l)))) (h q.labels) (marked_effect e b.labels)
+  marked_tested out None c e l f h =
+      let b = f (suc (suc (suc (suc l)))) in
+      let s = Statements.effect size count e b.labels in
+      marked_turns out l b.labels s.labels _ b.items s.items _ (h (suc (suc (suc (suc l))))) (marked_effect e b.labels)
+      ((marked_way size count c).branch true l size s.labels)
+
   marked_for_of : (out : ℕ → ℕ) (c e : Option AnExpression) (l : ℕ) (f : ℕ → Expressions.Emitted)
       → ((m : ℕ) → Marked (leaving true (suc (suc l)) (suc l)) m (f m).labels (f m).items)
       → Marked out l (Statements.for_of size count l c e f).labels (Statements.for_of size count l c e f).items
   marked_for_of out None e l f h = let b = f (suc (suc (suc l))) in
       marked_ever out l b.labels _ b.items _ (h (suc (suc (suc l)))) (marked_effect e b.labels)
-  marked_for_of out (Some c) e l f h =
-      let q = Statements.unless size count c (suc (suc l)) (suc (suc (suc l))) in
-      let b = f q.labels in
-      marked_for out l q.labels b.labels _ q.items b.items _
-      ((marked_way size count c).branch false (suc (suc l)) size (suc (suc (suc l)))) (h q.labels) (marked_effect e b.labels)
+  marked_for_of out (Some c) e l f h = marked_tested out (constant_of c) c e l f h
 
   mutual
     marked_act : (scope : ℕ → Type 0) (inside : Bool) (a : AnAction) (lb lc l : ℕ) → FitsAct size scope inside a
@@ -147,12 +190,10 @@ module _ (size count : ℕ) where
         ((marked_way size count c).branch false l size (suc (suc l))) (marked_act scope inside a lb lc q.labels f.1)
         (marked_act scope inside b lb lc x.labels f.2)
     marked_act scope inside (WhileOf c a) lb lc l f =
-        let q = Statements.unless size count c (suc l) (suc (suc l)) in
-        marked_while (leaving inside lb lc) l q.labels _ q.items _ ((marked_way size count c).branch false (suc l) size (suc (suc l)))
-        (marked_act scope true a (suc l) l q.labels f.1)
+        marked_while_by (leaving inside lb lc) (constant_of c) c (Statements.lower size count a) l (λ x y m. marked_act scope true a x y m f.1)
     marked_act scope inside (DoOf a c) lb lc l f =
         let x = Statements.lower size count a (suc (suc l)) (suc l) (suc (suc (suc l))) in
-        marked_do (leaving inside lb lc) l x.labels _ x.items _ (marked_act scope true a (suc (suc l)) (suc l) (suc (suc (suc l))) f.0)
+        marked_loop (leaving inside lb lc) l l x.labels _ x.items _ (λ m. omega arith) (marked_act scope true a (suc (suc l)) (suc l) (suc (suc (suc l))) f.0)
         ((marked_way size count c).branch true l size x.labels)
     marked_act scope inside (ForOf i c e a) lb lc l f =
         let x = Statements.effect size count i l in
