@@ -1,9 +1,10 @@
 -- What is asked of the next settling's node, by how it was found.
-use Rattle.std.proofs.Common.{◌≡◌, ℕ, zero, suc, ◌+◌, ◌<◌, List, [], ◌∷◌, ◌++◌, Some, Bool, length, slice_get, refl, sym, ap, ap₂, ◌∙◌, subst, arith}
+use Rattle.std.proofs.Common.{◌≡◌, ℕ, zero, suc, ◌+◌, ◌<◌, List, [], ◌∷◌, ◌++◌, Some, Bool, length, slice_get, refl, sym, ap, ap₂, ◌∙◌, subst, ⊎_elim, arith}
 use Rattle.std.specs.Prelude.{slice_index_or, IfOk, OnOk, Result, Ok, Err}
 use Rattle.tree_core.specs.declared.token.Tok.{Tok}
 use Rattle.lr_tables.specs.declared.types.Choice.{Choice}
 use Rattle.lr_tables.specs.View.{TableView}
+use Rattle.lr_tables.proofs.Members.{In-Contains, Contains-In}
 use Rattle.lr_tables.specs.Leads.{actions_at}
 use Rattle.lr_check_sets.specs.Table.{automaton_of, candidates_at}
 use Rattle.md_reader.specs.declared.types.Sym.{Sym}
@@ -22,7 +23,7 @@ use Rattle.lr_check_samples.specs.Fixed.{IsMadeBy}
 use Rattle.lr_check_samples.specs.Nodes.{IsNode, DrawnKids, kids_leaf, kids_one, kids_two, kids_reduced}
 use Rattle.lr_check_samples.proofs.Making.{settles_of, MadeOne, MadeTwo, MadeReduced, made_one, made_two, made_reduced}
 use Rattle.lr_check_drawn.specs.Asked.{AskedView, with_kid, with_taken}
-use Rattle.lr_check_drawn.specs.Drawing.{DrawingView, KidsView, none_asked, kids_in, answers_in, choices_at, choices_behind, AreDrawn, IsAsked}
+use Rattle.lr_check_drawn.specs.Drawing.{DrawingView, KidsView, none_asked, kids_in, answers_in, choices_at, choices_behind, AreBelow, AreDrawn, IsAsked}
 
 there_in : {X : Type 0} (xs : List X) (i : ℕ) (x : X) → i < length xs → slice_get xs i ≡ Some (slice_index_or xs i x)
 there_in [] i x lt = absurd (omega (arith, lt))
@@ -39,19 +40,31 @@ index_of (y ∷ xs) (suc i) x d e = index_of xs i x d e
 listed : (f : FoundView) (j : ℕ) (y : Place) (s : List Sym) (p : ℕ) → SettlesAt f j y s p → slice_index_or f.lists.all (list_number f j) [] ≡ s
 listed f j y s p at = ap (λ n. slice_index_or f.lists.all (number_in n) []) at.there ∙ index_of f.lists.all at.entry.list s [] at.list
 
+none_below : (i : ℕ) → AreBelow i []
+none_below i = record { each = λ k h. absurd (Contains-In k [] h) }
+
+more_below : (i j : ℕ) (ks : List ℕ) → j < i → AreBelow i ks → AreBelow i (j ∷ ks)
+more_below i j ks lt b = record {
+  each = λ k h. ⊎_elim (λ e. omega (arith, lt, e)) (λ m. b.each k (In-Contains k ks m)) (Contains-In k (j ∷ ks) h);
+}
+
+below_lower : (i j : ℕ) (ks : List ℕ) → j < i → AreBelow j ks → AreBelow i ks
+below_lower i j ks lt b = record { each = λ k h. let less = b.each k h in omega (arith, lt, less) }
+
 -- the node of an earlier settling
 record Earlier (A : Automaton) (f : FoundView) (d : DrawingView) (j : ℕ) (y : Place) : Type 0 where
   numbers : List ℕ
   own : List Bool
   node : IsNode d.nodes j y.token numbers own
   drawn : DrawnKids A f d.nodes j numbers own (slice_index_or d.depths j [])
+  lower : AreBelow j numbers
 
 earlier : {A : Automaton} {f : FoundView} {d : DrawingView} {i j p : ℕ} {y : Place} {s : List Sym} → AreDrawn A f d → i ≡ length d.depths → j < i → SettlesAt f j y s p → Earlier A f d j y
 earlier {f = f} {d = d} {j = j} {y = y} drawn next lt at =
     let k = drawn.each j (slice_index_or d.depths j []) (there_in d.depths j [] (omega (arith, next, lt))) in
     let same : k.entry ≡ at.entry = Some-same k.entry at.entry (sym k.there ∙ at.there) in
     let place : k.place ≡ y = Some-same k.place y (sym k.at ∙ (ap (λ (e : Settling). slice_get f.places e.place) same ∙ at.place)) in
-    record { numbers = k.numbers; own = k.answers; node = subst (λ (c : Place). IsNode d.nodes j c.token k.numbers k.answers) place k.node; drawn = k.drawn }
+    record { numbers = k.numbers; own = k.answers; node = subst (λ (c : Place). IsNode d.nodes j c.token k.numbers k.answers) place k.node; drawn = k.drawn; lower = k.lower }
 
 -- how the next settling was made
 record Next (A : Automaton) (f : FoundView) (i : ℕ) (h : How) : Type 0 where
@@ -78,7 +91,7 @@ asked_as : {A : Automaton} {f : FoundView} {d : DrawingView} {i : ℕ} {k l : Ki
 asked_as {A = A} {f = f} {d = d} {i = i} e h = subst (IsAsked A f d i) (sym e) h
 
 pub asked_leaf : (A : Automaton) (f : FoundView) (d : DrawingView) (i : ℕ) (k : KidsView) → IsMadeBy f i how.Leaf → k ≡ record { numbers = []; asked = none_asked } → IsAsked A f d i k
-asked_leaf A f d i k m e = asked_as e (record { drawn = kids_leaf m })
+asked_leaf A f d i k m e = asked_as e (record { drawn = kids_leaf m; lower = none_below i })
 
 pub asked_one : (A : Automaton) (f : FoundView) (d : DrawingView) (i j : ℕ) (k : KidsView) → IsFound A f → AreDrawn A f d → i ≡ length d.depths → IsMadeBy f i (how.One j) →
     k ≡ record { numbers = j ∷ []; asked = with_kid none_asked 1 (slice_index_or d.depths j []) } → IsAsked A f d i k
@@ -86,7 +99,7 @@ asked_one A f d i j k found drawn next m e =
     let n : Next A f i (how.One j) = next_of found m in
     let g : MadeOne A f j n.place n.list = made_one n.made j refl in
     let l : Earlier A f d j g.kid = earlier drawn next n.later (settles_of g.sum) in
-    asked_as e (record { drawn = kids_one m (settles_of g.sum) l.node l.drawn })
+    asked_as e (record { drawn = kids_one m (settles_of g.sum) l.node l.drawn; lower = more_below i j [] n.later (none_below i) })
 
 pub asked_two : (A : Automaton) (f : FoundView) (d : DrawingView) (i j l size : ℕ) (k : KidsView) → IsFound A f → AreDrawn A f d → i ≡ length d.depths → IsMadeBy f i (how.Two j l) →
     size ≡ length (slice_index_or f.lists.all (list_number f j) []) + 1 →
@@ -99,7 +112,7 @@ asked_two A f d i j l size k found drawn next m long e =
     let list : slice_index_or f.lists.all (list_number f j) [] ≡ g.kid_list = listed f j g.kid g.kid_list g.behind (settles_of g.sum) in
     let same : size ≡ length g.kid_list + 1 = long ∙ ap (λ u. length u + 1) list in
     asked_as (e ∙ ap (λ z. record { numbers = j ∷ l ∷ []; asked = with_kid (with_kid none_asked 1 (slice_index_or d.depths j [])) z (slice_index_or d.depths l []) }) same)
-    (record { drawn = kids_two m (settles_of g.sum) a.node a.drawn (settles_of g.second_sum) b.node b.drawn })
+    (record { drawn = kids_two m (settles_of g.sum) a.node a.drawn (settles_of g.second_sum) b.node b.drawn; lower = more_below i j (l ∷ []) n.later.0 (more_below i l [] n.later.1 (none_below i)) })
 
 taken_at : (t : TableView) (a : AskedView) (p : ℕ) (b : Tok) (size c : ℕ) →
     with_taken a t.content.rules (actions_at t p b) size c
@@ -132,7 +145,7 @@ asked_again t f d i j c k found drawn next m e =
     }) node own in
     let second : k ≡ record { numbers = l.numbers; asked = with_taken a t.content.rules (actions_at t g.state n.place.behind) (length g.whole) c } =
     first ∙ ap₂ (λ (x : List Choice) (y : List Sym). record { numbers = l.numbers; asked = with_taken a t.content.rules x (length y) c }) choices list in
-    asked_as (second ∙ ap (λ z. record { numbers = l.numbers; asked = z }) (taken_at t a g.state n.place.behind (length g.whole) c)) (record { drawn = kids_reduced m at l.drawn })
+    asked_as (second ∙ ap (λ z. record { numbers = l.numbers; asked = z }) (taken_at t a g.state n.place.behind (length g.whole) c)) (record { drawn = kids_reduced m at l.drawn; lower = below_lower i j l.numbers n.later l.lower })
 
 pub if_ok : {T E : Type 0} (r : Result T E) (P Q : T → Type 0) → ((x : T) → P x → Q x) → IfOk r P → IfOk r Q
 if_ok (Ok x) P Q f h = f x h

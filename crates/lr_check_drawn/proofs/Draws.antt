@@ -35,6 +35,7 @@ module _ (A : Automaton) (f : FoundView) where
     at = h.at;
     node = node_lasts d.nodes (record { tok = token; kids = k.numbers; answers = k.asked.own } ∷ []) i h.place.token h.numbers h.answers h.node;
     drawn = kids_last (record { tok = token; kids = k.numbers; answers = k.asked.own } ∷ []) h.drawn;
+    lower = h.lower;
   }
 
   comes : (d : DrawingView) (token : Tok) (k : KidsView) (i : ℕ) (g : How) → IsFound A f → AreDrawn A f d → i ≡ length d.depths → IsNext f i g token → IsAsked A f d i k →
@@ -53,6 +54,7 @@ module _ (A : Automaton) (f : FoundView) where
         at = e.there;
         node = there ∙ ap (λ (z : Tok). Some (record { tok = z; kids = k.numbers; answers = k.asked.own })) tok;
         drawn = kids_last (node ∷ []) a.drawn;
+        lower = a.lower;
       }
 
   pub draws : (d d' : DrawingView) (token : Tok) (k : KidsView) (i : ℕ) (g : How) → IsFound A f → AreDrawn A f d → i ≡ length d.depths → IsNext f i g token → IsAsked A f d i k →

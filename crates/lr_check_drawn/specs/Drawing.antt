@@ -1,5 +1,5 @@
 -- Nodes for the settlings that were found, each with the number of its settling.
-use Rattle.std.specs.Prelude.{◌≡◌, ℕ, List, [], ◌∷◌, ◌++◌, Option, Some, None, Bool, length, slice_get, slice_index_or}
+use Rattle.std.specs.Prelude.{◌≡◌, ℕ, ◌<◌, List, [], ◌∷◌, ◌++◌, Option, Some, None, Bool, Contains, length, slice_get, slice_index_or}
 use Rattle.tree_core.specs.declared.token.Tok.{Tok}
 use Rattle.lr_tables.specs.declared.types.Choice.{Choice}
 use Rattle.lr_tables.specs.View.{TableView}
@@ -63,6 +63,10 @@ kids_again t f d settling class = record {
       (length (slice_index_or f.lists.all (list_number f settling) [])) class;
 }
 
+-- each number is lower
+pub record AreBelow (i : ℕ) (numbers : List ℕ) : Type 0 where
+  pub each : (k : ℕ) → Contains numbers k → k < i
+
 -- the settling's node, with the token of its place
 pub record IsDrawnAt (A : Automaton) (f : FoundView) (d : DrawingView) (i : ℕ) (ds : List ℕ) : Type 0 where
   pub entry : Settling
@@ -73,6 +77,7 @@ pub record IsDrawnAt (A : Automaton) (f : FoundView) (d : DrawingView) (i : ℕ)
   pub at : IsPlaceAt f entry.place place
   pub node : IsNode d.nodes i place.token numbers answers
   pub drawn : DrawnKids A f d.nodes i numbers answers ds
+  pub lower : AreBelow i numbers
 
 pub record AreDrawn (A : Automaton) (f : FoundView) (d : DrawingView) : Type 0 where
   pub many : length d.nodes ≡ length d.depths
@@ -81,6 +86,7 @@ pub record AreDrawn (A : Automaton) (f : FoundView) (d : DrawingView) : Type 0 w
 -- so much is known of the next settling's node
 pub record IsAsked (A : Automaton) (f : FoundView) (d : DrawingView) (i : ℕ) (k : KidsView) : Type 0 where
   pub drawn : DrawnKids A f d.nodes i k.numbers k.asked.own k.asked.depths
+  pub lower : AreBelow i k.numbers
 
 -- one node more
 abbrev pub held : DrawingView → Tok → KidsView → DrawingView
