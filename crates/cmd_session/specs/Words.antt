@@ -5,7 +5,7 @@ use Rattle.std.specs.declared.string.String.{String}
 use Rattle.std.specs.declared.alloc.Global.{Global}
 use Rattle.std.specs.String.{string_bytes}
 use Rattle.cmd_session.specs.declared.words.Command.{Command}
-use Rattle.cmd_session.specs.declared.words.Command.TheVariants.{Check, Compile, Run, Meaning}
+use Rattle.cmd_session.specs.declared.words.Command.TheVariants.{Check, Compile, Run, Meaning, Load}
 
 -- the bytes of each word
 abbrev pub spelled : List (String Global) → List (List ℕ)
@@ -15,9 +15,13 @@ spelled words = map string_bytes words
 abbrev pub greatest_count : ℕ
 greatest_count = 1000000000
 
--- a number of steps
-abbrev pub IsCount : ℕ → Type 0
-IsCount n = (0 < n) × (n ≤ greatest_count)
+-- the greatest number of functions that a command may ask for
+abbrev pub greatest_size : ℕ
+greatest_size = 1000
+
+-- a number from 1 to the greatest
+abbrev pub IsCount : ℕ → ℕ → Type 0
+IsCount greatest n = (0 < n) × (n ≤ greatest)
 
 -- a word and a name
 pub record SaysNamed (word : List ℕ) (words : List (List ℕ)) (name : List ℕ) : Type 0 where
@@ -30,11 +34,11 @@ pub record SaysPaired (word : List ℕ) (words : List (List ℕ)) (first second 
   pub first_named : 0 < length first
   pub second_named : 0 < length second
 
--- a word, a name, and a number in decimal without a leading zero
-pub record SaysCounted (word : List ℕ) (words : List (List ℕ)) (name : List ℕ) (count : ℕ) : Type 0 where
+-- a word, a name, and a number from 1 to the greatest in decimal without a leading zero
+pub record SaysCounted (word : List ℕ) (greatest : ℕ) (words : List (List ℕ)) (name : List ℕ) (count : ℕ) : Type 0 where
   pub words_are : words ≡ word ∷ (name ∷ (decimal count ∷ []))
   pub named : 0 < length name
-  pub counts : IsCount count
+  pub counts : IsCount greatest count
 
 -- `check D`
 abbrev pub SaysCheck : List (List ℕ) → List ℕ → Type 0
@@ -46,11 +50,15 @@ SaysCompile words description source = SaysPaired (codes "compile") words descri
 
 -- `run A N`
 abbrev pub SaysRun : List (List ℕ) → List ℕ → ℕ → Type 0
-SaysRun words text count = SaysCounted (codes "run") words text count
+SaysRun words text count = SaysCounted (codes "run") greatest_count words text count
 
 -- `meaning S N`
 abbrev pub SaysMeaning : List (List ℕ) → List ℕ → ℕ → Type 0
-SaysMeaning words source count = SaysCounted (codes "meaning") words source count
+SaysMeaning words source count = SaysCounted (codes "meaning") greatest_count words source count
+
+-- `load D K`
+abbrev pub SaysLoad : List (List ℕ) → List ℕ → ℕ → Type 0
+SaysLoad words description size = SaysCounted (codes "load") greatest_size words description size
 
 -- the words say this command
 abbrev pub Says : List (List ℕ) → Command → Type 0
@@ -58,6 +66,7 @@ Says words (Check description) = SaysCheck words description.now
 Says words (Compile description source) = SaysCompile words description.now source.now
 Says words (Run text count) = SaysRun words text.now count
 Says words (Meaning source count) = SaysMeaning words source.now count
+Says words (Load description size) = SaysLoad words description.now size
 
 -- the words say none of one kind of command, or no other one of it than this
 abbrev pub NoNamed : List ℕ → List (List ℕ) → Type 0
@@ -72,26 +81,42 @@ NoPaired word words = (first second : List ℕ) → SaysPaired word words first 
 abbrev pub OnlyPaired : List ℕ → List (List ℕ) → List ℕ → List ℕ → Type 0
 OnlyPaired word words first second = (one other : List ℕ) → SaysPaired word words one other → (one ≡ first) × (other ≡ second)
 
-abbrev pub NoCounted : List ℕ → List (List ℕ) → Type 0
-NoCounted word words = (name : List ℕ) (count : ℕ) → SaysCounted word words name count → ⊥
+abbrev pub NoCounted : List ℕ → ℕ → List (List ℕ) → Type 0
+NoCounted word greatest words = (name : List ℕ) (count : ℕ) → SaysCounted word greatest words name count → ⊥
 
-abbrev pub OnlyCounted : List ℕ → List (List ℕ) → List ℕ → ℕ → Type 0
-OnlyCounted word words name count = (other : List ℕ) (n : ℕ) → SaysCounted word words other n → (other ≡ name) × (n ≡ count)
+abbrev pub OnlyCounted : List ℕ → ℕ → List (List ℕ) → List ℕ → ℕ → Type 0
+OnlyCounted word greatest words name count =
+    (other : List ℕ) (n : ℕ) → SaysCounted word greatest words other n → (other ≡ name) × (n ≡ count)
+
+abbrev pub NoRun : List (List ℕ) → Type 0
+NoRun = NoCounted (codes "run") greatest_count
+
+abbrev pub NoMeaning : List (List ℕ) → Type 0
+NoMeaning = NoCounted (codes "meaning") greatest_count
+
+abbrev pub NoLoad : List (List ℕ) → Type 0
+NoLoad = NoCounted (codes "load") greatest_size
 
 -- the words say no other command than this
 abbrev pub SaysOnly : List (List ℕ) → Command → Type 0
 SaysOnly words (Check description) =
-    OnlyNamed (codes "check") words description.now × NoPaired (codes "compile") words × NoCounted (codes "run") words × NoCounted (codes "meaning") words
+    OnlyNamed (codes "check") words description.now × NoPaired (codes "compile") words × NoRun words × NoMeaning words × NoLoad words
 SaysOnly words (Compile description source) =
-    NoNamed (codes "check") words × OnlyPaired (codes "compile") words description.now source.now × NoCounted (codes "run") words × NoCounted (codes "meaning") words
+    NoNamed (codes "check") words × OnlyPaired (codes "compile") words description.now source.now × NoRun words × NoMeaning words × NoLoad words
 SaysOnly words (Run text count) =
-    NoNamed (codes "check") words × NoPaired (codes "compile") words × OnlyCounted (codes "run") words text.now count × NoCounted (codes "meaning") words
+    NoNamed (codes "check") words × NoPaired (codes "compile") words × OnlyCounted (codes "run") greatest_count words text.now count
+    × NoMeaning words × NoLoad words
 SaysOnly words (Meaning source count) =
-    NoNamed (codes "check") words × NoPaired (codes "compile") words × NoCounted (codes "run") words × OnlyCounted (codes "meaning") words source.now count
+    NoNamed (codes "check") words × NoPaired (codes "compile") words × NoRun words
+    × OnlyCounted (codes "meaning") greatest_count words source.now count × NoLoad words
+SaysOnly words (Load description size) =
+    NoNamed (codes "check") words × NoPaired (codes "compile") words × NoRun words × NoMeaning words
+    × OnlyCounted (codes "load") greatest_size words description.now size
 
 -- the words say no command
 pub record SaysNone (words : List (List ℕ)) : Type 0 where
   pub no_check : NoNamed (codes "check") words
   pub no_compile : NoPaired (codes "compile") words
-  pub no_run : NoCounted (codes "run") words
-  pub no_meaning : NoCounted (codes "meaning") words
+  pub no_run : NoRun words
+  pub no_meaning : NoMeaning words
+  pub no_load : NoLoad words

@@ -27,6 +27,7 @@ fn said(alloc: Global, text: &str) -> Result<String, AllocError> {
         Some(Command::Compile(d, source)) => format!(in alloc; "compile {d} {source}"),
         Some(Command::Run(text, count)) => format!(in alloc; "run {text} {count}"),
         Some(Command::Meaning(source, count)) => format!(in alloc; "meaning {source} {count}"),
+        Some(Command::Load(description, size)) => format!(in alloc; "load {description} {size}"),
         None => String::from_str(alloc, "nothing"),
     }
 }
@@ -41,7 +42,9 @@ fn reads_words(rt: HostRuntime) -> Result<(), Fail> {
         run,a,+7=nothing;run,a,-7=nothing;run,a,7x=nothing;run,a,1000000001=nothing;\
         run,a,18446744073709551617=nothing;Run,a,7=nothing;meaning,s.c,7=meaning s.c 7;\
         meaning,s,1000000000=meaning s 1000000000;meaning=nothing;meaning,s=nothing;meaning,,7=nothing;\
-        meaning,s,7,7=nothing;meaning,s,0=nothing;meaning,s,07=nothing;meaning,s,1000000001=nothing;means,s,7=nothing";
+        meaning,s,7,7=nothing;meaning,s,0=nothing;meaning,s,07=nothing;meaning,s,1000000001=nothing;means,s,7=nothing;\
+        load,d,1=load d 1;load,d,1000=load d 1000;load=nothing;load,d=nothing;load,,7=nothing;load,d,7,7=nothing;load,d,0=nothing;load,d,01=nothing;\
+        load,d,1001=nothing;load,d,1000000000=nothing";
     for row in rows.split(';') {
         let (words, wanted) = row.split_once('=').ok_or("no row")?;
         let got = said(rt.alloc(), words)?;

@@ -1,7 +1,7 @@
 // The words of the commands.
 ghost use Rattle.std.specs.Prelude.{◌≡◌, IfSome, IfNone, ℕ, List};
 ghost use Rattle.std.specs.Fmt.{decimal};
-ghost use Rattle.cmd_session.specs.Words.{spelled, IsCount, SaysNamed, SaysPaired, SaysCounted, Says, SaysOnly, SaysNone};
+ghost use Rattle.cmd_session.specs.Words.{spelled, IsCount, SaysNamed, SaysPaired, SaysCounted, NoCounted, Says, SaysOnly, SaysNone};
 
 use itoa::Buffer;
 
@@ -16,21 +16,26 @@ pub enum Command<'a> {
     Run(&'a str, u64),
     /// `meaning S N`: the run of the source S by its meaning, with at most N counted turns of loops and calls.
     Meaning(&'a str, u64),
+    /// `load D K`: the generated source of K functions, compiled by the machine description D and run on both sides.
+    Load(&'a str, u64),
 }
 
 /// The greatest number of steps that a command may ask for.
 const GREATEST_COUNT: u64 = 1_000_000_000;
 
-// The number of steps that a word is: from 1 to 1,000,000,000, in decimal digits without a leading zero.
-fn count_of(word: &str) -> Option<u64>
-    ensures some { IfSome result (λ n. IsCount n) }
+/// The greatest number of functions that a command may ask for.
+const GREATEST_SIZE: u64 = 1_000;
+
+// The number that a word is: from 1 to the greatest, in decimal digits without a leading zero.
+fn count_of(word: &str, greatest: u64) -> Option<u64>
+    ensures some { IfSome result (λ n. IsCount greatest n) }
     ensures spelled { IfSome result (λ n. word.now ≡ decimal n) }
-    ensures none { IfNone result ((n : ℕ) → IsCount n → word.now ≡ decimal n → ⊥) }
+    ensures none { IfNone result ((n : ℕ) → IsCount greatest n → word.now ≡ decimal n → ⊥) }
 {
     let Ok(n) = word.parse::<u64>() else {
         return None;
     };
-    if n == 0 || n > GREATEST_COUNT || Buffer::new().format(n) != word {
+    if n == 0 || n > greatest || Buffer::new().format(n) != word {
         return None;
     }
     Some(n)
@@ -61,13 +66,13 @@ fn paired<'a>(words: &'a [String], word: &str) -> Option<(&'a str, &'a str)>
 }
 
 // The name and the number of the words `WORD NAME N`. Names are not empty.
-fn counted<'a>(words: &'a [String], word: &str) -> Option<(&'a str, u64)>
-    ensures some { IfSome result (λ said. SaysCounted word.now (spelled words.now) said.0.now said.1) }
-    ensures none { IfNone result ((name : List ℕ) (count : ℕ) → SaysCounted word.now (spelled words.now) name count → ⊥) }
+fn counted<'a>(words: &'a [String], word: &str, greatest: u64) -> Option<(&'a str, u64)>
+    ensures some { IfSome result (λ said. SaysCounted word.now greatest (spelled words.now) said.0.now said.1) }
+    ensures none { IfNone result (NoCounted word.now greatest (spelled words.now)) }
 {
     match words {
         [first, name, count] if first.as_str() == word && !name.is_empty() => {
-            let count = count_of(count.as_str())?;
+            let count = count_of(count.as_str(), greatest)?;
             Some((name.as_str(), count))
         }
         _ => None,
@@ -86,9 +91,12 @@ pub fn command_of(words: &[String]) -> Option<Command<'_>>
     if let Some((description, source)) = paired(words, "compile") {
         return Some(Command::Compile(description, source));
     }
-    if let Some((text, count)) = counted(words, "run") {
+    if let Some((text, count)) = counted(words, "run", GREATEST_COUNT) {
         return Some(Command::Run(text, count));
     }
-    let (source, count) = counted(words, "meaning")?;
-    Some(Command::Meaning(source, count))
+    if let Some((source, count)) = counted(words, "meaning", GREATEST_COUNT) {
+        return Some(Command::Meaning(source, count));
+    }
+    let (description, size) = counted(words, "load", GREATEST_SIZE)?;
+    Some(Command::Load(description, size))
 }

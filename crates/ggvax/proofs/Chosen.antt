@@ -1,8 +1,8 @@
 -- What holds of the command that was chosen holds of the one that the words say.
 use Rattle.std.proofs.Common.{◌≡◌, ℕ, List, codes, Bor, sym, subst}
 use Rattle.cmd_session.specs.declared.words.Command.{Command}
-use Rattle.cmd_session.specs.declared.words.Command.TheVariants.{Check, Compile, Run, Meaning}
-use Rattle.cmd_session.specs.Words.{OnlyNamed, OnlyPaired, OnlyCounted, SaysOnly}
+use Rattle.cmd_session.specs.declared.words.Command.TheVariants.{Check, Compile, Run, Meaning, Load}
+use Rattle.cmd_session.specs.Words.{IsCount, greatest_count, greatest_size, OnlyNamed, OnlyPaired, OnlyCounted, Says, SaysOnly}
 
 pub only_check : (words : List (List ℕ)) (command : Command) (d : Bor (List ℕ)) → SaysOnly words command → command ≡ Check d → OnlyNamed (codes "check") words d.now
 only_check words command d only is = (subst (SaysOnly words) is only).0
@@ -10,11 +10,19 @@ only_check words command d only is = (subst (SaysOnly words) is only).0
 pub only_compile : (words : List (List ℕ)) (command : Command) (d source : Bor (List ℕ)) → SaysOnly words command → command ≡ Compile d source → OnlyPaired (codes "compile") words d.now source.now
 only_compile words command d source only is = (subst (SaysOnly words) is only).1
 
-pub only_run : (words : List (List ℕ)) (command : Command) (text : Bor (List ℕ)) (count : ℕ) → SaysOnly words command → command ≡ Run text count → OnlyCounted (codes "run") words text.now count
+pub only_run : (words : List (List ℕ)) (command : Command) (text : Bor (List ℕ)) (count : ℕ) → SaysOnly words command → command ≡ Run text count → OnlyCounted (codes "run") greatest_count words text.now count
 only_run words command text count only is = (subst (SaysOnly words) is only).2
 
-pub only_meaning : (words : List (List ℕ)) (command : Command) (source : Bor (List ℕ)) (count : ℕ) → SaysOnly words command → command ≡ Meaning source count → OnlyCounted (codes "meaning") words source.now count
+pub only_meaning : (words : List (List ℕ)) (command : Command) (source : Bor (List ℕ)) (count : ℕ) → SaysOnly words command → command ≡ Meaning source count → OnlyCounted (codes "meaning") greatest_count words source.now count
 only_meaning words command source count only is = (subst (SaysOnly words) is only).3
+
+pub only_load : (words : List (List ℕ)) (command : Command) (d : Bor (List ℕ)) (size : ℕ) → SaysOnly words command → command ≡ Load d size →
+    OnlyCounted (codes "load") greatest_size words d.now size
+only_load words command d size only is = (subst (SaysOnly words) is only).4
+
+-- the number of functions is one
+pub counts : (words : List (List ℕ)) (command : Command) (d : Bor (List ℕ)) (size : ℕ) → Says words command → command ≡ Load d size → IsCount greatest_size size
+counts words command d size said is = (subst (Says words) is said).counts
 
 -- the name and the number are the only ones
 pub carried : (P : List ℕ → ℕ → Type 0) (name other : List ℕ) (count n : ℕ) → (other ≡ name) × (n ≡ count) → P name count → P other n

@@ -75,7 +75,7 @@ fn check(rt: &impl Abort, alloc: Global, case: &Case, left: &Left) -> Result<(),
 
 #[test]
 fn answers_each_command(rt: HostRuntime) -> Result<(), Fail> {
-    let usage = "ggvax: usage: check D | compile D S | run A N | meaning S N\n";
+    let usage = "ggvax: usage: check D | compile D S | run A N | meaning S N | load D K\n";
     let rows = [
         ("run,s,7", HI_TEXT, Status::Done, "Hi", "ended 0\n"),
         ("run,s,6", HI_TEXT, Status::Spent, "Hi", "spent 6\n"),
@@ -150,6 +150,38 @@ fn answers_each_command(rt: HostRuntime) -> Result<(), Fail> {
         ("compile,s", HI, Status::Usage, "", usage),
         ("compile,s,", HI, Status::Usage, "", usage),
         ("first,s", HI, Status::Usage, "", usage),
+        (
+            "load,s,1",
+            VAX_GG,
+            Status::Done,
+            "B\n",
+            "load 1: source 180 bytes, text 723 bytes, 2 turns, 38 instructions, output 2 bytes, ended 0\n",
+        ),
+        (
+            "load,s,2",
+            VAX_GG,
+            Status::Done,
+            "H\n",
+            "load 2: source 255 bytes, text 1077 bytes, 3 turns, 56 instructions, output 2 bytes, ended 0\n",
+        ),
+        (
+            "load,s,1",
+            "",
+            Status::DescRefused,
+            "",
+            "ggvax: description line 1: MissingVersion\n",
+        ),
+        (
+            "load,none,1",
+            "",
+            Status::FileFault,
+            "",
+            "ggvax: cannot read none\n",
+        ),
+        ("load,s,0", "", Status::Usage, "", usage),
+        ("load,s,01", "", Status::Usage, "", usage),
+        ("load,s,1001", "", Status::Usage, "", usage),
+        ("load,s", "", Status::Usage, "", usage),
     ];
     for (words, source, status, out, report) in rows {
         let case = Case {
@@ -198,6 +230,25 @@ fn holds_what_was_taken(rt: HostRuntime) -> Result<(), Fail> {
     assert_eq!(rt; status, Status::WriteFault);
     assert_eq!(rt; out.bytes(), b"\t.data\n\t.text\n\t.".as_slice());
     assert_eq!(rt; report.bytes(), b"ggvax: output failed\n".as_slice());
+    Ok(())
+}
+
+// Where the output of the text's run can't be written, nothing is told of the sides.
+#[test]
+fn loads_into_a_failing_output(rt: HostRuntime) -> Result<(), Fail> {
+    let case = Case {
+        words: "load,s,1",
+        source: VAX_GG.as_bytes(),
+        folder: &[],
+        out: &[1],
+        report: &[],
+    };
+    let left = Left {
+        status: Status::WriteFault,
+        out: b"B",
+        report: b"ggvax: output failed\n",
+    };
+    check(&rt, rt.alloc(), &case, &left)?;
     Ok(())
 }
 

@@ -2,7 +2,7 @@
 ghost use Rattle.std.specs.Prelude.{◌≡◌, ◌+◌, ℕ, List};
 ghost use Rattle.cmd_session.specs.Reading.{intake, TakesAtMost};
 ghost use Rattle.cmd_session.specs.Writing.{change, IsUntouched};
-ghost use Rattle.cmd_session.specs.Words.{spelled, SaysCheck, SaysCompile, SaysRun, SaysMeaning, SaysNone};
+ghost use Rattle.cmd_session.specs.Words.{spelled, SaysCheck, SaysCompile, SaysRun, SaysMeaning, SaysLoad, SaysNone};
 ghost use Rattle.cmd_session.specs.Lines.{usage_line};
 ghost use Rattle.cmd_session.specs.Telling.{IsRefused};
 ghost use Rattle.cmd_files.specs.Outsides.{lookup, outside, FailsAtMost};
@@ -13,20 +13,23 @@ ghost use Rattle.cmd_check.specs.Outcome.{Leaves as CheckLeaves};
 ghost use Rattle.cmd_check.specs.Exact.{IsExact as CheckIsExact};
 ghost use Rattle.cmd_compile.specs.Outcome.{files, FailAtMost, Leaves as CompileLeaves};
 ghost use Rattle.cmd_compile.specs.Exact.{IsExact as CompileIsExact};
+ghost use Rattle.cmd_load.specs.Outcome.{Leaves as LoadLeaves, MayCome as LoadMayCome};
+ghost use Rattle.cmd_load.specs.Exact.{IsExact as LoadIsExact};
 ghost use Rattle.cmd_run.specs.Texts.{text_form, code_runner};
 ghost use Rattle.cmd_meaning.specs.Sources.{source_form, source_runner};
 
 use cmd_check::check_description;
 use cmd_compile::compile_source;
+use cmd_load::load_generated;
 use cmd_meaning::run_source;
 use cmd_run::run_text;
 use cmd_session::{Command, Status, command_of, refuse};
 use gg_outside::{Folder, Sink, Source};
 use std::alloc::Global;
 
-/// The whole program: the command that the words say, or the line of the usage. Its commands are `check D`, `compile D S`, `run A N`
-/// and `meaning S N`. What `compile` writes does, read again and run, what the source does: until the source makes a wild access or
-/// nests over 1,024 calls.
+/// The whole program: the command that the words say, or the line of the usage. Its commands are `check D`, `compile D S`, `run A N`,
+/// `meaning S N` and `load D K`. What `compile` writes does, read again and run, what the source does: until the source makes a wild
+/// access or nests over 1,024 calls.
 pub fn ggvax<F: Folder, I: Source, O: Sink, E: Sink>(
     alloc: Global,
     words: &[String],
@@ -73,6 +76,16 @@ pub fn ggvax<F: Folder, I: Source, O: Sink, E: Sink>(
         (outside (lookup F.holds F.failed folder.old folder.new)
         (change O.told O.faults out.old out.new) (change E.told E.faults report.old report.new))) }
 
+    // `load D K`: the same of the machine description, and of the generated source of K functions, of its text and of what both sides' runs came
+    // to; and that no other status comes.
+    ensures load { (d : List ℕ) (k : ℕ) → SaysLoad (spelled words.now) d k
+        → LoadLeaves result d k (outside (lookup F.holds F.failed folder.old folder.new)
+        (change O.told O.faults out.old out.new) (change E.told E.faults report.old report.new)) }
+    ensures load_comes { (d : List ℕ) (k : ℕ) → SaysLoad (spelled words.now) d k → LoadMayCome result }
+    ensures load_exact { (d : List ℕ) (k : ℕ) → SaysLoad (spelled words.now) d k
+        → LoadIsExact result d (outside (lookup F.holds F.failed folder.old folder.new)
+        (change O.told O.faults out.old out.new) (change E.told E.faults report.old report.new)) }
+
     // Words that say no command, and these alone, are answered by the usage; nothing else is touched.
     ensures usage { result ≡ Status.Usage → SaysNone (spelled words.now) }
     ensures usage_line { SaysNone (spelled words.now)
@@ -90,16 +103,19 @@ pub fn ggvax<F: Folder, I: Source, O: Sink, E: Sink>(
         → FailsAtMost text (lookup F.holds F.failed folder.old folder.new) }
     ensures meaning_names { (source : List ℕ) (count : ℕ) → SaysMeaning (spelled words.now) source count
         → FailsAtMost source (lookup F.holds F.failed folder.old folder.new) }
+    ensures load_names { (d : List ℕ) (k : ℕ) → SaysLoad (spelled words.now) d k
+        → FailsAtMost d (lookup F.holds F.failed folder.old folder.new) }
     ensures holds { (n : List ℕ) → F.holds folder.new n ≡ F.holds folder.old n }
     ensures check_input { (d : List ℕ) → SaysCheck (spelled words.now) d → input.new ≡ input.old }
     ensures compile_input { (d source : List ℕ) → SaysCompile (spelled words.now) d source → input.new ≡ input.old }
+    ensures load_input { (d : List ℕ) (k : ℕ) → SaysLoad (spelled words.now) d k → input.new ≡ input.old }
     ensures usage_input { SaysNone (spelled words.now) → input.new ≡ input.old }
     ensures taken { TakesAtMost (input_limit + 1) (intake I.left I.faults input.old input.new) }
 {
     let Some(command) = command_of(words) else {
         return refuse(
             report,
-            b"ggvax: usage: check D | compile D S | run A N | meaning S N\n",
+            b"ggvax: usage: check D | compile D S | run A N | meaning S N | load D K\n",
             Status::Usage,
         );
     };
@@ -111,6 +127,9 @@ pub fn ggvax<F: Folder, I: Source, O: Sink, E: Sink>(
         Command::Run(text, count) => run_text(alloc, text, count, folder, input, out, report),
         Command::Meaning(source, count) => {
             run_source(alloc, source, count, folder, input, out, report)
+        }
+        Command::Load(description, functions) => {
+            load_generated(alloc, description, functions, folder, out, report)
         }
     }
 }

@@ -1,27 +1,54 @@
-use Rattle.cmd_session.proofs.Commands.{only_named, named_not_paired, named_not_counted, paired_not_named, only_paired, paired_not_counted}
+use Rattle.std.proofs.Common.{arith}
+use Rattle.cmd_session.proofs.Commands.{only_named, named_not_paired, named_not_counted, only_paired, paired_not_counted}
 use Rattle.cmd_session.proofs.Commands.{only_counted, counted_not_other}
-use Rattle.cmd_session.proofs.Commands.{compile_is_not_run, compile_is_not_meaning, run_is_not_meaning}
+use Rattle.cmd_session.proofs.Commands.{compile_is_not_run, compile_is_not_meaning, compile_is_not_load, run_is_not_meaning, run_is_not_load, meaning_is_not_load}
 use Rattle.cmd_session.proofs.words.command_of.Goals as goal
 
 pub returns-in-Some-clause-only : goal.returns-in-Some-clause-only
 returns-in-Some-clause-only c =
-    let said = c.in-Some.ensures.some in
-    (only_named _ _ _ said, named_not_paired _ _ _ _ said, named_not_counted _ _ _ _ said, named_not_counted _ _ _ _ said)
+    let said = c.in-Some.ensures.some in (
+      only_named _ _ _ said,
+      named_not_paired _ _ _ _ said,
+      named_not_counted _ _ _ _ _ said,
+      named_not_counted _ _ _ _ _ said,
+      named_not_counted _ _ _ _ _ said,
+    )
 
 pub returns-in-Some-paired-clause-only : goal.returns-in-Some-paired-clause-only
 returns-in-Some-paired-clause-only c =
     let said = c.in-Some-paired.ensures.some in (
       c.in_default.ensures.none,
       only_paired _ _ _ _ said,
-      paired_not_counted _ _ _ _ _ said compile_is_not_run,
-      paired_not_counted _ _ _ _ _ said compile_is_not_meaning,
+      paired_not_counted _ _ _ _ _ _ said compile_is_not_run,
+      paired_not_counted _ _ _ _ _ _ said compile_is_not_meaning,
+      paired_not_counted _ _ _ _ _ _ said compile_is_not_load,
     )
 
 pub returns-in-Some-counted-clause-only : goal.returns-in-Some-counted-clause-only
 returns-in-Some-counted-clause-only c =
-    let said = c.in-Some-counted.ensures.some in
-    (c.in_default.ensures.none, c.in_default-paired.ensures.none, only_counted _ _ _ _ said, counted_not_other _ _ _ _ _ said run_is_not_meaning)
+    let said = c.in-Some-counted.ensures.some in (
+      c.in_default.ensures.none,
+      c.in_default-paired.ensures.none,
+      only_counted _ _ _ _ _ (omega arith) said,
+      counted_not_other _ _ _ _ _ _ _ said run_is_not_meaning,
+      counted_not_other _ _ _ _ _ _ _ said run_is_not_load,
+    )
+
+pub returns-in-Some-counted-2-clause-only : goal.returns-in-Some-counted-2-clause-only
+returns-in-Some-counted-2-clause-only c =
+    let said = c.in-Some-counted-2.ensures.some in (
+      c.in_default.ensures.none,
+      c.in_default-paired.ensures.none,
+      c.in_default-counted.ensures.none,
+      only_counted _ _ _ _ _ (omega arith) said,
+      counted_not_other _ _ _ _ _ _ _ said meaning_is_not_load,
+    )
 
 pub returns-clause-only : goal.returns-clause-only
-returns-clause-only c =
-    (c.in_default.ensures.none, c.in_default-paired.ensures.none, c.in_default-counted.ensures.none, only_counted _ _ _ _ c.in_ok-source.ensures.some)
+returns-clause-only c = (
+  c.in_default.ensures.none,
+  c.in_default-paired.ensures.none,
+  c.in_default-counted.ensures.none,
+  c.in_default-counted-2.ensures.none,
+  only_counted _ _ _ _ _ (omega arith) c.in_ok-description.ensures.some,
+)

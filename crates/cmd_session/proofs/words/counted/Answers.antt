@@ -18,16 +18,16 @@ returns-in_ok-count-in-len3-clause-some c = record {
 
 pub returns-in_default-clause-none : goal.returns-in_default-clause-none
 returns-in_default-clause-none c = λ name count h.
-    let long : length c.args.words.now ≡ 3 = counted_length c.args.words.now c.args.word.now name count h in
+    let long : length c.args.words.now ≡ 3 = counted_length c.args.words.now c.args.word.now c.args.greatest name count h in
     elim c.in_default.branch [
       | in_default-via-then-words-lt3 w ↦ search (rules, long)
       | in_default-via-in-len3+then-eq+else-not-is_empty w ↦
-          let parts = counted_parts _ _ _ _ _ _ _ w.in-len3.len_at_least w.in-len3.len_below w.first-item.is w.name-item.is w.count-item.is h in
+          let parts = counted_parts _ _ _ _ _ _ _ _ w.in-len3.len_at_least w.in-len3.len_below w.first-item.is w.name-item.is w.count-item.is h in
           let none : string_len w.name-item.result ≡ 0 = eqb-true _ _ (sym w.if-not-is_empty.ensures) in
           let same : length (string_bytes w.name-item.result) ≡ string_len w.name-item.result = search rules in
           omega (arith, h.named, none, same, ap length parts.1)
       | in_default-via-in-len3+else-eq w ↦
-          let parts = counted_parts _ _ _ _ _ _ _ w.in-len3.len_at_least w.in-len3.len_below w.first-item.is w.name-item.is w.count-item.is h in
+          let parts = counted_parts _ _ _ _ _ _ _ _ w.in-len3.len_at_least w.in-len3.len_below w.first-item.is w.name-item.is w.count-item.is h in
           differs w.as_str.result.now c.args.word.now w.if-eq.ensures (w.as_str.ensures.value ∙ parts.0)
       | in_default-via-else-words-lt3+else-words-lt4 w ↦ search (rules, long)
     ]

@@ -9,7 +9,9 @@ use Rattle.cmd_check.specs.Outcome.{Leaves as CheckLeaves}
 use Rattle.cmd_check.specs.Exact.{IsExact as CheckIsExact}
 use Rattle.cmd_compile.specs.Outcome.{files, FailAtMost, Leaves as CompileLeaves}
 use Rattle.cmd_compile.specs.Exact.{IsExact as CompileIsExact}
-use Rattle.ggvax.proofs.Chosen.{only_check, only_compile, only_run, only_meaning, carried, named, paired}
+use Rattle.cmd_load.specs.Outcome.{Leaves as LoadLeaves}
+use Rattle.cmd_load.specs.Exact.{IsExact as LoadIsExact}
+use Rattle.ggvax.proofs.Chosen.{only_check, only_compile, only_run, only_meaning, only_load, counts, carried, named, paired}
 use Rattle.ggvax.proofs.top.ggvax.Goals as goal
 
 pub returns-in-Meaning-clause-meaning : goal.returns-in-Meaning-clause-meaning
@@ -84,3 +86,22 @@ pub returns-in-Compile-clause-compile_names : goal.returns-in-Compile-clause-com
 returns-in-Compile-clause-compile_names g c = λ d source said.
     paired (λ x y. FailAtMost (files x y) (lookup g.F.Folder.holds g.F.Folder.failed c.args.folder.now c.compile_source.new.folder))
     _ _ _ _ (only_compile _ _ _ _ c.in-Some.ensures.only c.in-Compile.is d source said) c.compile_source.ensures.names
+
+pub load_generated-requires : goal.load_generated-requires
+load_generated-requires g c = counts _ _ _ _ c.in-Some.ensures.some c.in-Load.is
+
+pub returns-in-Load-clause-load : goal.returns-in-Load-clause-load
+returns-in-Load-clause-load g c = λ d k said.
+    carried (λ s n. LoadLeaves c.load_generated.result s n (outside
+    (lookup g.F.Folder.holds g.F.Folder.failed c.args.folder.now c.load_generated.new.folder)
+    (change g.O.Sink.told g.O.Sink.faults c.args.out.now c.load_generated.new.out)
+    (change g.E.Sink.told g.E.Sink.faults c.args.report.now c.load_generated.new.report)))
+    _ _ _ _ (only_load _ _ _ _ c.in-Some.ensures.only c.in-Load.is d k said) c.load_generated.ensures.leaves
+
+pub returns-in-Load-clause-load_exact : goal.returns-in-Load-clause-load_exact
+returns-in-Load-clause-load_exact g c = λ d k said.
+    carried (λ s n. LoadIsExact c.load_generated.result s (outside
+    (lookup g.F.Folder.holds g.F.Folder.failed c.args.folder.now c.load_generated.new.folder)
+    (change g.O.Sink.told g.O.Sink.faults c.args.out.now c.load_generated.new.out)
+    (change g.E.Sink.told g.E.Sink.faults c.args.report.now c.load_generated.new.report)))
+    _ _ _ _ (only_load _ _ _ _ c.in-Some.ensures.only c.in-Load.is d k said) c.load_generated.ensures.exact

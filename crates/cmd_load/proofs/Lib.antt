@@ -1,0 +1,4 @@
+pub mod Joining
+pub mod Coming
+pub mod Exactly
+pub mod Sizes

@@ -1,0 +1,10 @@
+//! The command `load D K`: the generated source of K functions, compiled by the machine description D, and both sides run.
+#![tactic(auto)]
+
+pub mod generated;
+pub mod laws;
+pub mod load;
+pub mod sides;
+pub mod summary;
+
+pub use load::load_generated;
