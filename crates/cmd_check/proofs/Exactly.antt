@@ -210,7 +210,6 @@ kinds statuses.Trapped name at l n = absurd l
 kinds statuses.Wild name at l n = absurd l
 kinds statuses.Deep name at l n = absurd l
 kinds statuses.Broken name at l n = absurd l
-kinds statuses.Blocked name at l n = absurd l
 kinds statuses.Unproved name at l n = Before (Stops l.description faults.Unshown refl l.finds.holds l.few l.real)
 
 comes : (result : Status) (name : List ℕ) (at : Outside) → Kind result name at → Comes result (at.folder.holds name)

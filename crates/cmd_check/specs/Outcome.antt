@@ -118,5 +118,4 @@ Leaves statuses.Trapped name at = ⊥
 Leaves statuses.Wild name at = ⊥
 Leaves statuses.Deep name at = ⊥
 Leaves statuses.Broken name at = ⊥
-Leaves statuses.Blocked name at = ⊥
 Leaves statuses.Unproved name at = Stops faults.Unshown name at

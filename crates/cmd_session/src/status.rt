@@ -45,9 +45,6 @@ pub enum Status {
     Deep = 19,
     /// The run of a code broke.
     Broken = 20,
-    /// The parse of a tree blocks, or turns in a circle.
-    Blocked = 22,
-    /// What is not yet proved never to come: a frame whose words don't last though the need fits, or a code of which no text can be
-    /// written.
+    /// The check of the description's tables came to no answer: not yet proved never to come.
     Unproved = 24,
 }
