@@ -1,0 +1,4 @@
+pub mod Faulty
+pub mod Turning
+pub mod Calming
+pub mod Circling

@@ -1,0 +1,26 @@
+use Rattle.std.proofs.Common.{ℕ, List, length, ap, refl, arith}
+use Rattle.std.proofs.lemmas.Option.{slice_get_within}
+use Rattle.md_reader.specs.declared.types.Sym.{Sym}
+use Rattle.lr_check_sets.specs.Faults.{Calms}
+use Rattle.lr_check_sets.specs.Table.{automaton_of}
+use Rattle.lr_check_found.specs.declared.places.Place.{Place}
+use Rattle.lr_check_found.specs.declared.settlings.Settling.{Settling}
+use Rattle.lr_check_found.specs.Lists.{IsList}
+use Rattle.lr_check_found.specs.Found.{IsPlaceAt, IsSettlingAt}
+use Rattle.lr_check_complete.proofs.Turns.{up_to}
+use Rattle.lr_check_decided.proofs.circles.has_circle.Goals as goal
+
+pub loop-number-init : goal.loop-number-init
+loop-number-init c = λ n lt. absurd (omega (arith, lt))
+
+pub loop-number-preserved : goal.loop-number-preserved
+loop-number-preserved c = up_to c.loop-number.number
+    (λ (i : ℕ). (e : Settling) (x : Place) (s : List Sym) → IsSettlingAt c.args.found.now i e → IsPlaceAt c.args.found.now e.place x → IsList c.args.found.now.lists e.list s →
+    Calms (automaton_of c.args.tables.now) x.state x.behind s)
+    c.loop-number.number c.loop-number.invariant refl (λ e x s at there is. c.in_ok-turns_at.ensures.none e x s c.if-branch.false at there is)
+
+pub returns-then-branch-clause-some : goal.returns-then-branch-clause-some
+returns-then-branch-clause-some c = λ u. c.in_ok-turns_at.ensures.some c.if-branch.true
+
+pub returns-clause-none : goal.returns-clause-none
+returns-clause-none c = λ i e x s no at. c.loop-number.invariant i (let lt = slice_get_within c.args.found.now.settlings i e at in omega (arith, lt, ap length c.settlings-number-end.ensures)) e x s at
