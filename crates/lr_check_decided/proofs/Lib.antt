@@ -2,3 +2,4 @@ pub mod Faulty
 pub mod Turning
 pub mod Calming
 pub mod Circling
+pub mod Fine

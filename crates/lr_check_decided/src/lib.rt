@@ -4,7 +4,9 @@
 
 mod calm;
 mod circles;
+mod deciding;
 mod gaps;
 
 pub use circles::has_circle;
+pub use deciding::{Decision, decide};
 pub use gaps::{has_dead, has_gap};

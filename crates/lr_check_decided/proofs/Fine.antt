@@ -1,0 +1,43 @@
+-- Where all of the sets is found and no fault shows, there is none.
+use Rattle.std.proofs.Common.{◌≡◌, ℕ, ◌≤◌, List, Some, sym, ap, ◌∙◌, subst, arith}
+use Rattle.lr_check_found.specs.Count.{HasMore}
+use Rattle.tree_core.specs.declared.token.Tok.{Tok}
+use Rattle.md_reader.specs.declared.types.Sym.{Sym}
+use Rattle.md_reader.specs.declared.types.Sym.TheVariants as symbol
+use Rattle.lr_check_sets.specs.Automaton.{Automaton, walk, CanBlock}
+use Rattle.lr_check_sets.specs.Faults.{Calms, NoFault}
+use Rattle.lr_check_sets.proofs.Closing.{no_fault}
+use Rattle.lr_check_found.specs.declared.places.Place.{Place}
+use Rattle.lr_check_found.specs.declared.settlings.Settling.{Settling}
+use Rattle.lr_check_found.specs.Lists.{IsList}
+use Rattle.lr_check_found.specs.Found.{FoundView, place_of, IsPlaceAt, IsSettlingAt}
+use Rattle.lr_check_found.specs.Sound.{IsSoundSettling, IsFound}
+use Rattle.lr_check_found.proofs.Reading.{Some-same}
+use Rattle.lr_check_complete.specs.Sets.{HasPlace, HasSettling, HasSum, IsComplete}
+
+lists_same : (a b : List Sym) → Some a ≡ Some b → a ≡ b
+lists_same a b e = cc
+
+module _ (A : Automaton) (f : FoundView) (c : IsComplete A f) where
+  place_is : (q : ℕ) (k b : Tok) (s : List Sym) (h : HasSettling f q k b s) → IsPlaceAt f h.settles.entry.place (place_of q k b)
+  place_is q k b s h = subst (λ n. IsPlaceAt f n (place_of q k b)) (sym h.settles.place) h.at
+
+  behind_is : (q p : ℕ) (k b : Tok) (s : List Sym) (h : HasSettling f q k b s) → walk A q s ≡ Some p → h.settles.entry.behind ≡ Some p
+  behind_is q p k b s h ws =
+      let e : IsSoundSettling A f h.settles.number h.settles.entry = c.found.settlings h.settles.number h.settles.entry h.settles.there in
+      let place : e.place ≡ place_of q k b = Some-same e.place (place_of q k b) (sym e.there ∙ place_is q k b s h) in
+      let list : e.list ≡ s = lists_same e.list s (sym e.symbols ∙ h.settles.list) in
+      e.behind ∙ (ap (λ (x : Place). walk A x.state e.list) place ∙ (ap (walk A q) list ∙ ws))
+
+  pub fine : ((n : ℕ) (x : Place) → IsPlaceAt f n x → (p : ℕ) × (A.go x.state (symbol.Tok x.token) ≡ Some p)) →
+      ((i : ℕ) (e : Settling) (x : Place) (p : ℕ) → IsSettlingAt f i e → IsPlaceAt f e.place x → e.behind ≡ Some p → CanBlock (A.candidates p x.behind) → ⊥) →
+      ((i : ℕ) (e : Settling) (x : Place) (s : List Sym) → IsSettlingAt f i e → IsPlaceAt f e.place x → IsList f.lists e.list s → Calms A x.state x.behind s) → NoFault A
+  fine shifts takes ends = no_fault A (HasPlace f) (HasSettling f) (HasSum f) c.closed (record {
+    shifts = λ q k b place. shifts place.number (place_of q k b) place.at;
+    takes = λ q p k b s h ws can. takes h.settles.number h.settles.entry (place_of q k b) p h.settles.there (place_is q k b s h) (behind_is q p k b s h ws) can;
+    ends = λ q k b s h. ends h.settles.number h.settles.entry (place_of q k b) s h.settles.there (place_is q k b s h) h.settles.list;
+  })
+
+-- more than so many are more than fewer
+pub fewer : (A : Automaton) (n most : ℕ) → n ≤ most → (HasMore A n → ⊥) → HasMore A most → ⊥
+fewer A n most le few h = few (record { tuples = h.tuples; many = let many = h.many in omega (arith, le, many); apart = h.apart; each = h.each })
