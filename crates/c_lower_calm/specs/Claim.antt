@@ -7,7 +7,8 @@ use Rattle.tree_core.specs.declared.program.TreeFn.{TreeFn}
 use Rattle.tree_core.specs.declared.program.TreeProgram.{TreeProgram}
 use Rattle.tree_core.specs.Calm.{Calm}
 use Rattle.c_types.specs.Typed.{APlace, AnExpression, AssignTo}
-use Rattle.c_program.specs.Statements.{AnAction, SomeActions, NoActions, MoreActions, DeclareOf, BlockOf, EvaluateOf, BreakOf, ContinueOf, ReturnOf, IfOf, IfElseOf, WhileOf, DoOf, ForOf}
+use Rattle.c_program.specs.Statements.{AnAction, SomeActions, NoActions, MoreActions, DeclareOf, BlockOf, EvaluateOf}
+use Rattle.c_program.specs.Statements.{BreakOf, ContinueOf, ReturnOf, IfOf, IfElseOf, WhileOf, DoOf, ForOf}
 use Rattle.c_program.specs.Programs.{ARoutine, AProgram}
 use Rattle.c_lower_scheme.specs.Trees.{Item, Ret}
 use Rattle.c_lower_scheme.specs.Expressions.{Emitted, assign_to}
@@ -18,7 +19,8 @@ use Rattle.c_lower_calm.specs.Plain.{PlainPlace, Plain, type_at, place_at, plain
 
 -- In none of a program's trees is memory read behind a division.
 abbrev pub TreesAreCalm : TreeProgram → Type 0
-TreesAreCalm q = (f n : ℕ) (tf : TreeFn) (w : List Leaf) → slice_get q.functions f ≡ Some tf → slice_get tf.items n ≡ Some (item.Root w) → Calm w
+TreesAreCalm q = (f n : ℕ) (tf : TreeFn) (w : List Leaf) → slice_get q.functions f ≡ Some tf → slice_get tf.items n
+    ≡ Some (item.Root w) → Calm w
 
 -- The trees that a program is lowered to are calm.
 abbrev pub EachTreeIsCalm : Type 0
@@ -63,16 +65,19 @@ pub data IsPlainOne : AnAction → Item → Type 0 where
   Returns : (e : AnExpression) → Plain e → IsPlainOne (ReturnOf (Some e)) (returned e)
   Stores : (p : APlace) (e : AnExpression) → PlainPlace p → Plain e → IsPlainOne (EvaluateOf (AssignTo p e)) (stored p e)
 
--- Each of these statements has its items among a function's, one statement's behind another's; those of a plain `return` or assignment whose tree is calm are that one root.
+-- Each of these statements has its items among a function's, one statement's behind another's; those of a plain
+-- `return` or assignment whose tree is calm are that one root.
 pub data HaveItems : List AnAction → List TreeItem → Type 0 where
   Ended : (items : List TreeItem) → HaveItems [] items
   Next : (a : AnAction) (acts : List AnAction) (before own behind : List TreeItem) →
-      ((i : Item) → IsPlainOne a i → SpellsCalm i → own ≡ spelled i ∷ []) → HaveItems acts behind → HaveItems (a ∷ acts) (before ++ (own ++ behind))
+      ((i : Item) → IsPlainOne a i → SpellsCalm i → own ≡ spelled i ∷ []) → HaveItems acts behind
+      → HaveItems (a ∷ acts) (before ++ (own ++ behind))
 
 -- In each function of the trees the plain statements of the program's function are one root each, in the order of the text.
 abbrev pub PlainStatementsStand : AProgram → TreeProgram → Type 0
 PlainStatementsStand p q =
-    (n : ℕ) (g : ARoutine) (f : TreeFn) → slice_get p.routines n ≡ Some g → slice_get q.functions n ≡ Some f → HaveItems (simple_of g.body) f.items
+    (n : ℕ) (g : ARoutine) (f : TreeFn) → slice_get p.routines n ≡ Some g → slice_get q.functions n ≡ Some f
+    → HaveItems (simple_of g.body) f.items
 
 -- So it is for each program.
 abbrev pub PlainStatementsAreOneTree : Type 0
@@ -80,6 +85,7 @@ PlainStatementsAreOneTree = (p : AProgram) → PlainStatementsStand p (lowered p
 
 -- A plain statement whose tree is calm is that one tree.
 pub record PlainIsOneTree : Type 0 where
-  pub returns : (size count lb lc l : ℕ) (e : AnExpression) → Plain e → SpellsCalm (returned e) → lower size count (ReturnOf (Some e)) lb lc l ≡ only (returned e) size l
+  pub returns : (size count lb lc l : ℕ) (e : AnExpression) → Plain e → SpellsCalm (returned e)
+      → lower size count (ReturnOf (Some e)) lb lc l ≡ only (returned e) size l
   pub stores : (size count lb lc l : ℕ) (p : APlace) (e : AnExpression) → PlainPlace p → Plain e → SpellsCalm (stored p e)
       → lower size count (EvaluateOf (AssignTo p e)) lb lc l ≡ only (stored p e) size l

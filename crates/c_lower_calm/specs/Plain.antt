@@ -2,8 +2,10 @@
 use Rattle.c_types.specs.declared.types.CType.{CType}
 use Rattle.c_types.specs.declared.typed.UnaryOperator.{UnaryOperator}
 use Rattle.c_types.specs.declared.typed.UnaryOperator.TheVariants as unaries
-use Rattle.c_types.specs.Typed.{APlace, VariableAt, PointedBy, ElementBy, AnExpression, Constant, LiteralAt, ArrayAt, ReadOf, SizeofTerm, SizeOf, AddressOf, CallOf, StepOf}
-use Rattle.c_types.specs.Typed.{UnaryOf, CastTo, ConvertTo, ArithmeticOf, CompareOf, BothOf, EitherOf, AdvanceOf, AdvanceByOf, RetreatOf, DistanceOf, ChoiceOf, AssignTo}
+use Rattle.c_types.specs.Typed.{APlace, VariableAt, PointedBy, ElementBy, AnExpression, Constant, LiteralAt, ArrayAt}
+use Rattle.c_types.specs.Typed.{ReadOf, SizeofTerm, SizeOf, AddressOf, CallOf, StepOf}
+use Rattle.c_types.specs.Typed.{UnaryOf, CastTo, ConvertTo, ArithmeticOf, CompareOf, BothOf, EitherOf, AdvanceOf}
+use Rattle.c_types.specs.Typed.{AdvanceByOf, RetreatOf, DistanceOf, ChoiceOf, AssignTo}
 use Rattle.c_types.specs.Typed.{ArithmeticAssignTo, AdvanceAssignTo, RetreatAssignTo, CommaOf}
 use Rattle.c_lower_scheme.specs.Trees.{Tree, Num, Gaddr, Neg, Com, Bin}
 use Rattle.c_lower_scheme.specs.Expressions.{Where, InMem, where_of, address_tree, read_from, fitted, advance, advance_by, retreat, apart}
@@ -62,7 +64,8 @@ type_at (VariableAt t v) = t
 type_at (PointedBy t e) = t
 type_at (ElementBy t e) = t
 
--- A number is its constant, a local or parameter its slot, memory is read at its address, and an operator stands over its parts. Phrases that are not plain have no tree of their
+-- A number is its constant, a local or parameter its slot, memory is read at its address, and an operator stands over
+-- its parts. Phrases that are not plain have no tree of their
 -- own, and stand here as 0.
 abbrev mutual
   pub place_at : APlace → Where

@@ -53,13 +53,16 @@ conv_behind i v = conv_append i [] v
 
 assign_behind : (i : Integer) (a w : Tree) (v : List Leaf) → assign_onto i a w v ≡ assign_onto i a w [] ++ v
 assign_behind ints.Char a w v = ap (λ l. plain tok.AssignB ∷ plain tok.IndirB ∷ l) (ap (λ l. leaves_onto a (plain tok.Ncb ∷ l)) (onto_behind w v) ∙ onto_append a (plain tok.Ncb ∷ leaves_onto w []) v)
-assign_behind ints.UnsignedChar a w v = ap (λ l. plain tok.AssignB ∷ plain tok.IndirB ∷ l) (ap (λ l. leaves_onto a (plain tok.Ncb ∷ l)) (onto_behind w v) ∙ onto_append a (plain tok.Ncb ∷ leaves_onto w []) v)
+assign_behind ints.UnsignedChar a w v = ap (λ l. plain tok.AssignB ∷ plain tok.IndirB ∷ l)
+    (ap (λ l. leaves_onto a (plain tok.Ncb ∷ l)) (onto_behind w v) ∙ onto_append a (plain tok.Ncb ∷ leaves_onto w []) v)
 assign_behind ints.Short a w v = ap (λ l. plain tok.AssignW ∷ plain tok.IndirW ∷ l) (ap (λ l. leaves_onto a (plain tok.Ncw ∷ l)) (onto_behind w v) ∙ onto_append a (plain tok.Ncw ∷ leaves_onto w []) v)
-assign_behind ints.UnsignedShort a w v = ap (λ l. plain tok.AssignW ∷ plain tok.IndirW ∷ l) (ap (λ l. leaves_onto a (plain tok.Ncw ∷ l)) (onto_behind w v) ∙ onto_append a (plain tok.Ncw ∷ leaves_onto w []) v)
+assign_behind ints.UnsignedShort a w v = ap (λ l. plain tok.AssignW ∷ plain tok.IndirW ∷ l)
+    (ap (λ l. leaves_onto a (plain tok.Ncw ∷ l)) (onto_behind w v) ∙ onto_append a (plain tok.Ncw ∷ leaves_onto w []) v)
 assign_behind ints.Int a w v = ap (λ l. plain tok.AssignL ∷ plain tok.IndirL ∷ l) (ap (leaves_onto a) (onto_behind w v) ∙ onto_append a (leaves_onto w []) v)
 
 -- an operator, and its two sides, behind other leaves
-pub binary_behind : (old a b c : List Leaf) (w x y : Tree) (op : ArithmeticOperator) → w ≡ Bin op x y → a ≡ old ++ (plain (operator_token op) ∷ []) → b ≡ a ++ leaves_onto x [] → c ≡ b ++ leaves_onto y [] → c ≡ old ++ leaves_onto w []
+pub binary_behind : (old a b c : List Leaf) (w x y : Tree) (op : ArithmeticOperator) → w ≡ Bin op x y → a ≡ old ++ (plain (operator_token op) ∷ []) → b ≡ a ++ leaves_onto x [] → c ≡ b
+    ++ leaves_onto y [] → c ≡ old ++ leaves_onto w []
 binary_behind old a b c w x y op is one two three =
     let four = append_assoc a (leaves_onto x []) (leaves_onto y []) in
     let five = append_assoc old (plain (operator_token op) ∷ []) (leaves_onto x [] ++ leaves_onto y []) in
@@ -68,7 +71,8 @@ binary_behind old a b c w x y op is one two three =
     cc
 
 -- two trees behind a leaf
-pub pair_behind : (old a b c : List Leaf) (first : Leaf) (x y : Tree) → a ≡ old ++ (first ∷ []) → b ≡ a ++ leaves_onto x [] → c ≡ b ++ leaves_onto y [] → c ≡ old ++ (first ∷ leaves_onto x (leaves_onto y []))
+pub pair_behind : (old a b c : List Leaf) (first : Leaf) (x y : Tree) → a ≡ old ++ (first ∷ []) → b ≡ a ++ leaves_onto x [] → c ≡ b ++ leaves_onto y [] → c ≡ old
+    ++ (first ∷ leaves_onto x (leaves_onto y []))
 pair_behind old a b c first x y one two three =
     let four = append_assoc a (leaves_onto x []) (leaves_onto y []) in
     let five = append_assoc old (first ∷ []) (leaves_onto x [] ++ leaves_onto y []) in
@@ -76,7 +80,8 @@ pair_behind old a b c first x y one two three =
     cc
 
 -- two trees behind two leaves
-pub assigned_behind : (old a b c : List Leaf) (first second : Leaf) (x y : Tree) → a ≡ old ++ (first ∷ second ∷ []) → b ≡ a ++ leaves_onto x [] → c ≡ b ++ leaves_onto y [] → c ≡ old ++ (first ∷ second ∷ leaves_onto x (leaves_onto y []))
+pub assigned_behind : (old a b c : List Leaf) (first second : Leaf) (x y : Tree) → a ≡ old ++ (first ∷ second ∷ []) → b ≡ a ++ leaves_onto x [] → c ≡ b ++ leaves_onto y [] → c ≡ old
+    ++ (first ∷ second ∷ leaves_onto x (leaves_onto y []))
 assigned_behind old a b c first second x y one two three =
     let four = append_assoc a (leaves_onto x []) (leaves_onto y []) in
     let five = append_assoc old (first ∷ second ∷ []) (leaves_onto x [] ++ leaves_onto y []) in
@@ -84,7 +89,8 @@ assigned_behind old a b c first second x y one two three =
     cc
 
 -- and with a leaf between the two trees
-pub narrowed_behind : (old a b n c : List Leaf) (first second third : Leaf) (x y : Tree) → a ≡ old ++ (first ∷ second ∷ []) → b ≡ a ++ leaves_onto x [] → n ≡ b ++ (third ∷ []) → c ≡ n ++ leaves_onto y [] → c ≡ old ++ (first ∷ second ∷ leaves_onto x (third ∷ leaves_onto y []))
+pub narrowed_behind : (old a b n c : List Leaf) (first second third : Leaf) (x y : Tree) → a ≡ old ++ (first ∷ second ∷ []) → b ≡ a ++ leaves_onto x [] → n ≡ b ++ (third ∷ []) → c ≡ n
+    ++ leaves_onto y [] → c ≡ old ++ (first ∷ second ∷ leaves_onto x (third ∷ leaves_onto y []))
 narrowed_behind old a b n c first second third x y one two three four =
     let five = append_assoc b (third ∷ []) (leaves_onto y []) in
     let six = append_assoc a (leaves_onto x []) (third ∷ leaves_onto y []) in
@@ -98,7 +104,8 @@ rooted (codes.Label x) never l is = absurd (never x refl)
 rooted (codes.AssignLocal n w) never l is = ap items.Root (is ∙ ap (λ k. plain tok.AssignL ∷ leaf tok.Loc (att.Slot n) ∷ k) (sym (onto_behind (tree w) (end_leaf ∷ []))))
 rooted (codes.AssignParameter n w) never l is = ap items.Root (is ∙ ap (λ k. plain tok.AssignL ∷ leaf tok.Arg (att.Slot (suc n)) ∷ k) (sym (onto_behind (tree w) (end_leaf ∷ []))))
 rooted (codes.AssignMemory i a w) never l is = ap items.Root (is ∙ sym (assign_behind i (tree a) (tree w) (end_leaf ∷ [])))
-rooted (codes.Branch r to a b) never l is = ap items.Root (is ∙ ap (λ k. leaf tok.Cbr (att.Branch r to) ∷ k) (sym (ap (leaves_onto (tree a)) (onto_behind (tree b) (end_leaf ∷ [])) ∙ onto_append (tree a) (leaves_onto (tree b) []) (end_leaf ∷ []))))
+rooted (codes.Branch r to a b) never l is = ap items.Root (is ∙ ap (λ k. leaf tok.Cbr (att.Branch r to) ∷ k)
+    (sym (ap (leaves_onto (tree a)) (onto_behind (tree b) (end_leaf ∷ [])) ∙ onto_append (tree a) (leaves_onto (tree b) []) (end_leaf ∷ []))))
 rooted (codes.Jump to) never l is = ap items.Root is
 rooted (codes.Push w) never l is = ap items.Root (is ∙ ap (λ k. plain tok.Push ∷ k) (sym (onto_behind (tree w) (end_leaf ∷ []))))
 rooted (codes.Call f n) never l is = ap items.Root is

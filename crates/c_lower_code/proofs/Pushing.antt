@@ -22,13 +22,15 @@ pub pushed : (start now next : List Item) (all ws : List Tree) (w : Tree)
 pushed start now next all ws w so is =
     ap (λ l. l ++ pushes ws []) is ∙ append_assoc now (Push w ∷ []) (pushes ws []) ∙ ap (λ l. now ++ l) (sym (pushes_last ws w [])) ∙ so
 
-pub called : (a b c : List Item) (ws : List Tree) (f n t l : ℕ) (quiet : Bool) → n ≡ args_count ws → b ≡ a ++ pushes ws [] → c ≡ b ++ (Call f n ∷ []) → record { items = c; temps = t; labels = l } ≡ called_drop f (record { items = a; trees = ws; quiet = quiet; temps = t; labels = l })
+pub called : (a b c : List Item) (ws : List Tree) (f n t l : ℕ) (quiet : Bool) → n ≡ args_count ws → b ≡ a ++ pushes ws [] → c ≡ b ++ (Call f n ∷ [])
+    → record { items = c; temps = t; labels = l } ≡ called_drop f (record { items = a; trees = ws; quiet = quiet; temps = t; labels = l })
 called a b c ws f n t l quiet count one two =
     let three = append_assoc a (pushes ws []) (Call f n ∷ []) in
     let four = pushes_behind ws (Call f n ∷ []) in
     cc
 
-pub called_saved : (a b c d : List Item) (ws : List Tree) (f n t u l : ℕ) (quiet : Bool) → u ≡ suc t → n ≡ args_count ws → b ≡ a ++ pushes ws [] → c ≡ b ++ (Call f n ∷ []) → d ≡ c ++ (Save t ∷ []) → record { items = d; tree = Loc t; temps = u; labels = l } ≡ called_low f (record { items = a; trees = ws; quiet = quiet; temps = t; labels = l })
+pub called_saved : (a b c d : List Item) (ws : List Tree) (f n t u l : ℕ) (quiet : Bool) → u ≡ suc t → n ≡ args_count ws → b ≡ a ++ pushes ws [] → c ≡ b ++ (Call f n ∷ []) → d ≡ c
+    ++ (Save t ∷ []) → record { items = d; tree = Loc t; temps = u; labels = l } ≡ called_low f (record { items = a; trees = ws; quiet = quiet; temps = t; labels = l })
 called_saved a b c d ws f n t u l quiet next count one two three =
     let four = append_assoc b (Call f n ∷ []) (Save t ∷ []) in
     let five = append_assoc a (pushes ws []) (Call f n ∷ Save t ∷ []) in

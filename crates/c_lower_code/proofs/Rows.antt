@@ -32,7 +32,8 @@ module _ (size count : ℕ) where
   declare_temps (ClearOf n ∷ ds) l = let h = declare_temps ds l in omega arith
   declare_temps (BeginOf n e ∷ ds) l = let h = declare_temps ds (one_declared size count (BeginOf n e) l).labels in omega arith
 
-  pub declare_more : (d : ADeclaration) (ds : List ADeclaration) (l : ℕ) → declare size count (d ∷ ds) l ≡ two_done (one_declared size count d l) (declare size count ds (one_declared size count d l).labels)
+  pub declare_more : (d : ADeclaration) (ds : List ADeclaration) (l : ℕ) → declare size count (d ∷ ds) l
+      ≡ two_done (one_declared size count d l) (declare size count ds (one_declared size count d l).labels)
   declare_more (KeepOf object) ds l = sym (nothing_before size l (declare size count ds l) (declare_temps ds l))
   declare_more (ClearOf n) ds l = refl
   declare_more (BeginOf n e) ds l = refl
@@ -56,7 +57,8 @@ module _ (size count : ℕ) where
       (ap (λ p. two_done p (declare size count ds p.labels)) is ∙ same, omega arith)
 
   -- one declaration more behind others
-  pub declare_goes : (w one next whole : Emitted) (d : ADeclaration) (ds : List ADeclaration) → two_done w (declare size count (d ∷ ds) w.labels) ≡ whole → one ≡ one_declared size count d w.labels → next ≡ two_done w one → two_done next (declare size count ds next.labels) ≡ whole
+  pub declare_goes : (w one next whole : Emitted) (d : ADeclaration) (ds : List ADeclaration) → two_done w (declare size count (d ∷ ds) w.labels) ≡ whole → one
+      ≡ one_declared size count d w.labels → next ≡ two_done w one → two_done next (declare size count ds next.labels) ≡ whole
   declare_goes w one next whole d ds so is put =
       let more = declare_more d ds w.labels in
       let split = two_assoc w (one_declared size count d w.labels) (declare size count ds (one_declared size count d w.labels).labels) in

@@ -1,6 +1,10 @@
 -- How large phrases are: what a lowering of their parts goes down by.
 use Rattle.std.specs.Prelude.{ℕ, suc, ◌+◌}
-use Rattle.c_types.specs.Typed.{APlace, VariableAt, PointedBy, ElementBy, AnExpression, Constant, LiteralAt, ArrayAt, ReadOf, SizeofTerm, SizeOf, AddressOf, CallOf, StepOf, UnaryOf, CastTo, ConvertTo, ArithmeticOf, CompareOf, BothOf, EitherOf, AdvanceOf, AdvanceByOf, RetreatOf, DistanceOf, ChoiceOf, AssignTo, ArithmeticAssignTo, AdvanceAssignTo, RetreatAssignTo, CommaOf, SomeExpressions, NoExpressions, MoreExpressions}
+use Rattle.c_types.specs.Typed.{APlace, VariableAt, PointedBy, ElementBy, AnExpression, Constant, LiteralAt, ArrayAt}
+use Rattle.c_types.specs.Typed.{ReadOf, SizeofTerm, SizeOf, AddressOf, CallOf, StepOf, UnaryOf, CastTo, ConvertTo}
+use Rattle.c_types.specs.Typed.{ArithmeticOf, CompareOf, BothOf, EitherOf, AdvanceOf, AdvanceByOf, RetreatOf}
+use Rattle.c_types.specs.Typed.{DistanceOf, ChoiceOf, AssignTo, ArithmeticAssignTo, AdvanceAssignTo, RetreatAssignTo}
+use Rattle.c_types.specs.Typed.{CommaOf, SomeExpressions, NoExpressions, MoreExpressions}
 
 abbrev mutual
   pub place_size : APlace → ℕ

@@ -59,10 +59,24 @@ abbrev pub found : Located → parts.Located
 found p = record { items = all_items p.items.items; type = p.ctype; place = storage p.storage; temps = p.temps; labels = p.labels }
 
 abbrev pub ready : Assignable → parts.Assignable
-ready p = record { items = all_items p.items.items; type = p.ctype; place = storage p.storage; value = tree p.value; temps = p.temps; labels = p.labels }
+ready p = record {
+  items = all_items p.items.items;
+  type = p.ctype;
+  place = storage p.storage;
+  value = tree p.value;
+  temps =
+      p.temps;
+  labels = p.labels;
+}
 
 abbrev pub passing : Passing → parts.Passing
-passing p = record { items = all_items p.items.items; trees = all_trees p.trees.items; quiet = p.is_quiet; temps = p.temps; labels = p.labels }
+passing p = record {
+  items = all_items p.items.items;
+  trees = all_trees p.trees.items;
+  quiet = p.is_quiet;
+  temps = p.temps;
+  labels = p.labels;
+}
 
 abbrev pub done : Emitted → parts.Emitted
 done p = record { items = all_items p.items.items; temps = p.temps; labels = p.labels }

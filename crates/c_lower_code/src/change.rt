@@ -82,7 +82,8 @@ pub(crate) fn step_ready(frame: Frame, by: Direction, p: Located) -> Result<Assi
 
 /// A step whose value is that before it.
 pub(crate) fn step_before(frame: Frame, by: Direction, p: Located) -> Result<Lowered, NoMemory>
-    ensures { IfOk result (λ r. low r ≡ parts.postfix frame.locals frame.functions (parts.step_tree frame.locals frame.functions by p.ctype) (found p)) }
+    ensures { IfOk result (λ r. low r ≡ parts.postfix frame.locals frame.functions
+        (parts.step_tree frame.locals frame.functions by p.ctype) (found p)) }
 {
     let none = Vec::new(frame.alloc);
     let is_held = must_keep(frame, &none, &p.storage);

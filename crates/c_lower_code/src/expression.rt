@@ -45,7 +45,8 @@ pub(crate) fn seek(frame: Frame, place: &Place, t: u32, l: u32) -> Result<Locate
 // Two values that are due in turn.
 #[cycle(expression)]
 fn joined(frame: Frame, a: &Expression, b: &Expression, t: u32, l: u32) -> Result<Pair, NoMemory>
-    ensures { IfOk result (λ r. two r ≡ parts.joined frame.locals frame.functions (parts.way frame.locals frame.functions (term a.now)) (parts.way frame.locals frame.functions (term b.now)) t l) }
+    ensures { IfOk result (λ r. two r ≡ parts.joined frame.locals frame.functions
+        (parts.way frame.locals frame.functions (term a.now)) (parts.way frame.locals frame.functions (term b.now)) t l) }
 {
     let p = value(frame, a, t, l)?;
     let q = value(frame, b, p.temps, p.labels)?;
@@ -63,7 +64,8 @@ fn relation(
     t: u32,
     l: u32,
 ) -> Result<Emitted, NoMemory>
-    ensures { IfOk result (λ d. done d ≡ parts.compare r to (parts.joined frame.locals frame.functions (parts.way frame.locals frame.functions (term a.now)) (parts.way frame.locals frame.functions (term b.now)) t l)) }
+    ensures { IfOk result (λ d. done d ≡ parts.compare r to (parts.joined frame.locals frame.functions
+        (parts.way frame.locals frame.functions (term a.now)) (parts.way frame.locals frame.functions (term b.now)) t l)) }
 {
     compare(r, to, joined(frame, a, b, t, l)?)
 }
@@ -80,7 +82,8 @@ fn chain(
     t: u32,
     l: u32,
 ) -> Result<Emitted, NoMemory>
-    ensures { IfOk result (λ d. done d ≡ parts.chain stop (parts.way frame.locals frame.functions (term a.now)) (parts.way frame.locals frame.functions (term b.now)) sense to t l) }
+    ensures { IfOk result (λ d. done d ≡ parts.chain stop (parts.way frame.locals frame.functions (term a.now))
+        (parts.way frame.locals frame.functions (term b.now)) sense to t l) }
 {
     let inner = after(l)?;
     if stop == sense {
@@ -104,7 +107,8 @@ fn drop_chain(
     t: u32,
     l: u32,
 ) -> Result<Emitted, NoMemory>
-    ensures { IfOk result (λ d. done d ≡ parts.chain_drop (parts.way frame.locals frame.functions (term a.now)) stop (parts.way frame.locals frame.functions (term b.now)) t l) }
+    ensures { IfOk result (λ d. done d ≡ parts.chain_drop (parts.way frame.locals frame.functions (term a.now)) stop
+        (parts.way frame.locals frame.functions (term b.now)) t l) }
 {
     let p = branch(frame, a, stop, l, t, after(l)?)?;
     let q = discard(frame, b, p.temps, p.labels)?;
@@ -120,7 +124,8 @@ fn drop_two(
     t: u32,
     l: u32,
 ) -> Result<Emitted, NoMemory>
-    ensures { IfOk result (λ d. done d ≡ parts.drop_two (parts.way frame.locals frame.functions (term a.now)) (parts.way frame.locals frame.functions (term b.now)) t l) }
+    ensures { IfOk result (λ d. done d ≡ parts.drop_two (parts.way frame.locals frame.functions (term a.now))
+        (parts.way frame.locals frame.functions (term b.now)) t l) }
 {
     let p = discard(frame, a, t, l)?;
     let q = discard(frame, b, p.temps, p.labels)?;
@@ -137,7 +142,8 @@ fn updated(
     t: u32,
     l: u32,
 ) -> Result<Assignable, NoMemory>
-    ensures { IfOk result (λ r. ready r ≡ parts.updated frame.locals frame.functions (applied change) (parts.seek frame.locals frame.functions (place_of place.now) t l) (parts.way frame.locals frame.functions (term e.now)).low) }
+    ensures { IfOk result (λ r. ready r ≡ parts.updated frame.locals frame.functions (applied change)
+        (parts.seek frame.locals frame.functions (place_of place.now) t l) (parts.way frame.locals frame.functions (term e.now)).low) }
 {
     let p = seek(frame, place, t, l)?;
     let q = value(frame, e, p.temps, p.labels)?;
@@ -154,7 +160,8 @@ fn changed(
     t: u32,
     l: u32,
 ) -> Result<Lowered, NoMemory>
-    ensures { IfOk result (λ r. low r ≡ parts.store_low (parts.updated frame.locals frame.functions (applied change) (parts.seek frame.locals frame.functions (place_of place.now) t l) (parts.way frame.locals frame.functions (term e.now)).low)) }
+    ensures { IfOk result (λ r. low r ≡ parts.store_low (parts.updated frame.locals frame.functions (applied change)
+        (parts.seek frame.locals frame.functions (place_of place.now) t l) (parts.way frame.locals frame.functions (term e.now)).low)) }
 {
     store_low(frame.alloc, updated(frame, change, place, e, t, l)?)
 }
@@ -169,7 +176,8 @@ fn drop_changed(
     t: u32,
     l: u32,
 ) -> Result<Emitted, NoMemory>
-    ensures { IfOk result (λ r. done r ≡ parts.store_drop (parts.updated frame.locals frame.functions (applied change) (parts.seek frame.locals frame.functions (place_of place.now) t l) (parts.way frame.locals frame.functions (term e.now)).low)) }
+    ensures { IfOk result (λ r. done r ≡ parts.store_drop (parts.updated frame.locals frame.functions (applied change)
+        (parts.seek frame.locals frame.functions (place_of place.now) t l) (parts.way frame.locals frame.functions (term e.now)).low)) }
 {
     store_drop(frame.alloc, updated(frame, change, place, e, t, l)?)
 }
@@ -184,7 +192,8 @@ fn assigned(
     t: u32,
     l: u32,
 ) -> Result<Assignable, NoMemory>
-    ensures { IfOk result (λ r. ready r ≡ parts.assigned frame.locals frame.functions between (parts.seek frame.locals frame.functions (place_of place.now) t l) (parts.way frame.locals frame.functions (term e.now)).low) }
+    ensures { IfOk result (λ r. ready r ≡ parts.assigned frame.locals frame.functions between
+        (parts.seek frame.locals frame.functions (place_of place.now) t l) (parts.way frame.locals frame.functions (term e.now)).low) }
 {
     let p = seek(frame, place, t, l)?;
     let q = value(frame, e, p.temps, p.labels)?;
@@ -216,7 +225,8 @@ fn chosen(
     t: u32,
     l: u32,
 ) -> Result<Lowered, NoMemory>
-    ensures { IfOk result (λ r. low r ≡ (parts.choose (parts.way frame.locals frame.functions (term c.now)) (parts.way frame.locals frame.functions (term a.now)) (parts.way frame.locals frame.functions (term b.now))).low t l) }
+    ensures { IfOk result (λ r. low r ≡ (parts.choose (parts.way frame.locals frame.functions (term c.now))
+        (parts.way frame.locals frame.functions (term a.now)) (parts.way frame.locals frame.functions (term b.now))).low t l) }
 {
     let p = branch(frame, c, false, l, after(t)?, after(after(l)?)?)?;
     let q = value(frame, a, p.temps, p.labels)?;
@@ -234,7 +244,8 @@ fn drop_chosen(
     t: u32,
     l: u32,
 ) -> Result<Emitted, NoMemory>
-    ensures { IfOk result (λ r. done r ≡ (parts.choose (parts.way frame.locals frame.functions (term c.now)) (parts.way frame.locals frame.functions (term a.now)) (parts.way frame.locals frame.functions (term b.now))).drop t l) }
+    ensures { IfOk result (λ r. done r ≡ (parts.choose (parts.way frame.locals frame.functions (term c.now))
+        (parts.way frame.locals frame.functions (term a.now)) (parts.way frame.locals frame.functions (term b.now))).drop t l) }
 {
     let p = branch(frame, c, false, l, t, after(after(l)?)?)?;
     let q = discard(frame, a, p.temps, p.labels)?;
@@ -261,7 +272,8 @@ fn unary(
     t: u32,
     l: u32,
 ) -> Result<Lowered, NoMemory>
-    ensures { IfOk result (λ r. low r ≡ (parts.unary frame.locals frame.functions op (parts.way frame.locals frame.functions (term e.now))).low t l) }
+    ensures { IfOk result (λ r. low r ≡ (parts.unary frame.locals frame.functions op
+        (parts.way frame.locals frame.functions (term e.now))).low t l) }
 {
     match op {
         UnaryOperator::Plus => value(frame, e, t, l),
@@ -344,7 +356,8 @@ pub(crate) fn value(frame: Frame, e: &Expression, t: u32, l: u32) -> Result<Lowe
 // The effect of one expression, and then the value of another.
 #[cycle(expression)]
 fn comma(frame: Frame, a: &Expression, b: &Expression, t: u32, l: u32) -> Result<Lowered, NoMemory>
-    ensures { IfOk result (λ r. low r ≡ (parts.comma (parts.way frame.locals frame.functions (term a.now)) (parts.way frame.locals frame.functions (term b.now))).low t l) }
+    ensures { IfOk result (λ r. low r ≡ (parts.comma (parts.way frame.locals frame.functions (term a.now))
+        (parts.way frame.locals frame.functions (term b.now))).low t l) }
 {
     let p = discard(frame, a, t, l)?;
     let q = value(frame, b, p.temps, p.labels)?;
@@ -377,7 +390,8 @@ fn unary_branch(
     t: u32,
     l: u32,
 ) -> Result<Emitted, NoMemory>
-    ensures { IfOk result (λ r. done r ≡ (parts.unary frame.locals frame.functions op (parts.way frame.locals frame.functions (term e.now))).branch sense to t l) }
+    ensures { IfOk result (λ r. done r ≡ (parts.unary frame.locals frame.functions op
+        (parts.way frame.locals frame.functions (term e.now))).branch sense to t l) }
 {
     match op {
         UnaryOperator::Plus => test(sense, to, unary(frame, UnaryOperator::Plus, e, t, l)?),
@@ -508,7 +522,8 @@ fn unary_drop(
     t: u32,
     l: u32,
 ) -> Result<Emitted, NoMemory>
-    ensures { IfOk result (λ r. done r ≡ (parts.unary frame.locals frame.functions op (parts.way frame.locals frame.functions (term e.now))).drop t l) }
+    ensures { IfOk result (λ r. done r ≡ (parts.unary frame.locals frame.functions op
+        (parts.way frame.locals frame.functions (term e.now))).drop t l) }
 {
     match op {
         UnaryOperator::Plus => discard(frame, e, t, l),

@@ -330,7 +330,12 @@ pub(crate) fn choose_drop(l: u32, p: Emitted, q: Emitted, r: Emitted) -> Result<
 
 /// A part, and the label l behind it.
 pub(crate) fn labelled(l: u32, p: Emitted) -> Result<Emitted, NoMemory>
-    ensures { IfOk result (λ r. done r ≡ record { items = all_items p.items.items ++ (mirror.Label l ∷ []); temps = p.temps; labels = p.labels }) }
+    ensures { IfOk result (λ r. done r ≡ record {
+      items = all_items p.items.items
+          ++ (mirror.Label l ∷ []);
+      temps = p.temps;
+      labels = p.labels;
+    }) }
 {
     let mut items = p.items;
     put(&mut items, Item::Label(l))?;

@@ -157,7 +157,8 @@ fn put_narrowed(
     narrow: Tok,
     w: &Tree,
 ) -> Result<(), NoMemory>
-    ensures { OnOk result (leaves.new.items ≡ leaves.old.items ++ (spelling.plain root ∷ spelling.plain place ∷ spelling.leaves_onto (tree a.now) (spelling.plain narrow ∷ spelling.leaves_onto (tree w.now) []))) }
+    ensures { OnOk result (leaves.new.items ≡ leaves.old.items ++ (spelling.plain root ∷ spelling.plain place ∷
+        spelling.leaves_onto (tree a.now) (spelling.plain narrow ∷ spelling.leaves_onto (tree w.now) []))) }
 {
     put_two(leaves, root, place)?;
     put_tree(leaves, a)?;

@@ -107,7 +107,8 @@ fn for_of(
     e: &Option<Expression>,
     body: &Action,
 ) -> Result<Emitted, NoMemory>
-    ensures { IfOk result (λ r. done r ≡ statements.for_of frame.locals frame.functions l (maybe_term c.now) (maybe_term e.now) (statements.lower frame.locals frame.functions (act body.now) (suc (suc l)) (suc l))) }
+    ensures { IfOk result (λ r. done r ≡ statements.for_of frame.locals frame.functions l (maybe_term c.now) (maybe_term e.now)
+        (statements.lower frame.locals frame.functions (act body.now) (suc (suc l)) (suc l))) }
 {
     let onward = after(l)?;
     let end = after(onward)?;

@@ -618,7 +618,8 @@ module _ (program : TreeProgram) (code : List TreeItem) (callers : List Activati
         }) st d ag)))
 
     -- a `for` with a test, in either form
-    tested_does : (o : Option ℕ) (c : AnExpression) (e : Option AnExpression) (a : AnAction) (l : ℕ) (scope after outer : ℕ → Type 0) → ((x : ℕ) → scope x → x < size) → Fits scope c → FitsMaybe scope e
+    tested_does : (o : Option ℕ) (c : AnExpression) (e : Option AnExpression) (a : AnAction) (l : ℕ) (scope after outer : ℕ → Type 0) → ((x : ℕ) → scope x → x < size) → Fits scope c
+        → FitsMaybe scope e
         → ((x : ℕ) → scope x → after x) → ((m : ℕ) → DoesStmt (lower size count a (suc (suc l)) (suc l) m) (suc (suc l)) (suc l) true scope scope after (stmt p next a))
         → (inside : Bool) (lb lc : ℕ)
         → DoesStmt (for_tested size count o l c e (lower size count a (suc (suc l)) (suc l))) lb lc inside outer scope scope (look_by p next (for_loop (Some c) e a) (stmt p next a))

@@ -10,10 +10,12 @@ use Rattle.c_types.specs.declared.typed.UnaryOperator.TheVariants as unaries
 use Rattle.c_types.specs.declared.typed.ArithmeticOperator.TheVariants as ariths
 use Rattle.c_types.specs.declared.typed.Moment.TheVariants as moments
 use Rattle.c_types.specs.declared.typed.Direction.TheVariants as directions
-use Rattle.c_types.specs.Typed.{APlace, VariableAt, PointedBy, ElementBy, AnExpression, Constant, ArrayAt, ReadOf, CallOf, StepOf, UnaryOf, CastTo, ArithmeticOf, CompareOf, BothOf}
+use Rattle.c_types.specs.Typed.{APlace, VariableAt, PointedBy, ElementBy, AnExpression, Constant, ArrayAt, ReadOf}
+use Rattle.c_types.specs.Typed.{CallOf, StepOf, UnaryOf, CastTo, ArithmeticOf, CompareOf, BothOf}
 use Rattle.c_types.specs.Typed.{AdvanceOf, ChoiceOf, AssignTo, ArithmeticAssignTo, NoExpressions, MoreExpressions}
 use Rattle.c_program.specs.Statements.{ClearOf, BeginOf, AnAction, SomeActions, NoActions, MoreActions, DeclareOf, EvaluateOf, ReturnOf}
-use Rattle.c_lower_scheme.specs.Trees.{Tree, Num, Gaddr, Loc, Indir, Conv, Bin, Item, Label, AssignLoc, AssignMem, Cbr, Jump, Push, Call, Save, Ret}
+use Rattle.c_lower_scheme.specs.Trees.{Tree, Num, Gaddr, Loc, Indir, Conv, Bin, Item, Label, AssignLoc, AssignMem, Cbr}
+use Rattle.c_lower_scheme.specs.Trees.{Jump, Push, Call, Save, Ret}
 use Rattle.c_lower_scheme.specs.Statements.{lower_row}
 
 abbrev int : CType
@@ -47,7 +49,8 @@ block (a ∷ rest) = MoreActions a (block rest)
 -- int z; int g(int a, int b); int main() { return g(1/z, *(int*)0); }
 abbrev calling : SomeActions
 calling = block (ReturnOf (Some (CallOf int (callees.Defined 0) (int ∷ int ∷ [])
-    (MoreExpressions (ArithmeticOf ariths.Divide (Constant 1) (ReadOf (global int 0))) (MoreExpressions (ReadOf (PointedBy int (CastTo pointer (Constant 0)))) NoExpressions)))) ∷ [])
+    (MoreExpressions (ArithmeticOf ariths.Divide (Constant 1) (ReadOf (global int 0)))
+    (MoreExpressions (ReadOf (PointedBy int (CastTo pointer (Constant 0)))) NoExpressions)))) ∷ [])
 
 abbrev calling_items : List Item
 calling_items =
@@ -67,7 +70,8 @@ indexing = block (
     ∷ EvaluateOf (AssignTo (local int 0) (Constant 0))
     ∷ EvaluateOf (AssignTo (local char 1) (ArithmeticOf ariths.Add (ReadOf (element 0 (incremented (local int 0)))) (ReadOf (local int 0))))
     ∷ EvaluateOf (ArithmeticAssignTo ariths.Add (element 0 (ReadOf (local int 0))) (incremented (local int 0)))
-    ∷ ReturnOf (Some (BothOf (CompareOf rel.Lt (ReadOf (local int 0)) (ReadOf (local char 1))) (UnaryOf unaries.Not (ReadOf (element 0 (ReadOf (local char 1)))))))
+    ∷ ReturnOf (Some (BothOf (CompareOf rel.Lt (ReadOf (local int 0)) (ReadOf (local char 1)))
+    (UnaryOf unaries.Not (ReadOf (element 0 (ReadOf (local char 1)))))))
     ∷ [])
 
 abbrev at_index : Tree → Tree

@@ -18,13 +18,18 @@ use Rattle.c_types.specs.declared.typed.Moment.TheVariants as moments
 use Rattle.c_types.specs.declared.typed.Direction.{Direction}
 use Rattle.c_types.specs.declared.typed.Direction.TheVariants as directions
 use Rattle.c_types.specs.Constants.{scale}
-use Rattle.c_types.specs.Typed.{APlace, VariableAt, PointedBy, ElementBy, AnExpression, Constant, LiteralAt, ArrayAt, ReadOf, SizeofTerm, SizeOf, AddressOf, CallOf, StepOf}
-use Rattle.c_types.specs.Typed.{UnaryOf, CastTo, ConvertTo, ArithmeticOf, CompareOf, BothOf, EitherOf, AdvanceOf, AdvanceByOf, RetreatOf, DistanceOf, ChoiceOf, AssignTo}
-use Rattle.c_types.specs.Typed.{ArithmeticAssignTo, AdvanceAssignTo, RetreatAssignTo, CommaOf, SomeExpressions, NoExpressions, MoreExpressions}
-use Rattle.c_lower_scheme.specs.Trees.{Tree, Num, Gaddr, Loc, Arg, Indir, Conv, Neg, Com, Bin, Item, Label, AssignLoc, AssignArg, AssignMem, Cbr, Jump, Push, Call, Save, divides}
+use Rattle.c_types.specs.Typed.{APlace, VariableAt, PointedBy, ElementBy, AnExpression, Constant, LiteralAt, ArrayAt}
+use Rattle.c_types.specs.Typed.{ReadOf, SizeofTerm, SizeOf, AddressOf, CallOf, StepOf}
+use Rattle.c_types.specs.Typed.{UnaryOf, CastTo, ConvertTo, ArithmeticOf, CompareOf, BothOf, EitherOf, AdvanceOf}
+use Rattle.c_types.specs.Typed.{AdvanceByOf, RetreatOf, DistanceOf, ChoiceOf, AssignTo}
+use Rattle.c_types.specs.Typed.{ArithmeticAssignTo, AdvanceAssignTo, RetreatAssignTo, CommaOf, SomeExpressions}
+use Rattle.c_types.specs.Typed.{NoExpressions, MoreExpressions}
+use Rattle.c_lower_scheme.specs.Trees.{Tree, Num, Gaddr, Loc, Arg, Indir, Conv, Neg, Com, Bin, Item, Label, AssignLoc}
+use Rattle.c_lower_scheme.specs.Trees.{AssignArg, AssignMem, Cbr, Jump, Push, Call, Save, divides}
 use Rattle.c_lower_scheme.specs.Trees.{reads, breaks, stable, is_leaf}
 
--- Items, and a tree that is due directly behind them: it is evaluated, or saved, before anything else is done. Behind them, the first temporary and the first label that are free.
+-- Items, and a tree that is due directly behind them: it is evaluated, or saved, before anything else is done. Behind
+-- them, the first temporary and the first label that are free.
 pub record Lowered : Type 0 where
   pub items : List Item
   pub tree : Tree
@@ -53,7 +58,8 @@ pub record Located : Type 0 where
   pub temps : ℕ
   pub labels : ℕ
 
--- The same with the arguments of a call, which are due in turn. They are quiet where no argument has items of its own, so that the items only save.
+-- The same with the arguments of a call, which are due in turn. They are quiet where no argument has items of its own,
+-- so that the items only save.
 pub record Passing : Type 0 where
   pub items : List Item
   pub trees : List Tree
@@ -67,7 +73,8 @@ pub record Emitted : Type 0 where
   pub temps : ℕ
   pub labels : ℕ
 
--- The three ways to lower an expression, from the first free temporary and label on: for its value; as a condition, which goes to a label where its truth is the given one, and
+-- The three ways to lower an expression, from the first free temporary and label on: for its value; as a condition,
+-- which goes to a label where its truth is the given one, and
 -- else falls through; and for its effect alone.
 pub record Lowering : Type 0 where
   pub low : ℕ → ℕ → Lowered
@@ -205,7 +212,13 @@ then_done a b = record { items = a.items ++ b.items; temps = b.temps; labels = b
 
 -- the value of a condition is made in the temporary t
 abbrev pub truth_of : ℕ → ℕ → Emitted → Lowered
-truth_of t l p = record { items = AssignLoc t (Num 0) ∷ (p.items ++ (AssignLoc t (Num 1) ∷ Label l ∷ [])); tree = Loc t; temps = p.temps; labels = p.labels }
+truth_of t l p = record {
+  items = AssignLoc t (Num 0) ∷ (p.items ++ (AssignLoc t (Num 1) ∷ Label l ∷ []));
+  tree = Loc t;
+  temps =
+      p.temps;
+  labels = p.labels;
+}
 
 -- a value as a condition
 abbrev pub test : Bool → ℕ → Lowered → Emitted
@@ -236,7 +249,11 @@ mapped f e = effective (λ t l. over f (e.low t l)) e.drop
 -- both sides of `&&`, where stop is false, or `||`, where it is true: the left side alone decides where its truth is stop
 abbrev pub chained : Bool → ℕ → Emitted → (ℕ → ℕ → Emitted) → Emitted
 chained true l p f = then_done p (behind_done p f)
-chained false l p f = record { items = p.items ++ ((behind_done p f).items ++ (Label l ∷ [])); temps = (behind_done p f).temps; labels = (behind_done p f).labels }
+chained false l p f = record {
+  items = p.items ++ ((behind_done p f).items ++ (Label l ∷ []));
+  temps = (behind_done p f).temps;
+  labels = (behind_done p f).labels;
+}
 
 abbrev pub same : Bool → Bool → Bool
 same true b = b
@@ -265,7 +282,11 @@ choose_low t l p q r = record {
 }
 
 abbrev pub choose_drop : ℕ → Emitted → Emitted → Emitted → Emitted
-choose_drop l p q r = record { items = p.items ++ (q.items ++ (Jump (suc l) ∷ Label l ∷ (r.items ++ (Label (suc l) ∷ [])))); temps = r.temps; labels = r.labels }
+choose_drop l p q r = record {
+  items = p.items ++ (q.items ++ (Jump (suc l) ∷ Label l ∷ (r.items ++ (Label (suc l) ∷ []))));
+  temps = r.temps;
+  labels = r.labels;
+}
 
 abbrev pub choose_low_by : ℕ → ℕ → Emitted → (ℕ → ℕ → Lowered) → (ℕ → ℕ → Lowered) → Lowered
 choose_low_by t l p f g = choose_low t l p (behind_done p f) (behind_low (behind_done p f) g)
@@ -318,7 +339,13 @@ called_drop f p = record { items = p.items ++ pushes p.trees (Call f (args_count
 
 -- a call's result is saved directly behind it
 abbrev pub called_low : ℕ → Passing → Lowered
-called_low f p = record { items = p.items ++ pushes p.trees (Call f (args_count p.trees) ∷ Save p.temps ∷ []); tree = Loc p.temps; temps = suc p.temps; labels = p.labels }
+called_low f p = record {
+  items = p.items ++ pushes p.trees (Call f (args_count p.trees) ∷ Save p.temps ∷ []);
+  tree =
+      Loc p.temps;
+  temps = suc p.temps;
+  labels = p.labels;
+}
 
 -- an argument is converted to its parameter's type
 abbrev pub passed_as : List CType → Tree → Tree
@@ -353,7 +380,15 @@ pub record Assignable : Type 0 where
   pub labels : ℕ
 
 abbrev pub ready_so : Bool → Located → Lowered → Assignable
-ready_so b p q = record { items = p.items ++ (holding b q.temps p.place ++ q.items); type = p.type; place = held b q.temps p.place; value = q.tree; temps = next_if b q.temps; labels = q.labels }
+ready_so b p q = record {
+  items = p.items ++ (holding b q.temps p.place ++ q.items);
+  type = p.type;
+  place =
+      held b q.temps p.place;
+  value = q.tree;
+  temps = next_if b q.temps;
+  labels = q.labels;
+}
 
 -- the place is read first; what it holds is saved where the other side has items
 abbrev pub update_so : Bool → Bool → (Tree → Tree → Tree) → Located → Lowered → Assignable
@@ -368,7 +403,8 @@ update_so b c f p q = record {
 
 abbrev pub postfix_so : Bool → (Tree → Tree) → Located → Lowered
 postfix_so b f p = record {
-  items = p.items ++ (holding b p.temps p.place ++ (AssignLoc (next_if b p.temps) (read_from p.type (held b p.temps p.place)) ∷ assign_to p.type (held b p.temps p.place)
+  items = p.items ++ (holding b p.temps p.place ++ (AssignLoc (next_if b p.temps) (read_from p.type (held b p.temps p.place)) ∷
+      assign_to p.type (held b p.temps p.place)
       (f (Loc (next_if b p.temps))) ∷ []));
   tree = Loc (next_if b p.temps);
   temps = suc (next_if b p.temps);
@@ -381,8 +417,20 @@ store_drop r = record { items = r.items ++ (assign_to r.type r.place r.value ∷
 
 -- and for its value, which a local holds: the variable itself, or a temporary
 abbrev pub store_low_at : Where → Assignable → Lowered
-store_low_at (InLoc n) r = record { items = r.items ++ (AssignLoc n (fitted r.type r.value) ∷ []); tree = Loc n; temps = r.temps; labels = r.labels }
-store_low_at (InArg n) r = record { items = r.items ++ (AssignArg n (fitted r.type r.value) ∷ []); tree = Arg n; temps = r.temps; labels = r.labels }
+store_low_at (InLoc n) r = record {
+  items = r.items ++ (AssignLoc n (fitted r.type r.value) ∷ []);
+  tree = Loc n;
+  temps =
+      r.temps;
+  labels = r.labels;
+}
+store_low_at (InArg n) r = record {
+  items = r.items ++ (AssignArg n (fitted r.type r.value) ∷ []);
+  tree = Arg n;
+  temps =
+      r.temps;
+  labels = r.labels;
+}
 store_low_at (InMem a) r = record {
   items = r.items ++ (AssignLoc r.temps (fitted r.type r.value) ∷ AssignMem (integer_of r.type) a (Loc r.temps) ∷ []);
   tree = Loc r.temps;
@@ -412,7 +460,14 @@ module _ (size count : ℕ) where
   must (i ∷ is) a b = not (stable size a)
 
   abbrev pub join_so : Bool → Lowered → Lowered → Pair
-  join_so b p q = record { items = p.items ++ (saving b q.temps p.tree ++ q.items); first = saved b q.temps p.tree; second = q.tree; temps = next_if b q.temps; labels = q.labels }
+  join_so b p q = record {
+    items = p.items ++ (saving b q.temps p.tree ++ q.items);
+    first = saved b q.temps p.tree;
+    second =
+        q.tree;
+    temps = next_if b q.temps;
+    labels = q.labels;
+  }
 
   abbrev pub join : Lowered → Lowered → Pair
   join p q = join_so (must q.items p.tree q.tree) p q
@@ -427,7 +482,8 @@ module _ (size count : ℕ) where
   abbrev pub relation : Rel → Lowering → Lowering → Lowering
   relation r a b = conditional (λ sense to t l. compare (sensed sense r) to (joined a b t l)) (drop_two a b)
 
-  -- The address of a place is saved before a value that is assigned to it: as the first of two parts, and, where something is done between the two, if it may break.
+  -- The address of a place is saved before a value that is assigned to it: as the first of two parts, and, where
+  -- something is done between the two, if it may break.
   abbrev pub must_hold : Bool → List Item → Tree → Where → Bool
   must_hold between is w (InLoc n) = false
   must_hold between is w (InArg n) = false
@@ -506,7 +562,8 @@ module _ (size count : ℕ) where
     way (SizeofTerm n e) = valued (due (Num n))
     way (SizeOf n) = valued (due (Num n))
     way (AddressOf ty p) = valued (λ t l. address_low (seek p t l))
-    way (CallOf ty f to es) = effective (λ t l. called_low (callee_number count f) (pass es to t l)) (λ t l. called_drop (callee_number count f) (pass es to t l))
+    way (CallOf ty f to es) = effective (λ t l. called_low (callee_number count f) (pass es to t l))
+        (λ t l. called_drop (callee_number count f) (pass es to t l))
     way (StepOf m by p) = effective (λ t l. step_low m by (seek p t l)) (λ t l. store_drop (step_ready by (seek p t l)))
     way (UnaryOf op e) = unary op (way e)
     way (CastTo ty e) = mapped (fitted ty) (way e)
@@ -520,7 +577,8 @@ module _ (size count : ℕ) where
     way (RetreatOf ty a b) = binary (retreat ty) (way a) (way b)
     way (DistanceOf ty a b) = binary (apart ty) (way a) (way b)
     way (ChoiceOf ty c a b) = choose (way c) (way a) (way b)
-    way (AssignTo p e) = effective (λ t l. store_low (assigned true (seek p t l) (way e).low)) (λ t l. store_drop (assigned false (seek p t l) (way e).low))
+    way (AssignTo p e) = effective (λ t l. store_low (assigned true (seek p t l) (way e).low))
+        (λ t l. store_drop (assigned false (seek p t l) (way e).low))
     way (ArithmeticAssignTo op p e) = update_by (λ ty. Bin op) (seek p) (way e)
     way (AdvanceAssignTo p e) = update_by advance (seek p) (way e)
     way (RetreatAssignTo p e) = update_by retreat (seek p) (way e)

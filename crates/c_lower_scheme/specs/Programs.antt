@@ -8,7 +8,8 @@ use Rattle.c_lower_scheme.specs.Spelling.{spelled_all}
 use Rattle.c_lower_scheme.specs.Expressions.{Emitted}
 use Rattle.c_lower_scheme.specs.Statements.{lower_row}
 
--- A function's items, from the first free label on: behind its statements it answers 0. It has no loop around it, so no `break` or `continue` goes to the label 0 that is named here.
+-- A function's items, from the first free label on: behind its statements it answers 0. It has no loop around it, so no
+-- `break` or `continue` goes to the label 0 that is named here.
 abbrev pub body_of : ℕ → ARoutine → ℕ → Emitted
 body_of count g l = lower_row (length g.locals) count g.body 0 0 l
 

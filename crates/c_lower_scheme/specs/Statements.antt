@@ -3,10 +3,14 @@ use Rattle.std.specs.Prelude.{ℕ, suc, max, ◌==◌, List, [], ◌∷◌, ◌+
 use Rattle.c_types.specs.declared.typed.Variable.{Variable}
 use Rattle.c_types.specs.declared.typed.Variable.TheVariants as variables
 use Rattle.c_types.specs.Constants.{constant_of}
-use Rattle.c_types.specs.Typed.{APlace, VariableAt, PointedBy, ElementBy, AnExpression, Constant, LiteralAt, ArrayAt, ReadOf, SizeofTerm, SizeOf, AddressOf, CallOf, StepOf}
-use Rattle.c_types.specs.Typed.{UnaryOf, CastTo, ConvertTo, ArithmeticOf, CompareOf, BothOf, EitherOf, AdvanceOf, AdvanceByOf, RetreatOf, DistanceOf, ChoiceOf, AssignTo}
-use Rattle.c_types.specs.Typed.{ArithmeticAssignTo, AdvanceAssignTo, RetreatAssignTo, CommaOf, SomeExpressions, NoExpressions, MoreExpressions}
-use Rattle.c_program.specs.Statements.{ADeclaration, KeepOf, ClearOf, BeginOf, AnAction, SomeActions, NoActions, MoreActions, DeclareOf, BlockOf, EvaluateOf, BreakOf, ContinueOf}
+use Rattle.c_types.specs.Typed.{APlace, VariableAt, PointedBy, ElementBy, AnExpression, Constant, LiteralAt, ArrayAt}
+use Rattle.c_types.specs.Typed.{ReadOf, SizeofTerm, SizeOf, AddressOf, CallOf, StepOf}
+use Rattle.c_types.specs.Typed.{UnaryOf, CastTo, ConvertTo, ArithmeticOf, CompareOf, BothOf, EitherOf, AdvanceOf}
+use Rattle.c_types.specs.Typed.{AdvanceByOf, RetreatOf, DistanceOf, ChoiceOf, AssignTo}
+use Rattle.c_types.specs.Typed.{ArithmeticAssignTo, AdvanceAssignTo, RetreatAssignTo, CommaOf, SomeExpressions}
+use Rattle.c_types.specs.Typed.{NoExpressions, MoreExpressions}
+use Rattle.c_program.specs.Statements.{ADeclaration, KeepOf, ClearOf, BeginOf, AnAction, SomeActions, NoActions}
+use Rattle.c_program.specs.Statements.{MoreActions, DeclareOf, BlockOf, EvaluateOf, BreakOf, ContinueOf}
 use Rattle.c_program.specs.Statements.{ReturnOf, IfOf, IfElseOf, WhileOf, DoOf, ForOf}
 use Rattle.c_lower_scheme.specs.Trees.{Item, Num, Label, AssignLoc, Jump, Ret}
 use Rattle.c_lower_scheme.specs.Expressions.{Lowered, Emitted, nothing, way}
@@ -82,7 +86,11 @@ abbrev pub if_of : ℕ → Emitted → (ℕ → Emitted) → Emitted
 if_of l p f = if_done l p (f p.labels)
 
 abbrev pub if_else_done : ℕ → Emitted → Emitted → Emitted → Emitted
-if_else_done l p a b = record { items = p.items ++ (a.items ++ (Jump (suc l) ∷ Label l ∷ (b.items ++ (Label (suc l) ∷ [])))); temps = max p.temps (max a.temps b.temps); labels = b.labels }
+if_else_done l p a b = record {
+  items = p.items ++ (a.items ++ (Jump (suc l) ∷ Label l ∷ (b.items ++ (Label (suc l) ∷ []))));
+  temps = max p.temps (max a.temps b.temps);
+  labels = b.labels;
+}
 
 abbrev pub if_else_by : ℕ → Emitted → Emitted → (ℕ → Emitted) → Emitted
 if_else_by l p a g = if_else_done l p a (g a.labels)
@@ -90,24 +98,37 @@ if_else_by l p a g = if_else_done l p a (g a.labels)
 abbrev pub if_else_of : ℕ → Emitted → (ℕ → Emitted) → (ℕ → Emitted) → Emitted
 if_else_of l p f g = if_else_by l p (f p.labels) g
 
--- A loop whose test stands behind its body, from a first jump on: to the label l of the top, or to suc l, where the test stands and `continue` goes. The end is suc (suc l).
+-- A loop whose test stands behind its body, from a first jump on: to the label l of the top, or to suc l, where the
+-- test stands and `continue` goes. The end is suc (suc l).
 abbrev pub loop_done : ℕ → ℕ → Emitted → Emitted → Emitted
-loop_done to l a p = record { items = Jump to ∷ Label l ∷ (a.items ++ (Label (suc l) ∷ (p.items ++ (Label (suc (suc l)) ∷ [])))); temps = max a.temps p.temps; labels = p.labels }
+loop_done to l a p = record {
+  items = Jump to ∷ Label l ∷ (a.items ++ (Label (suc l) ∷
+      (p.items ++ (Label (suc (suc l)) ∷ []))));
+  temps = max a.temps p.temps;
+  labels = p.labels;
+}
 
 abbrev pub loop_of : ℕ → ℕ → Emitted → (ℕ → Emitted) → Emitted
 loop_of to l a f = loop_done to l a (f a.labels)
 
 -- `while` with a constant test: it stands in front, at the label l, and the end is suc l
 abbrev pub while_done : ℕ → Emitted → Emitted → Emitted
-while_done l p a = record { items = Label l ∷ (p.items ++ (a.items ++ (Jump l ∷ Label (suc l) ∷ []))); temps = max p.temps a.temps; labels = a.labels }
+while_done l p a = record {
+  items = Label l ∷ (p.items ++ (a.items ++ (Jump l ∷ Label (suc l) ∷ [])));
+  temps =
+      max p.temps a.temps;
+  labels = a.labels;
+}
 
 abbrev pub while_of : ℕ → Emitted → (ℕ → Emitted) → Emitted
 while_of l p f = while_done l p (f p.labels)
 
--- `for`: its test stands behind the step, at suc (suc (suc l)), where the first jump goes. The top is l, `continue` goes to suc l, and the end is suc (suc l).
+-- `for`: its test stands behind the step, at suc (suc (suc l)), where the first jump goes. The top is l, `continue`
+-- goes to suc l, and the end is suc (suc l).
 abbrev pub turns_done : ℕ → Emitted → Emitted → Emitted → Emitted
 turns_done l a s p = record {
-  items = Jump (suc (suc (suc l))) ∷ Label l ∷ (a.items ++ (Label (suc l) ∷ (s.items ++ (Label (suc (suc (suc l))) ∷ (p.items ++ (Label (suc (suc l)) ∷ []))))));
+  items = Jump (suc (suc (suc l))) ∷ Label l ∷ (a.items ++ (Label (suc l) ∷
+      (s.items ++ (Label (suc (suc (suc l))) ∷ (p.items ++ (Label (suc (suc l)) ∷ []))))));
   temps = max a.temps (max s.temps p.temps);
   labels = p.labels;
 }
@@ -127,7 +148,12 @@ for_done l p a s = record {
 }
 
 abbrev pub ever_done : ℕ → Emitted → Emitted → Emitted
-ever_done l a s = record { items = Jump l ∷ Label l ∷ (a.items ++ (Label (suc l) ∷ (s.items ++ (Jump l ∷ Label (suc (suc l)) ∷ [])))); temps = max a.temps s.temps; labels = s.labels }
+ever_done l a s = record {
+  items = Jump l ∷ Label l ∷ (a.items ++ (Label (suc l) ∷
+      (s.items ++ (Jump l ∷ Label (suc (suc l)) ∷ []))));
+  temps = max a.temps s.temps;
+  labels = s.labels;
+}
 
 abbrev pub for_by : ℕ → Emitted → Emitted → (ℕ → Emitted) → Emitted
 for_by l p a g = for_done l p a (g a.labels)
@@ -164,7 +190,8 @@ module _ (size count : ℕ) where
 
   -- the test, the body and the step of a `for`
   abbrev pub for_tested : Option ℕ → ℕ → AnExpression → Option AnExpression → (ℕ → Emitted) → Emitted
-  for_tested (Some v) l c e f = for_by l (unless c (suc (suc l)) (suc (suc (suc l)))) (f (unless c (suc (suc l)) (suc (suc (suc l)))).labels) (effect e)
+  for_tested (Some v) l c e f = for_by l (unless c (suc (suc l)) (suc (suc (suc l))))
+      (f (unless c (suc (suc l)) (suc (suc (suc l)))).labels) (effect e)
   for_tested None l c e f = turns_by l (f (suc (suc (suc (suc l))))) (effect e) (when c l)
 
   abbrev pub for_of : ℕ → Option AnExpression → Option AnExpression → (ℕ → Emitted) → Emitted

@@ -5,7 +5,8 @@ use Rattle.c_types.specs.declared.types.Integer.{Integer}
 use Rattle.c_types.specs.declared.typed.ArithmeticOperator.{ArithmeticOperator}
 use Rattle.c_types.specs.declared.typed.ArithmeticOperator.TheVariants as ariths
 
--- A pure tree: a number, the address of an object, a local, a parameter from 0, what memory holds as an integer type, a value converted to one, and operators.
+-- A pure tree: a number, the address of an object, a local, a parameter from 0, what memory holds as an integer type, a
+-- value converted to one, and operators.
 pub data Tree : Type 0 where
   Num : (n : ℕ) → Tree
   Gaddr : (object : ℕ) → Tree
@@ -17,7 +18,8 @@ pub data Tree : Type 0 where
   Com : (w : Tree) → Tree
   Bin : (op : ArithmeticOperator) (a b : Tree) → Tree
 
--- A label, or a root: an assignment to a local, to a parameter, or to memory as an integer type; a branch, a jump, an argument of a call, a call, the local for its result, and a return.
+-- A label, or a root: an assignment to a local, to a parameter, or to memory as an integer type; a branch, a jump, an
+-- argument of a call, a call, the local for its result, and a return.
 pub data Item : Type 0 where
   Label : (l : ℕ) → Item
   AssignLoc : (n : ℕ) (w : Tree) → Item
@@ -70,7 +72,8 @@ reads (Bin op a b) = reads a || reads b
 abbrev pub breaks : Tree → Bool
 breaks w = divides w || reads w
 
--- A tree that nothing changes which is done behind it: it does not break, and its locals are temporaries, which stand behind the function's own.
+-- A tree that nothing changes which is done behind it: it does not break, and its locals are temporaries, which stand
+-- behind the function's own.
 abbrev pub stable : ℕ → Tree → Bool
 stable size (Num n) = true
 stable size (Gaddr n) = true

@@ -45,7 +45,8 @@ HaveNames p = (n : ℕ) (g : ARoutine) → slice_get p.routines n ≡ Some g →
 
 -- A function's label can be spelled where its name is one of the grammar.
 abbrev pub NamesAreSpelled : Type 0
-NamesAreSpelled = (p : AProgram) → HaveNames p → AllByRecursion (λ (f : TreeFn). is_name (function_label f.name) ≡ true) (lowered p).functions
+NamesAreSpelled = (p : AProgram) → HaveNames p → AllByRecursion (λ (f : TreeFn). is_name (function_label f.name) ≡ true)
+    (lowered p).functions
 
 -- The functions of the program that a unit is typed as have such names, where the unit's tokens are those of the grammar.
 abbrev pub TypedHaveNames : Type 0

@@ -10,10 +10,14 @@ use Rattle.gg_base.specs.Relations.{holds}
 use Rattle.c_types.specs.declared.types.CType.{CType}
 use Rattle.c_types.specs.declared.typed.Expression.{Expression}
 use Rattle.c_types.specs.Constants.{converted, truth, apply_unary, apply, advanced, retreated, distance}
-use Rattle.c_types.specs.Typed.{APlace, VariableAt, PointedBy, ElementBy, AnExpression, Constant, LiteralAt, ArrayAt, ReadOf, SizeofTerm, SizeOf, AddressOf, CallOf, StepOf}
-use Rattle.c_types.specs.Typed.{UnaryOf, CastTo, ConvertTo, ArithmeticOf, CompareOf, BothOf, EitherOf, AdvanceOf, AdvanceByOf, RetreatOf, DistanceOf, ChoiceOf, AssignTo}
-use Rattle.c_types.specs.Typed.{ArithmeticAssignTo, AdvanceAssignTo, RetreatAssignTo, CommaOf, SomeExpressions, NoExpressions, MoreExpressions, term, terms}
-use Rattle.c_program.specs.Statements.{ADeclaration, KeepOf, ClearOf, BeginOf, AnAction, SomeActions, NoActions, MoreActions, DeclareOf, BlockOf, EvaluateOf, BreakOf, ContinueOf}
+use Rattle.c_types.specs.Typed.{APlace, VariableAt, PointedBy, ElementBy, AnExpression, Constant, LiteralAt, ArrayAt}
+use Rattle.c_types.specs.Typed.{ReadOf, SizeofTerm, SizeOf, AddressOf, CallOf, StepOf}
+use Rattle.c_types.specs.Typed.{UnaryOf, CastTo, ConvertTo, ArithmeticOf, CompareOf, BothOf, EitherOf, AdvanceOf}
+use Rattle.c_types.specs.Typed.{AdvanceByOf, RetreatOf, DistanceOf, ChoiceOf, AssignTo}
+use Rattle.c_types.specs.Typed.{ArithmeticAssignTo, AdvanceAssignTo, RetreatAssignTo, CommaOf, SomeExpressions}
+use Rattle.c_types.specs.Typed.{NoExpressions, MoreExpressions, term, terms}
+use Rattle.c_program.specs.Statements.{ADeclaration, KeepOf, ClearOf, BeginOf, AnAction, SomeActions, NoActions}
+use Rattle.c_program.specs.Statements.{MoreActions, DeclareOf, BlockOf, EvaluateOf, BreakOf, ContinueOf}
 use Rattle.c_program.specs.Statements.{ReturnOf, IfOf, IfElseOf, WhileOf, DoOf, ForOf, act, acts, declaration}
 use Rattle.c_program.specs.Programs.{AProgram, program}
 use Rattle.c_meaning.specs.declared.flow.Flow.{Flow}
@@ -42,8 +46,10 @@ use Rattle.c_meaning.specs.declared.frame.Control.TheVariants as controls
 use Rattle.c_meaning.specs.declared.machine.Machine.{Machine}
 use Rattle.c_meaning.specs.State.{Call, State}
 use Rattle.c_meaning.specs.Turns.{answers, Turns}
-use Rattle.c_meaning.specs.Meaning.{Rest, RestAll, RestAt, Behind, ALoop, Look, Body, chosen, logical, or_wild, or_trap, read_at, store_at, step_at, address_of, passed, answer}
-use Rattle.c_meaning.specs.Meaning.{call, expr, place, arguments, dropped, tested, turned, look_at, turn_at, local_set, declared, followed, stmt, stmts, means, finished}
+use Rattle.c_meaning.specs.Meaning.{Rest, RestAll, RestAt, Behind, ALoop, Look, Body, chosen, logical, or_wild, or_trap}
+use Rattle.c_meaning.specs.Meaning.{read_at, store_at, step_at, address_of, passed, answer}
+use Rattle.c_meaning.specs.Meaning.{call, expr, place, arguments, dropped, tested, turned, look_at, turn_at, local_set}
+use Rattle.c_meaning.specs.Meaning.{declared, followed, stmt, stmts, means, finished}
 
 -- the parts of a machine as the meaning has them
 abbrev pub activation : Activation → Call
@@ -120,16 +126,19 @@ module _ (p : AProgram) where
   resume (waiting.AndRight e) κ x = λ st. chosen x (expr p (means p) (term e.now.value) (λ y. κ (Valued (logical y))) st) (κ (Valued 0) st)
   resume (waiting.OrRight e) κ x = λ st. chosen x (κ (Valued 1) st) (expr p (means p) (term e.now.value) (λ y. κ (Valued (logical y))) st)
   resume waiting.Truth κ y = κ (Valued (logical y))
-  resume (waiting.Choose a b) κ x = λ st. chosen x (expr p (means p) (term a.now.value) (with_value κ) st) (expr p (means p) (term b.now.value) (with_value κ) st)
+  resume (waiting.Choose a b) κ x = λ st. chosen x (expr p (means p) (term a.now.value) (with_value κ) st)
+      (expr p (means p) (term b.now.value) (with_value κ) st)
   resume (waiting.Comma e) κ x = expr p (means p) (term e.now.value) (with_value κ)
   resume (waiting.Found t u) κ a = used u t (Memory a) (with_value κ)
   resume (waiting.Assign t s) κ v = store_at t s v (with_value κ)
   resume (waiting.Change t s op x) κ y = changed t s op x y (with_value κ)
-  resume (waiting.Argument f done ts es) κ v = passed ts.now v (λ x us. arguments p (means p) (terms es.now) us (λ xs. call p (means p) f (done.items ++ x ∷ xs) (with_value κ)))
+  resume (waiting.Argument f done ts es) κ v = passed ts.now v (λ x us.
+      arguments p (means p) (terms es.now) us (λ xs. call p (means p) f (done.items ++ x ∷ xs) (with_value κ)))
   resume waiting.Forget κ v = κ (Leaves Onward)
   resume (waiting.Begin n ds) κ v = local_set p (means p) n v (declared p (means p) (map declaration ds.now) (with_flow κ))
   resume (waiting.If a) κ v = λ st. chosen v (stmt p (means p) (act a.now.value) (with_flow κ) st) (κ (Leaves Onward) st)
-  resume (waiting.IfElse a b) κ v = λ st. chosen v (stmt p (means p) (act a.now.value) (with_flow κ) st) (stmt p (means p) (act b.now.value) (with_flow κ) st)
+  resume (waiting.IfElse a b) κ v = λ st. chosen v (stmt p (means p) (act a.now.value) (with_flow κ) st)
+      (stmt p (means p) (act b.now.value) (with_flow κ) st)
   resume waiting.Return κ v = κ (Leaves (Returned v))
   resume (waiting.Test l) κ v = λ st. chosen v (turn_at p (means p) (loop_of l) (with_flow κ) st) (κ (Leaves Onward) st)
   resume (waiting.Look l) κ v = look_at p (means p) (loop_of l) (with_flow κ)
@@ -137,7 +146,8 @@ module _ (p : AProgram) where
   -- a statement is left before work that waits
   abbrev pub leave : FlowFrame → Then → Behind
   leave (leaving.Statements ss) κ w = followed p (means p) (with_flow κ) (stmts p (means p) (acts ss.now) (with_flow κ)) w
-  leave (leaving.Turn l) κ w = turned p (means p) (with_flow κ) (dropped p (means p) (maybe_bor l.step) (means p (Look (loop_of l)) (with_flow κ))) w
+  leave (leaving.Turn l) κ w = turned p (means p) (with_flow κ) (dropped p (means p) (maybe_bor l.step)
+      (means p (Look (loop_of l)) (with_flow κ))) w
   leave (leaving.Call c active) κ w = λ st. κ (Valued (answer w)) (record st { call = activation c; active = active })
 
   -- what is not for a frame goes past it
@@ -327,11 +337,13 @@ Goes old c event new = Makes old (going (program old.program.now) c) (control_wo
 
 -- and one more frame waits for it
 abbrev pub Waiting : Machine → Frame → Control → Event → Machine → Type 0
-Waiting old f c event new = Makes old (λ κ. going (program old.program.now) c (before (program old.program.now) f κ)) (control_work c + frame_work f + 1) event new
+Waiting old f c event new = Makes old (λ κ. going (program old.program.now) c (before (program old.program.now) f κ))
+    (control_work c + frame_work f + 1) event new
 
 -- and something is counted
 abbrev pub Counts : Machine → Frame → Control → Event → Machine → Type 0
-Counts old f c event new = Makes old (λ κ st. counted (going (program old.program.now) c (before (program old.program.now) f κ) st)) 0 event new
+Counts old f c event new = Makes old (λ κ st. counted (going (program old.program.now) c (before (program old.program.now) f κ)
+    st)) 0 event new
 
 -- a frame that is off the list is given a value, or is told how a statement was left
 abbrev pub Resumes : Machine → ValueFrame → ℕ → Event → Machine → Type 0

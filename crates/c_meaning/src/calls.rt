@@ -28,7 +28,10 @@ impl<'a> Machine<'a> {
         to: &'a [CType],
         rest: &'a [Expression],
     ) -> Result<Event, NoMemory>
-        ensures { IfOk result (λ event. Makes self.old (λ κ. arguments (plain self.old.program.now) (means (plain self.old.program.now)) (terms rest.now) to.now (λ vs. call (plain self.old.program.now) (means (plain self.old.program.now)) callee (done.items ++ vs) (with_value κ))) (arguments_work (terms rest.now)) event self.new) }
+        ensures { IfOk result (λ event. Makes self.old (λ κ. arguments (plain self.old.program.now)
+            (means (plain self.old.program.now)) (terms rest.now) to.now
+            (λ vs. call (plain self.old.program.now) (means (plain self.old.program.now)) callee (done.items ++ vs)
+            (with_value κ))) (arguments_work (terms rest.now)) event self.new) }
     {
         match rest.split_first() {
             None => self.call(alloc, callee, done),
@@ -49,7 +52,10 @@ impl<'a> Machine<'a> {
         rest: &'a [Expression],
         value: u32,
     ) -> Result<Event, NoMemory>
-        ensures { IfOk result (λ event. Makes self.old (λ κ. passed to.now value (λ x ts. arguments (plain self.old.program.now) (means (plain self.old.program.now)) (terms rest.now) ts (λ vs. call (plain self.old.program.now) (means (plain self.old.program.now)) callee (done.items ++ x ∷ vs) (with_value κ)))) (arguments_work (terms rest.now) + 1) event self.new) }
+        ensures { IfOk result (λ event. Makes self.old (λ κ. passed to.now value
+            (λ x ts. arguments (plain self.old.program.now) (means (plain self.old.program.now)) (terms rest.now) ts
+            (λ vs. call (plain self.old.program.now) (means (plain self.old.program.now)) callee (done.items ++ x ∷ vs)
+            (with_value κ)))) (arguments_work (terms rest.now) + 1) event self.new) }
     {
         match to.split_first() {
             None => Ok(self.stop(Finish::Wild)),
@@ -62,7 +68,8 @@ impl<'a> Machine<'a> {
     }
 
     fn call(&mut self, alloc: Global, callee: Callee, values: Vec<u32>) -> Result<Event, NoMemory>
-        ensures { IfOk result (λ event. Makes self.old (λ κ. call (plain self.old.program.now) (means (plain self.old.program.now)) callee values.items (with_value κ)) 2 event self.new) }
+        ensures { IfOk result (λ event. Makes self.old (λ κ. call (plain self.old.program.now)
+            (means (plain self.old.program.now)) callee values.items (with_value κ)) 2 event self.new) }
     {
         match callee {
             Callee::Defined(number) => {
@@ -83,7 +90,8 @@ impl<'a> Machine<'a> {
         function: &'a Routine,
         values: Vec<u32>,
     ) -> Result<Event, NoMemory>
-        ensures { IfOk result (λ event. Makes self.old (λ κ. called (Some (routine function.now)) (means (plain self.old.program.now)) values.items (with_value κ)) 2 event self.new) }
+        ensures { IfOk result (λ event. Makes self.old (λ κ. called (Some (routine function.now))
+            (means (plain self.old.program.now)) values.items (with_value κ)) 2 event self.new) }
     {
         let active = self.store.active;
         if active < ACTIVE_CALL_LIMIT {

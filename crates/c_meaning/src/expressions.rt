@@ -66,7 +66,10 @@ impl<'a> Machine<'a> {
         left: &'a Box<Expression>,
         right: &'a Box<Expression>,
     ) -> Result<Event, NoMemory>
-        ensures { IfOk result (λ event. Makes self.old (λ κ. expr (plain self.old.program.now) (means (plain self.old.program.now)) (term left.now.value) (with_value (before (plain self.old.program.now) (frames.ForValue (waiting.Right operator right.entry)) κ))) (term_work (term left.now.value) + term_work (term right.now.value) + 2) event self.new) }
+        ensures { IfOk result (λ event. Makes self.old (λ κ. expr (plain self.old.program.now)
+            (means (plain self.old.program.now)) (term left.now.value) (with_value
+            (before (plain self.old.program.now) (frames.ForValue (waiting.Right operator right.entry)) κ)))
+            (term_work (term left.now.value) + term_work (term right.now.value) + 2) event self.new) }
     {
         self.wait(ValueFrame::Right(operator, right), Control::Evaluate(left))
     }

@@ -18,7 +18,10 @@ use gg_base::NoMemory;
 impl<'a> Machine<'a> {
     /// Finds a place, with which something is done then.
     pub(crate) fn find(&mut self, at: &'a Place, then: Use<'a>) -> Result<Event, NoMemory>
-        ensures { IfOk result (λ event. Makes self.old (λ κ. place (plain self.old.program.now) (means (plain self.old.program.now)) (place_of at.now) (λ t s. used (plain self.old.program.now) then.entry t s (with_value κ))) (place_work (place_of at.now) + use_work then.entry) event self.new) }
+        ensures { IfOk result (λ event. Makes self.old (λ κ. place (plain self.old.program.now)
+            (means (plain self.old.program.now)) (place_of at.now) (λ t s.
+            used (plain self.old.program.now) then.entry t s (with_value κ)))
+            (place_work (place_of at.now) + use_work then.entry) event self.new) }
     {
         match at {
             Place::Variable(of, variable) => {
@@ -39,7 +42,8 @@ impl<'a> Machine<'a> {
 
     /// Does something with a place that is found.
     pub(crate) fn at(&mut self, of: CType, spot: Spot, then: Use<'a>) -> Result<Event, NoMemory>
-        ensures { IfOk result (λ event. Makes self.old (λ κ. used (plain self.old.program.now) then.entry of spot (with_value κ)) (use_work then.entry) event self.new) }
+        ensures { IfOk result (λ event. Makes self.old (λ κ. used (plain self.old.program.now) then.entry of spot
+            (with_value κ)) (use_work then.entry) event self.new) }
     {
         match then {
             Use::Read => {
@@ -63,7 +67,9 @@ impl<'a> Machine<'a> {
         operator: Operator,
         right: &'a Box<Expression>,
     ) -> Result<Event, NoMemory>
-        ensures { IfOk result (λ event. Makes self.old (λ κ. read_at of spot (λ x. expr (plain self.old.program.now) (means (plain self.old.program.now)) (term right.now.value) (λ y. changed of spot operator x y (with_value κ)))) (term_work (term right.now.value) + 2) event self.new) }
+        ensures { IfOk result (λ event. Makes self.old (λ κ. read_at of spot
+            (λ x. expr (plain self.old.program.now) (means (plain self.old.program.now)) (term right.now.value)
+            (λ y. changed of spot operator x y (with_value κ)))) (term_work (term right.now.value) + 2) event self.new) }
     {
         match self.store.held(of, spot) {
             None => Ok(self.stop(Finish::Wild)),

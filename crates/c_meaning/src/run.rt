@@ -49,7 +49,12 @@ impl<'a> SourceRun<'a> {
         input: &'a [u8],
         n: u64,
     ) -> Result<SourceRun<'a>, NoMemory>
-        ensures begins { IfOk result (λ run. run.remaining ≡ record { outcome = source (plain program.now) input.now n; taken = 0; failed = false }) }
+        ensures begins { IfOk result (λ run. run.remaining ≡ record {
+          outcome = source (plain program.now) input.now n;
+          taken =
+              0;
+          failed = false;
+        }) }
         ensures answers { IfOk result (λ run. run.answers ≡ answers (source (plain program.now) input.now) n) }
         ensures one_end { OneEnd (source (plain program.now) input.now) }
         ensures unbroken { (count : ℕ) (kind : ABreak) → (source (plain program.now) input.now count).end ≡ Broken kind → ⊥ }

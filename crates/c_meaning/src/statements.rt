@@ -54,7 +54,9 @@ impl<'a> Machine<'a> {
 
     // A `return`, with its value if it has one.
     fn give_back(&mut self, value: &'a Option<Expression>) -> Result<Event, NoMemory>
-        ensures { IfOk result (λ event. Makes self.old (λ κ. returned (plain self.old.program.now) (means (plain self.old.program.now)) (maybe_term value.now) (with_flow κ)) (maybe_work (maybe_term value.now) + 2) event self.new) }
+        ensures { IfOk result (λ event. Makes self.old (λ κ. returned (plain self.old.program.now)
+            (means (plain self.old.program.now)) (maybe_term value.now) (with_flow κ)) (maybe_work (maybe_term value.now) + 2)
+            event self.new) }
     {
         match value {
             None => Ok(self.go(Control::Left(Flow::Returned(0)))),
@@ -92,7 +94,9 @@ impl<'a> Machine<'a> {
 
     /// An automatic local becomes a value, and declarations follow.
     pub(crate) fn begin(&mut self, local: u32, value: u32, rest: &'a [Declaration]) -> Event
-        ensures { Makes self.old (λ κ. local_set (plain self.old.program.now) (means (plain self.old.program.now)) local value (going (plain self.old.program.now) (controls.Declare rest.entry) κ)) (control_work (controls.Declare rest.entry) + 1) result self.new }
+        ensures { Makes self.old (λ κ. local_set (plain self.old.program.now) (means (plain self.old.program.now)) local value
+            (going (plain self.old.program.now) (controls.Declare rest.entry) κ))
+            (control_work (controls.Declare rest.entry) + 1) result self.new }
     {
         if self.store.put_local(local, value) {
             self.go(Control::Declare(rest))
@@ -103,14 +107,16 @@ impl<'a> Machine<'a> {
 
     /// What is done behind a condition.
     pub(crate) fn choose(&mut self, value: u32, yes: Control<'a>, no: Control<'a>) -> Event
-        ensures { Makes self.old (λ κ st. chosen value (going (plain self.old.program.now) yes.entry κ st) (going (plain self.old.program.now) no.entry κ st)) (control_work yes.entry + control_work no.entry + 1) result self.new }
+        ensures { Makes self.old (λ κ st. chosen value (going (plain self.old.program.now) yes.entry κ st)
+            (going (plain self.old.program.now) no.entry κ st)) (control_work yes.entry + control_work no.entry + 1) result self.new }
     {
         self.go(if value == 0 { no } else { yes })
     }
 
     /// A look at a loop's condition, if it has one.
     pub(crate) fn look(&mut self, at: Loop<'a>) -> Result<Event, NoMemory>
-        ensures { IfOk result (λ event. Makes self.old (λ κ. look_at (plain self.old.program.now) (means (plain self.old.program.now)) (loop_of at.entry) (with_flow κ)) (loop_work (loop_of at.entry)) event self.new) }
+        ensures { IfOk result (λ event. Makes self.old (λ κ. look_at (plain self.old.program.now)
+            (means (plain self.old.program.now)) (loop_of at.entry) (with_flow κ)) (loop_work (loop_of at.entry)) event self.new) }
     {
         match at.condition {
             None => self.turn(at),
@@ -120,7 +126,8 @@ impl<'a> Machine<'a> {
 
     /// A turn of a loop is counted, and begins.
     pub(crate) fn turn(&mut self, of: Loop<'a>) -> Result<Event, NoMemory>
-        ensures { IfOk result (λ event. Makes self.old (λ κ. turn_at (plain self.old.program.now) (means (plain self.old.program.now)) (loop_of of.entry) (with_flow κ)) 0 event self.new) }
+        ensures { IfOk result (λ event. Makes self.old (λ κ. turn_at (plain self.old.program.now)
+            (means (plain self.old.program.now)) (loop_of of.entry) (with_flow κ)) 0 event self.new) }
     {
         self.count(FlowFrame::Turn(of), Control::Perform(of.body))
     }
@@ -151,7 +158,9 @@ impl<'a> Machine<'a> {
 
     // What is done behind a turn, and then the next look.
     fn again(&mut self, of: Loop<'a>) -> Result<Event, NoMemory>
-        ensures { IfOk result (λ event. Makes self.old (λ κ. dropped (plain self.old.program.now) (means (plain self.old.program.now)) (loop_of of.entry).step (means (plain self.old.program.now) (Look (loop_of of.entry)) (with_flow κ))) (again_to_do (loop_of of.entry)) event self.new) }
+        ensures { IfOk result (λ event. Makes self.old (λ κ. dropped (plain self.old.program.now)
+            (means (plain self.old.program.now)) (loop_of of.entry).step
+            (means (plain self.old.program.now) (Look (loop_of of.entry)) (with_flow κ))) (again_to_do (loop_of of.entry)) event self.new) }
     {
         match of.step {
             None => self.look(of),

@@ -91,7 +91,13 @@ impl<'a> Store<'a> {
         area: Vec<u8>,
         input: &'a [u8],
     ) -> Store<'a>
-        ensures { state result ≡ record { call = record { locals = locals.items; parameters = [] }; area = area.items; input = input.now; active = 1 } }
+        ensures { state result ≡ record {
+          call = record { locals = locals.items; parameters = [] };
+          area = area.items;
+          input =
+              input.now;
+          active = 1;
+        } }
     {
         let call = Activation {
             locals,

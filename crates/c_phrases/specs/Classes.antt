@@ -8,7 +8,8 @@ use Rattle.c_tokens.specs.declared.words.Key.TheVariants as keys
 use Rattle.c_tokens.specs.declared.marks.Mark.{Mark}
 use Rattle.c_tokens.specs.declared.marks.Mark.TheVariants as marks
 
--- A class of tokens that every phrase treats alike. `Infix` stands for the operators that are binary alone, `Lone` for ~ and !, `Sign` for + - and &, `Unused` for the keywords of no phrase.
+-- A class of tokens that every phrase treats alike. `Infix` stands for the operators that are binary alone, `Lone` for
+-- ~ and !, `Sign` for + - and &, `Unused` for the keywords of no phrase.
 pub data Class : Type 0 where
   Name : Class
   Number : Class

@@ -5,7 +5,11 @@ use Rattle.c_phrases.specs.declared.operator.Spec.TheVariants as specs
 use Rattle.c_phrases.specs.Phrases.{AnExp, SomeExps, no_exps, exps, IsAt, AllAt}
 use Rattle.c_phrases.specs.Classes.{Placed}
 use Rattle.c_phrases.specs.Levels.{LowExp, LowExps, limit}
-use Rattle.c_phrases.specs.Units.{ALength, AnInit, value, elements, AnInitialised, ADeclarator, ALocal, AStatement, block, empty, expression, break_off, continue_on, give_back, if_then, if_else, while_loop, do_loop, for_loop, SomeItems, no_items, local_item, statement_item, AParam, SomeParams, no_params, void_word, params, ADeclared, function, globals, AnExternal, AUnit, unit_tokens}
+use Rattle.c_phrases.specs.Units.{ALength, AnInit, value, elements, AnInitialised, ADeclarator, ALocal, AStatement}
+use Rattle.c_phrases.specs.Units.{block, empty, expression, break_off, continue_on, give_back, if_then, if_else}
+use Rattle.c_phrases.specs.Units.{while_loop, do_loop, for_loop, SomeItems, no_items, local_item, statement_item}
+use Rattle.c_phrases.specs.Units.{AParam, SomeParams, no_params, void_word, params, ADeclared, function, globals}
+use Rattle.c_phrases.specs.Units.{AnExternal, AUnit, unit_tokens}
 
 abbrev pub PartFits : (phrase : ℕ) → Option AnExp → Type 0
 PartFits k None = Unit {0}
@@ -140,10 +144,12 @@ module _ (L : ℕ → Bool) where
     LowStatement (continue_on at) n = Unit {0}
     LowStatement (give_back at e) n = LowPart e n
     LowStatement (if_then at o e s) n = (L (n + 1) ≡ true) × (LowCondition e (n + 1) × LowStatement s (n + 1))
-    LowStatement (if_else at o e s other t) n = (L (n + 1) ≡ true) × (LowCondition e (n + 1) × (LowStatement s (n + 1) × LowStatement t (n + 1)))
+    LowStatement (if_else at o e s other t) n = (L (n + 1) ≡ true) × (LowCondition e (n + 1)
+        × (LowStatement s (n + 1) × LowStatement t (n + 1)))
     LowStatement (while_loop at o e s) n = (L (n + 1) ≡ true) × (LowCondition e (n + 1) × LowStatement s (n + 1))
     LowStatement (do_loop at s again o e) n = (L (n + 1) ≡ true) × (LowStatement s (n + 1) × LowCondition e (n + 1))
-    LowStatement (for_loop at o a b c s) n = (L (n + 1) ≡ true) × ((L (n + 1 + 1) ≡ true) × (LowPart a (n + 1 + 1) × (LowPart b (n + 1 + 1) × (LowPart c (n + 1 + 1) × LowStatement s (n + 1)))))
+    LowStatement (for_loop at o a b c s) n = (L (n + 1) ≡ true) × ((L (n + 1 + 1) ≡ true)
+        × (LowPart a (n + 1 + 1) × (LowPart b (n + 1 + 1) × (LowPart c (n + 1 + 1) × LowStatement s (n + 1)))))
 
     pub LowItems : SomeItems → ℕ → Type 0
     LowItems no_items n = Unit {0}

@@ -1,6 +1,8 @@
 -- Which levels an expression opens: each must be allowed.
 use Rattle.std.specs.Prelude.{◌≡◌, ℕ, ◌+◌, Bool, true, nat_lt}
-use Rattle.c_phrases.specs.Phrases.{AnExp, name, number, str, paren, call, index, step_after, step_before, prefix, sizeof_exp, sizeof_type, cast, binary, choice, assign, comma, SomeExps, no_exps, exps, after_exp}
+use Rattle.c_phrases.specs.Phrases.{AnExp, name, number, str, paren, call, index, step_after, step_before, prefix}
+use Rattle.c_phrases.specs.Phrases.{sizeof_exp, sizeof_type, cast, binary, choice, assign, comma, SomeExps, no_exps}
+use Rattle.c_phrases.specs.Phrases.{exps, after_exp}
 
 module _ (L : ℕ → Bool) where
   abbrev mutual
@@ -18,7 +20,8 @@ module _ (L : ℕ → Bool) where
     LowExp (sizeof_type at o t) n = (L (n + 1) ≡ true) × (L (n + 1 + 1) ≡ true)
     LowExp (cast o t e) n = (L (n + 1) ≡ true) × LowExp e (n + 1)
     LowExp (binary l op at r) n = LowExp l n × ((L (after_exp l n + 1) ≡ true) × LowExp r (after_exp l n + 1))
-    LowExp (choice c at e d) n = LowExp c n × ((L (after_exp c n + 1) ≡ true) × (LowExp e (after_exp c n + 1) × LowExp d (after_exp e (after_exp c n + 1))))
+    LowExp (choice c at e d) n = LowExp c n × ((L (after_exp c n + 1) ≡ true)
+        × (LowExp e (after_exp c n + 1) × LowExp d (after_exp e (after_exp c n + 1))))
     LowExp (assign p op at v) n = LowExp p n × ((L (after_exp p n + 1) ≡ true) × LowExp v (after_exp p n + 1))
     LowExp (comma l r) n = LowExp l n × ((L (after_exp l n + 1) ≡ true) × LowExp r (after_exp l n + 1))
 

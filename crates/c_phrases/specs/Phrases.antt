@@ -107,7 +107,8 @@ level_of binaries.Multiply = 12
 level_of binaries.Divide = 12
 level_of binaries.Remainder = 12
 
--- Which phrase of the grammar an expression is: expr 0, assign 1, cond 2, the ten binary levels 3 to 12, cast 13, unary 14, postfix 15, primary 16. A phrase of a higher number stands where a lower one may.
+-- Which phrase of the grammar an expression is: expr 0, assign 1, cond 2, the ten binary levels 3 to 12, cast 13, unary
+-- 14, postfix 15, primary 16. A phrase of a higher number stands where a lower one may.
 abbrev mutual
   pub IsAt : ℕ → AnExp → Type 0
   IsAt k (name n at) = Unit {0}

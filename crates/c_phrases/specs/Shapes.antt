@@ -2,7 +2,9 @@
 use Rattle.std.specs.Prelude.{List, [], ◌∷◌}
 use Rattle.c_phrases.specs.declared.tree.Expr.{Expr, Row_of-Expr, end_of-Expr, more_of-Expr}
 use Rattle.c_phrases.specs.declared.tree.Expr.TheVariants as exprs
-use Rattle.c_phrases.specs.Phrases.{AnExp, name, number, str, paren, call, index, step_after, step_before, prefix, sizeof_exp, sizeof_type, cast, binary, choice, assign, comma, SomeExps, no_exps, exps}
+use Rattle.c_phrases.specs.Phrases.{AnExp, name, number, str, paren, call, index, step_after, step_before, prefix}
+use Rattle.c_phrases.specs.Phrases.{sizeof_exp, sizeof_type, cast, binary, choice, assign, comma, SomeExps, no_exps}
+use Rattle.c_phrases.specs.Phrases.{exps}
 
 abbrev mutual
   pub exp : Expr → AnExp

@@ -21,7 +21,11 @@ use Rattle.c_phrases.specs.declared.tree.External.{External}
 use Rattle.c_phrases.specs.declared.tree.Ast.{Ast}
 use Rattle.c_phrases.specs.Phrases.{AnExp}
 use Rattle.c_phrases.specs.Shapes.{exp, exp_list}
-use Rattle.c_phrases.specs.Units.{ALength, AnInit, value, elements, AnInitialised, ADeclarator, ALocal, AStatement, block, empty, expression, break_off, continue_on, give_back, if_then, if_else, while_loop, do_loop, for_loop, SomeItems, no_items, local_item, statement_item, AParam, SomeParams, no_params, void_word, params, ADeclared, function, globals, AnExternal, AUnit}
+use Rattle.c_phrases.specs.Units.{ALength, AnInit, value, elements, AnInitialised, ADeclarator, ALocal, AStatement}
+use Rattle.c_phrases.specs.Units.{block, empty, expression, break_off, continue_on, give_back, if_then, if_else}
+use Rattle.c_phrases.specs.Units.{while_loop, do_loop, for_loop, SomeItems, no_items, local_item, statement_item}
+use Rattle.c_phrases.specs.Units.{AParam, SomeParams, no_params, void_word, params, ADeclared, function, globals}
+use Rattle.c_phrases.specs.Units.{AnExternal, AUnit}
 
 abbrev pub part : Option Expr → Option AnExp
 part None = None
@@ -92,7 +96,15 @@ body_of None = None
 body_of (Some is) = Some (items_of is.items)
 
 abbrev pub declared_of : Declared → ADeclared
-declared_of (declareds.Function f) = function (record { stars = f.stars; name = f.name; at = f.at; opened = f.«open»; params = params_of f.params; body = body_of f.body })
+declared_of (declareds.Function f) = function (record {
+  stars = f.stars;
+  name = f.name;
+  at = f.at;
+  opened = f.«open»;
+  params =
+      params_of f.params;
+  body = body_of f.body;
+})
 declared_of (declareds.Globals ds) = globals (declarators_of ds.items)
 
 abbrev pub external_of : External → AnExternal

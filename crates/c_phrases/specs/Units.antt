@@ -145,10 +145,13 @@ abbrev mutual
   onto_statement (continue_on at) w = word keys.Continue at ∷ sign marks.Semicolon 0 ∷ w
   onto_statement (give_back at e) w = word keys.Return at ∷ onto_part e (sign marks.Semicolon 0 ∷ w)
   onto_statement (if_then at o e s) w = word keys.If at ∷ onto_condition o e (onto_statement s w)
-  onto_statement (if_else at o e s other t) w = word keys.If at ∷ onto_condition o e (onto_statement s (word keys.Else other ∷ onto_statement t w))
+  onto_statement (if_else at o e s other t) w = word keys.If at ∷ onto_condition o e
+      (onto_statement s (word keys.Else other ∷ onto_statement t w))
   onto_statement (while_loop at o e s) w = word keys.While at ∷ onto_condition o e (onto_statement s w)
-  onto_statement (do_loop at s again o e) w = word keys.Do at ∷ onto_statement s (word keys.While again ∷ onto_condition o e (sign marks.Semicolon 0 ∷ w))
-  onto_statement (for_loop at o a b c s) w = word keys.For at ∷ sign marks.OpenParenthesis o ∷ onto_part a (sign marks.Semicolon 0 ∷ onto_part b (sign marks.Semicolon 0 ∷ onto_part c (sign marks.CloseParenthesis 0 ∷ onto_statement s w)))
+  onto_statement (do_loop at s again o e) w = word keys.Do at ∷ onto_statement s
+      (word keys.While again ∷ onto_condition o e (sign marks.Semicolon 0 ∷ w))
+  onto_statement (for_loop at o a b c s) w = word keys.For at ∷ sign marks.OpenParenthesis o ∷ onto_part a
+      (sign marks.Semicolon 0 ∷ onto_part b (sign marks.Semicolon 0 ∷ onto_part c (sign marks.CloseParenthesis 0 ∷ onto_statement s w)))
 
   pub onto_items : SomeItems → List Placed → List Placed
   onto_items no_items w = w
@@ -180,7 +183,8 @@ onto_body None w = sign marks.Semicolon 0 ∷ w
 onto_body (Some is) w = sign marks.OpenBrace 0 ∷ onto_items is (sign marks.CloseBrace 0 ∷ w)
 
 abbrev pub onto_declared : ADeclared → List Placed → List Placed
-onto_declared (function f) w = onto_stars f.stars (onto_name f.name f.at (sign marks.OpenParenthesis f.opened ∷ onto_params f.params (sign marks.CloseParenthesis 0 ∷ onto_body f.body w)))
+onto_declared (function f) w = onto_stars f.stars (onto_name f.name f.at
+    (sign marks.OpenParenthesis f.opened ∷ onto_params f.params (sign marks.CloseParenthesis 0 ∷ onto_body f.body w)))
 onto_declared (globals ds) w = onto_declarators ds (sign marks.Semicolon 0 ∷ w)
 
 abbrev pub onto_static : Option ℕ → List Placed → List Placed

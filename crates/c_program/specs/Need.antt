@@ -1,10 +1,17 @@
 -- How many longwords of its frame a function needs.
 use Rattle.std.specs.Prelude.{ℕ, ◌+◌, ◌*◌, max, List, [], ◌∷◌, length, Option, Some, None}
 use Rattle.c_types.specs.declared.types.CType.{CType}
-use Rattle.c_types.specs.Typed.{APlace, VariableAt, PointedBy, ElementBy, AnExpression, SomeExpressions, NoExpressions, MoreExpressions, Constant, LiteralAt, ArrayAt, ReadOf, SizeofTerm, SizeOf, AddressOf, CallOf, StepOf, UnaryOf, CastTo, ConvertTo, ArithmeticOf, CompareOf, BothOf, EitherOf, AdvanceOf, AdvanceByOf, RetreatOf, DistanceOf, ChoiceOf, AssignTo, ArithmeticAssignTo, AdvanceAssignTo, RetreatAssignTo, CommaOf}
-use Rattle.c_program.specs.Statements.{ADeclaration, KeepOf, ClearOf, BeginOf, AnAction, SomeActions, NoActions, MoreActions, DeclareOf, BlockOf, EvaluateOf, BreakOf, ContinueOf, ReturnOf, IfOf, IfElseOf, WhileOf, DoOf, ForOf}
+use Rattle.c_types.specs.Typed.{APlace, VariableAt, PointedBy, ElementBy, AnExpression, SomeExpressions, NoExpressions}
+use Rattle.c_types.specs.Typed.{MoreExpressions, Constant, LiteralAt, ArrayAt, ReadOf, SizeofTerm, SizeOf, AddressOf}
+use Rattle.c_types.specs.Typed.{CallOf, StepOf, UnaryOf, CastTo, ConvertTo, ArithmeticOf, CompareOf, BothOf, EitherOf}
+use Rattle.c_types.specs.Typed.{AdvanceOf, AdvanceByOf, RetreatOf, DistanceOf, ChoiceOf, AssignTo, ArithmeticAssignTo}
+use Rattle.c_types.specs.Typed.{AdvanceAssignTo, RetreatAssignTo, CommaOf}
+use Rattle.c_program.specs.Statements.{ADeclaration, KeepOf, ClearOf, BeginOf, AnAction, SomeActions, NoActions}
+use Rattle.c_program.specs.Statements.{MoreActions, DeclareOf, BlockOf, EvaluateOf, BreakOf, ContinueOf, ReturnOf, IfOf}
+use Rattle.c_program.specs.Statements.{IfElseOf, WhileOf, DoOf, ForOf}
 
--- Each name, number, literal, operator, index and call is one node, and a called function's name is a name. An index's sum and a conversion are none.
+-- Each name, number, literal, operator, index and call is one node, and a called function's name is a name. An index's
+-- sum and a conversion are none.
 abbrev mutual
   pub place_nodes : APlace → ℕ
   place_nodes (VariableAt t v) = 1

@@ -22,7 +22,14 @@ pub record AProgram : Type 0 where
   pub main : ℕ
 
 abbrev pub routine : Routine → ARoutine
-routine r = record { name = r.name; result = r.result; parameters = r.parameters; locals = r.locals; body = acts r.body.items; need = r.need }
+routine r = record {
+  name = r.name;
+  result = r.result;
+  parameters = r.parameters;
+  locals = r.locals;
+  body = acts r.body.items;
+  need = r.need;
+}
 
 abbrev pub program : Program → AProgram
 program p = record { objects = p.objects; routines = map routine p.routines.items; main = p.main }

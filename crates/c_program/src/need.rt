@@ -2,7 +2,8 @@
 ghost use Rattle.std.specs.Prelude.{◌≡◌, ◌<◌, ◌≤◌, ◌^◌, ◌↔◌, min, map, max, ◌+◌, IfSome, IsSome};
 ghost use Rattle.c_types.specs.Typed.{term, place_of, terms};
 ghost use Rattle.c_program.specs.Statements.{act, acts, declaration, maybe_term};
-ghost use Rattle.c_program.specs.Need.{nodes, place_nodes, all_nodes, maybe_nodes, returned_nodes, declared_nodes, largest, largest_of, need_of};
+ghost use Rattle.c_program.specs.Need.{nodes, place_nodes, all_nodes, maybe_nodes, returned_nodes, declared_nodes, largest};
+ghost use Rattle.c_program.specs.Need.{largest_of, need_of};
 
 use crate::statement::{Action, Declaration};
 use c_types::{CType, Expression, Place};

@@ -1,5 +1,6 @@
 -- Labels of objects, and the addresses that their links hold.
-use Rattle.std.specs.Prelude.{◌≡◌, ◌≢◌, ℕ, ◌==◌, ◌&&◌, ◌||◌, nat_le, Bool, true, false, List, [], ◌∷◌, length, take, drop, codes, Some, slice_get}
+use Rattle.std.specs.Prelude.{◌≡◌, ◌≢◌, ℕ, ◌==◌, ◌&&◌, ◌||◌, nat_le, Bool, true, false, List, [], ◌∷◌, length, take}
+use Rattle.std.specs.Prelude.{drop, codes, Some, slice_get}
 use Rattle.std.specs.Char.{is_ascii_alphanumeric}
 use Rattle.std.specs.Int.{w32, to_le_bytes}
 use Rattle.std.specs.List.{All, list_all}
@@ -30,11 +31,13 @@ HoldsAddress os bytes l = (o : Object) → slice_get os l.object ≡ Some o → 
 abbrev pub HoldsAddresses : List Object → Object → Type 0
 HoldsAddresses os o = All (HoldsAddress os o.bytes) o.links
 
--- The labels of these objects differ, can be spelled, and are no label of a service or of a function with one of these names; their links hold addresses.
+-- The labels of these objects differ, can be spelled, and are no label of a service or of a function with one of these
+-- names; their links hold addresses.
 pub record AreLabelled (os : List Object) (names : List (List ℕ)) : Type 0 where
   pub differ : (i j : ℕ) (o p : Object) → slice_get os i ≡ Some o → slice_get os j ≡ Some p → o.label ≡ p.label → i ≡ j
   pub spelled : (i : ℕ) (o : Object) → slice_get os i ≡ Some o → is_label o.label ≡ true
-  pub functions : (i f : ℕ) (o : Object) (name : List ℕ) → slice_get os i ≡ Some o → slice_get names f ≡ Some name → o.label ≢ entry_label name
+  pub functions : (i f : ℕ) (o : Object) (name : List ℕ) → slice_get os i ≡ Some o → slice_get names f ≡ Some name
+      → o.label ≢ entry_label name
   pub putchar : (i : ℕ) (o : Object) → slice_get os i ≡ Some o → o.label ≢ entry_label (codes "putchar")
   pub getchar : (i : ℕ) (o : Object) → slice_get os i ≡ Some o → o.label ≢ entry_label (codes "getchar")
   pub addresses : All (HoldsAddresses os) os

@@ -29,7 +29,8 @@ pub record IsSound (p : AProgram) : Type 0 where
   -- a function has at most 32 parameters
   pub parameters : (f : ℕ) (g : ARoutine) → slice_get p.routines f ≡ Some g → length g.parameters ≤ 32
   -- no two functions have one name, and none that of a service
-  pub differ : (f k : ℕ) (g h : ARoutine) → slice_get p.routines f ≡ Some g → slice_get p.routines k ≡ Some h → bytes_eq g.name h.name ≡ true → f ≡ k
+  pub differ : (f k : ℕ) (g h : ARoutine) → slice_get p.routines f ≡ Some g → slice_get p.routines k ≡ Some h
+      → bytes_eq g.name h.name ≡ true → f ≡ k
   pub no_putchar : (f : ℕ) (g : ARoutine) → slice_get p.routines f ≡ Some g → bytes_eq g.name (codes "putchar") ≡ false
   pub no_getchar : (f : ℕ) (g : ARoutine) → slice_get p.routines f ≡ Some g → bytes_eq g.name (codes "getchar") ≡ false
   -- the main function is called main and has no parameters, and no other is called so

@@ -9,7 +9,8 @@ use Rattle.c_syntax_goals.specs.Refusals.{NotHereAt, TooDeepAt}
 use Rattle.c_syntax.specs.declared.fault.SyntaxFault.{SyntaxFault}
 use Rattle.c_syntax.specs.declared.fault.SyntaxFault.TheVariants.{NoMemory, NotHere, TooDeep}
 
--- The fault that is answered is that of these tokens: where the last is the end of the text, as it is of each text's tokens, a token that may not stand there, or else the first that is too deep.
+-- The fault that is answered is that of these tokens: where the last is the end of the text, as it is of each text's
+-- tokens, a token that may not stand there, or else the first that is too deep.
 abbrev pub Refused : List Spanned → SyntaxFault → Type 0
 Refused ts NoMemory = Unit {0}
 Refused ts (NotHere place) = IsEnded ts → NotHereAt ts place

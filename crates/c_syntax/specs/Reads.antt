@@ -7,11 +7,13 @@ use Rattle.c_syntax_goals.specs.declared.fault.Fault.{Fault}
 use Rattle.c_syntax_goals.specs.declared.fault.Fault.TheVariants.{NoMemory, NotHere, TooDeep}
 use Rattle.c_phrases.specs.Classes.{Placed, Class, class_of, word}
 use Rattle.c_phrases.specs.Classes as c
-use Rattle.c_syntax_goals.specs.Goals.{Stack, Want, PostTail, Commas, Tail, AfterShort, AfterUnsigned, TypeWords, Stars, type_goals, cond_goals}
+use Rattle.c_syntax_goals.specs.Goals.{Stack, Want, PostTail, Commas, Tail, AfterShort, AfterUnsigned, TypeWords, Stars}
+use Rattle.c_syntax_goals.specs.Goals.{type_goals, cond_goals}
 use Rattle.c_syntax_goals.specs.Machine.{run}
 use Rattle.c_phrases.specs.declared.operator.Spec.{Spec as SpecWords}
 use Rattle.c_phrases.specs.declared.tree.TypeName.{TypeName}
-use Rattle.c_phrases.specs.Phrases.{AnExp, SomeExps, no_exps, exps, onto_exp, onto_int, onto_spec, onto_stars, onto_type, onto_first, AllAt, IsAt, after_exp}
+use Rattle.c_phrases.specs.Phrases.{AnExp, SomeExps, no_exps, exps, onto_exp, onto_int, onto_spec, onto_stars}
+use Rattle.c_phrases.specs.Phrases.{onto_type, onto_first, AllAt, IsAt, after_exp}
 use Rattle.c_phrases.specs.Takes.{IsTypeWord}
 use Rattle.c_phrases.specs.Levels.{LowExp, LowExps, limit}
 use Rattle.c_phrases.specs.Fronts.{Quiet}
@@ -25,7 +27,8 @@ pub record IsPart (n : ℕ) (ts : List Placed) (e : AnExp) (rest : List Placed) 
   pub rises : n ≤ m
   pub top : m ≤ 200
 
--- an expression of the phrase k is read, which begins at level n and ends at level m, and what follows goes on with no phrase of the number q
+-- an expression of the phrase k is read, which begins at level n and ends at level m, and what follows goes on with no
+-- phrase of the number q
 pub record IsRead (k q n : ℕ) (ts : List Placed) (e : AnExp) (rest : List Placed) (m : ℕ) : Type 0 where
   pub text : ts ≡ onto_exp e rest
   pub at : IsAt k e

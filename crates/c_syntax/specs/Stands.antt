@@ -11,11 +11,15 @@ use Rattle.c_phrases.specs.Phrases.{AnExp, IsAt}
 use Rattle.c_phrases.specs.Levels.{limit}
 use Rattle.c_phrases.specs.Fronts.{StandsBefore}
 use Rattle.c_syntax.specs.Reads.{Fails}
-use Rattle.c_phrases.specs.Units.{ALength, AnInit, AnInitialised, ADeclarator, ALocal, AStatement, SomeItems, AParam, SomeParams, ADeclared, AnExternal, onto_part, onto_length}
-use Rattle.c_phrases.specs.Units.{onto_init, onto_initialised, onto_declarator, onto_declarators, onto_local, onto_condition, onto_statement, onto_items, onto_param}
+use Rattle.c_phrases.specs.Units.{ALength, AnInit, AnInitialised, ADeclarator, ALocal, AStatement, SomeItems, AParam}
+use Rattle.c_phrases.specs.Units.{SomeParams, ADeclared, AnExternal, onto_part, onto_length}
+use Rattle.c_phrases.specs.Units.{onto_init, onto_initialised, onto_declarator, onto_declarators, onto_local}
+use Rattle.c_phrases.specs.Units.{onto_condition, onto_statement, onto_items, onto_param}
 use Rattle.c_phrases.specs.Units.{onto_param_list, onto_params, onto_body, onto_declared, onto_external, onto_externals}
-use Rattle.c_phrases.specs.Fits.{PartFits, LengthFits, InitFits, InitialisedFits, DeclaratorFits, DeclaratorsFit, HasDeclarator, LocalFits, StatementFits, ItemsFit, ParamFits}
-use Rattle.c_phrases.specs.Fits.{ParamsFit, SomeParamsFit, BodyFits, DeclaredFits, ExternalsFit, LowPart, LowLength, LowInit, LowInitialised, LowDeclarator, LowDeclarators}
+use Rattle.c_phrases.specs.Fits.{PartFits, LengthFits, InitFits, InitialisedFits, DeclaratorFits, DeclaratorsFit}
+use Rattle.c_phrases.specs.Fits.{HasDeclarator, LocalFits, StatementFits, ItemsFit, ParamFits}
+use Rattle.c_phrases.specs.Fits.{ParamsFit, SomeParamsFit, BodyFits, DeclaredFits, ExternalsFit, LowPart, LowLength}
+use Rattle.c_phrases.specs.Fits.{LowInit, LowInitialised, LowDeclarator, LowDeclarators}
 use Rattle.c_phrases.specs.Fits.{LowCondition, LowStatement, LowItems, LowParams, LowSomeParams, LowBody, LowDeclared, LowExternals}
 
 -- a phrase is read: these tokens spell it in front of the rest, it fits the grammar, and its levels are allowed

@@ -1,6 +1,7 @@
 // Declarators and their initialisers.
 ghost use Rattle.std.specs.Prelude.{◌≡◌, ◌≤◌, length, IfOk, IfErr};
-ghost use Rattle.c_syntax_goals.specs.Goals.{Want, ArrayPart, Elements, Init, InitPart, MoreDeclarators, cond_goals, declarator_goals, declarator_behind as behind_goals};
+ghost use Rattle.c_syntax_goals.specs.Goals.{Want, ArrayPart, Elements, Init, InitPart, MoreDeclarators, cond_goals};
+ghost use Rattle.c_syntax_goals.specs.Goals.{declarator_goals, declarator_behind as behind_goals};
 ghost use Rattle.c_syntax.specs.Reads.{Fails, Leads, CondLeads};
 ghost use Rattle.c_phrases.specs.Classes.{seen};
 ghost use Rattle.c_phrases.specs.Phrases.{onto_name, onto_stars};
@@ -146,7 +147,8 @@ pub fn declarator_behind(
     level: u32,
 ) -> Result<(Declarator, &[Spanned]), Fault>
     requires { level ≤ 200 }
-    ensures read { IfOk result (λ x. ReadsDeclarator level (onto_stars stars (onto_name name at (seen tokens.now))) (declarator_of x.0) (seen x.1.now)) }
+    ensures read { IfOk result (λ x. ReadsDeclarator level (onto_stars stars (onto_name name at (seen tokens.now)))
+        (declarator_of x.0) (seen x.1.now)) }
     ensures fails { IfErr result (Fails (behind_goals stars name at) level (seen tokens.now)) }
     ensures leads { IfOk result (λ x. Leads (behind_goals stars name at) level (seen tokens.now) (declarator_of x.0) level (seen x.1.now)) }
 {
@@ -191,7 +193,8 @@ pub fn declarators(
 ) -> Result<(Vec<Declarator>, &[Spanned]), Fault>
     requires low { level ≤ 200 }
     requires first { DeclaratorFits (declarator_of first) × LowDeclarator limit (declarator_of first) level }
-    ensures read { IfOk result (λ x. ReadsDeclarators level (onto_declarator (declarator_of first) (seen tokens.now)) (declarators_of x.0.items) (seen x.1.now)) }
+    ensures read { IfOk result (λ x. ReadsDeclarators level (onto_declarator (declarator_of first) (seen tokens.now))
+        (declarators_of x.0.items) (seen x.1.now)) }
     ensures fails { IfErr result (Fails (Want MoreDeclarators) level (seen tokens.now)) }
 {
     let mut list = Vec::new(alloc);

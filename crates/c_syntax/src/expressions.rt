@@ -8,7 +8,8 @@ ghost use Rattle.std.specs.Prelude.{IfErr};
 ghost use Rattle.std.specs.Bool.{MatchBool};
 ghost use Rattle.c_syntax_goals.specs.declared.fault.Fault.TheVariants as faults;
 ghost use Rattle.c_phrases.specs.Takes.{IsTypeWord};
-ghost use Rattle.c_syntax_goals.specs.Goals.{Want, Expr as ExprGoal, Assign as AssignGoal, Cast as CastGoal, Unary, Primary, Parens, CallTail, SizeofTail, Arguments};
+ghost use Rattle.c_syntax_goals.specs.Goals.{Want, Expr as ExprGoal, Assign as AssignGoal, Cast as CastGoal, Unary, Primary};
+ghost use Rattle.c_syntax_goals.specs.Goals.{Parens, CallTail, SizeofTail, Arguments};
 ghost use Rattle.c_phrases.specs.Fronts.{Quiet, NoCast};
 ghost use Rattle.c_syntax.specs.Reads.{IsRead, IsMore, IsPart, Ready, BeginsCast, IsStop, NoName, ReadsArguments, ReadsSizeof};
 ghost use Rattle.c_tokens.specs.declared.token.Token.TheVariants as token;
@@ -80,7 +81,8 @@ fn take_number(tokens: &[Spanned]) -> Option<(u32, u32, &[Spanned])>
 
 // The string at the front, its offset, and what stands behind it.
 fn take_string(alloc: Global, tokens: &[Spanned]) -> Result<Option<(Bytes, u32, &[Spanned])>, Fault>
-    ensures found { IfOk result (λ o. MatchOption o (NoString (seen tokens.now)) (λ x. seen tokens.now ≡ record { kind = token.Str x.0; at = x.1 } ∷ seen x.2.now)) }
+    ensures found { IfOk result (λ o. MatchOption o (NoString (seen tokens.now))
+        (λ x. seen tokens.now ≡ record { kind = token.Str x.0; at = x.1 } ∷ seen x.2.now)) }
     ensures memory { IfErr result (λ f. f ≡ faults.NoMemory) }
 {
     let [first, rest @ ..] = tokens else {

@@ -2,7 +2,8 @@
 ghost use Rattle.std.specs.Prelude.{◌≡◌, ◌≤◌, ◌∷◌, ℕ, false, IfOk, IfErr};
 ghost use Rattle.std.specs.Bool.{MatchBool};
 ghost use Rattle.c_tokens.specs.declared.token.Token.TheVariants as token;
-ghost use Rattle.c_syntax_goals.specs.Goals.{Stack, Want, TypeWords, Condition, PartSemi, Simple, Items, Local as LocalGoal, Statement as StatementGoal, if_goals, while_goals, do_goals, for_goals, local_rest};
+ghost use Rattle.c_syntax_goals.specs.Goals.{Stack, Want, TypeWords, Condition, PartSemi, Simple, Items, Local as LocalGoal};
+ghost use Rattle.c_syntax_goals.specs.Goals.{Statement as StatementGoal, if_goals, while_goals, do_goals, for_goals, local_rest};
 ghost use Rattle.c_syntax_goals.specs.Machine.{run};
 ghost use Rattle.c_phrases.specs.Levels.{limit};
 ghost use Rattle.c_phrases.specs.Units.{ALocal};
@@ -68,7 +69,8 @@ fn condition(
 }
 
 fn storage(tokens: &[Spanned]) -> (Storage, &[Spanned])
-    ensures leads { (n : ℕ) (κ : ALocal → Stack) → run limit (Want LocalGoal κ) n (seen tokens.now) ≡ run limit (Want TypeWords (local_rest result.0 κ)) n (seen result.1.now) }
+    ensures leads { (n : ℕ) (κ : ALocal → Stack) → run limit (Want LocalGoal κ) n (seen tokens.now)
+        ≡ run limit (Want TypeWords (local_rest result.0 κ)) n (seen result.1.now) }
     ensures read { seen tokens.now ≡ onto_storage result.0 (seen result.1.now) }
 {
     if let Some((at, rest)) = take_key(tokens, Key::Static) {

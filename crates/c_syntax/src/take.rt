@@ -1,5 +1,6 @@
 // One token at a time, and the levels.
-ghost use Rattle.std.specs.Prelude.{◌≡◌, ◌≤◌, ◌<◌, ◌+◌, ◌↔◌, ◌∷◌, ℕ, List, length, IfSome, IfNone, IfOk, IfErr, IsTrue, false, if◌then◌else◌};
+ghost use Rattle.std.specs.Prelude.{◌≡◌, ◌≤◌, ◌<◌, ◌+◌, ◌↔◌, ◌∷◌, ℕ, List, length, IfSome, IfNone, IfOk, IfErr, IsTrue, false};
+ghost use Rattle.std.specs.Prelude.{if◌then◌else◌};
 ghost use Rattle.std.specs.Bool.{MatchBool};
 ghost use Rattle.c_tokens.specs.declared.token.Token.TheVariants as token;
 ghost use Rattle.c_tokens.specs.declared.marks.Mark.{Mark};
@@ -8,7 +9,8 @@ ghost use Rattle.c_syntax_goals.specs.declared.fault.Fault.TheVariants as faults
 ghost use Rattle.c_phrases.specs.Classes.{placed, seen, word, sign, is_kept, mark_class, key_class, class_of};
 ghost use Rattle.c_phrases.specs.Phrases.{binary_mark, prefix_mark, step_mark, assign_mark};
 ghost use Rattle.c_phrases.specs.Fronts.{IsNot};
-ghost use Rattle.c_phrases.specs.Takes.{binary_of, prefix_of, step_of, assign_of, is_type_word, IsTypeWord, NoTypeWord, NoMark, NoBinary, NoPrefix, NoStep, NoAssign};
+ghost use Rattle.c_phrases.specs.Takes.{binary_of, prefix_of, step_of, assign_of, is_type_word, IsTypeWord, NoTypeWord, NoMark};
+ghost use Rattle.c_phrases.specs.Takes.{NoBinary, NoPrefix, NoStep, NoAssign};
 
 use c_phrases::operator::{AssignOperator, BinaryOperator, PrefixOperator, StepOperator};
 use c_syntax_goals::fault::Fault;

@@ -9,7 +9,9 @@ ghost use Rattle.c_phrases.specs.UnitShapes.{params_of, param_of, param_list, bo
 ghost use Rattle.std.specs.Prelude.{ℕ, IfErr, length};
 ghost use Rattle.c_syntax_goals.specs.declared.fault.Fault.TheVariants.{NoMemory};
 ghost use Rattle.c_syntax_goals.specs.declared.fault.Fault.TheVariants as faults;
-ghost use Rattle.c_syntax_goals.specs.Goals.{Stack, Want, TypeWords, OptName, Body, Whole, Params as ParamsGoal, External as ExternalGoal, param_goals, list_goals, function_behind, declared_goals, external_rest};
+ghost use Rattle.c_syntax_goals.specs.Goals.{Stack, Want, TypeWords, OptName, Body, Whole, Params as ParamsGoal};
+ghost use Rattle.c_syntax_goals.specs.Goals.{External as ExternalGoal, param_goals, list_goals, function_behind, declared_goals};
+ghost use Rattle.c_syntax_goals.specs.Goals.{external_rest};
 ghost use Rattle.c_syntax_goals.specs.Machine.{run};
 ghost use Rattle.c_phrases.specs.Levels.{limit};
 ghost use Rattle.c_phrases.specs.Fronts.{IsNot};
@@ -20,7 +22,8 @@ ghost use Rattle.c_syntax.specs.Answers.{IsThat, Refused, HasFault, IsOnlyFault}
 ghost use Rattle.c_syntax.specs.declared.fault.SyntaxFault.{SyntaxFault};
 ghost use Rattle.c_phrases.specs.Units.{AUnit, AnExternal, onto_named, onto_static};
 ghost use Rattle.c_phrases.specs.Fits.{IsUnit};
-ghost use Rattle.c_syntax.specs.Stands.{ReadsParam, ParamsSoFar, ReadsParams, NoVoidAlone, ReadsBody, ReadsDeclared, ReadsExternal, ReadsExternals, HasToken};
+ghost use Rattle.c_syntax.specs.Stands.{ReadsParam, ParamsSoFar, ReadsParams, NoVoidAlone, ReadsBody, ReadsDeclared, ReadsExternal};
+ghost use Rattle.c_syntax.specs.Stands.{ReadsExternals, HasToken};
 
 use crate::declarations::{declarator_behind, declarators, length_part};
 use crate::expressions::take_name;
@@ -83,7 +86,8 @@ fn param_list(
     level: u32,
 ) -> Result<(Vec<Param>, &[Spanned]), Fault>
     requires { level ≤ 200 }
-    ensures read { IfOk result (λ x. ParamsSoFar level (seen tokens.now) (param_list x.0.items) (sign marks.CloseParenthesis 0 ∷ seen x.1.now)) }
+    ensures read { IfOk result (λ x. ParamsSoFar level (seen tokens.now) (param_list x.0.items)
+        (sign marks.CloseParenthesis 0 ∷ seen x.1.now)) }
     ensures fails { IfErr result (Fails list_goals level (seen tokens.now)) }
 {
     let (first, mut rest) = param(alloc, tokens, level)?;
@@ -136,7 +140,8 @@ fn function(
     bracket: u32,
     tokens: &[Spanned],
 ) -> Result<(Declared, &[Spanned]), Fault>
-    ensures read { IfOk result (λ x. ReadsDeclared (onto_stars stars (onto_name name at (sign marks.OpenParenthesis bracket ∷ seen tokens.now))) (declared_of x.0) (seen x.1.now)) }
+    ensures read { IfOk result (λ x. ReadsDeclared (onto_stars stars (onto_name name at
+        (sign marks.OpenParenthesis bracket ∷ seen tokens.now))) (declared_of x.0) (seen x.1.now)) }
     ensures fails { IfErr result (Fails (function_behind stars name at bracket 0) 1 (seen tokens.now)) }
 {
     let (params, rest) = params(alloc, tokens, 1)?;
@@ -170,7 +175,8 @@ fn declared(alloc: Global, tokens: &[Spanned]) -> Result<(Declared, &[Spanned]),
 }
 
 fn static_word(tokens: &[Spanned]) -> (Option<u32>, &[Spanned])
-    ensures leads { (κ : AnExternal → Stack) → run limit (Want ExternalGoal κ) 0 (seen tokens.now) ≡ run limit (Want TypeWords (external_rest result.0 κ)) 0 (seen result.1.now) }
+    ensures leads { (κ : AnExternal → Stack) → run limit (Want ExternalGoal κ) 0 (seen tokens.now)
+        ≡ run limit (Want TypeWords (external_rest result.0 κ)) 0 (seen result.1.now) }
     ensures read { seen tokens.now ≡ onto_static result.0 (seen result.1.now) }
 {
     match take_key(tokens, Key::Static) {

@@ -12,8 +12,10 @@ use Rattle.c_phrases.specs.Units.{value, elements, ADeclarator, empty, if_then}
 use Rattle.c_phrases.specs.Units.{no_items, no_params, globals, AUnit}
 use Rattle.c_syntax_goals.specs.Openings.{Opening, opens, plain}
 use Rattle.c_syntax_goals.specs.Goals.{Goal, Val, Stack, Done, Want}
-use Rattle.c_syntax_goals.specs.Goals.{Expr, Commas, Assign, Cond, Cast, Unary, Primary, Parens, CallTail, PostTail, Ended, Tail, First, Group, SizeofTail, SizeofGroup, Arguments, MoreArguments, Back, WantParen, WantBracket, WantColon, WantSemi, WantWhile, TypeWords, AfterShort, AfterUnsigned, Stars}
-use Rattle.c_syntax_goals.specs.Goals.{Condition, Simple, Statement, Items, PartSemi, PartParen, ForOpen, ElsePart, Local, DeclaratorName, ArrayPart, Length, InitPart, Init, Elements, InitMore, InitNext, MoreDeclarators, DeclaredName, AfterName, Body, Params, OptName, MoreParams, External, Whole}
+use Rattle.c_syntax_goals.specs.Goals.{Expr, Commas, Assign, Cond, Cast, Unary, Primary, Parens, CallTail, PostTail, Ended, Tail, First, Group, SizeofTail, SizeofGroup, Arguments}
+use Rattle.c_syntax_goals.specs.Goals.{MoreArguments, Back, WantParen, WantBracket, WantColon, WantSemi, WantWhile, TypeWords, AfterShort, AfterUnsigned, Stars}
+use Rattle.c_syntax_goals.specs.Goals.{Condition, Simple, Statement, Items, PartSemi, PartParen, ForOpen, ElsePart, Local, DeclaratorName, ArrayPart, Length, InitPart, Init}
+use Rattle.c_syntax_goals.specs.Goals.{Elements, InitMore, InitNext, MoreDeclarators, DeclaredName, AfterName, Body, Params, OptName, MoreParams, External, Whole}
 use Rattle.c_syntax_goals.proofs.Yields.{open_paren, close_paren, close_bracket, close_brace, semi, NoElse, Yields}
 use Rattle.c_syntax_goals.proofs.Joins.{By, alone}
 
@@ -64,7 +66,13 @@ complete_goal Primary κ n f =
     record { words = zero_word ∷ r.words; unit = r.unit; no_else = λ e. absurd (cc); is = record { item = zero; rest = r.words; is = (refl, tt); onwards = r.is } }
 complete_goal Parens κ n f =
     let r = f (paren 0 zero) n in
-    record { words = opens (n + 1) (open_paren 0) ∷ zero_word ∷ close_paren ∷ r.words; unit = r.unit; no_else = λ e. absurd (cc); is = record { item = (paren 0 zero); rest = r.words; is = (refl, tt); onwards = r.is } }
+    record {
+      words = opens (n + 1) (open_paren 0) ∷ zero_word ∷ close_paren ∷ r.words;
+      unit = r.unit;
+      no_else = λ e. absurd (cc);
+      is =
+          record { item = (paren 0 zero); rest = r.words; is = (refl, tt); onwards = r.is };
+    }
 complete_goal (Commas l) κ n f =
     let r = f l n in
     record { words = r.words; unit = r.unit; no_else = r.no_else; is = alone 0 0 l n r.words (By κ r.unit) (omega arith) r.is }
@@ -91,10 +99,22 @@ complete_goal (Group o m) κ n f =
     record { words = zero_word ∷ close_paren ∷ r.words; unit = r.unit; no_else = λ e. absurd (cc); is = λ q. record { item = paren o zero; rest = r.words; is = (refl, tt); onwards = r.is } }
 complete_goal (SizeofTail at) κ n f =
     let r = f (sizeof_exp at zero) n in
-    record { words = zero_word ∷ r.words; unit = r.unit; no_else = λ e. absurd (cc); is = λ b q. record { item = sizeof_exp at zero; rest = r.words; is = (refl, (omega arith, tt)); onwards = subst (λ (j : ℕ). Yields (κ (sizeof_exp at zero)) j r.words r.unit) q r.is } }
+    record {
+      words = zero_word ∷ r.words;
+      unit = r.unit;
+      no_else = λ e. absurd (cc);
+      is = λ b q.
+          record { item = sizeof_exp at zero; rest = r.words; is = (refl, (omega arith, tt)); onwards = subst (λ (j : ℕ). Yields (κ (sizeof_exp at zero)) j r.words r.unit) q r.is };
+    }
 complete_goal (SizeofGroup at o m) κ n f =
     let r = f (sizeof_exp at (paren o zero)) m in
-    record { words = zero_word ∷ close_paren ∷ r.words; unit = r.unit; no_else = λ e. absurd (cc); is = λ b p q. record { item = sizeof_exp at (paren o zero); rest = r.words; is = (refl, (omega arith, tt)); onwards = subst (λ (j : ℕ). Yields (κ (sizeof_exp at (paren o zero))) j r.words r.unit) p r.is } }
+    record {
+      words = zero_word ∷ close_paren ∷ r.words;
+      unit = r.unit;
+      no_else = λ e. absurd (cc);
+      is = λ b p q.
+          record { item = sizeof_exp at (paren o zero); rest = r.words; is = (refl, (omega arith, tt)); onwards = subst (λ (j : ℕ). Yields (κ (sizeof_exp at (paren o zero))) j r.words r.unit) p r.is };
+    }
 complete_goal Arguments κ n f =
     let r = f no_exps n in
     record { words = close_paren ∷ r.words; unit = r.unit; no_else = λ e. absurd (cc); is = record { item = no_exps; rest = r.words; is = (refl, tt); onwards = r.is } }
@@ -133,7 +153,13 @@ complete_goal Stars κ n f =
     record { words = r.words; unit = r.unit; no_else = r.no_else; is = record { item = []; rest = r.words; is = refl; onwards = r.is } }
 complete_goal Condition κ n f =
     let r = f (0, zero) n in
-    record { words = opens (n + 1) (open_paren 0) ∷ zero_word ∷ close_paren ∷ r.words; unit = r.unit; no_else = λ e. absurd (cc); is = record { item = (0, zero); rest = r.words; is = (refl, tt); onwards = r.is } }
+    record {
+      words = opens (n + 1) (open_paren 0) ∷ zero_word ∷ close_paren ∷ r.words;
+      unit = r.unit;
+      no_else = λ e. absurd (cc);
+      is =
+          record { item = (0, zero); rest = r.words; is = (refl, tt); onwards = r.is };
+    }
 complete_goal Simple κ n f =
     let r = f empty n in
     record { words = semi ∷ r.words; unit = r.unit; no_else = λ e. absurd (cc); is = record { item = empty; rest = r.words; is = (refl, (tt, inl tt)); onwards = r.is } }
@@ -157,7 +183,18 @@ complete_goal (ElsePart at o e s) κ n f =
     record { words = r.words; unit = r.unit; no_else = r.no_else; is = inl (r.no_else, r.is) }
 complete_goal Local κ n f =
     let r = f (record { storage = storages.Automatic; spec = specs.Int 0; declarators = bare_declarator [] letter 0 ∷ [] }) n in
-    record { words = int_word ∷ letter_word ∷ semi ∷ r.words; unit = r.unit; no_else = λ e. absurd (cc); is = record { item = (record { storage = storages.Automatic; spec = specs.Int 0; declarators = bare_declarator [] letter 0 ∷ [] }); rest = r.words; is = (refl, (tt, ((tt, tt), tt))); onwards = r.is } }
+    record {
+      words = int_word ∷ letter_word ∷ semi ∷ r.words;
+      unit = r.unit;
+      no_else = λ e. absurd (cc);
+      is =
+          record {
+            item = (record { storage = storages.Automatic; spec = specs.Int 0; declarators = bare_declarator [] letter 0 ∷ [] });
+            rest = r.words;
+            is = (refl, (tt, ((tt, tt), tt)));
+            onwards = r.is;
+          };
+    }
 complete_goal (DeclaratorName ats) κ n f =
     let r = f (bare_declarator ats letter 0) n in
     record { words = letter_word ∷ r.words; unit = r.unit; no_else = λ e. absurd (cc); is = record { item = (bare_declarator ats letter 0); rest = r.words; is = (refl, (tt, tt)); onwards = r.is } }
@@ -175,7 +212,13 @@ complete_goal Init κ n f =
     record { words = zero_word ∷ r.words; unit = r.unit; no_else = λ e. absurd (cc); is = record { item = (value zero); rest = r.words; is = (refl, tt); onwards = r.is } }
 complete_goal Elements κ n f =
     let r = f (elements (exps zero no_exps) false) n in
-    record { words = zero_word ∷ close_brace ∷ r.words; unit = r.unit; no_else = λ e. absurd (cc); is = λ b q. record { item = elements (exps zero no_exps) false; rest = r.words; is = (refl, (tt, (tt, tt))); onwards = r.is } }
+    record {
+      words = zero_word ∷ close_brace ∷ r.words;
+      unit = r.unit;
+      no_else = λ e. absurd (cc);
+      is = λ b q.
+          record { item = elements (exps zero no_exps) false; rest = r.words; is = (refl, (tt, (tt, tt))); onwards = r.is };
+    }
 complete_goal InitMore κ n f =
     let r = f (no_exps, false) n in
     record { words = close_brace ∷ r.words; unit = r.unit; no_else = λ e. absurd (cc); is = record { item = (no_exps, false); rest = r.words; is = (refl, tt); onwards = r.is } }
@@ -187,10 +230,22 @@ complete_goal MoreDeclarators κ n f =
     record { words = semi ∷ r.words; unit = r.unit; no_else = λ e. absurd (cc); is = record { item = []; rest = r.words; is = (refl, tt); onwards = r.is } }
 complete_goal (DeclaredName ats) κ n f =
     let r = f (globals (bare_declarator ats letter 0 ∷ [])) n in
-    record { words = letter_word ∷ semi ∷ r.words; unit = r.unit; no_else = λ e. absurd (cc); is = record { item = (globals (bare_declarator ats letter 0 ∷ [])); rest = r.words; is = (refl, (tt, ((tt, tt), tt))); onwards = r.is } }
+    record {
+      words = letter_word ∷ semi ∷ r.words;
+      unit = r.unit;
+      no_else = λ e. absurd (cc);
+      is =
+          record { item = (globals (bare_declarator ats letter 0 ∷ [])); rest = r.words; is = (refl, (tt, ((tt, tt), tt))); onwards = r.is };
+    }
 complete_goal (AfterName ats g at) κ n f =
     let r = f (globals (bare_declarator ats g at ∷ [])) n in
-    record { words = semi ∷ r.words; unit = r.unit; no_else = λ e. absurd (cc); is = record { item = (globals (bare_declarator ats g at ∷ [])); rest = r.words; is = (refl, (tt, ((tt, tt), tt))); onwards = r.is } }
+    record {
+      words = semi ∷ r.words;
+      unit = r.unit;
+      no_else = λ e. absurd (cc);
+      is =
+          record { item = (globals (bare_declarator ats g at ∷ [])); rest = r.words; is = (refl, (tt, ((tt, tt), tt))); onwards = r.is };
+    }
 complete_goal Body κ n f =
     let r = f None n in
     record { words = semi ∷ r.words; unit = r.unit; no_else = λ e. absurd (cc); is = record { item = None; rest = r.words; is = (refl, tt); onwards = r.is } }
@@ -205,10 +260,22 @@ complete_goal MoreParams κ n f =
     record { words = close_paren ∷ r.words; unit = r.unit; no_else = λ e. absurd (cc); is = record { item = []; rest = r.words; is = (refl, tt); onwards = r.is } }
 complete_goal External κ n f =
     let r = f (record { static_at = None; spec = specs.Int 0; declared = globals (bare_declarator [] letter 0 ∷ []) }) n in
-    record { words = int_word ∷ letter_word ∷ semi ∷ r.words; unit = r.unit; no_else = λ e. absurd (cc); is = record { item = (record { static_at = None; spec = specs.Int 0; declared = globals (bare_declarator [] letter 0 ∷ []) }); rest = r.words; is = (refl, (tt, ((tt, tt), tt))); onwards = r.is } }
+    record {
+      words = int_word ∷ letter_word ∷ semi ∷ r.words;
+      unit = r.unit;
+      no_else = λ e. absurd (cc);
+      is =
+          record { item = (record { static_at = None; spec = specs.Int 0; declared = globals (bare_declarator [] letter 0 ∷ []) }); rest = r.words; is = (refl, (tt, ((tt, tt), tt))); onwards = r.is };
+    }
 complete_goal Whole κ n f =
     let r = f (record { externals = []; end = 0 }) n in
-    record { words = plain (record { kind = token.End; at = 0 }) ∷ r.words; unit = r.unit; no_else = λ e. absurd (cc); is = record { item = (record { externals = []; end = 0 }); rest = r.words; is = (refl, tt); onwards = r.is } }
+    record {
+      words = plain (record { kind = token.End; at = 0 }) ∷ r.words;
+      unit = r.unit;
+      no_else = λ e. absurd (cc);
+      is =
+          record { item = (record { externals = []; end = 0 }); rest = r.words; is = (refl, tt); onwards = r.is };
+    }
 
 pub complete : (s : Stack) (n : ℕ) → Completed s n
 complete (Done u) n = record { words = []; unit = u; no_else = tt; is = (refl, refl) }

@@ -58,11 +58,14 @@ unit_levels u fits = whole_levels _ u (accepted (unit_tokens u) (Want Whole Done
 pub low_in_unit : (pre post : List Placed) → left_of (run limit (Want Whole Done) 0 (pre ++ post)) ≡ length post → (u : AUnit) → Begins pre u → FirstAreLow (length pre) (levelled u)
 low_in_unit pre post e u b = subst (FirstAreLow (length pre)) (ap (marks_of (Want Whole Done) 0) (sym b.text) ∙ unit_levels u b.fits) (low_before pre post b.word (Want Whole Done) 0 e)
 
-pub deep_in_unit : (pre : List Placed) (bad : Placed) (post : List Placed) → run limit (Want Whole Done) 0 (pre ++ bad ∷ post) ≡ Err (TooDeep (suc (length post))) → (u : AUnit) → Begins (pre ++ bad ∷ []) u → FirstDeepIs (length pre) (levelled u)
-deep_in_unit pre bad post e u b = subst (FirstDeepIs (length pre)) (ap (marks_of (Want Whole Done) 0) (sym (b.text ∙ append_one pre bad b.word)) ∙ unit_levels u b.fits) (first_deep pre bad post b.word (Want Whole Done) 0 e)
+pub deep_in_unit : (pre : List Placed) (bad : Placed) (post : List Placed) → run limit (Want Whole Done) 0 (pre ++ bad ∷ post) ≡ Err (TooDeep (suc (length post))) → (u : AUnit)
+    → Begins (pre ++ bad ∷ []) u → FirstDeepIs (length pre) (levelled u)
+deep_in_unit pre bad post e u b = subst (FirstDeepIs (length pre)) (ap (marks_of (Want Whole Done) 0) (sym (b.text ∙ append_one pre bad b.word)) ∙ unit_levels u b.fits)
+    (first_deep pre bad post b.word (Want Whole Done) 0 e)
 
 -- the run over the tokens as phrases see them
-split_run : (before : List Spanned) (t : Spanned) (behind : List Spanned) (F : ℕ → Fault) → Stops (before ++ t ∷ behind) (F (suc (length behind))) → run limit (Want Whole Done) 0 (seen before ++ placed t ∷ seen behind) ≡ Err (F (suc (length (seen behind))))
+split_run : (before : List Spanned) (t : Spanned) (behind : List Spanned) (F : ℕ → Fault) → Stops (before ++ t ∷ behind) (F (suc (length behind)))
+    → run limit (Want Whole Done) 0 (seen before ++ placed t ∷ seen behind) ≡ Err (F (suc (length (seen behind))))
 split_run before t behind F e = ap (run limit (Want Whole Done) 0) (sym (seen_append before (t ∷ behind))) ∙ e ∙ ap (λ (k : ℕ). Err (F (suc k))) (sym (length_seen behind))
 
 pub not_here_at : (before : List Spanned) (t : Spanned) (behind : List Spanned) → Stops (before ++ t ∷ behind) (NotHere (suc (length behind))) → NotHereAt (before ++ t ∷ behind) t.start
@@ -88,7 +91,8 @@ too_deep_at before t behind e =
       behind = behind;
       text = refl;
       stands = refl;
-      some = begins_unit (seen before ++ placed t ∷ []) (subst (λ (x : List Placed). respelled x ≡ x) (seen_append before (t ∷ [])) (seen_respelled (before ++ t ∷ []))) (viable_deep (seen before) (placed t) (seen behind) (Want Whole Done) 0 f);
+      some = begins_unit (seen before ++ placed t ∷ []) (subst (λ (x : List Placed). respelled x ≡ x) (seen_append before (t ∷ [])) (seen_respelled (before ++ t ∷ [])))
+          (viable_deep (seen before) (placed t) (seen behind) (Want Whole Done) 0 f);
       deep = λ u b. subst (λ (k : ℕ). FirstDeepIs k (levelled u)) (length_seen before) (deep_in_unit (seen before) (placed t) (seen behind) f u b);
     }
 
@@ -139,20 +143,24 @@ at_end_both : (r : Stack) (w : List Placed) (u : AUnit) → closing r ≡ Err (N
 at_end_both r [] u e h = ok_fault (closing r) u (NotHere 0) e h
 at_end_both r (t ∷ w) u e h = ok_fault (at_end r (t ∷ w)) u (NotHere (length (t ∷ w))) refl h
 
-end_on : (x : Next) (s : Stack) (t : Placed) (n : ℕ) (w : List Placed) (u : AUnit) → class_of t.kind ≡ c.End → next limit s t n ≡ x → on x [] (λ r m. run limit r m []) ≡ Err (NotHere 0) → run free s n (t ∷ w) ≡ Ok u → ⊥
+end_on : (x : Next) (s : Stack) (t : Placed) (n : ℕ) (w : List Placed) (u : AUnit) → class_of t.kind ≡ c.End → next limit s t n ≡ x → on x [] (λ r m. run limit r m []) ≡ Err (NotHere 0)
+    → run free s n (t ∷ w) ≡ Ok u → ⊥
 end_on (Goes r m) s t n w u h d e k = end_goes limit s t n r m h d
 end_on (Ends r) s t n w u h d e k = at_end_both r w u e (subst (λ (x : Next). on x w (λ r m. run free r m w) ≡ Ok u) (ends_freely s t n r d) k)
 end_on Deep s t n w u h d e k = deep_not 1 e
 end_on Stuck s t n w u h d e k = some_of 0 e
 
-end_step : (x : Next) (s : Stack) (p : Placed) (n : ℕ) (pre : List Placed) (t : Placed) (w : List Placed) (u : AUnit) → next limit s p n ≡ x → on x (pre ++ t ∷ []) (λ r m. run limit r m (pre ++ t ∷ [])) ≡ Err (NotHere 0) → run free s n (p ∷ pre ++ t ∷ w) ≡ Ok u → ((r : Stack) (m : ℕ) → run limit r m (pre ++ t ∷ []) ≡ Err (NotHere 0) → run free r m (pre ++ t ∷ w) ≡ Ok u → ⊥) → ⊥
+end_step : (x : Next) (s : Stack) (p : Placed) (n : ℕ) (pre : List Placed) (t : Placed) (w : List Placed) (u : AUnit) → next limit s p n ≡ x
+    → on x (pre ++ t ∷ []) (λ r m. run limit r m (pre ++ t ∷ [])) ≡ Err (NotHere 0) → run free s n (p ∷ pre ++ t ∷ w) ≡ Ok u
+    → ((r : Stack) (m : ℕ) → run limit r m (pre ++ t ∷ []) ≡ Err (NotHere 0) → run free r m (pre ++ t ∷ w) ≡ Ok u → ⊥) → ⊥
 end_step (Goes r m) s p n pre t w u d e k ih = ih r m e (subst (λ (x : Next). on x (pre ++ t ∷ w) (λ r m. run free r m (pre ++ t ∷ w)) ≡ Ok u) (goes_freely s p n r m d) k)
 end_step (Ends r) s p n [] t w u d e k ih = some_of 0 e
 end_step (Ends r) s p n (q ∷ pre) t w u d e k ih = some_of (length (pre ++ t ∷ [])) e
 end_step Deep s p n pre t w u d e k ih = deep_not (suc (length (pre ++ t ∷ []))) e
 end_step Stuck s p n pre t w u d e k ih = some_of (length (pre ++ t ∷ [])) e
 
-end_read : (pre : List Placed) (t : Placed) (w : List Placed) (s : Stack) (n : ℕ) (u : AUnit) → class_of t.kind ≡ c.End → run limit s n (pre ++ t ∷ []) ≡ Err (NotHere 0) → run free s n (pre ++ t ∷ w) ≡ Ok u → ⊥
+end_read : (pre : List Placed) (t : Placed) (w : List Placed) (s : Stack) (n : ℕ) (u : AUnit) → class_of t.kind ≡ c.End → run limit s n (pre ++ t ∷ []) ≡ Err (NotHere 0)
+    → run free s n (pre ++ t ∷ w) ≡ Ok u → ⊥
 end_read [] t w s n u h e k = end_on (next limit s t n) s t n w u h refl e k
 end_read (p ∷ pre) t w s n u h e k = end_step (next limit s p n) s p n pre t w u refl e k (λ r m x y. end_read pre t w r m u h x y)
 
@@ -165,9 +173,11 @@ pub some_left : (before : List Spanned) (t : Spanned) → t.kind ≡ End → Sto
 some_left before t h e =
     let ts : List Placed = seen before ++ placed t ∷ [] in
     let f : run limit (Want Whole Done) 0 ts ≡ Err (NotHere 0) = ap (run limit (Want Whole Done) 0) (sym (seen_append before (t ∷ []))) ∙ e in
-    let b : BeginsUnit ts = begins_unit ts (subst (λ (x : List Placed). respelled x ≡ x) (seen_append before (t ∷ [])) (seen_respelled (before ++ t ∷ []))) (viable limit ts [] (Want Whole Done) 0 (ap (λ (x : List Placed). left_of (run limit (Want Whole Done) 0 x)) (append_none ts) ∙ ap left_of f)) in
+    let b : BeginsUnit ts = begins_unit ts (subst (λ (x : List Placed). respelled x ≡ x) (seen_append before (t ∷ [])) (seen_respelled (before ++ t ∷ [])))
+    (viable limit ts [] (Want Whole Done) 0 (ap (λ (x : List Placed). left_of (run limit (Want Whole Done) 0 x)) (append_none ts) ∙ ap left_of f)) in
     let text : unit_tokens b.unit ≡ seen before ++ placed t ∷ b.begins.word = b.begins.text ∙ append_one (seen before) (placed t) b.begins.word in
-    end_read (seen before) (placed t) b.begins.word (Want Whole Done) 0 b.unit (ap class_of h) f (ap (run free (Want Whole Done) 0) (sym text) ∙ law_unit free b.unit b.begins.fits (low_externals b.unit.externals))
+    end_read (seen before) (placed t) b.begins.word (Want Whole Done) 0 b.unit (ap class_of h) f
+    (ap (run free (Want Whole Done) 0) (sym text) ∙ law_unit free b.unit b.begins.fits (low_externals b.unit.externals))
 
 -- a text parted at the token with which so many are left
 record Parted (ts : List Spanned) (k : ℕ) : Type 0 where
@@ -227,13 +237,15 @@ too_deep_some ts (suc k) e = omega arith
 pub refused_here : (ts : List Spanned) (k place : ℕ) → IsEnded ts → Stops ts (NotHere k) → IsPlace ts k place → NotHereAt ts place
 refused_here ts k place h e p =
     let a : Parted ts k = parted ts k (here_some ts k h e) (within_seen ts (NotHere k) e) in
-    let f : Stops (a.before ++ a.token ∷ a.behind) (NotHere (suc (length a.behind))) = ap (λ (x : List Spanned). run limit (Want Whole Done) 0 (seen x)) (sym a.text) ∙ e ∙ ap (λ (j : ℕ). Err (NotHere j)) a.left in
+    let f : Stops (a.before ++ a.token ∷ a.behind) (NotHere (suc (length a.behind))) = ap (λ (x : List Spanned). run limit (Want Whole Done) 0 (seen x)) (sym a.text) ∙ e
+    ∙ ap (λ (j : ℕ). Err (NotHere j)) a.left in
     let r : NotHereAt (a.before ++ a.token ∷ a.behind) a.token.start = not_here_at a.before a.token a.behind f in
     subst (λ (x : List Spanned). NotHereAt x place) (sym a.text) (subst (λ (q : ℕ). NotHereAt (a.before ++ a.token ∷ a.behind) q) (sym (p a.before a.token a.behind a.text a.left)) r)
 
 pub too_deep_there : (ts : List Spanned) (k place : ℕ) → Stops ts (TooDeep k) → IsPlace ts k place → TooDeepAt ts place
 too_deep_there ts k place e p =
     let a : Parted ts k = parted ts k (too_deep_some ts k e) (within_seen ts (TooDeep k) e) in
-    let f : Stops (a.before ++ a.token ∷ a.behind) (TooDeep (suc (length a.behind))) = ap (λ (x : List Spanned). run limit (Want Whole Done) 0 (seen x)) (sym a.text) ∙ e ∙ ap (λ (j : ℕ). Err (TooDeep j)) a.left in
+    let f : Stops (a.before ++ a.token ∷ a.behind) (TooDeep (suc (length a.behind))) = ap (λ (x : List Spanned). run limit (Want Whole Done) 0 (seen x)) (sym a.text) ∙ e
+    ∙ ap (λ (j : ℕ). Err (TooDeep j)) a.left in
     let r : TooDeepAt (a.before ++ a.token ∷ a.behind) a.token.start = too_deep_at a.before a.token a.behind f in
     subst (λ (x : List Spanned). TooDeepAt x place) (sym a.text) (subst (λ (q : ℕ). TooDeepAt (a.before ++ a.token ∷ a.behind) q) (sym (p a.before a.token a.behind a.text a.left)) r)

@@ -10,13 +10,20 @@ use Rattle.c_phrases.specs.declared.operator.Storage.TheVariants as storages
 use Rattle.c_phrases.specs.declared.tree.TypeName.{TypeName}
 use Rattle.c_phrases.specs.declared.tree.Named.{Named}
 use Rattle.c_phrases.specs.Classes.{Placed, word, sign}
-use Rattle.c_phrases.specs.Phrases.{AnExp, name, number, str, paren, call, index, step_after, step_before, prefix, sizeof_exp, sizeof_type, cast, binary, choice, assign, comma, SomeExps, no_exps, exps, after_exp, binary_mark, prefix_mark, step_mark, assign_mark}
+use Rattle.c_phrases.specs.Phrases.{AnExp, name, number, str, paren, call, index, step_after, step_before, prefix, sizeof_exp, sizeof_type, cast, binary, choice, assign, comma}
+use Rattle.c_phrases.specs.Phrases.{SomeExps, no_exps, exps, after_exp, binary_mark, prefix_mark, step_mark, assign_mark}
 use Rattle.c_phrases.specs.Phrases.{onto_int, onto_spec, onto_stars, onto_type, onto_name, onto_exp, onto_first, onto_others}
-use Rattle.c_phrases.specs.Units.{ALength, AnInit, value, elements, AnInitialised, ADeclarator, ALocal, AStatement, block, empty, expression, break_off, continue_on, give_back, if_then, if_else, while_loop, do_loop, for_loop}
+use Rattle.c_phrases.specs.Units.{ALength, AnInit, value, elements, AnInitialised, ADeclarator, ALocal, AStatement, block, empty, expression, break_off, continue_on, give_back}
+use Rattle.c_phrases.specs.Units.{if_then, if_else, while_loop, do_loop, for_loop}
 use Rattle.c_phrases.specs.Units.{SomeItems, no_items, local_item, statement_item, AParam, SomeParams, no_params, void_word, params, ADeclared, function, globals, AnExternal, AUnit, unit_tokens}
-use Rattle.c_phrases.specs.Units.{onto_part, onto_length, onto_trailing, onto_init, onto_initialised, onto_declarator, onto_more_declarators, onto_declarators, onto_storage, onto_local, onto_condition, onto_statement, onto_items, onto_named, onto_param, onto_more_params, onto_params, onto_body, onto_declared, onto_static, onto_external, onto_externals}
-use Rattle.c_syntax_goals.specs.Openings.{Opening, plain, tokens_of, levelled, levelled_int, levelled_spec, levelled_stars, levelled_type, levelled_exp, levelled_first, levelled_others, levelled_part, levelled_length, levelled_trailing, levelled_init, levelled_initialised}
-use Rattle.c_syntax_goals.specs.Openings.{levelled_declarator, levelled_more_declarators, levelled_declarators, levelled_storage, levelled_local, levelled_condition, levelled_statement, levelled_items, levelled_named, levelled_param, levelled_more_params, levelled_params, levelled_body, levelled_declared, levelled_static, levelled_external, levelled_externals}
+use Rattle.c_phrases.specs.Units.{onto_part, onto_length, onto_trailing, onto_init, onto_initialised, onto_declarator, onto_more_declarators, onto_declarators, onto_storage}
+use Rattle.c_phrases.specs.Units.{onto_local, onto_condition, onto_statement, onto_items, onto_named, onto_param, onto_more_params, onto_params, onto_body, onto_declared}
+use Rattle.c_phrases.specs.Units.{onto_static, onto_external, onto_externals}
+use Rattle.c_syntax_goals.specs.Openings.{Opening, plain, tokens_of, levelled, levelled_int, levelled_spec, levelled_stars, levelled_type, levelled_exp, levelled_first}
+use Rattle.c_syntax_goals.specs.Openings.{levelled_others, levelled_part, levelled_length, levelled_trailing, levelled_init, levelled_initialised}
+use Rattle.c_syntax_goals.specs.Openings.{levelled_declarator, levelled_more_declarators, levelled_declarators, levelled_storage, levelled_local, levelled_condition}
+use Rattle.c_syntax_goals.specs.Openings.{levelled_statement, levelled_items, levelled_named, levelled_param, levelled_more_params, levelled_params, levelled_body}
+use Rattle.c_syntax_goals.specs.Openings.{levelled_declared, levelled_static, levelled_external, levelled_externals}
 
 abbrev cons : Placed → List Placed → List Placed
 cons t w = t ∷ w
@@ -58,7 +65,8 @@ mutual
   forget_exp (sizeof_type at o t) n w = ap (λ (v : List Placed). word keys.Sizeof at ∷ sign marks.OpenParenthesis o ∷ v) (forget_type t (plain close ∷ w))
   forget_exp (cast o t e) n w = ap (cons (sign marks.OpenParenthesis o)) (forget_type t _ ∙ ap (λ (v : List Placed). onto_type t (close ∷ v)) (forget_exp e (n + 1) w))
   forget_exp (binary l op at r) n w = forget_exp l n _ ∙ ap (λ (v : List Placed). onto_exp l (sign (binary_mark op) at ∷ v)) (forget_exp r (after_exp l n + 1) w)
-  forget_exp (choice d at e f) n w = forget_exp d n _ ∙ ap (λ (v : List Placed). onto_exp d (sign marks.Question at ∷ v)) (forget_exp e (after_exp d n + 1) _ ∙ ap (λ (v : List Placed). onto_exp e (sign marks.Colon 0 ∷ v)) (forget_exp f (after_exp e (after_exp d n + 1)) w))
+  forget_exp (choice d at e f) n w = forget_exp d n _ ∙ ap (λ (v : List Placed). onto_exp d (sign marks.Question at ∷ v))
+      (forget_exp e (after_exp d n + 1) _ ∙ ap (λ (v : List Placed). onto_exp e (sign marks.Colon 0 ∷ v)) (forget_exp f (after_exp e (after_exp d n + 1)) w))
   forget_exp (assign p op at v) n w = forget_exp p n _ ∙ ap (λ (x : List Placed). onto_exp p (sign (assign_mark op) at ∷ x)) (forget_exp v (after_exp p n + 1) w)
   forget_exp (comma l r) n w = forget_exp l n _ ∙ ap (λ (v : List Placed). onto_exp l (sign marks.Comma 0 ∷ v)) (forget_exp r (after_exp l n + 1) w)
 
@@ -91,7 +99,8 @@ forget_initialised None n w = refl
 forget_initialised (Some i) n w = ap (cons (sign marks.Assign i.at)) (forget_init i.with_init n w)
 
 forget_declarator : (d : ADeclarator) (n : ℕ) (w : List Opening) → tokens_of (levelled_declarator d n w) ≡ onto_declarator d (tokens_of w)
-forget_declarator d n w = forget_stars d.stars _ ∙ ap (λ (v : List Placed). onto_stars d.stars (onto_name d.name d.at v)) (forget_length d.length n _ ∙ ap (onto_length d.length) (forget_initialised d.init n w))
+forget_declarator d n w = forget_stars d.stars _ ∙ ap (λ (v : List Placed). onto_stars d.stars (onto_name d.name d.at v))
+    (forget_length d.length n _ ∙ ap (onto_length d.length) (forget_initialised d.init n w))
 
 forget_more_declarators : (ds : List ADeclarator) (n : ℕ) (w : List Opening) → tokens_of (levelled_more_declarators ds n w) ≡ onto_more_declarators ds (tokens_of w)
 forget_more_declarators [] n w = refl
@@ -121,10 +130,15 @@ mutual
   forget_statement (continue_on at) n w = refl
   forget_statement (give_back at e) n w = ap (cons (word keys.Return at)) (forget_part e n _)
   forget_statement (if_then at o e s) n w = ap (cons (word keys.If at)) (forget_condition o e (n + 1) _ ∙ ap (onto_condition o e) (forget_statement s (n + 1) w))
-  forget_statement (if_else at o e s other t) n w = ap (cons (word keys.If at)) (forget_condition o e (n + 1) _ ∙ ap (onto_condition o e) (forget_statement s (n + 1) _ ∙ ap (λ (v : List Placed). onto_statement s (word keys.Else other ∷ v)) (forget_statement t (n + 1) w)))
+  forget_statement (if_else at o e s other t) n w = ap (cons (word keys.If at))
+      (forget_condition o e (n + 1) _ ∙ ap (onto_condition o e) (forget_statement s (n + 1) _ ∙ ap (λ (v : List Placed). onto_statement s (word keys.Else other ∷ v)) (forget_statement t (n + 1) w)))
   forget_statement (while_loop at o e s) n w = ap (cons (word keys.While at)) (forget_condition o e (n + 1) _ ∙ ap (onto_condition o e) (forget_statement s (n + 1) w))
-  forget_statement (do_loop at s again o e) n w = ap (cons (word keys.Do at)) (forget_statement s (n + 1) _ ∙ ap (λ (v : List Placed). onto_statement s (word keys.While again ∷ v)) (forget_condition o e (n + 1) _))
-  forget_statement (for_loop at o a b d s) n w = ap (λ (v : List Placed). word keys.For at ∷ sign marks.OpenParenthesis o ∷ v) (forget_part a (n + 1 + 1) _ ∙ ap (λ (v : List Placed). onto_part a (sign marks.Semicolon 0 ∷ v)) (forget_part b (n + 1 + 1) _ ∙ ap (λ (v : List Placed). onto_part b (sign marks.Semicolon 0 ∷ v)) (forget_part d (n + 1 + 1) _ ∙ ap (λ (v : List Placed). onto_part d (close ∷ v)) (forget_statement s (n + 1) w))))
+  forget_statement (do_loop at s again o e) n w = ap (cons (word keys.Do at))
+      (forget_statement s (n + 1) _ ∙ ap (λ (v : List Placed). onto_statement s (word keys.While again ∷ v)) (forget_condition o e (n + 1) _))
+  forget_statement (for_loop at o a b d s) n w = ap (λ (v : List Placed). word keys.For at ∷ sign marks.OpenParenthesis o ∷ v)
+      (forget_part a (n + 1 + 1) _ ∙ ap (λ (v : List Placed). onto_part a (sign marks.Semicolon 0 ∷ v))
+      (forget_part b (n + 1 + 1) _ ∙ ap (λ (v : List Placed). onto_part b (sign marks.Semicolon 0 ∷ v))
+      (forget_part d (n + 1 + 1) _ ∙ ap (λ (v : List Placed). onto_part d (close ∷ v)) (forget_statement s (n + 1) w))))
 
   forget_items : (is : SomeItems) (n : ℕ) (w : List Opening) → tokens_of (levelled_items is n w) ≡ onto_items is (tokens_of w)
   forget_items no_items n w = refl
@@ -153,7 +167,8 @@ forget_body None n w = refl
 forget_body (Some is) n w = ap (cons (sign marks.OpenBrace 0)) (forget_items is (n + 1) _)
 
 forget_declared : (d : ADeclared) (n : ℕ) (w : List Opening) → tokens_of (levelled_declared d n w) ≡ onto_declared d (tokens_of w)
-forget_declared (function f) n w = forget_stars f.stars _ ∙ ap (λ (v : List Placed). onto_stars f.stars (onto_name f.name f.at (sign marks.OpenParenthesis f.opened ∷ v))) (forget_params f.params (n + 1) _ ∙ ap (λ (v : List Placed). onto_params f.params (close ∷ v)) (forget_body f.body n w))
+forget_declared (function f) n w = forget_stars f.stars _ ∙ ap (λ (v : List Placed). onto_stars f.stars (onto_name f.name f.at (sign marks.OpenParenthesis f.opened ∷ v)))
+    (forget_params f.params (n + 1) _ ∙ ap (λ (v : List Placed). onto_params f.params (close ∷ v)) (forget_body f.body n w))
 forget_declared (globals ds) n w = forget_declarators ds n _
 
 forget_static : (s : Option ℕ) (w : List Opening) → tokens_of (levelled_static s w) ≡ onto_static s (tokens_of w)

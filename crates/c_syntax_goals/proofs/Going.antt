@@ -19,13 +19,15 @@ use Rattle.c_phrases.specs.declared.operator.AssignOperator.TheVariants as assig
 use Rattle.c_phrases.specs.declared.tree.TypeName.{TypeName}
 use Rattle.c_phrases.specs.Classes.{Placed, Class, class_of, mark_class, word, sign}
 use Rattle.c_phrases.specs.Classes as c
-use Rattle.c_phrases.specs.Phrases.{AnExp, name, number, str, paren, call, index, step_after, step_before, prefix, sizeof_exp, sizeof_type, cast, binary, choice, assign, comma, SomeExps, no_exps, exps}
+use Rattle.c_phrases.specs.Phrases.{AnExp, name, number, str, paren, call, index, step_after, step_before, prefix, sizeof_exp, sizeof_type, cast, binary, choice, assign, comma}
+use Rattle.c_phrases.specs.Phrases.{SomeExps, no_exps, exps}
 use Rattle.c_phrases.specs.Phrases.{onto_int, onto_spec, onto_stars, onto_type, onto_exp, onto_first, onto_others, after_exp, IsAt, AllAt, binary_mark, prefix_mark, step_mark, assign_mark, level_of}
 use Rattle.c_phrases.specs.Levels.{LowExp, LowExps}
 use Rattle.c_phrases.specs.Takes.{NoTypeClass, IsTypeWord, NoTypeWord}
 use Rattle.c_phrases.specs.Fronts.{Quiet, IsNot, NoCast, strength, mark_strength}
 use Rattle.c_syntax_goals.specs.Goals.{Stack, Want, Steps, Opens, turn, insert, type_goals, stars_then, cast_behind, paren_behind, sizeof_behind, cond_goals}
-use Rattle.c_syntax_goals.specs.Goals.{Expr, Commas, Assign, Cond, Cast, Unary, CallTail, PostTail, Ended, Tail, First, Group, SizeofTail, SizeofGroup, Arguments, MoreArguments, Back, WantParen, WantBracket, WantColon, TypeWords, AfterShort, Stars}
+use Rattle.c_syntax_goals.specs.Goals.{Expr, Commas, Assign, Cond, Cast, Unary, CallTail, PostTail, Ended, Tail, First, Group, SizeofTail, SizeofGroup, Arguments, MoreArguments}
+use Rattle.c_syntax_goals.specs.Goals.{Back, WantParen, WantBracket, WantColon, TypeWords, AfterShort, Stars}
 use Rattle.c_syntax_goals.specs.Machine.{run}
 use Rattle.c_syntax_goals.proofs.Tokens.{single, token_of}
 use Rattle.c_syntax_goals.proofs.Steps.{Unset, NoSet, floor, floor_of, tail_binary, tail_assign, unary_prefix, unary_step, post_step}
@@ -148,7 +150,8 @@ insert_at (binary a q p b) op at e h = rw (not_less (level_of q) (level_of op) h
 insert_at (name n p) op at e h = refl
 insert_at l op at e h = refl
 
-insert_in : (l : AnExp) (q : BinaryOperator) (p : ℕ) (r : AnExp) (op : BinaryOperator) (at : ℕ) (e : AnExp) → level_of q < level_of op → insert (binary l q p r) op at e ≡ binary l q p (insert r op at e)
+insert_in : (l : AnExp) (q : BinaryOperator) (p : ℕ) (r : AnExp) (op : BinaryOperator) (at : ℕ) (e : AnExp) → level_of q < level_of op → insert (binary l q p r) op at e
+    ≡ binary l q p (insert r op at e)
 insert_in l q p r op at e lt = rw (less (level_of q) (level_of op) lt) refl
   where
     less : (j k : ℕ) → j < k → nat_lt j k ≡ true
@@ -225,7 +228,8 @@ module _ (L : ℕ → Bool) where
   law_words (specs.UnsignedChar at b) w h n κ = refl
   law_words (specs.UnsignedShort at b i) w h n κ = law_int i w h n (λ j. κ (specs.UnsignedShort at b j))
 
-  law_type : (t : TypeName) (w : List Placed) (n : ℕ) (κ : TypeName → Stack) → run L (type_goals κ) n (onto_type t (sign marks.CloseParenthesis 0 ∷ w)) ≡ run L (κ t) n (sign marks.CloseParenthesis 0 ∷ w)
+  law_type : (t : TypeName) (w : List Placed) (n : ℕ) (κ : TypeName → Stack) → run L (type_goals κ) n (onto_type t (sign marks.CloseParenthesis 0 ∷ w))
+      ≡ run L (κ t) n (sign marks.CloseParenthesis 0 ∷ w)
   law_type t w n κ = law_words t.spec _ (star_no_int t.stars _ (λ e. absurd (cc))) n (stars_then κ) ∙ law_stars L t.stars _ (λ e. absurd (cc)) n (λ ats. κ (record { spec = t.spec; stars = ats }))
 
   -- where an operand begins, with an assignment behind it or not
@@ -243,10 +247,12 @@ module _ (L : ℕ → Bool) where
   LawCast e = (κ : AnExp → Stack) (n : ℕ) (w : List Placed) → IsAt 13 e → LowExp L e n → Quiet 13 w → run L (Want Cast κ) n (onto_exp e w) ≡ run L (κ e) (after_exp e n) w
 
   abbrev pub LawRow : AnExp → Type 0
-  LawRow e = (k : ℕ) (F : AnExp → AnExp) → Extends k F → 3 ≤ k → (κ : AnExp → Stack) (n : ℕ) (w : List Placed) → IsAt k e → LowExp L e n → Quiet 13 w → run L (Want Cast (λ x. Want (Tail false (F x)) κ)) n (onto_exp e w) ≡ run L (Want (Tail false (F e)) κ) (after_exp e n) w
+  LawRow e = (k : ℕ) (F : AnExp → AnExp) → Extends k F → 3 ≤ k → (κ : AnExp → Stack) (n : ℕ) (w : List Placed) → IsAt k e → LowExp L e n → Quiet 13 w
+      → run L (Want Cast (λ x. Want (Tail false (F x)) κ)) n (onto_exp e w) ≡ run L (Want (Tail false (F e)) κ) (after_exp e n) w
 
   abbrev pub LawStart : AnExp → Type 0
-  LawStart e = (b : Bool) (κ : AnExp → Stack) (n : ℕ) (w : List Placed) → IsAt 3 e → LowExp L e n → Quiet 13 w → Unset w → run L (start b κ) n (onto_exp e w) ≡ run L (Want (Tail false e) κ) (after_exp e n) w
+  LawStart e = (b : Bool) (κ : AnExp → Stack) (n : ℕ) (w : List Placed) → IsAt 3 e → LowExp L e n → Quiet 13 w → Unset w → run L (start b κ) n (onto_exp e w)
+      ≡ run L (Want (Tail false e) κ) (after_exp e n) w
 
   abbrev pub LawCond : AnExp → Type 0
   LawCond e = (b : Bool) (κ : AnExp → Stack) (n : ℕ) (w : List Placed) → IsAt 2 e → LowExp L e n → Quiet 1 w → run L (start b κ) n (onto_exp e w) ≡ run L (κ e) (after_exp e n) w
@@ -373,7 +379,8 @@ module _ (L : ℕ → Bool) where
       ∙ h (λ x. κ (cast o t x)) (n + 1) w i.1 low.1 q
 
   cast_starting : (o : ℕ) (t : TypeName) (e : AnExp) → LawCast (cast o t e) → LawStart (cast o t e)
-  cast_starting o t e h true κ n w i low q s = assign_cast L n o κ (onto_type t (sign marks.CloseParenthesis 0 ∷ onto_exp e w)) (type_begins t.spec _) ∙ h (λ x. Want (Tail false x) κ) n w (omega arith, i.1) low q
+  cast_starting o t e h true κ n w i low q s = assign_cast L n o κ (onto_type t (sign marks.CloseParenthesis 0 ∷ onto_exp e w)) (type_begins t.spec _)
+      ∙ h (λ x. Want (Tail false x) κ) n w (omega arith, i.1) low q
   cast_starting o t e h false κ n w i low q s = h (λ x. Want (Tail false x) κ) n w (omega arith, i.1) low q
 
   law_row : (l : AnExp) (op : BinaryOperator) (at : ℕ) (r : AnExp) → LawRow l → LawRow r → LawRow (binary l op at r)
@@ -493,7 +500,8 @@ module _ (L : ℕ → Bool) where
   AllLaws no_exps = Unit {0}
   AllLaws (exps e es) = LawAssign e × AllLaws es
 
-  law_more_of : (es : SomeExps) → AllLaws es → (κ : SomeExps → Stack) (n : ℕ) (w : List Placed) → AllAt es → LowExps L es n → run L (Want MoreArguments κ) n (onto_others es (sign marks.CloseParenthesis 0 ∷ w)) ≡ run L (κ es) n w
+  law_more_of : (es : SomeExps) → AllLaws es → (κ : SomeExps → Stack) (n : ℕ) (w : List Placed) → AllAt es → LowExps L es n
+      → run L (Want MoreArguments κ) n (onto_others es (sign marks.CloseParenthesis 0 ∷ w)) ≡ run L (κ es) n w
   law_more_of no_exps h κ n w at low = refl
   law_more_of (exps e es) h κ n w at low =
       let next : AnExp → Stack = λ a. Want (Back n) (λ x. Want MoreArguments (λ fs. κ (exps a fs))) in
@@ -502,7 +510,8 @@ module _ (L : ℕ → Bool) where
       ∙ back L n (after_exp e n) (λ x. Want MoreArguments (λ fs. κ (exps e fs))) (onto_others es v)
       ∙ law_more_of es h.1 (λ fs. κ (exps e fs)) n w at.1 low.1
 
-  law_first_of : (es : SomeExps) → AllLaws es → (κ : SomeExps → Stack) (n : ℕ) (w : List Placed) → AllAt es → LowExps L es n → run L (Want Arguments κ) n (onto_first es (sign marks.CloseParenthesis 0 ∷ w)) ≡ run L (κ es) n w
+  law_first_of : (es : SomeExps) → AllLaws es → (κ : SomeExps → Stack) (n : ℕ) (w : List Placed) → AllAt es → LowExps L es n
+      → run L (Want Arguments κ) n (onto_first es (sign marks.CloseParenthesis 0 ∷ w)) ≡ run L (κ es) n w
   law_first_of no_exps h κ n w at low = refl
   law_first_of (exps e es) h κ n w at low =
       let next : AnExp → Stack = λ a. Want (Back n) (λ x. Want MoreArguments (λ fs. κ (exps a fs))) in
@@ -559,8 +568,10 @@ module _ (L : ℕ → Bool) where
   pub law_unary : (e : AnExp) (κ : AnExp → Stack) (n : ℕ) (w : List Placed) → IsAt 14 e → LowExp L e n → Quiet 13 w → run L (Want Unary κ) n (onto_exp e w) ≡ run L (κ e) (after_exp e n) w
   law_unary e κ n w i low q = (laws e).unary κ n w i low q
 
-  pub law_more : (es : SomeExps) (κ : SomeExps → Stack) (n : ℕ) (w : List Placed) → AllAt es → LowExps L es n → run L (Want MoreArguments κ) n (onto_others es (sign marks.CloseParenthesis 0 ∷ w)) ≡ run L (κ es) n w
+  pub law_more : (es : SomeExps) (κ : SomeExps → Stack) (n : ℕ) (w : List Placed) → AllAt es → LowExps L es n
+      → run L (Want MoreArguments κ) n (onto_others es (sign marks.CloseParenthesis 0 ∷ w)) ≡ run L (κ es) n w
   law_more es κ n w i low = law_more_of es (all_laws es) κ n w i low
 
-  pub law_first : (es : SomeExps) (κ : SomeExps → Stack) (n : ℕ) (w : List Placed) → AllAt es → LowExps L es n → run L (Want Arguments κ) n (onto_first es (sign marks.CloseParenthesis 0 ∷ w)) ≡ run L (κ es) n w
+  pub law_first : (es : SomeExps) (κ : SomeExps → Stack) (n : ℕ) (w : List Placed) → AllAt es → LowExps L es n
+      → run L (Want Arguments κ) n (onto_first es (sign marks.CloseParenthesis 0 ∷ w)) ≡ run L (κ es) n w
   law_first es κ n w i low = law_first_of es (all_laws es) κ n w i low

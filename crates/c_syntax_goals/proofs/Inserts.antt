@@ -14,7 +14,8 @@ chosen_text : (t : Bool) (x y : AnExp) (b : ℕ) (w v : List Opening) → levell
 chosen_text true x y b w v h k = h
 chosen_text false x y b w v h k = k
 
-pub insert_text : (l : AnExp) (op : BinaryOperator) (at : ℕ) (e : AnExp) (b : ℕ) (w : List Opening) → levelled_exp (insert l op at e) b w ≡ levelled_exp l b (opens (after_exp l b + 1) (sign (binary_mark op) at) ∷ levelled_exp e (after_exp l b + 1) w)
+pub insert_text : (l : AnExp) (op : BinaryOperator) (at : ℕ) (e : AnExp) (b : ℕ) (w : List Opening) → levelled_exp (insert l op at e) b w
+    ≡ levelled_exp l b (opens (after_exp l b + 1) (sign (binary_mark op) at) ∷ levelled_exp e (after_exp l b + 1) w)
 insert_text (binary l q p r) op at e b w =
     let m : ℕ = after_exp l b + 1 in
     chosen_text (nat_lt (level_of q) (level_of op)) (binary l q p (insert r op at e)) (binary (binary l q p r) op at e) b w _
@@ -39,7 +40,9 @@ less j k e = grind (arith, nat_tests)
 not_less : (j k : ℕ) → nat_lt j k ≡ false → k ≤ j
 not_less j k e = grind (arith, nat_tests)
 
-chosen_fits : (t : Bool) (j : ℕ) (l : AnExp) (q : BinaryOperator) (p : ℕ) (r : AnExp) (op : BinaryOperator) (at : ℕ) (e : AnExp) → nat_lt (level_of q) (level_of op) ≡ t → j ≤ level_of op → IsAt j (binary l q p r) → IsAt 13 e → (level_of q + 1 ≤ level_of op → IsAt (level_of q + 1) (insert r op at e)) → IsAt j (if t then binary l q p (insert r op at e) else binary (binary l q p r) op at e)
+chosen_fits : (t : Bool) (j : ℕ) (l : AnExp) (q : BinaryOperator) (p : ℕ) (r : AnExp) (op : BinaryOperator) (at : ℕ) (e : AnExp) → nat_lt (level_of q) (level_of op) ≡ t → j ≤ level_of op
+    → IsAt j (binary l q p r) → IsAt 13 e → (level_of q + 1 ≤ level_of op → IsAt (level_of q + 1) (insert r op at e))
+    → IsAt j (if t then binary l q p (insert r op at e) else binary (binary l q p r) op at e)
 chosen_fits true j l q p r op at e d le h k ih = (h.0, (h.1.0, ih (omega (arith, less (level_of q) (level_of op) d))))
 chosen_fits false j l q p r op at e d le h k ih = (le, ((not_less (level_of q) (level_of op) d, h.1), lower (level_of op + 1) 13 e (omega (arith, level_top op)) k))
 

@@ -7,13 +7,19 @@ use Rattle.c_phrases.specs.declared.operator.Storage.{Storage}
 use Rattle.c_phrases.specs.declared.operator.Storage.TheVariants as storages
 use Rattle.c_phrases.specs.declared.tree.TypeName.{TypeName}
 use Rattle.c_phrases.specs.declared.tree.Named.{Named}
-use Rattle.c_phrases.specs.Phrases.{AnExp, name, number, str, paren, call, index, step_after, step_before, prefix, sizeof_exp, sizeof_type, cast, binary, choice, assign, comma, SomeExps, no_exps, exps, after_exp}
-use Rattle.c_phrases.specs.Units.{ALength, AnInit, value, elements, AnInitialised, ADeclarator, ALocal, AStatement, block, empty, expression, break_off, continue_on, give_back, if_then, if_else, while_loop, do_loop, for_loop}
+use Rattle.c_phrases.specs.Phrases.{AnExp, name, number, str, paren, call, index, step_after, step_before, prefix, sizeof_exp, sizeof_type, cast, binary, choice, assign, comma}
+use Rattle.c_phrases.specs.Phrases.{SomeExps, no_exps, exps, after_exp}
+use Rattle.c_phrases.specs.Units.{ALength, AnInit, value, elements, AnInitialised, ADeclarator, ALocal, AStatement, block, empty, expression, break_off, continue_on, give_back}
+use Rattle.c_phrases.specs.Units.{if_then, if_else, while_loop, do_loop, for_loop}
 use Rattle.c_phrases.specs.Units.{SomeItems, no_items, local_item, statement_item, AParam, SomeParams, no_params, void_word, params, ADeclared, function, globals, AnExternal, AUnit}
-use Rattle.c_syntax_goals.specs.Openings.{Opening, levelled, levelled_int, levelled_spec, levelled_stars, levelled_type, levelled_exp, levelled_first, levelled_others, levelled_part, levelled_length, levelled_trailing, levelled_init, levelled_initialised}
-use Rattle.c_syntax_goals.specs.Openings.{levelled_declarator, levelled_more_declarators, levelled_declarators, levelled_storage, levelled_local, levelled_condition, levelled_statement, levelled_items, levelled_named, levelled_param, levelled_more_params, levelled_params, levelled_body, levelled_declared, levelled_static, levelled_externals}
+use Rattle.c_syntax_goals.specs.Openings.{Opening, levelled, levelled_int, levelled_spec, levelled_stars, levelled_type, levelled_exp, levelled_first, levelled_others}
+use Rattle.c_syntax_goals.specs.Openings.{levelled_part, levelled_length, levelled_trailing, levelled_init, levelled_initialised}
+use Rattle.c_syntax_goals.specs.Openings.{levelled_declarator, levelled_more_declarators, levelled_declarators, levelled_storage, levelled_local, levelled_condition}
+use Rattle.c_syntax_goals.specs.Openings.{levelled_statement, levelled_items, levelled_named, levelled_param, levelled_more_params, levelled_params, levelled_body}
+use Rattle.c_syntax_goals.specs.Openings.{levelled_declared, levelled_static, levelled_externals}
 use Rattle.c_phrases.specs.Levels.{LowExp, LowExps, limit}
-use Rattle.c_phrases.specs.Fits.{LowPart, LowLength, LowInit, LowInitialised, LowDeclarator, LowDeclarators, LowCondition, LowStatement, LowItems, LowParams, LowSomeParams, LowBody, LowDeclared, LowExternals}
+use Rattle.c_phrases.specs.Fits.{LowPart, LowLength, LowInit, LowInitialised, LowDeclarator, LowDeclarators, LowCondition, LowStatement, LowItems, LowParams, LowSomeParams}
+use Rattle.c_phrases.specs.Fits.{LowBody, LowDeclared, LowExternals}
 use Rattle.c_syntax_goals.specs.Refusals.{NoneDeep}
 
 -- from the phrases to the tokens
@@ -117,7 +123,14 @@ mutual
   low_statement (if_else at o e s other t) n w k h = (k.0, low_condition o e (n + 1) _ k.1.0 (low_statement s (n + 1) _ k.1.1.0 (refl, low_statement t (n + 1) w k.1.1.1 h)))
   low_statement (while_loop at o e s) n w k h = (k.0, low_condition o e (n + 1) _ k.1.0 (low_statement s (n + 1) w k.1.1 h))
   low_statement (do_loop at s again o e) n w k h = (k.0, low_statement s (n + 1) _ k.1.0 (refl, low_condition o e (n + 1) _ k.1.1 (refl, h)))
-  low_statement (for_loop at o a b d s) n w k h = (k.0, (k.1.0, low_part a (n + 1 + 1) _ k.1.1.0 (refl, low_part b (n + 1 + 1) _ k.1.1.1.0 (refl, low_part d (n + 1 + 1) _ k.1.1.1.1.0 (refl, low_statement s (n + 1) w k.1.1.1.1.1 h)))))
+  low_statement (for_loop at o a b d s) n w k h = (
+    k.0,
+    (
+      k.1.0,
+      low_part a (n + 1 + 1) _ k.1.1.0
+          (refl, low_part b (n + 1 + 1) _ k.1.1.1.0 (refl, low_part d (n + 1 + 1) _ k.1.1.1.1.0 (refl, low_statement s (n + 1) w k.1.1.1.1.1 h))),
+    ),
+  )
 
   low_items : (is : SomeItems) (n : ℕ) (w : List Opening) → LowItems limit is n → NoneDeep w → NoneDeep (levelled_items is n w)
   low_items no_items n w k h = h

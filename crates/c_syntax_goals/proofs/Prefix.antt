@@ -4,11 +4,14 @@ use Rattle.std.specs.Prelude.{Option, Some, None, Result, Ok, Err, if◌then◌e
 use Rattle.c_syntax_goals.specs.declared.fault.Fault.{Fault}
 use Rattle.c_syntax_goals.specs.declared.fault.Fault.TheVariants.{NoMemory, NotHere, TooDeep}
 use Rattle.c_phrases.specs.Classes.{Placed, class_of}
-use Rattle.c_phrases.specs.Phrases.{AnExp, name, number, str, paren, call, index, step_after, step_before, prefix, sizeof_exp, sizeof_type, cast, binary, choice, assign, comma, SomeExps, no_exps, exps, after_exp}
+use Rattle.c_phrases.specs.Phrases.{AnExp, name, number, str, paren, call, index, step_after, step_before, prefix, sizeof_exp, sizeof_type, cast, binary, choice, assign, comma}
+use Rattle.c_phrases.specs.Phrases.{SomeExps, no_exps, exps, after_exp}
 use Rattle.c_phrases.specs.Levels.{LowExp, LowExps, free, limit}
-use Rattle.c_phrases.specs.Units.{ALength, AnInit, value, elements, AnInitialised, ADeclarator, ALocal, AStatement, block, empty, expression, break_off, continue_on, give_back, if_then, if_else, while_loop, do_loop, for_loop}
+use Rattle.c_phrases.specs.Units.{ALength, AnInit, value, elements, AnInitialised, ADeclarator, ALocal, AStatement, block, empty, expression, break_off, continue_on, give_back}
+use Rattle.c_phrases.specs.Units.{if_then, if_else, while_loop, do_loop, for_loop}
 use Rattle.c_phrases.specs.Units.{SomeItems, no_items, local_item, statement_item, AParam, SomeParams, no_params, void_word, params, ADeclared, function, globals, AnExternal, AUnit, unit_tokens}
-use Rattle.c_phrases.specs.Fits.{ExternalsFit, LowPart, LowLength, LowInit, LowInitialised, LowDeclarator, LowDeclarators, LowCondition, LowStatement, LowItems, LowParams, LowSomeParams, LowBody, LowDeclared, LowExternals}
+use Rattle.c_phrases.specs.Fits.{ExternalsFit, LowPart, LowLength, LowInit, LowInitialised, LowDeclarator, LowDeclarators, LowCondition, LowStatement, LowItems, LowParams}
+use Rattle.c_phrases.specs.Fits.{LowSomeParams, LowBody, LowDeclared, LowExternals}
 use Rattle.c_syntax_goals.specs.Goals.{Stack, Done, Want, Goal, Val, Step, Takes, Opens, Finishes, Refuses, Turn, Steps, Passes, turn, Whole}
 use Rattle.c_syntax_goals.specs.Machine.{Next, Goes, Ends, Deep, Stuck, closing, at_end, on, made, pick, next, run}
 use Rattle.c_syntax_goals.proofs.Stating.{law_unit}
@@ -47,14 +50,17 @@ module _ (L : ℕ → Bool) where
   at_most s n [] = omega arith
   at_most s n (t ∷ ts) = at_most_on (next L s t n) ts (λ r m. at_most r m ts)
 
-  prefix_on : (x : Next) (post w : List Placed) → left_of (on x post (λ s m. run L s m post)) ≡ suc (length post) → ((s : Stack) (m : ℕ) → left_of (run L s m post) ≤ length post) → on x w (λ s m. run L s m w) ≡ moved (on x post (λ s m. run L s m post)) (suc (length w))
+  prefix_on : (x : Next) (post w : List Placed) → left_of (on x post (λ s m. run L s m post)) ≡ suc (length post) → ((s : Stack) (m : ℕ) → left_of (run L s m post) ≤ length post)
+      → on x w (λ s m. run L s m w) ≡ moved (on x post (λ s m. run L s m post)) (suc (length w))
   prefix_on (Goes s m) post w e h = absurd (omega (arith, e, h s m))
   prefix_on Deep post w e h = refl
   prefix_on Stuck post w e h = refl
   prefix_on (Ends s) [] w e h = absurd (omega (arith, e, closes_none s))
   prefix_on (Ends s) (t ∷ post) w e h = absurd (omega (arith, e))
 
-  prefix_step : (x : Next) (pre : List Placed) (bad : Placed) (post w : List Placed) → left_of (on x (pre ++ bad ∷ post) (λ s m. run L s m (pre ++ bad ∷ post))) ≡ suc (length post) → ((s : Stack) (m : ℕ) → left_of (run L s m (pre ++ bad ∷ post)) ≡ suc (length post) → run L s m (pre ++ bad ∷ w) ≡ moved (run L s m (pre ++ bad ∷ post)) (suc (length w))) → on x (pre ++ bad ∷ w) (λ s m. run L s m (pre ++ bad ∷ w)) ≡ moved (on x (pre ++ bad ∷ post) (λ s m. run L s m (pre ++ bad ∷ post))) (suc (length w))
+  prefix_step : (x : Next) (pre : List Placed) (bad : Placed) (post w : List Placed) → left_of (on x (pre ++ bad ∷ post) (λ s m. run L s m (pre ++ bad ∷ post))) ≡ suc (length post)
+      → ((s : Stack) (m : ℕ) → left_of (run L s m (pre ++ bad ∷ post)) ≡ suc (length post) → run L s m (pre ++ bad ∷ w) ≡ moved (run L s m (pre ++ bad ∷ post)) (suc (length w)))
+      → on x (pre ++ bad ∷ w) (λ s m. run L s m (pre ++ bad ∷ w)) ≡ moved (on x (pre ++ bad ∷ post) (λ s m. run L s m (pre ++ bad ∷ post))) (suc (length w))
   prefix_step (Goes s m) pre bad post w e ih = ih s m e
   prefix_step Deep pre bad post w e ih = absurd (omega (arith, e, longer pre (bad ∷ post)))
   prefix_step Stuck pre bad post w e ih = absurd (omega (arith, e, longer pre (bad ∷ post)))
@@ -62,7 +68,8 @@ module _ (L : ℕ → Bool) where
   prefix_step (Ends s) (p ∷ pre) bad post w e ih = absurd (omega (arith, e, longer pre (bad ∷ post)))
 
   -- whatever stands behind the token of a fault, the fault is there
-  pub prefix_law : (pre : List Placed) (bad : Placed) (post w : List Placed) (s : Stack) (n : ℕ) → left_of (run L s n (pre ++ bad ∷ post)) ≡ suc (length post) → run L s n (pre ++ bad ∷ w) ≡ moved (run L s n (pre ++ bad ∷ post)) (suc (length w))
+  pub prefix_law : (pre : List Placed) (bad : Placed) (post w : List Placed) (s : Stack) (n : ℕ) → left_of (run L s n (pre ++ bad ∷ post)) ≡ suc (length post) → run L s n (pre ++ bad ∷ w)
+      ≡ moved (run L s n (pre ++ bad ∷ post)) (suc (length w))
   prefix_law [] bad post w s n e = prefix_on (next L s bad n) post w e (λ r m. at_most r m post)
   prefix_law (t ∷ pre) bad post w s n e = prefix_step (next L s t n) pre bad post w e (λ r m. prefix_law pre bad post w r m)
 
@@ -181,13 +188,15 @@ deep_not_here j k e = absurd (cc)
 no_deep_here : (ts : List Placed) (k : ℕ) (x y : Result AUnit Fault) → x ≡ Err (TooDeep (suc (length ts))) → y ≡ Err (NotHere k) → x ≡ y → ⊥
 no_deep_here ts k x y d e h = deep_not_here (suc (length ts)) k (fault_of _ _ x y d e h)
 
-free_on : (x : Next) (ts : List Placed) (k : ℕ) → on x ts (λ s m. run limit s m ts) ≡ Err (NotHere k) → ((s : Stack) (m : ℕ) → run limit s m ts ≡ Err (NotHere k) → run free s m ts ≡ Err (NotHere k)) → on x ts (λ s m. run free s m ts) ≡ Err (NotHere k)
+free_on : (x : Next) (ts : List Placed) (k : ℕ) → on x ts (λ s m. run limit s m ts) ≡ Err (NotHere k)
+    → ((s : Stack) (m : ℕ) → run limit s m ts ≡ Err (NotHere k) → run free s m ts ≡ Err (NotHere k)) → on x ts (λ s m. run free s m ts) ≡ Err (NotHere k)
 free_on (Goes s m) ts k e ih = ih s m e
 free_on (Ends s) ts k e ih = e
 free_on Deep ts k e ih = absurd (no_deep_here ts k _ _ refl refl e)
 free_on Stuck ts k e ih = e
 
-free_of : (x y : Next) (ts : List Placed) (k : ℕ) → (x ≡ Deep) ⊎ (x ≡ y) → on x ts (λ s m. run limit s m ts) ≡ Err (NotHere k) → ((s : Stack) (m : ℕ) → run limit s m ts ≡ Err (NotHere k) → run free s m ts ≡ Err (NotHere k)) → on y ts (λ s m. run free s m ts) ≡ Err (NotHere k)
+free_of : (x y : Next) (ts : List Placed) (k : ℕ) → (x ≡ Deep) ⊎ (x ≡ y) → on x ts (λ s m. run limit s m ts) ≡ Err (NotHere k)
+    → ((s : Stack) (m : ℕ) → run limit s m ts ≡ Err (NotHere k) → run free s m ts ≡ Err (NotHere k)) → on y ts (λ s m. run free s m ts) ≡ Err (NotHere k)
 free_of x y ts k (inl d) e ih = absurd (no_deep_here ts k _ _ refl refl (subst (λ (z : Next). on z ts (λ s m. run limit s m ts) ≡ Err (NotHere k)) d e))
 free_of x y ts k (inr d) e ih = subst (λ (z : Next). on z ts (λ s m. run free s m ts) ≡ Err (NotHere k)) d (free_on x ts k e ih)
 
@@ -199,10 +208,12 @@ pub no_ok : (u : AUnit) (f : Fault) → Ok u ≡ Err f → ⊥
 no_ok u f e = absurd (cc)
 
 -- no unit, of any level, begins with the tokens up to the fault's own
-pub no_unit_begins : (pre : List Placed) (bad : Placed) (post : List Placed) → run limit (Want Whole Done) 0 (pre ++ bad ∷ post) ≡ Err (NotHere (suc (length post))) → (u : AUnit) (w : List Placed) → ExternalsFit u.externals → unit_tokens u ≡ pre ++ bad ∷ w → ⊥
+pub no_unit_begins : (pre : List Placed) (bad : Placed) (post : List Placed) → run limit (Want Whole Done) 0 (pre ++ bad ∷ post) ≡ Err (NotHere (suc (length post)))
+    → (u : AUnit) (w : List Placed) → ExternalsFit u.externals → unit_tokens u ≡ pre ++ bad ∷ w → ⊥
 no_unit_begins pre bad post e u w fits text =
     let f : run free (Want Whole Done) 0 (pre ++ bad ∷ post) ≡ Err (NotHere (suc (length post))) = free_here (Want Whole Done) 0 (pre ++ bad ∷ post) (suc (length post)) e in
-    let g : run free (Want Whole Done) 0 (pre ++ bad ∷ w) ≡ moved (run free (Want Whole Done) 0 (pre ++ bad ∷ post)) (suc (length w)) = prefix_law free pre bad post w (Want Whole Done) 0 (ap left_of f) in
+    let g : run free (Want Whole Done) 0 (pre ++ bad ∷ w) ≡ moved (run free (Want Whole Done) 0 (pre ++ bad ∷ post)) (suc (length w)) =
+    prefix_law free pre bad post w (Want Whole Done) 0 (ap left_of f) in
     let h : run free (Want Whole Done) 0 (unit_tokens u) ≡ Ok u = law_unit free u fits (low_externals u.externals) in
     no_ok u (NotHere (suc (length w))) (sym h ∙ ap (run free (Want Whole Done) 0) text ∙ g ∙ ap (λ (x : Result AUnit Fault). moved x (suc (length w))) f)
 
@@ -212,9 +223,11 @@ no_unit_is ts e u fits text =
     no_ok u (NotHere 0) (sym (law_unit free u fits (low_externals u.externals)) ∙ ap (run free (Want Whole Done) 0) text ∙ free_here (Want Whole Done) 0 ts 0 e)
 
 -- each unit that begins with the tokens up to the fault's own opens a level past the limit
-pub too_deep_begins : (pre : List Placed) (bad : Placed) (post : List Placed) → run limit (Want Whole Done) 0 (pre ++ bad ∷ post) ≡ Err (TooDeep (suc (length post))) → (u : AUnit) (w : List Placed) → ExternalsFit u.externals → LowExternals limit u.externals → unit_tokens u ≡ pre ++ bad ∷ w → ⊥
+pub too_deep_begins : (pre : List Placed) (bad : Placed) (post : List Placed) → run limit (Want Whole Done) 0 (pre ++ bad ∷ post) ≡ Err (TooDeep (suc (length post)))
+    → (u : AUnit) (w : List Placed) → ExternalsFit u.externals → LowExternals limit u.externals → unit_tokens u ≡ pre ++ bad ∷ w → ⊥
 too_deep_begins pre bad post e u w fits low text =
-    let g : run limit (Want Whole Done) 0 (pre ++ bad ∷ w) ≡ moved (run limit (Want Whole Done) 0 (pre ++ bad ∷ post)) (suc (length w)) = prefix_law limit pre bad post w (Want Whole Done) 0 (ap left_of e) in
+    let g : run limit (Want Whole Done) 0 (pre ++ bad ∷ w) ≡ moved (run limit (Want Whole Done) 0 (pre ++ bad ∷ post)) (suc (length w)) =
+    prefix_law limit pre bad post w (Want Whole Done) 0 (ap left_of e) in
     let h : run limit (Want Whole Done) 0 (unit_tokens u) ≡ Ok u = law_unit limit u fits low in
     no_ok u (TooDeep (suc (length w))) (sym h ∙ ap (run limit (Want Whole Done) 0) text ∙ g ∙ ap (λ (x : Result AUnit Fault). moved x (suc (length w))) e)
 
@@ -225,5 +238,6 @@ pub ok_of : (a b : AUnit) (x y : Result AUnit Fault) → x ≡ Ok a → y ≡ Ok
 ok_of a b x y d e h = cc
 
 -- a unit's tokens are read as that unit alone
-pub same_unit : (ts : List Placed) (u v : AUnit) → ExternalsFit u.externals → LowExternals limit u.externals → ts ≡ unit_tokens u → ExternalsFit v.externals → LowExternals limit v.externals → ts ≡ unit_tokens v → u ≡ v
+pub same_unit : (ts : List Placed) (u v : AUnit) → ExternalsFit u.externals → LowExternals limit u.externals → ts ≡ unit_tokens u → ExternalsFit v.externals
+    → LowExternals limit v.externals → ts ≡ unit_tokens v → u ≡ v
 same_unit ts u v fu lu eu fv lv ev = ok_of u v (Ok u) (Ok v) refl refl (sym (law_unit limit u fu lu) ∙ ap (run limit (Want Whole Done) 0) (sym eu ∙ ev) ∙ law_unit limit v fv lv)

@@ -50,11 +50,13 @@ spelled c.End t = record { kind = token.End; at = t.at }
 spelled k t = t
 
 -- a token as the phrases see it is so spelled
-key_spelled : (k : Key) (a : ℕ) → spelled (key_class k) (record { kind = token.Key k; at = if is_kept (key_class k) then a else 0 }) ≡ record { kind = token.Key k; at = if is_kept (key_class k) then a else 0 }
+key_spelled : (k : Key) (a : ℕ) → spelled (key_class k) (record { kind = token.Key k; at = if is_kept (key_class k) then a else 0 })
+    ≡ record { kind = token.Key k; at = if is_kept (key_class k) then a else 0 }
 key_spelled keys.Int a = refl
 key_spelled k a = refl
 
-mark_spelled : (m : Mark) (a : ℕ) → spelled (mark_class m) (record { kind = token.Mark m; at = if is_kept (mark_class m) then a else 0 }) ≡ record { kind = token.Mark m; at = if is_kept (mark_class m) then a else 0 }
+mark_spelled : (m : Mark) (a : ℕ) → spelled (mark_class m) (record { kind = token.Mark m; at = if is_kept (mark_class m) then a else 0 })
+    ≡ record { kind = token.Mark m; at = if is_kept (mark_class m) then a else 0 }
 mark_spelled marks.OpenBrace a = refl
 mark_spelled m a = refl
 

@@ -15,17 +15,25 @@ use Rattle.c_phrases.specs.Classes.{Placed, Class, class_of, mark_class, word, s
 use Rattle.c_phrases.specs.Classes as c
 use Rattle.c_phrases.specs.Phrases.{AnExp, SomeExps, no_exps, exps, onto_int, onto_spec, onto_stars, onto_name, onto_exp, onto_first, onto_others, after_exp, IsAt, AllAt}
 use Rattle.c_phrases.specs.Levels.{LowExp, LowExps, free, limit}
-use Rattle.c_phrases.specs.Units.{ALength, AnInit, value, elements, AnInitialised, ADeclarator, ALocal, AStatement, block, empty, expression, break_off, continue_on, give_back, if_then, if_else, while_loop, do_loop, for_loop}
+use Rattle.c_phrases.specs.Units.{ALength, AnInit, value, elements, AnInitialised, ADeclarator, ALocal, AStatement, block, empty, expression, break_off, continue_on, give_back}
+use Rattle.c_phrases.specs.Units.{if_then, if_else, while_loop, do_loop, for_loop}
 use Rattle.c_phrases.specs.Units.{SomeItems, no_items, local_item, statement_item, AParam, SomeParams, no_params, void_word, params, AFunction, ADeclared, function, globals, AnExternal, AUnit}
-use Rattle.c_phrases.specs.Units.{onto_part, onto_length, onto_trailing, onto_init, onto_initialised, onto_declarator, onto_more_declarators, onto_declarators, onto_storage, onto_local, onto_condition, onto_statement, onto_items}
+use Rattle.c_phrases.specs.Units.{onto_part, onto_length, onto_trailing, onto_init, onto_initialised, onto_declarator, onto_more_declarators, onto_declarators, onto_storage}
+use Rattle.c_phrases.specs.Units.{onto_local, onto_condition, onto_statement, onto_items}
 use Rattle.c_phrases.specs.Units.{onto_named, onto_param, onto_more_params, onto_param_list, onto_params, onto_body, onto_declared, onto_static, onto_external, onto_externals, unit_tokens}
-use Rattle.c_phrases.specs.Fits.{PartFits, LengthFits, IsSome, InitFits, InitialisedFits, DeclaratorFits, DeclaratorsFit, HasDeclarator, LocalFits, IsShut, StatementFits, ItemsFit, ParamFits, ParamsFit, IsVoid, IsBare, SomeParamsFit, BodyFits, DeclaredFits, ExternalsFit}
-use Rattle.c_phrases.specs.Fits.{LowPart, LowLength, LowInit, LowInitialised, LowDeclarator, LowDeclarators, LowCondition, LowStatement, LowItems, LowParams, LowSomeParams, LowBody, LowDeclared, LowExternals}
+use Rattle.c_phrases.specs.Fits.{PartFits, LengthFits, IsSome, InitFits, InitialisedFits, DeclaratorFits, DeclaratorsFit, HasDeclarator, LocalFits, IsShut, StatementFits, ItemsFit}
+use Rattle.c_phrases.specs.Fits.{ParamFits, ParamsFit, IsVoid, IsBare, SomeParamsFit, BodyFits, DeclaredFits, ExternalsFit}
+use Rattle.c_phrases.specs.Fits.{LowPart, LowLength, LowInit, LowInitialised, LowDeclarator, LowDeclarators, LowCondition, LowStatement, LowItems, LowParams, LowSomeParams}
+use Rattle.c_phrases.specs.Fits.{LowBody, LowDeclared, LowExternals}
 use Rattle.c_phrases.specs.Fronts.{Quiet, IsNot, strength, mark_strength}
 use Rattle.c_phrases.specs.Fronts.{StandsBefore, LocalClass, BeginsLocal}
 use Rattle.c_syntax_goals.specs.Goals as Goals
-use Rattle.c_syntax_goals.specs.Goals.{Stack, Done, Want, Steps, Takes, Passes, Opens, turn, declarator_goals, declarator_behind, globals_behind, if_goals, while_goals, do_goals, for_goals, local_rest, item_local, param_goals, param_behind, lone_param, some_params, function_behind, declared_goals, external_rest, before, cond_goals}
-use Rattle.c_syntax_goals.specs.Goals.{Expr, Assign, Back, WantBracket, WantParen, WantSemi, WantWhile, TypeWords, Stars, Condition, Statement, Items, PartSemi, PartParen, ForOpen, ElsePart, Local, DeclaratorName, ArrayPart, Length, InitPart, Init, Elements, InitMore, InitNext, MoreDeclarators, DeclaredName, AfterName, Body, Params, OptName, MoreParams, External, Whole}
+use Rattle.c_syntax_goals.specs.Goals.{Stack, Done, Want, Steps, Takes, Passes, Opens, turn, declarator_goals, declarator_behind, globals_behind, if_goals, while_goals, do_goals}
+use Rattle.c_syntax_goals.specs.Goals.{for_goals, local_rest, item_local, param_goals, param_behind, lone_param, some_params, function_behind, declared_goals, external_rest}
+use Rattle.c_syntax_goals.specs.Goals.{before, cond_goals}
+use Rattle.c_syntax_goals.specs.Goals.{Expr, Assign, Back, WantBracket, WantParen, WantSemi, WantWhile, TypeWords, Stars, Condition, Statement, Items, PartSemi, PartParen, ForOpen}
+use Rattle.c_syntax_goals.specs.Goals.{ElsePart, Local, DeclaratorName, ArrayPart, Length, InitPart, Init, Elements, InitMore, InitNext, MoreDeclarators, DeclaredName, AfterName}
+use Rattle.c_syntax_goals.specs.Goals.{Body, Params, OptName, MoreParams, External, Whole}
 use Rattle.c_syntax_goals.specs.Machine.{run, closing, made, pick}
 use Rattle.c_syntax_goals.proofs.Tokens.{single, token_of}
 use Rattle.c_syntax_goals.proofs.Steps.{step_opens, back, law_stars}
@@ -84,19 +92,25 @@ init_value_by : (k : Class) → (k ≢ c.OpenBrace) → (t : Placed) (n : ℕ) (
 init_value_by c.OpenBrace h t n κ = absurd (h refl)
 init_value_by k h t n κ = refl
 
-init_next_by : (k : Class) → (k ≢ c.CloseBrace) → (t : Placed) (n : ℕ) (κ : SomeExps × Bool → Stack) → Goals.init_next_step k t n κ ≡ Goals.assign_step k t n (λ a. Want (Back n) (λ x. Want InitMore (λ r. κ (exps a r.0, r.1))))
+init_next_by : (k : Class) → (k ≢ c.CloseBrace) → (t : Placed) (n : ℕ) (κ : SomeExps × Bool → Stack) → Goals.init_next_step k t n κ
+    ≡ Goals.assign_step k t n (λ a. Want (Back n) (λ x. Want InitMore (λ r. κ (exps a r.0, r.1))))
 init_next_by c.CloseBrace h t n κ = absurd (h refl)
 init_next_by k h t n κ = refl
 
-part_semi_by : (k : Class) → (k ≢ c.Semicolon) → (t : Placed) (n : ℕ) (κ : Option AnExp → Stack) → Goals.part_semi_step k t n κ ≡ Goals.expr_step k t n (λ e. Want (Back n) (λ x. Want WantSemi (λ y. κ (Some e))))
+part_semi_by : (k : Class) → (k ≢ c.Semicolon) → (t : Placed) (n : ℕ) (κ : Option AnExp → Stack) → Goals.part_semi_step k t n κ
+    ≡ Goals.expr_step k t n (λ e. Want (Back n) (λ x. Want WantSemi (λ y. κ (Some e))))
 part_semi_by c.Semicolon h t n κ = absurd (h refl)
 part_semi_by k h t n κ = refl
 
-part_paren_by : (k : Class) → (k ≢ c.CloseParen) → (t : Placed) (n : ℕ) (κ : Option AnExp → Stack) → Goals.part_paren_step k t n κ ≡ Goals.expr_step k t n (λ e. Want (Back n) (λ x. Want WantParen (λ y. κ (Some e))))
+part_paren_by : (k : Class) → (k ≢ c.CloseParen) → (t : Placed) (n : ℕ) (κ : Option AnExp → Stack) → Goals.part_paren_step k t n κ
+    ≡ Goals.expr_step k t n (λ e. Want (Back n) (λ x. Want WantParen (λ y. κ (Some e))))
 part_paren_by c.CloseParen h t n κ = absurd (h refl)
 part_paren_by k h t n κ = refl
 
-after_name_by : (k : Class) → (k ≢ c.OpenParen) → (t : Placed) (n : ℕ) (ats f : List ℕ) (at : ℕ) (κ : ADeclared → Stack) (L : ℕ → Bool) → made L (Goals.after_name_step k t n ats f at κ) n ≡ pick L (Goals.array_turn k t n (λ l. Want InitPart (λ i. globals_behind κ (record { stars = ats; name = f; at = at; length = l; init = i })))) n (λ m v. pick L (Goals.init_part_turn k t m (λ i. globals_behind κ (record { stars = ats; name = f; at = at; length = v; init = i }))) m (λ j w. made L (Goals.more_declarators_step k (λ ds. κ (globals (record { stars = ats; name = f; at = at; length = v; init = w } ∷ ds)))) j))
+after_name_by : (k : Class) → (k ≢ c.OpenParen) → (t : Placed) (n : ℕ) (ats f : List ℕ) (at : ℕ) (κ : ADeclared → Stack) (L : ℕ → Bool) → made L (Goals.after_name_step k t n ats f at κ) n
+    ≡ pick L (Goals.array_turn k t n (λ l. Want InitPart (λ i. globals_behind κ (record { stars = ats; name = f; at = at; length = l; init = i })))) n
+    (λ m v. pick L (Goals.init_part_turn k t m (λ i. globals_behind κ (record { stars = ats; name = f; at = at; length = v; init = i }))) m
+    (λ j w. made L (Goals.more_declarators_step k (λ ds. κ (globals (record { stars = ats; name = f; at = at; length = v; init = w } ∷ ds)))) j))
 after_name_by c.OpenParen h t n ats f at κ L = absurd (h refl)
 after_name_by k h t n ats f at κ L = refl
 
@@ -208,7 +222,8 @@ items_by c.Unsigned h t n κ = absurd h
 items_by c.CloseBrace h t n κ = absurd h
 items_by k h t n κ = refl
 
-statement_by : (k : Class) → StartClass k → (t : Placed) (n : ℕ) (κ : AStatement → Stack) → Goals.statement_step k t n κ ≡ Goals.expr_step k t n (λ e. Want (Back n) (λ x. Want WantSemi (λ y. κ (expression e))))
+statement_by : (k : Class) → StartClass k → (t : Placed) (n : ℕ) (κ : AStatement → Stack) → Goals.statement_step k t n κ
+    ≡ Goals.expr_step k t n (λ e. Want (Back n) (λ x. Want WantSemi (λ y. κ (expression e))))
 statement_by c.OpenBrace h t n κ = absurd h
 statement_by c.If h t n κ = absurd h
 statement_by c.While h t n κ = absurd h
@@ -259,7 +274,8 @@ not_else_of : (s : AStatement) (w : List Placed) → (IsShut s → ⊥) → Stan
 not_else_of s w h (inl i) = absurd (h i)
 not_else_of s w h (inr i) = i
 
-lone_is : (s : Spec) (ats : List ℕ) (m : Option Named) (l : Option ALength) → (IsBare (record { spec = s; stars = ats; name = m; length = l }) → ⊥) → lone_param s ats m l ≡ params (record { spec = s; stars = ats; name = m; length = l } ∷ [])
+lone_is : (s : Spec) (ats : List ℕ) (m : Option Named) (l : Option ALength) → (IsBare (record { spec = s; stars = ats; name = m; length = l }) → ⊥) → lone_param s ats m l
+    ≡ params (record { spec = s; stars = ats; name = m; length = l } ∷ [])
 lone_is (specs.Void at) [] None None h = absurd (h (tt, (refl, (refl, refl))))
 lone_is (specs.Void at) [] None (Some l) h = refl
 lone_is (specs.Void at) [] (Some m) l h = refl
@@ -276,35 +292,43 @@ module _ (L : ℕ → Bool) where
   pass_init n κ [] h = refl
   pass_init n κ (t ∷ ts) h = rw (init_by (class_of t.kind) (λ e. h (single t.kind (token.Mark marks.Assign) (ap token_of e))) t n κ) refl
 
-  pub pass_else : (n at o : ℕ) (e : AnExp) (s : AStatement) (κ : AStatement → Stack) (ts : List Placed) → IsNot (token.Key keys.Else) ts → run L (Want (ElsePart at o e s) κ) n ts ≡ run L (κ (if_then at o e s)) n ts
+  pub pass_else : (n at o : ℕ) (e : AnExp) (s : AStatement) (κ : AStatement → Stack) (ts : List Placed) → IsNot (token.Key keys.Else) ts → run L (Want (ElsePart at o e s) κ) n ts
+      ≡ run L (κ (if_then at o e s)) n ts
   pass_else n at o e s κ [] h = refl
   pass_else n at o e s κ (t ∷ ts) h = rw (else_by (class_of t.kind) (λ e. h (single t.kind (token.Key keys.Else) (ap token_of e))) t n at o e s κ) refl
 
-  pub expand_length : (n : ℕ) (κ : Option AnExp → Stack) (ts : List Placed) → IsNot (token.Mark marks.CloseBracket) ts → run L (Want Length κ) n ts ≡ run L (cond_goals (λ e. Want WantBracket (λ x. κ (Some e)))) n ts
+  pub expand_length : (n : ℕ) (κ : Option AnExp → Stack) (ts : List Placed) → IsNot (token.Mark marks.CloseBracket) ts → run L (Want Length κ) n ts
+      ≡ run L (cond_goals (λ e. Want WantBracket (λ x. κ (Some e)))) n ts
   expand_length n κ [] h = refl
   expand_length n κ (t ∷ ts) h = rw (length_by (class_of t.kind) (λ e. h (single t.kind (token.Mark marks.CloseBracket) (ap token_of e))) t n κ) refl
 
-  pub expand_init : (n : ℕ) (κ : AnInit → Stack) (ts : List Placed) → IsNot (token.Mark marks.OpenBrace) ts → run L (Want Init κ) n ts ≡ run L (Want Assign (λ a. Want (Back n) (λ x. κ (value a)))) n ts
+  pub expand_init : (n : ℕ) (κ : AnInit → Stack) (ts : List Placed) → IsNot (token.Mark marks.OpenBrace) ts → run L (Want Init κ) n ts
+      ≡ run L (Want Assign (λ a. Want (Back n) (λ x. κ (value a)))) n ts
   expand_init n κ [] h = refl
   expand_init n κ (t ∷ ts) h = rw (init_value_by (class_of t.kind) (λ e. h (single t.kind (token.Mark marks.OpenBrace) (ap token_of e))) t n κ) refl
 
-  pub expand_elements : (n : ℕ) (κ : AnInit → Stack) (ts : List Placed) → run L (Want Elements κ) n ts ≡ run L (Want Assign (λ a. Want (Back n) (λ x. Want InitMore (λ r. κ (elements (exps a r.0) r.1))))) n ts
+  pub expand_elements : (n : ℕ) (κ : AnInit → Stack) (ts : List Placed) → run L (Want Elements κ) n ts
+      ≡ run L (Want Assign (λ a. Want (Back n) (λ x. Want InitMore (λ r. κ (elements (exps a r.0) r.1))))) n ts
   expand_elements n κ [] = refl
   expand_elements n κ (t ∷ ts) = refl
 
-  pub expand_next : (n : ℕ) (κ : SomeExps × Bool → Stack) (ts : List Placed) → IsNot (token.Mark marks.CloseBrace) ts → run L (Want InitNext κ) n ts ≡ run L (Want Assign (λ a. Want (Back n) (λ x. Want InitMore (λ r. κ (exps a r.0, r.1))))) n ts
+  pub expand_next : (n : ℕ) (κ : SomeExps × Bool → Stack) (ts : List Placed) → IsNot (token.Mark marks.CloseBrace) ts → run L (Want InitNext κ) n ts
+      ≡ run L (Want Assign (λ a. Want (Back n) (λ x. Want InitMore (λ r. κ (exps a r.0, r.1))))) n ts
   expand_next n κ [] h = refl
   expand_next n κ (t ∷ ts) h = rw (init_next_by (class_of t.kind) (λ e. h (single t.kind (token.Mark marks.CloseBrace) (ap token_of e))) t n κ) refl
 
-  pub expand_semi : (n : ℕ) (κ : Option AnExp → Stack) (ts : List Placed) → IsNot (token.Mark marks.Semicolon) ts → run L (Want PartSemi κ) n ts ≡ run L (Want Expr (λ e. Want (Back n) (λ x. Want WantSemi (λ y. κ (Some e))))) n ts
+  pub expand_semi : (n : ℕ) (κ : Option AnExp → Stack) (ts : List Placed) → IsNot (token.Mark marks.Semicolon) ts → run L (Want PartSemi κ) n ts
+      ≡ run L (Want Expr (λ e. Want (Back n) (λ x. Want WantSemi (λ y. κ (Some e))))) n ts
   expand_semi n κ [] h = refl
   expand_semi n κ (t ∷ ts) h = rw (part_semi_by (class_of t.kind) (λ e. h (single t.kind (token.Mark marks.Semicolon) (ap token_of e))) t n κ) refl
 
-  pub expand_paren : (n : ℕ) (κ : Option AnExp → Stack) (ts : List Placed) → IsNot (token.Mark marks.CloseParenthesis) ts → run L (Want PartParen κ) n ts ≡ run L (Want Expr (λ e. Want (Back n) (λ x. Want WantParen (λ y. κ (Some e))))) n ts
+  pub expand_paren : (n : ℕ) (κ : Option AnExp → Stack) (ts : List Placed) → IsNot (token.Mark marks.CloseParenthesis) ts → run L (Want PartParen κ) n ts
+      ≡ run L (Want Expr (λ e. Want (Back n) (λ x. Want WantParen (λ y. κ (Some e))))) n ts
   expand_paren n κ [] h = refl
   expand_paren n κ (t ∷ ts) h = rw (part_paren_by (class_of t.kind) (λ e. h (single t.kind (token.Mark marks.CloseParenthesis) (ap token_of e))) t n κ) refl
 
-  pub expand_after_name : (n : ℕ) (ats f : List ℕ) (at : ℕ) (κ : ADeclared → Stack) (ts : List Placed) → IsNot (token.Mark marks.OpenParenthesis) ts → run L (Want (AfterName ats f at) κ) n ts ≡ run L (declarator_behind ats f at (globals_behind κ)) n ts
+  pub expand_after_name : (n : ℕ) (ats f : List ℕ) (at : ℕ) (κ : ADeclared → Stack) (ts : List Placed) → IsNot (token.Mark marks.OpenParenthesis) ts
+      → run L (Want (AfterName ats f at) κ) n ts ≡ run L (declarator_behind ats f at (globals_behind κ)) n ts
   expand_after_name n ats f at κ [] h = refl
   expand_after_name n ats f at κ (t ∷ ts) h = rw (after_name_by (class_of t.kind) (λ e. h (single t.kind (token.Mark marks.OpenParenthesis) (ap token_of e))) t n ats f at κ L) refl
 
@@ -316,18 +340,21 @@ module _ (L : ℕ → Bool) where
   expand_local n κ [] h = absurd h
   expand_local n κ (t ∷ ts) h = rw (items_local_by (class_of t.kind) h t n κ) refl
 
-  expand_statement : (n : ℕ) (κ : AStatement → Stack) (ts : List Placed) → Starts ts → run L (Want Statement κ) n ts ≡ run L (Want Expr (λ e. Want (Back n) (λ x. Want WantSemi (λ y. κ (expression e))))) n ts
+  expand_statement : (n : ℕ) (κ : AStatement → Stack) (ts : List Placed) → Starts ts → run L (Want Statement κ) n ts
+      ≡ run L (Want Expr (λ e. Want (Back n) (λ x. Want WantSemi (λ y. κ (expression e))))) n ts
   expand_statement n κ [] h = absurd h
   expand_statement n κ (t ∷ ts) h = rw (statement_by (class_of t.kind) h t n κ) refl
 
   -- lengths and initialisers
-  law_length : (v : Option AnExp) (κ : Option AnExp → Stack) (n : ℕ) (w : List Placed) → PartFits 2 v → LowPart L v n → run L (Want Length κ) n (onto_part v (sign marks.CloseBracket 0 ∷ w)) ≡ run L (κ v) (after_part v n) w
+  law_length : (v : Option AnExp) (κ : Option AnExp → Stack) (n : ℕ) (w : List Placed) → PartFits 2 v → LowPart L v n
+      → run L (Want Length κ) n (onto_part v (sign marks.CloseBracket 0 ∷ w)) ≡ run L (κ v) (after_part v n) w
   law_length None κ n w at low = refl
   law_length (Some e) κ n w at low =
       expand_length n κ _ (not_start (token.Mark marks.CloseBracket) _ (λ x. x) (starts e _))
       ∙ law_cond L e (λ e. Want WantBracket (λ x. κ (Some e))) n (sign marks.CloseBracket 0 ∷ w) at low (omega arith)
 
-  pub law_array : (l : Option ALength) (κ : Option ALength → Stack) (n : ℕ) (w : List Placed) → LengthFits l → LowLength L l n → IsNot (token.Mark marks.OpenBracket) w → run L (Want ArrayPart κ) n (onto_length l w) ≡ run L (κ l) n w
+  pub law_array : (l : Option ALength) (κ : Option ALength → Stack) (n : ℕ) (w : List Placed) → LengthFits l → LowLength L l n → IsNot (token.Mark marks.OpenBracket) w
+      → run L (Want ArrayPart κ) n (onto_length l w) ≡ run L (κ l) n w
   law_array None κ n w at low h = pass_array n κ w h
   law_array (Some l) κ n w at low h =
       let next : Option AnExp → Stack = λ e. Want (Back n) (λ x. κ (Some (record { opened = l.opened; value = e }))) in
@@ -335,7 +362,8 @@ module _ (L : ℕ → Bool) where
       ∙ law_length l.value next (n + 1) w at low.1
       ∙ back L n (after_part l.value (n + 1)) (λ x. κ (Some l)) w
 
-  pub law_init_more : (es : SomeExps) (t : Bool) (κ : SomeExps × Bool → Stack) (n : ℕ) (w : List Placed) → AllAt es → LowExps L es n → run L (Want InitMore κ) n (onto_others es (onto_trailing t (sign marks.CloseBrace 0 ∷ w))) ≡ run L (κ (es, t)) n w
+  pub law_init_more : (es : SomeExps) (t : Bool) (κ : SomeExps × Bool → Stack) (n : ℕ) (w : List Placed) → AllAt es → LowExps L es n
+      → run L (Want InitMore κ) n (onto_others es (onto_trailing t (sign marks.CloseBrace 0 ∷ w))) ≡ run L (κ (es, t)) n w
   law_init_more no_exps true κ n w at low = refl
   law_init_more no_exps false κ n w at low = refl
   law_init_more (exps e es) t κ n w at low =
@@ -345,7 +373,8 @@ module _ (L : ℕ → Bool) where
       ∙ back L n (after_exp e n) (λ x. Want InitMore (λ r. κ (exps e r.0, r.1))) v
       ∙ law_init_more es t (λ r. κ (exps e r.0, r.1)) n w at.1 low.1
 
-  law_elements : (es : SomeExps) (t : Bool) (κ : AnInit → Stack) (n : ℕ) (w : List Placed) → IsSome es → AllAt es → LowExps L es n → run L (Want Elements κ) n (onto_first es (onto_trailing t (sign marks.CloseBrace 0 ∷ w))) ≡ run L (κ (elements es t)) n w
+  law_elements : (es : SomeExps) (t : Bool) (κ : AnInit → Stack) (n : ℕ) (w : List Placed) → IsSome es → AllAt es → LowExps L es n
+      → run L (Want Elements κ) n (onto_first es (onto_trailing t (sign marks.CloseBrace 0 ∷ w))) ≡ run L (κ (elements es t)) n w
   law_elements no_exps t κ n w h at low = absurd h
   law_elements (exps e es) t κ n w h at low =
       let v : List Placed = onto_others es (onto_trailing t (sign marks.CloseBrace 0 ∷ w)) in
@@ -354,7 +383,8 @@ module _ (L : ℕ → Bool) where
       ∙ back L n (after_exp e n) (λ x. Want InitMore (λ r. κ (elements (exps e r.0) r.1))) v
       ∙ law_init_more es t (λ r. κ (elements (exps e r.0) r.1)) n w at.1 low.1
 
-  pub law_elements_init : (es : SomeExps) (t : Bool) (κ : AnInit → Stack) (n : ℕ) (w : List Placed) → InitFits (elements es t) → LowInit L (elements es t) n → run L (Want Init κ) n (onto_init (elements es t) w) ≡ run L (κ (elements es t)) n w
+  pub law_elements_init : (es : SomeExps) (t : Bool) (κ : AnInit → Stack) (n : ℕ) (w : List Placed) → InitFits (elements es t) → LowInit L (elements es t) n
+      → run L (Want Init κ) n (onto_init (elements es t) w) ≡ run L (κ (elements es t)) n w
   law_elements_init es t κ n w at low =
       step_opens L Init κ (sign marks.OpenBrace 0) n 1 (Want Elements (λ i. Want (Back n) (λ x. κ i))) _ refl low.0
       ∙ law_elements es t (λ i. Want (Back n) (λ x. κ i)) (n + 1) w at.0 at.1 low.1
@@ -367,28 +397,33 @@ module _ (L : ℕ → Bool) where
       ∙ back L n (after_exp e n) (λ x. κ (value e)) w
   law_init (elements es t) κ n w at low q = law_elements_init es t κ n w at low
 
-  pub law_initialised : (i : Option AnInitialised) (κ : Option AnInitialised → Stack) (n : ℕ) (w : List Placed) → InitialisedFits i → LowInitialised L i n → Ending w → run L (Want InitPart κ) n (onto_initialised i w) ≡ run L (κ i) n w
+  pub law_initialised : (i : Option AnInitialised) (κ : Option AnInitialised → Stack) (n : ℕ) (w : List Placed) → InitialisedFits i → LowInitialised L i n → Ending w
+      → run L (Want InitPart κ) n (onto_initialised i w) ≡ run L (κ i) n w
   law_initialised None κ n w at low h = pass_init n κ w (ending_no (token.Mark marks.Assign) w (λ x. x) h)
   law_initialised (Some i) κ n w at low h = law_init i.with_init (λ v. κ (Some (record { at = i.at; with_init = v }))) n w at low (ending_quiet w h)
 
   -- declarators
-  pub law_behind : (d : ADeclarator) (κ : ADeclarator → Stack) (n : ℕ) (w : List Placed) → DeclaratorFits d → LowDeclarator L d n → Ending w → run L (declarator_behind d.stars d.name d.at κ) n (onto_length d.length (onto_initialised d.init w)) ≡ run L (κ d) n w
+  pub law_behind : (d : ADeclarator) (κ : ADeclarator → Stack) (n : ℕ) (w : List Placed) → DeclaratorFits d → LowDeclarator L d n → Ending w
+      → run L (declarator_behind d.stars d.name d.at κ) n (onto_length d.length (onto_initialised d.init w)) ≡ run L (κ d) n w
   law_behind d κ n w at low h =
       law_array d.length (λ l. Want InitPart (λ i. κ (record { stars = d.stars; name = d.name; at = d.at; length = l; init = i }))) n _ at.0 low.0 (initialised_no d.init w h)
       ∙ law_initialised d.init (λ i. κ (record { stars = d.stars; name = d.name; at = d.at; length = d.length; init = i })) n w at.1 low.1 h
 
-  pub law_declarator : (d : ADeclarator) (κ : ADeclarator → Stack) (n : ℕ) (w : List Placed) → DeclaratorFits d → LowDeclarator L d n → Ending w → run L (declarator_goals κ) n (onto_declarator d w) ≡ run L (κ d) n w
+  pub law_declarator : (d : ADeclarator) (κ : ADeclarator → Stack) (n : ℕ) (w : List Placed) → DeclaratorFits d → LowDeclarator L d n → Ending w
+      → run L (declarator_goals κ) n (onto_declarator d w) ≡ run L (κ d) n w
   law_declarator d κ n w at low h =
       law_stars L d.stars (onto_name d.name d.at (onto_length d.length (onto_initialised d.init w))) (name_star d.name) n (λ ats. Want (DeclaratorName ats) κ)
       ∙ law_behind d κ n w at low h
 
-  pub law_more_declarators : (ds : List ADeclarator) (κ : List ADeclarator → Stack) (n : ℕ) (w : List Placed) → DeclaratorsFit ds → LowDeclarators L ds n → run L (Want MoreDeclarators κ) n (onto_more_declarators ds (sign marks.Semicolon 0 ∷ w)) ≡ run L (κ ds) n w
+  pub law_more_declarators : (ds : List ADeclarator) (κ : List ADeclarator → Stack) (n : ℕ) (w : List Placed) → DeclaratorsFit ds → LowDeclarators L ds n
+      → run L (Want MoreDeclarators κ) n (onto_more_declarators ds (sign marks.Semicolon 0 ∷ w)) ≡ run L (κ ds) n w
   law_more_declarators [] κ n w at low = refl
   law_more_declarators (d ∷ ds) κ n w at low =
       law_declarator d (λ x. Want MoreDeclarators (λ xs. κ (x ∷ xs))) n (onto_more_declarators ds (sign marks.Semicolon 0 ∷ w)) at.0 low.0 (more_ending ds w)
       ∙ law_more_declarators ds (λ xs. κ (d ∷ xs)) n w at.1 low.1
 
-  law_declarators : (ds : List ADeclarator) (κ : List ADeclarator → Stack) (n : ℕ) (w : List Placed) → HasDeclarator ds → DeclaratorsFit ds → LowDeclarators L ds n → run L (declarator_goals (λ x. Want MoreDeclarators (λ xs. κ (x ∷ xs)))) n (onto_declarators ds (sign marks.Semicolon 0 ∷ w)) ≡ run L (κ ds) n w
+  law_declarators : (ds : List ADeclarator) (κ : List ADeclarator → Stack) (n : ℕ) (w : List Placed) → HasDeclarator ds → DeclaratorsFit ds → LowDeclarators L ds n
+      → run L (declarator_goals (λ x. Want MoreDeclarators (λ xs. κ (x ∷ xs)))) n (onto_declarators ds (sign marks.Semicolon 0 ∷ w)) ≡ run L (κ ds) n w
   law_declarators [] κ n w h at low = absurd h
   law_declarators (d ∷ ds) κ n w h at low =
       law_declarator d (λ x. Want MoreDeclarators (λ xs. κ (x ∷ xs))) n (onto_more_declarators ds (sign marks.Semicolon 0 ∷ w)) at.0 low.0 (more_ending ds w)
@@ -396,13 +431,15 @@ module _ (L : ℕ → Bool) where
 
   declarator_no_int : (ds : List ADeclarator) (w : List Placed) → HasDeclarator ds → IsNot (token.Key keys.Int) (onto_declarators ds w)
   declarator_no_int [] w h = absurd h
-  declarator_no_int (d ∷ ds) w h = stars_no d.stars (onto_name d.name d.at (onto_length d.length (onto_initialised d.init (onto_more_declarators ds w)))) (token.Key keys.Int) star_int (name_int d.name)
+  declarator_no_int (d ∷ ds) w h = stars_no d.stars (onto_name d.name d.at (onto_length d.length (onto_initialised d.init (onto_more_declarators ds w)))) (token.Key keys.Int) star_int
+      (name_int d.name)
 
   local_words : (s : Spec) (κ : ALocal → Stack) (n : ℕ) (w : List Placed) → run L (Want Local κ) n (onto_spec s w) ≡ run L (Want TypeWords (local_rest storages.Automatic κ)) n (onto_spec s w)
   local_words (specs.Int at) κ n w = refl
   local_words s κ n w = refl
 
-  local_storage : (st : Storage) (s : Spec) (κ : ALocal → Stack) (n : ℕ) (w : List Placed) → run L (Want Local κ) n (onto_storage st (onto_spec s w)) ≡ run L (Want TypeWords (local_rest st κ)) n (onto_spec s w)
+  local_storage : (st : Storage) (s : Spec) (κ : ALocal → Stack) (n : ℕ) (w : List Placed) → run L (Want Local κ) n (onto_storage st (onto_spec s w))
+      ≡ run L (Want TypeWords (local_rest st κ)) n (onto_spec s w)
   local_storage storages.Automatic s κ n w = local_words s κ n w
   local_storage (storages.Static at) s κ n w = refl
   local_storage (storages.Register at) s κ n w = refl
@@ -422,7 +459,8 @@ module _ (L : ℕ → Bool) where
       ∙ law_exp L e next (n + 1) (sign marks.CloseParenthesis 0 ∷ w) at low.1 (omega arith)
       ∙ back L n (after_exp e (n + 1)) (λ z. κ (o, e)) w
 
-  pub law_semi : (e : Option AnExp) (κ : Option AnExp → Stack) (n : ℕ) (w : List Placed) → PartFits 0 e → LowPart L e n → run L (Want PartSemi κ) n (onto_part e (sign marks.Semicolon 0 ∷ w)) ≡ run L (κ e) n w
+  pub law_semi : (e : Option AnExp) (κ : Option AnExp → Stack) (n : ℕ) (w : List Placed) → PartFits 0 e → LowPart L e n
+      → run L (Want PartSemi κ) n (onto_part e (sign marks.Semicolon 0 ∷ w)) ≡ run L (κ e) n w
   law_semi None κ n w at low = refl
   law_semi (Some e) κ n w at low =
       let next : AnExp → Stack = λ x. Want (Back n) (λ y. Want WantSemi (λ z. κ (Some x))) in
@@ -430,7 +468,8 @@ module _ (L : ℕ → Bool) where
       ∙ law_exp L e next n (sign marks.Semicolon 0 ∷ w) at low (omega arith)
       ∙ back L n (after_exp e n) (λ y. Want WantSemi (λ z. κ (Some e))) (sign marks.Semicolon 0 ∷ w)
 
-  pub law_paren : (e : Option AnExp) (κ : Option AnExp → Stack) (n : ℕ) (w : List Placed) → PartFits 0 e → LowPart L e n → run L (Want PartParen κ) n (onto_part e (sign marks.CloseParenthesis 0 ∷ w)) ≡ run L (κ e) n w
+  pub law_paren : (e : Option AnExp) (κ : Option AnExp → Stack) (n : ℕ) (w : List Placed) → PartFits 0 e → LowPart L e n
+      → run L (Want PartParen κ) n (onto_part e (sign marks.CloseParenthesis 0 ∷ w)) ≡ run L (κ e) n w
   law_paren None κ n w at low = refl
   law_paren (Some e) κ n w at low =
       let next : AnExp → Stack = λ x. Want (Back n) (λ y. Want WantParen (λ z. κ (Some x))) in
@@ -439,7 +478,8 @@ module _ (L : ℕ → Bool) where
       ∙ back L n (after_exp e n) (λ y. Want WantParen (λ z. κ (Some e))) (sign marks.CloseParenthesis 0 ∷ w)
 
   mutual
-    pub law_statement : (s : AStatement) (κ : AStatement → Stack) (n : ℕ) (w : List Placed) → StatementFits s → LowStatement L s n → StandsBefore s w → run L (Want Statement κ) n (onto_statement s w) ≡ run L (κ s) n w
+    pub law_statement : (s : AStatement) (κ : AStatement → Stack) (n : ℕ) (w : List Placed) → StatementFits s → LowStatement L s n → StandsBefore s w
+        → run L (Want Statement κ) n (onto_statement s w) ≡ run L (κ s) n w
     law_statement (block is) κ n w at low h =
         step_opens L Statement κ (sign marks.OpenBrace 0) n 1 (Want Items (λ js. Want (Back n) (λ x. κ (block js)))) _ refl low.0
         ∙ law_items is (λ js. Want (Back n) (λ x. κ (block js))) (n + 1) w at low.1
@@ -483,7 +523,8 @@ module _ (L : ℕ → Bool) where
         let out : AStatement → Stack = λ r. Want (Back n) (λ x. κ r) in
         let last : Option AnExp → Option AnExp → Option AnExp → Stack = λ x y z. Want (Back (n + 1)) (λ v. Want Statement (λ r. out (for_loop p o x y z r))) in
         step_opens L Statement κ (word keys.For p) n 1 (for_goals p (n + 1) out) _ refl low.0
-        ∙ step_opens L ForOpen (λ g. Want PartSemi (λ x. Want PartSemi (λ y. Want PartParen (λ z. Want (Back (n + 1)) (λ v. Want Statement (λ r. out (for_loop p g x y z r))))))) (sign marks.OpenParenthesis o) (n + 1) 1 (Want PartSemi (λ x. Want PartSemi (λ y. Want PartParen (last x y)))) _ refl low.1.0
+        ∙ step_opens L ForOpen (λ g. Want PartSemi (λ x. Want PartSemi (λ y. Want PartParen (λ z. Want (Back (n + 1)) (λ v. Want Statement (λ r. out (for_loop p g x y z r)))))))
+        (sign marks.OpenParenthesis o) (n + 1) 1 (Want PartSemi (λ x. Want PartSemi (λ y. Want PartParen (last x y)))) _ refl low.1.0
         ∙ law_semi a (λ x. Want PartSemi (λ y. Want PartParen (last x y))) (n + 1 + 1) _ at.0 low.1.1.0
         ∙ law_semi b (λ y. Want PartParen (last a y)) (n + 1 + 1) _ at.1.0 low.1.1.1.0
         ∙ law_paren d (last a b) (n + 1 + 1) (onto_statement s w) at.1.1.0 low.1.1.1.1.0
@@ -491,7 +532,8 @@ module _ (L : ℕ → Bool) where
         ∙ law_statement s (λ r. out (for_loop p o a b d r)) (n + 1) w at.1.1.1 low.1.1.1.1.1 h
         ∙ back L n (n + 1) (λ x. κ (for_loop p o a b d s)) w
 
-    pub law_items : (is : SomeItems) (κ : SomeItems → Stack) (n : ℕ) (w : List Placed) → ItemsFit is → LowItems L is n → run L (Want Items κ) n (onto_items is (sign marks.CloseBrace 0 ∷ w)) ≡ run L (κ is) n w
+    pub law_items : (is : SomeItems) (κ : SomeItems → Stack) (n : ℕ) (w : List Placed) → ItemsFit is → LowItems L is n
+        → run L (Want Items κ) n (onto_items is (sign marks.CloseBrace 0 ∷ w)) ≡ run L (κ is) n w
     law_items no_items κ n w at low = refl
     law_items (local_item l is) κ n w at low =
         let v : List Placed = onto_items is (sign marks.CloseBrace 0 ∷ w) in
@@ -519,17 +561,21 @@ module _ (L : ℕ → Bool) where
       by : onto_length (Some l) w ≡ t ∷ us → class_of t.kind ≡ c.Name → ⊥
       by f g = absurd (cc)
 
-  law_named : (m : Option Named) (l : Option ALength) (κ : Option Named → Stack) (n : ℕ) (w : List Placed) → Ending w → run L (Want OptName κ) n (onto_named m (onto_length l w)) ≡ run L (κ m) n (onto_length l w)
+  law_named : (m : Option Named) (l : Option ALength) (κ : Option Named → Stack) (n : ℕ) (w : List Placed) → Ending w → run L (Want OptName κ) n (onto_named m (onto_length l w))
+      ≡ run L (κ m) n (onto_length l w)
   law_named None l κ n w h = pass_name n κ (onto_length l w) (length_no_name l w h)
   law_named (Some m) l κ n w h = refl
 
-  named_no : (k : Token) (m : Option Named) (l : Option ALength) (w : List Placed) → (class_of k ≡ c.Name → ⊥) → (token.Mark marks.OpenBracket ≡ k → ⊥) → (EndClass (class_of k) → ⊥) → Ending w → IsNot k (onto_named m (onto_length l w))
+  named_no : (k : Token) (m : Option Named) (l : Option ALength) (w : List Placed) → (class_of k ≡ c.Name → ⊥) → (token.Mark marks.OpenBracket ≡ k → ⊥) → (EndClass (class_of k) → ⊥)
+      → Ending w → IsNot k (onto_named m (onto_length l w))
   named_no k None l w f g h e = length_no k l w g h e
   named_no k (Some m) l w f g h e = not_name m.name k f
 
-  law_param_behind : (p : AParam) (κ : AParam → Stack) (n : ℕ) (w : List Placed) → ParamFits p → LowLength L p.length n → Ending w → run L (param_behind p.spec κ) n (onto_stars p.stars (onto_named p.name (onto_length p.length w))) ≡ run L (κ p) n w
+  law_param_behind : (p : AParam) (κ : AParam → Stack) (n : ℕ) (w : List Placed) → ParamFits p → LowLength L p.length n → Ending w
+      → run L (param_behind p.spec κ) n (onto_stars p.stars (onto_named p.name (onto_length p.length w))) ≡ run L (κ p) n w
   law_param_behind p κ n w at low h =
-      law_stars L p.stars _ (named_no (token.Mark marks.Star) p.name p.length w (λ e. absurd (cc)) (λ e. absurd (cc)) (λ x. x) h) n (λ ats. Want OptName (λ m. Want ArrayPart (λ l. κ (record { spec = p.spec; stars = ats; name = m; length = l }))))
+      law_stars L p.stars _ (named_no (token.Mark marks.Star) p.name p.length w (λ e. absurd (cc)) (λ e. absurd (cc)) (λ x. x) h) n
+      (λ ats. Want OptName (λ m. Want ArrayPart (λ l. κ (record { spec = p.spec; stars = ats; name = m; length = l }))))
       ∙ law_named p.name p.length (λ m. Want ArrayPart (λ l. κ (record { spec = p.spec; stars = p.stars; name = m; length = l }))) n w h
       ∙ law_array p.length (λ l. κ (record { spec = p.spec; stars = p.stars; name = p.name; length = l })) n w at low (ending_no (token.Mark marks.OpenBracket) w (λ x. x) h)
 
@@ -541,17 +587,20 @@ module _ (L : ℕ → Bool) where
       law_words L p.spec _ (param_no_int p w h) n (λ s. param_behind s κ)
       ∙ law_param_behind p κ n w at low h
 
-  pub law_more_params : (ps : List AParam) (κ : List AParam → Stack) (n : ℕ) (w : List Placed) → ParamsFit ps → LowParams L ps n → run L (Want MoreParams κ) n (onto_more_params ps (sign marks.CloseParenthesis 0 ∷ w)) ≡ run L (κ ps) n w
+  pub law_more_params : (ps : List AParam) (κ : List AParam → Stack) (n : ℕ) (w : List Placed) → ParamsFit ps → LowParams L ps n
+      → run L (Want MoreParams κ) n (onto_more_params ps (sign marks.CloseParenthesis 0 ∷ w)) ≡ run L (κ ps) n w
   law_more_params [] κ n w at low = refl
   law_more_params (p ∷ ps) κ n w at low =
       law_param p (λ q. Want MoreParams (λ qs. κ (q ∷ qs))) n (onto_more_params ps (sign marks.CloseParenthesis 0 ∷ w)) at.0 low.0 (more_params_ending ps w)
       ∙ law_more_params ps (λ qs. κ (p ∷ qs)) n w at.1 low.1
 
-  params_words : (s : Spec) (κ : SomeParams → Stack) (n : ℕ) (w : List Placed) → run L (Want Params κ) n (onto_spec s w) ≡ run L (Want TypeWords (λ r. param_behind r (λ p. Want MoreParams (λ ps. κ (some_params p ps))))) n (onto_spec s w)
+  params_words : (s : Spec) (κ : SomeParams → Stack) (n : ℕ) (w : List Placed) → run L (Want Params κ) n (onto_spec s w)
+      ≡ run L (Want TypeWords (λ r. param_behind r (λ p. Want MoreParams (λ ps. κ (some_params p ps))))) n (onto_spec s w)
   params_words (specs.Int at) κ n w = refl
   params_words s κ n w = refl
 
-  law_param_list : (p : AParam) (ps : List AParam) (κ : SomeParams → Stack) (n : ℕ) (w : List Placed) → ParamFits p → ParamsFit ps → LowParams L (p ∷ ps) n → run L (Want Params κ) n (onto_param_list (p ∷ ps) (sign marks.CloseParenthesis 0 ∷ w)) ≡ run L (κ (some_params p ps)) n w
+  law_param_list : (p : AParam) (ps : List AParam) (κ : SomeParams → Stack) (n : ℕ) (w : List Placed) → ParamFits p → ParamsFit ps → LowParams L (p ∷ ps) n
+      → run L (Want Params κ) n (onto_param_list (p ∷ ps) (sign marks.CloseParenthesis 0 ∷ w)) ≡ run L (κ (some_params p ps)) n w
   law_param_list p ps κ n w at ats low =
       let v : List Placed = onto_more_params ps (sign marks.CloseParenthesis 0 ∷ w) in
       let next : AParam → Stack = λ q. Want MoreParams (λ qs. κ (some_params q qs)) in
@@ -560,7 +609,8 @@ module _ (L : ℕ → Bool) where
       ∙ law_param_behind p next n v at low.0 (more_params_ending ps w)
       ∙ law_more_params ps (λ qs. κ (some_params p qs)) n w ats low.1
 
-  pub law_params : (ps : SomeParams) (κ : SomeParams → Stack) (n : ℕ) (w : List Placed) → SomeParamsFit ps → LowSomeParams L ps n → run L (Want Params κ) n (onto_params ps (sign marks.CloseParenthesis 0 ∷ w)) ≡ run L (κ ps) n w
+  pub law_params : (ps : SomeParams) (κ : SomeParams → Stack) (n : ℕ) (w : List Placed) → SomeParamsFit ps → LowSomeParams L ps n
+      → run L (Want Params κ) n (onto_params ps (sign marks.CloseParenthesis 0 ∷ w)) ≡ run L (κ ps) n w
   law_params no_params κ n w at low = refl
   law_params (void_word p) κ n w at low = refl
   law_params (params []) κ n w at low = absurd at
@@ -586,7 +636,8 @@ module _ (L : ℕ → Bool) where
   pub law_declared : (d : ADeclared) (κ : ADeclared → Stack) (w : List Placed) → DeclaredFits d → LowDeclared L d → run L (declared_goals κ) 0 (onto_declared d w) ≡ run L (κ d) 0 w
   law_declared (function f) κ w at low =
       let body : SomeParams → Stack = λ ps. Want (Back 0) (λ x. Want Body (λ b. κ (function (record { stars = f.stars; name = f.name; at = f.at; opened = f.opened; params = ps; body = b })))) in
-      law_stars L f.stars (onto_name f.name f.at (sign marks.OpenParenthesis f.opened ∷ onto_params f.params (sign marks.CloseParenthesis 0 ∷ onto_body f.body w))) (name_star f.name) 0 (λ ats. Want (DeclaredName ats) κ)
+      law_stars L f.stars (onto_name f.name f.at (sign marks.OpenParenthesis f.opened ∷ onto_params f.params (sign marks.CloseParenthesis 0 ∷ onto_body f.body w))) (name_star f.name) 0
+      (λ ats. Want (DeclaredName ats) κ)
       ∙ step_opens L (AfterName f.stars f.name f.at) κ (sign marks.OpenParenthesis f.opened) 0 1 (Want Params body) _ refl low.0
       ∙ law_params f.params body 1 (onto_body f.body w) at.0 low.1.0
       ∙ back L 0 1 (λ x. Want Body (λ b. κ (function (record { stars = f.stars; name = f.name; at = f.at; opened = f.opened; params = f.params; body = b })))) (onto_body f.body w)
@@ -600,10 +651,12 @@ module _ (L : ℕ → Bool) where
       ∙ law_more_declarators ds (λ xs. κ (globals (d ∷ xs))) 0 w at.1.1 low.1
 
   declared_no_int : (d : ADeclared) (w : List Placed) → DeclaredFits d → IsNot (token.Key keys.Int) (onto_declared d w)
-  declared_no_int (function f) w at = stars_no f.stars (onto_name f.name f.at (sign marks.OpenParenthesis f.opened ∷ onto_params f.params (sign marks.CloseParenthesis 0 ∷ onto_body f.body w))) (token.Key keys.Int) star_int (name_int f.name)
+  declared_no_int (function f) w at = stars_no f.stars (onto_name f.name f.at
+      (sign marks.OpenParenthesis f.opened ∷ onto_params f.params (sign marks.CloseParenthesis 0 ∷ onto_body f.body w))) (token.Key keys.Int) star_int (name_int f.name)
   declared_no_int (globals ds) w at = declarator_no_int ds (sign marks.Semicolon 0 ∷ w) at.0
 
-  external_words : (st : Option ℕ) (s : Spec) (κ : AnExternal → Stack) (w : List Placed) → run L (Want External κ) 0 (onto_static st (onto_spec s w)) ≡ run L (Want TypeWords (external_rest st κ)) 0 (onto_spec s w)
+  external_words : (st : Option ℕ) (s : Spec) (κ : AnExternal → Stack) (w : List Placed) → run L (Want External κ) 0 (onto_static st (onto_spec s w))
+      ≡ run L (Want TypeWords (external_rest st κ)) 0 (onto_spec s w)
   external_words (Some at) s κ w = refl
   external_words None (specs.Int at) κ w = refl
   external_words None s κ w = refl
@@ -614,12 +667,14 @@ module _ (L : ℕ → Bool) where
       ∙ law_words L x.spec (onto_declared x.declared w) (declared_no_int x.declared w at) 0 (external_rest x.static_at κ)
       ∙ law_declared x.declared (λ d. κ (record { static_at = x.static_at; spec = x.spec; declared = d })) w at low
 
-  whole_words : (st : Option ℕ) (s : Spec) (κ : AUnit → Stack) (w : List Placed) → run L (Want Whole κ) 0 (onto_static st (onto_spec s w)) ≡ run L (Want External (λ x. Want Whole (λ u. κ (before x u)))) 0 (onto_static st (onto_spec s w))
+  whole_words : (st : Option ℕ) (s : Spec) (κ : AUnit → Stack) (w : List Placed) → run L (Want Whole κ) 0 (onto_static st (onto_spec s w))
+      ≡ run L (Want External (λ x. Want Whole (λ u. κ (before x u)))) 0 (onto_static st (onto_spec s w))
   whole_words (Some at) s κ w = refl
   whole_words None (specs.Int at) κ w = refl
   whole_words None s κ w = refl
 
-  pub law_whole : (xs : List AnExternal) (at : ℕ) (κ : AUnit → Stack) → ExternalsFit xs → LowExternals L xs → run L (Want Whole κ) 0 (onto_externals xs (record { kind = token.End; at = at } ∷ [])) ≡ closing (κ (record { externals = xs; end = at }))
+  pub law_whole : (xs : List AnExternal) (at : ℕ) (κ : AUnit → Stack) → ExternalsFit xs → LowExternals L xs
+      → run L (Want Whole κ) 0 (onto_externals xs (record { kind = token.End; at = at } ∷ [])) ≡ closing (κ (record { externals = xs; end = at }))
   law_whole [] at κ fits low = refl
   law_whole (x ∷ xs) at κ fits low =
       whole_words x.static_at x.spec κ _

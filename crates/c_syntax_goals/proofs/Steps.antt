@@ -26,7 +26,8 @@ use Rattle.c_phrases.specs.Fronts.{Quiet, IsNot, NoCast, strength, mark_strength
 use Rattle.c_syntax_goals.specs.Goals as Goals
 use Rattle.c_phrases.specs.Phrases as phrases
 use Rattle.c_syntax_goals.specs.Goals.{Goal, Val, Stack, Want, Step, Takes, Opens, Refuses, Turn, Steps, Passes, turn, insert, type_goals, cast_behind, paren_behind, sizeof_behind, cond_goals}
-use Rattle.c_syntax_goals.specs.Goals.{Expr, Commas, Assign, Cond, Cast, Unary, Primary, Parens, CallTail, PostTail, Ended, Tail, First, Group, SizeofTail, SizeofGroup, Arguments, MoreArguments, Back, TypeWords, AfterShort, AfterUnsigned, Stars}
+use Rattle.c_syntax_goals.specs.Goals.{Expr, Commas, Assign, Cond, Cast, Unary, Primary, Parens, CallTail, PostTail, Ended, Tail, First, Group, SizeofTail, SizeofGroup, Arguments}
+use Rattle.c_syntax_goals.specs.Goals.{MoreArguments, Back, TypeWords, AfterShort, AfterUnsigned, Stars}
 use Rattle.c_syntax_goals.specs.Machine.{Next, Goes, Ends, Deep, Stuck, on, at_end, made, pick, next, run}
 use Rattle.c_syntax_goals.proofs.Tokens.{single, token_of}
 
@@ -61,23 +62,28 @@ floor_of (token.Str b) = omega arith
 floor_of token.End = omega arith
 
 -- operators as the automaton reads them
-pub tail_binary : (op : BinaryOperator) (at n : ℕ) (b : Bool) (l : AnExp) (κ : AnExp → Stack) → turn (Tail b l) (mark_class (binary_mark op)) (sign (binary_mark op) at) n κ ≡ Steps (Opens 1 (Want Cast (λ r. Want (Tail false (insert l op at r)) κ)))
+pub tail_binary : (op : BinaryOperator) (at n : ℕ) (b : Bool) (l : AnExp) (κ : AnExp → Stack) → turn (Tail b l) (mark_class (binary_mark op)) (sign (binary_mark op) at) n κ
+    ≡ Steps (Opens 1 (Want Cast (λ r. Want (Tail false (insert l op at r)) κ)))
 tail_binary binaries.OrOr at n b l κ = refl
 tail_binary op at n b l κ = refl
 
-pub tail_assign : (op : AssignOperator) (at n : ℕ) (l : AnExp) (κ : AnExp → Stack) → turn (Tail true l) (mark_class (assign_mark op)) (sign (assign_mark op) at) n κ ≡ Steps (Opens 1 (Want Assign (λ v. κ (phrases.assign l op at v))))
+pub tail_assign : (op : AssignOperator) (at n : ℕ) (l : AnExp) (κ : AnExp → Stack) → turn (Tail true l) (mark_class (assign_mark op)) (sign (assign_mark op) at) n κ
+    ≡ Steps (Opens 1 (Want Assign (λ v. κ (phrases.assign l op at v))))
 tail_assign assigns.Assign at n l κ = refl
 tail_assign op at n l κ = refl
 
-pub unary_prefix : (op : PrefixOperator) (at n : ℕ) (κ : AnExp → Stack) → turn Unary (mark_class (prefix_mark op)) (sign (prefix_mark op) at) n κ ≡ Steps (Opens 1 (Want Cast (λ e. κ (phrases.prefix op at e))))
+pub unary_prefix : (op : PrefixOperator) (at n : ℕ) (κ : AnExp → Stack) → turn Unary (mark_class (prefix_mark op)) (sign (prefix_mark op) at) n κ
+    ≡ Steps (Opens 1 (Want Cast (λ e. κ (phrases.prefix op at e))))
 unary_prefix prefixes.Plus at n κ = refl
 unary_prefix op at n κ = refl
 
-pub unary_step : (op : StepOperator) (at n : ℕ) (κ : AnExp → Stack) → turn Unary (mark_class (step_mark op)) (sign (step_mark op) at) n κ ≡ Steps (Opens 1 (Want Unary (λ e. κ (phrases.step_before op at e))))
+pub unary_step : (op : StepOperator) (at n : ℕ) (κ : AnExp → Stack) → turn Unary (mark_class (step_mark op)) (sign (step_mark op) at) n κ
+    ≡ Steps (Opens 1 (Want Unary (λ e. κ (phrases.step_before op at e))))
 unary_step steps.Increment at n κ = refl
 unary_step op at n κ = refl
 
-pub post_step : (op : StepOperator) (at n : ℕ) (l : AnExp) (κ : AnExp → Stack) → turn (PostTail l) (mark_class (step_mark op)) (sign (step_mark op) at) n κ ≡ Steps (Opens 1 (Want (PostTail (phrases.step_after l op at)) κ))
+pub post_step : (op : StepOperator) (at n : ℕ) (l : AnExp) (κ : AnExp → Stack) → turn (PostTail l) (mark_class (step_mark op)) (sign (step_mark op) at) n κ
+    ≡ Steps (Opens 1 (Want (PostTail (phrases.step_after l op at)) κ))
 post_step steps.Increment at n l κ = refl
 post_step op at n l κ = refl
 
@@ -182,21 +188,25 @@ sizeof_type_by c.Short h t at o m n κ = refl
 sizeof_type_by c.Unsigned h t at o m n κ = refl
 sizeof_type_by k h t at o m n κ = absurd h
 
-arguments_by : (k : Class) → (k ≢ c.CloseParen) → (t : Placed) (n : ℕ) (κ : SomeExps → Stack) → Goals.arguments_step k t n κ ≡ Goals.assign_step k t n (λ a. Want (Back n) (λ x. Want MoreArguments (λ es. κ (exps a es))))
+arguments_by : (k : Class) → (k ≢ c.CloseParen) → (t : Placed) (n : ℕ) (κ : SomeExps → Stack) → Goals.arguments_step k t n κ
+    ≡ Goals.assign_step k t n (λ a. Want (Back n) (λ x. Want MoreArguments (λ es. κ (exps a es))))
 arguments_by c.CloseParen h t n κ = absurd (h refl)
 arguments_by k h t n κ = refl
 
 module _ (L : ℕ → Bool) where
-  pub step_opens : (g : Goal) (κ : Val g → Stack) (t : Placed) (n k : ℕ) (s : Stack) (ts : List Placed) → turn g (class_of t.kind) t n κ ≡ Steps (Opens k s) → (L (n + k) ≡ true) → run L (Want g κ) n (t ∷ ts) ≡ run L s (n + k) ts
+  pub step_opens : (g : Goal) (κ : Val g → Stack) (t : Placed) (n k : ℕ) (s : Stack) (ts : List Placed) → turn g (class_of t.kind) t n κ ≡ Steps (Opens k s) → (L (n + k) ≡ true)
+      → run L (Want g κ) n (t ∷ ts) ≡ run L s (n + k) ts
   step_opens g κ t n k s ts e le = rw (e, le) refl
 
-  pub step_deep : (g : Goal) (κ : Val g → Stack) (t : Placed) (n k : ℕ) (s : Stack) (ts : List Placed) → turn g (class_of t.kind) t n κ ≡ Steps (Opens k s) → L (n + k) ≡ false → run L (Want g κ) n (t ∷ ts) ≡ Err (TooDeep (length (t ∷ ts)))
+  pub step_deep : (g : Goal) (κ : Val g → Stack) (t : Placed) (n k : ℕ) (s : Stack) (ts : List Placed) → turn g (class_of t.kind) t n κ ≡ Steps (Opens k s) → L (n + k) ≡ false
+      → run L (Want g κ) n (t ∷ ts) ≡ Err (TooDeep (length (t ∷ ts)))
   step_deep g κ t n k s ts e lt = rw (e, lt) refl
 
   pub step_takes : (g : Goal) (κ : Val g → Stack) (t : Placed) (n : ℕ) (s : Stack) (ts : List Placed) → turn g (class_of t.kind) t n κ ≡ Steps (Takes s) → run L (Want g κ) n (t ∷ ts) ≡ run L s n ts
   step_takes g κ t n s ts e = rw e refl
 
-  pub step_refuses : (g : Goal) (κ : Val g → Stack) (t : Placed) (n : ℕ) (ts : List Placed) → turn g (class_of t.kind) t n κ ≡ Steps Refuses → run L (Want g κ) n (t ∷ ts) ≡ Err (NotHere (length (t ∷ ts)))
+  pub step_refuses : (g : Goal) (κ : Val g → Stack) (t : Placed) (n : ℕ) (ts : List Placed) → turn g (class_of t.kind) t n κ ≡ Steps Refuses → run L (Want g κ) n (t ∷ ts)
+      ≡ Err (NotHere (length (t ∷ ts)))
   step_refuses g κ t n ts e = rw e refl
 
   pub back : (m n : ℕ) (κ : Unit {0} → Stack) (ts : List Placed) → run L (Want (Back m) κ) n ts ≡ run L (κ tt) m ts
@@ -241,7 +251,8 @@ module _ (L : ℕ → Bool) where
   law_stars (at ∷ ats) w h n κ = law_stars ats w h n (λ v. κ (at ∷ v))
 
   -- behind an opening bracket: a type or an expression
-  same_opened : (b : Bool) (r s : Stack) (m : ℕ) (ts : List Placed) → run L r m ts ≡ run L s m ts → on (if b then Goes r m else Deep) ts (λ r m. run L r m ts) ≡ on (if b then Goes s m else Deep) ts (λ r m. run L r m ts)
+  same_opened : (b : Bool) (r s : Stack) (m : ℕ) (ts : List Placed) → run L r m ts ≡ run L s m ts → on (if b then Goes r m else Deep) ts (λ r m. run L r m ts)
+      ≡ on (if b then Goes s m else Deep) ts (λ r m. run L r m ts)
   same_opened true r s m ts e = e
   same_opened false r s m ts e = refl
 
@@ -274,7 +285,8 @@ module _ (L : ℕ → Bool) where
   no_word k t [] e f h = tt
   no_word k t (u ∷ ts) e f h = h (single t.kind (token.Mark marks.OpenParenthesis) (ap token_of (e ∙ f)))
 
-  cast_plain_by : (k : Class) (t : Placed) (ts : List Placed) → ((k ≡ c.OpenParen) → NoTypeWord ts) → (n : ℕ) (κ : AnExp → Stack) → on (pick L (turn Cast k t n κ) n (λ m v. next L (κ v) t m)) ts (λ r m. run L r m ts) ≡ on (pick L (turn Unary k t n κ) n (λ m v. next L (κ v) t m)) ts (λ r m. run L r m ts)
+  cast_plain_by : (k : Class) (t : Placed) (ts : List Placed) → ((k ≡ c.OpenParen) → NoTypeWord ts) → (n : ℕ) (κ : AnExp → Stack)
+      → on (pick L (turn Cast k t n κ) n (λ m v. next L (κ v) t m)) ts (λ r m. run L r m ts) ≡ on (pick L (turn Unary k t n κ) n (λ m v. next L (κ v) t m)) ts (λ r m. run L r m ts)
   cast_plain_by c.OpenParen t ts h n κ = same_opened (L (n + 1)) (Want (Group t.at n) κ) (Want Expr (paren_behind t.at n κ)) (n + 1) ts (group_plain t.at n (n + 1) κ ts (h refl))
   cast_plain_by k t ts h n κ = refl
 
@@ -282,16 +294,22 @@ module _ (L : ℕ → Bool) where
   cast_plain n κ [] h = refl
   cast_plain n κ (t ∷ ts) h = cast_plain_by (class_of t.kind) t ts (λ f. no_word (class_of t.kind) t ts refl f h) n κ
 
-  assign_plain_by : (k : Class) (t : Placed) (ts : List Placed) → ((k ≡ c.OpenParen) → NoTypeWord ts) → (n : ℕ) (κ : AnExp → Stack) → on (pick L (turn Assign k t n κ) n (λ m v. next L (κ v) t m)) ts (λ r m. run L r m ts) ≡ on (pick L (turn Unary k t n (λ u. Want (Tail true u) κ)) n (λ m v. next L (Want (Tail true v) κ) t m)) ts (λ r m. run L r m ts)
-  assign_plain_by c.OpenParen t ts h n κ = same_opened (L (n + 1)) (Want (First t.at n) κ) (Want Expr (paren_behind t.at n (λ u. Want (Tail true u) κ))) (n + 1) ts (first_plain t.at n (n + 1) κ ts (h refl))
+  assign_plain_by : (k : Class) (t : Placed) (ts : List Placed) → ((k ≡ c.OpenParen) → NoTypeWord ts) → (n : ℕ) (κ : AnExp → Stack)
+      → on (pick L (turn Assign k t n κ) n (λ m v. next L (κ v) t m)) ts (λ r m. run L r m ts)
+      ≡ on (pick L (turn Unary k t n (λ u. Want (Tail true u) κ)) n (λ m v. next L (Want (Tail true v) κ) t m)) ts (λ r m. run L r m ts)
+  assign_plain_by c.OpenParen t ts h n κ = same_opened (L (n + 1)) (Want (First t.at n) κ) (Want Expr (paren_behind t.at n (λ u. Want (Tail true u) κ))) (n + 1) ts
+      (first_plain t.at n (n + 1) κ ts (h refl))
   assign_plain_by k t ts h n κ = refl
 
   pub assign_plain : (n : ℕ) (κ : AnExp → Stack) (ts : List Placed) → NoCast ts → run L (Want Assign κ) n ts ≡ run L (Want Unary (λ u. Want (Tail true u) κ)) n ts
   assign_plain n κ [] h = refl
   assign_plain n κ (t ∷ ts) h = assign_plain_by (class_of t.kind) t ts (λ f. no_word (class_of t.kind) t ts refl f h) n κ
 
-  sizeof_plain_by : (k : Class) (t : Placed) (ts : List Placed) → ((k ≡ c.OpenParen) → NoTypeWord ts) → (at n : ℕ) (κ : AnExp → Stack) → on (pick L (turn (SizeofTail at) k t n κ) n (λ m v. next L (κ v) t m)) ts (λ r m. run L r m ts) ≡ on (pick L (turn Unary k t n (λ u. κ (sizeof_exp at u))) n (λ m v. next L (κ (sizeof_exp at v)) t m)) ts (λ r m. run L r m ts)
-  sizeof_plain_by c.OpenParen t ts h at n κ = same_opened (L (n + 1)) (Want (SizeofGroup at t.at n) κ) (Want Expr (paren_behind t.at n (λ u. κ (sizeof_exp at u)))) (n + 1) ts (sizeof_plain at t.at n (n + 1) κ ts (h refl))
+  sizeof_plain_by : (k : Class) (t : Placed) (ts : List Placed) → ((k ≡ c.OpenParen) → NoTypeWord ts) → (at n : ℕ) (κ : AnExp → Stack)
+      → on (pick L (turn (SizeofTail at) k t n κ) n (λ m v. next L (κ v) t m)) ts (λ r m. run L r m ts)
+      ≡ on (pick L (turn Unary k t n (λ u. κ (sizeof_exp at u))) n (λ m v. next L (κ (sizeof_exp at v)) t m)) ts (λ r m. run L r m ts)
+  sizeof_plain_by c.OpenParen t ts h at n κ = same_opened (L (n + 1)) (Want (SizeofGroup at t.at n) κ) (Want Expr (paren_behind t.at n (λ u. κ (sizeof_exp at u)))) (n + 1) ts
+      (sizeof_plain at t.at n (n + 1) κ ts (h refl))
   sizeof_plain_by k t ts h at n κ = refl
 
   pub sizeof_is_plain : (at n : ℕ) (κ : AnExp → Stack) (ts : List Placed) → NoCast ts → run L (Want (SizeofTail at) κ) n ts ≡ run L (Want Unary (λ u. κ (sizeof_exp at u))) n ts
@@ -299,8 +317,10 @@ module _ (L : ℕ → Bool) where
   sizeof_is_plain at n κ (t ∷ ts) h = sizeof_plain_by (class_of t.kind) t ts (λ f. no_word (class_of t.kind) t ts refl f h) at n κ
 
   -- where one begins
-  pub assign_cast : (n o : ℕ) (κ : AnExp → Stack) (ts : List Placed) → IsTypeWord ts → run L (Want Assign κ) n (sign marks.OpenParenthesis o ∷ ts) ≡ run L (cond_goals κ) n (sign marks.OpenParenthesis o ∷ ts)
-  assign_cast n o κ ts h = same_opened (L (n + 1)) (Want (First o n) κ) (Want (Group o n) (λ e. Want (Tail false e) κ)) (n + 1) ts (first_type o n (n + 1) κ ts h ∙ sym (group_type o n (n + 1) (λ e. Want (Tail false e) κ) ts h))
+  pub assign_cast : (n o : ℕ) (κ : AnExp → Stack) (ts : List Placed) → IsTypeWord ts → run L (Want Assign κ) n (sign marks.OpenParenthesis o ∷ ts)
+      ≡ run L (cond_goals κ) n (sign marks.OpenParenthesis o ∷ ts)
+  assign_cast n o κ ts h = same_opened (L (n + 1)) (Want (First o n) κ) (Want (Group o n) (λ e. Want (Tail false e) κ)) (n + 1) ts
+      (first_type o n (n + 1) κ ts h ∙ sym (group_type o n (n + 1) (λ e. Want (Tail false e) κ) ts h))
 
   pub expand_expr : (n : ℕ) (κ : AnExp → Stack) (ts : List Placed) → run L (Want Expr κ) n ts ≡ run L (Want Assign (λ a. Want (Commas a) κ)) n ts
   expand_expr n κ [] = refl
@@ -310,6 +330,7 @@ module _ (L : ℕ → Bool) where
   expand_cond n κ [] = refl
   expand_cond n κ (t ∷ ts) = refl
 
-  pub expand_arguments : (n : ℕ) (κ : SomeExps → Stack) (ts : List Placed) → IsNot (token.Mark marks.CloseParenthesis) ts → run L (Want Arguments κ) n ts ≡ run L (Want Assign (λ a. Want (Back n) (λ x. Want MoreArguments (λ es. κ (exps a es))))) n ts
+  pub expand_arguments : (n : ℕ) (κ : SomeExps → Stack) (ts : List Placed) → IsNot (token.Mark marks.CloseParenthesis) ts → run L (Want Arguments κ) n ts
+      ≡ run L (Want Assign (λ a. Want (Back n) (λ x. Want MoreArguments (λ es. κ (exps a es))))) n ts
   expand_arguments n κ [] h = refl
   expand_arguments n κ (t ∷ ts) h = rw (arguments_by (class_of t.kind) (λ e. h (single t.kind (token.Mark marks.CloseParenthesis) (ap token_of e))) t n κ) refl

@@ -13,9 +13,13 @@ use Rattle.c_phrases.specs.Phrases.{AnExp, name, number, str, call, index, step_
 use Rattle.c_phrases.specs.Units.{ALength, AnInit, value, elements, AnInitialised, ADeclarator, ALocal, AStatement, empty, expression, break_off, continue_on, give_back}
 use Rattle.c_phrases.specs.Units.{SomeItems, no_items, statement_item, AParam, SomeParams, no_params, ADeclared, globals, AnExternal, AUnit}
 use Rattle.c_syntax_goals.specs.Openings.{Opening, opens, plain, levelled_name, levelled_exp}
-use Rattle.c_syntax_goals.specs.Goals.{Goal, Val, Stack, Done, Want, insert, stars_then, type_goals, cast_behind, paren_behind, sizeof_behind, declarator_behind, declarator_goals, cond_goals, if_goals, while_goals, do_goals, for_goals, local_rest, item_local, param_behind, param_goals, lone_param, some_params, function_behind, globals_behind, declared_goals, external_rest, before}
-use Rattle.c_syntax_goals.specs.Goals.{Expr, Commas, Assign, Cond, Cast, Unary, Primary, Parens, CallTail, PostTail, Ended, Tail, First, Group, SizeofTail, SizeofGroup, Arguments, MoreArguments, Back, WantParen, WantBracket, WantColon, WantSemi, WantWhile, TypeWords, AfterShort, AfterUnsigned, Stars}
-use Rattle.c_syntax_goals.specs.Goals.{Condition, Simple, Statement, Items, PartSemi, PartParen, ForOpen, ElsePart, Local, DeclaratorName, ArrayPart, Length, InitPart, Init, Elements, InitMore, InitNext, MoreDeclarators, DeclaredName, AfterName, Body, Params, OptName, MoreParams, External, Whole}
+use Rattle.c_syntax_goals.specs.Goals.{Goal, Val, Stack, Done, Want, insert, stars_then, type_goals, cast_behind, paren_behind, sizeof_behind, declarator_behind, declarator_goals}
+use Rattle.c_syntax_goals.specs.Goals.{cond_goals, if_goals, while_goals, do_goals, for_goals, local_rest, item_local, param_behind, param_goals, lone_param, some_params}
+use Rattle.c_syntax_goals.specs.Goals.{function_behind, globals_behind, declared_goals, external_rest, before}
+use Rattle.c_syntax_goals.specs.Goals.{Expr, Commas, Assign, Cond, Cast, Unary, Primary, Parens, CallTail, PostTail, Ended, Tail, First, Group, SizeofTail, SizeofGroup, Arguments}
+use Rattle.c_syntax_goals.specs.Goals.{MoreArguments, Back, WantParen, WantBracket, WantColon, WantSemi, WantWhile, TypeWords, AfterShort, AfterUnsigned, Stars}
+use Rattle.c_syntax_goals.specs.Goals.{Condition, Simple, Statement, Items, PartSemi, PartParen, ForOpen, ElsePart, Local, DeclaratorName, ArrayPart, Length, InitPart, Init}
+use Rattle.c_syntax_goals.specs.Goals.{Elements, InitMore, InitNext, MoreDeclarators, DeclaredName, AfterName, Body, Params, OptName, MoreParams, External, Whole}
 use Rattle.c_syntax_goals.proofs.Yields.{open_paren, Onto, Yields}
 use Rattle.c_phrases.specs.Classes.{Class, class_of}
 use Rattle.c_phrases.specs.Classes as c
@@ -25,8 +29,11 @@ use Rattle.c_phrases.specs.Phrases.{prefix_mark}
 use Rattle.c_syntax_goals.proofs.Spelled.{spelled, PrefixClass, InfixClass, AssignClass, prefix_is, step_is, infix_is, assign_is}
 use Rattle.c_syntax_goals.proofs.PhraseLaws.{lower}
 use Rattle.c_syntax_goals.proofs.Going.{level_least}
-use Rattle.c_syntax_goals.proofs.Joins.{Exp, By, weaken, joined, alone, settle, parens_read, paren_read, cast_read, sizeof_read, sizeof_joined, index_read, step_read, operator_read, assigned_read, choice_read, comma_read, argument_read, next_argument_read, behind_read, local_read, next_declarator_read, init_read, elements_read, next_init_read, length_read, array_read}
-use Rattle.c_syntax_goals.proofs.UnitJoins.{condition_read, semi_read, part_paren_read, expression_read, block_read, if_read, while_read, do_read, for_read, item_read, local_item_read, next_param_read, params_read, body_read, function_read, globals_read, external_read, whole_read}
+use Rattle.c_syntax_goals.proofs.Joins.{Exp, By, weaken, joined, alone, settle, parens_read, paren_read, cast_read, sizeof_read, sizeof_joined, index_read, step_read}
+use Rattle.c_syntax_goals.proofs.Joins.{operator_read, assigned_read, choice_read, comma_read, argument_read, next_argument_read, behind_read, local_read, next_declarator_read}
+use Rattle.c_syntax_goals.proofs.Joins.{init_read, elements_read, next_init_read, length_read, array_read}
+use Rattle.c_syntax_goals.proofs.UnitJoins.{condition_read, semi_read, part_paren_read, expression_read, block_read, if_read, while_read, do_read, for_read, item_read}
+use Rattle.c_syntax_goals.proofs.UnitJoins.{local_item_read, next_param_read, params_read, body_read, function_read, globals_read, external_read, whole_read}
 
 -- the level that a token opens
 abbrev pub opened_step : Step → ℕ → ℕ
@@ -76,7 +83,13 @@ module _ (t : Placed) (n : ℕ) (ts : List Opening) (u : AUnit) where
 
   back_unsigned : (k : Class) (at : ℕ) (κ : Spec → Stack) → OfStep (Goals.unsigned_step k t at κ) n ts u → Yields (Want (AfterUnsigned at) κ) n (read (Goals.unsigned_step k t at κ) k t n ∷ ts) u
   back_unsigned c.Char at κ h = record { item = specs.UnsignedChar at t.at; rest = ts; is = refl; onwards = h }
-  back_unsigned c.Short at κ h = record { item = specs.UnsignedShort at t.at h.item; rest = h.rest; is = ap (λ (x : List Opening). plain (word keys.Unsigned at) ∷ plain (word keys.Short t.at) ∷ x) h.is; onwards = h.onwards }
+  back_unsigned c.Short at κ h = record {
+    item = specs.UnsignedShort at t.at h.item;
+    rest = h.rest;
+    is =
+        ap (λ (x : List Opening). plain (word keys.Unsigned at) ∷ plain (word keys.Short t.at) ∷ x) h.is;
+    onwards = h.onwards;
+  }
   back_unsigned k at κ h = absurd h
 
   back_stars : (k : Class) (κ : List ℕ → Stack) → OfTurn (Goals.stars_turn k t n κ) κ k t n ts u → Yields (Want Stars κ) n (lead (Goals.stars_turn k t n κ) κ k t n ∷ ts) u
@@ -94,7 +107,8 @@ module _ (t : Placed) (n : ℕ) (ts : List Opening) (u : AUnit) where
   back_primary c.Str κ h = record { item = str (str_in t.kind) t.at; rest = ts; is = (refl, tt); onwards = h }
   back_primary k κ h = back_parens k κ h
 
-  back_prefix : (k : Class) → class_of t.kind ≡ k → PrefixClass k → (κ : AnExp → Stack) → Yields (Want Cast (λ e. κ (prefix (prefix_in t.kind) t.at e))) (n + 1) ts u → Yields (Want Unary κ) n (opens (n + 1) (spelled k t) ∷ ts) u
+  back_prefix : (k : Class) → class_of t.kind ≡ k → PrefixClass k → (κ : AnExp → Stack) → Yields (Want Cast (λ e. κ (prefix (prefix_in t.kind) t.at e))) (n + 1) ts u
+      → Yields (Want Unary κ) n (opens (n + 1) (spelled k t) ∷ ts) u
   back_prefix k e i κ h = record {
     item = prefix (prefix_in t.kind) t.at h.item;
     rest = h.rest;
@@ -130,16 +144,27 @@ module _ (t : Placed) (n : ℕ) (ts : List Opening) (u : AUnit) where
   back_cond k e κ h = joined 13 3 2 (omega arith) _ n (By κ u) (back_cast k e (λ v. Want (Tail false v) κ) h)
 
   back_commas : (k : Class) (l : AnExp) (κ : AnExp → Stack) → OfTurn (Goals.commas_turn k n l κ) κ k t n ts u → Yields (Want (Commas l) κ) n (lead (Goals.commas_turn k n l κ) κ k t n ∷ ts) u
-  back_commas c.Comma l κ h = settle l 0 0 n (λ m. opens (m + 1) (sign marks.Comma 0) ∷ ts) (λ m. Yields (Want Assign (λ r. Want (Commas (comma l r)) κ)) (m + 1) ts u) (By κ u) (λ b i g. comma_read u l b κ ts i g) h
+  back_commas c.Comma l κ h = settle l 0 0 n (λ m. opens (m + 1) (sign marks.Comma 0) ∷ ts) (λ m. Yields (Want Assign (λ r. Want (Commas (comma l r)) κ)) (m + 1) ts u) (By κ u)
+      (λ b i g. comma_read u l b κ ts i g) h
   back_commas k l κ h = alone 0 0 l n _ (By κ u) (omega arith) h
 
-  back_call : (k : Class) (f : List ℕ) (at : ℕ) (κ : AnExp → Stack) → OfTurn (Goals.call_turn k t n f at κ) κ k t n ts u → Yields (Want (CallTail f at) κ) n (lead (Goals.call_turn k t n f at κ) κ k t n ∷ ts) u
-  back_call c.OpenParen f at κ h = record { item = call f at t.at h.item; rest = h.rest; is = (ap (λ (x : List Opening). levelled_name f at (opens (n + 2) (open_paren t.at) ∷ x)) h.is.0, h.is.1); onwards = h.onwards }
+  back_call : (k : Class) (f : List ℕ) (at : ℕ) (κ : AnExp → Stack) → OfTurn (Goals.call_turn k t n f at κ) κ k t n ts u
+      → Yields (Want (CallTail f at) κ) n (lead (Goals.call_turn k t n f at κ) κ k t n ∷ ts) u
+  back_call c.OpenParen f at κ h = record {
+    item = call f at t.at h.item;
+    rest = h.rest;
+    is =
+        (ap (λ (x : List Opening). levelled_name f at (opens (n + 2) (open_paren t.at) ∷ x)) h.is.0, h.is.1);
+    onwards = h.onwards;
+  }
   back_call k f at κ h = record { item = name f at; rest = _; is = (refl, tt); onwards = h }
 
-  back_post : (k : Class) → class_of t.kind ≡ k → (l : AnExp) (κ : AnExp → Stack) → OfTurn (Goals.post_turn k t n l κ) κ k t n ts u → Yields (Want (PostTail l) κ) n (lead (Goals.post_turn k t n l κ) κ k t n ∷ ts) u
-  back_post c.OpenBracket e l κ h = settle l 15 15 n (λ m. opens (m + 2) (sign marks.OpenBracket t.at) ∷ ts) (λ m. Yields (Want Expr (λ i. Want WantBracket (λ x. Want (Back (m + 1)) (λ y. Want (PostTail (index l t.at i)) κ)))) (m + 2) ts u) (By κ u) (λ b i g. index_read u l t.at b κ ts i g) h
-  back_post c.Step e l κ h = settle l 15 15 n (λ m. opens (m + 1) (spelled c.Step t) ∷ ts) (λ m. Yields (Want (PostTail (step_after l (step_in t.kind) t.at)) κ) (m + 1) ts u) (By κ u) (λ b i g. subst (λ (x : Placed). Exp 15 (levelled_exp l b (opens (after_exp l b + 1) x ∷ ts)) b (By κ u)) (sym (step_is t c.Step e tt)) (step_read u l (step_in t.kind) t.at b κ ts i g)) h
+  back_post : (k : Class) → class_of t.kind ≡ k → (l : AnExp) (κ : AnExp → Stack) → OfTurn (Goals.post_turn k t n l κ) κ k t n ts u
+      → Yields (Want (PostTail l) κ) n (lead (Goals.post_turn k t n l κ) κ k t n ∷ ts) u
+  back_post c.OpenBracket e l κ h = settle l 15 15 n (λ m. opens (m + 2) (sign marks.OpenBracket t.at) ∷ ts)
+      (λ m. Yields (Want Expr (λ i. Want WantBracket (λ x. Want (Back (m + 1)) (λ y. Want (PostTail (index l t.at i)) κ)))) (m + 2) ts u) (By κ u) (λ b i g. index_read u l t.at b κ ts i g) h
+  back_post c.Step e l κ h = settle l 15 15 n (λ m. opens (m + 1) (spelled c.Step t) ∷ ts) (λ m. Yields (Want (PostTail (step_after l (step_in t.kind) t.at)) κ) (m + 1) ts u) (By κ u)
+      (λ b i g. subst (λ (x : Placed). Exp 15 (levelled_exp l b (opens (after_exp l b + 1) x ∷ ts)) b (By κ u)) (sym (step_is t c.Step e tt)) (step_read u l (step_in t.kind) t.at b κ ts i g)) h
   back_post c.OpenParen e l κ h = absurd h
   back_post k e l κ h = alone 15 15 l n _ (By κ u) (omega arith) h
 
@@ -149,19 +174,27 @@ module _ (t : Placed) (n : ℕ) (ts : List Opening) (u : AUnit) where
   back_ended c.OpenParen κ h = absurd h
   back_ended k κ h = h
 
-  back_operator : (k : Class) → class_of t.kind ≡ k → InfixClass k → (l : AnExp) (κ : AnExp → Stack) → Yields (Want Cast (λ r. Want (Tail false (insert l (binary_in t.kind) t.at r)) κ)) (n + 1) ts u → Onto 3 2 l n (opens (n + 1) (spelled k t) ∷ ts) (By κ u)
-  back_operator k e q l κ h = settle l 3 2 n (λ m. opens (m + 1) (spelled k t) ∷ ts) (λ m. Yields (Want Cast (λ r. Want (Tail false (insert l (binary_in t.kind) t.at r)) κ)) (m + 1) ts u) (By κ u) (λ b i g. subst (λ (x : Placed). Exp 2 (levelled_exp l b (opens (after_exp l b + 1) x ∷ ts)) b (By κ u)) (sym (infix_is t k e q)) (operator_read u l (binary_in t.kind) t.at b κ ts (level_least (binary_in t.kind)) i g)) h
+  back_operator : (k : Class) → class_of t.kind ≡ k → InfixClass k → (l : AnExp) (κ : AnExp → Stack)
+      → Yields (Want Cast (λ r. Want (Tail false (insert l (binary_in t.kind) t.at r)) κ)) (n + 1) ts u → Onto 3 2 l n (opens (n + 1) (spelled k t) ∷ ts) (By κ u)
+  back_operator k e q l κ h = settle l 3 2 n (λ m. opens (m + 1) (spelled k t) ∷ ts) (λ m. Yields (Want Cast (λ r. Want (Tail false (insert l (binary_in t.kind) t.at r)) κ)) (m + 1) ts u)
+      (By κ u) (λ b i g. subst (λ (x : Placed). Exp 2 (levelled_exp l b (opens (after_exp l b + 1) x ∷ ts)) b (By κ u)) (sym (infix_is t k e q))
+      (operator_read u l (binary_in t.kind) t.at b κ ts (level_least (binary_in t.kind)) i g)) h
 
-  back_choice : (l : AnExp) (κ : AnExp → Stack) → Yields (Want Expr (λ e. Want WantColon (λ x. Want Cond (λ d. κ (choice l t.at e d))))) (n + 1) ts u → Onto 3 2 l n (opens (n + 1) (sign marks.Question t.at) ∷ ts) (By κ u)
-  back_choice l κ h = settle l 3 2 n (λ m. opens (m + 1) (sign marks.Question t.at) ∷ ts) (λ m. Yields (Want Expr (λ e. Want WantColon (λ x. Want Cond (λ d. κ (choice l t.at e d))))) (m + 1) ts u) (By κ u) (λ b i g. choice_read u l t.at b κ ts i g) h
+  back_choice : (l : AnExp) (κ : AnExp → Stack) → Yields (Want Expr (λ e. Want WantColon (λ x. Want Cond (λ d. κ (choice l t.at e d))))) (n + 1) ts u
+      → Onto 3 2 l n (opens (n + 1) (sign marks.Question t.at) ∷ ts) (By κ u)
+  back_choice l κ h = settle l 3 2 n (λ m. opens (m + 1) (sign marks.Question t.at) ∷ ts)
+      (λ m. Yields (Want Expr (λ e. Want WantColon (λ x. Want Cond (λ d. κ (choice l t.at e d))))) (m + 1) ts u) (By κ u) (λ b i g. choice_read u l t.at b κ ts i g) h
 
-  back_assigned : (k : Class) → class_of t.kind ≡ k → AssignClass k → (l : AnExp) (κ : AnExp → Stack) → Yields (Want Assign (λ v. κ (assign l (assign_in t.kind) t.at v))) (n + 1) ts u → Onto 14 1 l n (opens (n + 1) (spelled k t) ∷ ts) (By κ u)
-  back_assigned k e q l κ h = settle l 14 1 n (λ m. opens (m + 1) (spelled k t) ∷ ts) (λ m. Yields (Want Assign (λ v. κ (assign l (assign_in t.kind) t.at v))) (m + 1) ts u) (By κ u) (λ b i g. subst (λ (x : Placed). Exp 1 (levelled_exp l b (opens (after_exp l b + 1) x ∷ ts)) b (By κ u)) (sym (assign_is t k e q)) (assigned_read u l (assign_in t.kind) t.at b κ ts i g)) h
+  back_assigned : (k : Class) → class_of t.kind ≡ k → AssignClass k → (l : AnExp) (κ : AnExp → Stack) → Yields (Want Assign (λ v. κ (assign l (assign_in t.kind) t.at v))) (n + 1) ts u
+      → Onto 14 1 l n (opens (n + 1) (spelled k t) ∷ ts) (By κ u)
+  back_assigned k e q l κ h = settle l 14 1 n (λ m. opens (m + 1) (spelled k t) ∷ ts) (λ m. Yields (Want Assign (λ v. κ (assign l (assign_in t.kind) t.at v))) (m + 1) ts u) (By κ u)
+      (λ b i g. subst (λ (x : Placed). Exp 1 (levelled_exp l b (opens (after_exp l b + 1) x ∷ ts)) b (By κ u)) (sym (assign_is t k e q)) (assigned_read u l (assign_in t.kind) t.at b κ ts i g)) h
 
   tighten : (l : AnExp) (w : List Opening) (κ : AnExp → Stack) → Onto 3 2 l n w (By κ u) → Onto 14 1 l n w (By κ u)
   tighten l w κ h = λ b e i. weaken 1 2 (omega arith) _ b (By κ u) (h b e (lower 3 14 l (omega arith) i))
 
-  back_tail : (k : Class) → class_of t.kind ≡ k → (l : AnExp) (κ : AnExp → Stack) → OfTurn (Goals.tail_turn k t n false l κ) κ k t n ts u → Yields (Want (Tail false l) κ) n (lead (Goals.tail_turn k t n false l κ) κ k t n ∷ ts) u
+  back_tail : (k : Class) → class_of t.kind ≡ k → (l : AnExp) (κ : AnExp → Stack) → OfTurn (Goals.tail_turn k t n false l κ) κ k t n ts u
+      → Yields (Want (Tail false l) κ) n (lead (Goals.tail_turn k t n false l κ) κ k t n ∷ ts) u
   back_tail c.Equals e l κ h = absurd h
   back_tail c.Compound e l κ h = absurd h
   back_tail c.Infix e l κ h = back_operator c.Infix e tt l κ h
@@ -170,7 +203,8 @@ module _ (t : Placed) (n : ℕ) (ts : List Opening) (u : AUnit) where
   back_tail c.Question e l κ h = back_choice l κ h
   back_tail k e l κ h = alone 3 2 l n _ (By κ u) (omega arith) h
 
-  back_bare_tail : (k : Class) → class_of t.kind ≡ k → (l : AnExp) (κ : AnExp → Stack) → OfTurn (Goals.tail_turn k t n true l κ) κ k t n ts u → Yields (Want (Tail true l) κ) n (lead (Goals.tail_turn k t n true l κ) κ k t n ∷ ts) u
+  back_bare_tail : (k : Class) → class_of t.kind ≡ k → (l : AnExp) (κ : AnExp → Stack) → OfTurn (Goals.tail_turn k t n true l κ) κ k t n ts u
+      → Yields (Want (Tail true l) κ) n (lead (Goals.tail_turn k t n true l κ) κ k t n ∷ ts) u
   back_bare_tail c.Equals e l κ h = back_assigned c.Equals e tt l κ h
   back_bare_tail c.Compound e l κ h = back_assigned c.Compound e tt l κ h
   back_bare_tail c.Infix e l κ h = tighten l _ κ (back_operator c.Infix e tt l κ h)
@@ -186,7 +220,8 @@ module _ (t : Placed) (n : ℕ) (ts : List Opening) (u : AUnit) where
   paren_of : (o m i : ℕ) (κ : AnExp → Stack) (x : List Opening) → Yields (Want Expr (paren_behind o m κ)) i x u → i ≡ m + 1 → Exp 15 (opens (m + 1) (open_paren o) ∷ x) m (By κ u)
   paren_of o m i κ x h q = paren_read u o m κ x (subst (λ (j : ℕ). Yields (Want Expr (paren_behind o m κ)) j x u) q h)
 
-  back_group : (k : Class) → class_of t.kind ≡ k → (o m : ℕ) (κ : AnExp → Stack) → OfStep (Goals.group_step k t o m n κ) n ts u → Yields (Want (Group o m) κ) n (read (Goals.group_step k t o m n κ) k t n ∷ ts) u
+  back_group : (k : Class) → class_of t.kind ≡ k → (o m : ℕ) (κ : AnExp → Stack) → OfStep (Goals.group_step k t o m n κ) n ts u
+      → Yields (Want (Group o m) κ) n (read (Goals.group_step k t o m n κ) k t n ∷ ts) u
   back_group c.Int e o m κ h = λ q. group_of o m n κ _ (back_words c.Int (stars_then (cast_behind o κ)) h) q
   back_group c.Char e o m κ h = λ q. group_of o m n κ _ (back_words c.Char (stars_then (cast_behind o κ)) h) q
   back_group c.Void e o m κ h = λ q. group_of o m n κ _ (back_words c.Void (stars_then (cast_behind o κ)) h) q
@@ -194,10 +229,13 @@ module _ (t : Placed) (n : ℕ) (ts : List Opening) (u : AUnit) where
   back_group c.Unsigned e o m κ h = λ q. group_of o m n κ _ (back_words c.Unsigned (stars_then (cast_behind o κ)) h) q
   back_group k e o m κ h = λ q. weaken 13 15 (omega arith) _ m (By κ u) (paren_of o m n κ _ (back_expr k e (paren_behind o m κ) h) q)
 
-  first_cast : (k : Class) (o m : ℕ) (κ : AnExp → Stack) → OfStep (Goals.type_step k t (cast_behind o (λ v. Want (Tail false v) κ))) n ts u → Yields (Want (First o m) κ) n (read (Goals.type_step k t (cast_behind o (λ v. Want (Tail false v) κ))) k t n ∷ ts) u
-  first_cast k o m κ h = λ q. weaken 1 2 (omega arith) _ m (By κ u) (joined 13 3 2 (omega arith) _ m (By κ u) (group_of o m n (λ v. Want (Tail false v) κ) _ (back_words k (stars_then (cast_behind o (λ v. Want (Tail false v) κ))) h) q))
+  first_cast : (k : Class) (o m : ℕ) (κ : AnExp → Stack) → OfStep (Goals.type_step k t (cast_behind o (λ v. Want (Tail false v) κ))) n ts u
+      → Yields (Want (First o m) κ) n (read (Goals.type_step k t (cast_behind o (λ v. Want (Tail false v) κ))) k t n ∷ ts) u
+  first_cast k o m κ h = λ q. weaken 1 2 (omega arith) _ m (By κ u) (joined 13 3 2 (omega arith) _ m (By κ u)
+      (group_of o m n (λ v. Want (Tail false v) κ) _ (back_words k (stars_then (cast_behind o (λ v. Want (Tail false v) κ))) h) q))
 
-  back_first : (k : Class) → class_of t.kind ≡ k → (o m : ℕ) (κ : AnExp → Stack) → OfStep (Goals.first_step k t o m n κ) n ts u → Yields (Want (First o m) κ) n (read (Goals.first_step k t o m n κ) k t n ∷ ts) u
+  back_first : (k : Class) → class_of t.kind ≡ k → (o m : ℕ) (κ : AnExp → Stack) → OfStep (Goals.first_step k t o m n κ) n ts u
+      → Yields (Want (First o m) κ) n (read (Goals.first_step k t o m n κ) k t n ∷ ts) u
   back_first c.Int e o m κ h = first_cast c.Int o m κ h
   back_first c.Char e o m κ h = first_cast c.Char o m κ h
   back_first c.Void e o m κ h = first_cast c.Void o m κ h
@@ -208,19 +246,24 @@ module _ (t : Placed) (n : ℕ) (ts : List Opening) (u : AUnit) where
   sizeof_of : (at b i : ℕ) (κ : AnExp → Stack) (x : List Opening) → Exp 14 x i (By (λ v. κ (sizeof_exp at v)) u) → i ≡ b + 1 → Exp 14 (opens (b + 1) (word keys.Sizeof at) ∷ x) b (By κ u)
   sizeof_of at b i κ x h q = sizeof_joined u at b κ x (subst (λ (j : ℕ). Exp 14 x j (By (λ v. κ (sizeof_exp at v)) u)) q h)
 
-  back_sizeof : (k : Class) → class_of t.kind ≡ k → (at : ℕ) (κ : AnExp → Stack) → OfStep (Goals.sizeof_step k t at n κ) n ts u → Yields (Want (SizeofTail at) κ) n (read (Goals.sizeof_step k t at n κ) k t n ∷ ts) u
+  back_sizeof : (k : Class) → class_of t.kind ≡ k → (at : ℕ) (κ : AnExp → Stack) → OfStep (Goals.sizeof_step k t at n κ) n ts u
+      → Yields (Want (SizeofTail at) κ) n (read (Goals.sizeof_step k t at n κ) k t n ∷ ts) u
   back_sizeof c.OpenParen e at κ h = λ b q. subst (λ (j : ℕ). Exp 14 (opens (b + 1) (word keys.Sizeof at) ∷ opens (j + 1) (open_paren t.at) ∷ ts) b (By κ u)) (sym q) (h b q refl)
   back_sizeof k e at κ h = λ b q. sizeof_of at b n κ _ (back_unary k e (λ v. κ (sizeof_exp at v)) h) q
 
-  sizeof_type_of : (at o m i b : ℕ) (κ : AnExp → Stack) (x : List Opening) → Yields (type_goals (sizeof_behind at o m κ)) i x u → m ≡ b + 1 → i ≡ m + 1 → Exp 14 (opens (b + 1) (word keys.Sizeof at) ∷ opens (b + 1 + 1) (open_paren o) ∷ x) b (By κ u)
-  sizeof_type_of at o m i b κ x h p q = sizeof_read u at o b κ x (subst (λ (j : ℕ). Yields (type_goals (sizeof_behind at o j κ)) (j + 1) x u) p (subst (λ (j : ℕ). Yields (type_goals (sizeof_behind at o m κ)) j x u) q h))
+  sizeof_type_of : (at o m i b : ℕ) (κ : AnExp → Stack) (x : List Opening) → Yields (type_goals (sizeof_behind at o m κ)) i x u → m ≡ b + 1 → i ≡ m + 1
+      → Exp 14 (opens (b + 1) (word keys.Sizeof at) ∷ opens (b + 1 + 1) (open_paren o) ∷ x) b (By κ u)
+  sizeof_type_of at o m i b κ x h p q = sizeof_read u at o b κ x (subst (λ (j : ℕ). Yields (type_goals (sizeof_behind at o j κ)) (j + 1) x u) p
+      (subst (λ (j : ℕ). Yields (type_goals (sizeof_behind at o m κ)) j x u) q h))
 
-  sizeof_paren_of : (at o m i b : ℕ) (κ : AnExp → Stack) (x : List Opening) → Yields (Want Expr (paren_behind o m (λ v. κ (sizeof_exp at v)))) i x u → m ≡ b + 1 → i ≡ m + 1 → Exp 14 (opens (b + 1) (word keys.Sizeof at) ∷ opens (b + 1 + 1) (open_paren o) ∷ x) b (By κ u)
+  sizeof_paren_of : (at o m i b : ℕ) (κ : AnExp → Stack) (x : List Opening) → Yields (Want Expr (paren_behind o m (λ v. κ (sizeof_exp at v)))) i x u → m ≡ b + 1 → i ≡ m + 1
+      → Exp 14 (opens (b + 1) (word keys.Sizeof at) ∷ opens (b + 1 + 1) (open_paren o) ∷ x) b (By κ u)
   sizeof_paren_of at o m i b κ x h p q =
       sizeof_joined u at b κ (opens (b + 1 + 1) (open_paren o) ∷ x) (subst (λ (j : ℕ). Exp 14 (opens (j + 1) (open_paren o) ∷ x) j (By (λ v. κ (sizeof_exp at v)) u)) p
       (weaken 14 15 (omega arith) _ m (By (λ v. κ (sizeof_exp at v)) u) (paren_of o m i (λ v. κ (sizeof_exp at v)) x h q)))
 
-  back_sizeof_group : (k : Class) → class_of t.kind ≡ k → (at o m : ℕ) (κ : AnExp → Stack) → OfStep (Goals.sizeof_group_step k t at o m n κ) n ts u → Yields (Want (SizeofGroup at o m) κ) n (read (Goals.sizeof_group_step k t at o m n κ) k t n ∷ ts) u
+  back_sizeof_group : (k : Class) → class_of t.kind ≡ k → (at o m : ℕ) (κ : AnExp → Stack) → OfStep (Goals.sizeof_group_step k t at o m n κ) n ts u
+      → Yields (Want (SizeofGroup at o m) κ) n (read (Goals.sizeof_group_step k t at o m n κ) k t n ∷ ts) u
   back_sizeof_group c.Int e at o m κ h = λ b p q. sizeof_type_of at o m n b κ _ (back_words c.Int (stars_then (sizeof_behind at o m κ)) h) p q
   back_sizeof_group c.Char e at o m κ h = λ b p q. sizeof_type_of at o m n b κ _ (back_words c.Char (stars_then (sizeof_behind at o m κ)) h) p q
   back_sizeof_group c.Void e at o m κ h = λ b p q. sizeof_type_of at o m n b κ _ (back_words c.Void (stars_then (sizeof_behind at o m κ)) h) p q
@@ -228,7 +271,8 @@ module _ (t : Placed) (n : ℕ) (ts : List Opening) (u : AUnit) where
   back_sizeof_group c.Unsigned e at o m κ h = λ b p q. sizeof_type_of at o m n b κ _ (back_words c.Unsigned (stars_then (sizeof_behind at o m κ)) h) p q
   back_sizeof_group k e at o m κ h = λ b p q. sizeof_paren_of at o m n b κ _ (back_expr k e (paren_behind o m (λ v. κ (sizeof_exp at v))) h) p q
 
-  back_arguments : (k : Class) → class_of t.kind ≡ k → (κ : SomeExps → Stack) → OfStep (Goals.arguments_step k t n κ) n ts u → Yields (Want Arguments κ) n (read (Goals.arguments_step k t n κ) k t n ∷ ts) u
+  back_arguments : (k : Class) → class_of t.kind ≡ k → (κ : SomeExps → Stack) → OfStep (Goals.arguments_step k t n κ) n ts u
+      → Yields (Want Arguments κ) n (read (Goals.arguments_step k t n κ) k t n ∷ ts) u
   back_arguments c.CloseParen e κ h = record { item = no_exps; rest = ts; is = (refl, tt); onwards = h }
   back_arguments k e κ h = argument_read u n κ _ (back_assign k e (λ a. Want (Back n) (λ x. Want MoreArguments (λ es. κ (exps a es)))) h)
 
@@ -263,11 +307,13 @@ module _ (t : Placed) (n : ℕ) (ts : List Opening) (u : AUnit) where
   back_condition c.OpenParen κ h = condition_read u t.at n κ ts h
   back_condition k κ h = absurd h
 
-  back_part_semi : (k : Class) → class_of t.kind ≡ k → (κ : Option AnExp → Stack) → OfStep (Goals.part_semi_step k t n κ) n ts u → Yields (Want PartSemi κ) n (read (Goals.part_semi_step k t n κ) k t n ∷ ts) u
+  back_part_semi : (k : Class) → class_of t.kind ≡ k → (κ : Option AnExp → Stack) → OfStep (Goals.part_semi_step k t n κ) n ts u
+      → Yields (Want PartSemi κ) n (read (Goals.part_semi_step k t n κ) k t n ∷ ts) u
   back_part_semi c.Semicolon e κ h = record { item = None; rest = ts; is = (refl, tt); onwards = h }
   back_part_semi k e κ h = semi_read u n κ _ (back_expr k e (λ v. Want (Back n) (λ x. Want WantSemi (λ y. κ (Some v)))) h)
 
-  back_part_paren : (k : Class) → class_of t.kind ≡ k → (κ : Option AnExp → Stack) → OfStep (Goals.part_paren_step k t n κ) n ts u → Yields (Want PartParen κ) n (read (Goals.part_paren_step k t n κ) k t n ∷ ts) u
+  back_part_paren : (k : Class) → class_of t.kind ≡ k → (κ : Option AnExp → Stack) → OfStep (Goals.part_paren_step k t n κ) n ts u
+      → Yields (Want PartParen κ) n (read (Goals.part_paren_step k t n κ) k t n ∷ ts) u
   back_part_paren c.CloseParen e κ h = record { item = None; rest = ts; is = (refl, tt); onwards = h }
   back_part_paren k e κ h = part_paren_read u n κ _ (back_expr k e (λ v. Want (Back n) (λ x. Want WantParen (λ y. κ (Some v)))) h)
 
@@ -282,7 +328,8 @@ module _ (t : Placed) (n : ℕ) (ts : List Opening) (u : AUnit) where
   back_simple c.Return e κ h = record { item = give_back t.at h.item; rest = h.rest; is = (ap (λ (x : List Opening). plain (word keys.Return t.at) ∷ x) h.is.0, (h.is.1, inl tt)); onwards = h.onwards }
   back_simple k e κ h = expression_read u n κ _ (back_expr k e (λ v. Want (Back n) (λ x. Want WantSemi (λ y. κ (expression v)))) h)
 
-  back_statement : (k : Class) → class_of t.kind ≡ k → (κ : AStatement → Stack) → OfStep (Goals.statement_step k t n κ) n ts u → Yields (Want Statement κ) n (read (Goals.statement_step k t n κ) k t n ∷ ts) u
+  back_statement : (k : Class) → class_of t.kind ≡ k → (κ : AStatement → Stack) → OfStep (Goals.statement_step k t n κ) n ts u
+      → Yields (Want Statement κ) n (read (Goals.statement_step k t n κ) k t n ∷ ts) u
   back_statement c.OpenBrace e κ h = block_read u n κ ts h
   back_statement c.If e κ h = if_read u t.at n κ ts h
   back_statement c.While e κ h = while_read u t.at n κ ts h
@@ -306,7 +353,8 @@ module _ (t : Placed) (n : ℕ) (ts : List Opening) (u : AUnit) where
   other_than_else : (k : Class) → class_of t.kind ≡ k → NotElse k → (spelled k t).kind ≡ token.Key keys.Else → ⊥
   other_than_else k e i q = subst NotElse (sym (spelled_class k e) ∙ ap class_of q) i
 
-  back_else : (k : Class) → class_of t.kind ≡ k → (at o : ℕ) (v : AnExp) (s : AStatement) (κ : AStatement → Stack) → OfTurn (Goals.else_turn k t n at o v s κ) κ k t n ts u → Yields (Want (ElsePart at o v s) κ) n (lead (Goals.else_turn k t n at o v s κ) κ k t n ∷ ts) u
+  back_else : (k : Class) → class_of t.kind ≡ k → (at o : ℕ) (v : AnExp) (s : AStatement) (κ : AStatement → Stack) → OfTurn (Goals.else_turn k t n at o v s κ) κ k t n ts u
+      → Yields (Want (ElsePart at o v s) κ) n (lead (Goals.else_turn k t n at o v s κ) κ k t n ∷ ts) u
   back_else c.Else e at o v s κ h = inr (record { item = (t.at, h.item); rest = h.rest; is = (ts, (refl, h.is)); onwards = h.onwards })
   back_else k e at o v s κ h = inl (other_than_else k e tt, h)
 
@@ -327,7 +375,8 @@ module _ (t : Placed) (n : ℕ) (ts : List Opening) (u : AUnit) where
   back_items k e κ h = item_read u n κ _ (back_statement k e (λ s. Want Items (λ is. κ (statement_item s is))) h)
 
   -- declarators
-  back_declarator_name : (k : Class) (ats : List ℕ) (κ : ADeclarator → Stack) → OfStep (Goals.declarator_name_step k t ats κ) n ts u → Yields (Want (DeclaratorName ats) κ) n (read (Goals.declarator_name_step k t ats κ) k t n ∷ ts) u
+  back_declarator_name : (k : Class) (ats : List ℕ) (κ : ADeclarator → Stack) → OfStep (Goals.declarator_name_step k t ats κ) n ts u
+      → Yields (Want (DeclaratorName ats) κ) n (read (Goals.declarator_name_step k t ats κ) k t n ∷ ts) u
   back_declarator_name c.Name ats κ h = behind_read u ats (name_in t.kind) t.at n κ ts h
   back_declarator_name k ats κ h = absurd h
 
@@ -340,7 +389,13 @@ module _ (t : Placed) (n : ℕ) (ts : List Opening) (u : AUnit) where
   back_length k e κ h = length_read u n κ _ (back_cond k e (λ v. Want WantBracket (λ x. κ (Some v))) h)
 
   back_init_part : (k : Class) (κ : Option AnInitialised → Stack) → OfTurn (Goals.init_part_turn k t n κ) κ k t n ts u → Yields (Want InitPart κ) n (lead (Goals.init_part_turn k t n κ) κ k t n ∷ ts) u
-  back_init_part c.Equals κ h = record { item = Some (record { at = t.at; with_init = h.item }); rest = h.rest; is = (ap (λ (x : List Opening). plain (sign marks.Assign t.at) ∷ x) h.is.0, h.is.1); onwards = h.onwards }
+  back_init_part c.Equals κ h = record {
+    item = Some (record { at = t.at; with_init = h.item });
+    rest = h.rest;
+    is =
+        (ap (λ (x : List Opening). plain (sign marks.Assign t.at) ∷ x) h.is.0, h.is.1);
+    onwards = h.onwards;
+  }
   back_init_part k κ h = record { item = None; rest = _; is = (refl, tt); onwards = h }
 
   back_init : (k : Class) → class_of t.kind ≡ k → (κ : AnInit → Stack) → OfStep (Goals.init_step k t n κ) n ts u → Yields (Want Init κ) n (read (Goals.init_step k t n κ) k t n ∷ ts) u
@@ -355,25 +410,42 @@ module _ (t : Placed) (n : ℕ) (ts : List Opening) (u : AUnit) where
   back_init_more c.CloseBrace κ h = record { item = (no_exps, false); rest = ts; is = (refl, tt); onwards = h }
   back_init_more k κ h = absurd h
 
-  back_init_next : (k : Class) → class_of t.kind ≡ k → (κ : SomeExps × Bool → Stack) → OfStep (Goals.init_next_step k t n κ) n ts u → Yields (Want InitNext κ) n (read (Goals.init_next_step k t n κ) k t n ∷ ts) u
+  back_init_next : (k : Class) → class_of t.kind ≡ k → (κ : SomeExps × Bool → Stack) → OfStep (Goals.init_next_step k t n κ) n ts u
+      → Yields (Want InitNext κ) n (read (Goals.init_next_step k t n κ) k t n ∷ ts) u
   back_init_next c.CloseBrace e κ h = record { item = (no_exps, true); rest = ts; is = (refl, tt); onwards = h }
   back_init_next k e κ h = next_init_read u n κ _ (back_assign k e (λ a. Want (Back n) (λ x. Want InitMore (λ r. κ (exps a r.0, r.1)))) h)
 
-  back_more_declarators : (k : Class) (κ : List ADeclarator → Stack) → OfStep (Goals.more_declarators_step k κ) n ts u → Yields (Want MoreDeclarators κ) n (read (Goals.more_declarators_step k κ) k t n ∷ ts) u
+  back_more_declarators : (k : Class) (κ : List ADeclarator → Stack) → OfStep (Goals.more_declarators_step k κ) n ts u
+      → Yields (Want MoreDeclarators κ) n (read (Goals.more_declarators_step k κ) k t n ∷ ts) u
   back_more_declarators c.Comma κ h = next_declarator_read u n κ ts h
   back_more_declarators c.Semicolon κ h = record { item = []; rest = ts; is = (refl, tt); onwards = h }
   back_more_declarators k κ h = absurd h
 
   -- what stands at file level
-  back_declared_name : (k : Class) (ats : List ℕ) (κ : ADeclared → Stack) → OfStep (Goals.declared_name_step k t ats κ) n ts u → Yields (Want (DeclaredName ats) κ) n (read (Goals.declared_name_step k t ats κ) k t n ∷ ts) u
+  back_declared_name : (k : Class) (ats : List ℕ) (κ : ADeclared → Stack) → OfStep (Goals.declared_name_step k t ats κ) n ts u
+      → Yields (Want (DeclaredName ats) κ) n (read (Goals.declared_name_step k t ats κ) k t n ∷ ts) u
   back_declared_name c.Name ats κ h = h
   back_declared_name k ats κ h = absurd h
 
-  back_after_name : (k : Class) (ats f : List ℕ) (at : ℕ) (κ : ADeclared → Stack) → OfStep (Goals.after_name_step k t n ats f at κ) n ts u → Yields (Want (AfterName ats f at) κ) n (read (Goals.after_name_step k t n ats f at κ) k t n ∷ ts) u
+  back_after_name : (k : Class) (ats f : List ℕ) (at : ℕ) (κ : ADeclared → Stack) → OfStep (Goals.after_name_step k t n ats f at κ) n ts u
+      → Yields (Want (AfterName ats f at) κ) n (read (Goals.after_name_step k t n ats f at κ) k t n ∷ ts) u
   back_after_name c.OpenParen ats f at κ h = function_read u ats f at t.at n κ ts h
-  back_after_name c.OpenBracket ats f at κ h = globals_read u ats f at n κ _ (array_read u t.at n (λ l. Want InitPart (λ i. globals_behind κ (record { stars = ats; name = f; at = at; length = l; init = i }))) ts h)
-  back_after_name c.Equals ats f at κ h = globals_read u ats f at n κ _ (record { item = None; rest = _; is = (refl, tt); onwards = back_init_part c.Equals (λ i. globals_behind κ (record { stars = ats; name = f; at = at; length = None; init = i })) h })
-  back_after_name k ats f at κ h = globals_read u ats f at n κ _ (record { item = None; rest = _; is = (refl, tt); onwards = record { item = None; rest = _; is = (refl, tt); onwards = back_more_declarators k (λ ds. κ (globals (record { stars = ats; name = f; at = at; length = None; init = None } ∷ ds))) h } })
+  back_after_name c.OpenBracket ats f at κ h = globals_read u ats f at n κ _
+      (array_read u t.at n (λ l. Want InitPart (λ i. globals_behind κ (record { stars = ats; name = f; at = at; length = l; init = i }))) ts h)
+  back_after_name c.Equals ats f at κ h = globals_read u ats f at n κ _
+      (record { item = None; rest = _; is = (refl, tt); onwards = back_init_part c.Equals (λ i. globals_behind κ (record { stars = ats; name = f; at = at; length = None; init = i })) h })
+  back_after_name k ats f at κ h = globals_read u ats f at n κ _ (record {
+    item = None;
+    rest = _;
+    is = (refl, tt);
+    onwards = record {
+      item = None;
+      rest = _;
+      is = (refl, tt);
+      onwards =
+          back_more_declarators k (λ ds. κ (globals (record { stars = ats; name = f; at = at; length = None; init = None } ∷ ds))) h;
+    };
+  })
 
   back_body : (k : Class) (κ : Option SomeItems → Stack) → OfStep (Goals.body_step k n κ) n ts u → Yields (Want Body κ) n (read (Goals.body_step k n κ) k t n ∷ ts) u
   back_body c.Semicolon κ h = record { item = None; rest = ts; is = (refl, tt); onwards = h }

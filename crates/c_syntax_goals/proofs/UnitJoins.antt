@@ -12,8 +12,10 @@ use Rattle.c_phrases.specs.Units.{ALength, ADeclarator, AStatement, block, expre
 use Rattle.c_phrases.specs.Units.{SomeItems, local_item, statement_item, AParam, SomeParams, ADeclared, function, globals, AnExternal, AUnit}
 use Rattle.c_phrases.specs.Fits.{LengthFits, DeclaratorFits, IsShut, ParamFits, ParamsFit, SomeParamsFit}
 use Rattle.c_syntax_goals.specs.Openings.{Opening, opens, plain, levelled_spec, levelled_stars, levelled_name, levelled_exp, levelled_part, levelled_length}
-use Rattle.c_syntax_goals.specs.Openings.{levelled_declarator, levelled_local, levelled_condition, levelled_statement, levelled_named, levelled_param, levelled_more_params, levelled_params, levelled_static, levelled_external}
-use Rattle.c_syntax_goals.specs.Goals.{Stack, Want, declarator_behind, if_goals, while_goals, do_goals, for_goals, item_local, param_goals, lone_param, some_params, function_behind, globals_behind, external_rest, before}
+use Rattle.c_syntax_goals.specs.Openings.{levelled_declarator, levelled_local, levelled_condition, levelled_statement, levelled_named, levelled_param, levelled_more_params}
+use Rattle.c_syntax_goals.specs.Openings.{levelled_params, levelled_static, levelled_external}
+use Rattle.c_syntax_goals.specs.Goals.{Stack, Want, declarator_behind, if_goals, while_goals, do_goals, for_goals, item_local, param_goals, lone_param, some_params}
+use Rattle.c_syntax_goals.specs.Goals.{function_behind, globals_behind, external_rest, before}
 use Rattle.c_syntax_goals.specs.Goals.{Expr, Back, WantParen, WantSemi, TypeWords}
 use Rattle.c_syntax_goals.specs.Goals.{Condition, Statement, Items, PartSemi, PartParen, ElsePart, Local, AfterName, Body, Params, MoreParams, External, Whole}
 use Rattle.c_syntax_goals.proofs.Yields.{Found, open_paren, close_paren, semi, comma_mark, NoElse, IsStatement, Yields}
@@ -21,7 +23,8 @@ use Rattle.c_syntax_goals.proofs.Joins.{behind_read}
 
 module _ (u : AUnit) where
   -- statements
-  pub condition_read : (o n : ℕ) (κ : ℕ × AnExp → Stack) (ts : List Opening) → Yields (Want Expr (λ e. Want WantParen (λ x. Want (Back n) (λ y. κ (o, e))))) (n + 1) ts u → Yields (Want Condition κ) n (opens (n + 1) (open_paren o) ∷ ts) u
+  pub condition_read : (o n : ℕ) (κ : ℕ × AnExp → Stack) (ts : List Opening) → Yields (Want Expr (λ e. Want WantParen (λ x. Want (Back n) (λ y. κ (o, e))))) (n + 1) ts u
+      → Yields (Want Condition κ) n (opens (n + 1) (open_paren o) ∷ ts) u
   condition_read o n κ ts h =
       let p = h.onwards in
       record { item = (o, h.item); rest = p.rest; is = (ap (λ (x : List Opening). opens (n + 1) (open_paren o) ∷ x) (h.is.0 ∙ ap (levelled_exp h.item (n + 1)) p.is), h.is.1); onwards = p.onwards }
@@ -31,24 +34,28 @@ module _ (u : AUnit) where
       let p = h.onwards in
       record { item = Some h.item; rest = p.rest; is = (h.is.0 ∙ ap (levelled_exp h.item n) p.is, h.is.1); onwards = p.onwards }
 
-  pub part_paren_read : (n : ℕ) (κ : Option AnExp → Stack) (ts : List Opening) → Yields (Want Expr (λ e. Want (Back n) (λ x. Want WantParen (λ y. κ (Some e))))) n ts u → Yields (Want PartParen κ) n ts u
+  pub part_paren_read : (n : ℕ) (κ : Option AnExp → Stack) (ts : List Opening) → Yields (Want Expr (λ e. Want (Back n) (λ x. Want WantParen (λ y. κ (Some e))))) n ts u
+      → Yields (Want PartParen κ) n ts u
   part_paren_read n κ ts h =
       let p = h.onwards in
       record { item = Some h.item; rest = p.rest; is = (h.is.0 ∙ ap (levelled_exp h.item n) p.is, h.is.1); onwards = p.onwards }
 
-  pub expression_read : (n : ℕ) (κ : AStatement → Stack) (ts : List Opening) → Yields (Want Expr (λ e. Want (Back n) (λ x. Want WantSemi (λ y. κ (expression e))))) n ts u → Yields (Want Statement κ) n ts u
+  pub expression_read : (n : ℕ) (κ : AStatement → Stack) (ts : List Opening) → Yields (Want Expr (λ e. Want (Back n) (λ x. Want WantSemi (λ y. κ (expression e))))) n ts u
+      → Yields (Want Statement κ) n ts u
   expression_read n κ ts h =
       let p = h.onwards in
       record { item = expression h.item; rest = p.rest; is = (h.is.0 ∙ ap (levelled_exp h.item n) p.is, (h.is.1, inl tt)); onwards = p.onwards }
 
-  pub block_read : (n : ℕ) (κ : AStatement → Stack) (ts : List Opening) → Yields (Want Items (λ is. Want (Back n) (λ x. κ (block is)))) (n + 1) ts u → Yields (Want Statement κ) n (opens (n + 1) (sign marks.OpenBrace 0) ∷ ts) u
+  pub block_read : (n : ℕ) (κ : AStatement → Stack) (ts : List Opening) → Yields (Want Items (λ is. Want (Back n) (λ x. κ (block is)))) (n + 1) ts u
+      → Yields (Want Statement κ) n (opens (n + 1) (sign marks.OpenBrace 0) ∷ ts) u
   block_read n κ ts h = record { item = block h.item; rest = h.rest; is = (ap (λ (x : List Opening). opens (n + 1) (sign marks.OpenBrace 0) ∷ x) h.is.0, (h.is.1, inl tt)); onwards = h.onwards }
 
   shut_by : (s : AStatement) (at : ℕ) (x y : List Opening) → x ≡ plain (word keys.Else at) ∷ y → IsShut s ⊎ NoElse x → IsShut s
   shut_by s at x y e (inl h) = h
   shut_by s at x y e (inr h) = absurd (subst NoElse e h refl)
 
-  else_read : (at n : ℕ) (κ : AStatement → Stack) (ts : List Opening) (o : ℕ) (e : AnExp) (v : List Opening) (s : AStatement) (w : List Opening) → (ts ≡ levelled_condition o e (n + 1) v) × IsAt 0 e → IsStatement v (n + 1) s w → Yields (Want (ElsePart at o e s) (λ r. Want (Back n) (λ x. κ r))) (n + 1) w u → Yields (Want Statement κ) n (opens (n + 1) (word keys.If at) ∷ ts) u
+  else_read : (at n : ℕ) (κ : AStatement → Stack) (ts : List Opening) (o : ℕ) (e : AnExp) (v : List Opening) (s : AStatement) (w : List Opening) → (ts ≡ levelled_condition o e (n + 1) v)
+      × IsAt 0 e → IsStatement v (n + 1) s w → Yields (Want (ElsePart at o e s) (λ r. Want (Back n) (λ x. κ r))) (n + 1) w u → Yields (Want Statement κ) n (opens (n + 1) (word keys.If at) ∷ ts) u
   else_read at n κ ts o e v s w c b (inl h) = record {
     item = if_then at o e s;
     rest = w;
@@ -58,16 +65,22 @@ module _ (u : AUnit) where
   else_read at n κ ts o e v s w c b (inr h) = record {
     item = if_else at o e s h.item.0 h.item.1;
     rest = h.rest;
-    is = (ap (λ (x : List Opening). opens (n + 1) (word keys.If at) ∷ x) (c.0 ∙ ap (levelled_condition o e (n + 1)) (b.0 ∙ ap (levelled_statement s (n + 1)) (h.is.1.0 ∙ ap (λ (x : List Opening). plain (word keys.Else h.item.0) ∷ x) h.is.1.1.0))), ((c.1, (b.1.0, (shut_by s h.item.0 w h.is.0 h.is.1.0 b.1.1, h.is.1.1.1.0))), h.is.1.1.1.1));
+    is = (
+      ap (λ (x : List Opening). opens (n + 1) (word keys.If at) ∷ x)
+          (c.0 ∙ ap (levelled_condition o e (n + 1)) (b.0 ∙ ap (levelled_statement s (n + 1)) (h.is.1.0 ∙ ap (λ (x : List Opening). plain (word keys.Else h.item.0) ∷ x) h.is.1.1.0))),
+      ((c.1, (b.1.0, (shut_by s h.item.0 w h.is.0 h.is.1.0 b.1.1, h.is.1.1.1.0))), h.is.1.1.1.1),
+    );
     onwards = h.onwards;
   }
 
-  pub if_read : (at n : ℕ) (κ : AStatement → Stack) (ts : List Opening) → Yields (if_goals at (λ s. Want (Back n) (λ x. κ s))) (n + 1) ts u → Yields (Want Statement κ) n (opens (n + 1) (word keys.If at) ∷ ts) u
+  pub if_read : (at n : ℕ) (κ : AStatement → Stack) (ts : List Opening) → Yields (if_goals at (λ s. Want (Back n) (λ x. κ s))) (n + 1) ts u
+      → Yields (Want Statement κ) n (opens (n + 1) (word keys.If at) ∷ ts) u
   if_read at n κ ts h =
       let b = h.onwards in
       else_read at n κ ts h.item.0 h.item.1 h.rest b.item b.rest h.is b.is b.onwards
 
-  pub while_read : (at n : ℕ) (κ : AStatement → Stack) (ts : List Opening) → Yields (while_goals at (λ s. Want (Back n) (λ x. κ s))) (n + 1) ts u → Yields (Want Statement κ) n (opens (n + 1) (word keys.While at) ∷ ts) u
+  pub while_read : (at n : ℕ) (κ : AStatement → Stack) (ts : List Opening) → Yields (while_goals at (λ s. Want (Back n) (λ x. κ s))) (n + 1) ts u
+      → Yields (Want Statement κ) n (opens (n + 1) (word keys.While at) ∷ ts) u
   while_read at n κ ts h =
       let b = h.onwards in
       record {
@@ -77,7 +90,8 @@ module _ (u : AUnit) where
         onwards = b.onwards;
       }
 
-  pub do_read : (at n : ℕ) (κ : AStatement → Stack) (ts : List Opening) → Yields (do_goals at (λ s. Want (Back n) (λ x. κ s))) (n + 1) ts u → Yields (Want Statement κ) n (opens (n + 1) (word keys.Do at) ∷ ts) u
+  pub do_read : (at n : ℕ) (κ : AStatement → Stack) (ts : List Opening) → Yields (do_goals at (λ s. Want (Back n) (λ x. κ s))) (n + 1) ts u
+      → Yields (Want Statement κ) n (opens (n + 1) (word keys.Do at) ∷ ts) u
   do_read at n κ ts h =
       let a = h.onwards in
       let c = a.onwards in
@@ -85,11 +99,17 @@ module _ (u : AUnit) where
       record {
         item = do_loop at h.item a.item c.item.0 c.item.1;
         rest = p.rest;
-        is = (ap (λ (x : List Opening). opens (n + 1) (word keys.Do at) ∷ x) (h.is.0 ∙ ap (levelled_statement h.item (n + 1)) (a.is ∙ ap (λ (x : List Opening). plain (word keys.While a.item) ∷ x) (c.is.0 ∙ ap (levelled_condition c.item.0 c.item.1 (n + 1)) p.is))), ((c.is.1, h.is.1.0), inl tt));
+        is = (
+          ap (λ (x : List Opening). opens (n + 1) (word keys.Do at) ∷ x)
+              (h.is.0 ∙ ap (levelled_statement h.item (n + 1)) (a.is ∙ ap (λ (x : List Opening). plain (word keys.While a.item) ∷ x)
+              (c.is.0 ∙ ap (levelled_condition c.item.0 c.item.1 (n + 1)) p.is))),
+          ((c.is.1, h.is.1.0), inl tt),
+        );
         onwards = p.onwards;
       }
 
-  pub for_read : (at n : ℕ) (κ : AStatement → Stack) (ts : List Opening) → Yields (for_goals at (n + 1) (λ s. Want (Back n) (λ x. κ s))) (n + 1) ts u → Yields (Want Statement κ) n (opens (n + 1) (word keys.For at) ∷ ts) u
+  pub for_read : (at n : ℕ) (κ : AStatement → Stack) (ts : List Opening) → Yields (for_goals at (n + 1) (λ s. Want (Back n) (λ x. κ s))) (n + 1) ts u
+      → Yields (Want Statement κ) n (opens (n + 1) (word keys.For at) ∷ ts) u
   for_read at n κ ts h =
       let a = h.onwards in
       let b = a.onwards in
@@ -99,7 +119,13 @@ module _ (u : AUnit) where
       record {
         item = for_loop at h.item a.item b.item d.item s.item;
         rest = s.rest;
-        is = (ap (λ (x : List Opening). opens (n + 1) (word keys.For at) ∷ x) (h.is ∙ ap (λ (x : List Opening). opens m (open_paren h.item) ∷ x) (a.is.0 ∙ ap (λ (x : List Opening). levelled_part a.item m (semi ∷ x)) (b.is.0 ∙ ap (λ (x : List Opening). levelled_part b.item m (semi ∷ x)) (d.is.0 ∙ ap (λ (x : List Opening). levelled_part d.item m (close_paren ∷ x)) s.is.0)))), ((a.is.1, (b.is.1, (d.is.1, s.is.1.0))), s.is.1.1));
+        is = (
+          ap (λ (x : List Opening). opens (n + 1) (word keys.For at) ∷ x)
+              (h.is ∙ ap (λ (x : List Opening). opens m (open_paren h.item) ∷ x)
+              (a.is.0 ∙ ap (λ (x : List Opening). levelled_part a.item m (semi ∷ x))
+              (b.is.0 ∙ ap (λ (x : List Opening). levelled_part b.item m (semi ∷ x)) (d.is.0 ∙ ap (λ (x : List Opening). levelled_part d.item m (close_paren ∷ x)) s.is.0)))),
+          ((a.is.1, (b.is.1, (d.is.1, s.is.1.0))), s.is.1.1),
+        );
         onwards = s.onwards;
       }
 
@@ -128,11 +154,13 @@ module _ (u : AUnit) where
 
   pub next_param_read : (n : ℕ) (κ : List AParam → Stack) (ts : List Opening) → Yields (param_goals (λ p. Want MoreParams (λ ps. κ (p ∷ ps)))) n ts u → Yields (Want MoreParams κ) n (comma_mark ∷ ts) u
   next_param_read n κ ts h =
-      let p : Found AParam (λ p w. (ts ≡ levelled_param p n w) × ParamFits p) (λ p w. Yields (Want MoreParams (λ ps. κ (p ∷ ps))) n w u) = param_read n (λ p. Want MoreParams (λ ps. κ (p ∷ ps))) ts h in
+      let p : Found AParam (λ p w. (ts ≡ levelled_param p n w) × ParamFits p) (λ p w. Yields (Want MoreParams (λ ps. κ (p ∷ ps))) n w u) =
+      param_read n (λ p. Want MoreParams (λ ps. κ (p ∷ ps))) ts h in
       let r = p.onwards in
       record { item = p.item ∷ r.item; rest = r.rest; is = (ap (λ (x : List Opening). comma_mark ∷ x) (p.is.0 ∙ ap (levelled_param p.item n) r.is.0), (p.is.1, r.is.1)); onwards = r.onwards }
 
-  lone_text : (s : Spec) (ats : List ℕ) (m : Option Named) (l : Option ALength) (n : ℕ) (w : List Opening) → levelled_spec s (levelled_stars ats (levelled_named m (levelled_length l n w))) ≡ levelled_params (lone_param s ats m l) n w
+  lone_text : (s : Spec) (ats : List ℕ) (m : Option Named) (l : Option ALength) (n : ℕ) (w : List Opening) → levelled_spec s (levelled_stars ats (levelled_named m (levelled_length l n w)))
+      ≡ levelled_params (lone_param s ats m l) n w
   lone_text (specs.Void at) [] None None n w = refl
   lone_text (specs.Void at) [] None (Some l) n w = refl
   lone_text (specs.Void at) [] (Some m) l n w = refl
@@ -165,7 +193,8 @@ module _ (u : AUnit) where
 
   pub params_read : (n : ℕ) (κ : SomeParams → Stack) (ts : List Opening) → Yields (param_goals (λ p. Want MoreParams (λ ps. κ (some_params p ps)))) n ts u → Yields (Want Params κ) n ts u
   params_read n κ ts h =
-      let p : Found AParam (λ p w. (ts ≡ levelled_param p n w) × ParamFits p) (λ p w. Yields (Want MoreParams (λ ps. κ (some_params p ps))) n w u) = param_read n (λ p. Want MoreParams (λ ps. κ (some_params p ps))) ts h in
+      let p : Found AParam (λ p w. (ts ≡ levelled_param p n w) × ParamFits p) (λ p w. Yields (Want MoreParams (λ ps. κ (some_params p ps))) n w u) =
+      param_read n (λ p. Want MoreParams (λ ps. κ (some_params p ps))) ts h in
       let r = p.onwards in
       record {
         item = some_params p.item r.item;
@@ -175,22 +204,30 @@ module _ (u : AUnit) where
       }
 
   -- what stands at file level
-  pub body_read : (n : ℕ) (κ : Option SomeItems → Stack) (ts : List Opening) → Yields (Want Items (λ is. Want (Back n) (λ x. κ (Some is)))) (n + 1) ts u → Yields (Want Body κ) n (opens (n + 1) (sign marks.OpenBrace 0) ∷ ts) u
+  pub body_read : (n : ℕ) (κ : Option SomeItems → Stack) (ts : List Opening) → Yields (Want Items (λ is. Want (Back n) (λ x. κ (Some is)))) (n + 1) ts u
+      → Yields (Want Body κ) n (opens (n + 1) (sign marks.OpenBrace 0) ∷ ts) u
   body_read n κ ts h = record { item = Some h.item; rest = h.rest; is = (ap (λ (x : List Opening). opens (n + 1) (sign marks.OpenBrace 0) ∷ x) h.is.0, h.is.1); onwards = h.onwards }
 
-  pub function_read : (ats f : List ℕ) (at o n : ℕ) (κ : ADeclared → Stack) (ts : List Opening) → Yields (function_behind ats f at o n κ) (n + 1) ts u → Yields (Want (AfterName ats f at) κ) n (opens (n + 1) (open_paren o) ∷ ts) u
+  pub function_read : (ats f : List ℕ) (at o n : ℕ) (κ : ADeclared → Stack) (ts : List Opening) → Yields (function_behind ats f at o n κ) (n + 1) ts u
+      → Yields (Want (AfterName ats f at) κ) n (opens (n + 1) (open_paren o) ∷ ts) u
   function_read ats f at o n κ ts h =
       let b = h.onwards in
       record {
         item = function (record { stars = ats; name = f; at = at; opened = o; params = h.item; body = b.item });
         rest = b.rest;
-        is = (ap (λ (x : List Opening). levelled_stars ats (levelled_name f at (opens (n + 1) (open_paren o) ∷ x))) (h.is.0 ∙ ap (λ (x : List Opening). levelled_params h.item (n + 1) (close_paren ∷ x)) b.is.0), (h.is.1, b.is.1));
+        is = (
+          ap (λ (x : List Opening). levelled_stars ats (levelled_name f at (opens (n + 1) (open_paren o) ∷ x)))
+              (h.is.0 ∙ ap (λ (x : List Opening). levelled_params h.item (n + 1) (close_paren ∷ x)) b.is.0),
+          (h.is.1, b.is.1),
+        );
         onwards = b.onwards;
       }
 
-  pub globals_read : (ats f : List ℕ) (at n : ℕ) (κ : ADeclared → Stack) (ts : List Opening) → Yields (declarator_behind ats f at (globals_behind κ)) n ts u → Yields (Want (AfterName ats f at) κ) n ts u
+  pub globals_read : (ats f : List ℕ) (at n : ℕ) (κ : ADeclared → Stack) (ts : List Opening) → Yields (declarator_behind ats f at (globals_behind κ)) n ts u
+      → Yields (Want (AfterName ats f at) κ) n ts u
   globals_read ats f at n κ ts h =
-      let d : Found ADeclarator (λ d w. (levelled_stars ats (levelled_name f at ts) ≡ levelled_declarator d n w) × DeclaratorFits d) (λ d w. Yields (globals_behind κ d) n w u) = behind_read u ats f at n (globals_behind κ) ts h in
+      let d : Found ADeclarator (λ d w. (levelled_stars ats (levelled_name f at ts) ≡ levelled_declarator d n w) × DeclaratorFits d) (λ d w. Yields (globals_behind κ d) n w u) =
+      behind_read u ats f at n (globals_behind κ) ts h in
       let r = d.onwards in
       record { item = globals (d.item ∷ r.item); rest = r.rest; is = (d.is.0 ∙ ap (levelled_declarator d.item n) r.is.0, (tt, (d.is.1, r.is.1))); onwards = r.onwards }
 

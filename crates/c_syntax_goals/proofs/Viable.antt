@@ -46,7 +46,8 @@ record TurnEndsAt {V : Type 0} (x : Turn V) (κ : V → Stack) (t : Placed) (n :
   back : (ts : List Opening) (u : AUnit) → Yields r level ts u → OfTurn x κ (class_of t.kind) t n ts u
 
 module _ (L : ℕ → Bool) where
-  turn_back : {V : Type 0} (x : Turn V) (κ : V → Stack) (t : Placed) (n : ℕ) (r : Stack) (m : ℕ) (ts : List Opening) (u : AUnit) → pick L x n (λ i v. next L (κ v) t i) ≡ Goes r m → Yields r m ts u → ((v : V) (i : ℕ) → next L (κ v) t i ≡ Goes r m → Yields (κ v) i (mark (κ v) t i ∷ ts) u) → OfTurn x κ (class_of t.kind) t n ts u
+  turn_back : {V : Type 0} (x : Turn V) (κ : V → Stack) (t : Placed) (n : ℕ) (r : Stack) (m : ℕ) (ts : List Opening) (u : AUnit) → pick L x n (λ i v. next L (κ v) t i) ≡ Goes r m
+      → Yields r m ts u → ((v : V) (i : ℕ) → next L (κ v) t i ≡ Goes r m → Yields (κ v) i (mark (κ v) t i ∷ ts) u) → OfTurn x κ (class_of t.kind) t n ts u
   turn_back (Steps (Takes s)) κ t n r m ts u e y f = moved_back s r n m ts u e y
   turn_back (Steps (Opens k s)) κ t n r m ts u e y f = opened_back (L (n + k)) s r (n + k) m ts u e y
   turn_back (Steps (Finishes s)) κ t n r m ts u e y f = absurd (cc)
@@ -60,7 +61,8 @@ module _ (L : ℕ → Bool) where
   ends_same : (s r : Stack) → Ends s ≡ Ends r → r ≡ s
   ends_same s r e = cc
 
-  turn_ends : {V : Type 0} (x : Turn V) (κ : V → Stack) (t : Placed) (n : ℕ) (r : Stack) → pick L x n (λ i v. next L (κ v) t i) ≡ Ends r → ((v : V) (i : ℕ) → next L (κ v) t i ≡ Ends r → EndsAt (κ v) t i r) → TurnEndsAt x κ t n r
+  turn_ends : {V : Type 0} (x : Turn V) (κ : V → Stack) (t : Placed) (n : ℕ) (r : Stack) → pick L x n (λ i v. next L (κ v) t i) ≡ Ends r
+      → ((v : V) (i : ℕ) → next L (κ v) t i ≡ Ends r → EndsAt (κ v) t i r) → TurnEndsAt x κ t n r
   turn_ends (Steps (Takes s)) κ t n r e f = absurd (cc)
   turn_ends (Steps (Opens k s)) κ t n r e f = absurd (opened_ends (L (n + k)) s r (n + k) e)
   turn_ends (Steps (Finishes s)) κ t n r e f = record { level = n; back = λ ts u y. subst (λ (x : Stack). Yields x n ts u) (ends_same s r e) y }
@@ -100,7 +102,8 @@ module _ (L : ℕ → Bool) where
       let v = complete r a.level in
       record { marks = mark s t n ∷ []; words = v.words; unit = v.unit; tokens = refl; is = a.back v.words v.unit v.is }
 
-  viable_on : (x : Next) (s : Stack) (t : Placed) (n : ℕ) (pre post : List Placed) → next L s t n ≡ x → left_of (on x (pre ++ post) (λ r m. run L r m (pre ++ post))) ≡ length post → ((r : Stack) (m : ℕ) → left_of (run L r m (pre ++ post)) ≡ length post → Viable r m pre) → Viable s n (t ∷ pre)
+  viable_on : (x : Next) (s : Stack) (t : Placed) (n : ℕ) (pre post : List Placed) → next L s t n ≡ x → left_of (on x (pre ++ post) (λ r m. run L r m (pre ++ post))) ≡ length post
+      → ((r : Stack) (m : ℕ) → left_of (run L r m (pre ++ post)) ≡ length post → Viable r m pre) → Viable s n (t ∷ pre)
   viable_on (Goes r m) s t n pre post d e ih = one_more s t n r m pre d (ih r m e)
   viable_on (Ends r) s t n [] post d e ih = last_one s t n r d
   viable_on (Ends r) s t n (p ∷ pre) post d e ih = absurd (omega (arith, e, longer pre post))
@@ -123,7 +126,8 @@ record TurnFreely {V : Type 0} (x : Turn V) (n : ℕ) (f : ℕ → V → Next) :
   level : ℕ
   goes : pick free x n f ≡ Goes behind level
 
-turn_deep : {V : Type 0} (x : Turn V) (κ : V → Stack) (t : Placed) (n : ℕ) → pick limit x n (λ i v. next limit (κ v) t i) ≡ Deep → ((v : V) (i : ℕ) → next limit (κ v) t i ≡ Deep → Freely (κ v) t i) → TurnFreely x n (λ i v. next free (κ v) t i)
+turn_deep : {V : Type 0} (x : Turn V) (κ : V → Stack) (t : Placed) (n : ℕ) → pick limit x n (λ i v. next limit (κ v) t i) ≡ Deep
+    → ((v : V) (i : ℕ) → next limit (κ v) t i ≡ Deep → Freely (κ v) t i) → TurnFreely x n (λ i v. next free (κ v) t i)
 turn_deep (Steps (Takes s)) κ t n e f = absurd (cc)
 turn_deep (Steps (Opens k s)) κ t n e f = record { behind = s; level = n + k; goes = refl }
 turn_deep (Steps (Finishes s)) κ t n e f = absurd (cc)
@@ -141,7 +145,8 @@ opened_freely : (b : Bool) (s r : Stack) (n m : ℕ) → (if b then Goes s n els
 opened_freely true s r n m e = e
 opened_freely false s r n m e = absurd (cc)
 
-turn_goes : {V : Type 0} (x : Turn V) (n : ℕ) (r : Stack) (m : ℕ) (f g : ℕ → V → Next) → pick limit x n f ≡ Goes r m → ((i : ℕ) (v : V) → f i v ≡ Goes r m → g i v ≡ Goes r m) → pick free x n g ≡ Goes r m
+turn_goes : {V : Type 0} (x : Turn V) (n : ℕ) (r : Stack) (m : ℕ) (f g : ℕ → V → Next) → pick limit x n f ≡ Goes r m → ((i : ℕ) (v : V) → f i v ≡ Goes r m → g i v ≡ Goes r m)
+    → pick free x n g ≡ Goes r m
 turn_goes (Steps (Takes s)) n r m f g e h = e
 turn_goes (Steps (Opens k s)) n r m f g e h = opened_freely (limit (n + k)) s r (n + k) m e
 turn_goes (Steps (Finishes s)) n r m f g e h = absurd (cc)
@@ -166,13 +171,16 @@ same_deep j k e = cc
 pub left_deep : (x : Result AUnit Fault) (k : ℕ) → x ≡ Err (TooDeep k) → left_of x ≡ k
 left_deep x k e = ap left_of e
 
-viable_deep_on : (x : Next) (s : Stack) (n : ℕ) (bad : Placed) (post : List Placed) → next limit s bad n ≡ x → on x post (λ r m. run limit r m post) ≡ Err (TooDeep (suc (length post))) → Viable s n (bad ∷ [])
+viable_deep_on : (x : Next) (s : Stack) (n : ℕ) (bad : Placed) (post : List Placed) → next limit s bad n ≡ x → on x post (λ r m. run limit r m post) ≡ Err (TooDeep (suc (length post)))
+    → Viable s n (bad ∷ [])
 viable_deep_on (Goes r m) s n bad post d e = absurd (omega (arith, left_deep (run limit r m post) (suc (length post)) e, at_most limit r m post))
 viable_deep_on (Ends r) s n bad post d e = absurd (no_deep r post (suc (length post)) e)
 viable_deep_on Stuck s n bad post d e = absurd (stuck_deep (suc (length post)) (suc (length post)) e)
 viable_deep_on Deep s n bad post d e = let a = deep_goes s bad n d in one_more free s bad n a.behind a.level [] a.goes (none_yet a.behind a.level)
 
-viable_deep_step : (x : Next) (s : Stack) (t : Placed) (n : ℕ) (pre : List Placed) (bad : Placed) (post : List Placed) → next limit s t n ≡ x → on x (pre ++ bad ∷ post) (λ r m. run limit r m (pre ++ bad ∷ post)) ≡ Err (TooDeep (suc (length post))) → ((r : Stack) (m : ℕ) → run limit r m (pre ++ bad ∷ post) ≡ Err (TooDeep (suc (length post))) → Viable r m (pre ++ bad ∷ [])) → Viable s n (t ∷ pre ++ bad ∷ [])
+viable_deep_step : (x : Next) (s : Stack) (t : Placed) (n : ℕ) (pre : List Placed) (bad : Placed) (post : List Placed) → next limit s t n ≡ x
+    → on x (pre ++ bad ∷ post) (λ r m. run limit r m (pre ++ bad ∷ post)) ≡ Err (TooDeep (suc (length post)))
+    → ((r : Stack) (m : ℕ) → run limit r m (pre ++ bad ∷ post) ≡ Err (TooDeep (suc (length post))) → Viable r m (pre ++ bad ∷ [])) → Viable s n (t ∷ pre ++ bad ∷ [])
 viable_deep_step (Goes r m) s t n pre bad post d e ih = one_more limit s t n r m (pre ++ bad ∷ []) d (ih r m e)
 viable_deep_step (Ends r) s t n pre bad post d e ih = absurd (no_deep r (pre ++ bad ∷ post) (suc (length post)) e)
 viable_deep_step Stuck s t n pre bad post d e ih = absurd (stuck_deep (suc (length (pre ++ bad ∷ post))) (suc (length post)) e)

@@ -8,12 +8,17 @@ use Rattle.c_phrases.specs.declared.tree.Named.{Named}
 use Rattle.c_phrases.specs.Classes.{Placed, word, sign}
 use Rattle.c_phrases.specs.Phrases.{AnExp, SomeExps, IsAt, AllAt, after_exp}
 use Rattle.c_phrases.specs.Units.{ALength, AnInit, AnInitialised, ADeclarator, ALocal, AStatement, if_then, if_else, SomeItems, AParam, SomeParams, ADeclared, AnExternal, AUnit}
-use Rattle.c_phrases.specs.Fits.{PartFits, LengthFits, InitFits, InitialisedFits, DeclaratorFits, DeclaratorsFit, LocalFits, IsShut, StatementFits, ItemsFit, ParamsFit, SomeParamsFit, BodyFits, DeclaredFits, ExternalsFit}
-use Rattle.c_syntax_goals.specs.Openings.{Opening, opens, plain, levelled_int, levelled_spec, levelled_stars, levelled_name, levelled_exp, levelled_first, levelled_others, levelled_part, levelled_length, levelled_trailing, levelled_init, levelled_initialised}
-use Rattle.c_syntax_goals.specs.Openings.{levelled_declarator, levelled_more_declarators, levelled_local, levelled_condition, levelled_statement, levelled_items, levelled_named, levelled_more_params, levelled_params, levelled_body, levelled_declared, levelled_external, levelled_externals}
+use Rattle.c_phrases.specs.Fits.{PartFits, LengthFits, InitFits, InitialisedFits, DeclaratorFits, DeclaratorsFit, LocalFits, IsShut, StatementFits, ItemsFit, ParamsFit}
+use Rattle.c_phrases.specs.Fits.{SomeParamsFit, BodyFits, DeclaredFits, ExternalsFit}
+use Rattle.c_syntax_goals.specs.Openings.{Opening, opens, plain, levelled_int, levelled_spec, levelled_stars, levelled_name, levelled_exp, levelled_first, levelled_others}
+use Rattle.c_syntax_goals.specs.Openings.{levelled_part, levelled_length, levelled_trailing, levelled_init, levelled_initialised}
+use Rattle.c_syntax_goals.specs.Openings.{levelled_declarator, levelled_more_declarators, levelled_local, levelled_condition, levelled_statement, levelled_items, levelled_named}
+use Rattle.c_syntax_goals.specs.Openings.{levelled_more_params, levelled_params, levelled_body, levelled_declared, levelled_external, levelled_externals}
 use Rattle.c_syntax_goals.specs.Goals.{Goal, Val, Stack, Done, Want}
-use Rattle.c_syntax_goals.specs.Goals.{Expr, Commas, Assign, Cond, Cast, Unary, Primary, Parens, CallTail, PostTail, Ended, Tail, First, Group, SizeofTail, SizeofGroup, Arguments, MoreArguments, Back, WantParen, WantBracket, WantColon, WantSemi, WantWhile, TypeWords, AfterShort, AfterUnsigned, Stars}
-use Rattle.c_syntax_goals.specs.Goals.{Condition, Simple, Statement, Items, PartSemi, PartParen, ForOpen, ElsePart, Local, DeclaratorName, ArrayPart, Length, InitPart, Init, Elements, InitMore, InitNext, MoreDeclarators, DeclaredName, AfterName, Body, Params, OptName, MoreParams, External, Whole}
+use Rattle.c_syntax_goals.specs.Goals.{Expr, Commas, Assign, Cond, Cast, Unary, Primary, Parens, CallTail, PostTail, Ended, Tail, First, Group, SizeofTail, SizeofGroup, Arguments}
+use Rattle.c_syntax_goals.specs.Goals.{MoreArguments, Back, WantParen, WantBracket, WantColon, WantSemi, WantWhile, TypeWords, AfterShort, AfterUnsigned, Stars}
+use Rattle.c_syntax_goals.specs.Goals.{Condition, Simple, Statement, Items, PartSemi, PartParen, ForOpen, ElsePart, Local, DeclaratorName, ArrayPart, Length, InitPart, Init}
+use Rattle.c_syntax_goals.specs.Goals.{Elements, InitMore, InitNext, MoreDeclarators, DeclaredName, AfterName, Body, Params, OptName, MoreParams, External, Whole}
 
 -- a phrase at the front, and what is asked of the rest
 pub record Found (A : Type 0) (P : A → List Opening → Type 0) (K : A → List Opening → Type 0) : Type 0 where
@@ -78,7 +83,8 @@ Part (Tail false l) n ts K = Onto 3 2 l n ts K
 Part (First o m) n ts K = n ≡ m + 1 → Found AnExp (λ e w. IsExp 1 (opens (m + 1) (open_paren o) ∷ ts) m e w) (λ e w. K e (after_exp e m) w)
 Part (Group o m) n ts K = n ≡ m + 1 → Found AnExp (λ e w. IsExp 13 (opens (m + 1) (open_paren o) ∷ ts) m e w) (λ e w. K e (after_exp e m) w)
 Part (SizeofTail at) n ts K = (b : ℕ) → n ≡ b + 1 → Found AnExp (λ e w. IsExp 14 (opens (b + 1) (word keys.Sizeof at) ∷ ts) b e w) (λ e w. K e (after_exp e b) w)
-Part (SizeofGroup at o m) n ts K = (b : ℕ) → m ≡ b + 1 → n ≡ m + 1 → Found AnExp (λ e w. IsExp 14 (opens (b + 1) (word keys.Sizeof at) ∷ opens (b + 1 + 1) (open_paren o) ∷ ts) b e w) (λ e w. K e (after_exp e b) w)
+Part (SizeofGroup at o m) n ts K = (b : ℕ) → m ≡ b + 1 → n ≡ m + 1 → Found AnExp (λ e w. IsExp 14 (opens (b + 1) (word keys.Sizeof at) ∷ opens (b + 1 + 1) (open_paren o) ∷ ts) b e w)
+    (λ e w. K e (after_exp e b) w)
 Part Arguments n ts K = Found SomeExps (λ es w. (ts ≡ levelled_first es n (close_paren ∷ w)) × AllAt es) (λ es w. K es n w)
 Part MoreArguments n ts K = Found SomeExps (λ es w. (ts ≡ levelled_others es n (close_paren ∷ w)) × AllAt es) (λ es w. K es n w)
 Part (Back m) n ts K = K tt m ts
@@ -98,7 +104,8 @@ Part Items n ts K = Found SomeItems (λ is w. (ts ≡ levelled_items is n (close
 Part PartSemi n ts K = Found (Option AnExp) (λ e w. (ts ≡ levelled_part e n (semi ∷ w)) × PartFits 0 e) (λ e w. K e n w)
 Part PartParen n ts K = Found (Option AnExp) (λ e w. (ts ≡ levelled_part e n (close_paren ∷ w)) × PartFits 0 e) (λ e w. K e n w)
 Part ForOpen n ts K = Found ℕ (λ o w. ts ≡ opens (n + 1) (open_paren o) ∷ w) (λ o w. K o (n + 1) w)
-Part (ElsePart at o e s) n ts K = (NoElse ts × K (if_then at o e s) n ts) ⊎ Found (ℕ × AStatement) (λ x w. (v : List Opening) × ((ts ≡ plain (word keys.Else x.0) ∷ v) × IsStatement v n x.1 w)) (λ x w. K (if_else at o e s x.0 x.1) n w)
+Part (ElsePart at o e s) n ts K = (NoElse ts × K (if_then at o e s) n ts) ⊎ Found (ℕ × AStatement)
+    (λ x w. (v : List Opening) × ((ts ≡ plain (word keys.Else x.0) ∷ v) × IsStatement v n x.1 w)) (λ x w. K (if_else at o e s x.0 x.1) n w)
 Part Local n ts K = Found ALocal (λ l w. (ts ≡ levelled_local l n w) × LocalFits l) (λ l w. K l n w)
 Part (DeclaratorName ats) n ts K = Found ADeclarator (λ d w. (levelled_stars ats ts ≡ levelled_declarator d n w) × DeclaratorFits d) (λ d w. K d n w)
 Part ArrayPart n ts K = Found (Option ALength) (λ l w. (ts ≡ levelled_length l n w) × LengthFits l) (λ l w. K l n w)

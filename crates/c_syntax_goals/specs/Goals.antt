@@ -22,12 +22,14 @@ use Rattle.c_phrases.specs.Classes as c
 use Rattle.c_phrases.specs.Takes.{binary_of, prefix_of, step_of, assign_of}
 use Rattle.c_phrases.specs.Phrases.{AnExp, name, number, str, paren, call, index, step_after, step_before, prefix, sizeof_exp, sizeof_type}
 use Rattle.c_phrases.specs.Phrases.{cast, binary, choice, assign, comma, SomeExps, no_exps, exps, level_of}
-use Rattle.c_phrases.specs.Units.{ALength, AnInit, value, elements, AnInitialised, ADeclarator, ALocal, AStatement, block, empty, expression}
+use Rattle.c_phrases.specs.Units.{ALength, AnInit, value, elements, AnInitialised, ADeclarator, ALocal, AStatement}
+use Rattle.c_phrases.specs.Units.{block, empty, expression}
 use Rattle.c_phrases.specs.Units.{break_off, continue_on, give_back, if_then, if_else, while_loop, do_loop, for_loop}
 use Rattle.c_phrases.specs.Units.{SomeItems, no_items, local_item, statement_item, AParam, SomeParams, no_params, void_word, params}
 use Rattle.c_phrases.specs.Units.{ADeclared, function, globals, AnExternal, AUnit}
 
--- A part that is still to be read, with what was read in front of it where it goes on with that. `Back` puts a level back; `Ended` stands behind an operand that nothing may follow directly but an operator.
+-- A part that is still to be read, with what was read in front of it where it goes on with that. `Back` puts a level
+-- back; `Ended` stands behind an operand that nothing may follow directly but an operator.
 pub data Goal : Type 0 where
   Expr : Goal
   Commas : (l : AnExp) → Goal
@@ -179,7 +181,8 @@ assign_in k = assigns.Assign
 
 -- One operand more at the end of a row of binary operators: those that bind less than its operator stay outside.
 abbrev pub insert : AnExp → BinaryOperator → ℕ → AnExp → AnExp
-insert (binary l q p r) op at e = if nat_lt (level_of q) (level_of op) then binary l q p (insert r op at e) else binary (binary l q p r) op at e
+insert (binary l q p r) op at e = if nat_lt (level_of q) (level_of op) then binary l q p (insert r op at e) else binary
+    (binary l q p r) op at e
 insert l op at e = binary l op at e
 
 -- types
@@ -260,7 +263,8 @@ call_turn c.OpenParen t n f at κ = Steps (Opens 2 (Want Arguments (λ es. Want 
 call_turn k t n f at κ = Passes n (name f at)
 
 abbrev pub post_turn : Class → Placed → ℕ → AnExp → (AnExp → Stack) → Turn AnExp
-post_turn c.OpenBracket t n l κ = Steps (Opens 2 (Want Expr (λ i. Want WantBracket (λ x. Want (Back (n + 1)) (λ y. Want (PostTail (index l t.at i)) κ)))))
+post_turn c.OpenBracket t n l κ = Steps (Opens 2 (Want Expr (λ i. Want WantBracket
+    (λ x. Want (Back (n + 1)) (λ y. Want (PostTail (index l t.at i)) κ)))))
 post_turn c.Step t n l κ = Steps (Opens 1 (Want (PostTail (step_after l (step_in t.kind) t.at)) κ))
 post_turn c.OpenParen t n l κ = Steps Refuses
 post_turn k t n l κ = Passes n l
@@ -357,7 +361,8 @@ while_step k t κ = Refuses
 
 -- declarators
 abbrev pub declarator_behind : List ℕ → List ℕ → ℕ → (ADeclarator → Stack) → Stack
-declarator_behind ats f at κ = Want ArrayPart (λ l. Want InitPart (λ i. κ (record { stars = ats; name = f; at = at; length = l; init = i })))
+declarator_behind ats f at κ = Want ArrayPart (λ l. Want InitPart (λ i.
+    κ (record { stars = ats; name = f; at = at; length = l; init = i })))
 
 abbrev pub declarator_name_step : Class → Placed → List ℕ → (ADeclarator → Stack) → Step
 declarator_name_step c.Name t ats κ = Takes (declarator_behind ats (name_in t.kind) t.at κ)
@@ -430,7 +435,8 @@ do_goals at κ = Want Statement (λ s. Want WantWhile (λ w. Want Condition (λ 
 
 -- m is the level that the word opened
 abbrev pub for_goals : ℕ → ℕ → (AStatement → Stack) → Stack
-for_goals at m κ = Want ForOpen (λ o. Want PartSemi (λ a. Want PartSemi (λ b. Want PartParen (λ d. Want (Back m) (λ x. Want Statement (λ s. κ (for_loop at o a b d s)))))))
+for_goals at m κ = Want ForOpen (λ o. Want PartSemi (λ a. Want PartSemi
+    (λ b. Want PartParen (λ d. Want (Back m) (λ x. Want Statement (λ s. κ (for_loop at o a b d s)))))))
 
 abbrev pub simple_step : Class → Placed → ℕ → (AStatement → Stack) → Step
 simple_step c.Semicolon t n κ = Takes (κ empty)
@@ -511,7 +517,8 @@ body_step c.OpenBrace n κ = Opens 1 (Want Items (λ is. Want (Back n) (λ x. κ
 body_step k n κ = Refuses
 
 abbrev pub function_behind : List ℕ → List ℕ → ℕ → ℕ → ℕ → (ADeclared → Stack) → Stack
-function_behind ats f at o n κ = Want Params (λ ps. Want (Back n) (λ x. Want Body (λ b. κ (function (record { stars = ats; name = f; at = at; opened = o; params = ps; body = b })))))
+function_behind ats f at o n κ = Want Params (λ ps. Want (Back n) (λ x.
+    Want Body (λ b. κ (function (record { stars = ats; name = f; at = at; opened = o; params = ps; body = b })))))
 
 abbrev pub declared_name_step : Class → Placed → List ℕ → (ADeclared → Stack) → Step
 declared_name_step c.Name t ats κ = Takes (Want (AfterName ats (name_in t.kind) t.at) κ)
@@ -522,9 +529,12 @@ globals_behind κ d = Want MoreDeclarators (λ ds. κ (globals (d ∷ ds)))
 
 abbrev pub after_name_step : Class → Placed → ℕ → List ℕ → List ℕ → ℕ → (ADeclared → Stack) → Step
 after_name_step c.OpenParen t n ats f at κ = Opens 1 (function_behind ats f at t.at n κ)
-after_name_step c.OpenBracket t n ats f at κ = array_step t n (λ l. Want InitPart (λ i. globals_behind κ (record { stars = ats; name = f; at = at; length = l; init = i })))
-after_name_step c.Equals t n ats f at κ = Takes (Want Init (λ i. globals_behind κ (record { stars = ats; name = f; at = at; length = None; init = Some (record { at = t.at; with_init = i }) })))
-after_name_step k t n ats f at κ = more_declarators_step k (λ ds. κ (globals (record { stars = ats; name = f; at = at; length = None; init = None } ∷ ds)))
+after_name_step c.OpenBracket t n ats f at κ = array_step t n (λ l. Want InitPart
+    (λ i. globals_behind κ (record { stars = ats; name = f; at = at; length = l; init = i })))
+after_name_step c.Equals t n ats f at κ = Takes (Want Init (λ i. globals_behind κ
+    (record { stars = ats; name = f; at = at; length = None; init = Some (record { at = t.at; with_init = i }) })))
+after_name_step k t n ats f at κ = more_declarators_step k (λ ds. κ (globals
+    (record { stars = ats; name = f; at = at; length = None; init = None } ∷ ds)))
 
 abbrev pub declared_goals : (ADeclared → Stack) → Stack
 declared_goals κ = Want Stars (λ ats. Want (DeclaredName ats) κ)

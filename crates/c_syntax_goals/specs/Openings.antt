@@ -10,10 +10,15 @@ use Rattle.c_phrases.specs.declared.operator.Storage.TheVariants as storages
 use Rattle.c_phrases.specs.declared.tree.TypeName.{TypeName}
 use Rattle.c_phrases.specs.declared.tree.Named.{Named}
 use Rattle.c_phrases.specs.Classes.{Placed, word, sign}
-use Rattle.c_phrases.specs.Phrases.{AnExp, name, number, str, paren, call, index, step_after, step_before, prefix, sizeof_exp, sizeof_type, cast, binary, choice, assign, comma, SomeExps, no_exps, exps}
+use Rattle.c_phrases.specs.Phrases.{AnExp, name, number, str, paren, call, index, step_after, step_before, prefix}
+use Rattle.c_phrases.specs.Phrases.{sizeof_exp, sizeof_type, cast, binary, choice, assign, comma, SomeExps, no_exps}
+use Rattle.c_phrases.specs.Phrases.{exps}
 use Rattle.c_phrases.specs.Phrases.{binary_mark, prefix_mark, step_mark, assign_mark, after_exp}
-use Rattle.c_phrases.specs.Units.{ALength, AnInit, value, elements, AnInitialised, ADeclarator, ALocal, AStatement, block, empty, expression, break_off, continue_on, give_back, if_then, if_else, while_loop, do_loop, for_loop}
-use Rattle.c_phrases.specs.Units.{SomeItems, no_items, local_item, statement_item, AParam, SomeParams, no_params, void_word, params, ADeclared, function, globals, AnExternal, AUnit}
+use Rattle.c_phrases.specs.Units.{ALength, AnInit, value, elements, AnInitialised, ADeclarator, ALocal, AStatement}
+use Rattle.c_phrases.specs.Units.{block, empty, expression, break_off, continue_on, give_back, if_then, if_else}
+use Rattle.c_phrases.specs.Units.{while_loop, do_loop, for_loop}
+use Rattle.c_phrases.specs.Units.{SomeItems, no_items, local_item, statement_item, AParam, SomeParams, no_params}
+use Rattle.c_phrases.specs.Units.{void_word, params, ADeclared, function, globals, AnExternal, AUnit}
 
 -- A token with the level that it opens, or 0 where it opens none.
 pub record Opening : Type 0 where
@@ -49,24 +54,33 @@ levelled_type t w = levelled_spec t.spec (levelled_stars t.stars w)
 abbrev pub levelled_name : List ℕ → ℕ → List Opening → List Opening
 levelled_name n at w = plain (record { kind = token.Name n; at = at }) ∷ w
 
--- An expression that begins at level n. A bracket opens a level, an operator opens one, and the bracket of a call or an index both; the level of a cast's bracket stays as the cast's own.
+-- An expression that begins at level n. A bracket opens a level, an operator opens one, and the bracket of a call or an
+-- index both; the level of a cast's bracket stays as the cast's own.
 abbrev mutual
   pub levelled_exp : AnExp → ℕ → List Opening → List Opening
   levelled_exp (name x at) n w = levelled_name x at w
   levelled_exp (number v at) n w = plain (record { kind = token.Number v; at = at }) ∷ w
   levelled_exp (str b at) n w = plain (record { kind = token.Str b; at = at }) ∷ w
-  levelled_exp (paren o e) n w = opens (n + 1) (sign marks.OpenParenthesis o) ∷ levelled_exp e (n + 1) (plain (sign marks.CloseParenthesis 0) ∷ w)
-  levelled_exp (call x at o es) n w = levelled_name x at (opens (n + 2) (sign marks.OpenParenthesis o) ∷ levelled_first es (n + 2) (plain (sign marks.CloseParenthesis 0) ∷ w))
-  levelled_exp (index e o i) n w = levelled_exp e n (opens (after_exp e n + 2) (sign marks.OpenBracket o) ∷ levelled_exp i (after_exp e n + 2) (plain (sign marks.CloseBracket 0) ∷ w))
+  levelled_exp (paren o e) n w = opens (n + 1) (sign marks.OpenParenthesis o) ∷ levelled_exp e (n + 1)
+      (plain (sign marks.CloseParenthesis 0) ∷ w)
+  levelled_exp (call x at o es) n w = levelled_name x at (opens (n + 2) (sign marks.OpenParenthesis o) ∷ levelled_first es
+      (n + 2) (plain (sign marks.CloseParenthesis 0) ∷ w))
+  levelled_exp (index e o i) n w = levelled_exp e n (opens (after_exp e n + 2) (sign marks.OpenBracket o) ∷ levelled_exp i
+      (after_exp e n + 2) (plain (sign marks.CloseBracket 0) ∷ w))
   levelled_exp (step_after e op at) n w = levelled_exp e n (opens (after_exp e n + 1) (sign (step_mark op) at) ∷ w)
   levelled_exp (step_before op at e) n w = opens (n + 1) (sign (step_mark op) at) ∷ levelled_exp e (n + 1) w
   levelled_exp (prefix op at e) n w = opens (n + 1) (sign (prefix_mark op) at) ∷ levelled_exp e (n + 1) w
   levelled_exp (sizeof_exp at e) n w = opens (n + 1) (word keys.Sizeof at) ∷ levelled_exp e (n + 1) w
-  levelled_exp (sizeof_type at o t) n w = opens (n + 1) (word keys.Sizeof at) ∷ opens (n + 1 + 1) (sign marks.OpenParenthesis o) ∷ levelled_type t (plain (sign marks.CloseParenthesis 0) ∷ w)
-  levelled_exp (cast o t e) n w = opens (n + 1) (sign marks.OpenParenthesis o) ∷ levelled_type t (plain (sign marks.CloseParenthesis 0) ∷ levelled_exp e (n + 1) w)
-  levelled_exp (binary l op at r) n w = levelled_exp l n (opens (after_exp l n + 1) (sign (binary_mark op) at) ∷ levelled_exp r (after_exp l n + 1) w)
-  levelled_exp (choice c at e d) n w = levelled_exp c n (opens (after_exp c n + 1) (sign marks.Question at) ∷ levelled_exp e (after_exp c n + 1) (plain (sign marks.Colon 0) ∷ levelled_exp d (after_exp e (after_exp c n + 1)) w))
-  levelled_exp (assign p op at v) n w = levelled_exp p n (opens (after_exp p n + 1) (sign (assign_mark op) at) ∷ levelled_exp v (after_exp p n + 1) w)
+  levelled_exp (sizeof_type at o t) n w = opens (n + 1) (word keys.Sizeof at) ∷ opens (n + 1 + 1) (sign marks.OpenParenthesis o)
+      ∷ levelled_type t (plain (sign marks.CloseParenthesis 0) ∷ w)
+  levelled_exp (cast o t e) n w = opens (n + 1) (sign marks.OpenParenthesis o) ∷ levelled_type t
+      (plain (sign marks.CloseParenthesis 0) ∷ levelled_exp e (n + 1) w)
+  levelled_exp (binary l op at r) n w = levelled_exp l n (opens (after_exp l n + 1) (sign (binary_mark op) at) ∷ levelled_exp r
+      (after_exp l n + 1) w)
+  levelled_exp (choice c at e d) n w = levelled_exp c n (opens (after_exp c n + 1) (sign marks.Question at) ∷ levelled_exp e
+      (after_exp c n + 1) (plain (sign marks.Colon 0) ∷ levelled_exp d (after_exp e (after_exp c n + 1)) w))
+  levelled_exp (assign p op at v) n w = levelled_exp p n (opens (after_exp p n + 1) (sign (assign_mark op) at) ∷ levelled_exp v
+      (after_exp p n + 1) w)
   levelled_exp (comma l r) n w = levelled_exp l n (opens (after_exp l n + 1) (sign marks.Comma 0) ∷ levelled_exp r (after_exp l n + 1) w)
 
   -- each argument is an expression of its own, and the commas between them open nothing
@@ -85,7 +99,8 @@ levelled_part (Some e) n w = levelled_exp e n w
 -- declarations
 abbrev pub levelled_length : Option ALength → ℕ → List Opening → List Opening
 levelled_length None n w = w
-levelled_length (Some l) n w = opens (n + 1) (sign marks.OpenBracket l.opened) ∷ levelled_part l.value (n + 1) (plain (sign marks.CloseBracket 0) ∷ w)
+levelled_length (Some l) n w = opens (n + 1) (sign marks.OpenBracket l.opened) ∷ levelled_part l.value (n + 1)
+    (plain (sign marks.CloseBracket 0) ∷ w)
 
 abbrev pub levelled_trailing : Bool → List Opening → List Opening
 levelled_trailing true w = plain (sign marks.Comma 0) ∷ w
@@ -93,14 +108,16 @@ levelled_trailing false w = w
 
 abbrev pub levelled_init : AnInit → ℕ → List Opening → List Opening
 levelled_init (value e) n w = levelled_exp e n w
-levelled_init (elements es t) n w = opens (n + 1) (sign marks.OpenBrace 0) ∷ levelled_first es (n + 1) (levelled_trailing t (plain (sign marks.CloseBrace 0) ∷ w))
+levelled_init (elements es t) n w = opens (n + 1) (sign marks.OpenBrace 0) ∷ levelled_first es (n + 1)
+    (levelled_trailing t (plain (sign marks.CloseBrace 0) ∷ w))
 
 abbrev pub levelled_initialised : Option AnInitialised → ℕ → List Opening → List Opening
 levelled_initialised None n w = w
 levelled_initialised (Some i) n w = plain (sign marks.Assign i.at) ∷ levelled_init i.with_init n w
 
 abbrev pub levelled_declarator : ADeclarator → ℕ → List Opening → List Opening
-levelled_declarator d n w = levelled_stars d.stars (levelled_name d.name d.at (levelled_length d.length n (levelled_initialised d.init n w)))
+levelled_declarator d n w = levelled_stars d.stars (levelled_name d.name d.at
+    (levelled_length d.length n (levelled_initialised d.init n w)))
 
 abbrev pub levelled_more_declarators : List ADeclarator → ℕ → List Opening → List Opening
 levelled_more_declarators [] n w = w
@@ -116,25 +133,35 @@ levelled_storage (storages.Static at) w = plain (word keys.Static at) ∷ w
 levelled_storage (storages.Register at) w = plain (word keys.Register at) ∷ w
 
 abbrev pub levelled_local : ALocal → ℕ → List Opening → List Opening
-levelled_local l n w = levelled_storage l.storage (levelled_spec l.spec (levelled_declarators l.declarators n (plain (sign marks.Semicolon 0) ∷ w)))
+levelled_local l n w = levelled_storage l.storage (levelled_spec l.spec
+    (levelled_declarators l.declarators n (plain (sign marks.Semicolon 0) ∷ w)))
 
 -- statements: the words if, while, do and for open a level until the statement ends
 abbrev pub levelled_condition : ℕ → AnExp → ℕ → List Opening → List Opening
-levelled_condition o e n w = opens (n + 1) (sign marks.OpenParenthesis o) ∷ levelled_exp e (n + 1) (plain (sign marks.CloseParenthesis 0) ∷ w)
+levelled_condition o e n w = opens (n + 1) (sign marks.OpenParenthesis o) ∷ levelled_exp e (n + 1)
+    (plain (sign marks.CloseParenthesis 0) ∷ w)
 
 abbrev mutual
   pub levelled_statement : AStatement → ℕ → List Opening → List Opening
-  levelled_statement (block is) n w = opens (n + 1) (sign marks.OpenBrace 0) ∷ levelled_items is (n + 1) (plain (sign marks.CloseBrace 0) ∷ w)
+  levelled_statement (block is) n w = opens (n + 1) (sign marks.OpenBrace 0) ∷ levelled_items is (n + 1)
+      (plain (sign marks.CloseBrace 0) ∷ w)
   levelled_statement empty n w = plain (sign marks.Semicolon 0) ∷ w
   levelled_statement (expression e) n w = levelled_exp e n (plain (sign marks.Semicolon 0) ∷ w)
   levelled_statement (break_off at) n w = plain (word keys.Break at) ∷ plain (sign marks.Semicolon 0) ∷ w
   levelled_statement (continue_on at) n w = plain (word keys.Continue at) ∷ plain (sign marks.Semicolon 0) ∷ w
   levelled_statement (give_back at e) n w = plain (word keys.Return at) ∷ levelled_part e n (plain (sign marks.Semicolon 0) ∷ w)
-  levelled_statement (if_then at o e s) n w = opens (n + 1) (word keys.If at) ∷ levelled_condition o e (n + 1) (levelled_statement s (n + 1) w)
-  levelled_statement (if_else at o e s other t) n w = opens (n + 1) (word keys.If at) ∷ levelled_condition o e (n + 1) (levelled_statement s (n + 1) (plain (word keys.Else other) ∷ levelled_statement t (n + 1) w))
-  levelled_statement (while_loop at o e s) n w = opens (n + 1) (word keys.While at) ∷ levelled_condition o e (n + 1) (levelled_statement s (n + 1) w)
-  levelled_statement (do_loop at s again o e) n w = opens (n + 1) (word keys.Do at) ∷ levelled_statement s (n + 1) (plain (word keys.While again) ∷ levelled_condition o e (n + 1) (plain (sign marks.Semicolon 0) ∷ w))
-  levelled_statement (for_loop at o a b c s) n w = opens (n + 1) (word keys.For at) ∷ opens (n + 1 + 1) (sign marks.OpenParenthesis o) ∷ levelled_part a (n + 1 + 1) (plain (sign marks.Semicolon 0) ∷ levelled_part b (n + 1 + 1) (plain (sign marks.Semicolon 0) ∷ levelled_part c (n + 1 + 1) (plain (sign marks.CloseParenthesis 0) ∷ levelled_statement s (n + 1) w)))
+  levelled_statement (if_then at o e s) n w = opens (n + 1) (word keys.If at) ∷ levelled_condition o e (n + 1)
+      (levelled_statement s (n + 1) w)
+  levelled_statement (if_else at o e s other t) n w = opens (n + 1) (word keys.If at) ∷ levelled_condition o e (n + 1)
+      (levelled_statement s (n + 1) (plain (word keys.Else other) ∷ levelled_statement t (n + 1) w))
+  levelled_statement (while_loop at o e s) n w = opens (n + 1) (word keys.While at) ∷ levelled_condition o e (n + 1)
+      (levelled_statement s (n + 1) w)
+  levelled_statement (do_loop at s again o e) n w = opens (n + 1) (word keys.Do at) ∷ levelled_statement s (n + 1)
+      (plain (word keys.While again) ∷ levelled_condition o e (n + 1) (plain (sign marks.Semicolon 0) ∷ w))
+  levelled_statement (for_loop at o a b c s) n w = opens (n + 1) (word keys.For at) ∷ opens (n + 1 + 1)
+      (sign marks.OpenParenthesis o) ∷ levelled_part a (n + 1 + 1) (plain (sign marks.Semicolon 0) ∷ levelled_part b (n + 1 + 1)
+      (plain (sign marks.Semicolon 0) ∷ levelled_part c (n + 1 + 1) (plain (sign marks.CloseParenthesis 0) ∷ levelled_statement
+      s (n + 1) w)))
 
   pub levelled_items : SomeItems → ℕ → List Opening → List Opening
   levelled_items no_items n w = w
@@ -167,7 +194,9 @@ levelled_body None n w = plain (sign marks.Semicolon 0) ∷ w
 levelled_body (Some is) n w = opens (n + 1) (sign marks.OpenBrace 0) ∷ levelled_items is (n + 1) (plain (sign marks.CloseBrace 0) ∷ w)
 
 abbrev pub levelled_declared : ADeclared → ℕ → List Opening → List Opening
-levelled_declared (function f) n w = levelled_stars f.stars (levelled_name f.name f.at (opens (n + 1) (sign marks.OpenParenthesis f.opened) ∷ levelled_params f.params (n + 1) (plain (sign marks.CloseParenthesis 0) ∷ levelled_body f.body n w)))
+levelled_declared (function f) n w = levelled_stars f.stars (levelled_name f.name f.at
+    (opens (n + 1) (sign marks.OpenParenthesis f.opened) ∷ levelled_params f.params (n + 1)
+    (plain (sign marks.CloseParenthesis 0) ∷ levelled_body f.body n w)))
 levelled_declared (globals ds) n w = levelled_declarators ds n (plain (sign marks.Semicolon 0) ∷ w)
 
 abbrev pub levelled_static : Option ℕ → List Opening → List Opening

@@ -16,7 +16,8 @@ Stops ts f = run limit (Want Whole Done) 0 (seen ts) ≡ Err f
 
 -- The offset of the token with which k tokens are left.
 abbrev pub IsPlace : List Spanned → (k place : ℕ) → Type 0
-IsPlace ts k place = (before : List Spanned) (t : Spanned) (behind : List Spanned) → ts ≡ before ++ t ∷ behind → k ≡ suc (length behind) → place ≡ t.start
+IsPlace ts k place = (before : List Spanned) (t : Spanned) (behind : List Spanned) → ts ≡ before ++ t ∷ behind → k
+    ≡ suc (length behind) → place ≡ t.start
 
 -- No token opens a level past the limit.
 abbrev pub NoneDeep : List Opening → Type 0
@@ -46,7 +47,8 @@ pub record BeginsUnit (ts : List Placed) : Type 0 where
   pub unit : AUnit
   pub begins : Begins ts unit
 
--- The fault stands at this offset: no unit, of whatever level, begins with the tokens up to it. Some unit begins with those before it, and in each such unit they open no level past the limit.
+-- The fault stands at this offset: no unit, of whatever level, begins with the tokens up to it. Some unit begins with
+-- those before it, and in each such unit they open no level past the limit.
 pub record NotHereAt (ts : List Spanned) (place : ℕ) : Type 0 where
   pub before : List Spanned
   pub token : Spanned
@@ -57,7 +59,8 @@ pub record NotHereAt (ts : List Spanned) (place : ℕ) : Type 0 where
   pub some : BeginsUnit (seen before)
   pub low : (u : AUnit) → Begins (seen before) u → FirstAreLow (length before) (levelled u)
 
--- The fault stands at this offset: some unit begins with the tokens up to it, and in each such unit its token is the first that opens a level past the limit.
+-- The fault stands at this offset: some unit begins with the tokens up to it, and in each such unit its token is the
+-- first that opens a level past the limit.
 pub record TooDeepAt (ts : List Spanned) (place : ℕ) : Type 0 where
   pub before : List Spanned
   pub token : Spanned

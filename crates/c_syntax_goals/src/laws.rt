@@ -17,31 +17,38 @@ ghost use Rattle.c_syntax_goals.specs.Refusals.{IsPlace, NoneDeep, NotHereAt, St
 /// An expression within the levels is read, whatever is to be read behind it.
 #[tactic(auto, using(crate::proofs::Going::law_exp))]
 pub fn expression_is_read()
-    ensures { (L : ℕ → Bool) (e : AnExp) (κ : AnExp → Stack) (n : ℕ) (w : List Placed) → IsAt 0 e → LowExp L e n → Quiet 0 w → run L (Want Expr κ) n (onto_exp e w) ≡ run L (κ e) (after_exp e n) w }
+    ensures { (L : ℕ → Bool) (e : AnExp) (κ : AnExp → Stack) (n : ℕ) (w : List Placed) → IsAt 0 e → LowExp L e n → Quiet 0 w
+        → run L (Want Expr κ) n (onto_exp e w) ≡ run L (κ e) (after_exp e n) w }
 {}
 
 /// A unit within the levels is read to its end, as that unit.
 #[tactic(auto, using(crate::proofs::Stating::law_unit))]
 pub fn unit_is_read()
-    ensures { (L : ℕ → Bool) (u : AUnit) → ExternalsFit u.externals → LowExternals L u.externals → run L (Want Whole Done) 0 (unit_tokens u) ≡ Ok u }
+    ensures { (L : ℕ → Bool) (u : AUnit) → ExternalsFit u.externals → LowExternals L u.externals
+        → run L (Want Whole Done) 0 (unit_tokens u) ≡ Ok u }
 {}
 
 /// Two units within the levels with the same tokens are the same.
 #[tactic(auto, using(crate::proofs::Prefix::same_unit))]
 pub fn units_are_unique()
-    ensures { (ts : List Placed) (u v : AUnit) → ExternalsFit u.externals → LowExternals limit u.externals → ts ≡ unit_tokens u → ExternalsFit v.externals → LowExternals limit v.externals → ts ≡ unit_tokens v → u ≡ v }
+    ensures { (ts : List Placed) (u v : AUnit) → ExternalsFit u.externals → LowExternals limit u.externals → ts ≡ unit_tokens u
+        → ExternalsFit v.externals → LowExternals limit v.externals → ts ≡ unit_tokens v → u ≡ v }
 {}
 
 /// No unit, of any level, begins with the tokens up to one that may not stand where it stands.
 #[tactic(auto, using(crate::proofs::Prefix::no_unit_begins))]
 pub fn not_here()
-    ensures { (pre : List Placed) (bad : Placed) (post : List Placed) → run limit (Want Whole Done) 0 (pre ++ bad ∷ post) ≡ Err (NotHere (suc (length post))) → (u : AUnit) (w : List Placed) → ExternalsFit u.externals → unit_tokens u ≡ pre ++ bad ∷ w → ⊥ }
+    ensures { (pre : List Placed) (bad : Placed) (post : List Placed) → run limit (Want Whole Done) 0 (pre ++ bad ∷ post)
+        ≡ Err (NotHere (suc (length post))) → (u : AUnit) (w : List Placed) → ExternalsFit u.externals → unit_tokens u ≡ pre
+        ++ bad ∷ w → ⊥ }
 {}
 
 /// Each unit that begins with the tokens up to one that is too deep opens a level past the limit.
 #[tactic(auto, using(crate::proofs::Prefix::too_deep_begins))]
 pub fn too_deep()
-    ensures { (pre : List Placed) (bad : Placed) (post : List Placed) → run limit (Want Whole Done) 0 (pre ++ bad ∷ post) ≡ Err (TooDeep (suc (length post))) → (u : AUnit) (w : List Placed) → ExternalsFit u.externals → LowExternals limit u.externals → unit_tokens u ≡ pre ++ bad ∷ w → ⊥ }
+    ensures { (pre : List Placed) (bad : Placed) (post : List Placed) → run limit (Want Whole Done) 0 (pre ++ bad ∷ post)
+        ≡ Err (TooDeep (suc (length post))) → (u : AUnit) (w : List Placed) → ExternalsFit u.externals
+        → LowExternals limit u.externals → unit_tokens u ≡ pre ++ bad ∷ w → ⊥ }
 {}
 
 /// The levels of a unit's tokens are listed beside these tokens.
@@ -56,7 +63,8 @@ pub fn levels_of_phrases_are_of_tokens()
     ensures { (u : AUnit) → LowExternals limit u.externals ↔ NoneDeep (levelled u) }
 {}
 
-/// Where the run refuses a token, no unit begins with the tokens up to it; some unit begins with those before it, and none of those is too deep.
+/// Where the run refuses a token, no unit begins with the tokens up to it; some unit begins with those before it, and none of those
+/// is too deep.
 #[tactic(auto, using(crate::proofs::Faults::refused_here))]
 pub fn refused_here()
     ensures { (ts : List Spanned) (k place : ℕ) → IsEnded ts → Stops ts (NotHere k) → IsPlace ts k place → NotHereAt ts place }

@@ -1,5 +1,6 @@
 -- What the grammar says of the front of a text is what is read there.
-use Rattle.std.proofs.Common.{◌≡◌, ◌≢◌, ◌<◌, ◌≤◌, ℕ, suc, ◌+◌, ◌-◌, Bool, true, false, eqb, List, [], ◌∷◌, ◌++◌, length, take, drop, Option, Some, None, Ok, Err, refl, sym, ◌∙◌, ap, arith, subst, length-drop, length-append}
+use Rattle.std.proofs.Common.{◌≡◌, ◌≢◌, ◌<◌, ◌≤◌, ℕ, suc, ◌+◌, ◌-◌, Bool, true, false, eqb, List, [], ◌∷◌, ◌++◌, length, take, drop, Option, Some, None, Ok, Err, refl, sym, ◌∙◌}
+use Rattle.std.proofs.Common.{ap, arith, subst, length-drop, length-append}
 use Rattle.std.specs.Prelude.{nat_le, ◌&&◌}
 use Rattle.std.specs.Option.{option_map}
 use Rattle.std.proofs.lemmas.Bool.{eqb-true, eq-eqb, ne_eqb, le-leb}
@@ -19,7 +20,8 @@ use Rattle.c_tokens.specs.Marks.{mark_text, mark_of}
 use Rattle.c_tokens.specs.Numbers.{number_of}
 use Rattle.c_tokens.specs.Pieces.{wrong, word_piece, number_piece, sign_copied, character_end, string_from, string_token, comment_len, mark_piece, slash_piece, piece_of}
 use Rattle.c_tokens.specs.Grammar.{IsRun, IsNumber, NoneCloses, NoComment, IsPiece, blank, comment, line_comment, keyword, name, number, character, string, mark}
-use Rattle.c_tokens.specs.Wrong.{AtLineEnd, IsWrong, bad_byte, bad_number, long_name, character_escape, string_escape, no_element, no_closing_mark, open_comment, open_mark, open_character, open_string}
+use Rattle.c_tokens.specs.Wrong.{AtLineEnd, IsWrong, bad_byte, bad_number, long_name, character_escape, string_escape, no_element, no_closing_mark, open_comment, open_mark}
+use Rattle.c_tokens.specs.Wrong.{open_character, open_string}
 use Rattle.c_tokens.proofs.RunLaws.{run_again}
 use Rattle.c_tokens.proofs.NumberLaws.{number_is, number_reads}
 use Rattle.c_tokens.proofs.EscapeLaws.{element_reads, escape_none}
@@ -51,7 +53,8 @@ record CutRun (p : ℕ → Bool) (text run rest : List ℕ) : Type 0 where
   pub within : length run ≤ length text
 
 cut_run : (p : ℕ → Bool) (text run rest : List ℕ) → IsRun p text run rest → CutRun p text run rest
-cut_run p text run rest r = subst (λ (t : List ℕ). CutRun p t run rest) (sym r.text_is) (record { len = run_again p run rest r.pass r.stops; take_is = take-append_seam run rest; drop_is = drop-append_seam run rest; within = omega (arith, length-append run rest) })
+cut_run p text run rest r = subst (λ (t : List ℕ). CutRun p t run rest) (sym r.text_is)
+    (record { len = run_again p run rest r.pass r.stops; take_is = take-append_seam run rest; drop_is = drop-append_seam run rest; within = omega (arith, length-append run rest) })
 
 some_run : (p : ℕ → Bool) (b : ℕ) (bs run : List ℕ) → p b ≡ true → run_len p (b ∷ bs) ≡ length run → 1 ≤ length run
 some_run p b bs run h e = rw (← e, h) (omega arith)
@@ -128,13 +131,34 @@ piece_reads _ _ _ (line_comment text body rest r) =
     record { taken = length body + 2; read = λ at. rw len refl; rest_is = rw sums c.drop_is; some = omega arith; within = omega arith }
 piece_reads _ _ _ (keyword b bs word rest k h r e) =
     let c = cut_run in_word (b ∷ bs) word rest r in
-    record { taken = length word; read = λ at. word_reads at b bs h ∙ rw (c.len, c.take_is, key_reads word k e) refl; rest_is = c.drop_is; some = some_run in_word b bs word (letter_word b h) c.len; within = c.within }
+    record {
+      taken = length word;
+      read = λ at. word_reads at b bs h ∙ rw (c.len, c.take_is, key_reads word k e) refl;
+      rest_is = c.drop_is;
+      some =
+          some_run in_word b bs word (letter_word b h) c.len;
+      within = c.within;
+    }
 piece_reads _ _ _ (name b bs word rest h r other low) =
     let c = cut_run in_word (b ∷ bs) word rest r in
-    record { taken = length word; read = λ at. word_reads at b bs h ∙ rw (c.len, c.take_is, key_none word other, le-leb (length word) 63 low) refl; rest_is = c.drop_is; some = some_run in_word b bs word (letter_word b h) c.len; within = c.within }
+    record {
+      taken = length word;
+      read = λ at. word_reads at b bs h ∙ rw (c.len, c.take_is, key_none word other, le-leb (length word) 63 low) refl;
+      rest_is = c.drop_is;
+      some =
+          some_run in_word b bs word (letter_word b h) c.len;
+      within = c.within;
+    }
 piece_reads _ _ _ (number b bs word rest v h r w) =
     let c = cut_run in_word (b ∷ bs) word rest r in
-    record { taken = length word; read = λ at. number_word_reads at b bs h ∙ rw (c.len, c.take_is, number_reads word v w) refl; rest_is = c.drop_is; some = some_run in_word b bs word (digit_word b h) c.len; within = c.within }
+    record {
+      taken = length word;
+      read = λ at. number_word_reads at b bs h
+          ∙ rw (c.len, c.take_is, number_reads word v w) refl;
+      rest_is = c.drop_is;
+      some = some_run in_word b bs word (digit_word b h) c.len;
+      within = c.within;
+    }
 piece_reads _ _ _ (character text v rest e) =
     let r = element_reads 39 text v (39 ∷ rest) refl e in
     let len : suc (length rest) ≡ length r.others - r.behind = ap length (sym r.rest_is) ∙ length-drop r.behind r.others in
@@ -173,7 +197,15 @@ here at kind = let e : at + 0 ≡ at = omega arith in rw e refl
 
 -- what is wrong is answered so
 pub wrong_reads : (at : ℕ) (text : List ℕ) (n : ℕ) (kind : TokenKind) → IsWrong text n kind → piece_of at text ≡ Err (At (at + n) kind)
-wrong_reads at _ _ _ (bad_byte b bs e f g h i none) = rw (e, f, g, ne_eqb b 39 h, ne_eqb b 34 i, ne_eqb b 47 (λ (k : b ≡ 47). none marks.Slash [] (ap (λ (x : ℕ). x ∷ []) (sym k))), mark_none b bs none) (here at BadByte)
+wrong_reads at _ _ _ (bad_byte b bs e f g h i none) = rw (
+  e,
+  f,
+  g,
+  ne_eqb b 39 h,
+  ne_eqb b 34 i,
+  ne_eqb b 47 (λ (k : b ≡ 47). none marks.Slash [] (ap (λ (x : ℕ). x ∷ []) (sym k))),
+  mark_none b bs none,
+) (here at BadByte)
 wrong_reads at _ _ _ (bad_number b bs word rest h r none) =
     let c = cut_run in_word (b ∷ bs) word rest r in
     number_word_reads at b bs h ∙ (rw (c.len, c.take_is, no_number word none) refl ∙ here at BadNumber)

@@ -1,5 +1,6 @@
 -- Escapes and elements are read exactly as they are written.
-use Rattle.std.proofs.Common.{◌≡◌, ◌≢◌, ◌<◌, ◌≤◌, ◌⊎◌, ℕ, zero, suc, Bool, true, false, cond, eqb, List, [], ◌∷◌, ◌++◌, length, take, drop, Option, Some, None, refl, sym, ◌∙◌, ap, arith, inl, inr, subst, length-append}
+use Rattle.std.proofs.Common.{◌≡◌, ◌≢◌, ◌<◌, ◌≤◌, ◌⊎◌, ℕ, zero, suc, Bool, true, false, cond, eqb, List, [], ◌∷◌, ◌++◌, length, take, drop, Option, Some, None, refl, sym, ◌∙◌, ap}
+use Rattle.std.proofs.Common.{arith, inl, inr, subst, length-append}
 use Rattle.std.proofs.lemmas.Bool.{eqb-true, eqb-false, ne_eqb}
 use Rattle.std.proofs.lemmas.Bool.Decides.{nat_tests}
 use Rattle.std.proofs.lemmas.Option.{none-some, same_Some}
@@ -89,7 +90,8 @@ hexadecimal_is ds x e = step (eqb (run_len (is_digit_of 16) ds) 0) (nat_lt 2 (ru
     small : (n : ℕ) → nat_lt 2 n ≡ false → n ≤ 2
     small n h = grind (arith, nat_tests)
 
-    step : (t u : Bool) → eqb (run_len (is_digit_of 16) ds) 0 ≡ t → nat_lt 2 (run_len (is_digit_of 16) ds) ≡ u → cond t None (cond u None (byte_of 16 (run_len (is_digit_of 16) ds) ds)) ≡ Some x → Escaped (120 ∷ ds) (x.0, suc x.1)
+    step : (t u : Bool) → eqb (run_len (is_digit_of 16) ds) 0 ≡ t → nat_lt 2 (run_len (is_digit_of 16) ds) ≡ u → cond t None (cond u None (byte_of 16 (run_len (is_digit_of 16) ds) ds))
+        ≡ Some x → Escaped (120 ∷ ds) (x.0, suc x.1)
     step true u f g h = absurd (none-some x h)
     step false true f g h = absurd (none-some x h)
     step false false f g h =
@@ -152,7 +154,8 @@ pub record EscapeRead (text : List ℕ) (v : ℕ) (rest : List ℕ) : Type 0 whe
   pub some : 1 ≤ taken
   pub within : taken ≤ length text
 
-octal_reads : (text digits : List ℕ) (v : ℕ) (rest : List ℕ) → text ≡ digits ++ rest → Pass (is_digit_of 8) digits → 1 ≤ length digits → (length digits ≡ 3) ⊎ ((length digits < 3) × Stops (is_digit_of 8) rest) → Writes 8 255 digits v → EscapeRead (digits ++ rest) v rest
+octal_reads : (text digits : List ℕ) (v : ℕ) (rest : List ℕ) → text ≡ digits ++ rest → Pass (is_digit_of 8) digits → 1 ≤ length digits
+    → (length digits ≡ 3) ⊎ ((length digits < 3) × Stops (is_digit_of 8) rest) → Writes 8 255 digits v → EscapeRead (digits ++ rest) v rest
 octal_reads text [] v rest e h one l w = absurd (omega arith)
 octal_reads text (d ∷ ds) v rest e h one l w =
     let len : octal_len ((d ∷ ds) ++ rest) ≡ length (d ∷ ds) = up_to_again (is_digit_of 8) 3 (d ∷ ds) rest h l in
@@ -165,7 +168,8 @@ octal_reads text (d ∷ ds) v rest e h one l w =
       within = omega (arith, length-append (d ∷ ds) rest);
     }
 
-hexadecimal_reads : (digits : List ℕ) (v : ℕ) (rest : List ℕ) → Pass (is_digit_of 16) digits → Stops (is_digit_of 16) rest → 1 ≤ length digits → length digits ≤ 2 → Writes 16 255 digits v → EscapeRead (120 ∷ digits ++ rest) v rest
+hexadecimal_reads : (digits : List ℕ) (v : ℕ) (rest : List ℕ) → Pass (is_digit_of 16) digits → Stops (is_digit_of 16) rest → 1 ≤ length digits → length digits ≤ 2 → Writes 16 255 digits v
+    → EscapeRead (120 ∷ digits ++ rest) v rest
 hexadecimal_reads digits v rest h s one two w =
     let len : run_len (is_digit_of 16) (digits ++ rest) ≡ length digits = run_again (is_digit_of 16) digits rest h s in
     let nonzero : eqb (run_len (is_digit_of 16) (digits ++ rest)) 0 ≡ false = rw len (ne_eqb (length digits) 0 (λ (z : length digits ≡ 0). omega arith)) in
@@ -210,7 +214,8 @@ element_is mark b bs x line other e = step (eqb b 92) refl e
         let o = one_longer_is (escape_of bs) x h in
         let r = escape_is bs o.0 o.1.0 in
         let low : o.0.1 ≤ length bs = r.within in
-        subst (λ (c : ℕ). ElementIs mark (c ∷ bs) x) (sym (eqb-true b 92 f)) (subst (λ (z : ℕ × ℕ). ElementIs mark (92 ∷ bs) z) o.1.1 (record { is = escape bs o.0.0 (drop o.0.1 bs) r.is; some = omega arith; within = omega arith }))
+        subst (λ (c : ℕ). ElementIs mark (c ∷ bs) x) (sym (eqb-true b 92 f))
+        (subst (λ (z : ℕ × ℕ). ElementIs mark (92 ∷ bs) z) o.1.1 (record { is = escape bs o.0.0 (drop o.0.1 bs) r.is; some = omega arith; within = omega arith }))
     step false f h = subst (λ (y : ℕ × ℕ). ElementIs mark (b ∷ bs) y) (same_Some (b, 1) x h) (record { is = plain b bs (eqb-false b 92 f) line other; some = omega arith; within = omega arith })
 
 -- a byte that begins no element is a backslash that begins no escape
@@ -237,7 +242,17 @@ pub record ElementRead (mark : ℕ) (text : List ℕ) (v : ℕ) (rest : List ℕ
   pub within : behind ≤ length others
 
 pub element_reads : (mark : ℕ) (text : List ℕ) (v : ℕ) (rest : List ℕ) → eqb 92 mark ≡ false → IsElement mark text v rest → ElementRead mark text v rest
-element_reads mark _ _ _ f (plain b rest slash line other) = record { first = b; others = rest; text_is = refl; no_mark = ne_eqb b mark other; no_line = ne_eqb b 10 line; behind = 0; read = rw (ne_eqb b 92 slash) refl; rest_is = refl; within = omega arith }
+element_reads mark _ _ _ f (plain b rest slash line other) = record {
+  first = b;
+  others = rest;
+  text_is = refl;
+  no_mark = ne_eqb b mark other;
+  no_line = ne_eqb b 10 line;
+  behind = 0;
+  read = rw (ne_eqb b 92 slash) refl;
+  rest_is = refl;
+  within = omega arith;
+}
 element_reads mark _ _ _ f (escape text v rest h) =
     let r = escape_reads text v rest h in
     record { first = 92; others = text; text_is = refl; no_mark = f; no_line = refl; behind = r.taken; read = rw r.read refl; rest_is = r.rest_is; within = r.within }

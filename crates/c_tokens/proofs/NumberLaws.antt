@@ -18,7 +18,9 @@ number_written : (base limit n : ℕ) (ds : List ℕ) (v : ℕ) → n ≤ limit 
 number_written base limit n [] v low e = let same : n ≡ v = same_Some n v e in record { digits_are = tt; value_is = same; small = omega arith }
 number_written base limit n (d ∷ ds) v low e = step (nat_lt (digit_value d) base) (nat_le (n * base + digit_value d) limit) refl refl (number_written base limit (n * base + digit_value d) ds v) e
   where
-    step : (t u : Bool) → nat_lt (digit_value d) base ≡ t → nat_le (n * base + digit_value d) limit ≡ u → (n * base + digit_value d ≤ limit → number_behind base limit (n * base + digit_value d) ds ≡ Some v → WritesBehind base limit (n * base + digit_value d) ds v) → cond t (cond u (number_behind base limit (n * base + digit_value d) ds) None) None ≡ Some v → WritesBehind base limit n (d ∷ ds) v
+    step : (t u : Bool) → nat_lt (digit_value d) base ≡ t → nat_le (n * base + digit_value d) limit ≡ u
+        → (n * base + digit_value d ≤ limit → number_behind base limit (n * base + digit_value d) ds ≡ Some v → WritesBehind base limit (n * base + digit_value d) ds v)
+        → cond t (cond u (number_behind base limit (n * base + digit_value d) ds) None) None ≡ Some v → WritesBehind base limit n (d ∷ ds) v
     step true true f g more h = let w = more (leb-true (n * base + digit_value d) limit g) h in record { digits_are = (f, w.digits_are); value_is = w.value_is; small = w.small }
     step true false f g more h = absurd (none-some v h)
     step false u f g more h = absurd (none-some v h)

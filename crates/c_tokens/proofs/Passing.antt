@@ -17,10 +17,12 @@ read_skip (suc k) at (b ∷ bs) low =
     read_skip k (suc at) bs below ∙ rw here refl
 
 -- what is read behind a piece
-pub piece_then : (at : ℕ) (b : ℕ) (bs : List ℕ) (p : Piece) → piece_of at (b ∷ bs) ≡ Ok p → 1 ≤ p.length → p.length ≤ suc (length bs) → read_from 0 at (b ∷ bs) ≡ in_front (spanned p.token at (at + p.length)) (read_from 0 (at + p.length) (drop p.length (b ∷ bs)))
+pub piece_then : (at : ℕ) (b : ℕ) (bs : List ℕ) (p : Piece) → piece_of at (b ∷ bs) ≡ Ok p → 1 ≤ p.length → p.length ≤ suc (length bs) → read_from 0 at (b ∷ bs)
+    ≡ in_front (spanned p.token at (at + p.length)) (read_from 0 (at + p.length) (drop p.length (b ∷ bs)))
 piece_then at b bs p e one low = rw e (by p.length one low)
   where
-    by : (n : ℕ) → 1 ≤ n → n ≤ suc (length bs) → in_front (spanned p.token at (at + p.length)) (read_from (one_less n) (suc at) bs) ≡ in_front (spanned p.token at (at + p.length)) (read_from 0 (at + n) (drop n (b ∷ bs)))
+    by : (n : ℕ) → 1 ≤ n → n ≤ suc (length bs) → in_front (spanned p.token at (at + p.length)) (read_from (one_less n) (suc at) bs)
+        ≡ in_front (spanned p.token at (at + p.length)) (read_from 0 (at + n) (drop n (b ∷ bs)))
     by zero one low = absurd (omega arith)
     by (suc k) one low =
         let here : suc at + k ≡ at + suc k = omega arith in
@@ -32,7 +34,8 @@ in_front_twice xs ys (Ok zs) = rw (append_assoc xs ys zs) refl
 in_front_twice xs ys (Err e) = refl
 
 -- one more piece
-pub reads_on : (found more : List Spanned) (at m : ℕ) (rest behind : List ℕ) (p : Piece) → 1 ≤ length rest → piece_of at rest ≡ Ok p → 1 ≤ p.length → p.length ≤ length rest → more ≡ found ++ spanned p.token at m → behind ≡ drop p.length rest → m ≡ at + p.length → in_front more (read_from 0 m behind) ≡ in_front found (read_from 0 at rest)
+pub reads_on : (found more : List Spanned) (at m : ℕ) (rest behind : List ℕ) (p : Piece) → 1 ≤ length rest → piece_of at rest ≡ Ok p → 1 ≤ p.length → p.length ≤ length rest → more ≡ found
+    ++ spanned p.token at m → behind ≡ drop p.length rest → m ≡ at + p.length → in_front more (read_from 0 m behind) ≡ in_front found (read_from 0 at rest)
 reads_on found more at m [] behind p some e one low h i j = absurd (omega arith)
 reads_on found more at m (b ∷ bs) behind p some e one low h i j = rw (h, i, j, in_front_twice, piece_then at b bs p e one low) refl
 

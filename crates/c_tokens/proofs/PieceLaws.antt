@@ -1,5 +1,6 @@
 -- The piece at the front of a text is read exactly as the grammar says, or it is wrong exactly so.
-use Rattle.std.proofs.Common.{◌≡◌, ◌≢◌, ◌<◌, ◌≤◌, ℕ, suc, ◌+◌, ◌-◌, Bool, true, false, cond, eqb, List, [], ◌∷◌, ◌++◌, length, take, drop, Option, Some, None, Result, Ok, Err, refl, sym, ◌∙◌, ap, arith, subst, length-drop, length-append}
+use Rattle.std.proofs.Common.{◌≡◌, ◌≢◌, ◌<◌, ◌≤◌, ℕ, suc, ◌+◌, ◌-◌, Bool, true, false, cond, eqb, List, [], ◌∷◌, ◌++◌, length, take, drop, Option, Some, None, Result, Ok, Err}
+use Rattle.std.proofs.Common.{refl, sym, ◌∙◌, ap, arith, subst, length-drop, length-append}
 use Rattle.std.specs.Prelude.{nat_le, ◌&&◌, ◌||◌}
 use Rattle.std.specs.Option.{option_map}
 use Rattle.std.proofs.lemmas.Bool.{eqb-true, eqb-false, eq-eqb, leb-true}
@@ -19,7 +20,8 @@ use Rattle.c_tokens.specs.Words.{key_of}
 use Rattle.c_tokens.specs.Marks.{mark_text, mark_of}
 use Rattle.c_tokens.specs.Numbers.{number_of}
 use Rattle.c_tokens.specs.Escapes.{element_of}
-use Rattle.c_tokens.specs.Pieces.{parts, holds, wrong, keyword_or_name, word_piece, number_or_not, number_piece, sign_copied, character_end, character_behind, character_piece, string_from, string_token, closes, comment_len, comment_or_not, mark_or_not, mark_piece, slash_piece, piece_of}
+use Rattle.c_tokens.specs.Pieces.{parts, holds, wrong, keyword_or_name, word_piece, number_or_not, number_piece, sign_copied, character_end, character_behind, character_piece}
+use Rattle.c_tokens.specs.Pieces.{string_from, string_token, closes, comment_len, comment_or_not, mark_or_not, mark_piece, slash_piece, piece_of}
 use Rattle.c_tokens.specs.Grammar as grammar
 use Rattle.c_tokens.specs.Grammar.{IsRun, Pass, Stops, IsNumber, IsElement, Elements, NoneCloses, NoComment, IsPiece}
 use Rattle.c_tokens.specs.Wrong as faults
@@ -65,23 +67,42 @@ digit_in b h = step (is_letter b)
 word_says : (at b : ℕ) (bs : List ℕ) → is_letter b ≡ true → PieceSays at (b ∷ bs) (word_piece at (b ∷ bs))
 word_says at b bs h = step (key_of (take (run_len in_word (b ∷ bs)) (b ∷ bs))) refl
   where
-    long : (u : Bool) → nat_le (length (take (run_len in_word (b ∷ bs)) (b ∷ bs))) 63 ≡ u → key_of (take (run_len in_word (b ∷ bs)) (b ∷ bs)) ≡ None → PieceSays at (b ∷ bs) (holds (run_len in_word (b ∷ bs)) (cond u (Ok (token.Name (take (run_len in_word (b ∷ bs)) (b ∷ bs)))) (wrong at LongName)))
-    long true f e = record { is = grammar.name b bs (take (run_len in_word (b ∷ bs)) (b ∷ bs)) (drop (run_len in_word (b ∷ bs)) (b ∷ bs)) h (run_cut in_word (b ∷ bs)) (no_key _ e) (leb-true _ 63 f); some = starts_run in_word b bs (letter_in b h); within = run_within in_word (b ∷ bs) }
-    long false f e = bad at (b ∷ bs) LongName (faults.long_name b bs (take (run_len in_word (b ∷ bs)) (b ∷ bs)) (drop (run_len in_word (b ∷ bs)) (b ∷ bs)) h (run_cut in_word (b ∷ bs)) (no_key _ e) (above (length (take (run_len in_word (b ∷ bs)) (b ∷ bs))) f))
+    long : (u : Bool) → nat_le (length (take (run_len in_word (b ∷ bs)) (b ∷ bs))) 63 ≡ u → key_of (take (run_len in_word (b ∷ bs)) (b ∷ bs)) ≡ None
+        → PieceSays at (b ∷ bs) (holds (run_len in_word (b ∷ bs)) (cond u (Ok (token.Name (take (run_len in_word (b ∷ bs)) (b ∷ bs)))) (wrong at LongName)))
+    long true f e = record {
+      is = grammar.name b bs (take (run_len in_word (b ∷ bs)) (b ∷ bs)) (drop (run_len in_word (b ∷ bs)) (b ∷ bs)) h (run_cut in_word (b ∷ bs)) (no_key _ e)
+          (leb-true _ 63 f);
+      some = starts_run in_word b bs (letter_in b h);
+      within = run_within in_word (b ∷ bs);
+    }
+    long false f e = bad at (b ∷ bs) LongName (faults.long_name b bs (take (run_len in_word (b ∷ bs)) (b ∷ bs)) (drop (run_len in_word (b ∷ bs)) (b ∷ bs)) h (run_cut in_word (b ∷ bs))
+        (no_key _ e) (above (length (take (run_len in_word (b ∷ bs)) (b ∷ bs))) f))
       where
         above : (n : ℕ) → nat_le n 63 ≡ false → 63 < n
         above n h = grind (arith, nat_tests)
 
-    step : (o : Option Key) → key_of (take (run_len in_word (b ∷ bs)) (b ∷ bs)) ≡ o → PieceSays at (b ∷ bs) (holds (run_len in_word (b ∷ bs)) (keyword_or_name at o (take (run_len in_word (b ∷ bs)) (b ∷ bs))))
+    step : (o : Option Key) → key_of (take (run_len in_word (b ∷ bs)) (b ∷ bs)) ≡ o
+        → PieceSays at (b ∷ bs) (holds (run_len in_word (b ∷ bs)) (keyword_or_name at o (take (run_len in_word (b ∷ bs)) (b ∷ bs))))
     step None e = long (nat_le (length (take (run_len in_word (b ∷ bs)) (b ∷ bs))) 63) refl e
-    step (Some k) e = record { is = grammar.keyword b bs (take (run_len in_word (b ∷ bs)) (b ∷ bs)) (drop (run_len in_word (b ∷ bs)) (b ∷ bs)) k h (run_cut in_word (b ∷ bs)) (key_is _ k e); some = starts_run in_word b bs (letter_in b h); within = run_within in_word (b ∷ bs) }
+    step (Some k) e = record {
+      is = grammar.keyword b bs (take (run_len in_word (b ∷ bs)) (b ∷ bs)) (drop (run_len in_word (b ∷ bs)) (b ∷ bs)) k h (run_cut in_word (b ∷ bs))
+          (key_is _ k e);
+      some = starts_run in_word b bs (letter_in b h);
+      within = run_within in_word (b ∷ bs);
+    }
 
 number_says : (at b : ℕ) (bs : List ℕ) → is_digit b ≡ true → PieceSays at (b ∷ bs) (number_piece at (b ∷ bs))
 number_says at b bs h = step (number_of (take (run_len in_word (b ∷ bs)) (b ∷ bs))) refl
   where
     step : (o : Option ℕ) → number_of (take (run_len in_word (b ∷ bs)) (b ∷ bs)) ≡ o → PieceSays at (b ∷ bs) (holds (run_len in_word (b ∷ bs)) (number_or_not at o))
-    step None e = bad at (b ∷ bs) BadNumber (faults.bad_number b bs (take (run_len in_word (b ∷ bs)) (b ∷ bs)) (drop (run_len in_word (b ∷ bs)) (b ∷ bs)) h (run_cut in_word (b ∷ bs)) (λ v w. none-some v (sym e ∙ number_reads _ v w)))
-    step (Some v) e = record { is = grammar.number b bs (take (run_len in_word (b ∷ bs)) (b ∷ bs)) (drop (run_len in_word (b ∷ bs)) (b ∷ bs)) v h (run_cut in_word (b ∷ bs)) (number_is _ v e); some = starts_run in_word b bs (digit_in b h); within = run_within in_word (b ∷ bs) }
+    step None e = bad at (b ∷ bs) BadNumber (faults.bad_number b bs (take (run_len in_word (b ∷ bs)) (b ∷ bs)) (drop (run_len in_word (b ∷ bs)) (b ∷ bs)) h (run_cut in_word (b ∷ bs))
+        (λ v w. none-some v (sym e ∙ number_reads _ v w)))
+    step (Some v) e = record {
+      is = grammar.number b bs (take (run_len in_word (b ∷ bs)) (b ∷ bs)) (drop (run_len in_word (b ∷ bs)) (b ∷ bs)) v h (run_cut in_word (b ∷ bs))
+          (number_is _ v e);
+      some = starts_run in_word b bs (digit_in b h);
+      within = run_within in_word (b ∷ bs);
+    }
 
 character_end_says : (at v n : ℕ) (text rest : List ℕ) → rest ≡ drop n text → n ≤ length text → IsElement 39 text v rest → PieceSays at (39 ∷ text) (character_end at v n rest)
 character_end_says at v n text [] e low h = bad at (39 ∷ text) Unclosed (faults.open_character text v [] h tt)
@@ -175,7 +196,15 @@ comment_says (b ∷ bs) = step (closes (b ∷ bs)) refl (comment_len bs) (commen
     step false e None s = put_open b bs e s
     step false e (Some n) s =
         let low : n ≤ length bs = s.within in
-        record { body = b ∷ s.body; rest = s.rest; text_is = ap (λ (l : List ℕ). b ∷ l) s.text_is; rest_is = s.rest_is; first = put_body b s.body s.rest (subst (λ (l : List ℕ). closes (b ∷ l) ≡ false) s.text_is e) s.first; within = omega arith }
+        record {
+          body = b ∷ s.body;
+          rest = s.rest;
+          text_is = ap (λ (l : List ℕ). b ∷ l) s.text_is;
+          rest_is = s.rest_is;
+          first =
+              put_body b s.body s.rest (subst (λ (l : List ℕ). closes (b ∷ l) ≡ false) s.text_is e) s.first;
+          within = omega arith;
+        }
 
 comment_piece_says : (at : ℕ) (text : List ℕ) → PieceSays at (47 ∷ 42 ∷ text) (comment_or_not at (comment_len text))
 comment_piece_says at text = step (comment_len text) (comment_says text)
@@ -185,7 +214,12 @@ comment_piece_says at text = step (comment_len text) (comment_says text)
     step (Some n) s =
         let sums : n + 2 ≡ suc (suc n) = omega arith in
         let low : n ≤ length text = s.within in
-        record { is = rw (sums, s.rest_is) (subst (λ (l : List ℕ). IsPiece (47 ∷ 42 ∷ l) None s.rest) (sym s.text_is) (grammar.comment s.body s.rest s.first)); some = omega arith; within = omega arith }
+        record {
+          is = rw (sums, s.rest_is) (subst (λ (l : List ℕ). IsPiece (47 ∷ 42 ∷ l) None s.rest) (sym s.text_is) (grammar.comment s.body s.rest s.first));
+          some = omega arith;
+          within =
+              omega arith;
+        }
 
 line_says : (at : ℕ) (text : List ℕ) → PieceSays at (47 ∷ 47 ∷ text) (parts (run_len in_line text + 2))
 line_says at text =
@@ -207,7 +241,12 @@ mark_says at b bs p c = step (mark_of (b ∷ bs)) refl
     step None e = bad at (b ∷ bs) BadByte (faults.bad_byte b bs p.blank p.letter p.digit p.quote p.double (no_mark b bs e))
     step (Some m) e =
         let text_is = mark_is (b ∷ bs) m e in
-        record { is = grammar.mark (b ∷ bs) m (drop (length (mark_text m)) (b ∷ bs)) text_is (mark_longest (b ∷ bs) m e) c; some = mark_some m; within = omega (arith, ap length text_is, length-append (mark_text m) (drop (length (mark_text m)) (b ∷ bs))) }
+        record {
+          is = grammar.mark (b ∷ bs) m (drop (length (mark_text m)) (b ∷ bs)) text_is (mark_longest (b ∷ bs) m e) c;
+          some = mark_some m;
+          within =
+              omega (arith, ap length text_is, length-append (mark_text m) (drop (length (mark_text m)) (b ∷ bs)));
+        }
 
 no_comment : (b : ℕ) (bs : List ℕ) → b ≢ 47 → NoComment (b ∷ bs)
 no_comment b [] h = tt
@@ -230,19 +269,26 @@ piece_says at b bs = blanks (is_blank b) refl
     signs p true e = let same = eqb-true b 47 e in subst (λ (x : ℕ). PieceSays at (x ∷ bs) (slash_piece at bs (x ∷ bs))) (sym same) (slash_says at bs (subst IsPlain same p))
     signs p false e = mark_says at b bs p (no_comment b bs (eqb-false b 47 e))
 
-    quotes : is_blank b ≡ false → is_letter b ≡ false → is_digit b ≡ false → (t u : Bool) → eqb b 39 ≡ t → eqb b 34 ≡ u → PieceSays at (b ∷ bs) (cond t (character_piece at bs) (cond u (string_token (string_from at (at + 1) 0 bs)) (cond (eqb b 47) (slash_piece at bs (b ∷ bs)) (mark_piece at (b ∷ bs)))))
+    quotes : is_blank b ≡ false → is_letter b ≡ false → is_digit b ≡ false → (t u : Bool) → eqb b 39 ≡ t → eqb b 34 ≡ u
+        → PieceSays at (b ∷ bs) (cond t (character_piece at bs) (cond u (string_token (string_from at (at + 1) 0 bs)) (cond (eqb b 47) (slash_piece at bs (b ∷ bs)) (mark_piece at (b ∷ bs)))))
     quotes e f g true u h i = subst (λ (x : ℕ). PieceSays at (x ∷ bs) (character_piece at bs)) (sym (eqb-true b 39 h)) (character_says at bs)
     quotes e f g false true h i = subst (λ (x : ℕ). PieceSays at (x ∷ bs) (string_token (string_from at (at + 1) 0 bs))) (sym (eqb-true b 34 i)) (string_piece_says at bs)
     quotes e f g false false h i = signs (record { blank = e; letter = f; digit = g; quote = eqb-false b 39 h; double = eqb-false b 34 i }) (eqb b 47) refl
 
-    digits : is_blank b ≡ false → is_letter b ≡ false → (t : Bool) → is_digit b ≡ t → PieceSays at (b ∷ bs) (cond t (number_piece at (b ∷ bs)) (cond (eqb b 39) (character_piece at bs) (cond (eqb b 34) (string_token (string_from at (at + 1) 0 bs)) (cond (eqb b 47) (slash_piece at bs (b ∷ bs)) (mark_piece at (b ∷ bs))))))
+    digits : is_blank b ≡ false → is_letter b ≡ false → (t : Bool) → is_digit b ≡ t
+        → PieceSays at (b ∷ bs) (cond t (number_piece at (b ∷ bs)) (cond (eqb b 39) (character_piece at bs)
+        (cond (eqb b 34) (string_token (string_from at (at + 1) 0 bs)) (cond (eqb b 47) (slash_piece at bs (b ∷ bs)) (mark_piece at (b ∷ bs))))))
     digits e f true g = number_says at b bs g
     digits e f false g = quotes e f g (eqb b 39) (eqb b 34) refl refl
 
-    letters : is_blank b ≡ false → (t : Bool) → is_letter b ≡ t → PieceSays at (b ∷ bs) (cond t (word_piece at (b ∷ bs)) (cond (is_digit b) (number_piece at (b ∷ bs)) (cond (eqb b 39) (character_piece at bs) (cond (eqb b 34) (string_token (string_from at (at + 1) 0 bs)) (cond (eqb b 47) (slash_piece at bs (b ∷ bs)) (mark_piece at (b ∷ bs)))))))
+    letters : is_blank b ≡ false → (t : Bool) → is_letter b ≡ t → PieceSays at (b ∷ bs)
+        (cond t (word_piece at (b ∷ bs)) (cond (is_digit b) (number_piece at (b ∷ bs))
+        (cond (eqb b 39) (character_piece at bs) (cond (eqb b 34) (string_token (string_from at (at + 1) 0 bs)) (cond (eqb b 47) (slash_piece at bs (b ∷ bs)) (mark_piece at (b ∷ bs)))))))
     letters e true f = word_says at b bs f
     letters e false f = digits e f (is_digit b) refl
 
-    blanks : (t : Bool) → is_blank b ≡ t → PieceSays at (b ∷ bs) (cond t (parts 1) (cond (is_letter b) (word_piece at (b ∷ bs)) (cond (is_digit b) (number_piece at (b ∷ bs)) (cond (eqb b 39) (character_piece at bs) (cond (eqb b 34) (string_token (string_from at (at + 1) 0 bs)) (cond (eqb b 47) (slash_piece at bs (b ∷ bs)) (mark_piece at (b ∷ bs))))))))
+    blanks : (t : Bool) → is_blank b ≡ t → PieceSays at (b ∷ bs) (cond t (parts 1)
+        (cond (is_letter b) (word_piece at (b ∷ bs)) (cond (is_digit b) (number_piece at (b ∷ bs))
+        (cond (eqb b 39) (character_piece at bs) (cond (eqb b 34) (string_token (string_from at (at + 1) 0 bs)) (cond (eqb b 47) (slash_piece at bs (b ∷ bs)) (mark_piece at (b ∷ bs))))))))
     blanks true e = record { is = grammar.blank b bs e; some = omega arith; within = omega arith }
     blanks false e = letters e (is_letter b) refl

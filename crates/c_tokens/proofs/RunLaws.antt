@@ -8,7 +8,8 @@ pub run_cut : (p : ℕ → Bool) (text : List ℕ) → IsRun p text (take (run_l
 run_cut p [] = record { text_is = refl; pass = tt; stops = tt }
 run_cut p (b ∷ bs) = step (p b) refl (run_cut p bs)
   where
-    step : (t : Bool) → p b ≡ t → IsRun p bs (take (run_len p bs) bs) (drop (run_len p bs) bs) → IsRun p (b ∷ bs) (take (cond t (suc (run_len p bs)) 0) (b ∷ bs)) (drop (cond t (suc (run_len p bs)) 0) (b ∷ bs))
+    step : (t : Bool) → p b ≡ t → IsRun p bs (take (run_len p bs) bs) (drop (run_len p bs) bs)
+        → IsRun p (b ∷ bs) (take (cond t (suc (run_len p bs)) 0) (b ∷ bs)) (drop (cond t (suc (run_len p bs)) 0) (b ∷ bs))
     step true e r = record { text_is = ap (λ (l : List ℕ). b ∷ l) r.text_is; pass = (e, r.pass); stops = r.stops }
     step false e r = record { text_is = refl; pass = tt; stops = e }
 

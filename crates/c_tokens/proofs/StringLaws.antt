@@ -1,5 +1,6 @@
 -- Strings are read exactly as they are written.
-use Rattle.std.proofs.Common.{◌≡◌, ◌≢◌, ◌≤◌, ℕ, zero, suc, ◌+◌, ◌-◌, Bool, true, false, cond, eqb, List, [], ◌∷◌, length, drop, Option, Some, None, Result, Ok, Err, refl, sym, ◌∙◌, ap, arith, subst, length-drop}
+use Rattle.std.proofs.Common.{◌≡◌, ◌≢◌, ◌≤◌, ℕ, zero, suc, ◌+◌, ◌-◌, Bool, true, false, cond, eqb, List, [], ◌∷◌, length, drop, Option, Some, None, Result, Ok, Err, refl, sym, ◌∙◌}
+use Rattle.std.proofs.Common.{ap, arith, subst, length-drop}
 use Rattle.std.proofs.lemmas.Bool.{eqb-true, eqb-false}
 use Rattle.std.proofs.lemmas.List.{drop-drop}
 use Rattle.c_tokens.specs.declared.token.TokenFault.{TokenFault}
@@ -27,7 +28,8 @@ StringSays o at text (Ok x) = StringOk text x
 StringSays o at text (Err NoMemory) = ⊥
 StringSays o at text (Err (At place kind)) = StringBad o at text place kind
 
-extend_bad : (o at b k v : ℕ) (bs : List ℕ) (a : ℕ) (middle : List ℕ) (place : ℕ) (kind : TokenKind) → IsElement 34 (b ∷ bs) v (drop k bs) → k ≤ length bs → a ≡ at + suc k → middle ≡ drop k bs → StringBad o a middle place kind → StringBad o at (b ∷ bs) place kind
+extend_bad : (o at b k v : ℕ) (bs : List ℕ) (a : ℕ) (middle : List ℕ) (place : ℕ) (kind : TokenKind) → IsElement 34 (b ∷ bs) v (drop k bs) → k ≤ length bs → a ≡ at + suc k → middle
+    ≡ drop k bs → StringBad o a middle place kind → StringBad o at (b ∷ bs) place kind
 extend_bad o at b k v bs a _ _ _ e low ea em (unclosed text vs rest s l) = unclosed (b ∷ bs) (v ∷ vs) rest (more (b ∷ bs) v text vs rest (rw em e) s) l
 extend_bad o at b k v bs a _ _ _ e low ea em (slash text vs rest n s l f) =
     let len : length text ≡ length bs - k = ap length em ∙ length-drop k bs in
@@ -35,7 +37,8 @@ extend_bad o at b k v bs a _ _ _ e low ea em (slash text vs rest n s l f) =
     let place : a + n ≡ at + (suc k + n) = omega arith in
     rw place (slash (b ∷ bs) (v ∷ vs) rest (suc k + n) (more (b ∷ bs) v text vs (92 ∷ rest) (rw em e) s) l (omega arith))
 
-extend : (o at b k v : ℕ) (bs : List ℕ) → IsElement 34 (b ∷ bs) v (drop k bs) → k ≤ length bs → (r : Result (List ℕ × ℕ) TokenFault) → StringSays o (at + suc k) (drop k bs) r → StringSays o at (b ∷ bs) (put_value v (so_far [] k r))
+extend : (o at b k v : ℕ) (bs : List ℕ) → IsElement 34 (b ∷ bs) v (drop k bs) → k ≤ length bs → (r : Result (List ℕ × ℕ) TokenFault) → StringSays o (at + suc k) (drop k bs) r
+    → StringSays o at (b ∷ bs) (put_value v (so_far [] k r))
 extend o at b k v bs e low (Ok x) s =
     let len : length (drop k bs) ≡ length bs - k = length-drop k bs in
     let within : x.1 ≤ length (drop k bs) = s.within in
@@ -53,7 +56,9 @@ string_says n o at [] low = unclosed [] [] [] (none []) tt
 string_says zero o at (b ∷ bs) low = absurd (omega arith)
 string_says (suc n) o at (b ∷ bs) low = step (eqb b 34) (eqb b 10) refl refl (λ (k : ℕ) (l : k ≤ length bs). string_says n o (at + suc k) (drop k bs) (omega (arith, length-drop k bs)))
   where
-    element : b ≢ 34 → b ≢ 10 → (x : Option (ℕ × ℕ)) → element_of (b ∷ bs) ≡ x → ((k : ℕ) → k ≤ length bs → StringSays o (at + suc k) (drop k bs) (string_from o (at + suc k) 0 (drop k bs))) → StringSays o at (b ∷ bs) (element_then at x (λ (k : ℕ). string_from o (suc at) k bs))
+    element : b ≢ 34 → b ≢ 10 → (x : Option (ℕ × ℕ)) → element_of (b ∷ bs) ≡ x
+        → ((k : ℕ) → k ≤ length bs → StringSays o (at + suc k) (drop k bs) (string_from o (at + suc k) 0 (drop k bs)))
+        → StringSays o at (b ∷ bs) (element_then at x (λ (k : ℕ). string_from o (suc at) k bs))
     element other line None e behind =
         let h = element_none b bs e in
         let place : at + 0 ≡ at = omega arith in
@@ -70,7 +75,8 @@ string_says (suc n) o at (b ∷ bs) low = step (eqb b 34) (eqb b 10) refl refl (
             let is : IsElement 34 (b ∷ bs) x.0 (drop k bs) = rw f at r.is in
             rw (string_skip o (suc at) k bs low, here) (extend o at b k x.0 bs is low (string_from o (at + suc k) 0 (drop k bs)) (behind k low))
 
-    step : (t u : Bool) → eqb b 34 ≡ t → eqb b 10 ≡ u → ((k : ℕ) → k ≤ length bs → StringSays o (at + suc k) (drop k bs) (string_from o (at + suc k) 0 (drop k bs))) → StringSays o at (b ∷ bs) (cond t (Ok ([], 1)) (cond u (wrong o Unclosed) (element_then at (element_of (b ∷ bs)) (λ (k : ℕ). string_from o (suc at) k bs))))
+    step : (t u : Bool) → eqb b 34 ≡ t → eqb b 10 ≡ u → ((k : ℕ) → k ≤ length bs → StringSays o (at + suc k) (drop k bs) (string_from o (at + suc k) 0 (drop k bs)))
+        → StringSays o at (b ∷ bs) (cond t (Ok ([], 1)) (cond u (wrong o Unclosed) (element_then at (element_of (b ∷ bs)) (λ (k : ℕ). string_from o (suc at) k bs))))
     step true u e f behind = record { is = rw (eqb-true b 34 e) (none (34 ∷ bs)); some = omega arith; within = omega arith }
     step false true e f behind = unclosed (b ∷ bs) [] (b ∷ bs) (none (b ∷ bs)) (eqb-true b 10 f)
     step false false e f behind = element (eqb-false b 34 e) (eqb-false b 10 f) (element_of (b ∷ bs)) refl behind
@@ -105,9 +111,11 @@ elements_read _ _ _ (more text v middle vs rest e s) =
       read = λ o at. first o at r i;
     })
   where
-    first : (o at : ℕ) → (r : ElementRead 34 text v middle) (i : ElementsRead middle vs rest) → string_from o at 0 (r.first ∷ r.others) ≡ so_far (v ∷ vs) (suc r.behind + i.taken) (string_from o (at + (suc r.behind + i.taken)) 0 rest)
+    first : (o at : ℕ) → (r : ElementRead 34 text v middle) (i : ElementsRead middle vs rest) → string_from o at 0 (r.first ∷ r.others)
+        ≡ so_far (v ∷ vs) (suc r.behind + i.taken) (string_from o (at + (suc r.behind + i.taken)) 0 rest)
     first o at r i =
         let sums : at + (suc r.behind + i.taken) ≡ at + suc r.behind + i.taken = omega arith in
         let none_yet : 0 + suc r.behind ≡ suc r.behind = omega arith in
-        let step : so_far (v ∷ []) (0 + suc r.behind) (string_from o (at + suc r.behind) 0 (drop r.behind r.others)) ≡ so_far [] 0 (string_from o at 0 (r.first ∷ r.others)) = element_step o at 0 [] r.first v r.behind r.others r.no_mark r.no_line r.read r.within in
+        let step : so_far (v ∷ []) (0 + suc r.behind) (string_from o (at + suc r.behind) 0 (drop r.behind r.others))
+        ≡ so_far [] 0 (string_from o at 0 (r.first ∷ r.others)) = element_step o at 0 [] r.first v r.behind r.others r.no_mark r.no_line r.read r.within in
         sym (as_is (string_from o at 0 (r.first ∷ r.others))) ∙ (sym step ∙ rw (none_yet, r.rest_is, i.read o (at + suc r.behind), after, sums) refl)

@@ -37,7 +37,8 @@ string_skip o at (suc k) (b ∷ bs) low =
     more (Ok x) = let sums : suc k + x.1 ≡ suc (k + x.1) = omega arith in rw sums refl
     more (Err e) = refl
 
-pub element_step : (o a n : ℕ) (vs : List ℕ) (b v k : ℕ) (bs : List ℕ) → eqb b 34 ≡ false → eqb b 10 ≡ false → element_of (b ∷ bs) ≡ Some (v, suc k) → k ≤ length bs → so_far (vs ++ v ∷ []) (n + suc k) (string_from o (a + suc k) 0 (drop k bs)) ≡ so_far vs n (string_from o a 0 (b ∷ bs))
+pub element_step : (o a n : ℕ) (vs : List ℕ) (b v k : ℕ) (bs : List ℕ) → eqb b 34 ≡ false → eqb b 10 ≡ false → element_of (b ∷ bs) ≡ Some (v, suc k) → k ≤ length bs
+    → so_far (vs ++ v ∷ []) (n + suc k) (string_from o (a + suc k) 0 (drop k bs)) ≡ so_far vs n (string_from o a 0 (b ∷ bs))
 element_step o a n vs b v k bs e f g low =
     let here : suc a + k ≡ a + suc k = omega arith in
     rw (e, f, g, string_skip o (suc a) k bs low, here) (joins (string_from o (a + suc k) 0 (drop k bs)))
@@ -47,7 +48,9 @@ element_step o a n vs b v k bs e f g low =
     joins (Err e) = refl
 
 -- one more element
-pub string_goes : (o a n : ℕ) (vs : List ℕ) (v taken : ℕ) (rest ws behind : List ℕ) (m b : ℕ) → 1 ≤ length rest → (get_or rest 0 0 ≡ 34 → ⊥) → (get_or rest 0 0 ≡ 10 → ⊥) → Some (v, taken) ≡ element_of rest → 1 ≤ taken → taken ≤ length rest → ws ≡ vs ++ v ∷ [] → behind ≡ drop taken rest → b ≡ a + taken → m ≡ n + taken → so_far ws m (string_from o b 0 behind) ≡ so_far vs n (string_from o a 0 rest)
+pub string_goes : (o a n : ℕ) (vs : List ℕ) (v taken : ℕ) (rest ws behind : List ℕ) (m b : ℕ) → 1 ≤ length rest → (get_or rest 0 0 ≡ 34 → ⊥) → (get_or rest 0 0 ≡ 10 → ⊥) → Some (v, taken)
+    ≡ element_of rest → 1 ≤ taken → taken ≤ length rest → ws ≡ vs ++ v ∷ [] → behind ≡ drop taken rest → b ≡ a + taken → m ≡ n + taken → so_far ws m (string_from o b 0 behind)
+    ≡ so_far vs n (string_from o a 0 rest)
 string_goes o a n vs v taken [] ws behind m b some e f g one low h i j l = absurd (omega arith)
 string_goes o a n vs v zero (c ∷ cs) ws behind m b some e f g one low h i j l = absurd (omega arith)
 string_goes o a n vs v (suc k) (c ∷ cs) ws behind m b some e f g one low h i j l =

@@ -111,17 +111,20 @@ mark_among_is : (ms : List Mark) (text : List ℕ) (m : Mark) → mark_among ms 
 mark_among_is [] text m e = absurd (none-some m e)
 mark_among_is (c ∷ cs) text m e = step (starts_with nat_eq text (mark_text c)) refl (mark_among_is cs text m) e
   where
-    step : (t : Bool) → starts_with nat_eq text (mark_text c) ≡ t → (mark_among cs text ≡ Some m → Among m cs × (text ≡ mark_text m ++ drop (length (mark_text m)) text)) → cond t (Some c) (mark_among cs text) ≡ Some m → Among m (c ∷ cs) × (text ≡ mark_text m ++ drop (length (mark_text m)) text)
+    step : (t : Bool) → starts_with nat_eq text (mark_text c) ≡ t → (mark_among cs text ≡ Some m → Among m cs × (text ≡ mark_text m ++ drop (length (mark_text m)) text))
+        → cond t (Some c) (mark_among cs text) ≡ Some m → Among m (c ∷ cs) × (text ≡ mark_text m ++ drop (length (mark_text m)) text)
     step true f more h = let same = same_Some c m h in (subst (λ (x : Mark). Among x (c ∷ cs)) same (first cs), subst (λ (x : Mark). text ≡ mark_text x ++ drop (length (mark_text x)) text) same (begins c text f))
     step false f more h = let r = more h in (later c cs r.0, r.1)
 
 -- no mark that begins the text is longer than the one that is found, and one is found
-longest_among : (text : List ℕ) (n : Mark) (ms : List Mark) → falling ms ≡ true → Among n ms → starts_with nat_eq text (mark_text n) ≡ true → (m : Mark) × ((mark_among ms text ≡ Some m) × (length (mark_text n) ≤ length (mark_text m)))
+longest_among : (text : List ℕ) (n : Mark) (ms : List Mark) → falling ms ≡ true → Among n ms → starts_with nat_eq text (mark_text n) ≡ true → (m : Mark)
+    × ((mark_among ms text ≡ Some m) × (length (mark_text n) ≤ length (mark_text m)))
 unfolding falling
 longest_among text n _ e (first ms) f = (n, (rw f refl, omega arith))
 longest_among text n _ e (later c cs a) f = step (starts_with nat_eq text (mark_text c)) refl (longest_among text n cs (both (shorter (length (mark_text c)) cs) (falling cs) e).1 a f)
   where
-    step : (t : Bool) → starts_with nat_eq text (mark_text c) ≡ t → (m : Mark) × ((mark_among cs text ≡ Some m) × (length (mark_text n) ≤ length (mark_text m))) → (m : Mark) × ((cond t (Some c) (mark_among cs text) ≡ Some m) × (length (mark_text n) ≤ length (mark_text m)))
+    step : (t : Bool) → starts_with nat_eq text (mark_text c) ≡ t → (m : Mark) × ((mark_among cs text ≡ Some m) × (length (mark_text n) ≤ length (mark_text m))) → (m : Mark)
+        × ((cond t (Some c) (mark_among cs text) ≡ Some m) × (length (mark_text n) ≤ length (mark_text m)))
     step true g more = (c, (refl, among_shorter (length (mark_text c)) n cs (both (shorter (length (mark_text c)) cs) (falling cs) e).0 a))
     step false g more = more
 
@@ -191,7 +194,8 @@ same_mark m n e = same_Some m n (sym (mark_found m) ∙ (ap (λ (t : List ℕ). 
 front_same : (text a b x y : List ℕ) → text ≡ a ++ x → text ≡ b ++ y → length a ≡ length b → a ≡ b
 front_same text a b x y e f g = sym (take-append_seam a x) ∙ (ap (take (length a)) (sym e ∙ f) ∙ (ap (λ (n : ℕ). take n (b ++ y)) g ∙ take-append_seam b y))
 
-pub mark_reads : (text : List ℕ) (m : Mark) (rest : List ℕ) → text ≡ mark_text m ++ rest → ((n : Mark) (others : List ℕ) → text ≡ mark_text n ++ others → length (mark_text n) ≤ length (mark_text m)) → mark_of text ≡ Some m
+pub mark_reads : (text : List ℕ) (m : Mark) (rest : List ℕ) → text ≡ mark_text m ++ rest
+    → ((n : Mark) (others : List ℕ) → text ≡ mark_text n ++ others → length (mark_text n) ≤ length (mark_text m)) → mark_of text ≡ Some m
 mark_reads text m rest e most =
     let l = longest text m rest e in
     let is = mark_is text l.0 l.1.0 in

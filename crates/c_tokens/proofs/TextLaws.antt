@@ -22,7 +22,8 @@ TextSays at text (Ok ts) = Tokens at text ts
 TextSays at text (Err NoMemory) = ⊥
 TextSays at text (Err (At place kind)) = FirstFault at text place kind
 
-goes_on : (at : ℕ) (text : List ℕ) (p : Piece) → PieceOk text p → (r : Result (List Spanned) TokenFault) → TextSays (at + p.length) (drop p.length text) r → TextSays at text (in_front (spanned p.token at (at + p.length)) r)
+goes_on : (at : ℕ) (text : List ℕ) (p : Piece) → PieceOk text p → (r : Result (List Spanned) TokenFault) → TextSays (at + p.length) (drop p.length text) r
+    → TextSays at text (in_front (spanned p.token at (at + p.length)) r)
 goes_on at text p ok (Ok ts) s =
     let low : p.length ≤ length text = ok.within in
     piece at text p.token (drop p.length text) p.length ts ok.is (omega (arith, length-drop p.length text)) s
@@ -36,12 +37,14 @@ text_says n at [] low = ended at
 text_says zero at (b ∷ bs) low = absurd (omega arith)
 text_says (suc n) at (b ∷ bs) low = step (piece_of at (b ∷ bs)) refl (piece_says at b bs) (λ (k : ℕ) (one : 1 ≤ k). text_says n (at + k) (drop k (b ∷ bs)) (let len : length (drop k (b ∷ bs)) ≡ suc (length bs) - k = length-drop k (b ∷ bs) in omega arith))
   where
-    step : (r : Result Piece TokenFault) → piece_of at (b ∷ bs) ≡ r → PieceSays at (b ∷ bs) r → ((k : ℕ) → 1 ≤ k → TextSays (at + k) (drop k (b ∷ bs)) (read_from 0 (at + k) (drop k (b ∷ bs)))) → TextSays at (b ∷ bs) (read_from 0 at (b ∷ bs))
+    step : (r : Result Piece TokenFault) → piece_of at (b ∷ bs) ≡ r → PieceSays at (b ∷ bs) r
+        → ((k : ℕ) → 1 ≤ k → TextSays (at + k) (drop k (b ∷ bs)) (read_from 0 (at + k) (drop k (b ∷ bs)))) → TextSays at (b ∷ bs) (read_from 0 at (b ∷ bs))
     step (Ok p) e s more = rw (piece_then at b bs p e s.some s.within) (goes_on at (b ∷ bs) p s (read_from 0 (at + p.length) (drop p.length (b ∷ bs))) (more p.length s.some))
     step (Err NoMemory) e s more = absurd s
     step (Err (At place kind)) e s more = rw e (subst (λ (p : ℕ). FirstFault at (b ∷ bs) p kind) (sym s.place_is) (here at (b ∷ bs) s.ahead kind s.is))
 
-read_behind : (at : ℕ) (text : List ℕ) (t : Option Token) (rest : List ℕ) (n : ℕ) → IsPiece text t rest → n + length rest ≡ length text → read_from 0 at text ≡ in_front (spanned t at (at + n)) (read_from 0 (at + n) rest)
+read_behind : (at : ℕ) (text : List ℕ) (t : Option Token) (rest : List ℕ) (n : ℕ) → IsPiece text t rest → n + length rest ≡ length text → read_from 0 at text
+    ≡ in_front (spanned t at (at + n)) (read_from 0 (at + n) rest)
 read_behind at [] t rest n h e = let r = piece_reads [] t rest h in let one : 1 ≤ r.taken = r.some in let low : r.taken ≤ 0 = r.within in absurd (omega arith)
 read_behind at (b ∷ bs) t rest n h e =
     let r = piece_reads (b ∷ bs) t rest h in

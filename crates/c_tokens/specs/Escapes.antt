@@ -6,7 +6,9 @@ use Rattle.c_tokens.specs.Numbers.{number_behind}
 
 -- what a letter or a sign behind a backslash stands for
 abbrev pub named_escape : ℕ → Option ℕ
-named_escape b = if b == 110 then Some 10 else if b == 116 then Some 9 else if b == 114 then Some 13 else if b == 97 then Some 7 else if b == 98 then Some 8 else if b == 102 then Some 12 else if b == 118 then Some 11 else if b == 92 then Some 92 else if b == 39 then Some 39 else if b == 34 then Some 34 else None
+named_escape b = if b == 110 then Some 10 else if b == 116 then Some 9 else if b == 114 then Some 13 else if b ==
+    97 then Some 7 else if b == 98 then Some 8 else if b == 102 then Some 12 else if b == 118 then Some 11 else if b ==
+    92 then Some 92 else if b == 39 then Some 39 else if b == 34 then Some 34 else None
 
 -- the byte that the first n digits write
 abbrev pub byte_of : (base n : ℕ) → List ℕ → Option (ℕ × ℕ)
@@ -21,7 +23,8 @@ octal_escape ds = if octal_len ds == 0 then None else byte_of 8 (octal_len ds) d
 
 -- the longest run of hexadecimal digits, which is one or two
 abbrev pub hexadecimal_escape : List ℕ → Option (ℕ × ℕ)
-hexadecimal_escape ds = if run_len (is_digit_of 16) ds == 0 then None else if nat_lt 2 (run_len (is_digit_of 16) ds) then None else byte_of 16 (run_len (is_digit_of 16) ds) ds
+hexadecimal_escape ds = if run_len (is_digit_of 16) ds == 0 then None else if nat_lt 2 (run_len (is_digit_of 16) ds) then None
+    else byte_of 16 (run_len (is_digit_of 16) ds) ds
 
 abbrev pub one_longer : Option (ℕ × ℕ) → Option (ℕ × ℕ)
 one_longer None = None

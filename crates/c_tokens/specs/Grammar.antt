@@ -59,7 +59,8 @@ pub record IsOctal (text digits rest : List ℕ) : Type 0 where
 pub data IsEscape : List ℕ → ℕ → List ℕ → Type 0 where
   named : (b v : ℕ) (rest : List ℕ) → named_escape b ≡ Some v → IsEscape (b ∷ rest) v rest
   octal : (text digits : List ℕ) (v : ℕ) (rest : List ℕ) → IsOctal text digits rest → Writes 8 255 digits v → IsEscape text v rest
-  hexadecimal : (text digits : List ℕ) (v : ℕ) (rest : List ℕ) → IsRun (is_digit_of 16) text digits rest → 1 ≤ length digits → length digits ≤ 2 → Writes 16 255 digits v → IsEscape (120 ∷ text) v rest
+  hexadecimal : (text digits : List ℕ) (v : ℕ) (rest : List ℕ) → IsRun (is_digit_of 16) text digits rest → 1 ≤ length digits
+      → length digits ≤ 2 → Writes 16 255 digits v → IsEscape (120 ∷ text) v rest
 
 -- an element between these marks
 pub data IsElement (mark : ℕ) : List ℕ → ℕ → List ℕ → Type 0 where
@@ -68,7 +69,8 @@ pub data IsElement (mark : ℕ) : List ℕ → ℕ → List ℕ → Type 0 where
 
 pub data Elements (mark : ℕ) : List ℕ → List ℕ → List ℕ → Type 0 where
   none : (rest : List ℕ) → Elements mark rest [] rest
-  more : (text : List ℕ) (v : ℕ) (middle vs rest : List ℕ) → IsElement mark text v middle → Elements mark middle vs rest → Elements mark text (v ∷ vs) rest
+  more : (text : List ℕ) (v : ℕ) (middle vs rest : List ℕ) → IsElement mark text v middle → Elements mark middle vs rest
+      → Elements mark text (v ∷ vs) rest
 
 -- no */ stands in it
 abbrev pub NoneCloses : List ℕ → Type 0
@@ -87,17 +89,24 @@ pub data IsPiece : List ℕ → Option Token → List ℕ → Type 0 where
   blank : (b : ℕ) (rest : List ℕ) → is_blank b ≡ true → IsPiece (b ∷ rest) None rest
   comment : (body rest : List ℕ) → NoneCloses (body ++ 42 ∷ []) → IsPiece (47 ∷ 42 ∷ body ++ 42 ∷ 47 ∷ rest) None rest
   line_comment : (text body rest : List ℕ) → IsRun in_line text body rest → IsPiece (47 ∷ 47 ∷ text) None rest
-  keyword : (b : ℕ) (bs word rest : List ℕ) (k : Key) → is_letter b ≡ true → IsRun in_word (b ∷ bs) word rest → word ≡ key_text k → IsPiece (b ∷ bs) (Some (token.Key k)) rest
-  name : (b : ℕ) (bs word rest : List ℕ) → is_letter b ≡ true → IsRun in_word (b ∷ bs) word rest → ((k : Key) → word ≢ key_text k) → length word ≤ 63 → IsPiece (b ∷ bs) (Some (token.Name word)) rest
-  number : (b : ℕ) (bs word rest : List ℕ) (v : ℕ) → is_digit b ≡ true → IsRun in_word (b ∷ bs) word rest → IsNumber word v → IsPiece (b ∷ bs) (Some (token.Number v)) rest
-  character : (text : List ℕ) (v : ℕ) (rest : List ℕ) → IsElement 39 text v (39 ∷ rest) → IsPiece (39 ∷ text) (Some (token.Number (sign_copied v))) rest
+  keyword : (b : ℕ) (bs word rest : List ℕ) (k : Key) → is_letter b ≡ true → IsRun in_word (b ∷ bs) word rest → word
+      ≡ key_text k → IsPiece (b ∷ bs) (Some (token.Key k)) rest
+  name : (b : ℕ) (bs word rest : List ℕ) → is_letter b ≡ true → IsRun in_word (b ∷ bs) word rest
+      → ((k : Key) → word ≢ key_text k) → length word ≤ 63 → IsPiece (b ∷ bs) (Some (token.Name word)) rest
+  number : (b : ℕ) (bs word rest : List ℕ) (v : ℕ) → is_digit b ≡ true → IsRun in_word (b ∷ bs) word rest → IsNumber word v
+      → IsPiece (b ∷ bs) (Some (token.Number v)) rest
+  character : (text : List ℕ) (v : ℕ) (rest : List ℕ) → IsElement 39 text v (39 ∷ rest)
+      → IsPiece (39 ∷ text) (Some (token.Number (sign_copied v))) rest
   string : (text vs rest : List ℕ) → Elements 34 text vs (34 ∷ rest) → IsPiece (34 ∷ text) (Some (token.Str vs)) rest
-  mark : (text : List ℕ) (m : Mark) (rest : List ℕ) → text ≡ mark_text m ++ rest → ((n : Mark) (others : List ℕ) → text ≡ mark_text n ++ others → length (mark_text n) ≤ length (mark_text m)) → NoComment text → IsPiece text (Some (token.Mark m)) rest
+  mark : (text : List ℕ) (m : Mark) (rest : List ℕ) → text ≡ mark_text m ++ rest
+      → ((n : Mark) (others : List ℕ) → text ≡ mark_text n ++ others → length (mark_text n) ≤ length (mark_text m))
+      → NoComment text → IsPiece text (Some (token.Mark m)) rest
 
 -- these are the tokens of a text that begins at the offset `at`
 pub data Tokens : (at : ℕ) → List ℕ → List Spanned → Type 0 where
   ended : (at : ℕ) → Tokens at [] (record { kind = token.End; start = at; end = at } ∷ [])
-  piece : (at : ℕ) (text : List ℕ) (t : Option Token) (rest : List ℕ) (n : ℕ) (ts : List Spanned) → IsPiece text t rest → n + length rest ≡ length text → Tokens (at + n) rest ts → Tokens at text (spanned t at (at + n) ++ ts)
+  piece : (at : ℕ) (text : List ℕ) (t : Option Token) (rest : List ℕ) (n : ℕ) (ts : List Spanned) → IsPiece text t rest → n
+      + length rest ≡ length text → Tokens (at + n) rest ts → Tokens at text (spanned t at (at + n) ++ ts)
 
 -- the last token is the end of the text
 abbrev pub IsEnded : List Spanned → Type 0

@@ -5,7 +5,8 @@ use Rattle.c_tokens.specs.Letters.{digit_value}
 -- the number that the digits write behind n; none where one is no digit of the base or the number passes the limit
 abbrev pub number_behind : (base limit n : ℕ) → List ℕ → Option ℕ
 number_behind base limit n [] = Some n
-number_behind base limit n (d ∷ ds) = if nat_lt (digit_value d) base then if nat_le (n * base + digit_value d) limit then number_behind base limit (n * base + digit_value d) ds else None else None
+number_behind base limit n (d ∷ ds) = if nat_lt (digit_value d) base then if nat_le (n * base + digit_value d) limit
+    then number_behind base limit (n * base + digit_value d) ds else None else None
 
 abbrev pub hexadecimal : List ℕ → Option ℕ
 hexadecimal [] = None

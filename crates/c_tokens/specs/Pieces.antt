@@ -1,5 +1,6 @@
 -- How the piece at the front of a text is read: a token or what parts tokens, and its length.
-use Rattle.std.specs.Prelude.{ℕ, zero, suc, ◌+◌, Bool, false, ◌==◌, ◌&&◌, nat_le, nat_lt, List, [], ◌∷◌, length, take, drop, Option, Some, None, Result, Ok, Err, if◌then◌else◌}
+use Rattle.std.specs.Prelude.{ℕ, zero, suc, ◌+◌, Bool, false, ◌==◌, ◌&&◌, nat_le, nat_lt, List, [], ◌∷◌, length, take}
+use Rattle.std.specs.Prelude.{drop, Option, Some, None, Result, Ok, Err, if◌then◌else◌}
 use Rattle.std.specs.Option.{option_map}
 use Rattle.c_tokens.specs.declared.pieces.Piece.{Piece}
 use Rattle.c_tokens.specs.declared.marks.Mark.{Mark}
@@ -57,7 +58,8 @@ sign_copied v = if nat_lt v 128 then v else v + 4294967040
 -- character constants, by what stands behind the opening mark
 abbrev pub character_end : ℕ → ℕ → ℕ → List ℕ → Result Piece TokenFault
 character_end at v n [] = wrong at Unclosed
-character_end at v n (b ∷ bs) = if b == 10 then wrong at Unclosed else if b == 39 then holds (n + 2) (Ok (token.Number (sign_copied v))) else wrong at BadChar
+character_end at v n (b ∷ bs) = if b == 10 then wrong at Unclosed else if b ==
+    39 then holds (n + 2) (Ok (token.Number (sign_copied v))) else wrong at BadChar
 
 abbrev pub character_behind : ℕ → Option (ℕ × ℕ) → List ℕ → Result Piece TokenFault
 character_behind at None text = wrong (at + 1) BadEscape
@@ -65,7 +67,8 @@ character_behind at (Some x) text = character_end at x.0 x.1 (drop x.1 text)
 
 abbrev pub character_piece : ℕ → List ℕ → Result Piece TokenFault
 character_piece at [] = wrong at Unclosed
-character_piece at (b ∷ bs) = if b == 10 then wrong at Unclosed else if b == 39 then wrong at BadChar else character_behind at (element_of (b ∷ bs)) (b ∷ bs)
+character_piece at (b ∷ bs) = if b == 10 then wrong at Unclosed else if b ==
+    39 then wrong at BadChar else character_behind at (element_of (b ∷ bs)) (b ∷ bs)
 
 -- strings, by what stands behind the opening mark: the values of the elements, and the length with the closing mark
 abbrev pub put_value : ℕ → Result (List ℕ × ℕ) TokenFault → Result (List ℕ × ℕ) TokenFault
@@ -83,7 +86,8 @@ element_then at (Some x) rest = put_value x.0 (rest (one_less x.1))
 -- the string whose opening mark stands at `open`, from the offset `at` on, where the next k bytes belong to the element before
 abbrev pub string_from : (opened at k : ℕ) → List ℕ → Result (List ℕ × ℕ) TokenFault
 string_from opened at k [] = wrong opened Unclosed
-string_from opened at zero (b ∷ bs) = if b == 34 then Ok ([], 1) else if b == 10 then wrong opened Unclosed else element_then at (element_of (b ∷ bs)) (λ (k : ℕ). string_from opened (suc at) k bs)
+string_from opened at zero (b ∷ bs) = if b == 34 then Ok ([], 1) else if b ==
+    10 then wrong opened Unclosed else element_then at (element_of (b ∷ bs)) (λ (k : ℕ). string_from opened (suc at) k bs)
 string_from opened at (suc k) (b ∷ bs) = put_byte (string_from opened (suc at) k bs)
 
 abbrev pub string_token : Result (List ℕ × ℕ) TokenFault → Result Piece TokenFault
@@ -116,9 +120,12 @@ mark_piece at text = mark_or_not at (mark_of text)
 -- what stands behind a /
 abbrev pub slash_piece : ℕ → List ℕ → List ℕ → Result Piece TokenFault
 slash_piece at [] text = mark_piece at text
-slash_piece at (b ∷ bs) text = if b == 42 then comment_or_not at (comment_len bs) else if b == 47 then parts (run_len in_line bs + 2) else mark_piece at text
+slash_piece at (b ∷ bs) text = if b == 42 then comment_or_not at (comment_len bs) else if b ==
+    47 then parts (run_len in_line bs + 2) else mark_piece at text
 
 -- the piece at the front of a text that begins at the offset
 abbrev pub piece_of : ℕ → List ℕ → Result Piece TokenFault
 piece_of at [] = wrong at BadByte
-piece_of at (b ∷ bs) = if is_blank b then parts 1 else if is_letter b then word_piece at (b ∷ bs) else if is_digit b then number_piece at (b ∷ bs) else if b == 39 then character_piece at bs else if b == 34 then string_token (string_from at (at + 1) 0 bs) else if b == 47 then slash_piece at bs (b ∷ bs) else mark_piece at (b ∷ bs)
+piece_of at (b ∷ bs) = if is_blank b then parts 1 else if is_letter b then word_piece at (b ∷ bs) else if is_digit b
+    then number_piece at (b ∷ bs) else if b == 39 then character_piece at bs else if b ==
+    34 then string_token (string_from at (at + 1) 0 bs) else if b == 47 then slash_piece at bs (b ∷ bs) else mark_piece at (b ∷ bs)

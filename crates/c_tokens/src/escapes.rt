@@ -1,6 +1,7 @@
 // Elements of strings and of character constants.
 ghost use Rattle.std.specs.Prelude.{◌≡◌, ◌≤◌, ◌<◌, length, IfSome};
-ghost use Rattle.c_tokens.specs.Escapes.{named_escape, byte_of, octal_escape, hexadecimal_escape, one_longer, numeric_escape, escape_of, element_of};
+ghost use Rattle.c_tokens.specs.Escapes.{named_escape, byte_of, octal_escape, hexadecimal_escape, one_longer, numeric_escape};
+ghost use Rattle.c_tokens.specs.Escapes.{escape_of, element_of};
 
 use crate::letters::digits_len;
 use crate::numbers::number_in;

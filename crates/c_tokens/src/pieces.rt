@@ -1,6 +1,7 @@
 // The piece at the front of a text: a token, or what parts tokens.
 ghost use Rattle.std.specs.Prelude.{◌≡◌, ◌≤◌, ◌<◌, ◌+◌, length, IfSome, IfOk};
-ghost use Rattle.c_tokens.specs.Pieces.{word_token, word_piece, number_piece, sign_copied, character_end, character_piece, closes, comment_len, string_from, string_token, mark_piece, slash_piece, piece_of};
+ghost use Rattle.c_tokens.specs.Pieces.{word_token, word_piece, number_piece, sign_copied, character_end, character_piece, closes};
+ghost use Rattle.c_tokens.specs.Pieces.{comment_len, string_from, string_token, mark_piece, slash_piece, piece_of};
 ghost use Rattle.c_tokens.specs.Reading.{Gives};
 
 use crate::escapes::element_of;

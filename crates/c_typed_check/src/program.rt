@@ -9,7 +9,8 @@ ghost use Rattle.c_typed_scope.specs.Answers.{OnlyTurns};
 ghost use Rattle.c_typed_objects.specs.Views.{state};
 ghost use Rattle.c_program.specs.Programs.{AProgram, routine, program};
 ghost use Rattle.c_typed_statements.specs.Views.{text};
-ghost use Rattle.c_typed_definition.specs.Texts.{services, service_names, known, known_with, type_globals, type_external, type_externals, type_text, empty_text, is_main, main_of};
+ghost use Rattle.c_typed_definition.specs.Texts.{services, service_names, known, known_with, type_globals, type_external};
+ghost use Rattle.c_typed_definition.specs.Texts.{type_externals, type_text, empty_text, is_main, main_of};
 ghost use Rattle.c_typed_check.specs.Laid.{AreLaid};
 ghost use Rattle.c_typed_check.specs.Typed.{IsTypedUnit, need_at};
 ghost use Rattle.c_typed_check.specs.Functions.{functions_of};
@@ -124,7 +125,8 @@ fn globals(
     ds: &[Declarator],
     environment: &mut Environment,
 ) -> Result<(), TypeFault>
-    ensures { OnlyTurns result (state environment.new) (type_globals functions.now.names functions.now.signatures.items spec (declarators_of ds.now) (state environment.old)) }
+    ensures { OnlyTurns result (state environment.new) (type_globals functions.now.names functions.now.signatures.items spec
+        (declarators_of ds.now) (state environment.old)) }
 {
     for d in ds {
         let _ = object(alloc, functions, false, spec, d, environment)?;
@@ -138,7 +140,8 @@ fn external(
     e: &External,
     builder: &mut Builder,
 ) -> Result<(), TypeFault>
-    ensures { OnlyTurns result (text builder.new) (type_external functions.now.names functions.now.signatures.items (external_of e.now) (text builder.old)) }
+    ensures { OnlyTurns result (text builder.new) (type_external functions.now.names functions.now.signatures.items
+        (external_of e.now) (text builder.old)) }
 {
     match &e.declared {
         Declared::Function(f) => function(alloc, functions, e.spec, f, builder),
@@ -153,7 +156,8 @@ fn externals(
     es: &[External],
     builder: &mut Builder,
 ) -> Result<(), TypeFault>
-    ensures { OnlyTurns result (text builder.new) (type_externals functions.now.names functions.now.signatures.items (externals_of es.now) (text builder.old)) }
+    ensures { OnlyTurns result (text builder.new) (type_externals functions.now.names functions.now.signatures.items
+        (externals_of es.now) (text builder.old)) }
 {
     for e in es {
         external(alloc, functions, e, builder)?;

@@ -1,5 +1,6 @@
 -- The declarations of variables: what their form alone tells, their lengths, their objects and their initialisers.
-use Rattle.std.specs.Prelude.{◌≡◌, ℕ, ◌+◌, ◌-◌, ◌*◌, ◌==◌, nat_lt, Bool, true, false, ◌||◌, ◌&&◌, List, [], ◌∷◌, ◌++◌, length, Option, Some, None, Result, Ok, if◌then◌else◌}
+use Rattle.std.specs.Prelude.{◌≡◌, ℕ, ◌+◌, ◌-◌, ◌*◌, ◌==◌, nat_lt, Bool, true, false, ◌||◌, ◌&&◌, List, [], ◌∷◌, ◌++◌}
+use Rattle.std.specs.Prelude.{length, Option, Some, None, Result, Ok, if◌then◌else◌}
 use Rattle.std.specs.Fmt.{decimal}
 use Rattle.c_phrases.specs.declared.operator.Spec.{Spec}
 use Rattle.c_phrases.specs.declared.operator.Storage.{Storage}
@@ -74,7 +75,12 @@ text_contents None = record { bytes = []; links = [] }
 text_contents (Some b) = record { bytes = b; links = [] }
 
 abbrev pub with_local : CType → List ℕ → State → State
-with_local t n s = record { scope = with_name n (entries.Variable t (variables.Automatic (length s.locals))) s.scope; locals = s.locals ++ t ∷ []; area = s.area }
+with_local t n s = record {
+  scope = with_name n (entries.Variable t (variables.Automatic (length s.locals))) s.scope;
+  locals =
+      s.locals ++ t ∷ [];
+  area = s.area;
+}
 
 module _ (names : List (List ℕ × Entry)) (signatures : List Signature) where
   -- The number of elements. While it is measured, its literals take no room: they lie behind the array.
@@ -90,7 +96,8 @@ module _ (names : List (List ℕ × Entry)) (signatures : List Signature) where
   -- what an object holds at first
   abbrev pub contents_of : CType → Bool → Option AnInit → Scope → Area → Result (Filled × Area) Fault
   contents_of t is_array None scope a = Ok (record { bytes = []; links = [] }, a)
-  contents_of t is_array (Some (elements es comma)) scope a = type_elements names signatures scope t es (record { bytes = []; links = [] }, a)
+  contents_of t is_array (Some (elements es comma)) scope a = type_elements names signatures scope t es
+      (record { bytes = []; links = [] }, a)
   contents_of t true (Some (value e)) scope a = Ok (text_contents (text_of e), a)
   contents_of t false (Some (value e)) scope a = type_element names signatures scope t e (record { bytes = []; links = [] }, a)
 
@@ -118,7 +125,8 @@ module _ (names : List (List ℕ × Entry)) (signatures : List Signature) where
 
   unfoldable pub array_object : Bool → CType → ADeclarator → Option AnExp → State → Result (ℕ × State) Fault
   array_object is_static t d l s =
-      length_in l (init_in d.init) s.scope s.area >>= λ m. many d.at (given_count (init_in d.init)) m.0 >>= λ n. counted_array is_static t d l n (with_area m.1 s)
+      length_in l (init_in d.init) s.scope s.area >>= λ m. many d.at (given_count (init_in d.init)) m.0 >>= λ n.
+      counted_array is_static t d l n (with_area m.1 s)
 
   abbrev pub object_by : Bool → CType → ADeclarator → Option (Option AnExp) → State → Result (ℕ × State) Fault
   object_by is_static t d None s = plain_object is_static t d s
@@ -133,10 +141,12 @@ module _ (names : List (List ℕ × Entry)) (signatures : List Signature) where
   abbrev pub begun : CType → ℕ → Option AnInit → State → Result (ADeclaration × State) Fault
   begun t n None s = Ok (ClearOf n, s)
   begun t n (Some (elements es comma)) s = Ok (ClearOf n, s)
-  begun t n (Some (value e)) s = type_exp names signatures s.scope e s.area >>= λ x. given t (first e) x.0 >>= λ y. Ok (BeginOf n y, with_area x.1 s)
+  begun t n (Some (value e)) s = type_exp names signatures s.scope e s.area >>= λ x. given t (first e) x.0 >>= λ y.
+      Ok (BeginOf n y, with_area x.1 s)
 
   unfoldable pub type_automatic : Spec → ADeclarator → State → Result (ADeclaration × State) Fault
-  type_automatic spec d s = automatic_form d (written spec d.stars) s.scope >>= λ ok. begun (written spec d.stars) (length s.locals) (init_in d.init) (with_local (written spec d.stars) d.name s)
+  type_automatic spec d s = automatic_form d (written spec d.stars) s.scope >>= λ ok.
+      begun (written spec d.stars) (length s.locals) (init_in d.init) (with_local (written spec d.stars) d.name s)
 
   abbrev pub type_local : Storage → Spec → ADeclarator → State → Result (ADeclaration × State) Fault
   type_local storages.Automatic spec d s = type_automatic spec d s

@@ -8,12 +8,15 @@ use Rattle.c_typed_operators.specs.Rules.{given, condition_of}
 use Rattle.c_typed_scope.specs.declared.entry.Entry.{Entry}
 use Rattle.c_typed_scope.specs.declared.entry.Signature.{Signature}
 use Rattle.c_phrases.specs.Phrases.{AnExp}
-use Rattle.c_phrases.specs.Units.{local_item, statement_item, AStatement, block, empty, expression, break_off, continue_on, give_back, if_then, if_else, while_loop, do_loop, for_loop, SomeItems, no_items}
+use Rattle.c_phrases.specs.Units.{local_item, statement_item, AStatement, block, empty, expression, break_off}
+use Rattle.c_phrases.specs.Units.{continue_on, give_back, if_then, if_else, while_loop, do_loop, for_loop, SomeItems}
+use Rattle.c_phrases.specs.Units.{no_items}
 use Rattle.c_typed_expressions.specs.Phrases.{first}
 use Rattle.c_typed_scope.specs.Scopes.{enter, leave}
 use Rattle.c_typed_expressions.specs.Expressions.{type_exp}
 use Rattle.c_typed_definition.specs.Declarations.{State, with_area, type_locals}
-use Rattle.c_program.specs.Statements.{AnAction, SomeActions, NoActions, MoreActions, DeclareOf, BlockOf, EvaluateOf, BreakOf, ContinueOf, ReturnOf, IfOf, IfElseOf, WhileOf, DoOf, ForOf}
+use Rattle.c_program.specs.Statements.{AnAction, SomeActions, NoActions, MoreActions, DeclareOf, BlockOf, EvaluateOf}
+use Rattle.c_program.specs.Statements.{BreakOf, ContinueOf, ReturnOf, IfOf, IfElseOf, WhileOf, DoOf, ForOf}
 
 abbrev pub entered : State → State
 entered s = record { scope = enter s.scope; locals = s.locals; area = s.area }
@@ -59,19 +62,28 @@ module _ (names : List (List ℕ × Entry)) (signatures : List Signature) (resul
     type_statement looping (break_off at) s = jump looping at BreakOf s
     type_statement looping (continue_on at) s = jump looping at ContinueOf s
     type_statement looping (give_back at e) s = type_return e s
-    type_statement looping (if_then at o c a) s = type_condition names signatures c s >>= λ x. type_statement looping a x.1 >>= λ r. Ok (IfOf x.0 r.0, r.1)
-    type_statement looping (if_else at o c a other b) s = type_condition names signatures c s >>= λ x. type_statement looping a x.1 >>= λ r. type_statement looping b r.1 >>= λ q. Ok (IfElseOf x.0 r.0 q.0, q.1)
-    type_statement looping (while_loop at o c a) s = type_condition names signatures c s >>= λ x. type_statement true a x.1 >>= λ r. Ok (WhileOf x.0 r.0, r.1)
-    type_statement looping (do_loop at a again o c) s = type_statement true a s >>= λ r. type_condition names signatures c r.1 >>= λ x. Ok (DoOf r.0 x.0, x.1)
-    type_statement looping (for_loop at o i c e a) s = type_maybe names signatures i s >>= λ x. type_maybe_condition names signatures c x.1 >>= λ y. type_maybe names signatures e y.1 >>= λ z. type_statement true a z.1 >>= λ r. Ok (ForOf x.0 y.0 z.0 r.0, r.1)
+    type_statement looping (if_then at o c a) s = type_condition names signatures c s >>= λ x. type_statement looping a x.1 >>=
+        λ r. Ok (IfOf x.0 r.0, r.1)
+    type_statement looping (if_else at o c a other b) s = type_condition names signatures c s >>= λ x.
+        type_statement looping a x.1 >>= λ r. type_statement looping b r.1 >>= λ q. Ok (IfElseOf x.0 r.0 q.0, q.1)
+    type_statement looping (while_loop at o c a) s = type_condition names signatures c s >>= λ x. type_statement true a x.1 >>=
+        λ r. Ok (WhileOf x.0 r.0, r.1)
+    type_statement looping (do_loop at a again o c) s = type_statement true a s >>= λ r.
+        type_condition names signatures c r.1 >>= λ x. Ok (DoOf r.0 x.0, x.1)
+    type_statement looping (for_loop at o i c e a) s = type_maybe names signatures i s >>= λ x.
+        type_maybe_condition names signatures c x.1 >>= λ y. type_maybe names signatures e y.1 >>= λ z.
+        type_statement true a z.1 >>= λ r. Ok (ForOf x.0 y.0 z.0 r.0, r.1)
 
     -- the first of these
     pub type_item : Bool → SomeItems → State → Result (AnAction × State) Fault
     type_item looping no_items s = Ok (BlockOf NoActions, s)
-    type_item looping (local_item l rest) s = type_locals names signatures l.storage l.spec l.declarators [] s >>= λ r. Ok (DeclareOf r.0, r.1)
+    type_item looping (local_item l rest) s = type_locals names signatures l.storage l.spec l.declarators [] s >>= λ r.
+        Ok (DeclareOf r.0, r.1)
     type_item looping (statement_item a rest) s = type_statement looping a s
 
     pub type_items : Bool → SomeItems → State → Result (SomeActions × State) Fault
     type_items looping no_items s = Ok (NoActions, s)
-    type_items looping (local_item l rest) s = type_locals names signatures l.storage l.spec l.declarators [] s >>= λ r. type_items looping rest r.1 >>= λ q. Ok (MoreActions (DeclareOf r.0) q.0, q.1)
-    type_items looping (statement_item a rest) s = type_statement looping a s >>= λ r. type_items looping rest r.1 >>= λ q. Ok (MoreActions r.0 q.0, q.1)
+    type_items looping (local_item l rest) s = type_locals names signatures l.storage l.spec l.declarators [] s >>= λ r.
+        type_items looping rest r.1 >>= λ q. Ok (MoreActions (DeclareOf r.0) q.0, q.1)
+    type_items looping (statement_item a rest) s = type_statement looping a s >>= λ r. type_items looping rest r.1 >>= λ q.
+        Ok (MoreActions r.0 q.0, q.1)

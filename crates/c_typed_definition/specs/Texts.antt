@@ -1,5 +1,6 @@
 -- The types of a whole text.
-use Rattle.std.specs.Prelude.{◌≡◌, ℕ, ◌+◌, ◌==◌, nat_lt, Bool, true, false, ◌&&◌, ◌||◌, not, is_some, List, [], ◌∷◌, ◌++◌, length, map, codes, slice_get, Option, Some, None, Result, Ok, if◌then◌else◌}
+use Rattle.std.specs.Prelude.{◌≡◌, ℕ, ◌+◌, ◌==◌, nat_lt, Bool, true, false, ◌&&◌, ◌||◌, not, is_some, List, [], ◌∷◌}
+use Rattle.std.specs.Prelude.{◌++◌, length, map, codes, slice_get, Option, Some, None, Result, Ok, if◌then◌else◌}
 use Rattle.std.specs.Str.{bytes_eq}
 use Rattle.c_phrases.specs.declared.operator.Spec.{Spec}
 use Rattle.c_phrases.specs.declared.operator.Spec.TheVariants as specs
@@ -46,7 +47,8 @@ signature_of spec f = heading spec f.stars f.params
 
 -- putchar and getchar are declared beforehand
 abbrev pub services : List Signature
-services = record { result = types.Integer ints.Int; parameters = types.Integer ints.Int ∷ [] } ∷ record { result = types.Integer ints.Int; parameters = [] } ∷ []
+services = record { result = types.Integer ints.Int; parameters = types.Integer ints.Int ∷ [] } ∷ record
+    { result = types.Integer ints.Int; parameters = [] } ∷ []
 
 abbrev pub service_names : List (List ℕ × Entry)
 service_names = (codes "putchar", entries.Function 0) ∷ (codes "getchar", entries.Function 1) ∷ []
@@ -57,7 +59,8 @@ pub record Known : Type 0 where
   pub signatures : List Signature
 
 abbrev pub with_function : Spec → AFunction → Known → Known
-with_function spec f k = if is_some (find k.names f.name) then k else record { names = k.names ++ (f.name, entries.Function (length k.signatures)) ∷ []; signatures = k.signatures ++ signature_of spec f ∷ [] }
+with_function spec f k = if is_some (find k.names f.name) then k else record
+    { names = k.names ++ (f.name, entries.Function (length k.signatures)) ∷ []; signatures = k.signatures ++ signature_of spec f ∷ [] }
 
 abbrev pub known_by : Spec → ADeclared → Known → Known
 known_by spec (globals ds) k = k
@@ -102,7 +105,8 @@ is_below (Some (entries.Function n)) k = nat_lt n k
 is_below (Some (entries.Variable t v)) k = false
 is_below (Some (entries.Array t v n)) k = false
 
--- A function is defined once, and its result is no void with stars. The services are defined beforehand, and the functions are numbered behind them in the order of their first definitions.
+-- A function is defined once, and its result is no void with stars. The services are defined beforehand, and the
+-- functions are numbered behind them in the order of their first definitions.
 abbrev pub head_by : Option Integer → List ℕ → ℕ → Result (Unit {0}) Fault
 head_by (Some b) stars at = Ok tt
 head_by None [] at = Ok tt
@@ -121,8 +125,10 @@ word_of (specs.Void at) = at
 
 -- a parameter's name and type: its name, else the word void, else the function's name
 abbrev pub parameter_form : Option Named → Bool → ℕ → AParam → Scope → Result (Unit {0}) Fault
-parameter_form (Some n) defines at p s = if is_taken s n.name then bad n.at Twice else if is_scalar (written p.spec p.stars) then Ok tt else bad n.at BadType
-parameter_form None defines at p s = if is_scalar (written p.spec p.stars) then (if defines then bad at BadType else Ok tt) else bad (word_of p.spec) BadType
+parameter_form (Some n) defines at p s = if is_taken s n.name then bad n.at Twice else if is_scalar (written p.spec p.stars)
+    then Ok tt else bad n.at BadType
+parameter_form None defines at p s = if is_scalar (written p.spec p.stars) then (if defines then bad at BadType else Ok tt)
+    else bad (word_of p.spec) BadType
 
 abbrev pub with_parameter : Option Named → CType → ℕ → State → State
 with_parameter None t n s = s
@@ -146,10 +152,23 @@ with_state s t = record { state = s; declared = t.declared; bodies = t.bodies }
 -- the function's name is in scope from here on
 abbrev pub with_declared : Option ℕ → Spec → AFunction → Text → Text
 with_declared (Some n) spec f t = t
-with_declared None spec f t = record { state = named_state f.name (entries.Function (length t.declared)) t.state; declared = t.declared ++ signature_of spec f ∷ []; bodies = t.bodies }
+with_declared None spec f t = record {
+  state = named_state f.name (entries.Function (length t.declared)) t.state;
+  declared =
+      t.declared ++ signature_of spec f ∷ [];
+  bodies = t.bodies;
+}
 
 abbrev pub body_of : Spec → AFunction → List CType → SomeActions → ARoutine
-body_of spec f locals body = record { name = f.name; result = written spec f.stars; parameters = map parameter_type (params_in f.params); locals = locals; body = body; need = need_of locals body }
+body_of spec f locals body = record {
+  name = f.name;
+  result = written spec f.stars;
+  parameters =
+      map parameter_type (params_in f.params);
+  locals = locals;
+  body = body;
+  need = need_of locals body;
+}
 
 abbrev pub with_body : ARoutine → Text → Text
 with_body b t = record { state = t.state; declared = t.declared; bodies = t.bodies ++ b ∷ [] }
@@ -168,7 +187,8 @@ module _ (names : List (List ℕ × Entry)) (signatures : List Signature) where
   parameter_length (Some (Some e)) scope a = type_length names signatures scope e a >>= λ r. Ok (r.1)
 
   unfoldable pub type_parameter : Bool → ℕ → AParam → ℕ → State → Result State Fault
-  type_parameter defines at p n s = parameter_form p.name defines at p s.scope >>= λ ok. parameter_length (brackets_in p.length) s.scope s.area >>= λ a. Ok (with_parameter p.name (parameter_type p) n (with_area a s))
+  type_parameter defines at p n s = parameter_form p.name defines at p s.scope >>= λ ok.
+      parameter_length (brackets_in p.length) s.scope s.area >>= λ a. Ok (with_parameter p.name (parameter_type p) n (with_area a s))
 
   -- the parameters, from number n on
   abbrev pub type_parameters : Bool → ℕ → List AParam → ℕ → State → Result State Fault
@@ -178,7 +198,8 @@ module _ (names : List (List ℕ × Entry)) (signatures : List Signature) where
   -- The parameters and the body's outermost block are one scope.
   abbrev pub type_body : Spec → AFunction → Option SomeItems → State → Text → Result Text Fault
   type_body spec f None s t = Ok (with_state (left_function s) t)
-  type_body spec f (Some row) s t = type_items names signatures (written spec f.stars) false row s >>= λ r. Ok (with_body (body_of spec f r.1.locals r.0) (with_state (left_function r.1) t))
+  type_body spec f (Some row) s t = type_items names signatures (written spec f.stars) false row s >>= λ r.
+      Ok (with_body (body_of spec f r.1.locals r.0) (with_state (left_function r.1) t))
 
   -- its parameters, its agreement with the earlier declaration, and its body, once its name is in scope
   unfoldable pub type_introduced : Option ℕ → Spec → AFunction → Text → Result Text Fault
@@ -225,7 +246,16 @@ whole_by None end t = bad end NoMain
 whole_by (Some n) end t = Ok (record { objects = t.state.area.objects; routines = t.bodies; main = n })
 
 abbrev pub empty_text : Text
-empty_text = record { state = record { scope = record { outer = []; here = service_names }; locals = []; area = record { objects = []; end = 65536; literals = 0; statics = 0; measuring = false } }; declared = services; bodies = [] }
+empty_text = record {
+  state = record {
+    scope = record { outer = []; here = service_names };
+    locals = [];
+    area =
+        record { objects = []; end = 65536; literals = 0; statics = 0; measuring = false };
+  };
+  declared = services;
+  bodies = [];
+}
 
 -- NoMain comes after all other faults, at the end of the text
 unfoldable pub type_text : List AnExternal → ℕ → Result AProgram Fault

@@ -12,20 +12,25 @@ use Rattle.c_typed_scope.specs.declared.entry.Entry.TheVariants as entries
 use Rattle.c_typed_scope.specs.declared.entry.Signature.{Signature}
 use Rattle.c_typed_scope.specs.Scopes.{Scope, find, lookup}
 use Rattle.c_typed_scope.specs.Layout.{Area, literal}
-use Rattle.c_phrases.specs.Phrases.{AnExp, name, number, str, paren, call, index, step_after, step_before, prefix, sizeof_exp, sizeof_type, cast, binary, choice, assign, comma, SomeExps, no_exps, exps}
+use Rattle.c_phrases.specs.Phrases.{AnExp, name, number, str, paren, call, index, step_after, step_before, prefix, sizeof_exp, sizeof_type, cast, binary, choice, assign, comma}
+use Rattle.c_phrases.specs.Phrases.{SomeExps, no_exps, exps}
 use Rattle.c_typed_expressions.specs.Expressions.{written, named_by, named, is_function_by, is_function, callee, called, beside, sizeof_unless, type_exp, type_exps}
-use Rattle.c_typed_expressions.specs.Relations.{Joint, FirstOf, Within, Behind, Beside, Unless, Refuses, Passes, IsNamed, NamesVariable, NamesArray, NamedFault, NamesNothing, NamesFunction, IsTyped, AreTyped, FirstFault, FirstFaultOf}
+use Rattle.c_typed_expressions.specs.Relations.{Joint, FirstOf, Within, Behind, Beside, Unless, Refuses, Passes, IsNamed, NamesVariable, NamesArray, NamedFault, NamesNothing}
+use Rattle.c_typed_expressions.specs.Relations.{NamesFunction, IsTyped, AreTyped, FirstFault, FirstFaultOf}
 
-behind_first : {A B : Type 0} (x : A) (k : A → Result B Fault) (R : A → Type 0) (F : Fault → Type 0) (S : A → B → Type 0) (G : A → Fault → Type 0) → Means (Ok x) R F → ((x : A) → Means (k x) (S x) (G x)) → (f : Fault) → FirstOf R F G f → k x ≡ Err f
+behind_first : {A B : Type 0} (x : A) (k : A → Result B Fault) (R : A → Type 0) (F : Fault → Type 0) (S : A → B → Type 0) (G : A → Fault → Type 0) → Means (Ok x) R F
+    → ((x : A) → Means (k x) (S x) (G x)) → (f : Fault) → FirstOf R F G f → k x ≡ Err f
 behind_first x k R F S G h next f (Within here) = absurd (cc (h.first f here))
 behind_first x k R F S G h next f (Behind part typed later) = let same : x ≡ part = cc (h.only part typed) in rw same ((next part).first f later)
 
-within_first : {A B : Type 0} (e : Fault) (k : A → Result B Fault) (R : A → Type 0) (F : Fault → Type 0) (G : A → Fault → Type 0) → Means (Err e) R F → (f : Fault) → FirstOf R F G f → (Err e >>= k) ≡ Err f
+within_first : {A B : Type 0} (e : Fault) (k : A → Result B Fault) (R : A → Type 0) (F : Fault → Type 0) (G : A → Fault → Type 0) → Means (Err e) R F → (f : Fault) → FirstOf R F G f
+    → (Err e >>= k) ≡ Err f
 within_first e k R F G h f (Within here) = let same : e ≡ f = cc (h.first f here) in ap Err same
 within_first e k R F G h f (Behind part typed later) = absurd (cc (h.only part typed))
 
 -- one part after another
-pub means_then : {A B : Type 0} (m : Result A Fault) (k : A → Result B Fault) (R : A → Type 0) (F : Fault → Type 0) (S : A → B → Type 0) (G : A → Fault → Type 0) → Means m R F → ((x : A) → Means (k x) (S x) (G x)) → Means (m >>= k) (Joint R S) (FirstOf R F G)
+pub means_then : {A B : Type 0} (m : Result A Fault) (k : A → Result B Fault) (R : A → Type 0) (F : Fault → Type 0) (S : A → B → Type 0) (G : A → Fault → Type 0) → Means m R F
+    → ((x : A) → Means (k x) (S x) (G x)) → Means (m >>= k) (Joint R S) (FirstOf R F G)
 means_then (Ok x) k R F S G h next = record {
   found = λ y e. record { part = x; typed = h.found x refl; whole = (next x).found y e };
   only = λ y j. let same : x ≡ j.part = cc (h.only j.part j.typed) in rw same ((next j.part).only y j.whole);
@@ -68,12 +73,14 @@ unless_first : (test : Bool) (at : ℕ) (e f : Fault) (F : Fault → Type 0) →
 unless_first test at e f F holds is (Refuses h q) = is ∙ sym q
 unless_first test at e f F holds is (Passes h later) = absurd (cc)
 
-passes_first : (test : Bool) (at : ℕ) (m : Result (AnExpression × Area) Fault) (F : Fault → Type 0) (f : Fault) → test ≡ false → ((g : Fault) → F g → m ≡ Err g) → Unless test at BadType F f → m ≡ Err f
+passes_first : (test : Bool) (at : ℕ) (m : Result (AnExpression × Area) Fault) (F : Fault → Type 0) (f : Fault) → test ≡ false → ((g : Fault) → F g → m ≡ Err g)
+    → Unless test at BadType F f → m ≡ Err f
 passes_first test at m F f fails first (Refuses h q) = absurd (cc)
 passes_first test at m F f fails first (Passes h later) = first f later
 
 -- a function's name under sizeof is refused first
-sizeof_means : (test : Bool) (at : ℕ) (m : Result (AnExpression × Area) Fault) (R : AnExpression × Area → Type 0) (F : Fault → Type 0) → Means (m >>= λ x. beside x.1 (sizeof_of at x.0)) R F → Means (sizeof_unless test at m) (λ t. (test ≡ false) × R t) (Unless test at BadType F)
+sizeof_means : (test : Bool) (at : ℕ) (m : Result (AnExpression × Area) Fault) (R : AnExpression × Area → Type 0) (F : Fault → Type 0)
+    → Means (m >>= λ x. beside x.1 (sizeof_of at x.0)) R F → Means (sizeof_unless test at m) (λ t. (test ≡ false) × R t) (Unless test at BadType F)
 sizeof_means true at m R F h = record {
   found = λ t e. absurd (cc);
   only = λ t p. absurd (cc (p.0));
@@ -132,16 +139,19 @@ module _ (names : List (List ℕ × Entry)) (signatures : List Signature) (scope
     exp_means (number v at) a = means_ok (Constant v, a)
     exp_means (str b at) a = means_is (literal at b a)
     exp_means (paren o e) a = exp_means e a
-    exp_means (call n at o es) a = means_then _ _ _ _ _ _ (means_is (callee names signatures scope at n)) (λ f. means_then _ _ _ _ _ _ (exps_mean es a) (λ xs. beside_means xs.1 _ _ _ (means_is (called signatures f o es xs.0))))
+    exp_means (call n at o es) a = means_then _ _ _ _ _ _ (means_is (callee names signatures scope at n))
+        (λ f. means_then _ _ _ _ _ _ (exps_mean es a) (λ xs. beside_means xs.1 _ _ _ (means_is (called signatures f o es xs.0))))
     exp_means (index e o i) a = means_then _ _ _ _ _ _ (exp_means e a) (λ x. means_then _ _ _ _ _ _ (exp_means i x.1) (λ y. beside_means y.1 _ _ _ (means_is (index_of o x.0 y.0))))
     exp_means (step_after e op at) a = means_then _ _ _ _ _ _ (exp_means e a) (λ x. beside_means x.1 _ _ _ (means_is (step moments.Before op at x.0)))
     exp_means (step_before op at e) a = means_then _ _ _ _ _ _ (exp_means e a) (λ x. beside_means x.1 _ _ _ (means_is (step moments.After op at x.0)))
     exp_means (prefix op at e) a = means_then _ _ _ _ _ _ (exp_means e a) (λ x. beside_means x.1 _ _ _ (means_is (prefix_of op at x.0)))
-    exp_means (sizeof_exp at e) a = sizeof_means (is_function names signatures scope e) at (type_exp names signatures scope e a) _ _ (means_then _ _ _ _ _ _ (exp_means e a) (λ x. beside_means x.1 _ _ _ (means_is (sizeof_of at x.0))))
+    exp_means (sizeof_exp at e) a = sizeof_means (is_function names signatures scope e) at (type_exp names signatures scope e a) _ _
+        (means_then _ _ _ _ _ _ (exp_means e a) (λ x. beside_means x.1 _ _ _ (means_is (sizeof_of at x.0))))
     exp_means (sizeof_type at o of) a = beside_means a _ _ _ (means_is (sizeof_type_of at (written of.spec of.stars)))
     exp_means (cast o to e) a = means_then _ _ _ _ _ _ (exp_means e a) (λ x. beside_means x.1 _ _ _ (means_is (cast_of o (written to.spec to.stars) x.0)))
     exp_means (binary l op at r) a = means_then _ _ _ _ _ _ (exp_means l a) (λ x. means_then _ _ _ _ _ _ (exp_means r x.1) (λ y. beside_means y.1 _ _ _ (binary_means op at x.0 y.0)))
-    exp_means (choice c at e d) a = means_then _ _ _ _ _ _ (exp_means c a) (λ z. means_then _ _ _ _ _ _ (exp_means e z.1) (λ x. means_then _ _ _ _ _ _ (exp_means d x.1) (λ y. beside_means y.1 _ _ _ (means_is (choice_of at z.0 x.0 y.0)))))
+    exp_means (choice c at e d) a = means_then _ _ _ _ _ _ (exp_means c a)
+        (λ z. means_then _ _ _ _ _ _ (exp_means e z.1) (λ x. means_then _ _ _ _ _ _ (exp_means d x.1) (λ y. beside_means y.1 _ _ _ (means_is (choice_of at z.0 x.0 y.0)))))
     exp_means (assign p op at v) a = means_then _ _ _ _ _ _ (exp_means p a) (λ x. means_then _ _ _ _ _ _ (exp_means v x.1) (λ y. beside_means y.1 _ _ _ (means_is (assign_of op at x.0 y.0))))
     exp_means (comma l r) a = means_then _ _ _ _ _ _ (exp_means l a) (λ x. means_then _ _ _ _ _ _ (exp_means r x.1) (λ y. means_ok (comma_of x.0 y.0, y.1)))
 

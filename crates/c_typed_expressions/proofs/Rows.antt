@@ -1,5 +1,6 @@
 -- The lists behind the rows of a call, and a list of arguments that is typed one after another.
-use Rattle.std.proofs.Common.{◌≡◌, ℕ, ◌+◌, List, [], ◌∷◌, ◌++◌, true, Option, Some, None, ◌<◌, ◌≤◌, drop, length-drop, get_or, eqb, eq-eqb, ne_eqb, ltb-false, false, subst, length, length-append, refl, ap, sym, ◌∙◌, Result, Ok, Err, arith}
+use Rattle.std.proofs.Common.{◌≡◌, ℕ, ◌+◌, List, [], ◌∷◌, ◌++◌, true, Option, Some, None, ◌<◌, ◌≤◌, drop, length-drop, get_or, eqb, eq-eqb, ne_eqb, ltb-false, false, subst, length}
+use Rattle.std.proofs.Common.{length-append, refl, ap, sym, ◌∙◌, Result, Ok, Err, arith}
 use Rattle.std.specs.Global.{Vec}
 use Rattle.std.specs.Prelude.{slice_get}
 use Rattle.std.proofs.lemmas.List.{drop_more, nil_from_length}
@@ -71,25 +72,29 @@ module _ (names : List (List ℕ × Entry)) (signatures : List Signature) (scope
   pub begins : (es : List Expr) (a : Area) → SoFar es a [] es a
   begins es a = record { typed = onto_none (type_exps names signatures scope (exp_list es) a); same = omega arith }
 
-  pub goes_on : (es : List Expr) (old : Area) (done : List Expression) (e : Expr) (left : List Expr) (a b : Area) (x : Expression) → type_exp names signatures scope (exp e) a ≡ Ok (term x, b) → SoFar es old done (e ∷ left) a → SoFar es old (done ++ x ∷ []) left b
+  pub goes_on : (es : List Expr) (old : Area) (done : List Expression) (e : Expr) (left : List Expr) (a b : Area) (x : Expression) → type_exp names signatures scope (exp e) a
+      ≡ Ok (term x, b) → SoFar es old done (e ∷ left) a → SoFar es old (done ++ x ∷ []) left b
   goes_on es old done e left a b x h far = record {
     typed = far.typed ∙ (rw h (sym (onto_more done x (type_exps names signatures scope (exp_list left) b))));
     same = omega (arith, far.same, length-append done (x ∷ []));
   }
 
-  pub fails : (es : List Expr) (old : Area) (done : List Expression) (e : Expr) (left : List Expr) (a : Area) (f : TypeFault) → Fails f (type_exp names signatures scope (exp e) a) → SoFar es old done (e ∷ left) a → Fails f (type_exps names signatures scope (exp_list es) old)
+  pub fails : (es : List Expr) (old : Area) (done : List Expression) (e : Expr) (left : List Expr) (a : Area) (f : TypeFault) → Fails f (type_exp names signatures scope (exp e) a)
+      → SoFar es old done (e ∷ left) a → Fails f (type_exps names signatures scope (exp_list es) old)
   fails es old done e left a NoMemory h far = tt
   fails es old done e left a (At place kind) h far = far.typed ∙ rw h refl
 
   pub ends : (es : List Expr) (old : Area) (done : List Expression) (a : Area) → SoFar es old done [] a → type_exps names signatures scope (exp_list es) old ≡ Ok (terms done, a)
   ends es old done a far = far.typed ∙ ap (λ t. Ok (t, a)) (onto_end done)
 
-  pub steps : (es : List Expr) (old : Area) (done : List Expression) (i : ℕ) (e d : Expr) (a b : Area) (x : Expression) (more : List Expression) → i < length es → e ≡ get_or es i d → more ≡ done ++ x ∷ [] → type_exp names signatures scope (exp e) a ≡ Ok (term x, b) → SoFar es old done (drop i es) a → SoFar es old more (drop (i + 1) es) b
+  pub steps : (es : List Expr) (old : Area) (done : List Expression) (i : ℕ) (e d : Expr) (a b : Area) (x : Expression) (more : List Expression) → i < length es → e ≡ get_or es i d → more
+      ≡ done ++ x ∷ [] → type_exp names signatures scope (exp e) a ≡ Ok (term x, b) → SoFar es old done (drop i es) a → SoFar es old more (drop (i + 1) es) b
   steps es old done i e d a b x more lt is pushed typed far =
       let far' : SoFar es old done (e ∷ drop (i + 1) es) a = rw is (subst (λ l. SoFar es old done l a) (drop_more es i d lt) far) in
       rw pushed (goes_on es old done e (drop (i + 1) es) a b x typed far')
 
-  pub ends_at : (es : List Expr) (old : Area) (done : List Expression) (i : ℕ) (a : Area) → length es ≤ i → SoFar es old done (drop i es) a → type_exps names signatures scope (exp_list es) old ≡ Ok (terms done, a)
+  pub ends_at : (es : List Expr) (old : Area) (done : List Expression) (i : ℕ) (a : Area) → length es ≤ i → SoFar es old done (drop i es) a
+      → type_exps names signatures scope (exp_list es) old ≡ Ok (terms done, a)
   ends_at es old done i a le far = ends es old done a (subst (λ l. SoFar es old done l a) (nil_from_length (drop i es) (omega (arith, length-drop i es))) far)
 
 pub call_is : (e : Expr) (n : List ℕ) (at opened : ℕ) (es : Vec Expr) (list : List Expr) → e ≡ exprs.Call n at opened es → list ≡ es.items → exp e ≡ call n at opened (exp_list list)
@@ -97,20 +102,25 @@ call_is e n at opened es list is same = ap exp is ∙ exp_call n at opened es �
 
 module _ (names : List (List ℕ × Entry)) (signatures : List Signature) (scope : Scope) where
   -- an argument has a fault
-  pub call_fails : (e : Expr) (n : List ℕ) (at opened : ℕ) (es : Vec Expr) (f : Option ℕ) (list : List Expr) (a : Area) (t : TypeFault) → e ≡ exprs.Call n at opened es → list ≡ es.items → callee names signatures scope at n ≡ Ok f → Fails t (type_exps names signatures scope (exp_list list) a) → Fails t (type_exp names signatures scope (exp e) a)
+  pub call_fails : (e : Expr) (n : List ℕ) (at opened : ℕ) (es : Vec Expr) (f : Option ℕ) (list : List Expr) (a : Area) (t : TypeFault) → e ≡ exprs.Call n at opened es → list ≡ es.items
+      → callee names signatures scope at n ≡ Ok f → Fails t (type_exps names signatures scope (exp_list list) a) → Fails t (type_exp names signatures scope (exp e) a)
   call_fails e n at opened es f list a NoMemory is same found h = tt
   call_fails e n at opened es f list a (At place kind) is same found h = rw (call_is e n at opened es list is same, found, h) refl
 
-  called_beside : (f : Option ℕ) (opened : ℕ) (l : List Expr) (xs : List Expression) (b : Area) (result : Result Expression TypeFault) → Gives (λ t. term t) result (called signatures f opened (exp_list l) (terms xs)) → Turns (λ t. term t) result b (called signatures f opened (exp_list l) (terms xs) >>= λ t. Ok (t, b))
+  called_beside : (f : Option ℕ) (opened : ℕ) (l : List Expr) (xs : List Expression) (b : Area) (result : Result Expression TypeFault)
+      → Gives (λ t. term t) result (called signatures f opened (exp_list l) (terms xs)) → Turns (λ t. term t) result b (called signatures f opened (exp_list l) (terms xs) >>= λ t. Ok (t, b))
   called_beside f opened l xs b (Ok x) given = rw given refl
   called_beside f opened l xs b (Err NoMemory) given = tt
   called_beside f opened l xs b (Err (At place kind)) given = rw given refl
 
   -- the arguments have their types
-  pub call_goes : (e : Expr) (n : List ℕ) (at opened : ℕ) (es : Vec Expr) (f : Option ℕ) (list other : List Expr) (xs : List Expression) (a b : Area) (result : Result Expression TypeFault) → e ≡ exprs.Call n at opened es → list ≡ es.items → other ≡ es.items → callee names signatures scope at n ≡ Ok f → type_exps names signatures scope (exp_list list) a ≡ Ok (terms xs, b) → Gives (λ t. term t) result (called signatures f opened (exp_list other) (terms xs)) → Turns (λ t. term t) result b (type_exp names signatures scope (exp e) a)
+  pub call_goes : (e : Expr) (n : List ℕ) (at opened : ℕ) (es : Vec Expr) (f : Option ℕ) (list other : List Expr) (xs : List Expression) (a b : Area) (result : Result Expression TypeFault)
+      → e ≡ exprs.Call n at opened es → list ≡ es.items → other ≡ es.items → callee names signatures scope at n ≡ Ok f → type_exps names signatures scope (exp_list list) a
+      ≡ Ok (terms xs, b) → Gives (λ t. term t) result (called signatures f opened (exp_list other) (terms xs)) → Turns (λ t. term t) result b (type_exp names signatures scope (exp e) a)
   call_goes e n at opened es f list other xs a b result is same again found h given =
       let both : other ≡ list = again ∙ sym same in
-      rw (call_is e n at opened es list is same, found, h) (called_beside f opened list xs b result (subst (λ l. Gives (λ t. term t) result (called signatures f opened (exp_list l) (terms xs))) both given))
+      rw (call_is e n at opened es list is same, found, h) (called_beside f opened list xs b result
+      (subst (λ l. Gives (λ t. term t) result (called signatures f opened (exp_list l) (terms xs))) both given))
 
 -- a function that is defined, or is not
 pub signature_found : (all l : List Signature) (n : ℕ) (s : Signature) → l ≡ all → n < length l → s ≡ get_or l n s → slice_get all n ≡ Some s
@@ -120,26 +130,36 @@ pub signature_missing : (all l : List Signature) (n : ℕ) → l ≡ all → fal
 signature_missing all l n same test = ap (λ x. slice_get x n) (sym same) ∙ slice_get_past l n (ltb-false n (length l) (sym test))
 
 -- a number without a function
-pub called_missing : (signatures : List Signature) (o : Option ℕ) (n opened : ℕ) (es : List Expr) (xs : List Expression) (r : Result Expression TypeFault) → o ≡ Some n → slice_get signatures n ≡ None → r ≡ Err (At opened BadCall) → Gives (λ t. term t) r (called signatures o opened (exp_list es) (terms xs))
+pub called_missing : (signatures : List Signature) (o : Option ℕ) (n opened : ℕ) (es : List Expr) (xs : List Expression) (r : Result Expression TypeFault) → o ≡ Some n
+    → slice_get signatures n ≡ None → r ≡ Err (At opened BadCall) → Gives (λ t. term t) r (called signatures o opened (exp_list es) (terms xs))
 called_missing signatures o n opened es xs r is none answered = rw (answered, is, none) refl
 
 -- another number of arguments
-pub called_unlike : (signatures : List Signature) (o : Option ℕ) (n opened : ℕ) (s : Signature) (p : List CType) (es : List Expr) (xs : List Expression) (r : Result Expression TypeFault) → o ≡ Some n → slice_get signatures n ≡ Some s → p ≡ s.parameters → (length p ≡ length es → ⊥) → r ≡ Err (At opened BadCall) → Gives (λ t. term t) r (called signatures o opened (exp_list es) (terms xs))
+pub called_unlike : (signatures : List Signature) (o : Option ℕ) (n opened : ℕ) (s : Signature) (p : List CType) (es : List Expr) (xs : List Expression) (r : Result Expression TypeFault)
+    → o ≡ Some n → slice_get signatures n ≡ Some s → p ≡ s.parameters → (length p ≡ length es → ⊥) → r ≡ Err (At opened BadCall)
+    → Gives (λ t. term t) r (called signatures o opened (exp_list es) (terms xs))
 called_unlike signatures o n opened s p es xs r is found same unlike answered =
     let test : eqb (length s.parameters) (length es) ≡ false = ne_eqb (length s.parameters) (length es) (λ e. unlike (ap length same ∙ e)) in
     rw (answered, is, found, count_is es, test) refl
 
 -- an argument that its parameter doesn't take
-pub called_unfit : (signatures : List Signature) (o : Option ℕ) (n opened : ℕ) (s : Signature) (p : List CType) (es : List Expr) (xs list : List Expression) (u : Option ℕ) (at : ℕ) (r : Result Expression TypeFault) → o ≡ Some n → slice_get signatures n ≡ Some s → p ≡ s.parameters → length p ≡ length es → list ≡ xs → u ≡ unfit p (exp_list es) (terms list) → u ≡ Some at → r ≡ Err (At at BadType) → Gives (λ t. term t) r (called signatures o opened (exp_list es) (terms xs))
+pub called_unfit : (signatures : List Signature) (o : Option ℕ) (n opened : ℕ) (s : Signature) (p : List CType) (es : List Expr) (xs list : List Expression) (u : Option ℕ) (at : ℕ)
+    (r : Result Expression TypeFault) → o ≡ Some n → slice_get signatures n ≡ Some s → p ≡ s.parameters → length p ≡ length es → list ≡ xs → u ≡ unfit p (exp_list es) (terms list) → u
+    ≡ Some at → r ≡ Err (At at BadType) → Gives (λ t. term t) r (called signatures o opened (exp_list es) (terms xs))
 called_unfit signatures o n opened s p es xs list u at r is found same like listed refused there answered =
     let test : eqb (length s.parameters) (length es) ≡ true = eq-eqb (length s.parameters) (length es) (ap length (sym same) ∙ like) in
     let fit : unfit s.parameters (exp_list es) (terms xs) ≡ Some at = rw (← same, ← listed, ← refused) there in
     rw (answered, is, found, count_is es, test, fit) refl
 
 -- all arguments are taken
-pub called_runs : (signatures : List Signature) (o : Option ℕ) (n : ℕ) (s : Signature) (opened : ℕ) (es : List Expr) (xs : Vec Expression) (f : Callee) (to : List CType) → o ≡ Some n → slice_get signatures n ≡ Some s → length s.parameters ≡ length es → None ≡ unfit s.parameters (exp_list es) (terms xs.items) → f ≡ callee_of n → to ≡ s.parameters → called signatures o opened (exp_list es) (terms xs.items) ≡ Ok (term (typeds.Call s.result f to xs))
-called_runs signatures o n s opened es xs f to is found same fit callee types = rw (is, found, count_is es, eq-eqb _ _ same, ← fit, callee, types) (sym (ap Ok (term_call s.result (callee_of n) s.parameters xs)))
+pub called_runs : (signatures : List Signature) (o : Option ℕ) (n : ℕ) (s : Signature) (opened : ℕ) (es : List Expr) (xs : Vec Expression) (f : Callee) (to : List CType) → o ≡ Some n
+    → slice_get signatures n ≡ Some s → length s.parameters ≡ length es → None ≡ unfit s.parameters (exp_list es) (terms xs.items) → f ≡ callee_of n → to ≡ s.parameters
+    → called signatures o opened (exp_list es) (terms xs.items) ≡ Ok (term (typeds.Call s.result f to xs))
+called_runs signatures o n s opened es xs f to is found same fit callee types =
+    rw (is, found, count_is es, eq-eqb _ _ same, ← fit, callee, types) (sym (ap Ok (term_call s.result (callee_of n) s.parameters xs)))
 
 -- one more argument is taken
-pub unfit_more : (ps : List CType) (es : List Expr) (xs : List Expression) (i : ℕ) (p0 : CType) (e0 : Expr) (x0 : Expression) → i < length ps → i < length es → i < length xs → fits (get_or ps i p0) (term (get_or xs i x0)) ≡ true → unfit (drop i ps) (exp_list (drop i es)) (terms (drop i xs)) ≡ unfit (drop (i + 1) ps) (exp_list (drop (i + 1) es)) (terms (drop (i + 1) xs))
+pub unfit_more : (ps : List CType) (es : List Expr) (xs : List Expression) (i : ℕ) (p0 : CType) (e0 : Expr) (x0 : Expression) → i < length ps → i < length es → i < length xs
+    → fits (get_or ps i p0) (term (get_or xs i x0)) ≡ true → unfit (drop i ps) (exp_list (drop i es)) (terms (drop i xs))
+    ≡ unfit (drop (i + 1) ps) (exp_list (drop (i + 1) es)) (terms (drop (i + 1) xs))
 unfit_more ps es xs i p0 e0 x0 lp le lx fit = rw (drop_more ps i p0 lp, drop_more es i e0 le, drop_more xs i x0 lx, fit) refl

@@ -1,5 +1,6 @@
 -- The types of expressions, and the first fault.
-use Rattle.std.specs.Prelude.{ℕ, ◌+◌, ◌-◌, ◌==◌, Bool, true, false, List, [], ◌∷◌, length, slice_get, Option, Some, None, Result, Ok, if◌then◌else◌}
+use Rattle.std.specs.Prelude.{ℕ, ◌+◌, ◌-◌, ◌==◌, Bool, true, false, List, [], ◌∷◌, length, slice_get, Option, Some}
+use Rattle.std.specs.Prelude.{None, Result, Ok, if◌then◌else◌}
 use Rattle.c_phrases.specs.declared.operator.Spec.{Spec}
 use Rattle.c_phrases.specs.declared.operator.Spec.TheVariants as specs
 use Rattle.c_types.specs.declared.types.CType.{CType}
@@ -11,12 +12,16 @@ use Rattle.c_types.specs.declared.typed.Callee.TheVariants as callees
 use Rattle.c_types.specs.declared.typed.Moment.TheVariants as moments
 use Rattle.c_types.specs.declared.fault.TypeKind.TheVariants.{UnknownName, BadType, BadCall}
 use Rattle.c_types.specs.Answers.{Fault, bad, ◌>>=◌}
-use Rattle.c_types.specs.Typed.{AnExpression, SomeExpressions, NoExpressions, MoreExpressions, Constant, ReadOf, ArrayAt, CallOf, VariableAt}
-use Rattle.c_typed_operators.specs.Rules.{fits, binary_of, prefix_of, index_of, step, cast_of, sizeof_of, sizeof_type_of, choice_of, comma_of, assign_of}
+use Rattle.c_types.specs.Typed.{AnExpression, SomeExpressions, NoExpressions, MoreExpressions, Constant, ReadOf}
+use Rattle.c_types.specs.Typed.{ArrayAt, CallOf, VariableAt}
+use Rattle.c_typed_operators.specs.Rules.{fits, binary_of, prefix_of, index_of, step, cast_of, sizeof_of}
+use Rattle.c_typed_operators.specs.Rules.{sizeof_type_of, choice_of, comma_of, assign_of}
 use Rattle.c_typed_scope.specs.declared.entry.Entry.{Entry}
 use Rattle.c_typed_scope.specs.declared.entry.Entry.TheVariants as entries
 use Rattle.c_typed_scope.specs.declared.entry.Signature.{Signature}
-use Rattle.c_phrases.specs.Phrases.{AnExp, name, number, str, paren, call, index, step_after, step_before, prefix, sizeof_exp, sizeof_type, cast, binary, choice, assign, comma, SomeExps, no_exps, exps}
+use Rattle.c_phrases.specs.Phrases.{AnExp, name, number, str, paren, call, index, step_after, step_before, prefix}
+use Rattle.c_phrases.specs.Phrases.{sizeof_exp, sizeof_type, cast, binary, choice, assign, comma, SomeExps, no_exps}
+use Rattle.c_phrases.specs.Phrases.{exps}
 use Rattle.c_typed_expressions.specs.Phrases.{first}
 use Rattle.c_typed_scope.specs.Scopes.{Scope, find, lookup}
 use Rattle.c_typed_scope.specs.Layout.{Area, literal}
@@ -90,7 +95,8 @@ call_unless (Some at) s n xs = bad at BadType
 
 abbrev pub called_by : Option Signature → ℕ → ℕ → SomeExps → SomeExpressions → Result AnExpression Fault
 called_by None n opened es xs = bad opened BadCall
-called_by (Some s) n opened es xs = if length s.parameters == count es then call_unless (unfit s.parameters es xs) s n xs else bad opened BadCall
+called_by (Some s) n opened es xs = if length s.parameters == count es then call_unless (unfit s.parameters es xs) s n xs
+    else bad opened BadCall
 
 abbrev pub called : List Signature → Option ℕ → ℕ → SomeExps → SomeExpressions → Result AnExpression Fault
 called signatures None opened es xs = bad opened BadCall
@@ -133,7 +139,8 @@ module _ (names : List (List ℕ × Entry)) (signatures : List Signature) (scope
     type_exp (sizeof_type at o t) a = beside a (sizeof_type_of at (written t.spec t.stars))
     type_exp (cast o t e) a = type_exp e a >>= λ x. beside x.1 (cast_of o (written t.spec t.stars) x.0)
     type_exp (binary l op at r) a = type_exp l a >>= λ x. type_exp r x.1 >>= λ y. beside y.1 (binary_of op at x.0 y.0)
-    type_exp (choice c at e d) a = type_exp c a >>= λ z. type_exp e z.1 >>= λ x. type_exp d x.1 >>= λ y. beside y.1 (choice_of at z.0 x.0 y.0)
+    type_exp (choice c at e d) a = type_exp c a >>= λ z. type_exp e z.1 >>= λ x. type_exp d x.1 >>= λ y.
+        beside y.1 (choice_of at z.0 x.0 y.0)
     type_exp (assign p op at v) a = type_exp p a >>= λ x. type_exp v x.1 >>= λ y. beside y.1 (assign_of op at x.0 y.0)
     type_exp (comma l r) a = type_exp l a >>= λ x. type_exp r x.1 >>= λ y. Ok (comma_of x.0 y.0, y.1)
 

@@ -1,6 +1,7 @@
 -- What typing asks of phrases beside their parts.
 use Rattle.std.specs.Prelude.{ℕ, List, [], Option, Some, None}
-use Rattle.c_phrases.specs.Phrases.{AnExp, name, number, str, paren, call, index, step_after, step_before, prefix, sizeof_exp, sizeof_type, cast, binary, choice, assign, comma}
+use Rattle.c_phrases.specs.Phrases.{AnExp, name, number, str, paren, call, index, step_after, step_before, prefix}
+use Rattle.c_phrases.specs.Phrases.{sizeof_exp, sizeof_type, cast, binary, choice, assign, comma}
 use Rattle.c_phrases.specs.Units.{ALength, AnInit, AnInitialised, AParam, SomeParams, no_params, void_word, params}
 
 -- the offset of the first token

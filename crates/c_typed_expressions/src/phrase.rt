@@ -7,7 +7,8 @@ ghost use Rattle.c_phrases.specs.Shapes.{exp, exp_list};
 ghost use Rattle.c_typed_expressions.specs.Phrases.{first};
 ghost use Rattle.c_typed_scope.specs.Scopes.{find};
 ghost use Rattle.c_typed_scope.specs.Views.{scope, area};
-ghost use Rattle.c_typed_expressions.specs.Expressions.{integer_of, written, named, function_number, callee, is_function, callee_of, unfit, called, type_exp, type_exps};
+ghost use Rattle.c_typed_expressions.specs.Expressions.{integer_of, written, named, function_number, callee, is_function};
+ghost use Rattle.c_typed_expressions.specs.Expressions.{callee_of, unfit, called, type_exp, type_exps};
 
 use c_phrases::operator::Spec;
 use c_phrases::tree::{Expr, Stars};
@@ -243,7 +244,8 @@ pub fn expression(
     e: &Expr,
     layout: &mut Data,
 ) -> Result<Expression, TypeFault>
-    ensures { Turns (λ t. term t) result (area layout.new) (type_exp functions.now.names functions.now.signatures.items (scope blocks.now) (exp e.now) (area layout.old)) }
+    ensures { Turns (λ t. term t) result (area layout.new) (type_exp functions.now.names functions.now.signatures.items
+        (scope blocks.now) (exp e.now) (area layout.old)) }
 {
     match e {
         Expr::Name { name, at } => named(functions, blocks, *at, name),
@@ -353,7 +355,8 @@ fn boxed(
     e: &Expr,
     layout: &mut Data,
 ) -> Result<Box<Expression>, TypeFault>
-    ensures { Turns (λ t. term t.value) result (area layout.new) (type_exp functions.now.names functions.now.signatures.items (scope blocks.now) (exp e.now) (area layout.old)) }
+    ensures { Turns (λ t. term t.value) result (area layout.new) (type_exp functions.now.names functions.now.signatures.items
+        (scope blocks.now) (exp e.now) (area layout.old)) }
 {
     Ok(Box::new(alloc, expression(alloc, functions, blocks, e, layout)?)?)
 }
@@ -368,7 +371,8 @@ fn expressions(
     layout: &mut Data,
 ) -> Result<Vec<Expression>, TypeFault>
     ensures same { IfOk result (λ v. length v.items ≡ length es.now) }
-    ensures typed { Turns (λ v. terms v.items) result (area layout.new) (type_exps functions.now.names functions.now.signatures.items (scope blocks.now) (exp_list es.now) (area layout.old)) }
+    ensures typed { Turns (λ v. terms v.items) result (area layout.new)
+        (type_exps functions.now.names functions.now.signatures.items (scope blocks.now) (exp_list es.now) (area layout.old)) }
 {
     let mut xs = Vec::new(alloc);
     for e in es {

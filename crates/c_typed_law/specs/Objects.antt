@@ -26,12 +26,15 @@ use Rattle.c_typed_definition.specs.Declarations.{State, with_area, measuring, v
 use Rattle.c_typed_law.specs.Tests.{With, Without, Lacking, Never, IsFault}
 use Rattle.c_typed_law.specs.Values.{IsLength, LengthFault, IsElement, ElementFault, AreElements, ElementsFault}
 
--- what a declarator tells by itself: the name is free in its block, the initialiser has the form that the variable wants, and the type is an integer or a pointer
+-- what a declarator tells by itself: the name is free in its block, the initialiser has the form that the variable
+-- wants, and the type is an integer or a pointer
 abbrev pub IsForm : ADeclarator → CType → Scope → Unit {0} → Type 0
-IsForm d t scope ok = Without (is_taken scope d.name) (With (form_fits t (brackets_in d.length) (init_in d.init)) (With (is_scalar t) (λ u. u ≡ tt))) ok
+IsForm d t scope ok = Without (is_taken scope d.name) (With (form_fits t (brackets_in d.length) (init_in d.init))
+    (With (is_scalar t) (λ u. u ≡ tt))) ok
 
 abbrev pub FormFault : ADeclarator → CType → Scope → Fault → Type 0
-FormFault d t scope f = Unless (is_taken scope d.name) d.at Twice (Lacking (form_fits t (brackets_in d.length) (init_in d.init)) d.at BadInit (Lacking (is_scalar t) d.at BadType Never)) f
+FormFault d t scope f = Unless (is_taken scope d.name) d.at Twice (Lacking (form_fits t (brackets_in d.length) (init_in d.init))
+    d.at BadInit (Lacking (is_scalar t) d.at BadType Never)) f
 
 -- an automatic local is no array
 abbrev pub IsPlainForm : Option (Option AnExp) → ADeclarator → CType → Unit {0} → Type 0
@@ -57,7 +60,8 @@ module _ (names : List (List ℕ × Entry)) (signatures : List Signature) where
 
   abbrev pub CountFault : Option AnExp → Option AnInit → Scope → Area → Fault → Type 0
   CountFault None i scope a f = ⊥
-  CountFault (Some e) i scope a f = FirstOf (IsLength names signatures scope e (measuring true a)) (LengthFault names signatures scope e (measuring true a)) (λ x. Never) f
+  CountFault (Some e) i scope a f = FirstOf (IsLength names signatures scope e (measuring true a))
+      (LengthFault names signatures scope e (measuring true a)) (λ x. Never) f
 
   -- the literals of the length lie behind the array
   abbrev pub AreLaid : Option AnExp → Scope → Area → Area → Type 0
@@ -71,13 +75,15 @@ module _ (names : List (List ℕ × Entry)) (signatures : List Signature) where
   -- what an object holds at first: nothing but zeros, the values of a list, the bytes of a literal, or one value
   abbrev pub HoldsAtFirst : CType → Bool → Option AnInit → Scope → Area → Filled × Area → Type 0
   HoldsAtFirst t is_array None scope a r = r ≡ (record { bytes = []; links = [] }, a)
-  HoldsAtFirst t is_array (Some (elements es comma)) scope a r = AreElements names signatures scope t es (record { bytes = []; links = [] }, a) r
+  HoldsAtFirst t is_array (Some (elements es comma)) scope a r = AreElements names signatures scope t es
+      (record { bytes = []; links = [] }, a) r
   HoldsAtFirst t true (Some (value e)) scope a r = r ≡ (text_contents (text_of e), a)
   HoldsAtFirst t false (Some (value e)) scope a r = IsElement names signatures scope t e (record { bytes = []; links = [] }, a) r
 
   abbrev pub HoldsFault : CType → Bool → Option AnInit → Scope → Area → Fault → Type 0
   HoldsFault t is_array None scope a f = ⊥
-  HoldsFault t is_array (Some (elements es comma)) scope a f = ElementsFault names signatures scope t es (record { bytes = []; links = [] }, a) f
+  HoldsFault t is_array (Some (elements es comma)) scope a f = ElementsFault names signatures scope t es
+      (record { bytes = []; links = [] }, a) f
   HoldsFault t true (Some (value e)) scope a f = ⊥
   HoldsFault t false (Some (value e)) scope a f = ElementFault names signatures scope t e (record { bytes = []; links = [] }, a) f
 
@@ -92,7 +98,8 @@ module _ (names : List (List ℕ × Entry)) (signatures : List Signature) where
   FilledFault n size t is_array d e s f =
       FirstOf
       (Joint (HoldsAtFirst t is_array (init_in d.init) (with_name d.name e s.scope) s.area) (λ h a. a ≡ filled n (filled_to size h.0) h.1))
-      (FirstOf (HoldsAtFirst t is_array (init_in d.init) (with_name d.name e s.scope) s.area) (HoldsFault t is_array (init_in d.init) (with_name d.name e s.scope) s.area) (λ h. Never))
+      (FirstOf (HoldsAtFirst t is_array (init_in d.init) (with_name d.name e s.scope) s.area)
+      (HoldsFault t is_array (init_in d.init) (with_name d.name e s.scope) s.area) (λ h. Never))
       (λ a. Never) f
 
   -- a variable that is no array: its room, and what it holds
@@ -103,18 +110,21 @@ module _ (names : List (List ℕ × Entry)) (signatures : List Signature) where
 
   abbrev pub PlainObjectFault : Bool → CType → ADeclarator → State → Fault → Type 0
   PlainObjectFault is_static t d s f =
-      FirstOf (λ l. laid is_static d.at d.name (size_of t) (size_of t) s.area ≡ Ok l) (λ g. laid is_static d.at d.name (size_of t) (size_of t) s.area ≡ Err g)
+      FirstOf (λ l. laid is_static d.at d.name (size_of t) (size_of t) s.area ≡ Ok l)
+      (λ g. laid is_static d.at d.name (size_of t) (size_of t) s.area ≡ Err g)
       (λ l. FilledFault l.0 (size_of t) t false d (entries.Variable t (variable_of is_static l.0)) (with_area l.1 s)) f
 
   -- an array of this many elements: its room, the literals of its length, and what it holds
   abbrev pub IsCountedArray : Bool → CType → ADeclarator → Option AnExp → ℕ → State → ℕ × State → Type 0
   IsCountedArray is_static t d e n s r =
       Joint (λ l. laid is_static d.at d.name (size_of t) (n * size_of t) s.area ≡ Ok l)
-      (λ l. Joint (AreLaid e s.scope l.1) (λ a. IsFilled l.0 (n * size_of t) t true d (array_entry (pointer_to t) (variable_of is_static l.0) (n * size_of t)) (with_area a s))) r
+      (λ l. Joint (AreLaid e s.scope l.1) (λ a. IsFilled l.0 (n * size_of t) t true d
+      (array_entry (pointer_to t) (variable_of is_static l.0) (n * size_of t)) (with_area a s))) r
 
   abbrev pub CountedArrayFault : Bool → CType → ADeclarator → Option AnExp → ℕ → State → Fault → Type 0
   CountedArrayFault is_static t d e n s f =
-      FirstOf (λ l. laid is_static d.at d.name (size_of t) (n * size_of t) s.area ≡ Ok l) (λ g. laid is_static d.at d.name (size_of t) (n * size_of t) s.area ≡ Err g)
+      FirstOf (λ l. laid is_static d.at d.name (size_of t) (n * size_of t) s.area ≡ Ok l)
+      (λ g. laid is_static d.at d.name (size_of t) (n * size_of t) s.area ≡ Err g)
       (λ l. FirstOf (AreLaid e s.scope l.1) (LaidFault e s.scope l.1) (λ a.
       FilledFault l.0 (n * size_of t) t true d (array_entry (pointer_to t) (variable_of is_static l.0) (n * size_of t)) (with_area a s))) f
 
@@ -122,12 +132,14 @@ module _ (names : List (List ℕ × Entry)) (signatures : List Signature) where
   abbrev pub IsArrayObject : Bool → CType → ADeclarator → Option AnExp → State → ℕ × State → Type 0
   IsArrayObject is_static t d e s r =
       Joint (IsCount e (init_in d.init) s.scope s.area)
-      (λ m. Joint (Without (nat_lt m.0 (given_count (init_in d.init))) (λ n. n ≡ m.0)) (λ n. IsCountedArray is_static t d e n (with_area m.1 s))) r
+      (λ m. Joint (Without (nat_lt m.0 (given_count (init_in d.init))) (λ n. n ≡ m.0))
+      (λ n. IsCountedArray is_static t d e n (with_area m.1 s))) r
 
   abbrev pub ArrayObjectFault : Bool → CType → ADeclarator → Option AnExp → State → Fault → Type 0
   ArrayObjectFault is_static t d e s f =
       FirstOf (IsCount e (init_in d.init) s.scope s.area) (CountFault e (init_in d.init) s.scope s.area)
-      (λ m. FirstOf (Without (nat_lt m.0 (given_count (init_in d.init))) (λ n. n ≡ m.0)) (Unless (nat_lt m.0 (given_count (init_in d.init))) d.at BadInit Never)
+      (λ m. FirstOf (Without (nat_lt m.0 (given_count (init_in d.init))) (λ n. n ≡ m.0))
+      (Unless (nat_lt m.0 (given_count (init_in d.init))) d.at BadInit Never)
       (λ n. CountedArrayFault is_static t d e n (with_area m.1 s))) f
 
   abbrev pub IsObjectBy : Bool → CType → ADeclarator → Option (Option AnExp) → State → ℕ × State → Type 0
@@ -140,7 +152,8 @@ module _ (names : List (List ℕ × Entry)) (signatures : List Signature) where
 
   -- a global variable or a static local, and the number of its object
   abbrev pub IsObject : Bool → Spec → ADeclarator → State → ℕ × State → Type 0
-  IsObject is_static spec d s r = Joint (IsForm d (written spec d.stars) s.scope) (λ ok. IsObjectBy is_static (written spec d.stars) d (brackets_in d.length) s) r
+  IsObject is_static spec d s r = Joint (IsForm d (written spec d.stars) s.scope)
+      (λ ok. IsObjectBy is_static (written spec d.stars) d (brackets_in d.length) s) r
 
   abbrev pub ObjectFault : Bool → Spec → ADeclarator → State → Fault → Type 0
   ObjectFault is_static spec d s f = FirstOf (IsForm d (written spec d.stars) s.scope) (FormFault d (written spec d.stars) s.scope)
@@ -151,7 +164,8 @@ module _ (names : List (List ℕ × Entry)) (signatures : List Signature) where
   IsBegun t n None s r = r ≡ (ClearOf n, s)
   IsBegun t n (Some (elements es comma)) s r = r ≡ (ClearOf n, s)
   IsBegun t n (Some (value e)) s r =
-      Joint (IsTyped names signatures s.scope e s.area) (λ x. Joint (With (fits t x.0) (λ y. y ≡ ConvertTo t x.0)) (λ y u. u ≡ (BeginOf n y, with_area x.1 s))) r
+      Joint (IsTyped names signatures s.scope e s.area) (λ x. Joint (With (fits t x.0) (λ y. y ≡ ConvertTo t x.0))
+      (λ y u. u ≡ (BeginOf n y, with_area x.1 s))) r
 
   abbrev pub BegunFault : CType → ℕ → Option AnInit → State → Fault → Type 0
   BegunFault t n None s f = ⊥
@@ -166,7 +180,8 @@ module _ (names : List (List ℕ × Entry)) (signatures : List Signature) where
       (λ ok. IsBegun (written spec d.stars) (length s.locals) (init_in d.init) (with_local (written spec d.stars) d.name s)) r
 
   abbrev pub AutomaticFault : Spec → ADeclarator → State → Fault → Type 0
-  AutomaticFault spec d s f = FirstOf (IsAutomaticForm d (written spec d.stars) s.scope) (AutomaticFormFault d (written spec d.stars) s.scope)
+  AutomaticFault spec d s f = FirstOf (IsAutomaticForm d (written spec d.stars) s.scope)
+      (AutomaticFormFault d (written spec d.stars) s.scope)
       (λ ok. BegunFault (written spec d.stars) (length s.locals) (init_in d.init) (with_local (written spec d.stars) d.name s)) f
 
   -- a declarator of a block, by its storage
@@ -187,4 +202,5 @@ module _ (names : List (List ℕ × Entry)) (signatures : List Signature) where
 
   abbrev pub LocalsFault : Storage → Spec → List ADeclarator → List ADeclaration → State → Fault → Type 0
   LocalsFault storage spec [] done s f = ⊥
-  LocalsFault storage spec (d ∷ ds) done s f = FirstOf (IsLocal storage spec d s) (LocalFault storage spec d s) (λ x. LocalsFault storage spec ds (done ++ x.0 ∷ []) x.1) f
+  LocalsFault storage spec (d ∷ ds) done s f = FirstOf (IsLocal storage spec d s) (LocalFault storage spec d s)
+      (λ x. LocalsFault storage spec ds (done ++ x.0 ∷ []) x.1) f

@@ -9,9 +9,11 @@ use Rattle.c_typed_operators.specs.Rules.{fits}
 use Rattle.c_typed_scope.specs.declared.entry.Entry.{Entry}
 use Rattle.c_typed_scope.specs.declared.entry.Signature.{Signature}
 use Rattle.c_phrases.specs.Phrases.{AnExp}
-use Rattle.c_phrases.specs.Units.{ALocal, local_item, statement_item, AStatement, block, empty, expression, break_off, continue_on, give_back, if_then, if_else, while_loop}
+use Rattle.c_phrases.specs.Units.{ALocal, local_item, statement_item, AStatement, block, empty, expression, break_off}
+use Rattle.c_phrases.specs.Units.{continue_on, give_back, if_then, if_else, while_loop}
 use Rattle.c_phrases.specs.Units.{do_loop, for_loop, SomeItems, no_items}
-use Rattle.c_program.specs.Statements.{ADeclaration, AnAction, SomeActions, NoActions, MoreActions, DeclareOf, BlockOf, EvaluateOf, BreakOf, ContinueOf, ReturnOf, IfOf, IfElseOf, WhileOf, DoOf, ForOf}
+use Rattle.c_program.specs.Statements.{ADeclaration, AnAction, SomeActions, NoActions, MoreActions, DeclareOf, BlockOf}
+use Rattle.c_program.specs.Statements.{EvaluateOf, BreakOf, ContinueOf, ReturnOf, IfOf, IfElseOf, WhileOf, DoOf, ForOf}
 use Rattle.c_typed_expressions.specs.Phrases.{first}
 use Rattle.c_typed_expressions.specs.Relations.{Joint, FirstOf, IsTyped, FirstFault}
 use Rattle.c_typed_definition.specs.Declarations.{State, with_area}
@@ -33,7 +35,8 @@ module _ (names : List (List ℕ × Entry)) (signatures : List Signature) where
   IsCondition e s r = Joint (IsFull e s) (λ x. Joint (With (is_scalar (type_of x.0)) (λ c. c ≡ x.0)) (λ c u. u ≡ (c, x.1))) r
 
   abbrev pub ConditionFault : AnExp → State → Fault → Type 0
-  ConditionFault e s f = FirstOf (IsFull e s) (FullFault e s) (λ x. FirstOf (With (is_scalar (type_of x.0)) (λ c. c ≡ x.0)) (Lacking (is_scalar (type_of x.0)) (first e) BadType Never) (λ c. Never)) f
+  ConditionFault e s f = FirstOf (IsFull e s) (FullFault e s) (λ x. FirstOf (With (is_scalar (type_of x.0)) (λ c. c ≡ x.0))
+      (Lacking (is_scalar (type_of x.0)) (first e) BadType Never) (λ c. Never)) f
 
   -- a part of a for that may be left out
   abbrev pub IsPart : Option AnExp → State → Option AnExpression × State → Type 0
@@ -64,12 +67,14 @@ module _ (names : List (List ℕ × Entry)) (signatures : List Signature) (resul
   -- what is given back is converted to the function's result
   abbrev pub IsReturn : Option AnExp → State → AnAction × State → Type 0
   IsReturn None s r = r ≡ (ReturnOf None, s)
-  IsReturn (Some e) s r = Joint (IsFull names signatures e s) (λ x. Joint (With (fits result_type x.0) (λ y. y ≡ ConvertTo result_type x.0)) (λ y u. u ≡ (ReturnOf (Some y), x.1))) r
+  IsReturn (Some e) s r = Joint (IsFull names signatures e s) (λ x. Joint
+      (With (fits result_type x.0) (λ y. y ≡ ConvertTo result_type x.0)) (λ y u. u ≡ (ReturnOf (Some y), x.1))) r
 
   abbrev pub ReturnFault : Option AnExp → State → Fault → Type 0
   ReturnFault None s f = ⊥
   ReturnFault (Some e) s f = FirstOf (IsFull names signatures e s) (FullFault names signatures e s)
-      (λ x. FirstOf (With (fits result_type x.0) (λ y. y ≡ ConvertTo result_type x.0)) (Lacking (fits result_type x.0) (first e) BadType Never) (λ y. Never)) f
+      (λ x. FirstOf (With (fits result_type x.0) (λ y. y ≡ ConvertTo result_type x.0))
+      (Lacking (fits result_type x.0) (first e) BadType Never) (λ y. Never)) f
 
   -- whether a loop is around: only there stand break and continue
   abbrev mutual
@@ -80,18 +85,24 @@ module _ (names : List (List ℕ × Entry)) (signatures : List Signature) (resul
     IsStatement looping (break_off at) s r = With looping (λ u. u ≡ (BreakOf, s)) r
     IsStatement looping (continue_on at) s r = With looping (λ u. u ≡ (ContinueOf, s)) r
     IsStatement looping (give_back at e) s r = IsReturn e s r
-    IsStatement looping (if_then at o c a) s r = Joint (IsCondition names signatures c s) (λ x. Joint (IsStatement looping a x.1) (λ y u. u ≡ (IfOf x.0 y.0, y.1))) r
+    IsStatement looping (if_then at o c a) s r = Joint (IsCondition names signatures c s)
+        (λ x. Joint (IsStatement looping a x.1) (λ y u. u ≡ (IfOf x.0 y.0, y.1))) r
     IsStatement looping (if_else at o c a other b) s r = Joint (IsCondition names signatures c s)
         (λ x. Joint (IsStatement looping a x.1) (λ y. Joint (IsStatement looping b y.1) (λ z u. u ≡ (IfElseOf x.0 y.0 z.0, z.1)))) r
-    IsStatement looping (while_loop at o c a) s r = Joint (IsCondition names signatures c s) (λ x. Joint (IsStatement true a x.1) (λ y u. u ≡ (WhileOf x.0 y.0, y.1))) r
-    IsStatement looping (do_loop at a again o c) s r = Joint (IsStatement true a s) (λ y. Joint (IsCondition names signatures c y.1) (λ x u. u ≡ (DoOf y.0 x.0, x.1))) r
+    IsStatement looping (while_loop at o c a) s r = Joint (IsCondition names signatures c s)
+        (λ x. Joint (IsStatement true a x.1) (λ y u. u ≡ (WhileOf x.0 y.0, y.1))) r
+    IsStatement looping (do_loop at a again o c) s r = Joint (IsStatement true a s)
+        (λ y. Joint (IsCondition names signatures c y.1) (λ x u. u ≡ (DoOf y.0 x.0, x.1))) r
     IsStatement looping (for_loop at o i c e a) s r = Joint (IsPart names signatures i s)
-        (λ x. Joint (IsTurn names signatures c x.1) (λ y. Joint (IsPart names signatures e y.1) (λ z. Joint (IsStatement true a z.1) (λ w u. u ≡ (ForOf x.0 y.0 z.0 w.0, w.1))))) r
+        (λ x. Joint (IsTurn names signatures c x.1) (λ y. Joint (IsPart names signatures e y.1)
+        (λ z. Joint (IsStatement true a z.1) (λ w u. u ≡ (ForOf x.0 y.0 z.0 w.0, w.1))))) r
 
     pub AreItems : Bool → SomeItems → State → SomeActions × State → Type 0
     AreItems looping no_items s r = r ≡ (NoActions, s)
-    AreItems looping (local_item l rest) s r = Joint (IsDeclared names signatures l s) (λ x. Joint (AreItems looping rest x.1) (λ y u. u ≡ (MoreActions (DeclareOf x.0) y.0, y.1))) r
-    AreItems looping (statement_item a rest) s r = Joint (IsStatement looping a s) (λ x. Joint (AreItems looping rest x.1) (λ y u. u ≡ (MoreActions x.0 y.0, y.1))) r
+    AreItems looping (local_item l rest) s r = Joint (IsDeclared names signatures l s)
+        (λ x. Joint (AreItems looping rest x.1) (λ y u. u ≡ (MoreActions (DeclareOf x.0) y.0, y.1))) r
+    AreItems looping (statement_item a rest) s r = Joint (IsStatement looping a s)
+        (λ x. Joint (AreItems looping rest x.1) (λ y u. u ≡ (MoreActions x.0 y.0, y.1))) r
 
   abbrev mutual
     pub StatementFault : Bool → AStatement → State → Fault → Type 0
@@ -104,14 +115,16 @@ module _ (names : List (List ℕ × Entry)) (signatures : List Signature) (resul
     StatementFault looping (if_then at o c a) s f = FirstOf (IsCondition names signatures c s) (ConditionFault names signatures c s)
         (λ x. FirstOf (IsStatement looping a x.1) (StatementFault looping a x.1) (λ y. Never)) f
     StatementFault looping (if_else at o c a other b) s f = FirstOf (IsCondition names signatures c s) (ConditionFault names signatures c s)
-        (λ x. FirstOf (IsStatement looping a x.1) (StatementFault looping a x.1) (λ y. FirstOf (IsStatement looping b y.1) (StatementFault looping b y.1) (λ z. Never))) f
+        (λ x. FirstOf (IsStatement looping a x.1) (StatementFault looping a x.1)
+        (λ y. FirstOf (IsStatement looping b y.1) (StatementFault looping b y.1) (λ z. Never))) f
     StatementFault looping (while_loop at o c a) s f = FirstOf (IsCondition names signatures c s) (ConditionFault names signatures c s)
         (λ x. FirstOf (IsStatement true a x.1) (StatementFault true a x.1) (λ y. Never)) f
     StatementFault looping (do_loop at a again o c) s f = FirstOf (IsStatement true a s) (StatementFault true a s)
         (λ y. FirstOf (IsCondition names signatures c y.1) (ConditionFault names signatures c y.1) (λ x. Never)) f
     StatementFault looping (for_loop at o i c e a) s f = FirstOf (IsPart names signatures i s) (PartFault names signatures i s)
         (λ x. FirstOf (IsTurn names signatures c x.1) (TurnFault names signatures c x.1)
-        (λ y. FirstOf (IsPart names signatures e y.1) (PartFault names signatures e y.1) (λ z. FirstOf (IsStatement true a z.1) (StatementFault true a z.1) (λ w. Never)))) f
+        (λ y. FirstOf (IsPart names signatures e y.1) (PartFault names signatures e y.1)
+        (λ z. FirstOf (IsStatement true a z.1) (StatementFault true a z.1) (λ w. Never)))) f
 
     pub ItemsFault : Bool → SomeItems → State → Fault → Type 0
     ItemsFault looping no_items s f = ⊥

@@ -19,7 +19,8 @@ use Rattle.c_typed_expressions.specs.Phrases.{params_in, brackets_in}
 use Rattle.c_typed_expressions.specs.Expressions.{integer_of, written}
 use Rattle.c_typed_expressions.specs.Relations.{Joint, FirstOf, Unless}
 use Rattle.c_typed_definition.specs.Declarations.{State, with_area}
-use Rattle.c_typed_definition.specs.Texts.{parameter_type, signature_of, known, Text, with_state, same_signature, is_below, word_of, with_parameter, with_declared, body_of}
+use Rattle.c_typed_definition.specs.Texts.{parameter_type, signature_of, known, Text, with_state, same_signature}
+use Rattle.c_typed_definition.specs.Texts.{is_below, word_of, with_parameter, with_declared, body_of}
 use Rattle.c_typed_definition.specs.Texts.{with_body, entered_function, left_function, main_of, empty_text}
 use Rattle.c_typed_law.specs.Tests.{With, Without, Lacking, Never, IsFault}
 use Rattle.c_typed_law.specs.Values.{IsLength, LengthFault}
@@ -63,8 +64,10 @@ IsParameterForm (Some n) defines p scope ok = Without (is_taken scope n.name) (W
 IsParameterForm None defines p scope ok = With (is_scalar (written p.spec p.stars)) (Without defines (λ u. u ≡ tt)) ok
 
 abbrev pub ParameterFormFault : Option Named → Bool → ℕ → AParam → Scope → Fault → Type 0
-ParameterFormFault (Some n) defines at p scope f = Unless (is_taken scope n.name) n.at Twice (Lacking (is_scalar (written p.spec p.stars)) n.at BadType Never) f
-ParameterFormFault None defines at p scope f = Lacking (is_scalar (written p.spec p.stars)) (word_of p.spec) BadType (Unless defines at BadType Never) f
+ParameterFormFault (Some n) defines at p scope f = Unless (is_taken scope n.name) n.at Twice
+    (Lacking (is_scalar (written p.spec p.stars)) n.at BadType Never) f
+ParameterFormFault None defines at p scope f = Lacking (is_scalar (written p.spec p.stars)) (word_of p.spec) BadType
+    (Unless defines at BadType Never) f
 
 -- the types of an earlier declaration
 abbrev pub IsSameAs : Option Signature → Signature → Unit {0} → Type 0
@@ -101,17 +104,20 @@ module _ (names : List (List ℕ × Entry)) (signatures : List Signature) where
   abbrev pub ParameterLengthFault : Option (Option AnExp) → Scope → Area → Fault → Type 0
   ParameterLengthFault None scope a f = ⊥
   ParameterLengthFault (Some None) scope a f = ⊥
-  ParameterLengthFault (Some (Some e)) scope a f = FirstOf (IsLength names signatures scope e a) (LengthFault names signatures scope e a) (λ x. Never) f
+  ParameterLengthFault (Some (Some e)) scope a f = FirstOf (IsLength names signatures scope e a)
+      (LengthFault names signatures scope e a) (λ x. Never) f
 
   -- a parameter of this number
   abbrev pub IsParameter : Bool → AParam → ℕ → State → State → Type 0
   IsParameter defines p n s r =
-      Joint (IsParameterForm p.name defines p s.scope) (λ ok. Joint (IsParameterLength (brackets_in p.length) s.scope s.area) (λ a u. u ≡ with_parameter p.name (parameter_type p) n (with_area a s))) r
+      Joint (IsParameterForm p.name defines p s.scope) (λ ok. Joint (IsParameterLength (brackets_in p.length) s.scope s.area)
+      (λ a u. u ≡ with_parameter p.name (parameter_type p) n (with_area a s))) r
 
   abbrev pub ParameterFault : Bool → ℕ → AParam → State → Fault → Type 0
   ParameterFault defines at p s f =
       FirstOf (IsParameterForm p.name defines p s.scope) (ParameterFormFault p.name defines at p s.scope)
-      (λ ok. FirstOf (IsParameterLength (brackets_in p.length) s.scope s.area) (ParameterLengthFault (brackets_in p.length) s.scope s.area) (λ a. Never)) f
+      (λ ok. FirstOf (IsParameterLength (brackets_in p.length) s.scope s.area)
+      (ParameterLengthFault (brackets_in p.length) s.scope s.area) (λ a. Never)) f
 
   -- the parameters from left to right, from number n on
   abbrev pub AreParameters : Bool → List AParam → ℕ → State → State → Type 0
@@ -120,17 +126,20 @@ module _ (names : List (List ℕ × Entry)) (signatures : List Signature) where
 
   abbrev pub ParametersFault : Bool → ℕ → List AParam → ℕ → State → Fault → Type 0
   ParametersFault defines at [] n s f = ⊥
-  ParametersFault defines at (p ∷ ps) n s f = FirstOf (IsParameter defines p n s) (ParameterFault defines at p s) (ParametersFault defines at ps (n + 1)) f
+  ParametersFault defines at (p ∷ ps) n s f = FirstOf (IsParameter defines p n s) (ParameterFault defines at p s)
+      (ParametersFault defines at ps (n + 1)) f
 
   -- the parameters and the body's outermost block are one scope
   abbrev pub IsBody : Spec → AFunction → Option SomeItems → State → Text → Text → Type 0
   IsBody spec f None s t r = r ≡ with_state (left_function s) t
   IsBody spec f (Some row) s t r =
-      Joint (AreItems names signatures (written spec f.stars) false row s) (λ x u. u ≡ with_body (body_of spec f x.1.locals x.0) (with_state (left_function x.1) t)) r
+      Joint (AreItems names signatures (written spec f.stars) false row s)
+      (λ x u. u ≡ with_body (body_of spec f x.1.locals x.0) (with_state (left_function x.1) t)) r
 
   abbrev pub BodyFault : Spec → AFunction → Option SomeItems → State → Fault → Type 0
   BodyFault spec f None s g = ⊥
-  BodyFault spec f (Some row) s g = FirstOf (AreItems names signatures (written spec f.stars) false row s) (ItemsFault names signatures (written spec f.stars) false row s) (λ x. Never) g
+  BodyFault spec f (Some row) s g = FirstOf (AreItems names signatures (written spec f.stars) false row s)
+      (ItemsFault names signatures (written spec f.stars) false row s) (λ x. Never) g
 
   -- once its name is in scope: its parameters, its agreement with an earlier declaration, and its body
   abbrev pub IsIntroduced : Option ℕ → Spec → AFunction → Text → Text → Type 0
@@ -141,7 +150,8 @@ module _ (names : List (List ℕ × Entry)) (signatures : List Signature) where
 
   abbrev pub IntroducedFault : Option ℕ → Spec → AFunction → Text → Fault → Type 0
   IntroducedFault earlier spec f t g =
-      FirstOf (AreParameters (is_some f.body) (params_in f.params) 0 (entered_function t.state)) (ParametersFault (is_some f.body) f.at (params_in f.params) 0 (entered_function t.state)) (λ s.
+      FirstOf (AreParameters (is_some f.body) (params_in f.params) 0 (entered_function t.state))
+      (ParametersFault (is_some f.body) f.at (params_in f.params) 0 (entered_function t.state)) (λ s.
       FirstOf (Agrees earlier t.declared (signature_of spec f)) (AgreesFault earlier t.declared (signature_of spec f) f.at) (λ same.
       BodyFault spec f f.body s)) g
 
@@ -166,7 +176,8 @@ module _ (names : List (List ℕ × Entry)) (signatures : List Signature) where
 
   abbrev pub GlobalsFault : Spec → List ADeclarator → State → Fault → Type 0
   GlobalsFault spec [] s f = ⊥
-  GlobalsFault spec (d ∷ ds) s f = FirstOf (IsObject names signatures false spec d s) (ObjectFault names signatures false spec d s) (λ x. GlobalsFault spec ds x.1) f
+  GlobalsFault spec (d ∷ ds) s f = FirstOf (IsObject names signatures false spec d s)
+      (ObjectFault names signatures false spec d s) (λ x. GlobalsFault spec ds x.1) f
 
   abbrev pub IsExternalBy : Spec → ADeclared → Text → Text → Type 0
   IsExternalBy spec (function f) t r = IsFunction spec f t r
@@ -192,11 +203,13 @@ IsWhole t p = Joint (λ n. main_of t.bodies ≡ Some n) (λ n u. u ≡ record { 
 abbrev pub WholeFault : Text → ℕ → Fault → Type 0
 WholeFault t end f = NoRow (λ n. main_of t.bodies ≡ Some n) end NoMain f
 
--- The text is well typed, as this program. A call may stand before its function's definition: the functions of the whole text are known in each.
+-- The text is well typed, as this program. A call may stand before its function's definition: the functions of the
+-- whole text are known in each.
 unfoldable pub IsText : List AnExternal → AProgram → Type 0
 IsText text p = Joint (AreExternals (known text).names (known text).signatures text empty_text) IsWhole p
 
 -- The text's first fault is this one: all before it is well typed. NoMain comes behind all others, at the text's end.
 unfoldable pub TextFault : List AnExternal → ℕ → Fault → Type 0
 TextFault text end f =
-    FirstOf (AreExternals (known text).names (known text).signatures text empty_text) (ExternalsFault (known text).names (known text).signatures text empty_text) (λ t. WholeFault t end) f
+    FirstOf (AreExternals (known text).names (known text).signatures text empty_text)
+    (ExternalsFault (known text).names (known text).signatures text empty_text) (λ t. WholeFault t end) f

@@ -22,17 +22,20 @@ use Rattle.c_typed_law.specs.Tests.{With, Lacking, Never, IsFault}
 
 -- an integer's initialiser: a constant of an integer type
 abbrev pub IsIntegerValue : Integer → AnExpression → Filled → Filled → Type 0
-IsIntegerValue b x f g = Joint (λ v. constant_of x ≡ Some v) (λ v. With (is_integer (type_of x)) (λ u. u ≡ with_value (integer_size b) v f)) g
+IsIntegerValue b x f g = Joint (λ v. constant_of x ≡ Some v) (λ v. With (is_integer (type_of x))
+    (λ u. u ≡ with_value (integer_size b) v f)) g
 
 abbrev pub IntegerFault : ℕ → AnExpression → Fault → Type 0
-IntegerFault place x f = FirstOf (λ v. constant_of x ≡ Some v) (NoRow (λ v. constant_of x ≡ Some v) place BadConst) (λ v. Lacking (is_integer (type_of x)) place BadType Never) f
+IntegerFault place x f = FirstOf (λ v. constant_of x ≡ Some v) (NoRow (λ v. constant_of x ≡ Some v) place BadConst)
+    (λ v. Lacking (is_integer (type_of x)) place BadType Never) f
 
 -- a pointer's initialiser: an object's address of its own type
 abbrev pub IsAddressValue : CType → AnExpression → List Object → Filled → Filled → Type 0
 IsAddressValue t x objects f g = Joint (λ n. linked x ≡ Some n) (λ n. With (same_type t (type_of x)) (λ u. u ≡ with_link objects n f)) g
 
 abbrev pub AddressFault : CType → ℕ → AnExpression → Fault → Type 0
-AddressFault t place x f = FirstOf (λ n. linked x ≡ Some n) (NoRow (λ n. linked x ≡ Some n) place BadConst) (λ n. Lacking (same_type t (type_of x)) place BadType Never) f
+AddressFault t place x f = FirstOf (λ n. linked x ≡ Some n) (NoRow (λ n. linked x ≡ Some n) place BadConst)
+    (λ n. Lacking (same_type t (type_of x)) place BadType Never) f
 
 -- or the null constant
 pub data IsPointerValue (t : CType) (x : AnExpression) (objects : List Object) (f g : Filled) : Type 0 where

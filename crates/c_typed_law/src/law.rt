@@ -19,8 +19,12 @@ pub fn text_law()
 /// is as plain data.
 #[tactic(auto, using(crate::proofs::Answers::text_found, crate::proofs::Answers::text_only, crate::proofs::Answers::text_refused, crate::proofs::Answers::text_first))]
 pub fn answer_law<T>()
-    ensures found { (view : T → AProgram) (r : Result T TypeFault) (text : List AnExternal) (end : ℕ) → Gives view r (type_text text end) → IfOk r (λ x. IsText text (view x)) }
-    ensures only { (view : T → AProgram) (r : Result T TypeFault) (text : List AnExternal) (end : ℕ) → Gives view r (type_text text end) → (p : AProgram) → IsText text p → OnlyAnswer view r p }
-    ensures refused { (view : T → AProgram) (r : Result T TypeFault) (text : List AnExternal) (end : ℕ) → Gives view r (type_text text end) → IfErr r (λ e. Refused (TextFault text end) e) }
-    ensures first { (view : T → AProgram) (r : Result T TypeFault) (text : List AnExternal) (end : ℕ) → Gives view r (type_text text end) → (f : Fault) → TextFault text end f → OnlyFault r f }
+    ensures found { (view : T → AProgram) (r : Result T TypeFault) (text : List AnExternal) (end : ℕ)
+        → Gives view r (type_text text end) → IfOk r (λ x. IsText text (view x)) }
+    ensures only { (view : T → AProgram) (r : Result T TypeFault) (text : List AnExternal) (end : ℕ)
+        → Gives view r (type_text text end) → (p : AProgram) → IsText text p → OnlyAnswer view r p }
+    ensures refused { (view : T → AProgram) (r : Result T TypeFault) (text : List AnExternal) (end : ℕ)
+        → Gives view r (type_text text end) → IfErr r (λ e. Refused (TextFault text end) e) }
+    ensures first { (view : T → AProgram) (r : Result T TypeFault) (text : List AnExternal) (end : ℕ)
+        → Gives view r (type_text text end) → (f : Fault) → TextFault text end f → OnlyFault r f }
 {}

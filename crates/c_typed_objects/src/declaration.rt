@@ -28,7 +28,8 @@ fn begin(
     given: &Option<Initialised>,
     environment: &mut Environment,
 ) -> Result<Declaration, TypeFault>
-    ensures { Turns (λ x. declaration x) result (state environment.new) (begun functions.now.names functions.now.signatures.items of number (init_in (initialised_of given.now)) (state environment.old)) }
+    ensures { Turns (λ x. declaration x) result (state environment.new)
+        (begun functions.now.names functions.now.signatures.items of number (init_in (initialised_of given.now)) (state environment.old)) }
 {
     let Some(given) = given else {
         return Ok(Declaration::Clear(number));
@@ -60,7 +61,8 @@ fn automatic(
     d: &Declarator,
     environment: &mut Environment,
 ) -> Result<Declaration, TypeFault>
-    ensures { Turns (λ x. declaration x) result (state environment.new) (type_automatic functions.now.names functions.now.signatures.items spec (declarator_of d.now) (state environment.old)) }
+    ensures { Turns (λ x. declaration x) result (state environment.new)
+        (type_automatic functions.now.names functions.now.signatures.items spec (declarator_of d.now) (state environment.old)) }
 {
     let of = written(spec, &d.stars);
     check_automatic(of, d, &environment.blocks)?;
@@ -83,7 +85,8 @@ fn local(
     d: &Declarator,
     environment: &mut Environment,
 ) -> Result<Declaration, TypeFault>
-    ensures { Turns (λ x. declaration x) result (state environment.new) (type_local functions.now.names functions.now.signatures.items storage spec (declarator_of d.now) (state environment.old)) }
+    ensures { Turns (λ x. declaration x) result (state environment.new)
+        (type_local functions.now.names functions.now.signatures.items storage spec (declarator_of d.now) (state environment.old)) }
 {
     match storage {
         Storage::Automatic => automatic(alloc, functions, spec, d, environment),
@@ -104,7 +107,8 @@ pub fn locals(
     ds: &[Declarator],
     environment: &mut Environment,
 ) -> Result<Vec<Declaration>, TypeFault>
-    ensures { Turns (λ v. map declaration v.items) result (state environment.new) (type_locals functions.now.names functions.now.signatures.items storage spec (declarators_of ds.now) [] (state environment.old)) }
+    ensures { Turns (λ v. map declaration v.items) result (state environment.new)
+        (type_locals functions.now.names functions.now.signatures.items storage spec (declarators_of ds.now) [] (state environment.old)) }
 {
     let mut done = Vec::new(alloc);
     for d in ds {

@@ -22,7 +22,8 @@ pub fn array_length(
     e: &Expr,
     layout: &mut Data,
 ) -> Result<u32, TypeFault>
-    ensures { Turns (λ n. n) result (area layout.new) (type_length functions.now.names functions.now.signatures.items (scope blocks.now) (exp e.now) (area layout.old)) }
+    ensures { Turns (λ n. n) result (area layout.new) (type_length functions.now.names functions.now.signatures.items
+        (scope blocks.now) (exp e.now) (area layout.old)) }
 {
     let x = expression(alloc, functions, blocks, e, layout)?;
     length_of(first(e), &x)
@@ -39,7 +40,9 @@ pub fn element(
     layout: &mut Data,
     contents: &mut Contents,
 ) -> Result<(), TypeFault>
-    ensures { OnlyTurns result (filled_so_far contents.new, area layout.new) (type_element functions.now.names functions.now.signatures.items (scope blocks.now) to (exp e.now) (filled_so_far contents.old, area layout.old)) }
+    ensures { OnlyTurns result (filled_so_far contents.new, area layout.new)
+        (type_element functions.now.names functions.now.signatures.items (scope blocks.now) to (exp e.now)
+        (filled_so_far contents.old, area layout.old)) }
 {
     let x = expression(alloc, functions, blocks, e, layout)?;
     contents.put(to, first(e), &x, &layout.objects)
@@ -55,7 +58,9 @@ pub fn elements(
     layout: &mut Data,
     contents: &mut Contents,
 ) -> Result<(), TypeFault>
-    ensures { OnlyTurns result (filled_so_far contents.new, area layout.new) (type_elements functions.now.names functions.now.signatures.items (scope blocks.now) to (exp_list es.now) (filled_so_far contents.old, area layout.old)) }
+    ensures { OnlyTurns result (filled_so_far contents.new, area layout.new)
+        (type_elements functions.now.names functions.now.signatures.items (scope blocks.now) to (exp_list es.now)
+        (filled_so_far contents.old, area layout.old)) }
 {
     for e in es {
         element(alloc, functions, blocks, to, e, layout, contents)?;

@@ -8,7 +8,8 @@ ghost use Rattle.c_typed_scope.specs.Views.{scope, area, filled_so_far};
 ghost use Rattle.c_typed_scope.specs.Layout.{placed};
 ghost use Rattle.c_typed_expressions.specs.Phrases.{init_in};
 ghost use Rattle.c_typed_objects.specs.Views.{state};
-ghost use Rattle.c_typed_definition.specs.Declarations.{variable_of, label_of, counted_static, length_in, literals_in, contents_of, laid, plain_object, array_object, type_object};
+ghost use Rattle.c_typed_definition.specs.Declarations.{variable_of, label_of, counted_static, length_in, literals_in, contents_of};
+ghost use Rattle.c_typed_definition.specs.Declarations.{laid, plain_object, array_object, type_object};
 
 use crate::environment::{Environment, declare};
 use crate::form::{check_form, given_count, own_length, text_of};
@@ -33,7 +34,8 @@ fn measure(
     given: &Option<Initialised>,
     layout: &mut Data,
 ) -> Result<u32, TypeFault>
-    ensures { Turns (λ n. n) result (area layout.new) (length_in functions.now.names functions.now.signatures.items (part length.now) (init_in (initialised_of given.now)) (scope blocks.now) (area layout.old)) }
+    ensures { Turns (λ n. n) result (area layout.new) (length_in functions.now.names functions.now.signatures.items
+        (part length.now) (init_in (initialised_of given.now)) (scope blocks.now) (area layout.old)) }
 {
     match length {
         None => own_length(given),
@@ -54,7 +56,8 @@ fn lay_literals(
     length: &Option<Expr>,
     layout: &mut Data,
 ) -> Result<(), TypeFault>
-    ensures { OnlyTurns result (area layout.new) (literals_in functions.now.names functions.now.signatures.items (part length.now) (scope blocks.now) (area layout.old)) }
+    ensures { OnlyTurns result (area layout.new) (literals_in functions.now.names functions.now.signatures.items
+        (part length.now) (scope blocks.now) (area layout.old)) }
 {
     if let Some(e) = length {
         let _ = expression(alloc, functions, blocks, e, layout)?;
@@ -113,7 +116,8 @@ fn contents(
     given: &Option<Initialised>,
     layout: &mut Data,
 ) -> Result<Contents, TypeFault>
-    ensures { Turns (λ c. filled_so_far c) result (area layout.new) (contents_of functions.now.names functions.now.signatures.items of is_array (init_in (initialised_of given.now)) (scope blocks.now) (area layout.old)) }
+    ensures { Turns (λ c. filled_so_far c) result (area layout.new) (contents_of functions.now.names
+        functions.now.signatures.items of is_array (init_in (initialised_of given.now)) (scope blocks.now) (area layout.old)) }
 {
     let mut contents = Contents::new(alloc);
     let Some(given) = given else {
@@ -148,7 +152,8 @@ fn declare_object(
     environment: &mut Environment,
 ) -> Result<u32, TypeFault>
     requires { find environment.old.blocks.here d.now.name ≡ None }
-    ensures { Turns (λ n. n) result (state environment.new) (object_with functions.now.names functions.now.signatures.items number size of is_array (declarator_of d.now) entry (state environment.old)) }
+    ensures { Turns (λ n. n) result (state environment.new) (object_with functions.now.names functions.now.signatures.items
+        number size of is_array (declarator_of d.now) entry (state environment.old)) }
 {
     declare(alloc, &mut environment.blocks, &d.name, entry)?;
     let layout = &mut environment.layout;
@@ -178,7 +183,8 @@ fn plain_object(
 ) -> Result<u32, TypeFault>
     requires free { find environment.old.blocks.here d.now.name ≡ None }
     requires scalar { is_scalar of ≡ true }
-    ensures { Turns (λ n. n) result (state environment.new) (plain_object functions.now.names functions.now.signatures.items is_static of (declarator_of d.now) (state environment.old)) }
+    ensures { Turns (λ n. n) result (state environment.new) (plain_object functions.now.names functions.now.signatures.items
+        is_static of (declarator_of d.now) (state environment.old)) }
 {
     let size = of.size();
     let number = lay_variable(
@@ -236,7 +242,8 @@ fn counted_array(
 ) -> Result<u32, TypeFault>
     requires free { find environment.old.blocks.here d.now.name ≡ None }
     requires scalar { is_scalar of ≡ true }
-    ensures { Turns (λ n. n) result (state environment.new) (counted_array functions.now.names functions.now.signatures.items is_static of (declarator_of d.now) (part length.now) count (state environment.old)) }
+    ensures { Turns (λ n. n) result (state environment.new) (counted_array functions.now.names functions.now.signatures.items
+        is_static of (declarator_of d.now) (part length.now) count (state environment.old)) }
 {
     let size = u64::from(count) * u64::from(of.size());
     if size > 0xffff_ffff {
@@ -288,7 +295,8 @@ fn array_object(
 ) -> Result<u32, TypeFault>
     requires free { find environment.old.blocks.here d.now.name ≡ None }
     requires scalar { is_scalar of ≡ true }
-    ensures { Turns (λ n. n) result (state environment.new) (array_object functions.now.names functions.now.signatures.items is_static of (declarator_of d.now) (part length.now) (state environment.old)) }
+    ensures { Turns (λ n. n) result (state environment.new) (array_object functions.now.names functions.now.signatures.items
+        is_static of (declarator_of d.now) (part length.now) (state environment.old)) }
 {
     let layout = &mut environment.layout;
     let count = measure(
@@ -327,7 +335,8 @@ pub fn object(
     d: &Declarator,
     environment: &mut Environment,
 ) -> Result<u32, TypeFault>
-    ensures { Turns (λ n. n) result (state environment.new) (type_object functions.now.names functions.now.signatures.items is_static spec (declarator_of d.now) (state environment.old)) }
+    ensures { Turns (λ n. n) result (state environment.new) (type_object functions.now.names functions.now.signatures.items
+        is_static spec (declarator_of d.now) (state environment.old)) }
 {
     let of = written(spec, &d.stars);
     check_form(of, d, &environment.blocks)?;

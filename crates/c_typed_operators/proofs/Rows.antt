@@ -18,10 +18,13 @@ use Rattle.c_types.specs.Answers.{Fault, bad, Gives}
 use Rattle.c_types.specs.Types.{is_integer, is_scalar, same_type}
 use Rattle.c_types.specs.Typed.{AnExpression, ArithmeticOf, CompareOf, BothOf, EitherOf, type_of, is_null}
 use Rattle.c_typed_operators.specs.Rules.{arithmetic, plus_at, plus, minus_at, minus, order_at, order, are_comparable_at, are_comparable, equality, both, either, binary_of}
-use Rattle.c_typed_operators.specs.Table.{IsInteger, IsPointer, ArePointers, IsArithmetic, IsSum, SumOfIntegers, PointerPlus, PlusPointer, IsDifference, DifferenceOfIntegers, PointerMinus, DifferenceOfPointers, IsOrdered, OrderOfIntegers, OrderOfPointers, AreComparable, TwoIntegers, TwoPointers, PointerAndNull, NullAndPointer, IsEquality, IsLogical, IsBinary, NoRow, Means, Refused, OnlyAnswer, OnlyFault}
+use Rattle.c_typed_operators.specs.Table.{IsInteger, IsPointer, ArePointers, IsArithmetic, IsSum, SumOfIntegers, PointerPlus, PlusPointer, IsDifference, DifferenceOfIntegers}
+use Rattle.c_typed_operators.specs.Table.{PointerMinus, DifferenceOfPointers, IsOrdered, OrderOfIntegers, OrderOfPointers, AreComparable, TwoIntegers, TwoPointers, PointerAndNull}
+use Rattle.c_typed_operators.specs.Table.{NullAndPointer, IsEquality, IsLogical, IsBinary, NoRow, Means, Refused, OnlyAnswer, OnlyFault}
 
 -- where no row fits there is the one fault
-pub means_row : {A : Type 0} (m : Result A Fault) (R : A → Type 0) (place : ℕ) (kind : TypeKind) → ((t : A) → m ≡ Ok t → R t) → ((t : A) → R t → m ≡ Ok t) → ((f : Fault) → m ≡ Err f → f ≡ record { place = place; kind = kind }) → Means m R (NoRow R place kind)
+pub means_row : {A : Type 0} (m : Result A Fault) (R : A → Type 0) (place : ℕ) (kind : TypeKind) → ((t : A) → m ≡ Ok t → R t) → ((t : A) → R t → m ≡ Ok t)
+    → ((f : Fault) → m ≡ Err f → f ≡ record { place = place; kind = kind }) → Means m R (NoRow R place kind)
 means_row (Ok t) R place kind found only one = record {
   found = found;
   only = only;
@@ -122,7 +125,8 @@ difference_one at x y f (Pointer b m) (Pointer c n) e = by_test_one (same_type (
 
 difference_means : (at : ℕ) (x y : AnExpression) → Means (minus at x y) (IsDifference x y) (NoRow (IsDifference x y) at BadType)
 unfolding minus
-difference_means at x y = means_row _ _ at BadType (λ t e. difference_found at x y t (type_of x) (type_of y) refl refl e) (λ t r. difference_only at x y t r) (λ f e. difference_one at x y f (type_of x) (type_of y) e)
+difference_means at x y = means_row _ _ at BadType (λ t e. difference_found at x y t (type_of x) (type_of y) refl refl e) (λ t r. difference_only at x y t r)
+    (λ f e. difference_one at x y f (type_of x) (type_of y) e)
 
 order_found : (a b : Rel) (at : ℕ) (x y t : AnExpression) (s u : CType) → type_of x ≡ s → type_of y ≡ u → order_at s u a b at x y ≡ Ok t → IsOrdered a b x y t
 order_found a b at x y t Void u p q e = absurd (cc)
@@ -148,13 +152,15 @@ order_one a b at x y f (Pointer i m) (Pointer c n) e = by_test_one (same_type (P
 
 order_means : (a b : Rel) (at : ℕ) (x y : AnExpression) → Means (order a b at x y) (IsOrdered a b x y) (NoRow (IsOrdered a b x y) at BadType)
 unfolding order
-order_means a b at x y = means_row _ _ at BadType (λ t e. order_found a b at x y t (type_of x) (type_of y) refl refl e) (λ t r. order_only a b at x y t r) (λ f e. order_one a b at x y f (type_of x) (type_of y) e)
+order_means a b at x y = means_row _ _ at BadType (λ t e. order_found a b at x y t (type_of x) (type_of y) refl refl e) (λ t r. order_only a b at x y t r)
+    (λ f e. order_one a b at x y f (type_of x) (type_of y) e)
 
 or_true : (a : Bool) → (a || true) ≡ true
 or_true true = refl
 or_true false = refl
 
-pointers_or_null : (x y : AnExpression) (b c : integers.Integer) (m n : ℕ) → type_of x ≡ Pointer b m → type_of y ≡ Pointer c n → (same : Bool) → same ≡ same_type (Pointer b m) (Pointer c n) → (same || is_null y) ≡ true → AreComparable x y
+pointers_or_null : (x y : AnExpression) (b c : integers.Integer) (m n : ℕ) → type_of x ≡ Pointer b m → type_of y ≡ Pointer c n → (same : Bool) → same
+    ≡ same_type (Pointer b m) (Pointer c n) → (same || is_null y) ≡ true → AreComparable x y
 pointers_or_null x y b c m n p q true is e = TwoPointers (pointers_of x y b c m n p q (sym is))
 pointers_or_null x y b c m n p q false is e = PointerAndNull (record { to = b; stars = m; is = p }) e
 
@@ -181,7 +187,8 @@ equality_means rel at x y = means_row _ _ at BadType
     (λ t r. rw (comparable_only x y r.operands, r.is) refl)
     (λ f e. by_test_one (are_comparable_at (type_of x) (type_of y) x y) (CompareOf rel x y) f at BadType e)
 
-logical_means : (whole : AnExpression) (at : ℕ) (x y : AnExpression) → Means (cond (is_scalar (type_of x) && is_scalar (type_of y)) (Ok whole) (bad at BadType)) (IsLogical whole x y) (NoRow (IsLogical whole x y) at BadType)
+logical_means : (whole : AnExpression) (at : ℕ) (x y : AnExpression) → Means (cond (is_scalar (type_of x) && is_scalar (type_of y)) (Ok whole) (bad at BadType)) (IsLogical whole x y)
+    (NoRow (IsLogical whole x y) at BadType)
 logical_means whole at x y = means_row _ _ at BadType
     (λ t e. let p = by_test (is_scalar (type_of x) && is_scalar (type_of y)) whole t at BadType e in let q = both_true (is_scalar (type_of x)) (is_scalar (type_of y)) (p.0) in record { left = q.0; right = q.1; is = p.1 })
     (λ t r. rw (r.left, r.right, r.is) refl)

@@ -24,7 +24,10 @@ use Rattle.c_types.specs.declared.typed.Direction.TheVariants as directions
 use Rattle.c_types.specs.declared.fault.TypeKind.TheVariants.{BadType, LeftOut}
 use Rattle.c_types.specs.Answers.{Fault, bad, ◌>>=◌}
 use Rattle.c_types.specs.Types.{is_integer, is_scalar, same_type, target, pointer_to, size_of}
-use Rattle.c_types.specs.Typed.{APlace, VariableAt, PointedBy, ElementBy, AnExpression, ReadOf, AddressOf, SizeofTerm, SizeOf, StepOf, UnaryOf, CastTo, ConvertTo, ArithmeticOf, CompareOf, BothOf, EitherOf, AdvanceOf, AdvanceByOf, RetreatOf, DistanceOf, ChoiceOf, AssignTo, ArithmeticAssignTo, AdvanceAssignTo, RetreatAssignTo, CommaOf, place_type, type_of, is_null, operand_size}
+use Rattle.c_types.specs.Typed.{APlace, VariableAt, PointedBy, ElementBy, AnExpression, ReadOf, AddressOf, SizeofTerm}
+use Rattle.c_types.specs.Typed.{SizeOf, StepOf, UnaryOf, CastTo, ConvertTo, ArithmeticOf, CompareOf, BothOf, EitherOf}
+use Rattle.c_types.specs.Typed.{AdvanceOf, AdvanceByOf, RetreatOf, DistanceOf, ChoiceOf, AssignTo, ArithmeticAssignTo}
+use Rattle.c_types.specs.Typed.{AdvanceAssignTo, RetreatAssignTo, CommaOf, place_type, type_of, is_null, operand_size}
 
 -- whether a value may be given to a place of this type: an integer to an integer type, a pointer to its own, the null constant to a pointer
 unfoldable pub fits : CType → AnExpression → Bool
@@ -50,7 +53,8 @@ plus at x y = plus_at (type_of x) (type_of y) at x y
 abbrev pub minus_at : CType → CType → ℕ → AnExpression → AnExpression → Result AnExpression Fault
 minus_at (Integer b) (Integer c) at x y = Ok (ArithmeticOf ariths.Subtract x y)
 minus_at (Pointer b m) (Integer c) at x y = Ok (RetreatOf (Pointer b m) x y)
-minus_at (Pointer b m) (Pointer c n) at x y = if same_type (Pointer b m) (Pointer c n) then Ok (DistanceOf (Pointer b m) x y) else bad at BadType
+minus_at (Pointer b m) (Pointer c n) at x y = if same_type (Pointer b m) (Pointer c n) then Ok (DistanceOf (Pointer b m) x y)
+    else bad at BadType
 minus_at _ _ at x y = bad at BadType
 
 unfoldable pub minus : ℕ → AnExpression → AnExpression → Result AnExpression Fault
@@ -59,7 +63,8 @@ minus at x y = minus_at (type_of x) (type_of y) at x y
 -- two integers; two pointers of one type, without sign
 abbrev pub order_at : CType → CType → Rel → Rel → ℕ → AnExpression → AnExpression → Result AnExpression Fault
 order_at (Integer b) (Integer c) signed unsigned at x y = Ok (CompareOf signed x y)
-order_at (Pointer b m) (Pointer c n) signed unsigned at x y = if same_type (Pointer b m) (Pointer c n) then Ok (CompareOf unsigned x y) else bad at BadType
+order_at (Pointer b m) (Pointer c n) signed unsigned at x y = if same_type (Pointer b m) (Pointer c n) then Ok
+    (CompareOf unsigned x y) else bad at BadType
 order_at _ _ signed unsigned at x y = bad at BadType
 
 unfoldable pub order : Rel → Rel → ℕ → AnExpression → AnExpression → Result AnExpression Fault

@@ -14,7 +14,8 @@ use Rattle.c_types.specs.declared.fault.TypeFault.{TypeFault}
 use Rattle.c_types.specs.declared.fault.TypeFault.TheVariants as faults
 use Rattle.c_types.specs.Answers.{Fault}
 use Rattle.c_types.specs.Types.{same_type}
-use Rattle.c_types.specs.Typed.{AnExpression, ArithmeticOf, CompareOf, BothOf, EitherOf, AdvanceOf, AdvanceByOf, RetreatOf, DistanceOf, type_of, is_null}
+use Rattle.c_types.specs.Typed.{AnExpression, ArithmeticOf, CompareOf, BothOf, EitherOf, AdvanceOf, AdvanceByOf}
+use Rattle.c_types.specs.Typed.{RetreatOf, DistanceOf, type_of, is_null}
 use Rattle.c_types.specs.Types.{is_scalar}
 
 -- an operand of an integer type

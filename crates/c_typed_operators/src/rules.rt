@@ -2,7 +2,10 @@
 ghost use Rattle.std.specs.Prelude.{◌≡◌};
 ghost use Rattle.c_types.specs.Answers.{Gives};
 ghost use Rattle.c_types.specs.Typed.{term, place_of};
-ghost use Rattle.c_typed_operators.specs.Rules.{arithmetic, plus, minus, order, are_comparable, equality, both, either, binary_of, unary, negation, indirection, element, index_of, address_of, address, prefix_of, direction, step, cast_of, sizeof_of, sizeof_type_of, arms, choice_of, comma_of, given, condition_of, fits};
+ghost use Rattle.c_typed_operators.specs.Rules.{arithmetic, plus, minus, order, are_comparable, equality, both, either, binary_of};
+ghost use Rattle.c_typed_operators.specs.Rules.{unary, negation, indirection, element, index_of, address_of, address, prefix_of};
+ghost use Rattle.c_typed_operators.specs.Rules.{direction, step, cast_of, sizeof_of, sizeof_type_of, arms, choice_of, comma_of};
+ghost use Rattle.c_typed_operators.specs.Rules.{given, condition_of, fits};
 
 use c_phrases::operator::{BinaryOperator, PrefixOperator, StepOperator};
 use c_types::fault::bad_type;

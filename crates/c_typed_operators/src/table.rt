@@ -10,5 +10,6 @@ ghost use Rattle.c_typed_operators.specs.Table.{IsBinary, Means, NoRow};
 /// the answer exactly where no row fits.
 #[tactic(auto, using(crate::proofs::Rows::binary_means))]
 pub fn binary_law()
-    ensures { (op : BinaryOperator) (at : ℕ) (x y : AnExpression) → Means (binary_of op at x y) (IsBinary op x y) (NoRow (IsBinary op x y) at BadType) }
+    ensures { (op : BinaryOperator) (at : ℕ) (x y : AnExpression) → Means (binary_of op at x y) (IsBinary op x y)
+        (NoRow (IsBinary op x y) at BadType) }
 {}

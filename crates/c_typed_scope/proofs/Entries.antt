@@ -15,7 +15,8 @@ not_here : (b : Bool) (x : Entry) (o : Option Entry) → cond b (Some x) o ≡ N
 not_here true x o e = absurd (cc)
 not_here false x o e = (refl, e)
 
-pub added : (k : Vec ℕ) (v : Entry) (es : List (Vec ℕ × Entry)) → find (named_entries es) k.items ≡ None → named_entries (insert_entry (λ (a b : Vec ℕ). bytes_eq a.items b.items) es k v) ≡ named_entries es ++ (k.items, v) ∷ []
+pub added : (k : Vec ℕ) (v : Entry) (es : List (Vec ℕ × Entry)) → find (named_entries es) k.items ≡ None → named_entries (insert_entry (λ (a b : Vec ℕ). bytes_eq a.items b.items) es k v)
+    ≡ named_entries es ++ (k.items, v) ∷ []
 added k v [] none = refl
 added k v (e ∷ es) none =
     let p = not_here (bytes_eq k.items e.0.items) e.1 (find (named_entries es) k.items) none in

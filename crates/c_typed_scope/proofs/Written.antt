@@ -31,7 +31,8 @@ pub low_bytes_step : (size i v : ℕ) → i < size → low_bytes (size - i) v �
 low_bytes_step size i v lt = let e : size - i ≡ (size - (i + 1)) + 1 = omega arith in rw e (low_bytes_more (size - (i + 1)) v)
 
 -- one byte more is written
-pub written_more : (old now : List ℕ) (size i v rest : ℕ) → i < size → now ++ low_bytes (size - i) rest ≡ old ++ low_bytes size v → (now ++ (rest % 256) ∷ []) ++ low_bytes (size - (i + 1)) (rest / 256) ≡ old ++ low_bytes size v
+pub written_more : (old now : List ℕ) (size i v rest : ℕ) → i < size → now ++ low_bytes (size - i) rest ≡ old ++ low_bytes size v → (now ++ (rest % 256) ∷ [])
+    ++ low_bytes (size - (i + 1)) (rest / 256) ≡ old ++ low_bytes size v
 written_more old now size i v rest lt far = append_assoc now ((rest % 256) ∷ []) (low_bytes (size - (i + 1)) (rest / 256)) ∙ ap (λ l. now ++ l) (sym (low_bytes_step size i rest lt)) ∙ far
 
 -- all bytes are written
@@ -42,7 +43,8 @@ pub near : (end n a b c d : ℕ) → a ≡ end → b ≡ n → c ≡ n → d ≡
 near end n a b c d p q r s one four = rw (p, q, r, s) (omega (arith, div-mul-le_self (end + (n - 1)) n))
 
 -- an object that holds what was written
-pub held : (n : ℕ) (f : Filled) (os : List Object) (d : Object) (b : List ℕ) (l : List Link) → n < length os → d ≡ get_or os n d → b ≡ f.bytes → l ≡ f.links → set os n (record { label = d.label; address = d.address; size = d.size; align = d.align; bytes = b; links = l }) ≡ with_contents n f os
+pub held : (n : ℕ) (f : Filled) (os : List Object) (d : Object) (b : List ℕ) (l : List Link) → n < length os → d ≡ get_or os n d → b ≡ f.bytes → l ≡ f.links
+    → set os n (record { label = d.label; address = d.address; size = d.size; align = d.align; bytes = b; links = l }) ≡ with_contents n f os
 held n f os d b l lt is eb el = rw (eb, el) (sym (contents_set n f os d lt ∙ ap (λ o. set os n (holding f o)) (sym is)))
 
 abbrev laid_in : Area → Result (ℕ × Area) Fault → Area
@@ -62,7 +64,9 @@ placed_literals : (at : ℕ) (label bytes : List ℕ) (align size n : ℕ) (a b 
 unfolding placed
 placed_literals at label bytes align size n a b e = sym (ap (λ (x : Area). x.literals) (kept_by _ at _ n (with_object label align size bytes a) b e))
 
-pub literal_laid : (at : ℕ) (bytes label closed : List ℕ) (size n : ℕ) (a b : Area) → a.measuring ≡ false → label ≡ 83 ∷ decimal a.literals → closed ≡ bytes ++ 0 ∷ [] → size ≡ length bytes + 1 → placed at label 1 size closed a ≡ Ok (n, b) → literal at bytes a ≡ Ok (LiteralAt n size, record { objects = b.objects; end = b.end; literals = a.literals + 1; statics = b.statics; measuring = b.measuring })
+pub literal_laid : (at : ℕ) (bytes label closed : List ℕ) (size n : ℕ) (a b : Area) → a.measuring ≡ false → label ≡ 83 ∷ decimal a.literals → closed ≡ bytes ++ 0 ∷ [] → size ≡ length bytes
+    + 1 → placed at label 1 size closed a ≡ Ok (n, b) → literal at bytes a
+    ≡ Ok (LiteralAt n size, record { objects = b.objects; end = b.end; literals = a.literals + 1; statics = b.statics; measuring = b.measuring })
 unfolding literal
 literal_laid at bytes label closed size n a b off named ended sized laid =
     let same : b.literals ≡ a.literals = placed_literals at label closed 1 size n a b laid in

@@ -1,5 +1,6 @@
 -- Constants that are wanted: lengths, and the bytes and links of what an object holds at first.
-use Rattle.std.specs.Prelude.{ℕ, zero, suc, ◌+◌, ◌-◌, ◌/◌, ◌%◌, ◌^◌, nat_lt, Bool, ◌&&◌, List, [], ◌∷◌, ◌++◌, length, slice_get, Option, Some, None, Result, Ok, if◌then◌else◌}
+use Rattle.std.specs.Prelude.{ℕ, zero, suc, ◌+◌, ◌-◌, ◌/◌, ◌%◌, ◌^◌, nat_lt, Bool, ◌&&◌, List, [], ◌∷◌, ◌++◌, length}
+use Rattle.std.specs.Prelude.{slice_get, Option, Some, None, Result, Ok, if◌then◌else◌}
 use Rattle.std.proofs.Math.ListN.{replicate}
 use Rattle.tree_core.specs.declared.program.Object.{Object}
 use Rattle.tree_core.specs.declared.program.Link.{Link}
@@ -59,7 +60,11 @@ abbrev pub address_at : List Object → ℕ → ℕ
 address_at objects n = address_in (slice_get objects n)
 
 abbrev pub with_link : List Object → ℕ → Filled → Filled
-with_link objects n f = record { bytes = f.bytes ++ low_bytes 4 (address_at objects n); links = f.links ++ record { at = length f.bytes; object = n } ∷ [] }
+with_link objects n f = record {
+  bytes = f.bytes ++ low_bytes 4 (address_at objects n);
+  links = f.links
+      ++ record { at = length f.bytes; object = n } ∷ [];
+}
 
 -- missing elements are 0
 abbrev pub filled_to : ℕ → Filled → Filled
@@ -76,14 +81,22 @@ with_contents zero f (o ∷ os) = holding f o ∷ os
 with_contents (suc n) f (o ∷ os) = o ∷ with_contents n f os
 
 unfoldable pub filled : ℕ → Filled → Area → Area
-filled n f a = record { objects = with_contents n f a.objects; end = a.end; literals = a.literals; statics = a.statics; measuring = a.measuring }
+filled n f a = record {
+  objects = with_contents n f a.objects;
+  end = a.end;
+  literals = a.literals;
+  statics = a.statics;
+  measuring = a.measuring;
+}
 
 -- an initialiser of an integer type is a constant
 abbrev pub integer_element : Integer → ℕ → AnExpression → Filled → Result Filled Fault
-integer_element b place x f = wanted (constant_of x) place >>= λ v. if is_integer (type_of x) then Ok (with_value (integer_size b) v f) else bad place BadType
+integer_element b place x f = wanted (constant_of x) place >>= λ v. if is_integer (type_of x) then Ok
+    (with_value (integer_size b) v f) else bad place BadType
 
 abbrev pub linked_element : CType → ℕ → AnExpression → List Object → Filled → Result Filled Fault
-linked_element t place x objects f = wanted (linked x) place >>= λ n. if same_type t (type_of x) then Ok (with_link objects n f) else bad place BadType
+linked_element t place x objects f = wanted (linked x) place >>= λ n. if same_type t (type_of x) then Ok (with_link objects n f)
+    else bad place BadType
 
 -- an initialiser of a pointer type is the null constant or an object's address
 abbrev pub pointer_element : CType → ℕ → AnExpression → List Object → Filled → Result Filled Fault

@@ -7,7 +7,8 @@ use Rattle.c_types.specs.declared.fault.TypeKind.TheVariants.{DataFull}
 use Rattle.c_types.specs.Answers.{Fault, bad, ◌>>=◌}
 use Rattle.c_types.specs.Typed.{AnExpression, LiteralAt}
 
--- The objects so far, the end of the last, and how many literals and static locals have one. While a length is measured, literals take no room.
+-- The objects so far, the end of the last, and how many literals and static locals have one. While a length is
+-- measured, literals take no room.
 pub record Area : Type 0 where
   pub objects : List Object
   pub end : ℕ
@@ -23,7 +24,14 @@ abbrev pub added : Object → ℕ → Area → Area
 added o end a = record { objects = a.objects ++ o ∷ []; end = end; literals = a.literals; statics = a.statics; measuring = a.measuring }
 
 abbrev pub with_object : List ℕ → ℕ → ℕ → List ℕ → Area → Area
-with_object label align size bytes a = added (record { label = label; address = aligned a.end align; size = size; align = align; bytes = bytes; links = [] }) (aligned a.end align + size) a
+with_object label align size bytes a = added (record {
+  label = label;
+  address = aligned a.end align;
+  size = size;
+  align = align;
+  bytes = bytes;
+  links = [];
+}) (aligned a.end align + size) a
 
 -- An object behind the others, whose end lies at most 1,048,576 bytes past address 65,536; and its number.
 unfoldable pub placed : ℕ → List ℕ → ℕ → ℕ → List ℕ → Area → Result (ℕ × Area) Fault
@@ -37,4 +45,5 @@ one_more_literal a = record { objects = a.objects; end = a.end; literals = a.lit
 unfoldable pub literal : ℕ → List ℕ → Area → Result (AnExpression × Area) Fault
 literal at bytes a =
     if a.measuring then Ok (LiteralAt 0 (length bytes + 1), a)
-    else placed at (83 ∷ decimal a.literals) 1 (length bytes + 1) (bytes ++ 0 ∷ []) a >>= λ r. Ok (LiteralAt r.0 (length bytes + 1), one_more_literal r.1)
+    else placed at (83 ∷ decimal a.literals) 1 (length bytes + 1) (bytes ++ 0 ∷ []) a >>= λ r.
+    Ok (LiteralAt r.0 (length bytes + 1), one_more_literal r.1)

@@ -4,7 +4,8 @@ ghost use Rattle.c_types.specs.Typed.{term};
 ghost use Rattle.c_types.specs.Answers.{Gives};
 ghost use Rattle.c_typed_scope.specs.Answers.{OnlyTurns};
 ghost use Rattle.c_typed_scope.specs.Views.{area, filled_so_far};
-ghost use Rattle.c_typed_scope.specs.Contents.{wanted, length_of, linked, linked_place, low_bytes, with_value, with_link, address_at, element_of, filled, filled_to, with_contents};
+ghost use Rattle.c_typed_scope.specs.Contents.{wanted, length_of, linked, linked_place, low_bytes, with_value, with_link};
+ghost use Rattle.c_typed_scope.specs.Contents.{address_at, element_of, filled, filled_to, with_contents};
 
 use crate::data::Data;
 use c_types::constant::constant;

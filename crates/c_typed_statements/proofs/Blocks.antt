@@ -61,7 +61,8 @@ joined g b q = Ok (g b q.0, q.1)
 abbrev renamed : {A B : Type 0} → (A → B) → A × State → Result (B × State) Fault
 renamed f r = Ok (f r.0, r.1)
 
-after_locals : {A B : Type 0} (m : Result (A × State) Fault) (f : A → B) (k : State → Result (SomeActions × State) Fault) (g : B → SomeActions → SomeActions) → (m >>= λ r. k r.1 >>= joined g (f r.0)) ≡ ((m >>= renamed f) >>= λ r. k r.1 >>= joined g r.0)
+after_locals : {A B : Type 0} (m : Result (A × State) Fault) (f : A → B) (k : State → Result (SomeActions × State) Fault) (g : B → SomeActions → SomeActions)
+    → (m >>= λ r. k r.1 >>= joined g (f r.0)) ≡ ((m >>= renamed f) >>= λ r. k r.1 >>= joined g r.0)
 after_locals (Ok r) f k g = refl
 after_locals (Err e) f k g = refl
 
@@ -105,13 +106,15 @@ module _ (names : List (List ℕ × Entry)) (signatures : List Signature) (gives
   pub begins : (is : List Item) (st : State) → SoFar is st [] is st
   begins is st = record { typed = onto_none (all is st) }
 
-  pub steps : (is : List Item) (old : State) (done : List Action) (n : ℕ) (i d : Item) (a b : State) (x : Action) (more : List Action) → n < length is → i ≡ get_or is n d → more ≡ done ++ x ∷ [] → one i a ≡ Ok (act x, b) → SoFar is old done (drop n is) a → SoFar is old more (drop (n + 1) is) b
+  pub steps : (is : List Item) (old : State) (done : List Action) (n : ℕ) (i d : Item) (a b : State) (x : Action) (more : List Action) → n < length is → i ≡ get_or is n d → more ≡ done
+      ++ x ∷ [] → one i a ≡ Ok (act x, b) → SoFar is old done (drop n is) a → SoFar is old more (drop (n + 1) is) b
   steps is old done n i d a b x more lt at pushed typed far = record {
     typed = far.typed ∙ (rw (drop_more is n d lt, ← at, first_and_rest i (drop (n + 1) is) a, typed, pushed) (sym (onto_more done x (all (drop (n + 1) is) b))));
   }
 
   -- one of them has a fault
-  pub fails : (is : List Item) (old : State) (done : List Action) (n : ℕ) (i d : Item) (a : State) (f : TypeFault) → n < length is → i ≡ get_or is n d → Fails f (one i a) → SoFar is old done (drop n is) a → Fails f (all is old)
+  pub fails : (is : List Item) (old : State) (done : List Action) (n : ℕ) (i d : Item) (a : State) (f : TypeFault) → n < length is → i ≡ get_or is n d → Fails f (one i a)
+      → SoFar is old done (drop n is) a → Fails f (all is old)
   fails is old done n i d a NoMemory lt at failed far = tt
   fails is old done n i d a (At place kind) lt at failed far = far.typed ∙ rw (drop_more is n d lt, ← at, first_and_rest i (drop (n + 1) is) a, failed) refl
 
@@ -119,11 +122,13 @@ module _ (names : List (List ℕ × Entry)) (signatures : List Signature) (gives
   ends_at is old done n st le far = far.typed ∙ rw (drop_all n is le) (ap (λ a. Ok (a, st)) (onto_end done))
 
   -- a block and its items as code holds them
-  pub block_fails : (s : Statement) (row : Vec Item) (list : List Item) (st : State) (f : TypeFault) → s ≡ stmts.Block row → list ≡ row.items → Fails f (scoped (all list (entered st))) → Fails f (type_statement names signatures gives looping (statement_of s) st)
+  pub block_fails : (s : Statement) (row : Vec Item) (list : List Item) (st : State) (f : TypeFault) → s ≡ stmts.Block row → list ≡ row.items → Fails f (scoped (all list (entered st)))
+      → Fails f (type_statement names signatures gives looping (statement_of s) st)
   block_fails s row list st NoMemory is same failed = tt
   block_fails s row list st (At place kind) is same failed = rw (block_is s row list is same) (unblocked _ place kind failed)
 
-  pub block_ends : (s : Statement) (row : Vec Item) (list : List Item) (st after : State) (done : Vec Action) → s ≡ stmts.Block row → list ≡ row.items → scoped (all list (entered st)) ≡ Ok (acts done.items, after) → type_statement names signatures gives looping (statement_of s) st ≡ Ok (act (actions.Block done), after)
+  pub block_ends : (s : Statement) (row : Vec Item) (list : List Item) (st after : State) (done : Vec Action) → s ≡ stmts.Block row → list ≡ row.items → scoped (all list (entered st))
+      ≡ Ok (acts done.items, after) → type_statement names signatures gives looping (statement_of s) st ≡ Ok (act (actions.Block done), after)
   block_ends s row list st after done is same typed = rw (block_is s row list is same, act_block done) (blocked _ _ _ typed)
 
   pub empty_ends : (s : Statement) (v : Vec Action) (st : State) → s ≡ stmts.Empty → v.items ≡ [] → type_statement names signatures gives looping (statement_of s) st ≡ Ok (act (actions.Block v), st)

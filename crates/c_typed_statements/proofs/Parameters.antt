@@ -14,24 +14,29 @@ use Rattle.c_typed_definition.specs.Declarations.{State}
 use Rattle.c_typed_definition.specs.Texts.{parameter_type, same_types, type_parameter, type_parameters}
 
 module _ (names : List (List ℕ × Entry)) (signatures : List Signature) where
-  pub parameter_step : (defines : Bool) (at : ℕ) (ps : List Param) (i : ℕ) (p d : Param) (s next : State) → i < length ps → p ≡ get_or ps i d → type_parameter names signatures defines at (param_of p) i s ≡ Ok next → type_parameters names signatures defines at (param_list (drop i ps)) i s ≡ type_parameters names signatures defines at (param_list (drop (i + 1) ps)) (i + 1) next
+  pub parameter_step : (defines : Bool) (at : ℕ) (ps : List Param) (i : ℕ) (p d : Param) (s next : State) → i < length ps → p ≡ get_or ps i d
+      → type_parameter names signatures defines at (param_of p) i s ≡ Ok next → type_parameters names signatures defines at (param_list (drop i ps)) i s
+      ≡ type_parameters names signatures defines at (param_list (drop (i + 1) ps)) (i + 1) next
   parameter_step defines at ps i p d s next lt is typed = rw (drop_more ps i d lt, ← is, typed) refl
 
-  pub parameter_fails : (defines : Bool) (at : ℕ) (ps : List Param) (i : ℕ) (p d : Param) (s : State) (f : TypeFault) → i < length ps → p ≡ get_or ps i d → Fails f (type_parameter names signatures defines at (param_of p) i s) → Fails f (type_parameters names signatures defines at (param_list (drop i ps)) i s)
+  pub parameter_fails : (defines : Bool) (at : ℕ) (ps : List Param) (i : ℕ) (p d : Param) (s : State) (f : TypeFault) → i < length ps → p ≡ get_or ps i d
+      → Fails f (type_parameter names signatures defines at (param_of p) i s) → Fails f (type_parameters names signatures defines at (param_list (drop i ps)) i s)
   parameter_fails defines at ps i p d s NoMemory lt is failed = tt
   parameter_fails defines at ps i p d s (At place kind) lt is failed = rw (drop_more ps i d lt, ← is, failed) refl
 
   pub parameters_end : (defines : Bool) (at : ℕ) (ps : List Param) (i : ℕ) (s : State) → length ps ≤ i → type_parameters names signatures defines at (param_list (drop i ps)) i s ≡ Ok s
   parameters_end defines at ps i s le = rw (drop_all i ps le) refl
 
-pub types_step : (done more : List CType) (ps : List Param) (i : ℕ) (p d : Param) → i < length ps → p ≡ get_or ps i d → more ≡ done ++ parameter_type (param_of p) ∷ [] → done ++ map parameter_type (param_list (drop i ps)) ≡ more ++ map parameter_type (param_list (drop (i + 1) ps))
+pub types_step : (done more : List CType) (ps : List Param) (i : ℕ) (p d : Param) → i < length ps → p ≡ get_or ps i d → more ≡ done ++ parameter_type (param_of p) ∷ [] → done
+    ++ map parameter_type (param_list (drop i ps)) ≡ more ++ map parameter_type (param_list (drop (i + 1) ps))
 types_step done more ps i p d lt is pushed = rw (drop_more ps i d lt, ← is, pushed, append_assoc done (parameter_type (param_of p) ∷ []) (map parameter_type (param_list (drop (i + 1) ps)))) refl
 
 pub types_end : (done : List CType) (ps : List Param) (i : ℕ) → length ps ≤ i → done ++ map parameter_type (param_list (drop i ps)) ≡ done
 types_end done ps i le = rw (drop_all i ps le) (append-nil done)
 
 -- two lists of types, one by one
-pub same_step : (xs ys : List CType) (i : ℕ) (x y d : CType) → i < length xs → i < length ys → x ≡ get_or xs i d → y ≡ get_or ys i d → same_type x y ≡ true → same_types (drop i xs) (drop i ys) ≡ same_types (drop (i + 1) xs) (drop (i + 1) ys)
+pub same_step : (xs ys : List CType) (i : ℕ) (x y d : CType) → i < length xs → i < length ys → x ≡ get_or xs i d → y ≡ get_or ys i d → same_type x y ≡ true
+    → same_types (drop i xs) (drop i ys) ≡ same_types (drop (i + 1) xs) (drop (i + 1) ys)
 same_step xs ys i x y d lx ly isx isy same = rw (drop_more xs i d lx, drop_more ys i d ly, ← isx, ← isy, same) refl
 
 pub same_not : (xs ys : List CType) (i : ℕ) (x y d : CType) → i < length xs → i < length ys → x ≡ get_or xs i d → y ≡ get_or ys i d → same_type x y ≡ false → same_types (drop i xs) (drop i ys) ≡ false

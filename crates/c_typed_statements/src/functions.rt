@@ -10,7 +10,9 @@ ghost use Rattle.c_typed_scope.specs.Views.{scope, area};
 ghost use Rattle.c_typed_expressions.specs.Phrases.{brackets_in};
 ghost use Rattle.c_typed_expressions.specs.Expressions.{integer_of};
 ghost use Rattle.c_typed_objects.specs.Views.{state};
-ghost use Rattle.c_typed_definition.specs.Texts.{body_of, earlier_by, is_below, head_of, word_of, parameter_form, parameter_length, type_parameter, type_parameters, agrees, with_declared, entered_function, left_function, type_body, type_introduced, type_function};
+ghost use Rattle.c_typed_definition.specs.Texts.{body_of, earlier_by, is_below, head_of, word_of, parameter_form, parameter_length};
+ghost use Rattle.c_typed_definition.specs.Texts.{type_parameter, type_parameters, agrees, with_declared, entered_function};
+ghost use Rattle.c_typed_definition.specs.Texts.{left_function, type_body, type_introduced, type_function};
 ghost use Rattle.c_typed_statements.specs.Views.{text, function_of};
 
 use crate::signatures::{parameter_type, parameters, same_signature, signature};
@@ -119,7 +121,8 @@ fn check_head(
     f: &Function,
     defined: usize,
 ) -> Result<(), TypeFault>
-    ensures { Gives (λ u. u) result (head_of defines (is_below (find functions.now.names f.now.name) (defined + 2)) (integer_of spec) f.now.stars f.now.at) }
+    ensures { Gives (λ u. u) result (head_of defines (is_below (find functions.now.names f.now.name) (defined + 2))
+        (integer_of spec) f.now.stars f.now.at) }
 {
     if defines && is_defined(functions, defined, &f.name) {
         return refuse(f.at, TypeKind::Twice);
@@ -156,7 +159,8 @@ fn measure_parameter(
     length: &Option<Length>,
     layout: &mut Data,
 ) -> Result<(), TypeFault>
-    ensures { OnlyTurns result (area layout.new) (parameter_length functions.now.names functions.now.signatures.items (brackets_in (length_of length.now)) (scope blocks.now) (area layout.old)) }
+    ensures { OnlyTurns result (area layout.new) (parameter_length functions.now.names functions.now.signatures.items
+        (brackets_in (length_of length.now)) (scope blocks.now) (area layout.old)) }
 {
     match length {
         None => Ok(()),
@@ -180,7 +184,8 @@ fn declare_parameter(
     p: &Param,
     environment: &mut Environment,
 ) -> Result<(), TypeFault>
-    ensures { OnlyTurns result (state environment.new) (type_parameter functions.now.names functions.now.signatures.items defines at (param_of p.now) number (state environment.old)) }
+    ensures { OnlyTurns result (state environment.new) (type_parameter functions.now.names functions.now.signatures.items
+        defines at (param_of p.now) number (state environment.old)) }
 {
     check_parameter(defines, at, p, &environment.blocks)?;
     measure_parameter(
@@ -213,7 +218,8 @@ fn declare_parameters(
     params: &[Param],
     environment: &mut Environment,
 ) -> Result<(), TypeFault>
-    ensures { OnlyTurns result (state environment.new) (type_parameters functions.now.names functions.now.signatures.items defines at (param_list params.now) 0 (state environment.old)) }
+    ensures { OnlyTurns result (state environment.new) (type_parameters functions.now.names functions.now.signatures.items
+        defines at (param_list params.now) 0 (state environment.old)) }
 {
     for number in 0..params.len() {
         declare_parameter(
@@ -334,7 +340,8 @@ fn define(
     row: &[Item],
     builder: &mut Builder,
 ) -> Result<(), TypeFault>
-    ensures { OnlyTurns result (text builder.new) (type_body functions.now.names functions.now.signatures.items spec (function_of f.now) (Some (items_of row.now)) (state builder.old.environment) (text builder.old)) }
+    ensures { OnlyTurns result (text builder.new) (type_body functions.now.names functions.now.signatures.items spec
+        (function_of f.now) (Some (items_of row.now)) (state builder.old.environment) (text builder.old)) }
 {
     let result = written(spec, &f.stars);
     let body = items(
@@ -362,7 +369,8 @@ fn introduced(
     f: &Function,
     builder: &mut Builder,
 ) -> Result<(), TypeFault>
-    ensures { OnlyTurns result (text builder.new) (type_introduced functions.now.names functions.now.signatures.items earlier spec (function_of f.now) (text builder.old)) }
+    ensures { OnlyTurns result (text builder.new) (type_introduced functions.now.names functions.now.signatures.items earlier
+        spec (function_of f.now) (text builder.old)) }
 {
     let environment = &mut builder.environment;
     open_function(alloc, environment)?;
@@ -395,7 +403,8 @@ pub fn function(
     f: &Function,
     builder: &mut Builder,
 ) -> Result<(), TypeFault>
-    ensures { OnlyTurns result (text builder.new) (type_function functions.now.names functions.now.signatures.items spec (function_of f.now) (text builder.old)) }
+    ensures { OnlyTurns result (text builder.new) (type_function functions.now.names functions.now.signatures.items spec
+        (function_of f.now) (text builder.old)) }
 {
     let before = earlier(&builder.environment.blocks.here, &f.name, f.at)?;
     check_head(functions, defines(f), spec, f, builder.routines.len())?;

@@ -9,7 +9,8 @@ ghost use Rattle.c_typed_objects.specs.Views.{state};
 ghost use Rattle.c_program.specs.Statements.{act, acts, maybe_term};
 ghost use Rattle.c_typed_definition.specs.Declarations.{State};
 ghost use Rattle.c_typed_statements.specs.Views.{scoped};
-ghost use Rattle.c_typed_definition.specs.Statements.{entered, jump, type_full, type_condition, type_maybe, type_maybe_condition, type_return, type_statement, type_item, type_items};
+ghost use Rattle.c_typed_definition.specs.Statements.{entered, jump, type_full, type_condition, type_maybe, type_maybe_condition};
+ghost use Rattle.c_typed_definition.specs.Statements.{type_return, type_statement, type_item, type_items};
 
 use c_phrases::tree::{Expr, Item, Statement};
 use c_program::Action;
@@ -27,7 +28,8 @@ fn full(
     e: &Expr,
     environment: &mut Environment,
 ) -> Result<Expression, TypeFault>
-    ensures { Turns (λ t. term t) result (state environment.new) (type_full functions.now.names functions.now.signatures.items (exp e.now) (state environment.old)) }
+    ensures { Turns (λ t. term t) result (state environment.new) (type_full functions.now.names functions.now.signatures.items
+        (exp e.now) (state environment.old)) }
 {
     expression(
         alloc,
@@ -45,7 +47,8 @@ fn tested(
     e: &Expr,
     environment: &mut Environment,
 ) -> Result<Expression, TypeFault>
-    ensures { Turns (λ t. term t) result (state environment.new) (type_condition functions.now.names functions.now.signatures.items (exp e.now) (state environment.old)) }
+    ensures { Turns (λ t. term t) result (state environment.new) (type_condition functions.now.names
+        functions.now.signatures.items (exp e.now) (state environment.old)) }
 {
     let x = full(alloc, functions, e, environment)?;
     condition(first(e), x)
@@ -57,7 +60,8 @@ fn maybe_full(
     e: &Option<Expr>,
     environment: &mut Environment,
 ) -> Result<Option<Expression>, TypeFault>
-    ensures { Turns (λ t. maybe_term t) result (state environment.new) (type_maybe functions.now.names functions.now.signatures.items (part e.now) (state environment.old)) }
+    ensures { Turns (λ t. maybe_term t) result (state environment.new) (type_maybe functions.now.names
+        functions.now.signatures.items (part e.now) (state environment.old)) }
 {
     match e {
         None => Ok(None),
@@ -71,7 +75,8 @@ fn maybe_tested(
     e: &Option<Expr>,
     environment: &mut Environment,
 ) -> Result<Option<Expression>, TypeFault>
-    ensures { Turns (λ t. maybe_term t) result (state environment.new) (type_maybe_condition functions.now.names functions.now.signatures.items (part e.now) (state environment.old)) }
+    ensures { Turns (λ t. maybe_term t) result (state environment.new) (type_maybe_condition functions.now.names
+        functions.now.signatures.items (part e.now) (state environment.old)) }
 {
     match e {
         None => Ok(None),
@@ -86,7 +91,8 @@ fn returned(
     e: &Option<Expr>,
     environment: &mut Environment,
 ) -> Result<Action, TypeFault>
-    ensures { Turns (λ a. act a) result (state environment.new) (type_return functions.now.names functions.now.signatures.items gives (part e.now) (state environment.old)) }
+    ensures { Turns (λ a. act a) result (state environment.new) (type_return functions.now.names functions.now.signatures.items
+        gives (part e.now) (state environment.old)) }
 {
     match e {
         None => Ok(Action::Return(None)),
@@ -121,7 +127,8 @@ pub fn statement(
     s: &Statement,
     environment: &mut Environment,
 ) -> Result<Action, TypeFault>
-    ensures { Turns (λ a. act a) result (state environment.new) (type_statement functions.now.names functions.now.signatures.items gives looping (statement_of s.now) (state environment.old)) }
+    ensures { Turns (λ a. act a) result (state environment.new) (type_statement functions.now.names
+        functions.now.signatures.items gives looping (statement_of s.now) (state environment.old)) }
 {
     match s {
         Statement::Block(row) => {
@@ -197,7 +204,9 @@ fn block(
     row: &[Item],
     environment: &mut Environment,
 ) -> Result<Vec<Action>, TypeFault>
-    ensures { Turns (λ v. acts v.items) result (state environment.new) (scoped (type_items functions.now.names functions.now.signatures.items gives looping (items_of row.now) (entered (state environment.old)))) }
+    ensures { Turns (λ v. acts v.items) result (state environment.new) (scoped
+        (type_items functions.now.names functions.now.signatures.items gives looping (items_of row.now)
+        (entered (state environment.old)))) }
 {
     environment.blocks.enter(alloc)?;
     let actions = items(alloc, functions, gives, looping, row, environment)?;
@@ -214,7 +223,8 @@ fn one_item(
     i: &Item,
     environment: &mut Environment,
 ) -> Result<Action, TypeFault>
-    ensures { Turns (λ a. act a) result (state environment.new) (type_item functions.now.names functions.now.signatures.items gives looping (item_onto i.now no_items) (state environment.old)) }
+    ensures { Turns (λ a. act a) result (state environment.new) (type_item functions.now.names functions.now.signatures.items
+        gives looping (item_onto i.now no_items) (state environment.old)) }
 {
     match i {
         Item::Local(l) => Ok(Action::Declare(locals(
@@ -239,7 +249,8 @@ pub fn items(
     row: &[Item],
     environment: &mut Environment,
 ) -> Result<Vec<Action>, TypeFault>
-    ensures { Turns (λ v. acts v.items) result (state environment.new) (type_items functions.now.names functions.now.signatures.items gives looping (items_of row.now) (state environment.old)) }
+    ensures { Turns (λ v. acts v.items) result (state environment.new) (type_items functions.now.names
+        functions.now.signatures.items gives looping (items_of row.now) (state environment.old)) }
 {
     let mut actions = Vec::new(alloc);
     for i in row {

@@ -3,10 +3,13 @@ use Rattle.std.specs.Prelude.{ℕ, List, [], ◌∷◌, Option, Some, None}
 use Rattle.c_tokens.specs.declared.token.Token.{Token}
 use Rattle.c_tokens.specs.declared.token.Token.TheVariants as token
 use Rattle.c_phrases.specs.declared.tree.Named.{Named}
-use Rattle.c_phrases.specs.Phrases.{AnExp, name, number, str, paren, call, index, step_after, step_before, prefix, sizeof_exp, sizeof_type, cast, binary, choice, assign, comma}
+use Rattle.c_phrases.specs.Phrases.{AnExp, name, number, str, paren, call, index, step_after, step_before, prefix}
+use Rattle.c_phrases.specs.Phrases.{sizeof_exp, sizeof_type, cast, binary, choice, assign, comma}
 use Rattle.c_phrases.specs.Phrases.{SomeExps, no_exps, exps}
-use Rattle.c_phrases.specs.Units.{ALength, AnInit, value, elements, AnInitialised, ADeclarator, ALocal, AStatement, block, empty, expression, break_off, continue_on, give_back}
-use Rattle.c_phrases.specs.Units.{if_then, if_else, while_loop, do_loop, for_loop, SomeItems, no_items, local_item, statement_item, AParam, AFunction, ADeclared, function, globals}
+use Rattle.c_phrases.specs.Units.{ALength, AnInit, value, elements, AnInitialised, ADeclarator, ALocal, AStatement}
+use Rattle.c_phrases.specs.Units.{block, empty, expression, break_off, continue_on, give_back}
+use Rattle.c_phrases.specs.Units.{if_then, if_else, while_loop, do_loop, for_loop, SomeItems, no_items, local_item}
+use Rattle.c_phrases.specs.Units.{statement_item, AParam, AFunction, ADeclared, function, globals}
 use Rattle.c_phrases.specs.Units.{AnExternal}
 use Rattle.c_typed_expressions.specs.Phrases.{init_in, brackets_in, params_in}
 

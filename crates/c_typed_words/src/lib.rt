@@ -15,6 +15,7 @@ ghost use Rattle.c_typed_words.specs.Phrases.{ExternalsOf};
 /// of such a unit's phrases are such tokens. It does nothing.
 #[tactic(auto, using(crate::proofs::Tokens::unit_has_tokens, crate::proofs::Spelled::tokens_of))]
 pub fn source_has_tokens()
-    ensures tokens { (bytes : List ℕ) (list : List Spanned) (unit : AUnit) → AreBytes bytes → length bytes ≤ 1048576 → Tokens 0 bytes list → IsUnit (seen list) unit → HasTokens unit }
+    ensures tokens { (bytes : List ℕ) (list : List Spanned) (unit : AUnit) → AreBytes bytes → length bytes ≤ 1048576
+        → Tokens 0 bytes list → IsUnit (seen list) unit → HasTokens unit }
     ensures phrases { (unit : AUnit) → HasTokens unit → ExternalsOf IsToken unit.externals }
 {}

@@ -16,5 +16,6 @@ pub term_call : (t : CType) (f : Callee) (to : List CType) (xs : Vec Expression)
 term_call t f to xs = ap (CallOf t f to) (terms_row _ (hidden-the_row-Expression-0 xs) ∙ ap terms (items_hidden-the_row-Expression-0 xs))
 
 -- a call and its arguments as code holds them
-pub call_is : (e : Expression) (t : CType) (f : Callee) (to : List CType) (xs : Vec Expression) (list : List Expression) → e ≡ typeds.Call t f to xs → list ≡ xs.items → term e ≡ CallOf t f to (terms list)
+pub call_is : (e : Expression) (t : CType) (f : Callee) (to : List CType) (xs : Vec Expression) (list : List Expression) → e ≡ typeds.Call t f to xs → list ≡ xs.items → term e
+    ≡ CallOf t f to (terms list)
 call_is e t f to xs list is same = ap term is ∙ term_call t f to xs ∙ ap (λ l. CallOf t f to (terms l)) (sym same)

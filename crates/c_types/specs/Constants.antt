@@ -9,7 +9,8 @@ use Rattle.c_types.specs.declared.typed.UnaryOperator.TheVariants as unaries
 use Rattle.c_types.specs.declared.typed.ArithmeticOperator.{ArithmeticOperator}
 use Rattle.c_types.specs.declared.typed.ArithmeticOperator.TheVariants as ariths
 use Rattle.c_types.specs.Types.{kept, size_of, target}
-use Rattle.c_types.specs.Typed.{AnExpression, Constant, SizeofTerm, SizeOf, UnaryOf, CastTo, ArithmeticOf, CompareOf, BothOf, EitherOf, AdvanceOf, AdvanceByOf, RetreatOf, DistanceOf, ChoiceOf}
+use Rattle.c_types.specs.Typed.{AnExpression, Constant, SizeofTerm, SizeOf, UnaryOf, CastTo, ArithmeticOf, CompareOf}
+use Rattle.c_types.specs.Typed.{BothOf, EitherOf, AdvanceOf, AdvanceByOf, RetreatOf, DistanceOf, ChoiceOf}
 
 -- what becomes of a value that is converted to a type
 unfoldable pub converted : CType → ℕ → ℕ
@@ -95,8 +96,10 @@ value_of (UnaryOf op e) = option_of (value_of e) (λ v. Some (apply_unary op v))
 value_of (CastTo t e) = option_of (value_of e) (λ v. Some (converted t v))
 value_of (ArithmeticOf op l r) = option_of (value_of l) (λ a. option_of (value_of r) (λ b. apply op a b))
 value_of (CompareOf rel l r) = option_of (value_of l) (λ a. option_of (value_of r) (λ b. Some (truth (holds rel a b))))
-value_of (BothOf l r) = option_of (value_of l) (λ a. if is_zero a then Some 0 else option_of (value_of r) (λ b. Some (truth (not (is_zero b)))))
-value_of (EitherOf l r) = option_of (value_of l) (λ a. if is_zero a then option_of (value_of r) (λ b. Some (truth (not (is_zero b)))) else Some 1)
+value_of (BothOf l r) = option_of (value_of l) (λ a. if is_zero a then Some 0 else option_of (value_of r)
+    (λ b. Some (truth (not (is_zero b)))))
+value_of (EitherOf l r) = option_of (value_of l) (λ a. if is_zero a then option_of (value_of r)
+    (λ b. Some (truth (not (is_zero b)))) else Some 1)
 value_of (AdvanceOf t l r) = option_of (value_of l) (λ p. option_of (value_of r) (λ i. Some (advanced t p i)))
 value_of (AdvanceByOf t l r) = option_of (value_of l) (λ i. option_of (value_of r) (λ p. Some (advanced t p i)))
 value_of (RetreatOf t l r) = option_of (value_of l) (λ p. option_of (value_of r) (λ i. Some (retreated t p i)))

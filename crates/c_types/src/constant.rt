@@ -1,7 +1,8 @@
 // Values of constant expressions.
 ghost use Rattle.std.specs.Prelude.{◌≡◌};
 ghost use Rattle.c_types.specs.Typed.{term};
-ghost use Rattle.c_types.specs.Constants.{converted, truth, apply_unary, apply, scale, advanced, retreated, distance, is_constant, value_of, constant_of};
+ghost use Rattle.c_types.specs.Constants.{converted, truth, apply_unary, apply, scale, advanced, retreated, distance, is_constant};
+ghost use Rattle.c_types.specs.Constants.{value_of, constant_of};
 
 use crate::typed::{ArithmeticOperator, Expression, UnaryOperator};
 use crate::types::CType;

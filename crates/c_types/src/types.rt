@@ -1,6 +1,7 @@
 // The types of values and places.
 ghost use Rattle.std.specs.Prelude.{◌≡◌, ◌<◌, ◌≤◌, ◌+◌, ◌++◌, ◌∷◌, ◌↔◌, [], IfSome, IsSome, OnOk, IfOk, Some};
-ghost use Rattle.c_types.specs.Types.{same_integer, same_type, target, pointer_to, HasPointer, integer_size, size_of, kept, is_integer, is_scalar};
+ghost use Rattle.c_types.specs.Types.{same_integer, same_type, target, pointer_to, HasPointer, integer_size, size_of, kept};
+ghost use Rattle.c_types.specs.Types.{is_integer, is_scalar};
 
 use gg_base::w32::{sext8, sext16, zext8, zext16};
 use std::alloc::{AllocError, Global};

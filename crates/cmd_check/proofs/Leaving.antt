@@ -33,7 +33,8 @@ unwritten_at result name at t builds (StarvedOutput starved front once) =
     at_status result statuses.NoMemory name at starved.0
     (record { names = inl builds.finds.unfailed; out = inr (record { tables = t; builds = builds; front = front; once = once }); report = starved.1 })
 
-pub unwritten : (result : Status) (name : List ℕ) (at : Outside) (t : TableView) (line slice : List ℕ) → Builds name at t → slice ≡ line → line ≡ tables_line t → OutputRefused slice result at.out at.report → Leaves result name at
+pub unwritten : (result : Status) (name : List ℕ) (at : Outside) (t : TableView) (line slice : List ℕ) → Builds name at t → slice ≡ line → line ≡ tables_line t
+    → OutputRefused slice result at.out at.report → Leaves result name at
 unwritten result name at t line slice builds is line_is r =
     unwritten_at result name at t builds
     (subst (λ (b : List ℕ). OutputRefused b result at.out at.report) line_is (subst (λ (b : List ℕ). OutputRefused b result at.out at.report) is r))

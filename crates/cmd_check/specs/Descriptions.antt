@@ -31,7 +31,13 @@ pub record NamesFirstWrong (bytes line : List ℕ) : Type 0 where
 
 -- a file is a machine description
 abbrev pub description_form : Form Content
-description_form = record { limit = description_limit; reads = Desc; refuses = NamesFirstWrong; status = statuses.DescRefused; of_files = tt }
+description_form = record {
+  limit = description_limit;
+  reads = Desc;
+  refuses = NamesFirstWrong;
+  status = statuses.DescRefused;
+  of_files = tt;
+}
 
 -- a description is accepted: it has tables, by which no typed statement stops the parse, and all its rules are shown
 pub record IsAccepted (d : Content) : Type 0 where
@@ -47,7 +53,8 @@ pub data BuildRefused (d : Content) (status : Status) (report : Change) : Type 0
 -- the file of that name was not read as a description, or its description has no tables
 pub data TablesRefused (name : List ℕ) (folder : Lookup) (status : Status) (report : Change) : Type 0 where
   NotRead : (refused : FileRefused description_form name folder status report) → TablesRefused name folder status report
-  NotBuilt : (d : Content) (holds : Holds description_form (folder.holds name) d) (unfailed : IsUnfailed folder) (refused : BuildRefused d status report) → TablesRefused name folder status report
+  NotBuilt : (d : Content) (holds : Holds description_form (folder.holds name) d) (unfailed : IsUnfailed folder)
+      (refused : BuildRefused d status report) → TablesRefused name folder status report
 
 -- the same, or its tables were refused, or their rules are not all shown
 pub data NotAccepted (name : List ℕ) (folder : Lookup) (status : Status) (report : Change) : Type 0 where

@@ -14,7 +14,8 @@ use gg_outside::Sink;
 use std::alloc::Global;
 use vax_writer::write_code;
 
-/// The text of a program's code by an accepted description. Where there is none, one line was written to `report`, and the status of that refusal is answered.
+/// The text of a program's code by an accepted description. Where there is none, one line was written to `report`, and the status
+/// of that refusal is answered.
 pub fn text_of<E: Sink>(
     alloc: Global,
     accepted: &Accepted,

@@ -47,8 +47,10 @@ pub record Answers {A : Type 0} (form : Form A) (runner : Runner A) (result : St
   pub long_file : IsLongFile form.limit (call.at.folder.holds call.name) → IsAnswer statuses.TooLong result
   pub no_item : IsNoItem form (call.at.folder.holds call.name) → IsAnswer form.status result
   pub long_input : (item : A) → IsItem form (call.at.folder.holds call.name) item → LeavesLong call.input → IsAnswer statuses.TooLong result
-  pub unable : (item : A) (bytes : List ℕ) → IsItem form (call.at.folder.holds call.name) item → LeavesBytes call.input bytes → (runner.fault item ≡ None → ⊥) → IsAnswer form.status result
-  pub ends : (item : A) (bytes : List ℕ) → IsItem form (call.at.folder.holds call.name) item → LeavesBytes call.input bytes → runner.fault item ≡ None → IsAnswer (end_status (runner.run item bytes call.count).end) result
+  pub unable : (item : A) (bytes : List ℕ) → IsItem form (call.at.folder.holds call.name) item → LeavesBytes call.input bytes
+      → (runner.fault item ≡ None → ⊥) → IsAnswer form.status result
+  pub ends : (item : A) (bytes : List ℕ) → IsItem form (call.at.folder.holds call.name) item → LeavesBytes call.input bytes
+      → runner.fault item ≡ None → IsAnswer (end_status (runner.run item bytes call.count).end) result
 
 abbrev pub IsExact : {A : Type 0} → Form A → Runner A → Status → Call → Type 0
 IsExact form runner result call = HasNoFault call.name call.at → (InputFails call.input → ⊥) → Answers form runner result call

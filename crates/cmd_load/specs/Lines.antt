@@ -8,12 +8,14 @@ use Rattle.cmd_load.specs.declared.summary.Summary.{Summary}
 -- the sizes of the source and of its text, in bytes
 abbrev pub sizes_part : Summary → List ℕ
 sizes_part s =
-    codes "load " ++ (decimal s.functions ++ (codes ": source " ++ (decimal s.source ++ (codes " bytes, text " ++ (decimal s.text ++ codes " bytes, ")))))
+    codes "load " ++ (decimal s.functions ++ (codes ": source " ++ (decimal s.source
+    ++ (codes " bytes, text " ++ (decimal s.text ++ codes " bytes, ")))))
 
 -- the turns and the instructions, and how many bytes were written
 abbrev pub counts_part : Summary → List ℕ
 counts_part s =
-    decimal s.turns ++ (codes " turns, " ++ (decimal s.instructions ++ (codes " instructions, output " ++ (decimal s.output ++ codes " bytes, "))))
+    decimal s.turns ++ (codes " turns, " ++ (decimal s.instructions ++ (codes " instructions, output "
+    ++ (decimal s.output ++ codes " bytes, "))))
 
 -- and the line of the end
 abbrev pub summary_line : Summary → List ℕ

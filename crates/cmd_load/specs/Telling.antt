@@ -44,4 +44,5 @@ pub data EndsTold (sizes : Sizes) (turns steps : Outcome) (result : Status) (rep
 -- first what the text's run wrote was written, and then it was told how both ended
 pub data SidesTold (sizes : Sizes) (turns steps : Outcome) (result : Status) (out report : Change) : Type 0 where
   Unwritten : (refused : OutputRefused steps.output result out report) → SidesTold sizes turns steps result out report
-  Written : (written : TakesAll out steps.output) (told : EndsTold sizes turns steps result report) → SidesTold sizes turns steps result out report
+  Written : (written : TakesAll out steps.output) (told : EndsTold sizes turns steps result report)
+      → SidesTold sizes turns steps result out report

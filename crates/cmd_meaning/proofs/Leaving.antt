@@ -25,7 +25,8 @@ use Rattle.cmd_meaning.specs.Moments.{coming}
 use Rattle.cmd_meaning.specs.Sources.{source_form, source_runner, IsSourceEnd}
 
 -- bytes that are no source
-pub no_source : (bytes line : List ℕ) (fault : SourceFault) (place : Place) (kind : SourceKind) → fault ≡ faults.At place kind → IsRefused bytes fault → ((program : AProgram) → Reads bytes program → IsOnly (Err fault) program) → line ≡ fault_line place kind → IsRefusedBy source_form bytes line
+pub no_source : (bytes line : List ℕ) (fault : SourceFault) (place : Place) (kind : SourceKind) → fault ≡ faults.At place kind → IsRefused bytes fault
+    → ((program : AProgram) → Reads bytes program → IsOnly (Err fault) program) → line ≡ fault_line place kind → IsRefusedBy source_form bytes line
 no_source bytes line fault place kind is refused only named = record {
   refuses = record { place = place; kind = kind; first = subst (IsRefused bytes) is refused; named = named };
   unread = λ program reads. subst (λ (f : SourceFault). IsOnly (Err f) program) is (only program reads);
@@ -45,7 +46,9 @@ source_end ends.Spent unbroken = tt
 source_end (ends.Broken kind) unbroken = absurd (unbroken kind refl)
 
 -- the run that was begun was told
-pub told_run : (program shown : AProgram) (input : List ℕ) (count : ℕ) (status : Status) (out report : Change) (run : Remaining) → shown ≡ program → run ≡ record { outcome = source shown input count; taken = 0; failed = false } → ((n : ℕ) (kind : Break) → (source shown input n).end ≡ ends.Broken kind → ⊥) → Tells status (coming run.outcome) count out report → ToldRun source_runner statuses.SourceRefused program input count status out report
+pub told_run : (program shown : AProgram) (input : List ℕ) (count : ℕ) (status : Status) (out report : Change) (run : Remaining) → shown ≡ program → run
+    ≡ record { outcome = source shown input count; taken = 0; failed = false } → ((n : ℕ) (kind : Break) → (source shown input n).end ≡ ends.Broken kind → ⊥)
+    → Tells status (coming run.outcome) count out report → ToldRun source_runner statuses.SourceRefused program input count status out report
 told_run program shown input count status out report run same begins unbroken told =
     let one : run.outcome ≡ source program input count =
     ap (λ (r : Remaining). r.outcome) begins ∙ ap (λ (p : AProgram). source p input count) same in

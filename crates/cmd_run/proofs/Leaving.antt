@@ -35,7 +35,8 @@ abbrev pub RunsSo : Type 0
 RunsSo = (c : Code) (input : List ℕ) (m : State) → Stands m (start c input) → state_run m ≡ run c input
 
 -- the run of a loaded machine was told
-pub told_run : (code : Code) (input : List ℕ) (count : ℕ) (status : Status) (out report : Change) (m : State) → RunsSo → Loads code × Stands m (start code input) → Tells status (coming count m) count out report → ToldRun code_runner statuses.AsmRefused code input count status out report
+pub told_run : (code : Code) (input : List ℕ) (count : ℕ) (status : Status) (out report : Change) (m : State) → RunsSo → Loads code × Stands m (start code input)
+    → Tells status (coming count m) count out report → ToldRun code_runner statuses.AsmRefused code input count status out report
 told_run code input count status out report m runs_so loaded told =
     let same : state_run m ≡ run code input = runs_so code input m loaded.1 in
     let one : coming count m ≡ coming_of (run code input count) = ap (λ (r : Runs). coming_of (r count)) same in
@@ -44,10 +45,12 @@ told_run code input count status out report m runs_so loaded told =
     (subst (λ (c : Coming). Tells status c count out report) one told)
 
 -- a fault of loading was told
-unable : (code : Code) (input : List ℕ) (count : ℕ) (status : Status) (out report : Change) (fault : LoadFault) → IsUntouched out → load_fault code ≡ Some fault → IsRefused statuses.AsmRefused (load_line fault) status report → ToldRun code_runner statuses.AsmRefused code input count status out report
+unable : (code : Code) (input : List ℕ) (count : ℕ) (status : Status) (out report : Change) (fault : LoadFault) → IsUntouched out → load_fault code ≡ Some fault
+    → IsRefused statuses.AsmRefused (load_line fault) status report → ToldRun code_runner statuses.AsmRefused code input count status out report
 unable code input count status out report fault untouched found told = Unable (load_line fault) (ap fault_line found) untouched told
 
-pub code_refused : (fault : LoadFault) (code : Code) (input : List ℕ) (count : ℕ) (status : Status) (out report : Change) → IsUntouched out → Loaded code input (Err fault) → CodeIsRefused fault status report → ToldRun code_runner statuses.AsmRefused code input count status out report
+pub code_refused : (fault : LoadFault) (code : Code) (input : List ℕ) (count : ℕ) (status : Status) (out report : Change) → IsUntouched out → Loaded code input (Err fault)
+    → CodeIsRefused fault status report → ToldRun code_runner statuses.AsmRefused code input count status out report
 code_refused loads.NoMemory code input count status out report untouched found told = StarvedRun untouched told
 code_refused (loads.DoubleLabel name) code input count status out report untouched found told =
     unable code input count status out report (loads.DoubleLabel name) untouched found told

@@ -12,7 +12,8 @@ not_lost (stops.Ended v) = (λ h. absurd cc, λ h. absurd cc)
 not_lost stops.Trapped = (λ h. absurd cc, λ h. absurd cc)
 not_lost (stops.Broken k) = (λ h. absurd cc, λ h. absurd cc)
 
-behind_not_lost : (n : ℕ) (x : Next) → ((k : State) → ((steps n k).end ≡ ends.Wild → ⊥) × ((steps n k).end ≡ ends.Deep → ⊥)) → ((behind x (steps n)).end ≡ ends.Wild → ⊥) × ((behind x (steps n)).end ≡ ends.Deep → ⊥)
+behind_not_lost : (n : ℕ) (x : Next) → ((k : State) → ((steps n k).end ≡ ends.Wild → ⊥) × ((steps n k).end ≡ ends.Deep → ⊥)) → ((behind x (steps n)).end ≡ ends.Wild → ⊥)
+    × ((behind x (steps n)).end ≡ ends.Deep → ⊥)
 behind_not_lost n (Goes k) h = h k
 behind_not_lost n (Writes b k) h = h k
 behind_not_lost n (Stops e) h = not_lost e

@@ -10,6 +10,7 @@ use Rattle.cmd_run.specs.Lines.{load_line}
 abbrev pub CodeIsRefused : LoadFault → Status → Change → Type 0
 CodeIsRefused loads.NoMemory result report = IsStarved result report
 CodeIsRefused (loads.DoubleLabel name) result report = IsRefused statuses.AsmRefused (load_line (loads.DoubleLabel name)) result report
-CodeIsRefused (loads.UndefinedLabel name) result report = IsRefused statuses.AsmRefused (load_line (loads.UndefinedLabel name)) result report
+CodeIsRefused (loads.UndefinedLabel name) result report = IsRefused statuses.AsmRefused (load_line (loads.UndefinedLabel name))
+    result report
 CodeIsRefused loads.NoMain result report = IsRefused statuses.AsmRefused (load_line loads.NoMain) result report
 CodeIsRefused loads.TooLarge result report = IsRefused statuses.AsmRefused (load_line loads.TooLarge) result report

@@ -20,10 +20,12 @@ adds_more E (Some old) mid new front rest n g t =
     m ∙ ap (λ (x : List ℕ). Some x) (append_assoc old front (take n rest))
 
 -- a write took n bytes of what was left
-pub goes_on : (E : Type 0) (old mid new : Option (List ℕ)) (before at now n : ℕ) (bytes rest after : List ℕ) → after ≡ drop n rest → now ≡ at → Takes {E = E} mid new (Ok n) rest → WrittenSoFar (record { old = old; new = mid; before = before; now = at }) bytes rest → WrittenSoFar (record { old = old; new = new; before = before; now = now }) bytes after
+pub goes_on : (E : Type 0) (old mid new : Option (List ℕ)) (before at now n : ℕ) (bytes rest after : List ℕ) → after ≡ drop n rest → now ≡ at → Takes {E = E} mid new (Ok n) rest
+    → WrittenSoFar (record { old = old; new = mid; before = before; now = at }) bytes rest → WrittenSoFar (record { old = old; new = new; before = before; now = now }) bytes after
 goes_on E old mid new before at now n bytes rest after is counts t h = record {
   front = h.front ++ take n rest;
-  split = h.split ∙ ap (λ (x : List ℕ). h.front ++ x) (sym (take-append-drop n rest)) ∙ sym (append_assoc h.front (take n rest) (drop n rest)) ∙ ap (λ (x : List ℕ). (h.front ++ take n rest) ++ x) (sym is);
+  split = h.split ∙ ap (λ (x : List ℕ). h.front ++ x) (sym (take-append-drop n rest)) ∙ sym (append_assoc h.front (take n rest) (drop n rest))
+      ∙ ap (λ (x : List ℕ). (h.front ++ take n rest) ++ x) (sym is);
   gains = adds_more E old mid new h.front rest n h.gains t;
   quiet = counts ∙ h.quiet;
 }

@@ -12,7 +12,8 @@ loses_more n (Some old) mid new had has took moved =
     (m.2.0, whole, m.2.2)
 
 -- a refused piece was taken behind what was taken before
-pub takes_behind : (limit most : ℕ) (old mid new : Option (List ℕ)) (before at now : ℕ) (had : List ℕ) → length had + most ≤ limit → Loses old mid had → TakesAtMost most (record { old = mid; new = new; before = at; now = now }) → TakesAtMost limit (record { old = old; new = new; before = before; now = now })
+pub takes_behind : (limit most : ℕ) (old mid new : Option (List ℕ)) (before at now : ℕ) (had : List ℕ) → length had + most ≤ limit → Loses old mid had
+    → TakesAtMost most (record { old = mid; new = new; before = at; now = now }) → TakesAtMost limit (record { old = old; new = new; before = before; now = now })
 takes_behind limit most None mid new before at now had le took t = record { taken = had; within = omega arith; loses = tt }
 takes_behind limit most (Some old) mid new before at now had le took t =
     let l : Loses (Some took.0) new t.taken = subst (λ (x : Option (List ℕ)). Loses x new t.taken) took.2 t.loses in

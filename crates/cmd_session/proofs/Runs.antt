@@ -29,7 +29,8 @@ gave whole old mid kept b c d p h = record {
 }
 
 -- what was kept is written
-pub wrote : (whole : Coming) (old mid new : Option (List ℕ)) (kept bytes after : List ℕ) (c : Coming) → bytes ≡ kept → after ≡ [] → Adds mid new bytes → Stands whole old mid kept c → Stands whole old new after c
+pub wrote : (whole : Coming) (old mid new : Option (List ℕ)) (kept bytes after : List ℕ) (c : Coming) → bytes ≡ kept → after ≡ [] → Adds mid new bytes → Stands whole old mid kept c
+    → Stands whole old new after c
 wrote whole old mid new kept bytes after c is none a h = record {
   written = h.written ++ bytes;
   gains = adds_both old mid new h.written bytes h.gains a;
@@ -40,7 +41,8 @@ wrote whole old mid new kept bytes after c is none a h = record {
 }
 
 -- the sink holds a front of the output, also where only a front of what was kept is written
-pub has_more : (whole : Coming) (old mid new : Option (List ℕ)) (before at now : ℕ) (kept bytes : List ℕ) (c : Coming) → bytes ≡ kept → GainsFront (record { old = mid; new = new; before = at; now = now }) bytes → Stands whole old mid kept c → GainsFront (record { old = old; new = new; before = before; now = now }) whole.output
+pub has_more : (whole : Coming) (old mid new : Option (List ℕ)) (before at now : ℕ) (kept bytes : List ℕ) (c : Coming) → bytes ≡ kept
+    → GainsFront (record { old = mid; new = new; before = at; now = now }) bytes → Stands whole old mid kept c → GainsFront (record { old = old; new = new; before = before; now = now }) whole.output
 has_more whole old mid new before at now kept bytes c is f h = record {
   front = h.written ++ f.front;
   rest = f.rest ++ c.output;

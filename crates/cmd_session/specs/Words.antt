@@ -102,7 +102,8 @@ abbrev pub SaysOnly : List (List ℕ) → Command → Type 0
 SaysOnly words (Check description) =
     OnlyNamed (codes "check") words description.now × NoPaired (codes "compile") words × NoRun words × NoMeaning words × NoLoad words
 SaysOnly words (Compile description source) =
-    NoNamed (codes "check") words × OnlyPaired (codes "compile") words description.now source.now × NoRun words × NoMeaning words × NoLoad words
+    NoNamed (codes "check") words × OnlyPaired (codes "compile") words description.now source.now × NoRun words
+    × NoMeaning words × NoLoad words
 SaysOnly words (Run text count) =
     NoNamed (codes "check") words × NoPaired (codes "compile") words × OnlyCounted (codes "run") greatest_count words text.now count
     × NoMeaning words × NoLoad words

@@ -1,5 +1,6 @@
 -- Arithmetic on 32 bits. A longword is a number below 2^32; read as signed, those from 2^31 on are negative.
-use Rattle.std.specs.Prelude.{ℕ, ◌+◌, ◌-◌, ◌*◌, ◌/◌, ◌%◌, ◌^◌, ◌==◌, nat_lt, nat_le, min, bit_and, bit_or, bit_xor, Bool, not, ◌||◌, ◌&&◌, Option, Some, None, if◌then◌else◌}
+use Rattle.std.specs.Prelude.{ℕ, ◌+◌, ◌-◌, ◌*◌, ◌/◌, ◌%◌, ◌^◌, ◌==◌, nat_lt, nat_le, min, bit_and, bit_or, bit_xor}
+use Rattle.std.specs.Prelude.{Bool, not, ◌||◌, ◌&&◌, Option, Some, None, if◌then◌else◌}
 
 abbrev pub add32 : ℕ → ℕ → ℕ
 add32 a b = (a + b) % 2 ^ 32

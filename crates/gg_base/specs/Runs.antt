@@ -64,7 +64,8 @@ Closed amount old e new = (old.outcome ≡ record { output = []; end = e; number
 -- what an answer says of the run before it and behind it, where it counted so many moments
 abbrev pub AdvancesBy : ℕ → Remaining → SourceTurn → Remaining → Type 0
 AdvancesBy amount old turns.Going new = new ≡ after amount old
-AdvancesBy amount old (turns.Wrote b) new = (old.outcome ≡ byte_first b new.outcome) × (new.taken ≡ old.taken + amount) × (new.failed ≡ old.failed)
+AdvancesBy amount old (turns.Wrote b) new = (old.outcome ≡ byte_first b new.outcome) × (new.taken ≡ old.taken + amount)
+    × (new.failed ≡ old.failed)
 AdvancesBy amount old (turns.Ended s) new = Closed amount old (Ended s) new
 AdvancesBy amount old turns.Trapped new = Closed amount old Trapped new
 AdvancesBy amount old turns.Wild new = Closed amount old Wild new

@@ -1,6 +1,7 @@
 // Arithmetic on 32 bits, as the C subset and the VAX have it: sums and products wrap, and a signed number is read from the same bits.
 ghost use Rattle.std.specs.Prelude.{◌≡◌};
-ghost use Rattle.gg_base.specs.Arithmetic.{add32, sub32, mul32, and32, or32, xor32, neg32, com32, sext8, sext16, zext8, zext16, div32, ash32, magnitude, is_negative, shifted_left, shifted_right};
+ghost use Rattle.gg_base.specs.Arithmetic.{add32, sub32, mul32, and32, or32, xor32, neg32, com32, sext8, sext16, zext8, zext16};
+ghost use Rattle.gg_base.specs.Arithmetic.{div32, ash32, magnitude, is_negative, shifted_left, shifted_right};
 
 /// The sum, on 32 bits.
 pub fn add(a: u32, b: u32) -> u32

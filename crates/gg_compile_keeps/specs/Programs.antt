@@ -17,7 +17,8 @@ use Rattle.gg_compile_law.specs.Loaded.{AreApart}
 abbrev pub EachTree : (List Leaf → Type 0) → TreeProgram → Type 0
 EachTree P q = (f n : ℕ) (g : TreeFn) (w : List Leaf) → slice_get q.functions f ≡ Some g → slice_get g.items n ≡ Some (item.Root w) → P w
 
--- A tree program that code can be selected of: it is valid, in none of its trees is memory read behind a division, each function's locals fit
+-- A tree program that code can be selected of: it is valid, in none of its trees is memory read behind a division, each
+-- function's locals fit
 -- its frame, and its objects have labels of their own, and bytes as contents, a link's being the linked address.
 pub record IsSelectable (q : TreeProgram) : Type 0 where
   pub valid : IsValid q

@@ -1,5 +1,6 @@
 -- Where the functions' code and labels stand in an assembled code.
-use Rattle.std.proofs.Common.{◌≡◌, ℕ, zero, suc, ◌+◌, ◌<◌, Bool, true, false, cond, List, [], ◌∷◌, ◌++◌, length, drop, Option, Some, None, refl, sym, ap, subst, ◌∙◌, arith, append_assoc, length-append}
+use Rattle.std.proofs.Common.{◌≡◌, ℕ, zero, suc, ◌+◌, ◌<◌, Bool, true, false, cond, List, [], ◌∷◌, ◌++◌, length, drop, Option, Some, None, refl, sym, ap, subst, ◌∙◌, arith}
+use Rattle.std.proofs.Common.{append_assoc, length-append}
 use Rattle.std.specs.Prelude.{slice_get, codes, not, ◌||◌, ◌==◌}
 use Rattle.std.specs.Str.{bytes_eq}
 use Rattle.std.proofs.lemmas.List.{drop_at}
@@ -19,7 +20,8 @@ use Rattle.gg_compile_law.specs.Effects.{label_name}
 use Rattle.vax_frames.specs.Frames.{function_label}
 use Rattle.vax_frames.specs.Frames.{code_items, room_code, end_code, frame_items}
 use Rattle.gg_compile_law.specs.Programs.{HasItems, stands_in, IsBody, nothing, label, root, StandsAt, IsEmitted, IsCompiled}
-use Rattle.gg_compile_law.specs.Assembled.{IsTreeCode, nothing as nothing_of, label as label_of, root as root_of, IsFunctionCode, AreFunctions, none, more, IsAssembled, AssembledFollow, SourceIsFollowed, FramesAreFunctionCodes}
+use Rattle.gg_compile_law.specs.Assembled.{IsTreeCode, nothing as nothing_of, label as label_of, root as root_of, IsFunctionCode, AreFunctions, none, more, IsAssembled}
+use Rattle.gg_compile_law.specs.Assembled.{AssembledFollow, SourceIsFollowed, FramesAreFunctionCodes}
 use Rattle.gg_compile_law.proofs.Validity.{all_at, IsIn, RootFacts, root_facts, items_in_order}
 use Rattle.tree_core.specs.declared.tree.Leaf.{Leaf}
 use Rattle.tree_core.specs.Valid.{named, main_takes_nothing, IsValid}

@@ -21,7 +21,8 @@ use Rattle.tree_meaning.specs.declared.value.Meaning.{Meaning}
 use Rattle.tree_meaning.specs.declared.value.Meaning.TheVariants.{Of, Local, Argument, Memory}
 use Rattle.tree_meaning.specs.Values.{Sight, kid}
 use Rattle.tree_meaning.specs.State.{State, sight}
-use Rattle.tree_meaning.specs.Deeds.{Deed, Puts, Branches, Pushes as DoesPush, Returns, Calls as DoesCall, Saves as DoesSave, Jumps, Traps, Strays, given, assigned, branched, jumped_by, saved, called_by, deed_of}
+use Rattle.tree_meaning.specs.Deeds.{Deed, Puts, Branches, Pushes as DoesPush, Returns, Calls as DoesCall, Saves as DoesSave, Jumps, Traps, Strays, given, assigned, branched}
+use Rattle.tree_meaning.specs.Deeds.{jumped_by, saved, called_by, deed_of}
 use Rattle.tree_meaning.specs.Steps.{Step, Goes, Serves, GoesTo, Enters, GoesBack, Ends, without_pushed, put_in, put, wrote, got, served, called_as, deed_step, tree_step}
 use Rattle.gg_compile_law.specs.Roles.{Role, Pushes, Calls, Saves, Plain, calls_by, role_by, role_of, label_in, target_by, target_of}
 

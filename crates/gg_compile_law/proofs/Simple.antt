@@ -1,6 +1,7 @@
 -- The simplest trees and their instructions: pushes of numbers, calls, services, saves, jumps, and `return 0`. They show that trees can have
 -- the effect that is asked of them.
-use Rattle.std.proofs.Common.{◌≡◌, ℕ, ◌+◌, ◌-◌, ◌*◌, ◌%◌, ◌^◌, ◌<◌, ◌≤◌, Bool, true, false, cond, List, [], ◌∷◌, length, take, Option, Some, None, Result, Ok, Err, refl, sym, ap, subst, ◌∙◌, arith, get_or-set_same, get_or-set_other}
+use Rattle.std.proofs.Common.{◌≡◌, ℕ, ◌+◌, ◌-◌, ◌*◌, ◌%◌, ◌^◌, ◌<◌, ◌≤◌, Bool, true, false, cond, List, [], ◌∷◌, length, take, Option, Some, None, Result, Ok, Err, refl, sym, ap}
+use Rattle.std.proofs.Common.{subst, ◌∙◌, arith, get_or-set_same, get_or-set_other}
 use Rattle.std.specs.Prelude.{slice_get, slice_set, nat_lt}
 use Rattle.std.specs.Str.{bytes_eq}
 use Rattle.std.proofs.lemmas.List.{length-take-le}
@@ -243,7 +244,16 @@ module _ (program : TreeProgram) (locals args most : ℕ) where
       → Agrees program.objects e es (record t { input = rest }) (record m { input = rest })
   input_agrees e es t m rest h small =
       rebuilt program.objects e es t m h (record m { input = rest }) (record t { input = rest })
-      (record { going = h.sound.going; registers = h.sound.registers; longwords = h.sound.longwords; stack = h.sound.stack; stack_bytes = h.sound.stack_bytes; area = h.sound.area; area_bytes = h.sound.area_bytes; input_bytes = small })
+      (record {
+        going = h.sound.going;
+        registers = h.sound.registers;
+        longwords = h.sound.longwords;
+        stack = h.sound.stack;
+        stack_bytes = h.sound.stack_bytes;
+        area = h.sound.area;
+        area_bytes = h.sound.area_bytes;
+        input_bytes = small;
+      })
       refl h.area refl refl refl refl h.running refl (λ a from. refl) h.bottom
 
   getchar_by : (e : Extent) (es : List Extent) (t : Trees) (m : State) → Agrees program.objects e es t m → (input : List ℕ) → AllBelow 256 input → t.input ≡ input → m.input ≡ input

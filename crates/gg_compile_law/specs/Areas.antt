@@ -1,4 +1,5 @@
--- The data area of a program's objects, block by block: each object's block is its alignment, its label, and its bytes, however these are spelled.
+-- The data area of a program's objects, block by block: each object's block is its alignment, its label, and its bytes,
+-- however these are spelled.
 use Rattle.std.specs.Prelude.{◌≡◌, ℕ, ◌+◌, ◌^◌, ◌≤◌, List, [], ◌∷◌, ◌++◌, length, slice_get, Some, false}
 use Rattle.vax_core.specs.declared.code.Code.{Code}
 use Rattle.vax_core.specs.declared.code.AreaItem.{AreaItem}
@@ -31,7 +32,8 @@ pub record IsBlock (whole : List AreaItem) (o : Object) (part : List AreaItem) :
 -- the blocks of objects, one behind another
 pub data AreBlocks (whole : List AreaItem) : List Object → List AreaItem → Type 0 where
   none : AreBlocks whole [] []
-  more : (o : Object) (os : List Object) (part rest : List AreaItem) → IsBlock whole o part → AreBlocks whole os rest → AreBlocks whole (o ∷ os) (part ++ rest)
+  more : (o : Object) (os : List Object) (part rest : List AreaItem) → IsBlock whole o part → AreBlocks whole os rest
+      → AreBlocks whole (o ∷ os) (part ++ rest)
 
 -- what is said of the data area of a program's code
 pub record HoldsObjects (program : TreeProgram) (c : Code) : Type 0 where
@@ -42,4 +44,5 @@ pub record HoldsObjects (program : TreeProgram) (c : Code) : Type 0 where
 
 -- A data area of the objects' blocks holds them.
 abbrev pub BlocksHoldObjects : Type 0
-BlocksHoldObjects = (program : TreeProgram) (c : Code) → IsValid program → Loads c → AreBlocks c.area program.objects c.area → HoldsObjects program c
+BlocksHoldObjects = (program : TreeProgram) (c : Code) → IsValid program → Loads c → AreBlocks c.area program.objects c.area
+    → HoldsObjects program c

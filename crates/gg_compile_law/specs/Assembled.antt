@@ -29,7 +29,8 @@ module _ (program : TreeProgram) where
     nothing : IsTreeCode g words [] []
     label : (l : ℕ) (is : List TreeItem) (code : List CodeItem) → IsTreeCode g words is code
         → IsTreeCode g words (item.Label l ∷ is) (items.Label (label_name l) ∷ code)
-    root : (w : List Leaf) (is : List TreeItem) (instrs : List Instr) (code : List CodeItem) → HasEffect program g.locals g.args words w instrs
+    root : (w : List Leaf) (is : List TreeItem) (instrs : List Instr) (code : List CodeItem)
+        → HasEffect program g.locals g.args words w instrs
         → IsTreeCode g words is code
         → IsTreeCode g words (item.Root w ∷ is) (code_items instrs ++ code)
 
@@ -47,7 +48,8 @@ module _ (program : TreeProgram) where
   -- the code of functions, one behind another
   pub data AreFunctions : List TreeFn → List CodeItem → Type 0 where
     none : AreFunctions [] []
-    more : (g : TreeFn) (gs : List TreeFn) (part rest : List CodeItem) → IsFunctionCode g part → AreFunctions gs rest → AreFunctions (g ∷ gs) (part ++ rest)
+    more : (g : TreeFn) (gs : List TreeFn) (part rest : List CodeItem) → IsFunctionCode g part → AreFunctions gs rest
+        → AreFunctions (g ∷ gs) (part ++ rest)
 
 -- The code is that of the program's functions in order, and the data area that of its objects.
 pub record IsAssembled (program : TreeProgram) (c : Code) : Type 0 where
@@ -63,7 +65,8 @@ AssembledFollow = (program : TreeProgram) (c : Code) → IsAssembled program c �
 -- The frame round a body that is the code of a function's items is the code of the function.
 abbrev pub FramesAreFunctionCodes : Type 0
 FramesAreFunctionCodes =
-    (program : TreeProgram) (g : TreeFn) (words : ℕ) (body code : List CodeItem) → g.locals ≤ words → words ≤ 1024 → IsTreeCode program g words g.items body
+    (program : TreeProgram) (g : TreeFn) (words : ℕ) (body code : List CodeItem) → g.locals ≤ words → words ≤ 1024
+    → IsTreeCode program g words g.items body
     → IsFrameCode g.name words body code → IsFunctionCode program g code
 
 -- What the run of the trees follows, as the run of a source, is followed by the run of the code.

@@ -42,7 +42,8 @@ module _ (objects : List Object) (e : Extent) (es : List Extent) (t : Trees) (m 
   Does (Ends finish.Wild) c = Unit {0}
   Does (Ends finish.Deep) c = Unit {0}
 
--- What the tree state and the frame are like where a tree of a function with so many locals and arguments is done whose code uses so many words.
+-- What the tree state and the frame are like where a tree of a function with so many locals and arguments is done whose
+-- code uses so many words.
 pub record IsReady (locals args most : ℕ) (w : List Leaf) (e : Extent) (t : Trees) (m : State) : Type 0 where
   pub room : HasRoom m
   pub same_locals : e.locals ≡ locals
@@ -53,7 +54,8 @@ pub record IsReady (locals args most : ℕ) (w : List Leaf) (e : Extent) (t : Tr
   pub pushed : (function count : ℕ) → role_of w ≡ Calls function count → length t.running.pushed ≡ count
   pub result : role_of w ≡ Saves → HasResult t m
 
--- From each state of the machine that stands for a state of the tree program, the instructions do what the tree does. They are one at least.
+-- From each state of the machine that stands for a state of the tree program, the instructions do what the tree does.
+-- They are one at least.
 pub record HasEffect (program : TreeProgram) (locals args most : ℕ) (w : List Leaf) (code : List Instr) : Type 0 where
   pub some : 1 ≤ length code
   pub does : (e : Extent) (es : List Extent) (t : Trees) (m : State) → Agrees program.objects e es t m → IsReady locals args most w e t m

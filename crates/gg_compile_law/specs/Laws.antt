@@ -31,5 +31,6 @@ ReturnsComeBack =
 abbrev pub StackHasRoom : Type 0
 StackHasRoom =
     (program : TreeProgram) (code : List CodeItem) (e : Extent) (es : List Extent) (t : Trees) (m : State)
-    → Agrees program.objects e es t m → e.words ≤ 1024 → length t.running.pushed ≤ 255 → Waits program code m.frames es t.callers → length t.callers < 1024
+    → Agrees program.objects e es t m → e.words ≤ 1024 → length t.running.pushed ≤ 255
+    → Waits program code m.frames es t.callers → length t.callers < 1024
     → IsRoomy m

@@ -16,7 +16,8 @@ use Rattle.gg_compile_law.specs.Names.{HaveSmall}
 -- The labels of objects differ, and none is a label of a function, of a tree program or of a service.
 pub record AreApart (os : List Object) (fs : List TreeFn) : Type 0 where
   pub differ : (i j : ℕ) (o p : Object) → slice_get os i ≡ Some o → slice_get os j ≡ Some p → o.label ≡ p.label → i ≡ j
-  pub functions : (i k : ℕ) (o : Object) (f : TreeFn) → slice_get os i ≡ Some o → slice_get fs k ≡ Some f → function_label f.name ≡ o.label → ⊥
+  pub functions : (i k : ℕ) (o : Object) (f : TreeFn) → slice_get os i ≡ Some o → slice_get fs k ≡ Some f
+      → function_label f.name ≡ o.label → ⊥
   pub trees : (i l : ℕ) (o : Object) → slice_get os i ≡ Some o → label_name l ≡ o.label → ⊥
   pub services : (i : ℕ) (o : Object) → slice_get os i ≡ Some o → is_service o.label ≡ false
 
@@ -24,4 +25,5 @@ pub record AreApart (os : List Object) (fs : List TreeFn) : Type 0 where
 abbrev pub AssembledLoads : Type 0
 AssembledLoads =
     (program : TreeProgram) (c : Code) → IsValid program → HaveSmall program.functions → AreApart program.objects program.functions
-    → AreFunctions program program.functions c.items → c.area ≡ area_of program.objects → undefined_label c.items c.area c.items ≡ None → Loads c
+    → AreFunctions program program.functions c.items → c.area ≡ area_of program.objects → undefined_label c.items c.area c.items
+    ≡ None → Loads c

@@ -22,9 +22,11 @@ HaveSmall (f ∷ fs) = AreSmall f.items × HaveSmall fs
 -- No label stands twice in the code of a valid program's functions, and none is a service's name.
 abbrev pub CodeLabelsDiffer : Type 0
 CodeLabelsDiffer =
-    (program : TreeProgram) (code : List CodeItem) → IsValid program → HaveSmall program.functions → AreFunctions program program.functions code
+    (program : TreeProgram) (code : List CodeItem) → IsValid program → HaveSmall program.functions
+    → AreFunctions program program.functions code
     → double_label code ≡ None
 
 -- The code has a label for main.
 abbrev pub MainStands : Type 0
-MainStands = (program : TreeProgram) (code : List CodeItem) → IsValid program → AreFunctions program program.functions code → has_label code main_name ≡ true
+MainStands = (program : TreeProgram) (code : List CodeItem) → IsValid program → AreFunctions program program.functions code
+    → has_label code main_name ≡ true

@@ -1,5 +1,6 @@
 -- The code of a whole program, and states in which its run stands for a run of the trees.
-use Rattle.std.specs.Prelude.{◌≡◌, ℕ, ◌+◌, ◌^◌, ◌<◌, ◌≤◌, ◌==◌, ◌||◌, List, [], ◌∷◌, ◌++◌, length, slice_get, slice_index, Some, None, Bool, true, false}
+use Rattle.std.specs.Prelude.{◌≡◌, ℕ, ◌+◌, ◌^◌, ◌<◌, ◌≤◌, ◌==◌, ◌||◌, List, [], ◌∷◌, ◌++◌, length, slice_get}
+use Rattle.std.specs.Prelude.{slice_index, Some, None, Bool, true, false}
 use Rattle.vax_core.specs.declared.code.Instr.{Instr}
 use Rattle.vax_core.specs.declared.code.CodeItem.{CodeItem}
 use Rattle.vax_core.specs.declared.code.CodeItem.TheVariants as items
@@ -43,7 +44,8 @@ abbrev pub stands_in : List TreeItem → ℕ → Bool
 stands_in [] n = false
 stands_in (i ∷ is) n = is_label_of i n || stands_in is n
 
--- Pushes stand before calls, as many as the call takes and at most 255, a save directly behind a call: so many are pushed so far, and a call
+-- Pushes stand before calls, as many as the call takes and at most 255, a save directly behind a call: so many are
+-- pushed so far, and a call
 -- stands directly before, or not.
 abbrev pub InOrderBy : Role → ℕ → Bool → (ℕ → Bool → Type 0) → Type 0
 InOrderBy Pushes pushed is_behind rest = rest (pushed + 1) false
@@ -57,18 +59,21 @@ InOrder pushed is_behind (item.Label l ∷ is) = (pushed ≡ 0) × InOrder 0 fal
 InOrder pushed is_behind (item.Root w ∷ is) = InOrderBy (role_of w) pushed is_behind (λ p b. InOrder p b is)
 
 module _ (program : TreeProgram) where
-  -- a root of a function has instructions with its effect, a label to which it goes stands in the function, and it calls with as many arguments as there are
+  -- a root of a function has instructions with its effect, a label to which it goes stands in the function, and it
+  -- calls with as many arguments as there are
   pub record IsSelected (g : TreeFn) (words : ℕ) (w : List Leaf) (code : List Instr) : Type 0 where
     pub effect : HasEffect program g.locals g.args words w code
     pub target : (l : ℕ) → target_of w ≡ Some l → stands_in g.items l ≡ true
-    pub call : (function count : ℕ) (h : TreeFn) → role_of w ≡ Calls function count → slice_get program.functions function ≡ Some h → count ≡ h.args
+    pub call : (function count : ℕ) (h : TreeFn) → role_of w ≡ Calls function count → slice_get program.functions function
+        ≡ Some h → count ≡ h.args
 
   -- The code of some of a function's items: labels stay, and each root is its instructions.
   pub data IsBody (g : TreeFn) (words : ℕ) : List TreeItem → List CodeItem → Type 0 where
     nothing : IsBody g words [] []
     label : (l : ℕ) (is : List TreeItem) (code : List CodeItem) → IsBody g words is code
         → IsBody g words (item.Label l ∷ is) (items.Label (label_name l) ∷ code)
-    root : (w : List Leaf) (is : List TreeItem) (instrs : List Instr) (code : List CodeItem) → IsSelected g words w instrs → IsBody g words is code
+    root : (w : List Leaf) (is : List TreeItem) (instrs : List Instr) (code : List CodeItem) → IsSelected g words w instrs
+        → IsBody g words is code
         → IsBody g words (item.Root w ∷ is) (code_items instrs ++ code)
 
   module _ (code : List CodeItem) where
@@ -82,7 +87,8 @@ module _ (program : TreeProgram) where
     pub record IsEmitted (g : TreeFn) : Type 0 where
       pub frame : HasFrame code (function_label g.name) g.locals
       pub begins : StandsAt g frame.words (frame.entry + 1 + length (room_code frame.words)) g.items
-      pub labels : (l : ℕ) → stands_in g.items l ≡ true → StandsAt g frame.words (label_place code (label_name l)) (item.Label l ∷ behind g.items l)
+      pub labels : (l : ℕ) → stands_in g.items l ≡ true → StandsAt g frame.words (label_place code (label_name l))
+          (item.Label l ∷ behind g.items l)
       pub order : InOrder 0 false g.items
 
     -- A call of the function goes on at a place of the code.
@@ -100,8 +106,10 @@ module _ (program : TreeProgram) where
     -- Each suspended call goes on where the frame inside its own says, with its own fp and ap; the outermost frame's return ends the run.
     pub data Waits : List Frame → List Extent → List Activation → Type 0 where
       ends_run : (f : Frame) → f.back ≡ None → Waits (f ∷ []) [] []
-      goes_on : (outer inner all : List Frame) (h f : Frame) (g : TreeFn) (e : Extent) (es : List Extent) (a : Activation) (rest : List Activation) (place : ℕ)
-          → inner ≡ outer ++ h ∷ [] → all ≡ inner ++ f ∷ [] → f.back ≡ Some place → AllBelow (2 ^ 32) f.saved → slice_index f.saved 13 ≡ h.fp
+      goes_on : (outer inner all : List Frame) (h f : Frame) (g : TreeFn) (e : Extent) (es : List Extent) (a : Activation)
+          (rest : List Activation) (place : ℕ)
+          → inner ≡ outer ++ h ∷ [] → all ≡ inner ++ f ∷ [] → f.back ≡ Some place → AllBelow (2 ^ 32) f.saved
+          → slice_index f.saved 13 ≡ h.fp
           → slice_index f.saved 12 ≡ h.ap
           → IsActive g e a place true → Waits inner es rest → Waits all (e ∷ es) (a ∷ rest)
 

@@ -68,5 +68,6 @@ HoldsNumbers all o = All (HoldsAddress all o.bytes) o.links × AllBelow 256 o.by
 -- In a code without fault the area that is spelled so is the objects' blocks.
 abbrev pub AreasAreBlocks : Type 0
 AreasAreBlocks =
-    (program : TreeProgram) (c : Code) → IsValid program → Loads c → All (HoldsNumbers program.objects) program.objects → c.area ≡ area_of program.objects
+    (program : TreeProgram) (c : Code) → IsValid program → Loads c → All (HoldsNumbers program.objects) program.objects → c.area
+    ≡ area_of program.objects
     → AreBlocks c.area program.objects c.area

@@ -32,7 +32,8 @@ GoesInside code l = (n : ℕ) → label_of_att l.att ≡ Some n → has_label co
 -- Where these stand, the instructions that are selected of a tree name what is there.
 abbrev pub SelectedNamesAreThere : Type 0
 SelectedNamesAreThere =
-    (q : TreeProgram) (d : Content) (first : ℕ) (w : List Leaf) (instrs : List Instr) (most : ℕ) (area : List AreaItem) (code : List CodeItem)
+    (q : TreeProgram) (d : Content) (first : ℕ) (w : List Leaf) (instrs : List Instr) (most : ℕ) (area : List AreaItem)
+    (code : List CodeItem)
     → HasNames q area code → AllByRecursion (GoesInside code) w → Selected vax q d first w instrs most
     → AllByRecursion (λ (i : Instr). undefined_in area code i ≡ None) instrs
 

@@ -1,7 +1,8 @@
 // The laws. Each function does nothing; its clause is the law.
 ghost use Rattle.gg_compile_names.specs.Claims.{LabelsStand, SelectedNamesAreThere};
 
-/// The law: the instructions that are selected of a tree name what is there, where the labels of the program and of the tree's function stand.
+/// The law: the instructions that are selected of a tree name what is there, where the labels of the program and of the tree's
+/// function stand.
 pub fn selected_names_are_there()
     ensures { SelectedNamesAreThere }
 {}

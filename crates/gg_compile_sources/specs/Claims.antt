@@ -28,7 +28,8 @@ pub record Keeps (p : AProgram) (c : Code) : Type 0 where
   pub loads : Loads c
   pub follows : (input : List ℕ) → AreBytes input → Follows (source p input) (run c input)
 
--- What code for the trees asks besides what typing gives: functions' names can be spelled, numbers, offsets and labels are longwords, and each
+-- What code for the trees asks besides what typing gives: functions' names can be spelled, numbers, offsets and labels
+-- are longwords, and each
 -- function's locals fit its frame.
 pub record IsWithinLimits (q : TreeProgram) : Type 0 where
   pub names : AllByRecursion (λ (f : TreeFn). is_name (function_label f.name) ≡ true) q.functions
@@ -39,4 +40,5 @@ pub record IsWithinLimits (q : TreeProgram) : Type 0 where
 -- The code that a description, whose rules are shown on the VAX, selects of the trees of a program keeps the program.
 abbrev pub SelectedCodesKeepPrograms : Type 0
 SelectedCodesKeepPrograms =
-    (p : AProgram) (d : Content) (c : Code) → IsSound p → IsWithinLimits (lowered p) → IsFit vax d → SelectedAll vax d (lowered p) c → Keeps p c
+    (p : AProgram) (d : Content) (c : Code) → IsSound p → IsWithinLimits (lowered p) → IsFit vax d
+    → SelectedAll vax d (lowered p) c → Keeps p c

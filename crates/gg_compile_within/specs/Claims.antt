@@ -25,4 +25,5 @@ TypedProgramsAreReady = (p : AProgram) → IsTypedUnit p → FitFrames p → Has
 
 -- The code that a description, whose rules are shown on the VAX, selects of them keeps the program.
 abbrev pub TypedCodesKeepPrograms : Type 0
-TypedCodesKeepPrograms = (p : AProgram) (d : Content) (c : Code) → IsTypedUnit p → FitFrames p → IsFit vax d → SelectedAll vax d (lowered p) c → Keeps p c
+TypedCodesKeepPrograms = (p : AProgram) (d : Content) (c : Code) → IsTypedUnit p → FitFrames p → IsFit vax d
+    → SelectedAll vax d (lowered p) c → Keeps p c

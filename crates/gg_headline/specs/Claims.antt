@@ -45,7 +45,8 @@ IsRefusal statuses.Unproved = Unit {0}
 -- What `compile` leaves at status 0 is a text of the source, and at each other status it refuses.
 abbrev pub CompileEnds : Type 0
 CompileEnds =
-    (result : Status) (names : Files) (at : Outside) → Leaves result names at → ((result ≡ statuses.Done) × IsCompiled names at) ⊎ IsRefusal result
+    (result : Status) (names : Files) (at : Outside) → Leaves result names at
+    → ((result ≡ statuses.Done) × IsCompiled names at) ⊎ IsRefusal result
 
 -- the file that `run` is given is this text
 abbrev pub HoldsText : List ℕ → Call → Type 0
@@ -57,7 +58,8 @@ TextsAreTaken =
     (d : Content) (p : AProgram) (text : List ℕ) (call : Call) → IsTextOf d p text → HoldsText text call
     → IsRefusedAs text_form code_runner statuses.AsmRefused call → ⊥
 
--- At each end that a run of it comes to, the meaning of the program on the same input has this output and this end, or a longer output where the
+-- At each end that a run of it comes to, the meaning of the program on the same input has this output and this end, or
+-- a longer output where the
 -- run is spent; or it makes a wild access or nests too deep.
 abbrev pub RunsTell : Type 0
 RunsTell =

@@ -80,7 +80,8 @@ abbrev pub letter_words : List Word
 letter_words =
     key While ∷ mark OpenParenthesis ∷ name (codes "s") ∷ mark CloseParenthesis ∷ mark OpenBrace ∷ name (codes "putchar")
     ∷ mark OpenParenthesis ∷ number (codes "65") 65 ∷ mark Plus ∷ mark OpenParenthesis ∷ name (codes "s") ∷ mark And
-    ∷ number (codes "15") 15 ∷ mark CloseParenthesis ∷ mark CloseParenthesis ∷ mark Semicolon ∷ shift_words (mark CloseBrace ∷ line_end ∷ [])
+    ∷ number (codes "15") 15 ∷ mark CloseParenthesis ∷ mark CloseParenthesis ∷ mark Semicolon ∷ shift_words
+    (mark CloseBrace ∷ line_end ∷ [])
 
 abbrev pub last_words : List Word
 last_words =

@@ -1,5 +1,6 @@
 -- What a call on the outside does, where its content is told.
-use Rattle.std.specs.Prelude.{◌≡◌, ◌⊎◌, ◌<◌, ◌+◌, ◌^◌, ◌-◌, ℕ, min, List, [], ◌∷◌, ◌++◌, length, take, drop, Option, Some, None, Result, Ok, Err}
+use Rattle.std.specs.Prelude.{◌≡◌, ◌⊎◌, ◌<◌, ◌+◌, ◌^◌, ◌-◌, ℕ, min, List, [], ◌∷◌, ◌++◌, length, take, drop, Option}
+use Rattle.std.specs.Prelude.{Some, None, Result, Ok, Err}
 use Rattle.gg_outside.specs.declared.faults.FolderFault.{FolderFault}
 use Rattle.gg_outside.specs.declared.faults.FolderFault.TheVariants as folder_faults
 use Rattle.gg_outside.specs.declared.faults.SinkFault.{SinkFault}

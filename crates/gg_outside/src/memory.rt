@@ -1,7 +1,9 @@
 // A folder, a source and a sink in memory, which fail at the calls whose numbers they are given.
 ghost use Rattle.std.specs.Prelude.{◌≡◌, ◌<◌, ◌≤◌, ℕ, List, [], ◌++◌, length, drop, OnOk, OnErr, IfOk, IfSome, IfNone, Some};
-ghost use Rattle.gg_outside.specs.Outside.{Missing, Stored, Reads, Takes, HandsOver, failed_after, count_after_read, count_after_write, next_count};
-ghost use Rattle.gg_outside.specs.Memory.{content_of, file_given, AnswersFile, read_given, source_after, write_given, AnswersWrite, sink_after};
+ghost use Rattle.gg_outside.specs.Outside.{Missing, Stored, Reads, Takes, HandsOver, failed_after, count_after_read};
+ghost use Rattle.gg_outside.specs.Outside.{count_after_write, next_count};
+ghost use Rattle.gg_outside.specs.Memory.{content_of, file_given, AnswersFile, read_given, source_after, write_given, AnswersWrite};
+ghost use Rattle.gg_outside.specs.Memory.{sink_after};
 
 use crate::{Failed, Folder, FolderFault, Sink, SinkFault, Source};
 use gg_base::{Bytes, Name};
@@ -76,7 +78,11 @@ impl Folder for MemFolder {
 
         // Which calls fail, and what each leaves behind.
         ensures given { AnswersFile result into.new.items (file_given self.old name.now limit) }
-        ensures after { self.new ≡ record self.old { calls = next_count self.old.calls; failed = failed_after self.old.failed name.now result } }
+        ensures after { self.new ≡ record self.old {
+          calls = next_count self.old.calls;
+          failed =
+              failed_after self.old.failed name.now result;
+        } }
     {
         let call = self.calls;
         self.calls = call.saturating_add(1);
@@ -115,7 +121,13 @@ impl Model for MemSource {
 
     ghost Value = { SourceInMemory };
 
-    ghost view = { λ s. record { left = drop s.place s.bytes.items; most = s.most; failing = s.failing.items; calls = s.calls; faults = s.faults } };
+    ghost view = { λ s. record {
+      left = drop s.place s.bytes.items;
+      most = s.most;
+      failing = s.failing.items;
+      calls = s.calls;
+      faults = s.faults;
+    } };
 
     ghost invariant = { λ s. (0 < s.most) × (s.place ≤ length s.bytes.items) };
 }

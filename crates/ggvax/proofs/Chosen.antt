@@ -10,10 +10,12 @@ only_check words command d only is = (subst (SaysOnly words) is only).0
 pub only_compile : (words : List (List ℕ)) (command : Command) (d source : Bor (List ℕ)) → SaysOnly words command → command ≡ Compile d source → OnlyPaired (codes "compile") words d.now source.now
 only_compile words command d source only is = (subst (SaysOnly words) is only).1
 
-pub only_run : (words : List (List ℕ)) (command : Command) (text : Bor (List ℕ)) (count : ℕ) → SaysOnly words command → command ≡ Run text count → OnlyCounted (codes "run") greatest_count words text.now count
+pub only_run : (words : List (List ℕ)) (command : Command) (text : Bor (List ℕ)) (count : ℕ) → SaysOnly words command → command ≡ Run text count
+    → OnlyCounted (codes "run") greatest_count words text.now count
 only_run words command text count only is = (subst (SaysOnly words) is only).2
 
-pub only_meaning : (words : List (List ℕ)) (command : Command) (source : Bor (List ℕ)) (count : ℕ) → SaysOnly words command → command ≡ Meaning source count → OnlyCounted (codes "meaning") greatest_count words source.now count
+pub only_meaning : (words : List (List ℕ)) (command : Command) (source : Bor (List ℕ)) (count : ℕ) → SaysOnly words command → command ≡ Meaning source count
+    → OnlyCounted (codes "meaning") greatest_count words source.now count
 only_meaning words command source count only is = (subst (SaysOnly words) is only).3
 
 pub only_load : (words : List (List ℕ)) (command : Command) (d : Bor (List ℕ)) (size : ℕ) → SaysOnly words command → command ≡ Load d size →

@@ -38,7 +38,8 @@ pub fn ggvax<F: Folder, I: Source, O: Sink, E: Sink>(
     out: &mut O,
     report: &mut E,
 ) -> Status
-    // `check D`: what each status says of the machine description, of its tables and rules and what is written, and that each comes where its
+    // `check D`: what each status says of the machine description, of its tables and rules and what is written, and that each comes
+    // where its
     // cause is there.
     ensures check { (d : List ℕ) → SaysCheck (spelled words.now) d
         → CheckLeaves result d (outside (lookup F.holds F.failed folder.old folder.new)
@@ -47,7 +48,8 @@ pub fn ggvax<F: Folder, I: Source, O: Sink, E: Sink>(
         → CheckIsExact result d (outside (lookup F.holds F.failed folder.old folder.new)
         (change O.told O.faults out.old out.new) (change E.told E.faults report.old report.new)) }
 
-    // `compile D S`: the same of the machine description, of the source and of the text of its code. Where a text is written, it is that of one
+    // `compile D S`: the same of the machine description, of the source and of the text of its code. Where a text is written, it is
+    // that of one
     // code, which loads and on every input does what the source does; and a source whose functions fit their frames has one.
     ensures compile { (d source : List ℕ) → SaysCompile (spelled words.now) d source
         → CompileLeaves result (files d source) (outside (lookup F.holds F.failed folder.old folder.new)
@@ -76,7 +78,8 @@ pub fn ggvax<F: Folder, I: Source, O: Sink, E: Sink>(
         (outside (lookup F.holds F.failed folder.old folder.new)
         (change O.told O.faults out.old out.new) (change E.told E.faults report.old report.new))) }
 
-    // `load D K`: the same of the machine description, and of the generated source of K functions, of its text and of what both sides' runs came
+    // `load D K`: the same of the machine description, and of the generated source of K functions, of its text and of what both
+    // sides' runs came
     // to; and that no other status comes.
     ensures load { (d : List ℕ) (k : ℕ) → SaysLoad (spelled words.now) d k
         → LoadLeaves result d k (outside (lookup F.holds F.failed folder.old folder.new)

@@ -1,5 +1,6 @@
 -- The candidate that the code takes is the one that the parse takes.
-use Rattle.std.proofs.Common.{◌≡◌, ℕ, ◌+◌, ◌-◌, ◌≤◌, ◌<◌, List, [], ◌∷◌, Option, Some, None, Bool, true, false, cond, Contains, length, set, map, slice_get, refl, sym, ap, ◌∙◌, subst, arith, length-set}
+use Rattle.std.proofs.Common.{◌≡◌, ℕ, ◌+◌, ◌-◌, ◌≤◌, ◌<◌, List, [], ◌∷◌, Option, Some, None, Bool, true, false, cond, Contains, length, set, map, slice_get, refl, sym, ap, ◌∙◌}
+use Rattle.std.proofs.Common.{subst, arith, length-set}
 use Rattle.std.specs.Prelude.{◌==◌, ◌||◌, nat_lt}
 use Rattle.std.specs.Option.{option_map}
 use Rattle.std.proofs.lemmas.Bool.{eqb-true, eqb-false, ne_eqb, le-ltb, or_from, cond-false}
@@ -45,7 +46,8 @@ here : {X : Type 0} (x : X) (xs : List X) → Contains (x ∷ xs) x
 here x xs = (0, omega arith, refl)
 
 module _ (t : TableView) (nodes : List Node) where
-  take_first : (n : ℕ) (ns : List ℕ) (s parts : List Part) (l : List Entry) → Takes t.content.rules s (n ∷ ns) (Some n) parts → Stands t nodes l parts → symbols parts ≡ symbols s → Chose t nodes (n ∷ ns) s (record { choice = Some (choice.Reduce n); stack = l })
+  take_first : (n : ℕ) (ns : List ℕ) (s parts : List Part) (l : List Entry) → Takes t.content.rules s (n ∷ ns) (Some n) parts → Stands t nodes l parts → symbols parts ≡ symbols s
+      → Chose t nodes (n ∷ ns) s (record { choice = Some (choice.Reduce n); stack = l })
   take_first n ns s parts l takes h e = record {
     taken = Some n;
     is = refl;
@@ -57,10 +59,12 @@ module _ (t : TableView) (nodes : List Node) where
   }
 
   -- the question of a restricted rule
-  restricted : (n : ℕ) (ns : List ℕ) (l : List Entry) (s : List Part) (r : Rule) (others : List Entry → Taken) → slice_get t.content.rules n ≡ Some r → 0 < length r.restrictions → 0 < length r.right → length r.right ≤ length l → Stands t nodes l s →
+  restricted : (n : ℕ) (ns : List ℕ) (l : List Entry) (s : List Part) (r : Rule) (others : List Entry → Taken) → slice_get t.content.rules n ≡ Some r → 0 < length r.restrictions
+      → 0 < length r.right → length r.right ≤ length l → Stands t nodes l s →
       ((k : List Entry) → Stands t nodes k (asked s r) → length k ≡ length l → Chose t nodes ns (asked s r) (others k)) →
       Chose t nodes (n ∷ ns) s (taken_or (choice.Reduce n) (asked_at nodes l (first_place (length l) (length r.right))) others)
-  restricted n ns l s r others there more some within h ih = subst (λ (o : Option ℕ). Chose t nodes (n ∷ ns) s (taken_or (choice.Reduce n) (asked_at nodes l o) others)) (sym (place_there (length l) (length r.right) some within)) (by (answer_of nodes (entry_at l i)) refl)
+  restricted n ns l s r others there more some within h ih = subst (λ (o : Option ℕ). Chose t nodes (n ∷ ns) s (taken_or (choice.Reduce n) (asked_at nodes l o) others))
+      (sym (place_there (length l) (length r.right) some within)) (by (answer_of nodes (entry_at l i)) refl)
     where
       i : ℕ
       i = length l - length r.right
@@ -78,7 +82,8 @@ module _ (t : TableView) (nodes : List Node) where
       behind = stands_used t nodes h (length r.right - 1) i deep place
 
       by : (b : Bool) → answer_of nodes (entry_at l (length l - length r.right)) ≡ b →
-          Chose t nodes (n ∷ ns) s (cond b (record { choice = Some (choice.Reduce n); stack = set l (length l - length r.right) (asked_of nodes (entry_at l (length l - length r.right))) }) (others (set l (length l - length r.right) (asked_of nodes (entry_at l (length l - length r.right))))))
+          Chose t nodes (n ∷ ns) s (cond b (record { choice = Some (choice.Reduce n); stack = set l (length l - length r.right) (asked_of nodes (entry_at l (length l - length r.right))) })
+          (others (set l (length l - length r.right) (asked_of nodes (entry_at l (length l - length r.right))))))
       by true e = take_first n ns s (asked s r) (set l i (asked_of nodes (entry_at l i))) (answered_yes r there more (sym answered ∙ e)) behind (symbols_used (length r.right - 1) s)
       by false e =
           let rest = ih (set l i (asked_of nodes (entry_at l i))) behind (length-set l i (asked_of nodes (entry_at l i))) in
@@ -92,23 +97,28 @@ module _ (t : TableView) (nodes : List Node) where
             same = rest.same ∙ symbols_used (length r.right - 1) s;
           }
 
-  first_rule : (n : ℕ) (ns : List ℕ) (l : List Entry) (s : List Part) (r : Rule) (others : List Entry → Taken) → slice_get t.content.rules n ≡ Some r → 0 < length r.right → length r.right ≤ length l → Stands t nodes l s →
+  first_rule : (n : ℕ) (ns : List ℕ) (l : List Entry) (s : List Part) (r : Rule) (others : List Entry → Taken) → slice_get t.content.rules n ≡ Some r → 0 < length r.right
+      → length r.right ≤ length l → Stands t nodes l s →
       ((k : List Entry) → Stands t nodes k (asked s r) → length k ≡ length l → Chose t nodes ns (asked s r) (others k)) →
       Chose t nodes (n ∷ ns) s (taken_or (choice.Reduce n) (question nodes l r) others)
   first_rule n ns l s r others there some within h ih = by (length r.restrictions == 0) refl
     where
-      by : (b : Bool) → (length r.restrictions == 0) ≡ b → Chose t nodes (n ∷ ns) s (taken_or (choice.Reduce n) (cond b (record { yes = true; stack = l }) (asked_at nodes l (first_place (length l) (length r.right)))) others)
+      by : (b : Bool) → (length r.restrictions == 0) ≡ b → Chose t nodes (n ∷ ns) s
+          (taken_or (choice.Reduce n) (cond b (record { yes = true; stack = l }) (asked_at nodes l (first_place (length l) (length r.right)))) others)
       by true e = take_first n ns s s l (unrestricted r there (eqb-true (length r.restrictions) 0 e)) h refl
       by false e = restricted n ns l s r others there (let ne = eqb-false (length r.restrictions) 0 e in omega (arith, ne)) some within h ih
 
-  pub chose : (ns : List ℕ) (l : List Entry) (s : List Part) → Stands t nodes l s → ((n : ℕ) → Contains ns n → Fits t.content.rules (length l) n) → Chose t nodes ns s (chosen t.content.rules nodes (map choice.Reduce ns) l)
+  pub chose : (ns : List ℕ) (l : List Entry) (s : List Part) → Stands t nodes l s → ((n : ℕ) → Contains ns n → Fits t.content.rules (length l) n)
+      → Chose t nodes ns s (chosen t.content.rules nodes (map choice.Reduce ns) l)
   unfolding chosen
   chose [] l s h f = record { taken = None; is = refl; within = λ n e. absurd (none_some n e); parts = s; takes = nothing; stands = h; same = refl }
   chose (n ∷ ns) l s h f =
       by (slice_get t.content.rules n) (f n (here n ns)).there
       (λ k p g e. chose ns k p g (λ m c. subst (λ (x : ℕ). Fits t.content.rules x m) (sym e) (f m (Contains-append_right (n ∷ []) ns m c))))
     where
-      by : (o : Option Rule) → o ≡ Some (f n (here n ns)).rule → ((k : List Entry) (p : List Part) → Stands t nodes k p → length k ≡ length l → Chose t nodes ns p (chosen t.content.rules nodes (map choice.Reduce ns) k)) → Chose t nodes (n ∷ ns) s (taken_or (choice.Reduce n) (question_at nodes l o) (λ k. chosen t.content.rules nodes (map choice.Reduce ns) k))
+      by : (o : Option Rule) → o ≡ Some (f n (here n ns)).rule → ((k : List Entry) (p : List Part) → Stands t nodes k p → length k ≡ length l
+          → Chose t nodes ns p (chosen t.content.rules nodes (map choice.Reduce ns) k))
+          → Chose t nodes (n ∷ ns) s (taken_or (choice.Reduce n) (question_at nodes l o) (λ k. chosen t.content.rules nodes (map choice.Reduce ns) k))
       by None e ih = absurd (none_some _ e)
       by (Some r) e ih =
           let x = f n (here n ns) in

@@ -25,18 +25,23 @@ module _ (rules : List Rule) (nodes : List Node) (cs : List Choice) (start : Lis
   unfolding chosen
   chosen_accept x lt e f = at x choice.Accept lt e f
 
-  pub chosen_shift : (x : Choice) (q : ℕ) → i < length cs → x ≡ get_or cs i x → x ≡ choice.Shift q → ◌≡◌ {A = Taken} (record { choice = Some (choice.Shift q); stack = s }) (chosen rules nodes cs start)
+  pub chosen_shift : (x : Choice) (q : ℕ) → i < length cs → x ≡ get_or cs i x → x ≡ choice.Shift q
+      → ◌≡◌ {A = Taken} (record { choice = Some (choice.Shift q); stack = s }) (chosen rules nodes cs start)
   unfolding chosen
   chosen_shift x q lt e f = at x (choice.Shift q) lt e f
 
-  chosen_by : (x : Choice) (n : ℕ) (a : Asked) → i < length cs → x ≡ get_or cs i x → x ≡ choice.Reduce n → a ≡ question_at nodes s (slice_get rules n) → taken_or (choice.Reduce n) a (λ k. chosen rules nodes (drop (i + 1) cs) k) ≡ chosen rules nodes cs start
+  chosen_by : (x : Choice) (n : ℕ) (a : Asked) → i < length cs → x ≡ get_or cs i x → x ≡ choice.Reduce n → a ≡ question_at nodes s (slice_get rules n)
+      → taken_or (choice.Reduce n) a (λ k. chosen rules nodes (drop (i + 1) cs) k) ≡ chosen rules nodes cs start
   unfolding chosen
   chosen_by x n a lt e f g = ap (λ (y : Asked). taken_or (choice.Reduce n) y (λ k. chosen rules nodes (drop (i + 1) cs) k)) g ∙ at x (choice.Reduce n) lt e f
 
-  pub chosen_taken : (x : Choice) (n : ℕ) (b : Bool) (s' : List Entry) → i < length cs → x ≡ get_or cs i x → x ≡ choice.Reduce n → ◌≡◌ {A = Asked} (record { yes = b; stack = s' }) (question_at nodes s (slice_get rules n)) → b ≡ true → ◌≡◌ {A = Taken} (record { choice = Some (choice.Reduce n); stack = s' }) (chosen rules nodes cs start)
+  pub chosen_taken : (x : Choice) (n : ℕ) (b : Bool) (s' : List Entry) → i < length cs → x ≡ get_or cs i x → x ≡ choice.Reduce n
+      → ◌≡◌ {A = Asked} (record { yes = b; stack = s' }) (question_at nodes s (slice_get rules n)) → b ≡ true
+      → ◌≡◌ {A = Taken} (record { choice = Some (choice.Reduce n); stack = s' }) (chosen rules nodes cs start)
   chosen_taken x n b s' lt e f g h =
       ap (λ (y : Bool). cond y (record { choice = Some (choice.Reduce n); stack = s' }) (chosen rules nodes (drop (i + 1) cs) s')) (sym h) ∙ chosen_by x n (record { yes = b; stack = s' }) lt e f g
 
-  pub chosen_passed : (x : Choice) (n : ℕ) (b : Bool) (s' : List Entry) → i < length cs → x ≡ get_or cs i x → x ≡ choice.Reduce n → ◌≡◌ {A = Asked} (record { yes = b; stack = s' }) (question_at nodes s (slice_get rules n)) → b ≡ false → chosen rules nodes (drop (i + 1) cs) s' ≡ chosen rules nodes cs start
+  pub chosen_passed : (x : Choice) (n : ℕ) (b : Bool) (s' : List Entry) → i < length cs → x ≡ get_or cs i x → x ≡ choice.Reduce n
+      → ◌≡◌ {A = Asked} (record { yes = b; stack = s' }) (question_at nodes s (slice_get rules n)) → b ≡ false → chosen rules nodes (drop (i + 1) cs) s' ≡ chosen rules nodes cs start
   chosen_passed x n b s' lt e f g h =
       ap (λ (y : Bool). cond y (record { choice = Some (choice.Reduce n); stack = s' }) (chosen rules nodes (drop (i + 1) cs) s')) (sym h) ∙ chosen_by x n (record { yes = b; stack = s' }) lt e f g

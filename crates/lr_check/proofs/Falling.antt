@@ -1,5 +1,6 @@
 -- Each step that goes on leaves less to do.
-use Rattle.std.proofs.Common.{◌≡◌, ℕ, ◌+◌, ◌-◌, ◌*◌, ◌≤◌, ◌<◌, List, [], ◌∷◌, ◌++◌, Option, Some, None, Bool, true, false, cond, not, length, count_by, get_or, set, take, replicate, slice_get, refl, sym, ap, ◌∙◌, subst, arith, length-append, length-set}
+use Rattle.std.proofs.Common.{◌≡◌, ℕ, ◌+◌, ◌-◌, ◌*◌, ◌≤◌, ◌<◌, List, [], ◌∷◌, ◌++◌, Option, Some, None, Bool, true, false, cond, not, length, count_by, get_or, set, take}
+use Rattle.std.proofs.Common.{replicate, slice_get, refl, sym, ap, ◌∙◌, subst, arith, length-append, length-set}
 use Rattle.std.specs.Prelude.{◌==◌, ◌||◌, nat_lt}
 use Rattle.std.proofs.lemmas.List.{length-replicate, length-take-le}
 use Rattle.std.proofs.lemmas.List.Sums.{sum_by-set, sum_by-cons}
@@ -15,7 +16,8 @@ use Rattle.lr_tables.specs.Grammar.{IsGrammar}
 use Rattle.lr_check.specs.declared.stack.Entry.{Entry}
 use Rattle.lr_check.specs.declared.sample.Outcome.{Outcome}
 use Rattle.lr_check.specs.Tree.{Node}
-use Rattle.lr_check.specs.Steps.{Config, Asked, first_place, entry_at, asked_of, asked_at, question, question_at, chosen, top_of, token_of, After, blocks, shifted, marked, placed, reduced_by, reduced, after_choice, step}
+use Rattle.lr_check.specs.Steps.{Config, Asked, first_place, entry_at, asked_of, asked_at, question, question_at, chosen, top_of, token_of, After, blocks, shifted, marked, placed}
+use Rattle.lr_check.specs.Steps.{reduced_by, reduced, after_choice, step}
 
 -- what is left to do: the tokens to come, the stack, and the classes that were not on top
 abbrev pub weight : ℕ → Config → ℕ
@@ -81,9 +83,11 @@ unfolding chosen
 length-chosen rules nodes [] stack = refl
 length-chosen rules nodes (choice.Shift q ∷ cs) stack = refl
 length-chosen rules nodes (choice.Accept ∷ cs) stack = refl
-length-chosen rules nodes (choice.Reduce n ∷ cs) stack = choose (question_at nodes stack (slice_get rules n)) (length-question_at nodes stack (slice_get rules n)) (λ s. length-chosen rules nodes cs s) (question_at nodes stack (slice_get rules n)).yes
+length-chosen rules nodes (choice.Reduce n ∷ cs) stack = choose (question_at nodes stack (slice_get rules n)) (length-question_at nodes stack (slice_get rules n))
+    (λ s. length-chosen rules nodes cs s) (question_at nodes stack (slice_get rules n)).yes
   where
-    choose : (a : Asked) → length a.stack ≡ length stack → ((s : List Entry) → length (chosen rules nodes cs s).stack ≡ length s) → (b : Bool) → length (cond b (record { choice = Some (choice.Reduce n); stack = a.stack }) (chosen rules nodes cs a.stack)).stack ≡ length stack
+    choose : (a : Asked) → length a.stack ≡ length stack → ((s : List Entry) → length (chosen rules nodes cs s).stack ≡ length s) → (b : Bool)
+        → length (cond b (record { choice = Some (choice.Reduce n); stack = a.stack }) (chosen rules nodes cs a.stack)).stack ≡ length stack
     choose a e ih true = e
     choose a e ih false = ih a.stack ∙ e
 
@@ -112,18 +116,22 @@ module _ (total : ℕ) (c : Config) where
       let left : total - c.at ≡ total - (c.at + 1) + 1 = omega (arith, lt) in
       record {
         less = λ u.
-            let new : (total - (c.at + 1)) * (2 * (length (replicate (length c.seen) false) + 1)) + (length (stack ++ e ∷ []) * (length (replicate (length c.seen) false) + 1) + count_by not (replicate (length c.seen) false)) ≡ (total - (c.at + 1)) * (2 * (length c.seen + 1)) + ((length c.stack + 1) * (length c.seen + 1) + count_by not (replicate (length c.seen) false)) =
+            let new : (total - (c.at + 1)) * (2 * (length (replicate (length c.seen) false) + 1))
+            + (length (stack ++ e ∷ []) * (length (replicate (length c.seen) false) + 1) + count_by not (replicate (length c.seen) false))
+            ≡ (total - (c.at + 1)) * (2 * (length c.seen + 1)) + ((length c.stack + 1) * (length c.seen + 1) + count_by not (replicate (length c.seen) false)) =
             λ i. (total - (c.at + 1)) * (2 * (len i + 1)) + (long i * (len i + 1) + count_by not (replicate (length c.seen) false)) in
             let old : weight total c ≡ (total - (c.at + 1) + 1) * (2 * (length c.seen + 1)) + (length c.stack * (length c.seen + 1) + count_by not c.seen) =
             ap (λ x. x * (2 * (length c.seen + 1)) + (length c.stack * (length c.seen + 1) + count_by not c.seen)) left in
             let less = shift_less (total - (c.at + 1)) (length c.seen) (length c.stack) (count_by not c.seen) (count_by not (replicate (length c.seen) false)) (omega (arith, most, len)) in
-            subst (λ x. x < weight total c) (sym new) (subst (λ x. (total - (c.at + 1)) * (2 * (length c.seen + 1)) + ((length c.stack + 1) * (length c.seen + 1) + count_by not (replicate (length c.seen) false)) < x) (sym old) less);
+            subst (λ x. x < weight total c) (sym new) (subst (λ x. (total - (c.at + 1)) * (2 * (length c.seen + 1))
+            + ((length c.stack + 1) * (length c.seen + 1) + count_by not (replicate (length c.seen) false)) < x) (sym old) less);
         seen = λ u. len;
       }
 
   -- a class is put on a stack of this length, where these classes were on top before
   mark_falls : (stack : List Entry) (seen : List Bool) (left i : ℕ) → length stack ≡ i + 1 → length seen ≡ length c.seen →
-      ((v : ℕ) → (get_or seen left false ≡ false → v + 1 ≡ count_by not seen) → get_or seen left false ≡ false → v ≤ length c.seen → (total - c.at) * (2 * (length c.seen + 1)) + ((i + 1) * (length c.seen + 1) + v) < weight total c) →
+      ((v : ℕ) → (get_or seen left false ≡ false → v + 1 ≡ count_by not seen) → get_or seen left false ≡ false → v ≤ length c.seen → (total - c.at) * (2 * (length c.seen + 1))
+      + ((i + 1) * (length c.seen + 1) + v) < weight total c) →
       left < length c.seen →
       Falls total c (marked (record { at = c.at; stack = stack; seen = seen }) left)
   mark_falls stack seen left i long len less lt = by (get_or seen left false) refl
@@ -131,7 +139,9 @@ module _ (total : ℕ) (c : Config) where
       n : ℕ
       n = length c.seen
 
-      by : (b : Bool) → get_or seen left false ≡ b → Falls total c (cond b (record { ending = Some (Rattle.lr_check.specs.declared.sample.Outcome.TheVariants.Loops c.at); config = record { at = c.at; stack = stack; seen = seen } }) (record { ending = None; config = record { at = c.at; stack = stack; seen = set seen left true } }))
+      by : (b : Bool) → get_or seen left false ≡ b → Falls total c (cond b
+          (record { ending = Some (Rattle.lr_check.specs.declared.sample.Outcome.TheVariants.Loops c.at); config = record { at = c.at; stack = stack; seen = seen } })
+          (record { ending = None; config = record { at = c.at; stack = stack; seen = set seen left true } }))
       by true e = record { less = λ u. absurd (some_none _ u); seen = λ u. absurd (some_none _ u) }
       by false e =
           let v = count_by not (set seen left true) in
@@ -143,7 +153,8 @@ module _ (total : ℕ) (c : Config) where
             seen = λ u. same;
           }
 
-  placed_falls : (i : ℕ) (below : List Entry) (r : Rule) (e : Entry) (o : Option ℕ) → length below ≡ i → i + length r.right ≡ length c.stack → 0 < length r.right → r.left < length c.seen → Falls total c (placed c below r e o)
+  placed_falls : (i : ℕ) (below : List Entry) (r : Rule) (e : Entry) (o : Option ℕ) → length below ≡ i → i + length r.right ≡ length c.stack → 0 < length r.right → r.left < length c.seen
+      → Falls total c (placed c below r e o)
   placed_falls i below r e None l s some lt = blocks_falls total c below
   placed_falls i below r e (Some q) l s some lt = by (nat_lt 1 (length r.right)) refl
     where
@@ -153,23 +164,27 @@ module _ (total : ℕ) (c : Config) where
       long : length (below ++ record { state = q; node = e.node; used = e.used } ∷ []) ≡ i + 1
       long = length-append below (record { state = q; node = e.node; used = e.used } ∷ []) ∙ ap (λ x. x + 1) l
 
-      by : (b : Bool) → nat_lt 1 (length r.right) ≡ b → Falls total c (marked (record { at = c.at; stack = below ++ record { state = q; node = e.node; used = e.used } ∷ []; seen = cond b (replicate (length c.seen) false) c.seen }) r.left)
+      by : (b : Bool) → nat_lt 1 (length r.right) ≡ b → Falls total c (marked
+          (record { at = c.at; stack = below ++ record { state = q; node = e.node; used = e.used } ∷ []; seen = cond b (replicate (length c.seen) false) c.seen }) r.left)
       by true f =
           let two : 1 < length r.right = ltb-true 1 (length r.right) f in
           let old : i + 2 + (length r.right - 2) ≡ length c.stack = omega (arith, two, s) in
           mark_falls (below ++ record { state = q; node = e.node; used = e.used } ∷ []) (replicate (length c.seen) false) r.left i long (length-replicate (length c.seen) false)
-          (λ v one g most. subst (λ x. (total - c.at) * (2 * (length c.seen + 1)) + ((i + 1) * (length c.seen + 1) + v) < (total - c.at) * (2 * (length c.seen + 1)) + (x * (length c.seen + 1) + count_by not c.seen)) old
+          (λ v one g most. subst (λ x. (total - c.at) * (2 * (length c.seen + 1)) + ((i + 1) * (length c.seen + 1) + v) < (total - c.at) * (2 * (length c.seen + 1))
+          + (x * (length c.seen + 1) + count_by not c.seen)) old
           (long_less ((total - c.at) * (2 * (length c.seen + 1))) i (length r.right - 2) (length c.seen) (count_by not c.seen) v most))
           lt
       by false f =
           let le : length r.right ≤ 1 = ltb-false 1 (length r.right) f in
           let old : i + 1 ≡ length c.stack = omega (arith, le, s, some) in
           mark_falls (below ++ record { state = q; node = e.node; used = e.used } ∷ []) c.seen r.left i long refl
-          (λ v one g most. subst (λ x. (total - c.at) * (2 * (length c.seen + 1)) + ((i + 1) * (length c.seen + 1) + v) < (total - c.at) * (2 * (length c.seen + 1)) + (x * (length c.seen + 1) + count_by not c.seen)) old
+          (λ v one g most. subst (λ x. (total - c.at) * (2 * (length c.seen + 1)) + ((i + 1) * (length c.seen + 1) + v) < (total - c.at) * (2 * (length c.seen + 1))
+          + (x * (length c.seen + 1) + count_by not c.seen)) old
           (unit_less ((total - c.at) * (2 * (length c.seen + 1))) i (length c.seen) (count_by not c.seen) v (one g)))
           lt
 
-  reduced_falls : (t : TableView) (stmt : ℕ) (stack : List Entry) (n : ℕ) → IsGrammar t.content.rules stmt (length c.seen) → length stack ≡ length c.stack → Falls total c (reduced t c stack (slice_get t.content.rules n))
+  reduced_falls : (t : TableView) (stmt : ℕ) (stack : List Entry) (n : ℕ) → IsGrammar t.content.rules stmt (length c.seen) → length stack ≡ length c.stack
+      → Falls total c (reduced t c stack (slice_get t.content.rules n))
   reduced_falls t stmt stack n g l = by (slice_get t.content.rules n) refl
     where
       place : (r : Rule) → slice_get t.content.rules n ≡ Some r → (o : Option ℕ) → first_place (length stack) (length r.right) ≡ o → Falls total c (reduced_by t c stack r o)
@@ -184,7 +199,8 @@ module _ (total : ℕ) (c : Config) where
       by None e = blocks_falls total c stack
       by (Some r) e = place r e (first_place (length stack) (length r.right)) refl
 
-  after_falls : (t : TableView) (stmt : ℕ) (next : Option ℕ) (stack : List Entry) (o : Option Choice) → IsGrammar t.content.rules stmt (length c.seen) → length stack ≡ length c.stack → ((n : ℕ) → next ≡ Some n → c.at < total) → Falls total c (after_choice t next c stack o)
+  after_falls : (t : TableView) (stmt : ℕ) (next : Option ℕ) (stack : List Entry) (o : Option Choice) → IsGrammar t.content.rules stmt (length c.seen) → length stack ≡ length c.stack
+      → ((n : ℕ) → next ≡ Some n → c.at < total) → Falls total c (after_choice t next c stack o)
   after_falls t stmt next stack None g l h = blocks_falls total c stack
   after_falls t stmt next stack (Some choice.Accept) g l h = record { less = λ u. absurd (some_none _ u); seen = λ u. absurd (some_none _ u) }
   after_falls t stmt next stack (Some (choice.Shift q)) g l h = shift_falls stack q next l h

@@ -56,7 +56,8 @@ module _ (t : TableView) (nodes : List Node) (order : List ℕ) (valid : IsValid
 
   module _ (c : Config) (before : List (List Sym)) (ws : List Token) (s : List Part) (a : Agrees t nodes order before ws s c) where
     -- the class of a complete item comes on top
-    placed_meant : (stack : List Entry) (s' : List Part) (n : ℕ) → Stands t nodes stack s' → symbols s' ≡ symbols s → Reduction t.content.rules (stmt_of t.content.classes) ws s (Some n) s' → MayReduce t.content.rules (stmt_of t.content.classes) (symbols s) (coming ws) n →
+    placed_meant : (stack : List Entry) (s' : List Part) (n : ℕ) → Stands t nodes stack s' → symbols s' ≡ symbols s → Reduction t.content.rules (stmt_of t.content.classes) ws s (Some n) s'
+        → MayReduce t.content.rules (stmt_of t.content.classes) (symbols s) (coming ws) n →
         Meant t nodes order c.at before ws s (reduced t c stack (slice_get t.content.rules n))
     placed_meant stack s' n h same red m =
         let r = m.rule in
@@ -71,7 +72,8 @@ module _ (t : TableView) (nodes : List Node) (order : List ℕ) (valid : IsValid
         let below : Stands t nodes (take place stack) (drop (length r.right) s') = stands_below t nodes h (length r.right) (omega (arith, fits, size_s')) in
         let under : symbols (drop (length r.right) s') ≡ drop (length r.right) (symbols s) = sym (drop-map (λ (p : Part). p.symbol) (length r.right) s') ∙ ap (drop (length r.right)) same in
         let stands_before : StandsBefore t.content.rules (stmt_of t.content.classes) (symbols (drop (length r.right) s')) (symbol.Class r.left) =
-        subst (λ (x : List Sym). StandsBefore t.content.rules (stmt_of t.content.classes) x (symbol.Class r.left)) (sym under) (opened t.content.rules (stmt_of t.content.classes) covered.below n r refl m.there) in
+        subst (λ (x : List Sym). StandsBefore t.content.rules (stmt_of t.content.classes) x (symbol.Class r.left)) (sym under)
+        (opened t.content.rules (stmt_of t.content.classes) covered.below n r refl m.there) in
         let to : (q : ℕ) × (target_at t (top_of (take place stack)) (symbol.Class r.left) ≡ Some q) × Leads t (symbol.Class r.left ∷ symbols (drop (length r.right) s')) q =
         goes_some t.content.rules (stmt_of t.content.classes) t (symbols (drop (length r.right) s')) r.left (target_at t (top_of (take place stack)) (symbol.Class r.left))
         (goes_at (symbols (drop (length r.right) s')) (top_of (take place stack)) r.left (stands_leads t nodes below)) stands_before in
@@ -83,10 +85,12 @@ module _ (t : TableView) (nodes : List Node) (order : List ℕ) (valid : IsValid
         subst (λ (x : Option Rule). Meant t nodes order c.at before ws s (reduced t c stack x)) (sym m.there)
         (subst (λ (x : Option ℕ). Meant t nodes order c.at before ws s (reduced_by t c stack r x)) (sym (place_there (length stack) (length r.right) some fits))
         (subst (λ (x : Option ℕ). Meant t nodes order c.at before ws s (placed c (take place stack) r e x)) (sym to.1)
-        (class_meant t nodes order c before ws s a entries (parse.reduced s' r) (length r.right) r.left (λ o x. parse.reduces r a.fresh red m.there x) stands (ap (λ (x : List Sym). symbol.Class r.left ∷ x) under) some within lt)))
+        (class_meant t nodes order c before ws s a entries (parse.reduced s' r) (length r.right) r.left (λ o x. parse.reduces r a.fresh red m.there x) stands
+        (ap (λ (x : List Sym). symbol.Class r.left ∷ x) under) some within lt)))
 
     -- nothing is shifted
-    reduce_meant : (ns : List ℕ) → (StandsBefore t.content.rules (stmt_of t.content.classes) (symbols s) (symbol.Tok (coming ws)) → ⊥) → AreReductions t.content.rules (stmt_of t.content.classes) (symbols s) (coming ws) ns →
+    reduce_meant : (ns : List ℕ) → (StandsBefore t.content.rules (stmt_of t.content.classes) (symbols s) (symbol.Tok (coming ws)) → ⊥)
+        → AreReductions t.content.rules (stmt_of t.content.classes) (symbols s) (coming ws) ns →
         (out : Taken) → Chose t nodes ns s out → Meant t nodes order c.at before ws s (after_choice t (slice_get order c.at) c out.stack out.choice)
     reduce_meant ns none are out x = subst (λ (o : Option Choice). Meant t nodes order c.at before ws s (after_choice t (slice_get order c.at) c out.stack o)) (sym x.is) (by x.taken refl)
       where
@@ -111,18 +115,22 @@ module _ (t : TableView) (nodes : List Node) (order : List ℕ) (valid : IsValid
     choice_meant : (cs : List Choice) → Candidates t.content.rules (stmt_of t.content.classes) t (symbols s) (token_of nodes (slice_get order c.at)) cs →
         Meant t nodes order c.at before ws s (after_choice t (slice_get order c.at) c (chosen t.content.rules nodes cs c.stack).stack (chosen t.content.rules nodes cs c.stack).choice)
     unfolding chosen
-    choice_meant cs (accepts b e) = ended (parse.accepts a.fresh (statement_alone t.content.rules (stmt_of t.content.classes) (length t.content.classes) (is_grammar t.content valid) (symbols s) (subst (λ (k : Tok). StandsBefore t.content.rules (stmt_of t.content.classes) (symbols s) (symbol.Tok k)) e b)) (token_same ∙ e))
+    choice_meant cs (accepts b e) = ended (parse.accepts a.fresh (statement_alone t.content.rules (stmt_of t.content.classes) (length t.content.classes) (is_grammar t.content valid)
+        (symbols s) (subst (λ (k : Tok). StandsBefore t.content.rules (stmt_of t.content.classes) (symbols s) (symbol.Tok k)) e b)) (token_same ∙ e))
     choice_meant cs (shifts {q = q} b ne l) = shift_meant t nodes order c before ws s a q (slice_get order c.at) refl b ne l
     choice_meant cs (reduces {cs = ds} ns none are e) =
         let token = token_same in
-        let no_shift : StandsBefore t.content.rules (stmt_of t.content.classes) (symbols s) (symbol.Tok (coming ws)) → ⊥ = subst (λ (k : Tok). StandsBefore t.content.rules (stmt_of t.content.classes) (symbols s) (symbol.Tok k) → ⊥) (sym token) none in
-        let there : AreReductions t.content.rules (stmt_of t.content.classes) (symbols s) (coming ws) ns = subst (λ (k : Tok). AreReductions t.content.rules (stmt_of t.content.classes) (symbols s) k ns) (sym token) are in
+        let no_shift : StandsBefore t.content.rules (stmt_of t.content.classes) (symbols s) (symbol.Tok (coming ws))
+        → ⊥ = subst (λ (k : Tok). StandsBefore t.content.rules (stmt_of t.content.classes) (symbols s) (symbol.Tok k) → ⊥) (sym token) none in
+        let there : AreReductions t.content.rules (stmt_of t.content.classes) (symbols s) (coming ws) ns =
+        subst (λ (k : Tok). AreReductions t.content.rules (stmt_of t.content.classes) (symbols s) k ns) (sym token) are in
         reduce_meant ns no_shift there (chosen t.content.rules nodes ds c.stack)
         (subst (λ (x : List Choice). Chose t nodes ns s (chosen t.content.rules nodes x c.stack)) (sym e) (chose t nodes ns c.stack s a.stands (fits ns there)))
 
     pub step_meant : Meant t nodes order c.at before ws s (step t nodes order c)
     unfolding step
-    step_meant = choice_meant (actions_at t (top_of c.stack) (token_of nodes (slice_get order c.at))) (candidates_at (symbols s) (top_of c.stack) (token_of nodes (slice_get order c.at)) (stands_leads t nodes a.stands))
+    step_meant = choice_meant (actions_at t (top_of c.stack) (token_of nodes (slice_get order c.at)))
+        (candidates_at (symbols s) (top_of c.stack) (token_of nodes (slice_get order c.at)) (stands_leads t nodes a.stands))
 
   record Onward (at : ℕ) (before : List (List Sym)) (ws : List Token) (s : List Part) (c : Config) : Type 0 where
     before' : List (List Sym)
@@ -131,7 +139,8 @@ module _ (t : TableView) (nodes : List Node) (order : List ℕ) (valid : IsValid
     agrees : Agrees t nodes order before' ws' s' c
     rest : (o : Outcome) → Ends t.content.rules (stmt_of t.content.classes) c.at before' ws' s' o → Ends t.content.rules (stmt_of t.content.classes) at before ws s o
 
-  ends_there : {at : ℕ} {before : List (List Sym)} {ws : List Token} {s : List Part} {x : After} → Meant t nodes order at before ws s x → (o : Outcome) → x.ending ≡ Some o → Ends t.content.rules (stmt_of t.content.classes) at before ws s o
+  ends_there : {at : ℕ} {before : List (List Sym)} {ws : List Token} {s : List Part} {x : After} → Meant t nodes order at before ws s x → (o : Outcome) → x.ending ≡ Some o
+      → Ends t.content.rules (stmt_of t.content.classes) at before ws s o
   ends_there {at = at} {before = before} {ws = ws} {s = s} (ended {o = p} h) o e = subst (Ends t.content.rules (stmt_of t.content.classes) at before ws s) (Some-same p o e) h
   ends_there (went b w p g rest) o e = absurd (none_some o e)
 
@@ -139,7 +148,8 @@ module _ (t : TableView) (nodes : List Node) (order : List ℕ) (valid : IsValid
   goes_onward (ended {o = p} h) e = absurd (some_none p e)
   goes_onward (went b w p g rest) e = record { before' = b; ws' = w; s' = p; agrees = g; rest = rest }
 
-  halts_ends : {c : Config} {o : Outcome} → Halts t nodes order c o → (before : List (List Sym)) (ws : List Token) (s : List Part) → Agrees t nodes order before ws s c → Ends t.content.rules (stmt_of t.content.classes) c.at before ws s o
+  halts_ends : {c : Config} {o : Outcome} → Halts t nodes order c o → (before : List (List Sym)) (ws : List Token) (s : List Part) → Agrees t nodes order before ws s c
+      → Ends t.content.rules (stmt_of t.content.classes) c.at before ws s o
   halts_ends (over {c = c} {o = o} e) before ws s a = ends_there (step_meant c before ws s a) o e
   halts_ends (onward {c = c} {o = o} e h) before ws s a =
       let g = goes_onward (step_meant c before ws s a) e in

@@ -1,5 +1,6 @@
 -- Each step of the code is one of the parse.
-use Rattle.std.proofs.Common.{◌≡◌, ℕ, zero, suc, ◌+◌, ◌≤◌, ◌<◌, List, [], ◌∷◌, Option, Some, None, Bool, true, false, cond, Contains, length, get_or, set, drop, map, replicate, slice_get, refl, sym, ap, ◌∙◌, subst, arith, length-set}
+use Rattle.std.proofs.Common.{◌≡◌, ℕ, zero, suc, ◌+◌, ◌≤◌, ◌<◌, List, [], ◌∷◌, Option, Some, None, Bool, true, false, cond, Contains, length, get_or, set, drop, map, replicate}
+use Rattle.std.proofs.Common.{slice_get, refl, sym, ap, ◌∙◌, subst, arith, length-set}
 use Rattle.std.specs.Prelude.{nat_lt}
 use Rattle.std.proofs.lemmas.List.{length-map, length-drop, length-replicate}
 use Rattle.std.proofs.lemmas.Bool.{ltb-true, ltb-false, both_ways}
@@ -74,13 +75,15 @@ pub data Meant (t : TableView) (nodes : List Node) (order : List ℕ) (at : ℕ)
 pub length_symbols : (s : List Part) → length (symbols s) ≡ length s
 length_symbols s = length-map s (λ (p : Part). p.symbol)
 
-pub goes_some : (rules : List Rule) (stmt : ℕ) (t : TableView) (a : List Sym) (c : ℕ) (o : Option ℕ) → Goes rules stmt t a c o → StandsBefore rules stmt a (symbol.Class c) → (q : ℕ) × (o ≡ Some q) × Leads t (symbol.Class c ∷ a) q
+pub goes_some : (rules : List Rule) (stmt : ℕ) (t : TableView) (a : List Sym) (c : ℕ) (o : Option ℕ) → Goes rules stmt t a c o → StandsBefore rules stmt a (symbol.Class c) → (q : ℕ)
+    × (o ≡ Some q) × Leads t (symbol.Class c ∷ a) q
 goes_some rules stmt t a c None g s = absurd (g s)
 goes_some rules stmt t a c (Some q) g s = (q, refl, g.1)
 
 module _ (t : TableView) (nodes : List Node) (order : List ℕ) (c : Config) (before : List (List Sym)) (ws : List Token) (s : List Part) (a : Agrees t nodes order before ws s c) where
   -- a token is shifted
-  pub shift_meant : (q : ℕ) (next : Option ℕ) → slice_get order c.at ≡ next → StandsBefore t.content.rules (stmt_of t.content.classes) (symbols s) (symbol.Tok (token_of nodes next)) → (token_of nodes next ≡ tok.End → ⊥) → Leads t (symbol.Tok (token_of nodes next) ∷ symbols s) q →
+  pub shift_meant : (q : ℕ) (next : Option ℕ) → slice_get order c.at ≡ next → StandsBefore t.content.rules (stmt_of t.content.classes) (symbols s) (symbol.Tok (token_of nodes next))
+      → (token_of nodes next ≡ tok.End → ⊥) → Leads t (symbol.Tok (token_of nodes next) ∷ symbols s) q →
       Meant t nodes order c.at before ws s (shifted c c.stack q next)
   shift_meant q None e b ne leads = absurd (ne refl)
   shift_meant q (Some n) e b ne leads =
@@ -100,7 +103,8 @@ module _ (t : TableView) (nodes : List Node) (order : List ℕ) (c : Config) (be
       (onward : (o : Outcome) → Ends t.content.rules (stmt_of t.content.classes) c.at (symbols s ∷ before) ws s' o → Ends t.content.rules (stmt_of t.content.classes) c.at before ws s o)
       (stands : Stands t nodes stack s') (top : symbols s' ≡ symbol.Class class ∷ drop size (symbols s)) (some : 0 < size) (within : size ≤ length (symbols s)) (lt : class < length c.seen)
     where
-      went_on : (seen : List Bool) → Seen seen (symbol.Class class ∷ drop size (symbols s)) ((symbol.Class class ∷ drop size (symbols s)) ∷ symbols s ∷ before) → (Contains (symbols s ∷ before) (symbol.Class class ∷ drop size (symbols s)) → ⊥) → length seen ≡ length c.seen →
+      went_on : (seen : List Bool) → Seen seen (symbol.Class class ∷ drop size (symbols s)) ((symbol.Class class ∷ drop size (symbols s)) ∷ symbols s ∷ before)
+          → (Contains (symbols s ∷ before) (symbol.Class class ∷ drop size (symbols s)) → ⊥) → length seen ≡ length c.seen →
           Meant t nodes order c.at before ws s (record { ending = None; config = record { at = c.at; stack = stack; seen = seen } })
       went_on seen marks fresh l = went (symbols s ∷ before) ws s'
           (record {
@@ -119,7 +123,12 @@ module _ (t : TableView) (nodes : List Node) (order : List ℕ) (c : Config) (be
           less = let l = length-drop size (symbols s) in omega (arith, l, two, within)
 
           by : (b : Bool) → get_or (replicate (length c.seen) false) class false ≡ b →
-              Meant t nodes order c.at before ws s (cond b (record { ending = Some (outcome.Loops c.at); config = record { at = c.at; stack = stack; seen = replicate (length c.seen) false } }) (record { ending = None; config = record { at = c.at; stack = stack; seen = set (replicate (length c.seen) false) class true } }))
+              Meant t nodes order c.at before ws s (cond b (record {
+                ending = Some (outcome.Loops c.at);
+                config =
+                    record { at = c.at; stack = stack; seen = replicate (length c.seen) false };
+              })
+              (record { ending = None; config = record { at = c.at; stack = stack; seen = set (replicate (length c.seen) false) class true } }))
           by true e = absurd (none_marked (length c.seen) class e)
           by false e =
               went_on (set (replicate (length c.seen) false) class true)
@@ -134,7 +143,8 @@ module _ (t : TableView) (nodes : List Node) (order : List ℕ) (c : Config) (be
           same = ap (λ (n : ℕ). symbol.Class class ∷ drop n (symbols s)) (sym one)
 
           by : (b : Bool) → get_or c.seen class false ≡ b →
-              Meant t nodes order c.at before ws s (cond b (record { ending = Some (outcome.Loops c.at); config = record { at = c.at; stack = stack; seen = c.seen } }) (record { ending = None; config = record { at = c.at; stack = stack; seen = set c.seen class true } }))
+              Meant t nodes order c.at before ws s (cond b (record { ending = Some (outcome.Loops c.at); config = record { at = c.at; stack = stack; seen = c.seen } })
+              (record { ending = None; config = record { at = c.at; stack = stack; seen = set c.seen class true } }))
           by true e = ended (onward (outcome.Loops c.at) (parse.loops (subst (Contains (symbols s ∷ before)) (same ∙ sym top) (a.seen.there class e))))
           by false e =
               went_on (set c.seen class true)

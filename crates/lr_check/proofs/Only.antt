@@ -1,5 +1,6 @@
 -- A parse ends in one way.
-use Rattle.std.proofs.Common.{◌≡◌, ◌⊎◌, ◌↔◌, ℕ, zero, suc, ◌+◌, ◌-◌, ◌≤◌, ◌<◌, List, [], ◌∷◌, ◌++◌, Option, Some, None, Bool, true, false, Contains, length, get_or, map, slice_get, refl, sym, ap, ◌∙◌, subst, inl, inr, ⊎_elim, arith}
+use Rattle.std.proofs.Common.{◌≡◌, ◌⊎◌, ◌↔◌, ℕ, zero, suc, ◌+◌, ◌-◌, ◌≤◌, ◌<◌, List, [], ◌∷◌, ◌++◌, Option, Some, None, Bool, true, false, Contains, length, get_or, map, slice_get}
+use Rattle.std.proofs.Common.{refl, sym, ap, ◌∙◌, subst, inl, inr, ⊎_elim, arith}
 use Rattle.std.specs.Prelude.{AllPairs}
 use Rattle.std.proofs.lemmas.Bool.{both_ways}
 use Rattle.std.proofs.lemmas.List.Elements.{Contains-append_cases, Contains-append_right}
@@ -15,7 +16,8 @@ use Rattle.lr_tables.specs.Candidates.{StandsBefore, MayReduce, GoesFirst, AreRe
 use Rattle.lr_check.specs.declared.sample.Outcome.{Outcome}
 use Rattle.lr_check.specs.declared.sample.Outcome.TheVariants as outcome
 use Rattle.lr_check.specs.Tree.{Node, Token, Unfolds, ends, goes_on}
-use Rattle.lr_check.specs.Parse.{Part, symbols, coming, owner_answers, answer, asked, reduced, Takes, nothing, unrestricted, answered_yes, answered_no, Reduction, Ends, loops, accepts, shifts, reduces, blocks, Replays, is_long, is_parsed}
+use Rattle.lr_check.specs.Parse.{Part, symbols, coming, owner_answers, answer, asked, reduced, Takes, nothing, unrestricted, answered_yes, answered_no, Reduction, Ends, loops}
+use Rattle.lr_check.specs.Parse.{accepts, shifts, reduces, blocks, Replays, is_long, is_parsed}
 
 Some-same : {X : Type 0} (x y : X) → Some x ≡ Some y → x ≡ y
 Some-same x y e = cc
@@ -144,11 +146,13 @@ unfolds_same nodes ends ends = refl
 unfolds_same nodes (goes_on {n = n} {rest = rest} {w = w} v e x) (goes_on {w = u} q f y) =
     let same : q ≡ v = Some-same q v (sym f ∙ e) in
     let tail : w ≡ u = unfolds_same nodes x (subst (λ (z : Node). Unfolds nodes (z.kids ++ rest) u) same y) in
-    let head : ◌≡◌ {A = Token} (record { tok = v.tok; answers = v.answers }) (record { tok = q.tok; answers = q.answers }) = ap {B = Token} (λ (z : Node). record { tok = z.tok; answers = z.answers }) (sym same) in
+    let head : ◌≡◌ {A = Token} (record { tok = v.tok; answers = v.answers }) (record { tok = q.tok; answers = q.answers }) =
+    ap {B = Token} (λ (z : Node). record { tok = z.tok; answers = z.answers }) (sym same) in
     (λ i. head i ∷ tail i)
 
 pub replays_same : (d : Content) (nodes : List Node) (o p : Outcome) → Replays d nodes o → Replays d nodes p → p ≡ o
 replays_same d nodes o p (is_long w x lt) (is_long u y le) = refl
 replays_same d nodes o p (is_long w x lt) (is_parsed u y le e) = absurd (let l : length w ≡ length u = ap (λ (z : List Token). length z) (unfolds_same nodes x y) in omega (arith, l, lt, le))
 replays_same d nodes o p (is_parsed u y le e) (is_long w x lt) = absurd (let l : length w ≡ length u = ap (λ (z : List Token). length z) (unfolds_same nodes x y) in omega (arith, l, lt, le))
-replays_same d nodes o p (is_parsed w x lt e) (is_parsed u y le f) = ends_same d.rules (stmt_of d.classes) e (subst (λ (z : List Token). Ends d.rules (stmt_of d.classes) 0 [] z [] p) (sym (unfolds_same nodes x y)) f)
+replays_same d nodes o p (is_parsed w x lt e) (is_parsed u y le f) = ends_same d.rules (stmt_of d.classes) e
+    (subst (λ (z : List Token). Ends d.rules (stmt_of d.classes) 0 [] z [] p) (sym (unfolds_same nodes x y)) f)

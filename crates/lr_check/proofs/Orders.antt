@@ -1,5 +1,6 @@
 -- The list of what is to come, and the order that it leads to.
-use Rattle.std.proofs.Common.{◌≡◌, ℕ, zero, suc, ◌+◌, ◌-◌, ◌≤◌, ◌<◌, List, [], ◌∷◌, ◌++◌, Some, Contains, length, reverse, take, get_or, slice_get, refl, sym, ap, ◌∙◌, subst, ⊎_elim, arith, append_assoc, append-nil, length-append}
+use Rattle.std.proofs.Common.{◌≡◌, ℕ, zero, suc, ◌+◌, ◌-◌, ◌≤◌, ◌<◌, List, [], ◌∷◌, ◌++◌, Some, Contains, length, reverse, take, get_or, slice_get, refl, sym, ap, ◌∙◌, subst}
+use Rattle.std.proofs.Common.{⊎_elim, arith, append_assoc, append-nil, length-append}
 use Rattle.std.proofs.lemmas.List.{reverse-append, reverse-reverse, length-reverse, take_more, take_all, get_or-reverse}
 use Rattle.std.proofs.lemmas.List.Elements.{Contains-append_cases, Contains-push_cases, Contains-push, Contains-append_left, Contains-append_right}
 use Rattle.lr_check.specs.Tree.{Node, IsSample}
@@ -45,7 +46,8 @@ reverse_has (x ∷ l) j h =
     (λ e. (0, omega arith, e))
     (Contains-push_cases (reverse l) x j (subst (λ (y : List ℕ). Contains y j) (reverse-append (x ∷ []) l) h))
 
-pub kids_turn : (kids old rest : List ℕ) (n x : ℕ) → rest ≡ old ++ take n (reverse kids) → n < length kids → x ≡ get_or kids (length kids - 1 - n) x → rest ++ x ∷ [] ≡ old ++ take (n + 1) (reverse kids)
+pub kids_turn : (kids old rest : List ℕ) (n x : ℕ) → rest ≡ old ++ take n (reverse kids) → n < length kids → x ≡ get_or kids (length kids - 1 - n) x → rest ++ x ∷ [] ≡ old
+    ++ take (n + 1) (reverse kids)
 kids_turn kids old rest n x e lt f =
     let l : length (reverse kids) ≡ length kids = length-reverse kids in
     let t : take (n + 1) (reverse kids) ≡ take n (reverse kids) ++ get_or (reverse kids) n x ∷ [] = take_more (reverse kids) n x (omega (arith, l, lt)) in
@@ -64,7 +66,8 @@ slice_get_some [] k lt = absurd (omega (arith, lt))
 slice_get_some (x ∷ xs) zero lt = (x, refl)
 slice_get_some (x ∷ xs) (suc k) lt = slice_get_some xs k (omega (arith, lt))
 
-pub ordering_turn : (nodes : List Node) (order old rest order' rest' : List ℕ) (n k : ℕ) (v : Node) → IsSample nodes → Ordering nodes order old n → old ≡ rest ++ k ∷ [] → slice_get nodes k ≡ Some v → order' ≡ order ++ k ∷ [] → rest' ≡ rest ++ reverse v.kids → Ordering nodes order' rest' (n + 1)
+pub ordering_turn : (nodes : List Node) (order old rest order' rest' : List ℕ) (n k : ℕ) (v : Node) → IsSample nodes → Ordering nodes order old n → old ≡ rest ++ k ∷ [] → slice_get nodes k
+    ≡ Some v → order' ≡ order ++ k ∷ [] → rest' ≡ rest ++ reverse v.kids → Ordering nodes order' rest' (n + 1)
 ordering_turn nodes order old rest order' rest' n k v s o e there f g =
     let turned : reverse old ≡ k ∷ reverse rest = ap reverse e ∙ reverse_push rest k in
     let next : reverse rest' ≡ v.kids ++ reverse rest = ap reverse g ∙ reverse_kids rest v.kids in
@@ -87,7 +90,8 @@ orders_append nodes rest w (goes_on {n = n} {rest = r} {w = u} v there p) o =
 
 module _ (nodes : List Node) (s : IsSample nodes) where
   -- nodes below a number lead to an order, if those below the numbers before do
-  orders_list : (n : ℕ) → n < length nodes → ((l : List ℕ) → ((k : ℕ) → Contains l k → k < n) → (w : List ℕ) × Orders nodes l w) → (l : List ℕ) → ((k : ℕ) → Contains l k → k < n + 1) → (w : List ℕ) × Orders nodes l w
+  orders_list : (n : ℕ) → n < length nodes → ((l : List ℕ) → ((k : ℕ) → Contains l k → k < n) → (w : List ℕ) × Orders nodes l w) → (l : List ℕ) → ((k : ℕ) → Contains l k → k < n + 1)
+      → (w : List ℕ) × Orders nodes l w
   orders_list n lt ih [] h = ([], ends)
   orders_list n lt ih (k ∷ l) h =
       let here : k < n + 1 = h k (0, omega arith, refl) in

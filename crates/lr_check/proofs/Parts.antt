@@ -1,5 +1,6 @@
 -- The entries of the code's stack, whose top stands last, and the parts that they stand for.
-use Rattle.std.proofs.Common.{◌≡◌, ℕ, zero, suc, ◌+◌, ◌-◌, ◌≤◌, ◌<◌, List, [], ◌∷◌, ◌++◌, Some, Bool, true, false, cond, length, get_or, set, take, drop, slice_get, refl, sym, ap, ◌∙◌, subst, arith, add-zero}
+use Rattle.std.proofs.Common.{◌≡◌, ℕ, zero, suc, ◌+◌, ◌-◌, ◌≤◌, ◌<◌, List, [], ◌∷◌, ◌++◌, Some, Bool, true, false, cond, length, get_or, set, take, drop, slice_get, refl, sym, ap}
+use Rattle.std.proofs.Common.{◌∙◌, subst, arith, add-zero}
 use Rattle.std.specs.Prelude.{nat_lt}
 use Rattle.std.proofs.lemmas.List.{get_or-drop, drop-drop, drop_all, take_all, take-append-le, set-append_left, set_at, get_or_append_left, get_or_at, length_push}
 use Rattle.std.proofs.lemmas.Bool.{ltb-false}
@@ -26,7 +27,8 @@ left_asked nodes e = by (nat_lt e.used (length (answers_of (slice_get nodes e.no
     all : List Bool
     all = answers_of (slice_get nodes e.node)
 
-    by : (b : Bool) → nat_lt e.used (length (answers_of (slice_get nodes e.node))) ≡ b → left nodes (cond b (record { state = e.state; node = e.node; used = e.used + 1 }) e) ≡ drop 1 (drop e.used (answers_of (slice_get nodes e.node)))
+    by : (b : Bool) → nat_lt e.used (length (answers_of (slice_get nodes e.node))) ≡ b → left nodes (cond b (record { state = e.state; node = e.node; used = e.used + 1 }) e)
+        ≡ drop 1 (drop e.used (answers_of (slice_get nodes e.node)))
     by true f = sym (drop-drop 1 e.used (answers_of (slice_get nodes e.node)))
     by false f =
         let none : drop e.used (answers_of (slice_get nodes e.node)) ≡ [] = drop_all e.used (answers_of (slice_get nodes e.node)) (ltb-false e.used (length (answers_of (slice_get nodes e.node))) f) in

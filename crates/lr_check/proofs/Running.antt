@@ -38,10 +38,12 @@ module _ (t : TableView) (nodes : List Node) (order : List ℕ) where
         seen = ap (λ (x : Config). length x.seen) same ∙ ((step_falls t (stmt_of t.content.classes) nodes order c (grammar c v r)).seen none ∙ r.seen);
       }
 
-  pub run_over : (c d : Config) (o : Outcome) → Running t nodes order c → ◌≡◌ {A = After} (record { ending = Some o; config = d }) (step t nodes order c) → Halts t nodes order (first_config (length t.content.classes)) o
+  pub run_over : (c d : Config) (o : Outcome) → Running t nodes order c → ◌≡◌ {A = After} (record { ending = Some o; config = d }) (step t nodes order c)
+      → Halts t nodes order (first_config (length t.content.classes)) o
   run_over c d o r e = r.ends o (over (sym (ap (λ (x : After). x.ending) e)))
 
-  pub run_less : (c d : Config) → IsValid t.content → Running t nodes order c → ◌≡◌ {A = After} (record { ending = None; config = d }) (step t nodes order c) → weight (length order) d < weight (length order) c
+  pub run_less : (c d : Config) → IsValid t.content → Running t nodes order c → ◌≡◌ {A = After} (record { ending = None; config = d }) (step t nodes order c)
+      → weight (length order) d < weight (length order) c
   run_less c d v r e =
       let none : (step t nodes order c).ending ≡ None = sym (ap (λ (x : After). x.ending) e) in
       let same : d ≡ (step t nodes order c).config = ap (λ (x : After). x.config) e in

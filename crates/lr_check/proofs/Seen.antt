@@ -1,6 +1,7 @@
 -- The classes that were on top since a token was shifted or the stack became shorter tell which stacks
 -- stood before.
-use Rattle.std.proofs.Common.{◌≡◌, ◌⊎◌, ℕ, zero, suc, ◌+◌, ◌≤◌, ◌<◌, List, [], ◌∷◌, Bool, true, false, Contains, length, get_or, set, drop, replicate, refl, sym, ap, ◌∙◌, subst, inl, inr, ⊎_elim, arith}
+use Rattle.std.proofs.Common.{◌≡◌, ◌⊎◌, ℕ, zero, suc, ◌+◌, ◌≤◌, ◌<◌, List, [], ◌∷◌, Bool, true, false, Contains, length, get_or, set, drop, replicate, refl, sym, ap, ◌∙◌, subst}
+use Rattle.std.proofs.Common.{inl, inr, ⊎_elim, arith}
 use Rattle.std.proofs.lemmas.List.{get_or-replicate, get_or_past, get_or-set_same, get_or-set_other, length-replicate}
 use Rattle.std.proofs.lemmas.List.Elements.{Contains-append_cases, Contains-append_right}
 use Rattle.std.proofs.lemmas.Bool.{cases_lt, cases_eq, both_ways}
@@ -79,7 +80,8 @@ marked_at : (seen : List Bool) (n c : ℕ) → n < length seen → n ≡ c → g
 marked_at seen n c lt e = subst (λ (x : ℕ). get_or (set seen n true) x false ≡ true) e (get_or-set_same seen n true false lt)
 
 -- the class of a rule of one symbol comes on top
-pub seen_unit : (seen : List Bool) (a : List Sym) (stood : List (List Sym)) (n : ℕ) → Seen seen a stood → 0 < length a → n < length seen → Seen (set seen n true) (symbol.Class n ∷ drop 1 a) ((symbol.Class n ∷ drop 1 a) ∷ stood)
+pub seen_unit : (seen : List Bool) (a : List Sym) (stood : List (List Sym)) (n : ℕ) → Seen seen a stood → 0 < length a → n < length seen
+    → Seen (set seen n true) (symbol.Class n ∷ drop 1 a) ((symbol.Class n ∷ drop 1 a) ∷ stood)
 seen_unit seen a stood n s some lt = record {
   there = λ c e. ⊎_elim
       (λ f. subst (λ (x : ℕ). Contains ((symbol.Class n ∷ drop 1 a) ∷ stood) (symbol.Class x ∷ drop 1 a)) (sym f) (here (symbol.Class n ∷ drop 1 a) stood))
@@ -100,7 +102,8 @@ seen_unit seen a stood n s some lt = record {
     one_less (x ∷ b) lt = omega arith
 
 -- the class of a longer rule comes on top
-pub seen_long : (seen : List Bool) (a b : List Sym) (stood : List (List Sym)) (n : ℕ) (m : ℕ) → Seen seen a stood → length b + 1 < length a → n < m → Seen (set (replicate m false) n true) (symbol.Class n ∷ b) ((symbol.Class n ∷ b) ∷ stood)
+pub seen_long : (seen : List Bool) (a b : List Sym) (stood : List (List Sym)) (n : ℕ) (m : ℕ) → Seen seen a stood → length b + 1 < length a → n < m
+    → Seen (set (replicate m false) n true) (symbol.Class n ∷ b) ((symbol.Class n ∷ b) ∷ stood)
 seen_long seen a b stood n m s less lt = record {
   there = λ c e. ⊎_elim
       (λ f. subst (λ (x : ℕ). Contains ((symbol.Class n ∷ b) ∷ stood) (symbol.Class x ∷ b)) (sym f) (here (symbol.Class n ∷ b) stood))

@@ -47,5 +47,6 @@ step_by t nodes order c d next rules cs o stack a same e f g h k =
     ∙ (ap (λ (x : Taken). after_choice t next d x.stack x.choice) h
     ∙ (ap (λ (x : List Rule). after_choice t next d (chosen x nodes cs d.stack).stack (chosen x nodes cs d.stack).choice) f
     ∙ (ap (λ (x : List Choice). after_choice t next d (chosen t.content.rules nodes x d.stack).stack (chosen t.content.rules nodes x d.stack).choice) g
-    ∙ (ap (λ (x : Option ℕ). after_choice t x d (chosen t.content.rules nodes (actions_at t (top_of d.stack) (token_of nodes x)) d.stack).stack (chosen t.content.rules nodes (actions_at t (top_of d.stack) (token_of nodes x)) d.stack).choice) e
+    ∙ (ap (λ (x : Option ℕ). after_choice t x d (chosen t.content.rules nodes (actions_at t (top_of d.stack) (token_of nodes x)) d.stack).stack
+    (chosen t.content.rules nodes (actions_at t (top_of d.stack) (token_of nodes x)) d.stack).choice) e
     ∙ ap (λ (x : Config). step t nodes order x) same)))))

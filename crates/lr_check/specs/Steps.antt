@@ -1,5 +1,6 @@
 -- The parse as the code computes it by the tables, step by step.
-use Rattle.std.specs.Prelude.{ℕ, ◌+◌, ◌-◌, List, [], ◌∷◌, ◌++◌, Option, Some, None, Bool, true, false, ◌==◌, ◌||◌, nat_lt, length, take, replicate, slice_get, slice_index_or, slice_set, if◌then◌else◌}
+use Rattle.std.specs.Prelude.{ℕ, ◌+◌, ◌-◌, List, [], ◌∷◌, ◌++◌, Option, Some, None, Bool, true, false, ◌==◌, ◌||◌}
+use Rattle.std.specs.Prelude.{nat_lt, length, take, replicate, slice_get, slice_index_or, slice_set, if◌then◌else◌}
 use Rattle.tree_core.specs.declared.token.Tok.{Tok}
 use Rattle.tree_core.specs.declared.token.Tok.TheVariants as tok
 use Rattle.md_reader.specs.declared.types.Rule.{Rule}
@@ -34,7 +35,8 @@ answer_of nodes e = slice_index_or (answers_of (slice_get nodes e.node)) e.used 
 
 -- the entry behind its question: the answer is used, if there was one
 abbrev pub asked_of : List Node → Entry → Entry
-asked_of nodes e = if nat_lt e.used (length (answers_of (slice_get nodes e.node))) then record { state = e.state; node = e.node; used = e.used + 1 } else e
+asked_of nodes e = if nat_lt e.used (length (answers_of (slice_get nodes e.node))) then record
+    { state = e.state; node = e.node; used = e.used + 1 } else e
 
 -- what a question is answered, and the stack behind it
 pub record Asked : Type 0 where
@@ -50,7 +52,11 @@ entry_at stack i = slice_index_or stack i (record { state = 0; node = 0; used = 
 
 abbrev pub asked_at : List Node → List Entry → Option ℕ → Asked
 asked_at nodes stack None = record { yes = false; stack = stack }
-asked_at nodes stack (Some i) = record { yes = answer_of nodes (entry_at stack i); stack = slice_set stack i (asked_of nodes (entry_at stack i)) }
+asked_at nodes stack (Some i) = record {
+  yes = answer_of nodes (entry_at stack i);
+  stack =
+      slice_set stack i (asked_of nodes (entry_at stack i));
+}
 
 -- a rule that is not restricted is taken; else the entry of the right side's first symbol is asked
 abbrev pub question : List Node → List Entry → Rule → Asked
@@ -76,7 +82,8 @@ unfoldable pub chosen : List Rule → List Node → List Choice → List Entry �
 chosen rules nodes [] stack = record { choice = None; stack = stack }
 chosen rules nodes (choice.Shift q ∷ cs) stack = record { choice = Some (choice.Shift q); stack = stack }
 chosen rules nodes (choice.Accept ∷ cs) stack = record { choice = Some choice.Accept; stack = stack }
-chosen rules nodes (choice.Reduce n ∷ cs) stack = taken_or (choice.Reduce n) (question_at nodes stack (slice_get rules n)) (λ s. chosen rules nodes cs s)
+chosen rules nodes (choice.Reduce n ∷ cs) stack = taken_or (choice.Reduce n) (question_at nodes stack (slice_get rules n))
+    (λ s. chosen rules nodes cs s)
 
 abbrev pub state_of : Option Entry → ℕ
 state_of None = 0
@@ -126,7 +133,12 @@ marked c class =
 abbrev pub placed : Config → List Entry → Rule → Entry → Option ℕ → After
 placed c below r e None = blocks c below
 placed c below r e (Some q) =
-    marked (record { at = c.at; stack = below ++ record { state = q; node = e.node; used = e.used } ∷ []; seen = seen_before c (length r.right) }) r.left
+    marked (record {
+      at = c.at;
+      stack = below ++ record { state = q; node = e.node; used = e.used } ∷ [];
+      seen =
+          seen_before c (length r.right);
+    }) r.left
 
 abbrev pub reduced_by : TableView → Config → List Entry → Rule → Option ℕ → After
 reduced_by t c stack r None = blocks c stack
@@ -139,7 +151,11 @@ reduced t c stack (Some r) = reduced_by t c stack r (first_place (length stack) 
 
 abbrev pub after_choice : TableView → Option ℕ → Config → List Entry → Option Choice → After
 after_choice t next c stack None = blocks c stack
-after_choice t next c stack (Some choice.Accept) = record { ending = Some outcome.Done; config = record { at = c.at; stack = stack; seen = c.seen } }
+after_choice t next c stack (Some choice.Accept) = record {
+  ending = Some outcome.Done;
+  config =
+      record { at = c.at; stack = stack; seen = c.seen };
+}
 after_choice t next c stack (Some (choice.Shift q)) = shifted c stack q next
 after_choice t next c stack (Some (choice.Reduce n)) = reduced t c stack (slice_get t.content.rules n)
 

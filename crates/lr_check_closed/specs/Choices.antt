@@ -1,5 +1,6 @@
 -- What may be done at a state and a next token, seen from a list on top of the stack: the code's shape.
-use Rattle.std.specs.Prelude.{◌≡◌, ℕ, ◌-◌, ◌==◌, nat_lt, List, Option, Some, None, Contains, Bool, true, false, length, slice_get, if◌then◌else◌}
+use Rattle.std.specs.Prelude.{◌≡◌, ℕ, ◌-◌, ◌==◌, nat_lt, List, Option, Some, None, Contains, Bool, true, false, length}
+use Rattle.std.specs.Prelude.{slice_get, if◌then◌else◌}
 use Rattle.md_reader.specs.declared.types.Rule.{Rule}
 use Rattle.lr_tables.specs.declared.types.Choice.{Choice}
 use Rattle.lr_tables.specs.declared.types.Choice.TheVariants as choice

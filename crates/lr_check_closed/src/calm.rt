@@ -123,7 +123,8 @@ pub fn are_calm(
     facts: &Facts,
     spot: &Spot,
 ) -> Result<bool, NoMemory>
-    ensures { IfOk result (λ b. IsTrue b → (e : Entry) → Contains spot.now.entries e → IsCalm (automaton_of tables.now) facts.now spot.now e) }
+    ensures { IfOk result (λ b. IsTrue b → (e : Entry) → Contains spot.now.entries e
+        → IsCalm (automaton_of tables.now) facts.now spot.now e) }
 {
     let count = spot.entries().len();
     let mut marks = vec![in alloc; false; count]?;

@@ -37,7 +37,8 @@ same_behind f i j p y s e at behind sum =
     let same : sum.entry ≡ e = Some-same sum.entry e (sym sum.there ∙ at) in
     Some-same j p (sym sum.behind ∙ (ap (λ (d : Settling). d.behind) same ∙ behind))
 
-pub second_kid : (A : Automaton) (f : FoundView) (n i p : ℕ) (x : Place) (m : Tok) (e : Settling) → IsSettlingAt f i e → e.behind ≡ Some p → TwoKids A f n x m i → SecondKid A f n x i (place_of p m x.behind)
+pub second_kid : (A : Automaton) (f : FoundView) (n i p : ℕ) (x : Place) (m : Tok) (e : Settling) → IsSettlingAt f i e → e.behind ≡ Some p → TwoKids A f n x m i
+    → SecondKid A f n x i (place_of p m x.behind)
 second_kid A f n i p x m e at behind t =
     let same : t.first.behind ≡ p = same_behind f i t.first.behind p t.first.place t.first.list e at behind t.first.sum in
     record {
@@ -65,7 +66,8 @@ two_made A f n i h x y kid held = record {
 pub second_begun : (A : Automaton) (f : FoundView) (n i : ℕ) (x y : Place) → SecondKid A f n x i y → Begun A f y (origin.Second n i)
 second_begun A f n i x y kid = Begun.second kid.there kid.two kid.sum kid.first kid.fits
 
-pub two_in : (f : FoundView) (n i h : ℕ) (k : Tok) → ((u l : List Sym) → IsList f.lists (list_number f h) u → IsList f.lists (list_number f i) l → Settles f n (u ++ (l ++ (symbol.Tok k ∷ [])))) → TwoIn f n k i h
+pub two_in : (f : FoundView) (n i h : ℕ) (k : Tok) → ((u l : List Sym) → IsList f.lists (list_number f h) u → IsList f.lists (list_number f i) l
+    → Settles f n (u ++ (l ++ (symbol.Tok k ∷ [])))) → TwoIn f n k i h
 two_in f n i h k g = record { settles = λ y z s u j l a b. g u s (list_is f h l z u b) (list_is f i j y s a) }
 
 pub second_found : (A : Automaton) (f : FoundView) (n m i : ℕ) (k : Tok) (y : Place) (sums : List ℕ) → IsFound A f → IsPlaceAt f m y → sums ≡ slice_index_or f.sums m [] →
@@ -96,13 +98,15 @@ if_some (Some x) Q h = h
 
 -- ---- frames
 
-pub frame_two : (A : Automaton) (f : FoundView) (q p n : ℕ) (k : Tok) (w v : Sort) (numbers : List ℕ) (x : Place) → IsFrame A f q k p numbers → kids k ≡ w ∷ v ∷ [] → Contains numbers n → IsPlaceAt f n x → HasTwo A x w v p
+pub frame_two : (A : Automaton) (f : FoundView) (q p n : ℕ) (k : Tok) (w v : Sort) (numbers : List ℕ) (x : Place) → IsFrame A f q k p numbers → kids k ≡ w ∷ v ∷ [] → Contains numbers n
+    → IsPlaceAt f n x → HasTwo A x w v p
 frame_two A f q p n k w v numbers x frame kid c at =
     let h = frame.places n c in
     let same : place_of q k h.0 ≡ x = Some-same (place_of q k h.0) x (sym h.1 ∙ at) in
     subst (λ (y : Place). HasTwo A y w v p) same (record { go = frame.go; kid = kid })
 
-pub frame_one : (A : Automaton) (f : FoundView) (q p n : ℕ) (k : Tok) (w : Sort) (numbers : List ℕ) (x : Place) → IsFrame A f q k p numbers → kids k ≡ w ∷ [] → Contains numbers n → IsPlaceAt f n x → HasOne A x w p
+pub frame_one : (A : Automaton) (f : FoundView) (q p n : ℕ) (k : Tok) (w : Sort) (numbers : List ℕ) (x : Place) → IsFrame A f q k p numbers → kids k ≡ w ∷ [] → Contains numbers n
+    → IsPlaceAt f n x → HasOne A x w p
 frame_one A f q p n k w numbers x frame kid c at =
     let h = frame.places n c in
     let same : place_of q k h.0 ≡ x = Some-same (place_of q k h.0) x (sym h.1 ∙ at) in
@@ -111,7 +115,8 @@ frame_one A f q p n k w numbers x frame kid c at =
 pub two_kids : (A : Automaton) (f : FoundView) (n i p : ℕ) (x : Place) (m : Tok) (w v : Sort) → IsPlaceAt f n x → HasTwo A x w v p → May m v → FirstSum f p w m i → TwoKids A f n x m i
 two_kids A f n i p x m w v there two may first = record { there = there; sort = w; second = v; over = p; two = two; first = first; may = may }
 
-pub first_in : (A : Automaton) (f : FoundView) (n p : ℕ) (x : Place) (m : Tok) (w : Sort) (sums : List ℕ) → IsFound A f → FirstsIn f p w m sums → ((i : ℕ) → Contains sums i → SecondAt f n x m i) → FirstIn A f n x p w m
+pub first_in : (A : Automaton) (f : FoundView) (n p : ℕ) (x : Place) (m : Tok) (w : Sort) (sums : List ℕ) → IsFound A f → FirstsIn f p w m sums
+    → ((i : ℕ) → Contains sums i → SecondAt f n x m i) → FirstIn A f n x p w m
 first_in A f n p x m w sums found firsts each = record {
   places = firsts.places;
   second = λ t s j may sum ws.

@@ -37,7 +37,8 @@ row_within t q p X e = by (slice_get t.rows q) refl
 
 module _ (t : TableView) (f : FoundView) (found : IsFound (automaton_of t) f) (starts : (k : Tok) → May k sort.Stmt → HasPlace f 0 k tok.End)
     (frames : (q : ℕ) → q < length t.rows → (k : Tok) → FrameIn (automaton_of t) f q k) (reductions : (i : ℕ) → i < length f.settlings → ReducesIn (automaton_of t) f i) where
-  kids_at : (q p : ℕ) (k b : Tok) (xs : List Sort) (place : HasPlace f q k b) → kids k ≡ xs → (automaton_of t).go q (symbol.Tok k) ≡ Some p → KidsIn (automaton_of t) f place.number (place_of q k b) p xs
+  kids_at : (q p : ℕ) (k b : Tok) (xs : List Sort) (place : HasPlace f q k b) → kids k ≡ xs → (automaton_of t).go q (symbol.Tok k) ≡ Some p
+      → KidsIn (automaton_of t) f place.number (place_of q k b) p xs
   kids_at q p k b xs place e go =
       subst (KidsIn (automaton_of t) f place.number (place_of q k b) p) e ((frames q (row_within t q p (symbol.Tok k) go) k).each p place.number b go place.at)
 
@@ -81,7 +82,8 @@ module _ (t : TableView) (f : FoundView) (found : IsFound (automaton_of t) f) (s
       at = h.at;
       settles = subst (λ n. Settles f n (reduced r s)) h.settles.place
           (subst (Settles f h.settles.entry.place) (sym (whole_left r s size))
-          ((reductions h.settles.number (slice_get_within f.settlings h.settles.number h.settles.entry h.settles.there)).each h.settles.entry (place_of q k b) s p r h.settles.there (place_is q k b s h)
+          ((reductions h.settles.number (slice_get_within f.settlings h.settles.number h.settles.entry h.settles.there)).each h.settles.entry (place_of q k b) s p r h.settles.there
+          (place_is q k b s h)
           h.settles.list (behind_is q p k b s h ws) free size));
     };
     sums = λ q p k b s c h ws free out.
@@ -95,7 +97,8 @@ module _ (t : TableView) (f : FoundView) (found : IsFound (automaton_of t) f) (s
             place = place_is q k b s h;
             list = h.settles.list;
             behind = behind_is q p k b s h ws;
-            is_sum = e.sums p c (sym e.behind ∙ behind_is q p k b s h ws) (subst (λ (x : Place). Free ((automaton_of t).candidates p x.behind) c) (sym (same_place q k b s h)) free) (subst (Outside c) (sym (same_list q k b s h)) out);
+            is_sum = e.sums p c (sym e.behind ∙ behind_is q p k b s h ws) (subst (λ (x : Place). Free ((automaton_of t).candidates p x.behind) c) (sym (same_place q k b s h)) free)
+                (subst (Outside c) (sym (same_list q k b s h)) out);
           };
         };
   }

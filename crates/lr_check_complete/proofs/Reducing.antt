@@ -102,7 +102,8 @@ choice_whole rules size (choice.Reduce n) k e = by (slice_get rules n) refl
         let w : IsWhole (length r.right) r.left size k = is_whole (length r.right) r.left size k (sym (ap (λ (o : Option Rule). (seen_rule size o).leads) f) ∙ e) in
         record { rule = production r; is = (r, (f, refl)); long = w.same_size; left = w.same_left }
 
-module _ (t : TableView) (f : FoundView) (i : ℕ) (e : Settling) (x : Place) (p : ℕ) (found : IsFound (automaton_of t) f) (at : IsSettlingAt f i e) (behind : e.behind ≡ Some p) (place : IsPlaceAt f e.place x)
+module _ (t : TableView) (f : FoundView) (i : ℕ) (e : Settling) (x : Place) (p : ℕ) (found : IsFound (automaton_of t) f) (at : IsSettlingAt f i e) (behind : e.behind ≡ Some p)
+    (place : IsPlaceAt f e.place x)
     (d : Content) (rules : List Rule) (choices free : List Choice) (content : d ≡ t.content) (are : rules ≡ d.rules) (actions : choices ≡ actions_at t p x.behind) (has : HasFree rules choices free)
     (list : List Sym) (size : ℕ) (lists : list ≡ slice_index_or f.lists.all e.list []) (long : size ≡ length list) where
   here : candidates_of rules choices ≡ candidates_of t.content.rules (actions_at t p x.behind)

@@ -109,9 +109,11 @@ LeadsIn f n Inside = Unit {0}
 
 -- the reductions of the whole list settle too
 pub record ReducesIn (A : Automaton) (f : FoundView) (i : ℕ) : Type 0 where
-  pub each : (e : Settling) (x : Place) (s : List Sym) (p : ℕ) (r : Production) → IsSettlingAt f i e → IsPlaceAt f e.place x → IsList f.lists e.list s → e.behind ≡ Some p →
+  pub each : (e : Settling) (x : Place) (s : List Sym) (p : ℕ) (r : Production) → IsSettlingAt f i e → IsPlaceAt f e.place x
+      → IsList f.lists e.list s → e.behind ≡ Some p →
       Free (A.candidates p x.behind) (reduce r) → size_of r ≡ length s → Settles f e.place (symbol.Class r.left ∷ [])
 
 -- what follows from the places of a state and a token
 pub record FrameIn (A : Automaton) (f : FoundView) (q : ℕ) (k : Tok) : Type 0 where
-  pub each : (p n : ℕ) (b : Tok) → A.go q (symbol.Tok k) ≡ Some p → IsPlaceAt f n (place_of q k b) → KidsIn A f n (place_of q k b) p (kids k)
+  pub each : (p n : ℕ) (b : Tok) → A.go q (symbol.Tok k) ≡ Some p → IsPlaceAt f n (place_of q k b)
+      → KidsIn A f n (place_of q k b) p (kids k)

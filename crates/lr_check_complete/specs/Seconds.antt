@@ -27,4 +27,5 @@ pub record SecondKid (A : Automaton) (f : FoundView) (n : ℕ) (x : Place) (i : 
 -- the second kid's place is found, and each of its sums settles behind the token and the first's list
 pub record SecondFound (f : FoundView) (n : ℕ) (k : Tok) (i : ℕ) (y : Place) : Type 0 where
   pub place : HasPlace f y.state y.token y.behind
-  pub sums : (z : Place) (s u : List Sym) (j : ℕ) → SumAt f i z s j → HasSum f y.state y.token y.behind u → Settles f n (u ++ (s ++ (symbol.Tok k ∷ [])))
+  pub sums : (z : Place) (s u : List Sym) (j : ℕ) → SumAt f i z s j → HasSum f y.state y.token y.behind u
+      → Settles f n (u ++ (s ++ (symbol.Tok k ∷ [])))

@@ -90,7 +90,8 @@ pub fn firsts(
     into: &mut Vec<Item>,
 ) -> Result<Vec<usize>, NoMemory>
     requires { (A : Automaton) × IsFound A found.now }
-    ensures looks { (A : Automaton) (w : Window) (x : Place) (second : Sort) → IsPlaceAt found.now parent x → HasTwo A x wanted second over → May behind second →
+    ensures looks { (A : Automaton) (w : Window) (x : Place) (second : Sort) → IsPlaceAt found.now parent x
+        → HasTwo A x wanted second over → May behind second →
         IfOk result (λ v. Looks A found.now w into.old.items into.new.items (FirstsIn found.now over wanted behind v.items)) }
     ensures only { IfOk result (λ v. (i : ℕ) → Contains v.items i → FirstSum found.now over wanted behind i) }
 {

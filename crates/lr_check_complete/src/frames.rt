@@ -112,7 +112,8 @@ fn all_kids(
 fn add_number(found: &Found, place: Place, numbers: &mut Vec<usize>) -> Result<(), NoMemory>
     ensures kept { OnOk result ((n : ℕ) → Contains numbers.old.items n → Contains numbers.new.items n) }
     ensures only { OnOk result ((n : ℕ) → Contains numbers.new.items n → Contains numbers.old.items n ⊎ IsPlaceAt found.now n place) }
-    ensures there { OnOk result ((A : Automaton) (n : ℕ) → IsFound A found.now → IsPlaceAt found.now n place → Contains numbers.new.items n) }
+    ensures there { OnOk result ((A : Automaton) (n : ℕ) → IsFound A found.now → IsPlaceAt found.now n place
+        → Contains numbers.new.items n) }
 {
     match found.find(&place) {
         Some(number) => {
@@ -126,7 +127,8 @@ fn add_number(found: &Found, place: Place, numbers: &mut Vec<usize>) -> Result<(
 // The numbers of the places of the state and the token.
 fn places_of(alloc: Global, found: &Found, state: State, token: Tok) -> Result<Vec<usize>, NoMemory>
     ensures places { IfOk result (λ v. (n : ℕ) → Contains v.items n → (b : Tok) × IsPlaceAt found.now n (place_of state token b)) }
-    ensures all { IfOk result (λ v. (A : Automaton) (n : ℕ) (b : Tok) → IsFound A found.now → IsPlaceAt found.now n (place_of state token b) → Contains v.items n) }
+    ensures all { IfOk result (λ v. (A : Automaton) (n : ℕ) (b : Tok) → IsFound A found.now
+        → IsPlaceAt found.now n (place_of state token b) → Contains v.items n) }
 {
     let mut numbers = Vec::new(alloc);
     for behind in tokens() {
@@ -151,7 +153,8 @@ pub fn frame(
     into: &mut Vec<Item>,
 ) -> Result<(), NoMemory>
     requires { IsFound (automaton_of tables.now) found.now }
-    ensures { OnOk result (Looks (automaton_of tables.now) found.now window into.old.items into.new.items (FrameIn (automaton_of tables.now) found.now state token)) }
+    ensures { OnOk result (Looks (automaton_of tables.now) found.now window into.old.items into.new.items
+        (FrameIn (automaton_of tables.now) found.now state token)) }
 {
     let over = match tables.over(state, Sym::Tok(token)) {
         Some(over) => over,

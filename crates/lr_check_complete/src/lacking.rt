@@ -102,7 +102,8 @@ fn new_reductions(
     into: &mut Vec<Item>,
 ) -> Result<(), NoMemory>
     requires { IsFound (automaton_of tables.now) found.now }
-    ensures { OnOk result (Looks (automaton_of tables.now) found.now window into.old.items into.new.items (ReducesIn (automaton_of tables.now) found.now number)) }
+    ensures { OnOk result (Looks (automaton_of tables.now) found.now window into.old.items into.new.items
+        (ReducesIn (automaton_of tables.now) found.now number)) }
 {
     if number < window.settlings {
         return Ok(());

@@ -82,7 +82,8 @@ fn by_choices(
 ) -> Result<(), NoMemory>
     requires { (A : Automaton) × IsFound A found.now }
     ensures { (A : Automaton) (w : Window) →
-        ((d : Choice) → Contains choices.now d → (k : ℕ) → (seen rules.now size d).leads ≡ Whole k → HasMade A found.now number (how.Reduced settling k)) →
+        ((d : Choice) → Contains choices.now d → (k : ℕ) → (seen rules.now size d).leads ≡ Whole k
+        → HasMade A found.now number (how.Reduced settling k)) →
         OnOk result (Looks A found.now w into.old.items into.new.items
         ((d : Choice) → Contains choices.now d → LeadsIn found.now number (seen rules.now size d).leads)) }
 {
@@ -102,7 +103,8 @@ fn by_settling(
 ) -> Result<(), NoMemory>
     requires { IsFound (automaton_of tables.now) found.now }
     ensures { (w : Window) → IsSettlingAt found.now number settling.now →
-        OnOk result (Looks (automaton_of tables.now) found.now w into.old.items into.new.items (ReducesIn (automaton_of tables.now) found.now number)) }
+        OnOk result (Looks (automaton_of tables.now) found.now w into.old.items into.new.items
+        (ReducesIn (automaton_of tables.now) found.now number)) }
 {
     let state = match settling.behind {
         Some(state) => state,
@@ -127,7 +129,8 @@ pub fn reductions(
 ) -> Result<(), NoMemory>
     requires { IsFound (automaton_of tables.now) found.now }
     ensures { (w : Window) →
-        OnOk result (Looks (automaton_of tables.now) found.now w into.old.items into.new.items (ReducesIn (automaton_of tables.now) found.now number)) }
+        OnOk result (Looks (automaton_of tables.now) found.now w into.old.items into.new.items
+        (ReducesIn (automaton_of tables.now) found.now number)) }
 {
     match found.settlings().get(number) {
         Some(settling) => by_settling(tables, found, number, settling, into),

@@ -189,9 +189,11 @@ fn all_seconds(
 ) -> Result<(), NoMemory>
     requires { (A : Automaton) × IsFound A found.now }
     ensures { (A : Automaton) → IsFound A found.now →
-        ((i n : ℕ) → Contains sums.now i → Contains numbers.now n → (x : Place) → IsPlaceAt found.now n x → TwoKids A found.now n x token i) →
+        ((i n : ℕ) → Contains sums.now i → Contains numbers.now n → (x : Place) → IsPlaceAt found.now n x
+        → TwoKids A found.now n x token i) →
         OnOk result (Looks A found.now window into.old.items into.new.items
-        ((i : ℕ) → Contains sums.now i → (n : ℕ) → Contains numbers.now n → (x : Place) → IsPlaceAt found.now n x → SecondAt found.now n x token i)) }
+        ((i : ℕ) → Contains sums.now i → (n : ℕ) → Contains numbers.now n → (x : Place) → IsPlaceAt found.now n x
+        → SecondAt found.now n x token i)) }
 {
     for sum in sums {
         seconds(found, window, numbers, *sum, token, into)?;
@@ -236,9 +238,11 @@ fn pair_from(
     into: &mut Vec<Item>,
 ) -> Result<(), NoMemory>
     requires { (A : Automaton) × IsFound A found.now }
-    ensures { (A : Automaton) (q : ℕ) (k : Tok) → IsFound A found.now → IsFrame A found.now q k over numbers.now → kids k ≡ wanted ∷ second ∷ [] →
+    ensures { (A : Automaton) (q : ℕ) (k : Tok) → IsFound A found.now → IsFrame A found.now q k over numbers.now → kids k
+        ≡ wanted ∷ second ∷ [] →
         OnOk result (Looks A found.now window into.old.items into.new.items
-        (May token second → (n : ℕ) → Contains numbers.now n → (x : Place) → IsPlaceAt found.now n x → FirstIn A found.now n x over wanted token)) }
+        (May token second → (n : ℕ) → Contains numbers.now n → (x : Place) → IsPlaceAt found.now n x
+        → FirstIn A found.now n x over wanted token)) }
 {
     if !may(token, second) {
         return Ok(());
@@ -258,7 +262,8 @@ pub fn both(
     into: &mut Vec<Item>,
 ) -> Result<(), NoMemory>
     requires { (A : Automaton) × IsFound A found.now }
-    ensures { (A : Automaton) (q : ℕ) (k : Tok) → IsFound A found.now → IsFrame A found.now q k over numbers.now → kids k ≡ wanted ∷ second ∷ [] →
+    ensures { (A : Automaton) (q : ℕ) (k : Tok) → IsFound A found.now → IsFrame A found.now q k over numbers.now → kids k
+        ≡ wanted ∷ second ∷ [] →
         OnOk result (Looks A found.now window into.old.items into.new.items
         ((n : ℕ) → Contains numbers.now n → (x : Place) → IsPlaceAt found.now n x → BothIn A found.now n x over wanted second)) }
 {

@@ -72,7 +72,8 @@ module _ (t : TableView) (q at c : ℕ) (b : Tok) (d : Content) (rules : List Ru
       (x : Choice) × (Contains free x × ((k : ℕ) × (((seen rules 1 x).leads ≡ Whole k) × (slice_index_or marks k false ≡ false)))) → Stuck (automaton_of t) q b marks c
   stuck_class classes h =
       let w : WholeChoice rules 1 h.0 h.1.1.0 = choice_whole rules 1 h.0 h.1.1.0 h.1.1.1.0 in
-      let listed : Contains (productions t.content.rules) w.rule = subst (λ (rs : List Rule). Contains (productions rs) w.rule) (are ∙ ap (λ (c : Content). c.rules) content) (rule_listed rules h.0 w.rule w.is) in
+      let listed : Contains (productions t.content.rules) w.rule = subst (λ (rs : List Rule). Contains (productions rs) w.rule) (are ∙ ap (λ (c : Content). c.rules) content)
+      (rule_listed rules h.0 w.rule w.is) in
       record {
         at = at;
         rule = w.rule;
@@ -119,7 +120,8 @@ marking_turn A q b before after more n changed marked now m long calm stuck same
       (cases_lt k n);
 }
 
-pub all_stuck : (A : Automaton) (q : ℕ) (b : Tok) (before after : List Bool) (n : ℕ) (changed : Bool) → Marking A q b before after n changed → length before ≤ n → changed ≡ false → AreStuck A q b after
+pub all_stuck : (A : Automaton) (q : ℕ) (b : Tok) (before after : List Bool) (n : ℕ) (changed : Bool) → Marking A q b before after n changed → length before ≤ n → changed ≡ false
+    → AreStuck A q b after
 all_stuck A q b before after n changed m le e = subst (AreStuck A q b) (sym (m.same e)) (record { each = λ k lt un. m.stuck e k (omega (arith, lt, le)) un })
 
 false_true : {X : Type 0} → false ≡ true → X

@@ -31,7 +31,8 @@ lists_same : (a b : List Sym) → Some a ≡ Some b → a ≡ b
 lists_same a b e = cc
 
 -- nothing settles on from a list that leads nowhere
-pub calm_end : (A : Automaton) (f : FoundView) (i : ℕ) (e : Settling) (x : Place) (s : List Sym) → IsFound A f → IsSettlingAt f i e → IsPlaceAt f e.place x → IsList f.lists e.list s → e.behind ≡ None →
+pub calm_end : (A : Automaton) (f : FoundView) (i : ℕ) (e : Settling) (x : Place) (s : List Sym) → IsFound A f → IsSettlingAt f i e → IsPlaceAt f e.place x → IsList f.lists e.list s
+    → e.behind ≡ None →
     Calms A x.state x.behind s
 calm_end A f i e x s found at place list none =
     let h : IsSoundSettling A f i e = found.settlings i e at in
@@ -40,7 +41,8 @@ calm_end A f i e x s found at place list none =
     let nowhere : walk A x.state s ≡ None = ap (walk A x.state) (sym list') ∙ (ap (λ (z : Place). walk A z.state h.list) (sym same) ∙ (sym h.behind ∙ none)) in
     calms (λ r p ws fr size. absurd (none_some p (sym nowhere ∙ ws)))
 
-module _ (t : TableView) (f : FoundView) (i : ℕ) (e : Settling) (x : Place) (p : ℕ) (found : IsFound (automaton_of t) f) (at : IsSettlingAt f i e) (behind : e.behind ≡ Some p) (place : IsPlaceAt f e.place x)
+module _ (t : TableView) (f : FoundView) (i : ℕ) (e : Settling) (x : Place) (p : ℕ) (found : IsFound (automaton_of t) f) (at : IsSettlingAt f i e) (behind : e.behind ≡ Some p)
+    (place : IsPlaceAt f e.place x)
     (d : Content) (rules : List Rule) (choices free : List Choice) (content : d ≡ t.content) (are : rules ≡ d.rules) (actions : choices ≡ actions_at t p x.behind) (has : HasFree rules choices free)
     (list : List Sym) (size : ℕ) (lists : list ≡ slice_index_or f.lists.all e.list []) (long : size ≡ length list) (marks : List Bool) where
   here : candidates_of rules choices ≡ candidates_of t.content.rules (actions_at t p x.behind)
@@ -56,10 +58,12 @@ module _ (t : TableView) (f : FoundView) (i : ℕ) (e : Settling) (x : Place) (p
   same_size s is = ap length (sym (get_or_from_slice_get f.lists.all e.list s [] is)) ∙ sym (long ∙ ap length lists)
 
   walks : (s : List Sym) → IsList f.lists e.list s → walk (automaton_of t) x.state s ≡ Some p
-  walks s is = ap (walk (automaton_of t) x.state) (lists_same s sound.list (sym is ∙ sound.symbols)) ∙ (ap (λ (z : Place). walk (automaton_of t) z.state sound.list) (sym same_place) ∙ (sym sound.behind ∙ behind))
+  walks s is = ap (walk (automaton_of t) x.state) (lists_same s sound.list (sym is ∙ sound.symbols))
+      ∙ (ap (λ (z : Place). walk (automaton_of t) z.state sound.list) (sym same_place) ∙ (sym sound.behind ∙ behind))
 
   pub calm_list : AreCalm (automaton_of t) x.state x.behind marks →
-      ((c : Choice) → Contains free c → (k : ℕ) → (seen rules size c).leads ≡ Whole k → slice_index_or marks k false ≡ true) → (s : List Sym) → IsList f.lists e.list s → Calms (automaton_of t) x.state x.behind s
+      ((c : Choice) → Contains free c → (k : ℕ) → (seen rules size c).leads ≡ Whole k → slice_index_or marks k false ≡ true) → (s : List Sym) → IsList f.lists e.list s
+      → Calms (automaton_of t) x.state x.behind s
   calm_list calm each s is = calms (λ r j ws fr many. next r j ws fr many)
     where
       next : (r : Production) (j : ℕ) → walk (automaton_of t) x.state s ≡ Some j → Free ((automaton_of t).candidates j x.behind) (reduce r) → size_of r ≡ length s →
@@ -76,7 +80,8 @@ module _ (t : TableView) (f : FoundView) (i : ℕ) (e : Settling) (x : Place) (p
       (c : Choice) × (Contains free c × ((k : ℕ) × (((seen rules size c).leads ≡ Whole k) × (slice_index_or marks k false ≡ false)))) → Fault (automaton_of t)
   turn_list stuck classes h =
       let w : WholeChoice rules size h.0 h.1.1.0 = choice_whole rules size h.0 h.1.1.0 h.1.1.1.0 in
-      let listed : Contains (productions t.content.rules) w.rule = subst (λ (rs : List Rule). Contains (productions rs) w.rule) (are ∙ ap (λ (c : Content). c.rules) content) (rule_listed rules h.0 w.rule w.is) in
+      let listed : Contains (productions t.content.rules) w.rule = subst (λ (rs : List Rule). Contains (productions rs) w.rule) (are ∙ ap (λ (c : Content). c.rules) content)
+      (rule_listed rules h.0 w.rule w.is) in
       let fr : Free ((automaton_of t).candidates p x.behind) (reduce w.rule) =
       candidates_there t p x.behind (reduce w.rule) (subst (λ (cs : List Candidate). Free cs (reduce w.rule)) here (has.only h.0 (reduce w.rule) h.1.0 w.is)) in
       let settles : sets.Settling (automaton_of t) x.state sound.place.token x.behind sound.list =

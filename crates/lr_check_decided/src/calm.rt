@@ -28,7 +28,8 @@ fn is_marked(marks: &[bool], class: u16) -> bool
 // Whether the choice doesn't reduce a list of so many symbols, or leads to a marked class.
 fn leads_calm(rules: &[Rule], choice: Choice, size: usize, marks: &[bool]) -> bool
     ensures calm { IsTrue result → (k : ℕ) → (seen rules.now size choice).leads ≡ Whole k → slice_index_or marks.now k false ≡ true }
-    ensures stuck { result ≡ false → (k : ℕ) × (((seen rules.now size choice).leads ≡ Whole k) × (slice_index_or marks.now k false ≡ false)) }
+    ensures stuck { result ≡ false → (k : ℕ) × (((seen rules.now size choice).leads ≡ Whole k)
+        × (slice_index_or marks.now k false ≡ false)) }
 {
     match candidate(rules, choice, size).leads {
         Leads::Whole(class) => is_marked(marks, class),
@@ -39,8 +40,10 @@ fn leads_calm(rules: &[Rule], choice: Choice, size: usize, marks: &[bool]) -> bo
 
 /// Whether each of the choices leads to a marked class, if it reduces a list of so many symbols.
 pub fn lead_calm(rules: &[Rule], choices: &[Choice], size: usize, marks: &[bool]) -> bool
-    ensures calm { IsTrue result → (d : Choice) → Contains choices.now d → (k : ℕ) → (seen rules.now size d).leads ≡ Whole k → slice_index_or marks.now k false ≡ true }
-    ensures stuck { result ≡ false → (d : Choice) × (Contains choices.now d × ((k : ℕ) × (((seen rules.now size d).leads ≡ Whole k) × (slice_index_or marks.now k false ≡ false)))) }
+    ensures calm { IsTrue result → (d : Choice) → Contains choices.now d → (k : ℕ) → (seen rules.now size d).leads ≡ Whole k
+        → slice_index_or marks.now k false ≡ true }
+    ensures stuck { result ≡ false → (d : Choice) × (Contains choices.now d
+        × ((k : ℕ) × (((seen rules.now size d).leads ≡ Whole k) × (slice_index_or marks.now k false ≡ false)))) }
 {
     for choice in choices {
         if !leads_calm(rules, *choice, size, marks) {
@@ -53,7 +56,8 @@ pub fn lead_calm(rules: &[Rule], choices: &[Choice], size: usize, marks: &[bool]
 // Whether each free reduction of the class alone leads to a marked class.
 fn is_calm(tables: &Tables, state: State, behind: Tok, marks: &[bool], class: u16) -> bool
     requires { HasClasses (productions tables.now.content.rules) (length marks.now) }
-    ensures calm { AreCalm (automaton_of tables.now) state behind marks.now → IsTrue result → Calms (automaton_of tables.now) state behind (symbol.Class class ∷ []) }
+    ensures calm { AreCalm (automaton_of tables.now) state behind marks.now → IsTrue result
+        → Calms (automaton_of tables.now) state behind (symbol.Class class ∷ []) }
     ensures stuck { result ≡ false → Stuck (automaton_of tables.now) state behind marks.now class }
 {
     let at = match tables.over(state, Sym::Class(class)) {
@@ -77,7 +81,8 @@ fn mark_at(tables: &Tables, state: State, behind: Tok, marks: &mut [bool], class
     requires few { length marks.old ≤ 64 }
     requires low { class < length marks.old }
     ensures calm { AreCalm (automaton_of tables.now) state behind marks.old → AreCalm (automaton_of tables.now) state behind marks.new }
-    ensures stuck { result ≡ false → slice_index_or marks.old class false ≡ false → Stuck (automaton_of tables.now) state behind marks.old class }
+    ensures stuck { result ≡ false → slice_index_or marks.old class false ≡ false
+        → Stuck (automaton_of tables.now) state behind marks.old class }
     ensures same { result ≡ false → marks.new ≡ marks.old }
 {
     if marks[class] {

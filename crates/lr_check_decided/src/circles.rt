@@ -27,7 +27,8 @@ fn turns(
     requires classes { HasClasses (productions tables.now.content.rules) (length tables.now.content.classes) }
     requires few { length tables.now.content.classes ≤ 64 }
     ensures some { IfOk result (λ b. (i : ℕ) → IsSettlingAt found.now i settling.now → IsTrue b → Fault (automaton_of tables.now)) }
-    ensures none { IfOk result (λ b. (i : ℕ) (x : Place) (s : List Sym) → b ≡ false → IsSettlingAt found.now i settling.now → IsPlaceAt found.now settling.now.place x →
+    ensures none { IfOk result (λ b. (i : ℕ) (x : Place) (s : List Sym) → b ≡ false → IsSettlingAt found.now i settling.now
+        → IsPlaceAt found.now settling.now.place x →
         IsList found.now.lists settling.now.list s → Calms (automaton_of tables.now) x.state x.behind s) }
 {
     let state = match settling.behind {
@@ -53,7 +54,8 @@ fn turns_at(alloc: Global, tables: &Tables, found: &Found, number: usize) -> Res
     requires classes { HasClasses (productions tables.now.content.rules) (length tables.now.content.classes) }
     requires few { length tables.now.content.classes ≤ 64 }
     ensures some { IfOk result (λ b. IsTrue b → Fault (automaton_of tables.now)) }
-    ensures none { IfOk result (λ b. (e : Settling) (x : Place) (s : List Sym) → b ≡ false → IsSettlingAt found.now number e → IsPlaceAt found.now e.place x →
+    ensures none { IfOk result (λ b. (e : Settling) (x : Place) (s : List Sym) → b ≡ false → IsSettlingAt found.now number e
+        → IsPlaceAt found.now e.place x →
         IsList found.now.lists e.list s → Calms (automaton_of tables.now) x.state x.behind s) }
 {
     match found.settlings().get(number) {
@@ -68,7 +70,8 @@ pub fn has_circle(alloc: Global, tables: &Tables, found: &Found) -> Result<bool,
     requires classes { HasClasses (productions tables.now.content.rules) (length tables.now.content.classes) }
     requires few { length tables.now.content.classes ≤ 64 }
     ensures some { IfOk result (λ b. IsTrue b → Fault (automaton_of tables.now)) }
-    ensures none { IfOk result (λ b. (i : ℕ) (e : Settling) (x : Place) (s : List Sym) → b ≡ false → IsSettlingAt found.now i e → IsPlaceAt found.now e.place x →
+    ensures none { IfOk result (λ b. (i : ℕ) (e : Settling) (x : Place) (s : List Sym) → b ≡ false → IsSettlingAt found.now i e
+        → IsPlaceAt found.now e.place x →
         IsList found.now.lists e.list s → Calms (automaton_of tables.now) x.state x.behind s) }
 {
     for number in 0..found.settlings().len() {

@@ -17,7 +17,8 @@ use md_reader::Sym;
 fn is_gap(tables: &Tables, found: &Found, number: usize) -> bool
     requires { IsFound (automaton_of tables.now) found.now }
     ensures some { IsTrue result → Fault (automaton_of tables.now) }
-    ensures none { result ≡ false → (x : Place) → IsPlaceAt found.now number x → (p : ℕ) × ((automaton_of tables.now).go x.state (symbol.Tok x.token) ≡ Some p) }
+    ensures none { result ≡ false → (x : Place) → IsPlaceAt found.now number x → (p : ℕ)
+        × ((automaton_of tables.now).go x.state (symbol.Tok x.token) ≡ Some p) }
 {
     let place = match found.places().get(number) {
         Some(place) => *place,
@@ -33,7 +34,8 @@ fn is_gap(tables: &Tables, found: &Found, number: usize) -> bool
 pub fn has_gap(tables: &Tables, found: &Found) -> bool
     requires { IsFound (automaton_of tables.now) found.now }
     ensures some { IsTrue result → Fault (automaton_of tables.now) }
-    ensures none { result ≡ false → (n : ℕ) (x : Place) → IsPlaceAt found.now n x → (p : ℕ) × ((automaton_of tables.now).go x.state (symbol.Tok x.token) ≡ Some p) }
+    ensures none { result ≡ false → (n : ℕ) (x : Place) → IsPlaceAt found.now n x → (p : ℕ)
+        × ((automaton_of tables.now).go x.state (symbol.Tok x.token) ≡ Some p) }
 {
     for number in 0..found.places().len() {
         if is_gap(tables, found, number) {
@@ -45,7 +47,8 @@ pub fn has_gap(tables: &Tables, found: &Found) -> bool
 
 // Whether some answers take nothing at the settling's list.
 fn is_dead(tables: &Tables, found: &Found, settling: &Settling) -> bool
-    ensures some { (i : ℕ) → IsFound (automaton_of tables.now) found.now → IsSettlingAt found.now i settling.now → IsTrue result → Fault (automaton_of tables.now) }
+    ensures some { (i : ℕ) → IsFound (automaton_of tables.now) found.now → IsSettlingAt found.now i settling.now → IsTrue result
+        → Fault (automaton_of tables.now) }
     ensures none { result ≡ false → (x : Place) (p : ℕ) → IsPlaceAt found.now settling.now.place x → settling.now.behind ≡ Some p →
         CanBlock ((automaton_of tables.now).candidates p x.behind) → ⊥ }
 {
@@ -64,7 +67,8 @@ fn is_dead(tables: &Tables, found: &Found, settling: &Settling) -> bool
 fn is_dead_at(tables: &Tables, found: &Found, number: usize) -> bool
     requires { IsFound (automaton_of tables.now) found.now }
     ensures some { IsTrue result → Fault (automaton_of tables.now) }
-    ensures none { result ≡ false → (e : Settling) (x : Place) (p : ℕ) → IsSettlingAt found.now number e → IsPlaceAt found.now e.place x → e.behind ≡ Some p →
+    ensures none { result ≡ false → (e : Settling) (x : Place) (p : ℕ) → IsSettlingAt found.now number e
+        → IsPlaceAt found.now e.place x → e.behind ≡ Some p →
         CanBlock ((automaton_of tables.now).candidates p x.behind) → ⊥ }
 {
     match found.settlings().get(number) {
@@ -77,7 +81,8 @@ fn is_dead_at(tables: &Tables, found: &Found, number: usize) -> bool
 pub fn has_dead(tables: &Tables, found: &Found) -> bool
     requires { IsFound (automaton_of tables.now) found.now }
     ensures some { IsTrue result → Fault (automaton_of tables.now) }
-    ensures none { result ≡ false → (i : ℕ) (e : Settling) (x : Place) (p : ℕ) → IsSettlingAt found.now i e → IsPlaceAt found.now e.place x → e.behind ≡ Some p →
+    ensures none { result ≡ false → (i : ℕ) (e : Settling) (x : Place) (p : ℕ) → IsSettlingAt found.now i e
+        → IsPlaceAt found.now e.place x → e.behind ≡ Some p →
         CanBlock ((automaton_of tables.now).candidates p x.behind) → ⊥ }
 {
     for number in 0..found.settlings().len() {

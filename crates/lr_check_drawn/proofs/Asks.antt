@@ -145,7 +145,8 @@ asked_again t f d i j c k found drawn next m e =
     }) node own in
     let second : k ≡ record { numbers = l.numbers; asked = with_taken a t.content.rules (actions_at t g.state n.place.behind) (length g.whole) c } =
     first ∙ ap₂ (λ (x : List Choice) (y : List Sym). record { numbers = l.numbers; asked = with_taken a t.content.rules x (length y) c }) choices list in
-    asked_as (second ∙ ap (λ z. record { numbers = l.numbers; asked = z }) (taken_at t a g.state n.place.behind (length g.whole) c)) (record { drawn = kids_reduced m at l.drawn; lower = below_lower i j l.numbers n.later l.lower })
+    asked_as (second ∙ ap (λ z. record { numbers = l.numbers; asked = z }) (taken_at t a g.state n.place.behind (length g.whole) c))
+    (record { drawn = kids_reduced m at l.drawn; lower = below_lower i j l.numbers n.later l.lower })
 
 pub if_ok : {T E : Type 0} (r : Result T E) (P Q : T → Type 0) → ((x : T) → P x → Q x) → IfOk r P → IfOk r Q
 if_ok (Ok x) P Q f h = f x h

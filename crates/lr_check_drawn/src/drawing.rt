@@ -3,7 +3,8 @@ ghost use Rattle.std.specs.Prelude.{◌≡◌, ◌++◌, ◌+◌, [], ◌∷◌,
 ghost use Rattle.lr_check_sets.specs.Table.{automaton_of};
 ghost use Rattle.lr_check_found.specs.Adding.{list_number};
 ghost use Rattle.lr_check_found.specs.Sound.{IsFound};
-ghost use Rattle.lr_check_drawn.specs.Drawing.{kids_in, answers_in, choices_behind, one_kid, two_kids, kids_again, held, IsNext, AreDrawn, IsAsked};
+ghost use Rattle.lr_check_drawn.specs.Drawing.{kids_in, answers_in, choices_behind, one_kid, two_kids, kids_again, held, IsNext};
+ghost use Rattle.lr_check_drawn.specs.Drawing.{AreDrawn, IsAsked};
 ghost use Rattle.lr_check_found.specs.declared.places.Place.{Place};
 ghost use Rattle.lr_check_found.specs.Found.{IsPlaceAt};
 ghost use Rattle.lr_check_samples.specs.Fixed.{IsMadeBy};

@@ -1,5 +1,6 @@
 -- What the free choices are, as candidates.
-use Rattle.std.proofs.Common.{◌≡◌, ℕ, zero, suc, ◌+◌, ◌≤◌, ◌<◌, List, [], ◌∷◌, ◌++◌, Option, Some, None, Contains, Bool, true, false, length, get_or, take, slice_get, refl, sym, ap, ◌∙◌, subst, inl, inr, ⊎_elim, length-take, arith, true≢false}
+use Rattle.std.proofs.Common.{◌≡◌, ℕ, zero, suc, ◌+◌, ◌≤◌, ◌<◌, List, [], ◌∷◌, ◌++◌, Option, Some, None, Contains, Bool, true, false, length, get_or, take, slice_get, refl, sym}
+use Rattle.std.proofs.Common.{ap, ◌∙◌, subst, inl, inr, ⊎_elim, length-take, arith, true≢false}
 use Rattle.std.specs.Prelude.{nat_lt, ◌==◌, if◌then◌else◌}
 use Rattle.std.proofs.lemmas.Option.{slice_get_within, get_or_from_slice_get, slice_get-get_or}
 use Rattle.std.proofs.lemmas.List.{get_or-take, length-take-le}
@@ -132,7 +133,11 @@ free_up_to rules cs n d below lt is stop = record { only = λ x c h is. only_fre
 
 -- or all of them
 pub free_all : (rules : List Rule) (cs : List Choice) (n : ℕ) → PassBelow rules cs n → length cs ≤ n → HasFree rules cs cs
-free_all rules cs n below le = record { only = λ x c h is. only_free rules cs n (length cs) below (omega (arith, le)) x c (subst (λ l. Contains l x) (sym (take-length cs)) h) is; each = λ c free. found c (free_at rules cs (length cs) c shorter stops free) }
+free_all rules cs n below le = record {
+  only = λ x c h is. only_free rules cs n (length cs) below (omega (arith, le)) x c (subst (λ l. Contains l x) (sym (take-length cs)) h) is;
+  each =
+      λ c free. found c (free_at rules cs (length cs) c shorter stops free);
+}
   where
     shorter : PassBelow rules cs (length cs)
     shorter k x lt e = below k x (omega (arith, lt, le)) e

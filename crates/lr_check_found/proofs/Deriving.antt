@@ -120,7 +120,8 @@ settled_of_made A f n x _ _ found there (made_by_reduction {i = i} {p = p} {s = 
     let k : IsSoundSettling A f i e = found.settlings i e at in
     let place : k.place ≡ x = Some-same k.place x (sym k.there ∙ (ap (slice_get f.places) same ∙ there)) in
     let symbols : k.list ≡ s = Some-same k.list s (sym k.symbols ∙ list) in
-    let old : sets.Settling A x.state x.token x.behind s = subst (λ (y : Place). sets.Settling A y.state y.token y.behind s) place (subst (sets.Settling A k.place.state k.place.token k.place.behind) symbols k.settles) in
+    let old : sets.Settling A x.state x.token x.behind s = subst (λ (y : Place). sets.Settling A y.state y.token y.behind s) place
+    (subst (sets.Settling A k.place.state k.place.token k.place.behind) symbols k.settles) in
     let walks : walk A x.state s ≡ Some p = subst (λ (y : Place). walk A y.state s ≡ Some p) place (subst (λ l. walk A k.place.state l ≡ Some p) symbols (sym k.behind ∙ behind)) in
     record { settles = subst (sets.Settling A x.state x.token x.behind) (whole_left r s size) (sets.settled r old walks free size) }
 

@@ -29,15 +29,18 @@ on_more v upper lower passed n m X list is lt at on push u l a b le =
     let one : length u - (passed + 1) ≡ length u - 1 - passed = omega arith in
     let up : suc (length u - (passed + 1)) ≡ length u - passed = omega (arith, le) in
     let cons : drop (length u - (passed + 1)) u ≡ X ∷ drop (length u - passed) u =
-    drop-cons u (length u - (passed + 1)) X (omega (arith, le)) ∙ (ap (λ k. get_or u (length u - (passed + 1)) X ∷ drop k u) up ∙ ap (λ (Y : Sym). Y ∷ drop (length u - passed) u) (ap (λ k. get_or u k X) one ∙ sym here)) in
+    drop-cons u (length u - (passed + 1)) X (omega (arith, le)) ∙ (ap (λ k. get_or u (length u - (passed + 1)) X ∷ drop k u) up
+    ∙ ap (λ (Y : Sym). Y ∷ drop (length u - passed) u) (ap (λ k. get_or u k X) one ∙ sym here)) in
     more ∙ ap Some (ap (λ k. k ++ l) (sym cons))
 
 pub on_more_at : (v : ListsView) (upper lower passed n m : ℕ) (d : Sym) (list : List Sym) → list ≡ slice_index_or v.all upper [] → passed < length list →
     IsOn v upper lower passed n → IsPushed v (get_or list (length list - 1 - passed) d) n m → IsOn v upper lower (passed + 1) m
 on_more_at v upper lower passed n m d list is lt on push =
-    on_more v upper lower passed n m (get_or list (length list - 1 - passed) d) list is lt (get_or_default list (length list - 1 - passed) d (get_or list (length list - 1 - passed) d) (omega (arith, lt))) on push
+    on_more v upper lower passed n m (get_or list (length list - 1 - passed) d) list is lt
+    (get_or_default list (length list - 1 - passed) d (get_or list (length list - 1 - passed) d) (omega (arith, lt))) on push
 
-pub on_all : (v : ListsView) (upper lower passed n : ℕ) (list : List Sym) → list ≡ slice_index_or v.all upper [] → length list ≤ passed → passed ≤ length list → IsOn v upper lower passed n → IsJoined v upper lower n
+pub on_all : (v : ListsView) (upper lower passed n : ℕ) (list : List Sym) → list ≡ slice_index_or v.all upper [] → length list ≤ passed → passed ≤ length list → IsOn v upper lower passed n
+    → IsJoined v upper lower n
 on_all v upper lower passed n list is ge le on u l a b =
     let same : list ≡ u = is ∙ read v upper u a in
     let size : length list ≡ length u = ap length same in
@@ -81,13 +84,15 @@ joins_more v w x upper lower passed n m d first list up low is is' lt j lists ke
       there = there;
     }
 
-pub joins_within : (v w : ListsView) (upper lower passed n : ℕ) (first list : List Sym) → (s : List Sym) × IsList v upper s → first ≡ slice_index_or v.all upper [] → list ≡ slice_index_or w.all upper [] →
+pub joins_within : (v w : ListsView) (upper lower passed n : ℕ) (first list : List Sym) → (s : List Sym) × IsList v upper s → first ≡ slice_index_or v.all upper [] → list
+    ≡ slice_index_or w.all upper [] →
     passed < length first → Joins v w upper lower passed n → length first - 1 - passed < length list
 joins_within v w upper lower passed n first list up is is' lt j =
     let same : first ≡ list = is ∙ (same_list v w upper up j.kept ∙ sym is') in
     let size : length first ≡ length list = ap length same in
     omega (arith, lt, size)
 
-pub joins_all : (v w : ListsView) (upper lower passed n : ℕ) (first : List Sym) → (s : List Sym) × IsList v upper s → first ≡ slice_index_or v.all upper [] → length first ≤ passed → passed ≤ length first →
+pub joins_all : (v w : ListsView) (upper lower passed n : ℕ) (first : List Sym) → (s : List Sym) × IsList v upper s → first ≡ slice_index_or v.all upper [] → length first ≤ passed
+    → passed ≤ length first →
     Joins v w upper lower passed n → IsJoined w upper lower n
 joins_all v w upper lower passed n first up is ge le j = on_all w upper lower passed n first (is ∙ same_list v w upper up j.kept) ge le j.on

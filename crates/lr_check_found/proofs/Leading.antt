@@ -84,8 +84,10 @@ module _ (t : TableView) (p size : ℕ) (k : Tok) (d : Content) (rules : List Ru
         out = l.wide;
       }
 
-  pub ways_out : (b : Bool) → ((e : Choice) → Contains free e → LeadsOut rules size e → b ≡ true) → (q : ℕ) (c : Candidate) → q ≡ p → Free ((automaton_of t).candidates q k) c → IsWider c size → b ≡ true
+  pub ways_out : (b : Bool) → ((e : Choice) → Contains free e → LeadsOut rules size e → b ≡ true) → (q : ℕ) (c : Candidate) → q ≡ p → Free ((automaton_of t).candidates q k) c
+      → IsWider c size → b ≡ true
   ways_out b each q c same f wide =
-      let f' : Free (candidates_of rules choices) c = subst (λ (cs : List Candidate). Free cs c) (sym here) (candidates_here t p k c (subst (λ (i : ℕ). Free ((automaton_of t).candidates i k) c) same f)) in
+      let f' : Free (candidates_of rules choices) c = subst (λ (cs : List Candidate). Free cs c) (sym here)
+      (candidates_here t p k c (subst (λ (i : ℕ). Free ((automaton_of t).candidates i k) c) same f)) in
       let e = has.each c f' in
       each e.0 e.1.0 (leads_of rules size e.0 c e.1.1 wide)

@@ -111,7 +111,8 @@ one_number v lists (X ∷ s) n m a b = by (which v n (X ∷ s) lists a) (which v
     by (empty e none) w ih = absurd (cons_nil X s none)
     by (celled k c e there h is) (empty f none) ih = absurd (cons_nil X s none)
     by (celled k c e there h is) (celled l d f there' g is') ih =
-        let rest : c.rest ≡ d.rest = ih c.rest d.rest (subst (IsList v c.rest) (sym (tail_same X h.top s h.rest is)) h.lower) (subst (IsList v d.rest) (sym (tail_same X g.top s g.rest is')) g.lower) in
+        let rest : c.rest ≡ d.rest = ih c.rest d.rest (subst (IsList v c.rest) (sym (tail_same X h.top s h.rest is)) h.lower)
+        (subst (IsList v d.rest) (sym (tail_same X g.top s g.rest is')) g.lower) in
         let top : c.symbol ≡ d.symbol = sym h.number ∙ (ap symbol_number (sym (head_same X h.top s h.rest is) ∙ head_same X g.top s g.rest is') ∙ g.number) in
         let same : c ≡ d = ap (λ (x : ℕ). let z : Cell = record { symbol = x; rest = c.rest } in z) top ∙ ap (λ (x : ℕ). let z : Cell = record { symbol = d.symbol; rest = x } in z) rest in
         e ∙ (ap (λ x. x + 1) (lists.apart k l d (there ∙ ap Some same) there') ∙ sym f)

@@ -1,5 +1,6 @@
 -- What an addition makes of what was found.
-use Rattle.std.specs.Prelude.{◌≡◌, ℕ, ◌+◌, ◌<◌, List, [], ◌∷◌, ◌++◌, Option, Some, None, Bool, length, slice_get, slice_set, slice_index_or, if◌then◌else◌}
+use Rattle.std.specs.Prelude.{◌≡◌, ℕ, ◌+◌, ◌<◌, List, [], ◌∷◌, ◌++◌, Option, Some, None, Bool, length, slice_get}
+use Rattle.std.specs.Prelude.{slice_set, slice_index_or, if◌then◌else◌}
 use Rattle.tree_core.specs.declared.token.Tok.{Tok}
 use Rattle.lr_check_sets.specs.Automaton.{Automaton, Candidate, shift, reduce, size_of, Free}
 use Rattle.lr_check_found.specs.declared.places.Place.{Place}
@@ -16,7 +17,17 @@ use Rattle.lr_check_found.specs.Sound.{IsFound}
 
 -- other lists
 abbrev pub with_lists : FoundView → ListsView → FoundView
-with_lists f l = record { lists = l; numbers = f.numbers; places = f.places; origins = f.origins; sums = f.sums; known = f.known; settlings = f.settlings; tuples = f.tuples }
+with_lists f l = record {
+  lists = l;
+  numbers = f.numbers;
+  places = f.places;
+  origins = f.origins;
+  sums = f.sums;
+  known =
+      f.known;
+  settlings = f.settlings;
+  tuples = f.tuples;
+}
 
 -- the lists that were there stay, and all else
 pub record IsRelisted (f g : FoundView) : Type 0 where
@@ -39,10 +50,30 @@ with_sum f n = record {
 
 -- one key more, and one settling
 abbrev pub with_key : FoundView → Key → FoundView
-with_key f k = record { lists = f.lists; numbers = f.numbers; places = f.places; origins = f.origins; sums = f.sums; known = f.known ++ k ∷ []; settlings = f.settlings; tuples = f.tuples }
+with_key f k = record {
+  lists = f.lists;
+  numbers = f.numbers;
+  places = f.places;
+  origins = f.origins;
+  sums = f.sums;
+  known =
+      f.known ++ k ∷ [];
+  settlings = f.settlings;
+  tuples = f.tuples;
+}
 
 abbrev pub with_entry : FoundView → Settling → FoundView
-with_entry f e = record { lists = f.lists; numbers = f.numbers; places = f.places; origins = f.origins; sums = f.sums; known = f.known; settlings = f.settlings ++ e ∷ []; tuples = f.tuples }
+with_entry f e = record {
+  lists = f.lists;
+  numbers = f.numbers;
+  places = f.places;
+  origins = f.origins;
+  sums = f.sums;
+  known =
+      f.known;
+  settlings = f.settlings ++ e ∷ [];
+  tuples = f.tuples;
+}
 
 abbrev pub held : FoundView → Bool → ℕ → FoundView
 held f is_sum n = if is_sum then with_sum f n else f

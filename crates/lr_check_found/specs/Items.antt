@@ -40,7 +40,8 @@ pub record Fits (y : Place) (w : Sort) (p : ℕ) (b : Tok) : Type 0 where
 pub data Begun (A : Automaton) (f : FoundView) (x : Place) : Origin → Type 0 where
   root : Fits x sort.Stmt 0 tok.End → Begun A f x origin.Root
   only : {i p : ℕ} {y : Place} {w : Sort} → IsPlaceAt f i y → HasOne A y w p → Fits x w p y.behind → Begun A f x (origin.First i)
-  first : {i p : ℕ} {y : Place} {w v : Sort} (m : Tok) → IsPlaceAt f i y → HasTwo A y w v p → Fits x w p m → May m v → Begun A f x (origin.First i)
+  first : {i p : ℕ} {y : Place} {w v : Sort} (m : Tok) → IsPlaceAt f i y → HasTwo A y w v p → Fits x w p m → May m v
+      → Begun A f x (origin.First i)
   second : {i n p j : ℕ} {y z : Place} {w v : Sort} {s : List Sym} →
       IsPlaceAt f i y → HasTwo A y w v p → SumAt f n z s j → Fits z w p x.token → Fits x v j y.behind → Begun A f x (origin.Second i n)
 
@@ -53,7 +54,8 @@ pub data Made (A : Automaton) (f : FoundView) (n : ℕ) (x : Place) : How → Li
       HasTwo A x w v p → SumAt f i y s j → Fits y w p z.token → SumAt f k z u h → Fits z v j x.behind →
       Made A f n x (how.Two i k) (u ++ (s ++ (symbol.Tok x.token ∷ [])))
   made_by_reduction : {i p : ℕ} {s : List Sym} (e : Settling) (r : Production) →
-      IsSettlingAt f i e → e.place ≡ n → IsList f.lists e.list s → e.behind ≡ Some p → Free (A.candidates p x.behind) (reduce r) → size_of r ≡ length s →
+      IsSettlingAt f i e → e.place ≡ n → IsList f.lists e.list s → e.behind ≡ Some p → Free (A.candidates p x.behind) (reduce r)
+      → size_of r ≡ length s →
       Made A f n x (how.Reduced i r.left) (symbol.Class r.left ∷ [])
 
 -- the state behind the list that settles so

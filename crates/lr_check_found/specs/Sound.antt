@@ -30,7 +30,8 @@ pub record IsSoundSettling (A : Automaton) (f : FoundView) (i : ℕ) (e : Settli
   pub later : IsLater i e.how
   -- it is marked as a sum exactly where some choice leads out of it
   pub sum : e.is_sum ≡ true → sets.Sum A place.state place.token place.behind list
-  pub sums : (p : ℕ) (c : Candidate) → walk A place.state list ≡ Some p → Free (A.candidates p place.behind) c → Outside c list → e.is_sum ≡ true
+  pub sums : (p : ℕ) (c : Candidate) → walk A place.state list ≡ Some p → Free (A.candidates p place.behind) c → Outside c list
+      → e.is_sum ≡ true
 
 -- the sum with this number is held at its place
 pub record IsHeldSum (f : FoundView) (n i : ℕ) : Type 0 where

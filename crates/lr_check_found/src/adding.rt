@@ -1,5 +1,6 @@
 // What is added to what has been found.
-ghost use Rattle.std.specs.Prelude.{◌≡◌, ◌<◌, ◌≤◌, ◌^◌, ◌∷◌, ◌++◌, [], ℕ, List, Option, Some, None, Contains, slice_get, length, IfOk, IfErr, IsTrue, OnOk};
+ghost use Rattle.std.specs.Prelude.{◌≡◌, ◌<◌, ◌≤◌, ◌^◌, ◌∷◌, ◌++◌, [], ℕ, List, Option, Some, None, Contains, slice_get, length};
+ghost use Rattle.std.specs.Prelude.{IfOk, IfErr, IsTrue, OnOk};
 ghost use Rattle.md_reader.specs.declared.types.Sym.{Sym};
 ghost use Rattle.lr_tables.specs.declared.types.Choice.{Choice};
 ghost use Rattle.lr_check_found.specs.declared.settlings.Item.{Item};
@@ -11,7 +12,8 @@ ghost use Rattle.lr_check_found.specs.Found.{Grows, key_of};
 ghost use Rattle.lr_check_found.specs.Items.{HasMade, IsItem, IsBehind};
 ghost use Rattle.lr_check_found.specs.Sound.{IsFound};
 ghost use Rattle.lr_check_found.specs.Choices.{LeadsOut};
-ghost use Rattle.lr_check_found.specs.Adding.{IsRelisted, with_sum, held, with_key, with_entry, settled, IsAdded, list_of, list_number, upper_of, lower_of, IsWider, HasWayOut};
+ghost use Rattle.lr_check_found.specs.Adding.{IsRelisted, with_sum, held, with_key, with_entry, settled, IsAdded, list_of};
+ghost use Rattle.lr_check_found.specs.Adding.{list_number, upper_of, lower_of, IsWider, HasWayOut};
 ghost use Rattle.lr_check_found.specs.Count.{HasMore};
 
 use crate::choices::{candidate, free_choices};
@@ -59,7 +61,8 @@ fn one_leads_out(rules: &[Rule], choices: &[Choice], size: usize) -> bool
 // Whether some choice leads out of a list of so many symbols, with the token next.
 fn leads_out(tables: &Tables, behind: &Option<State>, token: Tok, size: usize) -> bool
     ensures some { IsTrue result → HasWayOut (automaton_of tables.now) behind.now token size }
-    ensures each { (p : ℕ) (c : Candidate) → behind.now ≡ Some p → Free ((automaton_of tables.now).candidates p token) c → IsWider c size → IsTrue result }
+    ensures each { (p : ℕ) (c : Candidate) → behind.now ≡ Some p → Free ((automaton_of tables.now).candidates p token) c
+        → IsWider c size → IsTrue result }
 {
     match behind {
         Some(state) => {
@@ -102,7 +105,8 @@ impl Found {
         requires upper { (s : List Sym) × IsList self.old.lists (upper_of self.old how) s }
         requires lower { (s : List Sym) × IsList self.old.lists (lower_of self.old how) s }
         ensures rest { IfOk result (λ n. IsRelisted self.old self.new) }
-        ensures number { IfOk result (λ n. (u l : List Sym) → IsList self.old.lists (upper_of self.old how) u → IsList self.old.lists (lower_of self.old how) l → IsList self.new.lists n (list_of token how u l)) }
+        ensures number { IfOk result (λ n. (u l : List Sym) → IsList self.old.lists (upper_of self.old how) u
+            → IsList self.old.lists (lower_of self.old how) l → IsList self.new.lists n (list_of token how u l)) }
     {
         let (upper, lower) = self.parts(how);
         match how {
@@ -175,7 +179,13 @@ impl Found {
         is_sum: bool,
         how: How,
     ) -> Result<(), NoMemory>
-        ensures { OnOk result (self.new ≡ with_entry self.old (record { place = key.place; list = key.list; behind = behind.now; is_sum = is_sum; how = how })) }
+        ensures { OnOk result (self.new ≡ with_entry self.old (record {
+          place = key.place;
+          list = key.list;
+          behind = behind.now;
+          is_sum = is_sum;
+          how = how;
+        })) }
     {
         self.settlings.push(Settling {
             place: key.place,

@@ -1,5 +1,6 @@
 // What has been found.
-ghost use Rattle.std.specs.Prelude.{◌≡◌, ℕ, ◌<◌, ◌+◌, ◌*◌, List, [], ◌++◌, ◌∷◌, Some, OnOk, None, slice_get, slice_index_or, IfOk, IfSome, IfNone, IsTrue, length};
+ghost use Rattle.std.specs.Prelude.{◌≡◌, ℕ, ◌<◌, ◌+◌, ◌*◌, List, [], ◌++◌, ◌∷◌, Some, OnOk, None, slice_get, slice_index_or, IfOk};
+ghost use Rattle.std.specs.Prelude.{IfSome, IfNone, IsTrue, length};
 ghost use Rattle.md_reader.specs.declared.types.Sym.{Sym};
 ghost use Rattle.lr_check_found.specs.declared.settlings.Settling.{Settling};
 ghost use Rattle.lr_check_sets.specs.Automaton.{Automaton};
@@ -71,7 +72,16 @@ impl Model for Found {
 
     ghost Value = { FoundView };
 
-    ghost view = { λ f. record { lists = f.lists; numbers = f.numbers.items; places = f.places.items; origins = f.origins.items; sums = f.sums.items; known = f.known.keys; settlings = f.settlings.items; tuples = f.tuples } };
+    ghost view = { λ f. record {
+      lists = f.lists;
+      numbers = f.numbers.items;
+      places = f.places.items;
+      origins = f.origins.items;
+      sums = f.sums.items;
+      known = f.known.keys;
+      settlings = f.settlings.items;
+      tuples = f.tuples;
+    } };
 }
 
 impl Found {
@@ -164,8 +174,10 @@ impl Found {
 
     /// Whether the list with the number settles at the place with the number.
     pub fn settles(&self, place: usize, list: usize) -> bool
-        ensures there { (A : Automaton) → IsFound A self.now → IsTrue result → (s : List Sym) → IsList self.now.lists list s → Settles self.now place s }
-        ensures absent { (A : Automaton) (i : ℕ) (e : Settling) → IsFound A self.now → IsSettlingAt self.now i e → e.place ≡ place → e.list ≡ list → IsTrue result }
+        ensures there { (A : Automaton) → IsFound A self.now → IsTrue result → (s : List Sym) → IsList self.now.lists list s
+            → Settles self.now place s }
+        ensures absent { (A : Automaton) (i : ℕ) (e : Settling) → IsFound A self.now → IsSettlingAt self.now i e → e.place
+            ≡ place → e.list ≡ list → IsTrue result }
     {
         has_key(&self.known, Key { place, list })
     }

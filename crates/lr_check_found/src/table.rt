@@ -1,5 +1,6 @@
 // Sets of plain numbers, and a table that grows.
-ghost use Rattle.std.specs.Prelude.{◌≡◌, ◌⊎◌, ◌++◌, ◌∷◌, [], ℕ, length, Contains, slice_get, slice_index_or, false, IfOk, IfSome, IsTrue, OnOk, Some, None};
+ghost use Rattle.std.specs.Prelude.{◌≡◌, ◌⊎◌, ◌++◌, ◌∷◌, [], ℕ, length, Contains, slice_get, slice_index_or, false, IfOk, IfSome};
+ghost use Rattle.std.specs.Prelude.{IsTrue, OnOk, Some, None};
 
 use crate::lists::Cell;
 use crate::settlings::Key;
@@ -45,7 +46,8 @@ pub fn push_key(keys: &mut IndexSet<Key>, key: Key) -> Result<(), NoMemory>
 /// The number is held at the place in the table, which grows to there.
 pub fn put(numbers: &mut Vec<Option<usize>>, at: usize, number: usize) -> Result<(), NoMemory>
     ensures there { OnOk result (slice_index_or numbers.new.items at None ≡ Some number) }
-    ensures others { OnOk result ((i : ℕ) → (i ≡ at → ⊥) → slice_index_or numbers.new.items i None ≡ slice_index_or numbers.old.items i None) }
+    ensures others { OnOk result ((i : ℕ) → (i ≡ at → ⊥) → slice_index_or numbers.new.items i None
+        ≡ slice_index_or numbers.old.items i None) }
 {
     while numbers.len() <= at {
         numbers.push(None)?;

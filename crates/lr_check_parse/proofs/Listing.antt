@@ -9,7 +9,8 @@ use Rattle.md_reader.specs.declared.types.Sym.TheVariants as symbol
 use Rattle.lr_tables.specs.Candidates.{StandsBefore, AreReductions}
 use Rattle.lr_check.specs.declared.sample.Outcome.{Outcome}
 use Rattle.lr_check.specs.Tree.{Token}
-use Rattle.lr_check.specs.Parse.{Part, symbols, answer, answers_at, owner_answers, used_at, asked, reduced, Takes, nothing, unrestricted, answered_yes, answered_no, Reduction, Ends, loops, accepts, shifts, reduces, blocks}
+use Rattle.lr_check.specs.Parse.{Part, symbols, answer, answers_at, owner_answers, used_at, asked, reduced, Takes, nothing, unrestricted, answered_yes, answered_no, Reduction}
+use Rattle.lr_check.specs.Parse.{Ends, loops, accepts, shifts, reduces, blocks}
 use Rattle.lr_check.specs.Parse as replay
 use Rattle.lr_check_parse.specs.Moves.{Move, Shift, Reduce, Ending, Accepts, Blocks, Loops, Refuses, Taken, coming, decided_at, taken, Choice, Parses}
 use Rattle.lr_check_parse.specs.Moves as parse

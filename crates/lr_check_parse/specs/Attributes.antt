@@ -1,5 +1,6 @@
 -- A parse whose questions are answered by the attributes that stand beside the symbols.
-use Rattle.std.specs.Prelude.{ℕ, ◌-◌, ◌^◌, nat_lt, ◌==◌, ℤ, pos, negsuc, int_le, List, [], ◌∷◌, Option, Some, None, Bool, true, false, ◌&&◌, length, reverse, take, slice_get, if◌then◌else◌}
+use Rattle.std.specs.Prelude.{ℕ, ◌-◌, ◌^◌, nat_lt, ◌==◌, ℤ, pos, negsuc, int_le, List, [], ◌∷◌, Option, Some, None}
+use Rattle.std.specs.Prelude.{Bool, true, false, ◌&&◌, length, reverse, take, slice_get, if◌then◌else◌}
 use Rattle.gg_base.specs.Arithmetic.{com32}
 use Rattle.gg_base.specs.declared.relation.Rel.{Rel}
 use Rattle.gg_base.specs.declared.relation.Rel.TheVariants.{Ltu, Leu, Gtu, Geu}
@@ -9,7 +10,8 @@ use Rattle.md_reader.specs.declared.types.Restriction.TheVariants as restriction
 use Rattle.md_reader.specs.declared.types.Rule.{Rule}
 use Rattle.lr_check_parse.specs.Moves.{Answering}
 
--- How a selection goes on, and what the choice asks of it. X is what it keeps, A an attribute; the attributes of the stack have the top's first.
+-- How a selection goes on, and what the choice asks of it. X is what it keeps, A an attribute; the attributes of the
+-- stack have the top's first.
 -- A reduction may be refused: then no slot is free.
 pub record Selecting (X A : Type 0) : Type 0 where
   pub attributes : X → List A

@@ -23,7 +23,8 @@ use Rattle.lr_check_parse.specs.Typed.{IsStatement}
 -- The moves and the end are no choice. So a refusal comes exactly where a reduction is refused.
 abbrev pub IsOneWay : {L X : Type 0} → Answering L X → Type 0
 IsOneWay {L = L} {X = X} of =
-    (rules : List Rule) (stmt at : ℕ) (before : List (List Sym)) (w : List L) (a : List Sym) (x : X) (log log' : List (Move L)) (e e' : Ending X)
+    (rules : List Rule) (stmt at : ℕ) (before : List (List Sym)) (w : List L) (a : List Sym) (x : X) (log log' : List (Move L))
+    (e e' : Ending X)
     → Parses of rules stmt at before w a x log e → Parses of rules stmt at before w a x log' e' → (log ≡ log') × (e ≡ e')
 
 -- it makes at most so many moves: what a loop over them needs
@@ -74,7 +75,8 @@ pub record HasAnswers {L X : Type 0} (of : Answering L X) (rules : List Rule) (s
 -- Each parse that isn't refused is the parse by the answers that it gave.
 abbrev pub IsAnswered : {L X : Type 0} → Answering L X → Type 0
 IsAnswered {L = L} {X = X} of =
-    (d : Content) → IsValid d → (at : ℕ) (before : List (List Sym)) (w : List L) (a : List Sym) (x : X) (log : List (Move L)) (e : Ending X) (o : Outcome)
+    (d : Content) → IsValid d → (at : ℕ) (before : List (List Sym)) (w : List L) (a : List Sym) (x : X) (log : List (Move L))
+    (e : Ending X) (o : Outcome)
     → Parses of d.rules (stmt_of d.classes) at before w a x log e → EndsSo e o → HasAnswers of d.rules (stmt_of d.classes) at before w a o
 
 -- ---- typed statement trees

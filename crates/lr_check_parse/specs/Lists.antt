@@ -1,4 +1,5 @@
--- A parse whose questions are answered by lists: each leaf comes with the answers to its node's questions, which are used one after another.
+-- A parse whose questions are answered by lists: each leaf comes with the answers to its node's questions, which are
+-- used one after another.
 use Rattle.std.specs.Prelude.{◌≡◌, ℕ, zero, suc, ◌-◌, List, [], ◌∷◌, Some, Bool, length, map, drop}
 use Rattle.md_reader.specs.declared.types.Rule.{Rule}
 use Rattle.lr_check.specs.declared.sample.Outcome.{Outcome}

@@ -1,4 +1,5 @@
--- The parse of a list of leaves by the rules of a description, over whole stacks of symbols, whoever answers its questions. It knows no table.
+-- The parse of a list of leaves by the rules of a description, over whole stacks of symbols, whoever answers its
+-- questions. It knows no table.
 use Rattle.std.specs.Prelude.{◌≡◌, ℕ, ◌+◌, ◌==◌, List, [], ◌∷◌, Option, Some, None, Bool, Contains, length, drop, slice_get, if◌then◌else◌}
 use Rattle.tree_core.specs.declared.token.Tok.{Tok}
 use Rattle.tree_core.specs.declared.token.Tok.TheVariants as tok
@@ -7,7 +8,8 @@ use Rattle.md_reader.specs.declared.types.Sym.{Sym}
 use Rattle.md_reader.specs.declared.types.Sym.TheVariants as sym
 use Rattle.lr_tables.specs.Candidates.{StandsBefore, AreReductions}
 
--- Who answers. L is a leaf, which has a token, and X what is kept beside the stack of symbols: what a question about a rule is answered, and what is
+-- Who answers. L is a leaf, which has a token, and X what is kept beside the stack of symbols: what a question about a
+-- rule is answered, and what is
 -- kept behind it; behind a shift; and behind a reduction by the rule with a number, unless that is refused.
 pub record Answering (L X : Type 0) : Type 0 where
   pub token : L → Tok
@@ -63,7 +65,8 @@ module _ {L X : Type 0} (of : Answering L X) (rules : List Rule) (stmt : ℕ) wh
     pub in_order : AreReductions rules stmt a (coming of ws) candidates
     pub takes : taken of rules candidates x ≡ record { rule = n; kept = y }
 
-  -- The parse from an offset, with the stacks since the last shift, the leaves to come, the stack of symbols, whose top stands first, and what is kept
+  -- The parse from an offset, with the stacks since the last shift, the leaves to come, the stack of symbols, whose top
+  -- stands first, and what is kept
   -- beside it: its moves, and how it ends.
   pub data Parses : ℕ → List (List Sym) → List L → List Sym → X → List (Move L) → Ending X → Type 0 where
     -- the same stack comes twice without a shift between
@@ -80,7 +83,8 @@ module _ {L X : Type 0} (of : Answering L X) (rules : List Rule) (stmt : ℕ) wh
         Parses (at + 1) [] ws (sym.Tok (of.token l) ∷ a) (of.shifted l x) log e →
         Parses at before (l ∷ ws) a x (Shift l ∷ log) e
     -- a rule is taken
-    reduces : {at n : ℕ} {before : List (List Sym)} {ws : List L} {a : List Sym} {x y z : X} {log : List (Move L)} {e : Ending X} (r : Rule) →
+    reduces : {at n : ℕ} {before : List (List Sym)} {ws : List L} {a : List Sym} {x y z : X} {log : List (Move L)}
+        {e : Ending X} (r : Rule) →
         (Contains before a → ⊥) → Choice ws a x (Some n) y → slice_get rules n ≡ Some r → of.reduced n r y ≡ Some z →
         Parses at (a ∷ before) ws (sym.Class r.left ∷ drop (length r.right) a) z log e →
         Parses at before ws a x (Reduce n ∷ log) e

@@ -6,7 +6,8 @@ use Rattle.tree_core.specs.declared.token.Sort.TheVariants as sort
 use Rattle.tree_core.specs.Grammar.{kids, sort_of}
 use Rattle.tree_core.specs.Trees.{sort_fits}
 
--- trees of these sorts stand one after another: each begins with a token that may stand where its sort is wanted, and its kids' trees follow
+-- trees of these sorts stand one after another: each begins with a token that may stand where its sort is wanted, and
+-- its kids' trees follow
 pub data AreTyped : List Sort → List Tok → Type 0 where
   ends : AreTyped [] []
   begins : {x : Sort} {xs : List Sort} {w : List Tok} (t : Tok) →

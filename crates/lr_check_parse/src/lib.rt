@@ -1,4 +1,5 @@
-//! The parse by a description's rules, whoever answers its questions, and what is true of each. Each function does nothing; its clause is the law.
+//! The parse by a description's rules, whoever answers its questions, and what is true of each. Each function does nothing; its
+//! clause is the law.
 #![tactic(auto)]
 
 ghost use Rattle.lr_check_parse.specs.Moves.{Answering};

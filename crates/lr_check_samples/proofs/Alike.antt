@@ -3,7 +3,8 @@ use Rattle.std.proofs.Common.{◌≡◌, ℕ, zero, suc, List, [], ◌∷◌, Op
 use Rattle.md_reader.specs.declared.types.Sym.{Sym}
 use Rattle.md_reader.specs.declared.types.Sym.TheVariants as symbol
 use Rattle.lr_check_sets.specs.Automaton.{Automaton, Production, Candidate, shift, reduce, walk, size_of, CanBlock}
-use Rattle.lr_check_sets.specs.Answers.{Entry, Leaf, symbols, first_answer, other_answers, owner, asked, Picked, pick_by, pick, held_reduced, Step, shifts, reduces, Runs, here, then_step, Reductions, one_reduction, more_reductions}
+use Rattle.lr_check_sets.specs.Answers.{Entry, Leaf, symbols, first_answer, other_answers, owner, asked, Picked, pick_by, pick, held_reduced, Step, shifts, reduces, Runs, here}
+use Rattle.lr_check_sets.specs.Answers.{then_step, Reductions, one_reduction, more_reductions}
 use Rattle.lr_check_samples.specs.Quiet.{SameAnswers, AreAlike, bare, IsQuiet}
 
 pub same-first : (b c : List Bool) → SameAnswers b c → first_answer b ≡ first_answer c

@@ -11,7 +11,8 @@ use Rattle.lr_tables.specs.Promises.{IsNumbered}
 use Rattle.lr_check.specs.declared.sample.Outcome.{Outcome}
 use Rattle.lr_check.specs.declared.sample.Outcome.TheVariants as outcome
 use Rattle.lr_check.specs.Tree.{Token}
-use Rattle.lr_check.specs.Parse.{Part, symbols, coming, answer, owner_answers, asked, reduced, Takes, nothing, unrestricted, answered_yes, answered_no, Reduction, Ends, loops, accepts, shifts, reduces, blocks}
+use Rattle.lr_check.specs.Parse.{Part, symbols, coming, answer, owner_answers, asked, reduced, Takes, nothing, unrestricted, answered_yes, answered_no, Reduction, Ends, loops}
+use Rattle.lr_check.specs.Parse.{accepts, shifts, reduces, blocks}
 use Rattle.lr_check.proofs.Only.{reductions_same, not_shifted}
 use Rattle.lr_check_parse.specs.Moves as moves
 use Rattle.lr_check_parse.specs.Moves.{Move, Ending, Parses}

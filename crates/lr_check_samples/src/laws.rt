@@ -1,5 +1,6 @@
 // The laws. The functions do nothing; their clauses are the laws.
-ghost use Rattle.lr_check_samples.specs.Claims.{FoundTreesLead, ContextsLead, SamplesBlock, SamplesLoop, FaultsHaveSamples, StopsEnd, DrawnTreesStand, DrawnSamplesStop};
+ghost use Rattle.lr_check_samples.specs.Claims.{FoundTreesLead, ContextsLead, SamplesBlock, SamplesLoop, FaultsHaveSamples};
+ghost use Rattle.lr_check_samples.specs.Claims.{StopsEnd, DrawnTreesStand, DrawnSamplesStop};
 
 /// The law: the tree of a found settling is parsed to its list by its own answers, on each stack that fits.
 pub fn found_trees_lead()

@@ -1,5 +1,6 @@
 -- The parse of a tree ends within its tokens times the classes and one.
-use Rattle.std.proofs.Common.{◌≡◌, ◌⊎◌, ℕ, zero, suc, ◌+◌, ◌-◌, ◌*◌, ◌≤◌, ◌<◌, List, [], ◌∷◌, ◌++◌, Option, Some, None, Bool, true, false, ◌||◌, eqb-true, length, drop, refl, ap, ap₂, sym, ◌∙◌, inl, inr, ⊎_elim, subst, arith, drop_at, true≢false}
+use Rattle.std.proofs.Common.{◌≡◌, ◌⊎◌, ℕ, zero, suc, ◌+◌, ◌-◌, ◌*◌, ◌≤◌, ◌<◌, List, [], ◌∷◌, ◌++◌, Option, Some, None, Bool, true, false, ◌||◌, eqb-true, length, drop, refl, ap}
+use Rattle.std.proofs.Common.{ap₂, sym, ◌∙◌, inl, inr, ⊎_elim, subst, arith, drop_at, true≢false}
 use Rattle.std.specs.List.{IsDistinct, list_any, AllByRecursion}
 use Rattle.std.proofs.lemmas.Map.Steps.{length-le_from_distinct_below}
 use lib.Dec.{eqb}

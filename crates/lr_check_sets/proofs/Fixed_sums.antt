@@ -1,5 +1,6 @@
 -- Each sum's own tree, by the sets with reductions of whole lists alone.
-use Rattle.std.proofs.Common.{◌≡◌, ◌⊎◌, ℕ, suc, ◌+◌, ◌-◌, ◌≤◌, ◌<◌, List, [], ◌∷◌, ◌++◌, Some, None, Bool, false, Contains, length, map, take, drop, refl, ap, ap₂, sym, ◌∙◌, inl, inr, ⊎_elim, subst, arith, append_assoc, length-append, drop_at, length-drop, length-take, take-append-drop, suc-add, zero-add}
+use Rattle.std.proofs.Common.{◌≡◌, ◌⊎◌, ℕ, suc, ◌+◌, ◌-◌, ◌≤◌, ◌<◌, List, [], ◌∷◌, ◌++◌, Some, None, Bool, false, Contains, length, map, take, drop, refl, ap, ap₂, sym, ◌∙◌, inl}
+use Rattle.std.proofs.Common.{inr, ⊎_elim, subst, arith, append_assoc, length-append, drop_at, length-drop, length-take, take-append-drop, suc-add, zero-add}
 use Rattle.std.proofs.lemmas.Bool.{cases_lt, cases_eq}
 use Rattle.std.proofs.lemmas.List.{take-append-le}
 use Rattle.std.proofs.lemmas.Option.{slice_get-get_or}

@@ -1,5 +1,6 @@
 -- Each place and each sum is met in the parse of a real tree, under some answers.
-use Rattle.std.proofs.Common.{◌≡◌, ℕ, suc, ◌≤◌, ◌<◌, List, [], ◌∷◌, ◌++◌, Some, None, Bool, true, false, length, take, drop, refl, ap, sym, ◌∙◌, subst, arith, append_assoc, length-append, drop_at, take-append-drop, length-take, ap₂}
+use Rattle.std.proofs.Common.{◌≡◌, ℕ, suc, ◌≤◌, ◌<◌, List, [], ◌∷◌, ◌++◌, Some, None, Bool, true, false, length, take, drop, refl, ap, sym, ◌∙◌, subst, arith, append_assoc}
+use Rattle.std.proofs.Common.{length-append, drop_at, take-append-drop, length-take, ap₂}
 use Rattle.tree_core.specs.declared.token.Tok.{Tok}
 use Rattle.tree_core.specs.declared.token.Tok.TheVariants as tok
 use Rattle.tree_core.specs.declared.token.Sort.{Sort}

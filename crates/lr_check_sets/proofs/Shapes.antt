@@ -1,5 +1,6 @@
 -- A list that replaces a subtree is a tree, so no right side ends inside an unfinished subtree.
-use Rattle.std.proofs.Common.{◌≡◌, ℕ, zero, suc, ◌+◌, ◌≤◌, ◌<◌, List, [], ◌∷◌, ◌++◌, Option, Some, None, Contains, length, take, drop, reverse, refl, ap, sym, ◌∙◌, inl, ⊎_elim, subst, arith, append_assoc, append-nil, length-append, take-append-drop, take_at, suc-add, one-add}
+use Rattle.std.proofs.Common.{◌≡◌, ℕ, zero, suc, ◌+◌, ◌≤◌, ◌<◌, List, [], ◌∷◌, ◌++◌, Option, Some, None, Contains, length, take, drop, reverse, refl, ap, sym, ◌∙◌, inl, ⊎_elim}
+use Rattle.std.proofs.Common.{subst, arith, append_assoc, append-nil, length-append, take-append-drop, take_at, suc-add, one-add}
 use Rattle.std.proofs.lemmas.List.{reverse-reverse, length-reverse, take-append-le}
 use Rattle.std.proofs.lemmas.Bool.{cases_lt}
 use Rattle.tree_core.specs.declared.token.Tok.{Tok}

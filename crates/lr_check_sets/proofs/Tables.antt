@@ -1,5 +1,6 @@
 -- The automaton of a grammar's items is a table.
-use Rattle.std.proofs.Common.{◌≡◌, ◌⊎◌, ℕ, ◌≤◌, List, [], ◌∷◌, ◌++◌, Option, Some, None, length, drop, reverse, map, refl, ap, sym, ◌∙◌, inl, inr, ⊎_elim, subst, arith, append_assoc, Contains, length-append, drop_at, ap₂}
+use Rattle.std.proofs.Common.{◌≡◌, ◌⊎◌, ℕ, ◌≤◌, List, [], ◌∷◌, ◌++◌, Option, Some, None, length, drop, reverse, map, refl, ap, sym, ◌∙◌, inl, inr, ⊎_elim, subst, arith}
+use Rattle.std.proofs.Common.{append_assoc, Contains, length-append, drop_at, ap₂}
 use Rattle.std.proofs.lemmas.List.{reverse-append, reverse-reverse, length-reverse}
 use Rattle.std.proofs.lemmas.List.Elements.{Contains-append_right}
 use Rattle.tree_core.specs.declared.token.Tok.{Tok}

@@ -76,8 +76,10 @@ Outside (reduce r) s = length s < size_of r
 
 -- what the parse asks of an automaton, whatever its states are
 pub record IsTable (A : Automaton) : Type 0 where
-  pub shift_alone : (a : List Sym) (p : ℕ) (t : Tok) (p' : ℕ) → walk A 0 a ≡ Some p → A.go p (symbol.Tok t) ≡ Some p' → A.candidates p t ≡ shift ∷ []
+  pub shift_alone : (a : List Sym) (p : ℕ) (t : Tok) (p' : ℕ) → walk A 0 a ≡ Some p → A.go p (symbol.Tok t) ≡ Some p'
+      → A.candidates p t ≡ shift ∷ []
   pub accept : (a : List Sym) (p : ℕ) → walk A 0 a ≡ Some p → Free (A.candidates p tok.End) shift → a ≡ symbol.Class A.stmt ∷ []
   pub reduces : (a : List Sym) (p : ℕ) (t : Tok) (r : Production) → walk A 0 a ≡ Some p → Free (A.candidates p t) (reduce r) →
       (size_of r ≤ length a) × ((p' : ℕ) × (walk A 0 (reduced r a) ≡ Some p'))
-  pub nonempty : (a : List Sym) (p : ℕ) (t : Tok) (r : Production) → walk A 0 a ≡ Some p → Free (A.candidates p t) (reduce r) → 0 < size_of r
+  pub nonempty : (a : List Sym) (p : ℕ) (t : Tok) (r : Production) → walk A 0 a ≡ Some p → Free (A.candidates p t) (reduce r)
+      → 0 < size_of r

@@ -27,7 +27,8 @@ EveryTreeAccepts =
 -- it ends within the tokens times the classes and one, the end counted as a token
 abbrev pub EveryTreeEndsWithin : Type 0
 EveryTreeEndsWithin =
-    (G : List Production) (A : Automaton) (k : ℕ) → HasNoEnd G → HasNoEmpty G → HasTrees G → HasClasses G k → IsAutomatonOf G A → NoFault A →
+    (G : List Production) (A : Automaton) (k : ℕ) → HasNoEnd G → HasNoEmpty G → HasTrees G → HasClasses G k → IsAutomatonOf G A
+    → NoFault A →
     (v : Tree sort.Stmt) → Within A (length (onto v (tok.End ∷ [])) * (k + 1)) [] (onto v (tok.End ∷ []))
 
 -- a tree whose parse blocks, or turns for ever, with its answers

@@ -10,7 +10,8 @@ use Rattle.lr_check_sets.specs.Sums.{Place, Partly, Settling}
 -- every way to go on with reductions of the whole list comes to an end
 pub data Calms (A : Automaton) (q : ℕ) (t : Tok) : List Sym → Type 0 where
   calms : {s : List Sym} →
-      ((r : Production) (p : ℕ) → walk A q s ≡ Some p → Free (A.candidates p t) (reduce r) → size_of r ≡ length s → Calms A q t (reduced r s)) →
+      ((r : Production) (p : ℕ) → walk A q s ≡ Some p → Free (A.candidates p t) (reduce r) → size_of r ≡ length s
+      → Calms A q t (reduced r s)) →
       Calms A q t s
 
 pub record NoFault (A : Automaton) : Type 0 where

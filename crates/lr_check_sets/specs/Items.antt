@@ -13,7 +13,8 @@ start_of stmt = record { left = stmt; right = symbol.Class stmt ∷ symbol.Tok t
 -- the rule is valid for the stack with the dot before the rest of its right side; the stack's top stands first
 pub data Item (G : List Production) (stmt : ℕ) : List Sym → Production → List Sym → Type 0 where
   starts : {r : Production} {rest : List Sym} → r ≡ start_of stmt → r.right ≡ rest → Item G stmt [] r rest
-  opens : {a : List Sym} {s : Production} {c : ℕ} {after : List Sym} {r : Production} {rest : List Sym} → Item G stmt a s (symbol.Class c ∷ after) →
+  opens : {a : List Sym} {s : Production} {c : ℕ} {after : List Sym} {r : Production} {rest : List Sym}
+      → Item G stmt a s (symbol.Class c ∷ after) →
       Contains G r → r.left ≡ c → r.right ≡ rest → Item G stmt a r rest
   moves : {a : List Sym} {r : Production} {X : Sym} {rest : List Sym} → Item G stmt a r (X ∷ rest) → Item G stmt (X ∷ a) r rest
 
@@ -33,7 +34,8 @@ pub data AreCandidates (G : List Production) (stmt : ℕ) (a : List Sym) (t : To
       ((r : Production) (after : List Sym) → Item G stmt a r (symbol.Tok t ∷ after) → ⊥) → AreReductions G stmt a rs → cs ≡ map reduce rs →
       AreCandidates G stmt a t cs
 
--- at each stack that leads to a state: the state leads on exactly where an item stands before the symbol, and its candidates are those of the items
+-- at each stack that leads to a state: the state leads on exactly where an item stands before the symbol, and its
+-- candidates are those of the items
 pub record IsAutomatonOf (G : List Production) (A : Automaton) : Type 0 where
   pub goes_where : (a : List Sym) (p : ℕ) (X : Sym) (r : Production) (after : List Sym) →
       walk A 0 a ≡ Some p → Item G A.stmt a r (X ∷ after) → (p' : ℕ) × (A.go p X ≡ Some p')

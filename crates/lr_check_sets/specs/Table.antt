@@ -33,4 +33,9 @@ unfoldable pub candidates_at : TableView → ℕ → Tok → List Candidate
 candidates_at t q k = candidates_of t.content.rules (actions_at t q k)
 
 abbrev pub automaton_of : TableView → Automaton
-automaton_of t = record { stmt = stmt_of t.content.classes; go = λ (q : ℕ) (X : Sym). target_at t q X; candidates = λ (q : ℕ) (k : Tok). candidates_at t q k }
+automaton_of t = record {
+  stmt = stmt_of t.content.classes;
+  go = λ (q : ℕ) (X : Sym). target_at t q X;
+  candidates =
+      λ (q : ℕ) (k : Tok). candidates_at t q k;
+}

@@ -18,7 +18,8 @@ answer_word [] = []
 answer_word (b ∷ bs) = codes " " ++ flat_map answer_letter (b ∷ bs)
 
 abbrev pub node_line : ℕ → Node → List ℕ
-node_line n v = codes "  " ++ (decimal n ++ (codes " " ++ (name_of v.tok ++ (flat_map kid_word v.kids ++ (answer_word v.answers ++ codes "\n")))))
+node_line n v = codes "  " ++ (decimal n ++ (codes " " ++ (name_of v.tok
+    ++ (flat_map kid_word v.kids ++ (answer_word v.answers ++ codes "\n")))))
 
 -- nodes are counted on from a number
 abbrev pub lines_from : ℕ → List Node → List ℕ

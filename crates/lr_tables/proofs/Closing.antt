@@ -1,5 +1,6 @@
 -- The item set of a stack's kernel holds exactly the items that are valid for the stack.
-use Rattle.std.proofs.Common.{◌≡◌, ◌⊎◌, ◌↔◌, ℕ, zero, suc, ◌+◌, ◌≤◌, ◌<◌, List, [], ◌∷◌, ◌++◌, Option, Some, None, Bool, true, false, cond, length, get_or, set, slice_get, replicate, map, filter, refl, sym, ap, ◌∙◌, subst, inl, inr, ⊎_elim, arith, length-set, true≢false}
+use Rattle.std.proofs.Common.{◌≡◌, ◌⊎◌, ◌↔◌, ℕ, zero, suc, ◌+◌, ◌≤◌, ◌<◌, List, [], ◌∷◌, ◌++◌, Option, Some, None, Bool, true, false, cond, length, get_or, set, slice_get}
+use Rattle.std.proofs.Common.{replicate, map, filter, refl, sym, ap, ◌∙◌, subst, inl, inr, ⊎_elim, arith, length-set, true≢false}
 use Rattle.std.specs.Prelude.{◌==◌}
 use Rattle.std.specs.Option.{option_map, option_map_or}
 use Rattle.std.proofs.lemmas.Bool.{eqb-true, eq-eqb, cases_Bool, cases_lt}
@@ -85,7 +86,8 @@ module _ (rules : List Rule) (stmt classes : ℕ) (g : IsGrammar rules stmt clas
   all_there [] m i c l at e = absurd at
   all_there (j ∷ k) m i c l at e =
       ⊎_elim
-      (λ same. all_kept k (marked_before (next rules stmt j) m) c (subst (λ (o : Option Sym). Marked (marked_before o m) c) (sym (ap (next rules stmt) same ∙ e)) (marked_here m c (subst (λ n. c < n) (sym l) (next_within i c e)))))
+      (λ same. all_kept k (marked_before (next rules stmt j) m) c (subst (λ (o : Option Sym). Marked (marked_before o m) c) (sym (ap (next rules stmt) same ∙ e))
+      (marked_here m c (subst (λ n. c < n) (sym l) (next_within i c e)))))
       (λ later. all_there k (marked_before (next rules stmt j) m) i c (length-before (next rules stmt j) m ∙ l) later e)
       at
 
@@ -134,7 +136,8 @@ module _ (rules : List Rule) (stmt classes : ℕ) (g : IsGrammar rules stmt clas
   opened_later : (q : Rule) (rs : List Rule) (m : List Bool) (k : ℕ) (i : Item) → Opened rs m (k + 1) i → Opened (q ∷ rs) m k i
   opened_later q rs m k i o = record { place = suc o.place; rule = o.rule; there = o.there; marked = o.marked; is = o.is ∙ ap fresh (let z : k + 1 + o.place ≡ k + suc o.place = omega arith in z) }
 
-  opened_case : (q : Rule) (rs : List Rule) (m : List Bool) (k : ℕ) (i : Item) (b : Bool) → get_or m q.left false ≡ b → In i (cond b (fresh k ∷ opened_from (k + 1) rs m) (opened_from (k + 1) rs m)) → Opened (q ∷ rs) m k i ⊎ In i (opened_from (k + 1) rs m)
+  opened_case : (q : Rule) (rs : List Rule) (m : List Bool) (k : ℕ) (i : Item) (b : Bool) → get_or m q.left false ≡ b
+      → In i (cond b (fresh k ∷ opened_from (k + 1) rs m) (opened_from (k + 1) rs m)) → Opened (q ∷ rs) m k i ⊎ In i (opened_from (k + 1) rs m)
   opened_case q rs m k i true f u = ⊎_elim (λ s. inl (record { place = 0; rule = q; there = refl; marked = f; is = sym s ∙ ap fresh (let z : k ≡ k + 0 = omega arith in z) })) (λ x. inr x) u
   opened_case q rs m k i false f u = inr u
 
@@ -150,7 +153,8 @@ module _ (rules : List Rule) (stmt classes : ℕ) (g : IsGrammar rules stmt clas
   length-empty = length-replicate classes false
 
   -- an item of the item set before a class has it opened
-  pub opens_next : (k : List Item) (i : Item) (c : ℕ) → In i (item_set rules stmt classes (chains rules) k) → next rules stmt i ≡ Some (symbol.Class c) → Marked (open_classes rules stmt classes (chains rules) k) c
+  pub opens_next : (k : List Item) (i : Item) (c : ℕ) → In i (item_set rules stmt classes (chains rules) k) → next rules stmt i ≡ Some (symbol.Class c)
+      → Marked (open_classes rules stmt classes (chains rules) k) c
   unfolding item_set
   opens_next k i c at e =
       let first = marked_all rules stmt k (replicate classes false) in
@@ -207,14 +211,16 @@ module _ (rules : List Rule) (stmt classes : ℕ) (g : IsGrammar rules stmt clas
       (λ x. valid i x)
       (λ x. let o : Opened rules (rounds classes (chains rules) first) 0 i = opened_only rules (rounds classes (chains rules) first) 0 i x in
       let r : Rule = o.rule in
-      let stands : (j : Item) × Items rules stmt a j × (next rules stmt j ≡ Some (symbol.Class r.left)) = rounds_sound (λ (c : ℕ). (j : Item) × Items rules stmt a j × (next rules stmt j ≡ Some (symbol.Class c))) classes (chains rules) first given along r.left o.marked in
+      let stands : (j : Item) × Items rules stmt a j × (next rules stmt j ≡ Some (symbol.Class r.left)) =
+      rounds_sound (λ (c : ℕ). (j : Item) × Items rules stmt a j × (next rules stmt j ≡ Some (symbol.Class c))) classes (chains rules) first given along r.left o.marked in
       subst (Items rules stmt a) (sym (o.is ∙ ap fresh (let z : 0 + o.place ≡ o.place = omega arith in z))) (opens stands.1 stands.2 (ap (option_map (λ (q : Rule). q.left)) o.there)))
       (In-cases i k (opened_from 0 rules (rounds classes (chains rules) first)) at)
     where
       given : (c : ℕ) → Marked (marked_all rules stmt k (replicate classes false)) c → (j : Item) × Items rules stmt a j × (next rules stmt j ≡ Some (symbol.Class c))
       given c h = ⊎_elim (λ x. absurd (none_marked classes c x)) (λ x. (x.0, valid x.0 x.1, x.2)) (all_sound k (replicate classes false) c h)
 
-      along : (e : Edge) → In e (chains rules) → ((j : Item) × Items rules stmt a j × (next rules stmt j ≡ Some (symbol.Class e.from))) → (j : Item) × Items rules stmt a j × (next rules stmt j ≡ Some (symbol.Class e.to))
+      along : (e : Edge) → In e (chains rules) → ((j : Item) × Items rules stmt a j × (next rules stmt j ≡ Some (symbol.Class e.from))) → (j : Item) × Items rules stmt a j
+          × (next rules stmt j ≡ Some (symbol.Class e.to))
       along e at p =
           let q : (r : Rule) × In r rules × (first_edge r ≡ Some e) = filter_map-In first_edge e rules at in
           let is : (e.from ≡ q.0.left) × (slice_get q.0.right 0 ≡ Some (symbol.Class e.to)) = edge_is q.0.left (slice_get q.0.right 0) e q.2 in
@@ -232,7 +238,8 @@ module _ (rules : List Rule) (stmt classes : ℕ) (g : IsGrammar rules stmt clas
   pub kernel_valid : (a : List Sym) (i : Item) → In i (kernel_at rules stmt classes a) → Items rules stmt a i
   kernel_valid [] i at = ⊎_elim (λ s. subst (Items rules stmt []) s starts) (λ x. absurd x) at
   kernel_valid (X ∷ a) j at =
-      let m : (i : Item) × In i (item_set rules stmt classes (chains rules) (kernel_at rules stmt classes a)) × (next rules stmt i ≡ Some X) × (j ≡ advanced i) = moved_only X (item_set rules stmt classes (chains rules) (kernel_at rules stmt classes a)) j at in
+      let m : (i : Item) × In i (item_set rules stmt classes (chains rules) (kernel_at rules stmt classes a)) × (next rules stmt i ≡ Some X)
+      × (j ≡ advanced i) = moved_only X (item_set rules stmt classes (chains rules) (kernel_at rules stmt classes a)) j at in
       moves (set_sound a (kernel_at rules stmt classes a) (λ i x. kernel_valid a i x) m.0 m.1) m.2 m.3
 
   -- the item set of the stack's kernel holds the valid items and no other
@@ -243,4 +250,5 @@ module _ (rules : List Rule) (stmt classes : ℕ) (g : IsGrammar rules stmt clas
   valid_set starts = kernel_there (kernel_at rules stmt classes []) start (inl refl)
   valid_set (opens {a = a} {i = i} {c = c} {n = n} v e l) = opens_there (kernel_at rules stmt classes a) n c (opens_next (kernel_at rules stmt classes a) i c (valid_set v) e) l
   valid_set (moves {a = a} {i = i} {j = j} {X = X} v e s) =
-      kernel_there (kernel_at rules stmt classes (X ∷ a)) j (subst (λ x. In x (kernel_at rules stmt classes (X ∷ a))) (sym s) (moved_there X (item_set rules stmt classes (chains rules) (kernel_at rules stmt classes a)) i (valid_set v) e))
+      kernel_there (kernel_at rules stmt classes (X ∷ a)) j (subst (λ x. In x (kernel_at rules stmt classes (X ∷ a))) (sym s)
+      (moved_there X (item_set rules stmt classes (chains rules) (kernel_at rules stmt classes a)) i (valid_set v) e))

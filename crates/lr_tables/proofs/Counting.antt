@@ -60,10 +60,12 @@ apart_get (y ∷ ks) (suc j) (suc k) x h lt e f = apart_get ks j k x h.1 (omega 
 module _ (rules : List Rule) (stmt classes : ℕ) (g : IsGrammar rules stmt classes) where
   -- stacks with the same items have the same kernel
   same_kernels : (a b : List Sym) → SameItems rules stmt a b → kernel_at rules stmt classes a ≡ kernel_at rules stmt classes b
-  same_kernels a b h = sorted_same (kernel_at rules stmt classes a) (kernel_at rules stmt classes b) (kernel_sorted rules stmt classes a) (kernel_sorted rules stmt classes b) (λ i x. over a b (λ j v. (h j).0 v) i x) (λ i x. over b a (λ j v. (h j).1 v) i x)
+  same_kernels a b h = sorted_same (kernel_at rules stmt classes a) (kernel_at rules stmt classes b) (kernel_sorted rules stmt classes a) (kernel_sorted rules stmt classes b)
+      (λ i x. over a b (λ j v. (h j).0 v) i x) (λ i x. over b a (λ j v. (h j).1 v) i x)
     where
       over : (c d : List Sym) → ((j : Item) → Items rules stmt c j → Items rules stmt d j) → (i : Item) → In i (kernel_at rules stmt classes c) → In i (kernel_at rules stmt classes d)
-      over c d f i at = set_kernel rules stmt classes (kernel_at rules stmt classes d) i (valid_set rules stmt classes g (f i (kernel_valid rules stmt classes g c i at))) (kernel_in rules stmt classes c i at)
+      over c d f i at = set_kernel rules stmt classes (kernel_at rules stmt classes d) i (valid_set rules stmt classes g (f i (kernel_valid rules stmt classes g c i at)))
+          (kernel_in rules stmt classes c i at)
 
   same_sets : (a b : List Sym) → kernel_at rules stmt classes a ≡ kernel_at rules stmt classes b → SameItems rules stmt a b
   same_sets a b e = λ i. (go a b e i, go b a (sym e) i)
@@ -90,7 +92,8 @@ module _ (rules : List Rule) (stmt classes : ℕ) (g : IsGrammar rules stmt clas
         many = (let l = length-map s.0 (kernel_at rules stmt classes) in let m : length (map (kernel_at rules stmt classes) s.0) ≡ length ks = ap (λ (x : List (List Item)). length x) s.1 in let v = o.over in omega (arith, l, m, v));
         differ = record {
           live = λ k a e.
-              let r : Reached rules stmt classes g (kernel_at rules stmt classes a) = found_reached rules stmt classes g o.at (kernel_at rules stmt classes a) (slice_get-In (kernel_at rules stmt classes a) ks k (at k a e)) in
+              let r : Reached rules stmt classes g (kernel_at rules stmt classes a) =
+              found_reached rules stmt classes g o.at (kernel_at rules stmt classes a) (slice_get-In (kernel_at rules stmt classes a) ks k (at k a e)) in
               let h : (i : Item) × In i (kernel_at rules stmt classes a) = head_in (kernel_at rules stmt classes a) r.some in
               (h.0, kernel_valid rules stmt classes g a h.0 h.1);
           apart = λ j k a b lt e f same.
@@ -114,7 +117,8 @@ module _ (rules : List Rule) (stmt classes : ℕ) (g : IsGrammar rules stmt clas
       let m : (a : List Sym) × In a h.stacks × (k ≡ kernel_at rules stmt classes a) = map-In (kernel_at rules stmt classes) k h.stacks x in
       let p : (j : ℕ) × (slice_get h.stacks j ≡ Some m.0) = In-slice_get m.0 h.stacks m.1 in
       let v : (i : Item) × Items rules stmt m.0 i = h.differ.live p.0 m.0 p.1 in
-      subst (λ (y : List Item). In y ks) (sym m.2) (found_complete rules stmt classes g n (omega (arith, e)) m.0 (set_empty rules stmt classes g (kernel_at rules stmt classes m.0) v.0 (valid_set rules stmt classes g v.1))) in
+      subst (λ (y : List Item). In y ks) (sym m.2) (found_complete rules stmt classes g n (omega (arith, e)) m.0
+      (set_empty rules stmt classes g (kernel_at rules stmt classes m.0) v.0 (valid_set rules stmt classes g v.1))) in
       let l : length (map (kernel_at rules stmt classes) h.stacks) ≤ length ks = pigeons (map (kernel_at rules stmt classes) h.stacks) ks (kernels_apart h.stacks h.differ) all in
       let m = length-map h.stacks (kernel_at rules stmt classes) in
       let many = h.many in

@@ -1,5 +1,6 @@
 -- FOLLOW as it is computed is the least set.
-use Rattle.std.proofs.Common.{◌≡◌, ◌⊎◌, ◌↔◌, ℕ, zero, suc, ◌+◌, ◌-◌, ◌≤◌, ◌<◌, List, [], ◌∷◌, ◌++◌, Option, Some, None, Bool, true, false, cond, length, get_or, set, slice_get, replicate, refl, sym, ap, ◌∙◌, subst, inl, inr, ⊎_elim, arith, length-set, true≢false}
+use Rattle.std.proofs.Common.{◌≡◌, ◌⊎◌, ◌↔◌, ℕ, zero, suc, ◌+◌, ◌-◌, ◌≤◌, ◌<◌, List, [], ◌∷◌, ◌++◌, Option, Some, None, Bool, true, false, cond, length, get_or, set, slice_get}
+use Rattle.std.proofs.Common.{replicate, refl, sym, ap, ◌∙◌, subst, inl, inr, ⊎_elim, arith, length-set, true≢false}
 use Rattle.std.specs.Prelude.{◌==◌}
 use Rattle.std.proofs.lemmas.Bool.{eqb-true, eq-eqb, cases_Bool}
 use Rattle.std.proofs.lemmas.List.{length-replicate}
@@ -72,7 +73,8 @@ module _ (k : Tok) where
       (λ same. begun_kept rs (cond (code.is_token (number k) (slice_get q.right 0)) (set m q.left true) m) r.left
       (subst (λ (x : Rule). Marked (cond (code.is_token (number k) (slice_get x.right 0)) (set m x.left true) m) r.left) (sym same)
       (if_there (code.is_token (number k) (slice_get r.right 0)) m r.left (ap (code.is_token (number k)) e ∙ is_token_itself k) lt)))
-      (λ later. begun_there rs (cond (code.is_token (number k) (slice_get q.right 0)) (set m q.left true) m) r later (subst (λ n. r.left < n) (sym (length-if (code.is_token (number k) (slice_get q.right 0)) m q.left)) lt) e)
+      (λ later. begun_there rs (cond (code.is_token (number k) (slice_get q.right 0)) (set m q.left true) m) r later
+      (subst (λ n. r.left < n) (sym (length-if (code.is_token (number k) (slice_get q.right 0)) m q.left)) lt) e)
       at
 
   begun_only : (rs : List Rule) (m : List Bool) (c : ℕ) → Marked (code.begun (number k) rs m) c → Marked m c ⊎ ((r : Rule) × In r rs × (r.left ≡ c) × (slice_get r.right 0 ≡ Some (symbol.Tok k)))
@@ -141,11 +143,14 @@ module _ (rules : List Rule) (stmt classes : ℕ) (g : IsGrammar rules stmt clas
       tok_case (itself {t = u}) v e = cc
       tok_case (by_rule {c = d} n r there left first s) v e = cc
 
-      by : (Y : Sym) → slice_get r.right 0 ≡ Some Y → ((b : ℕ) → Y ≡ symbol.Class b → Marked (rounds classes (code.begin_edges rules) (code.begun (number k) rules (replicate classes false))) b) → ((v : Tok) → Y ≡ symbol.Tok v → t ≡ v) → Marked (rounds classes (code.begin_edges rules) (code.begun (number k) rules (replicate classes false))) c
+      by : (Y : Sym) → slice_get r.right 0 ≡ Some Y → ((b : ℕ) → Y ≡ symbol.Class b
+          → Marked (rounds classes (code.begin_edges rules) (code.begun (number k) rules (replicate classes false))) b) → ((v : Tok) → Y ≡ symbol.Tok v → t ≡ v)
+          → Marked (rounds classes (code.begin_edges rules) (code.begun (number k) rules (replicate classes false))) c
       by (symbol.Tok v) first ih tk =
           let vk : v ≡ k = sym (tk v refl) ∙ same in
           rounds_kept classes (code.begin_edges rules) (code.begun (number k) rules (replicate classes false)) c
-          (subst (Marked (code.begun (number k) rules (replicate classes false))) is (begun_there k rules (replicate classes false) r at (subst (λ x. r.left < x) (sym length-empty) lt) (first ∙ ap (λ x. Some (symbol.Tok x)) vk)))
+          (subst (Marked (code.begun (number k) rules (replicate classes false))) is
+          (begun_there k rules (replicate classes false) r at (subst (λ x. r.left < x) (sym length-empty) lt) (first ∙ ap (λ x. Some (symbol.Tok x)) vk)))
       by (symbol.Class b) first ih tk =
           let edge : Edge = record { from = b; to = r.left } in
           let there' : In edge (code.begin_edges rules) = In-filter_map code.begin_edge r edge rules at (ap (code.edge_from r.left) first) in
@@ -225,7 +230,8 @@ module _ (t : ℕ) (firsts : List Bool) where
   nothing zero X e = cc
   nothing (suc k) X e = cc
 
-  within_there : (w : List Sym) (o : Option Sym) (m : List Bool) (c j : ℕ) (X : Sym) → slice_get (lead o w) j ≡ Some (symbol.Class c) → slice_get (lead o w) (suc j) ≡ Some X → code.may_begin t firsts X ≡ true → c < length m → Marked (code.within t firsts o w m) c
+  within_there : (w : List Sym) (o : Option Sym) (m : List Bool) (c j : ℕ) (X : Sym) → slice_get (lead o w) j ≡ Some (symbol.Class c) → slice_get (lead o w) (suc j) ≡ Some X
+      → code.may_begin t firsts X ≡ true → c < length m → Marked (code.within t firsts o w m) c
   unfolding lead
   within_there [] None m c j X e f h lt = absurd (nothing j (symbol.Class c) e)
   within_there [] (Some Y) m c j X e f h lt = absurd (nothing j X f)
@@ -260,7 +266,8 @@ module _ (t : ℕ) (firsts : List Bool) where
       from : Adjacent (lead None r.right) c → Adjacent r.right c
       from a = a
 
-  all_there : (rs : List Rule) (m : List Bool) (r : Rule) (c j : ℕ) (X : Sym) → In r rs → slice_get r.right j ≡ Some (symbol.Class c) → slice_get r.right (suc j) ≡ Some X → code.may_begin t firsts X ≡ true → c < length m → Marked (code.all_within t firsts rs m) c
+  all_there : (rs : List Rule) (m : List Bool) (r : Rule) (c j : ℕ) (X : Sym) → In r rs → slice_get r.right j ≡ Some (symbol.Class c) → slice_get r.right (suc j) ≡ Some X
+      → code.may_begin t firsts X ≡ true → c < length m → Marked (code.all_within t firsts rs m) c
   unfolding lead
   all_there [] m r c j X at e f h lt = absurd at
   all_there (q ∷ rs) m r c j X at e f h lt =
@@ -280,7 +287,8 @@ module _ (rules : List Rule) (stmt classes : ℕ) (g : IsGrammar rules stmt clas
   pub follow_sound : (c : ℕ) → Marked (code.follows rules stmt classes (number k)) c → Follow rules stmt c k
   unfolding code.follows
   follow_sound c h =
-      rounds_sound (λ (d : ℕ). Follow rules stmt d k) classes (code.end_edges rules) (code.all_within (number k) (code.begins rules classes (number k)) rules (code.ended stmt (number k) (replicate classes false))) given along c h
+      rounds_sound (λ (d : ℕ). Follow rules stmt d k) classes (code.end_edges rules)
+      (code.all_within (number k) (code.begins rules classes (number k)) rules (code.ended stmt (number k) (replicate classes false))) given along c h
     where
       end_case : (b : Bool) → (number k == 39) ≡ b → (d : ℕ) → Marked (cond b (set (replicate classes false) stmt true) (replicate classes false)) d → Follow rules stmt d k
       end_case true e d h = ⊎_elim

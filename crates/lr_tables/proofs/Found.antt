@@ -1,5 +1,6 @@
 -- The numbered kernels are those that stacks lead to, each once.
-use Rattle.std.proofs.Common.{◌≡◌, ◌⊎◌, ℕ, zero, suc, ◌+◌, ◌≤◌, ◌<◌, List, [], ◌∷◌, ◌++◌, Option, Some, None, Bool, true, false, cond, length, get_or, map, filter, slice_get, refl, sym, ap, ◌∙◌, subst, inl, inr, ⊎_elim, arith, true≢false, length-append, append_assoc, append-nil}
+use Rattle.std.proofs.Common.{◌≡◌, ◌⊎◌, ℕ, zero, suc, ◌+◌, ◌≤◌, ◌<◌, List, [], ◌∷◌, ◌++◌, Option, Some, None, Bool, true, false, cond, length, get_or, map, filter, slice_get, refl}
+use Rattle.std.proofs.Common.{sym, ap, ◌∙◌, subst, inl, inr, ⊎_elim, arith, true≢false, length-append, append_assoc, append-nil}
 use Rattle.std.specs.Prelude.{◌==◌, ◌&&◌, ◌||◌, not, nat_lt, position}
 use Rattle.std.specs.List.{list_any, prefix_len, position_or_len}
 use Rattle.std.specs.Option.{option_eq, option_map_or}
@@ -72,7 +73,8 @@ any_In k (l ∷ ks) e = ⊎_elim (λ a. inl (sym ((kernel_decides k l).0 a))) (�
 
 In_any : (k : List Item) (ks : List (List Item)) → In k ks → list_any (same_kernel k) ks ≡ true
 In_any k [] h = absurd h
-In_any k (l ∷ ks) h = ⊎_elim (λ e. or_first (same_kernel k l) (list_any (same_kernel k) ks) ((kernel_decides k l).1 (sym e))) (λ a. or_second (same_kernel k l) (list_any (same_kernel k) ks) (In_any k ks a)) h
+In_any k (l ∷ ks) h = ⊎_elim (λ e. or_first (same_kernel k l) (list_any (same_kernel k) ks) ((kernel_decides k l).1 (sym e)))
+    (λ a. or_second (same_kernel k l) (list_any (same_kernel k) ks) (In_any k ks a)) h
 
 -- one list begins with another
 pub record Prefix (ks ls : List (List Item)) : Type 0 where
@@ -155,7 +157,8 @@ passes_at : (p : List Item → Bool) (ks : List (List Item)) → prefix_len (λ 
 passes_at p [] lt = absurd (omega arith)
 passes_at p (l ∷ ks) lt = by (p l) refl (λ h. passes_at p ks h) lt
   where
-    by : (b : Bool) → p l ≡ b → (prefix_len (λ x. not (p x)) ks < length ks → (m : List Item) × (slice_get ks (prefix_len (λ x. not (p x)) ks) ≡ Some m) × (p m ≡ true)) → cond (not b) (1 + prefix_len (λ x. not (p x)) ks) 0 < length (l ∷ ks) → (m : List Item) × (slice_get (l ∷ ks) (cond (not b) (1 + prefix_len (λ x. not (p x)) ks) 0) ≡ Some m) × (p m ≡ true)
+    by : (b : Bool) → p l ≡ b → (prefix_len (λ x. not (p x)) ks < length ks → (m : List Item) × (slice_get ks (prefix_len (λ x. not (p x)) ks) ≡ Some m) × (p m ≡ true))
+        → cond (not b) (1 + prefix_len (λ x. not (p x)) ks) 0 < length (l ∷ ks) → (m : List Item) × (slice_get (l ∷ ks) (cond (not b) (1 + prefix_len (λ x. not (p x)) ks) 0) ≡ Some m) × (p m ≡ true)
     by true f ih h = (l, refl, f)
     by false f ih h =
         let a : (m : List Item) × (slice_get ks (prefix_len (λ x. not (p x)) ks) ≡ Some m) × (p m ≡ true) = ih (omega (arith, h)) in
@@ -166,7 +169,8 @@ position_is ks k q e = by (nat_lt (position_or_len (same_kernel k) ks) (length k
   where
     by : (b : Bool) → nat_lt (position_or_len (same_kernel k) ks) (length ks) ≡ b → cond b (Some (position_or_len (same_kernel k) ks)) None ≡ Some q → slice_get ks q ≡ Some k
     by true f h =
-        let a : (l : List Item) × (slice_get ks (position_or_len (same_kernel k) ks) ≡ Some l) × (same_kernel k l ≡ true) = passes_at (same_kernel k) ks (ltb-true (position_or_len (same_kernel k) ks) (length ks) f) in
+        let a : (l : List Item) × (slice_get ks (position_or_len (same_kernel k) ks) ≡ Some l)
+        × (same_kernel k l ≡ true) = passes_at (same_kernel k) ks (ltb-true (position_or_len (same_kernel k) ks) (length ks) f) in
         ap (slice_get ks) (sym (Some-same (position_or_len (same_kernel k) ks) q h)) ∙ (a.1 ∙ ap Some (sym ((kernel_decides k a.0).0 a.2)))
     by false f h = absurd (none_some q h)
 
@@ -199,7 +203,8 @@ module _ (rules : List Rule) (stmt classes : ℕ) (g : IsGrammar rules stmt clas
       let f : In m.0 items × (stands_before rules stmt s m.0 ≡ true) = filter-In (stands_before rules stmt s) m.0 items m.1 in
       (m.0, f.0, stands_number s (next rules stmt m.0) f.1)
 
-  row_reached : (k : List Item) (ks : List (List Item)) → Reached k → ((l : List Item) → In l ks → Reached l) → (n : ℕ) (l : List Item) → In l (row_entered rules stmt (item_set rules stmt classes (chains rules) k) ks n) → Reached l
+  row_reached : (k : List Item) (ks : List (List Item)) → Reached k → ((l : List Item) → In l ks → Reached l) → (n : ℕ) (l : List Item)
+      → In l (row_entered rules stmt (item_set rules stmt classes (chains rules) k) ks n) → Reached l
   row_reached k ks r all zero l h = all l h
   row_reached k ks r all (suc n) l h =
       let items = item_set rules stmt classes (chains rules) k in
@@ -208,7 +213,12 @@ module _ (rules : List Rule) (stmt classes : ℕ) (g : IsGrammar rules stmt clas
       (λ a.
       let e : l ≡ moved rules stmt n items = a.0 in
       let s : (i : Item) × In i items × ((X : Sym) × (next rules stmt i ≡ Some X) × (symbol_number X ≡ n)) = moved_symbol n items (subst (λ (x : List Item). 0 < length x) e a.1) in
-      record { stack = s.2.0 ∷ r.stack; leads = ap (λ (x : List Item). moved rules stmt (symbol_number s.2.0) (item_set rules stmt classes (chains rules) x)) r.leads ∙ (ap (λ m. moved rules stmt m items) s.2.2 ∙ sym e); some = a.1 })
+      record {
+        stack = s.2.0 ∷ r.stack;
+        leads = ap (λ (x : List Item). moved rules stmt (symbol_number s.2.0) (item_set rules stmt classes (chains rules) x)) r.leads
+            ∙ (ap (λ m. moved rules stmt m items) s.2.2 ∙ sym e);
+        some = a.1;
+      })
       (entered_only (row_entered rules stmt items ks n) (moved rules stmt n items) l h)
 
   pub found_reached : (n : ℕ) (k : List Item) → In k (found rules stmt classes n) → Reached k
@@ -216,21 +226,25 @@ module _ (rules : List Rule) (stmt classes : ℕ) (g : IsGrammar rules stmt clas
   found_reached zero k h = ⊎_elim (λ e. record { stack = []; leads = e; some = subst (λ (x : List Item). 0 < length x) e (omega arith) }) (λ x. absurd x) h
   found_reached (suc n) k h = by (slice_get (found rules stmt classes n) n) refl (λ l a. found_reached n l a) h
     where
-      by : (o : Option (List Item)) → slice_get (found rules stmt classes n) n ≡ o → ((l : List Item) → In l (found rules stmt classes n) → Reached l) → In k (followed rules stmt classes (found rules stmt classes n) o) → Reached k
+      by : (o : Option (List Item)) → slice_get (found rules stmt classes n) n ≡ o → ((l : List Item) → In l (found rules stmt classes n) → Reached l)
+          → In k (followed rules stmt classes (found rules stmt classes n) o) → Reached k
       by None e all h = all k h
       by (Some l) e all h = row_reached l (found rules stmt classes n) (all l (slice_get-In l (found rules stmt classes n) n e)) all (40 + classes) k h
 
   row_prefix : (items : List Item) (ks : List (List Item)) (n : ℕ) → Prefix ks (row_entered rules stmt items ks n)
   row_prefix items ks zero = prefix_itself ks
-  row_prefix items ks (suc n) = prefix_trans ks (row_entered rules stmt items ks n) (row_entered rules stmt items ks (suc n)) (row_prefix items ks n) (prefix_entered (row_entered rules stmt items ks n) (moved rules stmt n items))
+  row_prefix items ks (suc n) = prefix_trans ks (row_entered rules stmt items ks n) (row_entered rules stmt items ks (suc n)) (row_prefix items ks n)
+      (prefix_entered (row_entered rules stmt items ks n) (moved rules stmt n items))
 
   row_in : (items : List Item) (ks : List (List Item)) (n m : ℕ) → m < n → 0 < length (moved rules stmt m items) → In (moved rules stmt m items) (row_entered rules stmt items ks n)
   row_in items ks zero m lt some = absurd (omega arith)
   row_in items ks (suc n) m lt some =
       ⊎_elim
-      (λ below. prefix_In (row_entered rules stmt items ks n) (row_entered rules stmt items ks (suc n)) (moved rules stmt m items) (prefix_entered (row_entered rules stmt items ks n) (moved rules stmt n items)) (row_in items ks n m below some))
+      (λ below. prefix_In (row_entered rules stmt items ks n) (row_entered rules stmt items ks (suc n)) (moved rules stmt m items)
+      (prefix_entered (row_entered rules stmt items ks n) (moved rules stmt n items)) (row_in items ks n m below some))
       (λ above. let e : n ≡ m = omega (arith, lt, above) in
-      subst (λ x. In (moved rules stmt x items) (row_entered rules stmt items ks (suc n))) e (entered_in (row_entered rules stmt items ks n) (moved rules stmt n items) (subst (λ x. 0 < length (moved rules stmt x items)) (sym e) some)))
+      subst (λ x. In (moved rules stmt x items) (row_entered rules stmt items ks (suc n))) e
+      (entered_in (row_entered rules stmt items ks n) (moved rules stmt n items) (subst (λ x. 0 < length (moved rules stmt x items)) (sym e) some)))
       (cases_lt m n)
 
   row_apart : (items : List Item) (ks : List (List Item)) (n : ℕ) → Apart ks → Apart (row_entered rules stmt items ks n)
@@ -279,7 +293,8 @@ module _ (rules : List Rule) (stmt classes : ℕ) (g : IsGrammar rules stmt clas
   symbol_within i (symbol.Class c) e = let lt = next_within rules stmt classes g i c e in omega (arith, lt)
 
   -- each stack that leads to items leads to a kernel of the list
-  pub found_complete : (n : ℕ) → length (found rules stmt classes n) ≤ n → (a : List Sym) → 0 < length (kernel_at rules stmt classes a) → In (kernel_at rules stmt classes a) (found rules stmt classes n)
+  pub found_complete : (n : ℕ) → length (found rules stmt classes n) ≤ n → (a : List Sym) → 0 < length (kernel_at rules stmt classes a)
+      → In (kernel_at rules stmt classes a) (found rules stmt classes n)
   unfolding found
   found_complete n h [] some = prefix_In (found rules stmt classes 0) (found rules stmt classes n) (start ∷ []) (found_prefix 0 n (omega arith)) first
     where
@@ -295,7 +310,8 @@ module _ (rules : List Rule) (stmt classes : ℕ) (g : IsGrammar rules stmt clas
       let wide : symbol_number X < 40 + classes = subst (λ x. x < 40 + classes) s.2.2 (symbol_within s.0 s.2.0 s.2.1) in
       ⊎_elim
       (λ early. let here : slice_get (found rules stmt classes at.0) at.0 ≡ Some k = same_get at.0 n k (omega (arith, lt, h)) early at.1 in
-      prefix_In (found rules stmt classes (suc at.0)) (found rules stmt classes n) (moved rules stmt (symbol_number X) items) (found_prefix (suc at.0) n (omega (arith, lt, h))) (turn at.0 k here (symbol_number X) wide some))
+      prefix_In (found rules stmt classes (suc at.0)) (found rules stmt classes n) (moved rules stmt (symbol_number X) items) (found_prefix (suc at.0) n (omega (arith, lt, h)))
+      (turn at.0 k here (symbol_number X) wide some))
       (λ late. let l : found rules stmt classes n ≡ found rules stmt classes at.0 = found_stays at.0 n (omega (arith, lt, h)) late in
       let len : length (found rules stmt classes n) ≡ length (found rules stmt classes at.0) = ap (λ (x : List (List Item)). length x) l in
       absurd (omega (arith, lt, late, len)))
@@ -308,7 +324,8 @@ module _ (rules : List Rule) (stmt classes : ℕ) (g : IsGrammar rules stmt clas
           let v : slice_get (found rules stmt classes n) q ≡ Some x = prefix_get (found rules stmt classes q) (found rules stmt classes n) q x (found_prefix q n le) u in
           u ∙ (sym v ∙ e)
 
-      turn : (q : ℕ) (k : List Item) → slice_get (found rules stmt classes q) q ≡ Some k → (s : ℕ) → s < 40 + classes → 0 < length (moved rules stmt s (item_set rules stmt classes (chains rules) k)) → In (moved rules stmt s (item_set rules stmt classes (chains rules) k)) (found rules stmt classes (suc q))
+      turn : (q : ℕ) (k : List Item) → slice_get (found rules stmt classes q) q ≡ Some k → (s : ℕ) → s < 40 + classes
+          → 0 < length (moved rules stmt s (item_set rules stmt classes (chains rules) k)) → In (moved rules stmt s (item_set rules stmt classes (chains rules) k)) (found rules stmt classes (suc q))
       turn q k e s lt some =
           subst (λ (o : Option (List Item)). In (moved rules stmt s (item_set rules stmt classes (chains rules) k)) (followed rules stmt classes (found rules stmt classes q) o)) (sym e)
           (row_in (item_set rules stmt classes (chains rules) k) (found rules stmt classes q) (40 + classes) s lt some)

@@ -1,5 +1,6 @@
 -- The tables' answers are those of the stacks.
-use Rattle.std.proofs.Common.{◌≡◌, ◌⊎◌, ◌↔◌, ℕ, zero, suc, ◌+◌, ◌≤◌, ◌<◌, List, [], ◌∷◌, Option, Some, None, Bool, true, false, cond, Contains, length, get_or, map, slice_get, refl, sym, ap, ap₂, ◌∙◌, subst, inl, inr, ⊎_elim, arith, true≢false}
+use Rattle.std.proofs.Common.{◌≡◌, ◌⊎◌, ◌↔◌, ℕ, zero, suc, ◌+◌, ◌≤◌, ◌<◌, List, [], ◌∷◌, Option, Some, None, Bool, true, false, cond, Contains, length, get_or, map, slice_get}
+use Rattle.std.proofs.Common.{refl, sym, ap, ap₂, ◌∙◌, subst, inl, inr, ⊎_elim, arith, true≢false}
 use Rattle.std.specs.Prelude.{◌==◌, ◌&&◌, AllPairs, position}
 use Rattle.std.specs.List.{filter_map, cons_option, range_with_len}
 use Rattle.std.specs.Option.{option_map, option_and_then}
@@ -55,7 +56,8 @@ record Reduces (rules : List Rule) (follow : List Bool) (i : Item) (n : ℕ) : T
 reduction_is : (rules : List Rule) (follow : List Bool) (i : Item) (n : ℕ) → reduction rules follow i ≡ Some n → Reduces rules follow i n
 reduction_is rules follow i n e = by i.rule refl e
   where
-    test : (r : Rule) (m : ℕ) (b : Bool) → ((i.dot == length r.right) && get_or follow r.left false) ≡ b → cond b (Some m) None ≡ Some n → ((i.dot == length r.right) && get_or follow r.left false) ≡ true
+    test : (r : Rule) (m : ℕ) (b : Bool) → ((i.dot == length r.right) && get_or follow r.left false) ≡ b → cond b (Some m) None ≡ Some n
+        → ((i.dot == length r.right) && get_or follow r.left false) ≡ true
     test r m true f h = f
     test r m false f h = absurd (none_some n h)
 
@@ -74,9 +76,11 @@ reduction_is rules follow i n e = by i.rule refl e
     by None f h = absurd (none_some n h)
     by (Some m) f h = at m f (slice_get rules m) refl h
 
-reduction_there : (rules : List Rule) (follow : List Bool) (n : ℕ) (r : Rule) → slice_get rules n ≡ Some r → Marked follow r.left → reduction rules follow (record { rule = Some n; dot = length r.right }) ≡ Some n
+reduction_there : (rules : List Rule) (follow : List Bool) (n : ℕ) (r : Rule) → slice_get rules n ≡ Some r → Marked follow r.left
+    → reduction rules follow (record { rule = Some n; dot = length r.right }) ≡ Some n
 reduction_there rules follow n r e h =
-    ap (reduction_at follow n (length r.right)) e ∙ ap (λ b. cond b (Some n) None) (and_from (length r.right == length r.right) (get_or follow r.left false) (eq-eqb (length r.right) (length r.right) refl) h)
+    ap (reduction_at follow n (length r.right)) e ∙ ap (λ b. cond b (Some n) None)
+    (and_from (length r.right == length r.right) (get_or follow r.left false) (eq-eqb (length r.right) (length r.right) refl) h)
 
 -- the rules of the reductions
 rules_of : List Rule → List Bool → List Item → List ℕ
@@ -87,7 +91,8 @@ unfolding rules_of
 reductions_are rules follow [] = refl
 reductions_are rules follow (i ∷ kernel) = by (reduction rules follow i) (reductions_are rules follow kernel)
   where
-    by : (o : Option ℕ) → reductions rules follow kernel ≡ map choice.Reduce (filter_map (reduction rules follow) kernel) → cons_option (option_map choice.Reduce o) (reductions rules follow kernel) ≡ map choice.Reduce (cons_option o (filter_map (reduction rules follow) kernel))
+    by : (o : Option ℕ) → reductions rules follow kernel ≡ map choice.Reduce (filter_map (reduction rules follow) kernel)
+        → cons_option (option_map choice.Reduce o) (reductions rules follow kernel) ≡ map choice.Reduce (cons_option o (filter_map (reduction rules follow) kernel))
     by None e = e
     by (Some n) e = ap (λ (l : List Choice). choice.Reduce n ∷ l) e
 
@@ -137,7 +142,8 @@ rules_ordered rules stmt follow (i ∷ kernel) h = by (reduction rules follow i)
         let q : (j : Item) × In j kernel × (reduction rules follow j ≡ Some n) = filter_map-In (reduction rules follow) n kernel (f n (inl refl)) in
         (first_of rules stmt follow i q.0 m n (Each-In (Before i) kernel q.0 h.0 q.1) p (reduction_is rules follow q.0 n q.2), each m p ns (λ x a. f x (inr a)))
 
-    by : (o : Option ℕ) → reduction rules follow i ≡ o → Pairs (GoesFirst rules stmt) (filter_map (reduction rules follow) kernel) → Pairs (GoesFirst rules stmt) (cons_option o (filter_map (reduction rules follow) kernel))
+    by : (o : Option ℕ) → reduction rules follow i ≡ o → Pairs (GoesFirst rules stmt) (filter_map (reduction rules follow) kernel)
+        → Pairs (GoesFirst rules stmt) (cons_option o (filter_map (reduction rules follow) kernel))
     by None e ih = ih
     by (Some m) e ih = (each m (reduction_is rules follow i m e) (filter_map (reduction rules follow) kernel) (λ n a. a), ih)
 
@@ -150,12 +156,15 @@ module _ (rules : List Rule) (stmt classes : ℕ) (g : IsGrammar rules stmt clas
 
   -- the row of a state
   row_at : (q : ℕ) (k : List Item) → slice_get (found rules stmt classes (length rows)) q ≡ Some k → slice_get rows q ≡ Some (row_of rules stmt classes (found rules stmt classes (length rows)) k)
-  row_at q k e = ap (λ (x : List RowView). slice_get x q) b.each ∙ (slice_get-map (row_of rules stmt classes (found rules stmt classes (length rows))) (found rules stmt classes (length rows)) q ∙ ap (option_map (row_of rules stmt classes (found rules stmt classes (length rows)))) e)
+  row_at q k e = ap (λ (x : List RowView). slice_get x q) b.each ∙ (slice_get-map (row_of rules stmt classes (found rules stmt classes (length rows)))
+      (found rules stmt classes (length rows)) q ∙ ap (option_map (row_of rules stmt classes (found rules stmt classes (length rows)))) e)
 
   -- where a kernel's row leads
-  target_is : (k : List Item) (s : ℕ) → s < 40 + classes → get_or (row_of rules stmt classes (found rules stmt classes (length rows)) k).targets s None ≡ target_of (found rules stmt classes (length rows)) (moved rules stmt s (item_set rules stmt classes (chains rules) k))
+  target_is : (k : List Item) (s : ℕ) → s < 40 + classes → get_or (row_of rules stmt classes (found rules stmt classes (length rows)) k).targets s None
+      ≡ target_of (found rules stmt classes (length rows)) (moved rules stmt s (item_set rules stmt classes (chains rules) k))
   unfolding row_of targets_of
-  target_is k s lt = get_or-map-range_with_len (λ (m : ℕ). target_of (found rules stmt classes (length rows)) (moved rules stmt m (item_set rules stmt classes (chains rules) k))) 0 (40 + classes) s s None lt (omega arith)
+  target_is k s lt = get_or-map-range_with_len (λ (m : ℕ). target_of (found rules stmt classes (length rows)) (moved rules stmt m (item_set rules stmt classes (chains rules) k))) 0
+      (40 + classes) s s None lt (omega arith)
 
   target_past : (k : List Item) (s : ℕ) → 40 + classes ≤ s → get_or (row_of rules stmt classes (found rules stmt classes (length rows)) k).targets s None ≡ None
   unfolding row_of targets_of
@@ -169,10 +178,13 @@ module _ (rules : List Rule) (stmt classes : ℕ) (g : IsGrammar rules stmt clas
   target_kernel (i ∷ k) p e = (omega arith, position_is (found rules stmt classes (length rows)) (i ∷ k) p e)
 
   -- a state over a symbol, from the state of a stack
-  over : (a : List Sym) (q p : ℕ) (X : Sym) → slice_get (found rules stmt classes (length rows)) q ≡ Some (kernel_at rules stmt classes a) → target_at (record { content = content; rows = rows }) q X ≡ Some p → (0 < length (kernel_at rules stmt classes (X ∷ a))) × (slice_get (found rules stmt classes (length rows)) p ≡ Some (kernel_at rules stmt classes (X ∷ a)))
+  over : (a : List Sym) (q p : ℕ) (X : Sym) → slice_get (found rules stmt classes (length rows)) q ≡ Some (kernel_at rules stmt classes a)
+      → target_at (record { content = content; rows = rows }) q X ≡ Some p → (0 < length (kernel_at rules stmt classes (X ∷ a)))
+      × (slice_get (found rules stmt classes (length rows)) p ≡ Some (kernel_at rules stmt classes (X ∷ a)))
   over a q p X at e =
       let k = kernel_at rules stmt classes a in
-      let f : get_or (row_of rules stmt classes (found rules stmt classes (length rows)) k).targets (symbol_number X) None ≡ Some p = ap (λ (o : Option RowView). target_in o (symbol_number X)) (sym (row_at q k at)) ∙ e in
+      let f : get_or (row_of rules stmt classes (found rules stmt classes (length rows)) k).targets (symbol_number X) None
+      ≡ Some p = ap (λ (o : Option RowView). target_in o (symbol_number X)) (sym (row_at q k at)) ∙ e in
       ⊎_elim
       (λ lt. target_kernel (kernel_at rules stmt classes (X ∷ a)) p (sym (target_is k (symbol_number X) lt) ∙ f))
       (λ ge. absurd (none_some p (sym (target_past k (symbol_number X) ge) ∙ f)))
@@ -187,7 +199,8 @@ module _ (rules : List Rule) (stmt classes : ℕ) (g : IsGrammar rules stmt clas
   leads_kernel (further {a = a} {q = q} {p = p} {X = X} l e) = (over a q p X (leads_kernel l) e).1
 
   -- where an item stands before the symbol, the state leads on
-  leads_on : (a : List Sym) (q : ℕ) (X : Sym) → Leads (record { content = content; rows = rows }) a q → StandsBefore rules stmt a X → (p : ℕ) × (target_at (record { content = content; rows = rows }) q X ≡ Some p)
+  leads_on : (a : List Sym) (q : ℕ) (X : Sym) → Leads (record { content = content; rows = rows }) a q → StandsBefore rules stmt a X → (p : ℕ)
+      × (target_at (record { content = content; rows = rows }) q X ≡ Some p)
   leads_on a q X l s =
       let k = kernel_at rules stmt classes a in
       let next_kernel = kernel_at rules stmt classes (X ∷ a) in
@@ -195,17 +208,23 @@ module _ (rules : List Rule) (stmt classes : ℕ) (g : IsGrammar rules stmt clas
       let there : In (advanced s.item) next_kernel = moved_there rules stmt classes g X (item_set rules stmt classes (chains rules) k) s.item (valid_set rules stmt classes g s.valid) s.before in
       let some : 0 < length next_kernel = in_some next_kernel (advanced s.item) there in
       let p : (n : ℕ) × (position (same_kernel next_kernel) (found rules stmt classes (length rows)) ≡ Some n) = position_there (found rules stmt classes (length rows)) next_kernel (found_complete rules stmt classes g (length rows) (let m = b.many in omega (arith, m)) (X ∷ a) some) in
-      let lt : symbol_number X < 40 + classes = symbol_within rules stmt classes g s.item X s.before in
-      (p.0, ap (λ (o : Option RowView). target_in o (symbol_number X)) (row_at q k at) ∙ (target_is k (symbol_number X) lt ∙ (target_some (found rules stmt classes (length rows)) next_kernel some ∙ p.1)))
+      let lt : symbol_number X < 40 + classes = symbol_within rules stmt classes g s.item X s.before in (
+        p.0,
+        ap (λ (o : Option RowView). target_in o (symbol_number X)) (row_at q k at)
+            ∙ (target_is k (symbol_number X) lt ∙ (target_some (found rules stmt classes (length rows)) next_kernel some ∙ p.1)),
+      )
 
-  stands_from : (a : List Sym) (q p : ℕ) (X : Sym) → Leads (record { content = content; rows = rows }) a q → target_at (record { content = content; rows = rows }) q X ≡ Some p → StandsBefore rules stmt a X
+  stands_from : (a : List Sym) (q p : ℕ) (X : Sym) → Leads (record { content = content; rows = rows }) a q → target_at (record { content = content; rows = rows }) q X ≡ Some p
+      → StandsBefore rules stmt a X
   stands_from a q p X l e =
       let o = over a q p X (leads_kernel l) e in
       let h : (i : Item) × In i (kernel_at rules stmt classes (X ∷ a)) = head_in (kernel_at rules stmt classes (X ∷ a)) o.0 in
-      let m : (i : Item) × In i (item_set rules stmt classes (chains rules) (kernel_at rules stmt classes a)) × (next rules stmt i ≡ Some X) × (h.0 ≡ advanced i) = moved_only rules stmt classes g X (item_set rules stmt classes (chains rules) (kernel_at rules stmt classes a)) h.0 h.1 in
+      let m : (i : Item) × In i (item_set rules stmt classes (chains rules) (kernel_at rules stmt classes a)) × (next rules stmt i ≡ Some X)
+      × (h.0 ≡ advanced i) = moved_only rules stmt classes g X (item_set rules stmt classes (chains rules) (kernel_at rules stmt classes a)) h.0 h.1 in
       record { item = m.0; valid = set_valid rules stmt classes g a m.0 m.1; before = m.2 }
 
-  pub goes : (a : List Sym) (q c : ℕ) → Leads (record { content = content; rows = rows }) a q → Goes rules stmt (record { content = content; rows = rows }) a c (target_at (record { content = content; rows = rows }) q (symbol.Class c))
+  pub goes : (a : List Sym) (q c : ℕ) → Leads (record { content = content; rows = rows }) a q
+      → Goes rules stmt (record { content = content; rows = rows }) a c (target_at (record { content = content; rows = rows }) q (symbol.Class c))
   goes a q c l = by (target_at (record { content = content; rows = rows }) q (symbol.Class c)) refl
     where
       by : (o : Option ℕ) → target_at (record { content = content; rows = rows }) q (symbol.Class c) ≡ o → Goes rules stmt (record { content = content; rows = rows }) a c o
@@ -213,14 +232,16 @@ module _ (rules : List Rule) (stmt classes : ℕ) (g : IsGrammar rules stmt clas
       by (Some p) e = (stands_from a q p (symbol.Class c) l e, further l e)
 
   -- the cell of a kernel's row at a token
-  cell_is : (k : List Item) (t : Tok) → get_or (row_of rules stmt classes (found rules stmt classes (length rows)) k).actions (number t) [] ≡ cell (number t) (get_or (row_of rules stmt classes (found rules stmt classes (length rows)) k).targets (number t) None) (reductions rules (follows rules stmt classes (number t)) k)
+  cell_is : (k : List Item) (t : Tok) → get_or (row_of rules stmt classes (found rules stmt classes (length rows)) k).actions (number t) []
+      ≡ cell (number t) (get_or (row_of rules stmt classes (found rules stmt classes (length rows)) k).targets (number t) None) (reductions rules (follows rules stmt classes (number t)) k)
   unfolding row_of actions_of all_follows
   cell_is k t =
       let ts = targets_of rules stmt (item_set rules stmt classes (chains rules) k) (found rules stmt classes (length rows)) (40 + classes) in
       let fs = map (follows rules stmt classes) (range_with_len 0 40) in
       let F = λ (n : ℕ). cell n (get_or ts n None) (reductions rules (get_or fs n []) k) in
       get_or-map-range_with_len F 0 40 (number t) (number t) [] (number-below t) (omega arith)
-      ∙ ap (λ (f : List Bool). cell (number t) (get_or ts (number t) None) (reductions rules f k)) (get_or-map-range_with_len (follows rules stmt classes) 0 40 (number t) (number t) [] (number-below t) (omega arith))
+      ∙ ap (λ (f : List Bool). cell (number t) (get_or ts (number t) None) (reductions rules f k))
+      (get_or-map-range_with_len (follows rules stmt classes) 0 40 (number t) (number t) [] (number-below t) (omega arith))
 
   are_reductions : (a : List Sym) (t : Tok) → AreReductions rules stmt a t (rules_of rules (follows rules stmt classes (number t)) (kernel_at rules stmt classes a))
   unfolding rules_of
@@ -237,18 +258,28 @@ module _ (rules : List Rule) (stmt classes : ℕ) (g : IsGrammar rules stmt clas
 
       sound : (n : ℕ) → In n (filter_map (reduction rules (follows rules stmt classes (number t))) (kernel_at rules stmt classes a)) → MayReduce rules stmt a t n
       sound n h =
-          let q : (i : Item) × In i (kernel_at rules stmt classes a) × (reduction rules (follows rules stmt classes (number t)) i ≡ Some n) = filter_map-In (reduction rules (follows rules stmt classes (number t))) n (kernel_at rules stmt classes a) h in
+          let q : (i : Item) × In i (kernel_at rules stmt classes a) × (reduction rules (follows rules stmt classes (number t)) i ≡ Some n) =
+          filter_map-In (reduction rules (follows rules stmt classes (number t))) n (kernel_at rules stmt classes a) h in
           let r : Reduces rules (follows rules stmt classes (number t)) q.0 n = reduction_is rules (follows rules stmt classes (number t)) q.0 n q.2 in
           let same : q.0 ≡ record { rule = Some n; dot = length r.rule.right } = λ j. record { rule = r.is j; dot = r.complete j } in
-          record { rule = r.rule; there = r.there; complete = subst (Items rules stmt a) same (kernel_valid rules stmt classes g a q.0 q.1); behind = follow_sound rules stmt classes g t r.rule.left r.behind }
+          record {
+            rule = r.rule;
+            there = r.there;
+            complete = subst (Items rules stmt a) same (kernel_valid rules stmt classes g a q.0 q.1);
+            behind =
+                follow_sound rules stmt classes g t r.rule.left r.behind;
+          }
 
       complete : (n : ℕ) → MayReduce rules stmt a t n → In n (filter_map (reduction rules (follows rules stmt classes (number t))) (kernel_at rules stmt classes a))
       complete n m =
           let item : Item = record { rule = Some n; dot = length m.rule.right } in
-          let at : In item (kernel_at rules stmt classes a) = set_kernel rules stmt classes (kernel_at rules stmt classes a) item (valid_set rules stmt classes g m.complete) (inl (g.some n m.rule m.there)) in
-          In-filter_map (reduction rules (follows rules stmt classes (number t))) item n (kernel_at rules stmt classes a) at (reduction_there rules (follows rules stmt classes (number t)) n m.rule m.there (follow_complete rules stmt classes g t m.behind refl))
+          let at : In item (kernel_at rules stmt classes a) = set_kernel rules stmt classes (kernel_at rules stmt classes a) item (valid_set rules stmt classes g m.complete)
+          (inl (g.some n m.rule m.there)) in
+          In-filter_map (reduction rules (follows rules stmt classes (number t))) item n (kernel_at rules stmt classes a) at
+          (reduction_there rules (follows rules stmt classes (number t)) n m.rule m.there (follow_complete rules stmt classes g t m.behind refl))
 
-  pub candidates : (a : List Sym) (q : ℕ) (t : Tok) → Leads (record { content = content; rows = rows }) a q → Candidates rules stmt (record { content = content; rows = rows }) a t (actions_at (record { content = content; rows = rows }) q t)
+  pub candidates : (a : List Sym) (q : ℕ) (t : Tok) → Leads (record { content = content; rows = rows }) a q
+      → Candidates rules stmt (record { content = content; rows = rows }) a t (actions_at (record { content = content; rows = rows }) q t)
   candidates a q t l = subst (Candidates rules stmt (record { content = content; rows = rows }) a t) (sym whole) (by (target_at (record { content = content; rows = rows }) q (symbol.Tok t)) refl)
     where
       others : List Choice
@@ -257,16 +288,19 @@ module _ (rules : List Rule) (stmt classes : ℕ) (g : IsGrammar rules stmt clas
       row_here : slice_get rows q ≡ Some (row_of rules stmt classes (found rules stmt classes (length rows)) (kernel_at rules stmt classes a))
       row_here = row_at q (kernel_at rules stmt classes a) (leads_kernel l)
 
-      whole : actions_at (record { content = content; rows = rows }) q t ≡ cell (number t) (target_at (record { content = content; rows = rows }) q (symbol.Tok t)) (reductions rules (follows rules stmt classes (number t)) (kernel_at rules stmt classes a))
+      whole : actions_at (record { content = content; rows = rows }) q t
+          ≡ cell (number t) (target_at (record { content = content; rows = rows }) q (symbol.Tok t)) (reductions rules (follows rules stmt classes (number t)) (kernel_at rules stmt classes a))
       whole =
           ap (λ (o : Option RowView). actions_in o (number t)) row_here
           ∙ (cell_is (kernel_at rules stmt classes a) t
           ∙ ap (λ (o : Option RowView). cell (number t) (target_in o (number t)) (reductions rules (follows rules stmt classes (number t)) (kernel_at rules stmt classes a))) (sym row_here))
 
-      shift_case : (p : ℕ) (e : target_at (record { content = content; rows = rows }) q (symbol.Tok t) ≡ Some p) (c : Bool) → (number t == 39) ≡ c → Candidates rules stmt (record { content = content; rows = rows }) a t (cond c (choice.Accept ∷ []) (choice.Shift p ∷ []))
+      shift_case : (p : ℕ) (e : target_at (record { content = content; rows = rows }) q (symbol.Tok t) ≡ Some p) (c : Bool) → (number t == 39) ≡ c
+          → Candidates rules stmt (record { content = content; rows = rows }) a t (cond c (choice.Accept ∷ []) (choice.Shift p ∷ []))
       shift_case p e true f = accepts (stands_from a q p (symbol.Tok t) l e) (number_same t tok.End (eqb-true (number t) 39 f))
       shift_case p e false f = shifts (stands_from a q p (symbol.Tok t) l e) (λ s. eqb-false (number t) 39 f (ap number s)) (further l e)
 
-      by : (o : Option ℕ) → target_at (record { content = content; rows = rows }) q (symbol.Tok t) ≡ o → Candidates rules stmt (record { content = content; rows = rows }) a t (cell (number t) o (reductions rules (follows rules stmt classes (number t)) (kernel_at rules stmt classes a)))
+      by : (o : Option ℕ) → target_at (record { content = content; rows = rows }) q (symbol.Tok t) ≡ o
+          → Candidates rules stmt (record { content = content; rows = rows }) a t (cell (number t) o (reductions rules (follows rules stmt classes (number t)) (kernel_at rules stmt classes a)))
       by None e = reduces (rules_of rules (follows rules stmt classes (number t)) (kernel_at rules stmt classes a)) (λ s. let p : (n : ℕ) × (target_at (record { content = content; rows = rows }) q (symbol.Tok t) ≡ Some n) = leads_on a q (symbol.Tok t) l s in none_some p.0 (sym e ∙ p.1)) (are_reductions a t) (reductions_are rules (follows rules stmt classes (number t)) (kernel_at rules stmt classes a))
       by (Some p) e = shift_case p e (number t == 39) refl

@@ -1,5 +1,6 @@
 -- One turn of each loop that computes a definition.
-use Rattle.std.proofs.Common.{◌≡◌, ℕ, zero, suc, ⊎_elim, ◌+◌, ◌≤◌, ◌<◌, List, [], ◌∷◌, ◌++◌, Option, Some, None, Result, Err, Bool, true, false, cond, length, get_or, take, drop, map, filter, slice_get, refl, sym, ap, ap₂, ◌∙◌, subst, arith, length-append, append-nil}
+use Rattle.std.proofs.Common.{◌≡◌, ℕ, zero, suc, ⊎_elim, ◌+◌, ◌≤◌, ◌<◌, List, [], ◌∷◌, ◌++◌, Option, Some, None, Result, Err, Bool, true, false, cond, length, get_or, take, drop}
+use Rattle.std.proofs.Common.{map, filter, slice_get, refl, sym, ap, ap₂, ◌∙◌, subst, arith, length-append, append-nil}
 use Rattle.std.specs.Prelude.{Vec, ◌==◌, ◌||◌, not, nat_lt, position}
 use Rattle.std.specs.declared.alloc.Global.{Global}
 use Rattle.std.specs.List.{filter_map, list_any, prefix_len, position_or_len}
@@ -28,14 +29,18 @@ pub stands_none : (o : Option Sym) (s : ℕ) → None ≡ o → false ≡ option
 stands_none o s e = ap (λ (p : Option Sym). option_map_or (λ (Y : Sym). symbol_number Y == s) p false) e
 
 -- one more element of a list that is filtered and mapped
-pub filter_map_turn : {X Y : Type 0} (h : X → Option Y) (xs : List X) (n : ℕ) (x : X) (ys : List Y) → n < length xs → x ≡ get_or xs n x → ys ≡ filter_map h (take n xs) → ys ++ filter_map h (x ∷ []) ≡ filter_map h (take (n + 1) xs)
+pub filter_map_turn : {X Y : Type 0} (h : X → Option Y) (xs : List X) (n : ℕ) (x : X) (ys : List Y) → n < length xs → x ≡ get_or xs n x → ys ≡ filter_map h (take n xs) → ys
+    ++ filter_map h (x ∷ []) ≡ filter_map h (take (n + 1) xs)
 filter_map_turn h xs n x ys lt e i =
-    sym (ap (filter_map h) (take_more xs n x lt) ∙ filter_map-append h (take n xs) (get_or xs n x ∷ []) ∙ ap (λ l. l ++ filter_map h (get_or xs n x ∷ [])) (sym i) ∙ ap (λ z. ys ++ filter_map h (z ∷ [])) (sym e))
+    sym (ap (filter_map h) (take_more xs n x lt) ∙ filter_map-append h (take n xs) (get_or xs n x ∷ []) ∙ ap (λ l. l ++ filter_map h (get_or xs n x ∷ [])) (sym i)
+    ∙ ap (λ z. ys ++ filter_map h (z ∷ [])) (sym e))
 
-pub filter_map_none : {X Y : Type 0} (h : X → Option Y) (xs : List X) (n : ℕ) (x : X) (ys : List Y) → n < length xs → x ≡ get_or xs n x → ys ≡ filter_map h (take n xs) → h x ≡ None → ys ≡ filter_map h (take (n + 1) xs)
+pub filter_map_none : {X Y : Type 0} (h : X → Option Y) (xs : List X) (n : ℕ) (x : X) (ys : List Y) → n < length xs → x ≡ get_or xs n x → ys ≡ filter_map h (take n xs) → h x ≡ None → ys
+    ≡ filter_map h (take (n + 1) xs)
 filter_map_none h xs n x ys lt e i g = sym (append-nil ys) ∙ rw (g) at (filter_map_turn h xs n x ys lt e i)
 
-pub filter_map_some : {X Y : Type 0} (h : X → Option Y) (xs : List X) (n : ℕ) (x : X) (y : Y) (ys : List Y) → n < length xs → x ≡ get_or xs n x → ys ≡ filter_map h (take n xs) → h x ≡ Some y → ys ++ y ∷ [] ≡ filter_map h (take (n + 1) xs)
+pub filter_map_some : {X Y : Type 0} (h : X → Option Y) (xs : List X) (n : ℕ) (x : X) (y : Y) (ys : List Y) → n < length xs → x ≡ get_or xs n x → ys ≡ filter_map h (take n xs) → h x
+    ≡ Some y → ys ++ y ∷ [] ≡ filter_map h (take (n + 1) xs)
 filter_map_some h xs n x y ys lt e i g = rw (g) at (filter_map_turn h xs n x ys lt e i)
 
 -- the dot of an item before a symbol
@@ -59,17 +64,21 @@ pub moved_nil : (rules : List Rule) (stmt symbol : ℕ) → [] ≡ moved rules s
 unfolding moved
 moved_nil rules stmt symbol = refl
 
-moved_turn : (rules : List Rule) (stmt symbol : ℕ) (items : List Item) (n : ℕ) (i : Item) (k : List Item) → n < length items → i ≡ get_or items n i → k ≡ moved rules stmt symbol (take n items) → k ++ map advanced (filter (stands_before rules stmt symbol) (i ∷ [])) ≡ moved rules stmt symbol (take (n + 1) items)
+moved_turn : (rules : List Rule) (stmt symbol : ℕ) (items : List Item) (n : ℕ) (i : Item) (k : List Item) → n < length items → i ≡ get_or items n i → k
+    ≡ moved rules stmt symbol (take n items) → k ++ map advanced (filter (stands_before rules stmt symbol) (i ∷ [])) ≡ moved rules stmt symbol (take (n + 1) items)
 unfolding moved
 moved_turn rules stmt symbol items n i k lt e h =
     let p = stands_before rules stmt symbol in
     sym (ap (λ l. map advanced (filter p l)) (take_more items n i lt) ∙ ap (map advanced) (filter-append p (take n items) (get_or items n i ∷ []))
-    ∙ map-append advanced (filter p (take n items)) (filter p (get_or items n i ∷ [])) ∙ ap (λ l. l ++ map advanced (filter p (get_or items n i ∷ []))) (sym h) ∙ ap (λ z. k ++ map advanced (filter p (z ∷ []))) (sym e))
+    ∙ map-append advanced (filter p (take n items)) (filter p (get_or items n i ∷ [])) ∙ ap (λ l. l ++ map advanced (filter p (get_or items n i ∷ []))) (sym h)
+    ∙ ap (λ z. k ++ map advanced (filter p (z ∷ []))) (sym e))
 
-pub moved_skip : (rules : List Rule) (stmt symbol : ℕ) (items : List Item) (n : ℕ) (i : Item) (k : List Item) → n < length items → i ≡ get_or items n i → k ≡ moved rules stmt symbol (take n items) → stands_before rules stmt symbol i ≡ false → k ≡ moved rules stmt symbol (take (n + 1) items)
+pub moved_skip : (rules : List Rule) (stmt symbol : ℕ) (items : List Item) (n : ℕ) (i : Item) (k : List Item) → n < length items → i ≡ get_or items n i → k
+    ≡ moved rules stmt symbol (take n items) → stands_before rules stmt symbol i ≡ false → k ≡ moved rules stmt symbol (take (n + 1) items)
 moved_skip rules stmt symbol items n i k lt e h g = sym (append-nil k) ∙ (ap (λ (b : Bool). k ++ map advanced (cond b (i ∷ []) [])) (sym g) ∙ moved_turn rules stmt symbol items n i k lt e h)
 
-pub moved_push : (rules : List Rule) (stmt symbol : ℕ) (items : List Item) (n : ℕ) (i : Item) (k : List Item) → n < length items → i ≡ get_or items n i → k ≡ moved rules stmt symbol (take n items) → stands_before rules stmt symbol i ≡ true → k ++ advanced i ∷ [] ≡ moved rules stmt symbol (take (n + 1) items)
+pub moved_push : (rules : List Rule) (stmt symbol : ℕ) (items : List Item) (n : ℕ) (i : Item) (k : List Item) → n < length items → i ≡ get_or items n i → k
+    ≡ moved rules stmt symbol (take n items) → stands_before rules stmt symbol i ≡ true → k ++ advanced i ∷ [] ≡ moved rules stmt symbol (take (n + 1) items)
 moved_push rules stmt symbol items n i k lt e h g = ap (λ (b : Bool). k ++ map advanced (cond b (i ∷ []) [])) (sym g) ∙ moved_turn rules stmt symbol items n i k lt e h
 
 -- keys with their vectors' items
@@ -108,7 +117,8 @@ row_more : (rules : List Rule) (stmt : ℕ) (items : List Item) (ks : List (List
 row_more rules stmt items ks n = length-entered (row_entered rules stmt items ks n) (moved rules stmt n items)
 
 -- so a row that is too long stays so
-pub row_over : (rules : List Rule) (stmt : ℕ) (items : List Item) (ks : List (List Item)) (most n m : ℕ) → n ≤ m → most < length (row_entered rules stmt items ks n) → most < length (row_entered rules stmt items ks m)
+pub row_over : (rules : List Rule) (stmt : ℕ) (items : List Item) (ks : List (List Item)) (most n m : ℕ) → n ≤ m → most < length (row_entered rules stmt items ks n)
+    → most < length (row_entered rules stmt items ks m)
 row_over rules stmt items ks most n zero le h = subst (λ x. most < length (row_entered rules stmt items ks x)) (let e : n ≡ 0 = omega arith in e) h
 row_over rules stmt items ks most n (suc m) le h =
     ⊎_elim
@@ -117,10 +127,12 @@ row_over rules stmt items ks most n (suc m) le h =
     (cases_lt n (suc m))
 
 -- what was entered behind one more symbol
-pub row_turn : (rules : List Rule) (stmt : ℕ) (items : List Item) (ks : List (List Item)) (n : ℕ) (old new : List (List Item)) (kernel : List Item) → old ≡ row_entered rules stmt items ks n → kernel ≡ moved rules stmt n items → new ≡ entered old kernel → new ≡ row_entered rules stmt items ks (n + 1)
+pub row_turn : (rules : List Rule) (stmt : ℕ) (items : List Item) (ks : List (List Item)) (n : ℕ) (old new : List (List Item)) (kernel : List Item) → old
+    ≡ row_entered rules stmt items ks n → kernel ≡ moved rules stmt n items → new ≡ entered old kernel → new ≡ row_entered rules stmt items ks (n + 1)
 row_turn rules stmt items ks n old new kernel e f g = g ∙ ap (λ (x : List (List Item)). entered x kernel) e ∙ ap (entered (row_entered rules stmt items ks n)) f ∙ ap (row_entered rules stmt items ks) (let z : suc n ≡ n + 1 = omega arith in z)
 
-pub row_full : (rules : List Rule) (stmt : ℕ) (items : List Item) (ks : List (List Item)) (n m most : ℕ) (keys : List (Vec Item Global)) → kernels keys ≡ row_entered rules stmt items ks (n + 1) → most < length keys → n < m → most < length (row_entered rules stmt items ks m)
+pub row_full : (rules : List Rule) (stmt : ℕ) (items : List Item) (ks : List (List Item)) (n m most : ℕ) (keys : List (Vec Item Global)) → kernels keys
+    ≡ row_entered rules stmt items ks (n + 1) → most < length keys → n < m → most < length (row_entered rules stmt items ks m)
 row_full rules stmt items ks n m most keys e h lt =
     row_over rules stmt items ks most (n + 1) m (omega (arith, lt)) (subst (λ x. most < x) (sym (length-map keys (λ (v : Vec Item Global). v.items)) ∙ ap (λ (x : List (List Item)). length x) e) h)
 
@@ -141,7 +153,8 @@ unfolding found
 first_many rules stmt classes keys e = sym (length-map keys (λ (v : Vec Item Global). v.items)) ∙ ap (λ (x : List (List Item)). length x) e
 
 -- one more kernel is followed
-pub found_turn : (rules : List Rule) (stmt classes at : ℕ) (old new : List (List Item)) (k items : List Item) → old ≡ found rules stmt classes at → slice_get old at ≡ Some k → items ≡ item_set rules stmt classes (chains rules) k → new ≡ row_entered rules stmt items old (40 + classes) → new ≡ found rules stmt classes (at + 1)
+pub found_turn : (rules : List Rule) (stmt classes at : ℕ) (old new : List (List Item)) (k items : List Item) → old ≡ found rules stmt classes at → slice_get old at ≡ Some k → items
+    ≡ item_set rules stmt classes (chains rules) k → new ≡ row_entered rules stmt items old (40 + classes) → new ≡ found rules stmt classes (at + 1)
 unfolding found
 found_turn rules stmt classes at old new k items e f g h =
     let u : slice_get (found rules stmt classes at) at ≡ Some k = subst (λ (x : List (List Item)). slice_get x at ≡ Some k) e f in
@@ -155,7 +168,8 @@ length-row : (rules : List Rule) (stmt : ℕ) (items : List Item) (ks : List (Li
 length-row rules stmt items ks zero = omega arith
 length-row rules stmt items ks (suc n) = let a = length-row rules stmt items ks n in let b = row_more rules stmt items ks n in omega (arith, a, b)
 
-pub keys_grow : (rules : List Rule) (stmt : ℕ) (items : List Item) (n at : ℕ) (old new : List (Vec Item Global)) (v : Vec Item Global) → Some v ≡ slice_get old at → kernels new ≡ row_entered rules stmt items (kernels old) n → at + 1 ≤ length new
+pub keys_grow : (rules : List Rule) (stmt : ℕ) (items : List Item) (n at : ℕ) (old new : List (Vec Item Global)) (v : Vec Item Global) → Some v ≡ slice_get old at → kernels new
+    ≡ row_entered rules stmt items (kernels old) n → at + 1 ≤ length new
 keys_grow rules stmt items n at old new v e h =
     let lt : at < length old = slice_get_within old at v (sym e) in
     let a = length-row rules stmt items (kernels old) n in
@@ -164,8 +178,13 @@ keys_grow rules stmt items n at old new v e h =
     let d = length-map new (λ (w : Vec Item Global). w.items) in
     omega (arith, lt, a, b, c, d)
 
-pub found_over : (rules : List Rule) (stmt classes at : ℕ) (old : List (List Item)) (k items : List Item) → old ≡ found rules stmt classes at → slice_get old at ≡ Some k → items ≡ item_set rules stmt classes (chains rules) k → 4096 < length (row_entered rules stmt items old (40 + classes)) → IsOver rules stmt classes
-found_over rules stmt classes at old k items e f g h = record { at = at + 1; over = subst (λ (x : List (List Item)). 4096 < length x) (found_turn rules stmt classes at old (row_entered rules stmt items old (40 + classes)) k items e f g refl) h }
+pub found_over : (rules : List Rule) (stmt classes at : ℕ) (old : List (List Item)) (k items : List Item) → old ≡ found rules stmt classes at → slice_get old at ≡ Some k → items
+    ≡ item_set rules stmt classes (chains rules) k → 4096 < length (row_entered rules stmt items old (40 + classes)) → IsOver rules stmt classes
+found_over rules stmt classes at old k items e f g h = record {
+  at = at
+      + 1;
+  over = subst (λ (x : List (List Item)). 4096 < length x) (found_turn rules stmt classes at old (row_entered rules stmt items old (40 + classes)) k items e f g refl) h;
+}
 
 -- the place of a kernel among the keys
 prefix-kernels : (p : List Item → Bool) (ks : List (Vec Item Global)) → prefix_len p (kernels ks) ≡ prefix_len (λ (v : Vec Item Global). p v.items) ks

@@ -8,7 +8,9 @@ use Rattle.lr_tables.specs.Symbols.{number, symbol_number}
 
 -- the tokens in table order
 all_tokens : List Tok
-all_tokens = tok.Zero ∷ tok.One ∷ tok.Two ∷ tok.Four ∷ tok.Eight ∷ tok.Const ∷ tok.Gaddr ∷ tok.Loc ∷ tok.Arg ∷ tok.IndirB ∷ tok.IndirW ∷ tok.IndirL ∷ tok.Plus ∷ tok.Minus ∷ tok.Mul ∷ tok.Div ∷ tok.Mod ∷ tok.And ∷ tok.Or ∷ tok.Xor ∷ tok.Lsh ∷ tok.Rsh ∷ tok.Neg ∷ tok.Com ∷ tok.Sxb ∷ tok.Zxb ∷ tok.Sxw ∷ tok.Zxw ∷ tok.Ncb ∷ tok.Ncw ∷ tok.AssignB ∷ tok.AssignW ∷ tok.AssignL ∷ tok.Cbr ∷ tok.Push ∷ tok.Ret ∷ tok.Call ∷ tok.Save ∷ tok.Jump ∷ tok.End ∷ []
+all_tokens = tok.Zero ∷ tok.One ∷ tok.Two ∷ tok.Four ∷ tok.Eight ∷ tok.Const ∷ tok.Gaddr ∷ tok.Loc ∷ tok.Arg ∷ tok.IndirB ∷ tok.IndirW ∷ tok.IndirL ∷ tok.Plus ∷ tok.Minus ∷ tok.Mul ∷
+    tok.Div ∷ tok.Mod ∷ tok.And ∷ tok.Or ∷ tok.Xor ∷ tok.Lsh ∷ tok.Rsh ∷ tok.Neg ∷ tok.Com ∷ tok.Sxb ∷ tok.Zxb ∷ tok.Sxw ∷ tok.Zxw ∷ tok.Ncb ∷ tok.Ncw ∷ tok.AssignB ∷ tok.AssignW ∷
+    tok.AssignL ∷ tok.Cbr ∷ tok.Push ∷ tok.Ret ∷ tok.Call ∷ tok.Save ∷ tok.Jump ∷ tok.End ∷ []
 
 token_at : (t : Tok) → slice_get all_tokens (number t) ≡ Some t
 unfolding all_tokens

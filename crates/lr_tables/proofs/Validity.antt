@@ -57,7 +57,8 @@ stmt_within : (n : ℕ) (cs : List Class) → list_any is_stmt cs ≡ true → s
 stmt_within n [] e = cc
 stmt_within n (c ∷ cs) e = by (bytes_eq c.name (codes "stmt")) (λ h. stmt_within (n + 1) cs h) e
   where
-    by : (b : Bool) → (list_any is_stmt cs ≡ true → stmt_from (n + 1) cs < n + 1 + length cs) → ((b && is_nothing (Some c.kind)) || list_any is_stmt cs) ≡ true → cond b n (stmt_from (n + 1) cs) < n + length (c ∷ cs)
+    by : (b : Bool) → (list_any is_stmt cs ≡ true → stmt_from (n + 1) cs < n + 1 + length cs) → ((b && is_nothing (Some c.kind)) || list_any is_stmt cs) ≡ true
+        → cond b n (stmt_from (n + 1) cs) < n + length (c ∷ cs)
     by true ih h = omega arith
     by false ih h = let lt = ih h in omega (arith, lt)
 

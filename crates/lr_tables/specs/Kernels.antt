@@ -10,4 +10,5 @@ use Rattle.lr_tables.specs.Sets.{chains, item_set, moved}
 -- the items of the stack with a dot behind its top, or the start
 abbrev pub kernel_at : List Rule → ℕ → ℕ → List Sym → List Item
 kernel_at rules stmt classes [] = start ∷ []
-kernel_at rules stmt classes (X ∷ a) = moved rules stmt (symbol_number X) (item_set rules stmt classes (chains rules) (kernel_at rules stmt classes a))
+kernel_at rules stmt classes (X ∷ a) = moved rules stmt (symbol_number X)
+    (item_set rules stmt classes (chains rules) (kernel_at rules stmt classes a))

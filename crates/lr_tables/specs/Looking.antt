@@ -1,5 +1,6 @@
 -- FOLLOW as the code computes it: for each token the classes, as marks.
-use Rattle.std.specs.Prelude.{ℕ, ◌-◌, List, [], ◌∷◌, Option, Some, None, Bool, true, false, ◌==◌, length, slice_get, slice_index_or, slice_set, replicate, if◌then◌else◌}
+use Rattle.std.specs.Prelude.{ℕ, ◌-◌, List, [], ◌∷◌, Option, Some, None, Bool, true, false, ◌==◌, length, slice_get}
+use Rattle.std.specs.Prelude.{slice_index_or, slice_set, replicate, if◌then◌else◌}
 use Rattle.std.specs.List.{filter_map}
 use Rattle.md_reader.specs.declared.types.Rule.{Rule}
 use Rattle.md_reader.specs.declared.types.Sym.{Sym}
@@ -67,4 +68,5 @@ ended stmt t m = if t == 39 then slice_set m stmt true else m
 
 -- the classes behind which the token may come
 unfoldable pub follows : List Rule → ℕ → ℕ → ℕ → List Bool
-follows rules stmt classes t = rounds classes (end_edges rules) (all_within t (begins rules classes t) rules (ended stmt t (replicate classes false)))
+follows rules stmt classes t = rounds classes (end_edges rules) (all_within t (begins rules classes t) rules
+    (ended stmt t (replicate classes false)))

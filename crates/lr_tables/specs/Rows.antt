@@ -1,5 +1,6 @@
 -- The rows of the tables as the code computes them.
-use Rattle.std.specs.Prelude.{◌≡◌, ℕ, ◌+◌, ◌≤◌, List, [], ◌∷◌, Option, Some, None, Bool, false, ◌==◌, ◌&&◌, length, map, position, slice_get, slice_index_or, if◌then◌else◌}
+use Rattle.std.specs.Prelude.{◌≡◌, ℕ, ◌+◌, ◌≤◌, List, [], ◌∷◌, Option, Some, None, Bool, false, ◌==◌, ◌&&◌, length, map}
+use Rattle.std.specs.Prelude.{position, slice_get, slice_index_or, if◌then◌else◌}
 use Rattle.std.specs.List.{filter_map, range_with_len}
 use Rattle.std.specs.Option.{option_map, option_and_then}
 use Rattle.md_reader.specs.declared.types.Rule.{Rule}
@@ -37,7 +38,8 @@ cell token None others = others
 cell token (Some q) others = if token == 39 then choice.Accept ∷ [] else choice.Shift q ∷ []
 
 unfoldable pub actions_of : List Rule → List (List Bool) → List Item → List (Option ℕ) → ℕ → List (List Choice)
-actions_of rules follow kernel targets n = map (λ (t : ℕ). cell t (slice_index_or targets t None) (reductions rules (slice_index_or follow t []) kernel)) (range_with_len 0 n)
+actions_of rules follow kernel targets n = map (λ (t : ℕ). cell t (slice_index_or targets t None)
+    (reductions rules (slice_index_or follow t []) kernel)) (range_with_len 0 n)
 
 -- for each of the first so many tokens the classes behind which it may come
 unfoldable pub all_follows : List Rule → ℕ → ℕ → ℕ → List (List Bool)

@@ -1,5 +1,6 @@
 -- The item sets as the code computes them, from their kernels.
-use Rattle.std.specs.Prelude.{ℕ, ◌+◌, List, [], ◌∷◌, ◌++◌, Option, Some, None, Bool, true, false, ◌==◌, slice_get, slice_index_or, slice_set, replicate, map, filter, if◌then◌else◌}
+use Rattle.std.specs.Prelude.{ℕ, ◌+◌, List, [], ◌∷◌, ◌++◌, Option, Some, None, Bool, true, false, ◌==◌, slice_get}
+use Rattle.std.specs.Prelude.{slice_index_or, slice_set, replicate, map, filter, if◌then◌else◌}
 use Rattle.std.specs.List.{filter_map}
 use Rattle.std.specs.Option.{option_map_or}
 use Rattle.md_reader.specs.declared.types.Rule.{Rule}

@@ -1,5 +1,6 @@
 -- What the lines say is read.
-use Rattle.std.proofs.Common.{eq-eqb, nat_lt, ◌≡◌, ℕ, zero, suc, ◌+◌, ◌≤◌, ◌<◌, Bool, true, false, cond, eqb, List, [], ◌∷◌, ◌++◌, length, Option, Some, None, Result, Ok, Err, nat_le, refl, sym, ap, ◌∙◌, arith, append_assoc, length-append}
+use Rattle.std.proofs.Common.{eq-eqb, nat_lt, ◌≡◌, ℕ, zero, suc, ◌+◌, ◌≤◌, ◌<◌, Bool, true, false, cond, eqb, List, [], ◌∷◌, ◌++◌, length, Option, Some, None, Result, Ok, Err}
+use Rattle.std.proofs.Common.{nat_le, refl, sym, ap, ◌∙◌, arith, append_assoc, length-append}
 use Rattle.std.specs.Prelude.{codes, map, slice_get}
 use Rattle.std.specs.Result.{IfOk, IfErr}
 use Rattle.std.specs.List.{flat_map, AllByRecursion}
@@ -35,12 +36,14 @@ use Rattle.md_reader.specs.declared.reading.Stage.TheVariants as stage
 use Rattle.md_reader.specs.declared.symbols.TheConstants.{TOKENS}
 use Rattle.md_reader.specs.Patterns.{kids_of, sort_of_kind, sort_of_symbol, sort_fits, sorted_test, walk, count}
 use Rattle.md_reader.specs.Symbols.{token_among, token_of, class_from, class_of, symbol_of, symbols_of}
-use Rattle.md_reader.specs.Forms.{is_skipped, is_lower, is_name, kind_form, class_form, spill_form, saved_number, rule_form, give_form, plain_give, has_register, gives_register, is_passed, register_behind}
+use Rattle.md_reader.specs.Forms.{is_skipped, is_lower, is_name, kind_form, class_form, spill_form, saved_number, rule_form, give_form, plain_give, has_register, gives_register}
+use Rattle.md_reader.specs.Forms.{is_passed, register_behind}
 use Rattle.md_reader.specs.State.{State, Content}
 use Rattle.md_reader.specs.Steps.{line_at, has_stmt, stage_behind, spill_line, rule_step, ended_rule, give_line, step_at, step}
 use Rattle.md_reader.specs.Reads.{start, content_of, taken, read_from, read, Answers}
 use Rattle.md_reader.specs.Valid.{Away, Apart, IsNamed, AreClasses, IsSpill, AreSides, MayRestrict, MayWrite, MayGive, IsRule, IsValid}
-use Rattle.md_reader.specs.Desc.{Form, Version, Target, Pool, Declares, Saves, Head, Restricts, Writes, Gives, size_word, kind_words, saved_words, IsSaved, GiveWord, IsGive, Says, name_at, symbol_word, saving, ruling, telling, numbered, Tell, Desc, Refused}
+use Rattle.md_reader.specs.Desc.{Form, Version, Target, Pool, Declares, Saves, Head, Restricts, Writes, Gives, size_word, kind_words, saved_words, IsSaved, GiveWord, IsGive, Says}
+use Rattle.md_reader.specs.Desc.{name_at, symbol_word, saving, ruling, telling, numbered, Tell, Desc, Refused}
 use Rattle.md_reader.proofs.PatternLaws.{tree_exactly, sorted_back}
 use Rattle.md_reader.proofs.Inversion.{refused, ok_same, unlike, same_refl, not_same}
 
@@ -56,7 +59,8 @@ runs_nil s d g some e = λ n ls c. go n ls c
     go n [] c = let k = le-leb 1 (length s.rules) some in rw (g, k, ← e) refl
     go n (l ∷ ls) c = at (is_skipped (words l)) c (go (n + 1) ls)
       where
-        at : (b : Bool) → Tell (cond b (numbered (n + 1) ls) ((n, words l) ∷ numbered (n + 1) ls)) [] → (Tell (numbered (n + 1) ls) [] → read_from (n + 1) s ls ≡ Ok d) → taken n (cond b (Ok s) (step_at s.stage s n (words l) (register_behind ls))) (λ (t : State). read_from (n + 1) t ls) ≡ Ok d
+        at : (b : Bool) → Tell (cond b (numbered (n + 1) ls) ((n, words l) ∷ numbered (n + 1) ls)) [] → (Tell (numbered (n + 1) ls) [] → read_from (n + 1) s ls ≡ Ok d)
+            → taken n (cond b (Ok s) (step_at s.stage s n (words l) (register_behind ls))) (λ (t : State). read_from (n + 1) t ls) ≡ Ok d
         at true c k = k c
         at false c k = absurd c
 
@@ -72,7 +76,8 @@ runs_cons s t f fs d e h = λ n ls c. go n ls c
     go n [] c = absurd c
     go n (l ∷ ls) c = at (is_skipped (words l)) c (go (n + 1) ls)
       where
-        at : (b : Bool) → Tell (cond b (numbered (n + 1) ls) ((n, words l) ∷ numbered (n + 1) ls)) (f ∷ fs) → (Tell (numbered (n + 1) ls) (f ∷ fs) → read_from (n + 1) s ls ≡ Ok d) → taken n (cond b (Ok s) (step_at s.stage s n (words l) (register_behind ls))) (λ (t : State). read_from (n + 1) t ls) ≡ Ok d
+        at : (b : Bool) → Tell (cond b (numbered (n + 1) ls) ((n, words l) ∷ numbered (n + 1) ls)) (f ∷ fs) → (Tell (numbered (n + 1) ls) (f ∷ fs) → read_from (n + 1) s ls ≡ Ok d)
+            → taken n (cond b (Ok s) (step_at s.stage s n (words l) (register_behind ls))) (λ (t : State). read_from (n + 1) t ls) ≡ Ok d
         at true c k = k c
         at false c k = rw (e n (words l) ls c.1 c.0) (h (n + 1) ls c.1)
 
@@ -153,13 +158,15 @@ line_again n l e = ap (λ (x : ℕ). line_at x l.pieces) (sym e)
 eqb_same : (a b : ℕ) → a ≡ b → eqb a b ≡ true
 eqb_same a b e = eq-eqb a b e
 
-instruction_again : (g : Stage) (m : ℕ) (cs : List Class) (pre : List Line) (l : Line) (n : ℕ) (ws : List (List ℕ)) → has_stmt cs ≡ true → IsSpill l → (i : IsSaved (length pre) n ws l) → spill_line (saves g m cs pre) n (spill_form ws) ≡ Ok (saves (stage_behind pre) m cs (pre ++ l ∷ []))
+instruction_again : (g : Stage) (m : ℕ) (cs : List Class) (pre : List Line) (l : Line) (n : ℕ) (ws : List (List ℕ)) → has_stmt cs ≡ true → IsSpill l → (i : IsSaved (length pre) n ws l)
+    → spill_line (saves g m cs pre) n (spill_form ws) ≡ Ok (saves (stage_behind pre) m cs (pre ++ l ∷ []))
 instruction_again g m cs pre l n ws st fit i =
     let k = i.instruction in
     let p = eqb_same (saved_number i.saved) (length pre) i.place in
     rw (k.stands, spill_again i.saved k.words, p, st, k.joined, k.pieces, fit, line_again n l k.number) refl
 
-saved_again : (m : ℕ) (cs : List Class) (pre : List Line) (l : Line) (fs : List Form) → has_stmt cs ≡ true → IsSpill l → 1 ≤ length pre → Steps (saves stage.Spills m cs pre) (Saves (length pre) l) fs (saves (stage_behind pre) m cs (pre ++ l ∷ []))
+saved_again : (m : ℕ) (cs : List Class) (pre : List Line) (l : Line) (fs : List Form) → has_stmt cs ≡ true → IsSpill l → 1 ≤ length pre
+    → Steps (saves stage.Spills m cs pre) (Saves (length pre) l) fs (saves (stage_behind pre) m cs (pre ++ l ∷ []))
 saved_again m cs pre l fs st fit some n ws ls r e = instruction_again stage.Spills m cs pre l n ws st fit e
 
 first_again : (m : ℕ) (cs : List Class) (l : Line) (fs : List Form) → has_stmt cs ≡ true → IsSpill l → Steps (declaring m cs) (Saves 0 l) fs (saves stage.Spills m cs (l ∷ []))
@@ -167,7 +174,8 @@ first_again m cs l fs st fit n ws ls r e =
     let k = e.instruction in
     rw (k.stands, no_class e.saved k.words) (instruction_again stage.Classes m cs [] l n (saved_words e.saved ++ k.words) st fit (rw k.stands at e))
 
-saves_run : (m : ℕ) (cs : List Class) (pre post : List Line) (fs : List Form) (d : Content) → has_stmt cs ≡ true → AllByRecursion IsSpill post → 1 ≤ length pre → 1 ≤ length post → length pre + length post ≡ 8 → Runs (saves stage.Rules m cs (pre ++ post)) fs d → Runs (saves stage.Spills m cs pre) (saving (length pre) post ++ fs) d
+saves_run : (m : ℕ) (cs : List Class) (pre post : List Line) (fs : List Form) (d : Content) → has_stmt cs ≡ true → AllByRecursion IsSpill post → 1 ≤ length pre → 1 ≤ length post
+    → length pre + length post ≡ 8 → Runs (saves stage.Rules m cs (pre ++ post)) fs d → Runs (saves stage.Spills m cs pre) (saving (length pre) post ++ fs) d
 saves_run m cs pre [] fs d st h some more eight runs = absurd (omega (arith, more))
 saves_run m cs pre (l ∷ []) fs d st h some more eight runs =
     let k : length pre ≡ 7 = omega (arith, eight) in
@@ -179,13 +187,16 @@ saves_run m cs pre (l ∷ p ∷ post) fs d st h some more eight runs =
     let len = length-append pre (l ∷ []) in
     let z : length (pre ++ l ∷ []) ≡ length pre + 1 = omega (arith, len) in
     let a = append_assoc pre (l ∷ []) (p ∷ post) in
-    let rest : Runs (saves stage.Spills m cs (pre ++ l ∷ [])) (saving (length (pre ++ l ∷ [])) (p ∷ post) ++ fs) d = saves_run m cs (pre ++ l ∷ []) (p ∷ post) fs d st h.1 (omega (arith, len)) (omega arith) (omega (arith, eight, len)) (rw a runs) in
+    let rest : Runs (saves stage.Spills m cs (pre ++ l ∷ [])) (saving (length (pre ++ l ∷ [])) (p ∷ post) ++ fs) d =
+    saves_run m cs (pre ++ l ∷ []) (p ∷ post) fs d st h.1 (omega (arith, len)) (omega arith) (omega (arith, eight, len)) (rw a runs) in
     runs_cons (saves stage.Spills m cs pre) (saves (stage_behind pre) m cs (pre ++ l ∷ [])) (Saves (length pre) l) _ d (saved_again m cs pre l _ st h.0 some) (rw q (rw z at rest))
 
-spills_run : (m : ℕ) (cs : List Class) (spills : List Line) (fs : List Form) (d : Content) → has_stmt cs ≡ true → AllByRecursion IsSpill spills → length spills ≡ 8 → Runs (saves stage.Rules m cs spills) fs d → Runs (declaring m cs) (saving 0 spills ++ fs) d
+spills_run : (m : ℕ) (cs : List Class) (spills : List Line) (fs : List Form) (d : Content) → has_stmt cs ≡ true → AllByRecursion IsSpill spills → length spills ≡ 8
+    → Runs (saves stage.Rules m cs spills) fs d → Runs (declaring m cs) (saving 0 spills ++ fs) d
 spills_run m cs [] fs d st h eight runs = absurd (omega (arith, eight))
 spills_run m cs (l ∷ ls) fs d st h eight runs =
-    runs_cons (declaring m cs) (saves stage.Spills m cs (l ∷ [])) (Saves 0 l) _ d (first_again m cs l _ st h.0) (saves_run m cs (l ∷ []) ls fs d st h.1 (omega arith) (omega (arith, eight)) (omega (arith, eight)) runs)
+    runs_cons (declaring m cs) (saves stage.Spills m cs (l ∷ [])) (Saves 0 l) _ d (first_again m cs l _ st h.0)
+    (saves_run m cs (l ∷ []) ls fs d st h.1 (omega arith) (omega (arith, eight)) (omega (arith, eight)) runs)
 
 -- the words of a rule's head
 starts_capital : List ℕ → Bool
@@ -335,7 +346,8 @@ symbols_again cs xs [] h e = refl
 symbols_again cs [] (s ∷ w) h e = absurd (unlike e)
 symbols_again cs (x ∷ xs) (s ∷ w) h e = at (sort_fits (sort_of_symbol cs s) x) refl e (symbols_again cs (kids_of s ++ xs) w h)
   where
-    at : (b : Bool) → sort_fits (sort_of_symbol cs s) x ≡ b → cond b (walk (sorted_test cs) (kids_of s ++ xs) w) false ≡ true → (walk (sorted_test cs) (kids_of s ++ xs) w ≡ true → symbols_of cs (map (symbol_word cs) w) ≡ Some w) → symbols_of cs (map (symbol_word cs) (s ∷ w)) ≡ Some (s ∷ w)
+    at : (b : Bool) → sort_fits (sort_of_symbol cs s) x ≡ b → cond b (walk (sorted_test cs) (kids_of s ++ xs) w) false ≡ true
+        → (walk (sorted_test cs) (kids_of s ++ xs) w ≡ true → symbols_of cs (map (symbol_word cs) w) ≡ Some w) → symbols_of cs (map (symbol_word cs) (s ∷ w)) ≡ Some (s ∷ w)
     at true f e k = let y = has_sort (sort_of_symbol cs s) x f in rw (symbol_again cs s y.0 h y.1, k e) refl
     at false f e k = absurd (unlike e)
 
@@ -360,29 +372,58 @@ passed_skip (a ∷ ws) x y e = rw e refl
 given_here : (n : ℕ) (ws : List (List ℕ)) (g : Give) (x : Bool) → IsGive n ws g → cond (is_passed ws) x (gives_register (give_form ws)) ≡ has_register (Some g)
 given_here n ws g x k = rw k.stands (has_register_word n k.word g k.says)
 
-flagged : (n : ℕ) (ls : List (List ℕ)) (rs : List Restriction) (ws : List Line) (g : Give) (fs : List Form) → Tell (numbered n ls) (map Restricts rs ++ (map Writes ws ++ Gives g ∷ fs)) → register_behind ls ≡ has_register (Some g)
+flagged : (n : ℕ) (ls : List (List ℕ)) (rs : List Restriction) (ws : List Line) (g : Give) (fs : List Form) → Tell (numbered n ls) (map Restricts rs ++ (map Writes ws ++ Gives g ∷ fs))
+    → register_behind ls ≡ has_register (Some g)
 flagged n [] [] [] g fs c = absurd c
 flagged n [] [] (w ∷ ws) g fs c = absurd c
 flagged n [] (r ∷ rs) ws g fs c = absurd c
 flagged n (l ∷ ls) rs ws g fs c = at (is_skipped (words l)) refl c (λ rs ws k. flagged (n + 1) ls rs ws g fs k)
   where
-    here : (rs : List Restriction) (ws : List Line) → Tell ((n, words l) ∷ numbered (n + 1) ls) (map Restricts rs ++ (map Writes ws ++ Gives g ∷ fs)) → ((rs : List Restriction) (ws : List Line) → Tell (numbered (n + 1) ls) (map Restricts rs ++ (map Writes ws ++ Gives g ∷ fs)) → register_behind ls ≡ has_register (Some g)) → register_behind (l ∷ ls) ≡ has_register (Some g)
+    here : (rs : List Restriction) (ws : List Line) → Tell ((n, words l) ∷ numbered (n + 1) ls) (map Restricts rs ++ (map Writes ws ++ Gives g ∷ fs))
+        → ((rs : List Restriction) (ws : List Line) → Tell (numbered (n + 1) ls) (map Restricts rs ++ (map Writes ws ++ Gives g ∷ fs)) → register_behind ls ≡ has_register (Some g))
+        → register_behind (l ∷ ls) ≡ has_register (Some g)
     here [] [] c k = given_here n (words l) g (register_behind ls) c.0
     here [] (w ∷ ws) c k = passed_do (words l) c.0.words _ _ c.0.stands ∙ k [] ws c.1
     here (r ∷ rs) ws c k = passed_if (words l) c.0.words _ _ c.0.stands ∙ k rs ws c.1
 
-    at : (b : Bool) → is_skipped (words l) ≡ b → Tell (cond b (numbered (n + 1) ls) ((n, words l) ∷ numbered (n + 1) ls)) (map Restricts rs ++ (map Writes ws ++ Gives g ∷ fs)) → ((rs : List Restriction) (ws : List Line) → Tell (numbered (n + 1) ls) (map Restricts rs ++ (map Writes ws ++ Gives g ∷ fs)) → register_behind ls ≡ has_register (Some g)) → register_behind (l ∷ ls) ≡ has_register (Some g)
+    at : (b : Bool) → is_skipped (words l) ≡ b → Tell (cond b (numbered (n + 1) ls) ((n, words l) ∷ numbered (n + 1) ls)) (map Restricts rs ++ (map Writes ws ++ Gives g ∷ fs))
+        → ((rs : List Restriction) (ws : List Line) → Tell (numbered (n + 1) ls) (map Restricts rs ++ (map Writes ws ++ Gives g ∷ fs)) → register_behind ls ≡ has_register (Some g))
+        → register_behind (l ∷ ls) ≡ has_register (Some g)
     at true f c k = passed_skip (words l) _ _ f ∙ k rs ws c
     at false f c k = here rs ws c k
 
 -- the states in a rule, and behind it
 abbrev inside : State → Rule → List Restriction → List Line → State
-inside s r rs ws = record { stage = stage.Template; pool = s.pool; classes = s.classes; spills = s.spills; rules = s.rules; left = r.left; right = r.right; restrictions = rs; lines = ws; register = has_register (Some r.give) }
+inside s r rs ws = record {
+  stage = stage.Template;
+  pool = s.pool;
+  classes = s.classes;
+  spills = s.spills;
+  rules = s.rules;
+  left = r.left;
+  right = r.right;
+  restrictions = rs;
+  lines = ws;
+  register = has_register (Some r.give);
+}
 
 abbrev behind : State → Rule → State
-behind s r = record { stage = stage.Rules; pool = s.pool; classes = s.classes; spills = s.spills; rules = s.rules ++ r ∷ []; left = r.left; right = []; restrictions = []; lines = []; register = has_register (Some r.give) }
+behind s r = record {
+  stage = stage.Rules;
+  pool = s.pool;
+  classes = s.classes;
+  spills = s.spills;
+  rules = s.rules
+      ++ r ∷ [];
+  left = r.left;
+  right = [];
+  restrictions = [];
+  lines = [];
+  register = has_register (Some r.give);
+}
 
-head_taken : (s : State) (r : Rule) (z : Bool) → AreClasses s.classes → AreSides s.classes r.left r.right → length s.rules ≤ 999 → z ≡ has_register (Some r.give) → rule_step s z (name_at s.classes r.left) (map (symbol_word s.classes) r.right) ≡ Ok (inside s r [] [])
+head_taken : (s : State) (r : Rule) (z : Bool) → AreClasses s.classes → AreSides s.classes r.left r.right → length s.rules ≤ 999 → z ≡ has_register (Some r.give)
+    → rule_step s z (name_at s.classes r.left) (map (symbol_word s.classes) r.right) ≡ Ok (inside s r [] [])
 head_taken s r z h k few e =
     let a = lt-leb 1000 (length s.rules) (omega (arith, few)) in
     let b : nat_le (length (map (symbol_word s.classes) r.right)) 16 ≡ true = le-leb _ 16 (rw (length-map r.right (symbol_word s.classes)) k.short) in
@@ -392,42 +433,51 @@ head_taken s r z h k few e =
     let y = symbols_again s.classes (k.sort ∷ []) r.right h w in
     rw (e, a, b, f, y, c, k.declared, k.not_bare, w) refl
 
-head_form : (class : List ℕ) (ss : List (List ℕ)) (cs : List Class) (right : List Sym) → ss ≡ map (symbol_word cs) right → count 1 right ≡ true → rule_form (codes "rule" ∷ class ∷ codes ":" ∷ ss) ≡ Some (class, ss)
+head_form : (class : List ℕ) (ss : List (List ℕ)) (cs : List Class) (right : List Sym) → ss ≡ map (symbol_word cs) right → count 1 right ≡ true
+    → rule_form (codes "rule" ∷ class ∷ codes ":" ∷ ss) ≡ Some (class, ss)
 head_form class ss cs [] e c = absurd (unlike c)
 head_form class ss cs (x ∷ xs) e c = rw e refl
 
-head_again : (s : State) (r : Rule) (fs : List Form) → s.stage ≡ stage.Rules → AreClasses s.classes → AreSides s.classes r.left r.right → length s.rules ≤ 999 → Steps s (Head (name_at s.classes r.left) (map (symbol_word s.classes) r.right)) (map Restricts r.restrictions ++ (map Writes r.lines ++ Gives r.give ∷ fs)) (inside s r [] [])
+head_again : (s : State) (r : Rule) (fs : List Form) → s.stage ≡ stage.Rules → AreClasses s.classes → AreSides s.classes r.left r.right → length s.rules ≤ 999
+    → Steps s (Head (name_at s.classes r.left) (map (symbol_word s.classes) r.right)) (map Restricts r.restrictions ++ (map Writes r.lines ++ Gives r.give ∷ fs)) (inside s r [] [])
 head_again s r fs g h k few n ws ls c e =
     let q = flagged (n + 1) ls r.restrictions r.lines r.give fs c in
     let t = (tree_exactly r.right (count 1 r.right) refl).1 k.tree in
     rw (g, e, head_form (name_at s.classes r.left) (map (symbol_word s.classes) r.right) s.classes r.right refl t) (head_taken s r (register_behind ls) h k few q)
 
-if_again : (s : State) (r : Rule) (pre : List Restriction) (p : Restriction) (fs : List Form) → MayRestrict s.classes r.right p → length pre ≤ 3 → Steps (inside s r pre []) (Restricts p) fs (inside s r (pre ++ p ∷ []) [])
+if_again : (s : State) (r : Rule) (pre : List Restriction) (p : Restriction) (fs : List Form) → MayRestrict s.classes r.right p → length pre ≤ 3
+    → Steps (inside s r pre []) (Restricts p) fs (inside s r (pre ++ p ∷ []) [])
 if_again s r pre p fs h few n ws ls c e =
     let b = lt-leb 4 (length pre) (omega (arith, few)) in
     rw (e.stands, e.says, b, h) refl
 
-ifs_run : (s : State) (r : Rule) (pre post : List Restriction) (fs : List Form) (d : Content) → AllByRecursion (MayRestrict s.classes r.right) post → length pre + length post ≤ 4 → Runs (inside s r (pre ++ post) []) fs d → Runs (inside s r pre []) (map Restricts post ++ fs) d
+ifs_run : (s : State) (r : Rule) (pre post : List Restriction) (fs : List Form) (d : Content) → AllByRecursion (MayRestrict s.classes r.right) post → length pre + length post ≤ 4
+    → Runs (inside s r (pre ++ post) []) fs d → Runs (inside s r pre []) (map Restricts post ++ fs) d
 ifs_run s r pre [] fs d h few runs = rw (append-nil pre) at runs
 ifs_run s r pre (p ∷ post) fs d h few runs =
     let a = append_assoc pre (p ∷ []) post in
     let len = length-append pre (p ∷ []) in
-    runs_cons (inside s r pre []) (inside s r (pre ++ p ∷ []) []) (Restricts p) _ d (if_again s r pre p _ h.0 (omega (arith, few))) (ifs_run s r (pre ++ p ∷ []) post fs d h.1 (omega (arith, few, len)) (rw a runs))
+    runs_cons (inside s r pre []) (inside s r (pre ++ p ∷ []) []) (Restricts p) _ d (if_again s r pre p _ h.0 (omega (arith, few)))
+    (ifs_run s r (pre ++ p ∷ []) post fs d h.1 (omega (arith, few, len)) (rw a runs))
 
-do_again : (s : State) (r : Rule) (rs : List Restriction) (pre : List Line) (l : Line) (fs : List Form) → MayWrite (has_register (Some r.give)) r.right l → length pre ≤ 7 → Steps (inside s r rs pre) (Writes l) fs (inside s r rs (pre ++ l ∷ []))
+do_again : (s : State) (r : Rule) (rs : List Restriction) (pre : List Line) (l : Line) (fs : List Form) → MayWrite (has_register (Some r.give)) r.right l → length pre ≤ 7
+    → Steps (inside s r rs pre) (Writes l) fs (inside s r rs (pre ++ l ∷ []))
 do_again s r rs pre l fs h few n ws ls c e =
     let b = lt-leb 8 (length pre) (omega (arith, few)) in
     rw (e.stands, e.joined, b, e.pieces, h, line_again n l e.number) refl
 
-dos_run : (s : State) (r : Rule) (rs : List Restriction) (pre post : List Line) (fs : List Form) (d : Content) → AllByRecursion (MayWrite (has_register (Some r.give)) r.right) post → length pre + length post ≤ 8 → Runs (inside s r rs (pre ++ post)) fs d → Runs (inside s r rs pre) (map Writes post ++ fs) d
+dos_run : (s : State) (r : Rule) (rs : List Restriction) (pre post : List Line) (fs : List Form) (d : Content) → AllByRecursion (MayWrite (has_register (Some r.give)) r.right) post
+    → length pre + length post ≤ 8 → Runs (inside s r rs (pre ++ post)) fs d → Runs (inside s r rs pre) (map Writes post ++ fs) d
 dos_run s r rs pre [] fs d h few runs = rw (append-nil pre) at runs
 dos_run s r rs pre (l ∷ post) fs d h few runs =
     let a = append_assoc pre (l ∷ []) post in
     let len = length-append pre (l ∷ []) in
-    runs_cons (inside s r rs pre) (inside s r rs (pre ++ l ∷ [])) (Writes l) _ d (do_again s r rs pre l _ h.0 (omega (arith, few))) (dos_run s r rs (pre ++ l ∷ []) post fs d h.1 (omega (arith, few, len)) (rw a runs))
+    runs_cons (inside s r rs pre) (inside s r rs (pre ++ l ∷ [])) (Writes l) _ d (do_again s r rs pre l _ h.0 (omega (arith, few)))
+    (dos_run s r rs (pre ++ l ∷ []) post fs d h.1 (omega (arith, few, len)) (rw a runs))
 
 -- what a rule gives
-give_taken : (s : State) (r : Rule) (n : ℕ) (w : List ℕ) (g : Give) → r.give ≡ g → GiveWord n w g → MayGive s.classes r.left r.right g → give_line (inside s r r.restrictions r.lines) n (Some w) ≡ Ok (ended_rule (inside s r r.restrictions r.lines) g)
+give_taken : (s : State) (r : Rule) (n : ℕ) (w : List ℕ) (g : Give) → r.give ≡ g → GiveWord n w g → MayGive s.classes r.left r.right g
+    → give_line (inside s r r.restrictions r.lines) n (Some w) ≡ Ok (ended_rule (inside s r r.restrictions r.lines) g)
 give_taken s r n w give.Fresh v e m = rw (e, m) refl
 give_taken s r n w give.Reuse v e m = rw (e, m) refl
 give_taken s r n w give.Scratch v e m = rw (e, m) refl
@@ -437,21 +487,26 @@ give_taken s r n w (give.Shape l) v e m = rw (e.0, e.1, m.0, m.1, line_again n l
 give_again : (s : State) (r : Rule) (fs : List Form) → MayGive s.classes r.left r.right r.give → Steps (inside s r r.restrictions r.lines) (Gives r.give) fs (behind s r)
 give_again s r fs m n ws ls c e = rw e.stands (give_taken s r n e.word r.give refl e.says m)
 
-rule_run : (s : State) (r : Rule) (fs : List Form) (d : Content) → s.stage ≡ stage.Rules → AreClasses s.classes → IsRule s.classes r → length s.rules ≤ 999 → Runs (behind s r) fs d → Runs s (ruling s.classes r ++ fs) d
+rule_run : (s : State) (r : Rule) (fs : List Form) (d : Content) → s.stage ≡ stage.Rules → AreClasses s.classes → IsRule s.classes r → length s.rules ≤ 999 → Runs (behind s r) fs d
+    → Runs s (ruling s.classes r ++ fs) d
 rule_run s r fs d g h k few runs =
     let t = k.template in
     let p : Runs (inside s r r.restrictions []) (map Writes r.lines ++ Gives r.give ∷ fs) d = dos_run s r r.restrictions [] r.lines (Gives r.give ∷ fs) d t.written (let z = t.few_lines in omega (arith, z)) (runs_cons (inside s r r.restrictions r.lines) (behind s r) (Gives r.give) fs d (give_again s r fs k.gives) runs) in
     let q : Runs (inside s r [] []) (map Restricts r.restrictions ++ (map Writes r.lines ++ Gives r.give ∷ fs)) d = ifs_run s r [] r.restrictions _ d t.restricted (let z = t.few_restrictions in omega (arith, z)) p in
-    let whole : Runs s (Head (name_at s.classes r.left) (map (symbol_word s.classes) r.right) ∷ (map Restricts r.restrictions ++ (map Writes r.lines ++ Gives r.give ∷ fs))) d = runs_cons s (inside s r [] []) _ _ d (head_again s r fs g h k.sides few) q in
+    let whole : Runs s (Head (name_at s.classes r.left) (map (symbol_word s.classes) r.right) ∷ (map Restricts r.restrictions ++ (map Writes r.lines ++ Gives r.give ∷ fs))) d =
+    runs_cons s (inside s r [] []) _ _ d (head_again s r fs g h k.sides few) q in
     let a = append_assoc (map Restricts r.restrictions) (map Writes r.lines ++ Gives r.give ∷ []) fs in
     let b = append_assoc (map Writes r.lines) (Gives r.give ∷ []) fs in
     rw (a, b) whole
 
-rules_run : (s : State) (post : List Rule) (d : Content) → s.stage ≡ stage.Rules → AreClasses s.classes → AllByRecursion (IsRule s.classes) post → 1 ≤ length s.rules + length post → length s.rules + length post ≤ 1000 → record { pool = s.pool; classes = s.classes; spills = s.spills; rules = s.rules ++ post } ≡ d → Runs s (flat_map (ruling s.classes) post) d
-rules_run s [] d g h k some few e = runs_nil s d g (omega (arith, some)) (ap (λ (x : List Rule). record { pool = s.pool; classes = s.classes; spills = s.spills; rules = x }) (sym (append-nil s.rules)) ∙ e)
+rules_run : (s : State) (post : List Rule) (d : Content) → s.stage ≡ stage.Rules → AreClasses s.classes → AllByRecursion (IsRule s.classes) post → 1 ≤ length s.rules + length post
+    → length s.rules + length post ≤ 1000 → record { pool = s.pool; classes = s.classes; spills = s.spills; rules = s.rules ++ post } ≡ d → Runs s (flat_map (ruling s.classes) post) d
+rules_run s [] d g h k some few e = runs_nil s d g (omega (arith, some))
+    (ap (λ (x : List Rule). record { pool = s.pool; classes = s.classes; spills = s.spills; rules = x }) (sym (append-nil s.rules)) ∙ e)
 rules_run s (r ∷ post) d g h k some few e =
     let len = length-append s.rules (r ∷ []) in
-    rule_run s r _ d g h k.0 (omega (arith, few)) (rules_run (behind s r) post d refl h k.1 (omega (arith, len)) (omega (arith, few, len)) (ap (λ (x : List Rule). record { pool = s.pool; classes = s.classes; spills = s.spills; rules = x }) (append_assoc s.rules (r ∷ []) post) ∙ e))
+    rule_run s r _ d g h k.0 (omega (arith, few)) (rules_run (behind s r) post d refl h k.1 (omega (arith, len)) (omega (arith, few, len))
+    (ap (λ (x : List Rule). record { pool = s.pool; classes = s.classes; spills = s.spills; rules = x }) (append_assoc s.rules (r ∷ []) post) ∙ e))
 
 -- all of it
 abbrev at_target : State
@@ -474,7 +529,8 @@ all_run d v =
     let rules : Runs (saves stage.Rules d.pool d.classes d.spills) (flat_map (ruling d.classes) d.rules) d = rules_run (saves stage.Rules d.pool d.classes d.spills) d.rules d refl v.classes v.rules (let z = v.some in omega (arith, z)) (let z = v.few in omega (arith, z)) refl in
     let spills = spills_run d.pool d.classes d.spills _ d v.stmt v.spills v.eight rules in
     let classes = classes_run d.pool [] d.classes _ d v.classes spills in
-    runs_cons start at_target Version _ d (version_again _) (runs_cons at_target at_pool Target _ d (target_again _) (runs_cons at_pool (declaring d.pool []) (Pool d.pool) _ d (pool_again d.pool _) classes))
+    runs_cons start at_target Version _ d (version_again _) (runs_cons at_target at_pool Target _ d (target_again _)
+    (runs_cons at_pool (declaring d.pool []) (Pool d.pool) _ d (pool_again d.pool _) classes))
 
 apply : (s : State) (fs : List Form) (d : Content) → Runs s fs d → (n : ℕ) (ls : List (List ℕ)) → Tell (numbered n ls) fs → read_from n s ls ≡ Ok d
 unfolding Runs

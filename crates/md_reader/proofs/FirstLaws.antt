@@ -69,18 +69,39 @@ first_from m n k s (l ∷ ls) e = at (line_step s m (words l) (register_behind l
     longer t f (inl w) =
         let z = w.number in
         let g : line_step s m (words l) (register_behind (w.front ++ w.line ∷ w.back)) ≡ Ok t = ap (λ (x : List (List ℕ)). line_step s m (words l) (register_behind x)) (sym w.stands) ∙ f in
-        inl (record { front = l ∷ w.front; line = w.line; back = w.back; stands = ap (λ (x : List (List ℕ)). l ∷ x) w.stands; number = omega (arith, z); state = w.state; right = one_line g w.right; wrong = w.wrong })
+        inl (record {
+          front = l ∷ w.front;
+          line = w.line;
+          back = w.back;
+          stands = ap (λ (x : List (List ℕ)). l ∷ x) w.stands;
+          number = omega (arith, z);
+          state = w.state;
+          right =
+              one_line g w.right;
+          wrong = w.wrong;
+        })
     longer t f (inr w) =
         let z = w.number in
         let g : line_step s m (words l) (register_behind (ls ++ [])) ≡ Ok t = ap (λ (x : List (List ℕ)). line_step s m (words l) (register_behind x)) (append-nil ls) ∙ f in
         inr (record { number = omega (arith, z); state = w.state; right = one_line g w.right; missing = w.missing })
 
-    at : (r : Result State DescKind) → line_step s m (words l) (register_behind ls) ≡ r → taken m r (λ (t : State). read_from (m + 1) t ls) ≡ fault n k → ((t : State) → read_from (m + 1) t ls ≡ fault n k → Wrong (m + 1) t ls n k) → Wrong m s (l ∷ ls) n k
+    at : (r : Result State DescKind) → line_step s m (words l) (register_behind ls) ≡ r → taken m r (λ (t : State). read_from (m + 1) t ls) ≡ fault n k
+        → ((t : State) → read_from (m + 1) t ls ≡ fault n k → Wrong (m + 1) t ls n k) → Wrong m s (l ∷ ls) n k
     at (Ok t) f e go = longer t f (go t e)
     at (Err j) f e go =
         let q = line_of m n j k e in
         let z : n ≡ m + 0 = omega (arith, q) in
-        inl (record { front = []; line = l; back = ls; stands = refl; number = z; state = s; right = no_line; wrong = ap (λ (i : ℕ). line_step s i (words l) (register_behind ls)) (sym q) ∙ f ∙ ap (λ (x : DescKind). Err x) (kind_of m n j k e) })
+        inl (record {
+          front = [];
+          line = l;
+          back = ls;
+          stands = refl;
+          number = z;
+          state = s;
+          right = no_line;
+          wrong = ap (λ (i : ℕ). line_step s i (words l) (register_behind ls)) (sym q)
+              ∙ f ∙ ap (λ (x : DescKind). Err x) (kind_of m n j k e);
+        })
 
 pub is_first : (r : Result Content DescFault) (bytes : List ℕ) → Answers r (read bytes) → IfErr r (IsFirst bytes)
 is_first (Ok d) bytes e = tt

@@ -18,7 +18,8 @@ use Rattle.md_reader.specs.declared.types.Give.{Give}
 use Rattle.md_reader.specs.declared.types.Give.TheVariants as give
 use Rattle.md_reader.specs.declared.forms.Saved.{Saved}
 use Rattle.md_reader.specs.declared.forms.Saved.TheVariants as saved
-use Rattle.md_reader.specs.Forms.{are_both, register_numbered, register_of, with_register, pool_from, pool_form, is_name, size_of, sized_kind, kind_form, class_form, sized_form, spill_words, spill_form, rule_form, restriction_form, if_form, do_form, give_form, plain_give}
+use Rattle.md_reader.specs.Forms.{are_both, register_numbered, register_of, with_register, pool_from, pool_form, is_name, size_of, sized_kind, kind_form, class_form, sized_form}
+use Rattle.md_reader.specs.Forms.{spill_words, spill_form, rule_form, restriction_form, if_form, do_form, give_form, plain_give}
 use Rattle.md_reader.specs.Valid.{IsPool}
 use Rattle.md_reader.specs.Desc.{size_word, kind_words, saved_words, IsRestriction, GiveWord}
 use Rattle.md_reader.proofs.Inversion.{guarded, same_true}
@@ -80,7 +81,8 @@ class_line_is (a ∷ name ∷ ws) x e =
 sized_spelled : (a : List ℕ) (ws : List (List ℕ)) (z : Size) (x : Saved × List (List ℕ)) → sized_form a ws z ≡ Some x → (codes "spill" ∷ a ∷ size_word z ∷ ws) ≡ saved_words x.0 ++ x.1
 sized_spelled a ws z x e =
     pick (same a (codes "value")) (saved.Value z, ws) x _ (λ x. (codes "spill" ∷ a ∷ size_word z ∷ ws) ≡ saved_words x.0 ++ x.1) e (λ f. rw (same_true a (codes "value") f) refl) (λ e.
-    pick (same a (codes "place")) (saved.Place z, ws) x _ (λ x. (codes "spill" ∷ a ∷ size_word z ∷ ws) ≡ saved_words x.0 ++ x.1) e (λ f. rw (same_true a (codes "place") f) refl) (λ e. absurd (none-some x e)))
+    pick (same a (codes "place")) (saved.Place z, ws) x _ (λ x. (codes "spill" ∷ a ∷ size_word z ∷ ws) ≡ saved_words x.0 ++ x.1) e (λ f. rw (same_true a (codes "place") f) refl)
+    (λ e. absurd (none-some x e)))
 
 spill_words_are : (ws : List (List ℕ)) (x : Saved × List (List ℕ)) → spill_words ws ≡ Some x → (codes "spill" ∷ ws) ≡ saved_words x.0 ++ x.1
 spill_words_are [] x e = absurd (none-some x e)

@@ -1,5 +1,6 @@
 -- The walk succeeds exactly where there are such trees.
-use Rattle.std.proofs.Common.{nat_le, ◌≡◌, ◌↔◌, ℕ, zero, suc, ◌+◌, ◌<◌, drop, List, [], ◌∷◌, ◌++◌, length, Bool, true, false, cond, refl, sym, ap, ◌∙◌, Option, Result, Ok, Err, arith, get_or, reverse, eqb, ◌≤◌, length-append, IsTrue}
+use Rattle.std.proofs.Common.{nat_le, ◌≡◌, ◌↔◌, ℕ, zero, suc, ◌+◌, ◌<◌, drop, List, [], ◌∷◌, ◌++◌, length, Bool, true, false, cond, refl, sym, ap, ◌∙◌, Option, Result, Ok, Err}
+use Rattle.std.proofs.Common.{arith, get_or, reverse, eqb, ◌≤◌, length-append, IsTrue}
 use Rattle.std.specs.Result.{IfOk}
 use Rattle.std.proofs.lemmas.List.{reverse-append, length-reverse}
 use Rattle.std.proofs.lemmas.Bool.{ne_eqb, leb-true}
@@ -24,7 +25,8 @@ pub cut : (ok : Sym → Sort → Bool) (fs bs : List Sort) (v : Trees ok (fs ++ 
 cut ok [] bs v = record { front = no_tree; back = v; spelled = refl }
 cut ok (a ∷ fs) bs (node s p below beside) = cut_step ok a fs bs s p below (onto beside []) (cut ok fs bs beside)
   where
-    cut_step : (ok : Sym → Sort → Bool) (a : Sort) (fs bs : List Sort) (s : Sym) → ok s a ≡ true → (below : Trees ok (kids_of s)) (w : List Sym) → Cut ok fs bs w → Cut ok (a ∷ fs) bs (s ∷ onto below w)
+    cut_step : (ok : Sym → Sort → Bool) (a : Sort) (fs bs : List Sort) (s : Sym) → ok s a ≡ true → (below : Trees ok (kids_of s)) (w : List Sym) → Cut ok fs bs w
+        → Cut ok (a ∷ fs) bs (s ∷ onto below w)
     cut_step ok a fs bs s p below w c = record {
       front = node s p below c.front;
       back = c.back;
@@ -76,7 +78,8 @@ sorted_there classes left w b e t = let f = found (sorted_test classes) (left �
 pub sorted_back : (classes : List Class) (left : Sort) (w : List Sym) (b : Bool) → b ≡ walk (sorted_test classes) (left ∷ []) w → IsSorted classes left w → IsTrue b
 sorted_back classes left w b e h = e ∙ whole (sorted_test classes) left h.tree w h.spelled
 
-pub sorted_exactly : {E : Type 0} (classes : List Class) (left : Sort) (w : List Sym) (r : Result Bool E) → IfOk r (λ b. b ≡ walk (sorted_test classes) (left ∷ []) w) → IfOk r (λ b. IsTrue b ↔ IsSorted classes left w)
+pub sorted_exactly : {E : Type 0} (classes : List Class) (left : Sort) (w : List Sym) (r : Result Bool E) → IfOk r (λ b. b ≡ walk (sorted_test classes) (left ∷ []) w)
+    → IfOk r (λ b. IsTrue b ↔ IsSorted classes left w)
 sorted_exactly classes left w (Ok b) e = (sorted_there classes left w b e, sorted_back classes left w b e)
 sorted_exactly classes left w (Err x) e = e
 
@@ -105,17 +108,20 @@ at_item (suc i) (s ∷ w) d lt = at_item i w d (omega arith)
 wanted_last : (items rest : List Sort) (x : Sort) → items ≡ rest ++ x ∷ [] → reverse items ≡ x ∷ reverse rest
 wanted_last items rest x e = ap (λ (t : List Sort). reverse t) e ∙ reverse-append rest (x ∷ [])
 
-stepped : (ok : Sym → Sort → Bool) (items rest : List Sort) (x : Sort) (i : ℕ) (w : List Sym) (d : Sym) → items ≡ rest ++ x ∷ [] → i < length w → walk ok (reverse items) (drop i w) ≡ cond (ok (get_or w i d) x) (walk ok (kids_of (get_or w i d) ++ reverse rest) (drop (i + 1) w)) false
+stepped : (ok : Sym → Sort → Bool) (items rest : List Sort) (x : Sort) (i : ℕ) (w : List Sym) (d : Sym) → items ≡ rest ++ x ∷ [] → i < length w → walk ok (reverse items) (drop i w)
+    ≡ cond (ok (get_or w i d) x) (walk ok (kids_of (get_or w i d) ++ reverse rest) (drop (i + 1) w)) false
 stepped ok items rest x i w d e lt =
     let one : i + 1 ≡ suc i = omega arith in
     rw (one, at_item i w d lt, wanted_last items rest x e) refl
 
-pub misfits : (ok : Sym → Sort → Bool) (items rest : List Sort) (x : Sort) (i : ℕ) (w : List Sym) (d : Sym) (b : Bool) → items ≡ rest ++ x ∷ [] → i < length w → ok (get_or w i d) x ≡ false → walk ok (reverse items) (drop i w) ≡ b → false ≡ b
+pub misfits : (ok : Sym → Sort → Bool) (items rest : List Sort) (x : Sort) (i : ℕ) (w : List Sym) (d : Sym) (b : Bool) → items ≡ rest ++ x ∷ [] → i < length w → ok (get_or w i d) x ≡ false
+    → walk ok (reverse items) (drop i w) ≡ b → false ≡ b
 misfits ok items rest x i w d b e lt f h =
     let s = stepped ok items rest x i w d e lt in
     sym (s ∙ rw f refl) ∙ h
 
-pub goes : (ok : Sym → Sort → Bool) (items rest new : List Sort) (x : Sort) (i : ℕ) (w : List Sym) (d : Sym) (b : Bool) → items ≡ rest ++ x ∷ [] → i < length w → ok (get_or w i d) x ≡ true → reverse new ≡ kids_of (get_or w i d) ++ reverse rest → walk ok (reverse items) (drop i w) ≡ b → walk ok (reverse new) (drop (i + 1) w) ≡ b
+pub goes : (ok : Sym → Sort → Bool) (items rest new : List Sort) (x : Sort) (i : ℕ) (w : List Sym) (d : Sym) (b : Bool) → items ≡ rest ++ x ∷ [] → i < length w → ok (get_or w i d) x ≡ true
+    → reverse new ≡ kids_of (get_or w i d) ++ reverse rest → walk ok (reverse items) (drop i w) ≡ b → walk ok (reverse new) (drop (i + 1) w) ≡ b
 goes ok items rest new x i w d b e lt f n h =
     let s = stepped ok items rest x i w d e lt in
     rw n (sym (s ∙ rw f refl) ∙ h)

@@ -35,11 +35,13 @@ use Rattle.md_reader.specs.Symbols.{token_among, token_of, token_or_class, class
 use Rattle.md_reader.specs.Forms.{is_skipped, are_both, pool_form, class_form, spill_form, saved_number, rule_form, if_form, do_form, give_form, plain_give, register_behind}
 use Rattle.md_reader.specs.Rows.{restriction_fits, line_fits, pieces_fit, shape_fits, plain_fits, is_bare}
 use Rattle.md_reader.specs.State.{State, Content}
-use Rattle.md_reader.specs.Steps.{line_at, has_stmt, pool_step, new_class, spill_pieces, spill_text, spill_line, class_line, sort_step, right_step, left_step, rule_line, if_step, do_pieces, do_text, ended_rule, shape_step, give_step, give_line, do_line, if_line, step_at}
+use Rattle.md_reader.specs.Steps.{line_at, has_stmt, pool_step, new_class, spill_pieces, spill_text, spill_line, class_line, sort_step, right_step, left_step, rule_line, if_step}
+use Rattle.md_reader.specs.Steps.{do_pieces, do_text, ended_rule, shape_step, give_step, give_line, do_line, if_line, step_at}
 use Rattle.md_reader.specs.Reads.{start, content_of, ended_at, taken, read_from, read, Answers}
 use Rattle.md_reader.specs.Valid.{IsValid}
 use Rattle.md_reader.specs.Fine.{IsBlank, IsDeclaring, StageFact, IsFine}
-use Rattle.md_reader.specs.Desc.{Form, Version, Target, Pool, Declares, Saves, Head, Restricts, Writes, Gives, kind_words, saved_words, GiveWord, Says, name_at, symbol_word, saving, ruling, telling, numbered, Tell, Desc}
+use Rattle.md_reader.specs.Desc.{Form, Version, Target, Pool, Declares, Saves, Head, Restricts, Writes, Gives, kind_words, saved_words, GiveWord, Says, name_at, symbol_word}
+use Rattle.md_reader.specs.Desc.{saving, ruling, telling, numbered, Tell, Desc}
 use Rattle.md_reader.proofs.Inversion.{when, unless, refused, ok_same, same_true}
 use Rattle.md_reader.proofs.FormLaws.{both_words, class_line_is, spill_line_is, rule_line_is, if_line_is, do_line_is, give_line_is, plain_word}
 use Rattle.md_reader.proofs.ValidLaws.{skip_kept, line_kept, is_valid, begins}
@@ -92,7 +94,8 @@ symbols_named cs [] right e = ap (map (symbol_word cs)) (sym (same_Some [] right
 symbols_named cs (w ∷ ws) right e =
     option_and_then_some _ _ _ e (λ s es more. one_more s (symbol_named cs w s es) (symbols_of cs ws) more (symbols_named cs ws))
   where
-    one_more : (s : Sym) → symbol_word cs s ≡ w → (o : Option (List Sym)) → option_map (λ (ss : List Sym). s ∷ ss) o ≡ Some right → ((r : List Sym) → o ≡ Some r → map (symbol_word cs) r ≡ ws) → map (symbol_word cs) right ≡ w ∷ ws
+    one_more : (s : Sym) → symbol_word cs s ≡ w → (o : Option (List Sym)) → option_map (λ (ss : List Sym). s ∷ ss) o ≡ Some right
+        → ((r : List Sym) → o ≡ Some r → map (symbol_word cs) r ≡ ws) → map (symbol_word cs) right ≡ w ∷ ws
     one_more s f None e k = absurd (none-some right e)
     one_more s f (Some ss) e k = rw (← same_Some (s ∷ ss) right e, f, k ss refl) refl
 
@@ -129,7 +132,8 @@ record OneMore (before : List Form) (t : State) (n : ℕ) (ws : List (List ℕ))
   says : Says n ws form
   more : told_at t.stage t ≡ before ++ form ∷ []
 
-blank_told : (m : ℕ) (classes : List Class) (spills : List Line) (rules : List Rule) → classes ≡ [] → spills ≡ [] → rules ≡ [] → telling (record { pool = m; classes = classes; spills = spills; rules = rules }) ≡ Version ∷ Target ∷ Pool m ∷ []
+blank_told : (m : ℕ) (classes : List Class) (spills : List Line) (rules : List Rule) → classes ≡ [] → spills ≡ [] → rules ≡ []
+    → telling (record { pool = m; classes = classes; spills = spills; rules = rules }) ≡ Version ∷ Target ∷ Pool m ∷ []
 blank_told m classes spills rules a b c = rw (a, b, c) refl
 
 pool_told : (s t : State) (n : ℕ) (ws : List (List ℕ)) (o : Option ℕ) → pool_form ws ≡ o → IsBlank s → pool_step s o ≡ Ok t → OneMore (Version ∷ Target ∷ []) t n ws
@@ -137,23 +141,31 @@ pool_told s t n ws None v f e = absurd (refused _ _ e)
 pool_told s t n ws (Some m) v f e =
     rw (← ok_same _ _ _ _ refl refl e) (record { form = Pool m; says = v; more = blank_told m s.classes s.spills s.rules f.classes f.spills f.rules })
 
-class_pushed : (m : ℕ) (classes : List Class) (c : Class) (spills : List Line) (rules : List Rule) → spills ≡ [] → rules ≡ [] → telling (record { pool = m; classes = classes ++ c ∷ []; spills = spills; rules = rules }) ≡ telling (record { pool = m; classes = classes; spills = spills; rules = rules }) ++ Declares c ∷ []
+class_pushed : (m : ℕ) (classes : List Class) (c : Class) (spills : List Line) (rules : List Rule) → spills ≡ [] → rules ≡ []
+    → telling (record { pool = m; classes = classes ++ c ∷ []; spills = spills; rules = rules }) ≡ telling (record { pool = m; classes = classes; spills = spills; rules = rules }) ++ Declares c ∷ []
 class_pushed m classes c spills rules a b =
-    rw (a, b) (ap (λ (x : List Form). Version ∷ Target ∷ Pool m ∷ x) (append-nil (map Declares (classes ++ c ∷ [])) ∙ map-push Declares classes c ∙ ap (λ (x : List Form). x ++ Declares c ∷ []) (sym (append-nil (map Declares classes)))))
+    rw (a, b) (ap (λ (x : List Form). Version ∷ Target ∷ Pool m ∷ x) (append-nil (map Declares (classes ++ c ∷ [])) ∙ map-push Declares classes c
+    ∙ ap (λ (x : List Form). x ++ Declares c ∷ []) (sym (append-nil (map Declares classes)))))
 
-class_told : (s t : State) (n : ℕ) (ws : List (List ℕ)) (name : List ℕ) (k : Kind) (o : Option ℕ) → ws ≡ codes "class" ∷ name ∷ kind_words k → IsDeclaring s → s.stage ≡ stage.Classes → new_class s name k o ≡ Ok t → OneMore (telling (content_of s)) t n ws
+class_told : (s t : State) (n : ℕ) (ws : List (List ℕ)) (name : List ℕ) (k : Kind) (o : Option ℕ) → ws ≡ codes "class" ∷ name ∷ kind_words k → IsDeclaring s → s.stage ≡ stage.Classes
+    → new_class s name k o ≡ Ok t → OneMore (telling (content_of s)) t n ws
 class_told s t n ws name k (Some i) w d g e = absurd (refused _ _ e)
 class_told s t n ws name k None w d g e =
     let c : Class = record { name = name; kind = k } in
     rw (← ok_same _ _ _ _ refl refl e) (record { form = Declares c; says = w; more = rw g (class_pushed s.pool s.classes c s.spills s.rules d.spills d.rules) })
 
-spill_pushed : (m : ℕ) (classes : List Class) (spills : List Line) (l : Line) (rules : List Rule) → rules ≡ [] → telling (record { pool = m; classes = classes; spills = spills ++ l ∷ []; rules = rules }) ≡ telling (record { pool = m; classes = classes; spills = spills; rules = rules }) ++ Saves (length spills) l ∷ []
+spill_pushed : (m : ℕ) (classes : List Class) (spills : List Line) (l : Line) (rules : List Rule) → rules ≡ []
+    → telling (record { pool = m; classes = classes; spills = spills ++ l ∷ []; rules = rules }) ≡ telling (record { pool = m; classes = classes; spills = spills; rules = rules })
+    ++ Saves (length spills) l ∷ []
 spill_pushed m classes spills l rules a =
     let z : 0 + length spills ≡ length spills = omega arith in
     let p : saving 0 (spills ++ l ∷ []) ≡ saving 0 spills ++ Saves (length spills) l ∷ [] = saving-push 0 spills l ∙ ap (λ (n : ℕ). saving 0 spills ++ Saves n l ∷ []) z in
-    rw a (ap (λ (x : List Form). Version ∷ Target ∷ Pool m ∷ x) (ap (λ (x : List Form). map Declares classes ++ x) (append-nil (saving 0 (spills ++ l ∷ [])) ∙ p ∙ ap (λ (x : List Form). x ++ Saves (length spills) l ∷ []) (sym (append-nil (saving 0 spills)))) ∙ sym (append_assoc (map Declares classes) (saving 0 spills ++ []) (Saves (length spills) l ∷ []))))
+    rw a (ap (λ (x : List Form). Version ∷ Target ∷ Pool m ∷ x) (ap (λ (x : List Form). map Declares classes ++ x)
+    (append-nil (saving 0 (spills ++ l ∷ [])) ∙ p ∙ ap (λ (x : List Form). x ++ Saves (length spills) l ∷ []) (sym (append-nil (saving 0 spills))))
+    ∙ sym (append_assoc (map Declares classes) (saving 0 spills ++ []) (Saves (length spills) l ∷ []))))
 
-spill_told : (s t : State) (n : ℕ) (ws : List (List ℕ)) (x : Saved × List (List ℕ)) (w : List ℕ) (ps : List Piece) → ws ≡ saved_words x.0 ++ x.1 → saved_number x.0 ≡ length s.spills → text_of x.1 ≡ Some w → pieces w ≡ Some ps → s.rules ≡ [] → spill_pieces s n (Some ps) ≡ Ok t → OneMore (telling (content_of s)) t n ws
+spill_told : (s t : State) (n : ℕ) (ws : List (List ℕ)) (x : Saved × List (List ℕ)) (w : List ℕ) (ps : List Piece) → ws ≡ saved_words x.0 ++ x.1 → saved_number x.0 ≡ length s.spills
+    → text_of x.1 ≡ Some w → pieces w ≡ Some ps → s.rules ≡ [] → spill_pieces s n (Some ps) ≡ Ok t → OneMore (telling (content_of s)) t n ws
 spill_told s t n ws x w ps a b c d r e =
     let q = unless (line_fits true (symbol.Class 0 ∷ []) ps) _ _ t e in
     let l : Line = line_at n ps in
@@ -163,15 +175,18 @@ spill_told s t n ws x w ps a b c d r e =
       more = at (eqb (length s.spills) 7);
     })
   where
-    at : (b : Bool) → told_at (cond b stage.Rules stage.Spills) (record s { stage = cond b stage.Rules stage.Spills; spills = s.spills ++ line_at n ps ∷ [] }) ≡ telling (content_of s) ++ Saves (length s.spills) (line_at n ps) ∷ []
+    at : (b : Bool) → told_at (cond b stage.Rules stage.Spills) (record s { stage = cond b stage.Rules stage.Spills; spills = s.spills ++ line_at n ps ∷ [] }) ≡ telling (content_of s)
+        ++ Saves (length s.spills) (line_at n ps) ∷ []
     at true = spill_pushed s.pool s.classes s.spills (line_at n ps) s.rules r
     at false = spill_pushed s.pool s.classes s.spills (line_at n ps) s.rules r
 
-spill_pieces_told : (s t : State) (n : ℕ) (ws : List (List ℕ)) (x : Saved × List (List ℕ)) (w : List ℕ) (o : Option (List Piece)) → ws ≡ saved_words x.0 ++ x.1 → saved_number x.0 ≡ length s.spills → text_of x.1 ≡ Some w → pieces w ≡ o → s.rules ≡ [] → spill_pieces s n o ≡ Ok t → OneMore (telling (content_of s)) t n ws
+spill_pieces_told : (s t : State) (n : ℕ) (ws : List (List ℕ)) (x : Saved × List (List ℕ)) (w : List ℕ) (o : Option (List Piece)) → ws ≡ saved_words x.0 ++ x.1 → saved_number x.0
+    ≡ length s.spills → text_of x.1 ≡ Some w → pieces w ≡ o → s.rules ≡ [] → spill_pieces s n o ≡ Ok t → OneMore (telling (content_of s)) t n ws
 spill_pieces_told s t n ws x w None a b c d r e = absurd (refused _ _ e)
 spill_pieces_told s t n ws x w (Some ps) a b c d r e = spill_told s t n ws x w ps a b c d r e
 
-spill_text_told : (s t : State) (n : ℕ) (ws : List (List ℕ)) (x : Saved × List (List ℕ)) (o : Option (List ℕ)) → ws ≡ saved_words x.0 ++ x.1 → saved_number x.0 ≡ length s.spills → text_of x.1 ≡ o → s.rules ≡ [] → spill_text s n o ≡ Ok t → OneMore (telling (content_of s)) t n ws
+spill_text_told : (s t : State) (n : ℕ) (ws : List (List ℕ)) (x : Saved × List (List ℕ)) (o : Option (List ℕ)) → ws ≡ saved_words x.0 ++ x.1 → saved_number x.0 ≡ length s.spills
+    → text_of x.1 ≡ o → s.rules ≡ [] → spill_text s n o ≡ Ok t → OneMore (telling (content_of s)) t n ws
 spill_text_told s t n ws x None a b c r e = absurd (refused _ _ e)
 spill_text_told s t n ws x (Some w) a b c r e = spill_pieces_told s t n ws x w _ a b c refl r e
 
@@ -182,28 +197,32 @@ spill_line_told s t n ws (Some x) v r e =
     let b = unless (has_stmt s.classes) _ _ t a.1 in
     spill_text_told s t n ws x _ (spill_line_is ws x v) (eqb-true (saved_number x.0) (length s.spills) a.0) refl r b.1
 
-class_line_told : (s t : State) (n : ℕ) (ws : List (List ℕ)) (o : Option (List ℕ × Kind)) → class_form ws ≡ o → IsDeclaring s → s.stage ≡ stage.Classes → class_line s n o ws ≡ Ok t → OneMore (telling (content_of s)) t n ws
+class_line_told : (s t : State) (n : ℕ) (ws : List (List ℕ)) (o : Option (List ℕ × Kind)) → class_form ws ≡ o → IsDeclaring s → s.stage ≡ stage.Classes → class_line s n o ws ≡ Ok t
+    → OneMore (telling (content_of s)) t n ws
 class_line_told s t n ws None v d g e = spill_line_told s t n ws _ refl d.rules e
 class_line_told s t n ws (Some x) v d g e =
     let a = when (nat_le 64 (length s.classes)) _ _ t e in
     class_told s t n ws x.0 x.1 _ (class_line_is ws x v).stands d g a.1
 
 -- a rule's head
-sort_told : (s t : State) (n : ℕ) (ws : List (List ℕ)) (left : ℕ) (right : List Sym) (z : Bool) (o : Option Sort) → ws ≡ codes "rule" ∷ name_at s.classes left ∷ codes ":" ∷ map (symbol_word s.classes) right → sort_step s left right z o ≡ Ok t → OneMore (telling (content_of s)) t n ws
+sort_told : (s t : State) (n : ℕ) (ws : List (List ℕ)) (left : ℕ) (right : List Sym) (z : Bool) (o : Option Sort) → ws
+    ≡ codes "rule" ∷ name_at s.classes left ∷ codes ":" ∷ map (symbol_word s.classes) right → sort_step s left right z o ≡ Ok t → OneMore (telling (content_of s)) t n ws
 sort_told s t n ws left right z None w e = absurd (refused _ _ e)
 sort_told s t n ws left right z (Some sort) w e =
     let a = when (is_bare s.classes right) _ _ t e in
     let b = unless (walk (sorted_test s.classes) (sort ∷ []) right) _ _ t a.1 in
     rw (← ok_same _ _ _ _ refl refl b.1) (record { form = Head (name_at s.classes left) (map (symbol_word s.classes) right); says = w; more = refl })
 
-right_told : (s t : State) (n : ℕ) (ws ss : List (List ℕ)) (left : ℕ) (z : Bool) (o : Option (List Sym)) → ws ≡ codes "rule" ∷ name_at s.classes left ∷ codes ":" ∷ ss → symbols_of s.classes ss ≡ o → right_step s left z o ≡ Ok t → OneMore (telling (content_of s)) t n ws
+right_told : (s t : State) (n : ℕ) (ws ss : List (List ℕ)) (left : ℕ) (z : Bool) (o : Option (List Sym)) → ws ≡ codes "rule" ∷ name_at s.classes left ∷ codes ":" ∷ ss
+    → symbols_of s.classes ss ≡ o → right_step s left z o ≡ Ok t → OneMore (telling (content_of s)) t n ws
 right_told s t n ws ss left z None w f e = absurd (refused _ _ e)
 right_told s t n ws ss left z (Some right) w f e =
     let a = unless (count 1 right) _ _ t e in
     let k = ap (λ (x : List (List ℕ)). codes "rule" ∷ name_at s.classes left ∷ codes ":" ∷ x) (sym (symbols_named s.classes ss right f)) in
     sort_told s t n ws left right z _ (w ∙ k) a.1
 
-left_told : (s t : State) (n : ℕ) (ws ss : List (List ℕ)) (class : List ℕ) (z : Bool) (o : Option ℕ) → ws ≡ codes "rule" ∷ class ∷ codes ":" ∷ ss → class_of s.classes class ≡ o → left_step s z ss o ≡ Ok t → OneMore (telling (content_of s)) t n ws
+left_told : (s t : State) (n : ℕ) (ws ss : List (List ℕ)) (class : List ℕ) (z : Bool) (o : Option ℕ) → ws ≡ codes "rule" ∷ class ∷ codes ":" ∷ ss → class_of s.classes class ≡ o
+    → left_step s z ss o ≡ Ok t → OneMore (telling (content_of s)) t n ws
 left_told s t n ws ss class z None w f e = absurd (refused _ _ e)
 left_told s t n ws ss class z (Some left) w f e =
     let k = ap (λ (x : List ℕ). codes "rule" ∷ x ∷ codes ":" ∷ ss) (sym (class_named s.classes class left f)) in
@@ -221,13 +240,16 @@ none_written : (ls : List Line) → eqb (length ls) 0 ≡ true → ls ≡ []
 none_written [] e = refl
 none_written (l ∷ ls) e = let k = eqb-true (length (l ∷ ls)) 0 e in absurd (omega (arith, k))
 
-if_pushed : (p : List Form) (h : Form) (rs : List Restriction) (r : Restriction) (ls : List Line) → ls ≡ [] → p ++ (h ∷ (map Restricts (rs ++ r ∷ []) ++ map Writes ls)) ≡ (p ++ (h ∷ (map Restricts rs ++ map Writes ls))) ++ Restricts r ∷ []
+if_pushed : (p : List Form) (h : Form) (rs : List Restriction) (r : Restriction) (ls : List Line) → ls ≡ [] → p ++ (h ∷ (map Restricts (rs ++ r ∷ []) ++ map Writes ls))
+    ≡ (p ++ (h ∷ (map Restricts rs ++ map Writes ls))) ++ Restricts r ∷ []
 if_pushed p h rs r ls a =
-    rw a (ap (λ (x : List Form). p ++ h ∷ x) (append-nil (map Restricts (rs ++ r ∷ [])) ∙ map-push Restricts rs r ∙ ap (λ (x : List Form). x ++ Restricts r ∷ []) (sym (append-nil (map Restricts rs)))) ∙ sym (append_assoc p (h ∷ (map Restricts rs ++ [])) (Restricts r ∷ [])))
+    rw a (ap (λ (x : List Form). p ++ h ∷ x) (append-nil (map Restricts (rs ++ r ∷ [])) ∙ map-push Restricts rs r
+    ∙ ap (λ (x : List Form). x ++ Restricts r ∷ []) (sym (append-nil (map Restricts rs)))) ∙ sym (append_assoc p (h ∷ (map Restricts rs ++ [])) (Restricts r ∷ [])))
 
 do_pushed : (p : List Form) (h : Form) (rs : List Form) (ls : List Line) (l : Line) → p ++ (h ∷ (rs ++ map Writes (ls ++ l ∷ []))) ≡ (p ++ (h ∷ (rs ++ map Writes ls))) ++ Writes l ∷ []
 do_pushed p h rs ls l =
-    ap (λ (x : List Form). p ++ h ∷ x) (ap (λ (x : List Form). rs ++ x) (map-push Writes ls l) ∙ sym (append_assoc rs (map Writes ls) (Writes l ∷ []))) ∙ sym (append_assoc p (h ∷ (rs ++ map Writes ls)) (Writes l ∷ []))
+    ap (λ (x : List Form). p ++ h ∷ x) (ap (λ (x : List Form). rs ++ x) (map-push Writes ls l) ∙ sym (append_assoc rs (map Writes ls) (Writes l ∷ [])))
+    ∙ sym (append_assoc p (h ∷ (rs ++ map Writes ls)) (Writes l ∷ []))
 
 if_told : (s t : State) (n : ℕ) (ws : List (List ℕ)) (r : Restriction) → if_form ws ≡ Some r → s.stage ≡ stage.Template → if_step s r ≡ Ok t → OneMore (told_at stage.Template s) t n ws
 if_told s t n ws r v g e =
@@ -240,7 +262,8 @@ if_told s t n ws r v g e =
       more = rw g (if_pushed (telling (content_of s)) (Head (name_at s.classes s.left) (map (symbol_word s.classes) s.right)) s.restrictions r s.lines (none_written s.lines a.0));
     })
 
-do_pieces_told : (s t : State) (n : ℕ) (ws rest : List (List ℕ)) (w : List ℕ) (o : Option (List Piece)) → ws ≡ codes "do" ∷ rest → text_of rest ≡ Some w → pieces w ≡ o → s.stage ≡ stage.Template → do_pieces s n o ≡ Ok t → OneMore (told_at stage.Template s) t n ws
+do_pieces_told : (s t : State) (n : ℕ) (ws rest : List (List ℕ)) (w : List ℕ) (o : Option (List Piece)) → ws ≡ codes "do" ∷ rest → text_of rest ≡ Some w → pieces w ≡ o → s.stage
+    ≡ stage.Template → do_pieces s n o ≡ Ok t → OneMore (told_at stage.Template s) t n ws
 do_pieces_told s t n ws rest w None a b c g e = absurd (refused _ _ e)
 do_pieces_told s t n ws rest w (Some ps) a b c g e =
     let q = unless (line_fits s.register s.right ps) _ _ t e in
@@ -250,7 +273,8 @@ do_pieces_told s t n ws rest w (Some ps) a b c g e =
       more = rw g (do_pushed (telling (content_of s)) (Head (name_at s.classes s.left) (map (symbol_word s.classes) s.right)) (map Restricts s.restrictions) s.lines (line_at n ps));
     })
 
-do_told : (s t : State) (n : ℕ) (ws rest : List (List ℕ)) (o : Option (List ℕ)) → ws ≡ codes "do" ∷ rest → text_of rest ≡ o → s.stage ≡ stage.Template → do_text s n o ≡ Ok t → OneMore (told_at stage.Template s) t n ws
+do_told : (s t : State) (n : ℕ) (ws rest : List (List ℕ)) (o : Option (List ℕ)) → ws ≡ codes "do" ∷ rest → text_of rest ≡ o → s.stage ≡ stage.Template → do_text s n o ≡ Ok t
+    → OneMore (told_at stage.Template s) t n ws
 do_told s t n ws rest None a b g e = absurd (refused _ _ e)
 do_told s t n ws rest (Some w) a b g e =
     let q = when (nat_le 8 (length s.lines)) _ _ t e in
@@ -267,17 +291,20 @@ given_told s n ws w g a b =
       says = record { word = w; stands = a; says = b };
       more =
           ap (λ (x : List Form). Version ∷ Target ∷ Pool s.pool ∷ (map Declares s.classes ++ (saving 0 s.spills ++ x))) (flat-push (ruling s.classes) s.rules r)
-          ∙ rule_pushed (Version ∷ Target ∷ Pool s.pool ∷ []) (map Declares s.classes) (saving 0 s.spills) (flat_map (ruling s.classes) s.rules) (Head (name_at s.classes s.left) (map (symbol_word s.classes) s.right)) (map Restricts s.restrictions) (map Writes s.lines) (Gives g);
+          ∙ rule_pushed (Version ∷ Target ∷ Pool s.pool ∷ []) (map Declares s.classes) (saving 0 s.spills) (flat_map (ruling s.classes) s.rules)
+          (Head (name_at s.classes s.left) (map (symbol_word s.classes) s.right)) (map Restricts s.restrictions) (map Writes s.lines) (Gives g);
     }
 
-shape_told : (s t : State) (n : ℕ) (ws : List (List ℕ)) (w : List ℕ) (o : Option (List Piece)) → ws ≡ codes "give" ∷ w ∷ [] → plain_give w ≡ None → pieces w ≡ o → shape_step s n o ≡ Ok t → OneMore (told_at stage.Template s) t n ws
+shape_told : (s t : State) (n : ℕ) (ws : List (List ℕ)) (w : List ℕ) (o : Option (List Piece)) → ws ≡ codes "give" ∷ w ∷ [] → plain_give w ≡ None → pieces w ≡ o → shape_step s n o ≡ Ok t
+    → OneMore (told_at stage.Template s) t n ws
 shape_told s t n ws w None a b c e = absurd (refused _ _ e)
 shape_told s t n ws w (Some ps) a b c e =
     let p = unless (pieces_fit false s.right ps) _ _ t e in
     let q = unless (shape_fits s.classes s.right (kind_at s.classes s.left) ps) _ _ t p.1 in
     rw (← ok_same _ _ _ _ refl refl q.1) (given_told s n ws w (give.Shape (line_at n ps)) a (b, c, refl))
 
-give_told : (s t : State) (n : ℕ) (ws : List (List ℕ)) (w : List ℕ) (o : Option Give) → ws ≡ codes "give" ∷ w ∷ [] → plain_give w ≡ o → give_step s n w o ≡ Ok t → OneMore (told_at stage.Template s) t n ws
+give_told : (s t : State) (n : ℕ) (ws : List (List ℕ)) (w : List ℕ) (o : Option Give) → ws ≡ codes "give" ∷ w ∷ [] → plain_give w ≡ o → give_step s n w o ≡ Ok t
+    → OneMore (told_at stage.Template s) t n ws
 give_told s t n ws w None a b e = shape_told s t n ws w _ a b refl e
 give_told s t n ws w (Some g) a b e =
     let p = unless (plain_fits (kind_at s.classes s.left) g) _ _ t e in
@@ -337,13 +364,23 @@ from_told n s [] d h e = end_told s.stage n s d refl h e
 from_told n s (l ∷ ls) d h e = at (is_skipped (words l)) refl e (λ t k f. from_told (n + 1) t ls d k f)
   where
     longer : (t : State) → OneMore (told_at s.stage s) t n (words l) → TheRest (told_at t.stage t) (numbered (n + 1) ls) d → TheRest (told_at s.stage s) ((n, words l) ∷ numbered (n + 1) ls) d
-    longer t o r = record { forms = o.form ∷ r.forms; tell = (o.says, r.tell); whole = sym (append_assoc (told_at s.stage s) (o.form ∷ []) r.forms) ∙ ap (λ (x : List Form). x ++ r.forms) (sym o.more) ∙ r.whole; valid = r.valid }
+    longer t o r = record {
+      forms = o.form ∷ r.forms;
+      tell = (o.says, r.tell);
+      whole = sym (append_assoc (told_at s.stage s) (o.form ∷ []) r.forms)
+          ∙ ap (λ (x : List Form). x ++ r.forms) (sym o.more) ∙ r.whole;
+      valid = r.valid;
+    }
 
-    took : (r : Result State DescKind) → ((t : State) → r ≡ Ok t → IsFine t ls) → ((t : State) → r ≡ Ok t → OneMore (told_at s.stage s) t n (words l)) → ((t : State) → IsFine t ls → read_from (n + 1) t ls ≡ Ok d → TheRest (told_at t.stage t) (numbered (n + 1) ls) d) → taken n r (λ (t : State). read_from (n + 1) t ls) ≡ Ok d → TheRest (told_at s.stage s) ((n, words l) ∷ numbered (n + 1) ls) d
+    took : (r : Result State DescKind) → ((t : State) → r ≡ Ok t → IsFine t ls) → ((t : State) → r ≡ Ok t → OneMore (told_at s.stage s) t n (words l))
+        → ((t : State) → IsFine t ls → read_from (n + 1) t ls ≡ Ok d → TheRest (told_at t.stage t) (numbered (n + 1) ls) d) → taken n r (λ (t : State). read_from (n + 1) t ls) ≡ Ok d
+        → TheRest (told_at s.stage s) ((n, words l) ∷ numbered (n + 1) ls) d
     took (Err x) fine told go e = absurd (refused _ _ e)
     took (Ok t) fine told go e = longer t (told t refl) (go t (fine t refl) e)
 
-    at : (b : Bool) → is_skipped (words l) ≡ b → taken n (cond b (Ok s) (step_at s.stage s n (words l) (register_behind ls))) (λ (t : State). read_from (n + 1) t ls) ≡ Ok d → ((t : State) → IsFine t ls → read_from (n + 1) t ls ≡ Ok d → TheRest (told_at t.stage t) (numbered (n + 1) ls) d) → TheRest (told_at s.stage s) (cond b (numbered (n + 1) ls) ((n, words l) ∷ numbered (n + 1) ls)) d
+    at : (b : Bool) → is_skipped (words l) ≡ b → taken n (cond b (Ok s) (step_at s.stage s n (words l) (register_behind ls))) (λ (t : State). read_from (n + 1) t ls) ≡ Ok d
+        → ((t : State) → IsFine t ls → read_from (n + 1) t ls ≡ Ok d → TheRest (told_at t.stage t) (numbered (n + 1) ls) d)
+        → TheRest (told_at s.stage s) (cond b (numbered (n + 1) ls) ((n, words l) ∷ numbered (n + 1) ls)) d
     at true f e go = go s (skip_kept s l ls f h) e
     at false f e go = took _ (λ t g. line_kept s t l ls n h (rw f g)) (λ t g. step_told s.stage s t n (words l) (l ∷ ls) (register_behind ls) refl h.stage g) go e
 

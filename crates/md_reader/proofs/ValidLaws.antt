@@ -1,5 +1,6 @@
 -- What is read breaks no row.
-use Rattle.std.proofs.Common.{◌≢◌, ◌≡◌, ℕ, suc, ◌+◌, ◌≤◌, Bool, true, false, cond, eqb, List, [], ◌∷◌, ◌++◌, length, Option, Some, None, Result, Ok, Err, nat_le, refl, sym, ap, subst, ◌∙◌, arith, length-append}
+use Rattle.std.proofs.Common.{◌≢◌, ◌≡◌, ℕ, suc, ◌+◌, ◌≤◌, Bool, true, false, cond, eqb, List, [], ◌∷◌, ◌++◌, length, Option, Some, None, Result, Ok, Err, nat_le, refl, sym, ap}
+use Rattle.std.proofs.Common.{subst, ◌∙◌, arith, length-append}
 use Rattle.std.specs.Prelude.{codes}
 use Rattle.std.specs.Result.{OnOk}
 use Rattle.std.specs.Option.{option_map}
@@ -24,10 +25,12 @@ use Rattle.md_reader.specs.declared.reading.Stage.{Stage}
 use Rattle.md_reader.specs.declared.reading.Stage.TheVariants as stage
 use Rattle.md_reader.specs.Patterns.{kind_at, sort_of_symbol, sorted_test, walk, count}
 use Rattle.md_reader.specs.Symbols.{class_from, class_of, symbols_of}
-use Rattle.md_reader.specs.Forms.{is_skipped, are_both, is_name, pool_form, class_form, spill_form, saved_number, rule_form, if_form, do_form, give_form, plain_give, has_register, is_passed, register_behind}
+use Rattle.md_reader.specs.Forms.{is_skipped, are_both, is_name, pool_form, class_form, spill_form, saved_number, rule_form, if_form, do_form, give_form, plain_give, has_register}
+use Rattle.md_reader.specs.Forms.{is_passed, register_behind}
 use Rattle.md_reader.specs.Rows.{restriction_fits, line_fits, pieces_fit, shape_fits, plain_fits, is_bare}
 use Rattle.md_reader.specs.State.{State}
-use Rattle.md_reader.specs.Steps.{line_at, has_stmt, pool_step, new_class, spill_pieces, spill_text, spill_line, class_line, sort_step, right_step, left_step, rule_line, if_step, do_pieces, do_text, ended_rule, shape_step, give_step, give_line, do_line, if_line, step_at, line_step}
+use Rattle.md_reader.specs.Steps.{line_at, has_stmt, pool_step, new_class, spill_pieces, spill_text, spill_line, class_line, sort_step, right_step, left_step, rule_line, if_step}
+use Rattle.md_reader.specs.Steps.{do_pieces, do_text, ended_rule, shape_step, give_step, give_line, do_line, if_line, step_at, line_step}
 use Rattle.md_reader.specs.View.{Stepped}
 use Rattle.md_reader.specs.Valid.{Away, Apart, IsNamed, IsPool, IsSpill, AreSides, MayRestrict, MayWrite, IsTemplate, MayGive, IsRule, IsValid}
 use Rattle.md_reader.specs.Fine.{IsBlank, IsDeclaring, IsWhole, IsInRule, StageFact, IsFine}
@@ -52,7 +55,8 @@ Apart-push (b ∷ cs) c h a = (Away-push b.name cs c h.0 a.0, Apart-push cs c h.
     Away-push n (b ∷ cs) c h a = (h.0, Away-push n cs c h.1 a)
 
 -- a class that is not declared yet
-class_kept : (s t : State) (xs ls : List (List ℕ)) (name : List ℕ) (k : Kind) (o : Option ℕ) → is_name name ≡ true → IsDeclaring s → s.stage ≡ stage.Classes → IsFine s xs → nat_le 64 (length s.classes) ≡ false → class_of s.classes name ≡ o → new_class s name k o ≡ Ok t → IsFine t ls
+class_kept : (s t : State) (xs ls : List (List ℕ)) (name : List ℕ) (k : Kind) (o : Option ℕ) → is_name name ≡ true → IsDeclaring s → s.stage ≡ stage.Classes → IsFine s xs
+    → nat_le 64 (length s.classes) ≡ false → class_of s.classes name ≡ o → new_class s name k o ≡ Ok t → IsFine t ls
 class_kept s t xs ls name k (Some i) n d g h le f e = absurd (refused _ _ e)
 class_kept s t xs ls name k None n d g h le f e =
     let c : Class = record { name = name; kind = k } in
@@ -113,7 +117,8 @@ spill_kept s t xs ls n (Some x) m h e =
 declaring_saves : (s : State) → IsDeclaring s → MaySave s
 declaring_saves s d = record { pool = d.pool; few = let l = ap (λ (x : List Line). length x) d.spills in omega (arith, l); rules = d.rules }
 
-class_line_kept : (s t : State) (xs ls : List (List ℕ)) (n : ℕ) (ws : List (List ℕ)) (o : Option (List ℕ × Kind)) → class_form ws ≡ o → IsDeclaring s → s.stage ≡ stage.Classes → IsFine s xs → class_line s n o ws ≡ Ok t → IsFine t ls
+class_line_kept : (s t : State) (xs ls : List (List ℕ)) (n : ℕ) (ws : List (List ℕ)) (o : Option (List ℕ × Kind)) → class_form ws ≡ o → IsDeclaring s → s.stage ≡ stage.Classes
+    → IsFine s xs → class_line s n o ws ≡ Ok t → IsFine t ls
 class_line_kept s t xs ls n ws None f d g h e = spill_kept s t xs ls n (spill_form ws) (declaring_saves s d) h e
 class_line_kept s t xs ls n ws (Some x) f d g h e =
     let a = when (nat_le 64 (length s.classes)) _ _ t e in
@@ -125,11 +130,13 @@ as_many classes [] right e = ap (λ (x : List Sym). length x) (sym (same_Some []
 as_many classes (w ∷ ws) right e =
     option_and_then_some _ _ _ e (λ s es more. one_more s (symbols_of classes ws) right more (as_many classes ws))
   where
-    one_more : (s : Sym) (o : Option (List Sym)) (right : List Sym) → option_map (λ (ss : List Sym). s ∷ ss) o ≡ Some right → ((r : List Sym) → o ≡ Some r → length r ≡ length ws) → length right ≡ suc (length ws)
+    one_more : (s : Sym) (o : Option (List Sym)) (right : List Sym) → option_map (λ (ss : List Sym). s ∷ ss) o ≡ Some right → ((r : List Sym) → o ≡ Some r → length r ≡ length ws)
+        → length right ≡ suc (length ws)
     one_more s None right e k = absurd (none-some right e)
     one_more s (Some ss) right e k = rw (← same_Some (s ∷ ss) right e) (ap suc (k ss refl))
 
-sides_kept : (s t : State) (xs ls : List (List ℕ)) (left : ℕ) (right : List Sym) (o : Option Sort) → sort_of_symbol s.classes (symbol.Class left) ≡ o → length right ≤ 16 → count 1 right ≡ true → length s.rules ≤ 999 → IsWhole s → IsFine s xs → sort_step s left right (register_behind ls) o ≡ Ok t → IsFine t ls
+sides_kept : (s t : State) (xs ls : List (List ℕ)) (left : ℕ) (right : List Sym) (o : Option Sort) → sort_of_symbol s.classes (symbol.Class left) ≡ o → length right ≤ 16 → count 1 right
+    ≡ true → length s.rules ≤ 999 → IsWhole s → IsFine s xs → sort_step s left right (register_behind ls) o ≡ Ok t → IsFine t ls
 sides_kept s t xs ls left right None f le c few w h e = absurd (refused _ _ e)
 sides_kept s t xs ls left right (Some sort) f le c few w h e =
     let a = when (is_bare s.classes right) _ _ t e in
@@ -156,13 +163,15 @@ sides_kept s t xs ls left right (Some sort) f le c few w h e =
       };
     })
 
-right_kept : (s t : State) (xs ls : List (List ℕ)) (left : ℕ) (ws : List (List ℕ)) (o : Option (List Sym)) → symbols_of s.classes ws ≡ o → length ws ≤ 16 → length s.rules ≤ 999 → IsWhole s → IsFine s xs → right_step s left (register_behind ls) o ≡ Ok t → IsFine t ls
+right_kept : (s t : State) (xs ls : List (List ℕ)) (left : ℕ) (ws : List (List ℕ)) (o : Option (List Sym)) → symbols_of s.classes ws ≡ o → length ws ≤ 16 → length s.rules ≤ 999 → IsWhole s
+    → IsFine s xs → right_step s left (register_behind ls) o ≡ Ok t → IsFine t ls
 right_kept s t xs ls left ws None f le few w h e = absurd (refused _ _ e)
 right_kept s t xs ls left ws (Some right) f le few w h e =
     let a = unless (count 1 right) _ _ t e in
     sides_kept s t xs ls left right _ refl (rw (as_many s.classes ws right f) le) a.0 few w h a.1
 
-left_kept : (s t : State) (xs ls : List (List ℕ)) (ws : List (List ℕ)) (o : Option ℕ) → length ws ≤ 16 → length s.rules ≤ 999 → IsWhole s → IsFine s xs → left_step s (register_behind ls) ws o ≡ Ok t → IsFine t ls
+left_kept : (s t : State) (xs ls : List (List ℕ)) (ws : List (List ℕ)) (o : Option ℕ) → length ws ≤ 16 → length s.rules ≤ 999 → IsWhole s → IsFine s xs
+    → left_step s (register_behind ls) ws o ≡ Ok t → IsFine t ls
 left_kept s t xs ls ws None le few w h e = absurd (refused _ _ e)
 left_kept s t xs ls ws (Some left) le few w h e = right_kept s t xs ls left ws _ refl le few w h e
 
@@ -180,7 +189,8 @@ passed_behind l ls e = rw e refl
 whole_after : (s t : State) → t.pool ≡ s.pool → t.classes ≡ s.classes → t.spills ≡ s.spills → IsWhole s → IsWhole t
 whole_after s t a b c w = record { pool = rw a w.pool; stmt = rw b w.stmt; eight = rw c w.eight }
 
-if_kept : (s t : State) (l : List ℕ) (ls : List (List ℕ)) (r : Restriction) → is_passed (words l) ≡ true → IsInRule s (l ∷ ls) → s.stage ≡ stage.Template → IsFine s (l ∷ ls) → if_step s r ≡ Ok t → IsFine t ls
+if_kept : (s t : State) (l : List ℕ) (ls : List (List ℕ)) (r : Restriction) → is_passed (words l) ≡ true → IsInRule s (l ∷ ls) → s.stage ≡ stage.Template → IsFine s (l ∷ ls) → if_step s r
+    ≡ Ok t → IsFine t ls
 if_kept s t l ls r p f g h e =
     let a = unless (eqb (length s.lines) 0) _ _ t e in
     let b = when (nat_le 4 (length s.restrictions)) _ _ t a.1 in
@@ -206,7 +216,8 @@ if_kept s t l ls r p f g h e =
       });
     })
 
-do_pieces_kept : (s t : State) (l : List ℕ) (ls : List (List ℕ)) (n : ℕ) (o : Option (List Piece)) → nat_le 8 (length s.lines) ≡ false → is_passed (words l) ≡ true → IsInRule s (l ∷ ls) → s.stage ≡ stage.Template → IsFine s (l ∷ ls) → do_pieces s n o ≡ Ok t → IsFine t ls
+do_pieces_kept : (s t : State) (l : List ℕ) (ls : List (List ℕ)) (n : ℕ) (o : Option (List Piece)) → nat_le 8 (length s.lines) ≡ false → is_passed (words l) ≡ true → IsInRule s (l ∷ ls)
+    → s.stage ≡ stage.Template → IsFine s (l ∷ ls) → do_pieces s n o ≡ Ok t → IsFine t ls
 do_pieces_kept s t l ls n None le p f g h e = absurd (refused _ _ e)
 do_pieces_kept s t l ls n (Some ps) le p f g h e =
     let a = unless (line_fits s.register s.right ps) _ _ t e in
@@ -231,7 +242,8 @@ do_pieces_kept s t l ls n (Some ps) le p f g h e =
       });
     })
 
-do_kept : (s t : State) (l : List ℕ) (ls : List (List ℕ)) (n : ℕ) (o : Option (List ℕ)) → is_passed (words l) ≡ true → IsInRule s (l ∷ ls) → s.stage ≡ stage.Template → IsFine s (l ∷ ls) → do_text s n o ≡ Ok t → IsFine t ls
+do_kept : (s t : State) (l : List ℕ) (ls : List (List ℕ)) (n : ℕ) (o : Option (List ℕ)) → is_passed (words l) ≡ true → IsInRule s (l ∷ ls) → s.stage ≡ stage.Template → IsFine s (l ∷ ls)
+    → do_text s n o ≡ Ok t → IsFine t ls
 do_kept s t l ls n None p f g h e = absurd (refused _ _ e)
 do_kept s t l ls n (Some w) p f g h e =
     let a = when (nat_le 8 (length s.lines)) _ _ t e in
@@ -272,14 +284,16 @@ shape_kept s t xs ls n (Some ps) q f h e =
     let b = unless (shape_fits s.classes s.right (kind_at s.classes s.left) ps) _ _ t a.1 in
     rw (← ok_same _ _ _ _ refl refl b.1) (given_kept s xs ls (give.Shape (line_at n ps)) (a.0, b.0) q f h)
 
-give_kept : (s t : State) (l : List ℕ) (ls : List (List ℕ)) (n : ℕ) (w : List ℕ) (o : Option Give) → plain_give w ≡ o → give_form (words l) ≡ Some w → IsInRule s (l ∷ ls) → IsFine s (l ∷ ls) → give_step s n w o ≡ Ok t → IsFine t ls
+give_kept : (s t : State) (l : List ℕ) (ls : List (List ℕ)) (n : ℕ) (w : List ℕ) (o : Option Give) → plain_give w ≡ o → give_form (words l) ≡ Some w → IsInRule s (l ∷ ls)
+    → IsFine s (l ∷ ls) → give_step s n w o ≡ Ok t → IsFine t ls
 give_kept s t l ls n w None k v f h e =
     shape_kept s t (l ∷ ls) ls n (pieces w) (f.register ∙ register_given l ls w v ∙ ap has_register k) f h e
 give_kept s t l ls n w (Some g) k v f h e =
     let a = unless (plain_fits (kind_at s.classes s.left) g) _ _ t e in
     rw (← ok_same _ _ _ _ refl refl a.1) (given_kept s (l ∷ ls) ls g (may_give s.classes s.left s.right g a.0) (f.register ∙ register_given l ls w v ∙ ap has_register k) f h)
 
-give_line_kept : (s t : State) (l : List ℕ) (ls : List (List ℕ)) (n : ℕ) (o : Option (List ℕ)) → give_form (words l) ≡ o → IsInRule s (l ∷ ls) → IsFine s (l ∷ ls) → give_line s n o ≡ Ok t → IsFine t ls
+give_line_kept : (s t : State) (l : List ℕ) (ls : List (List ℕ)) (n : ℕ) (o : Option (List ℕ)) → give_form (words l) ≡ o → IsInRule s (l ∷ ls) → IsFine s (l ∷ ls) → give_line s n o ≡ Ok t
+    → IsFine t ls
 give_line_kept s t l ls n None v f h e = absurd (refused _ _ e)
 give_line_kept s t l ls n (Some w) v f h e = give_kept s t l ls n w _ refl v f h e
 
@@ -289,11 +303,13 @@ do_passed ws rest e = rw (do_line_is ws rest e) refl
 if_passed : (ws : List (List ℕ)) (r : Restriction) → if_form ws ≡ Some r → is_passed ws ≡ true
 if_passed ws r e = let k = if_line_is ws r e in rw k.stands refl
 
-do_line_kept : (s t : State) (l : List ℕ) (ls : List (List ℕ)) (n : ℕ) (o : Option (List (List ℕ))) → do_form (words l) ≡ o → IsInRule s (l ∷ ls) → s.stage ≡ stage.Template → IsFine s (l ∷ ls) → do_line s n o (words l) ≡ Ok t → IsFine t ls
+do_line_kept : (s t : State) (l : List ℕ) (ls : List (List ℕ)) (n : ℕ) (o : Option (List (List ℕ))) → do_form (words l) ≡ o → IsInRule s (l ∷ ls) → s.stage ≡ stage.Template
+    → IsFine s (l ∷ ls) → do_line s n o (words l) ≡ Ok t → IsFine t ls
 do_line_kept s t l ls n None v f g h e = give_line_kept s t l ls n _ refl f h e
 do_line_kept s t l ls n (Some ws) v f g h e = do_kept s t l ls n (text_of ws) (do_passed (words l) ws v) f g h e
 
-if_line_kept : (s t : State) (l : List ℕ) (ls : List (List ℕ)) (n : ℕ) (o : Option Restriction) → if_form (words l) ≡ o → IsInRule s (l ∷ ls) → s.stage ≡ stage.Template → IsFine s (l ∷ ls) → if_line s n o (words l) ≡ Ok t → IsFine t ls
+if_line_kept : (s t : State) (l : List ℕ) (ls : List (List ℕ)) (n : ℕ) (o : Option Restriction) → if_form (words l) ≡ o → IsInRule s (l ∷ ls) → s.stage ≡ stage.Template → IsFine s (l ∷ ls)
+    → if_line s n o (words l) ≡ Ok t → IsFine t ls
 if_line_kept s t l ls n None v f g h e = do_line_kept s t l ls n _ refl f g h e
 if_line_kept s t l ls n (Some r) v f g h e = if_kept s t l ls r (if_passed (words l) r v) f g h e
 
@@ -305,7 +321,8 @@ pool_kept s t xs ls ws None v f h e = absurd (refused _ _ e)
 pool_kept s t xs ls ws (Some m) v f h e =
     rw (← ok_same _ _ _ _ refl refl e) (record { classes = h.classes; spills = h.spills; few = h.few; rules = h.rules; stage = record { pool = pool_is ws m v; spills = f.spills; rules = f.rules } })
 
-step_kept : (g : Stage) (s t : State) (l : List ℕ) (ls : List (List ℕ)) (n : ℕ) → s.stage ≡ g → StageFact g s (l ∷ ls) → IsFine s (l ∷ ls) → step_at g s n (words l) (register_behind ls) ≡ Ok t → IsFine t ls
+step_kept : (g : Stage) (s t : State) (l : List ℕ) (ls : List (List ℕ)) (n : ℕ) → s.stage ≡ g → StageFact g s (l ∷ ls) → IsFine s (l ∷ ls) → step_at g s n (words l) (register_behind ls)
+    ≡ Ok t → IsFine t ls
 step_kept stage.Version s t l ls n g f h e =
     let a = unless (are_both (words l) (codes "version") (codes "1")) _ _ t e in
     rw (← ok_same _ _ _ _ refl refl a.1) (blank_after s (l ∷ ls) ls stage.Target f h (record { classes = f.classes; spills = f.spills; rules = f.rules }))
@@ -349,7 +366,20 @@ is_valid s g some h =
     let w : IsWhole s = subst P g h.stage in
     record { pool = w.pool; classes = h.classes; stmt = w.stmt; eight = w.eight; spills = h.spills; some = some; few = h.few; rules = h.rules }
 
-pub begins : (classes : List Class) (spills : List Line) (rules : List Rule) (right : List Sym) (restrictions : List Restriction) (written : List Line) (left : List (List ℕ)) → classes ≡ [] → spills ≡ [] → rules ≡ [] → IsFine (record { stage = stage.Version; pool = 0; classes = classes; spills = spills; rules = rules; left = 0; right = right; restrictions = restrictions; lines = written; register = false }) left
+pub begins : (classes : List Class) (spills : List Line) (rules : List Rule) (right : List Sym) (restrictions : List Restriction) (written : List Line) (left : List (List ℕ)) → classes
+    ≡ [] → spills ≡ [] → rules ≡ [] → IsFine (record {
+      stage = stage.Version;
+      pool = 0;
+      classes = classes;
+      spills = spills;
+      rules = rules;
+      left = 0;
+      right = right;
+      restrictions =
+          restrictions;
+      lines = written;
+      register = false;
+    }) left
 begins classes spills rules right restrictions written left e f g = rw (e, f, g) (record {
   classes = record { few = omega arith; apart = tt; named = tt };
   spills = tt;
@@ -359,6 +389,7 @@ begins classes spills rules right restrictions written left e f g = rw (e, f, g)
 })
 
 -- a line that is taken keeps what was read fine
-pub line_fine : {X : Type 0} (r : Result X LineFault) (s t : State) (l : List ℕ) (ls : List (List ℕ)) (n : ℕ) → Stepped r t (line_step s n (words l) (register_behind ls)) → OnOk r (IsFine s (l ∷ ls) → IsFine t ls)
+pub line_fine : {X : Type 0} (r : Result X LineFault) (s t : State) (l : List ℕ) (ls : List (List ℕ)) (n : ℕ) → Stepped r t (line_step s n (words l) (register_behind ls))
+    → OnOk r (IsFine s (l ∷ ls) → IsFine t ls)
 line_fine (Ok x) s t l ls n e = λ h. line_kept s t l ls n h e
 line_fine (Err x) s t l ls n e = tt

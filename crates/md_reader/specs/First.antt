@@ -13,7 +13,8 @@ use Rattle.md_reader.specs.Reads.{start, ended}
 -- these lines, from this number on and with those lines behind them, are taken one after the other
 pub data Takes : ℕ → State → List (List ℕ) → List (List ℕ) → State → Type 0 where
   no_line : {n : ℕ} {s : State} {back : List (List ℕ)} → Takes n s [] back s
-  one_line : {n : ℕ} {s t u : State} {l : List ℕ} {ls back : List (List ℕ)} → line_step s n (words l) (register_behind (ls ++ back)) ≡ Ok t → Takes (n + 1) t ls back u → Takes n s (l ∷ ls) back u
+  one_line : {n : ℕ} {s t u : State} {l : List ℕ} {ls back : List (List ℕ)}
+      → line_step s n (words l) (register_behind (ls ++ back)) ≡ Ok t → Takes (n + 1) t ls back u → Takes n s (l ∷ ls) back u
 
 -- the line with the number n is wrong in this way, and all before it, from m on, are taken
 pub record WrongLine (m : ℕ) (s : State) (all : List (List ℕ)) (n : ℕ) (kind : DescKind) : Type 0 where

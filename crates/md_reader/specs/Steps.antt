@@ -1,5 +1,6 @@
 -- What each line does to what was read so far, or what is wrong with it: the reader, step by step.
-use Rattle.std.specs.Prelude.{ℕ, Bool, true, false, ◌==◌, ◌&&◌, nat_le, List, [], ◌∷◌, ◌++◌, length, Option, Some, None, Result, Ok, Err, codes, if◌then◌else◌}
+use Rattle.std.specs.Prelude.{ℕ, Bool, true, false, ◌==◌, ◌&&◌, nat_le, List, [], ◌∷◌, ◌++◌, length, Option, Some, None}
+use Rattle.std.specs.Prelude.{Result, Ok, Err, codes, if◌then◌else◌}
 use Rattle.std.specs.List.{list_any}
 use Rattle.md_reader_text.specs.Words.{same}
 use Rattle.md_reader_pieces.specs.declared.piece.Piece.{Piece}
@@ -20,7 +21,8 @@ use Rattle.md_reader.specs.declared.reading.Stage.{Stage}
 use Rattle.md_reader.specs.declared.reading.Stage.TheVariants as stage
 use Rattle.md_reader.specs.Patterns.{kind_at, sort_of_symbol, sorted_test, walk, count}
 use Rattle.md_reader.specs.Symbols.{class_of, symbols_of}
-use Rattle.md_reader.specs.Forms.{is_skipped, are_both, pool_form, class_form, spill_form, saved_number, rule_form, if_form, do_form, give_form, plain_give}
+use Rattle.md_reader.specs.Forms.{is_skipped, are_both, pool_form, class_form, spill_form, saved_number, rule_form}
+use Rattle.md_reader.specs.Forms.{if_form, do_form, give_form, plain_give}
 use Rattle.md_reader.specs.Rows.{is_nothing, restriction_fits, line_fits, pieces_fit, shape_fits, plain_fits, is_bare}
 use Rattle.md_reader.specs.State.{State}
 
@@ -73,7 +75,14 @@ class_line s n None ws = spill_line s n (spill_form ws)
 
 -- `rule ..`
 abbrev pub begun : State → ℕ → List Sym → Bool → State
-begun s left right register = record s { stage = stage.Template; left = left; right = right; restrictions = []; lines = []; register = register }
+begun s left right register = record s {
+  stage = stage.Template;
+  left = left;
+  right = right;
+  restrictions = [];
+  lines = [];
+  register = register;
+}
 
 abbrev pub sort_step : State → ℕ → List Sym → Bool → Option Sort → Result State DescKind
 sort_step s left right z None = Err fault.WrongSort
@@ -84,7 +93,8 @@ sort_step s left right z (Some sort) =
 
 abbrev pub right_step : State → ℕ → Bool → Option (List Sym) → Result State DescKind
 right_step s left z None = Err fault.UnknownToken
-right_step s left z (Some right) = if count 1 right then sort_step s left right z (sort_of_symbol s.classes (sym.Class left)) else Err fault.NotATree
+right_step s left z (Some right) = if count 1 right then sort_step s left right z (sort_of_symbol s.classes (sym.Class left))
+    else Err fault.NotATree
 
 abbrev pub left_step : State → Bool → List (List ℕ) → Option ℕ → Result State DescKind
 left_step s z ws None = Err fault.UnknownClass
@@ -133,7 +143,8 @@ abbrev pub shape_step : State → ℕ → Option (List Piece) → Result State D
 shape_step s n None = Err fault.BadHole
 shape_step s n (Some ps) =
     if pieces_fit false s.right ps then
-    (if shape_fits s.classes s.right (kind_at s.classes s.left) ps then Ok (ended_rule s (give.Shape (line_at n ps))) else Err fault.BadGive)
+    (if shape_fits s.classes s.right (kind_at s.classes s.left) ps then Ok (ended_rule s (give.Shape (line_at n ps))) else Err
+    fault.BadGive)
     else Err fault.BadHole
 
 abbrev pub give_step : State → ℕ → List ℕ → Option Give → Result State DescKind
@@ -155,8 +166,10 @@ if_line s n None ws = do_line s n (do_form ws) ws
 -- a line that says something: its number, its words, and whether `%0` may stand in a template that
 -- it begins
 abbrev pub step_at : Stage → State → ℕ → List (List ℕ) → Bool → Result State DescKind
-step_at stage.Version s n ws z = if are_both ws (codes "version") (codes "1") then Ok (record s { stage = stage.Target }) else Err fault.BadWord
-step_at stage.Target s n ws z = if are_both ws (codes "target") (codes "vax") then Ok (record s { stage = stage.Pool }) else Err fault.BadWord
+step_at stage.Version s n ws z = if are_both ws (codes "version") (codes "1") then Ok (record s { stage = stage.Target })
+    else Err fault.BadWord
+step_at stage.Target s n ws z = if are_both ws (codes "target") (codes "vax") then Ok (record s { stage = stage.Pool }) else Err
+    fault.BadWord
 step_at stage.Pool s n ws z = pool_step s (pool_form ws)
 step_at stage.Classes s n ws z = class_line s n (class_form ws) ws
 step_at stage.Spills s n ws z = spill_line s n (spill_form ws)

@@ -36,4 +36,5 @@ symbol_of classes w = token_or_class (token_of w) (class_of classes w)
 -- the symbols that these words name, if each names one
 abbrev pub symbols_of : List Class → List (List ℕ) → Option (List Sym)
 symbols_of classes [] = Some []
-symbols_of classes (w ∷ ws) = option_and_then (λ (s : Sym). option_map (λ (ss : List Sym). s ∷ ss) (symbols_of classes ws)) (symbol_of classes w)
+symbols_of classes (w ∷ ws) = option_and_then (λ (s : Sym). option_map (λ (ss : List Sym). s ∷ ss) (symbols_of classes ws))
+    (symbol_of classes w)

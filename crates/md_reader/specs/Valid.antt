@@ -66,7 +66,8 @@ pub record IsTemplate (classes : List Class) (right : List Sym) (register : Bool
   pub written : AllByRecursion (MayWrite register right) lines
 
 abbrev pub MayGive : List Class → ℕ → List Sym → Give → Type 0
-MayGive classes left right (give.Shape l) = (pieces_fit false right l.pieces ≡ true) × (shape_fits classes right (kind_at classes left) l.pieces ≡ true)
+MayGive classes left right (give.Shape l) = (pieces_fit false right l.pieces ≡ true)
+    × (shape_fits classes right (kind_at classes left) l.pieces ≡ true)
 MayGive classes left right give.Fresh = plain_fits (kind_at classes left) give.Fresh ≡ true
 MayGive classes left right give.Reuse = plain_fits (kind_at classes left) give.Reuse ≡ true
 MayGive classes left right give.Scratch = plain_fits (kind_at classes left) give.Scratch ≡ true

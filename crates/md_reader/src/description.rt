@@ -22,7 +22,13 @@ impl Model for Description {
 
     ghost view = { λ d. record { pool = d.pool; classes = d.classes.items; spills = d.spills.items; rules = d.rules.items } };
 
-    ghost invariant = { λ d. IsValid (record { pool = d.pool; classes = d.classes.items; spills = d.spills.items; rules = d.rules.items }) };
+    ghost invariant = { λ d. IsValid (record {
+      pool = d.pool;
+      classes = d.classes.items;
+      spills = d.spills.items;
+      rules =
+          d.rules.items;
+    }) };
 }
 
 ghost use Rattle.md_reader.specs.Valid.{IsValid};

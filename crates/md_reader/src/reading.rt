@@ -5,7 +5,9 @@ ghost use Rattle.md_reader_text.specs.Lines.{lines};
 ghost use Rattle.md_reader_text.specs.Words.{words};
 ghost use Rattle.md_reader_pieces.specs.Pieces.{text_of, pieces};
 ghost use Rattle.md_reader.specs.Forms.{if_form, do_form, spill_form, register_behind};
-ghost use Rattle.md_reader.specs.Steps.{is_stmt, has_stmt, class_step, stage_behind, spill_pieces, spill_text, rule_step, if_step, do_pieces, do_text, shape_step, give_step, give_line, do_line, if_line, spill_line, class_line, step, line_step};
+ghost use Rattle.md_reader.specs.Steps.{is_stmt, has_stmt, class_step, stage_behind, spill_pieces, spill_text, rule_step, if_step};
+ghost use Rattle.md_reader.specs.Steps.{do_pieces, do_text, shape_step, give_step, give_line, do_line, if_line, spill_line};
+ghost use Rattle.md_reader.specs.Steps.{class_line, step, line_step};
 ghost use Rattle.md_reader.specs.View.{state, Stepped};
 
 use crate::faults::{DescKind, LineFault};
@@ -150,7 +152,8 @@ impl Reading {
     ) -> Result<(), LineFault>
         requires { length self.old.classes.items ≤ 64 }
         ensures few { OnOk result (length self.new.classes.items ≤ 64) }
-        ensures stepped { Stepped result (state self.new) (rule_step (state self.old) (register_behind (lines behind.now)) class.now (words line.now)) }
+        ensures stepped { Stepped result (state self.new) (rule_step (state self.old) (register_behind (lines behind.now))
+            class.now (words line.now)) }
     {
         if self.rules.len() >= 1000 || !is_short(line) {
             return Err(LineFault::Wrong(DescKind::Limit));
@@ -305,7 +308,8 @@ impl Reading {
     ) -> Result<(), LineFault>
         requires { length self.old.classes.items ≤ 64 }
         ensures few { OnOk result (length self.new.classes.items ≤ 64) }
-        ensures stepped { Stepped result (state self.new) (step (state self.old) number (words line.now) (register_behind (lines behind.now))) }
+        ensures stepped { Stepped result (state self.new) (step (state self.old) number (words line.now)
+            (register_behind (lines behind.now))) }
     {
         match self.stage {
             Stage::Version => {
@@ -352,7 +356,8 @@ impl Reading {
     ) -> Result<(), LineFault>
         requires { length self.old.classes.items ≤ 64 }
         ensures few { OnOk result (length self.new.classes.items ≤ 64) }
-        ensures stepped { Stepped result (state self.new) (line_step (state self.old) number (words line.now) (register_behind (lines behind.now))) }
+        ensures stepped { Stepped result (state self.new) (line_step (state self.old) number (words line.now)
+            (register_behind (lines behind.now))) }
     {
         if is_skipped(line) {
             return Ok(());
@@ -371,7 +376,8 @@ impl Reading {
     ) -> Result<(), LineFault>
         requires { length self.old.classes.items ≤ 64 }
         ensures few { OnOk result (length self.new.classes.items ≤ 64) }
-        ensures stepped { Stepped result (state self.new) (line_step (state self.old) number (words line.now) (register_behind (lines behind.now))) }
+        ensures stepped { Stepped result (state self.new) (line_step (state self.old) number (words line.now)
+            (register_behind (lines behind.now))) }
         // What was read so far stays valid.
         ensures fine { OnOk result (IsFine (state self.old) (line.now ∷ lines behind.now) → IsFine (state self.new) (lines behind.now)) }
     {

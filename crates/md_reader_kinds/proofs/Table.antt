@@ -19,9 +19,11 @@ use Rattle.md_reader.specs.Symbols.{class_of, symbols_of}
 use Rattle.md_reader.specs.Forms.{are_both, pool_form, class_form, spill_form, saved_number, rule_form, if_form, do_form, give_form, plain_give}
 use Rattle.md_reader.specs.Rows.{restriction_fits, line_fits, pieces_fit, shape_fits, plain_fits, is_bare}
 use Rattle.md_reader.specs.State.{State}
-use Rattle.md_reader.specs.Steps.{has_stmt, pool_step, new_class, class_step, spill_pieces, spill_text, spill_line, class_line, sort_step, right_step, left_step, rule_step, rule_line, if_step, do_pieces, do_text, shape_step, give_step, give_line, do_line, if_line, step, step_at}
+use Rattle.md_reader.specs.Steps.{has_stmt, pool_step, new_class, class_step, spill_pieces, spill_text, spill_line, class_line, sort_step, right_step, left_step, rule_step}
+use Rattle.md_reader.specs.Steps.{rule_line, if_step, do_pieces, do_text, shape_step, give_step, give_line, do_line, if_line, step, step_at}
 use Rattle.std.specs.Option.{option_map}
-use Rattle.md_reader_kinds.specs.Table.{Saying, Head, is_none, is_some, fails, lacks, bad_operand, bad_give, NewClass, Spill, NewRule, If, Do, Giving, head_if, spill_said, class_said, do_said, if_said, said_at, wrong_sorts, wrong_sort, Row, row, rows, first, kind_of, FirstKindIsAnswered}
+use Rattle.md_reader_kinds.specs.Table.{Saying, Head, is_none, is_some, fails, lacks, bad_operand, bad_give, NewClass, Spill, NewRule, If, Do, Giving, head_if, spill_said}
+use Rattle.md_reader_kinds.specs.Table.{class_said, do_said, if_said, said_at, wrong_sorts, wrong_sort, Row, row, rows, first, kind_of, FirstKindIsAnswered}
 
 module _ (s : State) (n : ℕ) (z : Bool) where
   abbrev Kind_of : Result State DescKind → Option Saying → Type 0

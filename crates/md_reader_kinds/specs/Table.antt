@@ -1,5 +1,6 @@
 -- The table of kinds: what may be wrong with a line at the point where it stands, in the order in which it is answered.
-use Rattle.std.specs.Prelude.{◌≡◌, ℕ, ◌==◌, ◌||◌, not, nat_le, Bool, true, false, List, [], ◌∷◌, length, Option, Some, None, Result, Ok, Err, codes, if◌then◌else◌}
+use Rattle.std.specs.Prelude.{◌≡◌, ℕ, ◌==◌, ◌||◌, not, nat_le, Bool, true, false, List, [], ◌∷◌, length, Option, Some}
+use Rattle.std.specs.Prelude.{None, Result, Ok, Err, codes, if◌then◌else◌}
 use Rattle.std.specs.Option.{option_map}
 use Rattle.tree_core.specs.declared.token.Sort.{Sort}
 use Rattle.md_reader_pieces.specs.Pieces.{text_of, pieces}
@@ -16,7 +17,8 @@ use Rattle.md_reader.specs.declared.reading.Stage.{Stage}
 use Rattle.md_reader.specs.declared.reading.Stage.TheVariants as stage
 use Rattle.md_reader.specs.Patterns.{kind_at, sort_of_symbol, sorted_test, walk, count}
 use Rattle.md_reader.specs.Symbols.{class_of, symbols_of}
-use Rattle.md_reader.specs.Forms.{is_skipped, are_both, pool_form, class_form, spill_form, saved_number, rule_form, if_form, do_form, give_form, plain_give}
+use Rattle.md_reader.specs.Forms.{is_skipped, are_both, pool_form, class_form, spill_form, saved_number, rule_form}
+use Rattle.md_reader.specs.Forms.{if_form, do_form, give_form, plain_give}
 use Rattle.md_reader.specs.Rows.{restriction_fits, line_fits, pieces_fit, shape_fits, plain_fits, is_bare}
 use Rattle.md_reader.specs.State.{State}
 use Rattle.md_reader.specs.Steps.{has_stmt, line_step}
@@ -118,7 +120,8 @@ row kind applies = record { kind = kind; applies = applies }
 abbrev pub rows : State → Bool → Option Saying → List Row
 rows s z None = row fault.BadWord true ∷ []
 rows s z (Some Head) = []
-rows s z (Some (NewClass name kind)) = row fault.Limit (nat_le 64 (length s.classes)) ∷ row fault.Twice (is_some (class_of s.classes name)) ∷ []
+rows s z (Some (NewClass name kind)) = row fault.Limit (nat_le 64 (length s.classes)) ∷ row fault.Twice
+    (is_some (class_of s.classes name)) ∷ []
 rows s z (Some (Spill text)) =
     row fault.MissingStmt (not (has_stmt s.classes)) ∷
     row fault.BadWord (is_none text) ∷
@@ -129,8 +132,10 @@ rows s z (Some (NewRule class right)) =
     row fault.UnknownToken (is_none (symbols_of s.classes right)) ∷
     row fault.NotATree (fails (count 1) (symbols_of s.classes right)) ∷
     row fault.WrongSort (wrong_sort s.classes (class_of s.classes class) (symbols_of s.classes right)) ∷ []
-rows s z (Some (If r)) = row fault.Limit (nat_le 4 (length s.restrictions)) ∷ row fault.BadIf (not (restriction_fits s.classes s.right r)) ∷ []
-rows s z (Some (Do text)) = row fault.Limit (nat_le 8 (length s.lines)) ∷ row fault.BadHole (lacks (line_fits s.register s.right) (pieces text)) ∷ []
+rows s z (Some (If r)) = row fault.Limit (nat_le 4 (length s.restrictions)) ∷ row fault.BadIf
+    (not (restriction_fits s.classes s.right r)) ∷ []
+rows s z (Some (Do text)) = row fault.Limit (nat_le 8 (length s.lines)) ∷ row fault.BadHole
+    (lacks (line_fits s.register s.right) (pieces text)) ∷ []
 rows s z (Some (Giving w)) = row fault.BadHole (bad_operand s (plain_give w) w) ∷ row fault.BadGive (bad_give s (plain_give w) w) ∷ []
 
 -- the first that applies
@@ -145,4 +150,5 @@ kind_of (Err k) = Some k
 
 -- The reader answers the first kind that applies to a line, and takes the line exactly where none does. A line that says nothing is taken.
 abbrev pub FirstKindIsAnswered : Type 0
-FirstKindIsAnswered = (s : State) (n : ℕ) (ws : List (List ℕ)) (z : Bool) → is_skipped ws ≡ false → kind_of (line_step s n ws z) ≡ first (rows s z (said s ws))
+FirstKindIsAnswered = (s : State) (n : ℕ) (ws : List (List ℕ)) (z : Bool) → is_skipped ws ≡ false → kind_of (line_step s n ws z)
+    ≡ first (rows s z (said s ws))

@@ -8,7 +8,8 @@ use Rattle.md_reader_text.specs.Lines.{lines, line_len, behind_first, cut_line}
 lines_front : (b : ℕ) (bs : List ℕ) → lines (b ∷ bs) ≡ take (line_len (b ∷ bs)) (b ∷ bs) ∷ lines (behind_first (drop (line_len (b ∷ bs)) (b ∷ bs)))
 lines_front b bs = at (eqb b 10) b bs refl (inner bs)
   where
-    at : (t : Bool) (b : ℕ) (bs : List ℕ) → eqb b 10 ≡ t → ((x : ℕ) → put_front x (lines bs) ≡ (x ∷ take (line_len bs) bs) ∷ lines (behind_first (drop (line_len bs) bs))) → lines (b ∷ bs) ≡ take (line_len (b ∷ bs)) (b ∷ bs) ∷ lines (behind_first (drop (line_len (b ∷ bs)) (b ∷ bs)))
+    at : (t : Bool) (b : ℕ) (bs : List ℕ) → eqb b 10 ≡ t → ((x : ℕ) → put_front x (lines bs) ≡ (x ∷ take (line_len bs) bs) ∷ lines (behind_first (drop (line_len bs) bs))) → lines (b ∷ bs)
+        ≡ take (line_len (b ∷ bs)) (b ∷ bs) ∷ lines (behind_first (drop (line_len (b ∷ bs)) (b ∷ bs)))
     at true b bs e h = rw e refl
     at false b bs e h = rw e (h b)
 
@@ -24,6 +25,7 @@ cut_line_is [] = refl
 cut_line_is (b ∷ bs) = lines_front b bs
 
 -- the same where the parts lie behind references
-pub seen_lines : (r : Option (Bor (List ℕ) × Bor (List ℕ))) (text : List ℕ) → option_map (λ (x : Bor (List ℕ) × Bor (List ℕ)). (x.0.now, x.1.now)) r ≡ cut_line text → lines text ≡ list_of (option_map (λ (x : Bor (List ℕ) × Bor (List ℕ)). (x.0.now, lines x.1.now)) r)
+pub seen_lines : (r : Option (Bor (List ℕ) × Bor (List ℕ))) (text : List ℕ) → option_map (λ (x : Bor (List ℕ) × Bor (List ℕ)). (x.0.now, x.1.now)) r ≡ cut_line text → lines text
+    ≡ list_of (option_map (λ (x : Bor (List ℕ) × Bor (List ℕ)). (x.0.now, lines x.1.now)) r)
 seen_lines None text e = cut_line_is text ∙ ap (λ (o : Option (List ℕ × List ℕ)). list_of (option_map go_on o)) (sym e)
 seen_lines (Some x) text e = cut_line_is text ∙ ap (λ (o : Option (List ℕ × List ℕ)). list_of (option_map go_on o)) (sym e)

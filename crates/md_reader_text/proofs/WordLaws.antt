@@ -17,7 +17,8 @@ words_front : (b : ℕ) (bs : List ℕ) → is_blank b ≡ false → words (b �
 words_front b [] e = rw e refl
 words_front b (c ∷ cs) e = step (is_blank c) refl (words_front c cs)
   where
-    step : (t : Bool) → is_blank c ≡ t → (is_blank c ≡ false → words (c ∷ cs) ≡ take (word_len (c ∷ cs)) (c ∷ cs) ∷ words (drop (word_len (c ∷ cs)) (c ∷ cs))) → words (b ∷ c ∷ cs) ≡ take (word_len (b ∷ c ∷ cs)) (b ∷ c ∷ cs) ∷ words (drop (word_len (b ∷ c ∷ cs)) (b ∷ c ∷ cs))
+    step : (t : Bool) → is_blank c ≡ t → (is_blank c ≡ false → words (c ∷ cs) ≡ take (word_len (c ∷ cs)) (c ∷ cs) ∷ words (drop (word_len (c ∷ cs)) (c ∷ cs))) → words (b ∷ c ∷ cs)
+        ≡ take (word_len (b ∷ c ∷ cs)) (b ∷ c ∷ cs) ∷ words (drop (word_len (b ∷ c ∷ cs)) (b ∷ c ∷ cs))
     step true f h = rw (e, f, f) refl
     step false f h = let k = h f in rw (e, f) (ap (put_front b) (rw f at k))
 
@@ -46,6 +47,7 @@ unfolding cut_word
 cut_word_is line = sym (words_skip line) ∙ at_skipped (without_blanks line) (skipped line)
 
 -- the same where the parts lie behind references
-pub seen_words : (r : Option (Bor (List ℕ) × Bor (List ℕ))) (line : List ℕ) → option_map (λ (x : Bor (List ℕ) × Bor (List ℕ)). (x.0.now, x.1.now)) r ≡ cut_word line → words line ≡ list_of (option_map (λ (x : Bor (List ℕ) × Bor (List ℕ)). (x.0.now, words x.1.now)) r)
+pub seen_words : (r : Option (Bor (List ℕ) × Bor (List ℕ))) (line : List ℕ) → option_map (λ (x : Bor (List ℕ) × Bor (List ℕ)). (x.0.now, x.1.now)) r ≡ cut_word line → words line
+    ≡ list_of (option_map (λ (x : Bor (List ℕ) × Bor (List ℕ)). (x.0.now, words x.1.now)) r)
 seen_words None line e = cut_word_is line ∙ ap (λ (o : Option (List ℕ × List ℕ)). list_of (option_map go_on o)) (sym e)
 seen_words (Some x) line e = cut_word_is line ∙ ap (λ (o : Option (List ℕ × List ℕ)). list_of (option_map go_on o)) (sym e)

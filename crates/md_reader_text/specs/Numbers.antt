@@ -1,5 +1,6 @@
 -- Decimal numbers.
-use Rattle.std.specs.Prelude.{ℕ, suc, ◌+◌, ◌-◌, ◌*◌, min, nat_le, Bool, ◌==◌, ◌&&◌, List, [], ◌∷◌, Option, Some, None, ℤ, pos, negsuc, if◌then◌else◌}
+use Rattle.std.specs.Prelude.{ℕ, suc, ◌+◌, ◌-◌, ◌*◌, min, nat_le, Bool, ◌==◌, ◌&&◌, List, [], ◌∷◌, Option, Some, None}
+use Rattle.std.specs.Prelude.{ℤ, pos, negsuc, if◌then◌else◌}
 use Rattle.std.specs.Option.{option_and_then}
 
 abbrev pub is_digit : ℕ → Bool

@@ -1,5 +1,6 @@
 -- The steps over the tables are those of the parse over whole stacks.
-use Rattle.std.proofs.Common.{◌≡◌, ◌⊎◌, inl, inr, ℕ, ◌+◌, ◌-◌, ◌<◌, ◌≤◌, ◌==◌, List, [], ◌∷◌, ◌++◌, Option, Some, None, Bool, true, false, Contains, length, get_or, set, take, drop, replicate, slice_get, refl, sym, ap, ◌∙◌, subst, arith, length-drop}
+use Rattle.std.proofs.Common.{◌≡◌, ◌⊎◌, inl, inr, ℕ, ◌+◌, ◌-◌, ◌<◌, ◌≤◌, ◌==◌, List, [], ◌∷◌, ◌++◌, Option, Some, None, Bool, true, false, Contains, length, get_or, set, take}
+use Rattle.std.proofs.Common.{drop, replicate, slice_get, refl, sym, ap, ◌∙◌, subst, arith, length-drop}
 use Rattle.std.specs.Prelude.{Result, Ok, Err, map, if◌then◌else◌}
 use Rattle.std.specs.Option.{option_map}
 use Rattle.std.proofs.lemmas.List.{length-replicate}
@@ -34,7 +35,8 @@ use Rattle.sel_target.specs.Meaning.{Meaning}
 use Rattle.sel_parse_desk.specs.Desk.{Stack, Outcome, Full, Stuck, Done}
 use Rattle.sel_parse_desk.specs.Reductions.{reduced}
 use Rattle.sel_parse_desk.specs.Selected.{Kept, kept_of, shifted, reduced_by, reduced_at, selecting, Parsed, FrameFull, Blocked, blocks, circles, lacks}
-use Rattle.sel_parse.specs.Steps.{Config, Turn, Onward, Accepted, NoWord, NoRegister, NoWay, Circle, top_of, or_later, chosen, shifted_turn, seen_before, marked, placed, reduced_turn, takes_rule, takes, turn_by, made_turn, step, Falls, Turns, Ends}
+use Rattle.sel_parse.specs.Steps.{Config, Turn, Onward, Accepted, NoWord, NoRegister, NoWay, Circle, top_of, or_later, chosen, shifted_turn, seen_before, marked, placed}
+use Rattle.sel_parse.specs.Steps.{reduced_turn, takes_rule, takes, turn_by, made_turn, step, Falls, Turns, Ends}
 use Rattle.sel_parse.specs.Steps as code
 use Rattle.sel_parse.specs.declared.selection.SelectFault.{SelectFault}
 use Rattle.sel_parse.specs.declared.selection.SelectFault.TheVariants as fault

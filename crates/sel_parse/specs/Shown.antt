@@ -1,5 +1,6 @@
 -- Which rules are shown, and the first refusal where one isn't.
-use Rattle.std.specs.Prelude.{◌≡◌, ℕ, ◌+◌, ◌≤◌, nat_lt, count_ones, Bool, List, [], ◌∷◌, Option, Some, None, is_none, Result, Ok, Err, if◌then◌else◌}
+use Rattle.std.specs.Prelude.{◌≡◌, ℕ, ◌+◌, ◌≤◌, nat_lt, count_ones, Bool, List, [], ◌∷◌, Option, Some, None, is_none}
+use Rattle.std.specs.Prelude.{Result, Ok, Err, if◌then◌else◌}
 use Rattle.std.specs.List.{AllByRecursion}
 use Rattle.gg_base.specs.declared.size.Size.TheVariants.{Byte, Word, Long}
 use Rattle.md_reader_pieces.specs.declared.piece.Line.{Line}
@@ -70,7 +71,8 @@ rules_refused effect classes n [] = None
 rules_refused effect classes n (r ∷ rs) =
     first_of (rule_refused effect classes n r) (rules_refused effect classes (n + 1) rs)
 
-abbrev pub first_refusal : (List Class → Rule → Result EffectShape Fault) → (Kind → Line → Result EffectShape Fault) → Content → Option Refusal
+abbrev pub first_refusal : (List Class → Rule → Result EffectShape Fault) → (Kind → Line → Result EffectShape Fault) → Content
+    → Option Refusal
 first_refusal effect saved d =
     first_of (pools_refused (count_ones d.pool) d.classes 1 d.rules)
     (first_of (lines_refused saved saved_kinds d.spills) (rules_refused effect d.classes 1 d.rules))

@@ -1,5 +1,6 @@
 -- The parse as the code computes it by the tables, step by step.
-use Rattle.std.specs.Prelude.{◌≡◌, ◌⊎◌, ℕ, ◌+◌, ◌-◌, ◌==◌, nat_lt, List, [], ◌∷◌, ◌++◌, Option, Some, None, Bool, true, false, length, take, replicate, slice_get, slice_index_or, slice_set, if◌then◌else◌}
+use Rattle.std.specs.Prelude.{◌≡◌, ◌⊎◌, ℕ, ◌+◌, ◌-◌, ◌==◌, nat_lt, List, [], ◌∷◌, ◌++◌, Option, Some, None, Bool, true}
+use Rattle.std.specs.Prelude.{false, length, take, replicate, slice_get, slice_index_or, slice_set, if◌then◌else◌}
 use Rattle.tree_core.specs.declared.token.Tok.{Tok}
 use Rattle.tree_core.specs.declared.token.Tok.TheVariants as tok
 use Rattle.tree_core.specs.declared.tree.Leaf.{Leaf}
@@ -23,7 +24,8 @@ use Rattle.sel_parse.specs.declared.selection.Parse.{Parse}
 use Rattle.sel_parse.specs.declared.selection.SelectFault.{SelectFault}
 use Rattle.sel_parse.specs.declared.selection.SelectFault.TheVariants as fault
 
--- the offset of the next leaf, the states of the stack, whose top stands last, the classes that were on top since a leaf was shifted or the stack
+-- the offset of the next leaf, the states of the stack, whose top stands last, the classes that were on top since a
+-- leaf was shifted or the stack
 -- became shorter, and the stack with its code
 pub record Config (O I : Type 0) : Type 0 where
   pub at : ℕ
@@ -34,7 +36,8 @@ pub record Config (O I : Type 0) : Type 0 where
 abbrev pub config_of : {O I : Type 0} → Parse O I → Config O I
 config_of p = record { at = p.at; states = p.states.items; seen = p.seen.items; stack = stack_of p.desk }
 
--- What comes of a step: the parse goes on, is accepted, found no free frame word, no register that is due, no way on, or the same stack again.
+-- What comes of a step: the parse goes on, is accepted, found no free frame word, no register that is due, no way on,
+-- or the same stack again.
 pub data Turn (O I : Type 0) : Type 0 where
   Onward : (c : Config O I) → Turn O I
   Accepted : Turn O I
@@ -88,7 +91,13 @@ marked c class =
 
 abbrev pub placed : {O I : Type 0} → Config O I → List ℕ → Rule → Stack O I → Option ℕ → Turn O I
 placed c below r x None = NoWay
-placed c below r x (Some q) = marked (record { at = c.at; states = below ++ q ∷ []; seen = seen_before c.seen (length r.right); stack = x }) r.left
+placed c below r x (Some q) = marked (record {
+  at = c.at;
+  states = below
+      ++ q ∷ [];
+  seen = seen_before c.seen (length r.right);
+  stack = x;
+}) r.left
 
 abbrev pub reduced_turn : {O I : Type 0} → TableView → Config O I → Rule → Outcome (Stack O I) → Turn O I
 reduced_turn t c r Full = NoWord
@@ -121,7 +130,8 @@ module _ {O I S F : Type 0} (of : Meaning O I S F) (q : TreeProgram) (t : TableV
   made_turn c l (Some (choice.Reduce n)) = turn_by c (slice_get t.content.rules n)
 
   abbrev pub step : List Leaf → Config O I → Turn O I
-  step w c = made_turn c (slice_get w c.at) (chosen (takes of q t.content first c.stack) (actions_at t (top_of c.states) (coming (slice_get w c.at))))
+  step w c = made_turn c (slice_get w c.at) (chosen (takes of q t.content first c.stack)
+      (actions_at t (top_of c.states) (coming (slice_get w c.at))))
 
 -- a step is made: it accepts, or goes on
 abbrev pub Turns : {O I : Type 0} → Bool → Config O I → Config O I → Turn O I → Type 0

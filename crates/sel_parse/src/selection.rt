@@ -1,5 +1,6 @@
 // The attributed parse of a tree.
-ghost use Rattle.std.specs.Prelude.{◌≡◌, ◌+◌, ◌-◌, ◌<◌, ◌≤◌, ◌^◌, OnOk, IfOk, IfErr, IfSome, OnErr, Some, Err, length, take, replicate, true, false};
+ghost use Rattle.std.specs.Prelude.{◌≡◌, ◌+◌, ◌-◌, ◌<◌, ◌≤◌, ◌^◌, OnOk, IfOk, IfErr, IfSome, OnErr, Some, Err, length, take};
+ghost use Rattle.std.specs.Prelude.{replicate, true, false};
 ghost use Rattle.std.specs.List.{slice_get, slice_set, slice_index_or};
 ghost use Rattle.lr_tables.specs.Leads.{target_at};
 ghost use Rattle.md_reader.specs.declared.types.Sym.TheVariants as sym;
@@ -83,7 +84,8 @@ impl From<DeskFault> for SelectFault {
     }
 }
 
-// Where a parse stands: the offset of the next leaf, the states of the stack, whose top stands last, the classes that were on top since a leaf
+// Where a parse stands: the offset of the next leaf, the states of the stack, whose top stands last, the classes that were on top
+// since a leaf
 // was shifted or the stack became shorter, and the stack's entries with the code.
 #[derive(Drop)]
 struct Parse<O, I> {
@@ -402,7 +404,8 @@ fn parsed<T: Templates>(
     }
 }
 
-/// The code of a statement's tree, by its leaves in prefix order with `End` behind them. Values are saved in frame words from the slots' first
+/// The code of a statement's tree, by its leaves in prefix order with `End` behind them. Values are saved in frame words from the
+/// slots' first
 /// one on.
 pub fn select<T: Templates>(
     alloc: Global,

@@ -1,5 +1,6 @@
 -- Counts of the entries below a rule's symbols.
-use Rattle.std.proofs.Common.{◌≡◌, ℕ, zero, suc, ◌+◌, ◌<◌, ◌≤◌, ◌^◌, List, [], ◌∷◌, ◌++◌, length, take, drop, set, get_or, Option, Some, None, Bool, true, false, refl, ap, sym, ◌∙◌, arith, length-append, length-take, length-set}
+use Rattle.std.proofs.Common.{◌≡◌, ℕ, zero, suc, ◌+◌, ◌<◌, ◌≤◌, ◌^◌, List, [], ◌∷◌, ◌++◌, length, take, drop, set, get_or, Option, Some, None, Bool, true, false, refl, ap, sym}
+use Rattle.std.proofs.Common.{◌∙◌, arith, length-append, length-take, length-set}
 use Rattle.std.specs.Prelude.{count_by, replicate, slice_index, unwrap_or, IfSome}
 use Rattle.std.specs.List.{list_any}
 use Rattle.std.proofs.lemmas.List.{length-replicate, get_or-replicate}

@@ -1,5 +1,6 @@
 -- The stack with its code, a reduction at work on it, and which registers and frame words are free.
-use Rattle.std.specs.Prelude.{ℕ, zero, suc, ◌+◌, ◌-◌, ◌==◌, ◌&&◌, ◌||◌, List, [], take, drop, reverse, Option, Some, None, Bool, not, if◌then◌else◌}
+use Rattle.std.specs.Prelude.{ℕ, zero, suc, ◌+◌, ◌-◌, ◌==◌, ◌&&◌, ◌||◌, List, [], take, drop, reverse, Option, Some}
+use Rattle.std.specs.Prelude.{None, Bool, not, if◌then◌else◌}
 use Rattle.std.specs.List.{list_any}
 use Rattle.std.specs.Int.{bit_at}
 use Rattle.md_reader.specs.State.{Content}
@@ -13,7 +14,8 @@ pub record Stack (O I : Type 0) : Type 0 where
   pub code : List I
   pub most : ℕ
 
--- A reduction at work: the entries below the rule's symbols, the deepest first; those of the symbols, the first symbol's first; and the frame
+-- A reduction at work: the entries below the rule's symbols, the deepest first; those of the symbols, the first
+-- symbol's first; and the frame
 -- words that were let go since it began, which are given back behind it.
 pub record Desk (O I : Type 0) : Type 0 where
   pub below : List (Entry O)
@@ -24,7 +26,14 @@ pub record Desk (O I : Type 0) : Type 0 where
 
 -- the top entries, so many of them, are those of the rule's symbols
 abbrev pub set_apart : {O I : Type 0} → ℕ → Stack O I → Desk O I
-set_apart size x = record { below = reverse (drop size x.entries); symbols = reverse (take size x.entries); late = []; code = x.code; most = x.most }
+set_apart size x = record {
+  below = reverse (drop size x.entries);
+  symbols = reverse (take size x.entries);
+  late = [];
+  code =
+      x.code;
+  most = x.most;
+}
 
 -- What comes of a step: a spill was due and no frame word is free; a register was due that no entry can give up; or it is done.
 pub data Outcome (X : Type 0) : Type 0 where

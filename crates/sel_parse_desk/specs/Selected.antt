@@ -88,7 +88,8 @@ abbrev pub tree_of : List Leaf → List Leaf
 tree_of w = take (length w - 1) w
 
 -- A root has this code, and the number of frame words used rose, if need be, to that behind it.
-pub record HasCode {O I S F : Type 0} (of : Meaning O I S F) (q : TreeProgram) (d : Content) (before behind : Frame) (w : List Leaf) (code : List I)
+pub record HasCode {O I S F : Type 0} (of : Meaning O I S F) (q : TreeProgram) (d : Content) (before behind : Frame)
+    (w : List Leaf) (code : List I)
     : Type 0 where
   pub most : ℕ
   pub selected : Selected of q d before.first (tree_of w) code most

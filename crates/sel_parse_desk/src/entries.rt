@@ -9,7 +9,8 @@ use sel_target::Attr;
 use std::alloc::Global;
 use std::marker::Model;
 
-/// Attributes of symbols, each with the kind of its symbol's class. A token has no class. Frame words that stand for registers are below 1,024.
+/// Attributes of symbols, each with the kind of its symbol's class. A token has no class. Frame words that stand for registers are
+/// below 1,024.
 #[derive(Drop)]
 pub struct Entries<O> {
     kinds: Vec<Option<Kind>>,

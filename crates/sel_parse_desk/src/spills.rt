@@ -271,7 +271,8 @@ fn spill<T: Templates>(
     }
 }
 
-/// A register that is due: the lowest free one. Where none is free, an entry is saved first. The symbols' registers may have been given back.
+/// A register that is due: the lowest free one. Where none is free, an entry is saved first. The symbols' registers may have been
+/// given back.
 pub fn due<T: Templates>(
     setting: &Setting<T>,
     desk: &mut Desk<T::Operand, T::Instr>,

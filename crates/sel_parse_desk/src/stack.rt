@@ -1,5 +1,6 @@
 // The stack below a rule's symbols, with what its entries hold.
-ghost use Rattle.std.specs.Prelude.{◌≡◌, ℕ, ◌∷◌, ◌++◌, [], ◌+◌, ◌-◌, ◌<◌, ◌≤◌, ◌^◌, length, take, drop, replicate, true, false, OnOk, IfOk, IfSome};
+ghost use Rattle.std.specs.Prelude.{◌≡◌, ℕ, ◌∷◌, ◌++◌, [], ◌+◌, ◌-◌, ◌<◌, ◌≤◌, ◌^◌, length, take, drop, replicate, true, false};
+ghost use Rattle.std.specs.Prelude.{OnOk, IfOk, IfSome};
 ghost use Rattle.std.specs.List.{list_any, count_by, slice_get, slice_set, slice_index};
 ghost use Rattle.sel_parse_desk.specs.Entries.{attrs, kind_in, in_register, in_word};
 ghost use Rattle.sel_parse_desk.specs.Desk.{register_held, word_held};
@@ -17,7 +18,8 @@ use std::alloc::Global;
 /// How many words a frame may have.
 pub const WORDS: usize = 1024;
 
-/// The entries of a parse stack, the deepest first; for each register and each frame word, how many of them hold it; and a place before which
+/// The entries of a parse stack, the deepest first; for each register and each frame word, how many of them hold it; and a place
+/// before which
 /// none holds a register.
 #[derive(Drop)]
 pub struct Stack<O> {

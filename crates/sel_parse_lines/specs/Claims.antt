@@ -14,7 +14,8 @@ use Rattle.sel_target.specs.Meaning.{Meaning}
 use Rattle.sel_parse_selected.specs.Selected.{Selected}
 
 module _ {O I S F : Type 0} (of : Meaning O I S F) (q : TreeProgram) where
-  -- A test of attributes lasts where each step of a selection keeps it: registers, words of the frame and numbers pass it, and a shape passes it
+  -- A test of attributes lasts where each step of a selection keeps it: registers, words of the frame and numbers pass
+  -- it, and a shape passes it
   -- whose holes do.
   pub record Lasts (good : Attr O → Bool) : Type 0 where
     pub register : (r : ℕ) → good (attr.Reg r) ≡ true
@@ -26,8 +27,10 @@ module _ {O I S F : Type 0} (of : Meaning O I S F) (q : TreeProgram) where
     pub slot_place : (w : ℕ) → good (attr.Place (of.slot w)) ≡ true
     pub deferred_place : (w : ℕ) → good (attr.Place (of.slot_deferred w)) ≡ true
     pub deferred_address : (w : ℕ) → good (attr.Ea (of.slot_deferred w)) ≡ true
-    pub shape_value : (l : Line) (hs : List (Attr O)) → AllByRecursion (λ a. good a ≡ true) hs → good (attr.Value (of.operand q l hs)) ≡ true
-    pub shape_place : (l : Line) (hs : List (Attr O)) → AllByRecursion (λ a. good a ≡ true) hs → good (attr.Place (of.operand q l hs)) ≡ true
+    pub shape_value : (l : Line) (hs : List (Attr O)) → AllByRecursion (λ a. good a ≡ true) hs
+        → good (attr.Value (of.operand q l hs)) ≡ true
+    pub shape_place : (l : Line) (hs : List (Attr O)) → AllByRecursion (λ a. good a ≡ true) hs
+        → good (attr.Place (of.operand q l hs)) ≡ true
     pub shape_address : (l : Line) (hs : List (Attr O)) → AllByRecursion (λ a. good a ≡ true) hs → good (attr.Ea (of.operand q l hs)) ≡ true
 
   -- an instruction is a line whose holes are filled by attributes that pass
@@ -44,15 +47,18 @@ module _ {O I S F : Type 0} (of : Meaning O I S F) where
   abbrev pub SelectionsAreFilled : Type 0
   SelectionsAreFilled =
       (q : TreeProgram) (d : Content) (first : ℕ) (w : List Leaf) (code : List I) (most : ℕ) (good : Attr O → Bool) → Lasts of q good
-      → AllByRecursion (λ (l : Leaf). good (attr.Token l) ≡ true) w → Selected of q d first w code most → AllByRecursion (IsFilled of q good) code
+      → AllByRecursion (λ (l : Leaf). good (attr.Token l) ≡ true) w → Selected of q d first w code most
+      → AllByRecursion (IsFilled of q good) code
 
   -- By a valid description, each of whose templates has an effect, a statement has an instruction.
   abbrev pub StatementsHaveCode : Type 0
   StatementsHaveCode =
       (q : TreeProgram) (d : Content) (first : ℕ) (w : List Leaf) (code : List I) (most : ℕ) → IsValid d
-      → AllByRecursion (λ (r : Rule). (e : EffectShape) × (of.effect d.classes r ≡ Ok e)) d.rules → Selected of q d first w code most → 1 ≤ length code
+      → AllByRecursion (λ (r : Rule). (e : EffectShape) × (of.effect d.classes r ≡ Ok e)) d.rules
+      → Selected of q d first w code most → 1 ≤ length code
 
   -- It uses words below 1,024 alone, where its first slot is one of these or the next.
   abbrev pub SelectionsUseFewWords : Type 0
   SelectionsUseFewWords =
-      (q : TreeProgram) (d : Content) (first : ℕ) (w : List Leaf) (code : List I) (most : ℕ) → first ≤ 1024 → Selected of q d first w code most → most ≤ 1024
+      (q : TreeProgram) (d : Content) (first : ℕ) (w : List Leaf) (code : List I) (most : ℕ) → first ≤ 1024
+      → Selected of q d first w code most → most ≤ 1024

@@ -1,5 +1,6 @@
 -- The stack with its code, a reduction at work on it, and which registers and frame words are free.
-use Rattle.std.specs.Prelude.{ℕ, zero, suc, ◌+◌, ◌-◌, ◌==◌, ◌&&◌, ◌||◌, List, [], ◌++◌, take, drop, reverse, Option, Some, None, Bool, not, if◌then◌else◌}
+use Rattle.std.specs.Prelude.{ℕ, zero, suc, ◌+◌, ◌-◌, ◌==◌, ◌&&◌, ◌||◌, List, [], ◌++◌, take, drop, reverse, Option}
+use Rattle.std.specs.Prelude.{Some, None, Bool, not, if◌then◌else◌}
 use Rattle.std.specs.List.{list_any}
 use Rattle.std.specs.Int.{bit_at}
 use Rattle.md_reader.specs.State.{Content}

@@ -1,5 +1,6 @@
 -- Registers, and who holds them.
-use Rattle.std.specs.Prelude.{◌≡◌, ◌⊎◌, ℕ, ◌<◌, ◌≤◌, ◌/◌, ◌%◌, ◌^◌, List, Option, Some, None, Bool, true, false, slice_get, nat_le, nat_eq, if◌then◌else◌}
+use Rattle.std.specs.Prelude.{◌≡◌, ◌⊎◌, ℕ, ◌<◌, ◌≤◌, ◌/◌, ◌%◌, ◌^◌, List, Option, Some, None, Bool, true, false}
+use Rattle.std.specs.Prelude.{slice_get, nat_le, nat_eq, if◌then◌else◌}
 use Rattle.sel_regs.specs.declared.pool.Register.{Register}
 use Rattle.sel_regs.specs.declared.pool.Register.TheVariants.{Outside, Free, Taken}
 

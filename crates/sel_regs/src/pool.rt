@@ -1,6 +1,7 @@
 // The registers of a pool, and who holds them.
 
-ghost use Rattle.std.specs.Prelude.{◌≡◌, ℕ, ◌<◌, ◌≤◌, ◌/◌, ◌%◌, ◌^◌, List, length, Some, None, IsTrue, ◌↔◌, nat_eq, slice_get, slice_set, IfSome};
+ghost use Rattle.std.specs.Prelude.{◌≡◌, ℕ, ◌<◌, ◌≤◌, ◌/◌, ◌%◌, ◌^◌, List, length, Some, None, IsTrue, ◌↔◌, nat_eq, slice_get};
+ghost use Rattle.std.specs.Prelude.{slice_set, IfSome};
 ghost use Rattle.sel_regs.specs.declared.pool.Register.{Register};
 ghost use Rattle.sel_regs.specs.Pool.{bit, start_of, IsOldest, older_of};
 

@@ -1,5 +1,6 @@
 -- An instance of a rule: its holes, what they are worth, and the state in which its lines are run.
-use Rattle.std.specs.Prelude.{◌≡◌, ℕ, zero, suc, ◌*◌, ◌^◌, ◌<◌, List, [], ◌∷◌, map, Option, Some, None, IsSome, Ok, true, false, Bool, slice_get}
+use Rattle.std.specs.Prelude.{◌≡◌, ℕ, zero, suc, ◌*◌, ◌^◌, ◌<◌, List, [], ◌∷◌, map, Option, Some, None, IsSome, Ok}
+use Rattle.std.specs.Prelude.{true, false, Bool, slice_get}
 use Rattle.std.specs.List.{AllByRecursion}
 use Rattle.gg_base.specs.Sizes.{bytes_of}
 use Rattle.tree_core.specs.declared.token.Tok.{Tok}
@@ -109,7 +110,8 @@ module _ {O I S F : Type 0} (of : Meaning O I S F) where
   abbrev pub lines_of : TreeProgram → Rule → List (Attr O) → Attr O → List I
   lines_of q rule hs res = map (λ (l : Line). of.instr q l hs res) rule.lines
 
-  -- A rule that the target takes: its holes are of the symbols' kinds and have the view's numbers, and no access to memory breaks that its effect
+  -- A rule that the target takes: its holes are of the symbols' kinds and have the view's numbers, and no access to
+  -- memory breaks that its effect
   -- makes, every one, or all but those whose address divides by zero.
   pub record Instance (every : Bool) (q : TreeProgram) (f : Extent) (fs : List Extent) (classes : List Class) (rule : Rule)
       (e : EffectShape) (hs : List (Attr O)) (v : View) (m : S) : Type 0 where
@@ -122,7 +124,8 @@ module _ {O I S F : Type 0} (of : Meaning O I S F) where
     pub small : (i x : ℕ) → v.symbol i ≡ Some x → x < 2 ^ (8 * bytes_of (size_at classes rule.right i))
     pub whole : (i : ℕ) (h : Attr O) → hole hs i ≡ Some h → IsWhole h (v.symbol i)
     -- each place's address can be found
-    pub homes : (i : ℕ) (h : Attr O) (o : O) → hole hs i ≡ Some h → own_operand of h ≡ Some o → IsSome (of.names o (size_at classes rule.right i) m)
+    pub homes : (i : ℕ) (h : Attr O) (o : O) → hole hs i ≡ Some h → own_operand of h ≡ Some o
+        → IsSome (of.names o (size_at classes rule.right i) m)
     pub agrees : of.agrees q f fs v.state m
     pub room : of.has_room m
     pub read : AllByRecursion (IsReadWhere every v) (terms_of e)

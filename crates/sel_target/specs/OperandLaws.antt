@@ -39,7 +39,8 @@ module _ {O I S F : Type 0} (of : Meaning O I S F) where
     pub argument_bits : (k : ℕ) → of.registers (of.argument k) ≡ 0
     pub argument_word : (k : ℕ) → of.word (of.argument k) ≡ None
     -- a shape touches nothing that none of its holes touches
-    pub shape_touches : (q : TreeProgram) (classes : List Class) (rule : Rule) (e : EffectShape) (l : Line) (hs : List (Attr O)) (s : Spot) →
+    pub shape_touches : (q : TreeProgram) (classes : List Class) (rule : Rule) (e : EffectShape) (l : Line) (hs : List (Attr O))
+        (s : Spot) →
         of.effect classes rule ≡ Ok e → rule.give ≡ give.Shape l → Fit of classes rule.right hs → touches of (of.operand q l hs) s ≡ true →
         list_any (λ h. attr_touches of h s) hs ≡ true
     -- a hole alone, of a symbol that is a place, is that place
@@ -51,7 +52,8 @@ module _ {O I S F : Type 0} (of : Meaning O I S F) where
     pub deferred_fits_address : (w : ℕ) → w < 1024 → of.fits kind.Ea (of.slot_deferred w) ≡ true
     -- A shape may stand for what its rule gives, with its tokens' numbers longwords and their objects the program's.
     pub shape_fits : (q : TreeProgram) (classes : List Class) (rule : Rule) (e : EffectShape) (k : Kind) (l : Line) (hs : List (Attr O)) →
-        of.can_write q → IsRule classes rule → of.effect classes rule ≡ Ok e → rule.give ≡ give.Shape l → kind_at classes rule.left ≡ Some k →
+        of.can_write q → IsRule classes rule → of.effect classes rule ≡ Ok e → rule.give ≡ give.Shape l
+        → kind_at classes rule.left ≡ Some k →
         Fit of classes rule.right hs → AreSpelled q hs → of.fits k (of.operand q l hs) ≡ true
 
   -- In a state that stands for a tree state, operands read and name what is there.
@@ -61,13 +63,16 @@ module _ {O I S F : Type 0} (of : Meaning O I S F) where
         of.agrees q f fs t m → of.reads o size m ≡ Some x → x < 2 ^ (8 * bytes_of size)
     pub names_small : (q : TreeProgram) (f : Extent) (fs : List Extent) (t : State) (o : O) (size : Size) (x : ℕ) (m : S) →
         of.agrees q f fs t m → of.names o size m ≡ Some x → x < 2 ^ 32
-    pub area_bytes : (q : TreeProgram) (f : Extent) (fs : List Extent) (t : State) (m : S) → of.agrees q f fs t m → AllByRecursion (λ b. b < 256) t.area
+    pub area_bytes : (q : TreeProgram) (f : Extent) (fs : List Extent) (t : State) (m : S) → of.agrees q f fs t m
+        → AllByRecursion (λ b. b < 256) t.area
     -- an operand that names a place of the data area reads what stands there
     pub memory_read : (q : TreeProgram) (f : Extent) (fs : List Extent) (t : State) (o : O) (size : Size) (a x : ℕ) (m : S) →
-        of.agrees q f fs t m → of.fits (kind.Place size) o ≡ true → of.names o size m ≡ Some a → fetched size t.area a ≡ Some x → of.reads o size m ≡ Some x
+        of.agrees q f fs t m → of.fits (kind.Place size) o ≡ true → of.names o size m ≡ Some a → fetched size t.area a ≡ Some x
+        → of.reads o size m ≡ Some x
     -- and one that spells a register reads nothing else: such a place alone is moved to a slot
     pub place_read : (q : TreeProgram) (f : Extent) (fs : List Extent) (t : State) (o : O) (size : Size) (a x : ℕ) (m : S) →
-        of.agrees q f fs t m → of.fits (kind.Place size) o ≡ true → (of.registers o ≡ 0 → ⊥) → of.names o size m ≡ Some a → of.reads o size m ≡ Some x →
+        of.agrees q f fs t m → of.fits (kind.Place size) o ≡ true → (of.registers o ≡ 0 → ⊥) → of.names o size m ≡ Some a
+        → of.reads o size m ≡ Some x →
         fetched size t.area a ≡ Some x
     -- a local that is written has its value; each word of the frame can be read and found
     pub local_read : (q : TreeProgram) (f : Extent) (fs : List Extent) (t : State) (k x : ℕ) (m : S) →

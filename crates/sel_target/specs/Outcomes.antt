@@ -19,7 +19,8 @@ module _ {O I S F : Type 0} (of : Meaning O I S F) where
   pub record Keeps (spots : List Spot) (m m' : S) : Type 0 where
     pub reads : (o : O) (size : Size) (x : ℕ) → Untouched spots o → of.reads o size m ≡ Some x → of.reads o size m' ≡ Some x
     pub names : (o : O) (size : Size) (x : ℕ) → Untouched spots o → of.names o size m ≡ Some x → of.names o size m' ≡ Some x
-    pub agrees : (q : TreeProgram) (f : Extent) (fs : List Extent) (t : State) → AllByRecursion (IsFree f) spots → of.agrees q f fs t m → of.agrees q f fs t m'
+    pub agrees : (q : TreeProgram) (f : Extent) (fs : List Extent) (t : State) → AllByRecursion (IsFree f) spots
+        → of.agrees q f fs t m → of.agrees q f fs t m'
     pub room : of.has_room m → of.has_room m'
     pub live : of.live m' ≡ of.live m
 

@@ -45,7 +45,8 @@ module _ {O I S F : Type 0} (of : Meaning O I S F) where
     operand : (o : O) → of.fits (kind.Value size) o ≡ true → IsValue size (attr.Value o)
     register : (r : ℕ) → size ≡ Long → r < 12 → IsValue size (attr.Reg r)
 
-  -- The state in which symbol 1 is saved, or reloaded: it stands for the view's tree state, where the view's symbol 1 is n, and the accesses of
+  -- The state in which symbol 1 is saved, or reloaded: it stands for the view's tree state, where the view's symbol 1
+  -- is n, and the accesses of
   -- the line's term don't break.
   pub record IsSet (q : TreeProgram) (f : Extent) (fs : List Extent) (v : View) (n : ℕ) (t : Shape) (m : S) : Type 0 where
     pub agrees : of.agrees q f fs v.state m
@@ -68,7 +69,8 @@ module _ {O I S F : Type 0} (of : Meaning O I S F) where
 
   -- A value, a place or an address is saved in a slot, and a register is brought back; all else is kept.
   pub record SavesAndReloads : Type 0 where
-    pub value_spilled : (q : TreeProgram) (f : Extent) (fs : List Extent) (size : Size) (l : Line) (s : Saves (kind.Value size) l) (a : Attr O)
+    pub value_spilled : (q : TreeProgram) (f : Extent) (fs : List Extent) (size : Size) (l : Line)
+        (s : Saves (kind.Value size) l) (a : Attr O)
         (w n : ℕ) (v : View) (m : S) →
         IsValue size a → IsSet q f fs v n s.term m → IsSlot f w → worth of q size a m ≡ Some n → n < 2 ^ (8 * bytes_of size) →
         Sets of (saving q l a w) (WordAt w) q size (attr.Value (of.slot w)) (low size (value v s.term)) m
@@ -76,7 +78,8 @@ module _ {O I S F : Type 0} (of : Meaning O I S F) where
         (w n : ℕ) (v : View) (m : S) →
         of.fits (kind.Place size) o ≡ true → IsSet q f fs v n s.term m → IsSlot f w → of.names o size m ≡ Some n → n < 2 ^ 32 →
         SetsName of (saving q l (attr.Place o) w) (WordAt w) (of.slot_deferred w) (value v s.term) m
-    pub address_spilled : (q : TreeProgram) (f : Extent) (fs : List Extent) (l : Line) (s : Saves kind.Ea l) (o : O) (w n : ℕ) (v : View) (m : S) →
+    pub address_spilled : (q : TreeProgram) (f : Extent) (fs : List Extent) (l : Line) (s : Saves kind.Ea l) (o : O) (w n : ℕ)
+        (v : View) (m : S) →
         of.fits kind.Ea o ≡ true → IsSet q f fs v n s.term m → IsSlot f w → of.names o Long m ≡ Some n → n < 2 ^ 32 →
         SetsName of (saving q l (attr.Ea o) w) (WordAt w) (of.slot_deferred w) (value v s.term) m
     pub reloaded : (q : TreeProgram) (f : Extent) (fs : List Extent) (l : Line) (s : Reloads l) (w r n : ℕ) (v : View) (m : S) →
@@ -86,7 +89,8 @@ module _ {O I S F : Type 0} (of : Meaning O I S F) where
     pub saved_narrow : (k : Kind) (l : Line) (e : EffectShape) → of.spill_effect k l ≡ Ok e → IsNarrowEffect e
     -- these lines are valid instructions
     pub value_written : (q : TreeProgram) (size : Size) (l : Line) (a : Attr O) (w : ℕ) →
-        of.can_write q → Saves (kind.Value size) l → IsValue size a → w < 1024 → of.is_instr (of.instr q l (a ∷ []) (attr.Place (of.slot w))) ≡ true
+        of.can_write q → Saves (kind.Value size) l → IsValue size a → w < 1024
+        → of.is_instr (of.instr q l (a ∷ []) (attr.Place (of.slot w))) ≡ true
     pub place_written : (q : TreeProgram) (size : Size) (l : Line) (o : O) (w : ℕ) →
         of.can_write q → Saves (kind.Place size) l → of.fits (kind.Place size) o ≡ true → w < 1024 →
         of.is_instr (of.instr q l (attr.Place o ∷ []) (attr.Place (of.slot w))) ≡ true

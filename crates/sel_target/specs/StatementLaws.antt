@@ -39,11 +39,13 @@ module _ {O I S F : Type 0} (of : Meaning O I S F) where
     pub agrees : of.agrees q f fs t n
     pub live : of.live n ≡ of.live m
 
-  -- A course from m, which stands for t, is this step of the tree program. A branch taken, a call and a return end the course in the state before
+  -- A course from m, which stands for t, is this step of the tree program. A branch taken, a call and a return end the
+  -- course in the state before
   -- they are done: that state stands for the state before the step, and before a call or a return there is room.
   abbrev pub IsStep : TreeProgram → Extent → List Extent → State → S → Course I S → Step → Type 0
   IsStep q f fs t m c (steps.Goes s) = (n : S) × (c ≡ comes n) × Stays q f fs s m n
-  IsStep q f fs t m c (steps.Serves b s) = (n : S) × (c ≡ record { written = one_byte b; ending = Comes n }) × Stays q f fs s m n × (of.answer n ≡ s.running.result)
+  IsStep q f fs t m c (steps.Serves b s) = (n : S) × (c ≡ record { written = one_byte b; ending = Comes n })
+      × Stays q f fs s m n × (of.answer n ≡ s.running.result)
   IsStep q f fs t m c (steps.GoesTo label s) = (n : S) × (c ≡ ends (Goes (label_name label) n)) × Stays q f fs s m n
   IsStep q f fs t m c (steps.Enters g arguments s) =
       (n : S) × (c ≡ ends (Calls (function_label g.name) (length arguments) n [])) × Stays q f fs t m n × of.has_room n
@@ -58,7 +60,8 @@ module _ {O I S F : Type 0} (of : Meaning O I S F) where
     pub own : own_operand of attribute ≡ Some operand_is
     pub place : PlaceIs of f t m size operand_is g
 
-  -- The deed of an act, with these holes and numbers. A branch's relation compares as the rule's restrictions say; a call names a function with its
+  -- The deed of an act, with these holes and numbers. A branch's relation compares as the rule's restrictions say; a
+  -- call names a function with its
   -- number of arguments, which are what is pushed.
   abbrev pub DoesAct : TreeProgram → Extent → List Restriction → List (Attr O) → View → S → ActShape → Deed → Type 0
   DoesAct q f rs hs v m (StoreHome size i t) (Puts g n) = HomeIs f v.state m hs i size g × (value v t ≡ n)
@@ -67,7 +70,8 @@ module _ {O I S F : Type 0} (of : Meaning O I S F) where
       (att_of (hole hs i) ≡ Some (att.Branch rel label)) × AllByRecursion (IsSignedBy i rel) rs × (value v a ≡ x) × (value v b ≡ y)
   DoesAct q f rs hs v m (Push t) (Pushes n) = value v t ≡ n
   DoesAct q f rs hs v m Call (Enters function count) =
-      (att_of (hole hs 1) ≡ Some (att.Callee function count)) × (takes (args_of q.functions function) count ≡ true) × (length v.state.running.pushed ≡ count)
+      (att_of (hole hs 1) ≡ Some (att.Callee function count)) × (takes (args_of q.functions function) count ≡ true)
+      × (length v.state.running.pushed ≡ count)
   DoesAct q f rs hs v m (Save i) (Saves k) = (att_of (hole hs i) ≡ Some (att.Slot k)) × (k < f.locals)
   DoesAct q f rs hs v m (Return t) (Leaves n) = value v t ≡ n
   DoesAct q f rs hs v m Jump (Jumps label) = att_of (hole hs 1) ≡ Some (att.Label label)

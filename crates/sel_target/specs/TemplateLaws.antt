@@ -61,28 +61,38 @@ module _ {O I S F : Type 0} (of : Meaning O I S F) where
         Ready of q f fs classes rule e hs attr.Nothing v m → rule.give ≡ give.Shape l →
         (m' : S) × (of.run (lines_of of q rule hs attr.Nothing) m ≡ comes m') × Keeps of [] m m'
     -- a value is read
-    pub value_shape : (q : TreeProgram) (f : Extent) (fs : List Extent) (classes : List Class) (rule : Rule) (e : EffectShape) (t : Shape) (size : Size)
+    pub value_shape : (q : TreeProgram) (f : Extent) (fs : List Extent) (classes : List Class) (rule : Rule) (e : EffectShape)
+        (t : Shape) (size : Size)
         (l : Line) (hs : List (Attr O)) (v : View) (m : S) →
-        Instance of true q f fs classes rule e hs v m → rule.give ≡ give.Shape l → kind_at classes rule.left ≡ Some (kind.Value size) → e.act ≡ Value t →
+        Instance of true q f fs classes rule e hs v m → rule.give ≡ give.Shape l → kind_at classes rule.left
+        ≡ Some (kind.Value size) → e.act ≡ Value t →
         of.reads (of.operand q l hs) size m ≡ Some (value v t)
     -- a place in memory and an address are named
-    pub place_shape : (q : TreeProgram) (f : Extent) (fs : List Extent) (classes : List Class) (rule : Rule) (e : EffectShape) (a : Shape) (size : Size)
+    pub place_shape : (q : TreeProgram) (f : Extent) (fs : List Extent) (classes : List Class) (rule : Rule) (e : EffectShape)
+        (a : Shape) (size : Size)
         (l : Line) (hs : List (Attr O)) (v : View) (m : S) →
         Instance of true q f fs classes rule e hs v m → rule.give ≡ give.Shape l → kind_at classes rule.left ≡ Some (kind.Place size) →
         e.act ≡ PlaceAt size a → of.names (of.operand q l hs) size m ≡ Some (value v a)
-    pub address_shape : (q : TreeProgram) (f : Extent) (fs : List Extent) (classes : List Class) (rule : Rule) (e : EffectShape) (t : Shape) (size : Size)
+    pub address_shape : (q : TreeProgram) (f : Extent) (fs : List Extent) (classes : List Class) (rule : Rule) (e : EffectShape)
+        (t : Shape) (size : Size)
         (l : Line) (hs : List (Attr O)) (v : View) (m : S) →
-        Instance of true q f fs classes rule e hs v m → rule.give ≡ give.Shape l → kind_at classes rule.left ≡ Some kind.Ea → e.act ≡ Address t →
+        Instance of true q f fs classes rule e hs v m → rule.give ≡ give.Shape l → kind_at classes rule.left ≡ Some kind.Ea
+        → e.act ≡ Address t →
         of.names (of.operand q l hs) size m ≡ Some (value v t)
     -- a symbol's own place keeps its operand
-    pub home_shape : (q : TreeProgram) (classes : List Class) (rule : Rule) (e : EffectShape) (size : Size) (i : ℕ) (l : Line) (hs : List (Attr O)) (h : Attr O) →
-        of.effect classes rule ≡ Ok e → rule.give ≡ give.Shape l → e.act ≡ PlaceHome size i → Fit of classes rule.right hs → hole hs i ≡ Some h →
+    pub home_shape : (q : TreeProgram) (classes : List Class) (rule : Rule) (e : EffectShape) (size : Size) (i : ℕ) (l : Line)
+        (hs : List (Attr O)) (h : Attr O) →
+        of.effect classes rule ≡ Ok e → rule.give ≡ give.Shape l → e.act ≡ PlaceHome size i → Fit of classes rule.right hs
+        → hole hs i ≡ Some h →
         own_operand of h ≡ Some (of.operand q l hs)
     -- a register and a number are a symbol's own
     pub register_shape : (classes : List Class) (rule : Rule) (e : EffectShape) (i : ℕ) (l : Line) →
-        of.effect classes rule ≡ Ok e → rule.give ≡ give.Shape l → kind_at classes rule.left ≡ Some kind.Reg → l.pieces ≡ piece.Hole i ∷ [] →
+        of.effect classes rule ≡ Ok e → rule.give ≡ give.Shape l → kind_at classes rule.left ≡ Some kind.Reg → l.pieces
+        ≡ piece.Hole i ∷ [] →
         e.act ≡ Value (Symbol i)
-    pub number_shape : (q : TreeProgram) (f : Extent) (fs : List Extent) (classes : List Class) (rule : Rule) (e : EffectShape) (i n : ℕ) (l : Line)
+    pub number_shape : (q : TreeProgram) (f : Extent) (fs : List Extent) (classes : List Class) (rule : Rule) (e : EffectShape)
+        (i n : ℕ) (l : Line)
         (hs : List (Attr O)) (h : Attr O) (v : View) (m : S) →
         Instance of true q f fs classes rule e hs v m → rule.give ≡ give.Shape l → kind_at classes rule.left ≡ Some kind.Con →
-        l.pieces ≡ piece.Hole i ∷ [] → hole hs i ≡ Some h → worth of q Long h m ≡ Some n → (t : Shape) × (e.act ≡ Number t) × (value v t ≡ n)
+        l.pieces ≡ piece.Hole i ∷ [] → hole hs i ≡ Some h → worth of q Long h m ≡ Some n → (t : Shape) × (e.act ≡ Number t)
+        × (value v t ≡ n)

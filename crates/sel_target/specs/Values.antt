@@ -1,4 +1,5 @@
--- What the symbols of a rule stand for, and what the terms of an effect are worth: by the value of terms, with the symbols' values, and with
+-- What the symbols of a rule stand for, and what the terms of an effect are worth: by the value of terms, with the
+-- symbols' values, and with
 -- the memory and the last result of a tree state.
 use Rattle.std.specs.Prelude.{◌≡◌, ℕ, ◌+◌, ◌-◌, ◌%◌, ◌^◌, ◌<◌, Bool, true, Option, Some, None, IsSome, unwrap_or, slice_get}
 use Rattle.std.specs.Prelude.{slice_index, length}
@@ -38,7 +39,8 @@ term_state v = record {
 abbrev pub value : View → Shape → ℕ
 value v t = term.value (term_state v) t
 
--- The symbols that a term names have numbers, and no access to memory that it makes breaks: every one, or all but those whose address divides
+-- The symbols that a term names have numbers, and no access to memory that it makes breaks: every one, or all but those
+-- whose address divides
 -- by zero, which are never made.
 abbrev pub IsReadWhere : Bool → View → Shape → Type 0
 IsReadWhere every v t = Safe every (λ i. IsSome (v.symbol i)) v.state.area (term_state v) t
@@ -111,5 +113,6 @@ module _ {O I S F : Type 0} (of : Meaning O I S F) where
   -- An operand stands for a place of a size: a local's and an argument's are longwords and have their own operands.
   pub data PlaceIs (f : Extent) (t : State) (m : S) (size : Size) (o : O) : (g : Place) → Type 0 where
     local : (k : ℕ) → size ≡ Long → o ≡ of.local k → k < f.locals → k < 1024 → PlaceIs f t m size o (places.Local k)
-    argument : (k : ℕ) → size ≡ Long → o ≡ of.argument (k + 1) → k < length t.running.arguments → PlaceIs f t m size o (places.Argument (k + 1))
+    argument : (k : ℕ) → size ≡ Long → o ≡ of.argument (k + 1) → k < length t.running.arguments
+        → PlaceIs f t m size o (places.Argument (k + 1))
     memory : (a : ℕ) → of.names o size m ≡ Some a → PlaceIs f t m size o (places.Memory size a)

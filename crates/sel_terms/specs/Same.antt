@@ -4,7 +4,8 @@ use Rattle.gg_base.specs.Sizes.{bytes_of}
 use Rattle.gg_base.specs.declared.size.Size.{Size}
 use Rattle.term_core.specs.Shape.{Shape}
 use Rattle.term_core.specs.Order.{same_term}
-use Rattle.sel_terms.specs.Effects.{ActShape, EffectShape, Value, Number, Address, PlaceHome, PlaceAt, StoreHome, StoreAt, Branch, Push, Call, Save, Return, Jump}
+use Rattle.sel_terms.specs.Effects.{ActShape, EffectShape, Value, Number, Address, PlaceHome, PlaceAt, StoreHome}
+use Rattle.sel_terms.specs.Effects.{StoreAt, Branch, Push, Call, Save, Return, Jump}
 
 abbrev pub same_size : Size → Size → Bool
 same_size z y = bytes_of z == bytes_of y

@@ -14,7 +14,8 @@ use Rattle.sel_terms.specs.declared.role.TwoRole.{TwoRole}
 use Rattle.sel_terms.specs.declared.role.Role.{Role}
 use Rattle.sel_terms.specs.declared.role.Role.TheVariants as role
 use Rattle.sel_terms.specs.Effects.{ActShape, EffectShape, Value, Number, Address, PlaceHome, PlaceAt}
-use Rattle.sel_terms.specs.Parts.{PartShape, SubtreeShape, Worth, Home, At, Does, role_of, value_of, leaf_part, one_part, two_part, own_divisors}
+use Rattle.sel_terms.specs.Parts.{PartShape, SubtreeShape, Worth, Home, At, Does, role_of, value_of, leaf_part}
+use Rattle.sel_terms.specs.Parts.{one_part, two_part, own_divisors}
 
 -- divisions are done kid by kid, from left to right, and then the token's own
 abbrev pub one : OneRole → SubtreeShape → SubtreeShape

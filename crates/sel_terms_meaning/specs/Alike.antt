@@ -9,7 +9,8 @@ use Rattle.term_core_accesses.specs.Accesses.{Access, divides_well, accesses, Is
 use Rattle.term_core_accesses.specs.Keeping.{IsNarrow}
 use Rattle.md_reader.specs.declared.types.Class.{Class}
 use Rattle.md_reader.specs.declared.types.Rule.{Rule}
-use Rattle.sel_terms.specs.Effects.{ActShape, EffectShape, Value, Number, Address, PlaceHome, PlaceAt, StoreHome, StoreAt, Branch, Push, Call, Save, Return, Jump, norm_effect}
+use Rattle.sel_terms.specs.Effects.{ActShape, EffectShape, Value, Number, Address, PlaceHome, PlaceAt, StoreHome}
+use Rattle.sel_terms.specs.Effects.{StoreAt, Branch, Push, Call, Save, Return, Jump, norm_effect}
 use Rattle.sel_terms.specs.Reading.{effect_read}
 use Rattle.sel_terms_meaning.specs.Meaning.{effect_meaning, divides_by_zero, terms_of_act}
 
@@ -94,7 +95,8 @@ abbrev pub SameReads : Bool → State → List Shape → List Shape → Type 0
 SameReads every m [] [] = Unit {0}
 SameReads every m [] (t ∷ ts) = ⊥
 SameReads every m (s ∷ ss) [] = ⊥
-SameReads every m (s ∷ ss) (t ∷ ts) = ((x : Access) → IsOneOf x (accesses every m s) ↔ IsOneOf x (accesses every m t)) × SameReads every m ss ts
+SameReads every m (s ∷ ss) (t ∷ ts) = ((x : Access) → IsOneOf x (accesses every m s) ↔ IsOneOf x (accesses every m t))
+    × SameReads every m ss ts
 
 pub record KeepsEffect (facts : List Fact) (m : State) (e : EffectShape) : Type 0 where
   pub means : effect_meaning facts m (norm_effect facts e) ≡ effect_meaning facts m e
@@ -103,4 +105,5 @@ pub record KeepsEffect (facts : List Fact) (m : State) (e : EffectShape) : Type 
 
 -- norming under a rule's facts keeps what an effect does, where the symbols are as the facts say
 abbrev pub NormKeepsEffects : Type 0
-NormKeepsEffects = (facts : List Fact) (m : State) (e : EffectShape) → AreSettled facts → Respects facts m → IsNarrowEffect e → KeepsEffect facts m e
+NormKeepsEffects = (facts : List Fact) (m : State) (e : EffectShape) → AreSettled facts → Respects facts m → IsNarrowEffect e
+    → KeepsEffect facts m e

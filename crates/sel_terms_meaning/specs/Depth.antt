@@ -24,7 +24,8 @@ AllWithin k (t ∷ ts) = Within k t × AllWithin k ts
 abbrev pub IsWithin : ℕ → EffectShape → Type 0
 IsWithin k e = AllWithin k (terms_of_act e.act) × AllWithin k e.divisors
 
--- The terms of a pattern's effect are at most three times as deep as the pattern has symbols, and one: a shift or a remainder puts three operators for
+-- The terms of a pattern's effect are at most three times as deep as the pattern has symbols, and one: a shift or a
+-- remainder puts three operators for
 -- one token. A right side has at most 16 symbols, so they are at most 49 deep.
 abbrev pub WantedIsShallow : Type 0
 WantedIsShallow = (classes : List Class) (r : Rule) → IsWithin (3 * length r.right + 1) (effect_read classes r)

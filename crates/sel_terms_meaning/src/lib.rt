@@ -1,4 +1,5 @@
-//! What effects make of a state, and that effects of one normal form make the same of it. Each function does nothing; its clause is the law.
+//! What effects make of a state, and that effects of one normal form make the same of it. Each function does nothing; its clause is
+//! the law.
 #![tactic(auto)]
 
 ghost use Rattle.sel_terms_meaning.specs.Alike.{NormKeepsEffects, ShownIsAlike, WantedIsNarrow};

@@ -25,7 +25,17 @@ impl Model for State {
 
     ghost Value = { Machine };
 
-    ghost view = { λ s. record { registers = []; words = []; arguments = []; pushed = []; callers = s.seen; area = []; input = []; functions = [] } };
+    ghost view = { λ s. record {
+      registers = [];
+      words = [];
+      arguments = [];
+      pushed = [];
+      callers = s.seen;
+      area = [];
+      input =
+          [];
+      functions = [];
+    } };
 }
 
 /// The toy machine.

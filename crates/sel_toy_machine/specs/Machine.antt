@@ -1,5 +1,6 @@
 -- The toy machine: registers, the innermost call's frame words, and the rest as a tree program's state has it.
-use Rattle.std.specs.Prelude.{◌≡◌, ℕ, ◌-◌, ◌*◌, ◌%◌, ◌^◌, ◌<◌, ◌==◌, nat_lt, List, [], ◌∷◌, Option, Some, None, Bool, true, false, cond, slice_get, slice_set}
+use Rattle.std.specs.Prelude.{◌≡◌, ℕ, ◌-◌, ◌*◌, ◌%◌, ◌^◌, ◌<◌, ◌==◌, nat_lt, List, [], ◌∷◌, Option, Some, None, Bool}
+use Rattle.std.specs.Prelude.{true, false, cond, slice_get, slice_set}
 use Rattle.std.specs.Prelude.{length, map}
 use Rattle.std.specs.Option.{option_map}
 use Rattle.std.specs.List.{AllByRecursion}

@@ -14,7 +14,8 @@ use Rattle.sel_toy_machine.specs.declared.operand.Destination.{Destination}
 use Rattle.sel_toy_machine.specs.declared.operand.Destination.TheVariants as destination
 use Rattle.sel_toy_machine.specs.declared.operand.Instr.{Instr}
 use Rattle.sel_toy_machine.specs.declared.operand.Instr.TheVariants as instruction
-use Rattle.sel_toy_machine.specs.Machine.{Machine, in_register, in_word, long, reads, names, with_register, with_word, with_argument, with_area}
+use Rattle.sel_toy_machine.specs.Machine.{Machine, in_register, in_word, long, reads, names, with_register, with_word}
+use Rattle.sel_toy_machine.specs.Machine.{with_argument, with_area}
 
 abbrev pub taken : Source → Size → Machine → Option ℕ
 taken (source.Read o) size m = reads o size m
@@ -67,7 +68,8 @@ called (Some name) n count m = ends (Calls (function_label name) count m [])
 abbrev pub step : Instr → Machine → Course Instr Machine
 step (instruction.Move size s d) m = read_then (taken s size m) (λ x. comes (put_in d x m))
 step (instruction.Add a b d) m = read_then (taken a Long m) (λ x. read_then (taken b Long m) (λ y. comes (put_in d (add32 x y) m)))
-step (instruction.Divide a b d) m = read_then (taken a Long m) (λ x. read_then (taken b Long m) (λ y. divided (div32 x y) (λ z. comes (put_in d z m))))
+step (instruction.Divide a b d) m = read_then (taken a Long m) (λ x. read_then (taken b Long m)
+    (λ y. divided (div32 x y) (λ z. comes (put_in d z m))))
 step (instruction.Store size o s) m = read_then (taken s Long m) (λ x. put_place size o x m)
 step (instruction.Push s) m = read_then (taken s Long m) (λ x. comes (record m { pushed = x ∷ m.pushed }))
 step (instruction.Branch rel a b label) m =

@@ -40,7 +40,8 @@ program = record { functions = main ∷ []; objects = [] }
 
 -- class reg Reg, class rval Value l, class stmt Nothing
 abbrev pub classes : List Class
-classes = record { name = codes "reg"; kind = kind.Reg } ∷ record { name = codes "rval"; kind = kind.Value Long } ∷ record { name = codes "stmt"; kind = kind.Nothing } ∷ []
+classes = record { name = codes "reg"; kind = kind.Reg } ∷ record { name = codes "rval"; kind = kind.Value Long } ∷ record
+    { name = codes "stmt"; kind = kind.Nothing } ∷ []
 
 -- rule reg : Plus rval rval, do a %2,%3,%0, give fresh
 abbrev pub rule : Rule
@@ -48,7 +49,11 @@ rule = record {
   left = 0;
   right = sym.Tok tok.Plus ∷ sym.Class 1 ∷ sym.Class 1 ∷ [];
   restrictions = [];
-  lines = record { line = 1; pieces = piece.Bytes (codes "a ") ∷ piece.Hole 2 ∷ piece.Bytes (codes ",") ∷ piece.Hole 3 ∷ piece.Bytes (codes ",") ∷ piece.Hole 0 ∷ [] } ∷ [];
+  lines = record {
+    line = 1;
+    pieces = piece.Bytes (codes "a ") ∷ piece.Hole 2 ∷ piece.Bytes (codes ",") ∷ piece.Hole 3 ∷
+        piece.Bytes (codes ",") ∷ piece.Hole 0 ∷ [];
+  } ∷ [];
   give = give.Fresh;
 }
 

@@ -15,7 +15,8 @@ use Rattle.sel_toy_machine.specs.Templates.{undivided, where_true, or_fault}
 
 -- a line that saves a value of its size, or an address, or that reloads
 abbrev pub found_spill : Kind → Option Form → Option EffectShape
-found_spill (kind.Value size) (Some (form.Move z i)) = where_true ((bytes_of z == bytes_of size) && (i == 1)) (undivided (StoreHome size 0 (Symbol 1)))
+found_spill (kind.Value size) (Some (form.Move z i)) = where_true ((bytes_of z == bytes_of size) && (i == 1))
+    (undivided (StoreHome size 0 (Symbol 1)))
 found_spill (kind.Place size) (Some (form.Address i)) = where_true (i == 1) (undivided (StoreHome Long 0 (Symbol 1)))
 found_spill kind.Ea (Some (form.Address i)) = where_true (i == 1) (undivided (StoreHome Long 0 (Symbol 1)))
 found_spill kind.Reg (Some (form.Move Long i)) = where_true (i == 1) (undivided (Value (Symbol 1)))

@@ -1,5 +1,6 @@
 -- What the toy machine's templates do, and the instructions that they become.
-use Rattle.std.specs.Prelude.{ℕ, zero, suc, ◌==◌, ◌&&◌, Bool, true, false, List, [], ◌∷◌, Option, Some, None, Result, Ok, Err, slice_get, if◌then◌else◌}
+use Rattle.std.specs.Prelude.{ℕ, zero, suc, ◌==◌, ◌&&◌, Bool, true, false, List, [], ◌∷◌, Option, Some, None, Result}
+use Rattle.std.specs.Prelude.{Ok, Err, slice_get, if◌then◌else◌}
 use Rattle.gg_base.specs.declared.size.Size.{Size}
 use Rattle.gg_base.specs.declared.size.Size.TheVariants.{Long}
 use Rattle.gg_base.specs.Sizes.{bytes_of}
@@ -17,7 +18,8 @@ use Rattle.md_reader.specs.declared.types.Rule.{Rule}
 use Rattle.md_reader.specs.Patterns.{kind_at}
 use Rattle.term_core.specs.declared.operator.BinaryOp.TheVariants as binary
 use Rattle.term_core.specs.Shape.{Symbol, Memory, Binary}
-use Rattle.sel_terms.specs.Effects.{ActShape, EffectShape, Value, Number, Address, PlaceHome, PlaceAt, StoreHome, StoreAt, Branch, Push, Call, Save, Return, Jump}
+use Rattle.sel_terms.specs.Effects.{ActShape, EffectShape, Value, Number, Address, PlaceHome, PlaceAt, StoreHome}
+use Rattle.sel_terms.specs.Effects.{StoreAt, Branch, Push, Call, Save, Return, Jump}
 use Rattle.sel_target.specs.declared.fault.TemplateKind.TheVariants as faults
 use Rattle.sel_target.specs.Meaning.{Fault}
 use Rattle.sel_target.specs.EffectTerms.{begins_with_save}
@@ -86,7 +88,8 @@ symbol right (suc i) = slice_get right i
 
 -- what a line does, where its symbols are of the sizes
 abbrev pub found_form : List Class → Rule → Form → Option EffectShape
-found_form classes rule (form.Move size i) = where_true (gives_register rule.give && is_sized classes rule.right size i) (undivided (Value (Symbol i)))
+found_form classes rule (form.Move size i) = where_true (gives_register rule.give && is_sized classes rule.right size i)
+    (undivided (Value (Symbol i)))
 found_form classes rule (form.Address i) = None
 found_form classes rule (form.Add i j) =
     where_true (gives_register rule.give && (is_sized classes rule.right Long i && is_sized classes rule.right Long j))
@@ -95,16 +98,20 @@ found_form classes rule (form.Divide i j) =
     where_true (gives_register rule.give && (is_sized classes rule.right Long i && is_sized classes rule.right Long j))
     (quotient i j)
 found_form classes rule (form.Store size i j) =
-    where_true (gives_nothing rule.give && (is_home classes size (symbol rule.right i) && is_sized classes rule.right Long j)) (undivided (StoreHome size i (Symbol j)))
+    where_true (gives_nothing rule.give && (is_home classes size (symbol rule.right i) && is_sized classes rule.right Long j))
+    (undivided (StoreHome size i (Symbol j)))
 found_form classes rule (form.StoreAt size i j) =
     where_true (gives_nothing rule.give && (holds_register classes (symbol rule.right i) && is_sized classes rule.right Long j))
     (undivided (StoreAt size (Symbol i) (Symbol j)))
-found_form classes rule (form.Push i) = where_true (gives_nothing rule.give && is_sized classes rule.right Long i) (undivided (Push (Symbol i)))
+found_form classes rule (form.Push i) = where_true (gives_nothing rule.give && is_sized classes rule.right Long i)
+    (undivided (Push (Symbol i)))
 found_form classes rule (form.Branch i j k) =
-    where_true (gives_nothing rule.give && (is_sized classes rule.right Long j && is_sized classes rule.right Long k)) (undivided (Branch i (Symbol j) (Symbol k)))
+    where_true (gives_nothing rule.give && (is_sized classes rule.right Long j && is_sized classes rule.right Long k))
+    (undivided (Branch i (Symbol j) (Symbol k)))
 found_form classes rule (form.Jump i) = where_true (gives_nothing rule.give && (i == 1)) (undivided Jump)
 found_form classes rule (form.Call i) = where_true (gives_nothing rule.give && (i == 1)) (undivided Call)
-found_form classes rule (form.Return i) = where_true (gives_nothing rule.give && is_sized classes rule.right Long i) (undivided (Return (Symbol i)))
+found_form classes rule (form.Return i) = where_true (gives_nothing rule.give && is_sized classes rule.right Long i)
+    (undivided (Return (Symbol i)))
 found_form classes rule (form.Save i) = where_true (gives_nothing rule.give && begins_with_save rule.right) (undivided (Save i))
 
 abbrev pub found_line : List Class → Rule → Option Form → Option EffectShape
@@ -113,12 +120,17 @@ found_line classes rule (Some f) = found_form classes rule f
 
 -- what a shape gives, by the kind of its class
 abbrev pub found_shape : List Class → List Sym → Option Kind → ShapeForm → Option EffectShape
-found_shape classes right (Some kind.Reg) (shape.Alone i) = where_true (holds_register classes (symbol right i)) (undivided (Value (Symbol i)))
+found_shape classes right (Some kind.Reg) (shape.Alone i) = where_true (holds_register classes (symbol right i))
+    (undivided (Value (Symbol i)))
 found_shape classes right (Some kind.Con) (shape.Alone i) = where_true (is_sized classes right Long i) (undivided (Number (Symbol i)))
-found_shape classes right (Some (kind.Place size)) (shape.Alone i) = where_true (is_home classes size (symbol right i)) (undivided (PlaceHome size i))
-found_shape classes right (Some (kind.Value size)) (shape.Based i) = where_true (holds_register classes (symbol right i)) (undivided (Value (Memory size (Symbol i))))
-found_shape classes right (Some (kind.Place size)) (shape.Based i) = where_true (holds_register classes (symbol right i)) (undivided (PlaceAt size (Symbol i)))
-found_shape classes right (Some kind.Ea) (shape.Based i) = where_true (holds_register classes (symbol right i)) (undivided (Address (Symbol i)))
+found_shape classes right (Some (kind.Place size)) (shape.Alone i) = where_true (is_home classes size (symbol right i))
+    (undivided (PlaceHome size i))
+found_shape classes right (Some (kind.Value size)) (shape.Based i) = where_true (holds_register classes (symbol right i))
+    (undivided (Value (Memory size (Symbol i))))
+found_shape classes right (Some (kind.Place size)) (shape.Based i) = where_true (holds_register classes (symbol right i))
+    (undivided (PlaceAt size (Symbol i)))
+found_shape classes right (Some kind.Ea) (shape.Based i) = where_true (holds_register classes (symbol right i))
+    (undivided (Address (Symbol i)))
 found_shape classes right k f = None
 
 -- a rule has one line, or a shape alone

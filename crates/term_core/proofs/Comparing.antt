@@ -30,7 +30,8 @@ order_by_nodes (Unary o t) (Unary p u) ns ms =
     ap (ordering_then (nat_cmp (unary_rank o) (unary_rank p))) (order_by_nodes t u ns ms) ∙ sym (then_assoc _ (order t u) (nodes_order ns ms))
 order_by_nodes (Binary o a b) (Binary p c d) ns ms =
     let parts : nodes_order ((nodes_of a ++ nodes_of b) ++ ns) ((nodes_of c ++ nodes_of d) ++ ms) ≡ ordering_then (ordering_then (order a c) (order b d)) (nodes_order ns ms) =
-    simp append_assoc (order_by_nodes a c (nodes_of b ++ ns) (nodes_of d ++ ms) ∙ ap (ordering_then (order a c)) (order_by_nodes b d ns ms) ∙ sym (then_assoc (order a c) (order b d) (nodes_order ns ms))) in
+    simp append_assoc (order_by_nodes a c (nodes_of b ++ ns) (nodes_of d ++ ms) ∙ ap (ordering_then (order a c)) (order_by_nodes b d ns ms)
+    ∙ sym (then_assoc (order a c) (order b d) (nodes_order ns ms))) in
     ap (ordering_then (nat_cmp (binary_rank o) (binary_rank p))) parts ∙ sym (then_assoc _ (ordering_then (order a c) (order b d)) (nodes_order ns ms))
 order_by_nodes s t ns ms = refl
 
@@ -45,7 +46,8 @@ order_whole s t =
     ∙ order_by_nodes s t [] [] ∙ then_last (order s t)
 
 -- the first two nodes, and what is behind them
-pub compared : (n m : Node) (s t : Bor Term) (all rest new all' rest' new' : List (Bor Term)) → all ≡ rest ++ s ∷ [] → all' ≡ rest' ++ t ∷ [] → Opens n (shape_of s.now) rest new → Opens m (shape_of t.now) rest' new' → nodes_order (waiting all) (waiting all') ≡ ordering_then (node_order n m) (nodes_order (waiting new) (waiting new'))
+pub compared : (n m : Node) (s t : Bor Term) (all rest new all' rest' new' : List (Bor Term)) → all ≡ rest ++ s ∷ [] → all' ≡ rest' ++ t ∷ [] → Opens n (shape_of s.now) rest new
+    → Opens m (shape_of t.now) rest' new' → nodes_order (waiting all) (waiting all') ≡ ordering_then (node_order n m) (nodes_order (waiting new) (waiting new'))
 compared n m s t all rest new all' rest' new' e f p q =
     ap (λ x. nodes_order x (waiting all')) (opened n s all rest new e p) ∙ ap (nodes_order (n ∷ waiting new)) (opened m t all' rest' new' f q)
 

@@ -14,8 +14,12 @@ use Rattle.term_core.specs.declared.operator.BinaryOp.TheVariants.{Add, Sub, Mul
 use Rattle.term_core.specs.Operators.{binary}
 use Rattle.term_core.specs.Shape.{Shape, Constant, Symbol, LastResult, Memory, Unary, Binary}
 use Rattle.term_core.specs.Order.{order}
-use Rattle.term_core.specs.Norm.{in_order, make_neg, make_com, make_zx8, make_zx16, make_sx8, make_sx16, make_unary, add_constant, add_ordered, make_add, make_sub, mul_ordered, make_mul, make_div, is_count_symbol, masks_nothing, and_ordered, make_and, or_ordered, make_or, xor_ordered, make_xor, make_ash, make_binary, norm}
-use Rattle.term_core.specs.Equations.{Equation, is_commutative, constant, constants, difference, exchanged, neg_twice, com_twice, add_zero, or_zero, xor_zero, mul_one, and_ones, add_constants, zx8_of_zx8, zx8_of_sx8, zx16_of_zx16, zx16_of_sx16, sx8_of_sx8, sx8_of_zx8, sx16_of_sx16, sx16_of_zx16, zx8_of_byte, zx8_of_memory, zx16_of_word, zx16_of_memory, shift_by_constant, shift_by_zx8, shift_by_sx8, count_of_count, spelled_alike, Reaches, stays, by, chain, in_memory, in_unary, in_binary}
+use Rattle.term_core.specs.Norm.{in_order, make_neg, make_com, make_zx8, make_zx16, make_sx8, make_sx16, make_unary, add_constant, add_ordered, make_add, make_sub, mul_ordered}
+use Rattle.term_core.specs.Norm.{make_mul, make_div, is_count_symbol, masks_nothing, and_ordered, make_and, or_ordered, make_or, xor_ordered, make_xor, make_ash, make_binary, norm}
+use Rattle.term_core.specs.Equations.{Equation, is_commutative, constant, constants, difference, exchanged, neg_twice, com_twice, add_zero, or_zero, xor_zero, mul_one, and_ones}
+use Rattle.term_core.specs.Equations.{add_constants, zx8_of_zx8, zx8_of_sx8, zx16_of_zx16, zx16_of_sx16, sx8_of_sx8, sx8_of_zx8, sx16_of_sx16, sx16_of_zx16, zx8_of_byte}
+use Rattle.term_core.specs.Equations.{zx8_of_memory, zx16_of_word, zx16_of_memory, shift_by_constant, shift_by_zx8, shift_by_sx8, count_of_count, spelled_alike, Reaches, stays, by}
+use Rattle.term_core.specs.Equations.{chain, in_memory, in_unary, in_binary}
 
 equal_of : (c k : ℕ) → (c == k) ≡ true → c ≡ k
 equal_of c k h = grind (arith, nat_tests)
@@ -91,7 +95,8 @@ module _ (facts : List Fact) where
   add_ordered_reached a b = stays (Binary Add a b)
 
   -- where the parts may be exchanged
-  in_order_reached : (op : BinaryOp) (f : Shape → Shape → Shape) → is_commutative op ≡ true → ((a b : Shape) → Reaches facts (Binary op a b) (f a b)) → (o : Ordering) (a b : Shape) → order a b ≡ o → Reaches facts (Binary op a b) (in_order f o a b)
+  in_order_reached : (op : BinaryOp) (f : Shape → Shape → Shape) → is_commutative op ≡ true → ((a b : Shape) → Reaches facts (Binary op a b) (f a b)) → (o : Ordering) (a b : Shape)
+      → order a b ≡ o → Reaches facts (Binary op a b) (in_order f o a b)
   in_order_reached op f c law Less a b h = law a b
   in_order_reached op f c law Equal a b h = law a b
   in_order_reached op f c law Greater a b h = chain (by (exchanged op a b c h)) (law b a)
@@ -123,7 +128,8 @@ module _ (facts : List Fact) where
   masked_count c (Symbol i) h k = neutral And 31 c (Symbol i) (count_of_count i k) h
   masked_count c t h k = cc
 
-  masked : (ones small count : Bool) (c : ℕ) (t : Shape) → (c == 2 ^ 32 - 1) ≡ ones → (c == 31) ≡ small → is_count_symbol facts t ≡ count → (ones || (small && count)) ≡ true → Reaches facts (Binary And (Constant c) t) t
+  masked : (ones small count : Bool) (c : ℕ) (t : Shape) → (c == 2 ^ 32 - 1) ≡ ones → (c == 31) ≡ small → is_count_symbol facts t ≡ count → (ones || (small && count)) ≡ true
+      → Reaches facts (Binary And (Constant c) t) t
   masked true small count c t o s k h = neutral And (2 ^ 32 - 1) c t (and_ones t) o
   masked false true true c t o s k h = masked_count c t s k
   masked false true false c t o s k h = cc

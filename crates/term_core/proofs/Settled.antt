@@ -14,7 +14,8 @@ use Rattle.term_core.specs.declared.operator.BinaryOp.TheVariants.{Add, Sub, Mul
 use Rattle.term_core.specs.Operators.{binary}
 use Rattle.term_core.specs.Shape.{Shape, Constant, Symbol, LastResult, Memory, Unary, Binary}
 use Rattle.term_core.specs.Order.{order}
-use Rattle.term_core.specs.Norm.{in_order, make_neg, make_com, make_zx8, make_zx16, make_sx8, make_sx16, make_unary, add_constant, add_ordered, make_add, make_sub, mul_ordered, make_mul, make_div, masks_nothing, and_ordered, or_ordered, xor_ordered, make_ash, make_binary, norm}
+use Rattle.term_core.specs.Norm.{in_order, make_neg, make_com, make_zx8, make_zx16, make_sx8, make_sx16, make_unary, add_constant, add_ordered, make_add, make_sub, mul_ordered}
+use Rattle.term_core.specs.Norm.{make_mul, make_div, masks_nothing, and_ordered, or_ordered, xor_ordered, make_ash, make_binary, norm}
 use Rattle.term_core.specs.Normal.{IsNormal, AreSettled}
 use Rattle.term_core.proofs.Ordered.{order_turned}
 
@@ -111,7 +112,8 @@ module _ (facts : List Fact) where
   stays_in_order : (f : Shape → Shape → Shape) (o : Ordering) (a b : Shape) → order a b ≡ o → o ≡ Greater → in_order f (order b a) b a ≡ f b a
   stays_in_order f o a b e g = ap (λ x. in_order f x b a) (order_turned b a ∙ ap ordering_reverse (e ∙ g))
 
-  in_order_normal : (f : Shape → Shape → Shape) → ((a b : Shape) → IsNormal facts a → IsNormal facts b → in_order f (order a b) a b ≡ f a b → IsNormal facts (f a b)) → (o : Ordering) (a b : Shape) → order a b ≡ o → IsNormal facts a → IsNormal facts b → IsNormal facts (in_order f o a b)
+  in_order_normal : (f : Shape → Shape → Shape) → ((a b : Shape) → IsNormal facts a → IsNormal facts b → in_order f (order a b) a b ≡ f a b → IsNormal facts (f a b))
+      → (o : Ordering) (a b : Shape) → order a b ≡ o → IsNormal facts a → IsNormal facts b → IsNormal facts (in_order f o a b)
   in_order_normal f law Less a b e ha hb = law a b ha hb (ap (λ x. in_order f x a b) e)
   in_order_normal f law Equal a b e ha hb = law a b ha hb (ap (λ x. in_order f x a b) e)
   in_order_normal f law Greater a b e ha hb = law b a hb ha (stays_in_order f Greater a b e refl)
@@ -130,7 +132,8 @@ module _ (facts : List Fact) where
   div_normal (Constant c) (Constant d) ha hb = chosen (d == 0) _ _ (λ e. (tt, tt, taken (d == 0) _ _ e)) (λ e. tt)
   div_normal a b ha hb = (ha, hb, refl)
 
-  shift_normal : (k : ℕ) (t : Shape) → IsNormal facts t → (nat_lt k 32 ≡ false → make_ash (Constant k) t ≡ Binary Ash (Constant k) t) → IsNormal facts (if nat_lt k 32 then make_mul (Constant (2 ^ k)) t else Binary Ash (Constant k) t)
+  shift_normal : (k : ℕ) (t : Shape) → IsNormal facts t → (nat_lt k 32 ≡ false → make_ash (Constant k) t ≡ Binary Ash (Constant k) t)
+      → IsNormal facts (if nat_lt k 32 then make_mul (Constant (2 ^ k)) t else Binary Ash (Constant k) t)
   shift_normal k t h stays = chosen (nat_lt k 32) _ _ (λ e. mul_normal (Constant (2 ^ k)) t tt h) (λ e. (tt, h, stays e))
 
   ash_normal : (c t : Shape) → IsNormal facts c → IsNormal facts t → IsNormal facts (make_ash c t)

@@ -21,7 +21,8 @@ weight_push [] t = omega arith
 weight_push (u ∷ ts) t = omega (arith, weight_push ts t)
 
 -- the two parts of a form, of which the first lies on top
-pub opens_two : (form : Form) (op : BinaryOp) (a b : Bor Term) (old mid new : List (Bor Term)) → form ≡ forms.Binary op a b → mid ≡ old ++ b ∷ [] → new ≡ mid ++ a ∷ [] → Opens (node.Binary op) (shape_of_form form) old new
+pub opens_two : (form : Form) (op : BinaryOp) (a b : Bor Term) (old mid new : List (Bor Term)) → form ≡ forms.Binary op a b → mid ≡ old ++ b ∷ [] → new ≡ mid ++ a ∷ []
+    → Opens (node.Binary op) (shape_of_form form) old new
 opens_two form op a b old mid new e f g =
     subst (λ x. Opens (node.Binary op) (shape_of_form x) old new) (sym e)
     (record { nodes = ap (λ x. node.Binary op ∷ x) read; lighter = omega (arith, weight_push old b, weight_push mid a, ap weight f, ap weight g) })
@@ -35,6 +36,7 @@ opens_two form op a b old mid new e f g =
 pub opened : (n : Node) (t : Bor Term) (all rest new : List (Bor Term)) → all ≡ rest ++ t ∷ [] → Opens n (shape_of t.now) rest new → waiting all ≡ n ∷ waiting new
 opened n t all rest new e opens = ap waiting e ∙ waiting_push rest t ∙ sym opens.nodes
 
-pub next_opened : (nodes nodes' total : List Node) (n : Node) (t : Bor Term) (all rest new : List (Bor Term)) → nodes ++ waiting all ≡ total → all ≡ rest ++ t ∷ [] → Opens n (shape_of t.now) rest new → nodes' ≡ nodes ++ n ∷ [] → nodes' ++ waiting new ≡ total
+pub next_opened : (nodes nodes' total : List Node) (n : Node) (t : Bor Term) (all rest new : List (Bor Term)) → nodes ++ waiting all ≡ total → all ≡ rest ++ t ∷ []
+    → Opens n (shape_of t.now) rest new → nodes' ≡ nodes ++ n ∷ [] → nodes' ++ waiting new ≡ total
 next_opened nodes nodes' total n t all rest new h e opens f =
     ap (λ x. x ++ waiting new) f ∙ append_assoc nodes (n ∷ []) (waiting new) ∙ ap (λ x. nodes ++ x) (sym (opened n t all rest new e opens)) ∙ h

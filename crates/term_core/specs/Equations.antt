@@ -27,9 +27,11 @@ is_quotient_by_zero op n = false
 
 pub data Equation (facts : List Fact) : Shape → Shape → Type 0 where
   constant : (op : UnaryOp) (n : ℕ) → Equation facts (Unary op (Constant n)) (unary_constant op n)
-  constants : (op : BinaryOp) (m n : ℕ) → is_quotient_by_zero op n ≡ false → Equation facts (Binary op (Constant m) (Constant n)) (binary_constant op m n)
+  constants : (op : BinaryOp) (m n : ℕ) → is_quotient_by_zero op n ≡ false
+      → Equation facts (Binary op (Constant m) (Constant n)) (binary_constant op m n)
   difference : (a b : Shape) → Equation facts (Binary Sub a b) (Binary Add a (Unary Neg b))
-  exchanged : (op : BinaryOp) (a b : Shape) → is_commutative op ≡ true → order a b ≡ Greater → Equation facts (Binary op a b) (Binary op b a)
+  exchanged : (op : BinaryOp) (a b : Shape) → is_commutative op ≡ true → order a b ≡ Greater
+      → Equation facts (Binary op a b) (Binary op b a)
   neg_twice : (t : Shape) → Equation facts (Unary Neg (Unary Neg t)) t
   com_twice : (t : Shape) → Equation facts (Unary Com (Unary Com t)) t
   add_zero : (t : Shape) → Equation facts (Binary Add (Constant 0) t) t
@@ -37,7 +39,8 @@ pub data Equation (facts : List Fact) : Shape → Shape → Type 0 where
   xor_zero : (t : Shape) → Equation facts (Binary Xor (Constant 0) t) t
   mul_one : (t : Shape) → Equation facts (Binary Mul (Constant 1) t) t
   and_ones : (t : Shape) → Equation facts (Binary And (Constant (2 ^ 32 - 1)) t) t
-  add_constants : (c d : ℕ) (t : Shape) → Equation facts (Binary Add (Constant c) (Binary Add (Constant d) t)) (Binary Add (binary_constant Add c d) t)
+  add_constants : (c d : ℕ) (t : Shape) → Equation facts (Binary Add (Constant c) (Binary Add (Constant d) t))
+      (Binary Add (binary_constant Add c d) t)
   zx8_of_zx8 : (t : Shape) → Equation facts (Unary Zx8 (Unary Zx8 t)) (Unary Zx8 t)
   zx8_of_sx8 : (t : Shape) → Equation facts (Unary Zx8 (Unary Sx8 t)) (Unary Zx8 t)
   zx16_of_zx16 : (t : Shape) → Equation facts (Unary Zx16 (Unary Zx16 t)) (Unary Zx16 t)

@@ -6,7 +6,8 @@ use Rattle.term_core.specs.declared.operator.UnaryOp.TheVariants.{Neg, Com, Zx8,
 use Rattle.term_core.specs.declared.operator.BinaryOp.{BinaryOp}
 use Rattle.term_core.specs.declared.operator.BinaryOp.TheVariants.{Add, Sub, Mul, Div, And, Or, Xor, Ash}
 use Rattle.term_core.specs.declared.term.Term.{Term}
-use Rattle.term_core.specs.declared.term.Term.TheVariants.{K, V, Res, Mem', Neg', Com', Zx8', Zx16', Sx8', Sx16', Add', Sub', Mul', Div', And', Or', Xor', Ash'}
+use Rattle.term_core.specs.declared.term.Term.TheVariants.{K, V, Res, Mem', Neg', Com', Zx8', Zx16', Sx8', Sx16', Add'}
+use Rattle.term_core.specs.declared.term.Term.TheVariants.{Sub', Mul', Div', And', Or', Xor', Ash'}
 
 pub data Shape : Type 0 where
   Constant : (n : ℕ) → Shape

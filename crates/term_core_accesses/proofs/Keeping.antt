@@ -10,7 +10,10 @@ use Rattle.term_core.specs.declared.operator.BinaryOp.TheVariants.{Add, Sub, Mul
 use Rattle.term_core.specs.Shape.{Shape, Constant, Symbol, Memory, Unary, Binary}
 use Rattle.term_core.specs.Norm.{unary_constant, binary_constant, norm}
 use Rattle.term_core.specs.Value.{State, value, Respects}
-use Rattle.term_core.specs.Equations.{Equation, is_commutative, is_quotient_by_zero, constant, constants, difference, exchanged, neg_twice, com_twice, add_zero, or_zero, xor_zero, mul_one, and_ones, add_constants, zx8_of_zx8, zx8_of_sx8, zx16_of_zx16, zx16_of_sx16, sx8_of_sx8, sx8_of_zx8, sx16_of_sx16, sx16_of_zx16, zx8_of_byte, zx8_of_memory, zx16_of_word, zx16_of_memory, shift_by_constant, shift_by_zx8, shift_by_sx8, count_of_count, spelled_alike, Reaches, stays, by, chain, in_memory, in_unary, in_binary}
+use Rattle.term_core.specs.Equations.{Equation, is_commutative, is_quotient_by_zero, constant, constants, difference, exchanged, neg_twice, com_twice, add_zero, or_zero, xor_zero}
+use Rattle.term_core.specs.Equations.{mul_one, and_ones, add_constants, zx8_of_zx8, zx8_of_sx8, zx16_of_zx16, zx16_of_sx16, sx8_of_sx8, sx8_of_zx8, sx16_of_sx16, sx16_of_zx16}
+use Rattle.term_core.specs.Equations.{zx8_of_byte, zx8_of_memory, zx16_of_word, zx16_of_memory, shift_by_constant, shift_by_zx8, shift_by_sx8, count_of_count, spelled_alike}
+use Rattle.term_core.specs.Equations.{Reaches, stays, by, chain, in_memory, in_unary, in_binary}
 use Rattle.term_core.proofs.Values
 use Rattle.term_core.proofs.Words
 use Rattle.term_core.proofs.Reaching.{norm_reached}

@@ -30,7 +30,8 @@ abbrev pub accesses : Bool → State → Shape → List Access
 accesses every m (Constant n) = []
 accesses every m (Symbol i) = []
 accesses every m LastResult = []
-accesses every m (Memory size a) = accesses every m a ++ (if every || divides_well m a then record { size = size; address = value m a } ∷ [] else [])
+accesses every m (Memory size a) = accesses every m a ++ (if every || divides_well m a then record
+    { size = size; address = value m a } ∷ [] else [])
 accesses every m (Unary op t) = accesses every m t
 accesses every m (Binary op a b) = accesses every m a ++ accesses every m b
 
@@ -53,6 +54,7 @@ abbrev pub Safe : Bool → (ℕ → Type 0) → List ℕ → State → Shape →
 Safe every known area m (Constant n) = Unit {0}
 Safe every known area m (Symbol i) = known i
 Safe every known area m LastResult = Unit {0}
-Safe every known area m (Memory size a) = Safe every known area m a × ((every || divides_well m a) ≡ true → is_inside size area (value m a) ≡ true)
+Safe every known area m (Memory size a) = Safe every known area m a × ((every || divides_well m a) ≡ true
+    → is_inside size area (value m a) ≡ true)
 Safe every known area m (Unary op t) = Safe every known area m t
 Safe every known area m (Binary op a b) = Safe every known area m a × Safe every known area m b

@@ -23,7 +23,8 @@ pub record KeepsAccesses (facts : List Fact) (every : Bool) (m : State) (s : Sha
   pub same : (x : Access) → IsOneOf x (accesses every m (norm facts s)) ↔ IsOneOf x (accesses every m s)
 
 abbrev pub NormKeepsAccesses : Type 0
-NormKeepsAccesses = (facts : List Fact) (every : Bool) (m : State) (s : Shape) → Respects facts m → IsNarrow s → KeepsAccesses facts every m s
+NormKeepsAccesses = (facts : List Fact) (every : Bool) (m : State) (s : Shape) → Respects facts m → IsNarrow s
+    → KeepsAccesses facts every m s
 
 -- where symbols that are spelled alike have numbers alike
 abbrev pub NormIsSafe : Type 0

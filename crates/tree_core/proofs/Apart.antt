@@ -43,11 +43,13 @@ unlike_counts m n c o ne = ⊎_elim (λ few. omega (arith, few)) (λ some. absur
 which : (n a c d e f : ℕ) → Once a n c → Once (a + 1) n d → Once (a + 2) n e → Once (a + 3) n f → Which n a c d e f
 which n a c d e f p q r s =
     let no : (m k : ℕ) → Once m n k → (m ≡ n → ⊥) → k ≡ 0 = λ m k o ne. unlike_counts m n k o ne in
-    ⊎_elim (λ low. below low (no a c p (λ z. omega (arith, z, low))) (no (a + 1) d q (λ z. omega (arith, z, low))) (no (a + 2) e r (λ z. omega (arith, z, low))) (no (a + 3) f s (λ z. omega (arith, z, low)))) (λ high.
+    ⊎_elim (λ low. below low (no a c p (λ z. omega (arith, z, low))) (no (a + 1) d q (λ z. omega (arith, z, low))) (no (a + 2) e r (λ z. omega (arith, z, low)))
+    (no (a + 3) f s (λ z. omega (arith, z, low)))) (λ high.
     ⊎_elim (λ z0. first z0 (p.counts z0) (no (a + 1) d q (λ z. omega (arith, z, z0))) (no (a + 2) e r (λ z. omega (arith, z, z0))) (no (a + 3) f s (λ z. omega (arith, z, z0)))) (λ n0.
     ⊎_elim (λ z1. second z1 (no a c p n0) (q.counts z1) (no (a + 2) e r (λ z. omega (arith, z, z1))) (no (a + 3) f s (λ z. omega (arith, z, z1)))) (λ n1.
     ⊎_elim (λ z2. third z2 (no a c p n0) (no (a + 1) d q n1) (r.counts z2) (no (a + 3) f s (λ z. omega (arith, z, z2)))) (λ n2.
-    ⊎_elim (λ z3. fourth z3 (no a c p n0) (no (a + 1) d q n1) (no (a + 2) e r n2) (s.counts z3)) (λ n3. above (omega (arith, high, n0, n1, n2, n3)) (no a c p n0) (no (a + 1) d q n1) (no (a + 2) e r n2) (no (a + 3) f s n3))
+    ⊎_elim (λ z3. fourth z3 (no a c p n0) (no (a + 1) d q n1) (no (a + 2) e r n2) (s.counts z3))
+    (λ n3. above (omega (arith, high, n0, n1, n2, n3)) (no a c p n0) (no (a + 1) d q n1) (no (a + 2) e r n2) (no (a + 3) f s n3))
     (cases_eq (a + 3) n)) (cases_eq (a + 2) n)) (cases_eq (a + 1) n)) (cases_eq a n)) (cases_lt n a)
 
 four_by : (n a c d e f t : ℕ) → Which n a c d e f → t ≡ c + (d + (e + (f + 0))) → (t ≤ 1) × (1 ≤ t → (a ≤ n) × (n < a + 4)) × (a ≤ n → n < a + 4 → t ≡ 1)
@@ -106,7 +108,8 @@ one_of n [] i d lt le le' = absurd (omega arith)
 one_of n (l ∷ ls) zero d lt le le' = let h = times-append n (four l.at) (bytes_linked ls) in let f = (four_is n l.at).counts le le' in omega (arith, h, f)
 one_of n (l ∷ ls) (suc i) d lt le le' = let h = times-append n (four l.at) (bytes_linked ls) in let r = one_of n ls i d (omega arith) le le' in omega (arith, h, r)
 
-two_of : (n : ℕ) (ls : List Link) (i j : ℕ) (d : Link) → i < j → j < length ls → (get_or ls i d).at ≤ n → n < (get_or ls i d).at + 4 → (get_or ls j d).at ≤ n → n < (get_or ls j d).at + 4 → 2 ≤ times n (bytes_linked ls)
+two_of : (n : ℕ) (ls : List Link) (i j : ℕ) (d : Link) → i < j → j < length ls → (get_or ls i d).at ≤ n → n < (get_or ls i d).at + 4 → (get_or ls j d).at ≤ n → n < (get_or ls j d).at + 4
+    → 2 ≤ times n (bytes_linked ls)
 two_of n [] i j d lt lt' a b e f = absurd (omega arith)
 two_of n (l ∷ ls) i zero d lt lt' a b e f = absurd (omega arith)
 two_of n (l ∷ ls) zero (suc j) d lt lt' a b e f =

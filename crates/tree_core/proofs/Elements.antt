@@ -12,11 +12,13 @@ default_free [] i d e lt = absurd (omega arith)
 default_free (x ∷ xs) zero d e lt = refl
 default_free (x ∷ xs) (suc i) d e lt = default_free xs i d e (omega arith)
 
-pub all_more : {X : Type 0} (P : X → Type 0) (xs : List X) (i : ℕ) (x : X) → i < length xs → x ≡ get_or xs i x → ((k : ℕ) (d : X) → k < i → P (get_or xs k d)) → P x → (k : ℕ) (d : X) → k < i + 1 → P (get_or xs k d)
+pub all_more : {X : Type 0} (P : X → Type 0) (xs : List X) (i : ℕ) (x : X) → i < length xs → x ≡ get_or xs i x → ((k : ℕ) (d : X) → k < i → P (get_or xs k d)) → P x → (k : ℕ) (d : X)
+    → k < i + 1 → P (get_or xs k d)
 all_more {X} P xs i x lt e before here k d lt' =
     ⊎_elim (λ low. before k d low) (λ high. let z : k ≡ i = omega arith in subst (λ (j : ℕ). P (get_or xs j d)) (sym z) (subst P (e ∙ default_free xs i x d lt) here)) (cases_lt k i)
 
-pub all_more_at : {X : Type 0} (P : X → Type 0) (xs : List X) (i : ℕ) (e : X) → i < length xs → ((k : ℕ) (d : X) → k < i → P (get_or xs k d)) → P (get_or xs i e) → (k : ℕ) (d : X) → k < i + 1 → P (get_or xs k d)
+pub all_more_at : {X : Type 0} (P : X → Type 0) (xs : List X) (i : ℕ) (e : X) → i < length xs → ((k : ℕ) (d : X) → k < i → P (get_or xs k d)) → P (get_or xs i e) → (k : ℕ) (d : X) → k < i
+    + 1 → P (get_or xs k d)
 all_more_at {X} P xs i e lt before here = all_more P xs i (get_or xs i e) lt (default_free xs i e (get_or xs i e) lt) before here
 
 pub all_fails : {X : Type 0} (P : X → Type 0) (xs : List X) (i : ℕ) (x : X) → i < length xs → x ≡ get_or xs i x → (P x → ⊥) → All P xs → ⊥

@@ -47,17 +47,21 @@ met_as : (r d : Bool) (w base : ℕ) (h g : ℕ → Bool) (xs : List ℕ) → r 
 met_as r d w base h g xs a b m =
     subst (λ (q : Bool). MetOnce q g (met_once base h xs)) a (subst (λ (n : ℕ). MetOnce r g (met_once n h xs)) b m)
 
-pub link_met : (r : Bool) (w base : ℕ) (h g : ℕ → Bool) (all : Option (ℕ → Bool)) (i : ℕ) (ls : List Link) (d : Link) (at : ℕ) → at ≡ (get_or ls i d).at → r ≡ true → w ≡ base → i < length ls → MetOnce r g (met_once w h (four at)) → met_once base h (bytes_linked (drop i ls)) ≡ all → met_once base g (bytes_linked (drop (i + 1) ls)) ≡ all
+pub link_met : (r : Bool) (w base : ℕ) (h g : ℕ → Bool) (all : Option (ℕ → Bool)) (i : ℕ) (ls : List Link) (d : Link) (at : ℕ) → at ≡ (get_or ls i d).at → r ≡ true → w ≡ base
+    → i < length ls → MetOnce r g (met_once w h (four at)) → met_once base h (bytes_linked (drop i ls)) ≡ all → met_once base g (bytes_linked (drop (i + 1) ls)) ≡ all
 link_met r w base h g all i ls d at z a b lt m k =
-    ap (λ (o : Option (ℕ → Bool)). met_on base o (bytes_linked (drop (i + 1) ls))) (sym (met_as r true w base h g (four (get_or ls i d).at) a b (subst (λ (n : ℕ). MetOnce r g (met_once w h (four n))) z m)))
+    ap (λ (o : Option (ℕ → Bool)). met_on base o (bytes_linked (drop (i + 1) ls)))
+    (sym (met_as r true w base h g (four (get_or ls i d).at) a b (subst (λ (n : ℕ). MetOnce r g (met_once w h (four n))) z m)))
     ∙ sym (once-append base h (four (get_or ls i d).at) (bytes_linked (drop (i + 1) ls)))
     ∙ ap (met_once base h) (sym (bytes_there i ls d lt))
     ∙ k
 
-pub link_unmet : (r : Bool) (w base : ℕ) (h g : ℕ → Bool) (all : Option (ℕ → Bool)) (i : ℕ) (ls : List Link) (d : Link) (at : ℕ) → at ≡ (get_or ls i d).at → r ≡ false → w ≡ base → i < length ls → MetOnce r g (met_once w h (four at)) → met_once base h (bytes_linked (drop i ls)) ≡ all → false ≡ is_some all
+pub link_unmet : (r : Bool) (w base : ℕ) (h g : ℕ → Bool) (all : Option (ℕ → Bool)) (i : ℕ) (ls : List Link) (d : Link) (at : ℕ) → at ≡ (get_or ls i d).at → r ≡ false → w ≡ base
+    → i < length ls → MetOnce r g (met_once w h (four at)) → met_once base h (bytes_linked (drop i ls)) ≡ all → false ≡ is_some all
 link_unmet r w base h g all i ls d at z a b lt m k =
     ap is_some (
-    ap (λ (o : Option (ℕ → Bool)). met_on base o (bytes_linked (drop (i + 1) ls))) (sym (met_as r false w base h g (four (get_or ls i d).at) a b (subst (λ (n : ℕ). MetOnce r g (met_once w h (four n))) z m)))
+    ap (λ (o : Option (ℕ → Bool)). met_on base o (bytes_linked (drop (i + 1) ls)))
+    (sym (met_as r false w base h g (four (get_or ls i d).at) a b (subst (λ (n : ℕ). MetOnce r g (met_once w h (four n))) z m)))
     ∙ sym (once-append base h (four (get_or ls i d).at) (bytes_linked (drop (i + 1) ls)))
     ∙ ap (met_once base h) (sym (bytes_there i ls d lt))
     ∙ k

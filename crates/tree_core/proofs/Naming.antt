@@ -80,7 +80,8 @@ pub record StandsTwice (name : List ℕ) (fs : List TreeFn) : Type 0 where
   pub one : (d : TreeFn) → (get_or fs first d).name ≡ name
   pub other : (d : TreeFn) → (get_or fs second d).name ≡ name
 
-twice_there : (name : List ℕ) (f : TreeFn) (fs : List TreeFn) → (2 ≤ named name fs → StandsTwice name fs) → (b : Bool) → bytes_eq f.name name ≡ b → 2 ≤ cond b 1 0 + named name fs → StandsTwice name (f ∷ fs)
+twice_there : (name : List ℕ) (f : TreeFn) (fs : List TreeFn) → (2 ≤ named name fs → StandsTwice name fs) → (b : Bool) → bytes_eq f.name name ≡ b → 2 ≤ cond b 1 0 + named name fs
+    → StandsTwice name (f ∷ fs)
 twice_there name f fs rest true e le = here (is_named name fs (omega arith))
   where
     here : IsNamed name fs → StandsTwice name (f ∷ fs)

@@ -32,7 +32,8 @@ no_push : (ps : List TreeItem) (n : ℕ) → length ps ≡ n → n ≡ 0 → ps 
 no_push [] n e z = refl
 no_push (p ∷ ps) n e z = absurd (omega (arith, e, z))
 
-behind_pushes : (is : List TreeItem) → AfterPushes is → AfterCall is → (i : TreeItem) (r : Role) → role_of i ≡ r → (n : ℕ) (ps : List TreeItem) → AllPush ps → length ps ≡ n → goes_on (after_item r n false) (rest_of is) ≡ true → CallsInOrder (ps ++ i ∷ is)
+behind_pushes : (is : List TreeItem) → AfterPushes is → AfterCall is → (i : TreeItem) (r : Role) → role_of i ≡ r → (n : ℕ) (ps : List TreeItem) → AllPush ps → length ps ≡ n
+    → goes_on (after_item r n false) (rest_of is) ≡ true → CallsInOrder (ps ++ i ∷ is)
 behind_pushes is f t i role.Pushes ri n ps a l e =
     let one : length (ps ++ i ∷ []) ≡ n + 1 = omega (arith, length-append ps (i ∷ []), l) in
     subst CallsInOrder (append_assoc ps (i ∷ []) is) (f (n + 1) e (ps ++ i ∷ []) (AllPush-push ps i a ri) one)
@@ -46,7 +47,8 @@ behind_pushes is f t i role.Other ri n ps a l e =
     let h : in_order 0 false is ≡ true = subst (λ (m : ℕ). in_order m false is ≡ true) q.0 q.1 in
     subst (λ (qs : List TreeItem). CallsInOrder (qs ++ i ∷ is)) (sym z) (other i is ri (f 0 h [] tt refl))
 
-behind_call : (is : List TreeItem) → AfterPushes is → AfterCall is → (i : TreeItem) (r : Role) → role_of i ≡ r → goes_on (after_item r 0 true) (rest_of is) ≡ true → (ps : List TreeItem) (c : TreeItem) → AllPush ps → role_of c ≡ role.Calls (length ps) → CallsInOrder (ps ++ c ∷ i ∷ is)
+behind_call : (is : List TreeItem) → AfterPushes is → AfterCall is → (i : TreeItem) (r : Role) → role_of i ≡ r → goes_on (after_item r 0 true) (rest_of is) ≡ true
+    → (ps : List TreeItem) (c : TreeItem) → AllPush ps → role_of c ≡ role.Calls (length ps) → CallsInOrder (ps ++ c ∷ i ∷ is)
 behind_call is f t i role.Pushes ri e ps c a rc = call ps c (i ∷ is) _ a rc (behind_pushes is f t i role.Pushes ri 0 [] tt refl e) refl
 behind_call is f t i (role.Calls k) ri e ps c a rc = call ps c (i ∷ is) _ a rc (behind_pushes is f t i (role.Calls k) ri 0 [] tt refl e) refl
 behind_call is f t i role.Saves ri e ps c a rc = saved ps c i is _ a rc ri (f 0 e [] tt refl) refl

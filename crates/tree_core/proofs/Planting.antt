@@ -60,7 +60,8 @@ pub record Taken (waiting rest new : List (Bor (List Tree))) (ts others below : 
   pub kids : below.now ≡ (out-Tree first).kids.items
   pub new_is : new ≡ (rest ++ others ∷ []) ++ below ∷ []
 
-pub one_waits : (waiting rest new : List (Bor (List Tree))) (ts others below : Bor (List Tree)) (first : Tree) (w : List Leaf) → Taken waiting rest new ts others below first → waiting_onto waiting w ≡ (out-Tree first).leaf ∷ waiting_onto new w
+pub one_waits : (waiting rest new : List (Bor (List Tree))) (ts others below : Bor (List Tree)) (first : Tree) (w : List Leaf) → Taken waiting rest new ts others below first
+    → waiting_onto waiting w ≡ (out-Tree first).leaf ∷ waiting_onto new w
 one_waits waiting rest new ts others below first w h =
     let front = (out-Tree first).leaf in
     ap (λ (q : List (Bor (List Tree))). waiting_onto q w) h.last
@@ -78,7 +79,8 @@ pub one_waits_works : (waiting rest new : List (Bor (List Tree))) (ts others bel
 one_waits_works waiting rest new ts others below first h =
     let a = ap work h.last in
     let b = work-push rest ts in
-    let d : nodes (forest_of_all ts.now) ≡ suc (nodes (forest_of_all (out-Tree first).kids.items) + nodes (forest_of_all others.now)) = ap (λ (q : List Tree). nodes (forest_of_all q)) h.split ∙ first_nodes first (forest_of_all others.now) in
+    let d : nodes (forest_of_all ts.now) ≡ suc (nodes (forest_of_all (out-Tree first).kids.items) + nodes (forest_of_all others.now)) =
+    ap (λ (q : List Tree). nodes (forest_of_all q)) h.split ∙ first_nodes first (forest_of_all others.now) in
     let e = ap work h.new_is in
     let f = work-push (rest ++ others ∷ []) below in
     let g = work-push rest others in
@@ -86,11 +88,13 @@ one_waits_works waiting rest new ts others below first h =
     omega arith
 
 -- the leaves so far, with those to come
-pub gathered : (leaves new all w : List Leaf) (waiting after : List (Bor (List Tree))) (l : Leaf) → new ≡ leaves ++ l ∷ [] → waiting_onto waiting w ≡ l ∷ waiting_onto after w → leaves ++ waiting_onto waiting w ≡ all → new ++ waiting_onto after w ≡ all
+pub gathered : (leaves new all w : List Leaf) (waiting after : List (Bor (List Tree))) (l : Leaf) → new ≡ leaves ++ l ∷ [] → waiting_onto waiting w ≡ l ∷ waiting_onto after w → leaves
+    ++ waiting_onto waiting w ≡ all → new ++ waiting_onto after w ≡ all
 gathered leaves new all w waiting after l e f h =
     rw (e, append_assoc) (ap (λ (q : List Leaf). leaves ++ q) (sym f) ∙ h)
 
-pub begun : (t : Tree) (leaves : List Leaf) (waiting : List (Bor (List Tree))) (below : Bor (List Tree)) (w : List Leaf) → leaves ≡ (out-Tree t).leaf ∷ [] → waiting ≡ below ∷ [] → below.now ≡ (out-Tree t).kids.items → leaves ++ waiting_onto waiting w ≡ leaves_onto (forest_of t) w
+pub begun : (t : Tree) (leaves : List Leaf) (waiting : List (Bor (List Tree))) (below : Bor (List Tree)) (w : List Leaf) → leaves ≡ (out-Tree t).leaf ∷ [] → waiting ≡ below ∷ []
+    → below.now ≡ (out-Tree t).kids.items → leaves ++ waiting_onto waiting w ≡ leaves_onto (forest_of t) w
 begun t leaves waiting below w a b d =
     ap (λ (q : List Leaf). q ++ waiting_onto waiting w) a
     ∙ ap (λ (q : List (Bor (List Tree))). (out-Tree t).leaf ∷ waiting_onto q w) b

@@ -24,7 +24,8 @@ at_item i [] d lt = absurd (omega arith)
 at_item zero (s ∷ w) d lt = refl
 at_item (suc i) (s ∷ w) d lt = at_item i w d (omega arith)
 
-pub goes_on : (text new : List ℕ) (b : Bool) (i : ℕ) (w : List Leaf) (d : Leaf) (all : List ℕ) → i < length w → new ≡ text ++ spaced b (name_of (get_or w i d).tok) → text ++ to_write b (drop i w) ≡ all → new ++ to_write false (drop (i + 1) w) ≡ all
+pub goes_on : (text new : List ℕ) (b : Bool) (i : ℕ) (w : List Leaf) (d : Leaf) (all : List ℕ) → i < length w → new ≡ text ++ spaced b (name_of (get_or w i d).tok) → text
+    ++ to_write b (drop i w) ≡ all → new ++ to_write false (drop (i + 1) w) ≡ all
 goes_on text new b i w d all lt e h =
     let one : i + 1 ≡ suc i = omega arith in
     rw (one, e, append_assoc)

@@ -7,7 +7,8 @@ use Rattle.tree_core.specs.declared.program.TreeProgram.{TreeProgram}
 use Rattle.tree_core.specs.Labels.{LabelsOnce, TargetsStand}
 use Rattle.tree_core.specs.Valid.{NamesRight, ItemsStand, PushesStand, objects_lie, LinksLie, IsValid}
 
-pub valid_so : (p : TreeProgram) (fs : List TreeFn) (os : List Object) (n : ℕ) (b : Bool) → fs ≡ p.functions → os ≡ p.objects → n ≡ length os → NamesRight fs → All (ItemsStand fs n) fs → LabelsOnce fs → All TargetsStand fs → All PushesStand fs → objects_lie 65536 os ≡ true → (IsTrue b ↔ All (LinksLie (length os)) os) → IsTrue b ↔ IsValid p
+pub valid_so : (p : TreeProgram) (fs : List TreeFn) (os : List Object) (n : ℕ) (b : Bool) → fs ≡ p.functions → os ≡ p.objects → n ≡ length os → NamesRight fs → All (ItemsStand fs n) fs
+    → LabelsOnce fs → All TargetsStand fs → All PushesStand fs → objects_lie 65536 os ≡ true → (IsTrue b ↔ All (LinksLie (length os)) os) → IsTrue b ↔ IsValid p
 valid_so p fs os n b f o len names roots once targets calls objects links = (
   λ t. record {
     names = subst NamesRight f names;

@@ -1,5 +1,6 @@
 -- What it says that the numbers of a list were met, window by window.
-use Rattle.std.proofs.Common.{◌≡◌, ◌⊎◌, inl, inr, ⊎_elim, min, ℕ, zero, suc, ◌+◌, ◌<◌, ◌≤◌, List, [], ◌∷◌, Bool, true, false, cond, not, ◌&&◌, ◌||◌, eqb, refl, sym, ap, ◌∙◌, subst, Option, Some, None, arith, replicate, get_or}
+use Rattle.std.proofs.Common.{◌≡◌, ◌⊎◌, inl, inr, ⊎_elim, min, ℕ, zero, suc, ◌+◌, ◌<◌, ◌≤◌, List, [], ◌∷◌, Bool, true, false, cond, not, ◌&&◌, ◌||◌, eqb, refl, sym, ap, ◌∙◌, subst}
+use Rattle.std.proofs.Common.{Option, Some, None, arith, replicate, get_or}
 use Rattle.std.specs.Prelude.{nat_le, is_some}
 use Rattle.std.proofs.lemmas.Bool.{eqb-true, eq-eqb, le-leb, leb-true, leb-false, lt-ltb, cases_lt, both_ways, or_cases}
 use Rattle.tree_core.specs.Window.{covers, added, added_all, met_once, all_met, lesser, better, least}
@@ -92,7 +93,8 @@ again_here h m ms q =
     let one : times m (m ∷ ms) ≡ 1 + times m ms = ap (λ (b : Bool). cond b 1 0 + times m ms) (eq-eqb m m refl) in
     record { which = m; again = inl (q, omega (arith, one)) }
 
-again_cases : (base : ℕ) (h : ℕ → Bool) (m : ℕ) (ms : List ℕ) → (met_once base (added base h m) ms ≡ None → Again (added base h m) ms) → (b : Bool) → h m ≡ b → cond b None (met_once base (added base h m) ms) ≡ None → Again h (m ∷ ms)
+again_cases : (base : ℕ) (h : ℕ → Bool) (m : ℕ) (ms : List ℕ) → (met_once base (added base h m) ms ≡ None → Again (added base h m) ms) → (b : Bool) → h m ≡ b
+    → cond b None (met_once base (added base h m) ms) ≡ None → Again h (m ∷ ms)
 again_cases base h m ms rest true q w = again_here h m ms q
 again_cases base h m ms rest false q w = again_step base h m ms (rest w)
 
@@ -161,7 +163,8 @@ none_of None e = refl
 none_of (Some x) e = absurd cc
 
 -- one more window has each of its numbers once
-pub once_goes : (ns : List ℕ) (from base : ℕ) → least from None ns ≡ Some base → is_some (met_once base (λ m. false) ns) ≡ true → ((n : ℕ) → n < from → times n ns ≤ 1) → (n : ℕ) → n < base + 4096 → times n ns ≤ 1
+pub once_goes : (ns : List ℕ) (from base : ℕ) → least from None ns ≡ Some base → is_some (met_once base (λ m. false) ns) ≡ true → ((n : ℕ) → n < from → times n ns ≤ 1) → (n : ℕ) → n < base
+    + 4096 → times n ns ≤ 1
 once_goes ns from base e s h n lt =
     ⊎_elim (λ low. h n low) (λ high. ⊎_elim (λ under. let z = (least_some from base None ns e).none n high under in omega (arith, z)) (λ over. here (some_of (met_once base (λ m. false) ns) s) (covered base n over lt)) (cases_lt n base)) (cases_lt n from)
   where
@@ -241,7 +244,8 @@ unmet_later base h m ms u = record { which = u.which; stands = more (eqb m u.whi
     more true = omega arith
     more false = omega (arith, u.stands)
 
-unmet_cases : (base : ℕ) (h : ℕ → Bool) (m : ℕ) (ms : List ℕ) → (all_met base h ms ≡ false → Unmet base h ms) → (a b : Bool) → covers base m ≡ a → h m ≡ b → ((not a || b) && all_met base h ms) ≡ false → Unmet base h (m ∷ ms)
+unmet_cases : (base : ℕ) (h : ℕ → Bool) (m : ℕ) (ms : List ℕ) → (all_met base h ms ≡ false → Unmet base h ms) → (a b : Bool) → covers base m ≡ a → h m ≡ b
+    → ((not a || b) && all_met base h ms) ≡ false → Unmet base h (m ∷ ms)
 unmet_cases base h m ms rest true false p q e =
     let one : times m (m ∷ ms) ≡ 1 + times m ms = ap (λ (b : Bool). cond b 1 0 + times m ms) (eq-eqb m m refl) in
     record { which = m; stands = omega (arith, one); covered_there = p; is_not = q }
@@ -253,7 +257,8 @@ unmet_of base h [] e = absurd cc
 unmet_of base h (m ∷ ms) e = unmet_cases base h m ms (λ w. unmet_of base h ms w) (covers base m) (h m) refl refl e
 
 -- one more window has each number of the first list among the second
-pub met_goes : (ts ns : List ℕ) (from base : ℕ) (g : ℕ → Bool) → least from None ts ≡ Some base → g ≡ added_all base (λ m. false) ns → all_met base g ts ≡ true → ((n : ℕ) → n < from → 0 < times n ts → 0 < times n ns) → (n : ℕ) → n < base + 4096 → 0 < times n ts → 0 < times n ns
+pub met_goes : (ts ns : List ℕ) (from base : ℕ) (g : ℕ → Bool) → least from None ts ≡ Some base → g ≡ added_all base (λ m. false) ns → all_met base g ts ≡ true
+    → ((n : ℕ) → n < from → 0 < times n ts → 0 < times n ns) → (n : ℕ) → n < base + 4096 → 0 < times n ts → 0 < times n ns
 met_goes ts ns from base g e gs s h n lt q =
     ⊎_elim (λ low. h n low q) (λ high. ⊎_elim (λ under. let z = (least_some from base None ts e).none n high under in absurd (omega (arith, z, q))) (λ over. here (covered base n over lt)) (cases_lt n base)) (cases_lt n from)
   where

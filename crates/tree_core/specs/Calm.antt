@@ -21,10 +21,12 @@ reads_memory t = false
 abbrev pub ReadsNothing : List Leaf → Type 0
 ReadsNothing w = list_any (λ l. reads_memory l.tok) w ≡ false
 
--- For each Div or Mod of the trees, no Indir stands among the leaves behind its own tree: those of the trees behind it, and those in front of which the trees stand.
+-- For each Div or Mod of the trees, no Indir stands among the leaves behind its own tree: those of the trees behind it,
+-- and those in front of which the trees stand.
 abbrev pub CalmBefore : Forest → List Leaf → Type 0
 CalmBefore none w = Unit {0}
-CalmBefore (tree l below behind) w = (divides l.tok ≡ true → ReadsNothing (leaves_onto behind w)) × CalmBefore below (leaves_onto behind w) × CalmBefore behind w
+CalmBefore (tree l below behind) w = (divides l.tok ≡ true → ReadsNothing (leaves_onto behind w))
+    × CalmBefore below (leaves_onto behind w) × CalmBefore behind w
 
 abbrev pub Calm : List Leaf → Type 0
 Calm w = CalmBefore (grown w) []

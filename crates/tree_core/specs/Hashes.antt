@@ -24,4 +24,5 @@ IsSettled fs k f =
 -- so is each name of the part
 abbrev pub AreSettled : ℕ → ℕ → List TreeFn → Type 0
 AreSettled parts part fs =
-    (k : ℕ) (d : TreeFn) → k < length fs → part_of parts (hash_of (slice_index_or fs k d).name) ≡ part → IsSettled fs k (slice_index_or fs k d)
+    (k : ℕ) (d : TreeFn) → k < length fs → part_of parts (hash_of (slice_index_or fs k d).name) ≡ part
+    → IsSettled fs k (slice_index_or fs k d)

@@ -80,8 +80,10 @@ AllPush (i ∷ is) = (role_of i ≡ role.Pushes) × AllPush is
 pub data CallsInOrder : List TreeItem → Type 0 where
   nothing : CallsInOrder []
   other : (i : TreeItem) (is : List TreeItem) → role_of i ≡ role.Other → CallsInOrder is → CallsInOrder (i ∷ is)
-  call : (pushes : List TreeItem) (c : TreeItem) (is all : List TreeItem) → AllPush pushes → role_of c ≡ role.Calls (length pushes) → CallsInOrder is → all ≡ pushes ++ c ∷ is → CallsInOrder all
-  saved : (pushes : List TreeItem) (c s : TreeItem) (is all : List TreeItem) → AllPush pushes → role_of c ≡ role.Calls (length pushes) → role_of s ≡ role.Saves → CallsInOrder is → all ≡ pushes ++ c ∷ s ∷ is → CallsInOrder all
+  call : (pushes : List TreeItem) (c : TreeItem) (is all : List TreeItem) → AllPush pushes → role_of c
+      ≡ role.Calls (length pushes) → CallsInOrder is → all ≡ pushes ++ c ∷ is → CallsInOrder all
+  saved : (pushes : List TreeItem) (c s : TreeItem) (is all : List TreeItem) → AllPush pushes → role_of c
+      ≡ role.Calls (length pushes) → role_of s ≡ role.Saves → CallsInOrder is → all ≡ pushes ++ c ∷ s ∷ is → CallsInOrder all
 
 -- how that is decided: how many pushes stand directly before, and whether a call does
 abbrev pub after_item : Role → ℕ → Bool → Option (ℕ × Bool)

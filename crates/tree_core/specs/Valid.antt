@@ -1,5 +1,6 @@
 -- Which tree programs are valid.
-use Rattle.std.specs.Prelude.{◌⊎◌, ◌≡◌, ℕ, ◌+◌, ◌-◌, ◌*◌, ◌/◌, ◌≤◌, ◌==◌, ◌&&◌, ◌||◌, nat_lt, nat_le, not, List, [], ◌∷◌, Option, Some, None, Bool, true, false, cond, length, codes, slice_get, IsTrue}
+use Rattle.std.specs.Prelude.{◌⊎◌, ◌≡◌, ℕ, ◌+◌, ◌-◌, ◌*◌, ◌/◌, ◌≤◌, ◌==◌, ◌&&◌, ◌||◌, nat_lt, nat_le, not, List, []}
+use Rattle.std.specs.Prelude.{◌∷◌, Option, Some, None, Bool, true, false, cond, length, codes, slice_get, IsTrue}
 use Rattle.std.specs.List.{All, AllPass, AllPairs, flat_map}
 use Rattle.std.specs.Str.{bytes_eq}
 use Rattle.tree_core.specs.declared.token.AttKind.{AttKind}
@@ -28,7 +29,8 @@ named name (f ∷ fs) = cond (bytes_eq f.name name) 1 0 + named name fs
 abbrev pub main_takes_nothing : TreeFn → Bool
 main_takes_nothing f = not (bytes_eq f.name (codes "main")) || (f.args == 0)
 
--- how many arguments a call of the function with a number takes: behind the program's functions come putchar with one, and getchar with none
+-- how many arguments a call of the function with a number takes: behind the program's functions come putchar with one,
+-- and getchar with none
 abbrev pub service_args : ℕ → Option ℕ
 service_args n = cond (n == 0) (Some 1) (cond (n == 1) (Some 0) None)
 

@@ -1,5 +1,6 @@
 -- Numbers that were met, window by window.
-use Rattle.std.specs.Prelude.{◌≡◌, ℕ, ◌+◌, ◌-◌, ◌==◌, ◌&&◌, ◌||◌, nat_lt, nat_le, min, not, List, [], ◌∷◌, Option, Some, None, Bool, true, false, cond, slice_index_or}
+use Rattle.std.specs.Prelude.{◌≡◌, ℕ, ◌+◌, ◌-◌, ◌==◌, ◌&&◌, ◌||◌, nat_lt, nat_le, min, not, List, [], ◌∷◌, Option, Some}
+use Rattle.std.specs.Prelude.{None, Bool, true, false, cond, slice_index_or}
 use Rattle.tree_core.specs.declared.window.Window.{Window}
 
 -- the number is one of the window that begins there

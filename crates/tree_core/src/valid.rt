@@ -2,7 +2,8 @@
 
 ghost use Rattle.std.specs.Prelude.{◌≡◌, ◌↔◌, ◌≤◌, ℕ, List, IsTrue, length};
 ghost use Rattle.std.specs.List.{All, AllPass, list_all};
-ghost use Rattle.tree_core.specs.Valid.{main_takes_nothing, args_of, leaf_names, names, ItemStands, ItemsStand, PushesStand, IsValid, NamesRight};
+ghost use Rattle.tree_core.specs.Valid.{main_takes_nothing, args_of, leaf_names, names, ItemStands, ItemsStand, PushesStand};
+ghost use Rattle.tree_core.specs.Valid.{IsValid, NamesRight};
 
 use crate::items::calls_in_order;
 use crate::labels::{labels_stand_once, targets_stand};

@@ -13,7 +13,8 @@ use Rattle.tree_meaning.specs.declared.value.Meaning.{Meaning}
 use Rattle.tree_meaning.specs.declared.value.Meaning.TheVariants.{Of, Local, Argument, Memory}
 use Rattle.tree_meaning.specs.Values.{Sight, kid, meanings}
 
--- A place gets a number, a branch compares two, an argument is pushed, a call is left with a value, a function is called, a local gets the last
+-- A place gets a number, a branch compares two, an argument is pushed, a call is left with a value, a function is
+-- called, a local gets the last
 -- call's result, a label is jumped to; or a divisor is zero, or an access is wild.
 pub data Deed : Type 0 where
   Puts : (g : Meaning) (n : ℕ) → Deed
@@ -92,4 +93,5 @@ deed_of s t a m n = Strays
 -- what the first tree does
 abbrev pub tree_deed : List Object → Sight → Forest → Deed
 tree_deed objects s none = Strays
-tree_deed objects s (tree l below behind) = deed_of s l.tok l.att (slice_get (meanings objects s below) 0) (slice_get (meanings objects s below) 1)
+tree_deed objects s (tree l below behind) = deed_of s l.tok l.att (slice_get (meanings objects s below) 0)
+    (slice_get (meanings objects s below) 1)

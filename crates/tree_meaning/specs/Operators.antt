@@ -1,6 +1,7 @@
 -- What the operators of trees make of numbers.
 use Rattle.std.specs.Prelude.{ℕ, ◌%◌, Option, Some, None}
-use Rattle.gg_base.specs.Arithmetic.{add32, sub32, mul32, and32, or32, xor32, neg32, com32, sext8, sext16, zext8, zext16, div32, shifted_left, shifted_right}
+use Rattle.gg_base.specs.Arithmetic.{add32, sub32, mul32, and32, or32, xor32, neg32, com32, sext8, sext16, zext8}
+use Rattle.gg_base.specs.Arithmetic.{zext16, div32, shifted_left, shifted_right}
 use Rattle.tree_core.specs.declared.token.Tok.{Tok}
 use Rattle.tree_core.specs.declared.token.Tok.TheVariants as tok
 use Rattle.tree_meaning.specs.declared.value.Value.{Value}

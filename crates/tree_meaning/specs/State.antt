@@ -8,7 +8,8 @@ use Rattle.tree_meaning.specs.declared.machine.Finish.{Finish}
 use Rattle.tree_meaning.specs.declared.machine.Finish.TheVariants as finish
 use Rattle.tree_meaning.specs.Values.{Sight}
 
--- A call that is active: its function's items, those still to come, the locals that it has written, its arguments from argument 1 on, the arguments that it has pushed, the last one first, and the result of its last call.
+-- A call that is active: its function's items, those still to come, the locals that it has written, its arguments from
+-- argument 1 on, the arguments that it has pushed, the last one first, and the result of its last call.
 pub record Activation : Type 0 where
   pub code : List TreeItem
   pub items : List TreeItem
@@ -62,7 +63,12 @@ pub data Next : Type 0 where
 
 abbrev pub coming : Option (List Leaf × List TreeItem) → Activation → List Activation → List ℕ → List ℕ → Next → Next
 coming None f callers area input otherwise = otherwise
-coming (Some r) f callers area input otherwise = tree_at r.0 (record { running = record f { items = r.1 }; callers = callers; area = area; input = input })
+coming (Some r) f callers area input otherwise = tree_at r.0 (record {
+  running = record f { items = r.1 };
+  callers = callers;
+  area = area;
+  input = input;
+})
 
 -- a call is left with a result; where a function's items have ended, it answers 0
 abbrev pub returned : ℕ → List Activation → List ℕ → List ℕ → Next

@@ -1,5 +1,6 @@
 -- One tree is one step of a run: plain data, by the program and the state in which the tree is done.
-use Rattle.std.specs.Prelude.{ℕ, ◌+◌, ◌-◌, ◌%◌, ◌^◌, ◌==◌, nat_lt, List, [], ◌∷◌, Option, Some, None, cond, length, take, drop, slice_get, slice_set}
+use Rattle.std.specs.Prelude.{ℕ, ◌+◌, ◌-◌, ◌%◌, ◌^◌, ◌==◌, nat_lt, List, [], ◌∷◌, Option, Some, None, cond, length}
+use Rattle.std.specs.Prelude.{take, drop, slice_get, slice_set}
 use Rattle.gg_base.specs.Relations.{holds}
 use Rattle.tree_core.specs.declared.program.TreeFn.{TreeFn}
 use Rattle.tree_core.specs.declared.program.TreeProgram.{TreeProgram}
@@ -12,8 +13,10 @@ use Rattle.tree_meaning.specs.declared.value.Meaning.TheVariants.{Of, Local, Arg
 use Rattle.tree_meaning.specs.Deeds.{Deed, Puts, Branches, Pushes, Returns, Calls, Saves, Jumps, Traps, Strays, tree_deed}
 use Rattle.tree_meaning.specs.State.{State, begun, sight, with_local, behind, Next, over, returned, arrived}
 
--- The run goes on; so it does behind a call of a service, which perhaps wrote a byte and left its result; it goes on behind a label of the function;
--- it enters a function with arguments, which are no longer among those that are pushed; it goes back to the caller with a value; or it ends.
+-- The run goes on; so it does behind a call of a service, which perhaps wrote a byte and left its result; it goes on
+-- behind a label of the function;
+-- it enters a function with arguments, which are no longer among those that are pushed; it goes back to the caller with
+-- a value; or it ends.
 pub data Step : Type 0 where
   Goes : State → Step
   Serves : (written : Option ℕ) → State → Step

@@ -52,7 +52,8 @@ before turns.Spent more = turns.Spent ∷ []
 abbrev pub answers : TreeProgram → ℕ → Next → List SourceTurn
 answers program n (over e) = turn_of e ∷ []
 answers program zero (tree_at w s) = turns.Spent ∷ []
-answers program (suc n) (tree_at w s) = before (turn (tree_step program s (grown w))) (answers program n (next (tree_step program s (grown w))))
+answers program (suc n) (tree_at w s) = before (turn (tree_step program s (grown w)))
+    (answers program n (next (tree_step program s (grown w))))
 
 abbrev pub tree_answers : TreeProgram → List ℕ → ℕ → List SourceTurn
 tree_answers program input n = answers program n (first_at program input)
@@ -104,7 +105,8 @@ GoesOn turns.Wild = ⊥
 GoesOn turns.Deep = ⊥
 GoesOn turns.Spent = ⊥
 
--- One tree begins at most, and it is counted then, whatever is answered: one does where the run goes on behind the answer, and none where it came to
+-- One tree begins at most, and it is counted then, whatever is answered: one does where the run goes on behind the
+-- answer, and none where it came to
 -- its end before.
 pub record AdvancesTrees (old : Remaining) (turn : SourceTurn) (new : Remaining) : Type 0 where
   pub trees : ℕ

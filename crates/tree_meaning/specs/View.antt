@@ -25,10 +25,22 @@ abbrev pub written : List (Option ℕ) → ℕ → Option ℕ
 written locals n = joined (slice_get locals n)
 
 abbrev pub activation : Frame → Activation
-activation f = record { code = f.code.now; items = f.rest.now; locals = written f.locals.items; arguments = f.arguments.items; pushed = reverse f.pushed.items; result = f.result }
+activation f = record {
+  code = f.code.now;
+  items = f.rest.now;
+  locals = written f.locals.items;
+  arguments = f.arguments.items;
+  pushed = reverse f.pushed.items;
+  result = f.result;
+}
 
 abbrev pub state : Machine → State
-state m = record { running = activation m.running; callers = map activation (reverse m.callers.items); area = m.area.items; input = m.input.now }
+state m = record {
+  running = activation m.running;
+  callers = map activation (reverse m.callers.items);
+  area = m.area.items;
+  input = m.input.now;
+}
 
 abbrev pub end_turn : Option Finish → SourceTurn
 end_turn None = turns.Going
@@ -73,4 +85,5 @@ kid_at ms count i = slice_get (take count ms) i
 
 -- one more leaf is read, from the right
 abbrev pub with_leaf : List Object → Sight → Leaf → List Meaning → List Meaning
-with_leaf objects s l ms = leaf_means objects s l (kid_at ms (length (kids l.tok)) 0) (kid_at ms (length (kids l.tok)) 1) ∷ drop (length (kids l.tok)) ms
+with_leaf objects s l ms = leaf_means objects s l (kid_at ms (length (kids l.tok)) 0) (kid_at ms (length (kids l.tok)) 1) ∷ drop
+    (length (kids l.tok)) ms

@@ -49,14 +49,18 @@ impl<'a> Frame<'a> {
 
     /// Writes a local.
     pub(crate) fn set_local(&mut self, number: u32, value: u32) -> Result<(), AllocError>
-        ensures { OnOk result (activation self.new ≡ record (activation self.old) { locals = with_local (activation self.old).locals number value }) }
+        ensures { OnOk result (activation self.new ≡ record (activation self.old)
+            { locals = with_local (activation self.old).locals number value }) }
     {
         set_local(&mut self.locals, number as usize, value)
     }
 
     /// Writes an argument, if there is such a one.
     pub(crate) fn set_argument(&mut self, number: u32, value: u32)
-        ensures { activation self.new ≡ record (activation self.old) { arguments = slice_set (activation self.old).arguments (number - 1) value } }
+        ensures { activation self.new ≡ record (activation self.old) {
+          arguments =
+              slice_set (activation self.old).arguments (number - 1) value;
+        } }
     {
         let at = number.saturating_sub(1) as usize;
         if at < self.arguments.len() {
@@ -75,7 +79,8 @@ impl<'a> Frame<'a> {
     /// Takes so many of the arguments that were pushed, the last one first.
     pub(crate) fn take_pushed(&mut self, alloc: Global, count: u32) -> Result<Vec<u32>, AllocError>
         ensures taken { IfOk result (λ args. args.items ≡ take count (activation self.old).pushed) }
-        ensures left { OnOk result (activation self.new ≡ record (activation self.old) { pushed = drop count (activation self.old).pushed }) }
+        ensures left { OnOk result (activation self.new ≡ record (activation self.old)
+            { pushed = drop count (activation self.old).pushed }) }
     {
         take_last(alloc, &mut self.pushed, count)
     }

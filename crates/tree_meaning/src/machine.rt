@@ -108,7 +108,8 @@ impl<'a> Machine<'a> {
     /// Does the effect of a tree, and answers the byte that it writes.
     pub(crate) fn step(&mut self, alloc: Global, leaves: &'a [Leaf]) -> Result<Option<u8>, NoMemory>
         requires { self.old.over ≡ None }
-        ensures { IfOk result (λ byte. StepsBy self.old.program.now (tree_step self.old.program.now (state self.old) (grown leaves.now)) byte self.new) }
+        ensures { IfOk result (λ byte. StepsBy self.old.program.now (tree_step self.old.program.now (state self.old)
+            (grown leaves.now)) byte self.new) }
     {
         let Some((root, kids)) = leaves.split_first() else {
             self.over = Some(Finish::Wild);
@@ -133,8 +134,10 @@ impl<'a> Machine<'a> {
 
     // The innermost call is left with a result. False where it was the last one.
     pub(crate) fn leave(&mut self, value: u32) -> bool
-        ensures left { OnTrue result (arrived (state self.new) ≡ returned value (state self.old).callers (state self.old).area (state self.old).input) }
-        ensures over { OnFalse result (returned value (state self.old).callers (state self.old).area (state self.old).input ≡ over (Ended value)) }
+        ensures left { OnTrue result (arrived (state self.new) ≡ returned value (state self.old).callers (state self.old).area
+            (state self.old).input) }
+        ensures over { OnFalse result (returned value (state self.old).callers (state self.old).area (state self.old).input
+            ≡ over (Ended value)) }
         ensures end { self.new.over ≡ (if result then self.old.over else Some (Ended value)) }
         ensures turn { return_turn (state self.old).callers value ≡ (if result then Going else EndedTurn value) }
         ensures fewer { OnTrue result (length self.new.callers.items + 1 ≡ length self.old.callers.items) }

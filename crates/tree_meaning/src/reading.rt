@@ -22,7 +22,8 @@ impl<'a> Machine<'a> {
         alloc: Global,
         leaves: &[Leaf],
     ) -> Result<Vec<Meaning>, AllocError>
-        ensures { IfOk result (λ stack. reverse stack.items ≡ meanings self.now.program.now.objects (sight (state self.now)) (grown leaves.now)) }
+        ensures { IfOk result (λ stack. reverse stack.items ≡ meanings self.now.program.now.objects (sight (state self.now))
+            (grown leaves.now)) }
     {
         let mut stack = Vec::new(alloc);
         let mut left = leaves.len();
@@ -34,7 +35,8 @@ impl<'a> Machine<'a> {
     }
 
     fn read_leaf(&self, stack: &mut Vec<Meaning>, leaf: Leaf) -> Result<(), AllocError>
-        ensures { OnOk result (reverse stack.new.items ≡ with_leaf self.now.program.now.objects (sight (state self.now)) leaf (reverse stack.old.items)) }
+        ensures { OnOk result (reverse stack.new.items ≡ with_leaf self.now.program.now.objects (sight (state self.now)) leaf
+            (reverse stack.old.items)) }
     {
         let (first, second) = take_kids(stack, leaf.tok.kids().len());
         let meaning = self.leaf_means(leaf, first, second);

@@ -45,7 +45,11 @@ impl<'a> TreeRun<'a> {
         input: &'a [u8],
         n: u64,
     ) -> Result<TreeRun<'a>, NoMemory>
-        ensures begins { IfOk result (λ run. run.remaining ≡ record { outcome = tree_run program.now input.now n; taken = 0; failed = false }) }
+        ensures begins { IfOk result (λ run. run.remaining ≡ record {
+          outcome = tree_run program.now input.now n;
+          taken = 0;
+          failed = false;
+        }) }
         ensures answers { IfOk result (λ run. run.answers ≡ tree_answers program.now input.now n) }
         ensures one_end { OneEnd (tree_run program.now input.now) }
     {

@@ -1,6 +1,7 @@
 // Reads assembly texts, and writes what `read_code` answers of each: how many items its data area and its code have and which of r0 to r11
 // its instructions use, or its first wrong line; and whether `write_code` gives the text back. A row is a text, in which ~ stands for a
-// tab and | for a line feed; `operand A` is a text of one instruction with the operand A, and `line A` one of twelve lines, whose sixth is A.
+// tab and | for a line feed; `operand A` is a text of one instruction with the operand A, and `line A` one of twelve lines, whose
+// sixth is A.
 #![tactic(auto)]
 
 use bitflags::Flags;

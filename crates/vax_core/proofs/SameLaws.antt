@@ -12,13 +12,15 @@ use Rattle.vax_core.specs.declared.operand.Base.{Base}
 use Rattle.vax_core.specs.declared.operand.Base.TheVariants as bases
 use Rattle.vax_core.specs.declared.operand.Operand.{Operand}
 use Rattle.vax_core.specs.declared.same.Mode.{Mode}
-use Rattle.vax_core.specs.declared.same.Mode.TheVariants.{Immediate, Register, RegisterDeferred, Autoincrement, AutoincrementDeferred, Autodecrement, Displacement, DisplacementDeferred, Absolute, Relative, RelativeDeferred}
+use Rattle.vax_core.specs.declared.same.Mode.TheVariants.{Immediate, Register, RegisterDeferred, Autoincrement, AutoincrementDeferred, Autodecrement, Displacement}
+use Rattle.vax_core.specs.declared.same.Mode.TheVariants.{DisplacementDeferred, Absolute, Relative, RelativeDeferred}
 use Rattle.vax_core.specs.Registers.{reg_number, base_register}
 use Rattle.vax_core.specs.Same.{mode_number, mode_of, name_in, offset_in, same_name, same_register, same_base, same_operand}
 use Rattle.vax_core.proofs.NumberLaws.{same_number}
 
 abbrev modes : List Mode
-modes = Immediate ∷ (Register ∷ (RegisterDeferred ∷ (Autoincrement ∷ (AutoincrementDeferred ∷ (Autodecrement ∷ (Displacement ∷ (DisplacementDeferred ∷ (Absolute ∷ (Relative ∷ (RelativeDeferred ∷ []))))))))))
+modes = Immediate ∷ (Register ∷ (RegisterDeferred ∷ (Autoincrement ∷ (AutoincrementDeferred ∷
+    (Autodecrement ∷ (Displacement ∷ (DisplacementDeferred ∷ (Absolute ∷ (Relative ∷ (RelativeDeferred ∷ []))))))))))
 
 mode_again : (m : Mode) → slice_get modes (mode_number m) ≡ Some m
 mode_again Immediate = refl

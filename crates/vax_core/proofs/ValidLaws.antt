@@ -9,6 +9,7 @@ at_end [] i lt = absurd (omega arith)
 at_end (kind ∷ kinds) zero lt = refl
 at_end (kind ∷ kinds) (suc i) lt = at_end kinds i (omega arith)
 
-pub too_few : (kinds : List OperandKind) (os : List Operand) (i : ℕ) (rest : List Operand) → i < length kinds → length rest < 1 → are_operands (drop i kinds) rest ≡ are_operands kinds os → false ≡ are_operands kinds os
+pub too_few : (kinds : List OperandKind) (os : List Operand) (i : ℕ) (rest : List Operand) → i < length kinds → length rest < 1 → are_operands (drop i kinds) rest ≡ are_operands kinds os
+    → false ≡ are_operands kinds os
 too_few kinds os i [] lt short e = sym (at_end kinds i lt) ∙ e
 too_few kinds os i (o ∷ rest) lt short e = absurd (omega arith)

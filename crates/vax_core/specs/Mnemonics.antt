@@ -2,7 +2,12 @@
 use Rattle.std.specs.Prelude.{◌≡◌, ℕ, ◌==◌, nat_eq, List, [], ◌∷◌, Option, Some, None, if◌then◌else◌}
 use Rattle.std.specs.Cmp.Lexicographic.{pointwise}
 use Rattle.vax_core.specs.declared.op.Op.{Op}
-use Rattle.vax_core.specs.declared.op.Op.TheVariants.{Movb, Movw, Movl, Clrb, Clrw, Clrl, Mnegl, Mcoml, Pushl, Cvtbl, Cvtwl, Cvtlb, Cvtlw, Movzbl, Movzwl, Movab, Movaw, Moval, Addl2, Addl3, Subl2, Subl3, Mull2, Mull3, Divl2, Divl3, Incl, Decl, Bisl2, Bisl3, Bicl2, Bicl3, Xorl2, Xorl3, Bitl, Ashl, Cmpb, Cmpw, Cmpl, Tstb, Tstw, Tstl, Jbr, Jeql, Jneq, Jlss, Jleq, Jgtr, Jgeq, Jlssu, Jlequ, Jgtru, Jgequ, Calls, Ret}
+use Rattle.vax_core.specs.declared.op.Op.TheVariants.{Movb, Movw, Movl, Clrb, Clrw, Clrl, Mnegl, Mcoml, Pushl, Cvtbl}
+use Rattle.vax_core.specs.declared.op.Op.TheVariants.{Cvtwl, Cvtlb, Cvtlw, Movzbl, Movzwl, Movab, Movaw, Moval, Addl2}
+use Rattle.vax_core.specs.declared.op.Op.TheVariants.{Addl3, Subl2, Subl3, Mull2, Mull3, Divl2, Divl3, Incl, Decl}
+use Rattle.vax_core.specs.declared.op.Op.TheVariants.{Bisl2, Bisl3, Bicl2, Bicl3, Xorl2, Xorl3, Bitl, Ashl, Cmpb, Cmpw}
+use Rattle.vax_core.specs.declared.op.Op.TheVariants.{Cmpl, Tstb, Tstw, Tstl, Jbr, Jeql, Jneq, Jlss, Jleq, Jgtr, Jgeq}
+use Rattle.vax_core.specs.declared.op.Op.TheVariants.{Jlssu, Jlequ, Jgtru, Jgequ, Calls, Ret}
 use Rattle.vax_core.specs.Ops.{shape}
 
 -- the instructions whose mnemonic begins with this letter
@@ -14,7 +19,8 @@ ops_with c =
     else if c == 100 then Divl2 ∷ (Divl3 ∷ (Decl ∷ []))
     else if c == 105 then Incl ∷ []
     else if c == 106 then Jbr ∷ (Jeql ∷ (Jneq ∷ (Jlss ∷ (Jleq ∷ (Jgtr ∷ (Jgeq ∷ (Jlssu ∷ (Jlequ ∷ (Jgtru ∷ (Jgequ ∷ []))))))))))
-    else if c == 109 then Movl ∷ (Movb ∷ (Movw ∷ (Mull2 ∷ (Mull3 ∷ (Moval ∷ (Movab ∷ (Movaw ∷ (Movzbl ∷ (Movzwl ∷ (Mnegl ∷ (Mcoml ∷ [])))))))))))
+    else if c == 109 then Movl ∷ (Movb ∷ (Movw ∷ (Mull2 ∷ (Mull3 ∷ (Moval ∷
+    (Movab ∷ (Movaw ∷ (Movzbl ∷ (Movzwl ∷ (Mnegl ∷ (Mcoml ∷ [])))))))))))
     else if c == 112 then Pushl ∷ []
     else if c == 114 then Ret ∷ []
     else if c == 115 then Subl2 ∷ (Subl3 ∷ [])

@@ -6,7 +6,9 @@ use Rattle.vax_core.specs.declared.operand.Base.{Base}
 use Rattle.vax_core.specs.declared.operand.Base.TheVariants as bases
 use Rattle.vax_core.specs.declared.operand.Operand.{Operand}
 use Rattle.vax_core.specs.declared.same.Mode.{Mode}
-use Rattle.vax_core.specs.declared.same.Mode.TheVariants.{Immediate, Register, RegisterDeferred, Autoincrement, AutoincrementDeferred, Autodecrement, Displacement, DisplacementDeferred, Absolute, Relative, RelativeDeferred}
+use Rattle.vax_core.specs.declared.same.Mode.TheVariants.{Immediate, Register, RegisterDeferred, Autoincrement}
+use Rattle.vax_core.specs.declared.same.Mode.TheVariants.{AutoincrementDeferred, Autodecrement, Displacement}
+use Rattle.vax_core.specs.declared.same.Mode.TheVariants.{DisplacementDeferred, Absolute, Relative, RelativeDeferred}
 use Rattle.vax_core.specs.Registers.{reg_number, base_register}
 
 abbrev pub mode_number : Mode → ℕ

@@ -119,7 +119,8 @@ impl Flags for RegSet {
 
     ghost exact = { ⊤ };
 
-    ghost table = { (codes "R0", 1) ∷ (codes "R1", 2) ∷ (codes "R2", 4) ∷ (codes "R3", 8) ∷ (codes "R4", 16) ∷ (codes "R5", 32) ∷ (codes "R6", 64) ∷ (codes "R7", 128) ∷ (codes "R8", 256) ∷ (codes "R9", 512) ∷ (codes "R10", 1024) ∷ (codes "R11", 2048) ∷ [] };
+    ghost table = { (codes "R0", 1) ∷ (codes "R1", 2) ∷ (codes "R2", 4) ∷ (codes "R3", 8) ∷ (codes "R4", 16) ∷ (codes "R5", 32)
+        ∷ (codes "R6", 64) ∷ (codes "R7", 128) ∷ (codes "R8", 256) ∷ (codes "R9", 512) ∷ (codes "R10", 1024) ∷ (codes "R11", 2048) ∷ [] };
 
     ghost set_of = { λ s. s.0 };
 

@@ -1,5 +1,6 @@
 -- Calls and returns keep the registers r2 to r11.
-use Rattle.std.proofs.Common.{◌≡◌, ℕ, zero, suc, ◌+◌, ◌-◌, ◌%◌, ◌<◌, ◌≤◌, Bool, true, false, cond, List, [], ◌∷◌, ◌++◌, length, Option, Some, None, Result, Ok, Err, refl, sym, ap, subst, ◌∙◌, arith, get_or-set_other}
+use Rattle.std.proofs.Common.{◌≡◌, ℕ, zero, suc, ◌+◌, ◌-◌, ◌%◌, ◌<◌, ◌≤◌, Bool, true, false, cond, List, [], ◌∷◌, ◌++◌, length, Option, Some, None, Result, Ok, Err, refl, sym, ap}
+use Rattle.std.proofs.Common.{subst, ◌∙◌, arith, get_or-set_other}
 use Rattle.std.specs.Prelude.{slice_get, slice_index, slice_set, nat_lt, nat_le, ◌==◌}
 use Rattle.std.specs.Int.RustNames.{count_ones}
 use Rattle.std.specs.Str.{bytes_eq}

@@ -25,7 +25,8 @@ pub record IsMask (mask : ℕ) : Type 0 where
   pub low : mask % 4 ≡ 0
   pub high : mask < 2 ^ 12
 
--- Behind a function's label stand an entry mask and the instruction that makes room for the frame's words, of which the locals are the first.
+-- Behind a function's label stand an entry mask and the instruction that makes room for the frame's words, of which the
+-- locals are the first.
 pub record HasFrame (code : List CodeItem) (label : List ℕ) (locals : ℕ) : Type 0 where
   pub words : ℕ
   pub mask : ℕ

@@ -1,5 +1,7 @@
--- Calls and returns keep the registers r2 to r11: where each function's mask has every one of them that an instruction of the function names.
-use Rattle.std.specs.Prelude.{◌≡◌, ℕ, ◌+◌, ◌/◌, ◌%◌, ◌^◌, ◌<◌, ◌≤◌, ◌==◌, List, [], ◌∷◌, ◌++◌, slice_get, slice_index, Option, Some, None, Ok, Bool, true, false}
+-- Calls and returns keep the registers r2 to r11: where each function's mask has every one of them that an instruction
+-- of the function names.
+use Rattle.std.specs.Prelude.{◌≡◌, ℕ, ◌+◌, ◌/◌, ◌%◌, ◌^◌, ◌<◌, ◌≤◌, ◌==◌, List, [], ◌∷◌, ◌++◌, slice_get, slice_index}
+use Rattle.std.specs.Prelude.{Option, Some, None, Ok, Bool, true, false}
 use Rattle.vax_core.specs.declared.code.Instr.{Instr}
 use Rattle.vax_core.specs.declared.code.CodeItem.{CodeItem}
 use Rattle.vax_core.specs.declared.code.CodeItem.TheVariants as items
@@ -34,8 +36,10 @@ may_pass Return = false
 pub record IsGuarded (code : List CodeItem) (mask_at : ℕ → ℕ) : Type 0 where
   pub named : (p : ℕ) (i : Instr) (r : ℕ) → slice_get code p ≡ Some (items.Instr i) → 2 ≤ r → r < 12 → has (mask_at p) r ≡ false
       → operands_name i.operands r ≡ false
-  pub onward : (p : ℕ) (i : Instr) → slice_get code p ≡ Some (items.Instr i) → may_pass (action_of i.op) ≡ true → mask_at (next_item code (p + 1)) ≡ mask_at p
-  pub branch : (p : ℕ) (i : Instr) (label : List ℕ) → slice_get code p ≡ Some (items.Instr i) → i.target ≡ Some label → (action_of i.op ≡ Call → ⊥)
+  pub onward : (p : ℕ) (i : Instr) → slice_get code p ≡ Some (items.Instr i) → may_pass (action_of i.op) ≡ true
+      → mask_at (next_item code (p + 1)) ≡ mask_at p
+  pub branch : (p : ℕ) (i : Instr) (label : List ℕ) → slice_get code p ≡ Some (items.Instr i) → i.target ≡ Some label
+      → (action_of i.op ≡ Call → ⊥)
       → mask_at (next_item code (label_place code label)) ≡ mask_at p
   pub entry : (p mask : ℕ) → slice_get code p ≡ Some (items.Mask mask) → mask_at (next_item code (p + 1)) ≡ mask
 
@@ -65,7 +69,8 @@ StepsKeep = (code : List CodeItem) (mask_at : ℕ → ℕ) → IsGuarded code ma
 -- A return gives r2 to r11 back as they were at the call.
 abbrev pub ReturnsRestore : Type 0
 ReturnsRestore =
-    (code : List CodeItem) (mask_at : ℕ → ℕ) (m n : State) (outer : List Frame) (f : Frame) → KeepsRegisters code mask_at m → m.frames ≡ outer ++ f ∷ []
+    (code : List CodeItem) (mask_at : ℕ → ℕ) (m n : State) (outer : List Frame) (f : Frame) → KeepsRegisters code mask_at m
+    → m.frames ≡ outer ++ f ∷ []
     → returned m ≡ Ok (None, n)
     → (r : ℕ) → 2 ≤ r → r < 12 → slice_index n.registers r ≡ slice_index f.saved r
 

@@ -25,7 +25,8 @@ pub record IsRoomy (m : State) : Type 0 where
   pub wide : 2139095040 + 2000000 ≤ reg m Sp
 
 -- The function's frame is made in a state, and behind the frame's instructions its body begins.
-pub record Begins (objects : List Object) (code : List CodeItem) (g : TreeFn) (em : HasFrame code (function_label g.name) g.locals) (es : List Extent)
+pub record Begins (objects : List Object) (code : List CodeItem) (g : TreeFn)
+    (em : HasFrame code (function_label g.name) g.locals) (es : List Extent)
     (t : Trees) (m : State) (count : ℕ)
     (back : Option ℕ) : Type 0 where
   -- the state that the call makes, and that behind the frame's instructions
@@ -42,10 +43,12 @@ pub record Begins (objects : List Object) (code : List CodeItem) (g : TreeFn) (e
   pub items : state.items ≡ code
   pub at : state.place ≡ em.entry + 1 + length (room_code em.words)
 
--- A call of a function of the program, with arguments that were pushed, comes to a state that stands for the trees' state in which the function begins.
+-- A call of a function of the program, with arguments that were pushed, comes to a state that stands for the trees'
+-- state in which the function begins.
 abbrev pub CallsBegin : Type 0
 CallsBegin =
-    (objects : List Object) (code : List CodeItem) (g : TreeFn) (em : HasFrame code (function_label g.name) g.locals) (e : Extent) (es : List Extent)
+    (objects : List Object) (code : List CodeItem) (g : TreeFn) (em : HasFrame code (function_label g.name) g.locals)
+    (e : Extent) (es : List Extent)
     (t : Trees) (m : State)
     → Agrees objects e es t m → IsRoomy m → m.items ≡ code → (count : ℕ) (back : Option ℕ) → count < 256 → count ≤ length t.running.pushed
     → Begins objects code g em (e ∷ es) (with_call t g count) m count back
@@ -61,7 +64,8 @@ pub record IsCalledFrom (outer : List Frame) (f : Frame) (place : ℕ) : Type 0 
   pub ap : slice_index f.saved 12 ≡ caller.ap
 
 -- a return from a state, and the state behind it, which stands for the trees' state behind the call
-pub record Returns (objects : List Object) (own : Extent) (rest : List Extent) (t : Trees) (outer : List Frame) (place v : ℕ) (c : Activation)
+pub record Returns (objects : List Object) (own : Extent) (rest : List Extent) (t : Trees) (outer : List Frame) (place v : ℕ)
+    (c : Activation)
     (cs : List Activation) (m : State) : Type 0 where
   pub state : State
   pub does : returned m ≡ Ok (None, state)
@@ -81,5 +85,6 @@ ReturnsAgree =
 -- The outermost call's return ends the run with the value.
 abbrev pub LastReturnEnds : Type 0
 LastReturnEnds =
-    (objects : List Object) (e : Extent) (es : List Extent) (t : Trees) (m : State) (h : Agrees objects e es t m) (v : ℕ) → h.innermost.back ≡ None
+    (objects : List Object) (e : Extent) (es : List Extent) (t : Trees) (m : State) (h : Agrees objects e es t m) (v : ℕ)
+    → h.innermost.back ≡ None
     → reg m R0 ≡ v → returned m ≡ Err (Ended v)

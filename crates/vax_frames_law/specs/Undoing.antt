@@ -33,5 +33,7 @@ pub record IsUndone (m r : State) (count : ℕ) (back : Option ℕ) : Type 0 whe
 -- Where the frame of a call is the innermost again and the number of arguments is found as it was pushed, a return undoes the call.
 abbrev pub ReturnsUndo : Type 0
 ReturnsUndo =
-    (m n q r : State) (count place : ℕ) (back o : Option ℕ) → length m.registers ≡ 15 → reg m Sp < 2 ^ 32 → count < 256 → called m count place back ≡ Ok n
-    → q.frames ≡ n.frames → read (record q { frames = m.frames }) (sub32 (reg m Sp) 4) Byte ≡ Ok count → returned q ≡ Ok (o, r) → IsUndone m r count back
+    (m n q r : State) (count place : ℕ) (back o : Option ℕ) → length m.registers ≡ 15 → reg m Sp < 2 ^ 32 → count < 256
+    → called m count place back ≡ Ok n
+    → q.frames ≡ n.frames → read (record q { frames = m.frames }) (sub32 (reg m Sp) 4) Byte ≡ Ok count → returned q ≡ Ok (o, r)
+    → IsUndone m r count back

@@ -39,7 +39,8 @@ RunsOn (items.Instr i ∷ rest) = Unit {0}
 pub record IsClosedAt (code : List CodeItem) (mask : ℕ) (i : Instr) (rest : List CodeItem) : Type 0 where
   pub named : (r : ℕ) → 2 ≤ r → r < 12 → has mask r ≡ false → operands_name i.operands r ≡ false
   pub onward : may_pass (action_of i.op) ≡ true → RunsOn rest
-  pub branch : (label : List ℕ) → i.target ≡ Some label → (action_of i.op ≡ Call → ⊥) → mask_from 0 code (next_item code (label_place code label)) ≡ mask
+  pub branch : (label : List ℕ) → i.target ≡ Some label → (action_of i.op ≡ Call → ⊥)
+      → mask_from 0 code (next_item code (label_place code label)) ≡ mask
 
 -- so are all instructions, and an instruction comes behind each mask
 abbrev pub AreClosed : List CodeItem → ℕ → List CodeItem → Type 0

@@ -8,5 +8,6 @@ use Rattle.vax_frames.specs.Frames.{function_label, IsFrameCode}
 -- where its body can be written and its label is a name, so can the code of a function with at most 1,024 words
 abbrev pub FrameCodesAreValid : Type 0
 FrameCodesAreValid =
-    (name : List ℕ) (words : ℕ) (body code : List CodeItem) → is_name (function_label name) ≡ true → words ≤ 1024 → list_all is_code_item body ≡ true
+    (name : List ℕ) (words : ℕ) (body code : List CodeItem) → is_name (function_label name) ≡ true → words ≤ 1024
+    → list_all is_code_item body ≡ true
     → IsFrameCode name words body code → list_all is_code_item code ≡ true

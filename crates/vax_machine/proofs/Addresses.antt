@@ -55,14 +55,16 @@ nowhere (item ∷ rest) first at name e =
     (λ f. nowhere rest (first + 1) (at + size_at item at) name f)
 
 -- a label that has a place has an address there
-pub place_lies : (names : Names) (items : List AreaItem) (l : Layout) (place : ℕ) (name : List ℕ) → names ≡ area_place_in items 0 → IsLaidOut items l → names name ≡ Some place → place < length l.addresses.items
+pub place_lies : (names : Names) (items : List AreaItem) (l : Layout) (place : ℕ) (name : List ℕ) → names ≡ area_place_in items 0 → IsLaidOut items l → names name ≡ Some place
+    → place < length l.addresses.items
 place_lies names items l place name e laid h =
     let k = lies items 0 65536 place name (sym (λ i. e i name) ∙ h) in
     let within : place < 0 + length (addresses_from items 65536) = k.within in
     let same : length l.addresses.items ≡ length (addresses_from items 65536) = ap length laid.addresses in
     omega arith
 
-pub address_is : (names : Names) (items : List AreaItem) (l : Layout) (place : ℕ) (name : List ℕ) → names ≡ area_place_in items 0 → IsLaidOut items l → names name ≡ Some place → get_or l.addresses.items place 0 ≡ label_address items name
+pub address_is : (names : Names) (items : List AreaItem) (l : Layout) (place : ℕ) (name : List ℕ) → names ≡ area_place_in items 0 → IsLaidOut items l → names name ≡ Some place
+    → get_or l.addresses.items place 0 ≡ label_address items name
 address_is names items l place name e laid h =
     let k = lies items 0 65536 place name (sym (λ i. e i name) ∙ h) in
     let z : place ≡ place - 0 = omega arith in

@@ -70,7 +70,8 @@ located_same m (bases.Reg r) size = same m
 located_same m (bases.Def r) size = same m
 located_same m (bases.Inc r) size = behind_set m (register_set m r (add32 (reg m r) (bytes_of size))) (locations.Memory (reg m r)) (set_same m r (add32 (reg m r) (bytes_of size)))
 located_same m (bases.IncDef r) size = deferred_set m (register_set m r (add32 (reg m r) 4)) (reg m r) (set_same m r (add32 (reg m r) 4))
-located_same m (bases.Dec r) size = behind_set m (register_set m r (sub32 (reg m r) (bytes_of size))) (locations.Memory (sub32 (reg m r) (bytes_of size))) (set_same m r (sub32 (reg m r) (bytes_of size)))
+located_same m (bases.Dec r) size = behind_set m (register_set m r (sub32 (reg m r) (bytes_of size))) (locations.Memory (sub32 (reg m r) (bytes_of size)))
+    (set_same m r (sub32 (reg m r) (bytes_of size)))
 located_same m (bases.Disp d r) size = same m
 located_same m (bases.DispDef d r) size = deferred_by m m (read m (add32 (resolved m.layout d) (reg m r)) Long) (same m)
 located_same m (bases.Abs n) size = same m
@@ -82,7 +83,8 @@ unfolding SameBehind
 taken_by m n (Ok e) h = h
 taken_by m n (Err e) h = tt
 
-evaluated_by : (m : State) (l : Result (Location × State) Stop) (f : Location × State → Result Evaluated Stop) → SameBehind m l → SameBehind m (l >>= λ (x : Location × State). f x >>= λ (e : Evaluated). Ok (e, x.1))
+evaluated_by : (m : State) (l : Result (Location × State) Stop) (f : Location × State → Result Evaluated Stop) → SameBehind m l
+    → SameBehind m (l >>= λ (x : Location × State). f x >>= λ (e : Evaluated). Ok (e, x.1))
 unfolding SameBehind
 evaluated_by m (Ok x) f h = taken_by m x.1 (f x) h
 evaluated_by m (Err e) f h = tt

@@ -43,8 +43,10 @@ double_more list place n names again old new e h test was is =
     ∙ ap (λ (o : Option (List ℕ)). cond (is_service n || has_label (drop place list) n) (Some n) o) was
     ∙ ap double_label (sym e)
 
-pub area_double_more : (list : List AreaItem) (code : List CodeItem) (place : ℕ) (n : List ℕ) (names code_names : Names) (again : Bool) (old new : Option (List ℕ)) → drop (place - 1) list ≡ areas.Label n ∷ drop place list
-    → names ≡ area_place_in (drop place list) place → code_names ≡ place_in code 0 → again ≡ (is_service n || (is_some (names n) || is_some (code_names n))) → old ≡ double_area_label (drop place list) code
+pub area_double_more : (list : List AreaItem) (code : List CodeItem) (place : ℕ) (n : List ℕ) (names code_names : Names) (again : Bool) (old new : Option (List ℕ)) → drop (place - 1) list
+    ≡ areas.Label n ∷ drop place list
+    → names ≡ area_place_in (drop place list) place → code_names ≡ place_in code 0 → again ≡ (is_service n || (is_some (names n) || is_some (code_names n))) → old
+    ≡ double_area_label (drop place list) code
     → new ≡ cond again (Some n) old → new ≡ double_area_label (drop (place - 1) list) code
 area_double_more list code place n names code_names again old new e h g test was is =
     is

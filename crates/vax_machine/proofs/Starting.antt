@@ -30,7 +30,8 @@ pub loads_by : (c : Code) (layout : List AreaItem) (items : List CodeItem) (l : 
     → None ≡ undefined_area_label layout layout → None ≡ undefined_label items layout items → true ≡ has_label items main_name → IsLaidOut layout l → Loads c
 loads_by c layout items l e f double area code main laid =
     let area_is : undefined_area_label c.area c.area ≡ None = sym (area ∙ ap (λ (x : List AreaItem). undefined_area_label x x) e) in
-    let code_is : undefined_label c.items c.area c.items ≡ None = sym (code ∙ ap (λ (x : List CodeItem). undefined_label x layout x) f ∙ ap (λ (x : List AreaItem). undefined_label c.items x c.items) e) in
+    let code_is : undefined_label c.items c.area c.items ≡ None = sym (code ∙ ap (λ (x : List CodeItem). undefined_label x layout x) f
+    ∙ ap (λ (x : List AreaItem). undefined_label c.items x c.items) e) in
     let names : undefined_name_of c ≡ None = ap (λ (o : Option (List ℕ)). first_of o (undefined_label c.items c.area c.items)) area_is ∙ code_is in
     let main_is : has_label c.items main_name ≡ true = sym (main ∙ ap (λ (x : List CodeItem). has_label x main_name) f) in
     let size : area_size layout ≤ 1048576 = omega (arith, laid.end, laid.small) in
@@ -41,12 +42,14 @@ loads_by c layout items l e f double area code main laid =
     ∙ ap (λ b. cond b (Some faults.TooLarge) None) fits
 
 -- the state before the call of `_main`
-pub blank_is : (c : Code) (input : List ℕ) (layout : List AreaItem) (items : List CodeItem) (area stack : List ℕ) (frames : List Frame) → layout ≡ c.area → items ≡ c.items → area ≡ area_bytes c.area → stack ≡ zeros 8388608 → frames ≡ []
+pub blank_is : (c : Code) (input : List ℕ) (layout : List AreaItem) (items : List CodeItem) (area stack : List ℕ) (frames : List Frame) → layout ≡ c.area → items ≡ c.items → area
+    ≡ area_bytes c.area → stack ≡ zeros 8388608 → frames ≡ []
     → (record (blank c input) { layout = layout; items = items; area = area; stack = stack; frames = frames }) ≡ blank c input
 blank_is c input layout items area stack frames e f a s r =
     λ i. record (blank c input) { layout = e i; items = f i; area = a i; stack = s i; frames = r i }
 
-pub started : (c : Code) (input : List ℕ) (items : List CodeItem) (m new : State) (main : ℕ) → m ≡ blank c input → items ≡ c.items → main ≡ label_place items main_name → Stands new (begun m (called m 0 main None)) → Stands new (start c input)
+pub started : (c : Code) (input : List ℕ) (items : List CodeItem) (m new : State) (main : ℕ) → m ≡ blank c input → items ≡ c.items → main ≡ label_place items main_name
+    → Stands new (begun m (called m 0 main None)) → Stands new (start c input)
 started c input items m new main e f g h =
     let main_is : main ≡ label_place c.items main_name = g ∙ ap (λ (x : List CodeItem). label_place x main_name) f in
     subst (λ (x : State). Stands new (begun x (called x 0 (label_place c.items main_name) None))) e (subst (λ (p : ℕ). Stands new (begun m (called m 0 p None))) main_is h)

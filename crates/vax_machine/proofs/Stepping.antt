@@ -43,7 +43,8 @@ same_byte : (b c : ℕ) → turns.Wrote b ≡ turns.Wrote c → b ≡ c
 same_byte b c e = cc
 
 -- one step and what is left behind it
-went_by : (whole : Outcome) (old out : List ℕ) (m' : State) (k : ℕ) (rest : Outcome) (x : Next) → IsStep turns.Going m' x → rest ≡ one_first (behind x (steps k)) → Stands whole old out rest → Stands whole old out (steps k m')
+went_by : (whole : Outcome) (old out : List ℕ) (m' : State) (k : ℕ) (rest : Outcome) (x : Next) → IsStep turns.Going m' x → rest ≡ one_first (behind x (steps k))
+    → Stands whole old out rest → Stands whole old out (steps k m')
 went_by whole old out m' k rest (Goes n) step e h =
     let same : steps k n ≡ steps k m' = ap (λ (x : State). steps k x) (sym step.1) in
     record {
@@ -53,7 +54,8 @@ went_by whole old out m' k rest (Goes n) step e h =
 went_by whole old out m' k rest (Writes b n) step e h = absurd (going≢wrote b step.0)
 went_by whole old out m' k rest (Stops x) step e h = absurd (going≢over x step.0)
 
-wrote_by : (whole : Outcome) (old out : List ℕ) (m' : State) (k b : ℕ) (rest : Outcome) (x : Next) → IsStep (turns.Wrote b) m' x → rest ≡ one_first (behind x (steps k)) → Stands whole old out rest → Stands whole old (out ++ b ∷ []) (steps k m')
+wrote_by : (whole : Outcome) (old out : List ℕ) (m' : State) (k b : ℕ) (rest : Outcome) (x : Next) → IsStep (turns.Wrote b) m' x → rest ≡ one_first (behind x (steps k))
+    → Stands whole old out rest → Stands whole old (out ++ b ∷ []) (steps k m')
 wrote_by whole old out m' k b rest (Goes n) step e h = absurd (wrote≢going b step.0)
 wrote_by whole old out m' k b rest (Writes c n) step e h =
     let same : steps k n ≡ steps k m' = ap (λ (x : State). steps k x) (sym step.1) in
@@ -67,11 +69,13 @@ wrote_by whole old out m' k b rest (Writes c n) step e h =
 wrote_by whole old out m' k b rest (Stops x) step e h = absurd (wrote≢over b x step.0)
 
 -- a step by which the run goes on
-pub went : (whole : Outcome) (old out : List ℕ) (m m' : State) (n i : ℕ) → i < n → IsStep turns.Going m' (step_of m) → Stands whole old out (steps (n - i) m) → Stands whole old out (steps (n - (i + 1)) m')
+pub went : (whole : Outcome) (old out : List ℕ) (m m' : State) (n i : ℕ) → i < n → IsStep turns.Going m' (step_of m) → Stands whole old out (steps (n - i) m)
+    → Stands whole old out (steps (n - (i + 1)) m')
 went whole old out m m' n i lt step h = went_by whole old out m' (n - (i + 1)) (steps (n - i) m) (step_of m) step (one_step m n i lt) h
 
 -- a step that writes a byte
-pub wrote : (b : ℕ) (whole : Outcome) (old out : List ℕ) (m m' : State) (n i : ℕ) → i < n → IsStep (turns.Wrote b) m' (step_of m) → Stands whole old out (steps (n - i) m) → Stands whole old (out ++ b ∷ []) (steps (n - (i + 1)) m')
+pub wrote : (b : ℕ) (whole : Outcome) (old out : List ℕ) (m m' : State) (n i : ℕ) → i < n → IsStep (turns.Wrote b) m' (step_of m) → Stands whole old out (steps (n - i) m)
+    → Stands whole old (out ++ b ∷ []) (steps (n - (i + 1)) m')
 wrote b whole old out m m' n i lt step h = wrote_by whole old out m' (n - (i + 1)) b (steps (n - i) m) (step_of m) step (one_step m n i lt) h
 
 -- the end that a turn tells
@@ -93,7 +97,8 @@ nothing_told t end same h = let P : Turn → Type 0 = λ x. Tells x end in subst
 nothing_told_byte : (b : ℕ) (t : Turn) (end : End) → t ≡ turns.Wrote b → Tells t end → ⊥
 nothing_told_byte b t end same h = let P : Turn → Type 0 = λ x. Tells x end in subst P same h
 
-stopped_by : (whole : Outcome) (old out : List ℕ) (m' : State) (k : ℕ) (rest : Outcome) (x : Next) (t : Turn) (end : End) → IsStep t m' x → Tells t end → rest ≡ one_first (behind x (steps k)) → Stands whole old out rest → Ran whole old out end
+stopped_by : (whole : Outcome) (old out : List ℕ) (m' : State) (k : ℕ) (rest : Outcome) (x : Next) (t : Turn) (end : End) → IsStep t m' x → Tells t end → rest
+    ≡ one_first (behind x (steps k)) → Stands whole old out rest → Ran whole old out end
 stopped_by whole old out m' k rest (Goes n) t end step tells e h = absurd (nothing_told t end step.0 tells)
 stopped_by whole old out m' k rest (Writes b n) t end step tells e h = absurd (nothing_told_byte b t end step.0 tells)
 stopped_by whole old out m' k rest (Stops x) t end step tells e h = record {
@@ -102,7 +107,8 @@ stopped_by whole old out m' k rest (Stops x) t end step tells e h = record {
 }
 
 -- a step by which the run is over
-pub stopped : (t : Turn) (end : End) (whole : Outcome) (old out : List ℕ) (m m' : State) (n i : ℕ) → Tells t end → i < n → IsStep t m' (step_of m) → Stands whole old out (steps (n - i) m) → Ran whole old out end
+pub stopped : (t : Turn) (end : End) (whole : Outcome) (old out : List ℕ) (m m' : State) (n i : ℕ) → Tells t end → i < n → IsStep t m' (step_of m) → Stands whole old out (steps (n - i) m)
+    → Ran whole old out end
 stopped t end whole old out m m' n i tells lt step h = stopped_by whole old out m' (n - (i + 1)) (steps (n - i) m) (step_of m) t end step tells (one_step m n i lt) h
 
 -- all steps are done

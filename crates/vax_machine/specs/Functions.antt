@@ -122,7 +122,8 @@ applied functions.BitClear a b c = Some (valued Long (and32 b (com32 a)) c)
 applied functions.ExclusiveOr a b c = Some (valued Long (xor32 a b) c)
 applied functions.BitTest a b c = Some (valued Long (and32 a b) c)
 applied functions.Shift a b c = Some (valued Long (ash32 a b) false)
-applied (functions.Compare size) a b c = Some (only_conditions (holds relations.Lt (extended size a) (extended size b)) (a == b) (nat_lt a b))
+applied (functions.Compare size) a b c = Some (only_conditions (holds relations.Lt (extended size a) (extended size b)) (a == b)
+    (nat_lt a b))
 applied (functions.CompareWithZero size) a b c = Some (only_conditions (is_negative_at size a) (a == 0) false)
 
 -- whether a branch is taken

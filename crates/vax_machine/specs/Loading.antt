@@ -7,7 +7,8 @@ use Rattle.vax_machine.specs.declared.loading.LoadFault.{LoadFault}
 use Rattle.vax_machine.specs.declared.loading.LoadFault.TheVariants as faults
 use Rattle.vax_machine.specs.State.{State, cleared}
 use Rattle.vax_machine.specs.Area.{zeros, area_size, area_bytes}
-use Rattle.vax_machine.specs.Labels.{main_name, has_label, label_place, first_of, double_label, double_area_label, undefined_label, undefined_area_label}
+use Rattle.vax_machine.specs.Labels.{main_name, has_label, label_place, first_of, double_label, double_area_label}
+use Rattle.vax_machine.specs.Labels.{undefined_label, undefined_area_label}
 use Rattle.vax_machine.specs.Calls.{called}
 use Rattle.vax_machine.specs.View.{state}
 
@@ -34,7 +35,8 @@ or_double None c = or_undefined (undefined_name_of c) c
 abbrev pub double_label_of : Code → Option (List ℕ)
 double_label_of c = first_of (double_area_label c.area c.items) (double_label c.items)
 
--- the first fault of a code: a label that stands twice or is a service's name; a name that isn't defined for its use; no `_main`; a data area that is too large
+-- the first fault of a code: a label that stands twice or is a service's name; a name that isn't defined for its use;
+-- no `_main`; a data area that is too large
 abbrev pub load_fault : Code → Option LoadFault
 load_fault c = or_double (double_label_of c) c
 

@@ -1,4 +1,5 @@
--- Memory: the data area and the stack, addressed by bytes, little-endian, unaligned accesses allowed. The control words of live frames take room in the stack and may not be touched.
+-- Memory: the data area and the stack, addressed by bytes, little-endian, unaligned accesses allowed. The control words
+-- of live frames take room in the stack and may not be touched.
 use Rattle.std.specs.Prelude.{ℕ, ◌+◌, ◌-◌, ◌%◌, ◌^◌, ◌&&◌, ◌==◌, nat_lt, nat_le, length, Result, Ok, Err, if◌then◌else◌}
 use Rattle.gg_base.specs.declared.size.Size.{Size}
 use Rattle.gg_base.specs.declared.size.Size.TheVariants.{Byte, Word, Long}

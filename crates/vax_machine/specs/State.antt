@@ -10,7 +10,8 @@ use Rattle.vax_machine.specs.declared.turn.Stop.TheVariants.{Broken}
 use Rattle.vax_machine_live.specs.declared.frame.Frame.{Frame}
 use Rattle.vax_machine.specs.declared.function.Conditions.{Conditions}
 
--- the text's data items and its code, the item to be done next, registers and condition codes, memory, the live frames with the innermost last, and the input that is left; `over` is there once the run is over
+-- the text's data items and its code, the item to be done next, registers and condition codes, memory, the live frames
+-- with the innermost last, and the input that is left; `over` is there once the run is over
 pub record State : Type 0 where
   pub layout : List AreaItem
   pub items : List CodeItem

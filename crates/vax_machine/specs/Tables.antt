@@ -67,7 +67,8 @@ links_of layout all (items.Globl name) = record { target = 0; numbers = 0 ∷ (0
 links_of layout all (items.Mask mask) = record { target = 0; numbers = 0 ∷ (0 ∷ (0 ∷ [])) }
 links_of layout all (items.Instr i) = record {
   target = target_of all i.target;
-  numbers = operand_number layout (slice_get i.operands 0) ∷ (operand_number layout (slice_get i.operands 1) ∷ (operand_number layout (slice_get i.operands 2) ∷ []));
+  numbers = operand_number layout (slice_get i.operands 0) ∷ (operand_number layout (slice_get i.operands 1) ∷
+      (operand_number layout (slice_get i.operands 2) ∷ []));
 }
 
 -- each operand that is looked at, with its number

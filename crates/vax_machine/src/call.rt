@@ -28,7 +28,8 @@ impl<'a> Machine<'a> {
     ghost use Rattle.vax_core.specs.declared.register.Reg.TheVariants.{Sp};
     ghost use Rattle.vax_machine_live.specs.Owners.{HasRoom};
     ghost use Rattle.vax_machine.specs.State.{Does, Leaves, reg};
-    ghost use Rattle.vax_machine.specs.Calls.{pushed, reserved, all_reserved, entered, framed, called, returned, putchar, getchar, called_by_name, restored, left, back_to};
+    ghost use Rattle.vax_machine.specs.Calls.{pushed, reserved, all_reserved, entered, framed, called, returned, putchar, getchar};
+    ghost use Rattle.vax_machine.specs.Calls.{called_by_name, restored, left, back_to};
     ghost use Rattle.vax_machine.specs.View.{state};
     ghost use Rattle.vax_machine.specs.Tables.{target_of};
 
@@ -93,7 +94,8 @@ impl<'a> Machine<'a> {
     }
 
     fn frame(&mut self, ap: u32, entry: usize, back: Option<usize>) -> Result<(), Stop>
-        ensures { Leaves result (state self.new) (framed (state self.old) ap (entry_mask (slice_get self.old.program.items.now entry)) entry back) }
+        ensures { Leaves result (state self.new) (framed (state self.old) ap
+            (entry_mask (slice_get self.old.program.items.now entry)) entry back) }
     {
         let Some(mask) = entry_mask(self.program.items, entry) else {
             return Err(BAD_CODE);

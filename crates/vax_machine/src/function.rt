@@ -1,6 +1,7 @@
 // The table of instructions: what each computes, and what becomes of the condition codes.
 ghost use Rattle.std.specs.Prelude.{◌≡◌, ◌+◌, ◌^◌, nat_le};
-ghost use Rattle.vax_machine.specs.Functions.{action_of, is_negative_at, extended, truncated, valued, only_conditions, quotient, applied, passes};
+ghost use Rattle.vax_machine.specs.Functions.{action_of, is_negative_at, extended, truncated, valued, only_conditions, quotient};
+ghost use Rattle.vax_machine.specs.Functions.{applied, passes};
 
 use gg_base::{Rel, Size, w32};
 use vax_core::Op;

@@ -141,7 +141,9 @@ pub struct Names<'a> {
 
 impl<'a> Names<'a> {
     ghost use Rattle.vax_machine.specs.Area.{has_area_label};
-    ghost use Rattle.vax_machine.specs.Labels.{main_name, has_label, label_place, undefined_name, undefined_operand, undefined_target, undefined_in, undefined_label, undefined_area_at, undefined_area_label};
+    ghost use Rattle.vax_machine.specs.Labels.{main_name, has_label, label_place, undefined_name, undefined_operand};
+    ghost use Rattle.vax_machine.specs.Labels.{undefined_target, undefined_in, undefined_label, undefined_area_at};
+    ghost use Rattle.vax_machine.specs.Labels.{undefined_area_label};
 
     /// Whether a label of the code has this name.
     fn has_label(&self, name: &[u8]) -> bool

@@ -86,7 +86,8 @@ impl<'a> Machine<'a> {
         Ok(Location::Memory(address))
     }
 
-    // Where an operand stands but for its index; registers that the operand steps are stepped. `number` is what the address in it stands for.
+    // Where an operand stands but for its index; registers that the operand steps are stepped. `number` is what the address in it
+    // stands for.
     #[tactic(auto, unfolding(crate::specs::Operands::located))]
     fn locate(&mut self, base: &Base, number: u32, size: Size) -> Result<Location, Stop>
         requires { number ≡ base_number self.old.program.layout.now base.now }

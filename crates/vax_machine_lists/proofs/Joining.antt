@@ -1,5 +1,6 @@
 -- Where instructions stand in a code at the machine's place, the machine's steps do what the instructions do by themselves.
-use Rattle.std.proofs.Common.{◌≡◌, ℕ, zero, suc, ◌+◌, Bool, true, false, cond, List, [], ◌∷◌, ◌++◌, length, drop, Option, Some, None, Result, Ok, Err, refl, sym, ap, subst, ◌∙◌, arith, append_assoc, append-nil}
+use Rattle.std.proofs.Common.{◌≡◌, ℕ, zero, suc, ◌+◌, Bool, true, false, cond, List, [], ◌∷◌, ◌++◌, length, drop, Option, Some, None, Result, Ok, Err, refl, sym, ap, subst, ◌∙◌}
+use Rattle.std.proofs.Common.{arith, append_assoc, append-nil}
 use Rattle.std.specs.Prelude.{slice_get}
 use Rattle.std.specs.Str.{bytes_eq}
 use Rattle.vax_core.specs.declared.code.Instr.{Instr}
@@ -16,7 +17,8 @@ use Rattle.vax_machine.specs.Operands.{all_evaluated}
 use Rattle.vax_machine.specs.Functions.{action_of, applied, passes}
 use Rattle.vax_machine.specs.Calls.{Acts, called, silent, returned, called_by_name, putchar, getchar}
 use Rattle.vax_machine.specs.Step.{act, at_item, instruction, acted, branched, finished, pushing}
-use Rattle.vax_machine_lists.specs.Instructions.{Ending, Comes, Goes, Calls, Returns, Stops, Course, one_byte, course_of, bytes_first, behind, followed, branching, calling, alone, evaluated_then, performed, exec}
+use Rattle.vax_machine_lists.specs.Instructions.{Ending, Comes, Goes, Calls, Returns, Stops, Course, one_byte, course_of, bytes_first, behind, followed, branching, calling, alone}
+use Rattle.vax_machine_lists.specs.Instructions.{evaluated_then, performed, exec}
 use Rattle.vax_machine_lists.specs.Laws.{StepsAreTheirs, OneAfterAnother}
 use Rattle.vax_machine_lists.specs.Runs.{Leads, HasInstrs, at_of, CarriesTo, Carries}
 use Rattle.vax_machine_lists.proofs.Placed.{Where, there, ending_there, performed_there, exec_there}

@@ -38,7 +38,8 @@ use Rattle.vax_machine.specs.Functions.{action_of, applied, passes, valued}
 use Rattle.vax_machine.specs.Labels.{putchar_name, getchar_name}
 use Rattle.vax_machine.specs.Calls.{Acts, pushed, putchar, getchar, got}
 use Rattle.vax_machine.specs.Step.{finished, pushing}
-use Rattle.vax_machine_lists.specs.Instructions.{Ending, Comes, Goes, Calls, Returns, Stops, Course, ends, bytes_first, behind, followed, course_of, branching, calling, alone, evaluated_then, performed, exec}
+use Rattle.vax_machine_lists.specs.Instructions.{Ending, Comes, Goes, Calls, Returns, Stops, Course, ends, bytes_first, behind, followed, course_of, branching, calling, alone}
+use Rattle.vax_machine_lists.specs.Instructions.{evaluated_then, performed, exec}
 
 -- where a machine stands, in which code, and whether it is over
 pub record Where : Type 0 where

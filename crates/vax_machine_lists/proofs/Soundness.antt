@@ -1,5 +1,6 @@
 -- Each step of a machine that goes on leaves such a machine, unless the run is over.
-use Rattle.std.proofs.Common.{◌≡◌, ℕ, zero, suc, ◌+◌, ◌-◌, ◌*◌, ◌%◌, ◌^◌, ◌<◌, ◌≤◌, Bool, true, false, cond, leb, List, [], ◌∷◌, ◌++◌, length, take, Option, Some, None, Result, Ok, Err, refl, sym, ap, subst, ◌∙◌, arith, length-set}
+use Rattle.std.proofs.Common.{◌≡◌, ℕ, zero, suc, ◌+◌, ◌-◌, ◌*◌, ◌%◌, ◌^◌, ◌<◌, ◌≤◌, Bool, true, false, cond, leb, List, [], ◌∷◌, ◌++◌, length, take, Option, Some, None, Result, Ok}
+use Rattle.std.proofs.Common.{Err, refl, sym, ap, subst, ◌∙◌, arith, length-set}
 use Rattle.std.specs.Prelude.{slice_get, slice_index, slice_set, nat_le, nat_lt, ◌==◌, ◌&&◌, ◌/◌}
 use Rattle.std.specs.Str.{bytes_eq}
 use Rattle.std.specs.List.{list_all}
@@ -48,7 +49,8 @@ use Rattle.vax_machine.specs.Memory.{low, touched, read, written, register_set, 
 use Rattle.vax_machine.specs.Operands.{deferred, located, indexed, moved, fetched, address_of, taken, evaluated, all_evaluated, in_front, only_number, with_destination, put, stored}
 use Rattle.vax_machine.specs.Functions.{action_of, applied, passes}
 use Rattle.vax_machine.specs.Labels.{putchar_name, getchar_name, next_item, label_place}
-use Rattle.vax_machine.specs.Calls.{Acts, pushed, reserved, all_reserved, entry_mask, entered, framed, called, restored, returned_registers, back_to, left, returned_from, returned, putchar, getchar, got, silent, called_by_name}
+use Rattle.vax_machine.specs.Calls.{Acts, pushed, reserved, all_reserved, entry_mask, entered, framed, called, restored, returned_registers, back_to, left, returned_from, returned}
+use Rattle.vax_machine.specs.Calls.{putchar, getchar, got, silent, called_by_name}
 use Rattle.vax_machine.specs.Step.{Goes, Writes, Stops, finished, pushing, branched, acted, instruction, at_item, act, next_of, next_where, step_of}
 use Rattle.vax_machine_lists.specs.Sound.{AllBelow, IsSound, AreSaved, IsRunning, Behind, StepsStaySound}
 use Rattle.vax_machine_lists.proofs.Longwords.{length-with_any, with_below, below_take, below_drop, below_set, below_get, long_below}

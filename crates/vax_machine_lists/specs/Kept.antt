@@ -21,4 +21,5 @@ KeptAt r m (Stops e) = Unit {0}
 
 -- an instruction changes none of r1 to r11 but those that its operands name
 abbrev pub InstructionsKeep : Type 0
-InstructionsKeep = (r : ℕ) → 1 ≤ r → r < 12 → (i : Instr) (m : State) → operands_name i.operands r ≡ false → KeptAt r m (performed i m).ending
+InstructionsKeep = (r : ℕ) → 1 ≤ r → r < 12 → (i : Instr) (m : State) → operands_name i.operands r ≡ false
+    → KeptAt r m (performed i m).ending

@@ -13,7 +13,8 @@ abbrev pub AllBelow : ℕ → List ℕ → Type 0
 AllBelow bound [] = Unit {0}
 AllBelow bound (n ∷ ns) = (n < bound) × AllBelow bound ns
 
--- A machine that goes on: 15 registers with longwords, the whole stack, a data area that may be so long, and bytes in both and in the input.
+-- A machine that goes on: 15 registers with longwords, the whole stack, a data area that may be so long, and bytes in
+-- both and in the input.
 pub record IsSound (m : State) : Type 0 where
   pub going : m.over ≡ None
   pub registers : length m.registers ≡ 15

@@ -20,7 +20,8 @@ pub fn instructions_keep_registers()
     ensures { InstructionsKeep }
 {}
 
-/// The law: each step of a machine that goes on leaves 15 longwords in registers, the whole stack and bytes in memory, unless the run is over.
+/// The law: each step of a machine that goes on leaves 15 longwords in registers, the whole stack and bytes in memory, unless the
+/// run is over.
 #[tactic(auto, using(crate::proofs::Soundness::steps_stay_sound))]
 pub fn steps_stay_sound()
     ensures { StepsStaySound }

@@ -1,5 +1,6 @@
 -- Which frame a byte of the stack belongs to.
-use Rattle.std.proofs.Common.{◌≡◌, ℕ, zero, suc, ◌+◌, ◌-◌, ◌*◌, ◌/◌, ◌<◌, ◌≤◌, Bool, true, false, List, [], ◌∷◌, ◌++◌, length, take, ◌⊎◌, inl, inr, refl, sym, ap, subst, ◌∙◌, arith, lt-ltb, true≢false}
+use Rattle.std.proofs.Common.{◌≡◌, ℕ, zero, suc, ◌+◌, ◌-◌, ◌*◌, ◌/◌, ◌<◌, ◌≤◌, Bool, true, false, List, [], ◌∷◌, ◌++◌, length, take, ◌⊎◌, inl, inr, refl, sym, ap, subst, ◌∙◌}
+use Rattle.std.proofs.Common.{arith, lt-ltb, true≢false}
 use Rattle.std.specs.Prelude.{◌&&◌, ◌||◌, Option, Some, None, slice_get, slice_index, nat_lt}
 use Rattle.std.proofs.lemmas.Bool.{ltb-true, ltb-false, le-ltb, and_parts}
 use Rattle.vax_machine_live.specs.declared.frame.Frame.{Frame}
@@ -51,7 +52,8 @@ pub record LiesIn (frames : List Frame) (address : ℕ) : Type 0 where
   pub there : slice_get frames number ≡ Some frame
   pub inside : overlaps frame address 1 ≡ true
 
-lies_by : (b : Bool) (g : Frame) (gs : List Frame) (address : ℕ) → overlaps g address 1 ≡ b → (b || in_control gs address 1) ≡ true → (in_control gs address 1 ≡ true → LiesIn gs address) → LiesIn (g ∷ gs) address
+lies_by : (b : Bool) (g : Frame) (gs : List Frame) (address : ℕ) → overlaps g address 1 ≡ b → (b || in_control gs address 1) ≡ true → (in_control gs address 1 ≡ true → LiesIn gs address)
+    → LiesIn (g ∷ gs) address
 lies_by true g gs address e h rest = record { number = 0; frame = g; there = refl; inside = e }
 lies_by false g gs address e h rest =
     let r = rest h in
@@ -71,14 +73,16 @@ owner_is owners number address f kept low inside =
     kept.owned ((address - 2139095040) / 4) from to
 
 -- the two answers of a look at a byte's owner
-pub owned_by_none : (frames : List Frame) (owners : List ℕ) (address number : ℕ) → AreOwned frames owners → 2139095040 ≤ address → slice_index owners ((address - 2139095040) / 4) ≡ number → slice_get frames number ≡ None → false ≡ in_control frames address 1
+pub owned_by_none : (frames : List Frame) (owners : List ℕ) (address number : ℕ) → AreOwned frames owners → 2139095040 ≤ address → slice_index owners ((address - 2139095040) / 4) ≡ number
+    → slice_get frames number ≡ None → false ≡ in_control frames address 1
 owned_by_none frames owners address number kept low e none =
     sym (not_true (in_control frames address 1) (λ h.
     let l = lies frames address h in
     let same : number ≡ l.number = sym e ∙ owner_is owners l.number address l.frame (kept.each l.number l.frame l.there) low l.inside in
     no_frame l.frame (sym none ∙ ap (λ (k : ℕ). slice_get frames k) same ∙ l.there)))
 
-pub owned_by : (frames : List Frame) (owners : List ℕ) (address number : ℕ) (f : Frame) → AreOwned frames owners → 2139095040 ≤ address → slice_index owners ((address - 2139095040) / 4) ≡ number → slice_get frames number ≡ Some f → overlaps f address 1 ≡ in_control frames address 1
+pub owned_by : (frames : List Frame) (owners : List ℕ) (address number : ℕ) (f : Frame) → AreOwned frames owners → 2139095040 ≤ address → slice_index owners ((address - 2139095040) / 4)
+    ≡ number → slice_get frames number ≡ Some f → overlaps f address 1 ≡ in_control frames address 1
 owned_by frames owners address number f kept low e there = by (overlaps f address 1) refl
   where
     by : (b : Bool) → overlaps f address 1 ≡ b → b ≡ in_control frames address 1
@@ -129,7 +133,8 @@ shuffle false true false d = refl
 shuffle false false true d = refl
 shuffle false false false d = refl
 
-both_by : (frames : List Frame) (a k : ℕ) → 1 ≤ k → k ≤ 4 → ((n : ℕ) (f : Frame) → slice_get frames n ≡ Some f → f.fp + 4 ≤ f.top) → (in_control frames a 1 || in_control frames (a + (k - 1)) 1) ≡ in_control frames a k
+both_by : (frames : List Frame) (a k : ℕ) → 1 ≤ k → k ≤ 4 → ((n : ℕ) (f : Frame) → slice_get frames n ≡ Some f → f.fp + 4 ≤ f.top)
+    → (in_control frames a 1 || in_control frames (a + (k - 1)) 1) ≡ in_control frames a k
 both_by [] a k some few long = refl
 both_by (f ∷ fs) a k some few long =
     shuffle (overlaps f a 1) (in_control fs a 1) (overlaps f (a + (k - 1)) 1) (in_control fs (a + (k - 1)) 1)
@@ -140,7 +145,8 @@ pub both_ends : (frames : List Frame) (owners : List ℕ) (a k : ℕ) → AreOwn
 both_ends frames owners a k kept some few = both_by frames a k some few (λ n f e. (kept.each n f e).long)
 
 -- a look at the first byte, and at the last one where the first is none
-pub first_is : (slice frames now : List Frame) (a k : ℕ) (r : Bool) (owners : List ℕ) → AreOwned frames owners → 1 ≤ k → k ≤ 4 → slice ≡ frames → frames ≡ now → r ≡ in_control slice a 1 → r ≡ true → r ≡ in_control now a k
+pub first_is : (slice frames now : List Frame) (a k : ℕ) (r : Bool) (owners : List ℕ) → AreOwned frames owners → 1 ≤ k → k ≤ 4 → slice ≡ frames → frames ≡ now → r ≡ in_control slice a 1
+    → r ≡ true → r ≡ in_control now a k
 first_is slice frames now a k r owners kept some few s v e h =
     let here : in_control frames a 1 ≡ true = ap (λ (x : List Frame). in_control x a 1) (sym s) ∙ sym e ∙ h in
     h
@@ -148,7 +154,8 @@ first_is slice frames now a k r owners kept some few s v e h =
     ∙ both_ends frames owners a k kept some few
     ∙ ap (λ (x : List Frame). in_control x a k) v
 
-pub last_is : (slice frames now : List Frame) (a k : ℕ) (q r : Bool) (owners : List ℕ) → AreOwned frames owners → 1 ≤ k → k ≤ 4 → slice ≡ frames → frames ≡ now → q ≡ in_control slice a 1 → q ≡ false → r ≡ in_control slice (a + (k - 1)) 1 → r ≡ in_control now a k
+pub last_is : (slice frames now : List Frame) (a k : ℕ) (q r : Bool) (owners : List ℕ) → AreOwned frames owners → 1 ≤ k → k ≤ 4 → slice ≡ frames → frames ≡ now → q ≡ in_control slice a 1
+    → q ≡ false → r ≡ in_control slice (a + (k - 1)) 1 → r ≡ in_control now a k
 last_is slice frames now a k q r owners kept some few s v e h f =
     let here : in_control frames a 1 ≡ false = ap (λ (x : List Frame). in_control x a 1) (sym s) ∙ sym e ∙ h in
     let there : r ≡ in_control frames (a + (k - 1)) 1 = f ∙ ap (λ (x : List Frame). in_control x (a + (k - 1)) 1) s in
@@ -193,7 +200,8 @@ between n a b = by (nat_lt n a) (nat_lt n b) refl refl
     by false true e h = inr (inl (ltb-false n a e, ltb-true n b h))
     by false false e h = inr (inr (ltb-false n b h))
 
-pub one_more : (frames : List Frame) (f : Frame) (old new : List ℕ) → AreOwned frames old → HasRoom frames f.fp f.top → Gives (length frames) ((f.fp - 2139095040) / 4) ((f.top - 2139095040) / 4) old new → AreOwned (frames ++ f ∷ []) new
+pub one_more : (frames : List Frame) (f : Frame) (old new : List ℕ) → AreOwned frames old → HasRoom frames f.fp f.top
+    → Gives (length frames) ((f.fp - 2139095040) / 4) ((f.top - 2139095040) / 4) old new → AreOwned (frames ++ f ∷ []) new
 one_more frames f old new kept room gives = record { each = λ number g e. by number g (at_end frames f g number e) }
   where
     still : (number : ℕ) (g : Frame) → slice_get frames number ≡ Some g → (place : ℕ) → g.fp ≤ 2139095040 + 4 * place → 2139095040 + 4 * place < g.top

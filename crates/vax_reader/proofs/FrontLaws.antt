@@ -1,5 +1,6 @@
 -- A word or a number at the front is its one spelling, and each spelling is found.
-use Rattle.std.proofs.Common.{◌≡◌, inl, inr, ℕ, zero, suc, ◌+◌, ◌-◌, ◌^◌, ◌<◌, ◌≤◌, Bool, true, false, cond, eqb, leb, ltb, List, [], ◌∷◌, ◌++◌, length, take, drop, get_or, Some, None, refl, sym, ap, subst, ◌∙◌, arith}
+use Rattle.std.proofs.Common.{◌≡◌, inl, inr, ℕ, zero, suc, ◌+◌, ◌-◌, ◌^◌, ◌<◌, ◌≤◌, Bool, true, false, cond, eqb, leb, ltb, List, [], ◌∷◌, ◌++◌, length, take, drop, get_or, Some}
+use Rattle.std.proofs.Common.{None, refl, sym, ap, subst, ◌∙◌, arith}
 use Rattle.std.specs.Prelude.{codes}
 use Rattle.std.specs.Char.{is_ascii_digit}
 use Rattle.std.specs.Str.{all_ascii_digits}
@@ -37,7 +38,8 @@ strip_short p b i (x ∷ r) lt short e = absurd (omega arith)
 own : IsNumeralModel (λ ds. all_ascii_digits ds ≡ true) (digits_value 10)
 own = numerals_by_value _ tells_all_ascii_digits
 
-front_at : (b : Bool) (c : ℕ) (cs : List ℕ) → is_ascii_digit c ≡ b → all_ascii_digits (take (run_len is_ascii_digit cs) cs) ≡ true → all_ascii_digits (take (cond b (suc (run_len is_ascii_digit cs)) 0) (c ∷ cs)) ≡ true
+front_at : (b : Bool) (c : ℕ) (cs : List ℕ) → is_ascii_digit c ≡ b → all_ascii_digits (take (run_len is_ascii_digit cs) cs) ≡ true
+    → all_ascii_digits (take (cond b (suc (run_len is_ascii_digit cs)) 0) (c ∷ cs)) ≡ true
 front_at true c cs e h = rw (e, h) refl
 front_at false c cs e h = refl
 

@@ -15,7 +15,8 @@ use Rattle.vax_core.specs.Valid.{allows, is_base, is_index, is_operand, are_oper
 use Rattle.vax_reader.specs.Fronts.{strip, run_len, name_front}
 use Rattle.vax_reader.specs.Operands.{operand_front}
 use Rattle.vax_core.specs.Mnemonics.{op_of}
-use Rattle.vax_reader.specs.Lines.{in_word, word_at, behind_word, is_last, comma, operands_front, some_target, target_front, made, checked, with_target, behind_operands, behind_tab, behind_mnemonic, instr_front}
+use Rattle.vax_reader.specs.Lines.{in_word, word_at, behind_word, is_last, comma, operands_front, some_target, target_front, made, checked, with_target, behind_operands}
+use Rattle.vax_reader.specs.Lines.{behind_tab, behind_mnemonic, instr_front}
 use Rattle.vax_reader.proofs.Choices.{map_some}
 use Rattle.vax_reader.proofs.FrontLaws.{strip_takes}
 use Rattle.vax_reader.proofs.NameLaws.{EndsName, name_takes, name_again}
@@ -67,11 +68,13 @@ record ListAt (read : List Operand) (kinds : List OperandKind) (target : Bool) (
   count : length more ≡ length kinds
   spelled : bytes ≡ listed more target ++ x.1
 
-operands_take : (read : List Operand) (kinds : List OperandKind) (target : Bool) (bytes : List ℕ) (x : List Operand × List ℕ) → operands_front read kinds target bytes ≡ Some x → ListAt read kinds target bytes x
+operands_take : (read : List Operand) (kinds : List OperandKind) (target : Bool) (bytes : List ℕ) (x : List Operand × List ℕ) → operands_front read kinds target bytes ≡ Some x
+    → ListAt read kinds target bytes x
 operands_take read [] target bytes x e =
     subst (ListAt read [] target bytes) (same_Some (read, bytes) x e) (record { more = []; is = sym (append-nil read); count = refl; spelled = refl })
 operands_take read (kind ∷ kinds) target bytes x e =
-    option_and_then_some (λ (y : Operand × List ℕ). option_and_then (λ (rest : List ℕ). operands_front (read ++ y.0 ∷ []) kinds target rest) (comma (is_last kinds target) y.1)) (operand_front bytes) x e (λ y ey more.
+    option_and_then_some (λ (y : Operand × List ℕ). option_and_then (λ (rest : List ℕ). operands_front (read ++ y.0 ∷ []) kinds target rest) (comma (is_last kinds target) y.1))
+    (operand_front bytes) x e (λ y ey more.
     option_and_then_some (λ (rest : List ℕ). operands_front (read ++ y.0 ∷ []) kinds target rest) (comma (is_last kinds target) y.1) x more (λ rest er last.
     let h = operands_take (read ++ y.0 ∷ []) kinds target rest x last in
     let o = operand_takes bytes y ey in
@@ -82,7 +85,8 @@ operands_take read (kind ∷ kinds) target bytes x e =
       count = ap suc h.count;
       spelled =
           o.spelled
-          ∙ ap (λ (t : List ℕ). operand_text y.0 ++ t) (between ∙ ap (λ (t : List ℕ). mark (is_last h.more target) ++ t) h.spelled ∙ sym (append_assoc (mark (is_last h.more target)) (listed h.more target) x.1))
+          ∙ ap (λ (t : List ℕ). operand_text y.0 ++ t) (between ∙ ap (λ (t : List ℕ). mark (is_last h.more target) ++ t) h.spelled
+          ∙ sym (append_assoc (mark (is_last h.more target)) (listed h.more target) x.1))
           ∙ sym (append_assoc (operand_text y.0) (mark (is_last h.more target) ++ listed h.more target) x.1);
     }))
 
@@ -98,7 +102,8 @@ same_count [] (o ∷ os) h = absurd (cc)
 same_count (kind ∷ kinds) [] h = absurd (cc)
 same_count (kind ∷ kinds) (o ∷ os) h = ap suc (same_count kinds os (and_parts (is_operand kind o) (are_operands kinds os) h).1)
 
-operands_again : (read : List Operand) (kinds : List OperandKind) (target : Bool) (os : List Operand) (rest : List ℕ) → are_operands kinds os ≡ true → (target ≡ false → EndsOperand rest) → operands_front read kinds target (listed os target ++ rest) ≡ Some (read ++ os, rest)
+operands_again : (read : List Operand) (kinds : List OperandKind) (target : Bool) (os : List Operand) (rest : List ℕ) → are_operands kinds os ≡ true → (target ≡ false → EndsOperand rest)
+    → operands_front read kinds target (listed os target ++ rest) ≡ Some (read ++ os, rest)
 operands_again read [] target [] rest h ends = ap (λ (t : List Operand). Some (t, rest)) (sym (append-nil read))
 operands_again read [] target (o ∷ os) rest h ends = absurd (cc)
 operands_again read (kind ∷ kinds) target [] rest h ends = absurd (cc)
@@ -128,7 +133,8 @@ target_text true os bytes x e =
 target_text false os bytes x e =
     subst (λ (z : Option (List ℕ) × List ℕ). listed os false ++ bytes ≡ operands_text os z.0 ++ z.1) (same_Some (None, bytes) x e) (ap (λ (t : List ℕ). t ++ bytes) (sym (text_alone os)))
 
-tab_before : (kinds : List OperandKind) (target : Bool) (os : List Operand) (label : Option (List ℕ)) → is_last kinds target ≡ false → are_operands kinds os ≡ true → is_target target label ≡ true → tail_text os label ≡ codes "\t" ++ operands_text os label
+tab_before : (kinds : List OperandKind) (target : Bool) (os : List Operand) (label : Option (List ℕ)) → is_last kinds target ≡ false → are_operands kinds os ≡ true → is_target target label
+    ≡ true → tail_text os label ≡ codes "\t" ++ operands_text os label
 tab_before kinds target [] (Some label) l h t = refl
 tab_before kinds target (o ∷ os) None l h t = refl
 tab_before kinds target (o ∷ os) (Some label) l h t = refl
@@ -141,7 +147,8 @@ bare_valid [] true h = absurd (cc)
 bare_valid [] false h = refl
 bare_valid (kind ∷ kinds) target h = absurd (cc)
 
-behind_takes : (op : Op) (bytes : List ℕ) (x : Instr × List ℕ) → is_last (shape op).operands (shape op).target ≡ false → option_and_then (behind_tab op) (strip (codes "\t") bytes) ≡ Some x → TailAt op bytes x
+behind_takes : (op : Op) (bytes : List ℕ) (x : Instr × List ℕ) → is_last (shape op).operands (shape op).target ≡ false → option_and_then (behind_tab op) (strip (codes "\t") bytes) ≡ Some x
+    → TailAt op bytes x
 behind_takes op bytes x l e =
     let kinds = (shape op).operands in
     let target = (shape op).target in
@@ -165,7 +172,8 @@ mnemonic_takes : (op : Op) (bytes : List ℕ) (x : Instr × List ℕ) → behind
 unfolding behind_mnemonic
 mnemonic_takes op bytes x e = by_shape (is_last (shape op).operands (shape op).target) refl e
   where
-    by_shape : (b : Bool) → is_last (shape op).operands (shape op).target ≡ b → cond b (Some (made op [] None, bytes)) (option_and_then (behind_tab op) (strip (codes "\t") bytes)) ≡ Some x → TailAt op bytes x
+    by_shape : (b : Bool) → is_last (shape op).operands (shape op).target ≡ b → cond b (Some (made op [] None, bytes)) (option_and_then (behind_tab op) (strip (codes "\t") bytes)) ≡ Some x
+        → TailAt op bytes x
     by_shape true l f = subst (TailAt op bytes) (same_Some (made op [] None, bytes) x f) (record { same = refl; valid = bare_valid (shape op).operands (shape op).target l; spelled = refl })
     by_shape false l f = behind_takes op bytes x l f
 
@@ -175,7 +183,8 @@ pub record EndsLine (rest : List ℕ) : Type 0 where
   pub name : EndsName rest
   pub word : run_len in_word rest ≡ 0
 
-tab_again : (op : Op) (kinds : List OperandKind) (target : Bool) (os : List Operand) (label : Option (List ℕ)) (rest : List ℕ) → are_operands kinds os ≡ true → is_target target label ≡ true → EndsLine rest → option_and_then (behind_operands op target) (operands_front [] kinds target (operands_text os label ++ rest)) ≡ checked (made op os label, rest)
+tab_again : (op : Op) (kinds : List OperandKind) (target : Bool) (os : List Operand) (label : Option (List ℕ)) (rest : List ℕ) → are_operands kinds os ≡ true → is_target target label
+    ≡ true → EndsLine rest → option_and_then (behind_operands op target) (operands_front [] kinds target (operands_text os label ++ rest)) ≡ checked (made op os label, rest)
 tab_again op kinds true os None rest h t ends = absurd (cc)
 tab_again op kinds false os (Some label) rest h t ends = absurd (cc)
 tab_again op kinds false os None rest h t ends =
@@ -185,21 +194,25 @@ tab_again op kinds true os (Some label) rest h t ends =
     ap (λ (x : List ℕ). option_and_then (behind_operands op true) (operands_front [] kinds true x)) (ap (λ (x : List ℕ). x ++ rest) (text_before os label) ∙ append_assoc (listed os true) label rest)
     ∙ rw (operands_again [] kinds true os (label ++ rest) h (λ e. absurd (cc)), name_again label rest t ends.name) refl
 
-bare_is : (kinds : List OperandKind) (target : Bool) (os : List Operand) (label : Option (List ℕ)) → is_last kinds target ≡ true → are_operands kinds os ≡ true → is_target target label ≡ true → (os ≡ []) × (label ≡ None)
+bare_is : (kinds : List OperandKind) (target : Bool) (os : List Operand) (label : Option (List ℕ)) → is_last kinds target ≡ true → are_operands kinds os ≡ true → is_target target label
+    ≡ true → (os ≡ []) × (label ≡ None)
 bare_is [] false [] None l h t = (refl, refl)
 bare_is [] false [] (Some label) l h t = absurd (cc)
 bare_is [] false (o ∷ os) label l h t = absurd (cc)
 bare_is [] true os label l h t = absurd (cc)
 bare_is (kind ∷ kinds) target os label l h t = absurd (cc)
 
-bare_again : (op : Op) (os : List Operand) (label : Option (List ℕ)) (rest : List ℕ) → (os ≡ []) × (label ≡ None) → ◌≡◌ {A = Option (Instr × List ℕ)} (Some (made op [] None, tail_text os label ++ rest)) (Some (made op os label, rest))
+bare_again : (op : Op) (os : List Operand) (label : Option (List ℕ)) (rest : List ℕ) → (os ≡ []) × (label ≡ None)
+    → ◌≡◌ {A = Option (Instr × List ℕ)} (Some (made op [] None, tail_text os label ++ rest)) (Some (made op os label, rest))
 bare_again op os label rest e = rw (e.0, e.1) refl
 
-mnemonic_again : (op : Op) (os : List Operand) (label : Option (List ℕ)) (rest : List ℕ) → is_instr (made op os label) ≡ true → EndsLine rest → behind_mnemonic op (tail_text os label ++ rest) ≡ Some (made op os label, rest)
+mnemonic_again : (op : Op) (os : List Operand) (label : Option (List ℕ)) (rest : List ℕ) → is_instr (made op os label) ≡ true → EndsLine rest
+    → behind_mnemonic op (tail_text os label ++ rest) ≡ Some (made op os label, rest)
 unfolding behind_mnemonic
 mnemonic_again op os label rest valid ends = by_shape (is_last (shape op).operands (shape op).target) refl
   where
-    by_shape : (b : Bool) → is_last (shape op).operands (shape op).target ≡ b → cond b (Some (made op [] None, tail_text os label ++ rest)) (option_and_then (behind_tab op) (strip (codes "\t") (tail_text os label ++ rest))) ≡ Some (made op os label, rest)
+    by_shape : (b : Bool) → is_last (shape op).operands (shape op).target ≡ b
+        → cond b (Some (made op [] None, tail_text os label ++ rest)) (option_and_then (behind_tab op) (strip (codes "\t") (tail_text os label ++ rest))) ≡ Some (made op os label, rest)
     by_shape true l =
         let p = and_parts (are_operands (shape op).operands os) (is_target (shape op).target label) valid in
         bare_again op os label rest (bare_is (shape op).operands (shape op).target os label l p.0 p.1)
@@ -240,4 +253,10 @@ instr_again i rest valid ends =
     let mnemonic = (shape i.op).mnemonic in
     let behind = tail_text i.operands i.target ++ rest in
     ap instr_front (append_assoc mnemonic (tail_text i.operands i.target) rest)
-    ∙ rw (is_word i.op behind (no_word i.operands i.target rest ends.word), take_at mnemonic behind (length mnemonic) refl, drop_at mnemonic behind (length mnemonic) refl, op_again i.op, mnemonic_again i.op i.operands i.target rest valid ends) refl
+    ∙ rw (
+      is_word i.op behind (no_word i.operands i.target rest ends.word),
+      take_at mnemonic behind (length mnemonic) refl,
+      drop_at mnemonic behind (length mnemonic) refl,
+      op_again i.op,
+      mnemonic_again i.op i.operands i.target rest valid ends,
+    ) refl

@@ -1,5 +1,6 @@
 -- The kind that is answered for a wrong line is its kind, and a line has one.
-use Rattle.std.proofs.Common.{◌≡◌, inl, inr, ℕ, zero, suc, ◌<◌, Bool, true, false, cond, eqb, ◌||◌, not, List, [], ◌∷◌, ◌++◌, length, take, drop, get_or, Option, Some, None, refl, sym, ap, subst, ◌∙◌, arith}
+use Rattle.std.proofs.Common.{◌≡◌, inl, inr, ℕ, zero, suc, ◌<◌, Bool, true, false, cond, eqb, ◌||◌, not, List, [], ◌∷◌, ◌++◌, length, take, drop, get_or, Option, Some, None, refl}
+use Rattle.std.proofs.Common.{sym, ap, subst, ◌∙◌, arith}
 use Rattle.std.specs.Prelude.{codes, is_some}
 use Rattle.std.specs.List.{Contains}
 use Rattle.std.specs.Cmp.Lexicographic.{same_text}
@@ -32,7 +33,8 @@ has_feed : (rest : List ℕ) → has_line_feed rest ≡ true → Contains rest 1
 has_feed [] h = absurd (cc)
 has_feed (c ∷ cs) h = feed_at c cs (eqb c 10) refl (has_feed cs) h
 
-no_feed_at : (c : ℕ) (cs : List ℕ) (b : Bool) → eqb c 10 ≡ b → (has_line_feed cs ≡ false → Contains cs 10 → ⊥) → (b || has_line_feed cs) ≡ false → (k : ℕ) → k < length (c ∷ cs) → get_or (c ∷ cs) k 10 ≡ 10 → ⊥
+no_feed_at : (c : ℕ) (cs : List ℕ) (b : Bool) → eqb c 10 ≡ b → (has_line_feed cs ≡ false → Contains cs 10 → ⊥) → (b || has_line_feed cs) ≡ false → (k : ℕ) → k < length (c ∷ cs)
+    → get_or (c ∷ cs) k 10 ≡ 10 → ⊥
 no_feed_at c cs true e more h k lt is = absurd (cc)
 no_feed_at c cs false e more h zero lt is = eqb-false c 10 e is
 no_feed_at c cs false e more h (suc k) lt is = more h (k, omega arith, is)
@@ -164,10 +166,16 @@ allowed_is_found stage rest b =
 not_both : (b : Bool) → b ≡ false → b ≡ true → ⊥
 not_both b f t = absurd (cc)
 
-by_tests : (stage : Stage) (rest : List ℕ) (feed label allowed : Bool) → has_line_feed rest ≡ feed → is_label_line rest ≡ label → begins_allowed stage rest ≡ allowed → IsKind stage rest (cond feed (cond label kinds.Operands (cond allowed kinds.Operands kinds.Word)) kinds.Cut)
+by_tests : (stage : Stage) (rest : List ℕ) (feed label allowed : Bool) → has_line_feed rest ≡ feed → is_label_line rest ≡ label → begins_allowed stage rest ≡ allowed
+    → IsKind stage rest (cond feed (cond label kinds.Operands (cond allowed kinds.Operands kinds.Word)) kinds.Cut)
 by_tests stage rest true true allowed f l a = (has_feed rest f, inl (label_begins rest l))
 by_tests stage rest true false true f l a = (has_feed rest f, inr (allowed_begins stage rest a))
-by_tests stage rest true false false f l a = (has_feed rest f, λ b. not_both (is_label_line rest) l (label_is_found rest b), λ b. not_both (begins_allowed stage rest) a (allowed_is_found stage rest b))
+by_tests stage rest true false false f l a = (
+  has_feed rest f,
+  λ b. not_both (is_label_line rest) l (label_is_found rest b),
+  λ b.
+      not_both (begins_allowed stage rest) a (allowed_is_found stage rest b),
+)
 by_tests stage rest false label allowed f l a = no_feed rest f
 
 pub kind_tells : (stage : Stage) (rest : List ℕ) → IsKind stage rest (kind_of stage rest)

@@ -72,7 +72,8 @@ pub record AreaAt (bytes : List ℕ) (x : AreaItem × List ℕ) : Type 0 where
   pub spelled : bytes ≡ area_line x.0 ++ x.1
 
 -- a directive with a number behind it
-counted_text : (word bytes rest : List ℕ) (n : ℕ) (text after : List ℕ) → strip word bytes ≡ Some rest → rest ≡ decimal n ++ text → text ≡ codes "\n" ++ after → bytes ≡ (word ++ decimal n ++ codes "\n") ++ after
+counted_text : (word bytes rest : List ℕ) (n : ℕ) (text after : List ℕ) → strip word bytes ≡ Some rest → rest ≡ decimal n ++ text → text ≡ codes "\n" ++ after → bytes
+    ≡ (word ++ decimal n ++ codes "\n") ++ after
 counted_text word bytes rest n text after e f g =
     strip_takes word bytes rest e
     ∙ ap (λ (t : List ℕ). word ++ t) (f ∙ ap (λ (t : List ℕ). decimal n ++ t) g)
@@ -80,7 +81,8 @@ counted_text word bytes rest n text after e f g =
     ∙ sym (append_assoc (word ++ decimal n) (codes "\n") after)
 
 -- a number of at most a limit, as an item
-number_takes : (word bytes rest : List ℕ) (limit : ℕ) (y : ℕ × List ℕ) → strip word bytes ≡ Some rest → ended (up_to limit rest) ≡ Some y → (y.0 ≤ limit) × (bytes ≡ (word ++ decimal y.0 ++ codes "\n") ++ y.1)
+number_takes : (word bytes rest : List ℕ) (limit : ℕ) (y : ℕ × List ℕ) → strip word bytes ≡ Some rest → ended (up_to limit rest) ≡ Some y → (y.0 ≤ limit)
+    × (bytes ≡ (word ++ decimal y.0 ++ codes "\n") ++ y.1)
 number_takes word bytes rest limit y e f =
     let h = ended_takes (up_to limit rest) y f in
     let n = up_to_takes limit rest h.at h.is in
@@ -175,7 +177,8 @@ unfolding counted_front
 space_again n rest one le = rw (append_assoc (decimal n) (codes "\n") rest, from_one_again 1048576 n (10 ∷ rest) (omega arith) one le refl) refl
 
 -- a line that begins with a directive with a number is none of the others
-by_count : (bytes : List ℕ) (x : AreaItem × List ℕ) → named_front (codes ":\n") bytes ≡ None → strip (codes "\t.long\t") bytes ≡ None → strip (codes "\t.globl\t") bytes ≡ None → counted_front bytes ≡ Some x → area_front bytes ≡ Some x
+by_count : (bytes : List ℕ) (x : AreaItem × List ℕ) → named_front (codes ":\n") bytes ≡ None → strip (codes "\t.long\t") bytes ≡ None → strip (codes "\t.globl\t") bytes ≡ None
+    → counted_front bytes ≡ Some x → area_front bytes ≡ Some x
 unfolding area_front
 by_count bytes x a b c d = rw (a, b, c, d) refl
 
@@ -255,7 +258,8 @@ unfolding item_front
 mask_again n rest le = rw (no_label, append_assoc (decimal n) (codes "\n") rest, up_to_again 4095 n (10 ∷ rest) (omega arith) le refl) refl
 
 -- a line that begins with a mnemonic is none of the others
-by_instr : (bytes : List ℕ) (x : CodeItem × List ℕ) → strip (codes "\t.globl\t") (9 ∷ bytes) ≡ None → strip (codes "\t.word\t") (9 ∷ bytes) ≡ None → option_map (code_item items.Instr) (ended (instr_front bytes)) ≡ Some x → item_front (9 ∷ bytes) ≡ Some x
+by_instr : (bytes : List ℕ) (x : CodeItem × List ℕ) → strip (codes "\t.globl\t") (9 ∷ bytes) ≡ None → strip (codes "\t.word\t") (9 ∷ bytes) ≡ None
+    → option_map (code_item items.Instr) (ended (instr_front bytes)) ≡ Some x → item_front (9 ∷ bytes) ≡ Some x
 unfolding item_front
 by_instr bytes x a b c = rw (no_label bytes, a, b) c
 

@@ -18,7 +18,8 @@ use Rattle.vax_reader.proofs.FrontLaws.{strip_takes, EndsNumber, number_takes, n
 
 -- names
 
-passing_at : (test : ℕ → Bool) (b : Bool) (c : ℕ) (cs : List ℕ) → test c ≡ b → list_all test (take (run_len test cs) cs) ≡ true → list_all test (take (cond b (suc (run_len test cs)) 0) (c ∷ cs)) ≡ true
+passing_at : (test : ℕ → Bool) (b : Bool) (c : ℕ) (cs : List ℕ) → test c ≡ b → list_all test (take (run_len test cs) cs) ≡ true
+    → list_all test (take (cond b (suc (run_len test cs)) 0) (c ∷ cs)) ≡ true
 passing_at test true c cs e h = rw (e, h) refl
 passing_at test false c cs e h = refl
 
@@ -123,7 +124,12 @@ choose n k here r other e written more = by_test (eqb n k) refl e
 
 general_written : (n : ℕ) (r : Reg) → general n ≡ Some r → Written n r
 general_written n r e =
-    choose n 0 R0 r _ e text_of_0 (λ e1. choose n 1 R1 r _ e1 text_of_1 (λ e2. choose n 2 R2 r _ e2 text_of_2 (λ e3. choose n 3 R3 r _ e3 text_of_3 (λ e4. choose n 4 R4 r _ e4 text_of_4 (λ e5. choose n 5 R5 r _ e5 text_of_5 (λ e6. choose n 6 R6 r _ e6 text_of_6 (λ e7. choose n 7 R7 r _ e7 text_of_7 (λ e8. choose n 8 R8 r _ e8 text_of_8 (λ e9. choose n 9 R9 r _ e9 text_of_9 (λ e10. choose n 10 R10 r _ e10 text_of_10 (λ e11. choose n 11 R11 r _ e11 text_of_11 (λ e12. absurd (none-some r e12)))))))))))))
+    choose n 0 R0 r _ e text_of_0 (λ e1. choose n 1 R1 r _ e1 text_of_1
+    (λ e2. choose n 2 R2 r _ e2 text_of_2 (λ e3. choose n 3 R3 r _ e3 text_of_3
+    (λ e4. choose n 4 R4 r _ e4 text_of_4 (λ e5. choose n 5 R5 r _ e5 text_of_5
+    (λ e6. choose n 6 R6 r _ e6 text_of_6 (λ e7. choose n 7 R7 r _ e7 text_of_7
+    (λ e8. choose n 8 R8 r _ e8 text_of_8 (λ e9. choose n 9 R9 r _ e9 text_of_9
+    (λ e10. choose n 10 R10 r _ e10 text_of_10 (λ e11. choose n 11 R11 r _ e11 text_of_11 (λ e12. absurd (none-some r e12)))))))))))))
 
 abbrev pub RegAt : List ℕ → Reg × List ℕ → Type 0
 RegAt bytes x = bytes ≡ reg_text x.0 ++ x.1

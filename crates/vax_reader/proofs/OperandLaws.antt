@@ -1,5 +1,6 @@
 -- An address or an operand at the front is its one spelling, and each spelling is found.
-use Rattle.std.proofs.Common.{◌≡◌, inl, inr, ℕ, zero, suc, ◌-◌, ◌^◌, ◌<◌, Bool, true, false, cond, eqb, ltb, ◌&&◌, not, List, [], ◌∷◌, ◌++◌, Option, Some, None, refl, sym, ap, subst, ◌∙◌, append_assoc}
+use Rattle.std.proofs.Common.{◌≡◌, inl, inr, ℕ, zero, suc, ◌-◌, ◌^◌, ◌<◌, Bool, true, false, cond, eqb, ltb, ◌&&◌, not, List, [], ◌∷◌, ◌++◌, Option, Some, None, refl, sym, ap}
+use Rattle.std.proofs.Common.{subst, ◌∙◌, append_assoc}
 use Rattle.std.specs.Prelude.{codes}
 use Rattle.std.specs.Option.{option_and_then}
 use Rattle.std.specs.Fmt.{decimal}
@@ -15,7 +16,8 @@ use Rattle.vax_core.specs.Registers.{reg_text}
 use Rattle.vax_core.specs.Text.{signed_text, offset_text, addr_text_of, addr_text, at_text, base_text, index_text, operand_text}
 use Rattle.vax_core.specs.Valid.{is_name_start, is_name, is_long, is_named_addr, is_addr_of, is_addr, is_base}
 use Rattle.vax_reader.specs.Fronts.{either, strip, number_front, signed_front, offset_front, name_front, reg_front, closed, at_front}
-use Rattle.vax_reader.specs.Operands.{number_addr, labelled, label_addr, addr_front, base_at, alone, near, far, absolute, stepped, deferred_front, immediate, at_or_stepped, plain_front, base_front, some_index, index_front, with_index, indexed, operand_front}
+use Rattle.vax_reader.specs.Operands.{number_addr, labelled, label_addr, addr_front, base_at, alone, near, far, absolute, stepped, deferred_front, immediate, at_or_stepped}
+use Rattle.vax_reader.specs.Operands.{plain_front, base_front, some_index, index_front, with_index, indexed, operand_front}
 use Rattle.vax_reader.proofs.Choices.{either_some, map_some}
 use Rattle.vax_reader.proofs.FrontLaws.{strip_takes, EndsOffset, signed_takes, signed_again, offset_takes, offset_again}
 use Rattle.vax_reader.proofs.NameLaws.{EndsName, name_takes, name_again, reg_takes, reg_again, reg_closed_takes, at_takes, at_again}
@@ -88,7 +90,8 @@ offset_ends_name : (n : ℕ) (rest : List ℕ) → EndsName rest → EndsName (o
 offset_ends_name zero rest h = h
 offset_ends_name (suc n) rest h = signs_end_name (ltb (suc n) (2 ^ 31)) (decimal (suc n)) (decimal (2 ^ 32 - suc n)) rest
 
-addr_of_again : (name : Option (List ℕ)) (offset : ℕ) (rest : List ℕ) → is_addr_of name offset ≡ true → EndsAddr rest → addr_front (addr_text_of name offset ++ rest) ≡ Some (record { name = name; offset = offset }, rest)
+addr_of_again : (name : Option (List ℕ)) (offset : ℕ) (rest : List ℕ) → is_addr_of name offset ≡ true → EndsAddr rest → addr_front (addr_text_of name offset ++ rest)
+    ≡ Some (record { name = name; offset = offset }, rest)
 unfolding addr_front
 addr_of_again None offset rest h ends = rw (signed_again offset rest (ltb-true offset (2 ^ 32) h) ends.offset.number) refl
 addr_of_again (Some name) offset rest h ends =
@@ -96,7 +99,11 @@ addr_of_again (Some name) offset rest h ends =
     let q = and_parts (is_long offset) (not (eqb offset (2 ^ 31))) p.1 in
     let behind = offset_text offset ++ rest in
     ap addr_front (append_assoc name (offset_text offset) rest)
-    ∙ rw (name_no_number name behind p.0, name_again name behind p.0 (offset_ends_name offset rest ends.name), offset_again offset rest (ltb-true offset (2 ^ 32) q.0) (not-true (eqb offset (2 ^ 31)) q.1) ends.offset) refl
+    ∙ rw (
+      name_no_number name behind p.0,
+      name_again name behind p.0 (offset_ends_name offset rest ends.name),
+      offset_again offset rest (ltb-true offset (2 ^ 32) q.0) (not-true (eqb offset (2 ^ 31)) q.1) ends.offset,
+    ) refl
 
 pub addr_again : (a : Addr) (rest : List ℕ) → is_addr a ≡ true → EndsAddr rest → addr_front (addr_text a ++ rest) ≡ Some (a, rest)
 addr_again a rest h ends = addr_of_again a.name a.offset rest h ends
@@ -140,7 +147,8 @@ deferred_takes bytes y e =
     (λ e2. option_and_then_some stepped (at_front bytes) y e2 (λ x ex more.
     map_some (λ (rest : List ℕ). (bases.IncDef x.0, rest)) (strip (codes "+") x.1) y more (λ rest er is.
     subst (BaseAt (codes "*" ++ bytes)) is (record {
-      spelled = ap (λ (t : List ℕ). codes "*" ++ t) (at_takes bytes x ex ∙ ap (λ (t : List ℕ). at_text x.0 ++ t) (strip_takes (codes "+") x.1 rest er) ∙ sym (append_assoc (at_text x.0) (codes "+") rest));
+      spelled = ap (λ (t : List ℕ). codes "*" ++ t) (at_takes bytes x ex ∙ ap (λ (t : List ℕ). at_text x.0 ++ t) (strip_takes (codes "+") x.1 rest er)
+          ∙ sym (append_assoc (at_text x.0) (codes "+") rest));
     })))))
 
 at_or_stepped_takes : (bytes : List ℕ) (x : Reg × List ℕ) (y : Base × List ℕ) → bytes ≡ at_text x.0 ++ x.1 → at_or_stepped x ≡ Some y → BaseAt bytes y
@@ -277,7 +285,8 @@ base_again (bases.Inc r) rest h ends = ap base_front (append_assoc (at_text r) (
 base_again (bases.IncDef r) rest h ends = ap base_front (ap (λ (t : List ℕ). 42 ∷ t) (append_assoc (at_text r) (codes "+") rest)) ∙ by_star (at_text r ++ (43 ∷ rest)) ∙ inc_def_again r rest
 base_again (bases.Dec r) rest h ends = by_dec _ ∙ rw (at_again r rest) refl
 base_again (bases.Disp a r) rest h ends = ap base_front (append_assoc (addr_text a) (at_text r) rest) ∙ disp_again a r rest h
-base_again (bases.DispDef a r) rest h ends = ap base_front (ap (λ (t : List ℕ). 42 ∷ t) (append_assoc (addr_text a) (at_text r) rest)) ∙ by_star (addr_text a ++ (at_text r ++ rest)) ∙ disp_def_again a r rest h
+base_again (bases.DispDef a r) rest h ends = ap base_front (ap (λ (t : List ℕ). 42 ∷ t) (append_assoc (addr_text a) (at_text r) rest)) ∙ by_star (addr_text a ++ (at_text r ++ rest))
+    ∙ disp_def_again a r rest h
 base_again (bases.Abs n) rest h ends = by_star (36 ∷ (signed_text n ++ rest)) ∙ abs_again n rest (ltb-true n (2 ^ 32) h) ends
 base_again (bases.Rel a) rest h ends = rel_again a rest h ends
 base_again (bases.RelDef a) rest h ends = by_star (addr_text a ++ rest) ∙ rel_def_again a rest h ends

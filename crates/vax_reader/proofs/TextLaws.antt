@@ -69,7 +69,8 @@ area_begins bytes rest area e is =
       number = refl;
     })
 
-pub area_goes_on : (bytes : List ℕ) (area : List AreaItem) (line : ℕ) (rest : List ℕ) (item : AreaItem) (after : List ℕ) (now : List AreaItem) → area_front rest ≡ Some (item, after) → now ≡ area ++ item ∷ [] → AreaLines bytes area line rest → AreaLines bytes now (line + 1) after
+pub area_goes_on : (bytes : List ℕ) (area : List AreaItem) (line : ℕ) (rest : List ℕ) (item : AreaItem) (after : List ℕ) (now : List AreaItem) → area_front rest ≡ Some (item, after) → now
+    ≡ area ++ item ∷ [] → AreaLines bytes area line rest → AreaLines bytes now (line + 1) after
 area_goes_on bytes area line rest item after now e is h =
     let t = area_takes rest (item, after) e in
     subst (λ (a : List AreaItem). AreaLines bytes a (line + 1) after) (sym is) (record {
@@ -78,7 +79,8 @@ area_goes_on bytes area line rest item after now e is h =
       number = omega (arith, h.number, length-append area (item ∷ []));
     })
 
-pub area_ends : (bytes : List ℕ) (area : List AreaItem) (line : ℕ) (rest after : List ℕ) → strip (codes "\t.text\n") rest ≡ Some after → AreaLines bytes area line rest → CodeLines bytes area [] (line + 1) after
+pub area_ends : (bytes : List ℕ) (area : List AreaItem) (line : ℕ) (rest after : List ℕ) → strip (codes "\t.text\n") rest ≡ Some after → AreaLines bytes area line rest
+    → CodeLines bytes area [] (line + 1) after
 area_ends bytes area line rest after e h =
     let s = strip_takes (codes "\t.text\n") rest after e in
     record {
@@ -105,7 +107,8 @@ no_area_line rest e text more l r = none-some (l.item, more) (sym e ∙ ap area_
 no_text_line : (rest : List ℕ) → strip (codes "\t.text\n") rest ≡ None → (text more : List ℕ) → text ≡ codes "\t.text\n" → rest ≡ text ++ more → ⊥
 no_text_line rest e text more l r = none-some more (sym e ∙ ap (strip (codes "\t.text\n")) (r ∙ ap (λ (t : List ℕ). t ++ more) l))
 
-pub wrong_area : (bytes : List ℕ) (area : List AreaItem) (line : ℕ) (rest : List ℕ) (kind : AsmKind) → strip (codes "\t.text\n") rest ≡ None → area_front rest ≡ None → AreaLines bytes area line rest → kind ≡ kind_of stages.Area rest → IsFirstWrong bytes line kind
+pub wrong_area : (bytes : List ℕ) (area : List AreaItem) (line : ℕ) (rest : List ℕ) (kind : AsmKind) → strip (codes "\t.text\n") rest ≡ None → area_front rest ≡ None
+    → AreaLines bytes area line rest → kind ≡ kind_of stages.Area rest → IsFirstWrong bytes line kind
 wrong_area bytes area line rest kind e f h is = record {
   stage = stages.Area;
   rest = rest;
@@ -117,7 +120,8 @@ wrong_area bytes area line rest kind e f h is = record {
 
 -- the code
 
-made_push : (area : List AreaItem) (items : List CodeItem) (item : CodeItem) (after : List ℕ) → asm_text (made area items) ++ (item_line item ++ after) ≡ asm_text (made area (items ++ item ∷ [])) ++ after
+made_push : (area : List AreaItem) (items : List CodeItem) (item : CodeItem) (after : List ℕ) → asm_text (made area items) ++ (item_line item ++ after)
+    ≡ asm_text (made area (items ++ item ∷ [])) ++ after
 made_push area items item after =
     let lines = flat_map area_line area in
     let front : (ys zs : List ℕ) → (codes "\t.data\n" ++ (lines ++ (codes "\t.text\n" ++ ys))) ++ zs ≡ codes "\t.data\n" ++ (lines ++ (codes "\t.text\n" ++ (ys ++ zs)))
@@ -126,7 +130,8 @@ made_push area items item after =
     ∙ ap (λ (x : List ℕ). codes "\t.data\n" ++ (lines ++ (codes "\t.text\n" ++ x))) (items_push items item after)
     ∙ sym (front (flat_map item_line (items ++ item ∷ [])) after)
 
-pub code_goes_on : (bytes : List ℕ) (area : List AreaItem) (items : List CodeItem) (line : ℕ) (rest : List ℕ) (item : CodeItem) (after : List ℕ) (now : List CodeItem) → item_front rest ≡ Some (item, after) → now ≡ items ++ item ∷ [] → CodeLines bytes area items line rest → CodeLines bytes area now (line + 1) after
+pub code_goes_on : (bytes : List ℕ) (area : List AreaItem) (items : List CodeItem) (line : ℕ) (rest : List ℕ) (item : CodeItem) (after : List ℕ) (now : List CodeItem) → item_front rest
+    ≡ Some (item, after) → now ≡ items ++ item ∷ [] → CodeLines bytes area items line rest → CodeLines bytes area now (line + 1) after
 code_goes_on bytes area items line rest item after now e is h =
     let t = item_takes rest (item, after) e in
     let v = and_parts (list_all is_area_item area) (list_all is_code_item items) h.valid in
@@ -139,7 +144,8 @@ code_goes_on bytes area items line rest item after now e is h =
 no_code_line : (rest : List ℕ) → item_front rest ≡ None → (text more : List ℕ) → IsCodeLine text → rest ≡ text ++ more → ⊥
 no_code_line rest e text more l r = none-some (l.item, more) (sym e ∙ ap item_front (r ∙ ap (λ (t : List ℕ). t ++ more) l.text) ∙ item_again l.item more l.valid)
 
-pub wrong_code : (bytes : List ℕ) (area : List AreaItem) (items : List CodeItem) (line : ℕ) (rest : List ℕ) (kind : AsmKind) → 0 < length rest → item_front rest ≡ None → CodeLines bytes area items line rest → kind ≡ kind_of stages.Code rest → IsFirstWrong bytes line kind
+pub wrong_code : (bytes : List ℕ) (area : List AreaItem) (items : List CodeItem) (line : ℕ) (rest : List ℕ) (kind : AsmKind) → 0 < length rest → item_front rest ≡ None
+    → CodeLines bytes area items line rest → kind ≡ kind_of stages.Code rest → IsFirstWrong bytes line kind
 wrong_code bytes area items line rest kind some f h is = record {
   stage = stages.Code;
   rest = rest;
@@ -164,7 +170,8 @@ NoArea rest = (item : AreaItem) (after : List ℕ) → is_area_item item ≡ tru
 abbrev NoCode : List ℕ → Type 0
 NoCode rest = (item : CodeItem) (after : List ℕ) → is_code_item item ≡ true → rest ≡ item_line item ++ after → ⊥
 
-same_area : (xs ys : List AreaItem) (rest other : List ℕ) → list_all is_area_item xs ≡ true → list_all is_area_item ys ≡ true → NoArea rest → NoArea other → flat_map area_line xs ++ rest ≡ flat_map area_line ys ++ other → (xs ≡ ys) × (rest ≡ other)
+same_area : (xs ys : List AreaItem) (rest other : List ℕ) → list_all is_area_item xs ≡ true → list_all is_area_item ys ≡ true → NoArea rest → NoArea other → flat_map area_line xs ++ rest
+    ≡ flat_map area_line ys ++ other → (xs ≡ ys) × (rest ≡ other)
 same_area [] [] rest other v w none none2 e = (refl, e)
 same_area [] (y ∷ ys) rest other v w none none2 e =
     let q = and_parts (is_area_item y) (list_all is_area_item ys) w in
@@ -183,7 +190,8 @@ same_area (x ∷ xs) (y ∷ ys) rest other v w none none2 e =
     let more = same_area xs ys rest other p.1 q.1 none none2 first.1 in
     (ap (λ (i : AreaItem). i ∷ xs) first.0 ∙ ap (λ (is : List AreaItem). y ∷ is) more.0, more.1)
 
-same_code : (xs ys : List CodeItem) (rest other : List ℕ) → list_all is_code_item xs ≡ true → list_all is_code_item ys ≡ true → NoCode rest → NoCode other → flat_map item_line xs ++ rest ≡ flat_map item_line ys ++ other → (xs ≡ ys) × (rest ≡ other)
+same_code : (xs ys : List CodeItem) (rest other : List ℕ) → list_all is_code_item xs ≡ true → list_all is_code_item ys ≡ true → NoCode rest → NoCode other → flat_map item_line xs ++ rest
+    ≡ flat_map item_line ys ++ other → (xs ≡ ys) × (rest ≡ other)
 same_code [] [] rest other v w none none2 e = (refl, e)
 same_code [] (y ∷ ys) rest other v w none none2 e =
     let q = and_parts (is_code_item y) (list_all is_code_item ys) w in
@@ -213,18 +221,21 @@ no_code_at_end : NoCode []
 no_code_at_end item after v e = omega (arith, item_length [] item after e)
 
 -- what stands behind `.data`
-behind_data : (area : List AreaItem) (items : List CodeItem) (rest : List ℕ) → asm_text (made area items) ++ rest ≡ codes "\t.data\n" ++ (flat_map area_line area ++ (codes "\t.text\n" ++ (flat_map item_line items ++ rest)))
+behind_data : (area : List AreaItem) (items : List CodeItem) (rest : List ℕ) → asm_text (made area items) ++ rest ≡ codes "\t.data\n"
+    ++ (flat_map area_line area ++ (codes "\t.text\n" ++ (flat_map item_line items ++ rest)))
 behind_data area items rest =
     ap (λ (x : List ℕ). codes "\t.data\n" ++ x) (append_assoc (flat_map area_line area) (codes "\t.text\n" ++ flat_map item_line items) rest)
 
 -- two texts of codes, each with something behind it
-same_texts : (area area2 : List AreaItem) (items items2 : List CodeItem) (rest other : List ℕ) → is_code (made area items) ≡ true → is_code (made area2 items2) ≡ true → NoCode rest → NoCode other → asm_text (made area items) ++ rest ≡ asm_text (made area2 items2) ++ other → (area ≡ area2) × (items ≡ items2) × (rest ≡ other)
+same_texts : (area area2 : List AreaItem) (items items2 : List CodeItem) (rest other : List ℕ) → is_code (made area items) ≡ true → is_code (made area2 items2) ≡ true → NoCode rest
+    → NoCode other → asm_text (made area items) ++ rest ≡ asm_text (made area2 items2) ++ other → (area ≡ area2) × (items ≡ items2) × (rest ≡ other)
 same_texts area area2 items items2 rest other v w none none2 e =
     let p = and_parts (list_all is_area_item area) (list_all is_code_item items) v in
     let q = and_parts (list_all is_area_item area2) (list_all is_code_item items2) w in
     let behind = flat_map item_line items ++ rest in
     let behind2 = flat_map item_line items2 ++ other in
-    let inner = append_cancel_left (codes "\t.data\n") (flat_map area_line area ++ (codes "\t.text\n" ++ behind)) (flat_map area_line area2 ++ (codes "\t.text\n" ++ behind2)) (sym (behind_data area items rest) ∙ e ∙ behind_data area2 items2 other) in
+    let inner = append_cancel_left (codes "\t.data\n") (flat_map area_line area ++ (codes "\t.text\n" ++ behind)) (flat_map area_line area2 ++ (codes "\t.text\n" ++ behind2))
+    (sym (behind_data area items rest) ∙ e ∙ behind_data area2 items2 other) in
     let a = same_area area area2 (codes "\t.text\n" ++ behind) (codes "\t.text\n" ++ behind2) p.0 q.0 (no_area_at_text behind) (no_area_at_text behind2) inner in
     let c = same_code items items2 rest other p.1 q.1 none none2 (append_cancel_left (codes "\t.text\n") behind behind2 a.1) in
     (a.0, c.0, c.1)
@@ -255,7 +266,8 @@ wrong_has_no_code : (rest : List ℕ) → NoLine stages.Code rest → NoCode res
 wrong_has_no_code rest wrong item after v e = wrong (item_line item) after (record { item = item; valid = v; text = refl }) e
 
 -- where a line of the area is wrong, no text of a code begins
-no_text_begins : (bytes : List ℕ) (area : List AreaItem) (line : ℕ) (rest : List ℕ) (other : List AreaItem) (items : List CodeItem) (behind : List ℕ) → AreaLines bytes area line rest → NoLine stages.Area rest → is_code (made other items) ≡ true → bytes ≡ asm_text (made other items) ++ behind → ⊥
+no_text_begins : (bytes : List ℕ) (area : List AreaItem) (line : ℕ) (rest : List ℕ) (other : List AreaItem) (items : List CodeItem) (behind : List ℕ) → AreaLines bytes area line rest
+    → NoLine stages.Area rest → is_code (made other items) ≡ true → bytes ≡ asm_text (made other items) ++ behind → ⊥
 no_text_begins bytes area line rest other items behind h wrong v e =
     let q = and_parts (list_all is_area_item other) (list_all is_code_item items) v in
     let code = flat_map item_line items ++ behind in
@@ -265,7 +277,8 @@ no_text_begins bytes area line rest other items behind h wrong v e =
 
 -- a first wrong line leaves no code
 
-refused_code : (bytes : List ℕ) (area : List AreaItem) (items : List CodeItem) (line : ℕ) (rest : List ℕ) (d : Code) → CodeLines bytes area items line rest → NoLine stages.Code rest → (rest ≡ [] → ⊥) → Reads bytes d → ⊥
+refused_code : (bytes : List ℕ) (area : List AreaItem) (items : List CodeItem) (line : ℕ) (rest : List ℕ) (d : Code) → CodeLines bytes area items line rest → NoLine stages.Code rest
+    → (rest ≡ [] → ⊥) → Reads bytes d → ⊥
 refused_code bytes area items line rest d h wrong unended r =
     let t = same_texts area d.area items d.items rest [] h.valid r.valid (wrong_has_no_code rest wrong) no_code_at_end (sym h.text ∙ sym (whole_text bytes d r)) in
     unended t.2
@@ -291,13 +304,15 @@ refused bytes (Err e) h = refused_by bytes e h
 abbrev SamePlace : Stage → ℕ → List ℕ → Stage → ℕ → List ℕ → Type 0
 SamePlace stage line rest stage2 line2 rest2 = (stage ≡ stage2) × (line ≡ line2) × (rest ≡ rest2)
 
-same_in_area : (bytes : List ℕ) (area area2 : List AreaItem) (line line2 : ℕ) (rest rest2 : List ℕ) → AreaLines bytes area line rest → AreaLines bytes area2 line2 rest2 → NoLine stages.Area rest → NoLine stages.Area rest2 → (line ≡ line2) × (rest ≡ rest2)
+same_in_area : (bytes : List ℕ) (area area2 : List AreaItem) (line line2 : ℕ) (rest rest2 : List ℕ) → AreaLines bytes area line rest → AreaLines bytes area2 line2 rest2
+    → NoLine stages.Area rest → NoLine stages.Area rest2 → (line ≡ line2) × (rest ≡ rest2)
 same_in_area bytes area area2 line line2 rest rest2 h k wrong wrong2 =
     let inner = append_cancel_left (codes "\t.data\n") (flat_map area_line area ++ rest) (flat_map area_line area2 ++ rest2) (sym h.text ∙ k.text) in
     let a = same_area area area2 rest rest2 h.valid k.valid (wrong_has_no_area rest wrong) (wrong_has_no_area rest2 wrong2) inner in
     (omega (arith, h.number, k.number, ap length a.0), a.1)
 
-same_in_code : (bytes : List ℕ) (area area2 : List AreaItem) (items items2 : List CodeItem) (line line2 : ℕ) (rest rest2 : List ℕ) → CodeLines bytes area items line rest → CodeLines bytes area2 items2 line2 rest2 → NoLine stages.Code rest → NoLine stages.Code rest2 → (line ≡ line2) × (rest ≡ rest2)
+same_in_code : (bytes : List ℕ) (area area2 : List AreaItem) (items items2 : List CodeItem) (line line2 : ℕ) (rest rest2 : List ℕ) → CodeLines bytes area items line rest
+    → CodeLines bytes area2 items2 line2 rest2 → NoLine stages.Code rest → NoLine stages.Code rest2 → (line ≡ line2) × (rest ≡ rest2)
 same_in_code bytes area area2 items items2 line line2 rest rest2 h k wrong wrong2 =
     let t = same_texts area area2 items items2 rest rest2 h.valid k.valid (wrong_has_no_code rest wrong) (wrong_has_no_code rest2 wrong2) (sym h.text ∙ k.text) in
     (omega (arith, h.number, k.number, ap length t.0, ap length t.1), t.2)
@@ -306,7 +321,8 @@ same_in_code bytes area area2 items items2 line line2 rest rest2 h k wrong wrong
 no_start : (bytes rest more : List ℕ) → rest ≡ bytes → NoLine stages.Start rest → bytes ≡ codes "\t.data\n" ++ more → ⊥
 no_start bytes rest more is wrong e = wrong (codes "\t.data\n") more refl (is ∙ e)
 
-same_place : (bytes : List ℕ) (stage stage2 : Stage) (line line2 : ℕ) (rest rest2 : List ℕ) → LinesBefore stage bytes line rest → LinesBefore stage2 bytes line2 rest2 → NoLine stage rest → NoLine stage2 rest2 → SamePlace stage line rest stage2 line2 rest2
+same_place : (bytes : List ℕ) (stage stage2 : Stage) (line line2 : ℕ) (rest rest2 : List ℕ) → LinesBefore stage bytes line rest → LinesBefore stage2 bytes line2 rest2 → NoLine stage rest
+    → NoLine stage2 rest2 → SamePlace stage line rest stage2 line2 rest2
 same_place bytes stages.Start stages.Start line line2 rest rest2 h k wrong wrong2 = (refl, h.0 ∙ sym k.0, h.1 ∙ sym k.1)
 same_place bytes stages.Start stages.Area line line2 rest rest2 h k wrong wrong2 = absurd (no_start bytes rest _ h.1 wrong k.1.text)
 same_place bytes stages.Start stages.Code line line2 rest rest2 h k wrong wrong2 = absurd (no_start bytes rest _ h.1 wrong (k.1.1.text ∙ behind_data k.0 k.1.0 rest2))

@@ -1,6 +1,7 @@
 -- What stands at the front of some bytes, and what is left behind it: words, numbers, names and registers. This file,
 -- Operands, Lines and Kinds compute as the reader does; what its answers mean is in Grammar and WrongLine.
-use Rattle.std.specs.Prelude.{ℕ, suc, ◌-◌, ◌^◌, Bool, false, ◌==◌, nat_le, nat_lt, List, [], ◌∷◌, take, drop, Option, Some, None, if◌then◌else◌, codes}
+use Rattle.std.specs.Prelude.{ℕ, suc, ◌-◌, ◌^◌, Bool, false, ◌==◌, nat_le, nat_lt, List, [], ◌∷◌, take, drop, Option}
+use Rattle.std.specs.Prelude.{Some, None, if◌then◌else◌, codes}
 use Rattle.std.specs.Char.{is_ascii_digit}
 use Rattle.std.specs.Str.Parse.{digits_value}
 use Rattle.std.specs.Option.{option_and_then, option_map}

@@ -45,5 +45,6 @@ has_line_feed bytes = list_any (λ (c : ℕ). c == 10) bytes
 -- the kind of the line at the front, where it is none of the grammar
 abbrev pub kind_of : Stage → List ℕ → AsmKind
 kind_of stage bytes =
-    if has_line_feed bytes then (if is_label_line bytes then kinds.Operands else if begins_allowed stage bytes then kinds.Operands else kinds.Word)
+    if has_line_feed bytes then (if is_label_line bytes then kinds.Operands else if begins_allowed stage bytes
+    then kinds.Operands else kinds.Word)
     else kinds.Cut

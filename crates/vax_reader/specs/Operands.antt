@@ -81,7 +81,8 @@ some_index x = Some (Some x.0, x.1)
 -- an index, which may be missing
 unfoldable pub index_front : List ℕ → Option (Option Reg × List ℕ)
 index_front bytes =
-    either (strip (codes "[") bytes) (λ (inner : List ℕ). option_and_then some_index (option_and_then (closed (codes "]")) (reg_front inner)))
+    either (strip (codes "[") bytes) (λ (inner : List ℕ). option_and_then some_index
+    (option_and_then (closed (codes "]")) (reg_front inner)))
     (Some (None, bytes))
 
 abbrev pub with_index : Base → Option Reg × List ℕ → Operand × List ℕ

@@ -8,7 +8,8 @@ use Rattle.vax_machine.specs.State.{reg}
 use Rattle.vax_machine.specs.Operands.{located}
 use Rattle.tree_meaning.specs.State.{Activation}
 use Rattle.vax_states.specs.Stack.{long_at, Extent, word_of, argument_of, Hold, nobody, caller}
-use Rattle.vax_states.specs.Sentences.{FramesStand, Live, AreStacked, frames_of, CallsStandApart, HomesAreNamed, ArgumentsAreNamed, LocalsAreRead, ArgumentsAreRead, AreasAreRead, FreeWordsAreFree, LocalsAreWritten, ArgumentsAreWritten, AreasAreWritten, LongwordsArePushed, RegistersAreFree}
+use Rattle.vax_states.specs.Sentences.{FramesStand, Live, AreStacked, frames_of, CallsStandApart, HomesAreNamed, ArgumentsAreNamed, LocalsAreRead, ArgumentsAreRead, AreasAreRead}
+use Rattle.vax_states.specs.Sentences.{FreeWordsAreFree, LocalsAreWritten, ArgumentsAreWritten, AreasAreWritten, LongwordsArePushed, RegistersAreFree}
 use Rattle.vax_states.proofs.Keeping.{reg_small}
 use Rattle.vax_states.proofs.Standing.{high_top, fp_high_is, local_read, argument_read, area_read_so, word_written, local_written, argument_written, area_written_so, push_written, register_kept}
 

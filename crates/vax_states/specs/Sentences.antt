@@ -21,8 +21,10 @@ use Rattle.vax_states.specs.Stack.{long_at, Extent, word_of, argument_of, Holds}
 use Rattle.vax_states.specs.Agreeing.{Agrees, HasRoom}
 
 -- what is said in each state that stands for one of trees
-abbrev pub Always : ((objects : List Object) (e : Extent) (es : List Extent) (t : Trees) (m : State) → Agrees objects e es t m → Type 0) → Type 0
-Always P = (objects : List Object) (e : Extent) (es : List Extent) (t : Trees) (m : State) (h : Agrees objects e es t m) → P objects e es t m h
+abbrev pub Always : ((objects : List Object) (e : Extent) (es : List Extent) (t : Trees) (m : State) → Agrees objects e es t m
+    → Type 0) → Type 0
+Always P = (objects : List Object) (e : Extent) (es : List Extent) (t : Trees) (m : State) (h : Agrees objects e es t m)
+    → P objects e es t m h
 
 -- ---- where things are
 
@@ -46,7 +48,8 @@ pub record Live : Type 0 where
   pub low : ℕ
   pub high : ℕ
 
--- Live calls, the innermost first, hold pieces of the stack one above the other, from an address up to the stack's end; so no two share a byte.
+-- Live calls, the innermost first, hold pieces of the stack one above the other, from an address up to the stack's end;
+-- so no two share a byte.
 abbrev pub AreStacked : List ℕ → ℕ → List Live → Type 0
 AreStacked stack low [] = low ≡ 2147483648
 AreStacked stack low (c ∷ cs) = (c.low ≡ low) × Holds stack c.frame c.extent c.call c.low c.high × AreStacked stack c.high cs
@@ -71,7 +74,8 @@ CallsStandApart = Always (λ objects e es t m h. CallsStand e es t m)
 
 -- the operands of locals, of other words and of arguments name their places
 abbrev pub HomesAreNamed : Type 0
-HomesAreNamed = Always (λ objects e es t m h. (k : ℕ) → k < e.words → located m (home k).base Long ≡ Ok (locations.Memory (word_of (reg m Fp) k), m))
+HomesAreNamed = Always (λ objects e es t m h. (k : ℕ) → k < e.words → located m (home k).base Long
+    ≡ Ok (locations.Memory (word_of (reg m Fp) k), m))
 
 abbrev pub ArgumentsAreNamed : Type 0
 ArgumentsAreNamed =
@@ -83,7 +87,8 @@ abbrev pub LocalsAreRead : Type 0
 LocalsAreRead = Always (λ objects e es t m h. (k v : ℕ) → t.running.locals k ≡ Some v → read m (word_of (reg m Fp) k) Long ≡ Ok v)
 
 abbrev pub ArgumentsAreRead : Type 0
-ArgumentsAreRead = Always (λ objects e es t m h. (i v : ℕ) → slice_get t.running.arguments i ≡ Some v → read m (argument_of (reg m Ap) (i + 1)) Long ≡ Ok v)
+ArgumentsAreRead = Always (λ objects e es t m h. (i v : ℕ) → slice_get t.running.arguments i ≡ Some v
+    → read m (argument_of (reg m Ap) (i + 1)) Long ≡ Ok v)
 
 abbrev pub AreasAreRead : Type 0
 AreasAreRead = Always (λ objects e es t m h. (size : Size) (a v : ℕ) → fetched size t.area a ≡ Some v → read m a size ≡ Ok v)
@@ -98,14 +103,16 @@ pub record Leaves (objects : List Object) (e : Extent) (es : List Extent) (t : T
 
 -- any longword goes into a word behind the locals
 abbrev pub FreeWordsAreFree : Type 0
-FreeWordsAreFree = Always (λ objects e es t m h. (k v : ℕ) → e.locals ≤ k → k < e.words → Leaves objects e es t (written m (word_of (reg m Fp) k) Long v))
+FreeWordsAreFree = Always (λ objects e es t m h. (k v : ℕ) → e.locals ≤ k → k < e.words
+    → Leaves objects e es t (written m (word_of (reg m Fp) k) Long v))
 
 abbrev pub with_local_set : Trees → ℕ → ℕ → Trees
 with_local_set t k v = record t { running = record t.running { locals = with_local t.running.locals k v } }
 
 abbrev pub LocalsAreWritten : Type 0
 LocalsAreWritten =
-    Always (λ objects e es t m h. (k v : ℕ) → k < e.locals → v < 2 ^ 32 → Leaves objects e es (with_local_set t k v) (written m (word_of (reg m Fp) k) Long v))
+    Always (λ objects e es t m h. (k v : ℕ) → k < e.locals → v < 2 ^ 32
+    → Leaves objects e es (with_local_set t k v) (written m (word_of (reg m Fp) k) Long v))
 
 abbrev pub with_argument : Trees → ℕ → ℕ → Trees
 with_argument t k v = record t { running = record t.running { arguments = slice_set t.running.arguments k v } }
@@ -128,4 +135,5 @@ LongwordsArePushed = Always (λ objects e es t m h. (v : ℕ) → HasRoom m → 
 
 -- r0 to r11 may hold anything
 abbrev pub RegistersAreFree : Type 0
-RegistersAreFree = Always (λ objects e es t m h. (r : Reg) (v : ℕ) → reg_number r < 12 → v < 2 ^ 32 → Agrees objects e es t (with_reg m r v))
+RegistersAreFree = Always (λ objects e es t m h. (r : Reg) (v : ℕ) → reg_number r < 12 → v < 2 ^ 32
+    → Agrees objects e es t (with_reg m r v))

@@ -73,7 +73,12 @@ abbrev pub aimed : Destination × Bool → Target × Bool
 aimed x = (target_of x.0, x.1)
 
 abbrev pub taken_of : Operand → Taken
-taken_of t = record { term = shape_of t.term; reads = map shape_of t.reads.items; target = option_map target_of t.destination; missized = t.is_missized }
+taken_of t = record {
+  term = shape_of t.term;
+  reads = map shape_of t.reads.items;
+  target = option_map target_of t.destination;
+  missized = t.is_missized;
+}
 
 abbrev pub arguments_of : Operands → Arguments
 arguments_of x = record {
@@ -110,4 +115,10 @@ abbrev pub reads_of : LineReads → ℕ × List Shape
 reads_of r = (r.line, map shape_of r.terms.items)
 
 abbrev pub progress_of : Run → Progress
-progress_of r = record { own = term_of r.own; last = last_of r.leaves; divisors = map shape_of r.divisors.items; reads = map reads_of r.reads.items }
+progress_of r = record {
+  own = term_of r.own;
+  last = last_of r.leaves;
+  divisors = map shape_of r.divisors.items;
+  reads =
+      map reads_of r.reads.items;
+}

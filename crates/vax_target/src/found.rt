@@ -93,7 +93,8 @@ impl Run {
         is_first: bool,
         line: &Line,
     ) -> Result<(), TargetFault>
-        ensures { Goes result (progress_of self.new) (judged_run template.entry.setting template.entry.holes.now is_first line.now self.old) }
+        ensures { Goes result (progress_of self.new) (judged_run template.entry.setting template.entry.holes.now is_first
+            line.now self.old) }
     {
         match template.line_did(is_first, &self.own, &self.leaves, line.pieces.as_slice()) {
             Ok(step) => Ok(self.go_on(line.line, step)?),

@@ -1,5 +1,6 @@
 -- The lines of a statement that calls do its deed.
-use Rattle.std.proofs.Common.{◌≡◌, ℕ, zero, suc, ◌+◌, ◌-◌, ◌%◌, ◌^◌, ◌≤◌, ◌==◌, Bool, true, false, cond, List, [], ◌∷◌, length, take, Option, Some, None, refl, sym, ap, subst, ◌∙◌, arith, get_or-set_same}
+use Rattle.std.proofs.Common.{◌≡◌, ℕ, zero, suc, ◌+◌, ◌-◌, ◌%◌, ◌^◌, ◌≤◌, ◌==◌, Bool, true, false, cond, List, [], ◌∷◌, length, take, Option, Some, None, refl, sym, ap, subst, ◌∙◌}
+use Rattle.std.proofs.Common.{arith, get_or-set_same}
 use Rattle.std.specs.Prelude.{slice_get, nat_lt, codes}
 use Rattle.std.specs.Str.{bytes_eq}
 use Rattle.std.proofs.lemmas.Bool.{eqb-true}
@@ -131,7 +132,8 @@ module _ (q : TreeProgram) (f : Extent) (fs : List Extent) (classes : List Class
   function_goes function count g there is many =
       let names = ready.instance_of.program.names in
       let size : count ≡ length (take count t.running.pushed) = sym (length-take-le count t.running.pushed (omega (arith, many))) in
-      let ran = is ∙ call_is count (function_label g.name) n (apart (codes "putchar") q.functions function g names.no_putchar there) (apart (codes "getchar") q.functions function g names.no_getchar there) in
+      let ran = is ∙ call_is count (function_label g.name) n (apart (codes "putchar") q.functions function g names.no_putchar there)
+      (apart (codes "getchar") q.functions function g names.no_getchar there) in
       entered_by (nat_lt (1 + length t.callers) 1024) g (take count t.running.pushed) (without_pushed t count)
       (n, ap course_of (ran ∙ ap (λ (k : ℕ). ends (lists.Calls (function_label g.name) k n [])) size), record { agrees = agrees; live = frames }, room)
 

@@ -1,5 +1,6 @@
 -- What a call does to states that stand for a state of trees: it is left to be done, or the service is done.
-use Rattle.std.proofs.Common.{◌≡◌, ℕ, ◌+◌, ◌*◌, ◌%◌, ◌^◌, ◌≤◌, Bool, false, cond, List, [], ◌∷◌, length, Option, Some, Result, Ok, Err, refl, sym, ap, subst, ◌∙◌, arith, get_or-set_same, get_or-set_other}
+use Rattle.std.proofs.Common.{◌≡◌, ℕ, ◌+◌, ◌*◌, ◌%◌, ◌^◌, ◌≤◌, Bool, false, cond, List, [], ◌∷◌, length, Option, Some, Result, Ok, Err, refl, sym, ap, subst, ◌∙◌, arith}
+use Rattle.std.proofs.Common.{get_or-set_same, get_or-set_other}
 use Rattle.std.specs.Prelude.{slice_get, slice_set, nat_lt}
 use Rattle.std.specs.Str.{bytes_eq}
 use Rattle.std.proofs.lemmas.Bool.{le-ltb}
@@ -125,5 +126,14 @@ module _ (objects : List Object) (e : Extent) (es : List Extent) (t : Trees) (m 
   pub input_agrees : (rest : List ℕ) → AllBelow 256 rest → Agrees objects e es (record t { input = rest }) (record m { input = rest })
   input_agrees rest small =
       rebuilt objects e es t m h (record m { input = rest }) (record t { input = rest })
-      (record { going = h.sound.going; registers = h.sound.registers; longwords = h.sound.longwords; stack = h.sound.stack; stack_bytes = h.sound.stack_bytes; area = h.sound.area; area_bytes = h.sound.area_bytes; input_bytes = small })
+      (record {
+        going = h.sound.going;
+        registers = h.sound.registers;
+        longwords = h.sound.longwords;
+        stack = h.sound.stack;
+        stack_bytes = h.sound.stack_bytes;
+        area = h.sound.area;
+        area_bytes = h.sound.area_bytes;
+        input_bytes = small;
+      })
       refl h.area refl refl refl refl h.running refl (λ a from. refl) h.bottom

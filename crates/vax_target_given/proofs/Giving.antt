@@ -186,7 +186,8 @@ form_of None f e = absurd (err_ok _ f e)
 form_of (Some x) f e = ap (λ (y : Form). Some y) (ok_same x f e)
 
 -- a number that is given is a hole's
-number_of : (s : Setting) (roles : List Hole) (i : ℕ) (deed : ActShape) → given_shape s roles (Some kind.Con) (piece.Hole i ∷ []) ≡ Ok deed → (constant_of (hole_at roles i) i >>= number_given) ≡ Ok deed
+number_of : (s : Setting) (roles : List Hole) (i : ℕ) (deed : ActShape) → given_shape s roles (Some kind.Con) (piece.Hole i ∷ []) ≡ Ok deed
+    → (constant_of (hole_at roles i) i >>= number_given) ≡ Ok deed
 unfolding shape_given
 number_of s roles i deed e = sym (ap (λ (o : Option Form). shape_read o >>= shape_given s roles (Some kind.Con)) (hole_front_is i)) ∙ e
 

@@ -1,5 +1,6 @@
 -- A line does what it is judged to do.
-use Rattle.std.proofs.Common.{◌≡◌, ℕ, zero, suc, ◌+◌, ◌-◌, ◌*◌, ◌%◌, ◌^◌, ◌<◌, ◌≤◌, ◌==◌, ◌⊎◌, inl, inr, ◌++◌, Bool, true, false, cond, List, [], ◌∷◌, length, map, take, Option, Some, None, Result, Ok, Err, refl, sym, ap, subst, ◌∙◌, arith}
+use Rattle.std.proofs.Common.{◌≡◌, ℕ, zero, suc, ◌+◌, ◌-◌, ◌*◌, ◌%◌, ◌^◌, ◌<◌, ◌≤◌, ◌==◌, ◌⊎◌, inl, inr, ◌++◌, Bool, true, false, cond, List, [], ◌∷◌, length, map, take, Option}
+use Rattle.std.proofs.Common.{Some, None, Result, Ok, Err, refl, sym, ap, subst, ◌∙◌, arith}
 use Rattle.std.specs.Prelude.{not, ◌||◌, ◌&&◌, nat_lt, is_some}
 use Rattle.std.specs.List.{AllByRecursion, list_any}
 use Rattle.std.proofs.lemmas.Bool.{eqb-true}
@@ -46,7 +47,9 @@ use Rattle.vax_templates.specs.Instructions.{Instruction, Relation, Jump, Calls,
 use Rattle.vax_templates.specs.Standing.{◌>>=◌}
 use Rattle.vax_templates.specs.Taking.{Target, ToOwn, ToSlot, ToHome, ToMemory, ToZero, ToSaved, Arguments, all_evaluated, evaluated, Taken, in_front, last_of}
 use Rattle.vax_templates.specs.Giving.{Given, Computes, Divides, Compares, Tests, given, extended}
-use Rattle.vax_templates.specs.Judging.{Last, Plain, Compared, Tested, Returning, Ended, Deed, leaves, ends_statement, is_relation, branches, is_movl, is_last_result, puts, put, divided, computed, acted, is_operand, spells_symbol, has_some, is_disordered, in_order, with_reads, checked, operated, instruction_did, returned, did_behind, line_did}
+use Rattle.vax_templates.specs.Judging.{Last, Plain, Compared, Tested, Returning, Ended, Deed, leaves, ends_statement, is_relation, branches, is_movl, is_last_result, puts, put}
+use Rattle.vax_templates.specs.Judging.{divided, computed, acted, is_operand, spells_symbol, has_some, is_disordered, in_order, with_reads, checked, operated, instruction_did}
+use Rattle.vax_templates.specs.Judging.{returned, did_behind, line_did}
 use Rattle.vax_templates.specs.Judging as judging
 use Rattle.vax_templates.specs.Settings.{hole_at}
 use Rattle.vax_templates.specs.Filled.{numbered, register_in, operand_in, filled}
@@ -468,13 +471,15 @@ module _ (c : Scene) (held : Option Shape) (m : State) (h : Sees c held m) where
   branches_did i (Returning t) d k e = absurd (err_ok _ d e)
   branches_did i (Ended deed) d k e = absurd (err_ok _ d e)
 
-  relation_did : (r : Hole) (i : ℕ) (before : Last) (d : Deed) → CodesMean c m.conditions before → cond (is_relation r) (branches c.setting i before) (Err NotInstr) ≡ Ok d → Did d (performed (F (Relation i)) m)
+  relation_did : (r : Hole) (i : ℕ) (before : Last) (d : Deed) → CodesMean c m.conditions before → cond (is_relation r) (branches c.setting i before) (Err NotInstr) ≡ Ok d
+      → Did d (performed (F (Relation i)) m)
   relation_did r i before d k e = by (is_relation r) e where
     by : (b : Bool) → cond b (branches c.setting i before) (Err NotInstr) ≡ Ok d → Did d (performed (F (Relation i)) m)
     by true e = branches_did i before d k e
     by false e = absurd (err_ok _ d e)
 
-  instruction_did_so : (is_first : Bool) (before : Last) (i : Instruction) (d : Deed) → IsShortLine i → CodesMean c m.conditions before → instruction_did c.setting c.roles is_first held before i ≡ Ok d →
+  instruction_did_so : (is_first : Bool) (before : Last) (i : Instruction) (d : Deed) → IsShortLine i → CodesMean c m.conditions before
+      → instruction_did c.setting c.roles is_first held before i ≡ Ok d →
       AreRead c d.reads → EndIsRead c d.last → NoneIsZero c d.divisors → Did d (performed (F i) m)
   instruction_did_so is_first before (Relation i) d short k e reads ends_read some = relation_did (hole_at c.roles i) i before d k e
   instruction_did_so is_first before Jump d short k e reads ends_read some = statement_did c.setting.is_statement act.Jump d _ refl e refl
@@ -501,7 +506,8 @@ module _ (c : Scene) (held : Option Shape) (m : State) (h : Sees c held m) where
   read_is None i e = absurd (err_ok _ i e)
   read_is (Some j) i e = ap Some (ok_same j i e)
 
-  pub line_did_so : (is_first : Bool) (before : Last) (ps : List Piece) (d : Deed) → CodesMean c m.conditions before → ZeroHolds c m before → line_did c.setting c.roles is_first held before ps ≡ Ok d →
+  pub line_did_so : (is_first : Bool) (before : Last) (ps : List Piece) (d : Deed) → CodesMean c m.conditions before → ZeroHolds c m before
+      → line_did c.setting c.roles is_first held before ps ≡ Ok d →
       AreRead c d.reads → EndIsRead c d.last → NoneIsZero c d.divisors → Did d (performed (filled_line c.program ps c.holes c.own) m)
   unfolding line_did
   line_did_so is_first before ps d k z e reads ends_read some =

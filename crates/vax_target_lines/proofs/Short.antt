@@ -21,8 +21,10 @@ use Rattle.vax_templates.specs.declared.form.Base.{Base}
 use Rattle.vax_templates.specs.declared.form.Base.TheVariants as base
 use Rattle.vax_templates.specs.declared.form.Form.{Form}
 use Rattle.vax_templates.specs.Marks.{marks_of, either, strip, hole_front, number_front, positive, negative, below_zero, signed_front, at_front}
-use Rattle.vax_templates.specs.Forms.{of_symbol, itself, number_spelled, of_number, of_hole, alone, near, far, deferred_front, negative_hole, immediate_front, named_front, base_front, index_front, with_index, indexed, form_front}
-use Rattle.vax_templates.specs.Instructions.{Instruction, Relation, Jump, Calls, Ret, Operates, forms_from, only, behind_blank, is_label, is_call, is_empty, jumps, operates, behind, relation_behind, relation, with_op, word_of, marks_behind, read_behind, instruction_of, whole, shape_of_pieces}
+use Rattle.vax_templates.specs.Forms.{of_symbol, itself, number_spelled, of_number, of_hole, alone, near, far, deferred_front, negative_hole, immediate_front, named_front}
+use Rattle.vax_templates.specs.Forms.{base_front, index_front, with_index, indexed, form_front}
+use Rattle.vax_templates.specs.Instructions.{Instruction, Relation, Jump, Calls, Ret, Operates, forms_from, only, behind_blank, is_label, is_call, is_empty, jumps, operates}
+use Rattle.vax_templates.specs.Instructions.{behind, relation_behind, relation, with_op, word_of, marks_behind, read_behind, instruction_of, whole, shape_of_pieces}
 use Rattle.vax_target_operands.specs.Places.{IsShort, BaseIsShort}
 use Rattle.vax_target_operands.proofs.Machine.{none_some, some_same, mapped, then_some}
 
@@ -97,7 +99,8 @@ far_short x y h e = by (either_some (at_front x.1) (of_hole (base.DisplacementDe
   by (inl p) = hole_short (base.DisplacementDeferred x.0) p.0 y h p.2
   by (inr q) = alone_short base.Deferred x.0 x.1 y (λ i. tt) q
 
-of_number_short : (made : Number → Base) (ms : List Mark) (y : Base × List Mark) → ((n : Number) → IsShort n → BaseIsShort (made n)) → option_and_then (of_number made) (number_spelled ms) ≡ Some y → Short y
+of_number_short : (made : Number → Base) (ms : List Mark) (y : Base × List Mark) → ((n : Number) → IsShort n → BaseIsShort (made n)) → option_and_then (of_number made) (number_spelled ms)
+    ≡ Some y → Short y
 of_number_short made ms y h e =
     let r = then_some (of_number made) (number_spelled ms) y e in
     subst Short (some_same (made r.0.0, r.0.1) y r.2) (h r.0.0 (number_short ms r.0 r.1))

@@ -1,5 +1,6 @@
 -- What an instruction takes of an operand on the machine is what the operand's term says.
-use Rattle.std.proofs.Common.{◌≡◌, ℕ, suc, zero, ◌+◌, ◌-◌, ◌*◌, ◌%◌, ◌^◌, ◌<◌, ◌≤◌, ◌==◌, ◌++◌, Bool, true, false, cond, List, [], ◌∷◌, length, map, take, Option, Some, None, Result, Ok, Err, refl, sym, ap, subst, ◌∙◌, arith}
+use Rattle.std.proofs.Common.{◌≡◌, ℕ, suc, zero, ◌+◌, ◌-◌, ◌*◌, ◌%◌, ◌^◌, ◌<◌, ◌≤◌, ◌==◌, ◌++◌, Bool, true, false, cond, List, [], ◌∷◌, length, map, take, Option, Some, None}
+use Rattle.std.proofs.Common.{Result, Ok, Err, refl, sym, ap, subst, ◌∙◌, arith}
 use Rattle.std.specs.Prelude.{not, ◌||◌}
 use Rattle.std.specs.List.{AllByRecursion}
 use Rattle.gg_base.specs.declared.size.Size.{Size}
@@ -41,8 +42,12 @@ use Rattle.vax_templates.specs.declared.setting.Own.{Own}
 use Rattle.vax_templates.specs.declared.setting.Own.TheVariants as own
 use Rattle.vax_templates.specs.declared.setting.Opening.{Opening}
 use Rattle.vax_templates.specs.declared.setting.Opening.TheVariants as opening
-use Rattle.vax_templates.specs.Standing.{Where, Immediate, Register, OwnRegister, RegisterZero, Value, Place, Local, SavedPlace, Saved, At, constant_of, absolute_term, number_term, own_value, register_term, where_own, where_hole, where_zero, where_deferred, through, at, sum, displaced, pointed, negated, itself, where_base, scaled, moved, where_indexed, form_where, ◌>>=◌}
-use Rattle.vax_templates.specs.Taking.{Target, ToOwn, ToSlot, ToHome, ToMemory, ToZero, ToSaved, Taken, taken_term, taken_read, taken_missized, cut, sized, last_result, cut_term, fetched, pointer_read, addressed, is_long, own_target, memory_target, zero_target, statement_target, targeted, written, both, taken, evaluated, Arguments, no_arguments, last_of, in_front, all_evaluated}
+use Rattle.vax_templates.specs.Standing.{Where, Immediate, Register, OwnRegister, RegisterZero, Value, Place, Local, SavedPlace, Saved, At, constant_of, absolute_term, number_term}
+use Rattle.vax_templates.specs.Standing.{own_value, register_term, where_own, where_hole, where_zero, where_deferred, through, at, sum, displaced, pointed, negated, itself}
+use Rattle.vax_templates.specs.Standing.{where_base, scaled, moved, where_indexed, form_where, ◌>>=◌}
+use Rattle.vax_templates.specs.Taking.{Target, ToOwn, ToSlot, ToHome, ToMemory, ToZero, ToSaved, Taken, taken_term, taken_read, taken_missized, cut, sized, last_result, cut_term}
+use Rattle.vax_templates.specs.Taking.{fetched, pointer_read, addressed, is_long, own_target, memory_target, zero_target, statement_target, targeted, written, both, taken}
+use Rattle.vax_templates.specs.Taking.{evaluated, Arguments, no_arguments, last_of, in_front, all_evaluated}
 use Rattle.vax_templates.specs.Filled.{register_in, operand_in, filled}
 use Rattle.vax_target_operands.specs.Scenes.{Scene, worth, role_at, filling_at, OwnIs, IsOwnRegister, Sees}
 use Rattle.vax_target_operands.specs.Places.{StandsAt, InRegister, IsHome, IsWhere, IsReadIfAny, CanStand, Stands}
@@ -429,7 +434,8 @@ module _ (c : Scene) (held : Option Shape) (m : State) (h : Sees c held m) where
       subst (IsTaken access.Write size l) (ok_same _ t e)
       (record { number = machine.with_destination 0 l size; is = refl; worth_so = refl; aim = aim; at_size = refl; narrow = λ r. cc })
 
-  taken_can : (kind : Access) (w : Where) (size : Size) (t : Taken) → Points c held w → taken c.setting held kind w size ≡ Ok t → t.missized ≡ false → AreRead c t.reads → CanAim c t.target → CanStand c w size
+  taken_can : (kind : Access) (w : Where) (size : Size) (t : Taken) → Points c held w → taken c.setting held kind w size ≡ Ok t → t.missized ≡ false → AreRead c t.reads → CanAim c t.target
+      → CanStand c w size
   unfolding taken
   taken_can access.Read w size t p e none reads can = fetched_can w size t p e none reads
   taken_can access.Modify w size t p e none reads can =
@@ -526,14 +532,17 @@ module _ (c : Scene) (held : Option Shape) (m : State) (h : Sees c held m) where
   unfolding machine.evaluated
   evaluated_at k f w t s x = record {
     number = x.number;
-    is = ap (λ (r : Result (Location × State) Stop). state.◌>>=◌ r (λ (y : Location × State). state.◌>>=◌ (machine.taken y.1 k.access (machine.indexed y.1 y.0 (filled c.program c.holes c.own f).index k.size) k.size) (λ (e : Evaluated). Ok (e, y.1)))) s.at.found ∙ ap (λ l. finish (machine.taken m k.access l k.size)) s.at.is ∙ ap finish x.is;
+    is = ap (λ (r : Result (Location × State) Stop). state.◌>>=◌ r (λ (y : Location × State).
+        state.◌>>=◌ (machine.taken y.1 k.access (machine.indexed y.1 y.0 (filled c.program c.holes c.own f).index k.size) k.size) (λ (e : Evaluated). Ok (e, y.1)))) s.at.found
+        ∙ ap (λ l. finish (machine.taken m k.access l k.size)) s.at.is ∙ ap finish x.is;
     worth_so = x.worth_so;
     aim = x.aim;
     at_size = x.at_size;
     narrow = x.narrow;
   }
 
-  evaluated_means : (k : OperandKind) (f : Form) (t : Taken) → MayStand c held f → evaluated c.setting c.roles held k f ≡ Ok t → t.missized ≡ false → AreRead c t.reads → CanAim c t.target → IsEvaluated k f t
+  evaluated_means : (k : OperandKind) (f : Form) (t : Taken) → MayStand c held f → evaluated c.setting c.roles held k f ≡ Ok t → t.missized ≡ false → AreRead c t.reads → CanAim c t.target
+      → IsEvaluated k f t
   unfolding evaluated
   evaluated_means k f t may e none reads can =
       let d = chained (form_where c.setting c.roles held f k.size) (λ (w : Where). taken c.setting held k.access w k.size) t e in
@@ -598,7 +607,12 @@ module _ (c : Scene) (held : Option Shape) (m : State) (h : Sees c held m) where
 
   last_taken : (k : OperandKind) (f : Form) (fs : List Form) (n : ℕ) (t : Taken) (x : Arguments) (v : IsEvaluated k f t) → whole t no_arguments ≡ x → Takes c m (k ∷ []) (f ∷ fs) (suc n) x
   last_taken k f fs n t x v s =
-      front_taken k f [] fs n t no_arguments x v (record { numbers = machine.no_arguments; is = refl; so = record { first = refl; second = refl; destination = tt; at_size = tt; sizes = tt } }) s v.aim v.at_size v.narrow
+      front_taken k f [] fs n t no_arguments x v (record {
+        numbers = machine.no_arguments;
+        is = refl;
+        so =
+            record { first = refl; second = refl; destination = tt; at_size = tt; sizes = tt };
+      }) s v.aim v.at_size v.narrow
 
   more_taken : (k j : OperandKind) (f : Form) (ks : List OperandKind) (fs : List Form) (n : ℕ) (t : Taken) (r x : Arguments) → t.target ≡ None → IsEvaluated k f t → Takes c m (j ∷ ks) fs n r →
       whole t r ≡ x → Takes c m (k ∷ j ∷ ks) (f ∷ fs) (suc n) x

@@ -5,7 +5,8 @@ use Rattle.gg_base.specs.declared.size.Size.{Size}
 use Rattle.gg_base.specs.declared.size.Size.TheVariants.{Long}
 use Rattle.md_reader_pieces.specs.declared.piece.Piece.{Piece}
 use Rattle.term_core.specs.Shape.{Shape, Constant, LastResult}
-use Rattle.sel_terms.specs.Effects.{ActShape, Value, Number, Address, PlaceHome, PlaceAt, StoreHome, StoreAt, Branch, Push, Call, Save, Return, Jump}
+use Rattle.sel_terms.specs.Effects.{ActShape, Value, Number, Address, PlaceHome, PlaceAt, StoreHome, StoreAt, Branch}
+use Rattle.sel_terms.specs.Effects.{Push, Call, Save, Return, Jump}
 use Rattle.sel_terms_meaning.specs.Meaning.{terms_of_act}
 use Rattle.vax_core.specs.declared.register.Reg.TheVariants.{R0}
 use Rattle.vax_core.specs.declared.op.Op.TheVariants as ops
@@ -72,7 +73,8 @@ DoesDeed c m (Branch i a b) did = IsMet c m.conditions a b × (did ≡ performed
 DoesDeed c m (Push t) did = did ≡ course_of (pushing m (worth c t))
 DoesDeed c m Call did = did ≡ performed (call_of c.program (callee_among c.holes)) m
 DoesDeed c m (Save i) did =
-    Puts c m Long (worth c LastResult) (λ l. StandsAt m (operand_in c.program (filling_at c i)) Long l × IsSavedLocal c (filling_at c i)) did
+    Puts c m Long (worth c LastResult) (λ l. StandsAt m (operand_in c.program (filling_at c i)) Long l
+    × IsSavedLocal c (filling_at c i)) did
 DoesDeed c m (Return t) did = (did ≡ ends (Returns m)) × (reg m R0 ≡ worth c t)
 DoesDeed c m Jump did = did ≡ performed (branch_to ops.Jbr c.holes) m
 

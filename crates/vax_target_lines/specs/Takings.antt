@@ -102,4 +102,5 @@ pub record Takes (c : Scene) (m : State) (kinds : List OperandKind) (forms : Lis
 abbrev pub OperandsAreTaken : Type 0
 OperandsAreTaken = (c : Scene) (zero : Option Shape) (m : State) (kinds : List OperandKind) (forms : List Form) (n : ℕ) (x : Arguments) →
     Sees c zero m → LastIsWritten kinds → length kinds ≤ n → AllByRecursion (MayStand c zero) forms →
-    all_evaluated c.setting c.roles zero kinds forms ≡ Ok x → x.missized ≡ false → AreRead c x.reads → CanAim c x.target → Takes c m kinds forms n x
+    all_evaluated c.setting c.roles zero kinds forms ≡ Ok x → x.missized ≡ false → AreRead c x.reads → CanAim c x.target
+    → Takes c m kinds forms n x

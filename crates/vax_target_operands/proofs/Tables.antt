@@ -77,7 +77,8 @@ functions_mean c (functions.Compare size) s t k h = by size h where
   by Word h = got _ _ (compare_says Word (worth c s) (worth c t) _ h.0 h.1 refl refl refl)
   by Long h = got _ _ (compare_says Long (worth c s) (worth c t) _ h.0 h.1 refl refl refl)
 functions_mean c (functions.CompareWithZero size) s t k h = by size h where
-  by : (size : Size) → AreNarrow (functions.CompareWithZero size) (worth c s) (worth c t) → IsGiven c (given (functions.CompareWithZero size) s t) (applied (functions.CompareWithZero size) (worth c s) (worth c t) k)
+  by : (size : Size) → AreNarrow (functions.CompareWithZero size) (worth c s) (worth c t)
+      → IsGiven c (given (functions.CompareWithZero size) s t) (applied (functions.CompareWithZero size) (worth c s) (worth c t) k)
   by Byte h = got _ _ (compare_zero_says Byte (worth c s) _ h refl refl refl)
   by Word h = got _ _ (compare_zero_says Word (worth c s) _ h refl refl refl)
   by Long h = got _ _ (compare_zero_says Long (worth c s) _ h refl refl refl)

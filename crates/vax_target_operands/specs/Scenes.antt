@@ -128,7 +128,8 @@ abbrev pub is_lost : Scene → Option Shape → Bool
 is_lost c None = false
 is_lost c (Some t) = c.setting.is_reused
 
--- A state in which a line is run: the data area is the view's, each hole means what it stands for, unless `%0` took its register, `%0` holds its
+-- A state in which a line is run: the data area is the view's, each hole means what it stands for, unless `%0` took its
+-- register, `%0` holds its
 -- value, and before it has one, register 0 is the last call's result to a rule that saves it.
 pub record Sees (c : Scene) (zero : Option Shape) (m : State) : Type 0 where
   pub sound : IsSound m

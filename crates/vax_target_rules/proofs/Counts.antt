@@ -21,7 +21,8 @@ use Rattle.vax_templates.specs.Instructions.{Instruction, Relation, Jump, Calls,
 use Rattle.vax_templates.specs.Standing.{◌>>=◌}
 use Rattle.vax_templates.specs.Taking.{Target, ToOwn, ToSlot, ToHome, ToMemory, ToZero, ToSaved, Arguments, all_evaluated}
 use Rattle.vax_templates.specs.Giving.{Given, Computes, Divides, Compares, Tests, given}
-use Rattle.vax_templates.specs.Judging.{Last, Plain, Compared, Tested, Returning, Ended, Deed, leaves, ends_statement, is_relation, branches, is_movl, is_last_result, puts, put, divided, computed, acted, has_some, is_disordered, in_order, with_reads, checked, operated, instruction_did, returned, did_behind, line_did}
+use Rattle.vax_templates.specs.Judging.{Last, Plain, Compared, Tested, Returning, Ended, Deed, leaves, ends_statement, is_relation, branches, is_movl, is_last_result, puts, put}
+use Rattle.vax_templates.specs.Judging.{divided, computed, acted, has_some, is_disordered, in_order, with_reads, checked, operated, instruction_did, returned, did_behind, line_did}
 use Rattle.vax_templates.specs.Judging as judging
 use Rattle.vax_templates.specs.Found.{Progress, judged, lines_judged}
 use Rattle.vax_target_operands.proofs.Binds.{err_ok, ok_same, Chained, chained, cond_ok}

@@ -24,7 +24,8 @@ use Rattle.vax_templates.specs.declared.setting.Setting.{Setting}
 use Rattle.vax_templates.specs.Settings.{holes_of, setting_of}
 use Rattle.vax_templates.specs.Standing.{◌>>=◌}
 use Rattle.vax_templates.specs.Judging.{Last}
-use Rattle.vax_templates.specs.Found.{Progress, start, at_line, lines_judged, given_by, given_line, contains, act_contains, effect_contains, first_dropped, none_dropped, with_divisors, checked, ended, template_found, found}
+use Rattle.vax_templates.specs.Found.{Progress, start, at_line, lines_judged, given_by, given_line, contains, act_contains, effect_contains, first_dropped, none_dropped}
+use Rattle.vax_templates.specs.Found.{with_divisors, checked, ended, template_found, found}
 use Rattle.vax_target_operands.proofs.Binds.{err_ok, ok_same, Chained, chained}
 use Rattle.vax_target_runs.proofs.Runs.{at_line_is}
 
@@ -56,7 +57,8 @@ template_is s roles k ls g e h =
       none_dropped_so = subst (λ x. first_dropped x p.first.reads ≡ None) n.1 n.0;
     }
 
-pub rule_is : (classes : List Class) (rule : Rule) (e : EffectShape) → found classes rule ≡ Ok e → IsFound (setting_of classes rule) (holes_of classes rule.right) (kind_at classes rule.left) rule.lines rule.give e
+pub rule_is : (classes : List Class) (rule : Rule) (e : EffectShape) → found classes rule ≡ Ok e
+    → IsFound (setting_of classes rule) (holes_of classes rule.right) (kind_at classes rule.left) rule.lines rule.give e
 unfolding found
 rule_is classes rule e h = template_is (setting_of classes rule) (holes_of classes rule.right) (kind_at classes rule.left) rule.lines rule.give e h
 

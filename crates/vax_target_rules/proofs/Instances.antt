@@ -100,7 +100,8 @@ module _ (c : Scene) (m : State) (i : ℕ) (labelled : AreLabelled c.program.obj
       let r = mapped (moved m o.index Long) (named m o.base) (worth c (Symbol i)) e in
       record { plain = none; named_so = r.1 ∙ ap (λ (x : ℕ). Some x) (sym (ap (λ x. moved m x Long r.0) none) ∙ r.2) }
 
-  object_by : (o : Option Object) (object offset : ℕ) → slice_get c.program.objects object ≡ o → address_of o offset ≡ Some (worth c (Symbol i)) → IsObject c m i (token tok.Gaddr (att.Object object offset))
+  object_by : (o : Option Object) (object offset : ℕ) → slice_get c.program.objects object ≡ o → address_of o offset ≡ Some (worth c (Symbol i))
+      → IsObject c m i (token tok.Gaddr (att.Object object offset))
   object_by None object offset is e = absurd (none_some (worth c (Symbol i)) e)
   object_by (Some o) object offset is e = record {
     address = ap (λ x. resolved_of m.layout (label_of x) offset) is ∙ ap (λ x. add32 x offset) (labelled object o is) ∙ some_same (add32 o.address offset) (worth c (Symbol i)) e;
@@ -283,7 +284,8 @@ module _ (c : Scene) (m : State) (i : ℕ) (labelled : AreLabelled c.program.obj
   symbol_means classes (symbols.Tok t) (attr.Token l) fits known whole homes =
       by l.tok l.att fits.0 fits.1 fits.2 known whole homes
     where
-      by : (x : Tok) (a : Att) → x ≡ t → leaf_fits (record { tok = x; att = a }) ≡ true → InFrame a → KnowsToken x a → TokenIsWhole x a (c.view.symbol i) → HasTokenHome x a → Means c m (hole_of_token t) i (token x a)
+      by : (x : Tok) (a : Att) → x ≡ t → leaf_fits (record { tok = x; att = a }) ≡ true → InFrame a → KnowsToken x a → TokenIsWhole x a (c.view.symbol i) → HasTokenHome x a
+          → Means c m (hole_of_token t) i (token x a)
       by x a same fits low known whole homes = subst (λ y. Means c m (hole_of_token y) i (token x a)) same (token_means x a fits low known whole homes)
   symbol_means classes (symbols.Tok t) (attr.Reg r) fits known whole homes = absurd fits
   symbol_means classes (symbols.Tok t) (attr.InSlot k) fits known whole homes = absurd fits

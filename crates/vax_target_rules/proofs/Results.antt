@@ -1,5 +1,6 @@
 -- A rule's lines leave its result in its register.
-use Rattle.std.proofs.Common.{◌≡◌, ℕ, zero, suc, ◌-◌, ◌^◌, ◌<◌, ◌≤◌, ◌==◌, ◌⊎◌, inl, inr, ◌++◌, Bool, true, false, cond, List, [], ◌∷◌, length, map, Option, Some, None, Result, Ok, Err, refl, sym, ap, subst, ◌∙◌, arith}
+use Rattle.std.proofs.Common.{◌≡◌, ℕ, zero, suc, ◌-◌, ◌^◌, ◌<◌, ◌≤◌, ◌==◌, ◌⊎◌, inl, inr, ◌++◌, Bool, true, false, cond, List, [], ◌∷◌, length, map, Option, Some, None, Result, Ok}
+use Rattle.std.proofs.Common.{Err, refl, sym, ap, subst, ◌∙◌, arith}
 use Rattle.std.specs.Prelude.{slice_get}
 use Rattle.std.specs.Option.{option_map}
 use Rattle.std.specs.List.{AllByRecursion}
@@ -271,7 +272,14 @@ module _ (q : TreeProgram) (f : Extent) (fs : List Extent) (classes : List Class
     ran = ap course_of x.is;
     gets = ap (λ (n : ℕ). Some n) x.sees.holds;
     keeps = registers_are_kept r m x.state r_low
-        (record { registers = x.differs.registers; conditions = x.differs.conditions; is = x.differs.is; others = λ y off. x.differs.others y (λ h. off (h ∙ number_is r r_low)); sound = x.differs.sound });
+        (record {
+          registers = x.differs.registers;
+          conditions = x.differs.conditions;
+          is = x.differs.is;
+          others = λ y off. x.differs.others y (λ h. off (h ∙ number_is r r_low));
+          sound =
+              x.differs.sound;
+        });
   }
 
   sets_plain : (setting_of classes rule).is_statement ≡ false → left_value F.progress.own ≡ Ok F.deed → R

@@ -1,5 +1,6 @@
 -- Lines do what they are judged to do, one after another.
-use Rattle.std.proofs.Common.{◌≡◌, ℕ, zero, suc, ◌+◌, ◌-◌, ◌^◌, ◌<◌, ◌≤◌, ◌==◌, ◌⊎◌, inl, inr, ◌++◌, Bool, true, false, cond, List, [], ◌∷◌, length, map, Option, Some, None, Result, Ok, Err, refl, sym, ap, subst, ◌∙◌, arith, append-nil, get_or-set_same, get_or-set_other}
+use Rattle.std.proofs.Common.{◌≡◌, ℕ, zero, suc, ◌+◌, ◌-◌, ◌^◌, ◌<◌, ◌≤◌, ◌==◌, ◌⊎◌, inl, inr, ◌++◌, Bool, true, false, cond, List, [], ◌∷◌, length, map, Option, Some, None}
+use Rattle.std.proofs.Common.{Result, Ok, Err, refl, sym, ap, subst, ◌∙◌, arith, append-nil, get_or-set_same, get_or-set_other}
 use Rattle.std.specs.Prelude.{slice_index, slice_set, slice_get, not}
 use Rattle.std.specs.List.{AllByRecursion}
 use Rattle.md_reader_pieces.specs.declared.piece.Line.{Line}
@@ -285,13 +286,49 @@ module _ (c : Scene) (m : State) (apart : IsApart c) (low : reg_number (register
   next : (held o : Option Shape) (l0 l : Last) (n : State) (did : Course) → Reaches c held l0 m n → LineRan held l0 n o l did → IsOpen l → ComesTo c (kept_or_put held o) l m did
   next held o l0 Plain n did r x open_ = made x.does where
     made : GoesOn c n o Plain did → ComesTo c (kept_or_put held o) Plain m did
-    made g = record { state = with_conditions (with_own c n o) g.conditions; is = g.is; reaches = record { differs = goes_plain held o l0 Plain n g.conditions r (x.seen tt) (x.quiet tt); codes = g.codes_mean; zero_holds = tt; sees = sees_own held o n g.conditions g.may (x.seen tt); may = may_after held o r.may g.may } }
+    made g = record {
+      state = with_conditions (with_own c n o) g.conditions;
+      is = g.is;
+      reaches =
+          record {
+            differs = goes_plain held o l0 Plain n g.conditions r (x.seen tt) (x.quiet tt);
+            codes = g.codes_mean;
+            zero_holds = tt;
+            sees =
+                sees_own held o n g.conditions g.may (x.seen tt);
+            may = may_after held o r.may g.may;
+          };
+    }
   next held o l0 (Compared a b) n did r x open_ = made x.does where
     made : GoesOn c n o (Compared a b) did → ComesTo c (kept_or_put held o) (Compared a b) m did
-    made g = record { state = with_conditions (with_own c n o) g.conditions; is = g.is; reaches = record { differs = goes_plain held o l0 (Compared a b) n g.conditions r (x.seen tt) (x.quiet tt); codes = g.codes_mean; zero_holds = tt; sees = sees_own held o n g.conditions g.may (x.seen tt); may = may_after held o r.may g.may } }
+    made g = record {
+      state = with_conditions (with_own c n o) g.conditions;
+      is = g.is;
+      reaches =
+          record {
+            differs = goes_plain held o l0 (Compared a b) n g.conditions r (x.seen tt) (x.quiet tt);
+            codes = g.codes_mean;
+            zero_holds = tt;
+            sees =
+                sees_own held o n g.conditions g.may (x.seen tt);
+            may = may_after held o r.may g.may;
+          };
+    }
   next held o l0 (Tested t) n did r x open_ = made x.does where
     made : GoesOn c n o (Tested t) did → ComesTo c (kept_or_put held o) (Tested t) m did
-    made g = record { state = with_conditions (with_own c n o) g.conditions; is = g.is; reaches = record { differs = goes_plain held o l0 (Tested t) n g.conditions r (x.seen tt) (x.quiet tt); codes = g.codes_mean; zero_holds = tt; sees = sees_own held o n g.conditions g.may (x.seen tt); may = may_after held o r.may g.may } }
+    made g = record {
+      state = with_conditions (with_own c n o) g.conditions;
+      is = g.is;
+      reaches =
+          record {
+            differs = goes_plain held o l0 (Tested t) n g.conditions r (x.seen tt) (x.quiet tt);
+            codes = g.codes_mean;
+            zero_holds = tt;
+            sees =
+                sees_own held o n g.conditions g.may (x.seen tt);
+            may = may_after held o r.may g.may;
+          };
+    }
   next held o l0 (Returning t) n did r x open_ = made x.does where
     made : GoesOn c n o (Returning t) did → ComesTo c (kept_or_put held o) (Returning t) m did
     made g = record {

@@ -73,7 +73,8 @@ RunsTo c o m did l = ComesTo c o l m did
 -- the register of `%0` is no operand's, unless it may be
 abbrev pub IsApart : Scene → Type 0
 IsApart c =
-    c.setting.own ≡ own.Register → c.setting.is_reused ≡ false → (i : ℕ) → is_operand (role_at c i) ≡ true → attr_touches vax (filling_at c i) (RegAt (reg_number (register_in c.own))) ≡ false
+    c.setting.own ≡ own.Register → c.setting.is_reused ≡ false → (i : ℕ) → is_operand (role_at c i) ≡ true
+    → attr_touches vax (filling_at c i) (RegAt (reg_number (register_in c.own))) ≡ false
 
 abbrev pub line_of : Scene → Line → Instr
 line_of c l = filled_line c.program l.pieces c.holes c.own

@@ -10,7 +10,8 @@ use Rattle.vax_templates.specs.declared.setting.Hole.{Hole}
 use Rattle.vax_templates.specs.declared.setting.Setting.{Setting}
 use Rattle.vax_templates.specs.Standing.{◌>>=◌}
 use Rattle.vax_templates.specs.Judging.{Last, Plain, Compared, Tested, Returning, Ended, Deed, line_did}
-use Rattle.vax_templates.specs.Found.{Progress, start, kept_or_put, at_line, kept, progressed, left_value, last_deed, given_line, effect_contains, first_dropped, none_dropped, with_divisors, checked, ended, template_found}
+use Rattle.vax_templates.specs.Found.{Progress, start, kept_or_put, at_line, kept, progressed, left_value, last_deed, given_line, effect_contains, first_dropped, none_dropped}
+use Rattle.vax_templates.specs.Found.{with_divisors, checked, ended, template_found}
 
 -- a line did this, and its effect is that, in which all stands that it read
 pub record LineFound (s : Setting) (holes : List Hole) (l : Line) (e : EffectShape) : Type 0 where

@@ -18,7 +18,8 @@ use Rattle.vax_templates.specs.Instructions.{Instruction, Relation, Jump, Calls,
 use Rattle.vax_templates.specs.Standing.{◌>>=◌}
 use Rattle.vax_templates.specs.Taking.{Target, ToOwn, ToSlot, ToHome, ToMemory, ToZero, ToSaved, Arguments, all_evaluated}
 use Rattle.vax_templates.specs.Giving.{Given, Computes, Divides, Compares, Tests, given}
-use Rattle.vax_templates.specs.Judging.{Last, Plain, Compared, Tested, Returning, Ended, Deed, leaves, ends, ends_statement, is_relation, branches, is_movl, is_last_result, put, divided, computed, acted, is_disordered, in_order, with_reads, checked, operated, instruction_did, returned, did_behind, read, line_did}
+use Rattle.vax_templates.specs.Judging.{Last, Plain, Compared, Tested, Returning, Ended, Deed, leaves, ends, ends_statement, is_relation, branches, is_movl, is_last_result, put}
+use Rattle.vax_templates.specs.Judging.{divided, computed, acted, is_disordered, in_order, with_reads, checked, operated, instruction_did, returned, did_behind, read, line_did}
 use Rattle.vax_target_writing.proofs.Each.{EachOk, bind_each, always_ok, if_ok, of_ok}
 
 abbrev pub IsPlain : Deed → Type 0

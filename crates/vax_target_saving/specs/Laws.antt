@@ -28,7 +28,10 @@ with_word m w size x k = with_conditions (record m { stack = with_number size m.
 
 -- it can be stored, it is read there, and all else is kept
 pub record IsStored (m : State) (w : ℕ) (size : Size) (x : ℕ) (k : Conditions) : Type 0 where
-  pub stores : written m (word_of (reg m Fp) w) size x ≡ Ok (record m { stack = with_number size m.stack (word_of (reg m Fp) w - 2139095040) x })
+  pub stores : written m (word_of (reg m Fp) w) size x ≡ Ok (record m {
+    stack =
+        with_number size m.stack (word_of (reg m Fp) w - 2139095040) x;
+  })
   pub reads : w < 1024 → vax.reads (vax.slot w) size (with_word m w size x k) ≡ Some (low size x)
   pub keeps : Keeps vax (WordAt w ∷ []) m (with_word m w size x k)
 
@@ -40,15 +43,18 @@ FreeWordsStore =
 
 -- A value, a place or an address is saved in a slot; all else is kept.
 pub record LinesSave : Type 0 where
-  pub values : (q : TreeProgram) (f : Extent) (fs : List Extent) (size : Size) (l : Line) (s : Saves vax (kind.Value size) l) (a : Attr Operand) (w n : ℕ)
+  pub values : (q : TreeProgram) (f : Extent) (fs : List Extent) (size : Size) (l : Line) (s : Saves vax (kind.Value size) l)
+      (a : Attr Operand) (w n : ℕ)
       (v : View) (m : State)
       → IsValue vax size a → IsSet vax q f fs v n s.term m → IsSlot vax f w → worth vax q size a m ≡ Some n → n < 2 ^ (8 * bytes_of size)
       → Sets vax (saving vax q l a w) (WordAt w) q size (attr.Value (vax.slot w)) (low size (value v s.term)) m
-  pub places : (q : TreeProgram) (f : Extent) (fs : List Extent) (size : Size) (l : Line) (s : Saves vax (kind.Place size) l) (o : Operand) (w n : ℕ)
+  pub places : (q : TreeProgram) (f : Extent) (fs : List Extent) (size : Size) (l : Line) (s : Saves vax (kind.Place size) l)
+      (o : Operand) (w n : ℕ)
       (v : View) (m : State)
       → vax.fits (kind.Place size) o ≡ true → IsSet vax q f fs v n s.term m → IsSlot vax f w → vax.names o size m ≡ Some n → n < 2 ^ 32
       → SetsName vax (saving vax q l (attr.Place o) w) (WordAt w) (vax.slot_deferred w) (value v s.term) m
-  pub addresses : (q : TreeProgram) (f : Extent) (fs : List Extent) (l : Line) (s : Saves vax kind.Ea l) (o : Operand) (w n : ℕ) (v : View) (m : State)
+  pub addresses : (q : TreeProgram) (f : Extent) (fs : List Extent) (l : Line) (s : Saves vax kind.Ea l) (o : Operand) (w n : ℕ)
+      (v : View) (m : State)
       → vax.fits kind.Ea o ≡ true → IsSet vax q f fs v n s.term m → IsSlot vax f w → vax.names o Long m ≡ Some n → n < 2 ^ 32
       → SetsName vax (saving vax q l (attr.Ea o) w) (WordAt w) (vax.slot_deferred w) (value v s.term) m
 

@@ -29,7 +29,8 @@ pub record ShapesStand : Type 0 where
       → Sees c None m → BaseIsShort f.base → shape_given c.setting c.roles (Some (kind.Value size)) f ≡ Ok (Value t) → IsRead c.view t
       → vax.reads (filled c.program c.holes c.own f) size m ≡ Some (worth c t)
   pub places : (c : Scene) (m : State) (f : Form) (size : Size) (a : Shape)
-      → Sees c None m → BaseIsShort f.base → shape_given c.setting c.roles (Some (kind.Place size)) f ≡ Ok (PlaceAt size a) → IsRead c.view a
+      → Sees c None m → BaseIsShort f.base → shape_given c.setting c.roles (Some (kind.Place size)) f ≡ Ok (PlaceAt size a)
+      → IsRead c.view a
       → vax.names (filled c.program c.holes c.own f) size m ≡ Some (worth c a)
   pub addresses : (c : Scene) (m : State) (f : Form) (size : Size) (t : Shape)
       → Sees c None m → BaseIsShort f.base → shape_given c.setting c.roles (Some kind.Ea) f ≡ Ok (Address t) → IsRead c.view t
@@ -38,8 +39,10 @@ pub record ShapesStand : Type 0 where
 -- a symbol's own place keeps its operand
 abbrev pub HomesStay : Type 0
 HomesStay =
-    (q : TreeProgram) (classes : List Class) (rule : Rule) (e : EffectShape) (size : Size) (i : ℕ) (l : Line) (hs : List (Attr Operand)) (h : Attr Operand)
-    → vax.effect classes rule ≡ Ok e → rule.give ≡ give.Shape l → e.act ≡ PlaceHome size i → Fit vax classes rule.right hs → hole hs i ≡ Some h
+    (q : TreeProgram) (classes : List Class) (rule : Rule) (e : EffectShape) (size : Size) (i : ℕ) (l : Line)
+    (hs : List (Attr Operand)) (h : Attr Operand)
+    → vax.effect classes rule ≡ Ok e → rule.give ≡ give.Shape l → e.act ≡ PlaceHome size i → Fit vax classes rule.right hs
+    → hole hs i ≡ Some h
     → own_operand vax h ≡ Some (vax.operand q l hs)
 
 -- a register that is given is a symbol's own

@@ -50,10 +50,13 @@ use Rattle.vax_templates.specs.Settings.{hole_of_token, hole_of_kind, hole_of, h
 use Rattle.vax_templates.specs.FrameWords.{word_behind}
 use Rattle.vax_templates.specs.Instructions.{shape_of_pieces}
 use Rattle.vax_templates.specs.Standing.{Where, Immediate, Register, OwnRegister, RegisterZero, Value, Place, Local, SavedPlace, Saved, At, ◌>>=◌}
-use Rattle.vax_templates.specs.Standing.{constant_of, register_of, own_value, register_term, where_own, where_hole, where_zero, where_deferred, at, displaced, pointed, negated, itself, number_term, absolute_term, where_base, moved, where_indexed, form_where}
+use Rattle.vax_templates.specs.Standing.{constant_of, register_of, own_value, register_term, where_own, where_hole, where_zero, where_deferred, at, displaced, pointed, negated}
+use Rattle.vax_templates.specs.Standing.{itself, number_term, absolute_term, where_base, moved, where_indexed, form_where}
 use Rattle.vax_templates.specs.Taking.{fetched}
-use Rattle.vax_templates.specs.Found.{Progress, start, at_line, lines_judged, given_line, register_given, base_number, number_given, address_given, value_given, place_given, without_index, shape_given, shape_read, given_shape, ended, template_found, checked, with_divisors, found}
-use Rattle.vax_templates.specs.Filled.{alone, spare, numbered, register_in, attr_or, attr_at, addr_in, addr_number, number_addr, object_addr, word_operand, slot_operand, slot_deferred, argument_deferred, leaf_operand, operand_in, deferred_in, filled_base, with_index, filled, filled_or_spare, filled_operand}
+use Rattle.vax_templates.specs.Found.{Progress, start, at_line, lines_judged, given_line, register_given, base_number, number_given, address_given, value_given, place_given}
+use Rattle.vax_templates.specs.Found.{without_index, shape_given, shape_read, given_shape, ended, template_found, checked, with_divisors, found}
+use Rattle.vax_templates.specs.Filled.{alone, spare, numbered, register_in, attr_or, attr_at, addr_in, addr_number, number_addr, object_addr, word_operand, slot_operand}
+use Rattle.vax_templates.specs.Filled.{slot_deferred, argument_deferred, leaf_operand, operand_in, deferred_in, filled_base, with_index, filled, filled_or_spare, filled_operand}
 use Rattle.vax_target_meaning.specs.Vax.{vax}
 use Rattle.vax_target_writing.proofs.Each.{EachOk, bind_each, always_ok, still_ok, of_ok}
 use Rattle.vax_target_spelling.proofs.Own.{names_at, base_at, touches_is}
@@ -611,7 +614,8 @@ attr_alone q (attr.Ea p) o e = absurd (cc)
 attr_alone q attr.Nothing o e = absurd (cc)
 
 alone_filled : (q : TreeProgram) (i : ℕ) (hs : List (Attr Operand)) → filled_operand q (piece.Hole i ∷ []) hs ≡ operand_in q (attr_at hs attr.Nothing i)
-unfolding Rattle.vax_templates.specs.Forms.form_front Rattle.vax_templates.specs.Forms.base_front Rattle.vax_templates.specs.Forms.number_spelled Rattle.vax_templates.specs.Forms.index_front Rattle.vax_templates.specs.Marks.at_front filled_base
+unfolding Rattle.vax_templates.specs.Forms.form_front Rattle.vax_templates.specs.Forms.base_front Rattle.vax_templates.specs.Forms.number_spelled
+    Rattle.vax_templates.specs.Forms.index_front Rattle.vax_templates.specs.Marks.at_front filled_base
 alone_filled q i hs = refl
 
 not_zero : (k : ℕ) → (suc k == 0) ≡ false

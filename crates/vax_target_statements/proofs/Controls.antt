@@ -86,7 +86,8 @@ branch_is rel.Leu o label n e = ap (λ x. branching (passes (test_of rel.Leu) n.
 branch_is rel.Gtu o label n e = ap (λ x. branching (passes (test_of rel.Gtu) n.conditions) (option_map label_name x) n) e
 branch_is rel.Geu o label n e = ap (λ x. branching (passes (test_of rel.Geu) n.conditions) (option_map label_name x) n) e
 
-signed_only : (rs : List Restriction) (right : List Sym) (r : Rel) → AllByRecursion (IsSignedBy 1 r) rs → AllByRecursion (λ x. (i : ℕ) → x ≡ restriction.Signed i → i ≡ 1) rs → is_signed rs ≡ true → compares_signed r ≡ true
+signed_only : (rs : List Restriction) (right : List Sym) (r : Rel) → AllByRecursion (IsSignedBy 1 r) rs → AllByRecursion (λ x. (i : ℕ) → x ≡ restriction.Signed i → i ≡ 1) rs → is_signed rs
+    ≡ true → compares_signed r ≡ true
 signed_only [] right r h k e = cc
 signed_only (restriction.Same i j ∷ rs) right r h k e = signed_only rs right r h.1 k.1 e
 signed_only (restriction.Range i low high ∷ rs) right r h k e = signed_only rs right r h.1 k.1 e
@@ -168,9 +169,11 @@ module _ (q : TreeProgram) (f : Extent) (fs : List Extent) (classes : List Class
   met_so : (a b : Shape) (r : Rel) → AllByRecursion (IsSignedBy 1 r) rule.restrictions → IsMet S n.conditions a b → passes (test_of r) n.conditions ≡ holds r (worth S a) (worth S b)
   met_so a b r signed (inl k) = k r
   met_so a b r signed (inr k) =
-      k.2 r (signed_only rule.restrictions rule.right r signed (signed_first rule.restrictions ready.instance_of.rule_fits.template.restricted) k.0) ∙ ap (λ t. holds r (worth S a) (worth S t)) (sym k.1)
+      k.2 r (signed_only rule.restrictions rule.right r signed (signed_first rule.restrictions ready.instance_of.rule_fits.template.restricted) k.0)
+      ∙ ap (λ t. holds r (worth S a) (worth S t)) (sym k.1)
 
-  pub branches : (i : ℕ) (a b : Shape) (r : Rel) (label y z : ℕ) → IsMet S n.conditions a b × (D ≡ performed (branch_to (op_in (filling_at S i)) hs) n) → att_of (hole hs i) ≡ Some (att.Branch r label) →
+  pub branches : (i : ℕ) (a b : Shape) (r : Rel) (label y z : ℕ) → IsMet S n.conditions a b × (D ≡ performed (branch_to (op_in (filling_at S i)) hs) n) → att_of (hole hs i)
+      ≡ Some (att.Branch r label) →
       AllByRecursion (IsSignedBy i r) rule.restrictions → value v a ≡ y → value v b ≡ z → G (deed_step q v.state (Branches r label y z))
   branches i a b r label y z is at signed ya zb =
       let h = hole_one i r label at in

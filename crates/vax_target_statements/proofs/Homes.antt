@@ -188,7 +188,8 @@ module _ (q : TreeProgram) (f : Extent) (fs : List Extent) (classes : List Class
       (argument_address k address lt (subst (λ z. names (slot_operand tok.Arg (k + 1)) z n ≡ Some address) long (subst (λ y. names y size n ≡ Some address) same named)))
   place_goes i size t h o g address p at is named (is_memory a there) =
       let same = some_same address a (sym named ∙ same_names i h o size at is ∙ there) in
-      area_goes q f fs classes rule e hs res v m ready n a size (worth S t) p.conditions D agrees frames (p.is ∙ ap (λ l. putting n l size (worth S t) p.conditions) (p.there ∙ ap locations.Memory same))
+      area_goes q f fs classes rule e hs res v m ready n a size (worth S t) p.conditions D agrees frames
+      (p.is ∙ ap (λ l. putting n l size (worth S t) p.conditions) (p.there ∙ ap locations.Memory same))
       (stored size v.state.area a (worth S t)) refl
 
   pub home_goes : (size : Size) (i : ℕ) (t : Shape) (g : Place) (y : ℕ) → Puts S n size (worth S t) (IsStored S n size i) D → HomeIs vax f v.state m hs i size g → value v t ≡ y →

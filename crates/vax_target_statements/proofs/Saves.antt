@@ -251,9 +251,11 @@ module _ (q : TreeProgram) (f : Extent) (fs : List Extent) (classes : List Class
     by l there slot (symbols.Class z) stands_there fit p = absurd (no_class (kind_at classes z) l fit)
     by l there slot (symbols.Tok t) stands_there fit p =
         let role : hole_of_token t ≡ holes.Saved =
-        sym (ap hole_or_other (ap (λ (o : Option Sym). option_map (hole_of classes) o) stands_there)) ∙ sym (ap hole_or_other (mapped_at classes rule.right j)) ∙ sym (role_is S j) ∙ saved_role (suc j) is in
+        sym (ap hole_or_other (ap (λ (o : Option Sym). option_map (hole_of classes) o) stands_there)) ∙ sym (ap hole_or_other (mapped_at classes rule.right j)) ∙ sym (role_is S j)
+        ∙ saved_role (suc j) is in
         let saving : t ≡ tok.Save = hole_is_save t role in
-        let first : j ≡ 0 = root_first rule.right j (symbols.Tok t) (rest_of classes _ rule.right ready.instance_of.rule_fits.sides.sorted) stands_there (subst (λ y. is_root (Some (symbols.Tok y)) ≡ true) (sym saving) refl) in
+        let first : j ≡ 0 = root_first rule.right j (symbols.Tok t) (rest_of classes _ rule.right ready.instance_of.rule_fits.sides.sorted) stands_there
+        (subst (λ y. is_root (Some (symbols.Tok y)) ≡ true) (sym saving) refl) in
         let begins_so = begins rule.right t (subst (λ y. slice_get rule.right y ≡ Some (symbols.Tok t)) first stands_there) saving in
         subst (λ y. G (steps.Goes (steps.with_local_set v.state k y))) (result_is begins_so)
         (saves_by (suc j) k p lt l there slot (subst InFrame slot fit.2))

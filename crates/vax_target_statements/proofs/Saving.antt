@@ -30,10 +30,14 @@ use Rattle.vax_templates.specs.declared.setting.Opening.TheVariants as opening
 use Rattle.vax_templates.specs.declared.setting.Setting.{Setting}
 use Rattle.vax_templates.specs.Settings.{hole_at}
 use Rattle.vax_templates.specs.Instructions.{Instruction, Relation, Jump as JumpLine, Calls as CallsLine, Ret, Operates, instruction_of}
-use Rattle.vax_templates.specs.Standing.{Where, Immediate, Register, OwnRegister, RegisterZero, Value, Place, Local, SavedPlace, Saved, At, constant_of, absolute_term, number_term, own_value, register_term, where_own, where_hole, where_zero, where_deferred, at, sum, displaced, pointed, negated, itself, where_base, scaled, moved, where_indexed, form_where, ◌>>=◌}
-use Rattle.vax_templates.specs.Taking.{Target, ToOwn, ToSlot, ToHome, ToMemory, ToZero, ToSaved, Taken, taken_missized, last_result, cut_term, fetched, addressed, own_target, memory_target, zero_target, targeted, written, both, taken, evaluated, Arguments, no_arguments, last_of, in_front, all_evaluated}
+use Rattle.vax_templates.specs.Standing.{Where, Immediate, Register, OwnRegister, RegisterZero, Value, Place, Local, SavedPlace, Saved, At, constant_of, absolute_term, number_term}
+use Rattle.vax_templates.specs.Standing.{own_value, register_term, where_own, where_hole, where_zero, where_deferred, at, sum, displaced, pointed, negated, itself, where_base}
+use Rattle.vax_templates.specs.Standing.{scaled, moved, where_indexed, form_where, ◌>>=◌}
+use Rattle.vax_templates.specs.Taking.{Target, ToOwn, ToSlot, ToHome, ToMemory, ToZero, ToSaved, Taken, taken_missized, last_result, cut_term, fetched, addressed, own_target}
+use Rattle.vax_templates.specs.Taking.{memory_target, zero_target, targeted, written, both, taken, evaluated, Arguments, no_arguments, last_of, in_front, all_evaluated}
 use Rattle.vax_templates.specs.Giving.{Given, Computes, Divides, Compares, Tests, given}
-use Rattle.vax_templates.specs.Judging.{Last, Plain, Compared, Tested, Returning, Ended, Deed, leaves, ends_statement, is_relation, branches, is_movl, is_last_result, puts, put, divided, computed, acted, in_order, is_disordered, with_reads, checked, operated, instruction_did, returned, did_behind, line_did}
+use Rattle.vax_templates.specs.Judging.{Last, Plain, Compared, Tested, Returning, Ended, Deed, leaves, ends_statement, is_relation, branches, is_movl, is_last_result, puts, put}
+use Rattle.vax_templates.specs.Judging.{divided, computed, acted, in_order, is_disordered, with_reads, checked, operated, instruction_did, returned, did_behind, line_did}
 use Rattle.vax_templates.specs.Judging as judging
 use Rattle.vax_templates.specs.Found.{Progress, judged, lines_judged}
 use Rattle.vax_target_operands.proofs.Binds.{err_ok, ok_same, chained, cond_ok}
@@ -331,7 +335,8 @@ module _ (s : Setting) (roles : List Hole) (held : Option Shape) where
         let i = chained (judging.read (instruction_of ps)) (did_behind s roles is_first held before) d e in behind_is before i.first d i.then_so
 
 -- the last line saves in the place of that token
-pub lines_save : (s : Setting) (roles : List Hole) (ls : List Line) (is_first : Bool) (p q : Progress) → LastIs s roles None p.last → lines_judged s roles is_first p ls ≡ Ok q → LastIs s roles None q.last
+pub lines_save : (s : Setting) (roles : List Hole) (ls : List Line) (is_first : Bool) (p q : Progress) → LastIs s roles None p.last → lines_judged s roles is_first p ls ≡ Ok q
+    → LastIs s roles None q.last
 lines_save s roles [] is_first p q h e = subst (λ (x : Progress). LastIs s roles None x.last) (ok_same p q e) h
 lines_save s roles (l ∷ ls) is_first p q h e =
     let d = chained (judged s roles is_first l p) (λ (x : Progress). lines_judged s roles false x ls) q e in

@@ -43,7 +43,8 @@ module _ (q : TreeProgram) (f : Extent) (fs : List Extent) (classes : List Class
   ends a is deed = statement_ends q f fs classes rule e hs res v m ready (subst IsDeed (sym is) deed)
 
   store_home : (z : Size) (i : ℕ) (t : Shape) (d : Deed) → e.act ≡ (StoreHome z i t) → Act (StoreHome z i t) d → G d
-  store_home z i t (Puts g y) is h = home_goes q f fs classes rule e hs res v m ready (subst IsDeed (sym is) tt) (ends (StoreHome z i t) is tt) (λ r. subst IsReturn is r) z i t g y (done (ends (StoreHome z i t) is tt) (StoreHome z i t) is) h.0 h.1
+  store_home z i t (Puts g y) is h = home_goes q f fs classes rule e hs res v m ready (subst IsDeed (sym is) tt) (ends (StoreHome z i t) is tt) (λ r. subst IsReturn is r) z i t g y
+      (done (ends (StoreHome z i t) is tt) (StoreHome z i t) is) h.0 h.1
   store_home z i t (Branches r label y z') is h = absurd h
   store_home z i t (Pushes y) is h = absurd h
   store_home z i t (Leaves y) is h = absurd h
@@ -66,7 +67,8 @@ module _ (q : TreeProgram) (f : Extent) (fs : List Extent) (classes : List Class
 
   branch : (i : ℕ) (a : Shape) (b : Shape) (d : Deed) → e.act ≡ (Branch i a b) → Act (Branch i a b) d → G d
   branch i a b (Puts g y) is h = absurd h
-  branch i a b (Branches r label y z') is h = branches q f fs classes rule e hs res v m ready (ends (Branch i a b) is tt) i a b r label y z' (done (ends (Branch i a b) is tt) (Branch i a b) is) h.0 h.1 h.2 h.3
+  branch i a b (Branches r label y z') is h = branches q f fs classes rule e hs res v m ready (ends (Branch i a b) is tt) i a b r label y z'
+      (done (ends (Branch i a b) is tt) (Branch i a b) is) h.0 h.1 h.2 h.3
   branch i a b (Pushes y) is h = absurd h
   branch i a b (Leaves y) is h = absurd h
   branch i a b (Enters g y) is h = absurd h

@@ -39,10 +39,15 @@ use Rattle.vax_templates.specs.declared.setting.Opening.TheVariants as opening
 use Rattle.vax_templates.specs.declared.setting.Setting.{Setting}
 use Rattle.vax_templates.specs.Settings.{hole_at}
 use Rattle.vax_templates.specs.Instructions.{Instruction, Relation, Jump as JumpLine, Calls as CallsLine, Ret, Operates, instruction_of}
-use Rattle.vax_templates.specs.Standing.{Where, Immediate, Register, OwnRegister, RegisterZero, Value, Place, Local, SavedPlace, Saved, At, constant_of, address_of, absolute_term, number_term, own_value, register_of, register_term, where_own, where_hole, where_zero, through, where_deferred, at, sum, displaced, pointed, negated, itself, where_base, scaled, moved, where_indexed, form_where, ◌>>=◌}
-use Rattle.vax_templates.specs.Taking.{Target, ToOwn, ToSlot, ToHome, ToMemory, ToZero, ToSaved, Taken, taken_term, taken_read, taken_missized, cut, sized, last_result, cut_term, fetched, pointer_read, addressed, own_target, memory_target, zero_target, statement_target, targeted, written, both, taken, evaluated, Arguments, no_arguments, last_of, in_front, all_evaluated}
+use Rattle.vax_templates.specs.Standing.{Where, Immediate, Register, OwnRegister, RegisterZero, Value, Place, Local, SavedPlace, Saved, At, constant_of, address_of, absolute_term}
+use Rattle.vax_templates.specs.Standing.{number_term, own_value, register_of, register_term, where_own, where_hole, where_zero, through, where_deferred, at, sum, displaced}
+use Rattle.vax_templates.specs.Standing.{pointed, negated, itself, where_base, scaled, moved, where_indexed, form_where, ◌>>=◌}
+use Rattle.vax_templates.specs.Taking.{Target, ToOwn, ToSlot, ToHome, ToMemory, ToZero, ToSaved, Taken, taken_term, taken_read, taken_missized, cut, sized, last_result, cut_term}
+use Rattle.vax_templates.specs.Taking.{fetched, pointer_read, addressed, own_target, memory_target, zero_target, statement_target, targeted, written, both, taken, evaluated}
+use Rattle.vax_templates.specs.Taking.{Arguments, no_arguments, last_of, in_front, all_evaluated}
 use Rattle.vax_templates.specs.Giving.{Given, Computes, Divides, Compares, Tests, given, extended, truncated}
-use Rattle.vax_templates.specs.Judging.{Last, Plain, Compared, Tested, Returning, Ended, Deed, leaves, ends_statement, is_relation, branches, is_movl, is_last_result, puts, put, divided, computed, acted, in_order, is_disordered, with_reads, checked, operated, instruction_did, did_behind, line_did}
+use Rattle.vax_templates.specs.Judging.{Last, Plain, Compared, Tested, Returning, Ended, Deed, leaves, ends_statement, is_relation, branches, is_movl, is_last_result, puts, put}
+use Rattle.vax_templates.specs.Judging.{divided, computed, acted, in_order, is_disordered, with_reads, checked, operated, instruction_did, did_behind, line_did}
 use Rattle.vax_templates.specs.Judging as judging
 use Rattle.vax_target_operands.proofs.Binds.{err_ok, ok_same, Chained, chained, cond_ok}
 use Rattle.vax_target_lines.specs.Lines.{terms_of_last}
@@ -401,7 +406,13 @@ module _ (s : Setting) (roles : List Hole) where
       let a = evaluated_plain k f d.first d.is in
       let b = all_plain ks fs r.first r.is in
       subst ArgumentsPlain (ok_same _ x r.then_so)
-      (record { first_so = a.term_so; second_so = b.first_so; reads_so = joined d.first.reads r.first.reads a.reads_so b.reads_so; aim_so = aim_joined d.first.target r.first.target a.aim_so b.aim_so })
+      (record {
+        first_so = a.term_so;
+        second_so = b.first_so;
+        reads_so = joined d.first.reads r.first.reads a.reads_so b.reads_so;
+        aim_so =
+            aim_joined d.first.target r.first.target a.aim_so b.aim_so;
+      })
 
   -- ---- what a line does
 

@@ -54,7 +54,8 @@ each_front : (P : List Shape → Type 0) (xs ys : List (ℕ × List Shape)) → 
 each_front P [] ys h = tt
 each_front P (x ∷ xs) ys h = (h.0, each_front P xs ys h.1)
 
-each_before : (P : List Shape → Type 0) (s : Setting) (roles : List Hole) (ls : List Line) (is_first : Bool) (p q : Progress) → lines_judged s roles is_first p ls ≡ Ok q → Each P q.reads → Each P p.reads
+each_before : (P : List Shape → Type 0) (s : Setting) (roles : List Hole) (ls : List Line) (is_first : Bool) (p q : Progress) → lines_judged s roles is_first p ls ≡ Ok q → Each P q.reads
+    → Each P p.reads
 each_before P s roles [] is_first p q e h = subst (λ (x : Progress). Each P x.reads) (sym (ok_same p q e)) h
 each_before P s roles (l ∷ ls) is_first p q e h =
     let d = chained (judged s roles is_first l p) (λ (x : Progress). lines_judged s roles false x ls) q e in

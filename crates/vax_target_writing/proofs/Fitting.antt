@@ -30,7 +30,8 @@ use Rattle.vax_core.specs.declared.operand.Operand.{Operand}
 use Rattle.vax_core.specs.Homes.{home, at_home, argument_home}
 use Rattle.vax_core.specs.Valid.{is_name, is_long, is_addr_of, is_named_addr, is_base, is_index, is_memory}
 use Rattle.vax_templates.specs.Settings.{hole_of_token, hole_of_kind, hole_of, holes_of, own_of}
-use Rattle.vax_templates.specs.Filled.{alone, spare, numbered, label_of, object_addr, addr_of_att, addr_number, word_operand, slot_operand, slot_deferred, leaf_operand, leaf_deferred, operand_in, deferred_in, addr_in}
+use Rattle.vax_templates.specs.Filled.{alone, spare, numbered, label_of, object_addr, addr_of_att, addr_number, word_operand, slot_operand, slot_deferred, leaf_operand}
+use Rattle.vax_templates.specs.Filled.{leaf_deferred, operand_in, deferred_in, addr_in}
 use Rattle.vax_target_meaning.specs.Fitting.{steps, is_steady, is_place, fits, CanWrite}
 use Rattle.vax_target_meaning.specs.Vax.{vax}
 use Rattle.sel_target.specs.Spelled.{IsSpelled, TokenIsSpelled, AreSpelled}

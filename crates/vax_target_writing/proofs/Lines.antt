@@ -20,7 +20,8 @@ use Rattle.vax_templates.specs.declared.form.Mark.TheVariants as mark
 use Rattle.vax_templates.specs.declared.form.Form.{Form}
 use Rattle.vax_templates.specs.Marks.{marks_of, is_byte, strip, hole_front}
 use Rattle.vax_templates.specs.Forms.{form_front}
-use Rattle.vax_templates.specs.Instructions.{Instruction, Relation, Jump, Calls, Ret, Operates, forms_from, is_label, is_call, behind_blank, only, is_empty, jumps, operates, behind, relation_behind, relation, with_op, word_len, word_of, marks_behind, instruction_of, whole, shape_of_pieces}
+use Rattle.vax_templates.specs.Instructions.{Instruction, Relation, Jump, Calls, Ret, Operates, forms_from, is_label, is_call, behind_blank, only, is_empty, jumps, operates}
+use Rattle.vax_templates.specs.Instructions.{behind, relation_behind, relation, with_op, word_len, word_of, marks_behind, instruction_of, whole, shape_of_pieces}
 use Rattle.vax_target_writing.proofs.Each.{Each, either_each, and_then_each, map_each, always, if_each, all_behind}
 use Rattle.vax_target_writing.proofs.Longs.{IsLongForm, IsLongFront, form_long}
 

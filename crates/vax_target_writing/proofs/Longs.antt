@@ -10,7 +10,8 @@ use Rattle.vax_templates.specs.declared.form.Base.{Base}
 use Rattle.vax_templates.specs.declared.form.Base.TheVariants as base
 use Rattle.vax_templates.specs.declared.form.Form.{Form}
 use Rattle.vax_templates.specs.Marks.{strip, hole_front, number_front, positive, negative, below_zero, signed_front, at_front}
-use Rattle.vax_templates.specs.Forms.{number_spelled, near, far, deferred_front, immediate_front, negative_hole, named_front, base_front, index_front, indexed, form_front, of_symbol, itself, of_number, of_hole, alone, register_zero, with_index}
+use Rattle.vax_templates.specs.Forms.{number_spelled, near, far, deferred_front, immediate_front, negative_hole, named_front, base_front, index_front, indexed, form_front}
+use Rattle.vax_templates.specs.Forms.{of_symbol, itself, of_number, of_hole, alone, register_zero, with_index}
 use Rattle.vax_target_writing.proofs.Each.{Each, either_each, and_then_each, map_each, always, if_each}
 
 abbrev pub IsLongNumber : Number → Type 0

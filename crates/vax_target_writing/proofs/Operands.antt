@@ -34,8 +34,10 @@ use Rattle.vax_templates.specs.declared.setting.Opening.TheVariants as opening
 use Rattle.vax_templates.specs.declared.setting.Setting.{Setting}
 use Rattle.vax_templates.specs.Settings.{hole_or_other, hole_at}
 use Rattle.vax_templates.specs.Standing.{Where, Immediate, Register, OwnRegister, RegisterZero, Value, Place, Local, SavedPlace, Saved, At}
-use Rattle.vax_templates.specs.Standing.{constant_of, address_of, absolute_term, number_term, register_term, where_own, where_hole, where_zero, where_deferred, at, displaced, pointed, negated, itself, where_base, moved, where_indexed, form_where, ◌>>=◌}
-use Rattle.vax_templates.specs.Taking.{Taken, Target, Arguments, fetched, addressed, own_target, statement_target, memory_target, zero_target, targeted, written, both, taken, evaluated, all_evaluated, in_front}
+use Rattle.vax_templates.specs.Standing.{constant_of, address_of, absolute_term, number_term, register_term, where_own, where_hole, where_zero, where_deferred, at, displaced}
+use Rattle.vax_templates.specs.Standing.{pointed, negated, itself, where_base, moved, where_indexed, form_where, ◌>>=◌}
+use Rattle.vax_templates.specs.Taking.{Taken, Target, Arguments, fetched, addressed, own_target, statement_target, memory_target, zero_target, targeted, written, both, taken}
+use Rattle.vax_templates.specs.Taking.{evaluated, all_evaluated, in_front}
 use Rattle.vax_templates.specs.Filled.{attr_or, attr_at, register_in, addr_number, addr_in, number_addr, operand_in, deferred_in, filled_base, with_index, filled}
 use Rattle.vax_target_meaning.specs.Fitting.{steps, is_steady}
 use Rattle.vax_target_writing.proofs.Each.{EachOk, bind_each, always_ok, still_ok, if_ok}
@@ -384,10 +386,12 @@ module _ (q : TreeProgram) (s : Setting) (holes : List Hole) (zero' : Option Sha
   base_stands (base.Negative i) long h =
       bind_each (λ (t : Shape). Unit {0}) (λ w. StandsBare w (record { base = bases.Imm (addr_number (neg32 (addr_in q (attr_at hs res i)).offset)); index = None }))
       (constant_of (hole_at holes i) i) negated
-      (λ t u. readable_number (addr_number (neg32 (addr_in q (attr_at hs res i)).offset)) (is_below (neg32 (addr_in q (attr_at hs res i)).offset) (2 ^ 32) (neg32_below (addr_in q (attr_at hs res i)).offset)))
+      (λ t u. readable_number (addr_number (neg32 (addr_in q (attr_at hs res i)).offset))
+      (is_below (neg32 (addr_in q (attr_at hs res i)).offset) (2 ^ 32) (neg32_below (addr_in q (attr_at hs res i)).offset)))
       (always_ok (constant_of (hole_at holes i) i) tt)
   base_stands (base.RegisterDeferred i) long h =
-      in_memory (λ w. StandsBare w (record { base = bases.Def (register_in (attr_at hs res i)); index = None })) (register_term s holes zero' i) at (λ t. record { memory = record { memory = refl; base = refl }; bare = refl })
+      in_memory (λ w. StandsBare w (record { base = bases.Def (register_in (attr_at hs res i)); index = None })) (register_term s holes zero' i) at
+      (λ t. record { memory = record { memory = refl; base = refl }; bare = refl })
   base_stands (base.Displacement n i) long h =
       bind_each (λ (t : Shape). is_addr (number_addr q hs res n) ≡ true)
       (λ w. StandsBare w (record { base = bases.Disp (number_addr q hs res n) (register_in (attr_at hs res i)); index = None }))
@@ -485,8 +489,10 @@ module _ (q : TreeProgram) (s : Setting) (holes : List Hole) (zero' : Option Sha
   evaluated_stands k f long h =
       bind_each (λ w. Stands w (filled q hs res f)) (λ (t : Taken). is_operand k (filled q hs res f) ≡ true) (form_where s holes zero' f k.size) (λ (w : Where). taken s zero' k.access w k.size)
       (λ w st. allowed (taken s zero' k.access w k.size) (is_readable w (filled q hs res f) st) (taken_allows (filled q hs res f) k.access w k.size st)) (form_stands f k.size long h) where
-        allowed : (r : Result Taken TemplateKind) → IsReadable (filled q hs res f) → EachOk (λ (t : Taken). allows k.access (filled q hs res f).base ≡ true) r → EachOk (λ (t : Taken). is_operand k (filled q hs res f) ≡ true) r
-        allowed (Ok t) e f' = both_true (allows k.access (filled q hs res f).base) (is_base (filled q hs res f).base && is_index (filled q hs res f).base (filled q hs res f).index) f' (second (not (steps (filled q hs res f).base)) (is_base (filled q hs res f).base && is_index (filled q hs res f).base (filled q hs res f).index) e)
+        allowed : (r : Result Taken TemplateKind) → IsReadable (filled q hs res f) → EachOk (λ (t : Taken). allows k.access (filled q hs res f).base ≡ true) r
+            → EachOk (λ (t : Taken). is_operand k (filled q hs res f) ≡ true) r
+        allowed (Ok t) e f' = both_true (allows k.access (filled q hs res f).base) (is_base (filled q hs res f).base && is_index (filled q hs res f).base (filled q hs res f).index) f'
+            (second (not (steps (filled q hs res f).base)) (is_base (filled q hs res f).base && is_index (filled q hs res f).base (filled q hs res f).index) e)
         allowed (Err x) e f' = tt
 
   -- all operands are those that the instruction may have

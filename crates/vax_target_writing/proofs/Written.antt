@@ -32,7 +32,8 @@ use Rattle.vax_templates.specs.Instructions.{Instruction, Relation, Jump, Calls,
 use Rattle.vax_templates.specs.Standing.{◌>>=◌}
 use Rattle.vax_templates.specs.Taking.{Arguments, all_evaluated}
 use Rattle.vax_templates.specs.Giving.{given}
-use Rattle.vax_templates.specs.Judging.{Last, Plain, Compared, Tested, Returning, Ended, Deed, ends_statement, computed, acted, checked, operated, instruction_did, returned, did_behind, read, line_did}
+use Rattle.vax_templates.specs.Judging.{Last, Plain, Compared, Tested, Returning, Ended, Deed, ends_statement, computed, acted, checked, operated, instruction_did, returned}
+use Rattle.vax_templates.specs.Judging.{did_behind, read, line_did}
 use Rattle.sel_terms.specs.Effects as effects
 use Rattle.vax_core.specs.declared.op.Op.TheVariants as ops
 use Rattle.vax_templates.specs.Found.{Progress, start, at_line, kept, judged, lines_judged, given_line, ended, template_found}

@@ -127,7 +127,8 @@ filled_base p holes zero (base.Immediate n) = alone (bases.Imm (number_addr p ho
 filled_base p holes zero (base.Negative i) = alone (bases.Imm (addr_number (neg32 (addr_in p (attr_at holes zero i)).offset)))
 filled_base p holes zero (base.RegisterDeferred i) = alone (bases.Def (register_in (attr_at holes zero i)))
 filled_base p holes zero (base.Displacement n i) = alone (bases.Disp (number_addr p holes zero n) (register_in (attr_at holes zero i)))
-filled_base p holes zero (base.DisplacementDeferred n i) = alone (bases.DispDef (number_addr p holes zero n) (register_in (attr_at holes zero i)))
+filled_base p holes zero (base.DisplacementDeferred n i) = alone (bases.DispDef (number_addr p holes zero n)
+    (register_in (attr_at holes zero i)))
 filled_base p holes zero (base.Absolute n) = alone (bases.Abs (number_addr p holes zero n).offset)
 filled_base p holes zero (base.Deferred i) = deferred_in p (attr_at holes zero i)
 

@@ -106,7 +106,11 @@ filled_instruction p holes zero (Some (Relation i)) = branch_to (op_in (attr_at 
 filled_instruction p holes zero (Some Jump) = branch_to ops.Jbr holes
 filled_instruction p holes zero (Some Calls) = call_of p (callee_among holes)
 filled_instruction p holes zero (Some Ret) = plain_return
-filled_instruction p holes zero (Some (Operates op fs)) = record { op = op; operands = map (filled p holes zero) (take 3 fs); target = None }
+filled_instruction p holes zero (Some (Operates op fs)) = record {
+  op = op;
+  operands = map (filled p holes zero) (take 3 fs);
+  target = None;
+}
 
 -- a line with its holes filled; a line that no instruction can be made of becomes a return
 abbrev pub filled_line : TreeProgram → List Piece → List (Attr Operand) → Attr Operand → Instr

@@ -15,7 +15,8 @@ use Rattle.md_reader.specs.declared.types.Rule.{Rule}
 use Rattle.md_reader.specs.Patterns.{kind_at}
 use Rattle.term_core.specs.Shape.{Shape, Constant, Symbol, LastResult, Memory, Unary, Binary}
 use Rattle.term_core.specs.Order.{same_term}
-use Rattle.sel_terms.specs.Effects.{ActShape, EffectShape, Value, Number, Address, PlaceHome, PlaceAt, StoreHome, StoreAt, Branch, Push, Call, Save}
+use Rattle.sel_terms.specs.Effects.{ActShape, EffectShape, Value, Number, Address, PlaceHome, PlaceAt, StoreHome}
+use Rattle.sel_terms.specs.Effects.{StoreAt, Branch, Push, Call, Save}
 use Rattle.sel_terms.specs.Effects.{Return, Jump}
 use Rattle.sel_terms.specs.Same.{same_size}
 use Rattle.sel_target.specs.declared.fault.TemplateKind.{TemplateKind}

@@ -1,5 +1,6 @@
 -- What a line of a template is: an instruction with its operands, or one that spells the hole of a label or a call.
-use Rattle.std.specs.Prelude.{ℕ, suc, ◌==◌, Bool, true, false, ◌&&◌, List, [], ◌∷◌, ◌++◌, map, take, drop, Option, Some, None, if◌then◌else◌, codes}
+use Rattle.std.specs.Prelude.{ℕ, suc, ◌==◌, Bool, true, false, ◌&&◌, List, [], ◌∷◌, ◌++◌, map, take, drop, Option, Some}
+use Rattle.std.specs.Prelude.{None, if◌then◌else◌, codes}
 use Rattle.std.specs.Option.{option_and_then, option_map}
 use Rattle.md_reader_text.specs.Words.{same}
 use Rattle.md_reader_pieces.specs.declared.piece.Piece.{Piece}

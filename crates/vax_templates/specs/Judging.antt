@@ -1,5 +1,6 @@
 -- What a line of a template does, and what is wrong with it.
-use Rattle.std.specs.Prelude.{ℕ, ◌==◌, Bool, true, false, not, ◌||◌, ◌&&◌, List, [], ◌∷◌, ◌++◌, Option, Some, None, is_some, Result, Ok, Err}
+use Rattle.std.specs.Prelude.{ℕ, ◌==◌, Bool, true, false, not, ◌||◌, ◌&&◌, List, [], ◌∷◌, ◌++◌, Option, Some, None}
+use Rattle.std.specs.Prelude.{is_some, Result, Ok, Err}
 use Rattle.std.specs.Prelude.{if◌then◌else◌}
 use Rattle.std.specs.List.{list_any}
 use Rattle.md_reader_pieces.specs.declared.piece.Piece.{Piece}
@@ -27,7 +28,8 @@ use Rattle.vax_templates.specs.Standing.{◌>>=◌}
 use Rattle.vax_templates.specs.Taking.{Target, ToOwn, ToSlot, ToHome, ToMemory, ToZero, ToSaved, Arguments, all_evaluated}
 use Rattle.vax_templates.specs.Giving.{Given, Computes, Divides, Compares, Tests, given}
 
--- what the last line left to the next: nothing, two numbers that were compared, one that was tested, a value in register 0, or the deed that ends
+-- what the last line left to the next: nothing, two numbers that were compared, one that was tested, a value in
+-- register 0, or the deed that ends
 -- the template
 pub data Last : Type 0 where
   Plain : Last
@@ -131,7 +133,8 @@ abbrev pub has_some : List Shape → Bool
 has_some [] = false
 has_some (t ∷ ts) = true
 
--- a division behind the first line; or, where `%0` may be an operand's register, an operand that is read behind the first line that writes `%0`
+-- a division behind the first line; or, where `%0` may be an operand's register, an operand that is read behind the
+-- first line that writes `%0`
 abbrev pub is_disordered : Setting → List Hole → Bool → Option Shape → List Form → Deed → Bool
 is_disordered s holes is_first zero fs d =
     (not is_first && has_some d.divisors) || (s.is_reused && is_some zero && list_any (spells_symbol holes) fs)

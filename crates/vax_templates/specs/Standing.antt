@@ -22,7 +22,8 @@ use Rattle.vax_templates.specs.declared.setting.Opening.TheVariants as opening
 use Rattle.vax_templates.specs.declared.setting.Setting.{Setting}
 use Rattle.vax_templates.specs.Settings.{hole_at}
 
--- a number, a symbol's register, `%0`, register 0, a symbol's value, a symbol's place, a local, a place whose address is saved, the local of
+-- a number, a symbol's register, `%0`, register 0, a symbol's value, a symbol's place, a local, a place whose address
+-- is saved, the local of
 -- the last call's result, or memory at an address, for which a pointer may have been read
 pub data Where : Type 0 where
   Immediate : (t : Shape) → Where

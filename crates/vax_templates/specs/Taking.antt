@@ -17,10 +17,12 @@ use Rattle.vax_templates.specs.declared.setting.Own.TheVariants as own
 use Rattle.vax_templates.specs.declared.setting.Opening.{Opening}
 use Rattle.vax_templates.specs.declared.setting.Opening.TheVariants as opening
 use Rattle.vax_templates.specs.declared.setting.Setting.{Setting}
-use Rattle.vax_templates.specs.Standing.{Where, Immediate, Register, OwnRegister, RegisterZero, Value, Place, Local, SavedPlace, Saved, At, own_value}
+use Rattle.vax_templates.specs.Standing.{Where, Immediate, Register, OwnRegister, RegisterZero, Value, Place, Local}
+use Rattle.vax_templates.specs.Standing.{SavedPlace, Saved, At, own_value}
 use Rattle.vax_templates.specs.Standing.{form_where, ◌>>=◌}
 
--- what is written: `%0`, the slot of a spill, the home of a symbol, memory at an address, register 0, or the local of the last call's result
+-- what is written: `%0`, the slot of a spill, the home of a symbol, memory at an address, register 0, or the local of
+-- the last call's result
 pub data Target : Type 0 where
   ToOwn : Target
   ToSlot : (size : Size) → Target
@@ -29,7 +31,8 @@ pub data Target : Type 0 where
   ToZero : Target
   ToSaved : (i : ℕ) → Target
 
--- what is read or the address that is taken, the memory that was read for it, what is to be written, and whether the operand has another size
+-- what is read or the address that is taken, the memory that was read for it, what is to be written, and whether the
+-- operand has another size
 pub record Taken : Type 0 where
   pub term : Shape
   pub reads : List Shape
@@ -150,7 +153,14 @@ last_of front None = front
 
 -- the arguments with an operand in front of them
 abbrev pub in_front : Taken → Arguments → Result Arguments TemplateKind
-in_front t x = Ok (record { first = t.term; second = x.first; reads = t.reads ++ x.reads; target = last_of t.target x.target; missized = t.missized || x.missized })
+in_front t x = Ok (record {
+  first = t.term;
+  second = x.first;
+  reads = t.reads
+      ++ x.reads;
+  target = last_of t.target x.target;
+  missized = t.missized || x.missized;
+})
 
 -- all operands
 abbrev pub all_evaluated : Setting → List Hole → Option Shape → List OperandKind → List Form → Result Arguments TemplateKind

@@ -26,7 +26,8 @@ use Rattle.vax_core.specs.declared.code.Code.{Code}
 use Rattle.vax_core.specs.Registers.{reg_text}
 use Rattle.vax_core.specs.Ops.{shape}
 use Rattle.vax_core.specs.Text.{signed_text, offset_text, addr_text_of, addr_text, at_text, base_text, index_text, operand_text, operands_text, tail_text, instr_text, area_line, item_line, asm_text}
-use Rattle.vax_core.specs.Valid.{is_name_start, is_name_part, is_name, is_named_addr, is_addr_of, is_base, is_operand, are_operands, is_target, is_instr, is_area_item, is_code_item, is_code, allows, is_index}
+use Rattle.vax_core.specs.Valid.{is_name_start, is_name_part, is_name, is_named_addr, is_addr_of, is_base, is_operand, are_operands, is_target, is_instr, is_area_item}
+use Rattle.vax_core.specs.Valid.{is_code_item, is_code, allows, is_index}
 
 abbrev plain : List ℕ → Bool
 plain bs = list_all is_ascii bs
@@ -153,7 +154,8 @@ target_plain : (b : Bool) (name : List ℕ) → is_target b (Some name) ≡ true
 target_plain true name h = name_plain name h
 target_plain false name h = absurd (cc)
 
-operands_plain : (kinds : List OperandKind) (os : List Operand) (b : Bool) (target : Option (List ℕ)) → are_operands kinds os ≡ true → is_target b target ≡ true → plain (operands_text os target) ≡ true
+operands_plain : (kinds : List OperandKind) (os : List Operand) (b : Bool) (target : Option (List ℕ)) → are_operands kinds os ≡ true → is_target b target ≡ true
+    → plain (operands_text os target) ≡ true
 operands_plain kinds [] b None h t = refl
 operands_plain kinds [] b (Some name) h t = target_plain b name t
 operands_plain [] (o ∷ os) b target h t = absurd (cc)

@@ -1,10 +1,12 @@
-// Each instruction at its edges: results and condition codes worked out from the VAX Architecture Handbook's rules, C by this profile's table.
+// Each instruction at its edges: results and condition codes worked out from the VAX Architecture Handbook's rules, C by this
+// profile's table.
 use super::*;
 use crate::{Machine, Turn};
 use std::test::Fail;
 use vax_core::Access;
 
-/// A row is a mnemonic, r1 and r2 before it, whether C was there, and r2 and the codes behind it, numbers in hexadecimal. The first operand is
+/// A row is a mnemonic, r1 and r2 before it, whether C was there, and r2 and the codes behind it, numbers in hexadecimal. The first
+/// operand is
 /// r1, where it is only read or another one stands behind it, and the others are r2.
 const ROWS: &str = "\
 movb 00000000 55555555 C 55555500 ZC

@@ -19,7 +19,8 @@ static AREA: [Data; 12] = [
     Data::Long(3),
 ];
 
-/// An operand that is read into r0 by `movl`, `movzbl` or a `mova`, what is read, and what r3 and r4 hold behind it; before it r3 holds 65,536, r4
+/// An operand that is read into r0 by `movl`, `movzbl` or a `mova`, what is read, and what r3 and r4 hold behind it; before it r3
+/// holds 65,536, r4
 /// 65,548 and r5 2.
 #[derive(Clone, Copy)]
 struct Row(Op, At, Option<Reg>, u32, u32, u32);

@@ -12,12 +12,17 @@ discard-pass-requires t c = (let h = call_falls c.args.e.now c.in-Call.field-0 c
 
 pub value-returns-in_ok-pass-in-Call : goal.value-returns-in_ok-pass-in-Call
 value-returns-in_ok-pass-in-Call t c =
-    IfOk-weaker _ _ _ (λ r made. call_value c.args.frame.locals c.args.frame.functions c.args.e.now c.in-Call.field-0 c.in-Call.f c.in-Call.to c.in-Call.es c.deref.result.now c.as_slice.result.now c.args.t c.args.l _ (passing c.in_ok-pass-in-Call.field-0) (low r) c.in-Call.is (search rules) (search rules) (search rules) c.in_ok-pass-in-Call.ensures made) c.called_low.ensures
+    IfOk-weaker _ _ _ (λ r made. call_value c.args.frame.locals c.args.frame.functions c.args.e.now c.in-Call.field-0 c.in-Call.f c.in-Call.to c.in-Call.es c.deref.result.now
+    c.as_slice.result.now c.args.t c.args.l _ (passing c.in_ok-pass-in-Call.field-0) (low r) c.in-Call.is (search rules) (search rules) (search rules) c.in_ok-pass-in-Call.ensures
+    made) c.called_low.ensures
 
 pub discard-returns-in_ok-pass-in-Call : goal.discard-returns-in_ok-pass-in-Call
 discard-returns-in_ok-pass-in-Call t c =
-    IfOk-weaker _ _ _ (λ r made. call_effect c.args.frame.locals c.args.frame.functions c.args.e.now c.in-Call.field-0 c.in-Call.f c.in-Call.to c.in-Call.es c.deref.result.now c.as_slice.result.now c.args.t c.args.l _ (passing c.in_ok-pass-in-Call.field-0) (done r) c.in-Call.is (search rules) (search rules) (search rules) c.in_ok-pass-in-Call.ensures made) c.called_drop.ensures
+    IfOk-weaker _ _ _ (λ r made. call_effect c.args.frame.locals c.args.frame.functions c.args.e.now c.in-Call.field-0 c.in-Call.f c.in-Call.to c.in-Call.es c.deref.result.now
+    c.as_slice.result.now c.args.t c.args.l _ (passing c.in_ok-pass-in-Call.field-0) (done r) c.in-Call.is (search rules) (search rules) (search rules) c.in_ok-pass-in-Call.ensures
+    made) c.called_drop.ensures
 
 pub discard-returns-in_ok-seek-in-Step : goal.discard-returns-in_ok-seek-in-Step
 discard-returns-in_ok-seek-in-Step t c =
-    IfOk-weaker _ _ _ (λ r made. step_effect c.args.frame.locals c.args.frame.functions c.args.e.now c.in-Step.field-0 c.in-Step.by c.in-Step.p c.args.t c.args.l (found c.in_ok-seek-in-Step.field-0) (done r) c.in-Step.is c.in_ok-seek-in-Step.ensures made) c.step_drop.ensures
+    IfOk-weaker _ _ _ (λ r made. step_effect c.args.frame.locals c.args.frame.functions c.args.e.now c.in-Step.field-0 c.in-Step.by c.in-Step.p c.args.t c.args.l
+    (found c.in_ok-seek-in-Step.field-0) (done r) c.in-Step.is c.in_ok-seek-in-Step.ensures made) c.step_drop.ensures

@@ -4,4 +4,5 @@ use Rattle.c_lower_code.proofs.passing.called_drop.Goals as goal
 
 pub returns : goal.returns
 returns c =
-    called (all_items c.args.p.items.items) (all_items c.push_all.new.items.items) (all_items c.put.new.items.items) (all_trees c.args.p.trees.items) c.args.f c.in_ok-count.count c.args.p.temps c.args.p.labels c.args.p.is_quiet c.in_ok-count.ensures c.in_ok-push_all.ensures c.in_ok-put.ensures
+    called (all_items c.args.p.items.items) (all_items c.push_all.new.items.items) (all_items c.put.new.items.items) (all_trees c.args.p.trees.items) c.args.f c.in_ok-count.count
+    c.args.p.temps c.args.p.labels c.args.p.is_quiet c.in_ok-count.ensures c.in_ok-push_all.ensures c.in_ok-put.ensures

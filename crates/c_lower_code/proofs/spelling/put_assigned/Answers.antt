@@ -8,4 +8,6 @@ use Rattle.c_lower_code.proofs.spelling.put_assigned.Goals as goal
 
 pub returns-in_ok-put_tree-in-Int : goal.returns-in_ok-put_tree-in-Int
 returns-in_ok-put_tree-in-Int c =
-    IfOk-weaker _ _ _ (λ _ last. assigned_behind c.args.leaves.now.items c.put_two.new.leaves.items c.put_tree.new.leaves.items c.put_tree-in-Int.new.leaves.items (plain tok.AssignL) (plain tok.IndirL) (tree c.args.a.now) (tree c.args.w.now) c.in_ok-put_two-in-Int.ensures c.in_ok-put_tree-in-Int.ensures last ∙ sym (ap (λ i. c.args.leaves.now.items ++ assign_onto i (tree c.args.a.now) (tree c.args.w.now) []) c.in-Int.is)) c.put_tree-in-Int.ensures
+    IfOk-weaker _ _ _ (λ _ last. assigned_behind c.args.leaves.now.items c.put_two.new.leaves.items c.put_tree.new.leaves.items c.put_tree-in-Int.new.leaves.items (plain tok.AssignL)
+    (plain tok.IndirL) (tree c.args.a.now) (tree c.args.w.now) c.in_ok-put_two-in-Int.ensures c.in_ok-put_tree-in-Int.ensures last
+    ∙ sym (ap (λ i. c.args.leaves.now.items ++ assign_onto i (tree c.args.a.now) (tree c.args.w.now) []) c.in-Int.is)) c.put_tree-in-Int.ensures

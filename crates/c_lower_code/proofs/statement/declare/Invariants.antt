@@ -6,4 +6,5 @@ use Rattle.c_lower_code.specs.Views.{done}
 use Rattle.c_lower_code.proofs.statement.declare.Given as goal
 
 abbrev pub invariant-loop-d : goal.invariant-loop-d
-invariant-loop-d l = (two_done (done l.whole) (declare l.frame.locals l.frame.functions (map declaration (drop l.d-index l.ds)) l.whole.labels) ≡ declare l.frame.locals l.frame.functions (map declaration l.ds) l.l) × (l.frame.locals ≤ l.whole.temps)
+invariant-loop-d l = (two_done (done l.whole) (declare l.frame.locals l.frame.functions (map declaration (drop l.d-index l.ds)) l.whole.labels)
+    ≡ declare l.frame.locals l.frame.functions (map declaration l.ds) l.l) × (l.frame.locals ≤ l.whole.temps)

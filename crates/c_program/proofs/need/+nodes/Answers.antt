@@ -16,4 +16,5 @@ all_nodes-returns t c = total c.args.es.now c.loop-e.e-index c.loop-e.sum _ c.lo
 
 pub nodes-returns-in-Call : goal.nodes-returns-in-Call
 nodes-returns-in-Call t c =
-    rw (call_is c.args.e.now c.in-Call.field-0 c.in-Call.field-1 c.in-Call.field-2 c.in-Call.es c.deref-in-Call.result.now c.in-Call.is (search rules)) (omega (arith, c.all_nodes.ensures, c.saturating_add-in-Call.ensures))
+    rw (call_is c.args.e.now c.in-Call.field-0 c.in-Call.field-1 c.in-Call.field-2 c.in-Call.es c.deref-in-Call.result.now c.in-Call.is (search rules))
+    (omega (arith, c.all_nodes.ensures, c.saturating_add-in-Call.ensures))

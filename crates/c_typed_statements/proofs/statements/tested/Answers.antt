@@ -11,4 +11,5 @@ returns-in_err-x c =
     rw (p.1, p.2) (condition_fails c.args.functions.now.names c.args.functions.now.signatures.items (exp c.args.e.now) (state c.args.environment.now) c.in_err-x.field-0.0 c.in_err-x.ensures)
 
 pub returns : goal.returns
-returns c = condition_turns c.args.functions.now.names c.args.functions.now.signatures.items (exp c.args.e.now) (state c.args.environment.now) (state c.full.new.environment) (term c.in_ok-x.x) c.first.result c.condition.result c.in_ok-x.ensures c.first.ensures c.condition.ensures
+returns c = condition_turns c.args.functions.now.names c.args.functions.now.signatures.items (exp c.args.e.now) (state c.args.environment.now) (state c.full.new.environment)
+    (term c.in_ok-x.x) c.first.result c.condition.result c.in_ok-x.ensures c.first.ensures c.condition.ensures

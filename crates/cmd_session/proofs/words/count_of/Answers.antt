@@ -12,5 +12,6 @@ returns-then-n-eq0-clause-none c = λ n count is.
     elim c.then-n-eq0.branch [
       | then-n-eq0-via-then-n-eq0 w ↦ omega (arith, count.0, w.if-n-eq0.true, same)
       | then-n-eq0-via-else-n-eq0+then-n-greatest w ↦ omega (arith, count.1, w.if-n-greatest.true, same)
-      | then-n-eq0-via-else-n-eq0+else-n-greatest+then-ne w ↦ other_spelling c.in-Ok.n n c.args.word.now _ c.parse.result c.in-Ok.is c.parse.ensures.value.0 w.format.ensures.text w.if-ne.ensures (omega (arith, count.1, c.ranges.greatest)) is
+      | then-n-eq0-via-else-n-eq0+else-n-greatest+then-ne w ↦ other_spelling c.in-Ok.n n c.args.word.now _ c.parse.result c.in-Ok.is c.parse.ensures.value.0 w.format.ensures.text
+          w.if-ne.ensures (omega (arith, count.1, c.ranges.greatest)) is
     ]

@@ -3,7 +3,8 @@ use Rattle.std.specs.String.{string_bytes, string_len}
 use Rattle.std.proofs.lemmas.Bool.{eqb-true}
 use Rattle.cmd_session.proofs.Commands.{two_words, named_length, named_parts, differs}
 use Rattle.cmd_session.proofs.words.named.Goals as goal
-use Rattle.cmd_session.proofs.words.named.Goals.{in_default-via-then-words-lt2, in_default-via-in-len2+then-eq+else-not-is_empty, in_default-via-in-len2+else-eq, in_default-via-else-words-lt2+else-words-lt3}
+use Rattle.cmd_session.proofs.words.named.Goals.{in_default-via-then-words-lt2, in_default-via-in-len2+then-eq+else-not-is_empty, in_default-via-in-len2+else-eq}
+use Rattle.cmd_session.proofs.words.named.Goals.{in_default-via-else-words-lt2+else-words-lt3}
 
 pub returns-in-len2-clause-some : goal.returns-in-len2-clause-some
 returns-in-len2-clause-some c = record {

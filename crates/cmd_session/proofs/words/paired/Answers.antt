@@ -3,7 +3,8 @@ use Rattle.std.specs.String.{string_bytes, string_len}
 use Rattle.std.proofs.lemmas.Bool.{eqb-true}
 use Rattle.cmd_session.proofs.Commands.{three_words, paired_length, paired_parts, differs}
 use Rattle.cmd_session.proofs.words.paired.Goals as goal
-use Rattle.cmd_session.proofs.words.paired.Goals.{in_default-via-then-words-lt3, in_default-via-in-len3+then-eq+then-not-is_empty+else-not-is_empty-2, in_default-via-in-len3+then-eq+else-not-is_empty, in_default-via-in-len3+else-eq, in_default-via-else-words-lt3+else-words-lt4}
+use Rattle.cmd_session.proofs.words.paired.Goals.{in_default-via-then-words-lt3, in_default-via-in-len3+then-eq+then-not-is_empty+else-not-is_empty-2}
+use Rattle.cmd_session.proofs.words.paired.Goals.{in_default-via-in-len3+then-eq+else-not-is_empty, in_default-via-in-len3+else-eq, in_default-via-else-words-lt3+else-words-lt4}
 
 pub returns-in-len3-clause-some : goal.returns-in-len3-clause-some
 returns-in-len3-clause-some c = record {

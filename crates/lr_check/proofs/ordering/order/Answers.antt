@@ -12,17 +12,21 @@ returns-in-None c =
     (nil_from_length c.loop-count.rest.items (let n = c.loop-count.rest.ok.0 in let m = c.in-None.ensures.cases.0 in omega (arith, n, m))) (omega (arith, lt))
 
 pub bounds-nodes-number : goal.bounds-nodes-number
-bounds-nodes-number c = next_within c.args.nodes.now c.loop-count.order.items c.loop-count.rest.items c.pop.new.self.items c.loop-count._count c.in-Some.number c.loop-count.invariant c.in-Some.ensures.items
+bounds-nodes-number c = next_within c.args.nodes.now c.loop-count.order.items c.loop-count.rest.items c.pop.new.self.items c.loop-count._count c.in-Some.number c.loop-count.invariant
+    c.in-Some.ensures.items
 
 pub offset_bounds-nodes-number : goal.offset_bounds-nodes-number
 offset_bounds-nodes-number c =
-    let lt : c.in-Some.number < length c.args.nodes.now = next_within c.args.nodes.now c.loop-count.order.items c.loop-count.rest.items c.pop.new.self.items c.loop-count._count c.in-Some.number c.loop-count.invariant c.in-Some.ensures.items in
+    let lt : c.in-Some.number < length c.args.nodes.now = next_within c.args.nodes.now c.loop-count.order.items c.loop-count.rest.items c.pop.new.self.items c.loop-count._count
+    c.in-Some.number c.loop-count.invariant c.in-Some.ensures.items in
     search rules
 
 pub loop-count-preserved : goal.loop-count-preserved
 loop-count-preserved c =
-    let lt : c.in-Some.number < length c.args.nodes.now = next_within c.args.nodes.now c.loop-count.order.items c.loop-count.rest.items c.pop.new.self.items c.loop-count._count c.in-Some.number c.loop-count.invariant c.in-Some.ensures.items in
-    ordering_turn c.args.nodes.now c.loop-count.order.items c.loop-count.rest.items c.pop.new.self.items c.push-in-Some.new.self.items c.push_kids.new.rest.items c.loop-count._count c.in-Some.number c.index-nodes-number.result c.requires c.loop-count.invariant
+    let lt : c.in-Some.number < length c.args.nodes.now = next_within c.args.nodes.now c.loop-count.order.items c.loop-count.rest.items c.pop.new.self.items c.loop-count._count
+    c.in-Some.number c.loop-count.invariant c.in-Some.ensures.items in
+    ordering_turn c.args.nodes.now c.loop-count.order.items c.loop-count.rest.items c.pop.new.self.items c.push-in-Some.new.self.items c.push_kids.new.rest.items c.loop-count._count
+    c.in-Some.number c.index-nodes-number.result c.requires c.loop-count.invariant
     c.in-Some.ensures.items (slice_get_read c.args.nodes.now (length c.args.nodes.now) c.in-Some.number c.index-nodes-number.result refl lt c.index-nodes-number.is)
     c.in_ok-push-in-Some.ensures.items (c.in_ok-push_kids-in-Some.ensures ∙ ap (λ (x : List ℕ). c.pop.new.self.items ++ reverse x) c.kids.ensures)
 

@@ -13,7 +13,8 @@ pub returns : goal.returns
 returns c =
     let t = c.args.tables.now in
     let of = λ (x : List Node) (o : Outcome). Computes t x o in
-    let law = λ (o : Outcome) (h : Computes t c.nodes.result.now o). replays t c.args.sample.now o (subst IsValid c.description.ensures c.is_valid.ensures) c.is_numbered.ensures (subst (λ (x : List Node). Computes t x o) c.nodes.ensures h) in
+    let law = λ (o : Outcome) (h : Computes t c.nodes.result.now o). replays t c.args.sample.now o (subst IsValid c.description.ensures c.is_valid.ensures) c.is_numbered.ensures
+    (subst (λ (x : List Node). Computes t x o) c.nodes.ensures h) in
     record {
       parse = IfOk-weaker c.computed.result (of c.nodes.result.now) (λ (o : Outcome). Replays t.content c.args.sample.now o) law c.computed.ensures;
       only = IfOk-weaker c.computed.result (of c.nodes.result.now) (λ (o : Outcome). (p : Outcome) → Replays t.content c.args.sample.now p → p ≡ o)

@@ -14,4 +14,5 @@ loop-number-preserved c =
     (subst (λ (x : List ℕ). All (λ (k : ℕ). k < c.loop-number.number) x) c.kids.ensures (c.are_below.ensures.0 c.if-not-are_below.false))
 
 pub returns : goal.returns
-returns c = below_all c.args.nodes.now c.loop-number.number _ c.loop-number.invariant c.loop-number-test.false (λ e. ltb-true 0 (length c.args.nodes.now) e, λ lt. lt-ltb 0 (length c.args.nodes.now) lt)
+returns c = below_all c.args.nodes.now c.loop-number.number _ c.loop-number.invariant c.loop-number-test.false
+    (λ e. ltb-true 0 (length c.args.nodes.now) e, λ lt. lt-ltb 0 (length c.args.nodes.now) lt)

@@ -11,7 +11,8 @@ loop-token-init c = record {
 pub loop-token-preserved : goal.loop-token-preserved
 loop-token-preserved c = record {
   looks = λ A w x v there two may. looks_turn_at A c.args.found.now w _ _ _ _ _ _ _
-      (looks_map A c.args.found.now w _ _ _ _ (firsts_kept c.args.found.now c.args.over c.args.wanted c.args.behind _ _ _ _ c.in_ok-add_first.ensures.kept) (c.loop-token.invariant.looks A w x v there two may))
+      (looks_map A c.args.found.now w _ _ _ _ (firsts_kept c.args.found.now c.args.over c.args.wanted c.args.behind _ _ _ _ c.in_ok-add_first.ensures.kept)
+      (c.loop-token.invariant.looks A w x v there two may))
       c.loop-token-test.true
       (c.in_ok-add_first.ensures.looks A w x (λ m. first_kid A c.args.found.now c.args.parent c.args.over x _ c.args.behind c.args.wanted v there two may m));
   sums = more_sums c.args.found.now c.args.over c.args.wanted c.args.behind _ _ _ c.loop-token.invariant.sums c.in_ok-add_first.ensures.only;

@@ -14,7 +14,8 @@ returns-in-None c = λ A found one. looks_there A c.args.found.now c.args.window
 pub returns-in-Some : goal.returns-in-Some
 returns-in-Some c = λ A found one.
     let x = c.in-Some.place.now in
-    let there : IsPlaceAt c.args.found.now c.args.number x = looked_at c.places.result.now c.args.found.now.places c.args.number x c.places.ensures c.in-Some.ensures.lookup.0 c.in-Some.ensures.lookup.1 in
+    let there : IsPlaceAt c.args.found.now c.args.number x = looked_at c.places.result.now c.args.found.now.places c.args.number x c.places.ensures c.in-Some.ensures.lookup.0
+    c.in-Some.ensures.lookup.1 in
     on_ok _ _ _
     (looks_map A c.args.found.now c.args.window _ _ _ _
     (λ g y other. subst (λ (z : Place). OnlyIn c.args.found.now c.args.number z c.args.over c.args.wanted) (Some-same x y (sym there ∙ other)) g))

@@ -6,7 +6,8 @@ pub loop-behind-init : goal.loop-behind-init
 loop-behind-init c = no_places _ _ _ _ _ c.new-numbers.ensures.items
 
 pub loop-behind-preserved : goal.loop-behind-preserved
-loop-behind-preserved c = more_places c.args.found.now c.args.state c.args.token _ _ _ _ _ c.loop-behind.invariant c.loop-behind-test.true c.in_ok-add_number.ensures.kept c.in_ok-add_number.ensures.only
+loop-behind-preserved c = more_places c.args.found.now c.args.state c.args.token _ _ _ _ _ c.loop-behind.invariant c.loop-behind-test.true c.in_ok-add_number.ensures.kept
+    c.in_ok-add_number.ensures.only
     c.in_ok-add_number.ensures.there
 
 pub returns : goal.returns

@@ -11,7 +11,9 @@ returns-in-Whole c = λ A w each. on_ok _ _ _
     (c.reduced.ensures A w (each c.in-Whole.class (sym (ap (λ (x : Seen). x.leads) c.candidate.ensures) ∙ c.in-Whole.is)))
 
 pub returns-in-Out : goal.returns-in-Out
-returns-in-Out c = λ A w each. looks_there A c.args.found.now w _ _ (subst (λ (l : Leads). LeadsIn c.args.found.now c.args.number l) (sym c.in-Out.is ∙ ap (λ (x : Seen). x.leads) c.candidate.ensures) tt)
+returns-in-Out c = λ A w each. looks_there A c.args.found.now w _ _ (subst (λ (l : Leads). LeadsIn c.args.found.now c.args.number l)
+    (sym c.in-Out.is ∙ ap (λ (x : Seen). x.leads) c.candidate.ensures) tt)
 
 pub returns-in-Inside : goal.returns-in-Inside
-returns-in-Inside c = λ A w each. looks_there A c.args.found.now w _ _ (subst (λ (l : Leads). LeadsIn c.args.found.now c.args.number l) (sym c.in-Inside.is ∙ ap (λ (x : Seen). x.leads) c.candidate.ensures) tt)
+returns-in-Inside c = λ A w each. looks_there A c.args.found.now w _ _ (subst (λ (l : Leads). LeadsIn c.args.found.now c.args.number l)
+    (sym c.in-Inside.is ∙ ap (λ (x : Seen). x.leads) c.candidate.ensures) tt)

@@ -10,7 +10,8 @@ use Rattle.lr_check_complete.proofs.Reducing.{reduced_made, reduces_in, reduces_
 use Rattle.lr_check_complete.proofs.reductions.by_settling.Goals as goal
 
 pub returns-in-None : goal.returns-in-None
-returns-in-None c = λ w at. looks_there (automaton_of c.args.tables.now) c.args.found.now w _ _ (reduces_nowhere (automaton_of c.args.tables.now) c.args.found.now c.args.number c.args.settling.now at c.in-None.is)
+returns-in-None c = λ w at. looks_there (automaton_of c.args.tables.now) c.args.found.now w _ _
+    (reduces_nowhere (automaton_of c.args.tables.now) c.args.found.now c.args.number c.args.settling.now at c.in-None.is)
 
 pub returns-in-None-get : goal.returns-in-None-get
 returns-in-None-get c = λ w at. looks_there (automaton_of c.args.tables.now) c.args.found.now w _ _

@@ -6,4 +6,5 @@ pub returns-then-not-may : goal.returns-then-not-may
 returns-then-not-may c = λ A q k found frame kid. looks_there A c.args.found.now c.args.window _ _ (λ m. absurd (true≢false (sym m ∙ (sym c.may.ensures ∙ c.if-not-may.true))))
 
 pub returns : goal.returns
-returns c = λ A q k found frame kid. on_ok _ _ _ (looks_map A c.args.found.now c.args.window _ _ _ _ (λ g m. g)) (c.pair.ensures A q k c.args.second found frame kid (sym c.may.ensures ∙ c.if-not-may.false))
+returns c = λ A q k found frame kid. on_ok _ _ _ (looks_map A c.args.found.now c.args.window _ _ _ _ (λ g m. g))
+    (c.pair.ensures A q k c.args.second found frame kid (sym c.may.ensures ∙ c.if-not-may.false))

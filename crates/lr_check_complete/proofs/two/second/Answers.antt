@@ -8,12 +8,14 @@ use Rattle.lr_check_complete.proofs.Both.{not_there, second_kid, second_done}
 use Rattle.lr_check_complete.proofs.two.second.Goals as goal
 
 pub returns-in-None : goal.returns-in-None
-returns-in-None c = λ A e found at behind two. looks_there A c.args.found.now c.args.window _ _ (λ x there. absurd (not_there c.places.result.now c.args.found.now.places c.args.number x c.places.ensures c.in-None.ensures.lookup.0 there))
+returns-in-None c = λ A e found at behind two. looks_there A c.args.found.now c.args.window _ _
+    (λ x there. absurd (not_there c.places.result.now c.args.found.now.places c.args.number x c.places.ensures c.in-None.ensures.lookup.0 there))
 
 pub returns : goal.returns
 returns c = λ A e found at behind two.
     let x = c.in-Some.place.now in
-    let there : IsPlaceAt c.args.found.now c.args.number x = looked_at c.places.result.now c.args.found.now.places c.args.number x c.places.ensures c.in-Some.ensures.lookup.0 c.in-Some.ensures.lookup.1 in
+    let there : IsPlaceAt c.args.found.now c.args.number x = looked_at c.places.result.now c.args.found.now.places c.args.number x c.places.ensures c.in-Some.ensures.lookup.0
+    c.in-Some.ensures.lookup.1 in
     on_ok _ _ _
     (looks_map A c.args.found.now c.args.window _ _ _ _
     (λ g y other. subst (λ (z : Place). SecondAt c.args.found.now c.args.number z c.args.token c.args.first) (Some-same x y (sym there ∙ other))

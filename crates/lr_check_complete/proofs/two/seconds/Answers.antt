@@ -4,7 +4,8 @@ use Rattle.lr_check_complete.proofs.Both.{second_nowhere}
 use Rattle.lr_check_complete.proofs.two.seconds.Goals as goal
 
 pub returns-in-Some : goal.returns-in-Some
-returns-in-Some c = λ A found two. c.seconds_at.ensures A c.in-Some.ensures.there.0 found c.in-Some.ensures.there.1 (sym (c.in-Some.ensures.value c.in-Some.ensures.there.0 c.in-Some.ensures.there.1)) two
+returns-in-Some c = λ A found two. c.seconds_at.ensures A c.in-Some.ensures.there.0 found c.in-Some.ensures.there.1
+    (sym (c.in-Some.ensures.value c.in-Some.ensures.there.0 c.in-Some.ensures.there.1)) two
 
 pub returns-in-None : goal.returns-in-None
 returns-in-None c = λ A found two. looks_there A c.args.found.now c.args.window _ _

@@ -21,7 +21,8 @@ returns-in-Some-clause-none c =
     let f = c.args.found.now in
     let e = c.in-Some.settling.now in
     let at : IsSettlingAt f c.args.number e = looked_at c.settlings.result.now f.settlings c.args.number e c.settlings.ensures c.in-Some.ensures.lookup.0 c.in-Some.ensures.lookup.1 in
-    if_ok _ (λ (b : Bool). (i : ℕ) (x : Place) (s : List Sym) → b ≡ false → IsSettlingAt f i e → IsPlaceAt f e.place x → IsList f.lists e.list s → Calms (automaton_of c.args.tables.now) x.state x.behind s) _
+    if_ok _ (λ (b : Bool). (i : ℕ) (x : Place) (s : List Sym) → b ≡ false → IsSettlingAt f i e → IsPlaceAt f e.place x → IsList f.lists e.list s
+    → Calms (automaton_of c.args.tables.now) x.state x.behind s) _
     (λ b h d x s no other there is.
     let same : d ≡ e = Some-same d e (sym other ∙ at) in
     h c.args.number x s no at (subst (λ (z : Settling). IsPlaceAt f z.place x) same there) (subst (λ (z : Settling). IsList f.lists z.list s) same is)) c.turns.ensures.none

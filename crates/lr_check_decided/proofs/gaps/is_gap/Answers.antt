@@ -12,11 +12,13 @@ returns-in-None-clause-none c = λ u x there. absurd (not_there c.places.result.
 pub returns-in-Some-over-clause-none : goal.returns-in-Some-over-clause-none
 returns-in-Some-over-clause-none c = λ u y other.
     let x = c.in-Some.place.now in
-    let there : IsPlaceAt c.args.found.now c.args.number x = looked_at c.places.result.now c.args.found.now.places c.args.number x c.places.ensures c.in-Some.ensures.lookup.0 c.in-Some.ensures.lookup.1 in
+    let there : IsPlaceAt c.args.found.now c.args.number x = looked_at c.places.result.now c.args.found.now.places c.args.number x c.places.ensures c.in-Some.ensures.lookup.0
+    c.in-Some.ensures.lookup.1 in
     shifted (automaton_of c.args.tables.now) c.args.found.now c.args.number c.in-Some-over.field-0 x y there (sym c.over.ensures ∙ c.in-Some-over.is) other
 
 pub returns-in-None-over-clause-some : goal.returns-in-None-over-clause-some
 returns-in-None-over-clause-some c = λ u.
     let x = c.in-Some.place.now in
-    let there : IsPlaceAt c.args.found.now c.args.number x = looked_at c.places.result.now c.args.found.now.places c.args.number x c.places.ensures c.in-Some.ensures.lookup.0 c.in-Some.ensures.lookup.1 in
+    let there : IsPlaceAt c.args.found.now c.args.number x = looked_at c.places.result.now c.args.found.now.places c.args.number x c.places.ensures c.in-Some.ensures.lookup.0
+    c.in-Some.ensures.lookup.1 in
     gap_fault (automaton_of c.args.tables.now) c.args.found.now c.args.number x c.requires there (sym c.over.ensures ∙ c.in-None-over.is)

@@ -18,14 +18,16 @@ loop-kernel-init c =
 pub returns-in_err-enter_row-clause-full : goal.returns-in_err-enter_row-clause-full
 returns-in_err-enter_row-clause-full c = λ e.
     let p = err_from_is_err_and c.from_residual-in_err-enter_row.result c.from_residual-in_err-enter_row.ensures.1 in
-    let k : slice_get (kernels c.loop-kernel.sets.keys) c.loop-kernel.at ≡ Some c.as_slice.result.now = kernel_read c.loop-kernel.sets.keys c.loop-kernel.at c.in-Some.kernel.now c.as_slice.result.now c.in-Some.ensures.key c.as_slice.ensures.value in
+    let k : slice_get (kernels c.loop-kernel.sets.keys) c.loop-kernel.at
+    ≡ Some c.as_slice.result.now = kernel_read c.loop-kernel.sets.keys c.loop-kernel.at c.in-Some.kernel.now c.as_slice.result.now c.in-Some.ensures.key c.as_slice.ensures.value in
     let items : c.as_slice-in-Some.result.now ≡ item_set c.args.rules.now c.args.stmt c.args.classes (chains c.args.rules.now) c.as_slice.result.now =
     c.as_slice-in-Some.ensures.value ∙ c.in_ok-items.ensures ∙ ap (λ (x : List Edge). item_set c.args.rules.now c.args.stmt c.args.classes x c.as_slice.result.now) c.requires.chained in
     found_over _ _ _ c.loop-kernel.at _ _ _ c.loop-kernel.invariant.found k items (c.in_err-enter_row.ensures.full (ap Err (sym p.2 ∙ err_same _ _ (sym p.1 ∙ e))))
 
 pub loop-kernel-preserved : goal.loop-kernel-preserved
 loop-kernel-preserved c =
-    let k : slice_get (kernels c.loop-kernel.sets.keys) c.loop-kernel.at ≡ Some c.as_slice.result.now = kernel_read c.loop-kernel.sets.keys c.loop-kernel.at c.in-Some.kernel.now c.as_slice.result.now c.in-Some.ensures.key c.as_slice.ensures.value in
+    let k : slice_get (kernels c.loop-kernel.sets.keys) c.loop-kernel.at
+    ≡ Some c.as_slice.result.now = kernel_read c.loop-kernel.sets.keys c.loop-kernel.at c.in-Some.kernel.now c.as_slice.result.now c.in-Some.ensures.key c.as_slice.ensures.value in
     let items : c.as_slice-in-Some.result.now ≡ item_set c.args.rules.now c.args.stmt c.args.classes (chains c.args.rules.now) c.as_slice.result.now =
     c.as_slice-in-Some.ensures.value ∙ c.in_ok-items.ensures ∙ ap (λ (x : List Edge). item_set c.args.rules.now c.args.stmt c.args.classes x c.as_slice.result.now) c.requires.chained in
     record {

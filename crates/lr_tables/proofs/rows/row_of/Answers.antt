@@ -7,7 +7,8 @@ use Rattle.lr_tables.proofs.rows.row_of.Goals as goal
 
 pub actions-requires-clause-wide : goal.actions-requires-clause-wide
 actions-requires-clause-wide c =
-    let l : length c.as_slice-2.result.now ≡ 40 + c.args.classes = ap (λ (x : List (Option ℕ)). length x) (c.as_slice-2.ensures.value ∙ c.in_ok-target_list.ensures) ∙ length-targets _ _ _ _ (40 + c.args.classes) in
+    let l : length c.as_slice-2.result.now ≡ 40 + c.args.classes = ap (λ (x : List (Option ℕ)). length x) (c.as_slice-2.ensures.value ∙ c.in_ok-target_list.ensures)
+    ∙ length-targets _ _ _ _ (40 + c.args.classes) in
     omega (arith, l)
 
 pub actions-requires-clause-follows : goal.actions-requires-clause-follows

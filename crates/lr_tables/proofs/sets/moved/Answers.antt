@@ -15,6 +15,9 @@ overflow_add-item c =
 
 pub loop-item-preserved : goal.loop-item-preserved
 loop-item-preserved c = elim c.if-stands_before.branch [
-  | then-stands_before+in_ok-push w ↦ rw (w.kernel-is, w.in_ok-push.ensures.items) (moved_push _ _ _ _ _ (get_or c.args.items.now c.loop-item.item-index record { rule = None; dot = 0 }) _ c.loop-item-test.true (get_or_default _ _ _ _ c.loop-item-test.true) c.loop-item.invariant (sym c.stands_before.ensures ∙ w.if-stands_before.true))
-  | else-stands_before w ↦ rw w.kernel-is (moved_skip _ _ _ _ _ (get_or c.args.items.now c.loop-item.item-index record { rule = None; dot = 0 }) _ c.loop-item-test.true (get_or_default _ _ _ _ c.loop-item-test.true) c.loop-item.invariant (sym c.stands_before.ensures ∙ w.if-stands_before.false))
+  | then-stands_before+in_ok-push w ↦ rw (w.kernel-is, w.in_ok-push.ensures.items)
+      (moved_push _ _ _ _ _ (get_or c.args.items.now c.loop-item.item-index record { rule = None; dot = 0 }) _ c.loop-item-test.true (get_or_default _ _ _ _ c.loop-item-test.true)
+      c.loop-item.invariant (sym c.stands_before.ensures ∙ w.if-stands_before.true))
+  | else-stands_before w ↦ rw w.kernel-is (moved_skip _ _ _ _ _ (get_or c.args.items.now c.loop-item.item-index record { rule = None; dot = 0 }) _ c.loop-item-test.true
+      (get_or_default _ _ _ _ c.loop-item-test.true) c.loop-item.invariant (sym c.stands_before.ensures ∙ w.if-stands_before.false))
 ]

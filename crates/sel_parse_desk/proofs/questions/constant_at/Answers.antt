@@ -13,4 +13,5 @@ returns-in-Some g c =
     c.constant_of.ensures
     ∙ (ap (λ (h : Attr g.row.T-Operand.Denot). constant_of c.args.setting.now.program.now h) c.attr.ensures.attr
     ∙ (constant_in g.T.Templates.meaning c.args.setting.now.program.now c.args.setting.now.description.now c.args.setting.now.first (slice_get c.args.entries.now c.in-Some.at)
-    ∙ ap (λ (o : Option ℕ). constant_at (selecting g.T.Templates.meaning c.args.setting.now.program.now c.args.setting.now.description.now c.args.setting.now.first) (entry_at c.args.entries.now o)) (sym c.in-Some.is)))
+    ∙ ap (λ (o : Option ℕ). constant_at (selecting g.T.Templates.meaning c.args.setting.now.program.now c.args.setting.now.description.now c.args.setting.now.first)
+    (entry_at c.args.entries.now o)) (sym c.in-Some.is)))

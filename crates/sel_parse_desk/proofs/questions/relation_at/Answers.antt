@@ -13,4 +13,5 @@ returns-in-Some g c =
     c.relation_of.ensures
     ∙ (ap (λ (h : Attr g.row.T-Operand.Denot). relation_of h) c.attr.ensures.attr
     ∙ (relation_in g.T.Templates.meaning c.args._setting.now.program.now c.args._setting.now.description.now c.args._setting.now.first (slice_get c.args.entries.now c.in-Some.at)
-    ∙ ap (λ (o : Option ℕ). relation_at (selecting g.T.Templates.meaning c.args._setting.now.program.now c.args._setting.now.description.now c.args._setting.now.first) (entry_at c.args.entries.now o)) (sym c.in-Some.is)))
+    ∙ ap (λ (o : Option ℕ). relation_at (selecting g.T.Templates.meaning c.args._setting.now.program.now c.args._setting.now.description.now c.args._setting.now.first)
+    (entry_at c.args.entries.now o)) (sym c.in-Some.is)))

@@ -24,5 +24,7 @@ returns-clause-tallied g c =
     c.in_ok-taken.ensures.before c.in_ok-taken.ensures.behind c.smaller-stack.ensures.b c.smaller-stack.ensures.a
     (let s = c.saturating_sub-base.ensures in let l = c.len-long.ensures in omega (arith, s, l))
     c.requires.tallied c.lower_all.ensures.twelve c.lower_all.ensures.all_words
-    (subst (λ (hs : List (Attr g.row.T-Operand.Denot)). (r : ℕ) → r < 12 → slice_index c.lower_all.new.registers.items r + count_by (in_register g.T.Templates.meaning r) hs ≡ slice_index c.args.stack.now.registers.items r) c.attrs.ensures.attrs c.lower_all.ensures.registers)
-    (subst (λ (hs : List (Attr g.row.T-Operand.Denot)). (w : ℕ) → w < 1024 → slice_index c.lower_all.new.words.items w + count_by (in_word g.T.Templates.meaning w) hs ≡ slice_index c.args.stack.now.words.items w) c.attrs.ensures.attrs c.lower_all.ensures.words)
+    (subst (λ (hs : List (Attr g.row.T-Operand.Denot)). (r : ℕ) → r < 12 → slice_index c.lower_all.new.registers.items r + count_by (in_register g.T.Templates.meaning r) hs
+    ≡ slice_index c.args.stack.now.registers.items r) c.attrs.ensures.attrs c.lower_all.ensures.registers)
+    (subst (λ (hs : List (Attr g.row.T-Operand.Denot)). (w : ℕ) → w < 1024 → slice_index c.lower_all.new.words.items w + count_by (in_word g.T.Templates.meaning w) hs
+    ≡ slice_index c.args.stack.now.words.items w) c.attrs.ensures.attrs c.lower_all.ensures.words)

@@ -14,5 +14,7 @@ returns-clause-tallied g c =
     pushed_tallied g.T.Templates.meaning c.args.stack.now.entries c.push.new.self (record { kind = c.args.kind; attr = c.args.attr })
     c.args.stack.now.registers.items c.args.stack.now.words.items c.raise.new.registers.items c.raise.new.words.items c.args.stack.now.settled
     c.in_ok-push.ensures c.requires.tallied c.raise.ensures.twelve c.raise.ensures.all_words
-    (subst (λ (a : Attr g.row.T-Operand.Denot). (r : ℕ) → r < 12 → slice_index c.raise.new.registers.items r ≡ slice_index c.args.stack.now.registers.items r + one (in_register g.T.Templates.meaning r a)) there c.raise.ensures.registers)
-    (subst (λ (a : Attr g.row.T-Operand.Denot). (w : ℕ) → w < 1024 → slice_index c.raise.new.words.items w ≡ slice_index c.args.stack.now.words.items w + one (in_word g.T.Templates.meaning w a)) there c.raise.ensures.words)
+    (subst (λ (a : Attr g.row.T-Operand.Denot). (r : ℕ) → r < 12 → slice_index c.raise.new.registers.items r ≡ slice_index c.args.stack.now.registers.items r
+    + one (in_register g.T.Templates.meaning r a)) there c.raise.ensures.registers)
+    (subst (λ (a : Attr g.row.T-Operand.Denot). (w : ℕ) → w < 1024 → slice_index c.raise.new.words.items w ≡ slice_index c.args.stack.now.words.items w
+    + one (in_word g.T.Templates.meaning w a)) there c.raise.ensures.words)

@@ -7,7 +7,8 @@ use Rattle.tree_core.proofs.labels.targets_stand_in.Goals as goal
 
 pub returns-then-not-all_met : goal.returns-then-not-all_met
 returns-then-not-all_met c =
-    let m = met_there c.in-Some.base c.at-window.result.base c.meet_all.new.window.base (has c.meet_all.new.window) (has c.at-window.result) (labels mention.Stands c.args.items.now) c.at-window.ensures.base c.meet_all.ensures.base c.at-window.ensures.none c.meet_all.ensures.met in
+    let m = met_there c.in-Some.base c.at-window.result.base c.meet_all.new.window.base (has c.meet_all.new.window) (has c.at-window.result) (labels mention.Stands c.args.items.now)
+    c.at-window.ensures.base c.meet_all.ensures.base c.at-window.ensures.none c.meet_all.ensures.met in
     let a = ap (λ (b : ℕ). all_met b (has c.meet_all.new.window) (labels mention.Target c.args.items.now)) (sym m.0) ∙ sym c.all_met.ensures ∙ c.if-not-all_met.true in
     ((λ t. absurd cc), (λ h. absurd (met_fails (labels mention.Target c.args.items.now) (labels mention.Stands c.args.items.now) c.in-Some.base (has c.meet_all.new.window) m.1 a h)))
 
@@ -19,9 +20,11 @@ loop-base-smaller c =
 
 pub loop-base-preserved : goal.loop-base-preserved
 loop-base-preserved c =
-    let m = met_there c.in-Some.base c.at-window.result.base c.meet_all.new.window.base (has c.meet_all.new.window) (has c.at-window.result) (labels mention.Stands c.args.items.now) c.at-window.ensures.base c.meet_all.ensures.base c.at-window.ensures.none c.meet_all.ensures.met in
+    let m = met_there c.in-Some.base c.at-window.result.base c.meet_all.new.window.base (has c.meet_all.new.window) (has c.at-window.result) (labels mention.Stands c.args.items.now)
+    c.at-window.ensures.base c.meet_all.ensures.base c.at-window.ensures.none c.meet_all.ensures.met in
     let a = ap (λ (b : ℕ). all_met b (has c.meet_all.new.window) (labels mention.Target c.args.items.now)) (sym m.0) ∙ sym c.all_met.ensures ∙ c.if-not-all_met.false in
-    met_goes (labels mention.Target c.args.items.now) (labels mention.Stands c.args.items.now) c.loop-base.from c.in-Some.base (has c.meet_all.new.window) (sym c.in-Some.ensures.least) m.1 a c.loop-base.invariant
+    met_goes (labels mention.Target c.args.items.now) (labels mention.Stands c.args.items.now) c.loop-base.from c.in-Some.base (has c.meet_all.new.window) (sym c.in-Some.ensures.least) m.1
+    a c.loop-base.invariant
 
 pub returns : goal.returns
 returns c =

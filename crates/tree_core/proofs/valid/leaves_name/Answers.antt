@@ -8,4 +8,5 @@ use Rattle.tree_core.proofs.valid.leaves_name.Goals as goal
 
 pub loop-leaf-preserved : goal.loop-leaf-preserved
 loop-leaf-preserved c =
-    all_more_at (λ (l : Leaf). leaf_names c.args.functions.now c.args.objects c.args.function.now l ≡ true) c.args.leaves.now c.loop-leaf.leaf-index (record { tok = tok.Zero; att = att.Nothing }) c.loop-leaf-test.true c.loop-leaf.invariant (sym c.leaf_names.ensures ∙ c.if-not-leaf_names.false)
+    all_more_at (λ (l : Leaf). leaf_names c.args.functions.now c.args.objects c.args.function.now l ≡ true) c.args.leaves.now c.loop-leaf.leaf-index
+    (record { tok = tok.Zero; att = att.Nothing }) c.loop-leaf-test.true c.loop-leaf.invariant (sym c.leaf_names.ensures ∙ c.if-not-leaf_names.false)

@@ -15,5 +15,6 @@ loop-place-preserved-in-Continue-1 c =
     let front = in_front list place c.index-items-place.result c.loop-place-test.true c.loop-place.auto.place c.index-items-place.is ∙ ap (λ (x : CodeItem). x ∷ drop place list) c.in-Label.is in
     let test = c.is_taken-again.ensures ∙ ap (λ (s : List ℕ). is_service s || is_some (before s)) c.as_slice.ensures in (
       places_more list place name before (found c.put.new.self.places) c.loop-place-test.true front c.loop-place.invariant.0 c.in_ok-put.ensures.places,
-      double_more list place name before c.is_taken-again.result (option_copied c.loop-place.labels.double) (option_copied c.put.new.self.double) front c.loop-place.invariant.0 test c.loop-place.invariant.1 c.in_ok-put.ensures.double,
+      double_more list place name before c.is_taken-again.result (option_copied c.loop-place.labels.double) (option_copied c.put.new.self.double) front c.loop-place.invariant.0 test
+          c.loop-place.invariant.1 c.in_ok-put.ensures.double,
     )

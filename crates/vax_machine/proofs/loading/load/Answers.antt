@@ -23,7 +23,8 @@ returns c =
     let stack = c.in_ok-zeros.field-0.items in
     let frames = c.in_ok-new.field-0 in
     let before = record (blank code input) { layout = program.layout.now; items = program.items.now; area = bytes; stack = stack; frames = frames } in
-    let blank_before = blank_is code input program.layout.now program.items.now bytes stack frames (c.in_ok-link.ensures.layout ∙ known.0) (c.in_ok-link.ensures.items ∙ known.1) (c.in_ok-area_bytes.ensures.bytes ∙ ap area_bytes known.0) c.in_ok-zeros.ensures.items c.in_ok-new.ensures in (
+    let blank_before = blank_is code input program.layout.now program.items.now bytes stack frames (c.in_ok-link.ensures.layout ∙ known.0) (c.in_ok-link.ensures.items ∙ known.1)
+    (c.in_ok-area_bytes.ensures.bytes ∙ ap area_bytes known.0) c.in_ok-zeros.ensures.items c.in_ok-new.ensures in (
       loads_by code n.layout.now n.items.now c.in-Some-2.layout known.0 known.1 known.2 area items main laid,
       started code input n.items.now before (state c.begin.new.self) c.main_place.result blank_before known.1 c.main_place.ensures c.begin.ensures,
     )

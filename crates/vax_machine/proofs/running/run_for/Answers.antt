@@ -13,17 +13,21 @@ loop-preserved c =
     let old = c.args.out.now.items in
     elim c.match-step.branch [
       | in-Going w ↦ rw w.out-is (went whole old c.loop.out.items (state c.loop.machine) (state c.step.new.self) c.args.count c.loop.counter c.loop-test.true w.in-Going.ensures c.loop.invariant)
-      | in-Wrote+in_ok-push-in-Wrote w ↦ rw (w.out-is, w.in_ok-push-in-Wrote.ensures.items) (wrote w.in-Wrote.byte whole old c.loop.out.items (state c.loop.machine) (state c.step.new.self) c.args.count c.loop.counter c.loop-test.true w.in-Wrote.ensures c.loop.invariant)
+      | in-Wrote+in_ok-push-in-Wrote w ↦ rw (w.out-is, w.in_ok-push-in-Wrote.ensures.items)
+          (wrote w.in-Wrote.byte whole old c.loop.out.items (state c.loop.machine) (state c.step.new.self) c.args.count c.loop.counter c.loop-test.true w.in-Wrote.ensures c.loop.invariant)
     ]
 
 pub returns-in-Ended : goal.returns-in-Ended
 returns-in-Ended c =
-    stopped (turns.Ended c.in-Ended.value) (ends.Ended c.in-Ended.value) (steps c.args.count (state c.args.machine.now)) c.args.out.now.items c.loop.out.items (state c.loop.machine) (state c.step.new.self) c.args.count c.loop.counter refl c.loop-test.true c.in-Ended.ensures c.loop.invariant
+    stopped (turns.Ended c.in-Ended.value) (ends.Ended c.in-Ended.value) (steps c.args.count (state c.args.machine.now)) c.args.out.now.items c.loop.out.items (state c.loop.machine)
+    (state c.step.new.self) c.args.count c.loop.counter refl c.loop-test.true c.in-Ended.ensures c.loop.invariant
 
 pub returns-in-Trapped : goal.returns-in-Trapped
 returns-in-Trapped c =
-    stopped turns.Trapped ends.Trapped (steps c.args.count (state c.args.machine.now)) c.args.out.now.items c.loop.out.items (state c.loop.machine) (state c.step.new.self) c.args.count c.loop.counter refl c.loop-test.true c.in-Trapped.ensures c.loop.invariant
+    stopped turns.Trapped ends.Trapped (steps c.args.count (state c.args.machine.now)) c.args.out.now.items c.loop.out.items (state c.loop.machine) (state c.step.new.self) c.args.count
+    c.loop.counter refl c.loop-test.true c.in-Trapped.ensures c.loop.invariant
 
 pub returns-in-Broken : goal.returns-in-Broken
 returns-in-Broken c =
-    stopped (turns.Broken c.in-Broken.kind) (ends.Broken c.in-Broken.kind) (steps c.args.count (state c.args.machine.now)) c.args.out.now.items c.loop.out.items (state c.loop.machine) (state c.step.new.self) c.args.count c.loop.counter refl c.loop-test.true c.in-Broken.ensures c.loop.invariant
+    stopped (turns.Broken c.in-Broken.kind) (ends.Broken c.in-Broken.kind) (steps c.args.count (state c.args.machine.now)) c.args.out.now.items c.loop.out.items (state c.loop.machine)
+    (state c.step.new.self) c.args.count c.loop.counter refl c.loop-test.true c.in-Broken.ensures c.loop.invariant

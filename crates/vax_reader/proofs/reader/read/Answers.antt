@@ -13,7 +13,8 @@ loop-rest-preserved c =
     let pushed : c.push.new.self.items ≡ c.loop-rest.items.items ++ c.in-Ok.item ∷ [] = c.in_ok-push-in-Ok.ensures.items in
     let shorter = item_shorter c.loop-rest.rest.now c.in-Ok.item c.in-Ok.after.now read in
     record {
-      lines = code_goes_on c.args.bytes.now c.in_ok-area.field-0.items.items c.loop-rest.items.items c.loop-rest.line c.loop-rest.rest.now c.in-Ok.item c.in-Ok.after.now c.push.new.self.items read pushed c.loop-rest.invariant.lines;
+      lines = code_goes_on c.args.bytes.now c.in_ok-area.field-0.items.items c.loop-rest.items.items c.loop-rest.line c.loop-rest.rest.now c.in-Ok.item c.in-Ok.after.now
+          c.push.new.self.items read pushed c.loop-rest.invariant.lines;
       count = omega (arith, shorter, c.loop-rest.invariant.count);
     }
 

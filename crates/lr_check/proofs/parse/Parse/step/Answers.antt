@@ -20,9 +20,12 @@ returns-in-Some c =
     let d : Config = record { at = c.self.inside.at; stack = c.self.inside.stack.items; seen = c.self.inside.seen.items } in
     let top = c.top_of.ensures ∙ ap top_of c.as_slice.ensures.value in
     IfOk-weaker c.make.result
-    (λ (o : Option Outcome). ◌≡◌ {A = After} (record { ending = o; config = c.make.new.self }) (after_choice c.args.tables.now c.node_at-next.result (record { at = c.self.inside.at; stack = c.choose.new.stack.items; seen = c.self.inside.seen.items }) c.choose.new.stack.items (Some c.in-Some.choice)))
+    (λ (o : Option Outcome). ◌≡◌ {A = After} (record { ending = o; config = c.make.new.self })
+    (after_choice c.args.tables.now c.node_at-next.result (record { at = c.self.inside.at; stack = c.choose.new.stack.items; seen = c.self.inside.seen.items }) c.choose.new.stack.items
+    (Some c.in-Some.choice)))
     (λ (o : Option Outcome). ◌≡◌ {A = After} (record { ending = o; config = c.make.new.self }) (step c.args.tables.now c.args.nodes.now c.args.order.now c.args.self.now))
-    (λ o e. step_by c.args.tables.now c.args.nodes.now c.args.order.now c.args.self.now d c.node_at-next.result c.rules-rules.result.now c.action-choices.result.now (Some c.in-Some.choice) c.choose.new.stack.items (record { ending = o; config = c.make.new.self })
+    (λ o e. step_by c.args.tables.now c.args.nodes.now c.args.order.now c.args.self.now d c.node_at-next.result c.rules-rules.result.now c.action-choices.result.now (Some c.in-Some.choice)
+    c.choose.new.stack.items (record { ending = o; config = c.make.new.self })
     c.self.view_is c.node_at-next.ensures.value (c.rules-rules.ensures ∙ ap (λ (x : Content). x.rules) c.description.ensures)
     (c.action-choices.ensures.value ∙ (λ i. actions_at c.args.tables.now (top i) (c.token_of.ensures i))) c.in-Some.ensures e)
     c.make.ensures

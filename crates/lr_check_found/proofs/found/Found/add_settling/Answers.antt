@@ -22,7 +22,11 @@ pub returns-then-settles-clause-found : goal.returns-then-settles-clause-found
 returns-then-settles-clause-found c = relisted_found (automaton_of c.args.tables.now) c.args.self.now _ c.requires.found c.in_ok-list.ensures.rest
 
 pub state_by-behind-requires : goal.state_by-behind-requires
-state_by-behind-requires c = (c.args.number, has_made_grows (automaton_of c.args.tables.now) c.args.self.now _ (relisted_more c.args.self.now _ c.in_ok-list.ensures.rest) c.args.number c.args.how c.requires.made)
+state_by-behind-requires c = (
+  c.args.number,
+  has_made_grows (automaton_of c.args.tables.now) c.args.self.now _ (relisted_more c.args.self.now _ c.in_ok-list.ensures.rest) c.args.number
+      c.args.how c.requires.made,
+)
 
 pub push_settling-requires-clause-absent : goal.push_settling-requires-clause-absent
 push_settling-requires-clause-absent c =

@@ -29,4 +29,5 @@ returns-in_ok-get-in-Two c =
 pub returns-in-Reduced : goal.returns-in-Reduced
 returns-in-Reduced c =
     subst (λ (h : How). IsBehind (automaton_of c.args.tables.now) c.args.self.now c.args.place.now h c.over-in-Reduced.result) (sym c.in-Reduced.is)
-    (subst (λ (o : Option ℕ). IsBehind (automaton_of c.args.tables.now) c.args.self.now c.args.place.now (how.Reduced c.in-Reduced.field-0 c.in-Reduced.class) o) (sym c.over-in-Reduced.ensures) behind_reduced)
+    (subst (λ (o : Option ℕ). IsBehind (automaton_of c.args.tables.now) c.args.self.now c.args.place.now (how.Reduced c.in-Reduced.field-0 c.in-Reduced.class) o)
+    (sym c.over-in-Reduced.ensures) behind_reduced)

@@ -12,7 +12,8 @@ returns-then-not-is_new c =
     let cell : Cell = record { symbol = c.number_of.result; rest = c.args.rest } in
     let p : Pushed v w c.args.symbol c.args.rest (c.in_ok-number.number + 1) =
     pushed_is_old v w c.args.symbol c.args.rest c.in_ok-number.number cell (subst AreLists (sym c.self.view_is) c.requires.lists)
-    (subst (λ (z : ListsView). (s : List Sym) × IsList z c.args.rest s) (sym c.self.view_is) c.requires.there) (c.in_ok-number.ensures.old c.if-not-is_new.true) refl c.in_ok-number.ensures.there c.number_of.ensures refl in
+    (subst (λ (z : ListsView). (s : List Sym) × IsList z c.args.rest s) (sym c.self.view_is) c.requires.there) (c.in_ok-number.ensures.old c.if-not-is_new.true) refl
+    c.in_ok-number.ensures.there c.number_of.ensures refl in
     let q = subst (λ (z : ListsView). Pushed z w c.args.symbol c.args.rest (c.in_ok-number.number + 1)) c.self.view_is p in
     record { lists = q.lists; kept = q.kept; number = q.number; there = q.there }
 

@@ -20,5 +20,6 @@ invariant_of-self g c = (
 
 pub returns : goal.returns
 returns g c =
-    subst (λ (es : List (Entry g.row.O.Denot)). joined c.self.inside.kinds.items (set c.self.inside.attrs.items c.args.at c.args.attr) ≡ slice_set es c.args.at (record { kind = kind_in (slice_get es c.args.at); attr = c.args.attr }))
+    subst (λ (es : List (Entry g.row.O.Denot)). joined c.self.inside.kinds.items (set c.self.inside.attrs.items c.args.at c.args.attr)
+    ≡ slice_set es c.args.at (record { kind = kind_in (slice_get es c.args.at); attr = c.args.attr }))
     c.self.view_is (joined-set c.self.inside.kinds.items c.self.inside.attrs.items c.args.at c.args.attr)

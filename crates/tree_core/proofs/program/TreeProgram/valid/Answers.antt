@@ -11,4 +11,6 @@ returns-then-not-targets_stand c =
 
 pub returns : goal.returns
 returns c =
-    valid_so c.args.self.now c.as_slice-functions.result.now c.as_slice-objects.result.now _ c.links_lie.result c.as_slice-functions.ensures c.as_slice-objects.ensures refl (c.names_are_right.ensures.0 c.if-not-names_are_right.false) (c.roots_stand.ensures.0 c.if-not-roots_stand.false) (c.labels_stand_once.ensures.0 c.if-not-labels_stand_once.false) (c.targets_stand.ensures.0 c.if-not-targets_stand.false) (c.pushes_stand.ensures.0 c.if-not-pushes_stand.false) (sym c.objects_lie.ensures ∙ c.if-not-objects_lie.false) c.links_lie.ensures
+    valid_so c.args.self.now c.as_slice-functions.result.now c.as_slice-objects.result.now _ c.links_lie.result c.as_slice-functions.ensures c.as_slice-objects.ensures refl
+    (c.names_are_right.ensures.0 c.if-not-names_are_right.false) (c.roots_stand.ensures.0 c.if-not-roots_stand.false) (c.labels_stand_once.ensures.0 c.if-not-labels_stand_once.false)
+    (c.targets_stand.ensures.0 c.if-not-targets_stand.false) (c.pushes_stand.ensures.0 c.if-not-pushes_stand.false) (sym c.objects_lie.ensures ∙ c.if-not-objects_lie.false) c.links_lie.ensures

@@ -15,7 +15,8 @@ loop-item-preserved c =
     let item = c.item-item.result in
     let front = front_is layout i item c.loop-item-test.true c.item-item.is in
     record {
-      bytes = bytes_more layout layout i c.loop-item.at c.size_at-at.result item c.loop-item.bytes.items c.put_item.new.bytes.items (bytes_from layout layout 65536) front c.size_at-at.ensures.size c.in_ok-put_item.ensures c.loop-item.invariant.bytes;
+      bytes = bytes_more layout layout i c.loop-item.at c.size_at-at.result item c.loop-item.bytes.items c.put_item.new.bytes.items (bytes_from layout layout 65536) front
+          c.size_at-at.ensures.size c.in_ok-put_item.ensures c.loop-item.invariant.bytes;
       end = end_more layout i c.loop-item.at c.size_at-at.result (end_from layout 65536) item front c.size_at-at.ensures.size c.loop-item.invariant.end;
       long = long_more layout c.loop-item.at c.size_at-at.result item c.loop-item.bytes.items c.put_item.new.bytes.items c.size_at-at.ensures.size c.in_ok-put_item.ensures c.loop-item.invariant.long;
       valid = valid_more layout i item front c.loop-item.invariant.valid;

@@ -15,7 +15,8 @@ returns-in-Some c =
     let n = c.args.self.now in
     let at : found n.area c.args.name.now ≡ Some c.in-Some.place = ap (λ (x : List ℕ). found n.area x) (sym c.as_slice.ensures) ∙ sym c.get.ensures ∙ c.in-Some.is in
     let lies : c.in-Some.place < length c.args.layout.now.addresses.items = place_lies (found n.area) n.layout.now c.args.layout.now c.in-Some.place c.args.name.now n.area_places c.requires at in
-    c.index.ensures ∙ get_or-default c.args.layout.now.addresses.items c.in-Some.place c.index.result.now lies ∙ address_is (found n.area) n.layout.now c.args.layout.now c.in-Some.place c.args.name.now n.area_places c.requires at
+    c.index.ensures ∙ get_or-default c.args.layout.now.addresses.items c.in-Some.place c.index.result.now lies
+    ∙ address_is (found n.area) n.layout.now c.args.layout.now c.in-Some.place c.args.name.now n.area_places c.requires at
 
 pub returns-in-None : goal.returns-in-None
 returns-in-None c =

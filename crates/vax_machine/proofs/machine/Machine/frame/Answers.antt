@@ -10,4 +10,5 @@ enter-requires c =
     let registers : length c.args.self.now.registers ≡ 15 = search rules in
     let area : length c.args.self.now.area.items ≤ 1048576 = search rules in
     let whole : IsWhole (state c.args.self.now) = record { registers = registers; area = area } in
-    has_room (state c.args.self.now) (state c.set_register.new.self) (state c.reserve_all.new.self) top (count_ones c.in-Some.mask + 5) whole (omega (arith, c.ranges.ap)) (omega arith) (omega arith) c.in_ok-set_register.ensures c.in_ok-reserve_all.ensures
+    has_room (state c.args.self.now) (state c.set_register.new.self) (state c.reserve_all.new.self) top (count_ones c.in-Some.mask + 5) whole (omega (arith, c.ranges.ap)) (omega arith)
+    (omega arith) c.in_ok-set_register.ensures c.in_ok-reserve_all.ensures

@@ -27,4 +27,5 @@ loop-preserved c =
 pub returns-in_err-reserve : goal.returns-in_err-reserve
 returns-in_err-reserve c =
     let p = err_from_is_err_and c.from_residual.result c.from_residual.ensures.1 in
-    rw (p.1, p.2) (breaks c.args.count c.loop.counter (state c.loop.self) c.in_err-reserve.field-0.0 (all_reserved c.args.count (state c.args.self.now)) c.loop-test.true c.in_err-reserve.ensures c.loop.invariant)
+    rw (p.1, p.2) (breaks c.args.count c.loop.counter (state c.loop.self) c.in_err-reserve.field-0.0 (all_reserved c.args.count (state c.args.self.now)) c.loop-test.true
+    c.in_err-reserve.ensures c.loop.invariant)

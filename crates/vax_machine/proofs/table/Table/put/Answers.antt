@@ -7,4 +7,5 @@ use Rattle.vax_machine.proofs.table.Table.put.Goals as goal
 
 pub returns : goal.returns
 returns c =
-    put_is (λ (q : Bor (List ℕ)). get_by (λ k. bytes_eq q.now k.now) c.args.self.now.numbers) (λ (q : Bor (List ℕ)). get_by (λ k. bytes_eq q.now k.now) c.insert.new.self) c.args.name c.args.number c.in_ok-insert.ensures.updates.0
+    put_is (λ (q : Bor (List ℕ)). get_by (λ k. bytes_eq q.now k.now) c.args.self.now.numbers) (λ (q : Bor (List ℕ)). get_by (λ k. bytes_eq q.now k.now) c.insert.new.self) c.args.name
+    c.args.number c.in_ok-insert.ensures.updates.0
