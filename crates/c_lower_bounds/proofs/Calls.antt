@@ -3,7 +3,8 @@ use Rattle.std.proofs.Common.{ℕ, ◌+◌, ◌≤◌, List, [], ◌∷◌, refl
 use Rattle.std.specs.Prelude.{Bool}
 use Rattle.c_types.specs.declared.types.CType.{CType}
 use Rattle.c_lower_scheme.specs.Trees.{Tree, Item, Push, Call, Save}
-use Rattle.c_lower_scheme.specs.Expressions.{Lowered, Passing, over, pushes, args_count, called_drop, called_low, passed_as, no_arguments, pass_so}
+use Rattle.c_lower_scheme.specs.Parts.{Lowered, Passing, over}
+use Rattle.c_lower_scheme.specs.Calls.{pushes, args_count, called_drop, called_low, passed_as, no_arguments, pass_so}
 use Rattle.c_lower_bounds.proofs.Trees.{tree_forks, Narrow, none, next, behind}
 use Rattle.c_lower_bounds.proofs.Values.{Within, Ends, narrow_saving, saved_forks, next_one, fitted_forks, over_within}
 

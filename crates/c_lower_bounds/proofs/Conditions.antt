@@ -1,7 +1,8 @@
 -- How many temporaries and forks `!`, `&&`, `||`, `?:` and `,` have.
 use Rattle.std.proofs.Common.{ℕ, suc, ◌+◌, arith}
 use Rattle.std.specs.Prelude.{Bool, true, false, not}
-use Rattle.c_lower_scheme.specs.Expressions.{Lowered, Emitted, Lowering, conditional, chained, same, goal, chain, chain_drop, choose, comma}
+use Rattle.c_lower_scheme.specs.Parts.{Lowered, Emitted, Lowering}
+use Rattle.c_lower_scheme.specs.Conditions.{conditional, chained, same, goal, chain, chain_drop, choose, comma}
 use Rattle.c_lower_bounds.proofs.Trees.{none, next, behind}
 use Rattle.c_lower_bounds.proofs.Values.{Ends, ends_more, Bounded, conditional_bounded, effective_bounded, then_ends, drop_two_ends}
 

@@ -11,8 +11,13 @@ use Rattle.c_types.specs.Typed.{UnaryOf, CastTo, ConvertTo, ArithmeticOf, Compar
 use Rattle.c_types.specs.Typed.{ArithmeticAssignTo, AdvanceAssignTo, RetreatAssignTo, CommaOf, SomeExpressions, NoExpressions, MoreExpressions}
 use Rattle.c_program.specs.Need.{place_nodes, nodes, all_nodes}
 use Rattle.c_lower_scheme.specs.Trees.{Tree, Num, Gaddr, Neg, Com, Bin}
-use Rattle.c_lower_scheme.specs.Expressions.{Lowered, Lowering, Located, Passing, due, valued, is_nil, where_of, address_tree, scaled_by, shared_by, advance, advance_by, retreat, apart}
-use Rattle.c_lower_scheme.specs.Expressions.{over, fitted, callee_number, passed_as, others, must_hold, must_pass, assigned, updated, update_by, unary, seek, way, pass}
+use Rattle.c_lower_scheme.specs.Parts.{Lowered, Lowering, Located, Passing, due, is_nil, over}
+use Rattle.c_lower_scheme.specs.Places.{where_of, address_tree, fitted}
+use Rattle.c_lower_scheme.specs.Conditions.{valued}
+use Rattle.c_lower_scheme.specs.Values.{scaled_by, shared_by, advance, advance_by, retreat, apart}
+use Rattle.c_lower_scheme.specs.Calls.{callee_number, passed_as, others, must_pass}
+use Rattle.c_lower_scheme.specs.Assignments.{must_hold, assigned, updated, update_by}
+use Rattle.c_lower_scheme.specs.Expressions.{unary, seek, way, pass}
 use Rattle.c_lower_bounds.proofs.Trees.{tree_forks}
 use Rattle.c_lower_bounds.proofs.Values.{AddsTwo, Bounded, fitted_forks, due_within, valued_bounded, effective_bounded, mapped_bounded, binary_bounded, relation_bounded}
 use Rattle.c_lower_bounds.proofs.Conditions.{not_bounded, chain_bounded, choose_bounded, comma_bounded}

@@ -7,9 +7,11 @@ use Rattle.c_program.specs.Statements.{ADeclaration, KeepOf, ClearOf, BeginOf, A
 use Rattle.c_program.specs.Statements.{ReturnOf, IfOf, IfElseOf, WhileOf, DoOf, ForOf}
 use Rattle.c_program.specs.Need.{nodes, maybe_nodes, returned_nodes, declared_nodes, largest, largest_of}
 use Rattle.c_lower_scheme.specs.Trees.{Num, Item, AssignLoc, Jump, Ret}
-use Rattle.c_lower_scheme.specs.Expressions.{Lowered, Emitted, nothing, way}
-use Rattle.c_lower_scheme.specs.Statements.{mentions, two_done, ret_of, clearing, begin_of, if_done, if_else_done, loop_done, while_done, turns_done, for_done, ever_done, unless, when, effect}
-use Rattle.c_lower_scheme.specs.Statements.{returning, declare, while_by, for_tested, for_of, lower, lower_row}
+use Rattle.c_lower_scheme.specs.Parts.{Lowered, Emitted, nothing}
+use Rattle.c_lower_scheme.specs.Expressions.{way}
+use Rattle.c_lower_scheme.specs.Mentions.{mentions}
+use Rattle.c_lower_scheme.specs.Flow.{two_done, ret_of, clearing, begin_of, if_done, if_else_done, loop_done, while_done, turns_done, for_done, ever_done}
+use Rattle.c_lower_scheme.specs.Statements.{unless, when, effect, returning, declare, while_by, for_tested, for_of, lower, lower_row}
 use Rattle.c_lower_bounds.proofs.Trees.{item_forks, Narrow, none, next, behind}
 use Rattle.c_lower_bounds.proofs.Values.{Within, Ends}
 use Rattle.c_lower_bounds.proofs.Phrases.{way_bounded}

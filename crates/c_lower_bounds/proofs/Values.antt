@@ -6,8 +6,10 @@ use Rattle.c_types.specs.declared.types.Integer.{Integer}
 use Rattle.c_types.specs.declared.types.Integer.TheVariants as ints
 use Rattle.c_types.specs.declared.types.CType.{CType}
 use Rattle.c_lower_scheme.specs.Trees.{Tree, breaks}
-use Rattle.c_lower_scheme.specs.Expressions.{Lowered, Pair, Emitted, Lowering, due, saving, saved, next_if, integer_of, conv, fitted, over}
-use Rattle.c_lower_scheme.specs.Expressions.{then_done, test, dropped, valued, conditional, effective, mapped, drop_two, join_so, must, binary, relation, joined}
+use Rattle.c_lower_scheme.specs.Parts.{Lowered, Pair, Emitted, Lowering, due, over, then_done}
+use Rattle.c_lower_scheme.specs.Places.{saving, saved, next_if, integer_of, conv, fitted}
+use Rattle.c_lower_scheme.specs.Conditions.{test, dropped, valued, conditional, effective, mapped, drop_two}
+use Rattle.c_lower_scheme.specs.Values.{join_so, must, binary, relation, joined}
 use Rattle.c_lower_bounds.proofs.Trees.{tree_forks, Narrow, none, next, behind}
 
 -- A value of n nodes, from the temporary t on. It takes at least two temporaries less than twice its nodes;

@@ -4,7 +4,7 @@ use Rattle.std.specs.Prelude.{max, slice_get}
 use Rattle.tree_core.specs.declared.program.TreeFn.{TreeFn}
 use Rattle.c_program.specs.Need.{largest_of, need_of}
 use Rattle.c_program.specs.Programs.{ARoutine}
-use Rattle.c_lower_scheme.specs.Expressions.{Emitted}
+use Rattle.c_lower_scheme.specs.Parts.{Emitted}
 use Rattle.c_lower_scheme.specs.Programs.{body_of, items_of, function_of, lower_all}
 use Rattle.c_lower_bounds.specs.Claim.{FitsFrame, EachFunctionFits, FunctionsStay}
 use Rattle.c_lower_bounds.proofs.Trees.{Narrow, none, next, behind, root_forks}

@@ -6,9 +6,10 @@ use Rattle.c_types.specs.declared.types.Integer.{Integer}
 use Rattle.c_types.specs.declared.types.Integer.TheVariants as ints
 use Rattle.c_types.specs.declared.types.CType.{CType}
 use Rattle.c_lower_scheme.specs.Trees.{Tree, Num, Gaddr, Loc, Arg, Indir, Conv, Neg, Com, Bin, Item, divides_by, divides, reads, breaks, stable, is_leaf}
-use Rattle.c_lower_scheme.specs.Expressions.{Lowered, Pair, Emitted, Lowering, Located, Assignable, due, saving, saved, integer_of, conv, fitted, address_tree, over, test, dropped}
-use Rattle.c_lower_scheme.specs.Expressions.{valued, conditional, effective, mapped, chained, same, goal, chain, chain_drop, drop_two, choose, comma, must, joined, binary}
-use Rattle.c_lower_scheme.specs.Expressions.{relation}
+use Rattle.c_lower_scheme.specs.Parts.{Lowered, Pair, Emitted, Lowering, Located, Assignable, due, over}
+use Rattle.c_lower_scheme.specs.Places.{saving, saved, integer_of, conv, fitted, address_tree}
+use Rattle.c_lower_scheme.specs.Conditions.{test, dropped, valued, conditional, effective, mapped, chained, same, goal, chain, chain_drop, drop_two, choose, comma}
+use Rattle.c_lower_scheme.specs.Values.{must, joined, binary, relation}
 use Rattle.c_lower_calm.proofs.Trees.{Apart, IsCalm, AreCalm, none, next, behind}
 
 pub record CalmLow (p : Lowered) : Type 0 where

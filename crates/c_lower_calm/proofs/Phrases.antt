@@ -8,8 +8,12 @@ use Rattle.c_types.specs.Typed.{APlace, VariableAt, PointedBy, ElementBy, AnExpr
 use Rattle.c_types.specs.Typed.{UnaryOf, CastTo, ConvertTo, ArithmeticOf, CompareOf, BothOf, EitherOf, AdvanceOf, AdvanceByOf, RetreatOf, DistanceOf, ChoiceOf, AssignTo}
 use Rattle.c_types.specs.Typed.{ArithmeticAssignTo, AdvanceAssignTo, RetreatAssignTo, CommaOf, SomeExpressions, NoExpressions, MoreExpressions}
 use Rattle.c_lower_scheme.specs.Trees.{Tree, Num, Gaddr, Neg, Com, Bin}
-use Rattle.c_lower_scheme.specs.Expressions.{Lowered, Lowering, Located, Passing, is_nil, where_of, address_tree, advance, advance_by, retreat, apart, over, fitted, callee_number}
-use Rattle.c_lower_scheme.specs.Expressions.{passed_as, others, must_pass, assigned, updated, update_by, unary, seek, way, pass}
+use Rattle.c_lower_scheme.specs.Parts.{Lowered, Lowering, Located, Passing, is_nil, over}
+use Rattle.c_lower_scheme.specs.Places.{where_of, address_tree, fitted}
+use Rattle.c_lower_scheme.specs.Values.{advance, advance_by, retreat, apart}
+use Rattle.c_lower_scheme.specs.Calls.{callee_number, passed_as, others, must_pass}
+use Rattle.c_lower_scheme.specs.Assignments.{assigned, updated, update_by}
+use Rattle.c_lower_scheme.specs.Expressions.{unary, seek, way, pass}
 use Rattle.c_lower_calm.proofs.Trees.{Apart, IsCalm, none}
 use Rattle.c_lower_calm.proofs.Parts.{CalmWay, CalmFound, CalmReady, due_calm, valued_calm, effective_calm, mapped_calm, not_calm, chain_calm, choose_calm, comma_calm, binary_calm}
 use Rattle.c_lower_calm.proofs.Parts.{relation_calm, calm_fitted}

@@ -11,10 +11,11 @@ use Rattle.c_types.specs.declared.typed.Moment.TheVariants as moments
 use Rattle.c_types.specs.declared.typed.ArithmeticOperator.TheVariants as ariths
 use Rattle.c_types.specs.Constants.{scale}
 use Rattle.c_lower_scheme.specs.Trees.{Tree, Num, Loc, Bin, Item, divides, reads, breaks, stable, is_leaf}
-use Rattle.c_lower_scheme.specs.Expressions.{Lowered, Where, InLoc, InArg, InMem, Located, Passing, Assignable, saved, next_if, read_from, assign_to, address_tree, where_of}
-use Rattle.c_lower_scheme.specs.Expressions.{scaled_by, advance, advance_by, retreat, apart, step, found, pointed, read_low, address_low, pushes, called_drop, called_low}
-use Rattle.c_lower_scheme.specs.Expressions.{passed_as, holding, held, ready_so, update_so, store_drop, store_low_at, store_low, pass_so, must, must_hold, must_keep, step_tree}
-use Rattle.c_lower_scheme.specs.Expressions.{step_ready, step_low, over}
+use Rattle.c_lower_scheme.specs.Parts.{Lowered, Where, InLoc, InArg, InMem, Located, Passing, Assignable, over}
+use Rattle.c_lower_scheme.specs.Places.{saved, next_if, read_from, assign_to, address_tree, where_of, found, pointed, read_low, address_low, holding, held}
+use Rattle.c_lower_scheme.specs.Values.{scaled_by, advance, advance_by, retreat, apart, step, must}
+use Rattle.c_lower_scheme.specs.Calls.{pushes, called_drop, called_low, passed_as, pass_so}
+use Rattle.c_lower_scheme.specs.Assignments.{ready_so, update_so, store_drop, store_low_at, store_low, must_hold, must_keep, step_tree, step_ready, step_low}
 use Rattle.c_lower_calm.proofs.Trees.{Apart, IsCalm, IsCalmItem, AreCalm, none, next, behind, none_left}
 use Rattle.c_lower_calm.proofs.Parts.{CalmLow, CalmFound, CalmReady, never, inert_apart, calm_saving, calm_saved, calm_fitted, over_calm, leaf_inert, must_apart}
 

@@ -14,10 +14,12 @@ use Rattle.c_types.specs.Typed.{ArithmeticAssignTo, AdvanceAssignTo, RetreatAssi
 use Rattle.tree_core.specs.declared.program.TreeItem.{TreeItem}
 use Rattle.tree_core.specs.declared.program.TreeItem.TheVariants as item
 use Rattle.c_lower_scheme.specs.Trees.{Tree, Num, Neg, Com, Bin, Item, divides, reads, breaks}
-use Rattle.c_lower_scheme.specs.Expressions.{Lowered, Lowering, Where, InLoc, InArg, InMem, Located, due, over, over_two, integer_of, conv, fitted, read_from, assign_to}
-use Rattle.c_lower_scheme.specs.Expressions.{address_tree, scaled_by, shared_by, advance, advance_by, retreat, apart, pointed, read_low, ready_so, store_drop, join, join_so}
-use Rattle.c_lower_scheme.specs.Expressions.{joined, assigned, assign_ready, unary, seek, way}
-use Rattle.c_lower_scheme.specs.Statements.{ret_of}
+use Rattle.c_lower_scheme.specs.Parts.{Lowered, Lowering, Where, InLoc, InArg, InMem, Located, due, over, over_two}
+use Rattle.c_lower_scheme.specs.Places.{integer_of, conv, fitted, read_from, assign_to, address_tree, pointed, read_low}
+use Rattle.c_lower_scheme.specs.Values.{scaled_by, shared_by, advance, advance_by, retreat, apart, join, join_so, joined}
+use Rattle.c_lower_scheme.specs.Assignments.{ready_so, store_drop, assigned, assign_ready}
+use Rattle.c_lower_scheme.specs.Expressions.{unary, seek, way}
+use Rattle.c_lower_scheme.specs.Flow.{ret_of}
 use Rattle.c_lower_scheme.specs.Spelling.{spelled}
 use Rattle.c_lower_calm.specs.Plain.{PlainPlace, Plain, PlainUnary, unary_tree, type_at, place_at, plain_tree}
 use Rattle.c_lower_calm.specs.Claim.{SpellsCalm, only, returned, stored, PlainIsOneTree}

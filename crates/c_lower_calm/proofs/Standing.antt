@@ -8,7 +8,7 @@ use Rattle.c_types.specs.Typed.{AnExpression}
 use Rattle.c_program.specs.Statements.{AnAction, SomeActions, NoActions, MoreActions, DeclareOf, BlockOf, EvaluateOf, BreakOf, ContinueOf, ReturnOf, IfOf, IfElseOf, WhileOf, DoOf, ForOf}
 use Rattle.c_program.specs.Programs.{ARoutine}
 use Rattle.c_lower_scheme.specs.Trees.{Item, Num, Label, Jump, Ret}
-use Rattle.c_lower_scheme.specs.Expressions.{Emitted}
+use Rattle.c_lower_scheme.specs.Parts.{Emitted}
 use Rattle.c_lower_scheme.specs.Statements.{unless, effect, while_by, for_tested, for_of, lower, lower_row}
 use Rattle.c_lower_scheme.specs.Spelling.{spelled, spelled_all}
 use Rattle.c_lower_scheme.specs.Programs.{body_of, items_of, function_of, lower_all}

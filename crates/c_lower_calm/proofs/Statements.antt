@@ -5,8 +5,11 @@ use Rattle.c_types.specs.Constants.{constant_of}
 use Rattle.c_types.specs.Typed.{AnExpression}
 use Rattle.c_program.specs.Statements.{ADeclaration, KeepOf, ClearOf, BeginOf, AnAction, SomeActions, NoActions, MoreActions, DeclareOf, BlockOf, EvaluateOf, BreakOf, ContinueOf}
 use Rattle.c_program.specs.Statements.{ReturnOf, IfOf, IfElseOf, WhileOf, DoOf, ForOf}
-use Rattle.c_lower_scheme.specs.Expressions.{Lowered, Emitted, way}
-use Rattle.c_lower_scheme.specs.Statements.{mentions, clearing, unless, effect, returning, declare, while_by, for_tested, for_of, lower, lower_row}
+use Rattle.c_lower_scheme.specs.Parts.{Lowered, Emitted}
+use Rattle.c_lower_scheme.specs.Expressions.{way}
+use Rattle.c_lower_scheme.specs.Mentions.{mentions}
+use Rattle.c_lower_scheme.specs.Flow.{clearing}
+use Rattle.c_lower_scheme.specs.Statements.{unless, effect, returning, declare, while_by, for_tested, for_of, lower, lower_row}
 use Rattle.c_lower_calm.proofs.Trees.{AreCalm, none, next, behind}
 use Rattle.c_lower_calm.proofs.Phrases.{way_calm}
 

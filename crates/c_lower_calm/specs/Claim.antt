@@ -11,7 +11,8 @@ use Rattle.c_program.specs.Statements.{AnAction, SomeActions, NoActions, MoreAct
 use Rattle.c_program.specs.Statements.{BreakOf, ContinueOf, ReturnOf, IfOf, IfElseOf, WhileOf, DoOf, ForOf}
 use Rattle.c_program.specs.Programs.{ARoutine, AProgram}
 use Rattle.c_lower_scheme.specs.Trees.{Item, Ret}
-use Rattle.c_lower_scheme.specs.Expressions.{Emitted, assign_to}
+use Rattle.c_lower_scheme.specs.Parts.{Emitted}
+use Rattle.c_lower_scheme.specs.Places.{assign_to}
 use Rattle.c_lower_scheme.specs.Statements.{lower}
 use Rattle.c_lower_scheme.specs.Spelling.{spelled}
 use Rattle.c_lower_scheme.specs.Programs.{lowered}

@@ -8,7 +8,9 @@ use Rattle.c_types.specs.Typed.{UnaryOf, CastTo, ConvertTo, ArithmeticOf, Compar
 use Rattle.c_types.specs.Typed.{AdvanceByOf, RetreatOf, DistanceOf, ChoiceOf, AssignTo}
 use Rattle.c_types.specs.Typed.{ArithmeticAssignTo, AdvanceAssignTo, RetreatAssignTo, CommaOf}
 use Rattle.c_lower_scheme.specs.Trees.{Tree, Num, Gaddr, Neg, Com, Bin}
-use Rattle.c_lower_scheme.specs.Expressions.{Where, InMem, where_of, address_tree, read_from, fitted, advance, advance_by, retreat, apart}
+use Rattle.c_lower_scheme.specs.Parts.{Where, InMem}
+use Rattle.c_lower_scheme.specs.Places.{where_of, address_tree, read_from, fitted}
+use Rattle.c_lower_scheme.specs.Values.{advance, advance_by, retreat, apart}
 
 -- every unary operator but `!`
 abbrev pub PlainUnary : UnaryOperator → Type 0

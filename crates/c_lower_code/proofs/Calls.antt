@@ -10,7 +10,10 @@ use Rattle.c_types.specs.declared.typed.Expression.{Expression}
 use Rattle.c_types.specs.declared.typed.Expression.TheVariants as typeds
 use Rattle.c_types.specs.Typed.{CallOf, term, terms, place_of}
 use Rattle.c_types.proofs.Rows.{call_is}
-use Rattle.c_lower_scheme.specs.Expressions.{Lowered, Passing, Located, Emitted, way, pass, seek, step_ready, store_drop, called_low, called_drop, callee_number}
+use Rattle.c_lower_scheme.specs.Parts.{Lowered, Passing, Located, Emitted}
+use Rattle.c_lower_scheme.specs.Calls.{called_low, called_drop, callee_number}
+use Rattle.c_lower_scheme.specs.Assignments.{step_ready, store_drop}
+use Rattle.c_lower_scheme.specs.Expressions.{way, pass, seek}
 use Rattle.c_lower_code.specs.Sizes.{size, all_size}
 
 pub call_falls : (e : Expression) (t : CType) (f : Callee) (to : List CType) (xs : Vec Expression) (list : List Expression) → e ≡ typeds.Call t f to xs → list ≡ xs.items

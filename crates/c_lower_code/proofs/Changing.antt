@@ -2,7 +2,9 @@
 use Rattle.std.proofs.Common.{◌≡◌, ℕ, suc, List, [], ◌∷◌, ◌++◌, Bool, not, refl, ap, sym, ◌∙◌, append_assoc}
 use Rattle.c_types.specs.declared.types.CType.{CType}
 use Rattle.c_lower_scheme.specs.Trees.{Tree, Item, Loc, AssignLoc}
-use Rattle.c_lower_scheme.specs.Expressions.{Lowered, Located, Assignable, Where, is_nil, saving, saved, next_if, holding, held, read_from, assign_to, must_keep, update_ready, postfix}
+use Rattle.c_lower_scheme.specs.Parts.{Lowered, Located, Assignable, Where, is_nil}
+use Rattle.c_lower_scheme.specs.Places.{saving, saved, next_if, holding, held, read_from, assign_to}
+use Rattle.c_lower_scheme.specs.Assignments.{must_keep, update_ready, postfix}
 
 pub updated : (l f : ℕ) (g : Tree → Tree → Tree) (p : Located) (q : Lowered) (b c : Bool) (n m : ℕ) (s s' : Where) (rd old val : Tree) (first second all : List Item)
     → b ≡ must_keep l f q.items p.place

@@ -1,7 +1,8 @@
 -- Arguments that are pushed one at a time, the last first.
 use Rattle.std.proofs.Common.{◌≡◌, ℕ, suc, Bool, List, [], ◌∷◌, ◌++◌, refl, ap, sym, ◌∙◌, append_assoc}
 use Rattle.c_lower_scheme.specs.Trees.{Tree, Item, Loc, Push, Call, Save}
-use Rattle.c_lower_scheme.specs.Expressions.{Lowered, Emitted, pushes, args_count, called_low, called_drop}
+use Rattle.c_lower_scheme.specs.Parts.{Lowered, Emitted}
+use Rattle.c_lower_scheme.specs.Calls.{pushes, args_count, called_low, called_drop}
 
 pub pushes_append : (ws : List Tree) (is js : List Item) → pushes ws (is ++ js) ≡ pushes ws is ++ js
 pushes_append [] is js = refl

@@ -4,8 +4,9 @@ use Rattle.std.specs.Prelude.{max}
 use Rattle.std.proofs.lemmas.List.{append-nil}
 use Rattle.c_program.specs.Statements.{ADeclaration, KeepOf, ClearOf, BeginOf, AnAction, SomeActions, NoActions, MoreActions}
 use Rattle.c_lower_scheme.specs.Trees.{Item}
-use Rattle.c_lower_scheme.specs.Expressions.{Emitted, nothing}
-use Rattle.c_lower_scheme.specs.Statements.{two_done, declare, lower, lower_row}
+use Rattle.c_lower_scheme.specs.Parts.{Emitted, nothing}
+use Rattle.c_lower_scheme.specs.Flow.{two_done}
+use Rattle.c_lower_scheme.specs.Statements.{declare, lower, lower_row}
 use Rattle.c_lower_code.specs.Declarations.{one_declared}
 
 abbrev Same : Emitted → Emitted → Type 0

@@ -3,7 +3,7 @@ use Rattle.c_types.specs.declared.types.CType.{CType}
 use Rattle.c_lower_code.specs.declared.change.Change.{Change}
 use Rattle.c_lower_code.specs.declared.change.Change.TheVariants as changes
 use Rattle.c_lower_scheme.specs.Trees.{Tree, Bin}
-use Rattle.c_lower_scheme.specs.Expressions.{advance, retreat, step}
+use Rattle.c_lower_scheme.specs.Values.{advance, retreat, step}
 
 abbrev pub applied : Change → CType → Tree → Tree → Tree
 applied (changes.Arithmetic op) t a b = Bin op a b

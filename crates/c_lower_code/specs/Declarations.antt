@@ -1,8 +1,10 @@
 -- One declaration of several, as the lowering of all of them takes it.
 use Rattle.std.specs.Prelude.{ℕ, true}
 use Rattle.c_program.specs.Statements.{ADeclaration, KeepOf, ClearOf, BeginOf}
-use Rattle.c_lower_scheme.specs.Expressions.{Emitted, nothing, way}
-use Rattle.c_lower_scheme.specs.Statements.{clearing, begin_of, mentions}
+use Rattle.c_lower_scheme.specs.Parts.{Emitted, nothing}
+use Rattle.c_lower_scheme.specs.Expressions.{way}
+use Rattle.c_lower_scheme.specs.Mentions.{mentions}
+use Rattle.c_lower_scheme.specs.Flow.{clearing, begin_of}
 
 abbrev pub one_declared : ℕ → ℕ → ADeclaration → ℕ → Emitted
 one_declared size count (KeepOf object) l = nothing size l

@@ -13,7 +13,7 @@ use Rattle.c_lower_code.specs.declared.part.Assignable.{Assignable}
 use Rattle.c_lower_code.specs.declared.part.Passing.{Passing}
 use Rattle.c_lower_code.specs.declared.part.Emitted.{Emitted}
 use Rattle.c_lower_scheme.specs.Trees as mirror
-use Rattle.c_lower_scheme.specs.Expressions as parts
+use Rattle.c_lower_scheme.specs.Parts as parts
 
 abbrev pub tree : Tree → mirror.Tree
 tree (trees.Number n) = mirror.Num n

@@ -1,6 +1,6 @@
 // Assignments, which may read what they change.
 ghost use Rattle.std.specs.Prelude.{◌≡◌, [], IfOk};
-ghost use Rattle.c_lower_scheme.specs.Expressions as parts;
+ghost use Rattle.c_lower_scheme.specs.Assignments as assignments;
 ghost use Rattle.c_lower_code.specs.Views.{tree, low, found, ready, done};
 ghost use Rattle.c_lower_code.specs.Changes.{applied};
 
@@ -45,7 +45,7 @@ pub(crate) fn update_ready(
     p: Located,
     q: Lowered,
 ) -> Result<Assignable, NoMemory>
-    ensures { IfOk result (λ r. ready r ≡ parts.update_ready frame.locals frame.functions (applied change p.ctype) (found p) (low q)) }
+    ensures { IfOk result (λ r. ready r ≡ assignments.update_ready frame.locals frame.functions (applied change p.ctype) (found p) (low q)) }
 {
     let is_held = must_keep(frame, &q.items, &p.storage);
     let is_saved = !is_nil(&q.items);
@@ -69,7 +69,7 @@ pub(crate) fn update_ready(
 
 /// A step by one, or by the size of what is pointed to, ready to be stored.
 pub(crate) fn step_ready(frame: Frame, by: Direction, p: Located) -> Result<Assignable, NoMemory>
-    ensures { IfOk result (λ r. ready r ≡ parts.step_ready frame.locals frame.functions by (found p)) }
+    ensures { IfOk result (λ r. ready r ≡ assignments.step_ready frame.locals frame.functions by (found p)) }
 {
     let size = Lowered {
         items: Vec::new(frame.alloc),
@@ -82,8 +82,8 @@ pub(crate) fn step_ready(frame: Frame, by: Direction, p: Located) -> Result<Assi
 
 /// A step whose value is that before it.
 pub(crate) fn step_before(frame: Frame, by: Direction, p: Located) -> Result<Lowered, NoMemory>
-    ensures { IfOk result (λ r. low r ≡ parts.postfix frame.locals frame.functions
-        (parts.step_tree frame.locals frame.functions by p.ctype) (found p)) }
+    ensures { IfOk result (λ r. low r ≡ assignments.postfix frame.locals frame.functions
+        (assignments.step_tree frame.locals frame.functions by p.ctype) (found p)) }
 {
     let none = Vec::new(frame.alloc);
     let is_held = must_keep(frame, &none, &p.storage);
@@ -110,7 +110,7 @@ pub(crate) fn step_before(frame: Frame, by: Direction, p: Located) -> Result<Low
 
 /// An assignment for its effect: one root.
 pub(crate) fn store_drop(alloc: Global, r: Assignable) -> Result<Emitted, NoMemory>
-    ensures { IfOk result (λ d. done d ≡ parts.store_drop (ready r)) }
+    ensures { IfOk result (λ d. done d ≡ assignments.store_drop (ready r)) }
 {
     let mut items = r.items;
     put(&mut items, assign_to(alloc, r.ctype, r.storage, r.value)?)?;
@@ -123,7 +123,7 @@ pub(crate) fn store_drop(alloc: Global, r: Assignable) -> Result<Emitted, NoMemo
 
 /// An assignment for its value: the variable itself, or a temporary.
 pub(crate) fn store_low(alloc: Global, r: Assignable) -> Result<Lowered, NoMemory>
-    ensures { IfOk result (λ p. low p ≡ parts.store_low (ready r)) }
+    ensures { IfOk result (λ p. low p ≡ assignments.store_low (ready r)) }
 {
     let (ctype, temps, labels) = (r.ctype, r.temps, r.labels);
     let storage = r.storage;

@@ -1,7 +1,10 @@
 // Expressions, in the three ways in which they are lowered.
 ghost use Rattle.std.specs.Prelude.{◌≡◌, IfOk, true, false};
 ghost use Rattle.c_types.specs.Typed.{term, place_of, terms};
-ghost use Rattle.c_lower_scheme.specs.Expressions as parts;
+ghost use Rattle.c_lower_scheme.specs.Conditions as conditions;
+ghost use Rattle.c_lower_scheme.specs.Values as values;
+ghost use Rattle.c_lower_scheme.specs.Assignments as assignments;
+ghost use Rattle.c_lower_scheme.specs.Expressions as expressions;
 ghost use Rattle.c_lower_code.specs.Views.{low, two, found, ready, passing, done};
 ghost use Rattle.c_lower_code.specs.Changes.{applied};
 
@@ -25,7 +28,7 @@ use gg_base::{NoMemory, Rel};
 /// A place, from the first free temporary and label on.
 #[cycle(expression)]
 pub(crate) fn seek(frame: Frame, place: &Place, t: u32, l: u32) -> Result<Located, NoMemory>
-    ensures { IfOk result (λ r. found r ≡ parts.seek frame.locals frame.functions (place_of place.now) t l) }
+    ensures { IfOk result (λ r. found r ≡ expressions.seek frame.locals frame.functions (place_of place.now) t l) }
 {
     match place {
         Place::Variable(of, v) => {
@@ -45,8 +48,8 @@ pub(crate) fn seek(frame: Frame, place: &Place, t: u32, l: u32) -> Result<Locate
 // Two values that are due in turn.
 #[cycle(expression)]
 fn joined(frame: Frame, a: &Expression, b: &Expression, t: u32, l: u32) -> Result<Pair, NoMemory>
-    ensures { IfOk result (λ r. two r ≡ parts.joined frame.locals frame.functions
-        (parts.way frame.locals frame.functions (term a.now)) (parts.way frame.locals frame.functions (term b.now)) t l) }
+    ensures { IfOk result (λ r. two r ≡ values.joined frame.locals frame.functions
+        (expressions.way frame.locals frame.functions (term a.now)) (expressions.way frame.locals frame.functions (term b.now)) t l) }
 {
     let p = value(frame, a, t, l)?;
     let q = value(frame, b, p.temps, p.labels)?;
@@ -64,8 +67,8 @@ fn relation(
     t: u32,
     l: u32,
 ) -> Result<Emitted, NoMemory>
-    ensures { IfOk result (λ d. done d ≡ parts.compare r to (parts.joined frame.locals frame.functions
-        (parts.way frame.locals frame.functions (term a.now)) (parts.way frame.locals frame.functions (term b.now)) t l)) }
+    ensures { IfOk result (λ d. done d ≡ conditions.compare r to (values.joined frame.locals frame.functions
+        (expressions.way frame.locals frame.functions (term a.now)) (expressions.way frame.locals frame.functions (term b.now)) t l)) }
 {
     compare(r, to, joined(frame, a, b, t, l)?)
 }
@@ -82,8 +85,8 @@ fn chain(
     t: u32,
     l: u32,
 ) -> Result<Emitted, NoMemory>
-    ensures { IfOk result (λ d. done d ≡ parts.chain stop (parts.way frame.locals frame.functions (term a.now))
-        (parts.way frame.locals frame.functions (term b.now)) sense to t l) }
+    ensures { IfOk result (λ d. done d ≡ conditions.chain stop (expressions.way frame.locals frame.functions (term a.now))
+        (expressions.way frame.locals frame.functions (term b.now)) sense to t l) }
 {
     let inner = after(l)?;
     if stop == sense {
@@ -107,8 +110,8 @@ fn drop_chain(
     t: u32,
     l: u32,
 ) -> Result<Emitted, NoMemory>
-    ensures { IfOk result (λ d. done d ≡ parts.chain_drop (parts.way frame.locals frame.functions (term a.now)) stop
-        (parts.way frame.locals frame.functions (term b.now)) t l) }
+    ensures { IfOk result (λ d. done d ≡ conditions.chain_drop (expressions.way frame.locals frame.functions (term a.now)) stop
+        (expressions.way frame.locals frame.functions (term b.now)) t l) }
 {
     let p = branch(frame, a, stop, l, t, after(l)?)?;
     let q = discard(frame, b, p.temps, p.labels)?;
@@ -124,8 +127,8 @@ fn drop_two(
     t: u32,
     l: u32,
 ) -> Result<Emitted, NoMemory>
-    ensures { IfOk result (λ d. done d ≡ parts.drop_two (parts.way frame.locals frame.functions (term a.now))
-        (parts.way frame.locals frame.functions (term b.now)) t l) }
+    ensures { IfOk result (λ d. done d ≡ conditions.drop_two (expressions.way frame.locals frame.functions (term a.now))
+        (expressions.way frame.locals frame.functions (term b.now)) t l) }
 {
     let p = discard(frame, a, t, l)?;
     let q = discard(frame, b, p.temps, p.labels)?;
@@ -142,8 +145,8 @@ fn updated(
     t: u32,
     l: u32,
 ) -> Result<Assignable, NoMemory>
-    ensures { IfOk result (λ r. ready r ≡ parts.updated frame.locals frame.functions (applied change)
-        (parts.seek frame.locals frame.functions (place_of place.now) t l) (parts.way frame.locals frame.functions (term e.now)).low) }
+    ensures { IfOk result (λ r. ready r ≡ assignments.updated frame.locals frame.functions (applied change)
+        (expressions.seek frame.locals frame.functions (place_of place.now) t l) (expressions.way frame.locals frame.functions (term e.now)).low) }
 {
     let p = seek(frame, place, t, l)?;
     let q = value(frame, e, p.temps, p.labels)?;
@@ -160,8 +163,8 @@ fn changed(
     t: u32,
     l: u32,
 ) -> Result<Lowered, NoMemory>
-    ensures { IfOk result (λ r. low r ≡ parts.store_low (parts.updated frame.locals frame.functions (applied change)
-        (parts.seek frame.locals frame.functions (place_of place.now) t l) (parts.way frame.locals frame.functions (term e.now)).low)) }
+    ensures { IfOk result (λ r. low r ≡ assignments.store_low (assignments.updated frame.locals frame.functions (applied change)
+        (expressions.seek frame.locals frame.functions (place_of place.now) t l) (expressions.way frame.locals frame.functions (term e.now)).low)) }
 {
     store_low(frame.alloc, updated(frame, change, place, e, t, l)?)
 }
@@ -176,8 +179,8 @@ fn drop_changed(
     t: u32,
     l: u32,
 ) -> Result<Emitted, NoMemory>
-    ensures { IfOk result (λ r. done r ≡ parts.store_drop (parts.updated frame.locals frame.functions (applied change)
-        (parts.seek frame.locals frame.functions (place_of place.now) t l) (parts.way frame.locals frame.functions (term e.now)).low)) }
+    ensures { IfOk result (λ r. done r ≡ assignments.store_drop (assignments.updated frame.locals frame.functions (applied change)
+        (expressions.seek frame.locals frame.functions (place_of place.now) t l) (expressions.way frame.locals frame.functions (term e.now)).low)) }
 {
     store_drop(frame.alloc, updated(frame, change, place, e, t, l)?)
 }
@@ -192,8 +195,8 @@ fn assigned(
     t: u32,
     l: u32,
 ) -> Result<Assignable, NoMemory>
-    ensures { IfOk result (λ r. ready r ≡ parts.assigned frame.locals frame.functions between
-        (parts.seek frame.locals frame.functions (place_of place.now) t l) (parts.way frame.locals frame.functions (term e.now)).low) }
+    ensures { IfOk result (λ r. ready r ≡ assignments.assigned frame.locals frame.functions between
+        (expressions.seek frame.locals frame.functions (place_of place.now) t l) (expressions.way frame.locals frame.functions (term e.now)).low) }
 {
     let p = seek(frame, place, t, l)?;
     let q = value(frame, e, p.temps, p.labels)?;
@@ -203,7 +206,7 @@ fn assigned(
 // The arguments of a call, whose parameters have these types.
 #[cycle(expression)]
 fn pass(frame: Frame, es: &[Expression], to: &[CType], t: u32, l: u32) -> Result<Passing, NoMemory>
-    ensures { IfOk result (λ r. passing r ≡ parts.pass frame.locals frame.functions (terms es.now) to.now t l) }
+    ensures { IfOk result (λ r. passing r ≡ expressions.pass frame.locals frame.functions (terms es.now) to.now t l) }
 {
     match es.split_first() {
         None => Ok(no_arguments(frame.alloc, t, l)),
@@ -225,8 +228,8 @@ fn chosen(
     t: u32,
     l: u32,
 ) -> Result<Lowered, NoMemory>
-    ensures { IfOk result (λ r. low r ≡ (parts.choose (parts.way frame.locals frame.functions (term c.now))
-        (parts.way frame.locals frame.functions (term a.now)) (parts.way frame.locals frame.functions (term b.now))).low t l) }
+    ensures { IfOk result (λ r. low r ≡ (conditions.choose (expressions.way frame.locals frame.functions (term c.now))
+        (expressions.way frame.locals frame.functions (term a.now)) (expressions.way frame.locals frame.functions (term b.now))).low t l) }
 {
     let p = branch(frame, c, false, l, after(t)?, after(after(l)?)?)?;
     let q = value(frame, a, p.temps, p.labels)?;
@@ -244,8 +247,8 @@ fn drop_chosen(
     t: u32,
     l: u32,
 ) -> Result<Emitted, NoMemory>
-    ensures { IfOk result (λ r. done r ≡ (parts.choose (parts.way frame.locals frame.functions (term c.now))
-        (parts.way frame.locals frame.functions (term a.now)) (parts.way frame.locals frame.functions (term b.now))).drop t l) }
+    ensures { IfOk result (λ r. done r ≡ (conditions.choose (expressions.way frame.locals frame.functions (term c.now))
+        (expressions.way frame.locals frame.functions (term a.now)) (expressions.way frame.locals frame.functions (term b.now))).drop t l) }
 {
     let p = branch(frame, c, false, l, t, after(after(l)?)?)?;
     let q = discard(frame, a, p.temps, p.labels)?;
@@ -255,7 +258,7 @@ fn drop_chosen(
 
 // A step's value.
 fn step_value(frame: Frame, moment: Moment, by: Direction, p: Located) -> Result<Lowered, NoMemory>
-    ensures { IfOk result (λ r. low r ≡ parts.step_low frame.locals frame.functions moment by (found p)) }
+    ensures { IfOk result (λ r. low r ≡ assignments.step_low frame.locals frame.functions moment by (found p)) }
 {
     match moment {
         Moment::Before => step_before(frame, by, p),
@@ -272,8 +275,8 @@ fn unary(
     t: u32,
     l: u32,
 ) -> Result<Lowered, NoMemory>
-    ensures { IfOk result (λ r. low r ≡ (parts.unary frame.locals frame.functions op
-        (parts.way frame.locals frame.functions (term e.now))).low t l) }
+    ensures { IfOk result (λ r. low r ≡ (expressions.unary frame.locals frame.functions op
+        (expressions.way frame.locals frame.functions (term e.now))).low t l) }
 {
     match op {
         UnaryOperator::Plus => value(frame, e, t, l),
@@ -291,7 +294,7 @@ fn unary(
 /// An expression for its value, from the first free temporary and label on.
 #[cycle(expression)]
 pub(crate) fn value(frame: Frame, e: &Expression, t: u32, l: u32) -> Result<Lowered, NoMemory>
-    ensures { IfOk result (λ r. low r ≡ (parts.way frame.locals frame.functions (term e.now)).low t l) }
+    ensures { IfOk result (λ r. low r ≡ (expressions.way frame.locals frame.functions (term e.now)).low t l) }
 {
     let alloc = frame.alloc;
     match e {
@@ -356,8 +359,8 @@ pub(crate) fn value(frame: Frame, e: &Expression, t: u32, l: u32) -> Result<Lowe
 // The effect of one expression, and then the value of another.
 #[cycle(expression)]
 fn comma(frame: Frame, a: &Expression, b: &Expression, t: u32, l: u32) -> Result<Lowered, NoMemory>
-    ensures { IfOk result (λ r. low r ≡ (parts.comma (parts.way frame.locals frame.functions (term a.now))
-        (parts.way frame.locals frame.functions (term b.now))).low t l) }
+    ensures { IfOk result (λ r. low r ≡ (conditions.comma (expressions.way frame.locals frame.functions (term a.now))
+        (expressions.way frame.locals frame.functions (term b.now))).low t l) }
 {
     let p = discard(frame, a, t, l)?;
     let q = value(frame, b, p.temps, p.labels)?;
@@ -374,7 +377,7 @@ fn tested(
     t: u32,
     l: u32,
 ) -> Result<Emitted, NoMemory>
-    ensures { IfOk result (λ r. done r ≡ parts.test sense to ((parts.way frame.locals frame.functions (term e.now)).low t l)) }
+    ensures { IfOk result (λ r. done r ≡ conditions.test sense to ((expressions.way frame.locals frame.functions (term e.now)).low t l)) }
 {
     test(sense, to, value(frame, e, t, l)?)
 }
@@ -390,8 +393,8 @@ fn unary_branch(
     t: u32,
     l: u32,
 ) -> Result<Emitted, NoMemory>
-    ensures { IfOk result (λ r. done r ≡ (parts.unary frame.locals frame.functions op
-        (parts.way frame.locals frame.functions (term e.now))).branch sense to t l) }
+    ensures { IfOk result (λ r. done r ≡ (expressions.unary frame.locals frame.functions op
+        (expressions.way frame.locals frame.functions (term e.now))).branch sense to t l) }
 {
     match op {
         UnaryOperator::Plus => test(sense, to, unary(frame, UnaryOperator::Plus, e, t, l)?),
@@ -415,7 +418,7 @@ pub(crate) fn branch(
     t: u32,
     l: u32,
 ) -> Result<Emitted, NoMemory>
-    ensures { IfOk result (λ r. done r ≡ (parts.way frame.locals frame.functions (term e.now)).branch sense to t l) }
+    ensures { IfOk result (λ r. done r ≡ (expressions.way frame.locals frame.functions (term e.now)).branch sense to t l) }
 {
     match e {
         Expression::Unary(op, a) => unary_branch(frame, *op, a, sense, to, t, l),
@@ -453,7 +456,7 @@ pub(crate) fn branch(
 
 // A step for its effect.
 fn step_drop(frame: Frame, by: Direction, p: Located) -> Result<Emitted, NoMemory>
-    ensures { IfOk result (λ r. done r ≡ parts.store_drop (parts.step_ready frame.locals frame.functions by (found p))) }
+    ensures { IfOk result (λ r. done r ≡ assignments.store_drop (assignments.step_ready frame.locals frame.functions by (found p))) }
 {
     store_drop(frame.alloc, step_ready(frame, by, p)?)
 }
@@ -461,7 +464,7 @@ fn step_drop(frame: Frame, by: Direction, p: Located) -> Result<Emitted, NoMemor
 // A value that is not wanted.
 #[cycle(expression)]
 fn unwanted(frame: Frame, e: &Expression, t: u32, l: u32) -> Result<Emitted, NoMemory>
-    ensures { IfOk result (λ r. done r ≡ parts.dropped ((parts.way frame.locals frame.functions (term e.now)).low t l)) }
+    ensures { IfOk result (λ r. done r ≡ conditions.dropped ((expressions.way frame.locals frame.functions (term e.now)).low t l)) }
 {
     dropped(value(frame, e, t, l)?)
 }
@@ -469,7 +472,7 @@ fn unwanted(frame: Frame, e: &Expression, t: u32, l: u32) -> Result<Emitted, NoM
 /// An expression for its effect alone.
 #[cycle(expression)]
 pub(crate) fn discard(frame: Frame, e: &Expression, t: u32, l: u32) -> Result<Emitted, NoMemory>
-    ensures { IfOk result (λ r. done r ≡ (parts.way frame.locals frame.functions (term e.now)).drop t l) }
+    ensures { IfOk result (λ r. done r ≡ (expressions.way frame.locals frame.functions (term e.now)).drop t l) }
 {
     match e {
         Expression::Call(_, f, to, es) => {
@@ -522,8 +525,8 @@ fn unary_drop(
     t: u32,
     l: u32,
 ) -> Result<Emitted, NoMemory>
-    ensures { IfOk result (λ r. done r ≡ (parts.unary frame.locals frame.functions op
-        (parts.way frame.locals frame.functions (term e.now))).drop t l) }
+    ensures { IfOk result (λ r. done r ≡ (expressions.unary frame.locals frame.functions op
+        (expressions.way frame.locals frame.functions (term e.now))).drop t l) }
 {
     match op {
         UnaryOperator::Plus => discard(frame, e, t, l),

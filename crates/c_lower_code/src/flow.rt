@@ -1,6 +1,6 @@
 // How the parts of statements are put together.
 ghost use Rattle.std.specs.Prelude.{◌≡◌, IfOk};
-ghost use Rattle.c_lower_scheme.specs.Statements as statements;
+ghost use Rattle.c_lower_scheme.specs.Flow as flows;
 ghost use Rattle.c_lower_code.specs.Views.{low, done};
 
 use crate::item::Item;
@@ -11,7 +11,7 @@ use std::alloc::Global;
 
 /// One statement behind another.
 pub(crate) fn two_done(a: Emitted, b: Emitted) -> Result<Emitted, NoMemory>
-    ensures { IfOk result (λ r. done r ≡ statements.two_done (done a) (done b)) }
+    ensures { IfOk result (λ r. done r ≡ flows.two_done (done a) (done b)) }
 {
     let mut items = a.items;
     put_all(&mut items, b.items)?;
@@ -24,7 +24,7 @@ pub(crate) fn two_done(a: Emitted, b: Emitted) -> Result<Emitted, NoMemory>
 
 /// A value that leaves the function.
 pub(crate) fn ret_of(p: Lowered) -> Result<Emitted, NoMemory>
-    ensures { IfOk result (λ r. done r ≡ statements.ret_of (low p)) }
+    ensures { IfOk result (λ r. done r ≡ flows.ret_of (low p)) }
 {
     let mut items = p.items;
     put(&mut items, Item::Return(p.tree))?;
@@ -42,7 +42,7 @@ pub(crate) fn begin_of(
     local: u32,
     p: Lowered,
 ) -> Result<Emitted, NoMemory>
-    ensures { IfOk result (λ r. done r ≡ statements.begin_of is_read local (low p)) }
+    ensures { IfOk result (λ r. done r ≡ flows.begin_of is_read local (low p)) }
 {
     let mut items = Vec::new(alloc);
     if is_read {
@@ -59,7 +59,7 @@ pub(crate) fn begin_of(
 
 /// An `if`, whose end is the label l.
 pub(crate) fn if_done(l: u32, p: Emitted, a: Emitted) -> Result<Emitted, NoMemory>
-    ensures { IfOk result (λ r. done r ≡ statements.if_done l (done p) (done a)) }
+    ensures { IfOk result (λ r. done r ≡ flows.if_done l (done p) (done a)) }
 {
     let mut items = p.items;
     put_all(&mut items, a.items)?;
@@ -73,7 +73,7 @@ pub(crate) fn if_done(l: u32, p: Emitted, a: Emitted) -> Result<Emitted, NoMemor
 
 /// An `if` with an `else`.
 pub(crate) fn if_else_done(l: u32, p: Emitted, a: Emitted, b: Emitted) -> Result<Emitted, NoMemory>
-    ensures { IfOk result (λ r. done r ≡ statements.if_else_done l (done p) (done a) (done b)) }
+    ensures { IfOk result (λ r. done r ≡ flows.if_else_done l (done p) (done a) (done b)) }
 {
     let end = after(l)?;
     let mut items = p.items;
@@ -98,7 +98,7 @@ pub(crate) fn loop_done(
     a: Emitted,
     p: Emitted,
 ) -> Result<Emitted, NoMemory>
-    ensures { IfOk result (λ r. done r ≡ statements.loop_done to l (done a) (done p)) }
+    ensures { IfOk result (λ r. done r ≡ flows.loop_done to l (done a) (done p)) }
 {
     let onward = after(l)?;
     let end = after(onward)?;
@@ -118,7 +118,7 @@ pub(crate) fn loop_done(
 
 /// A `while` whose test stands in front, at the label l, and whose end is the next label.
 pub(crate) fn while_done(alloc: Global, l: u32, p: Emitted, a: Emitted) -> Result<Emitted, NoMemory>
-    ensures { IfOk result (λ r. done r ≡ statements.while_done l (done p) (done a)) }
+    ensures { IfOk result (λ r. done r ≡ flows.while_done l (done p) (done a)) }
 {
     let end = after(l)?;
     let mut items = Vec::new(alloc);
@@ -142,7 +142,7 @@ pub(crate) fn turns_done(
     s: Emitted,
     p: Emitted,
 ) -> Result<Emitted, NoMemory>
-    ensures { IfOk result (λ r. done r ≡ statements.turns_done l (done a) (done s) (done p)) }
+    ensures { IfOk result (λ r. done r ≡ flows.turns_done l (done a) (done s) (done p)) }
 {
     let onward = after(l)?;
     let end = after(onward)?;
@@ -171,7 +171,7 @@ pub(crate) fn for_done(
     a: Emitted,
     s: Emitted,
 ) -> Result<Emitted, NoMemory>
-    ensures { IfOk result (λ r. done r ≡ statements.for_done l (done p) (done a) (done s)) }
+    ensures { IfOk result (λ r. done r ≡ flows.for_done l (done p) (done a) (done s)) }
 {
     let onward = after(l)?;
     let end = after(onward)?;
@@ -192,7 +192,7 @@ pub(crate) fn for_done(
 
 /// A `for` without a test.
 pub(crate) fn ever_done(alloc: Global, l: u32, a: Emitted, s: Emitted) -> Result<Emitted, NoMemory>
-    ensures { IfOk result (λ r. done r ≡ statements.ever_done l (done a) (done s)) }
+    ensures { IfOk result (λ r. done r ≡ flows.ever_done l (done a) (done s)) }
 {
     let onward = after(l)?;
     let end = after(onward)?;

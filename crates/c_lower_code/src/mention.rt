@@ -1,7 +1,7 @@
 // Whether an automatic local is named in an expression that is evaluated.
 ghost use Rattle.std.specs.Prelude.{◌≡◌};
 ghost use Rattle.c_types.specs.Typed.{term, place_of, terms};
-ghost use Rattle.c_lower_scheme.specs.Statements.{is_local, mentions, place_mentions, any_mentions};
+ghost use Rattle.c_lower_scheme.specs.Mentions.{is_local, mentions, place_mentions, any_mentions};
 
 use c_types::{Expression, Place, Variable};
 

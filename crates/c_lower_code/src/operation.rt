@@ -1,7 +1,9 @@
 // Operators over values that are due.
 ghost use Rattle.std.specs.Prelude.{◌≡◌, IfOk};
 ghost use Rattle.c_lower_scheme.specs.Trees.{Neg, Com, Bin};
-ghost use Rattle.c_lower_scheme.specs.Expressions as parts;
+ghost use Rattle.c_lower_scheme.specs.Parts as parts;
+ghost use Rattle.c_lower_scheme.specs.Places as places;
+ghost use Rattle.c_lower_scheme.specs.Values as values;
 ghost use Rattle.c_lower_code.specs.Views.{low, two};
 
 use crate::part::{Lowered, Pair};
@@ -40,7 +42,7 @@ pub(crate) fn complemented_low(alloc: Global, p: Lowered) -> Result<Lowered, NoM
 
 /// The value that is converted to a type.
 pub(crate) fn fitted_low(alloc: Global, t: CType, p: Lowered) -> Result<Lowered, NoMemory>
-    ensures { IfOk result (λ r. low r ≡ parts.over (parts.fitted t) (low p)) }
+    ensures { IfOk result (λ r. low r ≡ parts.over (places.fitted t) (low p)) }
 {
     let tree = fitted(alloc, t, p.tree)?;
     Ok(Lowered {
@@ -70,7 +72,7 @@ pub(crate) fn arithmetic_low(
 
 /// A pointer of the type plus a number.
 pub(crate) fn advance_low(alloc: Global, t: CType, p: Pair) -> Result<Lowered, NoMemory>
-    ensures { IfOk result (λ r. low r ≡ parts.over_two (parts.advance t) (two p)) }
+    ensures { IfOk result (λ r. low r ≡ parts.over_two (values.advance t) (two p)) }
 {
     let tree = advance(alloc, t, p.first, p.second)?;
     Ok(Lowered {
@@ -83,7 +85,7 @@ pub(crate) fn advance_low(alloc: Global, t: CType, p: Pair) -> Result<Lowered, N
 
 /// A number plus a pointer of the type.
 pub(crate) fn advance_by_low(alloc: Global, t: CType, p: Pair) -> Result<Lowered, NoMemory>
-    ensures { IfOk result (λ r. low r ≡ parts.over_two (parts.advance_by t) (two p)) }
+    ensures { IfOk result (λ r. low r ≡ parts.over_two (values.advance_by t) (two p)) }
 {
     let tree = advance_by(alloc, t, p.first, p.second)?;
     Ok(Lowered {
@@ -96,7 +98,7 @@ pub(crate) fn advance_by_low(alloc: Global, t: CType, p: Pair) -> Result<Lowered
 
 /// A pointer of the type less a number.
 pub(crate) fn retreat_low(alloc: Global, t: CType, p: Pair) -> Result<Lowered, NoMemory>
-    ensures { IfOk result (λ r. low r ≡ parts.over_two (parts.retreat t) (two p)) }
+    ensures { IfOk result (λ r. low r ≡ parts.over_two (values.retreat t) (two p)) }
 {
     let tree = retreat(alloc, t, p.first, p.second)?;
     Ok(Lowered {
@@ -109,7 +111,7 @@ pub(crate) fn retreat_low(alloc: Global, t: CType, p: Pair) -> Result<Lowered, N
 
 /// How many elements lie between two pointers of the type.
 pub(crate) fn apart_low(alloc: Global, t: CType, p: Pair) -> Result<Lowered, NoMemory>
-    ensures { IfOk result (λ r. low r ≡ parts.over_two (parts.apart t) (two p)) }
+    ensures { IfOk result (λ r. low r ≡ parts.over_two (values.apart t) (two p)) }
 {
     let tree = apart(alloc, t, p.first, p.second)?;
     Ok(Lowered {

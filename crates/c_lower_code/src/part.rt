@@ -1,7 +1,11 @@
 // What the parts of a phrase are lowered to, and how they are put together.
 ghost use Rattle.std.specs.Prelude.{◌≡◌, ◌++◌, ◌∷◌, [], suc, IfOk, OnOk};
 ghost use Rattle.c_lower_scheme.specs.Trees as mirror;
-ghost use Rattle.c_lower_scheme.specs.Expressions as parts;
+ghost use Rattle.c_lower_scheme.specs.Parts as parts;
+ghost use Rattle.c_lower_scheme.specs.Places as places;
+ghost use Rattle.c_lower_scheme.specs.Conditions as conditions;
+ghost use Rattle.c_lower_scheme.specs.Values as values;
+ghost use Rattle.c_lower_scheme.specs.Assignments as assignments;
 ghost use Rattle.c_lower_code.specs.Views.{tree, item, all_items, all_trees, low, two, storage, found, ready, passing, done};
 
 use crate::item::Item;
@@ -96,7 +100,7 @@ pub(crate) fn after(n: u32) -> Result<u32, NoMemory>
 
 // The next number if a temporary is taken.
 pub(crate) fn after_if(is_taken: bool, n: u32) -> Result<u32, NoMemory>
-    ensures { IfOk result (λ m. m ≡ parts.next_if is_taken n) }
+    ensures { IfOk result (λ m. m ≡ places.next_if is_taken n) }
 {
     if is_taken { after(n) } else { Ok(n) }
 }
@@ -124,8 +128,8 @@ pub(crate) fn put_saved(
     n: u32,
     w: Tree,
 ) -> Result<Tree, NoMemory>
-    ensures tree { IfOk result (λ r. tree r ≡ parts.saved is_saved n (tree w)) }
-    ensures items { OnOk result (all_items items.new.items ≡ all_items items.old.items ++ parts.saving is_saved n (tree w)) }
+    ensures tree { IfOk result (λ r. tree r ≡ places.saved is_saved n (tree w)) }
+    ensures items { OnOk result (all_items items.new.items ≡ all_items items.old.items ++ places.saving is_saved n (tree w)) }
 {
     if is_saved {
         put(items, Item::AssignLocal(n, w))?;
@@ -187,7 +191,7 @@ pub(crate) fn then_done(a: Emitted, b: Emitted) -> Result<Emitted, NoMemory>
 
 // The relation that holds where another does not.
 fn opposite(r: Rel) -> Rel
-    ensures { result ≡ parts.opposite r }
+    ensures { result ≡ conditions.opposite r }
 {
     match r {
         Rel::Eq => Rel::Ne,
@@ -205,14 +209,14 @@ fn opposite(r: Rel) -> Rel
 
 /// The relation, or its opposite where the sense is false.
 pub(crate) fn sensed(sense: bool, r: Rel) -> Rel
-    ensures { result ≡ parts.sensed sense r }
+    ensures { result ≡ conditions.sensed sense r }
 {
     if sense { r } else { opposite(r) }
 }
 
 /// The value of a condition is made in the temporary t; the items go to the label l where it is false.
 pub(crate) fn truth_of(frame: Frame, t: u32, l: u32, p: Emitted) -> Result<Lowered, NoMemory>
-    ensures { IfOk result (λ r. low r ≡ parts.truth_of t l (done p)) }
+    ensures { IfOk result (λ r. low r ≡ conditions.truth_of t l (done p)) }
 {
     let mut items = Vec::new(frame.alloc);
     put(&mut items, Item::AssignLocal(t, Tree::Number(0)))?;
@@ -229,7 +233,7 @@ pub(crate) fn truth_of(frame: Frame, t: u32, l: u32, p: Emitted) -> Result<Lower
 
 /// A value as a condition.
 pub(crate) fn test(sense: bool, to: u32, p: Lowered) -> Result<Emitted, NoMemory>
-    ensures { IfOk result (λ r. done r ≡ parts.test sense to (low p)) }
+    ensures { IfOk result (λ r. done r ≡ conditions.test sense to (low p)) }
 {
     let mut items = p.items;
     put(
@@ -245,7 +249,7 @@ pub(crate) fn test(sense: bool, to: u32, p: Lowered) -> Result<Emitted, NoMemory
 
 /// Two values as a condition.
 pub(crate) fn compare(r: Rel, to: u32, p: Pair) -> Result<Emitted, NoMemory>
-    ensures { IfOk result (λ d. done d ≡ parts.compare r to (two p)) }
+    ensures { IfOk result (λ d. done d ≡ conditions.compare r to (two p)) }
 {
     let mut items = p.items;
     put(&mut items, Item::Branch(r, to, p.first, p.second))?;
@@ -258,7 +262,7 @@ pub(crate) fn compare(r: Rel, to: u32, p: Pair) -> Result<Emitted, NoMemory>
 
 /// A value that is dropped: it is evaluated where that may break.
 pub(crate) fn dropped(p: Lowered) -> Result<Emitted, NoMemory>
-    ensures { IfOk result (λ r. done r ≡ parts.dropped (low p)) }
+    ensures { IfOk result (λ r. done r ≡ conditions.dropped (low p)) }
 {
     let is_evaluated = p.tree.breaks();
     let temps = after_if(is_evaluated, p.temps)?;
@@ -291,7 +295,7 @@ pub(crate) fn choose_low(
     q: Lowered,
     r: Lowered,
 ) -> Result<Lowered, NoMemory>
-    ensures { IfOk result (λ x. low x ≡ parts.choose_low t l (done p) (low q) (low r)) }
+    ensures { IfOk result (λ x. low x ≡ conditions.choose_low t l (done p) (low q) (low r)) }
 {
     let end = after(l)?;
     let mut items = p.items;
@@ -312,7 +316,7 @@ pub(crate) fn choose_low(
 
 /// The effect of a choice.
 pub(crate) fn choose_drop(l: u32, p: Emitted, q: Emitted, r: Emitted) -> Result<Emitted, NoMemory>
-    ensures { IfOk result (λ x. done x ≡ parts.choose_drop l (done p) (done q) (done r)) }
+    ensures { IfOk result (λ x. done x ≡ conditions.choose_drop l (done p) (done q) (done r)) }
 {
     let end = after(l)?;
     let mut items = p.items;
@@ -348,7 +352,7 @@ pub(crate) fn labelled(l: u32, p: Emitted) -> Result<Emitted, NoMemory>
 
 /// Where a variable is kept.
 pub(crate) fn storage_of(v: Variable) -> Storage
-    ensures { storage result ≡ parts.where_of v }
+    ensures { storage result ≡ places.where_of v }
 {
     match v {
         Variable::Automatic(n) => Storage::Local(n),
@@ -360,7 +364,7 @@ pub(crate) fn storage_of(v: Variable) -> Storage
 
 /// The address of what is kept in memory; a local has none, and is not asked for it.
 pub(crate) fn address_of(s: Storage) -> Tree
-    ensures { tree result ≡ parts.address_tree (storage s) }
+    ensures { tree result ≡ places.address_tree (storage s) }
 {
     match s {
         Storage::Local(_) => Tree::Number(0),
@@ -371,7 +375,7 @@ pub(crate) fn address_of(s: Storage) -> Tree
 
 /// The value that is kept.
 pub(crate) fn read_from(alloc: Global, t: CType, s: Storage) -> Result<Tree, NoMemory>
-    ensures { IfOk result (λ r. tree r ≡ parts.read_from t (storage s)) }
+    ensures { IfOk result (λ r. tree r ≡ places.read_from t (storage s)) }
 {
     match s {
         Storage::Local(n) => Ok(Tree::Local(n)),
@@ -382,7 +386,7 @@ pub(crate) fn read_from(alloc: Global, t: CType, s: Storage) -> Result<Tree, NoM
 
 /// The assignment of a value to a place.
 pub(crate) fn assign_to(alloc: Global, t: CType, s: Storage, w: Tree) -> Result<Item, NoMemory>
-    ensures { IfOk result (λ r. item r ≡ parts.assign_to t (storage s) (tree w)) }
+    ensures { IfOk result (λ r. item r ≡ places.assign_to t (storage s) (tree w)) }
 {
     match s {
         Storage::Local(n) => Ok(Item::AssignLocal(n, fitted(alloc, t, w)?)),
@@ -411,8 +415,8 @@ pub(crate) fn put_held(
     n: u32,
     s: Storage,
 ) -> Result<Storage, NoMemory>
-    ensures storage { IfOk result (λ r. storage r ≡ parts.held is_saved n (storage s)) }
-    ensures items { OnOk result (all_items items.new.items ≡ all_items items.old.items ++ parts.holding is_saved n (storage s)) }
+    ensures storage { IfOk result (λ r. storage r ≡ places.held is_saved n (storage s)) }
+    ensures items { OnOk result (all_items items.new.items ≡ all_items items.old.items ++ places.holding is_saved n (storage s)) }
 {
     match s {
         Storage::Local(n) => Ok(Storage::Local(n)),
@@ -423,7 +427,7 @@ pub(crate) fn put_held(
 
 /// A place whose address is the value of an expression.
 pub(crate) fn pointed(t: CType, p: Lowered) -> Located
-    ensures { found result ≡ parts.pointed t (low p) }
+    ensures { found result ≡ places.pointed t (low p) }
 {
     Located {
         items: p.items,
@@ -436,7 +440,7 @@ pub(crate) fn pointed(t: CType, p: Lowered) -> Located
 
 /// The value that a place holds.
 pub(crate) fn read_low(alloc: Global, p: Located) -> Result<Lowered, NoMemory>
-    ensures { IfOk result (λ r. low r ≡ parts.read_low (found p)) }
+    ensures { IfOk result (λ r. low r ≡ places.read_low (found p)) }
 {
     let tree = read_from(alloc, p.ctype, p.storage)?;
     Ok(Lowered {
@@ -449,7 +453,7 @@ pub(crate) fn read_low(alloc: Global, p: Located) -> Result<Lowered, NoMemory>
 
 /// The address of a place.
 pub(crate) fn address_low(p: Located) -> Lowered
-    ensures { low result ≡ parts.address_low (found p) }
+    ensures { low result ≡ places.address_low (found p) }
 {
     Lowered {
         items: p.items,
@@ -468,7 +472,7 @@ pub(crate) fn is_nil(items: &Vec<Item>) -> bool
 
 // Whether a first part is saved before a second one: that may change it, or be wild where the first traps.
 fn must(frame: Frame, items: &Vec<Item>, a: &Tree, b: &Tree) -> bool
-    ensures { result ≡ parts.must frame.locals frame.functions (all_items items.now.items) (tree a.now) (tree b.now) }
+    ensures { result ≡ values.must frame.locals frame.functions (all_items items.now.items) (tree a.now) (tree b.now) }
 {
     if items.is_empty() {
         a.divides() && b.reads()
@@ -479,7 +483,7 @@ fn must(frame: Frame, items: &Vec<Item>, a: &Tree, b: &Tree) -> bool
 
 /// Two values that are due in turn.
 pub(crate) fn join(frame: Frame, p: Lowered, q: Lowered) -> Result<Pair, NoMemory>
-    ensures { IfOk result (λ r. two r ≡ parts.join frame.locals frame.functions (low p) (low q)) }
+    ensures { IfOk result (λ r. two r ≡ values.join frame.locals frame.functions (low p) (low q)) }
 {
     let is_saved = must(frame, &q.items, &p.tree, &q.tree);
     let temps = after_if(is_saved, q.temps)?;
@@ -497,7 +501,7 @@ pub(crate) fn join(frame: Frame, p: Lowered, q: Lowered) -> Result<Pair, NoMemor
 
 // Whether the address is saved before a value that is assigned to it.
 fn must_hold(frame: Frame, between: bool, items: &Vec<Item>, w: &Tree, s: &Storage) -> bool
-    ensures { result ≡ parts.must_hold frame.locals frame.functions between (all_items items.now.items) (tree w.now) (storage s.now) }
+    ensures { result ≡ assignments.must_hold frame.locals frame.functions between (all_items items.now.items) (tree w.now) (storage s.now) }
 {
     match s {
         Storage::Local(_) => false,
@@ -513,7 +517,7 @@ pub(crate) fn assign_ready(
     p: Located,
     q: Lowered,
 ) -> Result<Assignable, NoMemory>
-    ensures { IfOk result (λ r. ready r ≡ parts.assign_ready frame.locals frame.functions between (found p) (low q)) }
+    ensures { IfOk result (λ r. ready r ≡ assignments.assign_ready frame.locals frame.functions between (found p) (low q)) }
 {
     let is_saved = must_hold(frame, between, &q.items, &q.tree, &p.storage);
     let temps = after_if(is_saved, q.temps)?;
@@ -532,7 +536,7 @@ pub(crate) fn assign_ready(
 
 // Whether an address that stands twice is saved, where these items are done between the two.
 pub(crate) fn must_keep(frame: Frame, items: &Vec<Item>, s: &Storage) -> bool
-    ensures { result ≡ parts.must_keep frame.locals frame.functions (all_items items.now.items) (storage s.now) }
+    ensures { result ≡ assignments.must_keep frame.locals frame.functions (all_items items.now.items) (storage s.now) }
 {
     match s {
         Storage::Local(_) => false,

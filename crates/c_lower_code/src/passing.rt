@@ -1,6 +1,7 @@
 // The arguments of calls.
 ghost use Rattle.std.specs.Prelude.{◌≡◌, ◌++◌, [], IfOk, OnOk};
-ghost use Rattle.c_lower_scheme.specs.Expressions as parts;
+ghost use Rattle.c_lower_scheme.specs.Parts as parts;
+ghost use Rattle.c_lower_scheme.specs.Calls as calls;
 ghost use Rattle.c_lower_code.specs.Views.{tree, all_items, all_trees, low, passing, done};
 
 use crate::item::Item;
@@ -12,7 +13,7 @@ use std::alloc::Global;
 
 /// The number of what is called: the services stand behind the program's functions.
 pub(crate) fn callee_number(functions: u32, callee: Callee) -> Result<u32, NoMemory>
-    ensures { IfOk result (λ n. n ≡ parts.callee_number functions callee) }
+    ensures { IfOk result (λ n. n ≡ calls.callee_number functions callee) }
 {
     match callee {
         Callee::Defined(f) => Ok(f),
@@ -23,7 +24,7 @@ pub(crate) fn callee_number(functions: u32, callee: Callee) -> Result<u32, NoMem
 
 // How many trees these are.
 fn args_count(trees: &Vec<Tree>) -> Result<u32, NoMemory>
-    ensures { IfOk result (λ n. n ≡ parts.args_count (all_trees trees.now.items)) }
+    ensures { IfOk result (λ n. n ≡ calls.args_count (all_trees trees.now.items)) }
 {
     match u32::try_from(trees.len()) {
         Ok(n) => Ok(n),
@@ -33,7 +34,7 @@ fn args_count(trees: &Vec<Tree>) -> Result<u32, NoMemory>
 
 // The last argument is pushed first.
 fn push_all(items: &mut Vec<Item>, mut trees: Vec<Tree>) -> Result<(), NoMemory>
-    ensures { OnOk result (all_items items.new.items ≡ all_items items.old.items ++ parts.pushes (all_trees trees.items) []) }
+    ensures { OnOk result (all_items items.new.items ≡ all_items items.old.items ++ calls.pushes (all_trees trees.items) []) }
 {
     while let Some(last) = trees.pop() {
         put(items, Item::Push(last))?;
@@ -43,7 +44,7 @@ fn push_all(items: &mut Vec<Item>, mut trees: Vec<Tree>) -> Result<(), NoMemory>
 
 /// A call whose result is dropped.
 pub(crate) fn called_drop(f: u32, p: Passing) -> Result<Emitted, NoMemory>
-    ensures { IfOk result (λ r. done r ≡ parts.called_drop f (passing p)) }
+    ensures { IfOk result (λ r. done r ≡ calls.called_drop f (passing p)) }
 {
     let count = args_count(&p.trees)?;
     let mut items = p.items;
@@ -58,7 +59,7 @@ pub(crate) fn called_drop(f: u32, p: Passing) -> Result<Emitted, NoMemory>
 
 /// A call, whose result is saved directly behind it.
 pub(crate) fn called_low(f: u32, p: Passing) -> Result<Lowered, NoMemory>
-    ensures { IfOk result (λ r. low r ≡ parts.called_low f (passing p)) }
+    ensures { IfOk result (λ r. low r ≡ calls.called_low f (passing p)) }
 {
     let temps = after(p.temps)?;
     let count = args_count(&p.trees)?;
@@ -76,7 +77,7 @@ pub(crate) fn called_low(f: u32, p: Passing) -> Result<Lowered, NoMemory>
 
 /// An argument that is converted to its parameter's type, the first of these.
 pub(crate) fn passed_as(alloc: Global, to: &[CType], p: Lowered) -> Result<Lowered, NoMemory>
-    ensures { IfOk result (λ r. low r ≡ parts.over (parts.passed_as to.now) (low p)) }
+    ensures { IfOk result (λ r. low r ≡ parts.over (calls.passed_as to.now) (low p)) }
 {
     match to.first() {
         None => Ok(p),
@@ -94,7 +95,7 @@ pub(crate) fn passed_as(alloc: Global, to: &[CType], p: Lowered) -> Result<Lower
 
 /// The types of the parameters behind the first.
 pub(crate) fn others(to: &[CType]) -> &[CType]
-    ensures { result.now ≡ parts.others to.now }
+    ensures { result.now ≡ calls.others to.now }
 {
     match to.split_first() {
         None => to,
@@ -104,7 +105,7 @@ pub(crate) fn others(to: &[CType]) -> &[CType]
 
 /// No arguments.
 pub(crate) fn no_arguments(alloc: Global, t: u32, l: u32) -> Passing
-    ensures { passing result ≡ parts.no_arguments t l }
+    ensures { passing result ≡ calls.no_arguments t l }
 {
     Passing {
         items: Vec::new(alloc),
@@ -117,14 +118,14 @@ pub(crate) fn no_arguments(alloc: Global, t: u32, l: u32) -> Passing
 
 // Whether an argument is saved before those behind it are evaluated.
 fn must_pass(frame: Frame, w: &Tree, q: &Passing) -> bool
-    ensures { result ≡ parts.must_pass frame.locals frame.functions (tree w.now) (passing q.now) }
+    ensures { result ≡ calls.must_pass frame.locals frame.functions (tree w.now) (passing q.now) }
 {
     !q.trees.is_empty() && !(w.is_stable(frame.locals) || q.is_quiet && !w.breaks())
 }
 
 /// One more argument in front.
 pub(crate) fn pass_on(frame: Frame, p: Lowered, q: Passing) -> Result<Passing, NoMemory>
-    ensures { IfOk result (λ r. passing r ≡ parts.pass_on frame.locals frame.functions (low p) (passing q)) }
+    ensures { IfOk result (λ r. passing r ≡ calls.pass_on frame.locals frame.functions (low p) (passing q)) }
 {
     let is_saved = must_pass(frame, &p.tree, &q);
     let is_quiet = p.items.is_empty() && q.is_quiet;

@@ -1,8 +1,8 @@
 // Pure trees.
 ghost use Rattle.std.specs.Prelude.{◌≡◌, IfOk};
 ghost use Rattle.c_lower_scheme.specs.Trees.{Indir, Conv, Neg, Com, Bin, divides_by, divides, reads, breaks, stable, is_leaf};
-ghost use Rattle.c_lower_scheme.specs.Expressions.{conv, fitted, integer_of, scaled_by, shared_by, advance, advance_by, retreat};
-ghost use Rattle.c_lower_scheme.specs.Expressions.{apart, step};
+ghost use Rattle.c_lower_scheme.specs.Places.{conv, fitted, integer_of};
+ghost use Rattle.c_lower_scheme.specs.Values.{scaled_by, shared_by, advance, advance_by, retreat, apart, step};
 ghost use Rattle.c_lower_code.specs.Views.{tree};
 
 use c_types::constant::scale;

@@ -12,8 +12,13 @@ use Rattle.c_types.specs.Typed.{UnaryOf, CastTo, ConvertTo, ArithmeticOf, Compar
 use Rattle.c_types.specs.Typed.{ArithmeticAssignTo, AdvanceAssignTo, RetreatAssignTo, CommaOf, SomeExpressions, NoExpressions, MoreExpressions}
 use Rattle.c_program.specs.Need.{place_nodes, nodes, all_nodes}
 use Rattle.c_lower_scheme.specs.Trees.{Tree, Neg, Com, Bin}
-use Rattle.c_lower_scheme.specs.Expressions.{Lowered, Lowering, Located, Assignable, advance, advance_by, retreat, apart, fitted}
-use Rattle.c_lower_scheme.specs.Expressions.{effective, store_low, store_drop, assigned, updated, update_by, step_low, step_ready, unary, seek, way, pass, others}
+use Rattle.c_lower_scheme.specs.Parts.{Lowered, Lowering, Located, Assignable}
+use Rattle.c_lower_scheme.specs.Places.{fitted}
+use Rattle.c_lower_scheme.specs.Conditions.{effective}
+use Rattle.c_lower_scheme.specs.Values.{advance, advance_by, retreat, apart}
+use Rattle.c_lower_scheme.specs.Calls.{others}
+use Rattle.c_lower_scheme.specs.Assignments.{store_low, store_drop, assigned, updated, update_by, step_low, step_ready}
+use Rattle.c_lower_scheme.specs.Expressions.{unary, seek, way, pass}
 use Rattle.c_lower_counts.proofs.Ways.{Takes, valued_takes, effective_takes, mapped_takes, not_takes, chain_takes, choose_takes, comma_takes, store_labels}
 use Rattle.c_lower_counts.proofs.Ways.{binary_takes, relation_takes}
 

@@ -9,7 +9,8 @@ use Rattle.c_program.specs.Need.{nodes, place_nodes, maybe_nodes}
 use Rattle.c_program.specs.Programs.{ARoutine}
 use Rattle.c_program.specs.Statements.{ADeclaration, KeepOf, ClearOf, BeginOf, AnAction, SomeActions, NoActions, MoreActions, DeclareOf, BlockOf, EvaluateOf, BreakOf, ContinueOf}
 use Rattle.c_program.specs.Statements.{ReturnOf, IfOf, IfElseOf, WhileOf, DoOf, ForOf}
-use Rattle.c_lower_scheme.specs.Expressions.{Lowered, Emitted, way}
+use Rattle.c_lower_scheme.specs.Parts.{Lowered, Emitted}
+use Rattle.c_lower_scheme.specs.Expressions.{way}
 use Rattle.c_lower_scheme.specs.Statements.{unless, when, effect, returning, declare, while_by, for_tested, for_of, lower, lower_row}
 use Rattle.c_lower_scheme.specs.Programs.{body_of}
 use Rattle.c_lower_spelled.specs.Claims.{labels_behind}

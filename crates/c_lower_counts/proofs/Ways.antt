@@ -3,8 +3,10 @@ use Rattle.std.proofs.Common.{◌≡◌, ℕ, suc, ◌+◌, ◌≤◌, refl, ari
 use Rattle.std.specs.Prelude.{Bool, true, false, not}
 use Rattle.gg_base.specs.declared.relation.Rel.{Rel}
 use Rattle.c_lower_scheme.specs.Trees.{Tree}
-use Rattle.c_lower_scheme.specs.Expressions.{Lowered, Emitted, Lowering, Where, InLoc, InArg, InMem, Assignable, valued, conditional, effective, mapped, chained, same, goal}
-use Rattle.c_lower_scheme.specs.Expressions.{chain, chain_drop, drop_two, choose, comma, store_low_at, binary, relation}
+use Rattle.c_lower_scheme.specs.Parts.{Lowered, Emitted, Lowering, Where, InLoc, InArg, InMem, Assignable}
+use Rattle.c_lower_scheme.specs.Conditions.{valued, conditional, effective, mapped, chained, same, goal, chain, chain_drop, drop_two, choose, comma}
+use Rattle.c_lower_scheme.specs.Values.{binary, relation}
+use Rattle.c_lower_scheme.specs.Assignments.{store_low_at}
 
 -- each of the three ways takes at most so many labels
 pub record Takes (most : ℕ) (e : Lowering) : Type 0 where

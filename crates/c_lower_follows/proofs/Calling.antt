@@ -14,7 +14,9 @@ use Rattle.c_meaning.specs.State.{State}
 use Rattle.c_meaning.specs.Meaning.{RestAll, Behind, Next, Body, Rest}
 use Rattle.c_lower_scheme.specs.Trees.{Push, Call, Save, Tree, Loc, Item, AssignLoc, divides, reads, breaks, stable}
 use Rattle.c_lower_scheme.specs.Spelling.{spelled_all}
-use Rattle.c_lower_scheme.specs.Expressions.{Passing, pushes, args_count, called_drop, called_low, must_pass_by, must_pass, pass_on, pass_so, no_arguments, callee_number, stays, Lowered, is_nil}
+use Rattle.c_lower_scheme.specs.Parts.{Passing, Lowered, is_nil}
+use Rattle.c_lower_scheme.specs.Calls.{pushes, args_count, called_drop, called_low, must_pass_by, must_pass, pass_on, pass_so, no_arguments, callee_number}
+use Rattle.c_lower_scheme.specs.Assignments.{stays}
 use Rattle.c_sound.specs.Fits.{AreBytes}
 use Rattle.c_lower_follows.proofs.Values.{SmallTree, Ranged, Small, worth_small}
 use Rattle.c_lower_follows.proofs.Leads.{Leads, leads_deep, leads_none, leads_below, leads_counted, leads_quiet, leads_emit}

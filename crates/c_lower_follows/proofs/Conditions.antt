@@ -11,8 +11,9 @@ use Rattle.c_meaning.specs.State.{State}
 use Rattle.c_meaning.specs.Meaning.{Rest, chosen}
 use Rattle.c_lower_scheme.specs.Trees.{Jump, Num, Item, Label, AssignLoc, Cbr}
 use Rattle.c_lower_scheme.specs.Spelling.{spelled_all}
-use Rattle.c_lower_scheme.specs.Expressions.{with_done, then_done, truth_of, compare, conditional, chain, chain_drop, drop_two, choose_low, choose_drop, choose, comma, sensed}
-use Rattle.c_lower_scheme.specs.Expressions.{opposite, relation, Lowered, Pair, Emitted, Lowering, joined}
+use Rattle.c_lower_scheme.specs.Parts.{with_done, then_done, Lowered, Pair, Emitted, Lowering}
+use Rattle.c_lower_scheme.specs.Conditions.{truth_of, compare, conditional, chain, chain_drop, drop_two, choose_low, choose_drop, choose, comma, sensed, opposite}
+use Rattle.c_lower_scheme.specs.Values.{relation, joined}
 use Rattle.c_lower_follows.proofs.Leads.{Leads, leads_quiet}
 use Rattle.c_lower_follows.proofs.Steps.{label_step, label_counts, jump_step, Desk, Resolves, resolves_back, at_items, moves, cbr_step}
 use Rattle.c_lower_follows.proofs.Agreeing.{Since, set_same, set_other, not_nil, back_nil}

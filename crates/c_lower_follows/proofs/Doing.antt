@@ -15,7 +15,10 @@ use Rattle.c_meaning.specs.State.{State}
 use Rattle.c_meaning.specs.Meaning.{Rest, chosen}
 use Rattle.c_lower_scheme.specs.Trees.{Tree, Num, Item, AssignLoc, Cbr, divides, reads, breaks, stable}
 use Rattle.c_lower_scheme.specs.Spelling.{spelled, spelled_all}
-use Rattle.c_lower_scheme.specs.Expressions.{Lowered, Pair, Emitted, Lowering, due, saving, next_if, must, join_so, join, valued, effective, mapped, test, over, over_two, binary, joined}
+use Rattle.c_lower_scheme.specs.Parts.{Lowered, Pair, Emitted, Lowering, due, over, over_two}
+use Rattle.c_lower_scheme.specs.Places.{saving, next_if}
+use Rattle.c_lower_scheme.specs.Conditions.{valued, effective, mapped, test}
+use Rattle.c_lower_scheme.specs.Values.{must, join_so, join, binary, joined}
 use Rattle.c_lower_follows.proofs.Values.{SmallTree, Small, worth_small}
 use Rattle.c_lower_follows.proofs.Leads.{Leads, leads_wild}
 use Rattle.c_lower_follows.proofs.Steps.{Desk, desk_sight, on, Resolves, resolves_back, at, at_items, state, moves, lost, silent, assign_loc_step, cbr_step}

@@ -13,7 +13,7 @@ use Rattle.c_meaning.specs.State.{State}
 use Rattle.c_meaning.specs.Meaning.{Behind, Task, Body, Next, task, begun}
 use Rattle.c_lower_scheme.specs.Trees.{Num, Ret}
 use Rattle.c_lower_scheme.specs.Spelling.{spelled_all}
-use Rattle.c_lower_scheme.specs.Expressions.{Emitted}
+use Rattle.c_lower_scheme.specs.Parts.{Emitted}
 use Rattle.c_lower_scheme.specs.Programs.{body_of, items_of}
 use Rattle.c_sound.specs.Fits.{AreBytes, FitsActs, no_local}
 use Rattle.c_lower_follows.proofs.Leads.{Leads}

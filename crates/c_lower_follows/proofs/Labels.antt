@@ -21,7 +21,15 @@ use Rattle.c_program.specs.Statements.{ReturnOf, IfOf, IfElseOf, WhileOf, DoOf, 
 use Rattle.c_program.specs.Programs.{ARoutine}
 use Rattle.c_lower_scheme.specs.Trees.{Tree, Num, Loc, Neg, Com, Bin, Item, Label, AssignLoc, AssignArg, AssignMem, Cbr, Jump, Push, Call, Save, Ret, breaks}
 use Rattle.c_lower_scheme.specs.Spelling.{spelled, spelled_all}
+use Rattle.c_lower_scheme.specs.Parts
+use Rattle.c_lower_scheme.specs.Places
+use Rattle.c_lower_scheme.specs.Conditions
+use Rattle.c_lower_scheme.specs.Values
+use Rattle.c_lower_scheme.specs.Calls
+use Rattle.c_lower_scheme.specs.Assignments
 use Rattle.c_lower_scheme.specs.Expressions
+use Rattle.c_lower_scheme.specs.Mentions
+use Rattle.c_lower_scheme.specs.Flow
 use Rattle.c_lower_scheme.specs.Statements
 use Rattle.c_lower_scheme.specs.Programs.{body_of, items_of, function_of, lower_all}
 use Rattle.c_lower_follows.proofs.Steps.{Resolves, Goes}
@@ -144,55 +152,55 @@ once_wider l k u is le h = record { grows = omega (arith, h.grows); once = h.onc
 once_empty : (l u : ℕ) → l ≤ u → Once l u []
 once_empty l u le = record { grows = le; once = λ m. omega arith; inside = λ m o. refl }
 
-none_saving : (b : Bool) (u : ℕ) (w : Tree) (m : ℕ) → stands m (Expressions.saving b u w) ≡ 0
+none_saving : (b : Bool) (u : ℕ) (w : Tree) (m : ℕ) → stands m (Places.saving b u w) ≡ 0
 none_saving true u w m = refl
 none_saving false u w m = refl
 
-none_holding : (b : Bool) (u : ℕ) (s : Expressions.Where) (m : ℕ) → stands m (Expressions.holding b u s) ≡ 0
-none_holding b u (Expressions.InLoc n) m = refl
-none_holding b u (Expressions.InArg n) m = refl
-none_holding b u (Expressions.InMem a) m = none_saving b u a m
+none_holding : (b : Bool) (u : ℕ) (s : Parts.Where) (m : ℕ) → stands m (Places.holding b u s) ≡ 0
+none_holding b u (Parts.InLoc n) m = refl
+none_holding b u (Parts.InArg n) m = refl
+none_holding b u (Parts.InMem a) m = none_saving b u a m
 
-none_assign : (ty : CType) (s : Expressions.Where) (w : Tree) (m : ℕ) → tag (Expressions.assign_to ty s w) m ≡ 0
-none_assign ty (Expressions.InLoc n) w m = refl
-none_assign ty (Expressions.InArg n) w m = refl
-none_assign ty (Expressions.InMem a) w m = refl
+none_assign : (ty : CType) (s : Parts.Where) (w : Tree) (m : ℕ) → tag (Places.assign_to ty s w) m ≡ 0
+none_assign ty (Parts.InLoc n) w m = refl
+none_assign ty (Parts.InArg n) w m = refl
+none_assign ty (Parts.InMem a) w m = refl
 
-stands_pushes : (m : ℕ) (ws : List Tree) (is : List Item) → stands m (Expressions.pushes ws is) ≡ stands m is
+stands_pushes : (m : ℕ) (ws : List Tree) (is : List Item) → stands m (Calls.pushes ws is) ≡ stands m is
 stands_pushes m [] is = refl
 stands_pushes m (w ∷ ws) is = let h = stands_pushes m ws (Push w ∷ is) in omega arith
 
 -- in each of the three ways
-pub record OnceWay (w : Expressions.Lowering) : Type 0 where
+pub record OnceWay (w : Parts.Lowering) : Type 0 where
   pub low : (t l : ℕ) → Once l (w.low t l).labels (w.low t l).items
   pub branch : (sense : Bool) (to t l : ℕ) → Once l (w.branch sense to t l).labels (w.branch sense to t l).items
   pub drop : (t l : ℕ) → Once l (w.drop t l).labels (w.drop t l).items
 
-once_valued : (f : ℕ → ℕ → Expressions.Lowered) → ((t l : ℕ) → Once l (f t l).labels (f t l).items) → OnceWay (Expressions.valued f)
+once_valued : (f : ℕ → ℕ → Parts.Lowered) → ((t l : ℕ) → Once l (f t l).labels (f t l).items) → OnceWay (Conditions.valued f)
 once_valued f h = record {
   low = h;
   branch = λ sense to t l. once_plain l (f t l).labels (f t l).items _ (h t l) (λ m. refl);
   drop = λ t l. once_plain l (f t l).labels (f t l).items _ (h t l) (none_saving (breaks (f t l).tree) (f t l).temps (f t l).tree);
 }
 
-once_effective : (f : ℕ → ℕ → Expressions.Lowered) (g : ℕ → ℕ → Expressions.Emitted) → ((t l : ℕ) → Once l (f t l).labels (f t l).items) → ((t l : ℕ) → Once l (g t l).labels (g t l).items)
-    → OnceWay (Expressions.effective f g)
+once_effective : (f : ℕ → ℕ → Parts.Lowered) (g : ℕ → ℕ → Parts.Emitted) → ((t l : ℕ) → Once l (f t l).labels (f t l).items) → ((t l : ℕ) → Once l (g t l).labels (g t l).items)
+    → OnceWay (Conditions.effective f g)
 once_effective f g h h' = record {
   low = h;
   branch = λ sense to t l. once_plain l (f t l).labels (f t l).items _ (h t l) (λ m. refl);
   drop = h';
 }
 
-once_conditional : (f : Bool → ℕ → ℕ → ℕ → Expressions.Emitted) (g : ℕ → ℕ → Expressions.Emitted) → ((sense : Bool) (to t l : ℕ) → Once l (f sense to t l).labels (f sense to t l).items)
-    → ((t l : ℕ) → Once l (g t l).labels (g t l).items) → OnceWay (Expressions.conditional f g)
+once_conditional : (f : Bool → ℕ → ℕ → ℕ → Parts.Emitted) (g : ℕ → ℕ → Parts.Emitted) → ((sense : Bool) (to t l : ℕ) → Once l (f sense to t l).labels (f sense to t l).items)
+    → ((t l : ℕ) → Once l (g t l).labels (g t l).items) → OnceWay (Conditions.conditional f g)
 once_conditional f g h h' = record {
   low = λ t l. let b = f false l (suc t) (suc l) in once_count l b.labels b.items _ (h false l (suc t) (suc l)) (λ m. omega (arith, stands_append m b.items (AssignLoc t (Num 1) ∷ Label l ∷ [])));
   branch = h;
   drop = h';
 }
 
-once_two : (u : ℕ) (b : Bool) (w : Tree) (l p q : ℕ) (a c : List Item) → Once l p a → Once p q c → Once l q (a ++ (Expressions.saving b u w ++ c))
-once_two u b w l p q a c h g = once_append l p q a (Expressions.saving b u w ++ c) h (once_front p q (Expressions.saving b u w) c (none_saving b u w) g)
+once_two : (u : ℕ) (b : Bool) (w : Tree) (l p q : ℕ) (a c : List Item) → Once l p a → Once p q c → Once l q (a ++ (Places.saving b u w ++ c))
+once_two u b w l p q a c h g = once_append l p q a (Places.saving b u w ++ c) h (once_front p q (Places.saving b u w) c (none_saving b u w) g)
 
 once_inner : (l p q : ℕ) (a c : List Item) → Once (suc l) p a → Once p q c → Once l q (a ++ (c ++ (Label l ∷ [])))
 once_inner l p q a c h g = once_count l q (a ++ c) (a ++ (c ++ (Label l ∷ []))) (once_append (suc l) p q a c h g)
@@ -201,14 +209,14 @@ once_inner l p q a c h g = once_count l q (a ++ c) (a ++ (c ++ (Label l ∷ []))
 once_direct : (l p q : ℕ) (a c : List Item) → Once (suc l) p a → Once p q c → Once l q (a ++ c)
 once_direct l p q a c h g = once_wider l (suc l) q (a ++ c) (omega arith) (once_append (suc l) p q a c h g)
 
-once_chain : (stop sense : Bool) (a b : Expressions.Lowering) (to t l : ℕ) → OnceWay a → OnceWay b
-    → Once l (Expressions.chain stop a b sense to t l).labels (Expressions.chain stop a b sense to t l).items
+once_chain : (stop sense : Bool) (a b : Parts.Lowering) (to t l : ℕ) → OnceWay a → OnceWay b
+    → Once l (Conditions.chain stop a b sense to t l).labels (Conditions.chain stop a b sense to t l).items
 once_chain true true a b to t l h g = once_direct l _ _ _ _ (h.branch true to t (suc l)) (g.branch true to (a.branch true to t (suc l)).temps (a.branch true to t (suc l)).labels)
 once_chain true false a b to t l h g = once_inner l _ _ _ _ (h.branch true l t (suc l)) (g.branch false to (a.branch true l t (suc l)).temps (a.branch true l t (suc l)).labels)
 once_chain false true a b to t l h g = once_inner l _ _ _ _ (h.branch false l t (suc l)) (g.branch true to (a.branch false l t (suc l)).temps (a.branch false l t (suc l)).labels)
 once_chain false false a b to t l h g = once_direct l _ _ _ _ (h.branch false to t (suc l)) (g.branch false to (a.branch false to t (suc l)).temps (a.branch false to t (suc l)).labels)
 
-once_drops : (a b : Expressions.Lowering) (t l : ℕ) → OnceWay a → OnceWay b → Once l (Expressions.drop_two a b t l).labels (Expressions.drop_two a b t l).items
+once_drops : (a b : Parts.Lowering) (t l : ℕ) → OnceWay a → OnceWay b → Once l (Conditions.drop_two a b t l).labels (Conditions.drop_two a b t l).items
 once_drops a b t l h g = once_append l _ _ _ _ (h.drop t l) (g.drop (a.drop t l).temps (a.drop t l).labels)
 
 -- a part, a jump over the other part, and that part
@@ -235,7 +243,7 @@ once_fork l p q r a b c b1 c1 z z' h f g =
       z' m,
     ))
 
-once_choose : (c a b : Expressions.Lowering) → OnceWay c → OnceWay a → OnceWay b → OnceWay (Expressions.choose c a b)
+once_choose : (c a b : Parts.Lowering) → OnceWay c → OnceWay a → OnceWay b → OnceWay (Conditions.choose c a b)
 once_choose c a b h f g = once_effective _ _
     (λ t l.
     let p = c.branch false l (suc t) (suc (suc l)) in
@@ -249,59 +257,59 @@ once_choose c a b h f g = once_effective _ _
     let r = b.drop q.temps q.labels in
     once_fork l p.labels q.labels r.labels p.items q.items r.items [] [] (λ m. refl) (λ m. refl) (h.branch false l t (suc (suc l))) (f.drop p.temps p.labels) (g.drop q.temps q.labels))
 
-once_store_low : (s : Expressions.Where) (r : Expressions.Assignable) (l : ℕ) → Once l r.labels r.items → Once l (Expressions.store_low_at s r).labels (Expressions.store_low_at s r).items
-once_store_low (Expressions.InLoc n) r l h = once_plain l r.labels r.items _ h (λ m. refl)
-once_store_low (Expressions.InArg n) r l h = once_plain l r.labels r.items _ h (λ m. refl)
-once_store_low (Expressions.InMem a) r l h = once_plain l r.labels r.items _ h (λ m. refl)
+once_store_low : (s : Parts.Where) (r : Parts.Assignable) (l : ℕ) → Once l r.labels r.items → Once l (Assignments.store_low_at s r).labels (Assignments.store_low_at s r).items
+once_store_low (Parts.InLoc n) r l h = once_plain l r.labels r.items _ h (λ m. refl)
+once_store_low (Parts.InArg n) r l h = once_plain l r.labels r.items _ h (λ m. refl)
+once_store_low (Parts.InMem a) r l h = once_plain l r.labels r.items _ h (λ m. refl)
 
-once_store_drop : (r : Expressions.Assignable) (l : ℕ) → Once l r.labels r.items → Once l (Expressions.store_drop r).labels (Expressions.store_drop r).items
+once_store_drop : (r : Parts.Assignable) (l : ℕ) → Once l r.labels r.items → Once l (Assignments.store_drop r).labels (Assignments.store_drop r).items
 once_store_drop r l h = once_plain l r.labels r.items _ h (λ m. omega (arith, none_assign r.type r.place r.value m))
 
-once_ready : (b : Bool) (u : ℕ) (s : Expressions.Where) (l p q : ℕ) (a c : List Item) → Once l p a → Once p q c → Once l q (a ++ (Expressions.holding b u s ++ c))
-once_ready b u s l p q a c h g = once_append l p q a _ h (once_front p q (Expressions.holding b u s) c (none_holding b u s) g)
+once_ready : (b : Bool) (u : ℕ) (s : Parts.Where) (l p q : ℕ) (a c : List Item) → Once l p a → Once p q c → Once l q (a ++ (Places.holding b u s ++ c))
+once_ready b u s l p q a c h g = once_append l p q a _ h (once_front p q (Places.holding b u s) c (none_holding b u s) g)
 
-once_update : (b : Bool) (u : ℕ) (s : Expressions.Where) (c : Bool) (v : ℕ) (w : Tree) (l p q : ℕ) (a d : List Item) → Once l p a → Once p q d
-    → Once l q (a ++ (Expressions.holding b u s ++ (Expressions.saving c v w ++ d)))
-once_update b u s c v w l p q a d h g = once_ready b u s l p q a (Expressions.saving c v w ++ d) h (once_front p q (Expressions.saving c v w) d (none_saving c v w) g)
+once_update : (b : Bool) (u : ℕ) (s : Parts.Where) (c : Bool) (v : ℕ) (w : Tree) (l p q : ℕ) (a d : List Item) → Once l p a → Once p q d
+    → Once l q (a ++ (Places.holding b u s ++ (Places.saving c v w ++ d)))
+once_update b u s c v w l p q a d h g = once_ready b u s l p q a (Places.saving c v w ++ d) h (once_front p q (Places.saving c v w) d (none_saving c v w) g)
 
-once_post : (b : Bool) (u : ℕ) (s : Expressions.Where) (n : ℕ) (w : Tree) (ty : CType) (s' : Expressions.Where) (w' : Tree) (l p : ℕ) (a : List Item) → Once l p a
-    → Once l p (a ++ (Expressions.holding b u s ++ (AssignLoc n w ∷ Expressions.assign_to ty s' w' ∷ [])))
+once_post : (b : Bool) (u : ℕ) (s : Parts.Where) (n : ℕ) (w : Tree) (ty : CType) (s' : Parts.Where) (w' : Tree) (l p : ℕ) (a : List Item) → Once l p a
+    → Once l p (a ++ (Places.holding b u s ++ (AssignLoc n w ∷ Places.assign_to ty s' w' ∷ [])))
 once_post b u s n w ty s' w' l p a h = once_plain l p a _ h (λ m. omega
-    (arith, stands_append m (Expressions.holding b u s) (AssignLoc n w ∷ Expressions.assign_to ty s' w' ∷ []), none_holding b u s m, none_assign ty s' w' m))
+    (arith, stands_append m (Places.holding b u s) (AssignLoc n w ∷ Places.assign_to ty s' w' ∷ []), none_holding b u s m, none_assign ty s' w' m))
 
-once_call : (f : ℕ) (q : Expressions.Passing) (l : ℕ) → Once l q.labels q.items → Once l (Expressions.called_low f q).labels (Expressions.called_low f q).items
+once_call : (f : ℕ) (q : Parts.Passing) (l : ℕ) → Once l q.labels q.items → Once l (Calls.called_low f q).labels (Calls.called_low f q).items
 once_call f q l h = once_plain l q.labels q.items _ h (λ m. stands_pushes m q.trees _)
 
-once_call_drop : (f : ℕ) (q : Expressions.Passing) (l : ℕ) → Once l q.labels q.items → Once l (Expressions.called_drop f q).labels (Expressions.called_drop f q).items
+once_call_drop : (f : ℕ) (q : Parts.Passing) (l : ℕ) → Once l q.labels q.items → Once l (Calls.called_drop f q).labels (Calls.called_drop f q).items
 once_call_drop f q l h = once_plain l q.labels q.items _ h (λ m. stands_pushes m q.trees _)
 
 module _ (size count : ℕ) where
-  once_joined : (a b : Expressions.Lowering) (t l : ℕ) → OnceWay a → OnceWay b → Once l (Expressions.joined size count a b t l).labels (Expressions.joined size count a b t l).items
+  once_joined : (a b : Parts.Lowering) (t l : ℕ) → OnceWay a → OnceWay b → Once l (Values.joined size count a b t l).labels (Values.joined size count a b t l).items
   once_joined a b t l h g = once_two _ _ _ l (a.low t l).labels _ _ _ (h.low t l) (g.low (a.low t l).temps (a.low t l).labels)
 
-  once_binary : (f : Tree → Tree → Tree) (a b : Expressions.Lowering) → OnceWay a → OnceWay b → OnceWay (Expressions.binary size count f a b)
+  once_binary : (f : Tree → Tree → Tree) (a b : Parts.Lowering) → OnceWay a → OnceWay b → OnceWay (Values.binary size count f a b)
   once_binary f a b h g = once_valued _ (λ t l. once_joined a b t l h g)
 
-  once_mapped : (f : Tree → Tree) (e : Expressions.Lowering) → OnceWay e → OnceWay (Expressions.mapped f e)
+  once_mapped : (f : Tree → Tree) (e : Parts.Lowering) → OnceWay e → OnceWay (Conditions.mapped f e)
   once_mapped f e h = once_effective _ _ (λ t l. h.low t l) h.drop
 
-  once_unary : (op : UnaryOperator) (e : Expressions.Lowering) → OnceWay e → OnceWay (Expressions.unary size count op e)
+  once_unary : (op : UnaryOperator) (e : Parts.Lowering) → OnceWay e → OnceWay (Expressions.unary size count op e)
   once_unary unaries.Plus e h = once_mapped (λ w. w) e h
   once_unary unaries.Minus e h = once_mapped Neg e h
   once_unary unaries.Complement e h = once_mapped Com e h
   once_unary unaries.Not e h = once_conditional _ e.drop (λ sense to t l. h.branch (not sense) to t l) h.drop
 
-  once_updates : (f : CType → Tree → Tree → Tree) (p : ℕ → ℕ → Expressions.Located) (e : Expressions.Lowering) → ((t l : ℕ) → Once l (p t l).labels (p t l).items) → OnceWay e
-      → OnceWay (Expressions.update_by size count f p e)
+  once_updates : (f : CType → Tree → Tree → Tree) (p : ℕ → ℕ → Parts.Located) (e : Parts.Lowering) → ((t l : ℕ) → Once l (p t l).labels (p t l).items) → OnceWay e
+      → OnceWay (Assignments.update_by size count f p e)
   once_updates f p e h g = once_effective _ _
-      (λ t l. let r = Expressions.updated size count f (p t l) e.low in once_store_low r.place r l (once_update _ _ _ _ _ _ l (p t l).labels _ _ _ (h t l) (g.low (p t l).temps (p t l).labels)))
-      (λ t l. let r = Expressions.updated size count f (p t l) e.low in once_store_drop r l (once_update _ _ _ _ _ _ l (p t l).labels _ _ _ (h t l) (g.low (p t l).temps (p t l).labels)))
+      (λ t l. let r = Assignments.updated size count f (p t l) e.low in once_store_low r.place r l (once_update _ _ _ _ _ _ l (p t l).labels _ _ _ (h t l) (g.low (p t l).temps (p t l).labels)))
+      (λ t l. let r = Assignments.updated size count f (p t l) e.low in once_store_drop r l (once_update _ _ _ _ _ _ l (p t l).labels _ _ _ (h t l) (g.low (p t l).temps (p t l).labels)))
 
-  once_step : (m : Moment) (by : Direction) (p : Expressions.Located) (l : ℕ) → Once l p.labels p.items
-      → Once l (Expressions.step_low size count m by p).labels (Expressions.step_low size count m by p).items
-  once_step moments.Before by p l h = once_post _ _ _ _ _ p.type _ (Expressions.step by (Loc (Expressions.next_if (Expressions.must_keep size count [] p.place) p.temps))
+  once_step : (m : Moment) (by : Direction) (p : Parts.Located) (l : ℕ) → Once l p.labels p.items
+      → Once l (Assignments.step_low size count m by p).labels (Assignments.step_low size count m by p).items
+  once_step moments.Before by p l h = once_post _ _ _ _ _ p.type _ (Values.step by (Loc (Places.next_if (Assignments.must_keep size count [] p.place) p.temps))
       (Num (scale p.type))) l p.labels _ h
-  once_step moments.After by p l h = let r = Expressions.step_ready size count by p in once_store_low r.place r l (once_ready _ _ _ l p.labels p.labels _ [] h (once_nil p.labels))
+  once_step moments.After by p l h = let r = Assignments.step_ready size count by p in once_store_low r.place r l (once_ready _ _ _ l p.labels p.labels _ [] h (once_nil p.labels))
 
   mutual
     pub once_seek : (a : APlace) (t l : ℕ) → Once l (Expressions.seek size count a t l).labels (Expressions.seek size count a t l).items
@@ -320,11 +328,11 @@ module _ (size count : ℕ) where
     once_way (CallOf ty f to es) = once_effective _ _ (λ t l. once_call _ (Expressions.pass size count es to t l) l (once_pass es to t l))
         (λ t l. once_call_drop _ (Expressions.pass size count es to t l) l (once_pass es to t l))
     once_way (StepOf m by a) = once_effective _ _ (λ t l. once_step m by (Expressions.seek size count a t l) l (once_seek a t l))
-        (λ t l. once_store_drop (Expressions.step_ready size count by (Expressions.seek size count a t l)) l
+        (λ t l. once_store_drop (Assignments.step_ready size count by (Expressions.seek size count a t l)) l
         (once_ready _ _ _ l (Expressions.seek size count a t l).labels (Expressions.seek size count a t l).labels _ [] (once_seek a t l) (once_nil (Expressions.seek size count a t l).labels)))
     once_way (UnaryOf op e) = once_unary op _ (once_way e)
-    once_way (CastTo ty e) = once_mapped (Expressions.fitted ty) _ (once_way e)
-    once_way (ConvertTo ty e) = once_mapped (Expressions.fitted ty) _ (once_way e)
+    once_way (CastTo ty e) = once_mapped (Places.fitted ty) _ (once_way e)
+    once_way (ConvertTo ty e) = once_mapped (Places.fitted ty) _ (once_way e)
     once_way (ArithmeticOf op a b) = once_binary (Bin op) _ _ (once_way a) (once_way b)
     once_way (CompareOf r a b) = once_conditional _ _ (λ sense to t l. once_plain l _ _ _ (once_joined _ _ t l (once_way a) (once_way b)) (λ m. refl))
         (λ t l. once_drops _ _ t l (once_way a) (once_way b))
@@ -332,17 +340,17 @@ module _ (size count : ℕ) where
         (λ t l. once_inner l _ _ _ _ ((once_way a).branch false l t (suc l)) ((once_way b).drop _ _))
     once_way (EitherOf a b) = once_conditional _ _ (λ sense to t l. once_chain true sense _ _ to t l (once_way a) (once_way b))
         (λ t l. once_inner l _ _ _ _ ((once_way a).branch true l t (suc l)) ((once_way b).drop _ _))
-    once_way (AdvanceOf ty a b) = once_binary (Expressions.advance ty) _ _ (once_way a) (once_way b)
-    once_way (AdvanceByOf ty a b) = once_binary (Expressions.advance_by ty) _ _ (once_way a) (once_way b)
-    once_way (RetreatOf ty a b) = once_binary (Expressions.retreat ty) _ _ (once_way a) (once_way b)
-    once_way (DistanceOf ty a b) = once_binary (Expressions.apart ty) _ _ (once_way a) (once_way b)
+    once_way (AdvanceOf ty a b) = once_binary (Values.advance ty) _ _ (once_way a) (once_way b)
+    once_way (AdvanceByOf ty a b) = once_binary (Values.advance_by ty) _ _ (once_way a) (once_way b)
+    once_way (RetreatOf ty a b) = once_binary (Values.retreat ty) _ _ (once_way a) (once_way b)
+    once_way (DistanceOf ty a b) = once_binary (Values.apart ty) _ _ (once_way a) (once_way b)
     once_way (ChoiceOf ty c a b) = once_choose _ _ _ (once_way c) (once_way a) (once_way b)
     once_way (AssignTo a e) = once_effective _ _
-        (λ t l. let q = Expressions.seek size count a t l in let r = Expressions.assigned size count true q (Expressions.way size count e).low in once_store_low r.place r l (once_ready _ _ _ l q.labels _ _ _ (once_seek a t l) ((once_way e).low q.temps q.labels)))
-        (λ t l. let q = Expressions.seek size count a t l in let r = Expressions.assigned size count false q (Expressions.way size count e).low in once_store_drop r l (once_ready _ _ _ l q.labels _ _ _ (once_seek a t l) ((once_way e).low q.temps q.labels)))
+        (λ t l. let q = Expressions.seek size count a t l in let r = Assignments.assigned size count true q (Expressions.way size count e).low in once_store_low r.place r l (once_ready _ _ _ l q.labels _ _ _ (once_seek a t l) ((once_way e).low q.temps q.labels)))
+        (λ t l. let q = Expressions.seek size count a t l in let r = Assignments.assigned size count false q (Expressions.way size count e).low in once_store_drop r l (once_ready _ _ _ l q.labels _ _ _ (once_seek a t l) ((once_way e).low q.temps q.labels)))
     once_way (ArithmeticAssignTo op a e) = once_updates (λ ty. Bin op) (Expressions.seek size count a) _ (λ t l. once_seek a t l) (once_way e)
-    once_way (AdvanceAssignTo a e) = once_updates Expressions.advance (Expressions.seek size count a) _ (λ t l. once_seek a t l) (once_way e)
-    once_way (RetreatAssignTo a e) = once_updates Expressions.retreat (Expressions.seek size count a) _ (λ t l. once_seek a t l) (once_way e)
+    once_way (AdvanceAssignTo a e) = once_updates Values.advance (Expressions.seek size count a) _ (λ t l. once_seek a t l) (once_way e)
+    once_way (RetreatAssignTo a e) = once_updates Values.retreat (Expressions.seek size count a) _ (λ t l. once_seek a t l) (once_way e)
     once_way (CommaOf ty a b) = record {
       low = λ t l. once_append l _ _ _ _ ((once_way a).drop t l) ((once_way b).low _ _);
       branch = λ sense to t l. once_append l _ _ _ _ ((once_way a).drop t l) ((once_way b).branch sense to _ _);
@@ -351,7 +359,7 @@ module _ (size count : ℕ) where
 
     pub once_pass : (es : SomeExpressions) (to : List CType) (t l : ℕ) → Once l (Expressions.pass size count es to t l).labels (Expressions.pass size count es to t l).items
     once_pass NoExpressions to t l = once_nil l
-    once_pass (MoreExpressions e es) to t l = once_two _ _ _ l ((Expressions.way size count e).low t l).labels _ _ _ ((once_way e).low t l) (once_pass es (Expressions.others to) _ _)
+    once_pass (MoreExpressions e es) to t l = once_two _ _ _ l ((Expressions.way size count e).low t l).labels _ _ _ ((once_way e).low t l) (once_pass es (Calls.others to) _ _)
 
   once_effect : (e : Option AnExpression) (l : ℕ) → Once l (Statements.effect size count e l).labels (Statements.effect size count e l).items
   once_effect None l = once_nil l
@@ -361,18 +369,18 @@ module _ (size count : ℕ) where
   once_returning None l = once_same l l [] _ (once_nil l) (λ m. refl)
   once_returning (Some e) l = once_plain l _ _ _ ((once_way e).low size l) (λ m. refl)
 
-  none_clearing : (b : Bool) (n m : ℕ) → stands m (Statements.clearing b n) ≡ 0
+  none_clearing : (b : Bool) (n m : ℕ) → stands m (Flow.clearing b n) ≡ 0
   none_clearing true n m = refl
   none_clearing false n m = refl
 
   once_declare : (ds : List ADeclaration) (l : ℕ) → Once l (Statements.declare size count ds l).labels (Statements.declare size count ds l).items
   once_declare [] l = once_nil l
   once_declare (KeepOf object ∷ ds) l = once_declare ds l
-  once_declare (ClearOf n ∷ ds) l = once_front l _ (Statements.clearing true n) _ (none_clearing true n) (once_declare ds l)
+  once_declare (ClearOf n ∷ ds) l = once_front l _ (Flow.clearing true n) _ (none_clearing true n) (once_declare ds l)
   once_declare (BeginOf n e ∷ ds) l =
       let q = (Expressions.way size count e).low size l in
-      let b = Statements.mentions n e in
-      once_append l q.labels _ _ _ (once_front l q.labels (Statements.clearing b n) (q.items ++ (AssignLoc n q.tree ∷ [])) (none_clearing b n)
+      let b = Mentions.mentions n e in
+      once_append l q.labels _ _ _ (once_front l q.labels (Flow.clearing b n) (q.items ++ (AssignLoc n q.tree ∷ [])) (none_clearing b n)
       (once_plain l q.labels q.items (AssignLoc n q.tree ∷ []) ((once_way e).low size l) (λ m. refl))) (once_declare ds q.labels)
 
   once_while : (l p q : ℕ) (a b : List Item) → Once (suc (suc l)) p a → Once p q b → Once l q (Label l ∷ (a ++ (b ++ (Jump l ∷ Label (suc l) ∷ []))))
@@ -424,7 +432,7 @@ module _ (size count : ℕ) where
       once_three l r (Label (suc (suc (suc l))) ∷ inner) _ one
       (λ m. omega (arith, stands_append m a T1, stands_append m b T2, stands_append m c T3, stands_append m a (b ++ c), stands_append m b c))
 
-  once_while_by : (o : Option ℕ) (c : AnExpression) (f : ℕ → ℕ → ℕ → Expressions.Emitted) (l : ℕ) → ((lb lc m : ℕ) → Once m (f lb lc m).labels (f lb lc m).items)
+  once_while_by : (o : Option ℕ) (c : AnExpression) (f : ℕ → ℕ → ℕ → Parts.Emitted) (l : ℕ) → ((lb lc m : ℕ) → Once m (f lb lc m).labels (f lb lc m).items)
       → Once l (Statements.while_by size count o c f l).labels (Statements.while_by size count o c f l).items
   once_while_by (Some v) c f l h =
       let q = Statements.unless size count c (suc l) (suc (suc l)) in
@@ -433,7 +441,7 @@ module _ (size count : ℕ) where
       let x = f (suc (suc l)) (suc l) (suc (suc (suc l))) in
       once_loop (suc l) l x.labels _ x.items _ (h (suc (suc l)) (suc l) (suc (suc (suc l)))) ((once_way c).branch true l size x.labels)
 
-  once_tested : (o : Option ℕ) (c : AnExpression) (e : Option AnExpression) (l : ℕ) (f : ℕ → Expressions.Emitted) → ((m : ℕ) → Once m (f m).labels (f m).items)
+  once_tested : (o : Option ℕ) (c : AnExpression) (e : Option AnExpression) (l : ℕ) (f : ℕ → Parts.Emitted) → ((m : ℕ) → Once m (f m).labels (f m).items)
       → Once l (Statements.for_tested size count o l c e f).labels (Statements.for_tested size count o l c e f).items
   once_tested (Some v) c e l f h =
       let q = Statements.unless size count c (suc (suc l)) (suc (suc (suc l))) in
@@ -444,7 +452,7 @@ module _ (size count : ℕ) where
       let s = Statements.effect size count e b.labels in
       once_turns l b.labels s.labels _ b.items s.items _ (h (suc (suc (suc (suc l))))) (once_effect e b.labels) ((once_way c).branch true l size s.labels)
 
-  once_fors : (c e : Option AnExpression) (l : ℕ) (f : ℕ → Expressions.Emitted) → ((m : ℕ) → Once m (f m).labels (f m).items)
+  once_fors : (c e : Option AnExpression) (l : ℕ) (f : ℕ → Parts.Emitted) → ((m : ℕ) → Once m (f m).labels (f m).items)
       → Once l (Statements.for_of size count l c e f).labels (Statements.for_of size count l c e f).items
   once_fors None e l f h = let b = f (suc (suc (suc l))) in once_ever l b.labels _ b.items _ (h (suc (suc (suc l)))) (once_effect e b.labels)
   once_fors (Some c) e l f h = once_tested (constant_of c) c e l f h

@@ -31,7 +31,8 @@ use Rattle.c_meaning.specs.State.{State, integer_access, set_at, with_locals, wi
 use Rattle.c_meaning.specs.Meaning.{Rest, RestAt, or_wild, written, read_at, address_of}
 use Rattle.c_lower_scheme.specs.Trees.{Tree, Indir, Item, divides}
 use Rattle.c_lower_scheme.specs.Spelling.{spelled_all}
-use Rattle.c_lower_scheme.specs.Expressions.{Where, InLoc, InArg, InMem, Located, Assignable, integer_of, conv, fitted, read_from, address_tree, read_low, address_low}
+use Rattle.c_lower_scheme.specs.Parts.{Where, InLoc, InArg, InMem, Located, Assignable}
+use Rattle.c_lower_scheme.specs.Places.{integer_of, conv, fitted, read_from, address_tree, read_low, address_low}
 use Rattle.c_sound.specs.Fits.{AreBytes}
 use Rattle.c_lower_follows.proofs.Values.{bytes_take, bytes_drop, bytes_append, SmallTree}
 use Rattle.c_lower_follows.proofs.Leads.{Leads, leads_wild}

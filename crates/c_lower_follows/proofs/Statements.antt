@@ -27,9 +27,11 @@ use Rattle.c_meaning.specs.Meaning.{Behind, ALoop, plain_loop, for_loop, Task, L
 use Rattle.c_meaning.specs.Meaning.{returned as returned_source}
 use Rattle.c_lower_scheme.specs.Trees.{Tree, Num, Item, Label, AssignLoc, Jump, Ret}
 use Rattle.c_lower_scheme.specs.Spelling.{spelled_all}
-use Rattle.c_lower_scheme.specs.Expressions.{Emitted, way}
-use Rattle.c_lower_scheme.specs.Statements.{is_local, place_mentions, mentions, any_mentions, begin_of, if_done, if_else_done, loop_done, while_done, turns_done, for_done, ever_done, unless}
-use Rattle.c_lower_scheme.specs.Statements.{when, effect, returning, declare, while_by, for_tested, for_of, lower, lower_row}
+use Rattle.c_lower_scheme.specs.Parts.{Emitted}
+use Rattle.c_lower_scheme.specs.Expressions.{way}
+use Rattle.c_lower_scheme.specs.Mentions.{is_local, place_mentions, mentions, any_mentions}
+use Rattle.c_lower_scheme.specs.Flow.{begin_of, if_done, if_else_done, loop_done, while_done, turns_done, for_done, ever_done}
+use Rattle.c_lower_scheme.specs.Statements.{unless, when, effect, returning, declare, while_by, for_tested, for_of, lower, lower_row}
 use Rattle.c_sound.specs.Fits.{AreBytes, StandsIn, FitsAt, Fits, FitsAll, FitsMaybe, more, declaring, behind_act, FitsDeclared, FitsAct, FitsActs}
 use Rattle.c_lower_follows.proofs.Values.{SmallTree, Small, worth_small}
 use Rattle.c_lower_follows.proofs.Leads.{Leads, leads_wild, leads_quiet, leads_counted, leads_none, leads_below}

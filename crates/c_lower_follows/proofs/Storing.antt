@@ -19,7 +19,9 @@ use Rattle.c_meaning.specs.State.{State, integer_access, with_locals, with_param
 use Rattle.c_meaning.specs.Meaning.{Rest, RestAt, written, store_at}
 use Rattle.c_lower_scheme.specs.Trees.{Gaddr, Neg, Com, Bin, Tree, Num, Loc, Arg, Indir, Conv, Item, AssignLoc, AssignArg, AssignMem, divides, stable, is_leaf}
 use Rattle.c_lower_scheme.specs.Spelling.{spelled_all}
-use Rattle.c_lower_scheme.specs.Expressions.{Lowered, Where, InLoc, InArg, InMem, Located, Assignable, saving, saved, integer_of, fitted, assign_to, store_drop, store_low_at, store_low}
+use Rattle.c_lower_scheme.specs.Parts.{Lowered, Where, InLoc, InArg, InMem, Located, Assignable}
+use Rattle.c_lower_scheme.specs.Places.{saving, saved, integer_of, fitted, assign_to}
+use Rattle.c_lower_scheme.specs.Assignments.{store_drop, store_low_at, store_low}
 use Rattle.c_lower_follows.proofs.Values.{SmallTree, Small, worth_small}
 use Rattle.c_lower_follows.proofs.Leads.{Leads}
 use Rattle.c_lower_follows.proofs.Steps.{Desk, desk_sight, on, Resolves, lost, narrowed, written_at, assign_loc_step, assign_arg_step, assign_mem_step}

@@ -41,9 +41,11 @@ use Rattle.c_meaning.specs.declared.store.Spot.TheVariants.{Memory}
 use Rattle.c_meaning.specs.State.{State, address, spot_of}
 use Rattle.c_meaning.specs.Meaning.{Rest, RestAt, Next, or_wild, or_trap, read_at, store_at, stepped, of_moment, step_at, address_of, located, array_address, expr, place, arguments}
 use Rattle.c_lower_scheme.specs.Trees.{Tree, Num, Gaddr, Neg, Com, Bin, Item}
-use Rattle.c_lower_scheme.specs.Expressions.{Lowered, Lowering, Located, due, where_of, address_tree, scaled_by, advance, advance_by, retreat, apart, step, over, fitted, found}
-use Rattle.c_lower_scheme.specs.Expressions.{pointed, read_low, address_low, store_low, store_drop, assign_ready, update_ready, step_tree, step_ready, step_low, unary, update_by}
-use Rattle.c_lower_scheme.specs.Expressions.{seek, way, pass}
+use Rattle.c_lower_scheme.specs.Parts.{Lowered, Lowering, Located, due, over}
+use Rattle.c_lower_scheme.specs.Places.{where_of, address_tree, fitted, found, pointed, read_low, address_low}
+use Rattle.c_lower_scheme.specs.Values.{scaled_by, advance, advance_by, retreat, apart, step}
+use Rattle.c_lower_scheme.specs.Assignments.{store_low, store_drop, assign_ready, update_ready, step_tree, step_ready, step_low, update_by}
+use Rattle.c_lower_scheme.specs.Expressions.{unary, seek, way, pass}
 use Rattle.c_sound.specs.Fits.{StandsIn, FitsAt, Fits, FitsAll}
 use Rattle.c_lower_follows.proofs.Values.{SmallTree, Small, worth_small, or_zero}
 use Rattle.c_lower_follows.proofs.Leads.{Leads, leads_wild}

@@ -1,6 +1,14 @@
 pub mod Trees
 pub mod Spelling
+pub mod Parts
+pub mod Places
+pub mod Conditions
+pub mod Values
+pub mod Calls
+pub mod Assignments
 pub mod Expressions
+pub mod Mentions
+pub mod Flow
 pub mod Statements
 pub mod Programs
 pub mod Examples

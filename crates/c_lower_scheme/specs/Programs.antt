@@ -5,7 +5,7 @@ use Rattle.tree_core.specs.declared.program.TreeProgram.{TreeProgram}
 use Rattle.c_program.specs.Programs.{ARoutine, AProgram}
 use Rattle.c_lower_scheme.specs.Trees.{Item, Num, Ret}
 use Rattle.c_lower_scheme.specs.Spelling.{spelled_all}
-use Rattle.c_lower_scheme.specs.Expressions.{Emitted}
+use Rattle.c_lower_scheme.specs.Parts.{Emitted}
 use Rattle.c_lower_scheme.specs.Statements.{lower_row}
 
 -- A function's items, from the first free label on: behind its statements it answers 0. It has no loop around it, so no

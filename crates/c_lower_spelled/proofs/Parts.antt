@@ -6,9 +6,10 @@ use Rattle.c_types.specs.declared.types.Integer.{Integer}
 use Rattle.c_types.specs.declared.types.Integer.TheVariants as ints
 use Rattle.c_types.specs.declared.types.CType.{CType}
 use Rattle.c_lower_scheme.specs.Trees.{Tree, Item, breaks}
-use Rattle.c_lower_scheme.specs.Expressions.{Lowered, Pair, Emitted, Lowering, due, saving, saved, integer_of, conv, fitted, over, test, dropped, then_done}
-use Rattle.c_lower_scheme.specs.Expressions.{valued, conditional, effective, mapped, chained, same, goal, chain, chain_drop, drop_two, choose, comma, must, joined, binary}
-use Rattle.c_lower_scheme.specs.Expressions.{relation}
+use Rattle.c_lower_scheme.specs.Parts.{Lowered, Pair, Emitted, Lowering, due, over, then_done}
+use Rattle.c_lower_scheme.specs.Places.{saving, saved, integer_of, conv, fitted}
+use Rattle.c_lower_scheme.specs.Conditions.{test, dropped, valued, conditional, effective, mapped, chained, same, goal, chain, chain_drop, drop_two, choose, comma}
+use Rattle.c_lower_scheme.specs.Values.{must, joined, binary, relation}
 use Rattle.c_lower_spelled.proofs.Trees.{IsLong, AreLong, none, next, behind}
 
 pub nought : 0 < 2 ^ 32

@@ -12,8 +12,12 @@ use Rattle.c_types.specs.Typed.{ArithmeticAssignTo, AdvanceAssignTo, RetreatAssi
 use Rattle.c_sound.specs.Fits.{Fits, FitsAt, FitsAll}
 use Rattle.c_sound.specs.Stands.{Stands, StandsAt, StandAll, IsThere}
 use Rattle.c_lower_scheme.specs.Trees.{Tree, Num, Gaddr, Neg, Com, Bin}
-use Rattle.c_lower_scheme.specs.Expressions.{Lowered, Lowering, Located, Passing, where_of, address_tree, advance, advance_by, retreat, apart, over, fitted, callee_number}
-use Rattle.c_lower_scheme.specs.Expressions.{passed_as, must_pass, assigned, updated, update_by, step_ready, unary, seek, way, pass}
+use Rattle.c_lower_scheme.specs.Parts.{Lowered, Lowering, Located, Passing, over}
+use Rattle.c_lower_scheme.specs.Places.{where_of, address_tree, fitted}
+use Rattle.c_lower_scheme.specs.Values.{advance, advance_by, retreat, apart}
+use Rattle.c_lower_scheme.specs.Calls.{callee_number, passed_as, must_pass}
+use Rattle.c_lower_scheme.specs.Assignments.{assigned, updated, update_by, step_ready}
+use Rattle.c_lower_scheme.specs.Expressions.{unary, seek, way, pass}
 use Rattle.c_lower_spelled.proofs.Trees.{IsLong, none}
 use Rattle.c_lower_spelled.proofs.Parts.{LongWay, due_long, valued_long, effective_long, mapped_long, not_long, chain_long, choose_long, comma_long, binary_long}
 use Rattle.c_lower_spelled.proofs.Parts.{relation_long, long_fitted}

@@ -15,10 +15,11 @@ use Rattle.c_types.specs.Constants.{scale}
 use Rattle.c_types.specs.Types.{integer_size, size_of, target}
 use Rattle.c_sound.specs.Stands.{IsThere}
 use Rattle.c_lower_scheme.specs.Trees.{Tree, Num, Loc, Bin, Item}
-use Rattle.c_lower_scheme.specs.Expressions.{Lowered, Where, InLoc, InArg, InMem, Located, Passing, Assignable, saved, next_if, read_from, assign_to, address_tree, where_of}
-use Rattle.c_lower_scheme.specs.Expressions.{scaled_by, advance, advance_by, retreat, apart, step, found, pointed, read_low, address_low, pushes, called_drop, called_low}
-use Rattle.c_lower_scheme.specs.Expressions.{passed_as, holding, held, ready_so, update_so, store_drop, store_low_at, store_low, pass_so, must_keep, step_tree}
-use Rattle.c_lower_scheme.specs.Expressions.{step_ready, step_low, over}
+use Rattle.c_lower_scheme.specs.Parts.{Lowered, Where, InLoc, InArg, InMem, Located, Passing, Assignable, over}
+use Rattle.c_lower_scheme.specs.Places.{saved, next_if, read_from, assign_to, address_tree, where_of, found, pointed, read_low, address_low, holding, held}
+use Rattle.c_lower_scheme.specs.Values.{scaled_by, advance, advance_by, retreat, apart, step}
+use Rattle.c_lower_scheme.specs.Calls.{pushes, called_drop, called_low, passed_as, pass_so}
+use Rattle.c_lower_scheme.specs.Assignments.{ready_so, update_so, store_drop, store_low_at, store_low, must_keep, step_tree, step_ready, step_low}
 use Rattle.c_lower_spelled.proofs.Trees.{IsLong, IsLongItem, AreLong, none, next, behind}
 use Rattle.c_lower_spelled.proofs.Parts.{LongLow, LongEnds, nought, long_saving, long_saved, long_fitted, over_long, due_long}
 

@@ -9,8 +9,11 @@ use Rattle.c_program.specs.Statements.{ADeclaration, KeepOf, ClearOf, BeginOf, A
 use Rattle.c_program.specs.Statements.{ReturnOf, IfOf, IfElseOf, WhileOf, DoOf, ForOf}
 use Rattle.c_sound.specs.Fits.{Fits, FitsMaybe, more, behind_act, FitsDeclared, FitsAct, FitsActs}
 use Rattle.c_sound.specs.Stands.{Stands, StandsMaybe, StandsDeclared, StandsAct, StandsActs, IsThere}
-use Rattle.c_lower_scheme.specs.Expressions.{Lowered, Emitted, way}
-use Rattle.c_lower_scheme.specs.Statements.{mentions, two_done, clearing, unless, when, effect, returning, declare, while_by, for_tested, for_of, lower, lower_row}
+use Rattle.c_lower_scheme.specs.Parts.{Lowered, Emitted}
+use Rattle.c_lower_scheme.specs.Expressions.{way}
+use Rattle.c_lower_scheme.specs.Mentions.{mentions}
+use Rattle.c_lower_scheme.specs.Flow.{two_done, clearing}
+use Rattle.c_lower_scheme.specs.Statements.{unless, when, effect, returning, declare, while_by, for_tested, for_of, lower, lower_row}
 use Rattle.c_lower_spelled.proofs.Trees.{AreLong, none, next, behind}
 use Rattle.c_lower_spelled.proofs.Parts.{LongEnds, nought}
 use Rattle.c_lower_spelled.proofs.Phrases.{way_long}

@@ -10,9 +10,11 @@ use Rattle.c_program.specs.Statements.{ReturnOf, IfOf, IfElseOf, WhileOf, DoOf, 
 use Rattle.c_sound.specs.Fits.{Fits, FitsMaybe, more, declaring, behind_act, FitsDeclared, FitsAct, FitsActs}
 use Rattle.c_sound.specs.Stands.{IsThere, StandsMaybe, StandsDeclared, StandsAct, StandsActs}
 use Rattle.c_lower_scheme.specs.Trees.{Num, Item, Label, AssignLoc, Jump, Ret}
-use Rattle.c_lower_scheme.specs.Expressions.{Lowered, Emitted, nothing, callee_number}
+use Rattle.c_lower_scheme.specs.Parts.{Lowered, Emitted, nothing}
+use Rattle.c_lower_scheme.specs.Calls.{callee_number}
 use Rattle.c_lower_scheme.specs.Expressions
-use Rattle.c_lower_scheme.specs.Statements.{mentions, two_done, ret_of, clearing, begin_of, if_done, if_else_done, loop_done, while_done, turns_done, for_done, ever_done}
+use Rattle.c_lower_scheme.specs.Mentions.{mentions}
+use Rattle.c_lower_scheme.specs.Flow.{two_done, ret_of, clearing, begin_of, if_done, if_else_done, loop_done, while_done, turns_done, for_done, ever_done}
 use Rattle.c_lower_scheme.specs.Statements
 use Rattle.c_lower_valid.proofs.Named.{Scene}
 use Rattle.c_lower_valid.proofs.Fine.{Fine, fine_nil, fine_append, fine_up, fine_more, fine_one, fine_behind, fine_three, FineLow, FineDone}

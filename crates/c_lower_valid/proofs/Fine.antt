@@ -10,11 +10,13 @@ use Rattle.c_types.specs.declared.typed.Direction.{Direction}
 use Rattle.c_types.specs.declared.typed.Direction.TheVariants as directions
 use Rattle.c_types.specs.Constants.{scale}
 use Rattle.c_lower_scheme.specs.Trees.{Tree, Num, Loc, Bin, Item, Label, AssignLoc, AssignArg, AssignMem, Cbr, Push, breaks}
-use Rattle.c_lower_scheme.specs.Expressions.{Lowered, Pair, Where, InLoc, InArg, InMem, Located, Passing, Emitted, Assignable, saving, saved, next_if, integer_of, conv, fitted}
-use Rattle.c_lower_scheme.specs.Expressions.{read_from, assign_to, address_tree, scaled_by, shared_by, advance, advance_by, retreat, apart, step, sensed, over, over_two, truth_of}
-use Rattle.c_lower_scheme.specs.Expressions.{test, compare, dropped, pushes, args_count, holding, held, ready_so, update_so, postfix_so, store_drop, store_low_at, store_low}
-use Rattle.c_lower_scheme.specs.Expressions.{pass_so, called_drop, called_low, read_low, address_low}
-use Rattle.c_lower_scheme.specs.Expressions
+use Rattle.c_lower_scheme.specs.Parts.{Lowered, Pair, Where, InLoc, InArg, InMem, Located, Passing, Emitted, Assignable, over, over_two}
+use Rattle.c_lower_scheme.specs.Places.{saving, saved, next_if, integer_of, conv, fitted, read_from, assign_to, address_tree, holding, held, read_low, address_low}
+use Rattle.c_lower_scheme.specs.Conditions.{sensed, truth_of, test, compare, dropped}
+use Rattle.c_lower_scheme.specs.Values.{scaled_by, shared_by, advance, advance_by, retreat, apart, step}
+use Rattle.c_lower_scheme.specs.Values
+use Rattle.c_lower_scheme.specs.Calls.{pushes, args_count, pass_so, called_drop, called_low}
+use Rattle.c_lower_scheme.specs.Assignments.{ready_so, update_so, postfix_so, store_drop, store_low_at, store_low}
 use Rattle.c_lower_valid.proofs.Named.{Scene, Names, ItemNames, AllName, names_more, all_more, all_append}
 use Rattle.c_lower_valid.proofs.Orders.{Orderly, IsQuiet, orderly_nil, orderly_append, orderly_more, orderly_call, orderly_saved}
 
@@ -196,7 +198,7 @@ module _ (scene : Scene) where
       }
 
   pub fine_join : (size count : ℕ) (b : Bool) (t : ℕ) (p q : Lowered) → FineLow t p → FineLow p.temps q
-      → FineTwo t (Expressions.join_so size count b p q)
+      → FineTwo t (Values.join_so size count b p q)
   fine_join size count b t p q h g =
       let u = next_if b q.temps in
       let up = next_grows b q.temps in

@@ -12,12 +12,18 @@ use Rattle.c_types.specs.Typed.{APlace, VariableAt, PointedBy, ElementBy, AnExpr
 use Rattle.c_types.specs.Typed.{UnaryOf, CastTo, ConvertTo, ArithmeticOf, CompareOf, BothOf, EitherOf, AdvanceOf, AdvanceByOf, RetreatOf, DistanceOf, ChoiceOf, AssignTo}
 use Rattle.c_types.specs.Typed.{ArithmeticAssignTo, AdvanceAssignTo, RetreatAssignTo, CommaOf, SomeExpressions, NoExpressions, MoreExpressions}
 use Rattle.c_lower_scheme.specs.Trees.{Tree, Num, Loc, Neg, Com, Bin, Item, AssignLoc}
+use Rattle.c_lower_scheme.specs.Parts
+use Rattle.c_lower_scheme.specs.Places
+use Rattle.c_lower_scheme.specs.Conditions
+use Rattle.c_lower_scheme.specs.Values
+use Rattle.c_lower_scheme.specs.Calls
+use Rattle.c_lower_scheme.specs.Assignments
 use Rattle.c_lower_scheme.specs.Expressions
 use Rattle.c_lower_valid.proofs.Marks.{nowhere, at, Marked, marked_nil, marked_out, marked_append, marked_plain, marked_front, mute_saving, mute_holding, mute_assign, mute_append}
 use Rattle.c_lower_valid.proofs.Marks.{mute_pushes, MarkedWay, marked_branch, marked_valued, marked_effective, marked_conditional, marked_two, marked_chain, marked_chain_drop}
 use Rattle.c_lower_valid.proofs.Marks.{marked_drops, marked_fork}
 
-marked_choose : (c a b : Expressions.Lowering) → MarkedWay c → MarkedWay a → MarkedWay b → MarkedWay (Expressions.choose c a b)
+marked_choose : (c a b : Parts.Lowering) → MarkedWay c → MarkedWay a → MarkedWay b → MarkedWay (Conditions.choose c a b)
 marked_choose c a b h f g = marked_effective _ _
     (λ t l.
     let p = c.branch false l (suc t) (suc (suc l)) in
@@ -32,74 +38,74 @@ marked_choose c a b h f g = marked_effective _ _
     marked_fork nowhere l p.labels q.labels r.labels p.items q.items r.items [] [] (λ m. refl) (λ m. refl)
     (h.branch false l t (suc (suc l))) (f.drop p.temps p.labels) (g.drop q.temps q.labels))
 
-marked_store_low : (s : Expressions.Where) (r : Expressions.Assignable) (l : ℕ) → Marked nowhere l r.labels r.items
-    → Marked nowhere l (Expressions.store_low_at s r).labels (Expressions.store_low_at s r).items
-marked_store_low (Expressions.InLoc n) r l h = marked_plain nowhere l r.labels r.items _ h (λ m. refl)
-marked_store_low (Expressions.InArg n) r l h = marked_plain nowhere l r.labels r.items _ h (λ m. refl)
-marked_store_low (Expressions.InMem a) r l h = marked_plain nowhere l r.labels r.items _ h (λ m. refl)
+marked_store_low : (s : Parts.Where) (r : Parts.Assignable) (l : ℕ) → Marked nowhere l r.labels r.items
+    → Marked nowhere l (Assignments.store_low_at s r).labels (Assignments.store_low_at s r).items
+marked_store_low (Parts.InLoc n) r l h = marked_plain nowhere l r.labels r.items _ h (λ m. refl)
+marked_store_low (Parts.InArg n) r l h = marked_plain nowhere l r.labels r.items _ h (λ m. refl)
+marked_store_low (Parts.InMem a) r l h = marked_plain nowhere l r.labels r.items _ h (λ m. refl)
 
-marked_store_drop : (r : Expressions.Assignable) (l : ℕ) → Marked nowhere l r.labels r.items
-    → Marked nowhere l (Expressions.store_drop r).labels (Expressions.store_drop r).items
+marked_store_drop : (r : Parts.Assignable) (l : ℕ) → Marked nowhere l r.labels r.items
+    → Marked nowhere l (Assignments.store_drop r).labels (Assignments.store_drop r).items
 marked_store_drop r l h = marked_plain nowhere l r.labels r.items _ h (mute_assign r.type r.place r.value)
 
-marked_ready : (b : Bool) (u : ℕ) (s : Expressions.Where) (l p q : ℕ) (a c : List Item) → Marked nowhere l p a → Marked nowhere p q c
-    → Marked nowhere l q (a ++ (Expressions.holding b u s ++ c))
+marked_ready : (b : Bool) (u : ℕ) (s : Parts.Where) (l p q : ℕ) (a c : List Item) → Marked nowhere l p a → Marked nowhere p q c
+    → Marked nowhere l q (a ++ (Places.holding b u s ++ c))
 marked_ready b u s l p q a c h g = marked_append nowhere l p q a _ h
-    (marked_front nowhere p q (Expressions.holding b u s) c (mute_holding b u s) g)
+    (marked_front nowhere p q (Places.holding b u s) c (mute_holding b u s) g)
 
-marked_update : (b : Bool) (u : ℕ) (s : Expressions.Where) (c : Bool) (v : ℕ) (w : Tree) (l p q : ℕ) (a d : List Item)
+marked_update : (b : Bool) (u : ℕ) (s : Parts.Where) (c : Bool) (v : ℕ) (w : Tree) (l p q : ℕ) (a d : List Item)
     → Marked nowhere l p a → Marked nowhere p q d
-    → Marked nowhere l q (a ++ (Expressions.holding b u s ++ (Expressions.saving c v w ++ d)))
-marked_update b u s c v w l p q a d h g = marked_ready b u s l p q a (Expressions.saving c v w ++ d) h
-    (marked_front nowhere p q (Expressions.saving c v w) d (mute_saving c v w) g)
+    → Marked nowhere l q (a ++ (Places.holding b u s ++ (Places.saving c v w ++ d)))
+marked_update b u s c v w l p q a d h g = marked_ready b u s l p q a (Places.saving c v w ++ d) h
+    (marked_front nowhere p q (Places.saving c v w) d (mute_saving c v w) g)
 
-marked_post : (b : Bool) (u : ℕ) (s : Expressions.Where) (n : ℕ) (w : Tree) (ty : CType) (s' : Expressions.Where) (w' : Tree) (l p : ℕ)
+marked_post : (b : Bool) (u : ℕ) (s : Parts.Where) (n : ℕ) (w : Tree) (ty : CType) (s' : Parts.Where) (w' : Tree) (l p : ℕ)
     (a : List Item) → Marked nowhere l p a → Marked nowhere l p
-    (a ++ (Expressions.holding b u s ++ (AssignLoc n w ∷ Expressions.assign_to ty s' w' ∷ [])))
+    (a ++ (Places.holding b u s ++ (AssignLoc n w ∷ Places.assign_to ty s' w' ∷ [])))
 marked_post b u s n w ty s' w' l p a h = marked_plain nowhere l p a _ h
-    (mute_append (Expressions.holding b u s) _ (mute_holding b u s)
-    (mute_append (AssignLoc n w ∷ []) (Expressions.assign_to ty s' w' ∷ []) (λ m. refl) (mute_assign ty s' w')))
+    (mute_append (Places.holding b u s) _ (mute_holding b u s)
+    (mute_append (AssignLoc n w ∷ []) (Places.assign_to ty s' w' ∷ []) (λ m. refl) (mute_assign ty s' w')))
 
-marked_call : (f : ℕ) (q : Expressions.Passing) (l : ℕ) → Marked nowhere l q.labels q.items
-    → Marked nowhere l (Expressions.called_low f q).labels (Expressions.called_low f q).items
+marked_call : (f : ℕ) (q : Parts.Passing) (l : ℕ) → Marked nowhere l q.labels q.items
+    → Marked nowhere l (Calls.called_low f q).labels (Calls.called_low f q).items
 marked_call f q l h = marked_plain nowhere l q.labels q.items _ h (mute_pushes q.trees _ (λ m. refl))
 
-marked_call_drop : (f : ℕ) (q : Expressions.Passing) (l : ℕ) → Marked nowhere l q.labels q.items
-    → Marked nowhere l (Expressions.called_drop f q).labels (Expressions.called_drop f q).items
+marked_call_drop : (f : ℕ) (q : Parts.Passing) (l : ℕ) → Marked nowhere l q.labels q.items
+    → Marked nowhere l (Calls.called_drop f q).labels (Calls.called_drop f q).items
 marked_call_drop f q l h = marked_plain nowhere l q.labels q.items _ h (mute_pushes q.trees _ (λ m. refl))
 
 module _ (size count : ℕ) where
-  marked_joined : (a b : Expressions.Lowering) (t l : ℕ) → MarkedWay a → MarkedWay b
-      → Marked nowhere l (Expressions.joined size count a b t l).labels (Expressions.joined size count a b t l).items
+  marked_joined : (a b : Parts.Lowering) (t l : ℕ) → MarkedWay a → MarkedWay b
+      → Marked nowhere l (Values.joined size count a b t l).labels (Values.joined size count a b t l).items
   marked_joined a b t l h g = marked_two nowhere _ _ _ l (a.low t l).labels _ _ _ (h.low t l) (g.low (a.low t l).temps (a.low t l).labels)
 
-  marked_binary : (f : Tree → Tree → Tree) (a b : Expressions.Lowering) → MarkedWay a → MarkedWay b
-      → MarkedWay (Expressions.binary size count f a b)
+  marked_binary : (f : Tree → Tree → Tree) (a b : Parts.Lowering) → MarkedWay a → MarkedWay b
+      → MarkedWay (Values.binary size count f a b)
   marked_binary f a b h g = marked_valued _ (λ t l. marked_joined a b t l h g)
 
-  marked_mapped : (f : Tree → Tree) (e : Expressions.Lowering) → MarkedWay e → MarkedWay (Expressions.mapped f e)
+  marked_mapped : (f : Tree → Tree) (e : Parts.Lowering) → MarkedWay e → MarkedWay (Conditions.mapped f e)
   marked_mapped f e h = marked_effective _ _ (λ t l. h.low t l) h.drop
 
-  marked_unary : (op : UnaryOperator) (e : Expressions.Lowering) → MarkedWay e → MarkedWay (Expressions.unary size count op e)
+  marked_unary : (op : UnaryOperator) (e : Parts.Lowering) → MarkedWay e → MarkedWay (Expressions.unary size count op e)
   marked_unary unaries.Plus e h = marked_mapped (λ w. w) e h
   marked_unary unaries.Minus e h = marked_mapped Neg e h
   marked_unary unaries.Complement e h = marked_mapped Com e h
   marked_unary unaries.Not e h = marked_conditional _ e.drop (λ sense to t l. h.branch (not sense) to t l) h.drop
 
-  marked_updates : (f : CType → Tree → Tree → Tree) (p : ℕ → ℕ → Expressions.Located) (e : Expressions.Lowering)
-      → ((t l : ℕ) → Marked nowhere l (p t l).labels (p t l).items) → MarkedWay e → MarkedWay (Expressions.update_by size count f p e)
+  marked_updates : (f : CType → Tree → Tree → Tree) (p : ℕ → ℕ → Parts.Located) (e : Parts.Lowering)
+      → ((t l : ℕ) → Marked nowhere l (p t l).labels (p t l).items) → MarkedWay e → MarkedWay (Assignments.update_by size count f p e)
   marked_updates f p e h g = marked_effective _ _
-      (λ t l. let r = Expressions.updated size count f (p t l) e.low in
+      (λ t l. let r = Assignments.updated size count f (p t l) e.low in
       marked_store_low r.place r l (marked_update _ _ _ _ _ _ l (p t l).labels _ _ _ (h t l) (g.low (p t l).temps (p t l).labels)))
-      (λ t l. let r = Expressions.updated size count f (p t l) e.low in
+      (λ t l. let r = Assignments.updated size count f (p t l) e.low in
       marked_store_drop r l (marked_update _ _ _ _ _ _ l (p t l).labels _ _ _ (h t l) (g.low (p t l).temps (p t l).labels)))
 
-  marked_step : (m : Moment) (by : Direction) (p : Expressions.Located) (l : ℕ) → Marked nowhere l p.labels p.items
-      → Marked nowhere l (Expressions.step_low size count m by p).labels (Expressions.step_low size count m by p).items
+  marked_step : (m : Moment) (by : Direction) (p : Parts.Located) (l : ℕ) → Marked nowhere l p.labels p.items
+      → Marked nowhere l (Assignments.step_low size count m by p).labels (Assignments.step_low size count m by p).items
   marked_step moments.Before by p l h = marked_post _ _ _ _ _ p.type _
-      (Expressions.step by (Loc (Expressions.next_if (Expressions.must_keep size count [] p.place) p.temps)) (Num (scale p.type))) l
+      (Values.step by (Loc (Places.next_if (Assignments.must_keep size count [] p.place) p.temps)) (Num (scale p.type))) l
       p.labels _ h
-  marked_step moments.After by p l h = let r = Expressions.step_ready size count by p in
+  marked_step moments.After by p l h = let r = Assignments.step_ready size count by p in
       marked_store_low r.place r l (marked_ready _ _ _ l p.labels p.labels _ [] h (marked_nil nowhere p.labels))
 
   mutual
@@ -122,12 +128,12 @@ module _ (size count : ℕ) where
         (λ t l. marked_call_drop _ (Expressions.pass size count es to t l) l (marked_pass es to t l))
     marked_way (StepOf m by a) = marked_effective _ _
         (λ t l. marked_step m by (Expressions.seek size count a t l) l (marked_seek a t l))
-        (λ t l. marked_store_drop (Expressions.step_ready size count by (Expressions.seek size count a t l)) l
+        (λ t l. marked_store_drop (Assignments.step_ready size count by (Expressions.seek size count a t l)) l
         (marked_ready _ _ _ l (Expressions.seek size count a t l).labels (Expressions.seek size count a t l).labels _ []
         (marked_seek a t l) (marked_nil nowhere (Expressions.seek size count a t l).labels)))
     marked_way (UnaryOf op e) = marked_unary op _ (marked_way e)
-    marked_way (CastTo ty e) = marked_mapped (Expressions.fitted ty) _ (marked_way e)
-    marked_way (ConvertTo ty e) = marked_mapped (Expressions.fitted ty) _ (marked_way e)
+    marked_way (CastTo ty e) = marked_mapped (Places.fitted ty) _ (marked_way e)
+    marked_way (ConvertTo ty e) = marked_mapped (Places.fitted ty) _ (marked_way e)
     marked_way (ArithmeticOf op a b) = marked_binary (Bin op) _ _ (marked_way a) (marked_way b)
     marked_way (CompareOf r a b) = marked_conditional _ _
         (λ sense to t l. marked_branch _ to _ _ l _ _ (marked_joined _ _ t l (marked_way a) (marked_way b)))
@@ -137,23 +143,23 @@ module _ (size count : ℕ) where
     marked_way (EitherOf a b) = marked_conditional _ _
         (λ sense to t l. marked_chain true sense _ _ to t l (marked_way a) (marked_way b))
         (λ t l. marked_chain_drop true _ _ t l (marked_way a) (marked_way b))
-    marked_way (AdvanceOf ty a b) = marked_binary (Expressions.advance ty) _ _ (marked_way a) (marked_way b)
-    marked_way (AdvanceByOf ty a b) = marked_binary (Expressions.advance_by ty) _ _ (marked_way a) (marked_way b)
-    marked_way (RetreatOf ty a b) = marked_binary (Expressions.retreat ty) _ _ (marked_way a) (marked_way b)
-    marked_way (DistanceOf ty a b) = marked_binary (Expressions.apart ty) _ _ (marked_way a) (marked_way b)
+    marked_way (AdvanceOf ty a b) = marked_binary (Values.advance ty) _ _ (marked_way a) (marked_way b)
+    marked_way (AdvanceByOf ty a b) = marked_binary (Values.advance_by ty) _ _ (marked_way a) (marked_way b)
+    marked_way (RetreatOf ty a b) = marked_binary (Values.retreat ty) _ _ (marked_way a) (marked_way b)
+    marked_way (DistanceOf ty a b) = marked_binary (Values.apart ty) _ _ (marked_way a) (marked_way b)
     marked_way (ChoiceOf ty c a b) = marked_choose _ _ _ (marked_way c) (marked_way a) (marked_way b)
     marked_way (AssignTo a e) = marked_effective _ _
         (λ t l. let q = Expressions.seek size count a t l in
-        let r = Expressions.assigned size count true q (Expressions.way size count e).low in
+        let r = Assignments.assigned size count true q (Expressions.way size count e).low in
         marked_store_low r.place r l (marked_ready _ _ _ l q.labels _ _ _ (marked_seek a t l) ((marked_way e).low q.temps q.labels)))
         (λ t l. let q = Expressions.seek size count a t l in
-        let r = Expressions.assigned size count false q (Expressions.way size count e).low in
+        let r = Assignments.assigned size count false q (Expressions.way size count e).low in
         marked_store_drop r l (marked_ready _ _ _ l q.labels _ _ _ (marked_seek a t l) ((marked_way e).low q.temps q.labels)))
     marked_way (ArithmeticAssignTo op a e) = marked_updates (λ ty. Bin op) (Expressions.seek size count a) _ (λ t l. marked_seek a t l)
         (marked_way e)
-    marked_way (AdvanceAssignTo a e) = marked_updates Expressions.advance (Expressions.seek size count a) _ (λ t l. marked_seek a t l)
+    marked_way (AdvanceAssignTo a e) = marked_updates Values.advance (Expressions.seek size count a) _ (λ t l. marked_seek a t l)
         (marked_way e)
-    marked_way (RetreatAssignTo a e) = marked_updates Expressions.retreat (Expressions.seek size count a) _ (λ t l. marked_seek a t l)
+    marked_way (RetreatAssignTo a e) = marked_updates Values.retreat (Expressions.seek size count a) _ (λ t l. marked_seek a t l)
         (marked_way e)
     marked_way (CommaOf ty a b) = record {
       low = λ t l. marked_append nowhere l _ _ _ _ ((marked_way a).drop t l) ((marked_way b).low _ _);
@@ -166,4 +172,4 @@ module _ (size count : ℕ) where
         → Marked nowhere l (Expressions.pass size count es to t l).labels (Expressions.pass size count es to t l).items
     marked_pass NoExpressions to t l = marked_nil nowhere l
     marked_pass (MoreExpressions e es) to t l = marked_two nowhere _ _ _ l ((Expressions.way size count e).low t l).labels _ _ _
-        ((marked_way e).low t l) (marked_pass es (Expressions.others to) _ _)
+        ((marked_way e).low t l) (marked_pass es (Calls.others to) _ _)

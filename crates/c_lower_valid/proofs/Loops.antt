@@ -7,7 +7,10 @@ use Rattle.c_program.specs.Statements.{ADeclaration, KeepOf, ClearOf, BeginOf, A
 use Rattle.c_program.specs.Statements.{ReturnOf, IfOf, IfElseOf, WhileOf, DoOf, ForOf}
 use Rattle.c_sound.specs.Fits.{behind_act, FitsAct, FitsActs}
 use Rattle.c_lower_scheme.specs.Trees.{Num, Item, Label, AssignLoc, Jump, Ret}
+use Rattle.c_lower_scheme.specs.Parts
 use Rattle.c_lower_scheme.specs.Expressions
+use Rattle.c_lower_scheme.specs.Mentions
+use Rattle.c_lower_scheme.specs.Flow
 use Rattle.c_lower_scheme.specs.Statements
 use Rattle.c_lower_valid.proofs.Marks.{at, stands, aims, stands_append, aims_append, nowhere, Marked, marked_nil, marked_out, marked_append, marked_same, marked_plain}
 use Rattle.c_lower_valid.proofs.Marks.{marked_front, marked_count, IsMute, marked_inner, marked_fork}
@@ -104,7 +107,7 @@ marked_turns out l p q r a b c h g f =
     (λ m. omega (arith, stands_append m a T1, stands_append m b T2, stands_append m c T3, stands_append m a (b ++ c), stands_append m b c))
     (λ m lt. omega (arith, aims_append m a T1, aims_append m b T2, aims_append m c T3, aims_append m a (b ++ c), aims_append m b c))
 
-mute_clearing : (b : Bool) (n : ℕ) → IsMute (Statements.clearing b n)
+mute_clearing : (b : Bool) (n : ℕ) → IsMute (Flow.clearing b n)
 mute_clearing true n m = refl
 mute_clearing false n m = refl
 
@@ -123,16 +126,16 @@ module _ (size count : ℕ) where
       → Marked nowhere l (Statements.declare size count ds l).labels (Statements.declare size count ds l).items
   marked_declare [] l = marked_nil nowhere l
   marked_declare (KeepOf object ∷ ds) l = marked_declare ds l
-  marked_declare (ClearOf n ∷ ds) l = marked_front nowhere l _ (Statements.clearing true n) _ (mute_clearing true n) (marked_declare ds l)
+  marked_declare (ClearOf n ∷ ds) l = marked_front nowhere l _ (Flow.clearing true n) _ (mute_clearing true n) (marked_declare ds l)
   marked_declare (BeginOf n e ∷ ds) l =
       let q = (Expressions.way size count e).low size l in
-      let b = Statements.mentions n e in
-      marked_append nowhere l q.labels _ _ _ (marked_front nowhere l q.labels (Statements.clearing b n)
+      let b = Mentions.mentions n e in
+      marked_append nowhere l q.labels _ _ _ (marked_front nowhere l q.labels (Flow.clearing b n)
       (q.items ++ (AssignLoc n q.tree ∷ [])) (mute_clearing b n)
       (marked_plain nowhere l q.labels q.items (AssignLoc n q.tree ∷ []) ((marked_way size count e).low size l) (λ m. refl)))
       (marked_declare ds q.labels)
 
-  marked_while_by : (out : ℕ → ℕ) (o : Option ℕ) (c : AnExpression) (f : ℕ → ℕ → ℕ → Expressions.Emitted) (l : ℕ)
+  marked_while_by : (out : ℕ → ℕ) (o : Option ℕ) (c : AnExpression) (f : ℕ → ℕ → ℕ → Parts.Emitted) (l : ℕ)
       → ((lb lc m : ℕ) → Marked (leaving true lb lc) m (f lb lc m).labels (f lb lc m).items)
       → Marked out l (Statements.while_by size count o c f l).labels (Statements.while_by size count o c f l).items
   marked_while_by out (Some v) c f l h =
@@ -142,7 +145,7 @@ module _ (size count : ℕ) where
       let x = f (suc (suc l)) (suc l) (suc (suc (suc l))) in
       marked_loop out (suc l) l x.labels _ x.items _ (λ m. omega arith) (h (suc (suc l)) (suc l) (suc (suc (suc l)))) ((marked_way size count c).branch true l size x.labels)
 
-  marked_tested : (out : ℕ → ℕ) (o : Option ℕ) (c : AnExpression) (e : Option AnExpression) (l : ℕ) (f : ℕ → Expressions.Emitted)
+  marked_tested : (out : ℕ → ℕ) (o : Option ℕ) (c : AnExpression) (e : Option AnExpression) (l : ℕ) (f : ℕ → Parts.Emitted)
       → ((m : ℕ) → Marked (leaving true (suc (suc l)) (suc l)) m (f m).labels (f m).items)
       → Marked out l (Statements.for_tested size count o l c e f).labels (Statements.for_tested size count o l c e f).items
   marked_tested out (Some v) c e l f h =
@@ -156,7 +159,7 @@ module _ (size count : ℕ) where
       marked_turns out l b.labels s.labels _ b.items s.items _ (h (suc (suc (suc (suc l))))) (marked_effect e b.labels)
       ((marked_way size count c).branch true l size s.labels)
 
-  marked_for_of : (out : ℕ → ℕ) (c e : Option AnExpression) (l : ℕ) (f : ℕ → Expressions.Emitted)
+  marked_for_of : (out : ℕ → ℕ) (c e : Option AnExpression) (l : ℕ) (f : ℕ → Parts.Emitted)
       → ((m : ℕ) → Marked (leaving true (suc (suc l)) (suc l)) m (f m).labels (f m).items)
       → Marked out l (Statements.for_of size count l c e f).labels (Statements.for_of size count l c e f).items
   marked_for_of out None e l f h = let b = f (suc (suc (suc l))) in

@@ -5,7 +5,10 @@ use Rattle.std.proofs.lemmas.Bool.{cases_lt, cases_eq, eq-eqb, ne_eqb}
 use Rattle.gg_base.specs.declared.relation.Rel.{Rel}
 use Rattle.c_types.specs.declared.types.CType.{CType}
 use Rattle.c_lower_scheme.specs.Trees.{Tree, Num, Item, Label, AssignLoc, AssignArg, AssignMem, Cbr, Jump, Push, Call, Save, Ret, breaks}
-use Rattle.c_lower_scheme.specs.Expressions
+use Rattle.c_lower_scheme.specs.Parts
+use Rattle.c_lower_scheme.specs.Places
+use Rattle.c_lower_scheme.specs.Conditions
+use Rattle.c_lower_scheme.specs.Calls
 
 -- whether a number is a label's
 abbrev pub at : ℕ → ℕ → ℕ
@@ -136,29 +139,29 @@ marked_count out out' l u is js h le e k = record {
   aimed = λ m lt. ⊎_elim (λ z. omega (arith, e m, k m lt)) (λ z. omega (arith, e m, le m)) (lands h m);
 }
 
-pub mute_saving : (b : Bool) (u : ℕ) (w : Tree) → IsMute (Expressions.saving b u w)
+pub mute_saving : (b : Bool) (u : ℕ) (w : Tree) → IsMute (Places.saving b u w)
 mute_saving true u w m = refl
 mute_saving false u w m = refl
 
-pub mute_holding : (b : Bool) (u : ℕ) (s : Expressions.Where) → IsMute (Expressions.holding b u s)
-mute_holding b u (Expressions.InLoc n) m = refl
-mute_holding b u (Expressions.InArg n) m = refl
-mute_holding b u (Expressions.InMem a) m = mute_saving b u a m
+pub mute_holding : (b : Bool) (u : ℕ) (s : Parts.Where) → IsMute (Places.holding b u s)
+mute_holding b u (Parts.InLoc n) m = refl
+mute_holding b u (Parts.InArg n) m = refl
+mute_holding b u (Parts.InMem a) m = mute_saving b u a m
 
-pub mute_assign : (ty : CType) (s : Expressions.Where) (w : Tree) → IsMute (Expressions.assign_to ty s w ∷ [])
-mute_assign ty (Expressions.InLoc n) w m = refl
-mute_assign ty (Expressions.InArg n) w m = refl
-mute_assign ty (Expressions.InMem a) w m = refl
+pub mute_assign : (ty : CType) (s : Parts.Where) (w : Tree) → IsMute (Places.assign_to ty s w ∷ [])
+mute_assign ty (Parts.InLoc n) w m = refl
+mute_assign ty (Parts.InArg n) w m = refl
+mute_assign ty (Parts.InMem a) w m = refl
 
 pub mute_append : (a b : List Item) → IsMute a → IsMute b → IsMute (a ++ b)
 mute_append a b h g m = omega (arith, stands_append m a b, aims_append m a b, h m, g m)
 
-pub mute_pushes : (ws : List Tree) (is : List Item) → IsMute is → IsMute (Expressions.pushes ws is)
+pub mute_pushes : (ws : List Tree) (is : List Item) → IsMute is → IsMute (Calls.pushes ws is)
 mute_pushes [] is h = h
 mute_pushes (w ∷ ws) is h = mute_pushes ws (Push w ∷ is) (λ m. omega (arith, h m))
 
 -- in each of the three ways
-pub record MarkedWay (w : Expressions.Lowering) : Type 0 where
+pub record MarkedWay (w : Parts.Lowering) : Type 0 where
   pub low : (t l : ℕ) → Marked nowhere l (w.low t l).labels (w.low t l).items
   pub branch : (sense : Bool) (to t l : ℕ) → Marked (at to) l (w.branch sense to t l).labels (w.branch sense to t l).items
   pub drop : (t l : ℕ) → Marked nowhere l (w.drop t l).labels (w.drop t l).items
@@ -170,8 +173,8 @@ marked_branch r to a b l u is h = marked_same (at to) l u is (is ++ (Cbr r to a 
     (marked_out nowhere (at to) l u is (λ m. omega arith) h) (λ m. omega (arith, stands_append m is (Cbr r to a b ∷ [])))
     (λ m lt. omega (arith, aims_append m is (Cbr r to a b ∷ [])))
 
-pub marked_valued : (f : ℕ → ℕ → Expressions.Lowered) → ((t l : ℕ) → Marked nowhere l (f t l).labels (f t l).items)
-    → MarkedWay (Expressions.valued f)
+pub marked_valued : (f : ℕ → ℕ → Parts.Lowered) → ((t l : ℕ) → Marked nowhere l (f t l).labels (f t l).items)
+    → MarkedWay (Conditions.valued f)
 marked_valued f h = record {
   low = h;
   branch = λ sense to t l. marked_branch _ to (f t l).tree (Num 0) l (f t l).labels (f t l).items (h t l);
@@ -179,18 +182,18 @@ marked_valued f h = record {
       (mute_saving (breaks (f t l).tree) (f t l).temps (f t l).tree);
 }
 
-pub marked_effective : (f : ℕ → ℕ → Expressions.Lowered) (g : ℕ → ℕ → Expressions.Emitted)
+pub marked_effective : (f : ℕ → ℕ → Parts.Lowered) (g : ℕ → ℕ → Parts.Emitted)
     → ((t l : ℕ) → Marked nowhere l (f t l).labels (f t l).items) → ((t l : ℕ) → Marked nowhere l (g t l).labels (g t l).items)
-    → MarkedWay (Expressions.effective f g)
+    → MarkedWay (Conditions.effective f g)
 marked_effective f g h h' = record {
   low = h;
   branch = λ sense to t l. marked_branch _ to (f t l).tree (Num 0) l (f t l).labels (f t l).items (h t l);
   drop = h';
 }
 
-pub marked_conditional : (f : Bool → ℕ → ℕ → ℕ → Expressions.Emitted) (g : ℕ → ℕ → Expressions.Emitted)
+pub marked_conditional : (f : Bool → ℕ → ℕ → ℕ → Parts.Emitted) (g : ℕ → ℕ → Parts.Emitted)
     → ((sense : Bool) (to t l : ℕ) → Marked (at to) l (f sense to t l).labels (f sense to t l).items)
-    → ((t l : ℕ) → Marked nowhere l (g t l).labels (g t l).items) → MarkedWay (Expressions.conditional f g)
+    → ((t l : ℕ) → Marked nowhere l (g t l).labels (g t l).items) → MarkedWay (Conditions.conditional f g)
 marked_conditional f g h h' = record {
   low = λ t l.
       let b = f false l (suc t) (suc l) in
@@ -202,9 +205,9 @@ marked_conditional f g h h' = record {
 }
 
 pub marked_two : (out : ℕ → ℕ) (u : ℕ) (b : Bool) (w : Tree) (l p q : ℕ) (a c : List Item) → Marked out l p a → Marked out p q c
-    → Marked out l q (a ++ (Expressions.saving b u w ++ c))
-marked_two out u b w l p q a c h g = marked_append out l p q a (Expressions.saving b u w ++ c) h
-    (marked_front out p q (Expressions.saving b u w) c (mute_saving b u w) g)
+    → Marked out l q (a ++ (Places.saving b u w ++ c))
+marked_two out u b w l p q a c h g = marked_append out l p q a (Places.saving b u w ++ c) h
+    (marked_front out p q (Places.saving b u w) c (mute_saving b u w) g)
 
 -- the label stands behind both parts
 pub marked_inner : (out : ℕ → ℕ) (l p q : ℕ) (a c : List Item) → Marked (at l) (suc l) p a → Marked out p q c
@@ -221,8 +224,8 @@ marked_inner out l p q a c h g =
 pub marked_direct : (out : ℕ → ℕ) (l p q : ℕ) (a c : List Item) → Marked out (suc l) p a → Marked out p q c → Marked out l q (a ++ c)
 marked_direct out l p q a c h g = marked_wider out l (suc l) q (a ++ c) (omega arith) (marked_append out (suc l) p q a c h g)
 
-pub marked_chain : (stop sense : Bool) (a b : Expressions.Lowering) (to t l : ℕ) → MarkedWay a → MarkedWay b
-    → Marked (at to) l (Expressions.chain stop a b sense to t l).labels (Expressions.chain stop a b sense to t l).items
+pub marked_chain : (stop sense : Bool) (a b : Parts.Lowering) (to t l : ℕ) → MarkedWay a → MarkedWay b
+    → Marked (at to) l (Conditions.chain stop a b sense to t l).labels (Conditions.chain stop a b sense to t l).items
 marked_chain true true a b to t l h g = marked_direct (at to) l _ _ _ _ (h.branch true to t (suc l))
     (g.branch true to (a.branch true to t (suc l)).temps (a.branch true to t (suc l)).labels)
 marked_chain true false a b to t l h g = marked_inner (at to) l _ _ _ _ (h.branch true l t (suc l))
@@ -232,13 +235,13 @@ marked_chain false true a b to t l h g = marked_inner (at to) l _ _ _ _ (h.branc
 marked_chain false false a b to t l h g = marked_direct (at to) l _ _ _ _ (h.branch false to t (suc l))
     (g.branch false to (a.branch false to t (suc l)).temps (a.branch false to t (suc l)).labels)
 
-pub marked_chain_drop : (stop : Bool) (a b : Expressions.Lowering) (t l : ℕ) → MarkedWay a → MarkedWay b
-    → Marked nowhere l (Expressions.chain_drop a stop b t l).labels (Expressions.chain_drop a stop b t l).items
+pub marked_chain_drop : (stop : Bool) (a b : Parts.Lowering) (t l : ℕ) → MarkedWay a → MarkedWay b
+    → Marked nowhere l (Conditions.chain_drop a stop b t l).labels (Conditions.chain_drop a stop b t l).items
 marked_chain_drop stop a b t l h g = marked_inner nowhere l _ _ _ _ (h.branch stop l t (suc l))
     (g.drop (a.branch stop l t (suc l)).temps (a.branch stop l t (suc l)).labels)
 
-pub marked_drops : (a b : Expressions.Lowering) (t l : ℕ) → MarkedWay a → MarkedWay b
-    → Marked nowhere l (Expressions.drop_two a b t l).labels (Expressions.drop_two a b t l).items
+pub marked_drops : (a b : Parts.Lowering) (t l : ℕ) → MarkedWay a → MarkedWay b
+    → Marked nowhere l (Conditions.drop_two a b t l).labels (Conditions.drop_two a b t l).items
 marked_drops a b t l h g = marked_append nowhere l _ _ _ _ (h.drop t l) (g.drop (a.drop t l).temps (a.drop t l).labels)
 
 -- a test, a part, a jump over the other part, and that part

@@ -7,7 +7,7 @@ use Rattle.tree_core.specs.declared.program.TreeItem.TheVariants as item
 use Rattle.tree_core.specs.Items.{role_of, AllPush, CallsInOrder, nothing, other, call, saved}
 use Rattle.c_lower_scheme.specs.Trees.{Tree, Item, Label, AssignLoc, AssignArg, AssignMem, Cbr, Jump, Push, Call, Save, Ret}
 use Rattle.c_lower_scheme.specs.Spelling.{spelled, spelled_all}
-use Rattle.c_lower_scheme.specs.Expressions.{pushes, args_count}
+use Rattle.c_lower_scheme.specs.Calls.{pushes, args_count}
 
 order_append : {a : List TreeItem} (b : List TreeItem) → CallsInOrder a → CallsInOrder b → CallsInOrder (a ++ b)
 order_append b nothing g = g

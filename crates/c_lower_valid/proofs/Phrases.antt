@@ -11,7 +11,10 @@ use Rattle.c_types.specs.Typed.{ArithmeticAssignTo, AdvanceAssignTo, RetreatAssi
 use Rattle.c_sound.specs.Fits.{StandsIn, Fits, FitsAt, FitsAll}
 use Rattle.c_sound.specs.Stands.{Stands, StandsAt, StandAll, arguments, IsThere}
 use Rattle.c_lower_scheme.specs.Trees.{Num, Gaddr, Bin}
-use Rattle.c_lower_scheme.specs.Expressions.{where_of, address_tree, fitted, advance, advance_by, retreat, apart, args_count, callee_number, others}
+use Rattle.c_lower_scheme.specs.Places.{where_of, address_tree, fitted}
+use Rattle.c_lower_scheme.specs.Values.{advance, advance_by, retreat, apart}
+use Rattle.c_lower_scheme.specs.Calls.{args_count, callee_number, others}
+use Rattle.c_lower_scheme.specs.Assignments
 use Rattle.c_lower_scheme.specs.Expressions
 use Rattle.c_lower_valid.proofs.Named.{Scene}
 use Rattle.c_lower_valid.proofs.Fine.{Ok, fine_nil, OkWhere, FineFound, FinePassing, ok_fitted, ok_advance, ok_advance_by, ok_retreat, ok_apart, fine_over, fine_read, fine_address}
@@ -82,7 +85,7 @@ module _ (scene : Scene) (size count : ℕ) (takes : Callee → ℕ → Type 0)
         (callable_so g es to t l s.0) (fine_passing scope within es to f s.1 t l le))
     fine_way scope within (StepOf m by a) f s = fine_effective scene size count _ _
         (λ t l le. fine_step scene size count m by t (Expressions.seek size count a t l) (fine_seek scope within a f s t l le))
-        (λ t l le. fine_store_drop scene t (Expressions.step_ready size count by (Expressions.seek size count a t l))
+        (λ t l le. fine_store_drop scene t (Assignments.step_ready size count by (Expressions.seek size count a t l))
         (fine_step_ready scene size count by t (Expressions.seek size count a t l) (fine_seek scope within a f s t l le)))
     fine_way scope within (UnaryOf op e) f s = fine_unary scene size count op (Expressions.way size count e) (fine_way scope within e f s)
     fine_way scope within (CastTo ty e) f s = fine_mapped scene size count (fitted ty) (λ u w k. ok_fitted scene ty u w k)
@@ -121,11 +124,11 @@ module _ (scene : Scene) (size count : ℕ) (takes : Callee → ℕ → Type 0)
         (fine_way scope within a f.1 s.1) (fine_way scope within b f.2 s.2)
     fine_way scope within (AssignTo a e) f s = fine_effective scene size count _ _
         (λ t l le. let p = Expressions.seek size count a t l in
-        fine_store_low scene t (Expressions.assigned size count true p (Expressions.way size count e).low)
+        fine_store_low scene t (Assignments.assigned size count true p (Expressions.way size count e).low)
         (fine_assigned scene size count true t p (Expressions.way size count e) le (fine_seek scope within a f.0 s.0 t l le)
         (fine_way scope within e f.1 s.1)))
         (λ t l le. let p = Expressions.seek size count a t l in
-        fine_store_drop scene t (Expressions.assigned size count false p (Expressions.way size count e).low)
+        fine_store_drop scene t (Assignments.assigned size count false p (Expressions.way size count e).low)
         (fine_assigned scene size count false t p (Expressions.way size count e) le (fine_seek scope within a f.0 s.0 t l le)
         (fine_way scope within e f.1 s.1)))
     fine_way scope within (ArithmeticAssignTo op a e) f s = fine_update_by scene size count (λ ty. Bin op) (λ ty u x y h g. (h, g))

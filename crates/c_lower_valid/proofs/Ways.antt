@@ -10,10 +10,17 @@ use Rattle.c_types.specs.declared.typed.Moment.TheVariants as moments
 use Rattle.c_types.specs.declared.typed.Direction.{Direction}
 use Rattle.c_types.specs.Constants.{scale}
 use Rattle.c_lower_scheme.specs.Trees.{Tree, Num, Neg, Com, Label, AssignLoc, Jump}
-use Rattle.c_lower_scheme.specs.Expressions.{Lowered, Where, InLoc, InArg, InMem, Located, Emitted, Lowering, due, where_of, address_tree, fitted, read_from, test, dropped}
-use Rattle.c_lower_scheme.specs.Expressions.{truth_of, valued, conditional, effective, mapped, chained, goal, chain, chain_drop, drop_two, choose_low, choose_drop, choose, comma}
-use Rattle.c_lower_scheme.specs.Expressions.{pointed, advance, advance_by, retreat, apart, step, sensed, compare, passed_as, others, args_count, callee_number, store_low}
-use Rattle.c_lower_scheme.specs.Expressions.{store_drop}
+use Rattle.c_lower_scheme.specs.Parts.{Lowered, Where, InLoc, InArg, InMem, Located, Emitted, Lowering, due}
+use Rattle.c_lower_scheme.specs.Parts
+use Rattle.c_lower_scheme.specs.Places.{where_of, address_tree, fitted, read_from, pointed}
+use Rattle.c_lower_scheme.specs.Conditions.{test, dropped, truth_of, valued, conditional, effective, mapped, chained, goal, chain, chain_drop, drop_two, choose_low, choose_drop, choose}
+use Rattle.c_lower_scheme.specs.Conditions.{comma, sensed, compare}
+use Rattle.c_lower_scheme.specs.Conditions
+use Rattle.c_lower_scheme.specs.Values.{advance, advance_by, retreat, apart, step}
+use Rattle.c_lower_scheme.specs.Values
+use Rattle.c_lower_scheme.specs.Calls.{passed_as, others, args_count, callee_number}
+use Rattle.c_lower_scheme.specs.Assignments.{store_low, store_drop}
+use Rattle.c_lower_scheme.specs.Assignments
 use Rattle.c_lower_scheme.specs.Expressions
 use Rattle.c_lower_valid.proofs.Named.{Scene}
 use Rattle.c_lower_valid.proofs.Fine.{Ok, ok_up, fine_nil, fine_append, fine_up, fine_more, fine_one, fine_behind, fine_three, FineLow, FineTwo, FineFound, FineDone, FineReady}
@@ -64,7 +71,7 @@ module _ (scene : Scene) (size count : ℕ) where
       → FineWay (mapped f e)
   fine_mapped f k e h = fine_effective _ _ (λ t l le. fine_over scene f k t (e.low t l) (h.low t l le)) h.drop
 
-  fine_joined : (a b : Lowering) → FineWay a → FineWay b → (t l : ℕ) → size ≤ t → FineTwo scene t (Expressions.joined size count a b t l)
+  fine_joined : (a b : Lowering) → FineWay a → FineWay b → (t l : ℕ) → size ≤ t → FineTwo scene t (Values.joined size count a b t l)
   fine_joined a b h g t l le =
       let p = a.low t l in
       let x = h.low t l le in
@@ -72,12 +79,12 @@ module _ (scene : Scene) (size count : ℕ) where
       fine_join scene size count _ t p (b.low p.temps p.labels) x (g.low p.temps p.labels (omega arith))
 
   pub fine_binary : (f : Tree → Tree → Tree) → ((u : ℕ) (a b : Tree) → Ok scene u a → Ok scene u b → Ok scene u (f a b)) → (a b : Lowering)
-      → FineWay a → FineWay b → FineWay (Expressions.binary size count f a b)
-  fine_binary f k a b h g = fine_valued _ (λ t l le. fine_over_two scene f k t (Expressions.joined size count a b t l)
+      → FineWay a → FineWay b → FineWay (Values.binary size count f a b)
+  fine_binary f k a b h g = fine_valued _ (λ t l le. fine_over_two scene f k t (Values.joined size count a b t l)
       (fine_joined a b h g t l le))
 
   -- one part behind another
-  fine_then : (t : ℕ) (a b : Emitted) → Dones t a → Dones a.temps b → Dones t (Expressions.then_done a b)
+  fine_then : (t : ℕ) (a b : Emitted) → Dones t a → Dones a.temps b → Dones t (Parts.then_done a b)
   fine_then t a b h g =
       let le = h.grows in
       let le' = g.grows in
@@ -94,9 +101,9 @@ module _ (scene : Scene) (size count : ℕ) where
       let lx = x.grows in
       fine_then t p (b.drop p.temps p.labels) x (g.drop p.temps p.labels (omega arith))
 
-  pub fine_relation : (r : Rel) (a b : Lowering) → FineWay a → FineWay b → FineWay (Expressions.relation size count r a b)
+  pub fine_relation : (r : Rel) (a b : Lowering) → FineWay a → FineWay b → FineWay (Values.relation size count r a b)
   fine_relation r a b h g = fine_conditional _ _ (λ sense to t l le. fine_compare scene (sensed sense r) to t
-      (Expressions.joined size count a b t l) (fine_joined a b h g t l le)) (fine_drop_two a b h g)
+      (Values.joined size count a b t l) (fine_joined a b h g t l le)) (fine_drop_two a b h g)
 
   fine_chained : (s : Bool) (t l : ℕ) (p : Emitted) (f : ℕ → ℕ → Emitted) → Dones t p → Dones p.temps (f p.temps p.labels)
       → Dones t (chained s l p f)
@@ -114,7 +121,7 @@ module _ (scene : Scene) (size count : ℕ) where
   pub fine_chain : (stop : Bool) (a b : Lowering) → FineWay a → FineWay b → (sense : Bool) (to t l : ℕ) → size ≤ t
       → Dones t (chain stop a b sense to t l)
   fine_chain stop a b h g sense to t l le =
-      let s = Expressions.same stop sense in
+      let s = Conditions.same stop sense in
       let p = a.branch stop (goal s to l) t (suc l) in
       let x = h.branch stop (goal s to l) t (suc l) le in
       let lx = x.grows in
@@ -213,30 +220,30 @@ module _ (scene : Scene) (size count : ℕ) where
   -- `x op= e`, and `++` and `--`
   fine_updated : (f : CType → Tree → Tree → Tree) → ((ty : CType) (u : ℕ) (a b : Tree) → Ok scene u a → Ok scene u b
       → Ok scene u (f ty a b)) → (t : ℕ) (p : Located) (e : Lowering) → size ≤ t → FineFound scene t p → FineWay e
-      → FineReady scene t (Expressions.updated size count f p e.low)
+      → FineReady scene t (Assignments.updated size count f p e.low)
   fine_updated f k t p e le h g =
       let lx = h.grows in
       fine_update scene _ _ (f p.type) (k p.type) t p (e.low p.temps p.labels) h (g.low p.temps p.labels (omega arith))
 
   pub fine_update_by : (f : CType → Tree → Tree → Tree)
       → ((ty : CType) (u : ℕ) (a b : Tree) → Ok scene u a → Ok scene u b → Ok scene u (f ty a b)) → (p : ℕ → ℕ → Located) (e : Lowering)
-      → ((t l : ℕ) → size ≤ t → FineFound scene t (p t l)) → FineWay e → FineWay (Expressions.update_by size count f p e)
+      → ((t l : ℕ) → size ≤ t → FineFound scene t (p t l)) → FineWay e → FineWay (Assignments.update_by size count f p e)
   fine_update_by f k p e h g = fine_effective _ _
-      (λ t l le. fine_store_low scene t (Expressions.updated size count f (p t l) e.low) (fine_updated f k t (p t l) e le (h t l le) g))
-      (λ t l le. fine_store_drop scene t (Expressions.updated size count f (p t l) e.low) (fine_updated f k t (p t l) e le (h t l le) g))
+      (λ t l le. fine_store_low scene t (Assignments.updated size count f (p t l) e.low) (fine_updated f k t (p t l) e le (h t l le) g))
+      (λ t l le. fine_store_drop scene t (Assignments.updated size count f (p t l) e.low) (fine_updated f k t (p t l) e le (h t l le) g))
 
   pub fine_step_ready : (by : Direction) (t : ℕ) (p : Located) → FineFound scene t p
-      → FineReady scene t (Expressions.step_ready size count by p)
+      → FineReady scene t (Assignments.step_ready size count by p)
   fine_step_ready by t p h = fine_update scene _ false (step by) (ok_step scene by) t p _ h
       (fine_due (Num (scale p.type)) p.temps p.labels tt)
 
-  pub fine_step : (m : Moment) (by : Direction) (t : ℕ) (p : Located) → FineFound scene t p → Lows t (Expressions.step_low size count m by p)
-  fine_step moments.Before by t p h = fine_postfix scene _ (Expressions.step_tree size count by p.type)
+  pub fine_step : (m : Moment) (by : Direction) (t : ℕ) (p : Located) → FineFound scene t p → Lows t (Assignments.step_low size count m by p)
+  fine_step moments.Before by t p h = fine_postfix scene _ (Assignments.step_tree size count by p.type)
       (λ u w k. ok_step scene by u w (Num (scale p.type)) k tt) t p h
-  fine_step moments.After by t p h = fine_store_low scene t (Expressions.step_ready size count by p) (fine_step_ready by t p h)
+  fine_step moments.After by t p h = fine_store_low scene t (Assignments.step_ready size count by p) (fine_step_ready by t p h)
 
   pub fine_assigned : (between : Bool) (t : ℕ) (p : Located) (e : Lowering) → size ≤ t → FineFound scene t p → FineWay e
-      → FineReady scene t (Expressions.assigned size count between p e.low)
+      → FineReady scene t (Assignments.assigned size count between p e.low)
   fine_assigned between t p e le h g =
       let lx = h.grows in
       fine_ready scene _ t p (e.low p.temps p.labels) h (g.low p.temps p.labels (omega arith))

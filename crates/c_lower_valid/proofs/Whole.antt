@@ -16,7 +16,7 @@ use Rattle.tree_core.specs.Labels.{TargetsStand}
 use Rattle.tree_core.specs.Valid.{args_or, service_args, takes, ItemStands, ItemsStand, PushesStand}
 use Rattle.c_lower_scheme.specs.Trees.{Item, Num, Ret}
 use Rattle.c_lower_scheme.specs.Spelling.{spelled, spelled_all}
-use Rattle.c_lower_scheme.specs.Expressions.{callee_number}
+use Rattle.c_lower_scheme.specs.Calls.{callee_number}
 use Rattle.c_lower_scheme.specs.Programs.{body_of, items_of, function_of, lower_all}
 use Rattle.c_lower_valid.specs.Claim.{LoweredIsValid}
 use Rattle.c_lower_valid.proofs.Named.{Scene, AllName}

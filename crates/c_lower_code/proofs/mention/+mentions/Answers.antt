@@ -1,6 +1,6 @@
 use Rattle.std.proofs.Common.{rules, arith, ap, sym, ◌∙◌}
 use Rattle.c_types.proofs.Rows.{call_is}
-use Rattle.c_lower_scheme.specs.Statements.{mentions}
+use Rattle.c_lower_scheme.specs.Mentions.{mentions}
 use Rattle.c_lower_code.proofs.Calls.{call_falls}
 use Rattle.c_lower_code.proofs.mention.+mentions.Goals as goal
 

@@ -1,6 +1,6 @@
 use Rattle.std.proofs.Common.{rules, ◌≡◌, ◌++◌, ◌∷◌, [], subst, ap, ◌∙◌}
 use Rattle.std.proofs.lemmas.List.{map_push}
-use Rattle.c_lower_scheme.specs.Expressions.{pushes}
+use Rattle.c_lower_scheme.specs.Calls.{pushes}
 use Rattle.c_lower_code.specs.Views.{tree, all_items, all_trees}
 use Rattle.c_lower_code.proofs.Pushing.{pushed}
 use Rattle.c_lower_code.proofs.passing.push_all.Goals as goal

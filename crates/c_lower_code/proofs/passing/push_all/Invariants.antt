@@ -1,5 +1,5 @@
 use Rattle.std.proofs.Common.{◌≡◌, ◌++◌, [], length}
-use Rattle.c_lower_scheme.specs.Expressions.{pushes}
+use Rattle.c_lower_scheme.specs.Calls.{pushes}
 use Rattle.c_lower_code.specs.Views.{all_items, all_trees}
 use Rattle.c_lower_code.proofs.passing.push_all.Given as goal
 

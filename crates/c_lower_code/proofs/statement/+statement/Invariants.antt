@@ -1,6 +1,7 @@
 use Rattle.std.proofs.Common.{◌≡◌, ◌≤◌, drop}
 use Rattle.c_program.specs.Statements.{acts}
-use Rattle.c_lower_scheme.specs.Statements.{two_done, lower_row}
+use Rattle.c_lower_scheme.specs.Flow.{two_done}
+use Rattle.c_lower_scheme.specs.Statements.{lower_row}
 use Rattle.c_lower_code.specs.Views.{done}
 use Rattle.c_lower_code.proofs.statement.+statement.Given as goal
 

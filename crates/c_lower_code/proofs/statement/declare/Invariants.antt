@@ -1,7 +1,8 @@
 use Rattle.std.proofs.Common.{◌≡◌, ◌≤◌, drop}
 use Rattle.std.specs.Prelude.{map}
 use Rattle.c_program.specs.Statements.{declaration}
-use Rattle.c_lower_scheme.specs.Statements.{two_done, declare}
+use Rattle.c_lower_scheme.specs.Flow.{two_done}
+use Rattle.c_lower_scheme.specs.Statements.{declare}
 use Rattle.c_lower_code.specs.Views.{done}
 use Rattle.c_lower_code.proofs.statement.declare.Given as goal
 
