@@ -25,9 +25,13 @@ use Rattle.c_types.specs.Typed.{APlace, VariableAt, PointedBy, ElementBy, AnExpr
 use Rattle.c_types.specs.Typed.{SomeExpressions}
 use Rattle.c_program.specs.Need.{place_nodes, nodes, all_nodes}
 use Rattle.c_typed_scope.specs.declared.entry.Signature.{Signature}
-use Rattle.c_typed_operators.specs.Rules.{fits, plus_at, plus, unary, negation, indirection_at, indirection, element_at, element, index_of, address_by, address_of, address}
-use Rattle.c_typed_operators.specs.Rules.{prefix_of, step_at, step, cast_of, sizeof_of, sizeof_type_of, arms, choice_by, choice_of, comma_of, store, arithmetic_store}
-use Rattle.c_typed_operators.specs.Rules.{plus_store_at, minus_store_at, plus_store, minus_store, store_by, assign_of}
+use Rattle.c_typed_operators.specs.Rules.{fits, plus_at, plus}
+use Rattle.c_typed_operators.specs.Prefixes.{unary, negation, indirection_at, indirection, element_at, element}
+use Rattle.c_typed_operators.specs.Prefixes.{index_of, address_by, address_of, address, prefix_of, step_at, step}
+use Rattle.c_typed_operators.specs.Prefixes.{cast_of, sizeof_of, sizeof_type_of}
+use Rattle.c_typed_operators.specs.Choices.{arms, choice_by, choice_of, comma_of}
+use Rattle.c_typed_operators.specs.Stores.{store, arithmetic_store, plus_store_at, minus_store_at, plus_store}
+use Rattle.c_typed_operators.specs.Stores.{minus_store, store_by, assign_of}
 use Rattle.c_typed_operators.specs.Table.{IsSum, SumOfIntegers, PointerPlus, PlusPointer, IsDifference, DifferenceOfIntegers, PointerMinus, DifferenceOfPointers, IsOrdered}
 use Rattle.c_typed_operators.specs.Table.{OrderOfIntegers, OrderOfPointers, IsBinary}
 use Rattle.c_typed_expressions.specs.Expressions.{unfit, call_unless, called_by, called}

@@ -4,8 +4,11 @@ use Rattle.std.specs.Prelude.{if◌then◌else◌}
 use Rattle.c_tokens.specs.declared.marks.Mark.TheVariants as marks
 use Rattle.c_phrases.specs.declared.tree.TypeName.{TypeName}
 use Rattle.c_phrases.specs.Classes.{Placed, sign}
-use Rattle.c_phrases.specs.Phrases.{AnExp, name, number, str, paren, call, index, step_after, step_before, prefix, sizeof_exp, sizeof_type, cast, binary, choice, assign, comma}
-use Rattle.c_phrases.specs.Phrases.{SomeExps, no_exps, exps, binary_mark, step_mark, assign_mark, onto_stars, onto_type, onto_exp, onto_first, onto_others}
+use Rattle.c_phrases.specs.Phrases.{AnExp, name, number, str, paren, call, index, step_after, step_before, prefix}
+use Rattle.c_phrases.specs.Phrases.{sizeof_exp, sizeof_type, cast, binary, choice, assign, comma, SomeExps, no_exps}
+use Rattle.c_phrases.specs.Phrases.{exps}
+use Rattle.c_phrases.specs.Operators.{binary_mark, step_mark, assign_mark}
+use Rattle.c_phrases.specs.Spelling.{onto_stars, onto_type, onto_exp, onto_first, onto_others}
 use Rattle.c_types.specs.declared.typed.Moment.TheVariants as moments
 use Rattle.c_types.specs.Answers.{Fault, ◌>>=◌}
 use Rattle.c_types.specs.Typed.{AnExpression, LiteralAt, SomeExpressions}

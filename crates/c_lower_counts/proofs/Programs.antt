@@ -5,9 +5,11 @@ use Rattle.c_tokens.specs.declared.marks.Mark.TheVariants as marks
 use Rattle.c_phrases.specs.declared.operator.Spec.{Spec}
 use Rattle.c_phrases.specs.declared.tree.Named.{Named}
 use Rattle.c_phrases.specs.Classes.{Placed, sign}
-use Rattle.c_phrases.specs.Phrases.{onto_spec, onto_stars, onto_name}
-use Rattle.c_phrases.specs.Units.{SomeItems, AParam, SomeParams, no_params, void_word, params, AFunction, ADeclared, function, globals, AnExternal, onto_length, onto_named}
-use Rattle.c_phrases.specs.Units.{onto_param, onto_more_params, onto_params, onto_body, onto_declared, onto_static, onto_externals}
+use Rattle.c_phrases.specs.Spelling.{onto_spec, onto_stars, onto_name}
+use Rattle.c_phrases.specs.Units.{SomeItems, AParam, SomeParams, no_params, void_word, params, AFunction, ADeclared}
+use Rattle.c_phrases.specs.Units.{function, globals, AnExternal}
+use Rattle.c_phrases.specs.UnitSpelling.{onto_length, onto_named, onto_param, onto_more_params, onto_params}
+use Rattle.c_phrases.specs.UnitSpelling.{onto_body, onto_declared, onto_static, onto_externals}
 use Rattle.c_program.specs.Programs.{ARoutine, AProgram}
 use Rattle.c_syntax.proofs.ListLaws.{longer_length}
 use Rattle.c_syntax.proofs.ItemLaws.{longer_spec, longer_declarators}
@@ -16,7 +18,9 @@ use Rattle.c_typed_scope.specs.declared.entry.Entry.{Entry}
 use Rattle.c_typed_scope.specs.declared.entry.Signature.{Signature}
 use Rattle.c_typed_expressions.specs.Expressions.{written}
 use Rattle.c_typed_definition.specs.Declarations.{State}
-use Rattle.c_typed_definition.specs.Texts.{known, Text, with_declared, body_of, empty_text}
+use Rattle.c_typed_definition.specs.Signatures.{known}
+use Rattle.c_typed_definition.specs.Headings.{Text, with_declared, body_of}
+use Rattle.c_typed_definition.specs.Texts.{empty_text}
 use Rattle.c_typed_law.specs.Texts.{IsBody, IsFunction, IsExternalBy, AreExternals, IsText}
 use Rattle.c_lower_counts.specs.Sizes.{row_size, routines_size, program_size}
 use Rattle.c_lower_counts.specs.Claims.{ProgramsAreSmall, TypedHaveFewLabels}

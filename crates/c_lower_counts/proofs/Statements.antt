@@ -6,10 +6,14 @@ use Rattle.c_phrases.specs.declared.operator.Spec.{Spec}
 use Rattle.c_phrases.specs.declared.operator.Storage.{Storage}
 use Rattle.c_phrases.specs.declared.operator.Storage.TheVariants as storages
 use Rattle.c_phrases.specs.Classes.{Placed, word, sign}
-use Rattle.c_phrases.specs.Phrases.{AnExp, onto_exp, onto_spec, onto_name}
-use Rattle.c_phrases.specs.Units.{AnInit, value, elements, AnInitialised, ADeclarator, AStatement, block, empty, expression, break_off, continue_on, give_back, if_then}
-use Rattle.c_phrases.specs.Units.{if_else, while_loop, do_loop, for_loop, SomeItems, no_items, local_item, statement_item, onto_part, onto_length, onto_init, onto_initialised}
-use Rattle.c_phrases.specs.Units.{onto_declarator, onto_more_declarators, onto_declarators, onto_storage, onto_condition, onto_statement, onto_items, onto_trailing}
+use Rattle.c_phrases.specs.Phrases.{AnExp}
+use Rattle.c_phrases.specs.Spelling.{onto_exp, onto_spec, onto_name}
+use Rattle.c_phrases.specs.Units.{AnInit, value, elements, AnInitialised, ADeclarator, AStatement, block, empty}
+use Rattle.c_phrases.specs.Units.{expression, break_off, continue_on, give_back, if_then, if_else, while_loop}
+use Rattle.c_phrases.specs.Units.{do_loop, for_loop, SomeItems, no_items, local_item, statement_item}
+use Rattle.c_phrases.specs.UnitSpelling.{onto_part, onto_length, onto_init, onto_initialised, onto_declarator}
+use Rattle.c_phrases.specs.UnitSpelling.{onto_more_declarators, onto_declarators, onto_storage, onto_condition}
+use Rattle.c_phrases.specs.UnitSpelling.{onto_statement, onto_items, onto_trailing}
 use Rattle.c_types.specs.declared.types.CType.{CType}
 use Rattle.c_types.specs.Typed.{AnExpression}
 use Rattle.c_program.specs.Need.{nodes, maybe_nodes}
@@ -24,7 +28,7 @@ use Rattle.c_typed_expressions.specs.Phrases.{init_in}
 use Rattle.c_typed_expressions.specs.Expressions.{written}
 use Rattle.c_typed_definition.specs.Declarations.{State, with_local}
 use Rattle.c_typed_definition.specs.Statements.{entered}
-use Rattle.c_typed_law.specs.Objects.{IsBegun, IsAutomatic, IsLocal, AreLocals}
+use Rattle.c_typed_law.specs.Locals.{IsBegun, IsAutomatic, IsLocal, AreLocals}
 use Rattle.c_typed_law.specs.Statements.{IsFull, IsCondition, IsPart, IsTurn, IsReturn, IsStatement, AreItems}
 use Rattle.c_lower_counts.specs.Sizes.{declared_size, act_size, row_size}
 use Rattle.c_lower_counts.proofs.Phrases.{exp_nodes}

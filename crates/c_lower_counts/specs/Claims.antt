@@ -1,6 +1,7 @@
 -- What is claimed of the labels that lowering takes, and of the size of typed programs.
 use Rattle.std.specs.Prelude.{◌*◌, ◌<◌, ◌≤◌, length}
-use Rattle.c_phrases.specs.Units.{AUnit, unit_tokens}
+use Rattle.c_phrases.specs.Units.{AUnit}
+use Rattle.c_phrases.specs.UnitSpelling.{unit_tokens}
 use Rattle.c_program.specs.Programs.{AProgram}
 use Rattle.c_typed_law.specs.Texts.{IsText}
 use Rattle.c_typed_words.specs.Words.{HasTokens}

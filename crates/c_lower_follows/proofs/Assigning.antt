@@ -12,7 +12,7 @@ use Rattle.c_types.specs.declared.types.CType.{CType}
 use Rattle.c_meaning.specs.declared.store.Spot.{Spot}
 use Rattle.c_meaning.specs.declared.store.Spot.TheVariants.{Local, Parameter, Memory}
 use Rattle.c_meaning.specs.State.{State}
-use Rattle.c_meaning.specs.Meaning.{Rest, RestAt, read_at, store_at}
+use Rattle.c_meaning.specs.Values.{Rest, RestAt, read_at, store_at}
 use Rattle.c_lower_scheme.specs.Trees.{Tree, Loc, Arg, Indir, Item, AssignLoc, divides, reads, breaks, stable, is_leaf}
 use Rattle.c_lower_scheme.specs.Parts.{Lowered, Where, InLoc, InArg, InMem, Located, Assignable, is_nil}
 use Rattle.c_lower_scheme.specs.Places.{held, saving, saved, next_if, integer_of, read_from, assign_to}

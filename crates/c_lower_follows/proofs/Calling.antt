@@ -11,7 +11,7 @@ use Rattle.tree_meaning.specs.declared.value.Value.TheVariants.{Number, ZeroDivi
 use Rattle.tree_meaning.specs.State.{Activation, with_local, arrived}
 use Rattle.tree_meaning.specs.Values.{there}
 use Rattle.c_meaning.specs.State.{State}
-use Rattle.c_meaning.specs.Meaning.{RestAll, Behind, Next, Body, Rest}
+use Rattle.c_meaning.specs.Values.{RestAll, Behind, Next, Body, Rest}
 use Rattle.c_lower_scheme.specs.Trees.{Push, Call, Save, Tree, Loc, Item, AssignLoc, divides, reads, breaks, stable}
 use Rattle.c_lower_scheme.specs.Spelling.{spelled_all}
 use Rattle.c_lower_scheme.specs.Parts.{Passing, Lowered, is_nil}
@@ -37,7 +37,8 @@ use Rattle.c_types.specs.declared.typed.Callee.TheVariants as callees
 use Rattle.gg_base.specs.Runs.{emit}
 use Rattle.c_lower_follows.proofs.Carried.{called as called_tree, entered_is}
 use Rattle.std.proofs.lemmas.Option.{slice_get_past}
-use Rattle.c_meaning.specs.Meaning.{put_char, got, call, answer, back, begun as begun_source, entered, called as called_source}
+use Rattle.c_meaning.specs.Calls.{put_char, got, call, answer, back, begun as begun_source, entered}
+use Rattle.c_meaning.specs.Calls.{called as called_source}
 use Rattle.c_lower_scheme.specs.Programs.{body_of, items_of}
 use Rattle.c_lower_follows.proofs.Assigning.{agreed, gone, DoesLow}
 

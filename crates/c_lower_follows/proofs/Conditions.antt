@@ -8,7 +8,7 @@ use Rattle.tree_core.specs.declared.program.TreeItem.{TreeItem}
 use Rattle.tree_core.specs.declared.program.TreeProgram.{TreeProgram}
 use Rattle.tree_meaning.specs.State.{Activation, with_local, behind}
 use Rattle.c_meaning.specs.State.{State}
-use Rattle.c_meaning.specs.Meaning.{Rest, chosen}
+use Rattle.c_meaning.specs.Values.{Rest, chosen, logical}
 use Rattle.c_lower_scheme.specs.Trees.{Jump, Num, Item, Label, AssignLoc, Cbr}
 use Rattle.c_lower_scheme.specs.Spelling.{spelled_all}
 use Rattle.c_lower_scheme.specs.Parts.{with_done, then_done, Lowered, Pair, Emitted, Lowering}
@@ -21,7 +21,6 @@ use Rattle.gg_base.specs.declared.relation.Rel.{Rel}
 use Rattle.gg_base.specs.Relations.{holds}
 use Rattle.c_types.specs.Constants.{truth, apply_unary}
 use Rattle.c_types.specs.declared.typed.UnaryOperator.TheVariants as unaries
-use Rattle.c_meaning.specs.Meaning.{logical}
 use Rattle.c_lower_follows.proofs.Doing.{either_way, Agrees, here, Does, DoesTwo, Drops, Asks, DoesWay, assoc, split, save_temp, since_both, since_more, two_does, effective_does}
 use Rattle.c_lower_follows.proofs.Storing.{use_number}
 

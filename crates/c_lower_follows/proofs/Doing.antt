@@ -12,7 +12,7 @@ use Rattle.tree_meaning.specs.declared.value.Value.TheVariants.{Number, ZeroDivi
 use Rattle.tree_meaning.specs.State.{Activation, with_local, behind, arrived}
 use Rattle.tree_meaning.specs.Values.{bind, there}
 use Rattle.c_meaning.specs.State.{State}
-use Rattle.c_meaning.specs.Meaning.{Rest, chosen}
+use Rattle.c_meaning.specs.Values.{Rest, chosen}
 use Rattle.c_lower_scheme.specs.Trees.{Tree, Num, Item, AssignLoc, Cbr, divides, reads, breaks, stable}
 use Rattle.c_lower_scheme.specs.Spelling.{spelled, spelled_all}
 use Rattle.c_lower_scheme.specs.Parts.{Lowered, Pair, Emitted, Lowering, due, over, over_two}

@@ -10,7 +10,9 @@ use Rattle.tree_meaning.specs.Meaning.{runs}
 use Rattle.c_program.specs.Programs.{ARoutine, AProgram}
 use Rattle.c_meaning.specs.declared.flow.Flow.TheVariants.{Onward, Returned}
 use Rattle.c_meaning.specs.State.{State}
-use Rattle.c_meaning.specs.Meaning.{Behind, Task, Body, Next, task, begun}
+use Rattle.c_meaning.specs.Values.{Behind, Task, Body, Next}
+use Rattle.c_meaning.specs.Meaning.{task}
+use Rattle.c_meaning.specs.Calls.{begun}
 use Rattle.c_lower_scheme.specs.Trees.{Num, Ret}
 use Rattle.c_lower_scheme.specs.Spelling.{spelled_all}
 use Rattle.c_lower_scheme.specs.Parts.{Emitted}

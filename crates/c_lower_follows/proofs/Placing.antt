@@ -28,7 +28,7 @@ use Rattle.c_types.specs.Constants.{converted}
 use Rattle.c_meaning.specs.declared.store.Spot.{Spot}
 use Rattle.c_meaning.specs.declared.store.Spot.TheVariants.{Local, Parameter, Memory}
 use Rattle.c_meaning.specs.State.{State, integer_access, set_at, with_locals, with_parameters, with_area, put_local, put}
-use Rattle.c_meaning.specs.Meaning.{Rest, RestAt, or_wild, written, read_at, address_of}
+use Rattle.c_meaning.specs.Values.{Rest, RestAt, or_wild, written, read_at, address_of}
 use Rattle.c_lower_scheme.specs.Trees.{Tree, Indir, Item, divides}
 use Rattle.c_lower_scheme.specs.Spelling.{spelled_all}
 use Rattle.c_lower_scheme.specs.Parts.{Where, InLoc, InArg, InMem, Located, Assignable}

@@ -23,8 +23,9 @@ use Rattle.c_program.specs.Statements.{ReturnOf, IfOf, IfElseOf, WhileOf, DoOf, 
 use Rattle.c_program.specs.Programs.{ARoutine, AProgram}
 use Rattle.c_meaning.specs.declared.flow.Flow.TheVariants.{Onward, Broke, Continued, Returned}
 use Rattle.c_meaning.specs.State.{State, with_locals, put_local}
-use Rattle.c_meaning.specs.Meaning.{Behind, ALoop, plain_loop, for_loop, Task, Look, Next, chosen, written, expr, dropped, turned, turn_by, look_by, local_set, declared, followed, stmt, stmts, task}
-use Rattle.c_meaning.specs.Meaning.{returned as returned_source}
+use Rattle.c_meaning.specs.Values.{Behind, ALoop, plain_loop, for_loop, Task, Look, Next, chosen, written}
+use Rattle.c_meaning.specs.Meaning.{expr, dropped, turned, turn_by, look_by, local_set, declared, followed, stmt}
+use Rattle.c_meaning.specs.Meaning.{stmts, task, returned as returned_source}
 use Rattle.c_lower_scheme.specs.Trees.{Tree, Num, Item, Label, AssignLoc, Jump, Ret}
 use Rattle.c_lower_scheme.specs.Spelling.{spelled_all}
 use Rattle.c_lower_scheme.specs.Parts.{Emitted}

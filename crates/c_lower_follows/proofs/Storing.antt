@@ -16,7 +16,7 @@ use Rattle.c_types.specs.Constants.{converted}
 use Rattle.c_meaning.specs.declared.store.Spot.{Spot}
 use Rattle.c_meaning.specs.declared.store.Spot.TheVariants.{Parameter, Memory}
 use Rattle.c_meaning.specs.State.{State, integer_access, with_locals, with_parameters, with_area, put_local, put}
-use Rattle.c_meaning.specs.Meaning.{Rest, RestAt, written, store_at}
+use Rattle.c_meaning.specs.Values.{Rest, RestAt, written, store_at}
 use Rattle.c_lower_scheme.specs.Trees.{Gaddr, Neg, Com, Bin, Tree, Num, Loc, Arg, Indir, Conv, Item, AssignLoc, AssignArg, AssignMem, divides, stable, is_leaf}
 use Rattle.c_lower_scheme.specs.Spelling.{spelled_all}
 use Rattle.c_lower_scheme.specs.Parts.{Lowered, Where, InLoc, InArg, InMem, Located, Assignable}

@@ -39,7 +39,9 @@ use Rattle.c_program.specs.Programs.{ARoutine, AProgram}
 use Rattle.c_meaning.specs.declared.store.Spot.{Spot}
 use Rattle.c_meaning.specs.declared.store.Spot.TheVariants.{Memory}
 use Rattle.c_meaning.specs.State.{State, address, spot_of}
-use Rattle.c_meaning.specs.Meaning.{Rest, RestAt, Next, or_wild, or_trap, read_at, store_at, stepped, of_moment, step_at, address_of, located, array_address, expr, place, arguments}
+use Rattle.c_meaning.specs.Values.{Rest, RestAt, Next, or_wild, or_trap, read_at, store_at, stepped, of_moment}
+use Rattle.c_meaning.specs.Values.{step_at, address_of, located, array_address}
+use Rattle.c_meaning.specs.Meaning.{expr, place, arguments}
 use Rattle.c_lower_scheme.specs.Trees.{Tree, Num, Gaddr, Neg, Com, Bin, Item}
 use Rattle.c_lower_scheme.specs.Parts.{Lowered, Lowering, Located, due, over}
 use Rattle.c_lower_scheme.specs.Places.{where_of, address_tree, fitted, found, pointed, read_low, address_low}

@@ -13,8 +13,12 @@ use Rattle.c_meaning.specs.declared.frame.Frame.{Frame}
 use Rattle.c_meaning.specs.declared.frame.Control.TheVariants.{Block}
 use Rattle.c_meaning.specs.declared.store.Store.{Store}
 use Rattle.c_meaning.specs.State.{State}
-use Rattle.c_meaning.specs.Meaning.{Body, stmts, means, begun, at_first, finished, main_of, source}
-use Rattle.c_meaning.specs.Runner.{with_flow, stack, bottom, state, to_come}
+use Rattle.c_meaning.specs.Values.{Body}
+use Rattle.c_meaning.specs.Meaning.{stmts}
+use Rattle.c_meaning.specs.Programs.{means, at_first, finished, main_of, source}
+use Rattle.c_meaning.specs.Calls.{begun}
+use Rattle.c_meaning.specs.Pending.{with_flow, stack, bottom, to_come}
+use Rattle.c_meaning.specs.Parts.{state}
 use Rattle.c_meaning.proofs.Related.{means_is}
 
 pub begins : (typed : Bor Program) (input : Bor (List ℕ)) (g : Routine) (b : Bor (List Action)) (frames : Vec Frame) (store : Store) (locals area : List ℕ)

@@ -8,7 +8,8 @@ use Rattle.c_meaning.specs.declared.flow.Finish.{Finish}
 use Rattle.c_meaning.specs.declared.flow.Finish.TheVariants as finish
 use Rattle.c_meaning.specs.declared.machine.Machine.{Machine}
 use Rattle.c_meaning.specs.Turns.{answers, Answers, Turns}
-use Rattle.c_meaning.specs.Runner.{to_come, end_of, turn_of, turns_of}
+use Rattle.c_meaning.specs.Pending.{to_come, end_of}
+use Rattle.c_meaning.specs.Runner.{turn_of, turns_of}
 
 answers_emit : (b : ℕ) (r : Runs) (n : ℕ) → answers (emit b r) n ≡ turns.Wrote b ∷ answers r n
 answers_emit b r zero = refl

@@ -7,7 +7,9 @@ use Rattle.gg_base.specs.Runs.{Outcome, Runs, OneEnd}
 use Rattle.gg_base.specs.Lasting.{Grows, Lasts}
 use Rattle.gg_base.proofs.Lasting.{lasts_none, lasts_stop, lasts_emit, lasts_counted, one_end_of}
 use Rattle.c_program.specs.Programs.{ARoutine, AProgram}
-use Rattle.c_meaning.specs.Meaning.{Body, answer, finished, begun, at_first, main_of, source}
+use Rattle.c_meaning.specs.Values.{Body}
+use Rattle.c_meaning.specs.Calls.{answer, begun}
+use Rattle.c_meaning.specs.Programs.{finished, at_first, main_of, source}
 use Rattle.c_meaning.proofs.Related.{IsStop, Kept, Same, means_kept}
 
 not_spent : (e : End) → IsStop e → e ≡ Spent → ⊥

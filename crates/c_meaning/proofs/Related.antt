@@ -22,9 +22,13 @@ use Rattle.c_meaning.specs.declared.store.Spot.TheVariants.{Local, Parameter, Me
 use Rattle.c_meaning.specs.declared.flow.Flow.{Flow}
 use Rattle.c_meaning.specs.declared.flow.Flow.TheVariants.{Onward, Broke, Continued, Returned}
 use Rattle.c_meaning.specs.State.{State, address, spot_of, held, put_local, put}
-use Rattle.c_meaning.specs.Meaning.{Rest, RestAll, RestAt, Behind, ALoop, plain_loop, for_loop, Task, Look, Body, Next, chosen, or_wild, or_trap, written, read_at, store_at}
-use Rattle.c_meaning.specs.Meaning.{stepped, of_moment, step_at, address_of, located, array_address, passed, put_char, got, back, begun, called, call, expr, place, arguments}
-use Rattle.c_meaning.specs.Meaning.{dropped, tested, turned, turn_by, look_by, returned, local_set, declared, followed, stmt, stmts, task, task_at, means}
+use Rattle.c_meaning.specs.Values.{Rest, RestAll, RestAt, Behind, ALoop, plain_loop, for_loop, Task, Look, Body, Next}
+use Rattle.c_meaning.specs.Values.{chosen, or_wild, or_trap, written, read_at, store_at, stepped, of_moment, step_at}
+use Rattle.c_meaning.specs.Values.{address_of, located, array_address}
+use Rattle.c_meaning.specs.Calls.{passed, put_char, got, back, begun, called, call}
+use Rattle.c_meaning.specs.Meaning.{expr, place, arguments, dropped, tested, turned, turn_by, look_by, returned}
+use Rattle.c_meaning.specs.Meaning.{local_set, declared, followed, stmt, stmts, task}
+use Rattle.c_meaning.specs.Programs.{task_at, means}
 
 -- what the meaning stops with
 abbrev pub IsStop : End → Type 0

@@ -35,11 +35,17 @@ use Rattle.c_meaning.specs.declared.frame.Control.TheVariants as controls
 use Rattle.c_meaning.specs.declared.machine.Machine.{Machine}
 use Rattle.c_meaning.specs.State.{State}
 use Rattle.c_meaning.specs.declared.frame.Loop.{Loop}
-use Rattle.c_meaning.specs.Meaning.{Rest, RestAll, Look, Body, chosen, dropped, look_at, turn_at, means, passed, arguments, call, called, back, begun, expr, stmts}
+use Rattle.c_meaning.specs.Values.{Rest, RestAll, Look, Body, chosen}
+use Rattle.c_meaning.specs.Meaning.{dropped, look_at, turn_at, arguments, expr, stmts}
+use Rattle.c_meaning.specs.Programs.{means}
+use Rattle.c_meaning.specs.Calls.{passed, call, called, back, begun}
 use Rattle.c_meaning.proofs.Related.{means_is}
-use Rattle.c_meaning.specs.Runner.{with_value, with_flow, loop_of, maybe_bor, end_of, arguments_work, Signal, Valued, Leaves, Then, state, waits, to_come, stack, bottom, before}
-use Rattle.c_meaning.specs.Runner.{going, term_work, value_work, flow_work, frame_work, frames_work, control_work, work, Progress, Makes, Does, Steps, Goes, Waiting, Counts}
-use Rattle.c_meaning.specs.Runner.{Resumes, GoesOn, Reaches}
+use Rattle.c_meaning.specs.Pending.{with_value, with_flow, end_of, Signal, Valued, Leaves, Then, waits, to_come}
+use Rattle.c_meaning.specs.Pending.{stack, bottom, before, going}
+use Rattle.c_meaning.specs.Parts.{loop_of, maybe_bor, state}
+use Rattle.c_meaning.specs.Work.{arguments_work, term_work}
+use Rattle.c_meaning.specs.FrameWork.{value_work, flow_work, frame_work, frames_work, control_work, work}
+use Rattle.c_meaning.specs.Runner.{Progress, Makes, Does, Steps, Goes, Waiting, Counts, Resumes, GoesOn, Reaches}
 
 -- the work of one that is equal
 pub term_same : {a b : Expression} → a ≡ b → term_work (term a) ≡ term_work (term b)

@@ -6,7 +6,9 @@ use Rattle.gg_base.specs.declared.run.End.{End}
 use Rattle.gg_base.specs.declared.run.End.TheVariants.{Ended, Trapped, Wild, Deep, Spent, Broken}
 use Rattle.gg_base.specs.Runs.{Runs, stop, counted}
 use Rattle.c_program.specs.Programs.{ARoutine, AProgram}
-use Rattle.c_meaning.specs.Meaning.{Body, answer, finished, begun, at_first, main_of, source}
+use Rattle.c_meaning.specs.Values.{Body}
+use Rattle.c_meaning.specs.Calls.{answer, begun}
+use Rattle.c_meaning.specs.Programs.{finished, at_first, main_of, source}
 use Rattle.c_meaning.proofs.Related.{IsStop, Kept, Same, means_kept}
 
 -- with fewer than k counted turns and calls the run does not break

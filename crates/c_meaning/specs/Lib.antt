@@ -1,4 +1,11 @@
 pub mod State
+pub mod Values
+pub mod Calls
 pub mod Meaning
+pub mod Programs
 pub mod Turns
+pub mod Parts
+pub mod Pending
+pub mod Work
+pub mod FrameWork
 pub mod Runner

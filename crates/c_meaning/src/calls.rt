@@ -3,9 +3,13 @@
 ghost use Rattle.std.specs.Prelude.{◌≡◌, ◌+◌, ◌++◌, ◌∷◌, IfOk};
 ghost use Rattle.c_program.specs.Programs.{program as plain};
 ghost use Rattle.c_types.specs.Typed.{terms};
-ghost use Rattle.c_meaning.specs.Meaning.{arguments, passed, call, called, put_char, got, means};
+ghost use Rattle.c_meaning.specs.Meaning.{arguments};
+ghost use Rattle.c_meaning.specs.Calls.{passed, call, called, put_char, got};
+ghost use Rattle.c_meaning.specs.Programs.{means};
 ghost use Rattle.std.specs.Prelude.{slice_get};
-ghost use Rattle.c_meaning.specs.Runner.{Makes, with_value, arguments_work};
+ghost use Rattle.c_meaning.specs.Runner.{Makes};
+ghost use Rattle.c_meaning.specs.Pending.{with_value};
+ghost use Rattle.c_meaning.specs.Work.{arguments_work};
 
 use crate::flow::{Event, Finish};
 use crate::frame::{Control, FlowFrame, ValueFrame};

@@ -5,8 +5,12 @@ ghost use Rattle.c_meaning.specs.declared.frame.Control.TheVariants as controls;
 ghost use Rattle.c_program.specs.Programs.{program as plain};
 ghost use Rattle.c_types.specs.Typed.{term};
 ghost use Rattle.c_meaning.specs.State.{address};
-ghost use Rattle.c_meaning.specs.Meaning.{or_wild, or_trap, array_address, address_of, expr, means};
-ghost use Rattle.c_meaning.specs.Runner.{Makes, Does, Resumes, before, with_value, term_work};
+ghost use Rattle.c_meaning.specs.Values.{or_wild, or_trap, array_address, address_of};
+ghost use Rattle.c_meaning.specs.Meaning.{expr};
+ghost use Rattle.c_meaning.specs.Programs.{means};
+ghost use Rattle.c_meaning.specs.Runner.{Makes, Does, Resumes};
+ghost use Rattle.c_meaning.specs.Pending.{before, with_value};
+ghost use Rattle.c_meaning.specs.Work.{term_work};
 ghost use Rattle.c_meaning.specs.declared.frame.Frame.TheVariants as frames;
 ghost use Rattle.c_meaning.specs.declared.frame.ValueFrame.TheVariants as waiting;
 

@@ -1,7 +1,7 @@
 // How statements are left, how runs end, and what a step shows.
 
 ghost use Rattle.std.specs.Prelude.{◌≡◌};
-ghost use Rattle.c_meaning.specs.Meaning.{answer};
+ghost use Rattle.c_meaning.specs.Calls.{answer};
 ghost use Rattle.c_meaning.specs.Runner.{turn_of};
 
 use gg_base::SourceTurn;

@@ -3,10 +3,11 @@
 ghost use Rattle.std.specs.Prelude.{◌≡◌, IfOk};
 ghost use Rattle.gg_base.specs.Runs.{stop, emit, counted};
 ghost use Rattle.c_program.specs.Programs.{program as plain};
-ghost use Rattle.c_meaning.specs.Meaning.{source};
+ghost use Rattle.c_meaning.specs.Programs.{source};
 ghost use Rattle.c_meaning.specs.declared.frame.Control.TheVariants as controls;
 ghost use Rattle.c_meaning.specs.declared.frame.Frame.TheVariants as frames;
-ghost use Rattle.c_meaning.specs.Runner.{to_come, end_of, with_value, Makes, Steps, Does, Goes, Waiting, Counts, Reaches};
+ghost use Rattle.c_meaning.specs.Pending.{to_come, end_of, with_value};
+ghost use Rattle.c_meaning.specs.Runner.{Makes, Steps, Does, Goes, Waiting, Counts, Reaches};
 
 use crate::flow::{Event, Finish, Flow};
 use crate::frame::{Control, FlowFrame, Frame, ValueFrame};

@@ -1,8 +1,8 @@
 // What operators make of values.
 
 ghost use Rattle.std.specs.Prelude.{◌≡◌};
-ghost use Rattle.c_meaning.specs.Runner.{combined};
-ghost use Rattle.c_meaning.specs.Meaning.{logical, stepped, of_moment};
+ghost use Rattle.c_meaning.specs.Parts.{combined};
+ghost use Rattle.c_meaning.specs.Values.{logical, stepped, of_moment};
 
 use c_types::constant::{advance, apply, distance, retreat, truth};
 use c_types::{ArithmeticOperator, CType, Direction, Moment};

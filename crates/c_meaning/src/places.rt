@@ -3,8 +3,14 @@
 ghost use Rattle.std.specs.Prelude.{◌≡◌, ◌+◌, IfOk};
 ghost use Rattle.c_program.specs.Programs.{program as plain};
 ghost use Rattle.c_types.specs.Typed.{place_of, term};
-ghost use Rattle.c_meaning.specs.Meaning.{read_at, store_at, or_trap, expr, means, place, step_at};
-ghost use Rattle.c_meaning.specs.Runner.{Makes, used, changed, with_value, use_work, place_work, term_work, combined};
+ghost use Rattle.c_meaning.specs.Values.{read_at, store_at, or_trap, step_at, written};
+ghost use Rattle.c_meaning.specs.Meaning.{expr, place};
+ghost use Rattle.c_meaning.specs.Programs.{means};
+ghost use Rattle.c_meaning.specs.Runner.{Makes};
+ghost use Rattle.c_meaning.specs.Pending.{used, with_value};
+ghost use Rattle.c_meaning.specs.Parts.{changed, combined};
+ghost use Rattle.c_meaning.specs.FrameWork.{use_work};
+ghost use Rattle.c_meaning.specs.Work.{place_work, term_work};
 
 use crate::flow::{Event, Finish};
 use crate::frame::{Control, Use, ValueFrame};
@@ -129,5 +135,4 @@ impl<'a> Machine<'a> {
     }
 }
 
-ghost use Rattle.c_meaning.specs.Meaning.{written};
 ghost use Rattle.c_meaning.specs.State.{put};

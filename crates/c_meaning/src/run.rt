@@ -6,7 +6,9 @@ ghost use Rattle.gg_base.specs.declared.run.End.TheVariants.{Broken};
 ghost use Rattle.gg_base.specs.Runs.{OneEnd, Advances};
 ghost use Rattle.c_program.specs.Programs.{AProgram, program as plain};
 ghost use Rattle.c_meaning.specs.State.{State};
-ghost use Rattle.c_meaning.specs.Meaning.{source, Behind, Task, task, means};
+ghost use Rattle.c_meaning.specs.Programs.{source, means};
+ghost use Rattle.c_meaning.specs.Values.{Behind, Task};
+ghost use Rattle.c_meaning.specs.Meaning.{task};
 ghost use Rattle.c_meaning.specs.Turns.{answers, Answers};
 
 use crate::flow::Event;

@@ -4,8 +4,14 @@ ghost use Rattle.std.specs.Prelude.{◌≡◌, ◌+◌, IfOk};
 ghost use Rattle.c_program.specs.Programs.{program as plain};
 ghost use Rattle.c_program.specs.Statements.{maybe_term};
 ghost use Rattle.c_meaning.specs.declared.frame.Control.TheVariants as controls;
-ghost use Rattle.c_meaning.specs.Meaning.{chosen, local_set, look_at, turn_at, means, Look};
-ghost use Rattle.c_meaning.specs.Runner.{Makes, Does, GoesOn, going, with_flow, maybe_bor, loop_of, loop_work, control_work};
+ghost use Rattle.c_meaning.specs.Values.{chosen, Look};
+ghost use Rattle.c_meaning.specs.Meaning.{local_set, look_at, turn_at, dropped, returned};
+ghost use Rattle.c_meaning.specs.Programs.{means};
+ghost use Rattle.c_meaning.specs.Runner.{Makes, Does, GoesOn};
+ghost use Rattle.c_meaning.specs.Pending.{going, with_flow};
+ghost use Rattle.c_meaning.specs.Parts.{maybe_bor, loop_of};
+ghost use Rattle.c_meaning.specs.Work.{loop_work, again_to_do, maybe_work};
+ghost use Rattle.c_meaning.specs.FrameWork.{control_work};
 
 use crate::flow::{Event, Finish, Flow};
 use crate::frame::{Control, FlowFrame, Loop, ValueFrame};
@@ -178,6 +184,3 @@ fn part(e: &Option<Expression>) -> Option<&Expression>
         Some(e) => Some(e),
     }
 }
-
-ghost use Rattle.c_meaning.specs.Meaning.{dropped, returned};
-ghost use Rattle.c_meaning.specs.Runner.{again_to_do, maybe_work};

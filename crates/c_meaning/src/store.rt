@@ -3,7 +3,7 @@
 ghost use Rattle.std.specs.Prelude.{◌≡◌, ◌<◌, ◌+◌, [], IfOk, is_some, unwrap_or, replicate};
 ghost use Rattle.std.specs.Option.{option_copied};
 ghost use Rattle.c_meaning.specs.State.{access_size, held, put_local, put, spot_of, address};
-ghost use Rattle.c_meaning.specs.Runner.{state, activation, got_byte, got_rest};
+ghost use Rattle.c_meaning.specs.Parts.{state, activation, got_byte, got_rest};
 
 use c_types::constant::convert;
 use c_types::{CType, Integer, Variable};

@@ -1,9 +1,14 @@
 pub mod Classes
+pub mod Operators
 pub mod Phrases
+pub mod Spelling
 pub mod Levels
 pub mod Shapes
 pub mod Takes
 pub mod Units
+pub mod UnitSpelling
 pub mod Fits
+pub mod UnitLevels
+pub mod Grammar
 pub mod UnitShapes
 pub mod Fronts

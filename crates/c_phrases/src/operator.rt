@@ -1,6 +1,6 @@
 // Operators and type words.
 ghost use Rattle.std.specs.Prelude.{◌≡◌};
-ghost use Rattle.c_phrases.specs.Phrases.{level_of};
+ghost use Rattle.c_phrases.specs.Operators.{level_of};
 
 /// A binary operator.
 #[derive(Clone, Copy, Debug, PartialEq, Eq)]

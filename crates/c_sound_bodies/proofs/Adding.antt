@@ -22,7 +22,8 @@ use Rattle.c_typed_expressions.specs.Phrases.{init_in, brackets_in}
 use Rattle.c_typed_expressions.specs.Expressions.{written}
 use Rattle.c_typed_definition.specs.Declarations.{State, with_area, variable_of, array_entry}
 use Rattle.c_typed_law.specs.Values.{IsLength, IsElement, AreElements}
-use Rattle.c_typed_law.specs.Objects.{AreLaid, HoldsAtFirst, IsFilled, IsPlainObject, IsCountedArray, IsArrayObject, IsObjectBy, IsObject}
+use Rattle.c_typed_law.specs.Objects.{AreLaid, HoldsAtFirst, IsFilled, IsPlainObject, IsCountedArray, IsArrayObject}
+use Rattle.c_typed_law.specs.Objects.{IsObjectBy, IsObject}
 use Rattle.c_typed_law.proofs.Values.{length_means}
 use Rattle.c_typed_law.proofs.Objects.{object_means}
 use Rattle.c_typed_law.proofs.Statements.{items_mean}

@@ -5,8 +5,9 @@ use Rattle.c_phrases.specs.declared.operator.Spec.{Spec}
 use Rattle.c_phrases.specs.declared.operator.Storage.{Storage}
 use Rattle.c_phrases.specs.declared.operator.Storage.TheVariants as storages
 use Rattle.c_phrases.specs.Phrases.{AnExp}
-use Rattle.c_phrases.specs.Units.{AnInit, value, elements, ADeclarator, local_item, statement_item, AStatement, block, empty, expression, break_off, continue_on, give_back}
-use Rattle.c_phrases.specs.Units.{if_then, if_else, while_loop, do_loop, for_loop, SomeItems, no_items}
+use Rattle.c_phrases.specs.Units.{AnInit, value, elements, ADeclarator, local_item, statement_item, AStatement, block}
+use Rattle.c_phrases.specs.Units.{empty, expression, break_off, continue_on, give_back, if_then, if_else, while_loop}
+use Rattle.c_phrases.specs.Units.{do_loop, for_loop, SomeItems, no_items}
 use Rattle.c_types.specs.declared.types.CType.{CType}
 use Rattle.c_types.specs.Typed.{AnExpression}
 use Rattle.c_typed_scope.specs.declared.entry.Entry.{Entry}
@@ -18,7 +19,8 @@ use Rattle.c_typed_expressions.specs.Phrases.{init_in}
 use Rattle.c_typed_expressions.specs.Expressions.{written}
 use Rattle.c_typed_definition.specs.Declarations.{State, with_local}
 use Rattle.c_typed_definition.specs.Statements.{entered}
-use Rattle.c_typed_law.specs.Objects.{IsObject, IsBegun, IsAutomatic, IsLocal, AreLocals}
+use Rattle.c_typed_law.specs.Objects.{IsObject}
+use Rattle.c_typed_law.specs.Locals.{IsBegun, IsAutomatic, IsLocal, AreLocals}
 use Rattle.c_typed_law.specs.Statements.{IsFull, IsCondition, IsPart, IsTurn, IsReturn, IsStatement, AreItems}
 use Rattle.c_typed_words.specs.Phrases.{ExpOf, PartOf, InitOf, DeclaratorOf, DeclaratorsOf, StatementOf, ItemsOf}
 use Rattle.c_sound_bodies.specs.Claim.{InOrder}

@@ -8,14 +8,15 @@ use Rattle.c_types.specs.declared.typed.Moment.TheVariants as moments
 use Rattle.c_tokens.specs.declared.token.Token.{Token}
 use Rattle.c_types.specs.Answers.{Fault}
 use Rattle.c_types.specs.Typed.{AnExpression, SomeExpressions, MoreExpressions, CallOf, type_of}
-use Rattle.c_typed_operators.specs.Rules.{comma_of}
+use Rattle.c_typed_operators.specs.Choices.{comma_of}
 use Rattle.c_typed_scope.specs.declared.entry.Entry.{Entry}
 use Rattle.c_typed_scope.specs.declared.entry.Entry.TheVariants as entries
 use Rattle.c_typed_scope.specs.declared.entry.Signature.{Signature}
 use Rattle.c_typed_scope.specs.Scopes.{Scope}
 use Rattle.c_typed_scope.specs.Layout.{Area, literal}
-use Rattle.c_phrases.specs.Phrases.{AnExp, name, number, str, paren, call, index, step_after, step_before, prefix, sizeof_exp, sizeof_type, cast, binary, choice, assign, comma}
-use Rattle.c_phrases.specs.Phrases.{SomeExps, no_exps, exps}
+use Rattle.c_phrases.specs.Phrases.{AnExp, name, number, str, paren, call, index, step_after, step_before, prefix}
+use Rattle.c_phrases.specs.Phrases.{sizeof_exp, sizeof_type, cast, binary, choice, assign, comma, SomeExps, no_exps}
+use Rattle.c_phrases.specs.Phrases.{exps}
 use Rattle.c_typed_expressions.specs.Expressions.{written, callee_of, count, call_unless, called_by, called, unfit}
 use Rattle.c_typed_expressions.specs.Relations.{IsNamed, NamesVariable, NamesArray, IsTyped, AreTyped}
 use Rattle.c_sound.specs.Stands.{arguments}

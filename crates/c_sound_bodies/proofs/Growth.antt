@@ -11,8 +11,9 @@ use Rattle.c_typed_scope.specs.declared.entry.Entry.{Entry}
 use Rattle.c_typed_scope.specs.declared.entry.Signature.{Signature}
 use Rattle.c_typed_scope.specs.Scopes.{Scope}
 use Rattle.c_typed_scope.specs.Layout.{Area, aligned, with_object, placed, one_more_literal, literal}
-use Rattle.c_phrases.specs.Phrases.{AnExp, name, number, str, paren, call, index, step_after, step_before, prefix, sizeof_exp, sizeof_type, cast, binary, choice, assign, comma}
-use Rattle.c_phrases.specs.Phrases.{SomeExps, no_exps, exps}
+use Rattle.c_phrases.specs.Phrases.{AnExp, name, number, str, paren, call, index, step_after, step_before, prefix}
+use Rattle.c_phrases.specs.Phrases.{sizeof_exp, sizeof_type, cast, binary, choice, assign, comma, SomeExps, no_exps}
+use Rattle.c_phrases.specs.Phrases.{exps}
 use Rattle.c_typed_expressions.specs.Relations.{Beside, IsTyped, AreTyped}
 use Rattle.c_typed_words.specs.Phrases.{ExpOf, ExpsOf}
 use Rattle.c_typed_words.proofs.Any.{AnyToken, any_exp, any_exps}

@@ -20,7 +20,8 @@ use Rattle.c_typed_expressions.specs.Phrases.{init_in, brackets_in}
 use Rattle.c_typed_expressions.specs.Expressions.{written}
 use Rattle.c_typed_definition.specs.Declarations.{State, with_area, variable_of, label_of, counted_static, array_entry, laid}
 use Rattle.c_typed_law.specs.Values.{IsLength, IsElement, AreElements}
-use Rattle.c_typed_law.specs.Objects.{IsCount, AreLaid, HoldsAtFirst, IsFilled, IsPlainObject, IsCountedArray, IsArrayObject, IsObjectBy, IsObject}
+use Rattle.c_typed_law.specs.Objects.{IsCount, AreLaid, HoldsAtFirst, IsFilled, IsPlainObject, IsCountedArray}
+use Rattle.c_typed_law.specs.Objects.{IsArrayObject, IsObjectBy, IsObject}
 use Rattle.c_typed_law.proofs.Values.{length_means}
 use Rattle.c_typed_law.proofs.Objects.{object_means}
 use Rattle.c_sound_bodies.specs.Claim.{IsKnown, OfVariable, InOrder, Extends, Grows, ObjectsAreSound, LengthsAreSound}

@@ -24,9 +24,13 @@ use Rattle.c_types.specs.declared.typed.ArithmeticOperator.TheVariants as ariths
 use Rattle.c_types.specs.Answers.{Fault, ◌>>=◌}
 use Rattle.c_types.specs.Types.{is_integer, is_scalar, target, pointer_to, size_of}
 use Rattle.c_types.specs.Typed.{APlace, VariableAt, PointedBy, ElementBy, AnExpression, ReadOf, SizeofTerm, SizeOf, UnaryOf, CastTo, ArithmeticAssignTo, AssignTo, place_type, type_of, operand_size}
-use Rattle.c_typed_operators.specs.Rules.{fits, plus, binary_of, unary, negation, indirection_at, indirection, element_at, element, index_of, address_by, address_of, address}
-use Rattle.c_typed_operators.specs.Rules.{prefix_of, direction, step_at, step, cast_of, sizeof_of, sizeof_type_of, arms, choice_by, choice_of, store, arithmetic_store}
-use Rattle.c_typed_operators.specs.Rules.{plus_store_at, minus_store_at, plus_store, minus_store, store_by, assign_of}
+use Rattle.c_typed_operators.specs.Rules.{fits, plus, binary_of}
+use Rattle.c_typed_operators.specs.Prefixes.{unary, negation, indirection_at, indirection, element_at, element}
+use Rattle.c_typed_operators.specs.Prefixes.{index_of, address_by, address_of, address, prefix_of, direction, step_at}
+use Rattle.c_typed_operators.specs.Prefixes.{step, cast_of, sizeof_of, sizeof_type_of}
+use Rattle.c_typed_operators.specs.Choices.{arms, choice_by, choice_of}
+use Rattle.c_typed_operators.specs.Stores.{store, arithmetic_store, plus_store_at, minus_store_at, plus_store}
+use Rattle.c_typed_operators.specs.Stores.{minus_store, store_by, assign_of}
 use Rattle.c_typed_operators.specs.Table.{IsSum, SumOfIntegers, PointerPlus, PlusPointer, IsDifference, DifferenceOfIntegers, PointerMinus, DifferenceOfPointers, IsOrdered}
 use Rattle.c_typed_operators.specs.Table.{OrderOfIntegers, OrderOfPointers, IsBinary}
 use Rattle.c_typed_operators.proofs.Rows.{binary_means}

@@ -6,8 +6,9 @@ use Rattle.c_typed_scope.specs.declared.entry.Entry.{Entry}
 use Rattle.c_typed_scope.specs.declared.entry.Signature.{Signature}
 use Rattle.c_typed_scope.specs.Layout.{Area}
 use Rattle.c_phrases.specs.Phrases.{AnExp}
-use Rattle.c_phrases.specs.Units.{local_item, statement_item, AStatement, block, empty, expression, break_off, continue_on, give_back, if_then, if_else, while_loop, do_loop}
-use Rattle.c_phrases.specs.Units.{for_loop, SomeItems, no_items}
+use Rattle.c_phrases.specs.Units.{local_item, statement_item, AStatement, block, empty, expression, break_off}
+use Rattle.c_phrases.specs.Units.{continue_on, give_back, if_then, if_else, while_loop, do_loop, for_loop, SomeItems}
+use Rattle.c_phrases.specs.Units.{no_items}
 use Rattle.c_program.specs.Statements.{AnAction, SomeActions, ReturnOf}
 use Rattle.c_sound.specs.Fits.{behind_act, declaring, no_local}
 use Rattle.c_typed_expressions.specs.Relations.{IsTyped}

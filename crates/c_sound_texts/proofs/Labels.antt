@@ -23,7 +23,8 @@ use Rattle.c_typed_scope.specs.Contents.{Filled, filled_to, with_contents, fille
 use Rattle.c_typed_expressions.specs.Phrases.{init_in, brackets_in}
 use Rattle.c_typed_expressions.specs.Expressions.{written}
 use Rattle.c_typed_definition.specs.Declarations.{State, with_area, label_of, variable_of, counted_static, array_entry, laid}
-use Rattle.c_typed_law.specs.Objects.{IsCount, IsFilled, IsPlainObject, IsCountedArray, IsArrayObject, IsObjectBy, IsObject}
+use Rattle.c_typed_law.specs.Objects.{IsCount, IsFilled, IsPlainObject, IsCountedArray, IsArrayObject, IsObjectBy}
+use Rattle.c_typed_law.specs.Objects.{IsObject}
 use Rattle.c_typed_words.proofs.Any.{AnyToken, any_init, any_part}
 use Rattle.c_sound_bodies.proofs.Growth.{Laying}
 use Rattle.c_sound_bodies.proofs.Lengths.{count_stays}

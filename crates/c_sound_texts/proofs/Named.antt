@@ -22,8 +22,13 @@ use Rattle.c_sound.specs.Fits.{no_local}
 use Rattle.c_typed_expressions.specs.Phrases.{brackets_in, params_in}
 use Rattle.c_typed_expressions.specs.Expressions.{written}
 use Rattle.c_typed_definition.specs.Declarations.{State, with_area}
-use Rattle.c_typed_definition.specs.Texts.{parameter_type, Text, with_parameter, with_state, with_declared, with_body, body_of, entered_function, left_function, empty_text}
-use Rattle.c_typed_law.specs.Texts.{IsEarlier, IsParameterLength, AreParameters, IsBody, IsFunction, AreGlobals, IsExternalBy, AreExternals}
+use Rattle.c_typed_definition.specs.Signatures.{parameter_type}
+use Rattle.c_typed_definition.specs.Headings.{Text, with_parameter, with_state, with_declared, with_body, body_of}
+use Rattle.c_typed_definition.specs.Headings.{entered_function, left_function}
+use Rattle.c_typed_definition.specs.Texts.{empty_text}
+use Rattle.c_typed_law.specs.Headings.{IsEarlier}
+use Rattle.c_typed_law.specs.Texts.{IsParameterLength, AreParameters, IsBody, IsFunction, AreGlobals, IsExternalBy}
+use Rattle.c_typed_law.specs.Texts.{AreExternals}
 use Rattle.c_typed_law.specs.Statements.{AreItems}
 use Rattle.c_typed_law.proofs.Statements.{items_mean}
 use Rattle.c_typed_words.specs.Words.{IsName, IsToken}

@@ -31,7 +31,8 @@ use Rattle.c_typed_expressions.specs.Expressions.{count, written}
 use Rattle.c_typed_definition.specs.Forms.{text_of, array_form, form_fits, text_length, given_count, own_length}
 use Rattle.c_typed_definition.specs.Declarations.{State, with_area, measuring, variable_of, label_of, counted_static, array_entry, laid, text_contents}
 use Rattle.c_typed_law.specs.Values.{IsElement, AreElements}
-use Rattle.c_typed_law.specs.Objects.{IsCount, AreLaid, HoldsAtFirst, IsFilled, IsPlainObject, IsCountedArray, IsArrayObject, IsObjectBy, IsObject}
+use Rattle.c_typed_law.specs.Objects.{IsCount, AreLaid, HoldsAtFirst, IsFilled, IsPlainObject, IsCountedArray}
+use Rattle.c_typed_law.specs.Objects.{IsArrayObject, IsObjectBy, IsObject}
 use Rattle.c_sound.specs.Fits.{AreBytes}
 use Rattle.c_typed_words.specs.Words.{IsToken}
 use Rattle.c_typed_words.specs.Phrases.{ExpOf, ExpsOf, PartOf, BracketsOf, InitOf, DeclaratorOf}

@@ -6,8 +6,10 @@ use Rattle.c_phrases.specs.declared.operator.Storage.{Storage}
 use Rattle.c_phrases.specs.declared.operator.Storage.TheVariants as storages
 use Rattle.c_phrases.specs.declared.tree.Named.{Named}
 use Rattle.c_phrases.specs.Phrases.{AnExp}
-use Rattle.c_phrases.specs.Units.{AnInit, value, elements, ADeclarator, local_item, statement_item, AStatement, block, empty, expression, break_off, continue_on, give_back}
-use Rattle.c_phrases.specs.Units.{if_then, if_else, while_loop, do_loop, for_loop, SomeItems, no_items, AParam, AFunction, ADeclared, function, globals, AnExternal}
+use Rattle.c_phrases.specs.Units.{AnInit, value, elements, ADeclarator, local_item, statement_item, AStatement, block}
+use Rattle.c_phrases.specs.Units.{empty, expression, break_off, continue_on, give_back, if_then, if_else, while_loop}
+use Rattle.c_phrases.specs.Units.{do_loop, for_loop, SomeItems, no_items, AParam, AFunction, ADeclared, function}
+use Rattle.c_phrases.specs.Units.{globals, AnExternal}
 use Rattle.c_types.specs.declared.types.CType.{CType}
 use Rattle.c_types.specs.declared.typed.Variable.{Variable}
 use Rattle.c_types.specs.declared.typed.Variable.TheVariants as variables
@@ -22,10 +24,12 @@ use Rattle.c_typed_expressions.specs.Phrases.{init_in, brackets_in, params_in}
 use Rattle.c_typed_expressions.specs.Expressions.{written}
 use Rattle.c_typed_definition.specs.Declarations.{State, with_area, with_local, named_state}
 use Rattle.c_typed_definition.specs.Statements.{entered, left}
-use Rattle.c_typed_definition.specs.Texts.{parameter_type, Text, with_parameter, with_declared, entered_function, left_function}
-use Rattle.c_typed_law.specs.Objects.{IsBegun, IsLocal, AreLocals}
+use Rattle.c_typed_definition.specs.Signatures.{parameter_type}
+use Rattle.c_typed_definition.specs.Headings.{Text, with_parameter, with_declared, entered_function, left_function}
+use Rattle.c_typed_law.specs.Locals.{IsBegun, IsLocal, AreLocals}
 use Rattle.c_typed_law.specs.Statements.{IsFull, IsCondition, IsPart, IsTurn, IsReturn, IsStatement, AreItems}
-use Rattle.c_typed_law.specs.Texts.{IsParameterLength, AreParameters, IsBody, IsFunction, AreGlobals, IsExternalBy, AreExternals}
+use Rattle.c_typed_law.specs.Texts.{IsParameterLength, AreParameters, IsBody, IsFunction, AreGlobals, IsExternalBy}
+use Rattle.c_typed_law.specs.Texts.{AreExternals}
 use Rattle.c_typed_words.specs.Words.{IsToken}
 use Rattle.c_typed_words.specs.Phrases.{ExpOf, PartOf, BracketsOf, InitOf, DeclaratorOf, DeclaratorsOf, StatementOf, ItemsOf, ParamsOf, BodyOf, DeclaredOf, ExternalsOf}
 use Rattle.c_sound_bodies.specs.Claim.{OfVariable, NamesOf, BlocksOf, ScopeOf}

@@ -13,7 +13,9 @@ use Rattle.c_typed_scope.specs.declared.entry.Entry.TheVariants as entries
 use Rattle.c_typed_scope.specs.declared.entry.Signature.{Signature}
 use Rattle.c_program.specs.Programs.{AProgram}
 use Rattle.c_sound.specs.Sound.{HoldBytes, IsSound}
-use Rattle.c_typed_definition.specs.Texts.{known, services, service_names, Known, Text, main_of, empty_text}
+use Rattle.c_typed_definition.specs.Signatures.{known, services, service_names, Known}
+use Rattle.c_typed_definition.specs.Headings.{Text}
+use Rattle.c_typed_definition.specs.Texts.{main_of, empty_text}
 use Rattle.c_typed_law.specs.Texts.{AreExternals, IsText}
 use Rattle.c_typed_words.specs.Words.{IsToken}
 use Rattle.c_typed_words.specs.Phrases.{ExternalsOf}

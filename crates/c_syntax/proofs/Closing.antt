@@ -15,26 +15,44 @@ use Rattle.c_syntax_goals.specs.declared.fault.Fault.TheVariants.{NoMemory, NotH
 use Rattle.c_phrases.specs.declared.tree.Named.{Named}
 use Rattle.c_phrases.specs.Classes.{Placed, Class, class_of, key_class, mark_class, word, sign}
 use Rattle.c_phrases.specs.Classes as c
-use Rattle.c_phrases.specs.Phrases.{AnExp, SomeExps, no_exps, exps, onto_name, onto_exp, onto_others, onto_first, after_exp, IsAt, AllAt}
+use Rattle.c_phrases.specs.Phrases.{AnExp, SomeExps, no_exps, exps, after_exp, IsAt, AllAt}
+use Rattle.c_phrases.specs.Spelling.{onto_name, onto_exp, onto_others, onto_first}
 use Rattle.c_phrases.specs.Levels.{LowExps, limit}
-use Rattle.c_phrases.specs.Units.{ALength, AnInit, value, elements, AnInitialised, ADeclarator, AStatement, SomeItems, AParam, SomeParams, AnExternal, AUnit, onto_init}
-use Rattle.c_phrases.specs.Units.{onto_length, onto_initialised, onto_items, onto_statement, onto_local, onto_externals, if_else, expression, break_off, continue_on, give_back}
-use Rattle.c_phrases.specs.Units.{local_item, statement_item, ALocal, ADeclared}
-use Rattle.c_phrases.specs.Fits.{InitFits, LowInit, ExternalsFit, LowExternals}
+use Rattle.c_phrases.specs.Units.{ALength, AnInit, value, elements, AnInitialised, ADeclarator, AStatement, SomeItems}
+use Rattle.c_phrases.specs.Units.{AParam, SomeParams, AnExternal, AUnit, if_else, expression, break_off, continue_on}
+use Rattle.c_phrases.specs.Units.{give_back, local_item, statement_item, ALocal, ADeclared}
+use Rattle.c_phrases.specs.UnitSpelling.{onto_init, onto_length, onto_initialised, onto_items, onto_statement}
+use Rattle.c_phrases.specs.UnitSpelling.{onto_local, onto_externals}
+use Rattle.c_phrases.specs.Fits.{InitFits, ExternalsFit}
+use Rattle.c_phrases.specs.UnitLevels.{LowInit, LowExternals}
 use Rattle.c_phrases.specs.Fronts.{Quiet, IsNot, strength, mark_strength}
-use Rattle.c_syntax.specs.Reads.{NoName, IsRead, ReadsSpec, ReadsStars, ReadsType, ArgumentsSoFar, IsSome, Fails, Leads, TailFails, TailLeads, CondLeads}
-use Rattle.c_syntax.specs.Stands.{ReadsPart, ReadsCondition, ReadsStatement, ReadsParams, ReadsLocal, ReadsInit, ReadsElements, ReadsLength, ReadsExternals, ReadsExternal}
+use Rattle.c_syntax.specs.Reads.{NoName, IsRead, ReadsSpec, ReadsStars, ReadsType, ArgumentsSoFar, IsSome}
+use Rattle.c_syntax.specs.Leads.{Fails, Leads, TailFails, TailLeads, CondLeads}
+use Rattle.c_syntax.specs.Stands.{ReadsPart, ReadsCondition, ReadsStatement, ReadsParams, ReadsLocal, ReadsInit}
+use Rattle.c_syntax.specs.Stands.{ReadsElements, ReadsLength, ReadsExternals, ReadsExternal}
 use Rattle.c_phrases.specs.Fronts.{LocalClass, NoLocal, BeginsLocal}
-use Rattle.c_syntax.specs.Stands.{PartFails, MoreLeads, ItemsLead, ParamsLead, HasToken}
+use Rattle.c_syntax.specs.StatementLeads.{PartFails, MoreLeads, ItemsLead, ParamsLead, HasToken}
 use Rattle.c_phrases.specs.Takes.{TypeClass, NoTypeClass, IsTypeWord, NoTypeWord}
 use Rattle.std.specs.Bool.{MatchBool}
-use Rattle.c_syntax_goals.specs.Goals as Goals
-use Rattle.c_syntax_goals.specs.Goals.{Goal, Val, Stack, Done, Want, Steps, Opens, Refuses, Passes, turn, type_goals, stars_then, cond_goals, declarator_goals, declarator_behind}
-use Rattle.c_syntax_goals.specs.Goals.{globals_behind, if_goals, while_goals, do_goals, for_goals, local_rest, item_local, param_goals, param_behind, list_goals, some_params}
-use Rattle.c_syntax_goals.specs.Goals.{function_behind, declared_goals, external_rest, before}
-use Rattle.c_syntax_goals.specs.Goals.{Expr, Assign, Cast, Tail, Back, WantParen, WantBracket, WantSemi, WantWhile, TypeWords, AfterUnsigned, Stars, Condition, Simple, Statement}
-use Rattle.c_syntax_goals.specs.Goals.{Items, PartSemi, PartParen, ForOpen, ElsePart, Local, DeclaratorName, ArrayPart, Length, InitPart, Init, Elements, InitMore, InitNext}
-use Rattle.c_syntax_goals.specs.Goals.{MoreDeclarators, DeclaredName, AfterName, Body, Params, OptName, MoreParams, External, Whole}
+use Rattle.c_syntax_goals.specs.Types as Types
+use Rattle.c_syntax_goals.specs.Expressions as Expressions
+use Rattle.c_syntax_goals.specs.Declarators as Declarators
+use Rattle.c_syntax_goals.specs.Statements as Statements
+use Rattle.c_syntax_goals.specs.Wanted as Wanted
+use Rattle.c_syntax_goals.specs.Externals as Externals
+use Rattle.c_syntax_goals.specs.Goals.{Goal, Val, Stack, Done, Want, Steps, Opens, Refuses, Passes, Expr, Assign}
+use Rattle.c_syntax_goals.specs.Goals.{Cast, Tail, Back, WantParen, WantBracket, WantSemi, WantWhile, TypeWords}
+use Rattle.c_syntax_goals.specs.Goals.{AfterUnsigned, Stars, Condition, Simple, Statement, Items, PartSemi, PartParen}
+use Rattle.c_syntax_goals.specs.Goals.{ForOpen, ElsePart, Local, DeclaratorName, ArrayPart, Length, InitPart, Init}
+use Rattle.c_syntax_goals.specs.Goals.{Elements, InitMore, InitNext, MoreDeclarators, DeclaredName, AfterName, Body}
+use Rattle.c_syntax_goals.specs.Goals.{Params, OptName, MoreParams, External, Whole}
+use Rattle.c_syntax_goals.specs.Turns.{turn}
+use Rattle.c_syntax_goals.specs.Types.{type_goals, stars_then}
+use Rattle.c_syntax_goals.specs.Expressions.{cond_goals}
+use Rattle.c_syntax_goals.specs.Declarators.{declarator_goals, declarator_behind}
+use Rattle.c_syntax_goals.specs.Externals.{globals_behind, param_goals, param_behind, list_goals, some_params}
+use Rattle.c_syntax_goals.specs.Externals.{function_behind, declared_goals, external_rest, before}
+use Rattle.c_syntax_goals.specs.Statements.{if_goals, while_goals, do_goals, for_goals, local_rest, item_local}
 use Rattle.c_syntax_goals.specs.Machine.{run}
 use Rattle.c_syntax_goals.proofs.Tokens.{single, token_of}
 use Rattle.c_syntax_goals.proofs.Steps.{NoSet, back, expand_cond, step_refuses}
@@ -46,7 +64,7 @@ use Rattle.c_syntax_goals.proofs.Stating.{law_external}
 use Rattle.c_syntax.proofs.Exits.{IsReal, fails_when, real, fails_here, deep, opens, class_not, assign_leads, exp_leads, operand_leads, no_close, no_bracket}
 
 -- types
-unsigned_by : (k : Class) → (k ≢ c.Char) → (k ≢ c.Short) → (t : Placed) (at : ℕ) (κ : Spec → Stack) → Goals.unsigned_step k t at κ ≡ Refuses
+unsigned_by : (k : Class) → (k ≢ c.Char) → (k ≢ c.Short) → (t : Placed) (at : ℕ) (κ : Spec → Stack) → Types.unsigned_step k t at κ ≡ Refuses
 unsigned_by c.Char h i t at κ = absurd (h refl)
 unsigned_by c.Short h i t at κ = absurd (i refl)
 unsigned_by k h i t at κ = refl
@@ -59,7 +77,7 @@ no_unsigned at n κ (t ∷ ts) h i = rw (unsigned_by (class_of t.kind) (class_no
 pub unsigned_none : (at n : ℕ) (ts : List Placed) (f : Fault) → f ≡ NotHere (length ts) → IsNot (token.Key keys.Char) ts → IsNot (token.Key keys.Short) ts → Fails (Want (AfterUnsigned at)) n ts f
 unsigned_none at n ts f e h i = fails_here (Want (AfterUnsigned at)) n ts (length ts) f e (λ κ. no_unsigned at n κ ts h i)
 
-words_by : (k : Class) → (k ≢ c.Int) → (k ≢ c.Char) → (k ≢ c.Void) → (k ≢ c.Short) → (k ≢ c.Unsigned) → (t : Placed) (κ : Spec → Stack) → Goals.words_step k t κ ≡ Refuses
+words_by : (k : Class) → (k ≢ c.Int) → (k ≢ c.Char) → (k ≢ c.Void) → (k ≢ c.Short) → (k ≢ c.Unsigned) → (t : Placed) (κ : Spec → Stack) → Types.words_step k t κ ≡ Refuses
 words_by c.Int a b d e f t κ = absurd (a refl)
 words_by c.Char a b d e f t κ = absurd (b refl)
 words_by c.Void a b d e f t κ = absurd (d refl)
@@ -145,7 +163,7 @@ token_unset (token.Number v) q h = omega arith
 token_unset (token.Str b) q h = omega arith
 token_unset token.End q h = omega arith
 
-set_refused : (k : Class) → (NoSet k → ⊥) → (t : Placed) (n : ℕ) (l : AnExp) (κ : AnExp → Stack) → Goals.tail_turn k t n false l κ ≡ Steps Refuses
+set_refused : (k : Class) → (NoSet k → ⊥) → (t : Placed) (n : ℕ) (l : AnExp) (κ : AnExp → Stack) → Expressions.tail_turn k t n false l κ ≡ Steps Refuses
 set_refused c.Equals h t n l κ = refl
 set_refused c.Compound h t n l κ = refl
 set_refused k h t n l κ = absurd (h tt)
@@ -178,7 +196,7 @@ pub cond_leads_on : (n m j : ℕ) (ts rest last : List Placed) (e : AnExp) → I
 cond_leads_on n m j ts rest last e i l = λ f h. cond_tail n m ts rest e f i (l f h)
 
 -- initialisers
-init_more_by : (k : Class) → (k ≢ c.CloseBrace) → (k ≢ c.Comma) → (κ : SomeExps × Bool → Stack) → Goals.init_more_step k κ ≡ Refuses
+init_more_by : (k : Class) → (k ≢ c.CloseBrace) → (k ≢ c.Comma) → (κ : SomeExps × Bool → Stack) → Declarators.init_more_step k κ ≡ Refuses
 init_more_by c.CloseBrace h i κ = absurd (h refl)
 init_more_by c.Comma h i κ = absurd (i refl)
 init_more_by k h i κ = refl
@@ -296,7 +314,7 @@ not_named (token.Number v) h = number_not_name
 not_named (token.Str b) h = str_not_name
 not_named token.End h = end_not_name
 
-declarator_name_by : (k : Class) → (k ≢ c.Name) → (t : Placed) (ats : List ℕ) (κ : ADeclarator → Stack) → Goals.declarator_name_step k t ats κ ≡ Refuses
+declarator_name_by : (k : Class) → (k ≢ c.Name) → (t : Placed) (ats : List ℕ) (κ : ADeclarator → Stack) → Declarators.declarator_name_step k t ats κ ≡ Refuses
 declarator_name_by c.Name h t ats κ = absurd (h refl)
 declarator_name_by k h t ats κ = refl
 
@@ -315,7 +333,7 @@ pub declarator_leads : (n at : ℕ) (x : List ℕ) (ts rest after last : List Pl
     → Leads (declarator_behind ats x at) n after d n last → Leads declarator_goals n ts d n last
 declarator_leads n at x ts rest after last ats d s e l = λ κ. s.leads n (λ v. Want (DeclaratorName v) κ) ∙ rw e (l κ)
 
-more_declarators_by : (k : Class) → (k ≢ c.Semicolon) → (k ≢ c.Comma) → (κ : List ADeclarator → Stack) → Goals.more_declarators_step k κ ≡ Refuses
+more_declarators_by : (k : Class) → (k ≢ c.Semicolon) → (k ≢ c.Comma) → (κ : List ADeclarator → Stack) → Declarators.more_declarators_step k κ ≡ Refuses
 more_declarators_by c.Semicolon h i κ = absurd (h refl)
 more_declarators_by c.Comma h i κ = absurd (i refl)
 more_declarators_by k h i κ = refl
@@ -341,7 +359,7 @@ more_step n ts rest after behind d l e g = λ f h. l f (fails_when (Want MoreDec
     (λ r κ. rw e (g (λ x. Want MoreDeclarators (λ xs. κ (x ∷ xs))) ∙ real (Want MoreDeclarators) n behind f h r (λ xs. κ (d ∷ xs)))))
 
 -- local declarations
-local_by : (k : Class) → (k ≢ c.Static) → (k ≢ c.Register) → (t : Placed) (κ : ALocal → Stack) → Goals.local_step k t κ ≡ Goals.words_step k t (local_rest storages.Automatic κ)
+local_by : (k : Class) → (k ≢ c.Static) → (k ≢ c.Register) → (t : Placed) (κ : ALocal → Stack) → Statements.local_step k t κ ≡ Types.words_step k t (local_rest storages.Automatic κ)
 local_by c.Static h i t κ = absurd (h refl)
 local_by c.Register h i t κ = absurd (i refl)
 local_by k h i t κ = refl
@@ -374,7 +392,7 @@ pub local_more_err : (n : ℕ) (ts rest next last : List Placed) (st : Storage) 
 local_more_err n ts rest next last st s d f l g p h = fails_when (Want Local) n ts f (λ r κ. l n κ ∙ g.leads n _ ∙ p _ ∙ real (Want MoreDeclarators) n last f h r _)
 
 -- parts of statements
-semi_by : (k : Class) → (k ≢ c.Semicolon) → (s : Stack) → Goals.semi_step k s ≡ Refuses
+semi_by : (k : Class) → (k ≢ c.Semicolon) → (s : Stack) → Wanted.semi_step k s ≡ Refuses
 semi_by c.Semicolon h s = absurd (h refl)
 semi_by k h s = refl
 
@@ -403,7 +421,7 @@ paren_leads : (n : ℕ) (ts rest : List Placed) (e : Option AnExp) → ReadsPart
     ≡ run limit (κ e) n rest
 paren_leads n ts rest e r κ = rw (r.text) (law_paren limit e κ n rest r.fits r.low)
 
-condition_by : (k : Class) → (k ≢ c.OpenParen) → (t : Placed) (n : ℕ) (κ : ℕ × AnExp → Stack) → Goals.condition_step k t n κ ≡ Refuses
+condition_by : (k : Class) → (k ≢ c.OpenParen) → (t : Placed) (n : ℕ) (κ : ℕ × AnExp → Stack) → Statements.condition_step k t n κ ≡ Refuses
 condition_by c.OpenParen h t n κ = absurd (h refl)
 condition_by k h t n κ = refl
 
@@ -455,7 +473,7 @@ while_condition_err at n ts f h = fails_when (while_goals at) n ts f (λ r κ. r
 pub while_body_err : (at n o : ℕ) (ts rest : List Placed) (e : AnExp) (f : Fault) → ReadsCondition n o ts e rest → Fails (Want Statement) n rest f → Fails (while_goals at) n ts f
 while_body_err at n o ts rest e f g h = fails_when (while_goals at) n ts f (λ r κ. condition_leads n o ts rest e g _ ∙ real (Want Statement) n rest f h r _)
 
-while_by : (k : Class) → (k ≢ c.While) → (t : Placed) (κ : ℕ → Stack) → Goals.while_step k t κ ≡ Refuses
+while_by : (k : Class) → (k ≢ c.While) → (t : Placed) (κ : ℕ → Stack) → Wanted.while_step k t κ ≡ Refuses
 while_by c.While h t κ = absurd (h refl)
 while_by k h t κ = refl
 
@@ -481,7 +499,7 @@ pub do_semi : (at n p o : ℕ) (ts rest after last : List Placed) (s : AStatemen
 do_semi at n p o ts rest after last s x f g e i d = fails_here (do_goals at) n ts (length last) f d.0
     (λ κ. statement_leads n ts rest s g _ ∙ while_leads n p _ rest after e ∙ condition_leads n o after last x i _ ∙ no_semi n _ last d.1)
 
-for_by : (k : Class) → (k ≢ c.OpenParen) → (t : Placed) (κ : ℕ → Stack) → Goals.for_open_step k t κ ≡ Refuses
+for_by : (k : Class) → (k ≢ c.OpenParen) → (t : Placed) (κ : ℕ → Stack) → Statements.for_open_step k t κ ≡ Refuses
 for_by c.OpenParen h t κ = absurd (h refl)
 for_by k h t κ = refl
 
@@ -534,8 +552,8 @@ no_simple_of c.Continue a b d e = absurd (d refl)
 no_simple_of c.Return a b d e = absurd (e refl)
 no_simple_of k a b d e = tt
 
-simple_by : (k : Class) → NoSimple k → (t : Placed) (n : ℕ) (κ : AStatement → Stack) → Goals.simple_step k t n κ
-    ≡ Goals.expr_step k t n (λ e. Want (Back n) (λ x. Want WantSemi (λ y. κ (expression e))))
+simple_by : (k : Class) → NoSimple k → (t : Placed) (n : ℕ) (κ : AStatement → Stack) → Statements.simple_step k t n κ
+    ≡ Expressions.expr_step k t n (λ e. Want (Back n) (λ x. Want WantSemi (λ y. κ (expression e))))
 simple_by c.Semicolon h t n κ = absurd h
 simple_by c.Break h t n κ = absurd h
 simple_by c.Continue h t n κ = absurd h
@@ -617,8 +635,8 @@ pub record IsSimple (ts : List Placed) : Type 0 where
   pub no_do : IsNot (token.Key keys.Do) ts
   pub no_for : IsNot (token.Key keys.For) ts
 
-statement_by : (k : Class) → (k ≢ c.OpenBrace) → (k ≢ c.If) → (k ≢ c.While) → (k ≢ c.Do) → (k ≢ c.For) → (t : Placed) (n : ℕ) (κ : AStatement → Stack) → Goals.statement_step k t n κ
-    ≡ Goals.simple_step k t n κ
+statement_by : (k : Class) → (k ≢ c.OpenBrace) → (k ≢ c.If) → (k ≢ c.While) → (k ≢ c.Do) → (k ≢ c.For) → (t : Placed) (n : ℕ) (κ : AStatement → Stack) → Statements.statement_step k t n κ
+    ≡ Statements.simple_step k t n κ
 statement_by c.OpenBrace a b d e f t n κ = absurd (a refl)
 statement_by c.If a b d e f t n κ = absurd (b refl)
 statement_by c.While a b d e f t n κ = absurd (d refl)
@@ -635,8 +653,8 @@ pub simple_err : (n : ℕ) (ts : List Placed) (f : Fault) → IsSimple ts → Fa
 simple_err n ts f h d = fails_when (Want Statement) n ts f (λ r κ. expand_other n κ ts h ∙ real (Want Simple) n ts f d r κ)
 
 -- items
-local_or : (k : Class) → (LocalClass k → ⊥) → (k ≢ c.CloseBrace) → (t : Placed) (n : ℕ) (κ : SomeItems → Stack) → Goals.items_step k t n κ
-    ≡ Goals.statement_step k t n (λ s. Want Items (λ is. κ (statement_item s is)))
+local_or : (k : Class) → (LocalClass k → ⊥) → (k ≢ c.CloseBrace) → (t : Placed) (n : ℕ) (κ : SomeItems → Stack) → Statements.items_step k t n κ
+    ≡ Statements.statement_step k t n (λ s. Want Items (λ is. κ (statement_item s is)))
 local_or c.Static h i t n κ = absurd (h tt)
 local_or c.Register h i t n κ = absurd (h tt)
 local_or c.Int h i t n κ = absurd (h tt)
@@ -673,7 +691,7 @@ pub items_step_leads : (n : ℕ) (ts rest behind : List Placed) → ItemsLead n 
 items_step_leads n ts rest behind l g = λ f h. l f (g f h)
 
 -- parameters
-named_by : (k : Class) → (k ≢ c.Name) → (t : Placed) (n : ℕ) (κ : Option Named → Stack) → Goals.opt_name_turn k t n κ ≡ Passes n None
+named_by : (k : Class) → (k ≢ c.Name) → (t : Placed) (n : ℕ) (κ : Option Named → Stack) → Externals.opt_name_turn k t n κ ≡ Passes n None
 named_by c.Name h t n κ = absurd (h refl)
 named_by k h t n κ = refl
 
@@ -695,7 +713,7 @@ pub param_leads : (n : ℕ) (ts rest next last end : List Placed) (s : Spec) (at
     → Leads (Want OptName) n next m n last → Leads (Want ArrayPart) n last l n end → Leads param_goals n ts (record { spec = s; stars = ats; name = m; length = l }) n end
 param_leads n ts rest next last end s ats m l a b d h = λ κ. a.leads n _ ∙ b.leads n _ ∙ d _ ∙ h _
 
-more_params_by : (k : Class) → (k ≢ c.CloseParen) → (k ≢ c.Comma) → (κ : List AParam → Stack) → Goals.more_params_step k κ ≡ Refuses
+more_params_by : (k : Class) → (k ≢ c.CloseParen) → (k ≢ c.Comma) → (κ : List AParam → Stack) → Externals.more_params_step k κ ≡ Refuses
 more_params_by c.CloseParen h i κ = absurd (h refl)
 more_params_by c.Comma h i κ = absurd (i refl)
 more_params_by k h i κ = refl
@@ -723,8 +741,8 @@ pub list_close : (n : ℕ) (ts rest : List Placed) (f : Fault) → ParamsLead n 
     × IsNot (token.Mark marks.CloseParenthesis) rest → Fails list_goals n ts f
 list_close n ts rest f l i d = l f (fails_here (Want MoreParams) n rest (length rest) f d.0 (λ κ. no_params_more n κ rest d.1 i))
 
-params_by : (k : Class) → (k ≢ c.CloseParen) → (t : Placed) (κ : SomeParams → Stack) → Goals.params_step k t κ
-    ≡ Goals.words_step k t (λ s. param_behind s (λ p. Want MoreParams (λ ps. κ (some_params p ps))))
+params_by : (k : Class) → (k ≢ c.CloseParen) → (t : Placed) (κ : SomeParams → Stack) → Externals.params_step k t κ
+    ≡ Types.words_step k t (λ s. param_behind s (λ p. Want MoreParams (λ ps. κ (some_params p ps))))
 params_by c.CloseParen h t κ = absurd (h refl)
 params_by k h t κ = refl
 
@@ -736,7 +754,7 @@ pub params_err : (n : ℕ) (ts : List Placed) (f : Fault) → IsNot (token.Mark 
 params_err n ts f h d = fails_when (Want Params) n ts f (λ r κ. expand_params n κ ts h ∙ real list_goals n ts f d r κ)
 
 -- bodies and functions
-body_by : (k : Class) → (k ≢ c.Semicolon) → (k ≢ c.OpenBrace) → (n : ℕ) (κ : Option SomeItems → Stack) → Goals.body_step k n κ ≡ Refuses
+body_by : (k : Class) → (k ≢ c.Semicolon) → (k ≢ c.OpenBrace) → (n : ℕ) (κ : Option SomeItems → Stack) → Externals.body_step k n κ ≡ Refuses
 body_by c.Semicolon h i n κ = absurd (h refl)
 body_by c.OpenBrace h i n κ = absurd (i refl)
 body_by k h i n κ = refl
@@ -763,7 +781,7 @@ pub function_body_err : (ats x : List ℕ) (at o : ℕ) (ts rest : List Placed) 
 function_body_err ats x at o ts rest ps f g h = fails_when (function_behind ats x at o 0) 1 ts f (λ r κ. params_lead 1 ts rest ps g _ ∙ back limit 0 1 _ rest ∙ real (Want Body) 0 rest f h r _)
 
 -- what is declared at file level
-declared_name_by : (k : Class) → (k ≢ c.Name) → (t : Placed) (ats : List ℕ) (κ : ADeclared → Stack) → Goals.declared_name_step k t ats κ ≡ Refuses
+declared_name_by : (k : Class) → (k ≢ c.Name) → (t : Placed) (ats : List ℕ) (κ : ADeclared → Stack) → Externals.declared_name_step k t ats κ ≡ Refuses
 declared_name_by c.Name h t ats κ = absurd (h refl)
 declared_name_by k h t ats κ = refl
 
@@ -794,7 +812,7 @@ declared_more_err at x ats ts rest after last d f s e i l h = fails_when declare
     (λ r κ. named_leads at x ats κ ts rest after s e ∙ expand_after_name limit 0 ats x at κ after i ∙ l (globals_behind κ) ∙ real (Want MoreDeclarators) 0 last f h r _)
 
 -- externals and units
-external_by : (k : Class) → (k ≢ c.Static) → (t : Placed) (κ : AnExternal → Stack) → Goals.external_step k t κ ≡ Goals.words_step k t (external_rest None κ)
+external_by : (k : Class) → (k ≢ c.Static) → (t : Placed) (κ : AnExternal → Stack) → Externals.external_step k t κ ≡ Types.words_step k t (external_rest None κ)
 external_by c.Static h t κ = absurd (h refl)
 external_by k h t κ = refl
 
@@ -815,7 +833,7 @@ pub external_declared_err : (ts rest next : List Placed) (st : Option ℕ) (s : 
     → Fails (Want External) 0 ts f
 external_declared_err ts rest next st s f l g h = fails_when (Want External) 0 ts f (λ r κ. l κ ∙ g.leads 0 (external_rest st κ) ∙ real declared_goals 0 next f h r _)
 
-whole_by : (k : Class) → (k ≢ c.End) → (t : Placed) (κ : AUnit → Stack) → Goals.whole_step k t κ ≡ Goals.external_step k t (λ x. Want Whole (λ u. κ (before x u)))
+whole_by : (k : Class) → (k ≢ c.End) → (t : Placed) (κ : AUnit → Stack) → Externals.whole_step k t κ ≡ Externals.external_step k t (λ x. Want Whole (λ u. κ (before x u)))
 whole_by c.End h t κ = absurd (h refl)
 whole_by k h t κ = refl
 

@@ -20,17 +20,27 @@ use Rattle.c_syntax_goals.specs.declared.fault.Fault.TheVariants.{NoMemory, NotH
 use Rattle.c_phrases.specs.declared.tree.TypeName.{TypeName}
 use Rattle.c_phrases.specs.Classes.{Placed, Class, class_of, key_class, mark_class, word, sign}
 use Rattle.c_phrases.specs.Classes as c
-use Rattle.c_phrases.specs.Phrases.{AnExp, name, number, str, paren, call, index, step_after, sizeof_exp, comma, SomeExps, no_exps, exps, onto_name, onto_exp, onto_first}
-use Rattle.c_phrases.specs.Phrases.{onto_others, after_exp, IsAt, AllAt, binary_mark, prefix_mark, step_mark, assign_mark}
+use Rattle.c_phrases.specs.Phrases.{AnExp, name, number, str, paren, call, index, step_after, sizeof_exp, comma}
+use Rattle.c_phrases.specs.Phrases.{SomeExps, no_exps, exps, after_exp, IsAt, AllAt}
+use Rattle.c_phrases.specs.Spelling.{onto_name, onto_exp, onto_first, onto_others}
+use Rattle.c_phrases.specs.Operators.{binary_mark, prefix_mark, step_mark, assign_mark}
 use Rattle.c_phrases.specs.Levels.{LowExp, LowExps, limit}
 use Rattle.c_phrases.specs.Takes.{IsTypeWord, NoTypeWord, assign_of, prefix_of, step_of, NoPrefix, NoPrefixMark, NoStep, NoStepMark, NoAssign, NoAssignMark}
 use Rattle.c_phrases.specs.Fronts.{Quiet, IsNot, NoCast}
-use Rattle.c_syntax.specs.Reads.{NoName, NoNumber, NoString, BeginsCast, StopClass, IsStop, IsPart, IsRead, ReadsType, ArgumentsSoFar, ReadsArguments, IsSome, Fails, Leads}
-use Rattle.c_syntax.specs.Reads.{TailFails, TailLeads, PostFails, CommasFail}
+use Rattle.c_syntax.specs.Reads.{NoName, NoNumber, NoString, BeginsCast, StopClass, IsStop, IsPart, IsRead, ReadsType}
+use Rattle.c_syntax.specs.Reads.{ArgumentsSoFar, ReadsArguments, IsSome}
+use Rattle.c_syntax.specs.Leads.{Fails, Leads, TailFails, TailLeads, PostFails, CommasFail}
+use Rattle.c_syntax_goals.specs.Wanted as Wanted
+use Rattle.c_syntax_goals.specs.Expressions as Expressions
 use Rattle.c_syntax_goals.specs.Goals as Goals
-use Rattle.c_syntax_goals.specs.Goals.{Goal, Val, Stack, Want, Steps, Opens, Refuses, turn, insert, type_goals, cast_behind, paren_behind, sizeof_behind, cond_goals}
-use Rattle.c_syntax_goals.specs.Goals.{Expr, Commas, Assign, Cond, Cast, Unary, Primary, Parens, CallTail, PostTail, Ended, Tail, Group, SizeofTail, SizeofGroup, Arguments}
-use Rattle.c_syntax_goals.specs.Goals.{MoreArguments, Back, WantParen, WantBracket, WantColon}
+use Rattle.c_syntax_goals.specs.Goals.{Goal, Val, Stack, Want, Steps, Opens, Refuses, Expr, Commas, Assign, Cond}
+use Rattle.c_syntax_goals.specs.Goals.{Cast, Unary, Primary, Parens, CallTail, PostTail, Ended, Tail, Group}
+use Rattle.c_syntax_goals.specs.Goals.{SizeofTail, SizeofGroup, Arguments, MoreArguments, Back, WantParen}
+use Rattle.c_syntax_goals.specs.Goals.{WantBracket, WantColon}
+use Rattle.c_syntax_goals.specs.Turns.{turn}
+use Rattle.c_syntax_goals.specs.Expressions.{insert, cond_goals}
+use Rattle.c_syntax_goals.specs.Types.{type_goals}
+use Rattle.c_syntax_goals.specs.Groups.{cast_behind, paren_behind, sizeof_behind}
 use Rattle.c_syntax_goals.specs.Machine.{run}
 use Rattle.c_syntax_goals.proofs.Tokens.{single, token_of}
 use Rattle.c_syntax_goals.proofs.PhraseLaws.{limit_low}
@@ -84,23 +94,23 @@ pub unary_leads : (n m : ℕ) (ts rest : List Placed) (e : AnExp) → IsRead 14 
 unary_leads n m ts rest e r κ = rw (r.text, r.level) (law_unary limit e κ n rest r.at r.low r.quiet)
 
 -- refusals
-paren_by : (k : Class) → (k ≢ c.CloseParen) → (s : Stack) → Goals.paren_step k s ≡ Refuses
+paren_by : (k : Class) → (k ≢ c.CloseParen) → (s : Stack) → Wanted.paren_step k s ≡ Refuses
 paren_by c.CloseParen h s = absurd (h refl)
 paren_by k h s = refl
 
-bracket_by : (k : Class) → (k ≢ c.CloseBracket) → (s : Stack) → Goals.bracket_step k s ≡ Refuses
+bracket_by : (k : Class) → (k ≢ c.CloseBracket) → (s : Stack) → Wanted.bracket_step k s ≡ Refuses
 bracket_by c.CloseBracket h s = absurd (h refl)
 bracket_by k h s = refl
 
-colon_by : (k : Class) → (k ≢ c.Colon) → (s : Stack) → Goals.colon_step k s ≡ Refuses
+colon_by : (k : Class) → (k ≢ c.Colon) → (s : Stack) → Wanted.colon_step k s ≡ Refuses
 colon_by c.Colon h s = absurd (h refl)
 colon_by k h s = refl
 
-parens_by : (k : Class) → (k ≢ c.OpenParen) → (t : Placed) (n : ℕ) (κ : AnExp → Stack) → Goals.parens_step k t n κ ≡ Refuses
+parens_by : (k : Class) → (k ≢ c.OpenParen) → (t : Placed) (n : ℕ) (κ : AnExp → Stack) → Expressions.parens_step k t n κ ≡ Refuses
 parens_by c.OpenParen h t n κ = absurd (h refl)
 parens_by k h t n κ = refl
 
-more_by : (k : Class) → (k ≢ c.CloseParen) → (k ≢ c.Comma) → (n : ℕ) (κ : SomeExps → Stack) → Goals.more_arguments_step k n κ ≡ Refuses
+more_by : (k : Class) → (k ≢ c.CloseParen) → (k ≢ c.Comma) → (n : ℕ) (κ : SomeExps → Stack) → Expressions.more_arguments_step k n κ ≡ Refuses
 more_by c.CloseParen h i n κ = absurd (h refl)
 more_by c.Comma h i n κ = absurd (i refl)
 more_by k h i n κ = refl
@@ -208,7 +218,7 @@ assign_err n m i ts rest after e op at f b g t up h = fails_when (Want Assign) n
     ∙ real (Want Assign) i after f h r _)
 
 -- what is not assigned to
-set_refused : (k : Class) → (NoSet k → ⊥) → (t : Placed) (n : ℕ) (l : AnExp) (κ : AnExp → Stack) → Goals.tail_turn k t n false l κ ≡ Steps Refuses
+set_refused : (k : Class) → (NoSet k → ⊥) → (t : Placed) (n : ℕ) (l : AnExp) (κ : AnExp → Stack) → Expressions.tail_turn k t n false l κ ≡ Steps Refuses
 set_refused c.Equals h t n l κ = refl
 set_refused c.Compound h t n l κ = refl
 set_refused k h t n l κ = absurd (h tt)
@@ -383,7 +393,7 @@ no_step_of (token.Number v) e = tt
 no_step_of (token.Str b) e = tt
 no_step_of token.End e = tt
 
-primary_by : (k : Class) → NoOperator k → NoStepClass k → (k ≢ c.Sizeof) → (t : Placed) (n : ℕ) (κ : AnExp → Stack) → Goals.unary_step k t n κ ≡ Goals.primary_step k t n (λ p. Want (PostTail p) κ)
+primary_by : (k : Class) → NoOperator k → NoStepClass k → (k ≢ c.Sizeof) → (t : Placed) (n : ℕ) (κ : AnExp → Stack) → Expressions.unary_step k t n κ ≡ Expressions.primary_step k t n (λ p. Want (PostTail p) κ)
 primary_by c.Sign h i j t n κ = absurd h
 primary_by c.Star h i j t n κ = absurd h
 primary_by c.Lone h i j t n κ = absurd h
@@ -424,7 +434,7 @@ pub sizeof_close : (at n i o : ℕ) (ts inner rest : List Placed) (t : TypeName)
 sizeof_close at n i o ts inner rest t f e up g h = fails_here (Want (SizeofTail at)) n ts (length rest) f h.0
     (λ κ. sizeof_opens at n i o ts inner κ e up ∙ g.leads i (sizeof_behind at o n κ) ∙ no_close i _ rest h.1)
 
-stop_by : (k : Class) → StopClass k → (n : ℕ) → Goals.ended_turn k n ≡ Steps Refuses
+stop_by : (k : Class) → StopClass k → (n : ℕ) → Expressions.ended_turn k n ≡ Steps Refuses
 stop_by c.OpenParen h n = refl
 stop_by c.OpenBracket h n = refl
 stop_by c.Step h n = refl
@@ -453,7 +463,7 @@ NoWord c.Number = ⊥
 NoWord c.Str = ⊥
 NoWord k = Unit {0}
 
-no_word_by : (k : Class) → NoWord k → (t : Placed) (n : ℕ) (κ : AnExp → Stack) → Goals.primary_step k t n κ ≡ Goals.parens_step k t n κ
+no_word_by : (k : Class) → NoWord k → (t : Placed) (n : ℕ) (κ : AnExp → Stack) → Expressions.primary_step k t n κ ≡ Expressions.parens_step k t n κ
 no_word_by c.Name h t n κ = absurd h
 no_word_by c.Number h t n κ = absurd h
 no_word_by c.Str h t n κ = absurd h
@@ -483,7 +493,7 @@ parens_leads n i j o ts inner rest last e t up g b = λ κ. opens Parens κ n i 
     ∙ close_leads j rest last _ b ∙ back limit n j _ last
 
 -- behind a name
-call_not : (k : Class) → (k ≢ c.OpenParen) → (t : Placed) (n : ℕ) (x : List ℕ) (at : ℕ) (κ : AnExp → Stack) → Goals.call_turn k t n x at κ ≡ Goals.Passes n (name x at)
+call_not : (k : Class) → (k ≢ c.OpenParen) → (t : Placed) (n : ℕ) (x : List ℕ) (at : ℕ) (κ : AnExp → Stack) → Expressions.call_turn k t n x at κ ≡ Goals.Passes n (name x at)
 call_not c.OpenParen h t n x at κ = absurd (h refl)
 call_not k h t n x at κ = refl
 
@@ -574,7 +584,7 @@ pub post_more : (n i : ℕ) (ts after : List Placed) (op : StepOperator) (at : �
 post_more n i ts after op at f e up h = λ l. fails_when (Want (PostTail l)) n ts f
     (λ r κ. opens (PostTail l) κ n i 1 (sign (step_mark op) at) ts after _ (post_step op at n l κ) e up ∙ real (Want (PostTail (step_after l op at))) i after f (h (step_after l op at)) r κ)
 
-post_refuses : (k : Class) → StopClass k → (k ≢ c.OpenBracket) → NoStepClass k → (t : Placed) (n : ℕ) (l : AnExp) (κ : AnExp → Stack) → Goals.post_turn k t n l κ ≡ Steps Refuses
+post_refuses : (k : Class) → StopClass k → (k ≢ c.OpenBracket) → NoStepClass k → (t : Placed) (n : ℕ) (l : AnExp) (κ : AnExp → Stack) → Expressions.post_turn k t n l κ ≡ Steps Refuses
 post_refuses c.OpenParen h i j t n l κ = refl
 post_refuses c.OpenBracket h i j t n l κ = absurd (i refl)
 post_refuses c.Step h i j t n l κ = absurd j

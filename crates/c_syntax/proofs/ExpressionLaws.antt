@@ -9,9 +9,12 @@ use Rattle.c_phrases.specs.declared.tree.Expr.{Expr, Row_of-Expr, end_of-Expr, m
 use Rattle.c_phrases.specs.declared.tree.Expr.TheBlock.{hidden-the_row-Expr-0, items_hidden-the_row-Expr-0}
 use Rattle.c_phrases.specs.declared.tree.Expr.TheVariants.{Call}
 use Rattle.c_phrases.specs.Classes.{Placed, sign}
-use Rattle.c_phrases.specs.Phrases.{AnExp, name, number, str, paren, call, index, step_after, step_before, prefix, sizeof_exp, sizeof_type, cast, binary, choice, assign, comma}
-use Rattle.c_phrases.specs.Phrases.{SomeExps, no_exps, exps, onto_exp, onto_first, onto_others, onto_type, onto_spec, onto_stars, onto_int, onto_name, IsAt, AllAt, level_of}
-use Rattle.c_phrases.specs.Phrases.{binary_mark, step_mark, assign_mark}
+use Rattle.c_phrases.specs.Phrases.{AnExp, name, number, str, paren, call, index, step_after, step_before, prefix}
+use Rattle.c_phrases.specs.Phrases.{sizeof_exp, sizeof_type, cast, binary, choice, assign, comma, SomeExps, no_exps}
+use Rattle.c_phrases.specs.Phrases.{exps, IsAt, AllAt}
+use Rattle.c_phrases.specs.Spelling.{onto_exp, onto_first, onto_others, onto_type, onto_spec, onto_stars, onto_int}
+use Rattle.c_phrases.specs.Spelling.{onto_name}
+use Rattle.c_phrases.specs.Operators.{level_of, binary_mark, step_mark, assign_mark}
 use Rattle.c_phrases.specs.declared.tree.TypeName.{TypeName}
 use Rattle.c_phrases.specs.declared.operator.Spec.{Spec}
 use Rattle.c_phrases.specs.declared.operator.Spec.TheVariants as specs
@@ -24,7 +27,8 @@ use Rattle.c_phrases.specs.Takes.{NoBinary}
 use Rattle.c_syntax.proofs.Stops.{quiet_unjoined}
 use Rattle.c_syntax_goals.proofs.PhraseLaws.{lower, binary_strength, level_top, quieter, limit_low}
 use Rattle.c_syntax_goals.specs.Goals.{Want, CallTail}
-use Rattle.c_syntax.specs.Reads.{Leads, IsPart, IsRead, IsMore, Ready, IsSome, ArgumentsSoFar, ReadsArguments}
+use Rattle.c_syntax.specs.Leads.{Leads}
+use Rattle.c_syntax.specs.Reads.{IsPart, IsRead, IsMore, Ready, IsSome, ArgumentsSoFar, ReadsArguments}
 
 -- a call's arguments as a list
 exps_is : (c : _) (row : Row_of-Expr c) → exps_row row ≡ exp_list (items-the_row-Expr c row)

@@ -6,9 +6,11 @@ use Rattle.c_phrases.specs.declared.tree.Ast.{Ast}
 use Rattle.c_phrases.specs.UnitShapes.{unit_of}
 use Rattle.c_phrases.specs.Classes.{Placed, placed, seen}
 use Rattle.c_phrases.specs.Levels.{limit}
-use Rattle.c_phrases.specs.Units.{AUnit, unit_tokens}
-use Rattle.c_phrases.specs.Fits.{IsUnit}
-use Rattle.c_syntax_goals.specs.Openings.{Opening, levelled}
+use Rattle.c_phrases.specs.Units.{AUnit}
+use Rattle.c_phrases.specs.UnitSpelling.{unit_tokens}
+use Rattle.c_phrases.specs.Grammar.{IsUnit}
+use Rattle.c_syntax_goals.specs.Openings.{Opening}
+use Rattle.c_syntax_goals.specs.UnitOpenings.{levelled}
 use Rattle.c_tokens.specs.Grammar.{IsEnded}
 use Rattle.c_syntax_goals.specs.Refusals.{NoneDeep, FirstAreLow, FirstDeepIs, Begins, NotHereAt, TooDeepAt}
 use Rattle.c_syntax_goals.proofs.Lowness.{low_both}

@@ -16,12 +16,16 @@ use Rattle.c_phrases.specs.declared.tree.Item.TheBlock.{hidden-the_row-Item-0, i
 use Rattle.c_phrases.specs.declared.tree.Statement.{Row_of-Item, end_of-Item, more_of-Item, items-the_row-Item}
 use Rattle.c_phrases.specs.declared.tree.Statement.TheVariants.{Block}
 use Rattle.c_phrases.specs.Classes.{Placed, word, sign}
-use Rattle.c_phrases.specs.Phrases.{AnExp, onto_spec, onto_int}
+use Rattle.c_phrases.specs.Phrases.{AnExp}
+use Rattle.c_phrases.specs.Spelling.{onto_spec, onto_int}
 use Rattle.c_phrases.specs.Levels.{limit}
-use Rattle.c_phrases.specs.Units.{AStatement, block, empty, expression, break_off, continue_on, give_back, if_then, if_else, while_loop, do_loop, for_loop, SomeItems, no_items}
-use Rattle.c_phrases.specs.Units.{local_item, statement_item, ADeclarator, ALocal, onto_part, onto_condition, onto_statement, onto_items, onto_local, onto_storage}
-use Rattle.c_phrases.specs.Units.{onto_declarators, onto_more_declarators}
-use Rattle.c_phrases.specs.Fits.{ItemsFit, LowItems}
+use Rattle.c_phrases.specs.Units.{AStatement, block, empty, expression, break_off, continue_on, give_back, if_then}
+use Rattle.c_phrases.specs.Units.{if_else, while_loop, do_loop, for_loop, SomeItems, no_items, local_item}
+use Rattle.c_phrases.specs.Units.{statement_item, ADeclarator, ALocal}
+use Rattle.c_phrases.specs.UnitSpelling.{onto_part, onto_condition, onto_statement, onto_items, onto_local}
+use Rattle.c_phrases.specs.UnitSpelling.{onto_storage, onto_declarators, onto_more_declarators}
+use Rattle.c_phrases.specs.Fits.{ItemsFit}
+use Rattle.c_phrases.specs.UnitLevels.{LowItems}
 use Rattle.c_phrases.specs.UnitShapes.{local_of, statement_of, item_onto, items_row, items_of}
 use Rattle.c_syntax.specs.Stands.{ReadsItems, ReadsStatement}
 use Rattle.c_syntax.proofs.ExpressionLaws.{longer_exp}

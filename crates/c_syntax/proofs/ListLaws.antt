@@ -4,12 +4,15 @@ use Rattle.std.specs.Prelude.{Option, Some, None, Bool, true, false}
 use Rattle.c_tokens.specs.declared.marks.Mark.TheVariants as marks
 use Rattle.c_phrases.specs.declared.tree.Declarator.{Declarator}
 use Rattle.c_phrases.specs.Classes.{Placed, sign}
-use Rattle.c_phrases.specs.Phrases.{AnExp, SomeExps, no_exps, exps, onto_first, onto_stars, onto_name}
+use Rattle.c_phrases.specs.Phrases.{AnExp, SomeExps, no_exps, exps}
+use Rattle.c_phrases.specs.Spelling.{onto_first, onto_stars, onto_name}
 use Rattle.c_phrases.specs.Levels.{LowExps, limit}
 use Rattle.c_syntax.specs.Reads.{ArgumentsSoFar, IsSome as IsSomeExps}
-use Rattle.c_phrases.specs.Units.{ALength, AnInit, value, elements, AnInitialised, ADeclarator, onto_part, onto_length, onto_trailing, onto_init, onto_initialised, onto_declarator}
-use Rattle.c_phrases.specs.Units.{onto_more_declarators, onto_declarators}
-use Rattle.c_phrases.specs.Fits.{DeclaratorFits, DeclaratorsFit, HasDeclarator, IsSome, LowDeclarator, LowDeclarators}
+use Rattle.c_phrases.specs.Units.{ALength, AnInit, value, elements, AnInitialised, ADeclarator}
+use Rattle.c_phrases.specs.UnitSpelling.{onto_part, onto_length, onto_trailing, onto_init, onto_initialised}
+use Rattle.c_phrases.specs.UnitSpelling.{onto_declarator, onto_more_declarators, onto_declarators}
+use Rattle.c_phrases.specs.Fits.{DeclaratorFits, DeclaratorsFit, HasDeclarator, IsSome}
+use Rattle.c_phrases.specs.UnitLevels.{LowDeclarator, LowDeclarators}
 use Rattle.c_phrases.specs.UnitShapes.{declarator_of, declarators_of}
 use Rattle.c_syntax.specs.Stands.{ReadsElements, ReadsDeclarator, DeclaratorsSoFar}
 use Rattle.c_syntax.proofs.ExpressionLaws.{longer_exp, longer_first}

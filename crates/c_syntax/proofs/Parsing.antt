@@ -9,12 +9,13 @@ use Rattle.c_phrases.specs.Classes.{seen}
 use Rattle.c_tokens.specs.Grammar.{IsEnded}
 use Rattle.c_syntax_goals.specs.Refusals.{IsPlace, NotHereAt, Stops, TooDeepAt}
 use Rattle.c_phrases.specs.Levels.{limit}
-use Rattle.c_phrases.specs.Units.{AUnit, unit_tokens}
-use Rattle.c_phrases.specs.Fits.{IsUnit}
+use Rattle.c_phrases.specs.Units.{AUnit}
+use Rattle.c_phrases.specs.UnitSpelling.{unit_tokens}
+use Rattle.c_phrases.specs.Grammar.{IsUnit}
 use Rattle.c_syntax_goals.specs.Goals.{Want, Done, Whole}
 use Rattle.c_syntax_goals.specs.Machine.{run}
 use Rattle.c_syntax_goals.specs.declared.fault.Fault.TheVariants.{NotHere, TooDeep}
-use Rattle.c_syntax.specs.Reads.{Fails}
+use Rattle.c_syntax.specs.Leads.{Fails}
 use Rattle.c_syntax_goals.proofs.Stating.{law_unit}
 use Rattle.c_syntax_goals.proofs.Prefix.{same_unit, no_ok}
 use Rattle.c_syntax_goals.proofs.Faults.{here_some, too_deep_some, within_seen, refused_here, too_deep_there}

@@ -5,7 +5,7 @@ use Rattle.c_tokens.specs.declared.token.Token.TheVariants as token
 use Rattle.c_tokens.specs.declared.token.Spanned.{Spanned}
 use Rattle.c_tokens.specs.declared.marks.Mark.{Mark}
 use Rattle.c_phrases.specs.Classes.{Placed, seen}
-use Rattle.c_syntax.specs.Stands.{HasToken}
+use Rattle.c_syntax.specs.StatementLeads.{HasToken}
 use Rattle.c_phrases.specs.Takes.{NoMark, NoBinary, NoPrefix, NoStep, NoAssign, NoBinaryMark, NoPrefixMark, NoStepMark, NoAssignMark}
 
 pub length_seen : (ts : List Spanned) → length (seen ts) ≡ length ts

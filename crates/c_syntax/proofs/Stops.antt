@@ -8,7 +8,7 @@ use Rattle.c_tokens.specs.declared.marks.Mark.TheVariants as marks
 use Rattle.c_phrases.specs.declared.operator.StepOperator.{StepOperator}
 use Rattle.c_phrases.specs.declared.operator.StepOperator.TheVariants as steps
 use Rattle.c_phrases.specs.Classes.{Placed, mark_class, sign}
-use Rattle.c_phrases.specs.Phrases.{step_mark}
+use Rattle.c_phrases.specs.Operators.{step_mark}
 use Rattle.c_phrases.specs.Takes.{NoStep, NoStepMark, step_of, NoAssign, NoAssignMark, assign_of, NoBinary, NoBinaryMark, binary_of}
 use Rattle.c_phrases.specs.Fronts.{Quiet, IsNot, strength, mark_strength}
 use Rattle.c_syntax.specs.Reads.{IsStop, StopClass}

@@ -7,10 +7,11 @@ use Rattle.c_tokens.specs.declared.marks.Mark.TheVariants as marks
 use Rattle.c_phrases.specs.Classes.{Placed, Class, class_of, word, sign}
 use Rattle.c_phrases.specs.Classes as c
 use Rattle.c_syntax_goals.proofs.Tokens.{not_class}
-use Rattle.c_syntax_goals.specs.Goals.{Stack, Want, AfterShort, Stars, short_turn, Passes, stars_turn}
+use Rattle.c_syntax_goals.specs.Goals.{Stack, Want, AfterShort, Stars, Passes}
+use Rattle.c_syntax_goals.specs.Types.{short_turn, stars_turn}
 use Rattle.c_syntax_goals.specs.Machine.{run}
 use Rattle.c_phrases.specs.Levels.{limit}
-use Rattle.c_phrases.specs.Phrases.{onto_stars}
+use Rattle.c_phrases.specs.Spelling.{onto_stars}
 use Rattle.c_phrases.specs.Fronts.{IsNot}
 use Rattle.c_syntax.specs.Reads.{ReadsInt, ReadsStars, StarsSoFar}
 

@@ -10,14 +10,19 @@ use Rattle.c_phrases.specs.declared.tree.Param.{Param}
 use Rattle.c_phrases.specs.declared.tree.Named.{Named}
 use Rattle.c_phrases.specs.declared.tree.External.{External}
 use Rattle.c_phrases.specs.Classes.{Placed, word, sign}
-use Rattle.c_phrases.specs.Phrases.{onto_spec, onto_stars, onto_name}
+use Rattle.c_phrases.specs.Spelling.{onto_spec, onto_stars, onto_name}
 use Rattle.c_phrases.specs.Levels.{limit}
-use Rattle.c_phrases.specs.Units.{ALength, AParam, SomeParams, no_params, void_word, params, SomeItems, AnExternal, ADeclared, function, globals, onto_params, onto_body}
-use Rattle.c_phrases.specs.Units.{onto_length, onto_named, onto_param, onto_more_params, onto_param_list, onto_external, onto_externals, onto_static, onto_declared}
-use Rattle.c_phrases.specs.Fits.{ParamFits, ParamsFit, IsVoid, IsBare, SomeParamsFit, ExternalsFit, LowLength, LowParams, LowExternals}
+use Rattle.c_phrases.specs.Units.{ALength, AParam, SomeParams, no_params, void_word, params, SomeItems, AnExternal}
+use Rattle.c_phrases.specs.Units.{ADeclared, function, globals}
+use Rattle.c_phrases.specs.UnitSpelling.{onto_params, onto_body, onto_length, onto_named, onto_param}
+use Rattle.c_phrases.specs.UnitSpelling.{onto_more_params, onto_param_list, onto_external, onto_externals}
+use Rattle.c_phrases.specs.UnitSpelling.{onto_static, onto_declared}
+use Rattle.c_phrases.specs.Fits.{ParamFits, ParamsFit, IsVoid, IsBare, SomeParamsFit, ExternalsFit}
+use Rattle.c_phrases.specs.UnitLevels.{LowLength, LowParams, LowExternals}
 use Rattle.c_phrases.specs.UnitShapes.{param_of, param_list, external_of, externals_of}
-use Rattle.c_phrases.specs.Fits.{IsUnit}
-use Rattle.c_syntax.specs.Stands.{ReadsParam, HasParam, ParamsSoFar, ReadsParams, NoVoidAlone, ReadsExternal, ReadsExternals}
+use Rattle.c_phrases.specs.Grammar.{IsUnit}
+use Rattle.c_syntax.specs.Stands.{ReadsParam, HasParam, ParamsSoFar, ReadsParams, ReadsExternal, ReadsExternals}
+use Rattle.c_syntax.specs.StatementLeads.{NoVoidAlone}
 use Rattle.c_syntax.proofs.ListLaws.{longer_length}
 use Rattle.c_syntax.proofs.ItemLaws.{longer_spec, longer_declarators, longer_items}
 

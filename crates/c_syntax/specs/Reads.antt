@@ -1,22 +1,19 @@
 -- What a function of the parser answers.
-use Rattle.std.specs.Prelude.{◌≡◌, ◌≢◌, ◌≤◌, ℕ, ◌+◌, List, [], ◌∷◌, ◌++◌, Option, Err, false}
+use Rattle.std.specs.Prelude.{◌≡◌, ◌≢◌, ◌≤◌, ℕ, ◌+◌, List, [], ◌∷◌, ◌++◌, Option}
 use Rattle.c_tokens.specs.declared.token.Token.TheVariants as token
 use Rattle.c_tokens.specs.declared.words.Key.TheVariants as keys
 use Rattle.c_tokens.specs.declared.marks.Mark.TheVariants as marks
-use Rattle.c_syntax_goals.specs.declared.fault.Fault.{Fault}
-use Rattle.c_syntax_goals.specs.declared.fault.Fault.TheVariants.{NoMemory, NotHere, TooDeep}
 use Rattle.c_phrases.specs.Classes.{Placed, Class, class_of, word}
 use Rattle.c_phrases.specs.Classes as c
-use Rattle.c_syntax_goals.specs.Goals.{Stack, Want, PostTail, Commas, Tail, AfterShort, AfterUnsigned, TypeWords, Stars}
-use Rattle.c_syntax_goals.specs.Goals.{type_goals, cond_goals}
-use Rattle.c_syntax_goals.specs.Machine.{run}
-use Rattle.c_phrases.specs.declared.operator.Spec.{Spec as SpecWords}
+use Rattle.c_syntax_goals.specs.Goals.{Want, AfterShort, AfterUnsigned, TypeWords, Stars}
+use Rattle.c_syntax_goals.specs.Types.{type_goals}
 use Rattle.c_phrases.specs.declared.tree.TypeName.{TypeName}
-use Rattle.c_phrases.specs.Phrases.{AnExp, SomeExps, no_exps, exps, onto_exp, onto_int, onto_spec, onto_stars}
-use Rattle.c_phrases.specs.Phrases.{onto_type, onto_first, AllAt, IsAt, after_exp}
+use Rattle.c_phrases.specs.Phrases.{AnExp, SomeExps, no_exps, exps, AllAt, IsAt, after_exp}
+use Rattle.c_phrases.specs.Spelling.{onto_exp, onto_int, onto_spec, onto_stars, onto_type, onto_first}
 use Rattle.c_phrases.specs.Takes.{IsTypeWord}
 use Rattle.c_phrases.specs.Levels.{LowExp, LowExps, limit}
 use Rattle.c_phrases.specs.Fronts.{Quiet}
+use Rattle.c_syntax.specs.Leads.{Leads}
 
 -- a primary is read, which begins at level n and ends at level m
 pub record IsPart (n : ℕ) (ts : List Placed) (e : AnExp) (rest : List Placed) (m : ℕ) : Type 0 where
@@ -46,34 +43,6 @@ pub record IsMore (k q n : ℕ) (ts : List Placed) (f e : AnExp) (rest : List Pl
   pub quiet : Quiet q rest
   pub rises : n ≤ m
   pub top : m ≤ 200
-
--- whatever is to be read behind this, the text has this fault
-abbrev pub Fails : {V : Type 0} → ((V → Stack) → Stack) → ℕ → List Placed → Fault → Type 0
-Fails F n ts NoMemory = Unit {0}
-Fails {V = V} F n ts (NotHere k) = (κ : V → Stack) → run limit (F κ) n ts ≡ Err (NotHere k)
-Fails {V = V} F n ts (TooDeep k) = (κ : V → Stack) → run limit (F κ) n ts ≡ Err (TooDeep k)
-
--- the same of what may follow an operand, whichever that is
-abbrev pub TailFails : ℕ → List Placed → Fault → Type 0
-TailFails n ts f = (l : AnExp) → Fails (Want (Tail false l)) n ts f
-
-abbrev pub PostFails : ℕ → List Placed → Fault → Type 0
-PostFails n ts f = (l : AnExp) → Fails (Want (PostTail l)) n ts f
-
-abbrev pub CommasFail : ℕ → List Placed → Fault → Type 0
-CommasFail n ts f = (l : AnExp) → Fails (Want (Commas l)) n ts f
-
--- a fault of what may follow an operand there is one here
-abbrev pub TailLeads : ℕ → List Placed → ℕ → List Placed → Type 0
-TailLeads n ts m rest = (f : Fault) → TailFails m rest f → TailFails n ts f
-
--- a fault of what may follow an operand there is one of a condition here
-abbrev pub CondLeads : ℕ → List Placed → ℕ → List Placed → Type 0
-CondLeads n ts m rest = (f : Fault) → TailFails m rest f → Fails cond_goals n ts f
-
--- behind this the run goes on with the rest
-abbrev pub Leads : {V : Type 0} → ((V → Stack) → Stack) → ℕ → List Placed → V → ℕ → List Placed → Type 0
-Leads {V = V} F n ts v m rest = (κ : V → Stack) → run limit (F κ) n ts ≡ run limit (κ v) m rest
 
 -- the words of a type are read, and the run goes on behind them
 pub record ReadsInt (ts : List Placed) (int : Option ℕ) (rest : List Placed) : Type 0 where

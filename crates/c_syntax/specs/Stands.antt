@@ -1,26 +1,22 @@
 -- What the functions that read declarations and statements answer.
 use Rattle.std.specs.Prelude.{◌≡◌, ℕ, ◌+◌, List, [], ◌∷◌, Option, true}
-use Rattle.c_tokens.specs.declared.token.Token.TheVariants as token
-use Rattle.c_tokens.specs.declared.words.Key.TheVariants as keys
 use Rattle.c_tokens.specs.declared.marks.Mark.TheVariants as marks
-use Rattle.c_tokens.specs.declared.marks.Mark.{Mark}
-use Rattle.c_syntax_goals.specs.declared.fault.Fault.{Fault}
 use Rattle.c_phrases.specs.Classes.{Placed, sign}
-use Rattle.c_syntax_goals.specs.Goals.{Want, PartSemi, PartParen, MoreDeclarators, MoreParams, Items, list_goals}
 use Rattle.c_phrases.specs.Phrases.{AnExp, IsAt}
 use Rattle.c_phrases.specs.Levels.{limit}
 use Rattle.c_phrases.specs.Fronts.{StandsBefore}
-use Rattle.c_syntax.specs.Reads.{Fails}
 use Rattle.c_phrases.specs.Units.{ALength, AnInit, AnInitialised, ADeclarator, ALocal, AStatement, SomeItems, AParam}
-use Rattle.c_phrases.specs.Units.{SomeParams, ADeclared, AnExternal, onto_part, onto_length}
-use Rattle.c_phrases.specs.Units.{onto_init, onto_initialised, onto_declarator, onto_declarators, onto_local}
-use Rattle.c_phrases.specs.Units.{onto_condition, onto_statement, onto_items, onto_param}
-use Rattle.c_phrases.specs.Units.{onto_param_list, onto_params, onto_body, onto_declared, onto_external, onto_externals}
+use Rattle.c_phrases.specs.Units.{SomeParams, ADeclared, AnExternal}
+use Rattle.c_phrases.specs.UnitSpelling.{onto_part, onto_length, onto_init, onto_initialised, onto_declarator}
+use Rattle.c_phrases.specs.UnitSpelling.{onto_declarators, onto_local, onto_condition, onto_statement, onto_items}
+use Rattle.c_phrases.specs.UnitSpelling.{onto_param, onto_param_list, onto_params, onto_body, onto_declared}
+use Rattle.c_phrases.specs.UnitSpelling.{onto_external, onto_externals}
 use Rattle.c_phrases.specs.Fits.{PartFits, LengthFits, InitFits, InitialisedFits, DeclaratorFits, DeclaratorsFit}
-use Rattle.c_phrases.specs.Fits.{HasDeclarator, LocalFits, StatementFits, ItemsFit, ParamFits}
-use Rattle.c_phrases.specs.Fits.{ParamsFit, SomeParamsFit, BodyFits, DeclaredFits, ExternalsFit, LowPart, LowLength}
-use Rattle.c_phrases.specs.Fits.{LowInit, LowInitialised, LowDeclarator, LowDeclarators}
-use Rattle.c_phrases.specs.Fits.{LowCondition, LowStatement, LowItems, LowParams, LowSomeParams, LowBody, LowDeclared, LowExternals}
+use Rattle.c_phrases.specs.Fits.{HasDeclarator, LocalFits, StatementFits, ItemsFit, ParamFits, ParamsFit}
+use Rattle.c_phrases.specs.Fits.{SomeParamsFit, BodyFits, DeclaredFits, ExternalsFit}
+use Rattle.c_phrases.specs.UnitLevels.{LowPart, LowLength, LowInit, LowInitialised, LowDeclarator, LowDeclarators}
+use Rattle.c_phrases.specs.UnitLevels.{LowCondition, LowStatement, LowItems, LowParams, LowSomeParams, LowBody}
+use Rattle.c_phrases.specs.UnitLevels.{LowDeclared, LowExternals}
 
 -- a phrase is read: these tokens spell it in front of the rest, it fits the grammar, and its levels are allowed
 pub record ReadsPart (n : ℕ) (ts : List Placed) (e : Option AnExp) (rest : List Placed) : Type 0 where
@@ -142,30 +138,3 @@ pub record ReadsExternals (ts : List Placed) (xs : List AnExternal) (rest : List
   pub text : ts ≡ onto_externals xs rest
   pub fits : ExternalsFit xs
   pub low : LowExternals limit xs
-
--- the word void alone does not stand in front of a closing bracket
-abbrev pub NoVoidAlone : List Placed → Type 0
-NoVoidAlone [] = Unit {0}
-NoVoidAlone (t ∷ []) = Unit {0}
-NoVoidAlone (t ∷ u ∷ ts) = t.kind ≡ token.Key keys.Void → u.kind ≡ token.Mark marks.CloseParenthesis → ⊥
-
--- a fault of the part of a statement that this mark ends
-abbrev pub PartFails : Mark → ℕ → List Placed → Fault → Type 0
-PartFails marks.Semicolon n ts f = Fails (Want PartSemi) n ts f
-PartFails marks.CloseParenthesis n ts f = Fails (Want PartParen) n ts f
-PartFails m n ts f = Unit {0}
-
--- a fault there is a fault here
-abbrev pub MoreLeads : ℕ → List Placed → List Placed → Type 0
-MoreLeads n ts rest = (f : Fault) → Fails (Want MoreDeclarators) n rest f → Fails (Want MoreDeclarators) n ts f
-
-abbrev pub ItemsLead : ℕ → List Placed → List Placed → Type 0
-ItemsLead n ts rest = (f : Fault) → Fails (Want Items) n rest f → Fails (Want Items) n ts f
-
-abbrev pub ParamsLead : ℕ → List Placed → List Placed → Type 0
-ParamsLead n ts rest = (f : Fault) → Fails (Want MoreParams) n rest f → Fails list_goals n ts f
-
--- the text is not at its end
-abbrev pub HasToken : List Placed → Type 0
-HasToken [] = ⊥
-HasToken (t ∷ ts) = Unit {0}

@@ -1,17 +1,20 @@
 // Declarators and their initialisers.
 ghost use Rattle.std.specs.Prelude.{◌≡◌, ◌≤◌, length, IfOk, IfErr};
-ghost use Rattle.c_syntax_goals.specs.Goals.{Want, ArrayPart, Elements, Init, InitPart, MoreDeclarators, cond_goals};
-ghost use Rattle.c_syntax_goals.specs.Goals.{declarator_goals, declarator_behind as behind_goals};
-ghost use Rattle.c_syntax.specs.Reads.{Fails, Leads, CondLeads};
+ghost use Rattle.c_syntax_goals.specs.Goals.{Want, ArrayPart, Elements, Init, InitPart, MoreDeclarators};
+ghost use Rattle.c_syntax_goals.specs.Expressions.{cond_goals};
+ghost use Rattle.c_syntax_goals.specs.Declarators.{declarator_goals, declarator_behind as behind_goals};
+ghost use Rattle.c_syntax.specs.Leads.{Fails, Leads, CondLeads};
 ghost use Rattle.c_phrases.specs.Classes.{seen};
-ghost use Rattle.c_phrases.specs.Phrases.{onto_name, onto_stars};
+ghost use Rattle.c_phrases.specs.Spelling.{onto_name, onto_stars};
 ghost use Rattle.c_phrases.specs.Shapes.{exp};
 ghost use Rattle.c_phrases.specs.UnitShapes.{length_of, init_of, initialised_of, declarator_of, declarators_of};
 ghost use Rattle.c_syntax.specs.Reads.{IsRead};
 ghost use Rattle.c_phrases.specs.Levels.{limit};
-ghost use Rattle.c_phrases.specs.Units.{onto_declarator};
-ghost use Rattle.c_phrases.specs.Fits.{DeclaratorFits, LowDeclarator};
-ghost use Rattle.c_syntax.specs.Stands.{ReadsLength, ReadsInit, ReadsElements, ReadsInitialised, ReadsDeclarator, ReadsDeclarators};
+ghost use Rattle.c_phrases.specs.UnitSpelling.{onto_declarator};
+ghost use Rattle.c_phrases.specs.Fits.{DeclaratorFits};
+ghost use Rattle.c_phrases.specs.UnitLevels.{LowDeclarator};
+ghost use Rattle.c_syntax.specs.Stands.{ReadsLength, ReadsInit, ReadsElements, ReadsInitialised, ReadsDeclarator};
+ghost use Rattle.c_syntax.specs.Stands.{ReadsDeclarators};
 
 use crate::expressions::{assignment, cast, conditional, put, take_name};
 use crate::take::{not_here, open_levels, take_mark, want_mark};

@@ -2,19 +2,20 @@
 ghost use Rattle.std.specs.Prelude.{◌≡◌, ◌≤◌, ◌+◌, ◌∷◌, ◌++◌, [], length, IfOk, OnOk, IfSome, IfNone, MatchOption};
 ghost use Rattle.c_tokens.specs.declared.marks.Mark.TheVariants as marks;
 ghost use Rattle.c_phrases.specs.Classes.{seen, sign};
-ghost use Rattle.c_phrases.specs.Phrases.{IsAt, onto_name};
+ghost use Rattle.c_phrases.specs.Phrases.{IsAt};
+ghost use Rattle.c_phrases.specs.Spelling.{onto_name};
 ghost use Rattle.c_phrases.specs.Shapes.{exp, exp_list};
 ghost use Rattle.std.specs.Prelude.{IfErr};
 ghost use Rattle.std.specs.Bool.{MatchBool};
 ghost use Rattle.c_syntax_goals.specs.declared.fault.Fault.TheVariants as faults;
 ghost use Rattle.c_phrases.specs.Takes.{IsTypeWord};
-ghost use Rattle.c_syntax_goals.specs.Goals.{Want, Expr as ExprGoal, Assign as AssignGoal, Cast as CastGoal, Unary, Primary};
-ghost use Rattle.c_syntax_goals.specs.Goals.{Parens, CallTail, SizeofTail, Arguments};
+ghost use Rattle.c_syntax_goals.specs.Goals.{Want, Expr as ExprGoal, Assign as AssignGoal, Cast as CastGoal, Unary};
+ghost use Rattle.c_syntax_goals.specs.Goals.{Primary, Parens, CallTail, SizeofTail, Arguments};
 ghost use Rattle.c_phrases.specs.Fronts.{Quiet, NoCast};
-ghost use Rattle.c_syntax.specs.Reads.{IsRead, IsMore, IsPart, Ready, BeginsCast, IsStop, NoName, ReadsArguments, ReadsSizeof};
+ghost use Rattle.c_syntax.specs.Reads.{IsRead, IsMore, IsPart, Ready, BeginsCast, IsStop, NoName, ReadsArguments};
+ghost use Rattle.c_syntax.specs.Reads.{ReadsSizeof, NoNumber, NoString};
 ghost use Rattle.c_tokens.specs.declared.token.Token.TheVariants as token;
-ghost use Rattle.c_syntax.specs.Reads.{NoNumber, NoString};
-ghost use Rattle.c_syntax.specs.Reads.{Fails, Leads, TailFails, TailLeads, PostFails, CommasFail};
+ghost use Rattle.c_syntax.specs.Leads.{Fails, Leads, TailFails, TailLeads, PostFails, CommasFail};
 
 use crate::take::{
     begins_type, not_here, open_levels, take_assign, take_binary, take_key, take_mark, take_prefix,

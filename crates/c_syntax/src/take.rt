@@ -7,7 +7,7 @@ ghost use Rattle.c_tokens.specs.declared.marks.Mark.{Mark};
 ghost use Rattle.c_tokens.specs.declared.words.Key.TheVariants as keys;
 ghost use Rattle.c_syntax_goals.specs.declared.fault.Fault.TheVariants as faults;
 ghost use Rattle.c_phrases.specs.Classes.{placed, seen, word, sign, is_kept, mark_class, key_class, class_of};
-ghost use Rattle.c_phrases.specs.Phrases.{binary_mark, prefix_mark, step_mark, assign_mark};
+ghost use Rattle.c_phrases.specs.Operators.{binary_mark, prefix_mark, step_mark, assign_mark};
 ghost use Rattle.c_phrases.specs.Fronts.{IsNot};
 ghost use Rattle.c_phrases.specs.Takes.{binary_of, prefix_of, step_of, assign_of, is_type_word, IsTypeWord, NoTypeWord, NoMark};
 ghost use Rattle.c_phrases.specs.Takes.{NoBinary, NoPrefix, NoStep, NoAssign};

@@ -2,8 +2,10 @@
 ghost use Rattle.std.specs.Prelude.{◌≡◌, ◌∷◌, [], ℕ, length, IfOk, IfErr};
 ghost use Rattle.c_syntax_goals.specs.declared.fault.Fault.TheVariants.{NoMemory};
 ghost use Rattle.c_phrases.specs.Classes.{seen};
-ghost use Rattle.c_syntax_goals.specs.Goals.{Want, AfterUnsigned, TypeWords, type_goals};
-ghost use Rattle.c_syntax.specs.Reads.{Fails, ReadsInt, ReadsUnsigned, ReadsSpec, ReadsStars, ReadsType};
+ghost use Rattle.c_syntax_goals.specs.Goals.{Want, AfterUnsigned, TypeWords};
+ghost use Rattle.c_syntax_goals.specs.Types.{type_goals};
+ghost use Rattle.c_syntax.specs.Leads.{Fails};
+ghost use Rattle.c_syntax.specs.Reads.{ReadsInt, ReadsUnsigned, ReadsSpec, ReadsStars, ReadsType};
 
 use crate::take::{not_here, take_key, take_mark};
 use c_phrases::operator::Spec;

@@ -8,14 +8,16 @@ use Rattle.c_phrases.specs.declared.operator.Spec.TheVariants as specs
 use Rattle.c_phrases.specs.declared.operator.Storage.TheVariants as storages
 use Rattle.c_phrases.specs.Classes.{word, sign}
 use Rattle.c_phrases.specs.Phrases.{AnExp, name, number, paren, sizeof_exp, no_exps, exps}
-use Rattle.c_phrases.specs.Units.{value, elements, ADeclarator, empty, if_then}
-use Rattle.c_phrases.specs.Units.{no_items, no_params, globals, AUnit}
+use Rattle.c_phrases.specs.Units.{value, elements, ADeclarator, empty, if_then, no_items, no_params, globals, AUnit}
 use Rattle.c_syntax_goals.specs.Openings.{Opening, opens, plain}
-use Rattle.c_syntax_goals.specs.Goals.{Goal, Val, Stack, Done, Want}
-use Rattle.c_syntax_goals.specs.Goals.{Expr, Commas, Assign, Cond, Cast, Unary, Primary, Parens, CallTail, PostTail, Ended, Tail, First, Group, SizeofTail, SizeofGroup, Arguments}
-use Rattle.c_syntax_goals.specs.Goals.{MoreArguments, Back, WantParen, WantBracket, WantColon, WantSemi, WantWhile, TypeWords, AfterShort, AfterUnsigned, Stars}
-use Rattle.c_syntax_goals.specs.Goals.{Condition, Simple, Statement, Items, PartSemi, PartParen, ForOpen, ElsePart, Local, DeclaratorName, ArrayPart, Length, InitPart, Init}
-use Rattle.c_syntax_goals.specs.Goals.{Elements, InitMore, InitNext, MoreDeclarators, DeclaredName, AfterName, Body, Params, OptName, MoreParams, External, Whole}
+use Rattle.c_syntax_goals.specs.Goals.{Goal, Val, Stack, Done, Want, Expr, Commas, Assign, Cond, Cast, Unary, Primary}
+use Rattle.c_syntax_goals.specs.Goals.{Parens, CallTail, PostTail, Ended, Tail, First, Group, SizeofTail, SizeofGroup}
+use Rattle.c_syntax_goals.specs.Goals.{Arguments, MoreArguments, Back, WantParen, WantBracket, WantColon, WantSemi}
+use Rattle.c_syntax_goals.specs.Goals.{WantWhile, TypeWords, AfterShort, AfterUnsigned, Stars, Condition, Simple}
+use Rattle.c_syntax_goals.specs.Goals.{Statement, Items, PartSemi, PartParen, ForOpen, ElsePart, Local}
+use Rattle.c_syntax_goals.specs.Goals.{DeclaratorName, ArrayPart, Length, InitPart, Init, Elements, InitMore}
+use Rattle.c_syntax_goals.specs.Goals.{InitNext, MoreDeclarators, DeclaredName, AfterName, Body, Params, OptName}
+use Rattle.c_syntax_goals.specs.Goals.{MoreParams, External, Whole}
 use Rattle.c_syntax_goals.proofs.Yields.{open_paren, close_paren, close_bracket, close_brace, semi, NoElse, Yields}
 use Rattle.c_syntax_goals.proofs.Joins.{By, alone}
 

@@ -9,12 +9,16 @@ use Rattle.c_syntax_goals.specs.declared.fault.Fault.TheVariants.{NotHere, TooDe
 use Rattle.c_phrases.specs.Classes.{Placed, Class, class_of, placed, seen}
 use Rattle.c_phrases.specs.Classes as c
 use Rattle.c_phrases.specs.Levels.{free, limit}
-use Rattle.c_phrases.specs.Units.{AUnit, unit_tokens}
+use Rattle.c_phrases.specs.Units.{AUnit}
+use Rattle.c_phrases.specs.UnitSpelling.{unit_tokens}
 use Rattle.c_phrases.specs.Fits.{ExternalsFit}
-use Rattle.c_syntax_goals.specs.Openings.{Opening, tokens_of, levelled}
+use Rattle.c_syntax_goals.specs.Openings.{Opening}
+use Rattle.c_syntax_goals.specs.UnitOpenings.{tokens_of, levelled}
 use Rattle.c_tokens.specs.Grammar.{IsEnded}
 use Rattle.c_syntax_goals.specs.Refusals.{IsPlace, FirstAreLow, FirstDeepIs, Begins, BeginsUnit, NotHereAt, Stops, TooDeepAt}
-use Rattle.c_syntax_goals.specs.Goals.{Goal, Val, Stack, Done, Want, Takes, Opens, Finishes, Refuses, Turn, Steps, Passes, turn, Whole, Expr}
+use Rattle.c_syntax_goals.specs.Goals.{Goal, Val, Stack, Done, Want, Takes, Opens, Finishes, Refuses, Turn, Steps}
+use Rattle.c_syntax_goals.specs.Goals.{Passes, Whole, Expr}
+use Rattle.c_syntax_goals.specs.Turns.{turn}
 use Rattle.c_syntax_goals.specs.Machine.{Next, Goes, Ends, Deep, Stuck, closing, at_end, on, pick, next, run}
 use Rattle.c_syntax_goals.proofs.Stating.{law_unit}
 use Rattle.c_syntax_goals.proofs.Prefix.{left_of, low_externals, no_unit_begins, fault_within}

@@ -19,15 +19,22 @@ use Rattle.c_phrases.specs.declared.operator.AssignOperator.TheVariants as assig
 use Rattle.c_phrases.specs.declared.tree.TypeName.{TypeName}
 use Rattle.c_phrases.specs.Classes.{Placed, Class, class_of, mark_class, word, sign}
 use Rattle.c_phrases.specs.Classes as c
-use Rattle.c_phrases.specs.Phrases.{AnExp, name, number, str, paren, call, index, step_after, step_before, prefix, sizeof_exp, sizeof_type, cast, binary, choice, assign, comma}
-use Rattle.c_phrases.specs.Phrases.{SomeExps, no_exps, exps}
-use Rattle.c_phrases.specs.Phrases.{onto_int, onto_spec, onto_stars, onto_type, onto_exp, onto_first, onto_others, after_exp, IsAt, AllAt, binary_mark, prefix_mark, step_mark, assign_mark, level_of}
+use Rattle.c_phrases.specs.Phrases.{AnExp, name, number, str, paren, call, index, step_after, step_before, prefix}
+use Rattle.c_phrases.specs.Phrases.{sizeof_exp, sizeof_type, cast, binary, choice, assign, comma, SomeExps, no_exps}
+use Rattle.c_phrases.specs.Phrases.{exps, after_exp, IsAt, AllAt}
+use Rattle.c_phrases.specs.Spelling.{onto_int, onto_spec, onto_stars, onto_type, onto_exp, onto_first, onto_others}
+use Rattle.c_phrases.specs.Operators.{binary_mark, prefix_mark, step_mark, assign_mark, level_of}
 use Rattle.c_phrases.specs.Levels.{LowExp, LowExps}
 use Rattle.c_phrases.specs.Takes.{NoTypeClass, IsTypeWord, NoTypeWord}
 use Rattle.c_phrases.specs.Fronts.{Quiet, IsNot, NoCast, strength, mark_strength}
-use Rattle.c_syntax_goals.specs.Goals.{Stack, Want, Steps, Opens, turn, insert, type_goals, stars_then, cast_behind, paren_behind, sizeof_behind, cond_goals}
-use Rattle.c_syntax_goals.specs.Goals.{Expr, Commas, Assign, Cond, Cast, Unary, CallTail, PostTail, Ended, Tail, First, Group, SizeofTail, SizeofGroup, Arguments, MoreArguments}
-use Rattle.c_syntax_goals.specs.Goals.{Back, WantParen, WantBracket, WantColon, TypeWords, AfterShort, Stars}
+use Rattle.c_syntax_goals.specs.Goals.{Stack, Want, Steps, Opens, Expr, Commas, Assign, Cond, Cast, Unary, CallTail}
+use Rattle.c_syntax_goals.specs.Goals.{PostTail, Ended, Tail, First, Group, SizeofTail, SizeofGroup, Arguments}
+use Rattle.c_syntax_goals.specs.Goals.{MoreArguments, Back, WantParen, WantBracket, WantColon, TypeWords, AfterShort}
+use Rattle.c_syntax_goals.specs.Goals.{Stars}
+use Rattle.c_syntax_goals.specs.Turns.{turn}
+use Rattle.c_syntax_goals.specs.Expressions.{insert, cond_goals}
+use Rattle.c_syntax_goals.specs.Types.{type_goals, stars_then}
+use Rattle.c_syntax_goals.specs.Groups.{cast_behind, paren_behind, sizeof_behind}
 use Rattle.c_syntax_goals.specs.Machine.{run}
 use Rattle.c_syntax_goals.proofs.Tokens.{single, token_of}
 use Rattle.c_syntax_goals.proofs.Steps.{Unset, NoSet, floor, floor_of, tail_binary, tail_assign, unary_prefix, unary_step, post_step}

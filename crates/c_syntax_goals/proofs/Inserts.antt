@@ -4,9 +4,11 @@ use Rattle.std.specs.Prelude.{Bool, true, false, nat_lt, if◌then◌else◌}
 use Rattle.std.proofs.lemmas.Bool.Decides.{nat_tests}
 use Rattle.c_phrases.specs.declared.operator.BinaryOperator.{BinaryOperator}
 use Rattle.c_phrases.specs.Classes.{sign}
-use Rattle.c_phrases.specs.Phrases.{AnExp, name, number, str, paren, call, sizeof_type, binary, choice, assign, comma, IsAt, after_exp, level_of, binary_mark}
+use Rattle.c_phrases.specs.Phrases.{AnExp, name, number, str, paren, call, sizeof_type, binary, choice, assign, comma}
+use Rattle.c_phrases.specs.Phrases.{IsAt, after_exp}
+use Rattle.c_phrases.specs.Operators.{level_of, binary_mark}
 use Rattle.c_syntax_goals.specs.Openings.{Opening, opens, levelled_exp}
-use Rattle.c_syntax_goals.specs.Goals.{insert}
+use Rattle.c_syntax_goals.specs.Expressions.{insert}
 use Rattle.c_syntax_goals.proofs.PhraseLaws.{lower, level_top}
 use Rattle.c_syntax_goals.proofs.Going.{level_least}
 

@@ -9,16 +9,23 @@ use Rattle.c_phrases.specs.declared.operator.StepOperator.{StepOperator}
 use Rattle.c_phrases.specs.declared.operator.AssignOperator.{AssignOperator}
 use Rattle.c_phrases.specs.declared.tree.TypeName.{TypeName}
 use Rattle.c_phrases.specs.Classes.{word, sign}
-use Rattle.c_phrases.specs.Phrases.{AnExp, paren, index, step_after, sizeof_exp, sizeof_type, cast, choice, assign, comma, SomeExps, exps, IsAt, after_exp, level_of, binary_mark}
-use Rattle.c_phrases.specs.Phrases.{step_mark, assign_mark}
-use Rattle.c_phrases.specs.Units.{ALength, AnInit, value, elements, ADeclarator, ALocal}
-use Rattle.c_phrases.specs.Units.{AUnit}
+use Rattle.c_phrases.specs.Phrases.{AnExp, paren, index, step_after, sizeof_exp, sizeof_type, cast, choice, assign}
+use Rattle.c_phrases.specs.Phrases.{comma, SomeExps, exps, IsAt, after_exp}
+use Rattle.c_phrases.specs.Operators.{level_of, binary_mark, step_mark, assign_mark}
+use Rattle.c_phrases.specs.Units.{ALength, AnInit, value, elements, ADeclarator, ALocal, AUnit}
 use Rattle.c_phrases.specs.Fits.{InitFits, DeclaratorFits}
-use Rattle.c_syntax_goals.specs.Openings.{Opening, opens, plain, levelled_spec, levelled_stars, levelled_type, levelled_name, levelled_exp, levelled_length, levelled_init}
-use Rattle.c_syntax_goals.specs.Openings.{levelled_declarator, levelled_storage}
-use Rattle.c_syntax_goals.specs.Goals.{Stack, Want, insert, type_goals, cast_behind, paren_behind, sizeof_behind, declarator_behind, declarator_goals, local_rest}
-use Rattle.c_syntax_goals.specs.Goals.{Expr, Commas, Assign, Cond, Cast, PostTail, Tail, Arguments, MoreArguments, Back, WantParen, WantBracket, WantColon, TypeWords}
-use Rattle.c_syntax_goals.specs.Goals.{Local, ArrayPart, Length, Init, Elements, InitMore, InitNext, MoreDeclarators}
+use Rattle.c_syntax_goals.specs.Openings.{Opening, opens, plain, levelled_spec, levelled_stars, levelled_type}
+use Rattle.c_syntax_goals.specs.Openings.{levelled_name, levelled_exp}
+use Rattle.c_syntax_goals.specs.StatementOpenings.{levelled_length, levelled_init, levelled_declarator}
+use Rattle.c_syntax_goals.specs.StatementOpenings.{levelled_storage}
+use Rattle.c_syntax_goals.specs.Goals.{Stack, Want, Expr, Commas, Assign, Cond, Cast, PostTail, Tail, Arguments}
+use Rattle.c_syntax_goals.specs.Goals.{MoreArguments, Back, WantParen, WantBracket, WantColon, TypeWords, Local}
+use Rattle.c_syntax_goals.specs.Goals.{ArrayPart, Length, Init, Elements, InitMore, InitNext, MoreDeclarators}
+use Rattle.c_syntax_goals.specs.Expressions.{insert}
+use Rattle.c_syntax_goals.specs.Types.{type_goals}
+use Rattle.c_syntax_goals.specs.Groups.{cast_behind, paren_behind, sizeof_behind}
+use Rattle.c_syntax_goals.specs.Declarators.{declarator_behind, declarator_goals}
+use Rattle.c_syntax_goals.specs.Statements.{local_rest}
 use Rattle.c_syntax_goals.proofs.Yields.{Found, open_paren, close_paren, comma_mark, IsExp, Onto, Yields}
 use Rattle.c_syntax_goals.proofs.PhraseLaws.{lower}
 use Rattle.c_syntax_goals.proofs.Inserts.{insert_text, insert_after, insert_fits}

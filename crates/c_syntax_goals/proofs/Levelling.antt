@@ -7,9 +7,11 @@ use Rattle.c_phrases.specs.Classes.{Placed, Class, class_of}
 use Rattle.c_tokens.specs.declared.token.Token.TheVariants as token
 use Rattle.c_phrases.specs.Levels.{free, limit}
 use Rattle.c_phrases.specs.Units.{AUnit}
-use Rattle.c_syntax_goals.specs.Openings.{Opening, levelled, levelled_externals}
+use Rattle.c_syntax_goals.specs.Openings.{Opening}
+use Rattle.c_syntax_goals.specs.UnitOpenings.{levelled, levelled_externals}
 use Rattle.c_syntax_goals.specs.Refusals.{FirstAreLow, FirstDeepIs}
-use Rattle.c_syntax_goals.specs.Goals.{Stack, Done, Want, Takes, Opens, Finishes, Refuses, Turn, Steps, Passes, turn, Whole}
+use Rattle.c_syntax_goals.specs.Goals.{Stack, Done, Want, Takes, Opens, Finishes, Refuses, Turn, Steps, Passes, Whole}
+use Rattle.c_syntax_goals.specs.Turns.{turn}
 use Rattle.c_syntax_goals.specs.Machine.{Next, Goes, Ends, Deep, Stuck, closing, on, pick, next, run}
 use Rattle.c_syntax_goals.proofs.Yields.{Yields}
 use Rattle.c_syntax_goals.proofs.Turning.{opened_turn, opened}

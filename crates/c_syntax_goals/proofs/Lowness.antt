@@ -7,19 +7,28 @@ use Rattle.c_phrases.specs.declared.operator.Storage.{Storage}
 use Rattle.c_phrases.specs.declared.operator.Storage.TheVariants as storages
 use Rattle.c_phrases.specs.declared.tree.TypeName.{TypeName}
 use Rattle.c_phrases.specs.declared.tree.Named.{Named}
-use Rattle.c_phrases.specs.Phrases.{AnExp, name, number, str, paren, call, index, step_after, step_before, prefix, sizeof_exp, sizeof_type, cast, binary, choice, assign, comma}
-use Rattle.c_phrases.specs.Phrases.{SomeExps, no_exps, exps, after_exp}
-use Rattle.c_phrases.specs.Units.{ALength, AnInit, value, elements, AnInitialised, ADeclarator, ALocal, AStatement, block, empty, expression, break_off, continue_on, give_back}
-use Rattle.c_phrases.specs.Units.{if_then, if_else, while_loop, do_loop, for_loop}
-use Rattle.c_phrases.specs.Units.{SomeItems, no_items, local_item, statement_item, AParam, SomeParams, no_params, void_word, params, ADeclared, function, globals, AnExternal, AUnit}
-use Rattle.c_syntax_goals.specs.Openings.{Opening, levelled, levelled_int, levelled_spec, levelled_stars, levelled_type, levelled_exp, levelled_first, levelled_others}
-use Rattle.c_syntax_goals.specs.Openings.{levelled_part, levelled_length, levelled_trailing, levelled_init, levelled_initialised}
-use Rattle.c_syntax_goals.specs.Openings.{levelled_declarator, levelled_more_declarators, levelled_declarators, levelled_storage, levelled_local, levelled_condition}
-use Rattle.c_syntax_goals.specs.Openings.{levelled_statement, levelled_items, levelled_named, levelled_param, levelled_more_params, levelled_params, levelled_body}
-use Rattle.c_syntax_goals.specs.Openings.{levelled_declared, levelled_static, levelled_externals}
+use Rattle.c_phrases.specs.Phrases.{AnExp, name, number, str, paren, call, index, step_after, step_before, prefix}
+use Rattle.c_phrases.specs.Phrases.{sizeof_exp, sizeof_type, cast, binary, choice, assign, comma, SomeExps, no_exps}
+use Rattle.c_phrases.specs.Phrases.{exps, after_exp}
+use Rattle.c_phrases.specs.Units.{ALength, AnInit, value, elements, AnInitialised, ADeclarator, ALocal, AStatement}
+use Rattle.c_phrases.specs.Units.{block, empty, expression, break_off, continue_on, give_back, if_then, if_else}
+use Rattle.c_phrases.specs.Units.{while_loop, do_loop, for_loop, SomeItems, no_items, local_item, statement_item}
+use Rattle.c_phrases.specs.Units.{AParam, SomeParams, no_params, void_word, params, ADeclared, function, globals}
+use Rattle.c_phrases.specs.Units.{AnExternal, AUnit}
+use Rattle.c_syntax_goals.specs.Openings.{Opening, levelled_int, levelled_spec, levelled_stars, levelled_type}
+use Rattle.c_syntax_goals.specs.Openings.{levelled_exp, levelled_first, levelled_others, levelled_part}
+use Rattle.c_syntax_goals.specs.UnitOpenings.{levelled, levelled_named, levelled_param, levelled_more_params}
+use Rattle.c_syntax_goals.specs.UnitOpenings.{levelled_params, levelled_body, levelled_declared, levelled_static}
+use Rattle.c_syntax_goals.specs.UnitOpenings.{levelled_externals}
+use Rattle.c_syntax_goals.specs.StatementOpenings.{levelled_length, levelled_trailing, levelled_init}
+use Rattle.c_syntax_goals.specs.StatementOpenings.{levelled_initialised, levelled_declarator}
+use Rattle.c_syntax_goals.specs.StatementOpenings.{levelled_more_declarators, levelled_declarators, levelled_storage}
+use Rattle.c_syntax_goals.specs.StatementOpenings.{levelled_local, levelled_condition, levelled_statement}
+use Rattle.c_syntax_goals.specs.StatementOpenings.{levelled_items}
 use Rattle.c_phrases.specs.Levels.{LowExp, LowExps, limit}
-use Rattle.c_phrases.specs.Fits.{LowPart, LowLength, LowInit, LowInitialised, LowDeclarator, LowDeclarators, LowCondition, LowStatement, LowItems, LowParams, LowSomeParams}
-use Rattle.c_phrases.specs.Fits.{LowBody, LowDeclared, LowExternals}
+use Rattle.c_phrases.specs.UnitLevels.{LowPart, LowLength, LowInit, LowInitialised, LowDeclarator, LowDeclarators}
+use Rattle.c_phrases.specs.UnitLevels.{LowCondition, LowStatement, LowItems, LowParams, LowSomeParams, LowBody}
+use Rattle.c_phrases.specs.UnitLevels.{LowDeclared, LowExternals}
 use Rattle.c_syntax_goals.specs.Refusals.{NoneDeep}
 
 -- from the phrases to the tokens

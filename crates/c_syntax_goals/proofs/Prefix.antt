@@ -4,15 +4,23 @@ use Rattle.std.specs.Prelude.{Option, Some, None, Result, Ok, Err, if◌then◌e
 use Rattle.c_syntax_goals.specs.declared.fault.Fault.{Fault}
 use Rattle.c_syntax_goals.specs.declared.fault.Fault.TheVariants.{NoMemory, NotHere, TooDeep}
 use Rattle.c_phrases.specs.Classes.{Placed, class_of}
-use Rattle.c_phrases.specs.Phrases.{AnExp, name, number, str, paren, call, index, step_after, step_before, prefix, sizeof_exp, sizeof_type, cast, binary, choice, assign, comma}
-use Rattle.c_phrases.specs.Phrases.{SomeExps, no_exps, exps, after_exp}
+use Rattle.c_phrases.specs.Phrases.{AnExp, name, number, str, paren, call, index, step_after, step_before, prefix}
+use Rattle.c_phrases.specs.Phrases.{sizeof_exp, sizeof_type, cast, binary, choice, assign, comma, SomeExps, no_exps}
+use Rattle.c_phrases.specs.Phrases.{exps, after_exp}
 use Rattle.c_phrases.specs.Levels.{LowExp, LowExps, free, limit}
-use Rattle.c_phrases.specs.Units.{ALength, AnInit, value, elements, AnInitialised, ADeclarator, ALocal, AStatement, block, empty, expression, break_off, continue_on, give_back}
-use Rattle.c_phrases.specs.Units.{if_then, if_else, while_loop, do_loop, for_loop}
-use Rattle.c_phrases.specs.Units.{SomeItems, no_items, local_item, statement_item, AParam, SomeParams, no_params, void_word, params, ADeclared, function, globals, AnExternal, AUnit, unit_tokens}
-use Rattle.c_phrases.specs.Fits.{ExternalsFit, LowPart, LowLength, LowInit, LowInitialised, LowDeclarator, LowDeclarators, LowCondition, LowStatement, LowItems, LowParams}
-use Rattle.c_phrases.specs.Fits.{LowSomeParams, LowBody, LowDeclared, LowExternals}
-use Rattle.c_syntax_goals.specs.Goals.{Stack, Done, Want, Goal, Val, Step, Takes, Opens, Finishes, Refuses, Turn, Steps, Passes, turn, Whole}
+use Rattle.c_phrases.specs.Units.{ALength, AnInit, value, elements, AnInitialised, ADeclarator, ALocal, AStatement}
+use Rattle.c_phrases.specs.Units.{block, empty, expression, break_off, continue_on, give_back, if_then, if_else}
+use Rattle.c_phrases.specs.Units.{while_loop, do_loop, for_loop, SomeItems, no_items, local_item, statement_item}
+use Rattle.c_phrases.specs.Units.{AParam, SomeParams, no_params, void_word, params, ADeclared, function, globals}
+use Rattle.c_phrases.specs.Units.{AnExternal, AUnit}
+use Rattle.c_phrases.specs.UnitSpelling.{unit_tokens}
+use Rattle.c_phrases.specs.Fits.{ExternalsFit}
+use Rattle.c_phrases.specs.UnitLevels.{LowPart, LowLength, LowInit, LowInitialised, LowDeclarator, LowDeclarators}
+use Rattle.c_phrases.specs.UnitLevels.{LowCondition, LowStatement, LowItems, LowParams, LowSomeParams, LowBody}
+use Rattle.c_phrases.specs.UnitLevels.{LowDeclared, LowExternals}
+use Rattle.c_syntax_goals.specs.Goals.{Stack, Done, Want, Goal, Val, Step, Takes, Opens, Finishes, Refuses, Turn}
+use Rattle.c_syntax_goals.specs.Goals.{Steps, Passes, Whole}
+use Rattle.c_syntax_goals.specs.Turns.{turn}
 use Rattle.c_syntax_goals.specs.Machine.{Next, Goes, Ends, Deep, Stuck, closing, at_end, on, made, pick, next, run}
 use Rattle.c_syntax_goals.proofs.Stating.{law_unit}
 

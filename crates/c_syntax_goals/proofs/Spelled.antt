@@ -10,8 +10,8 @@ use Rattle.c_tokens.specs.declared.marks.Mark.{Mark}
 use Rattle.c_tokens.specs.declared.marks.Mark.TheVariants as marks
 use Rattle.c_phrases.specs.Classes.{Placed, Class, class_of, key_class, mark_class, is_kept, placed, seen, word, sign}
 use Rattle.c_phrases.specs.Classes as c
-use Rattle.c_phrases.specs.Phrases.{binary_mark, prefix_mark, step_mark, assign_mark}
-use Rattle.c_syntax_goals.specs.Goals.{name_in, number_in, str_in, binary_in, prefix_in, step_in, assign_in}
+use Rattle.c_phrases.specs.Operators.{binary_mark, prefix_mark, step_mark, assign_mark}
+use Rattle.c_syntax_goals.specs.Contents.{name_in, number_in, str_in, binary_in, prefix_in, step_in, assign_in}
 
 -- the token itself, without an offset that phrases do not keep
 abbrev pub spelled : Class → Placed → Placed

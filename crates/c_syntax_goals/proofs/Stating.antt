@@ -13,27 +13,43 @@ use Rattle.c_phrases.specs.declared.operator.Storage.TheVariants as storages
 use Rattle.c_phrases.specs.declared.tree.Named.{Named}
 use Rattle.c_phrases.specs.Classes.{Placed, Class, class_of, mark_class, word, sign}
 use Rattle.c_phrases.specs.Classes as c
-use Rattle.c_phrases.specs.Phrases.{AnExp, SomeExps, no_exps, exps, onto_int, onto_spec, onto_stars, onto_name, onto_exp, onto_first, onto_others, after_exp, IsAt, AllAt}
+use Rattle.c_phrases.specs.Phrases.{AnExp, SomeExps, no_exps, exps, after_exp, IsAt, AllAt}
+use Rattle.c_phrases.specs.Spelling.{onto_int, onto_spec, onto_stars, onto_name, onto_exp, onto_first, onto_others}
 use Rattle.c_phrases.specs.Levels.{LowExp, LowExps, free, limit}
-use Rattle.c_phrases.specs.Units.{ALength, AnInit, value, elements, AnInitialised, ADeclarator, ALocal, AStatement, block, empty, expression, break_off, continue_on, give_back}
-use Rattle.c_phrases.specs.Units.{if_then, if_else, while_loop, do_loop, for_loop}
-use Rattle.c_phrases.specs.Units.{SomeItems, no_items, local_item, statement_item, AParam, SomeParams, no_params, void_word, params, AFunction, ADeclared, function, globals, AnExternal, AUnit}
-use Rattle.c_phrases.specs.Units.{onto_part, onto_length, onto_trailing, onto_init, onto_initialised, onto_declarator, onto_more_declarators, onto_declarators, onto_storage}
-use Rattle.c_phrases.specs.Units.{onto_local, onto_condition, onto_statement, onto_items}
-use Rattle.c_phrases.specs.Units.{onto_named, onto_param, onto_more_params, onto_param_list, onto_params, onto_body, onto_declared, onto_static, onto_external, onto_externals, unit_tokens}
-use Rattle.c_phrases.specs.Fits.{PartFits, LengthFits, IsSome, InitFits, InitialisedFits, DeclaratorFits, DeclaratorsFit, HasDeclarator, LocalFits, IsShut, StatementFits, ItemsFit}
-use Rattle.c_phrases.specs.Fits.{ParamFits, ParamsFit, IsVoid, IsBare, SomeParamsFit, BodyFits, DeclaredFits, ExternalsFit}
-use Rattle.c_phrases.specs.Fits.{LowPart, LowLength, LowInit, LowInitialised, LowDeclarator, LowDeclarators, LowCondition, LowStatement, LowItems, LowParams, LowSomeParams}
-use Rattle.c_phrases.specs.Fits.{LowBody, LowDeclared, LowExternals}
+use Rattle.c_phrases.specs.Units.{ALength, AnInit, value, elements, AnInitialised, ADeclarator, ALocal, AStatement}
+use Rattle.c_phrases.specs.Units.{block, empty, expression, break_off, continue_on, give_back, if_then, if_else}
+use Rattle.c_phrases.specs.Units.{while_loop, do_loop, for_loop, SomeItems, no_items, local_item, statement_item}
+use Rattle.c_phrases.specs.Units.{AParam, SomeParams, no_params, void_word, params, AFunction, ADeclared, function}
+use Rattle.c_phrases.specs.Units.{globals, AnExternal, AUnit}
+use Rattle.c_phrases.specs.UnitSpelling.{onto_part, onto_length, onto_trailing, onto_init, onto_initialised}
+use Rattle.c_phrases.specs.UnitSpelling.{onto_declarator, onto_more_declarators, onto_declarators, onto_storage}
+use Rattle.c_phrases.specs.UnitSpelling.{onto_local, onto_condition, onto_statement, onto_items, onto_named}
+use Rattle.c_phrases.specs.UnitSpelling.{onto_param, onto_more_params, onto_param_list, onto_params, onto_body}
+use Rattle.c_phrases.specs.UnitSpelling.{onto_declared, onto_static, onto_external, onto_externals, unit_tokens}
+use Rattle.c_phrases.specs.Fits.{PartFits, LengthFits, IsSome, InitFits, InitialisedFits, DeclaratorFits}
+use Rattle.c_phrases.specs.Fits.{DeclaratorsFit, HasDeclarator, LocalFits, IsShut, StatementFits, ItemsFit, ParamFits}
+use Rattle.c_phrases.specs.Fits.{ParamsFit, IsVoid, IsBare, SomeParamsFit, BodyFits, DeclaredFits, ExternalsFit}
+use Rattle.c_phrases.specs.UnitLevels.{LowPart, LowLength, LowInit, LowInitialised, LowDeclarator, LowDeclarators}
+use Rattle.c_phrases.specs.UnitLevels.{LowCondition, LowStatement, LowItems, LowParams, LowSomeParams, LowBody}
+use Rattle.c_phrases.specs.UnitLevels.{LowDeclared, LowExternals}
 use Rattle.c_phrases.specs.Fronts.{Quiet, IsNot, strength, mark_strength}
 use Rattle.c_phrases.specs.Fronts.{StandsBefore, LocalClass, BeginsLocal}
-use Rattle.c_syntax_goals.specs.Goals as Goals
-use Rattle.c_syntax_goals.specs.Goals.{Stack, Done, Want, Steps, Takes, Passes, Opens, turn, declarator_goals, declarator_behind, globals_behind, if_goals, while_goals, do_goals}
-use Rattle.c_syntax_goals.specs.Goals.{for_goals, local_rest, item_local, param_goals, param_behind, lone_param, some_params, function_behind, declared_goals, external_rest}
-use Rattle.c_syntax_goals.specs.Goals.{before, cond_goals}
-use Rattle.c_syntax_goals.specs.Goals.{Expr, Assign, Back, WantBracket, WantParen, WantSemi, WantWhile, TypeWords, Stars, Condition, Statement, Items, PartSemi, PartParen, ForOpen}
-use Rattle.c_syntax_goals.specs.Goals.{ElsePart, Local, DeclaratorName, ArrayPart, Length, InitPart, Init, Elements, InitMore, InitNext, MoreDeclarators, DeclaredName, AfterName}
-use Rattle.c_syntax_goals.specs.Goals.{Body, Params, OptName, MoreParams, External, Whole}
+use Rattle.c_syntax_goals.specs.Declarators as Declarators
+use Rattle.c_syntax_goals.specs.Externals as Externals
+use Rattle.c_syntax_goals.specs.Statements as Statements
+use Rattle.c_syntax_goals.specs.Expressions as Expressions
+use Rattle.c_syntax_goals.specs.Goals.{Stack, Done, Want, Steps, Takes, Passes, Opens, Expr, Assign, Back}
+use Rattle.c_syntax_goals.specs.Goals.{WantBracket, WantParen, WantSemi, WantWhile, TypeWords, Stars, Condition}
+use Rattle.c_syntax_goals.specs.Goals.{Statement, Items, PartSemi, PartParen, ForOpen, ElsePart, Local}
+use Rattle.c_syntax_goals.specs.Goals.{DeclaratorName, ArrayPart, Length, InitPart, Init, Elements, InitMore}
+use Rattle.c_syntax_goals.specs.Goals.{InitNext, MoreDeclarators, DeclaredName, AfterName, Body, Params, OptName}
+use Rattle.c_syntax_goals.specs.Goals.{MoreParams, External, Whole}
+use Rattle.c_syntax_goals.specs.Turns.{turn}
+use Rattle.c_syntax_goals.specs.Declarators.{declarator_goals, declarator_behind}
+use Rattle.c_syntax_goals.specs.Externals.{globals_behind, param_goals, param_behind, lone_param, some_params}
+use Rattle.c_syntax_goals.specs.Externals.{function_behind, declared_goals, external_rest, before}
+use Rattle.c_syntax_goals.specs.Statements.{if_goals, while_goals, do_goals, for_goals, local_rest, item_local}
+use Rattle.c_syntax_goals.specs.Expressions.{cond_goals}
 use Rattle.c_syntax_goals.specs.Machine.{run, closing, made, pick}
 use Rattle.c_syntax_goals.proofs.Tokens.{single, token_of}
 use Rattle.c_syntax_goals.proofs.Steps.{step_opens, back, law_stars}
@@ -68,49 +84,49 @@ ending_quiet : (w : List Placed) → Ending w → Quiet 1 w
 ending_quiet [] h = absurd h
 ending_quiet (t ∷ ts) h = end_quiet t.kind h
 
-array_by : (k : Class) → (k ≢ c.OpenBracket) → (t : Placed) (n : ℕ) (κ : Option ALength → Stack) → Goals.array_turn k t n κ ≡ Passes n None
+array_by : (k : Class) → (k ≢ c.OpenBracket) → (t : Placed) (n : ℕ) (κ : Option ALength → Stack) → Declarators.array_turn k t n κ ≡ Passes n None
 array_by c.OpenBracket h t n κ = absurd (h refl)
 array_by k h t n κ = refl
 
-init_by : (k : Class) → (k ≢ c.Equals) → (t : Placed) (n : ℕ) (κ : Option AnInitialised → Stack) → Goals.init_part_turn k t n κ ≡ Passes n None
+init_by : (k : Class) → (k ≢ c.Equals) → (t : Placed) (n : ℕ) (κ : Option AnInitialised → Stack) → Declarators.init_part_turn k t n κ ≡ Passes n None
 init_by c.Equals h t n κ = absurd (h refl)
 init_by k h t n κ = refl
 
-name_by : (k : Class) → (k ≢ c.Name) → (t : Placed) (n : ℕ) (κ : Option Named → Stack) → Goals.opt_name_turn k t n κ ≡ Passes n None
+name_by : (k : Class) → (k ≢ c.Name) → (t : Placed) (n : ℕ) (κ : Option Named → Stack) → Externals.opt_name_turn k t n κ ≡ Passes n None
 name_by c.Name h t n κ = absurd (h refl)
 name_by k h t n κ = refl
 
-else_by : (k : Class) → (k ≢ c.Else) → (t : Placed) (n at o : ℕ) (e : AnExp) (s : AStatement) (κ : AStatement → Stack) → Goals.else_turn k t n at o e s κ ≡ Passes n (if_then at o e s)
+else_by : (k : Class) → (k ≢ c.Else) → (t : Placed) (n at o : ℕ) (e : AnExp) (s : AStatement) (κ : AStatement → Stack) → Statements.else_turn k t n at o e s κ ≡ Passes n (if_then at o e s)
 else_by c.Else h t n at o e s κ = absurd (h refl)
 else_by k h t n at o e s κ = refl
 
-length_by : (k : Class) → (k ≢ c.CloseBracket) → (t : Placed) (n : ℕ) (κ : Option AnExp → Stack) → Goals.length_step k t n κ ≡ Goals.cond_step k t n (λ e. Want WantBracket (λ x. κ (Some e)))
+length_by : (k : Class) → (k ≢ c.CloseBracket) → (t : Placed) (n : ℕ) (κ : Option AnExp → Stack) → Declarators.length_step k t n κ ≡ Expressions.cond_step k t n (λ e. Want WantBracket (λ x. κ (Some e)))
 length_by c.CloseBracket h t n κ = absurd (h refl)
 length_by k h t n κ = refl
 
-init_value_by : (k : Class) → (k ≢ c.OpenBrace) → (t : Placed) (n : ℕ) (κ : AnInit → Stack) → Goals.init_step k t n κ ≡ Goals.assign_step k t n (λ a. Want (Back n) (λ x. κ (value a)))
+init_value_by : (k : Class) → (k ≢ c.OpenBrace) → (t : Placed) (n : ℕ) (κ : AnInit → Stack) → Declarators.init_step k t n κ ≡ Expressions.assign_step k t n (λ a. Want (Back n) (λ x. κ (value a)))
 init_value_by c.OpenBrace h t n κ = absurd (h refl)
 init_value_by k h t n κ = refl
 
-init_next_by : (k : Class) → (k ≢ c.CloseBrace) → (t : Placed) (n : ℕ) (κ : SomeExps × Bool → Stack) → Goals.init_next_step k t n κ
-    ≡ Goals.assign_step k t n (λ a. Want (Back n) (λ x. Want InitMore (λ r. κ (exps a r.0, r.1))))
+init_next_by : (k : Class) → (k ≢ c.CloseBrace) → (t : Placed) (n : ℕ) (κ : SomeExps × Bool → Stack) → Declarators.init_next_step k t n κ
+    ≡ Expressions.assign_step k t n (λ a. Want (Back n) (λ x. Want InitMore (λ r. κ (exps a r.0, r.1))))
 init_next_by c.CloseBrace h t n κ = absurd (h refl)
 init_next_by k h t n κ = refl
 
-part_semi_by : (k : Class) → (k ≢ c.Semicolon) → (t : Placed) (n : ℕ) (κ : Option AnExp → Stack) → Goals.part_semi_step k t n κ
-    ≡ Goals.expr_step k t n (λ e. Want (Back n) (λ x. Want WantSemi (λ y. κ (Some e))))
+part_semi_by : (k : Class) → (k ≢ c.Semicolon) → (t : Placed) (n : ℕ) (κ : Option AnExp → Stack) → Statements.part_semi_step k t n κ
+    ≡ Expressions.expr_step k t n (λ e. Want (Back n) (λ x. Want WantSemi (λ y. κ (Some e))))
 part_semi_by c.Semicolon h t n κ = absurd (h refl)
 part_semi_by k h t n κ = refl
 
-part_paren_by : (k : Class) → (k ≢ c.CloseParen) → (t : Placed) (n : ℕ) (κ : Option AnExp → Stack) → Goals.part_paren_step k t n κ
-    ≡ Goals.expr_step k t n (λ e. Want (Back n) (λ x. Want WantParen (λ y. κ (Some e))))
+part_paren_by : (k : Class) → (k ≢ c.CloseParen) → (t : Placed) (n : ℕ) (κ : Option AnExp → Stack) → Statements.part_paren_step k t n κ
+    ≡ Expressions.expr_step k t n (λ e. Want (Back n) (λ x. Want WantParen (λ y. κ (Some e))))
 part_paren_by c.CloseParen h t n κ = absurd (h refl)
 part_paren_by k h t n κ = refl
 
-after_name_by : (k : Class) → (k ≢ c.OpenParen) → (t : Placed) (n : ℕ) (ats f : List ℕ) (at : ℕ) (κ : ADeclared → Stack) (L : ℕ → Bool) → made L (Goals.after_name_step k t n ats f at κ) n
-    ≡ pick L (Goals.array_turn k t n (λ l. Want InitPart (λ i. globals_behind κ (record { stars = ats; name = f; at = at; length = l; init = i })))) n
-    (λ m v. pick L (Goals.init_part_turn k t m (λ i. globals_behind κ (record { stars = ats; name = f; at = at; length = v; init = i }))) m
-    (λ j w. made L (Goals.more_declarators_step k (λ ds. κ (globals (record { stars = ats; name = f; at = at; length = v; init = w } ∷ ds)))) j))
+after_name_by : (k : Class) → (k ≢ c.OpenParen) → (t : Placed) (n : ℕ) (ats f : List ℕ) (at : ℕ) (κ : ADeclared → Stack) (L : ℕ → Bool) → made L (Externals.after_name_step k t n ats f at κ) n
+    ≡ pick L (Declarators.array_turn k t n (λ l. Want InitPart (λ i. globals_behind κ (record { stars = ats; name = f; at = at; length = l; init = i })))) n
+    (λ m v. pick L (Declarators.init_part_turn k t m (λ i. globals_behind κ (record { stars = ats; name = f; at = at; length = v; init = i }))) m
+    (λ j w. made L (Declarators.more_declarators_step k (λ ds. κ (globals (record { stars = ats; name = f; at = at; length = v; init = w } ∷ ds)))) j))
 after_name_by c.OpenParen h t n ats f at κ L = absurd (h refl)
 after_name_by k h t n ats f at κ L = refl
 
@@ -211,7 +227,7 @@ begins (while_loop at o e s) w = tt
 begins (do_loop at s again o e) w = tt
 begins (for_loop at o a b d s) w = tt
 
-items_by : (k : Class) → BeginClass k → (t : Placed) (n : ℕ) (κ : SomeItems → Stack) → Goals.items_step k t n κ ≡ Goals.statement_step k t n (λ s. Want Items (λ is. κ (statement_item s is)))
+items_by : (k : Class) → BeginClass k → (t : Placed) (n : ℕ) (κ : SomeItems → Stack) → Statements.items_step k t n κ ≡ Statements.statement_step k t n (λ s. Want Items (λ is. κ (statement_item s is)))
 items_by c.Static h t n κ = absurd h
 items_by c.Register h t n κ = absurd h
 items_by c.Int h t n κ = absurd h
@@ -222,8 +238,8 @@ items_by c.Unsigned h t n κ = absurd h
 items_by c.CloseBrace h t n κ = absurd h
 items_by k h t n κ = refl
 
-statement_by : (k : Class) → StartClass k → (t : Placed) (n : ℕ) (κ : AStatement → Stack) → Goals.statement_step k t n κ
-    ≡ Goals.expr_step k t n (λ e. Want (Back n) (λ x. Want WantSemi (λ y. κ (expression e))))
+statement_by : (k : Class) → StartClass k → (t : Placed) (n : ℕ) (κ : AStatement → Stack) → Statements.statement_step k t n κ
+    ≡ Expressions.expr_step k t n (λ e. Want (Back n) (λ x. Want WantSemi (λ y. κ (expression e))))
 statement_by c.OpenBrace h t n κ = absurd h
 statement_by c.If h t n κ = absurd h
 statement_by c.While h t n κ = absurd h
@@ -235,7 +251,7 @@ statement_by c.Continue h t n κ = absurd h
 statement_by c.Return h t n κ = absurd h
 statement_by k h t n κ = refl
 
-items_local_by : (k : Class) → LocalClass k → (t : Placed) (n : ℕ) (κ : SomeItems → Stack) → Goals.items_step k t n κ ≡ Goals.local_step k t (item_local κ)
+items_local_by : (k : Class) → LocalClass k → (t : Placed) (n : ℕ) (κ : SomeItems → Stack) → Statements.items_step k t n κ ≡ Statements.local_step k t (item_local κ)
 items_local_by c.Static h t n κ = refl
 items_local_by c.Register h t n κ = refl
 items_local_by c.Int h t n κ = refl

@@ -20,14 +20,23 @@ use Rattle.c_syntax_goals.specs.declared.fault.Fault.TheVariants.{NotHere, TooDe
 use Rattle.c_phrases.specs.declared.tree.TypeName.{TypeName}
 use Rattle.c_phrases.specs.Classes.{Placed, Class, class_of, key_class, mark_class, word, sign}
 use Rattle.c_phrases.specs.Classes as c
-use Rattle.c_phrases.specs.Phrases.{AnExp, SomeExps, exps, sizeof_exp, onto_stars, binary_mark, prefix_mark, step_mark, assign_mark}
+use Rattle.c_phrases.specs.Phrases.{AnExp, SomeExps, exps, sizeof_exp}
+use Rattle.c_phrases.specs.Spelling.{onto_stars}
+use Rattle.c_phrases.specs.Operators.{binary_mark, prefix_mark, step_mark, assign_mark}
 use Rattle.c_phrases.specs.Takes.{TypeClass, NoTypeClass, IsTypeWord, NoTypeWord}
 use Rattle.c_phrases.specs.Fronts.{Quiet, IsNot, NoCast, strength, mark_strength}
-use Rattle.c_syntax_goals.specs.Goals as Goals
+use Rattle.c_syntax_goals.specs.Expressions as Expressions
+use Rattle.c_syntax_goals.specs.Types as Types
+use Rattle.c_syntax_goals.specs.Groups as Groups
 use Rattle.c_phrases.specs.Phrases as phrases
-use Rattle.c_syntax_goals.specs.Goals.{Goal, Val, Stack, Want, Step, Takes, Opens, Refuses, Turn, Steps, Passes, turn, insert, type_goals, cast_behind, paren_behind, sizeof_behind, cond_goals}
-use Rattle.c_syntax_goals.specs.Goals.{Expr, Commas, Assign, Cond, Cast, Unary, Primary, Parens, CallTail, PostTail, Ended, Tail, First, Group, SizeofTail, SizeofGroup, Arguments}
-use Rattle.c_syntax_goals.specs.Goals.{MoreArguments, Back, TypeWords, AfterShort, AfterUnsigned, Stars}
+use Rattle.c_syntax_goals.specs.Goals.{Goal, Val, Stack, Want, Step, Takes, Opens, Refuses, Turn, Steps, Passes, Expr}
+use Rattle.c_syntax_goals.specs.Goals.{Commas, Assign, Cond, Cast, Unary, Primary, Parens, CallTail, PostTail, Ended}
+use Rattle.c_syntax_goals.specs.Goals.{Tail, First, Group, SizeofTail, SizeofGroup, Arguments, MoreArguments, Back}
+use Rattle.c_syntax_goals.specs.Goals.{TypeWords, AfterShort, AfterUnsigned, Stars}
+use Rattle.c_syntax_goals.specs.Turns.{turn}
+use Rattle.c_syntax_goals.specs.Expressions.{insert, cond_goals}
+use Rattle.c_syntax_goals.specs.Types.{type_goals}
+use Rattle.c_syntax_goals.specs.Groups.{cast_behind, paren_behind, sizeof_behind}
 use Rattle.c_syntax_goals.specs.Machine.{Next, Goes, Ends, Deep, Stuck, on, at_end, made, pick, next, run}
 use Rattle.c_syntax_goals.proofs.Tokens.{single, token_of}
 
@@ -88,11 +97,11 @@ post_step steps.Increment at n l κ = refl
 post_step op at n l κ = refl
 
 -- classes at which parts end
-commas_by : (k : Class) → floor k ≤ 0 → (n : ℕ) (l : AnExp) (κ : AnExp → Stack) → Goals.commas_turn k n l κ ≡ Passes n l
+commas_by : (k : Class) → floor k ≤ 0 → (n : ℕ) (l : AnExp) (κ : AnExp → Stack) → Expressions.commas_turn k n l κ ≡ Passes n l
 commas_by c.Comma le n l κ = absurd (omega (arith, le))
 commas_by k le n l κ = refl
 
-tail_by : (k : Class) → floor k ≤ 1 → (t : Placed) (n : ℕ) (b : Bool) (l : AnExp) (κ : AnExp → Stack) → Goals.tail_turn k t n b l κ ≡ Passes n l
+tail_by : (k : Class) → floor k ≤ 1 → (t : Placed) (n : ℕ) (b : Bool) (l : AnExp) (κ : AnExp → Stack) → Expressions.tail_turn k t n b l κ ≡ Passes n l
 tail_by c.Equals le t n b l κ = absurd (omega (arith, le))
 tail_by c.Compound le t n b l κ = absurd (omega (arith, le))
 tail_by c.Question le t n b l κ = absurd (omega (arith, le))
@@ -101,27 +110,27 @@ tail_by c.Sign le t n b l κ = absurd (omega (arith, le))
 tail_by c.Star le t n b l κ = absurd (omega (arith, le))
 tail_by k le t n b l κ = refl
 
-post_by : (k : Class) → floor k ≤ 13 → (t : Placed) (n : ℕ) (l : AnExp) (κ : AnExp → Stack) → Goals.post_turn k t n l κ ≡ Passes n l
+post_by : (k : Class) → floor k ≤ 13 → (t : Placed) (n : ℕ) (l : AnExp) (κ : AnExp → Stack) → Expressions.post_turn k t n l κ ≡ Passes n l
 post_by c.OpenBracket le t n l κ = absurd (omega (arith, le))
 post_by c.OpenParen le t n l κ = absurd (omega (arith, le))
 post_by c.Step le t n l κ = absurd (omega (arith, le))
 post_by k le t n l κ = refl
 
-ended_by : (k : Class) → floor k ≤ 13 → (n : ℕ) → Goals.ended_turn k n ≡ Passes n tt
+ended_by : (k : Class) → floor k ≤ 13 → (n : ℕ) → Expressions.ended_turn k n ≡ Passes n tt
 ended_by c.OpenBracket le n = absurd (omega (arith, le))
 ended_by c.OpenParen le n = absurd (omega (arith, le))
 ended_by c.Step le n = absurd (omega (arith, le))
 ended_by k le n = refl
 
-call_by : (k : Class) → floor k ≤ 16 → (t : Placed) (n : ℕ) (f : List ℕ) (at : ℕ) (κ : AnExp → Stack) → Goals.call_turn k t n f at κ ≡ Passes n (phrases.name f at)
+call_by : (k : Class) → floor k ≤ 16 → (t : Placed) (n : ℕ) (f : List ℕ) (at : ℕ) (κ : AnExp → Stack) → Expressions.call_turn k t n f at κ ≡ Passes n (phrases.name f at)
 call_by c.OpenParen le t n f at κ = absurd (omega (arith, le))
 call_by k le t n f at κ = refl
 
-short_by : (k : Class) → (k ≢ c.Int) → (t : Placed) (n : ℕ) (κ : Option ℕ → Stack) → Goals.short_turn k t n κ ≡ Passes n None
+short_by : (k : Class) → (k ≢ c.Int) → (t : Placed) (n : ℕ) (κ : Option ℕ → Stack) → Types.short_turn k t n κ ≡ Passes n None
 short_by c.Int h t n κ = absurd (h refl)
 short_by k h t n κ = refl
 
-stars_by : (k : Class) → (k ≢ c.Star) → (t : Placed) (n : ℕ) (κ : List ℕ → Stack) → Goals.stars_turn k t n κ ≡ Passes n []
+stars_by : (k : Class) → (k ≢ c.Star) → (t : Placed) (n : ℕ) (κ : List ℕ → Stack) → Types.stars_turn k t n κ ≡ Passes n []
 stars_by c.Star h t n κ = absurd (h refl)
 stars_by k h t n κ = refl
 
@@ -135,12 +144,12 @@ abbrev pub Unset : List Placed → Type 0
 Unset [] = Unit {0}
 Unset (t ∷ ts) = NoSet (class_of t.kind)
 
-tail_unset : (k : Class) → NoSet k → (t : Placed) (n : ℕ) (l : AnExp) (κ : AnExp → Stack) → Goals.tail_turn k t n true l κ ≡ Goals.tail_turn k t n false l κ
+tail_unset : (k : Class) → NoSet k → (t : Placed) (n : ℕ) (l : AnExp) (κ : AnExp → Stack) → Expressions.tail_turn k t n true l κ ≡ Expressions.tail_turn k t n false l κ
 tail_unset c.Equals h t n l κ = absurd h
 tail_unset c.Compound h t n l κ = absurd h
 tail_unset k h t n l κ = refl
 
-group_by : (k : Class) → NoTypeClass k → (t : Placed) (o m n : ℕ) (κ : AnExp → Stack) → Goals.group_step k t o m n κ ≡ Goals.expr_step k t n (paren_behind o m κ)
+group_by : (k : Class) → NoTypeClass k → (t : Placed) (o m n : ℕ) (κ : AnExp → Stack) → Groups.group_step k t o m n κ ≡ Expressions.expr_step k t n (paren_behind o m κ)
 group_by c.Int h t o m n κ = absurd h
 group_by c.Char h t o m n κ = absurd h
 group_by c.Void h t o m n κ = absurd h
@@ -148,7 +157,7 @@ group_by c.Short h t o m n κ = absurd h
 group_by c.Unsigned h t o m n κ = absurd h
 group_by k h t o m n κ = refl
 
-first_by : (k : Class) → NoTypeClass k → (t : Placed) (o m n : ℕ) (κ : AnExp → Stack) → Goals.first_step k t o m n κ ≡ Goals.expr_step k t n (paren_behind o m (λ u. Want (Tail true u) κ))
+first_by : (k : Class) → NoTypeClass k → (t : Placed) (o m n : ℕ) (κ : AnExp → Stack) → Groups.first_step k t o m n κ ≡ Expressions.expr_step k t n (paren_behind o m (λ u. Want (Tail true u) κ))
 first_by c.Int h t o m n κ = absurd h
 first_by c.Char h t o m n κ = absurd h
 first_by c.Void h t o m n κ = absurd h
@@ -156,7 +165,7 @@ first_by c.Short h t o m n κ = absurd h
 first_by c.Unsigned h t o m n κ = absurd h
 first_by k h t o m n κ = refl
 
-sizeof_by : (k : Class) → NoTypeClass k → (t : Placed) (at o m n : ℕ) (κ : AnExp → Stack) → Goals.sizeof_group_step k t at o m n κ ≡ Goals.expr_step k t n (paren_behind o m (λ u. κ (sizeof_exp at u)))
+sizeof_by : (k : Class) → NoTypeClass k → (t : Placed) (at o m n : ℕ) (κ : AnExp → Stack) → Groups.sizeof_group_step k t at o m n κ ≡ Expressions.expr_step k t n (paren_behind o m (λ u. κ (sizeof_exp at u)))
 sizeof_by c.Int h t at o m n κ = absurd h
 sizeof_by c.Char h t at o m n κ = absurd h
 sizeof_by c.Void h t at o m n κ = absurd h
@@ -164,7 +173,7 @@ sizeof_by c.Short h t at o m n κ = absurd h
 sizeof_by c.Unsigned h t at o m n κ = absurd h
 sizeof_by k h t at o m n κ = refl
 
-group_type_by : (k : Class) → TypeClass k → (t : Placed) (o m n : ℕ) (κ : AnExp → Stack) → Goals.group_step k t o m n κ ≡ Goals.type_step k t (cast_behind o κ)
+group_type_by : (k : Class) → TypeClass k → (t : Placed) (o m n : ℕ) (κ : AnExp → Stack) → Groups.group_step k t o m n κ ≡ Types.type_step k t (cast_behind o κ)
 group_type_by c.Int h t o m n κ = refl
 group_type_by c.Char h t o m n κ = refl
 group_type_by c.Void h t o m n κ = refl
@@ -172,7 +181,7 @@ group_type_by c.Short h t o m n κ = refl
 group_type_by c.Unsigned h t o m n κ = refl
 group_type_by k h t o m n κ = absurd h
 
-first_type_by : (k : Class) → TypeClass k → (t : Placed) (o m n : ℕ) (κ : AnExp → Stack) → Goals.first_step k t o m n κ ≡ Goals.type_step k t (cast_behind o (λ e. Want (Tail false e) κ))
+first_type_by : (k : Class) → TypeClass k → (t : Placed) (o m n : ℕ) (κ : AnExp → Stack) → Groups.first_step k t o m n κ ≡ Types.type_step k t (cast_behind o (λ e. Want (Tail false e) κ))
 first_type_by c.Int h t o m n κ = refl
 first_type_by c.Char h t o m n κ = refl
 first_type_by c.Void h t o m n κ = refl
@@ -180,7 +189,7 @@ first_type_by c.Short h t o m n κ = refl
 first_type_by c.Unsigned h t o m n κ = refl
 first_type_by k h t o m n κ = absurd h
 
-sizeof_type_by : (k : Class) → TypeClass k → (t : Placed) (at o m n : ℕ) (κ : AnExp → Stack) → Goals.sizeof_group_step k t at o m n κ ≡ Goals.type_step k t (sizeof_behind at o m κ)
+sizeof_type_by : (k : Class) → TypeClass k → (t : Placed) (at o m n : ℕ) (κ : AnExp → Stack) → Groups.sizeof_group_step k t at o m n κ ≡ Types.type_step k t (sizeof_behind at o m κ)
 sizeof_type_by c.Int h t at o m n κ = refl
 sizeof_type_by c.Char h t at o m n κ = refl
 sizeof_type_by c.Void h t at o m n κ = refl
@@ -188,8 +197,8 @@ sizeof_type_by c.Short h t at o m n κ = refl
 sizeof_type_by c.Unsigned h t at o m n κ = refl
 sizeof_type_by k h t at o m n κ = absurd h
 
-arguments_by : (k : Class) → (k ≢ c.CloseParen) → (t : Placed) (n : ℕ) (κ : SomeExps → Stack) → Goals.arguments_step k t n κ
-    ≡ Goals.assign_step k t n (λ a. Want (Back n) (λ x. Want MoreArguments (λ es. κ (exps a es))))
+arguments_by : (k : Class) → (k ≢ c.CloseParen) → (t : Placed) (n : ℕ) (κ : SomeExps → Stack) → Expressions.arguments_step k t n κ
+    ≡ Expressions.assign_step k t n (λ a. Want (Back n) (λ x. Want MoreArguments (λ es. κ (exps a es))))
 arguments_by c.CloseParen h t n κ = absurd (h refl)
 arguments_by k h t n κ = refl
 

@@ -8,16 +8,23 @@ use Rattle.c_phrases.specs.declared.operator.Spec.TheVariants as specs
 use Rattle.c_phrases.specs.declared.tree.Named.{Named}
 use Rattle.c_phrases.specs.Classes.{word, sign}
 use Rattle.c_phrases.specs.Phrases.{AnExp, IsAt}
-use Rattle.c_phrases.specs.Units.{ALength, ADeclarator, AStatement, block, expression, if_then, if_else, while_loop, do_loop, for_loop}
-use Rattle.c_phrases.specs.Units.{SomeItems, local_item, statement_item, AParam, SomeParams, ADeclared, function, globals, AnExternal, AUnit}
+use Rattle.c_phrases.specs.Units.{ALength, ADeclarator, AStatement, block, expression, if_then, if_else, while_loop}
+use Rattle.c_phrases.specs.Units.{do_loop, for_loop, SomeItems, local_item, statement_item, AParam, SomeParams}
+use Rattle.c_phrases.specs.Units.{ADeclared, function, globals, AnExternal, AUnit}
 use Rattle.c_phrases.specs.Fits.{LengthFits, DeclaratorFits, IsShut, ParamFits, ParamsFit, SomeParamsFit}
-use Rattle.c_syntax_goals.specs.Openings.{Opening, opens, plain, levelled_spec, levelled_stars, levelled_name, levelled_exp, levelled_part, levelled_length}
-use Rattle.c_syntax_goals.specs.Openings.{levelled_declarator, levelled_local, levelled_condition, levelled_statement, levelled_named, levelled_param, levelled_more_params}
-use Rattle.c_syntax_goals.specs.Openings.{levelled_params, levelled_static, levelled_external}
-use Rattle.c_syntax_goals.specs.Goals.{Stack, Want, declarator_behind, if_goals, while_goals, do_goals, for_goals, item_local, param_goals, lone_param, some_params}
-use Rattle.c_syntax_goals.specs.Goals.{function_behind, globals_behind, external_rest, before}
-use Rattle.c_syntax_goals.specs.Goals.{Expr, Back, WantParen, WantSemi, TypeWords}
-use Rattle.c_syntax_goals.specs.Goals.{Condition, Statement, Items, PartSemi, PartParen, ElsePart, Local, AfterName, Body, Params, MoreParams, External, Whole}
+use Rattle.c_syntax_goals.specs.Openings.{Opening, opens, plain, levelled_spec, levelled_stars, levelled_name}
+use Rattle.c_syntax_goals.specs.Openings.{levelled_exp, levelled_part}
+use Rattle.c_syntax_goals.specs.StatementOpenings.{levelled_length, levelled_declarator, levelled_local}
+use Rattle.c_syntax_goals.specs.StatementOpenings.{levelled_condition, levelled_statement}
+use Rattle.c_syntax_goals.specs.UnitOpenings.{levelled_named, levelled_param, levelled_more_params, levelled_params}
+use Rattle.c_syntax_goals.specs.UnitOpenings.{levelled_static, levelled_external}
+use Rattle.c_syntax_goals.specs.Goals.{Stack, Want, Expr, Back, WantParen, WantSemi, TypeWords, Condition, Statement}
+use Rattle.c_syntax_goals.specs.Goals.{Items, PartSemi, PartParen, ElsePart, Local, AfterName, Body, Params}
+use Rattle.c_syntax_goals.specs.Goals.{MoreParams, External, Whole}
+use Rattle.c_syntax_goals.specs.Declarators.{declarator_behind}
+use Rattle.c_syntax_goals.specs.Statements.{if_goals, while_goals, do_goals, for_goals, item_local}
+use Rattle.c_syntax_goals.specs.Externals.{param_goals, lone_param, some_params, function_behind, globals_behind}
+use Rattle.c_syntax_goals.specs.Externals.{external_rest, before}
 use Rattle.c_syntax_goals.proofs.Yields.{Found, open_paren, close_paren, semi, comma_mark, NoElse, IsStatement, Yields}
 use Rattle.c_syntax_goals.proofs.Joins.{behind_read}
 

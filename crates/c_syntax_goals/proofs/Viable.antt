@@ -6,8 +6,10 @@ use Rattle.c_syntax_goals.specs.declared.fault.Fault.TheVariants.{NotHere, TooDe
 use Rattle.c_phrases.specs.Classes.{Placed, class_of}
 use Rattle.c_phrases.specs.Levels.{free, limit}
 use Rattle.c_phrases.specs.Units.{AUnit}
-use Rattle.c_syntax_goals.specs.Openings.{Opening, opens, tokens_of}
-use Rattle.c_syntax_goals.specs.Goals.{Stack, Done, Want, Takes, Opens, Finishes, Refuses, Turn, Steps, Passes, turn}
+use Rattle.c_syntax_goals.specs.Openings.{Opening, opens}
+use Rattle.c_syntax_goals.specs.UnitOpenings.{tokens_of}
+use Rattle.c_syntax_goals.specs.Goals.{Stack, Done, Want, Takes, Opens, Finishes, Refuses, Turn, Steps, Passes}
+use Rattle.c_syntax_goals.specs.Turns.{turn}
 use Rattle.c_syntax_goals.specs.Machine.{Next, Goes, Ends, Deep, Stuck, at_end, on, pick, next, run}
 use Rattle.c_syntax_goals.proofs.Yields.{Yields}
 use Rattle.c_syntax_goals.proofs.Spelled.{spelled, respelled}

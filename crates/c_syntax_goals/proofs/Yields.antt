@@ -7,18 +7,27 @@ use Rattle.c_phrases.specs.declared.operator.Spec.{Spec}
 use Rattle.c_phrases.specs.declared.tree.Named.{Named}
 use Rattle.c_phrases.specs.Classes.{Placed, word, sign}
 use Rattle.c_phrases.specs.Phrases.{AnExp, SomeExps, IsAt, AllAt, after_exp}
-use Rattle.c_phrases.specs.Units.{ALength, AnInit, AnInitialised, ADeclarator, ALocal, AStatement, if_then, if_else, SomeItems, AParam, SomeParams, ADeclared, AnExternal, AUnit}
-use Rattle.c_phrases.specs.Fits.{PartFits, LengthFits, InitFits, InitialisedFits, DeclaratorFits, DeclaratorsFit, LocalFits, IsShut, StatementFits, ItemsFit, ParamsFit}
-use Rattle.c_phrases.specs.Fits.{SomeParamsFit, BodyFits, DeclaredFits, ExternalsFit}
-use Rattle.c_syntax_goals.specs.Openings.{Opening, opens, plain, levelled_int, levelled_spec, levelled_stars, levelled_name, levelled_exp, levelled_first, levelled_others}
-use Rattle.c_syntax_goals.specs.Openings.{levelled_part, levelled_length, levelled_trailing, levelled_init, levelled_initialised}
-use Rattle.c_syntax_goals.specs.Openings.{levelled_declarator, levelled_more_declarators, levelled_local, levelled_condition, levelled_statement, levelled_items, levelled_named}
-use Rattle.c_syntax_goals.specs.Openings.{levelled_more_params, levelled_params, levelled_body, levelled_declared, levelled_external, levelled_externals}
-use Rattle.c_syntax_goals.specs.Goals.{Goal, Val, Stack, Done, Want}
-use Rattle.c_syntax_goals.specs.Goals.{Expr, Commas, Assign, Cond, Cast, Unary, Primary, Parens, CallTail, PostTail, Ended, Tail, First, Group, SizeofTail, SizeofGroup, Arguments}
-use Rattle.c_syntax_goals.specs.Goals.{MoreArguments, Back, WantParen, WantBracket, WantColon, WantSemi, WantWhile, TypeWords, AfterShort, AfterUnsigned, Stars}
-use Rattle.c_syntax_goals.specs.Goals.{Condition, Simple, Statement, Items, PartSemi, PartParen, ForOpen, ElsePart, Local, DeclaratorName, ArrayPart, Length, InitPart, Init}
-use Rattle.c_syntax_goals.specs.Goals.{Elements, InitMore, InitNext, MoreDeclarators, DeclaredName, AfterName, Body, Params, OptName, MoreParams, External, Whole}
+use Rattle.c_phrases.specs.Units.{ALength, AnInit, AnInitialised, ADeclarator, ALocal, AStatement, if_then, if_else}
+use Rattle.c_phrases.specs.Units.{SomeItems, AParam, SomeParams, ADeclared, AnExternal, AUnit}
+use Rattle.c_phrases.specs.Fits.{PartFits, LengthFits, InitFits, InitialisedFits, DeclaratorFits, DeclaratorsFit}
+use Rattle.c_phrases.specs.Fits.{LocalFits, IsShut, StatementFits, ItemsFit, ParamsFit, SomeParamsFit, BodyFits}
+use Rattle.c_phrases.specs.Fits.{DeclaredFits, ExternalsFit}
+use Rattle.c_syntax_goals.specs.Openings.{Opening, opens, plain, levelled_int, levelled_spec, levelled_stars}
+use Rattle.c_syntax_goals.specs.Openings.{levelled_name, levelled_exp, levelled_first, levelled_others, levelled_part}
+use Rattle.c_syntax_goals.specs.StatementOpenings.{levelled_length, levelled_trailing, levelled_init}
+use Rattle.c_syntax_goals.specs.StatementOpenings.{levelled_initialised, levelled_declarator}
+use Rattle.c_syntax_goals.specs.StatementOpenings.{levelled_more_declarators, levelled_local, levelled_condition}
+use Rattle.c_syntax_goals.specs.StatementOpenings.{levelled_statement, levelled_items}
+use Rattle.c_syntax_goals.specs.UnitOpenings.{levelled_named, levelled_more_params, levelled_params, levelled_body}
+use Rattle.c_syntax_goals.specs.UnitOpenings.{levelled_declared, levelled_external, levelled_externals}
+use Rattle.c_syntax_goals.specs.Goals.{Goal, Val, Stack, Done, Want, Expr, Commas, Assign, Cond, Cast, Unary, Primary}
+use Rattle.c_syntax_goals.specs.Goals.{Parens, CallTail, PostTail, Ended, Tail, First, Group, SizeofTail, SizeofGroup}
+use Rattle.c_syntax_goals.specs.Goals.{Arguments, MoreArguments, Back, WantParen, WantBracket, WantColon, WantSemi}
+use Rattle.c_syntax_goals.specs.Goals.{WantWhile, TypeWords, AfterShort, AfterUnsigned, Stars, Condition, Simple}
+use Rattle.c_syntax_goals.specs.Goals.{Statement, Items, PartSemi, PartParen, ForOpen, ElsePart, Local}
+use Rattle.c_syntax_goals.specs.Goals.{DeclaratorName, ArrayPart, Length, InitPart, Init, Elements, InitMore}
+use Rattle.c_syntax_goals.specs.Goals.{InitNext, MoreDeclarators, DeclaredName, AfterName, Body, Params, OptName}
+use Rattle.c_syntax_goals.specs.Goals.{MoreParams, External, Whole}
 
 -- a phrase at the front, and what is asked of the rest
 pub record Found (A : Type 0) (P : A → List Opening → Type 0) (K : A → List Opening → Type 0) : Type 0 where

@@ -1,4 +1,15 @@
 pub mod Goals
+pub mod Contents
+pub mod Types
+pub mod Expressions
+pub mod Groups
+pub mod Wanted
+pub mod Declarators
+pub mod Statements
+pub mod Externals
+pub mod Turns
 pub mod Machine
 pub mod Openings
+pub mod StatementOpenings
+pub mod UnitOpenings
 pub mod Refusals

@@ -4,7 +4,8 @@ use Rattle.c_syntax_goals.specs.declared.fault.Fault.{Fault}
 use Rattle.c_syntax_goals.specs.declared.fault.Fault.TheVariants.{NotHere, TooDeep}
 use Rattle.c_phrases.specs.Classes.{Placed, class_of}
 use Rattle.c_phrases.specs.Units.{AUnit}
-use Rattle.c_syntax_goals.specs.Goals.{Stack, Done, Want, Step, Takes, Opens, Finishes, Refuses, Turn, Steps, Passes, turn}
+use Rattle.c_syntax_goals.specs.Goals.{Stack, Done, Want, Step, Takes, Opens, Finishes, Refuses, Turn, Steps, Passes}
+use Rattle.c_syntax_goals.specs.Turns.{turn}
 
 -- what is to be read behind the token, and at which level
 pub data Next : Type 0 where

@@ -3,12 +3,14 @@ use Rattle.std.specs.Prelude.{◌≡◌, ℕ, zero, suc, List, [], ◌∷◌, �
 use Rattle.c_tokens.specs.declared.token.Spanned.{Spanned}
 use Rattle.c_phrases.specs.Classes.{Placed, placed, seen}
 use Rattle.c_phrases.specs.Levels.{limit}
-use Rattle.c_phrases.specs.Units.{AUnit, unit_tokens}
+use Rattle.c_phrases.specs.Units.{AUnit}
+use Rattle.c_phrases.specs.UnitSpelling.{unit_tokens}
 use Rattle.c_phrases.specs.Fits.{ExternalsFit}
 use Rattle.c_syntax_goals.specs.declared.fault.Fault.{Fault}
 use Rattle.c_syntax_goals.specs.Goals.{Want, Done, Whole}
 use Rattle.c_syntax_goals.specs.Machine.{run}
-use Rattle.c_syntax_goals.specs.Openings.{Opening, levelled}
+use Rattle.c_syntax_goals.specs.Openings.{Opening}
+use Rattle.c_syntax_goals.specs.UnitOpenings.{levelled}
 
 -- The run of a text stops with this fault.
 abbrev pub Stops : List Spanned → Fault → Type 0

@@ -4,14 +4,17 @@ ghost use Rattle.c_syntax_goals.specs.declared.fault.Fault.TheVariants.{NotHere,
 ghost use Rattle.c_tokens.specs.declared.token.Spanned.{Spanned};
 ghost use Rattle.c_tokens.specs.Grammar.{IsEnded};
 ghost use Rattle.c_phrases.specs.Classes.{Placed};
-ghost use Rattle.c_phrases.specs.Phrases.{AnExp, IsAt, onto_exp, after_exp};
+ghost use Rattle.c_phrases.specs.Phrases.{AnExp, IsAt, after_exp};
+ghost use Rattle.c_phrases.specs.Spelling.{onto_exp};
 ghost use Rattle.c_phrases.specs.Levels.{LowExp, limit};
 ghost use Rattle.c_phrases.specs.Fronts.{Quiet};
-ghost use Rattle.c_phrases.specs.Units.{AUnit, unit_tokens};
-ghost use Rattle.c_phrases.specs.Fits.{ExternalsFit, LowExternals};
+ghost use Rattle.c_phrases.specs.Units.{AUnit};
+ghost use Rattle.c_phrases.specs.UnitSpelling.{unit_tokens};
+ghost use Rattle.c_phrases.specs.Fits.{ExternalsFit};
+ghost use Rattle.c_phrases.specs.UnitLevels.{LowExternals};
 ghost use Rattle.c_syntax_goals.specs.Goals.{Stack, Want, Done, Expr, Whole};
 ghost use Rattle.c_syntax_goals.specs.Machine.{run};
-ghost use Rattle.c_syntax_goals.specs.Openings.{levelled, tokens_of};
+ghost use Rattle.c_syntax_goals.specs.UnitOpenings.{levelled, tokens_of};
 ghost use Rattle.c_syntax_goals.specs.Refusals.{IsPlace, NoneDeep, NotHereAt, Stops, TooDeepAt};
 
 /// An expression within the levels is read, whatever is to be read behind it.

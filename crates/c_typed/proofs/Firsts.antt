@@ -9,7 +9,7 @@ use Rattle.c_phrases.specs.declared.tree.Ast.{Ast}
 use Rattle.c_phrases.specs.Classes.{seen}
 use Rattle.c_phrases.specs.Units.{AUnit}
 use Rattle.c_phrases.specs.UnitShapes.{unit_of}
-use Rattle.c_phrases.specs.Fits.{IsUnit}
+use Rattle.c_phrases.specs.Grammar.{IsUnit}
 use Rattle.c_syntax_goals.specs.Refusals.{NotHereAt, TooDeepAt}
 use Rattle.c_syntax.specs.declared.fault.SyntaxFault.{SyntaxFault}
 use Rattle.c_syntax.specs.declared.fault.SyntaxFault.TheVariants as syntax

@@ -9,7 +9,7 @@ use Rattle.c_tokens.specs.Wrong.{FirstFault}
 use Rattle.c_tokens.specs.Places.{line_of, column_of}
 use Rattle.c_phrases.specs.Classes.{seen}
 use Rattle.c_phrases.specs.Units.{AUnit}
-use Rattle.c_phrases.specs.Fits.{IsUnit}
+use Rattle.c_phrases.specs.Grammar.{IsUnit}
 use Rattle.c_syntax_goals.specs.Refusals.{NotHereAt, TooDeepAt}
 use Rattle.c_types.specs.declared.fault.TypeKind.{TypeKind}
 use Rattle.c_types.specs.declared.fault.TypeKind.TheVariants as types

@@ -8,11 +8,13 @@ use Rattle.c_phrases.specs.declared.operator.Spec.{Spec}
 use Rattle.c_phrases.specs.declared.operator.Storage.{Storage}
 use Rattle.c_phrases.specs.declared.operator.Storage.TheVariants as storages
 use Rattle.c_phrases.specs.declared.tree.Named.{Named}
-use Rattle.c_phrases.specs.Phrases.{AnExp, name, number, str, paren, call, index, step_after, step_before, prefix, sizeof_exp, sizeof_type, cast, binary, choice, assign, comma}
-use Rattle.c_phrases.specs.Phrases.{SomeExps, no_exps, exps}
-use Rattle.c_phrases.specs.Units.{AnInit, value, elements, ADeclarator, ALocal, AStatement, block, empty, expression, break_off, continue_on, give_back, if_then, if_else}
-use Rattle.c_phrases.specs.Units.{while_loop, do_loop, for_loop, SomeItems, no_items, local_item, statement_item, AParam, AFunction, ADeclared, function, globals, AnExternal}
-use Rattle.c_phrases.specs.Units.{AUnit}
+use Rattle.c_phrases.specs.Phrases.{AnExp, name, number, str, paren, call, index, step_after, step_before, prefix}
+use Rattle.c_phrases.specs.Phrases.{sizeof_exp, sizeof_type, cast, binary, choice, assign, comma, SomeExps, no_exps}
+use Rattle.c_phrases.specs.Phrases.{exps}
+use Rattle.c_phrases.specs.Units.{AnInit, value, elements, ADeclarator, ALocal, AStatement, block, empty, expression}
+use Rattle.c_phrases.specs.Units.{break_off, continue_on, give_back, if_then, if_else, while_loop, do_loop, for_loop}
+use Rattle.c_phrases.specs.Units.{SomeItems, no_items, local_item, statement_item, AParam, AFunction, ADeclared}
+use Rattle.c_phrases.specs.Units.{function, globals, AnExternal, AUnit}
 use Rattle.c_types.specs.declared.types.CType.{CType}
 use Rattle.c_types.specs.declared.fault.TypeKind.TheVariants.{DataFull}
 use Rattle.c_types.specs.Answers.{Fault, bad, ◌>>=◌}
@@ -31,9 +33,12 @@ use Rattle.c_typed_definition.specs.Initialisers.{type_length, type_element, typ
 use Rattle.c_typed_definition.specs.Declarations.{State, with_area, measuring, counted_static, laid, length_in, literals_in, contents_of, finished, object_with, plain_object}
 use Rattle.c_typed_definition.specs.Declarations.{counted_array, array_object, object_by, type_object, with_local, begun, type_automatic, type_local, type_locals}
 use Rattle.c_typed_definition.specs.Statements.{entered, left, jump, type_full, type_condition, type_maybe, type_maybe_condition, type_return, type_statement, type_items}
-use Rattle.c_typed_definition.specs.Texts.{with_parameter, Text, with_declared, entered_function, signature_of, agrees, earlier_by, head_of, is_below, type_parameter}
-use Rattle.c_typed_definition.specs.Texts.{parameter_length, type_parameters, type_body, type_introduced, type_function, type_globals, type_declared, type_externals, whole_by}
-use Rattle.c_typed_definition.specs.Texts.{main_of, known, empty_text, type_text}
+use Rattle.c_typed_definition.specs.Headings.{with_parameter, Text, with_declared, entered_function, agrees}
+use Rattle.c_typed_definition.specs.Headings.{earlier_by, head_of, is_below}
+use Rattle.c_typed_definition.specs.Signatures.{signature_of, known}
+use Rattle.c_typed_definition.specs.Texts.{type_parameter, parameter_length, type_parameters, type_body}
+use Rattle.c_typed_definition.specs.Texts.{type_introduced, type_function, type_globals, type_declared}
+use Rattle.c_typed_definition.specs.Texts.{type_externals, whole_by, main_of, empty_text, type_text}
 use Rattle.c_typed_check.specs.Laid.{LiesBehind, LieFrom, AreLaid}
 use Rattle.c_typed_law.proofs.Texts.{text_means}
 use Rattle.c_typed_check.specs.Typed.{IsTypedUnit}

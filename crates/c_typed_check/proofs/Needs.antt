@@ -15,9 +15,12 @@ use Rattle.c_typed_expressions.specs.Phrases.{params_in}
 use Rattle.c_typed_expressions.specs.Expressions.{integer_of, written}
 use Rattle.c_typed_scope.specs.Scopes.{find}
 use Rattle.c_typed_definition.specs.Statements.{type_items}
-use Rattle.c_typed_definition.specs.Texts.{Text, with_declared, with_state, with_body, body_of, left_function, entered_function, signature_of, agrees, earlier_by, head_of}
-use Rattle.c_typed_definition.specs.Texts.{is_below, type_parameters, type_globals, type_body, type_introduced, type_function, type_declared, type_external, type_externals}
-use Rattle.c_typed_definition.specs.Texts.{main_of, whole_by, type_text, empty_text, known}
+use Rattle.c_typed_definition.specs.Headings.{Text, with_declared, with_state, with_body, body_of, left_function}
+use Rattle.c_typed_definition.specs.Headings.{entered_function, agrees, earlier_by, head_of, is_below}
+use Rattle.c_typed_definition.specs.Signatures.{signature_of, known}
+use Rattle.c_typed_definition.specs.Texts.{type_parameters, type_globals, type_body, type_introduced, type_function}
+use Rattle.c_typed_definition.specs.Texts.{type_declared, type_external, type_externals, main_of, whole_by, type_text}
+use Rattle.c_typed_definition.specs.Texts.{empty_text}
 use Rattle.c_typed_law.proofs.Texts.{text_means}
 use Rattle.c_typed_check.specs.Typed.{IsTypedUnit, need_in, need_at}
 

@@ -15,7 +15,10 @@ use Rattle.c_typed_scope.specs.declared.entry.Signature.{Signature}
 use Rattle.c_program.specs.declared.program.Routine.{Routine}
 use Rattle.c_program.specs.Programs.{ARoutine, AProgram, routine}
 use Rattle.c_typed_definition.specs.Declarations.{State, type_object}
-use Rattle.c_typed_definition.specs.Texts.{Known, known, known_with, known_from, Text, empty_text, whole_by, type_text, type_globals, type_external, type_externals, is_main, behind, main_of}
+use Rattle.c_typed_definition.specs.Signatures.{Known, known, known_with, known_from}
+use Rattle.c_typed_definition.specs.Headings.{Text}
+use Rattle.c_typed_definition.specs.Texts.{empty_text, whole_by, type_text, type_globals, type_external}
+use Rattle.c_typed_definition.specs.Texts.{type_externals, is_main, behind, main_of}
 
 abbrev fine : {A : Type 0} → A → Result A Fault
 fine x = Ok x

@@ -15,7 +15,7 @@ use Rattle.c_types.specs.Answers.{Fault, bad, ◌>>=◌}
 use Rattle.c_types.specs.Types.{size_of, pointer_to}
 use Rattle.c_types.specs.Typed.{AnExpression}
 use Rattle.c_types.specs.Types.{is_scalar}
-use Rattle.c_typed_operators.specs.Rules.{given}
+use Rattle.c_typed_operators.specs.Stores.{given}
 use Rattle.c_typed_scope.specs.declared.entry.Entry.{Entry}
 use Rattle.c_typed_scope.specs.declared.entry.Entry.TheVariants as entries
 use Rattle.c_typed_scope.specs.declared.entry.Signature.{Signature}

@@ -2,4 +2,6 @@ pub mod Initialisers
 pub mod Forms
 pub mod Declarations
 pub mod Statements
+pub mod Signatures
+pub mod Headings
 pub mod Texts

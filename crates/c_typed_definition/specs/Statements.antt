@@ -4,7 +4,8 @@ use Rattle.c_types.specs.declared.types.CType.{CType}
 use Rattle.c_types.specs.declared.fault.TypeKind.TheVariants.{BadJump, BadType}
 use Rattle.c_types.specs.Answers.{Fault, bad, ◌>>=◌}
 use Rattle.c_types.specs.Typed.{AnExpression}
-use Rattle.c_typed_operators.specs.Rules.{given, condition_of}
+use Rattle.c_typed_operators.specs.Stores.{given}
+use Rattle.c_typed_operators.specs.Choices.{condition_of}
 use Rattle.c_typed_scope.specs.declared.entry.Entry.{Entry}
 use Rattle.c_typed_scope.specs.declared.entry.Signature.{Signature}
 use Rattle.c_phrases.specs.Phrases.{AnExp}

@@ -4,7 +4,9 @@ use Rattle.c_types.specs.declared.typed.Moment.TheVariants as moments
 use Rattle.c_types.specs.declared.fault.TypeKind.TheVariants.{BadType}
 use Rattle.c_types.specs.Answers.{Fault, bad, ◌>>=◌}
 use Rattle.c_types.specs.Typed.{AnExpression, NoExpressions, MoreExpressions, Constant}
-use Rattle.c_typed_operators.specs.Rules.{prefix_of, index_of, step, cast_of, sizeof_of, sizeof_type_of, choice_of, comma_of, assign_of}
+use Rattle.c_typed_operators.specs.Prefixes.{prefix_of, index_of, step, cast_of, sizeof_of, sizeof_type_of}
+use Rattle.c_typed_operators.specs.Choices.{choice_of, comma_of}
+use Rattle.c_typed_operators.specs.Stores.{assign_of}
 use Rattle.c_typed_operators.specs.Table.{Means}
 use Rattle.c_typed_operators.proofs.Rows.{binary_means}
 use Rattle.c_typed_scope.specs.declared.entry.Entry.{Entry}
@@ -12,8 +14,9 @@ use Rattle.c_typed_scope.specs.declared.entry.Entry.TheVariants as entries
 use Rattle.c_typed_scope.specs.declared.entry.Signature.{Signature}
 use Rattle.c_typed_scope.specs.Scopes.{Scope, find, lookup}
 use Rattle.c_typed_scope.specs.Layout.{Area, literal}
-use Rattle.c_phrases.specs.Phrases.{AnExp, name, number, str, paren, call, index, step_after, step_before, prefix, sizeof_exp, sizeof_type, cast, binary, choice, assign, comma}
-use Rattle.c_phrases.specs.Phrases.{SomeExps, no_exps, exps}
+use Rattle.c_phrases.specs.Phrases.{AnExp, name, number, str, paren, call, index, step_after, step_before, prefix}
+use Rattle.c_phrases.specs.Phrases.{sizeof_exp, sizeof_type, cast, binary, choice, assign, comma, SomeExps, no_exps}
+use Rattle.c_phrases.specs.Phrases.{exps}
 use Rattle.c_typed_expressions.specs.Expressions.{written, named_by, named, is_function_by, is_function, callee, called, beside, sizeof_unless, type_exp, type_exps}
 use Rattle.c_typed_expressions.specs.Relations.{Joint, FirstOf, Within, Behind, Beside, Unless, Refuses, Passes, IsNamed, NamesVariable, NamesArray, NamedFault, NamesNothing}
 use Rattle.c_typed_expressions.specs.Relations.{NamesFunction, IsTyped, AreTyped, FirstFault, FirstFaultOf}

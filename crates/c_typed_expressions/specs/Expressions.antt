@@ -14,8 +14,10 @@ use Rattle.c_types.specs.declared.fault.TypeKind.TheVariants.{UnknownName, BadTy
 use Rattle.c_types.specs.Answers.{Fault, bad, ◌>>=◌}
 use Rattle.c_types.specs.Typed.{AnExpression, SomeExpressions, NoExpressions, MoreExpressions, Constant, ReadOf}
 use Rattle.c_types.specs.Typed.{ArrayAt, CallOf, VariableAt}
-use Rattle.c_typed_operators.specs.Rules.{fits, binary_of, prefix_of, index_of, step, cast_of, sizeof_of}
-use Rattle.c_typed_operators.specs.Rules.{sizeof_type_of, choice_of, comma_of, assign_of}
+use Rattle.c_typed_operators.specs.Rules.{fits, binary_of}
+use Rattle.c_typed_operators.specs.Prefixes.{prefix_of, index_of, step, cast_of, sizeof_of, sizeof_type_of}
+use Rattle.c_typed_operators.specs.Choices.{choice_of, comma_of}
+use Rattle.c_typed_operators.specs.Stores.{assign_of}
 use Rattle.c_typed_scope.specs.declared.entry.Entry.{Entry}
 use Rattle.c_typed_scope.specs.declared.entry.Entry.TheVariants as entries
 use Rattle.c_typed_scope.specs.declared.entry.Signature.{Signature}

@@ -8,7 +8,9 @@ use Rattle.c_types.specs.declared.fault.TypeKind.{TypeKind}
 use Rattle.c_types.specs.declared.fault.TypeKind.TheVariants.{UnknownName, BadType}
 use Rattle.c_types.specs.Answers.{Fault}
 use Rattle.c_types.specs.Typed.{AnExpression, SomeExpressions, NoExpressions, MoreExpressions, Constant, ReadOf, ArrayAt, VariableAt}
-use Rattle.c_typed_operators.specs.Rules.{prefix_of, index_of, step, cast_of, sizeof_of, sizeof_type_of, choice_of, comma_of, assign_of}
+use Rattle.c_typed_operators.specs.Prefixes.{prefix_of, index_of, step, cast_of, sizeof_of, sizeof_type_of}
+use Rattle.c_typed_operators.specs.Choices.{choice_of, comma_of}
+use Rattle.c_typed_operators.specs.Stores.{assign_of}
 use Rattle.c_typed_operators.specs.Table.{IsBinary, NoRow}
 use Rattle.c_typed_scope.specs.declared.entry.Entry.{Entry}
 use Rattle.c_typed_scope.specs.declared.entry.Entry.TheVariants as entries

@@ -8,7 +8,8 @@ use Rattle.c_types.specs.declared.types.CType.{CType}
 use Rattle.c_types.specs.declared.fault.TypeKind.TheVariants.{Twice, LeftOut, BadInit, BadType}
 use Rattle.c_types.specs.Types.{size_of, pointer_to, is_scalar}
 use Rattle.c_types.specs.Typed.{AnExpression, ConvertTo}
-use Rattle.c_typed_operators.specs.Rules.{fits, given}
+use Rattle.c_typed_operators.specs.Rules.{fits}
+use Rattle.c_typed_operators.specs.Stores.{given}
 use Rattle.c_typed_operators.specs.Table.{Means}
 use Rattle.c_typed_scope.specs.declared.entry.Entry.{Entry}
 use Rattle.c_typed_scope.specs.declared.entry.Entry.TheVariants as entries
@@ -26,10 +27,13 @@ use Rattle.c_typed_definition.specs.Forms.{text_of, form_fits, given_count, own_
 use Rattle.c_typed_definition.specs.Declarations.{State, with_area, measuring, variable_of, array_entry, laid, text_contents, with_local, length_in, literals_in, contents_of}
 use Rattle.c_typed_definition.specs.Declarations.{object_with, plain_object, counted_array, array_object, object_by, type_object, begun, type_automatic, type_local, type_locals}
 use Rattle.c_typed_law.specs.Tests.{With, Without, Lacking, Never}
-use Rattle.c_typed_law.specs.Objects.{IsForm, FormFault, IsPlainForm, PlainFault, IsAutomaticForm, AutomaticFormFault, IsCount, CountFault, AreLaid, LaidFault, HoldsAtFirst}
-use Rattle.c_typed_law.specs.Objects.{HoldsFault, IsFilled, FilledFault, IsPlainObject, PlainObjectFault, IsCountedArray, CountedArrayFault, IsArrayObject, ArrayObjectFault}
-use Rattle.c_typed_law.specs.Objects.{IsObjectBy, ObjectFaultBy, IsObject, ObjectFault, IsBegun, BegunFault, IsAutomatic, AutomaticFault, IsLocal, LocalFault, AreLocals}
-use Rattle.c_typed_law.specs.Objects.{LocalsFault}
+use Rattle.c_typed_law.specs.Forms.{IsForm, FormFault, IsPlainForm, PlainFault, IsAutomaticForm, AutomaticFormFault}
+use Rattle.c_typed_law.specs.Objects.{IsCount, CountFault, AreLaid, LaidFault, HoldsAtFirst, HoldsFault, IsFilled}
+use Rattle.c_typed_law.specs.Objects.{FilledFault, IsPlainObject, PlainObjectFault, IsCountedArray, CountedArrayFault}
+use Rattle.c_typed_law.specs.Objects.{IsArrayObject, ArrayObjectFault, IsObjectBy, ObjectFaultBy, IsObject}
+use Rattle.c_typed_law.specs.Objects.{ObjectFault}
+use Rattle.c_typed_law.specs.Locals.{IsBegun, BegunFault, IsAutomatic, AutomaticFault, IsLocal, LocalFault, AreLocals}
+use Rattle.c_typed_law.specs.Locals.{LocalsFault}
 use Rattle.c_typed_expressions.specs.Relations.{Unless}
 use Rattle.c_typed_law.proofs.Combined.{means_bad, unless_means, with_means}
 use Rattle.c_typed_law.proofs.Values.{length_means, element_means, elements_mean}

@@ -19,14 +19,22 @@ use Rattle.c_typed_expressions.specs.Expressions.{integer_of, written}
 use Rattle.c_typed_expressions.specs.Relations.{Joint}
 use Rattle.c_typed_expressions.proofs.Relations.{means_then, means_ok}
 use Rattle.c_typed_definition.specs.Declarations.{State, with_area}
-use Rattle.c_typed_definition.specs.Texts.{parameter_type, signature_of, known, Text, with_state, same_signature, earlier_by, is_below, head_by, head_of, word_of, parameter_form}
-use Rattle.c_typed_definition.specs.Texts.{with_parameter, agrees_by, agrees_with, agrees, parameter_length, type_parameter, type_parameters, with_declared, body_of, with_body}
-use Rattle.c_typed_definition.specs.Texts.{entered_function, left_function, type_body, type_introduced, type_function, type_globals, type_declared, type_externals, main_of}
-use Rattle.c_typed_definition.specs.Texts.{whole_by, empty_text, type_text}
-use Rattle.c_typed_law.specs.Texts.{IsEarlier, EarlierFault, IsResult, ResultFault, IsHead, HeadFault, IsParameterForm, ParameterFormFault, IsSameAs, SameFault, AgreesWith}
-use Rattle.c_typed_law.specs.Texts.{DisagreesWith, Agrees, AgreesFault, IsParameterLength, ParameterLengthFault, IsParameter, ParameterFault, AreParameters, ParametersFault}
-use Rattle.c_typed_law.specs.Texts.{IsBody, BodyFault, IsIntroduced, IntroducedFault, IsFunction, FunctionFault, AreGlobals, GlobalsFault, IsExternalBy, ExternalFaultBy}
-use Rattle.c_typed_law.specs.Texts.{AreExternals, ExternalsFault, IsWhole, WholeFault, IsText, TextFault}
+use Rattle.c_typed_definition.specs.Signatures.{parameter_type, signature_of, known}
+use Rattle.c_typed_definition.specs.Headings.{Text, with_state, same_signature, earlier_by, is_below, head_by}
+use Rattle.c_typed_definition.specs.Headings.{head_of, word_of, parameter_form, with_parameter, agrees_by}
+use Rattle.c_typed_definition.specs.Headings.{agrees_with, agrees, with_declared, body_of, with_body}
+use Rattle.c_typed_definition.specs.Headings.{entered_function, left_function}
+use Rattle.c_typed_definition.specs.Texts.{parameter_length, type_parameter, type_parameters, type_body}
+use Rattle.c_typed_definition.specs.Texts.{type_introduced, type_function, type_globals, type_declared}
+use Rattle.c_typed_definition.specs.Texts.{type_externals, main_of, whole_by, empty_text, type_text}
+use Rattle.c_typed_law.specs.Headings.{IsEarlier, EarlierFault, IsResult, ResultFault, IsHead, HeadFault}
+use Rattle.c_typed_law.specs.Headings.{IsParameterForm, ParameterFormFault, IsSameAs, SameFault, AgreesWith}
+use Rattle.c_typed_law.specs.Headings.{DisagreesWith, Agrees, AgreesFault}
+use Rattle.c_typed_law.specs.Texts.{IsParameterLength, ParameterLengthFault, IsParameter, ParameterFault}
+use Rattle.c_typed_law.specs.Texts.{AreParameters, ParametersFault, IsBody, BodyFault, IsIntroduced, IntroducedFault}
+use Rattle.c_typed_law.specs.Texts.{IsFunction, FunctionFault, AreGlobals, GlobalsFault, IsExternalBy}
+use Rattle.c_typed_law.specs.Texts.{ExternalFaultBy, AreExternals, ExternalsFault, IsWhole, WholeFault, IsText}
+use Rattle.c_typed_law.specs.Texts.{TextFault}
 use Rattle.c_typed_law.proofs.Combined.{means_bad, unless_means, with_means}
 use Rattle.c_typed_law.proofs.Values.{length_means}
 use Rattle.c_typed_law.proofs.Objects.{object_means}

@@ -1,55 +1,27 @@
--- Declarations of variables: global variables and static locals, which are objects, and automatic locals.
-use Rattle.std.specs.Prelude.{◌≡◌, ℕ, ◌*◌, nat_lt, Bool, true, false, List, [], ◌∷◌, ◌++◌, length, Option, Some, None, Ok, Err}
+-- Declarations of objects: global variables and static locals.
+use Rattle.std.specs.Prelude.{◌≡◌, ℕ, ◌*◌, nat_lt, Bool, true, false, List, [], Option, Some, None, Ok, Err}
 use Rattle.c_phrases.specs.declared.operator.Spec.{Spec}
-use Rattle.c_phrases.specs.declared.operator.Storage.{Storage}
-use Rattle.c_phrases.specs.declared.operator.Storage.TheVariants as storages
 use Rattle.c_types.specs.declared.types.CType.{CType}
-use Rattle.c_types.specs.declared.fault.TypeKind.TheVariants.{Twice, LeftOut, BadInit, BadType}
+use Rattle.c_types.specs.declared.fault.TypeKind.TheVariants.{BadInit}
 use Rattle.c_types.specs.Answers.{Fault}
-use Rattle.c_types.specs.Types.{size_of, pointer_to, is_scalar}
-use Rattle.c_typed_operators.specs.Rules.{fits}
-use Rattle.c_types.specs.Typed.{ConvertTo}
+use Rattle.c_types.specs.Types.{size_of, pointer_to}
 use Rattle.c_typed_scope.specs.declared.entry.Entry.{Entry}
 use Rattle.c_typed_scope.specs.declared.entry.Entry.TheVariants as entries
 use Rattle.c_typed_scope.specs.declared.entry.Signature.{Signature}
-use Rattle.c_typed_scope.specs.Scopes.{Scope, is_taken, with_name}
+use Rattle.c_typed_scope.specs.Scopes.{Scope, with_name}
 use Rattle.c_typed_scope.specs.Layout.{Area}
 use Rattle.c_typed_scope.specs.Contents.{Filled, filled_to, filled}
 use Rattle.c_phrases.specs.Phrases.{AnExp}
 use Rattle.c_phrases.specs.Units.{AnInit, value, elements, ADeclarator}
-use Rattle.c_program.specs.Statements.{ADeclaration, KeepOf, ClearOf, BeginOf}
-use Rattle.c_typed_expressions.specs.Phrases.{first, init_in, brackets_in}
+use Rattle.c_typed_expressions.specs.Phrases.{init_in, brackets_in}
 use Rattle.c_typed_expressions.specs.Expressions.{written}
 use Rattle.c_typed_expressions.specs.Relations.{Joint, FirstOf, Unless, IsTyped, FirstFault}
-use Rattle.c_typed_definition.specs.Forms.{text_of, form_fits, given_count, own_length}
-use Rattle.c_typed_definition.specs.Declarations.{State, with_area, measuring, variable_of, array_entry, laid, text_contents, with_local}
-use Rattle.c_typed_law.specs.Tests.{With, Without, Lacking, Never, IsFault}
+use Rattle.c_typed_definition.specs.Forms.{text_of, given_count, own_length}
+use Rattle.c_typed_definition.specs.Declarations.{State, with_area, measuring, variable_of, array_entry, laid}
+use Rattle.c_typed_definition.specs.Declarations.{text_contents}
+use Rattle.c_typed_law.specs.Tests.{Without, Never}
 use Rattle.c_typed_law.specs.Values.{IsLength, LengthFault, IsElement, ElementFault, AreElements, ElementsFault}
-
--- what a declarator tells by itself: the name is free in its block, the initialiser has the form that the variable
--- wants, and the type is an integer or a pointer
-abbrev pub IsForm : ADeclarator → CType → Scope → Unit {0} → Type 0
-IsForm d t scope ok = Without (is_taken scope d.name) (With (form_fits t (brackets_in d.length) (init_in d.init))
-    (With (is_scalar t) (λ u. u ≡ tt))) ok
-
-abbrev pub FormFault : ADeclarator → CType → Scope → Fault → Type 0
-FormFault d t scope f = Unless (is_taken scope d.name) d.at Twice (Lacking (form_fits t (brackets_in d.length) (init_in d.init))
-    d.at BadInit (Lacking (is_scalar t) d.at BadType Never)) f
-
--- an automatic local is no array
-abbrev pub IsPlainForm : Option (Option AnExp) → ADeclarator → CType → Unit {0} → Type 0
-IsPlainForm (Some l) d t ok = ⊥
-IsPlainForm None d t ok = With (form_fits t None (init_in d.init)) (With (is_scalar t) (λ u. u ≡ tt)) ok
-
-abbrev pub PlainFault : Option (Option AnExp) → ADeclarator → CType → Fault → Type 0
-PlainFault (Some l) d t f = IsFault d.at LeftOut f
-PlainFault None d t f = Lacking (form_fits t None (init_in d.init)) d.at BadInit (Lacking (is_scalar t) d.at BadType Never) f
-
-abbrev pub IsAutomaticForm : ADeclarator → CType → Scope → Unit {0} → Type 0
-IsAutomaticForm d t scope ok = Without (is_taken scope d.name) (IsPlainForm (brackets_in d.length) d t) ok
-
-abbrev pub AutomaticFormFault : ADeclarator → CType → Scope → Fault → Type 0
-AutomaticFormFault d t scope f = Unless (is_taken scope d.name) d.at Twice (PlainFault (brackets_in d.length) d t) f
+use Rattle.c_typed_law.specs.Forms.{IsForm, FormFault}
 
 -- names of the functions that are defined in the text, and their signatures
 module _ (names : List (List ℕ × Entry)) (signatures : List Signature) where
@@ -158,49 +130,3 @@ module _ (names : List (List ℕ × Entry)) (signatures : List Signature) where
   abbrev pub ObjectFault : Bool → Spec → ADeclarator → State → Fault → Type 0
   ObjectFault is_static spec d s f = FirstOf (IsForm d (written spec d.stars) s.scope) (FormFault d (written spec d.stars) s.scope)
       (λ ok. ObjectFaultBy is_static (written spec d.stars) d (brackets_in d.length) s) f
-
-  -- the value that an automatic local begins with is converted to its type; one without a value begins with zero
-  abbrev pub IsBegun : CType → ℕ → Option AnInit → State → ADeclaration × State → Type 0
-  IsBegun t n None s r = r ≡ (ClearOf n, s)
-  IsBegun t n (Some (elements es comma)) s r = r ≡ (ClearOf n, s)
-  IsBegun t n (Some (value e)) s r =
-      Joint (IsTyped names signatures s.scope e s.area) (λ x. Joint (With (fits t x.0) (λ y. y ≡ ConvertTo t x.0))
-      (λ y u. u ≡ (BeginOf n y, with_area x.1 s))) r
-
-  abbrev pub BegunFault : CType → ℕ → Option AnInit → State → Fault → Type 0
-  BegunFault t n None s f = ⊥
-  BegunFault t n (Some (elements es comma)) s f = ⊥
-  BegunFault t n (Some (value e)) s f =
-      FirstOf (IsTyped names signatures s.scope e s.area) (FirstFault names signatures s.scope e s.area)
-      (λ x. FirstOf (With (fits t x.0) (λ y. y ≡ ConvertTo t x.0)) (Lacking (fits t x.0) (first e) BadType Never) (λ y. Never)) f
-
-  -- an automatic local, whose name is in scope in its own initialiser
-  abbrev pub IsAutomatic : Spec → ADeclarator → State → ADeclaration × State → Type 0
-  IsAutomatic spec d s r = Joint (IsAutomaticForm d (written spec d.stars) s.scope)
-      (λ ok. IsBegun (written spec d.stars) (length s.locals) (init_in d.init) (with_local (written spec d.stars) d.name s)) r
-
-  abbrev pub AutomaticFault : Spec → ADeclarator → State → Fault → Type 0
-  AutomaticFault spec d s f = FirstOf (IsAutomaticForm d (written spec d.stars) s.scope)
-      (AutomaticFormFault d (written spec d.stars) s.scope)
-      (λ ok. BegunFault (written spec d.stars) (length s.locals) (init_in d.init) (with_local (written spec d.stars) d.name s)) f
-
-  -- a declarator of a block, by its storage
-  abbrev pub IsLocal : Storage → Spec → ADeclarator → State → ADeclaration × State → Type 0
-  IsLocal storages.Automatic spec d s r = IsAutomatic spec d s r
-  IsLocal (storages.Register at) spec d s r = IsAutomatic spec d s r
-  IsLocal (storages.Static at) spec d s r = Joint (IsObject true spec d s) (λ x u. u ≡ (KeepOf x.0, x.1)) r
-
-  abbrev pub LocalFault : Storage → Spec → ADeclarator → State → Fault → Type 0
-  LocalFault storages.Automatic spec d s f = AutomaticFault spec d s f
-  LocalFault (storages.Register at) spec d s f = AutomaticFault spec d s f
-  LocalFault (storages.Static at) spec d s f = FirstOf (IsObject true spec d s) (ObjectFault true spec d s) (λ x. Never) f
-
-  -- the declarators of one declaration from left to right, behind those before
-  abbrev pub AreLocals : Storage → Spec → List ADeclarator → List ADeclaration → State → List ADeclaration × State → Type 0
-  AreLocals storage spec [] done s r = r ≡ (done, s)
-  AreLocals storage spec (d ∷ ds) done s r = Joint (IsLocal storage spec d s) (λ x. AreLocals storage spec ds (done ++ x.0 ∷ []) x.1) r
-
-  abbrev pub LocalsFault : Storage → Spec → List ADeclarator → List ADeclaration → State → Fault → Type 0
-  LocalsFault storage spec [] done s f = ⊥
-  LocalsFault storage spec (d ∷ ds) done s f = FirstOf (IsLocal storage spec d s) (LocalFault storage spec d s)
-      (λ x. LocalsFault storage spec ds (done ++ x.0 ∷ []) x.1) f

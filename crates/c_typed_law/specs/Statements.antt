@@ -10,8 +10,8 @@ use Rattle.c_typed_scope.specs.declared.entry.Entry.{Entry}
 use Rattle.c_typed_scope.specs.declared.entry.Signature.{Signature}
 use Rattle.c_phrases.specs.Phrases.{AnExp}
 use Rattle.c_phrases.specs.Units.{ALocal, local_item, statement_item, AStatement, block, empty, expression, break_off}
-use Rattle.c_phrases.specs.Units.{continue_on, give_back, if_then, if_else, while_loop}
-use Rattle.c_phrases.specs.Units.{do_loop, for_loop, SomeItems, no_items}
+use Rattle.c_phrases.specs.Units.{continue_on, give_back, if_then, if_else, while_loop, do_loop, for_loop, SomeItems}
+use Rattle.c_phrases.specs.Units.{no_items}
 use Rattle.c_program.specs.Statements.{ADeclaration, AnAction, SomeActions, NoActions, MoreActions, DeclareOf, BlockOf}
 use Rattle.c_program.specs.Statements.{EvaluateOf, BreakOf, ContinueOf, ReturnOf, IfOf, IfElseOf, WhileOf, DoOf, ForOf}
 use Rattle.c_typed_expressions.specs.Phrases.{first}
@@ -19,7 +19,7 @@ use Rattle.c_typed_expressions.specs.Relations.{Joint, FirstOf, IsTyped, FirstFa
 use Rattle.c_typed_definition.specs.Declarations.{State, with_area}
 use Rattle.c_typed_definition.specs.Statements.{entered, left}
 use Rattle.c_typed_law.specs.Tests.{With, Lacking, Never}
-use Rattle.c_typed_law.specs.Objects.{AreLocals, LocalsFault}
+use Rattle.c_typed_law.specs.Locals.{AreLocals, LocalsFault}
 
 -- names and signatures of the functions of the text
 module _ (names : List (List ℕ × Entry)) (signatures : List Signature) where

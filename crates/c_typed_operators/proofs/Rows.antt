@@ -17,7 +17,8 @@ use Rattle.c_types.specs.declared.fault.TypeFault.TheVariants as faults
 use Rattle.c_types.specs.Answers.{Fault, bad, Gives}
 use Rattle.c_types.specs.Types.{is_integer, is_scalar, same_type}
 use Rattle.c_types.specs.Typed.{AnExpression, ArithmeticOf, CompareOf, BothOf, EitherOf, type_of, is_null}
-use Rattle.c_typed_operators.specs.Rules.{arithmetic, plus_at, plus, minus_at, minus, order_at, order, are_comparable_at, are_comparable, equality, both, either, binary_of}
+use Rattle.c_typed_operators.specs.Rules.{arithmetic, plus_at, plus, minus_at, minus, order_at, order}
+use Rattle.c_typed_operators.specs.Rules.{are_comparable_at, are_comparable, equality, both, either, binary_of}
 use Rattle.c_typed_operators.specs.Table.{IsInteger, IsPointer, ArePointers, IsArithmetic, IsSum, SumOfIntegers, PointerPlus, PlusPointer, IsDifference, DifferenceOfIntegers}
 use Rattle.c_typed_operators.specs.Table.{PointerMinus, DifferenceOfPointers, IsOrdered, OrderOfIntegers, OrderOfPointers, AreComparable, TwoIntegers, TwoPointers, PointerAndNull}
 use Rattle.c_typed_operators.specs.Table.{NullAndPointer, IsEquality, IsLogical, IsBinary, NoRow, Means, Refused, OnlyAnswer, OnlyFault}

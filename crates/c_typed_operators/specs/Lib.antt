@@ -1,2 +1,5 @@
 pub mod Rules
+pub mod Prefixes
+pub mod Choices
+pub mod Stores
 pub mod Table

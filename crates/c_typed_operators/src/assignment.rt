@@ -2,14 +2,15 @@
 ghost use Rattle.std.specs.Prelude.{◌≡◌};
 ghost use Rattle.c_types.specs.Answers.{Gives};
 ghost use Rattle.c_types.specs.Typed.{term, place_of};
-ghost use Rattle.c_typed_operators.specs.Rules.{store, arithmetic_store, plus_store, minus_store, store_by, assign_of};
+ghost use Rattle.c_typed_operators.specs.Stores.{store, arithmetic_store, plus_store, minus_store, store_by};
+ghost use Rattle.c_typed_operators.specs.Stores.{assign_of};
 
 use crate::rules::fits;
 use c_phrases::operator::AssignOperator;
 use c_types::fault::bad_type;
 use c_types::{ArithmeticOperator, CType, Expression, Place, TypeFault};
 
-#[tactic(auto, unfolding(crate::specs::Rules::store))]
+#[tactic(auto, unfolding(crate::specs::Stores::store))]
 fn store(at: u32, place: Place, y: Box<Expression>) -> Result<Expression, TypeFault>
     ensures { Gives (λ t. term t) result (store at (place_of place) (term y.value)) }
 {
@@ -20,7 +21,7 @@ fn store(at: u32, place: Place, y: Box<Expression>) -> Result<Expression, TypeFa
     }
 }
 
-#[tactic(auto, unfolding(crate::specs::Rules::arithmetic_store))]
+#[tactic(auto, unfolding(crate::specs::Stores::arithmetic_store))]
 fn arithmetic_store(
     op: ArithmeticOperator,
     at: u32,
@@ -36,7 +37,7 @@ fn arithmetic_store(
     }
 }
 
-#[tactic(auto, unfolding(crate::specs::Rules::plus_store))]
+#[tactic(auto, unfolding(crate::specs::Stores::plus_store))]
 fn plus_store(at: u32, place: Place, y: Box<Expression>) -> Result<Expression, TypeFault>
     ensures { Gives (λ t. term t) result (plus_store at (place_of place) (term y.value)) }
 {
@@ -59,7 +60,7 @@ fn plus_store(at: u32, place: Place, y: Box<Expression>) -> Result<Expression, T
     }
 }
 
-#[tactic(auto, unfolding(crate::specs::Rules::minus_store))]
+#[tactic(auto, unfolding(crate::specs::Stores::minus_store))]
 fn minus_store(at: u32, place: Place, y: Box<Expression>) -> Result<Expression, TypeFault>
     ensures { Gives (λ t. term t) result (minus_store at (place_of place) (term y.value)) }
 {
@@ -82,7 +83,7 @@ fn minus_store(at: u32, place: Place, y: Box<Expression>) -> Result<Expression, 
     }
 }
 
-#[tactic(auto, unfolding(crate::specs::Rules::store_by))]
+#[tactic(auto, unfolding(crate::specs::Stores::store_by))]
 fn store_by(
     op: AssignOperator,
     at: u32,
@@ -112,7 +113,7 @@ fn store_by(
 }
 
 /// `=` or a compound assignment, whose left side has to be a place.
-#[tactic(auto, unfolding(crate::specs::Rules::assign_of))]
+#[tactic(auto, unfolding(crate::specs::Stores::assign_of))]
 pub fn assign(
     op: AssignOperator,
     at: u32,

@@ -2,10 +2,13 @@
 ghost use Rattle.std.specs.Prelude.{◌≡◌};
 ghost use Rattle.c_types.specs.Answers.{Gives};
 ghost use Rattle.c_types.specs.Typed.{term, place_of};
-ghost use Rattle.c_typed_operators.specs.Rules.{arithmetic, plus, minus, order, are_comparable, equality, both, either, binary_of};
-ghost use Rattle.c_typed_operators.specs.Rules.{unary, negation, indirection, element, index_of, address_of, address, prefix_of};
-ghost use Rattle.c_typed_operators.specs.Rules.{direction, step, cast_of, sizeof_of, sizeof_type_of, arms, choice_of, comma_of};
-ghost use Rattle.c_typed_operators.specs.Rules.{given, condition_of, fits};
+ghost use Rattle.c_typed_operators.specs.Rules.{arithmetic, plus, minus, order, are_comparable, equality, both};
+ghost use Rattle.c_typed_operators.specs.Rules.{either, binary_of, fits};
+ghost use Rattle.c_typed_operators.specs.Prefixes.{unary, negation, indirection, element, index_of, address_of};
+ghost use Rattle.c_typed_operators.specs.Prefixes.{address, prefix_of, direction, step, cast_of, sizeof_of};
+ghost use Rattle.c_typed_operators.specs.Prefixes.{sizeof_type_of};
+ghost use Rattle.c_typed_operators.specs.Choices.{arms, choice_of, comma_of, condition_of};
+ghost use Rattle.c_typed_operators.specs.Stores.{given};
 
 use c_phrases::operator::{BinaryOperator, PrefixOperator, StepOperator};
 use c_types::fault::bad_type;
@@ -205,7 +208,7 @@ pub fn binary(
     }
 }
 
-#[tactic(auto, unfolding(crate::specs::Rules::unary))]
+#[tactic(auto, unfolding(crate::specs::Prefixes::unary))]
 fn unary(op: UnaryOperator, at: u32, x: Box<Expression>) -> Result<Expression, TypeFault>
     ensures { Gives (λ t. term t) result (unary op at (term x.value)) }
 {
@@ -216,7 +219,7 @@ fn unary(op: UnaryOperator, at: u32, x: Box<Expression>) -> Result<Expression, T
     }
 }
 
-#[tactic(auto, unfolding(crate::specs::Rules::negation))]
+#[tactic(auto, unfolding(crate::specs::Prefixes::negation))]
 fn negation(at: u32, x: Box<Expression>) -> Result<Expression, TypeFault>
     ensures { Gives (λ t. term t) result (negation at (term x.value)) }
 {
@@ -227,7 +230,7 @@ fn negation(at: u32, x: Box<Expression>) -> Result<Expression, TypeFault>
     }
 }
 
-#[tactic(auto, unfolding(crate::specs::Rules::indirection))]
+#[tactic(auto, unfolding(crate::specs::Prefixes::indirection))]
 fn indirection(at: u32, x: Box<Expression>) -> Result<Expression, TypeFault>
     ensures { Gives (λ t. term t) result (indirection at (term x.value)) }
 {
@@ -241,7 +244,7 @@ fn indirection(at: u32, x: Box<Expression>) -> Result<Expression, TypeFault>
     }
 }
 
-#[tactic(auto, unfolding(crate::specs::Rules::element))]
+#[tactic(auto, unfolding(crate::specs::Prefixes::element))]
 fn element(at: u32, sum: Box<Expression>) -> Result<Expression, TypeFault>
     ensures { Gives (λ t. term t) result (element at (term sum.value)) }
 {
@@ -256,7 +259,7 @@ fn element(at: u32, sum: Box<Expression>) -> Result<Expression, TypeFault>
 }
 
 /// `a[i]`, with the pointer on either side.
-#[tactic(auto, unfolding(crate::specs::Rules::index_of))]
+#[tactic(auto, unfolding(crate::specs::Prefixes::index_of))]
 pub fn index(
     alloc: Global,
     at: u32,
@@ -269,7 +272,7 @@ pub fn index(
     element(at, Box::new(alloc, sum)?)
 }
 
-#[tactic(auto, unfolding(crate::specs::Rules::address_of, c_types::specs::Types::pointer_to))]
+#[tactic(auto, unfolding(crate::specs::Prefixes::address_of, c_types::specs::Types::pointer_to))]
 fn address_of(at: u32, place: Place) -> Result<Expression, TypeFault>
     ensures { Gives (λ t. term t) result (address_of at (place_of place)) }
 {
@@ -288,7 +291,7 @@ fn address_of(at: u32, place: Place) -> Result<Expression, TypeFault>
     }
 }
 
-#[tactic(auto, unfolding(crate::specs::Rules::address))]
+#[tactic(auto, unfolding(crate::specs::Prefixes::address))]
 fn address(at: u32, x: Expression) -> Result<Expression, TypeFault>
     ensures { Gives (λ t. term t) result (address at (term x)) }
 {
@@ -299,7 +302,7 @@ fn address(at: u32, x: Expression) -> Result<Expression, TypeFault>
 }
 
 /// An operator in front of its operand.
-#[tactic(auto, unfolding(crate::specs::Rules::prefix_of))]
+#[tactic(auto, unfolding(crate::specs::Prefixes::prefix_of))]
 pub fn prefix(op: PrefixOperator, at: u32, x: Box<Expression>) -> Result<Expression, TypeFault>
     ensures { Gives (λ t. term t) result (prefix_of op at (term x.value)) }
 {
@@ -313,7 +316,7 @@ pub fn prefix(op: PrefixOperator, at: u32, x: Box<Expression>) -> Result<Express
     }
 }
 
-#[tactic(auto, unfolding(crate::specs::Rules::direction))]
+#[tactic(auto, unfolding(crate::specs::Prefixes::direction))]
 fn direction(op: StepOperator) -> Direction
     ensures { result ≡ direction op }
 {
@@ -324,7 +327,7 @@ fn direction(op: StepOperator) -> Direction
 }
 
 /// `++` or `--` at a place.
-#[tactic(auto, unfolding(crate::specs::Rules::step))]
+#[tactic(auto, unfolding(crate::specs::Prefixes::step))]
 pub fn step(
     moment: Moment,
     op: StepOperator,
@@ -346,7 +349,7 @@ pub fn step(
 }
 
 /// A cast to this type, from an integer or a pointer.
-#[tactic(auto, unfolding(crate::specs::Rules::cast_of))]
+#[tactic(auto, unfolding(crate::specs::Prefixes::cast_of))]
 pub fn cast(at: u32, to: CType, x: Box<Expression>) -> Result<Expression, TypeFault>
     ensures { Gives (λ t. term t) result (cast_of at to (term x.value)) }
 {
@@ -358,7 +361,7 @@ pub fn cast(at: u32, to: CType, x: Box<Expression>) -> Result<Expression, TypeFa
 }
 
 /// `sizeof` of an expression.
-#[tactic(auto, unfolding(crate::specs::Rules::sizeof_of))]
+#[tactic(auto, unfolding(crate::specs::Prefixes::sizeof_of))]
 pub fn sizeof_expression(at: u32, x: Box<Expression>) -> Result<Expression, TypeFault>
     ensures { Gives (λ t. term t) result (sizeof_of at (term x.value)) }
 {
@@ -371,7 +374,7 @@ pub fn sizeof_expression(at: u32, x: Box<Expression>) -> Result<Expression, Type
 }
 
 /// `sizeof` of a type.
-#[tactic(auto, unfolding(crate::specs::Rules::sizeof_type_of))]
+#[tactic(auto, unfolding(crate::specs::Prefixes::sizeof_type_of))]
 pub fn sizeof_type(at: u32, of: CType) -> Result<Expression, TypeFault>
     ensures { Gives (λ t. term t) result (sizeof_type_of at of) }
 {
@@ -382,7 +385,7 @@ pub fn sizeof_type(at: u32, of: CType) -> Result<Expression, TypeFault>
     }
 }
 
-#[tactic(auto, unfolding(crate::specs::Rules::arms))]
+#[tactic(auto, unfolding(crate::specs::Choices::arms))]
 fn arms(x: &Expression, y: &Expression) -> Option<CType>
     ensures { result ≡ arms (term x.now) (term y.now) }
 {
@@ -424,7 +427,7 @@ fn arms(x: &Expression, y: &Expression) -> Option<CType>
 }
 
 /// `c ? x : y`
-#[tactic(auto, unfolding(crate::specs::Rules::choice_of))]
+#[tactic(auto, unfolding(crate::specs::Choices::choice_of))]
 pub fn choice(
     at: u32,
     c: Box<Expression>,
@@ -443,7 +446,7 @@ pub fn choice(
 }
 
 /// `x, y`
-#[tactic(auto, unfolding(crate::specs::Rules::comma_of))]
+#[tactic(auto, unfolding(crate::specs::Choices::comma_of))]
 pub fn comma(x: Box<Expression>, y: Box<Expression>) -> Expression
     ensures { term result ≡ comma_of (term x.value) (term y.value) }
 {
@@ -452,7 +455,7 @@ pub fn comma(x: Box<Expression>, y: Box<Expression>) -> Expression
 }
 
 /// A value that is given to a result or a local of this type; the place is its first token's.
-#[tactic(auto, unfolding(crate::specs::Rules::given))]
+#[tactic(auto, unfolding(crate::specs::Stores::given))]
 pub fn give(to: CType, place: u32, x: Box<Expression>) -> Result<Expression, TypeFault>
     ensures { Gives (λ t. term t) result (given to place (term x.value)) }
 {
@@ -464,7 +467,7 @@ pub fn give(to: CType, place: u32, x: Box<Expression>) -> Result<Expression, Typ
 }
 
 /// A condition, an integer or a pointer; the place is its first token's.
-#[tactic(auto, unfolding(crate::specs::Rules::condition_of))]
+#[tactic(auto, unfolding(crate::specs::Choices::condition_of))]
 pub fn condition(place: u32, x: Expression) -> Result<Expression, TypeFault>
     ensures { Gives (λ t. term t) result (condition_of place (term x)) }
 {

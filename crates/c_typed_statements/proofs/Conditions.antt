@@ -6,7 +6,7 @@ use Rattle.c_types.specs.declared.fault.TypeFault.TheVariants.{NoMemory, At}
 use Rattle.c_types.specs.declared.typed.Expression.{Expression}
 use Rattle.c_types.specs.Answers.{Fault, bad, ◌>>=◌, Fails, Gives}
 use Rattle.c_types.specs.Typed.{AnExpression, term}
-use Rattle.c_typed_operators.specs.Rules.{condition_of}
+use Rattle.c_typed_operators.specs.Choices.{condition_of}
 use Rattle.c_typed_scope.specs.declared.entry.Entry.{Entry}
 use Rattle.c_typed_scope.specs.declared.entry.Signature.{Signature}
 use Rattle.c_typed_scope.specs.Answers.{Turns}

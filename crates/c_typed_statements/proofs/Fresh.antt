@@ -8,7 +8,7 @@ use Rattle.c_types.specs.Answers.{Fault, bad}
 use Rattle.c_typed_scope.specs.declared.entry.Entry.{Entry}
 use Rattle.c_typed_scope.specs.declared.entry.Entry.TheVariants as entries
 use Rattle.c_typed_scope.specs.Scopes.{Scope, find, is_taken}
-use Rattle.c_typed_definition.specs.Texts.{earlier_by, parameter_form}
+use Rattle.c_typed_definition.specs.Headings.{earlier_by, parameter_form}
 
 pub earlier_none : (o : Option Entry) (at : ℕ) → earlier_by o at ≡ Ok None → o ≡ None
 earlier_none None at h = refl

@@ -11,7 +11,9 @@ use Rattle.c_types.specs.Answers.{Fault, Fails, ◌>>=◌}
 use Rattle.c_typed_scope.specs.declared.entry.Entry.{Entry}
 use Rattle.c_typed_scope.specs.declared.entry.Signature.{Signature}
 use Rattle.c_typed_definition.specs.Declarations.{State}
-use Rattle.c_typed_definition.specs.Texts.{parameter_type, same_types, type_parameter, type_parameters}
+use Rattle.c_typed_definition.specs.Signatures.{parameter_type}
+use Rattle.c_typed_definition.specs.Headings.{same_types}
+use Rattle.c_typed_definition.specs.Texts.{type_parameter, type_parameters}
 
 module _ (names : List (List ℕ × Entry)) (signatures : List Signature) where
   pub parameter_step : (defines : Bool) (at : ℕ) (ps : List Param) (i : ℕ) (p d : Param) (s next : State) → i < length ps → p ≡ get_or ps i d

@@ -9,7 +9,7 @@ use Rattle.c_types.specs.Answers.{Fault, ◌>>=◌}
 use Rattle.c_program.specs.Statements.{SomeActions}
 use Rattle.c_typed_definition.specs.Declarations.{State}
 use Rattle.c_typed_definition.specs.Statements.{left}
-use Rattle.c_typed_definition.specs.Texts.{Text}
+use Rattle.c_typed_definition.specs.Headings.{Text}
 use Rattle.c_typed_statements.specs.declared.functions.Builder.{Builder}
 
 abbrev pub text : Builder → Text

@@ -10,9 +10,10 @@ ghost use Rattle.c_typed_scope.specs.Views.{scope, area};
 ghost use Rattle.c_typed_expressions.specs.Phrases.{brackets_in};
 ghost use Rattle.c_typed_expressions.specs.Expressions.{integer_of};
 ghost use Rattle.c_typed_objects.specs.Views.{state};
-ghost use Rattle.c_typed_definition.specs.Texts.{body_of, earlier_by, is_below, head_of, word_of, parameter_form, parameter_length};
-ghost use Rattle.c_typed_definition.specs.Texts.{type_parameter, type_parameters, agrees, with_declared, entered_function};
-ghost use Rattle.c_typed_definition.specs.Texts.{left_function, type_body, type_introduced, type_function};
+ghost use Rattle.c_typed_definition.specs.Headings.{body_of, earlier_by, is_below, head_of, word_of, parameter_form};
+ghost use Rattle.c_typed_definition.specs.Headings.{agrees, with_declared, entered_function, left_function, head_by};
+ghost use Rattle.c_typed_definition.specs.Texts.{parameter_length, type_parameter, type_parameters, type_body};
+ghost use Rattle.c_typed_definition.specs.Texts.{type_introduced, type_function};
 ghost use Rattle.c_typed_statements.specs.Views.{text, function_of};
 
 use crate::signatures::{parameter_type, parameters, same_signature, signature};
@@ -110,10 +111,8 @@ fn check_result(spec: Spec, stars: &Stars, at: u32) -> Result<(), TypeFault>
     }
 }
 
-ghost use Rattle.c_typed_definition.specs.Texts.{head_by};
-
 // A function is defined once.
-#[tactic(auto, unfolding(c_typed_definition::specs::Texts::head_of))]
+#[tactic(auto, unfolding(c_typed_definition::specs::Headings::head_of))]
 fn check_head(
     functions: &Functions,
     defines: bool,
@@ -236,7 +235,7 @@ fn declare_parameters(
 }
 
 // At most 32 parameters, and the types of the earlier declaration.
-#[tactic(auto, unfolding(c_typed_definition::specs::Texts::agrees))]
+#[tactic(auto, unfolding(c_typed_definition::specs::Headings::agrees))]
 fn check_agreement(
     earlier: Option<usize>,
     declared: &[Signature],

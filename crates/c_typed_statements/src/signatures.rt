@@ -4,7 +4,8 @@ ghost use Rattle.c_types.specs.Types.{same_type};
 ghost use Rattle.c_phrases.specs.UnitShapes.{param_of, param_list, params_of};
 ghost use Rattle.c_typed_expressions.specs.Expressions.{written, integer_of};
 ghost use Rattle.c_typed_expressions.specs.Phrases.{params_in};
-ghost use Rattle.c_typed_definition.specs.Texts.{parameter_type, array_parameter, same_types, same_signature, signature_of, heading};
+ghost use Rattle.c_typed_definition.specs.Signatures.{parameter_type, array_parameter, signature_of, heading};
+ghost use Rattle.c_typed_definition.specs.Headings.{same_types, same_signature};
 
 use c_phrases::operator::Spec;
 use c_phrases::tree::{Function, Param, Params};

@@ -9,13 +9,20 @@ use Rattle.c_phrases.specs.declared.operator.Storage.TheVariants as storages
 use Rattle.c_phrases.specs.declared.tree.Named.{Named}
 use Rattle.c_phrases.specs.declared.tree.TypeName.{TypeName}
 use Rattle.c_phrases.specs.Classes.{Placed}
-use Rattle.c_phrases.specs.Phrases.{AnExp, name, number, str, paren, call, index, step_after, step_before, prefix, sizeof_exp, sizeof_type, cast, binary, choice, assign, comma}
-use Rattle.c_phrases.specs.Phrases.{SomeExps, no_exps, exps, onto_int, onto_spec, onto_stars, onto_type, onto_exp, onto_first, onto_others}
-use Rattle.c_phrases.specs.Units.{ALength, AnInit, value, elements, AnInitialised, ADeclarator, AStatement, block, empty, expression, break_off, continue_on, give_back, if_then}
-use Rattle.c_phrases.specs.Units.{if_else, while_loop, do_loop, for_loop, SomeItems, no_items, local_item, statement_item, AParam, SomeParams, no_params, void_word, params}
-use Rattle.c_phrases.specs.Units.{ADeclared, function, globals, AnExternal, AUnit, onto_part, onto_length, onto_trailing, onto_init, onto_initialised, onto_declarator}
-use Rattle.c_phrases.specs.Units.{onto_more_declarators, onto_declarators, onto_storage, onto_statement, onto_items, onto_named, onto_param, onto_more_params, onto_params}
-use Rattle.c_phrases.specs.Units.{onto_body, onto_declared, onto_static, onto_externals, unit_tokens}
+use Rattle.c_phrases.specs.Phrases.{AnExp, name, number, str, paren, call, index, step_after, step_before, prefix}
+use Rattle.c_phrases.specs.Phrases.{sizeof_exp, sizeof_type, cast, binary, choice, assign, comma, SomeExps, no_exps}
+use Rattle.c_phrases.specs.Phrases.{exps}
+use Rattle.c_phrases.specs.Spelling.{onto_int, onto_spec, onto_stars, onto_type, onto_exp, onto_first, onto_others}
+use Rattle.c_phrases.specs.Units.{ALength, AnInit, value, elements, AnInitialised, ADeclarator, AStatement, block}
+use Rattle.c_phrases.specs.Units.{empty, expression, break_off, continue_on, give_back, if_then, if_else, while_loop}
+use Rattle.c_phrases.specs.Units.{do_loop, for_loop, SomeItems, no_items, local_item, statement_item, AParam}
+use Rattle.c_phrases.specs.Units.{SomeParams, no_params, void_word, params, ADeclared, function, globals, AnExternal}
+use Rattle.c_phrases.specs.Units.{AUnit}
+use Rattle.c_phrases.specs.UnitSpelling.{onto_part, onto_length, onto_trailing, onto_init, onto_initialised}
+use Rattle.c_phrases.specs.UnitSpelling.{onto_declarator, onto_more_declarators, onto_declarators, onto_storage}
+use Rattle.c_phrases.specs.UnitSpelling.{onto_statement, onto_items, onto_named, onto_param, onto_more_params}
+use Rattle.c_phrases.specs.UnitSpelling.{onto_params, onto_body, onto_declared, onto_static, onto_externals}
+use Rattle.c_phrases.specs.UnitSpelling.{unit_tokens}
 use Rattle.c_typed_expressions.specs.Phrases.{init_in, brackets_in, params_in}
 use Rattle.c_typed_words.specs.Words.{IsToken, EachIs, HasTokens}
 use Rattle.c_typed_words.specs.Phrases.{ExpOf, ExpsOf, PartOf, BracketsOf, InitOf, DeclaratorOf, DeclaratorsOf, StatementOf, ItemsOf, NamedOf, ParamOf, ParamsOf, BodyOf, DeclaredOf, ExternalsOf}

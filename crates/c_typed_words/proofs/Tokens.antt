@@ -17,7 +17,7 @@ use Rattle.c_tokens.specs.Grammar.{Stops, IsRun, IsNumber, IsEscape, IsElement, 
 use Rattle.c_tokens.proofs.AgainLaws.{piece_reads}
 use Rattle.c_phrases.specs.Classes.{seen}
 use Rattle.c_phrases.specs.Units.{AUnit}
-use Rattle.c_phrases.specs.Fits.{IsUnit}
+use Rattle.c_phrases.specs.Grammar.{IsUnit}
 use Rattle.c_sound.specs.Fits.{AreBytes}
 use Rattle.c_typed_words.specs.Words.{BeginsWord, IsName, IsToken, EachIs, HasTokens}
 

@@ -7,7 +7,8 @@ use Rattle.c_tokens.specs.Letters.{is_letter, in_word}
 use Rattle.c_tokens.specs.Words.{key_text}
 use Rattle.c_tokens.specs.Grammar.{Pass}
 use Rattle.c_phrases.specs.Classes.{Placed}
-use Rattle.c_phrases.specs.Units.{AUnit, unit_tokens}
+use Rattle.c_phrases.specs.Units.{AUnit}
+use Rattle.c_phrases.specs.UnitSpelling.{unit_tokens}
 use Rattle.c_sound.specs.Fits.{AreBytes}
 
 abbrev pub BeginsWord : List ℕ → Type 0

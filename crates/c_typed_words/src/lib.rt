@@ -6,7 +6,7 @@ ghost use Rattle.c_tokens.specs.declared.token.Spanned.{Spanned};
 ghost use Rattle.c_tokens.specs.Grammar.{Tokens};
 ghost use Rattle.c_phrases.specs.Classes.{seen};
 ghost use Rattle.c_phrases.specs.Units.{AUnit};
-ghost use Rattle.c_phrases.specs.Fits.{IsUnit};
+ghost use Rattle.c_phrases.specs.Grammar.{IsUnit};
 ghost use Rattle.c_sound.specs.Fits.{AreBytes};
 ghost use Rattle.c_typed_words.specs.Words.{IsToken, HasTokens};
 ghost use Rattle.c_typed_words.specs.Phrases.{ExternalsOf};

@@ -12,7 +12,7 @@ use Rattle.md_reader.specs.State.{Content}
 use Rattle.c_program.specs.Programs.{AProgram}
 use Rattle.c_typed_check.specs.Typed.{need_at}
 use Rattle.c_typed.specs.Sources.{Reads}
-use Rattle.c_meaning.specs.Meaning.{source}
+use Rattle.c_meaning.specs.Programs.{source}
 use Rattle.vax_machine.specs.declared.loading.LoadFault.{LoadFault}
 use Rattle.vax_machine.specs.Loading.{load_fault}
 use Rattle.vax_machine.specs.Running.{run}

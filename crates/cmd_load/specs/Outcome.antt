@@ -13,7 +13,7 @@ use Rattle.cmd_files.specs.Stages.{OutputRefused}
 use Rattle.md_reader.specs.State.{Content}
 use Rattle.c_program.specs.Programs.{AProgram}
 use Rattle.c_typed.specs.Sources.{Reads}
-use Rattle.c_meaning.specs.Meaning.{source}
+use Rattle.c_meaning.specs.Programs.{source}
 use Rattle.vax_machine.specs.Running.{run}
 use Rattle.gg_load.specs.Source.{source_text}
 use Rattle.cmd_check.specs.Descriptions.{description_form, IsAccepted, NotAccepted}

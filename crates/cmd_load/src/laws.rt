@@ -1,7 +1,7 @@
 // The law of both sides. The function does nothing; its clauses are the law.
 ghost use Rattle.std.specs.Prelude.{◌≤◌, ℕ, []};
 ghost use Rattle.gg_base.specs.Runs.{OneEnd};
-ghost use Rattle.c_meaning.specs.Meaning.{source};
+ghost use Rattle.c_meaning.specs.Programs.{source};
 ghost use Rattle.vax_core.specs.declared.code.Code.{Code};
 ghost use Rattle.vax_machine.specs.Running.{run};
 ghost use Rattle.gg_compile_sources.specs.Claims.{Keeps};

@@ -1,7 +1,7 @@
 // Both sides of a generated source: the run of the source by its meaning, and the run of its text.
 ghost use Rattle.std.specs.Prelude.{◌≡◌, [], IfOk, OnOk};
 ghost use Rattle.c_program.specs.Programs.{program as plain};
-ghost use Rattle.c_meaning.specs.Meaning.{source};
+ghost use Rattle.c_meaning.specs.Programs.{source};
 ghost use Rattle.vax_core.specs.declared.code.Code.{Code as ACode};
 ghost use Rattle.vax_reader.specs.Grammar.{Reads};
 ghost use Rattle.vax_machine.specs.Running.{run};

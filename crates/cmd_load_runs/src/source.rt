@@ -1,7 +1,7 @@
 // Runs of programs by their meaning.
 ghost use Rattle.std.specs.Prelude.{◌≡◌, [], IfOk};
 ghost use Rattle.c_program.specs.Programs.{program as plain};
-ghost use Rattle.c_meaning.specs.Meaning.{source};
+ghost use Rattle.c_meaning.specs.Programs.{source};
 ghost use Rattle.cmd_load_runs.specs.Tallies.{outcome_of};
 
 use crate::tally::Tally;

@@ -19,7 +19,7 @@ use Rattle.c_typed.specs.declared.source.SourceKind.{SourceKind}
 use Rattle.c_typed.specs.declared.source.SourceFault.{SourceFault}
 use Rattle.c_typed.specs.declared.source.SourceFault.TheVariants as faults
 use Rattle.c_typed.specs.Sources.{Reads, IsRefused, IsOnly}
-use Rattle.c_meaning.specs.Meaning.{source}
+use Rattle.c_meaning.specs.Programs.{source}
 use Rattle.cmd_meaning.specs.Lines.{fault_line}
 use Rattle.cmd_meaning.specs.Moments.{coming}
 use Rattle.cmd_meaning.specs.Sources.{source_form, source_runner, IsSourceEnd}

@@ -8,7 +8,7 @@ use Rattle.cmd_files.specs.Forms.{Form, Runner}
 use Rattle.c_program.specs.Programs.{AProgram}
 use Rattle.c_typed.specs.declared.source.SourceKind.{SourceKind}
 use Rattle.c_typed.specs.Sources.{Reads, IsFaultAt}
-use Rattle.c_meaning.specs.Meaning.{source}
+use Rattle.c_meaning.specs.Programs.{source}
 use Rattle.cmd_meaning.specs.Lines.{fault_line}
 use Rattle.cmd_meaning.specs.Moments.{coming}
 

@@ -4,7 +4,7 @@ use Rattle.tree_core.specs.declared.program.TreeFn.{TreeFn}
 use Rattle.c_program.specs.Programs.{ARoutine, AProgram}
 use Rattle.c_sound.specs.Labels.{AreLabelled}
 use Rattle.c_sound.specs.Sound.{IsSound}
-use Rattle.c_meaning.specs.Meaning.{source}
+use Rattle.c_meaning.specs.Programs.{source}
 use Rattle.c_lower_scheme.specs.Programs.{body_of, lower_all, lowered}
 use Rattle.c_lower_follows.proofs.Whole.{lowering_follows}
 use Rattle.c_lower_valid.proofs.Whole.{lowered_is_valid}

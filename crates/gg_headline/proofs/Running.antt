@@ -8,7 +8,7 @@ use Rattle.gg_outside.specs.Outside.{Content as File, Stored, IsThat}
 use Rattle.md_reader.specs.State.{Content}
 use Rattle.c_program.specs.Programs.{AProgram}
 use Rattle.c_sound.specs.Fits.{AreBytes}
-use Rattle.c_meaning.specs.Meaning.{source}
+use Rattle.c_meaning.specs.Programs.{source}
 use Rattle.vax_core.specs.declared.code.Code.{Code}
 use Rattle.vax_reader.specs.Grammar.{Reads}
 use Rattle.vax_machine.specs.Loading.{load_fault, Loads}

@@ -7,7 +7,7 @@ use Rattle.gg_outside.specs.Outside.{Stored}
 use Rattle.md_reader.specs.State.{Content}
 use Rattle.c_program.specs.Programs.{AProgram}
 use Rattle.c_sound.specs.Fits.{AreBytes}
-use Rattle.c_meaning.specs.Meaning.{source}
+use Rattle.c_meaning.specs.Programs.{source}
 use Rattle.cmd_session.specs.declared.status.Status.{Status}
 use Rattle.cmd_session.specs.declared.status.Status.TheVariants as statuses
 use Rattle.cmd_files.specs.Outsides.{Outside}

@@ -12,7 +12,10 @@ use Rattle.c_program.specs.Programs.{ARoutine, AProgram}
 use Rattle.c_meaning.specs.declared.flow.Flow.TheVariants.{Returned}
 use Rattle.c_meaning.specs.declared.store.Spot.TheVariants.{Local}
 use Rattle.c_meaning.specs.State.{State}
-use Rattle.c_meaning.specs.Meaning.{Behind, Next, Task, Body, store_at, back, stmts, task, means}
+use Rattle.c_meaning.specs.Values.{Behind, Next, Task, Body, store_at}
+use Rattle.c_meaning.specs.Calls.{back}
+use Rattle.c_meaning.specs.Meaning.{stmts, task}
+use Rattle.c_meaning.specs.Programs.{means}
 use Rattle.gg_load_program.specs.Program.{int, function_body, function_routine, call_action}
 use Rattle.gg_load_meaning.specs.Run.{slot, product, exchanged, answer, applied}
 use Rattle.gg_load_meaning.proofs.Table.{fetched_is, stored_is}

@@ -10,7 +10,9 @@ use Rattle.c_types.specs.Typed.{ReadOf}
 use Rattle.c_program.specs.Statements.{BlockOf, EvaluateOf, NoActions, MoreActions}
 use Rattle.c_program.specs.Programs.{ARoutine, AProgram}
 use Rattle.c_meaning.specs.declared.flow.Flow.TheVariants.{Onward}
-use Rattle.c_meaning.specs.Meaning.{Behind, Look, ALoop, plain_loop, look_at, means}
+use Rattle.c_meaning.specs.Values.{Behind, Look, ALoop, plain_loop}
+use Rattle.c_meaning.specs.Meaning.{look_at}
+use Rattle.c_meaning.specs.Programs.{means}
 use Rattle.gg_load_program.specs.Program.{s, put_letter, shift}
 use Rattle.gg_load_meaning.specs.Run.{ComesTo, letter, shifted, letters}
 use Rattle.gg_load_meaning.proofs.Outcomes.{comes_same, comes_emit, comes_counted, in_front, in_front-none, in_front-byte}

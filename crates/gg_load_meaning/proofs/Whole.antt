@@ -10,7 +10,10 @@ use Rattle.c_types.specs.Typed.{Constant, ConvertTo}
 use Rattle.c_program.specs.Statements.{SomeActions, NoActions, MoreActions, EvaluateOf, ReturnOf}
 use Rattle.c_program.specs.Programs.{ARoutine, AProgram}
 use Rattle.c_meaning.specs.State.{State}
-use Rattle.c_meaning.specs.Meaning.{Body, begun, followed, means, finished, at_first, main_of, source}
+use Rattle.c_meaning.specs.Values.{Body}
+use Rattle.c_meaning.specs.Calls.{begun}
+use Rattle.c_meaning.specs.Meaning.{followed}
+use Rattle.c_meaning.specs.Programs.{means, finished, at_first, main_of, source}
 use Rattle.gg_load_program.specs.Program.{int, function_routine, function_routines, call_action, onto_calls, put_character, last_actions, main_body, main_routine, source_program}
 use Rattle.gg_load_program.proofs.Routines.{main_there, function_there}
 use Rattle.gg_load_meaning.specs.Run.{ComesTo, product, after_calls, letters, written, source_outcome}

@@ -3,7 +3,7 @@
 
 ghost use Rattle.std.specs.Prelude.{◌≡◌, ◌≤◌, ◌+◌, ℕ, List, [], ◌∷◌};
 ghost use Rattle.gg_base.specs.declared.run.End.TheVariants.{Ended};
-ghost use Rattle.c_meaning.specs.Meaning.{source};
+ghost use Rattle.c_meaning.specs.Programs.{source};
 ghost use Rattle.gg_load_program.specs.Program.{source_program};
 ghost use Rattle.gg_load_meaning.specs.Run.{ComesTo, source_outcome};
 

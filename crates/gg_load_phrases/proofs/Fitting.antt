@@ -3,7 +3,8 @@ use Rattle.std.proofs.Common.{◌≤◌, ℕ, zero, suc, List, ◌∷◌, refl, 
 use Rattle.c_phrases.specs.Phrases.{IsAt}
 use Rattle.c_phrases.specs.Levels.{LowExp, limit}
 use Rattle.c_phrases.specs.Units.{SomeItems, statement_item, AnExternal}
-use Rattle.c_phrases.specs.Fits.{StatementFits, ItemsFit, DeclaredFits, ExternalsFit, LowStatement, LowItems, LowDeclared, LowExternals}
+use Rattle.c_phrases.specs.Fits.{StatementFits, ItemsFit, DeclaredFits, ExternalsFit}
+use Rattle.c_phrases.specs.UnitLevels.{LowStatement, LowItems, LowDeclared, LowExternals}
 use Rattle.gg_load_phrases.specs.Functions.{Places, first_external, product, element, exchange, answer, body, function_external, function_places, onto_functions}
 use Rattle.gg_load_phrases.specs.Main.{call_of, call_places, onto_calls, put_letter, shift, letters, ending, main_external}
 

@@ -4,7 +4,8 @@ use Rattle.c_tokens.specs.declared.marks.Mark.TheVariants.{CloseBrace}
 use Rattle.c_tokens.specs.declared.token.Spanned.{Spanned}
 use Rattle.c_tokens.specs.Reading.{spanned}
 use Rattle.c_phrases.specs.Classes.{Placed, seen, sign}
-use Rattle.c_phrases.specs.Units.{SomeItems, statement_item, expression, AnExternal, onto_statement, onto_items, onto_external, onto_externals}
+use Rattle.c_phrases.specs.Units.{SomeItems, statement_item, expression, AnExternal}
+use Rattle.c_phrases.specs.UnitSpelling.{onto_statement, onto_items, onto_external, onto_externals}
 use Rattle.gg_load_tokens.specs.Words.{Word, place, behind, onto_tokens}
 use Rattle.gg_load_tokens.specs.Lines.{first_words, function_words, main_words, call_words, letter_words, last_words, words_up_to}
 use Rattle.gg_load_phrases.specs.Functions.{first_external, function_external, function_places, onto_functions}

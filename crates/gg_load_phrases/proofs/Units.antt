@@ -4,8 +4,9 @@ use Rattle.c_tokens.specs.declared.marks.Mark.TheVariants.{CloseBrace}
 use Rattle.c_tokens.specs.declared.token.Token.TheVariants.{End}
 use Rattle.c_tokens.specs.declared.token.Spanned.{Spanned}
 use Rattle.c_phrases.specs.Classes.{Placed, seen, sign}
-use Rattle.c_phrases.specs.Units.{statement_item, onto_statement, onto_items, onto_external, onto_externals}
-use Rattle.c_phrases.specs.Fits.{IsUnit}
+use Rattle.c_phrases.specs.Units.{statement_item}
+use Rattle.c_phrases.specs.UnitSpelling.{onto_statement, onto_items, onto_external, onto_externals}
+use Rattle.c_phrases.specs.Grammar.{IsUnit}
 use Rattle.gg_load_tokens.specs.Words.{Word, place, behind, onto_tokens}
 use Rattle.gg_load_tokens.specs.Lines.{first_words, function_words, main_words, call_words, letter_words, last_words, words_up_to, source_words, source_tokens}
 use Rattle.gg_load_phrases.specs.Functions.{first_external, onto_functions}

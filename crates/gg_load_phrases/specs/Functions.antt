@@ -5,22 +5,8 @@ use Rattle.c_phrases.specs.declared.operator.AssignOperator.TheVariants.{Assign}
 use Rattle.c_phrases.specs.declared.operator.Spec.TheVariants.{Int}
 use Rattle.c_phrases.specs.declared.operator.Storage.TheVariants.{Automatic}
 use Rattle.c_phrases.specs.Phrases.{AnExp, name, number, paren, index, binary, assign}
-use Rattle.c_phrases.specs.Units.{
-  ADeclarator,
-  ALocal,
-  SomeItems,
-  no_items,
-  local_item,
-  statement_item,
-  expression,
-  give_back,
-  AParam,
-  params,
-  AFunction,
-  function,
-  globals,
-  AnExternal,
-}
+use Rattle.c_phrases.specs.Units.{ADeclarator, ALocal, SomeItems, no_items, local_item, statement_item, expression}
+use Rattle.c_phrases.specs.Units.{give_back, AParam, params, AFunction, function, globals, AnExternal}
 use Rattle.gg_load_tokens.specs.Words.{place, behind}
 use Rattle.gg_load_tokens.specs.Lines.{function_name, function_words, words_up_to}
 

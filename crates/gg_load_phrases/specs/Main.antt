@@ -4,21 +4,8 @@ use Rattle.c_phrases.specs.declared.operator.BinaryOperator.TheVariants.{Add, An
 use Rattle.c_phrases.specs.declared.operator.AssignOperator.TheVariants.{Assign}
 use Rattle.c_phrases.specs.declared.operator.Spec.TheVariants.{Int}
 use Rattle.c_phrases.specs.Phrases.{AnExp, name, number, paren, call, binary, assign, no_exps, exps}
-use Rattle.c_phrases.specs.Units.{
-  AStatement,
-  block,
-  SomeItems,
-  no_items,
-  local_item,
-  statement_item,
-  expression,
-  give_back,
-  while_loop,
-  no_params,
-  AFunction,
-  function,
-  AnExternal,
-}
+use Rattle.c_phrases.specs.Units.{AStatement, block, SomeItems, no_items, local_item, statement_item, expression}
+use Rattle.c_phrases.specs.Units.{give_back, while_loop, no_params, AFunction, function, AnExternal}
 use Rattle.gg_load_tokens.specs.Words.{place, behind}
 use Rattle.gg_load_tokens.specs.Lines.{function_name, call_words, words_up_to}
 use Rattle.gg_load_phrases.specs.Functions.{Places, plain_local}

@@ -3,7 +3,7 @@
 
 ghost use Rattle.std.specs.Prelude.{◌≡◌, ℕ, Ok};
 ghost use Rattle.c_phrases.specs.Classes.{seen};
-ghost use Rattle.c_phrases.specs.Fits.{IsUnit};
+ghost use Rattle.c_phrases.specs.Grammar.{IsUnit};
 ghost use Rattle.gg_load_tokens.specs.Lines.{source_tokens};
 ghost use Rattle.gg_load_phrases.specs.Unit.{source_unit};
 

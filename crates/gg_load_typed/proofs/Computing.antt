@@ -2,7 +2,10 @@
 use Rattle.c_types.specs.Types.{is_integer, is_scalar, same_type, same_integer, target, pointer_to, integer_size, size_of}
 use Rattle.c_types.specs.Typed.{place_type, type_of, is_null}
 use Rattle.c_types.specs.Constants.{is_constant, value_of, constant_of}
-use Rattle.c_typed_operators.specs.Rules.{fits, arithmetic, plus, binary_of, element, index_of, store, store_by, assign_of, given, condition_of}
+use Rattle.c_typed_operators.specs.Rules.{fits, arithmetic, plus, binary_of}
+use Rattle.c_typed_operators.specs.Prefixes.{element, index_of}
+use Rattle.c_typed_operators.specs.Stores.{store, store_by, assign_of, given}
+use Rattle.c_typed_operators.specs.Choices.{condition_of}
 use Rattle.c_typed_scope.specs.Scopes.{lookup, is_taken, with_name, enter, leave}
 use Rattle.c_typed_scope.specs.Layout.{aligned, placed}
 use Rattle.c_typed_scope.specs.Contents.{length_of, filled}
@@ -12,7 +15,8 @@ use Rattle.c_typed_definition.specs.Initialisers.{type_length}
 use Rattle.c_typed_definition.specs.Forms.{form_of, automatic_form, many}
 use Rattle.c_typed_definition.specs.Declarations.{laid, object_with, counted_array, array_object, type_object, type_automatic}
 use Rattle.c_typed_definition.specs.Statements.{type_full, type_condition}
-use Rattle.c_typed_definition.specs.Texts.{agrees, type_parameter, type_introduced}
+use Rattle.c_typed_definition.specs.Headings.{agrees}
+use Rattle.c_typed_definition.specs.Texts.{type_parameter, type_introduced}
 
 -- types, and operators on typed operands
 unfoldable pub operators_compute : Unit {0}

@@ -7,7 +7,9 @@ use Rattle.c_typed_scope.specs.declared.entry.Signature.{Signature}
 use Rattle.c_typed_scope.specs.Scopes.{find, with_name}
 use Rattle.c_typed_scope.specs.Layout.{Area}
 use Rattle.c_typed_expressions.specs.Expressions.{integer_of, written}
-use Rattle.c_typed_definition.specs.Texts.{services, service_names, Text, head_of, type_introduced, type_function, type_external, empty_text}
+use Rattle.c_typed_definition.specs.Signatures.{services, service_names}
+use Rattle.c_typed_definition.specs.Headings.{Text, head_of}
+use Rattle.c_typed_definition.specs.Texts.{type_introduced, type_function, type_external, empty_text}
 use Rattle.c_program.specs.Programs.{ARoutine}
 use Rattle.gg_load_tokens.specs.Lines.{function_name}
 use Rattle.gg_load_phrases.specs.Functions.{Places, first_external, function_of, function_external}

@@ -6,7 +6,7 @@ use Rattle.c_typed_scope.specs.declared.entry.Entry.TheVariants as entries
 use Rattle.c_typed_scope.specs.declared.entry.Signature.{Signature}
 use Rattle.c_typed_scope.specs.Scopes.{find}
 use Rattle.c_typed_expressions.specs.Expressions.{integer_of, written}
-use Rattle.c_typed_definition.specs.Texts.{services, service_names, Known, known_with, known_from, known}
+use Rattle.c_typed_definition.specs.Signatures.{services, service_names, Known, known_with, known_from, known}
 use Rattle.gg_load_tokens.specs.Words.{place}
 use Rattle.gg_load_tokens.specs.Lines.{function_name, main_words}
 use Rattle.gg_load_phrases.specs.Functions.{Places, function_external, function_places, onto_functions}

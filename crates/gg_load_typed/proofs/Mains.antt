@@ -11,7 +11,9 @@ use Rattle.c_typed_scope.specs.Layout.{Area}
 use Rattle.c_typed_expressions.specs.Expressions.{integer_of, written, callee_of}
 use Rattle.c_typed_definition.specs.Declarations.{State}
 use Rattle.c_typed_definition.specs.Statements.{type_items}
-use Rattle.c_typed_definition.specs.Texts.{services, service_names, head_of, type_introduced, type_function, type_external}
+use Rattle.c_typed_definition.specs.Signatures.{services, service_names}
+use Rattle.c_typed_definition.specs.Headings.{head_of}
+use Rattle.c_typed_definition.specs.Texts.{type_introduced, type_function, type_external}
 use Rattle.c_program.specs.Statements.{SomeActions, MoreActions}
 use Rattle.c_program.specs.Programs.{ARoutine}
 use Rattle.gg_load_tokens.specs.Lines.{function_name}

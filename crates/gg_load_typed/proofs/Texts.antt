@@ -4,7 +4,9 @@ use Rattle.c_phrases.specs.Units.{AnExternal}
 use Rattle.c_types.specs.Types.{same_type, same_integer}
 use Rattle.c_typed_scope.specs.declared.entry.Entry.{Entry}
 use Rattle.c_typed_scope.specs.declared.entry.Signature.{Signature}
-use Rattle.c_typed_definition.specs.Texts.{services, service_names, Known, known, Text, type_external, type_externals, main_of, empty_text, type_text}
+use Rattle.c_typed_definition.specs.Signatures.{services, service_names, Known, known}
+use Rattle.c_typed_definition.specs.Headings.{Text}
+use Rattle.c_typed_definition.specs.Texts.{type_external, type_externals, main_of, empty_text, type_text}
 use Rattle.c_program.specs.Programs.{ARoutine}
 use Rattle.gg_load_tokens.specs.Words.{place}
 use Rattle.gg_load_tokens.specs.Lines.{first_words, main_words, letter_words, last_words}

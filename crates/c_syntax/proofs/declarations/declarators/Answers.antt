@@ -1,7 +1,7 @@
 use Rattle.std.proofs.lemmas.Result.{err_from_is_err_and}
 use Rattle.c_phrases.specs.Classes.{seen}
 use Rattle.c_phrases.specs.UnitShapes.{declarator_of, declarators_of}
-use Rattle.c_phrases.specs.Units.{onto_declarator}
+use Rattle.c_phrases.specs.UnitSpelling.{onto_declarator}
 use Rattle.c_syntax.proofs.Closing.{more_begin, more_comma, more_err, more_step}
 use Rattle.c_syntax.proofs.ListLaws.{declarators_begin, declarators_more, declarators_push, declarators_shorter}
 use Rattle.c_syntax.proofs.declarations.declarators.Goals as goal

@@ -1,8 +1,9 @@
 use Rattle.std.proofs.Common.{length}
 use Rattle.c_phrases.specs.Classes.{seen}
 use Rattle.c_phrases.specs.UnitShapes.{declarator_of, declarators_of}
-use Rattle.c_phrases.specs.Units.{onto_declarator}
-use Rattle.c_syntax.specs.Stands.{DeclaratorsSoFar, MoreLeads}
+use Rattle.c_phrases.specs.UnitSpelling.{onto_declarator}
+use Rattle.c_syntax.specs.Stands.{DeclaratorsSoFar}
+use Rattle.c_syntax.specs.StatementLeads.{MoreLeads}
 use Rattle.c_syntax.proofs.declarations.declarators.Given as goal
 
 abbrev pub invariant-loop-last : goal.invariant-loop-last

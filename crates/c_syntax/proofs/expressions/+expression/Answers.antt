@@ -1,6 +1,6 @@
 use Rattle.std.proofs.Common.{◌+◌, arith, refl, rules}
 use Rattle.c_phrases.specs.Classes.{seen}
-use Rattle.c_phrases.specs.Phrases.{onto_name}
+use Rattle.c_phrases.specs.Spelling.{onto_name}
 use Rattle.c_phrases.specs.Shapes.{exp, exp_list}
 use Rattle.c_syntax_goals.proofs.PhraseLaws.{lower}
 use Rattle.c_syntax.proofs.Stops.{quiet_unassigned, quiet_unasked}

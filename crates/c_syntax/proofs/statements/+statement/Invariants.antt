@@ -1,7 +1,8 @@
 use Rattle.std.proofs.Common.{◌+◌, ◌*◌, ◌-◌, length}
 use Rattle.c_phrases.specs.Classes.{seen}
 use Rattle.c_phrases.specs.UnitShapes.{items_of}
-use Rattle.c_syntax.specs.Stands.{ReadsItems, ItemsLead}
+use Rattle.c_syntax.specs.Stands.{ReadsItems}
+use Rattle.c_syntax.specs.StatementLeads.{ItemsLead}
 use Rattle.c_syntax.proofs.statements.+statement.Given as goal
 
 abbrev pub decreases-statement : goal.decreases-statement

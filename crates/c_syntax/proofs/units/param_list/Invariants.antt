@@ -1,7 +1,8 @@
 use Rattle.std.proofs.Common.{length}
 use Rattle.c_phrases.specs.Classes.{seen}
 use Rattle.c_phrases.specs.UnitShapes.{param_list}
-use Rattle.c_syntax.specs.Stands.{ParamsSoFar, ParamsLead}
+use Rattle.c_syntax.specs.Stands.{ParamsSoFar}
+use Rattle.c_syntax.specs.StatementLeads.{ParamsLead}
 use Rattle.c_syntax.proofs.units.param_list.Given as goal
 
 abbrev pub invariant-loop-after : goal.invariant-loop-after

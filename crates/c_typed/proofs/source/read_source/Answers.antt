@@ -1,6 +1,6 @@
 use Rattle.std.proofs.Common.{subst, sym, ap, ◌∙◌}
 use Rattle.c_phrases.specs.Classes.{seen}
-use Rattle.c_phrases.specs.Fits.{IsUnit}
+use Rattle.c_phrases.specs.Grammar.{IsUnit}
 use Rattle.c_phrases.specs.UnitShapes.{unit_of}
 use Rattle.c_tokens.specs.Grammar.{Tokens}
 use Rattle.c_typed.specs.Sources.{place_at, type_kind}

@@ -1,6 +1,6 @@
 use Rattle.std.proofs.Common.{◌≡◌, ◌++◌, drop, map}
 use Rattle.c_phrases.specs.UnitShapes.{param_list}
-use Rattle.c_typed_definition.specs.Texts.{parameter_type}
+use Rattle.c_typed_definition.specs.Signatures.{parameter_type}
 use Rattle.c_typed_statements.proofs.signatures.parameter_types.Given as goal
 
 abbrev pub invariant-loop-p : goal.invariant-loop-p

@@ -1,5 +1,5 @@
 use Rattle.std.proofs.Common.{◌≡◌, drop}
-use Rattle.c_typed_definition.specs.Texts.{same_types}
+use Rattle.c_typed_definition.specs.Headings.{same_types}
 use Rattle.c_typed_statements.proofs.signatures.same_types.Given as goal
 
 abbrev pub invariant-loop-i : goal.invariant-loop-i

@@ -1,6 +1,6 @@
 use Rattle.std.proofs.Common.{[], refl}
 use Rattle.std.proofs.Math.Logic.{∥∥₁_map}
-use Rattle.c_meaning.specs.Meaning.{source}
+use Rattle.c_meaning.specs.Programs.{source}
 use Rattle.vax_machine.specs.Running.{run}
 use Rattle.gg_load_program.specs.Program.{source_program}
 use Rattle.gg_load_meaning.specs.Run.{source_outcome}

@@ -2,7 +2,7 @@ use Rattle.std.proofs.Common.{◌≡◌, [], length, sym, subst, rules}
 use Rattle.std.specs.String.{string_bytes}
 use Rattle.c_program.specs.Programs.{AProgram, program}
 use Rattle.c_typed.specs.Sources.{Reads}
-use Rattle.c_meaning.specs.Meaning.{source}
+use Rattle.c_meaning.specs.Programs.{source}
 use Rattle.gg_compile_sources.specs.Claims.{Keeps}
 use Rattle.gg_load.specs.Source.{source_text}
 use Rattle.gg_load_meaning.specs.Run.{ComesTo, source_outcome}

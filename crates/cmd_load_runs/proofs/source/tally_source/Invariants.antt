@@ -1,6 +1,6 @@
 use Rattle.std.proofs.Common.{[]}
 use Rattle.c_program.specs.Programs.{program as plain}
-use Rattle.c_meaning.specs.Meaning.{source}
+use Rattle.c_meaning.specs.Programs.{source}
 use Rattle.cmd_load_runs.proofs.Turns.{Remains, left_of}
 use Rattle.cmd_load_runs.proofs.source.tally_source.Given as goal
 

@@ -1,5 +1,6 @@
 use Rattle.std.proofs.Common.{◌≡◌}
-use Rattle.c_meaning.specs.Runner.{to_come, work}
+use Rattle.c_meaning.specs.Pending.{to_come}
+use Rattle.c_meaning.specs.FrameWork.{work}
 use Rattle.c_meaning.proofs.machine.Machine.advance.Given as goal
 
 abbrev pub invariant-loop-event : goal.invariant-loop-event

@@ -1,0 +1,58 @@
+-- What a call does, and how its caller goes on.
+use Rattle.std.specs.Prelude.{ℕ, ◌+◌, ◌%◌, ◌-◌, ◌^◌, List, [], ◌∷◌, Option, Some, None, nat_lt}
+use Rattle.std.specs.Prelude.{if◌then◌else◌, slice_get, replicate, length}
+use Rattle.gg_base.specs.declared.run.End.TheVariants.{Wild, Deep}
+use Rattle.gg_base.specs.Runs.{Runs, stop, emit, counted}
+use Rattle.c_types.specs.declared.types.CType.{CType}
+use Rattle.c_types.specs.declared.typed.Callee.{Callee}
+use Rattle.c_types.specs.declared.typed.Callee.TheVariants as callees
+use Rattle.c_types.specs.Constants.{converted}
+use Rattle.c_program.specs.Programs.{ARoutine, AProgram}
+use Rattle.c_meaning.specs.declared.flow.Flow.{Flow}
+use Rattle.c_meaning.specs.declared.flow.Flow.TheVariants.{Onward, Broke, Continued, Returned}
+use Rattle.c_meaning.specs.State.{State}
+use Rattle.c_meaning.specs.Values.{Rest, Behind, Body, Next}
+
+-- an argument is converted to its parameter's type
+abbrev pub passed : List CType → ℕ → (ℕ → List CType → State → Runs) → State → Runs
+passed [] v κ st = stop Wild
+passed (t ∷ ts) v κ st = κ (converted t v) ts st
+
+-- `putchar` writes the low byte of its argument, and answers it
+abbrev pub put_char : List ℕ → Rest → State → Runs
+put_char [] κ st = stop Wild
+put_char (c ∷ cs) κ st = emit (c % 2 ^ 8) (κ (c % 2 ^ 8) st)
+
+-- `getchar` answers the next byte of the input, or -1 at its end
+abbrev pub got : List ℕ → Rest → State → Runs
+got [] κ st = κ (2 ^ 32 - 1) st
+got (b ∷ bs) κ st = κ b (record st { input = bs })
+
+-- A function that is left other than by a `return` with a value answers 0.
+abbrev pub answer : Flow → ℕ
+answer Onward = 0
+answer Broke = 0
+answer Continued = 0
+answer (Returned v) = v
+
+-- behind a call the caller goes on
+abbrev pub back : Rest → State → Behind
+back κ st w st' = κ (answer w) (record st' { call = st.call; active = st.active })
+
+-- a call has locals of its own, which are 0 at first, and its parameters are the values that it was given
+abbrev pub begun : ARoutine → List ℕ → State → State
+begun g vs st = record st { call = record { locals = replicate (length g.locals) 0; parameters = vs }; active = st.active + 1 }
+
+-- at most 1,024 calls are active
+abbrev pub entered : Next → ARoutine → List ℕ → Rest → State → Runs
+entered next g vs κ st = if nat_lt st.active 1024 then next (Body g.body) (back κ st) (begun g vs st) else stop Deep
+
+-- a call of a function is counted
+abbrev pub called : Option ARoutine → Next → List ℕ → Rest → State → Runs
+called None next vs κ st = stop Wild
+called (Some g) next vs κ st = counted (entered next g vs κ st)
+
+abbrev pub call : AProgram → Next → Callee → List ℕ → Rest → State → Runs
+call p next (callees.Defined f) vs κ st = called (slice_get p.routines f) next vs κ st
+call p next callees.Putchar vs κ st = put_char vs κ st
+call p next callees.Getchar vs κ st = got st.input κ st
