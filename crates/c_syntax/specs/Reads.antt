@@ -7,6 +7,7 @@ use Rattle.c_phrases.specs.Classes.{Placed, Class, class_of, word}
 use Rattle.c_phrases.specs.Classes as c
 use Rattle.c_syntax_goals.specs.Goals.{Want, AfterShort, AfterUnsigned, TypeWords, Stars}
 use Rattle.c_syntax_goals.specs.Types.{type_goals}
+use Rattle.c_phrases.specs.declared.operator.Spec.{Spec as SpecWords}
 use Rattle.c_phrases.specs.declared.tree.TypeName.{TypeName}
 use Rattle.c_phrases.specs.Phrases.{AnExp, SomeExps, no_exps, exps, AllAt, IsAt, after_exp}
 use Rattle.c_phrases.specs.Spelling.{onto_exp, onto_int, onto_spec, onto_stars, onto_type, onto_first}
