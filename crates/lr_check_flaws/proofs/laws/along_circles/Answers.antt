@@ -1,0 +1,5 @@
+use Rattle.lr_check_flaws.proofs.Faulty as law
+use Rattle.lr_check_flaws.proofs.laws.along_circles.Goals as goal
+
+pub returns : goal.returns
+returns c = law.circles
