@@ -11,3 +11,4 @@ pub mod tables;
 
 pub use accepted::read_accepted;
 pub use check::check_description;
+pub use gg_accepted::Accepted;

@@ -13,8 +13,8 @@ use Rattle.vax_target_meaning.specs.Vax.{vax}
 use Rattle.cmd_files.specs.Forms.{IsReadAs}
 use Rattle.cmd_run.specs.Texts.{text_form}
 use Rattle.gg_compile.specs.Needs.{AllFit}
-use Rattle.gg_compile_code.specs.Selecting.{SelectedAll}
-use Rattle.gg_compile_sources.specs.Claims.{Keeps}
+use Rattle.gg_compile.specs.Selecting.{SelectedAll}
+use Rattle.gg_compile.specs.Keeping.{Keeps}
 use Rattle.cmd_compile.specs.Texts.{IsTextOf}
 
 -- a valid code's text is read as that code alone

@@ -12,8 +12,8 @@ use Rattle.c_lower_scheme.specs.Programs.{lowered}
 use Rattle.vax_core.specs.declared.code.Code.{Code}
 use Rattle.vax_target_meaning.specs.Vax.{vax}
 use Rattle.gg_compile.specs.Needs.{AllFit, IsFirstOver}
-use Rattle.gg_compile_code.specs.Selecting.{SelectedAll}
-use Rattle.gg_compile_sources.specs.Claims.{Keeps}
+use Rattle.gg_compile.specs.Selecting.{SelectedAll}
+use Rattle.gg_compile.specs.Keeping.{Keeps}
 use Rattle.cmd_compile.specs.Lines.{name_at, frame_line}
 
 -- The bytes are the assembly text of one code, which is what `run` reads in them. That code is selected of the

@@ -4,7 +4,7 @@ ghost use Rattle.gg_base.specs.Runs.{OneEnd};
 ghost use Rattle.c_meaning.specs.Programs.{source};
 ghost use Rattle.vax_core.specs.declared.code.Code.{Code};
 ghost use Rattle.vax_machine.specs.Running.{run};
-ghost use Rattle.gg_compile_sources.specs.Claims.{Keeps};
+ghost use Rattle.cmd_compile.specs.Keeping.{Keeps};
 ghost use Rattle.gg_load_program.specs.Program.{source_program};
 ghost use Rattle.gg_load_meaning.specs.Run.{ComesTo, source_outcome};
 ghost use Rattle.cmd_load_runs.specs.Sides.{EndsLike};

@@ -14,12 +14,12 @@ use Rattle.vax_core.specs.Valid.{is_code}
 use Rattle.vax_target_meaning.specs.Vax.{vax}
 use Rattle.gg_compile_code.specs.Selecting.{SelectedAll}
 use Rattle.gg_compile_code.specs.Stops.{StopsAt, Blocks, Fills}
-use Rattle.gg_compile_sources.specs.Claims.{Keeps}
-use Rattle.gg_compile_answers.specs.Claims.{HasReadyTrees}
-use Rattle.gg_compile_answers.proofs.Stopping.{no_tree_stops}
-use Rattle.gg_compile_within.proofs.Limits.{typed_codes_keep_programs}
-use Rattle.gg_compile_within.proofs.Ready.{typed_programs_are_ready}
-use Rattle.gg_compile_written.proofs.Programs.{typed_codes_can_be_written}
+use Rattle.gg_compile_laws.specs.Keeping.{Keeps}
+use Rattle.gg_compile_laws.specs.Ready.{HasReadyTrees}
+use Rattle.gg_compile_laws.proofs.Stopping.{no_tree_stops}
+use Rattle.gg_compile_laws.proofs.Limits.{typed_codes_keep_programs}
+use Rattle.gg_compile_laws.proofs.Typed.{typed_programs_are_ready}
+use Rattle.gg_compile_laws.proofs.Programs.{typed_codes_can_be_written}
 use Rattle.gg_compile.specs.Needs.{AllFit}
 
 no_prop : IsProp ⊥

@@ -6,9 +6,9 @@ ghost use Rattle.c_lower_scheme.specs.Programs.{lowered};
 ghost use Rattle.vax_core.specs.Valid.{is_code};
 ghost use Rattle.vax_target_meaning.specs.Vax.{vax};
 ghost use Rattle.gg_compile.specs.Needs.{AllFit, IsOver};
-ghost use Rattle.gg_compile_answers.specs.Claims.{HasReadyTrees};
+ghost use Rattle.gg_compile_laws.specs.Ready.{HasReadyTrees};
 ghost use Rattle.gg_compile_code.specs.Selecting.{SelectedAll};
-ghost use Rattle.gg_compile_sources.specs.Claims.{Keeps};
+ghost use Rattle.gg_compile_laws.specs.Keeping.{Keeps};
 
 use crate::fault::CompileFault;
 use crate::needs::check_needs;

@@ -7,3 +7,4 @@ mod needs;
 
 pub use compiler::{Compiled, compile};
 pub use fault::CompileFault;
+pub use gg_accepted::Accepted;

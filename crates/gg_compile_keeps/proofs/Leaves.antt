@@ -28,7 +28,8 @@ use Rattle.vax_machine.specs.Labels.{has_label}
 use Rattle.vax_templates.specs.FilledLines.{label_of_att}
 use Rattle.gg_compile_law.specs.Effects.{label_name}
 use Rattle.gg_compile_law.specs.Roles.{target_by, target_of}
-use Rattle.gg_compile_effect.proofs.Trees.{IsLow, Headed, headed, root_is}
+use Rattle.gg_compile_effect.proofs.Trees.{IsLow, Headed, headed}
+pub use Rattle.gg_compile_effect.proofs.Trees.{root_is}
 use Rattle.gg_compile_effect.proofs.Naming.{of_tree, passes}
 use Rattle.gg_compile_names.specs.Claims.{GoesInside}
 

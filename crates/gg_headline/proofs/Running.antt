@@ -21,7 +21,7 @@ use Rattle.cmd_files.specs.Outsides.{FileIsWrong}
 use Rattle.cmd_files.specs.Outcome.{Call, RanTo, IsRefusedAs, IsUnable}
 use Rattle.cmd_files.specs.Exact.{IsAnswer}
 use Rattle.cmd_run.specs.Texts.{text_form, code_runner, fault_line}
-use Rattle.gg_compile_sources.specs.Claims.{Keeps}
+use Rattle.cmd_compile.specs.Keeping.{Keeps}
 use Rattle.cmd_compile.specs.Texts.{IsTextOf}
 use Rattle.gg_headline.specs.Claims.{HoldsText, TextsAreTaken, RunsTell, EndsAt, RunsEnd}
 

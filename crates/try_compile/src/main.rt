@@ -4,13 +4,12 @@
 // where that differs. A description is read and checked once for the lines that name it one behind another.
 #![tactic(auto)]
 
-use cmd_check::read_accepted;
+use cmd_check::{Accepted, read_accepted};
 use cmd_compile::text::text_of;
 use cmd_files::read_file;
 use cmd_meaning::{SourceText, run_source};
 use cmd_run::run_text;
 use cmd_session::Status;
-use gg_accepted::Accepted;
 use gg_base::{Bytes, Name};
 use gg_outside::{MemFile, MemFolder, MemSink, MemSource};
 use gg_texts::VAX_GG;

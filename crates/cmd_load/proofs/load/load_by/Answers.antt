@@ -3,7 +3,7 @@ use Rattle.std.specs.String.{string_bytes}
 use Rattle.c_program.specs.Programs.{AProgram, program}
 use Rattle.c_typed.specs.Sources.{Reads}
 use Rattle.c_meaning.specs.Programs.{source}
-use Rattle.gg_compile_sources.specs.Claims.{Keeps}
+use Rattle.cmd_compile.specs.Keeping.{Keeps}
 use Rattle.gg_load.specs.Source.{source_text}
 use Rattle.gg_load_meaning.specs.Run.{ComesTo, source_outcome}
 use Rattle.cmd_load_runs.specs.Tallies.{outcome_of}

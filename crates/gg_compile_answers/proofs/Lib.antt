@@ -1,3 +1,0 @@
-pub mod Rooms
-pub mod Ready
-pub mod Stopping

@@ -1,5 +1,0 @@
-use Rattle.gg_compile_answers.proofs.Ready as law
-use Rattle.gg_compile_answers.proofs.laws.each_tree_has_code.Goals as goal
-
-pub returns : goal.returns
-returns c = law.each_tree_has_code

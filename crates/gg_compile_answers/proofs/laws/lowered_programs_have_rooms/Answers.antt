@@ -1,5 +1,0 @@
-use Rattle.gg_compile_answers.proofs.Rooms as law
-use Rattle.gg_compile_answers.proofs.laws.lowered_programs_have_rooms.Goals as goal
-
-pub returns : goal.returns
-returns c = law.lowered_programs_have_rooms

@@ -1,5 +1,0 @@
-use Rattle.gg_compile_answers.proofs.Stopping as law
-use Rattle.gg_compile_answers.proofs.laws.no_tree_stops.Goals as goal
-
-pub returns : goal.returns
-returns c = law.no_tree_stops

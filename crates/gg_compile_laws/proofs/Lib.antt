@@ -1,0 +1,12 @@
+pub mod Objects
+pub mod Keeping
+pub mod Rooms
+pub mod Ready
+pub mod Stopping
+pub mod Limits
+pub mod Typed
+pub mod Tests
+pub mod Areas
+pub mod Trees
+pub mod Functions
+pub mod Programs

@@ -1,0 +1,5 @@
+use Rattle.gg_compile_laws.proofs.Programs as law
+use Rattle.gg_compile_laws.proofs.laws.typed_codes_can_be_written.Goals as goal
+
+pub returns : goal.returns
+returns c = law.typed_codes_can_be_written

@@ -1,0 +1,5 @@
+pub mod Keeping
+pub mod Rooms
+pub mod Ready
+pub mod Typed
+pub mod Written

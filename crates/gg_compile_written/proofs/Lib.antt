@@ -1,5 +1,0 @@
-pub mod Tests
-pub mod Areas
-pub mod Trees
-pub mod Functions
-pub mod Programs

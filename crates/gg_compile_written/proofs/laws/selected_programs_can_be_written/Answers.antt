@@ -1,5 +1,0 @@
-use Rattle.gg_compile_written.proofs.Programs as law
-use Rattle.gg_compile_written.proofs.laws.selected_programs_can_be_written.Goals as goal
-
-pub returns : goal.returns
-returns c = law.selected_programs_can_be_written
