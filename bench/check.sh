@@ -9,19 +9,13 @@
 # MD_REFERENCE names the folder of the plain program, a Cargo project with the modules that bench/descriptions_plain.rs names: where it
 # isn't set or isn't there, nothing is compared. BUILT may name a folder with programs that were built before; else they are built here.
 set -eu
-here=$(CDPATH='' cd -- "$(dirname -- "$0")/.." && pwd)
+. "$(dirname -- "$0")/common.sh"
 small=${1:-500}
 changed=${2:-20}
 rules=${3:-0}
-work=$(mktemp -d)
-trap 'rm -rf "$work"' EXIT
-. "$here/bench/common.sh"
 
 plain=$(plain_of "${MD_REFERENCE:-}" descriptions_plain.rs)
-if [ -z "$plain" ]; then
-    echo "skipped: MD_REFERENCE names no folder of a plain program"
-    exit 0
-fi
+[ -n "$plain" ] || skip "MD_REFERENCE names no folder of a plain program"
 program=$(program_of ggvax)
 counter=$(program_of try_check)
 [ -n "$program" ] || echo "there is no ggvax: what it says is not compared"
@@ -32,8 +26,9 @@ import itertools
 import os
 import random
 import re
-import subprocess
 import sys
+
+from common import Done, listed, put
 
 program, counter, plain, work, shipped = sys.argv[1:6]
 smalls, changes, many = int(sys.argv[6]), int(sys.argv[7]), int(sys.argv[8])
@@ -167,37 +162,26 @@ def long_rules(count):
     return (values + pushes)[:count]
 
 
-class Done:
-    """What a program left: its status, what it told, its processor seconds, and the most MiB that it held."""
+class Told(Done):
+    """The same, with what it wrote and told as text."""
 
     def __init__(self, words, given=""):
-        with open("given", "w") as file:
-            file.write(given)
-        with open("given") as given, open("told", "w") as told, open("report", "w") as report:
-            child = subprocess.Popen(words, stdin=given, stdout=told, stderr=report)
-            _, status, used = os.wait4(child.pid, 0)
-        self.status = child.returncode = os.waitstatus_to_exitcode(status)
-        self.told, self.report = open("told").read(), open("report").read()
-        self.seconds, self.peak = used.ru_utime + used.ru_stime, used.ru_maxrss / 1024
-
-
-def put(name, text):
-    with open(name, "w") as file:
-        file.write(text)
+        super().__init__(words, given)
+        self.told, self.report = self.written.decode(), self.report.decode()
 
 
 def difference(text):
     """How `ggvax check` ends, and what the plain program says otherwise, or nothing."""
     put("d.gg", text)
-    mine = Done([program, "check", "d.gg"])
-    other = Done([plain, "check", "d.gg"]).told.rstrip("\n").split("\n")
+    mine = Told([program, "check", "d.gg"])
+    other = Told([plain, "check", "d.gg"]).told.rstrip("\n").split("\n")
     first, _, rest = mine.report.removeprefix("ggvax: ").partition("\n")
     if mine.status in (OK, POOL_SMALL, UNSHOWN):
         kind, wanted = ("shown" if mine.status == OK else "not shown"), "\n".join(other[2:])
         same = other[1:2] == ["accepted"] and (wanted + "\n" if wanted else "") == mine.report.removeprefix("ggvax: ")
     elif mine.status in (BLOCKS, LOOPS):
         put("sample", rest)
-        kind, end = first, Done([plain, "replay", "d.gg", "sample"]).told
+        kind, end = first, Told([plain, "replay", "d.gg", "sample"]).told
         same = other[-1].startswith("refused") and kind in other[-1].split() and end.startswith(f"{kind} at ")
         other.append(f"its own parse of the tree: {end.rstrip()}")
     else:
@@ -207,7 +191,7 @@ def difference(text):
 
 def tuples(texts):
     """The numbers of tuples by `try_check` of each description that it accepts."""
-    told = Done([counter], "=".join(texts)).told
+    told = Told([counter], "=".join(texts)).told
     return [int(number) for number in re.findall(r"^accepted: \d+ item sets, (\d+) tuples$", told, re.M)]
 
 
@@ -215,7 +199,7 @@ def plain_tuples(texts):
     found = []
     for text in texts:
         put("d.gg", text)
-        told = Done([plain, "check", "d.gg"]).told
+        told = Told([plain, "check", "d.gg"]).told
         found += [int(number) for number in re.findall(r"(\d+) tuples\naccepted", told)]
     return found
 
@@ -230,8 +214,7 @@ def compare(what, texts):
             wrong += 1
             print(f"{what} {number}: {other}")
             put(f"{what}{number}.gg", text)
-    told = ", ".join(f"{n} {kind}" for kind, n in sorted(kinds.items()))
-    print(f"{len(texts)} {what} descriptions ({told}): {wrong} differ", flush=True)
+    print(f"{len(texts)} {what} descriptions ({listed(kinds)}): {wrong} differ", flush=True)
     return wrong
 
 
@@ -252,8 +235,8 @@ def compare_tuples(what, texts, at_once):
 def compare_speed(text):
     """The shipped description, each as often; the plain program does the same work."""
     put("vax.gg", text)
-    mine = [Done([program, "check", "vax.gg"]) for _ in range(ROUNDS)]
-    other = [Done([plain, "check", "vax.gg"]) for _ in range(ROUNDS)]
+    mine = [Told([program, "check", "vax.gg"]) for _ in range(ROUNDS)]
+    other = [Told([plain, "check", "vax.gg"]) for _ in range(ROUNDS)]
     least, wanted = min(done.seconds for done in mine), min(done.seconds for done in other)
     peak = max(done.peak for done in mine)
     print(f"the shipped description: {mine[0].told.rstrip()}, {other[0].told.split(chr(10))[0]}")
@@ -265,7 +248,7 @@ def compare_speed(text):
 def check_many(head, rules):
     """A description with so many rules, all trees of which are parsed; the templates of the added ones aren't shown."""
     put("many.gg", "\n".join(head + ["\n".join(rule) for rule in rules] + long_rules(many - len(rules))) + "\n")
-    mine, other = Done([program, "check", "many.gg"]), Done([plain, "check", "many.gg"])
+    mine, other = Told([program, "check", "many.gg"]), Told([plain, "check", "many.gg"])
     said = mine.report.split("\n")[0]
     print(f"{many} rules: {said}; {other.told.split(chr(10))[0]}:", end=" ")
     print(f"{mine.seconds:.0f} s of processor against {other.seconds:.0f} s, {mine.peak / 1024:.2f} GiB (at most 3)", flush=True)

@@ -16,21 +16,15 @@
 # C_REFERENCE names the folder of a Cargo project whose command `gen SEED [--free]` writes a C program: where it isn't set or isn't there,
 # no generated program is compared. BUILT may name a folder with a `ggvax` that was built before; else it is built here.
 set -eu
-here=$(CDPATH='' cd -- "$(dirname -- "$0")/.." && pwd)
+. "$(dirname -- "$0")/common.sh"
 programs=${1:-2000}
 seed=${2:-1}
 alone=${3:-3}
-work=$(mktemp -d)
-trap 'rm -rf "$work"' EXIT
-. "$here/bench/common.sh"
 
 plain=$(plain_of "${C_REFERENCE:-}")
 [ -n "$plain" ] || echo "C_REFERENCE names no folder of a generator: no generated program is compared"
 program=$(program_of ggvax)
-if [ -z "$program" ]; then
-    echo "skipped: BUILT names a folder without ggvax"
-    exit 0
-fi
+[ -n "$program" ] || skip "BUILT names a folder without ggvax"
 cp "$here/examples/vax.gg" "$here/bench/reloads.gg" "$work"
 sed 's/^pool .*/pool r0 r1/' "$work/vax.gg" >"$work/vax-two.gg"
 sed 's/^pool .*/pool r0 r1 r2/' "$work/reloads.gg" >"$work/reloads-three.gg"
@@ -41,8 +35,9 @@ import os
 import random
 import re
 import shutil
-import subprocess
 import sys
+
+from common import Done, functions, put, written
 
 program, plain, work, examples = sys.argv[1:5]
 programs, first_seed, alone = (int(word) for word in sys.argv[5:8])
@@ -57,31 +52,12 @@ WORD = re.compile(r"""//[^\n]*|/\*.*?\*/|"(?:\\.|[^"\\])*"|'(?:\\.|[^'\\])*'|\w+
 os.chdir(work)
 
 
-class Done:
-    """What a program left: its status, what it wrote and told, its processor seconds, and the most MiB that it held."""
-
-    def __init__(self, words, given=b""):
-        with open("given", "wb") as file:
-            file.write(given)
-        with open("given", "rb") as given, open("written", "wb") as written, open("report", "wb") as report:
-            child = subprocess.Popen(words, stdin=given, stdout=written, stderr=report)
-            _, status, used = os.wait4(child.pid, 0)
-        self.status = child.returncode = os.waitstatus_to_exitcode(status)
-        self.written, self.report = open("written", "rb").read(), open("report", "rb").read()
-        self.seconds, self.peak = used.ru_utime + used.ru_stime, used.ru_maxrss / 1024
-
-
-def put(name, content):
-    with open(name, "wb") as file:
-        file.write(content if isinstance(content, bytes) else content.encode())
-
-
 class Program:
     """A generated program, the words that generate it, and an input."""
 
     def __init__(self, turn, chance):
         self.words = ["gen", str(first_seed + turn)] + (["--free"] if turn % 3 else [])
-        self.source = subprocess.run([plain, *self.words], stdout=subprocess.PIPE, check=True).stdout.decode()
+        self.source = written([plain, *self.words]).decode()
         self.given = bytes(chance.randrange(256) for _ in range(chance.randrange(41)))
 
     def marked(self, mark):
@@ -196,29 +172,7 @@ def compare():
     return tally.wrong
 
 
-PARTS = (
-    "int f{n}(int a,char*b){{int i;for(i=0;i<a;i++){{b[i]=(char)(a*i+{n});if(b[i]>100)return b[i]-i;else a^=i<<2;}}return a;}}\n",
-    "int t{n};short u{n}(short x,int y){{while(x>0&&y!={n}||!y){{x-=y++;if(x==y)continue;t{n}+=x*y;}}return x+t{n};}}\n",
-    "void g{n}(void){{char*s;s=\"some text {n}\";while(*s)putchar(*s++);}}\n",
-    "int h{n}(int x){{return x?h{n}(x-1)%7:(x&0xff)|(x>>3)&~x;}}\n",
-    "int k{n}(int*p,int*q,int i){{p[i]=q[i+1]/(i+1)+p[-i];*p++=*q--;return p<q?p-q:k{n}(p,q,i-1)+k{n}(q,p,p[i]);}}\n",
-)
-TAIL = "int main(){return 0;}\n"
-
-
-def functions(count=None, length=1_048_576):
-    """A source of so many functions, or of as many as the length in bytes has room for, and their number."""
-    made, size = [], len(TAIL)
-    while count is None or len(made) < count:
-        part = PARTS[len(made) % len(PARTS)].format(n=len(made))
-        if size + len(part) > length:
-            break
-        made.append(part)
-        size += len(part)
-    return "".join(made) + TAIL, len(made)
-
-
-def least(words, rounds):
+def least_used(words, rounds):
     """The least processor seconds of some runs, and the most MiB."""
     done = [Done(words) for _ in range(rounds)]
     assert all(one.status == DONE for one in done), done[0].report
@@ -227,16 +181,16 @@ def least(words, rounds):
 
 def compare_speed():
     """Each compilation checks its description first, which takes most of the time: on long sources the time behind that is told too."""
-    check, _ = least([program, "check", "vax.gg"], 5)
+    check, _ = least_used([program, "check", "vax.gg"], 5)
     times, behind, peak = {}, {}, 0
     sources = {"100": functions(100), "1000": functions(1_000), "half": functions(length=524_288), "all": functions()}
     for name, (source, count) in sources.items():
         put("timed.c", source)
-        times[name], peak = least([program, "compile", "vax.gg", "timed.c"], 5)
+        times[name], peak = least_used([program, "compile", "vax.gg", "timed.c"], 5)
         behind[name] = times[name] - check
         line = f"{count} functions, {len(source)} bytes: {times[name]:.2f} s of processor, {peak:.0f} MiB"
         if shutil.which("gcc"):
-            theirs, _ = least(["gcc", "-w", "-O0", "-S", "-o", "timed.s", "timed.c"], 2)
+            theirs, _ = least_used(["gcc", "-w", "-O0", "-S", "-o", "timed.s", "timed.c"], 2)
             line += f", {times[name] / theirs:.2f} times gcc -O0 -S"
         print(line, flush=True)
     print(f"1,000 functions against 100: {times['1000'] / times['100']:.1f} times (at most 12)")

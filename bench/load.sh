@@ -5,22 +5,19 @@
 # functions compares with gcc's at -O0, both from reading the source to writing the text; where none is there, that is skipped.
 # Usage: bench/load.sh. It builds the program first, which needs its proof.
 set -eu
-here=$(CDPATH='' cd -- "$(dirname -- "$0")/.." && pwd)
-work=$(mktemp -d)
-trap 'rm -rf "$work"' EXIT
+. "$(dirname -- "$0")/common.sh"
 
-(cd "$here/crates/ggvax" && rt run -- load data/vax.gg 1) >/dev/null 2>&1
+program=$(program_of ggvax)
+[ -n "$program" ] || skip "BUILT names a folder without ggvax"
 
-python3 - "$here" "$work" <<'PY'
+python3 - "$program" "$here/crates/ggvax/data/vax.gg" "$work" <<'PY'
 import os
 import shutil
-import subprocess
 import sys
-import time
 
-here, work = sys.argv[1:]
-program = f"{here}/crates/ggvax/out/ggvax"
-description = f"{here}/crates/ggvax/data/vax.gg"
+from common import answer, least, put
+
+program, description, work = sys.argv[1:]
 
 
 def source(k):
@@ -33,20 +30,15 @@ def source(k):
     return "".join(line + "\n" for line in lines)
 
 
-def timed(words):
-    begun = time.monotonic()
-    ran = subprocess.run(words, capture_output=True)
-    return time.monotonic() - begun, ran.returncode, ran.stdout, ran.stderr.decode()
-
-
 def best(words, times=3):
-    runs = [timed(words) for _ in range(times)]
-    assert len({run[1:] for run in runs}) == 1, f"{words} does not answer the same each time"
-    return min(runs)
+    """The least seconds of some runs, and what each of them answers."""
+    taken, done = least(times, lambda: answer(words))
+    return taken, *done
 
 
 def load(k):
     taken, status, out, report = best([program, "load", description, str(k)])
+    report = report.decode()
     print(f"load {k}: {taken:.2f} s, {report.strip()}")
     assert status == 0, f"status {status}"
     size = len(source(k))
@@ -63,8 +55,7 @@ print(f"1,000 functions take {share:.1f} times as long as 100, the description's
 assert share <= 12
 
 path = f"{work}/load.c"
-with open(path, "w") as file:
-    file.write(source(1000))
+put(path, source(1000))
 taken, status, text, _ = best([program, "compile", description, path])
 assert status == 0
 assert f", text {len(text)} bytes, " in report, "the text's size"

@@ -5,18 +5,12 @@
 # C_REFERENCE names the folder of the plain lowering, a Cargo project whose modules read, type and lower sources and generate programs.
 # Where it isn't set or isn't there, only the worked programs of `try_meaning` are run, and the two sizes are compared.
 set -eu
-here=$(CDPATH='' cd -- "$(dirname -- "$0")/.." && pwd)
+. "$(dirname -- "$0")/common.sh"
 programs=${1:-2000}
 seed=${2:-1}
-reference=${C_REFERENCE:-}
-work=$(mktemp -d)
-trap 'rm -rf "$work"' EXIT
 
 plain=
-if [ -n "$reference" ] && [ -f "$reference/Cargo.toml" ]; then
-    mkdir "$work/plain"
-    cp -r "$reference/Cargo.toml" "$reference/src" "$work/plain"
-    cp "$here/bench/lower_plain.rs" "$work/plain/src/main.rs"
+if copy_plain "${C_REFERENCE:-}" lower_plain.rs; then
     # The plain lowering evaluates a dropped unary operator, cast or relation where that may break, and not its operands alone.
     sed -i 's/^ *TK::Call(c, args, tys) => self.call(\*c, args, tys),$/&\
             TK::Un(_, a) | TK::Cast(a) => self.drop(a),\
@@ -45,19 +39,19 @@ if [ -n "$reference" ] && [ -f "$reference/Cargo.toml" ]; then
                 self.full(|s| s.branch(b, top, true));\
                 self.place_label(end);\
             }' "$work/plain/src/lower.rs"
-    RUSTFLAGS=-Awarnings cargo build --quiet --release --manifest-path "$work/plain/Cargo.toml" --target-dir "$work/target"
-    plain=$(find "$work/target/release" -maxdepth 1 -type f -perm -u+x | head -n 1)
+    plain=$(build_plain)
 else
     echo "C_REFERENCE names no folder of a plain lowering: answers are not compared"
 fi
-# Proves and builds the program where it is stale.
-(cd "$here/crates/try_lowering" && rt run -- data/sources.txt >/dev/null)
+program=$(program_of try_lowering)
+[ -n "$program" ] || skip "BUILT names a folder without try_lowering"
 
-python3 - "$here/crates/try_lowering/out/try_lowering" "$plain" "$work" "$here/crates/try_meaning/stdin" "$programs" "$seed" <<'PY'
+python3 - "$program" "$plain" "$work" "$here/crates/try_meaning/stdin" "$programs" "$seed" <<'PY'
 import re
 import resource
-import subprocess
 import sys
+
+from common import functions as source_of, listed, put, written
 
 program, plain, work, worked = sys.argv[1:5]
 programs, first_seed = int(sys.argv[5]), int(sys.argv[6])
@@ -67,7 +61,7 @@ TURNS = 10_000
 
 
 def told(words):
-    return subprocess.run(words, stdout=subprocess.PIPE, check=True).stdout.decode("latin-1")
+    return written(words).decode("latin-1")
 
 
 def functions(lines):
@@ -202,8 +196,7 @@ def compare_runs(table):
         if end != "refused" and not agrees(line):
             wrong += 1
             print(f"program {turn}:{line}")
-    listed = ", ".join(f"{n} {end}" for end, n in sorted(ends.items()))
-    print(f"{len(lines)} programs ({listed}): the runs of {wrong} differ")
+    print(f"{len(lines)} programs ({listed(ends)}): the runs of {wrong} differ")
     return wrong
 
 
@@ -213,27 +206,6 @@ def worked_programs(given):
     with open(given) as file, open(table, "w") as out:
         out.write("\n\n".join(line.split("@")[0] for line in file.read().splitlines()) + "\n")
     return table
-
-
-PARTS = (
-    "int f{n}(int a,char*b){{int i;for(i=0;i<a;i++){{b[i]=(char)(a*i+{n});if(b[i]>100)return b[i]-i;else a^=i<<2;}}return a;}}\n",
-    "int t{n};short u{n}(short x,int y){{while(x>0&&y!={n}||!y){{x-=y++;if(x==y)continue;t{n}+=x*y;}}return x+t{n};}}\n",
-    "void g{n}(void){{char*s;s=\"some text {n}\";while(*s)putchar(*s++);}}\n",
-    "int h{n}(int x){{return x?h{n}(x-1)%7:(x&0xff)|(x>>3)&~x;}}\n",
-    "int k{n}(int*p,int*q,int i){{p[i]=q[i+1]/(i+1)+p[-i];*p++=*q--;return p<q?p-q:k{n}(p,q,i-1)+k{n}(q,p,p[i]);}}\n",
-)
-TAIL = "int main(){return 0;}\n"
-
-
-def source(length):
-    made, size, turn = [], len(TAIL), 0
-    while True:
-        part = PARTS[turn % len(PARTS)].format(n=turn)
-        if size + len(part) > length:
-            return "".join(made) + TAIL
-        made.append(part)
-        size += len(part)
-        turn += 1
 
 
 def processor():
@@ -270,8 +242,7 @@ def compare_times():
     paths, slow = {}, 0
     for name, length in (("100 KiB", 102_400), ("1 MiB", 1_048_576)):
         paths[name] = f"{work}/{length}.c"
-        with open(paths[name], "w") as file:
-            file.write(source(length))
+        put(paths[name], source_of(length=length)[0])
     found = measure(runners, paths)
     for name in paths if plain else ():
         for what, ours, theirs in zip(("whole", "lowering alone"), found["try_lowering", name], found["plain", name]):
@@ -287,8 +258,7 @@ def compare_times():
 wrong = compare_runs(worked_programs(worked))
 if plain:
     table = f"{work}/table.txt"
-    with open(table, "w") as file:
-        file.write(told([plain, "generate", str(first_seed), str(programs)]))
+    put(table, told([plain, "generate", str(first_seed), str(programs)]).encode("latin-1"))
     wrong += compare_trees(table) + compare_runs(table)
 sys.exit(1 if compare_times() or wrong else 0)
 PY

@@ -5,36 +5,22 @@
 # C_REFERENCE names the folder of the plain interpreter, a Cargo project whose commands are `meaning S N INPUT`, `gen SEED` and
 # `genbad SEED`. Where it isn't set or isn't there, nothing is compared.
 set -eu
-here=$(CDPATH='' cd -- "$(dirname -- "$0")/.." && pwd)
+. "$(dirname -- "$0")/common.sh"
 programs=${1:-200}
 seed=${2:-1}
-reference=${C_REFERENCE:-}
 
-if [ -z "$reference" ] || [ ! -f "$reference/Cargo.toml" ]; then
-    echo "skipped: C_REFERENCE names no folder of a plain interpreter"
-    exit 0
-fi
-work=$(mktemp -d)
-trap 'rm -rf "$work"' EXIT
+plain=$(plain_of "${C_REFERENCE:-}")
+[ -n "$plain" ] || skip "C_REFERENCE names no folder of a plain interpreter"
+program=$(program_of ggvax)
+[ -n "$program" ] || skip "BUILT names a folder without ggvax"
 
-cargo build --quiet --release --manifest-path "$reference/Cargo.toml" --target-dir "$work/target"
-plain=$(find "$work/target/release" -maxdepth 1 -type f -perm -u+x | head -n 1)
-# The front script builds the program where it is stale; with no words it only tells its usage.
-"$here/ggvax" >/dev/null 2>&1 || true
-
-python3 - "$here/crates/ggvax/out/ggvax" "$plain" "$work" "$programs" "$seed" <<'PY'
-import random
-import subprocess
+python3 - "$program" "$plain" "$work" "$programs" "$seed" <<'PY'
 import sys
-import time
+
+from common import answer, compare_runs, least, put, written
 
 program, plain, work = sys.argv[1:4]
 programs, first_seed = int(sys.argv[4]), int(sys.argv[5])
-
-
-def answer(command, given):
-    done = subprocess.run(command, input=given, stdout=subprocess.PIPE, stderr=subprocess.PIPE)
-    return done.returncode, done.stdout, done.stderr
 
 
 def ours(path, count, given):
@@ -42,31 +28,14 @@ def ours(path, count, given):
 
 
 def theirs(path, count, given):
-    with open(f"{work}/input", "wb") as file:
-        file.write(given)
+    put(f"{work}/input", given)
     return answer([plain, "meaning", path, str(count), f"{work}/input"], b"")
 
 
-def compare_programs():
-    """Each program with an input of up to 40 bytes, and with few counted turns and calls and with many."""
-    chance = random.Random(first_seed)
-    path = f"{work}/source.c"
-    wrong, statuses = 0, {}
-    for turn in range(programs):
-        kind = (["gen"], ["gen", "--free"], ["gen"], ["genbad"])[turn % 4]
-        made = subprocess.run([plain, kind[0], str(first_seed + turn), *kind[1:]], stdout=subprocess.PIPE, check=True).stdout
-        with open(path, "wb") as file:
-            file.write(made)
-        given = bytes(chance.randrange(256) for _ in range(chance.randrange(41)))
-        count = chance.choice((1, 7, 50, 1000, 100_000))
-        mine, wanted = ours(path, count, given), theirs(path, count, given)
-        statuses[wanted[0]] = statuses.get(wanted[0], 0) + 1
-        if mine != wanted:
-            wrong += 1
-            print(f"{' '.join(kind)} {first_seed + turn}, {count}: {mine[0]} {mine[2]!r}, wanted {wanted[0]} {wanted[2]!r}")
-    told = ", ".join(f"{n} of status {s}" for s, n in sorted(statuses.items()))
-    print(f"{programs} programs ({told}): {wrong} differ")
-    return wrong
+def generate(turn, seed):
+    """The words of a program of one of four kinds, and its source."""
+    kind, *more = (["gen"], ["gen", "--free"], ["gen"], ["genbad"])[turn % 4]
+    return " ".join([kind, *more]), written([plain, kind, seed, *more])
 
 
 SOURCES = {
@@ -82,14 +51,9 @@ ROUNDS = 3
 
 
 def seconds(run, path):
-    best = None
-    for _ in range(ROUNDS):
-        begin = time.perf_counter()
-        done = run(path, COUNT, b"")
-        spent = time.perf_counter() - begin
-        assert done[0] == 0, done
-        best = spent if best is None else min(best, spent)
-    return best
+    taken, done = least(ROUNDS, lambda: run(path, COUNT, b""))
+    assert done[0] == 0, done
+    return taken
 
 
 def compare_speed():
@@ -97,15 +61,14 @@ def compare_speed():
     slow = 0
     for name, source in SOURCES.items():
         path = f"{work}/{name}.c"
-        with open(path, "w") as file:
-            file.write(source)
+        put(path, source)
         wanted, mine = seconds(theirs, path), seconds(ours, path)
         slow += mine > 4 * wanted
         print(f"{name}: {mine:.3f} s against {wanted:.3f} s, {mine / wanted:.1f} times (at most 4)")
     return slow
 
 
-wrong = compare_programs()
+wrong = compare_runs("programs", programs, first_seed, generate, f"{work}/source.c", ours, theirs)
 slow = compare_speed()
 sys.exit(1 if wrong or slow else 0)
 PY

@@ -5,23 +5,16 @@
 # C_REFERENCE names the folder of a plain reader, a Cargo project whose command is `read S`. Where it isn't set or isn't there, only the
 # two sizes are compared.
 set -eu
-here=$(CDPATH='' cd -- "$(dirname -- "$0")/.." && pwd)
-reference=${C_REFERENCE:-}
-work=$(mktemp -d)
-trap 'rm -rf "$work"' EXIT
+. "$(dirname -- "$0")/common.sh"
 
-plain=
-if [ -n "$reference" ] && [ -f "$reference/Cargo.toml" ]; then
-    cargo build --quiet --release --manifest-path "$reference/Cargo.toml" --target-dir "$work/target"
-    plain=$(find "$work/target/release" -maxdepth 1 -type f -perm -u+x | head -n 1)
-fi
-# The front script builds the program where it is stale; with no words it only tells its usage.
-"$here/ggvax" >/dev/null 2>&1 || true
+plain=$(plain_of "${C_REFERENCE:-}")
+program=$(program_of ggvax)
+[ -n "$program" ] || skip "BUILT names a folder without ggvax"
 
-python3 - "$here/crates/ggvax/out/ggvax" "$plain" "$work" <<'PY'
-import subprocess
+python3 - "$program" "$plain" "$work" <<'PY'
 import sys
-import time
+
+from common import answer, functions, least, put
 
 program, plain, work = sys.argv[1:4]
 ROUNDS = 7
@@ -31,41 +24,24 @@ PARTS = (
     "void g{n}(){{char*s;s=\"some text {n}\";while(*s)putchar(*s++);}}\n",
     "int u{n}(int x){{return x?f{n}(x-1,(char*)0)%7:(x&255)|(x>>3)&~x;}}\n",
 )
-TAIL = "int main(){return 0;}\n"
 
 
-def source(length):
-    made, size, turn = [], len(TAIL), 0
-    while True:
-        part = PARTS[turn % len(PARTS)].format(n=turn // len(PARTS))
-        if size + len(part) > length:
-            return "".join(made) + TAIL, turn
-        made.append(part)
-        size += len(part)
-        turn += 1
-
-
-def least(command, wanted):
-    best = None
-    for _ in range(ROUNDS):
-        begin = time.perf_counter()
-        done = subprocess.run(command, stdin=subprocess.DEVNULL, stdout=subprocess.PIPE, stderr=subprocess.PIPE, check=True)
-        spent = time.perf_counter() - begin
-        assert wanted in (done.stdout, done.stderr), done
-        best = spent if best is None else min(best, spent)
-    return best
+def seconds(words, wanted):
+    """The least seconds of some runs, each of which writes or tells what is wanted."""
+    taken, done = least(ROUNDS, lambda: answer(words))
+    assert done[0] == 0 and wanted in done[1:], done
+    return taken
 
 
 times, slow = {}, False
 for name, length in (("100 KiB", 102_400), ("1 MiB", 1_048_576)):
     path = f"{work}/{length}.c"
-    text, parts = source(length)
-    with open(path, "w") as file:
-        file.write(text)
-    times[name] = least([program, "meaning", path, "1"], b"ended 0\n")
+    text, parts = functions(length=length, parts=PARTS, number=lambda turn: turn // len(PARTS))
+    put(path, text)
+    times[name] = seconds([program, "meaning", path, "1"], b"ended 0\n")
     told = f"{name}, {parts * 3 // 4} functions: {times[name]:.3f} s"
     if plain:
-        theirs = least([plain, "read", path], b"ok\n")
+        theirs = seconds([plain, "read", path], b"ok\n")
         told += f" against {theirs:.3f} s, {times[name] / theirs:.2f} times (at most 4)"
         slow = slow or (length > 1_000_000 and times[name] > 4 * theirs)
     print(told)

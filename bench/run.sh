@@ -5,59 +5,37 @@
 # VAX_REFERENCE names the folder of the plain runner, a Cargo project whose commands are `run A N` and `gentext S`, `genwild S`,
 # `genbad S`. Where it isn't set or isn't there, nothing is compared.
 set -eu
-here=$(CDPATH='' cd -- "$(dirname -- "$0")/.." && pwd)
+. "$(dirname -- "$0")/common.sh"
 texts=${1:-1000}
 seed=${2:-1}
-reference=${VAX_REFERENCE:-}
 
-if [ -z "$reference" ] || [ ! -f "$reference/Cargo.toml" ]; then
-    echo "skipped: VAX_REFERENCE names no folder of a plain runner"
-    exit 0
-fi
-work=$(mktemp -d)
-trap 'rm -rf "$work"' EXIT
+plain=$(plain_of "${VAX_REFERENCE:-}")
+[ -n "$plain" ] || skip "VAX_REFERENCE names no folder of a plain runner"
+program=$(program_of ggvax)
+[ -n "$program" ] || skip "BUILT names a folder without ggvax"
 
-cargo build --quiet --release --manifest-path "$reference/Cargo.toml" --target-dir "$work/target"
-plain=$(find "$work/target/release" -maxdepth 1 -type f -perm -u+x | head -n 1)
-# The front script builds the program where it is stale; with no words it only tells its usage.
-"$here/ggvax" >/dev/null 2>&1 || true
-
-python3 - "$here/crates/ggvax/out/ggvax" "$plain" "$work" "$texts" "$seed" <<'PY'
-import random
-import subprocess
+python3 - "$program" "$plain" "$work" "$texts" "$seed" <<'PY'
 import sys
-import time
+
+from common import answer, compare_runs, least, put, written
 
 program, plain, work = sys.argv[1:4]
 texts, first_seed = int(sys.argv[4]), int(sys.argv[5])
 HEAD = "\t.data\n\t.text\n\t.globl\t_main\n_main:\n\t.word\t0\n"
 
 
-def answer(runner, path, count, given):
-    done = subprocess.run([runner, "run", path, str(count)], input=given, stdout=subprocess.PIPE, stderr=subprocess.PIPE)
-    return done.returncode, done.stdout, done.stderr
+def ours(path, count, given):
+    return answer([program, "run", path, str(count)], given)
 
 
-def compare_texts():
-    """Each text with an input of up to 40 bytes, and with few steps and with many."""
-    chance = random.Random(first_seed)
-    path = f"{work}/text.s"
-    wrong, statuses = 0, {}
-    for turn in range(texts):
-        kind = ("gentext", "genwild", "genbad")[turn % 3]
-        made = subprocess.run([plain, kind, str(first_seed + turn)], stdout=subprocess.PIPE, check=True).stdout
-        with open(path, "wb") as file:
-            file.write(made)
-        given = bytes(chance.randrange(256) for _ in range(chance.randrange(41)))
-        count = chance.choice((1, 7, 50, 1000, 100_000))
-        ours, theirs = answer(program, path, count, given), answer(plain, path, count, given)
-        statuses[theirs[0]] = statuses.get(theirs[0], 0) + 1
-        if ours != theirs:
-            wrong += 1
-            print(f"{kind} {first_seed + turn}, {count} steps: {ours[0]} {ours[2]!r}, wanted {theirs[0]} {theirs[2]!r}")
-    told = ", ".join(f"{n} of status {s}" for s, n in sorted(statuses.items()))
-    print(f"{texts} texts ({told}): {wrong} differ")
-    return wrong
+def theirs(path, count, given):
+    return answer([plain, "run", path, str(count)], given)
+
+
+def generate(turn, seed):
+    """The word of a text of one of three kinds, and the text."""
+    kind = ("gentext", "genwild", "genbad")[turn % 3]
+    return kind, written([plain, kind, seed])
 
 
 LOOPS = {
@@ -73,15 +51,10 @@ STEPS = 20_000_000
 ROUNDS = 3
 
 
-def seconds(runner, path):
-    best = None
-    for _ in range(ROUNDS):
-        begin = time.perf_counter()
-        done = answer(runner, path, STEPS, b"")
-        spent = time.perf_counter() - begin
-        assert done[0] in (0, 16), done
-        best = spent if best is None else min(best, spent)
-    return best
+def seconds(run, path):
+    taken, done = least(ROUNDS, lambda: run(path, STEPS, b""))
+    assert done[0] in (0, 16), done
+    return taken
 
 
 def compare_speed():
@@ -89,16 +62,15 @@ def compare_speed():
     slow = 0
     for name, body in LOOPS.items():
         path = f"{work}/{name}.s"
-        with open(path, "w") as file:
-            file.write(HEAD + body)
-        theirs, ours = seconds(plain, path), seconds(program, path)
-        ratio = theirs / ours
+        put(path, HEAD + body)
+        wanted, mine = seconds(theirs, path), seconds(ours, path)
+        ratio = wanted / mine
         slow += ratio < 1 / 3
-        print(f"{name}: {ours:.2f} s against {theirs:.2f} s, {ratio:.2f} of the plain runner's speed (at least 0.33)")
+        print(f"{name}: {mine:.2f} s against {wanted:.2f} s, {ratio:.2f} of the plain runner's speed (at least 0.33)")
     return slow
 
 
-wrong = compare_texts()
+wrong = compare_runs("texts", texts, first_seed, generate, f"{work}/text.s", ours, theirs)
 slow = compare_speed()
 sys.exit(1 if wrong or slow else 0)
 PY

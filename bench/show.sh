@@ -9,19 +9,13 @@
 # MD_REFERENCE names the folder of the plain program, a Cargo project with the modules that bench/descriptions_plain.rs names: where it
 # isn't set or isn't there, nothing is compared. BUILT may name a folder with programs that were built before; else they are built here.
 set -eu
-here=$(CDPATH='' cd -- "$(dirname -- "$0")/.." && pwd)
+. "$(dirname -- "$0")/common.sh"
 templates=${1:-1000}
 changed=${2:-100}
 whole=${3:-100}
-work=$(mktemp -d)
-trap 'rm -rf "$work"' EXIT
-. "$here/bench/common.sh"
 
 plain=$(plain_of "${MD_REFERENCE:-}" descriptions_plain.rs)
-if [ -z "$plain" ]; then
-    echo "skipped: MD_REFERENCE names no folder of a plain program"
-    exit 0
-fi
+[ -n "$plain" ] || skip "MD_REFERENCE names no folder of a plain program"
 program=$(program_of ggvax)
 teller=$(program_of try_templates)
 [ -n "$program" ] || echo "there is no ggvax: first refusals are not compared"

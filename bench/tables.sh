@@ -5,29 +5,22 @@
 # MD_REFERENCE names the folder of the plain program, a Cargo project whose command `states F` builds the item sets of the description
 # in the file F and writes `states N .., rules R, ..`. Where it isn't set or isn't there, nothing is compared.
 set -eu
-here=$(CDPATH='' cd -- "$(dirname -- "$0")/.." && pwd)
+. "$(dirname -- "$0")/common.sh"
 rounds=${1:-20}
-reference=${MD_REFERENCE:-}
 
-if [ -z "$reference" ] || [ ! -f "$reference/Cargo.toml" ]; then
-    echo "skipped: MD_REFERENCE names no folder of a plain program"
-    exit 0
-fi
-work=$(mktemp -d)
-trap 'rm -rf "$work"' EXIT
+plain=$(plain_of "${MD_REFERENCE:-}")
+[ -n "$plain" ] || skip "MD_REFERENCE names no folder of a plain program"
+program=$(program_of try_tables)
+[ -n "$program" ] || skip "BUILT names a folder without try_tables"
 
-cargo build --quiet --release --manifest-path "$reference/Cargo.toml" --target-dir "$work/target"
-plain=$(find "$work/target/release" -maxdepth 1 -type f -perm -u+x | head -n 1)
-(cd "$here/crates/try_tables" && rt run) <"$here/crates/try_tables/stdin" >/dev/null 2>&1
-
-python3 - "$here" "$plain" "$work" "$rounds" <<'PY'
+python3 - "$program" "$here/crates/gg_texts/src/vax.rt" "$plain" "$work" "$rounds" <<'PY'
 import re
-import subprocess
 import sys
-import time
 
-here, plain, work, rounds = sys.argv[1], sys.argv[2], sys.argv[3], int(sys.argv[4])
-program = f"{here}/crates/try_tables/out/try_tables"
+from common import answer, least, put
+
+program, texts, plain, work = sys.argv[1:5]
+rounds = int(sys.argv[5])
 
 HEAD = """version 1
 target vax
@@ -57,27 +50,23 @@ def hostile():
 
 def shipped():
     """The text of the constant."""
-    with open(f"{here}/crates/gg_texts/src/vax.rt") as file:
+    with open(texts) as file:
         return re.search(r'"(#.*)";', file.read(), re.S).group(1)
 
 
-def least(words, given):
-    best, told = None, ""
-    for _ in range(rounds):
-        begin = time.perf_counter()
-        done = subprocess.run(words, input=given, stdout=subprocess.PIPE, check=True)
-        spent = time.perf_counter() - begin
-        best, told = spent if best is None else min(best, spent), done.stdout.decode().strip()
-    return best, told
+def measured(words, given=b""):
+    """The least seconds of some runs, and what they write."""
+    taken, done = least(rounds, lambda: answer(words, given))
+    assert done[0] == 0, done
+    return taken, done[1].decode().strip()
 
 
 slow = 0
 for name, text, most in (("shipped", shipped(), 5), ("hostile", hostile(), 10)):
     path = f"{work}/{name}.gg"
-    with open(path, "w") as file:
-        file.write(text)
-    theirs, wanted = least([plain, "states", path], b"")
-    ours, told = least([program], text.encode())
+    put(path, text)
+    theirs, wanted = measured([plain, "states", path])
+    ours, told = measured([program], text.encode())
     found = re.match(r"states (\d+) .*rules (\d+)", wanted)
     states, rules = int(found.group(1)), int(found.group(2))
     expected = f"{rules} rules, {states} item sets" if states <= 4096 else "more than 4096 item sets"

@@ -5,27 +5,19 @@
 # C_REFERENCE names the folder of the plain reader, a Cargo project whose commands are `read S`, `gen S` and `genbad S`. Where it isn't
 # set or isn't there, only the two sizes are compared.
 set -eu
-here=$(CDPATH='' cd -- "$(dirname -- "$0")/.." && pwd)
+. "$(dirname -- "$0")/common.sh"
 sources=${1:-1000}
 seed=${2:-1}
-reference=${C_REFERENCE:-}
-work=$(mktemp -d)
-trap 'rm -rf "$work"' EXIT
 
-plain=
-if [ -n "$reference" ] && [ -f "$reference/Cargo.toml" ]; then
-    cargo build --quiet --release --manifest-path "$reference/Cargo.toml" --target-dir "$work/target"
-    plain=$(find "$work/target/release" -maxdepth 1 -type f -perm -u+x | head -n 1)
-else
-    echo "C_REFERENCE names no folder of a plain reader: answers are not compared"
-fi
-# Proves and builds the program where it is stale.
-(cd "$here/crates/try_syntax" && rt run -- data/wrong.c >/dev/null)
+plain=$(plain_of "${C_REFERENCE:-}")
+[ -n "$plain" ] || echo "C_REFERENCE names no folder of a plain reader: answers are not compared"
+program=$(program_of try_syntax)
+[ -n "$program" ] || skip "BUILT names a folder without try_syntax"
 
-python3 - "$here/crates/try_syntax/out/try_syntax" "$plain" "$work" "$sources" "$seed" <<'PY'
-import subprocess
+python3 - "$program" "$plain" "$work" "$sources" "$seed" <<'PY'
 import sys
-import time
+
+from common import functions, least, listed, put, written
 
 program, plain, work = sys.argv[1:4]
 sources, first_seed = int(sys.argv[4]), int(sys.argv[5])
@@ -42,8 +34,7 @@ TAIL = "int main(){"
 
 
 def answer(runner, words):
-    done = subprocess.run([runner, *words], stdout=subprocess.PIPE, stderr=subprocess.PIPE, check=True)
-    return done.stdout.decode()
+    return written([runner, *words]).decode()
 
 
 def reading(line):
@@ -56,50 +47,30 @@ def compare_answers():
     wrong, kinds = 0, {}
     for turn in range(sources):
         kind = ("gen", "genbad", "genbad")[turn % 3]
-        made = subprocess.run([plain, kind, str(first_seed + turn)], stdout=subprocess.PIPE, check=True).stdout
-        with open(path, "wb") as file:
-            file.write(made)
+        put(path, written([plain, kind, str(first_seed + turn)]))
         ours, theirs = answer(program, [path]), reading(answer(plain, ["read", path]))
         kinds[theirs.split()[-1]] = kinds.get(theirs.split()[-1], 0) + 1
         if ours != theirs:
             wrong += 1
             print(f"{kind} {first_seed + turn}: {ours!r}, wanted {theirs!r}")
-    told = ", ".join(f"{n} of {k}" for k, n in sorted(kinds.items()))
-    print(f"{sources} sources ({told}): {wrong} differ")
+    print(f"{sources} sources ({listed(kinds, ' of ')}): {wrong} differ")
     return wrong
 
 
-def source(length):
-    made, size, turn = [], len(TAIL), 0
-    while True:
-        part = PARTS[turn % len(PARTS)].format(n=turn % 997)
-        if size + len(part) > length:
-            return "".join(made) + TAIL
-        made.append(part)
-        size += len(part)
-        turn += 1
-
-
-def least(runner, words):
-    best = None
-    for _ in range(ROUNDS):
-        begin = time.perf_counter()
-        line = answer(runner, words)
-        spent = time.perf_counter() - begin
-        assert line.endswith(": NotHere\n"), line
-        best = spent if best is None else min(best, spent)
-    return best
+def seconds(runner, words):
+    taken, line = least(ROUNDS, lambda: answer(runner, words))
+    assert line.endswith(": NotHere\n"), line
+    return taken
 
 
 def compare_times():
     times, slow = {}, False
     for name, length in (("100 KiB", 102_400), ("1 MiB", 1_048_576)):
         path = f"{work}/{length}.c"
-        with open(path, "w") as file:
-            file.write(source(length))
-        times[name] = least(program, [path])
+        put(path, functions(length=length, parts=PARTS, tail=TAIL, number=lambda turn: turn % 997)[0])
+        times[name] = seconds(program, [path])
         if plain:
-            theirs = least(plain, ["read", path])
+            theirs = seconds(plain, ["read", path])
             print(f"{name}: {times[name]:.3f} s against {theirs:.3f} s, {times[name] / theirs:.2f} times (at most 3)")
             slow = slow or (length > 1_000_000 and times[name] > 3 * theirs)
     ratio = times["1 MiB"] / times["100 KiB"]
