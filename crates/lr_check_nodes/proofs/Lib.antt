@@ -1,0 +1,4 @@
+pub mod Listing
+mod Marking
+mod Renumbering
+pub mod Wholes

@@ -1,0 +1,200 @@
+-- Nodes whose kids stand before them and fit.
+use Rattle.std.proofs.Common.{◌≡◌, ◌⊎◌, ℕ, zero, suc, ◌+◌, ◌<◌, ◌≤◌, List, [], ◌∷◌, ◌++◌, Some, None, Bool, true, false, Contains, length, get_or, take, slice_get, refl, sym, ap}
+use Rattle.std.proofs.Common.{ap₂, ◌∙◌, subst, subst₂, inl, inr, ⊎_elim, arith, true≢false, length-append, append_assoc, append-nil}
+use Rattle.std.specs.Prelude.{Result, Ok, Err, IfOk}
+use Rattle.std.proofs.lemmas.List.{take_all, get_or_default}
+use Rattle.tree_core.specs.declared.token.Tok.{Tok}
+use Rattle.tree_core.specs.declared.token.Sort.{Sort}
+use Rattle.tree_core.specs.declared.token.Sort.TheVariants as sort
+use Rattle.tree_core.specs.Grammar.{kids, sort_of}
+use Rattle.lr_tables.proofs.Members.{In, Contains-In}
+use Rattle.lr_check.specs.Tree.{Node}
+use Rattle.lr_check.specs.Statement.{sort_fits, fits_at, KidsFit}
+use Rattle.lr_check_nodes.specs.Growing.{AreWhole, Grows, HasTreeOf, HaveKids, HasLast, HasTreeFrom, smallest}
+use Rattle.lr_check_nodes.proofs.Listing.{Some-same, none_some, slice_left, slice_last, slice_cases, at_in}
+
+false_true : false ≡ true → ⊥
+false_true e = true≢false (sym e)
+
+pub fits_more : (nodes more : List Node) (k : ℕ) (x : Sort) → fits_at (slice_get nodes k) x ≡ true → fits_at (slice_get (nodes ++ more) k) x ≡ true
+fits_more [] more k x h = absurd (false_true h)
+fits_more (v ∷ nodes) more zero x h = h
+fits_more (v ∷ nodes) more (suc k) x h = fits_more nodes more k x h
+
+pub fits_within : (nodes : List Node) (k : ℕ) (x : Sort) → fits_at (slice_get nodes k) x ≡ true → k < length nodes
+fits_within [] k x h = absurd (false_true h)
+fits_within (v ∷ nodes) zero x h = omega arith
+fits_within (v ∷ nodes) (suc k) x h = let lt = fits_within nodes k x h in omega (arith, lt)
+
+-- a node fits where a tree that begins with its token does
+pub last_fits : (nodes : List Node) (n : ℕ) (k : Tok) (ks : List ℕ) (own : List Bool) (x : Sort) → slice_get nodes n ≡ Some (record { tok = k; kids = ks; answers = own }) →
+    sort_fits (sort_of k) x ≡ true → fits_at (slice_get nodes n) x ≡ true
+last_fits nodes n k ks own x there fits = ap (λ o. fits_at o x) there ∙ fits
+
+pub kids_more : (nodes more : List Node) (ks : List ℕ) (xs : List Sort) → KidsFit nodes ks xs → KidsFit (nodes ++ more) ks xs
+kids_more nodes more ks xs h = record { many = h.many; each = λ i k x at is. fits_more nodes more k x (h.each i k x at is) }
+
+pub kids_head : (nodes : List Node) (k : ℕ) (ks : List ℕ) (x : Sort) (xs : List Sort) → KidsFit nodes (k ∷ ks) (x ∷ xs) → fits_at (slice_get nodes k) x ≡ true
+kids_head nodes k ks x xs h = h.each 0 k x refl refl
+
+pub kids_tail : (nodes : List Node) (k : ℕ) (ks : List ℕ) (x : Sort) (xs : List Sort) → KidsFit nodes (k ∷ ks) (x ∷ xs) → KidsFit nodes ks xs
+kids_tail nodes k ks x xs h = record { many = let many = h.many in omega (arith, many); each = λ i j y at is. h.each (suc i) j y at is }
+
+-- kids that fit stand there
+pub kids_within : (nodes : List Node) (ks : List ℕ) (xs : List Sort) → KidsFit nodes ks xs → (k : ℕ) → In k ks → k < length nodes
+kids_within nodes [] xs h k c = absurd c
+kids_within nodes (j ∷ ks) [] h k c = absurd (let many = h.many in omega (arith, many))
+kids_within nodes (j ∷ ks) (x ∷ xs) h k c = ⊎_elim
+    (λ e. subst (λ z. z < length nodes) e (fits_within nodes j x (kids_head nodes j ks x xs h)))
+    (λ g. kids_within nodes ks xs (kids_tail nodes j ks x xs h) k g)
+    c
+
+pub fit_none : (nodes : List Node) (xs : List Sort) → xs ≡ [] → KidsFit nodes [] xs
+fit_none nodes xs e = record { many = ap length (sym e); each = λ i k x at is. absurd (none_some k at) }
+
+pub fit_more : (nodes : List Node) (k : ℕ) (ks : List ℕ) (x : Sort) (xs : List Sort) → fits_at (slice_get nodes k) x ≡ true → KidsFit nodes ks xs → KidsFit nodes (k ∷ ks) (x ∷ xs)
+fit_more nodes k ks x xs fits h = record { many = ap suc h.many; each = by }
+  where
+    by : (i j : ℕ) (y : Sort) → slice_get (k ∷ ks) i ≡ Some j → slice_get (x ∷ xs) i ≡ Some y → fits_at (slice_get nodes j) y ≡ true
+    by zero j y at is = ap₂ (λ (a : ℕ) (b : Sort). fits_at (slice_get nodes a) b) (sym (Some-same k j at)) (sym (Some-same x y is)) ∙ fits
+    by (suc i) j y at is = h.each i j y at is
+
+pub fit_one : (nodes : List Node) (n : ℕ) (x : Sort) (xs : List Sort) → xs ≡ x ∷ [] → fits_at (slice_get nodes n) x ≡ true → KidsFit nodes (n ∷ []) xs
+fit_one nodes n x xs e fits = subst (KidsFit nodes (n ∷ [])) (sym e) (fit_more nodes n [] x [] fits (fit_none nodes [] refl))
+
+pub fit_two : (nodes : List Node) (n m : ℕ) (x v : Sort) (xs : List Sort) → xs ≡ x ∷ v ∷ [] → fits_at (slice_get nodes n) x ≡ true → fits_at (slice_get nodes m) v ≡ true →
+    KidsFit nodes (n ∷ m ∷ []) xs
+fit_two nodes n m x v xs e fits fits' = subst (KidsFit nodes (n ∷ m ∷ [])) (sym e) (fit_more nodes n (m ∷ []) x (v ∷ []) fits (fit_more nodes m [] v [] fits' (fit_none nodes [] refl)))
+
+-- one more behind them
+pub fit_snoc : (nodes : List Node) (ks : List ℕ) (xs : List Sort) (k : ℕ) (x : Sort) → KidsFit nodes ks xs → fits_at (slice_get nodes k) x ≡ true → KidsFit nodes (ks ++ k ∷ []) (xs ++ x ∷ [])
+fit_snoc nodes [] [] k x h fits = fit_more nodes k [] x [] fits h
+fit_snoc nodes [] (y ∷ xs) k x h fits = absurd (let many = h.many in omega (arith, many))
+fit_snoc nodes (j ∷ ks) [] k x h fits = absurd (let many = h.many in omega (arith, many))
+fit_snoc nodes (j ∷ ks) (y ∷ xs) k x h fits = fit_more nodes j (ks ++ k ∷ []) y (xs ++ x ∷ []) (kids_head nodes j ks y xs h) (fit_snoc nodes ks xs k x (kids_tail nodes j ks y xs h) fits)
+
+pub grows_none : (nodes : List Node) → Grows nodes nodes
+grows_none nodes = record { more = []; grown = sym (append-nil nodes) }
+
+pub grows_both : {a b c : List Node} → Grows a b → Grows b c → Grows a c
+grows_both {a = a} g h = record { more = g.more ++ h.more; grown = h.grown ∙ (ap (λ l. l ++ h.more) g.grown ∙ append_assoc a g.more h.more) }
+
+-- what holds of the nodes holds of more
+pub fits_grow : {a b : List Node} → Grows a b → (k : ℕ) (x : Sort) → fits_at (slice_get a k) x ≡ true → fits_at (slice_get b k) x ≡ true
+fits_grow {a = a} g k x h = subst (λ l. fits_at (slice_get l k) x ≡ true) (sym g.grown) (fits_more a g.more k x h)
+
+pub kids_grow : {a b : List Node} → Grows a b → (ks : List ℕ) (xs : List Sort) → KidsFit a ks xs → KidsFit b ks xs
+kids_grow {a = a} g ks xs h = subst (λ l. KidsFit l ks xs) (sym g.grown) (kids_more a g.more ks xs h)
+
+pub node_grows : {a b : List Node} → Grows a b → (n : ℕ) (v : Node) → slice_get a n ≡ Some v → slice_get b n ≡ Some v
+node_grows {a = a} g n v h = subst (λ l. slice_get l n ≡ Some v) (sym g.grown) (slice_left a g.more n v h)
+
+-- one node more
+pub whole_more : (nodes new : List Node) (k : Tok) (ks : List ℕ) (own : List Bool) → AreWhole nodes → KidsFit nodes ks (kids k) →
+    new ≡ nodes ++ record { tok = k; kids = ks; answers = own } ∷ [] → AreWhole new
+whole_more nodes new k ks own w fit e = subst AreWhole (sym e) (record {
+  lower = λ n j v there c. ⊎_elim
+      (λ old. w.lower n j v old c)
+      (λ here. let lt = kids_within nodes ks (kids k) fit j (Contains-In j ks (subst (λ (z : Node). Contains z.kids j) here.1 c)) in let at = here.0 in omega (arith, lt, at))
+      (slice_cases nodes (record { tok = k; kids = ks; answers = own }) n v there);
+  typed = record {
+    each = λ n v there. ⊎_elim
+        (λ old. kids_more nodes (record { tok = k; kids = ks; answers = own } ∷ []) v.kids (kids v.tok) (w.typed.each n v old))
+        (λ here. subst (λ (z : Node). KidsFit (nodes ++ record { tok = k; kids = ks; answers = own } ∷ []) z.kids (kids z.tok)) (sym here.1)
+        (kids_more nodes (record { tok = k; kids = ks; answers = own } ∷ []) ks (kids k) fit))
+        (slice_cases nodes (record { tok = k; kids = ks; answers = own }) n v there);
+  };
+})
+
+pub last_more : (nodes new : List Node) (k : Tok) (ks : List ℕ) (own : List Bool) (n : ℕ) → AreWhole nodes → KidsFit nodes ks (kids k) →
+    new ≡ nodes ++ record { tok = k; kids = ks; answers = own } ∷ [] → n ≡ length nodes → HasLast nodes new k ks own n
+last_more nodes new k ks own n w fit e at = record {
+  grows = record { more = record { tok = k; kids = ks; answers = own } ∷ []; grown = e };
+  whole = whole_more nodes new k ks own w fit e;
+  node = ap (λ l. slice_get l n) e ∙ (ap (slice_get (nodes ++ record { tok = k; kids = ks; answers = own } ∷ [])) at ∙ slice_last nodes (record { tok = k; kids = ks; answers = own }));
+  last = let long = ap length e ∙ length-append nodes (record { tok = k; kids = ks; answers = own } ∷ []) in omega (arith, long, at);
+}
+
+pub last_over : {a b c : List Node} {k : Tok} {ks : List ℕ} {own : List Bool} {n : ℕ} → Grows a b → HasLast b c k ks own n → HasLast a c k ks own n
+last_over g h = record { grows = grows_both g h.grows; whole = h.whole; node = h.node; last = h.last }
+
+pub tree_of_last : {a b : List Node} {k : Tok} {ks : List ℕ} {own : List Bool} {n : ℕ} (x : Sort) → sort_fits (sort_of k) x ≡ true → HasLast a b k ks own n → HasTreeOf a b x n
+tree_of_last {b = b} {k = k} {ks = ks} {own = own} {n = n} x fits h = record { grows = h.grows; whole = h.whole; fits = last_fits b n k ks own x h.node fits }
+
+module _ {E : Type 0} where
+  -- what a node that is pushed is
+  pub last_if : (r : Result ℕ E) (nodes new : List Node) (k : Tok) (ks : List ℕ) (own : List Bool) → AreWhole nodes → KidsFit nodes ks (kids k) →
+      IfOk r (λ n. new ≡ nodes ++ record { tok = k; kids = ks; answers = own } ∷ []) → IfOk r (λ n. n ≡ length nodes) → IfOk r (λ n. HasLast nodes new k ks own n)
+  last_if (Ok n) nodes new k ks own w fit e at = last_more nodes new k ks own n w fit e at
+  last_if (Err x) nodes new k ks own w fit e at = tt
+
+  pub tree_if : (r : Result ℕ E) (a b c : List Node) (k : Tok) (ks : List ℕ) (own : List Bool) (x : Sort) → Grows a b → sort_fits (sort_of k) x ≡ true →
+      IfOk r (λ n. HasLast b c k ks own n) → IfOk r (λ n. HasTreeOf a c x n)
+  tree_if (Ok n) a b c k ks own x g fits h = tree_of_last x fits (last_over g h)
+  tree_if (Err e) a b c k ks own x g fits h = tt
+
+  pub from_if : (r : Result ℕ E) (a b c : List Node) (k : Tok) (ks : List ℕ) → Grows a b → IfOk r (λ n. HasLast b c k ks [] n) → IfOk r (λ n. HasTreeFrom a c k n)
+  from_if (Ok n) a b c k ks g h = record { kids = ks; has = last_over g h }
+  from_if (Err e) a b c k ks g h = tt
+
+pub smallest_fits : (x : Sort) → sort_fits (sort_of (smallest x)) x ≡ true
+smallest_fits sort.Byte = refl
+smallest_fits sort.Word = refl
+smallest_fits sort.Long = refl
+smallest_fits sort.PlaceB = refl
+smallest_fits sort.PlaceW = refl
+smallest_fits sort.PlaceL = refl
+smallest_fits sort.Stmt = refl
+
+pub small_none : (x : Sort) (xs : List Sort) → xs ≡ kids (smallest x) → length xs ≡ 0 → kids (smallest x) ≡ []
+small_none x xs e none = by (kids (smallest x)) (ap length (sym e) ∙ none)
+  where
+    by : (ys : List Sort) → length ys ≡ 0 → ys ≡ []
+    by [] n = refl
+    by (y ∷ ys) n = absurd (omega (arith, n))
+
+abbrev IsSmall : List Sort → Type 0
+IsSmall xs = (xs ≡ []) ⊎ (xs ≡ sort.Long ∷ [])
+
+small : (x : Sort) → IsSmall (kids (smallest x))
+small sort.Byte = inr refl
+small sort.Word = inr refl
+small sort.Long = inl refl
+small sort.PlaceB = inr refl
+small sort.PlaceW = inr refl
+small sort.PlaceL = inl refl
+small sort.Stmt = inl refl
+
+pub small_one : (x : Sort) (xs : List Sort) → xs ≡ kids (smallest x) → (length xs ≡ 0 → ⊥) → kids (smallest x) ≡ sort.Long ∷ []
+small_one x xs e some = ⊎_elim (λ none. absurd (some (ap length (e ∙ none)))) (λ one. one) (small x)
+
+-- the turns over a token's kids
+pub kids_none : (nodes : List Node) (xs : List Sort) → AreWhole nodes → HaveKids nodes nodes (take 0 xs) []
+kids_none nodes xs w = record { grows = grows_none nodes; whole = w; fit = fit_none nodes [] refl }
+
+pub kids_turn : (a b c : List Node) (xs : List Sort) (i k : ℕ) (x : Sort) (ks ks' : List ℕ) → HaveKids a b (take i xs) ks → i < length xs → x ≡ get_or xs i x → HasTreeOf b c x k → ks' ≡ ks ++ k ∷ [] →
+    HaveKids a c (take (i + 1) xs) ks'
+kids_turn a b c xs i k x ks ks' h lt is t e =
+    subst₂ (HaveKids a c) (sym (take_push xs i x lt is)) (sym e) (record {
+      grows = grows_both h.grows t.grows;
+      whole = t.whole;
+      fit = fit_snoc c ks (take i xs) k x (kids_grow t.grows ks (take i xs) h.fit) t.fits;
+    })
+  where
+    by_suc : (ys : List Sort) (j : ℕ) (y : Sort) → j < length ys → y ≡ get_or ys j y → take (suc j) ys ≡ take j ys ++ y ∷ []
+    by_suc [] j y l f = absurd (omega (arith, l))
+    by_suc (z ∷ ys) zero y l f = ap (λ u. u ∷ []) (sym f)
+    by_suc (z ∷ ys) (suc j) y l f = ap (λ u. z ∷ u) (by_suc ys j y (omega (arith, l)) f)
+
+    take_push : (ys : List Sort) (j : ℕ) (y : Sort) → j < length ys → y ≡ get_or ys j y → take (j + 1) ys ≡ take j ys ++ y ∷ []
+    take_push ys j y l f = let more : j + 1 ≡ suc j = omega arith in ap (λ (m : ℕ). take m ys) more ∙ by_suc ys j y l f
+
+pub kids_all : (a b : List Node) (xs : List Sort) (i : ℕ) (ks : List ℕ) → HaveKids a b (take i xs) ks → length xs ≤ i → HaveKids a b xs ks
+kids_all a b xs i ks h le = subst (λ l. HaveKids a b l ks) (take_all i xs le) h
+
+-- a turn, as the code makes it
+pub kids_turn_at : (a b c : List Node) (ys xs : List Sort) (i k : ℕ) (d : Sort) (ks ks' : List ℕ) → ys ≡ xs → HaveKids a b (take i xs) ks → i < length ys → HasTreeOf b c (get_or ys i d) k →
+    ks' ≡ ks ++ k ∷ [] → HaveKids a c (take (i + 1) xs) ks'
+kids_turn_at a b c ys xs i k d ks ks' same h lt t e =
+    let lt' : i < length xs = subst (λ (l : List Sort). i < length l) same lt in
+    kids_turn a b c xs i k (get_or xs i d) ks ks' h lt' (get_or_default xs i d (get_or xs i d) lt') (subst (λ (l : List Sort). HasTreeOf b c (get_or l i d) k) same t) e

@@ -1,0 +1,10 @@
+//! The nodes of samples as they are made, each behind its kids; and what a root reaches of them.
+#![tactic(auto)]
+
+mod growing;
+mod numbers;
+mod pruning;
+
+pub use growing::Growing;
+pub use numbers::number_of;
+pub use pruning::prune;
