@@ -38,15 +38,15 @@ use Rattle.sel_parse_desk.specs.Selected.{Kept, kept_of, shifted, reduced_by, re
 use Rattle.sel_parse.specs.Steps.{Config, Turn, Onward, Accepted, NoWord, NoRegister, NoWay, Circle, top_of, or_later, chosen, shifted_turn, seen_before, marked, placed}
 use Rattle.sel_parse.specs.Steps.{reduced_turn, takes_rule, takes, turn_by, made_turn, step, Falls, Turns, Ends}
 use Rattle.sel_parse.specs.Steps as code
-use Rattle.sel_parse.specs.declared.selection.SelectFault.{SelectFault}
-use Rattle.sel_parse.specs.declared.selection.SelectFault.TheVariants as fault
+use Rattle.sel_parse.specs.declared.selection.ParseFault.{ParseFault}
+use Rattle.sel_parse.specs.declared.selection.ParseFault.TheVariants as fault
 use Rattle.sel_parse.proofs.Placing.{again, fresh}
 use Rattle.sel_parse.proofs.States.{AreStates, states_lead, as_many, states_below, state_above, Next, next_leaf}
 
-pub Err-same : {X : Type 0} (a b : SelectFault) → ◌≡◌ {A = Result X SelectFault} (Err a) (Err b) → a ≡ b
+pub Err-same : {X : Type 0} (a b : ParseFault) → ◌≡◌ {A = Result X ParseFault} (Err a) (Err b) → a ≡ b
 Err-same {X = X} a b e = ap out e
   where
-    out : Result X SelectFault → SelectFault
+    out : Result X ParseFault → ParseFault
     out (Ok x) = a
     out (Err x) = x
 
@@ -423,15 +423,15 @@ module _ {O I S F : Type 0} (of : Meaning O I S F) (q : TreeProgram) (t : TableV
           subst (Coming c) (sym n.1.there)
           (comes_by c g (Some n.0) (ap (coming asked) n.1.rest) (λ p s some on. shifts_so c g p n.0 n.1 s some on) (actions_at t (top_of c.states) n.0.tok) (cands n.0.tok))
 
-  pub full_comes : (c : Config O I) (e : SelectFault) → Going of q t first w c → Falls e (step of q t first w c) → e ≡ fault.FrameFull
+  pub full_comes : (c : Config O I) (e : ParseFault) → Going of q t first w c → Falls e (step of q t first w c) → e ≡ fault.FrameFull
       → FrameFull of q t.content first w
   full_comes c e g f same =
-      let is : step of q t first w c ≡ NoWord = subst (λ (x : SelectFault). Falls x (step of q t first w c)) same f in
+      let is : step of q t first w c ≡ NoWord = subst (λ (x : ParseFault). Falls x (step of q t first w c)) same f in
       subst (λ (x : Turn O I). Comes of q t first w c x) is (comes c g)
 
-  pub blocked_comes : (c : Config O I) (e : SelectFault) → Going of q t first w c → Falls e (step of q t first w c) → e ≡ fault.Blocked
+  pub blocked_comes : (c : Config O I) (e : ParseFault) → Going of q t first w c → Falls e (step of q t first w c) → e ≡ fault.Blocked
       → Blocked of q t.content first w
-  blocked_comes c e g f same = by (subst (λ (x : SelectFault). Falls x (step of q t first w c)) same f)
+  blocked_comes c e g f same = by (subst (λ (x : ParseFault). Falls x (step of q t first w c)) same f)
     where
       at : (x : Turn O I) → step of q t first w c ≡ x → Comes of q t first w c x
       at x is = subst (λ (y : Turn O I). Comes of q t first w c y) is (comes c g)

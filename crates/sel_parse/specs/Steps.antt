@@ -21,8 +21,8 @@ use Rattle.sel_parse_desk.specs.Reductions.{reduced}
 use Rattle.sel_parse_desk.specs.Selected.{selecting, Parsed}
 use Rattle.sel_parse_desk.specs.Mirror.{stack_of}
 use Rattle.sel_parse.specs.declared.selection.Parse.{Parse}
-use Rattle.sel_parse.specs.declared.selection.SelectFault.{SelectFault}
-use Rattle.sel_parse.specs.declared.selection.SelectFault.TheVariants as fault
+use Rattle.sel_parse.specs.declared.selection.ParseFault.{ParseFault}
+use Rattle.sel_parse.specs.declared.selection.ParseFault.TheVariants as fault
 
 -- the offset of the next leaf, the states of the stack, whose top stands last, the classes that were on top since a
 -- leaf was shifted or the stack
@@ -139,7 +139,7 @@ Turns true old new turn = (turn ≡ Accepted) × (new ≡ old)
 Turns false old new turn = turn ≡ Onward new
 
 -- the refusal is that of the step
-abbrev pub Falls : {O I : Type 0} → SelectFault → Turn O I → Type 0
+abbrev pub Falls : {O I : Type 0} → ParseFault → Turn O I → Type 0
 Falls fault.NoMemory turn = Unit {0}
 Falls fault.FrameFull turn = turn ≡ NoWord
 Falls fault.Blocked turn = (turn ≡ NoRegister) ⊎ ((turn ≡ NoWay) ⊎ (turn ≡ Circle))

@@ -32,44 +32,51 @@ pub enum SelectFault {
     NoMemory,
     /// A value was to be saved, and no frame word was free.
     FrameFull,
-    /// The parse has nowhere to go on, or turns in a circle; or no entry can give up a register that is due.
+}
+
+// Why a parse ends without code. It blocks where it has nowhere to go on, or turns in a circle, or no entry can give up a register
+// that is due.
+#[derive(Clone, Copy, Debug, PartialEq, Eq)]
+enum ParseFault {
+    NoMemory,
+    FrameFull,
     Blocked,
 }
 
-impl From<NoMemory> for SelectFault {
+impl From<NoMemory> for ParseFault {
     ghost use Rattle.std.specs.Prelude.{◌≡◌};
-    ghost use Rattle.sel_parse.specs.declared.selection.SelectFault.TheVariants as faults;
+    ghost use Rattle.sel_parse.specs.declared.selection.ParseFault.TheVariants as faults;
 
     ghost from_gives = { λ _ e. e ≡ faults.NoMemory };
 
     fn from(_: NoMemory) -> Self {
-        SelectFault::NoMemory
+        ParseFault::NoMemory
     }
 }
 
-impl From<AllocError> for SelectFault {
+impl From<AllocError> for ParseFault {
     ghost use Rattle.std.specs.Prelude.{◌≡◌};
-    ghost use Rattle.sel_parse.specs.declared.selection.SelectFault.TheVariants as faults;
+    ghost use Rattle.sel_parse.specs.declared.selection.ParseFault.TheVariants as faults;
 
     ghost from_gives = { λ _ e. e ≡ faults.NoMemory };
 
     fn from(_: AllocError) -> Self {
-        SelectFault::NoMemory
+        ParseFault::NoMemory
     }
 }
 
-impl<T: Drop> From<AllocFailed<T>> for SelectFault {
+impl<T: Drop> From<AllocFailed<T>> for ParseFault {
     ghost use Rattle.std.specs.Prelude.{◌≡◌};
-    ghost use Rattle.sel_parse.specs.declared.selection.SelectFault.TheVariants as faults;
+    ghost use Rattle.sel_parse.specs.declared.selection.ParseFault.TheVariants as faults;
 
     ghost from_gives = { λ _ e. e ≡ faults.NoMemory };
 
     fn from(_: AllocFailed<T>) -> Self {
-        SelectFault::NoMemory
+        ParseFault::NoMemory
     }
 }
 
-impl From<DeskFault> for SelectFault {
+impl From<DeskFault> for ParseFault {
     ghost use Rattle.std.specs.Prelude.{◌≡◌};
     ghost use Rattle.sel_parse.specs.Faults.{fault_of};
 
@@ -77,16 +84,15 @@ impl From<DeskFault> for SelectFault {
 
     fn from(fault: DeskFault) -> Self {
         match fault {
-            DeskFault::NoMemory => SelectFault::NoMemory,
-            DeskFault::FrameFull => SelectFault::FrameFull,
-            DeskFault::NoRegister => SelectFault::Blocked,
+            DeskFault::NoMemory => ParseFault::NoMemory,
+            DeskFault::FrameFull => ParseFault::FrameFull,
+            DeskFault::NoRegister => ParseFault::Blocked,
         }
     }
 }
 
 // Where a parse stands: the offset of the next leaf, the states of the stack, whose top stands last, the classes that were on top
-// since a leaf
-// was shifted or the stack became shorter, and the stack's entries with the code.
+// since a leaf was shifted or the stack became shorter, and the stack's entries with the code.
 #[derive(Drop)]
 struct Parse<O, I> {
     at: usize,
@@ -223,7 +229,7 @@ fn place<T: Templates>(
     parse: &mut Parse<T::Operand, T::Instr>,
     rule: &Rule,
     _target: &T,
-) -> Result<(), SelectFault>
+) -> Result<(), ParseFault>
     requires ready { IsReady T.meaning parse.old.desk }
     ensures done { OnOk result (placed (config_of parse.old) parse.old.states.items rule.now (stack_of parse.old.desk)
         (target_at tables.now (top_of parse.old.states.items) (sym.Class rule.now.left)) ≡ Onward (config_of parse.new)) }
@@ -232,11 +238,11 @@ fn place<T: Templates>(
     ensures ready { OnOk result (IsReady T.meaning parse.new.desk) }
 {
     let Some(state) = tables.go(top_of(&parse.states), rule.left) else {
-        return Err(SelectFault::Blocked);
+        return Err(ParseFault::Blocked);
     };
     clear_behind(&mut parse.seen, rule.right.as_slice().len());
     if mark(&mut parse.seen, rule.left) {
-        return Err(SelectFault::Blocked);
+        return Err(ParseFault::Blocked);
     }
     parse.states.push(state)?;
     Ok(())
@@ -256,7 +262,7 @@ fn reduce_by<T: Templates>(
     tables: &Tables,
     parse: &mut Parse<T::Operand, T::Instr>,
     rule: &Rule,
-) -> Result<(), SelectFault>
+) -> Result<(), ParseFault>
     requires ready { IsReady T.meaning parse.old.desk }
     ensures done { OnOk result (reduced_turn tables.now (config_of parse.old) rule.now
         (reduced T.meaning setting.now.program.now setting.now.description.now setting.now.first rule.now (stack_of parse.old.desk))
@@ -276,7 +282,7 @@ fn make_shift<T: Templates>(
     tree: &[Leaf],
     parse: &mut Parse<T::Operand, T::Instr>,
     state: State,
-) -> Result<(), SelectFault>
+) -> Result<(), ParseFault>
     requires ready { IsReady T.meaning parse.old.desk }
     ensures done { OnOk result (shifted_turn (config_of parse.old) state (slice_get tree.now parse.old.at)
         ≡ Onward (config_of parse.new)) }
@@ -284,7 +290,7 @@ fn make_shift<T: Templates>(
     ensures ready { OnOk result (IsReady T.meaning parse.new.desk) }
 {
     let Some(leaf) = leaf_at(tree, parse.at) else {
-        return Err(SelectFault::Blocked);
+        return Err(ParseFault::Blocked);
     };
     shift_leaf(setting, parse, state, leaf)?;
     Ok(())
@@ -296,7 +302,7 @@ fn make_reduction<T: Templates>(
     tables: &Tables,
     parse: &mut Parse<T::Operand, T::Instr>,
     number: u16,
-) -> Result<(), SelectFault>
+) -> Result<(), ParseFault>
     requires same { setting.now.description.now ≡ tables.now.content }
     requires ready { IsReady T.meaning parse.old.desk }
     ensures done { OnOk result (turn_by T.meaning setting.now.program.now tables.now setting.now.first (config_of parse.old)
@@ -306,7 +312,7 @@ fn make_reduction<T: Templates>(
     ensures ready { OnOk result (IsReady T.meaning parse.new.desk) }
 {
     let Some(rule) = tables.description().rules().get(number as usize) else {
-        return Err(SelectFault::Blocked);
+        return Err(ParseFault::Blocked);
     };
     reduce_by(setting, tables, parse, rule)
 }
@@ -318,7 +324,7 @@ fn make<T: Templates>(
     tree: &[Leaf],
     parse: &mut Parse<T::Operand, T::Instr>,
     choice: Choice,
-) -> Result<bool, SelectFault>
+) -> Result<bool, ParseFault>
     requires same { setting.now.description.now ≡ tables.now.content }
     requires ready { IsReady T.meaning parse.old.desk }
     ensures onward { IfOk result (λ done. Turns done (config_of parse.old) (config_of parse.new)
@@ -347,7 +353,7 @@ fn step<T: Templates>(
     tables: &Tables,
     tree: &[Leaf],
     parse: &mut Parse<T::Operand, T::Instr>,
-) -> Result<bool, SelectFault>
+) -> Result<bool, ParseFault>
     requires same { setting.now.description.now ≡ tables.now.content }
     requires ready { IsReady T.meaning parse.old.desk }
     ensures onward { IfOk result (λ done. Turns done (config_of parse.old) (config_of parse.new)
@@ -359,7 +365,7 @@ fn step<T: Templates>(
     let choices = tables.action(top_of(&parse.states), coming(tree, parse.at));
     match choose(setting, &parse.desk, choices)? {
         Some(choice) => make(setting, tables, tree, parse, choice),
-        None => Err(SelectFault::Blocked),
+        None => Err(ParseFault::Blocked),
     }
 }
 
@@ -374,14 +380,14 @@ fn parsed<T: Templates>(
     setting: &Setting<T>,
     tables: &Tables,
     tree: &[Leaf],
-) -> Result<Desk<T::Operand, T::Instr>, SelectFault>
+) -> Result<Desk<T::Operand, T::Instr>, ParseFault>
     requires first { setting.now.first ≤ 1024 }
     requires same { setting.now.description.now ≡ tables.now.content }
     ensures most { IfOk result (λ k. k.most ≤ 1024) }
     ensures code { IfOk result (λ k. Ends T.meaning setting.now.program.now tables.now.content setting.now.first tree.now (stack_of k)) }
-    ensures full { result ≡ Err SelectFault.FrameFull → FrameFull T.meaning setting.now.program.now tables.now.content
+    ensures full { result ≡ Err ParseFault.FrameFull → FrameFull T.meaning setting.now.program.now tables.now.content
         setting.now.first tree.now }
-    ensures blocked { result ≡ Err SelectFault.Blocked → Blocked T.meaning setting.now.program.now tables.now.content setting.now.first
+    ensures blocked { result ≡ Err ParseFault.Blocked → Blocked T.meaning setting.now.program.now tables.now.content setting.now.first
         tree.now }
 {
     tables.description().is_valid();
@@ -404,9 +410,8 @@ fn parsed<T: Templates>(
     }
 }
 
-/// The code of a statement's tree, by its leaves in prefix order with `End` behind them. Values are saved in frame words from the
-/// slots' first
-/// one on.
+/// The code of a statement's tree, by its leaves in prefix order with `End` behind them, where its parse doesn't block: by tables that
+/// were checked, no typed statement's does. Values are saved in frame words from the slots' first one on.
 pub fn select<T: Templates>(
     alloc: Global,
     generator: &Generator<T>,
@@ -414,12 +419,11 @@ pub fn select<T: Templates>(
     leaves: &[Leaf],
     slots: &mut Slots,
 ) -> Result<Selected<T>, SelectFault>
+    requires goes { Blocked T.meaning program.now generator.now.tables.content slots.old.first (tree_of leaves.now) → ⊥ }
     // The code is the tree's, and so many words are used at least as behind it.
     ensures code { IfOk result (λ s. HasCode T.meaning program.now generator.now.tables.content slots.old slots.new leaves.now
         s.instrs.items) }
     ensures full { result ≡ Err SelectFault.FrameFull → FrameFull T.meaning program.now generator.now.tables.content slots.old.first
-        (tree_of leaves.now) }
-    ensures blocked { result ≡ Err SelectFault.Blocked → Blocked T.meaning program.now generator.now.tables.content slots.old.first
         (tree_of leaves.now) }
     // Each word that is taken is given back; a refusal leaves the slots as they were.
     ensures taken { slots.new.taken ≡ slots.old.taken }
@@ -436,7 +440,9 @@ pub fn select<T: Templates>(
     let tree = &leaves[..leaves.len().saturating_sub(1)];
     let desk = match parsed(&setting, &generator.tables, tree) {
         Ok(desk) => desk,
-        Err(fault) => return Err(fault),
+        Err(ParseFault::NoMemory) => return Err(SelectFault::NoMemory),
+        Err(ParseFault::FrameFull) => return Err(SelectFault::FrameFull),
+        Err(ParseFault::Blocked) => unreachable!(),
     };
     slots.use_up_to(desk.most);
     Ok(Selected { instrs: desk.code })

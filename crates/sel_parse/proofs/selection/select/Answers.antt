@@ -3,15 +3,15 @@ use Rattle.std.specs.Prelude.{Err, reverse}
 use Rattle.sel_parse_desk.specs.Selected.{tree_of, Blocked}
 use Rattle.sel_parse_desk.specs.Mirror.{stack_of}
 use Rattle.sel_parse.specs.Steps.{Ends}
-use Rattle.sel_parse.specs.declared.selection.SelectFault.{SelectFault}
-use Rattle.sel_parse.proofs.Going.{Err-same}
+use Rattle.sel_parse.specs.declared.selection.ParseFault.{ParseFault}
 use Rattle.sel_parse.proofs.selection.select.Goals as goal
 
-pub returns-in-Err-clause-blocked : goal.returns-in-Err-clause-blocked
-returns-in-Err-clause-blocked g c = λ e.
-    subst (λ (n : ℕ). Blocked g.T.Templates.meaning c.args.program.now c.args.generator.now.tables.content n (tree_of c.args.leaves.now)) c.first.ensures.first
+pub unreachable-requires : goal.unreachable-requires
+unreachable-requires g c =
+    c.requires.goes
+    (subst (λ (n : ℕ). Blocked g.T.Templates.meaning c.args.program.now c.args.generator.now.tables.content n (tree_of c.args.leaves.now)) c.first.ensures.first
     (subst (λ (k : ℕ). Blocked g.T.Templates.meaning c.args.program.now c.args.generator.now.tables.content c.first.result (take k c.args.leaves.now)) c.saturating_sub.ensures
-    (c.in-Err.ensures.blocked (ap (λ (f : SelectFault). Err f) (Err-same _ _ e))))
+    (c.in-Err-Blocked.ensures.blocked (ap (λ (f : ParseFault). Err f) c.in-Err-Blocked.field-0-is))))
 
 pub returns-clause-code : goal.returns-clause-code
 returns-clause-code g c =
