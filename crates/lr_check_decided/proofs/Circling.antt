@@ -1,31 +1,33 @@
 -- Settlings whose reductions come to an end, or turn.
-use Rattle.std.proofs.Common.{◌≡◌, ℕ, List, [], Some, None, Contains, Bool, true, false, length, refl, sym, ap, ◌∙◌, subst}
-use Rattle.std.specs.Prelude.{slice_index_or, not, Result, Ok, Err, IfOk}
+use Rattle.std.proofs.Common.{◌≡◌, ℕ, ◌<◌, List, [], ◌∷◌, Some, None, Contains, Bool, true, false, length, refl, sym, ap, ◌∙◌, subst}
+use Rattle.std.specs.Prelude.{slice_index_or}
 use Rattle.std.proofs.lemmas.Option.{get_or_from_slice_get}
 use Rattle.md_reader.specs.State.{Content}
 use Rattle.md_reader.specs.declared.types.Rule.{Rule}
 use Rattle.md_reader.specs.declared.types.Sym.{Sym}
+use Rattle.md_reader.specs.declared.types.Sym.TheVariants as symbol
 use Rattle.lr_tables.specs.declared.types.Choice.{Choice}
 use Rattle.lr_tables.specs.View.{TableView}
 use Rattle.lr_tables.specs.Leads.{actions_at}
 use Rattle.lr_check_sets.specs.Automaton.{Automaton, Production, Candidate, reduce, walk, size_of, Free, reduced}
 use Rattle.lr_check_sets.specs.Bound.{HasClasses}
-use Rattle.lr_check_sets.specs.Sums as sets
-use Rattle.lr_check_sets.specs.Faults.{Fault, Calms, calms}
+use Rattle.lr_check_sets.specs.Faults.{Calms, calms}
 use Rattle.lr_check_sets.specs.Table.{productions, candidates_of, automaton_of}
-use Rattle.lr_check_found.specs.declared.choices.Leads.TheVariants.{Whole}
 use Rattle.lr_check_found.specs.declared.places.Place.{Place}
 use Rattle.lr_check_found.specs.declared.settlings.Settling.{Settling}
-use Rattle.lr_check_found.specs.Choices.{seen, HasFree}
+use Rattle.lr_check_found.specs.Choices.{HasFree}
 use Rattle.lr_check_found.specs.Lists.{IsList}
-use Rattle.lr_check_found.specs.Found.{FoundView, IsPlaceAt, IsSettlingAt}
+use Rattle.lr_check_found.specs.Found.{FoundView, IsPlaceAt, IsSettlingAt, Settles}
 use Rattle.lr_check_found.specs.Sound.{IsSoundSettling, IsFound}
 use Rattle.lr_check_found.proofs.Reading.{Some-same, none_some}
 use Rattle.lr_check_found.proofs.Leading.{candidates_here, candidates_there}
 use Rattle.lr_check_complete.proofs.Reducing.{whole_left, whole_choice, WholeChoice, choice_whole}
-use Rattle.lr_check_decided.specs.Calm.{AreCalm, AreStuck}
+use Rattle.lr_check_complete.specs.Sets.{IsComplete}
+use Rattle.lr_check_decided.specs.declared.circles.Restless.{Restless}
+use Rattle.lr_check_decided.specs.Calm.{AreCalm, AreStuck, OneUnmarked, AllMarked}
+use Rattle.lr_check_decided.specs.Turn.{IsRestless}
+use Rattle.lr_check_decided.proofs.Settled.{made}
 use Rattle.lr_check_decided.proofs.Calming.{rule_listed}
-use Rattle.lr_check_decided.proofs.Turning.{stuck_turns}
 
 lists_same : (a b : List Sym) → Some a ≡ Some b → a ≡ b
 lists_same a b e = cc
@@ -61,10 +63,9 @@ module _ (t : TableView) (f : FoundView) (i : ℕ) (e : Settling) (x : Place) (p
   walks s is = ap (walk (automaton_of t) x.state) (lists_same s sound.list (sym is ∙ sound.symbols))
       ∙ (ap (λ (z : Place). walk (automaton_of t) z.state sound.list) (sym same_place) ∙ (sym sound.behind ∙ behind))
 
-  pub calm_list : AreCalm (automaton_of t) x.state x.behind marks →
-      ((c : Choice) → Contains free c → (k : ℕ) → (seen rules size c).leads ≡ Whole k → slice_index_or marks k false ≡ true) → (s : List Sym) → IsList f.lists e.list s
+  pub calm_list : AreCalm (automaton_of t) x.state x.behind marks → AllMarked rules size marks free → (s : List Sym) → IsList f.lists e.list s
       → Calms (automaton_of t) x.state x.behind s
-  calm_list calm each s is = calms (λ r j ws fr many. next r j ws fr many)
+  calm_list calm all s is = calms (λ r j ws fr many. next r j ws fr many)
     where
       next : (r : Production) (j : ℕ) → walk (automaton_of t) x.state s ≡ Some j → Free ((automaton_of t).candidates j x.behind) (reduce r) → size_of r ≡ length s →
           Calms (automaton_of t) x.state x.behind (reduced r s)
@@ -73,32 +74,23 @@ module _ (t : TableView) (f : FoundView) (i : ℕ) (e : Settling) (x : Place) (p
           let fr' : Free (candidates_of rules choices) (reduce r) = subst (λ (cs : List Candidate). Free cs (reduce r)) (sym here)
           (candidates_here t p x.behind (reduce r) (subst (λ (n : ℕ). Free ((automaton_of t).candidates n x.behind) (reduce r)) same fr)) in
           let c = has.each (reduce r) fr' in
-          let marked : slice_index_or marks r.left false ≡ true = each c.0 c.1.0 r.left (whole_choice rules c.0 r size c.1.1 (many ∙ same_size s is)) in
+          let marked : slice_index_or marks r.left false ≡ true = (all.each c.0 c.1.0).each r.left (whole_choice rules c.0 r size c.1.1 (many ∙ same_size s is)) in
           subst (Calms (automaton_of t) x.state x.behind) (sym (whole_left r s many)) (calm.each r.left marked)
 
-  pub turn_list : AreStuck (automaton_of t) x.state x.behind marks → HasClasses (productions t.content.rules) (length marks) →
-      (c : Choice) × (Contains free c × ((k : ℕ) × (((seen rules size c).leads ≡ Whole k) × (slice_index_or marks k false ≡ false)))) → Fault (automaton_of t)
-  turn_list stuck classes h =
-      let w : WholeChoice rules size h.0 h.1.1.0 = choice_whole rules size h.0 h.1.1.0 h.1.1.1.0 in
+  pub restless_list : IsComplete (automaton_of t) f → AreStuck (automaton_of t) x.state x.behind marks → HasClasses (productions t.content.rules) (length marks) →
+      (r : Restless) → r.marks.items ≡ marks → OneUnmarked rules size marks free r.class → IsRestless (automaton_of t) f e.place x r
+  restless_list complete stuck classes r same h =
+      let w : WholeChoice rules size h.choice r.class = choice_whole rules size h.choice r.class h.makes.leads in
       let listed : Contains (productions t.content.rules) w.rule = subst (λ (rs : List Rule). Contains (productions rs) w.rule) (are ∙ ap (λ (c : Content). c.rules) content)
-      (rule_listed rules h.0 w.rule w.is) in
+      (rule_listed rules h.choice w.rule w.is) in
       let fr : Free ((automaton_of t).candidates p x.behind) (reduce w.rule) =
-      candidates_there t p x.behind (reduce w.rule) (subst (λ (cs : List Candidate). Free cs (reduce w.rule)) here (has.only h.0 (reduce w.rule) h.1.0 w.is)) in
-      let settles : sets.Settling (automaton_of t) x.state sound.place.token x.behind sound.list =
-      subst (λ (z : Place). sets.Settling (automaton_of t) z.state sound.place.token z.behind sound.list) same_place sound.settles in
+      candidates_there t p x.behind (reduce w.rule) (subst (λ (cs : List Candidate). Free cs (reduce w.rule)) here (has.only h.choice (reduce w.rule) h.there w.is)) in
       let many : size_of w.rule ≡ length sound.list = w.long ∙ sym (same_size sound.list sound.symbols) in
-      stuck_turns (automaton_of t) x.state sound.place.token x.behind marks stuck w.rule.left (classes w.rule listed)
-      (ap (λ j. slice_index_or marks j false) w.left ∙ h.1.1.1.1)
-      (subst (sets.Settling (automaton_of t) x.state sound.place.token x.behind) (whole_left w.rule sound.list many) (sets.settled w.rule settles (walks sound.list sound.symbols) fr many))
-
-pub not_true : (b : Bool) → not b ≡ true → b ≡ false
-not_true true e = cc
-not_true false e = refl
-
-pub not_false : (b : Bool) → not b ≡ false → b ≡ true
-not_false true e = refl
-not_false false e = cc
-
-pub if_ok : {X E : Type 0} (r : Result X E) (P Q : X → Type 0) → ((x : X) → P x → Q x) → IfOk r P → IfOk r Q
-if_ok (Ok x) P Q g h = g x h
-if_ok (Err e) P Q g h = tt
+      let settles : Settles f e.place sound.list = record { number = i; entry = e; there = at; place = refl; list = sound.symbols } in
+      record {
+        settles = subst (λ k. Settles f e.place (symbol.Class k ∷ [])) w.left
+            (made (automaton_of t) f e.place x complete place sound.list p w.rule settles (walks sound.list sound.symbols) fr many);
+        stuck = subst (AreStuck (automaton_of t) x.state x.behind) (sym same) stuck;
+        low = subst (λ (l : List Bool). r.class < length l) (sym same) (subst (λ k. k < length marks) w.left (classes w.rule listed));
+        unmarked = ap (λ (l : List Bool). slice_index_or l r.class false) same ∙ h.makes.unmarked;
+      }

@@ -8,27 +8,32 @@ use Rattle.lr_tables.specs.declared.types.Choice.{Choice}
 use Rattle.lr_tables.specs.View.{TableView}
 use Rattle.lr_tables.specs.Leads.{actions_at}
 use Rattle.lr_check_sets.specs.Automaton.{Automaton, CanBlock}
-use Rattle.lr_check_sets.specs.Faults.{Fault, gap, dead}
 use Rattle.lr_check_sets.specs.Table.{candidates_of, candidates_at, automaton_of}
 use Rattle.lr_check_found.specs.declared.places.Place.{Place}
 use Rattle.lr_check_found.specs.declared.settlings.Settling.{Settling}
 use Rattle.lr_check_found.specs.Found.{FoundView, IsPlaceAt, IsSettlingAt}
 use Rattle.lr_check_found.specs.Sound.{IsSoundSettling, IsFound}
 use Rattle.lr_check_found.proofs.Reading.{Some-same, none_some}
+use Rattle.lr_check_flaws.specs.Flaws.{IsGapAt, IsDeadAt}
 
-pub gap_fault : (A : Automaton) (f : FoundView) (n : ℕ) (x : Place) → IsFound A f → IsPlaceAt f n x → A.go x.state (symbol.Tok x.token) ≡ None → Fault A
-gap_fault A f n x found at none = gap (found.places n x at).is_place (λ p e. none_some p (sym none ∙ e))
+pub is_gap_at : (A : Automaton) (f : FoundView) (n : ℕ) (x : Place) → IsPlaceAt f n x → A.go x.state (symbol.Tok x.token) ≡ None → IsGapAt A f n
+is_gap_at A f n x at none = record { place = x; there = at; unshifted = λ p e. none_some p (sym none ∙ e) }
 
 pub shifted : (A : Automaton) (f : FoundView) (n p : ℕ) (x y : Place) → IsPlaceAt f n x → A.go x.state (symbol.Tok x.token) ≡ Some p → IsPlaceAt f n y →
     (j : ℕ) × (A.go y.state (symbol.Tok y.token) ≡ Some j)
 shifted A f n p x y at go other = (p, subst (λ (z : Place). A.go z.state (symbol.Tok z.token) ≡ Some p) (Some-same x y (sym at ∙ other)) go)
 
-pub dead_fault : (A : Automaton) (f : FoundView) (i p : ℕ) (e : Settling) (x : Place) → IsFound A f → IsSettlingAt f i e → IsPlaceAt f e.place x → e.behind ≡ Some p →
-    CanBlock (A.candidates p x.behind) → Fault A
-dead_fault A f i p e x found at place behind can =
+pub is_dead_at : (A : Automaton) (f : FoundView) (i p : ℕ) (e : Settling) (x : Place) → IsFound A f → IsSettlingAt f i e → IsPlaceAt f e.place x → e.behind ≡ Some p →
+    CanBlock (A.candidates p x.behind) → IsDeadAt A f i
+is_dead_at A f i p e x found at place behind can =
     let s : IsSoundSettling A f i e = found.settlings i e at in
-    let same : x ≡ s.place = Some-same x s.place (sym place ∙ s.there) in
-    dead s.settles (sym s.behind ∙ behind) (subst (λ (z : Place). CanBlock (A.candidates p z.behind)) same can)
+    record {
+      place = x;
+      list = s.list;
+      behind = p;
+      settles = record { entry = e; there = at; place = place; list = s.symbols; behind = behind };
+      nothing = can;
+    }
 
 module _ (t : TableView) (p : ℕ) (k : Tok) (d : Content) (rules : List Rule) (choices : List Choice) (content : d ≡ t.content) (are : rules ≡ d.rules) (actions : choices ≡ actions_at t p k) where
   here : candidates_of rules choices ≡ candidates_of t.content.rules (actions_at t p k)

@@ -11,7 +11,7 @@ use Rattle.lr_check_found.specs.declared.places.Place.{Place}
 use Rattle.lr_check_found.specs.declared.settlings.Settling.{Settling}
 use Rattle.lr_check_found.specs.Lists.{IsList}
 use Rattle.lr_check_found.specs.Found.{FoundView, place_of, IsPlaceAt, IsSettlingAt}
-use Rattle.lr_check_found.specs.Sound.{IsSoundSettling, IsFound}
+use Rattle.lr_check_found.specs.Sound.{IsSoundSettling}
 use Rattle.lr_check_found.proofs.Reading.{Some-same}
 use Rattle.lr_check_complete.specs.Sets.{HasPlace, HasSettling, HasSum, IsComplete}
 
@@ -22,7 +22,7 @@ module _ (A : Automaton) (f : FoundView) (c : IsComplete A f) where
   place_is : (q : ℕ) (k b : Tok) (s : List Sym) (h : HasSettling f q k b s) → IsPlaceAt f h.settles.entry.place (place_of q k b)
   place_is q k b s h = subst (λ n. IsPlaceAt f n (place_of q k b)) (sym h.settles.place) h.at
 
-  behind_is : (q p : ℕ) (k b : Tok) (s : List Sym) (h : HasSettling f q k b s) → walk A q s ≡ Some p → h.settles.entry.behind ≡ Some p
+  pub behind_is : (q p : ℕ) (k b : Tok) (s : List Sym) (h : HasSettling f q k b s) → walk A q s ≡ Some p → h.settles.entry.behind ≡ Some p
   behind_is q p k b s h ws =
       let e : IsSoundSettling A f h.settles.number h.settles.entry = c.found.settlings h.settles.number h.settles.entry h.settles.there in
       let place : e.place ≡ place_of q k b = Some-same e.place (place_of q k b) (sym e.there ∙ place_is q k b s h) in

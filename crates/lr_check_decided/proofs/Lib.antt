@@ -1,5 +1,6 @@
 pub mod Faulty
-pub mod Turning
+pub mod Ways
 pub mod Calming
-pub mod Circling
 pub mod Fine
+pub mod Settled
+pub mod Circling

@@ -1,13 +1,9 @@
 // Which classes are calm in a state with a token behind it: reductions of the class alone come to an end.
-ghost use Rattle.std.specs.Prelude.{◌≡◌, ℕ, ◌<◌, ◌≤◌, [], ◌∷◌, IsTrue, IfOk, Contains, false, true, length, slice_index_or};
-ghost use Rattle.md_reader.specs.declared.types.Sym.TheVariants as symbol;
-ghost use Rattle.lr_tables.specs.declared.types.Choice.{Choice};
+ghost use Rattle.std.specs.Prelude.{◌≡◌, ◌+◌, ◌<◌, ◌≤◌, ◌||◌, IsTrue, IfOk, IfSome, IfNone, Contains, false, length, slice_index_or};
 ghost use Rattle.lr_check_sets.specs.Bound.{HasClasses};
-ghost use Rattle.lr_check_sets.specs.Faults.{Calms};
 ghost use Rattle.lr_check_sets.specs.Table.{productions, automaton_of};
-ghost use Rattle.lr_check_found.specs.declared.choices.Leads.TheVariants.{Whole};
-ghost use Rattle.lr_check_found.specs.Choices.{seen};
-ghost use Rattle.lr_check_decided.specs.Calm.{AreCalm, Stuck, AreStuck};
+ghost use Rattle.lr_check_decided.specs.Calm.{marked, AreCalm, IsNext, Stuck, LeadsToMarked, AreStuck};
+ghost use Rattle.lr_check_decided.specs.Calm.{MakesUnmarked, MakesMarked, OneUnmarked, AllMarked};
 
 use gg_base::NoMemory;
 use lr_check_found::{Leads, candidate, free_choices};
@@ -25,52 +21,70 @@ fn is_marked(marks: &[bool], class: u16) -> bool
     }
 }
 
-// Whether the choice doesn't reduce a list of so many symbols, or leads to a marked class.
-fn leads_calm(rules: &[Rule], choice: Choice, size: usize, marks: &[bool]) -> bool
-    ensures calm { IsTrue result → (k : ℕ) → (seen rules.now size choice).leads ≡ Whole k → slice_index_or marks.now k false ≡ true }
-    ensures stuck { result ≡ false → (k : ℕ) × (((seen rules.now size choice).leads ≡ Whole k)
-        × (slice_index_or marks.now k false ≡ false)) }
+fn unless_marked(marks: &[bool], class: u16) -> Option<u16>
+    ensures some { IfSome result (λ k. (k ≡ class) × (slice_index_or marks.now class false ≡ false)) }
+    ensures none { IfNone result (IsTrue (slice_index_or marks.now class false)) }
+{
+    if is_marked(marks, class) {
+        None
+    } else {
+        Some(class)
+    }
+}
+
+// The class that isn't marked, if the choice makes one of a whole list of so many symbols.
+fn unmarked(rules: &[Rule], choice: Choice, size: usize, marks: &[bool]) -> Option<u16>
+    ensures some { IfSome result (λ k. MakesUnmarked rules.now size marks.now k choice) }
+    ensures none { IfNone result (MakesMarked rules.now size marks.now choice) }
 {
     match candidate(rules, choice, size).leads {
-        Leads::Whole(class) => is_marked(marks, class),
-        Leads::Out(_) => true,
-        Leads::Inside => true,
+        Leads::Whole(class) => unless_marked(marks, class),
+        Leads::Out(_) => None,
+        Leads::Inside => None,
     }
 }
 
-/// Whether each of the choices leads to a marked class, if it reduces a list of so many symbols.
-pub fn lead_calm(rules: &[Rule], choices: &[Choice], size: usize, marks: &[bool]) -> bool
-    ensures calm { IsTrue result → (d : Choice) → Contains choices.now d → (k : ℕ) → (seen rules.now size d).leads ≡ Whole k
-        → slice_index_or marks.now k false ≡ true }
-    ensures stuck { result ≡ false → (d : Choice) × (Contains choices.now d
-        × ((k : ℕ) × (((seen rules.now size d).leads ≡ Whole k) × (slice_index_or marks.now k false ≡ false)))) }
+/// The first class that isn't marked, if one of the choices makes one of a whole list of so many symbols.
+pub fn first_unmarked(
+    rules: &[Rule],
+    choices: &[Choice],
+    size: usize,
+    marks: &[bool],
+) -> Option<u16>
+    ensures some { IfSome result (λ k. OneUnmarked rules.now size marks.now choices.now k) }
+    ensures none { IfNone result (AllMarked rules.now size marks.now choices.now) }
 {
     for choice in choices {
-        if !leads_calm(rules, *choice, size, marks) {
-            return false;
+        if let Some(class) = unmarked(rules, *choice, size, marks) {
+            return Some(class);
         }
     }
-    true
+    None
 }
 
-// Whether each free reduction of the class alone leads to a marked class.
-fn is_calm(tables: &Tables, state: State, behind: Tok, marks: &[bool], class: u16) -> bool
+/// A class that isn't marked to which a reduction of the class alone leads.
+pub fn next_unmarked(
+    tables: &Tables,
+    state: State,
+    behind: Tok,
+    marks: &[bool],
+    class: u16,
+) -> Option<u16>
     requires { HasClasses (productions tables.now.content.rules) (length marks.now) }
-    ensures calm { AreCalm (automaton_of tables.now) state behind marks.now → IsTrue result
-        → Calms (automaton_of tables.now) state behind (symbol.Class class ∷ []) }
-    ensures stuck { result ≡ false → Stuck (automaton_of tables.now) state behind marks.now class }
+    ensures some { IfSome result (λ d. IsNext (automaton_of tables.now) state behind marks.now class d) }
+    ensures none { IfNone result (LeadsToMarked (automaton_of tables.now) state behind marks.now class) }
 {
     let at = match tables.over(state, Sym::Class(class)) {
         Some(at) => at,
-        None => return true,
+        None => return None,
     };
     let rules = tables.description().rules();
     let free = free_choices(rules, tables.action(at, behind));
-    lead_calm(rules, free, 1, marks)
+    first_unmarked(rules, free, 1, marks)
 }
 
 fn either(one: bool, other: bool) -> bool
-    ensures { result ≡ false → (one ≡ false) × (other ≡ false) }
+    ensures { result ≡ (one || other) }
 {
     one || other
 }
@@ -84,11 +98,12 @@ fn mark_at(tables: &Tables, state: State, behind: Tok, marks: &mut [bool], class
     ensures stuck { result ≡ false → slice_index_or marks.old class false ≡ false
         → Stuck (automaton_of tables.now) state behind marks.old class }
     ensures same { result ≡ false → marks.new ≡ marks.old }
+    ensures more { IsTrue result → marked marks.new ≡ marked marks.old + 1 }
 {
     if marks[class] {
         return false;
     }
-    if !is_calm(tables, state, behind, marks, class as u16) {
+    if next_unmarked(tables, state, behind, marks, class as u16).is_some() {
         return false;
     }
     marks[class] = true;
@@ -102,6 +117,7 @@ fn mark_all(tables: &Tables, state: State, behind: Tok, marks: &mut [bool]) -> b
     ensures calm { AreCalm (automaton_of tables.now) state behind marks.old → AreCalm (automaton_of tables.now) state behind marks.new }
     ensures stuck { result ≡ false → AreStuck (automaton_of tables.now) state behind marks.new }
     ensures long { length marks.new ≡ length marks.old }
+    ensures more { IsTrue result → marked marks.old < marked marks.new }
 {
     let mut changed = false;
     for class in 0..marks.len() {
@@ -125,10 +141,10 @@ pub fn calm_classes(
 {
     let count = tables.description().classes().len();
     let mut marks = vec![in alloc; false; count]?;
-    for _round in 0..u64::MAX {
+    for _round in 0..count + 1 {
         if !mark_all(tables, state, behind, &mut marks) {
             return Ok(marks);
         }
     }
-    Err(NoMemory)
+    unreachable!()
 }

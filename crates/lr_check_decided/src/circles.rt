@@ -1,83 +1,140 @@
-// Whether reductions of whole lists lead back to a list.
-ghost use Rattle.std.specs.Prelude.{◌≡◌, ℕ, ◌≤◌, false, IsTrue, IfOk, List, length};
+// Reductions of whole lists that lead back to a list.
+ghost use Rattle.std.specs.Prelude.{◌≡◌, ℕ, ◌≤◌, IfOk, IfSome, IfNone, List, length};
 ghost use Rattle.md_reader.specs.declared.types.Sym.{Sym};
 ghost use Rattle.lr_check_sets.specs.Bound.{HasClasses};
-ghost use Rattle.lr_check_sets.specs.Faults.{Fault, Calms};
+ghost use Rattle.lr_check_sets.specs.Faults.{Calms};
 ghost use Rattle.lr_check_sets.specs.Table.{productions, automaton_of};
 ghost use Rattle.lr_check_found.specs.declared.places.Place.{Place};
 ghost use Rattle.lr_check_found.specs.declared.settlings.Settling.{Settling};
 ghost use Rattle.lr_check_found.specs.Lists.{IsList};
 ghost use Rattle.lr_check_found.specs.Found.{IsPlaceAt, IsSettlingAt};
-ghost use Rattle.lr_check_found.specs.Sound.{IsFound};
+ghost use Rattle.lr_check_flaws.specs.Flaws.{IsFlaw};
+ghost use Rattle.lr_check_complete.specs.Sets.{IsComplete};
+ghost use Rattle.lr_check_decided.specs.Turn.{IsRestless};
 
-use crate::calm::{calm_classes, lead_calm};
+use crate::alone::alone_at;
+use crate::calm::{calm_classes, first_unmarked};
+use crate::turning::turn_from;
 use gg_base::NoMemory;
-use lr_check_found::{Found, Settling, free_choices};
+use lr_check_flaws::Flaw;
+use lr_check_found::{Found, Place, Settling, free_choices};
 use lr_tables::Tables;
 use std::alloc::Global;
 
-// Whether reductions of the settling's whole list do not come to an end.
-fn turns(
+// A class from which reductions don't end, with marks of the classes from which they do.
+#[derive(Drop)]
+pub(crate) struct Restless {
+    pub class: u16,
+    pub marks: Vec<bool>,
+}
+
+// A class that reductions of the settling's whole list make and from which they don't end.
+fn restless_of(
     alloc: Global,
     tables: &Tables,
     found: &Found,
     settling: &Settling,
-) -> Result<bool, NoMemory>
-    requires found { IsFound (automaton_of tables.now) found.now }
+    place: &Place,
+) -> Result<Option<Restless>, NoMemory>
+    requires complete { IsComplete (automaton_of tables.now) found.now }
+    requires at { (i : ℕ) × IsSettlingAt found.now i settling.now }
+    requires place { IsPlaceAt found.now settling.now.place place.now }
     requires classes { HasClasses (productions tables.now.content.rules) (length tables.now.content.classes) }
     requires few { length tables.now.content.classes ≤ 64 }
-    ensures some { IfOk result (λ b. (i : ℕ) → IsSettlingAt found.now i settling.now → IsTrue b → Fault (automaton_of tables.now)) }
-    ensures none { IfOk result (λ b. (i : ℕ) (x : Place) (s : List Sym) → b ≡ false → IsSettlingAt found.now i settling.now
-        → IsPlaceAt found.now settling.now.place x →
-        IsList found.now.lists settling.now.list s → Calms (automaton_of tables.now) x.state x.behind s) }
+    ensures some { IfOk result (λ o. IfSome o (λ r. IsRestless (automaton_of tables.now) found.now settling.now.place place.now r
+        × (length r.marks.items ≡ length tables.now.content.classes))) }
+    ensures none { IfOk result (λ o. IfNone o ((s : List Sym) → IsList found.now.lists settling.now.list s
+        → Calms (automaton_of tables.now) place.now.state place.now.behind s)) }
 {
     let state = match settling.behind {
         Some(state) => state,
-        None => return Ok(false),
-    };
-    let place = match found.places().get(settling.place) {
-        Some(place) => *place,
-        None => return Ok(false),
+        None => return Ok(None),
     };
     let rules = tables.description().rules();
     let free = free_choices(rules, tables.action(state, place.behind));
     let size = found.lists().get(settling.list).len();
-    if lead_calm(rules, free, size, &[]) {
-        return Ok(false);
+    if first_unmarked(rules, free, size, &[]).is_none() {
+        return Ok(None);
     }
     let marks = calm_classes(alloc, tables, place.state, place.behind)?;
-    Ok(!lead_calm(rules, free, size, &marks))
-}
-
-fn turns_at(alloc: Global, tables: &Tables, found: &Found, number: usize) -> Result<bool, NoMemory>
-    requires found { IsFound (automaton_of tables.now) found.now }
-    requires classes { HasClasses (productions tables.now.content.rules) (length tables.now.content.classes) }
-    requires few { length tables.now.content.classes ≤ 64 }
-    ensures some { IfOk result (λ b. IsTrue b → Fault (automaton_of tables.now)) }
-    ensures none { IfOk result (λ b. (e : Settling) (x : Place) (s : List Sym) → b ≡ false → IsSettlingAt found.now number e
-        → IsPlaceAt found.now e.place x →
-        IsList found.now.lists e.list s → Calms (automaton_of tables.now) x.state x.behind s) }
-{
-    match found.settlings().get(number) {
-        Some(settling) => turns(alloc, tables, found, settling),
-        None => Ok(false),
+    match first_unmarked(rules, free, size, &marks) {
+        Some(class) => Ok(Some(Restless { class, marks })),
+        None => Ok(None),
     }
 }
 
-/// Whether reductions of some settling's whole list do not come to an end.
-pub fn has_circle(alloc: Global, tables: &Tables, found: &Found) -> Result<bool, NoMemory>
-    requires found { IsFound (automaton_of tables.now) found.now }
+// The circle to which reductions of the class lead, which settles at the place with the number.
+fn circle_of(
+    alloc: Global,
+    tables: &Tables,
+    found: &Found,
+    number: usize,
+    place: &Place,
+    restless: &Restless,
+) -> Result<Flaw, NoMemory>
+    requires complete { IsComplete (automaton_of tables.now) found.now }
+    requires place { IsPlaceAt found.now number place.now }
+    requires restless { IsRestless (automaton_of tables.now) found.now number place.now restless.now }
+    requires classes { HasClasses (productions tables.now.content.rules) (length restless.now.marks.items) }
+    requires few { length restless.now.marks.items ≤ 64 }
+    ensures { IfOk result (λ w. IsFlaw (automaton_of tables.now) found.now w) }
+{
+    let turn = turn_from(
+        alloc,
+        tables,
+        place.state,
+        place.behind,
+        &restless.marks,
+        restless.class,
+    )?;
+    let settling = alone_at(found, number, turn.class);
+    Ok(Flaw::Circle(settling, turn.along))
+}
+
+// The circle to which reductions of the whole list of the settling with the number lead.
+fn circle_at(
+    alloc: Global,
+    tables: &Tables,
+    found: &Found,
+    number: usize,
+) -> Result<Option<Flaw>, NoMemory>
+    requires complete { IsComplete (automaton_of tables.now) found.now }
     requires classes { HasClasses (productions tables.now.content.rules) (length tables.now.content.classes) }
     requires few { length tables.now.content.classes ≤ 64 }
-    ensures some { IfOk result (λ b. IsTrue b → Fault (automaton_of tables.now)) }
-    ensures none { IfOk result (λ b. (i : ℕ) (e : Settling) (x : Place) (s : List Sym) → b ≡ false → IsSettlingAt found.now i e
-        → IsPlaceAt found.now e.place x →
-        IsList found.now.lists e.list s → Calms (automaton_of tables.now) x.state x.behind s) }
+    ensures some { IfOk result (λ o. IfSome o (λ w. IsFlaw (automaton_of tables.now) found.now w)) }
+    ensures none { IfOk result (λ o. IfNone o ((e : Settling) (x : Place) (s : List Sym) → IsSettlingAt found.now number e
+        → IsPlaceAt found.now e.place x → IsList found.now.lists e.list s → Calms (automaton_of tables.now) x.state x.behind s)) }
+{
+    let settling = match found.settlings().get(number) {
+        Some(settling) => settling,
+        None => return Ok(None),
+    };
+    let place = match found.places().get(settling.place) {
+        Some(place) => place,
+        None => return Ok(None),
+    };
+    match restless_of(alloc, tables, found, settling, place)? {
+        Some(restless) => {
+            let flaw = circle_of(alloc, tables, found, settling.place, place, &restless)?;
+            Ok(Some(flaw))
+        }
+        None => Ok(None),
+    }
+}
+
+/// A circle to which reductions of some settling's whole list lead: none, and they all come to an end.
+pub fn find_circle(alloc: Global, tables: &Tables, found: &Found) -> Result<Option<Flaw>, NoMemory>
+    requires complete { IsComplete (automaton_of tables.now) found.now }
+    requires classes { HasClasses (productions tables.now.content.rules) (length tables.now.content.classes) }
+    requires few { length tables.now.content.classes ≤ 64 }
+    ensures some { IfOk result (λ o. IfSome o (λ w. IsFlaw (automaton_of tables.now) found.now w)) }
+    ensures none { IfOk result (λ o. IfNone o ((i : ℕ) (e : Settling) (x : Place) (s : List Sym) → IsSettlingAt found.now i e
+        → IsPlaceAt found.now e.place x → IsList found.now.lists e.list s → Calms (automaton_of tables.now) x.state x.behind s)) }
 {
     for number in 0..found.settlings().len() {
-        if turns_at(alloc, tables, found, number)? {
-            return Ok(true);
+        if let Some(flaw) = circle_at(alloc, tables, found, number)? {
+            return Ok(Some(flaw));
         }
     }
-    Ok(false)
+    Ok(None)
 }

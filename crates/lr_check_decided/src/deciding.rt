@@ -1,42 +1,47 @@
 // Whether some typed statement stops the parse by the tables.
-ghost use Rattle.std.specs.Prelude.{◌≡◌, ◌≤◌, false, IsTrue, IfOk, length};
+ghost use Rattle.std.specs.Prelude.{◌≤◌, IfOk, IfSome, IfNone, length};
 ghost use Rattle.lr_check_sets.specs.Bound.{HasClasses};
-ghost use Rattle.lr_check_sets.specs.Faults.{NoFault, Fault};
+ghost use Rattle.lr_check_sets.specs.Faults.{NoFault};
 ghost use Rattle.lr_check_sets.specs.Table.{productions, automaton_of};
+ghost use Rattle.lr_check_flaws.specs.Flaws.{IsFlaw};
 ghost use Rattle.lr_check_complete.specs.Sets.{IsComplete};
 ghost use Rattle.lr_check_decided.specs.Decided.{IsSo};
 
-use crate::circles::has_circle;
-use crate::gaps::{has_dead, has_gap};
+use crate::circles::find_circle;
+use crate::gaps::{find_dead, find_gap};
 use gg_base::NoMemory;
 use lr_check_complete::complete;
+use lr_check_flaws::Flaw;
 use lr_check_found::{Found, Stop};
 use lr_check_sets::tables_meet_laws;
 use lr_tables::Tables;
 use std::alloc::Global;
 
-/// Whether there is no fault and so many sums, a fault, or more than 4,000,000 sums.
-#[derive(Clone, Copy, Debug)]
+/// There is no fault, and so many sums; or what is found of places and sums, all of them, has the flaw; or
+/// there are more than 4,000,000 sums.
+#[derive(Drop)]
 pub enum Decision {
     Fine(usize),
-    Faulty,
+    Faulty(Found, Flaw),
     Full,
 }
 
-fn has_fault(alloc: Global, tables: &Tables, found: &Found) -> Result<bool, NoMemory>
+/// What is wrong with what was found, all of the sets, if anything: a gap before a dead list, and that
+/// before a circle, each the first by number.
+pub fn find_flaw(alloc: Global, tables: &Tables, found: &Found) -> Result<Option<Flaw>, NoMemory>
     requires complete { IsComplete (automaton_of tables.now) found.now }
     requires classes { HasClasses (productions tables.now.content.rules) (length tables.now.content.classes) }
     requires few { length tables.now.content.classes ≤ 64 }
-    ensures some { IfOk result (λ b. IsTrue b → Fault (automaton_of tables.now)) }
-    ensures none { IfOk result (λ b. b ≡ false → NoFault (automaton_of tables.now)) }
+    ensures some { IfOk result (λ o. IfSome o (λ w. IsFlaw (automaton_of tables.now) found.now w)) }
+    ensures none { IfOk result (λ o. IfNone o (NoFault (automaton_of tables.now))) }
 {
-    if has_gap(tables, found) {
-        return Ok(true);
+    if let Some(place) = find_gap(tables, found) {
+        return Ok(Some(Flaw::Gap(place)));
     }
-    if has_dead(tables, found) {
-        return Ok(true);
+    if let Some(settling) = find_dead(tables, found) {
+        return Ok(Some(Flaw::Dead(settling)));
     }
-    has_circle(alloc, tables, found)
+    find_circle(alloc, tables, found)
 }
 
 /// Decides it; no memory is the only other answer.
@@ -51,8 +56,8 @@ pub fn decide(alloc: Global, tables: &Tables) -> Result<Decision, NoMemory>
         Err(Stop::Full) => return Ok(Decision::Full),
         Err(Stop::NoMemory) => return Err(NoMemory),
     };
-    if has_fault(alloc, tables, &found)? {
-        return Ok(Decision::Faulty);
+    match find_flaw(alloc, tables, &found)? {
+        Some(flaw) => Ok(Decision::Faulty(found, flaw)),
+        None => Ok(Decision::Fine(found.tuples())),
     }
-    Ok(Decision::Fine(found.tuples()))
 }

@@ -1,13 +1,13 @@
 // Places whose token isn't shifted, and lists at which some answers take nothing.
-ghost use Rattle.std.specs.Prelude.{◌≡◌, ℕ, Some, false, IsTrue};
+ghost use Rattle.std.specs.Prelude.{◌≡◌, ℕ, Some, false, IsTrue, IfSome, IfNone};
 ghost use Rattle.md_reader.specs.declared.types.Sym.TheVariants as symbol;
 ghost use Rattle.lr_check_sets.specs.Automaton.{CanBlock};
 ghost use Rattle.lr_check_sets.specs.Table.{automaton_of};
-ghost use Rattle.lr_check_sets.specs.Faults.{Fault};
 ghost use Rattle.lr_check_found.specs.declared.places.Place.{Place};
 ghost use Rattle.lr_check_found.specs.declared.settlings.Settling.{Settling};
 ghost use Rattle.lr_check_found.specs.Found.{IsPlaceAt, IsSettlingAt};
 ghost use Rattle.lr_check_found.specs.Sound.{IsFound};
+ghost use Rattle.lr_check_flaws.specs.Flaws.{IsGapAt, IsDeadAt};
 
 use lr_check_found::{Found, Settling, can_block};
 use lr_tables::Tables;
@@ -15,8 +15,7 @@ use md_reader::Sym;
 
 // Whether the token of the place with the number isn't shifted.
 fn is_gap(tables: &Tables, found: &Found, number: usize) -> bool
-    requires { IsFound (automaton_of tables.now) found.now }
-    ensures some { IsTrue result → Fault (automaton_of tables.now) }
+    ensures some { IsTrue result → IsGapAt (automaton_of tables.now) found.now number }
     ensures none { result ≡ false → (x : Place) → IsPlaceAt found.now number x → (p : ℕ)
         × ((automaton_of tables.now).go x.state (symbol.Tok x.token) ≡ Some p) }
 {
@@ -30,25 +29,24 @@ fn is_gap(tables: &Tables, found: &Found, number: usize) -> bool
     }
 }
 
-/// Whether some place's token isn't shifted.
-pub fn has_gap(tables: &Tables, found: &Found) -> bool
-    requires { IsFound (automaton_of tables.now) found.now }
-    ensures some { IsTrue result → Fault (automaton_of tables.now) }
-    ensures none { result ≡ false → (n : ℕ) (x : Place) → IsPlaceAt found.now n x → (p : ℕ)
-        × ((automaton_of tables.now).go x.state (symbol.Tok x.token) ≡ Some p) }
+/// The first place whose token isn't shifted, by number.
+pub fn find_gap(tables: &Tables, found: &Found) -> Option<usize>
+    ensures some { IfSome result (λ n. IsGapAt (automaton_of tables.now) found.now n) }
+    ensures none { IfNone result ((n : ℕ) (x : Place) → IsPlaceAt found.now n x → (p : ℕ)
+        × ((automaton_of tables.now).go x.state (symbol.Tok x.token) ≡ Some p)) }
 {
     for number in 0..found.places().len() {
         if is_gap(tables, found, number) {
-            return true;
+            return Some(number);
         }
     }
-    false
+    None
 }
 
 // Whether some answers take nothing at the settling's list.
 fn is_dead(tables: &Tables, found: &Found, settling: &Settling) -> bool
     ensures some { (i : ℕ) → IsFound (automaton_of tables.now) found.now → IsSettlingAt found.now i settling.now → IsTrue result
-        → Fault (automaton_of tables.now) }
+        → IsDeadAt (automaton_of tables.now) found.now i }
     ensures none { result ≡ false → (x : Place) (p : ℕ) → IsPlaceAt found.now settling.now.place x → settling.now.behind ≡ Some p →
         CanBlock ((automaton_of tables.now).candidates p x.behind) → ⊥ }
 {
@@ -66,7 +64,7 @@ fn is_dead(tables: &Tables, found: &Found, settling: &Settling) -> bool
 
 fn is_dead_at(tables: &Tables, found: &Found, number: usize) -> bool
     requires { IsFound (automaton_of tables.now) found.now }
-    ensures some { IsTrue result → Fault (automaton_of tables.now) }
+    ensures some { IsTrue result → IsDeadAt (automaton_of tables.now) found.now number }
     ensures none { result ≡ false → (e : Settling) (x : Place) (p : ℕ) → IsSettlingAt found.now number e
         → IsPlaceAt found.now e.place x → e.behind ≡ Some p →
         CanBlock ((automaton_of tables.now).candidates p x.behind) → ⊥ }
@@ -77,18 +75,18 @@ fn is_dead_at(tables: &Tables, found: &Found, number: usize) -> bool
     }
 }
 
-/// Whether some answers take nothing at a list that settles.
-pub fn has_dead(tables: &Tables, found: &Found) -> bool
+/// The first settling behind whose list some answers take nothing, by number.
+pub fn find_dead(tables: &Tables, found: &Found) -> Option<usize>
     requires { IsFound (automaton_of tables.now) found.now }
-    ensures some { IsTrue result → Fault (automaton_of tables.now) }
-    ensures none { result ≡ false → (i : ℕ) (e : Settling) (x : Place) (p : ℕ) → IsSettlingAt found.now i e
+    ensures some { IfSome result (λ i. IsDeadAt (automaton_of tables.now) found.now i) }
+    ensures none { IfNone result ((i : ℕ) (e : Settling) (x : Place) (p : ℕ) → IsSettlingAt found.now i e
         → IsPlaceAt found.now e.place x → e.behind ≡ Some p →
-        CanBlock ((automaton_of tables.now).candidates p x.behind) → ⊥ }
+        CanBlock ((automaton_of tables.now).candidates p x.behind) → ⊥) }
 {
     for number in 0..found.settlings().len() {
         if is_dead_at(tables, found, number) {
-            return true;
+            return Some(number);
         }
     }
-    false
+    None
 }

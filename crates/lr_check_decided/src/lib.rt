@@ -1,12 +1,14 @@
-//! Whether all that was found of places and sums shows a fault: a token that isn't shifted, a list at
-//! which some answers take nothing, or reductions without end.
+//! Whether all that was found of places and sums has a flaw, and where: a token that isn't shifted, a list
+//! at which some answers take nothing, or reductions without end.
 #![tactic(auto)]
 
+mod alone;
 mod calm;
 mod circles;
 mod deciding;
 mod gaps;
+mod turning;
 
-pub use circles::has_circle;
-pub use deciding::{Decision, decide};
-pub use gaps::{has_dead, has_gap};
+pub use circles::find_circle;
+pub use deciding::{Decision, decide, find_flaw};
+pub use gaps::{find_dead, find_gap};

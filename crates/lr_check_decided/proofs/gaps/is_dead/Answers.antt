@@ -5,7 +5,7 @@ use Rattle.lr_check_found.specs.declared.places.Place.{Place}
 use Rattle.lr_check_found.specs.Found.{IsPlaceAt}
 use Rattle.lr_check_found.proofs.Reading.{Some-same, none_some, looked_at}
 use Rattle.lr_check_complete.proofs.Both.{not_there}
-use Rattle.lr_check_decided.proofs.Faulty.{dead_fault, block_here, block_there}
+use Rattle.lr_check_decided.proofs.Faulty.{is_dead_at, block_here, block_there}
 use Rattle.lr_check_decided.proofs.gaps.is_dead.Goals as goal
 
 pub returns-in-None-clause-none : goal.returns-in-None-clause-none
@@ -22,7 +22,7 @@ returns c =
     let x = c.in-Some-get.place.now in
     let there : IsPlaceAt f e.place x = looked_at c.places.result.now f.places e.place x c.places.ensures c.in-Some-get.ensures.lookup.0 c.in-Some-get.ensures.lookup.1 in
     record {
-      some = λ i found at u. dead_fault (automaton_of t) f i c.in-Some.state e x found at there c.in-Some.is
+      some = λ i found at u. is_dead_at (automaton_of t) f i c.in-Some.state e x found at there c.in-Some.is
           (block_there t c.in-Some.state x.behind _ _ _ c.description.ensures c.rules-rules.ensures c.action.ensures.value (c.can_block.ensures.real u));
       none = λ u y p other behind can. true≢false (sym (c.can_block.ensures.blocks
           (block_here t c.in-Some.state x.behind _ _ _ c.description.ensures c.rules-rules.ensures c.action.ensures.value

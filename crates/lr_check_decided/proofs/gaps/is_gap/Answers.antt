@@ -3,7 +3,7 @@ use Rattle.lr_check_sets.specs.Table.{automaton_of}
 use Rattle.lr_check_found.specs.Found.{IsPlaceAt}
 use Rattle.lr_check_found.proofs.Reading.{looked_at}
 use Rattle.lr_check_complete.proofs.Both.{not_there}
-use Rattle.lr_check_decided.proofs.Faulty.{gap_fault, shifted}
+use Rattle.lr_check_decided.proofs.Faulty.{is_gap_at, shifted}
 use Rattle.lr_check_decided.proofs.gaps.is_gap.Goals as goal
 
 pub returns-in-None-clause-none : goal.returns-in-None-clause-none
@@ -21,4 +21,4 @@ returns-in-None-over-clause-some c = λ u.
     let x = c.in-Some.place.now in
     let there : IsPlaceAt c.args.found.now c.args.number x = looked_at c.places.result.now c.args.found.now.places c.args.number x c.places.ensures c.in-Some.ensures.lookup.0
     c.in-Some.ensures.lookup.1 in
-    gap_fault (automaton_of c.args.tables.now) c.args.found.now c.args.number x c.requires there (sym c.over.ensures ∙ c.in-None-over.is)
+    is_gap_at (automaton_of c.args.tables.now) c.args.found.now c.args.number x there (sym c.over.ensures ∙ c.in-None-over.is)

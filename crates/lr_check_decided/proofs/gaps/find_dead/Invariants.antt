@@ -4,7 +4,7 @@ use Rattle.lr_check_sets.specs.Table.{automaton_of}
 use Rattle.lr_check_found.specs.declared.places.Place.{Place}
 use Rattle.lr_check_found.specs.declared.settlings.Settling.{Settling}
 use Rattle.lr_check_found.specs.Found.{IsPlaceAt, IsSettlingAt}
-use Rattle.lr_check_decided.proofs.gaps.has_dead.Given as goal
+use Rattle.lr_check_decided.proofs.gaps.find_dead.Given as goal
 
 abbrev pub invariant-loop-number : goal.invariant-loop-number
 invariant-loop-number l =

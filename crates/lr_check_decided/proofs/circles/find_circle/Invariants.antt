@@ -6,7 +6,7 @@ use Rattle.lr_check_found.specs.declared.places.Place.{Place}
 use Rattle.lr_check_found.specs.declared.settlings.Settling.{Settling}
 use Rattle.lr_check_found.specs.Lists.{IsList}
 use Rattle.lr_check_found.specs.Found.{IsPlaceAt, IsSettlingAt}
-use Rattle.lr_check_decided.proofs.circles.has_circle.Given as goal
+use Rattle.lr_check_decided.proofs.circles.find_circle.Given as goal
 
 abbrev pub invariant-loop-number : goal.invariant-loop-number
 invariant-loop-number l =

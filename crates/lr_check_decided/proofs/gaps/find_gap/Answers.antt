@@ -5,7 +5,7 @@ use Rattle.lr_check_sets.specs.Table.{automaton_of}
 use Rattle.lr_check_found.specs.declared.places.Place.{Place}
 use Rattle.lr_check_found.specs.Found.{IsPlaceAt}
 use Rattle.lr_check_complete.proofs.Turns.{up_to}
-use Rattle.lr_check_decided.proofs.gaps.has_gap.Goals as goal
+use Rattle.lr_check_decided.proofs.gaps.find_gap.Goals as goal
 
 pub loop-number-init : goal.loop-number-init
 loop-number-init c = λ n lt. absurd (omega (arith, lt))
@@ -15,4 +15,4 @@ loop-number-preserved c = up_to c.loop-number.number (λ (n : ℕ). (x : Place) 
     c.loop-number.number c.loop-number.invariant refl (c.is_gap.ensures.none c.if-is_gap.false)
 
 pub returns-clause-none : goal.returns-clause-none
-returns-clause-none c = λ u n x at. c.loop-number.invariant n (let lt = slice_get_within c.args.found.now.places n x at in omega (arith, lt, ap length c.places-number-end.ensures)) x at
+returns-clause-none c = λ n x at. c.loop-number.invariant n (let lt = slice_get_within c.args.found.now.places n x at in omega (arith, lt, ap length c.places-number-end.ensures)) x at

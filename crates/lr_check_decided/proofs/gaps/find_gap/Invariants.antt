@@ -3,7 +3,7 @@ use Rattle.md_reader.specs.declared.types.Sym.TheVariants as symbol
 use Rattle.lr_check_sets.specs.Table.{automaton_of}
 use Rattle.lr_check_found.specs.declared.places.Place.{Place}
 use Rattle.lr_check_found.specs.Found.{IsPlaceAt}
-use Rattle.lr_check_decided.proofs.gaps.has_gap.Given as goal
+use Rattle.lr_check_decided.proofs.gaps.find_gap.Given as goal
 
 abbrev pub invariant-loop-number : goal.invariant-loop-number
 invariant-loop-number l = (n : ℕ) → n < l.number → (x : Place) → IsPlaceAt l.found n x → (p : ℕ) × ((automaton_of l.tables).go x.state (symbol.Tok x.token) ≡ Some p)
