@@ -2,6 +2,8 @@
 use Rattle.std.proofs.Common.{◌≡◌, ℕ, zero, suc, ◌+◌, ◌<◌, List, [], ◌∷◌, ◌++◌, Some, Bool, length, slice_get, refl, sym, ap, ap₂, ◌∙◌, subst, ⊎_elim, arith}
 use Rattle.std.specs.Prelude.{slice_index_or, IfOk, OnOk, Result, Ok, Err}
 use Rattle.tree_core.specs.declared.token.Tok.{Tok}
+use Rattle.md_reader.specs.State.{Content}
+use Rattle.md_reader.specs.declared.types.Rule.{Rule}
 use Rattle.lr_tables.specs.declared.types.Choice.{Choice}
 use Rattle.lr_tables.specs.View.{TableView}
 use Rattle.lr_tables.proofs.Members.{In-Contains, Contains-In}
@@ -158,3 +160,12 @@ made_as {f = f} {i = i} e m = subst (IsMadeBy f i) e m
 pub on_ok : {T E : Type 0} (r : Result T E) (P Q : Type 0) → (P → Q) → OnOk r P → OnOk r Q
 on_ok (Ok x) P Q f h = f h
 on_ok (Err e) P Q f h = h
+
+-- what is asked until a class alone is reduced, as the code finds it
+pub turn_asked : {E : Type 0} (r : Result (Unit {0}) E) (t : TableView) (a b : AskedView) (p q to : ℕ) (k : Tok) (rules : List Rule) (choices : List Choice) (d : Content) →
+    d ≡ t.content → rules ≡ d.rules → choices ≡ actions_at t q k → q ≡ p → OnOk r (b ≡ with_taken a rules choices 1 to) →
+    OnOk r (b ≡ record { own = a.own ++ answers_to ((automaton_of t).candidates p k) 1 to; depths = a.depths ++ depths_to ((automaton_of t).candidates p k) 1 to })
+turn_asked (Err u) t a b p q to k rules choices d content are actions same e = tt
+turn_asked (Ok u) t a b p q to k rules choices d content are actions same e =
+    e ∙ (ap₂ (λ (x : List Rule) (y : List Choice). with_taken a x y 1 to) (are ∙ ap (λ (c : Content). c.rules) content) (actions ∙ ap (λ (z : ℕ). actions_at t z k) same)
+    ∙ taken_at t a p k 1 to)

@@ -1,2 +1,5 @@
 pub mod Asked
 pub mod Drawing
+pub mod Rising
+pub mod Turning
+pub mod Sampled

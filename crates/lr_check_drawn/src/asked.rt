@@ -44,6 +44,14 @@ impl Asked {
         Ok(asked)
     }
 
+    /// What the node is answered.
+    pub fn into_own(self) -> Vec<bool>
+        ensures { result.items ≡ self.own }
+    {
+        let Asked { own, .. } = self;
+        own
+    }
+
     fn push_depth(&mut self, size: usize, depth: usize) -> Result<(), NoMemory>
         ensures { OnOk result (self.new ≡ with_kid self.old size (depth ∷ [])) }
     {

@@ -10,9 +10,11 @@ ghost use Rattle.lr_check_found.specs.Found.{IsPlaceAt};
 ghost use Rattle.lr_check_samples.specs.Fixed.{IsMadeBy};
 
 use crate::asked::Asked;
+use crate::rising::token_of;
 use gg_base::NoMemory;
 use lr_check::SampleNode;
 use lr_check_found::{Found, How};
+use lr_check_nodes::{Growing, number_of};
 use lr_tables::{Choice, Tables};
 use std::alloc::Global;
 use std::marker::Model;
@@ -57,7 +59,7 @@ impl Model for Kids {
 
 /// The nodes of settlings, by the settlings' numbers.
 #[derive(Drop)]
-pub struct Drawing {
+pub(crate) struct Drawing {
     nodes: Vec<SampleNode>,
     depths: Vec<Depths>,
 }
@@ -68,15 +70,6 @@ impl Model for Drawing {
     ghost Value = { DrawingView };
 
     ghost view = { λ d. record { nodes = d.nodes.items; depths = d.depths.items } };
-}
-
-fn number_of(settling: usize) -> Result<u32, NoMemory>
-    ensures { IfOk result (λ n. n ≡ settling) }
-{
-    match u32::try_from(settling) {
-        Ok(number) => Ok(number),
-        Err(_) => Err(NoMemory),
-    }
 }
 
 impl Drawing {
@@ -177,11 +170,12 @@ impl Drawing {
         }
     }
 
-    /// The nodes, by the numbers of the settlings.
-    pub fn nodes(&self) -> &[SampleNode]
-        ensures { result.now ≡ self.now.nodes }
+    /// The nodes, by the numbers of the settlings, for more to be added.
+    pub fn into_growing(self) -> Growing
+        ensures { result ≡ self.nodes }
     {
-        &self.nodes
+        let Drawing { nodes, .. } = self;
+        Growing::from_nodes(nodes)
     }
 
     // The node of the next settling.
@@ -232,16 +226,6 @@ impl Drawing {
             drawing.draw(alloc, tables, found, number, entry.how, token)?;
         }
         Ok(drawing)
-    }
-}
-
-// The token of the place with the number.
-fn token_of(found: &Found, place: usize) -> Tok
-    ensures { (x : Place) → IsPlaceAt found.now place x → result ≡ x.token }
-{
-    match found.places().get(place) {
-        Some(place) => place.token,
-        None => Tok::Jump,
     }
 }
 
