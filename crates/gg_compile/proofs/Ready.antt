@@ -1,7 +1,8 @@
 -- By an accepted description the trees of a program whose functions fit all have code; it can be written, and keeps the program.
-use Rattle.std.proofs.Common.{◌≡◌, ℕ, true, sym, subst}
+use Rattle.std.proofs.Common.{◌≡◌, true, sym, subst}
 use Rattle.std.proofs.Math.Bool.{Bool-set}
 use Rattle.std.proofs.Math.Logic.{∥∥₁_map, ∥∥₁_elim}
+use Rattle.tree_core.specs.declared.program.TreeItem.TheVariants as item
 use Rattle.tree_core.specs.declared.program.TreeProgram.{TreeProgram}
 use Rattle.md_reader.specs.State.{Content}
 use Rattle.lr_checked.specs.Accepted.{NeverStops}
@@ -13,10 +14,10 @@ use Rattle.vax_core.specs.declared.code.Code.{Code}
 use Rattle.vax_core.specs.Valid.{is_code}
 use Rattle.vax_target_meaning.specs.Vax.{vax}
 use Rattle.gg_compile_code.specs.Selecting.{SelectedAll}
-use Rattle.gg_compile_code.specs.Stops.{StopsAt, Blocks, Fills}
+use Rattle.gg_compile_code.specs.Going.{ProgramGoes}
 use Rattle.gg_compile_laws.specs.Keeping.{Keeps}
 use Rattle.gg_compile_laws.specs.Ready.{HasReadyTrees}
-use Rattle.gg_compile_laws.proofs.Stopping.{no_tree_stops}
+use Rattle.gg_compile_laws.proofs.Going.{trees_go}
 use Rattle.gg_compile_laws.proofs.Limits.{typed_codes_keep_programs}
 use Rattle.gg_compile_laws.proofs.Typed.{typed_programs_are_ready}
 use Rattle.gg_compile_laws.proofs.Programs.{typed_codes_can_be_written}
@@ -26,12 +27,12 @@ no_prop : IsProp ⊥
 no_prop = hlevel
 
 -- no tree of trees that are ready blocks, turns or finds its frame full
-module _ (q : TreeProgram) (d : Content) (ok : ∥ HasReadyTrees q ∥₁) (fit : IsFit vax d) (never : NeverStops d) (function tree : ℕ) where
-  pub none_blocks : StopsAt vax d q (Blocks vax d q) function tree → ⊥
-  none_blocks stops = ∥∥₁_elim ok no_prop (λ r. (no_tree_stops q d r fit never).blocks function tree stops)
-
-  pub none_fills : StopsAt vax d q (Fills vax d q) function tree → ⊥
-  none_fills stops = ∥∥₁_elim ok no_prop (λ r. (no_tree_stops q d r fit never).fills function tree stops)
+pub all_go : (q : TreeProgram) (d : Content) → ∥ HasReadyTrees q ∥₁ → IsFit vax d → NeverStops d → ProgramGoes vax d q
+all_go q d ok fit never f g there n (item.Label l) at = tt
+all_go q d ok fit never f g there n (item.Root w) at = record {
+  parses = λ b. ∥∥₁_elim ok no_prop (λ r. (trees_go q d r fit never f g there n (item.Root w) at).parses b);
+  has_room = λ b. ∥∥₁_elim ok no_prop (λ r. (trees_go q d r fit never f g there n (item.Root w) at).has_room b);
+}
 
 module _ (s : Program) (q : TreeProgram) (is : q ≡ lowered (program s.held)) (fit : AllFit (program s.held)) where
   pub ready : ∥ HasReadyTrees q ∥₁

@@ -16,7 +16,7 @@ use c_lower::lower;
 use c_typed::Program;
 use gg_accepted::Accepted;
 use gg_base::NoMemory;
-use gg_compile_code::{AssembleFault, assemble};
+use gg_compile_code::assemble;
 use std::alloc::Global;
 use tree_core::TreeProgram;
 use vax_core::Code;
@@ -35,12 +35,7 @@ fn code_of(alloc: Global, accepted: &Accepted, trees: &TreeProgram) -> Result<Co
     ensures { IfOk result (λ c. SelectedAll vax accepted.now.content trees.now c) }
 {
     accepted.is_accepted();
-    match assemble(alloc, accepted.generator(), trees) {
-        Ok(code) => Ok(code),
-        Err(AssembleFault::NoMemory) => Err(NoMemory),
-        Err(AssembleFault::Blocked { .. }) => unreachable!(),
-        Err(AssembleFault::Crowded { .. }) => unreachable!(),
-    }
+    assemble(alloc, accepted.generator(), trees)
 }
 
 /// The trees of a program, and their code by an accepted description: each function is a frame round the code that is selected of its

@@ -1,7 +1,6 @@
 -- The code of one item more.
-use Rattle.std.proofs.Common.{◌≡◌, ℕ, ◌+◌, List, [], ◌∷◌, ◌++◌, take, drop, get_or, suc, length, ◌<◌, refl, sym, ap, ◌∙◌, subst, append-nil, append_assoc, arith}
+use Rattle.std.proofs.Common.{◌≡◌, ℕ, ◌+◌, List, [], ◌∷◌, ◌++◌, take, get_or, slice_get, zero, suc, length, Some, ◌<◌, refl, sym, ap, ◌∙◌, subst, append-nil, arith}
 use Rattle.std.proofs.Math.Seq.{take-suc}
-use Rattle.std.proofs.lemmas.List.{take-append-drop}
 use Rattle.tree_core.specs.declared.tree.Leaf.{Leaf}
 use Rattle.tree_core.specs.declared.program.TreeItem.{TreeItem}
 use Rattle.tree_core.specs.declared.program.TreeItem.TheVariants as item
@@ -20,7 +19,6 @@ use Rattle.vax_frames.specs.Frames.{code_items, IsFrameCode}
 use Rattle.gg_compile_law.specs.Effects.{label_name}
 use Rattle.gg_compile_law.specs.Spelling.{area_of}
 use Rattle.gg_compile_code.specs.Selecting.{AreSelected, nothing, label, tree, PutsItem, IsSelectedFunction, AreSelectedFunctions, none, more, SelectedAll}
-use Rattle.gg_compile_code.specs.Stops.{trees_in}
 use Rattle.gg_compile_code.proofs.Appending.{selected_append, functions_append}
 
 front : {A : Type 0} (xs : List A) (i : ℕ) (x : A) → i < length xs → get_or xs i x ≡ x → take (i + 1) xs ≡ take i xs ++ x ∷ []
@@ -28,9 +26,11 @@ front xs i x lt at =
     let next : i + 1 ≡ suc i = omega arith in
     ap (λ (k : ℕ). take k xs) next ∙ take-suc xs i x lt ∙ ap (λ y. take i xs ++ y ∷ []) at
 
-pub parted : {A : Type 0} (xs : List A) (i : ℕ) (x : A) → i < length xs → get_or xs i x ≡ x → xs ≡ take i xs ++ x ∷ drop (i + 1) xs
-parted xs i x lt at =
-    sym (take-append-drop (i + 1) xs) ∙ ap (λ l. l ++ drop (i + 1) xs) (front xs i x lt at) ∙ append_assoc (take i xs) (x ∷ []) (drop (i + 1) xs)
+-- an element that a loop is at
+pub at_index : {A : Type 0} (xs : List A) (i : ℕ) (x : A) → i < length xs → get_or xs i x ≡ x → slice_get xs i ≡ Some x
+at_index [] i x lt e = absurd (omega (arith, lt))
+at_index (y ∷ xs) zero x lt e = ap Some e
+at_index (y ∷ xs) (suc i) x lt e = at_index xs i x (omega (arith, lt)) e
 
 module _ {S F : Type 0} (of : Meaning Operand Instr S F) (d : Content) (q : TreeProgram) where
   pub puts_label : (slots : Frame) (l : ℕ) (old new : List CodeItem) → new ≡ old ++ items.Label (label_name l) ∷ []
@@ -91,14 +91,3 @@ module _ {S F : Type 0} (of : Meaning Operand Instr S F) (d : Content) (q : Tree
       let both = functions_append of d q (take i fs) (f ∷ []) old part h last in
       subst (λ (l : List TreeFn). AreSelectedFunctions of d q l new) (sym (front fs i f lt at))
       (subst (λ (c : List CodeItem). AreSelectedFunctions of d q (take i fs ++ f ∷ []) c) (sym e) both)
-
--- trees are counted one by one
-trees_append : (is js : List TreeItem) → trees_in (is ++ js) ≡ trees_in is + trees_in js
-trees_append [] js = omega arith
-trees_append (item.Label l ∷ is) js = trees_append is js
-trees_append (item.Root w ∷ is) js = let h = trees_append is js in omega (arith, h)
-
-pub more_trees : (is : List TreeItem) (i n m : ℕ) (x : TreeItem) → i < length is → get_or is i x ≡ x → n ≡ trees_in (take i is)
-    → m ≡ n + trees_in (x ∷ []) → m ≡ trees_in (take (i + 1) is)
-more_trees is i n m x lt at h e =
-    e ∙ ap (λ (k : ℕ). k + trees_in (x ∷ [])) h ∙ sym (trees_append (take i is) (x ∷ [])) ∙ ap trees_in (sym (front is i x lt at))

@@ -1,2 +1,2 @@
 pub mod Selecting
-pub mod Stops
+pub mod Going

@@ -1,12 +1,12 @@
 // From a tree program to its code.
-ghost use Rattle.std.specs.Prelude.{◌≤◌, IfOk, IfErr, length};
+ghost use Rattle.std.specs.Prelude.{◌≤◌, IfOk, length};
 ghost use Rattle.std.specs.List.{All};
 ghost use Rattle.vax_target_meaning.specs.Vax.{vax};
 ghost use Rattle.gg_compile_code.specs.Selecting.{SelectedAll};
-ghost use Rattle.gg_compile_code.specs.Stops.{AllStopFor};
+ghost use Rattle.gg_compile_code.specs.Going.{ProgramGoes};
 
-use crate::fault::AssembleFault;
 use crate::functions::functions;
+use gg_base::NoMemory;
 use gg_compile_area::area_items;
 use sel_parse::Generator;
 use std::alloc::Global;
@@ -15,17 +15,17 @@ use vax_core::{Code, CodeItems};
 use vax_target::Vax;
 
 /// The code of a tree program by a description's tables: each function is a frame round the code that is selected of its trees, in
-/// order, and the data area is that of the objects; or the first tree without code. A function has at most 1,024 locals, an object
-/// at most 1,048,576 bytes.
+/// order, and the data area is that of the objects. A function has at most 1,024 locals, an object at most 1,048,576 bytes; no tree
+/// blocks or finds its frame full, as none does by an accepted description in a program whose functions fit their frames.
 pub fn assemble(
     alloc: Global,
     generator: &Generator<Vax>,
     program: &TreeProgram,
-) -> Result<Code, AssembleFault>
+) -> Result<Code, NoMemory>
     requires locals { All (λ f. f.locals ≤ 1024) program.now.functions }
     requires objects { All (λ o. length o.bytes ≤ 1048576) program.now.objects }
-    ensures code { IfOk result (λ c. SelectedAll vax generator.now.tables.content program.now c) }
-    ensures stops { IfErr result (AllStopFor vax generator.now.tables.content program.now) }
+    requires goes { ProgramGoes vax generator.now.tables.content program.now }
+    ensures { IfOk result (λ c. SelectedAll vax generator.now.tables.content program.now c) }
 {
     let items = functions(alloc, generator, program)?;
     let area = area_items(alloc, program.objects.as_slice())?;

@@ -1,12 +1,11 @@
 // The code of a program's functions.
-ghost use Rattle.std.specs.Prelude.{◌≡◌, ◌≤◌, ◌++◌, [], ◌∷◌, IfOk, IfErr, OnOk};
+ghost use Rattle.std.specs.Prelude.{◌≤◌, IfOk};
 ghost use Rattle.std.specs.List.{All};
 ghost use Rattle.vax_target_meaning.specs.Vax.{vax};
 ghost use Rattle.gg_compile_code.specs.Selecting.{IsSelectedFunction, AreSelectedFunctions};
-ghost use Rattle.gg_compile_code.specs.Stops.{fault_in, StopsFor, AllStopFor};
+ghost use Rattle.gg_compile_code.specs.Going.{FunctionGoes, ProgramGoes};
 
-use crate::fault::AssembleFault;
-use crate::items::{Body, TreeFault, body_of, next};
+use crate::items::{Body, body_of};
 use gg_base::NoMemory;
 use sel_parse::Generator;
 use std::alloc::Global;
@@ -15,27 +14,16 @@ use vax_core::CodeItem;
 use vax_frames::frame_code;
 use vax_target::Vax;
 
-// What stops a function stops the program there.
-fn at(fault: TreeFault, function: u32) -> AssembleFault
-    ensures { result ≡ fault_in fault function }
-{
-    match fault {
-        TreeFault::NoMemory => AssembleFault::NoMemory,
-        TreeFault::Blocked(tree) => AssembleFault::Blocked { function, tree },
-        TreeFault::Crowded(tree) => AssembleFault::Crowded { function, tree },
-    }
-}
-
 // The code of a function: its frame round the code of its items.
 fn function(
     alloc: Global,
     generator: &Generator<Vax>,
     program: &TreeProgram,
     f: &TreeFn,
-) -> Result<Vec<CodeItem>, TreeFault>
-    requires { f.now.locals ≤ 1024 }
-    ensures selected { IfOk result (λ c. IsSelectedFunction vax generator.now.tables.content program.now f.now c.items) }
-    ensures stops { IfErr result (StopsFor vax generator.now.tables.content program.now f.now) }
+) -> Result<Vec<CodeItem>, NoMemory>
+    requires few { f.now.locals ≤ 1024 }
+    requires goes { FunctionGoes vax generator.now.tables.content program.now f.now }
+    ensures { IfOk result (λ c. IsSelectedFunction vax generator.now.tables.content program.now f.now c.items) }
 {
     let Body { items, words } = body_of(alloc, generator, program, f)?;
     Ok(frame_code(alloc, f, items, words)?)
@@ -46,19 +34,15 @@ pub fn functions(
     alloc: Global,
     generator: &Generator<Vax>,
     program: &TreeProgram,
-) -> Result<Vec<CodeItem>, AssembleFault>
-    requires { All (λ f. f.locals ≤ 1024) program.now.functions }
-    ensures selected { IfOk result (λ c. AreSelectedFunctions vax generator.now.tables.content program.now program.now.functions c.items) }
-    ensures stops { IfErr result (AllStopFor vax generator.now.tables.content program.now) }
+) -> Result<Vec<CodeItem>, NoMemory>
+    requires few { All (λ f. f.locals ≤ 1024) program.now.functions }
+    requires goes { ProgramGoes vax generator.now.tables.content program.now }
+    ensures { IfOk result (λ c. AreSelectedFunctions vax generator.now.tables.content program.now program.now.functions c.items) }
 {
     let mut code = Vec::new(alloc);
-    let mut number = 0;
     for f in program.functions.as_slice() {
-        match function(alloc, generator, program, f) {
-            Ok(mut part) => code.append(&mut part)?,
-            Err(fault) => return Err(at(fault, number)),
-        }
-        number = next(number)?;
+        let mut part = function(alloc, generator, program, f)?;
+        code.append(&mut part)?;
     }
     Ok(code)
 }

@@ -2,9 +2,7 @@
 #![tactic(auto)]
 
 mod assembling;
-mod fault;
 mod functions;
 mod items;
 
 pub use assembling::assemble;
-pub use fault::AssembleFault;

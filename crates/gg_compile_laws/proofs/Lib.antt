@@ -2,7 +2,7 @@ pub mod Objects
 pub mod Keeping
 pub mod Rooms
 pub mod Ready
-pub mod Stopping
+pub mod Going
 pub mod Limits
 pub mod Typed
 pub mod Tests

@@ -17,9 +17,7 @@ use Rattle.sel_parse_law.specs.Claims.{HasCode}
 use Rattle.vax_target_meaning.specs.Fitting.{CanWrite}
 use Rattle.vax_target_meaning.specs.Vax.{vax}
 use Rattle.gg_compile_keeps.specs.Programs.{EachTree}
-use Rattle.gg_compile_code.specs.declared.fault.AssembleFault.{AssembleFault}
-use Rattle.gg_compile_code.specs.declared.fault.AssembleFault.TheVariants as faults
-use Rattle.gg_compile_code.specs.Stops.{StopsAt, Blocks, Fills, AllStopFor}
+use Rattle.gg_compile_code.specs.Going.{ProgramGoes}
 use Rattle.gg_compile_laws.specs.Rooms.{HasRooms}
 
 -- A valid program whose trees have room, whose names can be spelled, and whose numbers, offsets and labels are longwords.
@@ -29,21 +27,10 @@ pub record HasReadyTrees (q : TreeProgram) : Type 0 where
   pub names : CanWrite q
   pub longwords : EachTree (λ (w : List Leaf). AllByRecursion (λ (l : Leaf). IsSpelled q l.att) w) q
 
--- Whichever tree one names, it doesn't stop the program's code: its parse neither blocks nor turns, and its frame isn't full.
-pub record StopsNowhere (q : TreeProgram) (d : Content) : Type 0 where
-  pub blocks : (function tree : ℕ) → StopsAt vax d q (Blocks vax d q) function tree → ⊥
-  pub fills : (function tree : ℕ) → StopsAt vax d q (Fills vax d q) function tree → ⊥
-
 -- By a description whose rules were shown on the VAX, and whose typed statements never stop a parse, no tree of such a program stops its
--- code.
-abbrev pub NoTreeStops : Type 0
-NoTreeStops = (q : TreeProgram) (d : Content) → HasReadyTrees q → IsFit vax d → NeverStops d → StopsNowhere q d
-
--- So where the making of its code ends with a fault, memory was wanting.
-abbrev pub OnlyMemoryStops : Type 0
-OnlyMemoryStops =
-    (q : TreeProgram) (d : Content) (e : AssembleFault) → HasReadyTrees q → IsFit vax d → NeverStops d → AllStopFor vax d q e
-    → e ≡ faults.NoMemory
+-- code: its parse neither blocks nor turns, and its frame isn't full.
+abbrev pub TreesGo : Type 0
+TreesGo = (q : TreeProgram) (d : Content) → HasReadyTrees q → IsFit vax d → NeverStops d → ProgramGoes vax d q
 
 -- By the tables of such a description each tree has a code.
 abbrev pub EachTreeHasCode : Type 0

@@ -1,7 +1,7 @@
 // The laws. The functions do nothing; their clauses are the laws.
 ghost use Rattle.gg_compile_laws.specs.Keeping.{SelectedCodesKeepPrograms};
 ghost use Rattle.gg_compile_laws.specs.Rooms.{LoweredProgramsHaveRooms};
-ghost use Rattle.gg_compile_laws.specs.Ready.{NoTreeStops, OnlyMemoryStops, EachTreeHasCode};
+ghost use Rattle.gg_compile_laws.specs.Ready.{TreesGo, EachTreeHasCode};
 ghost use Rattle.gg_compile_laws.specs.Typed.{TypedProgramsAreWithinLimits, TypedProgramsAreReady, TypedCodesKeepPrograms};
 ghost use Rattle.gg_compile_laws.specs.Written.{SelectedCodesCanBeWritten, SelectedProgramsCanBeWritten, TypedCodesCanBeWritten};
 
@@ -11,13 +11,8 @@ pub fn selected_codes_keep_programs()
 {}
 
 /// The law: no tree of a program that is ready stops its code.
-pub fn no_tree_stops()
-    ensures { NoTreeStops }
-{}
-
-/// The law: so `assemble` of such a program is refused for want of memory alone.
-pub fn only_memory_stops()
-    ensures { OnlyMemoryStops }
+pub fn trees_go()
+    ensures { TreesGo }
 {}
 
 /// The law: by such tables each of its trees has a code.

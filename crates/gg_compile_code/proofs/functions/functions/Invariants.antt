@@ -1,11 +1,8 @@
-use Rattle.std.proofs.Common.{◌≡◌, take}
+use Rattle.std.proofs.Common.{take}
 use Rattle.vax_target_meaning.specs.Vax.{vax}
 use Rattle.gg_compile_code.specs.Selecting.{AreSelectedFunctions}
 use Rattle.gg_compile_code.proofs.functions.functions.Given as goal
 
--- the code of the functions so far, and their number
+-- the code of the functions so far
 abbrev pub invariant-loop-f : goal.invariant-loop-f
-invariant-loop-f l = record {
-  code : AreSelectedFunctions vax l.generator.tables.content l.program (take l.f-index l.program.functions) l.code.items;
-  number : l.number ≡ l.f-index;
-}
+invariant-loop-f l = AreSelectedFunctions vax l.generator.tables.content l.program (take l.f-index l.program.functions) l.code.items

@@ -1,5 +1,5 @@
-use Rattle.gg_compile_laws.proofs.Stopping as law
-use Rattle.gg_compile_laws.proofs.laws.no_tree_stops.Goals as goal
+use Rattle.gg_compile_laws.proofs.Going as law
+use Rattle.gg_compile_laws.proofs.laws.trees_go.Goals as goal
 
 pub returns : goal.returns
-returns c = law.no_tree_stops
+returns c = law.trees_go
