@@ -16,14 +16,15 @@ use Rattle.lr_tables.specs.Promises.{HasTooManySets}
 use Rattle.lr_checked.specs.declared.checking.CheckFault.{CheckFault}
 use Rattle.lr_checked.specs.declared.checking.CheckFault.TheVariants as faults
 use Rattle.lr_checked.specs.Accepted.{NeverStops}
-use Rattle.lr_checked.specs.Refusals.{FaultIsReal}
+use Rattle.lr_checked.specs.Counted.{HasTooManySums}
+use Rattle.lr_checked.specs.Refusals.{FaultIsReal, SumsAreFirst}
+use Rattle.lr_checked.proofs.Refusing.{is_stopped, none_stops}
 use Rattle.sel_parse.specs.Shown.{Refusal}
 use Rattle.cmd_check.specs.Descriptions.{description_limit, description_form, IsAccepted, BuildRefused, TooMany, StarvedBuild, NotRead, NotBuilt, NotAccepted, NoTables, Stopped, NoRules}
 use Rattle.cmd_check.specs.Rules.{vax_refusal, refusal_status, RulesRefused, NotShown, StarvedShow}
 use Rattle.cmd_check.specs.Stops.{stop_status, TellsStop}
 use Rattle.cmd_check.specs.Outcome.{Builds, Leaves}
-use Rattle.cmd_check.specs.Exact.{MayAnswer, IsStop, Refuses, Answers}
-use Rattle.cmd_check.proofs.Samples.{not_blocking, not_looping}
+use Rattle.cmd_check.specs.Exact.{IsStop, Refuses, Answers}
 
 -- how a description can be refused without a counted fault
 pub data OfDescription (result : Status) (file : File) : Type 0 where
@@ -31,9 +32,9 @@ pub data OfDescription (result : Status) (file : File) : Type 0 where
   Wrong : (is : result ≡ statuses.DescRefused) (line : List ℕ) (wrong : HoldsNone description_form file line) → OfDescription result file
   Full : (is : result ≡ statuses.Full) (d : Content) (holds : Holds description_form file d) (many : HasTooManySets d) → OfDescription result file
   Stops : (d : Content) (fault : CheckFault) (is : result ≡ stop_status fault) (holds : Holds description_form file d) (few : ¬ HasTooManySets d)
-      (real : FaultIsReal d fault) → OfDescription result file
+      (real : FaultIsReal d fault) (sums : SumsAreFirst d fault) → OfDescription result file
   Unshown : (d : Content) (r : Refusal) (is : result ≡ refusal_status r) (holds : Holds description_form file d) (few : ¬ HasTooManySets d)
-      (never : NeverStops d) (first : vax_refusal d ≡ Some r) → OfDescription result file
+      (sums : ¬ HasTooManySums d) (never : NeverStops d) (first : vax_refusal d ≡ Some r) → OfDescription result file
 
 -- what reading a description may come to without a counted fault
 pub data Comes (result : Status) (file : File) : Type 0 where
@@ -64,23 +65,22 @@ module _ (result : Status) (name : List ℕ) (folder : Lookup) (report : Change)
   of_tables d holds (StarvedBuild starved) = inl starved.0
 
   of_fault : (d : Content) → Holds description_form (folder.holds name) d → ¬ HasTooManySets d → (fault : CheckFault) → FaultIsReal d fault
-      → TellsStop fault result report → IsNot result (folder.holds name)
-  of_fault d holds few faults.NoMemory real starved = inl starved.0
-  of_fault d holds few (faults.Blocks nodes) real said = told _ _ said (λ is. Stops d (faults.Blocks nodes) is holds few real)
-  of_fault d holds few (faults.Loops nodes) real said = told _ _ said (λ is. Stops d (faults.Loops nodes) is holds few real)
-  of_fault d holds few faults.CheckFull real said = told _ _ said (λ is. Stops d faults.CheckFull is holds few real)
-  of_fault d holds few faults.Unshown real said = told _ _ said (λ is. Stops d faults.Unshown is holds few real)
+      → SumsAreFirst d fault → TellsStop fault result report → IsNot result (folder.holds name)
+  of_fault d holds few faults.NoMemory real sums starved = inl starved.0
+  of_fault d holds few (faults.Blocks nodes) real sums said = told _ _ said (λ is. Stops d (faults.Blocks nodes) is holds few real sums)
+  of_fault d holds few (faults.Loops nodes) real sums said = told _ _ said (λ is. Stops d (faults.Loops nodes) is holds few real sums)
+  of_fault d holds few faults.CheckFull real sums said = told _ _ said (λ is. Stops d faults.CheckFull is holds few real sums)
 
-  of_rules : (d : Content) → Holds description_form (folder.holds name) d → ¬ HasTooManySets d → NeverStops d → RulesRefused d result report
+  of_rules : (d : Content) → Holds description_form (folder.holds name) d → ¬ HasTooManySets d → ¬ HasTooManySums d → NeverStops d → RulesRefused d result report
       → IsNot result (folder.holds name)
-  of_rules d holds few never (NotShown r first said) = told _ _ said (λ is. Unshown d r is holds few never first)
-  of_rules d holds few never (StarvedShow starved) = inl starved.0
+  of_rules d holds few sums never (NotShown r first said) = told _ _ said (λ is. Unshown d r is holds few sums never first)
+  of_rules d holds few sums never (StarvedShow starved) = inl starved.0
 
   pub of_description : (Fails name folder → ⊥) → NotAccepted name folder result report → IsNot result (folder.holds name)
   of_description unfailed (NoTables (NotRead r)) = of_file unfailed r
   of_description unfailed (NoTables (NotBuilt d holds kept r)) = of_tables d holds r
-  of_description unfailed (Stopped d holds kept few r) = of_fault d holds few r.fault r.real r.told
-  of_description unfailed (NoRules d holds kept few never r) = of_rules d holds few never r
+  of_description unfailed (Stopped d holds kept few r) = of_fault d holds few r.fault r.real r.sums r.told
+  of_description unfailed (NoRules d holds kept few sums never r) = of_rules d holds few sums never r
 
 -- ---- each refusal
 
@@ -100,8 +100,8 @@ module _ (result : Status) (file : File) where
   long h (Refused (Long is longer)) = inl is
   long h (Refused (Wrong is line wrong)) = absurd (long_not_wrong description_form file line h wrong)
   long h (Refused (Full is d holds many)) = absurd (long_no_item description_form file d h holds)
-  long h (Refused (Stops d fault is holds few real)) = absurd (long_no_item description_form file d h holds)
-  long h (Refused (Unshown d r is holds few never first)) = absurd (long_no_item description_form file d h holds)
+  long h (Refused (Stops d fault is holds few real sums)) = absurd (long_no_item description_form file d h holds)
+  long h (Refused (Unshown d r is holds few sums never first)) = absurd (long_no_item description_form file d h holds)
   long h (Accepted d holds accepted) = absurd (long_no_item description_form file d h holds)
 
   wrong_file : IsNoItem description_form file → Comes result file → IsAnswer statuses.DescRefused result
@@ -109,8 +109,8 @@ module _ (result : Status) (file : File) where
   wrong_file h (Refused (Long is longer)) = absurd (none_not_long description_form file h longer)
   wrong_file h (Refused (Wrong is line wrong)) = inl is
   wrong_file h (Refused (Full is d holds many)) = absurd (none_no_item description_form file d h holds)
-  wrong_file h (Refused (Stops d fault is holds few real)) = absurd (none_no_item description_form file d h holds)
-  wrong_file h (Refused (Unshown d r is holds few never first)) = absurd (none_no_item description_form file d h holds)
+  wrong_file h (Refused (Stops d fault is holds few real sums)) = absurd (none_no_item description_form file d h holds)
+  wrong_file h (Refused (Unshown d r is holds few sums never first)) = absurd (none_no_item description_form file d h holds)
   wrong_file h (Accepted d holds accepted) = absurd (none_no_item description_form file d h holds)
 
   full : (d : Content) → IsItem description_form file d → HasTooManySets d → Comes result file → IsAnswer statuses.Full result
@@ -118,45 +118,60 @@ module _ (result : Status) (file : File) where
   full d h many (Refused (Long is longer)) = absurd (item_not_long description_form file d h longer)
   full d h many (Refused (Wrong is line wrong)) = absurd (item_not_wrong description_form file d line h wrong)
   full d h many (Refused (Full is e holds more)) = inl is
-  full d h many (Refused (Stops e fault is holds few real)) = absurd (few (read HasTooManySets d e h holds many))
-  full d h many (Refused (Unshown e r is holds few never first)) = absurd (few (read HasTooManySets d e h holds many))
+  full d h many (Refused (Stops e fault is holds few real sums)) = absurd (few (read HasTooManySets d e h holds many))
+  full d h many (Refused (Unshown e r is holds few sums never first)) = absurd (few (read HasTooManySets d e h holds many))
   full d h many (Accepted e holds accepted) = absurd (accepted.few (read HasTooManySets d e h holds many))
 
-  stop_of : (fault : CheckFault) → result ≡ stop_status fault → IsStop result
-  stop_of faults.NoMemory is = inl (inl (inr is))
-  stop_of (faults.Blocks nodes) is = inl (inl (inl is))
-  stop_of (faults.Loops nodes) is = inr is
-  stop_of faults.CheckFull is = inl (inr (inl is))
-  stop_of faults.Unshown is = inl (inr (inr is))
+  full_of : (d : Content) (fault : CheckFault) → HasTooManySums d → SumsAreFirst d fault → result ≡ stop_status fault → IsAnswer statuses.Full result
+  full_of d faults.NoMemory many sums is = inr is
+  full_of d (faults.Blocks nodes) many sums is = absurd (sums many)
+  full_of d (faults.Loops nodes) many sums is = absurd (sums many)
+  full_of d faults.CheckFull many sums is = inl is
 
-  stops : (d : Content) → IsItem description_form file d → ¬ HasTooManySets d → ¬ NeverStops d → Comes result file → IsStop result
-  stops d h few not (Memory is) = inl (inl (inr is))
-  stops d h few not (Refused (Long is longer)) = absurd (item_not_long description_form file d h longer)
-  stops d h few not (Refused (Wrong is line wrong)) = absurd (item_not_wrong description_form file d line h wrong)
-  stops d h few not (Refused (Full is e holds many)) = absurd (read (λ (x : Content). ¬ HasTooManySets x) d e h holds few many)
-  stops d h few not (Refused (Stops e fault is holds less real)) = stop_of fault is
-  stops d h few not (Refused (Unshown e r is holds less never first)) = absurd (read (λ (x : Content). ¬ NeverStops x) d e h holds not never)
-  stops d h few not (Accepted e holds accepted) = absurd (read (λ (x : Content). ¬ NeverStops x) d e h holds not accepted.never)
+  many_sums : (d : Content) → IsItem description_form file d → HasTooManySums d → Comes result file → IsAnswer statuses.Full result
+  many_sums d h many (Memory is) = inr is
+  many_sums d h many (Refused (Long is longer)) = absurd (item_not_long description_form file d h longer)
+  many_sums d h many (Refused (Wrong is line wrong)) = absurd (item_not_wrong description_form file d line h wrong)
+  many_sums d h many (Refused (Full is e holds more)) = inl is
+  many_sums d h many (Refused (Stops e fault is holds few real sums)) = full_of e fault (read HasTooManySums d e h holds many) sums is
+  many_sums d h many (Refused (Unshown e r is holds few sums never first)) = absurd (sums (read HasTooManySums d e h holds many))
+  many_sums d h many (Accepted e holds accepted) = absurd (accepted.sums (read HasTooManySums d e h holds many))
 
-  -- where no typed statement stops the parse, the check came to no end
-  undecided : (d : Content) (fault : CheckFault) (status : Status) → NeverStops d → FaultIsReal d fault → result ≡ stop_status fault → MayAnswer status result
-  undecided d faults.NoMemory status never real is = inl (inr is)
-  undecided d (faults.Blocks nodes) status never real is = absurd (not_blocking d nodes never real)
-  undecided d (faults.Loops nodes) status never real is = absurd (not_looping d nodes never real)
-  undecided d faults.CheckFull status never real is = inr (inl is)
-  undecided d faults.Unshown status never real is = inr (inr is)
+  stop_of : (d : Content) (fault : CheckFault) → ¬ HasTooManySums d → SumsAreFirst d fault → result ≡ stop_status fault → IsStop result
+  stop_of d faults.NoMemory few sums is = inl (inr is)
+  stop_of d (faults.Blocks nodes) few sums is = inl (inl is)
+  stop_of d (faults.Loops nodes) few sums is = inr is
+  stop_of d faults.CheckFull few sums is = absurd (few sums)
 
-  unshown : (d : Content) (r : Refusal) → IsItem description_form file d → ¬ HasTooManySets d → NeverStops d → vax_refusal d ≡ Some r → Comes result file
-      → MayAnswer (refusal_status r) result
-  unshown d r h few never first (Memory is) = inl (inr is)
-  unshown d r h few never first (Refused (Long is longer)) = absurd (item_not_long description_form file d h longer)
-  unshown d r h few never first (Refused (Wrong is line wrong)) = absurd (item_not_wrong description_form file d line h wrong)
-  unshown d r h few never first (Refused (Full is e holds many)) = absurd (read (λ (x : Content). ¬ HasTooManySets x) d e h holds few many)
-  unshown d r h few never first (Refused (Stops e fault is holds less real)) =
-      undecided e fault (refusal_status r) (read NeverStops d e h holds never) real is
-  unshown d r h few never first (Refused (Unshown e q is holds less same one)) =
-      inl (inl (is ∙ ap refusal_status (other (vax_refusal e) q r one (read (λ (x : Content). vax_refusal x ≡ Some r) d e h holds first))))
-  unshown d r h few never first (Accepted e holds accepted) =
+  stops : (d : Content) → IsItem description_form file d → ¬ HasTooManySets d → ¬ HasTooManySums d → ¬ NeverStops d → Comes result file → IsStop result
+  stops d h few no_more not (Memory is) = inl (inr is)
+  stops d h few no_more not (Refused (Long is longer)) = absurd (item_not_long description_form file d h longer)
+  stops d h few no_more not (Refused (Wrong is line wrong)) = absurd (item_not_wrong description_form file d line h wrong)
+  stops d h few no_more not (Refused (Full is e holds many)) = absurd (read (λ (x : Content). ¬ HasTooManySets x) d e h holds few many)
+  stops d h few no_more not (Refused (Stops e fault is holds less real sums)) =
+      stop_of e fault (read (λ (x : Content). ¬ HasTooManySums x) d e h holds no_more) sums is
+  stops d h few no_more not (Refused (Unshown e r is holds less sums never first)) = absurd (read (λ (x : Content). ¬ NeverStops x) d e h holds not never)
+  stops d h few no_more not (Accepted e holds accepted) = absurd (read (λ (x : Content). ¬ NeverStops x) d e h holds not accepted.never)
+
+  -- tables by which no typed statement stops the parse, and whose summaries are few, are refused for want of memory alone
+  starved : (d : Content) (fault : CheckFault) (status : Status) → ¬ HasTooManySums d → NeverStops d → FaultIsReal d fault → SumsAreFirst d fault
+      → result ≡ stop_status fault → IsAnswer status result
+  starved d faults.NoMemory status few never real sums is = inr is
+  starved d (faults.Blocks nodes) status few never real sums is = absurd (none_stops d never (is_stopped d (faults.Blocks nodes) real))
+  starved d (faults.Loops nodes) status few never real sums is = absurd (none_stops d never (is_stopped d (faults.Loops nodes) real))
+  starved d faults.CheckFull status few never real sums is = absurd (few sums)
+
+  unshown : (d : Content) (r : Refusal) → IsItem description_form file d → ¬ HasTooManySets d → ¬ HasTooManySums d → NeverStops d → vax_refusal d ≡ Some r
+      → Comes result file → IsAnswer (refusal_status r) result
+  unshown d r h few no_more never first (Memory is) = inr is
+  unshown d r h few no_more never first (Refused (Long is longer)) = absurd (item_not_long description_form file d h longer)
+  unshown d r h few no_more never first (Refused (Wrong is line wrong)) = absurd (item_not_wrong description_form file d line h wrong)
+  unshown d r h few no_more never first (Refused (Full is e holds many)) = absurd (read (λ (x : Content). ¬ HasTooManySets x) d e h holds few many)
+  unshown d r h few no_more never first (Refused (Stops e fault is holds less real sums)) =
+      starved e fault (refusal_status r) (read (λ (x : Content). ¬ HasTooManySums x) d e h holds no_more) (read NeverStops d e h holds never) real sums is
+  unshown d r h few no_more never first (Refused (Unshown e q is holds less sums same one)) =
+      inl (is ∙ ap refusal_status (other (vax_refusal e) q r one (read (λ (x : Content). vax_refusal x ≡ Some r) d e h holds first)))
+  unshown d r h few no_more never first (Accepted e holds accepted) =
       absurd (none_some (vax_refusal e) r accepted.shown (read (λ (x : Content). vax_refusal x ≡ Some r) d e h holds first))
 
   pub refuses : Comes result file → Refuses result file
@@ -164,17 +179,19 @@ module _ (result : Status) (file : File) where
     long = λ h. long h c;
     wrong = λ h. wrong_file h c;
     full = λ d h many. full d h many c;
-    stops = λ d h few not. stops d h few not c;
-    unshown = λ d r h few never first. unshown d r h few never first c;
+    many_sums = λ d h few many. many_sums d h many c;
+    stops = λ d h few no_more not. stops d h few no_more not c;
+    unshown = λ d r h few no_more never first. unshown d r h few no_more never first c;
   }
 
-  -- an accepted description is refused only where the check came to no end
-  pub not_refused : (d : Content) (status : Status) → IsItem description_form file d → IsAccepted d → OfDescription result file → MayAnswer status result
+  -- an accepted description is refused for want of memory alone
+  pub not_refused : (d : Content) (status : Status) → IsItem description_form file d → IsAccepted d → OfDescription result file → IsAnswer status result
   not_refused d status h a (Long is longer) = absurd (item_not_long description_form file d h longer)
   not_refused d status h a (Wrong is line wrong) = absurd (item_not_wrong description_form file d line h wrong)
   not_refused d status h a (Full is e holds many) = absurd (read (λ (x : Content). ¬ HasTooManySets x) d e h holds a.few many)
-  not_refused d status h a (Stops e fault is holds few real) = undecided e fault status (read NeverStops d e h holds a.never) real is
-  not_refused d status h a (Unshown e r is holds few never first) =
+  not_refused d status h a (Stops e fault is holds few real sums) =
+      starved e fault status (read (λ (x : Content). ¬ HasTooManySums x) d e h holds a.sums) (read NeverStops d e h holds a.never) real sums is
+  not_refused d status h a (Unshown e r is holds few sums never first) =
       absurd (none_some (vax_refusal e) r (read (λ (x : Content). vax_refusal x ≡ None) d e h holds a.shown) first)
 
 -- ---- the command
@@ -196,13 +213,13 @@ kinds statuses.TooLong name at l n = Before (Long refl l.longer)
 kinds statuses.SourceRefused name at l n = absurd l
 kinds statuses.DescRefused name at l n = Before (Wrong refl l.line l.wrong)
 kinds statuses.Full name at (inl l) n = Before (Full refl l.description l.finds.holds l.many)
-kinds statuses.Full name at (inr l) n = Before (Stops l.description faults.CheckFull refl l.finds.holds l.few l.real)
+kinds statuses.Full name at (inr l) n = Before (Stops l.description faults.CheckFull refl l.finds.holds l.few l.real l.sums)
 kinds statuses.Blocks name at l n =
-    Before (Stops l.stops.description (faults.Blocks l.sample) refl l.stops.finds.holds l.stops.few l.stops.real)
+    Before (Stops l.stops.description (faults.Blocks l.sample) refl l.stops.finds.holds l.stops.few l.stops.real l.stops.sums)
 kinds statuses.Loops name at l n =
-    Before (Stops l.stops.description (faults.Loops l.sample) refl l.stops.finds.holds l.stops.few l.stops.real)
-kinds statuses.PoolSmall name at l n = Before (Unshown l.description l.refusal (sym l.status_is) l.finds.holds l.few l.never l.first)
-kinds statuses.Unshown name at l n = Before (Unshown l.description l.refusal (sym l.status_is) l.finds.holds l.few l.never l.first)
+    Before (Stops l.stops.description (faults.Loops l.sample) refl l.stops.finds.holds l.stops.few l.stops.real l.stops.sums)
+kinds statuses.PoolSmall name at l n = Before (Unshown l.description l.refusal (sym l.status_is) l.finds.holds l.few l.sums l.never l.first)
+kinds statuses.Unshown name at l n = Before (Unshown l.description l.refusal (sym l.status_is) l.finds.holds l.few l.sums l.never l.first)
 kinds statuses.FrameFull name at l n = absurd l
 kinds statuses.AsmRefused name at l n = absurd l
 kinds statuses.Spent name at l n = absurd l
@@ -210,7 +227,6 @@ kinds statuses.Trapped name at l n = absurd l
 kinds statuses.Wild name at l n = absurd l
 kinds statuses.Deep name at l n = absurd l
 kinds statuses.Broken name at l n = absurd l
-kinds statuses.Unproved name at l n = Before (Stops l.description faults.Unshown refl l.finds.holds l.few l.real)
 
 comes : (result : Status) (name : List ℕ) (at : Outside) → Kind result name at → Comes result (at.folder.holds name)
 comes result name at (Starved is) = Memory is
@@ -218,10 +234,10 @@ comes result name at (Before of) = Refused of
 comes result name at (Built is t builds) = Accepted t.content builds.finds.holds builds.accepted
 
 done : (result : Status) (name : List ℕ) (at : Outside) (d : Content) → IsItem description_form (at.folder.holds name) d → IsAccepted d
-    → Kind result name at → MayAnswer statuses.Done result
-done result name at d h a (Starved is) = inl (inr is)
+    → Kind result name at → IsAnswer statuses.Done result
+done result name at d h a (Starved is) = inr is
 done result name at d h a (Before of) = not_refused result (at.folder.holds name) d statuses.Done h a of
-done result name at d h a (Built is t builds) = inl (inl is)
+done result name at d h a (Built is t builds) = inl is
 
 pub exactly : (result : Status) (name : List ℕ) (at : Outside) → Leaves result name at → HasNoFault name at → Answers result name at
 exactly result name at leaves none =

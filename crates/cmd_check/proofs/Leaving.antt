@@ -14,7 +14,8 @@ use Rattle.lr_tables.specs.View.{TableView}
 use Rattle.lr_checked.specs.declared.checking.CheckFault.{CheckFault}
 use Rattle.lr_checked.specs.declared.checking.CheckFault.TheVariants as faults
 use Rattle.lr_checked.specs.Accepted.{NeverStops}
-use Rattle.lr_checked.specs.Refusals.{FaultIsReal}
+use Rattle.lr_checked.specs.Counted.{HasTooManySums}
+use Rattle.lr_checked.specs.Refusals.{FaultIsReal, SumsAreFirst}
 use Rattle.cmd_check.specs.Lines.{ok_line, tables_line}
 use Rattle.cmd_check.specs.Rules.{vax_refusal, refusal_lines, refusal_status, RulesRefused, NotShown, StarvedShow}
 use Rattle.cmd_check.specs.Descriptions.{description_form, BuildRefused, TooMany, StarvedBuild, TablesRefused, NotRead, NotBuilt, NotAccepted}
@@ -71,12 +72,13 @@ tables_refused status name at (NotBuilt d holds unfailed r) untouched = build_re
 
 -- what is left where the tables were refused and the fault told
 stops : (fault : CheckFault) (name : List ℕ) (at : Outside) (d : Content) → Holds description_form (at.folder.holds name) d → IsUnfailed at.folder
-    → (HasTooManySets d → ⊥) → FaultIsReal d fault → IsUntouched at.out → Reports at.report (stop_lines fault) → Stops fault name at
-stops fault name at d holds unfailed few real untouched told = record {
+    → (HasTooManySets d → ⊥) → FaultIsReal d fault → SumsAreFirst d fault → IsUntouched at.out → Reports at.report (stop_lines fault) → Stops fault name at
+stops fault name at d holds unfailed few real sums untouched told = record {
   description = d;
   finds = record { holds = holds; unfailed = unfailed };
   few = few;
   real = real;
+  sums = sums;
   untouched = untouched;
   told = told;
 }
@@ -87,27 +89,25 @@ told_or_starved result status line name at unfailed untouched (inl told) go = at
 told_or_starved result status line name at unfailed untouched (inr starved) go = stopped result name at starved (inl unfailed) untouched
 
 stop_refused : (result : Status) (name : List ℕ) (at : Outside) (d : Content) → Holds description_form (at.folder.holds name) d → IsUnfailed at.folder
-    → (HasTooManySets d → ⊥) → (fault : CheckFault) → FaultIsReal d fault → TellsStop fault result at.report → IsUntouched at.out → Leaves result name at
-stop_refused result name at d holds unfailed few faults.NoMemory real told untouched = stopped result name at told (inl unfailed) untouched
-stop_refused result name at d holds unfailed few (faults.Blocks nodes) real told untouched =
+    → (HasTooManySets d → ⊥) → (fault : CheckFault) → FaultIsReal d fault → SumsAreFirst d fault → TellsStop fault result at.report → IsUntouched at.out → Leaves result name at
+stop_refused result name at d holds unfailed few faults.NoMemory real sums told untouched = stopped result name at told (inl unfailed) untouched
+stop_refused result name at d holds unfailed few (faults.Blocks nodes) real sums told untouched =
     told_or_starved result statuses.Blocks _ name at unfailed untouched told
-    (λ line. record { sample = nodes; stops = stops (faults.Blocks nodes) name at d holds unfailed few real untouched line })
-stop_refused result name at d holds unfailed few (faults.Loops nodes) real told untouched =
+    (λ line. record { sample = nodes; stops = stops (faults.Blocks nodes) name at d holds unfailed few real sums untouched line })
+stop_refused result name at d holds unfailed few (faults.Loops nodes) real sums told untouched =
     told_or_starved result statuses.Loops _ name at unfailed untouched told
-    (λ line. record { sample = nodes; stops = stops (faults.Loops nodes) name at d holds unfailed few real untouched line })
-stop_refused result name at d holds unfailed few faults.CheckFull real told untouched =
+    (λ line. record { sample = nodes; stops = stops (faults.Loops nodes) name at d holds unfailed few real sums untouched line })
+stop_refused result name at d holds unfailed few faults.CheckFull real sums told untouched =
     told_or_starved result statuses.Full _ name at unfailed untouched told
-    (λ line. inr (stops faults.CheckFull name at d holds unfailed few real untouched line))
-stop_refused result name at d holds unfailed few faults.Unshown real told untouched =
-    told_or_starved result statuses.Unproved _ name at unfailed untouched told
-    (λ line. stops faults.Unshown name at d holds unfailed few real untouched line)
+    (λ line. inr (stops faults.CheckFull name at d holds unfailed few real sums untouched line))
 
 not_shown : (r : Refusal) (name : List ℕ) (at : Outside) (d : Content) → Holds description_form (at.folder.holds name) d → IsUnfailed at.folder
-    → (HasTooManySets d → ⊥) → NeverStops d → vax_refusal d ≡ Some r → Reports at.report (refusal_lines r) → IsUntouched at.out → Leaves (refusal_status r) name at
-not_shown (PoolSmall rule need) name at d holds unfailed few never first told untouched = record {
+    → (HasTooManySets d → ⊥) → (HasTooManySums d → ⊥) → NeverStops d → vax_refusal d ≡ Some r → Reports at.report (refusal_lines r) → IsUntouched at.out → Leaves (refusal_status r) name at
+not_shown (PoolSmall rule need) name at d holds unfailed few sums never first told untouched = record {
   description = d;
   finds = record { holds = holds; unfailed = unfailed };
   few = few;
+  sums = sums;
   never = never;
   refusal = PoolSmall rule need;
   first = first;
@@ -115,10 +115,11 @@ not_shown (PoolSmall rule need) name at d holds unfailed few never first told un
   untouched = untouched;
   told = told;
 }
-not_shown (Template rule line kind) name at d holds unfailed few never first told untouched = record {
+not_shown (Template rule line kind) name at d holds unfailed few sums never first told untouched = record {
   description = d;
   finds = record { holds = holds; unfailed = unfailed };
   few = few;
+  sums = sums;
   never = never;
   refusal = Template rule line kind;
   first = first;
@@ -126,10 +127,11 @@ not_shown (Template rule line kind) name at d holds unfailed few never first tol
   untouched = untouched;
   told = told;
 }
-not_shown (Unshown rule wanted found) name at d holds unfailed few never first told untouched = record {
+not_shown (Unshown rule wanted found) name at d holds unfailed few sums never first told untouched = record {
   description = d;
   finds = record { holds = holds; unfailed = unfailed };
   few = few;
+  sums = sums;
   never = never;
   refusal = Unshown rule wanted found;
   first = first;
@@ -139,13 +141,13 @@ not_shown (Unshown rule wanted found) name at d holds unfailed few never first t
 }
 
 rules_refused : (status : Status) (name : List ℕ) (at : Outside) (d : Content) → Holds description_form (at.folder.holds name) d → IsUnfailed at.folder
-    → (HasTooManySets d → ⊥) → NeverStops d → RulesRefused d status at.report → IsUntouched at.out → Leaves status name at
-rules_refused status name at d holds unfailed few never (NotShown r first (inl told)) untouched =
-    at_status status (refusal_status r) name at told.0 (not_shown r name at d holds unfailed few never first told.1 untouched)
-rules_refused status name at d holds unfailed few never (NotShown r first (inr starved)) untouched = stopped status name at starved (inl unfailed) untouched
-rules_refused status name at d holds unfailed few never (StarvedShow starved) untouched = stopped status name at starved (inl unfailed) untouched
+    → (HasTooManySets d → ⊥) → (HasTooManySums d → ⊥) → NeverStops d → RulesRefused d status at.report → IsUntouched at.out → Leaves status name at
+rules_refused status name at d holds unfailed few sums never (NotShown r first (inl told)) untouched =
+    at_status status (refusal_status r) name at told.0 (not_shown r name at d holds unfailed few sums never first told.1 untouched)
+rules_refused status name at d holds unfailed few sums never (NotShown r first (inr starved)) untouched = stopped status name at starved (inl unfailed) untouched
+rules_refused status name at d holds unfailed few sums never (StarvedShow starved) untouched = stopped status name at starved (inl unfailed) untouched
 
 pub refused : (status : Status) (name : List ℕ) (at : Outside) → NotAccepted name at.folder status at.report → IsUntouched at.out → Leaves status name at
 refused status name at (NoTables r) untouched = tables_refused status name at r untouched
-refused status name at (Stopped d holds unfailed few r) untouched = stop_refused status name at d holds unfailed few r.fault r.real r.told untouched
-refused status name at (NoRules d holds unfailed few never r) untouched = rules_refused status name at d holds unfailed few never r untouched
+refused status name at (Stopped d holds unfailed few r) untouched = stop_refused status name at d holds unfailed few r.fault r.real r.sums r.told untouched
+refused status name at (NoRules d holds unfailed few sums never r) untouched = rules_refused status name at d holds unfailed few sums never r untouched

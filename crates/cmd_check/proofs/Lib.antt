@@ -1,4 +1,4 @@
-pub mod Samples
 pub mod Leaving
 pub mod Exactly
 pub mod Telling
+pub mod Accepting

@@ -14,6 +14,7 @@ use Rattle.md_reader.specs.Desc.{Desc}
 use Rattle.md_reader.specs.First.{IsFirst}
 use Rattle.lr_tables.specs.Promises.{HasTooManySets}
 use Rattle.lr_checked.specs.Accepted.{NeverStops}
+use Rattle.lr_checked.specs.Counted.{HasTooManySums}
 use Rattle.cmd_check.specs.Lines.{wrong_line, full_line}
 use Rattle.cmd_check.specs.Stops.{StopRefused}
 use Rattle.cmd_check.specs.Rules.{vax_refusal, RulesRefused}
@@ -39,9 +40,11 @@ description_form = record {
   of_files = tt;
 }
 
--- a description is accepted: it has tables, by which no typed statement stops the parse, and all its rules are shown
+-- a description is accepted: it has tables, with no more than 4,000,000 summaries, by which no typed statement stops the parse, and all
+-- its rules are shown
 pub record IsAccepted (d : Content) : Type 0 where
   pub few : ¬ HasTooManySets d
+  pub sums : ¬ HasTooManySums d
   pub never : NeverStops d
   pub shown : vax_refusal d ≡ None
 
@@ -62,4 +65,4 @@ pub data NotAccepted (name : List ℕ) (folder : Lookup) (status : Status) (repo
   Stopped : (d : Content) (holds : Holds description_form (folder.holds name) d) (unfailed : IsUnfailed folder) (few : ¬ HasTooManySets d)
       (refused : StopRefused d status report) → NotAccepted name folder status report
   NoRules : (d : Content) (holds : Holds description_form (folder.holds name) d) (unfailed : IsUnfailed folder) (few : ¬ HasTooManySets d)
-      (never : NeverStops d) (refused : RulesRefused d status report) → NotAccepted name folder status report
+      (sums : ¬ HasTooManySums d) (never : NeverStops d) (refused : RulesRefused d status report) → NotAccepted name folder status report

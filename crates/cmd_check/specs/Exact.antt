@@ -8,35 +8,29 @@ use Rattle.cmd_files.specs.Exact.{IsLongFile, IsNoItem, IsItem, IsAnswer}
 use Rattle.md_reader.specs.State.{Content}
 use Rattle.lr_tables.specs.Promises.{HasTooManySets}
 use Rattle.lr_checked.specs.Accepted.{NeverStops}
+use Rattle.lr_checked.specs.Counted.{HasTooManySums}
 use Rattle.sel_parse.specs.Shown.{Refusal}
 use Rattle.cmd_check.specs.Descriptions.{description_limit, description_form, IsAccepted}
 use Rattle.cmd_check.specs.Rules.{vax_refusal, refusal_status}
 
--- the check of the tables came to no end: it found too many summaries, or its answer is not shown
-abbrev pub IsUndecided : Status → Type 0
-IsUndecided result = (result ≡ statuses.Full) ⊎ (result ≡ statuses.Unproved)
-
--- the answer is this status, or memory ran out, or the check came to no end
-abbrev pub MayAnswer : Status → Status → Type 0
-MayAnswer status result = IsAnswer status result ⊎ IsUndecided result
-
 -- some typed statement blocks, or one loops
 abbrev pub IsStop : Status → Type 0
-IsStop result = MayAnswer statuses.Blocks result ⊎ (result ≡ statuses.Loops)
+IsStop result = IsAnswer statuses.Blocks result ⊎ (result ≡ statuses.Loops)
 
 -- each status that refuses a description, where its cause is there
 pub record Refuses (result : Status) (file : File) : Type 0 where
   pub long : IsLongFile description_limit file → IsAnswer statuses.TooLong result
   pub wrong : IsNoItem description_form file → IsAnswer statuses.DescRefused result
   pub full : (d : Content) → IsItem description_form file d → HasTooManySets d → IsAnswer statuses.Full result
-  pub stops : (d : Content) → IsItem description_form file d → ¬ HasTooManySets d → ¬ NeverStops d → IsStop result
-  pub unshown : (d : Content) (r : Refusal) → IsItem description_form file d → ¬ HasTooManySets d → NeverStops d → vax_refusal d ≡ Some r
-      → MayAnswer (refusal_status r) result
+  pub many_sums : (d : Content) → IsItem description_form file d → ¬ HasTooManySets d → HasTooManySums d → IsAnswer statuses.Full result
+  pub stops : (d : Content) → IsItem description_form file d → ¬ HasTooManySets d → ¬ HasTooManySums d → ¬ NeverStops d → IsStop result
+  pub unshown : (d : Content) (r : Refusal) → IsItem description_form file d → ¬ HasTooManySets d → ¬ HasTooManySums d → NeverStops d
+      → vax_refusal d ≡ Some r → IsAnswer (refusal_status r) result
 
 -- each status where its cause is there
 pub record Answers (result : Status) (name : List ℕ) (at : Outside) : Type 0 where
   pub refuses : Refuses result (at.folder.holds name)
-  pub done : (d : Content) → IsItem description_form (at.folder.holds name) d → IsAccepted d → MayAnswer statuses.Done result
+  pub done : (d : Content) → IsItem description_form (at.folder.holds name) d → IsAccepted d → IsAnswer statuses.Done result
 
 abbrev pub IsExact : Status → List ℕ → Outside → Type 0
 IsExact result name at = HasNoFault name at → Answers result name at

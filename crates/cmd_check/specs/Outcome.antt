@@ -13,7 +13,8 @@ use Rattle.lr_check.specs.Tree.{Node}
 use Rattle.lr_checked.specs.declared.checking.CheckFault.{CheckFault}
 use Rattle.lr_checked.specs.declared.checking.CheckFault.TheVariants as faults
 use Rattle.lr_checked.specs.Accepted.{NeverStops}
-use Rattle.lr_checked.specs.Refusals.{FaultIsReal}
+use Rattle.lr_checked.specs.Counted.{HasTooManySums}
+use Rattle.lr_checked.specs.Refusals.{FaultIsReal, SumsAreFirst}
 use Rattle.sel_parse.specs.Shown.{Refusal}
 use Rattle.cmd_check.specs.Lines.{full_line, tables_line}
 use Rattle.cmd_check.specs.Stops.{stop_lines}
@@ -46,12 +47,14 @@ pub record IsFull (name : List ℕ) (at : Outside) : Type 0 where
   pub untouched : IsUntouched at.out
   pub told : Reports at.report full_line
 
--- the description has tables, which were refused for this fault: with a typed statement that blocks or loops, where it has a sample
+-- the description has tables, which were refused for this fault: with a typed statement that blocks or loops, where it has a sample, or
+-- for too many summaries, and only for these where there are too many
 pub record Stops (fault : CheckFault) (name : List ℕ) (at : Outside) : Type 0 where
   pub description : Content
   pub finds : Finds name at description
   pub few : ¬ HasTooManySets description
   pub real : FaultIsReal description fault
+  pub sums : SumsAreFirst description fault
   pub untouched : IsUntouched at.out
   pub told : Reports at.report (stop_lines fault)
 
@@ -68,6 +71,7 @@ pub record IsNotShown (status : Status) (name : List ℕ) (at : Outside) : Type 
   pub description : Content
   pub finds : Finds name at description
   pub few : ¬ HasTooManySets description
+  pub sums : ¬ HasTooManySums description
   pub never : NeverStops description
   pub refusal : Refusal
   pub first : vax_refusal description ≡ Some refusal
@@ -118,4 +122,3 @@ Leaves statuses.Trapped name at = ⊥
 Leaves statuses.Wild name at = ⊥
 Leaves statuses.Deep name at = ⊥
 Leaves statuses.Broken name at = ⊥
-Leaves statuses.Unproved name at = Stops faults.Unshown name at

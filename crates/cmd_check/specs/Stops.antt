@@ -8,7 +8,7 @@ use Rattle.md_reader.specs.State.{Content}
 use Rattle.lr_checked.specs.declared.checking.CheckFault.{CheckFault}
 use Rattle.lr_checked.specs.declared.checking.CheckFault.TheVariants as faults
 use Rattle.lr_checked.specs.Lines.{sample_lines}
-use Rattle.lr_checked.specs.Refusals.{FaultIsReal}
+use Rattle.lr_checked.specs.Refusals.{FaultIsReal, SumsAreFirst}
 
 -- the lines of a fault: of one with a sample, its nodes stand behind
 abbrev pub stop_lines : CheckFault → List ℕ
@@ -16,14 +16,12 @@ stop_lines faults.NoMemory = []
 stop_lines (faults.Blocks nodes) = codes "ggvax: blocks\n" ++ sample_lines nodes
 stop_lines (faults.Loops nodes) = codes "ggvax: loops\n" ++ sample_lines nodes
 stop_lines faults.CheckFull = codes "ggvax: more than 4000000 summaries\n"
-stop_lines faults.Unshown = codes "ggvax: the description could not be decided\n"
 
 abbrev pub stop_status : CheckFault → Status
 stop_status faults.NoMemory = statuses.NoMemory
 stop_status (faults.Blocks nodes) = statuses.Blocks
 stop_status (faults.Loops nodes) = statuses.Loops
 stop_status faults.CheckFull = statuses.Full
-stop_status faults.Unshown = statuses.Unproved
 
 -- a fault was told
 abbrev pub TellsStop : CheckFault → Status → Change → Type 0
@@ -31,10 +29,10 @@ TellsStop faults.NoMemory status report = IsStarved status report
 TellsStop (faults.Blocks nodes) status report = IsRefused statuses.Blocks (stop_lines (faults.Blocks nodes)) status report
 TellsStop (faults.Loops nodes) status report = IsRefused statuses.Loops (stop_lines (faults.Loops nodes)) status report
 TellsStop faults.CheckFull status report = IsRefused statuses.Full (stop_lines faults.CheckFull) status report
-TellsStop faults.Unshown status report = IsRefused statuses.Unproved (stop_lines faults.Unshown) status report
 
 -- the tables of a description were refused: with a typed statement that blocks or loops, where the fault has a sample
 pub record StopRefused (d : Content) (status : Status) (report : Change) : Type 0 where
   pub fault : CheckFault
   pub real : FaultIsReal d fault
+  pub sums : SumsAreFirst d fault
   pub told : TellsStop fault status report

@@ -2,6 +2,7 @@
 ghost use Rattle.std.specs.Prelude.{◌≡◌, ◌++◌, IfOk, IfErr, OnOk};
 ghost use Rattle.cmd_session.specs.Writing.{change};
 ghost use Rattle.lr_checked.specs.Accepted.{NeverStops};
+ghost use Rattle.lr_checked.specs.Counted.{HasTooManySums};
 ghost use Rattle.lr_checked.specs.Lines.{sample_lines};
 ghost use Rattle.cmd_check.specs.Stops.{TellsStop, StopRefused};
 
@@ -41,11 +42,6 @@ fn tell_stop<E: Sink>(alloc: Global, fault: &CheckFault, report: &mut E) -> Stat
             b"ggvax: more than 4000000 summaries\n",
             Status::Full,
         ),
-        CheckFault::Unshown => refuse(
-            report,
-            b"ggvax: the description could not be decided\n",
-            Status::Unproved,
-        ),
     }
 }
 
@@ -60,9 +56,11 @@ fn tell_refused<E: Sink>(alloc: Global, refused: (Tables, CheckFault), report: &
 pub fn checked<E: Sink>(alloc: Global, tables: Tables, report: &mut E) -> Result<Checked, Status>
     ensures tables { IfOk result (λ c. c ≡ tables) }
     ensures never { OnOk result (NeverStops tables.content) }
+    ensures sums { OnOk result (¬ HasTooManySums tables.content) }
     ensures untold { OnOk result (report.new ≡ report.old) }
     ensures refused { IfErr result (λ status. StopRefused tables.content status (change E.told E.faults report.old report.new)) }
 {
+    tables.is_numbered();
     match check(alloc, tables) {
         Ok(checked) => Ok(checked),
         Err(refused) => Err(tell_refused(alloc, refused, report)),

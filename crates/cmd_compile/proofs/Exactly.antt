@@ -8,11 +8,10 @@ use Rattle.cmd_session.specs.Telling.{IsRefused}
 use Rattle.cmd_files.specs.Forms.{Holds, HoldsNone}
 use Rattle.cmd_files.specs.Outsides.{Outside}
 use Rattle.cmd_files.specs.Stages.{FileRefused, Unread, LongFile, WrongFile, StarvedFile, OutputRefused, CutOutput, StarvedOutput}
-use Rattle.cmd_files.specs.Exact.{IsLongFile, IsNoItem, IsItem}
+use Rattle.cmd_files.specs.Exact.{IsLongFile, IsNoItem, IsItem, IsAnswer}
 use Rattle.cmd_files.proofs.Exactly.{long_no_item, long_not_wrong, item_not_long, none_not_long, none_no_item, item_not_wrong, same_item}
 use Rattle.md_reader.specs.State.{Content}
 use Rattle.c_program.specs.Programs.{AProgram}
-use Rattle.cmd_check.specs.Exact.{MayAnswer}
 use Rattle.cmd_check.proofs.Exactly as check
 use Rattle.cmd_check.proofs.Exactly.{OfDescription, Comes, IsNot, of_description, not_refused, refuses}
 use Rattle.cmd_meaning.specs.Sources.{source_limit, source_form}
@@ -73,25 +72,25 @@ module _ (result : Status) (names : Files) (at : Outside) where
   kind_of n (NotWritten d p finds text is_text r) = of_output n text r
   kind_of n (Written is w) = Behind w.description w.finds.description (Done is w.program w.finds.holds w.is_text.fit)
 
-  -- an accepted description is refused only where the check came to no end
-  before : (d : Content) (status : Status) → Works names at d → OfDescription result (at.folder.holds names.description) → MayAnswer status result
+  -- an accepted description is refused for want of memory alone
+  before : (d : Content) (status : Status) → Works names at d → OfDescription result (at.folder.holds names.description) → IsAnswer status result
   before d status w of = not_refused result (at.folder.holds names.description) d status w.item w.accepted of
 
   long_source : (d : Content) → Works names at d → IsLongFile source_limit (at.folder.holds names.source) → Kind result names at
-      → MayAnswer statuses.TooLong result
-  long_source d w h (Memory is) = inl (inr is)
+      → IsAnswer statuses.TooLong result
+  long_source d w h (Memory is) = inr is
   long_source d w h (Before of) = before d statuses.TooLong w of
-  long_source d w h (Behind e finds (LongSource is longer)) = inl (inl is)
+  long_source d w h (Behind e finds (LongSource is longer)) = inl is
   long_source d w h (Behind e finds (WrongSource is line wrong)) = absurd (long_not_wrong source_form (at.folder.holds names.source) line h wrong)
   long_source d w h (Behind e finds (Over p holds f k is over)) = absurd (long_no_item source_form (at.folder.holds names.source) p h holds)
   long_source d w h (Behind e finds (Done is p holds fit)) = absurd (long_no_item source_form (at.folder.holds names.source) p h holds)
 
   wrong_source : (d : Content) → Works names at d → IsNoItem source_form (at.folder.holds names.source) → Kind result names at
-      → MayAnswer statuses.SourceRefused result
-  wrong_source d w h (Memory is) = inl (inr is)
+      → IsAnswer statuses.SourceRefused result
+  wrong_source d w h (Memory is) = inr is
   wrong_source d w h (Before of) = before d statuses.SourceRefused w of
   wrong_source d w h (Behind e finds (LongSource is longer)) = absurd (none_not_long source_form (at.folder.holds names.source) h longer)
-  wrong_source d w h (Behind e finds (WrongSource is line wrong)) = inl (inl is)
+  wrong_source d w h (Behind e finds (WrongSource is line wrong)) = inl is
   wrong_source d w h (Behind e finds (Over p holds f k is over)) = absurd (none_no_item source_form (at.folder.holds names.source) p h holds)
   wrong_source d w h (Behind e finds (Done is p holds fit)) = absurd (none_no_item source_form (at.folder.holds names.source) p h holds)
 
@@ -104,24 +103,24 @@ module _ (result : Status) (names : Files) (at : Outside) where
   over_not_fit : (p : AProgram) (function need : ℕ) → IsFirstOver p function need → AllFit p → ⊥
   over_not_fit p function need o fit = omega (arith, o.over, o.need_is, fit function o.there)
 
-  over : (p : AProgram) (function need : ℕ) → Given names at p → IsFirstOver p function need → Kind result names at → MayAnswer statuses.FrameFull result
-  over p function need g o (Memory is) = inl (inr is)
+  over : (p : AProgram) (function need : ℕ) → Given names at p → IsFirstOver p function need → Kind result names at → IsAnswer statuses.FrameFull result
+  over p function need g o (Memory is) = inr is
   over p function need g o (Before of) = before g.description statuses.FrameFull g.works of
   over p function need g o (Behind e finds (LongSource is longer)) = absurd (item_not_long source_form (at.folder.holds names.source) p g.item longer)
   over p function need g o (Behind e finds (WrongSource is line wrong)) =
       absurd (item_not_wrong source_form (at.folder.holds names.source) p line g.item wrong)
-  over p function need g o (Behind e finds (Over q holds f k is same)) = inl (inl is)
+  over p function need g o (Behind e finds (Over q holds f k is same)) = inl is
   over p function need g o (Behind e finds (Done is q holds fit)) =
       absurd (over_not_fit q function need (given (λ (x : AProgram). IsFirstOver x function need) p q g.item holds o) fit)
 
-  fits : (p : AProgram) → Given names at p → AllFit p → Kind result names at → MayAnswer statuses.Done result
-  fits p g fit (Memory is) = inl (inr is)
+  fits : (p : AProgram) → Given names at p → AllFit p → Kind result names at → IsAnswer statuses.Done result
+  fits p g fit (Memory is) = inr is
   fits p g fit (Before of) = before g.description statuses.Done g.works of
   fits p g fit (Behind e finds (LongSource is longer)) = absurd (item_not_long source_form (at.folder.holds names.source) p g.item longer)
   fits p g fit (Behind e finds (WrongSource is line wrong)) =
       absurd (item_not_wrong source_form (at.folder.holds names.source) p line g.item wrong)
   fits p g fit (Behind e finds (Over q holds f k is o)) = absurd (over_not_fit q f k o (given AllFit p q g.item holds fit))
-  fits p g fit (Behind e finds (Done is q holds less)) = inl (inl is)
+  fits p g fit (Behind e finds (Done is q holds less)) = inl is
 
 pub exactly : (result : Status) (names : Files) (at : Outside) → Leaves result names at → HasNoFaults names at → Answers result names at
 exactly result names at leaves none =

@@ -3,11 +3,11 @@ use Rattle.std.specs.Prelude.{ℕ}
 use Rattle.cmd_session.specs.declared.status.Status.{Status}
 use Rattle.cmd_session.specs.declared.status.Status.TheVariants as statuses
 use Rattle.cmd_files.specs.Outsides.{Outside, HasNoFault}
-use Rattle.cmd_files.specs.Exact.{IsLongFile, IsNoItem, IsItem}
+use Rattle.cmd_files.specs.Exact.{IsLongFile, IsNoItem, IsItem, IsAnswer}
 use Rattle.md_reader.specs.State.{Content}
 use Rattle.c_program.specs.Programs.{AProgram}
 use Rattle.cmd_check.specs.Descriptions.{description_form, IsAccepted}
-use Rattle.cmd_check.specs.Exact.{MayAnswer, Refuses}
+use Rattle.cmd_check.specs.Exact.{Refuses}
 use Rattle.cmd_meaning.specs.Sources.{source_limit, source_form}
 use Rattle.gg_compile.specs.Needs.{AllFit, IsFirstOver}
 use Rattle.cmd_compile.specs.Outcome.{Files}
@@ -27,12 +27,12 @@ pub record Given (names : Files) (at : Outside) (p : AProgram) : Type 0 where
 pub record Answers (result : Status) (names : Files) (at : Outside) : Type 0 where
   pub description : Refuses result (at.folder.holds names.description)
   pub long_source : (d : Content) → Works names at d → IsLongFile source_limit (at.folder.holds names.source)
-      → MayAnswer statuses.TooLong result
+      → IsAnswer statuses.TooLong result
   pub no_source : (d : Content) → Works names at d → IsNoItem source_form (at.folder.holds names.source)
-      → MayAnswer statuses.SourceRefused result
-  pub over : (p : AProgram) (function need : ℕ) → Given names at p → IsFirstOver p function need → MayAnswer statuses.FrameFull result
+      → IsAnswer statuses.SourceRefused result
+  pub over : (p : AProgram) (function need : ℕ) → Given names at p → IsFirstOver p function need → IsAnswer statuses.FrameFull result
   -- a program whose functions fit is answered by its text
-  pub fits : (p : AProgram) → Given names at p → AllFit p → MayAnswer statuses.Done result
+  pub fits : (p : AProgram) → Given names at p → AllFit p → IsAnswer statuses.Done result
 
 -- no fault was counted: the folder's list gained neither name, and the count of no output rose
 pub record HasNoFaults (names : Files) (at : Outside) : Type 0 where

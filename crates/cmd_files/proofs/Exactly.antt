@@ -60,7 +60,6 @@ kinds form runner statuses.Trapped call l n f = ran form runner statuses.Trapped
 kinds form runner statuses.Wild call l n f = ran form runner statuses.Wild call _ l.ran refl
 kinds form runner statuses.Deep call l n f = ran form runner statuses.Deep call _ l.ran refl
 kinds form runner statuses.Broken call l n f = ran form runner statuses.Broken call _ l.halted.ran refl
-kinds form runner statuses.Unproved call l n f = absurd l
 
 -- told bytes are the only ones
 that_is : (file : Content) (b c : List ℕ) → file ≡ Stored b → IsThat file c → c ≡ b

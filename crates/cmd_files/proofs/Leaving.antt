@@ -38,7 +38,6 @@ as_refused form runner statuses.Trapped call of is why = absurd of
 as_refused form runner statuses.Wild call of is why = absurd of
 as_refused form runner statuses.Deep call of is why = absurd of
 as_refused form runner statuses.Broken call of is why = absurd of
-as_refused form runner statuses.Unproved call of is why = absurd of
 
 -- a statement of a status carries over to an equal one
 at_status : {A : Type 0} (form : Form A) (runner : Runner A) (result status : Status) (call : Call) → result ≡ status → Leaves form runner status call → Leaves form runner result call

@@ -30,7 +30,6 @@ IsOfFiles statuses.Trapped = ⊥
 IsOfFiles statuses.Wild = ⊥
 IsOfFiles statuses.Deep = ⊥
 IsOfFiles statuses.Broken = ⊥
-IsOfFiles statuses.Unproved = ⊥
 
 -- a form of files: the longest one, which bytes are which item's, and the lines that refuse other bytes, with their status
 pub record Form (A : Type 0) : Type 1 where

@@ -40,7 +40,6 @@ module _ (result : Status) where
   of_stop (stops.Blocks nodes) report said = told _ _ report tt said
   of_stop (stops.Loops nodes) report said = told _ _ report tt said
   of_stop stops.CheckFull report said = told _ _ report tt said
-  of_stop stops.Unshown report said = told _ _ report tt said
 
   refusal_may : (r : Refusal) → MayCome (refusal_status r)
   refusal_may (PoolSmall rule need) = tt
@@ -55,7 +54,7 @@ module _ (result : Status) where
   of_description name folder report (NoTables (NotRead r)) = of_file name folder report r
   of_description name folder report (NoTables (NotBuilt d holds kept r)) = of_build d report r
   of_description name folder report (Stopped d holds kept few r) = of_stop r.fault report r.told
-  of_description name folder report (NoRules d holds kept few never r) = of_rules d report r
+  of_description name folder report (NoRules d holds kept few sums never r) = of_rules d report r
 
   of_output : (bytes : List ℕ) (out report : Change) → OutputRefused bytes result out report → MayCome result
   of_output bytes out report (CutOutput e cut said) = is statuses.WriteFault tt e

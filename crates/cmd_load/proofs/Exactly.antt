@@ -5,10 +5,9 @@ use Rattle.cmd_session.specs.declared.status.Status.TheVariants as statuses
 use Rattle.cmd_session.specs.Telling.{IsRefused}
 use Rattle.cmd_files.specs.Outsides.{Outside, HasNoFault}
 use Rattle.cmd_files.specs.Stages.{OutputRefused, CutOutput, StarvedOutput}
-use Rattle.cmd_files.specs.Exact.{IsItem}
+use Rattle.cmd_files.specs.Exact.{IsItem, IsAnswer}
 use Rattle.md_reader.specs.State.{Content}
 use Rattle.cmd_check.specs.Descriptions.{description_form, IsAccepted}
-use Rattle.cmd_check.specs.Exact.{MayAnswer}
 use Rattle.cmd_check.proofs.Exactly as check
 use Rattle.cmd_check.proofs.Exactly.{Comes, IsNot, of_description, not_refused, refuses}
 use Rattle.cmd_load.specs.declared.summary.Summary.{Summary}
@@ -18,11 +17,11 @@ use Rattle.cmd_load.specs.Exact.{Answers}
 
 -- what may be answered by an accepted description
 abbrev Works : Status → Type 0
-Works result = MayAnswer statuses.Done result ⊎ (result ≡ statuses.Spent)
+Works result = IsAnswer statuses.Done result ⊎ (result ≡ statuses.Spent)
 
 module _ (result : Status) (name : List ℕ) (at : Outside) (none : HasNoFault name at) where
   starved : result ≡ statuses.NoMemory → Works result
-  starved is = inl (inl (inr is))
+  starved is = inl (inr is)
 
   of_output : (bytes : List ℕ) → OutputRefused bytes result at.out at.report → Works result
   of_output bytes (CutOutput is cut told) = absurd (none.of_out cut.rises)
@@ -33,7 +32,7 @@ module _ (result : Status) (name : List ℕ) (at : Outside) (none : HasNoFault n
   of_spent line (inr lack) = starved lack.0
 
   of_summary : (summary : Summary) → SummaryTold summary result at.report → Works result
-  of_summary summary (Whole is told) = inl (inl (inl is))
+  of_summary summary (Whole is told) = inl (inl is)
   of_summary summary (Cut is cut) = absurd (none.of_report cut.rises)
   of_summary summary (StarvedSummary lack) = starved lack.0
 
@@ -51,7 +50,7 @@ module _ (result : Status) (name : List ℕ) (at : Outside) (none : HasNoFault n
   comes k (NoDescription untouched r) = of_refused (of_description result name at.folder at.report none.of_folder r)
   comes k (Behind d finds loads) = check.Accepted d finds.holds finds.accepted
 
-  -- an accepted description is refused only where the check came to no end
+  -- an accepted description is refused for want of memory alone
   before : (d : Content) → IsItem description_form (at.folder.holds name) d → IsAccepted d → IsNot result (at.folder.holds name) → Works result
   before d item accepted (inl is) = starved is
   before d item accepted (inr of) = inl (not_refused result (at.folder.holds name) d statuses.Done item accepted of)

@@ -97,4 +97,3 @@ MayCome statuses.Trapped = ⊥
 MayCome statuses.Wild = ⊥
 MayCome statuses.Deep = ⊥
 MayCome statuses.Broken = ⊥
-MayCome statuses.Unproved = Unit {0}

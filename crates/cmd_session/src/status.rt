@@ -45,6 +45,4 @@ pub enum Status {
     Deep = 19,
     /// The run of a code broke.
     Broken = 20,
-    /// The check of the description's tables came to no answer: not yet proved never to come.
-    Unproved = 24,
 }

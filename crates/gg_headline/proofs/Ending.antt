@@ -51,7 +51,6 @@ module _ (result : Status) (report : Change) where
   of_stop (checking.Blocks nodes) t = told statuses.Blocks _ t tt
   of_stop (checking.Loops nodes) t = told statuses.Loops _ t tt
   of_stop checking.CheckFull t = told statuses.Full _ t tt
-  of_stop checking.Unshown t = told statuses.Unproved _ t tt
 
   of_refusal : (r : Refusal) → IsRefusal (refusal_status r)
   of_refusal (PoolSmall rule need) = tt
@@ -66,7 +65,7 @@ module _ (result : Status) (report : Change) where
   of_description name folder (NoTables (NotRead r)) = of_description_file name folder r
   of_description name folder (NoTables (NotBuilt d holds kept r)) = of_build d r
   of_description name folder (Stopped d holds kept few r) = of_stop r.fault r.told
-  of_description name folder (NoRules d holds kept few never r) = of_rules d r
+  of_description name folder (NoRules d holds kept few sums never r) = of_rules d r
 
   of_text : (p : AProgram) → HasNoText p result report → IsRefusal result
   of_text p (FrameIsFull function need over t) = told statuses.FrameFull _ t tt

@@ -2,4 +2,8 @@ pub mod Trees
 pub mod Counting
 pub mod Never
 pub mod Printing
-pub mod Fewer
+pub mod Tables
+pub mod Typed
+pub mod Stopping
+pub mod Refusing
+pub mod Drawn

@@ -1,6 +1,8 @@
 -- How many sums a description has at most.
-use Rattle.std.specs.Prelude.{ℕ, ◌≤◌}
+use Rattle.std.specs.Prelude.{◌≡◌, ℕ, ◌≤◌}
+use Rattle.md_reader.specs.State.{Content}
 use Rattle.lr_tables.specs.View.{TableView}
+use Rattle.lr_tables.specs.Promises.{IsNumbered}
 use Rattle.lr_check_sets.specs.Table.{automaton_of}
 use Rattle.lr_check_found.specs.Count.{HasMore}
 
@@ -8,3 +10,10 @@ use Rattle.lr_check_found.specs.Count.{HasMore}
 pub record IsCounted (t : TableView) (n : ℕ) : Type 0 where
   pub few : HasMore (automaton_of t) n → ⊥
   pub within : n ≤ 4000000
+
+-- a description's tables, of which there is one alone, have more than 4,000,000 sums
+pub record HasTooManySums (d : Content) : Type 0 where
+  pub tables : TableView
+  pub of : tables.content ≡ d
+  pub numbered : IsNumbered tables
+  pub many : HasMore (automaton_of tables) 4000000

@@ -1,5 +1,6 @@
 pub mod Accepted
+pub mod Counted
 pub mod Refusals
 pub mod Claims
 pub mod Lines
-pub mod Counted
+pub mod Samples

@@ -1,39 +1,71 @@
--- What a refusal says: its sample is a well-typed statement whose parse blocks, or loops, with its own answers.
-use Rattle.std.specs.Prelude.{ℕ, List}
+-- What a refusal says: its sample is a well-typed statement whose parse blocks, or turns for ever, by its own answers.
+use Rattle.std.specs.Prelude.{ℕ, ◌≤◌, List, [], length}
 use Rattle.md_reader.specs.State.{Content}
+use Rattle.lr_tables.specs.Statements.{stmt_of}
 use Rattle.lr_check.specs.declared.sample.Outcome.TheVariants as outcome
-use Rattle.lr_check.specs.Tree.{Node}
-use Rattle.lr_check.specs.Parse.{Replays}
+use Rattle.lr_check.specs.Tree.{Node, Token, IsTree}
+use Rattle.lr_check.specs.Parse.{Ends, Replays}
 use Rattle.lr_check.specs.Statement.{IsStatement}
+use Rattle.lr_check_parse.specs.Typed as typed
 use Rattle.lr_check_sets.specs.Automaton.{Automaton}
 use Rattle.lr_check_found.specs.Count.{HasMore}
+use Rattle.lr_check_samples.specs.Stops.{Blocks, Loops, EndsAt, EndsTurning}
 use Rattle.lr_checked.specs.declared.checking.CheckFault.{CheckFault}
 use Rattle.lr_checked.specs.declared.checking.CheckFault.TheVariants as faults
+use Rattle.lr_checked.specs.Accepted.{tokens}
+use Rattle.lr_checked.specs.Counted.{HasTooManySums}
 
--- its parse blocks before a token
+-- a well-typed statement whose parse, by its own answers, comes to a stack at which nothing is taken
 pub record Blocking (d : Content) (nodes : List Node) : Type 0 where
   pub statement : IsStatement nodes
-  pub at : ℕ
-  pub parse : Replays d nodes (outcome.Blocks at)
+  pub leaves : List Token
+  pub tree : IsTree nodes leaves
+  pub blocks : Blocks d leaves
+  -- the parse that ends at the first stack that comes twice ends there, or at such a stack before
+  pub ends : EndsAt d leaves
+  -- of a tree that isn't too long for it `replay` says that it blocks
+  pub replay : length leaves ≤ 100000 → (at : ℕ) × Replays d nodes (outcome.Blocks at)
 
--- its parse comes to the same stack again before a token
+-- a well-typed statement whose parse, by its own answers, comes to the same stack again without a shift between
 pub record Looping (d : Content) (nodes : List Node) : Type 0 where
   pub statement : IsStatement nodes
-  pub at : ℕ
-  pub parse : Replays d nodes (outcome.Loops at)
+  pub leaves : List Token
+  pub tree : IsTree nodes leaves
+  pub loops : Loops d leaves
+  pub ends : EndsTurning d leaves
+  pub replay : length leaves ≤ 100000 → (at : ℕ) × Replays d nodes (outcome.Loops at)
 
--- `NoMemory`, `CheckFull` and `Unshown` have no sample
+-- `NoMemory` and `CheckFull` have no sample
 abbrev pub FaultIsReal : Content → CheckFault → Type 0
 FaultIsReal d faults.NoMemory = Unit {0}
 FaultIsReal d faults.CheckFull = Unit {0}
-FaultIsReal d faults.Unshown = Unit {0}
 FaultIsReal d (faults.Blocks nodes) = Blocking d nodes
 FaultIsReal d (faults.Loops nodes) = Looping d nodes
+
+-- the parse of some typed statement, with some answers, doesn't accept: it ends blocked, or at a stack that came before
+pub data SomeStops (d : Content) : Type 0 where
+  some_blocks : (w : List Token) (at : ℕ) → typed.IsStatement (tokens w) →
+      Ends d.rules (stmt_of d.classes) 0 [] w [] (outcome.Blocks at) → SomeStops d
+  some_loops : (w : List Token) (at : ℕ) → typed.IsStatement (tokens w) →
+      Ends d.rules (stmt_of d.classes) 0 [] w [] (outcome.Loops at) → SomeStops d
+
+-- Where no tables come out, some typed statement stops the parse, want of memory and too many sums apart.
+abbrev pub IsStopped : Content → CheckFault → Type 0
+IsStopped d faults.NoMemory = Unit {0}
+IsStopped d faults.CheckFull = Unit {0}
+IsStopped d (faults.Blocks nodes) = SomeStops d
+IsStopped d (faults.Loops nodes) = SomeStops d
 
 -- `CheckFull` says that there are more than 4,000,000 sums; where another refusal comes there are not, unless there was no memory
 abbrev pub FullIsFirst : Automaton → CheckFault → Type 0
 FullIsFirst A faults.NoMemory = Unit {0}
 FullIsFirst A faults.CheckFull = HasMore A 4000000
-FullIsFirst A faults.Unshown = HasMore A 4000000 → ⊥
 FullIsFirst A (faults.Blocks nodes) = HasMore A 4000000 → ⊥
 FullIsFirst A (faults.Loops nodes) = HasMore A 4000000 → ⊥
+
+-- the same of the description
+abbrev pub SumsAreFirst : Content → CheckFault → Type 0
+SumsAreFirst d faults.NoMemory = Unit {0}
+SumsAreFirst d faults.CheckFull = HasTooManySums d
+SumsAreFirst d (faults.Blocks nodes) = HasTooManySums d → ⊥
+SumsAreFirst d (faults.Loops nodes) = HasTooManySums d → ⊥

@@ -1,31 +1,34 @@
 // Whether some tree blocks the parser or makes it turn for ever.
-ghost use Rattle.std.specs.Prelude.{◌≡◌, IfOk, IfErr};
+ghost use Rattle.std.specs.Prelude.{◌≡◌, IfOk, IfErr, MatchResult};
 ghost use Rattle.lr_check_sets.specs.Table.{automaton_of};
 ghost use Rattle.lr_check_found.specs.Count.{HasMore};
+ghost use Rattle.lr_check_found.specs.Sound.{IsFound};
+ghost use Rattle.lr_check_flaws.specs.Flaws.{IsFlaw};
+ghost use Rattle.lr_check_drawn.specs.Sampled.{IsSampleOf};
 ghost use Rattle.lr_checked.specs.Accepted.{NeverStops};
 ghost use Rattle.lr_checked.specs.Counted.{IsCounted};
-ghost use Rattle.lr_checked.specs.Refusals.{FaultIsReal, FullIsFirst};
+ghost use Rattle.lr_checked.specs.Refusals.{FaultIsReal, SomeStops, IsStopped, FullIsFirst};
+ghost use Rattle.lr_checked.specs.Samples.{refusal_of};
 
 use crate::laws::no_fault_is_enough;
 use gg_base::NoMemory;
-use lr_check::{Outcome, Sample, SampleNode, is_statement, replay};
-use lr_check_complete::complete;
-use lr_check_found::Stop;
-use lr_check_work::{Finding, Node, find_fault};
+use lr_check::{Outcome, Sample, replay};
+use lr_check_decided::{Decision, decide};
+use lr_check_drawn::draw;
+use lr_check_flaws::Flaw;
+use lr_check_found::Found;
 use lr_tables::Tables;
 use std::alloc::Global;
 use std::marker::Model;
 
-/// Why tables are refused: there is no memory; some tree blocks the parser, or makes it turn for ever;
-/// there are more than 4,000,000 ways in which symbols may replace a subtree; or no tree is shown, which is
-/// not known to come.
+/// Why tables are refused: there is no memory; some tree blocks the parser, or makes it turn for ever; or
+/// there are more than 4,000,000 ways in which symbols may replace a subtree.
 #[derive(Drop)]
 pub enum CheckFault {
     NoMemory,
     Blocks(Sample),
     Loops(Sample),
     CheckFull,
-    Unshown,
 }
 
 /// Tables by which each typed statement is parsed to its end, whatever its questions answer.
@@ -76,51 +79,43 @@ impl Checked {
     }
 }
 
-// The nodes as a sample.
-fn sample_of(alloc: Global, nodes: Vec<Node>) -> Result<Sample, NoMemory> {
-    let mut held = Vec::new(alloc);
-    for node in nodes {
-        held.push(SampleNode::new(node.tok, node.kids, node.answers))?;
+// What a sample of the flaw shows where its replay says neither.
+fn unreplayed(flaw: &Flaw, sample: Sample) -> CheckFault
+    ensures { result ≡ refusal_of flaw.now sample }
+{
+    match flaw {
+        Flaw::Gap(_) | Flaw::Dead(_) => CheckFault::Blocks(sample),
+        Flaw::Circle(_, _) => CheckFault::Loops(sample),
     }
-    Ok(Sample::new(held))
 }
 
-// The refusal that the sample shows.
-fn refusal(alloc: Global, tables: &Tables, sample: Sample) -> CheckFault
+// The refusal that a sample of the flaw shows.
+fn refusal(alloc: Global, tables: &Tables, flaw: &Flaw, sample: Sample) -> CheckFault
+    requires { IsSampleOf tables.now.content flaw.now sample }
     ensures real { FaultIsReal tables.now.content result }
     ensures few { (HasMore (automaton_of tables.now) 4000000 → ⊥) → FullIsFirst (automaton_of tables.now) result }
 {
-    if !is_statement(&sample) {
-        return CheckFault::Unshown;
-    }
+    tables.is_numbered();
+    tables.description().is_valid();
     match replay(alloc, tables, &sample) {
         Ok(Outcome::Blocks(_)) => CheckFault::Blocks(sample),
         Ok(Outcome::Loops(_)) => CheckFault::Loops(sample),
-        Ok(_) => CheckFault::Unshown,
+        Ok(Outcome::Long) => unreplayed(flaw, sample),
+        Ok(Outcome::Done) => unreplayed(flaw, sample),
         Err(NoMemory) => CheckFault::NoMemory,
     }
 }
 
-// The refusal that the tree with the nodes shows.
-fn shown(alloc: Global, tables: &Tables, nodes: Vec<Node>) -> CheckFault
+// The refusal that a flaw of what was found shows.
+fn refused(alloc: Global, tables: &Tables, found: &Found, flaw: &Flaw) -> CheckFault
+    requires found { IsFound (automaton_of tables.now) found.now }
+    requires flaw { IsFlaw (automaton_of tables.now) found.now flaw.now }
     ensures real { FaultIsReal tables.now.content result }
     ensures few { (HasMore (automaton_of tables.now) 4000000 → ⊥) → FullIsFirst (automaton_of tables.now) result }
 {
-    match sample_of(alloc, nodes) {
-        Ok(sample) => refusal(alloc, tables, sample),
-        Err(_) => CheckFault::NoMemory,
-    }
-}
-
-// The refusal of tables that are not accepted, once all of the sets is found or they are too large.
-fn refused(alloc: Global, tables: &Tables, nodes: Vec<Node>) -> CheckFault
-    ensures real { FaultIsReal tables.now.content result }
-    ensures full { FullIsFirst (automaton_of tables.now) result }
-{
-    match complete(alloc, tables) {
-        Ok(_) => shown(alloc, tables, nodes),
-        Err(Stop::Full) => CheckFault::CheckFull,
-        Err(Stop::NoMemory) => CheckFault::NoMemory,
+    match draw(alloc, tables, found, flaw) {
+        Ok(nodes) => refusal(alloc, tables, flaw, Sample::new(nodes)),
+        Err(NoMemory) => CheckFault::NoMemory,
     }
 }
 
@@ -134,13 +129,12 @@ fn verdict(alloc: Global, tables: &Tables) -> Result<usize, CheckFault>
     tables.is_numbered();
     tables.description().is_valid();
     no_fault_is_enough();
-    let nodes = match find_fault(alloc, tables) {
-        Ok(Finding::Fine(tuples)) => return Ok(tuples),
-        Ok(Finding::Faulty(nodes)) => nodes,
-        Ok(_) => Vec::new(alloc),
-        Err(_) => return Err(CheckFault::NoMemory),
-    };
-    Err(refused(alloc, tables, nodes))
+    match decide(alloc, tables) {
+        Ok(Decision::Fine(tuples)) => Ok(tuples),
+        Ok(Decision::Faulty(found, flaw)) => Err(refused(alloc, tables, &found, &flaw)),
+        Ok(Decision::Full) => Err(CheckFault::CheckFull),
+        Err(NoMemory) => Err(CheckFault::NoMemory),
+    }
 }
 
 /// The tables, if no tree blocks the parser or makes it turn for ever, whatever its questions answer; or
@@ -154,6 +148,8 @@ pub fn check(alloc: Global, tables: Tables) -> Result<Checked, (Tables, CheckFau
     ensures back { IfErr result (λ e. e.0 ≡ tables) }
     // The sample of a refusal is a typed statement whose parse blocks, or loops, with its own answers.
     ensures real { IfErr result (λ e. FaultIsReal tables.content e.1) }
+    // Want of memory and too many tuples apart, tables are accepted exactly where no typed statement stops the parse.
+    ensures exact { MatchResult result (λ c. SomeStops tables.content → ⊥) (λ e. IsStopped tables.content e.1) }
     // `CheckFull` comes exactly where there are more than 4,000,000 tuples, before any other fault but memory.
     ensures full { IfErr result (λ e. FullIsFirst (automaton_of tables) e.1) }
 {

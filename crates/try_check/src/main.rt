@@ -34,7 +34,6 @@ fn refused(alloc: Global, tables: &Tables, fault: CheckFault) -> Result<String, 
     match fault {
         CheckFault::NoMemory => Err(NoMemory),
         CheckFault::CheckFull => Ok(String::from_str(alloc, "too many tuples\n")?),
-        CheckFault::Unshown => Ok(String::from_str(alloc, "not shown\n")?),
         CheckFault::Blocks(sample) => shown(alloc, "blocks\n", tables, &sample),
         CheckFault::Loops(sample) => shown(alloc, "loops\n", tables, &sample),
     }

@@ -4,6 +4,7 @@ use Rattle.cmd_session.specs.Writing.{change}
 use Rattle.cmd_files.specs.Outsides.{lookup}
 use Rattle.cmd_check.specs.Descriptions.{NotAccepted, NoTables, Stopped, NoRules}
 use Rattle.cmd_check.specs.Rules.{RulesRefused}
+use Rattle.cmd_check.proofs.Accepting.{accepted}
 use Rattle.cmd_check.proofs.accepted.read_accepted.Goals as goal
 
 pub returns-in-Err-clause-refused : goal.returns-in-Err-clause-refused
@@ -20,5 +21,10 @@ returns-in-Ok-checked-clause-refused g c =
     (λ (s : Status). RulesRefused c.in-Ok.tables.content s (change g.E.Sink.told g.E.Sink.faults c.args.report.now c.shown.new.report))
     (λ (s : Status). NotAccepted c.args.name.now (lookup g.F.Folder.holds g.F.Folder.failed c.args.folder.now c.read_tables.new.folder) s
     (change g.E.Sink.told g.E.Sink.faults c.args.report.now c.shown.new.report))
-    (λ s r. NoRules c.in-Ok.tables.content c.in-Ok.ensures.description c.in-Ok.ensures.unfailed c.in-Ok.ensures.few c.in-Ok-checked.ensures.never r)
+    (λ s r. NoRules c.in-Ok.tables.content c.in-Ok.ensures.description c.in-Ok.ensures.unfailed c.in-Ok.ensures.few c.in-Ok-checked.ensures.sums c.in-Ok-checked.ensures.never r)
     (rw (c.in-Ok-checked.ensures.tables, c.in-Ok-checked.ensures.untold, c.in-Ok.ensures.untold) at c.shown.ensures.refused)
+
+pub returns-in-Ok-checked-clause-accepted : goal.returns-in-Ok-checked-clause-accepted
+returns-in-Ok-checked-clause-accepted g c =
+    accepted c.shown.result c.in-Ok.tables c.in-Ok-checked.tables c.shown.ensures.tables c.shown.ensures.shown c.in-Ok-checked.ensures.tables
+    c.in-Ok.ensures.few c.in-Ok-checked.ensures.sums c.in-Ok-checked.ensures.never

@@ -1,6 +1,0 @@
-use Rattle.std.proofs.Common.{◌≡◌, ℕ, ◌<◌, true, false}
-use Rattle.std.specs.Prelude.{slice_index_or}
-use Rattle.lr_check_closed.proofs.calm.are_all.Given as goal
-
-abbrev pub invariant-loop-at : goal.invariant-loop-at
-invariant-loop-at l = (k : ℕ) → k < l.at → slice_index_or l.marks k false ≡ true

@@ -1,4 +1,0 @@
-pub mod Found
-pub mod Choices
-pub mod Closed
-pub mod Count
