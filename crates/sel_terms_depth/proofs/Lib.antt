@@ -1,2 +1,2 @@
-mod Norming
-mod Patterns
+pub mod Norming
+pub mod Patterns

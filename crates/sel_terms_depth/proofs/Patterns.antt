@@ -35,7 +35,7 @@ abbrev AllHold : ℕ → List SubtreeShape → Type 0
 AllHold n [] = Unit {0}
 AllHold n (s ∷ ss) = Holds n s × AllHold n ss
 
-more_divisors : (m n : ℕ) → m ≤ n → (ts : List Shape) → AreWithin m ts → AreWithin n ts
+pub more_divisors : (m n : ℕ) → m ≤ n → (ts : List Shape) → AreWithin m ts → AreWithin n ts
 more_divisors m n l [] h = tt
 more_divisors m n l (t ∷ ts) h = (omega (arith, l, h.0), more_divisors m n l ts h.1)
 
