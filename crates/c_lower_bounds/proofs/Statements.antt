@@ -11,7 +11,7 @@ use Rattle.c_lower_scheme.specs.Parts.{Lowered, Emitted, nothing}
 use Rattle.c_lower_scheme.specs.Expressions.{way}
 use Rattle.c_lower_scheme.specs.Mentions.{mentions}
 use Rattle.c_lower_scheme.specs.Flow.{two_done, ret_of, clearing, begin_of, if_done, if_else_done, loop_done, while_done, turns_done, for_done, ever_done}
-use Rattle.c_lower_scheme.specs.Statements.{unless, when, effect, returning, declare, while_by, for_tested, for_of, lower, lower_row}
+use Rattle.c_lower_scheme.specs.Statements.{unless, when, effect, returning, declare, while_by, for_tested, for_of, lower, lower_row, going, if_by}
 use Rattle.c_lower_bounds.proofs.Trees.{item_forks, Narrow, none, next, behind}
 use Rattle.c_lower_bounds.proofs.Values.{Within, Ends}
 use Rattle.c_lower_bounds.proofs.Phrases.{way_bounded}
@@ -121,6 +121,12 @@ module _ (size count m : ℕ) (one : 1 ≤ m) where
       let first = begin_holds (mentions n e) n one (omega arith) ((way_bounded size count e).low size l) in
       two_hold first (declare_holds ds (omega arith) p.labels)
 
+  if_by_holds : (o : Option ℕ) (l : ℕ) (c : AnExpression) (f : ℕ → Emitted) → nodes c ≤ m → ((k : ℕ) → Holds size m (f k)) → Holds size m (if_by size count o c f l)
+  if_by_holds (Some to) l c f le h = when_holds c le to l
+  if_by_holds None l c f le h =
+      let p : Emitted = unless size count c l (suc l) in
+      if_holds l (unless_holds c le l (suc l)) (h p.labels)
+
   while_by_holds : (o : Option ℕ) (l : ℕ) (c : AnExpression) (f : ℕ → ℕ → ℕ → Emitted) → nodes c ≤ m → ((lb lc k : ℕ) → Holds size m (f lb lc k))
       → Holds size m (while_by size count o c f l)
   while_by_holds (Some v) l c f le h =
@@ -158,8 +164,8 @@ module _ (size count m : ℕ) (one : 1 ≤ m) where
     lower_holds ContinueOf le lb lc l = one_holds (Jump lc) (omega arith) l
     lower_holds (ReturnOf e) le lb lc l = returning_holds e le l
     lower_holds (IfOf c a) le lb lc l =
-        let p : Emitted = unless size count c l (suc l) in
-        if_holds l (unless_holds c (omega arith) l (suc l)) (lower_holds a (omega arith) lb lc p.labels)
+        let part : (k : ℕ) → Holds size m (lower size count a lb lc k) = lower_holds a (omega arith) lb lc in
+        if_by_holds (going a lb lc) l c (lower size count a lb lc) (omega arith) part
     lower_holds (IfElseOf c a b) le lb lc l =
         let p : Emitted = unless size count c l (suc (suc l)) in
         let q : Emitted = lower size count a lb lc p.labels in

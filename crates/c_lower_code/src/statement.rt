@@ -169,6 +169,30 @@ fn do_of(frame: Frame, body: &Action, c: &Expression, l: u32) -> Result<Emitted,
     loop_done(frame.alloc, l, l, a, p)
 }
 
+// Where a statement goes that is no more than a `break` or `continue`, also alone in a block.
+#[cycle(going)]
+fn going(a: &Action, broken: u32, onward: u32) -> Option<u32>
+    ensures { result ≡ statements.going (act a.now) broken onward }
+{
+    match a {
+        Action::Break => Some(broken),
+        Action::Continue => Some(onward),
+        Action::Block(all) => going_alone(all, broken, onward),
+        _ => None,
+    }
+}
+
+// Where the one statement of a block goes.
+#[cycle(going)]
+fn going_alone(all: &[Action], broken: u32, onward: u32) -> Option<u32>
+    ensures { result ≡ statements.going_alone (acts all.now) broken onward }
+{
+    match all {
+        [a] => going(a, broken, onward),
+        _ => None,
+    }
+}
+
 // An `if` without an `else`.
 #[cycle(statement)]
 fn if_of(
@@ -181,9 +205,14 @@ fn if_of(
 ) -> Result<Emitted, NoMemory>
     ensures { IfOk result (λ r. done r ≡ statements.lower frame.locals frame.functions (IfOf (term c.now) (act a.now)) broken onward l) }
 {
-    let p = unless(frame, c, l, after(l)?)?;
-    let a = statement(frame, a, broken, onward, p.labels)?;
-    if_done(l, p, a)
+    match going(a, broken, onward) {
+        Some(to) => when(frame, c, to, l),
+        None => {
+            let p = unless(frame, c, l, after(l)?)?;
+            let a = statement(frame, a, broken, onward, p.labels)?;
+            if_done(l, p, a)
+        }
+    }
 }
 
 /// A statement, whose `break` and `continue` go to two labels, from the first free label on.

@@ -11,7 +11,7 @@ use Rattle.c_program.specs.Statements.{ADeclaration, KeepOf, ClearOf, BeginOf, A
 use Rattle.c_program.specs.Statements.{ReturnOf, IfOf, IfElseOf, WhileOf, DoOf, ForOf}
 use Rattle.c_lower_scheme.specs.Parts.{Lowered, Emitted}
 use Rattle.c_lower_scheme.specs.Expressions.{way}
-use Rattle.c_lower_scheme.specs.Statements.{unless, when, effect, returning, declare, while_by, for_tested, for_of, lower, lower_row}
+use Rattle.c_lower_scheme.specs.Statements.{unless, when, effect, returning, declare, while_by, for_tested, for_of, lower, lower_row, going, if_by}
 use Rattle.c_lower_scheme.specs.Programs.{body_of}
 use Rattle.c_lower_spelled.specs.Claims.{labels_behind}
 use Rattle.c_lower_counts.specs.Sizes.{declared_size, act_size, row_size, routines_size}
@@ -78,6 +78,15 @@ module _ (size count : ℕ) where
       let y = declare_takes ds p.labels in
       omega arith
 
+  -- an `if` alone, by its statement
+  if_by_takes : (o : Option ℕ) (n l : ℕ) (c : AnExpression) (f : ℕ → Emitted) → ((k : ℕ) → (f k).labels ≤ k + 3 * n) → (if_by size count o c f l).labels ≤ l + 3 * (1 + nodes c + n)
+  if_by_takes (Some to) n l c f h = let x = when_takes c to l in omega arith
+  if_by_takes None n l c f h =
+      let p : Emitted = unless size count c l (suc l) in
+      let x = unless_takes c l (suc l) in
+      let y = h p.labels in
+      omega arith
+
   -- a `while`, by its body
   while_by_takes : (o : Option ℕ) (n l : ℕ) (c : AnExpression) (f : ℕ → ℕ → ℕ → Emitted) → ((lb lc k : ℕ) → (f lb lc k).labels ≤ k + 3 * n)
       → (while_by size count o c f l).labels ≤ l + 3 * (1 + nodes c + n)
@@ -128,11 +137,7 @@ module _ (size count : ℕ) where
     act_takes BreakOf lb lc l = omega arith
     act_takes ContinueOf lb lc l = omega arith
     act_takes (ReturnOf e) lb lc l = let x = returning_takes e l in omega arith
-    act_takes (IfOf c a) lb lc l =
-        let p : Emitted = unless size count c l (suc l) in
-        let x = unless_takes c l (suc l) in
-        let y = act_takes a lb lc p.labels in
-        omega arith
+    act_takes (IfOf c a) lb lc l = if_by_takes (going a lb lc) (act_size a) l c (lower size count a lb lc) (λ k. act_takes a lb lc k)
     act_takes (IfElseOf c a b) lb lc l =
         let p : Emitted = unless size count c l (suc (suc l)) in
         let q : Emitted = lower size count a lb lc p.labels in

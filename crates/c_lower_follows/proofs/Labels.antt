@@ -432,6 +432,11 @@ module _ (size count : ℕ) where
       once_three l r (Label (suc (suc (suc l))) ∷ inner) _ one
       (λ m. omega (arith, stands_append m a T1, stands_append m b T2, stands_append m c T3, stands_append m a (b ++ c), stands_append m b c))
 
+  once_if_by : (o : Option ℕ) (c : AnExpression) (f : ℕ → Parts.Emitted) (l : ℕ) → ((m : ℕ) → Once m (f m).labels (f m).items)
+      → Once l (Statements.if_by size count o c f l).labels (Statements.if_by size count o c f l).items
+  once_if_by (Some to) c f l h = (once_way c).branch true to size l
+  once_if_by None c f l h = let q = Statements.unless size count c l (suc l) in once_inner l q.labels _ q.items _ ((once_way c).branch false l size (suc l)) (h q.labels)
+
   once_while_by : (o : Option ℕ) (c : AnExpression) (f : ℕ → ℕ → ℕ → Parts.Emitted) (l : ℕ) → ((lb lc m : ℕ) → Once m (f lb lc m).labels (f lb lc m).items)
       → Once l (Statements.while_by size count o c f l).labels (Statements.while_by size count o c f l).items
   once_while_by (Some v) c f l h =
@@ -465,7 +470,7 @@ module _ (size count : ℕ) where
     once_act BreakOf lb lc l = once_same l l [] _ (once_nil l) (λ m. refl)
     once_act ContinueOf lb lc l = once_same l l [] _ (once_nil l) (λ m. refl)
     once_act (ReturnOf e) lb lc l = once_returning e l
-    once_act (IfOf c a) lb lc l = let q = Statements.unless size count c l (suc l) in once_inner l q.labels _ q.items _ ((once_way c).branch false l size (suc l)) (once_act a lb lc q.labels)
+    once_act (IfOf c a) lb lc l = once_if_by (Statements.going a lb lc) c (Statements.lower size count a lb lc) l (λ m. once_act a lb lc m)
     once_act (IfElseOf c a b) lb lc l =
         let q = Statements.unless size count c l (suc (suc l)) in
         let x = Statements.lower size count a lb lc q.labels in

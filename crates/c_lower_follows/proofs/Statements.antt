@@ -32,7 +32,7 @@ use Rattle.c_lower_scheme.specs.Parts.{Emitted}
 use Rattle.c_lower_scheme.specs.Expressions.{way}
 use Rattle.c_lower_scheme.specs.Mentions.{is_local, place_mentions, mentions, any_mentions}
 use Rattle.c_lower_scheme.specs.Flow.{begin_of, if_done, if_else_done, loop_done, while_done, turns_done, for_done, ever_done}
-use Rattle.c_lower_scheme.specs.Statements.{unless, when, effect, returning, declare, while_by, for_tested, for_of, lower, lower_row}
+use Rattle.c_lower_scheme.specs.Statements.{unless, when, effect, returning, declare, while_by, for_tested, for_of, lower, lower_row, going, going_alone, if_by}
 use Rattle.c_sound.specs.Fits.{AreBytes, StandsIn, FitsAt, Fits, FitsAll, FitsMaybe, more, declaring, behind_act, FitsDeclared, FitsAct, FitsActs}
 use Rattle.c_lower_follows.proofs.Values.{SmallTree, Small, worth_small}
 use Rattle.c_lower_follows.proofs.Leads.{Leads, leads_wild, leads_quiet, leads_counted, leads_none, leads_below}
@@ -330,6 +330,56 @@ module _ (program : TreeProgram) (code : List TreeItem) (callers : List Activati
           continued = h.continued;
           left = h.left;
         }) st1 d1 ag1))))
+
+    -- a `break` or `continue` goes to its label
+    mutual
+      goes_there : (a : AnAction) (lb lc to : ℕ) (scope outer : ℕ → Type 0) → ((x : ℕ) → outer x → scope x) → (inside : Bool) → FitsAct size scope inside a → going a lb lc ≡ Some to
+          → (k : ℕ) (is : List Item) (κ : Behind) → Lands k lb lc inside outer scope is κ → (st : State) (d : Desk) → fair scope st d
+          → Leads k (stmt p next a κ st) (at_items program code callers (behind code to) d)
+      goes_there BreakOf lb lc to scope outer sub inside fit e k is κ h st d ag =
+          let same : lb ≡ to = cc in
+          subst (λ x. Leads k (κ Broke st) (at_items program code callers (behind code x) d)) same (h.broke fit st d (agree_less size (length callers) outer scope st d sub ag))
+      goes_there ContinueOf lb lc to scope outer sub inside fit e k is κ h st d ag =
+          let same : lc ≡ to = cc in
+          subst (λ x. Leads k (κ Continued st) (at_items program code callers (behind code x) d)) same (h.continued fit st d (agree_less size (length callers) outer scope st d sub ag))
+      goes_there (DeclareOf ds) lb lc to scope outer sub inside fit e k is κ h st d ag = absurd (cc)
+      goes_there (BlockOf row) lb lc to scope outer sub inside fit e k is κ h st d ag = alone_there row lb lc to scope outer sub inside fit e k is κ h st d ag
+      goes_there (EvaluateOf x) lb lc to scope outer sub inside fit e k is κ h st d ag = absurd (cc)
+      goes_there (ReturnOf x) lb lc to scope outer sub inside fit e k is κ h st d ag = absurd (cc)
+      goes_there (IfOf c a) lb lc to scope outer sub inside fit e k is κ h st d ag = absurd (cc)
+      goes_there (IfElseOf c a b) lb lc to scope outer sub inside fit e k is κ h st d ag = absurd (cc)
+      goes_there (WhileOf c a) lb lc to scope outer sub inside fit e k is κ h st d ag = absurd (cc)
+      goes_there (DoOf a c) lb lc to scope outer sub inside fit e k is κ h st d ag = absurd (cc)
+      goes_there (ForOf i c x a) lb lc to scope outer sub inside fit e k is κ h st d ag = absurd (cc)
+
+      alone_there : (row : SomeActions) (lb lc to : ℕ) (scope outer : ℕ → Type 0) → ((x : ℕ) → outer x → scope x) → (inside : Bool) → FitsActs size scope inside row
+          → going_alone row lb lc ≡ Some to → (k : ℕ) (is : List Item) (κ : Behind) → Lands k lb lc inside outer scope is κ → (st : State) (d : Desk) → fair scope st d
+          → Leads k (stmts p next row κ st) (at_items program code callers (behind code to) d)
+      alone_there NoActions lb lc to scope outer sub inside fit e k is κ h st d ag = absurd (cc)
+      alone_there (MoreActions a NoActions) lb lc to scope outer sub inside fit e k is κ h st d ag =
+          goes_there a lb lc to scope outer sub inside fit.0 e k is (followed p next κ (stmts p next NoActions κ))
+          (record { onward = h.onward; broke = h.broke; continued = h.continued; left = h.left }) st d ag
+      alone_there (MoreActions a (MoreActions b row)) lb lc to scope outer sub inside fit e k is κ h st d ag = absurd (cc)
+
+    -- a test that goes where the statement would
+    away_does : (c : AnExpression) (a : AnAction) (to l : ℕ) (scope outer : ℕ → Type 0) → ((x : ℕ) → scope x → x < size) → ((x : ℕ) → outer x → scope x) → Fits scope c
+        → (inside : Bool) → FitsAct size scope inside a → (lb lc : ℕ) → going a lb lc ≡ Some to
+        → DoesStmt (when size count c to l) lb lc inside outer scope scope (stmt p next (IfOf c a))
+    away_does c a to l scope outer within sub fit inside fit' lb lc e k le is κ res h st d ag =
+        let asks = (expression scope within c fit).branch true to size l (omega arith) in
+        asks.runs k le is (stmt p next a κ) (κ Onward) res st d ag
+        (λ st1 d1 ag1 s1. leads_quiet k _ _ (goes_there a lb lc to scope outer sub inside fit' e k is κ h st1 d1 ag1))
+        (λ st1 d1 ag1 s1. leads_quiet k _ _ (h.onward st1 d1 ag1))
+
+    -- an `if` alone in either form
+    if_by_does : (o : Option ℕ) (c : AnExpression) (a : AnAction) (l lb lc : ℕ) (scope outer : ℕ → Type 0) → ((x : ℕ) → scope x → x < size) → ((x : ℕ) → outer x → scope x) → Fits scope c
+        → (inside : Bool) → FitsAct size scope inside a → going a lb lc ≡ o
+        → ((m : ℕ) → DoesStmt (lower size count a lb lc m) lb lc inside outer scope (behind_act scope a) (stmt p next a))
+        → DoesStmt (if_by size count o c (lower size count a lb lc) l) lb lc inside outer scope scope (stmt p next (IfOf c a))
+    if_by_does (Some to) c a l lb lc scope outer within sub fit inside fit' e body = away_does c a to l scope outer within sub fit inside fit' lb lc e
+    if_by_does None c a l lb lc scope outer within sub fit inside fit' e body =
+        let q = unless size count c l (suc l) in
+        if_does c l (lower size count a lb lc q.labels) scope outer (behind_act scope a) (stmt p next a) within fit (behind_more scope a) inside lb lc (body q.labels)
 
     if_else_does : (c : AnExpression) (l : ℕ) (a b : Emitted) (scope outer after after' : ℕ → Type 0) (n o : Behind → State → Runs) → ((x : ℕ) → scope x → x < size) → Fits scope c
         → ((x : ℕ) → scope x → after x) → ((x : ℕ) → scope x → after' x) → (inside : Bool) (lb lc : ℕ) → DoesStmt a lb lc inside outer scope after n
@@ -668,9 +718,7 @@ module _ (program : TreeProgram) (code : List TreeItem) (callers : List Activati
           jump_step program code callers k lc is _ d (h.continued fit st d (agree_less size (length callers) outer scope st d sub ag))
       act_does (ReturnOf e) scope outer within sub inside fit lb lc l = return_does e scope outer within fit inside lb lc l
       act_does (IfOf c a) scope outer within sub inside fit lb lc l =
-          let q = unless size count c l (suc l) in
-          if_does c l (lower size count a lb lc q.labels) scope outer (behind_act scope a) (stmt p next a) within fit.0 (behind_more scope a) inside lb lc
-          (act_does a scope outer within sub inside fit.1 lb lc q.labels)
+          if_by_does (going a lb lc) c a l lb lc scope outer within sub fit.0 inside fit.1 refl (λ m. act_does a scope outer within sub inside fit.1 lb lc m)
       act_does (IfElseOf c a b) scope outer within sub inside fit lb lc l =
           let q = unless size count c l (suc (suc l)) in
           let x = lower size count a lb lc q.labels in

@@ -191,6 +191,13 @@ module _ (scene : Scene) (size count : ℕ) (takes : Callee → ℕ → Type 0)
     fine_returning (Some e) l f s = fine_ret ((Expressions.way size count e).low size l)
         ((fine_way scene size count takes calls scope within e f s).low size l (omega arith))
 
+    fine_if_by : (o : Option ℕ) (l : ℕ) (c : AnExpression) (f : ℕ → Emitted) → Fits scope c → StandsMaybe There takes scene.objects (Some c)
+        → ((m : ℕ) → Dones (f m)) → Dones (Statements.if_by size count o c f l)
+    fine_if_by (Some to) l c f k s h = fine_test_of true c to l k s
+    fine_if_by None l c f k s h =
+        let p = Statements.unless size count c l (suc l) in
+        fine_if l p (f p.labels) (fine_test_of false c l (suc l) k s) (h p.labels)
+
     fine_while_by : (o : Option ℕ) (l : ℕ) (c : AnExpression) (f : ℕ → ℕ → ℕ → Emitted) → Fits scope c → StandsMaybe There takes scene.objects (Some c)
         → ((lb lc m : ℕ) → Dones (f lb lc m)) → Dones (Statements.while_by size count o c f l)
     fine_while_by (Some v) l c f k s h =
@@ -247,9 +254,7 @@ module _ (scene : Scene) (size count : ℕ) (takes : Callee → ℕ → Type 0)
     fine_act scope within inside ContinueOf lb lc l f s = fine_jump lc l
     fine_act scope within inside (ReturnOf e) lb lc l f s = fine_returning scope within e l f s
     fine_act scope within inside (IfOf c a) lb lc l f s =
-        let p = Statements.unless size count c l (suc l) in
-        fine_if l p (Statements.lower size count a lb lc p.labels) (fine_test_of scope within false c l (suc l) f.0 s.0)
-        (fine_act scope within inside a lb lc p.labels f.1 s.1)
+        fine_if_by scope within (Statements.going a lb lc) l c (Statements.lower size count a lb lc) f.0 s.0 (λ m. fine_act scope within inside a lb lc m f.1 s.1)
     fine_act scope within inside (IfElseOf c a b) lb lc l f s =
         let p = Statements.unless size count c l (suc (suc l)) in
         let q = Statements.lower size count a lb lc p.labels in
