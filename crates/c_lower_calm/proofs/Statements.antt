@@ -5,7 +5,7 @@ use Rattle.c_types.specs.Constants.{constant_of}
 use Rattle.c_types.specs.Typed.{AnExpression}
 use Rattle.c_program.specs.Statements.{ADeclaration, KeepOf, ClearOf, BeginOf, AnAction, SomeActions, NoActions, MoreActions, DeclareOf, BlockOf, EvaluateOf, BreakOf, ContinueOf}
 use Rattle.c_program.specs.Statements.{ReturnOf, IfOf, IfElseOf, WhileOf, DoOf, ForOf}
-use Rattle.c_lower_scheme.specs.Parts.{Lowered, Emitted}
+use Rattle.c_lower_scheme.specs.Parts.{Emitted, InLocal, AsResult}
 use Rattle.c_lower_scheme.specs.Expressions.{way}
 use Rattle.c_lower_scheme.specs.Mentions.{mentions}
 use Rattle.c_lower_scheme.specs.Flow.{clearing}
@@ -24,16 +24,15 @@ module _ (size count : ℕ) where
 
   returning_calm : (e : Option AnExpression) (l : ℕ) → AreCalm (returning size count e l).items
   returning_calm None l = next tt none
-  returning_calm (Some e) l = let h = (way_calm size count e).low size l in behind h.items (next h.tree none)
+  returning_calm (Some e) l = (way_calm size count e).deliver AsResult size l
 
   declare_calm : (ds : List ADeclaration) (l : ℕ) → AreCalm (declare size count ds l).items
   declare_calm [] l = none
   declare_calm (KeepOf object ∷ ds) l = declare_calm ds l
   declare_calm (ClearOf n ∷ ds) l = next tt (declare_calm ds l)
   declare_calm (BeginOf n e ∷ ds) l =
-      let p : Lowered = (way size count e).low size l in
-      let h = (way_calm size count e).low size l in
-      behind (behind (calm_clearing (mentions n e) n) (behind h.items (next h.tree none))) (declare_calm ds p.labels)
+      let p : Emitted = (way size count e).deliver (InLocal n) size l in
+      behind (behind (calm_clearing (mentions n e) n) ((way_calm size count e).deliver (InLocal n) size l)) (declare_calm ds p.labels)
 
   if_by_calm : (o : Option ℕ) (l : ℕ) (c : AnExpression) (f : ℕ → Emitted) → ((k : ℕ) → AreCalm (f k).items) → AreCalm (if_by size count o c f l).items
   if_by_calm (Some to) l c f h = (way_calm size count c).branch true to size l

@@ -5,14 +5,14 @@ ghost use Rattle.c_program.specs.Statements.{act, acts, declaration, maybe_term}
 ghost use Rattle.c_lower_scheme.specs.Statements as statements;
 ghost use Rattle.c_lower_code.specs.Views.{done};
 
-use crate::expression::{branch, discard, value};
+use crate::expression::{branch, deliver, discard};
 use crate::flow::{
-    begin_of, ever_done, for_done, if_done, if_else_done, jump, loop_done, ret_of, turns_done,
-    two_done, while_done,
+    begin_of, ever_done, for_done, if_done, if_else_done, jump, loop_done, turns_done, two_done,
+    while_done,
 };
 use crate::item::Item;
 use crate::mention::mentions;
-use crate::part::{Emitted, Frame, after, nothing, put};
+use crate::part::{Destination, Emitted, Frame, after, nothing, put};
 use crate::tree::Tree;
 use c_program::{Action, Declaration};
 use c_types::Expression;
@@ -57,7 +57,7 @@ fn returning(frame: Frame, e: &Option<Expression>, l: u32) -> Result<Emitted, No
                 labels: l,
             })
         }
-        Some(e) => ret_of(value(frame, e, frame.locals, l)?),
+        Some(e) => deliver(frame, Destination::Caller, e, frame.locals, l),
     }
 }
 
@@ -80,7 +80,7 @@ fn one_declared(frame: Frame, d: &Declaration, l: u32) -> Result<Emitted, NoMemo
             frame.alloc,
             mentions(*n, e),
             *n,
-            value(frame, e, frame.locals, l)?,
+            deliver(frame, Destination::Local(*n), e, frame.locals, l)?,
         ),
     }
 }

@@ -9,7 +9,7 @@ use Rattle.c_program.specs.Need.{nodes, place_nodes, maybe_nodes}
 use Rattle.c_program.specs.Programs.{ARoutine}
 use Rattle.c_program.specs.Statements.{ADeclaration, KeepOf, ClearOf, BeginOf, AnAction, SomeActions, NoActions, MoreActions, DeclareOf, BlockOf, EvaluateOf, BreakOf, ContinueOf}
 use Rattle.c_program.specs.Statements.{ReturnOf, IfOf, IfElseOf, WhileOf, DoOf, ForOf}
-use Rattle.c_lower_scheme.specs.Parts.{Lowered, Emitted}
+use Rattle.c_lower_scheme.specs.Parts.{Emitted, InLocal, AsResult}
 use Rattle.c_lower_scheme.specs.Expressions.{way}
 use Rattle.c_lower_scheme.specs.Statements.{unless, when, effect, returning, declare, while_by, for_tested, for_of, lower, lower_row, going, if_by}
 use Rattle.c_lower_scheme.specs.Programs.{body_of}
@@ -66,15 +66,15 @@ module _ (size count : ℕ) where
 
   returning_takes : (e : Option AnExpression) (l : ℕ) → (returning size count e l).labels ≤ l + 2 * maybe_nodes e
   returning_takes None l = omega arith
-  returning_takes (Some e) l = (way_takes size count e).low size l
+  returning_takes (Some e) l = (way_takes size count e).deliver AsResult size l
 
   declare_takes : (ds : List ADeclaration) (l : ℕ) → (declare size count ds l).labels ≤ l + 3 * declared_size ds
   declare_takes [] l = omega arith
   declare_takes (KeepOf object ∷ ds) l = declare_takes ds l
   declare_takes (ClearOf n ∷ ds) l = declare_takes ds l
   declare_takes (BeginOf n e ∷ ds) l =
-      let p : Lowered = (way size count e).low size l in
-      let x = (way_takes size count e).low size l in
+      let p : Emitted = (way size count e).deliver (InLocal n) size l in
+      let x = (way_takes size count e).deliver (InLocal n) size l in
       let y = declare_takes ds p.labels in
       omega arith
 

@@ -7,9 +7,9 @@ use Rattle.c_program.specs.Statements.{ADeclaration, KeepOf, ClearOf, BeginOf, A
 use Rattle.c_program.specs.Statements.{MoreActions, DeclareOf, BlockOf, EvaluateOf, BreakOf, ContinueOf, ReturnOf, IfOf}
 use Rattle.c_program.specs.Statements.{IfElseOf, WhileOf, DoOf, ForOf}
 use Rattle.c_lower_scheme.specs.Expressions.{way}
-use Rattle.c_lower_scheme.specs.Parts.{Emitted, nothing}
+use Rattle.c_lower_scheme.specs.Parts.{Emitted, InLocal, AsResult, nothing}
 use Rattle.c_lower_scheme.specs.Mentions.{mentions}
-use Rattle.c_lower_scheme.specs.Flow.{two_done, done_by, ret_of, clearing, begin_of, if_of, if_else_of, loop_of}
+use Rattle.c_lower_scheme.specs.Flow.{two_done, done_by, clearing, begin_of, if_of, if_else_of, loop_of}
 use Rattle.c_lower_scheme.specs.Flow.{while_of, turns_by, for_by, ever_by}
 
 -- Where a statement goes that is no more than a `break` or `continue`, also alone in a block, by their labels.
@@ -49,13 +49,13 @@ module _ (size count : ℕ) where
 
   abbrev pub returning : Option AnExpression → ℕ → Emitted
   returning None l = record { items = Ret (Num 0) ∷ []; temps = size; labels = l }
-  returning (Some e) l = ret_of ((way size count e).low size l)
+  returning (Some e) l = (way size count e).deliver AsResult size l
 
   abbrev pub declare : List ADeclaration → ℕ → Emitted
   declare [] l = nothing size l
   declare (KeepOf object ∷ ds) l = declare ds l
   declare (ClearOf n ∷ ds) l = two_done (record { items = clearing true n; temps = size; labels = l }) (declare ds l)
-  declare (BeginOf n e ∷ ds) l = done_by (begin_of (mentions n e) n ((way size count e).low size l)) (declare ds)
+  declare (BeginOf n e ∷ ds) l = done_by (begin_of (mentions n e) n ((way size count e).deliver (InLocal n) size l)) (declare ds)
 
   -- An `if` alone, by its statement: where that is a `break` or `continue`, the branch goes there.
   abbrev pub if_by : Option ℕ → AnExpression → (ℕ → Emitted) → ℕ → Emitted

@@ -9,7 +9,7 @@ use Rattle.c_program.specs.Statements.{ADeclaration, KeepOf, ClearOf, BeginOf, A
 use Rattle.c_program.specs.Statements.{ReturnOf, IfOf, IfElseOf, WhileOf, DoOf, ForOf}
 use Rattle.c_sound.specs.Fits.{Fits, FitsMaybe, more, behind_act, FitsDeclared, FitsAct, FitsActs}
 use Rattle.c_sound.specs.Stands.{Stands, StandsMaybe, StandsDeclared, StandsAct, StandsActs, IsThere}
-use Rattle.c_lower_scheme.specs.Parts.{Lowered, Emitted}
+use Rattle.c_lower_scheme.specs.Parts.{Emitted, InLocal, AsResult}
 use Rattle.c_lower_scheme.specs.Expressions.{way}
 use Rattle.c_lower_scheme.specs.Mentions.{mentions}
 use Rattle.c_lower_scheme.specs.Flow.{two_done, clearing}
@@ -57,9 +57,7 @@ module _ (objects most params size count : ℕ) (takes : Callee → ℕ → Type
     returning_long : (e : Option AnExpression) (l : ℕ) → FitsMaybe scope e → StandsMaybe There takes objects e
         → Ends (Unit {0}) l (returning size count e l)
     returning_long None l f s = record { grows = omega arith; items = λ y le. next nought none }
-    returning_long (Some e) l f s =
-        let h = (way_long objects most params size count takes scope e f s).low size l in
-        record { grows = h.grows; items = λ y le. behind (h.items le) (next h.tree none) }
+    returning_long (Some e) l f s = (way_long objects most params size count takes scope e f s).deliver AsResult size l
 
     -- a `while`, by its body
     while_by_long : (o : Option ℕ) (l : ℕ) (c : AnExpression) (f : ℕ → ℕ → ℕ → Emitted) → Fits scope c → Stands There takes objects c
@@ -163,14 +161,14 @@ module _ (objects most params size count : ℕ) (takes : Callee → ℕ → Type
       let h = declare_long (more scope n) ds l f.1 s in
       record { grows = h.grows; items = λ y le. next nought (h.items y le) }
   declare_long scope (BeginOf n e ∷ ds) l f s =
-      let p : Lowered = (way size count e).low size l in
-      let x = (way_long objects most params size count takes (more scope n) e f.1 s.0).low size l in
+      let p : Emitted = (way size count e).deliver (InLocal n) size l in
+      let x = (way_long objects most params size count takes (more scope n) e f.1 s.0).deliver (InLocal n) size l in
       let h = declare_long (more scope n) ds p.labels f.2 s.1 in
       let up = x.grows in
       let up' = h.grows in
       record {
         grows = omega arith;
-        items = λ y le. behind (behind (clearing_long (mentions n e) n) (behind (x.items (omega arith)) (next x.tree none))) (h.items y le);
+        items = λ y le. behind (behind (clearing_long (mentions n e) n) (x.items tt (omega arith))) (h.items y le);
       }
 
   -- a `break` or `continue` goes to a label below the bound

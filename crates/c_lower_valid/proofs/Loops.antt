@@ -120,7 +120,7 @@ module _ (size count : ℕ) where
   marked_returning : (e : Option AnExpression) (l : ℕ) → Marked nowhere l (Statements.returning size count e l).labels
       (Statements.returning size count e l).items
   marked_returning None l = marked_plain nowhere l l [] (Ret (Num 0) ∷ []) (marked_nil nowhere l) (λ m. refl)
-  marked_returning (Some e) l = marked_plain nowhere l _ _ _ ((marked_way size count e).low size l) (λ m. refl)
+  marked_returning (Some e) l = (marked_way size count e).deliver Parts.AsResult size l
 
   marked_declare : (ds : List ADeclaration) (l : ℕ)
       → Marked nowhere l (Statements.declare size count ds l).labels (Statements.declare size count ds l).items
@@ -128,11 +128,10 @@ module _ (size count : ℕ) where
   marked_declare (KeepOf object ∷ ds) l = marked_declare ds l
   marked_declare (ClearOf n ∷ ds) l = marked_front nowhere l _ (Flow.clearing true n) _ (mute_clearing true n) (marked_declare ds l)
   marked_declare (BeginOf n e ∷ ds) l =
-      let q = (Expressions.way size count e).low size l in
+      let q = (Expressions.way size count e).deliver (Parts.InLocal n) size l in
       let b = Mentions.mentions n e in
-      marked_append nowhere l q.labels _ _ _ (marked_front nowhere l q.labels (Flow.clearing b n)
-      (q.items ++ (AssignLoc n q.tree ∷ [])) (mute_clearing b n)
-      (marked_plain nowhere l q.labels q.items (AssignLoc n q.tree ∷ []) ((marked_way size count e).low size l) (λ m. refl)))
+      marked_append nowhere l q.labels _ _ _ (marked_front nowhere l q.labels (Flow.clearing b n) q.items (mute_clearing b n)
+      ((marked_way size count e).deliver (Parts.InLocal n) size l))
       (marked_declare ds q.labels)
 
   -- a `break` or `continue` goes to a label around it
