@@ -11,7 +11,7 @@ use Rattle.c_types.specs.Typed.{UnaryOf, CastTo, ConvertTo, ArithmeticOf, Compar
 use Rattle.c_types.specs.Typed.{ArithmeticAssignTo, AdvanceAssignTo, RetreatAssignTo, CommaOf, SomeExpressions, NoExpressions, MoreExpressions}
 use Rattle.c_program.specs.Need.{place_nodes, nodes, all_nodes}
 use Rattle.c_lower_scheme.specs.Trees.{Tree, Num, Gaddr, Neg, Com, Bin}
-use Rattle.c_lower_scheme.specs.Parts.{Lowered, Emitted, Lowering, Located, Passing, InLocal, due, is_nil, over}
+use Rattle.c_lower_scheme.specs.Parts.{Lowered, Lowering, Located, Passing, InLocal, due, is_nil, over}
 use Rattle.c_lower_scheme.specs.Places.{where_of, address_tree}
 use Rattle.c_lower_scheme.specs.Conditions.{valued}
 use Rattle.c_lower_scheme.specs.Values.{scaled_by, shared_by, advance, advance_by, retreat, apart}

@@ -26,7 +26,7 @@ use Rattle.c_meaning.specs.State.{State, with_locals, put_local}
 use Rattle.c_meaning.specs.Values.{Behind, ALoop, plain_loop, for_loop, Task, Look, Next, chosen, written}
 use Rattle.c_meaning.specs.Meaning.{expr, dropped, turned, turn_by, look_by, local_set, declared, followed, stmt}
 use Rattle.c_meaning.specs.Meaning.{stmts, task, returned as returned_source}
-use Rattle.c_lower_scheme.specs.Trees.{Tree, Num, Item, Label, AssignLoc, Jump, Ret}
+use Rattle.c_lower_scheme.specs.Trees.{Tree, Num, Item, Label, AssignLoc, Jump}
 use Rattle.c_lower_scheme.specs.Spelling.{spelled_all}
 use Rattle.c_lower_scheme.specs.Parts.{Emitted, InLocal, AsResult}
 use Rattle.c_lower_scheme.specs.Expressions.{way}

@@ -11,14 +11,14 @@ use Rattle.c_types.specs.Typed.{ArithmeticAssignTo, AdvanceAssignTo, RetreatAssi
 use Rattle.c_sound.specs.Fits.{StandsIn, Fits, FitsAt, FitsAll}
 use Rattle.c_sound.specs.Stands.{Stands, StandsAt, StandAll, arguments, IsThere}
 use Rattle.c_lower_scheme.specs.Trees.{Num, Gaddr, Bin}
-use Rattle.c_lower_scheme.specs.Places.{where_of, address_tree}
+use Rattle.c_lower_scheme.specs.Places.{where_of, address_tree, fitted}
 use Rattle.c_lower_scheme.specs.Values.{advance, advance_by, retreat, apart}
 use Rattle.c_lower_scheme.specs.Calls.{args_count, callee_number, others, called_low}
 use Rattle.c_lower_scheme.specs.Assignments
 use Rattle.c_lower_scheme.specs.Expressions
 use Rattle.c_lower_valid.proofs.Named.{Scene}
 use Rattle.c_lower_valid.proofs.Fine.{Ok, fine_nil, OkWhere, FineFound, FinePassing, ok_advance, ok_advance_by, ok_retreat, ok_apart, fine_over, fine_read, fine_address}
-use Rattle.c_lower_valid.proofs.Fine.{fine_store_drop, fine_store_low, fine_pass, fine_called_drop, fine_called_low, fine_called_deliver, fine_test}
+use Rattle.c_lower_valid.proofs.Fine.{fine_store_drop, fine_pass, fine_called_drop, fine_called_low, fine_called_deliver, fine_test, ok_fitted}
 use Rattle.c_lower_valid.proofs.Ways.{FineWay, fine_due, fine_valued, fine_effective, fine_conditional, fine_converting, fine_binary, fine_relation, fine_chain, fine_chain_drop}
 use Rattle.c_lower_valid.proofs.Ways.{fine_choose, fine_comma, fine_unary, fine_update_by, fine_step_ready, fine_step, fine_assign_low, fine_assign_drop}
 

@@ -10,16 +10,14 @@ use Rattle.c_types.specs.declared.typed.Moment.TheVariants as moments
 use Rattle.c_types.specs.declared.typed.Direction.{Direction}
 use Rattle.c_types.specs.Constants.{scale}
 use Rattle.c_lower_scheme.specs.Trees.{Tree, Num, Neg, Com, Label, AssignLoc, Jump, sensed}
-use Rattle.c_lower_scheme.specs.Parts.{Lowered, Where, InLoc, InArg, InMem, Located, Emitted, Lowering, due, Destination, InLocal, AsResult, over}
+use Rattle.c_lower_scheme.specs.Parts.{Lowered, Located, Emitted, Lowering, due, Destination, InLocal, AsResult, over}
 use Rattle.c_lower_scheme.specs.Parts
-use Rattle.c_lower_scheme.specs.Places.{where_of, address_tree, fitted, read_from, pointed, integer_of, conv}
-use Rattle.c_lower_scheme.specs.Conditions.{test, dropped, truth_of, valued, conditional, effective, mapped, chained, goal, chain, chain_drop, drop_two, choose_low, choose_drop, choose}
-use Rattle.c_lower_scheme.specs.Conditions.{comma, compare, deliver_as, converting, choose_deliver}
+use Rattle.c_lower_scheme.specs.Places.{fitted, integer_of, conv}
+use Rattle.c_lower_scheme.specs.Conditions.{truth_of, valued, conditional, effective, mapped, chained, goal, chain, chain_drop, drop_two, choose_low, choose_drop, choose}
+use Rattle.c_lower_scheme.specs.Conditions.{comma, deliver_as, converting, choose_deliver}
 use Rattle.c_lower_scheme.specs.Conditions
-use Rattle.c_lower_scheme.specs.Values.{advance, advance_by, retreat, apart, step}
+use Rattle.c_lower_scheme.specs.Values.{step}
 use Rattle.c_lower_scheme.specs.Values
-use Rattle.c_lower_scheme.specs.Calls.{passed_as, others, args_count, callee_number}
-use Rattle.c_lower_scheme.specs.Assignments.{store_low, store_drop}
 use Rattle.c_lower_scheme.specs.Assignments
 use Rattle.c_lower_scheme.specs.Expressions
 use Rattle.c_types.specs.declared.types.Integer.{Integer}
