@@ -39,6 +39,25 @@ if copy_plain "${C_REFERENCE:-}" lower_plain.rs; then
                 self.full(|s| s.branch(b, top, true));\
                 self.place_label(end);\
             }' "$work/plain/src/lower.rs"
+    # Values that go to an automatic local of a longword, or out of the function, and an `if` that only leaves.
+    cat "$here/bench/lower_deliver.rs" >>"$work/plain/src/lower.rs"
+    sed -i '/^    fn assign(/,/^    }/s/^            Pl::Slot(l) => {$/            Pl::Slot(l) if l.t == T::Loc \&\& ty.size() == 4 => {\
+                self.deliver(b, Some(l));\
+                Some(vec![l])\
+            }\
+&/
+        /^            TS::Decl(i, init) => {$/,/^            }$/s/^                        self.full(|s| {$/                        if let (Pl::Slot(l), 4) = (\&pl, ty.size()) {\
+                            self.full(|s| s.deliver(e, Some(*l)));\
+                            return;\
+                        }\
+&/
+        s/^            TS::Return(Some(e)) => {$/            TS::Return(Some(e)) if self.f.ret.size() == 4 => self.full(|s| s.deliver(e, None)),\
+&/
+        s/^            TS::If(c, a, b) => {$/            TS::If(c, a, None) if self.going(a).is_some() => {\
+                let to = self.going(a).unwrap();\
+                self.full(|s| s.branch(c, to, true));\
+            }\
+&/' "$work/plain/src/lower.rs"
     plain=$(build_plain)
 else
     echo "C_REFERENCE names no folder of a plain lowering: answers are not compared"

@@ -3,10 +3,10 @@ use Rattle.std.proofs.Common.{ℕ, ◌+◌, ◌≤◌, List, [], ◌∷◌, refl
 use Rattle.std.specs.Prelude.{Bool}
 use Rattle.c_types.specs.declared.types.CType.{CType}
 use Rattle.c_lower_scheme.specs.Trees.{Tree, Item, Push, Call, Save}
-use Rattle.c_lower_scheme.specs.Parts.{Lowered, Passing, over}
-use Rattle.c_lower_scheme.specs.Calls.{pushes, args_count, called_drop, called_low, passed_as, no_arguments, pass_so}
+use Rattle.c_lower_scheme.specs.Parts.{Lowered, Passing, Destination, InLocal, AsResult, over}
+use Rattle.c_lower_scheme.specs.Calls.{pushes, args_count, called_drop, called_low, called_deliver, passed_as, no_arguments, pass_so}
 use Rattle.c_lower_bounds.proofs.Trees.{tree_forks, Narrow, none, next, behind}
-use Rattle.c_lower_bounds.proofs.Values.{Within, Ends, narrow_saving, saved_forks, next_one, fitted_forks, over_within}
+use Rattle.c_lower_bounds.proofs.Values.{Within, Ends, narrow_saving, saved_forks, next_one, fitted_forks, over_within, delivered_ends}
 
 -- no tree has more forks than so many
 abbrev pub Thin : ℕ → List Tree → Type 0
@@ -58,4 +58,14 @@ called_drop_ends f {n = n} {p = p} h = record {
   items = λ k le.
       let call : List Item = Call f (args_count p.trees) ∷ [] in
       behind (h.items k (omega arith)) (narrow_pushes k p.trees call (h.trees k (omega arith)) (next (omega arith) none));
+}
+
+pub called_deliver_ends : (to : Destination) (f : ℕ) {t n : ℕ} {p : Passing} → WithinPassing t n p → Ends 2 t (2 + n) (called_deliver to f p)
+called_deliver_ends AsResult f h = delivered_ends AsResult (called_low_within f h)
+called_deliver_ends (InLocal x) f {n = n} {p = p} h = record {
+  temps = omega (arith, h.temps);
+  items = λ k le.
+      let call : List Item = Call f (args_count p.trees) ∷ Save x ∷ [] in
+      let last : Narrow k call = next (omega arith) (next (omega arith) none) in
+      behind (h.items k (omega arith)) (narrow_pushes k p.trees call (h.trees k (omega arith)) last);
 }

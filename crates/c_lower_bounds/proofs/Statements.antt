@@ -7,13 +7,13 @@ use Rattle.c_program.specs.Statements.{ADeclaration, KeepOf, ClearOf, BeginOf, A
 use Rattle.c_program.specs.Statements.{ReturnOf, IfOf, IfElseOf, WhileOf, DoOf, ForOf}
 use Rattle.c_program.specs.Need.{nodes, maybe_nodes, returned_nodes, declared_nodes, largest, largest_of}
 use Rattle.c_lower_scheme.specs.Trees.{Num, Item, AssignLoc, Jump, Ret}
-use Rattle.c_lower_scheme.specs.Parts.{Lowered, Emitted, nothing}
+use Rattle.c_lower_scheme.specs.Parts.{Emitted, InLocal, AsResult, nothing}
 use Rattle.c_lower_scheme.specs.Expressions.{way}
 use Rattle.c_lower_scheme.specs.Mentions.{mentions}
-use Rattle.c_lower_scheme.specs.Flow.{two_done, ret_of, clearing, begin_of, if_done, if_else_done, loop_done, while_done, turns_done, for_done, ever_done}
-use Rattle.c_lower_scheme.specs.Statements.{unless, when, effect, returning, declare, while_by, for_tested, for_of, lower, lower_row}
+use Rattle.c_lower_scheme.specs.Flow.{two_done, clearing, begin_of, if_done, if_else_done, loop_done, while_done, turns_done, for_done, ever_done}
+use Rattle.c_lower_scheme.specs.Statements.{unless, when, effect, returning, declare, while_by, for_tested, for_of, lower, lower_row, going, if_by}
 use Rattle.c_lower_bounds.proofs.Trees.{item_forks, Narrow, none, next, behind}
-use Rattle.c_lower_bounds.proofs.Values.{Within, Ends}
+use Rattle.c_lower_bounds.proofs.Values.{Ends}
 use Rattle.c_lower_bounds.proofs.Phrases.{way_bounded}
 
 -- fewer temporaries than two for each of m nodes, and items with at most m forks
@@ -27,18 +27,12 @@ ends_hold spare {m = m} one le h = record { temps = omega (arith, h.temps); item
 two_hold : {size m : ℕ} {a b : Emitted} → Holds size m a → Holds size m b → Holds size m (two_done a b)
 two_hold h g = record { temps = omega (arith, h.temps, g.temps); items = behind h.items g.items }
 
-ret_holds : {size n m : ℕ} {p : Lowered} → n ≤ m → Within size n p → Holds size m (ret_of p)
-ret_holds {m = m} le h = record { temps = omega (arith, h.temps); items = behind (h.items m le) (next (omega (arith, h.tree)) none) }
-
 narrow_clearing : (b : Bool) (n m : ℕ) → 1 ≤ m → Narrow m (clearing b n)
 narrow_clearing true n m one = next (omega arith) none
 narrow_clearing false n m one = none
 
-begin_holds : (b : Bool) (x : ℕ) {size n m : ℕ} {p : Lowered} → 1 ≤ m → n ≤ m → Within size n p → Holds size m (begin_of b x p)
-begin_holds b x {m = m} one le h = record {
-  temps = omega (arith, h.temps);
-  items = behind (narrow_clearing b x m one) (behind (h.items m le) (next (omega (arith, h.tree)) none));
-}
+begin_holds : (b : Bool) (x : ℕ) {size n m : ℕ} {p : Emitted} → 1 ≤ m → n ≤ m → Ends 2 size n p → Holds size m (begin_of b x p)
+begin_holds b x {m = m} one le h = record { temps = omega (arith, h.temps); items = behind (narrow_clearing b x m one) (h.items m le) }
 
 if_holds : (l : ℕ) {size m : ℕ} {p a : Emitted} → Holds size m p → Holds size m a → Holds size m (if_done l p a)
 if_holds l h g = record {
@@ -110,16 +104,22 @@ module _ (size count m : ℕ) (one : 1 ≤ m) where
 
   returning_holds : (e : Option AnExpression) → returned_nodes e ≤ m → (l : ℕ) → Holds size m (returning size count e l)
   returning_holds None le l = one_holds (Ret (Num 0)) (omega arith) l
-  returning_holds (Some e) le l = ret_holds le ((way_bounded size count e).low size l)
+  returning_holds (Some e) le l = ends_hold 2 (omega arith) le ((way_bounded size count e).deliver AsResult size l)
 
   declare_holds : (ds : List ADeclaration) → declared_nodes ds ≤ m → (l : ℕ) → Holds size m (declare size count ds l)
   declare_holds [] le l = nothing_holds l
   declare_holds (KeepOf object ∷ ds) le l = declare_holds ds (omega arith) l
   declare_holds (ClearOf n ∷ ds) le l = two_hold (one_holds (AssignLoc n (Num 0)) (omega arith) l) (declare_holds ds (omega arith) l)
   declare_holds (BeginOf n e ∷ ds) le l =
-      let p : Lowered = (way size count e).low size l in
-      let first = begin_holds (mentions n e) n one (omega arith) ((way_bounded size count e).low size l) in
+      let p : Emitted = (way size count e).deliver (InLocal n) size l in
+      let first = begin_holds (mentions n e) n one (omega arith) ((way_bounded size count e).deliver (InLocal n) size l) in
       two_hold first (declare_holds ds (omega arith) p.labels)
+
+  if_by_holds : (o : Option ℕ) (l : ℕ) (c : AnExpression) (f : ℕ → Emitted) → nodes c ≤ m → ((k : ℕ) → Holds size m (f k)) → Holds size m (if_by size count o c f l)
+  if_by_holds (Some to) l c f le h = when_holds c le to l
+  if_by_holds None l c f le h =
+      let p : Emitted = unless size count c l (suc l) in
+      if_holds l (unless_holds c le l (suc l)) (h p.labels)
 
   while_by_holds : (o : Option ℕ) (l : ℕ) (c : AnExpression) (f : ℕ → ℕ → ℕ → Emitted) → nodes c ≤ m → ((lb lc k : ℕ) → Holds size m (f lb lc k))
       → Holds size m (while_by size count o c f l)
@@ -158,8 +158,8 @@ module _ (size count m : ℕ) (one : 1 ≤ m) where
     lower_holds ContinueOf le lb lc l = one_holds (Jump lc) (omega arith) l
     lower_holds (ReturnOf e) le lb lc l = returning_holds e le l
     lower_holds (IfOf c a) le lb lc l =
-        let p : Emitted = unless size count c l (suc l) in
-        if_holds l (unless_holds c (omega arith) l (suc l)) (lower_holds a (omega arith) lb lc p.labels)
+        let part : (k : ℕ) → Holds size m (lower size count a lb lc k) = lower_holds a (omega arith) lb lc in
+        if_by_holds (going a lb lc) l c (lower size count a lb lc) (omega arith) part
     lower_holds (IfElseOf c a b) le lb lc l =
         let p : Emitted = unless size count c l (suc (suc l)) in
         let q : Emitted = lower size count a lb lc p.labels in

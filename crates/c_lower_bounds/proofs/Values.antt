@@ -6,9 +6,9 @@ use Rattle.c_types.specs.declared.types.Integer.{Integer}
 use Rattle.c_types.specs.declared.types.Integer.TheVariants as ints
 use Rattle.c_types.specs.declared.types.CType.{CType}
 use Rattle.c_lower_scheme.specs.Trees.{Tree, breaks}
-use Rattle.c_lower_scheme.specs.Parts.{Lowered, Pair, Emitted, Lowering, due, over, then_done}
+use Rattle.c_lower_scheme.specs.Parts.{Lowered, Pair, Emitted, Lowering, Destination, InLocal, AsResult, due, over, then_done, delivered}
 use Rattle.c_lower_scheme.specs.Places.{saving, saved, next_if, integer_of, conv, fitted}
-use Rattle.c_lower_scheme.specs.Conditions.{test, dropped, valued, conditional, effective, mapped, drop_two}
+use Rattle.c_lower_scheme.specs.Conditions.{truth_of, test, dropped, valued, conditional, effective, mapped, deliver_as, converting, drop_two}
 use Rattle.c_lower_scheme.specs.Values.{join_so, must, binary, relation, joined}
 use Rattle.c_lower_bounds.proofs.Trees.{tree_forks, Narrow, none, next, behind}
 
@@ -30,11 +30,12 @@ pub record Ends (spare t n : ℕ) (p : Emitted) : Type 0 where
   pub temps : spare + p.temps ≤ t + (n + n)
   pub items : (m : ℕ) → n ≤ m → Narrow m p.items
 
--- the three ways to lower an expression of n nodes
+-- the four ways to lower an expression of n nodes
 pub record Bounded (n : ℕ) (e : Lowering) : Type 0 where
   pub low : (t l : ℕ) → Within t n (e.low t l)
   pub branch : (sense : Bool) (to t l : ℕ) → Ends 2 t n (e.branch sense to t l)
   pub drop : (t l : ℕ) → Ends 1 t n (e.drop t l)
+  pub deliver : (to : Destination) (t l : ℕ) → Ends 2 t n (e.deliver to t l)
 
 -- an operator keeps the forks of its operand, or adds at most two to those of both operands
 abbrev pub Keeps : (Tree → Tree) → Type 0
@@ -80,6 +81,10 @@ over_within f same k {t = t} {n = n} {p = p} le h =
 pub test_ends : (sense : Bool) (to : ℕ) {t n : ℕ} {p : Lowered} → Within t n p → Ends 2 t n (test sense to p)
 test_ends sense to h = record { temps = h.temps; items = λ m le. behind (h.items m le) (next (omega (arith, h.tree)) none) }
 
+pub delivered_ends : (to : Destination) {t n : ℕ} {p : Lowered} → Within t n p → Ends 2 t n (delivered to p)
+delivered_ends (InLocal x) h = record { temps = h.temps; items = λ m le. behind (h.items m le) (next (omega (arith, h.tree)) none) }
+delivered_ends AsResult h = record { temps = h.temps; items = λ m le. behind (h.items m le) (next (omega (arith, h.tree)) none) }
+
 pub dropped_ends : {t n : ℕ} {p : Lowered} → Within t n p → Ends 1 t n (dropped p)
 dropped_ends {p = p} h =
     let one = next_one (breaks p.tree) p.temps in
@@ -95,29 +100,56 @@ then_ends s r {m = m} {n = n} h g = record {
 }
 
 pub valued_bounded : {n : ℕ} {f : ℕ → ℕ → Lowered} → ((t l : ℕ) → Within t n (f t l)) → Bounded n (valued f)
-valued_bounded h = record { low = h; branch = λ sense to t l. test_ends sense to (h t l); drop = λ t l. dropped_ends (h t l) }
+valued_bounded h = record {
+  low = h;
+  branch = λ sense to t l. test_ends sense to (h t l);
+  drop = λ t l. dropped_ends (h t l);
+  deliver = λ to t l. delivered_ends to (h t l);
+}
 
 pub effective_bounded : {n : ℕ} {f : ℕ → ℕ → Lowered} {d : ℕ → ℕ → Emitted}
     → ((t l : ℕ) → Within t n (f t l)) → ((t l : ℕ) → Ends 1 t n (d t l)) → Bounded n (effective f d)
-effective_bounded h g = record { low = h; branch = λ sense to t l. test_ends sense to (h t l); drop = g }
+effective_bounded h g = record {
+  low = h;
+  branch = λ sense to t l. test_ends sense to (h t l);
+  drop = g;
+  deliver = λ to t l. delivered_ends to (h t l);
+}
 
 pub conditional_bounded : {n : ℕ} {f : Bool → ℕ → ℕ → ℕ → Emitted} {d : ℕ → ℕ → Emitted} → 1 ≤ n
     → ((sense : Bool) (to t l : ℕ) → Ends 3 t n (f sense to t l)) → ((t l : ℕ) → Ends 1 t n (d t l)) → Bounded n (conditional f d)
-conditional_bounded {n = n} one h g = record {
-  low = λ t l. let c = h false l (suc t) (suc l) in record {
-    temps = omega (arith, c.temps);
-    tree = one;
-    items = λ m le. next (omega arith) (behind (c.items m le) (next (omega arith) (next (omega arith) none)));
-  };
+conditional_bounded {n = n} {f = f} one h g = record {
+  low = truth;
   branch = λ sense to t l. ends_more 2 n (omega arith) (omega arith) (h sense to t l);
   drop = g;
+  deliver = λ to t l. delivered_ends to (truth t l);
 }
+  where
+    truth : (t l : ℕ) → Within t n (truth_of t l (f false l (suc t) (suc l)))
+    truth t l = let c = h false l (suc t) (suc l) in record {
+      temps = omega (arith, c.temps);
+      tree = one;
+      items = λ m le. next (omega arith) (behind (c.items m le) (next (omega arith) (next (omega arith) none)));
+    }
 
 -- a pure operator, which is a node or none
 pub mapped_bounded : (f : Tree → Tree) → Keeps f → (k : ℕ) {n : ℕ} {e : Lowering} → n ≤ k → Bounded n e → Bounded k (mapped f e)
 mapped_bounded f same k {n = n} le h = effective_bounded
     (λ t l. over_within f same k le (h.low t l))
     (λ t l. ends_more 1 k le (omega arith) (h.drop t l))
+
+-- a conversion
+deliver_as_ends : (i : Integer) (k : ℕ) {n : ℕ} {e : Lowering} → n ≤ k → Bounded n e → (to : Destination) (t l : ℕ) → Ends 2 t k (deliver_as i e to t l)
+deliver_as_ends ints.Char k le h to t l = delivered_ends to (over_within (conv ints.Char) (conv_forks ints.Char) k le (h.low t l))
+deliver_as_ends ints.UnsignedChar k le h to t l = delivered_ends to (over_within (conv ints.UnsignedChar) (conv_forks ints.UnsignedChar) k le (h.low t l))
+deliver_as_ends ints.Short k le h to t l = delivered_ends to (over_within (conv ints.Short) (conv_forks ints.Short) k le (h.low t l))
+deliver_as_ends ints.UnsignedShort k le h to t l = delivered_ends to (over_within (conv ints.UnsignedShort) (conv_forks ints.UnsignedShort) k le (h.low t l))
+deliver_as_ends ints.Int k {n = n} le h to t l = ends_more 2 k le (omega arith) (h.deliver to t l)
+
+pub converting_bounded : (ty : CType) (k : ℕ) {n : ℕ} {e : Lowering} → n ≤ k → Bounded n e → Bounded k (converting ty e)
+converting_bounded ty k {n = n} {e = e} le h =
+    let w : Bounded k (mapped (fitted ty) e) = mapped_bounded (fitted ty) (fitted_forks ty) k le h in
+    record { low = w.low; branch = w.branch; drop = w.drop; deliver = deliver_as_ends (integer_of ty) k le h }
 
 pub drop_two_ends : {m n : ℕ} {a b : Lowering} → Bounded m a → Bounded n b → (t l : ℕ) → Ends 2 t (m + n) (drop_two a b t l)
 drop_two_ends {a = a} h g t l = then_ends 1 1 (h.drop t l) (g.drop (a.drop t l).temps (a.drop t l).labels)

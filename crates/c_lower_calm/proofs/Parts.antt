@@ -6,9 +6,10 @@ use Rattle.c_types.specs.declared.types.Integer.{Integer}
 use Rattle.c_types.specs.declared.types.Integer.TheVariants as ints
 use Rattle.c_types.specs.declared.types.CType.{CType}
 use Rattle.c_lower_scheme.specs.Trees.{Tree, Num, Gaddr, Loc, Arg, Indir, Conv, Neg, Com, Bin, Item, divides_by, divides, reads, breaks, stable, is_leaf}
-use Rattle.c_lower_scheme.specs.Parts.{Lowered, Pair, Emitted, Lowering, Located, Assignable, due, over}
+use Rattle.c_lower_scheme.specs.Parts.{Lowered, Pair, Emitted, Lowering, Located, Assignable, due, over, Destination, InLocal, AsResult, delivered}
 use Rattle.c_lower_scheme.specs.Places.{saving, saved, integer_of, conv, fitted, address_tree}
 use Rattle.c_lower_scheme.specs.Conditions.{test, dropped, valued, conditional, effective, mapped, chained, same, goal, chain, chain_drop, drop_two, choose, comma}
+use Rattle.c_lower_scheme.specs.Conditions.{truth_of, deliver_as, converting, choose_deliver}
 use Rattle.c_lower_scheme.specs.Values.{must, joined, binary, relation}
 use Rattle.c_lower_calm.proofs.Trees.{Apart, IsCalm, AreCalm, none, next, behind}
 
@@ -26,6 +27,7 @@ pub record CalmWay (e : Lowering) : Type 0 where
   pub low : (t l : ℕ) → CalmLow (e.low t l)
   pub branch : (sense : Bool) (to t l : ℕ) → AreCalm (e.branch sense to t l).items
   pub drop : (t l : ℕ) → AreCalm (e.drop t l).items
+  pub deliver : (to : Destination) (t l : ℕ) → AreCalm (e.deliver to t l).items
 
 pub record CalmFound (p : Located) : Type 0 where
   pub place : IsCalm (address_tree p.place)
@@ -72,25 +74,45 @@ over_calm f keeps {p = p} h = record { tree = keeps p.tree h.tree; items = h.ite
 pub test_calm : (sense : Bool) (to : ℕ) {p : Lowered} → CalmLow p → AreCalm (test sense to p).items
 test_calm sense to h = behind h.items (next (h.tree, tt, λ e. refl) none)
 
+pub delivered_calm : (to : Destination) {p : Lowered} → CalmLow p → AreCalm (delivered to p).items
+delivered_calm (InLocal n) h = behind h.items (next h.tree none)
+delivered_calm AsResult h = behind h.items (next h.tree none)
+
 pub dropped_calm : {p : Lowered} → CalmLow p → AreCalm (dropped p).items
 dropped_calm {p = p} h = behind h.items (calm_saving (breaks p.tree) p.temps p.tree h.tree)
 
 pub valued_calm : {f : ℕ → ℕ → Lowered} → ((t l : ℕ) → CalmLow (f t l)) → CalmWay (valued f)
-valued_calm h = record { low = h; branch = λ sense to t l. test_calm sense to (h t l); drop = λ t l. dropped_calm (h t l) }
+valued_calm h = record {
+  low = h;
+  branch = λ sense to t l. test_calm sense to (h t l);
+  drop = λ t l. dropped_calm (h t l);
+  deliver = λ to t l. delivered_calm to (h t l);
+}
 
 pub effective_calm : {f : ℕ → ℕ → Lowered} {d : ℕ → ℕ → Emitted} → ((t l : ℕ) → CalmLow (f t l)) → ((t l : ℕ) → AreCalm (d t l).items) → CalmWay (effective f d)
-effective_calm h g = record { low = h; branch = λ sense to t l. test_calm sense to (h t l); drop = g }
+effective_calm h g = record { low = h; branch = λ sense to t l. test_calm sense to (h t l); drop = g; deliver = λ to t l. delivered_calm to (h t l) }
 
 pub conditional_calm : {f : Bool → ℕ → ℕ → ℕ → Emitted} {d : ℕ → ℕ → Emitted}
     → ((sense : Bool) (to t l : ℕ) → AreCalm (f sense to t l).items) → ((t l : ℕ) → AreCalm (d t l).items) → CalmWay (conditional f d)
-conditional_calm h g = record {
-  low = λ t l. record { tree = tt; items = next tt (behind (h false l (suc t) (suc l)) (next tt (next tt none))) };
-  branch = h;
-  drop = g;
-}
+conditional_calm {f = f} h g = record { low = truth; branch = h; drop = g; deliver = λ to t l. delivered_calm to (truth t l) }
+  where
+    truth : (t l : ℕ) → CalmLow (truth_of t l (f false l (suc t) (suc l)))
+    truth t l = record { tree = tt; items = next tt (behind (h false l (suc t) (suc l)) (next tt (next tt none))) }
 
 pub mapped_calm : (f : Tree → Tree) → ((w : Tree) → IsCalm w → IsCalm (f w)) → {e : Lowering} → CalmWay e → CalmWay (mapped f e)
 mapped_calm f keeps h = effective_calm (λ t l. over_calm f keeps (h.low t l)) h.drop
+
+deliver_as_calm : (i : Integer) {e : Lowering} → CalmWay e → (to : Destination) (t l : ℕ) → AreCalm (deliver_as i e to t l).items
+deliver_as_calm ints.Char h to t l = delivered_calm to (over_calm (conv ints.Char) (calm_conv ints.Char) (h.low t l))
+deliver_as_calm ints.UnsignedChar h to t l = delivered_calm to (over_calm (conv ints.UnsignedChar) (calm_conv ints.UnsignedChar) (h.low t l))
+deliver_as_calm ints.Short h to t l = delivered_calm to (over_calm (conv ints.Short) (calm_conv ints.Short) (h.low t l))
+deliver_as_calm ints.UnsignedShort h to t l = delivered_calm to (over_calm (conv ints.UnsignedShort) (calm_conv ints.UnsignedShort) (h.low t l))
+deliver_as_calm ints.Int h to t l = h.deliver to t l
+
+pub converting_calm : (ty : CType) {e : Lowering} → CalmWay e → CalmWay (converting ty e)
+converting_calm ty {e = e} h =
+    let w : CalmWay (mapped (fitted ty) e) = mapped_calm (fitted ty) (calm_fitted ty) h in
+    record { low = w.low; branch = w.branch; drop = w.drop; deliver = deliver_as_calm (integer_of ty) h }
 
 pub drop_two_calm : {a b : Lowering} → CalmWay a → CalmWay b → (t l : ℕ) → AreCalm (drop_two a b t l).items
 drop_two_calm {a = a} h g t l = behind (h.drop t l) (g.drop (a.drop t l).temps (a.drop t l).labels)
@@ -112,9 +134,8 @@ chain_calm stop {a = a} {b = b} h g = conditional_calm
     let p : Emitted = a.branch stop l t (suc l) in
     chained_calm false l b.drop (h.branch stop l t (suc l)) (g.drop p.temps p.labels))
 
-pub choose_calm : {c a b : Lowering} → CalmWay c → CalmWay a → CalmWay b → CalmWay (choose c a b)
-choose_calm {c = c} {a = a} {b = b} f h g = effective_calm
-    (λ t l.
+choose_low_calm : {c a b : Lowering} → CalmWay c → CalmWay a → CalmWay b → (t l : ℕ) → CalmLow ((choose c a b).low t l)
+choose_low_calm {c = c} {a = a} f h g t l =
     let p : Emitted = c.branch false l (suc t) (suc (suc l)) in
     let q : Lowered = a.low p.temps p.labels in
     let y = h.low p.temps p.labels in
@@ -122,11 +143,25 @@ choose_calm {c = c} {a = a} {b = b} f h g = effective_calm
     record {
       tree = tt;
       items = behind (f.branch false l (suc t) (suc (suc l))) (behind y.items (next y.tree (next tt (next tt (behind z.items (next z.tree (next tt none)))))));
-    })
-    (λ t l.
-    let p : Emitted = c.branch false l t (suc (suc l)) in
-    let q : Emitted = a.drop p.temps p.labels in
-    behind (f.branch false l t (suc (suc l))) (behind (h.drop p.temps p.labels) (next tt (next tt (behind (g.drop q.temps q.labels) (next tt none))))))
+    }
+
+choose_deliver_calm : (to : Destination) (l : ℕ) (p q r : Emitted) → AreCalm p.items → AreCalm q.items → AreCalm r.items → AreCalm (choose_deliver to l p q r).items
+choose_deliver_calm (InLocal n) l p q r f h g = behind f (behind h (next tt (next tt (behind g (next tt none)))))
+choose_deliver_calm AsResult l p q r f h g = behind f (behind h (next tt g))
+
+pub choose_calm : {c a b : Lowering} → CalmWay c → CalmWay a → CalmWay b → CalmWay (choose c a b)
+choose_calm {c = c} {a = a} {b = b} f h g = record {
+  low = choose_low_calm f h g;
+  branch = λ sense to t l. test_calm sense to (choose_low_calm f h g t l);
+  drop = λ t l.
+      let p : Emitted = c.branch false l t (suc (suc l)) in
+      let q : Emitted = a.drop p.temps p.labels in
+      behind (f.branch false l t (suc (suc l))) (behind (h.drop p.temps p.labels) (next tt (next tt (behind (g.drop q.temps q.labels) (next tt none)))));
+  deliver = λ to t l.
+      let p : Emitted = c.branch false l t (suc (suc l)) in
+      let q : Emitted = a.deliver to p.temps p.labels in
+      choose_deliver_calm to l p q (b.deliver to q.temps q.labels) (f.branch false l t (suc (suc l))) (h.deliver to p.temps p.labels) (g.deliver to q.temps q.labels);
+}
 
 pub comma_calm : {a b : Lowering} → CalmWay a → CalmWay b → CalmWay (comma a b)
 comma_calm {a = a} h g = record {
@@ -136,6 +171,7 @@ comma_calm {a = a} h g = record {
       record { tree = y.tree; items = behind (h.drop t l) y.items };
   branch = λ sense to t l. behind (h.drop t l) (g.branch sense to (a.drop t l).temps (a.drop t l).labels);
   drop = drop_two_calm h g;
+  deliver = λ to t l. behind (h.drop t l) (g.deliver to (a.drop t l).temps (a.drop t l).labels);
 }
 
 and_true_left : (a b : Bool) → a && b ≡ true → a ≡ true

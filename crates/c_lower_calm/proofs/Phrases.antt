@@ -1,6 +1,6 @@
 -- That each expression is lowered to calm items and trees.
 use Rattle.std.proofs.Common.{ℕ, List}
-use Rattle.std.specs.Prelude.{Bool, true, false, not}
+use Rattle.std.specs.Prelude.{Bool, true, false, not, Option, Some, None}
 use Rattle.c_types.specs.declared.types.CType.{CType}
 use Rattle.c_types.specs.declared.typed.UnaryOperator.{UnaryOperator}
 use Rattle.c_types.specs.declared.typed.UnaryOperator.TheVariants as unaries
@@ -8,22 +8,30 @@ use Rattle.c_types.specs.Typed.{APlace, VariableAt, PointedBy, ElementBy, AnExpr
 use Rattle.c_types.specs.Typed.{UnaryOf, CastTo, ConvertTo, ArithmeticOf, CompareOf, BothOf, EitherOf, AdvanceOf, AdvanceByOf, RetreatOf, DistanceOf, ChoiceOf, AssignTo}
 use Rattle.c_types.specs.Typed.{ArithmeticAssignTo, AdvanceAssignTo, RetreatAssignTo, CommaOf, SomeExpressions, NoExpressions, MoreExpressions}
 use Rattle.c_lower_scheme.specs.Trees.{Tree, Num, Gaddr, Neg, Com, Bin}
-use Rattle.c_lower_scheme.specs.Parts.{Lowered, Lowering, Located, Passing, is_nil, over}
-use Rattle.c_lower_scheme.specs.Places.{where_of, address_tree, fitted}
+use Rattle.c_lower_scheme.specs.Parts.{Lowered, Lowering, Located, Passing, is_nil, over, InLocal}
+use Rattle.c_lower_scheme.specs.Places.{where_of, address_tree}
 use Rattle.c_lower_scheme.specs.Values.{advance, advance_by, retreat, apart}
 use Rattle.c_lower_scheme.specs.Calls.{callee_number, passed_as, others, must_pass}
-use Rattle.c_lower_scheme.specs.Assignments.{assigned, updated, update_by}
+use Rattle.c_lower_scheme.specs.Assignments.{assigned, updated, update_by, assign_low, assign_drop, local_of}
 use Rattle.c_lower_scheme.specs.Expressions.{unary, seek, way, pass}
-use Rattle.c_lower_calm.proofs.Trees.{Apart, IsCalm, none}
+use Rattle.c_lower_calm.proofs.Trees.{Apart, IsCalm, AreCalm, none, behind}
 use Rattle.c_lower_calm.proofs.Parts.{CalmWay, CalmFound, CalmReady, due_calm, valued_calm, effective_calm, mapped_calm, not_calm, chain_calm, choose_calm, comma_calm, binary_calm}
-use Rattle.c_lower_calm.proofs.Parts.{relation_calm, calm_fitted}
+use Rattle.c_lower_calm.proofs.Parts.{relation_calm, converting_calm, test_calm, CalmLow}
 use Rattle.c_lower_calm.proofs.Places.{array_calm, found_calm, pointed_calm, read_calm, address_calm, store_drop_calm, store_low_calm, assigned_calm, update_calm, step_ready_calm}
 use Rattle.c_lower_calm.proofs.Places.{step_low_calm, advance_calm, advance_by_calm, retreat_calm, apart_calm, CalmPassing, no_trees, pass_calm, passed_calm, called_low_calm}
-use Rattle.c_lower_calm.proofs.Places.{called_drop_calm}
+use Rattle.c_lower_calm.proofs.Places.{called_drop_calm, called_deliver_calm}
 
 module _ (size count : ℕ) where
   stored_calm : (between : Bool) {p : Located} {e : Lowering} → CalmFound p → CalmWay e → CalmReady (assigned size count between p e.low)
   stored_calm between {p = p} h g = assigned_calm size count between h (g.low p.temps p.labels)
+
+  assign_low_calm : (o : Option ℕ) {p : Located} {e : Lowering} → CalmFound p → CalmWay e → CalmLow (assign_low size count o p e)
+  assign_low_calm None h g = store_low_calm (stored_calm true h g)
+  assign_low_calm (Some n) {p = p} h g = record { tree = tt; items = behind h.items (g.deliver (InLocal n) p.temps p.labels) }
+
+  assign_drop_calm : (o : Option ℕ) {p : Located} {e : Lowering} → CalmFound p → CalmWay e → AreCalm (assign_drop size count o p e).items
+  assign_drop_calm None h g = store_drop_calm (stored_calm false h g)
+  assign_drop_calm (Some n) {p = p} h g = behind h.items (g.deliver (InLocal n) p.temps p.labels)
 
   updated_calm : (f : CType → Tree → Tree → Tree) → ((ty : CType) (v w : Tree) → IsCalm v → IsCalm w → Apart v w → IsCalm (f ty v w)) → {p : Located} {e : Lowering}
       → CalmFound p → CalmWay e → CalmReady (updated size count f p e.low)
@@ -57,11 +65,16 @@ module _ (size count : ℕ) where
     way_calm (SizeofTerm n e) = valued_calm (due_calm (Num n) tt)
     way_calm (SizeOf n) = valued_calm (due_calm (Num n) tt)
     way_calm (AddressOf ty p) = valued_calm (λ t l. address_calm (place_calm p t l))
-    way_calm (CallOf ty f to es) = effective_calm (λ t l. called_low_calm (callee_number count f) (passing_calm es to t l)) (λ t l. called_drop_calm (callee_number count f) (passing_calm es to t l))
+    way_calm (CallOf ty f to es) = record {
+      low = λ t l. called_low_calm (callee_number count f) (passing_calm es to t l);
+      branch = λ sense at t l. test_calm sense at (called_low_calm (callee_number count f) (passing_calm es to t l));
+      drop = λ t l. called_drop_calm (callee_number count f) (passing_calm es to t l);
+      deliver = λ at t l. called_deliver_calm at (callee_number count f) (passing_calm es to t l);
+    }
     way_calm (StepOf m by p) = effective_calm (λ t l. step_low_calm size count m by (place_calm p t l)) (λ t l. store_drop_calm (step_ready_calm size count by (place_calm p t l)))
     way_calm (UnaryOf op e) = unary_calm op (way_calm e)
-    way_calm (CastTo ty e) = mapped_calm (fitted ty) (calm_fitted ty) (way_calm e)
-    way_calm (ConvertTo ty e) = mapped_calm (fitted ty) (calm_fitted ty) (way_calm e)
+    way_calm (CastTo ty e) = converting_calm ty (way_calm e)
+    way_calm (ConvertTo ty e) = converting_calm ty (way_calm e)
     way_calm (ArithmeticOf op a b) = binary_calm size count (Bin op) (λ v w h g apart. (h, g, apart)) (way_calm a) (way_calm b)
     way_calm (CompareOf r a b) = relation_calm size count r (way_calm a) (way_calm b)
     way_calm (BothOf a b) = chain_calm false (way_calm a) (way_calm b)
@@ -71,7 +84,9 @@ module _ (size count : ℕ) where
     way_calm (RetreatOf ty a b) = binary_calm size count (retreat ty) (retreat_calm ty) (way_calm a) (way_calm b)
     way_calm (DistanceOf ty a b) = binary_calm size count (apart ty) (apart_calm ty) (way_calm a) (way_calm b)
     way_calm (ChoiceOf ty c a b) = choose_calm (way_calm c) (way_calm a) (way_calm b)
-    way_calm (AssignTo p e) = effective_calm (λ t l. store_low_calm (stored_calm true (place_calm p t l) (way_calm e))) (λ t l. store_drop_calm (stored_calm false (place_calm p t l) (way_calm e)))
+    way_calm (AssignTo p e) = effective_calm
+        (λ t l. assign_low_calm (local_of size count (seek size count p t l)) (place_calm p t l) (way_calm e))
+        (λ t l. assign_drop_calm (local_of size count (seek size count p t l)) (place_calm p t l) (way_calm e))
     way_calm (ArithmeticAssignTo op p e) = update_by_calm (λ ty. Bin op) (λ ty v w h g apart. (h, g, apart)) (place_calm p) (way_calm e)
     way_calm (AdvanceAssignTo p e) = update_by_calm advance advance_calm (place_calm p) (way_calm e)
     way_calm (RetreatAssignTo p e) = update_by_calm retreat retreat_calm (place_calm p) (way_calm e)

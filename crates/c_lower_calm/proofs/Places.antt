@@ -11,13 +11,13 @@ use Rattle.c_types.specs.declared.typed.Moment.TheVariants as moments
 use Rattle.c_types.specs.declared.typed.ArithmeticOperator.TheVariants as ariths
 use Rattle.c_types.specs.Constants.{scale}
 use Rattle.c_lower_scheme.specs.Trees.{Tree, Num, Loc, Bin, Item, divides, reads, breaks, stable, is_leaf}
-use Rattle.c_lower_scheme.specs.Parts.{Lowered, Where, InLoc, InArg, InMem, Located, Passing, Assignable, over}
+use Rattle.c_lower_scheme.specs.Parts.{Lowered, Where, InLoc, InArg, InMem, Located, Passing, Assignable, over, Destination, InLocal, AsResult}
 use Rattle.c_lower_scheme.specs.Places.{saved, next_if, read_from, assign_to, address_tree, where_of, found, pointed, read_low, address_low, holding, held}
 use Rattle.c_lower_scheme.specs.Values.{scaled_by, advance, advance_by, retreat, apart, step, must}
-use Rattle.c_lower_scheme.specs.Calls.{pushes, called_drop, called_low, passed_as, pass_so}
+use Rattle.c_lower_scheme.specs.Calls.{pushes, called_drop, called_low, passed_as, pass_so, called_deliver}
 use Rattle.c_lower_scheme.specs.Assignments.{ready_so, update_so, store_drop, store_low_at, store_low, must_hold, must_keep, step_tree, step_ready, step_low}
 use Rattle.c_lower_calm.proofs.Trees.{Apart, IsCalm, IsCalmItem, AreCalm, none, next, behind, none_left}
-use Rattle.c_lower_calm.proofs.Parts.{CalmLow, CalmFound, CalmReady, never, inert_apart, calm_saving, calm_saved, calm_fitted, over_calm, leaf_inert, must_apart}
+use Rattle.c_lower_calm.proofs.Parts.{CalmLow, CalmFound, CalmReady, never, inert_apart, calm_saving, calm_saved, calm_fitted, over_calm, leaf_inert, must_apart, delivered_calm}
 
 calm_where : (v : Variable) → IsCalm (address_tree (where_of v))
 calm_where (variables.Automatic n) = tt
@@ -232,3 +232,7 @@ called_low_calm f {p = p} h = record { tree = tt; items = behind h.items (calm_p
 
 pub called_drop_calm : (f : ℕ) {p : Passing} → CalmPassing p → AreCalm (called_drop f p).items
 called_drop_calm f {p = p} h = behind h.items (calm_pushes h.trees (next tt none))
+
+pub called_deliver_calm : (to : Destination) (f : ℕ) {p : Passing} → CalmPassing p → AreCalm (called_deliver to f p).items
+called_deliver_calm (InLocal n) f {p = p} h = behind h.items (calm_pushes h.trees (next tt (next tt none)))
+called_deliver_calm AsResult f h = delivered_calm AsResult (called_low_calm f h)

@@ -1,6 +1,6 @@
 -- A plain expression is due as its own tree, without items.
-use Rattle.std.proofs.Common.{◌≡◌, ℕ, [], refl, ap, ◌∙◌}
-use Rattle.std.specs.Prelude.{Bool, true, false, ◌&&◌, ◌||◌, ◌==◌, if◌then◌else◌}
+use Rattle.std.proofs.Common.{◌≡◌, ℕ, [], refl, ap, sym, ◌∙◌}
+use Rattle.std.specs.Prelude.{Bool, true, false, ◌&&◌, ◌||◌, ◌==◌, if◌then◌else◌, Option, Some, None}
 use Rattle.c_types.specs.declared.types.Integer.{Integer}
 use Rattle.c_types.specs.declared.types.Integer.TheVariants as ints
 use Rattle.c_types.specs.declared.types.CType.{CType}
@@ -13,14 +13,15 @@ use Rattle.c_types.specs.Typed.{UnaryOf, CastTo, ConvertTo, ArithmeticOf, Compar
 use Rattle.c_types.specs.Typed.{ArithmeticAssignTo, AdvanceAssignTo, RetreatAssignTo, CommaOf}
 use Rattle.tree_core.specs.declared.program.TreeItem.{TreeItem}
 use Rattle.tree_core.specs.declared.program.TreeItem.TheVariants as item
-use Rattle.c_lower_scheme.specs.Trees.{Tree, Num, Neg, Com, Bin, Item, divides, reads, breaks}
-use Rattle.c_lower_scheme.specs.Parts.{Lowered, Lowering, Where, InLoc, InArg, InMem, Located, due, over, over_two}
-use Rattle.c_lower_scheme.specs.Places.{integer_of, conv, fitted, read_from, assign_to, address_tree, pointed, read_low}
+use Rattle.c_lower_scheme.specs.Trees.{Tree, Num, Neg, Com, Bin, Item, divides, reads, breaks, AssignLoc}
+use Rattle.c_lower_scheme.specs.Parts.{Lowered, Lowering, Where, InLoc, InArg, InMem, Located, due, over, over_two, Emitted, Destination, InLocal, AsResult, delivered}
+use Rattle.c_lower_scheme.specs.Places.{integer_of, conv, fitted, read_from, assign_to, address_tree, pointed, read_low, local_in}
 use Rattle.c_lower_scheme.specs.Values.{scaled_by, shared_by, advance, advance_by, retreat, apart, join, join_so, joined}
-use Rattle.c_lower_scheme.specs.Assignments.{ready_so, store_drop, assigned, assign_ready}
+use Rattle.c_lower_scheme.specs.Assignments.{ready_so, store_drop, assign_ready, fill_drop, assign_drop, local_of}
 use Rattle.c_lower_scheme.specs.Expressions.{unary, seek, way}
-use Rattle.c_lower_scheme.specs.Flow.{ret_of}
+use Rattle.c_lower_scheme.specs.Conditions.{deliver_as}
 use Rattle.c_lower_scheme.specs.Spelling.{spelled}
+use Rattle.c_lower_scheme.proofs.Places.{local_is}
 use Rattle.c_lower_calm.specs.Plain.{PlainPlace, Plain, PlainUnary, unary_tree, type_at, place_at, plain_tree}
 use Rattle.c_lower_calm.specs.Claim.{SpellsCalm, only, returned, stored, PlainIsOneTree}
 use Rattle.c_lower_calm.proofs.Trees.{Apart, IsCalm, IsCalmItem, RootIsCalm}
@@ -144,6 +145,54 @@ module _ (size count : ℕ) where
     plain_due (RetreatAssignTo x e) p h t l = absurd p
     plain_due (CommaOf ty a b) p h t l = absurd p
 
+  -- and so it is at a destination
+  as_deliver : (i : Integer) (e : Lowering) (w : Tree) → IsDue e w → ((to : Destination) (t l : ℕ) → e.deliver to t l ≡ delivered to (due w t l))
+      → (to : Destination) (t l : ℕ) → deliver_as i e to t l ≡ delivered to (due (conv i w) t l)
+  as_deliver ints.Char e w h g to t l = ap (λ (q : Lowered). delivered to (over (conv ints.Char) q)) (h t l)
+  as_deliver ints.UnsignedChar e w h g to t l = ap (λ (q : Lowered). delivered to (over (conv ints.UnsignedChar) q)) (h t l)
+  as_deliver ints.Short e w h g to t l = ap (λ (q : Lowered). delivered to (over (conv ints.Short) q)) (h t l)
+  as_deliver ints.UnsignedShort e w h g to t l = ap (λ (q : Lowered). delivered to (over (conv ints.UnsignedShort) q)) (h t l)
+  as_deliver ints.Int e w h g to t l = g to t l
+
+  unary_deliver : (op : UnaryOperator) (e : Lowering) (w : Tree) → PlainUnary op → IsDue e w → (to : Destination) (t l : ℕ)
+      → (unary size count op e).deliver to t l ≡ delivered to (due (unary_tree op w) t l)
+  unary_deliver unaries.Plus e w p h to t l = ap (delivered to) (unary_due unaries.Plus e w p h t l)
+  unary_deliver unaries.Minus e w p h to t l = ap (delivered to) (unary_due unaries.Minus e w p h t l)
+  unary_deliver unaries.Complement e w p h to t l = ap (delivered to) (unary_due unaries.Complement e w p h t l)
+  unary_deliver unaries.Not e w p h to t l = absurd p
+
+  plain_deliver : (e : AnExpression) → Plain e → IsCalm (plain_tree e) → (to : Destination) (t l : ℕ) → (way size count e).deliver to t l ≡ delivered to (due (plain_tree e) t l)
+  plain_deliver (Constant n) p h to t l = refl
+  plain_deliver (LiteralAt n bytes) p h to t l = refl
+  plain_deliver (ArrayAt ty v bytes) p h to t l = refl
+  plain_deliver (ReadOf x) p h to t l = ap (delivered to) (plain_due (ReadOf x) p h t l)
+  plain_deliver (SizeofTerm n e) p h to t l = refl
+  plain_deliver (SizeOf n) p h to t l = refl
+  plain_deliver (AddressOf ty x) p h to t l = absurd p
+  plain_deliver (CallOf ty f ts es) p h to t l = absurd p
+  plain_deliver (StepOf m by x) p h to t l = absurd p
+  plain_deliver (UnaryOf op e) p h to t l = unary_deliver op (way size count e) (plain_tree e) p.0 (plain_due e p.1 (unary_calm op (plain_tree e) p.0 h)) to t l
+  plain_deliver (CastTo ty e) p h to t l =
+      let c = fitted_calm ty (plain_tree e) h in
+      as_deliver (integer_of ty) (way size count e) (plain_tree e) (plain_due e p c) (plain_deliver e p c) to t l
+  plain_deliver (ConvertTo ty e) p h to t l =
+      let c = fitted_calm ty (plain_tree e) h in
+      as_deliver (integer_of ty) (way size count e) (plain_tree e) (plain_due e p c) (plain_deliver e p c) to t l
+  plain_deliver (ArithmeticOf op a b) p h to t l = ap (delivered to) (plain_due (ArithmeticOf op a b) p h t l)
+  plain_deliver (CompareOf r a b) p h to t l = absurd p
+  plain_deliver (BothOf a b) p h to t l = absurd p
+  plain_deliver (EitherOf a b) p h to t l = absurd p
+  plain_deliver (AdvanceOf ty a b) p h to t l = ap (delivered to) (plain_due (AdvanceOf ty a b) p h t l)
+  plain_deliver (AdvanceByOf ty a b) p h to t l = ap (delivered to) (plain_due (AdvanceByOf ty a b) p h t l)
+  plain_deliver (RetreatOf ty a b) p h to t l = ap (delivered to) (plain_due (RetreatOf ty a b) p h t l)
+  plain_deliver (DistanceOf ty a b) p h to t l = ap (delivered to) (plain_due (DistanceOf ty a b) p h t l)
+  plain_deliver (ChoiceOf ty c a b) p h to t l = absurd p
+  plain_deliver (AssignTo x e) p h to t l = absurd p
+  plain_deliver (ArithmeticAssignTo op x e) p h to t l = absurd p
+  plain_deliver (AdvanceAssignTo x e) p h to t l = absurd p
+  plain_deliver (RetreatAssignTo x e) p h to t l = absurd p
+  plain_deliver (CommaOf ty a b) p h to t l = absurd p
+
   -- the assignment's parts, from its item
   parts_of : (ty : CType) (s : Where) (w : Tree) → IsCalmItem (assign_to ty s w) → Parts (address_tree s) w
   parts_of ty (InLoc n) w h = (tt, fitted_calm ty w h, λ e. absurd (cc))
@@ -158,6 +207,19 @@ module _ (size count : ℕ) where
   stored_due ty (InMem a) w h t l =
       ap (λ c. store_drop (ready_so (c || (false && breaks a)) (found_at ty (InMem a) t l) (due w t l))) (and_false (divides a) (reads w) h)
 
+  -- a local takes what is delivered as it is
+  filled : (ty : CType) (s : Where) (n : ℕ) (w : Tree) → s ≡ InLoc n → integer_of ty ≡ ints.Int → assign_to ty s w ≡ AssignLoc n w
+  filled ty s n w at whole = ap (λ x. assign_to ty x w) at ∙ ap (λ i. AssignLoc n (conv i w)) whole
+
+  assigned_due : (o : Option ℕ) (ty : CType) (s : Where) (e : AnExpression) → local_in (integer_of ty) s ≡ o → Plain e → IsCalm (plain_tree e) → Apart (address_tree s) (plain_tree e)
+      → (t l : ℕ) → assign_drop size count o (found_at ty s t l) (way size count e) ≡ only (assign_to ty s (plain_tree e)) t l
+  assigned_due None ty s e same p h apart t l =
+      ap (λ (q : Lowered). store_drop (assign_ready size count false (found_at ty s t l) q)) (plain_due e p h t l) ∙ stored_due ty s (plain_tree e) apart t l
+  assigned_due (Some n) ty s e same p h apart t l =
+      let is = local_is (integer_of ty) s n same in
+      ap (λ (q : Emitted). fill_drop (found_at ty s t l) q) (plain_deliver e p h (InLocal n) t l)
+      ∙ ap (λ (i : Item). only i t l) (sym (filled ty s n (plain_tree e) is.0 is.1))
+
 -- an item is calm as its leaves are
 calm_item : (i : Item) → SpellsCalm i → IsCalmItem i
 calm_item i h = item_back i (by (spelled i) refl)
@@ -168,10 +230,9 @@ calm_item i h = item_back i (by (spelled i) refl)
 
 pub plain_is_one_tree : PlainIsOneTree
 plain_is_one_tree = record {
-  returns = λ size count lb lc l e p h. ap ret_of (plain_due size count e p (calm_item (returned e) h) size l);
+  returns = λ size count lb lc l e p h. plain_deliver size count e p (calm_item (returned e) h) AsResult size l;
   stores = λ size count lb lc l p e pp pe h.
       let c = parts_of size count (type_at p) (place_at p) (plain_tree e) (calm_item (stored p e) h) in
-      ap (λ (x : Located). store_drop (assigned size count false x (way size count e).low)) (place_due size count p pp c.0 size l)
-      ∙ ap (λ (q : Lowered). store_drop (assign_ready size count false (found_at (type_at p) (place_at p) size l) q)) (plain_due size count e pe c.1 size l)
-      ∙ stored_due size count (type_at p) (place_at p) (plain_tree e) c.2 size l;
+      ap (λ (x : Located). assign_drop size count (local_of size count x) x (way size count e)) (place_due size count p pp c.0 size l)
+      ∙ assigned_due size count (local_in (integer_of (type_at p)) (place_at p)) (type_at p) (place_at p) e refl pe c.1 c.2 size l;
 }

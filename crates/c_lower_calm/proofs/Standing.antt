@@ -9,7 +9,7 @@ use Rattle.c_program.specs.Statements.{AnAction, SomeActions, NoActions, MoreAct
 use Rattle.c_program.specs.Programs.{ARoutine}
 use Rattle.c_lower_scheme.specs.Trees.{Item, Num, Label, Jump, Ret}
 use Rattle.c_lower_scheme.specs.Parts.{Emitted}
-use Rattle.c_lower_scheme.specs.Statements.{unless, effect, while_by, for_tested, for_of, lower, lower_row}
+use Rattle.c_lower_scheme.specs.Statements.{unless, effect, while_by, for_tested, for_of, lower, lower_row, when, going, going_alone, if_by}
 use Rattle.c_lower_scheme.specs.Spelling.{spelled, spelled_all}
 use Rattle.c_lower_scheme.specs.Programs.{body_of, items_of, function_of, lower_all}
 use Rattle.c_lower_calm.specs.Claim.{SpellsCalm, simple, simple_of, IsPlainOne, Returns, Stores, HaveItems, Ended, Next, PlainStatementsAreOneTree}
@@ -86,6 +86,35 @@ module _ (size count : ℕ) where
   never_one _ never items _ (Returns e plain) calm = absurd never
   never_one _ never items _ (Stores p e place plain) calm = absurd never
 
+  -- a `break` or `continue` whose test goes there has no item of its own
+  mutual
+    away_stands : (a : AnAction) (lb lc to : ℕ) (items : List Item) (acts : List AnAction) → going a lb lc ≡ Some to → Onto items (simple a) acts
+    away_stands BreakOf lb lc to items acts e behind h = in_front (spelled_all items) (BreakOf ∷ acts) behind (Next BreakOf acts [] [] behind (never_one BreakOf tt []) h)
+    away_stands ContinueOf lb lc to items acts e behind h =
+        in_front (spelled_all items) (ContinueOf ∷ acts) behind (Next ContinueOf acts [] [] behind (never_one ContinueOf tt []) h)
+    away_stands (DeclareOf ds) lb lc to items acts e behind h = absurd (cc)
+    away_stands (BlockOf row) lb lc to items acts e behind h = alone_away row lb lc to items acts e behind h
+    away_stands (EvaluateOf x) lb lc to items acts e behind h = absurd (cc)
+    away_stands (ReturnOf x) lb lc to items acts e behind h = absurd (cc)
+    away_stands (IfOf c a) lb lc to items acts e behind h = absurd (cc)
+    away_stands (IfElseOf c a b) lb lc to items acts e behind h = absurd (cc)
+    away_stands (WhileOf c a) lb lc to items acts e behind h = absurd (cc)
+    away_stands (DoOf a c) lb lc to items acts e behind h = absurd (cc)
+    away_stands (ForOf i c x a) lb lc to items acts e behind h = absurd (cc)
+
+    alone_away : (row : SomeActions) (lb lc to : ℕ) (items : List Item) (acts : List AnAction) → going_alone row lb lc ≡ Some to → Onto items (simple_of row) acts
+    alone_away NoActions lb lc to items acts e behind h = absurd (cc)
+    alone_away (MoreActions a NoActions) lb lc to items acts e behind h =
+        subst (λ (z : List AnAction). HaveItems z (spelled_all items ++ behind)) (sym (append_assoc (simple a) [] acts)) (away_stands a lb lc to items acts e behind h)
+    alone_away (MoreActions a (MoreActions b row)) lb lc to items acts e behind h = absurd (cc)
+
+  if_stands : (o : Option ℕ) (c : AnExpression) (a : AnAction) (lb lc l : ℕ) (acts : List AnAction) → going a lb lc ≡ o →
+      ((k : ℕ) → Onto (lower size count a lb lc k).items (simple a) acts) → Onto (if_by size count o c (lower size count a lb lc) l).items (simple a) acts
+  if_stands (Some to) c a lb lc l acts e body = away_stands a lb lc to (when size count c to l).items acts e
+  if_stands None c a lb lc l acts e body =
+      let p = unless size count c l (suc l) in
+      second p.items _ (simple a) acts (first (lower size count a lb lc p.labels).items _ (simple a) acts (body p.labels))
+
   -- a `while` by its body's items
   while_stands : (o : Option ℕ) (c : AnExpression) (a : AnAction) (l : ℕ) (acts : List AnAction) →
       ((lb lc k : ℕ) → Onto (lower size count a lb lc k).items (simple a) acts) → Onto (while_by size count o c (lower size count a) l).items (simple a) acts
@@ -125,9 +154,7 @@ module _ (size count : ℕ) where
     act_stands BreakOf lb lc l acts = own_items BreakOf acts (lower size count BreakOf lb lc l).items (never_one BreakOf tt (lower size count BreakOf lb lc l).items)
     act_stands ContinueOf lb lc l acts = own_items ContinueOf acts (lower size count ContinueOf lb lc l).items (never_one ContinueOf tt (lower size count ContinueOf lb lc l).items)
     act_stands (ReturnOf e) lb lc l acts = own_items (ReturnOf e) acts (lower size count (ReturnOf e) lb lc l).items (return_one e lb lc l)
-    act_stands (IfOf c a) lb lc l acts =
-        let p = unless size count c l (suc l) in
-        second p.items _ (simple a) acts (first (lower size count a lb lc p.labels).items _ (simple a) acts (act_stands a lb lc p.labels acts))
+    act_stands (IfOf c a) lb lc l acts = if_stands (going a lb lc) c a lb lc l acts refl (λ k. act_stands a lb lc k acts)
     act_stands (IfElseOf c a b) lb lc l acts =
         let p = unless size count c l (suc (suc l)) in
         let x = lower size count a lb lc p.labels in

@@ -5,11 +5,11 @@ use Rattle.c_types.specs.Constants.{constant_of}
 use Rattle.c_types.specs.Typed.{AnExpression}
 use Rattle.c_program.specs.Statements.{ADeclaration, KeepOf, ClearOf, BeginOf, AnAction, SomeActions, NoActions, MoreActions, DeclareOf, BlockOf, EvaluateOf, BreakOf, ContinueOf}
 use Rattle.c_program.specs.Statements.{ReturnOf, IfOf, IfElseOf, WhileOf, DoOf, ForOf}
-use Rattle.c_lower_scheme.specs.Parts.{Lowered, Emitted}
+use Rattle.c_lower_scheme.specs.Parts.{Emitted, InLocal, AsResult}
 use Rattle.c_lower_scheme.specs.Expressions.{way}
 use Rattle.c_lower_scheme.specs.Mentions.{mentions}
 use Rattle.c_lower_scheme.specs.Flow.{clearing}
-use Rattle.c_lower_scheme.specs.Statements.{unless, effect, returning, declare, while_by, for_tested, for_of, lower, lower_row}
+use Rattle.c_lower_scheme.specs.Statements.{unless, effect, returning, declare, while_by, for_tested, for_of, lower, lower_row, going, if_by}
 use Rattle.c_lower_calm.proofs.Trees.{AreCalm, none, next, behind}
 use Rattle.c_lower_calm.proofs.Phrases.{way_calm}
 
@@ -24,16 +24,21 @@ module _ (size count : ℕ) where
 
   returning_calm : (e : Option AnExpression) (l : ℕ) → AreCalm (returning size count e l).items
   returning_calm None l = next tt none
-  returning_calm (Some e) l = let h = (way_calm size count e).low size l in behind h.items (next h.tree none)
+  returning_calm (Some e) l = (way_calm size count e).deliver AsResult size l
 
   declare_calm : (ds : List ADeclaration) (l : ℕ) → AreCalm (declare size count ds l).items
   declare_calm [] l = none
   declare_calm (KeepOf object ∷ ds) l = declare_calm ds l
   declare_calm (ClearOf n ∷ ds) l = next tt (declare_calm ds l)
   declare_calm (BeginOf n e ∷ ds) l =
-      let p : Lowered = (way size count e).low size l in
-      let h = (way_calm size count e).low size l in
-      behind (behind (calm_clearing (mentions n e) n) (behind h.items (next h.tree none))) (declare_calm ds p.labels)
+      let p : Emitted = (way size count e).deliver (InLocal n) size l in
+      behind (behind (calm_clearing (mentions n e) n) ((way_calm size count e).deliver (InLocal n) size l)) (declare_calm ds p.labels)
+
+  if_by_calm : (o : Option ℕ) (l : ℕ) (c : AnExpression) (f : ℕ → Emitted) → ((k : ℕ) → AreCalm (f k).items) → AreCalm (if_by size count o c f l).items
+  if_by_calm (Some to) l c f h = (way_calm size count c).branch true to size l
+  if_by_calm None l c f h =
+      let p : Emitted = unless size count c l (suc l) in
+      behind ((way_calm size count c).branch false l size (suc l)) (behind (h p.labels) (next tt none))
 
   while_by_calm : (o : Option ℕ) (l : ℕ) (c : AnExpression) (f : ℕ → ℕ → ℕ → Emitted) → ((lb lc k : ℕ) → AreCalm (f lb lc k).items)
       → AreCalm (while_by size count o c f l).items
@@ -72,9 +77,7 @@ module _ (size count : ℕ) where
     lower_calm BreakOf lb lc l = next tt none
     lower_calm ContinueOf lb lc l = next tt none
     lower_calm (ReturnOf e) lb lc l = returning_calm e l
-    lower_calm (IfOf c a) lb lc l =
-        let p : Emitted = unless size count c l (suc l) in
-        behind ((way_calm size count c).branch false l size (suc l)) (behind (lower_calm a lb lc p.labels) (next tt none))
+    lower_calm (IfOf c a) lb lc l = if_by_calm (going a lb lc) l c (lower size count a lb lc) (lower_calm a lb lc)
     lower_calm (IfElseOf c a b) lb lc l =
         let p : Emitted = unless size count c l (suc (suc l)) in
         let q : Emitted = lower size count a lb lc p.labels in

@@ -10,8 +10,8 @@ use Rattle.c_types.specs.declared.typed.Expression.{Expression}
 use Rattle.c_types.specs.declared.typed.Expression.TheVariants as typeds
 use Rattle.c_types.specs.Typed.{CallOf, term, terms, place_of}
 use Rattle.c_types.proofs.Rows.{call_is}
-use Rattle.c_lower_scheme.specs.Parts.{Lowered, Passing, Located, Emitted}
-use Rattle.c_lower_scheme.specs.Calls.{called_low, called_drop, callee_number}
+use Rattle.c_lower_scheme.specs.Parts.{Lowered, Passing, Located, Emitted, Destination}
+use Rattle.c_lower_scheme.specs.Calls.{called_low, called_drop, called_deliver, callee_number}
 use Rattle.c_lower_scheme.specs.Assignments.{step_ready, store_drop}
 use Rattle.c_lower_scheme.specs.Expressions.{way, pass, seek}
 use Rattle.c_lower_code.specs.Sizes.{size, all_size}
@@ -36,6 +36,14 @@ pub call_effect : (locals count : ℕ) (e : Expression) (t : CType) (f : Callee)
 call_effect locals count e t f to xs list tos u l n p r is same at number args made =
     let one : (way locals count (term e)).drop u l ≡ called_drop (callee_number count f) (pass locals count (terms list) to u l) =
     ap (λ x. (way locals count x).drop u l) (call_is e t f to xs list is same) in
+    cc
+
+pub call_deliver : (locals count : ℕ) (e : Expression) (t : CType) (f : Callee) (to : List CType) (xs : Vec Expression) (list : List Expression) (tos : List CType) (u l n : ℕ) (at : Destination)
+    (p : Passing) (r : Emitted) → e ≡ typeds.Call t f to xs → list ≡ xs.items → tos ≡ to → n ≡ callee_number count f → p ≡ pass locals count (terms list) tos u l → r ≡ called_deliver at n p → r
+    ≡ (way locals count (term e)).deliver at u l
+call_deliver locals count e t f to xs list tos u l n at p r is same types number args made =
+    let one : (way locals count (term e)).deliver at u l ≡ called_deliver at (callee_number count f) (pass locals count (terms list) to u l) =
+    ap (λ x. (way locals count x).deliver at u l) (call_is e t f to xs list is same) in
     cc
 
 pub step_effect : (locals count : ℕ) (e : Expression) (m : Moment) (by : Direction) (p : Place) (t l : ℕ) (q : Located) (r : Emitted) → e ≡ typeds.Step m by p → q

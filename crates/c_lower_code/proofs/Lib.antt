@@ -3,3 +3,4 @@ pub mod Pushing
 pub mod Rows
 pub mod Onto
 pub mod Calls
+pub mod Going

@@ -1,8 +1,8 @@
 -- Arguments that are pushed one at a time, the last first.
 use Rattle.std.proofs.Common.{◌≡◌, ℕ, suc, Bool, List, [], ◌∷◌, ◌++◌, refl, ap, sym, ◌∙◌, append_assoc}
 use Rattle.c_lower_scheme.specs.Trees.{Tree, Item, Loc, Push, Call, Save}
-use Rattle.c_lower_scheme.specs.Parts.{Lowered, Emitted}
-use Rattle.c_lower_scheme.specs.Calls.{pushes, args_count, called_low, called_drop}
+use Rattle.c_lower_scheme.specs.Parts.{Lowered, Emitted, InLocal}
+use Rattle.c_lower_scheme.specs.Calls.{pushes, args_count, called_low, called_drop, called_deliver}
 
 pub pushes_append : (ws : List Tree) (is js : List Item) → pushes ws (is ++ js) ≡ pushes ws is ++ js
 pushes_append [] is js = refl
@@ -36,4 +36,12 @@ called_saved a b c d ws f n t u l quiet next count one two three =
     let four = append_assoc b (Call f n ∷ []) (Save t ∷ []) in
     let five = append_assoc a (pushes ws []) (Call f n ∷ Save t ∷ []) in
     let six = pushes_behind ws (Call f n ∷ Save t ∷ []) in
+    cc
+
+pub called_filled : (a b c d : List Item) (ws : List Tree) (x f n t l : ℕ) (quiet : Bool) → n ≡ args_count ws → b ≡ a ++ pushes ws [] → c ≡ b ++ (Call f n ∷ []) → d ≡ c ++ (Save x ∷ [])
+    → record { items = d; temps = t; labels = l } ≡ called_deliver (InLocal x) f (record { items = a; trees = ws; quiet = quiet; temps = t; labels = l })
+called_filled a b c d ws x f n t l quiet count one two three =
+    let four = append_assoc b (Call f n ∷ []) (Save x ∷ []) in
+    let five = append_assoc a (pushes ws []) (Call f n ∷ Save x ∷ []) in
+    let six = pushes_behind ws (Call f n ∷ Save x ∷ []) in
     cc

@@ -8,6 +8,8 @@ use Rattle.c_lower_code.specs.declared.part.Lowered.{Lowered}
 use Rattle.c_lower_code.specs.declared.part.Pair.{Pair}
 use Rattle.c_lower_code.specs.declared.part.Storage.{Storage}
 use Rattle.c_lower_code.specs.declared.part.Storage.TheVariants as storages
+use Rattle.c_lower_code.specs.declared.part.Destination.{Destination}
+use Rattle.c_lower_code.specs.declared.part.Destination.TheVariants as destinations
 use Rattle.c_lower_code.specs.declared.part.Located.{Located}
 use Rattle.c_lower_code.specs.declared.part.Assignable.{Assignable}
 use Rattle.c_lower_code.specs.declared.part.Passing.{Passing}
@@ -54,6 +56,10 @@ abbrev pub storage : Storage → parts.Where
 storage (storages.Local n) = parts.InLoc n
 storage (storages.Parameter n) = parts.InArg n
 storage (storages.Memory a) = parts.InMem (tree a)
+
+abbrev pub destination : Destination → parts.Destination
+destination (destinations.Local n) = parts.InLocal n
+destination destinations.Caller = parts.AsResult
 
 abbrev pub found : Located → parts.Located
 found p = record { items = all_items p.items.items; type = p.ctype; place = storage p.storage; temps = p.temps; labels = p.labels }

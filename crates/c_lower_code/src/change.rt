@@ -11,7 +11,7 @@ use crate::part::{
 };
 use crate::tree::{Tree, advance, binary, fitted, integer_of, retreat, step};
 use c_types::constant::scale;
-use c_types::{ArithmeticOperator, CType, Direction};
+use c_types::{ArithmeticOperator, CType, Direction, Integer};
 use gg_base::NoMemory;
 use std::alloc::Global;
 
@@ -163,4 +163,48 @@ pub(crate) fn store_low(alloc: Global, r: Assignable) -> Result<Lowered, NoMemor
             })
         }
     }
+}
+
+/// The automatic local that a place is, where its type does not narrow what is assigned.
+pub(crate) fn local_of(frame: Frame, p: &Located) -> Option<u32>
+    ensures { result ≡ assignments.local_of frame.locals frame.functions (found p.now) }
+{
+    match integer_of(p.ctype) {
+        Integer::Int => match p.storage {
+            Storage::Local(n) => Some(n),
+            Storage::Parameter(_) => None,
+            Storage::Memory(_) => None,
+        },
+        Integer::Char => None,
+        Integer::UnsignedChar => None,
+        Integer::Short => None,
+        Integer::UnsignedShort => None,
+    }
+}
+
+/// A value that was delivered to a local, for the assignment's own value.
+pub(crate) fn fill_low(n: u32, p: Located, q: Emitted) -> Result<Lowered, NoMemory>
+    ensures { IfOk result (λ r. low r ≡ assignments.fill_low n (found p) (done q)) }
+{
+    let mut items = p.items;
+    put_all(&mut items, q.items)?;
+    Ok(Lowered {
+        items,
+        tree: Tree::Local(n),
+        temps: q.temps,
+        labels: q.labels,
+    })
+}
+
+/// The same for its effect.
+pub(crate) fn fill_drop(p: Located, q: Emitted) -> Result<Emitted, NoMemory>
+    ensures { IfOk result (λ r. done r ≡ assignments.fill_drop (found p) (done q)) }
+{
+    let mut items = p.items;
+    put_all(&mut items, q.items)?;
+    Ok(Emitted {
+        items,
+        temps: q.temps,
+        labels: q.labels,
+    })
 }

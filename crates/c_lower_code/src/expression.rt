@@ -1,28 +1,35 @@
-// Expressions, in the three ways in which they are lowered.
+// Expressions, in the four ways in which they are lowered.
 ghost use Rattle.std.specs.Prelude.{◌≡◌, IfOk, true, false};
 ghost use Rattle.c_types.specs.Typed.{term, place_of, terms};
+ghost use Rattle.c_lower_scheme.specs.Parts as parts;
+ghost use Rattle.c_lower_scheme.specs.Places.{integer_of};
 ghost use Rattle.c_lower_scheme.specs.Conditions as conditions;
 ghost use Rattle.c_lower_scheme.specs.Values as values;
 ghost use Rattle.c_lower_scheme.specs.Assignments as assignments;
 ghost use Rattle.c_lower_scheme.specs.Expressions as expressions;
-ghost use Rattle.c_lower_code.specs.Views.{low, two, found, ready, passing, done};
+ghost use Rattle.c_lower_code.specs.Views.{low, two, found, ready, passing, done, destination};
 ghost use Rattle.c_lower_code.specs.Changes.{applied};
 
-use crate::change::{Change, step_before, step_ready, store_drop, store_low, update_ready};
+use crate::change::{
+    Change, fill_drop, fill_low, local_of, step_before, step_ready, store_drop, store_low,
+    update_ready,
+};
 use crate::operation::{
     advance_by_low, advance_low, apart_low, arithmetic_low, complemented_low, fitted_low,
     negated_low, retreat_low,
 };
 use crate::part::{
-    Assignable, Emitted, Frame, Located, Lowered, Pair, Passing, address_low, address_of, after,
-    assign_ready, choose_drop, choose_low, compare, dropped, due, join, labelled, pointed,
-    read_low, sensed, storage_of, test, then_done, truth_of, with_done,
+    Assignable, Destination, Emitted, Frame, Located, Lowered, Pair, Passing, address_low,
+    address_of, after, assign_ready, choose_deliver, choose_drop, choose_low, compare, delivered,
+    dropped, due, join, labelled, pointed, read_low, sensed, storage_of, test, then_done, truth_of,
+    with_done,
 };
 use crate::passing::{
-    called_drop, called_low, callee_number, no_arguments, others, pass_on, passed_as,
+    called_deliver, called_drop, called_low, callee_number, no_arguments, others, pass_on,
+    passed_as,
 };
-use crate::tree::Tree;
-use c_types::{CType, Direction, Expression, Moment, Place, UnaryOperator};
+use crate::tree::{Tree, integer_of};
+use c_types::{CType, Direction, Expression, Integer, Moment, Place, UnaryOperator};
 use gg_base::{NoMemory, Rel};
 
 /// A place, from the first free temporary and label on.
@@ -185,22 +192,56 @@ fn drop_changed(
     store_drop(frame.alloc, updated(frame, change, place, e, t, l)?)
 }
 
-// A place and the value that is assigned to it.
+// An assignment for its value.
 #[cycle(expression)]
-fn assigned(
+fn assign_value(
     frame: Frame,
-    between: bool,
     place: &Place,
     e: &Expression,
     t: u32,
     l: u32,
-) -> Result<Assignable, NoMemory>
-    ensures { IfOk result (λ r. ready r ≡ assignments.assigned frame.locals frame.functions between
-        (expressions.seek frame.locals frame.functions (place_of place.now) t l) (expressions.way frame.locals frame.functions (term e.now)).low) }
+) -> Result<Lowered, NoMemory>
+    ensures { IfOk result (λ r. low r ≡ assignments.assign_low frame.locals frame.functions
+        (assignments.local_of frame.locals frame.functions (expressions.seek frame.locals frame.functions (place_of place.now) t l))
+        (expressions.seek frame.locals frame.functions (place_of place.now) t l) (expressions.way frame.locals frame.functions (term e.now))) }
 {
     let p = seek(frame, place, t, l)?;
-    let q = value(frame, e, p.temps, p.labels)?;
-    assign_ready(frame, between, p, q)
+    match local_of(frame, &p) {
+        Some(n) => {
+            let q = deliver(frame, Destination::Local(n), e, p.temps, p.labels)?;
+            fill_low(n, p, q)
+        }
+        None => {
+            let q = value(frame, e, p.temps, p.labels)?;
+            store_low(frame.alloc, assign_ready(frame, true, p, q)?)
+        }
+    }
+}
+
+// An assignment for its effect.
+#[cycle(expression)]
+fn assign_effect(
+    frame: Frame,
+    place: &Place,
+    e: &Expression,
+    t: u32,
+    l: u32,
+) -> Result<Emitted, NoMemory>
+    ensures { IfOk result (λ r. done r ≡ assignments.assign_drop frame.locals frame.functions
+        (assignments.local_of frame.locals frame.functions (expressions.seek frame.locals frame.functions (place_of place.now) t l))
+        (expressions.seek frame.locals frame.functions (place_of place.now) t l) (expressions.way frame.locals frame.functions (term e.now))) }
+{
+    let p = seek(frame, place, t, l)?;
+    match local_of(frame, &p) {
+        Some(n) => {
+            let q = deliver(frame, Destination::Local(n), e, p.temps, p.labels)?;
+            fill_drop(p, q)
+        }
+        None => {
+            let q = value(frame, e, p.temps, p.labels)?;
+            store_drop(frame.alloc, assign_ready(frame, false, p, q)?)
+        }
+    }
 }
 
 // The arguments of a call, whose parameters have these types.
@@ -341,7 +382,7 @@ pub(crate) fn value(frame: Frame, e: &Expression, t: u32, l: u32) -> Result<Lowe
         Expression::Retreat(of, a, b) => retreat_low(alloc, *of, joined(frame, a, b, t, l)?),
         Expression::Distance(of, a, b) => apart_low(alloc, *of, joined(frame, a, b, t, l)?),
         Expression::Choice(_, c, a, b) => chosen(frame, c, a, b, t, l),
-        Expression::Assign(p, e) => store_low(alloc, assigned(frame, true, p, e, t, l)?),
+        Expression::Assign(p, e) => assign_value(frame, p, e, t, l),
         Expression::ArithmeticAssign(op, p, e) => changed(
             frame,
             Change::Arithmetic(*op),
@@ -454,6 +495,138 @@ pub(crate) fn branch(
     }
 }
 
+// A value that goes to its destination by a root of its own.
+#[cycle(expression)]
+fn kept(frame: Frame, to: Destination, e: &Expression, t: u32, l: u32) -> Result<Emitted, NoMemory>
+    ensures { IfOk result (λ r. done r ≡ parts.delivered (destination to) ((expressions.way frame.locals frame.functions (term e.now)).low t l)) }
+{
+    delivered(to, value(frame, e, t, l)?)
+}
+
+// A conversion at its destination: a type as wide as a longword leaves it out.
+#[cycle(expression)]
+fn deliver_as(
+    frame: Frame,
+    to: Destination,
+    of: CType,
+    e: &Expression,
+    t: u32,
+    l: u32,
+) -> Result<Emitted, NoMemory>
+    ensures { IfOk result (λ r. done r ≡ conditions.deliver_as (integer_of of)
+        (expressions.way frame.locals frame.functions (term e.now)) (destination to) t l) }
+{
+    match integer_of(of) {
+        Integer::Int => deliver(frame, to, e, t, l),
+        Integer::Char => delivered(to, fitted_low(frame.alloc, of, value(frame, e, t, l)?)?),
+        Integer::UnsignedChar => delivered(
+            to,
+            fitted_low(frame.alloc, of, value(frame, e, t, l)?)?,
+        ),
+        Integer::Short => delivered(to, fitted_low(frame.alloc, of, value(frame, e, t, l)?)?),
+        Integer::UnsignedShort => delivered(
+            to,
+            fitted_low(frame.alloc, of, value(frame, e, t, l)?)?,
+        ),
+    }
+}
+
+// An operator on one operand at its destination.
+#[cycle(expression)]
+fn unary_deliver(
+    frame: Frame,
+    to: Destination,
+    op: UnaryOperator,
+    e: &Expression,
+    t: u32,
+    l: u32,
+) -> Result<Emitted, NoMemory>
+    ensures { IfOk result (λ r. done r ≡ (expressions.unary frame.locals frame.functions op
+        (expressions.way frame.locals frame.functions (term e.now))).deliver (destination to) t l) }
+{
+    match op {
+        UnaryOperator::Plus => delivered(to, unary(frame, UnaryOperator::Plus, e, t, l)?),
+        UnaryOperator::Minus => delivered(to, unary(frame, UnaryOperator::Minus, e, t, l)?),
+        UnaryOperator::Complement => delivered(
+            to,
+            unary(frame, UnaryOperator::Complement, e, t, l)?,
+        ),
+        UnaryOperator::Not => delivered(to, unary(frame, UnaryOperator::Not, e, t, l)?),
+    }
+}
+
+// A choice at its destination.
+#[cycle(expression)]
+fn deliver_chosen(
+    frame: Frame,
+    to: Destination,
+    c: &Expression,
+    a: &Expression,
+    b: &Expression,
+    t: u32,
+    l: u32,
+) -> Result<Emitted, NoMemory>
+    ensures { IfOk result (λ r. done r ≡ (conditions.choose (expressions.way frame.locals frame.functions (term c.now))
+        (expressions.way frame.locals frame.functions (term a.now)) (expressions.way frame.locals frame.functions (term b.now))).deliver
+        (destination to) t l) }
+{
+    let p = branch(frame, c, false, l, t, after(after(l)?)?)?;
+    let q = deliver(frame, to, a, p.temps, p.labels)?;
+    let r = deliver(frame, to, b, q.temps, q.labels)?;
+    choose_deliver(to, l, p, q, r)
+}
+
+/// An expression for its value at a destination.
+#[cycle(expression)]
+pub(crate) fn deliver(
+    frame: Frame,
+    to: Destination,
+    e: &Expression,
+    t: u32,
+    l: u32,
+) -> Result<Emitted, NoMemory>
+    ensures { IfOk result (λ r. done r ≡ (expressions.way frame.locals frame.functions (term e.now)).deliver (destination to) t l) }
+{
+    match e {
+        Expression::Call(_, f, types, es) => {
+            called_deliver(
+                to,
+                callee_number(frame.functions, *f)?,
+                pass(frame, es, types.as_slice(), t, l)?,
+            )
+        }
+        Expression::Unary(op, a) => unary_deliver(frame, to, *op, a, t, l),
+        Expression::Cast(of, a) => deliver_as(frame, to, *of, a, t, l),
+        Expression::Convert(of, a) => deliver_as(frame, to, *of, a, t, l),
+        Expression::Choice(_, c, a, b) => deliver_chosen(frame, to, c, a, b, t, l),
+        Expression::Comma(_, a, b) => {
+            let p = discard(frame, a, t, l)?;
+            let q = deliver(frame, to, b, p.temps, p.labels)?;
+            then_done(p, q)
+        }
+        Expression::Number(_) => kept(frame, to, e, t, l),
+        Expression::Literal(_, _) => kept(frame, to, e, t, l),
+        Expression::Array(_, _, _) => kept(frame, to, e, t, l),
+        Expression::Read(_) => kept(frame, to, e, t, l),
+        Expression::SizeofExpression(_, _) => kept(frame, to, e, t, l),
+        Expression::SizeofType(_) => kept(frame, to, e, t, l),
+        Expression::Address(_, _) => kept(frame, to, e, t, l),
+        Expression::Step(_, _, _) => kept(frame, to, e, t, l),
+        Expression::Compare(_, _, _) => kept(frame, to, e, t, l),
+        Expression::AndAnd(_, _) => kept(frame, to, e, t, l),
+        Expression::OrOr(_, _) => kept(frame, to, e, t, l),
+        Expression::Arithmetic(_, _, _) => kept(frame, to, e, t, l),
+        Expression::Advance(_, _, _) => kept(frame, to, e, t, l),
+        Expression::AdvanceBy(_, _, _) => kept(frame, to, e, t, l),
+        Expression::Retreat(_, _, _) => kept(frame, to, e, t, l),
+        Expression::Distance(_, _, _) => kept(frame, to, e, t, l),
+        Expression::Assign(_, _) => kept(frame, to, e, t, l),
+        Expression::ArithmeticAssign(_, _, _) => kept(frame, to, e, t, l),
+        Expression::AdvanceAssign(_, _) => kept(frame, to, e, t, l),
+        Expression::RetreatAssign(_, _) => kept(frame, to, e, t, l),
+    }
+}
+
 // A step for its effect.
 fn step_drop(frame: Frame, by: Direction, p: Located) -> Result<Emitted, NoMemory>
     ensures { IfOk result (λ r. done r ≡ assignments.store_drop (assignments.step_ready frame.locals frame.functions by (found p))) }
@@ -489,7 +662,7 @@ pub(crate) fn discard(frame: Frame, e: &Expression, t: u32, l: u32) -> Result<Em
         Expression::AndAnd(a, b) => drop_chain(frame, a, false, b, t, l),
         Expression::OrOr(a, b) => drop_chain(frame, a, true, b, t, l),
         Expression::Choice(_, c, a, b) => drop_chosen(frame, c, a, b, t, l),
-        Expression::Assign(p, e) => store_drop(frame.alloc, assigned(frame, false, p, e, t, l)?),
+        Expression::Assign(p, e) => assign_effect(frame, p, e, t, l),
         Expression::ArithmeticAssign(op, p, e) => drop_changed(
             frame,
             Change::Arithmetic(*op),

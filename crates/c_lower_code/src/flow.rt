@@ -1,10 +1,10 @@
 // How the parts of statements are put together.
 ghost use Rattle.std.specs.Prelude.{◌≡◌, IfOk};
 ghost use Rattle.c_lower_scheme.specs.Flow as flows;
-ghost use Rattle.c_lower_code.specs.Views.{low, done};
+ghost use Rattle.c_lower_code.specs.Views.{done};
 
 use crate::item::Item;
-use crate::part::{Emitted, Frame, Lowered, after, put, put_all};
+use crate::part::{Emitted, Frame, after, put, put_all};
 use crate::tree::Tree;
 use gg_base::NoMemory;
 use std::alloc::Global;
@@ -22,34 +22,20 @@ pub(crate) fn two_done(a: Emitted, b: Emitted) -> Result<Emitted, NoMemory>
     })
 }
 
-/// A value that leaves the function.
-pub(crate) fn ret_of(p: Lowered) -> Result<Emitted, NoMemory>
-    ensures { IfOk result (λ r. done r ≡ flows.ret_of (low p)) }
-{
-    let mut items = p.items;
-    put(&mut items, Item::Return(p.tree))?;
-    Ok(Emitted {
-        items,
-        temps: p.temps,
-        labels: p.labels,
-    })
-}
-
 /// An automatic local that begins with a value; it is 0 before where its initialiser reads it.
 pub(crate) fn begin_of(
     alloc: Global,
     is_read: bool,
     local: u32,
-    p: Lowered,
+    p: Emitted,
 ) -> Result<Emitted, NoMemory>
-    ensures { IfOk result (λ r. done r ≡ flows.begin_of is_read local (low p)) }
+    ensures { IfOk result (λ r. done r ≡ flows.begin_of is_read local (done p)) }
 {
     let mut items = Vec::new(alloc);
     if is_read {
         put(&mut items, Item::AssignLocal(local, Tree::Number(0)))?;
     }
     put_all(&mut items, p.items)?;
-    put(&mut items, Item::AssignLocal(local, p.tree))?;
     Ok(Emitted {
         items,
         temps: p.temps,

@@ -6,7 +6,7 @@ ghost use Rattle.c_lower_scheme.specs.Places as places;
 ghost use Rattle.c_lower_scheme.specs.Conditions as conditions;
 ghost use Rattle.c_lower_scheme.specs.Values as values;
 ghost use Rattle.c_lower_scheme.specs.Assignments as assignments;
-ghost use Rattle.c_lower_code.specs.Views.{tree, item, all_items, all_trees, low, two, storage, found, ready, passing, done};
+ghost use Rattle.c_lower_code.specs.Views.{tree, item, all_items, all_trees, low, two, storage, found, ready, passing, done, destination};
 
 use crate::item::Item;
 use crate::tree::{Tree, fitted, indirect, integer_of};
@@ -39,6 +39,13 @@ pub enum Storage {
     Local(u32),
     Parameter(u32),
     Memory(Tree),
+}
+
+/// Where a value goes: into an automatic local, or out of the function as its result.
+#[derive(Clone, Copy)]
+pub enum Destination {
+    Local(u32),
+    Caller,
 }
 
 /// The same with a place, whose address is due, and the type of what is kept there.
@@ -189,9 +196,32 @@ pub(crate) fn then_done(a: Emitted, b: Emitted) -> Result<Emitted, NoMemory>
     })
 }
 
+// The root by which a value goes to its destination.
+fn delivery(to: Destination, w: Tree) -> Item
+    ensures { item result ≡ parts.delivery (destination to) (tree w) }
+{
+    match to {
+        Destination::Local(n) => Item::AssignLocal(n, w),
+        Destination::Caller => Item::Return(w),
+    }
+}
+
+/// A value at its destination.
+pub(crate) fn delivered(to: Destination, p: Lowered) -> Result<Emitted, NoMemory>
+    ensures { IfOk result (λ r. done r ≡ parts.delivered (destination to) (low p)) }
+{
+    let mut items = p.items;
+    put(&mut items, delivery(to, p.tree))?;
+    Ok(Emitted {
+        items,
+        temps: p.temps,
+        labels: p.labels,
+    })
+}
+
 // The relation that holds where another does not.
 fn opposite(r: Rel) -> Rel
-    ensures { result ≡ conditions.opposite r }
+    ensures { result ≡ mirror.opposite r }
 {
     match r {
         Rel::Eq => Rel::Ne,
@@ -209,7 +239,7 @@ fn opposite(r: Rel) -> Rel
 
 /// The relation, or its opposite where the sense is false.
 pub(crate) fn sensed(sense: bool, r: Rel) -> Rel
-    ensures { result ≡ conditions.sensed sense r }
+    ensures { result ≡ mirror.sensed sense r }
 {
     if sense { r } else { opposite(r) }
 }
@@ -330,6 +360,32 @@ pub(crate) fn choose_drop(l: u32, p: Emitted, q: Emitted, r: Emitted) -> Result<
         temps: r.temps,
         labels: r.labels,
     })
+}
+
+/// A choice whose sides go to a destination: no jump stands behind a value that left the function.
+pub(crate) fn choose_deliver(
+    to: Destination,
+    l: u32,
+    p: Emitted,
+    q: Emitted,
+    r: Emitted,
+) -> Result<Emitted, NoMemory>
+    ensures { IfOk result (λ x. done x ≡ conditions.choose_deliver (destination to) l (done p) (done q) (done r)) }
+{
+    match to {
+        Destination::Local(_) => choose_drop(l, p, q, r),
+        Destination::Caller => {
+            let mut items = p.items;
+            put_all(&mut items, q.items)?;
+            put(&mut items, Item::Label(l))?;
+            put_all(&mut items, r.items)?;
+            Ok(Emitted {
+                items,
+                temps: r.temps,
+                labels: r.labels,
+            })
+        }
+    }
 }
 
 /// A part, and the label l behind it.

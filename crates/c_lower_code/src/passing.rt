@@ -1,11 +1,15 @@
 // The arguments of calls.
 ghost use Rattle.std.specs.Prelude.{◌≡◌, ◌++◌, [], IfOk, OnOk};
 ghost use Rattle.c_lower_scheme.specs.Parts as parts;
+ghost use Rattle.c_lower_scheme.specs.Parts.{InLocal};
 ghost use Rattle.c_lower_scheme.specs.Calls as calls;
-ghost use Rattle.c_lower_code.specs.Views.{tree, all_items, all_trees, low, passing, done};
+ghost use Rattle.c_lower_code.specs.Views.{tree, all_items, all_trees, low, passing, done, destination};
 
 use crate::item::Item;
-use crate::part::{Emitted, Frame, Lowered, Passing, after, after_if, put, put_all, put_saved};
+use crate::part::{
+    Destination, Emitted, Frame, Lowered, Passing, after, after_if, delivered, put, put_all,
+    put_saved,
+};
 use crate::tree::{Tree, fitted};
 use c_types::{CType, Callee};
 use gg_base::NoMemory;
@@ -73,6 +77,32 @@ pub(crate) fn called_low(f: u32, p: Passing) -> Result<Lowered, NoMemory>
         temps,
         labels: p.labels,
     })
+}
+
+// A call whose result is saved in a local.
+fn called_into(n: u32, f: u32, p: Passing) -> Result<Emitted, NoMemory>
+    ensures { IfOk result (λ r. done r ≡ calls.called_deliver (InLocal n) f (passing p)) }
+{
+    let count = args_count(&p.trees)?;
+    let mut items = p.items;
+    push_all(&mut items, p.trees)?;
+    put(&mut items, Item::Call(f, count))?;
+    put(&mut items, Item::Save(n))?;
+    Ok(Emitted {
+        items,
+        temps: p.temps,
+        labels: p.labels,
+    })
+}
+
+/// A call whose result goes to a destination: a local takes it directly behind the call.
+pub(crate) fn called_deliver(to: Destination, f: u32, p: Passing) -> Result<Emitted, NoMemory>
+    ensures { IfOk result (λ r. done r ≡ calls.called_deliver (destination to) f (passing p)) }
+{
+    match to {
+        Destination::Local(n) => called_into(n, f, p),
+        Destination::Caller => delivered(to, called_low(f, p)?),
+    }
 }
 
 /// An argument that is converted to its parameter's type, the first of these.

@@ -5,14 +5,14 @@ ghost use Rattle.c_program.specs.Statements.{act, acts, declaration, maybe_term}
 ghost use Rattle.c_lower_scheme.specs.Statements as statements;
 ghost use Rattle.c_lower_code.specs.Views.{done};
 
-use crate::expression::{branch, discard, value};
+use crate::expression::{branch, deliver, discard};
 use crate::flow::{
-    begin_of, ever_done, for_done, if_done, if_else_done, jump, loop_done, ret_of, turns_done,
-    two_done, while_done,
+    begin_of, ever_done, for_done, if_done, if_else_done, jump, loop_done, turns_done, two_done,
+    while_done,
 };
 use crate::item::Item;
 use crate::mention::mentions;
-use crate::part::{Emitted, Frame, after, nothing, put};
+use crate::part::{Destination, Emitted, Frame, after, nothing, put};
 use crate::tree::Tree;
 use c_program::{Action, Declaration};
 use c_types::Expression;
@@ -57,7 +57,7 @@ fn returning(frame: Frame, e: &Option<Expression>, l: u32) -> Result<Emitted, No
                 labels: l,
             })
         }
-        Some(e) => ret_of(value(frame, e, frame.locals, l)?),
+        Some(e) => deliver(frame, Destination::Caller, e, frame.locals, l),
     }
 }
 
@@ -80,7 +80,7 @@ fn one_declared(frame: Frame, d: &Declaration, l: u32) -> Result<Emitted, NoMemo
             frame.alloc,
             mentions(*n, e),
             *n,
-            value(frame, e, frame.locals, l)?,
+            deliver(frame, Destination::Local(*n), e, frame.locals, l)?,
         ),
     }
 }
@@ -169,6 +169,30 @@ fn do_of(frame: Frame, body: &Action, c: &Expression, l: u32) -> Result<Emitted,
     loop_done(frame.alloc, l, l, a, p)
 }
 
+// Where a statement goes that is no more than a `break` or `continue`, also alone in a block.
+#[cycle(going)]
+fn going(a: &Action, broken: u32, onward: u32) -> Option<u32>
+    ensures { result ≡ statements.going (act a.now) broken onward }
+{
+    match a {
+        Action::Break => Some(broken),
+        Action::Continue => Some(onward),
+        Action::Block(all) => going_alone(all, broken, onward),
+        _ => None,
+    }
+}
+
+// Where the one statement of a block goes.
+#[cycle(going)]
+fn going_alone(all: &[Action], broken: u32, onward: u32) -> Option<u32>
+    ensures { result ≡ statements.going_alone (acts all.now) broken onward }
+{
+    match all {
+        [a] => going(a, broken, onward),
+        _ => None,
+    }
+}
+
 // An `if` without an `else`.
 #[cycle(statement)]
 fn if_of(
@@ -181,9 +205,14 @@ fn if_of(
 ) -> Result<Emitted, NoMemory>
     ensures { IfOk result (λ r. done r ≡ statements.lower frame.locals frame.functions (IfOf (term c.now) (act a.now)) broken onward l) }
 {
-    let p = unless(frame, c, l, after(l)?)?;
-    let a = statement(frame, a, broken, onward, p.labels)?;
-    if_done(l, p, a)
+    match going(a, broken, onward) {
+        Some(to) => when(frame, c, to, l),
+        None => {
+            let p = unless(frame, c, l, after(l)?)?;
+            let a = statement(frame, a, broken, onward, p.labels)?;
+            if_done(l, p, a)
+        }
+    }
 }
 
 /// A statement, whose `break` and `continue` go to two labels, from the first free label on.

@@ -1,6 +1,6 @@
 -- An expression takes at most two labels for each of its nodes.
 use Rattle.std.proofs.Common.{ℕ, ◌+◌, ◌*◌, ◌≤◌, List, arith}
-use Rattle.std.specs.Prelude.{true, false}
+use Rattle.std.specs.Prelude.{true, false, Option, Some, None}
 use Rattle.c_types.specs.declared.types.CType.{CType}
 use Rattle.c_types.specs.declared.typed.UnaryOperator.{UnaryOperator}
 use Rattle.c_types.specs.declared.typed.UnaryOperator.TheVariants as unaries
@@ -12,14 +12,13 @@ use Rattle.c_types.specs.Typed.{UnaryOf, CastTo, ConvertTo, ArithmeticOf, Compar
 use Rattle.c_types.specs.Typed.{ArithmeticAssignTo, AdvanceAssignTo, RetreatAssignTo, CommaOf, SomeExpressions, NoExpressions, MoreExpressions}
 use Rattle.c_program.specs.Need.{place_nodes, nodes, all_nodes}
 use Rattle.c_lower_scheme.specs.Trees.{Tree, Neg, Com, Bin}
-use Rattle.c_lower_scheme.specs.Parts.{Lowered, Lowering, Located, Assignable}
-use Rattle.c_lower_scheme.specs.Places.{fitted}
+use Rattle.c_lower_scheme.specs.Parts.{Lowered, Lowering, Located, Assignable, InLocal}
 use Rattle.c_lower_scheme.specs.Conditions.{effective}
 use Rattle.c_lower_scheme.specs.Values.{advance, advance_by, retreat, apart}
-use Rattle.c_lower_scheme.specs.Calls.{others}
-use Rattle.c_lower_scheme.specs.Assignments.{store_low, store_drop, assigned, updated, update_by, step_low, step_ready}
+use Rattle.c_lower_scheme.specs.Calls.{callee_number, others}
+use Rattle.c_lower_scheme.specs.Assignments.{assigned, assign_low, assign_drop, local_of, updated, update_by, step_low, step_ready}
 use Rattle.c_lower_scheme.specs.Expressions.{unary, seek, way, pass}
-use Rattle.c_lower_counts.proofs.Ways.{Takes, valued_takes, effective_takes, mapped_takes, not_takes, chain_takes, choose_takes, comma_takes, store_labels}
+use Rattle.c_lower_counts.proofs.Ways.{Takes, valued_takes, effective_takes, mapped_takes, not_takes, chain_takes, choose_takes, comma_takes, store_labels, converting_takes, called_labels}
 use Rattle.c_lower_counts.proofs.Ways.{binary_takes, relation_takes}
 
 module _ (size count : ℕ) where
@@ -36,21 +35,23 @@ module _ (size count : ℕ) where
       let is = store_labels r.place r in
       omega arith
 
-  assign_takes : (n m most : ℕ) (p : ℕ → ℕ → Located) (e : Lowering) → ((t l : ℕ) → (p t l).labels ≤ l + n) → Takes m e → n + m ≤ most
-      → Takes most (effective (λ t l. store_low (assigned size count true (p t l) e.low)) (λ t l. store_drop (assigned size count false (p t l) e.low)))
-  assign_takes n m most p e h g le = effective_takes most _ _
-      (λ t l.
-      let q : Located = p t l in
+  assign_low_takes : (o : Option ℕ) (n m most l : ℕ) (q : Located) (e : Lowering) → q.labels ≤ l + n → Takes m e → n + m ≤ most → (assign_low size count o q e).labels ≤ l + most
+  assign_low_takes None n m most l q e h g le =
       let r : Assignable = assigned size count true q e.low in
-      let x = h t l in
       let y = g.low q.temps q.labels in
       let is = store_labels r.place r in
-      omega arith)
-      (λ t l.
-      let q : Located = p t l in
-      let x = h t l in
-      let y = g.low q.temps q.labels in
-      omega arith)
+      omega arith
+  assign_low_takes (Some x) n m most l q e h g le = let y = g.deliver (InLocal x) q.temps q.labels in omega arith
+
+  assign_drop_takes : (o : Option ℕ) (n m most l : ℕ) (q : Located) (e : Lowering) → q.labels ≤ l + n → Takes m e → n + m ≤ most → (assign_drop size count o q e).labels ≤ l + most
+  assign_drop_takes None n m most l q e h g le = let y = g.low q.temps q.labels in omega arith
+  assign_drop_takes (Some x) n m most l q e h g le = let y = g.deliver (InLocal x) q.temps q.labels in omega arith
+
+  assign_takes : (n m most : ℕ) (p : ℕ → ℕ → Located) (e : Lowering) → ((t l : ℕ) → (p t l).labels ≤ l + n) → Takes m e → n + m ≤ most
+      → Takes most (effective (λ t l. assign_low size count (local_of size count (p t l)) (p t l) e) (λ t l. assign_drop size count (local_of size count (p t l)) (p t l) e))
+  assign_takes n m most p e h g le = effective_takes most _ _
+      (λ t l. assign_low_takes (local_of size count (p t l)) n m most l (p t l) e (h t l) g le)
+      (λ t l. assign_drop_takes (local_of size count (p t l)) n m most l (p t l) e (h t l) g le)
 
   update_takes : (n m most : ℕ) (f : CType → Tree → Tree → Tree) (p : ℕ → ℕ → Located) (e : Lowering)
       → ((t l : ℕ) → (p t l).labels ≤ l + n) → Takes m e → n + m ≤ most → Takes most (update_by size count f p e)
@@ -82,14 +83,21 @@ module _ (size count : ℕ) where
     way_takes (SizeofTerm n e) = valued_takes _ _ (λ t l. omega arith)
     way_takes (SizeOf n) = valued_takes _ _ (λ t l. omega arith)
     way_takes (AddressOf ty p) = valued_takes _ _ (λ t l. let x = place_takes p t l in omega arith)
-    way_takes (CallOf ty f to es) =
-        effective_takes _ _ _ (λ t l. let x = pass_takes es to t l in omega arith) (λ t l. let x = pass_takes es to t l in omega arith)
+    way_takes (CallOf ty f to es) = record {
+      low = λ t l. let x = pass_takes es to t l in omega arith;
+      branch = λ sense at t l. let x = pass_takes es to t l in omega arith;
+      drop = λ t l. let x = pass_takes es to t l in omega arith;
+      deliver = λ at t l.
+          let x = pass_takes es to t l in
+          let is = called_labels at (callee_number count f) (pass size count es to t l) in
+          omega arith;
+    }
     way_takes (StepOf m by p) = effective_takes _ _ _
         (λ t l. let x = place_takes p t l in step_takes _ l m by (seek size count p t l) (omega arith))
         (λ t l. let x = place_takes p t l in omega arith)
     way_takes (UnaryOf op e) = unary_takes _ _ op _ (way_takes e) (omega arith)
-    way_takes (CastTo ty e) = mapped_takes _ _ (fitted ty) _ (way_takes e) (omega arith)
-    way_takes (ConvertTo ty e) = mapped_takes _ _ (fitted ty) _ (way_takes e) (omega arith)
+    way_takes (CastTo ty e) = converting_takes _ _ ty _ (way_takes e) (omega arith)
+    way_takes (ConvertTo ty e) = converting_takes _ _ ty _ (way_takes e) (omega arith)
     way_takes (ArithmeticOf op a b) = binary_takes size count _ _ _ (Bin op) _ _ (way_takes a) (way_takes b) (omega arith)
     way_takes (CompareOf r a b) = relation_takes size count _ _ _ r _ _ (way_takes a) (way_takes b) (omega arith)
     way_takes (BothOf a b) = chain_takes _ _ _ false _ _ (way_takes a) (way_takes b) (omega arith)

@@ -9,9 +9,9 @@ use Rattle.c_program.specs.Need.{nodes, place_nodes, maybe_nodes}
 use Rattle.c_program.specs.Programs.{ARoutine}
 use Rattle.c_program.specs.Statements.{ADeclaration, KeepOf, ClearOf, BeginOf, AnAction, SomeActions, NoActions, MoreActions, DeclareOf, BlockOf, EvaluateOf, BreakOf, ContinueOf}
 use Rattle.c_program.specs.Statements.{ReturnOf, IfOf, IfElseOf, WhileOf, DoOf, ForOf}
-use Rattle.c_lower_scheme.specs.Parts.{Lowered, Emitted}
+use Rattle.c_lower_scheme.specs.Parts.{Emitted, InLocal, AsResult}
 use Rattle.c_lower_scheme.specs.Expressions.{way}
-use Rattle.c_lower_scheme.specs.Statements.{unless, when, effect, returning, declare, while_by, for_tested, for_of, lower, lower_row}
+use Rattle.c_lower_scheme.specs.Statements.{unless, when, effect, returning, declare, while_by, for_tested, for_of, lower, lower_row, going, if_by}
 use Rattle.c_lower_scheme.specs.Programs.{body_of}
 use Rattle.c_lower_spelled.specs.Claims.{labels_behind}
 use Rattle.c_lower_counts.specs.Sizes.{declared_size, act_size, row_size, routines_size}
@@ -66,16 +66,25 @@ module _ (size count : ℕ) where
 
   returning_takes : (e : Option AnExpression) (l : ℕ) → (returning size count e l).labels ≤ l + 2 * maybe_nodes e
   returning_takes None l = omega arith
-  returning_takes (Some e) l = (way_takes size count e).low size l
+  returning_takes (Some e) l = (way_takes size count e).deliver AsResult size l
 
   declare_takes : (ds : List ADeclaration) (l : ℕ) → (declare size count ds l).labels ≤ l + 3 * declared_size ds
   declare_takes [] l = omega arith
   declare_takes (KeepOf object ∷ ds) l = declare_takes ds l
   declare_takes (ClearOf n ∷ ds) l = declare_takes ds l
   declare_takes (BeginOf n e ∷ ds) l =
-      let p : Lowered = (way size count e).low size l in
-      let x = (way_takes size count e).low size l in
+      let p : Emitted = (way size count e).deliver (InLocal n) size l in
+      let x = (way_takes size count e).deliver (InLocal n) size l in
       let y = declare_takes ds p.labels in
+      omega arith
+
+  -- an `if` alone, by its statement
+  if_by_takes : (o : Option ℕ) (n l : ℕ) (c : AnExpression) (f : ℕ → Emitted) → ((k : ℕ) → (f k).labels ≤ k + 3 * n) → (if_by size count o c f l).labels ≤ l + 3 * (1 + nodes c + n)
+  if_by_takes (Some to) n l c f h = let x = when_takes c to l in omega arith
+  if_by_takes None n l c f h =
+      let p : Emitted = unless size count c l (suc l) in
+      let x = unless_takes c l (suc l) in
+      let y = h p.labels in
       omega arith
 
   -- a `while`, by its body
@@ -128,11 +137,7 @@ module _ (size count : ℕ) where
     act_takes BreakOf lb lc l = omega arith
     act_takes ContinueOf lb lc l = omega arith
     act_takes (ReturnOf e) lb lc l = let x = returning_takes e l in omega arith
-    act_takes (IfOf c a) lb lc l =
-        let p : Emitted = unless size count c l (suc l) in
-        let x = unless_takes c l (suc l) in
-        let y = act_takes a lb lc p.labels in
-        omega arith
+    act_takes (IfOf c a) lb lc l = if_by_takes (going a lb lc) (act_size a) l c (lower size count a lb lc) (λ k. act_takes a lb lc k)
     act_takes (IfElseOf c a b) lb lc l =
         let p : Emitted = unless size count c l (suc (suc l)) in
         let q : Emitted = lower size count a lb lc p.labels in

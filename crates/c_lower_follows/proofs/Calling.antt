@@ -14,8 +14,8 @@ use Rattle.c_meaning.specs.State.{State}
 use Rattle.c_meaning.specs.Values.{RestAll, Behind, Next, Body, Rest}
 use Rattle.c_lower_scheme.specs.Trees.{Push, Call, Save, Tree, Loc, Item, AssignLoc, divides, reads, breaks, stable}
 use Rattle.c_lower_scheme.specs.Spelling.{spelled_all}
-use Rattle.c_lower_scheme.specs.Parts.{Passing, Lowered, is_nil}
-use Rattle.c_lower_scheme.specs.Calls.{pushes, args_count, called_drop, called_low, must_pass_by, must_pass, pass_on, pass_so, no_arguments, callee_number}
+use Rattle.c_lower_scheme.specs.Parts.{Passing, Lowered, is_nil, Destination, InLocal, AsResult}
+use Rattle.c_lower_scheme.specs.Calls.{pushes, args_count, called_drop, called_low, must_pass_by, must_pass, pass_on, pass_so, no_arguments, callee_number, called_deliver}
 use Rattle.c_lower_scheme.specs.Assignments.{stays}
 use Rattle.c_sound.specs.Fits.{AreBytes}
 use Rattle.c_lower_follows.proofs.Values.{SmallTree, Ranged, Small, worth_small}
@@ -23,7 +23,7 @@ use Rattle.c_lower_follows.proofs.Leads.{Leads, leads_deep, leads_none, leads_be
 use Rattle.c_lower_follows.proofs.Steps.{moves, Desk, desk_sight, on, Resolves, resolves_back, state, lost, push_step, call_counts, save_step}
 use Rattle.c_lower_follows.proofs.Agreeing.{Below, below_more, Alike, value, value_alike, value_stable, value_pure, stable_pure, Since, agree_temp, set_same, set_other, not_nil, front_nil, back_nil}
 use Rattle.c_lower_follows.proofs.Storing.{use_number}
-use Rattle.c_lower_follows.proofs.Doing.{Drops, assoc, split, save_temp}
+use Rattle.c_lower_follows.proofs.Doing.{Drops, Delivers, delivered_does, assoc, split, save_temp}
 use Rattle.std.specs.Prelude.{if◌then◌else◌}
 use Rattle.std.proofs.lemmas.List.{take_at, drop_at}
 use Rattle.tree_core.specs.declared.program.TreeFn.{TreeFn}
@@ -483,3 +483,29 @@ module _ (program : TreeProgram) (code : List TreeItem) (callers : List Activati
           same = λ e. absurd (append_some q.items tail (pushes_some q.trees c []) e);
         }))))));
   }
+
+  pub called_deliver_does : (to : Destination) (f : Callee) (q : Passing) (t : ℕ) (m : RestAll → State → Runs) → size ≤ t → DoesAll program code callers size count scope level within q t m
+      → Delivers program code callers size count scope level to (called_deliver to (callee_number count f) q) t (λ κ. m (λ vs. call p next f vs κ))
+  called_deliver_does (InLocal x) f q t m sz does = record {
+    grows = does.grows;
+    some = λ e. append_some q.items (pushes q.trees (Call (callee_number count f) (args_count q.trees) ∷ Save x ∷ []))
+        (pushes_some q.trees (Call (callee_number count f) (args_count q.trees)) (Save x ∷ [])) e;
+    runs = λ k le is κ res st d ag h.
+        let n = args_count q.trees in
+        let c = Call (callee_number count f) n in
+        let tail : List Item = pushes q.trees (c ∷ Save x ∷ []) in
+        let rest : List Item = c ∷ Save x ∷ is in
+        assoc program code callers size count scope level k q.items tail is d _
+        (does.runs k le (tail ++ is) (λ vs. call p next f vs κ) (split program code callers size count scope level q.items tail is res) st d ag
+        (λ st1 d1 ag1 s1. moves program code callers k (spelled_all (tail ++ is)) (spelled_all (pushes q.trees rest)) d1 _ (ap spelled_all (pushes_append q.trees (c ∷ Save x ∷ []) is))
+        (pushes_step program code callers size count scope level within q.trees k rest (λ vs. call p next f vs κ st1) d1 does.small does.pure ag1.ranged
+        (λ vs len small. call_step f n k le vs len small κ st1 d1 (Save x ∷ is) ag1
+        (λ v st' lt ag'.
+        let st2 : State = record st' { call = st1.call; active = st1.active } in
+        let d2 : Desk = told d1 v st' in
+        save_step program code callers k x is (κ v st2) d2 (h v st2 d2 lt ag' (λ j szj o. s1.keeps j szj o)))))));
+  }
+  called_deliver_does AsResult f q t m sz does =
+      let low = called_low_does f q t m sz does in
+      delivered_does program code callers size count scope level within AsResult (called_low (callee_number count f) q) t (λ κ. m (λ vs. call p next f vs κ))
+      (record { grows = low.grows; below = low.below; small = low.small; runs = λ k le is κ res st d ag h. low.runs k le is κ res st d ag h })

@@ -9,10 +9,10 @@ use Rattle.tree_core.specs.declared.program.TreeProgram.{TreeProgram}
 use Rattle.tree_meaning.specs.State.{Activation, with_local, behind}
 use Rattle.c_meaning.specs.State.{State}
 use Rattle.c_meaning.specs.Values.{Rest, chosen, logical}
-use Rattle.c_lower_scheme.specs.Trees.{Jump, Num, Item, Label, AssignLoc, Cbr}
+use Rattle.c_lower_scheme.specs.Trees.{Jump, Num, Item, Label, AssignLoc, Cbr, sensed, opposite}
 use Rattle.c_lower_scheme.specs.Spelling.{spelled_all}
-use Rattle.c_lower_scheme.specs.Parts.{with_done, then_done, Lowered, Pair, Emitted, Lowering}
-use Rattle.c_lower_scheme.specs.Conditions.{truth_of, compare, conditional, chain, chain_drop, drop_two, choose_low, choose_drop, choose, comma, sensed, opposite}
+use Rattle.c_lower_scheme.specs.Parts.{with_done, then_done, Lowered, Pair, Emitted, Lowering, Destination, InLocal, AsResult}
+use Rattle.c_lower_scheme.specs.Conditions.{truth_of, compare, conditional, chain, chain_drop, drop_two, choose_low, choose_drop, choose, comma, choose_deliver}
 use Rattle.c_lower_scheme.specs.Values.{relation, joined}
 use Rattle.c_lower_follows.proofs.Leads.{Leads, leads_quiet}
 use Rattle.c_lower_follows.proofs.Steps.{label_step, label_counts, jump_step, Desk, Resolves, resolves_back, at_items, moves, cbr_step}
@@ -21,7 +21,7 @@ use Rattle.gg_base.specs.declared.relation.Rel.{Rel}
 use Rattle.gg_base.specs.Relations.{holds}
 use Rattle.c_types.specs.Constants.{truth, apply_unary}
 use Rattle.c_types.specs.declared.typed.UnaryOperator.TheVariants as unaries
-use Rattle.c_lower_follows.proofs.Doing.{either_way, Agrees, here, Does, DoesTwo, Drops, Asks, DoesWay, assoc, split, save_temp, since_both, since_more, two_does, effective_does}
+use Rattle.c_lower_follows.proofs.Doing.{either_way, Agrees, here, Does, DoesTwo, Drops, Asks, Delivers, DoesWay, assoc, split, save_temp, since_both, since_more, two_does, test_asks, delivered_does, arrives_behind}
 use Rattle.c_lower_follows.proofs.Storing.{use_number}
 
 chosen_truth : (b : Bool) (κ : Rest) (st : State) → κ (truth b) st ≡ chosen (truth b) (κ 1 st) (κ 0 st)
@@ -102,6 +102,9 @@ module _ (program : TreeProgram) (code : List TreeItem) (callers : List Activati
   abbrev LowIt : Lowered → ℕ → (Rest → State → Runs) → Type 0
   LowIt p t m = Does program code callers size count scope level p t m
 
+  abbrev DeliversIt : Destination → Emitted → ℕ → (Rest → State → Runs) → Type 0
+  DeliversIt to p t m = Delivers program code callers size count scope level to p t m
+
   abbrev WayIt : Lowering → (Rest → State → Runs) → Type 0
   WayIt w m = DoesWay program code callers size count scope level w m
 
@@ -152,6 +155,8 @@ module _ (program : TreeProgram) (code : List TreeItem) (callers : List Activati
     low = λ t l sz. truth_does t l (f false l (suc t) (suc l)) m sz logic (asks false l (suc t) (suc l) (omega arith));
     branch = asks;
     drop = drops;
+    deliver = λ to t l sz. delivered_does program code callers size count scope level within to (truth_of t l (f false l (suc t) (suc l))) t m
+        (truth_does t l (f false l (suc t) (suc l)) m sz logic (asks false l (suc t) (suc l) (omega arith)));
   }
 
   -- two effects in turn
@@ -457,20 +462,78 @@ module _ (program : TreeProgram) (code : List TreeItem) (callers : List Activati
         ∙ s1.keeps j szj (⊎_elim (λ lt. inl lt) (λ ge. inr (omega (arith, drops.grows, drops'.grows))) o))))))))));
   }
 
-  pub choose_does : (c a b : Lowering) (m n o : Rest → State → Runs) → WayIt c m → WayIt a n → WayIt b o → WayIt (choose c a b) (Chosen m n o)
-  choose_does c a b m n o first second third = effective_does program code callers size count scope level within _ _ (Chosen m n o)
-      (λ t l sz.
+  choose_into_does : (x t l : ℕ) (p q r : Emitted) (m n o : Rest → State → Runs) → AsksIt p false l t m → DeliversIt (InLocal x) q p.temps n → DeliversIt (InLocal x) r q.temps o
+      → DeliversIt (InLocal x) (choose_drop l p q r) t (Chosen m n o)
+  choose_into_does x t l p q r m n o asks does does' = record {
+    grows = omega (arith, asks.grows, does.grows, does'.grows);
+    some = λ e. not_nil q.items (Jump (suc l)) (Label l ∷ (r.items ++ (Label (suc l) ∷ []))) (back_nil p.items (q.items ++ (Jump (suc l) ∷ Label l ∷ (r.items ++ (Label (suc l) ∷ [])))) e);
+    runs = λ k le is κ res st d ag h.
+        let T3 : List Item = Label (suc l) ∷ [] in
+        let T2 : List Item = Jump (suc l) ∷ Label l ∷ (r.items ++ T3) in
+        let T1 : List Item = q.items ++ T2 in
+        let res0 = take_down p.items T1 is res in
+        let res1 = take_down q.items T2 is (resolves_back code p.items (T1 ++ is) res0) in
+        let res2 = resolves_back code q.items (T2 ++ is) res1 in
+        let else_at : behind code l ≡ spelled_all ((r.items ++ T3) ++ is) = res2.1.0 in
+        let res3 = take_down r.items T3 is res2.1.1 in
+        let end_at : behind code (suc l) ≡ spelled_all is = (resolves_back code r.items (T3 ++ is) res3).0 in
+        bind_up k p.items T1 is d _ (asks.runs k le (T1 ++ is) (n κ) (o κ) res0 st d ag
+        (λ st1 d1 ag1 s1. leads_quiet k _ _ (moves program code callers k (behind code l) (spelled_all ((r.items ++ T3) ++ is)) d1 _ else_at
+        (bind_up k r.items T3 is d1 _ (does'.runs k le (T3 ++ is) κ res3 st1 d1 ag1
+        (λ v st2 d2 lt ag2 kept. label_step program code callers k (suc l) is (record d2 { locals = with_local d2.locals x v }) _
+        (h v st2 d2 lt ag2 (λ j szj o. kept j szj (⊎_elim (λ lt. inl (omega (arith, asks.grows, does.grows))) (λ ge. inr ge) o)
+        ∙ s1.keeps j szj (⊎_elim (λ lt. inl lt) (λ ge. inr (omega (arith, does.grows, does'.grows))) o))))))))
+        (λ st1 d1 ag1 s1. leads_quiet k _ _ (bind_up k q.items T2 is d1 _ (does.runs k le (T2 ++ is) κ res1 st1 d1 ag1
+        (λ v st2 d2 lt ag2 kept. jump_step program code callers k (suc l) (Label l ∷ ((r.items ++ T3) ++ is)) _ (record d2 { locals = with_local d2.locals x v })
+        (moves program code callers k (behind code (suc l)) (spelled_all is) (record d2 { locals = with_local d2.locals x v }) _ end_at
+        (h v st2 d2 lt ag2 (λ j szj o. kept j szj (⊎_elim (λ lt. inl (omega (arith, asks.grows))) (λ ge. inr (omega (arith, does'.grows))) o)
+        ∙ s1.keeps j szj (⊎_elim (λ lt. inl lt) (λ ge. inr (omega (arith, does.grows, does'.grows))) o)))))))));
+  }
+
+  choose_deliver_does : (to : Destination) (t l : ℕ) (p q r : Emitted) (m n o : Rest → State → Runs) → AsksIt p false l t m → DeliversIt to q p.temps n → DeliversIt to r q.temps o
+      → DeliversIt to (choose_deliver to l p q r) t (Chosen m n o)
+  choose_deliver_does (InLocal x) t l p q r m n o asks does does' = choose_into_does x t l p q r m n o asks does does'
+  choose_deliver_does AsResult t l p q r m n o asks does does' = record {
+    grows = omega (arith, asks.grows, does.grows, does'.grows);
+    some = λ e. not_nil q.items (Label l) r.items (back_nil p.items (q.items ++ (Label l ∷ r.items)) e);
+    runs = λ k le is κ res st d ag h.
+        let T2 : List Item = Label l ∷ r.items in
+        let T1 : List Item = q.items ++ T2 in
+        let res0 = take_down p.items T1 is res in
+        let res1 = take_down q.items T2 is (resolves_back code p.items (T1 ++ is) res0) in
+        let res2 = resolves_back code q.items (T2 ++ is) res1 in
+        let else_at : behind code l ≡ spelled_all (r.items ++ is) = res2.0 in
+        bind_up k p.items T1 is d _ (asks.runs k le (T1 ++ is) (n κ) (o κ) res0 st d ag
+        (λ st1 d1 ag1 s1. leads_quiet k _ _ (moves program code callers k (behind code l) (spelled_all (r.items ++ is)) d1 _ else_at (does'.runs k le is κ res2.1 st1 d1 ag1 h)))
+        (λ st1 d1 ag1 s1. leads_quiet k _ _ (bind_up k q.items T2 is d1 _ (does.runs k le (T2 ++ is) κ res1 st1 d1 ag1 h))));
+  }
+
+  choice_does : (c a b : Lowering) (m n o : Rest → State → Runs) → WayIt c m → WayIt a n → WayIt b o → (t l : ℕ) → size ≤ t → LowIt ((choose c a b).low t l) t (Chosen m n o)
+  choice_does c a b m n o first second third t l sz =
       let p = c.branch false l (suc t) (suc (suc l)) in
       let f = first.branch false l (suc t) (suc (suc l)) (omega arith) in
       let q = a.low p.temps p.labels in
       let g = second.low p.temps p.labels (omega (arith, f.grows)) in
-      choose_low_does t l p q (b.low q.temps q.labels) m n o sz f g (third.low q.temps q.labels (omega (arith, f.grows, g.grows))))
-      (λ t l sz.
-      let p = c.branch false l t (suc (suc l)) in
-      let f = first.branch false l t (suc (suc l)) sz in
-      let q = a.drop p.temps p.labels in
-      let g = second.drop p.temps p.labels (omega (arith, f.grows)) in
-      choose_drop_does t l p q (b.drop q.temps q.labels) m n o f g (third.drop q.temps q.labels (omega (arith, f.grows, g.grows))))
+      choose_low_does t l p q (b.low q.temps q.labels) m n o sz f g (third.low q.temps q.labels (omega (arith, f.grows, g.grows)))
+
+  pub choose_does : (c a b : Lowering) (m n o : Rest → State → Runs) → WayIt c m → WayIt a n → WayIt b o → WayIt (choose c a b) (Chosen m n o)
+  choose_does c a b m n o first second third = record {
+    low = choice_does c a b m n o first second third;
+    branch = λ sense to t l sz. test_asks program code callers size count scope level within sense to ((choose c a b).low t l) t (Chosen m n o)
+        (choice_does c a b m n o first second third t l sz);
+    drop = λ t l sz.
+        let p = c.branch false l t (suc (suc l)) in
+        let f = first.branch false l t (suc (suc l)) sz in
+        let q = a.drop p.temps p.labels in
+        let g = second.drop p.temps p.labels (omega (arith, f.grows)) in
+        choose_drop_does t l p q (b.drop q.temps q.labels) m n o f g (third.drop q.temps q.labels (omega (arith, f.grows, g.grows)));
+    deliver = λ to t l sz.
+        let p = c.branch false l t (suc (suc l)) in
+        let f = first.branch false l t (suc (suc l)) sz in
+        let q = a.deliver to p.temps p.labels in
+        let g = second.deliver to p.temps p.labels (omega (arith, f.grows)) in
+        choose_deliver_does to t l p q (b.deliver to q.temps q.labels) m n o f g (third.deliver to q.temps q.labels (omega (arith, f.grows, g.grows)));
+  }
 
   comma_low : (p : Emitted) (q : Lowered) (t : ℕ) (m n : Rest → State → Runs) → DropsIt p t m → LowIt q p.temps n → LowIt (with_done p q) t (λ κ. m (λ x. n κ))
   comma_low p q t m n drops does = record {
@@ -495,6 +558,17 @@ module _ (program : TreeProgram) (code : List TreeItem) (callers : List Activati
         (λ st2 d2 ag2 s2. falls st2 d2 ag2 (since_both program code callers size count scope level within t p.temps q.temps p.items q.items st st1 st2 d d1 d2 drops.grows asks.grows s1 s2))));
   }
 
+  comma_delivers : (to : Destination) (p q : Emitted) (t : ℕ) (m n : Rest → State → Runs) → DropsIt p t m → DeliversIt to q p.temps n → DeliversIt to (then_done p q) t (λ κ. m (λ x. n κ))
+  comma_delivers to p q t m n drops does = record {
+    grows = omega (arith, drops.grows, does.grows);
+    some = λ e. does.some (back_nil p.items q.items e);
+    runs = λ k le is κ res st d ag h.
+        let res1 = take_down p.items q.items is res in
+        bind_up k p.items q.items is d _ (drops.runs k le (q.items ++ is) (n κ) res1 st d ag
+        (λ st1 d1 ag1 s1. does.runs k le is κ (resolves_back code p.items (q.items ++ is) res1) st1 d1 ag1
+        (arrives_behind program code callers size count scope level within to k t p.temps q.temps is κ d d1 drops.grows does.grows s1.keeps h)));
+  }
+
   pub comma_does : (a b : Lowering) (m n : Rest → State → Runs) → WayIt a m → WayIt b n → WayIt (comma a b) (λ κ. m (λ x. n κ))
   comma_does a b m n does does' = record {
     low = λ t l sz. let f = does.drop t l sz in let p = a.drop t l in comma_low p (b.low p.temps p.labels) t m n f (does'.low p.temps p.labels (omega (arith, f.grows)));
@@ -502,4 +576,6 @@ module _ (program : TreeProgram) (code : List TreeItem) (callers : List Activati
     drop = λ t l sz. let f = does.drop t l sz in let p = a.drop t l in
         let both = then_drops p (b.drop p.temps p.labels) t m n f (does'.drop p.temps p.labels (omega (arith, f.grows))) in
         record { grows = both.grows; runs = λ k le is κ res st d ag h. both.runs k le is κ res st d ag h };
+    deliver = λ to t l sz. let f = does.drop t l sz in let p = a.drop t l in
+        comma_delivers to p (b.deliver to p.temps p.labels) t m n f (does'.deliver to p.temps p.labels (omega (arith, f.grows)));
   }

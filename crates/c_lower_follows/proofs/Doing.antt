@@ -9,19 +9,21 @@ use Rattle.tree_core.specs.declared.program.TreeItem.{TreeItem}
 use Rattle.tree_core.specs.declared.program.TreeProgram.{TreeProgram}
 use Rattle.tree_meaning.specs.declared.value.Value.{Value}
 use Rattle.tree_meaning.specs.declared.value.Value.TheVariants.{Number, ZeroDivisor, Wild}
-use Rattle.tree_meaning.specs.State.{Activation, with_local, behind, arrived}
+use Rattle.tree_meaning.specs.State.{Activation, with_local, behind, arrived, returned}
+use Rattle.tree_meaning.specs.Meaning.{runs as left_runs}
 use Rattle.tree_meaning.specs.Values.{bind, there}
 use Rattle.c_meaning.specs.State.{State}
 use Rattle.c_meaning.specs.Values.{Rest, chosen}
-use Rattle.c_lower_scheme.specs.Trees.{Tree, Num, Item, AssignLoc, Cbr, divides, reads, breaks, stable}
+use Rattle.c_lower_scheme.specs.Trees.{Tree, Num, Item, AssignLoc, Cbr, Ret, divides, reads, breaks, stable}
 use Rattle.c_lower_scheme.specs.Spelling.{spelled, spelled_all}
-use Rattle.c_lower_scheme.specs.Parts.{Lowered, Pair, Emitted, Lowering, due, over, over_two}
+use Rattle.c_lower_scheme.specs.Parts.{Lowered, Pair, Emitted, Lowering, due, over, over_two, Destination, InLocal, AsResult, delivered}
 use Rattle.c_lower_scheme.specs.Places.{saving, next_if}
 use Rattle.c_lower_scheme.specs.Conditions.{valued, effective, mapped, test}
 use Rattle.c_lower_scheme.specs.Values.{must, join_so, join, binary, joined}
+use Rattle.c_sound.specs.Fits.{AreBytes}
 use Rattle.c_lower_follows.proofs.Values.{SmallTree, Small, worth_small}
 use Rattle.c_lower_follows.proofs.Leads.{Leads, leads_wild}
-use Rattle.c_lower_follows.proofs.Steps.{Desk, desk_sight, on, Resolves, resolves_back, at, at_items, state, moves, lost, silent, assign_loc_step, cbr_step}
+use Rattle.c_lower_follows.proofs.Steps.{Desk, desk_sight, on, Resolves, resolves_back, at, at_items, state, moves, lost, silent, assign_loc_step, cbr_step, ret_step}
 use Rattle.c_lower_follows.proofs.Agreeing.{Below, below_more, value, value_stable, value_pure, stable_pure, Agree, Since, since_start, agree_temp, set_same, set_other, not_nil, front_nil, back_nil}
 
 pub on_bind : (o : Value) (f : ℕ → Value) (κ : ℕ → Runs) → on (bind o f) κ ≡ on o (λ x. on (f x) κ)
@@ -83,10 +85,23 @@ module _ (program : TreeProgram) (code : List TreeItem) (callers : List Activati
         → Out k t p.temps p.items st d (either_way sense unmet met) (spelled_all is)
         → Leads k (m (λ v st. chosen v (met st) (unmet st)) st) (here (p.items ++ is) d)
 
+  -- At a destination: the items leave with the value in a local, or to the caller.
+  abbrev pub Arrives : Destination → (k t u : ℕ) (is : List Item) (d : Desk) (κ : Rest) → Type 0
+  Arrives (InLocal n) k t u is d κ = (v : ℕ) (st' : State) (d' : Desk) → v < 2 ^ 32 → Agrees st' d' → ((j : ℕ) → size ≤ j → (j < t) ⊎ (u ≤ j) → d'.locals j ≡ d.locals j)
+      → Leads k (κ v st') (here is (record d' { locals = with_local d'.locals n v }))
+  Arrives AsResult k t u is d κ = (v : ℕ) (st' : State) → v < 2 ^ 32 → AreBytes st'.area → AreBytes st'.input → Leads k (κ v st') (left_runs program (returned v callers st'.area st'.input))
+
+  pub record Delivers (to : Destination) (p : Emitted) (t : ℕ) (m : Rest → State → Runs) : Type 0 where
+    pub grows : t ≤ p.temps
+    pub some : p.items ≡ [] → ⊥
+    pub runs : (k : ℕ) → k ≤ level → (is : List Item) (κ : Rest) → Resolves code (p.items ++ is) → (st : State) (d : Desk) → Agrees st d
+        → Arrives to k t p.temps is d κ → Leads k (m κ st) (here (p.items ++ is) d)
+
   pub record DoesWay (w : Lowering) (m : Rest → State → Runs) : Type 0 where
     pub low : (t l : ℕ) → size ≤ t → Does (w.low t l) t m
     pub branch : (sense : Bool) (to t l : ℕ) → size ≤ t → Asks (w.branch sense to t l) sense to t m
     pub drop : (t l : ℕ) → size ≤ t → Drops (w.drop t l) t m
+    pub deliver : (to : Destination) (t l : ℕ) → size ≤ t → Delivers to (w.deliver to t l) t m
 
   pub assoc : (k : ℕ) (a b is : List Item) (d : Desk) (r : Runs) → Leads k r (here (a ++ (b ++ is)) d) → Leads k r (here ((a ++ b) ++ is) d)
   assoc k a b is d r h = moves program code callers k (spelled_all ((a ++ b) ++ is)) (spelled_all (a ++ (b ++ is))) d r (ap spelled_all (append_assoc a b is)) h
@@ -228,7 +243,7 @@ module _ (program : TreeProgram) (code : List TreeItem) (callers : List Activati
     some_chosen (suc x) y r q e h = refl
     some_chosen zero y r q e h = absurd (let z : 0 ≡ y = cc in eqb-false 0 y h z)
 
-    test_asks : (sense : Bool) (to : ℕ) (p : Lowered) (t : ℕ) (m : Rest → State → Runs) → Does p t m → Asks (test sense to p) sense to t m
+    pub test_asks : (sense : Bool) (to : ℕ) (p : Lowered) (t : ℕ) (m : Rest → State → Runs) → Does p t m → Asks (test sense to p) sense to t m
     test_asks true to p t m does = record {
       grows = does.grows;
       runs = λ k le is met unmet res st d ag taken falls.
@@ -276,11 +291,44 @@ module _ (program : TreeProgram) (code : List TreeItem) (callers : List Activati
           (silent program code callers (arrived (state program code callers (spelled_all is) d1))) (h st1 d1 ag1 (since_more t p.temps p.temps p.items [] st d st1 d1 (omega arith) s1))));
     }
 
+    -- a value that goes to its destination
+    pub delivered_does : (to : Destination) (p : Lowered) (t : ℕ) (m : Rest → State → Runs) → Does p t m → Delivers to (delivered to p) t m
+    delivered_does (InLocal n) p t m does = record {
+      grows = does.grows;
+      some = λ e. not_nil p.items (AssignLoc n p.tree) [] e;
+      runs = λ k le is κ res st d ag h.
+          let i = AssignLoc n p.tree in
+          assoc k p.items (i ∷ []) is d _ (does.runs k le (i ∷ is) κ (split p.items (i ∷ []) is res) st d ag
+          (λ st1 d1 ag1 s1. assign_loc_step program code callers k n p.tree is (λ v. κ v st1) d1 does.small ag1.ranged
+          (λ v e. h v st1 d1 (subst Small e (worth_small program.objects (desk_sight d1) ag1.ranged p.tree does.small)) ag1 s1.keeps)));
+    }
+    delivered_does AsResult p t m does = record {
+      grows = does.grows;
+      some = λ e. not_nil p.items (Ret p.tree) [] e;
+      runs = λ k le is κ res st d ag h.
+          let i = Ret p.tree in
+          assoc k p.items (i ∷ []) is d _ (does.runs k le (i ∷ is) κ (split p.items (i ∷ []) is res) st d ag
+          (λ st1 d1 ag1 s1. ret_step program code callers k p.tree is (λ v. κ v st1) d1 does.small ag1.ranged
+          (λ v e.
+          let lt : v < 2 ^ 32 = subst Small e (worth_small program.objects (desk_sight d1) ag1.ranged p.tree does.small) in
+          let done = h v st1 lt (subst AreBytes ag1.area ag1.ranged.area) (subst AreBytes ag1.input ag1.bytes) in
+          subst (λ a. Leads k (κ v st1) (left_runs program (returned v callers a d1.input))) (sym ag1.area)
+          (subst (λ i. Leads k (κ v st1) (left_runs program (returned v callers st1.area i))) (sym ag1.input) done))));
+    }
+
+    -- behind items that keep the temporaries from t up to p for themselves
+    pub arrives_behind : (to : Destination) (k t p q : ℕ) (is : List Item) (κ : Rest) (d d1 : Desk) → t ≤ p → p ≤ q → ((j : ℕ) → size ≤ j → (j < t) ⊎ (p ≤ j) → d1.locals j ≡ d.locals j)
+        → Arrives to k t q is d κ → Arrives to k p q is d1 κ
+    arrives_behind (InLocal n) k t p q is κ d d1 le le' before h = λ v st' d' lt ag kept. h v st' d' lt ag
+        (λ j sz o. kept j sz (⊎_elim (λ lt. inl (omega arith)) (λ ge. inr ge) o) ∙ before j sz (⊎_elim (λ lt. inl lt) (λ ge. inr (omega arith)) o))
+    arrives_behind AsResult k t p q is κ d d1 le le' before h = h
+
     pub valued_does : (f : ℕ → ℕ → Lowered) (m : Rest → State → Runs) → ((t l : ℕ) → size ≤ t → Does (f t l) t m) → DoesWay (valued f) m
     valued_does f m does = record {
       low = does;
       branch = λ sense to t l sz. test_asks sense to (f t l) t m (does t l sz);
       drop = λ t l sz. dropped_by (f t l) t m (breaks (f t l).tree) refl sz (does t l sz);
+      deliver = λ to t l sz. delivered_does to (f t l) t m (does t l sz);
     }
 
     pub effective_does : (f : ℕ → ℕ → Lowered) (g : ℕ → ℕ → Emitted) (m : Rest → State → Runs) → ((t l : ℕ) → size ≤ t → Does (f t l) t m) → ((t l : ℕ) → size ≤ t → Drops (g t l) t m)
@@ -289,6 +337,7 @@ module _ (program : TreeProgram) (code : List TreeItem) (callers : List Activati
       low = does;
       branch = λ sense to t l sz. test_asks sense to (f t l) t m (does t l sz);
       drop = drops;
+      deliver = λ to t l sz. delivered_does to (f t l) t m (does t l sz);
     }
 
     -- what an operator over two trees does

@@ -175,12 +175,18 @@ pub record OnceWay (w : Parts.Lowering) : Type 0 where
   pub low : (t l : ℕ) → Once l (w.low t l).labels (w.low t l).items
   pub branch : (sense : Bool) (to t l : ℕ) → Once l (w.branch sense to t l).labels (w.branch sense to t l).items
   pub drop : (t l : ℕ) → Once l (w.drop t l).labels (w.drop t l).items
+  pub deliver : (to : Parts.Destination) (t l : ℕ) → Once l (w.deliver to t l).labels (w.deliver to t l).items
+
+once_delivered : (to : Parts.Destination) (p : Parts.Lowered) (l : ℕ) → Once l p.labels p.items → Once l (Parts.delivered to p).labels (Parts.delivered to p).items
+once_delivered (Parts.InLocal n) p l h = once_plain l p.labels p.items _ h (λ m. refl)
+once_delivered Parts.AsResult p l h = once_plain l p.labels p.items _ h (λ m. refl)
 
 once_valued : (f : ℕ → ℕ → Parts.Lowered) → ((t l : ℕ) → Once l (f t l).labels (f t l).items) → OnceWay (Conditions.valued f)
 once_valued f h = record {
   low = h;
   branch = λ sense to t l. once_plain l (f t l).labels (f t l).items _ (h t l) (λ m. refl);
   drop = λ t l. once_plain l (f t l).labels (f t l).items _ (h t l) (none_saving (breaks (f t l).tree) (f t l).temps (f t l).tree);
+  deliver = λ to t l. once_delivered to (f t l) l (h t l);
 }
 
 once_effective : (f : ℕ → ℕ → Parts.Lowered) (g : ℕ → ℕ → Parts.Emitted) → ((t l : ℕ) → Once l (f t l).labels (f t l).items) → ((t l : ℕ) → Once l (g t l).labels (g t l).items)
@@ -189,15 +195,15 @@ once_effective f g h h' = record {
   low = h;
   branch = λ sense to t l. once_plain l (f t l).labels (f t l).items _ (h t l) (λ m. refl);
   drop = h';
+  deliver = λ to t l. once_delivered to (f t l) l (h t l);
 }
 
 once_conditional : (f : Bool → ℕ → ℕ → ℕ → Parts.Emitted) (g : ℕ → ℕ → Parts.Emitted) → ((sense : Bool) (to t l : ℕ) → Once l (f sense to t l).labels (f sense to t l).items)
     → ((t l : ℕ) → Once l (g t l).labels (g t l).items) → OnceWay (Conditions.conditional f g)
-once_conditional f g h h' = record {
-  low = λ t l. let b = f false l (suc t) (suc l) in once_count l b.labels b.items _ (h false l (suc t) (suc l)) (λ m. omega (arith, stands_append m b.items (AssignLoc t (Num 1) ∷ Label l ∷ [])));
-  branch = h;
-  drop = h';
-}
+once_conditional f g h h' = record { low = truth; branch = h; drop = h'; deliver = λ to t l. once_delivered to (Conditions.truth_of t l (f false l (suc t) (suc l))) l (truth t l) }
+  where
+    truth : (t l : ℕ) → Once l (Conditions.truth_of t l (f false l (suc t) (suc l))).labels (Conditions.truth_of t l (f false l (suc t) (suc l))).items
+    truth t l = let b = f false l (suc t) (suc l) in once_count l b.labels b.items _ (h false l (suc t) (suc l)) (λ m. omega (arith, stands_append m b.items (AssignLoc t (Num 1) ∷ Label l ∷ [])))
 
 once_two : (u : ℕ) (b : Bool) (w : Tree) (l p q : ℕ) (a c : List Item) → Once l p a → Once p q c → Once l q (a ++ (Places.saving b u w ++ c))
 once_two u b w l p q a c h g = once_append l p q a (Places.saving b u w ++ c) h (once_front p q (Places.saving b u w) c (none_saving b u w) g)
@@ -243,19 +249,45 @@ once_fork l p q r a b c b1 c1 z z' h f g =
       z' m,
     ))
 
-once_choose : (c a b : Parts.Lowering) → OnceWay c → OnceWay a → OnceWay b → OnceWay (Conditions.choose c a b)
-once_choose c a b h f g = once_effective _ _
-    (λ t l.
+-- a test, a part, and another where the test goes
+once_apart : (l p q r : ℕ) (a b c : List Item) → Once (suc (suc l)) p a → Once p q b → Once q r c → Once l r (a ++ (b ++ (Label l ∷ c)))
+once_apart l p q r a b c h f g =
+    let inner : List Item = a ++ (b ++ c) in
+    let all = once_append (suc (suc l)) p r a (b ++ c) h (once_append p q r b c f g) in
+    let wider : Once (suc l) r inner = record { grows = omega (arith, all.grows); once = all.once; inside = λ m o. all.inside m (⊎_elim (λ lt. inl (omega arith)) (λ ge. inr ge) o) } in
+    once_count l r inner (a ++ (b ++ (Label l ∷ c))) wider
+    (λ m. omega (arith, stands_append m a (b ++ (Label l ∷ c)), stands_append m b (Label l ∷ c), stands_append m a (b ++ c), stands_append m b c))
+
+once_choose_drop : (l : ℕ) (p q r : Parts.Emitted) → Once (suc (suc l)) p.labels p.items → Once p.labels q.labels q.items → Once q.labels r.labels r.items
+    → Once l (Conditions.choose_drop l p q r).labels (Conditions.choose_drop l p q r).items
+once_choose_drop l p q r h f g = once_fork l p.labels q.labels r.labels p.items q.items r.items [] [] (λ m. refl) (λ m. refl) h f g
+
+once_choose_deliver : (to : Parts.Destination) (l : ℕ) (p q r : Parts.Emitted) → Once (suc (suc l)) p.labels p.items → Once p.labels q.labels q.items → Once q.labels r.labels r.items
+    → Once l (Conditions.choose_deliver to l p q r).labels (Conditions.choose_deliver to l p q r).items
+once_choose_deliver (Parts.InLocal n) l p q r h f g = once_choose_drop l p q r h f g
+once_choose_deliver Parts.AsResult l p q r h f g = once_apart l p.labels q.labels r.labels p.items q.items r.items h f g
+
+once_choice : (c a b : Parts.Lowering) → OnceWay c → OnceWay a → OnceWay b → (t l : ℕ) → Once l ((Conditions.choose c a b).low t l).labels ((Conditions.choose c a b).low t l).items
+once_choice c a b h f g t l =
     let p = c.branch false l (suc t) (suc (suc l)) in
     let q = a.low p.temps p.labels in
     let r = b.low q.temps q.labels in
     once_fork l p.labels q.labels r.labels p.items q.items r.items (AssignLoc t q.tree ∷ []) (AssignLoc t r.tree ∷ []) (λ m. refl) (λ m. refl) (h.branch false l (suc t) (suc (suc l)))
-    (f.low p.temps p.labels) (g.low q.temps q.labels))
-    (λ t l.
-    let p = c.branch false l t (suc (suc l)) in
-    let q = a.drop p.temps p.labels in
-    let r = b.drop q.temps q.labels in
-    once_fork l p.labels q.labels r.labels p.items q.items r.items [] [] (λ m. refl) (λ m. refl) (h.branch false l t (suc (suc l))) (f.drop p.temps p.labels) (g.drop q.temps q.labels))
+    (f.low p.temps p.labels) (g.low q.temps q.labels)
+
+once_choose : (c a b : Parts.Lowering) → OnceWay c → OnceWay a → OnceWay b → OnceWay (Conditions.choose c a b)
+once_choose c a b h f g = record {
+  low = once_choice c a b h f g;
+  branch = λ sense to t l. once_plain l ((Conditions.choose c a b).low t l).labels ((Conditions.choose c a b).low t l).items _ (once_choice c a b h f g t l) (λ m. refl);
+  drop = λ t l.
+      let p = c.branch false l t (suc (suc l)) in
+      let q = a.drop p.temps p.labels in
+      once_choose_drop l p q (b.drop q.temps q.labels) (h.branch false l t (suc (suc l))) (f.drop p.temps p.labels) (g.drop q.temps q.labels);
+  deliver = λ to t l.
+      let p = c.branch false l t (suc (suc l)) in
+      let q = a.deliver to p.temps p.labels in
+      once_choose_deliver to l p q (b.deliver to q.temps q.labels) (h.branch false l t (suc (suc l))) (f.deliver to p.temps p.labels) (g.deliver to q.temps q.labels);
+}
 
 once_store_low : (s : Parts.Where) (r : Parts.Assignable) (l : ℕ) → Once l r.labels r.items → Once l (Assignments.store_low_at s r).labels (Assignments.store_low_at s r).items
 once_store_low (Parts.InLoc n) r l h = once_plain l r.labels r.items _ h (λ m. refl)
@@ -283,6 +315,17 @@ once_call f q l h = once_plain l q.labels q.items _ h (λ m. stands_pushes m q.t
 once_call_drop : (f : ℕ) (q : Parts.Passing) (l : ℕ) → Once l q.labels q.items → Once l (Calls.called_drop f q).labels (Calls.called_drop f q).items
 once_call_drop f q l h = once_plain l q.labels q.items _ h (λ m. stands_pushes m q.trees _)
 
+once_call_deliver : (to : Parts.Destination) (f : ℕ) (q : Parts.Passing) (l : ℕ) → Once l q.labels q.items → Once l (Calls.called_deliver to f q).labels (Calls.called_deliver to f q).items
+once_call_deliver (Parts.InLocal n) f q l h = once_plain l q.labels q.items _ h (λ m. stands_pushes m q.trees _)
+once_call_deliver Parts.AsResult f q l h = once_delivered Parts.AsResult (Calls.called_low f q) l (once_call f q l h)
+
+once_deliver_as : (i : Integer) (e : Parts.Lowering) → OnceWay e → (to : Parts.Destination) (t l : ℕ) → Once l (Conditions.deliver_as i e to t l).labels (Conditions.deliver_as i e to t l).items
+once_deliver_as ints.Char e h to t l = once_delivered to (Parts.over (Places.conv ints.Char) (e.low t l)) l (h.low t l)
+once_deliver_as ints.UnsignedChar e h to t l = once_delivered to (Parts.over (Places.conv ints.UnsignedChar) (e.low t l)) l (h.low t l)
+once_deliver_as ints.Short e h to t l = once_delivered to (Parts.over (Places.conv ints.Short) (e.low t l)) l (h.low t l)
+once_deliver_as ints.UnsignedShort e h to t l = once_delivered to (Parts.over (Places.conv ints.UnsignedShort) (e.low t l)) l (h.low t l)
+once_deliver_as ints.Int e h to t l = h.deliver to t l
+
 module _ (size count : ℕ) where
   once_joined : (a b : Parts.Lowering) (t l : ℕ) → OnceWay a → OnceWay b → Once l (Values.joined size count a b t l).labels (Values.joined size count a b t l).items
   once_joined a b t l h g = once_two _ _ _ l (a.low t l).labels _ _ _ (h.low t l) (g.low (a.low t l).temps (a.low t l).labels)
@@ -292,6 +335,22 @@ module _ (size count : ℕ) where
 
   once_mapped : (f : Tree → Tree) (e : Parts.Lowering) → OnceWay e → OnceWay (Conditions.mapped f e)
   once_mapped f e h = once_effective _ _ (λ t l. h.low t l) h.drop
+
+  once_converting : (ty : CType) (e : Parts.Lowering) → OnceWay e → OnceWay (Conditions.converting ty e)
+  once_converting ty e h =
+      let w : OnceWay (Conditions.mapped (Places.fitted ty) e) = once_mapped (Places.fitted ty) e h in
+      record { low = w.low; branch = w.branch; drop = w.drop; deliver = once_deliver_as (Places.integer_of ty) e h }
+
+  -- an assignment, also to a local that the value is delivered to
+  once_assign_low : (o : Option ℕ) (q : Parts.Located) (e : Parts.Lowering) (l : ℕ) → Once l q.labels q.items → OnceWay e
+      → Once l (Assignments.assign_low size count o q e).labels (Assignments.assign_low size count o q e).items
+  once_assign_low None q e l h g = let r = Assignments.assigned size count true q e.low in once_store_low r.place r l (once_ready _ _ _ l q.labels _ _ _ h (g.low q.temps q.labels))
+  once_assign_low (Some n) q e l h g = once_append l q.labels _ _ _ h (g.deliver (Parts.InLocal n) q.temps q.labels)
+
+  once_assign_drop : (o : Option ℕ) (q : Parts.Located) (e : Parts.Lowering) (l : ℕ) → Once l q.labels q.items → OnceWay e
+      → Once l (Assignments.assign_drop size count o q e).labels (Assignments.assign_drop size count o q e).items
+  once_assign_drop None q e l h g = let r = Assignments.assigned size count false q e.low in once_store_drop r l (once_ready _ _ _ l q.labels _ _ _ h (g.low q.temps q.labels))
+  once_assign_drop (Some n) q e l h g = once_append l q.labels _ _ _ h (g.deliver (Parts.InLocal n) q.temps q.labels)
 
   once_unary : (op : UnaryOperator) (e : Parts.Lowering) → OnceWay e → OnceWay (Expressions.unary size count op e)
   once_unary unaries.Plus e h = once_mapped (λ w. w) e h
@@ -325,14 +384,22 @@ module _ (size count : ℕ) where
     once_way (SizeofTerm n e) = once_valued _ (λ t l. once_nil l)
     once_way (SizeOf n) = once_valued _ (λ t l. once_nil l)
     once_way (AddressOf ty a) = once_valued _ (λ t l. once_seek a t l)
-    once_way (CallOf ty f to es) = once_effective _ _ (λ t l. once_call _ (Expressions.pass size count es to t l) l (once_pass es to t l))
-        (λ t l. once_call_drop _ (Expressions.pass size count es to t l) l (once_pass es to t l))
+    once_way (CallOf ty f to es) =
+        let n = Calls.callee_number count f in
+        record {
+          low = λ t l. once_call n (Expressions.pass size count es to t l) l (once_pass es to t l);
+          branch = λ sense at t l.
+              let p = Calls.called_low n (Expressions.pass size count es to t l) in
+              once_plain l p.labels p.items _ (once_call n (Expressions.pass size count es to t l) l (once_pass es to t l)) (λ m. refl);
+          drop = λ t l. once_call_drop n (Expressions.pass size count es to t l) l (once_pass es to t l);
+          deliver = λ at t l. once_call_deliver at n (Expressions.pass size count es to t l) l (once_pass es to t l);
+        }
     once_way (StepOf m by a) = once_effective _ _ (λ t l. once_step m by (Expressions.seek size count a t l) l (once_seek a t l))
         (λ t l. once_store_drop (Assignments.step_ready size count by (Expressions.seek size count a t l)) l
         (once_ready _ _ _ l (Expressions.seek size count a t l).labels (Expressions.seek size count a t l).labels _ [] (once_seek a t l) (once_nil (Expressions.seek size count a t l).labels)))
     once_way (UnaryOf op e) = once_unary op _ (once_way e)
-    once_way (CastTo ty e) = once_mapped (Places.fitted ty) _ (once_way e)
-    once_way (ConvertTo ty e) = once_mapped (Places.fitted ty) _ (once_way e)
+    once_way (CastTo ty e) = once_converting ty _ (once_way e)
+    once_way (ConvertTo ty e) = once_converting ty _ (once_way e)
     once_way (ArithmeticOf op a b) = once_binary (Bin op) _ _ (once_way a) (once_way b)
     once_way (CompareOf r a b) = once_conditional _ _ (λ sense to t l. once_plain l _ _ _ (once_joined _ _ t l (once_way a) (once_way b)) (λ m. refl))
         (λ t l. once_drops _ _ t l (once_way a) (once_way b))
@@ -346,8 +413,8 @@ module _ (size count : ℕ) where
     once_way (DistanceOf ty a b) = once_binary (Values.apart ty) _ _ (once_way a) (once_way b)
     once_way (ChoiceOf ty c a b) = once_choose _ _ _ (once_way c) (once_way a) (once_way b)
     once_way (AssignTo a e) = once_effective _ _
-        (λ t l. let q = Expressions.seek size count a t l in let r = Assignments.assigned size count true q (Expressions.way size count e).low in once_store_low r.place r l (once_ready _ _ _ l q.labels _ _ _ (once_seek a t l) ((once_way e).low q.temps q.labels)))
-        (λ t l. let q = Expressions.seek size count a t l in let r = Assignments.assigned size count false q (Expressions.way size count e).low in once_store_drop r l (once_ready _ _ _ l q.labels _ _ _ (once_seek a t l) ((once_way e).low q.temps q.labels)))
+        (λ t l. let q = Expressions.seek size count a t l in once_assign_low (Assignments.local_of size count q) q (Expressions.way size count e) l (once_seek a t l) (once_way e))
+        (λ t l. let q = Expressions.seek size count a t l in once_assign_drop (Assignments.local_of size count q) q (Expressions.way size count e) l (once_seek a t l) (once_way e))
     once_way (ArithmeticAssignTo op a e) = once_updates (λ ty. Bin op) (Expressions.seek size count a) _ (λ t l. once_seek a t l) (once_way e)
     once_way (AdvanceAssignTo a e) = once_updates Values.advance (Expressions.seek size count a) _ (λ t l. once_seek a t l) (once_way e)
     once_way (RetreatAssignTo a e) = once_updates Values.retreat (Expressions.seek size count a) _ (λ t l. once_seek a t l) (once_way e)
@@ -355,6 +422,7 @@ module _ (size count : ℕ) where
       low = λ t l. once_append l _ _ _ _ ((once_way a).drop t l) ((once_way b).low _ _);
       branch = λ sense to t l. once_append l _ _ _ _ ((once_way a).drop t l) ((once_way b).branch sense to _ _);
       drop = λ t l. once_drops _ _ t l (once_way a) (once_way b);
+      deliver = λ at t l. once_append l _ _ _ _ ((once_way a).drop t l) ((once_way b).deliver at _ _);
     }
 
     pub once_pass : (es : SomeExpressions) (to : List CType) (t l : ℕ) → Once l (Expressions.pass size count es to t l).labels (Expressions.pass size count es to t l).items
@@ -367,7 +435,7 @@ module _ (size count : ℕ) where
 
   once_returning : (e : Option AnExpression) (l : ℕ) → Once l (Statements.returning size count e l).labels (Statements.returning size count e l).items
   once_returning None l = once_same l l [] _ (once_nil l) (λ m. refl)
-  once_returning (Some e) l = once_plain l _ _ _ ((once_way e).low size l) (λ m. refl)
+  once_returning (Some e) l = (once_way e).deliver Parts.AsResult size l
 
   none_clearing : (b : Bool) (n m : ℕ) → stands m (Flow.clearing b n) ≡ 0
   none_clearing true n m = refl
@@ -378,10 +446,9 @@ module _ (size count : ℕ) where
   once_declare (KeepOf object ∷ ds) l = once_declare ds l
   once_declare (ClearOf n ∷ ds) l = once_front l _ (Flow.clearing true n) _ (none_clearing true n) (once_declare ds l)
   once_declare (BeginOf n e ∷ ds) l =
-      let q = (Expressions.way size count e).low size l in
+      let q = (Expressions.way size count e).deliver (Parts.InLocal n) size l in
       let b = Mentions.mentions n e in
-      once_append l q.labels _ _ _ (once_front l q.labels (Flow.clearing b n) (q.items ++ (AssignLoc n q.tree ∷ [])) (none_clearing b n)
-      (once_plain l q.labels q.items (AssignLoc n q.tree ∷ []) ((once_way e).low size l) (λ m. refl))) (once_declare ds q.labels)
+      once_append l q.labels _ _ _ (once_front l q.labels (Flow.clearing b n) q.items (none_clearing b n) ((once_way e).deliver (Parts.InLocal n) size l)) (once_declare ds q.labels)
 
   once_while : (l p q : ℕ) (a b : List Item) → Once (suc (suc l)) p a → Once p q b → Once l q (Label l ∷ (a ++ (b ++ (Jump l ∷ Label (suc l) ∷ []))))
   once_while l p q a b h g =
@@ -432,6 +499,11 @@ module _ (size count : ℕ) where
       once_three l r (Label (suc (suc (suc l))) ∷ inner) _ one
       (λ m. omega (arith, stands_append m a T1, stands_append m b T2, stands_append m c T3, stands_append m a (b ++ c), stands_append m b c))
 
+  once_if_by : (o : Option ℕ) (c : AnExpression) (f : ℕ → Parts.Emitted) (l : ℕ) → ((m : ℕ) → Once m (f m).labels (f m).items)
+      → Once l (Statements.if_by size count o c f l).labels (Statements.if_by size count o c f l).items
+  once_if_by (Some to) c f l h = (once_way c).branch true to size l
+  once_if_by None c f l h = let q = Statements.unless size count c l (suc l) in once_inner l q.labels _ q.items _ ((once_way c).branch false l size (suc l)) (h q.labels)
+
   once_while_by : (o : Option ℕ) (c : AnExpression) (f : ℕ → ℕ → ℕ → Parts.Emitted) (l : ℕ) → ((lb lc m : ℕ) → Once m (f lb lc m).labels (f lb lc m).items)
       → Once l (Statements.while_by size count o c f l).labels (Statements.while_by size count o c f l).items
   once_while_by (Some v) c f l h =
@@ -465,7 +537,7 @@ module _ (size count : ℕ) where
     once_act BreakOf lb lc l = once_same l l [] _ (once_nil l) (λ m. refl)
     once_act ContinueOf lb lc l = once_same l l [] _ (once_nil l) (λ m. refl)
     once_act (ReturnOf e) lb lc l = once_returning e l
-    once_act (IfOf c a) lb lc l = let q = Statements.unless size count c l (suc l) in once_inner l q.labels _ q.items _ ((once_way c).branch false l size (suc l)) (once_act a lb lc q.labels)
+    once_act (IfOf c a) lb lc l = once_if_by (Statements.going a lb lc) c (Statements.lower size count a lb lc) l (λ m. once_act a lb lc m)
     once_act (IfElseOf c a b) lb lc l =
         let q = Statements.unless size count c l (suc (suc l)) in
         let x = Statements.lower size count a lb lc q.labels in

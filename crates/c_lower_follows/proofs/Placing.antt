@@ -103,6 +103,11 @@ conv_value types.Void v = refl
 conv_value (types.Integer i) v = refl
 conv_value (types.Pointer i n) v = refl
 
+-- a type as wide as a longword takes a value as it is
+pub whole_value : (t : CType) (v : ℕ) → integer_of t ≡ ints.Int → converted t v ≡ v
+unfolding kept
+whole_value t v is = conv_value t v ∙ ap (λ i. kept i v) is
+
 on_there : (o : Option ℕ) (κ : Rest) (st : State) → on (there o) (λ v. κ v st) ≡ or_wild o κ st
 on_there None κ st = refl
 on_there (Some v) κ st = refl

@@ -26,13 +26,13 @@ use Rattle.c_meaning.specs.State.{State, with_locals, put_local}
 use Rattle.c_meaning.specs.Values.{Behind, ALoop, plain_loop, for_loop, Task, Look, Next, chosen, written}
 use Rattle.c_meaning.specs.Meaning.{expr, dropped, turned, turn_by, look_by, local_set, declared, followed, stmt}
 use Rattle.c_meaning.specs.Meaning.{stmts, task, returned as returned_source}
-use Rattle.c_lower_scheme.specs.Trees.{Tree, Num, Item, Label, AssignLoc, Jump, Ret}
+use Rattle.c_lower_scheme.specs.Trees.{Tree, Num, Item, Label, AssignLoc, Jump}
 use Rattle.c_lower_scheme.specs.Spelling.{spelled_all}
-use Rattle.c_lower_scheme.specs.Parts.{Emitted}
+use Rattle.c_lower_scheme.specs.Parts.{Emitted, InLocal, AsResult}
 use Rattle.c_lower_scheme.specs.Expressions.{way}
 use Rattle.c_lower_scheme.specs.Mentions.{is_local, place_mentions, mentions, any_mentions}
 use Rattle.c_lower_scheme.specs.Flow.{begin_of, if_done, if_else_done, loop_done, while_done, turns_done, for_done, ever_done}
-use Rattle.c_lower_scheme.specs.Statements.{unless, when, effect, returning, declare, while_by, for_tested, for_of, lower, lower_row}
+use Rattle.c_lower_scheme.specs.Statements.{unless, when, effect, returning, declare, while_by, for_tested, for_of, lower, lower_row, going, going_alone, if_by}
 use Rattle.c_sound.specs.Fits.{AreBytes, StandsIn, FitsAt, Fits, FitsAll, FitsMaybe, more, declaring, behind_act, FitsDeclared, FitsAct, FitsActs}
 use Rattle.c_lower_follows.proofs.Values.{SmallTree, Small, worth_small}
 use Rattle.c_lower_follows.proofs.Leads.{Leads, leads_wild, leads_quiet, leads_counted, leads_none, leads_below}
@@ -251,24 +251,21 @@ module _ (program : TreeProgram) (code : List TreeItem) (callers : List Activati
 
     -- declarations
     begin_does : (b : Bool) (n : ℕ) (e : AnExpression) (scope : ℕ → Type 0) → ((x : ℕ) → scope x → x < size) → n < size → mentions n e ≡ b → Fits (more scope n) e → (l k : ℕ) → k ≤ level
-        → (is : List Item) (κ : State → Runs) → Resolves code ((begin_of b n ((way size count e).low size l)).items ++ is) → (st : State) (d : Desk) → fair scope st d
+        → (is : List Item) (κ : State → Runs) → Resolves code ((begin_of b n ((way size count e).deliver (InLocal n) size l)).items ++ is) → (st : State) (d : Desk) → fair scope st d
         → ((st' : State) (d' : Desk) → fair (more scope n) st' d' → Leads k (κ st') (from is d'))
-        → Leads k (local_set p next n 0 (expr p next e (λ v. local_set p next n v κ)) st) (from ((begin_of b n ((way size count e).low size l)).items ++ is) d)
+        → Leads k (local_set p next n 0 (expr p next e (λ v. local_set p next n v κ)) st) (from ((begin_of b n ((way size count e).deliver (InLocal n) size l)).items ++ is) d)
     begin_does true n e scope within lt mentioned fit l k le is κ res st d ag h =
-        let q = (way size count e).low size l in
-        let i = AssignLoc n q.tree in
-        let does = (expression (more scope n) (more_within size scope n lt within) e fit).low size l (omega arith) in
-        let js : List Item = (q.items ++ (i ∷ [])) ++ is in
-        set_local n k (Num 0) scope (more scope n) js (expr p next e (λ v. local_set p next n v κ)) st d (omega arith) (λ x sc ne. ⊎_elim (λ s. s) (λ eq. absurd (ne eq)) sc) ag
-        (λ st1 d1 ag1. joined_at k q.items (i ∷ []) is d1 _ (does.runs k le (i ∷ is) (λ v. local_set p next n v κ) (parted q.items (i ∷ []) is res.1) st1 d1 ag1
-        (λ st2 d2 ag2 s2. set_local n k q.tree (more scope n) (more scope n) is κ st2 d2 does.small (λ x sc ne. sc) ag2 h)))
+        let q = (way size count e).deliver (InLocal n) size l in
+        let does = (expression (more scope n) (more_within size scope n lt within) e fit).deliver (InLocal n) size l (omega arith) in
+        set_local n k (Num 0) scope (more scope n) (q.items ++ is) (expr p next e (λ v. local_set p next n v κ)) st d (omega arith) (λ x sc ne. ⊎_elim (λ s. s) (λ eq. absurd (ne eq)) sc) ag
+        (λ st1 d1 ag1. does.runs k le is (λ v. local_set p next n v κ) res.1 st1 d1 ag1
+        (λ v st2 d2 small ag2 kept. local_step n v k (more scope n) (more scope n) is κ st2 d2 small (λ x sc ne. sc) ag2 (λ ag3. h _ _ ag3)))
     begin_does false n e scope within lt mentioned fit l k le is κ res st d ag h =
-        let q = (way size count e).low size l in
-        let i = AssignLoc n q.tree in
-        let does = (expression (without scope n) (λ x sc. within x sc.0) e (fits_without scope n e mentioned fit)).low size l (omega arith) in
-        cleared_by n k scope ((q.items ++ (i ∷ [])) ++ is) (expr p next e (λ v. local_set p next n v κ)) st d (nat_lt n (length st.call.locals)) refl ag
-        (λ ag1. joined_at k q.items (i ∷ []) is d _ (does.runs k le (i ∷ is) (λ v. local_set p next n v κ) (parted q.items (i ∷ []) is res) (with_locals st (slice_set st.call.locals n 0)) d ag1
-        (λ st2 d2 ag2 s2. set_local n k q.tree (without scope n) (more scope n) is κ st2 d2 does.small (λ x sc ne. ⊎_elim (λ s. (s, ne)) (λ eq. absurd (ne eq)) sc) ag2 h)))
+        let q = (way size count e).deliver (InLocal n) size l in
+        let does = (expression (without scope n) (λ x sc. within x sc.0) e (fits_without scope n e mentioned fit)).deliver (InLocal n) size l (omega arith) in
+        cleared_by n k scope (q.items ++ is) (expr p next e (λ v. local_set p next n v κ)) st d (nat_lt n (length st.call.locals)) refl ag
+        (λ ag1. does.runs k le is (λ v. local_set p next n v κ) res (with_locals st (slice_set st.call.locals n 0)) d ag1
+        (λ v st2 d2 small ag2 kept. local_step n v k (without scope n) (more scope n) is κ st2 d2 small (λ x sc ne. ⊎_elim (λ s. (s, ne)) (λ eq. absurd (ne eq)) sc) ag2 (λ ag3. h _ _ ag3)))
 
     declare_does : (ds : List ADeclaration) (scope : ℕ → Type 0) → ((x : ℕ) → scope x → x < size) → FitsDeclared size scope ds → (l k : ℕ) → k ≤ level → (is : List Item) (κ : Behind)
         → Resolves code ((declare size count ds l).items ++ is) → (st : State) (d : Desk) → fair scope st d
@@ -279,7 +276,7 @@ module _ (program : TreeProgram) (code : List TreeItem) (callers : List Activati
         set_local n k (Num 0) scope (more scope n) ((declare size count ds l).items ++ is) (declared p next ds κ) st d (omega arith) (λ x sc ne. ⊎_elim (λ s. s) (λ eq. absurd (ne eq)) sc) ag
         (λ st1 d1 ag1. declare_does ds (more scope n) (more_within size scope n fit.0 within) fit.1 l k le is κ res.1 st1 d1 ag1 h)
     declare_does (BeginOf n e ∷ ds) scope within fit l k le is κ res st d ag h =
-        let a = begin_of (mentions n e) n ((way size count e).low size l) in
+        let a = begin_of (mentions n e) n ((way size count e).deliver (InLocal n) size l) in
         let rest = declare size count ds a.labels in
         let res' = parted a.items rest.items is res in
         joined_at k a.items rest.items is d _ (begin_does (mentions n e) n e scope within fit.0 refl fit.1 l k le (rest.items ++ is) (declared p next ds κ) res' st d ag
@@ -299,16 +296,7 @@ module _ (program : TreeProgram) (code : List TreeItem) (callers : List Activati
             subst (λ a. Leads k (κ (Returned v) st) (runs program (returned v callers a d.input))) (sym ag.area)
             (subst (λ i. Leads k (κ (Returned v) st) (runs program (returned v callers st.area i))) (sym ag.input) done)
     return_does (Some e) scope outer within fit inside lb lc l k le is κ res h st d ag =
-        let q = (way size count e).low size l in
-        let i = Ret q.tree in
-        let does = (expression scope within e fit).low size l (omega arith) in
-        joined_at k q.items (i ∷ []) is d _ (does.runs k le (i ∷ is) (λ v. κ (Returned v)) (parted q.items (i ∷ []) is res) st d ag
-        (λ st1 d1 ag1 s1. ret_step program code callers k q.tree is (λ v. κ (Returned v) st1) d1 does.small ag1.ranged
-        (λ v ev.
-        let lt : v < 2 ^ 32 = subst Small ev (worth_small program.objects (desk_sight d1) ag1.ranged q.tree does.small) in
-        let done = h.left v st1 lt (subst AreBytes ag1.area ag1.ranged.area) (subst AreBytes ag1.input ag1.bytes) in
-        subst (λ a. Leads k (κ (Returned v) st1) (runs program (returned v callers a d1.input))) (sym ag1.area)
-        (subst (λ i. Leads k (κ (Returned v) st1) (runs program (returned v callers st1.area i))) (sym ag1.input) done))))
+        ((expression scope within e fit).deliver AsResult size l (omega arith)).runs k le is (λ v. κ (Returned v)) res st d ag (λ v st' lt area input. h.left v st' lt area input)
 
     -- conditions
     if_does : (c : AnExpression) (l : ℕ) (a : Emitted) (scope outer after : ℕ → Type 0) (n : Behind → State → Runs) → ((x : ℕ) → scope x → x < size) → Fits scope c
@@ -330,6 +318,56 @@ module _ (program : TreeProgram) (code : List TreeItem) (callers : List Activati
           continued = h.continued;
           left = h.left;
         }) st1 d1 ag1))))
+
+    -- a `break` or `continue` goes to its label
+    mutual
+      goes_there : (a : AnAction) (lb lc to : ℕ) (scope outer : ℕ → Type 0) → ((x : ℕ) → outer x → scope x) → (inside : Bool) → FitsAct size scope inside a → going a lb lc ≡ Some to
+          → (k : ℕ) (is : List Item) (κ : Behind) → Lands k lb lc inside outer scope is κ → (st : State) (d : Desk) → fair scope st d
+          → Leads k (stmt p next a κ st) (at_items program code callers (behind code to) d)
+      goes_there BreakOf lb lc to scope outer sub inside fit e k is κ h st d ag =
+          let same : lb ≡ to = cc in
+          subst (λ x. Leads k (κ Broke st) (at_items program code callers (behind code x) d)) same (h.broke fit st d (agree_less size (length callers) outer scope st d sub ag))
+      goes_there ContinueOf lb lc to scope outer sub inside fit e k is κ h st d ag =
+          let same : lc ≡ to = cc in
+          subst (λ x. Leads k (κ Continued st) (at_items program code callers (behind code x) d)) same (h.continued fit st d (agree_less size (length callers) outer scope st d sub ag))
+      goes_there (DeclareOf ds) lb lc to scope outer sub inside fit e k is κ h st d ag = absurd (cc)
+      goes_there (BlockOf row) lb lc to scope outer sub inside fit e k is κ h st d ag = alone_there row lb lc to scope outer sub inside fit e k is κ h st d ag
+      goes_there (EvaluateOf x) lb lc to scope outer sub inside fit e k is κ h st d ag = absurd (cc)
+      goes_there (ReturnOf x) lb lc to scope outer sub inside fit e k is κ h st d ag = absurd (cc)
+      goes_there (IfOf c a) lb lc to scope outer sub inside fit e k is κ h st d ag = absurd (cc)
+      goes_there (IfElseOf c a b) lb lc to scope outer sub inside fit e k is κ h st d ag = absurd (cc)
+      goes_there (WhileOf c a) lb lc to scope outer sub inside fit e k is κ h st d ag = absurd (cc)
+      goes_there (DoOf a c) lb lc to scope outer sub inside fit e k is κ h st d ag = absurd (cc)
+      goes_there (ForOf i c x a) lb lc to scope outer sub inside fit e k is κ h st d ag = absurd (cc)
+
+      alone_there : (row : SomeActions) (lb lc to : ℕ) (scope outer : ℕ → Type 0) → ((x : ℕ) → outer x → scope x) → (inside : Bool) → FitsActs size scope inside row
+          → going_alone row lb lc ≡ Some to → (k : ℕ) (is : List Item) (κ : Behind) → Lands k lb lc inside outer scope is κ → (st : State) (d : Desk) → fair scope st d
+          → Leads k (stmts p next row κ st) (at_items program code callers (behind code to) d)
+      alone_there NoActions lb lc to scope outer sub inside fit e k is κ h st d ag = absurd (cc)
+      alone_there (MoreActions a NoActions) lb lc to scope outer sub inside fit e k is κ h st d ag =
+          goes_there a lb lc to scope outer sub inside fit.0 e k is (followed p next κ (stmts p next NoActions κ))
+          (record { onward = h.onward; broke = h.broke; continued = h.continued; left = h.left }) st d ag
+      alone_there (MoreActions a (MoreActions b row)) lb lc to scope outer sub inside fit e k is κ h st d ag = absurd (cc)
+
+    -- a test that goes where the statement would
+    away_does : (c : AnExpression) (a : AnAction) (to l : ℕ) (scope outer : ℕ → Type 0) → ((x : ℕ) → scope x → x < size) → ((x : ℕ) → outer x → scope x) → Fits scope c
+        → (inside : Bool) → FitsAct size scope inside a → (lb lc : ℕ) → going a lb lc ≡ Some to
+        → DoesStmt (when size count c to l) lb lc inside outer scope scope (stmt p next (IfOf c a))
+    away_does c a to l scope outer within sub fit inside fit' lb lc e k le is κ res h st d ag =
+        let asks = (expression scope within c fit).branch true to size l (omega arith) in
+        asks.runs k le is (stmt p next a κ) (κ Onward) res st d ag
+        (λ st1 d1 ag1 s1. leads_quiet k _ _ (goes_there a lb lc to scope outer sub inside fit' e k is κ h st1 d1 ag1))
+        (λ st1 d1 ag1 s1. leads_quiet k _ _ (h.onward st1 d1 ag1))
+
+    -- an `if` alone in either form
+    if_by_does : (o : Option ℕ) (c : AnExpression) (a : AnAction) (l lb lc : ℕ) (scope outer : ℕ → Type 0) → ((x : ℕ) → scope x → x < size) → ((x : ℕ) → outer x → scope x) → Fits scope c
+        → (inside : Bool) → FitsAct size scope inside a → going a lb lc ≡ o
+        → ((m : ℕ) → DoesStmt (lower size count a lb lc m) lb lc inside outer scope (behind_act scope a) (stmt p next a))
+        → DoesStmt (if_by size count o c (lower size count a lb lc) l) lb lc inside outer scope scope (stmt p next (IfOf c a))
+    if_by_does (Some to) c a l lb lc scope outer within sub fit inside fit' e body = away_does c a to l scope outer within sub fit inside fit' lb lc e
+    if_by_does None c a l lb lc scope outer within sub fit inside fit' e body =
+        let q = unless size count c l (suc l) in
+        if_does c l (lower size count a lb lc q.labels) scope outer (behind_act scope a) (stmt p next a) within fit (behind_more scope a) inside lb lc (body q.labels)
 
     if_else_does : (c : AnExpression) (l : ℕ) (a b : Emitted) (scope outer after after' : ℕ → Type 0) (n o : Behind → State → Runs) → ((x : ℕ) → scope x → x < size) → Fits scope c
         → ((x : ℕ) → scope x → after x) → ((x : ℕ) → scope x → after' x) → (inside : Bool) (lb lc : ℕ) → DoesStmt a lb lc inside outer scope after n
@@ -668,9 +706,7 @@ module _ (program : TreeProgram) (code : List TreeItem) (callers : List Activati
           jump_step program code callers k lc is _ d (h.continued fit st d (agree_less size (length callers) outer scope st d sub ag))
       act_does (ReturnOf e) scope outer within sub inside fit lb lc l = return_does e scope outer within fit inside lb lc l
       act_does (IfOf c a) scope outer within sub inside fit lb lc l =
-          let q = unless size count c l (suc l) in
-          if_does c l (lower size count a lb lc q.labels) scope outer (behind_act scope a) (stmt p next a) within fit.0 (behind_more scope a) inside lb lc
-          (act_does a scope outer within sub inside fit.1 lb lc q.labels)
+          if_by_does (going a lb lc) c a l lb lc scope outer within sub fit.0 inside fit.1 refl (λ m. act_does a scope outer within sub inside fit.1 lb lc m)
       act_does (IfElseOf c a b) scope outer within sub inside fit lb lc l =
           let q = unless size count c l (suc (suc l)) in
           let x = lower size count a lb lc q.labels in

@@ -11,24 +11,25 @@ use Rattle.tree_meaning.specs.declared.value.Value.TheVariants.{Number, ZeroDivi
 use Rattle.tree_meaning.specs.State.{Activation, with_local}
 use Rattle.tree_meaning.specs.Values.{there}
 use Rattle.c_types.specs.declared.types.CType.{CType}
+use Rattle.c_types.specs.declared.types.Integer.TheVariants as ints
 use Rattle.c_types.specs.Types.{kept}
 use Rattle.c_types.specs.Constants.{converted}
 use Rattle.c_meaning.specs.declared.store.Spot.{Spot}
-use Rattle.c_meaning.specs.declared.store.Spot.TheVariants.{Parameter, Memory}
+use Rattle.c_meaning.specs.declared.store.Spot.TheVariants.{Local, Parameter, Memory}
 use Rattle.c_meaning.specs.State.{State, integer_access, with_locals, with_parameters, with_area, put_local, put}
 use Rattle.c_meaning.specs.Values.{Rest, RestAt, written, store_at}
 use Rattle.c_lower_scheme.specs.Trees.{Gaddr, Neg, Com, Bin, Tree, Num, Loc, Arg, Indir, Conv, Item, AssignLoc, AssignArg, AssignMem, divides, stable, is_leaf}
 use Rattle.c_lower_scheme.specs.Spelling.{spelled_all}
-use Rattle.c_lower_scheme.specs.Parts.{Lowered, Where, InLoc, InArg, InMem, Located, Assignable}
+use Rattle.c_lower_scheme.specs.Parts.{Lowered, Where, InLoc, InArg, InMem, Located, Assignable, Emitted, InLocal}
 use Rattle.c_lower_scheme.specs.Places.{saving, saved, integer_of, fitted, assign_to}
-use Rattle.c_lower_scheme.specs.Assignments.{store_drop, store_low_at, store_low}
+use Rattle.c_lower_scheme.specs.Assignments.{store_drop, store_low_at, store_low, fill_low, fill_drop}
 use Rattle.c_lower_follows.proofs.Values.{SmallTree, Small, worth_small}
 use Rattle.c_lower_follows.proofs.Leads.{Leads}
-use Rattle.c_lower_follows.proofs.Steps.{Desk, desk_sight, on, Resolves, lost, narrowed, written_at, assign_loc_step, assign_arg_step, assign_mem_step}
-use Rattle.c_lower_follows.proofs.Agreeing.{Below, alike_set, value, value_alike, value_stable, value_pure, stable_pure, Since, set_same, set_other, get_same, not_nil}
+use Rattle.c_lower_follows.proofs.Steps.{Desk, desk_sight, on, Resolves, resolves_back, lost, narrowed, written_at, assign_loc_step, assign_arg_step, assign_mem_step}
+use Rattle.c_lower_follows.proofs.Agreeing.{Below, alike_set, value, value_alike, value_stable, value_pure, stable_pure, Since, set_same, set_other, get_same, not_nil, back_nil}
 use Rattle.c_lower_follows.proofs.Placing.{stored_kept, stored_narrowed, conv_value, place_on, SmallPlace, PurePlace, ok, run_at, DoesPlace, DoesReady, fitted_maps, put_local_step}
-use Rattle.c_lower_follows.proofs.Placing.{put_argument_step, put_memory_step}
-use Rattle.c_lower_follows.proofs.Doing.{waits_by, Does, Drops, assoc, split, save_temp}
+use Rattle.c_lower_follows.proofs.Placing.{put_argument_step, put_memory_step, whole_value, FitsPlace}
+use Rattle.c_lower_follows.proofs.Doing.{waits_by, Does, Drops, Delivers, assoc, split, save_temp}
 
 pub is_leaf_pure : (a : Tree) → is_leaf a ≡ true → divides a ≡ false
 is_leaf_pure (Num n) e = refl
@@ -268,3 +269,47 @@ module _ (program : TreeProgram) (code : List TreeItem) (callers : List Activati
       (λ v st2 d2 e ag2 s2.
       let same : value program w d2 ≡ Number v = value_stable program size t0 w d d2 s below (λ j szj lt. s2.keeps j szj (inl lt)) ∙ e in
       subst (λ o. Leads k (on o (λ x. on (value program q.tree d2) (λ y. κ x y st2))) (go is d2)) same (h st2 d2 ag2 s2))
+
+  -- a value is delivered to the local that a place is
+  fill : (x : ℕ) (q : Located) (r : Emitted) (t : ℕ) (m : RestAt → State → Runs) (n : Rest → State → Runs) → q.place ≡ InLoc x → integer_of q.type ≡ ints.Int → x < size → IsPlace q t m
+      → Delivers program code callers size count scope level (InLocal x) r q.temps n → (k : ℕ) → k ≤ level → (is : List Item) (κ : Rest) → Resolves code ((q.items ++ r.items) ++ is)
+      → (st : State) (d : Desk) → good st d
+      → ((v : ℕ) (st' : State) (d' : Desk) → good st' d' → Since size t r.temps (q.items ++ r.items) st d st' d' → d'.locals x ≡ Some v → Leads k (κ v st') (go is d'))
+      → Leads k (m (λ ty s. n (λ v. store_at ty s v κ)) st) (go ((q.items ++ r.items) ++ is) d)
+  fill x q r t m n at whole lt does does' k le is κ res st d ag h =
+      let res1 = apart q.items r.items is res in
+      then_at k q.items r.items is d _ (does.runs k le (r.items ++ is) (λ ty s. n (λ v. store_at ty s v κ)) res1 st d ag
+      (λ st1 d1 ag1 s1. subst (λ s. Leads k (place_on program s d1 (λ s. n (λ v. store_at q.type s v κ) st1)) (go (r.items ++ is) d1)) (sym at)
+      (does'.runs k le is (λ v. store_at q.type (Local x) v κ) (resolves_back code q.items (r.items ++ is) res1) st1 d1 ag1
+      (λ v st2 d2 small ag2 kept.
+      let d3 : Desk = record d2 { locals = with_local d2.locals x v } in
+      subst (λ c. Leads k (written (put_local x c st2) c κ) (go is d3)) (sym (whole_value q.type v whole))
+      (put_local_step program code callers size count scope level within x v k is κ st2 d2 small ag2
+      (λ inside ag3. h v (with_locals st2 (slice_set st2.call.locals x v)) d3 ag3
+      (record {
+        keeps = λ j szj o. set_other d2.locals x v j (λ e. omega arith) ∙ kept j szj (⊎_elim (λ lt. inl (omega (arith, does.grows))) (λ ge. inr ge) o)
+            ∙ s1.keeps j szj (⊎_elim (λ lt. inl lt) (λ ge. inr (omega (arith, does'.grows))) o);
+        same = λ e. absurd (does'.some (back_nil q.items r.items e));
+      }) (set_same d2.locals x v)))))))
+
+  pub fill_low_does : (x : ℕ) (q : Located) (r : Emitted) (t : ℕ) (m : RestAt → State → Runs) (n : Rest → State → Runs) → size ≤ t → q.place ≡ InLoc x → integer_of q.type ≡ ints.Int → IsPlace q t m
+      → Delivers program code callers size count scope level (InLocal x) r q.temps n → DoesIt (fill_low x q r) t (λ κ. m (λ ty s. n (λ v. store_at ty s v κ)))
+  fill_low_does x q r t m n sz at whole does does' =
+      let lt : x < size = within x (subst (FitsPlace program code callers size count scope level q.temps) at does.fits) in
+      record {
+        grows = omega (arith, does.grows, does'.grows);
+        below = omega (arith, does.grows, does'.grows);
+        small = tt;
+        runs = λ k le is κ res st d ag h. fill x q r t m n at whole lt does does' k le is κ res st d ag
+            (λ v st3 d3 ag3 s3 e. use_number k (d3.locals x) v is κ st3 d3 e (h st3 d3 ag3 s3));
+      }
+
+  pub fill_drop_does : (x : ℕ) (q : Located) (r : Emitted) (t : ℕ) (m : RestAt → State → Runs) (n : Rest → State → Runs) → q.place ≡ InLoc x → integer_of q.type ≡ ints.Int → IsPlace q t m
+      → Delivers program code callers size count scope level (InLocal x) r q.temps n
+      → Drops program code callers size count scope level (fill_drop q r) t (λ κ. m (λ ty s. n (λ v. store_at ty s v κ)))
+  fill_drop_does x q r t m n at whole does does' =
+      let lt : x < size = within x (subst (FitsPlace program code callers size count scope level q.temps) at does.fits) in
+      record {
+        grows = omega (arith, does.grows, does'.grows);
+        runs = λ k le is κ res st d ag h. fill x q r t m n at whole lt does does' k le is (λ v. κ) res st d ag (λ v st3 d3 ag3 s3 e. h st3 d3 ag3 s3);
+      }

@@ -18,6 +18,7 @@ use Rattle.tree_meaning.specs.State.{Activation}
 use Rattle.tree_meaning.specs.Values.{bind, address_of as object_address}
 use Rattle.c_types.specs.declared.types.CType.{CType}
 use Rattle.c_types.specs.declared.types.CType.TheVariants as types
+use Rattle.c_types.specs.declared.types.Integer.{Integer}
 use Rattle.c_types.specs.declared.types.Integer.TheVariants as ints
 use Rattle.c_types.specs.declared.typed.Variable.{Variable}
 use Rattle.c_types.specs.declared.typed.Variable.TheVariants as variables
@@ -43,21 +44,24 @@ use Rattle.c_meaning.specs.Values.{Rest, RestAt, Next, or_wild, or_trap, read_at
 use Rattle.c_meaning.specs.Values.{step_at, address_of, located, array_address}
 use Rattle.c_meaning.specs.Meaning.{expr, place, arguments}
 use Rattle.c_lower_scheme.specs.Trees.{Tree, Num, Gaddr, Neg, Com, Bin, Item}
-use Rattle.c_lower_scheme.specs.Parts.{Lowered, Lowering, Located, due, over}
-use Rattle.c_lower_scheme.specs.Places.{where_of, address_tree, fitted, found, pointed, read_low, address_low}
+use Rattle.c_lower_scheme.specs.Parts.{Lowered, Lowering, Located, due, over, Destination, InLocal}
+use Rattle.c_lower_scheme.specs.Places.{where_of, address_tree, fitted, found, pointed, read_low, address_low, integer_of, conv}
 use Rattle.c_lower_scheme.specs.Values.{scaled_by, advance, advance_by, retreat, apart, step}
-use Rattle.c_lower_scheme.specs.Assignments.{store_low, store_drop, assign_ready, update_ready, step_tree, step_ready, step_low, update_by}
+use Rattle.c_lower_scheme.specs.Assignments.{store_low, store_drop, assign_ready, assign_low, assign_drop, local_of, update_ready, step_tree, step_ready, step_low, update_by}
 use Rattle.c_lower_scheme.specs.Expressions.{unary, seek, way, pass}
+use Rattle.c_lower_scheme.specs.Calls.{callee_number, called_low}
+use Rattle.c_lower_scheme.specs.Conditions.{mapped, deliver_as, converting}
+use Rattle.c_lower_scheme.proofs.Places.{local_is}
 use Rattle.c_sound.specs.Fits.{StandsIn, FitsAt, Fits, FitsAll}
 use Rattle.c_lower_follows.proofs.Values.{SmallTree, Small, worth_small, or_zero}
 use Rattle.c_lower_follows.proofs.Leads.{Leads, leads_wild}
 use Rattle.c_lower_follows.proofs.Steps.{Desk, desk_sight, on}
 use Rattle.c_lower_follows.proofs.Agreeing.{Below, value, since_start}
-use Rattle.c_lower_follows.proofs.Doing.{on_bind, Agrees, here, Does, Drops, DoesWay, due_does, Makes, Maps, valued_does, effective_does, binary_does, mapped_does, over_does}
-use Rattle.c_lower_follows.proofs.Placing.{DoesReady, DoesPlace, quiet_at, fitted_maps, read_does, address_does}
-use Rattle.c_lower_follows.proofs.Storing.{store_drop_does, store_low_does}
+use Rattle.c_lower_follows.proofs.Doing.{on_bind, Agrees, here, Does, Drops, Delivers, DoesWay, test_asks, delivered_does, due_does, Makes, Maps, valued_does, effective_does, binary_does, mapped_does, over_does}
+use Rattle.c_lower_follows.proofs.Placing.{DoesReady, DoesPlace, quiet_at, fitted_maps, read_does, address_does, whole_value}
+use Rattle.c_lower_follows.proofs.Storing.{store_drop_does, store_low_does, fill_low_does, fill_drop_does}
 use Rattle.c_lower_follows.proofs.Assigning.{assign_does, assign_pure, update_does, update_pure, post_does}
-use Rattle.c_lower_follows.proofs.Calling.{DoesAll, none_does, pass_does, CodeOf, Calls, called_low_does, called_drop_does}
+use Rattle.c_lower_follows.proofs.Calling.{DoesAll, none_does, pass_does, CodeOf, Calls, called_low_does, called_drop_does, called_deliver_does}
 use Rattle.c_lower_follows.proofs.Conditions.{relation_does, not_does, chain_does, choose_does, comma_does}
 
 -- what follows is the same at each value that there is
@@ -394,25 +398,63 @@ module _ (program : TreeProgram) (code : List TreeItem) (callers : List Activati
               (λ ty s. read_at ty s (λ x. store_at ty s (stepping program code callers size count scope level within by x (scale ty)) (λ v. κ))) (λ ty s. step_at moment by ty s (λ v. κ))
           any_moment moment κ = λ j ty s. read_at ty s (λ x. store_at ty s (sym (stepped_is program code callers size count scope level within by ty x) j) (λ v. κ))
 
-  -- assignments
+  -- assignments, also to a local that the value is delivered to
+  assign_low_does : (o : Option ℕ) (q : Located) (e : Lowering) (t : ℕ) (m : RestAt → State → Runs) (n : Rest → State → Runs) → local_of size count q ≡ o → size ≤ t → PlaceOf q t m → WayOf e n
+      → LowOf (assign_low size count o q e) t (λ κ. m (λ ty s. n (λ v. store_at ty s v κ)))
+  assign_low_does None q e t m n is sz f does =
+      let v = e.low q.temps q.labels in
+      let r = assign_does program code callers size count scope level within true q v t m n sz f (does.low q.temps q.labels (omega (arith, f.grows))) in
+      let low = store_low_does program code callers size count scope level within (assign_ready size count true q v) t (λ κ. m (λ ty s. n (λ v. κ ty s v))) sz
+      (assign_pure program code callers size count scope level within q v) r in
+      record { grows = low.grows; below = low.below; small = low.small; runs = λ k le is κ res st d ag h. low.runs k le is κ res st d ag h }
+  assign_low_does (Some x) q e t m n is sz f does =
+      let whole = local_is (integer_of q.type) q.place x is in
+      fill_low_does program code callers size count scope level within x q (e.deliver (InLocal x) q.temps q.labels) t m n sz whole.0 whole.1 f
+      (does.deliver (InLocal x) q.temps q.labels (omega (arith, f.grows)))
+
+  assign_drop_does : (o : Option ℕ) (q : Located) (e : Lowering) (t : ℕ) (m : RestAt → State → Runs) (n : Rest → State → Runs) → local_of size count q ≡ o → size ≤ t → PlaceOf q t m → WayOf e n
+      → Drops program code callers size count scope level (assign_drop size count o q e) t (λ κ. m (λ ty s. n (λ v. store_at ty s v κ)))
+  assign_drop_does None q e t m n is sz f does =
+      let v = e.low q.temps q.labels in
+      let r = assign_does program code callers size count scope level within false q v t m n sz f (does.low q.temps q.labels (omega (arith, f.grows))) in
+      let drops = store_drop_does program code callers size count scope level within (assign_ready size count false q v) t (λ κ. m (λ ty s. n (λ v. κ ty s v))) sz r in
+      record { grows = drops.grows; runs = λ k le is κ res st d ag h. drops.runs k le is κ res st d ag h }
+  assign_drop_does (Some x) q e t m n is sz f does =
+      let whole = local_is (integer_of q.type) q.place x is in
+      fill_drop_does program code callers size count scope level within x q (e.deliver (InLocal x) q.temps q.labels) t m n whole.0 whole.1 f
+      (does.deliver (InLocal x) q.temps q.labels (omega (arith, f.grows)))
+
   assign_way : (a : APlace) (e : AnExpression) (m : RestAt → State → Runs) (n : Rest → State → Runs) → ((t l : ℕ) → size ≤ t → PlaceOf (seek size count a t l) t m)
       → WayOf (way size count e) n → WayOf (way size count (AssignTo a e)) (λ κ. m (λ ty s. n (λ v. store_at ty s v κ)))
   assign_way a e m n does does' = effective_does program code callers size count scope level within _ _ (λ κ. m (λ ty s. n (λ v. store_at ty s v κ)))
-      (λ t l sz.
-      let q = seek size count a t l in
-      let f = does t l sz in
-      let v = (way size count e).low q.temps q.labels in
-      let r = assign_does program code callers size count scope level within true q v t m n sz f (does'.low q.temps q.labels (omega (arith, f.grows))) in
-      let low = store_low_does program code callers size count scope level within (assign_ready size count true q v) t (λ κ. m (λ ty s. n (λ v. κ ty s v))) sz
-      (assign_pure program code callers size count scope level within q v) r in
-      record { grows = low.grows; below = low.below; small = low.small; runs = λ k le is κ res st d ag h. low.runs k le is κ res st d ag h })
-      (λ t l sz.
-      let q = seek size count a t l in
-      let f = does t l sz in
-      let v = (way size count e).low q.temps q.labels in
-      let r = assign_does program code callers size count scope level within false q v t m n sz f (does'.low q.temps q.labels (omega (arith, f.grows))) in
-      let drops = store_drop_does program code callers size count scope level within (assign_ready size count false q v) t (λ κ. m (λ ty s. n (λ v. κ ty s v))) sz r in
-      record { grows = drops.grows; runs = λ k le is κ res st d ag h. drops.runs k le is κ res st d ag h })
+      (λ t l sz. let q = seek size count a t l in assign_low_does (local_of size count q) q (way size count e) t m n refl sz (does t l sz) does')
+      (λ t l sz. let q = seek size count a t l in assign_drop_does (local_of size count q) q (way size count e) t m n refl sz (does t l sz) does')
+
+  -- conversions
+  conv_does : (i : Integer) (ty : CType) (e : Lowering) (m : Rest → State → Runs) → integer_of ty ≡ i → WayOf e m → (t l : ℕ) → size ≤ t
+      → LowOf (over (conv i) (e.low t l)) t (λ κ. m (λ v. κ (converted ty v)))
+  conv_does i ty e m is does t l sz = subst (λ i. LowOf (over (conv i) (e.low t l)) t (λ κ. m (λ v. κ (converted ty v)))) is
+      (over_does program code callers size count scope level within (fitted ty) (converted ty) (e.low t l) t m (fitted_maps program code callers size count scope level within ty) (does.low t l sz))
+
+  deliver_as_does : (i : Integer) (ty : CType) (e : Lowering) (m : Rest → State → Runs) → integer_of ty ≡ i → WayOf e m → (to : Destination) (t l : ℕ) → size ≤ t
+      → Delivers program code callers size count scope level to (deliver_as i e to t l) t (λ κ. m (λ v. κ (converted ty v)))
+  deliver_as_does ints.Int ty e m is does to t l sz = let done = does.deliver to t l sz in record {
+    grows = done.grows;
+    some = done.some;
+    runs = λ k le js κ res st d ag h. subst (λ κ. Leads k (m κ st) (there_is ((e.deliver to t l).items ++ js) d)) (λ j v. κ (sym (whole_value ty v is) j)) (done.runs k le js κ res st d ag h);
+  }
+  deliver_as_does ints.Char ty e m is does to t l sz = delivered_does program code callers size count scope level within to (over (conv ints.Char) (e.low t l)) t _ (conv_does ints.Char ty e m is does t l sz)
+  deliver_as_does ints.UnsignedChar ty e m is does to t l sz = delivered_does program code callers size count scope level within to (over (conv ints.UnsignedChar) (e.low t l)) t _
+      (conv_does ints.UnsignedChar ty e m is does t l sz)
+  deliver_as_does ints.Short ty e m is does to t l sz = delivered_does program code callers size count scope level within to (over (conv ints.Short) (e.low t l)) t _ (conv_does ints.Short ty e m is does t l sz)
+  deliver_as_does ints.UnsignedShort ty e m is does to t l sz = delivered_does program code callers size count scope level within to (over (conv ints.UnsignedShort) (e.low t l)) t _
+      (conv_does ints.UnsignedShort ty e m is does t l sz)
+
+  converting_does : (ty : CType) (e : Lowering) (m : Rest → State → Runs) → WayOf e m → WayOf (converting ty e) (λ κ. m (λ v. κ (converted ty v)))
+  converting_does ty e m does =
+      let w : WayOf (mapped (fitted ty) e) (λ κ. m (λ v. κ (converted ty v))) =
+      mapped_does program code callers size count scope level within (fitted ty) (converted ty) e m (fitted_maps program code callers size count scope level within ty) does in
+      record { low = w.low; branch = w.branch; drop = w.drop; deliver = deliver_as_does (integer_of ty) ty e m refl does }
 
   update_way : (f : CType → Tree → Tree → Tree) (g : CType → ℕ → ℕ → Rest → State → Runs) (a : APlace) (e : AnExpression) (m : RestAt → State → Runs) (n : Rest → State → Runs)
       → ((ty : CType) → MakesOf program code callers size count scope level within (f ty) (g ty)) → ((t l : ℕ) → size ≤ t → PlaceOf (seek size count a t l) t m)
@@ -438,9 +480,16 @@ module _ (program : TreeProgram) (code : List TreeItem) (callers : List Activati
   call_way : (ty : CType) (f : Callee) (to : List CType) (es : SomeExpressions)
       → ((t l : ℕ) → size ≤ t → DoesAll program code callers size count scope level within (pass size count es to t l) t (arguments p next es to))
       → WayOf (way size count (CallOf ty f to es)) (expr p next (CallOf ty f to es))
-  call_way ty f to es does = effective_does program code callers size count scope level within _ _ (expr p next (CallOf ty f to es))
-      (λ t l sz. called_low_does program code callers size count scope level within p next counts_all lowers calls f (pass size count es to t l) t (arguments p next es to) sz (does t l sz))
-      (λ t l sz. called_drop_does program code callers size count scope level within p next counts_all lowers calls f (pass size count es to t l) t (arguments p next es to) sz (does t l sz))
+  call_way ty f to es does =
+      let number : ℕ = callee_number count f in
+      let m = arguments p next es to in
+      record {
+        low = λ t l sz. called_low_does program code callers size count scope level within p next counts_all lowers calls f (pass size count es to t l) t m sz (does t l sz);
+        branch = λ sense at t l sz. test_asks program code callers size count scope level within sense at (called_low number (pass size count es to t l)) t (expr p next (CallOf ty f to es))
+            (called_low_does program code callers size count scope level within p next counts_all lowers calls f (pass size count es to t l) t m sz (does t l sz));
+        drop = λ t l sz. called_drop_does program code callers size count scope level within p next counts_all lowers calls f (pass size count es to t l) t m sz (does t l sz);
+        deliver = λ at t l sz. called_deliver_does program code callers size count scope level within p next counts_all lowers calls at f (pass size count es to t l) t m sz (does t l sz);
+      }
 
   mutual
     pub seek_does : (a : APlace) → FitsAt scope a → (t l : ℕ) → size ≤ t → PlaceOf (seek size count a t l) t (place p next a)
@@ -461,10 +510,8 @@ module _ (program : TreeProgram) (code : List TreeItem) (callers : List Activati
     way_does (CallOf ty f to es) fit = call_way ty f to es (λ t l sz. all_do es to fit t l sz)
     way_does (StepOf moment by a) fit = step_does moment by a (place p next a) (λ t l sz. seek_does a fit t l sz)
     way_does (UnaryOf op e) fit = unary_does op (way size count e) (expr p next e) (way_does e fit)
-    way_does (CastTo ty e) fit = mapped_does program code callers size count scope level within (fitted ty) (converted ty) (way size count e) (expr p next e)
-        (fitted_maps program code callers size count scope level within ty) (way_does e fit)
-    way_does (ConvertTo ty e) fit = mapped_does program code callers size count scope level within (fitted ty) (converted ty) (way size count e) (expr p next e)
-        (fitted_maps program code callers size count scope level within ty) (way_does e fit)
+    way_does (CastTo ty e) fit = converting_does ty (way size count e) (expr p next e) (way_does e fit)
+    way_does (ConvertTo ty e) fit = converting_does ty (way size count e) (expr p next e) (way_does e fit)
     way_does (ArithmeticOf op a b) fit = binary_does program code callers size count scope level within (Bin op) (λ x y. or_trap (apply op x y)) (way size count a) (way size count b)
         (expr p next a) (expr p next b) (bin_makes program code callers size count scope level within op) (way_does a fit.0) (way_does b fit.1)
     way_does (CompareOf r a b) fit = relation_does program code callers size count scope level within r (way size count a) (way size count b) (expr p next a) (expr p next b)

@@ -1,5 +1,5 @@
 -- Assignments for their value and for their effect, and places that are read before.
-use Rattle.std.specs.Prelude.{ℕ, suc, List, [], ◌∷◌, ◌++◌, Bool, false, not, ◌||◌, ◌&&◌}
+use Rattle.std.specs.Prelude.{ℕ, suc, List, [], ◌∷◌, ◌++◌, Bool, true, false, not, ◌||◌, ◌&&◌, Option, Some, None}
 use Rattle.c_types.specs.declared.types.CType.{CType}
 use Rattle.c_types.specs.declared.typed.Moment.{Moment}
 use Rattle.c_types.specs.declared.typed.Moment.TheVariants as moments
@@ -8,8 +8,8 @@ use Rattle.c_types.specs.Constants.{scale}
 use Rattle.c_lower_scheme.specs.Trees.{Tree, Num, Loc, Arg, Item, AssignLoc, AssignArg, AssignMem, breaks, stable}
 use Rattle.c_lower_scheme.specs.Trees.{is_leaf}
 use Rattle.c_lower_scheme.specs.Parts.{Lowered, Where, InLoc, InArg, InMem, Located, Emitted, Assignable, Lowering}
-use Rattle.c_lower_scheme.specs.Parts.{behind_found, due, is_nil}
-use Rattle.c_lower_scheme.specs.Places.{saving, saved, next_if, integer_of, fitted, read_from, assign_to, holding, held}
+use Rattle.c_lower_scheme.specs.Parts.{InLocal, behind_found, due, is_nil}
+use Rattle.c_lower_scheme.specs.Places.{saving, saved, next_if, integer_of, fitted, read_from, assign_to, holding, held, local_in}
 use Rattle.c_lower_scheme.specs.Conditions.{effective}
 use Rattle.c_lower_scheme.specs.Values.{step, must}
 
@@ -17,8 +17,7 @@ abbrev pub ready_so : Bool → Located → Lowered → Assignable
 ready_so b p q = record {
   items = p.items ++ (holding b q.temps p.place ++ q.items);
   type = p.type;
-  place =
-      held b q.temps p.place;
+  place = held b q.temps p.place;
   value = q.tree;
   temps = next_if b q.temps;
   labels = q.labels;
@@ -54,27 +53,31 @@ abbrev pub store_low_at : Where → Assignable → Lowered
 store_low_at (InLoc n) r = record {
   items = r.items ++ (AssignLoc n (fitted r.type r.value) ∷ []);
   tree = Loc n;
-  temps =
-      r.temps;
+  temps = r.temps;
   labels = r.labels;
 }
 store_low_at (InArg n) r = record {
   items = r.items ++ (AssignArg n (fitted r.type r.value) ∷ []);
   tree = Arg n;
-  temps =
-      r.temps;
+  temps = r.temps;
   labels = r.labels;
 }
 store_low_at (InMem a) r = record {
   items = r.items ++ (AssignLoc r.temps (fitted r.type r.value) ∷ AssignMem (integer_of r.type) a (Loc r.temps) ∷ []);
   tree = Loc r.temps;
-  temps =
-      suc r.temps;
+  temps = suc r.temps;
   labels = r.labels;
 }
 
 abbrev pub store_low : Assignable → Lowered
 store_low r = store_low_at r.place r
+
+-- a value is delivered to that variable
+abbrev pub fill_drop : Located → Emitted → Emitted
+fill_drop p q = record { items = p.items ++ q.items; temps = q.temps; labels = q.labels }
+
+abbrev pub fill_low : ℕ → Located → Emitted → Lowered
+fill_low n p q = record { items = p.items ++ q.items; tree = Loc n; temps = q.temps; labels = q.labels }
 
 -- the number of automatic locals, behind which the temporaries stand, and the number of functions
 module _ (size count : ℕ) where
@@ -107,6 +110,17 @@ module _ (size count : ℕ) where
 
   abbrev pub assigned : Bool → Located → (ℕ → ℕ → Lowered) → Assignable
   assigned between p f = assign_ready between p (behind_found p f)
+
+  abbrev pub assign_low : Option ℕ → Located → Lowering → Lowered
+  assign_low None p e = store_low (assigned true p e.low)
+  assign_low (Some n) p e = fill_low n p (behind_found p (e.deliver (InLocal n)))
+
+  abbrev pub assign_drop : Option ℕ → Located → Lowering → Emitted
+  assign_drop None p e = store_drop (assigned false p e.low)
+  assign_drop (Some n) p e = fill_drop p (behind_found p (e.deliver (InLocal n)))
+
+  abbrev pub local_of : Located → Option ℕ
+  local_of p = local_in (integer_of p.type) p.place
 
   abbrev pub updated : (CType → Tree → Tree → Tree) → Located → (ℕ → ℕ → Lowered) → Assignable
   updated f p g = update_ready (f p.type) p (behind_found p g)

@@ -4,7 +4,7 @@ use Rattle.c_types.specs.declared.types.CType.{CType}
 use Rattle.c_types.specs.declared.typed.Callee.{Callee}
 use Rattle.c_types.specs.declared.typed.Callee.TheVariants as callees
 use Rattle.c_lower_scheme.specs.Trees.{Tree, Loc, Item, Push, Call, Save, breaks, stable}
-use Rattle.c_lower_scheme.specs.Parts.{Lowered, Passing, Emitted, behind_low, is_nil}
+use Rattle.c_lower_scheme.specs.Parts.{Lowered, Passing, Emitted, Destination, InLocal, AsResult, behind_low, is_nil, delivered}
 use Rattle.c_lower_scheme.specs.Places.{saving, saved, next_if, fitted}
 
 -- what is called, by its number: `putchar` and `getchar` stand behind the program's functions
@@ -34,6 +34,15 @@ called_low f p = record {
   temps = suc p.temps;
   labels = p.labels;
 }
+
+-- or straight in the local that it goes to
+abbrev pub called_deliver : Destination → ℕ → Passing → Emitted
+called_deliver (InLocal n) f p = record {
+  items = p.items ++ pushes p.trees (Call f (args_count p.trees) ∷ Save n ∷ []);
+  temps = p.temps;
+  labels = p.labels;
+}
+called_deliver AsResult f p = delivered AsResult (called_low f p)
 
 -- an argument is converted to its parameter's type
 abbrev pub passed_as : List CType → Tree → Tree

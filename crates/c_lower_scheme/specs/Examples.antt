@@ -15,7 +15,7 @@ use Rattle.c_types.specs.Typed.{CallOf, StepOf, UnaryOf, CastTo, ArithmeticOf, C
 use Rattle.c_types.specs.Typed.{AdvanceOf, ChoiceOf, AssignTo, ArithmeticAssignTo, NoExpressions, MoreExpressions}
 use Rattle.c_program.specs.Statements.{ClearOf, BeginOf, AnAction, SomeActions, NoActions, MoreActions, DeclareOf, EvaluateOf, ReturnOf}
 use Rattle.c_lower_scheme.specs.Trees.{Tree, Num, Gaddr, Loc, Indir, Conv, Bin, Item, Label, AssignLoc, AssignMem, Cbr}
-use Rattle.c_lower_scheme.specs.Trees.{Jump, Push, Call, Save, Ret}
+use Rattle.c_lower_scheme.specs.Trees.{Push, Call, Save, Ret}
 use Rattle.c_lower_scheme.specs.Statements.{lower_row}
 
 abbrev int : CType
@@ -122,12 +122,9 @@ storing_items =
     ∷ Save 1
     ∷ AssignMem ints.Char (Gaddr 0) (Bin ariths.Add (Loc 2) (Loc 1))
     ∷ Cbr rel.Eq 0 (Loc 0) (Num 0)
-    ∷ AssignLoc 1 (Indir ints.Char (Gaddr 0))
-    ∷ Jump 1
+    ∷ Ret (Indir ints.Char (Gaddr 0))
     ∷ Label 0
-    ∷ AssignLoc 1 (Indir ints.Int (Indir ints.Int (Gaddr 1)))
-    ∷ Label 1
-    ∷ Ret (Loc 1)
+    ∷ Ret (Indir ints.Int (Indir ints.Int (Gaddr 1)))
     ∷ []
 
 pub record Examples : Type 0 where

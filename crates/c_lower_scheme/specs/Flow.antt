@@ -1,7 +1,7 @@
 -- How the parts of statements are put together.
 use Rattle.std.specs.Prelude.{ℕ, suc, List, [], ◌∷◌, ◌++◌, Bool, true, false, max}
-use Rattle.c_lower_scheme.specs.Trees.{Num, Item, Label, AssignLoc, Jump, Ret}
-use Rattle.c_lower_scheme.specs.Parts.{Lowered, Emitted}
+use Rattle.c_lower_scheme.specs.Trees.{Num, Item, Label, AssignLoc, Jump}
+use Rattle.c_lower_scheme.specs.Parts.{Emitted}
 
 -- One statement behind another: the temporaries are those of the one with more of them.
 abbrev pub two_done : Emitted → Emitted → Emitted
@@ -10,17 +10,13 @@ two_done a b = record { items = a.items ++ b.items; temps = max a.temps b.temps;
 abbrev pub done_by : Emitted → (ℕ → Emitted) → Emitted
 done_by a f = two_done a (f a.labels)
 
--- the tree of a value that leaves the function
-abbrev pub ret_of : Lowered → Emitted
-ret_of p = record { items = p.items ++ (Ret p.tree ∷ []); temps = p.temps; labels = p.labels }
-
 -- the local is 0 before its initialiser where that reads it
 abbrev pub clearing : Bool → ℕ → List Item
 clearing true n = AssignLoc n (Num 0) ∷ []
 clearing false n = []
 
-abbrev pub begin_of : Bool → ℕ → Lowered → Emitted
-begin_of b n p = record { items = clearing b n ++ (p.items ++ (AssignLoc n p.tree ∷ [])); temps = p.temps; labels = p.labels }
+abbrev pub begin_of : Bool → ℕ → Emitted → Emitted
+begin_of b n p = record { items = clearing b n ++ p.items; temps = p.temps; labels = p.labels }
 
 abbrev pub if_done : ℕ → Emitted → Emitted → Emitted
 if_done l p a = record { items = p.items ++ (a.items ++ (Label l ∷ [])); temps = max p.temps a.temps; labels = a.labels }

@@ -1,7 +1,7 @@
 -- What parts of expressions are lowered to: items, and what is due behind them.
 use Rattle.std.specs.Prelude.{ℕ, List, [], ◌∷◌, ◌++◌, Bool, true, false}
 use Rattle.c_types.specs.declared.types.CType.{CType}
-use Rattle.c_lower_scheme.specs.Trees.{Tree, Item}
+use Rattle.c_lower_scheme.specs.Trees.{Tree, Item, AssignLoc, Ret}
 
 -- Items, and a tree that is due directly behind them: it is evaluated, or saved, before anything else is done. Behind
 -- them, the first temporary and the first label that are free.
@@ -57,12 +57,19 @@ pub record Assignable : Type 0 where
   pub temps : ℕ
   pub labels : ℕ
 
--- The three ways to lower an expression, from the first free temporary and label on: for its value; as a condition,
--- which goes to a label where its truth is the given one, and else falls through; and for its effect alone.
+-- where a value goes: into an automatic local, or out of the function as its result
+pub data Destination : Type 0 where
+  InLocal : (n : ℕ) → Destination
+  AsResult : Destination
+
+-- The four ways to lower an expression, from the first free temporary and label on: for its value; as a condition,
+-- which goes to a label where its truth is the given one, and else falls through; for its effect alone; and for its
+-- value at a destination.
 pub record Lowering : Type 0 where
   pub low : ℕ → ℕ → Lowered
   pub branch : Bool → ℕ → ℕ → ℕ → Emitted
   pub drop : ℕ → ℕ → Emitted
+  pub deliver : Destination → ℕ → ℕ → Emitted
 
 -- one part behind another
 abbrev pub behind_low : {A : Type 0} → Lowered → (ℕ → ℕ → A) → A
@@ -98,3 +105,11 @@ with_done a p = record { items = a.items ++ p.items; tree = p.tree; temps = p.te
 
 abbrev pub then_done : Emitted → Emitted → Emitted
 then_done a b = record { items = a.items ++ b.items; temps = b.temps; labels = b.labels }
+
+-- a value goes to its destination by one root
+abbrev pub delivery : Destination → Tree → Item
+delivery (InLocal n) w = AssignLoc n w
+delivery AsResult w = Ret w
+
+abbrev pub delivered : Destination → Lowered → Emitted
+delivered to p = record { items = p.items ++ (delivery to p.tree ∷ []); temps = p.temps; labels = p.labels }

@@ -1,5 +1,5 @@
 -- Places: how what they hold is read and converted, and how it is assigned to.
-use Rattle.std.specs.Prelude.{ℕ, suc, List, [], ◌∷◌, Bool, true, false}
+use Rattle.std.specs.Prelude.{ℕ, suc, List, [], ◌∷◌, Bool, true, false, Option, Some, None}
 use Rattle.c_types.specs.declared.types.Integer.{Integer}
 use Rattle.c_types.specs.declared.types.Integer.TheVariants as ints
 use Rattle.c_types.specs.declared.types.CType.{CType}
@@ -85,3 +85,13 @@ abbrev pub held : Bool → ℕ → Where → Where
 held b u (InLoc n) = InLoc n
 held b u (InArg n) = InArg n
 held b u (InMem a) = InMem (saved b u a)
+
+-- the automatic variable that a place is, where its type does not narrow what is assigned
+abbrev pub local_in : Integer → Where → Option ℕ
+local_in ints.Char s = None
+local_in ints.UnsignedChar s = None
+local_in ints.Short s = None
+local_in ints.UnsignedShort s = None
+local_in ints.Int (InLoc n) = Some n
+local_in ints.Int (InArg n) = None
+local_in ints.Int (InMem a) = None

@@ -7,10 +7,33 @@ use Rattle.c_program.specs.Statements.{ADeclaration, KeepOf, ClearOf, BeginOf, A
 use Rattle.c_program.specs.Statements.{MoreActions, DeclareOf, BlockOf, EvaluateOf, BreakOf, ContinueOf, ReturnOf, IfOf}
 use Rattle.c_program.specs.Statements.{IfElseOf, WhileOf, DoOf, ForOf}
 use Rattle.c_lower_scheme.specs.Expressions.{way}
-use Rattle.c_lower_scheme.specs.Parts.{Emitted, nothing}
+use Rattle.c_lower_scheme.specs.Parts.{Emitted, InLocal, AsResult, nothing}
 use Rattle.c_lower_scheme.specs.Mentions.{mentions}
-use Rattle.c_lower_scheme.specs.Flow.{two_done, done_by, ret_of, clearing, begin_of, if_of, if_else_of, loop_of}
+use Rattle.c_lower_scheme.specs.Flow.{two_done, done_by, clearing, begin_of, if_of, if_else_of, loop_of}
 use Rattle.c_lower_scheme.specs.Flow.{while_of, turns_by, for_by, ever_by}
+
+-- Where a statement goes that is no more than a `break` or `continue`, also alone in a block, by their labels.
+abbrev pub if_last : SomeActions → Option ℕ → Option ℕ
+if_last NoActions o = o
+if_last (MoreActions a row) o = None
+
+abbrev mutual
+  pub going : AnAction → ℕ → ℕ → Option ℕ
+  going (DeclareOf ds) lb lc = None
+  going (BlockOf row) lb lc = going_alone row lb lc
+  going (EvaluateOf e) lb lc = None
+  going BreakOf lb lc = Some lb
+  going ContinueOf lb lc = Some lc
+  going (ReturnOf e) lb lc = None
+  going (IfOf c a) lb lc = None
+  going (IfElseOf c a b) lb lc = None
+  going (WhileOf c a) lb lc = None
+  going (DoOf a c) lb lc = None
+  going (ForOf i c e a) lb lc = None
+
+  pub going_alone : SomeActions → ℕ → ℕ → Option ℕ
+  going_alone NoActions lb lc = None
+  going_alone (MoreActions a row) lb lc = if_last row (going a lb lc)
 
 module _ (size count : ℕ) where
   -- a condition that falls through where it holds, and else goes to a label; and one that goes there where it holds
@@ -26,13 +49,18 @@ module _ (size count : ℕ) where
 
   abbrev pub returning : Option AnExpression → ℕ → Emitted
   returning None l = record { items = Ret (Num 0) ∷ []; temps = size; labels = l }
-  returning (Some e) l = ret_of ((way size count e).low size l)
+  returning (Some e) l = (way size count e).deliver AsResult size l
 
   abbrev pub declare : List ADeclaration → ℕ → Emitted
   declare [] l = nothing size l
   declare (KeepOf object ∷ ds) l = declare ds l
   declare (ClearOf n ∷ ds) l = two_done (record { items = clearing true n; temps = size; labels = l }) (declare ds l)
-  declare (BeginOf n e ∷ ds) l = done_by (begin_of (mentions n e) n ((way size count e).low size l)) (declare ds)
+  declare (BeginOf n e ∷ ds) l = done_by (begin_of (mentions n e) n ((way size count e).deliver (InLocal n) size l)) (declare ds)
+
+  -- An `if` alone, by its statement: where that is a `break` or `continue`, the branch goes there.
+  abbrev pub if_by : Option ℕ → AnExpression → (ℕ → Emitted) → ℕ → Emitted
+  if_by (Some to) c f l = when c to l
+  if_by None c f l = if_of l (unless c l (suc l)) f
 
   -- A `while`, by its body, behind the labels of `break` and `continue`: where the test is a constant, it stands in front.
   abbrev pub while_by : Option ℕ → AnExpression → (ℕ → ℕ → ℕ → Emitted) → ℕ → Emitted
@@ -58,7 +86,7 @@ module _ (size count : ℕ) where
     lower BreakOf lb lc l = record { items = Jump lb ∷ []; temps = size; labels = l }
     lower ContinueOf lb lc l = record { items = Jump lc ∷ []; temps = size; labels = l }
     lower (ReturnOf e) lb lc l = returning e l
-    lower (IfOf c a) lb lc l = if_of l (unless c l (suc l)) (lower a lb lc)
+    lower (IfOf c a) lb lc l = if_by (going a lb lc) c (lower a lb lc) l
     lower (IfElseOf c a b) lb lc l = if_else_of l (unless c l (suc (suc l))) (lower a lb lc) (lower b lb lc)
     lower (WhileOf c a) lb lc l = while_by (constant_of c) c (lower a) l
     lower (DoOf a c) lb lc l = loop_of l l (lower a (suc (suc l)) (suc l) (suc (suc (suc l)))) (when c l)

@@ -6,9 +6,10 @@ use Rattle.c_types.specs.declared.types.Integer.{Integer}
 use Rattle.c_types.specs.declared.types.Integer.TheVariants as ints
 use Rattle.c_types.specs.declared.types.CType.{CType}
 use Rattle.c_lower_scheme.specs.Trees.{Tree, Item, breaks}
-use Rattle.c_lower_scheme.specs.Parts.{Lowered, Pair, Emitted, Lowering, due, over, then_done}
+use Rattle.c_lower_scheme.specs.Parts.{Lowered, Pair, Emitted, Lowering, due, over, then_done, Destination, InLocal, AsResult, delivered}
 use Rattle.c_lower_scheme.specs.Places.{saving, saved, integer_of, conv, fitted}
 use Rattle.c_lower_scheme.specs.Conditions.{test, dropped, valued, conditional, effective, mapped, chained, same, goal, chain, chain_drop, drop_two, choose, comma}
+use Rattle.c_lower_scheme.specs.Conditions.{truth_of, deliver_as, converting, choose_drop, choose_deliver}
 use Rattle.c_lower_scheme.specs.Values.{must, joined, binary, relation}
 use Rattle.c_lower_spelled.proofs.Trees.{IsLong, AreLong, none, next, behind}
 
@@ -42,11 +43,12 @@ module _ (objects most : ℕ) where
     pub grows : l ≤ p.labels
     pub items : so → p.labels ≤ most → AreLong objects most p.items
 
-  -- the three ways
+  -- the four ways
   pub record LongWay (e : Lowering) : Type 0 where
     pub low : (t l : ℕ) → LongLow l (e.low t l)
     pub branch : (sense : Bool) (to t l : ℕ) → LongEnds (to < most) l (e.branch sense to t l)
     pub drop : (t l : ℕ) → LongEnds (Unit {0}) l (e.drop t l)
+    pub deliver : (to : Destination) (t l : ℕ) → LongEnds (Unit {0}) l (e.deliver to t l)
 
   pub long_saving : (b : Bool) (u : ℕ) (w : Tree) → Long w → Items (saving b u w)
   long_saving true u w h = next h none
@@ -72,8 +74,12 @@ module _ (objects most : ℕ) where
   pub over_long : (f : Tree → Tree) → ((w : Tree) → Long w → Long (f w)) → (l : ℕ) (p : Lowered) → LongLow l p → LongLow l (over f p)
   over_long f keeps l p h = record { grows = h.grows; tree = keeps p.tree h.tree; items = h.items }
 
-  test_long : (sense : Bool) (to l : ℕ) (p : Lowered) → LongLow l p → LongEnds (to < most) l (test sense to p)
+  pub test_long : (sense : Bool) (to l : ℕ) (p : Lowered) → LongLow l p → LongEnds (to < most) l (test sense to p)
   test_long sense to l p h = record { grows = h.grows; items = λ lt le. behind (h.items le) (next (lt, h.tree, nought) none) }
+
+  pub delivered_long : (to : Destination) (l : ℕ) (p : Lowered) → LongLow l p → LongEnds (Unit {0}) l (delivered to p)
+  delivered_long (InLocal n) l p h = record { grows = h.grows; items = λ y le. behind (h.items le) (next h.tree none) }
+  delivered_long AsResult l p h = record { grows = h.grows; items = λ y le. behind (h.items le) (next h.tree none) }
 
   dropped_long : (l : ℕ) (p : Lowered) → LongLow l p → LongEnds (Unit {0}) l (dropped p)
   dropped_long l p h = record {
@@ -86,34 +92,53 @@ module _ (objects most : ℕ) where
     low = h;
     branch = λ sense to t l. test_long sense to l (f t l) (h t l);
     drop = λ t l. dropped_long l (f t l) (h t l);
+    deliver = λ to t l. delivered_long to l (f t l) (h t l);
   }
 
   pub effective_long : (f : ℕ → ℕ → Lowered) (d : ℕ → ℕ → Emitted) → ((t l : ℕ) → LongLow l (f t l)) → ((t l : ℕ) → LongEnds (Unit {0}) l (d t l))
       → LongWay (effective f d)
-  effective_long f d h g = record { low = h; branch = λ sense to t l. test_long sense to l (f t l) (h t l); drop = g }
+  effective_long f d h g = record {
+    low = h;
+    branch = λ sense to t l. test_long sense to l (f t l) (h t l);
+    drop = g;
+    deliver = λ to t l. delivered_long to l (f t l) (h t l);
+  }
 
   pub conditional_long : (f : Bool → ℕ → ℕ → ℕ → Emitted) (d : ℕ → ℕ → Emitted)
       → ((sense : Bool) (to t l : ℕ) → LongEnds (to < most) l (f sense to t l)) → ((t l : ℕ) → LongEnds (Unit {0}) l (d t l))
       → LongWay (conditional f d)
-  conditional_long f d h g = record {
-    low = λ t l.
-        let c = h false l (suc t) (suc l) in
-        let up = c.grows in
-        record {
-          grows = omega arith;
-          tree = tt;
-          items = λ le.
-              let lt : l < most = omega arith in
-              next nought (behind (c.items lt le) (next unit_long (next lt none)));
-        };
-    branch = h;
-    drop = g;
-  }
+  conditional_long f d h g = record { low = truth; branch = h; drop = g; deliver = λ to t l. delivered_long to l (truth_of t l (f false l (suc t) (suc l))) (truth t l) }
+    where
+      truth : (t l : ℕ) → LongLow l (truth_of t l (f false l (suc t) (suc l)))
+      truth t l =
+          let c = h false l (suc t) (suc l) in
+          let up = c.grows in
+          record {
+            grows = omega arith;
+            tree = tt;
+            items = λ le.
+                let lt : l < most = omega arith in
+                next nought (behind (c.items lt le) (next unit_long (next lt none)));
+          }
 
   pub mapped_long : (f : Tree → Tree) → ((w : Tree) → Long w → Long (f w)) → (e : Lowering) → LongWay e → LongWay (mapped f e)
   mapped_long f keeps e h = effective_long _ _ (λ t l. over_long f keeps l (e.low t l) (h.low t l)) h.drop
 
-  then_long : (so : Type 0) (l : ℕ) (a b : Emitted) → LongEnds (Unit {0}) l a → LongEnds so a.labels b → LongEnds so l (then_done a b)
+  deliver_as_long : (i : Integer) (e : Lowering) → LongWay e → (to : Destination) (t l : ℕ) → LongEnds (Unit {0}) l (deliver_as i e to t l)
+  deliver_as_long ints.Char e h to t l = delivered_long to l (over (conv ints.Char) (e.low t l)) (over_long (conv ints.Char) (long_conv ints.Char) l (e.low t l) (h.low t l))
+  deliver_as_long ints.UnsignedChar e h to t l = delivered_long to l (over (conv ints.UnsignedChar) (e.low t l))
+      (over_long (conv ints.UnsignedChar) (long_conv ints.UnsignedChar) l (e.low t l) (h.low t l))
+  deliver_as_long ints.Short e h to t l = delivered_long to l (over (conv ints.Short) (e.low t l)) (over_long (conv ints.Short) (long_conv ints.Short) l (e.low t l) (h.low t l))
+  deliver_as_long ints.UnsignedShort e h to t l = delivered_long to l (over (conv ints.UnsignedShort) (e.low t l))
+      (over_long (conv ints.UnsignedShort) (long_conv ints.UnsignedShort) l (e.low t l) (h.low t l))
+  deliver_as_long ints.Int e h to t l = h.deliver to t l
+
+  pub converting_long : (ty : CType) (e : Lowering) → LongWay e → LongWay (converting ty e)
+  converting_long ty e h =
+      let w : LongWay (mapped (fitted ty) e) = mapped_long (fitted ty) (long_fitted ty) e h in
+      record { low = w.low; branch = w.branch; drop = w.drop; deliver = deliver_as_long (integer_of ty) e h }
+
+  pub then_long : (so : Type 0) (l : ℕ) (a b : Emitted) → LongEnds (Unit {0}) l a → LongEnds so a.labels b → LongEnds so l (then_done a b)
   then_long so l a b h g =
       let up = h.grows in
       let up' = g.grows in
@@ -157,9 +182,8 @@ module _ (objects most : ℕ) where
   pub not_long : (e : Lowering) → LongWay e → LongWay (conditional (λ sense to t l. e.branch (not sense) to t l) e.drop)
   not_long e h = conditional_long _ _ (λ sense to t l. h.branch (not sense) to t l) h.drop
 
-  pub choose_long : (c a b : Lowering) → LongWay c → LongWay a → LongWay b → LongWay (choose c a b)
-  choose_long c a b f h g = effective_long _ _
-      (λ t l.
+  choice_long : (c a b : Lowering) → LongWay c → LongWay a → LongWay b → (t l : ℕ) → LongLow l ((choose c a b).low t l)
+  choice_long c a b f h g t l =
       let p : Emitted = c.branch false l (suc t) (suc (suc l)) in
       let q : Lowered = a.low p.temps p.labels in
       let x = f.branch false l (suc t) (suc (suc l)) in
@@ -176,13 +200,11 @@ module _ (objects most : ℕ) where
             let lt' : suc l < most = omega arith in
             let last = next lt' (next lt (behind (z.items le) (next z.tree (next lt' none)))) in
             behind (x.items lt (omega arith)) (behind (y.items (omega arith)) (next y.tree last));
-      })
-      (λ t l.
-      let p : Emitted = c.branch false l t (suc (suc l)) in
-      let q : Emitted = a.drop p.temps p.labels in
-      let x = f.branch false l t (suc (suc l)) in
-      let y = h.drop p.temps p.labels in
-      let z = g.drop q.temps q.labels in
+      }
+
+  choose_drop_long : (l : ℕ) (p q r : Emitted) → LongEnds (l < most) (suc (suc l)) p → LongEnds (Unit {0}) p.labels q → LongEnds (Unit {0}) q.labels r
+      → LongEnds (Unit {0}) l (choose_drop l p q r)
+  choose_drop_long l p q r x y z =
       let up = x.grows in
       let up' = y.grows in
       let up'' = z.grows in
@@ -193,7 +215,35 @@ module _ (objects most : ℕ) where
             let lt' : suc l < most = omega arith in
             let last = next lt' (next lt (behind (z.items tt le) (next lt' none))) in
             behind (x.items lt (omega arith)) (behind (y.items tt (omega arith)) last);
-      })
+      }
+
+  choose_deliver_long : (to : Destination) (l : ℕ) (p q r : Emitted) → LongEnds (l < most) (suc (suc l)) p → LongEnds (Unit {0}) p.labels q → LongEnds (Unit {0}) q.labels r
+      → LongEnds (Unit {0}) l (choose_deliver to l p q r)
+  choose_deliver_long (InLocal n) l p q r x y z = choose_drop_long l p q r x y z
+  choose_deliver_long AsResult l p q r x y z =
+      let up = x.grows in
+      let up' = y.grows in
+      let up'' = z.grows in
+      record {
+        grows = omega arith;
+        items = λ k le.
+            let lt : l < most = omega arith in
+            behind (x.items lt (omega arith)) (behind (y.items tt (omega arith)) (next lt (z.items tt le)));
+      }
+
+  pub choose_long : (c a b : Lowering) → LongWay c → LongWay a → LongWay b → LongWay (choose c a b)
+  choose_long c a b f h g = record {
+    low = choice_long c a b f h g;
+    branch = λ sense to t l. test_long sense to l ((choose c a b).low t l) (choice_long c a b f h g t l);
+    drop = λ t l.
+        let p : Emitted = c.branch false l t (suc (suc l)) in
+        let q : Emitted = a.drop p.temps p.labels in
+        choose_drop_long l p q (b.drop q.temps q.labels) (f.branch false l t (suc (suc l))) (h.drop p.temps p.labels) (g.drop q.temps q.labels);
+    deliver = λ to t l.
+        let p : Emitted = c.branch false l t (suc (suc l)) in
+        let q : Emitted = a.deliver to p.temps p.labels in
+        choose_deliver_long to l p q (b.deliver to q.temps q.labels) (f.branch false l t (suc (suc l))) (h.deliver to p.temps p.labels) (g.deliver to q.temps q.labels);
+  }
 
   pub comma_long : (a b : Lowering) → LongWay a → LongWay b → LongWay (comma a b)
   comma_long a b h g = record {
@@ -208,6 +258,9 @@ module _ (objects most : ℕ) where
         let p : Emitted = a.drop t l in
         then_long (to < most) l p (b.branch sense to p.temps p.labels) (h.drop t l) (g.branch sense to p.temps p.labels);
     drop = drop_two_long a b h g;
+    deliver = λ to t l.
+        let p : Emitted = a.drop t l in
+        then_long (Unit {0}) l p (b.deliver to p.temps p.labels) (h.drop t l) (g.deliver to p.temps p.labels);
   }
 
   module _ (size count : ℕ) where

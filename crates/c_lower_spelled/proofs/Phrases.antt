@@ -1,6 +1,6 @@
 -- That each expression of a sound program has long numbers and small labels.
 use Rattle.std.proofs.Common.{ℕ, List, [], ◌∷◌, arith}
-use Rattle.std.specs.Prelude.{Bool, true, false}
+use Rattle.std.specs.Prelude.{Bool, true, false, Option, Some, None}
 use Rattle.c_types.specs.declared.types.CType.{CType}
 use Rattle.c_types.specs.declared.typed.Callee.{Callee}
 use Rattle.c_types.specs.declared.typed.Variable.{Variable}
@@ -12,18 +12,18 @@ use Rattle.c_types.specs.Typed.{ArithmeticAssignTo, AdvanceAssignTo, RetreatAssi
 use Rattle.c_sound.specs.Fits.{Fits, FitsAt, FitsAll}
 use Rattle.c_sound.specs.Stands.{Stands, StandsAt, StandAll, IsThere}
 use Rattle.c_lower_scheme.specs.Trees.{Tree, Num, Gaddr, Neg, Com, Bin}
-use Rattle.c_lower_scheme.specs.Parts.{Lowered, Lowering, Located, Passing, over}
-use Rattle.c_lower_scheme.specs.Places.{where_of, address_tree, fitted}
+use Rattle.c_lower_scheme.specs.Parts.{Lowered, Lowering, Located, Passing, InLocal, over}
+use Rattle.c_lower_scheme.specs.Places.{where_of, address_tree}
 use Rattle.c_lower_scheme.specs.Values.{advance, advance_by, retreat, apart}
-use Rattle.c_lower_scheme.specs.Calls.{callee_number, passed_as, must_pass}
-use Rattle.c_lower_scheme.specs.Assignments.{assigned, updated, update_by, step_ready}
+use Rattle.c_lower_scheme.specs.Calls.{callee_number, called_low, passed_as, must_pass}
+use Rattle.c_lower_scheme.specs.Assignments.{assigned, assign_low, assign_drop, local_of, updated, update_by, step_ready}
 use Rattle.c_lower_scheme.specs.Expressions.{unary, seek, way, pass}
-use Rattle.c_lower_spelled.proofs.Trees.{IsLong, none}
+use Rattle.c_lower_spelled.proofs.Trees.{IsLong, none, behind}
 use Rattle.c_lower_spelled.proofs.Parts.{LongWay, due_long, valued_long, effective_long, mapped_long, not_long, chain_long, choose_long, comma_long, binary_long}
-use Rattle.c_lower_spelled.proofs.Parts.{relation_long, long_fitted}
+use Rattle.c_lower_spelled.proofs.Parts.{relation_long, converting_long, test_long, LongLow, LongEnds}
 use Rattle.c_lower_spelled.proofs.Places.{LongFound, LongReady, LongPassing, no_trees, long_where, found_long, pointed_long, read_long, address_long, store_drop_long, store_low_long}
 use Rattle.c_lower_spelled.proofs.Places.{ready_long, update_long, step_ready_long, step_low_long, advance_long, advance_by_long, retreat_long, apart_long, pass_long, passed_long}
-use Rattle.c_lower_spelled.proofs.Places.{called_low_long, called_drop_long}
+use Rattle.c_lower_spelled.proofs.Places.{called_low_long, called_drop_long, called_deliver_long}
 
 module _ (objects most params size count : ℕ) (takes : Callee → ℕ → Type 0) where
   abbrev There : Variable → Type 0
@@ -39,6 +39,23 @@ module _ (objects most params size count : ℕ) (takes : Callee → ℕ → Type
   stored_long : (between : Bool) (l : ℕ) (p : Located) (e : Lowering) → LongFound objects most l p → Way e
       → LongReady objects most l (assigned size count between p e.low)
   stored_long between l p e h g = ready_long objects most _ l p (e.low p.temps p.labels) h (g.low p.temps p.labels)
+
+  -- an assignment, also to a local that the value is delivered to
+  assign_low_long : (o : Option ℕ) (l : ℕ) (p : Located) (e : Lowering) → LongFound objects most l p → Way e → LongLow objects most l (assign_low size count o p e)
+  assign_low_long None l p e h g = store_low_long objects most l (assigned size count true p e.low) (stored_long true l p e h g)
+  assign_low_long (Some n) l p e h g =
+      let x = g.deliver (InLocal n) p.temps p.labels in
+      let up = h.grows in
+      let up' = x.grows in
+      record { grows = omega arith; tree = tt; items = λ le. behind (h.items (omega arith)) (x.items tt le) }
+
+  assign_drop_long : (o : Option ℕ) (l : ℕ) (p : Located) (e : Lowering) → LongFound objects most l p → Way e → LongEnds objects most (Unit {0}) l (assign_drop size count o p e)
+  assign_drop_long None l p e h g = store_drop_long objects most l (assigned size count false p e.low) (stored_long false l p e h g)
+  assign_drop_long (Some n) l p e h g =
+      let x = g.deliver (InLocal n) p.temps p.labels in
+      let up = h.grows in
+      let up' = x.grows in
+      record { grows = omega arith; items = λ y le. behind (h.items (omega arith)) (x.items tt le) }
 
   updated_long : (f : CType → Tree → Tree → Tree) → Keeps f → (l : ℕ) (p : Located) (e : Lowering) → LongFound objects most l p → Way e
       → LongReady objects most l (updated size count f p e.low)
@@ -72,16 +89,22 @@ module _ (objects most params size count : ℕ) (takes : Callee → ℕ → Type
     way_long scope (SizeofTerm n e) f s = valued_long objects most _ (due_long objects most (Num n) f)
     way_long scope (SizeOf n) f s = valued_long objects most _ (due_long objects most (Num n) f)
     way_long scope (AddressOf ty p) f s = valued_long objects most _ (λ t l. address_long objects most l _ (place_long scope p f s t l))
-    way_long scope (CallOf ty g to es) f s = effective_long objects most _ _
-        (λ t l. called_low_long objects most (callee_number count g) l _ (passing_long scope es to f s.1 t l))
-        (λ t l. called_drop_long objects most (callee_number count g) l _ (passing_long scope es to f s.1 t l))
+    way_long scope (CallOf ty g to es) f s =
+        let n : ℕ = callee_number count g in
+        record {
+          low = λ t l. called_low_long objects most n l _ (passing_long scope es to f s.1 t l);
+          branch = λ sense at t l. test_long objects most sense at l (called_low n (pass size count es to t l))
+              (called_low_long objects most n l _ (passing_long scope es to f s.1 t l));
+          drop = λ t l. called_drop_long objects most n l _ (passing_long scope es to f s.1 t l);
+          deliver = λ at t l. called_deliver_long objects most at n l _ (passing_long scope es to f s.1 t l);
+        }
     way_long scope (StepOf m by p) f s = effective_long objects most _ _
         (λ t l. step_low_long objects most size count m by l _ (place_long scope p f s t l))
         (λ t l. store_drop_long objects most l (step_ready size count by (seek size count p t l))
         (step_ready_long objects most size count by l _ (place_long scope p f s t l)))
     way_long scope (UnaryOf op e) f s = unary_long op _ (way_long scope e f s)
-    way_long scope (CastTo ty e) f s = mapped_long objects most (fitted ty) (long_fitted objects most ty) _ (way_long scope e f s)
-    way_long scope (ConvertTo ty e) f s = mapped_long objects most (fitted ty) (long_fitted objects most ty) _ (way_long scope e f s)
+    way_long scope (CastTo ty e) f s = converting_long objects most ty _ (way_long scope e f s)
+    way_long scope (ConvertTo ty e) f s = converting_long objects most ty _ (way_long scope e f s)
     way_long scope (ArithmeticOf op a b) f s = binary_long objects most size count (Bin op) (λ v w h g. (h, g)) _ _
         (way_long scope a f.0 s.0) (way_long scope b f.1 s.1)
     way_long scope (CompareOf r a b) f s = relation_long objects most size count r _ _ (way_long scope a f.0 s.0) (way_long scope b f.1 s.1)
@@ -98,10 +121,10 @@ module _ (objects most params size count : ℕ) (takes : Callee → ℕ → Type
     way_long scope (ChoiceOf ty c a b) f s = choose_long objects most _ _ _ (way_long scope c f.0 s.0) (way_long scope a f.1 s.1)
         (way_long scope b f.2 s.2)
     way_long scope (AssignTo p e) f s = effective_long objects most _ _
-        (λ t l. store_low_long objects most l (assigned size count true (seek size count p t l) (way size count e).low)
-        (stored_long true l (seek size count p t l) (way size count e) (place_long scope p f.0 s.0 t l) (way_long scope e f.1 s.1)))
-        (λ t l. store_drop_long objects most l (assigned size count false (seek size count p t l) (way size count e).low)
-        (stored_long false l (seek size count p t l) (way size count e) (place_long scope p f.0 s.0 t l) (way_long scope e f.1 s.1)))
+        (λ t l. let q : Located = seek size count p t l in
+        assign_low_long (local_of size count q) l q (way size count e) (place_long scope p f.0 s.0 t l) (way_long scope e f.1 s.1))
+        (λ t l. let q : Located = seek size count p t l in
+        assign_drop_long (local_of size count q) l q (way size count e) (place_long scope p f.0 s.0 t l) (way_long scope e f.1 s.1))
     way_long scope (ArithmeticAssignTo op p e) f s = update_by_long (λ ty. Bin op) (λ ty v w h g. (h, g)) (seek size count p) _
         (place_long scope p f.0 s.0) (way_long scope e f.1 s.1)
     way_long scope (AdvanceAssignTo p e) f s = update_by_long advance (advance_long objects most) (seek size count p) _

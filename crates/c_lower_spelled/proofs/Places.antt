@@ -15,13 +15,13 @@ use Rattle.c_types.specs.Constants.{scale}
 use Rattle.c_types.specs.Types.{integer_size, size_of, target}
 use Rattle.c_sound.specs.Stands.{IsThere}
 use Rattle.c_lower_scheme.specs.Trees.{Tree, Num, Loc, Bin, Item}
-use Rattle.c_lower_scheme.specs.Parts.{Lowered, Where, InLoc, InArg, InMem, Located, Passing, Assignable, over}
+use Rattle.c_lower_scheme.specs.Parts.{Lowered, Where, InLoc, InArg, InMem, Located, Passing, Assignable, over, Destination, InLocal, AsResult}
 use Rattle.c_lower_scheme.specs.Places.{saved, next_if, read_from, assign_to, address_tree, where_of, found, pointed, read_low, address_low, holding, held}
 use Rattle.c_lower_scheme.specs.Values.{scaled_by, advance, advance_by, retreat, apart, step}
-use Rattle.c_lower_scheme.specs.Calls.{pushes, called_drop, called_low, passed_as, pass_so}
+use Rattle.c_lower_scheme.specs.Calls.{pushes, called_drop, called_low, passed_as, pass_so, called_deliver}
 use Rattle.c_lower_scheme.specs.Assignments.{ready_so, update_so, store_drop, store_low_at, store_low, must_keep, step_tree, step_ready, step_low}
 use Rattle.c_lower_spelled.proofs.Trees.{IsLong, IsLongItem, AreLong, none, next, behind}
-use Rattle.c_lower_spelled.proofs.Parts.{LongLow, LongEnds, nought, long_saving, long_saved, long_fitted, over_long, due_long}
+use Rattle.c_lower_spelled.proofs.Parts.{LongLow, LongEnds, nought, long_saving, long_saved, long_fitted, over_long, due_long, delivered_long}
 
 -- sizes are longwords
 size_long : (t : CType) → size_of t < 2 ^ 32
@@ -240,3 +240,10 @@ module _ (objects most : ℕ) where
 
   pub called_drop_long : (f l : ℕ) (p : Passing) → LongPassing l p → LongEnds objects most (Unit {0}) l (called_drop f p)
   called_drop_long f l p h = record { grows = h.grows; items = λ y le. behind (h.items le) (long_pushes h.trees (next tt none)) }
+
+  pub called_deliver_long : (to : Destination) (f l : ℕ) (p : Passing) → LongPassing l p → LongEnds objects most (Unit {0}) l (called_deliver to f p)
+  called_deliver_long (InLocal n) f l p h = record {
+    grows = h.grows;
+    items = λ y le. behind (h.items le) (long_pushes h.trees (next tt (next tt none)));
+  }
+  called_deliver_long AsResult f l p h = delivered_long objects most AsResult l (called_low f p) (called_low_long f l p h)

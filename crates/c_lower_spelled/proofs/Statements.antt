@@ -1,5 +1,5 @@
 -- That each statement of a sound program has long numbers and small labels.
-use Rattle.std.proofs.Common.{◌≡◌, ℕ, suc, ◌<◌, List, [], ◌∷◌, arith}
+use Rattle.std.proofs.Common.{◌≡◌, ℕ, suc, ◌<◌, List, [], ◌∷◌, refl, arith}
 use Rattle.std.specs.Prelude.{Bool, true, false, Option, Some, None}
 use Rattle.c_types.specs.declared.typed.Callee.{Callee}
 use Rattle.c_types.specs.declared.typed.Variable.{Variable}
@@ -9,11 +9,11 @@ use Rattle.c_program.specs.Statements.{ADeclaration, KeepOf, ClearOf, BeginOf, A
 use Rattle.c_program.specs.Statements.{ReturnOf, IfOf, IfElseOf, WhileOf, DoOf, ForOf}
 use Rattle.c_sound.specs.Fits.{Fits, FitsMaybe, more, behind_act, FitsDeclared, FitsAct, FitsActs}
 use Rattle.c_sound.specs.Stands.{Stands, StandsMaybe, StandsDeclared, StandsAct, StandsActs, IsThere}
-use Rattle.c_lower_scheme.specs.Parts.{Lowered, Emitted}
+use Rattle.c_lower_scheme.specs.Parts.{Emitted, InLocal, AsResult}
 use Rattle.c_lower_scheme.specs.Expressions.{way}
 use Rattle.c_lower_scheme.specs.Mentions.{mentions}
 use Rattle.c_lower_scheme.specs.Flow.{two_done, clearing}
-use Rattle.c_lower_scheme.specs.Statements.{unless, when, effect, returning, declare, while_by, for_tested, for_of, lower, lower_row}
+use Rattle.c_lower_scheme.specs.Statements.{unless, when, effect, returning, declare, while_by, for_tested, for_of, lower, lower_row, going, going_alone, if_by}
 use Rattle.c_lower_spelled.proofs.Trees.{AreLong, none, next, behind}
 use Rattle.c_lower_spelled.proofs.Parts.{LongEnds, nought}
 use Rattle.c_lower_spelled.proofs.Phrases.{way_long}
@@ -57,9 +57,7 @@ module _ (objects most params size count : ℕ) (takes : Callee → ℕ → Type
     returning_long : (e : Option AnExpression) (l : ℕ) → FitsMaybe scope e → StandsMaybe There takes objects e
         → Ends (Unit {0}) l (returning size count e l)
     returning_long None l f s = record { grows = omega arith; items = λ y le. next nought none }
-    returning_long (Some e) l f s =
-        let h = (way_long objects most params size count takes scope e f s).low size l in
-        record { grows = h.grows; items = λ y le. behind (h.items le) (next h.tree none) }
+    returning_long (Some e) l f s = (way_long objects most params size count takes scope e f s).deliver AsResult size l
 
     -- a `while`, by its body
     while_by_long : (o : Option ℕ) (l : ℕ) (c : AnExpression) (f : ℕ → ℕ → ℕ → Emitted) → Fits scope c → Stands There takes objects c
@@ -163,14 +161,53 @@ module _ (objects most params size count : ℕ) (takes : Callee → ℕ → Type
       let h = declare_long (more scope n) ds l f.1 s in
       record { grows = h.grows; items = λ y le. next nought (h.items y le) }
   declare_long scope (BeginOf n e ∷ ds) l f s =
-      let p : Lowered = (way size count e).low size l in
-      let x = (way_long objects most params size count takes (more scope n) e f.1 s.0).low size l in
+      let p : Emitted = (way size count e).deliver (InLocal n) size l in
+      let x = (way_long objects most params size count takes (more scope n) e f.1 s.0).deliver (InLocal n) size l in
       let h = declare_long (more scope n) ds p.labels f.2 s.1 in
       let up = x.grows in
       let up' = h.grows in
       record {
         grows = omega arith;
-        items = λ y le. behind (behind (clearing_long (mentions n e) n) (behind (x.items (omega arith)) (next x.tree none))) (h.items y le);
+        items = λ y le. behind (behind (clearing_long (mentions n e) n) (x.items tt (omega arith))) (h.items y le);
+      }
+
+  -- a `break` or `continue` goes to a label below the bound
+  mutual
+    goes_low : (scope : ℕ → Type 0) (inside : Bool) (a : AnAction) (lb lc to : ℕ) → FitsAct size scope inside a → going a lb lc ≡ Some to → Loops inside lb lc → to < most
+    goes_low scope inside BreakOf lb lc to f e k = let same : lb ≡ to = cc in let lt = (k f).0 in omega (arith, same, lt)
+    goes_low scope inside ContinueOf lb lc to f e k = let same : lc ≡ to = cc in let lt = (k f).1 in omega (arith, same, lt)
+    goes_low scope inside (DeclareOf ds) lb lc to f e k = absurd (cc)
+    goes_low scope inside (BlockOf row) lb lc to f e k = alone_low scope inside row lb lc to f e k
+    goes_low scope inside (EvaluateOf x) lb lc to f e k = absurd (cc)
+    goes_low scope inside (ReturnOf x) lb lc to f e k = absurd (cc)
+    goes_low scope inside (IfOf c a) lb lc to f e k = absurd (cc)
+    goes_low scope inside (IfElseOf c a b) lb lc to f e k = absurd (cc)
+    goes_low scope inside (WhileOf c a) lb lc to f e k = absurd (cc)
+    goes_low scope inside (DoOf a c) lb lc to f e k = absurd (cc)
+    goes_low scope inside (ForOf i c x a) lb lc to f e k = absurd (cc)
+
+    alone_low : (scope : ℕ → Type 0) (inside : Bool) (row : SomeActions) (lb lc to : ℕ) → FitsActs size scope inside row → going_alone row lb lc ≡ Some to → Loops inside lb lc → to < most
+    alone_low scope inside NoActions lb lc to f e k = absurd (cc)
+    alone_low scope inside (MoreActions a NoActions) lb lc to f e k = goes_low scope inside a lb lc to f.0 e k
+    alone_low scope inside (MoreActions a (MoreActions b row)) lb lc to f e k = absurd (cc)
+
+  if_by_long : (scope : ℕ → Type 0) (inside : Bool) (o : Option ℕ) (c : AnExpression) (a : AnAction) (lb lc l : ℕ) → Fits scope c → FitsAct size scope inside a
+      → Stands There takes objects c → going a lb lc ≡ o → ((k : ℕ) → Ends (Loops inside lb lc) k (lower size count a lb lc k))
+      → Ends (Loops inside lb lc) l (if_by size count o c (lower size count a lb lc) l)
+  if_by_long scope inside (Some to) c a lb lc l f f' s e h =
+      let x = when_long scope c to l f s in
+      record { grows = x.grows; items = λ k le. x.items (goes_low scope inside a lb lc to f' e k) le }
+  if_by_long scope inside None c a lb lc l f f' s e h =
+      let p : Emitted = unless size count c l (suc l) in
+      let x = unless_long scope c l (suc l) f s in
+      let y = h p.labels in
+      let up = x.grows in
+      let up' = y.grows in
+      record {
+        grows = omega arith;
+        items = λ k le.
+            let lt : l < most = omega arith in
+            behind (x.items lt (omega arith)) (behind (y.items k le) (next lt none));
       }
 
   mutual
@@ -183,17 +220,7 @@ module _ (objects most params size count : ℕ) (takes : Callee → ℕ → Type
     lower_long scope inside ContinueOf lb lc l f s = record { grows = omega arith; items = λ k le. next (k f).1 none }
     lower_long scope inside (ReturnOf e) lb lc l f s = always _ l _ (returning_long scope e l f s)
     lower_long scope inside (IfOf c a) lb lc l f s =
-        let p : Emitted = unless size count c l (suc l) in
-        let x = unless_long scope c l (suc l) f.0 s.0 in
-        let y = lower_long scope inside a lb lc p.labels f.1 s.1 in
-        let up = x.grows in
-        let up' = y.grows in
-        record {
-          grows = omega arith;
-          items = λ k le.
-              let lt : l < most = omega arith in
-              behind (x.items lt (omega arith)) (behind (y.items k le) (next lt none));
-        }
+        if_by_long scope inside (going a lb lc) c a lb lc l f.0 f.1 s.0 refl (λ k. lower_long scope inside a lb lc k f.1 s.1)
     lower_long scope inside (IfElseOf c a b) lb lc l f s =
         let p : Emitted = unless size count c l (suc (suc l)) in
         let q : Emitted = lower size count a lb lc p.labels in

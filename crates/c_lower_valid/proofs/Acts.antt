@@ -10,14 +10,14 @@ use Rattle.c_program.specs.Statements.{ReturnOf, IfOf, IfElseOf, WhileOf, DoOf, 
 use Rattle.c_sound.specs.Fits.{Fits, FitsMaybe, more, declaring, behind_act, FitsDeclared, FitsAct, FitsActs}
 use Rattle.c_sound.specs.Stands.{IsThere, StandsMaybe, StandsDeclared, StandsAct, StandsActs}
 use Rattle.c_lower_scheme.specs.Trees.{Num, Item, Label, AssignLoc, Jump, Ret}
-use Rattle.c_lower_scheme.specs.Parts.{Lowered, Emitted, nothing}
+use Rattle.c_lower_scheme.specs.Parts.{Emitted, InLocal, AsResult, nothing}
 use Rattle.c_lower_scheme.specs.Calls.{callee_number}
 use Rattle.c_lower_scheme.specs.Expressions
 use Rattle.c_lower_scheme.specs.Mentions.{mentions}
-use Rattle.c_lower_scheme.specs.Flow.{two_done, ret_of, clearing, begin_of, if_done, if_else_done, loop_done, while_done, turns_done, for_done, ever_done}
+use Rattle.c_lower_scheme.specs.Flow.{two_done, clearing, begin_of, if_done, if_else_done, loop_done, while_done, turns_done, for_done, ever_done}
 use Rattle.c_lower_scheme.specs.Statements
 use Rattle.c_lower_valid.proofs.Named.{Scene}
-use Rattle.c_lower_valid.proofs.Fine.{Fine, fine_nil, fine_append, fine_up, fine_more, fine_one, fine_behind, fine_three, FineLow, FineDone}
+use Rattle.c_lower_valid.proofs.Fine.{Fine, fine_nil, fine_append, fine_up, fine_more, fine_one, fine_behind, fine_three, FineDone}
 use Rattle.c_lower_valid.proofs.Phrases.{fine_way}
 
 -- behind declarations and statements the scope has the function's own locals alone
@@ -68,22 +68,14 @@ module _ (scene : Scene) (size count : ℕ) (takes : Callee → ℕ → Type 0)
   fine_jump : (to l : ℕ) → Dones (record { items = Jump to ∷ []; temps = size; labels = l })
   fine_jump to l = record { grows = omega arith; items = fine_one scene size (Jump to) tt tt }
 
-  fine_ret : (p : Lowered) → FineLow scene size p → Dones (ret_of p)
-  fine_ret p h = record { grows = h.grows; items = fine_behind scene p.temps p.items (Ret p.tree) h.items tt h.tree }
-
   fine_clearing : (b : Bool) (n u : ℕ) → n < u → Fine scene u (clearing b n)
   fine_clearing true n u lt = fine_one scene u (AssignLoc n (Num 0)) tt (lt, tt)
   fine_clearing false n u lt = fine_nil scene u
 
-  fine_begin : (b : Bool) (n : ℕ) (p : Lowered) → n < size → FineLow scene size p → Dones (begin_of b n p)
+  fine_begin : (b : Bool) (n : ℕ) (p : Emitted) → n < size → Dones p → Dones (begin_of b n p)
   fine_begin b n p lt h =
       let le = h.grows in
-      let here : n < p.temps = omega arith in
-      record {
-        grows = le;
-        items = fine_three scene p.temps (clearing b n) p.items _ (fine_clearing b n p.temps here) h.items
-            (fine_one scene p.temps (AssignLoc n p.tree) tt (here, h.tree));
-      }
+      record { grows = le; items = fine_append scene p.temps (clearing b n) p.items (fine_clearing b n p.temps (omega arith)) h.items }
 
   fine_if : (l : ℕ) (p a : Emitted) → Dones p → Dones a → Dones (if_done l p a)
   fine_if l p a h g =
@@ -188,8 +180,14 @@ module _ (scene : Scene) (size count : ℕ) (takes : Callee → ℕ → Type 0)
     fine_returning : (e : Option AnExpression) (l : ℕ) → FitsMaybe scope e → StandsMaybe There takes scene.objects e
         → Dones (Statements.returning size count e l)
     fine_returning None l f s = record { grows = omega arith; items = fine_one scene size (Ret (Num 0)) tt tt }
-    fine_returning (Some e) l f s = fine_ret ((Expressions.way size count e).low size l)
-        ((fine_way scene size count takes calls scope within e f s).low size l (omega arith))
+    fine_returning (Some e) l f s = (fine_way scene size count takes calls scope within e f s).deliver AsResult size l (omega arith) tt
+
+    fine_if_by : (o : Option ℕ) (l : ℕ) (c : AnExpression) (f : ℕ → Emitted) → Fits scope c → StandsMaybe There takes scene.objects (Some c)
+        → ((m : ℕ) → Dones (f m)) → Dones (Statements.if_by size count o c f l)
+    fine_if_by (Some to) l c f k s h = fine_test_of true c to l k s
+    fine_if_by None l c f k s h =
+        let p = Statements.unless size count c l (suc l) in
+        fine_if l p (f p.labels) (fine_test_of false c l (suc l) k s) (h p.labels)
 
     fine_while_by : (o : Option ℕ) (l : ℕ) (c : AnExpression) (f : ℕ → ℕ → ℕ → Emitted) → Fits scope c → StandsMaybe There takes scene.objects (Some c)
         → ((lb lc m : ℕ) → Dones (f lb lc m)) → Dones (Statements.while_by size count o c f l)
@@ -232,9 +230,9 @@ module _ (scene : Scene) (size count : ℕ) (takes : Callee → ℕ → Type 0)
       (fine_declare (more scope n) wider ds l f.1 s)
   fine_declare scope within (BeginOf n e ∷ ds) l f s =
       let wider = λ (k : ℕ). ⊎_elim (λ (h : scope k). within k h) (λ (e : k ≡ n). let lt = f.0 in let r : k < size = omega arith in r) in
-      let q = (Expressions.way size count e).low size l in
+      let q = (Expressions.way size count e).deliver (InLocal n) size l in
       fine_two (begin_of (mentions n e) n q) (Statements.declare size count ds q.labels)
-      (fine_begin (mentions n e) n q f.0 ((fine_way scene size count takes calls (more scope n) wider e f.1 s.0).low size l (omega arith)))
+      (fine_begin (mentions n e) n q f.0 ((fine_way scene size count takes calls (more scope n) wider e f.1 s.0).deliver (InLocal n) size l (omega arith) f.0))
       (fine_declare (more scope n) wider ds q.labels f.2 s.1)
 
   mutual
@@ -247,9 +245,7 @@ module _ (scene : Scene) (size count : ℕ) (takes : Callee → ℕ → Type 0)
     fine_act scope within inside ContinueOf lb lc l f s = fine_jump lc l
     fine_act scope within inside (ReturnOf e) lb lc l f s = fine_returning scope within e l f s
     fine_act scope within inside (IfOf c a) lb lc l f s =
-        let p = Statements.unless size count c l (suc l) in
-        fine_if l p (Statements.lower size count a lb lc p.labels) (fine_test_of scope within false c l (suc l) f.0 s.0)
-        (fine_act scope within inside a lb lc p.labels f.1 s.1)
+        fine_if_by scope within (Statements.going a lb lc) l c (Statements.lower size count a lb lc) f.0 s.0 (λ m. fine_act scope within inside a lb lc m f.1 s.1)
     fine_act scope within inside (IfElseOf c a b) lb lc l f s =
         let p = Statements.unless size count c l (suc (suc l)) in
         let q = Statements.lower size count a lb lc p.labels in

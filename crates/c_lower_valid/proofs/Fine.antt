@@ -9,13 +9,13 @@ use Rattle.c_types.specs.declared.typed.ArithmeticOperator.TheVariants as ariths
 use Rattle.c_types.specs.declared.typed.Direction.{Direction}
 use Rattle.c_types.specs.declared.typed.Direction.TheVariants as directions
 use Rattle.c_types.specs.Constants.{scale}
-use Rattle.c_lower_scheme.specs.Trees.{Tree, Num, Loc, Bin, Item, Label, AssignLoc, AssignArg, AssignMem, Cbr, Push, breaks}
-use Rattle.c_lower_scheme.specs.Parts.{Lowered, Pair, Where, InLoc, InArg, InMem, Located, Passing, Emitted, Assignable, over, over_two}
+use Rattle.c_lower_scheme.specs.Trees.{Tree, Num, Loc, Bin, Item, Label, AssignLoc, AssignArg, AssignMem, Cbr, Push, breaks, Ret}
+use Rattle.c_lower_scheme.specs.Parts.{Lowered, Pair, Where, InLoc, InArg, InMem, Located, Passing, Emitted, Assignable, over, over_two, Destination, InLocal, AsResult, delivered}
 use Rattle.c_lower_scheme.specs.Places.{saving, saved, next_if, integer_of, conv, fitted, read_from, assign_to, address_tree, holding, held, read_low, address_low}
-use Rattle.c_lower_scheme.specs.Conditions.{sensed, truth_of, test, compare, dropped}
-use Rattle.c_lower_scheme.specs.Values.{scaled_by, shared_by, advance, advance_by, retreat, apart, step}
+use Rattle.c_lower_scheme.specs.Conditions.{truth_of, test, compare, dropped}
+use Rattle.c_lower_scheme.specs.Values.{scaled_by, advance, advance_by, retreat, apart, step}
 use Rattle.c_lower_scheme.specs.Values
-use Rattle.c_lower_scheme.specs.Calls.{pushes, args_count, pass_so, called_drop, called_low}
+use Rattle.c_lower_scheme.specs.Calls.{pushes, args_count, pass_so, called_drop, called_low, called_deliver}
 use Rattle.c_lower_scheme.specs.Assignments.{ready_so, update_so, postfix_so, store_drop, store_low_at, store_low}
 use Rattle.c_lower_valid.proofs.Named.{Scene, Names, ItemNames, AllName, names_more, all_more, all_append}
 use Rattle.c_lower_valid.proofs.Orders.{Orderly, IsQuiet, orderly_nil, orderly_append, orderly_more, orderly_call, orderly_saved}
@@ -185,6 +185,22 @@ module _ (scene : Scene) where
     items = fine_behind p.temps p.items (Cbr r to p.first p.second) h.items tt
         (h.first, h.second);
   }
+
+  -- where a value may go
+  abbrev pub Reaches : ℕ → Destination → Type 0
+  Reaches t (InLocal n) = n < t
+  Reaches t AsResult = Unit {0}
+
+  pub reaches_up : (t u : ℕ) (to : Destination) → t ≤ u → Reaches t to → Reaches u to
+  reaches_up t u (InLocal n) le h = omega arith
+  reaches_up t u AsResult le h = tt
+
+  pub fine_delivered : (to : Destination) (t : ℕ) (p : Lowered) → Reaches t to → FineLow t p → FineDone t (delivered to p)
+  fine_delivered (InLocal n) t p lt h =
+      let le = h.grows in
+      let here : n < p.temps = omega arith in
+      record { grows = h.grows; items = fine_behind p.temps p.items (AssignLoc n p.tree) h.items tt (here, h.tree) }
+  fine_delivered AsResult t p lt h = record { grows = h.grows; items = fine_behind p.temps p.items (Ret p.tree) h.items tt h.tree }
 
   pub fine_dropped : (t : ℕ) (p : Lowered) → FineLow t p → FineDone t (dropped p)
   fine_dropped t p h =
@@ -391,3 +407,14 @@ module _ (scene : Scene) where
             });
         tree = here;
       }
+
+  pub fine_called_deliver : (to : Destination) (f t : ℕ) (p : Passing) → Reaches t to → scene.callable f (args_count p.trees) → FinePassing t p → FineDone t (called_deliver to f p)
+  fine_called_deliver (InLocal n) f t p lt c h =
+      let le = h.grows in
+      let here : n < p.temps = omega arith in
+      record {
+        grows = h.grows;
+        items = fine_append p.temps p.items _ h.items (record
+            { names = name_pushes p.temps p.trees _ h.trees (c, (here, tt)); order = orderly_saved p.trees f n });
+      }
+  fine_called_deliver AsResult f t p lt c h = fine_delivered AsResult t (called_low f p) tt (fine_called_low f t p c h)

@@ -1,7 +1,9 @@
 -- Labels among the items of expressions and statements.
 use Rattle.std.proofs.Common.{ℕ, suc, List, [], ◌∷◌, ◌++◌, refl, arith}
-use Rattle.std.specs.Prelude.{Bool, true, false, not}
+use Rattle.std.specs.Prelude.{Bool, true, false, not, Option, Some, None}
 use Rattle.c_types.specs.declared.types.CType.{CType}
+use Rattle.c_types.specs.declared.types.Integer.{Integer}
+use Rattle.c_types.specs.declared.types.Integer.TheVariants as ints
 use Rattle.c_types.specs.declared.typed.UnaryOperator.{UnaryOperator}
 use Rattle.c_types.specs.declared.typed.UnaryOperator.TheVariants as unaries
 use Rattle.c_types.specs.declared.typed.Moment.{Moment}
@@ -21,22 +23,40 @@ use Rattle.c_lower_scheme.specs.Assignments
 use Rattle.c_lower_scheme.specs.Expressions
 use Rattle.c_lower_valid.proofs.Marks.{nowhere, at, Marked, marked_nil, marked_out, marked_append, marked_plain, marked_front, mute_saving, mute_holding, mute_assign, mute_append}
 use Rattle.c_lower_valid.proofs.Marks.{mute_pushes, MarkedWay, marked_branch, marked_valued, marked_effective, marked_conditional, marked_two, marked_chain, marked_chain_drop}
-use Rattle.c_lower_valid.proofs.Marks.{marked_drops, marked_fork}
+use Rattle.c_lower_valid.proofs.Marks.{marked_drops, marked_fork, marked_delivered, marked_apart}
 
-marked_choose : (c a b : Parts.Lowering) → MarkedWay c → MarkedWay a → MarkedWay b → MarkedWay (Conditions.choose c a b)
-marked_choose c a b h f g = marked_effective _ _
-    (λ t l.
+marked_choose_drop : (l : ℕ) (p q r : Parts.Emitted) → Marked (at l) (suc (suc l)) p.labels p.items → Marked nowhere p.labels q.labels q.items → Marked nowhere q.labels r.labels r.items
+    → Marked nowhere l (Conditions.choose_drop l p q r).labels (Conditions.choose_drop l p q r).items
+marked_choose_drop l p q r h f g = marked_fork nowhere l p.labels q.labels r.labels p.items q.items r.items [] [] (λ m. refl) (λ m. refl) h f g
+
+marked_choose_deliver : (to : Parts.Destination) (l : ℕ) (p q r : Parts.Emitted) → Marked (at l) (suc (suc l)) p.labels p.items → Marked nowhere p.labels q.labels q.items
+    → Marked nowhere q.labels r.labels r.items → Marked nowhere l (Conditions.choose_deliver to l p q r).labels (Conditions.choose_deliver to l p q r).items
+marked_choose_deliver (Parts.InLocal n) l p q r h f g = marked_choose_drop l p q r h f g
+marked_choose_deliver Parts.AsResult l p q r h f g = marked_apart l p.labels q.labels r.labels p.items q.items r.items h f g
+
+marked_choice : (c a b : Parts.Lowering) → MarkedWay c → MarkedWay a → MarkedWay b → (t l : ℕ)
+    → Marked nowhere l ((Conditions.choose c a b).low t l).labels ((Conditions.choose c a b).low t l).items
+marked_choice c a b h f g t l =
     let p = c.branch false l (suc t) (suc (suc l)) in
     let q = a.low p.temps p.labels in
     let r = b.low q.temps q.labels in
     marked_fork nowhere l p.labels q.labels r.labels p.items q.items r.items (AssignLoc t q.tree ∷ []) (AssignLoc t r.tree ∷ [])
-    (λ m. refl) (λ m. refl) (h.branch false l (suc t) (suc (suc l))) (f.low p.temps p.labels) (g.low q.temps q.labels))
-    (λ t l.
-    let p = c.branch false l t (suc (suc l)) in
-    let q = a.drop p.temps p.labels in
-    let r = b.drop q.temps q.labels in
-    marked_fork nowhere l p.labels q.labels r.labels p.items q.items r.items [] [] (λ m. refl) (λ m. refl)
-    (h.branch false l t (suc (suc l))) (f.drop p.temps p.labels) (g.drop q.temps q.labels))
+    (λ m. refl) (λ m. refl) (h.branch false l (suc t) (suc (suc l))) (f.low p.temps p.labels) (g.low q.temps q.labels)
+
+marked_choose : (c a b : Parts.Lowering) → MarkedWay c → MarkedWay a → MarkedWay b → MarkedWay (Conditions.choose c a b)
+marked_choose c a b h f g = record {
+  low = marked_choice c a b h f g;
+  branch = λ sense to t l. marked_branch _ to ((Conditions.choose c a b).low t l).tree (Num 0) l ((Conditions.choose c a b).low t l).labels
+      ((Conditions.choose c a b).low t l).items (marked_choice c a b h f g t l);
+  drop = λ t l.
+      let p = c.branch false l t (suc (suc l)) in
+      let q = a.drop p.temps p.labels in
+      marked_choose_drop l p q (b.drop q.temps q.labels) (h.branch false l t (suc (suc l))) (f.drop p.temps p.labels) (g.drop q.temps q.labels);
+  deliver = λ to t l.
+      let p = c.branch false l t (suc (suc l)) in
+      let q = a.deliver to p.temps p.labels in
+      marked_choose_deliver to l p q (b.deliver to q.temps q.labels) (h.branch false l t (suc (suc l))) (f.deliver to p.temps p.labels) (g.deliver to q.temps q.labels);
+}
 
 marked_store_low : (s : Parts.Where) (r : Parts.Assignable) (l : ℕ) → Marked nowhere l r.labels r.items
     → Marked nowhere l (Assignments.store_low_at s r).labels (Assignments.store_low_at s r).items
@@ -74,6 +94,19 @@ marked_call_drop : (f : ℕ) (q : Parts.Passing) (l : ℕ) → Marked nowhere l 
     → Marked nowhere l (Calls.called_drop f q).labels (Calls.called_drop f q).items
 marked_call_drop f q l h = marked_plain nowhere l q.labels q.items _ h (mute_pushes q.trees _ (λ m. refl))
 
+marked_call_deliver : (to : Parts.Destination) (f : ℕ) (q : Parts.Passing) (l : ℕ) → Marked nowhere l q.labels q.items
+    → Marked nowhere l (Calls.called_deliver to f q).labels (Calls.called_deliver to f q).items
+marked_call_deliver (Parts.InLocal n) f q l h = marked_plain nowhere l q.labels q.items _ h (mute_pushes q.trees _ (λ m. refl))
+marked_call_deliver Parts.AsResult f q l h = marked_delivered Parts.AsResult (Calls.called_low f q) l (marked_call f q l h)
+
+marked_deliver_as : (i : Integer) (e : Parts.Lowering) → MarkedWay e → (to : Parts.Destination) (t l : ℕ)
+    → Marked nowhere l (Conditions.deliver_as i e to t l).labels (Conditions.deliver_as i e to t l).items
+marked_deliver_as ints.Char e h to t l = marked_delivered to (Parts.over (Places.conv ints.Char) (e.low t l)) l (h.low t l)
+marked_deliver_as ints.UnsignedChar e h to t l = marked_delivered to (Parts.over (Places.conv ints.UnsignedChar) (e.low t l)) l (h.low t l)
+marked_deliver_as ints.Short e h to t l = marked_delivered to (Parts.over (Places.conv ints.Short) (e.low t l)) l (h.low t l)
+marked_deliver_as ints.UnsignedShort e h to t l = marked_delivered to (Parts.over (Places.conv ints.UnsignedShort) (e.low t l)) l (h.low t l)
+marked_deliver_as ints.Int e h to t l = h.deliver to t l
+
 module _ (size count : ℕ) where
   marked_joined : (a b : Parts.Lowering) (t l : ℕ) → MarkedWay a → MarkedWay b
       → Marked nowhere l (Values.joined size count a b t l).labels (Values.joined size count a b t l).items
@@ -85,6 +118,26 @@ module _ (size count : ℕ) where
 
   marked_mapped : (f : Tree → Tree) (e : Parts.Lowering) → MarkedWay e → MarkedWay (Conditions.mapped f e)
   marked_mapped f e h = marked_effective _ _ (λ t l. h.low t l) h.drop
+
+  marked_converting : (ty : CType) (e : Parts.Lowering) → MarkedWay e → MarkedWay (Conditions.converting ty e)
+  marked_converting ty e h =
+      let w : MarkedWay (Conditions.mapped (Places.fitted ty) e) = marked_mapped (Places.fitted ty) e h in
+      record { low = w.low; branch = w.branch; drop = w.drop; deliver = marked_deliver_as (Places.integer_of ty) e h }
+
+  -- an assignment, also to a local that the value is delivered to
+  marked_assign_low : (o : Option ℕ) (q : Parts.Located) (e : Parts.Lowering) (l : ℕ) → Marked nowhere l q.labels q.items → MarkedWay e
+      → Marked nowhere l (Assignments.assign_low size count o q e).labels (Assignments.assign_low size count o q e).items
+  marked_assign_low None q e l h g =
+      let r = Assignments.assigned size count true q e.low in
+      marked_store_low r.place r l (marked_ready _ _ _ l q.labels _ _ _ h (g.low q.temps q.labels))
+  marked_assign_low (Some n) q e l h g = marked_append nowhere l q.labels _ _ _ h (g.deliver (Parts.InLocal n) q.temps q.labels)
+
+  marked_assign_drop : (o : Option ℕ) (q : Parts.Located) (e : Parts.Lowering) (l : ℕ) → Marked nowhere l q.labels q.items → MarkedWay e
+      → Marked nowhere l (Assignments.assign_drop size count o q e).labels (Assignments.assign_drop size count o q e).items
+  marked_assign_drop None q e l h g =
+      let r = Assignments.assigned size count false q e.low in
+      marked_store_drop r l (marked_ready _ _ _ l q.labels _ _ _ h (g.low q.temps q.labels))
+  marked_assign_drop (Some n) q e l h g = marked_append nowhere l q.labels _ _ _ h (g.deliver (Parts.InLocal n) q.temps q.labels)
 
   marked_unary : (op : UnaryOperator) (e : Parts.Lowering) → MarkedWay e → MarkedWay (Expressions.unary size count op e)
   marked_unary unaries.Plus e h = marked_mapped (λ w. w) e h
@@ -123,17 +176,24 @@ module _ (size count : ℕ) where
     marked_way (SizeofTerm n e) = marked_valued _ (λ t l. marked_nil nowhere l)
     marked_way (SizeOf n) = marked_valued _ (λ t l. marked_nil nowhere l)
     marked_way (AddressOf ty a) = marked_valued _ (λ t l. marked_seek a t l)
-    marked_way (CallOf ty f to es) = marked_effective _ _
-        (λ t l. marked_call _ (Expressions.pass size count es to t l) l (marked_pass es to t l))
-        (λ t l. marked_call_drop _ (Expressions.pass size count es to t l) l (marked_pass es to t l))
+    marked_way (CallOf ty f to es) =
+        let n = Calls.callee_number count f in
+        record {
+          low = λ t l. marked_call n (Expressions.pass size count es to t l) l (marked_pass es to t l);
+          branch = λ sense at t l.
+              let p = Calls.called_low n (Expressions.pass size count es to t l) in
+              marked_branch _ at p.tree (Num 0) l p.labels p.items (marked_call n (Expressions.pass size count es to t l) l (marked_pass es to t l));
+          drop = λ t l. marked_call_drop n (Expressions.pass size count es to t l) l (marked_pass es to t l);
+          deliver = λ at t l. marked_call_deliver at n (Expressions.pass size count es to t l) l (marked_pass es to t l);
+        }
     marked_way (StepOf m by a) = marked_effective _ _
         (λ t l. marked_step m by (Expressions.seek size count a t l) l (marked_seek a t l))
         (λ t l. marked_store_drop (Assignments.step_ready size count by (Expressions.seek size count a t l)) l
         (marked_ready _ _ _ l (Expressions.seek size count a t l).labels (Expressions.seek size count a t l).labels _ []
         (marked_seek a t l) (marked_nil nowhere (Expressions.seek size count a t l).labels)))
     marked_way (UnaryOf op e) = marked_unary op _ (marked_way e)
-    marked_way (CastTo ty e) = marked_mapped (Places.fitted ty) _ (marked_way e)
-    marked_way (ConvertTo ty e) = marked_mapped (Places.fitted ty) _ (marked_way e)
+    marked_way (CastTo ty e) = marked_converting ty _ (marked_way e)
+    marked_way (ConvertTo ty e) = marked_converting ty _ (marked_way e)
     marked_way (ArithmeticOf op a b) = marked_binary (Bin op) _ _ (marked_way a) (marked_way b)
     marked_way (CompareOf r a b) = marked_conditional _ _
         (λ sense to t l. marked_branch _ to _ _ l _ _ (marked_joined _ _ t l (marked_way a) (marked_way b)))
@@ -150,11 +210,9 @@ module _ (size count : ℕ) where
     marked_way (ChoiceOf ty c a b) = marked_choose _ _ _ (marked_way c) (marked_way a) (marked_way b)
     marked_way (AssignTo a e) = marked_effective _ _
         (λ t l. let q = Expressions.seek size count a t l in
-        let r = Assignments.assigned size count true q (Expressions.way size count e).low in
-        marked_store_low r.place r l (marked_ready _ _ _ l q.labels _ _ _ (marked_seek a t l) ((marked_way e).low q.temps q.labels)))
+        marked_assign_low (Assignments.local_of size count q) q (Expressions.way size count e) l (marked_seek a t l) (marked_way e))
         (λ t l. let q = Expressions.seek size count a t l in
-        let r = Assignments.assigned size count false q (Expressions.way size count e).low in
-        marked_store_drop r l (marked_ready _ _ _ l q.labels _ _ _ (marked_seek a t l) ((marked_way e).low q.temps q.labels)))
+        marked_assign_drop (Assignments.local_of size count q) q (Expressions.way size count e) l (marked_seek a t l) (marked_way e))
     marked_way (ArithmeticAssignTo op a e) = marked_updates (λ ty. Bin op) (Expressions.seek size count a) _ (λ t l. marked_seek a t l)
         (marked_way e)
     marked_way (AdvanceAssignTo a e) = marked_updates Values.advance (Expressions.seek size count a) _ (λ t l. marked_seek a t l)
@@ -166,6 +224,7 @@ module _ (size count : ℕ) where
       branch = λ sense to t l. marked_append (at to) l _ _ _ _
           (marked_out nowhere (at to) l _ _ (λ m. omega arith) ((marked_way a).drop t l)) ((marked_way b).branch sense to _ _);
       drop = λ t l. marked_drops _ _ t l (marked_way a) (marked_way b);
+      deliver = λ at t l. marked_append nowhere l _ _ _ _ ((marked_way a).drop t l) ((marked_way b).deliver at _ _);
     }
 
     pub marked_pass : (es : SomeExpressions) (to : List CType) (t l : ℕ)

@@ -6,7 +6,7 @@ use Rattle.c_types.specs.Typed.{AnExpression}
 use Rattle.c_program.specs.Statements.{ADeclaration, KeepOf, ClearOf, BeginOf, AnAction, SomeActions, NoActions, MoreActions, DeclareOf, BlockOf, EvaluateOf, BreakOf, ContinueOf}
 use Rattle.c_program.specs.Statements.{ReturnOf, IfOf, IfElseOf, WhileOf, DoOf, ForOf}
 use Rattle.c_sound.specs.Fits.{behind_act, FitsAct, FitsActs}
-use Rattle.c_lower_scheme.specs.Trees.{Num, Item, Label, AssignLoc, Jump, Ret}
+use Rattle.c_lower_scheme.specs.Trees.{Num, Item, Label, Jump, Ret}
 use Rattle.c_lower_scheme.specs.Parts
 use Rattle.c_lower_scheme.specs.Expressions
 use Rattle.c_lower_scheme.specs.Mentions
@@ -120,7 +120,7 @@ module _ (size count : ℕ) where
   marked_returning : (e : Option AnExpression) (l : ℕ) → Marked nowhere l (Statements.returning size count e l).labels
       (Statements.returning size count e l).items
   marked_returning None l = marked_plain nowhere l l [] (Ret (Num 0) ∷ []) (marked_nil nowhere l) (λ m. refl)
-  marked_returning (Some e) l = marked_plain nowhere l _ _ _ ((marked_way size count e).low size l) (λ m. refl)
+  marked_returning (Some e) l = (marked_way size count e).deliver Parts.AsResult size l
 
   marked_declare : (ds : List ADeclaration) (l : ℕ)
       → Marked nowhere l (Statements.declare size count ds l).labels (Statements.declare size count ds l).items
@@ -128,12 +128,46 @@ module _ (size count : ℕ) where
   marked_declare (KeepOf object ∷ ds) l = marked_declare ds l
   marked_declare (ClearOf n ∷ ds) l = marked_front nowhere l _ (Flow.clearing true n) _ (mute_clearing true n) (marked_declare ds l)
   marked_declare (BeginOf n e ∷ ds) l =
-      let q = (Expressions.way size count e).low size l in
+      let q = (Expressions.way size count e).deliver (Parts.InLocal n) size l in
       let b = Mentions.mentions n e in
-      marked_append nowhere l q.labels _ _ _ (marked_front nowhere l q.labels (Flow.clearing b n)
-      (q.items ++ (AssignLoc n q.tree ∷ [])) (mute_clearing b n)
-      (marked_plain nowhere l q.labels q.items (AssignLoc n q.tree ∷ []) ((marked_way size count e).low size l) (λ m. refl)))
+      marked_append nowhere l q.labels _ _ _ (marked_front nowhere l q.labels (Flow.clearing b n) q.items (mute_clearing b n)
+      ((marked_way size count e).deliver (Parts.InLocal n) size l))
       (marked_declare ds q.labels)
+
+  -- a `break` or `continue` goes to a label around it
+  mutual
+    goes_out : (scope : ℕ → Type 0) (inside : Bool) (a : AnAction) (lb lc to : ℕ) → FitsAct size scope inside a → Statements.going a lb lc ≡ Some to
+        → (m : ℕ) → at to m ≤ leaving inside lb lc m
+    goes_out scope true BreakOf lb lc to f e m = let same : at to m ≡ at lb m = cc in omega (arith, same)
+    goes_out scope false BreakOf lb lc to f e m = absurd (cc)
+    goes_out scope true ContinueOf lb lc to f e m = let same : at to m ≡ at lc m = cc in omega (arith, same)
+    goes_out scope false ContinueOf lb lc to f e m = absurd (cc)
+    goes_out scope inside (DeclareOf ds) lb lc to f e m = absurd (cc)
+    goes_out scope inside (BlockOf row) lb lc to f e m = alone_out scope inside row lb lc to f e m
+    goes_out scope inside (EvaluateOf x) lb lc to f e m = absurd (cc)
+    goes_out scope inside (ReturnOf x) lb lc to f e m = absurd (cc)
+    goes_out scope inside (IfOf c a) lb lc to f e m = absurd (cc)
+    goes_out scope inside (IfElseOf c a b) lb lc to f e m = absurd (cc)
+    goes_out scope inside (WhileOf c a) lb lc to f e m = absurd (cc)
+    goes_out scope inside (DoOf a c) lb lc to f e m = absurd (cc)
+    goes_out scope inside (ForOf i c x a) lb lc to f e m = absurd (cc)
+
+    alone_out : (scope : ℕ → Type 0) (inside : Bool) (row : SomeActions) (lb lc to : ℕ) → FitsActs size scope inside row → Statements.going_alone row lb lc ≡ Some to
+        → (m : ℕ) → at to m ≤ leaving inside lb lc m
+    alone_out scope inside NoActions lb lc to f e m = absurd (cc)
+    alone_out scope inside (MoreActions a NoActions) lb lc to f e m = goes_out scope inside a lb lc to f.0 e m
+    alone_out scope inside (MoreActions a (MoreActions b row)) lb lc to f e m = absurd (cc)
+
+  marked_if_by : (scope : ℕ → Type 0) (inside : Bool) (o : Option ℕ) (c : AnExpression) (a : AnAction) (lb lc l : ℕ) → FitsAct size scope inside a
+      → Statements.going a lb lc ≡ o
+      → ((m : ℕ) → Marked (leaving inside lb lc) m (Statements.lower size count a lb lc m).labels (Statements.lower size count a lb lc m).items)
+      → Marked (leaving inside lb lc) l (Statements.if_by size count o c (Statements.lower size count a lb lc) l).labels
+      (Statements.if_by size count o c (Statements.lower size count a lb lc) l).items
+  marked_if_by scope inside (Some to) c a lb lc l f e h =
+      marked_out (at to) (leaving inside lb lc) l _ _ (goes_out scope inside a lb lc to f e) ((marked_way size count c).branch true to size l)
+  marked_if_by scope inside None c a lb lc l f e h =
+      let q = Statements.unless size count c l (suc l) in
+      marked_inner (leaving inside lb lc) l q.labels _ q.items _ ((marked_way size count c).branch false l size (suc l)) (h q.labels)
 
   marked_while_by : (out : ℕ → ℕ) (o : Option ℕ) (c : AnExpression) (f : ℕ → ℕ → ℕ → Parts.Emitted) (l : ℕ)
       → ((lb lc m : ℕ) → Marked (leaving true lb lc) m (f lb lc m).labels (f lb lc m).items)
@@ -183,9 +217,7 @@ module _ (size count : ℕ) where
     marked_act scope inside (ReturnOf e) lb lc l f = marked_out nowhere (leaving inside lb lc) l _ _ (λ m. omega arith)
         (marked_returning e l)
     marked_act scope inside (IfOf c a) lb lc l f =
-        let q = Statements.unless size count c l (suc l) in
-        marked_inner (leaving inside lb lc) l q.labels _ q.items _ ((marked_way size count c).branch false l size (suc l))
-        (marked_act scope inside a lb lc q.labels f.1)
+        marked_if_by scope inside (Statements.going a lb lc) c a lb lc l f.1 refl (λ m. marked_act scope inside a lb lc m f.1)
     marked_act scope inside (IfElseOf c a b) lb lc l f =
         let q = Statements.unless size count c l (suc (suc l)) in
         let x = Statements.lower size count a lb lc q.labels in

@@ -160,11 +160,17 @@ pub mute_pushes : (ws : List Tree) (is : List Item) → IsMute is → IsMute (Ca
 mute_pushes [] is h = h
 mute_pushes (w ∷ ws) is h = mute_pushes ws (Push w ∷ is) (λ m. omega (arith, h m))
 
--- in each of the three ways
+-- in each of the four ways
 pub record MarkedWay (w : Parts.Lowering) : Type 0 where
   pub low : (t l : ℕ) → Marked nowhere l (w.low t l).labels (w.low t l).items
   pub branch : (sense : Bool) (to t l : ℕ) → Marked (at to) l (w.branch sense to t l).labels (w.branch sense to t l).items
   pub drop : (t l : ℕ) → Marked nowhere l (w.drop t l).labels (w.drop t l).items
+  pub deliver : (to : Parts.Destination) (t l : ℕ) → Marked nowhere l (w.deliver to t l).labels (w.deliver to t l).items
+
+pub marked_delivered : (to : Parts.Destination) (p : Parts.Lowered) (l : ℕ) → Marked nowhere l p.labels p.items
+    → Marked nowhere l (Parts.delivered to p).labels (Parts.delivered to p).items
+marked_delivered (Parts.InLocal n) p l h = marked_plain nowhere l p.labels p.items _ h (λ m. refl)
+marked_delivered Parts.AsResult p l h = marked_plain nowhere l p.labels p.items _ h (λ m. refl)
 
 -- a branch behind items
 pub marked_branch : (r : Rel) (to : ℕ) (a b : Tree) (l u : ℕ) (is : List Item) → Marked nowhere l u is
@@ -180,6 +186,7 @@ marked_valued f h = record {
   branch = λ sense to t l. marked_branch _ to (f t l).tree (Num 0) l (f t l).labels (f t l).items (h t l);
   drop = λ t l. marked_plain nowhere l (f t l).labels (f t l).items _ (h t l)
       (mute_saving (breaks (f t l).tree) (f t l).temps (f t l).tree);
+  deliver = λ to t l. marked_delivered to (f t l) l (h t l);
 }
 
 pub marked_effective : (f : ℕ → ℕ → Parts.Lowered) (g : ℕ → ℕ → Parts.Emitted)
@@ -189,20 +196,20 @@ marked_effective f g h h' = record {
   low = h;
   branch = λ sense to t l. marked_branch _ to (f t l).tree (Num 0) l (f t l).labels (f t l).items (h t l);
   drop = h';
+  deliver = λ to t l. marked_delivered to (f t l) l (h t l);
 }
 
 pub marked_conditional : (f : Bool → ℕ → ℕ → ℕ → Parts.Emitted) (g : ℕ → ℕ → Parts.Emitted)
     → ((sense : Bool) (to t l : ℕ) → Marked (at to) l (f sense to t l).labels (f sense to t l).items)
     → ((t l : ℕ) → Marked nowhere l (g t l).labels (g t l).items) → MarkedWay (Conditions.conditional f g)
-marked_conditional f g h h' = record {
-  low = λ t l.
-      let b = f false l (suc t) (suc l) in
-      let T : List Item = AssignLoc t (Num 1) ∷ Label l ∷ [] in
-      marked_count nowhere (at l) l b.labels b.items _ (h false l (suc t) (suc l)) (λ m. omega arith)
-      (λ m. omega (arith, stands_append m b.items T)) (λ m lt. omega (arith, aims_append m b.items T));
-  branch = h;
-  drop = h';
-}
+marked_conditional f g h h' = record { low = truth; branch = h; drop = h'; deliver = λ to t l. marked_delivered to (Conditions.truth_of t l (f false l (suc t) (suc l))) l (truth t l) }
+  where
+    truth : (t l : ℕ) → Marked nowhere l (Conditions.truth_of t l (f false l (suc t) (suc l))).labels (Conditions.truth_of t l (f false l (suc t) (suc l))).items
+    truth t l =
+        let b = f false l (suc t) (suc l) in
+        let T : List Item = AssignLoc t (Num 1) ∷ Label l ∷ [] in
+        marked_count nowhere (at l) l b.labels b.items _ (h false l (suc t) (suc l)) (λ m. omega arith)
+        (λ m. omega (arith, stands_append m b.items T)) (λ m lt. omega (arith, aims_append m b.items T))
 
 pub marked_two : (out : ℕ → ℕ) (u : ℕ) (b : Bool) (w : Tree) (l p q : ℕ) (a c : List Item) → Marked out l p a → Marked out p q c
     → Marked out l q (a ++ (Places.saving b u w ++ c))
@@ -285,3 +292,14 @@ marked_fork out l p q r a b c b1 c1 z z' h f g =
       z m,
       z' m,
     ))
+
+-- a test, a part, and another where the test goes
+pub marked_apart : (l p q r : ℕ) (a b c : List Item) → Marked (at l) (suc (suc l)) p a → Marked nowhere p q b → Marked nowhere q r c
+    → Marked nowhere l r (a ++ (b ++ (Label l ∷ c)))
+marked_apart l p q r a b c h f g =
+    let inner : List Item = a ++ (b ++ c) in
+    let all = marked_append (at l) (suc (suc l)) p r a (b ++ c) h
+    (marked_append (at l) p q r b c (marked_out nowhere (at l) p q b (λ m. omega arith) f) (marked_out nowhere (at l) q r c (λ m. omega arith) g)) in
+    marked_count nowhere (at l) l r inner (a ++ (b ++ (Label l ∷ c))) (marked_wider (at l) (suc l) (suc (suc l)) r inner (omega arith) all) (λ m. omega arith)
+    (λ m. omega (arith, stands_append m a (b ++ (Label l ∷ c)), stands_append m b (Label l ∷ c), stands_append m a (b ++ c), stands_append m b c))
+    (λ m lt. omega (arith, aims_append m a (b ++ (Label l ∷ c)), aims_append m b (Label l ∷ c), aims_append m a (b ++ c), aims_append m b c))

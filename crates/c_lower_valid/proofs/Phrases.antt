@@ -13,14 +13,14 @@ use Rattle.c_sound.specs.Stands.{Stands, StandsAt, StandAll, arguments, IsThere}
 use Rattle.c_lower_scheme.specs.Trees.{Num, Gaddr, Bin}
 use Rattle.c_lower_scheme.specs.Places.{where_of, address_tree, fitted}
 use Rattle.c_lower_scheme.specs.Values.{advance, advance_by, retreat, apart}
-use Rattle.c_lower_scheme.specs.Calls.{args_count, callee_number, others}
+use Rattle.c_lower_scheme.specs.Calls.{args_count, callee_number, others, called_low}
 use Rattle.c_lower_scheme.specs.Assignments
 use Rattle.c_lower_scheme.specs.Expressions
 use Rattle.c_lower_valid.proofs.Named.{Scene}
-use Rattle.c_lower_valid.proofs.Fine.{Ok, fine_nil, OkWhere, FineFound, FinePassing, ok_fitted, ok_advance, ok_advance_by, ok_retreat, ok_apart, fine_over, fine_read, fine_address}
-use Rattle.c_lower_valid.proofs.Fine.{fine_store_drop, fine_store_low, fine_pass, fine_called_drop, fine_called_low}
-use Rattle.c_lower_valid.proofs.Ways.{FineWay, fine_due, fine_valued, fine_effective, fine_conditional, fine_mapped, fine_binary, fine_relation, fine_chain, fine_chain_drop}
-use Rattle.c_lower_valid.proofs.Ways.{fine_choose, fine_comma, fine_unary, fine_update_by, fine_step_ready, fine_step, fine_assigned}
+use Rattle.c_lower_valid.proofs.Fine.{Ok, fine_nil, OkWhere, FineFound, FinePassing, ok_advance, ok_advance_by, ok_retreat, ok_apart, fine_over, fine_read, fine_address}
+use Rattle.c_lower_valid.proofs.Fine.{fine_store_drop, fine_pass, fine_called_drop, fine_called_low, fine_called_deliver, fine_test, ok_fitted}
+use Rattle.c_lower_valid.proofs.Ways.{FineWay, fine_due, fine_valued, fine_effective, fine_conditional, fine_converting, fine_binary, fine_relation, fine_chain, fine_chain_drop}
+use Rattle.c_lower_valid.proofs.Ways.{fine_choose, fine_comma, fine_unary, fine_update_by, fine_step_ready, fine_step, fine_assign_low, fine_assign_drop}
 
 passes_all : (size count : ℕ) (es : SomeExpressions) (to : List CType) (t l : ℕ)
     → args_count (Expressions.pass size count es to t l).trees ≡ arguments es
@@ -78,20 +78,24 @@ module _ (scene : Scene) (size count : ℕ) (takes : Callee → ℕ → Type 0)
     fine_way scope within (SizeOf n) f s = fine_valued scene size count _ (λ t l le. fine_due scene size count (Num n) t l tt)
     fine_way scope within (AddressOf ty a) f s = fine_valued scene size count _
         (λ t l le. fine_address scene t (Expressions.seek size count a t l) (fine_seek scope within a f s t l le))
-    fine_way scope within (CallOf ty g to es) f s = fine_effective scene size count _ _
-        (λ t l le. fine_called_low scene (callee_number count g) t (Expressions.pass size count es to t l) (callable_so g es to t l s.0)
-        (fine_passing scope within es to f s.1 t l le))
-        (λ t l le. fine_called_drop scene (callee_number count g) t (Expressions.pass size count es to t l)
-        (callable_so g es to t l s.0) (fine_passing scope within es to f s.1 t l le))
+    fine_way scope within (CallOf ty g to es) f s = record {
+      low = λ t l le. fine_called_low scene (callee_number count g) t (Expressions.pass size count es to t l) (callable_so g es to t l s.0)
+          (fine_passing scope within es to f s.1 t l le);
+      branch = λ sense at t l le. fine_test scene sense at t (called_low (callee_number count g) (Expressions.pass size count es to t l))
+          (fine_called_low scene (callee_number count g) t (Expressions.pass size count es to t l) (callable_so g es to t l s.0)
+          (fine_passing scope within es to f s.1 t l le));
+      drop = λ t l le. fine_called_drop scene (callee_number count g) t (Expressions.pass size count es to t l)
+          (callable_so g es to t l s.0) (fine_passing scope within es to f s.1 t l le);
+      deliver = λ at t l le r. fine_called_deliver scene at (callee_number count g) t (Expressions.pass size count es to t l) r
+          (callable_so g es to t l s.0) (fine_passing scope within es to f s.1 t l le);
+    }
     fine_way scope within (StepOf m by a) f s = fine_effective scene size count _ _
         (λ t l le. fine_step scene size count m by t (Expressions.seek size count a t l) (fine_seek scope within a f s t l le))
         (λ t l le. fine_store_drop scene t (Assignments.step_ready size count by (Expressions.seek size count a t l))
         (fine_step_ready scene size count by t (Expressions.seek size count a t l) (fine_seek scope within a f s t l le)))
     fine_way scope within (UnaryOf op e) f s = fine_unary scene size count op (Expressions.way size count e) (fine_way scope within e f s)
-    fine_way scope within (CastTo ty e) f s = fine_mapped scene size count (fitted ty) (λ u w k. ok_fitted scene ty u w k)
-        (Expressions.way size count e) (fine_way scope within e f s)
-    fine_way scope within (ConvertTo ty e) f s = fine_mapped scene size count (fitted ty) (λ u w k. ok_fitted scene ty u w k)
-        (Expressions.way size count e) (fine_way scope within e f s)
+    fine_way scope within (CastTo ty e) f s = fine_converting scene size count ty (Expressions.way size count e) (fine_way scope within e f s)
+    fine_way scope within (ConvertTo ty e) f s = fine_converting scene size count ty (Expressions.way size count e) (fine_way scope within e f s)
     fine_way scope within (ArithmeticOf op a b) f s = fine_binary scene size count (Bin op) (λ u x y h g. (h, g))
         (Expressions.way size count a) (Expressions.way size count b) (fine_way scope within a f.0 s.0) (fine_way scope within b f.1 s.1)
     fine_way scope within (CompareOf r a b) f s = fine_relation scene size count r (Expressions.way size count a)
@@ -124,13 +128,11 @@ module _ (scene : Scene) (size count : ℕ) (takes : Callee → ℕ → Type 0)
         (fine_way scope within a f.1 s.1) (fine_way scope within b f.2 s.2)
     fine_way scope within (AssignTo a e) f s = fine_effective scene size count _ _
         (λ t l le. let p = Expressions.seek size count a t l in
-        fine_store_low scene t (Assignments.assigned size count true p (Expressions.way size count e).low)
-        (fine_assigned scene size count true t p (Expressions.way size count e) le (fine_seek scope within a f.0 s.0 t l le)
-        (fine_way scope within e f.1 s.1)))
+        fine_assign_low scene size count (Assignments.local_of size count p) t p (Expressions.way size count e) refl le
+        (fine_seek scope within a f.0 s.0 t l le) (fine_way scope within e f.1 s.1))
         (λ t l le. let p = Expressions.seek size count a t l in
-        fine_store_drop scene t (Assignments.assigned size count false p (Expressions.way size count e).low)
-        (fine_assigned scene size count false t p (Expressions.way size count e) le (fine_seek scope within a f.0 s.0 t l le)
-        (fine_way scope within e f.1 s.1)))
+        fine_assign_drop scene size count (Assignments.local_of size count p) t p (Expressions.way size count e) refl le
+        (fine_seek scope within a f.0 s.0 t l le) (fine_way scope within e f.1 s.1))
     fine_way scope within (ArithmeticAssignTo op a e) f s = fine_update_by scene size count (λ ty. Bin op) (λ ty u x y h g. (h, g))
         (Expressions.seek size count a) (Expressions.way size count e) (fine_seek scope within a f.0 s.0) (fine_way scope within e f.1 s.1)
     fine_way scope within (AdvanceAssignTo a e) f s = fine_update_by scene size count advance (ok_advance scene)

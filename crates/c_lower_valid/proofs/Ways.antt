@@ -1,6 +1,6 @@
 -- Expressions, in each of the three ways in which they are lowered: their items name what is there, with calls in order.
-use Rattle.std.proofs.Common.{ℕ, suc, ◌≤◌, ◌<◌, [], ◌∷◌, arith}
-use Rattle.std.specs.Prelude.{Bool, true, false, not}
+use Rattle.std.proofs.Common.{◌≡◌, ℕ, suc, ◌≤◌, ◌<◌, [], ◌∷◌, arith, subst}
+use Rattle.std.specs.Prelude.{Bool, true, false, not, Option, Some, None}
 use Rattle.gg_base.specs.declared.relation.Rel.{Rel}
 use Rattle.c_types.specs.declared.types.CType.{CType}
 use Rattle.c_types.specs.declared.typed.UnaryOperator.{UnaryOperator}
@@ -9,23 +9,24 @@ use Rattle.c_types.specs.declared.typed.Moment.{Moment}
 use Rattle.c_types.specs.declared.typed.Moment.TheVariants as moments
 use Rattle.c_types.specs.declared.typed.Direction.{Direction}
 use Rattle.c_types.specs.Constants.{scale}
-use Rattle.c_lower_scheme.specs.Trees.{Tree, Num, Neg, Com, Label, AssignLoc, Jump}
-use Rattle.c_lower_scheme.specs.Parts.{Lowered, Where, InLoc, InArg, InMem, Located, Emitted, Lowering, due}
+use Rattle.c_lower_scheme.specs.Trees.{Tree, Num, Neg, Com, Label, AssignLoc, Jump, sensed}
+use Rattle.c_lower_scheme.specs.Parts.{Lowered, Located, Emitted, Lowering, due, Destination, InLocal, AsResult, over}
 use Rattle.c_lower_scheme.specs.Parts
-use Rattle.c_lower_scheme.specs.Places.{where_of, address_tree, fitted, read_from, pointed}
-use Rattle.c_lower_scheme.specs.Conditions.{test, dropped, truth_of, valued, conditional, effective, mapped, chained, goal, chain, chain_drop, drop_two, choose_low, choose_drop, choose}
-use Rattle.c_lower_scheme.specs.Conditions.{comma, sensed, compare}
+use Rattle.c_lower_scheme.specs.Places.{fitted, integer_of, conv}
+use Rattle.c_lower_scheme.specs.Conditions.{truth_of, valued, conditional, effective, mapped, chained, goal, chain, chain_drop, drop_two, choose_low, choose_drop, choose}
+use Rattle.c_lower_scheme.specs.Conditions.{comma, deliver_as, converting, choose_deliver}
 use Rattle.c_lower_scheme.specs.Conditions
-use Rattle.c_lower_scheme.specs.Values.{advance, advance_by, retreat, apart, step}
+use Rattle.c_lower_scheme.specs.Values.{step}
 use Rattle.c_lower_scheme.specs.Values
-use Rattle.c_lower_scheme.specs.Calls.{passed_as, others, args_count, callee_number}
-use Rattle.c_lower_scheme.specs.Assignments.{store_low, store_drop}
 use Rattle.c_lower_scheme.specs.Assignments
 use Rattle.c_lower_scheme.specs.Expressions
+use Rattle.c_types.specs.declared.types.Integer.{Integer}
+use Rattle.c_types.specs.declared.types.Integer.TheVariants as ints
+use Rattle.c_lower_scheme.proofs.Places.{local_is}
 use Rattle.c_lower_valid.proofs.Named.{Scene}
 use Rattle.c_lower_valid.proofs.Fine.{Ok, ok_up, fine_nil, fine_append, fine_up, fine_more, fine_one, fine_behind, fine_three, FineLow, FineTwo, FineFound, FineDone, FineReady}
 use Rattle.c_lower_valid.proofs.Fine.{ok_step, fine_over, fine_over_two, fine_truth, fine_test, fine_compare, fine_dropped, fine_join, fine_ready, fine_update, fine_postfix}
-use Rattle.c_lower_valid.proofs.Fine.{fine_store_drop, fine_store_low}
+use Rattle.c_lower_valid.proofs.Fine.{fine_store_drop, fine_store_low, OkWhere, Reaches, reaches_up, fine_delivered, ok_fitted}
 
 module _ (scene : Scene) (size count : ℕ) where
   abbrev Lows : ℕ → Lowered → Type 0
@@ -34,11 +35,12 @@ module _ (scene : Scene) (size count : ℕ) where
   abbrev Dones : ℕ → Emitted → Type 0
   Dones t p = FineDone scene t p
 
-  -- in each of the three ways, from a temporary on that is no local of the function's own
+  -- in each of the four ways, from a temporary on that is no local of the function's own
   pub record FineWay (w : Lowering) : Type 0 where
     pub low : (t l : ℕ) → size ≤ t → Lows t (w.low t l)
     pub branch : (sense : Bool) (to t l : ℕ) → size ≤ t → Dones t (w.branch sense to t l)
     pub drop : (t l : ℕ) → size ≤ t → Dones t (w.drop t l)
+    pub deliver : (to : Destination) (t l : ℕ) → size ≤ t → Reaches scene t to → Dones t (w.deliver to t l)
 
   pub fine_due : (w : Tree) (t l : ℕ) → Ok scene t w → Lows t (due w t l)
   fine_due w t l h = record { grows = omega arith; items = fine_nil scene t; tree = h }
@@ -48,6 +50,7 @@ module _ (scene : Scene) (size count : ℕ) where
     low = h;
     branch = λ sense to t l le. fine_test scene sense to t (f t l) (h t l le);
     drop = λ t l le. fine_dropped scene t (f t l) (h t l le);
+    deliver = λ to t l le r. fine_delivered scene to t (f t l) r (h t l le);
   }
 
   pub fine_effective : (f : ℕ → ℕ → Lowered) (d : ℕ → ℕ → Emitted) → ((t l : ℕ) → size ≤ t → Lows t (f t l))
@@ -56,6 +59,7 @@ module _ (scene : Scene) (size count : ℕ) where
     low = h;
     branch = λ sense to t l le. fine_test scene sense to t (f t l) (h t l le);
     drop = g;
+    deliver = λ to t l le r. fine_delivered scene to t (f t l) r (h t l le);
   }
 
   pub fine_conditional : (f : Bool → ℕ → ℕ → ℕ → Emitted) (d : ℕ → ℕ → Emitted)
@@ -65,11 +69,27 @@ module _ (scene : Scene) (size count : ℕ) where
     low = λ t l le. fine_truth scene t l (f false l (suc t) (suc l)) (h false l (suc t) (suc l) (omega arith));
     branch = h;
     drop = g;
+    deliver = λ to t l le r. fine_delivered scene to t (truth_of t l (f false l (suc t) (suc l))) r
+        (fine_truth scene t l (f false l (suc t) (suc l)) (h false l (suc t) (suc l) (omega arith)));
   }
 
   pub fine_mapped : (f : Tree → Tree) → ((u : ℕ) (w : Tree) → Ok scene u w → Ok scene u (f w)) → (e : Lowering) → FineWay e
       → FineWay (mapped f e)
   fine_mapped f k e h = fine_effective _ _ (λ t l le. fine_over scene f k t (e.low t l) (h.low t l le)) h.drop
+
+  fine_deliver_as : (i : Integer) (e : Lowering) → FineWay e → (to : Destination) (t l : ℕ) → size ≤ t → Reaches scene t to → Dones t (deliver_as i e to t l)
+  fine_deliver_as ints.Char e h to t l le r = fine_delivered scene to t (over (conv ints.Char) (e.low t l)) r (fine_over scene (conv ints.Char) (λ u w k. k) t (e.low t l) (h.low t l le))
+  fine_deliver_as ints.UnsignedChar e h to t l le r = fine_delivered scene to t (over (conv ints.UnsignedChar) (e.low t l)) r
+      (fine_over scene (conv ints.UnsignedChar) (λ u w k. k) t (e.low t l) (h.low t l le))
+  fine_deliver_as ints.Short e h to t l le r = fine_delivered scene to t (over (conv ints.Short) (e.low t l)) r (fine_over scene (conv ints.Short) (λ u w k. k) t (e.low t l) (h.low t l le))
+  fine_deliver_as ints.UnsignedShort e h to t l le r = fine_delivered scene to t (over (conv ints.UnsignedShort) (e.low t l)) r
+      (fine_over scene (conv ints.UnsignedShort) (λ u w k. k) t (e.low t l) (h.low t l le))
+  fine_deliver_as ints.Int e h to t l le r = h.deliver to t l le r
+
+  pub fine_converting : (ty : CType) (e : Lowering) → FineWay e → FineWay (converting ty e)
+  fine_converting ty e h =
+      let w : FineWay (mapped (fitted ty) e) = fine_mapped (fitted ty) (λ u w k. ok_fitted scene ty u w k) e h in
+      record { low = w.low; branch = w.branch; drop = w.drop; deliver = fine_deliver_as (integer_of ty) e h }
 
   fine_joined : (a b : Lowering) → FineWay a → FineWay b → (t l : ℕ) → size ≤ t → FineTwo scene t (Values.joined size count a b t l)
   fine_joined a b h g t l le =
@@ -169,24 +189,52 @@ module _ (scene : Scene) (size count : ℕ) where
             (fine_behind scene r.temps r.items (Label (suc l)) f.items tt tt)));
       }
 
-  pub fine_choose : (c a b : Lowering) → FineWay c → FineWay a → FineWay b → FineWay (choose c a b)
-  fine_choose c a b h g f = fine_effective _ _
-      (λ t l le.
+  fine_choose_deliver : (to : Destination) (t l : ℕ) (p q r : Emitted) → Dones t p → Dones p.temps q → Dones q.temps r → Dones t (choose_deliver to l p q r)
+  fine_choose_deliver (InLocal n) t l p q r h g f = fine_choose_drop t l p q r h g f
+  fine_choose_deliver AsResult t l p q r h g f =
+      let le = h.grows in
+      let le' = g.grows in
+      let le'' = f.grows in
+      record {
+        grows = omega arith;
+        items = fine_three scene r.temps p.items q.items _
+            (fine_up scene p.temps r.temps p.items (omega arith) h.items)
+            (fine_up scene q.temps r.temps q.items le'' g.items)
+            (fine_more scene r.temps (Label l) _ tt tt f.items);
+      }
+
+  fine_choice : (c a b : Lowering) → FineWay c → FineWay a → FineWay b → (t l : ℕ) → size ≤ t → Lows t ((choose c a b).low t l)
+  fine_choice c a b h g f t l le =
       let p = c.branch false l (suc t) (suc (suc l)) in
       let x = h.branch false l (suc t) (suc (suc l)) (omega arith) in
       let lx = x.grows in
       let q = a.low p.temps p.labels in
       let y = g.low p.temps p.labels (omega arith) in
       let ly = y.grows in
-      fine_choose_low t (suc t) l p q (b.low q.temps q.labels) (omega arith) x y (f.low q.temps q.labels (omega arith)))
-      (λ t l le.
-      let p = c.branch false l t (suc (suc l)) in
-      let x = h.branch false l t (suc (suc l)) le in
-      let lx = x.grows in
-      let q = a.drop p.temps p.labels in
-      let y = g.drop p.temps p.labels (omega arith) in
-      let ly = y.grows in
-      fine_choose_drop t l p q (b.drop q.temps q.labels) x y (f.drop q.temps q.labels (omega arith)))
+      fine_choose_low t (suc t) l p q (b.low q.temps q.labels) (omega arith) x y (f.low q.temps q.labels (omega arith))
+
+  pub fine_choose : (c a b : Lowering) → FineWay c → FineWay a → FineWay b → FineWay (choose c a b)
+  fine_choose c a b h g f = record {
+    low = fine_choice c a b h g f;
+    branch = λ sense to t l le. fine_test scene sense to t ((choose c a b).low t l) (fine_choice c a b h g f t l le);
+    drop = λ t l le.
+        let p = c.branch false l t (suc (suc l)) in
+        let x = h.branch false l t (suc (suc l)) le in
+        let lx = x.grows in
+        let q = a.drop p.temps p.labels in
+        let y = g.drop p.temps p.labels (omega arith) in
+        let ly = y.grows in
+        fine_choose_drop t l p q (b.drop q.temps q.labels) x y (f.drop q.temps q.labels (omega arith));
+    deliver = λ to t l le r.
+        let p = c.branch false l t (suc (suc l)) in
+        let x = h.branch false l t (suc (suc l)) le in
+        let lx = x.grows in
+        let q = a.deliver to p.temps p.labels in
+        let y = g.deliver to p.temps p.labels (omega arith) (reaches_up scene t p.temps to lx r) in
+        let ly = y.grows in
+        fine_choose_deliver to t l p q (b.deliver to q.temps q.labels) x y
+        (f.deliver to q.temps q.labels (omega arith) (reaches_up scene t q.temps to (omega arith) r));
+  }
 
   pub fine_comma : (a b : Lowering) → FineWay a → FineWay b → FineWay (comma a b)
   fine_comma a b h g = record {
@@ -209,6 +257,11 @@ module _ (scene : Scene) (size count : ℕ) where
         let lx = x.grows in
         fine_then t p (b.branch sense to p.temps p.labels) x (g.branch sense to p.temps p.labels (omega arith));
     drop = fine_drop_two a b h g;
+    deliver = λ to t l le r.
+        let p = a.drop t l in
+        let x = h.drop t l le in
+        let lx = x.grows in
+        fine_then t p (b.deliver to p.temps p.labels) x (g.deliver to p.temps p.labels (omega arith) (reaches_up scene t p.temps to lx r));
   }
 
   pub fine_unary : (op : UnaryOperator) (e : Lowering) → FineWay e → FineWay (Expressions.unary size count op e)
@@ -247,3 +300,30 @@ module _ (scene : Scene) (size count : ℕ) where
   fine_assigned between t p e le h g =
       let lx = h.grows in
       fine_ready scene _ t p (e.low p.temps p.labels) h (g.low p.temps p.labels (omega arith))
+
+  -- an assignment, also to a local that the value is delivered to
+  pub fine_assign_low : (o : Option ℕ) (t : ℕ) (p : Located) (e : Lowering) → Assignments.local_of size count p ≡ o → size ≤ t → FineFound scene t p → FineWay e
+      → Lows t (Assignments.assign_low size count o p e)
+  fine_assign_low None t p e is le h g = fine_store_low scene t (Assignments.assigned size count true p e.low) (fine_assigned true t p e le h g)
+  fine_assign_low (Some n) t p e is le h g =
+      let lx = h.grows in
+      let lt : n < p.temps = subst (OkWhere scene p.temps) (local_is (integer_of p.type) p.place n is).0 h.place in
+      let s = g.deliver (InLocal n) p.temps p.labels (omega arith) lt in
+      let ls = s.grows in
+      let q = e.deliver (InLocal n) p.temps p.labels in
+      record {
+        grows = omega arith;
+        items = fine_append scene q.temps p.items q.items (fine_up scene p.temps q.temps p.items ls h.items) s.items;
+        tree = omega arith;
+      }
+
+  pub fine_assign_drop : (o : Option ℕ) (t : ℕ) (p : Located) (e : Lowering) → Assignments.local_of size count p ≡ o → size ≤ t → FineFound scene t p → FineWay e
+      → Dones t (Assignments.assign_drop size count o p e)
+  fine_assign_drop None t p e is le h g = fine_store_drop scene t (Assignments.assigned size count false p e.low) (fine_assigned false t p e le h g)
+  fine_assign_drop (Some n) t p e is le h g =
+      let lx = h.grows in
+      let lt : n < p.temps = subst (OkWhere scene p.temps) (local_is (integer_of p.type) p.place n is).0 h.place in
+      let s = g.deliver (InLocal n) p.temps p.labels (omega arith) lt in
+      let ls = s.grows in
+      let q = e.deliver (InLocal n) p.temps p.labels in
+      record { grows = omega arith; items = fine_append scene q.temps p.items q.items (fine_up scene p.temps q.temps p.items ls h.items) s.items }

@@ -30,8 +30,26 @@ decreases-changed l = 4 * (place_size (place_of l.place.now) + size (term l.e.no
 abbrev pub decreases-drop_changed : goal.decreases-drop_changed
 decreases-drop_changed l = 4 * (place_size (place_of l.place.now) + size (term l.e.now)) + 2
 
-abbrev pub decreases-assigned : goal.decreases-assigned
-decreases-assigned l = 4 * (place_size (place_of l.place.now) + size (term l.e.now)) + 1
+abbrev pub decreases-assign_value : goal.decreases-assign_value
+decreases-assign_value l = 4 * (place_size (place_of l.place.now) + size (term l.e.now)) + 3
+
+abbrev pub decreases-assign_effect : goal.decreases-assign_effect
+decreases-assign_effect l = 4 * (place_size (place_of l.place.now) + size (term l.e.now)) + 3
+
+abbrev pub decreases-kept : goal.decreases-kept
+decreases-kept l = 4 * size (term l.e.now) + 1
+
+abbrev pub decreases-deliver_as : goal.decreases-deliver_as
+decreases-deliver_as l = 4 * size (term l.e.now) + 3
+
+abbrev pub decreases-unary_deliver : goal.decreases-unary_deliver
+decreases-unary_deliver l = 4 * size (term l.e.now) + 4
+
+abbrev pub decreases-deliver_chosen : goal.decreases-deliver_chosen
+decreases-deliver_chosen l = 4 * (size (term l.c.now) + size (term l.a.now) + size (term l.b.now)) + 3
+
+abbrev pub decreases-deliver : goal.decreases-deliver
+decreases-deliver l = 4 * size (term l.e.now) + 2
 
 abbrev pub decreases-pass : goal.decreases-pass
 decreases-pass l = 4 * all_size (terms l.es.now)
