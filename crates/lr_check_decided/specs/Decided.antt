@@ -1,5 +1,5 @@
 -- What a decision says.
-use Rattle.std.specs.Prelude.{◌≤◌}
+use Rattle.std.specs.Prelude.{ℕ, ◌<◌, ◌≤◌}
 use Rattle.lr_check_sets.specs.Automaton.{Automaton}
 use Rattle.lr_check_sets.specs.Faults.{NoFault}
 use Rattle.lr_check_found.specs.Count.{HasMore}
@@ -8,9 +8,14 @@ use Rattle.lr_check_complete.specs.Sets.{IsComplete}
 use Rattle.lr_check_decided.specs.declared.deciding.Decision.{Decision}
 use Rattle.lr_check_decided.specs.declared.deciding.Decision.TheVariants.{Fine, Faulty, Full}
 
--- there is no fault, and there are no more sums; all of the sets is found and it has a flaw, and there are no more than 4,000,000 sums; or
+-- the set of sums has so many tuples: no more, and no fewer
+pub record HasSums (A : Automaton) (n : ℕ) : Type 0 where
+  pub few : HasMore A n → ⊥
+  pub many : (m : ℕ) → m < n → HasMore A m
+
+-- there is no fault, and so many sums; all of the sets is found and it has a flaw, and there are no more than 4,000,000 sums; or
 -- there are more than that
 abbrev pub IsSo : Automaton → Decision → Type 0
-IsSo A (Fine tuples) = NoFault A × (HasMore A tuples → ⊥) × (tuples ≤ 4000000)
+IsSo A (Fine tuples) = NoFault A × HasSums A tuples × (tuples ≤ 4000000)
 IsSo A (Faulty found flaw) = IsComplete A found × IsFlaw A found flaw × (HasMore A 4000000 → ⊥)
 IsSo A Full = HasMore A 4000000

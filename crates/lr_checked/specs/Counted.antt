@@ -1,14 +1,15 @@
--- How many sums a description has at most.
+-- How many sums a description has.
 use Rattle.std.specs.Prelude.{◌≡◌, ℕ, ◌≤◌}
 use Rattle.md_reader.specs.State.{Content}
 use Rattle.lr_tables.specs.View.{TableView}
 use Rattle.lr_tables.specs.Promises.{IsNumbered}
 use Rattle.lr_check_sets.specs.Table.{automaton_of}
 use Rattle.lr_check_found.specs.Count.{HasMore}
+use Rattle.lr_check_decided.specs.Decided.{HasSums}
 
--- the set of sums has at most so many tuples, no two of them the same, and these are no more than 4,000,000
+-- the set of sums has so many tuples, no two of them the same, and these are no more than 4,000,000
 pub record IsCounted (t : TableView) (n : ℕ) : Type 0 where
-  pub few : HasMore (automaton_of t) n → ⊥
+  pub sums : HasSums (automaton_of t) n
   pub within : n ≤ 4000000
 
 -- a description's tables, of which there is one alone, have more than 4,000,000 sums

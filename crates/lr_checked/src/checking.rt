@@ -63,8 +63,8 @@ impl Checked {
         self.tables
     }
 
-    /// How many tuples the work has found: a place, and symbols that may replace its subtree. The set of
-    /// sums has no more.
+    /// How many tuples the set of sums has, each a place and symbols that may replace its subtree: at most
+    /// 4,000,000.
     pub fn tuples(&self) -> usize
         ensures { IsCounted self.now result }
     {
