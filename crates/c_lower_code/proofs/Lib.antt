@@ -4,3 +4,4 @@ pub mod Rows
 pub mod Onto
 pub mod Calls
 pub mod Going
+pub mod Straight

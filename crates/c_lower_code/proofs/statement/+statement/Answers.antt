@@ -5,8 +5,8 @@ use Rattle.c_lower_code.specs.Views.{done}
 use Rattle.c_lower_code.proofs.Rows.{row_begins}
 use Rattle.c_lower_code.proofs.statement.+statement.Goals as goal
 
-pub row-loop-a-init : goal.row-loop-a-init
-row-loop-a-init t c = row_begins c.args.frame.locals c.args.frame.functions (done c.nothing-whole.result) (acts c.args.all.now) c.args.broken c.args.onward c.args.l c.nothing-whole.ensures
+pub row-loop-i-init : goal.row-loop-i-init
+row-loop-i-init t c = row_begins c.args.frame.locals c.args.frame.functions (done c.nothing-whole.result) (acts c.args.all.now) c.args.broken c.args.onward c.args.l c.nothing-whole.ensures
 
 pub statement-returns-in-Block : goal.statement-returns-in-Block
 statement-returns-in-Block t c =
