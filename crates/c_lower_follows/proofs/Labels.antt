@@ -445,7 +445,7 @@ module _ (size count : ℕ) where
   once_declare : (ds : List ADeclaration) (rest : SomeActions) (l : ℕ) → Once l (Statements.declare size count ds rest l).labels (Statements.declare size count ds rest l).items
   once_declare [] rest l = once_nil l
   once_declare (KeepOf object ∷ ds) rest l = once_declare ds rest l
-  once_declare (ClearOf n ∷ ds) rest l = 
+  once_declare (ClearOf n ∷ ds) rest l =
       once_front l _ (Flow.clearing (Zeros.is_zeroed n ds rest) n) _ (none_clearing (Zeros.is_zeroed n ds rest) n) (once_declare ds rest l)
   once_declare (BeginOf n e ∷ ds) rest l =
       let q = (Expressions.way size count e).deliver (Parts.InLocal n) size l in
@@ -544,7 +544,7 @@ module _ (size count : ℕ) where
         let q = Statements.unless size count c l (suc (suc l)) in
         let x = Statements.lower size count a NoActions lb lc q.labels in
         once_fork l q.labels x.labels _ q.items x.items _ [] [] (λ m. refl) (λ m. refl) ((once_way c).branch false l size (suc (suc l))) (once_act a NoActions lb lc q.labels)
-            (once_act b NoActions lb lc x.labels)
+        (once_act b NoActions lb lc x.labels)
     once_act (WhileOf c a) rest lb lc l = once_while_by (constant_of c) c (Statements.lower size count a NoActions) l (λ x y m. once_act a NoActions x y m)
     once_act (DoOf a c) rest lb lc l = let x = Statements.lower size count a NoActions (suc (suc l)) (suc l) (suc (suc (suc l))) in once_loop l l x.labels _ x.items _ (once_act a NoActions (suc (suc l)) (suc l) (suc (suc (suc l)))) ((once_way c).branch true l size x.labels)
     once_act (ForOf i c e a) rest lb lc l = let x = Statements.effect size count i l in once_append l x.labels _ x.items _ (once_effect i l) (once_fors c e x.labels (Statements.lower size count a NoActions (suc (suc x.labels)) (suc x.labels)) (λ m. once_act a NoActions (suc (suc x.labels)) (suc x.labels) m))

@@ -669,7 +669,7 @@ module _ (program : TreeProgram) (code : List TreeItem) (callers : List Activati
     for_does : (c e : Option AnExpression) (a : AnAction) (l : ℕ) (scope after outer : ℕ → Type 0) → ((x : ℕ) → scope x → x < size) → FitsMaybe scope c → FitsMaybe scope e
         → ((x : ℕ) → scope x → after x) → ((m : ℕ) → DoesStmt (lower size count a NoActions (suc (suc l)) (suc l) m) (suc (suc l)) (suc l) true scope scope after (stmt p next a))
         → (inside : Bool) (lb lc : ℕ) → DoesStmt (for_of size count l c e (lower size count a NoActions (suc (suc l)) (suc l))) lb lc inside outer scope scope
-            (look_by p next (for_loop c e a) (stmt p next a))
+        (look_by p next (for_loop c e a) (stmt p next a))
     for_does None e a l scope after outer within fit fit' sub body inside lb lc k le is κ res h st d ag =
         let b = lower size count a NoActions (suc (suc l)) (suc l) (suc (suc (suc l))) in
         jump_counts program code callers k l (Label l ∷ ((b.items ++ (Label (suc l) ∷ ((effect size count e b.labels).items ++ (Jump l ∷ Label (suc (suc l)) ∷ [])))) ++ is)) _ d
@@ -755,9 +755,9 @@ module _ (program : TreeProgram) (code : List TreeItem) (callers : List Activati
           let y = lower_row size count row lb lc x.labels in
           let res' = parted x.items y.items is res in
           let go_on : (live' : ℕ → Type 0) → Partly live' (behind_act scope a) [] row → (st1 : State) (d1 : Desk) → fair live' st1 d1
-              → Leads k (stmts p next row κ st1) (from (y.items ++ is) d1) =
-              λ live' part' st1 d1 ag1. rows_by row (behind_act scope a) live' outer base (behind_within size scope inside a fit.0 within) (λ z o. behind_more scope a z (sub z o))
-              (λ z o. behind_more scope a z (sub' z o)) inside fit.1 part' lb lc x.labels k le is κ (resolves_back code x.items (y.items ++ is) res') h st1 d1 ag1 in
+          → Leads k (stmts p next row κ st1) (from (y.items ++ is) d1) =
+          λ live' part' st1 d1 ag1. rows_by row (behind_act scope a) live' outer base (behind_within size scope inside a fit.0 within) (λ z o. behind_more scope a z (sub z o))
+          (λ z o. behind_more scope a z (sub' z o)) inside fit.1 part' lb lc x.labels k le is κ (resolves_back code x.items (y.items ++ is) res') h st1 d1 ag1 in
           joined_at k x.items y.items is d _ (act_does a row scope live outer within sub inside fit.0 part lb lc l k le (y.items ++ is) (followed p next κ (stmts p next row κ)) res'
           (record {
             onward = go_on (behind_act scope a) (wholly (behind_act scope a) [] row);

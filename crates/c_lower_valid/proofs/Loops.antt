@@ -127,7 +127,7 @@ module _ (size count : ℕ) where
       → Marked nowhere l (Statements.declare size count ds rest l).labels (Statements.declare size count ds rest l).items
   marked_declare [] rest l = marked_nil nowhere l
   marked_declare (KeepOf object ∷ ds) rest l = marked_declare ds rest l
-  marked_declare (ClearOf n ∷ ds) rest l = 
+  marked_declare (ClearOf n ∷ ds) rest l =
       marked_front nowhere l _ (Flow.clearing (Zeros.is_zeroed n ds rest) n) _ (mute_clearing (Zeros.is_zeroed n ds rest) n) (marked_declare ds rest l)
   marked_declare (BeginOf n e ∷ ds) rest l =
       let q = (Expressions.way size count e).deliver (Parts.InLocal n) size l in
