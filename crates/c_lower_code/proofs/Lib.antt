@@ -5,3 +5,4 @@ pub mod Onto
 pub mod Calls
 pub mod Going
 pub mod Straight
+pub mod Slices

@@ -1,11 +1,12 @@
 -- Declarations and statements one behind another, and the list of statements behind the row of a block.
-use Rattle.std.proofs.Common.{◌≡◌, ◌≤◌, ℕ, List, [], ◌∷◌, ◌++◌, arith, refl, ap, sym, ◌∙◌, append_assoc}
+use Rattle.std.proofs.Common.{◌≡◌, ◌≤◌, ℕ, List, Bool, [], ◌∷◌, ◌++◌, arith, refl, ap, sym, ◌∙◌, append_assoc}
 use Rattle.std.specs.Prelude.{max}
 use Rattle.std.proofs.lemmas.List.{append-nil}
 use Rattle.c_program.specs.Statements.{ADeclaration, KeepOf, ClearOf, BeginOf, AnAction, SomeActions, NoActions, MoreActions}
 use Rattle.c_lower_scheme.specs.Trees.{Item}
 use Rattle.c_lower_scheme.specs.Parts.{Emitted, nothing}
-use Rattle.c_lower_scheme.specs.Flow.{two_done}
+use Rattle.c_lower_scheme.specs.Zeros.{is_zeroed}
+use Rattle.c_lower_scheme.specs.Flow.{two_done, clearing}
 use Rattle.c_lower_scheme.specs.Statements.{declare, lower, lower_row}
 use Rattle.c_lower_code.specs.Declarations.{one_declared}
 
@@ -67,3 +68,7 @@ module _ (size count : ℕ) where
       let one' = one_declared size count d ds rest w.labels in
       let split = two_assoc w one' (declare size count ds rest one'.labels) in
       ap (λ p. two_done p (declare size count ds rest p.labels)) (put ∙ ap (two_done w) is) ∙ sym split ∙ ap (two_done w) (sym more) ∙ so
+
+  pub clear_is : (n : ℕ) (d : ADeclaration) (ds : List ADeclaration) (rest : SomeActions) (l : ℕ) (b : Bool) → d ≡ ClearOf n → b ≡ is_zeroed n ds rest
+      → one_declared size count d ds rest l ≡ record { items = clearing b n; temps = size; labels = l }
+  clear_is n d ds rest l b is zeroed = ap (λ x. one_declared size count x ds rest l) is ∙ sym (ap (λ x. record { items = clearing x n; temps = size; labels = l }) zeroed)

@@ -7,8 +7,8 @@ ghost use Rattle.c_lower_code.specs.Views.{done};
 
 use crate::expression::{branch, deliver, discard};
 use crate::flow::{
-    begin_of, ever_done, for_done, if_done, if_else_done, jump, loop_done, turns_done, two_done,
-    while_done,
+    begin_of, cleared, ever_done, for_done, if_done, if_else_done, jump, loop_done, turns_done,
+    two_done, while_done,
 };
 use crate::item::Item;
 use crate::mention::mentions;
@@ -74,17 +74,7 @@ fn one_declared(
 {
     match d {
         Declaration::Keep(_) => Ok(nothing(frame.alloc, frame.locals, l)),
-        Declaration::Clear(n) => {
-            let mut items = Vec::new(frame.alloc);
-            if is_zeroed(*n, others, rest) {
-                put(&mut items, Item::AssignLocal(*n, Tree::Number(0)))?;
-            }
-            Ok(Emitted {
-                items,
-                temps: frame.locals,
-                labels: l,
-            })
-        }
+        Declaration::Clear(n) => cleared(frame, is_zeroed(*n, others, rest), *n, l),
         Declaration::Begin(n, e) => begin_of(
             frame.alloc,
             mentions(*n, e),
