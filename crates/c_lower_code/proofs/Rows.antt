@@ -1,8 +1,7 @@
 -- Declarations and statements one behind another, and the list of statements behind the row of a block.
-use Rattle.std.proofs.Common.{◌≡◌, ◌≤◌, ℕ, List, Bool, [], ◌∷◌, ◌++◌, arith, refl, ap, sym, ◌∙◌, append_assoc}
-use Rattle.std.specs.Prelude.{max}
+use Rattle.std.proofs.Common.{◌≡◌, ◌≤◌, ℕ, List, Bool, [], ◌∷◌, arith, refl, ap, sym, ◌∙◌, append_assoc}
 use Rattle.std.proofs.lemmas.List.{append-nil}
-use Rattle.c_program.specs.Statements.{ADeclaration, KeepOf, ClearOf, BeginOf, AnAction, SomeActions, NoActions, MoreActions}
+use Rattle.c_program.specs.Statements.{ADeclaration, KeepOf, ClearOf, BeginOf, SomeActions, NoActions, MoreActions}
 use Rattle.c_lower_scheme.specs.Trees.{Item}
 use Rattle.c_lower_scheme.specs.Parts.{Emitted, nothing}
 use Rattle.c_lower_scheme.specs.Zeros.{is_zeroed}
