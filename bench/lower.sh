@@ -58,6 +58,33 @@ if copy_plain "${C_REFERENCE:-}" lower_plain.rs; then
                 self.full(|s| s.branch(c, to, true));\
             }\
 &/' "$work/plain/src/lower.rs"
+    # It writes each zero of a declaration; here one that is overwritten before anything names its local is not written.
+    sed -i '/^ *TS::Block(b) => {$/i\
+            TS::Block(b) => {\
+                for (n, s) in b.iter().enumerate() {\
+                    match s {\
+                        TS::Decl(i, None) if overwritten(*i, &b[n + 1..], 64) => {}\
+                        _ => self.stmt(s),\
+                    }\
+                }\
+            }' "$work/plain/src/lower.rs"
+    cat >>"$work/plain/src/lower.rs" <<'RS'
+fn sets(i: u32, e: &TE) -> bool {
+    matches!(&e.k, TK::Assign(p, v) if matches!(p.k, TK::Var(V::Auto(j)) if j == i) && !mentions(v, i))
+}
+fn overwritten(i: u32, row: &[TS], ahead: u32) -> bool {
+    let Some((s, rest)) = row.split_first() else { return false };
+    match s {
+        _ if ahead == 0 => false,
+        TS::Decl(_, None) => overwritten(i, rest, ahead - 1),
+        TS::Decl(j, Some(e)) => !mentions(e, i) && (*j == i || overwritten(i, rest, ahead - 1)),
+        TS::Block(b) => overwritten(i, b, ahead - 1),
+        TS::Expr(e) => sets(i, e) || !mentions(e, i) && overwritten(i, rest, ahead - 1),
+        TS::For(Some(e), ..) => sets(i, e),
+        _ => false,
+    }
+}
+RS
     plain=$(build_plain)
 else
     echo "C_REFERENCE names no folder of a plain lowering: answers are not compared"

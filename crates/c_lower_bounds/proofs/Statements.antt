@@ -10,6 +10,7 @@ use Rattle.c_lower_scheme.specs.Trees.{Num, Item, AssignLoc, Jump, Ret}
 use Rattle.c_lower_scheme.specs.Parts.{Emitted, InLocal, AsResult, nothing}
 use Rattle.c_lower_scheme.specs.Expressions.{way}
 use Rattle.c_lower_scheme.specs.Mentions.{mentions}
+use Rattle.c_lower_scheme.specs.Zeros.{is_zeroed}
 use Rattle.c_lower_scheme.specs.Flow.{two_done, clearing, begin_of, if_done, if_else_done, loop_done, while_done, turns_done, for_done, ever_done}
 use Rattle.c_lower_scheme.specs.Statements.{unless, when, effect, returning, declare, while_by, for_tested, for_of, lower, lower_row, going, if_by}
 use Rattle.c_lower_bounds.proofs.Trees.{item_forks, Narrow, none, next, behind}
@@ -106,14 +107,17 @@ module _ (size count m : ℕ) (one : 1 ≤ m) where
   returning_holds None le l = one_holds (Ret (Num 0)) (omega arith) l
   returning_holds (Some e) le l = ends_hold 2 (omega arith) le ((way_bounded size count e).deliver AsResult size l)
 
-  declare_holds : (ds : List ADeclaration) → declared_nodes ds ≤ m → (l : ℕ) → Holds size m (declare size count ds l)
-  declare_holds [] le l = nothing_holds l
-  declare_holds (KeepOf object ∷ ds) le l = declare_holds ds (omega arith) l
-  declare_holds (ClearOf n ∷ ds) le l = two_hold (one_holds (AssignLoc n (Num 0)) (omega arith) l) (declare_holds ds (omega arith) l)
-  declare_holds (BeginOf n e ∷ ds) le l =
+  clearing_holds : (b : Bool) (n l : ℕ) → Holds size m (record { items = clearing b n; temps = size; labels = l })
+  clearing_holds b n l = record { temps = omega arith; items = narrow_clearing b n m one }
+
+  declare_holds : (ds : List ADeclaration) (rest : SomeActions) → declared_nodes ds ≤ m → (l : ℕ) → Holds size m (declare size count ds rest l)
+  declare_holds [] rest le l = nothing_holds l
+  declare_holds (KeepOf object ∷ ds) rest le l = declare_holds ds rest (omega arith) l
+  declare_holds (ClearOf n ∷ ds) rest le l = two_hold (clearing_holds (is_zeroed n ds rest) n l) (declare_holds ds rest (omega arith) l)
+  declare_holds (BeginOf n e ∷ ds) rest le l =
       let p : Emitted = (way size count e).deliver (InLocal n) size l in
       let first = begin_holds (mentions n e) n one (omega arith) ((way_bounded size count e).deliver (InLocal n) size l) in
-      two_hold first (declare_holds ds (omega arith) p.labels)
+      two_hold first (declare_holds ds rest (omega arith) p.labels)
 
   if_by_holds : (o : Option ℕ) (l : ℕ) (c : AnExpression) (f : ℕ → Emitted) → nodes c ≤ m → ((k : ℕ) → Holds size m (f k)) → Holds size m (if_by size count o c f l)
   if_by_holds (Some to) l c f le h = when_holds c le to l
@@ -150,36 +154,36 @@ module _ (size count m : ℕ) (one : 1 ≤ m) where
   rest_holds l (Some c) e f lc le h = tested_holds (constant_of c) l c e f lc le h
 
   mutual
-    pub lower_holds : (a : AnAction) → largest a ≤ m → (lb lc l : ℕ) → Holds size m (lower size count a lb lc l)
-    lower_holds (DeclareOf ds) le lb lc l = declare_holds ds le l
-    lower_holds (BlockOf row) le lb lc l = row_holds row le lb lc l
-    lower_holds (EvaluateOf e) le lb lc l = drop_holds e le l
-    lower_holds BreakOf le lb lc l = one_holds (Jump lb) (omega arith) l
-    lower_holds ContinueOf le lb lc l = one_holds (Jump lc) (omega arith) l
-    lower_holds (ReturnOf e) le lb lc l = returning_holds e le l
-    lower_holds (IfOf c a) le lb lc l =
-        let part : (k : ℕ) → Holds size m (lower size count a lb lc k) = lower_holds a (omega arith) lb lc in
-        if_by_holds (going a lb lc) l c (lower size count a lb lc) (omega arith) part
-    lower_holds (IfElseOf c a b) le lb lc l =
+    pub lower_holds : (a : AnAction) (rest : SomeActions) → largest a ≤ m → (lb lc l : ℕ) → Holds size m (lower size count a rest lb lc l)
+    lower_holds (DeclareOf ds) rest le lb lc l = declare_holds ds rest le l
+    lower_holds (BlockOf row) rest le lb lc l = row_holds row le lb lc l
+    lower_holds (EvaluateOf e) rest le lb lc l = drop_holds e le l
+    lower_holds BreakOf rest le lb lc l = one_holds (Jump lb) (omega arith) l
+    lower_holds ContinueOf rest le lb lc l = one_holds (Jump lc) (omega arith) l
+    lower_holds (ReturnOf e) rest le lb lc l = returning_holds e le l
+    lower_holds (IfOf c a) rest le lb lc l =
+        let part : (k : ℕ) → Holds size m (lower size count a NoActions lb lc k) = lower_holds a NoActions (omega arith) lb lc in
+        if_by_holds (going a lb lc) l c (lower size count a NoActions lb lc) (omega arith) part
+    lower_holds (IfElseOf c a b) rest le lb lc l =
         let p : Emitted = unless size count c l (suc (suc l)) in
-        let q : Emitted = lower size count a lb lc p.labels in
+        let q : Emitted = lower size count a NoActions lb lc p.labels in
         let test = unless_holds c (omega arith) l (suc (suc l)) in
-        if_else_holds l test (lower_holds a (omega arith) lb lc p.labels) (lower_holds b (omega arith) lb lc q.labels)
-    lower_holds (WhileOf c a) le lb lc l =
-        let turns : (x y k : ℕ) → Holds size m (lower size count a x y k) = lower_holds a (omega arith) in
-        while_by_holds (constant_of c) l c (lower size count a) (omega arith) turns
-    lower_holds (DoOf a c) le lb lc l =
-        let q : Emitted = lower size count a (suc (suc l)) (suc l) (suc (suc (suc l))) in
-        loop_holds l l (lower_holds a (omega arith) (suc (suc l)) (suc l) (suc (suc (suc l)))) (when_holds c (omega arith) l q.labels)
-    lower_holds (ForOf i c e a) le lb lc l =
+        if_else_holds l test (lower_holds a NoActions (omega arith) lb lc p.labels) (lower_holds b NoActions (omega arith) lb lc q.labels)
+    lower_holds (WhileOf c a) rest le lb lc l =
+        let turns : (x y k : ℕ) → Holds size m (lower size count a NoActions x y k) = lower_holds a NoActions (omega arith) in
+        while_by_holds (constant_of c) l c (lower size count a NoActions) (omega arith) turns
+    lower_holds (DoOf a c) rest le lb lc l =
+        let q : Emitted = lower size count a NoActions (suc (suc l)) (suc l) (suc (suc (suc l))) in
+        loop_holds l l (lower_holds a NoActions (omega arith) (suc (suc l)) (suc l) (suc (suc (suc l)))) (when_holds c (omega arith) l q.labels)
+    lower_holds (ForOf i c e a) rest le lb lc l =
         let p : Emitted = effect size count i l in
         let k : ℕ = p.labels in
-        let body : ℕ → Emitted = lower size count a (suc (suc k)) (suc k) in
-        let turns : (n : ℕ) → Holds size m (body n) = lower_holds a (omega arith) (suc (suc k)) (suc k) in
+        let body : ℕ → Emitted = lower size count a NoActions (suc (suc k)) (suc k) in
+        let turns : (n : ℕ) → Holds size m (body n) = lower_holds a NoActions (omega arith) (suc (suc k)) (suc k) in
         two_hold (effect_holds i (omega arith) l) (rest_holds k c e body (omega arith) (omega arith) turns)
 
     pub row_holds : (row : SomeActions) → largest_of row ≤ m → (lb lc l : ℕ) → Holds size m (lower_row size count row lb lc l)
     row_holds NoActions le lb lc l = nothing_holds l
     row_holds (MoreActions a row) le lb lc l =
-        let p : Emitted = lower size count a lb lc l in
-        two_hold (lower_holds a (omega arith) lb lc l) (row_holds row (omega arith) lb lc p.labels)
+        let p : Emitted = lower size count a row lb lc l in
+        two_hold (lower_holds a row (omega arith) lb lc l) (row_holds row (omega arith) lb lc p.labels)

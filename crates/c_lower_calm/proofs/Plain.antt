@@ -230,8 +230,8 @@ calm_item i h = item_back i (by (spelled i) refl)
 
 pub plain_is_one_tree : PlainIsOneTree
 plain_is_one_tree = record {
-  returns = λ size count lb lc l e p h. plain_deliver size count e p (calm_item (returned e) h) AsResult size l;
-  stores = λ size count lb lc l p e pp pe h.
+  returns = λ size count lb lc l rest e p h. plain_deliver size count e p (calm_item (returned e) h) AsResult size l;
+  stores = λ size count lb lc l rest p e pp pe h.
       let c = parts_of size count (type_at p) (place_at p) (plain_tree e) (calm_item (stored p e) h) in
       ap (λ (x : Located). assign_drop size count (local_of size count x) x (way size count e)) (place_due size count p pp c.0 size l)
       ∙ assigned_due size count (local_in (integer_of (type_at p)) (place_at p)) (type_at p) (place_at p) e refl pe c.1 c.2 size l;

@@ -70,17 +70,17 @@ IsNever (ForOf i c e a) = ⊥
 module _ (size count : ℕ) where
   -- the items of a `for` behind its first part
   abbrev for_items : Option AnExpression → Option AnExpression → AnAction → ℕ → List Item
-  for_items c e a m = (for_of size count m c e (lower size count a (suc (suc m)) (suc m))).items
+  for_items c e a m = (for_of size count m c e (lower size count a NoActions (suc (suc m)) (suc m))).items
 
-  return_one : (e : Option AnExpression) (lb lc l : ℕ) (i : Item) → IsPlainOne (ReturnOf e) i → SpellsCalm i →
-      spelled_all (lower size count (ReturnOf e) lb lc l).items ≡ spelled i ∷ []
-  return_one _ lb lc l _ (Returns e plain) calm =
-      ap (λ (p : Emitted). spelled_all p.items) (plain_is_one_tree.returns size count lb lc l e plain calm)
+  return_one : (e : Option AnExpression) (rest : SomeActions) (lb lc l : ℕ) (i : Item) → IsPlainOne (ReturnOf e) i → SpellsCalm i →
+      spelled_all (lower size count (ReturnOf e) rest lb lc l).items ≡ spelled i ∷ []
+  return_one _ rest lb lc l _ (Returns e plain) calm =
+      ap (λ (p : Emitted). spelled_all p.items) (plain_is_one_tree.returns size count lb lc l rest e plain calm)
 
-  evaluate_one : (e : AnExpression) (lb lc l : ℕ) (i : Item) → IsPlainOne (EvaluateOf e) i → SpellsCalm i →
-      spelled_all (lower size count (EvaluateOf e) lb lc l).items ≡ spelled i ∷ []
-  evaluate_one _ lb lc l _ (Stores p e place plain) calm =
-      ap (λ (q : Emitted). spelled_all q.items) (plain_is_one_tree.stores size count lb lc l p e place plain calm)
+  evaluate_one : (e : AnExpression) (rest : SomeActions) (lb lc l : ℕ) (i : Item) → IsPlainOne (EvaluateOf e) i → SpellsCalm i →
+      spelled_all (lower size count (EvaluateOf e) rest lb lc l).items ≡ spelled i ∷ []
+  evaluate_one _ rest lb lc l _ (Stores p e place plain) calm =
+      ap (λ (q : Emitted). spelled_all q.items) (plain_is_one_tree.stores size count lb lc l rest p e place plain calm)
 
   never_one : (a : AnAction) → IsNever a → (items : List Item) (i : Item) → IsPlainOne a i → SpellsCalm i → spelled_all items ≡ spelled i ∷ []
   never_one _ never items _ (Returns e plain) calm = absurd never
@@ -109,73 +109,73 @@ module _ (size count : ℕ) where
     alone_away (MoreActions a (MoreActions b row)) lb lc to items acts e behind h = absurd (cc)
 
   if_stands : (o : Option ℕ) (c : AnExpression) (a : AnAction) (lb lc l : ℕ) (acts : List AnAction) → going a lb lc ≡ o →
-      ((k : ℕ) → Onto (lower size count a lb lc k).items (simple a) acts) → Onto (if_by size count o c (lower size count a lb lc) l).items (simple a) acts
+      ((k : ℕ) → Onto (lower size count a NoActions lb lc k).items (simple a) acts) → Onto (if_by size count o c (lower size count a NoActions lb lc) l).items (simple a) acts
   if_stands (Some to) c a lb lc l acts e body = away_stands a lb lc to (when size count c to l).items acts e
   if_stands None c a lb lc l acts e body =
       let p = unless size count c l (suc l) in
-      second p.items _ (simple a) acts (first (lower size count a lb lc p.labels).items _ (simple a) acts (body p.labels))
+      second p.items _ (simple a) acts (first (lower size count a NoActions lb lc p.labels).items _ (simple a) acts (body p.labels))
 
   -- a `while` by its body's items
   while_stands : (o : Option ℕ) (c : AnExpression) (a : AnAction) (l : ℕ) (acts : List AnAction) →
-      ((lb lc k : ℕ) → Onto (lower size count a lb lc k).items (simple a) acts) → Onto (while_by size count o c (lower size count a) l).items (simple a) acts
+      ((lb lc k : ℕ) → Onto (lower size count a NoActions lb lc k).items (simple a) acts) → Onto (while_by size count o c (lower size count a NoActions) l).items (simple a) acts
   while_stands (Some v) c a l acts body =
       let p = unless size count c (suc l) (suc (suc l)) in
       second (Label l ∷ []) _ (simple a) acts
-      (second p.items _ (simple a) acts (first (lower size count a (suc l) l p.labels).items _ (simple a) acts (body (suc l) l p.labels)))
+      (second p.items _ (simple a) acts (first (lower size count a NoActions (suc l) l p.labels).items _ (simple a) acts (body (suc l) l p.labels)))
   while_stands None c a l acts body =
       second (Jump (suc l) ∷ Label l ∷ []) _ (simple a) acts
-      (first (lower size count a (suc (suc l)) (suc l) (suc (suc (suc l)))).items _ (simple a) acts (body (suc (suc l)) (suc l) (suc (suc (suc l)))))
+      (first (lower size count a NoActions (suc (suc l)) (suc l) (suc (suc (suc l)))).items _ (simple a) acts (body (suc (suc l)) (suc l) (suc (suc (suc l)))))
 
   -- a `for` behind its first part, by its body's items
   tested_stands : (o : Option ℕ) (c : AnExpression) (e : Option AnExpression) (a : AnAction) (m : ℕ) (acts : List AnAction) →
-      ((l : ℕ) → Onto (lower size count a (suc (suc m)) (suc m) l).items (simple a) acts) →
-      Onto (for_tested size count o m c e (lower size count a (suc (suc m)) (suc m))).items (simple a) acts
+      ((l : ℕ) → Onto (lower size count a NoActions (suc (suc m)) (suc m) l).items (simple a) acts) →
+      Onto (for_tested size count o m c e (lower size count a NoActions (suc (suc m)) (suc m))).items (simple a) acts
   tested_stands (Some v) c e a m acts body =
       let p = unless size count c (suc (suc m)) (suc (suc (suc m))) in
       second (Label m ∷ []) _ (simple a) acts
-      (second p.items _ (simple a) acts (first (lower size count a (suc (suc m)) (suc m) p.labels).items _ (simple a) acts (body p.labels)))
+      (second p.items _ (simple a) acts (first (lower size count a NoActions (suc (suc m)) (suc m) p.labels).items _ (simple a) acts (body p.labels)))
   tested_stands None c e a m acts body =
       second (Jump (suc (suc (suc m))) ∷ Label m ∷ []) _ (simple a) acts
-      (first (lower size count a (suc (suc m)) (suc m) (suc (suc (suc (suc m))))).items _ (simple a) acts (body (suc (suc (suc (suc m))))))
+      (first (lower size count a NoActions (suc (suc m)) (suc m) (suc (suc (suc (suc m))))).items _ (simple a) acts (body (suc (suc (suc (suc m))))))
 
   for_stands : (c e : Option AnExpression) (a : AnAction) (m : ℕ) (acts : List AnAction) →
-      ((l : ℕ) → Onto (lower size count a (suc (suc m)) (suc m) l).items (simple a) acts) → Onto (for_items c e a m) (simple a) acts
+      ((l : ℕ) → Onto (lower size count a NoActions (suc (suc m)) (suc m) l).items (simple a) acts) → Onto (for_items c e a m) (simple a) acts
   for_stands None e a m acts body =
       second (Jump m ∷ Label m ∷ []) _ (simple a) acts
-      (first (lower size count a (suc (suc m)) (suc m) (suc (suc (suc m)))).items _ (simple a) acts (body (suc (suc (suc m)))))
+      (first (lower size count a NoActions (suc (suc m)) (suc m) (suc (suc (suc m)))).items _ (simple a) acts (body (suc (suc (suc m)))))
   for_stands (Some c) e a m acts body = tested_stands (constant_of c) c e a m acts body
 
   mutual
-    act_stands : (a : AnAction) (lb lc l : ℕ) (acts : List AnAction) → Onto (lower size count a lb lc l).items (simple a) acts
-    act_stands (DeclareOf ds) lb lc l acts =
-        own_items (DeclareOf ds) acts (lower size count (DeclareOf ds) lb lc l).items (never_one (DeclareOf ds) tt (lower size count (DeclareOf ds) lb lc l).items)
-    act_stands (BlockOf row) lb lc l acts = row_stands row lb lc l acts
-    act_stands (EvaluateOf e) lb lc l acts = own_items (EvaluateOf e) acts (lower size count (EvaluateOf e) lb lc l).items (evaluate_one e lb lc l)
-    act_stands BreakOf lb lc l acts = own_items BreakOf acts (lower size count BreakOf lb lc l).items (never_one BreakOf tt (lower size count BreakOf lb lc l).items)
-    act_stands ContinueOf lb lc l acts = own_items ContinueOf acts (lower size count ContinueOf lb lc l).items (never_one ContinueOf tt (lower size count ContinueOf lb lc l).items)
-    act_stands (ReturnOf e) lb lc l acts = own_items (ReturnOf e) acts (lower size count (ReturnOf e) lb lc l).items (return_one e lb lc l)
-    act_stands (IfOf c a) lb lc l acts = if_stands (going a lb lc) c a lb lc l acts refl (λ k. act_stands a lb lc k acts)
-    act_stands (IfElseOf c a b) lb lc l acts =
+    act_stands : (a : AnAction) (rest : SomeActions) (lb lc l : ℕ) (acts : List AnAction) → Onto (lower size count a rest lb lc l).items (simple a) acts
+    act_stands (DeclareOf ds) rest lb lc l acts =
+        own_items (DeclareOf ds) acts (lower size count (DeclareOf ds) rest lb lc l).items (never_one (DeclareOf ds) tt (lower size count (DeclareOf ds) rest lb lc l).items)
+    act_stands (BlockOf row) rest lb lc l acts = row_stands row lb lc l acts
+    act_stands (EvaluateOf e) rest lb lc l acts = own_items (EvaluateOf e) acts (lower size count (EvaluateOf e) rest lb lc l).items (evaluate_one e rest lb lc l)
+    act_stands BreakOf rest lb lc l acts = own_items BreakOf acts (lower size count BreakOf rest lb lc l).items (never_one BreakOf tt (lower size count BreakOf rest lb lc l).items)
+    act_stands ContinueOf rest lb lc l acts = own_items ContinueOf acts (lower size count ContinueOf rest lb lc l).items (never_one ContinueOf tt (lower size count ContinueOf rest lb lc l).items)
+    act_stands (ReturnOf e) rest lb lc l acts = own_items (ReturnOf e) acts (lower size count (ReturnOf e) rest lb lc l).items (return_one e rest lb lc l)
+    act_stands (IfOf c a) rest lb lc l acts = if_stands (going a lb lc) c a lb lc l acts refl (λ k. act_stands a NoActions lb lc k acts)
+    act_stands (IfElseOf c a b) rest lb lc l acts =
         let p = unless size count c l (suc (suc l)) in
-        let x = lower size count a lb lc p.labels in
-        let y = lower size count b lb lc x.labels in
+        let x = lower size count a NoActions lb lc p.labels in
+        let y = lower size count b NoActions lb lc x.labels in
         second p.items _ (simple a ++ simple b) acts
-        (joined x.items _ (simple a) (simple b) acts (act_stands a lb lc p.labels (simple b ++ acts))
-        (second (Jump (suc l) ∷ Label l ∷ []) _ (simple b) acts (first y.items _ (simple b) acts (act_stands b lb lc x.labels acts))))
-    act_stands (WhileOf c a) lb lc l acts = while_stands (constant_of c) c a l acts (λ x y k. act_stands a x y k acts)
-    act_stands (DoOf a c) lb lc l acts =
-        let x = lower size count a (suc (suc l)) (suc l) (suc (suc (suc l))) in
+        (joined x.items _ (simple a) (simple b) acts (act_stands a NoActions lb lc p.labels (simple b ++ acts))
+        (second (Jump (suc l) ∷ Label l ∷ []) _ (simple b) acts (first y.items _ (simple b) acts (act_stands b NoActions lb lc x.labels acts))))
+    act_stands (WhileOf c a) rest lb lc l acts = while_stands (constant_of c) c a l acts (λ x y k. act_stands a NoActions x y k acts)
+    act_stands (DoOf a c) rest lb lc l acts =
+        let x = lower size count a NoActions (suc (suc l)) (suc l) (suc (suc (suc l))) in
         second (Jump l ∷ Label l ∷ []) _ (simple a) acts
-        (first x.items _ (simple a) acts (act_stands a (suc (suc l)) (suc l) (suc (suc (suc l))) acts))
-    act_stands (ForOf i c e a) lb lc l acts =
+        (first x.items _ (simple a) acts (act_stands a NoActions (suc (suc l)) (suc l) (suc (suc (suc l))) acts))
+    act_stands (ForOf i c e a) rest lb lc l acts =
         let m = (effect size count i l).labels in
-        second (effect size count i l).items _ (simple a) acts (for_stands c e a m acts (λ k. act_stands a (suc (suc m)) (suc m) k acts))
+        second (effect size count i l).items _ (simple a) acts (for_stands c e a m acts (λ k. act_stands a NoActions (suc (suc m)) (suc m) k acts))
 
     row_stands : (row : SomeActions) (lb lc l : ℕ) (acts : List AnAction) → Onto (lower_row size count row lb lc l).items (simple_of row) acts
     row_stands NoActions lb lc l acts = others [] acts
     row_stands (MoreActions a row) lb lc l acts =
-        let x = lower size count a lb lc l in
-        joined x.items _ (simple a) (simple_of row) acts (act_stands a lb lc l (simple_of row ++ acts)) (row_stands row lb lc x.labels acts)
+        let x = lower size count a row lb lc l in
+        joined x.items _ (simple a) (simple_of row) acts (act_stands a row lb lc l (simple_of row ++ acts)) (row_stands row lb lc x.labels acts)
 
 function_stands : (count l : ℕ) (g : ARoutine) → HaveItems (simple_of g.body) (function_of g (body_of count g l)).items
 function_stands count l g =

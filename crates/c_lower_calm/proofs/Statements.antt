@@ -8,6 +8,7 @@ use Rattle.c_program.specs.Statements.{ReturnOf, IfOf, IfElseOf, WhileOf, DoOf, 
 use Rattle.c_lower_scheme.specs.Parts.{Emitted, InLocal, AsResult}
 use Rattle.c_lower_scheme.specs.Expressions.{way}
 use Rattle.c_lower_scheme.specs.Mentions.{mentions}
+use Rattle.c_lower_scheme.specs.Zeros.{is_zeroed}
 use Rattle.c_lower_scheme.specs.Flow.{clearing}
 use Rattle.c_lower_scheme.specs.Statements.{unless, effect, returning, declare, while_by, for_tested, for_of, lower, lower_row, going, if_by}
 use Rattle.c_lower_calm.proofs.Trees.{AreCalm, none, next, behind}
@@ -26,13 +27,13 @@ module _ (size count : ℕ) where
   returning_calm None l = next tt none
   returning_calm (Some e) l = (way_calm size count e).deliver AsResult size l
 
-  declare_calm : (ds : List ADeclaration) (l : ℕ) → AreCalm (declare size count ds l).items
-  declare_calm [] l = none
-  declare_calm (KeepOf object ∷ ds) l = declare_calm ds l
-  declare_calm (ClearOf n ∷ ds) l = next tt (declare_calm ds l)
-  declare_calm (BeginOf n e ∷ ds) l =
+  declare_calm : (ds : List ADeclaration) (rest : SomeActions) (l : ℕ) → AreCalm (declare size count ds rest l).items
+  declare_calm [] rest l = none
+  declare_calm (KeepOf object ∷ ds) rest l = declare_calm ds rest l
+  declare_calm (ClearOf n ∷ ds) rest l = behind (calm_clearing (is_zeroed n ds rest) n) (declare_calm ds rest l)
+  declare_calm (BeginOf n e ∷ ds) rest l =
       let p : Emitted = (way size count e).deliver (InLocal n) size l in
-      behind (behind (calm_clearing (mentions n e) n) ((way_calm size count e).deliver (InLocal n) size l)) (declare_calm ds p.labels)
+      behind (behind (calm_clearing (mentions n e) n) ((way_calm size count e).deliver (InLocal n) size l)) (declare_calm ds rest p.labels)
 
   if_by_calm : (o : Option ℕ) (l : ℕ) (c : AnExpression) (f : ℕ → Emitted) → ((k : ℕ) → AreCalm (f k).items) → AreCalm (if_by size count o c f l).items
   if_by_calm (Some to) l c f h = (way_calm size count c).branch true to size l
@@ -70,31 +71,31 @@ module _ (size count : ℕ) where
   turns_calm l (Some c) e f h = tested_calm (constant_of c) l c e f h
 
   mutual
-    lower_calm : (a : AnAction) (lb lc l : ℕ) → AreCalm (lower size count a lb lc l).items
-    lower_calm (DeclareOf ds) lb lc l = declare_calm ds l
-    lower_calm (BlockOf row) lb lc l = row_calm row lb lc l
-    lower_calm (EvaluateOf e) lb lc l = (way_calm size count e).drop size l
-    lower_calm BreakOf lb lc l = next tt none
-    lower_calm ContinueOf lb lc l = next tt none
-    lower_calm (ReturnOf e) lb lc l = returning_calm e l
-    lower_calm (IfOf c a) lb lc l = if_by_calm (going a lb lc) l c (lower size count a lb lc) (lower_calm a lb lc)
-    lower_calm (IfElseOf c a b) lb lc l =
+    lower_calm : (a : AnAction) (rest : SomeActions) (lb lc l : ℕ) → AreCalm (lower size count a rest lb lc l).items
+    lower_calm (DeclareOf ds) rest lb lc l = declare_calm ds rest l
+    lower_calm (BlockOf row) rest lb lc l = row_calm row lb lc l
+    lower_calm (EvaluateOf e) rest lb lc l = (way_calm size count e).drop size l
+    lower_calm BreakOf rest lb lc l = next tt none
+    lower_calm ContinueOf rest lb lc l = next tt none
+    lower_calm (ReturnOf e) rest lb lc l = returning_calm e l
+    lower_calm (IfOf c a) rest lb lc l = if_by_calm (going a lb lc) l c (lower size count a NoActions lb lc) (lower_calm a NoActions lb lc)
+    lower_calm (IfElseOf c a b) rest lb lc l =
         let p : Emitted = unless size count c l (suc (suc l)) in
-        let q : Emitted = lower size count a lb lc p.labels in
-        let last = next tt (next tt (behind (lower_calm b lb lc q.labels) (next tt none))) in
-        behind ((way_calm size count c).branch false l size (suc (suc l))) (behind (lower_calm a lb lc p.labels) last)
-    lower_calm (WhileOf c a) lb lc l = while_by_calm (constant_of c) l c (lower size count a) (lower_calm a)
-    lower_calm (DoOf a c) lb lc l =
-        let q : Emitted = lower size count a (suc (suc l)) (suc l) (suc (suc (suc l))) in
+        let q : Emitted = lower size count a NoActions lb lc p.labels in
+        let last = next tt (next tt (behind (lower_calm b NoActions lb lc q.labels) (next tt none))) in
+        behind ((way_calm size count c).branch false l size (suc (suc l))) (behind (lower_calm a NoActions lb lc p.labels) last)
+    lower_calm (WhileOf c a) rest lb lc l = while_by_calm (constant_of c) l c (lower size count a NoActions) (lower_calm a NoActions)
+    lower_calm (DoOf a c) rest lb lc l =
+        let q : Emitted = lower size count a NoActions (suc (suc l)) (suc l) (suc (suc (suc l))) in
         let last = next tt (behind ((way_calm size count c).branch true l size q.labels) (next tt none)) in
-        next tt (next tt (behind (lower_calm a (suc (suc l)) (suc l) (suc (suc (suc l)))) last))
-    lower_calm (ForOf i c e a) lb lc l =
+        next tt (next tt (behind (lower_calm a NoActions (suc (suc l)) (suc l) (suc (suc (suc l)))) last))
+    lower_calm (ForOf i c e a) rest lb lc l =
         let p : Emitted = effect size count i l in
         let k : ℕ = p.labels in
-        behind (effect_calm i l) (turns_calm k c e (lower size count a (suc (suc k)) (suc k)) (lower_calm a (suc (suc k)) (suc k)))
+        behind (effect_calm i l) (turns_calm k c e (lower size count a NoActions (suc (suc k)) (suc k)) (lower_calm a NoActions (suc (suc k)) (suc k)))
 
     pub row_calm : (row : SomeActions) (lb lc l : ℕ) → AreCalm (lower_row size count row lb lc l).items
     row_calm NoActions lb lc l = none
     row_calm (MoreActions a row) lb lc l =
-        let p : Emitted = lower size count a lb lc l in
-        behind (lower_calm a lb lc l) (row_calm row lb lc p.labels)
+        let p : Emitted = lower size count a row lb lc l in
+        behind (lower_calm a row lb lc l) (row_calm row lb lc p.labels)

@@ -86,7 +86,7 @@ PlainStatementsAreOneTree = (p : AProgram) → PlainStatementsStand p (lowered p
 
 -- A plain statement whose tree is calm is that one tree.
 pub record PlainIsOneTree : Type 0 where
-  pub returns : (size count lb lc l : ℕ) (e : AnExpression) → Plain e → SpellsCalm (returned e)
-      → lower size count (ReturnOf (Some e)) lb lc l ≡ only (returned e) size l
-  pub stores : (size count lb lc l : ℕ) (p : APlace) (e : AnExpression) → PlainPlace p → Plain e → SpellsCalm (stored p e)
-      → lower size count (EvaluateOf (AssignTo p e)) lb lc l ≡ only (stored p e) size l
+  pub returns : (size count lb lc l : ℕ) (rest : SomeActions) (e : AnExpression) → Plain e → SpellsCalm (returned e)
+      → lower size count (ReturnOf (Some e)) rest lb lc l ≡ only (returned e) size l
+  pub stores : (size count lb lc l : ℕ) (rest : SomeActions) (p : APlace) (e : AnExpression) → PlainPlace p → Plain e → SpellsCalm (stored p e)
+      → lower size count (EvaluateOf (AssignTo p e)) rest lb lc l ≡ only (stored p e) size l

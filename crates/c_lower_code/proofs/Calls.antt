@@ -8,7 +8,7 @@ use Rattle.c_types.specs.declared.typed.Direction.{Direction}
 use Rattle.c_types.specs.declared.typed.Place.{Place}
 use Rattle.c_types.specs.declared.typed.Expression.{Expression}
 use Rattle.c_types.specs.declared.typed.Expression.TheVariants as typeds
-use Rattle.c_types.specs.Typed.{CallOf, term, terms, place_of}
+use Rattle.c_types.specs.Typed.{term, terms, place_of}
 use Rattle.c_types.proofs.Rows.{call_is}
 use Rattle.c_lower_scheme.specs.Parts.{Lowered, Passing, Located, Emitted, Destination}
 use Rattle.c_lower_scheme.specs.Calls.{called_low, called_drop, called_deliver, callee_number}

@@ -4,3 +4,5 @@ pub mod Rows
 pub mod Onto
 pub mod Calls
 pub mod Going
+pub mod Straight
+pub mod Slices

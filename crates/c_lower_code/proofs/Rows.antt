@@ -1,11 +1,11 @@
 -- Declarations and statements one behind another, and the list of statements behind the row of a block.
-use Rattle.std.proofs.Common.{◌≡◌, ◌≤◌, ℕ, List, [], ◌∷◌, ◌++◌, arith, refl, ap, sym, ◌∙◌, append_assoc}
-use Rattle.std.specs.Prelude.{max}
+use Rattle.std.proofs.Common.{◌≡◌, ◌≤◌, ℕ, List, Bool, [], ◌∷◌, arith, refl, ap, sym, ◌∙◌, append_assoc}
 use Rattle.std.proofs.lemmas.List.{append-nil}
-use Rattle.c_program.specs.Statements.{ADeclaration, KeepOf, ClearOf, BeginOf, AnAction, SomeActions, NoActions, MoreActions}
+use Rattle.c_program.specs.Statements.{ADeclaration, KeepOf, ClearOf, BeginOf, SomeActions, NoActions, MoreActions}
 use Rattle.c_lower_scheme.specs.Trees.{Item}
 use Rattle.c_lower_scheme.specs.Parts.{Emitted, nothing}
-use Rattle.c_lower_scheme.specs.Flow.{two_done}
+use Rattle.c_lower_scheme.specs.Zeros.{is_zeroed}
+use Rattle.c_lower_scheme.specs.Flow.{two_done, clearing}
 use Rattle.c_lower_scheme.specs.Statements.{declare, lower, lower_row}
 use Rattle.c_lower_code.specs.Declarations.{one_declared}
 
@@ -27,21 +27,21 @@ pub two_assoc : (a b c : Emitted) → two_done a (two_done b c) ≡ two_done (tw
 two_assoc a b c = done_is _ _ _ _ _ _ (sym (append_assoc a.items b.items c.items)) (omega arith) refl
 
 module _ (size count : ℕ) where
-  pub declare_temps : (ds : List ADeclaration) (l : ℕ) → size ≤ (declare size count ds l).temps
-  declare_temps [] l = omega arith
-  declare_temps (KeepOf object ∷ ds) l = declare_temps ds l
-  declare_temps (ClearOf n ∷ ds) l = let h = declare_temps ds l in omega arith
-  declare_temps (BeginOf n e ∷ ds) l = let h = declare_temps ds (one_declared size count (BeginOf n e) l).labels in omega arith
+  pub declare_temps : (ds : List ADeclaration) (rest : SomeActions) (l : ℕ) → size ≤ (declare size count ds rest l).temps
+  declare_temps [] rest l = omega arith
+  declare_temps (KeepOf object ∷ ds) rest l = declare_temps ds rest l
+  declare_temps (ClearOf n ∷ ds) rest l = let h = declare_temps ds rest l in omega arith
+  declare_temps (BeginOf n e ∷ ds) rest l = let h = declare_temps ds rest (one_declared size count (BeginOf n e) ds rest l).labels in omega arith
 
-  pub declare_more : (d : ADeclaration) (ds : List ADeclaration) (l : ℕ) → declare size count (d ∷ ds) l
-      ≡ two_done (one_declared size count d l) (declare size count ds (one_declared size count d l).labels)
-  declare_more (KeepOf object) ds l = sym (nothing_before size l (declare size count ds l) (declare_temps ds l))
-  declare_more (ClearOf n) ds l = refl
-  declare_more (BeginOf n e) ds l = refl
+  pub declare_more : (d : ADeclaration) (ds : List ADeclaration) (rest : SomeActions) (l : ℕ) → declare size count (d ∷ ds) rest l
+      ≡ two_done (one_declared size count d ds rest l) (declare size count ds rest (one_declared size count d ds rest l).labels)
+  declare_more (KeepOf object) ds rest l = sym (nothing_before size l (declare size count ds rest l) (declare_temps ds rest l))
+  declare_more (ClearOf n) ds rest l = refl
+  declare_more (BeginOf n e) ds rest l = refl
 
   pub row_temps : (row : SomeActions) (lb lc l : ℕ) → size ≤ (lower_row size count row lb lc l).temps
   row_temps NoActions lb lc l = omega arith
-  row_temps (MoreActions a row) lb lc l = let h = row_temps row lb lc (lower size count a lb lc l).labels in omega arith
+  row_temps (MoreActions a row) lb lc l = let h = row_temps row lb lc (lower size count a row lb lc l).labels in omega arith
 
   pub row_begins : (w : Emitted) (row : SomeActions) (lb lc l : ℕ) → w ≡ nothing size l → (two_done w (lower_row size count row lb lc w.labels) ≡ lower_row size count row lb lc l) × (size ≤ w.temps)
   row_begins w row lb lc l is =
@@ -50,17 +50,24 @@ module _ (size count : ℕ) where
       let temps : w.temps ≡ size = ap (λ p. p.temps) is in
       (ap (λ p. two_done p (lower_row size count row lb lc p.labels)) is ∙ same, omega arith)
 
-  pub declare_begins : (w : Emitted) (ds : List ADeclaration) (l : ℕ) → w ≡ nothing size l → (two_done w (declare size count ds w.labels) ≡ declare size count ds l) × (size ≤ w.temps)
-  declare_begins w ds l is =
-      let h = declare_temps ds l in
-      let same = nothing_before size l (declare size count ds l) h in
+  pub declare_begins : (w : Emitted) (ds : List ADeclaration) (rest : SomeActions) (l : ℕ) → w ≡ nothing size l
+      → (two_done w (declare size count ds rest w.labels) ≡ declare size count ds rest l) × (size ≤ w.temps)
+  declare_begins w ds rest l is =
+      let h = declare_temps ds rest l in
+      let same = nothing_before size l (declare size count ds rest l) h in
       let temps : w.temps ≡ size = ap (λ p. p.temps) is in
-      (ap (λ p. two_done p (declare size count ds p.labels)) is ∙ same, omega arith)
+      (ap (λ p. two_done p (declare size count ds rest p.labels)) is ∙ same, omega arith)
 
   -- one declaration more behind others
-  pub declare_goes : (w one next whole : Emitted) (d : ADeclaration) (ds : List ADeclaration) → two_done w (declare size count (d ∷ ds) w.labels) ≡ whole → one
-      ≡ one_declared size count d w.labels → next ≡ two_done w one → two_done next (declare size count ds next.labels) ≡ whole
-  declare_goes w one next whole d ds so is put =
-      let more = declare_more d ds w.labels in
-      let split = two_assoc w (one_declared size count d w.labels) (declare size count ds (one_declared size count d w.labels).labels) in
-      ap (λ p. two_done p (declare size count ds p.labels)) (put ∙ ap (two_done w) is) ∙ sym split ∙ ap (two_done w) (sym more) ∙ so
+  pub declare_goes : (w one next whole : Emitted) (d : ADeclaration) (ds : List ADeclaration) (rest : SomeActions)
+      → two_done w (declare size count (d ∷ ds) rest w.labels) ≡ whole → one ≡ one_declared size count d ds rest w.labels → next ≡ two_done w one
+      → two_done next (declare size count ds rest next.labels) ≡ whole
+  declare_goes w one next whole d ds rest so is put =
+      let more = declare_more d ds rest w.labels in
+      let one' = one_declared size count d ds rest w.labels in
+      let split = two_assoc w one' (declare size count ds rest one'.labels) in
+      ap (λ p. two_done p (declare size count ds rest p.labels)) (put ∙ ap (two_done w) is) ∙ sym split ∙ ap (two_done w) (sym more) ∙ so
+
+  pub clear_is : (n : ℕ) (d : ADeclaration) (ds : List ADeclaration) (rest : SomeActions) (l : ℕ) (b : Bool) → d ≡ ClearOf n → b ≡ is_zeroed n ds rest
+      → one_declared size count d ds rest l ≡ record { items = clearing b n; temps = size; labels = l }
+  clear_is n d ds rest l b is zeroed = ap (λ x. one_declared size count x ds rest l) is ∙ sym (ap (λ x. record { items = clearing x n; temps = size; labels = l }) zeroed)

@@ -43,6 +43,26 @@ pub(crate) fn begin_of(
     })
 }
 
+/// An automatic local before its declaration's others: its zero, where that is written.
+pub(crate) fn cleared(
+    frame: Frame,
+    is_zeroed: bool,
+    local: u32,
+    l: u32,
+) -> Result<Emitted, NoMemory>
+    ensures { IfOk result (λ r. done r ≡ record { items = flows.clearing is_zeroed local; temps = frame.locals; labels = l }) }
+{
+    let mut items = Vec::new(frame.alloc);
+    if is_zeroed {
+        put(&mut items, Item::AssignLocal(local, Tree::Number(0)))?;
+    }
+    Ok(Emitted {
+        items,
+        temps: frame.locals,
+        labels: l,
+    })
+}
+
 /// An `if`, whose end is the label l.
 pub(crate) fn if_done(l: u32, p: Emitted, a: Emitted) -> Result<Emitted, NoMemory>
     ensures { IfOk result (λ r. done r ≡ flows.if_done l (done p) (done a)) }

@@ -13,5 +13,6 @@ pub mod program;
 mod spelling;
 mod statement;
 pub mod tree;
+mod zeros;
 
 pub use program::lower;

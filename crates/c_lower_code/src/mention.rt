@@ -5,7 +5,8 @@ ghost use Rattle.c_lower_scheme.specs.Mentions.{is_local, mentions, place_mentio
 
 use c_types::{Expression, Place, Variable};
 
-fn is_local(local: u32, v: Variable) -> bool
+/// Whether a variable is the local.
+pub(crate) fn is_local(local: u32, v: Variable) -> bool
     ensures { result ≡ is_local local v }
 {
     match v {

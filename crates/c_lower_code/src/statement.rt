@@ -7,13 +7,14 @@ ghost use Rattle.c_lower_code.specs.Views.{done};
 
 use crate::expression::{branch, deliver, discard};
 use crate::flow::{
-    begin_of, ever_done, for_done, if_done, if_else_done, jump, loop_done, turns_done, two_done,
-    while_done,
+    begin_of, cleared, ever_done, for_done, if_done, if_else_done, jump, loop_done, turns_done,
+    two_done, while_done,
 };
 use crate::item::Item;
 use crate::mention::mentions;
 use crate::part::{Destination, Emitted, Frame, after, nothing, put};
 use crate::tree::Tree;
+use crate::zeros::is_zeroed;
 use c_program::{Action, Declaration};
 use c_types::Expression;
 use c_types::constant::constant;
@@ -61,21 +62,19 @@ fn returning(frame: Frame, e: &Option<Expression>, l: u32) -> Result<Emitted, No
     }
 }
 
-// One declaration.
-fn one_declared(frame: Frame, d: &Declaration, l: u32) -> Result<Emitted, NoMemory>
-    ensures { IfOk result (λ r. done r ≡ one_declared frame.locals frame.functions (declaration d.now) l) }
+// One declaration, before others and the statements behind them.
+fn one_declared(
+    frame: Frame,
+    d: &Declaration,
+    others: &[Declaration],
+    rest: &[Action],
+    l: u32,
+) -> Result<Emitted, NoMemory>
+    ensures { IfOk result (λ r. done r ≡ one_declared frame.locals frame.functions (declaration d.now) (map declaration others.now) (acts rest.now) l) }
 {
     match d {
         Declaration::Keep(_) => Ok(nothing(frame.alloc, frame.locals, l)),
-        Declaration::Clear(n) => {
-            let mut items = Vec::new(frame.alloc);
-            put(&mut items, Item::AssignLocal(*n, Tree::Number(0)))?;
-            Ok(Emitted {
-                items,
-                temps: frame.locals,
-                labels: l,
-            })
-        }
+        Declaration::Clear(n) => cleared(frame, is_zeroed(*n, others, rest), *n, l),
         Declaration::Begin(n, e) => begin_of(
             frame.alloc,
             mentions(*n, e),
@@ -85,14 +84,14 @@ fn one_declared(frame: Frame, d: &Declaration, l: u32) -> Result<Emitted, NoMemo
     }
 }
 
-// Declarations, in order.
+// Declarations, in order, before the statements behind them.
 #[tactic(auto, using(crate::proofs::Rows::declare_begins, crate::proofs::Rows::declare_goes, crate::proofs::Rows::nothing_behind))]
-fn declare(frame: Frame, ds: &[Declaration], l: u32) -> Result<Emitted, NoMemory>
-    ensures { IfOk result (λ r. done r ≡ statements.declare frame.locals frame.functions (map declaration ds.now) l) }
+fn declare(frame: Frame, ds: &[Declaration], rest: &[Action], l: u32) -> Result<Emitted, NoMemory>
+    ensures { IfOk result (λ r. done r ≡ statements.declare frame.locals frame.functions (map declaration ds.now) (acts rest.now) l) }
 {
     let mut whole = nothing(frame.alloc, frame.locals, l);
-    for d in ds {
-        let one = one_declared(frame, d, whole.labels)?;
+    for (i, d) in ds.iter().enumerate() {
+        let one = one_declared(frame, d, &ds[i + 1..], rest, whole.labels)?;
         whole = two_done(whole, one)?;
     }
     Ok(whole)
@@ -108,26 +107,26 @@ fn for_of(
     body: &Action,
 ) -> Result<Emitted, NoMemory>
     ensures { IfOk result (λ r. done r ≡ statements.for_of frame.locals frame.functions l (maybe_term c.now) (maybe_term e.now)
-        (statements.lower frame.locals frame.functions (act body.now) (suc (suc l)) (suc l))) }
+        (statements.lower frame.locals frame.functions (act body.now) NoActions (suc (suc l)) (suc l))) }
 {
     let onward = after(l)?;
     let end = after(onward)?;
     let test = after(end)?;
     match c {
         None => {
-            let a = statement(frame, body, end, onward, test)?;
+            let a = statement(frame, body, &[], end, onward, test)?;
             let s = effect(frame, e, a.labels)?;
             ever_done(frame.alloc, l, a, s)
         }
         Some(c) => match constant(c) {
             Some(_) => {
                 let p = unless(frame, c, end, test)?;
-                let a = statement(frame, body, end, onward, p.labels)?;
+                let a = statement(frame, body, &[], end, onward, p.labels)?;
                 let s = effect(frame, e, a.labels)?;
                 for_done(frame.alloc, l, p, a, s)
             }
             None => {
-                let a = statement(frame, body, end, onward, after(test)?)?;
+                let a = statement(frame, body, &[], end, onward, after(test)?)?;
                 let s = effect(frame, e, a.labels)?;
                 let p = when(frame, c, l, s.labels)?;
                 turns_done(frame.alloc, l, a, s, p)
@@ -139,18 +138,18 @@ fn for_of(
 // A `while`: its test stands in front where it is a constant, and else behind the body.
 #[cycle(statement)]
 fn while_of(frame: Frame, body: &Action, c: &Expression, l: u32) -> Result<Emitted, NoMemory>
-    ensures { IfOk result (λ r. done r ≡ statements.lower frame.locals frame.functions (WhileOf (term c.now) (act body.now)) 0 0 l) }
+    ensures { IfOk result (λ r. done r ≡ statements.lower frame.locals frame.functions (WhileOf (term c.now) (act body.now)) NoActions 0 0 l) }
 {
     let onward = after(l)?;
     let end = after(onward)?;
     match constant(c) {
         Some(_) => {
             let p = unless(frame, c, onward, end)?;
-            let a = statement(frame, body, onward, l, p.labels)?;
+            let a = statement(frame, body, &[], onward, l, p.labels)?;
             while_done(frame.alloc, l, p, a)
         }
         None => {
-            let a = statement(frame, body, end, onward, after(end)?)?;
+            let a = statement(frame, body, &[], end, onward, after(end)?)?;
             let p = when(frame, c, l, a.labels)?;
             loop_done(frame.alloc, onward, l, a, p)
         }
@@ -160,11 +159,11 @@ fn while_of(frame: Frame, body: &Action, c: &Expression, l: u32) -> Result<Emitt
 // A `do`.
 #[cycle(statement)]
 fn do_of(frame: Frame, body: &Action, c: &Expression, l: u32) -> Result<Emitted, NoMemory>
-    ensures { IfOk result (λ r. done r ≡ statements.lower frame.locals frame.functions (DoOf (act body.now) (term c.now)) 0 0 l) }
+    ensures { IfOk result (λ r. done r ≡ statements.lower frame.locals frame.functions (DoOf (act body.now) (term c.now)) NoActions 0 0 l) }
 {
     let onward = after(l)?;
     let end = after(onward)?;
-    let a = statement(frame, body, end, onward, after(end)?)?;
+    let a = statement(frame, body, &[], end, onward, after(end)?)?;
     let p = when(frame, c, l, a.labels)?;
     loop_done(frame.alloc, l, l, a, p)
 }
@@ -203,31 +202,32 @@ fn if_of(
     onward: u32,
     l: u32,
 ) -> Result<Emitted, NoMemory>
-    ensures { IfOk result (λ r. done r ≡ statements.lower frame.locals frame.functions (IfOf (term c.now) (act a.now)) broken onward l) }
+    ensures { IfOk result (λ r. done r ≡ statements.lower frame.locals frame.functions (IfOf (term c.now) (act a.now)) NoActions broken onward l) }
 {
     match going(a, broken, onward) {
         Some(to) => when(frame, c, to, l),
         None => {
             let p = unless(frame, c, l, after(l)?)?;
-            let a = statement(frame, a, broken, onward, p.labels)?;
+            let a = statement(frame, a, &[], broken, onward, p.labels)?;
             if_done(l, p, a)
         }
     }
 }
 
-/// A statement, whose `break` and `continue` go to two labels, from the first free label on.
+/// A statement before the others of its block, whose `break` and `continue` go to two labels, from the first free label on.
 #[cycle(statement)]
 pub(crate) fn statement(
     frame: Frame,
     a: &Action,
+    rest: &[Action],
     broken: u32,
     onward: u32,
     l: u32,
 ) -> Result<Emitted, NoMemory>
-    ensures { IfOk result (λ r. done r ≡ statements.lower frame.locals frame.functions (act a.now) broken onward l) }
+    ensures { IfOk result (λ r. done r ≡ statements.lower frame.locals frame.functions (act a.now) (acts rest.now) broken onward l) }
 {
     match a {
-        Action::Declare(ds) => declare(frame, ds, l),
+        Action::Declare(ds) => declare(frame, ds, rest, l),
         Action::Block(all) => row(frame, all, broken, onward, l),
         Action::Evaluate(e) => discard(frame, e, frame.locals, l),
         Action::Break => jump(frame, broken, l),
@@ -236,8 +236,8 @@ pub(crate) fn statement(
         Action::If(c, a) => if_of(frame, a, c, broken, onward, l),
         Action::IfElse(c, a, b) => {
             let p = unless(frame, c, l, after(after(l)?)?)?;
-            let q = statement(frame, a, broken, onward, p.labels)?;
-            let r = statement(frame, b, broken, onward, q.labels)?;
+            let q = statement(frame, a, &[], broken, onward, p.labels)?;
+            let r = statement(frame, b, &[], broken, onward, q.labels)?;
             if_else_done(l, p, q, r)
         }
         Action::While(c, a) => while_of(frame, a, c, l),
@@ -262,13 +262,13 @@ pub(crate) fn row(
     ensures { IfOk result (λ r. done r ≡ statements.lower_row frame.locals frame.functions (acts all.now) broken onward l) }
 {
     let mut whole = nothing(frame.alloc, frame.locals, l);
-    for a in all {
-        let one = statement(frame, a, broken, onward, whole.labels)?;
+    for (i, a) in all.iter().enumerate() {
+        let one = statement(frame, a, &all[i + 1..], broken, onward, whole.labels)?;
         whole = two_done(whole, one)?;
     }
     Ok(whole)
 }
 
 ghost use Rattle.std.specs.Prelude.{suc};
-ghost use Rattle.c_program.specs.Statements.{WhileOf, DoOf, IfOf};
+ghost use Rattle.c_program.specs.Statements.{NoActions, WhileOf, DoOf, IfOf};
 ghost use Rattle.c_lower_code.specs.Declarations.{one_declared};

@@ -68,14 +68,14 @@ module _ (size count : ℕ) where
   returning_takes None l = omega arith
   returning_takes (Some e) l = (way_takes size count e).deliver AsResult size l
 
-  declare_takes : (ds : List ADeclaration) (l : ℕ) → (declare size count ds l).labels ≤ l + 3 * declared_size ds
-  declare_takes [] l = omega arith
-  declare_takes (KeepOf object ∷ ds) l = declare_takes ds l
-  declare_takes (ClearOf n ∷ ds) l = declare_takes ds l
-  declare_takes (BeginOf n e ∷ ds) l =
+  declare_takes : (ds : List ADeclaration) (rest : SomeActions) (l : ℕ) → (declare size count ds rest l).labels ≤ l + 3 * declared_size ds
+  declare_takes [] rest l = omega arith
+  declare_takes (KeepOf object ∷ ds) rest l = declare_takes ds rest l
+  declare_takes (ClearOf n ∷ ds) rest l = declare_takes ds rest l
+  declare_takes (BeginOf n e ∷ ds) rest l =
       let p : Emitted = (way size count e).deliver (InLocal n) size l in
       let x = (way_takes size count e).deliver (InLocal n) size l in
-      let y = declare_takes ds p.labels in
+      let y = declare_takes ds rest p.labels in
       omega arith
 
   -- an `if` alone, by its statement
@@ -130,39 +130,39 @@ module _ (size count : ℕ) where
   turns_take n l (Some c) e f h = tested_takes (constant_of c) n l c e f h
 
   mutual
-    act_takes : (a : AnAction) (lb lc l : ℕ) → (lower size count a lb lc l).labels ≤ l + 3 * act_size a
-    act_takes (DeclareOf ds) lb lc l = declare_takes ds l
-    act_takes (BlockOf row) lb lc l = row_takes row lb lc l
-    act_takes (EvaluateOf e) lb lc l = let x = (way_takes size count e).drop size l in omega arith
-    act_takes BreakOf lb lc l = omega arith
-    act_takes ContinueOf lb lc l = omega arith
-    act_takes (ReturnOf e) lb lc l = let x = returning_takes e l in omega arith
-    act_takes (IfOf c a) lb lc l = if_by_takes (going a lb lc) (act_size a) l c (lower size count a lb lc) (λ k. act_takes a lb lc k)
-    act_takes (IfElseOf c a b) lb lc l =
+    act_takes : (a : AnAction) (rest : SomeActions) (lb lc l : ℕ) → (lower size count a rest lb lc l).labels ≤ l + 3 * act_size a
+    act_takes (DeclareOf ds) rest lb lc l = declare_takes ds rest l
+    act_takes (BlockOf row) rest lb lc l = row_takes row lb lc l
+    act_takes (EvaluateOf e) rest lb lc l = let x = (way_takes size count e).drop size l in omega arith
+    act_takes BreakOf rest lb lc l = omega arith
+    act_takes ContinueOf rest lb lc l = omega arith
+    act_takes (ReturnOf e) rest lb lc l = let x = returning_takes e l in omega arith
+    act_takes (IfOf c a) rest lb lc l = if_by_takes (going a lb lc) (act_size a) l c (lower size count a NoActions lb lc) (λ k. act_takes a NoActions lb lc k)
+    act_takes (IfElseOf c a b) rest lb lc l =
         let p : Emitted = unless size count c l (suc (suc l)) in
-        let q : Emitted = lower size count a lb lc p.labels in
+        let q : Emitted = lower size count a NoActions lb lc p.labels in
         let x = unless_takes c l (suc (suc l)) in
-        let y = act_takes a lb lc p.labels in
-        let z = act_takes b lb lc q.labels in
+        let y = act_takes a NoActions lb lc p.labels in
+        let z = act_takes b NoActions lb lc q.labels in
         omega arith
-    act_takes (WhileOf c a) lb lc l = while_by_takes (constant_of c) (act_size a) l c (lower size count a) (λ x y k. act_takes a x y k)
-    act_takes (DoOf a c) lb lc l =
-        let q : Emitted = lower size count a (suc (suc l)) (suc l) (suc (suc (suc l))) in
-        let x = act_takes a (suc (suc l)) (suc l) (suc (suc (suc l))) in
+    act_takes (WhileOf c a) rest lb lc l = while_by_takes (constant_of c) (act_size a) l c (lower size count a NoActions) (λ x y k. act_takes a NoActions x y k)
+    act_takes (DoOf a c) rest lb lc l =
+        let q : Emitted = lower size count a NoActions (suc (suc l)) (suc l) (suc (suc (suc l))) in
+        let x = act_takes a NoActions (suc (suc l)) (suc l) (suc (suc (suc l))) in
         let y = when_takes c l q.labels in
         omega arith
-    act_takes (ForOf i c e a) lb lc l =
+    act_takes (ForOf i c e a) rest lb lc l =
         let p : Emitted = effect size count i l in
         let m : ℕ = p.labels in
         let x = effect_takes i l in
-        let y = turns_take (act_size a) m c e (lower size count a (suc (suc m)) (suc m)) (λ k. act_takes a (suc (suc m)) (suc m) k) in
+        let y = turns_take (act_size a) m c e (lower size count a NoActions (suc (suc m)) (suc m)) (λ k. act_takes a NoActions (suc (suc m)) (suc m) k) in
         omega arith
 
     row_takes : (row : SomeActions) (lb lc l : ℕ) → (lower_row size count row lb lc l).labels ≤ l + 3 * row_size row
     row_takes NoActions lb lc l = omega arith
     row_takes (MoreActions a row) lb lc l =
-        let p : Emitted = lower size count a lb lc l in
-        let x = act_takes a lb lc l in
+        let p : Emitted = lower size count a row lb lc l in
+        let x = act_takes a row lb lc l in
         let y = row_takes row lb lc p.labels in
         omega arith
 

@@ -29,6 +29,7 @@ use Rattle.c_lower_scheme.specs.Calls
 use Rattle.c_lower_scheme.specs.Assignments
 use Rattle.c_lower_scheme.specs.Expressions
 use Rattle.c_lower_scheme.specs.Mentions
+use Rattle.c_lower_scheme.specs.Zeros
 use Rattle.c_lower_scheme.specs.Flow
 use Rattle.c_lower_scheme.specs.Statements
 use Rattle.c_lower_scheme.specs.Programs.{body_of, items_of, function_of, lower_all}
@@ -441,14 +442,15 @@ module _ (size count : ℕ) where
   none_clearing true n m = refl
   none_clearing false n m = refl
 
-  once_declare : (ds : List ADeclaration) (l : ℕ) → Once l (Statements.declare size count ds l).labels (Statements.declare size count ds l).items
-  once_declare [] l = once_nil l
-  once_declare (KeepOf object ∷ ds) l = once_declare ds l
-  once_declare (ClearOf n ∷ ds) l = once_front l _ (Flow.clearing true n) _ (none_clearing true n) (once_declare ds l)
-  once_declare (BeginOf n e ∷ ds) l =
+  once_declare : (ds : List ADeclaration) (rest : SomeActions) (l : ℕ) → Once l (Statements.declare size count ds rest l).labels (Statements.declare size count ds rest l).items
+  once_declare [] rest l = once_nil l
+  once_declare (KeepOf object ∷ ds) rest l = once_declare ds rest l
+  once_declare (ClearOf n ∷ ds) rest l =
+      once_front l _ (Flow.clearing (Zeros.is_zeroed n ds rest) n) _ (none_clearing (Zeros.is_zeroed n ds rest) n) (once_declare ds rest l)
+  once_declare (BeginOf n e ∷ ds) rest l =
       let q = (Expressions.way size count e).deliver (Parts.InLocal n) size l in
       let b = Mentions.mentions n e in
-      once_append l q.labels _ _ _ (once_front l q.labels (Flow.clearing b n) q.items (none_clearing b n) ((once_way e).deliver (Parts.InLocal n) size l)) (once_declare ds q.labels)
+      once_append l q.labels _ _ _ (once_front l q.labels (Flow.clearing b n) q.items (none_clearing b n) ((once_way e).deliver (Parts.InLocal n) size l)) (once_declare ds rest q.labels)
 
   once_while : (l p q : ℕ) (a b : List Item) → Once (suc (suc l)) p a → Once p q b → Once l q (Label l ∷ (a ++ (b ++ (Jump l ∷ Label (suc l) ∷ []))))
   once_while l p q a b h g =
@@ -530,25 +532,26 @@ module _ (size count : ℕ) where
   once_fors (Some c) e l f h = once_tested (constant_of c) c e l f h
 
   mutual
-    once_act : (a : AnAction) (lb lc l : ℕ) → Once l (Statements.lower size count a lb lc l).labels (Statements.lower size count a lb lc l).items
-    once_act (DeclareOf ds) lb lc l = once_declare ds l
-    once_act (BlockOf row) lb lc l = once_row row lb lc l
-    once_act (EvaluateOf e) lb lc l = (once_way e).drop size l
-    once_act BreakOf lb lc l = once_same l l [] _ (once_nil l) (λ m. refl)
-    once_act ContinueOf lb lc l = once_same l l [] _ (once_nil l) (λ m. refl)
-    once_act (ReturnOf e) lb lc l = once_returning e l
-    once_act (IfOf c a) lb lc l = once_if_by (Statements.going a lb lc) c (Statements.lower size count a lb lc) l (λ m. once_act a lb lc m)
-    once_act (IfElseOf c a b) lb lc l =
+    once_act : (a : AnAction) (rest : SomeActions) (lb lc l : ℕ) → Once l (Statements.lower size count a rest lb lc l).labels (Statements.lower size count a rest lb lc l).items
+    once_act (DeclareOf ds) rest lb lc l = once_declare ds rest l
+    once_act (BlockOf row) rest lb lc l = once_row row lb lc l
+    once_act (EvaluateOf e) rest lb lc l = (once_way e).drop size l
+    once_act BreakOf rest lb lc l = once_same l l [] _ (once_nil l) (λ m. refl)
+    once_act ContinueOf rest lb lc l = once_same l l [] _ (once_nil l) (λ m. refl)
+    once_act (ReturnOf e) rest lb lc l = once_returning e l
+    once_act (IfOf c a) rest lb lc l = once_if_by (Statements.going a lb lc) c (Statements.lower size count a NoActions lb lc) l (λ m. once_act a NoActions lb lc m)
+    once_act (IfElseOf c a b) rest lb lc l =
         let q = Statements.unless size count c l (suc (suc l)) in
-        let x = Statements.lower size count a lb lc q.labels in
-        once_fork l q.labels x.labels _ q.items x.items _ [] [] (λ m. refl) (λ m. refl) ((once_way c).branch false l size (suc (suc l))) (once_act a lb lc q.labels) (once_act b lb lc x.labels)
-    once_act (WhileOf c a) lb lc l = once_while_by (constant_of c) c (Statements.lower size count a) l (λ x y m. once_act a x y m)
-    once_act (DoOf a c) lb lc l = let x = Statements.lower size count a (suc (suc l)) (suc l) (suc (suc (suc l))) in once_loop l l x.labels _ x.items _ (once_act a (suc (suc l)) (suc l) (suc (suc (suc l)))) ((once_way c).branch true l size x.labels)
-    once_act (ForOf i c e a) lb lc l = let x = Statements.effect size count i l in once_append l x.labels _ x.items _ (once_effect i l) (once_fors c e x.labels (Statements.lower size count a (suc (suc x.labels)) (suc x.labels)) (λ m. once_act a (suc (suc x.labels)) (suc x.labels) m))
+        let x = Statements.lower size count a NoActions lb lc q.labels in
+        once_fork l q.labels x.labels _ q.items x.items _ [] [] (λ m. refl) (λ m. refl) ((once_way c).branch false l size (suc (suc l))) (once_act a NoActions lb lc q.labels)
+        (once_act b NoActions lb lc x.labels)
+    once_act (WhileOf c a) rest lb lc l = once_while_by (constant_of c) c (Statements.lower size count a NoActions) l (λ x y m. once_act a NoActions x y m)
+    once_act (DoOf a c) rest lb lc l = let x = Statements.lower size count a NoActions (suc (suc l)) (suc l) (suc (suc (suc l))) in once_loop l l x.labels _ x.items _ (once_act a NoActions (suc (suc l)) (suc l) (suc (suc (suc l)))) ((once_way c).branch true l size x.labels)
+    once_act (ForOf i c e a) rest lb lc l = let x = Statements.effect size count i l in once_append l x.labels _ x.items _ (once_effect i l) (once_fors c e x.labels (Statements.lower size count a NoActions (suc (suc x.labels)) (suc x.labels)) (λ m. once_act a NoActions (suc (suc x.labels)) (suc x.labels) m))
 
     pub once_row : (row : SomeActions) (lb lc l : ℕ) → Once l (Statements.lower_row size count row lb lc l).labels (Statements.lower_row size count row lb lc l).items
     once_row NoActions lb lc l = once_nil l
-    once_row (MoreActions a row) lb lc l = let x = Statements.lower size count a lb lc l in once_append l x.labels _ x.items _ (once_act a lb lc l) (once_row row lb lc x.labels)
+    once_row (MoreActions a row) lb lc l = let x = Statements.lower size count a row lb lc l in once_append l x.labels _ x.items _ (once_act a row lb lc l) (once_row row lb lc x.labels)
 
 -- each function's code
 pub code_of : (count : ℕ) (g : ARoutine) (l : ℕ) → CodeOf count g (function_of g (body_of count g l)).items

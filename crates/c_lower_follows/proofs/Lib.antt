@@ -11,6 +11,8 @@ pub mod Assigning
 pub mod Calling
 pub mod Conditions
 pub mod Ways
+pub mod Scopes
+pub mod Waiting
 pub mod Statements
 pub mod Functions
 pub mod Labels

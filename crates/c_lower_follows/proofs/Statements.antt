@@ -1,8 +1,8 @@
 -- What each statement is lowered to does what the statement means.
-use Rattle.std.proofs.Common.{◌≡◌, ℕ, zero, suc, ◌≤◌, ◌<◌, ◌^◌, List, [], ◌∷◌, ◌++◌, length, Option, Some, None, refl, ap, arith, sym, ◌∙◌, subst, inl, inr, ⊎_elim, append_assoc}
-use Rattle.std.specs.Prelude.{Bool, true, false, ◌||◌, cond, slice_get, slice_set, nat_lt}
+use Rattle.std.proofs.Common.{◌≡◌, ℕ, zero, suc, ◌≤◌, ◌<◌, ◌^◌, List, [], ◌∷◌, ◌++◌, length, Option, Some, None, refl, ap, arith, sym, ◌∙◌, subst, ◌⊎◌, inl, inr, ⊎_elim, append_assoc}
+use Rattle.std.specs.Prelude.{Bool, true, false, cond, slice_get, slice_set, nat_lt}
 use Rattle.std.specs.Option.{option_map}
-use Rattle.std.proofs.lemmas.Bool.{cases_eq, ltb-true, eqb-false, or_parts}
+use Rattle.std.proofs.lemmas.Bool.{cases_eq, ltb-true}
 use Rattle.std.proofs.lemmas.List.{length-set}
 use Rattle.gg_base.specs.Runs.{Runs, counted}
 use Rattle.tree_core.specs.declared.program.Object.{Object}
@@ -12,144 +12,41 @@ use Rattle.tree_core.specs.declared.program.TreeProgram.{TreeProgram}
 use Rattle.tree_meaning.specs.State.{Activation, with_local, behind, returned, arrived}
 use Rattle.tree_meaning.specs.Meaning.{runs}
 use Rattle.c_types.specs.declared.types.CType.{CType}
-use Rattle.c_types.specs.declared.typed.Variable.{Variable}
 use Rattle.c_types.specs.declared.typed.Variable.TheVariants as variables
 use Rattle.c_types.specs.Constants.{constant_of}
-use Rattle.c_types.specs.Typed.{APlace, VariableAt, PointedBy, ElementBy, AnExpression, Constant, LiteralAt, ArrayAt, ReadOf, SizeofTerm, SizeOf, AddressOf, CallOf, StepOf}
-use Rattle.c_types.specs.Typed.{UnaryOf, CastTo, ConvertTo, ArithmeticOf, CompareOf, BothOf, EitherOf, AdvanceOf, AdvanceByOf, RetreatOf, DistanceOf, ChoiceOf, AssignTo}
-use Rattle.c_types.specs.Typed.{ArithmeticAssignTo, AdvanceAssignTo, RetreatAssignTo, CommaOf, SomeExpressions, NoExpressions, MoreExpressions}
+use Rattle.c_types.specs.Typed.{VariableAt, AnExpression, AssignTo}
 use Rattle.c_program.specs.Statements.{ADeclaration, KeepOf, ClearOf, BeginOf, AnAction, SomeActions, NoActions, MoreActions, DeclareOf, BlockOf, EvaluateOf, BreakOf, ContinueOf}
 use Rattle.c_program.specs.Statements.{ReturnOf, IfOf, IfElseOf, WhileOf, DoOf, ForOf}
 use Rattle.c_program.specs.Programs.{ARoutine, AProgram}
 use Rattle.c_meaning.specs.declared.flow.Flow.TheVariants.{Onward, Broke, Continued, Returned}
+use Rattle.c_meaning.specs.declared.store.Spot.TheVariants.{Local}
 use Rattle.c_meaning.specs.State.{State, with_locals, put_local}
-use Rattle.c_meaning.specs.Values.{Behind, ALoop, plain_loop, for_loop, Task, Look, Next, chosen, written}
+use Rattle.c_meaning.specs.Values.{Behind, ALoop, plain_loop, for_loop, Task, Look, Next, chosen, written, store_at}
 use Rattle.c_meaning.specs.Meaning.{expr, dropped, turned, turn_by, look_by, local_set, declared, followed, stmt}
 use Rattle.c_meaning.specs.Meaning.{stmts, task, returned as returned_source}
 use Rattle.c_lower_scheme.specs.Trees.{Tree, Num, Item, Label, AssignLoc, Jump}
 use Rattle.c_lower_scheme.specs.Spelling.{spelled_all}
-use Rattle.c_lower_scheme.specs.Parts.{Emitted, InLocal, AsResult}
+use Rattle.c_lower_scheme.specs.Parts.{InLoc, Emitted, InLocal, AsResult}
+use Rattle.c_lower_scheme.specs.Places.{fitted, found, integer_of, local_in}
+use Rattle.c_lower_scheme.specs.Assignments.{assign_drop}
 use Rattle.c_lower_scheme.specs.Expressions.{way}
-use Rattle.c_lower_scheme.specs.Mentions.{is_local, place_mentions, mentions, any_mentions}
-use Rattle.c_lower_scheme.specs.Flow.{begin_of, if_done, if_else_done, loop_done, while_done, turns_done, for_done, ever_done}
+use Rattle.c_lower_scheme.specs.Mentions.{mentions}
+use Rattle.c_lower_scheme.specs.Zeros.{sets, is_overwritten, is_zeroed}
+use Rattle.c_lower_scheme.specs.Flow.{clearing, begin_of, if_done, if_else_done, loop_done, while_done, turns_done, for_done, ever_done}
 use Rattle.c_lower_scheme.specs.Statements.{unless, when, effect, returning, declare, while_by, for_tested, for_of, lower, lower_row, going, going_alone, if_by}
-use Rattle.c_sound.specs.Fits.{AreBytes, StandsIn, FitsAt, Fits, FitsAll, FitsMaybe, more, declaring, behind_act, FitsDeclared, FitsAct, FitsActs}
+use Rattle.c_sound.specs.Fits.{AreBytes, Fits, FitsMaybe, more, declaring, behind_act, FitsDeclared, FitsAct, FitsActs}
+use Rattle.c_lower_scheme.proofs.Places.{local_is}
 use Rattle.c_lower_follows.proofs.Values.{SmallTree, Small, worth_small}
 use Rattle.c_lower_follows.proofs.Leads.{Leads, leads_wild, leads_quiet, leads_counted, leads_none, leads_below}
 use Rattle.c_lower_follows.proofs.Steps.{on, Desk, desk_sight, Resolves, resolves_back, at, at_items, state, silent, moves, assign_loc_step, ret_step, jump_step, jump_counts, label_step, label_counts}
 use Rattle.c_lower_follows.proofs.Agreeing.{value, Agree, set_same, set_other, get_same, get_other, ranged_set}
 use Rattle.c_lower_follows.proofs.Doing.{DoesWay}
 use Rattle.c_lower_follows.proofs.Calling.{CodeOf, Calls}
+use Rattle.c_lower_follows.proofs.Placing.{fitted_maps, whole_value}
 use Rattle.c_lower_follows.proofs.Ways.{way_does}
-
--- an expression that does not name a local fits a scope without it
-abbrev without : (ℕ → Type 0) → ℕ → ℕ → Type 0
-without scope n m = scope m × (m ≡ n → ⊥)
-
-variable_without : (scope : ℕ → Type 0) (n : ℕ) (v : Variable) → is_local n v ≡ false → StandsIn (more scope n) v → StandsIn (without scope n) v
-variable_without scope n (variables.Automatic m) e (inl h) = (h, eqb-false m n e)
-variable_without scope n (variables.Automatic m) e (inr same) = absurd (eqb-false m n e same)
-variable_without scope n (variables.Parameter m) e h = tt
-variable_without scope n (variables.Global m) e h = tt
-variable_without scope n (variables.Static m) e h = tt
-
-mutual
-  place_without : (scope : ℕ → Type 0) (n : ℕ) (a : APlace) → place_mentions n a ≡ false → FitsAt (more scope n) a → FitsAt (without scope n) a
-  place_without scope n (VariableAt t v) e h = variable_without scope n v e h
-  place_without scope n (PointedBy t x) e h = fits_without scope n x e h
-  place_without scope n (ElementBy t x) e h = fits_without scope n x e h
-
-  fits_without : (scope : ℕ → Type 0) (n : ℕ) (x : AnExpression) → mentions n x ≡ false → Fits (more scope n) x → Fits (without scope n) x
-  fits_without scope n (Constant v) e h = h
-  fits_without scope n (LiteralAt object bytes) e h = tt
-  fits_without scope n (ArrayAt t v bytes) e h = tt
-  fits_without scope n (ReadOf a) e h = place_without scope n a e h
-  fits_without scope n (SizeofTerm v x) e h = h
-  fits_without scope n (SizeOf v) e h = h
-  fits_without scope n (AddressOf t a) e h = place_without scope n a e h
-  fits_without scope n (CallOf t f to xs) e h = all_without scope n xs to e h
-  fits_without scope n (StepOf m by a) e h = place_without scope n a e h
-  fits_without scope n (UnaryOf op x) e h = fits_without scope n x e h
-  fits_without scope n (CastTo t x) e h = fits_without scope n x e h
-  fits_without scope n (ConvertTo t x) e h = fits_without scope n x e h
-  fits_without scope n (ArithmeticOf op a b) e h = let q = or_parts (mentions n a) (mentions n b) e in (fits_without scope n a q.0 h.0, fits_without scope n b q.1 h.1)
-  fits_without scope n (CompareOf r a b) e h = let q = or_parts (mentions n a) (mentions n b) e in (fits_without scope n a q.0 h.0, fits_without scope n b q.1 h.1)
-  fits_without scope n (BothOf a b) e h = let q = or_parts (mentions n a) (mentions n b) e in (fits_without scope n a q.0 h.0, fits_without scope n b q.1 h.1)
-  fits_without scope n (EitherOf a b) e h = let q = or_parts (mentions n a) (mentions n b) e in (fits_without scope n a q.0 h.0, fits_without scope n b q.1 h.1)
-  fits_without scope n (AdvanceOf t a b) e h = let q = or_parts (mentions n a) (mentions n b) e in (fits_without scope n a q.0 h.0, fits_without scope n b q.1 h.1)
-  fits_without scope n (AdvanceByOf t a b) e h = let q = or_parts (mentions n a) (mentions n b) e in (fits_without scope n a q.0 h.0, fits_without scope n b q.1 h.1)
-  fits_without scope n (RetreatOf t a b) e h = let q = or_parts (mentions n a) (mentions n b) e in (fits_without scope n a q.0 h.0, fits_without scope n b q.1 h.1)
-  fits_without scope n (DistanceOf t a b) e h = let q = or_parts (mentions n a) (mentions n b) e in (fits_without scope n a q.0 h.0, fits_without scope n b q.1 h.1)
-  fits_without scope n (CommaOf t a b) e h = let q = or_parts (mentions n a) (mentions n b) e in (fits_without scope n a q.0 h.0, fits_without scope n b q.1 h.1)
-  fits_without scope n (ChoiceOf t c a b) e h =
-      let q = or_parts (mentions n c) (mentions n a || mentions n b) e in
-      let r = or_parts (mentions n a) (mentions n b) q.1 in
-      (fits_without scope n c q.0 h.0, fits_without scope n a r.0 h.1, fits_without scope n b r.1 h.2)
-  fits_without scope n (AssignTo a b) e h = let q = or_parts (place_mentions n a) (mentions n b) e in (place_without scope n a q.0 h.0, fits_without scope n b q.1 h.1)
-  fits_without scope n (ArithmeticAssignTo op a b) e h = let q = or_parts (place_mentions n a) (mentions n b) e in (place_without scope n a q.0 h.0, fits_without scope n b q.1 h.1)
-  fits_without scope n (AdvanceAssignTo a b) e h = let q = or_parts (place_mentions n a) (mentions n b) e in (place_without scope n a q.0 h.0, fits_without scope n b q.1 h.1)
-  fits_without scope n (RetreatAssignTo a b) e h = let q = or_parts (place_mentions n a) (mentions n b) e in (place_without scope n a q.0 h.0, fits_without scope n b q.1 h.1)
-
-  all_without : (scope : ℕ → Type 0) (n : ℕ) (xs : SomeExpressions) (to : List CType) → any_mentions n xs ≡ false → FitsAll (more scope n) xs to → FitsAll (without scope n) xs to
-  all_without scope n NoExpressions to e h = tt
-  all_without scope n (MoreExpressions x xs) [] e h = h
-  all_without scope n (MoreExpressions x xs) (t ∷ to) e h = let q = or_parts (mentions n x) (any_mentions n xs) e in (fits_without scope n x q.0 h.0, all_without scope n xs to q.1 h.1)
-
--- scopes only grow within a block
-declaring_more : (scope : ℕ → Type 0) (ds : List ADeclaration) (x : ℕ) → scope x → declaring scope ds x
-declaring_more scope [] x h = h
-declaring_more scope (KeepOf object ∷ ds) x h = declaring_more scope ds x h
-declaring_more scope (ClearOf n ∷ ds) x h = declaring_more (more scope n) ds x (inl h)
-declaring_more scope (BeginOf n e ∷ ds) x h = declaring_more (more scope n) ds x (inl h)
-
-behind_more : (scope : ℕ → Type 0) (a : AnAction) (x : ℕ) → scope x → behind_act scope a x
-behind_more scope (DeclareOf ds) x h = declaring_more scope ds x h
-behind_more scope (BlockOf row) x h = h
-behind_more scope (EvaluateOf e) x h = h
-behind_more scope BreakOf x h = h
-behind_more scope ContinueOf x h = h
-behind_more scope (ReturnOf e) x h = h
-behind_more scope (IfOf c a) x h = h
-behind_more scope (IfElseOf c a b) x h = h
-behind_more scope (WhileOf c a) x h = h
-behind_more scope (DoOf a c) x h = h
-behind_more scope (ForOf i c e a) x h = h
-
-more_within : (size : ℕ) (scope : ℕ → Type 0) (n : ℕ) → n < size → ((x : ℕ) → scope x → x < size) → (x : ℕ) → more scope n x → x < size
-more_within size scope n lt within x (inl h) = within x h
-more_within size scope n lt within x (inr e) = omega arith
-
-declaring_within : (size : ℕ) (scope : ℕ → Type 0) (ds : List ADeclaration) → FitsDeclared size scope ds → ((x : ℕ) → scope x → x < size) → (x : ℕ) → declaring scope ds x → x < size
-declaring_within size scope [] fit within x h = within x h
-declaring_within size scope (KeepOf object ∷ ds) fit within x h = declaring_within size scope ds fit within x h
-declaring_within size scope (ClearOf n ∷ ds) fit within x h = declaring_within size (more scope n) ds fit.1 (more_within size scope n fit.0 within) x h
-declaring_within size scope (BeginOf n e ∷ ds) fit within x h = declaring_within size (more scope n) ds fit.2 (more_within size scope n fit.0 within) x h
-
-behind_within : (size : ℕ) (scope : ℕ → Type 0) (inside : Bool) (a : AnAction) → FitsAct size scope inside a → ((x : ℕ) → scope x → x < size) → (x : ℕ) → behind_act scope a x → x < size
-behind_within size scope inside (DeclareOf ds) fit within x h = declaring_within size scope ds fit within x h
-behind_within size scope inside (BlockOf row) fit within x h = within x h
-behind_within size scope inside (EvaluateOf e) fit within x h = within x h
-behind_within size scope inside BreakOf fit within x h = within x h
-behind_within size scope inside ContinueOf fit within x h = within x h
-behind_within size scope inside (ReturnOf e) fit within x h = within x h
-behind_within size scope inside (IfOf c a) fit within x h = within x h
-behind_within size scope inside (IfElseOf c a b) fit within x h = within x h
-behind_within size scope inside (WhileOf c a) fit within x h = within x h
-behind_within size scope inside (DoOf a c) fit within x h = within x h
-behind_within size scope inside (ForOf i c e a) fit within x h = within x h
-
-pub agree_less : (size depth : ℕ) (less scope : ℕ → Type 0) (st : State) (d : Desk) → ((x : ℕ) → less x → scope x) → Agree size scope depth st d → Agree size less depth st d
-agree_less size depth less scope st d sub h = record {
-  local = λ x l. h.local x (sub x l);
-  count = h.count;
-  arguments = h.arguments;
-  area = h.area;
-  input = h.input;
-  pushed = h.pushed;
-  active = h.active;
-  ranged = h.ranged;
-  bytes = h.bytes;
-}
+use Rattle.c_lower_follows.proofs.Scopes.{without, fits_without, behind_more, more_within, behind_within, agree_less}
+use Rattle.c_lower_follows.proofs.Waiting.{Sets, SetsLocal, sets_or_not, Partly, wholly, none_waits, past_keep, past_clear, past_left, past_begin, begin_fits}
+use Rattle.c_lower_follows.proofs.Waiting.{past_declare, into_block, past_other, other_fits, past_set, set_fits, for_live, for_set, for_fits}
 
 module _ (program : TreeProgram) (code : List TreeItem) (callers : List Activation) (size count level : ℕ) where
   abbrev fair : (ℕ → Type 0) → State → Desk → Type 0
@@ -267,20 +164,106 @@ module _ (program : TreeProgram) (code : List TreeItem) (callers : List Activati
         (λ ag1. does.runs k le is (λ v. local_set p next n v κ) res (with_locals st (slice_set st.call.locals n 0)) d ag1
         (λ v st2 d2 small ag2 kept. local_step n v k (without scope n) (more scope n) is κ st2 d2 small (λ x sc ne. ⊎_elim (λ s. (s, ne)) (λ eq. absurd (ne eq)) sc) ag2 (λ ag3. h _ _ ag3)))
 
-    declare_does : (ds : List ADeclaration) (scope : ℕ → Type 0) → ((x : ℕ) → scope x → x < size) → FitsDeclared size scope ds → (l k : ℕ) → k ≤ level → (is : List Item) (κ : Behind)
-        → Resolves code ((declare size count ds l).items ++ is) → (st : State) (d : Desk) → fair scope st d
-        → ((st' : State) (d' : Desk) → fair (declaring scope ds) st' d' → Leads k (κ Onward st') (from is d')) → Leads k (declared p next ds κ st) (from ((declare size count ds l).items ++ is) d)
-    declare_does [] scope within fit l k le is κ res st d ag h = h st d ag
-    declare_does (KeepOf object ∷ ds) scope within fit l k le is κ res st d ag h = declare_does ds scope within fit l k le is κ res st d ag h
-    declare_does (ClearOf n ∷ ds) scope within fit l k le is κ res st d ag h =
-        set_local n k (Num 0) scope (more scope n) ((declare size count ds l).items ++ is) (declared p next ds κ) st d (omega arith) (λ x sc ne. ⊎_elim (λ s. s) (λ eq. absurd (ne eq)) sc) ag
-        (λ st1 d1 ag1. declare_does ds (more scope n) (more_within size scope n fit.0 within) fit.1 l k le is κ res.1 st1 d1 ag1 h)
-    declare_does (BeginOf n e ∷ ds) scope within fit l k le is κ res st d ag h =
+    clear_does : (b : Bool) (n : ℕ) (live : ℕ → Type 0) (k : ℕ) (is : List Item) (κ : State → Runs) (st : State) (d : Desk) → fair live st d
+        → (b ≡ true → (st' : State) (d' : Desk) → fair (more live n) st' d' → Leads k (κ st') (from is d'))
+        → (b ≡ false → (st' : State) (d' : Desk) → fair (without live n) st' d' → Leads k (κ st') (from is d'))
+        → Leads k (local_set p next n 0 κ st) (from (clearing b n ++ is) d)
+    clear_does true n live k is κ st d ag h g =
+        set_local n k (Num 0) live (more live n) is κ st d (omega arith) (λ x sc ne. ⊎_elim (λ s. s) (λ eq. absurd (ne eq)) sc) ag (h refl)
+    clear_does false n live k is κ st d ag h g = cleared_by n k live is κ st d (nat_lt n (length st.call.locals)) refl ag (λ ag1. g refl _ _ ag1)
+
+    declare_does : (ds : List ADeclaration) (rest : SomeActions) (scope live : ℕ → Type 0) → ((x : ℕ) → scope x → x < size) → FitsDeclared size scope ds
+        → Partly live scope ds rest → (l k : ℕ) → k ≤ level → (is : List Item) (κ : Behind) → Resolves code ((declare size count ds rest l).items ++ is)
+        → (st : State) (d : Desk) → fair live st d
+        → ((live' : ℕ → Type 0) → Partly live' (declaring scope ds) [] rest → (st' : State) (d' : Desk) → fair live' st' d' → Leads k (κ Onward st') (from is d'))
+        → Leads k (declared p next ds κ st) (from ((declare size count ds rest l).items ++ is) d)
+    declare_does [] rest scope live within fit part l k le is κ res st d ag h = h live part st d ag
+    declare_does (KeepOf object ∷ ds) rest scope live within fit part l k le is κ res st d ag h =
+        declare_does ds rest scope live within fit (past_keep live scope rest object ds part) l k le is κ res st d ag h
+    declare_does (ClearOf n ∷ ds) rest scope live within fit part l k le is κ res st d ag h =
+        let b = is_zeroed n ds rest in
+        let js = (declare size count ds rest l).items in
+        let wider = more_within size scope n fit.0 within in
+        let res' = parted (clearing b n) js is res in
+        let behind_it = resolves_back code (clearing b n) (js ++ is) res' in
+        joined_at k (clearing b n) js is d _ (clear_does b n live k (js ++ is) (declared p next ds κ) st d ag
+        (λ e st1 d1 ag1. declare_does ds rest (more scope n) (more live n) wider fit.1 (past_clear live scope rest n ds part) l k le is κ behind_it st1 d1 ag1 h)
+        (λ e st1 d1 ag1. declare_does ds rest (more scope n) (without live n) wider fit.1 (past_left live scope rest n ds e part) l k le is κ behind_it st1 d1 ag1 h))
+    declare_does (BeginOf n e ∷ ds) rest scope live within fit part l k le is κ res st d ag h =
         let a = begin_of (mentions n e) n ((way size count e).deliver (InLocal n) size l) in
-        let rest = declare size count ds a.labels in
-        let res' = parted a.items rest.items is res in
-        joined_at k a.items rest.items is d _ (begin_does (mentions n e) n e scope within fit.0 refl fit.1 l k le (rest.items ++ is) (declared p next ds κ) res' st d ag
-        (λ st1 d1 ag1. declare_does ds (more scope n) (more_within size scope n fit.0 within) fit.2 a.labels k le is κ (resolves_back code a.items (rest.items ++ is) res') st1 d1 ag1 h))
+        let others = declare size count ds rest a.labels in
+        let res' = parted a.items others.items is res in
+        let behind_it = resolves_back code a.items (others.items ++ is) res' in
+        joined_at k a.items others.items is d _
+        (begin_does (mentions n e) n e live (λ x x_live. within x (part.inside x x_live)) fit.0 refl (begin_fits live scope rest n e ds part fit.1) l k le
+        (others.items ++ is) (declared p next ds κ) res' st d ag
+        (λ st1 d1 ag1. declare_does ds rest (more scope n) (more live n) (more_within size scope n fit.0 within) fit.2 (past_begin live scope rest n e ds part) a.labels k le is κ
+        behind_it st1 d1 ag1 h))
+
+    -- an assignment to a local on which the states need not agree before
+    assigned_by : (o : Option ℕ) (t : CType) (m : ℕ) (e : AnExpression) (live : ℕ → Type 0) → ((x : ℕ) → live x → x < size) → Fits live e → local_in (integer_of t) (InLoc m) ≡ o
+        → (l k : ℕ) → k ≤ level → (is : List Item) (κ : State → Runs)
+        → Resolves code ((assign_drop size count o (found t (InLoc m) size l) (way size count e)).items ++ is) → (st : State) (d : Desk) → fair live st d
+        → ((st' : State) (d' : Desk) → fair (more live m) st' d' → Leads k (κ st') (from is d'))
+        → Leads k (expr p next e (λ v. store_at t (Local m) v (λ v. κ)) st) (from ((assign_drop size count o (found t (InLoc m) size l) (way size count e)).items ++ is) d)
+    assigned_by None t m e live within fit at l k le is κ res st d ag h =
+        let q = (way size count e).low size l in
+        let w = fitted t q.tree in
+        let i = AssignLoc m w in
+        let does = (expression live within e fit).low size l (omega arith) in
+        let maps = fitted_maps program code callers size count live level within t in
+        joined_at k q.items (i ∷ []) is d _ (does.runs k le (i ∷ is) (λ v. store_at t (Local m) v (λ v. κ)) (parted q.items (i ∷ []) is res) st d ag
+        (λ st1 d1 ag1 s1. subst (λ r. Leads k r (from (i ∷ is) d1)) (maps.maps q.tree d1 (λ u. written (put_local m u st1) u (λ v. κ)))
+        (set_local m k w live (more live m) is κ st1 d1 (maps.small q.tree does.small) (λ x sc ne. ⊎_elim (λ s. s) (λ eq. absurd (ne eq)) sc) ag1 h)))
+    assigned_by (Some n) t m e live within fit at l k le is κ res st d ag h =
+        let whole = local_is (integer_of t) (InLoc m) n at in
+        let same : m ≡ n = let z = whole.0 in cc in
+        let does = (expression live within e fit).deliver (InLocal n) size l (omega arith) in
+        does.runs k le is (λ v. store_at t (Local m) v (λ v. κ)) res st d ag
+        (λ v st1 d1 small ag1 kept.
+        subst (λ c. Leads k (written (put_local m c st1) c (λ v. κ)) (from is (record d1 { locals = with_local d1.locals n v }))) (sym (whole_value t v whole.1))
+        (subst (λ j. Leads k (written (put_local m v st1) v (λ v. κ)) (from is (record d1 { locals = with_local d1.locals j v }))) same
+        (local_step m v k live (more live m) is κ st1 d1 small (λ x sc ne. ⊎_elim (λ s. s) (λ eq. absurd (ne eq)) sc) ag1 (λ ag2. h _ _ ag2))))
+
+    assigned_does : (t : CType) (m : ℕ) (e : AnExpression) (live : ℕ → Type 0) → ((x : ℕ) → live x → x < size) → Fits live e → (l k : ℕ) → k ≤ level → (is : List Item)
+        (κ : State → Runs) → Resolves code (((way size count (AssignTo (VariableAt t (variables.Automatic m)) e)).drop size l).items ++ is) → (st : State) (d : Desk)
+        → fair live st d → ((st' : State) (d' : Desk) → fair (more live m) st' d' → Leads k (κ st') (from is d'))
+        → Leads k (expr p next (AssignTo (VariableAt t (variables.Automatic m)) e) (λ v. κ) st)
+        (from (((way size count (AssignTo (VariableAt t (variables.Automatic m)) e)).drop size l).items ++ is) d)
+    assigned_does t m e live within fit l k le is κ res st d ag h = assigned_by (local_in (integer_of t) (InLoc m)) t m e live within fit refl l k le is κ res st d ag h
+
+    -- an expression statement where some locals wait
+    evaluate_by : (e : AnExpression) → Sets e ⊎ ((x : ℕ) → sets x e ≡ false) → (rest : SomeActions) (scope live : ℕ → Type 0) → ((x : ℕ) → scope x → x < size) → Fits scope e
+        → Partly live scope [] (MoreActions (EvaluateOf e) rest) → (l k : ℕ) → k ≤ level → (is : List Item) (κ : State → Runs)
+        → Resolves code (((way size count e).drop size l).items ++ is) → (st : State) (d : Desk) → fair live st d
+        → ((live' : ℕ → Type 0) → Partly live' scope [] rest → (st' : State) (d' : Desk) → fair live' st' d' → Leads k (κ st') (from is d'))
+        → Leads k (expr p next e (λ v. κ) st) (from (((way size count e).drop size l).items ++ is) d)
+    evaluate_by _ (inl (SetsLocal t m e)) rest scope live within fit part l k le is κ res st d ag h =
+        assigned_does t m e live (λ x x_live. within x (part.inside x x_live)) (set_fits live scope rest t m e part fit.1) l k le is κ res st d ag
+        (h (more live m) (past_set live scope rest t m e fit.0 part))
+    evaluate_by e (inr none) rest scope live within fit part l k le is κ res st d ag h =
+        ((expression live (λ x x_live. within x (part.inside x x_live)) e (other_fits live scope rest e none part fit)).drop size l (omega arith)).runs k le is κ res st d ag
+        (λ st' d' ag' s. h live (past_other live scope rest e none part) st' d' ag')
+
+    -- the first part of a `for`, behind which no local waits
+    first_part_by : (v : AnExpression) → Sets v ⊎ ((x : ℕ) → sets x v ≡ false) → (c e : Option AnExpression) (a : AnAction) (rest : SomeActions) (scope live : ℕ → Type 0)
+        → ((x : ℕ) → scope x → x < size) → Fits scope v → Partly live scope [] (MoreActions (ForOf (Some v) c e a) rest) → (l k : ℕ) → k ≤ level → (is : List Item)
+        (κ : State → Runs) → Resolves code ((effect size count (Some v) l).items ++ is) → (st : State) (d : Desk) → fair live st d
+        → ((st' : State) (d' : Desk) → fair scope st' d' → Leads k (κ st') (from is d')) → Leads k (dropped p next (Some v) κ st) (from ((effect size count (Some v) l).items ++ is) d)
+    first_part_by _ (inl (SetsLocal t m v)) c e a rest scope live within fit part l k le is κ res st d ag h =
+        assigned_does t m v live (λ x x_live. within x (part.inside x x_live)) (for_fits live scope rest t m v c e a part fit.1) l k le is κ res st d ag
+        (λ st' d' ag'. h st' d' (agree_less size (length callers) scope (more live m) st' d' (for_set live scope rest t m v c e a part) ag'))
+    first_part_by v (inr none) c e a rest scope live within fit part l k le is κ res st d ag h =
+        effect_does scope within (Some v) fit l k le is κ res st d (agree_less size (length callers) scope live st d (for_live live scope rest (Some v) c e a none part) ag) h
+
+    first_part_does : (i c e : Option AnExpression) (a : AnAction) (rest : SomeActions) (scope live : ℕ → Type 0) → ((x : ℕ) → scope x → x < size) → FitsMaybe scope i
+        → Partly live scope [] (MoreActions (ForOf i c e a) rest) → (l k : ℕ) → k ≤ level → (is : List Item) (κ : State → Runs) → Resolves code ((effect size count i l).items ++ is)
+        → (st : State) (d : Desk) → fair live st d → ((st' : State) (d' : Desk) → fair scope st' d' → Leads k (κ st') (from is d'))
+        → Leads k (dropped p next i κ st) (from ((effect size count i l).items ++ is) d)
+    first_part_does None c e a rest scope live within fit part l k le is κ res st d ag h =
+        h st d (agree_less size (length callers) scope live st d (for_live live scope rest None c e a (λ x. refl) part) ag)
+    first_part_does (Some v) c e a rest scope live within fit part l k le is κ res st d ag h =
+        first_part_by v (sets_or_not v) c e a rest scope live within fit part l k le is κ res st d ag h
 
     -- a return
     return_does : (e : Option AnExpression) (scope outer : ℕ → Type 0) → ((x : ℕ) → scope x → x < size) → FitsMaybe scope e → (inside : Bool) (lb lc l : ℕ)
@@ -362,12 +345,12 @@ module _ (program : TreeProgram) (code : List TreeItem) (callers : List Activati
     -- an `if` alone in either form
     if_by_does : (o : Option ℕ) (c : AnExpression) (a : AnAction) (l lb lc : ℕ) (scope outer : ℕ → Type 0) → ((x : ℕ) → scope x → x < size) → ((x : ℕ) → outer x → scope x) → Fits scope c
         → (inside : Bool) → FitsAct size scope inside a → going a lb lc ≡ o
-        → ((m : ℕ) → DoesStmt (lower size count a lb lc m) lb lc inside outer scope (behind_act scope a) (stmt p next a))
-        → DoesStmt (if_by size count o c (lower size count a lb lc) l) lb lc inside outer scope scope (stmt p next (IfOf c a))
+        → ((m : ℕ) → DoesStmt (lower size count a NoActions lb lc m) lb lc inside outer scope (behind_act scope a) (stmt p next a))
+        → DoesStmt (if_by size count o c (lower size count a NoActions lb lc) l) lb lc inside outer scope scope (stmt p next (IfOf c a))
     if_by_does (Some to) c a l lb lc scope outer within sub fit inside fit' e body = away_does c a to l scope outer within sub fit inside fit' lb lc e
     if_by_does None c a l lb lc scope outer within sub fit inside fit' e body =
         let q = unless size count c l (suc l) in
-        if_does c l (lower size count a lb lc q.labels) scope outer (behind_act scope a) (stmt p next a) within fit (behind_more scope a) inside lb lc (body q.labels)
+        if_does c l (lower size count a NoActions lb lc q.labels) scope outer (behind_act scope a) (stmt p next a) within fit (behind_more scope a) inside lb lc (body q.labels)
 
     if_else_does : (c : AnExpression) (l : ℕ) (a b : Emitted) (scope outer after after' : ℕ → Type 0) (n o : Behind → State → Runs) → ((x : ℕ) → scope x → x < size) → Fits scope c
         → ((x : ℕ) → scope x → after x) → ((x : ℕ) → scope x → after' x) → (inside : Bool) (lb lc : ℕ) → DoesStmt a lb lc inside outer scope after n
@@ -513,13 +496,13 @@ module _ (program : TreeProgram) (code : List TreeItem) (callers : List Activati
 
     -- a `while` in either form
     while_by_does : (o : Option ℕ) (c : AnExpression) (a : AnAction) (l : ℕ) (scope after outer : ℕ → Type 0) → ((x : ℕ) → scope x → x < size) → Fits scope c → ((x : ℕ) → scope x → after x)
-        → ((lb lc m : ℕ) → DoesStmt (lower size count a lb lc m) lb lc true scope scope after (stmt p next a)) → (inside : Bool) (lb lc : ℕ)
-        → DoesStmt (while_by size count o c (lower size count a) l) lb lc inside outer scope scope (stmt p next (WhileOf c a))
+        → ((lb lc m : ℕ) → DoesStmt (lower size count a NoActions lb lc m) lb lc true scope scope after (stmt p next a)) → (inside : Bool) (lb lc : ℕ)
+        → DoesStmt (while_by size count o c (lower size count a NoActions) l) lb lc inside outer scope scope (stmt p next (WhileOf c a))
     while_by_does (Some v) c a l scope after outer within fit sub body inside lb lc =
         let q = unless size count c (suc l) (suc (suc l)) in
-        while_does c a l (lower size count a (suc l) l q.labels) scope after outer within fit sub (body (suc l) l q.labels) inside lb lc
+        while_does c a l (lower size count a NoActions (suc l) l q.labels) scope after outer within fit sub (body (suc l) l q.labels) inside lb lc
     while_by_does None c a l scope after outer within fit sub body inside lb lc =
-        late_does c a l (lower size count a (suc (suc l)) (suc l) (suc (suc (suc l)))) scope after outer within fit sub (body (suc (suc l)) (suc l) (suc (suc (suc l)))) inside lb lc
+        late_does c a l (lower size count a NoActions (suc (suc l)) (suc l) (suc (suc (suc l)))) scope after outer within fit sub (body (suc (suc l)) (suc l) (suc (suc (suc l)))) inside lb lc
 
     -- `for` with its test in front, from behind its first label
     for_look : (c : AnExpression) (e : Option AnExpression) (a : AnAction) (l : ℕ) (b : Emitted) (scope after : ℕ → Type 0) → ((x : ℕ) → scope x → x < size) → Fits scope c
@@ -661,16 +644,16 @@ module _ (program : TreeProgram) (code : List TreeItem) (callers : List Activati
     -- a `for` with a test, in either form
     tested_does : (o : Option ℕ) (c : AnExpression) (e : Option AnExpression) (a : AnAction) (l : ℕ) (scope after outer : ℕ → Type 0) → ((x : ℕ) → scope x → x < size) → Fits scope c
         → FitsMaybe scope e
-        → ((x : ℕ) → scope x → after x) → ((m : ℕ) → DoesStmt (lower size count a (suc (suc l)) (suc l) m) (suc (suc l)) (suc l) true scope scope after (stmt p next a))
+        → ((x : ℕ) → scope x → after x) → ((m : ℕ) → DoesStmt (lower size count a NoActions (suc (suc l)) (suc l) m) (suc (suc l)) (suc l) true scope scope after (stmt p next a))
         → (inside : Bool) (lb lc : ℕ)
-        → DoesStmt (for_tested size count o l c e (lower size count a (suc (suc l)) (suc l))) lb lc inside outer scope scope (look_by p next (for_loop (Some c) e a) (stmt p next a))
+        → DoesStmt (for_tested size count o l c e (lower size count a NoActions (suc (suc l)) (suc l))) lb lc inside outer scope scope (look_by p next (for_loop (Some c) e a) (stmt p next a))
     tested_does (Some v) c e a l scope after outer within fit fit' sub body inside lb lc k le is κ res h st d ag =
         let q = unless size count c (suc (suc l)) (suc (suc (suc l))) in
-        let b = lower size count a (suc (suc l)) (suc l) q.labels in
+        let b = lower size count a NoActions (suc (suc l)) (suc l) q.labels in
         label_step program code callers k l ((q.items ++ (b.items ++ (Label (suc l) ∷ ((effect size count e b.labels).items ++ (Jump l ∷ Label (suc (suc l)) ∷ []))))) ++ is) d _
         (for_look c e a l b scope after within fit fit' sub (body q.labels) inside lb lc outer is res k le κ h st d ag)
     tested_does None c e a l scope after outer within fit fit' sub body inside lb lc k le is κ res h st d ag =
-        let b = lower size count a (suc (suc l)) (suc l) (suc (suc (suc (suc l)))) in
+        let b = lower size count a NoActions (suc (suc l)) (suc l) (suc (suc (suc (suc l)))) in
         let s = effect size count e b.labels in
         let q = when size count c l s.labels in
         let T4 : List Item = Label (suc (suc l)) ∷ [] in
@@ -684,60 +667,105 @@ module _ (program : TreeProgram) (code : List TreeItem) (callers : List Activati
         (λ st1 d1 ag1. turns_turn c e a l b scope after within fit fit' sub (body (suc (suc (suc (suc l))))) inside lb lc outer is res k le κ h st1 d1 ag1) st d ag))
 
     for_does : (c e : Option AnExpression) (a : AnAction) (l : ℕ) (scope after outer : ℕ → Type 0) → ((x : ℕ) → scope x → x < size) → FitsMaybe scope c → FitsMaybe scope e
-        → ((x : ℕ) → scope x → after x) → ((m : ℕ) → DoesStmt (lower size count a (suc (suc l)) (suc l) m) (suc (suc l)) (suc l) true scope scope after (stmt p next a))
-        → (inside : Bool) (lb lc : ℕ) → DoesStmt (for_of size count l c e (lower size count a (suc (suc l)) (suc l))) lb lc inside outer scope scope (look_by p next (for_loop c e a) (stmt p next a))
+        → ((x : ℕ) → scope x → after x) → ((m : ℕ) → DoesStmt (lower size count a NoActions (suc (suc l)) (suc l) m) (suc (suc l)) (suc l) true scope scope after (stmt p next a))
+        → (inside : Bool) (lb lc : ℕ) → DoesStmt (for_of size count l c e (lower size count a NoActions (suc (suc l)) (suc l))) lb lc inside outer scope scope
+        (look_by p next (for_loop c e a) (stmt p next a))
     for_does None e a l scope after outer within fit fit' sub body inside lb lc k le is κ res h st d ag =
-        let b = lower size count a (suc (suc l)) (suc l) (suc (suc (suc l))) in
+        let b = lower size count a NoActions (suc (suc l)) (suc l) (suc (suc (suc l))) in
         jump_counts program code callers k l (Label l ∷ ((b.items ++ (Label (suc l) ∷ ((effect size count e b.labels).items ++ (Jump l ∷ Label (suc (suc l)) ∷ [])))) ++ is)) _ d
         (ever_turn e a l b scope after within fit' sub (body (suc (suc (suc l)))) inside lb lc outer is res k le κ h st d ag)
     for_does (Some c) e a l scope after outer within fit fit' sub body inside lb lc k le is κ res h st d ag =
         tested_does (constant_of c) c e a l scope after outer within fit fit' sub body inside lb lc k le is κ res h st d ag
 
-    mutual
-      act_does : (a : AnAction) (scope outer : ℕ → Type 0) → ((x : ℕ) → scope x → x < size) → ((x : ℕ) → outer x → scope x) → (inside : Bool) → FitsAct size scope inside a → (lb lc l : ℕ)
-          → DoesStmt (lower size count a lb lc l) lb lc inside outer scope (behind_act scope a) (stmt p next a)
-      act_does (DeclareOf ds) scope outer within sub inside fit lb lc l = λ k le is κ res h st d ag. declare_does ds scope within fit l k le is κ res st d ag h.onward
-      act_does (BlockOf row) scope outer within sub inside fit lb lc l = rows_do row scope outer scope within sub (λ x h. h) inside fit lb lc l
-      act_does (EvaluateOf e) scope outer within sub inside fit lb lc l = λ k le is κ res h st d ag.
-          ((expression scope within e fit).drop size l (omega arith)).runs k le is (κ Onward) res st d ag (λ st' d' ag' s. h.onward st' d' ag')
-      act_does BreakOf scope outer within sub inside fit lb lc l = λ k le is κ res h st d ag.
-          jump_step program code callers k lb is _ d (h.broke fit st d (agree_less size (length callers) outer scope st d sub ag))
-      act_does ContinueOf scope outer within sub inside fit lb lc l = λ k le is κ res h st d ag.
-          jump_step program code callers k lc is _ d (h.continued fit st d (agree_less size (length callers) outer scope st d sub ag))
-      act_does (ReturnOf e) scope outer within sub inside fit lb lc l = return_does e scope outer within fit inside lb lc l
-      act_does (IfOf c a) scope outer within sub inside fit lb lc l =
-          if_by_does (going a lb lc) c a l lb lc scope outer within sub fit.0 inside fit.1 refl (λ m. act_does a scope outer within sub inside fit.1 lb lc m)
-      act_does (IfElseOf c a b) scope outer within sub inside fit lb lc l =
-          let q = unless size count c l (suc (suc l)) in
-          let x = lower size count a lb lc q.labels in
-          if_else_does c l x (lower size count b lb lc x.labels) scope outer (behind_act scope a) (behind_act scope b) (stmt p next a) (stmt p next b) within fit.0 (behind_more scope a)
-          (behind_more scope b) inside lb lc (act_does a scope outer within sub inside fit.1 lb lc q.labels) (act_does b scope outer within sub inside fit.2 lb lc x.labels)
-      act_does (WhileOf c a) scope outer within sub inside fit lb lc l =
-          while_by_does (constant_of c) c a l scope (behind_act scope a) outer within fit.0 (behind_more scope a)
-          (λ x y m. act_does a scope scope within (λ x h. h) true fit.1 x y m) inside lb lc
-      act_does (DoOf a c) scope outer within sub inside fit lb lc l =
-          do_does c a l (lower size count a (suc (suc l)) (suc l) (suc (suc (suc l)))) scope (behind_act scope a) outer within fit.1 (behind_more scope a)
-          (act_does a scope scope within (λ x h. h) true fit.0 (suc (suc l)) (suc l) (suc (suc (suc l)))) inside lb lc
-      act_does (ForOf i c e a) scope outer within sub inside fit lb lc l = λ k le is κ res h st d ag.
-          let x = effect size count i l in
-          let y = for_of size count x.labels c e (lower size count a (suc (suc x.labels)) (suc x.labels)) in
-          let res' = parted x.items y.items is res in
-          joined_at k x.items y.items is d _ (effect_does scope within i fit.0 l k le (y.items ++ is) (look_by p next (for_loop c e a) (stmt p next a) κ) res' st d ag
-          (λ st1 d1 ag1. for_does c e a x.labels scope (behind_act scope a) outer within fit.1 fit.2 (behind_more scope a)
-          (λ m. act_does a scope scope within (λ x h. h) true fit.3 (suc (suc x.labels)) (suc x.labels) m) inside lb lc k le is κ (resolves_back code x.items (y.items ++ is) res') h st1 d1 ag1))
+    -- What a statement does before others, where some locals wait. It hands on those that wait behind it.
+    abbrev DoesFirst : (a : AnAction) (rest : SomeActions) (scope live outer : ℕ → Type 0) (inside : Bool) (lb lc l : ℕ) → Type 1
+    DoesFirst a rest scope live outer inside lb lc l =
+        (k : ℕ) → k ≤ level → (is : List Item) (κ : Behind) → Resolves code ((lower size count a rest lb lc l).items ++ is)
+        → Lands k lb lc inside outer (behind_act scope a) is κ
+        → ((live' : ℕ → Type 0) → Partly live' (behind_act scope a) [] rest → (st' : State) (d' : Desk) → fair live' st' d' → Leads k (κ Onward st') (from is d'))
+        → (st : State) (d : Desk) → fair live st d → Leads k (stmt p next a κ st) (from ((lower size count a rest lb lc l).items ++ is) d)
 
-      pub rows_do : (row : SomeActions) (scope outer base : ℕ → Type 0) → ((x : ℕ) → scope x → x < size) → ((x : ℕ) → outer x → scope x) → ((x : ℕ) → base x → scope x) → (inside : Bool)
-          → FitsActs size scope inside row → (lb lc l : ℕ) → DoesStmt (lower_row size count row lb lc l) lb lc inside outer scope base (stmts p next row)
-      rows_do NoActions scope outer base within sub sub' inside fit lb lc l k le is κ res h st d ag = h.onward st d (agree_less size (length callers) base scope st d sub' ag)
-      rows_do (MoreActions a row) scope outer base within sub sub' inside fit lb lc l k le is κ res h st d ag =
-          let x = lower size count a lb lc l in
+    -- a statement before no other, and one before which no local waits
+    alone : (a : AnAction) (scope outer : ℕ → Type 0) (inside : Bool) (lb lc l : ℕ) → DoesFirst a NoActions scope scope outer inside lb lc l
+        → DoesStmt (lower size count a NoActions lb lc l) lb lc inside outer scope (behind_act scope a) (stmt p next a)
+    alone a scope outer inside lb lc l does k le is κ res h st d ag = does k le is κ res h
+        (λ live' part st' d' ag'. h.onward st' d'
+        (agree_less size (length callers) (behind_act scope a) live' st' d' (none_waits live' (behind_act scope a) [] NoActions (λ k x. refl) part) ag')) st d ag
+
+    settled : (a : AnAction) (rest : SomeActions) (scope live outer : ℕ → Type 0) (inside : Bool) (lb lc l : ℕ)
+        → ((k x : ℕ) → is_overwritten (suc k) x [] (MoreActions a rest) ≡ false) → Partly live scope [] (MoreActions a rest)
+        → DoesStmt (lower size count a rest lb lc l) lb lc inside outer scope (behind_act scope a) (stmt p next a) → DoesFirst a rest scope live outer inside lb lc l
+    settled a rest scope live outer inside lb lc l none part does k le is κ res h go_on st d ag =
+        does k le is κ res h st d (agree_less size (length callers) scope live st d (none_waits live scope [] (MoreActions a rest) none part) ag)
+
+    mutual
+      act_does : (a : AnAction) (rest : SomeActions) (scope live outer : ℕ → Type 0) → ((x : ℕ) → scope x → x < size) → ((x : ℕ) → outer x → scope x) → (inside : Bool)
+          → FitsAct size scope inside a → Partly live scope [] (MoreActions a rest) → (lb lc l : ℕ) → DoesFirst a rest scope live outer inside lb lc l
+      act_does (DeclareOf ds) rest scope live outer within sub inside fit part lb lc l = λ k le is κ res lands h st d ag.
+          declare_does ds rest scope live within fit (past_declare live scope rest ds part) l k le is κ res st d ag h
+      act_does (BlockOf row) rest scope live outer within sub inside fit part lb lc l = λ k le is κ res lands h st d ag.
+          rows_by row scope live outer scope within sub (λ x h. h) inside fit (into_block live scope rest row part) lb lc l k le is κ res lands st d ag
+      act_does (EvaluateOf e) rest scope live outer within sub inside fit part lb lc l = λ k le is κ res lands h st d ag.
+          evaluate_by e (sets_or_not e) rest scope live within fit part l k le is (κ Onward) res st d ag h
+      act_does BreakOf rest scope live outer within sub inside fit part lb lc l = settled BreakOf rest scope live outer inside lb lc l (λ k x. refl) part
+          (λ k le is κ res h st d ag. jump_step program code callers k lb is _ d (h.broke fit st d (agree_less size (length callers) outer scope st d sub ag)))
+      act_does ContinueOf rest scope live outer within sub inside fit part lb lc l = settled ContinueOf rest scope live outer inside lb lc l (λ k x. refl) part
+          (λ k le is κ res h st d ag. jump_step program code callers k lc is _ d (h.continued fit st d (agree_less size (length callers) outer scope st d sub ag)))
+      act_does (ReturnOf e) rest scope live outer within sub inside fit part lb lc l = settled (ReturnOf e) rest scope live outer inside lb lc l (λ k x. refl) part
+          (return_does e scope outer within fit inside lb lc l)
+      act_does (IfOf c a) rest scope live outer within sub inside fit part lb lc l =
+          settled (IfOf c a) rest scope live outer inside lb lc l (λ k x. refl) part
+          (if_by_does (going a lb lc) c a l lb lc scope outer within sub fit.0 inside fit.1 refl
+          (λ m. alone a scope outer inside lb lc m (act_does a NoActions scope scope outer within sub inside fit.1 (wholly scope [] (MoreActions a NoActions)) lb lc m)))
+      act_does (IfElseOf c a b) rest scope live outer within sub inside fit part lb lc l =
+          let q = unless size count c l (suc (suc l)) in
+          let x = lower size count a NoActions lb lc q.labels in
+          settled (IfElseOf c a b) rest scope live outer inside lb lc l (λ k x. refl) part
+          (if_else_does c l x (lower size count b NoActions lb lc x.labels) scope outer (behind_act scope a) (behind_act scope b) (stmt p next a) (stmt p next b) within fit.0
+          (behind_more scope a) (behind_more scope b) inside lb lc
+          (alone a scope outer inside lb lc q.labels (act_does a NoActions scope scope outer within sub inside fit.1 (wholly scope [] (MoreActions a NoActions)) lb lc q.labels))
+          (alone b scope outer inside lb lc x.labels (act_does b NoActions scope scope outer within sub inside fit.2 (wholly scope [] (MoreActions b NoActions)) lb lc x.labels)))
+      act_does (WhileOf c a) rest scope live outer within sub inside fit part lb lc l =
+          settled (WhileOf c a) rest scope live outer inside lb lc l (λ k x. refl) part
+          (while_by_does (constant_of c) c a l scope (behind_act scope a) outer within fit.0 (behind_more scope a)
+          (λ x y m. alone a scope scope true x y m (act_does a NoActions scope scope scope within (λ x h. h) true fit.1 (wholly scope [] (MoreActions a NoActions)) x y m)) inside lb lc)
+      act_does (DoOf a c) rest scope live outer within sub inside fit part lb lc l =
+          settled (DoOf a c) rest scope live outer inside lb lc l (λ k x. refl) part
+          (do_does c a l (lower size count a NoActions (suc (suc l)) (suc l) (suc (suc (suc l)))) scope (behind_act scope a) outer within fit.1 (behind_more scope a)
+          (alone a scope scope true (suc (suc l)) (suc l) (suc (suc (suc l)))
+          (act_does a NoActions scope scope scope within (λ x h. h) true fit.0 (wholly scope [] (MoreActions a NoActions)) (suc (suc l)) (suc l) (suc (suc (suc l))))) inside lb lc)
+      act_does (ForOf i c e a) rest scope live outer within sub inside fit part lb lc l = λ k le is κ res lands h st d ag.
+          let x = effect size count i l in
+          let y = for_of size count x.labels c e (lower size count a NoActions (suc (suc x.labels)) (suc x.labels)) in
+          let res' = parted x.items y.items is res in
+          joined_at k x.items y.items is d _
+          (first_part_does i c e a rest scope live within fit.0 part l k le (y.items ++ is) (look_by p next (for_loop c e a) (stmt p next a) κ) res' st d ag
+          (λ st1 d1 ag1. for_does c e a x.labels scope (behind_act scope a) outer within fit.1 fit.2 (behind_more scope a)
+          (λ m. alone a scope scope true (suc (suc x.labels)) (suc x.labels) m
+          (act_does a NoActions scope scope scope within (λ x h. h) true fit.3 (wholly scope [] (MoreActions a NoActions)) (suc (suc x.labels)) (suc x.labels) m))
+          inside lb lc k le is κ (resolves_back code x.items (y.items ++ is) res') lands st1 d1 ag1))
+
+      rows_by : (row : SomeActions) (scope live outer base : ℕ → Type 0) → ((x : ℕ) → scope x → x < size) → ((x : ℕ) → outer x → scope x) → ((x : ℕ) → base x → scope x)
+          → (inside : Bool) → FitsActs size scope inside row → Partly live scope [] row → (lb lc l : ℕ)
+          → DoesStmt (lower_row size count row lb lc l) lb lc inside outer live base (stmts p next row)
+      rows_by NoActions scope live outer base within sub sub' inside fit part lb lc l k le is κ res h st d ag =
+          h.onward st d (agree_less size (length callers) base live st d (λ x b. none_waits live scope [] NoActions (λ k x. refl) part x (sub' x b)) ag)
+      rows_by (MoreActions a row) scope live outer base within sub sub' inside fit part lb lc l k le is κ res h st d ag =
+          let x = lower size count a row lb lc l in
           let y = lower_row size count row lb lc x.labels in
           let res' = parted x.items y.items is res in
-          joined_at k x.items y.items is d _ (act_does a scope outer within sub inside fit.0 lb lc l k le (y.items ++ is) (followed p next κ (stmts p next row κ)) res'
+          let go_on : (live' : ℕ → Type 0) → Partly live' (behind_act scope a) [] row → (st1 : State) (d1 : Desk) → fair live' st1 d1
+          → Leads k (stmts p next row κ st1) (from (y.items ++ is) d1) =
+          λ live' part' st1 d1 ag1. rows_by row (behind_act scope a) live' outer base (behind_within size scope inside a fit.0 within) (λ z o. behind_more scope a z (sub z o))
+          (λ z o. behind_more scope a z (sub' z o)) inside fit.1 part' lb lc x.labels k le is κ (resolves_back code x.items (y.items ++ is) res') h st1 d1 ag1 in
+          joined_at k x.items y.items is d _ (act_does a row scope live outer within sub inside fit.0 part lb lc l k le (y.items ++ is) (followed p next κ (stmts p next row κ)) res'
           (record {
-            onward = λ st1 d1 ag1. rows_do row (behind_act scope a) outer base (behind_within size scope inside a fit.0 within) (λ z o. behind_more scope a z (sub z o))
-                (λ z o. behind_more scope a z (sub' z o)) inside fit.1 lb lc x.labels k le is κ (resolves_back code x.items (y.items ++ is) res') h st1 d1 ag1;
+            onward = go_on (behind_act scope a) (wholly (behind_act scope a) [] row);
             broke = h.broke;
             continued = h.continued;
             left = h.left;
-          }) st d ag)
+          }) go_on st d ag)
+
+    pub rows_do : (row : SomeActions) (scope outer base : ℕ → Type 0) → ((x : ℕ) → scope x → x < size) → ((x : ℕ) → outer x → scope x) → ((x : ℕ) → base x → scope x)
+        → (inside : Bool) → FitsActs size scope inside row → (lb lc l : ℕ) → DoesStmt (lower_row size count row lb lc l) lb lc inside outer scope base (stmts p next row)
+    rows_do row scope outer base within sub sub' inside fit lb lc l = rows_by row scope scope outer base within sub sub' inside fit (wholly scope [] row) lb lc l

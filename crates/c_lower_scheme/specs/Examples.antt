@@ -80,8 +80,6 @@ at_index w = Bin ariths.Add (Gaddr 0) (Bin ariths.Multiply (Num 4) w)
 abbrev indexing_items : List Item
 indexing_items =
     AssignLoc 0 (Num 0)
-    ∷ AssignLoc 1 (Num 0)
-    ∷ AssignLoc 0 (Num 0)
     ∷ AssignLoc 2 (Loc 0)
     ∷ AssignLoc 0 (Bin ariths.Add (Loc 2) (Num 1))
     ∷ AssignLoc 1 (Conv ints.Char (Bin ariths.Add (Indir ints.Int (at_index (Loc 2))) (Loc 0)))

@@ -8,6 +8,7 @@ pub mod Calls
 pub mod Assignments
 pub mod Expressions
 pub mod Mentions
+pub mod Zeros
 pub mod Flow
 pub mod Statements
 pub mod Programs

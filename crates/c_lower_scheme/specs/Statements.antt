@@ -9,6 +9,7 @@ use Rattle.c_program.specs.Statements.{IfElseOf, WhileOf, DoOf, ForOf}
 use Rattle.c_lower_scheme.specs.Expressions.{way}
 use Rattle.c_lower_scheme.specs.Parts.{Emitted, InLocal, AsResult, nothing}
 use Rattle.c_lower_scheme.specs.Mentions.{mentions}
+use Rattle.c_lower_scheme.specs.Zeros.{is_zeroed}
 use Rattle.c_lower_scheme.specs.Flow.{two_done, done_by, clearing, begin_of, if_of, if_else_of, loop_of}
 use Rattle.c_lower_scheme.specs.Flow.{while_of, turns_by, for_by, ever_by}
 
@@ -51,11 +52,14 @@ module _ (size count : ℕ) where
   returning None l = record { items = Ret (Num 0) ∷ []; temps = size; labels = l }
   returning (Some e) l = (way size count e).deliver AsResult size l
 
-  abbrev pub declare : List ADeclaration → ℕ → Emitted
-  declare [] l = nothing size l
-  declare (KeepOf object ∷ ds) l = declare ds l
-  declare (ClearOf n ∷ ds) l = two_done (record { items = clearing true n; temps = size; labels = l }) (declare ds l)
-  declare (BeginOf n e ∷ ds) l = done_by (begin_of (mentions n e) n ((way size count e).deliver (InLocal n) size l)) (declare ds)
+  -- declarations, before the statements behind them
+  abbrev pub declare : List ADeclaration → SomeActions → ℕ → Emitted
+  declare [] rest l = nothing size l
+  declare (KeepOf object ∷ ds) rest l = declare ds rest l
+  declare (ClearOf n ∷ ds) rest l =
+      two_done (record { items = clearing (is_zeroed n ds rest) n; temps = size; labels = l }) (declare ds rest l)
+  declare (BeginOf n e ∷ ds) rest l =
+      done_by (begin_of (mentions n e) n ((way size count e).deliver (InLocal n) size l)) (declare ds rest)
 
   -- An `if` alone, by its statement: where that is a `break` or `continue`, the branch goes there.
   abbrev pub if_by : Option ℕ → AnExpression → (ℕ → Emitted) → ℕ → Emitted
@@ -78,20 +82,23 @@ module _ (size count : ℕ) where
   for_of l (Some c) e f = for_tested (constant_of c) l c e f
 
   abbrev mutual
-    -- a statement, whose `break` and `continue` go to two labels
-    pub lower : AnAction → ℕ → ℕ → ℕ → Emitted
-    lower (DeclareOf ds) lb lc l = declare ds l
-    lower (BlockOf row) lb lc l = lower_row row lb lc l
-    lower (EvaluateOf e) lb lc l = (way size count e).drop size l
-    lower BreakOf lb lc l = record { items = Jump lb ∷ []; temps = size; labels = l }
-    lower ContinueOf lb lc l = record { items = Jump lc ∷ []; temps = size; labels = l }
-    lower (ReturnOf e) lb lc l = returning e l
-    lower (IfOf c a) lb lc l = if_by (going a lb lc) c (lower a lb lc) l
-    lower (IfElseOf c a b) lb lc l = if_else_of l (unless c l (suc (suc l))) (lower a lb lc) (lower b lb lc)
-    lower (WhileOf c a) lb lc l = while_by (constant_of c) c (lower a) l
-    lower (DoOf a c) lb lc l = loop_of l l (lower a (suc (suc l)) (suc l) (suc (suc (suc l)))) (when c l)
-    lower (ForOf i c e a) lb lc l = done_by (effect i l) (λ m. for_of m c e (lower a (suc (suc m)) (suc m)))
+    -- a statement, before the others of its block, whose `break` and `continue` go to two labels
+    pub lower : AnAction → SomeActions → ℕ → ℕ → ℕ → Emitted
+    lower (DeclareOf ds) rest lb lc l = declare ds rest l
+    lower (BlockOf row) rest lb lc l = lower_row row lb lc l
+    lower (EvaluateOf e) rest lb lc l = (way size count e).drop size l
+    lower BreakOf rest lb lc l = record { items = Jump lb ∷ []; temps = size; labels = l }
+    lower ContinueOf rest lb lc l = record { items = Jump lc ∷ []; temps = size; labels = l }
+    lower (ReturnOf e) rest lb lc l = returning e l
+    lower (IfOf c a) rest lb lc l = if_by (going a lb lc) c (lower a NoActions lb lc) l
+    lower (IfElseOf c a b) rest lb lc l =
+        if_else_of l (unless c l (suc (suc l))) (lower a NoActions lb lc) (lower b NoActions lb lc)
+    lower (WhileOf c a) rest lb lc l = while_by (constant_of c) c (lower a NoActions) l
+    lower (DoOf a c) rest lb lc l =
+        loop_of l l (lower a NoActions (suc (suc l)) (suc l) (suc (suc (suc l)))) (when c l)
+    lower (ForOf i c e a) rest lb lc l =
+        done_by (effect i l) (λ m. for_of m c e (lower a NoActions (suc (suc m)) (suc m)))
 
     pub lower_row : SomeActions → ℕ → ℕ → ℕ → Emitted
     lower_row NoActions lb lc l = nothing size l
-    lower_row (MoreActions a row) lb lc l = done_by (lower a lb lc l) (lower_row row lb lc)
+    lower_row (MoreActions a row) lb lc l = done_by (lower a row lb lc l) (lower_row row lb lc)

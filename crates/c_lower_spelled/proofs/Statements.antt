@@ -12,6 +12,7 @@ use Rattle.c_sound.specs.Stands.{Stands, StandsMaybe, StandsDeclared, StandsAct,
 use Rattle.c_lower_scheme.specs.Parts.{Emitted, InLocal, AsResult}
 use Rattle.c_lower_scheme.specs.Expressions.{way}
 use Rattle.c_lower_scheme.specs.Mentions.{mentions}
+use Rattle.c_lower_scheme.specs.Zeros.{is_zeroed}
 use Rattle.c_lower_scheme.specs.Flow.{two_done, clearing}
 use Rattle.c_lower_scheme.specs.Statements.{unless, when, effect, returning, declare, while_by, for_tested, for_of, lower, lower_row, going, going_alone, if_by}
 use Rattle.c_lower_spelled.proofs.Trees.{AreLong, none, next, behind}
@@ -153,17 +154,17 @@ module _ (objects most params size count : ℕ) (takes : Callee → ℕ → Type
         }
     turns_long l (Some c) e f k k' s s' h = tested_long (constant_of c) l c e f k k' s s' h
 
-  declare_long : (scope : ℕ → Type 0) (ds : List ADeclaration) (l : ℕ) → FitsDeclared size scope ds → StandsDeclared There takes objects ds
-      → Ends (Unit {0}) l (declare size count ds l)
-  declare_long scope [] l f s = record { grows = omega arith; items = λ y le. none }
-  declare_long scope (KeepOf object ∷ ds) l f s = declare_long scope ds l f s
-  declare_long scope (ClearOf n ∷ ds) l f s =
-      let h = declare_long (more scope n) ds l f.1 s in
-      record { grows = h.grows; items = λ y le. next nought (h.items y le) }
-  declare_long scope (BeginOf n e ∷ ds) l f s =
+  declare_long : (scope : ℕ → Type 0) (ds : List ADeclaration) (rest : SomeActions) (l : ℕ) → FitsDeclared size scope ds → StandsDeclared There takes objects ds
+      → Ends (Unit {0}) l (declare size count ds rest l)
+  declare_long scope [] rest l f s = record { grows = omega arith; items = λ y le. none }
+  declare_long scope (KeepOf object ∷ ds) rest l f s = declare_long scope ds rest l f s
+  declare_long scope (ClearOf n ∷ ds) rest l f s =
+      let h = declare_long (more scope n) ds rest l f.1 s in
+      record { grows = h.grows; items = λ y le. behind (clearing_long (is_zeroed n ds rest) n) (h.items y le) }
+  declare_long scope (BeginOf n e ∷ ds) rest l f s =
       let p : Emitted = (way size count e).deliver (InLocal n) size l in
       let x = (way_long objects most params size count takes (more scope n) e f.1 s.0).deliver (InLocal n) size l in
-      let h = declare_long (more scope n) ds p.labels f.2 s.1 in
+      let h = declare_long (more scope n) ds rest p.labels f.2 s.1 in
       let up = x.grows in
       let up' = h.grows in
       record {
@@ -192,8 +193,8 @@ module _ (objects most params size count : ℕ) (takes : Callee → ℕ → Type
     alone_low scope inside (MoreActions a (MoreActions b row)) lb lc to f e k = absurd (cc)
 
   if_by_long : (scope : ℕ → Type 0) (inside : Bool) (o : Option ℕ) (c : AnExpression) (a : AnAction) (lb lc l : ℕ) → Fits scope c → FitsAct size scope inside a
-      → Stands There takes objects c → going a lb lc ≡ o → ((k : ℕ) → Ends (Loops inside lb lc) k (lower size count a lb lc k))
-      → Ends (Loops inside lb lc) l (if_by size count o c (lower size count a lb lc) l)
+      → Stands There takes objects c → going a lb lc ≡ o → ((k : ℕ) → Ends (Loops inside lb lc) k (lower size count a NoActions lb lc k))
+      → Ends (Loops inside lb lc) l (if_by size count o c (lower size count a NoActions lb lc) l)
   if_by_long scope inside (Some to) c a lb lc l f f' s e h =
       let x = when_long scope c to l f s in
       record { grows = x.grows; items = λ k le. x.items (goes_low scope inside a lb lc to f' e k) le }
@@ -211,22 +212,22 @@ module _ (objects most params size count : ℕ) (takes : Callee → ℕ → Type
       }
 
   mutual
-    lower_long : (scope : ℕ → Type 0) (inside : Bool) (a : AnAction) (lb lc l : ℕ) → FitsAct size scope inside a → StandsAct There takes objects a
-        → Ends (Loops inside lb lc) l (lower size count a lb lc l)
-    lower_long scope inside (DeclareOf ds) lb lc l f s = always _ l _ (declare_long scope ds l f s)
-    lower_long scope inside (BlockOf row) lb lc l f s = row_long scope inside row lb lc l f s
-    lower_long scope inside (EvaluateOf e) lb lc l f s = always _ l _ (effect_long scope (Some e) l f s)
-    lower_long scope inside BreakOf lb lc l f s = record { grows = omega arith; items = λ k le. next (k f).0 none }
-    lower_long scope inside ContinueOf lb lc l f s = record { grows = omega arith; items = λ k le. next (k f).1 none }
-    lower_long scope inside (ReturnOf e) lb lc l f s = always _ l _ (returning_long scope e l f s)
-    lower_long scope inside (IfOf c a) lb lc l f s =
-        if_by_long scope inside (going a lb lc) c a lb lc l f.0 f.1 s.0 refl (λ k. lower_long scope inside a lb lc k f.1 s.1)
-    lower_long scope inside (IfElseOf c a b) lb lc l f s =
+    lower_long : (scope : ℕ → Type 0) (inside : Bool) (a : AnAction) (rest : SomeActions) (lb lc l : ℕ) → FitsAct size scope inside a → StandsAct There takes objects a
+        → Ends (Loops inside lb lc) l (lower size count a rest lb lc l)
+    lower_long scope inside (DeclareOf ds) rest lb lc l f s = always _ l _ (declare_long scope ds rest l f s)
+    lower_long scope inside (BlockOf row) rest lb lc l f s = row_long scope inside row lb lc l f s
+    lower_long scope inside (EvaluateOf e) rest lb lc l f s = always _ l _ (effect_long scope (Some e) l f s)
+    lower_long scope inside BreakOf rest lb lc l f s = record { grows = omega arith; items = λ k le. next (k f).0 none }
+    lower_long scope inside ContinueOf rest lb lc l f s = record { grows = omega arith; items = λ k le. next (k f).1 none }
+    lower_long scope inside (ReturnOf e) rest lb lc l f s = always _ l _ (returning_long scope e l f s)
+    lower_long scope inside (IfOf c a) rest lb lc l f s =
+        if_by_long scope inside (going a lb lc) c a lb lc l f.0 f.1 s.0 refl (λ k. lower_long scope inside a NoActions lb lc k f.1 s.1)
+    lower_long scope inside (IfElseOf c a b) rest lb lc l f s =
         let p : Emitted = unless size count c l (suc (suc l)) in
-        let q : Emitted = lower size count a lb lc p.labels in
+        let q : Emitted = lower size count a NoActions lb lc p.labels in
         let x = unless_long scope c l (suc (suc l)) f.0 s.0 in
-        let y = lower_long scope inside a lb lc p.labels f.1 s.1 in
-        let z = lower_long scope inside b lb lc q.labels f.2 s.2 in
+        let y = lower_long scope inside a NoActions lb lc p.labels f.1 s.1 in
+        let z = lower_long scope inside b NoActions lb lc q.labels f.2 s.2 in
         let up = x.grows in
         let up' = y.grows in
         let up'' = z.grows in
@@ -238,11 +239,11 @@ module _ (objects most params size count : ℕ) (takes : Callee → ℕ → Type
               let last = next lt' (next lt (behind (z.items k le) (next lt' none))) in
               behind (x.items lt (omega arith)) (behind (y.items k (omega arith)) last);
         }
-    lower_long scope inside (WhileOf c a) lb lc l f s =
-        always _ l _ (while_by_long scope (constant_of c) l c (lower size count a) f.0 s.0 (λ x y k. lower_long scope true a x y k f.1 s.1))
-    lower_long scope inside (DoOf a c) lb lc l f s =
-        let q : Emitted = lower size count a (suc (suc l)) (suc l) (suc (suc (suc l))) in
-        let x = lower_long scope true a (suc (suc l)) (suc l) (suc (suc (suc l))) f.0 s.0 in
+    lower_long scope inside (WhileOf c a) rest lb lc l f s =
+        always _ l _ (while_by_long scope (constant_of c) l c (lower size count a NoActions) f.0 s.0 (λ x y k. lower_long scope true a NoActions x y k f.1 s.1))
+    lower_long scope inside (DoOf a c) rest lb lc l f s =
+        let q : Emitted = lower size count a NoActions (suc (suc l)) (suc l) (suc (suc (suc l))) in
+        let x = lower_long scope true a NoActions (suc (suc l)) (suc l) (suc (suc (suc l))) f.0 s.0 in
         let y = when_long scope c l q.labels f.1 s.1 in
         let up = x.grows in
         let up' = y.grows in
@@ -255,17 +256,17 @@ module _ (objects most params size count : ℕ) (takes : Callee → ℕ → Type
               let last = next lt' (behind (y.items lt le) (next lt'' none)) in
               next lt (next lt (behind (x.items (λ i. (lt'', lt')) (omega arith)) last));
         }
-    lower_long scope inside (ForOf i c e a) lb lc l f s =
+    lower_long scope inside (ForOf i c e a) rest lb lc l f s =
         let p : Emitted = effect size count i l in
         let m : ℕ = p.labels in
-        let body : ℕ → Emitted = lower size count a (suc (suc m)) (suc m) in
+        let body : ℕ → Emitted = lower size count a NoActions (suc (suc m)) (suc m) in
         two_long _ l p (for_of size count m c e body) (always _ l p (effect_long scope i l f.0 s.0))
-        (always _ m _ (turns_long scope m c e body f.1 f.2 s.1 s.2 (λ k. lower_long scope true a (suc (suc m)) (suc m) k f.3 s.3)))
+        (always _ m _ (turns_long scope m c e body f.1 f.2 s.1 s.2 (λ k. lower_long scope true a NoActions (suc (suc m)) (suc m) k f.3 s.3)))
 
     pub row_long : (scope : ℕ → Type 0) (inside : Bool) (row : SomeActions) (lb lc l : ℕ) → FitsActs size scope inside row
         → StandsActs There takes objects row → LongEnds objects most (inside ≡ true → (lb < most) × (lc < most)) l (lower_row size count row lb lc l)
     row_long scope inside NoActions lb lc l f s = record { grows = omega arith; items = λ k le. none }
     row_long scope inside (MoreActions a row) lb lc l f s =
-        let p : Emitted = lower size count a lb lc l in
-        two_long _ l p (lower_row size count row lb lc p.labels) (lower_long scope inside a lb lc l f.0 s.0)
+        let p : Emitted = lower size count a row lb lc l in
+        two_long _ l p (lower_row size count row lb lc p.labels) (lower_long scope inside a row lb lc l f.0 s.0)
         (row_long (behind_act scope a) inside row lb lc p.labels f.1 s.1)

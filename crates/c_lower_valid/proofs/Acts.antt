@@ -14,6 +14,7 @@ use Rattle.c_lower_scheme.specs.Parts.{Emitted, InLocal, AsResult, nothing}
 use Rattle.c_lower_scheme.specs.Calls.{callee_number}
 use Rattle.c_lower_scheme.specs.Expressions
 use Rattle.c_lower_scheme.specs.Mentions.{mentions}
+use Rattle.c_lower_scheme.specs.Zeros.{is_zeroed}
 use Rattle.c_lower_scheme.specs.Flow.{two_done, clearing, begin_of, if_done, if_else_done, loop_done, while_done, turns_done, for_done, ever_done}
 use Rattle.c_lower_scheme.specs.Statements
 use Rattle.c_lower_valid.proofs.Named.{Scene}
@@ -219,56 +220,56 @@ module _ (scene : Scene) (size count : ℕ) (takes : Callee → ℕ → Type 0)
         fine_ever l b (Statements.effect size count e b.labels) (h (suc (suc (suc l)))) (fine_effect e b.labels k' s')
     fine_for_of l (Some c) e f k k' s s' h = fine_tested (constant_of c) l c e f k k' s s' h
 
-  fine_declare : (scope : ℕ → Type 0) (within : (n : ℕ) → scope n → n < size) (ds : List ADeclaration) (l : ℕ)
-      → FitsDeclared size scope ds → StandsDeclared There takes scene.objects ds → Dones (Statements.declare size count ds l)
-  fine_declare scope within [] l f s = fine_nothing l
-  fine_declare scope within (KeepOf object ∷ ds) l f s = fine_declare scope within ds l f s
-  fine_declare scope within (ClearOf n ∷ ds) l f s =
+  fine_declare : (scope : ℕ → Type 0) (within : (n : ℕ) → scope n → n < size) (ds : List ADeclaration) (rest : SomeActions) (l : ℕ)
+      → FitsDeclared size scope ds → StandsDeclared There takes scene.objects ds → Dones (Statements.declare size count ds rest l)
+  fine_declare scope within [] rest l f s = fine_nothing l
+  fine_declare scope within (KeepOf object ∷ ds) rest l f s = fine_declare scope within ds rest l f s
+  fine_declare scope within (ClearOf n ∷ ds) rest l f s =
       let wider = λ (k : ℕ). ⊎_elim (λ (h : scope k). within k h) (λ (e : k ≡ n). let lt = f.0 in let r : k < size = omega arith in r) in
-      let first : Emitted = record { items = clearing true n; temps = size; labels = l } in
-      fine_two first (Statements.declare size count ds l) (record { grows = omega arith; items = fine_clearing true n size f.0 })
-      (fine_declare (more scope n) wider ds l f.1 s)
-  fine_declare scope within (BeginOf n e ∷ ds) l f s =
+      let first : Emitted = record { items = clearing (is_zeroed n ds rest) n; temps = size; labels = l } in
+      fine_two first (Statements.declare size count ds rest l) (record { grows = omega arith; items = fine_clearing (is_zeroed n ds rest) n size f.0 })
+      (fine_declare (more scope n) wider ds rest l f.1 s)
+  fine_declare scope within (BeginOf n e ∷ ds) rest l f s =
       let wider = λ (k : ℕ). ⊎_elim (λ (h : scope k). within k h) (λ (e : k ≡ n). let lt = f.0 in let r : k < size = omega arith in r) in
       let q = (Expressions.way size count e).deliver (InLocal n) size l in
-      fine_two (begin_of (mentions n e) n q) (Statements.declare size count ds q.labels)
+      fine_two (begin_of (mentions n e) n q) (Statements.declare size count ds rest q.labels)
       (fine_begin (mentions n e) n q f.0 ((fine_way scene size count takes calls (more scope n) wider e f.1 s.0).deliver (InLocal n) size l (omega arith) f.0))
-      (fine_declare (more scope n) wider ds q.labels f.2 s.1)
+      (fine_declare (more scope n) wider ds rest q.labels f.2 s.1)
 
   mutual
-    fine_act : (scope : ℕ → Type 0) (within : (n : ℕ) → scope n → n < size) (inside : Bool) (a : AnAction) (lb lc l : ℕ)
-        → FitsAct size scope inside a → StandsAct There takes scene.objects a → Dones (Statements.lower size count a lb lc l)
-    fine_act scope within inside (DeclareOf ds) lb lc l f s = fine_declare scope within ds l f s
-    fine_act scope within inside (BlockOf row) lb lc l f s = fine_acts scope within inside row lb lc l f s
-    fine_act scope within inside (EvaluateOf e) lb lc l f s = fine_effect scope within (Some e) l f s
-    fine_act scope within inside BreakOf lb lc l f s = fine_jump lb l
-    fine_act scope within inside ContinueOf lb lc l f s = fine_jump lc l
-    fine_act scope within inside (ReturnOf e) lb lc l f s = fine_returning scope within e l f s
-    fine_act scope within inside (IfOf c a) lb lc l f s =
-        fine_if_by scope within (Statements.going a lb lc) l c (Statements.lower size count a lb lc) f.0 s.0 (λ m. fine_act scope within inside a lb lc m f.1 s.1)
-    fine_act scope within inside (IfElseOf c a b) lb lc l f s =
+    fine_act : (scope : ℕ → Type 0) (within : (n : ℕ) → scope n → n < size) (inside : Bool) (a : AnAction) (rest : SomeActions) (lb lc l : ℕ)
+        → FitsAct size scope inside a → StandsAct There takes scene.objects a → Dones (Statements.lower size count a rest lb lc l)
+    fine_act scope within inside (DeclareOf ds) rest lb lc l f s = fine_declare scope within ds rest l f s
+    fine_act scope within inside (BlockOf row) rest lb lc l f s = fine_acts scope within inside row lb lc l f s
+    fine_act scope within inside (EvaluateOf e) rest lb lc l f s = fine_effect scope within (Some e) l f s
+    fine_act scope within inside BreakOf rest lb lc l f s = fine_jump lb l
+    fine_act scope within inside ContinueOf rest lb lc l f s = fine_jump lc l
+    fine_act scope within inside (ReturnOf e) rest lb lc l f s = fine_returning scope within e l f s
+    fine_act scope within inside (IfOf c a) rest lb lc l f s =
+        fine_if_by scope within (Statements.going a lb lc) l c (Statements.lower size count a NoActions lb lc) f.0 s.0 (λ m. fine_act scope within inside a NoActions lb lc m f.1 s.1)
+    fine_act scope within inside (IfElseOf c a b) rest lb lc l f s =
         let p = Statements.unless size count c l (suc (suc l)) in
-        let q = Statements.lower size count a lb lc p.labels in
-        fine_if_else l p q (Statements.lower size count b lb lc q.labels) (fine_test_of scope within false c l (suc (suc l)) f.0 s.0)
-        (fine_act scope within inside a lb lc p.labels f.1 s.1) (fine_act scope within inside b lb lc q.labels f.2 s.2)
-    fine_act scope within inside (WhileOf c a) lb lc l f s =
-        fine_while_by scope within (constant_of c) l c (Statements.lower size count a) f.0 s.0 (λ x y m. fine_act scope within true a x y m f.1 s.1)
-    fine_act scope within inside (DoOf a c) lb lc l f s =
-        let q = Statements.lower size count a (suc (suc l)) (suc l) (suc (suc (suc l))) in
+        let q = Statements.lower size count a NoActions lb lc p.labels in
+        fine_if_else l p q (Statements.lower size count b NoActions lb lc q.labels) (fine_test_of scope within false c l (suc (suc l)) f.0 s.0)
+        (fine_act scope within inside a NoActions lb lc p.labels f.1 s.1) (fine_act scope within inside b NoActions lb lc q.labels f.2 s.2)
+    fine_act scope within inside (WhileOf c a) rest lb lc l f s =
+        fine_while_by scope within (constant_of c) l c (Statements.lower size count a NoActions) f.0 s.0 (λ x y m. fine_act scope within true a NoActions x y m f.1 s.1)
+    fine_act scope within inside (DoOf a c) rest lb lc l f s =
+        let q = Statements.lower size count a NoActions (suc (suc l)) (suc l) (suc (suc (suc l))) in
         fine_loop l l q (Statements.when size count c l q.labels)
-        (fine_act scope within true a (suc (suc l)) (suc l) (suc (suc (suc l))) f.0 s.0)
+        (fine_act scope within true a NoActions (suc (suc l)) (suc l) (suc (suc (suc l))) f.0 s.0)
         (fine_test_of scope within true c l q.labels f.1 s.1)
-    fine_act scope within inside (ForOf i c e a) lb lc l f s =
+    fine_act scope within inside (ForOf i c e a) rest lb lc l f s =
         let p = Statements.effect size count i l in
         let m = p.labels in
-        let body = Statements.lower size count a (suc (suc m)) (suc m) in
+        let body = Statements.lower size count a NoActions (suc (suc m)) (suc m) in
         fine_two p (Statements.for_of size count m c e body) (fine_effect scope within i l f.0 s.0)
-        (fine_for_of scope within m c e body f.1 f.2 s.1 s.2 (λ k. fine_act scope within true a (suc (suc m)) (suc m) k f.3 s.3))
+        (fine_for_of scope within m c e body f.1 f.2 s.1 s.2 (λ k. fine_act scope within true a NoActions (suc (suc m)) (suc m) k f.3 s.3))
 
     pub fine_acts : (scope : ℕ → Type 0) (within : (n : ℕ) → scope n → n < size) (inside : Bool) (row : SomeActions) (lb lc l : ℕ)
         → FitsActs size scope inside row → StandsActs There takes scene.objects row → Dones (Statements.lower_row size count row lb lc l)
     fine_acts scope within inside NoActions lb lc l f s = fine_nothing l
     fine_acts scope within inside (MoreActions a row) lb lc l f s =
-        let p = Statements.lower size count a lb lc l in
-        fine_two p (Statements.lower_row size count row lb lc p.labels) (fine_act scope within inside a lb lc l f.0 s.0)
+        let p = Statements.lower size count a row lb lc l in
+        fine_two p (Statements.lower_row size count row lb lc p.labels) (fine_act scope within inside a row lb lc l f.0 s.0)
         (fine_acts (behind_act scope a) (within_act size scope inside a within f.0) inside row lb lc p.labels f.1 s.1)

@@ -10,6 +10,7 @@ use Rattle.c_lower_scheme.specs.Trees.{Num, Item, Label, Jump, Ret}
 use Rattle.c_lower_scheme.specs.Parts
 use Rattle.c_lower_scheme.specs.Expressions
 use Rattle.c_lower_scheme.specs.Mentions
+use Rattle.c_lower_scheme.specs.Zeros
 use Rattle.c_lower_scheme.specs.Flow
 use Rattle.c_lower_scheme.specs.Statements
 use Rattle.c_lower_valid.proofs.Marks.{at, stands, aims, stands_append, aims_append, nowhere, Marked, marked_nil, marked_out, marked_append, marked_same, marked_plain}
@@ -122,17 +123,18 @@ module _ (size count : ℕ) where
   marked_returning None l = marked_plain nowhere l l [] (Ret (Num 0) ∷ []) (marked_nil nowhere l) (λ m. refl)
   marked_returning (Some e) l = (marked_way size count e).deliver Parts.AsResult size l
 
-  marked_declare : (ds : List ADeclaration) (l : ℕ)
-      → Marked nowhere l (Statements.declare size count ds l).labels (Statements.declare size count ds l).items
-  marked_declare [] l = marked_nil nowhere l
-  marked_declare (KeepOf object ∷ ds) l = marked_declare ds l
-  marked_declare (ClearOf n ∷ ds) l = marked_front nowhere l _ (Flow.clearing true n) _ (mute_clearing true n) (marked_declare ds l)
-  marked_declare (BeginOf n e ∷ ds) l =
+  marked_declare : (ds : List ADeclaration) (rest : SomeActions) (l : ℕ)
+      → Marked nowhere l (Statements.declare size count ds rest l).labels (Statements.declare size count ds rest l).items
+  marked_declare [] rest l = marked_nil nowhere l
+  marked_declare (KeepOf object ∷ ds) rest l = marked_declare ds rest l
+  marked_declare (ClearOf n ∷ ds) rest l =
+      marked_front nowhere l _ (Flow.clearing (Zeros.is_zeroed n ds rest) n) _ (mute_clearing (Zeros.is_zeroed n ds rest) n) (marked_declare ds rest l)
+  marked_declare (BeginOf n e ∷ ds) rest l =
       let q = (Expressions.way size count e).deliver (Parts.InLocal n) size l in
       let b = Mentions.mentions n e in
       marked_append nowhere l q.labels _ _ _ (marked_front nowhere l q.labels (Flow.clearing b n) q.items (mute_clearing b n)
       ((marked_way size count e).deliver (Parts.InLocal n) size l))
-      (marked_declare ds q.labels)
+      (marked_declare ds rest q.labels)
 
   -- a `break` or `continue` goes to a label around it
   mutual
@@ -160,9 +162,9 @@ module _ (size count : ℕ) where
 
   marked_if_by : (scope : ℕ → Type 0) (inside : Bool) (o : Option ℕ) (c : AnExpression) (a : AnAction) (lb lc l : ℕ) → FitsAct size scope inside a
       → Statements.going a lb lc ≡ o
-      → ((m : ℕ) → Marked (leaving inside lb lc) m (Statements.lower size count a lb lc m).labels (Statements.lower size count a lb lc m).items)
-      → Marked (leaving inside lb lc) l (Statements.if_by size count o c (Statements.lower size count a lb lc) l).labels
-      (Statements.if_by size count o c (Statements.lower size count a lb lc) l).items
+      → ((m : ℕ) → Marked (leaving inside lb lc) m (Statements.lower size count a NoActions lb lc m).labels (Statements.lower size count a NoActions lb lc m).items)
+      → Marked (leaving inside lb lc) l (Statements.if_by size count o c (Statements.lower size count a NoActions lb lc) l).labels
+      (Statements.if_by size count o c (Statements.lower size count a NoActions lb lc) l).items
   marked_if_by scope inside (Some to) c a lb lc l f e h =
       marked_out (at to) (leaving inside lb lc) l _ _ (goes_out scope inside a lb lc to f e) ((marked_way size count c).branch true to size l)
   marked_if_by scope inside None c a lb lc l f e h =
@@ -201,47 +203,47 @@ module _ (size count : ℕ) where
   marked_for_of out (Some c) e l f h = marked_tested out (constant_of c) c e l f h
 
   mutual
-    marked_act : (scope : ℕ → Type 0) (inside : Bool) (a : AnAction) (lb lc l : ℕ) → FitsAct size scope inside a
-        → Marked (leaving inside lb lc) l (Statements.lower size count a lb lc l).labels (Statements.lower size count a lb lc l).items
-    marked_act scope inside (DeclareOf ds) lb lc l f = marked_out nowhere (leaving inside lb lc) l _ _ (λ m. omega arith)
-        (marked_declare ds l)
-    marked_act scope inside (BlockOf row) lb lc l f = marked_row scope inside row lb lc l f
-    marked_act scope inside (EvaluateOf e) lb lc l f = marked_out nowhere (leaving inside lb lc) l _ _ (λ m. omega arith)
+    marked_act : (scope : ℕ → Type 0) (inside : Bool) (a : AnAction) (rest : SomeActions) (lb lc l : ℕ) → FitsAct size scope inside a
+        → Marked (leaving inside lb lc) l (Statements.lower size count a rest lb lc l).labels (Statements.lower size count a rest lb lc l).items
+    marked_act scope inside (DeclareOf ds) rest lb lc l f = marked_out nowhere (leaving inside lb lc) l _ _ (λ m. omega arith)
+        (marked_declare ds rest l)
+    marked_act scope inside (BlockOf row) rest lb lc l f = marked_row scope inside row lb lc l f
+    marked_act scope inside (EvaluateOf e) rest lb lc l f = marked_out nowhere (leaving inside lb lc) l _ _ (λ m. omega arith)
         ((marked_way size count e).drop size l)
-    marked_act scope true BreakOf lb lc l f = marked_same (leaving true lb lc) l l [] (Jump lb ∷ []) (marked_nil (leaving true lb lc) l)
+    marked_act scope true BreakOf rest lb lc l f = marked_same (leaving true lb lc) l l [] (Jump lb ∷ []) (marked_nil (leaving true lb lc) l)
         (λ m. refl) (λ m lt. omega arith)
-    marked_act scope false BreakOf lb lc l f = absurd (cc)
-    marked_act scope true ContinueOf lb lc l f = marked_same (leaving true lb lc) l l [] (Jump lc ∷ [])
+    marked_act scope false BreakOf rest lb lc l f = absurd (cc)
+    marked_act scope true ContinueOf rest lb lc l f = marked_same (leaving true lb lc) l l [] (Jump lc ∷ [])
         (marked_nil (leaving true lb lc) l) (λ m. refl) (λ m lt. omega arith)
-    marked_act scope false ContinueOf lb lc l f = absurd (cc)
-    marked_act scope inside (ReturnOf e) lb lc l f = marked_out nowhere (leaving inside lb lc) l _ _ (λ m. omega arith)
+    marked_act scope false ContinueOf rest lb lc l f = absurd (cc)
+    marked_act scope inside (ReturnOf e) rest lb lc l f = marked_out nowhere (leaving inside lb lc) l _ _ (λ m. omega arith)
         (marked_returning e l)
-    marked_act scope inside (IfOf c a) lb lc l f =
-        marked_if_by scope inside (Statements.going a lb lc) c a lb lc l f.1 refl (λ m. marked_act scope inside a lb lc m f.1)
-    marked_act scope inside (IfElseOf c a b) lb lc l f =
+    marked_act scope inside (IfOf c a) rest lb lc l f =
+        marked_if_by scope inside (Statements.going a lb lc) c a lb lc l f.1 refl (λ m. marked_act scope inside a NoActions lb lc m f.1)
+    marked_act scope inside (IfElseOf c a b) rest lb lc l f =
         let q = Statements.unless size count c l (suc (suc l)) in
-        let x = Statements.lower size count a lb lc q.labels in
+        let x = Statements.lower size count a NoActions lb lc q.labels in
         marked_fork (leaving inside lb lc) l q.labels x.labels _ q.items x.items _ [] [] (λ m. refl) (λ m. refl)
-        ((marked_way size count c).branch false l size (suc (suc l))) (marked_act scope inside a lb lc q.labels f.1)
-        (marked_act scope inside b lb lc x.labels f.2)
-    marked_act scope inside (WhileOf c a) lb lc l f =
-        marked_while_by (leaving inside lb lc) (constant_of c) c (Statements.lower size count a) l (λ x y m. marked_act scope true a x y m f.1)
-    marked_act scope inside (DoOf a c) lb lc l f =
-        let x = Statements.lower size count a (suc (suc l)) (suc l) (suc (suc (suc l))) in
-        marked_loop (leaving inside lb lc) l l x.labels _ x.items _ (λ m. omega arith) (marked_act scope true a (suc (suc l)) (suc l) (suc (suc (suc l))) f.0)
+        ((marked_way size count c).branch false l size (suc (suc l))) (marked_act scope inside a NoActions lb lc q.labels f.1)
+        (marked_act scope inside b NoActions lb lc x.labels f.2)
+    marked_act scope inside (WhileOf c a) rest lb lc l f =
+        marked_while_by (leaving inside lb lc) (constant_of c) c (Statements.lower size count a NoActions) l (λ x y m. marked_act scope true a NoActions x y m f.1)
+    marked_act scope inside (DoOf a c) rest lb lc l f =
+        let x = Statements.lower size count a NoActions (suc (suc l)) (suc l) (suc (suc (suc l))) in
+        marked_loop (leaving inside lb lc) l l x.labels _ x.items _ (λ m. omega arith) (marked_act scope true a NoActions (suc (suc l)) (suc l) (suc (suc (suc l))) f.0)
         ((marked_way size count c).branch true l size x.labels)
-    marked_act scope inside (ForOf i c e a) lb lc l f =
+    marked_act scope inside (ForOf i c e a) rest lb lc l f =
         let x = Statements.effect size count i l in
         marked_append (leaving inside lb lc) l x.labels _ x.items _
         (marked_out nowhere (leaving inside lb lc) l _ _ (λ m. omega arith) (marked_effect i l))
-        (marked_for_of (leaving inside lb lc) c e x.labels (Statements.lower size count a (suc (suc x.labels)) (suc x.labels))
-        (λ m. marked_act scope true a (suc (suc x.labels)) (suc x.labels) m f.3))
+        (marked_for_of (leaving inside lb lc) c e x.labels (Statements.lower size count a NoActions (suc (suc x.labels)) (suc x.labels))
+        (λ m. marked_act scope true a NoActions (suc (suc x.labels)) (suc x.labels) m f.3))
 
     pub marked_row : (scope : ℕ → Type 0) (inside : Bool) (row : SomeActions) (lb lc l : ℕ) → FitsActs size scope inside row
         → Marked (leaving inside lb lc) l (Statements.lower_row size count row lb lc l).labels
         (Statements.lower_row size count row lb lc l).items
     marked_row scope inside NoActions lb lc l f = marked_nil (leaving inside lb lc) l
     marked_row scope inside (MoreActions a row) lb lc l f =
-        let x = Statements.lower size count a lb lc l in
-        marked_append (leaving inside lb lc) l x.labels _ x.items _ (marked_act scope inside a lb lc l f.0)
+        let x = Statements.lower size count a row lb lc l in
+        marked_append (leaving inside lb lc) l x.labels _ x.items _ (marked_act scope inside a row lb lc l f.0)
         (marked_row (behind_act scope a) inside row lb lc x.labels f.1)

@@ -1,4 +1,4 @@
-use Rattle.std.proofs.Common.{ℕ, ◌*◌}
+use Rattle.std.proofs.Common.{◌*◌}
 use Rattle.c_types.specs.Typed.{term, place_of, terms}
 use Rattle.c_lower_code.specs.Sizes.{size, place_size, all_size}
 use Rattle.c_lower_code.proofs.mention.+mentions.Given as goal

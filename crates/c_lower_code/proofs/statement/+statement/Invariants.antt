@@ -5,6 +5,6 @@ use Rattle.c_lower_scheme.specs.Statements.{lower_row}
 use Rattle.c_lower_code.specs.Views.{done}
 use Rattle.c_lower_code.proofs.statement.+statement.Given as goal
 
-abbrev pub invariant-row-loop-a : goal.invariant-row-loop-a
-invariant-row-loop-a l = (two_done (done l.whole) (lower_row l.frame.locals l.frame.functions (acts (drop l.a-index l.all)) l.broken l.onward l.whole.labels)
+abbrev pub invariant-row-loop-i : goal.invariant-row-loop-i
+invariant-row-loop-i l = (two_done (done l.whole) (lower_row l.frame.locals l.frame.functions (acts (drop l.i l.all)) l.broken l.onward l.whole.labels)
     ≡ lower_row l.frame.locals l.frame.functions (acts l.all) l.broken l.onward l.l) × (l.frame.locals ≤ l.whole.temps)
