@@ -36,8 +36,8 @@ fn said(alloc: Global, text: &str) -> Result<String, AllocError> {
 fn reads_words(rt: HostRuntime) -> Result<(), Fail> {
     let rows =
         "check,d=check d;check=nothing;check,=nothing;check,d,d=nothing;compile,d,s=compile d s;compile,d,7=compile d 7;compile=nothing;\
-        compile,d=nothing;compile,d,=nothing;compile,,s=nothing;compile,d,s,s=nothing;run,a.s,7=run a.s 7;run,a,1=run a
-            1;run,a,1000000000=run a 1000000000;\
+        compile,d=nothing;compile,d,=nothing;compile,,s=nothing;compile,d,s,s=nothing;run,a.s,7=run a.s 7;run,a,1=run a 1;\
+        run,a,1000000000=run a 1000000000;\
         =nothing;first,s=nothing;run=nothing;run,a=nothing;\
         run,a,=nothing;run,,7=nothing;run,a,7,7=nothing;run,a,0=nothing;run,a,00=nothing;run,a,07=nothing;\
         run,a,+7=nothing;run,a,-7=nothing;run,a,7x=nothing;run,a,1000000001=nothing;\
