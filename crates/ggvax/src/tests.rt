@@ -155,14 +155,14 @@ fn answers_each_command(rt: HostRuntime) -> Result<(), Fail> {
             VAX_GG,
             Status::Done,
             "B\n",
-            "load 1: source 180 bytes, text 707 bytes, 2 turns, 37 instructions, output 2 bytes, ended 0\n",
+            "load 1: source 180 bytes, text 681 bytes, 2 turns, 35 instructions, output 2 bytes, ended 0\n",
         ),
         (
             "load,s,2",
             VAX_GG,
             Status::Done,
             "H\n",
-            "load 2: source 255 bytes, text 1041 bytes, 3 turns, 54 instructions, output 2 bytes, ended 0\n",
+            "load 2: source 255 bytes, text 1002 bytes, 3 turns, 51 instructions, output 2 bytes, ended 0\n",
         ),
         (
             "load,s,1",
