@@ -59,18 +59,15 @@ if copy_plain "${C_REFERENCE:-}" lower_plain.rs; then
             }\
 &/' "$work/plain/src/lower.rs"
     # It writes each zero of a declaration; here one that is overwritten before anything names its local is not written.
-    sed -i '/^ *TS::Block(b) => {$/i\
-            TS::Block(b) => {\
-                for (n, s) in b.iter().enumerate() {\
-                    match s {\
-                        TS::Decl(i, None) if overwritten(*i, &b[n + 1..], 64) => {}\
-                        _ => self.stmt(s),\
-                    }\
-                }\
-            }' "$work/plain/src/lower.rs"
+    sed -i '/^ *TS::Block(b) => {$/,/^ *}$/s/for s in b {/for s in row(b) {/
+        s/^        for s in &f\.body {$/        for s in row(\&f.body) {/' "$work/plain/src/lower.rs"
     cat >>"$work/plain/src/lower.rs" <<'RS'
 fn sets(i: u32, e: &TE) -> bool {
     matches!(&e.k, TK::Assign(p, v) if matches!(p.k, TK::Var(V::Auto(j)) if j == i) && !mentions(v, i))
+}
+fn row(all: &[TS]) -> impl Iterator<Item = &TS> {
+    let is_written = move |n: usize, s: &TS| !matches!(s, TS::Decl(i, None) if overwritten(*i, &all[n + 1..], 64));
+    all.iter().enumerate().filter(move |(n, s)| is_written(*n, s)).map(|(_, s)| s)
 }
 fn overwritten(i: u32, row: &[TS], ahead: u32) -> bool {
     let Some((s, rest)) = row.split_first() else { return false };
