@@ -113,6 +113,36 @@ fn a_preferred_shift_blocks(rt: HostRuntime) -> Result<(), Fail> {
     Ok(())
 }
 
+// `Ret Four`.
+fn returned_four(alloc: Global) -> Result<Sample, Fail> {
+    let nodes = vec![in alloc;
+        node(alloc, Tok::Four, &[], &[])?,
+        node(alloc, Tok::Ret, &[0], &[])?,
+    ]?;
+    Ok(Sample::new(nodes))
+}
+
+#[test]
+fn a_constant_without_a_rule_blocks(rt: HostRuntime) -> Result<(), Fail> {
+    let alloc = rt.alloc();
+    let sample = returned_four(alloc)?;
+    let bridged = format!(in alloc; "{M_GG}{BRIDGE}")?;
+    assert_eq!(rt;
+        outcome(alloc, bridged.as_str(), &sample)?,
+        Some(Outcome::Done)
+    );
+    let Some((before, behind)) = M_GG.split_once("rule con : Four\n  give %1\n") else {
+        assert!(rt; false);
+        return Ok(());
+    };
+    let without = format!(in alloc; "{before}{behind}{BRIDGE}")?;
+    assert_eq!(rt;
+        outcome(alloc, without.as_str(), &sample)?,
+        Some(Outcome::Blocks(1))
+    );
+    Ok(())
+}
+
 #[test]
 fn a_circle_of_classes_loops(rt: HostRuntime) -> Result<(), Fail> {
     let alloc = rt.alloc();
