@@ -1,4 +1,5 @@
 -- The declarations of variables: what their form alone tells, their lengths, their objects and their initialisers.
+-- This is how the code computes it; the rules of typing are the relations of c_typed_law.
 use Rattle.std.specs.Prelude.{◌≡◌, ℕ, ◌+◌, ◌-◌, ◌*◌, ◌==◌, nat_lt, Bool, true, false, ◌||◌, ◌&&◌, List, [], ◌∷◌, ◌++◌}
 use Rattle.std.specs.Prelude.{length, Option, Some, None, Result, Ok, if◌then◌else◌}
 use Rattle.std.specs.Fmt.{decimal}

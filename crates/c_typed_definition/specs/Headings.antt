@@ -1,4 +1,5 @@
 -- The heading of a function: its earlier declaration, its result and its parameters.
+-- This is how the code computes it; the rules of typing are the relations of c_typed_law.
 use Rattle.std.specs.Prelude.{ℕ, nat_lt, Bool, true, false, ◌&&◌, List, [], ◌∷◌}
 use Rattle.std.specs.Prelude.{◌++◌, length, map, slice_get, Option, Some, None, Result, Ok, if◌then◌else◌}
 use Rattle.c_phrases.specs.declared.operator.Spec.{Spec}

@@ -1,4 +1,5 @@
 -- The types that headings write, and the functions that are defined in a text.
+-- This is how the code computes it; the rules of typing are the relations of c_typed_law.
 use Rattle.std.specs.Prelude.{ℕ, is_some, List, [], ◌∷◌}
 use Rattle.std.specs.Prelude.{◌++◌, length, map, codes, Option, Some, None, if◌then◌else◌}
 use Rattle.c_phrases.specs.declared.operator.Spec.{Spec}

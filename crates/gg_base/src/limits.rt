@@ -15,12 +15,6 @@ pub const SOURCE_NAME_LIMIT: usize = 63;
 /// The longest name in an assembly text.
 pub const TEXT_NAME_LIMIT: usize = 64;
 
-/// How many parameters a function may have.
-pub const PARAMETER_LIMIT: u32 = 32;
-
-/// How many item sets the tables of a description may have.
-pub const STATE_LIMIT: u32 = 4_096;
-
 /// How many summaries the check of a description may make.
 pub const SUMMARY_LIMIT: u32 = 4_000_000;
 

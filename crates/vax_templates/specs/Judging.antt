@@ -1,4 +1,5 @@
 -- What a line of a template does, and what is wrong with it.
+-- This is how the code computes it; that instructions do so is the law vax_is_lawful of vax_target_laws.
 use Rattle.std.specs.Prelude.{ℕ, ◌==◌, Bool, true, false, not, ◌||◌, ◌&&◌, List, [], ◌∷◌, ◌++◌, Option, Some, None}
 use Rattle.std.specs.Prelude.{is_some, Result, Ok, Err}
 use Rattle.std.specs.Prelude.{if◌then◌else◌}

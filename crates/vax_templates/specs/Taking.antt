@@ -1,4 +1,5 @@
 -- What an instruction takes of its operands, on terms.
+-- This is how the code computes it; that instructions do so is the law vax_is_lawful of vax_target_laws.
 use Rattle.std.specs.Prelude.{ℕ, Bool, true, false, not, ◌||◌, List, [], ◌∷◌, ◌++◌, Option, Some, None, Result, Ok, Err, if◌then◌else◌}
 use Rattle.gg_base.specs.declared.size.Size.{Size}
 use Rattle.gg_base.specs.declared.size.Size.TheVariants.{Byte, Word, Long}
