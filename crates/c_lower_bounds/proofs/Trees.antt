@@ -9,7 +9,7 @@ use Rattle.tree_core.specs.declared.token.Tok.{Tok}
 use Rattle.tree_core.specs.declared.token.Tok.TheVariants as tok
 use Rattle.tree_core.specs.declared.tree.Leaf.{Leaf}
 use Rattle.tree_core.specs.declared.program.TreeItem.{TreeItem}
-use Rattle.tree_core.specs.declared.program.TreeItem.TheVariants as item
+use Rattle.tree_core.specs.declared.program.TreeItem.TheVariants as tree_item
 use Rattle.tree_core.specs.Attributes.{end_leaf}
 use Rattle.tree_core.specs.Grammar.{kids}
 use Rattle.c_lower_scheme.specs.Trees.{Tree, Num, Gaddr, Loc, Arg, Indir, Conv, Neg, Com, Bin, Item, Label, AssignLoc, AssignArg, AssignMem, Cbr, Jump, Push, Call, Save, Ret}
@@ -130,8 +130,8 @@ assign_forks ints.Int a w = let h = two_forks a w in omega (arith, h)
 
 -- the forks of what an item is spelled as: those of its leaves
 abbrev forks_in : TreeItem → ℕ
-forks_in (item.Label l) = 0
-forks_in (item.Root w) = forks w
+forks_in (tree_item.Label l) = 0
+forks_in (tree_item.Root w) = forks w
 
 spelled_forks : (i : Item) → forks_in (spelled i) ≡ item_forks i
 spelled_forks (Label l) = refl
@@ -147,10 +147,10 @@ spelled_forks (Ret w) = let h = leaves_forks w (end_leaf ∷ []) in omega (arith
 
 -- each root among spelled items has at most so many forks
 pub root_forks : {m : ℕ} {is : List Item} → Narrow m is
-    → (n : ℕ) (w : List Leaf) → slice_get (spelled_all is) n ≡ Some (item.Root w) → forks w ≤ m
+    → (n : ℕ) (w : List Leaf) → slice_get (spelled_all is) n ≡ Some (tree_item.Root w) → forks w ≤ m
 root_forks none n w e = absurd (cc)
 root_forks (next {i = i} h rest) zero w e =
-    let same : spelled i ≡ item.Root w = cc in
+    let same : spelled i ≡ tree_item.Root w = cc in
     let c = ap forks_in (sym same) ∙ spelled_forks i in
     omega (arith, c, h)
 root_forks (next h rest) (suc n) w e = root_forks rest n w e

@@ -1,7 +1,7 @@
 -- What is claimed of lowering: each function stays, and has room in the frame that it needs.
 use Rattle.std.specs.Prelude.{◌≡◌, ℕ, ◌+◌, ◌≤◌, List, length, slice_get, Some}
 use Rattle.tree_core.specs.declared.tree.Leaf.{Leaf}
-use Rattle.tree_core.specs.declared.program.TreeItem.TheVariants as item
+use Rattle.tree_core.specs.declared.program.TreeItem.TheVariants as tree_item
 use Rattle.tree_core.specs.declared.program.TreeFn.{TreeFn}
 use Rattle.tree_core_forks.specs.Forks.{forks}
 use Rattle.c_program.specs.Need.{need_of}
@@ -12,7 +12,7 @@ use Rattle.c_lower_scheme.specs.Programs.{lowered}
 -- for each leaf with two kids.
 pub record FitsFrame (need : ℕ) (f : TreeFn) : Type 0 where
   pub locals : f.locals ≤ need
-  pub roots : (n : ℕ) (w : List Leaf) → slice_get f.items n ≡ Some (item.Root w) → f.locals + 1 + forks w ≤ need
+  pub roots : (n : ℕ) (w : List Leaf) → slice_get f.items n ≡ Some (tree_item.Root w) → f.locals + 1 + forks w ≤ need
 
 -- Each function that a program is lowered to fits the frame that the program's function needs.
 abbrev pub EachFunctionFits : Type 0

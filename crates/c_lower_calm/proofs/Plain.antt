@@ -12,7 +12,7 @@ use Rattle.c_types.specs.Typed.{APlace, VariableAt, PointedBy, ElementBy, AnExpr
 use Rattle.c_types.specs.Typed.{UnaryOf, CastTo, ConvertTo, ArithmeticOf, CompareOf, BothOf, EitherOf, AdvanceOf, AdvanceByOf, RetreatOf, DistanceOf, ChoiceOf, AssignTo}
 use Rattle.c_types.specs.Typed.{ArithmeticAssignTo, AdvanceAssignTo, RetreatAssignTo, CommaOf}
 use Rattle.tree_core.specs.declared.program.TreeItem.{TreeItem}
-use Rattle.tree_core.specs.declared.program.TreeItem.TheVariants as item
+use Rattle.tree_core.specs.declared.program.TreeItem.TheVariants as tree_item
 use Rattle.c_lower_scheme.specs.Trees.{Tree, Num, Neg, Com, Bin, Item, divides, reads, breaks, AssignLoc}
 use Rattle.c_lower_scheme.specs.Parts.{Lowered, Lowering, Where, InLoc, InArg, InMem, Located, due, over, over_two, Emitted, Destination, InLocal, AsResult, delivered}
 use Rattle.c_lower_scheme.specs.Places.{integer_of, conv, fitted, read_from, assign_to, address_tree, pointed, read_low, local_in}
@@ -225,8 +225,8 @@ calm_item : (i : Item) → SpellsCalm i → IsCalmItem i
 calm_item i h = item_back i (by (spelled i) refl)
   where
     by : (x : TreeItem) → spelled i ≡ x → RootIsCalm x
-    by (item.Label l) e = tt
-    by (item.Root w) e = h w e
+    by (tree_item.Label l) e = tt
+    by (tree_item.Root w) e = h w e
 
 pub plain_is_one_tree : PlainIsOneTree
 plain_is_one_tree = record {

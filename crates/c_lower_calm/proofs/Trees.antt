@@ -10,7 +10,7 @@ use Rattle.tree_core.specs.declared.token.Tok.TheVariants as tok
 use Rattle.tree_core.specs.declared.tree.Att.TheVariants as att
 use Rattle.tree_core.specs.declared.tree.Leaf.{Leaf}
 use Rattle.tree_core.specs.declared.program.TreeItem.{TreeItem}
-use Rattle.tree_core.specs.declared.program.TreeItem.TheVariants as item
+use Rattle.tree_core.specs.declared.program.TreeItem.TheVariants as tree_item
 use Rattle.tree_core.specs.Attributes.{end_leaf}
 use Rattle.tree_core.specs.Grammar.{kids}
 use Rattle.tree_core.specs.Calm.{divides as token_divides, reads_memory, Calm}
@@ -178,8 +178,8 @@ assign_calm ints.Int a w h g apart = whole_piece (root_piece (plain tok.AssignL)
 
 -- what an item is spelled as
 abbrev pub RootIsCalm : TreeItem → Type 0
-RootIsCalm (item.Label l) = Unit {0}
-RootIsCalm (item.Root w) = Calm w
+RootIsCalm (tree_item.Label l) = Unit {0}
+RootIsCalm (tree_item.Root w) = Calm w
 
 pub spelled_calm : (i : Item) → IsCalmItem i → RootIsCalm (spelled i)
 spelled_calm (Label l) h = tt
@@ -194,9 +194,9 @@ spelled_calm (Save n) h = whole_piece (leaf_piece (leaf tok.Save (att.Slot n)) r
 spelled_calm (Ret w) h = whole_piece (pure_piece tok.Ret refl refl refl (tree_piece w h))
 
 -- each root among spelled items
-pub roots_calm : {is : List Item} → AreCalm is → (n : ℕ) (w : List Leaf) → slice_get (spelled_all is) n ≡ Some (item.Root w) → Calm w
+pub roots_calm : {is : List Item} → AreCalm is → (n : ℕ) (w : List Leaf) → slice_get (spelled_all is) n ≡ Some (tree_item.Root w) → Calm w
 roots_calm none n w e = absurd (cc)
 roots_calm (next {i = i} h rest) zero w e =
-    let same : spelled i ≡ item.Root w = cc in
+    let same : spelled i ≡ tree_item.Root w = cc in
     subst RootIsCalm same (spelled_calm i h)
 roots_calm (next h rest) (suc n) w e = roots_calm rest n w e

@@ -2,7 +2,7 @@
 use Rattle.std.proofs.Common.{◌≡◌, ℕ, zero, suc, List, [], ◌∷◌, length, Some, subst}
 use Rattle.std.specs.Prelude.{slice_get}
 use Rattle.tree_core.specs.declared.tree.Leaf.{Leaf}
-use Rattle.tree_core.specs.declared.program.TreeItem.TheVariants as item
+use Rattle.tree_core.specs.declared.program.TreeItem.TheVariants as tree_item
 use Rattle.tree_core.specs.declared.program.TreeFn.{TreeFn}
 use Rattle.tree_core.specs.Calm.{Calm}
 use Rattle.c_program.specs.Programs.{ARoutine}
@@ -13,7 +13,7 @@ use Rattle.c_lower_calm.proofs.Statements.{row_calm}
 
 -- in one function
 abbrev FunctionIsCalm : TreeFn → Type 0
-FunctionIsCalm tf = (n : ℕ) (w : List Leaf) → slice_get tf.items n ≡ Some (item.Root w) → Calm w
+FunctionIsCalm tf = (n : ℕ) (w : List Leaf) → slice_get tf.items n ≡ Some (tree_item.Root w) → Calm w
 
 function_calm : (count l : ℕ) (g : ARoutine) → FunctionIsCalm (function_of g (body_of count g l))
 function_calm count l g n w e =

@@ -2,7 +2,7 @@
 use Rattle.std.specs.Prelude.{◌≡◌, ℕ, List, [], ◌∷◌, ◌++◌, Some, slice_get}
 use Rattle.tree_core.specs.declared.tree.Leaf.{Leaf}
 use Rattle.tree_core.specs.declared.program.TreeItem.{TreeItem}
-use Rattle.tree_core.specs.declared.program.TreeItem.TheVariants as item
+use Rattle.tree_core.specs.declared.program.TreeItem.TheVariants as tree_item
 use Rattle.tree_core.specs.declared.program.TreeFn.{TreeFn}
 use Rattle.tree_core.specs.declared.program.TreeProgram.{TreeProgram}
 use Rattle.tree_core.specs.Calm.{Calm}
@@ -21,7 +21,7 @@ use Rattle.c_lower_calm.specs.Plain.{PlainPlace, Plain, type_at, place_at, plain
 -- In none of a program's trees is memory read behind a division.
 abbrev pub TreesAreCalm : TreeProgram → Type 0
 TreesAreCalm q = (f n : ℕ) (tf : TreeFn) (w : List Leaf) → slice_get q.functions f ≡ Some tf → slice_get tf.items n
-    ≡ Some (item.Root w) → Calm w
+    ≡ Some (tree_item.Root w) → Calm w
 
 -- The trees that a program is lowered to are calm.
 abbrev pub EachTreeIsCalm : Type 0
@@ -29,7 +29,7 @@ EachTreeIsCalm = (p : AProgram) → TreesAreCalm (lowered p)
 
 -- an item whose tree is calm
 abbrev pub SpellsCalm : Item → Type 0
-SpellsCalm i = (w : List Leaf) → spelled i ≡ item.Root w → Calm w
+SpellsCalm i = (w : List Leaf) → spelled i ≡ tree_item.Root w → Calm w
 
 -- a statement becomes one item, and takes neither a temporary nor a label
 abbrev pub only : Item → ℕ → ℕ → Emitted
@@ -88,5 +88,6 @@ PlainStatementsAreOneTree = (p : AProgram) → PlainStatementsStand p (lowered p
 pub record PlainIsOneTree : Type 0 where
   pub returns : (size count lb lc l : ℕ) (rest : SomeActions) (e : AnExpression) → Plain e → SpellsCalm (returned e)
       → lower size count (ReturnOf (Some e)) rest lb lc l ≡ only (returned e) size l
-  pub stores : (size count lb lc l : ℕ) (rest : SomeActions) (p : APlace) (e : AnExpression) → PlainPlace p → Plain e → SpellsCalm (stored p e)
+  pub stores : (size count lb lc l : ℕ) (rest : SomeActions) (p : APlace) (e : AnExpression) → PlainPlace p → Plain e
+      → SpellsCalm (stored p e)
       → lower size count (EvaluateOf (AssignTo p e)) rest lb lc l ≡ only (stored p e) size l

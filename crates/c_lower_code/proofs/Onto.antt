@@ -5,14 +5,14 @@ use Rattle.c_types.specs.declared.types.Integer.TheVariants as ints
 use Rattle.c_types.specs.declared.typed.ArithmeticOperator.{ArithmeticOperator}
 use Rattle.tree_core.specs.declared.tree.Leaf.{Leaf}
 use Rattle.tree_core.specs.declared.program.TreeItem.{TreeItem}
-use Rattle.tree_core.specs.declared.program.TreeItem.TheVariants as items
+use Rattle.tree_core.specs.declared.program.TreeItem.TheVariants as tree_item
 use Rattle.tree_core.specs.declared.token.Tok.TheVariants as tok
 use Rattle.tree_core.specs.Attributes.{end_leaf}
 use Rattle.c_lower_scheme.specs.Trees.{Tree, Num, Gaddr, Loc, Arg, Indir, Conv, Neg, Com, Bin, Item, Label, AssignLoc, AssignArg, AssignMem, Cbr, Jump, Push, Call, Save, Ret}
 use Rattle.c_lower_scheme.specs.Spelling.{leaf, plain, operator_token, indir_onto, conv_onto, leaves_onto, assign_onto, spelled}
 use Rattle.tree_core.specs.declared.tree.Att.TheVariants as att
 use Rattle.c_lower_code.specs.declared.item.Item.{Item as Code}
-use Rattle.c_lower_code.specs.declared.item.Item.TheVariants as codes
+use Rattle.c_lower_code.specs.declared.item.Item.TheVariants as lowered_item
 use Rattle.c_lower_code.specs.Roots.{root_leaves}
 use Rattle.c_lower_code.specs.Views.{tree, item}
 
@@ -99,15 +99,15 @@ narrowed_behind old a b n c first second third x y one two three four =
     cc
 
 -- a root's leaves with End behind them
-pub rooted : (i : Code) → ((x : ℕ) → i ≡ codes.Label x → ⊥) → (l : List Leaf) → l ≡ root_leaves (item i) ++ (end_leaf ∷ []) → items.Root l ≡ spelled (item i)
-rooted (codes.Label x) never l is = absurd (never x refl)
-rooted (codes.AssignLocal n w) never l is = ap items.Root (is ∙ ap (λ k. plain tok.AssignL ∷ leaf tok.Loc (att.Slot n) ∷ k) (sym (onto_behind (tree w) (end_leaf ∷ []))))
-rooted (codes.AssignParameter n w) never l is = ap items.Root (is ∙ ap (λ k. plain tok.AssignL ∷ leaf tok.Arg (att.Slot (suc n)) ∷ k) (sym (onto_behind (tree w) (end_leaf ∷ []))))
-rooted (codes.AssignMemory i a w) never l is = ap items.Root (is ∙ sym (assign_behind i (tree a) (tree w) (end_leaf ∷ [])))
-rooted (codes.Branch r to a b) never l is = ap items.Root (is ∙ ap (λ k. leaf tok.Cbr (att.Branch r to) ∷ k)
+pub rooted : (i : Code) → ((x : ℕ) → i ≡ lowered_item.Label x → ⊥) → (l : List Leaf) → l ≡ root_leaves (item i) ++ (end_leaf ∷ []) → tree_item.Root l ≡ spelled (item i)
+rooted (lowered_item.Label x) never l is = absurd (never x refl)
+rooted (lowered_item.AssignLocal n w) never l is = ap tree_item.Root (is ∙ ap (λ k. plain tok.AssignL ∷ leaf tok.Loc (att.Slot n) ∷ k) (sym (onto_behind (tree w) (end_leaf ∷ []))))
+rooted (lowered_item.AssignParameter n w) never l is = ap tree_item.Root (is ∙ ap (λ k. plain tok.AssignL ∷ leaf tok.Arg (att.Slot (suc n)) ∷ k) (sym (onto_behind (tree w) (end_leaf ∷ []))))
+rooted (lowered_item.AssignMemory i a w) never l is = ap tree_item.Root (is ∙ sym (assign_behind i (tree a) (tree w) (end_leaf ∷ [])))
+rooted (lowered_item.Branch r to a b) never l is = ap tree_item.Root (is ∙ ap (λ k. leaf tok.Cbr (att.Branch r to) ∷ k)
     (sym (ap (leaves_onto (tree a)) (onto_behind (tree b) (end_leaf ∷ [])) ∙ onto_append (tree a) (leaves_onto (tree b) []) (end_leaf ∷ []))))
-rooted (codes.Jump to) never l is = ap items.Root is
-rooted (codes.Push w) never l is = ap items.Root (is ∙ ap (λ k. plain tok.Push ∷ k) (sym (onto_behind (tree w) (end_leaf ∷ []))))
-rooted (codes.Call f n) never l is = ap items.Root is
-rooted (codes.Save n) never l is = ap items.Root is
-rooted (codes.Return w) never l is = ap items.Root (is ∙ ap (λ k. plain tok.Ret ∷ k) (sym (onto_behind (tree w) (end_leaf ∷ []))))
+rooted (lowered_item.Jump to) never l is = ap tree_item.Root is
+rooted (lowered_item.Push w) never l is = ap tree_item.Root (is ∙ ap (λ k. plain tok.Push ∷ k) (sym (onto_behind (tree w) (end_leaf ∷ []))))
+rooted (lowered_item.Call f n) never l is = ap tree_item.Root is
+rooted (lowered_item.Save n) never l is = ap tree_item.Root is
+rooted (lowered_item.Return w) never l is = ap tree_item.Root (is ∙ ap (λ k. plain tok.Ret ∷ k) (sym (onto_behind (tree w) (end_leaf ∷ []))))

@@ -3,7 +3,7 @@ use Rattle.std.specs.Prelude.{List, map}
 use Rattle.c_lower_code.specs.declared.tree.Tree.{Tree}
 use Rattle.c_lower_code.specs.declared.tree.Tree.TheVariants as trees
 use Rattle.c_lower_code.specs.declared.item.Item.{Item}
-use Rattle.c_lower_code.specs.declared.item.Item.TheVariants as items
+use Rattle.c_lower_code.specs.declared.item.Item.TheVariants as lowered_item
 use Rattle.c_lower_code.specs.declared.part.Lowered.{Lowered}
 use Rattle.c_lower_code.specs.declared.part.Pair.{Pair}
 use Rattle.c_lower_code.specs.declared.part.Storage.{Storage}
@@ -29,16 +29,16 @@ tree (trees.Complement' q w) = mirror.Com (tree w)
 tree (trees.Binary' op q a r b) = mirror.Bin op (tree a) (tree b)
 
 abbrev pub item : Item → mirror.Item
-item (items.Label l) = mirror.Label l
-item (items.AssignLocal n w) = mirror.AssignLoc n (tree w)
-item (items.AssignParameter n w) = mirror.AssignArg n (tree w)
-item (items.AssignMemory i a w) = mirror.AssignMem i (tree a) (tree w)
-item (items.Branch r l a b) = mirror.Cbr r l (tree a) (tree b)
-item (items.Jump l) = mirror.Jump l
-item (items.Push w) = mirror.Push (tree w)
-item (items.Call f n) = mirror.Call f n
-item (items.Save n) = mirror.Save n
-item (items.Return w) = mirror.Ret (tree w)
+item (lowered_item.Label l) = mirror.Label l
+item (lowered_item.AssignLocal n w) = mirror.AssignLoc n (tree w)
+item (lowered_item.AssignParameter n w) = mirror.AssignArg n (tree w)
+item (lowered_item.AssignMemory i a w) = mirror.AssignMem i (tree a) (tree w)
+item (lowered_item.Branch r l a b) = mirror.Cbr r l (tree a) (tree b)
+item (lowered_item.Jump l) = mirror.Jump l
+item (lowered_item.Push w) = mirror.Push (tree w)
+item (lowered_item.Call f n) = mirror.Call f n
+item (lowered_item.Save n) = mirror.Save n
+item (lowered_item.Return w) = mirror.Ret (tree w)
 
 abbrev pub all_items : List Item → List mirror.Item
 all_items is = map item is

@@ -2,7 +2,7 @@
 use Rattle.std.proofs.Common.{◌≡◌, ℕ, ◌+◌, ◌≤◌, Bool, true, false, Option, Some, None, Result, Ok, Err, refl, ap, subst, arith}
 use Rattle.std.specs.Prelude.{◌&&◌, if◌then◌else◌, List, slice_get}
 use Rattle.gg_base.specs.declared.relation.Rel.{Rel}
-use Rattle.gg_base.specs.declared.relation.Rel.TheVariants as rels
+use Rattle.gg_base.specs.declared.relation.Rel.TheVariants as relations
 use Rattle.c_phrases.specs.declared.operator.BinaryOperator.{BinaryOperator}
 use Rattle.c_phrases.specs.declared.operator.BinaryOperator.TheVariants as binaries
 use Rattle.c_phrases.specs.declared.operator.PrefixOperator.{PrefixOperator}
@@ -76,10 +76,10 @@ binary_nodes binaries.Xor x y t row = ap nodes row.is
 binary_nodes binaries.And x y t row = ap nodes row.is
 binary_nodes binaries.Equal x y t row = ap nodes row.is
 binary_nodes binaries.NotEqual x y t row = ap nodes row.is
-binary_nodes binaries.Less x y t row = order_nodes rels.Lt rels.Ltu x y t row
-binary_nodes binaries.LessEqual x y t row = order_nodes rels.Le rels.Leu x y t row
-binary_nodes binaries.Greater x y t row = order_nodes rels.Gt rels.Gtu x y t row
-binary_nodes binaries.GreaterEqual x y t row = order_nodes rels.Ge rels.Geu x y t row
+binary_nodes binaries.Less x y t row = order_nodes relations.Lt relations.Ltu x y t row
+binary_nodes binaries.LessEqual x y t row = order_nodes relations.Le relations.Leu x y t row
+binary_nodes binaries.Greater x y t row = order_nodes relations.Gt relations.Gtu x y t row
+binary_nodes binaries.GreaterEqual x y t row = order_nodes relations.Ge relations.Geu x y t row
 binary_nodes binaries.ShiftLeft x y t row = ap nodes row.is
 binary_nodes binaries.ShiftRight x y t row = ap nodes row.is
 binary_nodes binaries.Add x y t row = sum_nodes x y t row

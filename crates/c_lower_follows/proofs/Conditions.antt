@@ -2,7 +2,7 @@
 use Rattle.std.proofs.Common.{◌≡◌, ℕ, zero, suc, ◌≤◌, ◌<◌, List, [], ◌∷◌, ◌++◌, Some, refl, ap, arith, sym, ◌∙◌, subst, ◌⊎◌, inl, inr, ⊎_elim}
 use Rattle.std.specs.Prelude.{Bool, true, false, not, ◌==◌, nat_lt, nat_le}
 use Rattle.std.proofs.lemmas.Bool.{cases_lt, not-false, not-true, ne_eqb, lt-leb, le-leb, lt-ltb, le-ltb}
-use Rattle.gg_base.specs.declared.relation.Rel.TheVariants as rel
+use Rattle.gg_base.specs.declared.relation.Rel.TheVariants as relations
 use Rattle.gg_base.specs.Runs.{Runs, counted, stop}
 use Rattle.tree_core.specs.declared.program.TreeItem.{TreeItem}
 use Rattle.tree_core.specs.declared.program.TreeProgram.{TreeProgram}
@@ -21,7 +21,8 @@ use Rattle.gg_base.specs.declared.relation.Rel.{Rel}
 use Rattle.gg_base.specs.Relations.{holds}
 use Rattle.c_types.specs.Constants.{truth, apply_unary}
 use Rattle.c_types.specs.declared.typed.UnaryOperator.TheVariants as unaries
-use Rattle.c_lower_follows.proofs.Doing.{either_way, Agrees, here, Does, DoesTwo, Drops, Asks, Delivers, DoesWay, assoc, split, save_temp, since_both, since_more, two_does, test_asks, delivered_does, arrives_behind}
+use Rattle.c_lower_follows.proofs.Doing.{either_way, Agrees, here, Does, DoesTwo, Drops, Asks, Delivers, DoesWay, assoc, split, save_temp, since_both, since_more, two_does}
+use Rattle.c_lower_follows.proofs.Doing.{test_asks, delivered_does, arrives_behind}
 use Rattle.c_lower_follows.proofs.Storing.{use_number}
 
 chosen_truth : (b : Bool) (κ : Rest) (st : State) → κ (truth b) st ≡ chosen (truth b) (κ 1 st) (κ 0 st)
@@ -68,16 +69,16 @@ not_twice false = refl
 
 -- the opposite relation holds where the relation does not
 opposite_holds : (r : Rel) (x y : ℕ) → holds (opposite r) x y ≡ not (holds r x y)
-opposite_holds rel.Eq x y = refl
-opposite_holds rel.Ne x y = not_twice (x == y)
-opposite_holds rel.Lt x y = not_lt _ _
-opposite_holds rel.Le x y = not_le _ _
-opposite_holds rel.Gt x y = not_lt _ _
-opposite_holds rel.Ge x y = not_le _ _
-opposite_holds rel.Ltu x y = not_lt x y
-opposite_holds rel.Leu x y = not_le x y
-opposite_holds rel.Gtu x y = not_lt y x
-opposite_holds rel.Geu x y = not_le y x
+opposite_holds relations.Eq x y = refl
+opposite_holds relations.Ne x y = not_twice (x == y)
+opposite_holds relations.Lt x y = not_lt _ _
+opposite_holds relations.Le x y = not_le _ _
+opposite_holds relations.Gt x y = not_lt _ _
+opposite_holds relations.Ge x y = not_le _ _
+opposite_holds relations.Ltu x y = not_lt x y
+opposite_holds relations.Leu x y = not_le x y
+opposite_holds relations.Gtu x y = not_lt y x
+opposite_holds relations.Geu x y = not_le y x
 
 -- which way is left where a test with a sense holds, or does not
 abbrev pick : Bool → Bool → Runs → Runs → Runs

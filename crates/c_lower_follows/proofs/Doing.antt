@@ -3,7 +3,7 @@ use Rattle.std.proofs.Common.{◌≡◌, ℕ, zero, suc, ◌≤◌, ◌<◌, ◌
 use Rattle.std.specs.Prelude.{Bool, true, false, ◌==◌}
 use Rattle.std.proofs.lemmas.Bool.{or_parts, not-false, not-true, eqb-true, eqb-false}
 use Rattle.gg_base.specs.declared.run.End.TheVariants as ends
-use Rattle.gg_base.specs.declared.relation.Rel.TheVariants as rel
+use Rattle.gg_base.specs.declared.relation.Rel.TheVariants as relations
 use Rattle.gg_base.specs.Runs.{Runs, counted, stop}
 use Rattle.tree_core.specs.declared.program.TreeItem.{TreeItem}
 use Rattle.tree_core.specs.declared.program.TreeProgram.{TreeProgram}
@@ -247,9 +247,9 @@ module _ (program : TreeProgram) (code : List TreeItem) (callers : List Activati
     test_asks true to p t m does = record {
       grows = does.grows;
       runs = λ k le is met unmet res st d ag taken falls.
-          let i = Cbr rel.Ne to p.tree (Num 0) in
+          let i = Cbr relations.Ne to p.tree (Num 0) in
           assoc k p.items (i ∷ []) is d _ (does.runs k le (i ∷ is) (λ v st. chosen v (met st) (unmet st)) (split p.items (i ∷ []) is res) st d ag
-          (λ st1 d1 ag1 s1. cbr_step program code callers k to rel.Ne p.tree (Num 0) is (λ x y. chosen x (met st1) (unmet st1)) d1 does.small (omega arith) ag1.ranged
+          (λ st1 d1 ag1 s1. cbr_step program code callers k to relations.Ne p.tree (Num 0) is (λ x y. chosen x (met st1) (unmet st1)) d1 does.small (omega arith) ag1.ranged
           (λ x y ex ey b. subst (λ r. Leads k r (counted (at_items program code callers (behind code to) d1))) (sym (some_chosen x y (met st1) (unmet st1) ey (not-true (x == y) b)))
           (taken st1 d1 ag1 (since_more t p.temps p.temps p.items (i ∷ []) st d st1 d1 (omega arith) s1)))
           (λ x y ex ey b. subst (λ r. Leads k r (counted (here is d1))) (sym (zero_chosen x y (met st1) (unmet st1) ey (not-false (x == y) b)))
@@ -258,9 +258,9 @@ module _ (program : TreeProgram) (code : List TreeItem) (callers : List Activati
     test_asks false to p t m does = record {
       grows = does.grows;
       runs = λ k le is met unmet res st d ag taken falls.
-          let i = Cbr rel.Eq to p.tree (Num 0) in
+          let i = Cbr relations.Eq to p.tree (Num 0) in
           assoc k p.items (i ∷ []) is d _ (does.runs k le (i ∷ is) (λ v st. chosen v (met st) (unmet st)) (split p.items (i ∷ []) is res) st d ag
-          (λ st1 d1 ag1 s1. cbr_step program code callers k to rel.Eq p.tree (Num 0) is (λ x y. chosen x (met st1) (unmet st1)) d1 does.small (omega arith) ag1.ranged
+          (λ st1 d1 ag1 s1. cbr_step program code callers k to relations.Eq p.tree (Num 0) is (λ x y. chosen x (met st1) (unmet st1)) d1 does.small (omega arith) ag1.ranged
           (λ x y ex ey b. subst (λ r. Leads k r (counted (at_items program code callers (behind code to) d1))) (sym (zero_chosen x y (met st1) (unmet st1) ey b))
           (taken st1 d1 ag1 (since_more t p.temps p.temps p.items (i ∷ []) st d st1 d1 (omega arith) s1)))
           (λ x y ex ey b. subst (λ r. Leads k r (counted (here is d1))) (sym (some_chosen x y (met st1) (unmet st1) ey b))

@@ -2,7 +2,7 @@
 use Rattle.std.proofs.Common.{◌≡◌, ℕ, zero, suc, ◌-◌, List, [], ◌∷◌, ◌++◌, length, Option, Some, None, refl, ap, arith, sym, ◌∙◌, subst}
 use Rattle.std.specs.Prelude.{Bool, true, false, cond, slice_set}
 use Rattle.gg_base.specs.declared.size.Size.{Size}
-use Rattle.gg_base.specs.declared.size.Size.TheVariants as size
+use Rattle.gg_base.specs.declared.size.Size.TheVariants as sizes
 use Rattle.gg_base.specs.declared.relation.Rel.{Rel}
 use Rattle.gg_base.specs.declared.run.End.TheVariants as ends
 use Rattle.gg_base.specs.Runs.{Outcome, Runs, counted, one_first, stop}
@@ -13,7 +13,7 @@ use Rattle.tree_core.specs.declared.token.Tok.TheVariants as tok
 use Rattle.tree_core.specs.declared.tree.Att.TheVariants as att
 use Rattle.tree_core.specs.declared.tree.Leaf.{Leaf}
 use Rattle.tree_core.specs.declared.program.TreeItem.{TreeItem}
-use Rattle.tree_core.specs.declared.program.TreeItem.TheVariants as item
+use Rattle.tree_core.specs.declared.program.TreeItem.TheVariants as tree_item
 use Rattle.tree_core.specs.declared.program.TreeProgram.{TreeProgram}
 use Rattle.tree_core.specs.Attributes.{end_leaf}
 use Rattle.tree_core.specs.Grammar.{kids}
@@ -100,12 +100,12 @@ module _ (program : TreeProgram) (code : List TreeItem) (callers : List Activati
   root_at w f is d q e same (suc n) = ap one_first (sym (ap (done program (run program n) (state is d)) e ∙ same n))
 
   pub quiet : (k : ℕ) (w : List Leaf) (f : Forest) (is : List TreeItem) (d : Desk) (r q : Runs) → grown w ≡ f → ((n : ℕ) → done program (run program n) (state is d) f ≡ q n) → Leads k r q
-      → Leads k r (at_items (item.Root w ∷ is) d)
+      → Leads k r (at_items (tree_item.Root w ∷ is) d)
   quiet k w f is d r q e same h = subst (Leads k r) (λ j n. root_at w f is d q e same n j) (leads_quiet k r q h)
 
   -- the same root, still to be counted
   pub counts : (k : ℕ) (w : List Leaf) (f : Forest) (is : List TreeItem) (d : Desk) (r q : Runs) → grown w ≡ f → ((n : ℕ) → done program (run program n) (state is d) f ≡ q n)
-      → Leads k r (counted q) → Leads k r (at_items (item.Root w ∷ is) d)
+      → Leads k r (counted q) → Leads k r (at_items (tree_item.Root w ∷ is) d)
   counts k w f is d r q e same h = subst (Leads k r) (λ j n. root_at w f is d q e same n j) h
 
   -- a tree's value is what goes on, or both sides break
@@ -196,7 +196,7 @@ module _ (program : TreeProgram) (code : List TreeItem) (callers : List Activati
       → ((m : ℕ) → done program (run program m) (state (spelled_all is) d) (tree (plain root) (tree (plain place) (planted a none) (tree (plain low) (planted w none) none)) rest_of)
       ≡ assigned program (run program m) (state (spelled_all is) d) (Some (in_memory z (seen a d))) (bind (seen w d) (λ x. Number (g x))))
       → ((x v : ℕ) → value a d ≡ Number x → value w d ≡ Number v → Leads k (κ x v) (written_at is d (stored z d.area x (g v))))
-      → Leads k (on (value a d) (λ x. on (value w d) (κ x))) (at_items (item.Root (plain root ∷ plain place ∷ leaves_onto a (plain low ∷ leaves_onto w (end_leaf ∷ []))) ∷ spelled_all is) d)
+      → Leads k (on (value a d) (λ x. on (value w d) (κ x))) (at_items (tree_item.Root (plain root ∷ plain place ∷ leaves_onto a (plain low ∷ leaves_onto w (end_leaf ∷ []))) ∷ spelled_all is) d)
   narrow_step k z root place low g a w is κ d small small' r grow same h =
       quiet k _ _ (spelled_all is) d _ (λ m. given (value a d) (λ x. given (value w d) (λ y. written_at is d (stored z d.area x (g y)) m))) grow
       (λ m. same m ∙ assigned_at is d z (seen a d) (bind (seen w d) (λ x. Number (g x))) m
@@ -216,23 +216,23 @@ module _ (program : TreeProgram) (code : List TreeItem) (callers : List Activati
   pub assign_mem_step : (k : ℕ) (i : Integer) (a w : Tree) (is : List Item) (κ : ℕ → ℕ → Runs) (d : Desk) → SmallTree a → SmallTree w → Ranged (desk_sight d)
       → ((x v : ℕ) → value a d ≡ Number x → value w d ≡ Number v → Leads k (κ x v) (written_at is d (stored (integer_access i) d.area x (narrowed i v))))
       → Leads k (on (value a d) (λ x. on (value w d) (κ x))) (at (AssignMem i a w ∷ is) d)
-  assign_mem_step k ints.Char a w is κ d small small' r h = narrow_step k size.Byte tok.AssignB tok.IndirB tok.Ncb zext8 a w is κ d small small' r
+  assign_mem_step k ints.Char a w is κ d small small' r h = narrow_step k sizes.Byte tok.AssignB tok.IndirB tok.Ncb zext8 a w is κ d small small' r
       (grown_narrow tok.AssignB tok.IndirB tok.Ncb a w refl refl refl) (λ m. refl) h
-  assign_mem_step k ints.UnsignedChar a w is κ d small small' r h = narrow_step k size.Byte tok.AssignB tok.IndirB tok.Ncb zext8 a w is κ d small small' r
+  assign_mem_step k ints.UnsignedChar a w is κ d small small' r h = narrow_step k sizes.Byte tok.AssignB tok.IndirB tok.Ncb zext8 a w is κ d small small' r
       (grown_narrow tok.AssignB tok.IndirB tok.Ncb a w refl refl refl) (λ m. refl) h
-  assign_mem_step k ints.Short a w is κ d small small' r h = narrow_step k size.Word tok.AssignW tok.IndirW tok.Ncw zext16 a w is κ d small small' r
+  assign_mem_step k ints.Short a w is κ d small small' r h = narrow_step k sizes.Word tok.AssignW tok.IndirW tok.Ncw zext16 a w is κ d small small' r
       (grown_narrow tok.AssignW tok.IndirW tok.Ncw a w refl refl refl) (λ m. refl) h
-  assign_mem_step k ints.UnsignedShort a w is κ d small small' r h = narrow_step k size.Word tok.AssignW tok.IndirW tok.Ncw zext16 a w is κ d small small' r
+  assign_mem_step k ints.UnsignedShort a w is κ d small small' r h = narrow_step k sizes.Word tok.AssignW tok.IndirW tok.Ncw zext16 a w is κ d small small' r
       (grown_narrow tok.AssignW tok.IndirW tok.Ncw a w refl refl refl) (λ m. refl) h
   assign_mem_step k ints.Int a w is κ d small small' r h =
       quiet k _ (tree (plain tok.AssignL) (tree (plain tok.IndirL) (planted a none) (planted w none)) rest_of) (spelled_all is) d _
-      (λ m. given (value a d) (λ x. given (value w d) (λ y. written_at is d (stored size.Long d.area x y) m)))
+      (λ m. given (value a d) (λ x. given (value w d) (λ y. written_at is d (stored sizes.Long d.area x y) m)))
       (grown_two (plain tok.AssignL) (plain tok.IndirL ∷ leaves_onto a (leaves_onto w (end_leaf ∷ []))) _ _ _ _ _ refl
       (grown_one (plain tok.IndirL) (leaves_onto a (leaves_onto w (end_leaf ∷ []))) _ _ _ refl (grown_tree a (leaves_onto w (end_leaf ∷ [])) ∙ ap (planted a) (grown_tree w (end_leaf ∷ [])))))
-      (λ m. assigned_at is d size.Long (seen a d) (seen w d) m
-      ∙ ap (λ o. given o (λ x. given (seen w d) (λ y. written_at is d (stored size.Long d.area x y) m))) (reads a d small r)
-      ∙ ap (λ o. given (value a d) (λ x. given o (λ y. written_at is d (stored size.Long d.area x y) m))) (reads w d small' r))
-      (on_two k (value a d) (value w d) κ (λ x y. written_at is d (stored size.Long d.area x y)) h)
+      (λ m. assigned_at is d sizes.Long (seen a d) (seen w d) m
+      ∙ ap (λ o. given o (λ x. given (seen w d) (λ y. written_at is d (stored sizes.Long d.area x y) m))) (reads a d small r)
+      ∙ ap (λ o. given (value a d) (λ x. given o (λ y. written_at is d (stored sizes.Long d.area x y) m))) (reads w d small' r))
+      (on_two k (value a d) (value w d) κ (λ x y. written_at is d (stored sizes.Long d.area x y)) h)
 
   -- a branch, whose tree is still to be counted on both ways
   chosen_step : (k l : ℕ) (b : Bool) (is : List Item) (d : Desk) (r : Runs) → (b ≡ true → Leads k r (counted (at_items (behind code l) d))) → (b ≡ false → Leads k r (counted (at is d)))
@@ -305,8 +305,8 @@ module _ (program : TreeProgram) (code : List TreeItem) (callers : List Activati
   coming_same (Some r) is js d x = refl
 
   pub label_step : (k l : ℕ) (is : List Item) (d : Desk) (r : Runs) → Leads k r (at is d) → Leads k r (at (Label l ∷ is) d)
-  label_step k l is d r h = subst (λ x. Leads k r (runs program x)) (coming_same (ahead (spelled_all is)) (spelled_all is) (item.Label l ∷ spelled_all is) d (returned 0 callers d.area d.input)) h
+  label_step k l is d r h = subst (λ x. Leads k r (runs program x)) (coming_same (ahead (spelled_all is)) (spelled_all is) (tree_item.Label l ∷ spelled_all is) d (returned 0 callers d.area d.input)) h
 
   pub label_counts : (k l : ℕ) (is : List Item) (d : Desk) (r : Runs) → Leads k r (counted (at is d)) → Leads k r (counted (at (Label l ∷ is) d))
   label_counts k l is d r h = subst (λ x. Leads k r (counted (runs program x)))
-      (coming_same (ahead (spelled_all is)) (spelled_all is) (item.Label l ∷ spelled_all is) d (returned 0 callers d.area d.input)) h
+      (coming_same (ahead (spelled_all is)) (spelled_all is) (tree_item.Label l ∷ spelled_all is) d (returned 0 callers d.area d.input)) h

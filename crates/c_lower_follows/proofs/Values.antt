@@ -6,7 +6,7 @@ use Rattle.std.proofs.lemmas.Bool.{eqb-true, cond-false, le-ltb}
 use Rattle.std.proofs.lemmas.Bool.Decides.{nat_tests}
 use Rattle.std.proofs.lemmas.Nat.{and_mask, or_of_32, xor_of_32}
 use Rattle.gg_base.specs.declared.size.Size.{Size}
-use Rattle.gg_base.specs.declared.size.Size.TheVariants as size
+use Rattle.gg_base.specs.declared.size.Size.TheVariants as sizes
 use Rattle.gg_base.specs.Arithmetic.{and32, neg32, com32, div32, sext8, sext16, zext8, zext16, shifted_left, shifted_right, ash32}
 use Rattle.gg_base.specs.LittleEndian.{number_in}
 use Rattle.c_lower_follows.proofs.Longwords.{SmallOption, sext8_small, sext16_small, sext8_zext8, sext16_zext16, and_small, div_small, ash_small}
@@ -127,9 +127,9 @@ long_small : (xs : List ℕ) → AreBytes xs → from_le_bytes w32 xs < 2 ^ 32
 long_small xs h = omega (arith, bytes_index xs 0 h, bytes_index xs 1 h, bytes_index xs 2 h, bytes_index xs 3 h)
 
 number_small : (z : Size) (area : List ℕ) (x : ℕ) → AreBytes area → number_in z area x < 2 ^ 32
-number_small size.Byte area x h = omega (arith, bytes_index area x h)
-number_small size.Word area x h = word_small (take 2 (drop x area)) (bytes_take 2 (drop x area) (bytes_drop x area h))
-number_small size.Long area x h = long_small (take 4 (drop x area)) (bytes_take 4 (drop x area) (bytes_drop x area h))
+number_small sizes.Byte area x h = omega (arith, bytes_index area x h)
+number_small sizes.Word area x h = word_small (take 2 (drop x area)) (bytes_take 2 (drop x area) (bytes_drop x area h))
+number_small sizes.Long area x h = long_small (take 4 (drop x area)) (bytes_take 4 (drop x area) (bytes_drop x area h))
 
 fetched_by : (b : Bool) (n : ℕ) → n < 2 ^ 32 → Small (there (cond b (Some n) None))
 fetched_by true n h = h
@@ -386,18 +386,18 @@ module _ (objects : List Object) (s : Sight) where
   stands_is r (Gaddr n) h = refl
   stands_is r (Loc n) h = refl
   stands_is r (Arg n) h = let e : suc n - 1 ≡ n = omega arith in ap (λ i. there (slice_get s.arguments i)) e
-  stands_is r (Indir ints.Char a) h = ap (λ v. bind v (λ x. Number (sext8 x))) (at_is size.Byte (read s (stands a))) ∙ bind_bind (read s (stands a)) _ _
-      ∙ ap (λ v. bind v (λ x. bind (there (fetched size.Byte s.area x)) (λ v. Number (sext8 v)))) (stands_is r a h)
-  stands_is r (Indir ints.UnsignedChar a) h = ap (λ v. bind v (λ x. Number (zext8 x))) (at_is size.Byte (read s (stands a))) ∙ bind_bind (read s (stands a)) _ _
-      ∙ ap (λ v. bind v (λ x. bind (there (fetched size.Byte s.area x)) (λ v. Number (zext8 v)))) (stands_is r a h)
-  stands_is r (Indir ints.Short a) h = ap (λ v. bind v (λ x. Number (sext16 x))) (at_is size.Word (read s (stands a))) ∙ bind_bind (read s (stands a)) _ _
-      ∙ ap (λ v. bind v (λ x. bind (there (fetched size.Word s.area x)) (λ v. Number (sext16 v)))) (stands_is r a h)
-  stands_is r (Indir ints.UnsignedShort a) h = ap (λ v. bind v (λ x. Number (zext16 x))) (at_is size.Word (read s (stands a))) ∙ bind_bind (read s (stands a)) _ _
-      ∙ ap (λ v. bind v (λ x. bind (there (fetched size.Word s.area x)) (λ v. Number (zext16 v)))) (stands_is r a h)
-  stands_is r (Indir ints.Int a) h = at_is size.Long (read s (stands a)) ∙ ap (λ v. bind v (λ x. there (fetched size.Long s.area x))) (stands_is r a h) ∙ long_is (worth a)
+  stands_is r (Indir ints.Char a) h = ap (λ v. bind v (λ x. Number (sext8 x))) (at_is sizes.Byte (read s (stands a))) ∙ bind_bind (read s (stands a)) _ _
+      ∙ ap (λ v. bind v (λ x. bind (there (fetched sizes.Byte s.area x)) (λ v. Number (sext8 v)))) (stands_is r a h)
+  stands_is r (Indir ints.UnsignedChar a) h = ap (λ v. bind v (λ x. Number (zext8 x))) (at_is sizes.Byte (read s (stands a))) ∙ bind_bind (read s (stands a)) _ _
+      ∙ ap (λ v. bind v (λ x. bind (there (fetched sizes.Byte s.area x)) (λ v. Number (zext8 v)))) (stands_is r a h)
+  stands_is r (Indir ints.Short a) h = ap (λ v. bind v (λ x. Number (sext16 x))) (at_is sizes.Word (read s (stands a))) ∙ bind_bind (read s (stands a)) _ _
+      ∙ ap (λ v. bind v (λ x. bind (there (fetched sizes.Word s.area x)) (λ v. Number (sext16 v)))) (stands_is r a h)
+  stands_is r (Indir ints.UnsignedShort a) h = ap (λ v. bind v (λ x. Number (zext16 x))) (at_is sizes.Word (read s (stands a))) ∙ bind_bind (read s (stands a)) _ _
+      ∙ ap (λ v. bind v (λ x. bind (there (fetched sizes.Word s.area x)) (λ v. Number (zext16 v)))) (stands_is r a h)
+  stands_is r (Indir ints.Int a) h = at_is sizes.Long (read s (stands a)) ∙ ap (λ v. bind v (λ x. there (fetched sizes.Long s.area x))) (stands_is r a h) ∙ long_is (worth a)
     where
-      long_is : (v : Value) → bind v (λ x. there (fetched size.Long s.area x)) ≡ bind v (λ x. bind (there (fetched size.Long s.area x)) (λ v. Number v))
-      long_is (Number x) = bind_number (there (fetched size.Long s.area x))
+      long_is : (v : Value) → bind v (λ x. there (fetched sizes.Long s.area x)) ≡ bind v (λ x. bind (there (fetched sizes.Long s.area x)) (λ v. Number v))
+      long_is (Number x) = bind_number (there (fetched sizes.Long s.area x))
       long_is ZeroDivisor = refl
       long_is Wild = refl
   stands_is r (Conv ints.Char w) h = sext8_twice (read s (stands w)) ∙ ap (λ v. bind v (λ x. Number (sext8 x))) (stands_is r w h)

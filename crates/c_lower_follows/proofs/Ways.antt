@@ -57,7 +57,8 @@ use Rattle.c_lower_follows.proofs.Values.{SmallTree, Small, worth_small, or_zero
 use Rattle.c_lower_follows.proofs.Leads.{Leads, leads_wild}
 use Rattle.c_lower_follows.proofs.Steps.{Desk, desk_sight, on}
 use Rattle.c_lower_follows.proofs.Agreeing.{Below, value, since_start}
-use Rattle.c_lower_follows.proofs.Doing.{on_bind, Agrees, here, Does, Drops, Delivers, DoesWay, test_asks, delivered_does, due_does, Makes, Maps, valued_does, effective_does, binary_does, mapped_does, over_does}
+use Rattle.c_lower_follows.proofs.Doing.{on_bind, Agrees, here, Does, Drops, Delivers, DoesWay, test_asks, delivered_does, due_does, Makes, Maps, valued_does, effective_does}
+use Rattle.c_lower_follows.proofs.Doing.{binary_does, mapped_does, over_does}
 use Rattle.c_lower_follows.proofs.Placing.{DoesReady, DoesPlace, quiet_at, fitted_maps, read_does, address_does, whole_value}
 use Rattle.c_lower_follows.proofs.Storing.{store_drop_does, store_low_does, fill_low_does, fill_drop_does}
 use Rattle.c_lower_follows.proofs.Assigning.{assign_does, assign_pure, update_does, update_pure, post_does}
@@ -443,10 +444,12 @@ module _ (program : TreeProgram) (code : List TreeItem) (callers : List Activati
     some = done.some;
     runs = λ k le js κ res st d ag h. subst (λ κ. Leads k (m κ st) (there_is ((e.deliver to t l).items ++ js) d)) (λ j v. κ (sym (whole_value ty v is) j)) (done.runs k le js κ res st d ag h);
   }
-  deliver_as_does ints.Char ty e m is does to t l sz = delivered_does program code callers size count scope level within to (over (conv ints.Char) (e.low t l)) t _ (conv_does ints.Char ty e m is does t l sz)
+  deliver_as_does ints.Char ty e m is does to t l sz = delivered_does program code callers size count scope level within to (over (conv ints.Char) (e.low t l)) t _
+      (conv_does ints.Char ty e m is does t l sz)
   deliver_as_does ints.UnsignedChar ty e m is does to t l sz = delivered_does program code callers size count scope level within to (over (conv ints.UnsignedChar) (e.low t l)) t _
       (conv_does ints.UnsignedChar ty e m is does t l sz)
-  deliver_as_does ints.Short ty e m is does to t l sz = delivered_does program code callers size count scope level within to (over (conv ints.Short) (e.low t l)) t _ (conv_does ints.Short ty e m is does t l sz)
+  deliver_as_does ints.Short ty e m is does to t l sz = delivered_does program code callers size count scope level within to (over (conv ints.Short) (e.low t l)) t _
+      (conv_does ints.Short ty e m is does t l sz)
   deliver_as_does ints.UnsignedShort ty e m is does to t l sz = delivered_does program code callers size count scope level within to (over (conv ints.UnsignedShort) (e.low t l)) t _
       (conv_does ints.UnsignedShort ty e m is does t l sz)
 

@@ -1,7 +1,7 @@
 -- Conditions, and what is made of them: a branch for a value, a value for a branch, a choice.
 use Rattle.std.specs.Prelude.{ℕ, suc, [], ◌∷◌, ◌++◌, Bool, true, false, not}
 use Rattle.gg_base.specs.declared.relation.Rel.{Rel}
-use Rattle.gg_base.specs.declared.relation.Rel.TheVariants as rel
+use Rattle.gg_base.specs.declared.relation.Rel.TheVariants as relations
 use Rattle.c_types.specs.declared.types.Integer.{Integer}
 use Rattle.c_types.specs.declared.types.Integer.TheVariants as ints
 use Rattle.c_types.specs.declared.types.CType.{CType}
@@ -21,7 +21,7 @@ truth_of t l p = record {
 
 -- a value as a condition
 abbrev pub test : Bool → ℕ → Lowered → Emitted
-test sense to p = record { items = p.items ++ (Cbr (sensed sense rel.Ne) to p.tree (Num 0) ∷ []); temps = p.temps; labels = p.labels }
+test sense to p = record { items = p.items ++ (Cbr (sensed sense relations.Ne) to p.tree (Num 0) ∷ []); temps = p.temps; labels = p.labels }
 
 -- two values as a condition
 abbrev pub compare : Rel → ℕ → Pair → Emitted

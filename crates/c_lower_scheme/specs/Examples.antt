@@ -1,6 +1,6 @@
 -- What some functions are lowered to. Each is written as typed phrases, and stands as C beside them.
 use Rattle.std.specs.Prelude.{◌≡◌, ℕ, List, [], ◌∷◌, Some}
-use Rattle.gg_base.specs.declared.relation.Rel.TheVariants as rel
+use Rattle.gg_base.specs.declared.relation.Rel.TheVariants as relations
 use Rattle.c_types.specs.declared.types.CType.{CType}
 use Rattle.c_types.specs.declared.types.CType.TheVariants as types
 use Rattle.c_types.specs.declared.types.Integer.TheVariants as ints
@@ -70,7 +70,7 @@ indexing = block (
     ∷ EvaluateOf (AssignTo (local int 0) (Constant 0))
     ∷ EvaluateOf (AssignTo (local char 1) (ArithmeticOf ariths.Add (ReadOf (element 0 (incremented (local int 0)))) (ReadOf (local int 0))))
     ∷ EvaluateOf (ArithmeticAssignTo ariths.Add (element 0 (ReadOf (local int 0))) (incremented (local int 0)))
-    ∷ ReturnOf (Some (BothOf (CompareOf rel.Lt (ReadOf (local int 0)) (ReadOf (local char 1)))
+    ∷ ReturnOf (Some (BothOf (CompareOf relations.Lt (ReadOf (local int 0)) (ReadOf (local char 1)))
     (UnaryOf unaries.Not (ReadOf (element 0 (ReadOf (local char 1)))))))
     ∷ [])
 
@@ -89,8 +89,8 @@ indexing_items =
     ∷ AssignLoc 0 (Bin ariths.Add (Loc 2) (Num 1))
     ∷ AssignMem ints.Int (Loc 3) (Bin ariths.Add (Loc 4) (Loc 2))
     ∷ AssignLoc 2 (Num 0)
-    ∷ Cbr rel.Ge 0 (Loc 0) (Loc 1)
-    ∷ Cbr rel.Ne 0 (Indir ints.Int (at_index (Loc 1))) (Num 0)
+    ∷ Cbr relations.Ge 0 (Loc 0) (Loc 1)
+    ∷ Cbr relations.Ne 0 (Indir ints.Int (at_index (Loc 1))) (Num 0)
     ∷ AssignLoc 2 (Num 1)
     ∷ Label 0
     ∷ Ret (Loc 2)
@@ -119,7 +119,7 @@ storing_items =
     ∷ Call 0 0
     ∷ Save 1
     ∷ AssignMem ints.Char (Gaddr 0) (Bin ariths.Add (Loc 2) (Loc 1))
-    ∷ Cbr rel.Eq 0 (Loc 0) (Num 0)
+    ∷ Cbr relations.Eq 0 (Loc 0) (Num 0)
     ∷ Ret (Indir ints.Char (Gaddr 0))
     ∷ Label 0
     ∷ Ret (Indir ints.Int (Indir ints.Int (Gaddr 1)))

@@ -45,7 +45,8 @@ module _ (size count : ℕ) where
       drop = λ t l. called_drop (callee_number count f) (pass es to t l);
       deliver = λ at t l. called_deliver at (callee_number count f) (pass es to t l);
     }
-    way (StepOf m by p) = effective (λ t l. step_low size count m by (seek p t l)) (λ t l. store_drop (step_ready size count by (seek p t l)))
+    way (StepOf m by p) = effective (λ t l. step_low size count m by (seek p t l))
+        (λ t l. store_drop (step_ready size count by (seek p t l)))
     way (UnaryOf op e) = unary op (way e)
     way (CastTo ty e) = converting ty (way e)
     way (ConvertTo ty e) = converting ty (way e)

@@ -10,7 +10,7 @@ use Rattle.tree_core.specs.declared.tree.Att.{Att}
 use Rattle.tree_core.specs.declared.tree.Att.TheVariants as att
 use Rattle.tree_core.specs.declared.tree.Leaf.{Leaf}
 use Rattle.tree_core.specs.declared.program.TreeItem.{TreeItem}
-use Rattle.tree_core.specs.declared.program.TreeItem.TheVariants as item
+use Rattle.tree_core.specs.declared.program.TreeItem.TheVariants as tree_item
 use Rattle.tree_core.specs.Attributes.{end_leaf}
 use Rattle.c_lower_scheme.specs.Trees.{Tree, Num, Gaddr, Loc, Arg, Indir, Conv, Neg, Com, Bin, Item, Label, AssignLoc}
 use Rattle.c_lower_scheme.specs.Trees.{AssignArg, AssignMem, Cbr, Jump, Push, Call, Save, Ret}
@@ -82,16 +82,16 @@ assign_onto ints.Int a w rest = plain tok.AssignL ∷ plain tok.IndirL ∷ leave
 
 -- an item's leaves, with End behind them
 abbrev pub spelled : Item → TreeItem
-spelled (Label l) = item.Label l
-spelled (AssignLoc n w) = item.Root (plain tok.AssignL ∷ leaf tok.Loc (att.Slot n) ∷ leaves_onto w (end_leaf ∷ []))
-spelled (AssignArg n w) = item.Root (plain tok.AssignL ∷ leaf tok.Arg (att.Slot (suc n)) ∷ leaves_onto w (end_leaf ∷ []))
-spelled (AssignMem i a w) = item.Root (assign_onto i a w (end_leaf ∷ []))
-spelled (Cbr rel l a b) = item.Root (leaf tok.Cbr (att.Branch rel l) ∷ leaves_onto a (leaves_onto b (end_leaf ∷ [])))
-spelled (Jump l) = item.Root (leaf tok.Jump (att.Label l) ∷ end_leaf ∷ [])
-spelled (Push w) = item.Root (plain tok.Push ∷ leaves_onto w (end_leaf ∷ []))
-spelled (Call f count) = item.Root (leaf tok.Call (att.Callee f count) ∷ end_leaf ∷ [])
-spelled (Save n) = item.Root (leaf tok.Save (att.Slot n) ∷ end_leaf ∷ [])
-spelled (Ret w) = item.Root (plain tok.Ret ∷ leaves_onto w (end_leaf ∷ []))
+spelled (Label l) = tree_item.Label l
+spelled (AssignLoc n w) = tree_item.Root (plain tok.AssignL ∷ leaf tok.Loc (att.Slot n) ∷ leaves_onto w (end_leaf ∷ []))
+spelled (AssignArg n w) = tree_item.Root (plain tok.AssignL ∷ leaf tok.Arg (att.Slot (suc n)) ∷ leaves_onto w (end_leaf ∷ []))
+spelled (AssignMem i a w) = tree_item.Root (assign_onto i a w (end_leaf ∷ []))
+spelled (Cbr rel l a b) = tree_item.Root (leaf tok.Cbr (att.Branch rel l) ∷ leaves_onto a (leaves_onto b (end_leaf ∷ [])))
+spelled (Jump l) = tree_item.Root (leaf tok.Jump (att.Label l) ∷ end_leaf ∷ [])
+spelled (Push w) = tree_item.Root (plain tok.Push ∷ leaves_onto w (end_leaf ∷ []))
+spelled (Call f count) = tree_item.Root (leaf tok.Call (att.Callee f count) ∷ end_leaf ∷ [])
+spelled (Save n) = tree_item.Root (leaf tok.Save (att.Slot n) ∷ end_leaf ∷ [])
+spelled (Ret w) = tree_item.Root (plain tok.Ret ∷ leaves_onto w (end_leaf ∷ []))
 
 abbrev pub spelled_all : List Item → List TreeItem
 spelled_all is = map spelled is

@@ -1,7 +1,7 @@
 -- The trees that a program is lowered to: pure trees, and the items that they stand in.
 use Rattle.std.specs.Prelude.{ℕ, Bool, true, false, not, ◌||◌, ◌&&◌, nat_le}
 use Rattle.gg_base.specs.declared.relation.Rel.{Rel}
-use Rattle.gg_base.specs.declared.relation.Rel.TheVariants as rel
+use Rattle.gg_base.specs.declared.relation.Rel.TheVariants as relations
 use Rattle.c_types.specs.declared.types.Integer.{Integer}
 use Rattle.c_types.specs.declared.typed.ArithmeticOperator.{ArithmeticOperator}
 use Rattle.c_types.specs.declared.typed.ArithmeticOperator.TheVariants as ariths
@@ -100,16 +100,16 @@ is_leaf (Bin op a b) = false
 
 -- a relation that holds where another does not
 abbrev pub opposite : Rel → Rel
-opposite rel.Eq = rel.Ne
-opposite rel.Ne = rel.Eq
-opposite rel.Lt = rel.Ge
-opposite rel.Le = rel.Gt
-opposite rel.Gt = rel.Le
-opposite rel.Ge = rel.Lt
-opposite rel.Ltu = rel.Geu
-opposite rel.Leu = rel.Gtu
-opposite rel.Gtu = rel.Leu
-opposite rel.Geu = rel.Ltu
+opposite relations.Eq = relations.Ne
+opposite relations.Ne = relations.Eq
+opposite relations.Lt = relations.Ge
+opposite relations.Le = relations.Gt
+opposite relations.Gt = relations.Le
+opposite relations.Ge = relations.Lt
+opposite relations.Ltu = relations.Geu
+opposite relations.Leu = relations.Gtu
+opposite relations.Gtu = relations.Leu
+opposite relations.Geu = relations.Ltu
 
 abbrev pub sensed : Bool → Rel → Rel
 sensed true r = r

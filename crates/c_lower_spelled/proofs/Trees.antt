@@ -6,7 +6,7 @@ use Rattle.c_types.specs.declared.types.Integer.{Integer}
 use Rattle.c_types.specs.declared.types.Integer.TheVariants as ints
 use Rattle.tree_core.specs.declared.tree.Leaf.{Leaf}
 use Rattle.tree_core.specs.declared.program.TreeItem.{TreeItem}
-use Rattle.tree_core.specs.declared.program.TreeItem.TheVariants as item
+use Rattle.tree_core.specs.declared.program.TreeItem.TheVariants as tree_item
 use Rattle.tree_core.specs.declared.program.TreeProgram.{TreeProgram}
 use Rattle.tree_core.specs.Attributes.{end_leaf}
 use Rattle.c_lower_scheme.specs.Trees.{Tree, Num, Gaddr, Loc, Arg, Indir, Conv, Neg, Com, Bin, Item, Label, AssignLoc, AssignArg, AssignMem, Cbr, Jump, Push, Call, Save, Ret}
@@ -95,8 +95,8 @@ module _ (q : TreeProgram) (most : ℕ) (few : most ≤ 2 ^ 32) where
   assign_spell ints.Int a w h g = (tt, (tt, tree_spell a _ h (last_spell w g)))
 
   abbrev ItemSpells : TreeItem → Type 0
-  ItemSpells (item.Label l) = Unit {0}
-  ItemSpells (item.Root w) = Spell w
+  ItemSpells (tree_item.Label l) = Unit {0}
+  ItemSpells (tree_item.Root w) = Spell w
 
   item_spells : (i : Item) → IsLongItem (length q.objects) most i → ItemSpells (spelled i)
   item_spells (Label l) h = tt
@@ -111,11 +111,11 @@ module _ (q : TreeProgram) (most : ℕ) (few : most ≤ 2 ^ 32) where
   item_spells (Ret w) h = (tt, last_spell w h)
 
   -- each root among spelled items
-  pub roots_spell : {is : List Item} → AreLong (length q.objects) most is → (n : ℕ) (w : List Leaf) → slice_get (spelled_all is) n ≡ Some (item.Root w)
+  pub roots_spell : {is : List Item} → AreLong (length q.objects) most is → (n : ℕ) (w : List Leaf) → slice_get (spelled_all is) n ≡ Some (tree_item.Root w)
       → AllByRecursion (λ (l : Leaf). IsSpelled q l.att) w
   roots_spell none n w e = absurd (cc)
   roots_spell (next {i = i} h rest) zero w e =
-      let same : spelled i ≡ item.Root w = cc in
+      let same : spelled i ≡ tree_item.Root w = cc in
       subst ItemSpells same (item_spells i h)
   roots_spell (next h rest) (suc n) w e = roots_spell rest n w e
 

@@ -6,7 +6,7 @@ use Rattle.c_program.specs.Programs.{ARoutine}
 use Rattle.c_sound.specs.Fits.{FitsActs, no_local}
 use Rattle.c_sound.specs.Stands.{StandsActs, IsThere, Takes}
 use Rattle.tree_core.specs.declared.program.TreeItem.{TreeItem}
-use Rattle.tree_core.specs.declared.program.TreeItem.TheVariants as item
+use Rattle.tree_core.specs.declared.program.TreeItem.TheVariants as tree_item
 use Rattle.tree_core.specs.declared.program.TreeFn.{TreeFn}
 use Rattle.gg_compile_law.specs.Names.{HaveSmall}
 use Rattle.c_lower_scheme.specs.Trees.{Item}
@@ -76,7 +76,7 @@ pub lowered_is_spelled : LoweredIsSpelled
 lowered_is_spelled p sound few f n g w e h =
     let count = length p.routines in
     let own = all_spell (length p.objects) (label_count p) count (Takes p.routines) p.routines 0 sound.fits sound.stands (omega arith) f g e in
-    let there = subst (λ (is : List TreeItem). slice_get is n ≡ Some (item.Root w)) (sym own.spelled) h in
+    let there = subst (λ (is : List TreeItem). slice_get is n ≡ Some (tree_item.Root w)) (sym own.spelled) h in
     roots_spell (lowered p) (label_count p) few own.long n w there
 
 pub labels_are_small : LabelsAreSmall

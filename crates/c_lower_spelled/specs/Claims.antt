@@ -2,7 +2,7 @@
 use Rattle.std.specs.Prelude.{◌≡◌, ℕ, ◌≤◌, ◌^◌, List, [], ◌∷◌, length, Some, true, slice_get}
 use Rattle.std.specs.List.{AllByRecursion}
 use Rattle.tree_core.specs.declared.tree.Leaf.{Leaf}
-use Rattle.tree_core.specs.declared.program.TreeItem.TheVariants as item
+use Rattle.tree_core.specs.declared.program.TreeItem.TheVariants as tree_item
 use Rattle.tree_core.specs.declared.program.TreeFn.{TreeFn}
 use Rattle.tree_core.specs.declared.program.TreeProgram.{TreeProgram}
 use Rattle.c_phrases.specs.Units.{AUnit}
@@ -28,7 +28,8 @@ label_count p = labels_behind (length p.routines) p.routines 0
 
 -- The numbers, offsets and labels in the trees of a program are longwords, and their objects the program's.
 abbrev pub TreesAreSpelled : TreeProgram → Type 0
-TreesAreSpelled q = (f n : ℕ) (g : TreeFn) (w : List Leaf) → slice_get q.functions f ≡ Some g → slice_get g.items n ≡ Some (item.Root w)
+TreesAreSpelled q = (f n : ℕ) (g : TreeFn) (w : List Leaf) → slice_get q.functions f ≡ Some g → slice_get g.items n
+    ≡ Some (tree_item.Root w)
     → AllByRecursion (λ (l : Leaf). IsSpelled q l.att) w
 
 -- So it is with what a sound program is lowered to, where longwords count its labels.

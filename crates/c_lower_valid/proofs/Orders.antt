@@ -3,7 +3,7 @@ use Rattle.std.proofs.Common.{◌≡◌, ℕ, List, [], ◌∷◌, ◌++◌, len
 use Rattle.c_types.specs.declared.types.Integer.{Integer}
 use Rattle.c_types.specs.declared.types.Integer.TheVariants as ints
 use Rattle.tree_core.specs.declared.program.TreeItem.{TreeItem}
-use Rattle.tree_core.specs.declared.program.TreeItem.TheVariants as item
+use Rattle.tree_core.specs.declared.program.TreeItem.TheVariants as tree_item
 use Rattle.tree_core.specs.Items.{role_of, AllPush, CallsInOrder, nothing, other, call, saved}
 use Rattle.c_lower_scheme.specs.Trees.{Tree, Item, Label, AssignLoc, AssignArg, AssignMem, Cbr, Jump, Push, Call, Save, Ret}
 use Rattle.c_lower_scheme.specs.Spelling.{spelled, spelled_all}
@@ -44,14 +44,14 @@ IsQuiet (Call f count) = ⊥
 IsQuiet (Save n) = ⊥
 IsQuiet (Ret w) = Unit {0}
 
-memory_role : (i : Integer) (a w : Tree) → role_of (spelled (AssignMem i a w)) ≡ role_of (item.Label 0)
+memory_role : (i : Integer) (a w : Tree) → role_of (spelled (AssignMem i a w)) ≡ role_of (tree_item.Label 0)
 memory_role ints.Char a w = refl
 memory_role ints.UnsignedChar a w = refl
 memory_role ints.Short a w = refl
 memory_role ints.UnsignedShort a w = refl
 memory_role ints.Int a w = refl
 
-quiet_role : (i : Item) → IsQuiet i → role_of (spelled i) ≡ role_of (item.Label 0)
+quiet_role : (i : Item) → IsQuiet i → role_of (spelled i) ≡ role_of (tree_item.Label 0)
 quiet_role (Label l) q = refl
 quiet_role (AssignLoc n w) q = refl
 quiet_role (AssignArg n w) q = refl

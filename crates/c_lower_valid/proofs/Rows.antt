@@ -13,7 +13,7 @@ use Rattle.tree_core.specs.declared.token.Sort.{Sort}
 use Rattle.tree_core.specs.declared.token.Sort.TheVariants as sort
 use Rattle.tree_core.specs.declared.tree.Att.TheVariants as att
 use Rattle.tree_core.specs.declared.tree.Leaf.{Leaf}
-use Rattle.tree_core.specs.declared.program.TreeItem.TheVariants as item
+use Rattle.tree_core.specs.declared.program.TreeItem.TheVariants as tree_item
 use Rattle.tree_core.specs.declared.program.TreeFn.{TreeFn}
 use Rattle.tree_core.specs.Attributes.{end_leaf}
 use Rattle.tree_core.specs.Grammar.{kids}
@@ -156,7 +156,7 @@ module _ (fs : List TreeFn) (objects : ℕ) (fn : TreeFn) (few : fn.args ≤ 255
 
   -- a statement's row, in front of the end
   stands : (l : Leaf) (f : List Leaf → List Leaf) → IsTrue (stands_for l sort.Stmt) → passes l ≡ true → Row passes (kids l.tok) f
-      → ItemStands fs objects fn (item.Root (l ∷ f (end_leaf ∷ [])))
+      → ItemStands fs objects fn (tree_item.Root (l ∷ f (end_leaf ∷ [])))
   stands l f s n below =
       let r = row_node passes l sort.Stmt [] f (λ w. w) s n below (row_nil passes) in (
         record { trees = r.trees; typed = r.typed; spelled = r.spells (end_leaf ∷ []) },
@@ -164,7 +164,7 @@ module _ (fs : List TreeFn) (objects : ℕ) (fn : TreeFn) (few : fn.args ≤ 255
       )
 
   assign_stands : (i : Integer) (a w : Tree) → Names scene fn.locals a → Names scene fn.locals w
-      → ItemStands fs objects fn (item.Root (assign_onto i a w (end_leaf ∷ [])))
+      → ItemStands fs objects fn (tree_item.Root (assign_onto i a w (end_leaf ∷ [])))
   assign_stands ints.Char a w ok ok' = stands (plain tok.AssignB) _ refl refl
       (row_node passes (plain tok.IndirB) sort.PlaceB _ (Spelling.leaves_onto a) _ refl refl (one_row a ok)
       (row_node passes (plain tok.Ncb) sort.Byte [] (Spelling.leaves_onto w) (λ v. v) refl refl (one_row w ok') (row_nil passes)))

@@ -5,7 +5,7 @@ use Rattle.c_types.specs.declared.types.Integer.{Integer}
 use Rattle.c_types.specs.declared.types.Integer.TheVariants as ints
 use Rattle.tree_core.specs.declared.tree.Leaf.{Leaf}
 use Rattle.tree_core.specs.declared.program.TreeItem.{TreeItem}
-use Rattle.tree_core.specs.declared.program.TreeItem.TheVariants as item
+use Rattle.tree_core.specs.declared.program.TreeItem.TheVariants as tree_item
 use Rattle.tree_core.specs.declared.program.TreeFn.{TreeFn}
 use Rattle.tree_core.specs.Items.{target_of, times, all_labels}
 use Rattle.tree_core.specs.Labels.{TargetsStandIn}
@@ -27,8 +27,8 @@ times_append n [] b = omega arith
 times_append n (m ∷ a) b = let h = times_append n a b in omega arith
 
 -- a reading of items that finds the labels that stand there
-module _ (h : TreeItem → Option ℕ) (on_label : (l : ℕ) → h (item.Label l) ≡ Some l)
-    (on_root : (l : Leaf) (w : List Leaf) → h (item.Root (l ∷ w)) ≡ None) where
+module _ (h : TreeItem → Option ℕ) (on_label : (l : ℕ) → h (tree_item.Label l) ≡ Some l)
+    (on_root : (l : Leaf) (w : List Leaf) → h (tree_item.Root (l ∷ w)) ≡ None) where
   stands_there : (i : Item) (n : ℕ) → number_of (h (spelled i)) n ≡ tag i n
   stands_there (Label l) n = ap (λ o. number_of o n) (on_label l)
   stands_there (AssignLoc k w) n = ap (λ o. number_of o n) (on_root _ _)
@@ -56,8 +56,8 @@ module _ (h : TreeItem → Option ℕ) (on_label : (l : ℕ) → h (item.Label l
   stands_before n is ms = omega (arith, times_append n (filter_map h (spelled_all is)) ms, stands_all n is)
 
 -- one that finds the labels to which they go
-module _ (h : TreeItem → Option ℕ) (on_label : (l : ℕ) → h (item.Label l) ≡ None)
-    (on_root : (l : Leaf) (w : List Leaf) → h (item.Root (l ∷ w)) ≡ target_of l.att) where
+module _ (h : TreeItem → Option ℕ) (on_label : (l : ℕ) → h (tree_item.Label l) ≡ None)
+    (on_root : (l : Leaf) (w : List Leaf) → h (tree_item.Root (l ∷ w)) ≡ target_of l.att) where
   aims_there : (i : Item) (n : ℕ) → number_of (h (spelled i)) n ≡ aim i n
   aims_there (Label l) n = ap (λ o. number_of o n) (on_label l)
   aims_there (AssignLoc k w) n = ap (λ o. number_of o n) (on_root _ _)
@@ -81,12 +81,12 @@ module _ (h : TreeItem → Option ℕ) (on_label : (l : ℕ) → h (item.Label l
   aims_all n [] = refl
   aims_all n (i ∷ is) = omega (arith, times_more (h (spelled i)) n (filter_map h (spelled_all is)), aims_there i n, aims_all n is)
 
-there : (h : TreeItem → Option ℕ) → ((l : ℕ) → h (item.Label l) ≡ Some l) → ((l : Leaf) (w : List Leaf) → h (item.Root (l ∷ w)) ≡ None)
+there : (h : TreeItem → Option ℕ) → ((l : ℕ) → h (tree_item.Label l) ≡ Some l) → ((l : Leaf) (w : List Leaf) → h (tree_item.Root (l ∷ w)) ≡ None)
     → (n : ℕ) (is : List Item) → 0 < stands n is → 0 < times n (filter_map h (spelled_all is))
 there h a b n is lt = omega (arith, stands_all h a b n is)
 
-gone_to : (h : TreeItem → Option ℕ) → ((l : ℕ) → h (item.Label l) ≡ None)
-    → ((l : Leaf) (w : List Leaf) → h (item.Root (l ∷ w)) ≡ target_of l.att) → (n : ℕ) (is : List Item)
+gone_to : (h : TreeItem → Option ℕ) → ((l : ℕ) → h (tree_item.Label l) ≡ None)
+    → ((l : Leaf) (w : List Leaf) → h (tree_item.Root (l ∷ w)) ≡ target_of l.att) → (n : ℕ) (is : List Item)
     → 0 < times n (filter_map h (spelled_all is)) → 0 < aims n is
 gone_to h a b n is lt = omega (arith, aims_all h a b n is)
 

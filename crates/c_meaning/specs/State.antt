@@ -2,7 +2,7 @@
 use Rattle.std.specs.Prelude.{ℕ, List, Option, Some, None, nat_lt, cond, length, slice_get, slice_set}
 use Rattle.std.specs.Option.{option_map}
 use Rattle.gg_base.specs.declared.size.Size.{Size}
-use Rattle.gg_base.specs.declared.size.Size.TheVariants as size
+use Rattle.gg_base.specs.declared.size.Size.TheVariants as sizes
 use Rattle.tree_core.specs.declared.program.Object.{Object}
 use Rattle.tree_core.specs.Area.{fetched, stored}
 use Rattle.c_types.specs.declared.types.CType.{CType}
@@ -29,16 +29,16 @@ pub record State : Type 0 where
 
 -- the bytes that a value of a type takes in memory
 abbrev pub integer_access : Integer → Size
-integer_access ints.Char = size.Byte
-integer_access ints.UnsignedChar = size.Byte
-integer_access ints.Short = size.Word
-integer_access ints.UnsignedShort = size.Word
-integer_access ints.Int = size.Long
+integer_access ints.Char = sizes.Byte
+integer_access ints.UnsignedChar = sizes.Byte
+integer_access ints.Short = sizes.Word
+integer_access ints.UnsignedShort = sizes.Word
+integer_access ints.Int = sizes.Long
 
 abbrev pub access_size : CType → Option Size
 access_size types.Void = None
 access_size (types.Integer i) = Some (integer_access i)
-access_size (types.Pointer i n) = Some size.Long
+access_size (types.Pointer i n) = Some sizes.Long
 
 -- the address of an object, by its number
 abbrev pub address : List Object → ℕ → Option ℕ

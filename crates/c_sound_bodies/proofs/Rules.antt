@@ -3,7 +3,7 @@ use Rattle.std.proofs.Common.{◌≡◌, ℕ, Bool, true, false, Option, Some, N
 use Rattle.std.specs.Prelude.{if◌then◌else◌}
 use Rattle.gg_base.specs.declared.relation.Rel.{Rel}
 use Rattle.c_tokens.specs.declared.token.Token.{Token}
-use Rattle.gg_base.specs.declared.relation.Rel.TheVariants as rels
+use Rattle.gg_base.specs.declared.relation.Rel.TheVariants as relations
 use Rattle.c_phrases.specs.declared.operator.BinaryOperator.{BinaryOperator}
 use Rattle.c_phrases.specs.declared.operator.BinaryOperator.TheVariants as binaries
 use Rattle.c_phrases.specs.declared.operator.PrefixOperator.{PrefixOperator}
@@ -72,12 +72,12 @@ module _ (T : Token → Type 0) (known : Variable → Type 0) (calls : Callee �
   binary_has binaries.Or x y t row p q = rw (row.is) (c.arithmetic ariths.Or x y p q)
   binary_has binaries.Xor x y t row p q = rw (row.is) (c.arithmetic ariths.Xor x y p q)
   binary_has binaries.And x y t row p q = rw (row.is) (c.arithmetic ariths.And x y p q)
-  binary_has binaries.Equal x y t row p q = rw (row.is) (c.compare rels.Eq x y p q)
-  binary_has binaries.NotEqual x y t row p q = rw (row.is) (c.compare rels.Ne x y p q)
-  binary_has binaries.Less x y t row p q = order_has rels.Lt rels.Ltu x y t row p q
-  binary_has binaries.LessEqual x y t row p q = order_has rels.Le rels.Leu x y t row p q
-  binary_has binaries.Greater x y t row p q = order_has rels.Gt rels.Gtu x y t row p q
-  binary_has binaries.GreaterEqual x y t row p q = order_has rels.Ge rels.Geu x y t row p q
+  binary_has binaries.Equal x y t row p q = rw (row.is) (c.compare relations.Eq x y p q)
+  binary_has binaries.NotEqual x y t row p q = rw (row.is) (c.compare relations.Ne x y p q)
+  binary_has binaries.Less x y t row p q = order_has relations.Lt relations.Ltu x y t row p q
+  binary_has binaries.LessEqual x y t row p q = order_has relations.Le relations.Leu x y t row p q
+  binary_has binaries.Greater x y t row p q = order_has relations.Gt relations.Gtu x y t row p q
+  binary_has binaries.GreaterEqual x y t row p q = order_has relations.Ge relations.Geu x y t row p q
   binary_has binaries.ShiftLeft x y t row p q = rw (row.is) (c.arithmetic ariths.ShiftLeft x y p q)
   binary_has binaries.ShiftRight x y t row p q = rw (row.is) (c.arithmetic ariths.ShiftRight x y p q)
   binary_has binaries.Add x y t row p q = sum_has x y t row p q

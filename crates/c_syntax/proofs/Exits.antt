@@ -393,7 +393,8 @@ no_step_of (token.Number v) e = tt
 no_step_of (token.Str b) e = tt
 no_step_of token.End e = tt
 
-primary_by : (k : Class) → NoOperator k → NoStepClass k → (k ≢ c.Sizeof) → (t : Placed) (n : ℕ) (κ : AnExp → Stack) → Expressions.unary_step k t n κ ≡ Expressions.primary_step k t n (λ p. Want (PostTail p) κ)
+primary_by : (k : Class) → NoOperator k → NoStepClass k → (k ≢ c.Sizeof) → (t : Placed) (n : ℕ) (κ : AnExp → Stack) → Expressions.unary_step k t n κ
+    ≡ Expressions.primary_step k t n (λ p. Want (PostTail p) κ)
 primary_by c.Sign h i j t n κ = absurd h
 primary_by c.Star h i j t n κ = absurd h
 primary_by c.Lone h i j t n κ = absurd h

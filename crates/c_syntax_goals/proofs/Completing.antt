@@ -115,7 +115,13 @@ complete_goal (SizeofGroup at o m) κ n f =
       unit = r.unit;
       no_else = λ e. absurd (cc);
       is = λ b p q.
-          record { item = sizeof_exp at (paren o zero); rest = r.words; is = (refl, (omega arith, tt)); onwards = subst (λ (j : ℕ). Yields (κ (sizeof_exp at (paren o zero))) j r.words r.unit) p r.is };
+          record {
+            item = sizeof_exp at (paren o zero);
+            rest = r.words;
+            is = (refl, (omega arith, tt));
+            onwards =
+                subst (λ (j : ℕ). Yields (κ (sizeof_exp at (paren o zero))) j r.words r.unit) p r.is;
+          };
     }
 complete_goal Arguments κ n f =
     let r = f no_exps n in

@@ -100,7 +100,8 @@ else_by : (k : Class) → (k ≢ c.Else) → (t : Placed) (n at o : ℕ) (e : An
 else_by c.Else h t n at o e s κ = absurd (h refl)
 else_by k h t n at o e s κ = refl
 
-length_by : (k : Class) → (k ≢ c.CloseBracket) → (t : Placed) (n : ℕ) (κ : Option AnExp → Stack) → Declarators.length_step k t n κ ≡ Expressions.cond_step k t n (λ e. Want WantBracket (λ x. κ (Some e)))
+length_by : (k : Class) → (k ≢ c.CloseBracket) → (t : Placed) (n : ℕ) (κ : Option AnExp → Stack) → Declarators.length_step k t n κ
+    ≡ Expressions.cond_step k t n (λ e. Want WantBracket (λ x. κ (Some e)))
 length_by c.CloseBracket h t n κ = absurd (h refl)
 length_by k h t n κ = refl
 

@@ -165,7 +165,8 @@ first_by c.Short h t o m n κ = absurd h
 first_by c.Unsigned h t o m n κ = absurd h
 first_by k h t o m n κ = refl
 
-sizeof_by : (k : Class) → NoTypeClass k → (t : Placed) (at o m n : ℕ) (κ : AnExp → Stack) → Groups.sizeof_group_step k t at o m n κ ≡ Expressions.expr_step k t n (paren_behind o m (λ u. κ (sizeof_exp at u)))
+sizeof_by : (k : Class) → NoTypeClass k → (t : Placed) (at o m n : ℕ) (κ : AnExp → Stack) → Groups.sizeof_group_step k t at o m n κ
+    ≡ Expressions.expr_step k t n (paren_behind o m (λ u. κ (sizeof_exp at u)))
 sizeof_by c.Int h t at o m n κ = absurd h
 sizeof_by c.Char h t at o m n κ = absurd h
 sizeof_by c.Void h t at o m n κ = absurd h

@@ -152,7 +152,8 @@ module _ (t : Placed) (n : ℕ) (ts : List Opening) (u : AUnit) where
   back_cast c.OpenParen e κ h = h refl
   back_cast k e κ h = weaken 13 14 (omega arith) _ n (By κ u) (back_unary k e κ h)
 
-  back_assign : (k : Class) → class_of t.kind ≡ k → (κ : AnExp → Stack) → OfStep (Expressions.assign_step k t n κ) n ts u → Yields (Want Assign κ) n (read (Expressions.assign_step k t n κ) k t n ∷ ts) u
+  back_assign : (k : Class) → class_of t.kind ≡ k → (κ : AnExp → Stack) → OfStep (Expressions.assign_step k t n κ) n ts u
+      → Yields (Want Assign κ) n (read (Expressions.assign_step k t n κ) k t n ∷ ts) u
   back_assign c.OpenParen e κ h = h refl
   back_assign k e κ h = joined 14 14 1 (omega arith) _ n (By κ u) (back_unary k e (λ v. Want (Tail true v) κ) h)
 
@@ -162,7 +163,8 @@ module _ (t : Placed) (n : ℕ) (ts : List Opening) (u : AUnit) where
   back_cond : (k : Class) → class_of t.kind ≡ k → (κ : AnExp → Stack) → OfStep (Expressions.cond_step k t n κ) n ts u → Yields (Want Cond κ) n (read (Expressions.cond_step k t n κ) k t n ∷ ts) u
   back_cond k e κ h = joined 13 3 2 (omega arith) _ n (By κ u) (back_cast k e (λ v. Want (Tail false v) κ) h)
 
-  back_commas : (k : Class) (l : AnExp) (κ : AnExp → Stack) → OfTurn (Expressions.commas_turn k n l κ) κ k t n ts u → Yields (Want (Commas l) κ) n (lead (Expressions.commas_turn k n l κ) κ k t n ∷ ts) u
+  back_commas : (k : Class) (l : AnExp) (κ : AnExp → Stack) → OfTurn (Expressions.commas_turn k n l κ) κ k t n ts u
+      → Yields (Want (Commas l) κ) n (lead (Expressions.commas_turn k n l κ) κ k t n ∷ ts) u
   back_commas c.Comma l κ h = settle l 0 0 n (λ m. opens (m + 1) (sign marks.Comma 0) ∷ ts) (λ m. Yields (Want Assign (λ r. Want (Commas (comma l r)) κ)) (m + 1) ts u) (By κ u)
       (λ b i g. comma_read u l b κ ts i g) h
   back_commas k l κ h = alone 0 0 l n _ (By κ u) (omega arith) h
@@ -295,7 +297,8 @@ module _ (t : Placed) (n : ℕ) (ts : List Opening) (u : AUnit) where
   back_arguments c.CloseParen e κ h = record { item = no_exps; rest = ts; is = (refl, tt); onwards = h }
   back_arguments k e κ h = argument_read u n κ _ (back_assign k e (λ a. Want (Back n) (λ x. Want MoreArguments (λ es. κ (exps a es)))) h)
 
-  back_more_arguments : (k : Class) (κ : SomeExps → Stack) → OfStep (Expressions.more_arguments_step k n κ) n ts u → Yields (Want MoreArguments κ) n (read (Expressions.more_arguments_step k n κ) k t n ∷ ts) u
+  back_more_arguments : (k : Class) (κ : SomeExps → Stack) → OfStep (Expressions.more_arguments_step k n κ) n ts u
+      → Yields (Want MoreArguments κ) n (read (Expressions.more_arguments_step k n κ) k t n ∷ ts) u
   back_more_arguments c.CloseParen κ h = record { item = no_exps; rest = ts; is = (refl, tt); onwards = h }
   back_more_arguments c.Comma κ h = next_argument_read u n κ ts h
   back_more_arguments k κ h = absurd h
@@ -340,7 +343,8 @@ module _ (t : Placed) (n : ℕ) (ts : List Opening) (u : AUnit) where
   back_for_open c.OpenParen κ h = record { item = t.at; rest = ts; is = refl; onwards = h }
   back_for_open k κ h = absurd h
 
-  back_simple : (k : Class) → class_of t.kind ≡ k → (κ : AStatement → Stack) → OfStep (Statements.simple_step k t n κ) n ts u → Yields (Want Statement κ) n (read (Statements.simple_step k t n κ) k t n ∷ ts) u
+  back_simple : (k : Class) → class_of t.kind ≡ k → (κ : AStatement → Stack) → OfStep (Statements.simple_step k t n κ) n ts u
+      → Yields (Want Statement κ) n (read (Statements.simple_step k t n κ) k t n ∷ ts) u
   back_simple c.Semicolon e κ h = record { item = empty; rest = ts; is = (refl, (tt, inl tt)); onwards = h }
   back_simple c.Break e κ h = record { item = break_off t.at; rest = h.rest; is = (ap (λ (x : List Opening). plain (word keys.Break t.at) ∷ x) h.is, (tt, inl tt)); onwards = h.onwards }
   back_simple c.Continue e κ h = record { item = continue_on t.at; rest = h.rest; is = (ap (λ (x : List Opening). plain (word keys.Continue t.at) ∷ x) h.is, (tt, inl tt)); onwards = h.onwards }
@@ -403,11 +407,13 @@ module _ (t : Placed) (n : ℕ) (ts : List Opening) (u : AUnit) where
   back_array c.OpenBracket κ h = array_read u t.at n κ ts h
   back_array k κ h = record { item = None; rest = _; is = (refl, tt); onwards = h }
 
-  back_length : (k : Class) → class_of t.kind ≡ k → (κ : Option AnExp → Stack) → OfStep (Declarators.length_step k t n κ) n ts u → Yields (Want Length κ) n (read (Declarators.length_step k t n κ) k t n ∷ ts) u
+  back_length : (k : Class) → class_of t.kind ≡ k → (κ : Option AnExp → Stack) → OfStep (Declarators.length_step k t n κ) n ts u
+      → Yields (Want Length κ) n (read (Declarators.length_step k t n κ) k t n ∷ ts) u
   back_length c.CloseBracket e κ h = record { item = None; rest = ts; is = (refl, tt); onwards = h }
   back_length k e κ h = length_read u n κ _ (back_cond k e (λ v. Want WantBracket (λ x. κ (Some v))) h)
 
-  back_init_part : (k : Class) (κ : Option AnInitialised → Stack) → OfTurn (Declarators.init_part_turn k t n κ) κ k t n ts u → Yields (Want InitPart κ) n (lead (Declarators.init_part_turn k t n κ) κ k t n ∷ ts) u
+  back_init_part : (k : Class) (κ : Option AnInitialised → Stack) → OfTurn (Declarators.init_part_turn k t n κ) κ k t n ts u
+      → Yields (Want InitPart κ) n (lead (Declarators.init_part_turn k t n κ) κ k t n ∷ ts) u
   back_init_part c.Equals κ h = record {
     item = Some (record { at = t.at; with_init = h.item });
     rest = h.rest;
@@ -421,7 +427,8 @@ module _ (t : Placed) (n : ℕ) (ts : List Opening) (u : AUnit) where
   back_init c.OpenBrace e κ h = h n refl
   back_init k e κ h = init_read u n κ _ (back_assign k e (λ a. Want (Back n) (λ x. κ (value a))) h)
 
-  back_elements : (k : Class) → class_of t.kind ≡ k → (κ : AnInit → Stack) → OfStep (Declarators.elements_step k t n κ) n ts u → Yields (Want Elements κ) n (read (Declarators.elements_step k t n κ) k t n ∷ ts) u
+  back_elements : (k : Class) → class_of t.kind ≡ k → (κ : AnInit → Stack) → OfStep (Declarators.elements_step k t n κ) n ts u
+      → Yields (Want Elements κ) n (read (Declarators.elements_step k t n κ) k t n ∷ ts) u
   back_elements k e κ h = elements_read u n κ _ (back_assign k e (λ a. Want (Back n) (λ x. Want InitMore (λ r. κ (elements (exps a r.0) r.1)))) h)
 
   back_init_more : (k : Class) (κ : SomeExps × Bool → Stack) → OfStep (Declarators.init_more_step k κ) n ts u → Yields (Want InitMore κ) n (read (Declarators.init_more_step k κ) k t n ∷ ts) u

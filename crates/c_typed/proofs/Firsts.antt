@@ -17,7 +17,7 @@ use Rattle.c_syntax.specs.Answers as parsed
 use Rattle.c_syntax.specs.Answers.{IsThat, HasFault}
 use Rattle.c_types.specs.declared.fault.TypeKind.{TypeKind}
 use Rattle.c_types.specs.declared.fault.TypeFault.{TypeFault}
-use Rattle.c_types.specs.declared.fault.TypeFault.TheVariants as typing
+use Rattle.c_types.specs.declared.fault.TypeFault.TheVariants as type_fault
 use Rattle.c_types.specs.Answers.{Fault}
 use Rattle.c_typed_operators.specs.Table.{OnlyFault}
 use Rattle.c_sound.specs.Fits.{AreBytes}
@@ -123,7 +123,7 @@ module _ (bytes : List ℕ) (items ts : List Spanned) (same : ts ≡ items) (onl
       (is ∙ r.0, r.1)
 
   module _ (ast : Ast) (unit : (u : AUnit) → IsUnit (seen ts) u → unit_of ast ≡ u) (first : IsEnded ts → (g : SyntaxFault) → HasFault ts g → ⊥) where
-    pub types_first : (e : TypeFault) (p : ℕ) (k : TypeKind) (at : Place) (answer : SourceKind) → e ≡ typing.At p k → at ≡ place_at bytes p →
+    pub types_first : (e : TypeFault) (p : ℕ) (k : TypeKind) (at : Place) (answer : SourceKind) → e ≡ type_fault.At p k → at ≡ place_at bytes p →
         answer ≡ type_kind k → ((f : Fault) → TextFault (unit_of ast).externals (unit_of ast).end f → OnlyFault {X = Unit {0}} (Err e) f) →
         (place : Place) (kind : SourceKind) → IsFaultAt bytes place kind → (at ≡ place) × (answer ≡ kind)
     types_first e p k at answer fault is named types place kind h =

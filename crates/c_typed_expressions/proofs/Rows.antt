@@ -14,7 +14,7 @@ use Rattle.c_types.specs.declared.fault.TypeFault.{TypeFault}
 use Rattle.c_types.specs.declared.fault.TypeFault.TheVariants.{NoMemory, At}
 use Rattle.c_types.specs.declared.typed.Callee.{Callee}
 use Rattle.c_types.specs.declared.typed.Expression.{Expression}
-use Rattle.c_types.specs.declared.typed.Expression.TheVariants as typeds
+use Rattle.c_types.specs.declared.typed.Expression.TheVariants as expression
 use Rattle.c_types.specs.declared.fault.TypeKind.TheVariants.{BadCall, BadType}
 use Rattle.c_types.specs.Answers.{Fault, ◌>>=◌, Fails, Gives}
 use Rattle.c_types.specs.Typed.{SomeExpressions, NoExpressions, MoreExpressions, term, terms}
@@ -154,7 +154,7 @@ called_unfit signatures o n opened s p es xs list u at r is found same like list
 -- all arguments are taken
 pub called_runs : (signatures : List Signature) (o : Option ℕ) (n : ℕ) (s : Signature) (opened : ℕ) (es : List Expr) (xs : Vec Expression) (f : Callee) (to : List CType) → o ≡ Some n
     → slice_get signatures n ≡ Some s → length s.parameters ≡ length es → None ≡ unfit s.parameters (exp_list es) (terms xs.items) → f ≡ callee_of n → to ≡ s.parameters
-    → called signatures o opened (exp_list es) (terms xs.items) ≡ Ok (term (typeds.Call s.result f to xs))
+    → called signatures o opened (exp_list es) (terms xs.items) ≡ Ok (term (expression.Call s.result f to xs))
 called_runs signatures o n s opened es xs f to is found same fit callee types =
     rw (is, found, count_is es, eq-eqb _ _ same, ← fit, callee, types) (sym (ap Ok (term_call s.result (callee_of n) s.parameters xs)))
 

@@ -2,7 +2,7 @@
 use Rattle.std.proofs.Common.{◌≡◌, ℕ, Bool, true, false, ◌&&◌, ◌||◌, cond, Result, Ok, Err, refl, sym, ap, ◌∙◌}
 use Rattle.std.specs.Prelude.{IfOk, IfErr}
 use Rattle.gg_base.specs.declared.relation.Rel.{Rel}
-use Rattle.gg_base.specs.declared.relation.Rel.TheVariants as rels
+use Rattle.gg_base.specs.declared.relation.Rel.TheVariants as relations
 use Rattle.c_phrases.specs.declared.operator.BinaryOperator.{BinaryOperator}
 use Rattle.c_phrases.specs.declared.operator.BinaryOperator.TheVariants as binaries
 use Rattle.c_types.specs.declared.types.CType.{CType}
@@ -13,7 +13,7 @@ use Rattle.c_types.specs.declared.typed.ArithmeticOperator.TheVariants as ariths
 use Rattle.c_types.specs.declared.fault.TypeKind.{TypeKind}
 use Rattle.c_types.specs.declared.fault.TypeKind.TheVariants.{BadType}
 use Rattle.c_types.specs.declared.fault.TypeFault.{TypeFault}
-use Rattle.c_types.specs.declared.fault.TypeFault.TheVariants as faults
+use Rattle.c_types.specs.declared.fault.TypeFault.TheVariants as type_fault
 use Rattle.c_types.specs.Answers.{Fault, bad, Gives}
 use Rattle.c_types.specs.Types.{is_integer, is_scalar, same_type}
 use Rattle.c_types.specs.Typed.{AnExpression, ArithmeticOf, CompareOf, BothOf, EitherOf, type_of, is_null}
@@ -202,12 +202,12 @@ binary_means binaries.AndAnd at x y = logical_means (BothOf x y) at x y
 binary_means binaries.Or at x y = arithmetic_means ariths.Or at x y
 binary_means binaries.Xor at x y = arithmetic_means ariths.Xor at x y
 binary_means binaries.And at x y = arithmetic_means ariths.And at x y
-binary_means binaries.Equal at x y = equality_means rels.Eq at x y
-binary_means binaries.NotEqual at x y = equality_means rels.Ne at x y
-binary_means binaries.Less at x y = order_means rels.Lt rels.Ltu at x y
-binary_means binaries.LessEqual at x y = order_means rels.Le rels.Leu at x y
-binary_means binaries.Greater at x y = order_means rels.Gt rels.Gtu at x y
-binary_means binaries.GreaterEqual at x y = order_means rels.Ge rels.Geu at x y
+binary_means binaries.Equal at x y = equality_means relations.Eq at x y
+binary_means binaries.NotEqual at x y = equality_means relations.Ne at x y
+binary_means binaries.Less at x y = order_means relations.Lt relations.Ltu at x y
+binary_means binaries.LessEqual at x y = order_means relations.Le relations.Leu at x y
+binary_means binaries.Greater at x y = order_means relations.Gt relations.Gtu at x y
+binary_means binaries.GreaterEqual at x y = order_means relations.Ge relations.Geu at x y
 binary_means binaries.ShiftLeft at x y = arithmetic_means ariths.ShiftLeft at x y
 binary_means binaries.ShiftRight at x y = arithmetic_means ariths.ShiftRight at x y
 binary_means binaries.Add at x y = sum_means at x y

@@ -1,7 +1,7 @@
 -- The table of binary operators, on operands that have their types.
 use Rattle.std.specs.Prelude.{ℕ, Bool, true, false, ◌||◌, ◌&&◌, Result, Ok, if◌then◌else◌}
 use Rattle.gg_base.specs.declared.relation.Rel.{Rel}
-use Rattle.gg_base.specs.declared.relation.Rel.TheVariants as rels
+use Rattle.gg_base.specs.declared.relation.Rel.TheVariants as relations
 use Rattle.c_phrases.specs.declared.operator.BinaryOperator.{BinaryOperator}
 use Rattle.c_phrases.specs.declared.operator.BinaryOperator.TheVariants as binaries
 use Rattle.c_types.specs.declared.types.CType.{CType}
@@ -83,12 +83,12 @@ binary_of binaries.AndAnd at x y = both at x y
 binary_of binaries.Or at x y = arithmetic ariths.Or at x y
 binary_of binaries.Xor at x y = arithmetic ariths.Xor at x y
 binary_of binaries.And at x y = arithmetic ariths.And at x y
-binary_of binaries.Equal at x y = equality rels.Eq at x y
-binary_of binaries.NotEqual at x y = equality rels.Ne at x y
-binary_of binaries.Less at x y = order rels.Lt rels.Ltu at x y
-binary_of binaries.LessEqual at x y = order rels.Le rels.Leu at x y
-binary_of binaries.Greater at x y = order rels.Gt rels.Gtu at x y
-binary_of binaries.GreaterEqual at x y = order rels.Ge rels.Geu at x y
+binary_of binaries.Equal at x y = equality relations.Eq at x y
+binary_of binaries.NotEqual at x y = equality relations.Ne at x y
+binary_of binaries.Less at x y = order relations.Lt relations.Ltu at x y
+binary_of binaries.LessEqual at x y = order relations.Le relations.Leu at x y
+binary_of binaries.Greater at x y = order relations.Gt relations.Gtu at x y
+binary_of binaries.GreaterEqual at x y = order relations.Ge relations.Geu at x y
 binary_of binaries.ShiftLeft at x y = arithmetic ariths.ShiftLeft at x y
 binary_of binaries.ShiftRight at x y = arithmetic ariths.ShiftRight at x y
 binary_of binaries.Add at x y = plus at x y

@@ -1,7 +1,7 @@
 -- The table of binary operators, row by row.
 use Rattle.std.specs.Prelude.{◌≡◌, ◌⊎◌, ℕ, true, Result, Ok, Err}
 use Rattle.gg_base.specs.declared.relation.Rel.{Rel}
-use Rattle.gg_base.specs.declared.relation.Rel.TheVariants as rels
+use Rattle.gg_base.specs.declared.relation.Rel.TheVariants as relations
 use Rattle.c_phrases.specs.declared.operator.BinaryOperator.{BinaryOperator}
 use Rattle.c_phrases.specs.declared.operator.BinaryOperator.TheVariants as binaries
 use Rattle.c_types.specs.declared.types.CType.{CType}
@@ -11,7 +11,7 @@ use Rattle.c_types.specs.declared.typed.ArithmeticOperator.{ArithmeticOperator}
 use Rattle.c_types.specs.declared.typed.ArithmeticOperator.TheVariants as ariths
 use Rattle.c_types.specs.declared.fault.TypeKind.{TypeKind}
 use Rattle.c_types.specs.declared.fault.TypeFault.{TypeFault}
-use Rattle.c_types.specs.declared.fault.TypeFault.TheVariants as faults
+use Rattle.c_types.specs.declared.fault.TypeFault.TheVariants as type_fault
 use Rattle.c_types.specs.Answers.{Fault}
 use Rattle.c_types.specs.Types.{same_type}
 use Rattle.c_types.specs.Typed.{AnExpression, ArithmeticOf, CompareOf, BothOf, EitherOf, AdvanceOf, AdvanceByOf}
@@ -80,12 +80,12 @@ IsBinary binaries.AndAnd x y t = IsLogical (BothOf x y) x y t
 IsBinary binaries.Or x y t = IsArithmetic ariths.Or x y t
 IsBinary binaries.Xor x y t = IsArithmetic ariths.Xor x y t
 IsBinary binaries.And x y t = IsArithmetic ariths.And x y t
-IsBinary binaries.Equal x y t = IsEquality rels.Eq x y t
-IsBinary binaries.NotEqual x y t = IsEquality rels.Ne x y t
-IsBinary binaries.Less x y t = IsOrdered rels.Lt rels.Ltu x y t
-IsBinary binaries.LessEqual x y t = IsOrdered rels.Le rels.Leu x y t
-IsBinary binaries.Greater x y t = IsOrdered rels.Gt rels.Gtu x y t
-IsBinary binaries.GreaterEqual x y t = IsOrdered rels.Ge rels.Geu x y t
+IsBinary binaries.Equal x y t = IsEquality relations.Eq x y t
+IsBinary binaries.NotEqual x y t = IsEquality relations.Ne x y t
+IsBinary binaries.Less x y t = IsOrdered relations.Lt relations.Ltu x y t
+IsBinary binaries.LessEqual x y t = IsOrdered relations.Le relations.Leu x y t
+IsBinary binaries.Greater x y t = IsOrdered relations.Gt relations.Gtu x y t
+IsBinary binaries.GreaterEqual x y t = IsOrdered relations.Ge relations.Geu x y t
 IsBinary binaries.ShiftLeft x y t = IsArithmetic ariths.ShiftLeft x y t
 IsBinary binaries.ShiftRight x y t = IsArithmetic ariths.ShiftRight x y t
 IsBinary binaries.Add x y t = IsSum x y t
@@ -112,17 +112,17 @@ pub record Means {A : Type 0} (m : Result A Fault) (R : A → Type 0) (F : Fault
 
 -- What a refusal says: the fault is the first one, unless memory ran out.
 abbrev pub Refused : (Fault → Type 0) → TypeFault → Type 0
-Refused F faults.NoMemory = Unit {0}
-Refused F (faults.At place kind) = F (record { place = place; kind = kind })
+Refused F type_fault.NoMemory = Unit {0}
+Refused F (type_fault.At place kind) = F (record { place = place; kind = kind })
 
 -- The only typed phrase is answered, unless memory ran out.
 abbrev pub OnlyAnswer : {X A : Type 0} → (X → A) → Result X TypeFault → A → Type 0
 OnlyAnswer view (Ok x) t = t ≡ view x
-OnlyAnswer view (Err faults.NoMemory) t = Unit {0}
-OnlyAnswer view (Err (faults.At place kind)) t = ⊥
+OnlyAnswer view (Err type_fault.NoMemory) t = Unit {0}
+OnlyAnswer view (Err (type_fault.At place kind)) t = ⊥
 
 -- The first fault is answered, unless memory ran out.
 abbrev pub OnlyFault : {X : Type 0} → Result X TypeFault → Fault → Type 0
 OnlyFault (Ok x) f = ⊥
-OnlyFault (Err faults.NoMemory) f = Unit {0}
-OnlyFault (Err (faults.At place kind)) f = f ≡ record { place = place; kind = kind }
+OnlyFault (Err type_fault.NoMemory) f = Unit {0}
+OnlyFault (Err (type_fault.At place kind)) f = f ≡ record { place = place; kind = kind }

@@ -3,10 +3,10 @@ use Rattle.std.proofs.Common.{◌≡◌, ℕ, ◌+◌, ◌<◌, ◌≤◌, Bool,
 use Rattle.std.proofs.lemmas.List.{drop_more, drop_all}
 use Rattle.std.specs.Global.{Vec}
 use Rattle.c_phrases.specs.declared.tree.Item.{Item}
-use Rattle.c_phrases.specs.declared.tree.Item.TheVariants as items
+use Rattle.c_phrases.specs.declared.tree.Item.TheVariants as item
 use Rattle.c_phrases.specs.declared.tree.Statement.{Statement, Row_of-Item, end_of-Item, more_of-Item, items-the_row-Item}
 use Rattle.c_phrases.specs.declared.tree.Item.TheBlock.{hidden-the_row-Item-0, items_hidden-the_row-Item-0}
-use Rattle.c_phrases.specs.declared.tree.Statement.TheVariants as stmts
+use Rattle.c_phrases.specs.declared.tree.Statement.TheVariants as statement
 use Rattle.c_phrases.specs.Units.{AStatement, block, SomeItems, no_items}
 use Rattle.c_phrases.specs.UnitShapes.{statement_of, item_onto, items_row, items_of}
 use Rattle.c_types.specs.declared.types.CType.{CType}
@@ -28,7 +28,7 @@ items_row_is : (c : _) (row : Row_of-Item c) → items_row row ≡ items_of (ite
 items_row_is c end_of-Item = refl
 items_row_is c (more_of-Item i rest) = ap (item_onto i) (items_row_is _ rest)
 
-pub block_is : (s : Statement) (row : Vec Item) (list : List Item) → s ≡ stmts.Block row → list ≡ row.items → statement_of s ≡ block (items_of list)
+pub block_is : (s : Statement) (row : Vec Item) (list : List Item) → s ≡ statement.Block row → list ≡ row.items → statement_of s ≡ block (items_of list)
 block_is s row list is same = ap statement_of is ∙ ap block (items_row_is _ (hidden-the_row-Item-0 row) ∙ ap items_of (items_hidden-the_row-Item-0 row ∙ sym same))
 
 -- what was typed, in front of what is left
@@ -97,8 +97,8 @@ module _ (names : List (List ℕ × Entry)) (signatures : List Signature) (gives
   all is st = type_items names signatures gives looping (items_of is) st
 
   pub first_and_rest : (i : Item) (rest : List Item) (st : State) → all (i ∷ rest) st ≡ (one i st >>= λ r. all rest r.1 >>= λ q. Ok (MoreActions r.0 q.0, q.1))
-  first_and_rest (items.Local l) rest st = after_locals _ DeclareOf (λ t. all rest t) MoreActions
-  first_and_rest (items.Statement s) rest st = refl
+  first_and_rest (item.Local l) rest st = after_locals _ DeclareOf (λ t. all rest t) MoreActions
+  first_and_rest (item.Statement s) rest st = refl
 
   pub record SoFar (is : List Item) (old : State) (done : List Action) (left : List Item) (st : State) : Type 0 where
     pub typed : all is old ≡ onto done (all left st)
@@ -122,14 +122,15 @@ module _ (names : List (List ℕ × Entry)) (signatures : List Signature) (gives
   ends_at is old done n st le far = far.typed ∙ rw (drop_all n is le) (ap (λ a. Ok (a, st)) (onto_end done))
 
   -- a block and its items as code holds them
-  pub block_fails : (s : Statement) (row : Vec Item) (list : List Item) (st : State) (f : TypeFault) → s ≡ stmts.Block row → list ≡ row.items → Fails f (scoped (all list (entered st)))
+  pub block_fails : (s : Statement) (row : Vec Item) (list : List Item) (st : State) (f : TypeFault) → s ≡ statement.Block row → list ≡ row.items → Fails f (scoped (all list (entered st)))
       → Fails f (type_statement names signatures gives looping (statement_of s) st)
   block_fails s row list st NoMemory is same failed = tt
   block_fails s row list st (At place kind) is same failed = rw (block_is s row list is same) (unblocked _ place kind failed)
 
-  pub block_ends : (s : Statement) (row : Vec Item) (list : List Item) (st after : State) (done : Vec Action) → s ≡ stmts.Block row → list ≡ row.items → scoped (all list (entered st))
+  pub block_ends : (s : Statement) (row : Vec Item) (list : List Item) (st after : State) (done : Vec Action) → s ≡ statement.Block row → list ≡ row.items → scoped (all list (entered st))
       ≡ Ok (acts done.items, after) → type_statement names signatures gives looping (statement_of s) st ≡ Ok (act (actions.Block done), after)
   block_ends s row list st after done is same typed = rw (block_is s row list is same, act_block done) (blocked _ _ _ typed)
 
-  pub empty_ends : (s : Statement) (v : Vec Action) (st : State) → s ≡ stmts.Empty → v.items ≡ [] → type_statement names signatures gives looping (statement_of s) st ≡ Ok (act (actions.Block v), st)
+  pub empty_ends : (s : Statement) (v : Vec Action) (st : State) → s ≡ statement.Empty → v.items ≡ [] → type_statement names signatures gives looping (statement_of s) st
+      ≡ Ok (act (actions.Block v), st)
   empty_ends s v st is none = rw (is, act_block v, none) refl

@@ -13,7 +13,7 @@ use Rattle.c_types.specs.declared.typed.Direction.{Direction}
 use Rattle.c_types.specs.declared.typed.Place.{Place}
 use Rattle.c_types.specs.declared.typed.Place.TheVariants as places
 use Rattle.c_types.specs.declared.typed.Expression.{Expression, Row_of-Expression, end_of-Expression, more_of-Expression}
-use Rattle.c_types.specs.declared.typed.Expression.TheVariants as exprs
+use Rattle.c_types.specs.declared.typed.Expression.TheVariants as expression
 use Rattle.c_types.specs.Types.{size_of}
 
 mutual
@@ -61,32 +61,32 @@ abbrev mutual
   place_of (places.Index' t q e) = ElementBy t (term e)
 
   pub term : Expression → AnExpression
-  term (exprs.Number n) = Constant n
-  term (exprs.Literal object size) = LiteralAt object size
-  term (exprs.Array t v size) = ArrayAt t v size
-  term (exprs.Read p) = ReadOf (place_of p)
-  term (exprs.SizeofExpression' n q1 e) = SizeofTerm n (term e)
-  term (exprs.SizeofType n) = SizeOf n
-  term (exprs.Address t p) = AddressOf t (place_of p)
-  term (exprs.Call' t f to shape row) = CallOf t f to (term_row row)
-  term (exprs.Step m by p) = StepOf m by (place_of p)
-  term (exprs.Unary' op q1 e) = UnaryOf op (term e)
-  term (exprs.Cast' t q1 e) = CastTo t (term e)
-  term (exprs.Convert' t q1 e) = ConvertTo t (term e)
-  term (exprs.Arithmetic' op q1 l q2 r) = ArithmeticOf op (term l) (term r)
-  term (exprs.Compare' rel q1 l q2 r) = CompareOf rel (term l) (term r)
-  term (exprs.AndAnd' q1 l q2 r) = BothOf (term l) (term r)
-  term (exprs.OrOr' q1 l q2 r) = EitherOf (term l) (term r)
-  term (exprs.Advance' t q1 l q2 r) = AdvanceOf t (term l) (term r)
-  term (exprs.AdvanceBy' t q1 l q2 r) = AdvanceByOf t (term l) (term r)
-  term (exprs.Retreat' t q1 l q2 r) = RetreatOf t (term l) (term r)
-  term (exprs.Distance' t q1 l q2 r) = DistanceOf t (term l) (term r)
-  term (exprs.Choice' t q1 c q2 l q3 r) = ChoiceOf t (term c) (term l) (term r)
-  term (exprs.Assign' p q1 e) = AssignTo (place_of p) (term e)
-  term (exprs.ArithmeticAssign' op p q1 e) = ArithmeticAssignTo op (place_of p) (term e)
-  term (exprs.AdvanceAssign' p q1 e) = AdvanceAssignTo (place_of p) (term e)
-  term (exprs.RetreatAssign' p q1 e) = RetreatAssignTo (place_of p) (term e)
-  term (exprs.Comma' t q1 l q2 r) = CommaOf t (term l) (term r)
+  term (expression.Number n) = Constant n
+  term (expression.Literal object size) = LiteralAt object size
+  term (expression.Array t v size) = ArrayAt t v size
+  term (expression.Read p) = ReadOf (place_of p)
+  term (expression.SizeofExpression' n q1 e) = SizeofTerm n (term e)
+  term (expression.SizeofType n) = SizeOf n
+  term (expression.Address t p) = AddressOf t (place_of p)
+  term (expression.Call' t f to shape row) = CallOf t f to (term_row row)
+  term (expression.Step m by p) = StepOf m by (place_of p)
+  term (expression.Unary' op q1 e) = UnaryOf op (term e)
+  term (expression.Cast' t q1 e) = CastTo t (term e)
+  term (expression.Convert' t q1 e) = ConvertTo t (term e)
+  term (expression.Arithmetic' op q1 l q2 r) = ArithmeticOf op (term l) (term r)
+  term (expression.Compare' rel q1 l q2 r) = CompareOf rel (term l) (term r)
+  term (expression.AndAnd' q1 l q2 r) = BothOf (term l) (term r)
+  term (expression.OrOr' q1 l q2 r) = EitherOf (term l) (term r)
+  term (expression.Advance' t q1 l q2 r) = AdvanceOf t (term l) (term r)
+  term (expression.AdvanceBy' t q1 l q2 r) = AdvanceByOf t (term l) (term r)
+  term (expression.Retreat' t q1 l q2 r) = RetreatOf t (term l) (term r)
+  term (expression.Distance' t q1 l q2 r) = DistanceOf t (term l) (term r)
+  term (expression.Choice' t q1 c q2 l q3 r) = ChoiceOf t (term c) (term l) (term r)
+  term (expression.Assign' p q1 e) = AssignTo (place_of p) (term e)
+  term (expression.ArithmeticAssign' op p q1 e) = ArithmeticAssignTo op (place_of p) (term e)
+  term (expression.AdvanceAssign' p q1 e) = AdvanceAssignTo (place_of p) (term e)
+  term (expression.RetreatAssign' p q1 e) = RetreatAssignTo (place_of p) (term e)
+  term (expression.Comma' t q1 l q2 r) = CommaOf t (term l) (term r)
 
   pub term_row : {m : _} → Row_of-Expression m → SomeExpressions
   term_row end_of-Expression = NoExpressions

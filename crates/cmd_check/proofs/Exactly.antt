@@ -14,7 +14,7 @@ use Rattle.md_reader.specs.State.{Content}
 use Rattle.lr_tables.specs.View.{TableView}
 use Rattle.lr_tables.specs.Promises.{HasTooManySets}
 use Rattle.lr_checked.specs.declared.checking.CheckFault.{CheckFault}
-use Rattle.lr_checked.specs.declared.checking.CheckFault.TheVariants as faults
+use Rattle.lr_checked.specs.declared.checking.CheckFault.TheVariants as check_fault
 use Rattle.lr_checked.specs.Accepted.{NeverStops}
 use Rattle.lr_checked.specs.Counted.{HasTooManySums}
 use Rattle.lr_checked.specs.Refusals.{FaultIsReal, SumsAreFirst}
@@ -66,10 +66,10 @@ module _ (result : Status) (name : List ℕ) (folder : Lookup) (report : Change)
 
   of_fault : (d : Content) → Holds description_form (folder.holds name) d → ¬ HasTooManySets d → (fault : CheckFault) → FaultIsReal d fault
       → SumsAreFirst d fault → TellsStop fault result report → IsNot result (folder.holds name)
-  of_fault d holds few faults.NoMemory real sums starved = inl starved.0
-  of_fault d holds few (faults.Blocks nodes) real sums said = told _ _ said (λ is. Stops d (faults.Blocks nodes) is holds few real sums)
-  of_fault d holds few (faults.Loops nodes) real sums said = told _ _ said (λ is. Stops d (faults.Loops nodes) is holds few real sums)
-  of_fault d holds few faults.CheckFull real sums said = told _ _ said (λ is. Stops d faults.CheckFull is holds few real sums)
+  of_fault d holds few check_fault.NoMemory real sums starved = inl starved.0
+  of_fault d holds few (check_fault.Blocks nodes) real sums said = told _ _ said (λ is. Stops d (check_fault.Blocks nodes) is holds few real sums)
+  of_fault d holds few (check_fault.Loops nodes) real sums said = told _ _ said (λ is. Stops d (check_fault.Loops nodes) is holds few real sums)
+  of_fault d holds few check_fault.CheckFull real sums said = told _ _ said (λ is. Stops d check_fault.CheckFull is holds few real sums)
 
   of_rules : (d : Content) → Holds description_form (folder.holds name) d → ¬ HasTooManySets d → ¬ HasTooManySums d → NeverStops d → RulesRefused d result report
       → IsNot result (folder.holds name)
@@ -123,10 +123,10 @@ module _ (result : Status) (file : File) where
   full d h many (Accepted e holds accepted) = absurd (accepted.few (read HasTooManySets d e h holds many))
 
   full_of : (d : Content) (fault : CheckFault) → HasTooManySums d → SumsAreFirst d fault → result ≡ stop_status fault → IsAnswer statuses.Full result
-  full_of d faults.NoMemory many sums is = inr is
-  full_of d (faults.Blocks nodes) many sums is = absurd (sums many)
-  full_of d (faults.Loops nodes) many sums is = absurd (sums many)
-  full_of d faults.CheckFull many sums is = inl is
+  full_of d check_fault.NoMemory many sums is = inr is
+  full_of d (check_fault.Blocks nodes) many sums is = absurd (sums many)
+  full_of d (check_fault.Loops nodes) many sums is = absurd (sums many)
+  full_of d check_fault.CheckFull many sums is = inl is
 
   many_sums : (d : Content) → IsItem description_form file d → HasTooManySums d → Comes result file → IsAnswer statuses.Full result
   many_sums d h many (Memory is) = inr is
@@ -138,10 +138,10 @@ module _ (result : Status) (file : File) where
   many_sums d h many (Accepted e holds accepted) = absurd (accepted.sums (read HasTooManySums d e h holds many))
 
   stop_of : (d : Content) (fault : CheckFault) → ¬ HasTooManySums d → SumsAreFirst d fault → result ≡ stop_status fault → IsStop result
-  stop_of d faults.NoMemory few sums is = inl (inr is)
-  stop_of d (faults.Blocks nodes) few sums is = inl (inl is)
-  stop_of d (faults.Loops nodes) few sums is = inr is
-  stop_of d faults.CheckFull few sums is = absurd (few sums)
+  stop_of d check_fault.NoMemory few sums is = inl (inr is)
+  stop_of d (check_fault.Blocks nodes) few sums is = inl (inl is)
+  stop_of d (check_fault.Loops nodes) few sums is = inr is
+  stop_of d check_fault.CheckFull few sums is = absurd (few sums)
 
   stops : (d : Content) → IsItem description_form file d → ¬ HasTooManySets d → ¬ HasTooManySums d → ¬ NeverStops d → Comes result file → IsStop result
   stops d h few no_more not (Memory is) = inl (inr is)
@@ -156,10 +156,10 @@ module _ (result : Status) (file : File) where
   -- tables by which no typed statement stops the parse, and whose summaries are few, are refused for want of memory alone
   starved : (d : Content) (fault : CheckFault) (status : Status) → ¬ HasTooManySums d → NeverStops d → FaultIsReal d fault → SumsAreFirst d fault
       → result ≡ stop_status fault → IsAnswer status result
-  starved d faults.NoMemory status few never real sums is = inr is
-  starved d (faults.Blocks nodes) status few never real sums is = absurd (none_stops d never (is_stopped d (faults.Blocks nodes) real))
-  starved d (faults.Loops nodes) status few never real sums is = absurd (none_stops d never (is_stopped d (faults.Loops nodes) real))
-  starved d faults.CheckFull status few never real sums is = absurd (few sums)
+  starved d check_fault.NoMemory status few never real sums is = inr is
+  starved d (check_fault.Blocks nodes) status few never real sums is = absurd (none_stops d never (is_stopped d (check_fault.Blocks nodes) real))
+  starved d (check_fault.Loops nodes) status few never real sums is = absurd (none_stops d never (is_stopped d (check_fault.Loops nodes) real))
+  starved d check_fault.CheckFull status few never real sums is = absurd (few sums)
 
   unshown : (d : Content) (r : Refusal) → IsItem description_form file d → ¬ HasTooManySets d → ¬ HasTooManySums d → NeverStops d → vax_refusal d ≡ Some r
       → Comes result file → IsAnswer (refusal_status r) result
@@ -213,11 +213,11 @@ kinds statuses.TooLong name at l n = Before (Long refl l.longer)
 kinds statuses.SourceRefused name at l n = absurd l
 kinds statuses.DescRefused name at l n = Before (Wrong refl l.line l.wrong)
 kinds statuses.Full name at (inl l) n = Before (Full refl l.description l.finds.holds l.many)
-kinds statuses.Full name at (inr l) n = Before (Stops l.description faults.CheckFull refl l.finds.holds l.few l.real l.sums)
+kinds statuses.Full name at (inr l) n = Before (Stops l.description check_fault.CheckFull refl l.finds.holds l.few l.real l.sums)
 kinds statuses.Blocks name at l n =
-    Before (Stops l.stops.description (faults.Blocks l.sample) refl l.stops.finds.holds l.stops.few l.stops.real l.stops.sums)
+    Before (Stops l.stops.description (check_fault.Blocks l.sample) refl l.stops.finds.holds l.stops.few l.stops.real l.stops.sums)
 kinds statuses.Loops name at l n =
-    Before (Stops l.stops.description (faults.Loops l.sample) refl l.stops.finds.holds l.stops.few l.stops.real l.stops.sums)
+    Before (Stops l.stops.description (check_fault.Loops l.sample) refl l.stops.finds.holds l.stops.few l.stops.real l.stops.sums)
 kinds statuses.PoolSmall name at l n = Before (Unshown l.description l.refusal (sym l.status_is) l.finds.holds l.few l.sums l.never l.first)
 kinds statuses.Unshown name at l n = Before (Unshown l.description l.refusal (sym l.status_is) l.finds.holds l.few l.sums l.never l.first)
 kinds statuses.FrameFull name at l n = absurd l

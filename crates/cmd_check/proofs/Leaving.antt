@@ -12,7 +12,7 @@ use Rattle.lr_tables.specs.Promises.{HasTooManySets}
 use Rattle.sel_parse.specs.Shown.{Refusal, PoolSmall, Template, Unshown}
 use Rattle.lr_tables.specs.View.{TableView}
 use Rattle.lr_checked.specs.declared.checking.CheckFault.{CheckFault}
-use Rattle.lr_checked.specs.declared.checking.CheckFault.TheVariants as faults
+use Rattle.lr_checked.specs.declared.checking.CheckFault.TheVariants as check_fault
 use Rattle.lr_checked.specs.Accepted.{NeverStops}
 use Rattle.lr_checked.specs.Counted.{HasTooManySums}
 use Rattle.lr_checked.specs.Refusals.{FaultIsReal, SumsAreFirst}
@@ -90,16 +90,16 @@ told_or_starved result status line name at unfailed untouched (inr starved) go =
 
 stop_refused : (result : Status) (name : List ℕ) (at : Outside) (d : Content) → Holds description_form (at.folder.holds name) d → IsUnfailed at.folder
     → (HasTooManySets d → ⊥) → (fault : CheckFault) → FaultIsReal d fault → SumsAreFirst d fault → TellsStop fault result at.report → IsUntouched at.out → Leaves result name at
-stop_refused result name at d holds unfailed few faults.NoMemory real sums told untouched = stopped result name at told (inl unfailed) untouched
-stop_refused result name at d holds unfailed few (faults.Blocks nodes) real sums told untouched =
+stop_refused result name at d holds unfailed few check_fault.NoMemory real sums told untouched = stopped result name at told (inl unfailed) untouched
+stop_refused result name at d holds unfailed few (check_fault.Blocks nodes) real sums told untouched =
     told_or_starved result statuses.Blocks _ name at unfailed untouched told
-    (λ line. record { sample = nodes; stops = stops (faults.Blocks nodes) name at d holds unfailed few real sums untouched line })
-stop_refused result name at d holds unfailed few (faults.Loops nodes) real sums told untouched =
+    (λ line. record { sample = nodes; stops = stops (check_fault.Blocks nodes) name at d holds unfailed few real sums untouched line })
+stop_refused result name at d holds unfailed few (check_fault.Loops nodes) real sums told untouched =
     told_or_starved result statuses.Loops _ name at unfailed untouched told
-    (λ line. record { sample = nodes; stops = stops (faults.Loops nodes) name at d holds unfailed few real sums untouched line })
-stop_refused result name at d holds unfailed few faults.CheckFull real sums told untouched =
+    (λ line. record { sample = nodes; stops = stops (check_fault.Loops nodes) name at d holds unfailed few real sums untouched line })
+stop_refused result name at d holds unfailed few check_fault.CheckFull real sums told untouched =
     told_or_starved result statuses.Full _ name at unfailed untouched told
-    (λ line. inr (stops faults.CheckFull name at d holds unfailed few real sums untouched line))
+    (λ line. inr (stops check_fault.CheckFull name at d holds unfailed few real sums untouched line))
 
 not_shown : (r : Refusal) (name : List ℕ) (at : Outside) (d : Content) → Holds description_form (at.folder.holds name) d → IsUnfailed at.folder
     → (HasTooManySets d → ⊥) → (HasTooManySums d → ⊥) → NeverStops d → vax_refusal d ≡ Some r → Reports at.report (refusal_lines r) → IsUntouched at.out → Leaves (refusal_status r) name at

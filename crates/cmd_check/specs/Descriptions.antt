@@ -8,7 +8,7 @@ use Rattle.cmd_files.specs.Forms.{Form, Holds}
 use Rattle.cmd_files.specs.Outsides.{Lookup, IsUnfailed}
 use Rattle.cmd_files.specs.Stages.{FileRefused}
 use Rattle.md_reader.specs.declared.faults.DescKind.{DescKind}
-use Rattle.md_reader.specs.declared.faults.DescFault.TheVariants as faults
+use Rattle.md_reader.specs.declared.faults.DescFault.TheVariants as desc_fault
 use Rattle.md_reader.specs.State.{Content}
 use Rattle.md_reader.specs.Desc.{Desc}
 use Rattle.md_reader.specs.First.{IsFirst}
@@ -27,7 +27,7 @@ description_limit = 262144
 pub record NamesFirstWrong (bytes line : List ℕ) : Type 0 where
   pub number : ℕ
   pub kind : DescKind
-  pub first : IsFirst bytes (faults.Line number kind)
+  pub first : IsFirst bytes (desc_fault.Line number kind)
   pub named : line ≡ wrong_line number kind
 
 -- a file is a machine description

@@ -11,7 +11,7 @@ use Rattle.lr_tables.specs.View.{TableView}
 use Rattle.lr_tables.specs.Promises.{IsNumbered, HasTooManySets}
 use Rattle.lr_check.specs.Tree.{Node}
 use Rattle.lr_checked.specs.declared.checking.CheckFault.{CheckFault}
-use Rattle.lr_checked.specs.declared.checking.CheckFault.TheVariants as faults
+use Rattle.lr_checked.specs.declared.checking.CheckFault.TheVariants as check_fault
 use Rattle.lr_checked.specs.Accepted.{NeverStops}
 use Rattle.lr_checked.specs.Counted.{HasTooManySums}
 use Rattle.lr_checked.specs.Refusals.{FaultIsReal, SumsAreFirst}
@@ -60,11 +60,11 @@ pub record Stops (fault : CheckFault) (name : List ℕ) (at : Outside) : Type 0 
 
 pub record Blocks (name : List ℕ) (at : Outside) : Type 0 where
   pub sample : List Node
-  pub stops : Stops (faults.Blocks sample) name at
+  pub stops : Stops (check_fault.Blocks sample) name at
 
 pub record Loops (name : List ℕ) (at : Outside) : Type 0 where
   pub sample : List Node
-  pub stops : Stops (faults.Loops sample) name at
+  pub stops : Stops (check_fault.Loops sample) name at
 
 -- no typed statement stops the parse, but the rules are not all shown, and the first that stands against them is told with this status
 pub record IsNotShown (status : Status) (name : List ℕ) (at : Outside) : Type 0 where
@@ -110,7 +110,7 @@ Leaves statuses.WriteFault name at = IsCutShort name at
 Leaves statuses.TooLong name at = FileIsLong at name description_limit
 Leaves statuses.SourceRefused name at = ⊥
 Leaves statuses.DescRefused name at = FileIsWrong description_form at name
-Leaves statuses.Full name at = IsFull name at ⊎ Stops faults.CheckFull name at
+Leaves statuses.Full name at = IsFull name at ⊎ Stops check_fault.CheckFull name at
 Leaves statuses.Blocks name at = Blocks name at
 Leaves statuses.Loops name at = Loops name at
 Leaves statuses.PoolSmall name at = IsNotShown statuses.PoolSmall name at

@@ -8,7 +8,7 @@ use Rattle.cmd_files.specs.Outsides.{Lookup, Outside}
 use Rattle.cmd_files.specs.Stages.{FileRefused, Unread, LongFile, WrongFile, StarvedFile, OutputRefused, CutOutput, StarvedOutput}
 use Rattle.md_reader.specs.State.{Content}
 use Rattle.lr_checked.specs.declared.checking.CheckFault.{CheckFault}
-use Rattle.lr_checked.specs.declared.checking.CheckFault.TheVariants as stops
+use Rattle.lr_checked.specs.declared.checking.CheckFault.TheVariants as check_fault
 use Rattle.sel_parse.specs.Shown.{Refusal, PoolSmall, Template, Unshown}
 use Rattle.cmd_check.specs.Descriptions.{description_form, BuildRefused, TooMany, StarvedBuild, NotRead, NotBuilt, NotAccepted, NoTables, Stopped, NoRules}
 use Rattle.cmd_check.specs.Rules.{refusal_status, RulesRefused, NotShown, StarvedShow}
@@ -36,10 +36,10 @@ module _ (result : Status) where
   of_build d report (StarvedBuild starved) = is statuses.NoMemory tt starved.0
 
   of_stop : (fault : CheckFault) (report : Change) → TellsStop fault result report → MayCome result
-  of_stop stops.NoMemory report starved = is statuses.NoMemory tt starved.0
-  of_stop (stops.Blocks nodes) report said = told _ _ report tt said
-  of_stop (stops.Loops nodes) report said = told _ _ report tt said
-  of_stop stops.CheckFull report said = told _ _ report tt said
+  of_stop check_fault.NoMemory report starved = is statuses.NoMemory tt starved.0
+  of_stop (check_fault.Blocks nodes) report said = told _ _ report tt said
+  of_stop (check_fault.Loops nodes) report said = told _ _ report tt said
+  of_stop check_fault.CheckFull report said = told _ _ report tt said
 
   refusal_may : (r : Refusal) → MayCome (refusal_status r)
   refusal_may (PoolSmall rule need) = tt

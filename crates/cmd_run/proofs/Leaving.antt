@@ -13,7 +13,7 @@ use Rattle.vax_core.specs.declared.code.Code.{Code}
 use Rattle.vax_machine.specs.State.{State}
 use Rattle.vax_machine.specs.Loading.{load_fault, Loads, Loaded, Stands, start}
 use Rattle.vax_machine.specs.declared.loading.LoadFault.{LoadFault}
-use Rattle.vax_machine.specs.declared.loading.LoadFault.TheVariants as loads
+use Rattle.vax_machine.specs.declared.loading.LoadFault.TheVariants as loading_fault
 use Rattle.vax_machine.specs.Running.{run, state_run}
 use Rattle.cmd_run.specs.Counting.{coming, coming_of}
 use Rattle.cmd_run.specs.Lines.{load_line}
@@ -51,12 +51,12 @@ unable code input count status out report fault untouched found told = Unable (l
 
 pub code_refused : (fault : LoadFault) (code : Code) (input : List ℕ) (count : ℕ) (status : Status) (out report : Change) → IsUntouched out → Loaded code input (Err fault)
     → CodeIsRefused fault status report → ToldRun code_runner statuses.AsmRefused code input count status out report
-code_refused loads.NoMemory code input count status out report untouched found told = StarvedRun untouched told
-code_refused (loads.DoubleLabel name) code input count status out report untouched found told =
-    unable code input count status out report (loads.DoubleLabel name) untouched found told
-code_refused (loads.UndefinedLabel name) code input count status out report untouched found told =
-    unable code input count status out report (loads.UndefinedLabel name) untouched found told
-code_refused loads.NoMain code input count status out report untouched found told =
-    unable code input count status out report loads.NoMain untouched found told
-code_refused loads.TooLarge code input count status out report untouched found told =
-    unable code input count status out report loads.TooLarge untouched found told
+code_refused loading_fault.NoMemory code input count status out report untouched found told = StarvedRun untouched told
+code_refused (loading_fault.DoubleLabel name) code input count status out report untouched found told =
+    unable code input count status out report (loading_fault.DoubleLabel name) untouched found told
+code_refused (loading_fault.UndefinedLabel name) code input count status out report untouched found told =
+    unable code input count status out report (loading_fault.UndefinedLabel name) untouched found told
+code_refused loading_fault.NoMain code input count status out report untouched found told =
+    unable code input count status out report loading_fault.NoMain untouched found told
+code_refused loading_fault.TooLarge code input count status out report untouched found told =
+    unable code input count status out report loading_fault.TooLarge untouched found told

@@ -4,7 +4,7 @@ use Rattle.std.specs.Fmt.{decimal}
 use Rattle.vax_reader.specs.declared.fault.AsmKind.{AsmKind}
 use Rattle.vax_reader.specs.declared.fault.AsmKind.TheVariants.{Word, Operands, Cut}
 use Rattle.vax_machine.specs.declared.loading.LoadFault.{LoadFault}
-use Rattle.vax_machine.specs.declared.loading.LoadFault.TheVariants as faults
+use Rattle.vax_machine.specs.declared.loading.LoadFault.TheVariants as loading_fault
 
 abbrev pub kind_name : AsmKind → List ℕ
 kind_name Word = codes "Word"
@@ -20,8 +20,8 @@ label_line name what = codes "ggvax: label " ++ (name ++ what)
 
 -- why a code can't be run
 abbrev pub load_line : LoadFault → List ℕ
-load_line faults.NoMemory = codes "ggvax: no memory\n"
-load_line (faults.DoubleLabel name) = label_line name (codes " twice\n")
-load_line (faults.UndefinedLabel name) = label_line name (codes " undefined\n")
-load_line faults.NoMain = codes "ggvax: no _main\n"
-load_line faults.TooLarge = codes "ggvax: too large\n"
+load_line loading_fault.NoMemory = codes "ggvax: no memory\n"
+load_line (loading_fault.DoubleLabel name) = label_line name (codes " twice\n")
+load_line (loading_fault.UndefinedLabel name) = label_line name (codes " undefined\n")
+load_line loading_fault.NoMain = codes "ggvax: no _main\n"
+load_line loading_fault.TooLarge = codes "ggvax: too large\n"

@@ -2,7 +2,7 @@
 use Rattle.std.proofs.Common.{◌≡◌, ℕ, List, ◌++◌, take, drop, Option, Some, None, Result, Ok, Err, inl, inr, refl, sym, ap, subst, ◌∙◌, append_assoc}
 use Rattle.std.proofs.lemmas.List.{take-append-drop}
 use Rattle.gg_outside.specs.declared.faults.SinkFault.{SinkFault}
-use Rattle.gg_outside.specs.declared.faults.SinkFault.TheVariants as faults
+use Rattle.gg_outside.specs.declared.faults.SinkFault.TheVariants as sink_faults
 use Rattle.gg_outside.specs.Outside.{Takes, RoseAtMostOnce, count_after_write}
 use Rattle.cmd_session.specs.Writing.{Change, Adds, Reports}
 
@@ -37,5 +37,5 @@ Reports-eq report line other e h = subst (Reports report) e h
 -- a write counts one fault or none
 pub counts_once : {T : Type 0} (count : ℕ) (answer : Result T SinkFault) → RoseAtMostOnce count (count_after_write count answer)
 counts_once count (Ok x) = inl refl
-counts_once count (Err faults.NoMemory) = inl refl
-counts_once count (Err faults.Failed) = inr refl
+counts_once count (Err sink_faults.NoMemory) = inl refl
+counts_once count (Err sink_faults.Failed) = inr refl

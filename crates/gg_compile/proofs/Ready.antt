@@ -2,7 +2,7 @@
 use Rattle.std.proofs.Common.{◌≡◌, true, sym, subst}
 use Rattle.std.proofs.Math.Bool.{Bool-set}
 use Rattle.std.proofs.Math.Logic.{∥∥₁_map, ∥∥₁_elim}
-use Rattle.tree_core.specs.declared.program.TreeItem.TheVariants as item
+use Rattle.tree_core.specs.declared.program.TreeItem.TheVariants as tree_item
 use Rattle.tree_core.specs.declared.program.TreeProgram.{TreeProgram}
 use Rattle.md_reader.specs.State.{Content}
 use Rattle.lr_checked.specs.Accepted.{NeverStops}
@@ -28,10 +28,10 @@ no_prop = hlevel
 
 -- no tree of trees that are ready blocks, turns or finds its frame full
 pub all_go : (q : TreeProgram) (d : Content) → ∥ HasReadyTrees q ∥₁ → IsFit vax d → NeverStops d → ProgramGoes vax d q
-all_go q d ok fit never f g there n (item.Label l) at = tt
-all_go q d ok fit never f g there n (item.Root w) at = record {
-  parses = λ b. ∥∥₁_elim ok no_prop (λ r. (trees_go q d r fit never f g there n (item.Root w) at).parses b);
-  has_room = λ b. ∥∥₁_elim ok no_prop (λ r. (trees_go q d r fit never f g there n (item.Root w) at).has_room b);
+all_go q d ok fit never f g there n (tree_item.Label l) at = tt
+all_go q d ok fit never f g there n (tree_item.Root w) at = record {
+  parses = λ b. ∥∥₁_elim ok no_prop (λ r. (trees_go q d r fit never f g there n (tree_item.Root w) at).parses b);
+  has_room = λ b. ∥∥₁_elim ok no_prop (λ r. (trees_go q d r fit never f g there n (tree_item.Root w) at).has_room b);
 }
 
 module _ (s : Program) (q : TreeProgram) (is : q ≡ lowered (program s.held)) (fit : AllFit (program s.held)) where

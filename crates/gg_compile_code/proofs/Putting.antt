@@ -3,7 +3,7 @@ use Rattle.std.proofs.Common.{◌≡◌, ℕ, ◌+◌, List, [], ◌∷◌, ◌+
 use Rattle.std.proofs.Math.Seq.{take-suc}
 use Rattle.tree_core.specs.declared.tree.Leaf.{Leaf}
 use Rattle.tree_core.specs.declared.program.TreeItem.{TreeItem}
-use Rattle.tree_core.specs.declared.program.TreeItem.TheVariants as item
+use Rattle.tree_core.specs.declared.program.TreeItem.TheVariants as tree_item
 use Rattle.tree_core.specs.declared.program.TreeFn.{TreeFn}
 use Rattle.tree_core.specs.declared.program.TreeProgram.{TreeProgram}
 use Rattle.md_reader.specs.State.{Content}
@@ -14,7 +14,7 @@ use Rattle.vax_core.specs.declared.operand.Operand.{Operand}
 use Rattle.vax_core.specs.declared.code.Instr.{Instr}
 use Rattle.vax_core.specs.declared.code.AreaItem.{AreaItem}
 use Rattle.vax_core.specs.declared.code.CodeItem.{CodeItem}
-use Rattle.vax_core.specs.declared.code.CodeItem.TheVariants as items
+use Rattle.vax_core.specs.declared.code.CodeItem.TheVariants as item_kind
 use Rattle.vax_frames.specs.Frames.{code_items, IsFrameCode}
 use Rattle.gg_compile_law.specs.Effects.{label_name}
 use Rattle.gg_compile_law.specs.Spelling.{area_of}
@@ -33,22 +33,22 @@ at_index (y ∷ xs) zero x lt e = ap Some e
 at_index (y ∷ xs) (suc i) x lt e = at_index xs i x (omega (arith, lt)) e
 
 module _ {S F : Type 0} (of : Meaning Operand Instr S F) (d : Content) (q : TreeProgram) where
-  pub puts_label : (slots : Frame) (l : ℕ) (old new : List CodeItem) → new ≡ old ++ items.Label (label_name l) ∷ []
-      → PutsItem of d q slots slots (item.Label l) old new
+  pub puts_label : (slots : Frame) (l : ℕ) (old new : List CodeItem) → new ≡ old ++ item_kind.Label (label_name l) ∷ []
+      → PutsItem of d q slots slots (tree_item.Label l) old new
   puts_label slots l old new e = record {
-    code = items.Label (label_name l) ∷ [];
+    code = item_kind.Label (label_name l) ∷ [];
     put = e;
     selected = label slots.used slots.used l [] [] (nothing slots.used);
     first = refl;
   }
 
   pub puts_tree : (before behind : Frame) (w : List Leaf) (instrs : List Instr) (old new : List CodeItem) → HasCode of q d before behind w instrs
-      → behind.first ≡ before.first → new ≡ old ++ code_items instrs → PutsItem of d q before behind (item.Root w) old new
+      → behind.first ≡ before.first → new ≡ old ++ code_items instrs → PutsItem of d q before behind (tree_item.Root w) old new
   puts_tree before behind w instrs old new h first e = record {
     code = code_items instrs ++ [];
     put = e ∙ ap (λ (l : List CodeItem). old ++ l) (sym (append-nil (code_items instrs)));
     selected =
-        subst (λ (n : ℕ). AreSelected of d q before.first before.used (item.Root w ∷ []) (code_items instrs ++ []) n) (sym h.used)
+        subst (λ (n : ℕ). AreSelected of d q before.first before.used (tree_item.Root w ∷ []) (code_items instrs ++ []) n) (sym h.used)
         (tree before.used h.most (larger_of before.used h.most) w [] instrs [] h.selected (nothing (larger_of before.used h.most)));
     first = first;
   }

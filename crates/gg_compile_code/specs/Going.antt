@@ -2,7 +2,7 @@
 use Rattle.std.specs.Prelude.{◌≡◌, ℕ, List, Some, slice_get}
 use Rattle.tree_core.specs.declared.tree.Leaf.{Leaf}
 use Rattle.tree_core.specs.declared.program.TreeItem.{TreeItem}
-use Rattle.tree_core.specs.declared.program.TreeItem.TheVariants as item
+use Rattle.tree_core.specs.declared.program.TreeItem.TheVariants as tree_item
 use Rattle.tree_core.specs.declared.program.TreeFn.{TreeFn}
 use Rattle.tree_core.specs.declared.program.TreeProgram.{TreeProgram}
 use Rattle.md_reader.specs.State.{Content}
@@ -20,8 +20,8 @@ module _ {S F : Type 0} (of : Meaning Operand Instr S F) (d : Content) (q : Tree
 
   -- an item that is a tree
   abbrev pub ItemGoes : ℕ → TreeItem → Type 0
-  ItemGoes locals (item.Label l) = Unit {0}
-  ItemGoes locals (item.Root w) = TreeGoes locals w
+  ItemGoes locals (tree_item.Label l) = Unit {0}
+  ItemGoes locals (tree_item.Root w) = TreeGoes locals w
 
   -- each tree of a function
   abbrev pub FunctionGoes : TreeFn → Type 0

@@ -3,7 +3,7 @@
 use Rattle.std.specs.Prelude.{◌≡◌, ℕ, List, [], ◌∷◌, ◌++◌}
 use Rattle.tree_core.specs.declared.tree.Leaf.{Leaf}
 use Rattle.tree_core.specs.declared.program.TreeItem.{TreeItem}
-use Rattle.tree_core.specs.declared.program.TreeItem.TheVariants as item
+use Rattle.tree_core.specs.declared.program.TreeItem.TheVariants as tree_item
 use Rattle.tree_core.specs.declared.program.TreeFn.{TreeFn}
 use Rattle.tree_core.specs.declared.program.TreeProgram.{TreeProgram}
 use Rattle.md_reader.specs.State.{Content}
@@ -14,7 +14,7 @@ use Rattle.vax_core.specs.declared.operand.Operand.{Operand}
 use Rattle.vax_core.specs.declared.code.Instr.{Instr}
 use Rattle.vax_core.specs.declared.code.Code.{Code}
 use Rattle.vax_core.specs.declared.code.CodeItem.{CodeItem}
-use Rattle.vax_core.specs.declared.code.CodeItem.TheVariants as items
+use Rattle.vax_core.specs.declared.code.CodeItem.TheVariants as item_kind
 use Rattle.vax_frames.specs.Frames.{code_items, IsFrameCode}
 use Rattle.gg_compile_law.specs.Effects.{label_name}
 use Rattle.gg_compile_law.specs.Spelling.{area_of}
@@ -25,10 +25,10 @@ module _ {S F : Type 0} (of : Meaning Operand Instr S F) (d : Content) (program 
   pub data AreSelected (locals : ℕ) : ℕ → List TreeItem → List CodeItem → ℕ → Type 0 where
     nothing : (used : ℕ) → AreSelected locals used [] [] used
     label : (used most l : ℕ) (is : List TreeItem) (code : List CodeItem) → AreSelected locals used is code most
-        → AreSelected locals used (item.Label l ∷ is) (items.Label (label_name l) ∷ code) most
+        → AreSelected locals used (tree_item.Label l ∷ is) (item_kind.Label (label_name l) ∷ code) most
     tree : (used words most : ℕ) (w : List Leaf) (is : List TreeItem) (instrs : List Instr) (code : List CodeItem)
         → Selected of program d locals (tree_of w) instrs words → AreSelected locals (larger_of used words) is code most
-        → AreSelected locals used (item.Root w ∷ is) (code_items instrs ++ code) most
+        → AreSelected locals used (tree_item.Root w ∷ is) (code_items instrs ++ code) most
 
   -- The code of one item more stands behind that of others, with the slots before and behind it.
   pub record PutsItem (before behind : Frame) (i : TreeItem) (old new : List CodeItem) : Type 0 where

@@ -1,6 +1,6 @@
 // The code of a function's items.
 ghost use Rattle.std.specs.Prelude.{◌≡◌, ◌≤◌, ◌++◌, [], ◌∷◌, IfOk, OnOk};
-ghost use Rattle.vax_core.specs.declared.code.CodeItem.TheVariants as code_item;
+ghost use Rattle.vax_core.specs.declared.code.CodeItem.TheVariants as item_kind;
 ghost use Rattle.vax_target_meaning.specs.Vax.{vax};
 ghost use Rattle.vax_frames.specs.Frames.{code_items};
 ghost use Rattle.gg_compile_law.specs.Effects.{label_name};
@@ -32,7 +32,7 @@ fn label_name(alloc: Global, label: u32) -> Result<Name, NoMemory>
 
 // Puts a label behind other items.
 fn put_label(alloc: Global, label: u32, items: &mut Vec<CodeItem>) -> Result<(), NoMemory>
-    ensures { OnOk result (items.new.items ≡ items.old.items ++ code_item.Label (label_name label) ∷ []) }
+    ensures { OnOk result (items.new.items ≡ items.old.items ++ item_kind.Label (label_name label) ∷ []) }
 {
     let name = label_name(alloc, label)?;
     items.push(CodeItem::Label(name))?;

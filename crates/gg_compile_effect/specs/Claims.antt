@@ -2,7 +2,7 @@
 use Rattle.std.specs.Prelude.{ℕ, List, length}
 use Rattle.std.specs.List.{AllByRecursion}
 use Rattle.tree_core.specs.declared.tree.Leaf.{Leaf}
-use Rattle.tree_core.specs.declared.program.TreeItem.TheVariants as item
+use Rattle.tree_core.specs.declared.program.TreeItem.TheVariants as tree_item
 use Rattle.tree_core.specs.declared.program.TreeFn.{TreeFn}
 use Rattle.tree_core.specs.declared.program.TreeProgram.{TreeProgram}
 use Rattle.tree_core.specs.Calm.{Calm}
@@ -21,7 +21,7 @@ use Rattle.gg_compile_law.specs.Effects.{HasEffect}
 -- in it no memory is read
 -- behind a division.
 pub record IsTreeOf (q : TreeProgram) (g : TreeFn) (w : List Leaf) : Type 0 where
-  pub stands : ItemStands q.functions (length q.objects) g (item.Root w)
+  pub stands : ItemStands q.functions (length q.objects) g (tree_item.Root w)
   pub spelled : AllByRecursion (λ (l : Leaf). IsSpelled q l.att) w
   pub calm : Calm w
 

@@ -4,7 +4,7 @@ use Rattle.std.specs.Prelude.{slice_get}
 use Rattle.std.specs.List.{AllByRecursion as All}
 use Rattle.tree_core.specs.declared.tree.Leaf.{Leaf}
 use Rattle.tree_core.specs.declared.program.TreeItem.{TreeItem}
-use Rattle.tree_core.specs.declared.program.TreeItem.TheVariants as item
+use Rattle.tree_core.specs.declared.program.TreeItem.TheVariants as tree_item
 use Rattle.tree_core.specs.declared.program.TreeFn.{TreeFn}
 use Rattle.tree_core.specs.declared.program.TreeProgram.{TreeProgram}
 use Rattle.md_reader.specs.State.{Content}
@@ -47,7 +47,7 @@ module _ (q : TreeProgram) (ok : IsSelectable q) (d : Content) (fit : IsFit vax 
   room_fine (suc n) = (refl, tt)
 
   module _ (n : ℕ) (g : TreeFn) (here : slice_get q.functions n ≡ Some g) where
-    tree_fine : (w : List Leaf) → IsIn (item.Root w) g.items → (instrs : List Instr) (most : ℕ)
+    tree_fine : (w : List Leaf) → IsIn (tree_item.Root w) g.items → (instrs : List Instr) (most : ℕ)
         → Rattle.sel_parse_desk.specs.Selected.Selected vax q d g.locals (tree_of w) instrs most → All Fine (code_items instrs)
     tree_fine w at instrs most s =
         instrs_fine instrs
@@ -57,10 +57,10 @@ module _ (q : TreeProgram) (ok : IsSelectable q) (d : Content) (fit : IsFit vax 
 
     body_fine : (used most : ℕ) (is : List TreeItem) (body : List CodeItem) → Among q ok d fit n g here is → AreSelected vax d q g.locals used is body most → All Fine body
     body_fine used most is body sub (nothing u) = tt
-    body_fine used most is body sub (label u m l js rest h) = (refl, body_fine u most js rest (behind q ok d fit n g here (item.Label l) js sub) h)
+    body_fine used most is body sub (label u m l js rest h) = (refl, body_fine u most js rest (behind q ok d fit n g here (tree_item.Label l) js sub) h)
     body_fine used most is body sub (tree u k m w js instrs rest one h) =
         fine_append (code_items instrs) rest (tree_fine w (sub w (0, refl)) instrs k one)
-        (body_fine _ most js rest (behind q ok d fit n g here (item.Root w) js sub) h)
+        (body_fine _ most js rest (behind q ok d fit n g here (tree_item.Root w) js sub) h)
 
     function_fine : (part : List CodeItem) → IsSelectedFunction vax d q g part → All Fine part
     function_fine part s =

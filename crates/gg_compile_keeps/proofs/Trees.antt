@@ -5,7 +5,7 @@ use Rattle.std.proofs.lemmas.Bool.Decides.{nat_tests}
 use Rattle.tree_core.specs.declared.token.Sort.TheVariants as sort
 use Rattle.tree_core.specs.declared.tree.Leaf.{Leaf}
 use Rattle.tree_core.specs.declared.program.TreeItem.{TreeItem}
-use Rattle.tree_core.specs.declared.program.TreeItem.TheVariants as item
+use Rattle.tree_core.specs.declared.program.TreeItem.TheVariants as tree_item
 use Rattle.tree_core.specs.declared.program.TreeFn.{TreeFn}
 use Rattle.tree_core.specs.declared.program.TreeProgram.{TreeProgram}
 use Rattle.tree_core.specs.Trees.{IsTyped}
@@ -62,15 +62,15 @@ module _ (q : TreeProgram) (ok : IsSelectable q) (d : Content) (fit : IsFit vax 
   pub stands : ItemsStand q.functions (length q.objects) g
   stands = all_at (ItemsStand q.functions (length q.objects)) q.functions n g ok.valid.roots there
 
-  pub tree_of_it : (w : List Leaf) → IsIn (item.Root w) g.items → IsTreeOf q g w
+  pub tree_of_it : (w : List Leaf) → IsIn (tree_item.Root w) g.items → IsTreeOf q g w
   tree_of_it w at = record {
-    stands = all_at (ItemStands q.functions (length q.objects) g) g.items at.0 (item.Root w) stands at.1;
+    stands = all_at (ItemStands q.functions (length q.objects) g) g.items at.0 (tree_item.Root w) stands at.1;
     spelled = ok.longwords n at.0 g w there at.1;
     calm = ok.calm n at.0 g w there at.1;
   }
 
   -- the selection that is computed is the one of which the laws speak
-  pub selected : (w : List Leaf) → IsIn (item.Root w) g.items → (instrs : List Instr) (most : ℕ) → desk.Selected vax q d g.locals (tree_of w) instrs most
+  pub selected : (w : List Leaf) → IsIn (tree_item.Root w) g.items → (instrs : List Instr) (most : ℕ) → desk.Selected vax q d g.locals (tree_of w) instrs most
       → Selected vax q d g.locals (tree_of w) instrs most
   selected w at instrs most s =
       let t = tree_of_it w at in
@@ -83,17 +83,17 @@ module _ (q : TreeProgram) (ok : IsSelectable q) (d : Content) (fit : IsFit vax 
       })
       s
 
-  effect : (w : List Leaf) → IsIn (item.Root w) g.items → (instrs : List Instr) (most : ℕ) → desk.Selected vax q d g.locals (tree_of w) instrs most
+  effect : (w : List Leaf) → IsIn (tree_item.Root w) g.items → (instrs : List Instr) (most : ℕ) → desk.Selected vax q d g.locals (tree_of w) instrs most
       → HasEffect q g.locals g.args most w instrs
   effect w at instrs most s = selected_trees_have_effect q d g w instrs most ok.valid ok.names fit (tree_of_it w at) (selected w at instrs most s)
 
-  few : (w : List Leaf) → IsIn (item.Root w) g.items → (instrs : List Instr) (most : ℕ) → desk.Selected vax q d g.locals (tree_of w) instrs most → most ≤ 1024
+  few : (w : List Leaf) → IsIn (tree_item.Root w) g.items → (instrs : List Instr) (most : ℕ) → desk.Selected vax q d g.locals (tree_of w) instrs most → most ≤ 1024
   few w at instrs most s = selections_use_few_words vax q d g.locals (tree_of w) instrs most (ok.locals n g there) (selected w at instrs most s)
 
   -- ---- all items
 
   abbrev pub Among : List TreeItem → Type 0
-  Among is = (w : List Leaf) → IsIn (item.Root w) is → IsIn (item.Root w) g.items
+  Among is = (w : List Leaf) → IsIn (tree_item.Root w) is → IsIn (tree_item.Root w) g.items
 
   pub behind : (i : TreeItem) (is : List TreeItem) → Among (i ∷ is) → Among is
   behind i is sub w at = sub w (suc at.0, at.1)
@@ -108,16 +108,16 @@ module _ (q : TreeProgram) (ok : IsSelectable q) (d : Content) (fit : IsFit vax 
 
   pub words_few : (used most : ℕ) (is : List TreeItem) (code : List CodeItem) → Among is → used ≤ 1024 → AreSelected vax d q g.locals used is code most → most ≤ 1024
   words_few used most is code sub le (nothing u) = le
-  words_few used most is code sub le (label u m l js rest h) = words_few u most js rest (behind (item.Label l) js sub) le h
+  words_few used most is code sub le (label u m l js rest h) = words_few u most js rest (behind (tree_item.Label l) js sub) le h
   words_few used most is code sub le (tree u k m w js instrs rest one h) =
-      words_few (larger_of u k) most js rest (behind (item.Root w) js sub) (larger_within u k 1024 le (few w (sub w (0, refl)) instrs k one)) h
+      words_few (larger_of u k) most js rest (behind (tree_item.Root w) js sub) (larger_within u k 1024 le (few w (sub w (0, refl)) instrs k one)) h
 
   pub tree_code : (words used most : ℕ) (is : List TreeItem) (code : List CodeItem) → Among is → most ≤ words → AreSelected vax d q g.locals used is code most
       → IsTreeCode q g words is code
   tree_code words used most is code sub le (nothing u) = assembled.nothing
-  tree_code words used most is code sub le (label u m l js rest h) = assembled.label l js rest (tree_code words u most js rest (behind (item.Label l) js sub) le h)
+  tree_code words used most is code sub le (label u m l js rest h) = assembled.label l js rest (tree_code words u most js rest (behind (tree_item.Label l) js sub) le h)
   tree_code words used most is code sub le (tree u k m w js instrs rest one h) =
       let up = used_up (larger_of u k) most js rest h in
       let right = larger_right u k in
       assembled.root w js instrs rest (wider q g.locals g.args k words w instrs (omega (arith, up, right, le)) (effect w (sub w (0, refl)) instrs k one))
-      (tree_code words (larger_of u k) most js rest (behind (item.Root w) js sub) le h)
+      (tree_code words (larger_of u k) most js rest (behind (tree_item.Root w) js sub) le h)

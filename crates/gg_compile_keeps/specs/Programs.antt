@@ -2,7 +2,7 @@
 use Rattle.std.specs.Prelude.{◌≡◌, ℕ, ◌≤◌, List, Some, slice_get}
 use Rattle.std.specs.List.{All, AllByRecursion}
 use Rattle.tree_core.specs.declared.tree.Leaf.{Leaf}
-use Rattle.tree_core.specs.declared.program.TreeItem.TheVariants as item
+use Rattle.tree_core.specs.declared.program.TreeItem.TheVariants as tree_item
 use Rattle.tree_core.specs.declared.program.TreeFn.{TreeFn}
 use Rattle.tree_core.specs.declared.program.TreeProgram.{TreeProgram}
 use Rattle.tree_core.specs.Calm.{Calm}
@@ -15,7 +15,8 @@ use Rattle.gg_compile_law.specs.Loaded.{AreApart}
 
 -- it holds of each tree of each function
 abbrev pub EachTree : (List Leaf → Type 0) → TreeProgram → Type 0
-EachTree P q = (f n : ℕ) (g : TreeFn) (w : List Leaf) → slice_get q.functions f ≡ Some g → slice_get g.items n ≡ Some (item.Root w) → P w
+EachTree P q = (f n : ℕ) (g : TreeFn) (w : List Leaf) → slice_get q.functions f ≡ Some g → slice_get g.items n
+    ≡ Some (tree_item.Root w) → P w
 
 -- A tree program that code can be selected of: it is valid, in none of its trees is memory read behind a division, each
 -- function's locals fit

@@ -8,11 +8,11 @@ use Rattle.std.proofs.lemmas.Bool.{eqb-true, true≢false}
 use Rattle.std.proofs.lemmas.Slice.Eq.{bytes_eq-Decides}
 use Rattle.vax_core.specs.declared.code.Code.{Code}
 use Rattle.vax_core.specs.declared.code.CodeItem.{CodeItem}
-use Rattle.vax_core.specs.declared.code.CodeItem.TheVariants as items
+use Rattle.vax_core.specs.declared.code.CodeItem.TheVariants as item_kind
 use Rattle.vax_machine.specs.Labels.{label_place, double_label, double_area_label, skipped, next_item, first_of}
 use Rattle.vax_machine.specs.Loading.{Loads, or_double}
 use Rattle.tree_core.specs.declared.program.TreeItem.{TreeItem}
-use Rattle.tree_core.specs.declared.program.TreeItem.TheVariants as item
+use Rattle.tree_core.specs.declared.program.TreeItem.TheVariants as tree_item
 use Rattle.tree_core.specs.declared.program.TreeFn.{TreeFn}
 use Rattle.tree_core.specs.declared.program.TreeProgram.{TreeProgram}
 use Rattle.tree_meaning.specs.State.{behind}
@@ -70,7 +70,7 @@ labels_differ c h = by (double_area_label c.area c.items) (double_label c.items)
 pub record LabelIn (program : TreeProgram) (g : TreeFn) (words l : ℕ) (is : List TreeItem) (body : List CodeItem) : Type 0 where
   pub pre : List CodeItem
   pub post : List CodeItem
-  pub body_is : body ≡ pre ++ items.Label (label_name l) ∷ post
+  pub body_is : body ≡ pre ++ item_kind.Label (label_name l) ∷ post
   pub rest : IsBody program g words (behind is l) post
 
 module _ (program : TreeProgram) (g : TreeFn) (words l : ℕ) where
@@ -82,27 +82,27 @@ module _ (program : TreeProgram) (g : TreeFn) (words l : ℕ) where
         pre = code_items instrs ++ r.pre;
         post = r.post;
         body_is = ap (λ (x : List CodeItem). code_items instrs ++ x) r.body_is ∙ sym
-            (append_assoc (code_items instrs) r.pre (items.Label (label_name l) ∷ r.post));
+            (append_assoc (code_items instrs) r.pre (item_kind.Label (label_name l) ∷ r.post));
         rest = r.rest;
       }
   label_in is body (label k is' code h) e = by (k == l) refl e (λ f. label_in is' code h f)
     where
       by : (b : Bool) → (k == l) ≡ b → (b || stands_in is' l) ≡ true → (stands_in is' l ≡ true → LabelIn program g words l is' code)
-          → LabelIn program g words l (item.Label k ∷ is') (items.Label (label_name k) ∷ code)
+          → LabelIn program g words l (tree_item.Label k ∷ is') (item_kind.Label (label_name k) ∷ code)
       by true eq f rest =
           record {
             pre = [];
             post = code;
-            body_is = ap (λ (n : ℕ). items.Label (label_name n) ∷ code) (eqb-true k l eq);
+            body_is = ap (λ (n : ℕ). item_kind.Label (label_name n) ∷ code) (eqb-true k l eq);
             rest = subst
                 (λ (b : Bool). IsBody program g words (cond b is' (behind is' l)) code) (sym eq) h;
           }
       by false eq f rest =
           let r = rest f in
           record {
-            pre = items.Label (label_name k) ∷ r.pre;
+            pre = item_kind.Label (label_name k) ∷ r.pre;
             post = r.post;
-            body_is = ap (λ (x : List CodeItem). items.Label (label_name k) ∷ x) r.body_is;
+            body_is = ap (λ (x : List CodeItem). item_kind.Label (label_name k) ∷ x) r.body_is;
             rest = subst
                 (λ (b : Bool). IsBody program g words (cond b is' (behind is' l)) r.post) (sym eq) r.rest;
           }
@@ -118,7 +118,8 @@ five r p l e post =
 
 -- the code of trees is a body, where the program is valid
 module _ (program : TreeProgram) (v : IsValid program) (n : ℕ) (g : TreeFn) (there : slice_get program.functions n ≡ Some g) (words : ℕ) where
-  tree_body : (is : List TreeItem) (body : List CodeItem) → IsTreeCode program g words is body → ((w : List Leaf) → IsIn (item.Root w) is → IsIn (item.Root w) g.items) → IsBody program g words is body
+  tree_body : (is : List TreeItem) (body : List CodeItem) → IsTreeCode program g words is body → ((w : List Leaf) → IsIn (tree_item.Root w) is → IsIn (tree_item.Root w) g.items)
+      → IsBody program g words is body
   tree_body is body nothing_of sub = nothing
   tree_body is body (label_of l rest code h) sub = label l rest code (tree_body rest code h (λ w at. sub w (suc at.0, at.1)))
   tree_body is body (root_of w rest instrs code h t) sub =
@@ -143,22 +144,23 @@ module _ (program : TreeProgram) (valid : IsValid program) (number : ℕ) (g : T
   there = subst (λ (x : List CodeItem). HasItems x (length pre) frame) (sym framed_code) (has_all frame pre post)
 
   abbrev tail : List CodeItem
-  tail = items.Mask f.mask ∷ ((code_items (room_code f.words) ++ (f.body ++ code_items end_code)) ++ post)
+  tail = item_kind.Mask f.mask ∷ ((code_items (room_code f.words) ++ (f.body ++ code_items end_code)) ++ post)
 
-  code_at_label : code ≡ (pre ++ items.Globl name ∷ []) ++ items.Label name ∷ tail
-  code_at_label = framed_code ∙ sym (append_assoc pre (items.Globl name ∷ []) (items.Label name ∷ tail))
+  code_at_label : code ≡ (pre ++ item_kind.Globl name ∷ []) ++ item_kind.Label name ∷ tail
+  code_at_label = framed_code ∙ sym (append_assoc pre (item_kind.Globl name ∷ []) (item_kind.Label name ∷ tail))
 
-  before_label : length (pre ++ items.Globl name ∷ []) ≡ length pre + 1
-  before_label = omega (arith, length-append pre (items.Globl name ∷ []))
+  before_label : length (pre ++ item_kind.Globl name ∷ []) ≡ length pre + 1
+  before_label = omega (arith, length-append pre (item_kind.Globl name ∷ []))
 
   label_is : label_place code name ≡ length pre + 1
   label_is =
       ap (λ (x : List CodeItem). label_place x name) code_at_label
-      ∙ first_place (pre ++ items.Globl name ∷ []) tail name (subst (λ (x : List CodeItem). double_label x ≡ None) code_at_label once)
+      ∙ first_place (pre ++ item_kind.Globl name ∷ []) tail name (subst (λ (x : List CodeItem). double_label x ≡ None) code_at_label once)
       ∙ before_label
 
   skips : skipped (drop (length pre + 1) code) ≡ 1
-  skips = ap (λ (x : List CodeItem). skipped (drop (length pre + 1) x)) code_at_label ∙ ap skipped (drop_at (pre ++ items.Globl name ∷ []) (items.Label name ∷ tail) (length pre + 1) before_label)
+  skips = ap (λ (x : List CodeItem). skipped (drop (length pre + 1) x)) code_at_label
+      ∙ ap skipped (drop_at (pre ++ item_kind.Globl name ∷ []) (item_kind.Label name ∷ tail) (length pre + 1) before_label)
 
   entry_is : next_item code (label_place code name) ≡ length pre + 1 + 1
   entry_is = ap (λ (p : ℕ). next_item code p) label_is ∙ ap (λ (k : ℕ). length pre + 1 + k) skips
@@ -166,16 +168,16 @@ module _ (program : TreeProgram) (valid : IsValid program) (number : ℕ) (g : T
   abbrev rest_there : HasItems code (length pre + 1 + 1 + 1) (code_items (room_code f.words) ++ (f.body ++ code_items end_code))
   rest_there = there.1.1.1
 
-  label_stands : (l : ℕ) → stands_in g.items l ≡ true → StandsAt program code g f.words (label_place code (label_name l)) (item.Label l ∷ behind g.items l)
+  label_stands : (l : ℕ) → stands_in g.items l ≡ true → StandsAt program code g f.words (label_place code (label_name l)) (tree_item.Label l ∷ behind g.items l)
   label_stands l e =
       let r : LabelIn program g f.words l g.items f.body = label_in program g f.words l g.items f.body is_body e in
-      let at = items.Label (label_name l) ∷ r.post in
-      let front = items.Globl name ∷ (items.Label name ∷ (items.Mask f.mask ∷ (code_items (room_code f.words) ++ r.pre))) in
+      let at = item_kind.Label (label_name l) ∷ r.post in
+      let front = item_kind.Globl name ∷ (item_kind.Label name ∷ (item_kind.Mask f.mask ∷ (code_items (room_code f.words) ++ r.pre))) in
       let behind_it = (at ++ code_items end_code) ++ post in
       let split : code ≡ (pre ++ front) ++ behind_it =
       framed_code
       ∙ ap (λ (b : List CodeItem). pre ++ (frame_items name f.mask f.words b ++ post)) r.body_is
-      ∙ ap (λ (x : List CodeItem). pre ++ (items.Globl name ∷ (items.Label name ∷ (items.Mask f.mask ∷ x)))) (five (code_items (room_code f.words)) r.pre at (code_items end_code) post)
+      ∙ ap (λ (x : List CodeItem). pre ++ (item_kind.Globl name ∷ (item_kind.Label name ∷ (item_kind.Mask f.mask ∷ x)))) (five (code_items (room_code f.words)) r.pre at (code_items end_code) post)
       ∙ sym (append_assoc pre front behind_it) in
       let place : label_place code (label_name l) ≡ length (pre ++ front) =
       ap (λ (x : List CodeItem). label_place x (label_name l)) split

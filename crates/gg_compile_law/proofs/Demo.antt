@@ -9,7 +9,7 @@ use Rattle.tree_core.specs.declared.token.Tok.TheVariants as tok
 use Rattle.tree_core.specs.declared.tree.Att.TheVariants as att
 use Rattle.tree_core.specs.declared.tree.Leaf.{Leaf}
 use Rattle.tree_core.specs.declared.program.TreeItem.{TreeItem}
-use Rattle.tree_core.specs.declared.program.TreeItem.TheVariants as item
+use Rattle.tree_core.specs.declared.program.TreeItem.TheVariants as tree_item
 use Rattle.tree_core.specs.Attributes.{end_leaf}
 use Rattle.tree_core.specs.Trees.{none, tree}
 use Rattle.tree_core.specs.Items.{nothing, other, call}
@@ -31,19 +31,19 @@ stands i = ItemStands (demo_main ∷ []) 0 demo_main i
 abbrev names : Leaf → Type 0
 names l = leaf_names (demo_main ∷ []) 0 demo_main l ≡ true
 
-push_stands : stands (item.Root (record { tok = tok.Push; att = att.Nothing } ∷ (record { tok = tok.Const; att = att.Number 72 } ∷ (end_leaf ∷ []))))
+push_stands : stands (tree_item.Root (record { tok = tok.Push; att = att.Nothing } ∷ (record { tok = tok.Const; att = att.Number 72 } ∷ (end_leaf ∷ []))))
 push_stands = (
   record { trees = tree (record { tok = tok.Push; att = att.Nothing }) (tree (record { tok = tok.Const; att = att.Number 72 }) none none) none; typed = (refl, (refl, tt, tt), tt); spelled = refl },
   All-from_recursion names (record { tok = tok.Push; att = att.Nothing } ∷ (record { tok = tok.Const; att = att.Number 72 } ∷ (end_leaf ∷ []))) (refl, (refl, (refl, tt))),
 )
 
-call_stands : stands (item.Root (record { tok = tok.Call; att = att.Callee 1 1 } ∷ (end_leaf ∷ [])))
+call_stands : stands (tree_item.Root (record { tok = tok.Call; att = att.Callee 1 1 } ∷ (end_leaf ∷ [])))
 call_stands = (
   record { trees = tree (record { tok = tok.Call; att = att.Callee 1 1 }) none none; typed = (refl, tt, tt); spelled = refl },
   All-from_recursion names (record { tok = tok.Call; att = att.Callee 1 1 } ∷ (end_leaf ∷ [])) (refl, (refl, tt)),
 )
 
-ret_stands : stands (item.Root (record { tok = tok.Ret; att = att.Nothing } ∷ (record { tok = tok.Zero; att = att.Number 0 } ∷ (end_leaf ∷ []))))
+ret_stands : stands (tree_item.Root (record { tok = tok.Ret; att = att.Nothing } ∷ (record { tok = tok.Zero; att = att.Number 0 } ∷ (end_leaf ∷ []))))
 ret_stands = (
   record { trees = tree (record { tok = tok.Ret; att = att.Nothing }) (tree (record { tok = tok.Zero; att = att.Number 0 }) none none) none; typed = (refl, (refl, tt, tt), tt); spelled = refl },
   All-from_recursion names (record { tok = tok.Ret; att = att.Nothing } ∷ (record { tok = tok.Zero; att = att.Number 0 } ∷ (end_leaf ∷ []))) (refl, (refl, (refl, tt))),

@@ -8,7 +8,7 @@ use Rattle.vax_machine.specs.State.{State}
 use Rattle.vax_machine.specs.Running.{state_run}
 use Rattle.tree_core.specs.declared.tree.Leaf.{Leaf}
 use Rattle.tree_core.specs.declared.program.TreeItem.{TreeItem}
-use Rattle.tree_core.specs.declared.program.TreeItem.TheVariants as item
+use Rattle.tree_core.specs.declared.program.TreeItem.TheVariants as tree_item
 use Rattle.tree_core.specs.declared.program.TreeFn.{TreeFn}
 use Rattle.tree_core.specs.declared.program.TreeProgram.{TreeProgram}
 use Rattle.tree_core.specs.Trees.{grown}
@@ -47,7 +47,7 @@ module _ (program : TreeProgram) (code : List CodeItem) (emitted : (n : ℕ) (g 
       ∙ ap (λ (x : Option (List Leaf × List TreeItem)). coming x t.running t.callers t.area t.input (returned 0 t.callers t.area t.input)) same
       ∙ coming_same (ahead js) t js (returned 0 t.callers t.area t.input)
 
-  arrives_at : (t : Trees) (w : List Leaf) (is : List TreeItem) → t.running.items ≡ item.Root w ∷ is → arrived t ≡ tree_at w (with_items t is)
+  arrives_at : (t : Trees) (w : List Leaf) (is : List TreeItem) → t.running.items ≡ tree_item.Root w ∷ is → arrived t ≡ tree_at w (with_items t is)
   arrives_at t w is eq = ap (λ (x : List TreeItem). coming (ahead x) t.running t.callers t.area t.input (returned 0 t.callers t.area t.input)) eq
 
   arrives_end : (t : Trees) → t.running.items ≡ [] → arrived t ≡ returned 0 t.callers t.area t.input
@@ -77,7 +77,7 @@ module _ (program : TreeProgram) (code : List CodeItem) (emitted : (n : ℕ) (g 
       leaves_by v s [] c = asks_ended m [] c.0 (suc n) v c.1
       leaves_by v s (a ∷ rest) c = goes_on [] _ (record { count = c.0; state = c.1; some = c.2; leads = c.3; stands = c.4 })
 
-      answers : (t0 : Trees) (w : List Leaf) (is : List TreeItem) (here : Stands program code t0 m) (first : t0.running.items ≡ item.Root w ∷ is) (d : Step)
+      answers : (t0 : Trees) (w : List Leaf) (is : List TreeItem) (here : Stands program code t0 m) (first : t0.running.items ≡ tree_item.Root w ∷ is) (d : Step)
           → Came program code emitted t0 m w is here first d → Asked (suc n) (carried (run program n) d) m
       answers t0 w is here first (Goes s) c = goes_on [] s c
       answers t0 w is here first (Serves None s) c = goes_on [] s c
@@ -90,7 +90,7 @@ module _ (program : TreeProgram) (code : List CodeItem) (emitted : (n : ℕ) (g 
       answers t0 w is here first (Ends finish.Wild) c = (0, refl)
       answers t0 w is here first (Ends finish.Deep) c = (0, refl)
 
-    at_root : (t : Trees) (m : State) (w : List Leaf) (is : List TreeItem) → Stands program code t m → t.running.items ≡ item.Root w ∷ is → (n : ℕ) → n < suc k
+    at_root : (t : Trees) (m : State) (w : List Leaf) (is : List TreeItem) → Stands program code t m → t.running.items ≡ tree_item.Root w ∷ is → (n : ℕ) → n < suc k
         → Asked n (run program n (tree_at w (with_items t is))) m
     at_root t m w is s first zero lt = (zero, refl, refl, omega arith)
     at_root t m w is s first (suc n) lt =
@@ -111,8 +111,8 @@ module _ (program : TreeProgram) (code : List CodeItem) (emitted : (n : ℕ) (g 
     by_items : (is : List TreeItem) (t : Trees) (m : State) → t.running.items ≡ is → Stands program code t m
         → ((s : Trees) (n : State) → (c : Activation) → t.callers ≡ c ∷ s.callers → Stands program code s n → IsFollowed s n) → IsFollowed t m
     by_items [] t m eq s outer = λ n lt. subst (λ (x : Next). Asked n (run program n x) m) (sym (arrives_end t eq)) (ends_by t m t.callers outer (ends_items t m s eq) n lt)
-    by_items (item.Root w ∷ is) t m eq s outer = λ n lt. subst (λ (x : Next). Asked n (run program n x) m) (sym (arrives_at t w is eq)) (at_root t m w is s eq n lt)
-    by_items (item.Label l ∷ is) t m eq s outer =
+    by_items (tree_item.Root w ∷ is) t m eq s outer = λ n lt. subst (λ (x : Next). Asked n (run program n x) m) (sym (arrives_at t w is eq)) (at_root t m w is s eq n lt)
+    by_items (tree_item.Label l ∷ is) t m eq s outer =
         let at = label_at program code s.g s.e.words m.place l is (subst (λ (x : List TreeItem). StandsAt program code s.g s.e.words m.place x) eq s.active.here) in
         let order = subst (λ (x : List TreeItem). InOrder (length t.running.pushed) s.is_behind x) eq s.active.order in
         let m' = record m { place = m.place + 1 } in
@@ -140,7 +140,7 @@ module _ (program : TreeProgram) (code : List CodeItem) (emitted : (n : ℕ) (g 
           shallow = s.shallow;
         } in
         λ n lt.
-        subst (λ (x : Next). Asked n (run program n x) m) (sym (arrives_with t (item.Label l ∷ is) is eq refl))
+        subst (λ (x : Next). Asked n (run program n x) m) (sym (arrives_with t (tree_item.Label l ∷ is) is eq refl))
         (subst (λ (r : Runs). AsksAt n (run program n (arrived (with_items t is))).end (run program n (arrived (with_items t is))).output r) (sym run_is)
         (by_items is (with_items t is) m' refl stands outer n lt))
       where

@@ -10,7 +10,7 @@ use Rattle.vax_core.specs.declared.code.Code.{Code}
 use Rattle.vax_core.specs.declared.code.CodeItem.{CodeItem}
 use Rattle.vax_core.specs.declared.code.AreaItem.{AreaItem}
 use Rattle.vax_core.specs.declared.code.AreaItem.TheVariants as areas
-use Rattle.vax_machine.specs.declared.loading.LoadFault.TheVariants as faults
+use Rattle.vax_machine.specs.declared.loading.LoadFault.TheVariants as loading_fault
 use Rattle.vax_machine.specs.Area.{end_from, area_size, is_area_label, has_area_label}
 use Rattle.vax_machine.specs.Labels.{is_service, has_label, double_label, double_area_label, undefined_name, undefined_area_label, undefined_label, first_of}
 use Rattle.vax_machine.specs.Loading.{too_large, or_undefined, or_double, undefined_name_of, double_label_of}
@@ -220,5 +220,5 @@ assembled_loads program c valid small apart functions area names =
     let small_area : nat_lt 1048576 (area_size c.area) ≡ false = ap (λ (x : List AreaItem). nat_lt 1048576 (area_size x)) area ∙ le-ltb 1048576 (area_size (area_of os)) (omega (arith, low)) in
     ap (λ (o : Option (List ℕ)). or_double o c) double
     ∙ ap (λ (o : Option (List ℕ)). or_undefined o c) named
-    ∙ ap (λ (b : Bool). cond b (too_large c) (Some faults.NoMain)) main
-    ∙ ap (λ (b : Bool). cond b (Some faults.TooLarge) None) small_area
+    ∙ ap (λ (b : Bool). cond b (too_large c) (Some loading_fault.NoMain)) main
+    ∙ ap (λ (b : Bool). cond b (Some loading_fault.TooLarge) None) small_area

@@ -10,11 +10,11 @@ use Rattle.std.proofs.lemmas.Slice.Eq.{bytes_eq-Decides}
 use Rattle.std.specs.List.{cons_option}
 use Rattle.vax_core.specs.declared.code.Instr.{Instr}
 use Rattle.vax_core.specs.declared.code.CodeItem.{CodeItem}
-use Rattle.vax_core.specs.declared.code.CodeItem.TheVariants as items
+use Rattle.vax_core.specs.declared.code.CodeItem.TheVariants as item_kind
 use Rattle.vax_machine.specs.Labels.{main_name, putchar_name, getchar_name, is_service, is_label, has_label, double_label}
 use Rattle.tree_core.specs.declared.tree.Leaf.{Leaf}
 use Rattle.tree_core.specs.declared.program.TreeItem.{TreeItem}
-use Rattle.tree_core.specs.declared.program.TreeItem.TheVariants as item
+use Rattle.tree_core.specs.declared.program.TreeItem.TheVariants as tree_item
 use Rattle.tree_core.specs.declared.program.TreeFn.{TreeFn}
 use Rattle.tree_core.specs.declared.program.TreeProgram.{TreeProgram}
 use Rattle.tree_core.specs.Items.{times, all_labels}
@@ -70,22 +70,22 @@ pub not_true : (b : Bool) → (b ≡ true → ⊥) → b ≡ false
 not_true true h = absurd (h refl)
 not_true false h = refl
 
-here : (n : List ℕ) (xs : List CodeItem) → count n (items.Label n ∷ xs) ≡ 1 + count n xs
+here : (n : List ℕ) (xs : List CodeItem) → count n (item_kind.Label n ∷ xs) ≡ 1 + count n xs
 unfolding count
 here n xs = ap (λ (b : Bool). cond b 1 0 + count n xs) ((bytes_eq-Decides n n).1 refl)
 
 no_double : (xs : List CodeItem) → Once xs → double_label xs ≡ None
 no_double [] h = refl
-no_double (items.Globl n ∷ xs) h = no_double xs (once_behind (items.Globl n) xs h)
-no_double (items.Mask n ∷ xs) h = no_double xs (once_behind (items.Mask n) xs h)
-no_double (items.Instr n ∷ xs) h = no_double xs (once_behind (items.Instr n) xs h)
-no_double (items.Label n ∷ xs) h =
+no_double (item_kind.Globl n ∷ xs) h = no_double xs (once_behind (item_kind.Globl n) xs h)
+no_double (item_kind.Mask n ∷ xs) h = no_double xs (once_behind (item_kind.Mask n) xs h)
+no_double (item_kind.Instr n ∷ xs) h = no_double xs (once_behind (item_kind.Instr n) xs h)
+no_double (item_kind.Label n ∷ xs) h =
     let at = here n xs in
     let le = h.0 n in
     let service : is_service n ≡ false = not_true (is_service n) (λ e. let z = h.1 n e in omega (arith, z, at)) in
     let other : has_label xs n ≡ false = not_true (has_label xs n) (λ e. let there = stands_once n xs e in omega (arith, le, at, there)) in
     ap (λ (b : Bool). cond (b || has_label xs n) (Some n) (double_label xs)) service ∙ ap (λ (b : Bool). cond b (Some n) (double_label xs)) other
-    ∙ no_double xs (once_behind (items.Label n) xs h)
+    ∙ no_double xs (once_behind (item_kind.Label n) xs h)
 
 -- ---- the labels of functions and of trees
 
@@ -95,8 +95,8 @@ fun_count name (f ∷ fs) = cond (bytes_eq (function_label f.name) name) 1 0 + f
 
 tree_count : List ℕ → List TreeItem → ℕ
 tree_count name [] = 0
-tree_count name (item.Label l ∷ is) = cond (bytes_eq (label_name l) name) 1 0 + tree_count name is
-tree_count name (item.Root w ∷ is) = tree_count name is
+tree_count name (tree_item.Label l ∷ is) = cond (bytes_eq (label_name l) name) 1 0 + tree_count name is
+tree_count name (tree_item.Root w ∷ is) = tree_count name is
 
 pub trees_count : List ℕ → List TreeFn → ℕ
 trees_count name [] = 0
@@ -192,13 +192,13 @@ label_test m l a b =
     (λ e. eq-eqb m l (decimal_injective m l a b (same_tail 76 76 (decimal m) (decimal l) ((bytes_eq-Decides (label_name m) (label_name l)).0 e))))
     (λ e. (bytes_eq-Decides (label_name m) (label_name l)).1 (ap label_name (eqb-true m l e)))
 
-module _ (h : TreeItem → Option ℕ) (on_label : (l : ℕ) → h (item.Label l) ≡ Some l) (on_root : (w : List Leaf) → h (item.Root w) ≡ None) where
+module _ (h : TreeItem → Option ℕ) (on_label : (l : ℕ) → h (tree_item.Label l) ≡ Some l) (on_root : (w : List Leaf) → h (tree_item.Root w) ≡ None) where
   tree_times : (l : ℕ) (is : List TreeItem) → l < 2 ^ 64 → AreSmall is → tree_count (label_name l) is ≡ times l (filter_map h is)
   unfolding tree_count
   tree_times l [] low small = refl
-  tree_times l (item.Root w ∷ is) low small =
+  tree_times l (tree_item.Root w ∷ is) low small =
       tree_times l is low small ∙ sym (ap (λ (o : Option ℕ). times l (cons_option o (filter_map h is))) (on_root w))
-  tree_times l (item.Label m ∷ is) low small =
+  tree_times l (tree_item.Label m ∷ is) low small =
       ap (λ (b : Bool). cond b 1 0 + tree_count (label_name l) is) (label_test m l small.0 low)
       ∙ ap (λ (n : ℕ). cond (m == l) 1 0 + n) (tree_times l is low small.1)
       ∙ sym (ap (λ (o : Option ℕ). times l (cons_option o (filter_map h is))) (on_label m))
@@ -220,8 +220,8 @@ FromTree n name = (n ≡ 0) ⊎ ((l : ℕ) × (l < 2 ^ 64) × (label_name l ≡ 
 from_tree : (name : List ℕ) (is : List TreeItem) → AreSmall is → FromTree (tree_count name is) name
 unfolding tree_count
 from_tree name [] small = inl refl
-from_tree name (item.Root w ∷ is) small = from_tree name is small
-from_tree name (item.Label m ∷ is) small = by (bytes_eq (label_name m) name) refl (from_tree name is small.1)
+from_tree name (tree_item.Root w ∷ is) small = from_tree name is small
+from_tree name (tree_item.Label m ∷ is) small = by (bytes_eq (label_name m) name) refl (from_tree name is small.1)
   where
     by : (b : Bool) → bytes_eq (label_name m) name ≡ b → FromTree (tree_count name is) name → FromTree (cond b 1 0 + tree_count name is) name
     by true e h = inr (m, small.0, (bytes_eq-Decides (label_name m) name).0 e)

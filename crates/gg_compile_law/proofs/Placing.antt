@@ -3,7 +3,7 @@ use Rattle.std.proofs.Common.{◌≡◌, ℕ, zero, suc, ◌+◌, List, [], ◌�
 use Rattle.std.specs.Prelude.{slice_get}
 use Rattle.vax_core.specs.declared.code.Instr.{Instr}
 use Rattle.vax_core.specs.declared.code.CodeItem.{CodeItem}
-use Rattle.vax_core.specs.declared.code.CodeItem.TheVariants as items
+use Rattle.vax_core.specs.declared.code.CodeItem.TheVariants as item_kind
 use Rattle.vax_machine.specs.declared.turn.Stop.{Stop}
 use Rattle.vax_machine.specs.State.{State}
 use Rattle.vax_machine.specs.Labels.{skipped, next_item}
@@ -12,7 +12,7 @@ use Rattle.vax_machine.specs.Running.{behind, steps, state_run}
 use Rattle.gg_base.specs.Runs.{one_first}
 use Rattle.tree_core.specs.declared.tree.Leaf.{Leaf}
 use Rattle.tree_core.specs.declared.program.TreeItem.{TreeItem}
-use Rattle.tree_core.specs.declared.program.TreeItem.TheVariants as item
+use Rattle.tree_core.specs.declared.program.TreeItem.TheVariants as tree_item
 use Rattle.tree_core.specs.declared.program.TreeFn.{TreeFn}
 use Rattle.tree_core.specs.declared.program.TreeProgram.{TreeProgram}
 use Rattle.gg_compile_law.specs.Effects.{label_name}
@@ -36,19 +36,19 @@ append_assoc_items (x ∷ xs) ys zs = ap (λ (l : List CodeItem). x ∷ l) (appe
 
 -- ---- a label is skipped
 
-skips_label : (code : List CodeItem) (place : ℕ) (name : List ℕ) → slice_get code place ≡ Some (items.Label name) → skipped (drop place code) ≡ skipped (drop (suc place) code) + 1
+skips_label : (code : List CodeItem) (place : ℕ) (name : List ℕ) → slice_get code place ≡ Some (item_kind.Label name) → skipped (drop place code) ≡ skipped (drop (suc place) code) + 1
 skips_label [] zero name e = absurd cc
 skips_label [] (suc p) name e = absurd cc
 skips_label (x ∷ xs) (suc p) name e = skips_label xs p name e
 skips_label (x ∷ xs) zero name e = by x e
   where
-    by : (x : CodeItem) → ◌≡◌ {A = Option CodeItem} (Some x) (Some (items.Label name)) → skipped (x ∷ xs) ≡ skipped xs + 1
-    by (items.Label n) e = refl
-    by (items.Globl n) e = absurd cc
-    by (items.Mask n) e = absurd cc
-    by (items.Instr i) e = absurd cc
+    by : (x : CodeItem) → ◌≡◌ {A = Option CodeItem} (Some x) (Some (item_kind.Label name)) → skipped (x ∷ xs) ≡ skipped xs + 1
+    by (item_kind.Label n) e = refl
+    by (item_kind.Globl n) e = absurd cc
+    by (item_kind.Mask n) e = absurd cc
+    by (item_kind.Instr i) e = absurd cc
 
-same_next : (m : State) (name : List ℕ) → slice_get m.items m.place ≡ Some (items.Label name) → next_item m.items m.place ≡ next_item m.items (m.place + 1)
+same_next : (m : State) (name : List ℕ) → slice_get m.items m.place ≡ Some (item_kind.Label name) → next_item m.items m.place ≡ next_item m.items (m.place + 1)
 same_next m name e =
     let s : m.place + 1 ≡ suc m.place = omega arith in
     let k : skipped (drop (m.place + 1) m.items) ≡ skipped (drop (suc m.place) m.items) = ap (λ (p : ℕ). skipped (drop p m.items)) s in
@@ -56,12 +56,12 @@ same_next m name e =
 
 same_at : (m : State) (p q : ℕ) (o : Option CodeItem) → at_item o p m ≡ at_item o p (record m { place = q })
 same_at m p q None = refl
-same_at m p q (Some (items.Label n)) = refl
-same_at m p q (Some (items.Globl n)) = refl
-same_at m p q (Some (items.Mask n)) = refl
-same_at m p q (Some (items.Instr i)) = refl
+same_at m p q (Some (item_kind.Label n)) = refl
+same_at m p q (Some (item_kind.Globl n)) = refl
+same_at m p q (Some (item_kind.Mask n)) = refl
+same_at m p q (Some (item_kind.Instr i)) = refl
 
-same_act : (m : State) (name : List ℕ) → slice_get m.items m.place ≡ Some (items.Label name) → act m ≡ act (record m { place = m.place + 1 })
+same_act : (m : State) (name : List ℕ) → slice_get m.items m.place ≡ Some (item_kind.Label name) → act m ≡ act (record m { place = m.place + 1 })
 unfolding act
 same_act m name e =
     ap (λ (p : ℕ). at_item (slice_get m.items p) p m) (same_next m name e)
@@ -72,7 +72,7 @@ same_step m n None e = ap next_of e
 same_step m n (Some x) e = refl
 
 -- the run of a state that stands at a label is the run behind the label
-pub label_skipped : (m : State) (name : List ℕ) → slice_get m.items m.place ≡ Some (items.Label name) → state_run m ≡ state_run (record m { place = m.place + 1 })
+pub label_skipped : (m : State) (name : List ℕ) → slice_get m.items m.place ≡ Some (item_kind.Label name) → state_run m ≡ state_run (record m { place = m.place + 1 })
 label_skipped m name e = λ i n. by n i
   where
     by : (n : ℕ) → steps n m ≡ steps n (record m { place = m.place + 1 })
@@ -88,18 +88,18 @@ pub record RootAt (program : TreeProgram) (code : List CodeItem) (g : TreeFn) (w
   pub rest : StandsAt program code g words (place + length instrs) is
 
 pub record LabelAt (program : TreeProgram) (code : List CodeItem) (g : TreeFn) (words place l : ℕ) (is : List TreeItem) : Type 0 where
-  pub stands : slice_get code place ≡ Some (items.Label (label_name l))
+  pub stands : slice_get code place ≡ Some (item_kind.Label (label_name l))
   pub rest : StandsAt program code g words (place + 1) is
 
 module _ (program : TreeProgram) (code : List CodeItem) (g : TreeFn) (words place : ℕ) where
   end_by : (body : List CodeItem) → IsBody program g words [] body → HasItems code place (body ++ code_items end_code) → HasItems code place (code_items end_code)
   end_by body nothing h = h
 
-  label_by : (l : ℕ) (is : List TreeItem) (body : List CodeItem) → IsBody program g words (item.Label l ∷ is) body → HasItems code place (body ++ code_items end_code)
+  label_by : (l : ℕ) (is : List TreeItem) (body : List CodeItem) → IsBody program g words (tree_item.Label l ∷ is) body → HasItems code place (body ++ code_items end_code)
       → LabelAt program code g words place l is
   label_by l is body (label l' is' rest b) h = record { stands = h.0; rest = record { body = rest; is_body = b; there = h.1 } }
 
-  root_by : (w : List Leaf) (is : List TreeItem) (body : List CodeItem) → IsBody program g words (item.Root w ∷ is) body → HasItems code place (body ++ code_items end_code)
+  root_by : (w : List Leaf) (is : List TreeItem) (body : List CodeItem) → IsBody program g words (tree_item.Root w ∷ is) body → HasItems code place (body ++ code_items end_code)
       → RootAt program code g words place w is
   root_by w is body (root w' is' instrs rest s b) h =
       let there = subst (λ (x : List CodeItem). HasItems code place x) (append_assoc_items (code_items instrs) rest (code_items end_code)) h in
@@ -113,8 +113,8 @@ module _ (program : TreeProgram) (code : List CodeItem) (g : TreeFn) (words plac
   pub end_at : StandsAt program code g words place [] → HasInstrs code place end_code
   end_at h = let e = end_by h.body h.is_body h.there in (e.0, (e.1.0, tt))
 
-  pub label_at : (l : ℕ) (is : List TreeItem) → StandsAt program code g words place (item.Label l ∷ is) → LabelAt program code g words place l is
+  pub label_at : (l : ℕ) (is : List TreeItem) → StandsAt program code g words place (tree_item.Label l ∷ is) → LabelAt program code g words place l is
   label_at l is h = label_by l is h.body h.is_body h.there
 
-  pub root_at : (w : List Leaf) (is : List TreeItem) → StandsAt program code g words place (item.Root w ∷ is) → RootAt program code g words place w is
+  pub root_at : (w : List Leaf) (is : List TreeItem) → StandsAt program code g words place (tree_item.Root w ∷ is) → RootAt program code g words place w is
   root_at w is h = root_by w is h.body h.is_body h.there

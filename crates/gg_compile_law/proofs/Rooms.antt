@@ -3,7 +3,7 @@ use Rattle.std.proofs.Common.{◌≡◌, ℕ, ◌+◌, ◌*◌, ◌≤◌, List,
 use Rattle.vax_machine_live.specs.declared.frame.Frame.{Frame}
 use Rattle.vax_core.specs.declared.code.CodeItem.{CodeItem}
 use Rattle.tree_core.specs.declared.program.TreeItem.{TreeItem}
-use Rattle.tree_core.specs.declared.program.TreeItem.TheVariants as item
+use Rattle.tree_core.specs.declared.program.TreeItem.TheVariants as tree_item
 use Rattle.tree_core.specs.declared.program.TreeProgram.{TreeProgram}
 use Rattle.tree_meaning.specs.State.{Activation}
 use Rattle.vax_states.specs.Stack.{Extent, Holds, Hold, nobody, caller}
@@ -40,8 +40,8 @@ few_by Plain pushed b rest h go = omega (arith, h.0)
 
 pub few_pushed : (is : List TreeItem) (pushed : ℕ) (b : Bool) → InOrder pushed b is → pushed ≤ 255
 few_pushed [] pushed b h = omega (arith, h)
-few_pushed (item.Label l ∷ is) pushed b h = omega (arith, h.0)
-few_pushed (item.Root w ∷ is) pushed b h = few_by (role_of w) pushed b _ h (λ p c g. few_pushed is p c g)
+few_pushed (tree_item.Label l ∷ is) pushed b h = omega (arith, h.0)
+few_pushed (tree_item.Root w ∷ is) pushed b h = few_by (role_of w) pushed b _ h (λ p c g. few_pushed is p c g)
 
 pub waits_small : (program : TreeProgram) (code : List CodeItem) (frames : List Frame) (es : List Extent) (xs : List Activation) → Waits program code frames es xs → AreSmall es xs
 waits_small program code frames es xs (ends_run f none) = tt

@@ -4,7 +4,7 @@ use Rattle.std.specs.Prelude.{slice_get, ◌==◌, cond}
 use Rattle.std.proofs.lemmas.List.{length-take-le, length-drop}
 use Rattle.vax_core.specs.declared.register.Reg.TheVariants.{R0}
 use Rattle.vax_core.specs.declared.code.CodeItem.{CodeItem}
-use Rattle.vax_core.specs.declared.code.CodeItem.TheVariants as items
+use Rattle.vax_core.specs.declared.code.CodeItem.TheVariants as item_kind
 use Rattle.vax_machine_live.specs.declared.frame.Frame.{Frame}
 use Rattle.vax_machine.specs.declared.turn.Stop.TheVariants as stops
 use Rattle.vax_machine.specs.State.{State, reg}
@@ -13,7 +13,7 @@ use Rattle.vax_machine.specs.Calls.{silent}
 use Rattle.vax_machine.specs.Running.{state_run}
 use Rattle.tree_core.specs.declared.tree.Leaf.{Leaf}
 use Rattle.tree_core.specs.declared.program.TreeItem.{TreeItem}
-use Rattle.tree_core.specs.declared.program.TreeItem.TheVariants as item
+use Rattle.tree_core.specs.declared.program.TreeItem.TheVariants as tree_item
 use Rattle.tree_core.specs.declared.program.TreeFn.{TreeFn}
 use Rattle.tree_core.specs.declared.program.TreeProgram.{TreeProgram}
 use Rattle.tree_core.specs.Trees.{grown}
@@ -52,12 +52,12 @@ in_order_zero p b is e h = subst (λ (q : ℕ). InOrder q b is) (sym e) h
 -- behind a label nothing is pushed
 behind_in_order : (is : List TreeItem) (l p : ℕ) (b : Bool) → InOrder p b is → InOrder 0 false (behind is l)
 behind_in_order [] l p b h = refl
-behind_in_order (item.Label n ∷ is) l p b h = by (n == l) (behind_in_order is l 0 false h.1)
+behind_in_order (tree_item.Label n ∷ is) l p b h = by (n == l) (behind_in_order is l 0 false h.1)
   where
     by : (c : Bool) → InOrder 0 false (behind is l) → InOrder 0 false (cond c is (behind is l))
     by true g = h.1
     by false g = g
-behind_in_order (item.Root w ∷ is) l p b h = by (role_of w) h (λ q c g. behind_in_order is l q c g)
+behind_in_order (tree_item.Root w ∷ is) l p b h = by (role_of w) h (λ q c g. behind_in_order is l q c g)
   where
     by : (r : Role) → InOrderBy r p b (λ q c. InOrder q c is) → ((q : ℕ) (c : Bool) → InOrder q c is → InOrder 0 false (behind is l)) → InOrder 0 false (behind is l)
     by Pushes o go = go (p + 1) false o
@@ -74,7 +74,7 @@ module _ (program : TreeProgram) (code : List CodeItem) (emitted : (n : ℕ) (g 
     pub leads : Leads m w count state
     pub stands : Stands program code s state
 
-  module _ (t0 : Trees) (m : State) (w : List Leaf) (is : List TreeItem) (here : Stands program code t0 m) (first : t0.running.items ≡ item.Root w ∷ is) where
+  module _ (t0 : Trees) (m : State) (w : List Leaf) (is : List TreeItem) (here : Stands program code t0 m) (first : t0.running.items ≡ tree_item.Root w ∷ is) where
     abbrev t : Trees
     t = with_items t0 is
 
@@ -187,7 +187,7 @@ module _ (program : TreeProgram) (code : List CodeItem) (emitted : (n : ℕ) (g 
     label_there : (l : ℕ) → target_of w ≡ Some l → LabelAt program code here.g here.e.words (label_place code (label_name l)) l (behind here.g.items l)
     label_there l target =
         label_at program code here.g here.e.words (label_place code (label_name l)) l (behind here.g.items l)
-        (subst (λ (k : ℕ). StandsAt program code here.g k (label_place code (label_name l)) (item.Label l ∷ behind here.g.items l)) (sym here.active.words)
+        (subst (λ (k : ℕ). StandsAt program code here.g k (label_place code (label_name l)) (tree_item.Label l ∷ behind here.g.items l)) (sym here.active.words)
         (here.active.emitted.labels l (root.selected.target l target)))
 
     jumps : (l : ℕ) (n : State) → exec root.instrs m ≡ record { written = []; ending = GoesAway (label_name l) n } → Stays program.objects here.e here.es t m n → role_of w ≡ Plain
@@ -198,7 +198,7 @@ module _ (program : TreeProgram) (code : List CodeItem) (emitted : (n : ℕ) (g 
         let got = subst (λ (c : Course). Carries m (length root.instrs) c) course carried in
         let k = at_of m n place in
         let lead : Leads m [] (got.0 + 1) k = got_on m k [] got.0 _ None got.1 (ap (λ (p : ℕ). Ok (None, at_of m n p)) (same_place (label_name l))) in
-        let stand : slice_get k.items k.place ≡ Some (items.Label (label_name l)) = ap (λ (x : List CodeItem). slice_get x place) here.items ∙ at.stands in
+        let stand : slice_get k.items k.place ≡ Some (item_kind.Label (label_name l)) = ap (λ (x : List CodeItem). slice_get x place) here.items ∙ at.stands in
         let rest = behind here.g.items l in
         let code_is : t.running.code ≡ here.g.items = here.active.items in
         record {

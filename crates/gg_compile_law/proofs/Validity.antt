@@ -10,7 +10,7 @@ use Rattle.tree_core.specs.declared.tree.Att.{Att}
 use Rattle.tree_core.specs.declared.tree.Att.TheVariants as att
 use Rattle.tree_core.specs.declared.tree.Leaf.{Leaf}
 use Rattle.tree_core.specs.declared.program.TreeItem.{TreeItem}
-use Rattle.tree_core.specs.declared.program.TreeItem.TheVariants as item
+use Rattle.tree_core.specs.declared.program.TreeItem.TheVariants as tree_item
 use Rattle.tree_core.specs.declared.program.TreeFn.{TreeFn}
 use Rattle.tree_core.specs.declared.program.TreeProgram.{TreeProgram}
 use Rattle.tree_core.specs.Attributes.{leaf_fits, is_of_kind, attribute_of, end_leaf}
@@ -110,17 +110,17 @@ IsIn i is = (k : ℕ) × (slice_get is k ≡ Some i)
 
 -- no root calls with more than 255 arguments
 abbrev pub FewIn : List TreeItem → Type 0
-FewIn is = (w : List Leaf) → IsIn (item.Root w) is → (f c : ℕ) → role_of w ≡ Calls f c → c ≤ 255
+FewIn is = (w : List Leaf) → IsIn (tree_item.Root w) is → (f c : ℕ) → role_of w ≡ Calls f c → c ≤ 255
 
 few_behind : (i : TreeItem) (is : List TreeItem) → FewIn (i ∷ is) → FewIn is
 few_behind i is h w at f c e = h w (suc at.0, at.1) f c e
 
 pub in_order_is : (is : List TreeItem) (p : ℕ) (b : Bool) → FewIn is → in_order p b is ≡ true → InOrder p b is
 in_order_is [] p b few h = eqb-true p 0 h
-in_order_is (item.Label l ∷ is) p b few h = let s = plain_if p (λ q c. in_order q c is) h in (s.0, in_order_is is 0 false (few_behind (item.Label l) is few) s.1)
-in_order_is (item.Root [] ∷ is) p b few h = let s = plain_if p (λ q c. in_order q c is) h in (s.0, in_order_is is 0 false (few_behind (item.Root []) is few) s.1)
-in_order_is (item.Root (l ∷ w) ∷ is) p b few h =
-    order_map (role_by l.tok l.att) p b (λ q c. in_order q c is ≡ true) (λ q c. InOrder q c is) (λ q c g. in_order_is is q c (few_behind (item.Root (l ∷ w)) is few) g)
+in_order_is (tree_item.Label l ∷ is) p b few h = let s = plain_if p (λ q c. in_order q c is) h in (s.0, in_order_is is 0 false (few_behind (tree_item.Label l) is few) s.1)
+in_order_is (tree_item.Root [] ∷ is) p b few h = let s = plain_if p (λ q c. in_order q c is) h in (s.0, in_order_is is 0 false (few_behind (tree_item.Root []) is few) s.1)
+in_order_is (tree_item.Root (l ∷ w) ∷ is) p b few h =
+    order_map (role_by l.tok l.att) p b (λ q c. in_order q c is ≡ true) (λ q c. InOrder q c is) (λ q c g. in_order_is is q c (few_behind (tree_item.Root (l ∷ w)) is few) g)
     (bridge l.tok l.att p b (λ q c. in_order q c is) (λ f c e. few (l ∷ w) (0, refl) f c e) h)
 
 -- ---- what a root's first leaf says
@@ -261,18 +261,18 @@ found_by f (x ∷ is) i l (suc k, e) h = behind (f x) (found_by f is i l (k, e) 
     behind None lt = lt
     behind (Some n) lt = omega (arith, lt)
 
-stands_by : (f : TreeItem → Option ℕ) → ((n : ℕ) → f (item.Label n) ≡ Some n) → ((w : List Leaf) → f (item.Root w) ≡ None) → (is : List TreeItem) (l : ℕ) → 0 < times l (filter_map f is)
+stands_by : (f : TreeItem → Option ℕ) → ((n : ℕ) → f (tree_item.Label n) ≡ Some n) → ((w : List Leaf) → f (tree_item.Root w) ≡ None) → (is : List TreeItem) (l : ℕ) → 0 < times l (filter_map f is)
     → stands_in is l ≡ true
 stands_by f label root [] l lt = absurd (omega (arith, lt))
-stands_by f label root (item.Root w ∷ is) l lt = stands_by f label root is l (subst (λ (o : Option ℕ). 0 < times l (cons_option o (filter_map f is))) (root w) lt)
-stands_by f label root (item.Label n ∷ is) l lt = at (n == l) (subst (λ (o : Option ℕ). 0 < times l (cons_option o (filter_map f is))) (label n) lt) (λ h. stands_by f label root is l h)
+stands_by f label root (tree_item.Root w ∷ is) l lt = stands_by f label root is l (subst (λ (o : Option ℕ). 0 < times l (cons_option o (filter_map f is))) (root w) lt)
+stands_by f label root (tree_item.Label n ∷ is) l lt = at (n == l) (subst (λ (o : Option ℕ). 0 < times l (cons_option o (filter_map f is))) (label n) lt) (λ h. stands_by f label root is l h)
   where
     at : (b : Bool) → 0 < cond b 1 0 + times l (filter_map f is) → (0 < times l (filter_map f is) → stands_in is l ≡ true) → (b || stands_in is l) ≡ true
     at true lt rest = refl
     at false lt rest = rest (omega (arith, lt))
 
-target_stands : (is : List TreeItem) → TargetsStandIn is → (w : List Leaf) → IsIn (item.Root w) is → (l : ℕ) → target_of w ≡ Some l → stands_in is l ≡ true
-target_stands is h w at l e = stands_by _ (λ n. refl) (λ w. refl) is l (h l (found_by _ is (item.Root w) l at (target_leaves w l e)))
+target_stands : (is : List TreeItem) → TargetsStandIn is → (w : List Leaf) → IsIn (tree_item.Root w) is → (l : ℕ) → target_of w ≡ Some l → stands_in is l ≡ true
+target_stands is h w at l e = stands_by _ (λ n. refl) (λ w. refl) is l (h l (found_by _ is (tree_item.Root w) l at (target_leaves w l e)))
 
 -- ---- what is said of each function, and of each root
 
@@ -310,8 +310,8 @@ module _ (program : TreeProgram) (v : IsValid program) (n : ℕ) (g : TreeFn) (t
   stand : ItemsStand program.functions (length program.objects) g
   stand = all_at (ItemsStand program.functions (length program.objects)) program.functions n g v.roots there
 
-  root_of : (w : List Leaf) → IsIn (item.Root w) g.items → IsTyped w sort.Stmt × AllPass (leaf_names program.functions (length program.objects) g) w
-  root_of w at = all_at (ItemStands program.functions (length program.objects) g) g.items at.0 (item.Root w) stand at.1
+  root_of : (w : List Leaf) → IsIn (tree_item.Root w) g.items → IsTyped w sort.Stmt × AllPass (leaf_names program.functions (length program.objects) g) w
+  root_of w at = all_at (ItemStands program.functions (length program.objects) g) g.items at.0 (tree_item.Root w) stand at.1
 
   few_in : (w : List Leaf) → IsTyped w sort.Stmt → (f c : ℕ) → role_of w ≡ Calls f c → c ≤ 255
   few_in [] t f c e = absurd cc
@@ -327,7 +327,7 @@ module _ (program : TreeProgram) (v : IsValid program) (n : ℕ) (g : TreeFn) (t
       let known : takes (Some h.args) c ≡ true = sym (ap (λ (o : Option TreeFn). takes (args_or o (service_args (f - length program.functions))) c) is) ∙ taken in
       sym (eqb-true h.args c known)
 
-  pub root_facts : (w : List Leaf) → IsIn (item.Root w) g.items → RootFacts program g w
+  pub root_facts : (w : List Leaf) → IsIn (tree_item.Root w) g.items → RootFacts program g w
   root_facts w at = record {
     few = few_in w (root_of w at).0;
     call = call_in w (root_of w at).1;

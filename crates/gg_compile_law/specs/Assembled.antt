@@ -4,10 +4,10 @@ use Rattle.vax_core.specs.declared.code.Code.{Code}
 use Rattle.vax_core.specs.declared.code.CodeItem.{CodeItem}
 use Rattle.vax_machine.specs.Loading.{Loads}
 use Rattle.vax_core.specs.declared.code.Instr.{Instr}
-use Rattle.vax_core.specs.declared.code.CodeItem.TheVariants as items
+use Rattle.vax_core.specs.declared.code.CodeItem.TheVariants as item_kind
 use Rattle.tree_core.specs.declared.tree.Leaf.{Leaf}
 use Rattle.tree_core.specs.declared.program.TreeItem.{TreeItem}
-use Rattle.tree_core.specs.declared.program.TreeItem.TheVariants as item
+use Rattle.tree_core.specs.declared.program.TreeItem.TheVariants as tree_item
 use Rattle.tree_core.specs.Valid.{IsValid}
 use Rattle.tree_core.specs.declared.program.TreeFn.{TreeFn}
 use Rattle.tree_core.specs.declared.program.TreeProgram.{TreeProgram}
@@ -28,11 +28,11 @@ module _ (program : TreeProgram) where
   pub data IsTreeCode (g : TreeFn) (words : ℕ) : List TreeItem → List CodeItem → Type 0 where
     nothing : IsTreeCode g words [] []
     label : (l : ℕ) (is : List TreeItem) (code : List CodeItem) → IsTreeCode g words is code
-        → IsTreeCode g words (item.Label l ∷ is) (items.Label (label_name l) ∷ code)
+        → IsTreeCode g words (tree_item.Label l ∷ is) (item_kind.Label (label_name l) ∷ code)
     root : (w : List Leaf) (is : List TreeItem) (instrs : List Instr) (code : List CodeItem)
         → HasEffect program g.locals g.args words w instrs
         → IsTreeCode g words is code
-        → IsTreeCode g words (item.Root w ∷ is) (code_items instrs ++ code)
+        → IsTreeCode g words (tree_item.Root w ∷ is) (code_items instrs ++ code)
 
   -- items are a function's frame round the code of its items
   pub record IsFunctionCode (g : TreeFn) (part : List CodeItem) : Type 0 where

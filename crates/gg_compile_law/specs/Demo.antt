@@ -9,7 +9,7 @@ use Rattle.vax_machine.specs.Labels.{putchar_name}
 use Rattle.vax_machine.specs.Running.{run}
 use Rattle.tree_core.specs.declared.token.Tok.TheVariants as tok
 use Rattle.tree_core.specs.declared.tree.Att.TheVariants as att
-use Rattle.tree_core.specs.declared.program.TreeItem.TheVariants as item
+use Rattle.tree_core.specs.declared.program.TreeItem.TheVariants as tree_item
 use Rattle.tree_core.specs.declared.program.TreeFn.{TreeFn}
 use Rattle.tree_core.specs.declared.program.TreeProgram.{TreeProgram}
 use Rattle.tree_core.specs.Attributes.{end_leaf}
@@ -26,9 +26,10 @@ demo_main = record {
   args = 0;
   locals = 0;
   items =
-      item.Root (record { tok = tok.Push; att = att.Nothing } ∷ (record { tok = tok.Const; att = att.Number 72 } ∷ (end_leaf ∷ [])))
-      ∷ (item.Root (record { tok = tok.Call; att = att.Callee 1 1 } ∷ (end_leaf ∷ []))
-      ∷ (item.Root (record { tok = tok.Ret; att = att.Nothing } ∷ (record { tok = tok.Zero; att = att.Number 0 } ∷ (end_leaf ∷ []))) ∷ []));
+      tree_item.Root (record { tok = tok.Push; att = att.Nothing } ∷ (record { tok = tok.Const; att = att.Number 72 } ∷ (end_leaf ∷ [])))
+      ∷ (tree_item.Root (record { tok = tok.Call; att = att.Callee 1 1 } ∷ (end_leaf ∷ []))
+      ∷ (tree_item.Root (record { tok = tok.Ret; att = att.Nothing } ∷ (record { tok = tok.Zero; att = att.Number 0 } ∷
+      (end_leaf ∷ []))) ∷ []));
 }
 
 abbrev pub demo : TreeProgram

@@ -3,7 +3,7 @@ use Rattle.std.specs.Prelude.{◌≡◌, ◌^◌, ◌<◌, List, [], ◌∷◌, 
 use Rattle.vax_core.specs.declared.code.CodeItem.{CodeItem}
 use Rattle.vax_machine.specs.Labels.{main_name, has_label, double_label}
 use Rattle.tree_core.specs.declared.program.TreeItem.{TreeItem}
-use Rattle.tree_core.specs.declared.program.TreeItem.TheVariants as item
+use Rattle.tree_core.specs.declared.program.TreeItem.TheVariants as tree_item
 use Rattle.tree_core.specs.declared.program.TreeFn.{TreeFn}
 use Rattle.tree_core.specs.declared.program.TreeProgram.{TreeProgram}
 use Rattle.tree_core.specs.Valid.{IsValid}
@@ -12,8 +12,8 @@ use Rattle.gg_compile_law.specs.Assembled.{AreFunctions}
 -- labels are numbers of 64 bits
 abbrev pub AreSmall : List TreeItem → Type 0
 AreSmall [] = Unit {0}
-AreSmall (item.Label l ∷ is) = (l < 2 ^ 64) × AreSmall is
-AreSmall (item.Root w ∷ is) = AreSmall is
+AreSmall (tree_item.Label l ∷ is) = (l < 2 ^ 64) × AreSmall is
+AreSmall (tree_item.Root w ∷ is) = AreSmall is
 
 abbrev pub HaveSmall : List TreeFn → Type 0
 HaveSmall [] = Unit {0}

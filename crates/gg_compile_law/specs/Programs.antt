@@ -3,13 +3,13 @@ use Rattle.std.specs.Prelude.{◌≡◌, ℕ, ◌+◌, ◌^◌, ◌<◌, ◌≤�
 use Rattle.std.specs.Prelude.{slice_index, Some, None, Bool, true, false}
 use Rattle.vax_core.specs.declared.code.Instr.{Instr}
 use Rattle.vax_core.specs.declared.code.CodeItem.{CodeItem}
-use Rattle.vax_core.specs.declared.code.CodeItem.TheVariants as items
+use Rattle.vax_core.specs.declared.code.CodeItem.TheVariants as item_kind
 use Rattle.vax_machine_live.specs.declared.frame.Frame.{Frame}
 use Rattle.vax_machine.specs.State.{State}
 use Rattle.vax_machine.specs.Labels.{label_place}
 use Rattle.tree_core.specs.declared.tree.Leaf.{Leaf}
 use Rattle.tree_core.specs.declared.program.TreeItem.{TreeItem}
-use Rattle.tree_core.specs.declared.program.TreeItem.TheVariants as item
+use Rattle.tree_core.specs.declared.program.TreeItem.TheVariants as tree_item
 use Rattle.tree_core.specs.declared.program.TreeFn.{TreeFn}
 use Rattle.tree_core.specs.declared.program.TreeProgram.{TreeProgram}
 use Rattle.gg_base.specs.Follows.{Follows}
@@ -37,8 +37,8 @@ HasItems code place (x ∷ xs) = (slice_get code place ≡ Some x) × HasItems c
 
 -- a label stands among a function's items
 abbrev pub is_label_of : TreeItem → ℕ → Bool
-is_label_of (item.Label l) n = l == n
-is_label_of (item.Root w) n = false
+is_label_of (tree_item.Label l) n = l == n
+is_label_of (tree_item.Root w) n = false
 
 abbrev pub stands_in : List TreeItem → ℕ → Bool
 stands_in [] n = false
@@ -55,8 +55,8 @@ InOrderBy Plain pushed is_behind rest = (pushed ≡ 0) × rest 0 false
 
 abbrev pub InOrder : ℕ → Bool → List TreeItem → Type 0
 InOrder pushed is_behind [] = pushed ≡ 0
-InOrder pushed is_behind (item.Label l ∷ is) = (pushed ≡ 0) × InOrder 0 false is
-InOrder pushed is_behind (item.Root w ∷ is) = InOrderBy (role_of w) pushed is_behind (λ p b. InOrder p b is)
+InOrder pushed is_behind (tree_item.Label l ∷ is) = (pushed ≡ 0) × InOrder 0 false is
+InOrder pushed is_behind (tree_item.Root w ∷ is) = InOrderBy (role_of w) pushed is_behind (λ p b. InOrder p b is)
 
 module _ (program : TreeProgram) where
   -- a root of a function has instructions with its effect, a label to which it goes stands in the function, and it
@@ -71,10 +71,10 @@ module _ (program : TreeProgram) where
   pub data IsBody (g : TreeFn) (words : ℕ) : List TreeItem → List CodeItem → Type 0 where
     nothing : IsBody g words [] []
     label : (l : ℕ) (is : List TreeItem) (code : List CodeItem) → IsBody g words is code
-        → IsBody g words (item.Label l ∷ is) (items.Label (label_name l) ∷ code)
+        → IsBody g words (tree_item.Label l ∷ is) (item_kind.Label (label_name l) ∷ code)
     root : (w : List Leaf) (is : List TreeItem) (instrs : List Instr) (code : List CodeItem) → IsSelected g words w instrs
         → IsBody g words is code
-        → IsBody g words (item.Root w ∷ is) (code_items instrs ++ code)
+        → IsBody g words (tree_item.Root w ∷ is) (code_items instrs ++ code)
 
   module _ (code : List CodeItem) where
     -- from a place on stands the code of the rest of a function
@@ -88,7 +88,7 @@ module _ (program : TreeProgram) where
       pub frame : HasFrame code (function_label g.name) g.locals
       pub begins : StandsAt g frame.words (frame.entry + 1 + length (room_code frame.words)) g.items
       pub labels : (l : ℕ) → stands_in g.items l ≡ true → StandsAt g frame.words (label_place code (label_name l))
-          (item.Label l ∷ behind g.items l)
+          (tree_item.Label l ∷ behind g.items l)
       pub order : InOrder 0 false g.items
 
     -- A call of the function goes on at a place of the code.

@@ -6,7 +6,7 @@ use Rattle.std.proofs.lemmas.Bool.{le-leb, lt-ltb}
 use Rattle.std.proofs.lemmas.Bool.Decides.{nat_tests}
 use Rattle.tree_core.specs.declared.tree.Leaf.{Leaf}
 use Rattle.tree_core.specs.declared.program.TreeItem.{TreeItem}
-use Rattle.tree_core.specs.declared.program.TreeItem.TheVariants as item
+use Rattle.tree_core.specs.declared.program.TreeItem.TheVariants as tree_item
 use Rattle.tree_core.specs.declared.program.TreeFn.{TreeFn}
 use Rattle.tree_core.specs.declared.program.TreeProgram.{TreeProgram}
 use Rattle.tree_core.specs.Valid.{IsValid}
@@ -64,7 +64,7 @@ name_at (f ∷ fs) (suc n) g h e = name_at fs n g h.1 e
 module _ (q : TreeProgram) (valid : IsValid q) (limits : IsWithinLimits q) (can : CanWrite q) (d : Content) (fit : IsFit vax d) where
   module _ (n : ℕ) (g : TreeFn) (there : slice_get q.functions n ≡ Some g) where
     abbrev Among : List TreeItem → Type 0
-    Among is = (w : List Leaf) → IsIn (item.Root w) is → IsIn (item.Root w) g.items
+    Among is = (w : List Leaf) → IsIn (tree_item.Root w) is → IsIn (tree_item.Root w) g.items
 
     behind : (i : TreeItem) (is : List TreeItem) → Among (i ∷ is) → Among is
     behind i is sub w at = sub w (suc at.0, at.1)
@@ -77,12 +77,12 @@ module _ (q : TreeProgram) (valid : IsValid q) (limits : IsWithinLimits q) (can 
     body_written : (used most : ℕ) (is : List TreeItem) (body : List CodeItem) → Among is → AreSmall is → used ≤ 1024 → AreSelected vax d q g.locals used is body most → Written body most
     body_written used most is body sub small le (nothing u) = record { fine = tt; low = le }
     body_written used most is body sub small le (label u m l js rest h) =
-        let k = body_written u most js rest (behind (item.Label l) js sub) small.1 le h in
+        let k = body_written u most js rest (behind (tree_item.Label l) js sub) small.1 le h in
         record { fine = (label_spelled l small.0, k.fine); low = k.low }
     body_written used most is body sub small le (tree u words m w js instrs rest one h) =
         let at = sub w (0, refl) in
         let few = words_low q valid limits can d fit n g there w at instrs words one in
-        let k = body_written (larger_of u words) most js rest (behind (item.Root w) js sub) small (larger_low u words le few) h in
+        let k = body_written (larger_of u words) most js rest (behind (tree_item.Root w) js sub) small (larger_low u words le few) h in
         record { fine = all_append Fine (code_items instrs) rest (instrs_fine instrs (instrs_valid q valid limits can d fit n g there w at instrs words one)) k.fine; low = k.low }
 
     function_fine : (part : List CodeItem) → IsSelectedFunction vax d q g part → All Fine part

@@ -3,7 +3,7 @@ use Rattle.std.proofs.Common.{◌≡◌, ℕ, zero, suc, ◌+◌, ◌≤◌, Lis
 use Rattle.std.specs.Prelude.{take, slice_get}
 use Rattle.tree_core.specs.declared.token.Sort.TheVariants as sort
 use Rattle.tree_core.specs.declared.tree.Leaf.{Leaf}
-use Rattle.tree_core.specs.declared.program.TreeItem.TheVariants as item
+use Rattle.tree_core.specs.declared.program.TreeItem.TheVariants as tree_item
 use Rattle.tree_core.specs.declared.program.TreeFn.{TreeFn}
 use Rattle.tree_core.specs.declared.program.TreeProgram.{TreeProgram}
 use Rattle.tree_core.specs.Trees.{IsTyped}
@@ -30,9 +30,9 @@ forks_before (suc n) [] = omega arith
 forks_before (suc n) (l ∷ w) = let le = forks_before n w in omega (arith, le)
 
 -- a tree of a function of the program
-module _ (q : TreeProgram) (ok : HasReadyTrees q) (f n : ℕ) (g : TreeFn) (w : List Leaf) (there : slice_get q.functions f ≡ Some g) (at : slice_get g.items n ≡ Some (item.Root w)) where
-  stands : ItemStands q.functions (length q.objects) g (item.Root w)
-  stands = all_at (ItemStands q.functions (length q.objects) g) g.items n (item.Root w) (all_at (ItemsStand q.functions (length q.objects)) q.functions f g ok.valid.roots there) at
+module _ (q : TreeProgram) (ok : HasReadyTrees q) (f n : ℕ) (g : TreeFn) (w : List Leaf) (there : slice_get q.functions f ≡ Some g) (at : slice_get g.items n ≡ Some (tree_item.Root w)) where
+  stands : ItemStands q.functions (length q.objects) g (tree_item.Root w)
+  stands = all_at (ItemStands q.functions (length q.objects) g) g.items n (tree_item.Root w) (all_at (ItemsStand q.functions (length q.objects)) q.functions f g ok.valid.roots there) at
 
   low : g.locals ≤ 1024
   low = let room = ok.rooms f n g w there at in omega (arith, room)

@@ -3,7 +3,7 @@ use Rattle.std.proofs.Common.{◌≡◌, ◌⊎◌, inl, inr, ℕ, ◌+◌, ◌<
 use Rattle.std.specs.Prelude.{slice_get}
 use Rattle.std.proofs.lemmas.Option.{slice_get_cases, slice_get_within}
 use Rattle.tree_core.specs.declared.tree.Leaf.{Leaf}
-use Rattle.tree_core.specs.declared.program.TreeItem.TheVariants as item
+use Rattle.tree_core.specs.declared.program.TreeItem.TheVariants as tree_item
 use Rattle.tree_core.specs.declared.program.TreeFn.{TreeFn}
 use Rattle.tree_core_forks.specs.Forks.{forks}
 use Rattle.c_program.specs.Need.{need_of}
@@ -13,7 +13,7 @@ use Rattle.c_lower_bounds.specs.Claim.{FitsFrame}
 use Rattle.c_lower_bounds.proofs.Whole.{each_function_fits, functions_stay}
 use Rattle.gg_compile_laws.specs.Rooms.{LoweredProgramsHaveRooms}
 
-fits_room : (need : ℕ) (g : TreeFn) → FitsFrame need g → need ≤ 1024 → (n : ℕ) (w : List Leaf) → slice_get g.items n ≡ Some (item.Root w) → g.locals + (forks w + 1) ≤ 1024
+fits_room : (need : ℕ) (g : TreeFn) → FitsFrame need g → need ≤ 1024 → (n : ℕ) (w : List Leaf) → slice_get g.items n ≡ Some (tree_item.Root w) → g.locals + (forks w + 1) ≤ 1024
 fits_room need g h few n w at = let le = h.roots n w at in omega (arith, le, few)
 
 pub lowered_programs_have_rooms : LoweredProgramsHaveRooms

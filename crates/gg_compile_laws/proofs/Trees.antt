@@ -4,7 +4,7 @@ use Rattle.std.specs.Prelude.{slice_get}
 use Rattle.std.specs.List.{AllByRecursion as All}
 use Rattle.tree_core.specs.declared.token.Sort.TheVariants as sort
 use Rattle.tree_core.specs.declared.tree.Leaf.{Leaf}
-use Rattle.tree_core.specs.declared.program.TreeItem.TheVariants as item
+use Rattle.tree_core.specs.declared.program.TreeItem.TheVariants as tree_item
 use Rattle.tree_core.specs.declared.program.TreeFn.{TreeFn}
 use Rattle.tree_core.specs.declared.program.TreeProgram.{TreeProgram}
 use Rattle.tree_core.specs.Trees.{IsTyped}
@@ -36,10 +36,10 @@ lines_pass q d can = record {
 }
 
 module _ (q : TreeProgram) (valid : IsValid q) (limits : IsWithinLimits q) (can : CanWrite q) (d : Content) (fit : IsFit vax d) (n : ℕ) (g : TreeFn)
-    (there : slice_get q.functions n ≡ Some g) (w : List Leaf) (at : IsIn (item.Root w) g.items) where
-  stands : ItemStands q.functions (length q.objects) g (item.Root w)
+    (there : slice_get q.functions n ≡ Some g) (w : List Leaf) (at : IsIn (tree_item.Root w) g.items) where
+  stands : ItemStands q.functions (length q.objects) g (tree_item.Root w)
   stands =
-      all_at (ItemStands q.functions (length q.objects) g) g.items at.0 (item.Root w) (all_at (ItemsStand q.functions (length q.objects)) q.functions n g valid.roots there) at.1
+      all_at (ItemStands q.functions (length q.objects) g) g.items at.0 (tree_item.Root w) (all_at (ItemsStand q.functions (length q.objects)) q.functions n g valid.roots there) at.1
 
   ready : IsReady vax q d g.locals (tree_of w)
   ready = record {

@@ -2,7 +2,7 @@
 use Rattle.std.specs.Prelude.{◌≡◌, ℕ, List, Some, slice_get}
 use Rattle.std.specs.List.{AllByRecursion}
 use Rattle.tree_core.specs.declared.tree.Leaf.{Leaf}
-use Rattle.tree_core.specs.declared.program.TreeItem.TheVariants as item
+use Rattle.tree_core.specs.declared.program.TreeItem.TheVariants as tree_item
 use Rattle.tree_core.specs.declared.program.TreeFn.{TreeFn}
 use Rattle.tree_core.specs.declared.program.TreeProgram.{TreeProgram}
 use Rattle.tree_core.specs.Valid.{IsValid}
@@ -36,5 +36,5 @@ TreesGo = (q : TreeProgram) (d : Content) → HasReadyTrees q → IsFit vax d �
 abbrev pub EachTreeHasCode : Type 0
 EachTreeHasCode =
     (q : TreeProgram) (t : TableView) → HasReadyTrees q → IsFit vax t.content → IsNumbered t → NeverStops t.content
-    → (f n : ℕ) (g : TreeFn) (w : List Leaf) → slice_get q.functions f ≡ Some g → slice_get g.items n ≡ Some (item.Root w)
+    → (f n : ℕ) (g : TreeFn) (w : List Leaf) → slice_get q.functions f ≡ Some g → slice_get g.items n ≡ Some (tree_item.Root w)
     → HasCode vax q t.content g.locals (tree_of w)

@@ -1,7 +1,7 @@
 -- Programs whose trees have room in their functions' frames.
 use Rattle.std.specs.Prelude.{◌≡◌, ℕ, ◌+◌, ◌≤◌, List, Some, slice_get}
 use Rattle.tree_core.specs.declared.tree.Leaf.{Leaf}
-use Rattle.tree_core.specs.declared.program.TreeItem.TheVariants as item
+use Rattle.tree_core.specs.declared.program.TreeItem.TheVariants as tree_item
 use Rattle.tree_core.specs.declared.program.TreeFn.{TreeFn}
 use Rattle.tree_core.specs.declared.program.TreeProgram.{TreeProgram}
 use Rattle.tree_core_forks.specs.Forks.{forks}
@@ -12,7 +12,7 @@ use Rattle.c_lower_scheme.specs.Programs.{lowered}
 -- For each tree of each function, the function's locals and, behind them, one word more and one for each token with two kids lie among the
 -- 1,024 words that operands name.
 abbrev pub HasRooms : TreeProgram → Type 0
-HasRooms q = (f n : ℕ) (g : TreeFn) (w : List Leaf) → slice_get q.functions f ≡ Some g → slice_get g.items n ≡ Some (item.Root w)
+HasRooms q = (f n : ℕ) (g : TreeFn) (w : List Leaf) → slice_get q.functions f ≡ Some g → slice_get g.items n ≡ Some (tree_item.Root w)
     → g.locals + (forks w + 1) ≤ 1024
 
 -- Where no function of a C program needs more than 1,024 words of its frame, its trees have room.

@@ -19,7 +19,7 @@ use Rattle.vax_machine.specs.Area.{has_area_label}
 use Rattle.vax_machine.specs.Labels.{name_in, undefined_name, has_label}
 use Rattle.vax_templates.specs.declared.form.Number.{Number}
 use Rattle.vax_templates.specs.declared.form.Number.TheVariants as number
-use Rattle.vax_templates.specs.declared.form.Base.TheVariants as form
+use Rattle.vax_templates.specs.declared.form.Base.TheVariants as base
 use Rattle.vax_templates.specs.declared.form.Base.{Base as FormBase}
 use Rattle.vax_templates.specs.declared.form.Form.{Form}
 use Rattle.vax_templates.specs.Instructions.{shape_of_pieces}
@@ -166,15 +166,15 @@ module _ (q : TreeProgram) (area : List AreaItem) (code : List CodeItem) where
 
     base_named : (holes : List (Attr Operand)) (z : Attr Operand) (b : FormBase) → All Good holes → Good z → Named (filled_base q holes z b).base
     unfolding filled_base
-    base_named holes z form.RegisterZero h k = refl
-    base_named holes z (form.Hole i) h k = operand_named (attr_at holes z i) (at_good holes z i h k)
-    base_named holes z (form.Immediate n) h k = number_named holes z n
-    base_named holes z (form.Negative i) h k = refl
-    base_named holes z (form.RegisterDeferred i) h k = refl
-    base_named holes z (form.Displacement n i) h k = number_named holes z n
-    base_named holes z (form.DisplacementDeferred n i) h k = number_named holes z n
-    base_named holes z (form.Absolute n) h k = refl
-    base_named holes z (form.Deferred i) h k = held_named (attr_at holes z i)
+    base_named holes z base.RegisterZero h k = refl
+    base_named holes z (base.Hole i) h k = operand_named (attr_at holes z i) (at_good holes z i h k)
+    base_named holes z (base.Immediate n) h k = number_named holes z n
+    base_named holes z (base.Negative i) h k = refl
+    base_named holes z (base.RegisterDeferred i) h k = refl
+    base_named holes z (base.Displacement n i) h k = number_named holes z n
+    base_named holes z (base.DisplacementDeferred n i) h k = number_named holes z n
+    base_named holes z (base.Absolute n) h k = refl
+    base_named holes z (base.Deferred i) h k = held_named (attr_at holes z i)
 
     index_named : (holes : List (Attr Operand)) (z : Attr Operand) (i : Option ℕ) (o : Operand) → Named o.base → Named (with_index holes z i o).base
     index_named holes z None o h = h

@@ -10,7 +10,7 @@ use Rattle.tree_core.specs.declared.program.TreeFn.{TreeFn}
 use Rattle.tree_core.specs.declared.program.TreeProgram.{TreeProgram}
 use Rattle.vax_core.specs.declared.code.AreaItem.{AreaItem}
 use Rattle.vax_core.specs.declared.code.CodeItem.{CodeItem}
-use Rattle.vax_core.specs.declared.code.CodeItem.TheVariants as items
+use Rattle.vax_core.specs.declared.code.CodeItem.TheVariants as item_kind
 use Rattle.vax_machine.specs.Area.{is_area_label, has_area_label}
 use Rattle.vax_machine.specs.Labels.{is_label, has_label}
 use Rattle.vax_frames.specs.Frames.{function_label, code_items, room_code, end_code}
@@ -64,7 +64,7 @@ module _ (q : TreeProgram) where
   tree_label g words l is body (label k js code h) e = by (k == l) refl e (λ f. tree_label g words l js code h f)
     where
       by : (b : Bool) → (k == l) ≡ b → (b || stands_in js l) ≡ true → (stands_in js l ≡ true → has_label code (label_name l) ≡ true)
-          → has_label (items.Label (label_name k) ∷ code) (label_name l) ≡ true
+          → has_label (item_kind.Label (label_name k) ∷ code) (label_name l) ≡ true
       by true eq f go = or_left (bytes_eq (label_name k) (label_name l)) (has_label code (label_name l)) ((bytes_eq-Decides (label_name k) (label_name l)).1 (ap label_name (eqb-true k l eq)))
       by false eq f go = or_right (bytes_eq (label_name k) (label_name l)) (has_label code (label_name l)) (go f)
 

@@ -3,7 +3,7 @@ use Rattle.std.proofs.Common.{◌≡◌, ℕ, List, inl, inr, sym, subst}
 use Rattle.md_reader.specs.State.{Content}
 use Rattle.c_program.specs.Programs.{AProgram}
 use Rattle.lr_checked.specs.declared.checking.CheckFault.{CheckFault}
-use Rattle.lr_checked.specs.declared.checking.CheckFault.TheVariants as checking
+use Rattle.lr_checked.specs.declared.checking.CheckFault.TheVariants as check_fault
 use Rattle.sel_parse.specs.Shown.{Refusal, PoolSmall, Template, Unshown}
 use Rattle.cmd_session.specs.declared.status.Status.{Status}
 use Rattle.cmd_session.specs.declared.status.Status.TheVariants as statuses
@@ -47,10 +47,10 @@ module _ (result : Status) (report : Change) where
   of_build d (StarvedBuild s) = starved s
 
   of_stop : (fault : CheckFault) → TellsStop fault result report → IsRefusal result
-  of_stop checking.NoMemory s = starved s
-  of_stop (checking.Blocks nodes) t = told statuses.Blocks _ t tt
-  of_stop (checking.Loops nodes) t = told statuses.Loops _ t tt
-  of_stop checking.CheckFull t = told statuses.Full _ t tt
+  of_stop check_fault.NoMemory s = starved s
+  of_stop (check_fault.Blocks nodes) t = told statuses.Blocks _ t tt
+  of_stop (check_fault.Loops nodes) t = told statuses.Loops _ t tt
+  of_stop check_fault.CheckFull t = told statuses.Full _ t tt
 
   of_refusal : (r : Refusal) → IsRefusal (refusal_status r)
   of_refusal (PoolSmall rule need) = tt

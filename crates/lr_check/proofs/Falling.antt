@@ -7,7 +7,7 @@ use Rattle.std.proofs.lemmas.List.Sums.{sum_by-set, sum_by-cons}
 use Rattle.std.proofs.lemmas.Bool.{ltb-true, ltb-false, eqb-false, or_parts}
 use Rattle.std.proofs.lemmas.Option.{slice_get_within}
 use Rattle.md_reader.specs.declared.types.Rule.{Rule}
-use Rattle.md_reader.specs.declared.types.Sym.TheVariants as symbol
+use Rattle.md_reader.specs.declared.types.Sym.TheVariants as grammar_symbol
 use Rattle.lr_tables.specs.declared.types.Choice.{Choice}
 use Rattle.lr_tables.specs.declared.types.Choice.TheVariants as choice
 use Rattle.lr_tables.specs.View.{TableView}
@@ -193,7 +193,8 @@ module _ (total : ℕ) (c : Config) where
           let p = place_is (length stack) (length r.right) i f in
           let sum = p.0 in
           let some = p.1 in
-          placed_falls i (take i stack) r (entry_at stack i) (target_at t (top_of (take i stack)) (symbol.Class r.left)) (length-take-le i stack (omega (arith, sum))) (sum ∙ l) some (g.lefts n r e)
+          placed_falls i (take i stack) r (entry_at stack i) (target_at t (top_of (take i stack)) (grammar_symbol.Class r.left)) (length-take-le i stack (omega (arith, sum))) (sum ∙ l)
+          some (g.lefts n r e)
 
       by : (o : Option Rule) → slice_get t.content.rules n ≡ o → Falls total c (reduced t c stack o)
       by None e = blocks_falls total c stack

@@ -5,7 +5,7 @@ use Rattle.std.proofs.lemmas.List.{length-map, length-replicate, drop-map}
 use Rattle.tree_core.specs.declared.token.Tok.{Tok}
 use Rattle.md_reader.specs.declared.types.Rule.{Rule}
 use Rattle.md_reader.specs.declared.types.Sym.{Sym}
-use Rattle.md_reader.specs.declared.types.Sym.TheVariants as symbol
+use Rattle.md_reader.specs.declared.types.Sym.TheVariants as grammar_symbol
 use Rattle.md_reader.specs.Valid.{IsValid}
 use Rattle.lr_tables.specs.declared.types.Choice.{Choice}
 use Rattle.lr_tables.specs.declared.types.Choice.TheVariants as choice
@@ -51,7 +51,7 @@ module _ (t : TableView) (nodes : List Node) (order : List ℕ) (valid : IsValid
   candidates_at : (a : List Sym) (q : ℕ) (k : Tok) → Leads t a q → Candidates t.content.rules (stmt_of t.content.classes) t a k (actions_at t q k)
   candidates_at a q k l = candidates t.content.rules (stmt_of t.content.classes) (length t.content.classes) (is_grammar t.content valid) t.content t.rows numbered a q k l
 
-  goes_at : (a : List Sym) (q n : ℕ) → Leads t a q → Goes t.content.rules (stmt_of t.content.classes) t a n (target_at t q (symbol.Class n))
+  goes_at : (a : List Sym) (q n : ℕ) → Leads t a q → Goes t.content.rules (stmt_of t.content.classes) t a n (target_at t q (grammar_symbol.Class n))
   goes_at a q n l = goes t.content.rules (stmt_of t.content.classes) (length t.content.classes) (is_grammar t.content valid) t.content t.rows numbered a q n l
 
   module _ (c : Config) (before : List (List Sym)) (ws : List Token) (s : List Part) (a : Agrees t nodes order before ws s c) where
@@ -71,11 +71,11 @@ module _ (t : TableView) (nodes : List Node) (order : List ℕ) (valid : IsValid
         let place = length stack - length r.right in
         let below : Stands t nodes (take place stack) (drop (length r.right) s') = stands_below t nodes h (length r.right) (omega (arith, fits, size_s')) in
         let under : symbols (drop (length r.right) s') ≡ drop (length r.right) (symbols s) = sym (drop-map (λ (p : Part). p.symbol) (length r.right) s') ∙ ap (drop (length r.right)) same in
-        let stands_before : StandsBefore t.content.rules (stmt_of t.content.classes) (symbols (drop (length r.right) s')) (symbol.Class r.left) =
-        subst (λ (x : List Sym). StandsBefore t.content.rules (stmt_of t.content.classes) x (symbol.Class r.left)) (sym under)
+        let stands_before : StandsBefore t.content.rules (stmt_of t.content.classes) (symbols (drop (length r.right) s')) (grammar_symbol.Class r.left) =
+        subst (λ (x : List Sym). StandsBefore t.content.rules (stmt_of t.content.classes) x (grammar_symbol.Class r.left)) (sym under)
         (opened t.content.rules (stmt_of t.content.classes) covered.below n r refl m.there) in
-        let to : (q : ℕ) × (target_at t (top_of (take place stack)) (symbol.Class r.left) ≡ Some q) × Leads t (symbol.Class r.left ∷ symbols (drop (length r.right) s')) q =
-        goes_some t.content.rules (stmt_of t.content.classes) t (symbols (drop (length r.right) s')) r.left (target_at t (top_of (take place stack)) (symbol.Class r.left))
+        let to : (q : ℕ) × (target_at t (top_of (take place stack)) (grammar_symbol.Class r.left) ≡ Some q) × Leads t (grammar_symbol.Class r.left ∷ symbols (drop (length r.right) s')) q =
+        goes_some t.content.rules (stmt_of t.content.classes) t (symbols (drop (length r.right) s')) r.left (target_at t (top_of (take place stack)) (grammar_symbol.Class r.left))
         (goes_at (symbols (drop (length r.right) s')) (top_of (take place stack)) r.left (stands_leads t nodes below)) stands_before in
         let answers = stands_answers t nodes h (length r.right - 1) place (omega (arith, some, fits, size_s')) (omega (arith, some, fits)) in
         let e = entry_at stack place in
@@ -86,10 +86,10 @@ module _ (t : TableView) (nodes : List Node) (order : List ℕ) (valid : IsValid
         (subst (λ (x : Option ℕ). Meant t nodes order c.at before ws s (reduced_by t c stack r x)) (sym (place_there (length stack) (length r.right) some fits))
         (subst (λ (x : Option ℕ). Meant t nodes order c.at before ws s (placed c (take place stack) r e x)) (sym to.1)
         (class_meant t nodes order c before ws s a entries (parse.reduced s' r) (length r.right) r.left (λ o x. parse.reduces r a.fresh red m.there x) stands
-        (ap (λ (x : List Sym). symbol.Class r.left ∷ x) under) some within lt)))
+        (ap (λ (x : List Sym). grammar_symbol.Class r.left ∷ x) under) some within lt)))
 
     -- nothing is shifted
-    reduce_meant : (ns : List ℕ) → (StandsBefore t.content.rules (stmt_of t.content.classes) (symbols s) (symbol.Tok (coming ws)) → ⊥)
+    reduce_meant : (ns : List ℕ) → (StandsBefore t.content.rules (stmt_of t.content.classes) (symbols s) (grammar_symbol.Tok (coming ws)) → ⊥)
         → AreReductions t.content.rules (stmt_of t.content.classes) (symbols s) (coming ws) ns →
         (out : Taken) → Chose t nodes ns s out → Meant t nodes order c.at before ws s (after_choice t (slice_get order c.at) c out.stack out.choice)
     reduce_meant ns none are out x = subst (λ (o : Option Choice). Meant t nodes order c.at before ws s (after_choice t (slice_get order c.at) c out.stack o)) (sym x.is) (by x.taken refl)
@@ -116,12 +116,12 @@ module _ (t : TableView) (nodes : List Node) (order : List ℕ) (valid : IsValid
         Meant t nodes order c.at before ws s (after_choice t (slice_get order c.at) c (chosen t.content.rules nodes cs c.stack).stack (chosen t.content.rules nodes cs c.stack).choice)
     unfolding chosen
     choice_meant cs (accepts b e) = ended (parse.accepts a.fresh (statement_alone t.content.rules (stmt_of t.content.classes) (length t.content.classes) (is_grammar t.content valid)
-        (symbols s) (subst (λ (k : Tok). StandsBefore t.content.rules (stmt_of t.content.classes) (symbols s) (symbol.Tok k)) e b)) (token_same ∙ e))
+        (symbols s) (subst (λ (k : Tok). StandsBefore t.content.rules (stmt_of t.content.classes) (symbols s) (grammar_symbol.Tok k)) e b)) (token_same ∙ e))
     choice_meant cs (shifts {q = q} b ne l) = shift_meant t nodes order c before ws s a q (slice_get order c.at) refl b ne l
     choice_meant cs (reduces {cs = ds} ns none are e) =
         let token = token_same in
-        let no_shift : StandsBefore t.content.rules (stmt_of t.content.classes) (symbols s) (symbol.Tok (coming ws))
-        → ⊥ = subst (λ (k : Tok). StandsBefore t.content.rules (stmt_of t.content.classes) (symbols s) (symbol.Tok k) → ⊥) (sym token) none in
+        let no_shift : StandsBefore t.content.rules (stmt_of t.content.classes) (symbols s) (grammar_symbol.Tok (coming ws))
+        → ⊥ = subst (λ (k : Tok). StandsBefore t.content.rules (stmt_of t.content.classes) (symbols s) (grammar_symbol.Tok k) → ⊥) (sym token) none in
         let there : AreReductions t.content.rules (stmt_of t.content.classes) (symbols s) (coming ws) ns =
         subst (λ (k : Tok). AreReductions t.content.rules (stmt_of t.content.classes) (symbols s) k ns) (sym token) are in
         reduce_meant ns no_shift there (chosen t.content.rules nodes ds c.stack)

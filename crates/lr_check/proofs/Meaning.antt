@@ -7,7 +7,7 @@ use Rattle.std.proofs.lemmas.Bool.{ltb-true, ltb-false, both_ways}
 use Rattle.tree_core.specs.declared.token.Tok.TheVariants as tok
 use Rattle.md_reader.specs.declared.types.Rule.{Rule}
 use Rattle.md_reader.specs.declared.types.Sym.{Sym}
-use Rattle.md_reader.specs.declared.types.Sym.TheVariants as symbol
+use Rattle.md_reader.specs.declared.types.Sym.TheVariants as grammar_symbol
 use Rattle.lr_tables.specs.Statements.{stmt_of}
 use Rattle.lr_tables.specs.View.{TableView}
 use Rattle.lr_tables.specs.Leads.{Leads}
@@ -75,25 +75,25 @@ pub data Meant (t : TableView) (nodes : List Node) (order : List ℕ) (at : ℕ)
 pub length_symbols : (s : List Part) → length (symbols s) ≡ length s
 length_symbols s = length-map s (λ (p : Part). p.symbol)
 
-pub goes_some : (rules : List Rule) (stmt : ℕ) (t : TableView) (a : List Sym) (c : ℕ) (o : Option ℕ) → Goes rules stmt t a c o → StandsBefore rules stmt a (symbol.Class c) → (q : ℕ)
-    × (o ≡ Some q) × Leads t (symbol.Class c ∷ a) q
+pub goes_some : (rules : List Rule) (stmt : ℕ) (t : TableView) (a : List Sym) (c : ℕ) (o : Option ℕ) → Goes rules stmt t a c o → StandsBefore rules stmt a (grammar_symbol.Class c) → (q : ℕ)
+    × (o ≡ Some q) × Leads t (grammar_symbol.Class c ∷ a) q
 goes_some rules stmt t a c None g s = absurd (g s)
 goes_some rules stmt t a c (Some q) g s = (q, refl, g.1)
 
 module _ (t : TableView) (nodes : List Node) (order : List ℕ) (c : Config) (before : List (List Sym)) (ws : List Token) (s : List Part) (a : Agrees t nodes order before ws s c) where
   -- a token is shifted
-  pub shift_meant : (q : ℕ) (next : Option ℕ) → slice_get order c.at ≡ next → StandsBefore t.content.rules (stmt_of t.content.classes) (symbols s) (symbol.Tok (token_of nodes next))
-      → (token_of nodes next ≡ tok.End → ⊥) → Leads t (symbol.Tok (token_of nodes next) ∷ symbols s) q →
+  pub shift_meant : (q : ℕ) (next : Option ℕ) → slice_get order c.at ≡ next → StandsBefore t.content.rules (stmt_of t.content.classes) (symbols s) (grammar_symbol.Tok (token_of nodes next))
+      → (token_of nodes next ≡ tok.End → ⊥) → Leads t (grammar_symbol.Tok (token_of nodes next) ∷ symbols s) q →
       Meant t nodes order c.at before ws s (shifted c c.stack q next)
   shift_meant q None e b ne leads = absurd (ne refl)
   shift_meant q (Some n) e b ne leads =
       let here : ws ≡ token_at nodes n ∷ tokens_from nodes (c.at + 1) order = a.to_come ∙ next_is nodes order c.at n e in
-      went [] (tokens_from nodes (c.at + 1) order) (record { symbol = symbol.Tok (tok_of (slice_get nodes n)); answers = answers_of (slice_get nodes n) } ∷ s)
+      went [] (tokens_from nodes (c.at + 1) order) (record { symbol = grammar_symbol.Tok (tok_of (slice_get nodes n)); answers = answers_of (slice_get nodes n) } ∷ s)
       (record {
         stands = above (record { state = q; node = n; used = 0 }) a.stands leads refl refl;
         to_come = refl;
         seen = seen_shift (length c.seen) (tok_of (slice_get nodes n)) (symbols s);
-        fresh = λ h. nowhere_in (symbol.Tok (tok_of (slice_get nodes n)) ∷ symbols s) h;
+        fresh = λ h. nowhere_in (grammar_symbol.Tok (tok_of (slice_get nodes n)) ∷ symbols s) h;
         classes = length-replicate (length c.seen) false ∙ a.classes;
       })
       (λ o h. subst (λ (x : List Token). Ends t.content.rules (stmt_of t.content.classes) c.at before x s o) (sym here) (parse.shifts {w = token_at nodes n} a.fresh ne b h))
@@ -101,10 +101,10 @@ module _ (t : TableView) (nodes : List Node) (order : List ℕ) (c : Config) (be
   -- a class comes on top, in the place of so many symbols
   module _ (stack : List Entry) (s' : List Part) (size class : ℕ)
       (onward : (o : Outcome) → Ends t.content.rules (stmt_of t.content.classes) c.at (symbols s ∷ before) ws s' o → Ends t.content.rules (stmt_of t.content.classes) c.at before ws s o)
-      (stands : Stands t nodes stack s') (top : symbols s' ≡ symbol.Class class ∷ drop size (symbols s)) (some : 0 < size) (within : size ≤ length (symbols s)) (lt : class < length c.seen)
+      (stands : Stands t nodes stack s') (top : symbols s' ≡ grammar_symbol.Class class ∷ drop size (symbols s)) (some : 0 < size) (within : size ≤ length (symbols s)) (lt : class < length c.seen)
     where
-      went_on : (seen : List Bool) → Seen seen (symbol.Class class ∷ drop size (symbols s)) ((symbol.Class class ∷ drop size (symbols s)) ∷ symbols s ∷ before)
-          → (Contains (symbols s ∷ before) (symbol.Class class ∷ drop size (symbols s)) → ⊥) → length seen ≡ length c.seen →
+      went_on : (seen : List Bool) → Seen seen (grammar_symbol.Class class ∷ drop size (symbols s)) ((grammar_symbol.Class class ∷ drop size (symbols s)) ∷ symbols s ∷ before)
+          → (Contains (symbols s ∷ before) (grammar_symbol.Class class ∷ drop size (symbols s)) → ⊥) → length seen ≡ length c.seen →
           Meant t nodes order c.at before ws s (record { ending = None; config = record { at = c.at; stack = stack; seen = seen } })
       went_on seen marks fresh l = went (symbols s ∷ before) ws s'
           (record {
@@ -133,14 +133,14 @@ module _ (t : TableView) (nodes : List Node) (order : List ℕ) (c : Config) (be
           by false e =
               went_on (set (replicate (length c.seen) false) class true)
               (seen_long c.seen (symbols s) (drop size (symbols s)) (symbols s ∷ before) class (length c.seen) a.seen less lt)
-              (λ h. let l = a.seen.lower (symbol.Class class ∷ drop size (symbols s)) h in omega (arith, l, less))
+              (λ h. let l = a.seen.lower (grammar_symbol.Class class ∷ drop size (symbols s)) h in omega (arith, l, less))
               (length-set (replicate (length c.seen) false) class true ∙ length-replicate (length c.seen) false)
 
       unit_meant : size ≡ 1 → Meant t nodes order c.at before ws s (marked (record { at = c.at; stack = stack; seen = c.seen }) class)
       unit_meant one = by (get_or c.seen class false) refl
         where
-          same : symbol.Class class ∷ drop 1 (symbols s) ≡ symbol.Class class ∷ drop size (symbols s)
-          same = ap (λ (n : ℕ). symbol.Class class ∷ drop n (symbols s)) (sym one)
+          same : grammar_symbol.Class class ∷ drop 1 (symbols s) ≡ grammar_symbol.Class class ∷ drop size (symbols s)
+          same = ap (λ (n : ℕ). grammar_symbol.Class class ∷ drop n (symbols s)) (sym one)
 
           by : (b : Bool) → get_or c.seen class false ≡ b →
               Meant t nodes order c.at before ws s (cond b (record { ending = Some (outcome.Loops c.at); config = record { at = c.at; stack = stack; seen = c.seen } })

@@ -8,7 +8,7 @@ use Rattle.tree_core.specs.declared.token.Tok.{Tok}
 use Rattle.tree_core.specs.declared.token.Tok.TheVariants as tok
 use Rattle.md_reader.specs.declared.types.Rule.{Rule}
 use Rattle.md_reader.specs.declared.types.Sym.{Sym}
-use Rattle.md_reader.specs.declared.types.Sym.TheVariants as symbol
+use Rattle.md_reader.specs.declared.types.Sym.TheVariants as grammar_symbol
 use Rattle.md_reader.specs.State.{Content}
 use Rattle.lr_tables.specs.Items.{right_of, start, Items, starts, opens, moves}
 use Rattle.lr_tables.specs.Statements.{stmt_of}
@@ -101,12 +101,14 @@ module _ (rules : List Rule) (stmt : ℕ) where
       takes_same a.takes (subst (λ (x : List ℕ). Takes rules s x p v) (reductions_same (symbols s) (coming ws) b.candidates a.candidates b.in_order a.in_order) b.takes)
 
   -- before the end an item stands on a statement
-  statement_ends : (a : List Sym) (k : Tok) → a ≡ symbol.Class stmt ∷ [] → k ≡ tok.End → StandsBefore rules stmt a (symbol.Tok k)
+  statement_ends : (a : List Sym) (k : Tok) → a ≡ grammar_symbol.Class stmt ∷ [] → k ≡ tok.End → StandsBefore rules stmt a (grammar_symbol.Tok k)
   statement_ends a k e f =
-      let stands : StandsBefore rules stmt (symbol.Class stmt ∷ []) (symbol.Tok tok.End) = record { item = record { rule = None; dot = 1 }; valid = moves starts refl refl; before = refl } in
-      subst (λ (b : List Sym). StandsBefore rules stmt b (symbol.Tok k)) (sym e) (subst (λ (t : Tok). StandsBefore rules stmt (symbol.Class stmt ∷ []) (symbol.Tok t)) (sym f) stands)
+      let stands : StandsBefore rules stmt (grammar_symbol.Class stmt ∷ []) (grammar_symbol.Tok tok.End) =
+      record { item = record { rule = None; dot = 1 }; valid = moves starts refl refl; before = refl } in
+      subst (λ (b : List Sym). StandsBefore rules stmt b (grammar_symbol.Tok k)) (sym e)
+      (subst (λ (t : Tok). StandsBefore rules stmt (grammar_symbol.Class stmt ∷ []) (grammar_symbol.Tok t)) (sym f) stands)
 
-  pub not_shifted : {ws : List Token} {s u : List Part} {o : Option ℕ} → Reduction rules stmt ws s o u → symbols s ≡ symbol.Class stmt ∷ [] → coming ws ≡ tok.End → ⊥
+  pub not_shifted : {ws : List Token} {s u : List Part} {o : Option ℕ} → Reduction rules stmt ws s o u → symbols s ≡ grammar_symbol.Class stmt ∷ [] → coming ws ≡ tok.End → ⊥
   not_shifted {ws = ws} {s = s} r e f = r.no_shift (statement_ends (symbols s) (coming ws) e f)
 
   pub ends_same : {at : ℕ} {before : List (List Sym)} {ws : List Token} {s : List Part} {o p : Outcome} → Ends rules stmt at before ws s o → Ends rules stmt at before ws s p → p ≡ o

@@ -6,14 +6,14 @@ use Rattle.std.proofs.lemmas.List.{get_or-replicate, get_or_past, get_or-set_sam
 use Rattle.std.proofs.lemmas.List.Elements.{Contains-append_cases, Contains-append_right}
 use Rattle.std.proofs.lemmas.Bool.{cases_lt, cases_eq, both_ways}
 use Rattle.md_reader.specs.declared.types.Sym.{Sym}
-use Rattle.md_reader.specs.declared.types.Sym.TheVariants as symbol
+use Rattle.md_reader.specs.declared.types.Sym.TheVariants as grammar_symbol
 use Rattle.tree_core.specs.declared.token.Tok.{Tok}
 
 -- of the stacks that stood, the present one among them, none is shorter than it, and the marks are of
 -- those that differ from it in a class on top
 pub record Seen (seen : List Bool) (a : List Sym) (stood : List (List Sym)) : Type 0 where
-  pub there : (c : ℕ) → get_or seen c false ≡ true → Contains stood (symbol.Class c ∷ drop 1 a)
-  pub back : (c : ℕ) → Contains stood (symbol.Class c ∷ drop 1 a) → get_or seen c false ≡ true
+  pub there : (c : ℕ) → get_or seen c false ≡ true → Contains stood (grammar_symbol.Class c ∷ drop 1 a)
+  pub back : (c : ℕ) → Contains stood (grammar_symbol.Class c ∷ drop 1 a) → get_or seen c false ≡ true
   pub lower : (b : List Sym) → Contains stood b → length a ≤ length b
 
 here : {X : Type 0} (x : X) (xs : List X) → Contains (x ∷ xs) x
@@ -42,10 +42,10 @@ none_marked n c e =
 unlike_nil : (X : Sym) (a : List Sym) → [] ≡ X ∷ a → ⊥
 unlike_nil X a e = cc
 
-unlike_tops : (t : Tok) (c : ℕ) (a b : List Sym) → symbol.Tok t ∷ a ≡ symbol.Class c ∷ b → ⊥
+unlike_tops : (t : Tok) (c : ℕ) (a b : List Sym) → grammar_symbol.Tok t ∷ a ≡ grammar_symbol.Class c ∷ b → ⊥
 unlike_tops t c a b e = cc
 
-same_class : (c d : ℕ) (a b : List Sym) → symbol.Class c ∷ a ≡ symbol.Class d ∷ b → c ≡ d
+same_class : (c d : ℕ) (a b : List Sym) → grammar_symbol.Class c ∷ a ≡ grammar_symbol.Class d ∷ b → c ≡ d
 same_class c d a b e = cc
 
 length_same : (a b : List Sym) → a ≡ b → length a ≡ length b
@@ -54,16 +54,16 @@ length_same a b e = ap (λ (x : List Sym). length x) e
 pub seen_start : (n : ℕ) → Seen (replicate n false) [] ([] ∷ [])
 seen_start n = record {
   there = λ c e. absurd (none_marked n c e);
-  back = λ c h. absurd (unlike_nil (symbol.Class c) [] (one_cases [] (symbol.Class c ∷ []) h));
+  back = λ c h. absurd (unlike_nil (grammar_symbol.Class c) [] (one_cases [] (grammar_symbol.Class c ∷ []) h));
   lower = λ b h. omega arith;
 }
 
 -- a token is shifted
-pub seen_shift : (n : ℕ) (t : Tok) (a : List Sym) → Seen (replicate n false) (symbol.Tok t ∷ a) ((symbol.Tok t ∷ a) ∷ [])
+pub seen_shift : (n : ℕ) (t : Tok) (a : List Sym) → Seen (replicate n false) (grammar_symbol.Tok t ∷ a) ((grammar_symbol.Tok t ∷ a) ∷ [])
 seen_shift n t a = record {
   there = λ c e. absurd (none_marked n c e);
-  back = λ c h. absurd (unlike_tops t c a a (one_cases (symbol.Tok t ∷ a) (symbol.Class c ∷ a) h));
-  lower = λ b h. (let l = length_same (symbol.Tok t ∷ a) b (one_cases (symbol.Tok t ∷ a) b h) in omega (arith, l));
+  back = λ c h. absurd (unlike_tops t c a a (one_cases (grammar_symbol.Tok t ∷ a) (grammar_symbol.Class c ∷ a) h));
+  lower = λ b h. (let l = length_same (grammar_symbol.Tok t ∷ a) b (one_cases (grammar_symbol.Tok t ∷ a) b h) in omega (arith, l));
 }
 
 marked_there : (seen : List Bool) (n c : ℕ) → get_or (set seen n true) c false ≡ true → (c ≡ n) ⊎ (get_or seen c false ≡ true)
@@ -81,20 +81,20 @@ marked_at seen n c lt e = subst (λ (x : ℕ). get_or (set seen n true) x false 
 
 -- the class of a rule of one symbol comes on top
 pub seen_unit : (seen : List Bool) (a : List Sym) (stood : List (List Sym)) (n : ℕ) → Seen seen a stood → 0 < length a → n < length seen
-    → Seen (set seen n true) (symbol.Class n ∷ drop 1 a) ((symbol.Class n ∷ drop 1 a) ∷ stood)
+    → Seen (set seen n true) (grammar_symbol.Class n ∷ drop 1 a) ((grammar_symbol.Class n ∷ drop 1 a) ∷ stood)
 seen_unit seen a stood n s some lt = record {
   there = λ c e. ⊎_elim
-      (λ f. subst (λ (x : ℕ). Contains ((symbol.Class n ∷ drop 1 a) ∷ stood) (symbol.Class x ∷ drop 1 a)) (sym f) (here (symbol.Class n ∷ drop 1 a) stood))
-      (λ f. there_too (symbol.Class n ∷ drop 1 a) stood (symbol.Class c ∷ drop 1 a) (s.there c f))
+      (λ f. subst (λ (x : ℕ). Contains ((grammar_symbol.Class n ∷ drop 1 a) ∷ stood) (grammar_symbol.Class x ∷ drop 1 a)) (sym f) (here (grammar_symbol.Class n ∷ drop 1 a) stood))
+      (λ f. there_too (grammar_symbol.Class n ∷ drop 1 a) stood (grammar_symbol.Class c ∷ drop 1 a) (s.there c f))
       (marked_there seen n c e);
   back = λ c h. ⊎_elim
       (λ f. marked_at seen n c lt (same_class n c (drop 1 a) (drop 1 a) f))
       (λ f. marked_back seen n c lt (s.back c f))
-      (cons_cases (symbol.Class n ∷ drop 1 a) stood (symbol.Class c ∷ drop 1 a) h);
+      (cons_cases (grammar_symbol.Class n ∷ drop 1 a) stood (grammar_symbol.Class c ∷ drop 1 a) h);
   lower = λ b h. ⊎_elim
-      (λ f. let l = length_same (symbol.Class n ∷ drop 1 a) b f in omega (arith, l))
+      (λ f. let l = length_same (grammar_symbol.Class n ∷ drop 1 a) b f in omega (arith, l))
       (λ f. let l = s.lower b f in let m = one_less a some in omega (arith, l, m))
-      (cons_cases (symbol.Class n ∷ drop 1 a) stood b h);
+      (cons_cases (grammar_symbol.Class n ∷ drop 1 a) stood b h);
 }
   where
     one_less : (b : List Sym) → 0 < length b → length (drop 1 b) + 1 ≡ length b
@@ -103,18 +103,18 @@ seen_unit seen a stood n s some lt = record {
 
 -- the class of a longer rule comes on top
 pub seen_long : (seen : List Bool) (a b : List Sym) (stood : List (List Sym)) (n : ℕ) (m : ℕ) → Seen seen a stood → length b + 1 < length a → n < m
-    → Seen (set (replicate m false) n true) (symbol.Class n ∷ b) ((symbol.Class n ∷ b) ∷ stood)
+    → Seen (set (replicate m false) n true) (grammar_symbol.Class n ∷ b) ((grammar_symbol.Class n ∷ b) ∷ stood)
 seen_long seen a b stood n m s less lt = record {
   there = λ c e. ⊎_elim
-      (λ f. subst (λ (x : ℕ). Contains ((symbol.Class n ∷ b) ∷ stood) (symbol.Class x ∷ b)) (sym f) (here (symbol.Class n ∷ b) stood))
+      (λ f. subst (λ (x : ℕ). Contains ((grammar_symbol.Class n ∷ b) ∷ stood) (grammar_symbol.Class x ∷ b)) (sym f) (here (grammar_symbol.Class n ∷ b) stood))
       (λ f. absurd (none_marked m c f))
       (marked_there (replicate m false) n c e);
   back = λ c h. ⊎_elim
       (λ f. marked_at (replicate m false) n c (let l : length (replicate m false) ≡ m = length-replicate m false in omega (arith, l, lt)) (same_class n c b b f))
-      (λ f. absurd (let l = s.lower (symbol.Class c ∷ b) f in omega (arith, l, less)))
-      (cons_cases (symbol.Class n ∷ b) stood (symbol.Class c ∷ b) h);
+      (λ f. absurd (let l = s.lower (grammar_symbol.Class c ∷ b) f in omega (arith, l, less)))
+      (cons_cases (grammar_symbol.Class n ∷ b) stood (grammar_symbol.Class c ∷ b) h);
   lower = λ x h. ⊎_elim
-      (λ f. let l = length_same (symbol.Class n ∷ b) x f in omega (arith, l))
+      (λ f. let l = length_same (grammar_symbol.Class n ∷ b) x f in omega (arith, l))
       (λ f. let l = s.lower x f in omega (arith, l, less))
-      (cons_cases (symbol.Class n ∷ b) stood x h);
+      (cons_cases (grammar_symbol.Class n ∷ b) stood x h);
 }

@@ -6,7 +6,7 @@ use Rattle.tree_core.specs.declared.token.Tok.{Tok}
 use Rattle.tree_core.specs.declared.token.Tok.TheVariants as tok
 use Rattle.md_reader.specs.declared.types.Rule.{Rule}
 use Rattle.md_reader.specs.declared.types.Sym.{Sym}
-use Rattle.md_reader.specs.declared.types.Sym.TheVariants as sym
+use Rattle.md_reader.specs.declared.types.Sym.TheVariants as grammar_symbol
 use Rattle.md_reader.specs.State.{Content}
 use Rattle.lr_tables.specs.Statements.{stmt_of}
 use Rattle.lr_tables.specs.Candidates.{StandsBefore, AreReductions}
@@ -65,11 +65,11 @@ pub data Takes (rules : List Rule) : List Part → List ℕ → Option ℕ → L
 
 -- the class in the place of the right side, with the node that the right side covers
 abbrev pub reduced : List Part → Rule → List Part
-reduced s r = record { symbol = sym.Class r.left; answers = owner_answers s r } ∷ drop (length r.right) s
+reduced s r = record { symbol = grammar_symbol.Class r.left; answers = owner_answers s r } ∷ drop (length r.right) s
 
 -- which rule is taken, if any, where nothing is shifted
 pub record Reduction (rules : List Rule) (stmt : ℕ) (ws : List Token) (s : List Part) (taken : Option ℕ) (s' : List Part) : Type 0 where
-  pub no_shift : StandsBefore rules stmt (symbols s) (sym.Tok (coming ws)) → ⊥
+  pub no_shift : StandsBefore rules stmt (symbols s) (grammar_symbol.Tok (coming ws)) → ⊥
   pub candidates : List ℕ
   pub in_order : AreReductions rules stmt (symbols s) (coming ws) candidates
   pub takes : Takes rules s candidates taken s'
@@ -83,12 +83,12 @@ pub data Ends (rules : List Rule) (stmt : ℕ) : ℕ → List (List Sym) → Lis
       Ends rules stmt at before ws s (outcome.Loops at)
   -- the stack is a statement, and the end comes next
   accepts : {at : ℕ} {before : List (List Sym)} {ws : List Token} {s : List Part} →
-      (Contains before (symbols s) → ⊥) → symbols s ≡ sym.Class stmt ∷ [] → coming ws ≡ tok.End →
+      (Contains before (symbols s) → ⊥) → symbols s ≡ grammar_symbol.Class stmt ∷ [] → coming ws ≡ tok.End →
       Ends rules stmt at before ws s outcome.Done
   -- a token is shifted where an item stands before it
   shifts : {at : ℕ} {before : List (List Sym)} {w : Token} {ws : List Token} {s : List Part} {o : Outcome} →
-      (Contains before (symbols s) → ⊥) → (w.tok ≡ tok.End → ⊥) → StandsBefore rules stmt (symbols s) (sym.Tok w.tok) →
-      Ends rules stmt (at + 1) [] ws (record { symbol = sym.Tok w.tok; answers = w.answers } ∷ s) o →
+      (Contains before (symbols s) → ⊥) → (w.tok ≡ tok.End → ⊥) → StandsBefore rules stmt (symbols s) (grammar_symbol.Tok w.tok) →
+      Ends rules stmt (at + 1) [] ws (record { symbol = grammar_symbol.Tok w.tok; answers = w.answers } ∷ s) o →
       Ends rules stmt at before (w ∷ ws) s o
   -- a rule is taken
   reduces : {at n : ℕ} {before : List (List Sym)} {ws : List Token} {s s' : List Part} {o : Outcome} (r : Rule) →

@@ -4,7 +4,7 @@ use Rattle.std.specs.Prelude.{nat_lt, length, take, replicate, slice_get, slice_
 use Rattle.tree_core.specs.declared.token.Tok.{Tok}
 use Rattle.tree_core.specs.declared.token.Tok.TheVariants as tok
 use Rattle.md_reader.specs.declared.types.Rule.{Rule}
-use Rattle.md_reader.specs.declared.types.Sym.TheVariants as sym
+use Rattle.md_reader.specs.declared.types.Sym.TheVariants as grammar_symbol
 use Rattle.lr_tables.specs.declared.types.Choice.{Choice}
 use Rattle.lr_tables.specs.declared.types.Choice.TheVariants as choice
 use Rattle.lr_tables.specs.View.{TableView}
@@ -143,7 +143,7 @@ placed c below r e (Some q) =
 abbrev pub reduced_by : TableView → Config → List Entry → Rule → Option ℕ → After
 reduced_by t c stack r None = blocks c stack
 reduced_by t c stack r (Some i) =
-    placed c (take i stack) r (entry_at stack i) (target_at t (top_of (take i stack)) (sym.Class r.left))
+    placed c (take i stack) r (entry_at stack i) (target_at t (top_of (take i stack)) (grammar_symbol.Class r.left))
 
 abbrev pub reduced : TableView → Config → List Entry → Option Rule → After
 reduced t c stack None = blocks c stack

@@ -1,6 +1,6 @@
 // One step of the parse.
 ghost use Rattle.std.specs.Prelude.{◌≡◌, IfOk, IfSome};
-ghost use Rattle.md_reader.specs.declared.types.Sym.TheVariants as sym;
+ghost use Rattle.md_reader.specs.declared.types.Sym.TheVariants as grammar_symbol;
 ghost use Rattle.lr_tables.specs.Leads.{target_at};
 ghost use Rattle.lr_check.specs.Steps.{top_of, token_of, shifted, marked, placed, reduced, after_choice, step};
 
@@ -104,7 +104,7 @@ impl Parse {
         rule: &Rule,
         first: Entry,
     ) -> Result<Option<Outcome>, NoMemory>
-        ensures { let target = target_at tables.now (top_of self.old.stack) (sym.Class rule.now.left) in
+        ensures { let target = target_at tables.now (top_of self.old.stack) (grammar_symbol.Class rule.now.left) in
             IfOk result (λ o. record { ending = o; config = self.new } ≡ placed self.old self.old.stack rule.now first target) }
     {
         match tables.go(top_of(self.stack.as_slice()), rule.left) {

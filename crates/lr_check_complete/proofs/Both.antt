@@ -7,7 +7,7 @@ use Rattle.tree_core.specs.declared.token.Tok.{Tok}
 use Rattle.tree_core.specs.declared.token.Sort.{Sort}
 use Rattle.tree_core.specs.Grammar.{kids}
 use Rattle.md_reader.specs.declared.types.Sym.{Sym}
-use Rattle.md_reader.specs.declared.types.Sym.TheVariants as symbol
+use Rattle.md_reader.specs.declared.types.Sym.TheVariants as grammar_symbol
 use Rattle.lr_check_sets.specs.Trees.{May}
 use Rattle.lr_check_sets.specs.Automaton.{Automaton, walk}
 use Rattle.lr_check_found.specs.declared.places.Place.{Place}
@@ -58,7 +58,7 @@ second_kid A f n i p x m e at behind t =
 pub two_made : (A : Automaton) (f : FoundView) (n i h : ℕ) (x y : Place) → SecondKid A f n x i y → HeldSum f h y → HasMade A f n (how.Two i h)
 two_made A f n i h x y kid held = record {
   place = x;
-  list = held.list ++ (kid.list ++ (symbol.Tok x.token ∷ []));
+  list = held.list ++ (kid.list ++ (grammar_symbol.Tok x.token ∷ []));
   there = kid.there;
   made = Made.two kid.two kid.sum kid.first held.sum kid.fits;
 }
@@ -67,7 +67,7 @@ pub second_begun : (A : Automaton) (f : FoundView) (n i : ℕ) (x y : Place) →
 second_begun A f n i x y kid = Begun.second kid.there kid.two kid.sum kid.first kid.fits
 
 pub two_in : (f : FoundView) (n i h : ℕ) (k : Tok) → ((u l : List Sym) → IsList f.lists (list_number f h) u → IsList f.lists (list_number f i) l
-    → Settles f n (u ++ (l ++ (symbol.Tok k ∷ [])))) → TwoIn f n k i h
+    → Settles f n (u ++ (l ++ (grammar_symbol.Tok k ∷ [])))) → TwoIn f n k i h
 two_in f n i h k g = record { settles = λ y z s u j l a b. g u s (list_is f h l z u b) (list_is f i j y s a) }
 
 pub second_found : (A : Automaton) (f : FoundView) (n m i : ℕ) (k : Tok) (y : Place) (sums : List ℕ) → IsFound A f → IsPlaceAt f m y → sums ≡ slice_index_or f.sums m [] →

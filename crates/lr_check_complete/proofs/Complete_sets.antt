@@ -7,7 +7,7 @@ use Rattle.tree_core.specs.declared.token.Sort.{Sort}
 use Rattle.tree_core.specs.declared.token.Sort.TheVariants as sort
 use Rattle.tree_core.specs.Grammar.{kids}
 use Rattle.md_reader.specs.declared.types.Sym.{Sym}
-use Rattle.md_reader.specs.declared.types.Sym.TheVariants as symbol
+use Rattle.md_reader.specs.declared.types.Sym.TheVariants as grammar_symbol
 use Rattle.lr_tables.specs.View.{RowView, TableView}
 use Rattle.lr_tables.specs.Leads.{target_in, target_at}
 use Rattle.lr_tables.specs.Symbols.{symbol_number}
@@ -37,10 +37,10 @@ row_within t q p X e = by (slice_get t.rows q) refl
 
 module _ (t : TableView) (f : FoundView) (found : IsFound (automaton_of t) f) (starts : (k : Tok) → May k sort.Stmt → HasPlace f 0 k tok.End)
     (frames : (q : ℕ) → q < length t.rows → (k : Tok) → FrameIn (automaton_of t) f q k) (reductions : (i : ℕ) → i < length f.settlings → ReducesIn (automaton_of t) f i) where
-  kids_at : (q p : ℕ) (k b : Tok) (xs : List Sort) (place : HasPlace f q k b) → kids k ≡ xs → (automaton_of t).go q (symbol.Tok k) ≡ Some p
+  kids_at : (q p : ℕ) (k b : Tok) (xs : List Sort) (place : HasPlace f q k b) → kids k ≡ xs → (automaton_of t).go q (grammar_symbol.Tok k) ≡ Some p
       → KidsIn (automaton_of t) f place.number (place_of q k b) p xs
   kids_at q p k b xs place e go =
-      subst (KidsIn (automaton_of t) f place.number (place_of q k b) p) e ((frames q (row_within t q p (symbol.Tok k) go) k).each p place.number b go place.at)
+      subst (KidsIn (automaton_of t) f place.number (place_of q k b) p) e ((frames q (row_within t q p (grammar_symbol.Tok k) go) k).each p place.number b go place.at)
 
   settling : (q : ℕ) (k b : Tok) (s : List Sym) (place : HasPlace f q k b) → Settles f place.number s → HasSettling f q k b s
   settling q k b s place h = record { number = place.number; at = place.at; settles = h }
@@ -68,15 +68,15 @@ module _ (t : TableView) (f : FoundView) (found : IsFound (automaton_of t) f) (s
   pub closed : IsClosed (automaton_of t) (HasPlace f) (HasSettling f) (HasSum f)
   closed = record {
     starts = starts;
-    alone = λ q p k b place e go. settling q k b (symbol.Tok k ∷ []) place (kids_at q p k b [] place e go);
+    alone = λ q p k b place e go. settling q k b (grammar_symbol.Tok k ∷ []) place (kids_at q p k b [] place e go);
     only = λ q p k b n x place e go may. ((kids_at q p k b (x ∷ []) place e go).each n may).place;
-    only_in = λ q p k b n x s place e go may sum. settling q k b (s ++ (symbol.Tok k ∷ [])) place (((kids_at q p k b (x ∷ []) place e go).each n may).sums s sum);
+    only_in = λ q p k b n x s place e go may sum. settling q k b (s ++ (grammar_symbol.Tok k ∷ [])) place (((kids_at q p k b (x ∷ []) place e go).each n may).sums s sum);
     first = λ q p k b n m x y place e go may may'. ((kids_at q p k b (x ∷ y ∷ []) place e go).each m may').places n may;
     second = λ q p j k b n m x y s place e go may may' sum ws.
-        (((kids_at q p k b (x ∷ y ∷ []) place e go).each m may').second n s j may sum (sym (walk_from (automaton_of t) q p (symbol.Tok k) s go) ∙ ws)).place;
+        (((kids_at q p k b (x ∷ y ∷ []) place e go).each m may').second n s j may sum (sym (walk_from (automaton_of t) q p (grammar_symbol.Tok k) s go) ∙ ws)).place;
     both_in = λ q p j k b n m x y s z place e go may may' sum ws sum'.
-        settling q k b (z ++ (s ++ (symbol.Tok k ∷ []))) place
-        ((((kids_at q p k b (x ∷ y ∷ []) place e go).each m may').second n s j may sum (sym (walk_from (automaton_of t) q p (symbol.Tok k) s go) ∙ ws)).sums z sum');
+        settling q k b (z ++ (s ++ (grammar_symbol.Tok k ∷ []))) place
+        ((((kids_at q p k b (x ∷ y ∷ []) place e go).each m may').second n s j may sum (sym (walk_from (automaton_of t) q p (grammar_symbol.Tok k) s go) ∙ ws)).sums z sum');
     settles = λ q p k b s r h ws free size. record {
       number = h.number;
       at = h.at;

@@ -6,7 +6,7 @@ use Rattle.tree_core.specs.declared.token.Tok.{Tok}
 use Rattle.tree_core.specs.declared.token.Tok.TheVariants as tok
 use Rattle.tree_core.specs.declared.token.Sort.{Sort}
 use Rattle.tree_core.specs.Grammar.{kids}
-use Rattle.md_reader.specs.declared.types.Sym.TheVariants as symbol
+use Rattle.md_reader.specs.declared.types.Sym.TheVariants as grammar_symbol
 use Rattle.lr_check_sets.specs.Automaton.{Automaton}
 use Rattle.lr_check_found.specs.declared.places.Place.{Place}
 use Rattle.lr_check_found.specs.declared.settlings.How.TheVariants as how
@@ -99,7 +99,7 @@ no_more k xs e a b c =
 pub leaf_made : (A : Automaton) (f : FoundView) (q p n : ℕ) (k : Tok) (numbers : List ℕ) → IsFrame A f q k p numbers → kids k ≡ [] → Contains numbers n → HasMade A f n how.Leaf
 leaf_made A f q p n k numbers frame none c =
     let h = frame.places n c in
-    record { place = place_of q k h.0; list = symbol.Tok k ∷ []; there = h.1; made = Made.leaf frame.go none }
+    record { place = place_of q k h.0; list = grammar_symbol.Tok k ∷ []; there = h.1; made = Made.leaf frame.go none }
 
 pub token_is : (A : Automaton) (f : FoundView) (q p n : ℕ) (k : Tok) (numbers : List ℕ) (x : Place) → IsFrame A f q k p numbers → Contains numbers n → IsPlaceAt f n x → k ≡ x.token
 token_is A f q p n k numbers x frame c at =
@@ -109,9 +109,9 @@ token_is A f q p n k numbers x frame c at =
 -- ---- what follows from the kids
 
 pub kids_none : (A : Automaton) (f : FoundView) (q p : ℕ) (k : Tok) (numbers : List ℕ) → IsFrame A f q k p numbers → kids k ≡ [] →
-    ((n : ℕ) → Contains numbers n → Settles f n (symbol.Tok k ∷ [])) → (n : ℕ) → Contains numbers n → (x : Place) → IsPlaceAt f n x → KidsIn A f n x p (kids k)
+    ((n : ℕ) → Contains numbers n → Settles f n (grammar_symbol.Tok k ∷ [])) → (n : ℕ) → Contains numbers n → (x : Place) → IsPlaceAt f n x → KidsIn A f n x p (kids k)
 kids_none A f q p k numbers frame none g n c x at =
-    subst (KidsIn A f n x p) (sym none) (subst (λ (t : Tok). Settles f n (symbol.Tok t ∷ [])) (token_is A f q p n k numbers x frame c at) (g n c))
+    subst (KidsIn A f n x p) (sym none) (subst (λ (t : Tok). Settles f n (grammar_symbol.Tok t ∷ [])) (token_is A f q p n k numbers x frame c at) (g n c))
 
 pub kids_one : (A : Automaton) (f : FoundView) (p : ℕ) (k : Tok) (w : Sort) (numbers : List ℕ) → kids k ≡ w ∷ [] →
     ((n : ℕ) → Contains numbers n → (x : Place) → IsPlaceAt f n x → OnlyIn f n x p w) → (n : ℕ) → Contains numbers n → (x : Place) → IsPlaceAt f n x → KidsIn A f n x p (kids k)
@@ -155,7 +155,8 @@ number_kept i before after e n c = subst (λ l. Contains l n) (sym e) (Contains-
 pub number_there : (i : ℕ) (before after : List ℕ) → after ≡ before ++ i ∷ [] → (n : ℕ) → n ≡ i → Contains after n
 number_there i before after e n same = subst (λ l. Contains l n) (sym e) (Contains-append_right before (i ∷ []) n (0, omega arith, sym same))
 
-pub frame_in : (A : Automaton) (f : FoundView) (q p : ℕ) (k : Tok) (numbers : List ℕ) → A.go q (symbol.Tok k) ≡ Some p → ((n : ℕ) (b : Tok) → IsPlaceAt f n (place_of q k b) → Contains numbers n) →
+pub frame_in : (A : Automaton) (f : FoundView) (q p : ℕ) (k : Tok) (numbers : List ℕ) → A.go q (grammar_symbol.Tok k) ≡ Some p
+    → ((n : ℕ) (b : Tok) → IsPlaceAt f n (place_of q k b) → Contains numbers n) →
     ((n : ℕ) → Contains numbers n → (x : Place) → IsPlaceAt f n x → KidsIn A f n x p (kids k)) → FrameIn A f q k
 frame_in A f q p k numbers go all g = record {
   each = λ j n b go' at. subst (λ i. KidsIn A f n (place_of q k b) i (kids k)) (Some-same p j (sym go ∙ go')) (g n (all n b at) (place_of q k b) at);

@@ -4,7 +4,7 @@ use Rattle.std.specs.Prelude.{slice_index_or}
 use Rattle.tree_core.specs.declared.token.Tok.{Tok}
 use Rattle.tree_core.specs.declared.token.Sort.{Sort}
 use Rattle.md_reader.specs.declared.types.Sym.{Sym}
-use Rattle.md_reader.specs.declared.types.Sym.TheVariants as symbol
+use Rattle.md_reader.specs.declared.types.Sym.TheVariants as grammar_symbol
 use Rattle.lr_check_sets.specs.Trees.{May}
 use Rattle.lr_check_sets.specs.Automaton.{Automaton, walk}
 use Rattle.lr_check_sets.specs.Sums as sets
@@ -58,13 +58,13 @@ list_is f i j y s h = ap (λ (o : Option Settling). slice_get f.lists.all (numbe
 -- ---- one kid
 
 pub one_made : (A : Automaton) (f : FoundView) (n i : ℕ) (x y : Place) → OneKid A f n x y → HeldSum f i y → HasMade A f n (how.One i)
-one_made A f n i x y kid h = record { place = x; list = h.list ++ (symbol.Tok x.token ∷ []); there = kid.there; made = Made.one kid.one h.sum kid.fits }
+one_made A f n i x y kid h = record { place = x; list = h.list ++ (grammar_symbol.Tok x.token ∷ []); there = kid.there; made = Made.one kid.one h.sum kid.fits }
 
 pub only_begun : (A : Automaton) (f : FoundView) (n : ℕ) (x y : Place) → OneKid A f n x y → Begun A f y (origin.First n)
 only_begun A f n x y kid = Begun.only kid.there kid.one kid.fits
 
 pub one_in : (A : Automaton) (f : FoundView) (n i : ℕ) (k : Tok) → IsFound A f →
-    ((u l : List Sym) → IsList f.lists (list_number f i) u → IsList f.lists 0 l → Settles f n (u ++ (l ++ (symbol.Tok k ∷ [])))) → OneIn f n k i
+    ((u l : List Sym) → IsList f.lists (list_number f i) u → IsList f.lists 0 l → Settles f n (u ++ (l ++ (grammar_symbol.Tok k ∷ [])))) → OneIn f n k i
 one_in A f n i k found h = record { settles = λ y s j sum. h s [] (list_is f i j y s sum) found.lists.first }
 
 pub only_at : (A : Automaton) (f : FoundView) (n m : ℕ) (k : Tok) (y : Place) → IsFound A f → IsPlaceAt f m y → ((i : ℕ) → Contains (slice_index_or f.sums m []) i → OneIn f n k i) → OnlyAt f n k y

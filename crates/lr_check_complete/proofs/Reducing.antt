@@ -6,7 +6,7 @@ use Rattle.std.proofs.lemmas.Option.{get_or_from_slice_get}
 use Rattle.md_reader.specs.State.{Content}
 use Rattle.md_reader.specs.declared.types.Rule.{Rule}
 use Rattle.md_reader.specs.declared.types.Sym.{Sym}
-use Rattle.md_reader.specs.declared.types.Sym.TheVariants as symbol
+use Rattle.md_reader.specs.declared.types.Sym.TheVariants as grammar_symbol
 use Rattle.lr_tables.specs.declared.types.Choice.{Choice}
 use Rattle.lr_tables.specs.declared.types.Choice.TheVariants as choice
 use Rattle.lr_tables.specs.View.{TableView}
@@ -66,8 +66,8 @@ is_whole long left size k e = by (nat_lt size long) (long == size) refl refl
     }
     by false false f g = inside_whole k (sym (if_else (nat_lt size long) (Out (long - size)) (if long == size then Whole left else Inside) f ∙ if_else (long == size) (Whole left) Inside g) ∙ e)
 
-pub whole_left : (r : Production) (s : List Sym) → size_of r ≡ length s → reduced r s ≡ symbol.Class r.left ∷ []
-whole_left r s e = ap (λ l. symbol.Class r.left ∷ l) (ap (λ n. drop n s) e ∙ drop_whole s)
+pub whole_left : (r : Production) (s : List Sym) → size_of r ≡ length s → reduced r s ≡ grammar_symbol.Class r.left ∷ []
+whole_left r s e = ap (λ l. grammar_symbol.Class r.left ∷ l) (ap (λ n. drop n s) e ∙ drop_whole s)
 
 reduce_same : (r s : Production) → reduce r ≡ reduce s → r ≡ s
 reduce_same r s e = cc
@@ -123,7 +123,7 @@ module _ (t : TableView) (f : FoundView) (i : ℕ) (e : Settling) (x : Place) (p
       candidates_there t p x.behind (reduce w.rule) (subst (λ (cs : List Candidate). Free cs (reduce w.rule)) here (has.only c (reduce w.rule) m w.is)) in
       subst (λ (h : How). HasMade (automaton_of t) f e.place h) (ap (how.Reduced i) w.left) (record {
         place = x;
-        list = symbol.Class w.rule.left ∷ [];
+        list = grammar_symbol.Class w.rule.left ∷ [];
         there = place;
         made = Made.made_by_reduction e w.rule at refl sound.symbols behind fr (w.long ∙ sym (list_is sound.list sound.symbols));
       })
@@ -132,7 +132,7 @@ module _ (t : TableView) (f : FoundView) (i : ℕ) (e : Settling) (x : Place) (p
   reduces_in each = record { each = λ b y s q r ab py ls bq fr many. all b y s q r ab py ls bq fr many }
     where
       all : (b : Settling) (y : Place) (s : List Sym) (q : ℕ) (r : Production) → IsSettlingAt f i b → IsPlaceAt f b.place y → IsList f.lists b.list s → b.behind ≡ Some q →
-          Free ((automaton_of t).candidates q y.behind) (reduce r) → size_of r ≡ length s → Settles f b.place (symbol.Class r.left ∷ [])
+          Free ((automaton_of t).candidates q y.behind) (reduce r) → size_of r ≡ length s → Settles f b.place (grammar_symbol.Class r.left ∷ [])
       all b y s q r ab py ls bq fr many =
           let same : b ≡ e = Some-same b e (sym ab ∙ at) in
           let state : q ≡ p = Some-same q p (sym bq ∙ (ap (λ (z : Settling). z.behind) same ∙ behind)) in
@@ -141,7 +141,7 @@ module _ (t : TableView) (f : FoundView) (i : ℕ) (e : Settling) (x : Place) (p
           (subst (λ (j : ℕ). Free ((automaton_of t).candidates j x.behind) (reduce r)) state (subst (λ (z : Place). Free ((automaton_of t).candidates q z.behind) (reduce r)) beside fr))) in
           let c = has.each (reduce r) fr' in
           let size' : size_of r ≡ size = many ∙ list_is s (subst (λ (z : Settling). IsList f.lists z.list s) same ls) in
-          subst (λ (z : Settling). Settles f z.place (symbol.Class r.left ∷ [])) (sym same)
+          subst (λ (z : Settling). Settles f z.place (grammar_symbol.Class r.left ∷ [])) (sym same)
           (subst (λ (l : Leads). LeadsIn f e.place l) (whole_choice rules c.0 r size c.1.1 size') (each c.0 c.1.0))
 
 -- a settling that leads nowhere

@@ -4,7 +4,7 @@ use Rattle.tree_core.specs.declared.token.Tok.{Tok}
 use Rattle.tree_core.specs.declared.token.Sort.{Sort}
 use Rattle.tree_core.specs.Grammar.{kids}
 use Rattle.md_reader.specs.declared.types.Sym.{Sym}
-use Rattle.md_reader.specs.declared.types.Sym.TheVariants as symbol
+use Rattle.md_reader.specs.declared.types.Sym.TheVariants as grammar_symbol
 use Rattle.lr_check_sets.specs.Trees.{May}
 use Rattle.lr_check_sets.specs.Automaton.{Automaton, Production, reduce, walk, size_of, Free}
 use Rattle.lr_check_found.specs.declared.choices.Leads.{Leads}
@@ -26,12 +26,12 @@ pub record OneKid (A : Automaton) (f : FoundView) (n : ℕ) (x y : Place) : Type
 
 -- each list that the kid's sum has settles behind the token
 pub record OneIn (f : FoundView) (n : ℕ) (k : Tok) (i : ℕ) : Type 0 where
-  pub settles : (y : Place) (s : List Sym) (j : ℕ) → SumAt f i y s j → Settles f n (s ++ (symbol.Tok k ∷ []))
+  pub settles : (y : Place) (s : List Sym) (j : ℕ) → SumAt f i y s j → Settles f n (s ++ (grammar_symbol.Tok k ∷ []))
 
 -- the kid's place is found, and each of its sums settles behind the token
 pub record OnlyAt (f : FoundView) (n : ℕ) (k : Tok) (y : Place) : Type 0 where
   pub place : HasPlace f y.state y.token y.behind
-  pub sums : (s : List Sym) → HasSum f y.state y.token y.behind s → Settles f n (s ++ (symbol.Tok k ∷ []))
+  pub sums : (s : List Sym) → HasSum f y.state y.token y.behind s → Settles f n (s ++ (grammar_symbol.Tok k ∷ []))
 
 -- the only kid of the place, which begins in state p
 pub record OnlyIn (f : FoundView) (n : ℕ) (x : Place) (p : ℕ) (w : Sort) : Type 0 where
@@ -69,12 +69,13 @@ pub record TwoKids (A : Automaton) (f : FoundView) (n : ℕ) (x : Place) (m : To
 
 -- the two kids' lists settle behind the token
 pub record TwoIn (f : FoundView) (n : ℕ) (k : Tok) (i h : ℕ) : Type 0 where
-  pub settles : (y z : Place) (s u : List Sym) (j l : ℕ) → SumAt f i y s j → SumAt f h z u l → Settles f n (u ++ (s ++ (symbol.Tok k ∷ [])))
+  pub settles : (y z : Place) (s u : List Sym) (j l : ℕ) → SumAt f i y s j → SumAt f h z u l
+      → Settles f n (u ++ (s ++ (grammar_symbol.Tok k ∷ [])))
 
 -- the second kid, which begins with m, behind the list of the first, which leads to state j
 pub record SecondIn (f : FoundView) (n : ℕ) (x : Place) (m : Tok) (s : List Sym) (j : ℕ) : Type 0 where
   pub place : HasPlace f j m x.behind
-  pub sums : (u : List Sym) → HasSum f j m x.behind u → Settles f n (u ++ (s ++ (symbol.Tok x.token ∷ [])))
+  pub sums : (u : List Sym) → HasSum f j m x.behind u → Settles f n (u ++ (s ++ (grammar_symbol.Tok x.token ∷ [])))
 
 -- the same behind the list of the sum i
 pub record SecondAt (f : FoundView) (n : ℕ) (x : Place) (m : Tok) (i : ℕ) : Type 0 where
@@ -90,30 +91,30 @@ pub record BothIn (A : Automaton) (f : FoundView) (n : ℕ) (x : Place) (p : ℕ
 
 -- what follows from the place's token and its kids: there are at most two
 abbrev pub KidsIn : Automaton → FoundView → ℕ → Place → ℕ → List Sort → Type 0
-KidsIn A f n x p [] = Settles f n (symbol.Tok x.token ∷ [])
+KidsIn A f n x p [] = Settles f n (grammar_symbol.Tok x.token ∷ [])
 KidsIn A f n x p (w ∷ []) = OnlyIn f n x p w
 KidsIn A f n x p (w ∷ v ∷ []) = BothIn A f n x p w v
 KidsIn A f n x p (w ∷ v ∷ z ∷ xs) = ⊥
 
 -- a state and a token that leads from it, with the places that stand there by number
 pub record IsFrame (A : Automaton) (f : FoundView) (q : ℕ) (k : Tok) (p : ℕ) (numbers : List ℕ) : Type 0 where
-  pub go : A.go q (symbol.Tok k) ≡ Some p
+  pub go : A.go q (grammar_symbol.Tok k) ≡ Some p
   pub places : (n : ℕ) → Contains numbers n → (b : Tok) × IsPlaceAt f n (place_of q k b)
   pub all : (n : ℕ) (b : Tok) → IsPlaceAt f n (place_of q k b) → Contains numbers n
 
 -- what follows from a choice at a list that settles at the place
 abbrev pub LeadsIn : FoundView → ℕ → Leads → Type 0
 LeadsIn f n (Out k) = Unit {0}
-LeadsIn f n (Whole k) = Settles f n (symbol.Class k ∷ [])
+LeadsIn f n (Whole k) = Settles f n (grammar_symbol.Class k ∷ [])
 LeadsIn f n Inside = Unit {0}
 
 -- the reductions of the whole list settle too
 pub record ReducesIn (A : Automaton) (f : FoundView) (i : ℕ) : Type 0 where
   pub each : (e : Settling) (x : Place) (s : List Sym) (p : ℕ) (r : Production) → IsSettlingAt f i e → IsPlaceAt f e.place x
       → IsList f.lists e.list s → e.behind ≡ Some p →
-      Free (A.candidates p x.behind) (reduce r) → size_of r ≡ length s → Settles f e.place (symbol.Class r.left ∷ [])
+      Free (A.candidates p x.behind) (reduce r) → size_of r ≡ length s → Settles f e.place (grammar_symbol.Class r.left ∷ [])
 
 -- what follows from the places of a state and a token
 pub record FrameIn (A : Automaton) (f : FoundView) (q : ℕ) (k : Tok) : Type 0 where
-  pub each : (p n : ℕ) (b : Tok) → A.go q (symbol.Tok k) ≡ Some p → IsPlaceAt f n (place_of q k b)
+  pub each : (p n : ℕ) (b : Tok) → A.go q (grammar_symbol.Tok k) ≡ Some p → IsPlaceAt f n (place_of q k b)
       → KidsIn A f n (place_of q k b) p (kids k)

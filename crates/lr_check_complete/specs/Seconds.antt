@@ -2,7 +2,7 @@
 use Rattle.std.specs.Prelude.{ℕ, List, [], ◌∷◌, ◌++◌}
 use Rattle.tree_core.specs.declared.token.Sort.{Sort}
 use Rattle.md_reader.specs.declared.types.Sym.{Sym}
-use Rattle.md_reader.specs.declared.types.Sym.TheVariants as symbol
+use Rattle.md_reader.specs.declared.types.Sym.TheVariants as grammar_symbol
 use Rattle.tree_core.specs.declared.token.Tok.{Tok}
 use Rattle.lr_check_sets.specs.Automaton.{Automaton}
 use Rattle.lr_check_found.specs.declared.places.Place.{Place}
@@ -28,4 +28,4 @@ pub record SecondKid (A : Automaton) (f : FoundView) (n : ℕ) (x : Place) (i : 
 pub record SecondFound (f : FoundView) (n : ℕ) (k : Tok) (i : ℕ) (y : Place) : Type 0 where
   pub place : HasPlace f y.state y.token y.behind
   pub sums : (z : Place) (s u : List Sym) (j : ℕ) → SumAt f i z s j → HasSum f y.state y.token y.behind u
-      → Settles f n (u ++ (s ++ (symbol.Tok k ∷ [])))
+      → Settles f n (u ++ (s ++ (grammar_symbol.Tok k ∷ [])))

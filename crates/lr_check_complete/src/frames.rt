@@ -2,7 +2,7 @@
 ghost use Rattle.std.specs.Prelude.{◌≡◌, ◌⊎◌, ℕ, [], ◌∷◌, OnOk, IfOk, Contains};
 ghost use Rattle.tree_core.specs.declared.token.Tok.{Tok};
 ghost use Rattle.tree_core.specs.Grammar.{kids};
-ghost use Rattle.md_reader.specs.declared.types.Sym.TheVariants as symbol;
+ghost use Rattle.md_reader.specs.declared.types.Sym.TheVariants as grammar_symbol;
 ghost use Rattle.lr_check_sets.specs.Automaton.{Automaton};
 ghost use Rattle.lr_check_sets.specs.Table.{automaton_of};
 ghost use Rattle.lr_check_found.specs.declared.places.Place.{Place};
@@ -34,7 +34,7 @@ fn leaves(
     requires { (A : Automaton) × IsFound A found.now }
     ensures { (A : Automaton) (w : view.Window) (q p : ℕ) → IsFrame A found.now q token p numbers.now → kids token ≡ [] →
         OnOk result (Looks A found.now w into.old.items into.new.items
-        ((n : ℕ) → Contains numbers.now n → Settles found.now n (symbol.Tok token ∷ []))) }
+        ((n : ℕ) → Contains numbers.now n → Settles found.now n (grammar_symbol.Tok token ∷ []))) }
 {
     for number in numbers {
         settle(found, *number, How::Leaf, token, 0, 0, into)?;

@@ -1,7 +1,7 @@
 // Whether a list that follows settles at a place.
 ghost use Rattle.std.specs.Prelude.{◌≡◌, ◌∷◌, ◌++◌, [], List, OnOk, IsTrue};
 ghost use Rattle.md_reader.specs.declared.types.Sym.{Sym};
-ghost use Rattle.md_reader.specs.declared.types.Sym.TheVariants as symbol;
+ghost use Rattle.md_reader.specs.declared.types.Sym.TheVariants as grammar_symbol;
 ghost use Rattle.lr_check_sets.specs.Automaton.{Automaton};
 ghost use Rattle.lr_check_found.specs.Lists.{IsList};
 ghost use Rattle.lr_check_found.specs.Found.{Settles};
@@ -18,7 +18,7 @@ use tree_core::Tok;
 fn is_settled(found: &Found, number: usize, token: Tok, upper: usize, lower: usize) -> bool
     requires { (A : Automaton) × IsFound A found.now }
     ensures { IsTrue result → (u l : List Sym) → IsList found.now.lists upper u → IsList found.now.lists lower l →
-        Settles found.now number (u ++ (l ++ (symbol.Tok token ∷ []))) }
+        Settles found.now number (u ++ (l ++ (grammar_symbol.Tok token ∷ []))) }
 {
     match found.lists().find_behind(token, upper, lower) {
         Some(list) => found.settles(number, list),
@@ -40,7 +40,7 @@ pub fn settle(
     ensures { (A : Automaton) (w : Window) → HasMade A found.now number how →
         OnOk result (Looks A found.now w into.old.items into.new.items
         ((u l : List Sym) → IsList found.now.lists upper u → IsList found.now.lists lower l →
-        Settles found.now number (u ++ (l ++ (symbol.Tok token ∷ []))))) }
+        Settles found.now number (u ++ (l ++ (grammar_symbol.Tok token ∷ []))))) }
 {
     if is_settled(found, number, token, upper, lower) {
         return Ok(());

@@ -1,6 +1,6 @@
 // What follows from reductions of a settling's whole list.
 ghost use Rattle.std.specs.Prelude.{◌≡◌, ℕ, [], ◌∷◌, List, OnOk, IsTrue, Contains, length};
-ghost use Rattle.md_reader.specs.declared.types.Sym.TheVariants as symbol;
+ghost use Rattle.md_reader.specs.declared.types.Sym.TheVariants as grammar_symbol;
 ghost use Rattle.lr_tables.specs.declared.types.Choice.{Choice};
 ghost use Rattle.lr_check_sets.specs.Automaton.{Automaton};
 ghost use Rattle.lr_check_sets.specs.Table.{automaton_of};
@@ -22,7 +22,7 @@ use md_reader::{Rule, Sym};
 // Whether the class alone settles at the place with the number.
 fn is_reduced(found: &Found, number: usize, class: u16) -> bool
     requires { (A : Automaton) × IsFound A found.now }
-    ensures { IsTrue result → Settles found.now number (symbol.Class class ∷ []) }
+    ensures { IsTrue result → Settles found.now number (grammar_symbol.Class class ∷ []) }
 {
     match found.lists().find(Sym::Class(class), 0) {
         Some(list) => found.settles(number, list),
@@ -40,7 +40,7 @@ fn reduced(
 ) -> Result<(), NoMemory>
     requires { (A : Automaton) × IsFound A found.now }
     ensures { (A : Automaton) (w : Window) → HasMade A found.now number (how.Reduced settling class) →
-        OnOk result (Looks A found.now w into.old.items into.new.items (Settles found.now number (symbol.Class class ∷ []))) }
+        OnOk result (Looks A found.now w into.old.items into.new.items (Settles found.now number (grammar_symbol.Class class ∷ []))) }
 {
     if is_reduced(found, number, class) {
         return Ok(());

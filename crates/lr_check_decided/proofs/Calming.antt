@@ -10,7 +10,7 @@ use Rattle.std.proofs.lemmas.Option.{slice_get-map}
 use Rattle.tree_core.specs.declared.token.Tok.{Tok}
 use Rattle.md_reader.specs.State.{Content}
 use Rattle.md_reader.specs.declared.types.Rule.{Rule}
-use Rattle.md_reader.specs.declared.types.Sym.TheVariants as symbol
+use Rattle.md_reader.specs.declared.types.Sym.TheVariants as grammar_symbol
 use Rattle.lr_tables.specs.declared.types.Choice.{Choice}
 use Rattle.lr_tables.specs.declared.types.Choice.TheVariants as choice
 use Rattle.lr_tables.specs.View.{TableView}
@@ -89,7 +89,7 @@ rule_listed rules (choice.Reduce n) r (q, (there, is)) =
     at_contains (productions rules) n r (slice_get-map production rules n ∙ (ap (option_map production) there ∙ ap Some (sym (reduce_same r (production q) is))))
 
 module _ (t : TableView) (q at c : ℕ) (b : Tok) (d : Content) (rules : List Rule) (choices free : List Choice) (content : d ≡ t.content) (are : rules ≡ d.rules) (actions : choices ≡ actions_at t at b)
-    (has : HasFree rules choices free) (go : (automaton_of t).go q (symbol.Class c) ≡ Some at) (marks : List Bool) where
+    (has : HasFree rules choices free) (go : (automaton_of t).go q (grammar_symbol.Class c) ≡ Some at) (marks : List Bool) where
   here : candidates_of rules choices ≡ candidates_of t.content.rules (actions_at t at b)
   here = ap (λ (rs : List Rule). candidates_of rs choices) (are ∙ ap (λ (c : Content). c.rules) content) ∙ ap (candidates_of t.content.rules) actions
 
@@ -133,22 +133,22 @@ module _ (t : TableView) (q at c : ℕ) (b : Tok) (d : Content) (rules : List Ru
   marked_if (Some k) h = tt
 
 -- a class that leads nowhere
-pub marked_nowhere : (A : Automaton) (q c : ℕ) (b : Tok) (marks : List Bool) → A.go q (symbol.Class c) ≡ None → LeadsToMarked A q b marks c
+pub marked_nowhere : (A : Automaton) (q c : ℕ) (b : Tok) (marks : List Bool) → A.go q (grammar_symbol.Class c) ≡ None → LeadsToMarked A q b marks c
 marked_nowhere A q c b marks none = record { each = λ d s. absurd (none_some s.at (sym none ∙ s.go)) }
 
 -- a class that leads to calm ones is calm
-pub calm_class : (A : Automaton) (q c : ℕ) (b : Tok) (marks : List Bool) → AreCalm A q b marks → LeadsToMarked A q b marks c → Calms A q b (symbol.Class c ∷ [])
-calm_class A q c b marks are leads = calms (λ r p ws fr size. subst (Calms A q b) (sym (whole_left r (symbol.Class c ∷ []) size))
+pub calm_class : (A : Automaton) (q c : ℕ) (b : Tok) (marks : List Bool) → AreCalm A q b marks → LeadsToMarked A q b marks c → Calms A q b (grammar_symbol.Class c ∷ [])
+calm_class A q c b marks are leads = calms (λ r p ws fr size. subst (Calms A q b) (sym (whole_left r (grammar_symbol.Class c ∷ []) size))
     (are.each r.left (leads.each r.left (record { at = p; rule = r; go = ws; free = fr; one = size; left = refl }))))
 
 false_true : {X : Type 0} → false ≡ true → X
 false_true e = cc
 
 -- one mark more
-pub marked_calm : (A : Automaton) (q : ℕ) (b : Tok) (marks : List Bool) (c : ℕ) → c < length marks → AreCalm A q b marks → Calms A q b (symbol.Class c ∷ []) → AreCalm A q b (set marks c true)
+pub marked_calm : (A : Automaton) (q : ℕ) (b : Tok) (marks : List Bool) (c : ℕ) → c < length marks → AreCalm A q b marks → Calms A q b (grammar_symbol.Class c ∷ []) → AreCalm A q b (set marks c true)
 marked_calm A q b marks c lt are calm = record {
   each = λ k m. ⊎_elim
-      (λ same. subst (λ j. Calms A q b (symbol.Class j ∷ [])) (sym same) calm)
+      (λ same. subst (λ j. Calms A q b (grammar_symbol.Class j ∷ [])) (sym same) calm)
       (λ other. are.each k (sym (get_or-set_other marks c k true false other) ∙ m))
       (cases_eq k c);
 }

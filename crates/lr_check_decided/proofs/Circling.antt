@@ -5,7 +5,7 @@ use Rattle.std.proofs.lemmas.Option.{get_or_from_slice_get}
 use Rattle.md_reader.specs.State.{Content}
 use Rattle.md_reader.specs.declared.types.Rule.{Rule}
 use Rattle.md_reader.specs.declared.types.Sym.{Sym}
-use Rattle.md_reader.specs.declared.types.Sym.TheVariants as symbol
+use Rattle.md_reader.specs.declared.types.Sym.TheVariants as grammar_symbol
 use Rattle.lr_tables.specs.declared.types.Choice.{Choice}
 use Rattle.lr_tables.specs.View.{TableView}
 use Rattle.lr_tables.specs.Leads.{actions_at}
@@ -88,7 +88,7 @@ module _ (t : TableView) (f : FoundView) (i : ℕ) (e : Settling) (x : Place) (p
       let many : size_of w.rule ≡ length sound.list = w.long ∙ sym (same_size sound.list sound.symbols) in
       let settles : Settles f e.place sound.list = record { number = i; entry = e; there = at; place = refl; list = sound.symbols } in
       record {
-        settles = subst (λ k. Settles f e.place (symbol.Class k ∷ [])) w.left
+        settles = subst (λ k. Settles f e.place (grammar_symbol.Class k ∷ [])) w.left
             (made (automaton_of t) f e.place x complete place sound.list p w.rule settles (walks sound.list sound.symbols) fr many);
         stuck = subst (AreStuck (automaton_of t) x.state x.behind) (sym same) stuck;
         low = subst (λ (l : List Bool). r.class < length l) (sym same) (subst (λ k. k < length marks) w.left (classes w.rule listed));

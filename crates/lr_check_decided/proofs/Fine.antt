@@ -3,7 +3,7 @@ use Rattle.std.proofs.Common.{◌≡◌, ℕ, ◌≤◌, List, Some, sym, ap, �
 use Rattle.lr_check_found.specs.Count.{HasMore}
 use Rattle.tree_core.specs.declared.token.Tok.{Tok}
 use Rattle.md_reader.specs.declared.types.Sym.{Sym}
-use Rattle.md_reader.specs.declared.types.Sym.TheVariants as symbol
+use Rattle.md_reader.specs.declared.types.Sym.TheVariants as grammar_symbol
 use Rattle.lr_check_sets.specs.Automaton.{Automaton, walk, CanBlock}
 use Rattle.lr_check_sets.specs.Faults.{Calms, NoFault}
 use Rattle.lr_check_sets.proofs.Closing.{no_fault}
@@ -29,7 +29,7 @@ module _ (A : Automaton) (f : FoundView) (c : IsComplete A f) where
       let list : e.list ≡ s = lists_same e.list s (sym e.symbols ∙ h.settles.list) in
       e.behind ∙ (ap (λ (x : Place). walk A x.state e.list) place ∙ (ap (walk A q) list ∙ ws))
 
-  pub fine : ((n : ℕ) (x : Place) → IsPlaceAt f n x → (p : ℕ) × (A.go x.state (symbol.Tok x.token) ≡ Some p)) →
+  pub fine : ((n : ℕ) (x : Place) → IsPlaceAt f n x → (p : ℕ) × (A.go x.state (grammar_symbol.Tok x.token) ≡ Some p)) →
       ((i : ℕ) (e : Settling) (x : Place) (p : ℕ) → IsSettlingAt f i e → IsPlaceAt f e.place x → e.behind ≡ Some p → CanBlock (A.candidates p x.behind) → ⊥) →
       ((i : ℕ) (e : Settling) (x : Place) (s : List Sym) → IsSettlingAt f i e → IsPlaceAt f e.place x → IsList f.lists e.list s → Calms A x.state x.behind s) → NoFault A
   fine shifts takes ends = no_fault A (HasPlace f) (HasSettling f) (HasSum f) c.closed (record {

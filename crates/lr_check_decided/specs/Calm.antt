@@ -2,7 +2,7 @@
 use Rattle.std.specs.Prelude.{◌≡◌, ℕ, ◌<◌, List, [], ◌∷◌, Contains, Bool, true, false, length, slice_index_or, count_by}
 use Rattle.tree_core.specs.declared.token.Tok.{Tok}
 use Rattle.md_reader.specs.declared.types.Rule.{Rule}
-use Rattle.md_reader.specs.declared.types.Sym.TheVariants as symbol
+use Rattle.md_reader.specs.declared.types.Sym.TheVariants as grammar_symbol
 use Rattle.lr_tables.specs.declared.types.Choice.{Choice}
 use Rattle.lr_check_sets.specs.Automaton.{Automaton}
 use Rattle.lr_check_sets.specs.Faults.{Calms}
@@ -16,7 +16,7 @@ marked marks = count_by (λ (b : Bool). b) marks
 
 -- the marked classes are calm
 pub record AreCalm (A : Automaton) (q : ℕ) (b : Tok) (marks : List Bool) : Type 0 where
-  pub each : (k : ℕ) → slice_index_or marks k false ≡ true → Calms A q b (symbol.Class k ∷ [])
+  pub each : (k : ℕ) → slice_index_or marks k false ≡ true → Calms A q b (grammar_symbol.Class k ∷ [])
 
 -- a reduction of the class k alone leads to the class d, which isn't marked
 pub record IsNext (A : Automaton) (q : ℕ) (b : Tok) (marks : List Bool) (k d : ℕ) : Type 0 where

@@ -1,7 +1,7 @@
 -- Reductions that lead from a class alone to another one, and back to where they were.
 use Rattle.std.specs.Prelude.{◌≡◌, ℕ, ◌<◌, [], ◌∷◌, false, length, slice_index_or}
 use Rattle.tree_core.specs.declared.token.Tok.{Tok}
-use Rattle.md_reader.specs.declared.types.Sym.TheVariants as symbol
+use Rattle.md_reader.specs.declared.types.Sym.TheVariants as grammar_symbol
 use Rattle.lr_check_sets.specs.Automaton.{Automaton}
 use Rattle.lr_check_found.specs.declared.places.Place.{Place}
 use Rattle.lr_check_found.specs.Found.{FoundView, Settles}
@@ -22,7 +22,7 @@ pub record IsTurn (A : Automaton) (q : ℕ) (b : Tok) (c : ℕ) (t : Turn) : Typ
 
 -- the class alone settles at the place, and isn't marked; each class that isn't is stuck
 pub record IsRestless (A : Automaton) (f : FoundView) (n : ℕ) (x : Place) (r : Restless) : Type 0 where
-  pub settles : Settles f n (symbol.Class r.class ∷ [])
+  pub settles : Settles f n (grammar_symbol.Class r.class ∷ [])
   pub stuck : AreStuck A x.state x.behind r.marks.items
   pub low : r.class < length r.marks.items
   pub unmarked : slice_index_or r.marks.items r.class false ≡ false

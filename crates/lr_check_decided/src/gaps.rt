@@ -1,6 +1,6 @@
 // Places whose token isn't shifted, and lists at which some answers take nothing.
 ghost use Rattle.std.specs.Prelude.{◌≡◌, ℕ, Some, false, IsTrue, IfSome, IfNone};
-ghost use Rattle.md_reader.specs.declared.types.Sym.TheVariants as symbol;
+ghost use Rattle.md_reader.specs.declared.types.Sym.TheVariants as grammar_symbol;
 ghost use Rattle.lr_check_sets.specs.Automaton.{CanBlock};
 ghost use Rattle.lr_check_sets.specs.Table.{automaton_of};
 ghost use Rattle.lr_check_found.specs.declared.places.Place.{Place};
@@ -17,7 +17,7 @@ use md_reader::Sym;
 fn is_gap(tables: &Tables, found: &Found, number: usize) -> bool
     ensures some { IsTrue result → IsGapAt (automaton_of tables.now) found.now number }
     ensures none { result ≡ false → (x : Place) → IsPlaceAt found.now number x → (p : ℕ)
-        × ((automaton_of tables.now).go x.state (symbol.Tok x.token) ≡ Some p) }
+        × ((automaton_of tables.now).go x.state (grammar_symbol.Tok x.token) ≡ Some p) }
 {
     let place = match found.places().get(number) {
         Some(place) => *place,
@@ -33,7 +33,7 @@ fn is_gap(tables: &Tables, found: &Found, number: usize) -> bool
 pub fn find_gap(tables: &Tables, found: &Found) -> Option<usize>
     ensures some { IfSome result (λ n. IsGapAt (automaton_of tables.now) found.now n) }
     ensures none { IfNone result ((n : ℕ) (x : Place) → IsPlaceAt found.now n x → (p : ℕ)
-        × ((automaton_of tables.now).go x.state (symbol.Tok x.token) ≡ Some p)) }
+        × ((automaton_of tables.now).go x.state (grammar_symbol.Tok x.token) ≡ Some p)) }
 {
     for number in 0..found.places().len() {
         if is_gap(tables, found, number) {

@@ -5,7 +5,7 @@ use Rattle.tree_core.specs.declared.token.Tok.{Tok}
 use Rattle.tree_core.specs.declared.token.Sort.TheVariants as sort
 use Rattle.tree_core.specs.Grammar.{kids}
 use Rattle.md_reader.specs.declared.types.Sym.{Sym}
-use Rattle.md_reader.specs.declared.types.Sym.TheVariants as symbol
+use Rattle.md_reader.specs.declared.types.Sym.TheVariants as grammar_symbol
 use Rattle.md_reader.specs.Valid.{IsValid}
 use Rattle.lr_tables.specs.View.{TableView}
 use Rattle.lr_tables.specs.Promises.{IsNumbered}
@@ -108,7 +108,7 @@ module _ (A : Automaton) (f : FoundView) where
 
   pub circle_statement : (first new : List Node) (i : ℕ) (classes : List ℕ) (answers : List Bool) → AreSettled A f first → IsCircleAt A f i classes → HasAbove f first new i answers →
       IsStatement new
-  circle_statement first new i classes answers s g h = (above first new i g.behind g.place (symbol.Class g.class ∷ []) g.settles answers s h).statement
+  circle_statement first new i classes answers s g h = (above first new i g.behind g.place (grammar_symbol.Class g.class ∷ []) g.settles answers s h).statement
 
 module _ (t : TableView) (v : IsValid t.content) (b : IsNumbered t) (f : FoundView) (found : IsFound (automaton_of t) f) where
   pub gap_sample : (first old new pruned : List Node) (n top : ℕ) (token : Tok) → AreSettled (automaton_of t) f first → IsGapAt (automaton_of t) f n →
@@ -133,7 +133,7 @@ module _ (t : TableView) (v : IsValid t.content) (b : IsNumbered t) (f : FoundVi
       IsPruned nodes pruned → IsLoopingSample t.content pruned
   circle_sample first new pruned i classes own more answers s g is turns e h nodes same q =
       let p : IsPruned new pruned = subst (λ (l : List Node). IsPruned l pruned) same q in
-      let a = above (automaton_of t) f first new i g.behind g.place (symbol.Class g.class ∷ []) g.settles answers s h in
+      let a = above (automaton_of t) f first new i g.behind g.place (grammar_symbol.Class g.class ∷ []) g.settles answers s h in
       let r = turns.turns g.place g.class g.behind g.settles g.along in
       let node : IsNode new a.top g.place.token a.numbers (a.own ++ more) =
       subst (λ (l : List Bool). IsNode new a.top g.place.token a.numbers l) (e ∙ ap (λ (l : List Bool). l ++ more) (is ∙ a.first_answers)) a.node in

@@ -5,7 +5,7 @@ use Rattle.std.specs.Prelude.{Result, Ok, Err, IfOk}
 use Rattle.std.proofs.lemmas.Option.{slice_get_within, slice_get-get_or, get_or_from_slice_get}
 use Rattle.std.proofs.lemmas.List.{get_or_default}
 use Rattle.tree_core.specs.declared.token.Tok.{Tok}
-use Rattle.md_reader.specs.declared.types.Sym.TheVariants as symbol
+use Rattle.md_reader.specs.declared.types.Sym.TheVariants as grammar_symbol
 use Rattle.lr_check_sets.specs.Automaton.{Automaton}
 use Rattle.lr_check_found.specs.declared.places.Place.{Place}
 use Rattle.lr_check_found.proofs.Reading.{Some-same, none_some, slice_last, slice_cases}
@@ -57,19 +57,21 @@ module _ (A : Automaton) (x : Place) where
     depths = a.depths ++ depths_to (A.candidates s.at x.behind) 1 e;
   } → HasTurned A x c e b
   step_turns c d e n a b (turned_not same none) s is =
-      let g : Turning A x.state x.behind (symbol.Class d ∷ []) (symbol.Class s.rule.left ∷ []) (answers_to (A.candidates s.at x.behind) 1 s.rule.left)
+      let g : Turning A x.state x.behind (grammar_symbol.Class d ∷ []) (grammar_symbol.Class s.rule.left ∷ []) (answers_to (A.candidates s.at x.behind) 1 s.rule.left)
       (depths_to (A.candidates s.at x.behind) 1 s.rule.left) =
       turn s.rule s.go s.free s.one in
-      let h = subst (λ z. Turning A x.state x.behind (symbol.Class d ∷ []) (symbol.Class z ∷ []) (answers_to (A.candidates s.at x.behind) 1 z) (depths_to (A.candidates s.at x.behind) 1 z)) s.left g in
-      let k = subst (λ z. Turning A x.state x.behind (symbol.Class z ∷ []) (symbol.Class e ∷ []) (answers_to (A.candidates s.at x.behind) 1 e) (depths_to (A.candidates s.at x.behind) 1 e))
+      let h = subst (λ z. Turning A x.state x.behind (grammar_symbol.Class d ∷ []) (grammar_symbol.Class z ∷ []) (answers_to (A.candidates s.at x.behind) 1 z)
+      (depths_to (A.candidates s.at x.behind) 1 z)) s.left g in
+      let k = subst (λ z. Turning A x.state x.behind (grammar_symbol.Class z ∷ []) (grammar_symbol.Class e ∷ []) (answers_to (A.candidates s.at x.behind) 1 e)
+      (depths_to (A.candidates s.at x.behind) 1 e))
       (sym same) h in
       let full : b ≡ record { own = answers_to (A.candidates s.at x.behind) 1 e; depths = depths_to (A.candidates s.at x.behind) 1 e } =
       is ∙ ap (λ (z : AskedView). record { own = z.own ++ answers_to (A.candidates s.at x.behind) 1 e; depths = z.depths ++ depths_to (A.candidates s.at x.behind) 1 e }) none in
       subst (λ (z : AskedView). HasTurned A x c e z) (sym full) k
   step_turns c d e n a b (turned_so m turned) s is =
-      let g : Turning A x.state x.behind (symbol.Class c ∷ []) (symbol.Class s.rule.left ∷ []) (a.own ++ answers_to (A.candidates s.at x.behind) 1 s.rule.left)
+      let g : Turning A x.state x.behind (grammar_symbol.Class c ∷ []) (grammar_symbol.Class s.rule.left ∷ []) (a.own ++ answers_to (A.candidates s.at x.behind) 1 s.rule.left)
       (a.depths ++ depths_to (A.candidates s.at x.behind) 1 s.rule.left) = turn_on s.rule turned s.go s.free s.one in
-      let h = subst (λ z. Turning A x.state x.behind (symbol.Class c ∷ []) (symbol.Class z ∷ []) (a.own ++ answers_to (A.candidates s.at x.behind) 1 z)
+      let h = subst (λ z. Turning A x.state x.behind (grammar_symbol.Class c ∷ []) (grammar_symbol.Class z ∷ []) (a.own ++ answers_to (A.candidates s.at x.behind) 1 z)
       (a.depths ++ depths_to (A.candidates s.at x.behind) 1 z)) s.left g in
       subst (λ (z : AskedView). HasTurned A x c e z) (sym is) h
 
@@ -77,7 +79,7 @@ module _ (A : Automaton) (x : Place) where
   turns_none c ds a e = record { within = omega arith; from_before = refl; turned = turned_not refl e }
 
   pub turns_more : (c i y from : ℕ) (ds : List ℕ) (a b : AskedView) → LeadsOn A x c ds → Turns A x c ds from a i → i < length ds →
-      ((p : ℕ) → A.go x.state (symbol.Class from) ≡ Some p → b ≡ record {
+      ((p : ℕ) → A.go x.state (grammar_symbol.Class from) ≡ Some p → b ≡ record {
         own = a.own ++ answers_to (A.candidates p x.behind) 1 (get_or ds i y);
         depths = a.depths ++ depths_to (A.candidates p x.behind) 1 (get_or ds i y);
       }) → Turns A x c ds (get_or ds i y) b (i + 1)

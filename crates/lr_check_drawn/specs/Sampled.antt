@@ -1,7 +1,7 @@
 -- The nodes of a sample.
 use Rattle.std.specs.Prelude.{ℕ, List, [], ◌∷◌, Bool}
 use Rattle.md_reader.specs.declared.types.Sym.{Sym}
-use Rattle.md_reader.specs.declared.types.Sym.TheVariants as symbol
+use Rattle.md_reader.specs.declared.types.Sym.TheVariants as grammar_symbol
 use Rattle.md_reader.specs.State.{Content}
 use Rattle.lr_check_sets.specs.Automaton.{Automaton}
 use Rattle.lr_check.specs.Tree.{Node}
@@ -57,8 +57,8 @@ pub record HasAbove (f : FoundView) (old new : List Node) (i : ℕ) (answers : L
 
 -- these answers lead round from the settling's list, a class alone, along the classes
 pub record HasRound (A : Automaton) (f : FoundView) (i : ℕ) (classes : List ℕ) (answers : List Bool) : Type 0 where
-  pub turns : (x : Place) (c p : ℕ) → SettlesAt f i x (symbol.Class c ∷ []) p → Along A x.state x.behind c classes c →
-      (ds : List ℕ) × Turning A x.state x.behind (symbol.Class c ∷ []) (symbol.Class c ∷ []) answers ds
+  pub turns : (x : Place) (c p : ℕ) → SettlesAt f i x (grammar_symbol.Class c ∷ []) p → Along A x.state x.behind c classes c →
+      (ds : List ℕ) × Turning A x.state x.behind (grammar_symbol.Class c ∷ []) (grammar_symbol.Class c ∷ []) answers ds
 
 -- A sample of the flaw: its parse blocks at a gap and at a dead list, and turns at a circle.
 abbrev pub IsSampleOf : Content → Flaw → List Node → Type 0

@@ -1,6 +1,6 @@
 -- What a node is asked while reductions of a class alone turn round.
 use Rattle.std.specs.Prelude.{◌≡◌, ℕ, ◌≤◌, List, [], ◌∷◌, zero, suc, length, slice_index_or}
-use Rattle.md_reader.specs.declared.types.Sym.TheVariants as symbol
+use Rattle.md_reader.specs.declared.types.Sym.TheVariants as grammar_symbol
 use Rattle.lr_check_sets.specs.Automaton.{Automaton}
 use Rattle.lr_check_found.specs.declared.places.Place.{Place}
 use Rattle.lr_check_samples.specs.Samples.{Turning}
@@ -9,7 +9,7 @@ use Rattle.lr_check_drawn.specs.Asked.{AskedView}
 
 -- from the one class to the other it is asked so
 abbrev pub HasTurned : Automaton → Place → ℕ → ℕ → AskedView → Type 0
-HasTurned A x c d a = Turning A x.state x.behind (symbol.Class c ∷ []) (symbol.Class d ∷ []) a.own a.depths
+HasTurned A x c d a = Turning A x.state x.behind (grammar_symbol.Class c ∷ []) (grammar_symbol.Class d ∷ []) a.own a.depths
 
 -- reductions lead along these classes
 pub record LeadsOn (A : Automaton) (x : Place) (c : ℕ) (ds : List ℕ) : Type 0 where

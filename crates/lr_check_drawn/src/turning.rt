@@ -1,6 +1,6 @@
 // What a node is asked while reductions of a class alone turn round.
 ghost use Rattle.std.specs.Prelude.{◌≡◌, ◌++◌, ◌<◌, ◌-◌, ℕ, Some, OnOk, IfOk, length, slice_index_or};
-ghost use Rattle.md_reader.specs.declared.types.Sym.TheVariants as symbol;
+ghost use Rattle.md_reader.specs.declared.types.Sym.TheVariants as grammar_symbol;
 ghost use Rattle.lr_check_sets.specs.Table.{automaton_of};
 ghost use Rattle.lr_check_samples.specs.Answering.{answers_to, depths_to};
 ghost use Rattle.lr_check_flaws.specs.Flaws.{Along};
@@ -21,7 +21,7 @@ fn turn(
     from: u16,
     to: u16,
 ) -> Result<(), NoMemory>
-    ensures { (p : ℕ) → (automaton_of tables.now).go place.now.state (symbol.Class from) ≡ Some p → OnOk result (asked.new ≡ record {
+    ensures { (p : ℕ) → (automaton_of tables.now).go place.now.state (grammar_symbol.Class from) ≡ Some p → OnOk result (asked.new ≡ record {
       own = asked.old.own ++ answers_to ((automaton_of tables.now).candidates p place.now.behind) 1 to;
       depths = asked.old.depths ++ depths_to ((automaton_of tables.now).candidates p place.now.behind) 1 to;
     }) }

@@ -2,7 +2,7 @@
 use Rattle.std.proofs.Common.{◌≡◌, ℕ, List, [], ◌∷◌, Some, drop, sym, ap, ◌∙◌, subst}
 use Rattle.tree_core.specs.declared.token.Tok.{Tok}
 use Rattle.md_reader.specs.declared.types.Sym.{Sym}
-use Rattle.md_reader.specs.declared.types.Sym.TheVariants as symbol
+use Rattle.md_reader.specs.declared.types.Sym.TheVariants as grammar_symbol
 use Rattle.lr_check_sets.specs.Automaton.{Automaton, walk, reduced}
 use Rattle.lr_check_sets.specs.Sums as sets
 use Rattle.lr_check_sets.specs.Faults.{Fault, gap, dead, circle, Circles}
@@ -38,11 +38,11 @@ module _ (A : Automaton) (f : FoundView) (i p : ℕ) (x : Place) (s : List Sym) 
 
 module _ (A : Automaton) (q : ℕ) (t : Tok) where
   abbrev class : ℕ → List Sym
-  class c = symbol.Class c ∷ []
+  class c = grammar_symbol.Class c ∷ []
 
   -- what a step makes of a class alone
   comes : (c d : ℕ) (s : StepsTo A q t c d) → reduced s.rule (class c) ≡ class d
-  comes c d s = ap (λ n. symbol.Class s.rule.left ∷ drop n (class c)) s.one ∙ ap class s.left
+  comes c d s = ap (λ n. grammar_symbol.Class s.rule.left ∷ drop n (class c)) s.one ∙ ap class s.left
 
   -- the same step in the sets
   pub settles_on : (k : Tok) (c d : ℕ) → StepsTo A q t c d → sets.Settling A q k t (class c) → sets.Settling A q k t (class d)
@@ -57,5 +57,5 @@ pub faulty : (A : Automaton) (f : FoundView) (w : Flaw) → IsFound A f → IsFl
 faulty A f (Gap n) found h = gap (found.places n h.place h.there).is_place h.unshifted
 faulty A f (Dead i) found h = dead (settles A f i h.behind h.place h.list found h.settles) (leads A f i h.behind h.place h.list found h.settles) h.nothing
 faulty A f (Circle i classes) found h = circle
-    (settles A f i h.behind h.place (symbol.Class h.class ∷ []) found h.settles)
+    (settles A f i h.behind h.place (grammar_symbol.Class h.class ∷ []) found h.settles)
     (circles A h.place.state h.place.behind h.class h.class classes.items h.along)

@@ -2,7 +2,7 @@
 use Rattle.std.specs.Prelude.{◌≡◌, ℕ, List, [], ◌∷◌, ◌++◌, Some}
 use Rattle.tree_core.specs.declared.token.Tok.{Tok}
 use Rattle.md_reader.specs.declared.types.Sym.{Sym}
-use Rattle.md_reader.specs.declared.types.Sym.TheVariants as symbol
+use Rattle.md_reader.specs.declared.types.Sym.TheVariants as grammar_symbol
 use Rattle.lr_check_sets.specs.Automaton.{Automaton, Production, reduce, size_of, Free, CanBlock}
 use Rattle.lr_check_sets.specs.Faults.{Circles, Fault}
 use Rattle.lr_check_found.specs.declared.places.Place.{Place}
@@ -15,7 +15,7 @@ use Rattle.lr_check_flaws.specs.declared.flaws.Flaw.TheVariants.{Gap, Dead, Circ
 pub record StepsTo (A : Automaton) (q : ℕ) (t : Tok) (c d : ℕ) : Type 0 where
   pub at : ℕ
   pub rule : Production
-  pub go : A.go q (symbol.Class c) ≡ Some at
+  pub go : A.go q (grammar_symbol.Class c) ≡ Some at
   pub free : Free (A.candidates at t) (reduce rule)
   pub one : size_of rule ≡ 1
   pub left : rule.left ≡ d
@@ -29,7 +29,7 @@ pub data Along (A : Automaton) (q : ℕ) (t : Tok) : ℕ → List ℕ → ℕ �
 pub record IsGapAt (A : Automaton) (f : FoundView) (n : ℕ) : Type 0 where
   pub place : Place
   pub there : IsPlaceAt f n place
-  pub unshifted : (p : ℕ) → A.go place.state (symbol.Tok place.token) ≡ Some p → ⊥
+  pub unshifted : (p : ℕ) → A.go place.state (grammar_symbol.Tok place.token) ≡ Some p → ⊥
 
 -- behind the list of the settling with the number some answers take nothing
 pub record IsDeadAt (A : Automaton) (f : FoundView) (i : ℕ) : Type 0 where
@@ -44,7 +44,7 @@ pub record IsCircleAt (A : Automaton) (f : FoundView) (i : ℕ) (classes : List 
   pub place : Place
   pub class : ℕ
   pub behind : ℕ
-  pub settles : SettlesAt f i place (symbol.Class class ∷ []) behind
+  pub settles : SettlesAt f i place (grammar_symbol.Class class ∷ []) behind
   pub along : Along A place.state place.behind class classes class
 
 -- the flaw is there
@@ -61,4 +61,4 @@ FlawsAreFaults = (A : Automaton) (f : FoundView) (w : Flaw) → IsFound A f → 
 abbrev pub AlongCircles : Type 0
 AlongCircles =
     (A : Automaton) (q : ℕ) (t : Tok) (c d : ℕ) (ds : List ℕ) → Along A q t c ds d →
-    Circles A q t (symbol.Class c ∷ []) (symbol.Class d ∷ [])
+    Circles A q t (grammar_symbol.Class c ∷ []) (grammar_symbol.Class d ∷ [])

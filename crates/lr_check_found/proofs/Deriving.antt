@@ -5,7 +5,7 @@ use Rattle.tree_core.specs.declared.token.Tok.TheVariants as tok
 use Rattle.tree_core.specs.declared.token.Sort.{Sort}
 use Rattle.tree_core.specs.Grammar.{kids}
 use Rattle.md_reader.specs.declared.types.Sym.{Sym}
-use Rattle.md_reader.specs.declared.types.Sym.TheVariants as symbol
+use Rattle.md_reader.specs.declared.types.Sym.TheVariants as grammar_symbol
 use Rattle.lr_check_sets.specs.Trees.{May, Begins}
 use Rattle.lr_check_sets.specs.Automaton.{Automaton, Production, walk, size_of, reduced}
 use Rattle.lr_check_sets.specs.Sums as sets
@@ -44,24 +44,24 @@ sum_of A f i y s p found h =
     }
 
 -- places
-only_place : (A : Automaton) (q p : ℕ) (k b n : Tok) (w : Sort) → sets.Place A q k b → A.go q (symbol.Tok k) ≡ Some p → kids k ≡ w ∷ [] → May n w → sets.Place A p n b
+only_place : (A : Automaton) (q p : ℕ) (k b n : Tok) (w : Sort) → sets.Place A q k b → A.go q (grammar_symbol.Tok k) ≡ Some p → kids k ≡ w ∷ [] → May n w → sets.Place A p n b
 only_place A q p k b n w place go kid may =
-    sets.at_kid (subst (λ l. sets.Partly A q k b (symbol.Tok k ∷ []) l n) kid (sets.opened place go (subst (λ l. Begins l b n) (sym kid) may))) go refl
+    sets.at_kid (subst (λ l. sets.Partly A q k b (grammar_symbol.Tok k ∷ []) l n) kid (sets.opened place go (subst (λ l. Begins l b n) (sym kid) may))) go refl
 
-first_place : (A : Automaton) (q p : ℕ) (k b n m : Tok) (w v : Sort) → sets.Place A q k b → A.go q (symbol.Tok k) ≡ Some p → kids k ≡ w ∷ v ∷ [] → May n w → May m v → sets.Place A p n m
+first_place : (A : Automaton) (q p : ℕ) (k b n m : Tok) (w v : Sort) → sets.Place A q k b → A.go q (grammar_symbol.Tok k) ≡ Some p → kids k ≡ w ∷ v ∷ [] → May n w → May m v → sets.Place A p n m
 first_place A q p k b n m w v place go kid may may' =
-    sets.at_kid (subst (λ l. sets.Partly A q k b (symbol.Tok k ∷ []) l n) kid (sets.opened place go (subst (λ l. Begins l b n) (sym kid) may))) go may'
+    sets.at_kid (subst (λ l. sets.Partly A q k b (grammar_symbol.Tok k ∷ []) l n) kid (sets.opened place go (subst (λ l. Begins l b n) (sym kid) may))) go may'
 
 -- the first kid is in
 first_in : (A : Automaton) (q p : ℕ) (k b n m : Tok) (w v : Sort) (s : List Sym) →
-    sets.Place A q k b → A.go q (symbol.Tok k) ≡ Some p → kids k ≡ w ∷ v ∷ [] → May n w → May m v → sets.Sum A p n m s → sets.Partly A q k b (s ++ (symbol.Tok k ∷ [])) (v ∷ []) m
+    sets.Place A q k b → A.go q (grammar_symbol.Tok k) ≡ Some p → kids k ≡ w ∷ v ∷ [] → May n w → May m v → sets.Sum A p n m s → sets.Partly A q k b (s ++ (grammar_symbol.Tok k ∷ [])) (v ∷ []) m
 first_in A q p k b n m w v s place go kid may may' sum =
-    sets.with_kid (subst (λ l. sets.Partly A q k b (symbol.Tok k ∷ []) l n) kid (sets.opened place go (subst (λ l. Begins l b n) (sym kid) may))) go may' sum
+    sets.with_kid (subst (λ l. sets.Partly A q k b (grammar_symbol.Tok k ∷ []) l n) kid (sets.opened place go (subst (λ l. Begins l b n) (sym kid) may))) go may' sum
 
 second_place : (A : Automaton) (q p j : ℕ) (k b n m : Tok) (w v : Sort) (s : List Sym) →
-    sets.Place A q k b → A.go q (symbol.Tok k) ≡ Some p → kids k ≡ w ∷ v ∷ [] → May n w → May m v → sets.Sum A p n m s → walk A p s ≡ Some j → sets.Place A j m b
+    sets.Place A q k b → A.go q (grammar_symbol.Tok k) ≡ Some p → kids k ≡ w ∷ v ∷ [] → May n w → May m v → sets.Sum A p n m s → walk A p s ≡ Some j → sets.Place A j m b
 second_place A q p j k b n m w v s place go kid may may' sum ws =
-    sets.at_kid (first_in A q p k b n m w v s place go kid may may' sum) (walk_from A q p (symbol.Tok k) s go ∙ ws) refl
+    sets.at_kid (first_in A q p k b n m w v s place go kid may may' sum) (walk_from A q p (grammar_symbol.Tok k) s go ∙ ws) refl
 
 pub place_of_begun : (A : Automaton) (f : FoundView) (x : Place) (o : Origin) → IsFound A f → Begun A f x o → sets.Place A x.state x.token x.behind
 place_of_begun A f x _ found (root h) = at A x 0 tok.End h.state h.behind (sets.at_start h.may)
@@ -80,22 +80,22 @@ place_of_begun A f x _ found (second {i = i} {n = n} {p = p} {j = j} {y = y} {z 
 pub record IsSettled (A : Automaton) (x : Place) (s : List Sym) : Type 0 where
   pub settles : sets.Settling A x.state x.token x.behind s
 
-leaf_settles : (A : Automaton) (q p : ℕ) (k b : Tok) → sets.Place A q k b → A.go q (symbol.Tok k) ≡ Some p → kids k ≡ [] → sets.Settling A q k b (symbol.Tok k ∷ [])
-leaf_settles A q p k b place go kid = sets.whole (subst (λ l. sets.Partly A q k b (symbol.Tok k ∷ []) l b) kid (sets.opened place go (subst (λ l. Begins l b b) (sym kid) refl)))
+leaf_settles : (A : Automaton) (q p : ℕ) (k b : Tok) → sets.Place A q k b → A.go q (grammar_symbol.Tok k) ≡ Some p → kids k ≡ [] → sets.Settling A q k b (grammar_symbol.Tok k ∷ [])
+leaf_settles A q p k b place go kid = sets.whole (subst (λ l. sets.Partly A q k b (grammar_symbol.Tok k ∷ []) l b) kid (sets.opened place go (subst (λ l. Begins l b b) (sym kid) refl)))
 
 one_settles : (A : Automaton) (q p : ℕ) (k b n : Tok) (w : Sort) (s : List Sym) →
-    sets.Place A q k b → A.go q (symbol.Tok k) ≡ Some p → kids k ≡ w ∷ [] → May n w → sets.Sum A p n b s → sets.Settling A q k b (s ++ (symbol.Tok k ∷ []))
+    sets.Place A q k b → A.go q (grammar_symbol.Tok k) ≡ Some p → kids k ≡ w ∷ [] → May n w → sets.Sum A p n b s → sets.Settling A q k b (s ++ (grammar_symbol.Tok k ∷ []))
 one_settles A q p k b n w s place go kid may sum =
-    sets.whole (sets.with_kid (subst (λ l. sets.Partly A q k b (symbol.Tok k ∷ []) l n) kid (sets.opened place go (subst (λ l. Begins l b n) (sym kid) may))) go refl sum)
+    sets.whole (sets.with_kid (subst (λ l. sets.Partly A q k b (grammar_symbol.Tok k ∷ []) l n) kid (sets.opened place go (subst (λ l. Begins l b n) (sym kid) may))) go refl sum)
 
 two_settles : (A : Automaton) (q p j : ℕ) (k b n m : Tok) (w v : Sort) (s u : List Sym) →
-    sets.Place A q k b → A.go q (symbol.Tok k) ≡ Some p → kids k ≡ w ∷ v ∷ [] → May n w → May m v → sets.Sum A p n m s → walk A p s ≡ Some j → sets.Sum A j m b u →
-    sets.Settling A q k b (u ++ (s ++ (symbol.Tok k ∷ [])))
+    sets.Place A q k b → A.go q (grammar_symbol.Tok k) ≡ Some p → kids k ≡ w ∷ v ∷ [] → May n w → May m v → sets.Sum A p n m s → walk A p s ≡ Some j → sets.Sum A j m b u →
+    sets.Settling A q k b (u ++ (s ++ (grammar_symbol.Tok k ∷ [])))
 two_settles A q p j k b n m w v s u place go kid may may' sum ws sum' =
-    sets.whole (sets.with_kid (first_in A q p k b n m w v s place go kid may may' sum) (walk_from A q p (symbol.Tok k) s go ∙ ws) refl sum')
+    sets.whole (sets.with_kid (first_in A q p k b n m w v s place go kid may may' sum) (walk_from A q p (grammar_symbol.Tok k) s go ∙ ws) refl sum')
 
-whole_left : (r : Production) (s : List Sym) → size_of r ≡ length s → reduced r s ≡ symbol.Class r.left ∷ []
-whole_left r s e = ap (λ l. symbol.Class r.left ∷ l) (ap (λ n. drop n s) e ∙ drop_whole s)
+whole_left : (r : Production) (s : List Sym) → size_of r ≡ length s → reduced r s ≡ grammar_symbol.Class r.left ∷ []
+whole_left r s e = ap (λ l. grammar_symbol.Class r.left ∷ l) (ap (λ n. drop n s) e ∙ drop_whole s)
 
 -- a kid's sum, where it is wanted
 kid_sum : (A : Automaton) (y : Place) (w : Sort) (p j : ℕ) (b : Tok) (s : List Sym) → IsSum A y s j → Fits y w p b → sets.Sum A p y.token b s
@@ -132,11 +132,11 @@ walks_of_made A f n x _ _ _ found there (leaf {p = p} go kid) behind_leaf = refl
 walks_of_made A f n x _ _ _ found there (one {i = i} {p = p} {j = j} {y = y} {w = w} {s = s} h sum g) (behind_one {e = e} at') =
     let is : IsSum A y s j = sum_of A f i y s j found sum in
     let same : e ≡ sum.entry = Some-same e sum.entry (sym at' ∙ sum.there) in
-    ap (λ (d : Settling). d.behind) same ∙ (sum.behind ∙ (sym (kid_walks A y w p j x.behind s is g) ∙ sym (walk_from A x.state p (symbol.Tok x.token) s h.go)))
+    ap (λ (d : Settling). d.behind) same ∙ (sum.behind ∙ (sym (kid_walks A y w p j x.behind s is g) ∙ sym (walk_from A x.state p (grammar_symbol.Tok x.token) s h.go)))
 walks_of_made A f n x _ _ _ found there (two {i = i} {k = k} {p = p} {j = j} {h = c} {y = y} {z = z} {w = w} {v = v} {s = s} {u = u} h sum g sum' g') (behind_two {e = e} at') =
     let is : IsSum A y s j = sum_of A f i y s j found sum in
     let is' : IsSum A z u c = sum_of A f k z u c found sum' in
     let same : e ≡ sum'.entry = Some-same e sum'.entry (sym at' ∙ sum'.there) in
-    let lower : walk A x.state (s ++ (symbol.Tok x.token ∷ [])) ≡ Some j = walk_from A x.state p (symbol.Tok x.token) s h.go ∙ kid_walks A y w p j z.token s is g in
-    ap (λ (d : Settling). d.behind) same ∙ (sum'.behind ∙ (sym (kid_walks A z v j c x.behind u is' g') ∙ sym (walk-append A x.state j u (s ++ (symbol.Tok x.token ∷ [])) lower)))
+    let lower : walk A x.state (s ++ (grammar_symbol.Tok x.token ∷ [])) ≡ Some j = walk_from A x.state p (grammar_symbol.Tok x.token) s h.go ∙ kid_walks A y w p j z.token s is g in
+    ap (λ (d : Settling). d.behind) same ∙ (sum'.behind ∙ (sym (kid_walks A z v j c x.behind u is' g') ∙ sym (walk-append A x.state j u (s ++ (grammar_symbol.Tok x.token ∷ [])) lower)))
 walks_of_made A f n x _ _ _ found there (made_by_reduction e r at' same list behind free size) behind_reduced = refl

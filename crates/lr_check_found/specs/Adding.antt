@@ -11,7 +11,7 @@ use Rattle.lr_check_found.specs.Lists.{ListsView, AreLists, KeepsLists}
 use Rattle.lr_check_found.specs.declared.settlings.How.{How}
 use Rattle.lr_check_found.specs.declared.settlings.How.TheVariants as how
 use Rattle.md_reader.specs.declared.types.Sym.{Sym}
-use Rattle.md_reader.specs.declared.types.Sym.TheVariants as symbol
+use Rattle.md_reader.specs.declared.types.Sym.TheVariants as grammar_symbol
 use Rattle.lr_check_found.specs.Found.{FoundView, slot, key_of, IsPlaceAt}
 use Rattle.lr_check_found.specs.Sound.{IsFound}
 
@@ -101,10 +101,10 @@ pub data IsAdded (f g : FoundView) (x : Place) (o : Origin) : Type 0 where
 
 -- the list that settles so, behind the token: two lists on top of each other, or the class
 abbrev pub list_of : Tok → How → List Sym → List Sym → List Sym
-list_of t how.Leaf u l = u ++ (l ++ (symbol.Tok t ∷ []))
-list_of t (how.One i) u l = u ++ (l ++ (symbol.Tok t ∷ []))
-list_of t (how.Two i k) u l = u ++ (l ++ (symbol.Tok t ∷ []))
-list_of t (how.Reduced i c) u l = symbol.Class c ∷ []
+list_of t how.Leaf u l = u ++ (l ++ (grammar_symbol.Tok t ∷ []))
+list_of t (how.One i) u l = u ++ (l ++ (grammar_symbol.Tok t ∷ []))
+list_of t (how.Two i k) u l = u ++ (l ++ (grammar_symbol.Tok t ∷ []))
+list_of t (how.Reduced i c) u l = grammar_symbol.Class c ∷ []
 
 abbrev pub number_in : Option Settling → ℕ
 number_in None = 0

@@ -6,7 +6,7 @@ use Rattle.tree_core.specs.declared.token.Sort.{Sort}
 use Rattle.tree_core.specs.declared.token.Sort.TheVariants as sort
 use Rattle.tree_core.specs.Grammar.{kids}
 use Rattle.md_reader.specs.declared.types.Sym.{Sym}
-use Rattle.md_reader.specs.declared.types.Sym.TheVariants as symbol
+use Rattle.md_reader.specs.declared.types.Sym.TheVariants as grammar_symbol
 use Rattle.lr_check_sets.specs.Trees.{May}
 use Rattle.lr_check_sets.specs.Automaton.{Automaton, Production, reduce, size_of, Free}
 use Rattle.lr_check_found.specs.declared.places.Place.{Place}
@@ -22,12 +22,12 @@ use Rattle.lr_check_found.specs.Found.{FoundView, IsPlaceAt, IsSettlingAt, SumAt
 
 -- the token of a place, which leads to state p, and its only kid
 pub record HasOne (A : Automaton) (x : Place) (w : Sort) (p : ℕ) : Type 0 where
-  pub go : A.go x.state (symbol.Tok x.token) ≡ Some p
+  pub go : A.go x.state (grammar_symbol.Tok x.token) ≡ Some p
   pub kid : kids x.token ≡ w ∷ []
 
 -- and its two kids
 pub record HasTwo (A : Automaton) (x : Place) (w v : Sort) (p : ℕ) : Type 0 where
-  pub go : A.go x.state (symbol.Tok x.token) ≡ Some p
+  pub go : A.go x.state (grammar_symbol.Tok x.token) ≡ Some p
   pub kid : kids x.token ≡ w ∷ v ∷ []
 
 -- a subtree at y may be the kid that is wanted in state p, with b behind it
@@ -47,23 +47,24 @@ pub data Begun (A : Automaton) (f : FoundView) (x : Place) : Origin → Type 0 w
 
 -- how a list settles at the place x with the number n
 pub data Made (A : Automaton) (f : FoundView) (n : ℕ) (x : Place) : How → List Sym → Type 0 where
-  leaf : {p : ℕ} → A.go x.state (symbol.Tok x.token) ≡ Some p → kids x.token ≡ [] → Made A f n x how.Leaf (symbol.Tok x.token ∷ [])
+  leaf : {p : ℕ} → A.go x.state (grammar_symbol.Tok x.token) ≡ Some p → kids x.token ≡ []
+      → Made A f n x how.Leaf (grammar_symbol.Tok x.token ∷ [])
   one : {i p j : ℕ} {y : Place} {w : Sort} {s : List Sym} →
-      HasOne A x w p → SumAt f i y s j → Fits y w p x.behind → Made A f n x (how.One i) (s ++ (symbol.Tok x.token ∷ []))
+      HasOne A x w p → SumAt f i y s j → Fits y w p x.behind → Made A f n x (how.One i) (s ++ (grammar_symbol.Tok x.token ∷ []))
   two : {i k p j h : ℕ} {y z : Place} {w v : Sort} {s u : List Sym} →
       HasTwo A x w v p → SumAt f i y s j → Fits y w p z.token → SumAt f k z u h → Fits z v j x.behind →
-      Made A f n x (how.Two i k) (u ++ (s ++ (symbol.Tok x.token ∷ [])))
+      Made A f n x (how.Two i k) (u ++ (s ++ (grammar_symbol.Tok x.token ∷ [])))
   made_by_reduction : {i p : ℕ} {s : List Sym} (e : Settling) (r : Production) →
       IsSettlingAt f i e → e.place ≡ n → IsList f.lists e.list s → e.behind ≡ Some p → Free (A.candidates p x.behind) (reduce r)
       → size_of r ≡ length s →
-      Made A f n x (how.Reduced i r.left) (symbol.Class r.left ∷ [])
+      Made A f n x (how.Reduced i r.left) (grammar_symbol.Class r.left ∷ [])
 
 -- the state behind the list that settles so
 pub data IsBehind (A : Automaton) (f : FoundView) (x : Place) : How → Option ℕ → Type 0 where
-  behind_leaf : IsBehind A f x how.Leaf (A.go x.state (symbol.Tok x.token))
+  behind_leaf : IsBehind A f x how.Leaf (A.go x.state (grammar_symbol.Tok x.token))
   behind_one : {i : ℕ} {e : Settling} → IsSettlingAt f i e → IsBehind A f x (how.One i) e.behind
   behind_two : {i k : ℕ} {e : Settling} → IsSettlingAt f k e → IsBehind A f x (how.Two i k) e.behind
-  behind_reduced : {i c : ℕ} → IsBehind A f x (how.Reduced i c) (A.go x.state (symbol.Class c))
+  behind_reduced : {i c : ℕ} → IsBehind A f x (how.Reduced i c) (A.go x.state (grammar_symbol.Class c))
 
 -- it follows from what was found before it
 abbrev pub IsEarlier : ℕ → Origin → Type 0

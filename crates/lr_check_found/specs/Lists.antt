@@ -1,7 +1,7 @@
 -- Lists of symbols by number: the first is empty, each other one has a symbol on top of an earlier one.
 use Rattle.std.specs.Prelude.{◌≡◌, ℕ, ◌+◌, List, [], ◌∷◌, ◌++◌, Some, length, slice_get}
 use Rattle.md_reader.specs.declared.types.Sym.{Sym}
-use Rattle.md_reader.specs.declared.types.Sym.TheVariants as symbol
+use Rattle.md_reader.specs.declared.types.Sym.TheVariants as grammar_symbol
 use Rattle.tree_core.specs.declared.token.Tok.{Tok}
 use Rattle.lr_tables.specs.Symbols.{symbol_number}
 use Rattle.lr_check_found.specs.declared.lists.Cell.{Cell}
@@ -44,4 +44,5 @@ IsJoined v upper lower n = (u l : List Sym) → IsList v upper u → IsList v lo
 
 -- the number is that of the one list on top of the other, behind the token
 abbrev pub IsBehindToken : ListsView → Tok → ℕ → ℕ → ℕ → Type 0
-IsBehindToken v t upper lower n = (u l : List Sym) → IsList v upper u → IsList v lower l → IsList v n (u ++ (l ++ (symbol.Tok t ∷ [])))
+IsBehindToken v t upper lower n = (u l : List Sym) → IsList v upper u → IsList v lower l
+    → IsList v n (u ++ (l ++ (grammar_symbol.Tok t ∷ [])))

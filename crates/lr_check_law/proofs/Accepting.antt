@@ -8,7 +8,7 @@ use Rattle.tree_core.specs.declared.token.Tok.{Tok}
 use Rattle.tree_core.specs.declared.token.Tok.TheVariants as tok
 use Rattle.md_reader.specs.declared.types.Rule.{Rule}
 use Rattle.md_reader.specs.declared.types.Sym.{Sym}
-use Rattle.md_reader.specs.declared.types.Sym.TheVariants as symbol
+use Rattle.md_reader.specs.declared.types.Sym.TheVariants as grammar_symbol
 use Rattle.md_reader.specs.Valid.{IsValid}
 use Rattle.lr_tables.specs.declared.types.Choice.{Choice}
 use Rattle.lr_tables.specs.declared.types.Choice.TheVariants as choice
@@ -210,10 +210,10 @@ module _ (t : TableView) (v : IsValid t.content) (b : IsNumbered t) where
     accepting : k ≡ tok.End → candidates_at t p k ≡ shift ∷ [] → Ends t.content.rules (stmt_of t.content.classes) at before ws s outcome.Done
     accepting ee f =
         let free : Free (candidates_at t p k) shift = subst (λ l. Free l shift) (sym f) refl in
-        let whole : a ≡ symbol.Class (stmt_of t.content.classes) ∷ [] = table.accept a p here (subst (λ z. Free (candidates_at t p z) shift) ee free) in
+        let whole : a ≡ grammar_symbol.Class (stmt_of t.content.classes) ∷ [] = table.accept a p here (subst (λ z. Free (candidates_at t p z) shift) ee free) in
         parse.accepts new (e ∙ whole) (next_is ∙ ee)
 
-    shifting : (vs : List Token) → ws ≡ vs → StandsBefore t.content.rules (stmt_of t.content.classes) a (symbol.Tok k) → (k ≡ tok.End → ⊥) → candidates_at t p k ≡ shift ∷ [] →
+    shifting : (vs : List Token) → ws ≡ vs → StandsBefore t.content.rules (stmt_of t.content.classes) a (grammar_symbol.Tok k) → (k ≡ tok.End → ⊥) → candidates_at t p k ≡ shift ∷ [] →
         Ends t.content.rules (stmt_of t.content.classes) at before ws s outcome.Done
     shifting [] same sb refused f = absurd (refused (sym next_is ∙ ap coming same))
     shifting (w ∷ vs) same sb refused f =
@@ -221,15 +221,15 @@ module _ (t : TableView) (v : IsValid t.content) (b : IsNumbered t) where
         let g' : toks (w ∷ vs) ≡ k ∷ u = subst (λ l. toks l ≡ k ∷ u) same g in
         let first : w.tok ≡ k = head_same w.tok k (toks vs) u g' in
         let ne' : NoEnds (w ∷ vs) = subst NoEnds same ne in
-        let sb' : StandsBefore t.content.rules (stmt_of t.content.classes) (symbols s) (symbol.Tok w.tok) =
-        subst (λ z. StandsBefore t.content.rules (stmt_of t.content.classes) (symbols s) (symbol.Tok z)) (sym first)
-        (subst (λ z. StandsBefore t.content.rules (stmt_of t.content.classes) z (symbol.Tok k)) (sym e) sb) in
-        let top : symbol.Tok w.tok ∷ symbols s ≡ symbol.Tok k ∷ a = ap (λ z. symbol.Tok z ∷ symbols s) first ∙ ap (λ z. symbol.Tok k ∷ z) e in
+        let sb' : StandsBefore t.content.rules (stmt_of t.content.classes) (symbols s) (grammar_symbol.Tok w.tok) =
+        subst (λ z. StandsBefore t.content.rules (stmt_of t.content.classes) (symbols s) (grammar_symbol.Tok z)) (sym first)
+        (subst (λ z. StandsBefore t.content.rules (stmt_of t.content.classes) z (grammar_symbol.Tok k)) (sym e) sb) in
+        let top : grammar_symbol.Tok w.tok ∷ symbols s ≡ grammar_symbol.Tok k ∷ a = ap (λ z. grammar_symbol.Tok z ∷ symbols s) first ∙ ap (λ z. grammar_symbol.Tok k ∷ z) e in
         subst (λ l. Ends t.content.rules (stmt_of t.content.classes) at before l s outcome.Done) (sym same)
-        (parse.shifts new ne'.0 sb' (ih shift free (at + 1) [] vs (record { symbol = symbol.Tok w.tok; answers = w.answers } ∷ s) (tail_same w.tok k (toks vs) u g') ne'.1 top
+        (parse.shifts new ne'.0 sb' (ih shift free (at + 1) [] vs (record { symbol = grammar_symbol.Tok w.tok; answers = w.answers } ∷ s) (tail_same w.tok k (toks vs) u g') ne'.1 top
         (λ x c. absurd (none_in x c))))
 
-    reducing : (ns : List ℕ) → (StandsBefore t.content.rules (stmt_of t.content.classes) a (symbol.Tok k) → ⊥) → AreReductions t.content.rules (stmt_of t.content.classes) a k ns →
+    reducing : (ns : List ℕ) → (StandsBefore t.content.rules (stmt_of t.content.classes) a (grammar_symbol.Tok k) → ⊥) → AreReductions t.content.rules (stmt_of t.content.classes) a k ns →
         candidates_at t p k ≡ map reduce (rules_of t.content.rules ns) → Ends t.content.rules (stmt_of t.content.classes) at before ws s outcome.Done
     reducing ns refused ar f = by pk.taken refl
       where
@@ -244,15 +244,15 @@ module _ (t : TableView) (v : IsValid t.content) (b : IsNumbered t) where
             let free : Free (candidates_at t p k) (reduce (production r)) = subst (λ l. Free l (reduce (production r))) (sym f) fr.1.1 in
             let free' : Free (candidates_at t p (coming ws)) (reduce (production r)) = subst (λ z. Free (candidates_at t p z) (reduce (production r))) (sym next_is) free in
             let red : Reduction t.content.rules (stmt_of t.content.classes) ws s (Some n) pk.after = record {
-              no_shift = λ sb. refused (subst (λ z. StandsBefore t.content.rules (stmt_of t.content.classes) a (symbol.Tok z)) next_is
-                  (subst (λ z. StandsBefore t.content.rules (stmt_of t.content.classes) z (symbol.Tok (coming ws))) e sb));
+              no_shift = λ sb. refused (subst (λ z. StandsBefore t.content.rules (stmt_of t.content.classes) a (grammar_symbol.Tok z)) next_is
+                  (subst (λ z. StandsBefore t.content.rules (stmt_of t.content.classes) z (grammar_symbol.Tok (coming ws))) e sb));
               candidates = ns;
               in_order = subst (λ z. AreReductions t.content.rules (stmt_of t.content.classes) (symbols s) z ns) (sym next_is)
                   (subst (λ z. AreReductions t.content.rules (stmt_of t.content.classes) z k ns) (sym e) ar);
               takes = subst (λ o. Takes t.content.rules s ns o pk.after) q pk.takes;
             } in
             let stack : symbols (reduced pk.after r) ≡ model.reduced (production r) a =
-            ap (λ l. symbol.Class r.left ∷ l) (sym (drop-map (λ (x : Part). x.symbol) (length r.right) pk.after) ∙ ap (drop (length r.right)) (pk.same ∙ e)) in
+            ap (λ l. grammar_symbol.Class r.left ∷ l) (sym (drop-map (λ (x : Part). x.symbol) (length r.right) pk.after) ∙ ap (drop (length r.right)) (pk.same ∙ e)) in
             parse.reduces r new red fr.1.0 (ih (reduce (production r)) free at (symbols s ∷ before) ws (reduced pk.after r) g ne stack
             (since_more before s a (coming ws) p (production r) e here free' since))
 

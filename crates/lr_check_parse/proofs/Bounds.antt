@@ -5,7 +5,7 @@ use Rattle.std.proofs.lemmas.List.{length-replicate}
 use Rattle.std.proofs.lemmas.List.Sums.{sum_by-set, sum_by-cons}
 use Rattle.md_reader.specs.declared.types.Rule.{Rule}
 use Rattle.md_reader.specs.declared.types.Sym.{Sym}
-use Rattle.md_reader.specs.declared.types.Sym.TheVariants as symbol
+use Rattle.md_reader.specs.declared.types.Sym.TheVariants as grammar_symbol
 use Rattle.lr_tables.specs.Grammar.{IsGrammar}
 use Rattle.lr_tables.specs.Statements.{stmt_of}
 use Rattle.lr_tables.proofs.Validity.{is_grammar}
@@ -68,7 +68,7 @@ module _ {L X : Type 0} (of : Answering L X) (rules : List Rule) (stmt classes :
   abbrev Rest : List (List Sym) → List L → List Sym → List (Move L) → Type 0
   Rest before ws a log = (log ≡ []) ⊎ ((Contains before a → ⊥) × ((seen : List Bool) → Marks before a seen → Within ws a seen log))
 
-  shift_within : (l : L) (ws : List L) (a : List Sym) (log : List (Move L)) (m : Move L) (seen : List Bool) → length seen ≡ classes → Rest [] ws (symbol.Tok (of.token l) ∷ a) log
+  shift_within : (l : L) (ws : List L) (a : List Sym) (log : List (Move L)) (m : Move L) (seen : List Bool) → length seen ≡ classes → Rest [] ws (grammar_symbol.Tok (of.token l) ∷ a) log
       → Within (l ∷ ws) a seen (m ∷ log)
   shift_within l ws a log m seen size (inl e) =
       let z : length log ≡ 0 = ap (λ (t : List (Move L)). length t) e in
@@ -83,16 +83,16 @@ module _ {L X : Type 0} (of : Answering L X) (rules : List Rule) (stmt classes :
       let n : length fresh ≡ length seen = is ∙ sym size in
       let most = count_most fresh in
       let h : length log ≤ (2 * length ws + (length a + 1)) * (length seen + 1) + count_by not fresh =
-      subst (λ k. length log ≤ (2 * length ws + k) * (length seen + 1) + count_by not fresh) (let e : length (symbol.Tok (of.token l) ∷ a) ≡ length a + 1 = omega arith in e)
-      (subst (λ k. length log ≤ (2 * length ws + length (symbol.Tok (of.token l) ∷ a)) * (k + 1) + count_by not fresh) n h0) in
+      subst (λ k. length log ≤ (2 * length ws + k) * (length seen + 1) + count_by not fresh) (let e : length (grammar_symbol.Tok (of.token l) ∷ a) ≡ length a + 1 = omega arith in e)
+      (subst (λ k. length log ≤ (2 * length ws + length (grammar_symbol.Tok (of.token l) ∷ a)) * (k + 1) + count_by not fresh) n h0) in
       let q = shift_less (length ws) (length a) (length seen) (length log) (count_by not seen) (count_by not fresh) h (omega (arith, most, n)) in
       subst (λ n. n ≤ left (length (l ∷ ws)) (length a) seen) (let e : length log + 1 ≡ suc (length log) = omega arith in e)
       (subst (λ n. length log + 1 ≤ (2 * n + length a) * (length seen + 1) + count_by not seen) (let e : length ws + 1 ≡ length (l ∷ ws) = omega arith in e) q)
 
   -- a class comes on top of what a right side leaves
   unit_within : (ws : List L) (a : List Sym) (c : ℕ) (log : List (Move L)) (m : Move L) (before : List (List Sym)) (seen : List Bool) → Marks before a seen → c < classes → 0 < length a →
-      (Contains (a ∷ before) (symbol.Class c ∷ drop 1 a) → ⊥)
-      → ((s : List Bool) → Marks (a ∷ before) (symbol.Class c ∷ drop 1 a) s → Within ws (symbol.Class c ∷ drop 1 a) s log) → Within ws a seen (m ∷ log)
+      (Contains (a ∷ before) (grammar_symbol.Class c ∷ drop 1 a) → ⊥)
+      → ((s : List Bool) → Marks (a ∷ before) (grammar_symbol.Class c ∷ drop 1 a) s → Within ws (grammar_symbol.Class c ∷ drop 1 a) s log) → Within ws a seen (m ∷ log)
   unit_within ws a c log m before seen marks lt some fresh ih =
       let within : c < length seen = (let s = marks.size in omega (arith, lt, s)) in
       let new = set seen c true in
@@ -101,17 +101,17 @@ module _ {L X : Type 0} (of : Answering L X) (rules : List Rule) (stmt classes :
       let off : get_or seen c false ≡ false = unmarked (get_or seen c false) (λ e. fresh (marks.seen_is.there c e)) in
       let count = mark_count seen c within off in
       let d = length-drop 1 a (omega (arith, some)) in
-      let long : length (symbol.Class c ∷ drop 1 a) ≡ length (drop 1 a) + 1 = omega arith in
+      let long : length (grammar_symbol.Class c ∷ drop 1 a) ≡ length (drop 1 a) + 1 = omega arith in
       let h : length log ≤ (2 * length ws + (length (drop 1 a) + 1)) * (length seen + 1) + count_by not new =
       subst (λ k. length log ≤ (2 * length ws + k) * (length seen + 1) + count_by not new) long
-      (subst (λ k. length log ≤ (2 * length ws + length (symbol.Class c ∷ drop 1 a)) * (k + 1) + count_by not new) size h0) in
+      (subst (λ k. length log ≤ (2 * length ws + length (grammar_symbol.Class c ∷ drop 1 a)) * (k + 1) + count_by not new) size h0) in
       let q = unit_less (length ws) (length (drop 1 a)) (length seen) (length log) (count_by not seen) (count_by not new) h count in
       subst (λ n. n ≤ left (length ws) (length a) seen) (let e : length log + 1 ≡ suc (length log) = omega arith in e)
       (subst (λ n. length log + 1 ≤ (2 * length ws + n) * (length seen + 1) + count_by not seen) d q)
 
   long_within : (ws : List L) (a : List Sym) (c k : ℕ) (log : List (Move L)) (m : Move L) (before : List (List Sym)) (seen : List Bool) → Marks before a seen → c < classes
       → 2 ≤ k → k ≤ length a →
-      ((s : List Bool) → Marks (a ∷ before) (symbol.Class c ∷ drop k a) s → Within ws (symbol.Class c ∷ drop k a) s log) → Within ws a seen (m ∷ log)
+      ((s : List Bool) → Marks (a ∷ before) (grammar_symbol.Class c ∷ drop k a) s → Within ws (grammar_symbol.Class c ∷ drop k a) s log) → Within ws a seen (m ∷ log)
   long_within ws a c k log m before seen marks lt two le ih =
       let d = length-drop k a le in
       let new = set (replicate classes false) c true in
@@ -121,8 +121,8 @@ module _ {L X : Type 0} (of : Answering L X) (rules : List Rule) (stmt classes :
       let n : length new ≡ length seen = size ∙ sym marks.size in
       let most = count_most new in
       let h : length log ≤ (2 * length ws + (length (drop k a) + 1)) * (length seen + 1) + count_by not new =
-      subst (λ j. length log ≤ (2 * length ws + j) * (length seen + 1) + count_by not new) (let e : length (symbol.Class c ∷ drop k a) ≡ length (drop k a) + 1 = omega arith in e)
-      (subst (λ j. length log ≤ (2 * length ws + length (symbol.Class c ∷ drop k a)) * (j + 1) + count_by not new) n h0) in
+      subst (λ j. length log ≤ (2 * length ws + j) * (length seen + 1) + count_by not new) (let e : length (grammar_symbol.Class c ∷ drop k a) ≡ length (drop k a) + 1 = omega arith in e)
+      (subst (λ j. length log ≤ (2 * length ws + length (grammar_symbol.Class c ∷ drop k a)) * (j + 1) + count_by not new) n h0) in
       let q = long_less (length ws) (length (drop k a)) (k - 2) (length seen) (length log) (count_by not seen) (count_by not new) h (omega (arith, most, n)) in
       let whole : length (drop k a) + 2 + (k - 2) ≡ length a = omega (arith, d, two) in
       subst (λ n. n ≤ left (length ws) (length a) seen) (let e : length log + 1 ≡ suc (length log) = omega arith in e)
@@ -130,7 +130,7 @@ module _ {L X : Type 0} (of : Answering L X) (rules : List Rule) (stmt classes :
 
   reduce_within : (ws : List L) (a : List Sym) (r : Rule) (log : List (Move L)) (m : Move L) (before : List (List Sym)) (seen : List Bool) → Marks before a seen
       → r.left < classes → 0 < length r.right → length r.right ≤ length a →
-      Rest (a ∷ before) ws (symbol.Class r.left ∷ drop (length r.right) a) log → Within ws a seen (m ∷ log)
+      Rest (a ∷ before) ws (grammar_symbol.Class r.left ∷ drop (length r.right) a) log → Within ws a seen (m ∷ log)
   reduce_within ws a r log m before seen marks lt some le (inl e) =
       let z : length (m ∷ log) ≡ 1 = ap (λ (t : List (Move L)). suc (length t)) e in
       let size : 0 < length a = omega (arith, some, le) in
@@ -147,8 +147,8 @@ module _ {L X : Type 0} (of : Answering L X) (rules : List Rule) (stmt classes :
       by : (length r.right ≡ 1) ⊎ (2 ≤ length r.right) → Within ws a seen (m ∷ log)
       by (inl e) =
           unit_within ws a r.left log m before seen marks lt (omega (arith, some, le))
-          (subst (λ k. Contains (a ∷ before) (symbol.Class r.left ∷ drop k a) → ⊥) e h.0)
-          (λ s k. subst (λ j. Within ws (symbol.Class r.left ∷ drop j a) s log) e (h.1 s (subst (λ j. Marks (a ∷ before) (symbol.Class r.left ∷ drop j a) s) (sym e) k)))
+          (subst (λ k. Contains (a ∷ before) (grammar_symbol.Class r.left ∷ drop k a) → ⊥) e h.0)
+          (λ s k. subst (λ j. Within ws (grammar_symbol.Class r.left ∷ drop j a) s log) e (h.1 s (subst (λ j. Marks (a ∷ before) (grammar_symbol.Class r.left ∷ drop j a) s) (sym e) k)))
       by (inr two) = long_within ws a r.left (length r.right) log m before seen marks lt two le h.1
 
   no_moves : (n : ℕ) → 0 ≤ n

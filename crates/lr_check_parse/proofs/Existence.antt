@@ -6,7 +6,7 @@ use Rattle.tree_core.specs.declared.token.Tok.{Tok}
 use Rattle.tree_core.specs.declared.token.Tok.TheVariants as tok
 use Rattle.md_reader.specs.declared.types.Rule.{Rule}
 use Rattle.md_reader.specs.declared.types.Sym.{Sym}
-use Rattle.md_reader.specs.declared.types.Sym.TheVariants as symbol
+use Rattle.md_reader.specs.declared.types.Sym.TheVariants as grammar_symbol
 use Rattle.lr_tables.specs.Grammar.{IsGrammar}
 use Rattle.lr_tables.specs.Items.{fresh}
 use Rattle.lr_tables.specs.Statements.{stmt_of}
@@ -50,7 +50,7 @@ long_falls w i d seen new e =
 
 module _ {L X : Type 0} (of : Answering L X) (rules : List Rule) (stmt classes : ℕ) (g : IsGrammar rules stmt classes) (t : TableView)
     (choices : (a : List Sym) (q : ℕ) (k : Tok) → Leads t a q → Candidates rules stmt t a k (actions_at t q k))
-    (leads_on : (a : List Sym) (q c : ℕ) → Leads t a q → Goes rules stmt t a c (target_at t q (symbol.Class c))) where
+    (leads_on : (a : List Sym) (q c : ℕ) → Leads t a q → Goes rules stmt t a c (target_at t q (grammar_symbol.Class c))) where
   abbrev End : ℕ → List (List Sym) → List L → List Sym → X → Type 0
   End at before ws a x = (log : List (Move L)) × (e : Ending X) × Parses of rules stmt at before ws a x log e
 
@@ -65,19 +65,19 @@ module _ {L X : Type 0} (of : Answering L X) (rules : List Rule) (stmt classes :
       by : {a : List Sym} {q : ℕ} {Y : Sym} → Leads t (Y ∷ a) q → ((p : ℕ) → Leads t a p → (r : ℕ) × Leads t (drop k a) r) → (r : ℕ) × Leads t (drop k a) r
       by (further {q = p} l e) go = go p l
 
-  reaches : (a : List Sym) (c : ℕ) (o : Option ℕ) → Goes rules stmt t a c o → StandsBefore rules stmt a (symbol.Class c) → (p : ℕ) × Leads t (symbol.Class c ∷ a) p
+  reaches : (a : List Sym) (c : ℕ) (o : Option ℕ) → Goes rules stmt t a c o → StandsBefore rules stmt a (grammar_symbol.Class c) → (p : ℕ) × Leads t (grammar_symbol.Class c ∷ a) p
   reaches a c None h s = absurd (h s)
   reaches a c (Some p) h s = (p, h.1)
 
   -- the state behind a reduction
   behind : (a : List Sym) (q n : ℕ) (r : Rule) (k : Tok) → Leads t a q → slice_get rules n ≡ Some r → MayReduce rules stmt a k n
-      → (p : ℕ) × Leads t (symbol.Class r.left ∷ drop (length r.right) a) p
+      → (p : ℕ) × Leads t (grammar_symbol.Class r.left ∷ drop (length r.right) a) p
   behind a q n r k lead there m =
       let same : m.rule ≡ r = Some-same m.rule r (sym m.there ∙ there) in
       let below = subst (λ (y : Rule). Rattle.lr_tables.specs.Items.Items rules stmt (drop (length y.right) a) (fresh n)) same (covers rules stmt m.complete).below in
       let before = opened rules stmt below n r refl there in
       let low = leads_below (length r.right) a q lead in
-      reaches (drop (length r.right) a) r.left (target_at t low.0 (symbol.Class r.left)) (leads_on (drop (length r.right) a) low.0 r.left low.1) before
+      reaches (drop (length r.right) a) r.left (target_at t low.0 (grammar_symbol.Class r.left)) (leads_on (drop (length r.right) a) low.0 r.left low.1) before
 
   -- with fuel
   abbrev Go : ℕ → Type 0
@@ -87,47 +87,47 @@ module _ {L X : Type 0} (of : Answering L X) (rules : List Rule) (stmt classes :
 
   shifted : (n at : ℕ) (before : List (List Sym)) (ws : List L) (a : List Sym) (x : X) (seen : List Bool) (q : ℕ) → left (length ws) (length a) seen < suc n → Mark before a seen
       → (Contains before a → ⊥) →
-      StandsBefore rules stmt a (symbol.Tok (coming of ws)) → (coming of ws ≡ tok.End → ⊥) → Leads t (symbol.Tok (coming of ws) ∷ a) q → Go n → End at before ws a x
+      StandsBefore rules stmt a (grammar_symbol.Tok (coming of ws)) → (coming of ws ≡ tok.End → ⊥) → Leads t (grammar_symbol.Tok (coming of ws) ∷ a) q → Go n → End at before ws a x
   shifted n at before [] a x seen q lt marks new stands some lead go = absurd (some refl)
   shifted n at before (l ∷ ws) a x seen q lt marks new stands some lead go =
       let next = replicate classes false in
       let size : length next ≡ length seen = length-replicate classes false ∙ sym marks.size in
       let f = shift_falls (length ws) (length a) seen next size in
       let one : length (l ∷ ws) ≡ length ws + 1 = omega arith in
-      let two : length (symbol.Tok (of.token l) ∷ a) ≡ length a + 1 = omega arith in
-      let f1 : left (length ws) (length (symbol.Tok (of.token l) ∷ a)) next + 1 ≤ left (length (l ∷ ws)) (length a) seen =
+      let two : length (grammar_symbol.Tok (of.token l) ∷ a) ≡ length a + 1 = omega arith in
+      let f1 : left (length ws) (length (grammar_symbol.Tok (of.token l) ∷ a)) next + 1 ≤ left (length (l ∷ ws)) (length a) seen =
       subst (λ i. left (length ws) i next + 1 ≤ left (length (l ∷ ws)) (length a) seen) (sym two) (subst (λ w. left (length ws) (length a + 1) next + 1 ≤ left w (length a) seen) (sym one) f) in
-      let e = go (at + 1) [] ws (symbol.Tok (of.token l) ∷ a) (of.shifted l x) next q (omega (arith, f1, lt))
-      (record { seen_is = seen_shift classes (of.token l) a; size = length-replicate classes false }) (nowhere_in (symbol.Tok (of.token l) ∷ a)) lead in
+      let e = go (at + 1) [] ws (grammar_symbol.Tok (of.token l) ∷ a) (of.shifted l x) next q (omega (arith, f1, lt))
+      (record { seen_is = seen_shift classes (of.token l) a; size = length-replicate classes false }) (nowhere_in (grammar_symbol.Tok (of.token l) ∷ a)) lead in
       (Shift l ∷ e.0, e.1, parse.shifts new some stands e.2)
 
   reduced : (n at i : ℕ) (before : List (List Sym)) (ws : List L) (a : List Sym) (x y x' : X) (r : Rule) (seen : List Bool) (p : ℕ) → left (length ws) (length a) seen < suc n
       → Mark before a seen → (Contains before a → ⊥) →
       Choice of rules stmt ws a x (Some i) y → slice_get rules i ≡ Some r → of.reduced i r y ≡ Some x'
-      → 0 < length r.right → length r.right ≤ length a → Leads t (symbol.Class r.left ∷ drop (length r.right) a) p → Go n → End at before ws a x
+      → 0 < length r.right → length r.right ≤ length a → Leads t (grammar_symbol.Class r.left ∷ drop (length r.right) a) p → Go n → End at before ws a x
   reduced n at i before ws a x y x' r seen p lt marks new c there red some le lead go = by (one_or_more (length r.right) some)
     where
       within : r.left < length seen
       within = (let s = marks.size in let l = g.lefts i r there in omega (arith, s, l))
 
-      back : End at (a ∷ before) ws (symbol.Class r.left ∷ drop (length r.right) a) x' → End at before ws a x
+      back : End at (a ∷ before) ws (grammar_symbol.Class r.left ∷ drop (length r.right) a) x' → End at before ws a x
       back e = (Reduce i ∷ e.0, e.1, parse.reduces r new c there red e.2)
 
       unit : length r.right ≡ 1 → (b : Bool) → get_or seen r.left false ≡ b → End at before ws a x
-      unit e true f = back ([], Loops at, parse.loops (subst (λ k. Contains (a ∷ before) (symbol.Class r.left ∷ drop k a)) (sym e) (marks.seen_is.there r.left f)))
+      unit e true f = back ([], Loops at, parse.loops (subst (λ k. Contains (a ∷ before) (grammar_symbol.Class r.left ∷ drop k a)) (sym e) (marks.seen_is.there r.left f)))
       unit e false f =
           let next = set seen r.left true in
           let size : length next ≡ length seen = length-set seen r.left true in
           let d = length-drop 1 a (omega (arith, some, le)) in
           let fall = unit_falls (length ws) (length (drop 1 a)) seen next size (mark_count seen r.left within f) in
-          let fall1 : left (length ws) (length (symbol.Class r.left ∷ drop 1 a)) next + 1 ≤ left (length ws) (length a) seen =
-          subst (λ j. left (length ws) j next + 1 ≤ left (length ws) (length a) seen) (let q : length (drop 1 a) + 1 ≡ length (symbol.Class r.left ∷ drop 1 a) = omega arith in q)
+          let fall1 : left (length ws) (length (grammar_symbol.Class r.left ∷ drop 1 a)) next + 1 ≤ left (length ws) (length a) seen =
+          subst (λ j. left (length ws) j next + 1 ≤ left (length ws) (length a) seen) (let q : length (drop 1 a) + 1 ≡ length (grammar_symbol.Class r.left ∷ drop 1 a) = omega arith in q)
           (subst (λ j. left (length ws) (length (drop 1 a) + 1) next + 1 ≤ left (length ws) j seen) d fall) in
           let none : get_or seen r.left false ≡ true → ⊥ = λ h. (let k = sym f ∙ h in cc) in
-          back (subst (λ k. End at (a ∷ before) ws (symbol.Class r.left ∷ drop k a) x') (sym e)
-          (go at (a ∷ before) ws (symbol.Class r.left ∷ drop 1 a) x' next p (omega (arith, fall1, lt))
+          back (subst (λ k. End at (a ∷ before) ws (grammar_symbol.Class r.left ∷ drop k a) x') (sym e)
+          (go at (a ∷ before) ws (grammar_symbol.Class r.left ∷ drop 1 a) x' next p (omega (arith, fall1, lt))
           (record { seen_is = seen_unit seen a (a ∷ before) r.left marks.seen_is (omega (arith, some, le)) within; size = size ∙ marks.size })
-          (λ h. none (marks.seen_is.back r.left h)) (subst (λ k. Leads t (symbol.Class r.left ∷ drop k a) p) e lead)))
+          (λ h. none (marks.seen_is.back r.left h)) (subst (λ k. Leads t (grammar_symbol.Class r.left ∷ drop k a) p) e lead)))
 
       long : 2 ≤ length r.right → End at before ws a x
       long two =
@@ -138,13 +138,13 @@ module _ {L X : Type 0} (of : Answering L X) (rules : List Rule) (stmt classes :
           let shorter : length (drop (length r.right) a) + 1 < length a = omega (arith, d, two) in
           let fall = long_falls (length ws) (length (drop (length r.right) a)) (length r.right - 2) seen next (size ∙ sym marks.size) in
           let whole : length (drop (length r.right) a) + 2 + (length r.right - 2) ≡ length a = omega (arith, d, two) in
-          let fall1 : left (length ws) (length (symbol.Class r.left ∷ drop (length r.right) a)) next + 1 ≤ left (length ws) (length a) seen =
+          let fall1 : left (length ws) (length (grammar_symbol.Class r.left ∷ drop (length r.right) a)) next + 1 ≤ left (length ws) (length a) seen =
           subst (λ j. left (length ws) j next + 1 ≤ left (length ws) (length a) seen)
-          (let q : length (drop (length r.right) a) + 1 ≡ length (symbol.Class r.left ∷ drop (length r.right) a) = omega arith in q)
+          (let q : length (drop (length r.right) a) + 1 ≡ length (grammar_symbol.Class r.left ∷ drop (length r.right) a) = omega arith in q)
           (subst (λ j. left (length ws) (length (drop (length r.right) a) + 1) next + 1 ≤ left (length ws) j seen) whole fall) in
-          back (go at (a ∷ before) ws (symbol.Class r.left ∷ drop (length r.right) a) x' next p (omega (arith, fall1, lt))
+          back (go at (a ∷ before) ws (grammar_symbol.Class r.left ∷ drop (length r.right) a) x' next p (omega (arith, fall1, lt))
           (record { seen_is = seen_long seen a (drop (length r.right) a) (a ∷ before) r.left classes marks.seen_is shorter (g.lefts i r there); size = size })
-          (λ h. (let low = marks.seen_is.lower (symbol.Class r.left ∷ drop (length r.right) a) h in omega (arith, low, shorter))) lead)
+          (λ h. (let low = marks.seen_is.lower (grammar_symbol.Class r.left ∷ drop (length r.right) a) h in omega (arith, low, shorter))) lead)
 
       by : (length r.right ≡ 1) ⊎ (2 ≤ length r.right) → End at before ws a x
       by (inl e) = unit e (get_or seen r.left false) refl
@@ -152,7 +152,7 @@ module _ {L X : Type 0} (of : Answering L X) (rules : List Rule) (stmt classes :
 
   decided : (n at : ℕ) (before : List (List Sym)) (ws : List L) (a : List Sym) (x : X) (seen : List Bool) (q : ℕ) (ns : List ℕ) → left (length ws) (length a) seen < suc n
       → Mark before a seen → (Contains before a → ⊥) → Leads t a q →
-      (StandsBefore rules stmt a (symbol.Tok (coming of ws)) → ⊥) → AreReductions rules stmt a (coming of ws) ns → Go n → End at before ws a x
+      (StandsBefore rules stmt a (grammar_symbol.Tok (coming of ws)) → ⊥) → AreReductions rules stmt a (coming of ws) ns → Go n → End at before ws a x
   decided n at before ws a x seen q ns lt marks new lead off are go = by (taken of rules ns x).rule (taken of rules ns x).kept refl
     where
       choice_of : (o : Option ℕ) (y : X) → taken of rules ns x ≡ record { rule = o; kept = y } → Choice of rules stmt ws a x o y
@@ -173,7 +173,7 @@ module _ {L X : Type 0} (of : Answering L X) (rules : List Rule) (stmt classes :
       → Mark before a seen → (Contains before a → ⊥) → Leads t a q →
       Candidates rules stmt t a (coming of ws) cs → Go n → End at before ws a x
   step n at before ws a x seen q cs lt marks new lead (candidate.accepts stands e) go =
-      ([], Accepts x, parse.accepts new (statement_alone rules stmt classes g a (subst (λ (k : Tok). StandsBefore rules stmt a (symbol.Tok k)) e stands)) e)
+      ([], Accepts x, parse.accepts new (statement_alone rules stmt classes g a (subst (λ (k : Tok). StandsBefore rules stmt a (grammar_symbol.Tok k)) e stands)) e)
   step n at before ws a x seen q cs lt marks new lead (candidate.shifts {q = p} stands some on) go = shifted n at before ws a x seen p lt marks new stands some on go
   step n at before ws a x seen q cs lt marks new lead (candidate.reduces ns off are e) go = decided n at before ws a x seen q ns lt marks new lead off are go
 

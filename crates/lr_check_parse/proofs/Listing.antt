@@ -5,7 +5,7 @@ use Rattle.std.proofs.lemmas.List.Elements.{Contains-append_right}
 use Rattle.tree_core.specs.declared.token.Tok.{Tok}
 use Rattle.md_reader.specs.declared.types.Rule.{Rule}
 use Rattle.md_reader.specs.declared.types.Sym.{Sym}
-use Rattle.md_reader.specs.declared.types.Sym.TheVariants as symbol
+use Rattle.md_reader.specs.declared.types.Sym.TheVariants as grammar_symbol
 use Rattle.lr_tables.specs.Candidates.{StandsBefore, AreReductions}
 use Rattle.lr_check.specs.declared.sample.Outcome.{Outcome}
 use Rattle.lr_check.specs.Tree.{Token}
@@ -53,8 +53,8 @@ reduced_listed r s =
     ap (λ (l : List Bool). l ∷ answers_of (drop (length r.right) s)) (sym (listed (first_of r) s))
     ∙ ap (λ (x : Lists). list_at (first_of r) (answers_of s) ∷ x) (dropped_listed (length r.right) s)
 
-reduced_symbols : (r : Rule) (s : List Part) → symbols (reduced s r) ≡ symbol.Class r.left ∷ drop (length r.right) (symbols s)
-reduced_symbols r s = ap (λ (a : List Sym). symbol.Class r.left ∷ a) (dropped_symbols (length r.right) s)
+reduced_symbols : (r : Rule) (s : List Part) → symbols (reduced s r) ≡ grammar_symbol.Class r.left ∷ drop (length r.right) (symbols s)
+reduced_symbols r s = ap (λ (a : List Sym). grammar_symbol.Class r.left ∷ a) (dropped_symbols (length r.right) s)
 
 coming_is : (ws : List Token) → replay.coming ws ≡ coming by_lists ws
 coming_is [] = refl
@@ -151,7 +151,7 @@ module _ (rules : List Rule) where
   module _ (stmt : ℕ) where
     choice_listed : (ws : List Token) (s s' : List Part) (o : Option ℕ) → Reduction rules stmt ws s o s' → Choice by_lists rules stmt ws (symbols s) (answers_of s) o (answers_of s')
     choice_listed ws s s' o c = record {
-      no_shift = subst (λ (t : Tok). StandsBefore rules stmt (symbols s) (symbol.Tok t) → ⊥) (coming_is ws) c.no_shift;
+      no_shift = subst (λ (t : Tok). StandsBefore rules stmt (symbols s) (grammar_symbol.Tok t) → ⊥) (coming_is ws) c.no_shift;
       candidates = c.candidates;
       in_order = subst (λ (t : Tok). AreReductions rules stmt (symbols s) t c.candidates) (coming_is ws) c.in_order;
       takes = (taken_listed c.takes).0;
@@ -163,7 +163,7 @@ module _ (rules : List Rule) where
         let t = listed_taken c.candidates s o x (λ n h. let m = (c.in_order.exactly n).0 h in (m.rule, m.there)) c.takes in (
           t,
           record {
-            no_shift = subst (λ (k : Tok). StandsBefore rules stmt (symbols s) (symbol.Tok k) → ⊥) (sym (coming_is ws)) c.no_shift;
+            no_shift = subst (λ (k : Tok). StandsBefore rules stmt (symbols s) (grammar_symbol.Tok k) → ⊥) (sym (coming_is ws)) c.no_shift;
             candidates = c.candidates;
             in_order = subst (λ (k : Tok). AreReductions rules stmt (symbols s) k c.candidates) (sym (coming_is ws)) c.in_order;
             takes = t.takes;
@@ -183,13 +183,14 @@ module _ (rules : List Rule) where
         → Moves at (symbols s ∷ before) ws (reduced s' r) o → Moves at before ws s o
     reduces_moves at n before ws s s' r o h c there ih =
         let same : symbols s' ≡ symbols s = (taken_listed c.takes).1 in
-        let a : symbols (reduced s' r) ≡ symbol.Class r.left ∷ drop (length r.right) (symbols s) = reduced_symbols r s' ∙ ap (λ (b : List Sym). symbol.Class r.left ∷ drop (length r.right) b) same in
+        let a : symbols (reduced s' r) ≡ grammar_symbol.Class r.left ∷ drop (length r.right) (symbols s) = reduced_symbols r s'
+        ∙ ap (λ (b : List Sym). grammar_symbol.Class r.left ∷ drop (length r.right) b) same in
         record {
           log = Reduce n ∷ ih.log;
           end = ih.end;
           same = ih.same;
           parses = parse.reduces r h (choice_listed ws s s' (Some n) c) there refl
-              (subst (λ (x : Lists). P at (symbols s ∷ before) ws (symbol.Class r.left ∷ drop (length r.right) (symbols s)) x ih.log ih.end) (reduced_listed r s')
+              (subst (λ (x : Lists). P at (symbols s ∷ before) ws (grammar_symbol.Class r.left ∷ drop (length r.right) (symbols s)) x ih.log ih.end) (reduced_listed r s')
               (subst (λ (b : List Sym). P at (symbols s ∷ before) ws b (answers_of (reduced s' r)) ih.log ih.end) a ih.parses));
         }
 
@@ -202,14 +203,14 @@ module _ (rules : List Rule) where
 
     reduces_back : (at n : ℕ) (before : List (List Sym)) (ws : List Token) (s : List Part) (y : Lists) (r : Rule) (o : Outcome) → (Contains before (symbols s) → ⊥)
         → Choice by_lists rules stmt ws (symbols s) (answers_of s) (Some n) y → slice_get rules n ≡ Some r
-        → ((t : List Part) → symbols t ≡ symbol.Class r.left ∷ drop (length r.right) (symbols s) → answers_of t ≡ list_at (first_of r) y ∷ drop (length r.right) y
+        → ((t : List Part) → symbols t ≡ grammar_symbol.Class r.left ∷ drop (length r.right) (symbols s) → answers_of t ≡ list_at (first_of r) y ∷ drop (length r.right) y
         → Ends rules stmt at (symbols s ∷ before) ws t o)
         → Ends rules stmt at before ws s o
     reduces_back at n before ws s y r o h c there go =
         let q = choice_back ws s (Some n) y c in
         let t = q.0.stack in
         reduces r h q.1 there
-        (go (reduced t r) (reduced_symbols r t ∙ ap (λ (b : List Sym). symbol.Class r.left ∷ drop (length r.right) b) q.0.same)
+        (go (reduced t r) (reduced_symbols r t ∙ ap (λ (b : List Sym). grammar_symbol.Class r.left ∷ drop (length r.right) b) q.0.same)
         (reduced_listed r t ∙ ap (λ (x : Lists). list_at (first_of r) x ∷ drop (length r.right) x) q.0.answers))
 
     ends_there : {at : ℕ} {before : List (List Sym)} {ws : List Token} {a : List Sym} {x : Lists} {log : List (Move Token)} {e : Ending Lists} → P at before ws a x log e
@@ -219,14 +220,14 @@ module _ (rules : List Rule) where
     ends_there (parse.accepts {at = at} {before = before} {ws = ws} h k l) s f g o e =
         subst (Ends rules stmt at before ws s) (sym e) (accepts (subst (λ (b : List Sym). Contains before b → ⊥) (sym f) h) (f ∙ k) (coming_is ws ∙ l))
     ends_there (parse.shifts {before = before} {l = w} h n b more) s f g o e =
-        shifts (subst (λ (b : List Sym). Contains before b → ⊥) (sym f) h) n (subst (λ (b : List Sym). StandsBefore rules stmt b (symbol.Tok w.tok)) (sym f) b)
-        (ends_there more (record { symbol = symbol.Tok w.tok; answers = w.answers } ∷ s) (ap (λ (b : List Sym). symbol.Tok w.tok ∷ b) f) (ap (λ (y : Lists). w.answers ∷ y) g) o e)
+        shifts (subst (λ (b : List Sym). Contains before b → ⊥) (sym f) h) n (subst (λ (b : List Sym). StandsBefore rules stmt b (grammar_symbol.Tok w.tok)) (sym f) b)
+        (ends_there more (record { symbol = grammar_symbol.Tok w.tok; answers = w.answers } ∷ s) (ap (λ (b : List Sym). grammar_symbol.Tok w.tok ∷ b) f) (ap (λ (y : Lists). w.answers ∷ y) g) o e)
     ends_there (parse.reduces {at = at} {n = n} {before = before} {ws = ws} {a = a} {x = x} {y = y} {z = z} r h c there red more) s f g o e =
         let left : z ≡ list_at (first_of r) y ∷ drop (length r.right) y = sym (Some-same _ z red) in
         reduces_back at n before ws s y r o (subst (λ (b : List Sym). Contains before b → ⊥) (sym f) h)
         (subst (λ (b : List Sym). Choice by_lists rules stmt ws b (answers_of s) (Some n) y) (sym f) (subst (λ (v : Lists). Choice by_lists rules stmt ws a v (Some n) y) (sym g) c)) there
         (λ t k l. subst (λ (b : List Sym). Ends rules stmt at (b ∷ before) ws t o) (sym f)
-        (ends_there more t (k ∙ ap (λ (b : List Sym). symbol.Class r.left ∷ drop (length r.right) b) f) (l ∙ sym left) o e))
+        (ends_there more t (k ∙ ap (λ (b : List Sym). grammar_symbol.Class r.left ∷ drop (length r.right) b) f) (l ∙ sym left) o e))
     ends_there (parse.refuses r h c t f) s k g o e = absurd e
     ends_there (parse.blocks {at = at} {before = before} {ws = ws} {a = a} {x = x} {y = y} h c) s f g o e =
         subst (Ends rules stmt at before ws s) (sym e)

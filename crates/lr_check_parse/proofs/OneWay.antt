@@ -6,7 +6,7 @@ use Rattle.tree_core.specs.declared.token.Tok.{Tok}
 use Rattle.tree_core.specs.declared.token.Tok.TheVariants as tok
 use Rattle.md_reader.specs.declared.types.Rule.{Rule}
 use Rattle.md_reader.specs.declared.types.Sym.{Sym}
-use Rattle.md_reader.specs.declared.types.Sym.TheVariants as symbol
+use Rattle.md_reader.specs.declared.types.Sym.TheVariants as grammar_symbol
 use Rattle.lr_tables.specs.Items.{starts, moves}
 use Rattle.lr_tables.specs.Candidates.{StandsBefore, GoesFirst, AreReductions}
 use Rattle.lr_check_parse.specs.Moves.{Answering, Move, Shift, Reduce, Ending, Taken, taken, coming, Choice, Parses, loops, accepts, shifts, reduces, refuses, blocks}
@@ -73,12 +73,14 @@ module _ {L X : Type 0} (of : Answering L X) (rules : List Rule) (stmt : ℕ) wh
   kept_same ws a x o p y z c d = ap (λ (t : Taken X). t.kept) (taken_same ws a x o p y z c d)
 
   -- before the end an item stands on a statement
-  statement_ends : (a : List Sym) (k : Tok) → a ≡ symbol.Class stmt ∷ [] → k ≡ tok.End → StandsBefore rules stmt a (symbol.Tok k)
+  statement_ends : (a : List Sym) (k : Tok) → a ≡ grammar_symbol.Class stmt ∷ [] → k ≡ tok.End → StandsBefore rules stmt a (grammar_symbol.Tok k)
   statement_ends a k e f =
-      let stands : StandsBefore rules stmt (symbol.Class stmt ∷ []) (symbol.Tok tok.End) = record { item = record { rule = None; dot = 1 }; valid = moves starts refl refl; before = refl } in
-      subst (λ (b : List Sym). StandsBefore rules stmt b (symbol.Tok k)) (sym e) (subst (λ (t : Tok). StandsBefore rules stmt (symbol.Class stmt ∷ []) (symbol.Tok t)) (sym f) stands)
+      let stands : StandsBefore rules stmt (grammar_symbol.Class stmt ∷ []) (grammar_symbol.Tok tok.End) =
+      record { item = record { rule = None; dot = 1 }; valid = moves starts refl refl; before = refl } in
+      subst (λ (b : List Sym). StandsBefore rules stmt b (grammar_symbol.Tok k)) (sym e)
+      (subst (λ (t : Tok). StandsBefore rules stmt (grammar_symbol.Class stmt ∷ []) (grammar_symbol.Tok t)) (sym f) stands)
 
-  not_shifted : {ws : List L} {a : List Sym} {x y : X} {o : Option ℕ} → Choice of rules stmt ws a x o y → a ≡ symbol.Class stmt ∷ [] → coming of ws ≡ tok.End → ⊥
+  not_shifted : {ws : List L} {a : List Sym} {x y : X} {o : Option ℕ} → Choice of rules stmt ws a x o y → a ≡ grammar_symbol.Class stmt ∷ [] → coming of ws ≡ tok.End → ⊥
   not_shifted {ws = ws} {a = a} c e f = c.no_shift (statement_ends a (coming of ws) e f)
 
   abbrev Same : List (Move L) → Ending X → List (Move L) → Ending X → Type 0
@@ -129,9 +131,9 @@ module _ {L X : Type 0} (of : Answering L X) (rules : List Rule) (stmt : ℕ) wh
   one_way (reduces {at = at} {n = i} {before = before} {ws = ws} {a = a} {x = x} {y = y} {z = z} {log = log} {e = e} r n c t red g)
       (reduces {n = j} {y = y'} {z = z'} {log = log'} {e = e'} q m d u blue h) =
       let b = both_reduced ws a x i j y y' r q (Some z) (Some z') c d t u red blue in
-      let there : G at (a ∷ before) ws (symbol.Class r.left ∷ drop (length r.right) a) z log' e' =
-      subst (λ (k : X). G at (a ∷ before) ws (symbol.Class r.left ∷ drop (length r.right) a) k log' e') (Some-same z' z (sym b.2))
-      (subst (λ (k : Rule). G at (a ∷ before) ws (symbol.Class k.left ∷ drop (length k.right) a) z' log' e') b.1 h) in
+      let there : G at (a ∷ before) ws (grammar_symbol.Class r.left ∷ drop (length r.right) a) z log' e' =
+      subst (λ (k : X). G at (a ∷ before) ws (grammar_symbol.Class r.left ∷ drop (length r.right) a) k log' e') (Some-same z' z (sym b.2))
+      (subst (λ (k : Rule). G at (a ∷ before) ws (grammar_symbol.Class k.left ∷ drop (length k.right) a) z' log' e') b.1 h) in
       let s = one_way g there in
       (ap (λ (k : ℕ). Reduce k ∷ log) b.0 ∙ ap (λ (k : List (Move L)). Reduce j ∷ k) s.0, s.1)
   one_way (reduces {n = i} {ws = ws} {a = a} {x = x} {y = y} {z = z} r n c t red g) (refuses {n = j} {y = y'} q m d u f) =

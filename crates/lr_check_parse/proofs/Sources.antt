@@ -6,7 +6,7 @@ use Rattle.tree_core.specs.declared.token.Tok.{Tok}
 use Rattle.tree_core.specs.declared.token.Tok.TheVariants as tok
 use Rattle.md_reader.specs.declared.types.Rule.{Rule}
 use Rattle.md_reader.specs.declared.types.Sym.{Sym}
-use Rattle.md_reader.specs.declared.types.Sym.TheVariants as symbol
+use Rattle.md_reader.specs.declared.types.Sym.TheVariants as grammar_symbol
 use Rattle.lr_tables.specs.Grammar.{IsGrammar}
 use Rattle.lr_tables.specs.Statements.{stmt_of}
 use Rattle.lr_tables.proofs.Validity.{is_grammar}
@@ -80,8 +80,8 @@ module _ {L X : Type 0} (of : Answering L X) (rules : List Rule) (stmt : ℕ) wh
       let rule : (taken of rules c.candidates x).rule ≡ o = ap (λ (t : Taken X). t.rule) c.takes in (
         s.left,
         record {
-          no_shift = subst (λ (b : List Sym). StandsBefore rules stmt b (symbol.Tok (replay.coming (questioned of ws to_come))) → ⊥) e
-              (subst (λ (t : Tok). StandsBefore rules stmt a (symbol.Tok t) → ⊥) f c.no_shift);
+          no_shift = subst (λ (b : List Sym). StandsBefore rules stmt b (grammar_symbol.Tok (replay.coming (questioned of ws to_come))) → ⊥) e
+              (subst (λ (t : Tok). StandsBefore rules stmt a (grammar_symbol.Tok t) → ⊥) f c.no_shift);
           candidates = c.candidates;
           in_order = subst (λ (b : List Sym). AreReductions rules stmt b (replay.coming (questioned of ws to_come)) c.candidates) e
               (subst (λ (t : Tok). AreReductions rules stmt a t c.candidates) f c.in_order);
@@ -107,7 +107,7 @@ module _ {L X : Type 0} (of : Answering L X) (rules : List Rule) (stmt : ℕ) wh
     ends = loops (subst (Contains before) (sym (symbols_labelled a no_answers)) h);
   }
 
-  accepts_so : (at : ℕ) (before : List (List Sym)) (ws : List L) (a : List Sym) → (Contains before a → ⊥) → a ≡ symbol.Class stmt ∷ [] → coming of ws ≡ tok.End
+  accepts_so : (at : ℕ) (before : List (List Sym)) (ws : List L) (a : List Sym) → (Contains before a → ⊥) → a ≡ grammar_symbol.Class stmt ∷ [] → coming of ws ≡ tok.End
       → Answers at before ws a outcome.Done
   accepts_so at before ws a h e f = record {
     left = no_answers;
@@ -120,11 +120,11 @@ module _ {L X : Type 0} (of : Answering L X) (rules : List Rule) (stmt : ℕ) wh
   cons_answers b f (suc i) = f i
 
   shifts_so : (at : ℕ) (before : List (List Sym)) (l : L) (ws : List L) (a : List Sym) (o : Outcome) → (Contains before a → ⊥) → ((of.token l) ≡ tok.End → ⊥)
-      → StandsBefore rules stmt a (symbol.Tok (of.token l)) → Answers (at + 1) [] ws (symbol.Tok (of.token l) ∷ a) o → Answers at before (l ∷ ws) a o
+      → StandsBefore rules stmt a (grammar_symbol.Tok (of.token l)) → Answers (at + 1) [] ws (grammar_symbol.Tok (of.token l) ∷ a) o → Answers at before (l ∷ ws) a o
   shifts_so at before l ws a o h n s ih = record {
     left = λ i. ih.left (suc i);
     to_come = cons_answers (ih.left 0) ih.to_come;
-    ends = shifts (fresh before a (λ i. ih.left (suc i)) h) n (subst (λ (b : List Sym). StandsBefore rules stmt b (symbol.Tok (of.token l)))
+    ends = shifts (fresh before a (λ i. ih.left (suc i)) h) n (subst (λ (b : List Sym). StandsBefore rules stmt b (grammar_symbol.Tok (of.token l)))
         (sym (symbols_labelled a (λ i. ih.left (suc i)))) s) ih.ends;
   }
 
@@ -135,19 +135,20 @@ module _ {L X : Type 0} (of : Answering L X) (rules : List Rule) (stmt : ℕ) wh
       record { left = q.0; to_come = no_answers; ends = blocks (fresh before a q.0 h) q.1 }
 
   reduced_labelled : (r : Rule) (a : List Sym) (f : ℕ → List Bool) → 0 < length r.right → length r.right ≤ length a
-      → reduced (labelled a (above (length r.right - 1) f)) r ≡ labelled (symbol.Class r.left ∷ drop (length r.right) a) f
+      → reduced (labelled a (above (length r.right - 1) f)) r ≡ labelled (grammar_symbol.Class r.left ∷ drop (length r.right) a) f
   reduced_labelled r a f some within =
       let d : ℕ = length r.right - 1 in
       let lt : length r.right - 1 < length a = omega (arith, some, within) in
       let size : suc (length r.right - 1) ≡ length r.right = omega (arith, some) in
       let low : drop (length r.right) (labelled a (above (length r.right - 1) f)) ≡ labelled (drop (length r.right) a) (λ i. f (suc i)) =
       subst (λ (k : ℕ). drop k (labelled a (above (length r.right - 1) f)) ≡ labelled (drop k a) (λ i. f (suc i))) size (drop_above (length r.right - 1) a f lt) in
-      ap (λ (b : List Bool). record { symbol = symbol.Class r.left; answers = b } ∷ drop (length r.right) (labelled a (above (length r.right - 1) f))) (answers_above (length r.right - 1) a f lt)
-      ∙ ap (λ (t : List Part). record { symbol = symbol.Class r.left; answers = f 0 } ∷ t) low
+      ap (λ (b : List Bool). record { symbol = grammar_symbol.Class r.left; answers = b } ∷ drop (length r.right) (labelled a (above (length r.right - 1) f)))
+      (answers_above (length r.right - 1) a f lt)
+      ∙ ap (λ (t : List Part). record { symbol = grammar_symbol.Class r.left; answers = f 0 } ∷ t) low
 
   reduces_so : (classes : ℕ) → IsGrammar rules stmt classes → (at n : ℕ) (before : List (List Sym)) (ws : List L) (a : List Sym) (x y : X) (r : Rule) (o : Outcome)
       → (Contains before a → ⊥) → Choice of rules stmt ws a x (Some n) y → slice_get rules n ≡ Some r
-      → Answers at (a ∷ before) ws (symbol.Class r.left ∷ drop (length r.right) a) o → Answers at before ws a o
+      → Answers at (a ∷ before) ws (grammar_symbol.Class r.left ∷ drop (length r.right) a) o → Answers at before ws a o
   reduces_so classes g at n before ws a x y r o h c there ih =
       let t = taken_fits of rules stmt classes g ws a x n y c in
       let same : t.rule ≡ r = Some-same t.rule r (sym t.there ∙ there) in

@@ -5,7 +5,7 @@ use Rattle.tree_core.specs.declared.token.Tok.{Tok}
 use Rattle.tree_core.specs.declared.token.Tok.TheVariants as tok
 use Rattle.md_reader.specs.declared.types.Rule.{Rule}
 use Rattle.md_reader.specs.declared.types.Sym.{Sym}
-use Rattle.md_reader.specs.declared.types.Sym.TheVariants as sym
+use Rattle.md_reader.specs.declared.types.Sym.TheVariants as grammar_symbol
 use Rattle.lr_tables.specs.Candidates.{StandsBefore, AreReductions}
 
 -- Who answers. L is a leaf, which has a token, and X what is kept beside the stack of symbols: what a question about a
@@ -60,7 +60,7 @@ module _ {L X : Type 0} (of : Answering L X) where
 module _ {L X : Type 0} (of : Answering L X) (rules : List Rule) (stmt : ℕ) where
   -- the rule that is taken, if any, where nothing is shifted, and what is kept behind the questions
   pub record Choice (ws : List L) (a : List Sym) (x : X) (n : Option ℕ) (y : X) : Type 0 where
-    pub no_shift : StandsBefore rules stmt a (sym.Tok (coming of ws)) → ⊥
+    pub no_shift : StandsBefore rules stmt a (grammar_symbol.Tok (coming of ws)) → ⊥
     pub candidates : List ℕ
     pub in_order : AreReductions rules stmt a (coming of ws) candidates
     pub takes : taken of rules candidates x ≡ record { rule = n; kept = y }
@@ -75,18 +75,18 @@ module _ {L X : Type 0} (of : Answering L X) (rules : List Rule) (stmt : ℕ) wh
         Parses at before ws a x [] (Loops at)
     -- the stack is a statement, and the end comes next
     accepts : {at : ℕ} {before : List (List Sym)} {ws : List L} {a : List Sym} {x : X} →
-        (Contains before a → ⊥) → a ≡ sym.Class stmt ∷ [] → coming of ws ≡ tok.End →
+        (Contains before a → ⊥) → a ≡ grammar_symbol.Class stmt ∷ [] → coming of ws ≡ tok.End →
         Parses at before ws a x [] (Accepts x)
     -- a leaf is shifted where an item stands before its token
     shifts : {at : ℕ} {before : List (List Sym)} {l : L} {ws : List L} {a : List Sym} {x : X} {log : List (Move L)} {e : Ending X} →
-        (Contains before a → ⊥) → (of.token l ≡ tok.End → ⊥) → StandsBefore rules stmt a (sym.Tok (of.token l)) →
-        Parses (at + 1) [] ws (sym.Tok (of.token l) ∷ a) (of.shifted l x) log e →
+        (Contains before a → ⊥) → (of.token l ≡ tok.End → ⊥) → StandsBefore rules stmt a (grammar_symbol.Tok (of.token l)) →
+        Parses (at + 1) [] ws (grammar_symbol.Tok (of.token l) ∷ a) (of.shifted l x) log e →
         Parses at before (l ∷ ws) a x (Shift l ∷ log) e
     -- a rule is taken
     reduces : {at n : ℕ} {before : List (List Sym)} {ws : List L} {a : List Sym} {x y z : X} {log : List (Move L)}
         {e : Ending X} (r : Rule) →
         (Contains before a → ⊥) → Choice ws a x (Some n) y → slice_get rules n ≡ Some r → of.reduced n r y ≡ Some z →
-        Parses at (a ∷ before) ws (sym.Class r.left ∷ drop (length r.right) a) z log e →
+        Parses at (a ∷ before) ws (grammar_symbol.Class r.left ∷ drop (length r.right) a) z log e →
         Parses at before ws a x (Reduce n ∷ log) e
     -- the reduction is refused
     refuses : {at n : ℕ} {before : List (List Sym)} {ws : List L} {a : List Sym} {x y : X} (r : Rule) →

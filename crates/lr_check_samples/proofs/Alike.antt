@@ -1,7 +1,7 @@
 -- Stacks that answer alike are parsed alike.
 use Rattle.std.proofs.Common.{◌≡◌, ℕ, zero, suc, List, [], ◌∷◌, Option, Some, None, Bool, true, false, drop, refl, ap, ap₂, sym, ◌∙◌, subst, true≢false}
 use Rattle.md_reader.specs.declared.types.Sym.{Sym}
-use Rattle.md_reader.specs.declared.types.Sym.TheVariants as symbol
+use Rattle.md_reader.specs.declared.types.Sym.TheVariants as grammar_symbol
 use Rattle.lr_check_sets.specs.Automaton.{Automaton, Production, Candidate, shift, reduce, walk, size_of, CanBlock}
 use Rattle.lr_check_sets.specs.Answers.{Entry, Leaf, symbols, first_answer, other_answers, owner, asked, Picked, pick_by, pick, held_reduced, Step, shifts, reduces, Runs, here}
 use Rattle.lr_check_sets.specs.Answers.{then_step, Reductions, one_reduction, more_reductions}
@@ -111,7 +111,7 @@ pub steps_so : {A : Automaton} {a b : List Entry} {u v : List Leaf} (x : List En
 steps_so {A = A} x (shifts {a = a} {b = b} {f = f} {w = w} {p = p} at pk) h =
     let k : PicksSo (A.candidates p f.tok) (Some shift) b x = picks_so (A.candidates p f.tok) (Some shift) a b x pk h in
     record {
-      stack = record { symbol = symbol.Tok f.tok; answers = f.answers } ∷ k.stack;
+      stack = record { symbol = grammar_symbol.Tok f.tok; answers = f.answers } ∷ k.stack;
       step = shifts (ap (walk A 0) (sym (symbols-alike a x h)) ∙ at) k.picks;
       alike = (refl, (λ n. refl), k.alike);
     }

@@ -5,7 +5,7 @@ use Rattle.tree_core.specs.declared.token.Sort.{Sort}
 use Rattle.tree_core.specs.declared.token.Sort.TheVariants as sort
 use Rattle.tree_core.specs.Grammar.{kids}
 use Rattle.md_reader.specs.declared.types.Sym.{Sym}
-use Rattle.md_reader.specs.declared.types.Sym.TheVariants as symbol
+use Rattle.md_reader.specs.declared.types.Sym.TheVariants as grammar_symbol
 use Rattle.lr_check_sets.specs.Automaton.{Automaton}
 use Rattle.lr_check_sets.specs.Trees.{May}
 use Rattle.lr_check_found.specs.declared.places.Place.{Place}
@@ -22,7 +22,7 @@ pub record BegunFirst (A : Automaton) (x y : Place) : Type 0 where
   pub sort : Sort
   pub others : List Sort
   pub state : ℕ
-  pub go : A.go y.state (symbol.Tok y.token) ≡ Some state
+  pub go : A.go y.state (grammar_symbol.Tok y.token) ≡ Some state
   pub kid : kids y.token ≡ sort ∷ others
   pub at : x.state ≡ state
   pub may : May x.token sort

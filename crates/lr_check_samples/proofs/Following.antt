@@ -6,7 +6,7 @@ use Rattle.tree_core.specs.declared.token.Tok.TheVariants as tok
 use Rattle.tree_core.specs.declared.token.Sort.{Sort}
 use Rattle.tree_core.specs.Grammar.{sort_of}
 use Rattle.tree_core.specs.Trees.{sort_fits}
-use Rattle.md_reader.specs.declared.types.Sym.TheVariants as symbol
+use Rattle.md_reader.specs.declared.types.Sym.TheVariants as grammar_symbol
 use Rattle.md_reader.specs.Valid.{IsValid}
 use Rattle.lr_tables.specs.View.{TableView}
 use Rattle.lr_tables.specs.Statements.{stmt_of}
@@ -70,11 +70,11 @@ module _ (t : TableView) (v : IsValid t.content) (b : IsNumbered t) (m : MeetsLa
 
   shift_follows : {ws : List Token} {s : List Part} {a c : List Entry} {f : Leaf} {w : List Leaf} {p : ℕ} (x : Leaf) (w' : List Leaf) → w ≡ x ∷ w' → Follows ws s a (f ∷ w) →
       walk (automaton_of t) 0 (auto.symbols a) ≡ Some p → pick (candidates_at t p f.tok) a ≡ record { taken = Some shift; stack = c } →
-      Follows ws s (record { symbol = symbol.Tok f.tok; answers = f.answers } ∷ c) w
+      Follows ws s (record { symbol = grammar_symbol.Tok f.tok; answers = f.answers } ∷ c) w
   shift_follows {ws = ws} {s = s} {a = a} {c = c} {f = f} {w = w} {p = p} x w' some k at pk = by k.rest k.same k.no_ends k.comes
     where
       by : (rest : List Leaf) → f ∷ w ≡ rest ++ the_end → NoEnds rest → Comes t.content.rules (stmt_of t.content.classes) ws s (map token rest) (parts a) →
-          Follows ws s (record { symbol = symbol.Tok f.tok; answers = f.answers } ∷ c) w
+          Follows ws s (record { symbol = grammar_symbol.Tok f.tok; answers = f.answers } ∷ c) w
       by [] e free comes = absurd (cons_nil x w' (sym (tail_same f (record { tok = tok.End; answers = [] }) w [] e) ∙ some))
       by (l ∷ rest) e free comes =
           let same : f ≡ l = head_same f l w (rest ++ the_end) e in
@@ -85,7 +85,7 @@ module _ (t : TableView) (v : IsValid t.content) (b : IsNumbered t) (m : MeetsLa
             comes = comes-append comes
                 (by_move
                 (subst (λ (z : Leaf). Moves t.content.rules (stmt_of t.content.classes) (token z ∷ map token rest) (parts a) (map token rest)
-                (parts (record { symbol = symbol.Tok f.tok; answers = f.answers } ∷ c))) same
+                (parts (record { symbol = grammar_symbol.Tok f.tok; answers = f.answers } ∷ c))) same
                 (shift_moves t v b m a c p f (map token rest) (λ g. free.0 (ap (λ (z : Leaf). z.tok) (sym same) ∙ g)) at pk)) at_once);
           }
 

@@ -6,7 +6,7 @@ use Rattle.tree_core.specs.declared.token.Tok.{Tok}
 use Rattle.tree_core.specs.declared.token.Sort.{Sort}
 use Rattle.tree_core.specs.Grammar.{kids}
 use Rattle.md_reader.specs.declared.types.Sym.{Sym}
-use Rattle.md_reader.specs.declared.types.Sym.TheVariants as symbol
+use Rattle.md_reader.specs.declared.types.Sym.TheVariants as grammar_symbol
 use Rattle.lr_tables.specs.View.{TableView}
 use Rattle.lr_check_sets.specs.Automaton.{Automaton, Production, Candidate, reduce, walk, size_of, Free, IsTable}
 use Rattle.lr_check_sets.specs.Items.{AreCandidates, the_shift, the_reductions, IsLongestFirst}
@@ -56,7 +56,7 @@ goes_down (the_shift r i) = tt
 goes_down (the_reductions rs none are e) = subst GoesDown (sym e) (down rs are.ordered)
 
 -- a token with kids to come
-token_shape : (k : Tok) (n : ℕ) → length (kids k) ≡ n → PartShape (symbol.Tok k ∷ []) n
+token_shape : (k : Tok) (n : ℕ) → length (kids k) ≡ n → PartShape (grammar_symbol.Tok k ∷ []) n
 token_shape k n many = record {
   still = ap Some (omega (arith, many));
   tops = λ b d m e some rest h. let sum : 1 ≡ length b + length d = ap length e ∙ length-append b d in absurd (omega (arith, sum));
@@ -103,25 +103,26 @@ module _ (t : TableView) (m : MeetsLaws t) where
         (subst (λ j. Leads (automaton_of t) j y.token y.behind s ws own ds) (ap (λ (x : Place). x.state) same.places ∙ fits.state) l))
 
     first_kid : (x : Place) (q : ℕ) (k n : Tok) (s : List Sym) (l : ℕ) (ws : List Leaf) (own : List Bool) (ds : List ℕ) → sets.Place (automaton_of t) x.state x.token x.behind →
-        (automaton_of t).go x.state (symbol.Tok x.token) ≡ Some q → length (kids x.token) ≡ suc l → Leads (automaton_of t) q k n s ws own ds →
-        Leads (automaton_of t) x.state x.token n (s ++ (symbol.Tok x.token ∷ [])) (leaf k own ∷ ws) (root_no 1 ds) (further 1 ds)
+        (automaton_of t).go x.state (grammar_symbol.Tok x.token) ≡ Some q → length (kids x.token) ≡ suc l → Leads (automaton_of t) q k n s ws own ds →
+        Leads (automaton_of t) x.state x.token n (s ++ (grammar_symbol.Tok x.token ∷ [])) (leaf k own ∷ ws) (root_no 1 ds) (further 1 ds)
     first_kid x q k n s l ws own ds place go many kid =
         let here : MetPlace (automaton_of t) x.state x.token x.behind = met place in
-        with_kid (automaton_of t) x.state q x.token k n (symbol.Tok x.token ∷ []) s [] ws [] own [] ds l here.below here.at go (token_shape x.token (suc l) many) (omega arith)
+        with_kid (automaton_of t) x.state q x.token k n (grammar_symbol.Tok x.token ∷ []) s [] ws [] own [] ds l here.below here.at go (token_shape x.token (suc l) many) (omega arith)
         (opened (automaton_of t) table x.state q x.token k go) kid
 
     second_kid : (x : Place) (q p : ℕ) (k k' n : Tok) (s u : List Sym) (ws ws' : List Leaf) (own own' : List Bool) (ds ds' : List ℕ) → sets.Place (automaton_of t) x.state x.token x.behind →
-        (automaton_of t).go x.state (symbol.Tok x.token) ≡ Some q → length (kids x.token) ≡ 2 → IsTree s → walk (automaton_of t) q s ≡ Some p →
+        (automaton_of t).go x.state (grammar_symbol.Tok x.token) ≡ Some q → length (kids x.token) ≡ 2 → IsTree s → walk (automaton_of t) q s ≡ Some p →
         Leads (automaton_of t) q k k' s ws own ds → Leads (automaton_of t) p k' n u ws' own' ds' →
-        Leads (automaton_of t) x.state x.token n (u ++ (s ++ (symbol.Tok x.token ∷ []))) (leaf k own ∷ (ws ++ (leaf k' own' ∷ ws')))
+        Leads (automaton_of t) x.state x.token n (u ++ (s ++ (grammar_symbol.Tok x.token ∷ []))) (leaf k own ∷ (ws ++ (leaf k' own' ∷ ws')))
         (root_no 1 ds ++ root_no (length s + 1) ds') (further 1 ds ++ further (length s + 1) ds')
     second_kid x q p k k' n s u ws ws' own own' ds ds' place go many tree walks kid second =
         let here : MetPlace (automaton_of t) x.state x.token x.behind = met place in
-        let part : List Sym = s ++ (symbol.Tok x.token ∷ []) in
-        let size : length part ≡ length s + 1 = length-append s (symbol.Tok x.token ∷ []) in
+        let part : List Sym = s ++ (grammar_symbol.Tok x.token ∷ []) in
+        let size : length part ≡ length s + 1 = length-append s (grammar_symbol.Tok x.token ∷ []) in
         leads_as refl (ap (λ n. root_no 1 ds ++ root_no n ds') size) (ap (λ n. further 1 ds ++ further n ds') size)
         (with_kid (automaton_of t) x.state p x.token k' n part u (leaf k own ∷ ws) ws' (root_no 1 ds) own' (further 1 ds) ds' 0 here.below here.at
-        (walk-append (automaton_of t) x.state q s (symbol.Tok x.token ∷ []) go ∙ walks) (kid_shape s (symbol.Tok x.token ∷ []) 1 tree (token_shape x.token 2 many)) (omega (arith, size))
+        (walk-append (automaton_of t) x.state q s (grammar_symbol.Tok x.token ∷ []) go ∙ walks) (kid_shape s (grammar_symbol.Tok x.token ∷ []) 1 tree (token_shape x.token 2 many))
+        (omega (arith, size))
         (first_kid x q k k' s 1 ws own ds place go many kid) second)
 
     pub leads : {i : ℕ} {ws : List Leaf} {own : List Bool} {ds : List ℕ} → Fixed (automaton_of t) f i ws own ds → (x : Place) (s : List Sym) (p : ℕ) → SettlesAt f i x s p →

@@ -4,7 +4,7 @@ use Rattle.tree_core.specs.declared.token.Tok.{Tok}
 use Rattle.tree_core.specs.declared.token.Sort.{Sort}
 use Rattle.tree_core.specs.Grammar.{kids}
 use Rattle.md_reader.specs.declared.types.Sym.{Sym}
-use Rattle.md_reader.specs.declared.types.Sym.TheVariants as symbol
+use Rattle.md_reader.specs.declared.types.Sym.TheVariants as grammar_symbol
 use Rattle.lr_check_sets.specs.Automaton.{Automaton, Production, size_of, reduced}
 use Rattle.lr_check_sets.proofs.Links.{drop_whole}
 use Rattle.lr_check_sets.specs.Trees.{May, Tree, Trees, node, no_trees, more_trees}
@@ -94,8 +94,8 @@ record HasTurning (A : Automaton) (q : ℕ) (t : Tok) (s s' : List Sym) : Type 0
   depths : List ℕ
   turning : Turning A q t s s' own depths
 
-whole_left : (r : Production) (s : List Sym) → size_of r ≡ length s → symbol.Class r.left ∷ [] ≡ reduced r s
-whole_left r s e = ap (λ l. symbol.Class r.left ∷ l) (sym (ap (λ n. drop n s) e ∙ drop_whole s))
+whole_left : (r : Production) (s : List Sym) → size_of r ≡ length s → grammar_symbol.Class r.left ∷ [] ≡ reduced r s
+whole_left r s e = ap (λ l. grammar_symbol.Class r.left ∷ l) (sym (ap (λ n. drop n s) e ∙ drop_whole s))
 
 turning_as : {A : Automaton} {q : ℕ} {t : Tok} {s u v : List Sym} {own : List Bool} {ds : List ℕ} → u ≡ v → Turning A q t s u own ds → HasTurning A q t s v
 turning_as {A = A} {q = q} {t = t} {s = s} {own = own} {ds = ds} e h = record { own = own; depths = ds; turning = subst (λ l. Turning A q t s l own ds) e h }

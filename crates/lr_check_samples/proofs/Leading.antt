@@ -2,7 +2,7 @@
 use Rattle.std.proofs.Common.{◌≡◌, ℕ, suc, ◌<◌, List, [], ◌∷◌, ◌++◌, Some, None, Bool, length, refl, ap, ap₂, sym, ◌∙◌, subst, arith, append_assoc, append-nil, drop_at}
 use Rattle.tree_core.specs.declared.token.Tok.{Tok}
 use Rattle.md_reader.specs.declared.types.Sym.{Sym}
-use Rattle.md_reader.specs.declared.types.Sym.TheVariants as symbol
+use Rattle.md_reader.specs.declared.types.Sym.TheVariants as grammar_symbol
 use Rattle.lr_check_sets.specs.Automaton.{Automaton, Production, reduce, walk, size_of, IsTable}
 use Rattle.lr_check_sets.specs.Answers.{Entry, Leaf, symbols, next_token, pick, held_reduced, Step, reduces, Runs, then_step}
 use Rattle.lr_check_sets.specs.Shapes.{IsTree}
@@ -45,10 +45,10 @@ runs_as {A = A} {x = x} {x' = x'} {y = y} {y' = y'} {w = w} {w' = w'} {v = v} e 
 
 module _ (A : Automaton) where
   -- the token alone
-  pub opened : (table : IsTable A) (q p : ℕ) (k n : Tok) → A.go q (symbol.Tok k) ≡ Some p → Leads A q k n (symbol.Tok k ∷ []) [] [] []
+  pub opened : (table : IsTable A) (q p : ℕ) (k n : Tok) → A.go q (grammar_symbol.Tok k) ≡ Some p → Leads A q k n (grammar_symbol.Tok k ∷ []) [] [] []
   opened table q p k n go = record {
     deep = λ a at. tt;
-    runs = λ b a z w at e g. shift_runs (record { symbol = symbol.Tok k; answers = b }) z w at (table.shift_alone a q k p at go) refl e;
+    runs = λ b a z w at e g. shift_runs (record { symbol = grammar_symbol.Tok k; answers = b }) z w at (table.shift_alone a q k p at go) refl e;
   }
 
   -- a kid more
@@ -77,25 +77,25 @@ module _ (A : Automaton) where
       far : AreFar (length s) ds'
       far = are_far s a0 l shape ds' (kid.deep (s ++ a0) (there a0 at0))
 
-  result : (s : List Sym) (r : Production) (b : List Bool) (z : List Entry) → IsTree s → size_of r ≡ length s → held_reduced r (hold s b ++ z) ≡ hold (symbol.Class r.left ∷ []) b ++ z
+  result : (s : List Sym) (r : Production) (b : List Bool) (z : List Entry) → IsTree s → size_of r ≡ length s → held_reduced r (hold s b ++ z) ≡ hold (grammar_symbol.Class r.left ∷ []) b ++ z
   result s r b z tree size =
-      ap₂ (λ u v. record { symbol = symbol.Class r.left; answers = u } ∷ v) (owner-hold r.right s b z size (omega (arith, size, tree_some s tree)))
+      ap₂ (λ u v. record { symbol = grammar_symbol.Class r.left; answers = u } ∷ v) (owner-hold r.right s b z size (omega (arith, size, tree_some s tree)))
       (drop_at (hold s b) z (size_of r) (length-hold s b ∙ sym size))
 
   -- one reduction of the whole list
   pub reduced_step : (q p : ℕ) (t : Tok) (s : List Sym) (c : ℕ) (own : List Bool) (ds : List ℕ) → IsTree s → walk A q s ≡ Some p → Taking A q s (A.candidates p t) own ds c →
       (b : List Bool) (a : List Sym) (z : List Entry) (w : List Leaf) → walk A 0 a ≡ Some q → symbols z ≡ a → next_token w ≡ Some t →
-      Step A (hold s (own ++ b) ++ pushes ds z) w (hold (symbol.Class c ∷ []) b ++ z) w
+      Step A (hold s (own ++ b) ++ pushes ds z) w (hold (grammar_symbol.Class c ∷ []) b ++ z) w
   reduced_step q p t s c own ds tree walks k b a z w at e g =
       let there : walk A 0 (symbols (hold s (own ++ b) ++ pushes ds z)) ≡ Some p =
       ap (walk A 0) (symbols-append (hold s (own ++ b)) (pushes ds z) ∙ ap₂ (λ u v. u ++ v) (symbols-hold s (own ++ b)) (symbols-pushes ds z ∙ e)) ∙
       (walk-append A 0 q s a at ∙ walks) in
       subst (λ y. Step A (hold s (own ++ b) ++ pushes ds z) w y w)
-      (result s k.rule b z tree k.size ∙ ap (λ x. hold (symbol.Class x ∷ []) b ++ z) k.left)
+      (result s k.rule b z tree k.size ∙ ap (λ x. hold (grammar_symbol.Class x ∷ []) b ++ z) k.left)
       (one_step A p t k.rule (hold s (own ++ b) ++ pushes ds z) (hold s b ++ z) w g there (k.picks b z))
 
   pub reduced_whole : (q p : ℕ) (k t : Tok) (s : List Sym) (c : ℕ) (ws : List Leaf) (own own' : List Bool) (ds ds' : List ℕ) → IsTree s → walk A q s ≡ Some p →
-      Taking A q s (A.candidates p t) own' ds' c → Leads A q k t s ws own ds → Leads A q k t (symbol.Class c ∷ []) ws (own ++ own') (ds ++ ds')
+      Taking A q s (A.candidates p t) own' ds' c → Leads A q k t s ws own ds → Leads A q k t (grammar_symbol.Class c ∷ []) ws (own ++ own') (ds ++ ds')
   reduced_whole q p k t s c ws own own' ds ds' tree walks take set = record {
     deep = λ a at. deep-append a ds ds' (set.deep a at) (take.deep a at);
     runs = λ b a z w at e g.

@@ -3,7 +3,7 @@ use Rattle.std.proofs.Common.{◌≡◌, ℕ, List, [], ◌∷◌, ◌++◌, Som
 use Rattle.tree_core.specs.declared.token.Sort.{Sort}
 use Rattle.tree_core.specs.Grammar.{kids}
 use Rattle.md_reader.specs.declared.types.Sym.{Sym}
-use Rattle.md_reader.specs.declared.types.Sym.TheVariants as symbol
+use Rattle.md_reader.specs.declared.types.Sym.TheVariants as grammar_symbol
 use Rattle.lr_check_sets.specs.Automaton.{Automaton, Production, reduce, walk, size_of, Free}
 use Rattle.lr_check_sets.specs.Sums as sets
 use Rattle.lr_check_found.specs.declared.places.Place.{Place}
@@ -81,9 +81,9 @@ settled_so A f found {i = i} {p = p} {h = h} {x = x} {s = s} m a =
 -- by the settling's form
 pub record MadeLeaf (A : Automaton) (x : Place) (s : List Sym) : Type 0 where
   pub state : ℕ
-  pub go : A.go x.state (symbol.Tok x.token) ≡ Some state
+  pub go : A.go x.state (grammar_symbol.Tok x.token) ≡ Some state
   pub none : kids x.token ≡ []
-  pub list : s ≡ symbol.Tok x.token ∷ []
+  pub list : s ≡ grammar_symbol.Tok x.token ∷ []
 
 pub record MadeOne (A : Automaton) (f : FoundView) (i : ℕ) (x : Place) (s : List Sym) : Type 0 where
   pub sort : Sort
@@ -94,7 +94,7 @@ pub record MadeOne (A : Automaton) (f : FoundView) (i : ℕ) (x : Place) (s : Li
   pub kid_list : List Sym
   pub sum : SumAt f i kid kid_list behind
   pub fits : Fits kid sort state x.behind
-  pub list : s ≡ kid_list ++ (symbol.Tok x.token ∷ [])
+  pub list : s ≡ kid_list ++ (grammar_symbol.Tok x.token ∷ [])
 
 pub record MadeTwo (A : Automaton) (f : FoundView) (i k : ℕ) (x : Place) (s : List Sym) : Type 0 where
   pub sort : Sort
@@ -111,7 +111,7 @@ pub record MadeTwo (A : Automaton) (f : FoundView) (i k : ℕ) (x : Place) (s : 
   pub fits : Fits kid sort state second.token
   pub second_sum : SumAt f k second second_list last
   pub second_fits : Fits second second_sort behind x.behind
-  pub list : s ≡ second_list ++ (kid_list ++ (symbol.Tok x.token ∷ []))
+  pub list : s ≡ second_list ++ (kid_list ++ (grammar_symbol.Tok x.token ∷ []))
 
 pub record MadeReduced (A : Automaton) (f : FoundView) (n i c : ℕ) (x : Place) (s : List Sym) : Type 0 where
   pub entry : Settling
@@ -125,7 +125,7 @@ pub record MadeReduced (A : Automaton) (f : FoundView) (n i c : ℕ) (x : Place)
   pub free : Free (A.candidates state x.behind) (reduce rule)
   pub size : size_of rule ≡ length whole
   pub left : rule.left ≡ c
-  pub list : s ≡ symbol.Class c ∷ []
+  pub list : s ≡ grammar_symbol.Class c ∷ []
 
 module _ {A : Automaton} {f : FoundView} {n : ℕ} {x : Place} where
   pub made_leaf : {h : How} {s : List Sym} → Made A f n x h s → h ≡ how.Leaf → MadeLeaf A x s
@@ -138,7 +138,7 @@ module _ {A : Automaton} {f : FoundView} {n : ℕ} {x : Place} where
   made_one (leaf go none) i e = absurd (cc)
   made_one (one {i = j} {p = p} {j = q} {y = y} {w = w} {s = s} h sum g) i e =
       let same : j ≡ i = cc in
-      subst (λ k. MadeOne A f k x (s ++ (symbol.Tok x.token ∷ []))) same
+      subst (λ k. MadeOne A f k x (s ++ (grammar_symbol.Tok x.token ∷ []))) same
       (record { sort = w; state = p; has = h; kid = y; behind = q; kid_list = s; sum = sum; fits = g; list = refl })
   made_one (two h sum g sum' g') i e = absurd (cc)
   made_one (made_by_reduction d r at same list behind free size) i e = absurd (cc)
@@ -149,8 +149,8 @@ module _ {A : Automaton} {f : FoundView} {n : ℕ} {x : Place} where
   made_two (two {i = j} {k = l} {p = p} {j = q} {h = o} {y = y} {z = z} {w = w} {v = v} {s = s} {u = u} h sum g sum' g') i k e =
       let first : j ≡ i = cc in
       let second : l ≡ k = cc in
-      subst (λ a. MadeTwo A f a k x (u ++ (s ++ (symbol.Tok x.token ∷ [])))) first
-      (subst (λ b. MadeTwo A f j b x (u ++ (s ++ (symbol.Tok x.token ∷ [])))) second
+      subst (λ a. MadeTwo A f a k x (u ++ (s ++ (grammar_symbol.Tok x.token ∷ [])))) first
+      (subst (λ b. MadeTwo A f j b x (u ++ (s ++ (grammar_symbol.Tok x.token ∷ [])))) second
       (record {
         sort = w;
         second_sort = v;
@@ -189,5 +189,5 @@ module _ {A : Automaton} {f : FoundView} {n : ℕ} {x : Place} where
         free = free;
         size = size;
         left = left;
-        list = ap (λ l. symbol.Class l ∷ []) left;
+        list = ap (λ l. grammar_symbol.Class l ∷ []) left;
       }

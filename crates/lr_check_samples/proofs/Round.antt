@@ -3,7 +3,7 @@ use Rattle.std.proofs.Common.{◌≡◌, ℕ, zero, suc, List, [], ◌∷◌, �
 use Rattle.tree_core.specs.declared.token.Tok.{Tok}
 use Rattle.tree_core.specs.declared.token.Sort.{Sort}
 use Rattle.md_reader.specs.declared.types.Sym.{Sym}
-use Rattle.md_reader.specs.declared.types.Sym.TheVariants as symbol
+use Rattle.md_reader.specs.declared.types.Sym.TheVariants as grammar_symbol
 use Rattle.lr_tables.specs.View.{TableView}
 use Rattle.lr_check_sets.specs.Automaton.{Automaton, walk, go_from, IsTable}
 use Rattle.lr_check_sets.specs.Exact.{MeetsLaws}
@@ -88,23 +88,23 @@ pub record Reaches (A : Automaton) (x : Place) (before behind : List Leaf) : Typ
   pub comes : (w : List Leaf) → next_token w ≡ Some x.token → Comes A [] (before ++ w) below w
 
 -- an ancestor's token is shifted
-shifted : (A : Automaton) (table : IsTable A) (y : Place) (p : ℕ) (a : List Sym) (z : List Entry) (w : List Leaf) → A.go y.state (symbol.Tok y.token) ≡ Some p → walk A 0 a ≡ Some y.state →
+shifted : (A : Automaton) (table : IsTable A) (y : Place) (p : ℕ) (a : List Sym) (z : List Entry) (w : List Leaf) → A.go y.state (grammar_symbol.Tok y.token) ≡ Some p → walk A 0 a ≡ Some y.state →
     IsQuiet a z →
-    Comes A z (leaf y.token [] ∷ w) (symbol.Tok y.token ∷ a) w
+    Comes A z (leaf y.token [] ∷ w) (grammar_symbol.Tok y.token ∷ a) w
 shifted A table y p a z w go at quiet = record {
-  stack = record { symbol = symbol.Tok y.token; answers = [] } ∷ z;
+  stack = record { symbol = grammar_symbol.Tok y.token; answers = [] } ∷ z;
   quiet = (refl, (λ n. refl), quiet);
   runs = then_step here (shifts (ap (walk A 0) (symbols-quiet a z quiet) ∙ at) (ap (λ cs. pick cs z) (table.shift_alone a y.state y.token p at go)));
 }
 
-walk_one : (A : Automaton) (y : Place) (p : ℕ) (a : List Sym) → A.go y.state (symbol.Tok y.token) ≡ Some p → walk A 0 a ≡ Some y.state → walk A 0 (symbol.Tok y.token ∷ a) ≡ Some p
-walk_one A y p a go at = ap (λ o. go_from A o (symbol.Tok y.token)) at ∙ go
+walk_one : (A : Automaton) (y : Place) (p : ℕ) (a : List Sym) → A.go y.state (grammar_symbol.Tok y.token) ≡ Some p → walk A 0 a ≡ Some y.state → walk A 0 (grammar_symbol.Tok y.token ∷ a) ≡ Some p
+walk_one A y p a go at = ap (λ o. go_from A o (grammar_symbol.Tok y.token)) at ∙ go
 
 below_first : (A : Automaton) (table : IsTable A) (x y : Place) (before behind us : List Leaf) → Reaches A y before behind → BegunFirst A x y →
     next_token (us ++ (behind ++ the_end)) ≡ Some x.behind →
     Reaches A x (before ++ leaf y.token [] ∷ []) (us ++ behind)
 below_first A table x y before behind us r g next = record {
-  below = symbol.Tok y.token ∷ r.below;
+  below = grammar_symbol.Tok y.token ∷ r.below;
   at = walk_one A y g.state r.below g.go r.at ∙ ap Some (sym g.at);
   next = ap next_token (append_assoc us behind the_end) ∙ next;
   comes = λ w e.
@@ -127,18 +127,18 @@ module _ (t : TableView) (m : MeetsLaws t) (f : FoundView) (found : IsFound (aut
       let sum : IsSum (automaton_of t) g.kid g.list g.last = sum_of (automaton_of t) f j g.kid g.list g.last found g.sum in
       let walks : walk (automaton_of t) g.state s ≡ Some g.last =
       subst (λ u. walk (automaton_of t) g.state u ≡ Some g.last) (sym same.lists) (subst (λ q. walk (automaton_of t) q g.list ≡ Some g.last) g.fits.state sum.walks) in
-      let one : walk (automaton_of t) 0 (symbol.Tok y.token ∷ r.below) ≡ Some g.state = walk_one (automaton_of t) y g.state r.below g.has.go r.at in
+      let one : walk (automaton_of t) 0 (grammar_symbol.Tok y.token ∷ r.below) ≡ Some g.state = walk_one (automaton_of t) y g.state r.below g.has.go r.at in
       record {
-        below = s ++ (symbol.Tok y.token ∷ r.below);
-        at = walk-append (automaton_of t) 0 g.state s (symbol.Tok y.token ∷ r.below) one ∙ (walks ∙ ap Some (sym g.second_fits.state));
+        below = s ++ (grammar_symbol.Tok y.token ∷ r.below);
+        at = walk-append (automaton_of t) 0 g.state s (grammar_symbol.Tok y.token ∷ r.below) one ∙ (walks ∙ ap Some (sym g.second_fits.state));
         next = r.next ∙ ap Some (sym g.second_fits.behind);
         comes = λ w e.
             let u : List Leaf = leaf z.token own ∷ (ws ++ w) in
             let c : Comes (automaton_of t) [] (before ++ (leaf y.token [] ∷ u)) r.below (leaf y.token [] ∷ u) = r.comes (leaf y.token [] ∷ u) refl in
-            let d : Comes (automaton_of t) [] (before ++ (leaf y.token [] ∷ u)) (symbol.Tok y.token ∷ r.below) u =
+            let d : Comes (automaton_of t) [] (before ++ (leaf y.token [] ∷ u)) (grammar_symbol.Tok y.token ∷ r.below) u =
             comes-append c (shifted (automaton_of t) (table t m) y g.state r.below c.stack u g.has.go r.at c.quiet) in
             comes_as (sym (append_assoc before (leaf y.token [] ∷ leaf z.token own ∷ ws) w)) refl
-            (comes-append d (comes_to_quiet l (symbol.Tok y.token ∷ r.below) d.stack w d.quiet one e));
+            (comes-append d (comes_to_quiet l (grammar_symbol.Tok y.token ∷ r.below) d.stack w d.quiet one e));
       }
 
   pub reaches : {n : ℕ} {before behind : List Leaf} → Context (automaton_of t) f n before behind → (x : Place) → IsPlaceAt f n x → Reaches (automaton_of t) x before behind

@@ -7,7 +7,7 @@ use Rattle.tree_core.specs.declared.token.Tok.{Tok}
 use Rattle.tree_core.specs.declared.token.Tok.TheVariants as tok
 use Rattle.md_reader.specs.declared.types.Rule.{Rule}
 use Rattle.md_reader.specs.declared.types.Sym.{Sym}
-use Rattle.md_reader.specs.declared.types.Sym.TheVariants as symbol
+use Rattle.md_reader.specs.declared.types.Sym.TheVariants as grammar_symbol
 use Rattle.md_reader.specs.Valid.{IsValid}
 use Rattle.lr_tables.specs.declared.types.Choice.{Choice}
 use Rattle.lr_tables.specs.View.{TableView}
@@ -81,7 +81,7 @@ asked-rule r a some = by r.right refl some
 
 reduced-parts : (r : Rule) (a : List Entry) → 0 < length r.right → reduced (parts a) r ≡ parts (held_reduced (production r) a)
 reduced-parts r a some =
-    ap₂ (λ (bs : List Bool) (l : List Part). record { symbol = symbol.Class r.left; answers = bs } ∷ l) (owner-rule r a some)
+    ap₂ (λ (bs : List Bool) (l : List Part). record { symbol = grammar_symbol.Class r.left; answers = bs } ∷ l) (owner-rule r a some)
     (drop-map (λ (h : Entry). record { symbol = h.symbol; answers = h.answers }) (length r.right) a)
 
 -- what is picked of the reductions is what is taken of the rules
@@ -179,8 +179,8 @@ stack_same o p b e = ap (λ (q : Picked). q.stack) e
 module _ (t : TableView) (v : IsValid t.content) (b : IsNumbered t) (m : MeetsLaws t) where
   -- what may be done at a stack
   data Here (a : List Entry) (k : Tok) (p : ℕ) : Type 0 where
-    shift_here : StandsBefore t.content.rules (stmt_of t.content.classes) (auto.symbols a) (symbol.Tok k) → candidates_at t p k ≡ shift ∷ [] → Here a k p
-    reduce_here : (ns : List ℕ) → (StandsBefore t.content.rules (stmt_of t.content.classes) (auto.symbols a) (symbol.Tok k) → ⊥) →
+    shift_here : StandsBefore t.content.rules (stmt_of t.content.classes) (auto.symbols a) (grammar_symbol.Tok k) → candidates_at t p k ≡ shift ∷ [] → Here a k p
+    reduce_here : (ns : List ℕ) → (StandsBefore t.content.rules (stmt_of t.content.classes) (auto.symbols a) (grammar_symbol.Tok k) → ⊥) →
         AreReductions t.content.rules (stmt_of t.content.classes) (auto.symbols a) k ns → candidates_at t p k ≡ map reduce (rules_of t.content.rules ns) → Here a k p
 
   here_so : (a : List Entry) (k : Tok) (p : ℕ) → walk (automaton_of t) 0 (auto.symbols a) ≡ Some p → Here a k p
@@ -199,11 +199,11 @@ module _ (t : TableView) (v : IsValid t.content) (b : IsNumbered t) (m : MeetsLa
       (may.rule, (may.there, m.no_empty (production may.rule) (in_productions t.content.rules (stmt_of t.content.classes) n may.rule may.there)))) a
 
   reduction_of : (a : List Entry) (ws : List Token) (ns : List ℕ) (o : Option ℕ) (c : List Entry) →
-      (StandsBefore t.content.rules (stmt_of t.content.classes) (auto.symbols a) (symbol.Tok (coming ws)) → ⊥) →
+      (StandsBefore t.content.rules (stmt_of t.content.classes) (auto.symbols a) (grammar_symbol.Tok (coming ws)) → ⊥) →
       AreReductions t.content.rules (stmt_of t.content.classes) (auto.symbols a) (coming ws) ns → Takes t.content.rules (parts a) ns o (parts c) →
       Reduction t.content.rules (stmt_of t.content.classes) ws (parts a) o (parts c)
   reduction_of a ws ns o c refused ar takes = record {
-    no_shift = subst (λ l. StandsBefore t.content.rules (stmt_of t.content.classes) l (symbol.Tok (coming ws)) → ⊥) (sym (symbols-parts a)) refused;
+    no_shift = subst (λ l. StandsBefore t.content.rules (stmt_of t.content.classes) l (grammar_symbol.Tok (coming ws)) → ⊥) (sym (symbols-parts a)) refused;
     candidates = ns;
     in_order = subst (λ l. AreReductions t.content.rules (stmt_of t.content.classes) l (coming ws) ns) (sym (symbols-parts a)) ar;
     takes = takes;
@@ -215,14 +215,14 @@ module _ (t : TableView) (v : IsValid t.content) (b : IsNumbered t) (m : MeetsLa
   -- a shift of another token than the end
   pub shift_moves : (a c : List Entry) (p : ℕ) (l : Leaf) (ws : List Token) → (l.tok ≡ tok.End → ⊥) → walk (automaton_of t) 0 (auto.symbols a) ≡ Some p →
       pick (candidates_at t p l.tok) a ≡ record { taken = Some shift; stack = c } →
-      Moves t.content.rules (stmt_of t.content.classes) (token l ∷ ws) (parts a) ws (parts (record { symbol = symbol.Tok l.tok; answers = l.answers } ∷ c))
+      Moves t.content.rules (stmt_of t.content.classes) (token l ∷ ws) (parts a) ws (parts (record { symbol = grammar_symbol.Tok l.tok; answers = l.answers } ∷ c))
   shift_moves a c p l ws not_end at pk = by (here_so a l.tok p at)
     where
-      by : Here a l.tok p → Moves t.content.rules (stmt_of t.content.classes) (token l ∷ ws) (parts a) ws (parts (record { symbol = symbol.Tok l.tok; answers = l.answers } ∷ c))
+      by : Here a l.tok p → Moves t.content.rules (stmt_of t.content.classes) (token l ∷ ws) (parts a) ws (parts (record { symbol = grammar_symbol.Tok l.tok; answers = l.answers } ∷ c))
       by (shift_here sb e) =
           let only = shift_only a c (Some shift) (ap (λ cs. pick cs a) (sym e) ∙ pk) in
-          subst (λ z. Moves t.content.rules (stmt_of t.content.classes) (token l ∷ ws) (parts a) ws (record { symbol = symbol.Tok l.tok; answers = l.answers } ∷ parts z)) (sym only.1)
-          (by_shift not_end (subst (λ z. StandsBefore t.content.rules (stmt_of t.content.classes) z (symbol.Tok l.tok)) (sym (symbols-parts a)) sb))
+          subst (λ z. Moves t.content.rules (stmt_of t.content.classes) (token l ∷ ws) (parts a) ws (record { symbol = grammar_symbol.Tok l.tok; answers = l.answers } ∷ parts z)) (sym only.1)
+          (by_shift not_end (subst (λ z. StandsBefore t.content.rules (stmt_of t.content.classes) z (grammar_symbol.Tok l.tok)) (sym (symbols-parts a)) sb))
       by (reduce_here ns refused ar e) = absurd (none (reductions_at a l.tok ns ar))
         where
           unlike : (r : Production) → Some (reduce r) ≡ Some shift → ⊥
@@ -273,7 +273,7 @@ module _ (t : TableView) (v : IsValid t.content) (b : IsNumbered t) (m : MeetsLa
                   let stack : g.after ≡ c = ap (λ (q : Picked). q.stack) (sym h.1.1 ∙ taken) in
                   let some : 0 < length h.0.right = m.no_empty (production h.0) (in_productions t.content.rules (stmt_of t.content.classes) n h.0 h.1.0) in
                   let red : Reduction t.content.rules (stmt_of t.content.classes) ws (parts a) (Some n) (parts g.after) =
-                  reduction_of a ws ns (Some n) g.after (subst (λ z. StandsBefore t.content.rules (stmt_of t.content.classes) (auto.symbols a) (symbol.Tok z) → ⊥) (sym next) refused)
+                  reduction_of a ws ns (Some n) g.after (subst (λ z. StandsBefore t.content.rules (stmt_of t.content.classes) (auto.symbols a) (grammar_symbol.Tok z) → ⊥) (sym next) refused)
                   (subst (λ z. AreReductions t.content.rules (stmt_of t.content.classes) (auto.symbols a) z ns) (sym next) ar)
                   (subst (λ o. Takes t.content.rules (parts a) ns o (parts g.after)) u g.takes) in
                   subst (λ z. Moves t.content.rules (stmt_of t.content.classes) ws (parts a) ws z)
@@ -304,7 +304,7 @@ module _ (t : TableView) (v : IsValid t.content) (b : IsNumbered t) (m : MeetsLa
               by_taken None u =
                   let stack : g.after ≡ c = ap (λ (q : Picked). q.stack) (sym (g.nothing u) ∙ taken) in
                   subst (λ z. Reduction t.content.rules (stmt_of t.content.classes) ws (parts a) None (parts z)) stack
-                  (reduction_of a ws ns None g.after (subst (λ z. StandsBefore t.content.rules (stmt_of t.content.classes) (auto.symbols a) (symbol.Tok z) → ⊥) (sym next) refused)
+                  (reduction_of a ws ns None g.after (subst (λ z. StandsBefore t.content.rules (stmt_of t.content.classes) (auto.symbols a) (grammar_symbol.Tok z) → ⊥) (sym next) refused)
                   (subst (λ z. AreReductions t.content.rules (stmt_of t.content.classes) (auto.symbols a) z ns) (sym next) ar)
                   (subst (λ o. Takes t.content.rules (parts a) ns o (parts g.after)) u g.takes))
               by_taken (Some n) u = let h = g.rule n u in absurd (nor (production h.0) (ap (λ (q : Picked). q.taken) (sym h.1.1 ∙ taken)))

@@ -1,7 +1,7 @@
 -- What is proved of the trees of what was found.
 use Rattle.std.specs.Prelude.{◌≡◌, ℕ, List, [], ◌∷◌, ◌++◌, Some, Bool}
 use Rattle.md_reader.specs.declared.types.Sym.{Sym}
-use Rattle.md_reader.specs.declared.types.Sym.TheVariants as symbol
+use Rattle.md_reader.specs.declared.types.Sym.TheVariants as grammar_symbol
 use Rattle.md_reader.specs.Valid.{IsValid}
 use Rattle.lr_tables.specs.View.{TableView}
 use Rattle.lr_tables.specs.Promises.{IsNumbered}
@@ -81,7 +81,7 @@ SamplesLoop =
 pub record HaveSamples (A : Automaton) (f : FoundView) : Type 0 where
   pub trees : (i : ℕ) (e : Settling) → IsSettlingAt f i e → HasTree A f i
   pub contexts : (n : ℕ) (x : Place) → IsPlaceAt f n x → HasContext A f n
-  pub gap : (n : ℕ) (x : Place) → IsPlaceAt f n x → ((p : ℕ) → A.go x.state (symbol.Tok x.token) ≡ Some p → ⊥) →
+  pub gap : (n : ℕ) (x : Place) → IsPlaceAt f n x → ((p : ℕ) → A.go x.state (grammar_symbol.Tok x.token) ≡ Some p → ⊥) →
       (w : List Leaf) × BlockingSample A f w
   pub dead : (i p : ℕ) (x : Place) (s : List Sym) → SettlesAt f i x s p → CanBlock (A.candidates p x.behind) →
       (w : List Leaf) × BlockingSample A f w

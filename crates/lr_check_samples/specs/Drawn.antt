@@ -2,7 +2,7 @@
 use Rattle.std.specs.Prelude.{◌≡◌, ℕ, ◌+◌, List, [], ◌++◌, Some, Bool, length}
 use Rattle.tree_core.specs.Grammar.{kids}
 use Rattle.md_reader.specs.declared.types.Sym.{Sym}
-use Rattle.md_reader.specs.declared.types.Sym.TheVariants as symbol
+use Rattle.md_reader.specs.declared.types.Sym.TheVariants as grammar_symbol
 use Rattle.md_reader.specs.State.{Content}
 use Rattle.lr_check_sets.specs.Automaton.{Automaton, CanBlock}
 use Rattle.lr_check_sets.specs.Answers.{Leaf}
@@ -17,7 +17,7 @@ use Rattle.lr_check_samples.specs.Stops.{Blocking, Looping}
 
 pub data DrawnBlocking (A : Automaton) (f : FoundView) (nodes : List Node) : Type 0 where
   drawn_gap : {n top root : ℕ} {x : Place} {ks : List ℕ} {vs : List Leaf} →
-      IsPlaceAt f n x → ((p : ℕ) → A.go x.state (symbol.Tok x.token) ≡ Some p → ⊥) →
+      IsPlaceAt f n x → ((p : ℕ) → A.go x.state (grammar_symbol.Tok x.token) ≡ Some p → ⊥) →
       Stands nodes ks vs → AreTyped (kids x.token) (tokens vs) →
       IsNode nodes top x.token ks [] → DrawnRound A f nodes n top root → root + 1 ≡ length nodes →
       DrawnBlocking A f nodes

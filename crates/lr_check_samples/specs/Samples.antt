@@ -3,7 +3,7 @@ use Rattle.std.specs.Prelude.{◌≡◌, ℕ, List, [], ◌∷◌, ◌++◌, Som
 use Rattle.tree_core.specs.declared.token.Tok.{Tok}
 use Rattle.tree_core.specs.Grammar.{kids}
 use Rattle.md_reader.specs.declared.types.Sym.{Sym}
-use Rattle.md_reader.specs.declared.types.Sym.TheVariants as symbol
+use Rattle.md_reader.specs.declared.types.Sym.TheVariants as grammar_symbol
 use Rattle.lr_check_sets.specs.Automaton.{Automaton, Production, reduce, walk, size_of, Free, CanBlock}
 use Rattle.lr_check_sets.specs.Answers.{Leaf}
 use Rattle.lr_check_parse.specs.Typed.{AreTyped}
@@ -15,7 +15,7 @@ use Rattle.lr_check_samples.specs.Fixed.{tokens, leaf, Fixed, Context}
 pub data BlockingSample (A : Automaton) (f : FoundView) : List Leaf → Type 0 where
   -- the token of a place is not shifted: its kids are any trees
   of_gap : {n : ℕ} {x : Place} {before behind : List Leaf} (vs : List Leaf) →
-      IsPlaceAt f n x → ((p : ℕ) → A.go x.state (symbol.Tok x.token) ≡ Some p → ⊥) → Context A f n before behind →
+      IsPlaceAt f n x → ((p : ℕ) → A.go x.state (grammar_symbol.Tok x.token) ≡ Some p → ⊥) → Context A f n before behind →
       AreTyped (kids x.token) (tokens vs) →
       BlockingSample A f (before ++ (leaf x.token [] ∷ (vs ++ behind)))
   -- behind a settling some answers take nothing
@@ -28,11 +28,11 @@ pub data BlockingSample (A : Automaton) (f : FoundView) : List Leaf → Type 0 w
 pub data Turning (A : Automaton) (q : ℕ) (t : Tok) : List Sym → List Sym → List Bool → List ℕ → Type 0 where
   turn : {s : List Sym} {p : ℕ} (r : Production) →
       walk A q s ≡ Some p → Free (A.candidates p t) (reduce r) → size_of r ≡ length s →
-      Turning A q t s (symbol.Class r.left ∷ []) (answers_to (A.candidates p t) (length s) r.left)
+      Turning A q t s (grammar_symbol.Class r.left ∷ []) (answers_to (A.candidates p t) (length s) r.left)
       (depths_to (A.candidates p t) (length s) r.left)
   turn_on : {s s' : List Sym} {p : ℕ} {own : List Bool} {ds : List ℕ} (r : Production) →
       Turning A q t s s' own ds → walk A q s' ≡ Some p → Free (A.candidates p t) (reduce r) → size_of r ≡ length s' →
-      Turning A q t s (symbol.Class r.left ∷ []) (own ++ answers_to (A.candidates p t) (length s') r.left)
+      Turning A q t s (grammar_symbol.Class r.left ∷ []) (own ++ answers_to (A.candidates p t) (length s') r.left)
       (ds ++ depths_to (A.candidates p t) (length s') r.left)
 
 -- such reductions lead from a settling's list back to it

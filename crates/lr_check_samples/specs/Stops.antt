@@ -2,7 +2,7 @@
 use Rattle.std.specs.Prelude.{◌≡◌, ℕ, List, [], ◌∷◌, Some, None, map, slice_get}
 use Rattle.tree_core.specs.declared.token.Tok.TheVariants as tok
 use Rattle.md_reader.specs.declared.types.Rule.{Rule}
-use Rattle.md_reader.specs.declared.types.Sym.TheVariants as sym
+use Rattle.md_reader.specs.declared.types.Sym.TheVariants as grammar_symbol
 use Rattle.md_reader.specs.State.{Content}
 use Rattle.lr_tables.specs.Statements.{stmt_of}
 use Rattle.lr_tables.specs.Candidates.{StandsBefore}
@@ -14,8 +14,8 @@ use Rattle.lr_check_parse.specs.Typed.{IsStatement}
 -- a token is shifted where an item stands before it, or a rule is taken
 pub data Moves (rules : List Rule) (stmt : ℕ) : List Token → List Part → List Token → List Part → Type 0 where
   by_shift : {w : Token} {ws : List Token} {s : List Part} →
-      (w.tok ≡ tok.End → ⊥) → StandsBefore rules stmt (symbols s) (sym.Tok w.tok) →
-      Moves rules stmt (w ∷ ws) s ws (record { symbol = sym.Tok w.tok; answers = w.answers } ∷ s)
+      (w.tok ≡ tok.End → ⊥) → StandsBefore rules stmt (symbols s) (grammar_symbol.Tok w.tok) →
+      Moves rules stmt (w ∷ ws) s ws (record { symbol = grammar_symbol.Tok w.tok; answers = w.answers } ∷ s)
   by_rule : {n : ℕ} {ws : List Token} {s s' : List Part} (r : Rule) →
       Reduction rules stmt ws s (Some n) s' → slice_get rules n ≡ Some r →
       Moves rules stmt ws s ws (reduced s' r)

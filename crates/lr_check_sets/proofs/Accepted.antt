@@ -6,7 +6,7 @@ use Rattle.tree_core.specs.declared.token.Tok.TheVariants as tok
 use Rattle.tree_core.specs.declared.token.Sort.{Sort}
 use Rattle.tree_core.specs.declared.token.Sort.TheVariants as sort
 use Rattle.md_reader.specs.declared.types.Sym.{Sym}
-use Rattle.md_reader.specs.declared.types.Sym.TheVariants as symbol
+use Rattle.md_reader.specs.declared.types.Sym.TheVariants as grammar_symbol
 use Rattle.lr_check_sets.specs.Trees.{Tree, Trees, node, no_trees, more_trees, onto, onto_all}
 use Rattle.lr_check_sets.specs.Automaton.{Automaton, Production, Candidate, shift, reduce, walk, size_of, Free, CanBlock, Ends, accepts, goes, stack_after, rest_after}
 use Rattle.lr_check_sets.specs.Answers.{Entry, Leaf, symbols, leaves, leaves_all, the_end, first_answer, owner, asked, Picked, pick_by, pick, held_reduced, shifts, reduces, Accepts, accept, by_step}
@@ -59,14 +59,14 @@ module _ (A : Automaton) where
       → Accepts A a (f ∷ w)
   behind_pick a f w p k at nb e (none h) ih = absurd (nb h)
   behind_pick a f w p k at nb e (takes {b = b} shift fr same) ih =
-      by_step (shifts at e) (ih shift fr (record { symbol = symbol.Tok f.tok; answers = f.answers } ∷ b) w (ap (λ l. symbol.Tok f.tok ∷ l) same) refl)
+      by_step (shifts at e) (ih shift fr (record { symbol = grammar_symbol.Tok f.tok; answers = f.answers } ∷ b) w (ap (λ l. grammar_symbol.Tok f.tok ∷ l) same) refl)
   behind_pick a f w p k at nb e (takes {b = b} (reduce r) fr same) ih =
-      by_step (reduces at e) (ih (reduce r) fr (held_reduced r b) (f ∷ w) (ap (λ l. symbol.Class r.left ∷ l) (sym (drop-map (λ h. h.symbol) (size_of r) b) ∙ ap (drop (size_of r)) same)) refl)
+      by_step (reduces at e) (ih (reduce r) fr (held_reduced r b) (f ∷ w) (ap (λ l. grammar_symbol.Class r.left ∷ l) (sym (drop-map (λ h. h.symbol) (size_of r) b) ∙ ap (drop (size_of r)) same)) refl)
 
   ends_accepts : {a : List Sym} {w : List Tok} → Ends A a w → (b : List Entry) (v : List Leaf) → symbols b ≡ a → tokens v ≡ w → Accepts A b v
   ends_accepts accepts b v e g = at_accept b v e g
     where
-      at_accept : (b : List Entry) (v : List Leaf) → symbols b ≡ symbol.Class A.stmt ∷ [] → tokens v ≡ tok.End ∷ [] → Accepts A b v
+      at_accept : (b : List Entry) (v : List Leaf) → symbols b ≡ grammar_symbol.Class A.stmt ∷ [] → tokens v ≡ tok.End ∷ [] → Accepts A b v
       at_accept b [] e g = absurd (unlike g)
         where
           unlike : [] ≡ tok.End ∷ [] → ⊥

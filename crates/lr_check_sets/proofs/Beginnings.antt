@@ -5,7 +5,7 @@ use Rattle.tree_core.specs.declared.token.Tok.TheVariants as tok
 use Rattle.tree_core.specs.declared.token.Sort.{Sort}
 use Rattle.tree_core.specs.declared.token.Sort.TheVariants as sort
 use Rattle.md_reader.specs.declared.types.Sym.{Sym}
-use Rattle.md_reader.specs.declared.types.Sym.TheVariants as symbol
+use Rattle.md_reader.specs.declared.types.Sym.TheVariants as grammar_symbol
 use Rattle.lr_check_sets.specs.Trees.{Begins, Tree, Trees, node, no_trees, more_trees, onto, onto_all, root, first}
 use Rattle.lr_check_sets.specs.Automaton.{Automaton, Production, Candidate, shift, reduce, walk, size_of, Free, CanBlock, reduced, Inside, Ends, accepts, goes, stack_after, rest_after, IsTable}
 use Rattle.lr_check_sets.proofs.Walks.{walk-append, reduced-append, Split, out, all_in, split}
@@ -32,5 +32,5 @@ step_in q t s a u p ih g shift f = absurd (g shift f)
 step_in q t s a u p ih g (reduce r) f = rw (reduced-append r s a (g (reduce r) f)) (ih r f (g (reduce r) f))
 
 -- behind the shift
-pub shifted : (A : Automaton) (k : Tok) (c : Candidate) (a : List Sym) (w : List Tok) → Free (shift ∷ []) c → Ends A (symbol.Tok k ∷ a) w → Ends A (stack_after c k a) (rest_after c k w)
+pub shifted : (A : Automaton) (k : Tok) (c : Candidate) (a : List Sym) (w : List Tok) → Free (shift ∷ []) c → Ends A (grammar_symbol.Tok k ∷ a) w → Ends A (stack_after c k a) (rest_after c k w)
 shifted A k c a w f h = subst (λ d. Ends A (stack_after d k a) (rest_after d k w)) (sym f) h

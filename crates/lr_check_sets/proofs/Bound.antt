@@ -7,7 +7,7 @@ use lib.Dec.{eqb}
 use Rattle.tree_core.specs.declared.token.Tok.{Tok}
 use Rattle.tree_core.specs.declared.token.Tok.TheVariants as tok
 use Rattle.md_reader.specs.declared.types.Sym.{Sym}
-use Rattle.md_reader.specs.declared.types.Sym.TheVariants as symbol
+use Rattle.md_reader.specs.declared.types.Sym.TheVariants as grammar_symbol
 use Rattle.lr_check_sets.specs.Automaton.{Automaton, Production, Candidate, shift, reduce, walk, size_of, Free, reduced, Ends, accepts, goes, stack_after, rest_after}
 use Rattle.lr_check_sets.specs.Shapes.{wanted_behind, wanted, IsTree}
 use Rattle.lr_check_sets.specs.Bound.{Within, accepted, steps}
@@ -40,16 +40,16 @@ some_same n m e = cc
 -- how many tokens the stack holds
 abbrev pub tokens : List Sym → ℕ
 tokens [] = 0
-tokens (symbol.Tok k ∷ s) = suc (tokens s)
-tokens (symbol.Class c ∷ s) = tokens s
+tokens (grammar_symbol.Tok k ∷ s) = suc (tokens s)
+tokens (grammar_symbol.Class c ∷ s) = tokens s
 
 tokens-append : (s a : List Sym) → tokens (s ++ a) ≡ tokens s + tokens a
 tokens-append [] a = omega arith
-tokens-append (symbol.Tok k ∷ s) a = ap suc (tokens-append s a) ∙ omega arith
-tokens-append (symbol.Class c ∷ s) a = tokens-append s a
+tokens-append (grammar_symbol.Tok k ∷ s) a = ap suc (tokens-append s a) ∙ omega arith
+tokens-append (grammar_symbol.Class c ∷ s) a = tokens-append s a
 
 -- a tree without tokens is one class
-behind_class : (c : ℕ) (w : Option ℕ) (n : ℕ) → wanted_behind (symbol.Class c) w ≡ Some n → w ≡ Some (suc n)
+behind_class : (c : ℕ) (w : Option ℕ) (n : ℕ) → wanted_behind (grammar_symbol.Class c) w ≡ Some n → w ≡ Some (suc n)
 behind_class c None n e = cc
 behind_class c (Some zero) n e = absurd (none e)
   where
@@ -59,15 +59,16 @@ behind_class c (Some (suc j)) n e = let same : 0 + j ≡ n = cc in ap Some (omeg
 
 classes_only : (s : List Sym) (n : ℕ) → tokens s ≡ 0 → wanted 1 s ≡ Some (suc (suc n)) → ⊥
 classes_only [] n z e = let same : 1 ≡ suc (suc n) = some_same 1 (suc (suc n)) e in omega arith
-classes_only (symbol.Tok k ∷ s) n z e = omega arith
-classes_only (symbol.Class c ∷ s) n z e = classes_only s (suc n) z (behind_class c (wanted 1 s) (suc (suc n)) e)
+classes_only (grammar_symbol.Tok k ∷ s) n z e = omega arith
+classes_only (grammar_symbol.Class c ∷ s) n z e = classes_only s (suc n) z (behind_class c (wanted 1 s) (suc (suc n)) e)
 
-one_class : (s : List Sym) → IsTree s → tokens s ≡ 0 → (c : ℕ) × (s ≡ symbol.Class c ∷ [])
+one_class : (s : List Sym) → IsTree s → tokens s ≡ 0 → (c : ℕ) × (s ≡ grammar_symbol.Class c ∷ [])
 one_class [] h e = absurd (omega (arith, some_same 1 0 h))
-one_class (symbol.Tok k ∷ s) h e = absurd (omega arith)
-one_class (symbol.Class c ∷ []) h e = (c, refl)
-one_class (symbol.Class c ∷ symbol.Tok k ∷ s) h e = absurd (omega arith)
-one_class (symbol.Class c ∷ symbol.Class d ∷ s) h e = absurd (classes_only s 0 e (behind_class d (wanted 1 s) 1 (behind_class c (wanted_behind (symbol.Class d) (wanted 1 s)) 0 h)))
+one_class (grammar_symbol.Tok k ∷ s) h e = absurd (omega arith)
+one_class (grammar_symbol.Class c ∷ []) h e = (c, refl)
+one_class (grammar_symbol.Class c ∷ grammar_symbol.Tok k ∷ s) h e = absurd (omega arith)
+one_class (grammar_symbol.Class c ∷ grammar_symbol.Class d ∷ s) h e = absurd
+    (classes_only s 0 e (behind_class d (wanted 1 s) 1 (behind_class c (wanted_behind (grammar_symbol.Class d) (wanted 1 s)) 0 h)))
 
 abbrev pub Has : List ℕ → ℕ → Type 0
 Has vis q = list_any (eqb q) vis ≡ true
@@ -75,9 +76,10 @@ Has vis q = list_any (eqb q) vis ≡ true
 -- what is at the top, and the reductions that are left for it
 pub data Top (A : Automaton) (k : ℕ) (t : Tok) : List Sym → ℕ → Type 0 where
   bare : Top A k t [] 0
-  token : {x : Tok} {a : List Sym} → Top A k t (symbol.Tok x ∷ a) 0
-  seen : {c : ℕ} {a : List Sym} {left : ℕ} (vis : List ℕ) → IsDistinct eqb vis → ((q : ℕ) → Has vis q → q < k) → ((q : ℕ) → Has vis q → Path A t (symbol.Class q ∷ a) (symbol.Class c ∷ a)) →
-      length vis + left ≡ k → Top A k t (symbol.Class c ∷ a) left
+  token : {x : Tok} {a : List Sym} → Top A k t (grammar_symbol.Tok x ∷ a) 0
+  seen : {c : ℕ} {a : List Sym} {left : ℕ} (vis : List ℕ) → IsDistinct eqb vis → ((q : ℕ) → Has vis q → q < k)
+      → ((q : ℕ) → Has vis q → Path A t (grammar_symbol.Class q ∷ a) (grammar_symbol.Class c ∷ a)) →
+      length vis + left ≡ k → Top A k t (grammar_symbol.Class c ∷ a) left
 
 one_distinct : (c : ℕ) → IsDistinct eqb (c ∷ [])
 unfolding IsDistinct
@@ -96,7 +98,7 @@ more_distinct : (d : ℕ) (vis : List ℕ) → list_any (eqb d) vis ≡ false �
 unfolding IsDistinct
 more_distinct d vis h dist = (none_equal d vis h, dist)
 
-module _ (A : Automaton) (k : ℕ) (final : (p : ℕ) → walk A 0 (symbol.Class A.stmt ∷ []) ≡ Some p → A.candidates p tok.End ≡ shift ∷ [])
+module _ (A : Automaton) (k : ℕ) (final : (p : ℕ) → walk A 0 (grammar_symbol.Class A.stmt ∷ []) ≡ Some p → A.candidates p tok.End ≡ shift ∷ [])
     (tops : (a : List Sym) (p : ℕ) (t : Tok) (r : Production) → walk A 0 a ≡ Some p → Free (A.candidates p t) (reduce r) →
     (b below : List Sym) × ((a ≡ b ++ below) × (length b ≡ size_of r) × IsTree b × (r.left < k))) where
   -- no stack comes again
@@ -136,24 +138,24 @@ module _ (A : Automaton) (k : ℕ) (final : (p : ℕ) → walk A 0 (symbol.Class
       go false e h = inr h
 
   -- a reduction that takes a token away
-  takes_token : (t : Tok) (w : List Tok) (a below : List Sym) (c left m j tok : ℕ) → Later (symbol.Class c ∷ below) (t ∷ w) → c < k → tok ≡ suc j + tokens below →
-      (k + 1) * length (t ∷ w) + (k * tok + left) ≤ suc m → Within A m (symbol.Class c ∷ below) (t ∷ w)
+  takes_token : (t : Tok) (w : List Tok) (a below : List Sym) (c left m j tok : ℕ) → Later (grammar_symbol.Class c ∷ below) (t ∷ w) → c < k → tok ≡ suc j + tokens below →
+      (k + 1) * length (t ∷ w) + (k * tok + left) ≤ suc m → Within A m (grammar_symbol.Class c ∷ below) (t ∷ w)
   takes_token t w a below c left m j tok later lt e le =
       later t w refl (k - 1)
       (seen (c ∷ []) (one_distinct c) (λ q h. subst (λ z. z < k) (sym (one_has q c h)) lt)
-      (λ q h. subst (λ z. Path A t (symbol.Class z ∷ below) (symbol.Class c ∷ below)) (sym (one_has q c h)) done) (omega arith))
+      (λ q h. subst (λ z. Path A t (grammar_symbol.Class z ∷ below) (grammar_symbol.Class c ∷ below)) (sym (one_has q c h)) done) (omega arith))
       m (smaller tok e le)
     where
-      smaller : (tok : ℕ) → tok ≡ suc j + tokens below → (k + 1) * length (t ∷ w) + (k * tok + left) ≤ suc m → cost (symbol.Class c ∷ below) (t ∷ w) (k - 1) ≤ m
+      smaller : (tok : ℕ) → tok ≡ suc j + tokens below → (k + 1) * length (t ∷ w) + (k * tok + left) ≤ suc m → cost (grammar_symbol.Class c ∷ below) (t ∷ w) (k - 1) ≤ m
       smaller tok e le = let more : k * tok ≡ k * (suc j + tokens below) = ap (λ z. k * z) e in omega arith
 
   -- a reduction of one class to another
-  takes_class : (t : Tok) (w : List Tok) (below : List Sym) (c d p left m : ℕ) (r : Production) → Later (symbol.Class d ∷ below) (t ∷ w) → (Circle A t (symbol.Class d ∷ below) → ⊥) →
-      r.left ≡ d → d < k → walk A 0 (symbol.Class c ∷ below) ≡ Some p → Free (A.candidates p t) (reduce r) → reduced r (symbol.Class c ∷ below) ≡ symbol.Class d ∷ below →
-      Top A k t (symbol.Class c ∷ below) left → cost (symbol.Class c ∷ below) (t ∷ w) left ≤ suc m → Within A m (symbol.Class d ∷ below) (t ∷ w)
+  takes_class : (t : Tok) (w : List Tok) (below : List Sym) (c d p left m : ℕ) (r : Production) → Later (grammar_symbol.Class d ∷ below) (t ∷ w) → (Circle A t (grammar_symbol.Class d ∷ below) → ⊥) →
+      r.left ≡ d → d < k → walk A 0 (grammar_symbol.Class c ∷ below) ≡ Some p → Free (A.candidates p t) (reduce r) → reduced r (grammar_symbol.Class c ∷ below) ≡ grammar_symbol.Class d ∷ below →
+      Top A k t (grammar_symbol.Class c ∷ below) left → cost (grammar_symbol.Class c ∷ below) (t ∷ w) left ≤ suc m → Within A m (grammar_symbol.Class d ∷ below) (t ∷ w)
   takes_class t w below c d p left m r later fine e lt at f g (seen vis dist small paths loose_sum) le = go (list_any (eqb d) vis) refl
     where
-      go : (b : Bool) → list_any (eqb d) vis ≡ b → Within A m (symbol.Class d ∷ below) (t ∷ w)
+      go : (b : Bool) → list_any (eqb d) vis ≡ b → Within A m (grammar_symbol.Class d ∷ below) (t ∷ w)
       go true h = absurd (fine (rotate (paths d h) p r at f (sym g)))
       go false h =
           let few : length (d ∷ vis) ≤ k = length-le_from_distinct_below (d ∷ vis) k (more_distinct d vis h dist)
@@ -161,8 +163,8 @@ module _ (A : Automaton) (k : ℕ) (final : (p : ℕ) → walk A 0 (symbol.Class
           later t w refl (left - 1)
           (seen (d ∷ vis) (more_distinct d vis h dist) (λ q u. ⊎_elim (λ z. subst (λ y. y < k) (sym z) lt) (λ z. small q z) (more_has q d vis u))
           (λ q u. ⊎_elim
-          (λ z. subst (λ y. Path A t (symbol.Class y ∷ below) (symbol.Class d ∷ below)) (sym z) done)
-          (λ z. path-append (paths q z) (subst (λ y. Path A t (symbol.Class c ∷ below) y) g (next r at f done)))
+          (λ z. subst (λ y. Path A t (grammar_symbol.Class y ∷ below) (grammar_symbol.Class d ∷ below)) (sym z) done)
+          (λ z. path-append (paths q z) (subst (λ y. Path A t (grammar_symbol.Class c ∷ below) y) g (next r at f done)))
           (more_has q d vis u))
           (omega arith))
           m (omega arith)
@@ -174,19 +176,19 @@ module _ (A : Automaton) (k : ℕ) (final : (p : ℕ) → walk A 0 (symbol.Class
       later s.0 s.1.0 s.1.1 0 token m (omega arith)
   step t a w p left m at top le (reduce r) f ends later =
       let o : (b below : List Sym) × ((a ≡ b ++ below) × (length b ≡ size_of r) × IsTree b × (r.left < k)) = tops a p t r at f in
-      let eq : reduced r a ≡ symbol.Class r.left ∷ o.1 = ap (λ l. symbol.Class r.left ∷ l) (ap (drop (size_of r)) o.2.0 ∙ drop_at o.0 o.1 (size_of r) o.2.1) in
+      let eq : reduced r a ≡ grammar_symbol.Class r.left ∷ o.1 = ap (λ l. grammar_symbol.Class r.left ∷ l) (ap (drop (size_of r)) o.2.0 ∙ drop_at o.0 o.1 (size_of r) o.2.1) in
       subst (λ z. Within A m z (t ∷ w)) (sym eq)
       (by_tokens o.0 o.1 o.2.0 o.2.2 o.2.3 eq (subst (λ z. Later z (t ∷ w)) eq later) (no_circle (subst (λ z. Ends A z (t ∷ w)) eq ends) t w refl) (tokens o.0) refl)
     where
-      by_tokens : (b below : List Sym) → a ≡ b ++ below → IsTree b → r.left < k → reduced r a ≡ symbol.Class r.left ∷ below → Later (symbol.Class r.left ∷ below) (t ∷ w) →
-          (Circle A t (symbol.Class r.left ∷ below) → ⊥) → (j : ℕ) → tokens b ≡ j → Within A m (symbol.Class r.left ∷ below) (t ∷ w)
+      by_tokens : (b below : List Sym) → a ≡ b ++ below → IsTree b → r.left < k → reduced r a ≡ grammar_symbol.Class r.left ∷ below → Later (grammar_symbol.Class r.left ∷ below) (t ∷ w) →
+          (Circle A t (grammar_symbol.Class r.left ∷ below) → ⊥) → (j : ℕ) → tokens b ≡ j → Within A m (grammar_symbol.Class r.left ∷ below) (t ∷ w)
       by_tokens b below e tree lt eq later fine (suc j) z =
           takes_token t w a below r.left left m j (tokens a) later lt (ap tokens e ∙ (tokens-append b below ∙ ap (λ x. x + tokens below) z)) le
       by_tokens b below e tree lt eq later fine zero z =
-          let c : (c : ℕ) × (b ≡ symbol.Class c ∷ []) = one_class b tree z in
-          let ea : a ≡ symbol.Class c.0 ∷ below = e ∙ ap (λ l. l ++ below) c.1 in
+          let c : (c : ℕ) × (b ≡ grammar_symbol.Class c ∷ []) = one_class b tree z in
+          let ea : a ≡ grammar_symbol.Class c.0 ∷ below = e ∙ ap (λ l. l ++ below) c.1 in
           takes_class t w below c.0 r.left p left m r later fine refl lt (subst (λ l. walk A 0 l ≡ Some p) ea at) f
-          (subst (λ l. reduced r l ≡ symbol.Class r.left ∷ below) ea eq) (subst (λ l. Top A k t l left) ea top) (subst (λ l. cost l (t ∷ w) left ≤ suc m) ea le)
+          (subst (λ l. reduced r l ≡ grammar_symbol.Class r.left ∷ below) ea eq) (subst (λ l. Top A k t l left) ea top) (subst (λ l. cost l (t ∷ w) left ≤ suc m) ea le)
 
   pub bounded : {a : List Sym} {v : List Tok} → Ends A a v → Later a v
   bounded accepts t u e left top n le = accepted

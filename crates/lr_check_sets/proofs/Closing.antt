@@ -5,7 +5,7 @@ use Rattle.tree_core.specs.declared.token.Tok.TheVariants as tok
 use Rattle.tree_core.specs.declared.token.Sort.{Sort}
 use Rattle.tree_core.specs.Grammar.{kids}
 use Rattle.md_reader.specs.declared.types.Sym.{Sym}
-use Rattle.md_reader.specs.declared.types.Sym.TheVariants as symbol
+use Rattle.md_reader.specs.declared.types.Sym.TheVariants as grammar_symbol
 use Rattle.lr_check_sets.specs.Trees.{May, Begins}
 use Rattle.lr_check_sets.specs.Automaton.{Automaton, Production, reduce, walk, size_of, Free, reduced}
 use Rattle.lr_check_sets.specs.Sums.{Place, Partly, Settling, Sum, at_start, at_kid, opened, with_kid, whole, settled, sum}
@@ -67,17 +67,17 @@ Some-same x y e = cc
 module _ (A : Automaton) (P : ℕ → Tok → Tok → Type 0) (T S : ℕ → Tok → Tok → List Sym → Type 0) (closed : IsClosed A P T S) where
   -- how far a subtree of a place is read: its token alone, the only kid, the first of two, or both
   data Stage (q : ℕ) (k t : Tok) (s : List Sym) (xs : List Sort) (n : Tok) : Type 0 where
-    at_token : (p : ℕ) → P q k t → A.go q (symbol.Tok k) ≡ Some p → Begins (kids k) t n → kids k ≡ xs → s ≡ symbol.Tok k ∷ [] → Stage q k t s xs n
+    at_token : (p : ℕ) → P q k t → A.go q (grammar_symbol.Tok k) ≡ Some p → Begins (kids k) t n → kids k ≡ xs → s ≡ grammar_symbol.Tok k ∷ [] → Stage q k t s xs n
     behind_only : (p : ℕ) (m : Tok) (x : Sort) (z : List Sym) →
-        P q k t → kids k ≡ x ∷ [] → A.go q (symbol.Tok k) ≡ Some p → May m x → S p m t z → s ≡ z ++ (symbol.Tok k ∷ []) → xs ≡ [] → Stage q k t s xs n
+        P q k t → kids k ≡ x ∷ [] → A.go q (grammar_symbol.Tok k) ≡ Some p → May m x → S p m t z → s ≡ z ++ (grammar_symbol.Tok k ∷ []) → xs ≡ [] → Stage q k t s xs n
     behind_first : (p : ℕ) (m : Tok) (x y : Sort) (z : List Sym) →
-        P q k t → kids k ≡ x ∷ y ∷ [] → A.go q (symbol.Tok k) ≡ Some p → May m x → S p m n z → May n y → s ≡ z ++ (symbol.Tok k ∷ []) → xs ≡ y ∷ [] → Stage q k t s xs n
+        P q k t → kids k ≡ x ∷ y ∷ [] → A.go q (grammar_symbol.Tok k) ≡ Some p → May m x → S p m n z → May n y → s ≡ z ++ (grammar_symbol.Tok k ∷ []) → xs ≡ y ∷ [] → Stage q k t s xs n
     behind_both : (p j : ℕ) (m l : Tok) (x y : Sort) (z w : List Sym) →
-        P q k t → kids k ≡ x ∷ y ∷ [] → A.go q (symbol.Tok k) ≡ Some p → May m x → May l y → S p m l z → walk A q (z ++ (symbol.Tok k ∷ [])) ≡ Some j → S j l t w →
-        s ≡ w ++ (z ++ (symbol.Tok k ∷ [])) → xs ≡ [] → Stage q k t s xs n
+        P q k t → kids k ≡ x ∷ y ∷ [] → A.go q (grammar_symbol.Tok k) ≡ Some p → May m x → May l y → S p m l z → walk A q (z ++ (grammar_symbol.Tok k ∷ [])) ≡ Some j → S j l t w →
+        s ≡ w ++ (z ++ (grammar_symbol.Tok k ∷ [])) → xs ≡ [] → Stage q k t s xs n
 
   -- the state behind the token
-  same_state : (q p j : ℕ) (k : Tok) (s : List Sym) → A.go q (symbol.Tok k) ≡ Some j → s ≡ symbol.Tok k ∷ [] → walk A q s ≡ Some p → A.go q (symbol.Tok k) ≡ Some p
+  same_state : (q p j : ℕ) (k : Tok) (s : List Sym) → A.go q (grammar_symbol.Tok k) ≡ Some j → s ≡ grammar_symbol.Tok k ∷ [] → walk A q s ≡ Some p → A.go q (grammar_symbol.Tok k) ≡ Some p
   same_state q p j k s go e ws = subst (λ l. walk A q l ≡ Some p) e ws
 
   kid_place : (q p : ℕ) (k t n m : Tok) (s : List Sym) (x : Sort) (xs : List Sort) → Stage q k t s (x ∷ xs) n → walk A q s ≡ Some p → Begins xs t m → P p n m

@@ -3,7 +3,7 @@ use Rattle.std.proofs.Common.{◌≡◌, ℕ, ◌+◌, ◌*◌, ◌<◌, List, [
 use Rattle.tree_core.specs.declared.token.Tok.{Tok}
 use Rattle.tree_core.specs.declared.token.Tok.TheVariants as tok
 use Rattle.md_reader.specs.declared.types.Sym.{Sym}
-use Rattle.md_reader.specs.declared.types.Sym.TheVariants as symbol
+use Rattle.md_reader.specs.declared.types.Sym.TheVariants as grammar_symbol
 use Rattle.lr_check_sets.specs.Trees.{onto}
 use Rattle.lr_check_sets.specs.Automaton.{Automaton, Production, shift, reduce, walk, size_of, Free, Ends, IsTable}
 use Rattle.lr_check_sets.specs.Items.{Item, starts, moves, start_of, IsAutomatonOf, HasNoEnd, HasNoEmpty}
@@ -19,11 +19,11 @@ module _ (G : List Production) (A : Automaton) (k : ℕ) (no_end : HasNoEnd G) (
   the_table : IsTable A
   the_table = table_of_items G A no_end no_empty exact
 
-  pub final : (p : ℕ) → walk A 0 (symbol.Class A.stmt ∷ []) ≡ Some p → A.candidates p tok.End ≡ shift ∷ []
+  pub final : (p : ℕ) → walk A 0 (grammar_symbol.Class A.stmt ∷ []) ≡ Some p → A.candidates p tok.End ≡ shift ∷ []
   final p at =
-      let item : Item G A.stmt (symbol.Class A.stmt ∷ []) (start_of A.stmt) (symbol.Tok tok.End ∷ []) = moves (starts refl refl) in
-      let there : (p' : ℕ) × (A.go p (symbol.Tok tok.End) ≡ Some p') = exact.goes_where (symbol.Class A.stmt ∷ []) p (symbol.Tok tok.End) (start_of A.stmt) [] at item in
-      the_table.shift_alone (symbol.Class A.stmt ∷ []) p tok.End there.0 at there.1
+      let item : Item G A.stmt (grammar_symbol.Class A.stmt ∷ []) (start_of A.stmt) (grammar_symbol.Tok tok.End ∷ []) = moves (starts refl refl) in
+      let there : (p' : ℕ) × (A.go p (grammar_symbol.Tok tok.End) ≡ Some p') = exact.goes_where (grammar_symbol.Class A.stmt ∷ []) p (grammar_symbol.Tok tok.End) (start_of A.stmt) [] at item in
+      the_table.shift_alone (grammar_symbol.Class A.stmt ∷ []) p tok.End there.0 at there.1
 
   pub tops : (a : List Sym) (p : ℕ) (t : Tok) (r : Production) → walk A 0 a ≡ Some p → Free (A.candidates p t) (reduce r) →
       (b below : List Sym) × ((a ≡ b ++ below) × (length b ≡ size_of r) × IsTree b × (r.left < k))

@@ -7,7 +7,7 @@ use Rattle.std.proofs.lemmas.Option.{slice_get-get_or}
 use Rattle.tree_core.specs.declared.token.Tok.{Tok}
 use Rattle.tree_core.specs.declared.token.Sort.{Sort}
 use Rattle.md_reader.specs.declared.types.Sym.{Sym}
-use Rattle.md_reader.specs.declared.types.Sym.TheVariants as symbol
+use Rattle.md_reader.specs.declared.types.Sym.TheVariants as grammar_symbol
 use Rattle.tree_core.specs.Grammar.{kids}
 use Rattle.lr_check_sets.specs.Trees.{May, Begins, Tree, Trees, node, no_trees, more_trees, first}
 use Rattle.lr_check_sets.specs.Automaton.{Automaton, Production, Candidate, reduce, walk, size_of, Free, reduced, IsTable}
@@ -113,13 +113,13 @@ module _ (G : List Production) (A : Automaton) (no_end : HasNoEnd G) (no_empty :
   table : IsTable A
   table = table_of_items G A no_end no_empty exact
 
-  fixed_opened : (q : ℕ) (k t : Tok) (p : ℕ) (n : Tok) → A.go q (symbol.Tok k) ≡ Some p → FixedPart A q k t (symbol.Tok k ∷ []) (kids k) n
+  fixed_opened : (q : ℕ) (k t : Tok) (p : ℕ) (n : Tok) → A.go q (grammar_symbol.Tok k) ≡ Some p → FixedPart A q k t (grammar_symbol.Tok k ∷ []) (kids k) n
   fixed_opened q k t p n go = record {
     all_kids = λ vs. vs;
     answers = [];
     depths = [];
     deep = λ a at. tt;
-    runs = λ b a z vs w at e f g. shift_runs (record { symbol = symbol.Tok k; answers = b }) z (leaves_all vs w) at (table.shift_alone a q k p at go) refl e;
+    runs = λ b a z vs w at e f g. shift_runs (record { symbol = grammar_symbol.Tok k; answers = b }) z (leaves_all vs w) at (table.shift_alone a q k p at go) refl e;
   }
 
   fixed_kid : (q : ℕ) (k t : Tok) (s : List Sym) (x : Sort) (xs : List Sort) (n : Tok) (p : ℕ) (m : Tok) (s' : List Sym) → May n x → walk A q s ≡ Some p → PartShape s (suc (length xs)) →
@@ -194,9 +194,9 @@ module _ (G : List Production) (A : Automaton) (no_end : HasNoEnd G) (no_empty :
       result : (b : List Bool) (z : List Entry) → held_reduced r (hold s b ++ z) ≡ hold (reduced r s) b ++ z
       result b z =
           let none : drop (size_of r) s ≡ [] = nothing (drop (size_of r) s) (omega (arith, length-drop (size_of r) s)) in
-          ap₂ (λ u v. record { symbol = symbol.Class r.left; answers = u } ∷ v) (owner-hold r.right s b z size (omega (arith, tree_some s tree)))
+          ap₂ (λ u v. record { symbol = grammar_symbol.Class r.left; answers = u } ∷ v) (owner-hold r.right s b z size (omega (arith, tree_some s tree)))
           (drop_at (hold s b) z (size_of r) (length-hold s b ∙ sym size))
-          ∙ sym (ap (λ l. hold (symbol.Class r.left ∷ l) b ++ z) none)
+          ∙ sym (ap (λ l. hold (grammar_symbol.Class r.left ∷ l) b ++ z) none)
 
   asks_here : (q : ℕ) (t : Tok) (s a0 : List Sym) (p : ℕ) (r : Production) → walk A 0 a0 ≡ Some q → IsTree s → walk A q s ≡ Some p → size_of r ≡ length s → Free (A.candidates p t) (reduce r) →
       Asked A q s (A.candidates p t) r

@@ -4,7 +4,7 @@ use Rattle.std.specs.Option.{option_map}
 use Rattle.tree_core.specs.declared.token.Tok.TheVariants as tok
 use Rattle.md_reader.specs.declared.types.Rule.{Rule}
 use Rattle.md_reader.specs.declared.types.Sym.{Sym}
-use Rattle.md_reader.specs.declared.types.Sym.TheVariants as symbol
+use Rattle.md_reader.specs.declared.types.Sym.TheVariants as grammar_symbol
 use Rattle.lr_tables.specs.declared.item.Item.{Item}
 use Rattle.lr_tables.specs.Items as valid
 use Rattle.lr_tables.specs.Items.{Items, next, left_of, right_at, fresh, advanced, start}
@@ -41,18 +41,18 @@ drop_whole (x ∷ w) = drop_whole w
 
 -- the item is the production with its dot before the rest
 pub data Is (rules : List Rule) (stmt : ℕ) : Item → Production → List Sym → Type 0 where
-  is_start : {dot : ℕ} {rest : List Sym} → drop dot (symbol.Class stmt ∷ symbol.Tok tok.End ∷ []) ≡ rest → Is rules stmt (record { rule = None; dot = dot }) (start_of stmt) rest
+  is_start : {dot : ℕ} {rest : List Sym} → drop dot (grammar_symbol.Class stmt ∷ grammar_symbol.Tok tok.End ∷ []) ≡ rest → Is rules stmt (record { rule = None; dot = dot }) (start_of stmt) rest
   is_rule : {n dot : ℕ} {rest : List Sym} (r : Rule) → slice_get rules n ≡ Some r → drop dot r.right ≡ rest →
       Is rules stmt (record { rule = Some n; dot = dot }) (production r) rest
 
 module _ (rules : List Rule) (stmt : ℕ) where
   pub is_next : {i : Item} {r : Production} {X : Sym} {after : List Sym} → Is rules stmt i r (X ∷ after) → next rules stmt i ≡ Some X
-  is_next {X = X} {after = after} (is_start {dot = dot} e) = (drop_head (symbol.Class stmt ∷ symbol.Tok tok.End ∷ []) dot X after e).0
+  is_next {X = X} {after = after} (is_start {dot = dot} e) = (drop_head (grammar_symbol.Class stmt ∷ grammar_symbol.Tok tok.End ∷ []) dot X after e).0
   is_next {X = X} {after = after} (is_rule {dot = dot} q there e) = ap (λ (o : Option Rule). slice_get (right_at o) dot) there ∙ (drop_head q.right dot X after e).0
 
   pub is_moved : {i : Item} {r : Production} {X : Sym} {after : List Sym} → Is rules stmt i r (X ∷ after) → Is rules stmt (advanced i) r after
   is_moved {X = X} {after = after} (is_start {dot = dot} e) =
-      let w = symbol.Class stmt ∷ symbol.Tok tok.End ∷ [] in
+      let w = grammar_symbol.Class stmt ∷ grammar_symbol.Tok tok.End ∷ [] in
       let more : dot + 1 ≡ suc dot = omega arith in
       is_start (ap (λ k. drop k w) more ∙ (drop_head w dot X after e).1)
   is_moved {X = X} {after = after} (is_rule {dot = dot} q there e) =
@@ -61,7 +61,7 @@ module _ (rules : List Rule) (stmt : ℕ) where
 
   pub is_rest : {i : Item} {r : Production} {rest : List Sym} (X : Sym) → Is rules stmt i r rest → next rules stmt i ≡ Some X → (after : List Sym) × (rest ≡ X ∷ after)
   is_rest X (is_start {dot = dot} e) h =
-      let w = symbol.Class stmt ∷ symbol.Tok tok.End ∷ [] in (drop (suc dot) w, sym e ∙ slice_head w dot X h)
+      let w = grammar_symbol.Class stmt ∷ grammar_symbol.Tok tok.End ∷ [] in (drop (suc dot) w, sym e ∙ slice_head w dot X h)
   is_rest X (is_rule {dot = dot} q there e) h =
       let here : slice_get q.right dot ≡ Some X = sym (ap (λ (o : Option Rule). slice_get (right_at o) dot) there) ∙ h in
       (drop (suc dot) q.right, sym e ∙ slice_head q.right dot X here)
@@ -118,7 +118,7 @@ module _ (rules : List Rule) (stmt : ℕ) where
   from valid.starts = record { rule = start_of stmt; rest = (start_of stmt).right; item = model.starts refl refl; is = is_start refl }
   from {a = a} (valid.opens {c = c} {n = n} it nx lf) =
       let f = from it in
-      let w : (after : List Sym) × (f.rest ≡ symbol.Class c ∷ after) = is_rest (symbol.Class c) f.is nx in
+      let w : (after : List Sym) × (f.rest ≡ grammar_symbol.Class c ∷ after) = is_rest (grammar_symbol.Class c) f.is nx in
       let o : (r : Rule) × ((slice_get rules n ≡ Some r) × (r.left ≡ c)) = left_is n c (slice_get rules n) lf in
       record {
         rule = production o.0;

@@ -3,7 +3,7 @@ use Rattle.std.proofs.Common.{◌≡◌, ℕ, suc, ◌<◌, List, [], ◌∷◌,
 use Rattle.tree_core.specs.declared.token.Tok.TheVariants as tok
 use Rattle.md_reader.specs.declared.types.Rule.{Rule}
 use Rattle.md_reader.specs.declared.types.Sym.{Sym}
-use Rattle.md_reader.specs.declared.types.Sym.TheVariants as symbol
+use Rattle.md_reader.specs.declared.types.Sym.TheVariants as grammar_symbol
 use Rattle.md_reader.specs.Valid.{IsRule, IsValid}
 use Rattle.lr_tables.specs.Statements.{stmt_of}
 use Rattle.lr_tables.specs.Grammar.{IsGrammar}
@@ -40,8 +40,8 @@ module _ (t : TableView) (v : IsValid t.content) (b : IsNumbered t) where
   pub no_end : HasNoEnd (productions t.content.rules)
   no_end r m c =
       let o : (n : ℕ) × ((q : Rule) × ((slice_get t.content.rules n ≡ Some q) × (r ≡ production q))) = of_productions t.content.rules (stmt_of t.content.classes) r m in
-      let in_right : Contains o.1.0.right (symbol.Tok tok.End) = subst (λ (p : Production). Contains p.right (symbol.Tok tok.End)) o.1.1.1 c in
-      grammar.no_end o.0 in_right.0 o.1.0 o.1.1.0 (slice_at o.1.0.right (symbol.Tok tok.End) in_right)
+      let in_right : Contains o.1.0.right (grammar_symbol.Tok tok.End) = subst (λ (p : Production). Contains p.right (grammar_symbol.Tok tok.End)) o.1.1.1 c in
+      grammar.no_end o.0 in_right.0 o.1.0 o.1.1.0 (slice_at o.1.0.right (grammar_symbol.Tok tok.End) in_right)
 
   pub no_empty : HasNoEmpty (productions t.content.rules)
   no_empty r m =

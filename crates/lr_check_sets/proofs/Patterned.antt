@@ -6,7 +6,7 @@ use Rattle.tree_core.specs.declared.token.Sort.{Sort}
 use Rattle.md_reader.specs.declared.types.Class.{Class}
 use Rattle.md_reader.specs.declared.types.Rule.{Rule}
 use Rattle.md_reader.specs.declared.types.Sym.{Sym}
-use Rattle.md_reader.specs.declared.types.Sym.TheVariants as symbol
+use Rattle.md_reader.specs.declared.types.Sym.TheVariants as grammar_symbol
 use Rattle.md_reader.specs.Patterns.{kids_of, Trees, no_tree, node, onto, sorted_test}
 use Rattle.md_reader.specs.Valid.{IsRule}
 use Rattle.lr_check_sets.specs.Shapes.{arity, wanted_behind, wanted, IsTree}
@@ -24,8 +24,8 @@ pushes-is [] s = refl
 pushes-is (X ∷ w) s = pushes-is w (X ∷ s) ∙ sym (reverse-cons X w s)
 
 arity-is : (X : Sym) → arity X ≡ length (kids_of X)
-arity-is (symbol.Tok k) = refl
-arity-is (symbol.Class c) = refl
+arity-is (grammar_symbol.Tok k) = refl
+arity-is (grammar_symbol.Class c) = refl
 
 -- a stack behind the symbols of trees, with so many more still wanted
 record Behind (m n : ℕ) (u w s : List Sym) : Type 0 where

@@ -6,7 +6,7 @@ use Rattle.tree_core.specs.declared.token.Tok.TheVariants as tok
 use Rattle.tree_core.specs.declared.token.Sort.{Sort}
 use Rattle.tree_core.specs.declared.token.Sort.TheVariants as sort
 use Rattle.md_reader.specs.declared.types.Sym.{Sym}
-use Rattle.md_reader.specs.declared.types.Sym.TheVariants as symbol
+use Rattle.md_reader.specs.declared.types.Sym.TheVariants as grammar_symbol
 use Rattle.tree_core.specs.Grammar.{kids}
 use Rattle.lr_check_sets.specs.Trees.{May, Begins, Tree, Trees, node, no_trees, more_trees, root, first}
 use Rattle.lr_check_sets.specs.Automaton.{Automaton, Production, shift, reduce, walk, size_of, Free, reduced, IsTable}
@@ -224,18 +224,18 @@ abbrev pub MetTree : Automaton → ℕ → Tok → Tok → List Sym → Type 0
 MetTree A q k t s = (a : List Sym) (y : List Entry) → walk A 0 a ≡ Some q → symbols y ≡ s ++ a → TreeRuns A k t y a
 
 -- one shift, alone
-pub shift_runs : {A : Automaton} {k : Tok} {a : List Sym} {q : ℕ} (h : Entry) (x : List Entry) (w : List Leaf) → walk A 0 a ≡ Some q → A.candidates q k ≡ shift ∷ [] → h.symbol ≡ symbol.Tok k →
+pub shift_runs : {A : Automaton} {k : Tok} {a : List Sym} {q : ℕ} (h : Entry) (x : List Entry) (w : List Leaf) → walk A 0 a ≡ Some q → A.candidates q k ≡ shift ∷ [] → h.symbol ≡ grammar_symbol.Tok k →
     symbols x ≡ a → Runs A x (record { tok = k; answers = h.answers } ∷ w) (h ∷ x) w
 shift_runs {A = A} {k = k} {a = a} {q = q} h x w at alone hd tl =
-    let step : Step A x (record { tok = k; answers = h.answers } ∷ w) (record { symbol = symbol.Tok k; answers = h.answers } ∷ x) w =
+    let step : Step A x (record { tok = k; answers = h.answers } ∷ w) (record { symbol = grammar_symbol.Tok k; answers = h.answers } ∷ x) w =
     shifts (ap (walk A 0) tl ∙ at) (ap (λ cs. pick cs x) alone) in
     then_step here (subst (λ z. Step A x (record { tok = k; answers = h.answers } ∷ w) (record { symbol = z; answers = h.answers } ∷ x) w) (sym hd) step)
 
 module _ (A : Automaton) (table : IsTable A) where
-  opened_runs : (q : ℕ) (k t : Tok) (p : ℕ) (n : Tok) → A.go q (symbol.Tok k) ≡ Some p → MetPart A q k t (symbol.Tok k ∷ []) (kids k) n
+  opened_runs : (q : ℕ) (k t : Tok) (p : ℕ) (n : Tok) → A.go q (grammar_symbol.Tok k) ≡ Some p → MetPart A q k t (grammar_symbol.Tok k ∷ []) (kids k) n
   opened_runs q k t p n go a [] at e = absurd (unlike e)
     where
-      unlike : [] ≡ symbol.Tok k ∷ a → ⊥
+      unlike : [] ≡ grammar_symbol.Tok k ∷ a → ⊥
       unlike e = cc
   opened_runs q k t p n go a (h ∷ x) at e = record {
     all_kids = λ vs. vs;
@@ -245,10 +245,10 @@ module _ (A : Automaton) (table : IsTable A) where
     runs = λ vs w f g. shift_runs h x (leaves_all vs w) at (table.shift_alone a q k p at go) (head e) (tail e);
   }
     where
-      head : h.symbol ∷ symbols x ≡ symbol.Tok k ∷ a → h.symbol ≡ symbol.Tok k
+      head : h.symbol ∷ symbols x ≡ grammar_symbol.Tok k ∷ a → h.symbol ≡ grammar_symbol.Tok k
       head e = cc
 
-      tail : h.symbol ∷ symbols x ≡ symbol.Tok k ∷ a → symbols x ≡ a
+      tail : h.symbol ∷ symbols x ≡ grammar_symbol.Tok k ∷ a → symbols x ≡ a
       tail e = cc
 
   kid_place : (q : ℕ) (k t : Tok) (s : List Sym) (x : Sort) (xs : List Sort) (n : Tok) (p : ℕ) (m : Tok) → May n x → walk A q s ≡ Some p → Begins xs t m → MetPlace A q k t →
@@ -291,7 +291,7 @@ module _ (A : Automaton) (table : IsTable A) where
       symbols y ≡ reduced r s ++ a → Back t y (s ++ a)
   reduce_back t s a p r [] at f le e = absurd (unlike e)
     where
-      unlike : [] ≡ symbol.Class r.left ∷ (drop (size_of r) s ++ a) → ⊥
+      unlike : [] ≡ grammar_symbol.Class r.left ∷ (drop (size_of r) s ++ a) → ⊥
       unlike e = cc
   reduce_back t s a p r (h ∷ y) at f le e =
       let top : List Entry = hold (take (size_of r) s) h.answers in
@@ -312,10 +312,10 @@ module _ (A : Automaton) (table : IsTable A) where
         step = λ w g. by_step src.stack (top ++ y) w g (ap (walk A 0) (src.same ∙ both) ∙ at) src.picks it;
       }
     where
-      head : h.symbol ∷ symbols y ≡ symbol.Class r.left ∷ (drop (size_of r) s ++ a) → h.symbol ≡ symbol.Class r.left
+      head : h.symbol ∷ symbols y ≡ grammar_symbol.Class r.left ∷ (drop (size_of r) s ++ a) → h.symbol ≡ grammar_symbol.Class r.left
       head e = cc
 
-      tail : h.symbol ∷ symbols y ≡ symbol.Class r.left ∷ (drop (size_of r) s ++ a) → symbols y ≡ drop (size_of r) s ++ a
+      tail : h.symbol ∷ symbols y ≡ grammar_symbol.Class r.left ∷ (drop (size_of r) s ++ a) → symbols y ≡ drop (size_of r) s ++ a
       tail e = cc
 
       by_step : (u z : List Entry) (w : List Leaf) → next_token w ≡ Some t → walk A 0 (symbols u) ≡ Some p → pick (A.candidates p t) u ≡ record { taken = Some (reduce r); stack = z } →

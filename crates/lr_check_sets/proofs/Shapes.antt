@@ -6,7 +6,7 @@ use Rattle.std.proofs.lemmas.Bool.{cases_lt}
 use Rattle.tree_core.specs.declared.token.Tok.{Tok}
 use Rattle.tree_core.specs.declared.token.Sort.{Sort}
 use Rattle.md_reader.specs.declared.types.Sym.{Sym}
-use Rattle.md_reader.specs.declared.types.Sym.TheVariants as symbol
+use Rattle.md_reader.specs.declared.types.Sym.TheVariants as grammar_symbol
 use Rattle.tree_core.specs.Grammar.{kids}
 use Rattle.lr_check_sets.specs.Automaton.{Automaton, Production, Candidate, shift, reduce, walk, size_of, Free, CanBlock, reduced, Outside, IsTable}
 use Rattle.lr_check_sets.specs.Items.{Item, IsAutomatonOf, HasNoEnd, HasNoEmpty}
@@ -141,16 +141,16 @@ module _ (G : List Production) (A : Automaton) (no_end : HasNoEnd G) (no_empty :
   reduced_tree r s a tree o le =
       let split : s ≡ o.top ++ drop (length o.top) s = cut s a o.top o.below o.there (omega (arith, o.size)) in
       let rest : List Sym = drop (length o.top) s in
-      subst (λ n. IsTree (symbol.Class r.left ∷ drop n s)) o.size (one_left rest (wanted 1 rest) refl (ap (wanted 1) (sym split) ∙ tree))
+      subst (λ n. IsTree (grammar_symbol.Class r.left ∷ drop n s)) o.size (one_left rest (wanted 1 rest) refl (ap (wanted 1) (sym split) ∙ tree))
     where
-      one_left : (rest : List Sym) (w : Option ℕ) → wanted 1 rest ≡ w → wanted 1 (o.top ++ rest) ≡ Some 0 → IsTree (symbol.Class r.left ∷ rest)
+      one_left : (rest : List Sym) (w : Option ℕ) → wanted 1 rest ≡ w → wanted 1 (o.top ++ rest) ≡ Some 0 → IsTree (grammar_symbol.Class r.left ∷ rest)
       one_left rest None f h = absurd (none_some 0 (sym (wanted-none 1 o.top rest f) ∙ h))
       one_left rest (Some zero) f h = absurd (none_some 0 (sym (wanted-zero o.top (tree_some o.top o.tree)) ∙ (sym (wanted-append 1 0 o.top rest f) ∙ h)))
       one_left rest (Some (suc j)) f h =
           let more : wanted (1 + j) o.top ≡ Some (0 + j) = wanted-more 1 0 j o.top o.tree in
           let all : wanted (suc j) o.top ≡ Some 0 = sym (wanted-append 1 (suc j) o.top rest f) ∙ h in
           let none : 0 + j ≡ 0 = some_same (0 + j) 0 (sym more ∙ (ap (λ n. wanted n o.top) (one-add j) ∙ all)) in
-          ap (wanted_behind (symbol.Class r.left)) f ∙ ap Some (omega arith)
+          ap (wanted_behind (grammar_symbol.Class r.left)) f ∙ ap Some (omega arith)
 
   table : IsTable A
   table = table_of_items G A no_end no_empty exact
@@ -162,7 +162,7 @@ module _ (G : List Production) (A : Automaton) (no_end : HasNoEnd G) (no_empty :
     pub part_shape : {q : ℕ} {k t : Tok} {s : List Sym} {xs : List Sort} {n : Tok} → LoosePartly A q k t s xs n → PartShape s (length xs)
     part_shape (loose_opened {k = k} place go bg) = token_shape k
       where
-        token_shape : (k : Tok) → PartShape (symbol.Tok k ∷ []) (length (kids k))
+        token_shape : (k : Tok) → PartShape (grammar_symbol.Tok k ∷ []) (length (kids k))
         token_shape k = record {
           still = ap Some (omega arith);
           tops = λ b d m e some rest h. let loose_sum : 1 ≡ length b + length d = ap length e ∙ length-append b d in absurd (omega arith);
@@ -179,18 +179,18 @@ module _ (G : List Production) (A : Automaton) (no_end : HasNoEnd G) (no_empty :
     sum_tree (loose_sum c set ws f o) = settling_tree set
 
   -- no right side ends behind a token whose kids are to come
-  token_top : (k : Tok) (n : ℕ) (r : Production) (a : List Sym) → length (kids k) ≡ suc n → OnTop r (symbol.Tok k ∷ a) → 0 < size_of r → ⊥
+  token_top : (k : Tok) (n : ℕ) (r : Production) (a : List Sym) → length (kids k) ≡ suc n → OnTop r (grammar_symbol.Tok k ∷ a) → 0 < size_of r → ⊥
   token_top k n r a e o some = by_top o.top o.below o.there o.tree (omega (arith, o.size))
     where
-      by_wanted : (b : List Sym) (w : Option ℕ) → wanted 1 b ≡ w → wanted_behind (symbol.Tok k) w ≡ Some 0 → ⊥
+      by_wanted : (b : List Sym) (w : Option ℕ) → wanted 1 b ≡ w → wanted_behind (grammar_symbol.Tok k) w ≡ Some 0 → ⊥
       by_wanted b None f h = none_some 0 h
       by_wanted b (Some zero) f h = none_some 0 h
       by_wanted b (Some (suc j)) f h = omega (arith, e, some_same (length (kids k) + j) 0 h)
 
-      by_top : (b below : List Sym) → symbol.Tok k ∷ a ≡ b ++ below → IsTree b → 0 < length b → ⊥
+      by_top : (b below : List Sym) → grammar_symbol.Tok k ∷ a ≡ b ++ below → IsTree b → 0 < length b → ⊥
       by_top [] below h tree lt = omega arith
       by_top (X ∷ b) below h tree lt =
-          let same : symbol.Tok k ≡ X = cc in
+          let same : grammar_symbol.Tok k ≡ X = cc in
           by_wanted b (wanted 1 b) refl (subst (λ z. wanted_behind z (wanted 1 b) ≡ Some 0) (sym same) tree)
 
   -- and none reaches below the last kid while others are to come
@@ -267,14 +267,14 @@ module _ (G : List Production) (A : Automaton) (no_end : HasNoEnd G) (no_empty :
   none_free (shift ∷ cs) u = absurd (u shift refl)
   none_free (reduce r ∷ cs) u = absurd (u (reduce r) (inl refl))
 
-  no_free : (a : List Sym) (p : ℕ) (t : Tok) → walk A 0 a ≡ Some p → ((p' : ℕ) → A.go p (symbol.Tok t) ≡ Some p' → ⊥) → ((r : Production) → OnTop r a → 0 < size_of r → ⊥) →
+  no_free : (a : List Sym) (p : ℕ) (t : Tok) → walk A 0 a ≡ Some p → ((p' : ℕ) → A.go p (grammar_symbol.Tok t) ≡ Some p' → ⊥) → ((r : Production) → OnTop r a → 0 < size_of r → ⊥) →
       CanBlock (A.candidates p t)
   no_free a p t at u v = none_free (A.candidates p t) by
     where
       by : (c : Candidate) → Free (A.candidates p t) c → ⊥
       by shift f =
-          let found : (r : Production) × ((after : List Sym) × Item G A.stmt a r (symbol.Tok t ∷ after)) = shift_item (exact.candidates a p t at) f in
-          let gone : (p' : ℕ) × (A.go p (symbol.Tok t) ≡ Some p') = exact.goes_where a p (symbol.Tok t) found.0 found.1.0 at found.1.1 in
+          let found : (r : Production) × ((after : List Sym) × Item G A.stmt a r (grammar_symbol.Tok t ∷ after)) = shift_item (exact.candidates a p t at) f in
+          let gone : (p' : ℕ) × (A.go p (grammar_symbol.Tok t) ≡ Some p') = exact.goes_where a p (grammar_symbol.Tok t) found.0 found.1.0 at found.1.1 in
           u gone.0 gone.1
       by (reduce r) f = v r (top_of_free a p t r at f) (table.nonempty a p t r at f)
 
@@ -283,27 +283,27 @@ module _ (G : List Production) (A : Automaton) (no_end : HasNoEnd G) (no_empty :
 
   -- the choice that ended the kid before is a shift
   by_choice : (s' s a : List Sym) (n : ℕ) (p : ℕ) (t : Tok) (c : Candidate) → IsTree s' → PartShape s (suc (suc n)) → walk A 0 ((s' ++ s) ++ a) ≡ Some p → Free (A.candidates p t) c →
-      Outside c s' → ((p' : ℕ) → A.go p (symbol.Tok t) ≡ Some p' → ⊥) → ⊥
+      Outside c s' → ((p' : ℕ) → A.go p (grammar_symbol.Tok t) ≡ Some p' → ⊥) → ⊥
   by_choice s' s a n p t shift tree part at f o u =
-      let found : (r : Production) × ((after : List Sym) × Item G A.stmt ((s' ++ s) ++ a) r (symbol.Tok t ∷ after)) = shift_item (exact.candidates ((s' ++ s) ++ a) p t at) f in
-      let gone : (p' : ℕ) × (A.go p (symbol.Tok t) ≡ Some p') = exact.goes_where ((s' ++ s) ++ a) p (symbol.Tok t) found.0 found.1.0 at found.1.1 in
+      let found : (r : Production) × ((after : List Sym) × Item G A.stmt ((s' ++ s) ++ a) r (grammar_symbol.Tok t ∷ after)) = shift_item (exact.candidates ((s' ++ s) ++ a) p t at) f in
+      let gone : (p' : ℕ) × (A.go p (grammar_symbol.Tok t) ≡ Some p') = exact.goes_where ((s' ++ s) ++ a) p (grammar_symbol.Tok t) found.0 found.1.0 at found.1.1 in
       u gone.0 gone.1
   by_choice s' s a n p t (reduce r) tree part at f o u = kid_top s' s a n r tree part (top_of_free ((s' ++ s) ++ a) p t r at f) o
 
   by_sum : {p0 : ℕ} {n0 m : Tok} {s' : List Sym} → LooseSum A p0 n0 m s' → (s a : List Sym) (n p : ℕ) → PartShape s (suc (suc n)) → walk A p0 s' ≡ Some p → walk A 0 ((s' ++ s) ++ a) ≡ Some p →
-      ((p' : ℕ) → A.go p (symbol.Tok m) ≡ Some p' → ⊥) → ⊥
+      ((p' : ℕ) → A.go p (grammar_symbol.Tok m) ≡ Some p' → ⊥) → ⊥
   by_sum (loose_sum {t = m} {s = s'} {p = p1} c set ws f o) s a n p part ws' at u =
       let same : p1 ≡ p = some_same p1 p (sym ws ∙ ws') in
       by_choice s' s a n p m c (settling_tree set) part at (subst (λ z. Free (A.candidates z m) c) same f) o u
 
   kid_blocks : {q : ℕ} {k t : Tok} {s : List Sym} {ys : List Sort} {n : Tok} → LoosePartly A q k t s ys n → (x : Sort) (xs : List Sort) → ys ≡ x ∷ xs → (a : List Sym) → walk A 0 a ≡ Some q →
-      (p : ℕ) → walk A q s ≡ Some p → ((p' : ℕ) → A.go p (symbol.Tok n) ≡ Some p' → ⊥) → CanBlock (A.candidates p n)
+      (p : ℕ) → walk A q s ≡ Some p → ((p' : ℕ) → A.go p (grammar_symbol.Tok n) ≡ Some p' → ⊥) → CanBlock (A.candidates p n)
   kid_blocks (loose_opened {q = q} {k = k} {n = n} place go bg) x xs e a at p ws u =
-      no_free (symbol.Tok k ∷ a) p n (walk-append A 0 q (symbol.Tok k ∷ []) a at ∙ ws) u (λ r o some. token_top k (length xs) r a (ap length e) o some)
+      no_free (grammar_symbol.Tok k ∷ a) p n (walk-append A 0 q (grammar_symbol.Tok k ∷ []) a at ∙ ws) u (λ r o some. token_top k (length xs) r a (ap length e) o some)
   kid_blocks (loose_with_kid {q = q} {s = s} {x = y} {xs = ys} {p = p0} {m = m} {s' = s'} part ws0 bg kid) x xs e a at p ws u =
       absurd (by_sum kid s a (length xs) p (subst (λ z. PartShape s (suc (length z))) e (part_shape part)) (sym (walk-append A q p0 s' s ws0) ∙ ws) (walk-append A 0 q (s' ++ s) a at ∙ ws) u)
 
-  pub place_blocks : {q : ℕ} {k t : Tok} → LoosePlace A q k t → ((p : ℕ) → A.go q (symbol.Tok k) ≡ Some p → ⊥) → CanBlock (A.candidates q k)
+  pub place_blocks : {q : ℕ} {k t : Tok} → LoosePlace A q k t → ((p : ℕ) → A.go q (grammar_symbol.Tok k) ≡ Some p → ⊥) → CanBlock (A.candidates q k)
   place_blocks (loose_start {k = k} may) u = no_free [] 0 k refl u start_top
   place_blocks (loose_kid {q = q} {k = k} {t = t} {s = s} {x = x} {xs = xs} {n = n} {p = p} {m = m} part ws bg) u =
       let place : MetPlace A q k t = (met_part A table part).0 in

@@ -3,7 +3,7 @@ use Rattle.std.proofs.Common.{◌≡◌, ℕ, ◌≤◌, List, [], ◌∷◌, �
 use Rattle.std.proofs.lemmas.Bool.{cases_lt}
 use Rattle.std.proofs.lemmas.List.{drop-append-le}
 use Rattle.md_reader.specs.declared.types.Sym.{Sym}
-use Rattle.md_reader.specs.declared.types.Sym.TheVariants as symbol
+use Rattle.md_reader.specs.declared.types.Sym.TheVariants as grammar_symbol
 use Rattle.lr_check_sets.specs.Automaton.{Automaton, Production, Candidate, shift, reduce, walk, go_from, size_of, Free, reduced, Inside, Outside}
 
 pub walk-append : (A : Automaton) (q p : ℕ) (s a : List Sym) → walk A q a ≡ Some p → walk A q (s ++ a) ≡ walk A p s
@@ -11,7 +11,7 @@ walk-append A q p [] a h = h
 walk-append A q p (X ∷ s) a h = ap (λ o. go_from A o X) (walk-append A q p s a h)
 
 pub reduced-append : (r : Production) (s a : List Sym) → size_of r ≤ length s → reduced r (s ++ a) ≡ reduced r s ++ a
-reduced-append r s a h = ap (λ x. symbol.Class r.left ∷ x) (drop-append-le (size_of r) s a h)
+reduced-append r s a h = ap (λ x. grammar_symbol.Class r.left ∷ x) (drop-append-le (size_of r) s a h)
 
 -- some free choice is outside the list, or each is inside
 pub data Split (cs : List Candidate) (s : List Sym) : Type 0 where

@@ -6,7 +6,7 @@ use Rattle.tree_core.specs.declared.token.Tok.TheVariants as tok
 use Rattle.tree_core.specs.declared.token.Sort.{Sort}
 use Rattle.tree_core.specs.declared.token.Sort.TheVariants as sort
 use Rattle.md_reader.specs.declared.types.Sym.{Sym}
-use Rattle.md_reader.specs.declared.types.Sym.TheVariants as symbol
+use Rattle.md_reader.specs.declared.types.Sym.TheVariants as grammar_symbol
 use Rattle.tree_core.specs.Grammar.{kids}
 use Rattle.lr_check_sets.specs.Trees.{Tree, Trees, node, no_trees, more_trees, onto, onto_all, root, first}
 use Rattle.lr_check_sets.specs.Automaton.{Automaton, Production, shift, reduce, walk, size_of, Free, CanBlock, reduced, Ends, accepts, goes, IsTable}
@@ -75,13 +75,13 @@ module _ (G : List Production) (A : Automaton) (no_end : HasNoEnd G) (no_empty :
     tree_ends : {x : Sort} (v : Tree x) (q : ℕ) (a : List Sym) (t : Tok) (u w : List Tok) → w ≡ t ∷ u → walk A 0 a ≡ Some q → Place A q (root v) t →
         ((s : List Sym) → Sum A q (root v) t s → Within q t s a w → Ends A (s ++ a) w) → Ends A a (onto v w)
     tree_ends (node k may b vs) q a t u w e at place cont =
-        let found : (p : ℕ) × (A.go q (symbol.Tok k) ≡ Some p) = fine.shifts q k t place in
+        let found : (p : ℕ) × (A.go q (grammar_symbol.Tok k) ≡ Some p) = fine.shifts q k t place in
         let alone : A.candidates q k ≡ shift ∷ [] = table.shift_alone a q k found.0 at found.1 in
-        let part : Partly A q k t (symbol.Tok k ∷ []) (kids k) (first vs t) = opened place found.1 (begins_first vs t) in
-        let sub : Ends A ((symbol.Tok k ∷ []) ++ a) (onto_all vs w) = trees_end vs q k t (symbol.Tok k ∷ []) a u w found.0 e at found.1 part
-        (λ none r p ws f lt. let all : Partly A q k t (symbol.Tok k ∷ []) [] t = subst (λ z. Partly A q k t (symbol.Tok k ∷ []) [] z) (no_more vs none t w).0
-        (subst (λ z. Partly A q k t (symbol.Tok k ∷ []) z (first vs t)) none part) in
-        let some : 0 < size_of r = some_size G A no_end no_empty trees exact all (symbol.Tok k ∷ []) p r ws f in absurd (omega arith)) cont in
+        let part : Partly A q k t (grammar_symbol.Tok k ∷ []) (kids k) (first vs t) = opened place found.1 (begins_first vs t) in
+        let sub : Ends A ((grammar_symbol.Tok k ∷ []) ++ a) (onto_all vs w) = trees_end vs q k t (grammar_symbol.Tok k ∷ []) a u w found.0 e at found.1 part
+        (λ none r p ws f lt. let all : Partly A q k t (grammar_symbol.Tok k ∷ []) [] t = subst (λ z. Partly A q k t (grammar_symbol.Tok k ∷ []) [] z) (no_more vs none t w).0
+        (subst (λ z. Partly A q k t (grammar_symbol.Tok k ∷ []) z (first vs t)) none part) in
+        let some : 0 < size_of r = some_size G A no_end no_empty trees exact all (grammar_symbol.Tok k ∷ []) p r ws f in absurd (omega arith)) cont in
         goes at (subst (λ cs. CanBlock cs → ⊥) (sym alone) (λ h. h)) (λ c f. shifted A k c a (onto_all vs w) (subst (λ cs. Free cs c) alone f) sub)
 
     trees_end : {xs : List Sort} (vs : Trees xs) (q : ℕ) (k t : Tok) (s a : List Sym) (u w : List Tok) (p : ℕ) → w ≡ t ∷ u → walk A 0 a ≡ Some q → walk A q s ≡ Some p →

@@ -4,7 +4,7 @@ use Rattle.std.proofs.lemmas.Bool.{cases_lt}
 use Rattle.tree_core.specs.declared.token.Tok.{Tok}
 use Rattle.tree_core.specs.declared.token.Sort.{Sort}
 use Rattle.md_reader.specs.declared.types.Sym.{Sym}
-use Rattle.md_reader.specs.declared.types.Sym.TheVariants as symbol
+use Rattle.md_reader.specs.declared.types.Sym.TheVariants as grammar_symbol
 use Rattle.lr_check_sets.specs.Automaton.{Automaton, Production, Candidate, shift, reduce, walk, size_of, Free, reduced, Outside, IsTable}
 use Rattle.lr_check_sets.specs.Items.{IsAutomatonOf, HasNoEnd, HasNoEmpty}
 use Rattle.lr_check_sets.specs.Loose.{LoosePlace, LoosePartly, LooseSettling, LooseSum, loose_start, loose_kid, loose_opened, loose_with_kid, loose_whole, loose_settled, loose_sum, WholeIsEnough}
@@ -89,7 +89,7 @@ module _ (G : List Production) (A : Automaton) (no_end : HasNoEnd G) (no_empty :
     part_step : {q : ℕ} {k t : Tok} {s : List Sym} {ys : List Sort} {n : Tok} → Partly A q k t s ys n → Partly A q k t s [] t → ys ≡ [] → n ≡ t → (p : ℕ) (r : Production) →
         walk A q s ≡ Some p → Free (A.candidates p t) (reduce r) → size_of r ≤ length s → Covered A q k t (reduced r s)
     part_step (opened {k = k} place go bg) all e same p r ws f le =
-        let some : 0 < size_of r = some_size all (symbol.Tok k ∷ []) p r ws f in
+        let some : 0 < size_of r = some_size all (grammar_symbol.Tok k ∷ []) p r ws f in
         itself (settled r (whole all) ws f (omega arith))
     part_step {k = k} {t = t} (with_kid {q = q} {s = s} {x = x} {n = n} {p = p0} {m = m} {s' = s'} part ws0 bg kid) all e same p r ws f le =
         let part' : Partly A q k t s (x ∷ []) n = subst (λ z. Partly A q k t s (x ∷ z) n) e part in

@@ -5,7 +5,7 @@ use Rattle.tree_core.specs.declared.token.Tok.TheVariants as tok
 use Rattle.tree_core.specs.declared.token.Sort.{Sort}
 use Rattle.tree_core.specs.declared.token.Sort.TheVariants as sort
 use Rattle.md_reader.specs.declared.types.Sym.{Sym}
-use Rattle.md_reader.specs.declared.types.Sym.TheVariants as symbol
+use Rattle.md_reader.specs.declared.types.Sym.TheVariants as grammar_symbol
 use Rattle.lr_check_sets.specs.Trees.{Tree, Trees, node, no_trees, more_trees}
 use Rattle.lr_check_sets.specs.Automaton.{Automaton, Production, Candidate, shift, reduce, walk, size_of}
 
@@ -79,13 +79,13 @@ pick (reduce r ∷ cs) a = pick_by r.asks (first_answer (owner r.right a)) r a (
 
 -- the new symbol belongs to the node of the right side's first
 abbrev pub held_reduced : Production → List Entry → List Entry
-held_reduced r a = record { symbol = symbol.Class r.left; answers = owner r.right a } ∷ drop (size_of r) a
+held_reduced r a = record { symbol = grammar_symbol.Class r.left; answers = owner r.right a } ∷ drop (size_of r) a
 
 -- one step of the parse
 pub data Step (A : Automaton) : List Entry → List Leaf → List Entry → List Leaf → Type 0 where
   shifts : {a b : List Entry} {f : Leaf} {w : List Leaf} {p : ℕ} → walk A 0 (symbols a) ≡ Some p →
       pick (A.candidates p f.tok) a ≡ record { taken = Some shift; stack = b } →
-      Step A a (f ∷ w) (record { symbol = symbol.Tok f.tok; answers = f.answers } ∷ b) w
+      Step A a (f ∷ w) (record { symbol = grammar_symbol.Tok f.tok; answers = f.answers } ∷ b) w
   reduces : {a b : List Entry} {f : Leaf} {w : List Leaf} {p : ℕ} {r : Production} → walk A 0 (symbols a) ≡ Some p →
       pick (A.candidates p f.tok) a ≡ record { taken = Some (reduce r); stack = b } → Step A a (f ∷ w) (held_reduced r b) (f ∷ w)
 
@@ -114,5 +114,5 @@ Loops A v = (a b : List Entry) × ((w : List Leaf) × (Runs A [] (leaves v the_e
 
 -- the parse from here ends with Accept
 pub data Accepts (A : Automaton) : List Entry → List Leaf → Type 0 where
-  accept : {a : List Entry} {f : Leaf} → symbols a ≡ symbol.Class A.stmt ∷ [] → f.tok ≡ tok.End → Accepts A a (f ∷ [])
+  accept : {a : List Entry} {f : Leaf} → symbols a ≡ grammar_symbol.Class A.stmt ∷ [] → f.tok ≡ tok.End → Accepts A a (f ∷ [])
   by_step : {a b : List Entry} {w v : List Leaf} → Step A a w b v → Accepts A b v → Accepts A a w

@@ -3,7 +3,7 @@ use Rattle.std.specs.Prelude.{◌≡◌, ◌⊎◌, ℕ, ◌≤◌, ◌<◌, Lis
 use Rattle.tree_core.specs.declared.token.Tok.{Tok}
 use Rattle.tree_core.specs.declared.token.Tok.TheVariants as tok
 use Rattle.md_reader.specs.declared.types.Sym.{Sym}
-use Rattle.md_reader.specs.declared.types.Sym.TheVariants as symbol
+use Rattle.md_reader.specs.declared.types.Sym.TheVariants as grammar_symbol
 
 -- a rule as the proofs see it
 pub record Production : Type 0 where
@@ -49,10 +49,10 @@ CanBlock (reduce r ∷ cs) = (r.asks ≡ true) × CanBlock cs
 
 -- the stack behind a reduction
 abbrev pub reduced : Production → List Sym → List Sym
-reduced r a = symbol.Class r.left ∷ drop (size_of r) a
+reduced r a = grammar_symbol.Class r.left ∷ drop (size_of r) a
 
 abbrev pub stack_after : Candidate → Tok → List Sym → List Sym
-stack_after shift t a = symbol.Tok t ∷ a
+stack_after shift t a = grammar_symbol.Tok t ∷ a
 stack_after (reduce r) t a = reduced r a
 
 abbrev pub rest_after : Candidate → Tok → List Tok → List Tok
@@ -61,7 +61,7 @@ rest_after (reduce r) t w = t ∷ w
 
 -- the parse from this stack and these tokens ends with Accept, whatever questions answer
 pub data Ends (A : Automaton) : List Sym → List Tok → Type 0 where
-  accepts : Ends A (symbol.Class A.stmt ∷ []) (tok.End ∷ [])
+  accepts : Ends A (grammar_symbol.Class A.stmt ∷ []) (tok.End ∷ [])
   goes : {a : List Sym} {t : Tok} {w : List Tok} {p : ℕ} → walk A 0 a ≡ Some p → (CanBlock (A.candidates p t) → ⊥) →
       ((c : Candidate) → Free (A.candidates p t) c → Ends A (stack_after c t a) (rest_after c t w)) → Ends A a (t ∷ w)
 
@@ -76,9 +76,9 @@ Outside (reduce r) s = length s < size_of r
 
 -- what the parse asks of an automaton, whatever its states are
 pub record IsTable (A : Automaton) : Type 0 where
-  pub shift_alone : (a : List Sym) (p : ℕ) (t : Tok) (p' : ℕ) → walk A 0 a ≡ Some p → A.go p (symbol.Tok t) ≡ Some p'
+  pub shift_alone : (a : List Sym) (p : ℕ) (t : Tok) (p' : ℕ) → walk A 0 a ≡ Some p → A.go p (grammar_symbol.Tok t) ≡ Some p'
       → A.candidates p t ≡ shift ∷ []
-  pub accept : (a : List Sym) (p : ℕ) → walk A 0 a ≡ Some p → Free (A.candidates p tok.End) shift → a ≡ symbol.Class A.stmt ∷ []
+  pub accept : (a : List Sym) (p : ℕ) → walk A 0 a ≡ Some p → Free (A.candidates p tok.End) shift → a ≡ grammar_symbol.Class A.stmt ∷ []
   pub reduces : (a : List Sym) (p : ℕ) (t : Tok) (r : Production) → walk A 0 a ≡ Some p → Free (A.candidates p t) (reduce r) →
       (size_of r ≤ length a) × ((p' : ℕ) × (walk A 0 (reduced r a) ≡ Some p'))
   pub nonempty : (a : List Sym) (p : ℕ) (t : Tok) (r : Production) → walk A 0 a ≡ Some p → Free (A.candidates p t) (reduce r)

@@ -3,12 +3,12 @@ use Rattle.std.specs.Prelude.{◌≡◌, ℕ, suc, ◌<◌, List, [], ◌∷◌,
 use Rattle.tree_core.specs.declared.token.Tok.{Tok}
 use Rattle.tree_core.specs.declared.token.Tok.TheVariants as tok
 use Rattle.md_reader.specs.declared.types.Sym.{Sym}
-use Rattle.md_reader.specs.declared.types.Sym.TheVariants as symbol
+use Rattle.md_reader.specs.declared.types.Sym.TheVariants as grammar_symbol
 use Rattle.lr_check_sets.specs.Automaton.{Automaton, Production, Candidate, walk, Free, CanBlock, stack_after, rest_after}
 
 -- at most n shifts and reductions lead to accepting, whatever questions answer
 pub data Within (A : Automaton) : ℕ → List Sym → List Tok → Type 0 where
-  accepted : {n : ℕ} → Within A n (symbol.Class A.stmt ∷ []) (tok.End ∷ [])
+  accepted : {n : ℕ} → Within A n (grammar_symbol.Class A.stmt ∷ []) (tok.End ∷ [])
   steps : {n : ℕ} {a : List Sym} {t : Tok} {w : List Tok} {p : ℕ} →
       walk A 0 a ≡ Some p → (CanBlock (A.candidates p t) → ⊥) →
       ((c : Candidate) → Free (A.candidates p t) c → Within A n (stack_after c t a) (rest_after c t w)) →

@@ -3,7 +3,7 @@
 use Rattle.std.specs.Prelude.{◌≡◌, ℕ, List, [], Some, length}
 use Rattle.tree_core.specs.declared.token.Tok.{Tok}
 use Rattle.md_reader.specs.declared.types.Sym.{Sym}
-use Rattle.md_reader.specs.declared.types.Sym.TheVariants as symbol
+use Rattle.md_reader.specs.declared.types.Sym.TheVariants as grammar_symbol
 use Rattle.lr_check_sets.specs.Automaton.{Automaton, Production, reduce, walk, size_of, Free, CanBlock, reduced}
 use Rattle.lr_check_sets.specs.Sums.{Place, Partly, Settling}
 
@@ -15,7 +15,7 @@ pub data Calms (A : Automaton) (q : ℕ) (t : Tok) : List Sym → Type 0 where
       Calms A q t s
 
 pub record NoFault (A : Automaton) : Type 0 where
-  pub shifts : (q : ℕ) (k t : Tok) → Place A q k t → (p : ℕ) × (A.go q (symbol.Tok k) ≡ Some p)
+  pub shifts : (q : ℕ) (k t : Tok) → Place A q k t → (p : ℕ) × (A.go q (grammar_symbol.Tok k) ≡ Some p)
   pub takes : (q : ℕ) (k t : Tok) (s : List Sym) (p : ℕ) → Settling A q k t s → walk A q s ≡ Some p → CanBlock (A.candidates p t) → ⊥
   pub ends : (q : ℕ) (k t : Tok) (s : List Sym) → Partly A q k t s [] t → Calms A q t s
 
@@ -30,6 +30,6 @@ pub data Circles (A : Automaton) (q : ℕ) (t : Tok) : List Sym → List Sym →
 
 -- one of the three
 pub data Fault (A : Automaton) : Type 0 where
-  gap : {q : ℕ} {k t : Tok} → Place A q k t → ((p : ℕ) → A.go q (symbol.Tok k) ≡ Some p → ⊥) → Fault A
+  gap : {q : ℕ} {k t : Tok} → Place A q k t → ((p : ℕ) → A.go q (grammar_symbol.Tok k) ≡ Some p → ⊥) → Fault A
   dead : {q p : ℕ} {k t : Tok} {s : List Sym} → Settling A q k t s → walk A q s ≡ Some p → CanBlock (A.candidates p t) → Fault A
   circle : {q : ℕ} {k t : Tok} {s : List Sym} → Settling A q k t s → Circles A q t s s → Fault A

@@ -3,18 +3,18 @@ use Rattle.std.specs.Prelude.{◌≡◌, ℕ, ◌<◌, List, [], ◌∷◌, ◌+
 use Rattle.tree_core.specs.declared.token.Tok.{Tok}
 use Rattle.tree_core.specs.declared.token.Tok.TheVariants as tok
 use Rattle.md_reader.specs.declared.types.Sym.{Sym}
-use Rattle.md_reader.specs.declared.types.Sym.TheVariants as symbol
+use Rattle.md_reader.specs.declared.types.Sym.TheVariants as grammar_symbol
 use Rattle.lr_check_sets.specs.Automaton.{Production, Automaton, Candidate, shift, reduce, walk, size_of}
 
 -- the start, `stmt End`
 abbrev pub start_of : ℕ → Production
-start_of stmt = record { left = stmt; right = symbol.Class stmt ∷ symbol.Tok tok.End ∷ []; asks = false }
+start_of stmt = record { left = stmt; right = grammar_symbol.Class stmt ∷ grammar_symbol.Tok tok.End ∷ []; asks = false }
 
 -- the rule is valid for the stack with the dot before the rest of its right side; the stack's top stands first
 pub data Item (G : List Production) (stmt : ℕ) : List Sym → Production → List Sym → Type 0 where
   starts : {r : Production} {rest : List Sym} → r ≡ start_of stmt → r.right ≡ rest → Item G stmt [] r rest
   opens : {a : List Sym} {s : Production} {c : ℕ} {after : List Sym} {r : Production} {rest : List Sym}
-      → Item G stmt a s (symbol.Class c ∷ after) →
+      → Item G stmt a s (grammar_symbol.Class c ∷ after) →
       Contains G r → r.left ≡ c → r.right ≡ rest → Item G stmt a r rest
   moves : {a : List Sym} {r : Production} {X : Sym} {rest : List Sym} → Item G stmt a r (X ∷ rest) → Item G stmt (X ∷ a) r rest
 
@@ -29,9 +29,10 @@ pub record AreReductions (G : List Production) (stmt : ℕ) (a : List Sym) (rs :
 
 -- the candidates at a stack and a next token: the shift alone where an item stands before the token, else reductions
 pub data AreCandidates (G : List Production) (stmt : ℕ) (a : List Sym) (t : Tok) : List Candidate → Type 0 where
-  the_shift : {after : List Sym} (r : Production) → Item G stmt a r (symbol.Tok t ∷ after) → AreCandidates G stmt a t (shift ∷ [])
+  the_shift : {after : List Sym} (r : Production) → Item G stmt a r (grammar_symbol.Tok t ∷ after) → AreCandidates G stmt a t (shift ∷ [])
   the_reductions : {cs : List Candidate} (rs : List Production) →
-      ((r : Production) (after : List Sym) → Item G stmt a r (symbol.Tok t ∷ after) → ⊥) → AreReductions G stmt a rs → cs ≡ map reduce rs →
+      ((r : Production) (after : List Sym) → Item G stmt a r (grammar_symbol.Tok t ∷ after) → ⊥) → AreReductions G stmt a rs
+      → cs ≡ map reduce rs →
       AreCandidates G stmt a t cs
 
 -- at each stack that leads to a state: the state leads on exactly where an item stands before the symbol, and its
@@ -45,7 +46,7 @@ pub record IsAutomatonOf (G : List Production) (A : Automaton) : Type 0 where
 
 -- no rule has the end in its right side
 abbrev pub HasNoEnd : List Production → Type 0
-HasNoEnd G = (r : Production) → Contains G r → Contains r.right (symbol.Tok tok.End) → ⊥
+HasNoEnd G = (r : Production) → Contains G r → Contains r.right (grammar_symbol.Tok tok.End) → ⊥
 
 abbrev pub HasNoEmpty : List Production → Type 0
 HasNoEmpty G = (r : Production) → Contains G r → 0 < size_of r

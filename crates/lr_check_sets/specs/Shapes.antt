@@ -1,14 +1,14 @@
 -- Right sides are linearised tree patterns.
 use Rattle.std.specs.Prelude.{◌≡◌, ℕ, zero, suc, ◌+◌, List, [], ◌∷◌, Option, Some, None, Contains, length, reverse}
 use Rattle.md_reader.specs.declared.types.Sym.{Sym}
-use Rattle.md_reader.specs.declared.types.Sym.TheVariants as symbol
+use Rattle.md_reader.specs.declared.types.Sym.TheVariants as grammar_symbol
 use Rattle.tree_core.specs.Grammar.{kids}
 use Rattle.lr_check_sets.specs.Automaton.{Production}
 
 -- the trees that a symbol takes as kids
 abbrev pub arity : Sym → ℕ
-arity (symbol.Tok k) = length (kids k)
-arity (symbol.Class c) = 0
+arity (grammar_symbol.Tok k) = length (kids k)
+arity (grammar_symbol.Class c) = 0
 
 -- one of the trees that are wanted begins with the symbol
 abbrev pub wanted_behind : Sym → Option ℕ → Option ℕ

@@ -7,7 +7,7 @@ use Rattle.tree_core.specs.declared.token.Sort.{Sort}
 use Rattle.tree_core.specs.declared.token.Sort.TheVariants as sort
 use Rattle.tree_core.specs.Grammar.{kids}
 use Rattle.md_reader.specs.declared.types.Sym.{Sym}
-use Rattle.md_reader.specs.declared.types.Sym.TheVariants as symbol
+use Rattle.md_reader.specs.declared.types.Sym.TheVariants as grammar_symbol
 use Rattle.lr_check_sets.specs.Trees.{May, Begins}
 use Rattle.lr_check_sets.specs.Automaton.{Automaton, Production, Candidate, reduce, walk, size_of, Free, reduced, Outside}
 
@@ -22,8 +22,8 @@ mutual
   -- of that subtree the list s is there, kids of these sorts are to come, and n is the next token
   pub data Partly (A : Automaton) : ℕ → Tok → Tok → List Sym → List Sort → Tok → Type 0 where
     opened : {q : ℕ} {k t : Tok} {p : ℕ} {n : Tok} →
-        Place A q k t → A.go q (symbol.Tok k) ≡ Some p → Begins (kids k) t n →
-        Partly A q k t (symbol.Tok k ∷ []) (kids k) n
+        Place A q k t → A.go q (grammar_symbol.Tok k) ≡ Some p → Begins (kids k) t n →
+        Partly A q k t (grammar_symbol.Tok k ∷ []) (kids k) n
     with_kid : {q : ℕ} {k t : Tok} {s : List Sym} {x : Sort} {xs : List Sort} {n : Tok} {p : ℕ} {m : Tok} {s' : List Sym} →
         Partly A q k t s (x ∷ xs) n → walk A q s ≡ Some p → Begins xs t m → Sum A p n m s' →
         Partly A q k t (s' ++ s) xs m

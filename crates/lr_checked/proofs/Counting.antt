@@ -5,7 +5,7 @@ use Rattle.tree_core.specs.declared.token.Tok.{Tok}
 use Rattle.tree_core.specs.declared.token.Tok.TheVariants as tok
 use Rattle.md_reader.specs.declared.types.Rule.{Rule}
 use Rattle.md_reader.specs.declared.types.Sym.{Sym}
-use Rattle.md_reader.specs.declared.types.Sym.TheVariants as symbol
+use Rattle.md_reader.specs.declared.types.Sym.TheVariants as grammar_symbol
 use Rattle.md_reader.specs.Valid.{IsValid}
 use Rattle.lr_tables.specs.declared.types.Choice.{Choice}
 use Rattle.lr_tables.specs.Statements.{stmt_of}
@@ -71,13 +71,13 @@ module _ (t : TableView) (v : IsValid t.content) (b : IsNumbered t) where
   table : IsTable (automaton_of t)
   table = table_of_items (productions t.content.rules) (automaton_of t) laws.no_end laws.no_empty laws.exact
 
-  shift_candidates : (a : List Sym) (p : ℕ) (k : Tok) → walk (automaton_of t) 0 a ≡ Some p → StandsBefore t.content.rules (stmt_of t.content.classes) a (symbol.Tok k) →
+  shift_candidates : (a : List Sym) (p : ℕ) (k : Tok) → walk (automaton_of t) 0 a ≡ Some p → StandsBefore t.content.rules (stmt_of t.content.classes) a (grammar_symbol.Tok k) →
       (automaton_of t).candidates p k ≡ shift ∷ []
   shift_candidates a p k here sb =
-      let on = leads_on t.content.rules (stmt_of t.content.classes) (length t.content.classes) (is_grammar t.content v) t.content t.rows b a p (symbol.Tok k) (leads t a p here) sb in
+      let on = leads_on t.content.rules (stmt_of t.content.classes) (length t.content.classes) (is_grammar t.content v) t.content t.rows b a p (grammar_symbol.Tok k) (leads t a p here) sb in
       table.shift_alone a p k on.0 here on.1
 
-  reduce_candidates : (a : List Sym) (p : ℕ) (k : Tok) (ns : List ℕ) → walk (automaton_of t) 0 a ≡ Some p → (StandsBefore t.content.rules (stmt_of t.content.classes) a (symbol.Tok k) → ⊥) →
+  reduce_candidates : (a : List Sym) (p : ℕ) (k : Tok) (ns : List ℕ) → walk (automaton_of t) 0 a ≡ Some p → (StandsBefore t.content.rules (stmt_of t.content.classes) a (grammar_symbol.Tok k) → ⊥) →
       AreReductions t.content.rules (stmt_of t.content.classes) a k ns → (automaton_of t).candidates p k ≡ map reduce (rules_of t.content.rules ns)
   unfolding candidates_at
   reduce_candidates a p k ns here refused ar =
@@ -92,17 +92,17 @@ module _ (t : TableView) (v : IsValid t.content) (b : IsNumbered t) where
           ap (candidates_of t.content.rules) ee ∙ (candidates_are t.content.rules ms ∙ ap (λ (l : List ℕ). map reduce (rules_of t.content.rules l)) same)
 
   shift_counted : {n : ℕ} {a : List Sym} {u : List Tok} → Within (automaton_of t) n a u → (f : Token) (ws : List Token) (s : List Part) → toks (f ∷ ws) ≡ u → symbols s ≡ a →
-      (f.tok ≡ tok.End → ⊥) → StandsBefore t.content.rules (stmt_of t.content.classes) (symbols s) (symbol.Tok f.tok) → (d : ℕ) →
-      ((m : ℕ) (c : List Sym) (z : List Tok) → Within (automaton_of t) m c z → toks ws ≡ z → symbol.Tok f.tok ∷ symbols s ≡ c → d ≤ m) → suc d ≤ n
+      (f.tok ≡ tok.End → ⊥) → StandsBefore t.content.rules (stmt_of t.content.classes) (symbols s) (grammar_symbol.Tok f.tok) → (d : ℕ) →
+      ((m : ℕ) (c : List Sym) (z : List Tok) → Within (automaton_of t) m c z → toks ws ≡ z → grammar_symbol.Tok f.tok ∷ symbols s ≡ c → d ≤ m) → suc d ≤ n
   shift_counted accepted f ws s g q ne sb d ih = absurd (ne (head_same f.tok tok.End (toks ws) [] g))
   shift_counted (steps {n = m} {a = a} {t = k} {w = z} {p = p} here nb h) f ws s g q ne sb d ih =
       let first : f.tok ≡ k = head_same f.tok k (toks ws) z g in
-      let stands : StandsBefore t.content.rules (stmt_of t.content.classes) a (symbol.Tok k) =
-      subst (λ y. StandsBefore t.content.rules (stmt_of t.content.classes) y (symbol.Tok k)) q
-      (subst (λ y. StandsBefore t.content.rules (stmt_of t.content.classes) (symbols s) (symbol.Tok y)) first sb) in
+      let stands : StandsBefore t.content.rules (stmt_of t.content.classes) a (grammar_symbol.Tok k) =
+      subst (λ y. StandsBefore t.content.rules (stmt_of t.content.classes) y (grammar_symbol.Tok k)) q
+      (subst (λ y. StandsBefore t.content.rules (stmt_of t.content.classes) (symbols s) (grammar_symbol.Tok y)) first sb) in
       let free : Free ((automaton_of t).candidates p k) shift = subst (λ l. Free l shift) (sym (shift_candidates a p k here stands)) refl in
-      let top : symbol.Tok f.tok ∷ symbols s ≡ symbol.Tok k ∷ a = ap (λ y. symbol.Tok y ∷ symbols s) first ∙ ap (λ y. symbol.Tok k ∷ y) q in
-      let le : d ≤ m = ih m (symbol.Tok k ∷ a) z (h shift free) (tail_same f.tok k (toks ws) z g) top in
+      let top : grammar_symbol.Tok f.tok ∷ symbols s ≡ grammar_symbol.Tok k ∷ a = ap (λ y. grammar_symbol.Tok y ∷ symbols s) first ∙ ap (λ y. grammar_symbol.Tok k ∷ y) q in
+      let le : d ≤ m = ih m (grammar_symbol.Tok k ∷ a) z (h shift free) (tail_same f.tok k (toks ws) z g) top in
       omega (arith, le)
 
   reduce_counted : {n : ℕ} {a : List Sym} {u : List Tok} → Within (automaton_of t) n a u → (ws : List Token) (s s' : List Part) (i : ℕ) (r : Rule) → toks ws ≡ u → symbols s ≡ a →
@@ -111,16 +111,16 @@ module _ (t : TableView) (v : IsValid t.content) (b : IsNumbered t) where
   reduce_counted accepted ws s s' i r g q red there d ih = absurd (not_shifted t.content.rules (stmt_of t.content.classes) red q (coming-is ws tok.End [] g))
   reduce_counted (steps {n = m} {a = a} {t = k} {w = z} {p = p} here nb h) ws s s' i r g q red there d ih =
       let next : coming ws ≡ k = coming-is ws k z g in
-      let refused : StandsBefore t.content.rules (stmt_of t.content.classes) a (symbol.Tok k) → ⊥ =
-      λ sb. red.no_shift (subst (λ y. StandsBefore t.content.rules (stmt_of t.content.classes) y (symbol.Tok (coming ws))) (sym q)
-      (subst (λ y. StandsBefore t.content.rules (stmt_of t.content.classes) a (symbol.Tok y)) (sym next) sb)) in
+      let refused : StandsBefore t.content.rules (stmt_of t.content.classes) a (grammar_symbol.Tok k) → ⊥ =
+      λ sb. red.no_shift (subst (λ y. StandsBefore t.content.rules (stmt_of t.content.classes) y (grammar_symbol.Tok (coming ws))) (sym q)
+      (subst (λ y. StandsBefore t.content.rules (stmt_of t.content.classes) a (grammar_symbol.Tok y)) (sym next) sb)) in
       let order : AreReductions t.content.rules (stmt_of t.content.classes) a k red.candidates =
       subst (λ y. AreReductions t.content.rules (stmt_of t.content.classes) a y red.candidates) next
       (subst (λ y. AreReductions t.content.rules (stmt_of t.content.classes) y (coming ws) red.candidates) q red.in_order) in
       let free : Free ((automaton_of t).candidates p k) (reduce (production r)) =
       subst (λ l. Free l (reduce (production r))) (sym (reduce_candidates a p k red.candidates here refused order)) (takes_free t.content.rules red.takes i r refl there) in
       let stack : symbols (parse.reduced s' r) ≡ model.reduced (production r) a =
-      ap (λ l. symbol.Class r.left ∷ l) (sym (drop-map (λ (x : Part). x.symbol) (length r.right) s') ∙ ap (drop (length r.right)) (takes_symbols t.content.rules red.takes ∙ q)) in
+      ap (λ l. grammar_symbol.Class r.left ∷ l) (sym (drop-map (λ (x : Part). x.symbol) (length r.right) s') ∙ ap (drop (length r.right)) (takes_symbols t.content.rules red.takes ∙ q)) in
       let le : d ≤ m = ih m (model.reduced (production r) a) (k ∷ z) (h (reduce (production r)) free) g stack in
       omega (arith, le)
 

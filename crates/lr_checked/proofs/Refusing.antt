@@ -9,7 +9,7 @@ use Rattle.lr_check.specs.Parse.{Ends, Replays, is_long, is_parsed}
 use Rattle.lr_check.specs.Statement.{IsStatement}
 use Rattle.lr_check_samples.specs.Stops.{at_once, Blocks, Loops, EndsAt, ends_blocked, ends_turning}
 use Rattle.lr_checked.specs.declared.checking.CheckFault.{CheckFault}
-use Rattle.lr_checked.specs.declared.checking.CheckFault.TheVariants as faults
+use Rattle.lr_checked.specs.declared.checking.CheckFault.TheVariants as check_fault
 use Rattle.lr_checked.specs.Accepted.{NeverStops}
 use Rattle.lr_checked.specs.Refusals.{Blocking, Looping, FaultIsReal, SomeStops, some_blocks, some_loops, IsStopped}
 use Rattle.lr_checked.proofs.Typed.{typed_tokens}
@@ -79,10 +79,10 @@ module _ (d : Content) where
   looping_stops nodes l = some_loops l.leaves l.ends.at (typed_tokens nodes l.leaves l.statement l.tree) l.ends.ends
 
   pub is_stopped : (fault : CheckFault) → FaultIsReal d fault → IsStopped d fault
-  is_stopped faults.NoMemory real = tt
-  is_stopped faults.CheckFull real = tt
-  is_stopped (faults.Blocks nodes) real = blocking_stops nodes real
-  is_stopped (faults.Loops nodes) real = looping_stops nodes real
+  is_stopped check_fault.NoMemory real = tt
+  is_stopped check_fault.CheckFull real = tt
+  is_stopped (check_fault.Blocks nodes) real = blocking_stops nodes real
+  is_stopped (check_fault.Loops nodes) real = looping_stops nodes real
 
   block_done : (n : ℕ) → outcome.Blocks n ≡ outcome.Done → ⊥
   block_done n e = cc

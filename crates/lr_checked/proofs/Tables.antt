@@ -14,7 +14,7 @@ use Rattle.lr_tables.specs.Promises.{IsNumbered}
 use Rattle.lr_check_sets.specs.Table.{automaton_of}
 use Rattle.lr_check_found.specs.Count.{HasMore}
 use Rattle.lr_checked.specs.declared.checking.CheckFault.{CheckFault}
-use Rattle.lr_checked.specs.declared.checking.CheckFault.TheVariants as faults
+use Rattle.lr_checked.specs.declared.checking.CheckFault.TheVariants as check_fault
 use Rattle.lr_checked.specs.Counted.{HasTooManySums}
 use Rattle.lr_checked.specs.Refusals.{FullIsFirst, SumsAreFirst}
 
@@ -69,7 +69,7 @@ few_sums t b few h =
     few (subst (λ (u : TableView). HasMore (automaton_of u) 4000000) (tables_same h.tables t h.of h.numbered b) h.many)
 
 pub sums_are_first : (t : TableView) → IsNumbered t → (fault : CheckFault) → FullIsFirst (automaton_of t) fault → SumsAreFirst t.content fault
-sums_are_first t b faults.NoMemory h = tt
-sums_are_first t b faults.CheckFull h = many_sums t b h
-sums_are_first t b (faults.Blocks nodes) h = few_sums t b h
-sums_are_first t b (faults.Loops nodes) h = few_sums t b h
+sums_are_first t b check_fault.NoMemory h = tt
+sums_are_first t b check_fault.CheckFull h = many_sums t b h
+sums_are_first t b (check_fault.Blocks nodes) h = few_sums t b h
+sums_are_first t b (check_fault.Loops nodes) h = few_sums t b h

@@ -11,7 +11,7 @@ use Rattle.lr_check_sets.specs.Automaton.{Automaton}
 use Rattle.lr_check_found.specs.Count.{HasMore}
 use Rattle.lr_check_samples.specs.Stops.{Blocks, Loops, EndsAt, EndsTurning}
 use Rattle.lr_checked.specs.declared.checking.CheckFault.{CheckFault}
-use Rattle.lr_checked.specs.declared.checking.CheckFault.TheVariants as faults
+use Rattle.lr_checked.specs.declared.checking.CheckFault.TheVariants as check_fault
 use Rattle.lr_checked.specs.Accepted.{tokens}
 use Rattle.lr_checked.specs.Counted.{HasTooManySums}
 
@@ -37,10 +37,10 @@ pub record Looping (d : Content) (nodes : List Node) : Type 0 where
 
 -- `NoMemory` and `CheckFull` have no sample
 abbrev pub FaultIsReal : Content → CheckFault → Type 0
-FaultIsReal d faults.NoMemory = Unit {0}
-FaultIsReal d faults.CheckFull = Unit {0}
-FaultIsReal d (faults.Blocks nodes) = Blocking d nodes
-FaultIsReal d (faults.Loops nodes) = Looping d nodes
+FaultIsReal d check_fault.NoMemory = Unit {0}
+FaultIsReal d check_fault.CheckFull = Unit {0}
+FaultIsReal d (check_fault.Blocks nodes) = Blocking d nodes
+FaultIsReal d (check_fault.Loops nodes) = Looping d nodes
 
 -- the parse of some typed statement, with some answers, doesn't accept: it ends blocked, or at a stack that came before
 pub data SomeStops (d : Content) : Type 0 where
@@ -51,21 +51,21 @@ pub data SomeStops (d : Content) : Type 0 where
 
 -- Where no tables come out, some typed statement stops the parse, want of memory and too many sums apart.
 abbrev pub IsStopped : Content → CheckFault → Type 0
-IsStopped d faults.NoMemory = Unit {0}
-IsStopped d faults.CheckFull = Unit {0}
-IsStopped d (faults.Blocks nodes) = SomeStops d
-IsStopped d (faults.Loops nodes) = SomeStops d
+IsStopped d check_fault.NoMemory = Unit {0}
+IsStopped d check_fault.CheckFull = Unit {0}
+IsStopped d (check_fault.Blocks nodes) = SomeStops d
+IsStopped d (check_fault.Loops nodes) = SomeStops d
 
 -- `CheckFull` says that there are more than 4,000,000 sums; where another refusal comes there are not, unless there was no memory
 abbrev pub FullIsFirst : Automaton → CheckFault → Type 0
-FullIsFirst A faults.NoMemory = Unit {0}
-FullIsFirst A faults.CheckFull = HasMore A 4000000
-FullIsFirst A (faults.Blocks nodes) = HasMore A 4000000 → ⊥
-FullIsFirst A (faults.Loops nodes) = HasMore A 4000000 → ⊥
+FullIsFirst A check_fault.NoMemory = Unit {0}
+FullIsFirst A check_fault.CheckFull = HasMore A 4000000
+FullIsFirst A (check_fault.Blocks nodes) = HasMore A 4000000 → ⊥
+FullIsFirst A (check_fault.Loops nodes) = HasMore A 4000000 → ⊥
 
 -- the same of the description
 abbrev pub SumsAreFirst : Content → CheckFault → Type 0
-SumsAreFirst d faults.NoMemory = Unit {0}
-SumsAreFirst d faults.CheckFull = HasTooManySums d
-SumsAreFirst d (faults.Blocks nodes) = HasTooManySums d → ⊥
-SumsAreFirst d (faults.Loops nodes) = HasTooManySums d → ⊥
+SumsAreFirst d check_fault.NoMemory = Unit {0}
+SumsAreFirst d check_fault.CheckFull = HasTooManySums d
+SumsAreFirst d (check_fault.Blocks nodes) = HasTooManySums d → ⊥
+SumsAreFirst d (check_fault.Loops nodes) = HasTooManySums d → ⊥

@@ -4,9 +4,9 @@ use Rattle.lr_check.specs.Tree.{Node}
 use Rattle.lr_check_flaws.specs.declared.flaws.Flaw.{Flaw}
 use Rattle.lr_check_flaws.specs.declared.flaws.Flaw.TheVariants.{Gap, Dead, Circle}
 use Rattle.lr_checked.specs.declared.checking.CheckFault.{CheckFault}
-use Rattle.lr_checked.specs.declared.checking.CheckFault.TheVariants as faults
+use Rattle.lr_checked.specs.declared.checking.CheckFault.TheVariants as check_fault
 
 abbrev pub refusal_of : Flaw → List Node → CheckFault
-refusal_of (Gap n) nodes = faults.Blocks nodes
-refusal_of (Dead i) nodes = faults.Blocks nodes
-refusal_of (Circle i classes) nodes = faults.Loops nodes
+refusal_of (Gap n) nodes = check_fault.Blocks nodes
+refusal_of (Dead i) nodes = check_fault.Blocks nodes
+refusal_of (Circle i classes) nodes = check_fault.Loops nodes

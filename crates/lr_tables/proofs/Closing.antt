@@ -8,7 +8,7 @@ use Rattle.std.proofs.lemmas.List.{get_or-replicate, get_or_past, length-replica
 use Rattle.std.proofs.lemmas.Option.{slice_get_within}
 use Rattle.md_reader.specs.declared.types.Rule.{Rule}
 use Rattle.md_reader.specs.declared.types.Sym.{Sym}
-use Rattle.md_reader.specs.declared.types.Sym.TheVariants as symbol
+use Rattle.md_reader.specs.declared.types.Sym.TheVariants as grammar_symbol
 use Rattle.lr_tables.specs.declared.item.Item.{Item}
 use Rattle.lr_tables.specs.declared.marks.Edge.{Edge}
 use Rattle.lr_tables.specs.Symbols.{symbol_number}
@@ -33,46 +33,46 @@ none_marked n c h =
     (cases_lt c n)
 
 -- an edge from a rule
-pub edge_is : (from : ℕ) (o : Option Sym) (e : Edge) → edge_to from o ≡ Some e → (e.from ≡ from) × (o ≡ Some (symbol.Class e.to))
+pub edge_is : (from : ℕ) (o : Option Sym) (e : Edge) → edge_to from o ≡ Some e → (e.from ≡ from) × (o ≡ Some (grammar_symbol.Class e.to))
 edge_is from None e h = cc
-edge_is from (Some (symbol.Tok t)) e h = cc
-edge_is from (Some (symbol.Class c)) e h =
+edge_is from (Some (grammar_symbol.Tok t)) e h = cc
+edge_is from (Some (grammar_symbol.Class c)) e h =
     let same : record { from = from; to = c } ≡ e = Some-same _ _ h in
-    (sym (ap (λ (x : Edge). x.from) same), ap (λ (x : Edge). Some (symbol.Class x.to)) same)
+    (sym (ap (λ (x : Edge). x.from) same), ap (λ (x : Edge). Some (grammar_symbol.Class x.to)) same)
 
 module _ (rules : List Rule) (stmt classes : ℕ) (g : IsGrammar rules stmt classes) where
   -- classes before dots are classes
-  pub next_within : (i : Item) (c : ℕ) → next rules stmt i ≡ Some (symbol.Class c) → c < classes
+  pub next_within : (i : Item) (c : ℕ) → next rules stmt i ≡ Some (grammar_symbol.Class c) → c < classes
   next_within i c e = by i.rule refl
     where
-      two : (k : ℕ) → slice_get (symbol.Class stmt ∷ symbol.Tok Rattle.tree_core.specs.declared.token.Tok.TheVariants.End ∷ []) k ≡ Some (symbol.Class c) → c < classes
+      two : (k : ℕ) → slice_get (grammar_symbol.Class stmt ∷ grammar_symbol.Tok Rattle.tree_core.specs.declared.token.Tok.TheVariants.End ∷ []) k ≡ Some (grammar_symbol.Class c) → c < classes
       two zero h = let same : stmt ≡ c = cc in subst (λ x. x < classes) same g.start
       two (suc zero) h = cc
       two (suc (suc zero)) h = cc
       two (suc (suc (suc k))) h = cc
 
-      at : (n : ℕ) (o : Option Rule) → slice_get rules n ≡ o → slice_get (right_at o) i.dot ≡ Some (symbol.Class c) → c < classes
+      at : (n : ℕ) (o : Option Rule) → slice_get rules n ≡ o → slice_get (right_at o) i.dot ≡ Some (grammar_symbol.Class c) → c < classes
       at n None f h = absurd (none i.dot h)
         where
-          none : (k : ℕ) → slice_get [] k ≡ Some (symbol.Class c) → ⊥
+          none : (k : ℕ) → slice_get [] k ≡ Some (grammar_symbol.Class c) → ⊥
           none zero h = cc
           none (suc k) h = cc
       at n (Some r) f h = g.within n i.dot c r f h
 
       by : (o : Option ℕ) → i.rule ≡ o → c < classes
-      by None f = two i.dot (subst (λ x. slice_get (right_of rules stmt x) i.dot ≡ Some (symbol.Class c)) f e)
-      by (Some n) f = at n (slice_get rules n) refl (subst (λ x. slice_get (right_of rules stmt x) i.dot ≡ Some (symbol.Class c)) f e)
+      by None f = two i.dot (subst (λ x. slice_get (right_of rules stmt x) i.dot ≡ Some (grammar_symbol.Class c)) f e)
+      by (Some n) f = at n (slice_get rules n) refl (subst (λ x. slice_get (right_of rules stmt x) i.dot ≡ Some (grammar_symbol.Class c)) f e)
 
   -- the marks of a kernel
   before_kept : (o : Option Sym) (m : List Bool) (c : ℕ) → Marked m c → Marked (marked_before o m) c
   before_kept None m c h = h
-  before_kept (Some (symbol.Tok t)) m c h = h
-  before_kept (Some (symbol.Class d)) m c h = marked_kept m d c h
+  before_kept (Some (grammar_symbol.Tok t)) m c h = h
+  before_kept (Some (grammar_symbol.Class d)) m c h = marked_kept m d c h
 
   length-before : (o : Option Sym) (m : List Bool) → length (marked_before o m) ≡ length m
   length-before None m = refl
-  length-before (Some (symbol.Tok t)) m = refl
-  length-before (Some (symbol.Class d)) m = length-set m d true
+  length-before (Some (grammar_symbol.Tok t)) m = refl
+  length-before (Some (grammar_symbol.Class d)) m = length-set m d true
 
   length-marked : (k : List Item) (m : List Bool) → length (marked_all rules stmt k m) ≡ length m
   length-marked [] m = refl
@@ -82,7 +82,7 @@ module _ (rules : List Rule) (stmt classes : ℕ) (g : IsGrammar rules stmt clas
   all_kept [] m c h = h
   all_kept (i ∷ k) m c h = all_kept k (marked_before (next rules stmt i) m) c (before_kept (next rules stmt i) m c h)
 
-  all_there : (k : List Item) (m : List Bool) (i : Item) (c : ℕ) → length m ≡ classes → In i k → next rules stmt i ≡ Some (symbol.Class c) → Marked (marked_all rules stmt k m) c
+  all_there : (k : List Item) (m : List Bool) (i : Item) (c : ℕ) → length m ≡ classes → In i k → next rules stmt i ≡ Some (grammar_symbol.Class c) → Marked (marked_all rules stmt k m) c
   all_there [] m i c l at e = absurd at
   all_there (j ∷ k) m i c l at e =
       ⊎_elim
@@ -93,9 +93,9 @@ module _ (rules : List Rule) (stmt classes : ℕ) (g : IsGrammar rules stmt clas
 
   -- an item of the list stands before the class
   Before : List Item → ℕ → Type 0
-  Before k c = (i : Item) × In i k × (next rules stmt i ≡ Some (symbol.Class c))
+  Before k c = (i : Item) × In i k × (next rules stmt i ≡ Some (grammar_symbol.Class c))
 
-  all_sound : (k : List Item) (m : List Bool) (c : ℕ) → Marked (marked_all rules stmt k m) c → Marked m c ⊎ ((i : Item) × In i k × (next rules stmt i ≡ Some (symbol.Class c)))
+  all_sound : (k : List Item) (m : List Bool) (c : ℕ) → Marked (marked_all rules stmt k m) c → Marked m c ⊎ ((i : Item) × In i k × (next rules stmt i ≡ Some (grammar_symbol.Class c)))
   all_sound [] m c h = inl h
   all_sound (j ∷ k) m c h =
       ⊎_elim
@@ -103,10 +103,10 @@ module _ (rules : List Rule) (stmt classes : ℕ) (g : IsGrammar rules stmt clas
       (λ b. inr (b.0, inr b.1, b.2))
       (all_sound k (marked_before (next rules stmt j) m) c h)
     where
-      by : (o : Option Sym) → next rules stmt j ≡ o → Marked (marked_before o m) c → Marked m c ⊎ ((i : Item) × In i (j ∷ k) × (next rules stmt i ≡ Some (symbol.Class c)))
+      by : (o : Option Sym) → next rules stmt j ≡ o → Marked (marked_before o m) c → Marked m c ⊎ ((i : Item) × In i (j ∷ k) × (next rules stmt i ≡ Some (grammar_symbol.Class c)))
       by None e a = inl a
-      by (Some (symbol.Tok t)) e a = inl a
-      by (Some (symbol.Class d)) e a = ⊎_elim (λ s. inr (j, inl refl, e ∙ ap (λ x. Some (symbol.Class x)) (sym s))) (λ b. inl b) (marked_set m d c a)
+      by (Some (grammar_symbol.Tok t)) e a = inl a
+      by (Some (grammar_symbol.Class d)) e a = ⊎_elim (λ s. inr (j, inl refl, e ∙ ap (λ x. Some (grammar_symbol.Class x)) (sym s))) (λ b. inl b) (marked_set m d c a)
 
   -- the opened items
   opened_there : (rs : List Rule) (m : List Bool) (k n : ℕ) (r : Rule) → slice_get rs n ≡ Some r → Marked m r.left → In (fresh (k + n)) (opened_from k rs m)
@@ -153,7 +153,7 @@ module _ (rules : List Rule) (stmt classes : ℕ) (g : IsGrammar rules stmt clas
   length-empty = length-replicate classes false
 
   -- an item of the item set before a class has it opened
-  pub opens_next : (k : List Item) (i : Item) (c : ℕ) → In i (item_set rules stmt classes (chains rules) k) → next rules stmt i ≡ Some (symbol.Class c)
+  pub opens_next : (k : List Item) (i : Item) (c : ℕ) → In i (item_set rules stmt classes (chains rules) k) → next rules stmt i ≡ Some (grammar_symbol.Class c)
       → Marked (open_classes rules stmt classes (chains rules) k) c
   unfolding item_set
   opens_next k i c at e =
@@ -164,7 +164,7 @@ module _ (rules : List Rule) (stmt classes : ℕ) (g : IsGrammar rules stmt clas
       (λ a. let o : Opened rules (rounds classes (chains rules) first) 0 i = opened_only rules (rounds classes (chains rules) first) 0 i a in
       let r : Rule = o.rule in
       let same : i ≡ fresh o.place = o.is ∙ ap fresh (let z : 0 + o.place ≡ o.place = omega arith in z) in
-      let is : slice_get r.right 0 ≡ Some (symbol.Class c) = ap (λ x. slice_get (right_at x) 0) (sym o.there) ∙ (ap (next rules stmt) (sym same) ∙ e) in
+      let is : slice_get r.right 0 ≡ Some (grammar_symbol.Class c) = ap (λ x. slice_get (right_at x) 0) (sym o.there) ∙ (ap (next rules stmt) (sym same) ∙ e) in
       let edge : Edge = record { from = r.left; to = c } in
       let there : In edge (chains rules) = In-filter_map first_edge r edge rules (slice_get-In r rules o.place o.there) (ap (edge_to r.left) is) in
       rounds_closed classes (chains rules) first len edge there o.marked (next_within i c e))
@@ -211,19 +211,19 @@ module _ (rules : List Rule) (stmt classes : ℕ) (g : IsGrammar rules stmt clas
       (λ x. valid i x)
       (λ x. let o : Opened rules (rounds classes (chains rules) first) 0 i = opened_only rules (rounds classes (chains rules) first) 0 i x in
       let r : Rule = o.rule in
-      let stands : (j : Item) × Items rules stmt a j × (next rules stmt j ≡ Some (symbol.Class r.left)) =
-      rounds_sound (λ (c : ℕ). (j : Item) × Items rules stmt a j × (next rules stmt j ≡ Some (symbol.Class c))) classes (chains rules) first given along r.left o.marked in
+      let stands : (j : Item) × Items rules stmt a j × (next rules stmt j ≡ Some (grammar_symbol.Class r.left)) =
+      rounds_sound (λ (c : ℕ). (j : Item) × Items rules stmt a j × (next rules stmt j ≡ Some (grammar_symbol.Class c))) classes (chains rules) first given along r.left o.marked in
       subst (Items rules stmt a) (sym (o.is ∙ ap fresh (let z : 0 + o.place ≡ o.place = omega arith in z))) (opens stands.1 stands.2 (ap (option_map (λ (q : Rule). q.left)) o.there)))
       (In-cases i k (opened_from 0 rules (rounds classes (chains rules) first)) at)
     where
-      given : (c : ℕ) → Marked (marked_all rules stmt k (replicate classes false)) c → (j : Item) × Items rules stmt a j × (next rules stmt j ≡ Some (symbol.Class c))
+      given : (c : ℕ) → Marked (marked_all rules stmt k (replicate classes false)) c → (j : Item) × Items rules stmt a j × (next rules stmt j ≡ Some (grammar_symbol.Class c))
       given c h = ⊎_elim (λ x. absurd (none_marked classes c x)) (λ x. (x.0, valid x.0 x.1, x.2)) (all_sound k (replicate classes false) c h)
 
-      along : (e : Edge) → In e (chains rules) → ((j : Item) × Items rules stmt a j × (next rules stmt j ≡ Some (symbol.Class e.from))) → (j : Item) × Items rules stmt a j
-          × (next rules stmt j ≡ Some (symbol.Class e.to))
+      along : (e : Edge) → In e (chains rules) → ((j : Item) × Items rules stmt a j × (next rules stmt j ≡ Some (grammar_symbol.Class e.from))) → (j : Item) × Items rules stmt a j
+          × (next rules stmt j ≡ Some (grammar_symbol.Class e.to))
       along e at p =
           let q : (r : Rule) × In r rules × (first_edge r ≡ Some e) = filter_map-In first_edge e rules at in
-          let is : (e.from ≡ q.0.left) × (slice_get q.0.right 0 ≡ Some (symbol.Class e.to)) = edge_is q.0.left (slice_get q.0.right 0) e q.2 in
+          let is : (e.from ≡ q.0.left) × (slice_get q.0.right 0 ≡ Some (grammar_symbol.Class e.to)) = edge_is q.0.left (slice_get q.0.right 0) e q.2 in
           let n : (k : ℕ) × (slice_get rules k ≡ Some q.0) = In-slice_get q.0 rules q.1 in
           (fresh n.0, opens p.1 p.2 (ap (option_map (λ (x : Rule). x.left)) n.1 ∙ ap Some (sym is.0)), ap (λ x. slice_get (right_at x) 0) n.1 ∙ is.1)
 

@@ -9,7 +9,7 @@ use Rattle.tree_core.specs.declared.token.Tok.{Tok}
 use Rattle.tree_core.specs.declared.token.Tok.TheVariants as tok
 use Rattle.md_reader.specs.declared.types.Rule.{Rule}
 use Rattle.md_reader.specs.declared.types.Sym.{Sym}
-use Rattle.md_reader.specs.declared.types.Sym.TheVariants as symbol
+use Rattle.md_reader.specs.declared.types.Sym.TheVariants as grammar_symbol
 use Rattle.lr_tables.specs.declared.marks.Edge.{Edge}
 use Rattle.lr_tables.specs.Symbols.{number}
 use Rattle.lr_tables.specs.Follow.{Starts, itself, by_rule, Follow, at_end, within, behind}
@@ -25,19 +25,19 @@ use Rattle.lr_tables.proofs.Closing.{none_marked, edge_is}
 Some-same : {X : Type 0} (x y : X) → Some x ≡ Some y → x ≡ y
 Some-same x y e = cc
 
-from_is : (to : ℕ) (o : Option Sym) (e : Edge) → code.edge_from to o ≡ Some e → (e.to ≡ to) × (o ≡ Some (symbol.Class e.from))
+from_is : (to : ℕ) (o : Option Sym) (e : Edge) → code.edge_from to o ≡ Some e → (e.to ≡ to) × (o ≡ Some (grammar_symbol.Class e.from))
 from_is to None e h = cc
-from_is to (Some (symbol.Tok t)) e h = cc
-from_is to (Some (symbol.Class c)) e h =
+from_is to (Some (grammar_symbol.Tok t)) e h = cc
+from_is to (Some (grammar_symbol.Class c)) e h =
     let same : record { from = c; to = to } ≡ e = Some-same _ _ h in
-    (sym (ap (λ (x : Edge). x.to) same), ap (λ (x : Edge). Some (symbol.Class x.from)) same)
+    (sym (ap (λ (x : Edge). x.to) same), ap (λ (x : Edge). Some (grammar_symbol.Class x.from)) same)
 
-token_is : (k : Tok) (o : Option Sym) → code.is_token (number k) o ≡ true → o ≡ Some (symbol.Tok k)
+token_is : (k : Tok) (o : Option Sym) → code.is_token (number k) o ≡ true → o ≡ Some (grammar_symbol.Tok k)
 token_is k None h = cc
-token_is k (Some (symbol.Tok u)) h = ap (λ x. Some (symbol.Tok x)) (number_same u k (eqb-true (number u) (number k) h))
-token_is k (Some (symbol.Class c)) h = cc
+token_is k (Some (grammar_symbol.Tok u)) h = ap (λ x. Some (grammar_symbol.Tok x)) (number_same u k (eqb-true (number u) (number k) h))
+token_is k (Some (grammar_symbol.Class c)) h = cc
 
-is_token_itself : (k : Tok) → code.is_token (number k) (Some (symbol.Tok k)) ≡ true
+is_token_itself : (k : Tok) → code.is_token (number k) (Some (grammar_symbol.Tok k)) ≡ true
 is_token_itself k = eq-eqb (number k) (number k) refl
 
 -- a set with or without one more
@@ -66,7 +66,7 @@ module _ (k : Tok) where
   length-begun [] m = refl
   length-begun (r ∷ rs) m = length-begun rs (cond (code.is_token (number k) (slice_get r.right 0)) (set m r.left true) m) ∙ length-if (code.is_token (number k) (slice_get r.right 0)) m r.left
 
-  begun_there : (rs : List Rule) (m : List Bool) (r : Rule) → In r rs → r.left < length m → slice_get r.right 0 ≡ Some (symbol.Tok k) → Marked (code.begun (number k) rs m) r.left
+  begun_there : (rs : List Rule) (m : List Bool) (r : Rule) → In r rs → r.left < length m → slice_get r.right 0 ≡ Some (grammar_symbol.Tok k) → Marked (code.begun (number k) rs m) r.left
   begun_there [] m r at lt e = absurd at
   begun_there (q ∷ rs) m r at lt e =
       ⊎_elim
@@ -77,7 +77,8 @@ module _ (k : Tok) where
       (subst (λ n. r.left < n) (sym (length-if (code.is_token (number k) (slice_get q.right 0)) m q.left)) lt) e)
       at
 
-  begun_only : (rs : List Rule) (m : List Bool) (c : ℕ) → Marked (code.begun (number k) rs m) c → Marked m c ⊎ ((r : Rule) × In r rs × (r.left ≡ c) × (slice_get r.right 0 ≡ Some (symbol.Tok k)))
+  begun_only : (rs : List Rule) (m : List Bool) (c : ℕ) → Marked (code.begun (number k) rs m) c
+      → Marked m c ⊎ ((r : Rule) × In r rs × (r.left ≡ c) × (slice_get r.right 0 ≡ Some (grammar_symbol.Tok k)))
   begun_only [] m c h = inl h
   begun_only (q ∷ rs) m c h =
       ⊎_elim
@@ -99,35 +100,35 @@ module _ (rules : List Rule) (stmt classes : ℕ) (g : IsGrammar rules stmt clas
   first_marks = code.begun (number k) rules (replicate classes false)
 
   -- a class that is marked may begin with the token
-  pub begins_sound : (c : ℕ) → Marked (code.begins rules classes (number k)) c → Starts rules (symbol.Class c) k
+  pub begins_sound : (c : ℕ) → Marked (code.begins rules classes (number k)) c → Starts rules (grammar_symbol.Class c) k
   unfolding code.begins
-  begins_sound c h = rounds_sound (λ (d : ℕ). Starts rules (symbol.Class d) k) classes (code.begin_edges rules) (code.begun (number k) rules (replicate classes false)) given along c h
+  begins_sound c h = rounds_sound (λ (d : ℕ). Starts rules (grammar_symbol.Class d) k) classes (code.begin_edges rules) (code.begun (number k) rules (replicate classes false)) given along c h
     where
-      given : (d : ℕ) → Marked (code.begun (number k) rules (replicate classes false)) d → Starts rules (symbol.Class d) k
+      given : (d : ℕ) → Marked (code.begun (number k) rules (replicate classes false)) d → Starts rules (grammar_symbol.Class d) k
       given d h = ⊎_elim
           (λ x. absurd (none_marked classes d x))
           (λ x. let n : (i : ℕ) × (slice_get rules i ≡ Some x.0) = In-slice_get x.0 rules x.1 in by_rule n.0 x.0 n.1 x.2 x.3 itself)
           (begun_only k rules (replicate classes false) d h)
 
-      along : (e : Edge) → In e (code.begin_edges rules) → Starts rules (symbol.Class e.from) k → Starts rules (symbol.Class e.to) k
+      along : (e : Edge) → In e (code.begin_edges rules) → Starts rules (grammar_symbol.Class e.from) k → Starts rules (grammar_symbol.Class e.to) k
       along e at s =
           let q : (r : Rule) × In r rules × (code.begin_edge r ≡ Some e) = filter_map-In code.begin_edge e rules at in
-          let is : (e.to ≡ q.0.left) × (slice_get q.0.right 0 ≡ Some (symbol.Class e.from)) = from_is q.0.left (slice_get q.0.right 0) e q.2 in
+          let is : (e.to ≡ q.0.left) × (slice_get q.0.right 0 ≡ Some (grammar_symbol.Class e.from)) = from_is q.0.left (slice_get q.0.right 0) e q.2 in
           let n : (i : ℕ) × (slice_get rules i ≡ Some q.0) = In-slice_get q.0 rules q.1 in
           by_rule n.0 q.0 n.1 (sym is.0) is.1 s
 
-  pub begins_complete : {X : Sym} {t : Tok} → Starts rules X t → t ≡ k → (c : ℕ) → X ≡ symbol.Class c → Marked (code.begins rules classes (number k)) c
+  pub begins_complete : {X : Sym} {t : Tok} → Starts rules X t → t ≡ k → (c : ℕ) → X ≡ grammar_symbol.Class c → Marked (code.begins rules classes (number k)) c
   unfolding code.begins
   begins_complete (itself {t = t}) same c e = absurd (unlike e)
     where
-      unlike : symbol.Tok t ≡ symbol.Class c → ⊥
+      unlike : grammar_symbol.Tok t ≡ grammar_symbol.Class c → ⊥
       unlike e = cc
   begins_complete (by_rule {c = d} {t = t} {X = X} n r there left first s) same c e = by X first (λ b f. begins_complete s same b f) (tok_case s)
     where
       is : r.left ≡ c
       is = left ∙ class_same d c e
         where
-          class_same : (a b : ℕ) → symbol.Class a ≡ symbol.Class b → a ≡ b
+          class_same : (a b : ℕ) → grammar_symbol.Class a ≡ grammar_symbol.Class b → a ≡ b
           class_same a b e = cc
 
       len : length (code.begun (number k) rules (replicate classes false)) ≡ classes
@@ -139,19 +140,19 @@ module _ (rules : List Rule) (stmt classes : ℕ) (g : IsGrammar rules stmt clas
       lt : r.left < classes
       lt = left_within r at
 
-      tok_case : {Y : Sym} {u : Tok} → Starts rules Y u → (v : Tok) → Y ≡ symbol.Tok v → u ≡ v
+      tok_case : {Y : Sym} {u : Tok} → Starts rules Y u → (v : Tok) → Y ≡ grammar_symbol.Tok v → u ≡ v
       tok_case (itself {t = u}) v e = cc
       tok_case (by_rule {c = d} n r there left first s) v e = cc
 
-      by : (Y : Sym) → slice_get r.right 0 ≡ Some Y → ((b : ℕ) → Y ≡ symbol.Class b
-          → Marked (rounds classes (code.begin_edges rules) (code.begun (number k) rules (replicate classes false))) b) → ((v : Tok) → Y ≡ symbol.Tok v → t ≡ v)
+      by : (Y : Sym) → slice_get r.right 0 ≡ Some Y → ((b : ℕ) → Y ≡ grammar_symbol.Class b
+          → Marked (rounds classes (code.begin_edges rules) (code.begun (number k) rules (replicate classes false))) b) → ((v : Tok) → Y ≡ grammar_symbol.Tok v → t ≡ v)
           → Marked (rounds classes (code.begin_edges rules) (code.begun (number k) rules (replicate classes false))) c
-      by (symbol.Tok v) first ih tk =
+      by (grammar_symbol.Tok v) first ih tk =
           let vk : v ≡ k = sym (tk v refl) ∙ same in
           rounds_kept classes (code.begin_edges rules) (code.begun (number k) rules (replicate classes false)) c
           (subst (Marked (code.begun (number k) rules (replicate classes false))) is
-          (begun_there k rules (replicate classes false) r at (subst (λ x. r.left < x) (sym length-empty) lt) (first ∙ ap (λ x. Some (symbol.Tok x)) vk)))
-      by (symbol.Class b) first ih tk =
+          (begun_there k rules (replicate classes false) r at (subst (λ x. r.left < x) (sym length-empty) lt) (first ∙ ap (λ x. Some (grammar_symbol.Tok x)) vk)))
+      by (grammar_symbol.Class b) first ih tk =
           let edge : Edge = record { from = b; to = r.left } in
           let there' : In edge (code.begin_edges rules) = In-filter_map code.begin_edge r edge rules at (ap (code.edge_from r.left) first) in
           subst (Marked (rounds classes (code.begin_edges rules) (code.begun (number k) rules (replicate classes false)))) is
@@ -159,16 +160,16 @@ module _ (rules : List Rule) (stmt classes : ℕ) (g : IsGrammar rules stmt clas
 
   -- the symbol may begin with the token
   may_sound : (X : Sym) → code.may_begin (number k) (code.begins rules classes (number k)) X ≡ true → Starts rules X k
-  may_sound (symbol.Tok u) h = subst (λ x. Starts rules (symbol.Tok x) k) (sym (number_same u k (eqb-true (number u) (number k) h))) itself
-  may_sound (symbol.Class c) h = begins_sound c h
+  may_sound (grammar_symbol.Tok u) h = subst (λ x. Starts rules (grammar_symbol.Tok x) k) (sym (number_same u k (eqb-true (number u) (number k) h))) itself
+  may_sound (grammar_symbol.Class c) h = begins_sound c h
 
   may_complete : (X : Sym) → Starts rules X k → code.may_begin (number k) (code.begins rules classes (number k)) X ≡ true
-  may_complete (symbol.Tok u) s = by s refl
+  may_complete (grammar_symbol.Tok u) s = by s refl
     where
-      by : {Y : Sym} {t : Tok} → Starts rules Y t → Y ≡ symbol.Tok u → (number u == number t) ≡ true
+      by : {Y : Sym} {t : Tok} → Starts rules Y t → Y ≡ grammar_symbol.Tok u → (number u == number t) ≡ true
       by (itself {t = t}) e = let same : t ≡ u = cc in eq-eqb (number u) (number t) (ap number (sym same))
       by (by_rule {c = d} n r there left first s) e = cc
-  may_complete (symbol.Class c) s = begins_complete s refl c refl
+  may_complete (grammar_symbol.Class c) s = begins_complete s refl c refl
 
 -- a symbol before the list, if there is one
 lead : Option Sym → List Sym → List Sym
@@ -180,7 +181,7 @@ module _ (t : ℕ) (firsts : List Bool) where
   record Adjacent (w : List Sym) (c : ℕ) : Type 0 where
     at : ℕ
     after : Sym
-    here : slice_get w at ≡ Some (symbol.Class c)
+    here : slice_get w at ≡ Some (grammar_symbol.Class c)
     next : slice_get w (suc at) ≡ Some after
     may : code.may_begin t firsts after ≡ true
 
@@ -189,14 +190,14 @@ module _ (t : ℕ) (firsts : List Bool) where
 
   mark_kept : (b : Bool) (o : Option Sym) (m : List Bool) (c : ℕ) → Marked m c → Marked (code.marked_if b o m) c
   mark_kept true None m c h = h
-  mark_kept true (Some (symbol.Tok u)) m c h = h
-  mark_kept true (Some (symbol.Class d)) m c h = marked_kept m d c h
+  mark_kept true (Some (grammar_symbol.Tok u)) m c h = h
+  mark_kept true (Some (grammar_symbol.Class d)) m c h = marked_kept m d c h
   mark_kept false o m c h = h
 
   length-mark : (b : Bool) (o : Option Sym) (m : List Bool) → length (code.marked_if b o m) ≡ length m
   length-mark true None m = refl
-  length-mark true (Some (symbol.Tok u)) m = refl
-  length-mark true (Some (symbol.Class d)) m = length-set m d true
+  length-mark true (Some (grammar_symbol.Tok u)) m = refl
+  length-mark true (Some (grammar_symbol.Class d)) m = length-set m d true
   length-mark false o m = refl
 
   within_kept : (w : List Sym) (o : Option Sym) (m : List Bool) (c : ℕ) → Marked m c → Marked (code.within t firsts o w m) c
@@ -222,23 +223,24 @@ module _ (t : ℕ) (firsts : List Bool) where
 
       first : (b : Bool) → code.may_begin t firsts X ≡ b → (o : Option Sym) → Marked (code.marked_if b o m) c → Marked m c ⊎ Adjacent (lead o (X ∷ w)) c
       first true e None a = inl a
-      first true e (Some (symbol.Tok u)) a = inl a
-      first true e (Some (symbol.Class d)) a = ⊎_elim (λ s. inr (record { at = 0; after = X; here = ap (λ x. Some (symbol.Class x)) (sym s); next = refl; may = e })) (λ x. inl x) (marked_set m d c a)
+      first true e (Some (grammar_symbol.Tok u)) a = inl a
+      first true e (Some (grammar_symbol.Class d)) a = ⊎_elim (λ s. inr (record { at = 0; after = X; here = ap (λ x. Some (grammar_symbol.Class x)) (sym s); next = refl; may = e }))
+          (λ x. inl x) (marked_set m d c a)
       first false e o a = inl a
 
   nothing : (k : ℕ) (X : Sym) → slice_get [] k ≡ Some X → ⊥
   nothing zero X e = cc
   nothing (suc k) X e = cc
 
-  within_there : (w : List Sym) (o : Option Sym) (m : List Bool) (c j : ℕ) (X : Sym) → slice_get (lead o w) j ≡ Some (symbol.Class c) → slice_get (lead o w) (suc j) ≡ Some X
+  within_there : (w : List Sym) (o : Option Sym) (m : List Bool) (c j : ℕ) (X : Sym) → slice_get (lead o w) j ≡ Some (grammar_symbol.Class c) → slice_get (lead o w) (suc j) ≡ Some X
       → code.may_begin t firsts X ≡ true → c < length m → Marked (code.within t firsts o w m) c
   unfolding lead
-  within_there [] None m c j X e f h lt = absurd (nothing j (symbol.Class c) e)
+  within_there [] None m c j X e f h lt = absurd (nothing j (grammar_symbol.Class c) e)
   within_there [] (Some Y) m c j X e f h lt = absurd (nothing j X f)
   within_there (Z ∷ w) None m c j X e f h lt =
       within_there w (Some Z) (code.marked_if (code.may_begin t firsts Z) None m) c j X e f h (subst (λ n. c < n) (sym (length-mark (code.may_begin t firsts Z) None m)) lt)
   within_there (Z ∷ w) (Some Y) m c zero X e f h lt =
-      let y : Y ≡ symbol.Class c = Some-same Y (symbol.Class c) e in
+      let y : Y ≡ grammar_symbol.Class c = Some-same Y (grammar_symbol.Class c) e in
       let z : Z ≡ X = Some-same Z X f in
       within_kept w (Some Z) (code.marked_if (code.may_begin t firsts Z) (Some Y) m) c
       (subst (λ (b : Bool). Marked (code.marked_if b (Some Y) m) c) (sym (ap (code.may_begin t firsts) z ∙ h))
@@ -266,7 +268,7 @@ module _ (t : ℕ) (firsts : List Bool) where
       from : Adjacent (lead None r.right) c → Adjacent r.right c
       from a = a
 
-  all_there : (rs : List Rule) (m : List Bool) (r : Rule) (c j : ℕ) (X : Sym) → In r rs → slice_get r.right j ≡ Some (symbol.Class c) → slice_get r.right (suc j) ≡ Some X
+  all_there : (rs : List Rule) (m : List Bool) (r : Rule) (c j : ℕ) (X : Sym) → In r rs → slice_get r.right j ≡ Some (grammar_symbol.Class c) → slice_get r.right (suc j) ≡ Some X
       → code.may_begin t firsts X ≡ true → c < length m → Marked (code.all_within t firsts rs m) c
   unfolding lead
   all_there [] m r c j X at e f h lt = absurd at
@@ -308,9 +310,9 @@ module _ (rules : List Rule) (stmt classes : ℕ) (g : IsGrammar rules stmt clas
       along : (e : Edge) → In e (code.end_edges rules) → Follow rules stmt e.from k → Follow rules stmt e.to k
       along e at f =
           let q : (r : Rule) × In r rules × (code.end_edge r ≡ Some e) = filter_map-In code.end_edge e rules at in
-          let is : (e.from ≡ q.0.left) × (slice_get q.0.right (length q.0.right - 1) ≡ Some (symbol.Class e.to)) = edge_is q.0.left (slice_get q.0.right (length q.0.right - 1)) e q.2 in
+          let is : (e.from ≡ q.0.left) × (slice_get q.0.right (length q.0.right - 1) ≡ Some (grammar_symbol.Class e.to)) = edge_is q.0.left (slice_get q.0.right (length q.0.right - 1)) e q.2 in
           let n : (i : ℕ) × (slice_get rules i ≡ Some q.0) = In-slice_get q.0 rules q.1 in
-          let some : length q.0.right - 1 < length q.0.right = slice_get_within q.0.right (length q.0.right - 1) (symbol.Class e.to) is.1 in
+          let some : length q.0.right - 1 < length q.0.right = slice_get_within q.0.right (length q.0.right - 1) (grammar_symbol.Class e.to) is.1 in
           behind n.0 (length q.0.right - 1) q.0 n.1 is.1 (omega (arith, some)) (sym is.0) f
 
   length-ended : length (code.ended stmt (number k) (replicate classes false)) ≡ classes
@@ -337,7 +339,7 @@ module _ (rules : List Rule) (stmt classes : ℕ) (g : IsGrammar rules stmt clas
       let firsts = code.begins rules classes (number k) in
       let len : length (code.all_within (number k) firsts rules m) ≡ classes = length-all (number k) firsts rules m ∙ length-ended in
       let edge : Edge = record { from = r.left; to = c } in
-      let is : slice_get r.right (length r.right - 1) ≡ Some (symbol.Class c) = ap (slice_get r.right) (let z : length r.right - 1 ≡ j = omega (arith, last) in z) ∙ here in
+      let is : slice_get r.right (length r.right - 1) ≡ Some (grammar_symbol.Class c) = ap (slice_get r.right) (let z : length r.right - 1 ≡ j = omega (arith, last) in z) ∙ here in
       let there' : In edge (code.end_edges rules) = In-filter_map code.end_edge r edge rules (slice_get-In r rules n there) (ap (edge_to r.left) is) in
       rounds_closed classes (code.end_edges rules) (code.all_within (number k) firsts rules m) len edge there'
       (subst (Marked (rounds classes (code.end_edges rules) (code.all_within (number k) firsts rules m))) (sym left) (follow_complete f e))

@@ -10,7 +10,7 @@ use Rattle.std.proofs.lemmas.Option.{slice_get_within, slice_get_past, slice_get
 use Rattle.std.proofs.lemmas.List.{get_or_append_left}
 use Rattle.md_reader.specs.declared.types.Rule.{Rule}
 use Rattle.md_reader.specs.declared.types.Sym.{Sym}
-use Rattle.md_reader.specs.declared.types.Sym.TheVariants as symbol
+use Rattle.md_reader.specs.declared.types.Sym.TheVariants as grammar_symbol
 use Rattle.lr_tables.specs.declared.item.Item.{Item}
 use Rattle.lr_tables.specs.Symbols.{number, symbol_number}
 use Rattle.lr_tables.specs.Items.{next, start, advanced}
@@ -289,8 +289,8 @@ module _ (rules : List Rule) (stmt classes : ℕ) (g : IsGrammar rules stmt clas
       (cases_lt q (suc m))
 
   pub symbol_within : (i : Item) (X : Sym) → next rules stmt i ≡ Some X → symbol_number X < 40 + classes
-  symbol_within i (symbol.Tok t) e = let lt = number-below t in omega (arith, lt)
-  symbol_within i (symbol.Class c) e = let lt = next_within rules stmt classes g i c e in omega (arith, lt)
+  symbol_within i (grammar_symbol.Tok t) e = let lt = number-below t in omega (arith, lt)
+  symbol_within i (grammar_symbol.Class c) e = let lt = next_within rules stmt classes g i c e in omega (arith, lt)
 
   -- each stack that leads to items leads to a kernel of the list
   pub found_complete : (n : ℕ) → length (found rules stmt classes n) ≤ n → (a : List Sym) → 0 < length (kernel_at rules stmt classes a)

@@ -12,7 +12,7 @@ use Rattle.tree_core.specs.declared.token.Tok.{Tok}
 use Rattle.tree_core.specs.declared.token.Tok.TheVariants as tok
 use Rattle.md_reader.specs.declared.types.Rule.{Rule}
 use Rattle.md_reader.specs.declared.types.Sym.{Sym}
-use Rattle.md_reader.specs.declared.types.Sym.TheVariants as symbol
+use Rattle.md_reader.specs.declared.types.Sym.TheVariants as grammar_symbol
 use Rattle.md_reader.specs.State.{Content}
 use Rattle.lr_tables.specs.declared.item.Item.{Item}
 use Rattle.lr_tables.specs.declared.types.Choice.{Choice}
@@ -224,12 +224,12 @@ module _ (rules : List Rule) (stmt classes : ℕ) (g : IsGrammar rules stmt clas
       record { item = m.0; valid = set_valid rules stmt classes g a m.0 m.1; before = m.2 }
 
   pub goes : (a : List Sym) (q c : ℕ) → Leads (record { content = content; rows = rows }) a q
-      → Goes rules stmt (record { content = content; rows = rows }) a c (target_at (record { content = content; rows = rows }) q (symbol.Class c))
-  goes a q c l = by (target_at (record { content = content; rows = rows }) q (symbol.Class c)) refl
+      → Goes rules stmt (record { content = content; rows = rows }) a c (target_at (record { content = content; rows = rows }) q (grammar_symbol.Class c))
+  goes a q c l = by (target_at (record { content = content; rows = rows }) q (grammar_symbol.Class c)) refl
     where
-      by : (o : Option ℕ) → target_at (record { content = content; rows = rows }) q (symbol.Class c) ≡ o → Goes rules stmt (record { content = content; rows = rows }) a c o
-      by None e = λ s. let p : (n : ℕ) × (target_at (record { content = content; rows = rows }) q (symbol.Class c) ≡ Some n) = leads_on a q (symbol.Class c) l s in none_some p.0 (sym e ∙ p.1)
-      by (Some p) e = (stands_from a q p (symbol.Class c) l e, further l e)
+      by : (o : Option ℕ) → target_at (record { content = content; rows = rows }) q (grammar_symbol.Class c) ≡ o → Goes rules stmt (record { content = content; rows = rows }) a c o
+      by None e = λ s. let p : (n : ℕ) × (target_at (record { content = content; rows = rows }) q (grammar_symbol.Class c) ≡ Some n) = leads_on a q (grammar_symbol.Class c) l s in none_some p.0 (sym e ∙ p.1)
+      by (Some p) e = (stands_from a q p (grammar_symbol.Class c) l e, further l e)
 
   -- the cell of a kernel's row at a token
   cell_is : (k : List Item) (t : Tok) → get_or (row_of rules stmt classes (found rules stmt classes (length rows)) k).actions (number t) []
@@ -280,7 +280,8 @@ module _ (rules : List Rule) (stmt classes : ℕ) (g : IsGrammar rules stmt clas
 
   pub candidates : (a : List Sym) (q : ℕ) (t : Tok) → Leads (record { content = content; rows = rows }) a q
       → Candidates rules stmt (record { content = content; rows = rows }) a t (actions_at (record { content = content; rows = rows }) q t)
-  candidates a q t l = subst (Candidates rules stmt (record { content = content; rows = rows }) a t) (sym whole) (by (target_at (record { content = content; rows = rows }) q (symbol.Tok t)) refl)
+  candidates a q t l = subst (Candidates rules stmt (record { content = content; rows = rows }) a t) (sym whole)
+      (by (target_at (record { content = content; rows = rows }) q (grammar_symbol.Tok t)) refl)
     where
       others : List Choice
       others = reductions rules (follows rules stmt classes (number t)) (kernel_at rules stmt classes a)
@@ -289,18 +290,18 @@ module _ (rules : List Rule) (stmt classes : ℕ) (g : IsGrammar rules stmt clas
       row_here = row_at q (kernel_at rules stmt classes a) (leads_kernel l)
 
       whole : actions_at (record { content = content; rows = rows }) q t
-          ≡ cell (number t) (target_at (record { content = content; rows = rows }) q (symbol.Tok t)) (reductions rules (follows rules stmt classes (number t)) (kernel_at rules stmt classes a))
+          ≡ cell (number t) (target_at (record { content = content; rows = rows }) q (grammar_symbol.Tok t)) (reductions rules (follows rules stmt classes (number t)) (kernel_at rules stmt classes a))
       whole =
           ap (λ (o : Option RowView). actions_in o (number t)) row_here
           ∙ (cell_is (kernel_at rules stmt classes a) t
           ∙ ap (λ (o : Option RowView). cell (number t) (target_in o (number t)) (reductions rules (follows rules stmt classes (number t)) (kernel_at rules stmt classes a))) (sym row_here))
 
-      shift_case : (p : ℕ) (e : target_at (record { content = content; rows = rows }) q (symbol.Tok t) ≡ Some p) (c : Bool) → (number t == 39) ≡ c
+      shift_case : (p : ℕ) (e : target_at (record { content = content; rows = rows }) q (grammar_symbol.Tok t) ≡ Some p) (c : Bool) → (number t == 39) ≡ c
           → Candidates rules stmt (record { content = content; rows = rows }) a t (cond c (choice.Accept ∷ []) (choice.Shift p ∷ []))
-      shift_case p e true f = accepts (stands_from a q p (symbol.Tok t) l e) (number_same t tok.End (eqb-true (number t) 39 f))
-      shift_case p e false f = shifts (stands_from a q p (symbol.Tok t) l e) (λ s. eqb-false (number t) 39 f (ap number s)) (further l e)
+      shift_case p e true f = accepts (stands_from a q p (grammar_symbol.Tok t) l e) (number_same t tok.End (eqb-true (number t) 39 f))
+      shift_case p e false f = shifts (stands_from a q p (grammar_symbol.Tok t) l e) (λ s. eqb-false (number t) 39 f (ap number s)) (further l e)
 
-      by : (o : Option ℕ) → target_at (record { content = content; rows = rows }) q (symbol.Tok t) ≡ o
+      by : (o : Option ℕ) → target_at (record { content = content; rows = rows }) q (grammar_symbol.Tok t) ≡ o
           → Candidates rules stmt (record { content = content; rows = rows }) a t (cell (number t) o (reductions rules (follows rules stmt classes (number t)) (kernel_at rules stmt classes a)))
-      by None e = reduces (rules_of rules (follows rules stmt classes (number t)) (kernel_at rules stmt classes a)) (λ s. let p : (n : ℕ) × (target_at (record { content = content; rows = rows }) q (symbol.Tok t) ≡ Some n) = leads_on a q (symbol.Tok t) l s in none_some p.0 (sym e ∙ p.1)) (are_reductions a t) (reductions_are rules (follows rules stmt classes (number t)) (kernel_at rules stmt classes a))
+      by None e = reduces (rules_of rules (follows rules stmt classes (number t)) (kernel_at rules stmt classes a)) (λ s. let p : (n : ℕ) × (target_at (record { content = content; rows = rows }) q (grammar_symbol.Tok t) ≡ Some n) = leads_on a q (grammar_symbol.Tok t) l s in none_some p.0 (sym e ∙ p.1)) (are_reductions a t) (reductions_are rules (follows rules stmt classes (number t)) (kernel_at rules stmt classes a))
       by (Some p) e = shift_case p e (number t == 39) refl

@@ -3,7 +3,7 @@ use Rattle.std.proofs.Common.{◌≡◌, ◌⊎◌, ℕ, ◌+◌, ◌<◌, List,
 use Rattle.tree_core.specs.declared.token.Tok.{Tok}
 use Rattle.tree_core.specs.declared.token.Tok.TheVariants as tok
 use Rattle.md_reader.specs.declared.types.Sym.{Sym}
-use Rattle.md_reader.specs.declared.types.Sym.TheVariants as symbol
+use Rattle.md_reader.specs.declared.types.Sym.TheVariants as grammar_symbol
 use Rattle.lr_tables.specs.Symbols.{number, symbol_number}
 
 -- the tokens in table order
@@ -104,7 +104,7 @@ pub number_same : (t u : Tok) → number t ≡ number u → t ≡ u
 number_same t u e = Some-same t u (sym (token_at t) ∙ ap (slice_get all_tokens) e ∙ token_at u)
 
 pub symbol_number_same : (X Y : Sym) → symbol_number X ≡ symbol_number Y → X ≡ Y
-symbol_number_same (symbol.Tok t) (symbol.Tok u) e = ap symbol.Tok (number_same t u e)
-symbol_number_same (symbol.Class c) (symbol.Class d) e = ap symbol.Class (omega (arith, e))
-symbol_number_same (symbol.Tok t) (symbol.Class c) e = let lt = number-below t in absurd (omega (arith, e, lt))
-symbol_number_same (symbol.Class c) (symbol.Tok t) e = let lt = number-below t in absurd (omega (arith, e, lt))
+symbol_number_same (grammar_symbol.Tok t) (grammar_symbol.Tok u) e = ap grammar_symbol.Tok (number_same t u e)
+symbol_number_same (grammar_symbol.Class c) (grammar_symbol.Class d) e = ap grammar_symbol.Class (omega (arith, e))
+symbol_number_same (grammar_symbol.Tok t) (grammar_symbol.Class c) e = let lt = number-below t in absurd (omega (arith, e, lt))
+symbol_number_same (grammar_symbol.Class c) (grammar_symbol.Tok t) e = let lt = number-below t in absurd (omega (arith, e, lt))

@@ -10,7 +10,7 @@ use Rattle.std.specs.Str.{bytes_eq}
 use Rattle.md_reader.specs.declared.types.Class.{Class}
 use Rattle.md_reader.specs.declared.types.Rule.{Rule}
 use Rattle.md_reader.specs.declared.types.Sym.{Sym}
-use Rattle.md_reader.specs.declared.types.Sym.TheVariants as symbol
+use Rattle.md_reader.specs.declared.types.Sym.TheVariants as grammar_symbol
 use Rattle.md_reader.specs.State.{Content}
 use Rattle.md_reader.specs.Rows.{is_nothing}
 use Rattle.md_reader.specs.Patterns.{sort_of_symbol, sort_of_kind, sort_fits, sorted_test, Trees, no_tree, node, onto}
@@ -30,7 +30,7 @@ rule_at classes (q ∷ rs) zero r h e = let s : q ≡ r = cc in subst (IsRule cl
 rule_at classes (q ∷ rs) (suc n) r h e = rule_at classes rs n r h.1 e
 
 -- a class with a sort is declared
-class_within : (classes : List Class) (c : ℕ) (x : Sort) → sort_of_symbol classes (symbol.Class c) ≡ Some x → c < length classes
+class_within : (classes : List Class) (c : ℕ) (x : Sort) → sort_of_symbol classes (grammar_symbol.Class c) ≡ Some x → c < length classes
 class_within classes c x e = by (slice_get classes c) refl e
   where
     by : (o : Option Class) → slice_get classes c ≡ o → option_map sort_of_kind (option_map (λ (y : Class). y.kind) o) ≡ Some x → c < length classes
@@ -70,8 +70,8 @@ is_grammar d v = record {
   start = (let lt = stmt_within 0 d.classes v.stmt in omega (arith, lt));
   lefts = λ n r e. (let q : IsRule d.classes r = rule_at d.classes d.rules n r v.rules e in class_within d.classes r.left q.sides.sort q.sides.declared);
   some = λ n r e. (let q : IsRule d.classes r = rule_at d.classes d.rules n r v.rules e in subst (λ (w : List Sym). 0 < length w) q.sides.sorted.spelled (tree_some d.classes q.sides.sorted.tree));
-  within = λ n k c r e f. (let s : (x : Sort) × (sort_of_symbol d.classes (symbol.Class c) ≡ Some x) = sorted_at r (rule_at d.classes d.rules n r v.rules e) (symbol.Class c) k f in class_within d.classes c s.0 s.1);
-  no_end = λ n k r e f. (let s : (x : Sort) × (sort_of_symbol d.classes (symbol.Tok tok.End) ≡ Some x) = sorted_at r (rule_at d.classes d.rules n r v.rules e) (symbol.Tok tok.End) k f in none_some s.0 s.1);
+  within = λ n k c r e f. (let s : (x : Sort) × (sort_of_symbol d.classes (grammar_symbol.Class c) ≡ Some x) = sorted_at r (rule_at d.classes d.rules n r v.rules e) (grammar_symbol.Class c) k f in class_within d.classes c s.0 s.1);
+  no_end = λ n k r e f. (let s : (x : Sort) × (sort_of_symbol d.classes (grammar_symbol.Tok tok.End) ≡ Some x) = sorted_at r (rule_at d.classes d.rules n r v.rules e) (grammar_symbol.Tok tok.End) k f in none_some s.0 s.1);
 }
   where
     sorted_at : (r : Rule) → IsRule d.classes r → (s : Sym) (k : ℕ) → slice_get r.right k ≡ Some s → (x : Sort) × (sort_of_symbol d.classes s ≡ Some x)

@@ -4,7 +4,7 @@ use Rattle.tree_core.specs.declared.token.Tok.{Tok}
 use Rattle.tree_core.specs.declared.token.Tok.TheVariants as tok
 use Rattle.md_reader.specs.declared.types.Rule.{Rule}
 use Rattle.md_reader.specs.declared.types.Sym.{Sym}
-use Rattle.md_reader.specs.declared.types.Sym.TheVariants as sym
+use Rattle.md_reader.specs.declared.types.Sym.TheVariants as grammar_symbol
 use Rattle.lr_tables.specs.declared.item.Item.{Item}
 use Rattle.lr_tables.specs.declared.types.Choice.{Choice}
 use Rattle.lr_tables.specs.declared.types.Choice.TheVariants as choice
@@ -40,15 +40,15 @@ pub record AreReductions (rules : List Rule) (stmt : ℕ) (a : List Sym) (t : To
 
 -- the shift alone if there is one, which accepts at `End`; else the reductions
 pub data Candidates (rules : List Rule) (stmt : ℕ) (table : TableView) (a : List Sym) (t : Tok) : List Choice → Type 0 where
-  accepts : StandsBefore rules stmt a (sym.Tok t) → t ≡ tok.End → Candidates rules stmt table a t (choice.Accept ∷ [])
+  accepts : StandsBefore rules stmt a (grammar_symbol.Tok t) → t ≡ tok.End → Candidates rules stmt table a t (choice.Accept ∷ [])
   shifts : {q : ℕ} →
-      StandsBefore rules stmt a (sym.Tok t) → (t ≡ tok.End → ⊥) → Leads table (sym.Tok t ∷ a) q →
+      StandsBefore rules stmt a (grammar_symbol.Tok t) → (t ≡ tok.End → ⊥) → Leads table (grammar_symbol.Tok t ∷ a) q →
       Candidates rules stmt table a t (choice.Shift q ∷ [])
   reduces : {cs : List Choice} (ns : List ℕ) →
-      (StandsBefore rules stmt a (sym.Tok t) → ⊥) → AreReductions rules stmt a t ns → cs ≡ map choice.Reduce ns →
+      (StandsBefore rules stmt a (grammar_symbol.Tok t) → ⊥) → AreReductions rules stmt a t ns → cs ≡ map choice.Reduce ns →
       Candidates rules stmt table a t cs
 
 -- to where a class leads from the stack: nowhere exactly where no item stands before it
 abbrev pub Goes : List Rule → ℕ → TableView → List Sym → ℕ → Option ℕ → Type 0
-Goes rules stmt table a c None = StandsBefore rules stmt a (sym.Class c) → ⊥
-Goes rules stmt table a c (Some p) = StandsBefore rules stmt a (sym.Class c) × Leads table (sym.Class c ∷ a) p
+Goes rules stmt table a c None = StandsBefore rules stmt a (grammar_symbol.Class c) → ⊥
+Goes rules stmt table a c (Some p) = StandsBefore rules stmt a (grammar_symbol.Class c) × Leads table (grammar_symbol.Class c ∷ a) p

@@ -2,7 +2,7 @@
 use Rattle.std.specs.Prelude.{◌≡◌, ℕ, ◌<◌, ◌≤◌, List, Some, length, slice_get}
 use Rattle.tree_core.specs.declared.token.Tok.TheVariants as tok
 use Rattle.md_reader.specs.declared.types.Rule.{Rule}
-use Rattle.md_reader.specs.declared.types.Sym.TheVariants as sym
+use Rattle.md_reader.specs.declared.types.Sym.TheVariants as grammar_symbol
 
 -- right sides have at most 16 symbols
 pub record IsShort (rules : List Rule) : Type 0 where
@@ -16,5 +16,5 @@ pub record IsGrammar (rules : List Rule) (stmt classes : ℕ) : Type 0 where
   pub start : stmt < classes
   pub lefts : (n : ℕ) (r : Rule) → slice_get rules n ≡ Some r → r.left < classes
   pub some : (n : ℕ) (r : Rule) → slice_get rules n ≡ Some r → 0 < length r.right
-  pub within : (n k c : ℕ) (r : Rule) → slice_get rules n ≡ Some r → slice_get r.right k ≡ Some (sym.Class c) → c < classes
-  pub no_end : (n k : ℕ) (r : Rule) → slice_get rules n ≡ Some r → slice_get r.right k ≡ Some (sym.Tok tok.End) → ⊥
+  pub within : (n k c : ℕ) (r : Rule) → slice_get rules n ≡ Some r → slice_get r.right k ≡ Some (grammar_symbol.Class c) → c < classes
+  pub no_end : (n k : ℕ) (r : Rule) → slice_get rules n ≡ Some r → slice_get r.right k ≡ Some (grammar_symbol.Tok tok.End) → ⊥

@@ -4,7 +4,7 @@ use Rattle.std.specs.Option.{option_map}
 use Rattle.tree_core.specs.declared.token.Tok.TheVariants as tok
 use Rattle.md_reader.specs.declared.types.Rule.{Rule}
 use Rattle.md_reader.specs.declared.types.Sym.{Sym}
-use Rattle.md_reader.specs.declared.types.Sym.TheVariants as sym
+use Rattle.md_reader.specs.declared.types.Sym.TheVariants as grammar_symbol
 use Rattle.lr_tables.specs.declared.item.Item.{Item}
 
 abbrev pub right_at : Option Rule → List Sym
@@ -13,7 +13,7 @@ right_at (Some r) = r.right
 
 -- the right side of a rule; no rule is the start, `stmt End`
 abbrev pub right_of : List Rule → ℕ → Option ℕ → List Sym
-right_of rules stmt None = sym.Class stmt ∷ sym.Tok tok.End ∷ []
+right_of rules stmt None = grammar_symbol.Class stmt ∷ grammar_symbol.Tok tok.End ∷ []
 right_of rules stmt (Some n) = right_at (slice_get rules n)
 
 -- the left side of the rule with this number
@@ -40,7 +40,7 @@ pub data Items (rules : List Rule) (stmt : ℕ) : List Sym → Item → Type 0 w
   starts : Items rules stmt [] start
   -- each rule of a class before which a dot stands
   opens : {a : List Sym} {i : Item} {c n : ℕ} →
-      Items rules stmt a i → next rules stmt i ≡ Some (sym.Class c) → left_of rules n ≡ Some c →
+      Items rules stmt a i → next rules stmt i ≡ Some (grammar_symbol.Class c) → left_of rules n ≡ Some c →
       Items rules stmt a (fresh n)
   -- the dot behind the symbol that comes on top
   moves : {a : List Sym} {i j : Item} {X : Sym} →

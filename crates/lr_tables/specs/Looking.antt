@@ -4,7 +4,7 @@ use Rattle.std.specs.Prelude.{slice_index_or, slice_set, replicate, if◌then◌
 use Rattle.std.specs.List.{filter_map}
 use Rattle.md_reader.specs.declared.types.Rule.{Rule}
 use Rattle.md_reader.specs.declared.types.Sym.{Sym}
-use Rattle.md_reader.specs.declared.types.Sym.TheVariants as sym
+use Rattle.md_reader.specs.declared.types.Sym.TheVariants as grammar_symbol
 use Rattle.lr_tables.specs.declared.marks.Edge.{Edge}
 use Rattle.lr_tables.specs.Symbols.{number}
 use Rattle.lr_tables.specs.Marks.{rounds}
@@ -12,8 +12,8 @@ use Rattle.lr_tables.specs.Sets.{edge_to, marked_before}
 
 abbrev pub edge_from : ℕ → Option Sym → Option Edge
 edge_from to None = None
-edge_from to (Some (sym.Tok t)) = None
-edge_from to (Some (sym.Class c)) = Some (record { from = c; to = to })
+edge_from to (Some (grammar_symbol.Tok t)) = None
+edge_from to (Some (grammar_symbol.Class c)) = Some (record { from = c; to = to })
 
 -- from the class that a right side begins with to the rule's class
 abbrev pub begin_edge : Rule → Option Edge
@@ -32,8 +32,8 @@ end_edges rules = filter_map end_edge rules
 -- the symbol is the token with this number
 abbrev pub is_token : ℕ → Option Sym → Bool
 is_token t None = false
-is_token t (Some (sym.Tok u)) = number u == t
-is_token t (Some (sym.Class c)) = false
+is_token t (Some (grammar_symbol.Tok u)) = number u == t
+is_token t (Some (grammar_symbol.Class c)) = false
 
 -- the classes of the rules that begin with the token
 abbrev pub begun : ℕ → List Rule → List Bool → List Bool
@@ -46,8 +46,8 @@ begins rules classes t = rounds classes (begin_edges rules) (begun t rules (repl
 
 -- the symbol may begin with the token
 abbrev pub may_begin : ℕ → List Bool → Sym → Bool
-may_begin t firsts (sym.Tok u) = number u == t
-may_begin t firsts (sym.Class c) = slice_index_or firsts c false
+may_begin t firsts (grammar_symbol.Tok u) = number u == t
+may_begin t firsts (grammar_symbol.Class c) = slice_index_or firsts c false
 
 abbrev pub marked_if : Bool → Option Sym → List Bool → List Bool
 marked_if true s m = marked_before s m

@@ -5,7 +5,7 @@ use Rattle.std.specs.List.{filter_map}
 use Rattle.std.specs.Option.{option_map_or}
 use Rattle.md_reader.specs.declared.types.Rule.{Rule}
 use Rattle.md_reader.specs.declared.types.Sym.{Sym}
-use Rattle.md_reader.specs.declared.types.Sym.TheVariants as sym
+use Rattle.md_reader.specs.declared.types.Sym.TheVariants as grammar_symbol
 use Rattle.lr_tables.specs.declared.item.Item.{Item}
 use Rattle.lr_tables.specs.declared.marks.Edge.{Edge}
 use Rattle.lr_tables.specs.Symbols.{symbol_number}
@@ -14,8 +14,8 @@ use Rattle.lr_tables.specs.Marks.{rounds}
 
 abbrev pub edge_to : ℕ → Option Sym → Option Edge
 edge_to from None = None
-edge_to from (Some (sym.Tok t)) = None
-edge_to from (Some (sym.Class c)) = Some (record { from = from; to = c })
+edge_to from (Some (grammar_symbol.Tok t)) = None
+edge_to from (Some (grammar_symbol.Class c)) = Some (record { from = from; to = c })
 
 -- from a rule's class to the class that its right side begins with
 abbrev pub first_edge : Rule → Option Edge
@@ -27,8 +27,8 @@ chains rules = filter_map first_edge rules
 -- the symbol is marked, if it is a class
 abbrev pub marked_before : Option Sym → List Bool → List Bool
 marked_before None m = m
-marked_before (Some (sym.Tok t)) m = m
-marked_before (Some (sym.Class c)) m = slice_set m c true
+marked_before (Some (grammar_symbol.Tok t)) m = m
+marked_before (Some (grammar_symbol.Class c)) m = slice_set m c true
 
 -- the classes behind the dots are marked
 abbrev pub marked_all : List Rule → ℕ → List Item → List Bool → List Bool

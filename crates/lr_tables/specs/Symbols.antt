@@ -3,7 +3,7 @@ use Rattle.std.specs.Prelude.{ℕ, ◌+◌}
 use Rattle.tree_core.specs.declared.token.Tok.{Tok}
 use Rattle.tree_core.specs.declared.token.Tok.TheVariants as tok
 use Rattle.md_reader.specs.declared.types.Sym.{Sym}
-use Rattle.md_reader.specs.declared.types.Sym.TheVariants as sym
+use Rattle.md_reader.specs.declared.types.Sym.TheVariants as grammar_symbol
 
 abbrev pub number : Tok → ℕ
 number tok.Zero = 0
@@ -48,5 +48,5 @@ number tok.Jump = 38
 number tok.End = 39
 
 abbrev pub symbol_number : Sym → ℕ
-symbol_number (sym.Tok t) = number t
-symbol_number (sym.Class c) = 40 + c
+symbol_number (grammar_symbol.Tok t) = number t
+symbol_number (grammar_symbol.Class c) = 40 + c

@@ -1,6 +1,6 @@
 // The tables of a description.
 ghost use Rattle.std.specs.Prelude.{◌≡◌, length};
-ghost use Rattle.md_reader.specs.declared.types.Sym.TheVariants as sym;
+ghost use Rattle.md_reader.specs.declared.types.Sym.TheVariants as grammar_symbol;
 ghost use Rattle.lr_tables.specs.Statements.{stmt_of};
 ghost use Rattle.lr_tables.specs.Leads.{target_at, actions_at};
 ghost use Rattle.lr_tables.specs.Promises.{AreCandidates, LeadsOn, IsNumbered};
@@ -97,7 +97,7 @@ impl Tables {
 
     /// The state to which a class leads: none exactly where no item of the state stands before it.
     pub fn go(&self, state: State, class: u16) -> Option<State>
-        ensures value { result ≡ target_at self.now state (sym.Class class) }
+        ensures value { result ≡ target_at self.now state (grammar_symbol.Class class) }
         // At each stack that leads to the state an item before the class leads on.
         ensures goes { LeadsOn self.now state class result }
     {

@@ -12,7 +12,7 @@ use Rattle.md_reader_text.specs.Lines.{lines}
 use Rattle.md_reader_text.specs.Words.{same, words}
 use Rattle.md_reader_pieces.specs.declared.piece.Line.{Line}
 use Rattle.gg_base.specs.declared.size.Size.{Size}
-use Rattle.gg_base.specs.declared.size.Size.TheVariants as size
+use Rattle.gg_base.specs.declared.size.Size.TheVariants as sizes
 use Rattle.tree_core.specs.declared.token.Tok.{Tok}
 use Rattle.tree_core.specs.declared.token.Tok.TheVariants as tok
 use Rattle.tree_core.specs.declared.token.Sort.{Sort}
@@ -22,13 +22,13 @@ use Rattle.md_reader.specs.declared.types.Kind.{Kind}
 use Rattle.md_reader.specs.declared.types.Kind.TheVariants as kind
 use Rattle.md_reader.specs.declared.types.Class.{Class}
 use Rattle.md_reader.specs.declared.types.Sym.{Sym}
-use Rattle.md_reader.specs.declared.types.Sym.TheVariants as symbol
+use Rattle.md_reader.specs.declared.types.Sym.TheVariants as grammar_symbol
 use Rattle.md_reader.specs.declared.types.Restriction.{Restriction}
 use Rattle.md_reader.specs.declared.types.Give.{Give}
 use Rattle.md_reader.specs.declared.types.Give.TheVariants as give
 use Rattle.md_reader.specs.declared.types.Rule.{Rule}
 use Rattle.md_reader.specs.declared.faults.DescFault.{DescFault}
-use Rattle.md_reader.specs.declared.faults.DescFault.TheVariants as answer
+use Rattle.md_reader.specs.declared.faults.DescFault.TheVariants as desc_fault
 use Rattle.md_reader.specs.declared.forms.Saved.{Saved}
 use Rattle.md_reader.specs.declared.forms.Saved.TheVariants as saved
 use Rattle.md_reader.specs.declared.reading.Stage.{Stage}
@@ -83,14 +83,14 @@ runs_cons s t f fs d e h = λ n ls c. go n ls c
 
 -- the words of classes
 size_again : (z : Size) → kind_form (codes "Value" ∷ size_word z ∷ []) ≡ Some (kind.Value z)
-size_again size.Byte = refl
-size_again size.Word = refl
-size_again size.Long = refl
+size_again sizes.Byte = refl
+size_again sizes.Word = refl
+size_again sizes.Long = refl
 
 place_again : (z : Size) → kind_form (codes "Place" ∷ size_word z ∷ []) ≡ Some (kind.Place z)
-place_again size.Byte = refl
-place_again size.Word = refl
-place_again size.Long = refl
+place_again sizes.Byte = refl
+place_again sizes.Word = refl
+place_again sizes.Long = refl
 
 kind_again : (k : Kind) → kind_form (kind_words k) ≡ Some k
 kind_again kind.Reg = refl
@@ -131,12 +131,12 @@ classes_run m pre (c ∷ post) fs d h runs =
 
 -- the eight lines
 spill_again : (x : Saved) (ws : List (List ℕ)) → spill_form (saved_words x ++ ws) ≡ Some (x, ws)
-spill_again (saved.Value size.Byte) ws = refl
-spill_again (saved.Value size.Word) ws = refl
-spill_again (saved.Value size.Long) ws = refl
-spill_again (saved.Place size.Byte) ws = refl
-spill_again (saved.Place size.Word) ws = refl
-spill_again (saved.Place size.Long) ws = refl
+spill_again (saved.Value sizes.Byte) ws = refl
+spill_again (saved.Value sizes.Word) ws = refl
+spill_again (saved.Value sizes.Long) ws = refl
+spill_again (saved.Place sizes.Byte) ws = refl
+spill_again (saved.Place sizes.Word) ws = refl
+spill_again (saved.Place sizes.Long) ws = refl
 spill_again saved.Ea [] = refl
 spill_again saved.Ea (w ∷ ws) = refl
 spill_again saved.Reload ws = refl
@@ -324,7 +324,7 @@ named_at [] c h lt = absurd (omega arith)
 named_at (k ∷ cs) zero h lt = h.0
 named_at (k ∷ cs) (suc c) h lt = named_at cs c h.1 (omega arith)
 
-declared : (cs : List Class) (c : ℕ) (y : Sort) → sort_of_symbol cs (symbol.Class c) ≡ Some y → c < length cs
+declared : (cs : List Class) (c : ℕ) (y : Sort) → sort_of_symbol cs (grammar_symbol.Class c) ≡ Some y → c < length cs
 declared cs c y e = at (slice_get cs c) refl e
   where
     at : (o : Option Class) → slice_get cs c ≡ o → option_map sort_of_kind (option_map (λ (x : Class). x.kind) o) ≡ Some y → c < length cs
@@ -332,8 +332,8 @@ declared cs c y e = at (slice_get cs c) refl e
     at (Some k) f e = slice_get_within cs c k f
 
 symbol_again : (cs : List Class) (s : Sym) (y : Sort) → AreClasses cs → sort_of_symbol cs s ≡ Some y → symbol_of cs (symbol_word cs s) ≡ Some s
-symbol_again cs (symbol.Tok t) y h e = rw (token_again t y e) refl
-symbol_again cs (symbol.Class c) y h e =
+symbol_again cs (grammar_symbol.Tok t) y h e = rw (token_again t y e) refl
+symbol_again cs (grammar_symbol.Class c) y h e =
     let lt = declared cs c y e in
     rw (token_free TOKENS _ (named_at cs c h.named lt), class_of_again cs c lt h.apart) refl
 
@@ -541,8 +541,8 @@ desc_reads bytes d h = apply start (telling d) d (all_run d h.valid) 1 (lines by
 
 pub refusal : (r : Result Content DescFault) (bytes : List ℕ) → Answers r (read bytes) → IfErr r (Refused bytes)
 refusal (Ok d) bytes e = tt
-refusal (Err answer.NoMemory) bytes e = tt
-refusal (Err (answer.Line n k)) bytes e = λ d h. refused _ _ (sym e ∙ desc_reads bytes d h)
+refusal (Err desc_fault.NoMemory) bytes e = tt
+refusal (Err (desc_fault.Line n k)) bytes e = λ d h. refused _ _ (sym e ∙ desc_reads bytes d h)
 
 pub only : (r : Result Content DescFault) (bytes : List ℕ) → Answers r (read bytes) → IfOk r (λ d. (c : Content) → Desc bytes c → d ≡ c)
 only (Ok d) bytes e = λ c h. ok_same _ _ _ _ refl refl (sym e ∙ desc_reads bytes c h)

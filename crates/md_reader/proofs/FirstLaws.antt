@@ -5,9 +5,9 @@ use Rattle.std.proofs.lemmas.List.{append-nil}
 use Rattle.md_reader_text.specs.Lines.{lines}
 use Rattle.md_reader_text.specs.Words.{words}
 use Rattle.md_reader.specs.declared.faults.DescKind.{DescKind}
-use Rattle.md_reader.specs.declared.faults.DescKind.TheVariants as kind
+use Rattle.md_reader.specs.declared.faults.DescKind.TheVariants as kinds
 use Rattle.md_reader.specs.declared.faults.DescFault.{DescFault}
-use Rattle.md_reader.specs.declared.faults.DescFault.TheVariants as answer
+use Rattle.md_reader.specs.declared.faults.DescFault.TheVariants as desc_fault
 use Rattle.md_reader.specs.declared.reading.Stage.{Stage}
 use Rattle.md_reader.specs.declared.reading.Stage.TheVariants as stage
 use Rattle.md_reader.specs.Forms.{register_behind}
@@ -20,7 +20,7 @@ abbrev fault : ℕ → DescKind → Result Content (ℕ × DescKind)
 fault n k = Err (n, k)
 
 abbrev of_fault : Result Content (ℕ × DescKind) → ℕ × DescKind
-of_fault (Ok d) = (0, kind.BadWord)
+of_fault (Ok d) = (0, kinds.BadWord)
 of_fault (Err x) = x
 
 -- the number of a line and what is wrong there
@@ -40,12 +40,12 @@ end_line stage.Target m n s k e = sym (line_of m n _ k e)
 end_line stage.Pool m n s k e = sym (line_of m n _ k e)
 end_line stage.Classes m n s k e = at (has_stmt s.classes) e
   where
-    at : (b : Bool) → cond b (fault m kind.MissingSpill) (fault m kind.MissingStmt) ≡ fault n k → n ≡ m
+    at : (b : Bool) → cond b (fault m kinds.MissingSpill) (fault m kinds.MissingStmt) ≡ fault n k → n ≡ m
     at true e = sym (line_of m n _ k e)
     at false e = sym (line_of m n _ k e)
 end_line stage.Spills m n s k e = at (nat_le (length s.spills) 6) e
   where
-    at : (b : Bool) → cond b (fault m kind.MissingSpill) (fault m kind.MissingReload) ≡ fault n k → n ≡ m
+    at : (b : Bool) → cond b (fault m kinds.MissingSpill) (fault m kinds.MissingReload) ≡ fault n k → n ≡ m
     at true e = sym (line_of m n _ k e)
     at false e = sym (line_of m n _ k e)
 end_line stage.Rules m n s k e = at (nat_le 1 (length s.rules)) e
@@ -53,7 +53,7 @@ end_line stage.Rules m n s k e = at (nat_le 1 (length s.rules)) e
     unlike : (d : Content) → Ok d ≡ fault n k → n ≡ m
     unlike d e = absurd cc
 
-    at : (b : Bool) → cond b (Ok (content_of s)) (fault m kind.MissingRule) ≡ fault n k → n ≡ m
+    at : (b : Bool) → cond b (Ok (content_of s)) (fault m kinds.MissingRule) ≡ fault n k → n ≡ m
     at true e = unlike (content_of s) e
     at false e = sym (line_of m n _ k e)
 end_line stage.Template m n s k e = sym (line_of m n _ k e)
@@ -105,5 +105,5 @@ first_from m n k s (l ∷ ls) e = at (line_step s m (words l) (register_behind l
 
 pub is_first : (r : Result Content DescFault) (bytes : List ℕ) → Answers r (read bytes) → IfErr r (IsFirst bytes)
 is_first (Ok d) bytes e = tt
-is_first (Err answer.NoMemory) bytes e = tt
-is_first (Err (answer.Line n k)) bytes e = first_from 1 n k start (lines bytes) e
+is_first (Err desc_fault.NoMemory) bytes e = tt
+is_first (Err (desc_fault.Line n k)) bytes e = first_from 1 n k start (lines bytes) e

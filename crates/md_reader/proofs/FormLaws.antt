@@ -10,7 +10,7 @@ use Rattle.std.proofs.Math.Nat.{one-le-pow}
 use Rattle.md_reader_text.specs.Words.{same}
 use Rattle.md_reader_text.specs.Numbers.{number}
 use Rattle.gg_base.specs.declared.size.Size.{Size}
-use Rattle.gg_base.specs.declared.size.Size.TheVariants as size
+use Rattle.gg_base.specs.declared.size.Size.TheVariants as sizes
 use Rattle.md_reader.specs.declared.types.Kind.{Kind}
 use Rattle.md_reader.specs.declared.types.Kind.TheVariants as kind
 use Rattle.md_reader.specs.declared.types.Restriction.{Restriction}
@@ -39,9 +39,9 @@ both_words (a ∷ b ∷ c ∷ ws) v w e = absurd cc
 
 size_spelled : (w : List ℕ) (z : Size) → size_of w ≡ Some z → w ≡ size_word z
 size_spelled w z e =
-    pick (same w (codes "b")) size.Byte z _ (λ z. w ≡ size_word z) e (same_true w (codes "b")) (λ e.
-    pick (same w (codes "w")) size.Word z _ (λ z. w ≡ size_word z) e (same_true w (codes "w")) (λ e.
-    pick (same w (codes "l")) size.Long z _ (λ z. w ≡ size_word z) e (same_true w (codes "l")) (λ e. absurd (none-some z e))))
+    pick (same w (codes "b")) sizes.Byte z _ (λ z. w ≡ size_word z) e (same_true w (codes "b")) (λ e.
+    pick (same w (codes "w")) sizes.Word z _ (λ z. w ≡ size_word z) e (same_true w (codes "w")) (λ e.
+    pick (same w (codes "l")) sizes.Long z _ (λ z. w ≡ size_word z) e (same_true w (codes "l")) (λ e. absurd (none-some z e))))
 
 kind_spelled : (ws : List (List ℕ)) (k : Kind) → kind_form ws ≡ Some k → ws ≡ kind_words k
 kind_spelled [] k e = absurd (none-some k e)

@@ -12,7 +12,7 @@ use Rattle.tree_core.specs.declared.token.Tok.{Tok}
 use Rattle.tree_core.specs.declared.token.Tok.TheVariants as tok
 use Rattle.tree_core.specs.Grammar.{kids}
 use Rattle.md_reader.specs.declared.types.Sym.{Sym}
-use Rattle.md_reader.specs.declared.types.Sym.TheVariants as sym
+use Rattle.md_reader.specs.declared.types.Sym.TheVariants as grammar_symbol
 use Rattle.md_reader.specs.Patterns.{kids_of, sort_of_symbol, sort_fits, Trees, no_tree, node, onto, any_test, sorted_test, IsTree, IsSorted, walk, count}
 
 -- trees for two lists of places, from those for the lists together
@@ -189,5 +189,5 @@ few_kids tok.Jump = refl
 few_kids tok.End = refl
 
 pub kids_few : (s : Sym) (ks : List Sort) → ks ≡ kids_of s → length ks ≤ 2
-kids_few (sym.Tok t) ks e = let h = leb-true (length (kids t)) 2 (few_kids t) in omega (arith, h, ap (λ (x : List Sort). length x) e)
-kids_few (sym.Class c) ks e = omega (arith, ap (λ (x : List Sort). length x) e)
+kids_few (grammar_symbol.Tok t) ks e = let h = leb-true (length (kids t)) 2 (few_kids t) in omega (arith, h, ap (λ (x : List Sort). length x) e)
+kids_few (grammar_symbol.Class c) ks e = omega (arith, ap (λ (x : List Sort). length x) e)

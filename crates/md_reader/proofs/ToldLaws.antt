@@ -18,13 +18,13 @@ use Rattle.tree_core.specs.Names.{name_of}
 use Rattle.md_reader.specs.declared.types.Kind.{Kind}
 use Rattle.md_reader.specs.declared.types.Class.{Class}
 use Rattle.md_reader.specs.declared.types.Sym.{Sym}
-use Rattle.md_reader.specs.declared.types.Sym.TheVariants as symbol
+use Rattle.md_reader.specs.declared.types.Sym.TheVariants as grammar_symbol
 use Rattle.md_reader.specs.declared.types.Restriction.{Restriction}
 use Rattle.md_reader.specs.declared.types.Give.{Give}
 use Rattle.md_reader.specs.declared.types.Give.TheVariants as give
 use Rattle.md_reader.specs.declared.types.Rule.{Rule}
 use Rattle.md_reader.specs.declared.faults.DescKind.{DescKind}
-use Rattle.md_reader.specs.declared.faults.DescKind.TheVariants as fault
+use Rattle.md_reader.specs.declared.faults.DescKind.TheVariants as kinds
 use Rattle.md_reader.specs.declared.faults.DescFault.{DescFault}
 use Rattle.md_reader.specs.declared.forms.Saved.{Saved}
 use Rattle.md_reader.specs.declared.reading.Stage.{Stage}
@@ -81,12 +81,12 @@ class_named cs w j e =
 symbol_named : (cs : List Class) (w : List ℕ) (s : Sym) → symbol_of cs w ≡ Some s → symbol_word cs s ≡ w
 symbol_named cs w s e = at (token_of w) refl e
   where
-    class : (o : Option ℕ) → class_of cs w ≡ o → option_map symbol.Class o ≡ Some s → symbol_word cs s ≡ w
+    class : (o : Option ℕ) → class_of cs w ≡ o → option_map grammar_symbol.Class o ≡ Some s → symbol_word cs s ≡ w
     class None f e = absurd (none-some s e)
-    class (Some j) f e = rw (← same_Some (symbol.Class j) s e) (class_named cs w j f)
+    class (Some j) f e = rw (← same_Some (grammar_symbol.Class j) s e) (class_named cs w j f)
 
     at : (o : Option Tok) → token_of w ≡ o → token_or_class o (class_of cs w) ≡ Some s → symbol_word cs s ≡ w
-    at (Some t) f e = rw (← same_Some (symbol.Tok t) s e) (token_named TOKENS w t f)
+    at (Some t) f e = rw (← same_Some (grammar_symbol.Tok t) s e) (token_named TOKENS w t f)
     at None f e = class _ refl e
 
 symbols_named : (cs : List Class) (ws : List (List ℕ)) (right : List Sym) → symbols_of cs ws ≡ Some right → map (symbol_word cs) right ≡ ws
@@ -167,7 +167,7 @@ spill_pushed m classes spills l rules a =
 spill_told : (s t : State) (n : ℕ) (ws : List (List ℕ)) (x : Saved × List (List ℕ)) (w : List ℕ) (ps : List Piece) → ws ≡ saved_words x.0 ++ x.1 → saved_number x.0 ≡ length s.spills
     → text_of x.1 ≡ Some w → pieces w ≡ Some ps → s.rules ≡ [] → spill_pieces s n (Some ps) ≡ Ok t → OneMore (telling (content_of s)) t n ws
 spill_told s t n ws x w ps a b c d r e =
-    let q = unless (line_fits true (symbol.Class 0 ∷ []) ps) _ _ t e in
+    let q = unless (line_fits true (grammar_symbol.Class 0 ∷ []) ps) _ _ t e in
     let l : Line = line_at n ps in
     rw (← ok_same _ _ _ _ refl refl q.1) (record {
       form = Saves (length s.spills) l;
@@ -354,7 +354,7 @@ end_told stage.Classes n s d g h e = absurd (neither (has_stmt s.classes) _ _ d 
 end_told stage.Spills n s d g h e = absurd (neither (nat_le (length s.spills) 6) _ _ d e)
 end_told stage.Rules n s d g h e = at (nat_le 1 (length s.rules)) refl e
   where
-    at : (b : Bool) → nat_le 1 (length s.rules) ≡ b → cond {A = Result Content (ℕ × DescKind)} b (Ok (content_of s)) (Err (n, fault.MissingRule)) ≡ Ok d → TheRest (told_at stage.Rules s) [] d
+    at : (b : Bool) → nat_le 1 (length s.rules) ≡ b → cond {A = Result Content (ℕ × DescKind)} b (Ok (content_of s)) (Err (n, kinds.MissingRule)) ≡ Ok d → TheRest (told_at stage.Rules s) [] d
     at true f e = rw (← ok_same _ _ _ _ refl refl e) (record { forms = []; tell = tt; whole = append-nil (telling (content_of s)); valid = is_valid s g (leb-true 1 (length s.rules) f) h })
     at false f e = absurd (refused _ _ e)
 end_told stage.Template n s d g h e = absurd (refused _ _ e)

@@ -14,7 +14,7 @@ use Rattle.tree_core.specs.declared.token.Sort.{Sort}
 use Rattle.md_reader.specs.declared.types.Kind.{Kind}
 use Rattle.md_reader.specs.declared.types.Class.{Class}
 use Rattle.md_reader.specs.declared.types.Sym.{Sym}
-use Rattle.md_reader.specs.declared.types.Sym.TheVariants as symbol
+use Rattle.md_reader.specs.declared.types.Sym.TheVariants as grammar_symbol
 use Rattle.md_reader.specs.declared.types.Restriction.{Restriction}
 use Rattle.md_reader.specs.declared.types.Give.{Give}
 use Rattle.md_reader.specs.declared.types.Give.TheVariants as give
@@ -82,7 +82,7 @@ record MaySave (s : State) : Type 0 where
 
 saved_kept : (s t : State) (xs ls : List (List ℕ)) (n : ℕ) (ps : List Piece) → MaySave s → has_stmt s.classes ≡ true → IsFine s xs → spill_pieces s n (Some ps) ≡ Ok t → IsFine t ls
 saved_kept s t xs ls n ps m st h e =
-    let a = unless (line_fits true (symbol.Class 0 ∷ []) ps) _ _ t e in
+    let a = unless (line_fits true (grammar_symbol.Class 0 ∷ []) ps) _ _ t e in
     rw (← ok_same _ _ _ _ refl refl a.1) (record {
       classes = h.classes;
       spills = All-push IsSpill s.spills (line_at n ps) h.spills a.0;
@@ -135,7 +135,7 @@ as_many classes (w ∷ ws) right e =
     one_more s None right e k = absurd (none-some right e)
     one_more s (Some ss) right e k = rw (← same_Some (s ∷ ss) right e) (ap suc (k ss refl))
 
-sides_kept : (s t : State) (xs ls : List (List ℕ)) (left : ℕ) (right : List Sym) (o : Option Sort) → sort_of_symbol s.classes (symbol.Class left) ≡ o → length right ≤ 16 → count 1 right
+sides_kept : (s t : State) (xs ls : List (List ℕ)) (left : ℕ) (right : List Sym) (o : Option Sort) → sort_of_symbol s.classes (grammar_symbol.Class left) ≡ o → length right ≤ 16 → count 1 right
     ≡ true → length s.rules ≤ 999 → IsWhole s → IsFine s xs → sort_step s left right (register_behind ls) o ≡ Ok t → IsFine t ls
 sides_kept s t xs ls left right None f le c few w h e = absurd (refused _ _ e)
 sides_kept s t xs ls left right (Some sort) f le c few w h e =

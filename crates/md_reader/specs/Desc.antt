@@ -6,13 +6,13 @@ use Rattle.md_reader_text.specs.Words.{words}
 use Rattle.md_reader_pieces.specs.declared.piece.Line.{Line}
 use Rattle.md_reader_pieces.specs.Pieces.{text_of, pieces}
 use Rattle.gg_base.specs.declared.size.Size.{Size}
-use Rattle.gg_base.specs.declared.size.Size.TheVariants as size
+use Rattle.gg_base.specs.declared.size.Size.TheVariants as sizes
 use Rattle.tree_core.specs.Names.{name_of}
 use Rattle.md_reader.specs.declared.types.Kind.{Kind}
 use Rattle.md_reader.specs.declared.types.Kind.TheVariants as kind
 use Rattle.md_reader.specs.declared.types.Class.{Class}
 use Rattle.md_reader.specs.declared.types.Sym.{Sym}
-use Rattle.md_reader.specs.declared.types.Sym.TheVariants as sym
+use Rattle.md_reader.specs.declared.types.Sym.TheVariants as grammar_symbol
 use Rattle.md_reader.specs.declared.types.Restriction.{Restriction}
 use Rattle.md_reader.specs.declared.types.Give.{Give}
 use Rattle.md_reader.specs.declared.types.Give.TheVariants as give
@@ -20,7 +20,7 @@ use Rattle.md_reader.specs.declared.types.Rule.{Rule}
 use Rattle.md_reader.specs.declared.forms.Saved.{Saved}
 use Rattle.md_reader.specs.declared.forms.Saved.TheVariants as saved
 use Rattle.md_reader.specs.declared.faults.DescFault.{DescFault}
-use Rattle.md_reader.specs.declared.faults.DescFault.TheVariants as answer
+use Rattle.md_reader.specs.declared.faults.DescFault.TheVariants as desc_fault
 use Rattle.md_reader.specs.Forms.{is_skipped, pool_form, saved_number, restriction_form, plain_give}
 use Rattle.md_reader.specs.State.{Content}
 use Rattle.md_reader.specs.Valid.{IsValid}
@@ -38,9 +38,9 @@ pub data Form : Type 0 where
   Gives : Give → Form
 
 abbrev pub size_word : Size → List ℕ
-size_word size.Byte = codes "b"
-size_word size.Word = codes "w"
-size_word size.Long = codes "l"
+size_word sizes.Byte = codes "b"
+size_word sizes.Word = codes "w"
+size_word sizes.Long = codes "l"
 
 abbrev pub kind_words : Kind → List (List ℕ)
 kind_words kind.Reg = codes "Reg" ∷ []
@@ -108,8 +108,8 @@ name_at (c ∷ cs) zero = c.name
 name_at (c ∷ cs) (suc i) = name_at cs i
 
 abbrev pub symbol_word : List Class → Sym → List ℕ
-symbol_word classes (sym.Tok t) = name_of t
-symbol_word classes (sym.Class c) = name_at classes c
+symbol_word classes (grammar_symbol.Tok t) = name_of t
+symbol_word classes (grammar_symbol.Class c) = name_at classes c
 
 -- the eight lines, from one on
 abbrev pub saving : ℕ → List Line → List Form
@@ -145,5 +145,5 @@ pub record Desc (bytes : List ℕ) (d : Content) : Type 0 where
 
 -- a refusal that isn't for want of memory: these bytes are no description
 abbrev pub Refused : List ℕ → DescFault → Type 0
-Refused bytes answer.NoMemory = Unit {0}
-Refused bytes (answer.Line line kind) = (d : Content) → Desc bytes d → ⊥
+Refused bytes desc_fault.NoMemory = Unit {0}
+Refused bytes (desc_fault.Line line kind) = (d : Content) → Desc bytes d → ⊥

@@ -4,7 +4,7 @@ use Rattle.md_reader_text.specs.Lines.{lines}
 use Rattle.md_reader_text.specs.Words.{words}
 use Rattle.md_reader.specs.declared.faults.DescKind.{DescKind}
 use Rattle.md_reader.specs.declared.faults.DescFault.{DescFault}
-use Rattle.md_reader.specs.declared.faults.DescFault.TheVariants as answer
+use Rattle.md_reader.specs.declared.faults.DescFault.TheVariants as desc_fault
 use Rattle.md_reader.specs.Forms.{register_behind}
 use Rattle.md_reader.specs.State.{State}
 use Rattle.md_reader.specs.Steps.{line_step}
@@ -36,5 +36,5 @@ pub record WrongEnd (m : ℕ) (s : State) (all : List (List ℕ)) (n : ℕ) (kin
 
 -- what a refusal says
 abbrev pub IsFirst : List ℕ → DescFault → Type 0
-IsFirst bytes answer.NoMemory = Unit {0}
-IsFirst bytes (answer.Line n kind) = WrongLine 1 start (lines bytes) n kind ⊎ WrongEnd 1 start (lines bytes) n kind
+IsFirst bytes desc_fault.NoMemory = Unit {0}
+IsFirst bytes (desc_fault.Line n kind) = WrongLine 1 start (lines bytes) n kind ⊎ WrongEnd 1 start (lines bytes) n kind

@@ -6,7 +6,7 @@ use Rattle.std.specs.List.{list_all}
 use Rattle.md_reader_text.specs.Words.{words, same}
 use Rattle.md_reader_text.specs.Numbers.{is_digit, number, integer}
 use Rattle.gg_base.specs.declared.size.Size.{Size}
-use Rattle.gg_base.specs.declared.size.Size.TheVariants as size
+use Rattle.gg_base.specs.declared.size.Size.TheVariants as sizes
 use Rattle.md_reader.specs.declared.types.Kind.{Kind}
 use Rattle.md_reader.specs.declared.types.Kind.TheVariants as kind
 use Rattle.md_reader.specs.declared.types.Restriction.{Restriction}
@@ -64,9 +64,9 @@ is_name (b ∷ bs) = is_lower b && (nat_le (length bs) 30 && list_all in_name bs
 
 abbrev pub size_of : List ℕ → Option Size
 size_of w =
-    if same w (codes "b") then Some size.Byte
-    else if same w (codes "w") then Some size.Word
-    else if same w (codes "l") then Some size.Long else None
+    if same w (codes "b") then Some sizes.Byte
+    else if same w (codes "w") then Some sizes.Word
+    else if same w (codes "l") then Some sizes.Long else None
 
 abbrev pub plain_kind : List ℕ → Option Kind
 plain_kind k =
@@ -111,9 +111,9 @@ spill_form (a ∷ ws) = if same a (codes "reload") then Some (saved.Reload, ws) 
 
 -- where the line stands among the eight
 abbrev pub size_number : Size → ℕ
-size_number size.Byte = 0
-size_number size.Word = 1
-size_number size.Long = 2
+size_number sizes.Byte = 0
+size_number sizes.Word = 1
+size_number sizes.Long = 2
 
 abbrev pub saved_number : Saved → ℕ
 saved_number (saved.Value z) = size_number z

@@ -2,7 +2,7 @@
 use Rattle.std.specs.Prelude.{◌≡◌, ℕ, zero, suc, ◌+◌, List, [], ◌∷◌, ◌++◌, Option, Some, None, Bool, true, false}
 use Rattle.std.specs.Prelude.{length, slice_get, if◌then◌else◌}
 use Rattle.std.specs.Option.{option_map}
-use Rattle.gg_base.specs.declared.size.Size.TheVariants as size
+use Rattle.gg_base.specs.declared.size.Size.TheVariants as sizes
 use Rattle.tree_core.specs.declared.token.Sort.{Sort}
 use Rattle.tree_core.specs.declared.token.Sort.TheVariants as sort
 use Rattle.tree_core.specs.Grammar.{kids, sort_of, fits}
@@ -10,17 +10,17 @@ use Rattle.md_reader.specs.declared.types.Kind.{Kind}
 use Rattle.md_reader.specs.declared.types.Kind.TheVariants as kind
 use Rattle.md_reader.specs.declared.types.Class.{Class}
 use Rattle.md_reader.specs.declared.types.Sym.{Sym}
-use Rattle.md_reader.specs.declared.types.Sym.TheVariants as sym
+use Rattle.md_reader.specs.declared.types.Sym.TheVariants as grammar_symbol
 
 -- the sort of the trees that a class stands for
 abbrev pub sort_of_kind : Kind → Sort
 sort_of_kind kind.Reg = sort.Long
-sort_of_kind (kind.Value size.Byte) = sort.Byte
-sort_of_kind (kind.Value size.Word) = sort.Word
-sort_of_kind (kind.Value size.Long) = sort.Long
-sort_of_kind (kind.Place size.Byte) = sort.PlaceB
-sort_of_kind (kind.Place size.Word) = sort.PlaceW
-sort_of_kind (kind.Place size.Long) = sort.PlaceL
+sort_of_kind (kind.Value sizes.Byte) = sort.Byte
+sort_of_kind (kind.Value sizes.Word) = sort.Word
+sort_of_kind (kind.Value sizes.Long) = sort.Long
+sort_of_kind (kind.Place sizes.Byte) = sort.PlaceB
+sort_of_kind (kind.Place sizes.Word) = sort.PlaceW
+sort_of_kind (kind.Place sizes.Long) = sort.PlaceL
 sort_of_kind kind.Con = sort.Long
 sort_of_kind kind.Ea = sort.Long
 sort_of_kind kind.Nothing = sort.Stmt
@@ -31,12 +31,12 @@ kind_at classes c = option_map (λ (x : Class). x.kind) (slice_get classes c)
 
 -- the sorts that are wanted below a symbol; below a class stands nothing
 abbrev pub kids_of : Sym → List Sort
-kids_of (sym.Tok t) = kids t
-kids_of (sym.Class c) = []
+kids_of (grammar_symbol.Tok t) = kids t
+kids_of (grammar_symbol.Class c) = []
 
 abbrev pub sort_of_symbol : List Class → Sym → Option Sort
-sort_of_symbol classes (sym.Tok t) = sort_of t
-sort_of_symbol classes (sym.Class c) = option_map sort_of_kind (kind_at classes c)
+sort_of_symbol classes (grammar_symbol.Tok t) = sort_of t
+sort_of_symbol classes (grammar_symbol.Class c) = option_map sort_of_kind (kind_at classes c)
 
 abbrev pub sort_fits : Option Sort → Sort → Bool
 sort_fits None x = false

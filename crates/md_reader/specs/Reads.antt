@@ -3,9 +3,9 @@ use Rattle.std.specs.Prelude.{◌≡◌, ℕ, ◌+◌, nat_le, false, List, [], 
 use Rattle.md_reader_text.specs.Lines.{lines}
 use Rattle.md_reader_text.specs.Words.{words}
 use Rattle.md_reader.specs.declared.faults.DescKind.{DescKind}
-use Rattle.md_reader.specs.declared.faults.DescKind.TheVariants as fault
+use Rattle.md_reader.specs.declared.faults.DescKind.TheVariants as kinds
 use Rattle.md_reader.specs.declared.faults.DescFault.{DescFault}
-use Rattle.md_reader.specs.declared.faults.DescFault.TheVariants as answer
+use Rattle.md_reader.specs.declared.faults.DescFault.TheVariants as desc_fault
 use Rattle.md_reader.specs.declared.reading.Stage.{Stage}
 use Rattle.md_reader.specs.declared.reading.Stage.TheVariants as stage
 use Rattle.md_reader.specs.Forms.{register_behind}
@@ -31,13 +31,13 @@ content_of s = record { pool = s.pool; classes = s.classes; spills = s.spills; r
 
 -- the text ends; its number of lines is one less than n
 abbrev pub ended_at : Stage → ℕ → State → Result Content (ℕ × DescKind)
-ended_at stage.Version n s = Err (n, fault.MissingVersion)
-ended_at stage.Target n s = Err (n, fault.MissingTarget)
-ended_at stage.Pool n s = Err (n, fault.MissingPool)
-ended_at stage.Classes n s = if has_stmt s.classes then Err (n, fault.MissingSpill) else Err (n, fault.MissingStmt)
-ended_at stage.Spills n s = if nat_le (length s.spills) 6 then Err (n, fault.MissingSpill) else Err (n, fault.MissingReload)
-ended_at stage.Rules n s = if nat_le 1 (length s.rules) then Ok (content_of s) else Err (n, fault.MissingRule)
-ended_at stage.Template n s = Err (n, fault.MissingGive)
+ended_at stage.Version n s = Err (n, kinds.MissingVersion)
+ended_at stage.Target n s = Err (n, kinds.MissingTarget)
+ended_at stage.Pool n s = Err (n, kinds.MissingPool)
+ended_at stage.Classes n s = if has_stmt s.classes then Err (n, kinds.MissingSpill) else Err (n, kinds.MissingStmt)
+ended_at stage.Spills n s = if nat_le (length s.spills) 6 then Err (n, kinds.MissingSpill) else Err (n, kinds.MissingReload)
+ended_at stage.Rules n s = if nat_le 1 (length s.rules) then Ok (content_of s) else Err (n, kinds.MissingRule)
+ended_at stage.Template n s = Err (n, kinds.MissingGive)
 
 abbrev pub ended : ℕ → State → Result Content (ℕ × DescKind)
 ended n s = ended_at s.stage n s
@@ -55,8 +55,8 @@ abbrev pub read : List ℕ → Result Content (ℕ × DescKind)
 read bytes = read_from 1 start (lines bytes)
 
 abbrev pub Refuses : DescFault → Result Content (ℕ × DescKind) → Type 0
-Refuses answer.NoMemory to = Unit {0}
-Refuses (answer.Line line kind) to = to ≡ Err (line, kind)
+Refuses desc_fault.NoMemory to = Unit {0}
+Refuses (desc_fault.Line line kind) to = to ≡ Err (line, kind)
 
 -- what reading answers
 abbrev pub Answers : Result Content DescFault → Result Content (ℕ × DescKind) → Type 0

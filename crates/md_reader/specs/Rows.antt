@@ -6,16 +6,16 @@ use Rattle.md_reader_text.specs.Words.{same}
 use Rattle.md_reader_pieces.specs.declared.piece.Piece.{Piece}
 use Rattle.md_reader_pieces.specs.declared.piece.Piece.TheVariants as piece
 use Rattle.gg_base.specs.declared.size.Size.{Size}
-use Rattle.gg_base.specs.declared.size.Size.TheVariants as size
+use Rattle.gg_base.specs.declared.size.Size.TheVariants as sizes
 use Rattle.tree_core.specs.declared.token.Tok.TheVariants as tok
 use Rattle.tree_core.specs.declared.token.AttKind.{AttKind}
-use Rattle.tree_core.specs.declared.token.AttKind.TheVariants as att
+use Rattle.tree_core.specs.declared.token.AttKind.TheVariants as att_kind
 use Rattle.tree_core.specs.Attributes.{attribute_of}
 use Rattle.md_reader.specs.declared.types.Kind.{Kind}
 use Rattle.md_reader.specs.declared.types.Kind.TheVariants as kind
 use Rattle.md_reader.specs.declared.types.Class.{Class}
 use Rattle.md_reader.specs.declared.types.Sym.{Sym}
-use Rattle.md_reader.specs.declared.types.Sym.TheVariants as sym
+use Rattle.md_reader.specs.declared.types.Sym.TheVariants as grammar_symbol
 use Rattle.md_reader.specs.declared.types.Restriction.{Restriction}
 use Rattle.md_reader.specs.declared.types.Restriction.TheVariants as restriction
 use Rattle.md_reader.specs.declared.types.Give.{Give}
@@ -29,8 +29,8 @@ symbol_at right i = if i == 0 then None else slice_get right (i - 1)
 -- the kind of the class that a symbol is
 abbrev pub kind_of_symbol : List Class → Option Sym → Option Kind
 kind_of_symbol classes None = None
-kind_of_symbol classes (Some (sym.Tok t)) = None
-kind_of_symbol classes (Some (sym.Class c)) = kind_at classes c
+kind_of_symbol classes (Some (grammar_symbol.Tok t)) = None
+kind_of_symbol classes (Some (grammar_symbol.Class c)) = kind_at classes c
 
 -- the size of a value or a place
 abbrev pub size_of_kind : Option Kind → Option Size
@@ -39,33 +39,33 @@ size_of_kind (Some (kind.Place z)) = Some z
 size_of_kind k = None
 
 abbrev pub is_local : Option Sym → Bool
-is_local (Some (sym.Tok tok.Loc)) = true
-is_local (Some (sym.Tok tok.Arg)) = true
+is_local (Some (grammar_symbol.Tok tok.Loc)) = true
+is_local (Some (grammar_symbol.Tok tok.Arg)) = true
 is_local s = false
 
 abbrev pub size_of_symbol : List Class → Option Sym → Option Size
-size_of_symbol classes s = if is_local s then Some size.Long else size_of_kind (kind_of_symbol classes s)
+size_of_symbol classes s = if is_local s then Some sizes.Long else size_of_kind (kind_of_symbol classes s)
 
 abbrev pub same_size : Option Size → Option Size → Bool
-same_size (Some size.Byte) (Some size.Byte) = true
-same_size (Some size.Word) (Some size.Word) = true
-same_size (Some size.Long) (Some size.Long) = true
+same_size (Some sizes.Byte) (Some sizes.Byte) = true
+same_size (Some sizes.Word) (Some sizes.Word) = true
+same_size (Some sizes.Long) (Some sizes.Long) = true
 same_size a b = false
 
 abbrev pub is_branch : Option Sym → Bool
-is_branch (Some (sym.Tok tok.Cbr)) = true
+is_branch (Some (grammar_symbol.Tok tok.Cbr)) = true
 is_branch s = false
 
 abbrev pub is_jump : Option Sym → Bool
-is_jump (Some (sym.Tok tok.Jump)) = true
+is_jump (Some (grammar_symbol.Tok tok.Jump)) = true
 is_jump s = false
 
 abbrev pub is_call : Option Sym → Bool
-is_call (Some (sym.Tok tok.Call)) = true
+is_call (Some (grammar_symbol.Tok tok.Call)) = true
 is_call s = false
 
 abbrev pub is_const : Option Sym → Bool
-is_const (Some (sym.Tok tok.Const)) = true
+is_const (Some (grammar_symbol.Tok tok.Const)) = true
 is_const s = false
 
 abbrev pub is_con : Option Kind → Bool
@@ -95,14 +95,14 @@ any_symbol test right = list_any (λ (s : Sym). test (Some s)) right
 
 -- a token with an attribute
 abbrev pub is_something : AttKind → Bool
-is_something att.Nothing = false
+is_something att_kind.Nothing = false
 is_something a = true
 
 -- a symbol that a hole may name: a class, or a token with an attribute
 abbrev pub has_value : Option Sym → Bool
 has_value None = false
-has_value (Some (sym.Tok t)) = is_something (attribute_of t)
-has_value (Some (sym.Class c)) = true
+has_value (Some (grammar_symbol.Tok t)) = is_something (attribute_of t)
+has_value (Some (grammar_symbol.Class c)) = true
 
 -- `%0` names the rule's own register
 abbrev pub symbol_hole_fits : Bool → (Option Sym → Bool) → List Sym → ℕ → Bool
@@ -149,12 +149,12 @@ only_symbol right ps = None
 
 -- a token that is a constant
 abbrev pub is_constant : Option Sym → Bool
-is_constant (Some (sym.Tok tok.Zero)) = true
-is_constant (Some (sym.Tok tok.One)) = true
-is_constant (Some (sym.Tok tok.Two)) = true
-is_constant (Some (sym.Tok tok.Four)) = true
-is_constant (Some (sym.Tok tok.Eight)) = true
-is_constant (Some (sym.Tok tok.Const)) = true
+is_constant (Some (grammar_symbol.Tok tok.Zero)) = true
+is_constant (Some (grammar_symbol.Tok tok.One)) = true
+is_constant (Some (grammar_symbol.Tok tok.Two)) = true
+is_constant (Some (grammar_symbol.Tok tok.Four)) = true
+is_constant (Some (grammar_symbol.Tok tok.Eight)) = true
+is_constant (Some (grammar_symbol.Tok tok.Const)) = true
 is_constant s = false
 
 -- an operand that a rule of this kind may give
@@ -175,5 +175,5 @@ plain_fits k (give.Shape l) = false
 
 -- the right side is a class of statements
 abbrev pub is_bare : List Class → List Sym → Bool
-is_bare classes (sym.Class c ∷ []) = is_nothing (kind_at classes c)
+is_bare classes (grammar_symbol.Class c ∷ []) = is_nothing (kind_at classes c)
 is_bare classes right = false

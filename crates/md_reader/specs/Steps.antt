@@ -10,12 +10,12 @@ use Rattle.tree_core.specs.declared.token.Sort.{Sort}
 use Rattle.md_reader.specs.declared.types.Kind.{Kind}
 use Rattle.md_reader.specs.declared.types.Class.{Class}
 use Rattle.md_reader.specs.declared.types.Sym.{Sym}
-use Rattle.md_reader.specs.declared.types.Sym.TheVariants as sym
+use Rattle.md_reader.specs.declared.types.Sym.TheVariants as grammar_symbol
 use Rattle.md_reader.specs.declared.types.Restriction.{Restriction}
 use Rattle.md_reader.specs.declared.types.Give.{Give}
 use Rattle.md_reader.specs.declared.types.Give.TheVariants as give
 use Rattle.md_reader.specs.declared.faults.DescKind.{DescKind}
-use Rattle.md_reader.specs.declared.faults.DescKind.TheVariants as fault
+use Rattle.md_reader.specs.declared.faults.DescKind.TheVariants as kinds
 use Rattle.md_reader.specs.declared.forms.Saved.{Saved}
 use Rattle.md_reader.specs.declared.reading.Stage.{Stage}
 use Rattle.md_reader.specs.declared.reading.Stage.TheVariants as stage
@@ -38,36 +38,37 @@ has_stmt classes = list_any is_stmt classes
 
 -- `version 1`, `target vax`, `pool ..`
 abbrev pub pool_step : State → Option ℕ → Result State DescKind
-pool_step s None = Err fault.BadWord
+pool_step s None = Err kinds.BadWord
 pool_step s (Some m) = Ok (record s { stage = stage.Classes; pool = m })
 
 -- `class ..`
 abbrev pub new_class : State → List ℕ → Kind → Option ℕ → Result State DescKind
-new_class s name kind (Some i) = Err fault.Twice
+new_class s name kind (Some i) = Err kinds.Twice
 new_class s name kind None = Ok (record s { classes = s.classes ++ record { name = name; kind = kind } ∷ [] })
 
 abbrev pub class_step : State → List ℕ → Kind → Result State DescKind
-class_step s name kind = if nat_le 64 (length s.classes) then Err fault.Limit else new_class s name kind (class_of s.classes name)
+class_step s name kind = if nat_le 64 (length s.classes) then Err kinds.Limit else new_class s name kind (class_of s.classes name)
 
 -- `spill ..` and `reload ..`
 abbrev pub stage_behind : List Line → Stage
 stage_behind spills = if length spills == 7 then stage.Rules else stage.Spills
 
 abbrev pub spill_pieces : State → ℕ → Option (List Piece) → Result State DescKind
-spill_pieces s n None = Err fault.BadHole
+spill_pieces s n None = Err kinds.BadHole
 spill_pieces s n (Some ps) =
-    if line_fits true (sym.Class 0 ∷ []) ps then Ok (record s { stage = stage_behind s.spills; spills = s.spills ++ line_at n ps ∷ [] })
-    else Err fault.BadHole
+    if line_fits true (grammar_symbol.Class 0 ∷ []) ps then Ok (record s
+    { stage = stage_behind s.spills; spills = s.spills ++ line_at n ps ∷ [] })
+    else Err kinds.BadHole
 
 abbrev pub spill_text : State → ℕ → Option (List ℕ) → Result State DescKind
-spill_text s n None = Err fault.BadWord
+spill_text s n None = Err kinds.BadWord
 spill_text s n (Some t) = spill_pieces s n (pieces t)
 
 abbrev pub spill_line : State → ℕ → Option (Saved × List (List ℕ)) → Result State DescKind
-spill_line s n None = Err fault.BadWord
+spill_line s n None = Err kinds.BadWord
 spill_line s n (Some x) =
-    if saved_number x.0 == length s.spills then (if has_stmt s.classes then spill_text s n (text_of x.1) else Err fault.MissingStmt)
-    else Err fault.BadWord
+    if saved_number x.0 == length s.spills then (if has_stmt s.classes then spill_text s n (text_of x.1) else Err kinds.MissingStmt)
+    else Err kinds.BadWord
 
 abbrev pub class_line : State → ℕ → Option (List ℕ × Kind) → List (List ℕ) → Result State DescKind
 class_line s n (Some x) ws = class_step s x.0 x.1
@@ -85,49 +86,49 @@ begun s left right register = record s {
 }
 
 abbrev pub sort_step : State → ℕ → List Sym → Bool → Option Sort → Result State DescKind
-sort_step s left right z None = Err fault.WrongSort
+sort_step s left right z None = Err kinds.WrongSort
 sort_step s left right z (Some sort) =
-    if is_bare s.classes right then Err fault.WrongSort
+    if is_bare s.classes right then Err kinds.WrongSort
     else if walk (sorted_test s.classes) (sort ∷ []) right then Ok (begun s left right z)
-    else Err fault.WrongSort
+    else Err kinds.WrongSort
 
 abbrev pub right_step : State → ℕ → Bool → Option (List Sym) → Result State DescKind
-right_step s left z None = Err fault.UnknownToken
-right_step s left z (Some right) = if count 1 right then sort_step s left right z (sort_of_symbol s.classes (sym.Class left))
-    else Err fault.NotATree
+right_step s left z None = Err kinds.UnknownToken
+right_step s left z (Some right) = if count 1 right then sort_step s left right z (sort_of_symbol s.classes (grammar_symbol.Class left))
+    else Err kinds.NotATree
 
 abbrev pub left_step : State → Bool → List (List ℕ) → Option ℕ → Result State DescKind
-left_step s z ws None = Err fault.UnknownClass
+left_step s z ws None = Err kinds.UnknownClass
 left_step s z ws (Some left) = right_step s left z (symbols_of s.classes ws)
 
 abbrev pub rule_step : State → Bool → List ℕ → List (List ℕ) → Result State DescKind
 rule_step s z class ws =
-    if nat_le 1000 (length s.rules) then Err fault.Limit
+    if nat_le 1000 (length s.rules) then Err kinds.Limit
     else if nat_le (length ws) 16 then left_step s z ws (class_of s.classes class)
-    else Err fault.Limit
+    else Err kinds.Limit
 
 abbrev pub rule_line : State → Bool → Option (List ℕ × List (List ℕ)) → Result State DescKind
-rule_line s z None = Err fault.BadWord
+rule_line s z None = Err kinds.BadWord
 rule_line s z (Some x) = rule_step s z x.0 x.1
 
 -- `if ..`, which stands in front of the `do` lines
 abbrev pub if_step : State → Restriction → Result State DescKind
 if_step s r =
     if length s.lines == 0 then
-    (if nat_le 4 (length s.restrictions) then Err fault.Limit
+    (if nat_le 4 (length s.restrictions) then Err kinds.Limit
     else if restriction_fits s.classes s.right r then Ok (record s { restrictions = s.restrictions ++ r ∷ [] })
-    else Err fault.BadIf)
-    else Err fault.BadWord
+    else Err kinds.BadIf)
+    else Err kinds.BadWord
 
 -- `do ..`
 abbrev pub do_pieces : State → ℕ → Option (List Piece) → Result State DescKind
-do_pieces s n None = Err fault.BadHole
+do_pieces s n None = Err kinds.BadHole
 do_pieces s n (Some ps) =
-    if line_fits s.register s.right ps then Ok (record s { lines = s.lines ++ line_at n ps ∷ [] }) else Err fault.BadHole
+    if line_fits s.register s.right ps then Ok (record s { lines = s.lines ++ line_at n ps ∷ [] }) else Err kinds.BadHole
 
 abbrev pub do_text : State → ℕ → Option (List ℕ) → Result State DescKind
-do_text s n None = Err fault.BadWord
-do_text s n (Some t) = if nat_le 8 (length s.lines) then Err fault.Limit else do_pieces s n (pieces t)
+do_text s n None = Err kinds.BadWord
+do_text s n (Some t) = if nat_le 8 (length s.lines) then Err kinds.Limit else do_pieces s n (pieces t)
 
 -- `give ..`
 abbrev pub ended_rule : State → Give → State
@@ -140,19 +141,19 @@ ended_rule s g = record s {
 }
 
 abbrev pub shape_step : State → ℕ → Option (List Piece) → Result State DescKind
-shape_step s n None = Err fault.BadHole
+shape_step s n None = Err kinds.BadHole
 shape_step s n (Some ps) =
     if pieces_fit false s.right ps then
     (if shape_fits s.classes s.right (kind_at s.classes s.left) ps then Ok (ended_rule s (give.Shape (line_at n ps))) else Err
-    fault.BadGive)
-    else Err fault.BadHole
+    kinds.BadGive)
+    else Err kinds.BadHole
 
 abbrev pub give_step : State → ℕ → List ℕ → Option Give → Result State DescKind
 give_step s n w None = shape_step s n (pieces w)
-give_step s n w (Some g) = if plain_fits (kind_at s.classes s.left) g then Ok (ended_rule s g) else Err fault.BadGive
+give_step s n w (Some g) = if plain_fits (kind_at s.classes s.left) g then Ok (ended_rule s g) else Err kinds.BadGive
 
 abbrev pub give_line : State → ℕ → Option (List ℕ) → Result State DescKind
-give_line s n None = Err fault.BadWord
+give_line s n None = Err kinds.BadWord
 give_line s n (Some w) = give_step s n w (plain_give w)
 
 abbrev pub do_line : State → ℕ → Option (List (List ℕ)) → List (List ℕ) → Result State DescKind
@@ -167,9 +168,9 @@ if_line s n None ws = do_line s n (do_form ws) ws
 -- it begins
 abbrev pub step_at : Stage → State → ℕ → List (List ℕ) → Bool → Result State DescKind
 step_at stage.Version s n ws z = if are_both ws (codes "version") (codes "1") then Ok (record s { stage = stage.Target })
-    else Err fault.BadWord
+    else Err kinds.BadWord
 step_at stage.Target s n ws z = if are_both ws (codes "target") (codes "vax") then Ok (record s { stage = stage.Pool }) else Err
-    fault.BadWord
+    kinds.BadWord
 step_at stage.Pool s n ws z = pool_step s (pool_form ws)
 step_at stage.Classes s n ws z = class_line s n (class_form ws) ws
 step_at stage.Spills s n ws z = spill_line s n (spill_form ws)

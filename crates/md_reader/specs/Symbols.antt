@@ -6,7 +6,7 @@ use Rattle.tree_core.specs.declared.token.Tok.{Tok}
 use Rattle.tree_core.specs.Names.{name_of}
 use Rattle.md_reader.specs.declared.types.Class.{Class}
 use Rattle.md_reader.specs.declared.types.Sym.{Sym}
-use Rattle.md_reader.specs.declared.types.Sym.TheVariants as sym
+use Rattle.md_reader.specs.declared.types.Sym.TheVariants as grammar_symbol
 use Rattle.md_reader.specs.declared.symbols.TheConstants.{TOKENS}
 
 -- the first of these tokens with this name
@@ -27,8 +27,8 @@ abbrev pub class_of : List Class → List ℕ → Option ℕ
 class_of classes w = class_from 0 classes w
 
 abbrev pub token_or_class : Option Tok → Option ℕ → Option Sym
-token_or_class (Some t) c = Some (sym.Tok t)
-token_or_class None c = option_map sym.Class c
+token_or_class (Some t) c = Some (grammar_symbol.Tok t)
+token_or_class None c = option_map grammar_symbol.Class c
 
 abbrev pub symbol_of : List Class → List ℕ → Option Sym
 symbol_of classes w = token_or_class (token_of w) (class_of classes w)

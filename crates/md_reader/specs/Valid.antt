@@ -5,7 +5,7 @@ use Rattle.md_reader_pieces.specs.declared.piece.Line.{Line}
 use Rattle.tree_core.specs.declared.token.Sort.{Sort}
 use Rattle.md_reader.specs.declared.types.Class.{Class}
 use Rattle.md_reader.specs.declared.types.Sym.{Sym}
-use Rattle.md_reader.specs.declared.types.Sym.TheVariants as sym
+use Rattle.md_reader.specs.declared.types.Sym.TheVariants as grammar_symbol
 use Rattle.md_reader.specs.declared.types.Restriction.{Restriction}
 use Rattle.md_reader.specs.declared.types.Give.{Give}
 use Rattle.md_reader.specs.declared.types.Give.TheVariants as give
@@ -41,12 +41,12 @@ pub record AreClasses (classes : List Class) : Type 0 where
 
 -- a spill line has one symbol, `%1`, and a slot or a register, `%0`
 abbrev pub IsSpill : Line → Type 0
-IsSpill l = line_fits true (sym.Class 0 ∷ []) l.pieces ≡ true
+IsSpill l = line_fits true (grammar_symbol.Class 0 ∷ []) l.pieces ≡ true
 
 -- the left side is a class, and the right side a tree of its sort
 pub record AreSides (classes : List Class) (left : ℕ) (right : List Sym) : Type 0 where
   pub sort : Sort
-  pub declared : sort_of_symbol classes (sym.Class left) ≡ Some sort
+  pub declared : sort_of_symbol classes (grammar_symbol.Class left) ≡ Some sort
   pub short : length right ≤ 16
   pub tree : IsTree right
   pub sorted : IsSorted classes sort right

@@ -2,18 +2,18 @@
 use Rattle.std.specs.Prelude.{◌≡◌, List, Option, Some, None, Result, Ok, Err}
 use Rattle.std.specs.Global.{Vec}
 use Rattle.md_reader_pieces.specs.declared.piece.PieceFault.{PieceFault}
-use Rattle.md_reader_pieces.specs.declared.piece.PieceFault.TheVariants as holes
+use Rattle.md_reader_pieces.specs.declared.piece.PieceFault.TheVariants as piece_fault
 use Rattle.md_reader.specs.declared.types.Sym.{Sym}
 use Rattle.md_reader.specs.declared.reading.Reading.{Reading}
 use Rattle.md_reader.specs.declared.faults.DescKind.{DescKind}
-use Rattle.md_reader.specs.declared.faults.DescKind.TheVariants as fault
+use Rattle.md_reader.specs.declared.faults.DescKind.TheVariants as kinds
 use Rattle.md_reader.specs.declared.faults.LineFault.{LineFault}
-use Rattle.md_reader.specs.declared.faults.LineFault.TheVariants as refusal
+use Rattle.md_reader.specs.declared.faults.LineFault.TheVariants as wrong_line
 use Rattle.md_reader.specs.State.{State}
 
 abbrev pub line_fault : PieceFault → LineFault
-line_fault holes.NoMemory = refusal.NoMemory
-line_fault holes.BadHole = refusal.Wrong fault.BadHole
+line_fault piece_fault.NoMemory = wrong_line.NoMemory
+line_fault piece_fault.BadHole = wrong_line.Wrong kinds.BadHole
 
 abbrev pub state : Reading → State
 state r = record {
@@ -31,16 +31,16 @@ state r = record {
 
 -- what a line came to
 abbrev pub StepFails : LineFault → Result State DescKind → Type 0
-StepFails refusal.NoMemory to = Unit {0}
-StepFails (refusal.Wrong kind) to = to ≡ Err kind
+StepFails wrong_line.NoMemory to = Unit {0}
+StepFails (wrong_line.Wrong kind) to = to ≡ Err kind
 
 abbrev pub Stepped : {X : Type 0} → Result X LineFault → State → Result State DescKind → Type 0
 Stepped (Ok u) new to = to ≡ Ok new
 Stepped (Err e) new to = StepFails e to
 
 abbrev pub NoSymbols : LineFault → Option (List Sym) → Type 0
-NoSymbols refusal.NoMemory found = Unit {0}
-NoSymbols (refusal.Wrong kind) found = (kind ≡ fault.UnknownToken) × (found ≡ None)
+NoSymbols wrong_line.NoMemory found = Unit {0}
+NoSymbols (wrong_line.Wrong kind) found = (kind ≡ kinds.UnknownToken) × (found ≡ None)
 
 abbrev pub AreSymbols : Result (Vec Sym) LineFault → Option (List Sym) → Type 0
 AreSymbols (Ok v) found = found ≡ Some v.items

@@ -55,9 +55,9 @@ pub enum LineFault {
 
 impl From<NoMemory> for LineFault {
     ghost use Rattle.std.specs.Prelude.{◌≡◌};
-    ghost use Rattle.md_reader.specs.declared.faults.LineFault.TheVariants as faults;
+    ghost use Rattle.md_reader.specs.declared.faults.LineFault.TheVariants as wrong_line;
 
-    ghost from_gives = { λ _ e. e ≡ faults.NoMemory };
+    ghost from_gives = { λ _ e. e ≡ wrong_line.NoMemory };
 
     fn from(_: NoMemory) -> Self {
         LineFault::NoMemory
@@ -66,9 +66,9 @@ impl From<NoMemory> for LineFault {
 
 impl From<AllocError> for LineFault {
     ghost use Rattle.std.specs.Prelude.{◌≡◌};
-    ghost use Rattle.md_reader.specs.declared.faults.LineFault.TheVariants as faults;
+    ghost use Rattle.md_reader.specs.declared.faults.LineFault.TheVariants as wrong_line;
 
-    ghost from_gives = { λ _ e. e ≡ faults.NoMemory };
+    ghost from_gives = { λ _ e. e ≡ wrong_line.NoMemory };
 
     fn from(_: AllocError) -> Self {
         LineFault::NoMemory
@@ -77,9 +77,9 @@ impl From<AllocError> for LineFault {
 
 impl<T: Drop> From<AllocFailed<T>> for LineFault {
     ghost use Rattle.std.specs.Prelude.{◌≡◌};
-    ghost use Rattle.md_reader.specs.declared.faults.LineFault.TheVariants as faults;
+    ghost use Rattle.md_reader.specs.declared.faults.LineFault.TheVariants as wrong_line;
 
-    ghost from_gives = { λ _ e. e ≡ faults.NoMemory };
+    ghost from_gives = { λ _ e. e ≡ wrong_line.NoMemory };
 
     fn from(_: AllocFailed<T>) -> Self {
         LineFault::NoMemory

@@ -15,13 +15,13 @@ use md_reader_text::next_line;
 use std::alloc::Global;
 
 fn missing(line: u32, kind: DescKind) -> Result<Description, DescFault>
-    ensures { result ≡ Err (answer.Line line kind) }
+    ensures { result ≡ Err (desc_fault.Line line kind) }
 {
     Err(DescFault::Line { line, kind })
 }
 
 ghost use Rattle.std.specs.Prelude.{Err, []};
-ghost use Rattle.md_reader.specs.declared.faults.DescFault.TheVariants as answer;
+ghost use Rattle.md_reader.specs.declared.faults.DescFault.TheVariants as desc_fault;
 
 /// The text ends before the line with this number.
 #[tactic(auto, using(crate::proofs::ValidLaws::is_valid))]

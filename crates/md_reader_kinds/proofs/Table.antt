@@ -6,11 +6,11 @@ use Rattle.md_reader_pieces.specs.declared.piece.Piece.{Piece}
 use Rattle.md_reader_pieces.specs.Pieces.{text_of, pieces}
 use Rattle.md_reader.specs.declared.types.Kind.{Kind}
 use Rattle.md_reader.specs.declared.types.Sym.{Sym}
-use Rattle.md_reader.specs.declared.types.Sym.TheVariants as sym
+use Rattle.md_reader.specs.declared.types.Sym.TheVariants as grammar_symbol
 use Rattle.md_reader.specs.declared.types.Restriction.{Restriction}
 use Rattle.md_reader.specs.declared.types.Give.{Give}
 use Rattle.md_reader.specs.declared.faults.DescKind.{DescKind}
-use Rattle.md_reader.specs.declared.faults.DescKind.TheVariants as fault
+use Rattle.md_reader.specs.declared.faults.DescKind.TheVariants as kinds
 use Rattle.md_reader.specs.declared.forms.Saved.{Saved}
 use Rattle.md_reader.specs.declared.reading.Stage.{Stage}
 use Rattle.md_reader.specs.declared.reading.Stage.TheVariants as stage
@@ -29,38 +29,38 @@ module _ (s : State) (n : ℕ) (z : Bool) where
   abbrev Kind_of : Result State DescKind → Option Saying → Type 0
   Kind_of r o = kind_of r ≡ first (rows s z o)
 
-  head : (b : Bool) (t : State) → Kind_of (if b then Ok t else Err fault.BadWord) (head_if b)
+  head : (b : Bool) (t : State) → Kind_of (if b then Ok t else Err kinds.BadWord) (head_if b)
   head true t = refl
   head false t = refl
 
   -- ---- classes and spill lines
 
-  new : (name : List ℕ) (kind : Kind) (o : Option ℕ) → kind_of (new_class s name kind o) ≡ first (row fault.Twice (is_some o) ∷ [])
+  new : (name : List ℕ) (kind : Kind) (o : Option ℕ) → kind_of (new_class s name kind o) ≡ first (row kinds.Twice (is_some o) ∷ [])
   new name kind None = refl
   new name kind (Some i) = refl
 
   class_kind : (name : List ℕ) (kind : Kind) → Kind_of (class_step s name kind) (Some (NewClass name kind))
   class_kind name kind = by (nat_le 64 (length s.classes))
     where
-      by : (b : Bool) → kind_of (if b then Err fault.Limit else new_class s name kind (class_of s.classes name)) ≡ first (row fault.Limit b ∷ row fault.Twice (is_some (class_of s.classes name)) ∷ [])
+      by : (b : Bool) → kind_of (if b then Err kinds.Limit else new_class s name kind (class_of s.classes name)) ≡ first (row kinds.Limit b ∷ row kinds.Twice (is_some (class_of s.classes name)) ∷ [])
       by true = refl
       by false = new name kind (class_of s.classes name)
 
   abbrev spill_rows : Bool → Option (List ℕ) → List Row
   spill_rows b text =
-      row fault.MissingStmt (not b) ∷
-      row fault.BadWord (is_none text) ∷
-      row fault.BadHole (fails (λ (t : List ℕ). not (lacks (line_fits true (sym.Class 0 ∷ [])) (pieces t))) text) ∷ []
+      row kinds.MissingStmt (not b) ∷
+      row kinds.BadWord (is_none text) ∷
+      row kinds.BadHole (fails (λ (t : List ℕ). not (lacks (line_fits true (grammar_symbol.Class 0 ∷ [])) (pieces t))) text) ∷ []
 
-  spill_hole : (o : Option (List Piece)) → kind_of (spill_pieces s n o) ≡ first (row fault.BadHole (not (not (lacks (line_fits true (sym.Class 0 ∷ [])) o))) ∷ [])
+  spill_hole : (o : Option (List Piece)) → kind_of (spill_pieces s n o) ≡ first (row kinds.BadHole (not (not (lacks (line_fits true (grammar_symbol.Class 0 ∷ [])) o))) ∷ [])
   spill_hole None = refl
-  spill_hole (Some ps) = by (line_fits true (sym.Class 0 ∷ []) ps) _
+  spill_hole (Some ps) = by (line_fits true (grammar_symbol.Class 0 ∷ []) ps) _
     where
-      by : (b : Bool) (t : State) → kind_of (if b then Ok t else Err fault.BadHole) ≡ first (row fault.BadHole (not (not (not b))) ∷ [])
+      by : (b : Bool) (t : State) → kind_of (if b then Ok t else Err kinds.BadHole) ≡ first (row kinds.BadHole (not (not (not b))) ∷ [])
       by true t = refl
       by false t = refl
 
-  spill_kind : (b : Bool) (text : Option (List ℕ)) → kind_of (if b then spill_text s n text else Err fault.MissingStmt) ≡ first (spill_rows b text)
+  spill_kind : (b : Bool) (text : Option (List ℕ)) → kind_of (if b then spill_text s n text else Err kinds.MissingStmt) ≡ first (spill_rows b text)
   spill_kind false text = refl
   spill_kind true None = refl
   spill_kind true (Some t) = spill_hole (pieces t)
@@ -69,7 +69,7 @@ module _ (s : State) (n : ℕ) (z : Bool) where
   spill_line_kind None = refl
   spill_line_kind (Some x) = by (saved_number x.0 == length s.spills)
     where
-      by : (b : Bool) → Kind_of (if b then (if has_stmt s.classes then spill_text s n (text_of x.1) else Err fault.MissingStmt) else Err fault.BadWord) (if b then Some (Spill (text_of x.1)) else None)
+      by : (b : Bool) → Kind_of (if b then (if has_stmt s.classes then spill_text s n (text_of x.1) else Err kinds.MissingStmt) else Err kinds.BadWord) (if b then Some (Spill (text_of x.1)) else None)
       by true = spill_kind (has_stmt s.classes) (text_of x.1)
       by false = refl
 
@@ -79,31 +79,31 @@ module _ (s : State) (n : ℕ) (z : Bool) where
 
   -- ---- rules
 
-  sort_kind : (left : ℕ) (right : List Sym) (o : Option Sort) → kind_of (sort_step s left right z o) ≡ first (row fault.WrongSort (wrong_sorts s.classes o right) ∷ [])
+  sort_kind : (left : ℕ) (right : List Sym) (o : Option Sort) → kind_of (sort_step s left right z o) ≡ first (row kinds.WrongSort (wrong_sorts s.classes o right) ∷ [])
   sort_kind left right None = refl
   sort_kind left right (Some x) = by (is_bare s.classes right) (walk (sorted_test s.classes) (x ∷ []) right) _
     where
-      by : (b c : Bool) (t : State) → kind_of (if b then Err fault.WrongSort else if c then Ok t else Err fault.WrongSort) ≡ first (row fault.WrongSort (b || not c) ∷ [])
+      by : (b c : Bool) (t : State) → kind_of (if b then Err kinds.WrongSort else if c then Ok t else Err kinds.WrongSort) ≡ first (row kinds.WrongSort (b || not c) ∷ [])
       by true c t = refl
       by false true t = refl
       by false false t = refl
 
   right_kind : (left : ℕ) (o : Option (List Sym)) → kind_of (right_step s left z o)
-      ≡ first (row fault.UnknownToken (is_none o) ∷ row fault.NotATree (fails (count 1) o) ∷ row fault.WrongSort (wrong_sort s.classes (Some left) o) ∷ [])
+      ≡ first (row kinds.UnknownToken (is_none o) ∷ row kinds.NotATree (fails (count 1) o) ∷ row kinds.WrongSort (wrong_sort s.classes (Some left) o) ∷ [])
   right_kind left None = refl
   right_kind left (Some right) = by (count 1 right)
     where
-      by : (b : Bool) → kind_of (if b then sort_step s left right z (sort_of_symbol s.classes (sym.Class left)) else Err fault.NotATree)
-          ≡ first (row fault.NotATree (not b) ∷ row fault.WrongSort (wrong_sorts s.classes (sort_of_symbol s.classes (sym.Class left)) right) ∷ [])
-      by true = sort_kind left right (sort_of_symbol s.classes (sym.Class left))
+      by : (b : Bool) → kind_of (if b then sort_step s left right z (sort_of_symbol s.classes (grammar_symbol.Class left)) else Err kinds.NotATree)
+          ≡ first (row kinds.NotATree (not b) ∷ row kinds.WrongSort (wrong_sorts s.classes (sort_of_symbol s.classes (grammar_symbol.Class left)) right) ∷ [])
+      by true = sort_kind left right (sort_of_symbol s.classes (grammar_symbol.Class left))
       by false = refl
 
   abbrev left_rows : List (List ℕ) → Option ℕ → List Row
   left_rows ws o =
-      row fault.UnknownClass (is_none o) ∷
-      row fault.UnknownToken (is_none (symbols_of s.classes ws)) ∷
-      row fault.NotATree (fails (count 1) (symbols_of s.classes ws)) ∷
-      row fault.WrongSort (wrong_sort s.classes o (symbols_of s.classes ws)) ∷ []
+      row kinds.UnknownClass (is_none o) ∷
+      row kinds.UnknownToken (is_none (symbols_of s.classes ws)) ∷
+      row kinds.NotATree (fails (count 1) (symbols_of s.classes ws)) ∷
+      row kinds.WrongSort (wrong_sort s.classes o (symbols_of s.classes ws)) ∷ []
 
   left_kind : (ws : List (List ℕ)) (o : Option ℕ) → kind_of (left_step s z ws o) ≡ first (left_rows ws o)
   left_kind ws None = refl
@@ -113,7 +113,7 @@ module _ (s : State) (n : ℕ) (z : Bool) where
   rule_kind class ws = by (nat_le 1000 (length s.rules)) (nat_le (length ws) 16) _ (left_rows ws (class_of s.classes class)) (left_kind ws (class_of s.classes class))
     where
       by : (b c : Bool) (r : Result State DescKind) (rs : List Row) → kind_of r ≡ first rs
-          → kind_of (if b then Err fault.Limit else if c then r else Err fault.Limit) ≡ first (row fault.Limit (b || not c) ∷ rs)
+          → kind_of (if b then Err kinds.Limit else if c then r else Err kinds.Limit) ≡ first (row kinds.Limit (b || not c) ∷ rs)
       by true c r rs h = refl
       by false true r rs h = h
       by false false r rs h = refl
@@ -127,20 +127,20 @@ module _ (s : State) (n : ℕ) (z : Bool) where
   if_kind : (r : Restriction) → Kind_of (if_step s r) (if length s.lines == 0 then Some (If r) else None)
   if_kind r = by (length s.lines == 0) _ (inner (nat_le 4 (length s.restrictions)) (restriction_fits s.classes s.right r) _)
     where
-      inner : (c d : Bool) (t : State) → kind_of (if c then Err fault.Limit else if d then Ok t else Err fault.BadIf) ≡ first (row fault.Limit c ∷ row fault.BadIf (not d) ∷ [])
+      inner : (c d : Bool) (t : State) → kind_of (if c then Err kinds.Limit else if d then Ok t else Err kinds.BadIf) ≡ first (row kinds.Limit c ∷ row kinds.BadIf (not d) ∷ [])
       inner true d t = refl
       inner false true t = refl
       inner false false t = refl
 
-      by : (b : Bool) (o : Result State DescKind) → kind_of o ≡ first (rows s z (Some (If r))) → Kind_of (if b then o else Err fault.BadWord) (if b then Some (If r) else None)
+      by : (b : Bool) (o : Result State DescKind) → kind_of o ≡ first (rows s z (Some (If r))) → Kind_of (if b then o else Err kinds.BadWord) (if b then Some (If r) else None)
       by true o h = h
       by false o h = refl
 
-  do_hole : (o : Option (List Piece)) → kind_of (do_pieces s n o) ≡ first (row fault.BadHole (lacks (line_fits s.register s.right) o) ∷ [])
+  do_hole : (o : Option (List Piece)) → kind_of (do_pieces s n o) ≡ first (row kinds.BadHole (lacks (line_fits s.register s.right) o) ∷ [])
   do_hole None = refl
   do_hole (Some ps) = by (line_fits s.register s.right ps) _
     where
-      by : (b : Bool) (t : State) → kind_of (if b then Ok t else Err fault.BadHole) ≡ first (row fault.BadHole (not b) ∷ [])
+      by : (b : Bool) (t : State) → kind_of (if b then Ok t else Err kinds.BadHole) ≡ first (row kinds.BadHole (not b) ∷ [])
       by true t = refl
       by false t = refl
 
@@ -148,30 +148,30 @@ module _ (s : State) (n : ℕ) (z : Bool) where
   do_kind None = refl
   do_kind (Some t) = by (nat_le 8 (length s.lines))
     where
-      by : (b : Bool) → kind_of (if b then Err fault.Limit else do_pieces s n (pieces t)) ≡ first (row fault.Limit b ∷ row fault.BadHole (lacks (line_fits s.register s.right) (pieces t)) ∷ [])
+      by : (b : Bool) → kind_of (if b then Err kinds.Limit else do_pieces s n (pieces t)) ≡ first (row kinds.Limit b ∷ row kinds.BadHole (lacks (line_fits s.register s.right) (pieces t)) ∷ [])
       by true = refl
       by false = do_hole (pieces t)
 
   abbrev give_rows : Option Give → Option (List Piece) → List Row
-  give_rows (Some g) o = row fault.BadHole false ∷ row fault.BadGive (not (plain_fits (kind_at s.classes s.left) g)) ∷ []
+  give_rows (Some g) o = row kinds.BadHole false ∷ row kinds.BadGive (not (plain_fits (kind_at s.classes s.left) g)) ∷ []
   give_rows None o =
-      row fault.BadHole (lacks (pieces_fit false s.right) o) ∷
-      row fault.BadGive (fails (shape_fits s.classes s.right (kind_at s.classes s.left)) o) ∷ []
+      row kinds.BadHole (lacks (pieces_fit false s.right) o) ∷
+      row kinds.BadGive (fails (shape_fits s.classes s.right (kind_at s.classes s.left)) o) ∷ []
 
   shape_kind : (o : Option (List Piece)) → kind_of (shape_step s n o) ≡ first (give_rows None o)
   shape_kind None = refl
   shape_kind (Some ps) = by (pieces_fit false s.right ps) (shape_fits s.classes s.right (kind_at s.classes s.left) ps) _
     where
-      by : (b c : Bool) (t : State) → kind_of (if b then (if c then Ok t else Err fault.BadGive) else Err fault.BadHole) ≡ first (row fault.BadHole (not b) ∷ row fault.BadGive (not c) ∷ [])
+      by : (b c : Bool) (t : State) → kind_of (if b then (if c then Ok t else Err kinds.BadGive) else Err kinds.BadHole) ≡ first (row kinds.BadHole (not b) ∷ row kinds.BadGive (not c) ∷ [])
       by true true t = refl
       by true false t = refl
       by false c t = refl
 
-  give_kind : (w : List ℕ) (o : Option Give) → kind_of (give_step s n w o) ≡ first (row fault.BadHole (bad_operand s o w) ∷ row fault.BadGive (bad_give s o w) ∷ [])
+  give_kind : (w : List ℕ) (o : Option Give) → kind_of (give_step s n w o) ≡ first (row kinds.BadHole (bad_operand s o w) ∷ row kinds.BadGive (bad_give s o w) ∷ [])
   give_kind w None = shape_kind (pieces w)
   give_kind w (Some g) = by (plain_fits (kind_at s.classes s.left) g) _
     where
-      by : (b : Bool) (t : State) → kind_of (if b then Ok t else Err fault.BadGive) ≡ first (row fault.BadGive (not b) ∷ [])
+      by : (b : Bool) (t : State) → kind_of (if b then Ok t else Err kinds.BadGive) ≡ first (row kinds.BadGive (not b) ∷ [])
       by true t = refl
       by false t = refl
 

@@ -7,11 +7,11 @@ use Rattle.md_reader_pieces.specs.Pieces.{text_of, pieces}
 use Rattle.md_reader.specs.declared.types.Kind.{Kind}
 use Rattle.md_reader.specs.declared.types.Class.{Class}
 use Rattle.md_reader.specs.declared.types.Sym.{Sym}
-use Rattle.md_reader.specs.declared.types.Sym.TheVariants as sym
+use Rattle.md_reader.specs.declared.types.Sym.TheVariants as grammar_symbol
 use Rattle.md_reader.specs.declared.types.Restriction.{Restriction}
 use Rattle.md_reader.specs.declared.types.Give.{Give}
 use Rattle.md_reader.specs.declared.faults.DescKind.{DescKind}
-use Rattle.md_reader.specs.declared.faults.DescKind.TheVariants as fault
+use Rattle.md_reader.specs.declared.faults.DescKind.TheVariants as kinds
 use Rattle.md_reader.specs.declared.forms.Saved.{Saved}
 use Rattle.md_reader.specs.declared.reading.Stage.{Stage}
 use Rattle.md_reader.specs.declared.reading.Stage.TheVariants as stage
@@ -96,7 +96,7 @@ wrong_sorts classes (Some x) syms = is_bare classes syms || not (walk (sorted_te
 abbrev pub wrong_sort : List Class → Option ℕ → Option (List Sym) → Bool
 wrong_sort classes None syms = false
 wrong_sort classes (Some left) None = false
-wrong_sort classes (Some left) (Some syms) = wrong_sorts classes (sort_of_symbol classes (sym.Class left)) syms
+wrong_sort classes (Some left) (Some syms) = wrong_sorts classes (sort_of_symbol classes (grammar_symbol.Class left)) syms
 
 -- an operand has a bad hole, or isn't what a rule of the class gives
 abbrev pub bad_operand : State → Option Give → List ℕ → Bool
@@ -118,25 +118,25 @@ row kind applies = record { kind = kind; applies = applies }
 
 -- the kinds that may apply to a line that says this, in order; a line whose form isn't allowed is no saying
 abbrev pub rows : State → Bool → Option Saying → List Row
-rows s z None = row fault.BadWord true ∷ []
+rows s z None = row kinds.BadWord true ∷ []
 rows s z (Some Head) = []
-rows s z (Some (NewClass name kind)) = row fault.Limit (nat_le 64 (length s.classes)) ∷ row fault.Twice
+rows s z (Some (NewClass name kind)) = row kinds.Limit (nat_le 64 (length s.classes)) ∷ row kinds.Twice
     (is_some (class_of s.classes name)) ∷ []
 rows s z (Some (Spill text)) =
-    row fault.MissingStmt (not (has_stmt s.classes)) ∷
-    row fault.BadWord (is_none text) ∷
-    row fault.BadHole (fails (λ (t : List ℕ). not (lacks (line_fits true (sym.Class 0 ∷ [])) (pieces t))) text) ∷ []
+    row kinds.MissingStmt (not (has_stmt s.classes)) ∷
+    row kinds.BadWord (is_none text) ∷
+    row kinds.BadHole (fails (λ (t : List ℕ). not (lacks (line_fits true (grammar_symbol.Class 0 ∷ [])) (pieces t))) text) ∷ []
 rows s z (Some (NewRule class right)) =
-    row fault.Limit (nat_le 1000 (length s.rules) || not (nat_le (length right) 16)) ∷
-    row fault.UnknownClass (is_none (class_of s.classes class)) ∷
-    row fault.UnknownToken (is_none (symbols_of s.classes right)) ∷
-    row fault.NotATree (fails (count 1) (symbols_of s.classes right)) ∷
-    row fault.WrongSort (wrong_sort s.classes (class_of s.classes class) (symbols_of s.classes right)) ∷ []
-rows s z (Some (If r)) = row fault.Limit (nat_le 4 (length s.restrictions)) ∷ row fault.BadIf
+    row kinds.Limit (nat_le 1000 (length s.rules) || not (nat_le (length right) 16)) ∷
+    row kinds.UnknownClass (is_none (class_of s.classes class)) ∷
+    row kinds.UnknownToken (is_none (symbols_of s.classes right)) ∷
+    row kinds.NotATree (fails (count 1) (symbols_of s.classes right)) ∷
+    row kinds.WrongSort (wrong_sort s.classes (class_of s.classes class) (symbols_of s.classes right)) ∷ []
+rows s z (Some (If r)) = row kinds.Limit (nat_le 4 (length s.restrictions)) ∷ row kinds.BadIf
     (not (restriction_fits s.classes s.right r)) ∷ []
-rows s z (Some (Do text)) = row fault.Limit (nat_le 8 (length s.lines)) ∷ row fault.BadHole
+rows s z (Some (Do text)) = row kinds.Limit (nat_le 8 (length s.lines)) ∷ row kinds.BadHole
     (lacks (line_fits s.register s.right) (pieces text)) ∷ []
-rows s z (Some (Giving w)) = row fault.BadHole (bad_operand s (plain_give w) w) ∷ row fault.BadGive (bad_give s (plain_give w) w) ∷ []
+rows s z (Some (Giving w)) = row kinds.BadHole (bad_operand s (plain_give w) w) ∷ row kinds.BadGive (bad_give s (plain_give w) w) ∷ []
 
 -- the first that applies
 abbrev pub first : List Row → Option DescKind

@@ -5,7 +5,7 @@ use Rattle.std.proofs.lemmas.List.{append-nil, drop-drop}
 use Rattle.md_reader_text.specs.Lists.{put_front}
 use Rattle.md_reader_pieces.specs.declared.piece.Piece.{Piece}
 use Rattle.md_reader_pieces.specs.declared.piece.PieceFault.{PieceFault}
-use Rattle.md_reader_pieces.specs.declared.piece.PieceFault.TheVariants as faults
+use Rattle.md_reader_pieces.specs.declared.piece.PieceFault.TheVariants as piece_fault
 use Rattle.md_reader_pieces.specs.Pieces.{Lacks, part_len, parts, parts_behind, plain, hole_pieces, together, holes, pieces_of, pieces}
 
 parts_front : (text : List ℕ) → parts text ≡ take (part_len text) text ∷ parts_behind (drop (part_len text) text)
@@ -62,8 +62,8 @@ no_hole text after at len items all lt a e f h =
 
 pub lacks : (text after : List ℕ) (at len : ℕ) (items : List Piece) (all : Option (List Piece)) (fault : PieceFault) → at < length text → after ≡ drop (at + 1) text → len ≡ part_len after
     → Lacks fault (hole_pieces (take len after)) → together (Some items) (holes (parts_behind (drop at text))) ≡ all → Lacks fault all
-lacks text after at len items all faults.NoMemory lt a e f h = tt
-lacks text after at len items all faults.BadHole lt a e f h = no_hole text after at len items all lt a e f h
+lacks text after at len items all piece_fault.NoMemory lt a e f h = tt
+lacks text after at len items all piece_fault.BadHole lt a e f h = no_hole text after at len items all lt a e f h
 
 -- nothing is left
 pub ended : (text : List ℕ) (at : ℕ) (items : List Piece) (all : Option (List Piece)) → length text ≤ at → together (Some items) (holes (parts_behind (drop at text))) ≡ all → all ≡ Some items

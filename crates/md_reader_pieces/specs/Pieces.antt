@@ -7,7 +7,7 @@ use Rattle.md_reader_text.specs.Numbers.{digits_len, number}
 use Rattle.md_reader_pieces.specs.declared.piece.Piece.{Piece}
 use Rattle.md_reader_pieces.specs.declared.piece.Piece.TheVariants as piece
 use Rattle.md_reader_pieces.specs.declared.piece.PieceFault.{PieceFault}
-use Rattle.md_reader_pieces.specs.declared.piece.PieceFault.TheVariants as faults
+use Rattle.md_reader_pieces.specs.declared.piece.PieceFault.TheVariants as piece_fault
 
 -- an instruction has a mnemonic, and operands behind one space or none
 abbrev pub text_of : List (List ℕ) → Option (List ℕ)
@@ -77,8 +77,8 @@ parts_behind (b ∷ bs) = parts bs
 
 -- these pieces were put behind those that were there, or there are none
 abbrev pub Lacks : PieceFault → Option (List Piece) → Type 0
-Lacks faults.NoMemory found = Unit {0}
-Lacks faults.BadHole found = found ≡ None
+Lacks piece_fault.NoMemory found = Unit {0}
+Lacks piece_fault.BadHole found = found ≡ None
 
 abbrev pub Adds : Result Unit PieceFault → List Piece → List Piece → Option (List Piece) → Type 0
 Adds (Ok u) old new found = together (Some old) found ≡ Some new

@@ -76,9 +76,9 @@ pub enum PieceFault {
 
 impl From<NoMemory> for PieceFault {
     ghost use Rattle.std.specs.Prelude.{◌≡◌};
-    ghost use Rattle.md_reader_pieces.specs.declared.piece.PieceFault.TheVariants as faults;
+    ghost use Rattle.md_reader_pieces.specs.declared.piece.PieceFault.TheVariants as piece_fault;
 
-    ghost from_gives = { λ _ e. e ≡ faults.NoMemory };
+    ghost from_gives = { λ _ e. e ≡ piece_fault.NoMemory };
 
     fn from(_: NoMemory) -> Self {
         PieceFault::NoMemory
@@ -87,9 +87,9 @@ impl From<NoMemory> for PieceFault {
 
 impl From<AllocError> for PieceFault {
     ghost use Rattle.std.specs.Prelude.{◌≡◌};
-    ghost use Rattle.md_reader_pieces.specs.declared.piece.PieceFault.TheVariants as faults;
+    ghost use Rattle.md_reader_pieces.specs.declared.piece.PieceFault.TheVariants as piece_fault;
 
-    ghost from_gives = { λ _ e. e ≡ faults.NoMemory };
+    ghost from_gives = { λ _ e. e ≡ piece_fault.NoMemory };
 
     fn from(_: AllocError) -> Self {
         PieceFault::NoMemory
@@ -98,9 +98,9 @@ impl From<AllocError> for PieceFault {
 
 impl<T: Drop> From<AllocFailed<T>> for PieceFault {
     ghost use Rattle.std.specs.Prelude.{◌≡◌};
-    ghost use Rattle.md_reader_pieces.specs.declared.piece.PieceFault.TheVariants as faults;
+    ghost use Rattle.md_reader_pieces.specs.declared.piece.PieceFault.TheVariants as piece_fault;
 
-    ghost from_gives = { λ _ e. e ≡ faults.NoMemory };
+    ghost from_gives = { λ _ e. e ≡ piece_fault.NoMemory };
 
     fn from(_: AllocFailed<T>) -> Self {
         PieceFault::NoMemory

@@ -10,7 +10,7 @@ use Rattle.tree_core.specs.declared.tree.Leaf.{Leaf}
 use Rattle.tree_core.specs.declared.program.TreeProgram.{TreeProgram}
 use Rattle.md_reader.specs.declared.types.Rule.{Rule}
 use Rattle.md_reader.specs.declared.types.Sym.{Sym}
-use Rattle.md_reader.specs.declared.types.Sym.TheVariants as symbol
+use Rattle.md_reader.specs.declared.types.Sym.TheVariants as grammar_symbol
 use Rattle.md_reader.specs.Valid.{IsValid}
 use Rattle.lr_tables.specs.declared.types.Choice.{Choice}
 use Rattle.lr_tables.specs.declared.types.Choice.TheVariants as choice
@@ -39,7 +39,7 @@ use Rattle.sel_parse.specs.Steps.{Config, Turn, Onward, Accepted, NoWord, NoRegi
 use Rattle.sel_parse.specs.Steps.{reduced_turn, takes_rule, takes, turn_by, made_turn, step, Falls, Turns, Ends}
 use Rattle.sel_parse.specs.Steps as code
 use Rattle.sel_parse.specs.declared.selection.ParseFault.{ParseFault}
-use Rattle.sel_parse.specs.declared.selection.ParseFault.TheVariants as fault
+use Rattle.sel_parse.specs.declared.selection.ParseFault.TheVariants as parse_fault
 use Rattle.sel_parse.proofs.Placing.{again, fresh}
 use Rattle.sel_parse.proofs.States.{AreStates, states_lead, as_many, states_below, state_above, Next, next_leaf}
 
@@ -225,7 +225,7 @@ module _ {O I S F : Type 0} (of : Meaning O I S F) (q : TreeProgram) (t : TableV
     pub there : slice_get rules n ≡ Some r
     pub some : 0 < length r.right
     pub within : length r.right ≤ length g.symbols
-    pub before : StandsBefore rules stmt (drop (length r.right) g.symbols) (symbol.Class r.left)
+    pub before : StandsBefore rules stmt (drop (length r.right) g.symbols) (grammar_symbol.Class r.left)
 
   refused_so : (c : Config O I) (g : Goes_on c) (n : ℕ) (r : Rule) (k : Takes c g n r) → reduced of q t.content first r c.stack ≡ Full → FrameFull of q t.content first w
   refused_so c g n r k e =
@@ -237,16 +237,16 @@ module _ {O I S F : Type 0} (of : Meaning O I S F) (q : TreeProgram) (t : TableV
   -- the state behind a rule
   lead_above : (c : Config O I) (g : Goes_on c) (n : ℕ) (r : Rule) (k : Takes c g n r) (o : Option ℕ)
       → Goes rules stmt t (drop (length r.right) g.symbols) r.left o
-      → (p : ℕ) × (o ≡ Some p) × Leads t (symbol.Class r.left ∷ drop (length r.right) g.symbols) p
+      → (p : ℕ) × (o ≡ Some p) × Leads t (grammar_symbol.Class r.left ∷ drop (length r.right) g.symbols) p
   lead_above c g n r k None h = absurd (h k.before)
   lead_above c g n r k (Some p) h = (p, refl, h.1)
 
   led : (c : Config O I) (g : Goes_on c) (n : ℕ) (r : Rule) (k : Takes c g n r)
-      → (p : ℕ) × (target_at t (top_of (take (length c.states - length r.right) c.states)) (symbol.Class r.left) ≡ Some p)
-      × Leads t (symbol.Class r.left ∷ drop (length r.right) g.symbols) p
+      → (p : ℕ) × (target_at t (top_of (take (length c.states - length r.right) c.states)) (grammar_symbol.Class r.left) ≡ Some p)
+      × Leads t (grammar_symbol.Class r.left ∷ drop (length r.right) g.symbols) p
   led c g n r k =
       let low = states_lead t (drop (length r.right) g.symbols) (take (length c.states - length r.right) c.states) (states_below t (length r.right) g.symbols c.states g.states) in
-      lead_above c g n r k (target_at t (top_of (take (length c.states - length r.right) c.states)) (symbol.Class r.left))
+      lead_above c g n r k (target_at t (top_of (take (length c.states - length r.right) c.states)) (grammar_symbol.Class r.left))
       (goes rules stmt classes grammar t.content t.rows numbered (drop (length r.right) g.symbols) (top_of (take (length c.states - length r.right) c.states)) r.left low)
 
   -- where nothing is kept any more, the parse goes on to some end
@@ -257,7 +257,7 @@ module _ {O I S F : Type 0} (of : Meaning O I S F) (q : TreeProgram) (t : TableV
       red = ap (λ (o : Option Rule). reduced_by of q t.content first o (Some c.stack)) k.there ∙ ap kept_of e
 
       back : (log : List (Move Leaf)) (f : Ending (Kept O I))
-          → Here c.at (g.symbols ∷ g.before) (drop c.at w) (symbol.Class r.left ∷ drop (length r.right) g.symbols) None log f → Blocked of q t.content first w
+          → Here c.at (g.symbols ∷ g.before) (drop c.at w) (grammar_symbol.Class r.left ∷ drop (length r.right) g.symbols) None log f → Blocked of q t.content first w
       back log f p = blocked_so f (lost p refl) (g.on (Reduce n ∷ log) f (parse.reduces r g.new k.choice k.there red p))
 
       declared : r.left < classes
@@ -271,7 +271,7 @@ module _ {O I S F : Type 0} (of : Meaning O I S F) (q : TreeProgram) (t : TableV
           let p = from_here asked rules stmt classes grammar t
           (λ a i x h. candidates rules stmt classes grammar t.content t.rows numbered a i x h)
           (λ a i x h. goes rules stmt classes grammar t.content t.rows numbered a i x h)
-          c.at (g.symbols ∷ g.before) (drop c.at w) (symbol.Class r.left ∷ drop (length r.right) g.symbols) None
+          c.at (g.symbols ∷ g.before) (drop c.at w) (grammar_symbol.Class r.left ∷ drop (length r.right) g.symbols) None
           (set (seen_before c.seen (length r.right)) r.left true) l.0 s.marked s.new l.2 in
           back p.0 p.1 p.2
 
@@ -292,10 +292,10 @@ module _ {O I S F : Type 0} (of : Meaning O I S F) (q : TreeProgram) (t : TableV
       below = take (length c.states - length r.right) c.states
 
       back : (log : List (Move Leaf)) (f : Ending (Kept O I))
-          → Here c.at (g.symbols ∷ g.before) (drop c.at w) (symbol.Class r.left ∷ drop (length r.right) g.symbols) (Some x) log f → Whole f
+          → Here c.at (g.symbols ∷ g.before) (drop c.at w) (grammar_symbol.Class r.left ∷ drop (length r.right) g.symbols) (Some x) log f → Whole f
       back log f p = g.on (Reduce n ∷ log) f (parse.reduces r g.new k.choice k.there red p)
 
-      by : (p : ℕ) → Leads t (symbol.Class r.left ∷ drop (length r.right) g.symbols) p → (b : Bool)
+      by : (p : ℕ) → Leads t (grammar_symbol.Class r.left ∷ drop (length r.right) g.symbols) p → (b : Bool)
           → get_or (seen_before c.seen (length r.right)) r.left false ≡ b
           → Come c (if b then Circle else Onward (record { at = c.at; states = below ++ p ∷ []; seen = set (seen_before c.seen (length r.right)) r.left true; stack = x }))
       by p lead true f =
@@ -303,8 +303,8 @@ module _ {O I S F : Type 0} (of : Meaning O I S F) (q : TreeProgram) (t : TableV
           circles z.0 c.at z.1
       by p lead false f =
           let s = fresh asked rules stmt classes grammar g.before g.symbols c.seen (marked_so c g) r.left declared (length r.right) k.some k.within f in
-          let ups = state_above t (symbol.Class r.left) (drop (length r.right) g.symbols) below p (states_below t (length r.right) g.symbols c.states g.states) lead in
-          let many = as_many t (symbol.Class r.left ∷ drop (length r.right) g.symbols) (below ++ p ∷ []) ups in
+          let ups = state_above t (grammar_symbol.Class r.left) (drop (length r.right) g.symbols) below p (states_below t (length r.right) g.symbols c.states g.states) lead in
+          let many = as_many t (grammar_symbol.Class r.left ∷ drop (length r.right) g.symbols) (below ++ p ∷ []) ups in
           let was = as_many t g.symbols c.states g.states in
           let fall = s.falls (length w - c.at) in
           let next = set (seen_before c.seen (length r.right)) r.left true in
@@ -314,7 +314,7 @@ module _ {O I S F : Type 0} (of : Meaning O I S F) (q : TreeProgram) (t : TableV
           let fall2 : left (length w - c.at) (length (below ++ p ∷ [])) next + 1 ≤ left (length w - c.at) (length c.states) c.seen =
           subst (λ j. left (length w - c.at) (length (below ++ p ∷ [])) next + 1 ≤ left (length w - c.at) j c.seen) (sym was) fall1 in (
             record {
-              symbols = symbol.Class r.left ∷ drop (length r.right) g.symbols;
+              symbols = grammar_symbol.Class r.left ∷ drop (length r.right) g.symbols;
               before = g.symbols ∷ g.before;
               states = ups;
               marks = record { seen_is = s.marked.seen_is; size = s.marked.size };
@@ -335,11 +335,11 @@ module _ {O I S F : Type 0} (of : Meaning O I S F) (q : TreeProgram) (t : TableV
       by (Done x) e = done_so c g n r k x e
 
   -- a leaf is shifted
-  shifts_so : (c : Config O I) (g : Goes_on c) (p : ℕ) (l : Leaf) → Next w c.at l → StandsBefore rules stmt g.symbols (symbol.Tok l.tok) → (l.tok ≡ tok.End → ⊥)
-      → Leads t (symbol.Tok l.tok ∷ g.symbols) p → Come c (shifted_turn c p (Some l))
+  shifts_so : (c : Config O I) (g : Goes_on c) (p : ℕ) (l : Leaf) → Next w c.at l → StandsBefore rules stmt g.symbols (grammar_symbol.Tok l.tok) → (l.tok ≡ tok.End → ⊥)
+      → Leads t (grammar_symbol.Tok l.tok ∷ g.symbols) p → Come c (shifted_turn c p (Some l))
   shifts_so c g p l next stands some lead =
-      let ups = state_above t (symbol.Tok l.tok) g.symbols c.states p g.states lead in
-      let many = as_many t (symbol.Tok l.tok ∷ g.symbols) (c.states ++ p ∷ []) ups in
+      let ups = state_above t (grammar_symbol.Tok l.tok) g.symbols c.states p g.states lead in
+      let many = as_many t (grammar_symbol.Tok l.tok ∷ g.symbols) (c.states ++ p ∷ []) ups in
       let was = as_many t g.symbols c.states g.states in
       let none = replicate (length c.seen) false in
       let size : length none ≡ length c.seen = length-replicate (length c.seen) false in
@@ -351,14 +351,14 @@ module _ {O I S F : Type 0} (of : Meaning O I S F) (q : TreeProgram) (t : TableV
       let fall2 : left (length w - (c.at + 1)) (length (c.states ++ p ∷ [])) none + 1 ≤ left (length w - c.at) (length c.states) c.seen =
       subst (λ j. left (length w - (c.at + 1)) (length (c.states ++ p ∷ [])) none + 1 ≤ left j (length c.states) c.seen) more fall1 in (
         record {
-          symbols = symbol.Tok l.tok ∷ g.symbols;
+          symbols = grammar_symbol.Tok l.tok ∷ g.symbols;
           before = [];
           states = ups;
           marks = record {
             seen_is = seen_shift (length c.seen) l.tok g.symbols;
             size = size ∙ g.marks.size;
           };
-          new = nowhere_in (symbol.Tok l.tok ∷ g.symbols);
+          new = nowhere_in (grammar_symbol.Tok l.tok ∷ g.symbols);
           room = omega (arith, more);
           on = λ log e h. g.on (Shift l ∷ log) e
               (subst (λ (ws : List Leaf). Here c.at g.before ws g.symbols (Some c.stack) (Shift l ∷ log) e) (sym next.rest) (parse.shifts g.new some stands h));
@@ -374,12 +374,12 @@ module _ {O I S F : Type 0} (of : Meaning O I S F) (q : TreeProgram) (t : TableV
 
   -- what may be done
   comes_by : (c : Config O I) (g : Goes_on c) (o : Option Leaf) → coming asked (drop c.at w) ≡ code.coming o
-      → ((p : ℕ) → StandsBefore rules stmt g.symbols (symbol.Tok (code.coming o)) → (code.coming o ≡ tok.End → ⊥)
-      → Leads t (symbol.Tok (code.coming o) ∷ g.symbols) p → Come c (shifted_turn c p o))
+      → ((p : ℕ) → StandsBefore rules stmt g.symbols (grammar_symbol.Tok (code.coming o)) → (code.coming o ≡ tok.End → ⊥)
+      → Leads t (grammar_symbol.Tok (code.coming o) ∷ g.symbols) p → Come c (shifted_turn c p o))
       → (cs : List Choice) → Candidates rules stmt t g.symbols (code.coming o) cs → Come c (made_turn of q t first c o (chosen (takes of q t.content first c.stack) cs))
   comes_by c g o same shifting cs (candidate.accepts stands e) =
       g.on [] (Accepts (Some c.stack))
-      (parse.accepts g.new (statement_alone rules stmt classes grammar g.symbols (subst (λ (k : Tok). StandsBefore rules stmt g.symbols (symbol.Tok k)) e stands)) (same ∙ e))
+      (parse.accepts g.new (statement_alone rules stmt classes grammar g.symbols (subst (λ (k : Tok). StandsBefore rules stmt g.symbols (grammar_symbol.Tok k)) e stands)) (same ∙ e))
   comes_by c g o same shifting cs (candidate.shifts {q = p} stands some on) = shifting p stands some on
   comes_by c g o same shifting cs (candidate.reduces ns off are e) =
       subst (λ (x : List Choice). Come c (made_turn of q t first c o (chosen (takes of q t.content first c.stack) x))) (sym e)
@@ -387,7 +387,7 @@ module _ {O I S F : Type 0} (of : Meaning O I S F) (q : TreeProgram) (t : TableV
     where
       choice_of : (n : Option ℕ) → (taken asked rules ns (Some c.stack)).rule ≡ n → parse.Choice asked rules stmt (drop c.at w) g.symbols (Some c.stack) n (Some c.stack)
       choice_of n f = record {
-        no_shift = subst (λ (k : Tok). StandsBefore rules stmt g.symbols (symbol.Tok k) → ⊥) (sym same) off;
+        no_shift = subst (λ (k : Tok). StandsBefore rules stmt g.symbols (grammar_symbol.Tok k) → ⊥) (sym same) off;
         candidates = ns;
         in_order = subst (λ (k : Tok). AreReductions rules stmt g.symbols k ns) (sym same) are;
         takes = λ i. record { rule = f i; kept = keeps of q t first w ns (Some c.stack) i };
@@ -423,13 +423,13 @@ module _ {O I S F : Type 0} (of : Meaning O I S F) (q : TreeProgram) (t : TableV
           subst (Coming c) (sym n.1.there)
           (comes_by c g (Some n.0) (ap (coming asked) n.1.rest) (λ p s some on. shifts_so c g p n.0 n.1 s some on) (actions_at t (top_of c.states) n.0.tok) (cands n.0.tok))
 
-  pub full_comes : (c : Config O I) (e : ParseFault) → Going of q t first w c → Falls e (step of q t first w c) → e ≡ fault.FrameFull
+  pub full_comes : (c : Config O I) (e : ParseFault) → Going of q t first w c → Falls e (step of q t first w c) → e ≡ parse_fault.FrameFull
       → FrameFull of q t.content first w
   full_comes c e g f same =
       let is : step of q t first w c ≡ NoWord = subst (λ (x : ParseFault). Falls x (step of q t first w c)) same f in
       subst (λ (x : Turn O I). Comes of q t first w c x) is (comes c g)
 
-  pub blocked_comes : (c : Config O I) (e : ParseFault) → Going of q t first w c → Falls e (step of q t first w c) → e ≡ fault.Blocked
+  pub blocked_comes : (c : Config O I) (e : ParseFault) → Going of q t first w c → Falls e (step of q t first w c) → e ≡ parse_fault.Blocked
       → Blocked of q t.content first w
   blocked_comes c e g f same = by (subst (λ (x : ParseFault). Falls x (step of q t first w c)) same f)
     where

@@ -5,7 +5,7 @@ use Rattle.std.proofs.lemmas.Bool.{lt-ltb}
 use Rattle.std.proofs.lemmas.List.{length-replicate}
 use Rattle.md_reader.specs.declared.types.Rule.{Rule}
 use Rattle.md_reader.specs.declared.types.Sym.{Sym}
-use Rattle.md_reader.specs.declared.types.Sym.TheVariants as symbol
+use Rattle.md_reader.specs.declared.types.Sym.TheVariants as grammar_symbol
 use Rattle.lr_tables.specs.Grammar.{IsGrammar}
 use Rattle.lr_check.proofs.Seen.{seen_unit, seen_long, none_marked}
 use Rattle.lr_check_parse.specs.Moves.{Answering}
@@ -26,12 +26,12 @@ module _ {L X : Type 0} (of : Answering L X) (rules : List Rule) (stmt classes :
     (seen : List Bool) (marks : Marks of rules stmt classes g before a seen) (n : ℕ) (declared : n < classes) where
   -- the same stack comes again exactly where the class is marked
   abbrev pub Again : ℕ → Type 0
-  Again k = get_or (seen_before seen k) n false ≡ true → Contains (a ∷ before) (symbol.Class n ∷ drop k a)
+  Again k = get_or (seen_before seen k) n false ≡ true → Contains (a ∷ before) (grammar_symbol.Class n ∷ drop k a)
 
   -- where it isn't, there is less left to do
   pub record Fresh (k : ℕ) : Type 0 where
-    pub marked : Marks of rules stmt classes g (a ∷ before) (symbol.Class n ∷ drop k a) (set (seen_before seen k) n true)
-    pub new : Contains (a ∷ before) (symbol.Class n ∷ drop k a) → ⊥
+    pub marked : Marks of rules stmt classes g (a ∷ before) (grammar_symbol.Class n ∷ drop k a) (set (seen_before seen k) n true)
+    pub new : Contains (a ∷ before) (grammar_symbol.Class n ∷ drop k a) → ⊥
     pub falls : (w : ℕ) → left w (length (drop k a) + 1) (set (seen_before seen k) n true) + 1 ≤ left w (length a) seen
 
   within : n < length seen
@@ -68,11 +68,11 @@ module _ {L X : Type 0} (of : Answering L X) (rules : List Rule) (stmt classes :
       let whole : length (drop k a) + 2 + (k - 2) ≡ length a = omega (arith, d, two) in
       record {
         marked = record {
-          seen_is = subst (λ (m : List Bool). Rattle.lr_check.proofs.Seen.Seen m (symbol.Class n ∷ drop k a) ((symbol.Class n ∷ drop k a) ∷ a ∷ before)) (sym is)
+          seen_is = subst (λ (m : List Bool). Rattle.lr_check.proofs.Seen.Seen m (grammar_symbol.Class n ∷ drop k a) ((grammar_symbol.Class n ∷ drop k a) ∷ a ∷ before)) (sym is)
               (seen_long seen a (drop k a) (a ∷ before) n (length seen) marks.seen_is shorter within);
           size = ap (λ (m : List Bool). length m) is ∙ (size ∙ marks.size);
         };
-        new = λ h. (let low = marks.seen_is.lower (symbol.Class n ∷ drop k a) h in omega (arith, low, shorter));
+        new = λ h. (let low = marks.seen_is.lower (grammar_symbol.Class n ∷ drop k a) h in omega (arith, low, shorter));
         falls = λ w. subst (λ (m : List Bool). left w (length (drop k a) + 1) m + 1 ≤ left w (length a) seen) (sym is)
             (subst (λ j. left w (length (drop k a) + 1) next + 1 ≤ left w j seen) whole (long_falls w (length (drop k a)) (k - 2) seen next size));
       }

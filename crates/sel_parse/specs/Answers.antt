@@ -3,7 +3,7 @@ use Rattle.std.specs.Prelude.{◌≡◌, ℕ, ◌&&◌, Bool, true, List, [], �
 use Rattle.md_reader.specs.declared.types.Kind.{Kind}
 use Rattle.sel_terms.specs.Effects.{effect_of}
 use Rattle.sel_target.specs.declared.fault.TargetFault.{TargetFault}
-use Rattle.sel_target.specs.declared.fault.TargetFault.TheVariants as fault
+use Rattle.sel_target.specs.declared.fault.TargetFault.TheVariants as target_fault
 use Rattle.sel_target.specs.Calls.{can_be_saved}
 use Rattle.sel_parse.specs.declared.fault.ShowFault.{ShowFault}
 use Rattle.sel_parse.specs.declared.fault.ShowFault.TheVariants as faults
@@ -27,8 +27,8 @@ Shows tables_of (Ok g) tables wanted = (tables_of g ≡ tables) × (wanted ≡ N
 Shows tables_of (Err e) tables wanted = (e.0 ≡ tables) × IsRefusal e.1 wanted
 
 abbrev pub fault_of : ℕ → TargetFault → ShowFault
-fault_of rule fault.NoMemory = faults.NoMemory
-fault_of rule (fault.At line kind) = faults.Template rule line kind
+fault_of rule target_fault.NoMemory = faults.NoMemory
+fault_of rule (target_fault.At line kind) = faults.Template rule line kind
 
 abbrev pub all_saved : List Kind → Bool
 all_saved [] = true

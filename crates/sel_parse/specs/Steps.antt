@@ -6,7 +6,7 @@ use Rattle.tree_core.specs.declared.token.Tok.TheVariants as tok
 use Rattle.tree_core.specs.declared.tree.Leaf.{Leaf}
 use Rattle.tree_core.specs.declared.program.TreeProgram.{TreeProgram}
 use Rattle.md_reader.specs.declared.types.Rule.{Rule}
-use Rattle.md_reader.specs.declared.types.Sym.TheVariants as sym
+use Rattle.md_reader.specs.declared.types.Sym.TheVariants as grammar_symbol
 use Rattle.md_reader.specs.State.{Content}
 use Rattle.lr_tables.specs.declared.types.Choice.{Choice}
 use Rattle.lr_tables.specs.declared.types.Choice.TheVariants as choice
@@ -22,7 +22,7 @@ use Rattle.sel_parse_desk.specs.Selected.{selecting, Parsed}
 use Rattle.sel_parse_desk.specs.Mirror.{stack_of}
 use Rattle.sel_parse.specs.declared.selection.Parse.{Parse}
 use Rattle.sel_parse.specs.declared.selection.ParseFault.{ParseFault}
-use Rattle.sel_parse.specs.declared.selection.ParseFault.TheVariants as fault
+use Rattle.sel_parse.specs.declared.selection.ParseFault.TheVariants as parse_fault
 
 -- the offset of the next leaf, the states of the stack, whose top stands last, the classes that were on top since a
 -- leaf was shifted or the stack
@@ -104,7 +104,7 @@ reduced_turn t c r Full = NoWord
 reduced_turn t c r Stuck = NoRegister
 reduced_turn t c r (Done x) =
     let below = take (length c.states - length r.right) c.states in
-    placed c below r x (target_at t (top_of below) (sym.Class r.left))
+    placed c below r x (target_at t (top_of below) (grammar_symbol.Class r.left))
 
 abbrev pub or_else : Bool → Bool → Bool
 or_else b c = if b then true else c
@@ -140,9 +140,9 @@ Turns false old new turn = turn ≡ Onward new
 
 -- the refusal is that of the step
 abbrev pub Falls : {O I : Type 0} → ParseFault → Turn O I → Type 0
-Falls fault.NoMemory turn = Unit {0}
-Falls fault.FrameFull turn = turn ≡ NoWord
-Falls fault.Blocked turn = (turn ≡ NoRegister) ⊎ ((turn ≡ NoWay) ⊎ (turn ≡ Circle))
+Falls parse_fault.NoMemory turn = Unit {0}
+Falls parse_fault.FrameFull turn = turn ≡ NoWord
+Falls parse_fault.Blocked turn = (turn ≡ NoRegister) ⊎ ((turn ≡ NoWay) ⊎ (turn ≡ Circle))
 
 -- the whole parse of a tree is accepted with this kept
 abbrev pub Ends : {O I S F : Type 0} → Meaning O I S F → TreeProgram → Content → ℕ → List Leaf → Stack O I → Type 0

@@ -3,7 +3,7 @@ ghost use Rattle.std.specs.Prelude.{◌≡◌, ◌+◌, ◌-◌, ◌<◌, ◌≤
 ghost use Rattle.std.specs.Prelude.{replicate, true, false};
 ghost use Rattle.std.specs.List.{slice_get, slice_set, slice_index_or};
 ghost use Rattle.lr_tables.specs.Leads.{target_at};
-ghost use Rattle.md_reader.specs.declared.types.Sym.TheVariants as sym;
+ghost use Rattle.md_reader.specs.declared.types.Sym.TheVariants as grammar_symbol;
 ghost use Rattle.sel_parse_desk.specs.Reductions.{reduced};
 ghost use Rattle.sel_parse_desk.specs.Selected.{tree_of, HasCode, FrameFull, Blocked};
 ghost use Rattle.sel_parse_desk.specs.Mirror.{stack_of, IsReady};
@@ -45,9 +45,9 @@ enum ParseFault {
 
 impl From<NoMemory> for ParseFault {
     ghost use Rattle.std.specs.Prelude.{◌≡◌};
-    ghost use Rattle.sel_parse.specs.declared.selection.ParseFault.TheVariants as faults;
+    ghost use Rattle.sel_parse.specs.declared.selection.ParseFault.TheVariants as parse_fault;
 
-    ghost from_gives = { λ _ e. e ≡ faults.NoMemory };
+    ghost from_gives = { λ _ e. e ≡ parse_fault.NoMemory };
 
     fn from(_: NoMemory) -> Self {
         ParseFault::NoMemory
@@ -56,9 +56,9 @@ impl From<NoMemory> for ParseFault {
 
 impl From<AllocError> for ParseFault {
     ghost use Rattle.std.specs.Prelude.{◌≡◌};
-    ghost use Rattle.sel_parse.specs.declared.selection.ParseFault.TheVariants as faults;
+    ghost use Rattle.sel_parse.specs.declared.selection.ParseFault.TheVariants as parse_fault;
 
-    ghost from_gives = { λ _ e. e ≡ faults.NoMemory };
+    ghost from_gives = { λ _ e. e ≡ parse_fault.NoMemory };
 
     fn from(_: AllocError) -> Self {
         ParseFault::NoMemory
@@ -67,9 +67,9 @@ impl From<AllocError> for ParseFault {
 
 impl<T: Drop> From<AllocFailed<T>> for ParseFault {
     ghost use Rattle.std.specs.Prelude.{◌≡◌};
-    ghost use Rattle.sel_parse.specs.declared.selection.ParseFault.TheVariants as faults;
+    ghost use Rattle.sel_parse.specs.declared.selection.ParseFault.TheVariants as parse_fault;
 
-    ghost from_gives = { λ _ e. e ≡ faults.NoMemory };
+    ghost from_gives = { λ _ e. e ≡ parse_fault.NoMemory };
 
     fn from(_: AllocFailed<T>) -> Self {
         ParseFault::NoMemory
@@ -232,9 +232,9 @@ fn place<T: Templates>(
 ) -> Result<(), ParseFault>
     requires ready { IsReady T.meaning parse.old.desk }
     ensures done { OnOk result (placed (config_of parse.old) parse.old.states.items rule.now (stack_of parse.old.desk)
-        (target_at tables.now (top_of parse.old.states.items) (sym.Class rule.now.left)) ≡ Onward (config_of parse.new)) }
+        (target_at tables.now (top_of parse.old.states.items) (grammar_symbol.Class rule.now.left)) ≡ Onward (config_of parse.new)) }
     ensures fails { IfErr result (λ e. Falls e (placed (config_of parse.old) parse.old.states.items rule.now (stack_of parse.old.desk)
-        (target_at tables.now (top_of parse.old.states.items) (sym.Class rule.now.left)))) }
+        (target_at tables.now (top_of parse.old.states.items) (grammar_symbol.Class rule.now.left)))) }
     ensures ready { OnOk result (IsReady T.meaning parse.new.desk) }
 {
     let Some(state) = tables.go(top_of(&parse.states), rule.left) else {

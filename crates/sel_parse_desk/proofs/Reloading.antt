@@ -8,13 +8,13 @@ use Rattle.sel_parse_desk.specs.Entries.{slot_in}
 use Rattle.sel_parse_desk.specs.Desk.{Desk, Outcome, Done, bind}
 use Rattle.sel_parse_desk.specs.Reductions.{reloaded, reloaded_at}
 use Rattle.sel_parse_desk.specs.declared.desk.DeskFault.{DeskFault}
-use Rattle.sel_parse_desk.specs.declared.desk.DeskFault.TheVariants as fault
+use Rattle.sel_parse_desk.specs.declared.desk.DeskFault.TheVariants as desk_fault
 use Rattle.sel_parse_desk.specs.Mirror.{Fails}
 
 pub bind_fails : {X Y : Type 0} (e : DeskFault) (x : Outcome X) (go : X → Outcome Y) → Fails e x → Fails e (bind x go)
-bind_fails fault.NoMemory x go f = tt
-bind_fails fault.FrameFull x go f = ap (λ o. bind o go) f
-bind_fails fault.NoRegister x go f = ap (λ o. bind o go) f
+bind_fails desk_fault.NoMemory x go f = tt
+bind_fails desk_fault.FrameFull x go f = ap (λ o. bind o go) f
+bind_fails desk_fault.NoRegister x go f = ap (λ o. bind o go) f
 
 pub fails_at : {X : Type 0} (e : DeskFault) (x y : Outcome X) → x ≡ y → Fails e y → Fails e x
 fails_at e x y same f = subst (Fails e) (sym same) f

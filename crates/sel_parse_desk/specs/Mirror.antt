@@ -8,7 +8,7 @@ use Rattle.sel_target.specs.Meaning.{Meaning}
 use Rattle.sel_parse_desk.specs.Desk.{Desk, Stack, Outcome, Full, Stuck}
 use Rattle.sel_parse_desk.specs.declared.desk.Desk.{Desk as Held}
 use Rattle.sel_parse_desk.specs.declared.desk.DeskFault.{DeskFault}
-use Rattle.sel_parse_desk.specs.declared.desk.DeskFault.TheVariants as fault
+use Rattle.sel_parse_desk.specs.declared.desk.DeskFault.TheVariants as desk_fault
 use Rattle.sel_parse_desk.specs.Tallied.{IsTallied}
 
 abbrev pub desk_of : {O I : Type 0} → Held O I → Desk O I
@@ -24,9 +24,9 @@ IsReady of k = IsTallied of k.stack × (k.most ≤ 1024)
 
 -- the refusal is the definition's
 abbrev pub Fails : {X : Type 0} → DeskFault → Outcome X → Type 0
-Fails fault.NoMemory o = Unit {0}
-Fails fault.FrameFull o = o ≡ Full
-Fails fault.NoRegister o = o ≡ Stuck
+Fails desk_fault.NoMemory o = Unit {0}
+Fails desk_fault.FrameFull o = o ≡ Full
+Fails desk_fault.NoRegister o = o ≡ Stuck
 
 module _ {O I S F : Type 0} (of : Meaning O I S F) where
   -- the instruction that saves an attribute alone in a word

@@ -20,9 +20,9 @@ pub enum DeskFault {
 
 impl From<NoMemory> for DeskFault {
     ghost use Rattle.std.specs.Prelude.{◌≡◌};
-    ghost use Rattle.sel_parse_desk.specs.declared.desk.DeskFault.TheVariants as faults;
+    ghost use Rattle.sel_parse_desk.specs.declared.desk.DeskFault.TheVariants as desk_fault;
 
-    ghost from_gives = { λ _ e. e ≡ faults.NoMemory };
+    ghost from_gives = { λ _ e. e ≡ desk_fault.NoMemory };
 
     fn from(_: NoMemory) -> Self {
         DeskFault::NoMemory
@@ -31,9 +31,9 @@ impl From<NoMemory> for DeskFault {
 
 impl From<AllocError> for DeskFault {
     ghost use Rattle.std.specs.Prelude.{◌≡◌};
-    ghost use Rattle.sel_parse_desk.specs.declared.desk.DeskFault.TheVariants as faults;
+    ghost use Rattle.sel_parse_desk.specs.declared.desk.DeskFault.TheVariants as desk_fault;
 
-    ghost from_gives = { λ _ e. e ≡ faults.NoMemory };
+    ghost from_gives = { λ _ e. e ≡ desk_fault.NoMemory };
 
     fn from(_: AllocError) -> Self {
         DeskFault::NoMemory
@@ -42,9 +42,9 @@ impl From<AllocError> for DeskFault {
 
 impl<T: Drop> From<AllocFailed<T>> for DeskFault {
     ghost use Rattle.std.specs.Prelude.{◌≡◌};
-    ghost use Rattle.sel_parse_desk.specs.declared.desk.DeskFault.TheVariants as faults;
+    ghost use Rattle.sel_parse_desk.specs.declared.desk.DeskFault.TheVariants as desk_fault;
 
-    ghost from_gives = { λ _ e. e ≡ faults.NoMemory };
+    ghost from_gives = { λ _ e. e ≡ desk_fault.NoMemory };
 
     fn from(_: AllocFailed<T>) -> Self {
         DeskFault::NoMemory

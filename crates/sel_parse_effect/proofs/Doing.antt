@@ -3,7 +3,7 @@ use Rattle.std.proofs.Common.{◌≡◌, ℕ, zero, suc, List, [], ◌∷◌, Op
 use Rattle.std.specs.Prelude.{count_ones, is_some, slice_index_or}
 use Rattle.std.specs.List.{AllByRecursion as All}
 use Rattle.gg_base.specs.declared.relation.Rel.{Rel}
-use Rattle.gg_base.specs.declared.relation.Rel.TheVariants as rels
+use Rattle.gg_base.specs.declared.relation.Rel.TheVariants as relations
 use Rattle.gg_base.specs.declared.size.Size.{Size}
 use Rattle.tree_core.specs.declared.token.Tok.{Tok}
 use Rattle.tree_core.specs.declared.token.Tok.TheVariants as tok
@@ -18,7 +18,7 @@ use Rattle.tree_meaning.specs.Deeds.{Deed, Puts, Branches, Pushes, Returns, Call
 use Rattle.tree_meaning.specs.Steps.{Step, deed_step}
 use Rattle.tree_meaning.specs.Steps as steps
 use Rattle.tree_meaning.specs.declared.value.Meaning.{Meaning as Place}
-use Rattle.tree_meaning.specs.declared.value.Meaning.TheVariants as places
+use Rattle.tree_meaning.specs.declared.value.Meaning.TheVariants as meaning
 use Rattle.tree_meaning.specs.Values.{Sight}
 use Rattle.md_reader.specs.declared.types.Kind.{Kind}
 use Rattle.md_reader.specs.declared.types.Kind.TheVariants as kind
@@ -27,7 +27,7 @@ use Rattle.md_reader.specs.declared.types.Restriction.{Restriction}
 use Rattle.md_reader.specs.declared.types.Restriction.TheVariants as restriction
 use Rattle.md_reader.specs.declared.types.Rule.{Rule}
 use Rattle.md_reader.specs.declared.types.Sym.{Sym}
-use Rattle.md_reader.specs.declared.types.Sym.TheVariants as symbol
+use Rattle.md_reader.specs.declared.types.Sym.TheVariants as grammar_symbol
 use Rattle.md_reader.specs.Patterns.{kind_at}
 use Rattle.md_reader.specs.State.{Content}
 use Rattle.md_reader.specs.Valid.{IsRule}
@@ -89,48 +89,48 @@ class_no_save (Some kind.Ea) i e = cc
 class_no_save (Some kind.Nothing) i e = cc
 
 -- a pattern that saves begins with Save
-save_head : (classes : List Class) (st : List SubtreeShape) (s : Sym) (i : ℕ) → (first_part (step 1 (role_of classes s) st)).part ≡ Acts (Save i) → s ≡ symbol.Tok tok.Save
-save_head classes st (symbol.Tok tok.Zero) i e = absurd (cc)
-save_head classes st (symbol.Tok tok.One) i e = absurd (cc)
-save_head classes st (symbol.Tok tok.Two) i e = absurd (cc)
-save_head classes st (symbol.Tok tok.Four) i e = absurd (cc)
-save_head classes st (symbol.Tok tok.Eight) i e = absurd (cc)
-save_head classes st (symbol.Tok tok.Const) i e = absurd (cc)
-save_head classes st (symbol.Tok tok.Gaddr) i e = absurd (cc)
-save_head classes st (symbol.Tok tok.Loc) i e = absurd (cc)
-save_head classes st (symbol.Tok tok.Arg) i e = absurd (cc)
-save_head classes st (symbol.Tok tok.IndirB) i e = absurd (cc)
-save_head classes st (symbol.Tok tok.IndirW) i e = absurd (cc)
-save_head classes st (symbol.Tok tok.IndirL) i e = absurd (cc)
-save_head classes st (symbol.Tok tok.Plus) i e = absurd (cc)
-save_head classes st (symbol.Tok tok.Minus) i e = absurd (cc)
-save_head classes st (symbol.Tok tok.Mul) i e = absurd (cc)
-save_head classes st (symbol.Tok tok.Div) i e = absurd (cc)
-save_head classes st (symbol.Tok tok.Mod) i e = absurd (cc)
-save_head classes st (symbol.Tok tok.And) i e = absurd (cc)
-save_head classes st (symbol.Tok tok.Or) i e = absurd (cc)
-save_head classes st (symbol.Tok tok.Xor) i e = absurd (cc)
-save_head classes st (symbol.Tok tok.Lsh) i e = absurd (cc)
-save_head classes st (symbol.Tok tok.Rsh) i e = absurd (cc)
-save_head classes st (symbol.Tok tok.Neg) i e = absurd (cc)
-save_head classes st (symbol.Tok tok.Com) i e = absurd (cc)
-save_head classes st (symbol.Tok tok.Sxb) i e = absurd (cc)
-save_head classes st (symbol.Tok tok.Zxb) i e = absurd (cc)
-save_head classes st (symbol.Tok tok.Sxw) i e = absurd (cc)
-save_head classes st (symbol.Tok tok.Zxw) i e = absurd (cc)
-save_head classes st (symbol.Tok tok.Ncb) i e = absurd (cc)
-save_head classes st (symbol.Tok tok.Ncw) i e = absurd (cc)
-save_head classes st (symbol.Tok tok.AssignB) i e = absurd (store_no_save (first_part st).part (value_of (first_part (below st)).part) i e)
-save_head classes st (symbol.Tok tok.AssignW) i e = absurd (store_no_save (first_part st).part (value_of (first_part (below st)).part) i e)
-save_head classes st (symbol.Tok tok.AssignL) i e = absurd (store_no_save (first_part st).part (value_of (first_part (below st)).part) i e)
-save_head classes st (symbol.Tok tok.Cbr) i e = absurd (cc)
-save_head classes st (symbol.Tok tok.Push) i e = absurd (cc)
-save_head classes st (symbol.Tok tok.Ret) i e = absurd (cc)
-save_head classes st (symbol.Tok tok.Call) i e = absurd (cc)
-save_head classes st (symbol.Tok tok.Save) i e = refl
-save_head classes st (symbol.Tok tok.Jump) i e = absurd (cc)
-save_head classes st (symbol.Tok tok.End) i e = absurd (cc)
-save_head classes st (symbol.Class c) i e = absurd (class_no_save (kind_at classes c) i e)
+save_head : (classes : List Class) (st : List SubtreeShape) (s : Sym) (i : ℕ) → (first_part (step 1 (role_of classes s) st)).part ≡ Acts (Save i) → s ≡ grammar_symbol.Tok tok.Save
+save_head classes st (grammar_symbol.Tok tok.Zero) i e = absurd (cc)
+save_head classes st (grammar_symbol.Tok tok.One) i e = absurd (cc)
+save_head classes st (grammar_symbol.Tok tok.Two) i e = absurd (cc)
+save_head classes st (grammar_symbol.Tok tok.Four) i e = absurd (cc)
+save_head classes st (grammar_symbol.Tok tok.Eight) i e = absurd (cc)
+save_head classes st (grammar_symbol.Tok tok.Const) i e = absurd (cc)
+save_head classes st (grammar_symbol.Tok tok.Gaddr) i e = absurd (cc)
+save_head classes st (grammar_symbol.Tok tok.Loc) i e = absurd (cc)
+save_head classes st (grammar_symbol.Tok tok.Arg) i e = absurd (cc)
+save_head classes st (grammar_symbol.Tok tok.IndirB) i e = absurd (cc)
+save_head classes st (grammar_symbol.Tok tok.IndirW) i e = absurd (cc)
+save_head classes st (grammar_symbol.Tok tok.IndirL) i e = absurd (cc)
+save_head classes st (grammar_symbol.Tok tok.Plus) i e = absurd (cc)
+save_head classes st (grammar_symbol.Tok tok.Minus) i e = absurd (cc)
+save_head classes st (grammar_symbol.Tok tok.Mul) i e = absurd (cc)
+save_head classes st (grammar_symbol.Tok tok.Div) i e = absurd (cc)
+save_head classes st (grammar_symbol.Tok tok.Mod) i e = absurd (cc)
+save_head classes st (grammar_symbol.Tok tok.And) i e = absurd (cc)
+save_head classes st (grammar_symbol.Tok tok.Or) i e = absurd (cc)
+save_head classes st (grammar_symbol.Tok tok.Xor) i e = absurd (cc)
+save_head classes st (grammar_symbol.Tok tok.Lsh) i e = absurd (cc)
+save_head classes st (grammar_symbol.Tok tok.Rsh) i e = absurd (cc)
+save_head classes st (grammar_symbol.Tok tok.Neg) i e = absurd (cc)
+save_head classes st (grammar_symbol.Tok tok.Com) i e = absurd (cc)
+save_head classes st (grammar_symbol.Tok tok.Sxb) i e = absurd (cc)
+save_head classes st (grammar_symbol.Tok tok.Zxb) i e = absurd (cc)
+save_head classes st (grammar_symbol.Tok tok.Sxw) i e = absurd (cc)
+save_head classes st (grammar_symbol.Tok tok.Zxw) i e = absurd (cc)
+save_head classes st (grammar_symbol.Tok tok.Ncb) i e = absurd (cc)
+save_head classes st (grammar_symbol.Tok tok.Ncw) i e = absurd (cc)
+save_head classes st (grammar_symbol.Tok tok.AssignB) i e = absurd (store_no_save (first_part st).part (value_of (first_part (below st)).part) i e)
+save_head classes st (grammar_symbol.Tok tok.AssignW) i e = absurd (store_no_save (first_part st).part (value_of (first_part (below st)).part) i e)
+save_head classes st (grammar_symbol.Tok tok.AssignL) i e = absurd (store_no_save (first_part st).part (value_of (first_part (below st)).part) i e)
+save_head classes st (grammar_symbol.Tok tok.Cbr) i e = absurd (cc)
+save_head classes st (grammar_symbol.Tok tok.Push) i e = absurd (cc)
+save_head classes st (grammar_symbol.Tok tok.Ret) i e = absurd (cc)
+save_head classes st (grammar_symbol.Tok tok.Call) i e = absurd (cc)
+save_head classes st (grammar_symbol.Tok tok.Save) i e = refl
+save_head classes st (grammar_symbol.Tok tok.Jump) i e = absurd (cc)
+save_head classes st (grammar_symbol.Tok tok.End) i e = absurd (cc)
+save_head classes st (grammar_symbol.Class c) i e = absurd (class_no_save (kind_at classes c) i e)
 
 whole_save : (p : PartShape) (i : ℕ) → whole (Some kind.Nothing) p ≡ Save i → p ≡ Acts (Save i)
 whole_save (Worth t) i e = absurd (cc)
@@ -138,7 +138,7 @@ whole_save (Home z j) i e = absurd (cc)
 whole_save (At z a) i e = absurd (cc)
 whole_save (Acts a) i e = ap Acts e
 
-begins_so : (classes : List Class) (right : List Sym) (i : ℕ) → (first_part (stack_from classes 1 right)).part ≡ Acts (Save i) → slice_get right 0 ≡ Some (symbol.Tok tok.Save)
+begins_so : (classes : List Class) (right : List Sym) (i : ℕ) → (first_part (stack_from classes 1 right)).part ≡ Acts (Save i) → slice_get right 0 ≡ Some (grammar_symbol.Tok tok.Save)
 begins_so classes [] i e = absurd (cc)
 begins_so classes (s ∷ w) i e = ap Some (save_head classes (stack_from classes 2 w) s i e)
 
@@ -186,16 +186,16 @@ callee_tok tok.Jump function count e = absurd (cc)
 callee_tok tok.End function count e = absurd (cc)
 
 same_signs : (rel : Rel) → compares_signed rel ≡ true → target_signs.compares_signed rel ≡ true
-same_signs rels.Eq e = e
-same_signs rels.Ne e = e
-same_signs rels.Lt e = e
-same_signs rels.Le e = e
-same_signs rels.Gt e = e
-same_signs rels.Ge e = e
-same_signs rels.Ltu e = e
-same_signs rels.Leu e = e
-same_signs rels.Gtu e = e
-same_signs rels.Geu e = e
+same_signs relations.Eq e = e
+same_signs relations.Ne e = e
+same_signs relations.Lt e = e
+same_signs relations.Le e = e
+same_signs relations.Gt e = e
+same_signs relations.Ge e = e
+same_signs relations.Ltu e = e
+same_signs relations.Leu e = e
+same_signs relations.Gtu e = e
+same_signs relations.Geu e = e
 
 -- a sense with an attribute is a leaf's
 sense_leaf : (v : Sense) (a : Att) → att_in v ≡ a → (att.Nothing ≡ a → ⊥) → (l : Leaf) × (v ≡ OfLeaf l) × (l.att ≡ a)
@@ -222,13 +222,13 @@ module _ {O I S F : Type 0} (of : Meaning O I S F) (law : IsLawful of) (stores :
     pub attr_is : entry.attr ≡ attr.Token l
     pub fits : leaf_fits l ≡ true
     pub named : Names of q d first f fs t s m0 l
-    pub there : slice_get rule.right j ≡ Some (symbol.Tok l.tok)
+    pub there : slice_get rule.right j ≡ Some (grammar_symbol.Tok l.tok)
 
   symbol_leaf : (x : Sym) (k : Option Kind) (a : Attr O) (v : Sense) (l : Leaf) → SymbolIs of q d first f fs t s m0 m x k a v → v ≡ OfLeaf l
-      → (a ≡ attr.Token l) × (leaf_fits l ≡ true) × Names of q d first f fs t s m0 l × (x ≡ symbol.Tok l.tok)
+      → (a ≡ attr.Token l) × (leaf_fits l ≡ true) × Names of q d first f fs t s m0 l × (x ≡ grammar_symbol.Tok l.tok)
   symbol_leaf x k a v l (stands.token w fit named) e =
       let same : w ≡ l = leaf_same w l e in
-      (ap attr.Token same, subst (λ z. leaf_fits z ≡ true) same fit, subst (Names of q d first f fs t s m0) same named, ap (λ (z : Leaf). symbol.Tok z.tok) same)
+      (ap attr.Token same, subst (λ z. leaf_fits z ≡ true) same fit, subst (Names of q d first f fs t s m0) same named, ap (λ (z : Leaf). grammar_symbol.Tok z.tok) same)
     where
       leaf_same : (w l : Leaf) → OfLeaf w ≡ OfLeaf l → w ≡ l
       leaf_same w l e = cc
@@ -243,7 +243,7 @@ module _ {O I S F : Type 0} (of : Meaning O I S F) (law : IsLawful of) (stores :
       class_leaf k a v (stands.address o n fits is) e = cc
 
   leaf_in : (bs : List (Entry O)) (right : List Sym) (ws : List Sense) (j : ℕ) (l : Leaf) → Holds of q d first f fs t s m0 m bs right ws → slice_index_or ws j unknown ≡ OfLeaf l
-      → (e : Entry O) × (slice_get bs j ≡ Some e) × (e.attr ≡ attr.Token l) × (leaf_fits l ≡ true) × Names of q d first f fs t s m0 l × (slice_get right j ≡ Some (symbol.Tok l.tok))
+      → (e : Entry O) × (slice_get bs j ≡ Some e) × (e.attr ≡ attr.Token l) × (leaf_fits l ≡ true) × Names of q d first f fs t s m0 l × (slice_get right j ≡ Some (grammar_symbol.Tok l.tok))
   leaf_in [] [] [] j l h e = absurd (cc)
   leaf_in [] [] (w ∷ ws) j l h e = absurd h
   leaf_in [] (x ∷ xs) ws j l h e = absurd h
@@ -320,11 +320,11 @@ module _ {O I S F : Type 0} (of : Meaning O I S F) (law : IsLawful of) (stores :
         subst (λ a. Act a (Puts g n)) (sym h.is)
         (record { attribute = there.attribute; operand_is = own.0; at = there.at; own = own.1; place = there.place own.0 own.1 }, h.alike.worth ∙ worth)
 
-    stores_at : (z : Size) (b u : Shape) (g : Place) (n : ℕ) → (effect_read d.classes rule).act ≡ StoreAt z b u → g ≡ places.Memory z (value View0 b) → value View0 u ≡ n
+    stores_at : (z : Size) (b u : Shape) (g : Place) (n : ℕ) → (effect_read d.classes rule).act ≡ StoreAt z b u → g ≡ meaning.Memory z (value View0 b) → value View0 u ≡ n
         → Act shown.found.act (Puts g n)
     stores_at z b u g n e at worth =
         let h = store_at_alike true View0 (λ i. is_some (View0.symbol i)) (λ i. refl) (facts_of d.classes rule) s.area frame.area shown.found.act z b u (alike_to (StoreAt z b u) e) in
-        subst (λ a. Act a (Puts g n)) (sym h.is) (at ∙ ap (places.Memory z) (sym h.at_alike.worth), h.alike.worth ∙ worth)
+        subst (λ a. Act a (Puts g n)) (sym h.is) (at ∙ ap (meaning.Memory z) (sym h.at_alike.worth), h.alike.worth ∙ worth)
 
     branches : (i : ℕ) (b u : Shape) (rel : Rel) (label x1 y1 : ℕ) → (effect_read d.classes rule).act ≡ Branch i b u → att_in (sense_at vs i) ≡ att.Branch rel label → value View0 b ≡ x1
         → value View0 u ≡ y1
@@ -355,12 +355,12 @@ module _ {O I S F : Type 0} (of : Meaning O I S F) (law : IsLawful of) (stores :
         subst (λ a. Act a (Calls function count)) (sym h) (att_later m' es' 1 (att.Callee function count) later.carried w, named.0, named.1)
 
     -- the symbol that a rule saves to is its Save
-    saved_first : (i : ℕ) → (effect_read d.classes rule).act ≡ Save i → slice_get rule.right 0 ≡ Some (symbol.Tok tok.Save)
+    saved_first : (i : ℕ) → (effect_read d.classes rule).act ≡ Save i → slice_get rule.right 0 ≡ Some (grammar_symbol.Tok tok.Save)
     saved_first i e =
         begins_so d.classes rule.right i (whole_save (first_part (stack_from d.classes 1 rule.right)).part i
         (ap (λ k. whole k (first_part (stack_from d.classes 1 rule.right)).part) (sym is) ∙ e))
 
-    save_one : (s : Sym) (w : List Sym) (i : ℕ) → s ≡ symbol.Tok tok.Save → (first_part (step 1 (role_of d.classes s) (stack_from d.classes 2 w))).part ≡ Acts (Save i) → i ≡ 1
+    save_one : (s : Sym) (w : List Sym) (i : ℕ) → s ≡ grammar_symbol.Tok tok.Save → (first_part (step 1 (role_of d.classes s) (stack_from d.classes 2 w))).part ≡ Acts (Save i) → i ≡ 1
     save_one s w i e g = one (subst (λ z. (first_part (step 1 (role_of d.classes z) (stack_from d.classes 2 w))).part ≡ Acts (Save i)) e g)
       where
         one : Acts (Save 1) ≡ Acts (Save i) → i ≡ 1
@@ -382,7 +382,7 @@ module _ {O I S F : Type 0} (of : Meaning O I S F) (law : IsLawful of) (stores :
         subst (λ x. NamedBy of q d first f fs t s m0 x (att.Slot k)) tok_is (subst (NamedBy of q d first f fs t s m0 w.leaf.tok) w.att_is w.found.named.0) in
         subst (λ a. Act a (Saves k)) (sym h) (att_later m' es' i (att.Slot k) later.carried w, named.0)
       where
-        same_tok : (x : Tok) → Some (symbol.Tok x) ≡ Some (symbol.Tok tok.Save) → x ≡ tok.Save
+        same_tok : (x : Tok) → Some (grammar_symbol.Tok x) ≡ Some (grammar_symbol.Tok tok.Save) → x ≡ tok.Save
         same_tok x e = cc
 
     jumps : (label : ℕ) → (effect_read d.classes rule).act ≡ Jump → att_in (sense_at vs 1) ≡ att.Label label → Act shown.found.act (Jumps label)

@@ -20,7 +20,7 @@ use Rattle.md_reader.specs.declared.types.Give.{Give}
 use Rattle.md_reader.specs.declared.types.Give.TheVariants as give
 use Rattle.md_reader.specs.declared.types.Rule.{Rule}
 use Rattle.md_reader.specs.declared.types.Sym.{Sym}
-use Rattle.md_reader.specs.declared.types.Sym.TheVariants as symbol
+use Rattle.md_reader.specs.declared.types.Sym.TheVariants as grammar_symbol
 use Rattle.md_reader.specs.Patterns.{kind_at, sort_of_kind, sort_fits, Trees, no_tree, node, onto}
 use Rattle.md_reader.specs.Rows.{shape_fits}
 use Rattle.md_reader.specs.State.{Content}
@@ -58,50 +58,50 @@ use Rattle.sel_parse_effect.proofs.Reducing.{done_same, reg_is, nothing_is, boun
 use Rattle.sel_parse_effect.proofs.Shapes as shapes
 
 -- a rule that begins with Save is that token alone
-save_alone : {ok : Sym → Sort → Bool} {x : Sort} (tree : Trees ok (x ∷ [])) → begins_with_save (onto tree []) ≡ true → onto tree [] ≡ symbol.Tok tok.Save ∷ []
-save_alone (node (symbol.Tok tok.Zero) passes below beside) e = absurd (cc)
-save_alone (node (symbol.Tok tok.One) passes below beside) e = absurd (cc)
-save_alone (node (symbol.Tok tok.Two) passes below beside) e = absurd (cc)
-save_alone (node (symbol.Tok tok.Four) passes below beside) e = absurd (cc)
-save_alone (node (symbol.Tok tok.Eight) passes below beside) e = absurd (cc)
-save_alone (node (symbol.Tok tok.Const) passes below beside) e = absurd (cc)
-save_alone (node (symbol.Tok tok.Gaddr) passes below beside) e = absurd (cc)
-save_alone (node (symbol.Tok tok.Loc) passes below beside) e = absurd (cc)
-save_alone (node (symbol.Tok tok.Arg) passes below beside) e = absurd (cc)
-save_alone (node (symbol.Tok tok.IndirB) passes below beside) e = absurd (cc)
-save_alone (node (symbol.Tok tok.IndirW) passes below beside) e = absurd (cc)
-save_alone (node (symbol.Tok tok.IndirL) passes below beside) e = absurd (cc)
-save_alone (node (symbol.Tok tok.Plus) passes below beside) e = absurd (cc)
-save_alone (node (symbol.Tok tok.Minus) passes below beside) e = absurd (cc)
-save_alone (node (symbol.Tok tok.Mul) passes below beside) e = absurd (cc)
-save_alone (node (symbol.Tok tok.Div) passes below beside) e = absurd (cc)
-save_alone (node (symbol.Tok tok.Mod) passes below beside) e = absurd (cc)
-save_alone (node (symbol.Tok tok.And) passes below beside) e = absurd (cc)
-save_alone (node (symbol.Tok tok.Or) passes below beside) e = absurd (cc)
-save_alone (node (symbol.Tok tok.Xor) passes below beside) e = absurd (cc)
-save_alone (node (symbol.Tok tok.Lsh) passes below beside) e = absurd (cc)
-save_alone (node (symbol.Tok tok.Rsh) passes below beside) e = absurd (cc)
-save_alone (node (symbol.Tok tok.Neg) passes below beside) e = absurd (cc)
-save_alone (node (symbol.Tok tok.Com) passes below beside) e = absurd (cc)
-save_alone (node (symbol.Tok tok.Sxb) passes below beside) e = absurd (cc)
-save_alone (node (symbol.Tok tok.Zxb) passes below beside) e = absurd (cc)
-save_alone (node (symbol.Tok tok.Sxw) passes below beside) e = absurd (cc)
-save_alone (node (symbol.Tok tok.Zxw) passes below beside) e = absurd (cc)
-save_alone (node (symbol.Tok tok.Ncb) passes below beside) e = absurd (cc)
-save_alone (node (symbol.Tok tok.Ncw) passes below beside) e = absurd (cc)
-save_alone (node (symbol.Tok tok.AssignB) passes below beside) e = absurd (cc)
-save_alone (node (symbol.Tok tok.AssignW) passes below beside) e = absurd (cc)
-save_alone (node (symbol.Tok tok.AssignL) passes below beside) e = absurd (cc)
-save_alone (node (symbol.Tok tok.Cbr) passes below beside) e = absurd (cc)
-save_alone (node (symbol.Tok tok.Push) passes below beside) e = absurd (cc)
-save_alone (node (symbol.Tok tok.Ret) passes below beside) e = absurd (cc)
-save_alone (node (symbol.Tok tok.Call) passes below beside) e = absurd (cc)
-save_alone (node (symbol.Tok tok.Save) passes no_tree no_tree) e = refl
-save_alone (node (symbol.Tok tok.Jump) passes below beside) e = absurd (cc)
-save_alone (node (symbol.Tok tok.End) passes below beside) e = absurd (cc)
-save_alone (node (symbol.Class c) passes below beside) e = absurd (cc)
+save_alone : {ok : Sym → Sort → Bool} {x : Sort} (tree : Trees ok (x ∷ [])) → begins_with_save (onto tree []) ≡ true → onto tree [] ≡ grammar_symbol.Tok tok.Save ∷ []
+save_alone (node (grammar_symbol.Tok tok.Zero) passes below beside) e = absurd (cc)
+save_alone (node (grammar_symbol.Tok tok.One) passes below beside) e = absurd (cc)
+save_alone (node (grammar_symbol.Tok tok.Two) passes below beside) e = absurd (cc)
+save_alone (node (grammar_symbol.Tok tok.Four) passes below beside) e = absurd (cc)
+save_alone (node (grammar_symbol.Tok tok.Eight) passes below beside) e = absurd (cc)
+save_alone (node (grammar_symbol.Tok tok.Const) passes below beside) e = absurd (cc)
+save_alone (node (grammar_symbol.Tok tok.Gaddr) passes below beside) e = absurd (cc)
+save_alone (node (grammar_symbol.Tok tok.Loc) passes below beside) e = absurd (cc)
+save_alone (node (grammar_symbol.Tok tok.Arg) passes below beside) e = absurd (cc)
+save_alone (node (grammar_symbol.Tok tok.IndirB) passes below beside) e = absurd (cc)
+save_alone (node (grammar_symbol.Tok tok.IndirW) passes below beside) e = absurd (cc)
+save_alone (node (grammar_symbol.Tok tok.IndirL) passes below beside) e = absurd (cc)
+save_alone (node (grammar_symbol.Tok tok.Plus) passes below beside) e = absurd (cc)
+save_alone (node (grammar_symbol.Tok tok.Minus) passes below beside) e = absurd (cc)
+save_alone (node (grammar_symbol.Tok tok.Mul) passes below beside) e = absurd (cc)
+save_alone (node (grammar_symbol.Tok tok.Div) passes below beside) e = absurd (cc)
+save_alone (node (grammar_symbol.Tok tok.Mod) passes below beside) e = absurd (cc)
+save_alone (node (grammar_symbol.Tok tok.And) passes below beside) e = absurd (cc)
+save_alone (node (grammar_symbol.Tok tok.Or) passes below beside) e = absurd (cc)
+save_alone (node (grammar_symbol.Tok tok.Xor) passes below beside) e = absurd (cc)
+save_alone (node (grammar_symbol.Tok tok.Lsh) passes below beside) e = absurd (cc)
+save_alone (node (grammar_symbol.Tok tok.Rsh) passes below beside) e = absurd (cc)
+save_alone (node (grammar_symbol.Tok tok.Neg) passes below beside) e = absurd (cc)
+save_alone (node (grammar_symbol.Tok tok.Com) passes below beside) e = absurd (cc)
+save_alone (node (grammar_symbol.Tok tok.Sxb) passes below beside) e = absurd (cc)
+save_alone (node (grammar_symbol.Tok tok.Zxb) passes below beside) e = absurd (cc)
+save_alone (node (grammar_symbol.Tok tok.Sxw) passes below beside) e = absurd (cc)
+save_alone (node (grammar_symbol.Tok tok.Zxw) passes below beside) e = absurd (cc)
+save_alone (node (grammar_symbol.Tok tok.Ncb) passes below beside) e = absurd (cc)
+save_alone (node (grammar_symbol.Tok tok.Ncw) passes below beside) e = absurd (cc)
+save_alone (node (grammar_symbol.Tok tok.AssignB) passes below beside) e = absurd (cc)
+save_alone (node (grammar_symbol.Tok tok.AssignW) passes below beside) e = absurd (cc)
+save_alone (node (grammar_symbol.Tok tok.AssignL) passes below beside) e = absurd (cc)
+save_alone (node (grammar_symbol.Tok tok.Cbr) passes below beside) e = absurd (cc)
+save_alone (node (grammar_symbol.Tok tok.Push) passes below beside) e = absurd (cc)
+save_alone (node (grammar_symbol.Tok tok.Ret) passes below beside) e = absurd (cc)
+save_alone (node (grammar_symbol.Tok tok.Call) passes below beside) e = absurd (cc)
+save_alone (node (grammar_symbol.Tok tok.Save) passes no_tree no_tree) e = refl
+save_alone (node (grammar_symbol.Tok tok.Jump) passes below beside) e = absurd (cc)
+save_alone (node (grammar_symbol.Tok tok.End) passes below beside) e = absurd (cc)
+save_alone (node (grammar_symbol.Class c) passes below beside) e = absurd (cc)
 
-pub saves_alone : (classes : List Class) (r : Rule) → IsRule classes r → begins_with_save r.right ≡ true → r.right ≡ symbol.Tok tok.Save ∷ []
+pub saves_alone : (classes : List Class) (r : Rule) → IsRule classes r → begins_with_save r.right ≡ true → r.right ≡ grammar_symbol.Tok tok.Save ∷ []
 saves_alone classes r is_rule e =
     let sorted = is_rule.sides.sorted in
     sym sorted.spelled ∙ save_alone sorted.tree (subst (λ w. begins_with_save w ≡ true) (sym sorted.spelled) e)
@@ -175,7 +175,7 @@ module _ {O I S F : Type 0} (of : Meaning O I S F) (law : IsLawful of) (q : Tree
 
     module _ (v : Sense) (fits : SenseFits (kind_at d.classes rule.left) v) (gives : (n : term.State) → StandsFor q.objects s vs n → GivesBy q.objects s vs (effect_read d.classes rule) v n) where
       abbrev Goal : Stack O I → Type 0
-      Goal y = y.most ≤ f.words → Stood y (symbol.Class rule.left ∷ a) (v ∷ us)
+      Goal y = y.most ≤ f.words → Stood y (grammar_symbol.Class rule.left ∷ a) (v ∷ us)
 
       fresh_gives : (y new : Desk O I) (r : ℕ) → Brings y → rule.give ≡ give.Fresh → MayGive d.classes rule.left rule.right give.Fresh → due of q d first false y ≡ Done (r, new)
           → Goal (behind (attr.Reg r) (attr.Reg r) new)
@@ -219,11 +219,11 @@ module _ {O I S F : Type 0} (of : Meaning O I S F) (law : IsLawful of) (q : Tree
           done : (k : Kind) (o : Attr O) (is : kind_at d.classes rule.left ≡ Some k) (fit : SenseFits (Some k) v)
               → giving.Shaped of law q valid d first f fs t s m0 frame before.state before.sees rule is_rule shown (desk_of (length rule.right) x).symbols vs
               (tops of law q valid d first f fs t s m0 frame lines rule is_rule shown x a us vs size hold before) hold ok.works.state y.symbols (later k is fit) v by k o
-              → Stood (behind attr.Nothing o y) (symbol.Class rule.left ∷ a) (v ∷ us)
+              → Stood (behind attr.Nothing o y) (grammar_symbol.Class rule.left ∷ a) (v ∷ us)
           done k o is fit it = red.shape_leads of law q valid d first f fs t s m0 frame lines rule is_rule shown x a us vs size hold before y v k o ok (answered k is fit) by is it
 
           given : (k : Kind) → kind_at d.classes rule.left ≡ Some k → SenseFits (Some k) v → shape_fits d.classes rule.right (Some k) l.pieces ≡ true
-              → Stood (behind attr.Nothing (shaped of q d first (Some k) l (attrs y.symbols)) y) (symbol.Class rule.left ∷ a) (v ∷ us)
+              → Stood (behind attr.Nothing (shaped of q d first (Some k) l (attrs y.symbols)) y) (grammar_symbol.Class rule.left ∷ a) (v ∷ us)
           given kind.Reg is fit shape =
               done kind.Reg _ is fit
               (shapes.register_given of law q valid d first f fs t s m0 frame before.state before.sees rule is_rule shown (desk_of (length rule.right) x).symbols vs

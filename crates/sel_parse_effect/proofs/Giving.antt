@@ -4,7 +4,7 @@ use Rattle.std.specs.Prelude.{is_some, option_map, ◌||◌, count_ones}
 use Rattle.gg_base.specs.declared.size.Size.{Size}
 use Rattle.gg_base.specs.declared.size.Size.TheVariants.{Long}
 use Rattle.tree_meaning.specs.declared.value.Meaning.{Meaning as Place}
-use Rattle.tree_meaning.specs.declared.value.Meaning.TheVariants as places
+use Rattle.tree_meaning.specs.declared.value.Meaning.TheVariants as meaning
 use Rattle.md_reader_pieces.specs.declared.piece.Line.{Line}
 use Rattle.md_reader.specs.declared.types.Give.{Give}
 use Rattle.md_reader.specs.declared.types.Give.TheVariants as give
@@ -20,7 +20,7 @@ use Rattle.md_reader.specs.declared.types.Kind.{Kind}
 use Rattle.md_reader.specs.declared.types.Kind.TheVariants as kind
 use Rattle.md_reader.specs.declared.types.Rule.{Rule}
 use Rattle.md_reader.specs.declared.types.Sym.{Sym}
-use Rattle.md_reader.specs.declared.types.Sym.TheVariants as symbol
+use Rattle.md_reader.specs.declared.types.Sym.TheVariants as grammar_symbol
 use Rattle.md_reader.specs.Patterns.{kind_at, sort_of_kind, sort_fits, sorted_test, Trees, node, onto, IsSorted}
 use Rattle.md_reader.specs.State.{Content}
 use Rattle.md_reader.specs.Valid.{IsRule}
@@ -57,48 +57,48 @@ use Rattle.sel_parse_stands.proofs.Carrying.{AllCarried}
 use Rattle.sel_parse_stands.proofs.Instances.{Hold, view, stands_for, known, instance, spelled_now}
 use Rattle.sel_parse_effect.proofs.Effects.{safe_map, alike_effects, effect_reads, divides_none, value_alike, address_alike, place_alike}
 
-head_save : (s : Sym) (w : List Sym) → begins_with_save (s ∷ w) ≡ true → s ≡ symbol.Tok tok.Save
-head_save (symbol.Class c) w e = absurd (cc)
-head_save (symbol.Tok tok.Zero) w e = absurd (cc)
-head_save (symbol.Tok tok.One) w e = absurd (cc)
-head_save (symbol.Tok tok.Two) w e = absurd (cc)
-head_save (symbol.Tok tok.Four) w e = absurd (cc)
-head_save (symbol.Tok tok.Eight) w e = absurd (cc)
-head_save (symbol.Tok tok.Const) w e = absurd (cc)
-head_save (symbol.Tok tok.Gaddr) w e = absurd (cc)
-head_save (symbol.Tok tok.Loc) w e = absurd (cc)
-head_save (symbol.Tok tok.Arg) w e = absurd (cc)
-head_save (symbol.Tok tok.IndirB) w e = absurd (cc)
-head_save (symbol.Tok tok.IndirW) w e = absurd (cc)
-head_save (symbol.Tok tok.IndirL) w e = absurd (cc)
-head_save (symbol.Tok tok.Plus) w e = absurd (cc)
-head_save (symbol.Tok tok.Minus) w e = absurd (cc)
-head_save (symbol.Tok tok.Mul) w e = absurd (cc)
-head_save (symbol.Tok tok.Div) w e = absurd (cc)
-head_save (symbol.Tok tok.Mod) w e = absurd (cc)
-head_save (symbol.Tok tok.And) w e = absurd (cc)
-head_save (symbol.Tok tok.Or) w e = absurd (cc)
-head_save (symbol.Tok tok.Xor) w e = absurd (cc)
-head_save (symbol.Tok tok.Lsh) w e = absurd (cc)
-head_save (symbol.Tok tok.Rsh) w e = absurd (cc)
-head_save (symbol.Tok tok.Neg) w e = absurd (cc)
-head_save (symbol.Tok tok.Com) w e = absurd (cc)
-head_save (symbol.Tok tok.Sxb) w e = absurd (cc)
-head_save (symbol.Tok tok.Zxb) w e = absurd (cc)
-head_save (symbol.Tok tok.Sxw) w e = absurd (cc)
-head_save (symbol.Tok tok.Zxw) w e = absurd (cc)
-head_save (symbol.Tok tok.Ncb) w e = absurd (cc)
-head_save (symbol.Tok tok.Ncw) w e = absurd (cc)
-head_save (symbol.Tok tok.AssignB) w e = absurd (cc)
-head_save (symbol.Tok tok.AssignW) w e = absurd (cc)
-head_save (symbol.Tok tok.AssignL) w e = absurd (cc)
-head_save (symbol.Tok tok.Cbr) w e = absurd (cc)
-head_save (symbol.Tok tok.Push) w e = absurd (cc)
-head_save (symbol.Tok tok.Ret) w e = absurd (cc)
-head_save (symbol.Tok tok.Call) w e = absurd (cc)
-head_save (symbol.Tok tok.Save) w e = refl
-head_save (symbol.Tok tok.Jump) w e = absurd (cc)
-head_save (symbol.Tok tok.End) w e = absurd (cc)
+head_save : (s : Sym) (w : List Sym) → begins_with_save (s ∷ w) ≡ true → s ≡ grammar_symbol.Tok tok.Save
+head_save (grammar_symbol.Class c) w e = absurd (cc)
+head_save (grammar_symbol.Tok tok.Zero) w e = absurd (cc)
+head_save (grammar_symbol.Tok tok.One) w e = absurd (cc)
+head_save (grammar_symbol.Tok tok.Two) w e = absurd (cc)
+head_save (grammar_symbol.Tok tok.Four) w e = absurd (cc)
+head_save (grammar_symbol.Tok tok.Eight) w e = absurd (cc)
+head_save (grammar_symbol.Tok tok.Const) w e = absurd (cc)
+head_save (grammar_symbol.Tok tok.Gaddr) w e = absurd (cc)
+head_save (grammar_symbol.Tok tok.Loc) w e = absurd (cc)
+head_save (grammar_symbol.Tok tok.Arg) w e = absurd (cc)
+head_save (grammar_symbol.Tok tok.IndirB) w e = absurd (cc)
+head_save (grammar_symbol.Tok tok.IndirW) w e = absurd (cc)
+head_save (grammar_symbol.Tok tok.IndirL) w e = absurd (cc)
+head_save (grammar_symbol.Tok tok.Plus) w e = absurd (cc)
+head_save (grammar_symbol.Tok tok.Minus) w e = absurd (cc)
+head_save (grammar_symbol.Tok tok.Mul) w e = absurd (cc)
+head_save (grammar_symbol.Tok tok.Div) w e = absurd (cc)
+head_save (grammar_symbol.Tok tok.Mod) w e = absurd (cc)
+head_save (grammar_symbol.Tok tok.And) w e = absurd (cc)
+head_save (grammar_symbol.Tok tok.Or) w e = absurd (cc)
+head_save (grammar_symbol.Tok tok.Xor) w e = absurd (cc)
+head_save (grammar_symbol.Tok tok.Lsh) w e = absurd (cc)
+head_save (grammar_symbol.Tok tok.Rsh) w e = absurd (cc)
+head_save (grammar_symbol.Tok tok.Neg) w e = absurd (cc)
+head_save (grammar_symbol.Tok tok.Com) w e = absurd (cc)
+head_save (grammar_symbol.Tok tok.Sxb) w e = absurd (cc)
+head_save (grammar_symbol.Tok tok.Zxb) w e = absurd (cc)
+head_save (grammar_symbol.Tok tok.Sxw) w e = absurd (cc)
+head_save (grammar_symbol.Tok tok.Zxw) w e = absurd (cc)
+head_save (grammar_symbol.Tok tok.Ncb) w e = absurd (cc)
+head_save (grammar_symbol.Tok tok.Ncw) w e = absurd (cc)
+head_save (grammar_symbol.Tok tok.AssignB) w e = absurd (cc)
+head_save (grammar_symbol.Tok tok.AssignW) w e = absurd (cc)
+head_save (grammar_symbol.Tok tok.AssignL) w e = absurd (cc)
+head_save (grammar_symbol.Tok tok.Cbr) w e = absurd (cc)
+head_save (grammar_symbol.Tok tok.Push) w e = absurd (cc)
+head_save (grammar_symbol.Tok tok.Ret) w e = absurd (cc)
+head_save (grammar_symbol.Tok tok.Call) w e = absurd (cc)
+head_save (grammar_symbol.Tok tok.Save) w e = refl
+head_save (grammar_symbol.Tok tok.Jump) w e = absurd (cc)
+head_save (grammar_symbol.Tok tok.End) w e = absurd (cc)
 
 -- a rule of another sort than a statement's doesn't begin with Save
 no_save : (classes : List Class) (x : Sort) (right : List Sym) → IsSorted classes x right → (sort_fits (Some sort.Stmt) x ≡ true → ⊥) → begins_with_save right ≡ true → ⊥
@@ -328,7 +328,7 @@ module _ {O I S F : Type 0} (of : Meaning O I S F) (law : IsLawful of) (q : Tree
 
       -- a place in memory
       pub place_shaped : (l : Line) (z : Size) (a : Shape) (g : Place) → of.can_write q → rule.give ≡ give.Shape l → kind_at d.classes rule.left ≡ Some (kind.Place z)
-          → wanted.act ≡ PlaceAt z a → v ≡ OfPlace g → g ≡ places.Memory z (value V a) → Shaped (kind.Place z) (attr.Place (of.operand q l (attrs es')))
+          → wanted.act ≡ PlaceAt z a → v ≡ OfPlace g → g ≡ meaning.Memory z (value V a) → Shaped (kind.Place z) (attr.Place (of.operand q l (attrs es')))
       place_shaped l z a g can mode is act_is sense at =
           let val = place_alike true V (λ i. is_some (V.symbol i)) (λ i. refl) (facts_of d.classes rule) s.area frame.area found.act z a
           (subst (ActsAlike (facts_of d.classes rule) (λ i. is_some (V.symbol i)) s.area (term_state V) found.act) act_is alike.act) in
@@ -339,7 +339,7 @@ module _ {O I S F : Type 0} (of : Meaning O I S F) (law : IsLawful of) (q : Tree
             state = behind.0;
             ran = behind.1;
             is = subst (λ w. ClassIs of q d first f fs t s m0 behind.0 (Some (kind.Place z)) (attr.Place (of.operand q l (attrs es'))) w) (sym (sense ∙ ap OfPlace at))
-                (place_is z (of.operand q l (attrs es')) (places.Memory z (value V a)) fits
+                (place_is z (of.operand q l (attrs es')) (meaning.Memory z (value V a)) fits
                 (memory_is (value V a) (behind.2.names (of.operand q l (attrs es')) z (value V a) tt (names ∙ ap Some val.alike.worth))));
             keeps = behind.2;
           }

@@ -12,7 +12,7 @@ use Rattle.tree_meaning.specs.State.{State}
 use Rattle.tree_meaning.specs.declared.value.Value.{Value}
 use Rattle.tree_meaning.specs.declared.value.Value.TheVariants as values
 use Rattle.tree_meaning.specs.declared.value.Meaning.{Meaning as Place}
-use Rattle.tree_meaning.specs.declared.value.Meaning.TheVariants as places
+use Rattle.tree_meaning.specs.declared.value.Meaning.TheVariants as meaning
 use Rattle.tree_meaning.specs.Values.{Sight, token_means}
 use Rattle.tree_meaning.specs.Values as trees
 use Rattle.md_reader.specs.declared.types.Kind.{Kind}
@@ -48,7 +48,7 @@ none_some : {X : Type 0} (x : X) → None ≡ Some x → ⊥
 none_some x e = cc
 
 -- a value is no place
-pub no_place : (v : Value) (z : Size) (g : Place) → places.Of v ≡ g → IsPlace z g → ⊥
+pub no_place : (v : Value) (z : Size) (g : Place) → meaning.Of v ≡ g → IsPlace z g → ⊥
 no_place v z g e h = subst (IsPlace z) (sym e) h
 
 -- what an entry spells, with its size
@@ -67,7 +67,7 @@ module _ {O I S F : Type 0} (of : Meaning O I S F) (law : IsLawful of) (q : Tree
     pub is : o ≡ Some operand
     pub place : PlaceIs of f t m z operand g
 
-  local_place : (m : S) (k : ℕ) (z : Size) (g : Place) → k < f.locals → places.Local k ≡ g → IsPlace z g → Stood m z (Some (of.local k)) g × (Some Long ≡ Some z)
+  local_place : (m : S) (k : ℕ) (z : Size) (g : Place) → k < f.locals → meaning.Local k ≡ g → IsPlace z g → Stood m z (Some (of.local k)) g × (Some Long ≡ Some z)
   local_place m k z g lt e is =
       let long : z ≡ Long = subst (IsPlace z) (sym e) is in
       let few = frame.few in
@@ -76,7 +76,7 @@ module _ {O I S F : Type 0} (of : Meaning O I S F) (law : IsLawful of) (q : Tree
         ap Some (sym long),
       )
 
-  argument_place : (m : S) (k : ℕ) (z : Size) (g : Place) → 1 ≤ k → k ≤ length t.running.arguments → places.Argument k ≡ g → IsPlace z g
+  argument_place : (m : S) (k : ℕ) (z : Size) (g : Place) → 1 ≤ k → k ≤ length t.running.arguments → meaning.Argument k ≡ g → IsPlace z g
       → Stood m z (Some (of.argument k)) g × (Some Long ≡ Some z)
   argument_place m zero z g one le e is = absurd (omega (arith, one))
   argument_place m (suc j) z g one le e is =
@@ -85,7 +85,7 @@ module _ {O I S F : Type 0} (of : Meaning O I S F) (law : IsLawful of) (q : Tree
         record {
           operand = of.argument (suc j);
           is = refl;
-          place = subst (PlaceIs of f t m z (of.argument (suc j))) (ap places.Argument next ∙ e) (argument j long (ap of.argument (sym next)) (omega (arith, le)));
+          place = subst (PlaceIs of f t m z (of.argument (suc j))) (ap meaning.Argument next ∙ e) (argument j long (ap of.argument (sym next)) (omega (arith, le)));
         },
         ap Some (sym long),
       )

@@ -21,7 +21,7 @@ use Rattle.md_reader.specs.declared.types.Give.{Give}
 use Rattle.md_reader.specs.declared.types.Give.TheVariants as give
 use Rattle.md_reader.specs.declared.types.Rule.{Rule}
 use Rattle.md_reader.specs.declared.types.Sym.{Sym}
-use Rattle.md_reader.specs.declared.types.Sym.TheVariants as symbol
+use Rattle.md_reader.specs.declared.types.Sym.TheVariants as grammar_symbol
 use Rattle.md_reader.specs.Patterns.{kind_at}
 use Rattle.md_reader.specs.Rows.{is_reg, shape_fits}
 use Rattle.md_reader.specs.State.{Content}
@@ -110,7 +110,7 @@ module _ {O I S F : Type 0} (of : Meaning O I S F) (law : IsLawful of) (stores :
     is : a ≡ attr.Token leaf
     answered_is : of.answer m0 ≡ t.running.result
 
-  save_symbol : (m : S) (x : Sym) (k : Option Kind) (a : Attr O) (v : Sense) → SymbolIs of q d first f fs t s m0 m x k a v → x ≡ symbol.Tok tok.Save → SaveEntry a
+  save_symbol : (m : S) (x : Sym) (k : Option Kind) (a : Attr O) (v : Sense) → SymbolIs of q d first f fs t s m0 m x k a v → x ≡ grammar_symbol.Tok tok.Save → SaveEntry a
   save_symbol m x k a v (stands.token l fit named) e =
       let same : l.tok ≡ tok.Save = cc in
       record {
@@ -125,7 +125,7 @@ module _ {O I S F : Type 0} (of : Meaning O I S F) (law : IsLawful of) (stores :
     is : es ≡ entry ∷ []
     save : SaveEntry entry.attr
 
-  one_entry : (m : S) (es : List (Entry O)) (right : List Sym) (vs : List Sense) → Holds of q d first f fs t s m0 m es right vs → right ≡ symbol.Tok tok.Save ∷ [] → OneEntry es
+  one_entry : (m : S) (es : List (Entry O)) (right : List Sym) (vs : List Sense) → Holds of q d first f fs t s m0 m es right vs → right ≡ grammar_symbol.Tok tok.Save ∷ [] → OneEntry es
   one_entry m [] [] vs h e = absurd (cc)
   one_entry m [] (x ∷ xs) vs h e = absurd h
   one_entry m (b ∷ es) [] vs h e = absurd (cc)
@@ -133,7 +133,7 @@ module _ {O I S F : Type 0} (of : Meaning O I S F) (law : IsLawful of) (stores :
   one_entry m (b ∷ c ∷ es) (x ∷ []) (v ∷ []) h e = absurd h.1
   one_entry m (b ∷ c ∷ es) (x ∷ []) (v ∷ w ∷ vs) h e = absurd h.1
   one_entry m (b ∷ es) (x ∷ y ∷ xs) (v ∷ vs) h e = absurd (cc)
-  one_entry m (b ∷ []) (x ∷ []) (v ∷ vs) h e = record { entry = b; is = refl; save = save_symbol m x b.kind b.attr v h.0 (let g : x ≡ symbol.Tok tok.Save = cc in g) }
+  one_entry m (b ∷ []) (x ∷ []) (v ∷ vs) h e = record { entry = b; is = refl; save = save_symbol m x b.kind b.attr v h.0 (let g : x ≡ grammar_symbol.Tok tok.Save = cc in g) }
 
   none_below : (m : S) (es : List (Entry O)) → Holds of q d first f fs t s m0 m es [] [] → es ≡ []
   none_below m [] h = refl
@@ -170,23 +170,23 @@ module _ {O I S F : Type 0} (of : Meaning O I S F) (law : IsLawful of) (stores :
     IsReady y = Ready of law q valid d first f fs t s m0 frame lines rule is_rule shown x [] [] vs size hold before y
 
     -- where nothing has been moved, nothing has been run
-    untouched_state : (y : Desk O I) (ok : IsReady y) → Begin ≡ y → rule.right ≡ symbol.Tok tok.Save ∷ [] → ok.works.state ≡ m0
+    untouched_state : (y : Desk O I) (ok : IsReady y) → Begin ≡ y → rule.right ≡ grammar_symbol.Tok tok.Save ∷ [] → ok.works.state ≡ m0
     untouched_state y ok e alone =
         comes_same ok.works.state before.state (sym ok.works.ran ∙ ap (λ (z : Desk O I). of.run z.code m0) (sym e) ∙ before.ran)
         ∙ before.first_run (subst (λ w. OnlyTokens (piled w [])) (sym alone) tt)
 
-    save_entry : rule.right ≡ symbol.Tok tok.Save ∷ [] → OneEntry Begin.symbols
+    save_entry : rule.right ≡ grammar_symbol.Tok tok.Save ∷ [] → OneEntry Begin.symbols
     save_entry alone = one_entry before.state Begin.symbols rule.right vs (tops of law q valid d first f fs t s m0 frame lines rule is_rule shown x [] [] vs size hold before) alone
 
-    start_loaded : rule.right ≡ symbol.Tok tok.Save ∷ [] → AllLoaded Begin.symbols
+    start_loaded : rule.right ≡ grammar_symbol.Tok tok.Save ∷ [] → AllLoaded Begin.symbols
     start_loaded alone =
         let o = save_entry alone in
         subst (λ (w : List (Entry O)). AllLoaded w) (sym o.is) (subst (λ (a : Attr O). IsLoaded a) (sym o.save.is) tt, tt)
 
-    unmoved : (y : Desk O I) → reloaded of q d first (length rule.right) 0 Begin ≡ Done y → rule.right ≡ symbol.Tok tok.Save ∷ [] → Begin ≡ y
+    unmoved : (y : Desk O I) → reloaded of q d first (length rule.right) 0 Begin ≡ Done y → rule.right ≡ grammar_symbol.Tok tok.Save ∷ [] → Begin ≡ y
     unmoved y e alone = done_same Begin y (sym (none_reloaded (length rule.right) 0 Begin (start_loaded alone)) ∙ e)
 
-    may_not : rule.right ≡ symbol.Tok tok.Save ∷ [] → (p : Where) (e : Entry O) → MayMove of law q d first f fs t s m0 frame lines before.state rule.right Begin.symbols vs [] [] Begin p e → ⊥
+    may_not : rule.right ≡ grammar_symbol.Tok tok.Save ∷ [] → (p : Where) (e : Entry O) → MayMove of law q d first f fs t s m0 frame lines before.state rule.right Begin.symbols vs [] [] Begin p e → ⊥
     may_not alone p e (below i b at holding) =
         none_some e
         (ap (λ (w : List (Entry O)). slice_get w i)
@@ -205,12 +205,12 @@ module _ {O I S F : Type 0} (of : Meaning O I S F) (law : IsLawful of) (stores :
         only zero g = holds_none e (ap (λ (w : Entry O). w.attr) (sym (some_same o.entry e g)) ∙ o.save.is) holding
         only (suc i) g = none_some e g
 
-    due_still : (y new : Desk O I) (r : ℕ) → due of q d first false y ≡ Done (r, new) → Begin ≡ y → rule.right ≡ symbol.Tok tok.Save ∷ [] → Begin ≡ new
+    due_still : (y new : Desk O I) (r : ℕ) → due of q d first false y ≡ Done (r, new) → Begin ≡ y → rule.right ≡ grammar_symbol.Tok tok.Save ∷ [] → Begin ≡ new
     due_still y new r e same alone =
         due_unmoved of law q d first f fs t s m0 frame lines before.state rule.right Begin.symbols vs [] [] false Begin new r
         (ap (due of q d first false) same ∙ e) (may_not alone)
 
-    answered_by : (y : Desk O I) (ok : IsReady y) → (rule.right ≡ symbol.Tok tok.Save ∷ [] → Begin ≡ y) → begins_with_save rule.right ≡ true → of.answer ok.works.state ≡ t.running.result
+    answered_by : (y : Desk O I) (ok : IsReady y) → (rule.right ≡ grammar_symbol.Tok tok.Save ∷ [] → Begin ≡ y) → begins_with_save rule.right ≡ true → of.answer ok.works.state ≡ t.running.result
     answered_by y ok same h =
         let alone = saves_alone d.classes rule is_rule h in
         ap of.answer (untouched_state y ok (same alone) alone) ∙ (save_entry alone).save.answered_is
@@ -272,7 +272,7 @@ module _ {O I S F : Type 0} (of : Meaning O I S F) (law : IsLawful of) (stores :
   St x a us = Stands of q d first f fs t s m0 x a us
 
   pub shift_stands : (x : Kept O I) (l : Leaf) (a : List Sym) (us : List Sense) → leaf_fits l ≡ true → Names of q d first f fs t s m0 l → St x a us
-      → St (shifted l x) (symbol.Tok l.tok ∷ a) (OfLeaf l ∷ us)
+      → St (shifted l x) (grammar_symbol.Tok l.tok ∷ a) (OfLeaf l ∷ us)
   shift_stands None l a us fit named h = tt
   shift_stands (Some x) l a us fit named h = λ within. (
       let b = h within in
@@ -298,13 +298,13 @@ module _ {O I S F : Type 0} (of : Meaning O I S F) (law : IsLawful of) (stores :
   module _ (rules_valid : All (IsRule d.classes) d.rules) (rules_shown : AreShown of.effect d) where
     pub gives_at : (x x' : Kept O I) (n : ℕ) (r : Rule) (a : List Sym) (us vs : List Sense) (v : Sense) → slice_get d.rules n ≡ Some r → length vs ≡ length r.right → answered Select r x ≡ true
         → St x (piled r.right a) (piled vs us) → SenseFits (kind_at d.classes r.left) v → ((m : term.State) → StandsFor q.objects s vs m → GivesBy q.objects s vs (effect_read d.classes r) v m)
-        → Select.reduced n x ≡ Some x' → St x' (symbol.Class r.left ∷ a) (v ∷ us)
-    gives_at None x' n r a us vs v there size hold before fits gives e = subst (λ w. St w (symbol.Class r.left ∷ a) (v ∷ us)) (sym (none_kept (slice_get d.rules n) x' e)) tt
+        → Select.reduced n x ≡ Some x' → St x' (grammar_symbol.Class r.left ∷ a) (v ∷ us)
+    gives_at None x' n r a us vs v there size hold before fits gives e = subst (λ w. St w (grammar_symbol.Class r.left ∷ a) (v ∷ us)) (sym (none_kept (slice_get d.rules n) x' e)) tt
     gives_at (Some x) x' n r a us vs v there size hold before fits gives e = by (came n r x x' there e)
       where
-        by : (x' ≡ None) ⊎ ((y : Stack O I) × (x' ≡ Some y) × (reduced of q d first r x ≡ Done y)) → St x' (symbol.Class r.left ∷ a) (v ∷ us)
-        by (inl g) = subst (λ w. St w (symbol.Class r.left ∷ a) (v ∷ us)) (sym g) tt
-        by (inr g) = subst (λ w. St w (symbol.Class r.left ∷ a) (v ∷ us)) (sym g.1) (λ within. (
+        by : (x' ≡ None) ⊎ ((y : Stack O I) × (x' ≡ Some y) × (reduced of q d first r x ≡ Done y)) → St x' (grammar_symbol.Class r.left ∷ a) (v ∷ us)
+        by (inl g) = subst (λ w. St w (grammar_symbol.Class r.left ∷ a) (v ∷ us)) (sym g) tt
+        by (inr g) = subst (λ w. St w (grammar_symbol.Class r.left ∷ a) (v ∷ us)) (sym g.1) (λ within. (
             let less = (reduction_grows of q d first r x g.0 g.2).grows in
             reduction_gives of law q valid can d first f fs t s m0 frame lines r (rule_at (IsRule d.classes) d.rules n r rules_valid there)
             (rule_at (IsShown of.effect (count_ones d.pool) d.classes) d.rules n r rules_shown there) x g.0 a us vs size hold (before (omega (arith, less, within))) v fits gives g.2 within))

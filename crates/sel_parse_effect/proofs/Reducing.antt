@@ -13,7 +13,7 @@ use Rattle.md_reader.specs.declared.types.Give.{Give}
 use Rattle.md_reader.specs.declared.types.Give.TheVariants as give
 use Rattle.md_reader.specs.declared.types.Rule.{Rule}
 use Rattle.md_reader.specs.declared.types.Sym.{Sym}
-use Rattle.md_reader.specs.declared.types.Sym.TheVariants as symbol
+use Rattle.md_reader.specs.declared.types.Sym.TheVariants as grammar_symbol
 use Rattle.md_reader.specs.Patterns.{kind_at, sort_fits}
 use Rattle.md_reader.specs.Rows.{is_reg, is_nothing}
 use Rattle.md_reader.specs.State.{Content}
@@ -177,7 +177,7 @@ module _ {O I S F : Type 0} (of : Meaning O I S F) (law : IsLawful of) (q : Tree
     -- a result in a register that nothing below touches
     pub leads : (y : Desk O I) (r : ℕ) (v : Sense) (ok : Ready y) → kind_at d.classes rule.left ≡ Some kind.Reg → r < 12 → AllUntouched of q d f t (RegAt r ∷ []) y.below
         → IsResult of rule.give (attrs y.symbols) (attr.Reg r) → ((n : term.State) → StandsFor q.objects s vs n → GivesBy q.objects s vs (effect_read d.classes rule) v n)
-        → Stood (behind (attr.Reg r) (attr.Reg r) y) (symbol.Class rule.left ∷ a) (v ∷ us)
+        → Stood (behind (attr.Reg r) (attr.Reg r) y) (grammar_symbol.Class rule.left ∷ a) (v ∷ us)
     leads y r v ok is small below result gives =
         let m' = ok.works.state in
         let l = later y ok (λ h. absurd (giving.no_save_reg d.classes rule is_rule is h)) in
@@ -190,7 +190,7 @@ module _ {O I S F : Type 0} (of : Meaning O I S F) (law : IsLawful of) (q : Tree
           sees = sees_kept of law q d first f fs t s m0 frame (RegAt r ∷ []) m' it.sets.state it.sets.keeps (tt, tt) ok.works.sees;
           live = it.sets.keeps.live ∙ ok.works.live;
           holds = (
-            subst (λ w. SymbolIs of q d first f fs t s m0 it.sets.state (symbol.Class rule.left) (kind_at d.classes rule.left) (attr.Reg r) w) (sym it.sense_is)
+            subst (λ w. SymbolIs of q d first f fs t s m0 it.sets.state (grammar_symbol.Class rule.left) (kind_at d.classes rule.left) (attr.Reg r) w) (sym it.sense_is)
                 (stands.class rule.left (attr.Reg r) (OfNumber it.number)
                 (subst (λ k. ClassIs of q d first f fs t s m0 it.sets.state k (attr.Reg r) (OfNumber it.number)) (sym is) (stands.register r it.number small it.sets.gets))),
             holds_kept of law q d first f fs t s m0 (RegAt r ∷ []) m' it.sets.state y.below a us it.sets.keeps below ok.works.below,
@@ -202,7 +202,7 @@ module _ {O I S F : Type 0} (of : Meaning O I S F) (law : IsLawful of) (q : Tree
     pub shape_leads : (y : Desk O I) (v : Sense) (k : Kind) (o : Attr O) (ok : Ready y) (answered : begins_with_save rule.right ≡ true → of.answer ok.works.state ≡ t.running.result)
         (by : GivesBy q.objects s vs (effect_read d.classes rule) v _) → kind_at d.classes rule.left ≡ Some k
         → Shaped of law q valid d first f fs t s m0 frame before.state before.sees rule is_rule shown Start.symbols vs tops hold ok.works.state y.symbols (later y ok answered) v by k o
-        → Stood (behind attr.Nothing o y) (symbol.Class rule.left ∷ a) (v ∷ us)
+        → Stood (behind attr.Nothing o y) (grammar_symbol.Class rule.left ∷ a) (v ∷ us)
     shape_leads y v k o ok answered by is it = record {
       state = it.state;
       ran = comes_on of law q d first f fs t s m0 y.code (lines_of of q rule (attrs y.symbols) attr.Nothing) ok.works.state it.state ok.works.ran it.ran;

@@ -13,7 +13,7 @@ use Rattle.tree_core.specs.Attributes.{attribute_of, is_of_kind}
 use Rattle.tree_core.specs.Valid.{IsValid}
 use Rattle.tree_meaning.specs.State.{State}
 use Rattle.tree_meaning.specs.declared.value.Meaning.{Meaning as Place}
-use Rattle.tree_meaning.specs.declared.value.Meaning.TheVariants as places
+use Rattle.tree_meaning.specs.declared.value.Meaning.TheVariants as meaning
 use Rattle.tree_meaning.specs.Values.{Sight, read}
 use Rattle.md_reader_pieces.specs.declared.piece.Line.{Line}
 use Rattle.md_reader_pieces.specs.declared.piece.Piece.{Piece}
@@ -24,7 +24,7 @@ use Rattle.md_reader.specs.declared.types.Class.{Class}
 use Rattle.md_reader.specs.declared.types.Give.TheVariants as give
 use Rattle.md_reader.specs.declared.types.Rule.{Rule}
 use Rattle.md_reader.specs.declared.types.Sym.{Sym}
-use Rattle.md_reader.specs.declared.types.Sym.TheVariants as symbol
+use Rattle.md_reader.specs.declared.types.Sym.TheVariants as grammar_symbol
 use Rattle.md_reader.specs.Patterns.{kind_at}
 use Rattle.md_reader.specs.Rows.{is_reg, is_con, is_constant, kind_of_symbol, only_symbol, symbol_at, shape_fits}
 use Rattle.md_reader.specs.State.{Content}
@@ -66,10 +66,10 @@ none_some x e = cc
 
 -- a place has one size
 one_size : (z y : Size) (g : Place) → IsPlace z g → IsPlace y g → z ≡ y
-one_size z y (places.Of v) h k = absurd h
-one_size z y (places.Local n) h k = h ∙ sym k
-one_size z y (places.Argument n) h k = h ∙ sym k
-one_size z y (places.Memory w a) h k = h ∙ sym k
+one_size z y (meaning.Of v) h k = absurd h
+one_size z y (meaning.Local n) h k = h ∙ sym k
+one_size z y (meaning.Argument n) h k = h ∙ sym k
+one_size z y (meaning.Memory w a) h k = h ∙ sym k
 
 -- ---- a shape of one hole
 
@@ -95,10 +95,10 @@ one_hole right (piece.Label ∷ ps) x e = absurd (none_some x e)
 one_hole right (piece.Callee ∷ ps) x e = absurd (none_some x e)
 one_hole right (piece.Count ∷ ps) x e = absurd (none_some x e)
 
-pub reg_symbol : (classes : List Class) (o : Option Sym) → is_reg (kind_of_symbol classes o) ≡ true → (c : ℕ) × (o ≡ Some (symbol.Class c)) × (kind_at classes c ≡ Some kind.Reg)
+pub reg_symbol : (classes : List Class) (o : Option Sym) → is_reg (kind_of_symbol classes o) ≡ true → (c : ℕ) × (o ≡ Some (grammar_symbol.Class c)) × (kind_at classes c ≡ Some kind.Reg)
 reg_symbol classes None e = absurd (cc)
-reg_symbol classes (Some (symbol.Tok x)) e = absurd (cc)
-reg_symbol classes (Some (symbol.Class c)) e = (c, refl, is_kind (kind_at classes c) e)
+reg_symbol classes (Some (grammar_symbol.Tok x)) e = absurd (cc)
+reg_symbol classes (Some (grammar_symbol.Class c)) e = (c, refl, is_kind (kind_at classes c) e)
   where
     is_kind : (k : Option Kind) → is_reg k ≡ true → k ≡ Some kind.Reg
     is_kind None e = absurd (cc)
@@ -110,13 +110,13 @@ reg_symbol classes (Some (symbol.Class c)) e = (c, refl, is_kind (kind_at classe
     is_kind (Some kind.Nothing) e = absurd (cc)
 
 pub data IsNumeric (classes : List Class) : (x : Sym) → Type 0 where
-  constant : (x : Tok) → is_constant (Some (symbol.Tok x)) ≡ true → IsNumeric classes (symbol.Tok x)
-  class : (c : ℕ) → kind_at classes c ≡ Some kind.Con → IsNumeric classes (symbol.Class c)
+  constant : (x : Tok) → is_constant (Some (grammar_symbol.Tok x)) ≡ true → IsNumeric classes (grammar_symbol.Tok x)
+  class : (c : ℕ) → kind_at classes c ≡ Some kind.Con → IsNumeric classes (grammar_symbol.Class c)
 
 pub con_symbol : (classes : List Class) (o : Option Sym) → (is_con (kind_of_symbol classes o) || is_constant o) ≡ true → (x : Sym) × (o ≡ Some x) × IsNumeric classes x
 con_symbol classes None e = absurd (cc)
-con_symbol classes (Some (symbol.Tok x)) e = (symbol.Tok x, refl, constant x e)
-con_symbol classes (Some (symbol.Class c)) e = (symbol.Class c, refl, class c (is_kind (kind_at classes c) e))
+con_symbol classes (Some (grammar_symbol.Tok x)) e = (grammar_symbol.Tok x, refl, constant x e)
+con_symbol classes (Some (grammar_symbol.Class c)) e = (grammar_symbol.Class c, refl, class c (is_kind (kind_at classes c) e))
   where
     is_kind : (k : Option Kind) → (is_con k || false) ≡ true → k ≡ Some kind.Con
     is_kind None e = absurd (cc)
@@ -127,7 +127,7 @@ con_symbol classes (Some (symbol.Class c)) e = (symbol.Class c, refl, class c (i
     is_kind (Some kind.Ea) e = absurd (cc)
     is_kind (Some kind.Nothing) e = absurd (cc)
 
-pub const_number : (x : Tok) (a : Att) → is_constant (Some (symbol.Tok x)) ≡ true → is_of_kind (attribute_of x) a ≡ true → (n : ℕ) × (a ≡ att.Number n)
+pub const_number : (x : Tok) (a : Att) → is_constant (Some (grammar_symbol.Tok x)) ≡ true → is_of_kind (attribute_of x) a ≡ true → (n : ℕ) × (a ≡ att.Number n)
 const_number tok.Zero att.Nothing c e = absurd (cc)
 const_number tok.Zero (att.Number n) c e = (n, refl)
 const_number tok.Zero (att.Object object offset) c e = absurd (cc)
@@ -266,7 +266,7 @@ module _ {O I S F : Type 0} (of : Meaning O I S F) (law : IsLawful of) (q : Tree
       go (PlaceAt y u) e h =
           let same : z ≡ y = subst (IsPlace z) h fits in
           giving.place_shaped of law q valid d first f fs t s m0 frame m sees rule is_rule shown es vs holds hold m' es' later v by l z u g can mode is (e ∙ ap (λ w. PlaceAt w u) (sym same)) sense
-          (h ∙ ap (λ w. places.Memory w (value View0 u)) (sym same))
+          (h ∙ ap (λ w. meaning.Memory w (value View0 u)) (sym same))
       go (StoreHome y j u) e h = absurd h
       go (StoreAt y u w) e h = absurd h
       go (Branch i u w) e h = absurd h
@@ -311,7 +311,7 @@ module _ {O I S F : Type 0} (of : Meaning O I S F) (law : IsLawful of) (q : Tree
   register_class k a u (stands.number n lt) e h = absurd (cc)
   register_class k a u (stands.address o n fits is) e h = absurd (cc)
 
-  register_symbol : (c : ℕ) (k : Option Kind) (a : Attr O) (u : Sense) (x : Sym) → x ≡ symbol.Class c → kind_at d.classes c ≡ Some kind.Reg → SymbolIs of q d first f fs t s m0 m' x k a u
+  register_symbol : (c : ℕ) (k : Option Kind) (a : Attr O) (u : Sense) (x : Sym) → x ≡ grammar_symbol.Class c → kind_at d.classes c ≡ Some kind.Reg → SymbolIs of q d first f fs t s m0 m' x k a u
       → IsLoaded a
       → (r : ℕ) × (n : ℕ) × (a ≡ attr.Reg r) × (u ≡ OfNumber n) × (r < 12) × (of.reads (of.register r) Long m' ≡ Some n)
   register_symbol c k a u x e g (stands.token w fit named) h = absurd (cc)
@@ -331,9 +331,9 @@ module _ {O I S F : Type 0} (of : Meaning O I S F) (law : IsLawful of) (q : Tree
       → Result kind.Reg (own_register of q d first (hole (attrs es') (first_hole l.pieces)))
   register_given is fits =
       let sy = reg_symbol d.classes (only_symbol rule.right l.pieces) fits in
-      let one = one_hole rule.right l.pieces (symbol.Class sy.0) sy.1 in
-      let w = found_at one.index (symbol.Class sy.0) one.there in
-      let r = register_symbol sy.0 w.entry.kind w.entry.attr w.sense (symbol.Class sy.0) refl sy.2 w.is w.loaded in
+      let one = one_hole rule.right l.pieces (grammar_symbol.Class sy.0) sy.1 in
+      let w = found_at one.index (grammar_symbol.Class sy.0) one.there in
+      let r = register_symbol sy.0 w.entry.kind w.entry.attr w.sense (grammar_symbol.Class sy.0) refl sy.2 w.is w.loaded in
       done one.index r.0 r.1 one.is (w.at ∙ ap Some r.2) (seen_as one.index r.1 w.sense w.sensed r.3) r.4 r.5
     where
       done : (j r n : ℕ) → l.pieces ≡ piece.Hole (suc j) ∷ [] → slice_get (attrs es') j ≡ Some (attr.Reg r) → View0.symbol (suc j) ≡ Some n → r < 12 → of.reads (of.register r) Long m' ≡ Some n
@@ -379,7 +379,7 @@ module _ {O I S F : Type 0} (of : Meaning O I S F) (law : IsLawful of) (q : Tree
     pub own_is : own_number of q d first (Some a) ≡ attr.Con number
     pub worth_is : worth of q Long a m' ≡ Some number
 
-  named_small : (x : Tok) (n : ℕ) → NamedBy of q d first f fs t s m0 x (att.Number n) → is_constant (Some (symbol.Tok x)) ≡ true → n < 2 ^ 32
+  named_small : (x : Tok) (n : ℕ) → NamedBy of q d first f fs t s m0 x (att.Number n) → is_constant (Some (grammar_symbol.Tok x)) ≡ true → n < 2 ^ 32
   named_small tok.Zero n h e = h
   named_small tok.One n h e = h
   named_small tok.Two n h e = h
@@ -421,7 +421,7 @@ module _ {O I S F : Type 0} (of : Meaning O I S F) (law : IsLawful of) (q : Tree
   named_small tok.Jump n h e = absurd (cc)
   named_small tok.End n h e = absurd (cc)
 
-  constant_token : (x : Tok) (a : Att) → NamedBy of q d first f fs t s m0 x a → is_constant (Some (symbol.Tok x)) ≡ true → is_of_kind (attribute_of x) a ≡ true
+  constant_token : (x : Tok) (a : Att) → NamedBy of q d first f fs t s m0 x a → is_constant (Some (grammar_symbol.Tok x)) ≡ true → is_of_kind (attribute_of x) a ≡ true
       → IsConstant (attr.Token (record { tok = x; att = a }))
   constant_token x a named c fit =
       let r = const_number x a c fit in
@@ -431,7 +431,7 @@ module _ {O I S F : Type 0} (of : Meaning O I S F) (law : IsLawful of) (q : Tree
   constant_symbol : (x : Sym) (k : Option Kind) (a : Attr O) (u : Sense) (y : Sym) → IsNumeric d.classes y → x ≡ y → SymbolIs of q d first f fs t s m0 m' x k a u → IsConstant a
   constant_symbol x k a u y (constant w c) e (stands.token b fit named) =
       let same : b.tok ≡ w = cc in
-      constant_token b.tok b.att named.0 (subst (λ z. is_constant (Some (symbol.Tok z)) ≡ true) (sym same) c) fit
+      constant_token b.tok b.att named.0 (subst (λ z. is_constant (Some (grammar_symbol.Tok z)) ≡ true) (sym same) c) fit
   constant_symbol x k a u y (class c g) e (stands.token b fit named) = absurd (cc)
   constant_symbol x k a u y (constant w c) e (stands.class c' a' u' is) = absurd (cc)
   constant_symbol x k a u y (class c g) e (stands.class c' a' u' is) =

@@ -6,7 +6,7 @@ use Rattle.tree_meaning.specs.State.{State}
 use Rattle.tree_meaning.specs.Steps.{deed_step}
 use Rattle.tree_meaning.specs.Values.{Sight}
 use Rattle.md_reader.specs.declared.types.Sym.{Sym}
-use Rattle.md_reader.specs.declared.types.Sym.TheVariants as sym
+use Rattle.md_reader.specs.declared.types.Sym.TheVariants as grammar_symbol
 use Rattle.md_reader.specs.State.{Content}
 use Rattle.sel_terms_trees.specs.Senses.{Sense}
 use Rattle.sel_target.specs.Courses.{comes, traps}
@@ -19,8 +19,8 @@ use Rattle.sel_parse_stands.specs.Stands.{Sees, Holds}
 -- no class is among the symbols: nothing has been reduced
 abbrev pub OnlyTokens : List Sym → Type 0
 OnlyTokens [] = Unit {0}
-OnlyTokens (sym.Tok t ∷ xs) = OnlyTokens xs
-OnlyTokens (sym.Class c ∷ xs) = ⊥
+OnlyTokens (grammar_symbol.Tok t ∷ xs) = OnlyTokens xs
+OnlyTokens (grammar_symbol.Class c ∷ xs) = ⊥
 
 module _ {O I S F : Type 0} (of : Meaning O I S F) (q : TreeProgram) (d : Content) (first : ℕ) (f : Extent) (fs : List Extent)
     (t : State) (s : Sight) (m0 : S) where

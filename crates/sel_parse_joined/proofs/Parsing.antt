@@ -9,7 +9,7 @@ use Rattle.md_reader.specs.declared.types.Restriction.{Restriction}
 use Rattle.md_reader.specs.declared.types.Restriction.TheVariants as restriction
 use Rattle.md_reader.specs.declared.types.Rule.{Rule}
 use Rattle.md_reader.specs.declared.types.Sym.{Sym}
-use Rattle.md_reader.specs.declared.types.Sym.TheVariants as symbol
+use Rattle.md_reader.specs.declared.types.Sym.TheVariants as grammar_symbol
 use Rattle.md_reader.specs.State.{Content}
 use Rattle.lr_tables.specs.Candidates.{StandsBefore, AreReductions}
 use Rattle.lr_tables.specs.Statements.{stmt_of}
@@ -180,7 +180,7 @@ module _ {O I S F : Type 0} (of : Meaning O I S F) (law : IsLawful of) (q : Tree
   choice_same ws a x n y h c =
       let t = taken_same d.rules c.candidates x h n y c.takes in (
         record {
-          no_shift = subst (λ (k : Tok). StandsBefore d.rules (stmt_of d.classes) a (symbol.Tok k) → ⊥) (coming_same ws) c.no_shift;
+          no_shift = subst (λ (k : Tok). StandsBefore d.rules (stmt_of d.classes) a (grammar_symbol.Tok k) → ⊥) (coming_same ws) c.no_shift;
           candidates = c.candidates;
           in_order = subst (λ (k : Tok). AreReductions d.rules (stmt_of d.classes) a k c.candidates) (coming_same ws) c.in_order;
           takes = t.0;

@@ -14,7 +14,7 @@ use Rattle.tree_core.specs.Attributes.{leaf_fits, end_leaf}
 use Rattle.tree_core.specs.Trees.{Forest, none, tree, leaves_onto}
 use Rattle.tree_meaning.specs.State.{State}
 use Rattle.md_reader.specs.declared.types.Rule.{Rule}
-use Rattle.md_reader.specs.declared.types.Sym.TheVariants as symbol
+use Rattle.md_reader.specs.declared.types.Sym.TheVariants as grammar_symbol
 use Rattle.md_reader.specs.State.{Content}
 use Rattle.lr_check_parse.specs.Moves.{Move, Ending, Accepts, Blocks, Loops, Refuses}
 use Rattle.lr_check_parse.specs.Attributes.{by_attributes}
@@ -123,7 +123,7 @@ module _ {O I S F : Type 0} (of : Meaning O I S F) (law : IsLawful of) (q : Tree
   own_leaf : (l : Leaf) → leaf_fits l ≡ true → Names of q d first f fs t (frame_sight of f t m) m l → IsOwn q first l.tok l.att
   own_leaf l fit named =
       let fits =
-      symbol_fits of law q d first f fs t (frame_sight of f t m) m frame m sees (symbol.Tok l.tok) None (attr.Token l) (OfLeaf l) tt (stands.token l fit named) in
+      symbol_fits of law q d first f fs t (frame_sight of f t m) m frame m sees (grammar_symbol.Tok l.tok) None (attr.Token l) (OfLeaf l) tt (stands.token l fit named) in
       record { in_frame = fits.2; own_local = λ k e g. own_local l.tok l.att named.0 k e g; spelled = named.1 }
 
   own_leaves : (w : List Leaf) → AreLeaves w → All (Names of q d first f fs t (frame_sight of f t m) m) w → All (λ (l : Leaf). IsOwn q first l.tok l.att) w

@@ -11,7 +11,7 @@ use Rattle.md_reader.specs.declared.types.Rule.{Rule}
 use Rattle.md_reader.specs.declared.types.Give.{Give}
 use Rattle.md_reader.specs.declared.types.Give.TheVariants as give
 use Rattle.md_reader.specs.declared.types.Sym.{Sym}
-use Rattle.md_reader.specs.declared.types.Sym.TheVariants as symbol
+use Rattle.md_reader.specs.declared.types.Sym.TheVariants as grammar_symbol
 use Rattle.md_reader.specs.Patterns.{kind_at}
 use Rattle.md_reader.specs.State.{Content}
 use Rattle.md_reader.specs.Valid.{IsValid}
@@ -39,10 +39,10 @@ some_same x y e = cc
 none_some : {X : Type 0} (x : X) → None ≡ Some x → ⊥
 none_some x e = cc
 
-class_same : (c k : ℕ) (a : List Sym) → symbol.Class c ∷ a ≡ symbol.Class k ∷ [] → c ≡ k
+class_same : (c k : ℕ) (a : List Sym) → grammar_symbol.Class c ∷ a ≡ grammar_symbol.Class k ∷ [] → c ≡ k
 class_same c k a e = cc
 
-no_token : (t : Tok) (k : ℕ) (a : List Sym) → symbol.Tok t ∷ a ≡ symbol.Class k ∷ [] → ⊥
+no_token : (t : Tok) (k : ℕ) (a : List Sym) → grammar_symbol.Tok t ∷ a ≡ grammar_symbol.Class k ∷ [] → ⊥
 no_token t k a e = cc
 
 module _ {O I S F : Type 0} (of : Meaning O I S F) (law : IsLawful of) (q : TreeProgram) (d : Content) (first : ℕ) (valid : IsValid d)
@@ -84,7 +84,7 @@ module _ {O I S F : Type 0} (of : Meaning O I S F) (law : IsLawful of) (q : Tree
   -- behind a statement there is an instruction
   abbrev Has : List Sym → Kept O I → Type 0
   Has a None = Unit {0}
-  Has a (Some x) = a ≡ symbol.Class (stmt_of d.classes) ∷ [] → IsLong x
+  Has a (Some x) = a ≡ grammar_symbol.Class (stmt_of d.classes) ∷ [] → IsLong x
 
   abbrev Behind : Ending (Kept O I) → Type 0
   Behind (Accepts None) = Unit {0}
@@ -93,23 +93,23 @@ module _ {O I S F : Type 0} (of : Meaning O I S F) (law : IsLawful of) (q : Tree
   Behind (Blocks at) = Unit {0}
   Behind (Loops at) = Unit {0}
 
-  accepted : (a : List Sym) (x : Kept O I) → Has a x → a ≡ symbol.Class (stmt_of d.classes) ∷ [] → Behind (Accepts x)
+  accepted : (a : List Sym) (x : Kept O I) → Has a x → a ≡ grammar_symbol.Class (stmt_of d.classes) ∷ [] → Behind (Accepts x)
   accepted a None h e = tt
   accepted a (Some x) h e = h e
 
-  shift : (l : Leaf) (a : List Sym) (x : Kept O I) → Has (symbol.Tok l.tok ∷ a) (shifted l x)
+  shift : (l : Leaf) (a : List Sym) (x : Kept O I) → Has (grammar_symbol.Tok l.tok ∷ a) (shifted l x)
   shift l a None = tt
   shift l a (Some x) = λ e. absurd (no_token l.tok (stmt_of d.classes) a e)
 
-  kept : (a : List Sym) (o : Outcome (Stack O I)) (z : Kept O I) → (a ≡ symbol.Class (stmt_of d.classes) ∷ [] → Each IsLong o) → kept_of o ≡ Some z → Has a z
+  kept : (a : List Sym) (o : Outcome (Stack O I)) (z : Kept O I) → (a ≡ grammar_symbol.Class (stmt_of d.classes) ∷ [] → Each IsLong o) → kept_of o ≡ Some z → Has a z
   kept a Full z h e = absurd (none_some z e)
   kept a Stuck z h e = subst (Has a) (some_same None z e) tt
   kept a (Done y) z h e = subst (Has a) (some_same (Some y) z e) h
 
-  reduce : (n : ℕ) (r : Rule) → slice_get d.rules n ≡ Some r → (a : List Sym) (x z : Kept O I) → reduced_by of q d first (Some r) x ≡ Some z → Has (symbol.Class r.left ∷ a) z
-  reduce n r there a None z e = subst (Has (symbol.Class r.left ∷ a)) (some_same None z e) tt
+  reduce : (n : ℕ) (r : Rule) → slice_get d.rules n ≡ Some r → (a : List Sym) (x z : Kept O I) → reduced_by of q d first (Some r) x ≡ Some z → Has (grammar_symbol.Class r.left ∷ a) z
+  reduce n r there a None z e = subst (Has (grammar_symbol.Class r.left ∷ a)) (some_same None z e) tt
   reduce n r there a (Some x) z e =
-      kept (symbol.Class r.left ∷ a) (reduced of q d first r x) z (λ f. reduced_long r (has_line n r there (class_same r.left (stmt_of d.classes) a f)) x) e
+      kept (grammar_symbol.Class r.left ∷ a) (reduced of q d first r x) z (λ f. reduced_long r (has_line n r there (class_same r.left (stmt_of d.classes) a f)) x) e
 
   iterate : {at : ℕ} {before : List (List Sym)} {ws : List Leaf} {a : List Sym} {x : Kept O I} {log : List (Move Leaf)} {e : Ending (Kept O I)}
       → Parses (by_attributes (selecting of q d first)) d.rules (stmt_of d.classes) at before ws a x log e → Has a x → Behind e
@@ -121,7 +121,7 @@ module _ {O I S F : Type 0} (of : Meaning O I S F) (law : IsLawful of) (q : Tree
   iterate (parse.refuses r h c there red) b = tt
   iterate (parse.blocks h c) b = tt
 
-  no_start : [] ≡ symbol.Class (stmt_of d.classes) ∷ [] → ⊥
+  no_start : [] ≡ grammar_symbol.Class (stmt_of d.classes) ∷ [] → ⊥
   no_start e = cc
 
   pub has_code : (w : List Leaf) (log : List (Move Leaf)) (x : Stack O I)

@@ -13,7 +13,7 @@ use Rattle.md_reader.specs.declared.types.Class.{Class}
 use Rattle.md_reader.specs.declared.types.Restriction.{Restriction}
 use Rattle.md_reader.specs.declared.types.Rule.{Rule}
 use Rattle.md_reader.specs.declared.types.Sym.{Sym}
-use Rattle.md_reader.specs.declared.types.Sym.TheVariants as symbol
+use Rattle.md_reader.specs.declared.types.Sym.TheVariants as grammar_symbol
 use Rattle.md_reader.specs.Patterns.{Trees, no_tree, sorted_test}
 use Rattle.md_reader.specs.Valid.{IsRule}
 use Rattle.lr_tables.specs.declared.item.Item.{Item}
@@ -122,7 +122,7 @@ module _ (classes : List Class) (rules : List Rule) where
       by f = done f (single valid.sides.sorted.tree f.forest f.moves f.fills)
 
   -- the one entry of a stack
-  alone : {c : ℕ} {w : List Leaf} {ms : List (Move Leaf)} → Pile classes rules (symbol.Class c ∷ []) w ms → CoversAll classes rules c w ms
+  alone : {c : ℕ} {w : List Leaf} {ms : List (Move Leaf)} → Pile classes rules (grammar_symbol.Class c ∷ []) w ms → CoversAll classes rules c w ms
   alone (cover.class {c = d} {l = l} {f = f} {ns = ns} p c) = (let e = nothing_below p in
       record {
         leaf = l;
@@ -136,7 +136,7 @@ module _ (classes : List Class) (rules : List Rule) where
 
   -- a rule is taken: its class lies on the stack in the place of its right side
   pub record Taken (left : ℕ) (n : ℕ) (b : List Sym) (w : List Leaf) (ms : List (Move Leaf)) : Type 0 where
-    pub pile : Pile classes rules (symbol.Class left ∷ b) w (ms ++ Reduce n ∷ [])
+    pub pile : Pile classes rules (grammar_symbol.Class left ∷ b) w (ms ++ Reduce n ∷ [])
 
   pub taken_on : (n : ℕ) (r : Rule) (a b : List Sym) (w : List Leaf) (ms : List (Move Leaf)) → slice_get rules n ≡ Some r → IsRule classes r → piled r.right b ≡ a → Pile classes rules a w ms
       → Taken r.left n b w ms
@@ -148,8 +148,8 @@ module _ (classes : List Class) (rules : List Rule) where
           let g : q.first ++ (q.last ++ Reduce n ∷ []) ≡ ms ++ Reduce n ∷ [] = sym (append_assoc q.first q.last (Reduce n ∷ []))
           ∙ ap (λ (t : List (Move Leaf)). t ++ Reduce n ∷ []) (sym q.moves) in
           record {
-            pile = subst (λ (t : List Leaf). Pile classes rules (symbol.Class r.left ∷ b) t (ms ++ Reduce n ∷ [])) f
-                (subst (λ (t : List (Move Leaf)). Pile classes rules (symbol.Class r.left ∷ b) (q.low ++ (c.leaf ∷ leaves_onto c.below [])) t) g (cover.class q.below c.covers));
+            pile = subst (λ (t : List Leaf). Pile classes rules (grammar_symbol.Class r.left ∷ b) t (ms ++ Reduce n ∷ [])) f
+                (subst (λ (t : List (Move Leaf)). Pile classes rules (grammar_symbol.Class r.left ∷ b) (q.low ++ (c.leaf ∷ leaves_onto c.below [])) t) g (cover.class q.below c.covers));
           }
 
       by : Peeled classes rules r.right b w ms → Taken r.left n b w ms
@@ -233,7 +233,7 @@ module _ {X A : Type 0} (of : Selecting X A) (classes : List Class) (rules : Lis
     pub covers : CoversAll classes rules stmt w (ms ++ log)
     pub made : Made of rules x log y
 
-  accepted : (ws : List Leaf) (a : List Sym) (x y : X) (w : List Leaf) (ms : List (Move Leaf)) → AreLeaves ws → a ≡ symbol.Class stmt ∷ [] → coming (by_attributes of) ws ≡ tok.End
+  accepted : (ws : List Leaf) (a : List Sym) (x y : X) (w : List Leaf) (ms : List (Move Leaf)) → AreLeaves ws → a ≡ grammar_symbol.Class stmt ∷ [] → coming (by_attributes of) ws ≡ tok.End
       → Accepts x ≡ Accepts y → Pile classes rules a w ms → Whole (w ++ ws) ms x [] y
   accepted ws a x y w ms leaves e f g p =
       let h = alone classes rules (subst (λ (t : List Sym). Pile classes rules t w ms) e p) in

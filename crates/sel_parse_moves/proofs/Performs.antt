@@ -2,7 +2,7 @@
 use Rattle.std.proofs.Common.{◌≡◌, ◌⊎◌, inl, inr, ℕ, ◌+◌, List, [], ◌∷◌, ◌++◌, length, Option, Some, None, Bool, true, false, refl, sym, ap, ◌∙◌, subst, slice_get, append_assoc, length-append}
 use Rattle.std.proofs.Common.{arith}
 use Rattle.std.specs.Option.{option_map}
-use Rattle.gg_base.specs.declared.size.Size.TheVariants as size
+use Rattle.gg_base.specs.declared.size.Size.TheVariants as sizes
 use Rattle.tree_core.specs.declared.token.Sort.{Sort}
 use Rattle.tree_core.specs.declared.token.Sort.TheVariants as sort
 use Rattle.tree_core.specs.declared.tree.Leaf.{Leaf}
@@ -18,7 +18,7 @@ use Rattle.md_reader.specs.declared.types.Kind.TheVariants as kind
 use Rattle.md_reader.specs.declared.types.Class.{Class}
 use Rattle.md_reader.specs.declared.types.Rule.{Rule}
 use Rattle.md_reader.specs.declared.types.Sym.{Sym}
-use Rattle.md_reader.specs.declared.types.Sym.TheVariants as symbol
+use Rattle.md_reader.specs.declared.types.Sym.TheVariants as grammar_symbol
 use Rattle.md_reader.specs.Patterns.{sort_of_kind, sort_fits, kind_at, kids_of, Trees, no_tree, node, onto, sorted_test}
 use Rattle.md_reader.specs.Rows.{is_bare, is_nothing}
 use Rattle.md_reader.specs.Valid.{IsRule}
@@ -76,12 +76,12 @@ nothing_there (Some kind.Reg) e = absurd (cc)
 nothing_there (Some kind.Con) e = absurd (cc)
 nothing_there (Some kind.Ea) e = absurd (cc)
 nothing_there (Some kind.Nothing) e = refl
-nothing_there (Some (kind.Value size.Byte)) e = absurd (cc)
-nothing_there (Some (kind.Value size.Word)) e = absurd (cc)
-nothing_there (Some (kind.Value size.Long)) e = absurd (cc)
-nothing_there (Some (kind.Place size.Byte)) e = absurd (cc)
-nothing_there (Some (kind.Place size.Word)) e = absurd (cc)
-nothing_there (Some (kind.Place size.Long)) e = absurd (cc)
+nothing_there (Some (kind.Value sizes.Byte)) e = absurd (cc)
+nothing_there (Some (kind.Value sizes.Word)) e = absurd (cc)
+nothing_there (Some (kind.Value sizes.Long)) e = absurd (cc)
+nothing_there (Some (kind.Place sizes.Byte)) e = absurd (cc)
+nothing_there (Some (kind.Place sizes.Word)) e = absurd (cc)
+nothing_there (Some (kind.Place sizes.Long)) e = absurd (cc)
 
 same_fits : (o : Option Sort) (x : Sort) → sort_fits o x ≡ true → trees.sort_fits o x ≡ true
 same_fits None x e = cc
@@ -164,7 +164,7 @@ module _ {X A : Type 0} (of : Selecting X A) (classes : List Class) (rules : Lis
     pub sense : Sense
     pub is : IsSense objects s (kind_at classes c) (tree_means objects s l f) sense
     pub made : Makes state rest y
-    pub stands : I.Stands state (symbol.Class c ∷ a) (sense ∷ us)
+    pub stands : I.Stands state (grammar_symbol.Class c ∷ a) (sense ∷ us)
 
   abbrev pub ClassDone : ℕ → Sort → Leaf → Forest → List Sym → List Sense → List (Move Leaf) → X → Type 0
   ClassDone c x l f a us rest y = Got c l f a us rest y ⊎ Lost (x ∷ []) (tree l f none) y
@@ -173,34 +173,34 @@ module _ {X A : Type 0} (of : Selecting X A) (classes : List Class) (rules : Lis
   lost_class x xs l f g y h = record { trapped = h.trapped; zero = λ u. h.zero (u.0, u.1, tt) }
 
   -- a token, and what stands below and beside it
-  token_done : (x : Sort) (xs : List Sort) (l : Leaf) (passes : sorted_test classes (symbol.Tok l.tok) x ≡ true) (below : Trees (sorted_test classes) (kids_of (symbol.Tok l.tok)))
+  token_done : (x : Sort) (xs : List Sort) (l : Leaf) (passes : sorted_test classes (grammar_symbol.Tok l.tok) x ≡ true) (below : Trees (sorted_test classes) (kids_of (grammar_symbol.Tok l.tok)))
       (beside : Trees (sorted_test classes) xs) (fit : leaf_fits l ≡ true) (f g : Forest) (a : List Sym) (us : List Sense) (ns rest : List (Move Leaf)) (y : X) →
-      Performed (kids l.tok) below f (symbol.Tok l.tok ∷ a) (OfLeaf l ∷ us) (ns ++ rest) y →
+      Performed (kids l.tok) below f (grammar_symbol.Tok l.tok ∷ a) (OfLeaf l ∷ us) (ns ++ rest) y →
       ((z : X) (b : List Sym) (vs : List Sense) → Makes z (ns ++ rest) y → I.Stands z b vs → Performed xs beside g b vs rest y) →
-      Performed (x ∷ xs) (node (symbol.Tok l.tok) passes below beside) (tree l f g) a us rest y
+      Performed (x ∷ xs) (node (grammar_symbol.Tok l.tok) passes below beside) (tree l f g) a us rest y
   token_done x xs l passes below beside fit f g a us ns rest y (inr h) go = inr (record { trapped = h.trapped; zero = λ u. h.zero u.1 })
-  token_done x xs l passes below beside fit f g a us ns rest y (inl r) go = by (go r.state (pushed below (symbol.Tok l.tok ∷ a)) (piled r.senses (OfLeaf l ∷ us)) r.made r.stands)
+  token_done x xs l passes below beside fit f g a us ns rest y (inl r) go = by (go r.state (pushed below (grammar_symbol.Tok l.tok ∷ a)) (piled r.senses (OfLeaf l ∷ us)) r.made r.stands)
     where
-      by : Performed xs beside g (pushed below (symbol.Tok l.tok ∷ a)) (piled r.senses (OfLeaf l ∷ us)) rest y
-          → Performed (x ∷ xs) (node (symbol.Tok l.tok) passes below beside) (tree l f g) a us rest y
+      by : Performed xs beside g (pushed below (grammar_symbol.Tok l.tok ∷ a)) (piled r.senses (OfLeaf l ∷ us)) rest y
+          → Performed (x ∷ xs) (node (grammar_symbol.Tok l.tok) passes below beside) (tree l f g) a us rest y
       by (inr h) = inr (record { trapped = h.trapped; zero = λ u. h.zero u.2 })
       by (inl q) = inl (record {
         state = q.state;
         senses = OfLeaf l ∷ (r.senses ++ q.senses);
         sensed = sense.token l passes below beside fit r.sensed q.sensed;
         made = q.made;
-        stands = subst (I.Stands q.state (pushed beside (pushed below (symbol.Tok l.tok ∷ a)))) (sym (piled_both r.senses q.senses (OfLeaf l ∷ us))) q.stands;
+        stands = subst (I.Stands q.state (pushed beside (pushed below (grammar_symbol.Tok l.tok ∷ a)))) (sym (piled_both r.senses q.senses (OfLeaf l ∷ us))) q.stands;
       })
 
-  class_done : (x : Sort) (xs : List Sort) (c : ℕ) (l : Leaf) (passes : sorted_test classes (symbol.Class c) x ≡ true) (beside : Trees (sorted_test classes) xs) (f g : Forest) (a : List Sym)
+  class_done : (x : Sort) (xs : List Sort) (c : ℕ) (l : Leaf) (passes : sorted_test classes (grammar_symbol.Class c) x ≡ true) (beside : Trees (sorted_test classes) xs) (f g : Forest) (a : List Sym)
       (us : List Sense) (ns rest : List (Move Leaf)) (y : X) →
       ClassDone c x l f a us (ns ++ rest) y →
       ((z : X) (b : List Sym) (vs : List Sense) → Makes z (ns ++ rest) y → I.Stands z b vs → Performed xs beside g b vs rest y) →
-      Performed (x ∷ xs) (node (symbol.Class c) passes no_tree beside) (tree l f g) a us rest y
+      Performed (x ∷ xs) (node (grammar_symbol.Class c) passes no_tree beside) (tree l f g) a us rest y
   class_done x xs c l passes beside f g a us ns rest y (inr h) go = inr (lost_class x xs l f g y h)
-  class_done x xs c l passes beside f g a us ns rest y (inl r) go = by (go r.state (symbol.Class c ∷ a) (r.sense ∷ us) r.made r.stands)
+  class_done x xs c l passes beside f g a us ns rest y (inl r) go = by (go r.state (grammar_symbol.Class c ∷ a) (r.sense ∷ us) r.made r.stands)
     where
-      by : Performed xs beside g (symbol.Class c ∷ a) (r.sense ∷ us) rest y → Performed (x ∷ xs) (node (symbol.Class c) passes no_tree beside) (tree l f g) a us rest y
+      by : Performed xs beside g (grammar_symbol.Class c ∷ a) (r.sense ∷ us) rest y → Performed (x ∷ xs) (node (grammar_symbol.Class c) passes no_tree beside) (tree l f g) a us rest y
       by (inr h) = inr (record { trapped = h.trapped; zero = λ u. h.zero u.2 })
       by (inl q) = inl (record { state = q.state; senses = r.sense ∷ q.senses; sensed = sense.class c r.sense passes no_tree beside r.is q.sensed; made = q.made; stands = q.stands })
 
@@ -264,7 +264,7 @@ module _ {X A : Type 0} (of : Selecting X A) (classes : List Class) (rules : Lis
     perform cover.nothing tame names some x y a us rest made stands = inl (record { state = x; senses = []; sensed = sense.nothing; made = made; stands = stands })
     perform (cover.token {x = z} {xs = xs} {f = f} {g = g} {ms = ms} {ns = ns} l passes below beside fit p q) tame names some x y a us rest made stands =
         token_done z xs l passes below beside fit f g a us ns rest y
-        (perform p tame.1 names.1 (kids_no_stmt l.tok) (of.shifted l x) y (symbol.Tok l.tok ∷ a) (OfLeaf l ∷ us) (ns ++ rest)
+        (perform p tame.1 names.1 (kids_no_stmt l.tok) (of.shifted l x) y (grammar_symbol.Tok l.tok ∷ a) (OfLeaf l ∷ us) (ns ++ rest)
         (subst (λ (t : List (Move Leaf)). Makes (of.shifted l x) t y) (append_assoc ms ns rest) (after_shift made)) (I.shifts x l a us fit names.0 stands))
         (λ v b vs. perform q tame.2 names.2 some.1 v y b vs rest)
     perform (cover.class {x = z} {xs = xs} {f = f} {g = g} {ms = ms} {ns = ns} {l = l} c passes no_tree beside p q) tame names some x y a us rest made stands =
@@ -272,7 +272,8 @@ module _ {X A : Type 0} (of : Selecting X A) (classes : List Class) (rules : Lis
         (perform_class p z some.0 passes (tame.0, tame.1, tt) (names.0, names.1, tt) x y a us (ns ++ rest) (subst (λ (t : List (Move Leaf)). Makes x t y) (append_assoc ms ns rest) made) stands)
         (λ v b vs. perform q tame.2 names.2 some.1 v y b vs rest)
 
-    perform_class : {c : ℕ} {l : Leaf} {f : Forest} {ms : List (Move Leaf)} → Covers classes rules c l f ms → (x0 : Sort) → (x0 ≡ sort.Stmt → ⊥) → sorted_test classes (symbol.Class c) x0 ≡ true
+    perform_class : {c : ℕ} {l : Leaf} {f : Forest} {ms : List (Move Leaf)} → Covers classes rules c l f ms → (x0 : Sort) → (x0 ≡ sort.Stmt → ⊥)
+        → sorted_test classes (grammar_symbol.Class c) x0 ≡ true
         → Tame objects s (x0 ∷ []) (tree l f none) → Named (tree l f none) → (x y : X) (a : List Sym) (us : List Sense) (rest : List (Move Leaf)) → Makes x (ms ++ rest) y → I.Stands x a us
         → ClassDone c x0 l f a us rest y
     perform_class (cover.by_rule {l = l} {below = f} {ms = ms} {x = y0} n r pattern there sorted spelled fills) x0 some passes tame names x y a us rest made stands =
@@ -328,11 +329,11 @@ module _ {X A : Type 0} (of : Selecting X A) (classes : List Class) (rules : Lis
   lost_so Traps y t f = t
   lost_so Strays y t f = absurd (f (λ e. cc))
 
-  statement_done : (n : ℕ) (r : Rule) (l : Leaf) (below : Trees (sorted_test classes) (kids_of (symbol.Tok l.tok))) (fit : leaf_fits l ≡ true) (f : Forest) (y : X) →
-      slice_get rules n ≡ Some r → kind_at classes r.left ≡ Some kind.Nothing → trees.sort_fits (sort_of l.tok) sort.Stmt ≡ true → symbol.Tok l.tok ∷ onto below [] ≡ r.right
+  statement_done : (n : ℕ) (r : Rule) (l : Leaf) (below : Trees (sorted_test classes) (kids_of (grammar_symbol.Tok l.tok))) (fit : leaf_fits l ≡ true) (f : Forest) (y : X) →
+      slice_get rules n ≡ Some r → kind_at classes r.left ≡ Some kind.Nothing → trees.sort_fits (sort_of l.tok) sort.Stmt ≡ true → grammar_symbol.Tok l.tok ∷ onto below [] ≡ r.right
       → Tame objects s (kids l.tok) f →
       IsPossible s.area (deed_here l f) → ((deed_here l f ≡ Traps → ⊥) → Undivided objects s (kids l.tok) f) →
-      Performed (kids l.tok) below f (symbol.Tok l.tok ∷ []) (OfLeaf l ∷ []) (Reduce n ∷ []) y → Ran I y (deed_here l f)
+      Performed (kids l.tok) below f (grammar_symbol.Tok l.tok ∷ []) (OfLeaf l ∷ []) (Reduce n ∷ []) y → Ran I y (deed_here l f)
   statement_done n r l below fit f y there none_kind stmt spelled tame possible undivided (inr h) = lost_so (deed_here l f) y h.trapped (λ e. h.zero (undivided e))
   statement_done n r l below fit f y there none_kind stmt spelled tame possible undivided (inl w) = by (after_reduce w.made)
     where
@@ -343,7 +344,8 @@ module _ {X A : Type 0} (of : Selecting X A) (classes : List Class) (rules : Lis
       size = (let e = sensed_length objects s classes w.sensed [] in let g = ap (λ (t : List Sym). length t) spelled in omega (arith, e, g))
 
       stands : I.Stands w.state (piled r.right []) (piled (OfLeaf l ∷ w.senses) [])
-      stands = subst (λ (t : List Sym). I.Stands w.state t (piled w.senses (OfLeaf l ∷ []))) (sym (pushed_is below [] (symbol.Tok l.tok ∷ [])) ∙ ap (λ (t : List Sym). piled t []) spelled) w.stands
+      stands = subst (λ (t : List Sym). I.Stands w.state t (piled w.senses (OfLeaf l ∷ [])))
+          (sym (pushed_is below [] (grammar_symbol.Tok l.tok ∷ [])) ∙ ap (λ (t : List Sym). piled t []) spelled) w.stands
 
       acts : (m : State) → StandsFor objects s (OfLeaf l ∷ w.senses) m → ActIs objects s (OfLeaf l ∷ w.senses) m (first_part (stack_from classes 1 r.right)) (deed_here l f)
       acts m st =
@@ -368,7 +370,7 @@ module _ {X A : Type 0} (of : Selecting X A) (classes : List Class) (rules : Lis
   filled_statement n r there valid none_kind same spelled (cover.token {f = f} {ms = ms} l passes below no_tree fit p cover.nothing) tame names x y made stands possible undivided =
       statement_done n r l below fit f y there none_kind
       (same_fits (sort_of l.tok) sort.Stmt (subst (λ (t : Sort). sort_fits (sort_of l.tok) t ≡ true) same passes)) spelled tame possible undivided
-      (perform p tame names.1 (kids_no_stmt l.tok) (of.shifted l x) y (symbol.Tok l.tok ∷ []) (OfLeaf l ∷ []) (Reduce n ∷ [])
+      (perform p tame names.1 (kids_no_stmt l.tok) (of.shifted l x) y (grammar_symbol.Tok l.tok ∷ []) (OfLeaf l ∷ []) (Reduce n ∷ [])
       (subst (λ (t : List (Move Leaf)). Makes (of.shifted l x) t y) (append_assoc ms [] (Reduce n ∷ [])) (after_shift made)) (I.shifts x l [] [] fit names.0 stands))
   filled_statement n r there valid none_kind same spelled (cover.class c passes no_tree no_tree p cover.nothing) tame names x y made stands possible undivided =
       absurd (true_false (is_bare classes r.right) valid.sides.not_bare

@@ -7,7 +7,7 @@ use Rattle.tree_core.specs.Trees.{Forest, none, tree, leaves_onto}
 use Rattle.md_reader.specs.declared.types.Class.{Class}
 use Rattle.md_reader.specs.declared.types.Rule.{Rule}
 use Rattle.md_reader.specs.declared.types.Sym.{Sym}
-use Rattle.md_reader.specs.declared.types.Sym.TheVariants as symbol
+use Rattle.md_reader.specs.declared.types.Sym.TheVariants as grammar_symbol
 use Rattle.md_reader.specs.Patterns.{Trees, no_tree, node, onto, sorted_test}
 use Rattle.lr_check_parse.specs.Moves.{Move, Shift}
 use Rattle.sel_parse_moves.specs.Covers.{Covers, Fills, Parts, Pile}
@@ -98,9 +98,9 @@ module _ (classes : List Class) (rules : List Rule) where
   pub filled : {xs : List Sort} (pattern : Trees (sorted_test classes) xs) (rest : List Sym) (w : List Leaf) (ms : List (Move Leaf)) → Parts classes rules (onto pattern rest) w ms
       → Filled pattern rest w ms
   filled no_tree rest w ms p = record { forest = none; left = w; moves = []; others = ms; fills = cover.nothing; parts = p; spelled = refl; logged = refl }
-  filled (node (symbol.Tok t) passes below beside) rest w ms (cover.token {w = v} {ms = ns} l fits p) = by (filled below (onto beside rest) v ns p) (λ u ks q. filled beside rest u ks q)
+  filled (node (grammar_symbol.Tok t) passes below beside) rest w ms (cover.token {w = v} {ms = ns} l fits p) = by (filled below (onto beside rest) v ns p) (λ u ks q. filled beside rest u ks q)
     where
-      then : (f : Filled below (onto beside rest) v ns) → Filled beside rest f.left f.others → Filled (node (symbol.Tok l.tok) passes below beside) rest (l ∷ v) (Shift l ∷ ns)
+      then : (f : Filled below (onto beside rest) v ns) → Filled beside rest f.left f.others → Filled (node (grammar_symbol.Tok l.tok) passes below beside) rest (l ∷ v) (Shift l ∷ ns)
       then f g = record {
         forest = tree l f.forest g.forest;
         left = g.left;
@@ -113,11 +113,11 @@ module _ (classes : List Class) (rules : List Rule) where
       }
 
       by : Filled below (onto beside rest) v ns → ((u : List Leaf) (ks : List (Move Leaf)) → Parts classes rules (onto beside rest) u ks → Filled beside rest u ks)
-          → Filled (node (symbol.Tok l.tok) passes below beside) rest (l ∷ v) (Shift l ∷ ns)
+          → Filled (node (grammar_symbol.Tok l.tok) passes below beside) rest (l ∷ v) (Shift l ∷ ns)
       by f go = then f (go f.left f.others f.parts)
-  filled (node (symbol.Class c) passes no_tree beside) rest w ms (cover.class {l = l} {f = f} {w = v} {ms = ms'} {ns = ns} covers p) = by (filled beside rest v ns p)
+  filled (node (grammar_symbol.Class c) passes no_tree beside) rest w ms (cover.class {l = l} {f = f} {w = v} {ms = ms'} {ns = ns} covers p) = by (filled beside rest v ns p)
     where
-      by : Filled beside rest v ns → Filled (node (symbol.Class c) passes no_tree beside) rest (l ∷ leaves_onto f v) (ms' ++ ns)
+      by : Filled beside rest v ns → Filled (node (grammar_symbol.Class c) passes no_tree beside) rest (l ∷ leaves_onto f v) (ms' ++ ns)
       by g = record {
         forest = tree l f g.forest;
         left = g.left;

@@ -16,7 +16,7 @@ use Rattle.md_reader.specs.declared.types.Kind.{Kind}
 use Rattle.md_reader.specs.declared.types.Kind.TheVariants as kind
 use Rattle.md_reader.specs.declared.types.Class.{Class}
 use Rattle.md_reader.specs.declared.types.Rule.{Rule}
-use Rattle.md_reader.specs.declared.types.Sym.TheVariants as symbol
+use Rattle.md_reader.specs.declared.types.Sym.TheVariants as grammar_symbol
 use Rattle.md_reader.specs.Patterns.{sort_fits, sort_of_symbol, kind_at, sorted_test}
 use Rattle.md_reader.specs.Rows.{is_nothing}
 use Rattle.md_reader.specs.Steps.{is_stmt, has_stmt}
@@ -132,7 +132,7 @@ module _ (classes : List Class) (rules : List Rule) where
   -- a covered tree stands where the class does
   pub record Stands (c : ℕ) (l : Leaf) (f : Forest) : Type 0 where
     pub sort : Sort
-    pub of_class : sort_of_symbol classes (symbol.Class c) ≡ Some sort
+    pub of_class : sort_of_symbol classes (grammar_symbol.Class c) ≡ Some sort
     pub stands : stands_for l sort ≡ true
     pub below : Typed (kids l.tok) f
 
@@ -146,7 +146,7 @@ module _ (classes : List Class) (rules : List Rule) where
     fills_typed (cover.token {x = x} l passes below beside fit p q) =
         (both (trees.sort_fits (sort_of l.tok) x) (leaf_fits l) (same_fits (sort_of l.tok) x passes) fit, fills_typed p, fills_typed q)
     fills_typed (cover.class {x = x} {l = l} c passes below beside p q) =
-        (let h = covers_typed p in (stands_on l h.sort x h.stands (class_fits (sort_of_symbol classes (symbol.Class c)) h.sort x h.of_class passes), h.below, fills_typed q))
+        (let h = covers_typed p in (stands_on l h.sort x h.stands (class_fits (sort_of_symbol classes (grammar_symbol.Class c)) h.sort x h.of_class passes), h.below, fills_typed q))
 
 -- leaves of typed trees
 pub typed_leaves : (xs : List Sort) (f : Forest) (w : List Leaf) → Typed xs f → Rattle.sel_parse_moves.proofs.Covering.AreLeaves w

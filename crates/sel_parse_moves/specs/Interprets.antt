@@ -10,7 +10,7 @@ use Rattle.md_reader.specs.declared.types.Kind.TheVariants as kind
 use Rattle.md_reader.specs.declared.types.Class.{Class}
 use Rattle.md_reader.specs.declared.types.Rule.{Rule}
 use Rattle.md_reader.specs.declared.types.Sym.{Sym}
-use Rattle.md_reader.specs.declared.types.Sym.TheVariants as sym
+use Rattle.md_reader.specs.declared.types.Sym.TheVariants as grammar_symbol
 use Rattle.md_reader.specs.Patterns.{kind_at}
 use Rattle.term_core.specs.Value.{State}
 use Rattle.sel_terms.specs.Reading.{effect_read}
@@ -39,12 +39,12 @@ pub record Interprets {X A : Type 0} (of : Selecting X A) (classes : List Class)
   pub Trapped : X → Type 0
   pub Did : X → Deed → Type 0
   pub shifts : (x : X) (l : Leaf) (a : List Sym) (us : List Sense) →
-      leaf_fits l ≡ true → Names l → Stands x a us → Stands (of.shifted l x) (sym.Tok l.tok ∷ a) (OfLeaf l ∷ us)
+      leaf_fits l ≡ true → Names l → Stands x a us → Stands (of.shifted l x) (grammar_symbol.Tok l.tok ∷ a) (OfLeaf l ∷ us)
   pub gives : (x x' : X) (n : ℕ) (r : Rule) (a : List Sym) (us vs : List Sense) (v : Sense) →
       slice_get rules n ≡ Some r → length vs ≡ length r.right → answered of r x ≡ true → Stands x (piled r.right a) (piled vs us) →
       SenseFits (kind_at classes r.left) v →
       ((m : State) → StandsFor objects s vs m → GivesBy objects s vs (effect_read classes r) v m) →
-      of.reduced n x ≡ Some x' → Stands x' (sym.Class r.left ∷ a) (v ∷ us)
+      of.reduced n x ≡ Some x' → Stands x' (grammar_symbol.Class r.left ∷ a) (v ∷ us)
   pub does : (x x' : X) (n : ℕ) (r : Rule) (vs : List Sense) (d : Deed) →
       slice_get rules n ≡ Some r → length vs ≡ length r.right → answered of r x ≡ true → Stands x (piled r.right []) (piled vs []) →
       kind_at classes r.left ≡ Some kind.Nothing →

@@ -1,6 +1,6 @@
 -- Worked rows over the toy machine, with registers 0 and 1.
 use Rattle.std.specs.Prelude.{ℕ, List, [], ◌∷◌, codes, Option, Some, None}
-use Rattle.gg_base.specs.declared.relation.Rel.TheVariants as rel
+use Rattle.gg_base.specs.declared.relation.Rel.TheVariants as relations
 use Rattle.gg_base.specs.declared.size.Size.TheVariants.{Byte, Long}
 use Rattle.tree_core.specs.declared.token.Tok.TheVariants as tok
 use Rattle.tree_core.specs.declared.tree.Att.TheVariants as att
@@ -10,7 +10,7 @@ use Rattle.md_reader_pieces.specs.declared.piece.Piece.{Piece}
 use Rattle.md_reader_pieces.specs.declared.piece.Piece.TheVariants.{Bytes, Hole}
 use Rattle.md_reader.specs.declared.types.Kind.{Kind}
 use Rattle.md_reader.specs.declared.types.Kind.TheVariants as kind
-use Rattle.md_reader.specs.declared.types.Sym.TheVariants as sym
+use Rattle.md_reader.specs.declared.types.Sym.TheVariants as grammar_symbol
 use Rattle.md_reader.specs.declared.types.Give.TheVariants as give
 use Rattle.md_reader.specs.declared.types.Rule.{Rule}
 use Rattle.md_reader.specs.State.{Content}
@@ -20,7 +20,7 @@ use Rattle.sel_target.specs.declared.attr.Attr.TheVariants as attr
 use Rattle.sel_toy_machine.specs.declared.operand.Operand.{Operand}
 use Rattle.sel_toy_machine.specs.declared.operand.Operand.TheVariants as operand
 use Rattle.sel_toy_machine.specs.declared.operand.Source.TheVariants.{Read}
-use Rattle.sel_toy_machine.specs.declared.operand.Destination.TheVariants as to
+use Rattle.sel_toy_machine.specs.declared.operand.Destination.TheVariants as destination
 use Rattle.sel_toy_machine.specs.declared.operand.Instr.{Instr}
 use Rattle.sel_toy_machine.specs.declared.operand.Instr.TheVariants.{Move as MoveTo, Add, Push}
 use Rattle.sel_toy_machine.specs.Sample.{classes}
@@ -36,13 +36,19 @@ moving name = line (Bytes name ∷ Hole 1 ∷ Bytes (codes ",") ∷ Hole 0 ∷ [
 
 -- rule reg : Const, do l %1,%0, give fresh
 abbrev pub constant : Rule
-constant = record { left = 0; right = sym.Tok tok.Const ∷ []; restrictions = []; lines = moving (codes "l ") ∷ []; give = give.Fresh }
+constant = record {
+  left = 0;
+  right = grammar_symbol.Tok tok.Const ∷ [];
+  restrictions = [];
+  lines = moving (codes "l ") ∷ [];
+  give = give.Fresh;
+}
 
 -- rule reg : Plus reg reg, do a %2,%3,%0, give reuse
 abbrev pub sum : Rule
 sum = record {
   left = 0;
-  right = sym.Tok tok.Plus ∷ sym.Class 0 ∷ sym.Class 0 ∷ [];
+  right = grammar_symbol.Tok tok.Plus ∷ grammar_symbol.Class 0 ∷ grammar_symbol.Class 0 ∷ [];
   restrictions = [];
   lines = line (Bytes (codes "a ") ∷ Hole 2 ∷ Bytes (codes ",") ∷ Hole 3 ∷ Bytes (codes ",") ∷ Hole 0 ∷ []) ∷ [];
   give = give.Reuse;
@@ -52,7 +58,7 @@ sum = record {
 abbrev pub pushing : Rule
 pushing = record {
   left = 2;
-  right = sym.Tok tok.Push ∷ sym.Class 0 ∷ [];
+  right = grammar_symbol.Tok tok.Push ∷ grammar_symbol.Class 0 ∷ [];
   restrictions = [];
   lines = line (Bytes (codes "p ") ∷ Hole 2 ∷ []) ∷ [];
   give = give.Nothing;
@@ -87,15 +93,15 @@ register r = operand.Register r
 -- At 4 no register is free: the deepest one's value, 1 + 2, goes to the frame word 5, and comes back before the last sum.
 abbrev pub code : List Instr
 code =
-    MoveTo Long (Read (operand.Number 1)) (to.Register 0)
-    ∷ MoveTo Long (Read (operand.Number 2)) (to.Register 1)
-    ∷ Add (Read (register 0)) (Read (register 1)) (to.Register 0)
-    ∷ MoveTo Long (Read (operand.Number 3)) (to.Register 1)
-    ∷ MoveTo Long (Read (register 0)) (to.Word 5)
-    ∷ MoveTo Long (Read (operand.Number 4)) (to.Register 0)
-    ∷ Add (Read (register 1)) (Read (register 0)) (to.Register 0)
-    ∷ MoveTo Long (Read (operand.Word 5)) (to.Register 1)
-    ∷ Add (Read (register 1)) (Read (register 0)) (to.Register 0)
+    MoveTo Long (Read (operand.Number 1)) (destination.Register 0)
+    ∷ MoveTo Long (Read (operand.Number 2)) (destination.Register 1)
+    ∷ Add (Read (register 0)) (Read (register 1)) (destination.Register 0)
+    ∷ MoveTo Long (Read (operand.Number 3)) (destination.Register 1)
+    ∷ MoveTo Long (Read (register 0)) (destination.Word 5)
+    ∷ MoveTo Long (Read (operand.Number 4)) (destination.Register 0)
+    ∷ Add (Read (register 1)) (Read (register 0)) (destination.Register 0)
+    ∷ MoveTo Long (Read (operand.Word 5)) (destination.Register 1)
+    ∷ Add (Read (register 1)) (Read (register 0)) (destination.Register 0)
     ∷ Push (Read (register 0))
     ∷ []
 
@@ -117,4 +123,4 @@ abbrev pub asked : List (Entry Operand)
 asked =
     entry (Some (kind.Value Long)) (attr.Value (operand.Word 3)) ∷ entry (Some (kind.Place Long)) (attr.Place (operand.Word 3))
     ∷ entry (Some (kind.Place Byte)) (attr.Place (operand.Word 3)) ∷ entry (Some kind.Con) (attr.Con 4294967295)
-    ∷ entry None (attr.Token (record { tok = tok.Cbr; att = att.Branch rel.Ltu 1 })) ∷ []
+    ∷ entry None (attr.Token (record { tok = tok.Cbr; att = att.Branch relations.Ltu 1 })) ∷ []

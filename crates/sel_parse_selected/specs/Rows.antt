@@ -7,7 +7,7 @@ use Rattle.lr_check_parse.specs.Attributes.{holds}
 use Rattle.sel_target.specs.declared.attr.Attr.TheVariants as attr
 use Rattle.sel_toy_machine.specs.declared.operand.Operand.TheVariants as operand
 use Rattle.sel_toy_machine.specs.declared.operand.Source.TheVariants.{Read, Address}
-use Rattle.sel_toy_machine.specs.declared.operand.Destination.TheVariants as to
+use Rattle.sel_toy_machine.specs.declared.operand.Destination.TheVariants as destination
 use Rattle.sel_toy_machine.specs.declared.operand.Instr.TheVariants.{Move as MoveTo}
 use Rattle.sel_toy_machine.specs.Sample.{program}
 use Rattle.sel_toy_machine.specs.Toy.{toy}
@@ -29,7 +29,8 @@ pub record Rows : Type 0 where
             entry (Some kind.Reg) (attr.Reg 0) ∷ entry (Some kind.Reg) (attr.Reg 1)
             ∷ entry (Some (kind.Place Byte)) (attr.Place (operand.Deferred 5)) ∷ [];
         code =
-            MoveTo Long (Address (operand.Based 0)) (to.Word 5) ∷ MoveTo Long (Read (operand.Number 7)) (to.Register 0) ∷ [];
+            MoveTo Long (Address (operand.Based 0)) (destination.Word 5) ∷ MoveTo Long (Read (operand.Number 7))
+            (destination.Register 0) ∷ [];
         most = 8;
       })
   pub full : reduced toy program (description 3) 1024 constant waiting ≡ Full

@@ -7,7 +7,7 @@ use Rattle.tree_core.specs.declared.program.TreeProgram.{TreeProgram}
 use Rattle.md_reader.specs.declared.types.Kind.{Kind}
 use Rattle.md_reader.specs.declared.types.Kind.TheVariants as kind
 use Rattle.md_reader.specs.declared.types.Sym.{Sym}
-use Rattle.md_reader.specs.declared.types.Sym.TheVariants as symbol
+use Rattle.md_reader.specs.declared.types.Sym.TheVariants as grammar_symbol
 use Rattle.md_reader.specs.Patterns.{kind_at}
 use Rattle.md_reader.specs.State.{Content}
 use Rattle.sel_regs.specs.Slots.{larger_of}
@@ -412,7 +412,8 @@ module _ {O I S F : Type 0} (of : Meaning O I S F) (law : IsLawful of) (q : Tree
 
     -- ---- reloads
 
-    pub slot_kind : (s : Sym) (w : ℕ) (b : Attr O) → Fine s b → b ≡ attr.InSlot w → (w' : ℕ) × (w' ≡ w) × (w' < 1024) × (c' : ℕ) × (s ≡ symbol.Class c') × (kind_at d.classes c' ≡ Some kind.Reg)
+    pub slot_kind : (s : Sym) (w : ℕ) (b : Attr O) → Fine s b → b ≡ attr.InSlot w → (w' : ℕ) × (w' ≡ w) × (w' < 1024) × (c' : ℕ) × (s ≡ grammar_symbol.Class c')
+        × (kind_at d.classes c' ≡ Some kind.Reg)
     slot_kind s w b (fine.token l fit own) e = absurd (cc)
     slot_kind s w b (fine.class c' b' h) e = absurd (no_slot (kind_at d.classes c') b h e)
       where

@@ -13,7 +13,7 @@ use Rattle.tree_core.specs.Attributes.{leaf_fits}
 use Rattle.md_reader.specs.declared.types.Kind.{Kind}
 use Rattle.md_reader.specs.declared.types.Kind.TheVariants as kind
 use Rattle.md_reader.specs.declared.types.Sym.{Sym}
-use Rattle.md_reader.specs.declared.types.Sym.TheVariants as symbol
+use Rattle.md_reader.specs.declared.types.Sym.TheVariants as grammar_symbol
 use Rattle.md_reader.specs.Patterns.{kind_at}
 use Rattle.md_reader.specs.State.{Content}
 use Rattle.sel_target.specs.declared.attr.Attr.{Attr}
@@ -76,10 +76,10 @@ module _ {O I S F : Type 0} (of : Meaning O I S F) (law : IsLawful of) (q : Tree
 
   -- an entry that may stand for its symbol
   pub data IsFine : (s : Sym) (a : Attr O) → Type 0 where
-    token : (l : Leaf) → leaf_fits l ≡ true → IsOwn q first l.tok l.att → IsFine (symbol.Tok l.tok) (attr.Token l)
-    class : (c : ℕ) (a : Attr O) → KindFits of (kind_at d.classes c) a → IsFine (symbol.Class c) a
-    slot : (c w : ℕ) → kind_at d.classes c ≡ Some kind.Reg → w < 1024 → IsFine (symbol.Class c) (attr.InSlot w)
-    statement : (c : ℕ) → kind_at d.classes c ≡ Some kind.Nothing → IsFine (symbol.Class c) attr.Nothing
+    token : (l : Leaf) → leaf_fits l ≡ true → IsOwn q first l.tok l.att → IsFine (grammar_symbol.Tok l.tok) (attr.Token l)
+    class : (c : ℕ) (a : Attr O) → KindFits of (kind_at d.classes c) a → IsFine (grammar_symbol.Class c) a
+    slot : (c w : ℕ) → kind_at d.classes c ≡ Some kind.Reg → w < 1024 → IsFine (grammar_symbol.Class c) (attr.InSlot w)
+    statement : (c : ℕ) → kind_at d.classes c ≡ Some kind.Nothing → IsFine (grammar_symbol.Class c) attr.Nothing
 
   pub bits_none : (o : O) (r : ℕ) → of.registers o ≡ 0 → touches of o (RegAt r) ≡ false
   bits_none o r e = ap (λ k. bit_at k r == 1) e ∙ ap (λ b. b == 1) (bit_at-zero r)
@@ -184,7 +184,7 @@ module _ {O I S F : Type 0} (of : Meaning O I S F) (law : IsLawful of) (q : Tree
     pub held_less : words a + 1 ≤ charge a
     pub held_symbol : (is_register a ≡ true → ⊥) → words a + 1 ≤ weight a
 
-  class_spilled : (c w : ℕ) → w < 1024 → (k : Option Kind) (a : Attr O) → KindFits of k a → kind_at d.classes c ≡ k → 1 ≤ registers a → Spilled (symbol.Class c) a w
+  class_spilled : (c w : ℕ) → w < 1024 → (k : Option Kind) (a : Attr O) → KindFits of k a → kind_at d.classes c ≡ k → 1 ≤ registers a → Spilled (grammar_symbol.Class c) a w
   class_spilled c w lt (Some kind.Reg) (attr.Reg r) h e some = record {
     fine = slot c w e lt;
     charge_is = omega arith;

@@ -22,7 +22,7 @@ use Rattle.md_reader.specs.declared.types.Give.{Give}
 use Rattle.md_reader.specs.declared.types.Give.TheVariants as give
 use Rattle.md_reader.specs.declared.types.Rule.{Rule}
 use Rattle.md_reader.specs.declared.types.Sym.{Sym}
-use Rattle.md_reader.specs.declared.types.Sym.TheVariants as symbol
+use Rattle.md_reader.specs.declared.types.Sym.TheVariants as grammar_symbol
 use Rattle.md_reader.specs.Patterns.{kind_at, sort_of_kind, sort_fits, kids_of, Trees, no_tree, node, onto, sorted_test}
 use Rattle.md_reader.specs.Rows.{shape_fits}
 use Rattle.md_reader.specs.State.{Content}
@@ -57,8 +57,8 @@ none_some x e = cc
 -- ---- no class of statements stands in a right side
 
 abbrev pub IsNoStatement : List Class → Sym → Type 0
-IsNoStatement classes (symbol.Tok t) = Unit {0}
-IsNoStatement classes (symbol.Class c) = kind_at classes c ≡ Some kind.Nothing → ⊥
+IsNoStatement classes (grammar_symbol.Tok t) = Unit {0}
+IsNoStatement classes (grammar_symbol.Class c) = kind_at classes c ≡ Some kind.Nothing → ⊥
 
 fits_stmt : (x : Sort) → fits sort.Stmt x ≡ true → x ≡ sort.Stmt
 fits_stmt sort.Stmt e = refl
@@ -70,12 +70,12 @@ fits_stmt sort.PlaceW e = absurd (cc)
 fits_stmt sort.PlaceL e = absurd (cc)
 
 no_statement : (classes : List Class) (s : Sym) (x : Sort) → sorted_test classes s x ≡ true → (x ≡ sort.Stmt → ⊥) → IsNoStatement classes s
-no_statement classes (symbol.Tok t) x e apart = tt
-no_statement classes (symbol.Class c) x e apart = λ is. apart (fits_stmt x (subst (λ (o : Option Kind). sort_fits (option_map sort_of_kind o) x ≡ true) is e))
+no_statement classes (grammar_symbol.Tok t) x e apart = tt
+no_statement classes (grammar_symbol.Class c) x e apart = λ is. apart (fits_stmt x (subst (λ (o : Option Kind). sort_fits (option_map sort_of_kind o) x ≡ true) is e))
 
 kids_none : (s : Sym) → NoStmt (kids_of s)
-kids_none (symbol.Tok t) = kids_no_stmt t
-kids_none (symbol.Class c) = tt
+kids_none (grammar_symbol.Tok t) = kids_no_stmt t
+kids_none (grammar_symbol.Class c) = tt
 
 pub none_onto : (classes : List Class) {xs : List Sort} (tree : Trees (sorted_test classes) xs) (w : List Sym) → NoStmt xs → All (IsNoStatement classes) w
     → All (IsNoStatement classes) (onto tree w)
@@ -213,7 +213,7 @@ module _ {O I S F : Type 0} (of : Meaning O I S F) (law : IsLawful of) (q : Tree
   -- ---- what a rule gives
 
   pub record Given (left g : ℕ) (a : Attr O) : Type 0 where
-    pub fine_is : IsFine of law q d first (symbol.Class left) a
+    pub fine_is : IsFine of law q d first (grammar_symbol.Class left) a
     pub charge_is : charge of law q d first a ≤ g
 
   module _ (rule : Rule) (is_rule : IsRule d.classes rule) (effect : EffectShape) (taken : of.effect d.classes rule ≡ Ok effect) (g : ℕ) (some : 1 ≤ g) where
@@ -244,7 +244,7 @@ module _ {O I S F : Type 0} (of : Meaning O I S F) (law : IsLawful of) (q : Tree
       at_symbol (x ∷ ss) (b ∷ bs) zero s h k e = (b.attr, refl, subst (λ w. IsFine of law q d first w b.attr) (some_same x s e) h.0, k.0)
       at_symbol (x ∷ ss) (b ∷ bs) (suc j) s h k e = at_symbol ss bs j s h.1 k.1 e
 
-      own_reg : (s : Sym) (c : ℕ) (a : Attr O) → IsFine of law q d first s a → IsLoaded a → s ≡ symbol.Class c → kind_at d.classes c ≡ Some kind.Reg → (r : ℕ) × (a ≡ attr.Reg r) × (r < 12)
+      own_reg : (s : Sym) (c : ℕ) (a : Attr O) → IsFine of law q d first s a → IsLoaded a → s ≡ grammar_symbol.Class c → kind_at d.classes c ≡ Some kind.Reg → (r : ℕ) × (a ≡ attr.Reg r) × (r < 12)
       own_reg s c a (fine.token l fit own) k e is = absurd (cc)
       own_reg s c a (fine.class c' a' fit) k e is = by (kind_at d.classes c') a fit (ap (kind_at d.classes) (let same : c' ≡ c = cc in same) ∙ is)
         where
@@ -267,7 +267,7 @@ module _ {O I S F : Type 0} (of : Meaning O I S F) (law : IsLawful of) (q : Tree
         small : number < 2 ^ 32
         own : own_number of q d first (Some a) ≡ attr.Con number
 
-      number_token : (x : Tok) (a : Att) → IsOwn q first x a → Rattle.md_reader.specs.Rows.is_constant (Some (symbol.Tok x)) ≡ true → is_of_kind (attribute_of x) a ≡ true
+      number_token : (x : Tok) (a : Att) → IsOwn q first x a → Rattle.md_reader.specs.Rows.is_constant (Some (grammar_symbol.Tok x)) ≡ true → is_of_kind (attribute_of x) a ≡ true
           → IsNumber (attr.Token (record { tok = x; att = a }))
       number_token x a own c fit =
           let r = const_number x a c fit in
@@ -285,7 +285,7 @@ module _ {O I S F : Type 0} (of : Meaning O I S F) (law : IsLawful of) (q : Tree
       number_symbol : (s : Sym) (a : Attr O) → IsFine of law q d first s a → IsLoaded a → (y : Sym) → IsNumeric d.classes y → s ≡ y → IsNumber a
       number_symbol s a (fine.token l fit own) k y (shapes.constant w c) e =
           let same : l.tok ≡ w = cc in
-          number_token l.tok l.att own (subst (λ z. Rattle.md_reader.specs.Rows.is_constant (Some (symbol.Tok z)) ≡ true) (sym same) c) fit
+          number_token l.tok l.att own (subst (λ z. Rattle.md_reader.specs.Rows.is_constant (Some (grammar_symbol.Tok z)) ≡ true) (sym same) c) fit
       number_symbol s a (fine.token l fit own) k y (shapes.class c g) e = absurd (cc)
       number_symbol s a (fine.class c' a' fit) k y (shapes.constant w c) e = absurd (cc)
       number_symbol s a (fine.class c' a' fit) k y (shapes.class c g) e = number_class (kind_at d.classes c') a fit (ap (kind_at d.classes) (let same : c' ≡ c = cc in same) ∙ g)
@@ -301,9 +301,9 @@ module _ {O I S F : Type 0} (of : Meaning O I S F) (law : IsLawful of) (q : Tree
           → (r : ℕ) × (r < 12) × (hole (attrs es) (first_hole l.pieces) ≡ Some (attr.Reg r))
       shape_register l fits =
           let sy = reg_symbol d.classes _ fits in
-          let one = one_hole rule.right l.pieces (symbol.Class sy.0) sy.1 in
-          let w = at_symbol rule.right es one.index (symbol.Class sy.0) h loaded one.there in
-          let r = own_reg (symbol.Class sy.0) sy.0 w.0 w.2 w.3 refl sy.2 in
+          let one = one_hole rule.right l.pieces (grammar_symbol.Class sy.0) sy.1 in
+          let w = at_symbol rule.right es one.index (grammar_symbol.Class sy.0) h loaded one.there in
+          let r = own_reg (grammar_symbol.Class sy.0) sy.0 w.0 w.2 w.3 refl sy.2 in
           (r.0, r.2, ap (λ p. hole (attrs es) (first_hole p)) one.is ∙ w.1 ∙ ap Some r.1)
 
       pub shape_given : (l : Line) → rule.give ≡ give.Shape l → (k : Option Kind) → kind_at d.classes rule.left ≡ k → shape_fits d.classes rule.right k l.pieces ≡ true
@@ -349,7 +349,7 @@ module _ {O I S F : Type 0} (of : Meaning O I S F) (law : IsLawful of) (q : Tree
       pub record Reduced (x' : Stack O I) : Type 0 where
         pub most_within : x'.most ≤ first + c
         pub within : Within of law q d first x'.entries (g ∷ gb)
-        pub all_fine : AllFine of law q d first (symbol.Class rule.left ∷ a) x'.entries
+        pub all_fine : AllFine of law q d first (grammar_symbol.Class rule.left ∷ a) x'.entries
 
       abbrev In : ℕ → Desk O I → Type 0
       In i desk = Counted of law q d first rule.right a c gb gs i desk

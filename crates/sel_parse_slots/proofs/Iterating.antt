@@ -15,7 +15,7 @@ use Rattle.md_reader_pieces.specs.declared.piece.Line.{Line}
 use Rattle.md_reader.specs.declared.types.Kind.TheVariants as kind
 use Rattle.md_reader.specs.declared.types.Rule.{Rule}
 use Rattle.md_reader.specs.declared.types.Sym.{Sym}
-use Rattle.md_reader.specs.declared.types.Sym.TheVariants as symbol
+use Rattle.md_reader.specs.declared.types.Sym.TheVariants as grammar_symbol
 use Rattle.md_reader.specs.Rows.{shape_fits}
 use Rattle.md_reader.specs.State.{Content}
 use Rattle.md_reader.specs.Valid.{IsRule}
@@ -174,7 +174,7 @@ module _ {O I S F : Type 0} (of : Meaning O I S F) (law : IsLawful of) (q : Tree
     accepted ws a None h = tt
     accepted ws a (Some x) h = h.most_within
 
-    pub shift : (l : Leaf) (ws : List Leaf) (a : List Sym) (x : Kept O I) → Before (l ∷ ws) a x → Before ws (symbol.Tok l.tok ∷ a) (shifted l x)
+    pub shift : (l : Leaf) (ws : List Leaf) (a : List Sym) (x : Kept O I) → Before (l ∷ ws) a x → Before ws (grammar_symbol.Tok l.tok ∷ a) (shifted l x)
     shift l ws a None h = tt
     shift l ws a (Some x) h =
         let b = begun h.sorts l.tok (tokens ws) h.typed in
@@ -261,14 +261,14 @@ module _ {O I S F : Type 0} (of : Meaning O I S F) (law : IsLawful of) (q : Tree
       good : Good (first + (k + 1)) (reduced of q d first r x) Done_well
       good = reduction_good of law q can d first r valid effect has g some b (k + 1) (map gamma s.low) (map gamma s.high) low_sum x begun_in
 
-      next : (y : Stack O I) → Done_well y → At ws (symbol.Class r.left ∷ b) y
+      next : (y : Stack O I) → Done_well y → At ws (grammar_symbol.Class r.left ∷ b) y
       next y w = by y.entries refl
         where
-          by : (es : List (Entry O)) → y.entries ≡ es → At ws (symbol.Class r.left ∷ b) y
+          by : (es : List (Entry O)) → y.entries ≡ es → At ws (grammar_symbol.Class r.left ∷ b) y
           by [] e = absurd (subst (λ l. Within of law q d first l (g ∷ map gamma s.low)) e w.within)
           by (c ∷ es) e =
               let win = subst (λ l. Within of law q d first l (g ∷ map gamma s.low)) e w.within in
-              let fin = subst (AllFine of law q d first (symbol.Class r.left ∷ b)) e w.all_fine in
+              let fin = subst (AllFine of law q d first (grammar_symbol.Class r.left ∷ b)) e w.all_fine in
               let a0 = ap (total twos) s.parts_are ∙ total_piled twos s.high s.low in
               let a1 = ap (total ends) s.parts_are ∙ total_piled ends s.high s.low in
               let a2 = ap (total opens) s.parts_are ∙ total_piled opens s.high s.low in
@@ -277,7 +277,7 @@ module _ {O I S F : Type 0} (of : Meaning O I S F) (law : IsLawful of) (q : Tree
               let n = high_ends in
               record {
                 parts = Whole (total twos s.high) ∷ s.low;
-                held = subst (λ l. Held (symbol.Class r.left ∷ b) l (Whole (total twos s.high) ∷ s.low)) (sym e)
+                held = subst (λ l. Held (grammar_symbol.Class r.left ∷ b) l (Whole (total twos s.high) ∷ s.low)) (sym e)
                     ((fin.0, win.0, tt), joined b s.below es s.low s.rest fin.1 win.1);
                 most_within = w.most_within;
                 twos_in = omega (arith, a0, t);
@@ -288,10 +288,10 @@ module _ {O I S F : Type 0} (of : Meaning O I S F) (law : IsLawful of) (q : Tree
                 own = h.own;
               }
 
-      went : (o : Outcome (Stack O I)) → Good (first + (k + 1)) o Done_well → (z : Kept O I) → kept_of o ≡ Some z → Before ws (symbol.Class r.left ∷ b) z
+      went : (o : Outcome (Stack O I)) → Good (first + (k + 1)) o Done_well → (z : Kept O I) → kept_of o ≡ Some z → Before ws (grammar_symbol.Class r.left ∷ b) z
       went Full w z e = absurd (none_some z e)
-      went Stuck w z e = subst (Before ws (symbol.Class r.left ∷ b)) (some_same None z e) tt
-      went (Done y) w z e = subst (Before ws (symbol.Class r.left ∷ b)) (some_same (Some y) z e) (next y w)
+      went Stuck w z e = subst (Before ws (grammar_symbol.Class r.left ∷ b)) (some_same None z e) tt
+      went (Done y) w z e = subst (Before ws (grammar_symbol.Class r.left ∷ b)) (some_same (Some y) z e) (next y w)
 
       full : (o : Outcome (Stack O I)) → Good (first + (k + 1)) o Done_well → kept_of o ≡ None → 1024 < first + (k + 1)
       full Full w e = w
@@ -305,8 +305,8 @@ module _ {O I S F : Type 0} (of : Meaning O I S F) (law : IsLawful of) (q : Tree
       pub has_effect : (e : EffectShape) × (of.effect d.classes r ≡ Ok e)
       has_effect = all_at (λ (r : Rule). (e : EffectShape) × (of.effect d.classes r ≡ Ok e)) d.rules n r fit.taken there
 
-      pub reduce : (x z : Kept O I) → Before ws a x → reduced_by of q d first (Some r) x ≡ Some z → Before ws (symbol.Class r.left ∷ drop (length r.right) a) z
-      reduce None z h e = subst (Before ws (symbol.Class r.left ∷ drop (length r.right) a)) (some_same None z e) tt
+      pub reduce : (x z : Kept O I) → Before ws a x → reduced_by of q d first (Some r) x ≡ Some z → Before ws (grammar_symbol.Class r.left ∷ drop (length r.right) a) z
+      reduce None z h e = subst (Before ws (grammar_symbol.Class r.left ∷ drop (length r.right) a)) (some_same None z e) tt
       reduce (Some x) z h e =
           let b = drop (length r.right) a in
           let h' : At ws (piled r.right b) x = subst (λ l. At ws l x) (sym on) h in

@@ -6,7 +6,7 @@ use Rattle.tree_core.specs.declared.token.Sort.{Sort}
 use Rattle.tree_core.specs.Grammar.{kids}
 use Rattle.tree_core_forks.specs.Forks.{fork}
 use Rattle.md_reader.specs.declared.types.Sym.{Sym}
-use Rattle.md_reader.specs.declared.types.Sym.TheVariants as symbol
+use Rattle.md_reader.specs.declared.types.Sym.TheVariants as grammar_symbol
 use Rattle.md_reader.specs.Patterns.{kids_of, Trees, no_tree, node, onto}
 use Rattle.sel_terms_trees.specs.Senses.{piled}
 use Rattle.sel_parse_slots.proofs.Counts.{total}
@@ -67,31 +67,31 @@ part_of (x ∷ []) = One
 part_of (x ∷ y ∷ more) = Two
 
 abbrev pub Marks : Sym → Part → Type 0
-Marks (symbol.Tok t) p = p ≡ part_of (kids t)
-Marks (symbol.Class c) (Whole b) = Unit {0}
-Marks (symbol.Class c) p = ⊥
+Marks (grammar_symbol.Tok t) p = p ≡ part_of (kids t)
+Marks (grammar_symbol.Class c) (Whole b) = Unit {0}
+Marks (grammar_symbol.Class c) p = ⊥
 
 abbrev pub ends_of : Sym → ℕ
-ends_of (symbol.Tok t) = ends (part_of (kids t))
-ends_of (symbol.Class c) = 1
+ends_of (grammar_symbol.Tok t) = ends (part_of (kids t))
+ends_of (grammar_symbol.Class c) = 1
 
 abbrev pub opens_of : Sym → ℕ
-opens_of (symbol.Tok t) = opens (part_of (kids t))
-opens_of (symbol.Class c) = 0
+opens_of (grammar_symbol.Tok t) = opens (part_of (kids t))
+opens_of (grammar_symbol.Class c) = 0
 
 pub marks_ends : (s : Sym) (p : Part) → Marks s p → ends p ≡ ends_of s
-marks_ends (symbol.Tok t) p h = ap ends h
-marks_ends (symbol.Class c) (Whole b) h = refl
-marks_ends (symbol.Class c) Without h = absurd h
-marks_ends (symbol.Class c) One h = absurd h
-marks_ends (symbol.Class c) Two h = absurd h
+marks_ends (grammar_symbol.Tok t) p h = ap ends h
+marks_ends (grammar_symbol.Class c) (Whole b) h = refl
+marks_ends (grammar_symbol.Class c) Without h = absurd h
+marks_ends (grammar_symbol.Class c) One h = absurd h
+marks_ends (grammar_symbol.Class c) Two h = absurd h
 
 pub marks_opens : (s : Sym) (p : Part) → Marks s p → opens p ≡ opens_of s
-marks_opens (symbol.Tok t) p h = ap opens h
-marks_opens (symbol.Class c) (Whole b) h = refl
-marks_opens (symbol.Class c) Without h = absurd h
-marks_opens (symbol.Class c) One h = absurd h
-marks_opens (symbol.Class c) Two h = absurd h
+marks_opens (grammar_symbol.Tok t) p h = ap opens h
+marks_opens (grammar_symbol.Class c) (Whole b) h = refl
+marks_opens (grammar_symbol.Class c) Without h = absurd h
+marks_opens (grammar_symbol.Class c) One h = absurd h
+marks_opens (grammar_symbol.Class c) Two h = absurd h
 
 pub part_twos : (ks : List Sort) → twos (part_of ks) ≡ fork ks
 part_twos [] = refl
@@ -104,8 +104,8 @@ arity tok.Zero = refl
 arity t = refl
 
 arity_of : (s : Sym) → ends_of s + length (kids_of s) ≡ 1 + opens_of s
-arity_of (symbol.Tok t) = arity t
-arity_of (symbol.Class c) = refl
+arity_of (grammar_symbol.Tok t) = arity t
+arity_of (grammar_symbol.Class c) = refl
 
 -- in trees
 tree_ends : {ok : Sym → Sort → Rattle.std.specs.Prelude.Bool} {xs : List Sort} (t : Trees ok xs) (w : List Sym)

@@ -10,7 +10,7 @@ use Rattle.tree_meaning.specs.State.{State}
 use Rattle.tree_meaning.specs.Values.{Sight}
 use Rattle.md_reader.specs.declared.types.Kind.{Kind}
 use Rattle.md_reader.specs.declared.types.Sym.{Sym}
-use Rattle.md_reader.specs.declared.types.Sym.TheVariants as symbol
+use Rattle.md_reader.specs.declared.types.Sym.TheVariants as grammar_symbol
 use Rattle.md_reader.specs.Patterns.{kind_at}
 use Rattle.md_reader.specs.State.{Content}
 use Rattle.sel_regs.specs.Slots.{larger_of}
@@ -466,7 +466,7 @@ module _ {O I S F : Type 0} (of : Meaning O I S F) (law : IsLawful of) (q : Tree
 
     class_brought : (m' : S) → Sees of q d first f fs t s m0 m' → (k : Option Kind) (b : Attr O) (v : Sense) (w r : ℕ) → r < 12
         → ClassIs of q d first f fs t s m0 m' k b v → b ≡ attr.InSlot w
-        → (c : ℕ) → kind_at d.classes c ≡ k → (w < 1024) × Brought m' (symbol.Class c) k w r v
+        → (c : ℕ) → kind_at d.classes c ≡ k → (w < 1024) × Brought m' (grammar_symbol.Class c) k w r v
     class_brought m' sees k b v w r lt (stands.register r' n lt' is) e c g = absurd (cc)
     class_brought m' sees k b v w r lt (stands.in_slot u n le low is) e c g =
         let same = slot_same u w e in
@@ -478,7 +478,7 @@ module _ {O I S F : Type 0} (of : Meaning O I S F) (law : IsLawful of) (q : Tree
             state = it.state;
             ran = it.ran;
             keeps = it.keeps;
-            is = subst (λ j. IsSymbol it.state (symbol.Class c) j (attr.Reg r) (OfNumber n)) g
+            is = subst (λ j. IsSymbol it.state (grammar_symbol.Class c) j (attr.Reg r) (OfNumber n)) g
                 (stands.class c (attr.Reg r) (OfNumber n) (subst (λ j. ClassIs of q d first f fs t s m0 it.state j (attr.Reg r) (OfNumber n)) (sym g) it.is));
             carried = subst (λ j. Carried of q d f t m' it.state (size_of_kind j) (attr.InSlot w) (attr.Reg r)) (sym g) it.carried;
           },

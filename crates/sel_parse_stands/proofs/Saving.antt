@@ -12,7 +12,7 @@ use Rattle.tree_core.specs.declared.tree.Att.{Att}
 use Rattle.tree_core.specs.declared.tree.Att.TheVariants as att
 use Rattle.tree_core.specs.declared.tree.Leaf.{Leaf}
 use Rattle.tree_core.specs.declared.program.TreeProgram.{TreeProgram}
-use Rattle.tree_meaning.specs.declared.value.Meaning.TheVariants as places
+use Rattle.tree_meaning.specs.declared.value.Meaning.TheVariants as meaning
 use Rattle.tree_meaning.specs.State.{State}
 use Rattle.tree_meaning.specs.declared.value.Meaning.{Meaning as Place}
 use Rattle.tree_meaning.specs.Values.{Sight}
@@ -20,7 +20,7 @@ use Rattle.md_reader_pieces.specs.declared.piece.Line.{Line}
 use Rattle.md_reader.specs.declared.types.Kind.{Kind}
 use Rattle.md_reader.specs.declared.types.Kind.TheVariants as kind
 use Rattle.md_reader.specs.declared.types.Sym.{Sym}
-use Rattle.md_reader.specs.declared.types.Sym.TheVariants as symbol
+use Rattle.md_reader.specs.declared.types.Sym.TheVariants as grammar_symbol
 use Rattle.md_reader.specs.Patterns.{kind_at}
 use Rattle.md_reader.specs.State.{Content}
 use Rattle.term_core.specs.Shape.{Shape, Symbol}
@@ -179,7 +179,7 @@ module _ {O I S F : Type 0} (of : Meaning O I S F) (law : IsLawful of) (q : Tree
     -- A place that spells a register is one in memory: in its slot it is that place, and reads what it read.
     pub place_saved : (line : Line) (z : Size) (x : Saves of (kind.Place z) line) (o : O) (n w : ℕ) → of.fits (kind.Place z) o ≡ true
         → (of.registers o ≡ 0 → ⊥) → of.names o z m ≡ Some n → first ≤ w → w < f.words
-        → Moves (saving of q line (attr.Place o) w) (WordAt w) (Some (kind.Place z)) (attr.Place o) (attr.Place (of.slot_deferred w)) (OfPlace (places.Memory z n)) m
+        → Moves (saving of q line (attr.Place o) w) (WordAt w) (Some (kind.Place z)) (attr.Place o) (attr.Place (of.slot_deferred w)) (OfPlace (meaning.Memory z n)) m
     place_saved line z x o n w fits spells names from below =
         let small = law.reads.names_small q f fs t o z n m sees.agrees names in
         let y = saved_term (kind.Place z) x.term n t small (narrow_saved (kind.Place z) line x) x.alike in
@@ -321,7 +321,7 @@ module _ {O I S F : Type 0} (of : Meaning O I S F) (law : IsLawful of) (q : Tree
     of_moves : (c : ℕ) (a : Attr O) (v : Sense)
         → ((is_register a ≡ true → ⊥) → IsLoaded (in_slot of a w))
         → Moves of law q d first f fs t s m0 frame (saving of q (saving_line d (kind_at d.classes c)) a w) (WordAt w) (kind_at d.classes c) a (in_slot of a w) v m
-        → Saved m (symbol.Class c) (record { kind = kind_at d.classes c; attr = a }) v w
+        → Saved m (grammar_symbol.Class c) (record { kind = kind_at d.classes c; attr = a }) v w
     of_moves c a v loaded p = record {
       state = p.state;
       ran = p.ran;

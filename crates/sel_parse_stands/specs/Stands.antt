@@ -16,7 +16,7 @@ use Rattle.tree_meaning.specs.declared.value.Meaning.{Meaning as Place}
 use Rattle.md_reader.specs.declared.types.Kind.{Kind}
 use Rattle.md_reader.specs.declared.types.Kind.TheVariants as kind
 use Rattle.md_reader.specs.declared.types.Sym.{Sym}
-use Rattle.md_reader.specs.declared.types.Sym.TheVariants as sym
+use Rattle.md_reader.specs.declared.types.Sym.TheVariants as grammar_symbol
 use Rattle.md_reader.specs.Patterns.{kind_at}
 use Rattle.md_reader.specs.State.{Content}
 use Rattle.sel_terms_trees.specs.Senses.{Sense, OfLeaf, OfNumber, OfPlace}
@@ -59,8 +59,9 @@ module _ {O I S F : Type 0} (of : Meaning O I S F) (q : TreeProgram) (d : Conten
 
   -- the entry of a symbol stands for a sense
   pub data SymbolIs (m : S) : (x : Sym) (k : Option Kind) (a : Attr O) (v : Sense) → Type 0 where
-    token : (l : Leaf) → leaf_fits l ≡ true → Names l → SymbolIs m (sym.Tok l.tok) None (attr.Token l) (OfLeaf l)
-    class : (c : ℕ) (a : Attr O) (v : Sense) → ClassIs m (kind_at d.classes c) a v → SymbolIs m (sym.Class c) (kind_at d.classes c) a v
+    token : (l : Leaf) → leaf_fits l ≡ true → Names l → SymbolIs m (grammar_symbol.Tok l.tok) None (attr.Token l) (OfLeaf l)
+    class : (c : ℕ) (a : Attr O) (v : Sense) → ClassIs m (kind_at d.classes c) a v
+        → SymbolIs m (grammar_symbol.Class c) (kind_at d.classes c) a v
 
   -- entries stand so for symbols, one after another
   abbrev pub Holds : S → List (Entry O) → List Sym → List Sense → Type 0

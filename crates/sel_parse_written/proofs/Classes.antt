@@ -3,7 +3,7 @@ use Rattle.std.proofs.Common.{◌≡◌, ℕ, zero, suc, List, [], ◌∷◌, le
 use Rattle.std.specs.Prelude.{slice_set}
 use Rattle.md_reader.specs.declared.types.Kind.{Kind}
 use Rattle.md_reader.specs.declared.types.Sym.{Sym}
-use Rattle.md_reader.specs.declared.types.Sym.TheVariants as symbol
+use Rattle.md_reader.specs.declared.types.Sym.TheVariants as grammar_symbol
 use Rattle.md_reader.specs.Patterns.{kind_at}
 use Rattle.md_reader.specs.State.{Content}
 use Rattle.sel_terms_trees.specs.Senses.{piled}
@@ -17,8 +17,8 @@ none_some x e = cc
 
 -- of the class of a symbol
 abbrev pub KindIs : Content → Sym → Option Kind → Type 0
-KindIs d (symbol.Tok t) k = Unit {0}
-KindIs d (symbol.Class c) k = k ≡ kind_at d.classes c
+KindIs d (grammar_symbol.Tok t) k = Unit {0}
+KindIs d (grammar_symbol.Class c) k = k ≡ kind_at d.classes c
 
 module _ {O : Type 0} (d : Content) where
   abbrev pub AllKinds : List Sym → List (Entry O) → Type 0

@@ -8,7 +8,7 @@ use Rattle.tree_core_forks.specs.Forks.{forks}
 use Rattle.md_reader.specs.declared.types.Class.{Class}
 use Rattle.md_reader.specs.declared.types.Rule.{Rule}
 use Rattle.md_reader.specs.declared.types.Sym.{Sym}
-use Rattle.md_reader.specs.declared.types.Sym.TheVariants as symbol
+use Rattle.md_reader.specs.declared.types.Sym.TheVariants as grammar_symbol
 use Rattle.md_reader.specs.State.{Content}
 use Rattle.lr_tables.specs.Statements.{stmt_of}
 use Rattle.lr_check_parse.specs.Moves.{Move, Ending, Accepts, Blocks, Loops, Refuses, Parses}
@@ -70,7 +70,7 @@ module _ {O I S F : Type 0} (of : Meaning O I S F) (law : IsLawful of) (q : Tree
   accepted a None h = tt
   accepted a (Some x) h = h.code
 
-  shift : (l : Leaf) (a : List Sym) (x : Kept O I) → Wrote a x → Wrote (symbol.Tok l.tok ∷ a) (shifted l x)
+  shift : (l : Leaf) (a : List Sym) (x : Kept O I) → Wrote a x → Wrote (grammar_symbol.Tok l.tok ∷ a) (shifted l x)
   shift l a None h = tt
   shift l a (Some x) h = record { kinds = (tt, h.kinds); code = h.code }
 
@@ -84,7 +84,7 @@ module _ {O I S F : Type 0} (of : Meaning O I S F) (law : IsLawful of) (q : Tree
     others = drop (length r.right) a
 
     stack_passes : (x : Stack O I) → walk.At of law q can d fit first k ws (piled r.right others) x → AllKinds d (piled r.right others) x.entries → Passes of law q d first good pass lines x.code
-        → Each (Stacked (symbol.Class r.left ∷ others)) (reduced of q d first r x)
+        → Each (Stacked (grammar_symbol.Class r.left ∷ others)) (reduced of q d first r x)
     stack_passes x h kinds code =
         let s = walk.split of law q can d fit first r.right others x.entries h.parts h.held in
         let valid = walk.is_valid of law q can d fit first k n r there ws a on in
@@ -100,10 +100,10 @@ module _ {O I S F : Type 0} (of : Meaning O I S F) (law : IsLawful of) (q : Tree
           code = code;
         })
 
-    reduce : (x z : Kept O I) → Before ws a x → Wrote a x → reduced_by of q d first (Some r) x ≡ Some z → Wrote (symbol.Class r.left ∷ others) z
-    reduce None z h g e = subst (Wrote (symbol.Class r.left ∷ others)) (some_same None z e) tt
+    reduce : (x z : Kept O I) → Before ws a x → Wrote a x → reduced_by of q d first (Some r) x ≡ Some z → Wrote (grammar_symbol.Class r.left ∷ others) z
+    reduce None z h g e = subst (Wrote (grammar_symbol.Class r.left ∷ others)) (some_same None z e) tt
     reduce (Some x) z h g e =
-        kept (symbol.Class r.left ∷ others) (reduced of q d first r x) z
+        kept (grammar_symbol.Class r.left ∷ others) (reduced of q d first r x) z
         (stack_passes x (subst (λ (l : List Sym). walk.At of law q can d fit first k ws l x) (sym on) h)
         (subst (λ (l : List Sym). AllKinds d l x.entries) (sym on) g.kinds) g.code) e
 

@@ -9,7 +9,7 @@ use Rattle.md_reader.specs.declared.types.Give.{Give}
 use Rattle.md_reader.specs.declared.types.Give.TheVariants as give
 use Rattle.md_reader.specs.declared.types.Rule.{Rule}
 use Rattle.md_reader.specs.declared.types.Sym.{Sym}
-use Rattle.md_reader.specs.declared.types.Sym.TheVariants as symbol
+use Rattle.md_reader.specs.declared.types.Sym.TheVariants as grammar_symbol
 use Rattle.md_reader.specs.Patterns.{kind_at}
 use Rattle.md_reader.specs.State.{Content}
 use Rattle.md_reader.specs.Valid.{IsRule}
@@ -113,7 +113,7 @@ module _ {O I S F : Type 0} (of : Meaning O I S F) (law : IsLawful of) (q : Tree
     Taken given y p = IsTaken of law q d first good pass lines rule.right a c gb gs (0 + length rule.right) given y p
 
     abbrev Stacked : Stack O I → Type 0
-    Stacked x = IsStacked (symbol.Class rule.left ∷ a) x
+    Stacked x = IsStacked (grammar_symbol.Class rule.left ∷ a) x
 
     finished_passes : (y : Desk O I) (result given : Attr O) → Count (0 + length rule.right) y → Wrote y → IsResult of rule.give (attrs y.symbols) result
         → Each Stacked (finished of q d first rule result given y)

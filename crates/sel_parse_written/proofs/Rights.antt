@@ -7,7 +7,7 @@ use Rattle.md_reader.specs.declared.types.Kind.{Kind}
 use Rattle.md_reader.specs.declared.types.Kind.TheVariants as kind
 use Rattle.md_reader.specs.declared.types.Class.{Class}
 use Rattle.md_reader.specs.declared.types.Rule.{Rule}
-use Rattle.md_reader.specs.declared.types.Sym.TheVariants as symbol
+use Rattle.md_reader.specs.declared.types.Sym.TheVariants as grammar_symbol
 use Rattle.md_reader.specs.Patterns.{kind_at, Trees, no_tree, node, onto, sorted_test}
 use Rattle.md_reader.specs.Rows.{is_nothing, is_bare}
 use Rattle.md_reader.specs.Valid.{IsRule}
@@ -21,8 +21,8 @@ no_nothing k e is = both (is_nothing k) (ap is_nothing is) e
 
 -- of a pattern that isn't a class of statements alone
 none_in : (classes : List Class) {x : Sort} (tree : Trees (sorted_test classes) (x ∷ [])) → is_bare classes (onto tree []) ≡ false → All (IsNoStatement classes) (onto tree [])
-none_in classes (node (symbol.Tok t) passes below beside) h = (tt, none_onto classes below (onto beside []) (kids_no_stmt t) (none_onto classes beside [] tt tt))
-none_in classes (node (symbol.Class c) passes no_tree no_tree) h = (no_nothing (kind_at classes c) h, tt)
+none_in classes (node (grammar_symbol.Tok t) passes below beside) h = (tt, none_onto classes below (onto beside []) (kids_no_stmt t) (none_onto classes beside [] tt tt))
+none_in classes (node (grammar_symbol.Class c) passes no_tree no_tree) h = (no_nothing (kind_at classes c) h, tt)
 
 pub right_none : (classes : List Class) (r : Rule) → IsRule classes r → All (IsNoStatement classes) r.right
 right_none classes r is_rule =

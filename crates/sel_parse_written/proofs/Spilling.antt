@@ -7,7 +7,7 @@ use Rattle.tree_core.specs.declared.program.TreeProgram.{TreeProgram}
 use Rattle.md_reader.specs.declared.types.Kind.{Kind}
 use Rattle.md_reader.specs.declared.types.Kind.TheVariants as kind
 use Rattle.md_reader.specs.declared.types.Sym.{Sym}
-use Rattle.md_reader.specs.declared.types.Sym.TheVariants as symbol
+use Rattle.md_reader.specs.declared.types.Sym.TheVariants as grammar_symbol
 use Rattle.md_reader.specs.Patterns.{kind_at}
 use Rattle.md_reader.specs.State.{Content}
 use Rattle.sel_target.specs.declared.attr.Attr.{Attr}
@@ -71,13 +71,13 @@ module _ {O I S F : Type 0} (of : Meaning O I S F) (law : IsLawful of) (q : Tree
   pub entry_saved : (s : Sym) (k : Option Kind) (a : Attr O) (w : ℕ) → w < 1024 → IsFine of law q d first s a → KindIs d s k
       → holds_register of (record { kind = k; attr = a }) ≡ true → IsSaved k a w
   entry_saved s k a w low (fine.token l fit own) is h =
-      absurd (let held = (fine_spilled of law q d first (symbol.Tok l.tok) k (attr.Token l) w low (fine.token l fit own) h).held_less in omega (arith, held))
+      absurd (let held = (fine_spilled of law q d first (grammar_symbol.Tok l.tok) k (attr.Token l) w low (fine.token l fit own) h).held_less in omega (arith, held))
   entry_saved s k a w low (fine.class c a' fits) is h =
-      let held = (fine_spilled of law q d first (symbol.Class c) k a' w low (fine.class c a' fits) h).held_less in
+      let held = (fine_spilled of law q d first (grammar_symbol.Class c) k a' w low (fine.class c a' fits) h).held_less in
       subst (λ (x : Option Kind). IsSaved x a' w) (sym is) (class_saved w low (kind_at d.classes c) a' fits (omega (arith, held)))
   entry_saved s k a w low (fine.slot c u e lt) is h = absurd (slot_none k u lt h)
   entry_saved s k a w low (fine.statement c e) is h =
-      absurd (let held = (fine_spilled of law q d first (symbol.Class c) k attr.Nothing w low (fine.statement c e) h).held_less in omega (arith, held))
+      absurd (let held = (fine_spilled of law q d first (grammar_symbol.Class c) k attr.Nothing w low (fine.statement c e) h).held_less in omega (arith, held))
 
   -- ---- a desk whose code passes
   module _ (right a : List Sym) (c : ℕ) (gb gs : List ℕ) where

@@ -2,7 +2,7 @@
 use Rattle.std.specs.Prelude.{ℕ, ◌+◌, max, List, [], ◌∷◌, Bool, false, if◌then◌else◌}
 use Rattle.md_reader.specs.declared.types.Class.{Class}
 use Rattle.md_reader.specs.declared.types.Sym.{Sym}
-use Rattle.md_reader.specs.declared.types.Sym.TheVariants as sym
+use Rattle.md_reader.specs.declared.types.Sym.TheVariants as grammar_symbol
 use Rattle.md_reader.specs.declared.types.Give.{Give}
 use Rattle.md_reader.specs.declared.types.Give.TheVariants as give
 use Rattle.md_reader.specs.declared.types.Rule.{Rule}
@@ -11,8 +11,8 @@ use Rattle.md_reader.specs.Rows.{is_reg}
 
 -- a symbol stands for a register
 abbrev pub is_register : List Class → Sym → Bool
-is_register classes (sym.Tok t) = false
-is_register classes (sym.Class c) = is_reg (kind_at classes c)
+is_register classes (grammar_symbol.Tok t) = false
+is_register classes (grammar_symbol.Class c) = is_reg (kind_at classes c)
 
 abbrev pub registers_among : List Class → List Sym → ℕ
 registers_among classes [] = 0

@@ -4,13 +4,13 @@ use Rattle.md_reader.specs.declared.types.Kind.{Kind}
 use Rattle.md_reader.specs.declared.types.Kind.TheVariants as kind
 use Rattle.sel_terms.specs.Effects.{EffectShape}
 use Rattle.sel_target.specs.declared.fault.TargetFault.{TargetFault}
-use Rattle.sel_target.specs.declared.fault.TargetFault.TheVariants as fault
+use Rattle.sel_target.specs.declared.fault.TargetFault.TheVariants as target_fault
 use Rattle.sel_target.specs.Meaning.{Fault}
 
 -- what is wrong is the first fault, or memory ran out
 abbrev pub IsFaultOf : TargetFault → Result EffectShape Fault → Type 0
-IsFaultOf fault.NoMemory o = Unit {0}
-IsFaultOf (fault.At line k) o = o ≡ Err (record { line = line; kind = k })
+IsFaultOf target_fault.NoMemory o = Unit {0}
+IsFaultOf (target_fault.At line k) o = o ≡ Err (record { line = line; kind = k })
 
 -- the kinds of what a line saves, and a register, which a line reloads
 abbrev pub can_be_saved : Kind → Bool

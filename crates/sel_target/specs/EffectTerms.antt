@@ -5,7 +5,7 @@ use Rattle.gg_base.specs.declared.relation.Rel.{Rel}
 use Rattle.gg_base.specs.declared.relation.Rel.TheVariants.{Ltu, Leu, Gtu, Geu}
 use Rattle.tree_core.specs.declared.token.Tok.TheVariants as tok
 use Rattle.md_reader.specs.declared.types.Sym.{Sym}
-use Rattle.md_reader.specs.declared.types.Sym.TheVariants as sym
+use Rattle.md_reader.specs.declared.types.Sym.TheVariants as grammar_symbol
 use Rattle.md_reader.specs.declared.types.Restriction.{Restriction}
 use Rattle.md_reader.specs.declared.types.Restriction.TheVariants as restriction
 use Rattle.term_core.specs.Shape.{Shape}
@@ -21,7 +21,7 @@ abbrev pub DividesByNone : View → EffectShape → Type 0
 DividesByNone v e = AllByRecursion (λ (d : Shape). value v d ≡ 0 → ⊥) e.divisors
 
 abbrev pub begins_with_save : List Sym → Bool
-begins_with_save (sym.Tok tok.Save ∷ right) = true
+begins_with_save (grammar_symbol.Tok tok.Save ∷ right) = true
 begins_with_save right = false
 
 -- the relation compares with signs, or for equality

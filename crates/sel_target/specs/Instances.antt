@@ -15,7 +15,7 @@ use Rattle.md_reader.specs.declared.types.Kind.{Kind}
 use Rattle.md_reader.specs.declared.types.Kind.TheVariants as kind
 use Rattle.md_reader.specs.declared.types.Class.{Class}
 use Rattle.md_reader.specs.declared.types.Sym.{Sym}
-use Rattle.md_reader.specs.declared.types.Sym.TheVariants as sym
+use Rattle.md_reader.specs.declared.types.Sym.TheVariants as grammar_symbol
 use Rattle.md_reader.specs.declared.types.Give.{Give}
 use Rattle.md_reader.specs.declared.types.Give.TheVariants as give
 use Rattle.md_reader.specs.declared.types.Rule.{Rule}
@@ -88,9 +88,9 @@ module _ {O I S F : Type 0} (of : Meaning O I S F) where
   KindFits k h = ⊥
 
   abbrev pub SymFits : List Class → Sym → Attr O → Type 0
-  SymFits classes (sym.Tok x) (attr.Token l) = (l.tok ≡ x) × (leaf_fits l ≡ true) × InFrame l.att
-  SymFits classes (sym.Tok x) h = ⊥
-  SymFits classes (sym.Class c) h = KindFits (kind_at classes c) h
+  SymFits classes (grammar_symbol.Tok x) (attr.Token l) = (l.tok ≡ x) × (leaf_fits l ≡ true) × InFrame l.att
+  SymFits classes (grammar_symbol.Tok x) h = ⊥
+  SymFits classes (grammar_symbol.Class c) h = KindFits (kind_at classes c) h
 
   abbrev pub Fit : List Class → List Sym → List (Attr O) → Type 0
   Fit classes [] [] = Unit {0}

@@ -8,7 +8,7 @@ use Rattle.tree_core.specs.declared.program.TreeProgram.{TreeProgram}
 use Rattle.tree_core.specs.Valid.{args_of, takes}
 use Rattle.tree_meaning.specs.State.{State}
 use Rattle.tree_meaning.specs.declared.value.Meaning.{Meaning as Place}
-use Rattle.tree_meaning.specs.declared.value.Meaning.TheVariants as places
+use Rattle.tree_meaning.specs.declared.value.Meaning.TheVariants as meaning
 use Rattle.tree_meaning.specs.Deeds.{Deed, Puts, Branches, Pushes, Returns as Leaves, Calls as Enters, Saves, Jumps}
 use Rattle.tree_meaning.specs.Steps as steps
 use Rattle.tree_meaning.specs.Steps.{Step, deed_step}
@@ -65,7 +65,7 @@ module _ {O I S F : Type 0} (of : Meaning O I S F) where
   -- number of arguments, which are what is pushed.
   abbrev pub DoesAct : TreeProgram → Extent → List Restriction → List (Attr O) → View → S → ActShape → Deed → Type 0
   DoesAct q f rs hs v m (StoreHome size i t) (Puts g n) = HomeIs f v.state m hs i size g × (value v t ≡ n)
-  DoesAct q f rs hs v m (StoreAt size a t) (Puts g n) = (g ≡ places.Memory size (value v a)) × (value v t ≡ n)
+  DoesAct q f rs hs v m (StoreAt size a t) (Puts g n) = (g ≡ meaning.Memory size (value v a)) × (value v t ≡ n)
   DoesAct q f rs hs v m (Branch i a b) (Branches rel label x y) =
       (att_of (hole hs i) ≡ Some (att.Branch rel label)) × AllByRecursion (IsSignedBy i rel) rs × (value v a ≡ x) × (value v b ≡ y)
   DoesAct q f rs hs v m (Push t) (Pushes n) = value v t ≡ n

@@ -14,7 +14,7 @@ use Rattle.tree_core.specs.declared.tree.Att.TheVariants as att
 use Rattle.tree_core.specs.declared.program.Object.{Object}
 use Rattle.tree_core.specs.declared.program.TreeProgram.{TreeProgram}
 use Rattle.tree_meaning.specs.State.{State}
-use Rattle.tree_meaning.specs.declared.value.Meaning.TheVariants as places
+use Rattle.tree_meaning.specs.declared.value.Meaning.TheVariants as meaning
 use Rattle.tree_meaning.specs.declared.value.Meaning.{Meaning as Place}
 use Rattle.term_core.specs.Shape.{Shape}
 use Rattle.term_core.specs.Value as term
@@ -112,7 +112,7 @@ module _ {O I S F : Type 0} (of : Meaning O I S F) where
 
   -- An operand stands for a place of a size: a local's and an argument's are longwords and have their own operands.
   pub data PlaceIs (f : Extent) (t : State) (m : S) (size : Size) (o : O) : (g : Place) → Type 0 where
-    local : (k : ℕ) → size ≡ Long → o ≡ of.local k → k < f.locals → k < 1024 → PlaceIs f t m size o (places.Local k)
+    local : (k : ℕ) → size ≡ Long → o ≡ of.local k → k < f.locals → k < 1024 → PlaceIs f t m size o (meaning.Local k)
     argument : (k : ℕ) → size ≡ Long → o ≡ of.argument (k + 1) → k < length t.running.arguments
-        → PlaceIs f t m size o (places.Argument (k + 1))
-    memory : (a : ℕ) → of.names o size m ≡ Some a → PlaceIs f t m size o (places.Memory size a)
+        → PlaceIs f t m size o (meaning.Argument (k + 1))
+    memory : (a : ℕ) → of.names o size m ≡ Some a → PlaceIs f t m size o (meaning.Memory size a)

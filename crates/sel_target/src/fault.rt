@@ -24,9 +24,9 @@ pub enum TargetFault {
 
 impl From<NoMemory> for TargetFault {
     ghost use Rattle.std.specs.Prelude.{◌≡◌};
-    ghost use Rattle.sel_target.specs.declared.fault.TargetFault.TheVariants as faults;
+    ghost use Rattle.sel_target.specs.declared.fault.TargetFault.TheVariants as target_fault;
 
-    ghost from_gives = { λ _ e. e ≡ faults.NoMemory };
+    ghost from_gives = { λ _ e. e ≡ target_fault.NoMemory };
 
     fn from(_: NoMemory) -> Self {
         TargetFault::NoMemory
@@ -35,9 +35,9 @@ impl From<NoMemory> for TargetFault {
 
 impl From<AllocError> for TargetFault {
     ghost use Rattle.std.specs.Prelude.{◌≡◌};
-    ghost use Rattle.sel_target.specs.declared.fault.TargetFault.TheVariants as faults;
+    ghost use Rattle.sel_target.specs.declared.fault.TargetFault.TheVariants as target_fault;
 
-    ghost from_gives = { λ _ e. e ≡ faults.NoMemory };
+    ghost from_gives = { λ _ e. e ≡ target_fault.NoMemory };
 
     fn from(_: AllocError) -> Self {
         TargetFault::NoMemory
@@ -46,9 +46,9 @@ impl From<AllocError> for TargetFault {
 
 impl<T: Drop> From<AllocFailed<T>> for TargetFault {
     ghost use Rattle.std.specs.Prelude.{◌≡◌};
-    ghost use Rattle.sel_target.specs.declared.fault.TargetFault.TheVariants as faults;
+    ghost use Rattle.sel_target.specs.declared.fault.TargetFault.TheVariants as target_fault;
 
-    ghost from_gives = { λ _ e. e ≡ faults.NoMemory };
+    ghost from_gives = { λ _ e. e ≡ target_fault.NoMemory };
 
     fn from(_: AllocFailed<T>) -> Self {
         TargetFault::NoMemory

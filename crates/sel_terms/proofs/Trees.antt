@@ -9,7 +9,7 @@ use Rattle.tree_core.specs.Grammar.{kids}
 use Rattle.md_reader.specs.declared.types.Class.{Class}
 use Rattle.md_reader.specs.declared.types.Rule.{Rule}
 use Rattle.md_reader.specs.declared.types.Sym.{Sym}
-use Rattle.md_reader.specs.declared.types.Sym.TheVariants as symbol
+use Rattle.md_reader.specs.declared.types.Sym.TheVariants as grammar_symbol
 use Rattle.md_reader.specs.Patterns.{kind_at, kids_of, Trees, no_tree, node, onto, any_test}
 use Rattle.sel_terms.specs.declared.effect.Effect.{Effect}
 use Rattle.sel_terms.specs.declared.role.Role.{Role}
@@ -68,8 +68,8 @@ arity_of_token tok.Jump = refl
 arity_of_token tok.End = refl
 
 arity_of : (classes : List Class) (s : Sym) → length (kids_of s) ≡ arity (role_of classes s)
-arity_of classes (symbol.Tok t) = arity_of_token t
-arity_of classes (symbol.Class c) = refl
+arity_of classes (grammar_symbol.Tok t) = arity_of_token t
+arity_of classes (grammar_symbol.Class c) = refl
 
 -- a symbol takes its kids from the stack and leaves what it makes of them
 step_made : (i : ℕ) (r : Role) (kids rest : List SubtreeShape) → length kids ≡ arity r → step i r (kids ++ rest) ≡ made i r kids ∷ rest

@@ -8,18 +8,18 @@ use Rattle.md_reader.specs.declared.types.Kind.{Kind}
 use Rattle.md_reader.specs.declared.types.Kind.TheVariants as kind
 use Rattle.md_reader.specs.declared.types.Class.{Class}
 use Rattle.md_reader.specs.declared.types.Sym.{Sym}
-use Rattle.md_reader.specs.declared.types.Sym.TheVariants as sym
+use Rattle.md_reader.specs.declared.types.Sym.TheVariants as grammar_symbol
 use Rattle.md_reader.specs.Patterns.{kind_at}
-use Rattle.term_core.specs.declared.operator.UnaryOp.TheVariants as unary
-use Rattle.term_core.specs.declared.operator.BinaryOp.TheVariants as binary
+use Rattle.term_core.specs.declared.operator.UnaryOp.TheVariants as unary_op
+use Rattle.term_core.specs.declared.operator.BinaryOp.TheVariants as binary_op
 use Rattle.sel_terms.specs.declared.role.Role.{Role}
 use Rattle.sel_terms.specs.declared.role.Role.TheVariants as role
 use Rattle.sel_terms.specs.declared.role.LeafRole.{LeafRole}
-use Rattle.sel_terms.specs.declared.role.LeafRole.TheVariants as leaf
+use Rattle.sel_terms.specs.declared.role.LeafRole.TheVariants as leaf_role
 use Rattle.sel_terms.specs.declared.role.OneRole.{OneRole}
-use Rattle.sel_terms.specs.declared.role.OneRole.TheVariants as one
+use Rattle.sel_terms.specs.declared.role.OneRole.TheVariants as one_role
 use Rattle.sel_terms.specs.declared.role.TwoRole.{TwoRole}
-use Rattle.sel_terms.specs.declared.role.TwoRole.TheVariants as two
+use Rattle.sel_terms.specs.declared.role.TwoRole.TheVariants as two_role
 use Rattle.sel_terms.specs.declared.part.Part.{Part}
 use Rattle.sel_terms.specs.declared.part.Part.TheVariants as part
 use Rattle.sel_terms.specs.declared.part.Subtree.{Subtree}
@@ -48,55 +48,55 @@ subtree_of s = record { part = part_of s.part; divisors = map shape_of s.divisor
 
 -- what each token is to the tokens above it
 abbrev pub role_of_token : Tok → Role
-role_of_token tok.Zero = role.Leaf (leaf.Constant 0)
-role_of_token tok.One = role.Leaf (leaf.Constant 1)
-role_of_token tok.Two = role.Leaf (leaf.Constant 2)
-role_of_token tok.Four = role.Leaf (leaf.Constant 4)
-role_of_token tok.Eight = role.Leaf (leaf.Constant 8)
-role_of_token tok.Const = role.Leaf leaf.Symbol
-role_of_token tok.Gaddr = role.Leaf leaf.Symbol
-role_of_token tok.Loc = role.Leaf (leaf.Home Long)
-role_of_token tok.Arg = role.Leaf (leaf.Home Long)
-role_of_token tok.IndirB = role.One (one.Memory Byte)
-role_of_token tok.IndirW = role.One (one.Memory Word)
-role_of_token tok.IndirL = role.One (one.Memory Long)
-role_of_token tok.Plus = role.Two (two.Operator binary.Add)
-role_of_token tok.Minus = role.Two (two.Operator binary.Sub)
-role_of_token tok.Mul = role.Two (two.Operator binary.Mul)
-role_of_token tok.Div = role.Two two.Quotient
-role_of_token tok.Mod = role.Two two.Remainder
-role_of_token tok.And = role.Two (two.Operator binary.And)
-role_of_token tok.Or = role.Two (two.Operator binary.Or)
-role_of_token tok.Xor = role.Two (two.Operator binary.Xor)
-role_of_token tok.Lsh = role.Two two.LeftShift
-role_of_token tok.Rsh = role.Two two.RightShift
-role_of_token tok.Neg = role.One (one.Operator unary.Neg)
-role_of_token tok.Com = role.One (one.Operator unary.Com)
-role_of_token tok.Sxb = role.One (one.Operator unary.Sx8)
-role_of_token tok.Zxb = role.One (one.Operator unary.Zx8)
-role_of_token tok.Sxw = role.One (one.Operator unary.Sx16)
-role_of_token tok.Zxw = role.One (one.Operator unary.Zx16)
-role_of_token tok.Ncb = role.One (one.Operator unary.Zx8)
-role_of_token tok.Ncw = role.One (one.Operator unary.Zx16)
-role_of_token tok.AssignB = role.Two two.Assign
-role_of_token tok.AssignW = role.Two two.Assign
-role_of_token tok.AssignL = role.Two two.Assign
-role_of_token tok.Cbr = role.Two two.Branch
-role_of_token tok.Push = role.One one.Push
-role_of_token tok.Ret = role.One one.Return
-role_of_token tok.Call = role.Leaf leaf.Call
-role_of_token tok.Save = role.Leaf leaf.Save
-role_of_token tok.Jump = role.Leaf leaf.Jump
-role_of_token tok.End = role.Leaf leaf.Jump
+role_of_token tok.Zero = role.Leaf (leaf_role.Constant 0)
+role_of_token tok.One = role.Leaf (leaf_role.Constant 1)
+role_of_token tok.Two = role.Leaf (leaf_role.Constant 2)
+role_of_token tok.Four = role.Leaf (leaf_role.Constant 4)
+role_of_token tok.Eight = role.Leaf (leaf_role.Constant 8)
+role_of_token tok.Const = role.Leaf leaf_role.Symbol
+role_of_token tok.Gaddr = role.Leaf leaf_role.Symbol
+role_of_token tok.Loc = role.Leaf (leaf_role.Home Long)
+role_of_token tok.Arg = role.Leaf (leaf_role.Home Long)
+role_of_token tok.IndirB = role.One (one_role.Memory Byte)
+role_of_token tok.IndirW = role.One (one_role.Memory Word)
+role_of_token tok.IndirL = role.One (one_role.Memory Long)
+role_of_token tok.Plus = role.Two (two_role.Operator binary_op.Add)
+role_of_token tok.Minus = role.Two (two_role.Operator binary_op.Sub)
+role_of_token tok.Mul = role.Two (two_role.Operator binary_op.Mul)
+role_of_token tok.Div = role.Two two_role.Quotient
+role_of_token tok.Mod = role.Two two_role.Remainder
+role_of_token tok.And = role.Two (two_role.Operator binary_op.And)
+role_of_token tok.Or = role.Two (two_role.Operator binary_op.Or)
+role_of_token tok.Xor = role.Two (two_role.Operator binary_op.Xor)
+role_of_token tok.Lsh = role.Two two_role.LeftShift
+role_of_token tok.Rsh = role.Two two_role.RightShift
+role_of_token tok.Neg = role.One (one_role.Operator unary_op.Neg)
+role_of_token tok.Com = role.One (one_role.Operator unary_op.Com)
+role_of_token tok.Sxb = role.One (one_role.Operator unary_op.Sx8)
+role_of_token tok.Zxb = role.One (one_role.Operator unary_op.Zx8)
+role_of_token tok.Sxw = role.One (one_role.Operator unary_op.Sx16)
+role_of_token tok.Zxw = role.One (one_role.Operator unary_op.Zx16)
+role_of_token tok.Ncb = role.One (one_role.Operator unary_op.Zx8)
+role_of_token tok.Ncw = role.One (one_role.Operator unary_op.Zx16)
+role_of_token tok.AssignB = role.Two two_role.Assign
+role_of_token tok.AssignW = role.Two two_role.Assign
+role_of_token tok.AssignL = role.Two two_role.Assign
+role_of_token tok.Cbr = role.Two two_role.Branch
+role_of_token tok.Push = role.One one_role.Push
+role_of_token tok.Ret = role.One one_role.Return
+role_of_token tok.Call = role.Leaf leaf_role.Call
+role_of_token tok.Save = role.Leaf leaf_role.Save
+role_of_token tok.Jump = role.Leaf leaf_role.Jump
+role_of_token tok.End = role.Leaf leaf_role.Jump
 
 -- a class of places stands for a place, and any other for a value
 abbrev pub role_of_kind : Option Kind → LeafRole
-role_of_kind (Some (kind.Place size)) = leaf.Home size
-role_of_kind k = leaf.Symbol
+role_of_kind (Some (kind.Place size)) = leaf_role.Home size
+role_of_kind k = leaf_role.Symbol
 
 abbrev pub role_of : List Class → Sym → Role
-role_of classes (sym.Tok t) = role_of_token t
-role_of classes (sym.Class c) = role.Leaf (role_of_kind (kind_at classes c))
+role_of classes (grammar_symbol.Tok t) = role_of_token t
+role_of classes (grammar_symbol.Class c) = role.Leaf (role_of_kind (kind_at classes c))
 
 -- the value of a part: a place is worth what it holds
 abbrev pub value_of : PartShape → Shape
@@ -111,37 +111,37 @@ store (At size a) t = StoreAt size a t
 store p t = Push t
 
 abbrev pub leaf_part : ℕ → LeafRole → PartShape
-leaf_part i (leaf.Constant n) = Worth (Constant n)
-leaf_part i leaf.Symbol = Worth (Symbol i)
-leaf_part i (leaf.Home size) = Home size i
-leaf_part i leaf.Call = Does Call
-leaf_part i leaf.Save = Does (Save i)
-leaf_part i leaf.Jump = Does Jump
+leaf_part i (leaf_role.Constant n) = Worth (Constant n)
+leaf_part i leaf_role.Symbol = Worth (Symbol i)
+leaf_part i (leaf_role.Home size) = Home size i
+leaf_part i leaf_role.Call = Does Call
+leaf_part i leaf_role.Save = Does (Save i)
+leaf_part i leaf_role.Jump = Does Jump
 
 abbrev pub one_part : OneRole → Shape → PartShape
-one_part (one.Memory size) a = At size a
-one_part (one.Operator op) t = Worth (Unary op t)
-one_part one.Push t = Does (Push t)
-one_part one.Return t = Does (Return t)
+one_part (one_role.Memory size) a = At size a
+one_part (one_role.Operator op) t = Worth (Unary op t)
+one_part one_role.Push t = Does (Push t)
+one_part one_role.Return t = Does (Return t)
 
 -- a count is taken modulo 32; a remainder is what the quotient leaves
 abbrev pub low_count : Shape → Shape
-low_count n = Binary binary.And n (Constant 31)
+low_count n = Binary binary_op.And n (Constant 31)
 
 abbrev pub remainder : Shape → Shape → Shape
-remainder a b = Binary binary.Sub a (Binary binary.Mul (Binary binary.Div a b) b)
+remainder a b = Binary binary_op.Sub a (Binary binary_op.Mul (Binary binary_op.Div a b) b)
 
 abbrev pub two_part : ℕ → TwoRole → PartShape → Shape → PartShape
-two_part i (two.Operator op) p b = Worth (Binary op (value_of p) b)
-two_part i two.Quotient p b = Worth (Binary binary.Div (value_of p) b)
-two_part i two.Remainder p b = Worth (remainder (value_of p) b)
-two_part i two.LeftShift p n = Worth (Binary binary.Ash (low_count n) (value_of p))
-two_part i two.RightShift p n = Worth (Binary binary.Ash (Unary unary.Neg (low_count n)) (value_of p))
-two_part i two.Assign p t = Does (store p t)
-two_part i two.Branch p b = Does (Branch i (value_of p) b)
+two_part i (two_role.Operator op) p b = Worth (Binary op (value_of p) b)
+two_part i two_role.Quotient p b = Worth (Binary binary_op.Div (value_of p) b)
+two_part i two_role.Remainder p b = Worth (remainder (value_of p) b)
+two_part i two_role.LeftShift p n = Worth (Binary binary_op.Ash (low_count n) (value_of p))
+two_part i two_role.RightShift p n = Worth (Binary binary_op.Ash (Unary unary_op.Neg (low_count n)) (value_of p))
+two_part i two_role.Assign p t = Does (store p t)
+two_part i two_role.Branch p b = Does (Branch i (value_of p) b)
 
 -- what a token itself divides by
 abbrev pub own_divisors : TwoRole → Shape → List Shape
-own_divisors two.Quotient b = b ∷ []
-own_divisors two.Remainder b = b ∷ []
+own_divisors two_role.Quotient b = b ∷ []
+own_divisors two_role.Remainder b = b ∷ []
 own_divisors r b = []

@@ -7,7 +7,7 @@ use Rattle.md_reader.specs.declared.types.Kind.{Kind}
 use Rattle.md_reader.specs.declared.types.Kind.TheVariants as kind
 use Rattle.md_reader.specs.declared.types.Class.{Class}
 use Rattle.md_reader.specs.declared.types.Sym.{Sym}
-use Rattle.md_reader.specs.declared.types.Sym.TheVariants as sym
+use Rattle.md_reader.specs.declared.types.Sym.TheVariants as grammar_symbol
 use Rattle.md_reader.specs.declared.types.Restriction.{Restriction}
 use Rattle.md_reader.specs.declared.types.Restriction.TheVariants as restriction
 use Rattle.md_reader.specs.declared.types.Rule.{Rule}
@@ -20,8 +20,8 @@ size_of_kind (Some (kind.Place size)) = size
 size_of_kind k = Long
 
 abbrev pub size_of_symbol : List Class → Sym → Size
-size_of_symbol classes (sym.Tok t) = Long
-size_of_symbol classes (sym.Class c) = size_of_kind (kind_at classes c)
+size_of_symbol classes (grammar_symbol.Tok t) = Long
+size_of_symbol classes (grammar_symbol.Class c) = size_of_kind (kind_at classes c)
 
 abbrev pub size_of_some : List Class → Option Sym → Size
 size_of_some classes None = Long

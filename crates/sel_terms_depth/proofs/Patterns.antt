@@ -10,7 +10,7 @@ use Rattle.term_core.specs.Shape.{Shape}
 use Rattle.sel_terms.specs.declared.role.Role.{Role}
 use Rattle.sel_terms.specs.declared.role.Role.TheVariants as role
 use Rattle.sel_terms.specs.declared.role.LeafRole.{LeafRole}
-use Rattle.sel_terms.specs.declared.role.LeafRole.TheVariants as leaf
+use Rattle.sel_terms.specs.declared.role.LeafRole.TheVariants as leaf_role
 use Rattle.sel_terms.specs.declared.role.OneRole.{OneRole}
 use Rattle.sel_terms.specs.declared.role.OneRole.TheVariants as one_role
 use Rattle.sel_terms.specs.declared.role.TwoRole.{TwoRole}
@@ -55,12 +55,12 @@ value_depth n l (At size a) h = h
 value_depth n l (Does a) h = l
 
 leaf_depth : (n : ℕ) → 1 ≤ n → (i : ℕ) (r : LeafRole) → part_depth (leaf_part i r) ≤ n
-leaf_depth n l i (leaf.Constant c) = l
-leaf_depth n l i leaf.Symbol = l
-leaf_depth n l i (leaf.Home size) = l
-leaf_depth n l i leaf.Call = omega arith
-leaf_depth n l i leaf.Save = omega arith
-leaf_depth n l i leaf.Jump = omega arith
+leaf_depth n l i (leaf_role.Constant c) = l
+leaf_depth n l i leaf_role.Symbol = l
+leaf_depth n l i (leaf_role.Home size) = l
+leaf_depth n l i leaf_role.Call = omega arith
+leaf_depth n l i leaf_role.Save = omega arith
+leaf_depth n l i leaf_role.Jump = omega arith
 
 one_depth : (n : ℕ) (r : OneRole) (t : Shape) → depth t ≤ n → part_depth (one_part r t) ≤ 3 + n
 one_depth n (one_role.Memory size) t h = omega (arith, h)

@@ -6,7 +6,7 @@ use Rattle.md_reader.specs.declared.types.Kind.{Kind}
 use Rattle.md_reader.specs.declared.types.Kind.TheVariants as kind
 use Rattle.md_reader.specs.declared.types.Class.{Class}
 use Rattle.md_reader.specs.declared.types.Sym.{Sym}
-use Rattle.md_reader.specs.declared.types.Sym.TheVariants as symbol
+use Rattle.md_reader.specs.declared.types.Sym.TheVariants as grammar_symbol
 use Rattle.md_reader.specs.Patterns.{kind_at}
 use Rattle.term_core.specs.Shape.{Shape}
 use Rattle.sel_terms.specs.declared.role.Role.{Role}
@@ -103,8 +103,8 @@ kind_narrow (Some kind.Ea) = tt
 kind_narrow (Some kind.Nothing) = tt
 
 role_narrow : (classes : List Class) (s : Sym) → IsNarrowRole (role_of classes s)
-role_narrow classes (symbol.Tok t) = token_narrow t
-role_narrow classes (symbol.Class c) = kind_narrow (kind_at classes c)
+role_narrow classes (grammar_symbol.Tok t) = token_narrow t
+role_narrow classes (grammar_symbol.Class c) = kind_narrow (kind_at classes c)
 
 leaf_narrow : (i : ℕ) (r : LeafRole) → IsNarrowLeaf r → IsNarrowPart (leaf_part i r)
 leaf_narrow i (leaf_role.Constant n) h = h

@@ -2,7 +2,7 @@
 use Rattle.std.proofs.Common.{◌≡◌, ◌⊎◌, inl, inr, ◌+◌, List, [], ◌∷◌, ◌++◌, length, Option, Some, None, true, refl, sym, ap, subst}
 use mathlib.Core.List.{append-nil}
 use Rattle.std.specs.Option.{option_map}
-use Rattle.gg_base.specs.declared.size.Size.TheVariants as size
+use Rattle.gg_base.specs.declared.size.Size.TheVariants as sizes
 use Rattle.tree_core.specs.declared.token.Sort.{Sort}
 use Rattle.tree_core.specs.declared.token.Sort.TheVariants as sort
 use Rattle.tree_core.specs.declared.tree.Leaf.{Leaf}
@@ -19,7 +19,7 @@ use Rattle.md_reader.specs.declared.types.Kind.TheVariants as kind
 use Rattle.md_reader.specs.declared.types.Class.{Class}
 use Rattle.md_reader.specs.declared.types.Rule.{Rule}
 use Rattle.md_reader.specs.declared.types.Sym.{Sym}
-use Rattle.md_reader.specs.declared.types.Sym.TheVariants as symbol
+use Rattle.md_reader.specs.declared.types.Sym.TheVariants as grammar_symbol
 use Rattle.md_reader.specs.Patterns.{sort_of_kind, sort_fits, kind_at, Trees, no_tree, onto, sorted_test}
 use Rattle.term_core.specs.Value.{State}
 use Rattle.sel_terms.specs.Effects.{EffectShape}
@@ -62,12 +62,12 @@ no_statement objects s (Some kind.Reg) l f v e h = cc
 no_statement objects s (Some kind.Con) l f v e h = cc
 no_statement objects s (Some kind.Ea) l f v e h = cc
 no_statement objects s (Some kind.Nothing) l f v e h = h
-no_statement objects s (Some (kind.Value size.Byte)) l f v e h = cc
-no_statement objects s (Some (kind.Value size.Word)) l f v e h = cc
-no_statement objects s (Some (kind.Value size.Long)) l f v e h = cc
-no_statement objects s (Some (kind.Place size.Byte)) l f v e h = cc
-no_statement objects s (Some (kind.Place size.Word)) l f v e h = cc
-no_statement objects s (Some (kind.Place size.Long)) l f v e h = cc
+no_statement objects s (Some (kind.Value sizes.Byte)) l f v e h = cc
+no_statement objects s (Some (kind.Value sizes.Word)) l f v e h = cc
+no_statement objects s (Some (kind.Value sizes.Long)) l f v e h = cc
+no_statement objects s (Some (kind.Place sizes.Byte)) l f v e h = cc
+no_statement objects s (Some (kind.Place sizes.Word)) l f v e h = cc
+no_statement objects s (Some (kind.Place sizes.Long)) l f v e h = cc
 
 same_fits : (o : Option Sort) (x : Sort) → sort_fits o x ≡ true → trees.sort_fits o x ≡ true
 same_fits None x e = cc
@@ -100,7 +100,7 @@ module _ (classes : List Class) (r : Rule) (objects : List Object) (s : Sight) (
       counted : (us : List Sense) → us ≡ vs → Numbered (OfLeaf l ∷ us) 2 us → Numbered (OfLeaf l ∷ us) 2 vs
       counted us e n = subst (Numbered (OfLeaf l ∷ us) 2) e n
 
-      acts : ActIs objects s (OfLeaf l ∷ (vs ++ [])) m (first_part (stack_from classes 1 (symbol.Tok l.tok ∷ onto below []))) (statement_deed objects s l f)
+      acts : ActIs objects s (OfLeaf l ∷ (vs ++ [])) m (first_part (stack_from classes 1 (grammar_symbol.Tok l.tok ∷ onto below []))) (statement_deed objects s l f)
       acts =
           let n = numbered (OfLeaf l ∷ (vs ++ [])) in
           let e = pattern_law objects s (OfLeaf l ∷ (vs ++ [])) m st classes p 2 [] (counted (vs ++ []) (append-nil vs) n.1) tame in

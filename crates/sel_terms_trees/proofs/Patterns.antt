@@ -3,7 +3,7 @@ use Rattle.std.proofs.Common.{◌≡◌, ℕ, ◌+◌, List, [], ◌∷◌, ◌+
 use Rattle.std.specs.Prelude.{slice_index_or}
 use Rattle.std.specs.Option.{option_map}
 use Rattle.gg_base.specs.declared.size.Size.{Size}
-use Rattle.gg_base.specs.declared.size.Size.TheVariants as size
+use Rattle.gg_base.specs.declared.size.Size.TheVariants as sizes
 use Rattle.tree_core.specs.declared.token.Sort.{Sort}
 use Rattle.tree_core.specs.declared.token.Sort.TheVariants as sort
 use Rattle.tree_core.specs.declared.program.Object.{Object}
@@ -17,7 +17,7 @@ use Rattle.md_reader.specs.declared.types.Kind.{Kind}
 use Rattle.md_reader.specs.declared.types.Kind.TheVariants as kind
 use Rattle.md_reader.specs.declared.types.Class.{Class}
 use Rattle.md_reader.specs.declared.types.Sym.{Sym}
-use Rattle.md_reader.specs.declared.types.Sym.TheVariants as symbol
+use Rattle.md_reader.specs.declared.types.Sym.TheVariants as grammar_symbol
 use Rattle.md_reader.specs.Patterns.{sort_of_kind, sort_fits, kind_at, Trees, no_tree, onto, sorted_test}
 use Rattle.term_core.specs.Shape.{Symbol}
 use Rattle.term_core.specs.Value.{State}
@@ -87,18 +87,18 @@ module _ (objects : List Object) (s : Sight) (all : List Sense) (m : State) (sta
       subst (λ (x : Sort). StandsAt objects s all m x (record { part = Worth (Symbol i); divisors = [] }) (Some g)) (let f : sort.Long ≡ y = cc in f) (number_law i g v h is)
   own_class (Some kind.Ea) i g v h is y e =
       subst (λ (x : Sort). StandsAt objects s all m x (record { part = Worth (Symbol i); divisors = [] }) (Some g)) (let f : sort.Long ≡ y = cc in f) (number_law i g v h is)
-  own_class (Some (kind.Value size.Byte)) i g v h is y e =
+  own_class (Some (kind.Value sizes.Byte)) i g v h is y e =
       subst (λ (x : Sort). StandsAt objects s all m x (record { part = Worth (Symbol i); divisors = [] }) (Some g)) (let f : sort.Byte ≡ y = cc in f) (number_law i g v h is)
-  own_class (Some (kind.Value size.Word)) i g v h is y e =
+  own_class (Some (kind.Value sizes.Word)) i g v h is y e =
       subst (λ (x : Sort). StandsAt objects s all m x (record { part = Worth (Symbol i); divisors = [] }) (Some g)) (let f : sort.Word ≡ y = cc in f) (number_law i g v h is)
-  own_class (Some (kind.Value size.Long)) i g v h is y e =
+  own_class (Some (kind.Value sizes.Long)) i g v h is y e =
       subst (λ (x : Sort). StandsAt objects s all m x (record { part = Worth (Symbol i); divisors = [] }) (Some g)) (let f : sort.Long ≡ y = cc in f) (number_law i g v h is)
-  own_class (Some (kind.Place size.Byte)) i g v h is y e =
-      subst (λ (x : Sort). StandsAt objects s all m x (record { part = Home size.Byte i; divisors = [] }) (Some g)) (let f : sort.PlaceB ≡ y = cc in f) (place_law i size.Byte g v h.0 h.1 is)
-  own_class (Some (kind.Place size.Word)) i g v h is y e =
-      subst (λ (x : Sort). StandsAt objects s all m x (record { part = Home size.Word i; divisors = [] }) (Some g)) (let f : sort.PlaceW ≡ y = cc in f) (place_law i size.Word g v h.0 h.1 is)
-  own_class (Some (kind.Place size.Long)) i g v h is y e =
-      subst (λ (x : Sort). StandsAt objects s all m x (record { part = Home size.Long i; divisors = [] }) (Some g)) (let f : sort.PlaceL ≡ y = cc in f) (place_law i size.Long g v h.0 h.1 is)
+  own_class (Some (kind.Place sizes.Byte)) i g v h is y e =
+      subst (λ (x : Sort). StandsAt objects s all m x (record { part = Home sizes.Byte i; divisors = [] }) (Some g)) (let f : sort.PlaceB ≡ y = cc in f) (place_law i sizes.Byte g v h.0 h.1 is)
+  own_class (Some (kind.Place sizes.Word)) i g v h is y e =
+      subst (λ (x : Sort). StandsAt objects s all m x (record { part = Home sizes.Word i; divisors = [] }) (Some g)) (let f : sort.PlaceW ≡ y = cc in f) (place_law i sizes.Word g v h.0 h.1 is)
+  own_class (Some (kind.Place sizes.Long)) i g v h is y e =
+      subst (λ (x : Sort). StandsAt objects s all m x (record { part = Home sizes.Long i; divisors = [] }) (Some g)) (let f : sort.PlaceL ≡ y = cc in f) (place_law i sizes.Long g v h.0 h.1 is)
 
   class_law : (k : Option Kind) (x : Sort) (i : ℕ) (g : Meaning) (v : Sense) → IsSense objects s k g v → sense_at all i ≡ v → sort_fits (option_map sort_of_kind k) x ≡ true → IsTame objects s x g
       → StandsAt objects s all m x (record { part = leaf_part i (role_of_kind k); divisors = [] }) (Some g)
@@ -133,7 +133,7 @@ module _ (objects : List Object) (s : Sight) (all : List Sense) (m : State) (sta
 
       joined : Each objects s all m (kids l.tok) (stack_from classes (i + 1) (onto below (onto beside w))) (meanings objects s f) 0 (stack_from classes (i + 1 + length us) (onto beside w)) →
           Each objects s all m xs (stack_from classes (i + 1 + length us) (onto beside w)) (meanings objects s g) 0 (stack_from classes (i + 1 + length us + length vs) w) →
-          Each objects s all m (x ∷ xs) (stack_from classes i (symbol.Tok l.tok ∷ onto below (onto beside w))) (meanings objects s (tree l f g)) 0
+          Each objects s all m (x ∷ xs) (stack_from classes i (grammar_symbol.Tok l.tok ∷ onto below (onto beside w))) (meanings objects s (tree l f g)) 0
           (stack_from classes (i + length (OfLeaf l ∷ (us ++ vs))) w)
       joined high low =
           let own = token_law objects s all m stands l.tok l.att i (stack_from classes (i + 1) (onto below (onto beside w))) (stack_from classes (i + 1 + length us) (onto beside w))
@@ -152,7 +152,7 @@ module _ (objects : List Object) (s : Sight) (all : List Sense) (m : State) (sta
       last = omega arith
 
       joined : Each objects s all m xs (stack_from classes (i + 1) (onto beside w)) (meanings objects s g) 0 (stack_from classes (i + 1 + length vs) w) →
-          Each objects s all m (x ∷ xs) (stack_from classes i (symbol.Class c ∷ onto beside w)) (meanings objects s (tree l f g)) 0 (stack_from classes (i + length (v ∷ vs)) w)
+          Each objects s all m (x ∷ xs) (stack_from classes i (grammar_symbol.Class c ∷ onto beside w)) (meanings objects s (tree l f g)) 0 (stack_from classes (i + length (v ∷ vs)) w)
       joined low = (
         class_law (kind_at classes c) x i (tree_means objects s l f) v is n.0 passes tame.0,
         each_on objects s all m xs _ (tree_means objects s l f) (meanings objects s g) 0 _

@@ -2,7 +2,7 @@
 use Rattle.std.proofs.Common.{◌≡◌, ◌⊎◌, inl, inr, ℕ, suc, List, [], ◌∷◌, Option, Some, None, true, refl, sym, ap, subst, slice_get}
 use Rattle.std.specs.Option.{option_map}
 use Rattle.gg_base.specs.declared.size.Size.{Size}
-use Rattle.gg_base.specs.declared.size.Size.TheVariants as size
+use Rattle.gg_base.specs.declared.size.Size.TheVariants as sizes
 use Rattle.tree_core.specs.declared.token.Tok.{Tok}
 use Rattle.tree_core.specs.declared.token.Tok.TheVariants as tok
 use Rattle.tree_core.specs.declared.token.Sort.{Sort}
@@ -209,9 +209,9 @@ module _ (objects : List Object) (s : Sight) where
     reg : IsValue kind.Reg sort.Long
     con : IsValue kind.Con sort.Long
     ea : IsValue kind.Ea sort.Long
-    byte : IsValue (kind.Value size.Byte) sort.Byte
-    word : IsValue (kind.Value size.Word) sort.Word
-    long : IsValue (kind.Value size.Long) sort.Long
+    byte : IsValue (kind.Value sizes.Byte) sort.Byte
+    word : IsValue (kind.Value sizes.Word) sort.Word
+    long : IsValue (kind.Value sizes.Long) sort.Long
 
   module _ (all : List Sense) (m : State) where
     number_gives : {k : Kind} {y : Sort} → IsValue k y → (p : SubtreeShape) (n : ℕ) → IsWorth objects s all m p n → GivesBy objects s all (effect_by (Some k) p) (OfNumber n) m
@@ -253,9 +253,9 @@ module _ (objects : List Object) (s : Sight) where
     spot_traps z (Does a) ds h = absurd h.ill
 
     place_at : (z : Size) (p : SubtreeShape) (g : Meaning) → StandsAt objects s all m (sort_of_kind (kind.Place z)) p (Some g) → IsAt objects s all m p g
-    place_at size.Byte p g h = h.0
-    place_at size.Word p g h = h.0
-    place_at size.Long p g h = h.0
+    place_at sizes.Byte p g h = h.0
+    place_at sizes.Word p g h = h.0
+    place_at sizes.Long p g h = h.0
 
     place_gives : (z : Size) (p : SubtreeShape) (g : Meaning) → IsPlace z g → IsAt objects s all m p g → GivesBy objects s all (effect_by (Some (kind.Place z)) p) (OfPlace g) m
     place_gives z p (Of v) e h = absurd e
@@ -275,10 +275,10 @@ module _ (objects : List Object) (s : Sight) where
   at_fact z ZeroDivisor h = inr refl
   at_fact z Wild h = absurd (h refl)
 
-  slot_fact : (t : Tok) (a : Att) (v w : Value) → (t ≡ tok.Loc) ⊎ (t ≡ tok.Arg) → is_of_kind (attribute_of t) a ≡ true → PlaceFact size.Long (token_means objects s t a v w)
-  slot_fact t a v w (inl e) f = subst (λ (u : Tok). PlaceFact size.Long (token_means objects s u a v w)) (sym e) (by a (subst (λ (u : Tok). is_of_kind (attribute_of u) a ≡ true) e f))
+  slot_fact : (t : Tok) (a : Att) (v w : Value) → (t ≡ tok.Loc) ⊎ (t ≡ tok.Arg) → is_of_kind (attribute_of t) a ≡ true → PlaceFact sizes.Long (token_means objects s t a v w)
+  slot_fact t a v w (inl e) f = subst (λ (u : Tok). PlaceFact sizes.Long (token_means objects s u a v w)) (sym e) (by a (subst (λ (u : Tok). is_of_kind (attribute_of u) a ≡ true) e f))
     where
-      by : (a : Att) → is_of_kind (attribute_of tok.Loc) a ≡ true → PlaceFact size.Long (token_means objects s tok.Loc a v w)
+      by : (a : Att) → is_of_kind (attribute_of tok.Loc) a ≡ true → PlaceFact sizes.Long (token_means objects s tok.Loc a v w)
       by att.Nothing f = absurd (cc)
       by (att.Number n) f = absurd (cc)
       by (att.Object o k) f = absurd (cc)
@@ -286,9 +286,9 @@ module _ (objects : List Object) (s : Sight) where
       by (att.Branch r l) f = absurd (cc)
       by (att.Label l) f = absurd (cc)
       by (att.Callee g n) f = absurd (cc)
-  slot_fact t a v w (inr e) f = subst (λ (u : Tok). PlaceFact size.Long (token_means objects s u a v w)) (sym e) (by a (subst (λ (u : Tok). is_of_kind (attribute_of u) a ≡ true) e f))
+  slot_fact t a v w (inr e) f = subst (λ (u : Tok). PlaceFact sizes.Long (token_means objects s u a v w)) (sym e) (by a (subst (λ (u : Tok). is_of_kind (attribute_of u) a ≡ true) e f))
     where
-      by : (a : Att) → is_of_kind (attribute_of tok.Arg) a ≡ true → PlaceFact size.Long (token_means objects s tok.Arg a v w)
+      by : (a : Att) → is_of_kind (attribute_of tok.Arg) a ≡ true → PlaceFact sizes.Long (token_means objects s tok.Arg a v w)
       by att.Nothing f = absurd (cc)
       by (att.Number n) f = absurd (cc)
       by (att.Object o k) f = absurd (cc)
@@ -331,159 +331,159 @@ module _ (objects : List Object) (s : Sight) where
 
   token_fact : (z : Size) (t : Tok) (a : Att) (gs : List Meaning) → sort_fits (sort_of t) (sort_of_kind (kind.Place z)) ≡ true → is_of_kind (attribute_of t) a ≡ true → KidsTame (kids t) gs 0
       → PlaceFact z (token_means objects s t a (kid s (slice_get gs 0)) (kid s (slice_get gs 1)))
-  token_fact size.Byte tok.Zero a gs e f h = absurd (cc)
-  token_fact size.Byte tok.One a gs e f h = absurd (cc)
-  token_fact size.Byte tok.Two a gs e f h = absurd (cc)
-  token_fact size.Byte tok.Four a gs e f h = absurd (cc)
-  token_fact size.Byte tok.Eight a gs e f h = absurd (cc)
-  token_fact size.Byte tok.Const a gs e f h = absurd (cc)
-  token_fact size.Byte tok.Gaddr a gs e f h = absurd (cc)
-  token_fact size.Byte tok.Loc a gs e f h = absurd (cc)
-  token_fact size.Byte tok.Arg a gs e f h = absurd (cc)
-  token_fact size.Byte tok.IndirB a gs e f h = at_fact size.Byte (kid s (slice_get gs 0)) h.0
-  token_fact size.Byte tok.IndirW a gs e f h = absurd (cc)
-  token_fact size.Byte tok.IndirL a gs e f h = absurd (cc)
-  token_fact size.Byte tok.Plus a gs e f h = absurd (cc)
-  token_fact size.Byte tok.Minus a gs e f h = absurd (cc)
-  token_fact size.Byte tok.Mul a gs e f h = absurd (cc)
-  token_fact size.Byte tok.Div a gs e f h = absurd (cc)
-  token_fact size.Byte tok.Mod a gs e f h = absurd (cc)
-  token_fact size.Byte tok.And a gs e f h = absurd (cc)
-  token_fact size.Byte tok.Or a gs e f h = absurd (cc)
-  token_fact size.Byte tok.Xor a gs e f h = absurd (cc)
-  token_fact size.Byte tok.Lsh a gs e f h = absurd (cc)
-  token_fact size.Byte tok.Rsh a gs e f h = absurd (cc)
-  token_fact size.Byte tok.Neg a gs e f h = absurd (cc)
-  token_fact size.Byte tok.Com a gs e f h = absurd (cc)
-  token_fact size.Byte tok.Sxb a gs e f h = absurd (cc)
-  token_fact size.Byte tok.Zxb a gs e f h = absurd (cc)
-  token_fact size.Byte tok.Sxw a gs e f h = absurd (cc)
-  token_fact size.Byte tok.Zxw a gs e f h = absurd (cc)
-  token_fact size.Byte tok.Ncb a gs e f h = absurd (cc)
-  token_fact size.Byte tok.Ncw a gs e f h = absurd (cc)
-  token_fact size.Byte tok.AssignB a gs e f h = absurd (cc)
-  token_fact size.Byte tok.AssignW a gs e f h = absurd (cc)
-  token_fact size.Byte tok.AssignL a gs e f h = absurd (cc)
-  token_fact size.Byte tok.Cbr a gs e f h = absurd (cc)
-  token_fact size.Byte tok.Push a gs e f h = absurd (cc)
-  token_fact size.Byte tok.Ret a gs e f h = absurd (cc)
-  token_fact size.Byte tok.Call a gs e f h = absurd (cc)
-  token_fact size.Byte tok.Save a gs e f h = absurd (cc)
-  token_fact size.Byte tok.Jump a gs e f h = absurd (cc)
-  token_fact size.Byte tok.End a gs e f h = absurd (cc)
-  token_fact size.Word tok.Zero a gs e f h = absurd (cc)
-  token_fact size.Word tok.One a gs e f h = absurd (cc)
-  token_fact size.Word tok.Two a gs e f h = absurd (cc)
-  token_fact size.Word tok.Four a gs e f h = absurd (cc)
-  token_fact size.Word tok.Eight a gs e f h = absurd (cc)
-  token_fact size.Word tok.Const a gs e f h = absurd (cc)
-  token_fact size.Word tok.Gaddr a gs e f h = absurd (cc)
-  token_fact size.Word tok.Loc a gs e f h = absurd (cc)
-  token_fact size.Word tok.Arg a gs e f h = absurd (cc)
-  token_fact size.Word tok.IndirB a gs e f h = absurd (cc)
-  token_fact size.Word tok.IndirW a gs e f h = at_fact size.Word (kid s (slice_get gs 0)) h.0
-  token_fact size.Word tok.IndirL a gs e f h = absurd (cc)
-  token_fact size.Word tok.Plus a gs e f h = absurd (cc)
-  token_fact size.Word tok.Minus a gs e f h = absurd (cc)
-  token_fact size.Word tok.Mul a gs e f h = absurd (cc)
-  token_fact size.Word tok.Div a gs e f h = absurd (cc)
-  token_fact size.Word tok.Mod a gs e f h = absurd (cc)
-  token_fact size.Word tok.And a gs e f h = absurd (cc)
-  token_fact size.Word tok.Or a gs e f h = absurd (cc)
-  token_fact size.Word tok.Xor a gs e f h = absurd (cc)
-  token_fact size.Word tok.Lsh a gs e f h = absurd (cc)
-  token_fact size.Word tok.Rsh a gs e f h = absurd (cc)
-  token_fact size.Word tok.Neg a gs e f h = absurd (cc)
-  token_fact size.Word tok.Com a gs e f h = absurd (cc)
-  token_fact size.Word tok.Sxb a gs e f h = absurd (cc)
-  token_fact size.Word tok.Zxb a gs e f h = absurd (cc)
-  token_fact size.Word tok.Sxw a gs e f h = absurd (cc)
-  token_fact size.Word tok.Zxw a gs e f h = absurd (cc)
-  token_fact size.Word tok.Ncb a gs e f h = absurd (cc)
-  token_fact size.Word tok.Ncw a gs e f h = absurd (cc)
-  token_fact size.Word tok.AssignB a gs e f h = absurd (cc)
-  token_fact size.Word tok.AssignW a gs e f h = absurd (cc)
-  token_fact size.Word tok.AssignL a gs e f h = absurd (cc)
-  token_fact size.Word tok.Cbr a gs e f h = absurd (cc)
-  token_fact size.Word tok.Push a gs e f h = absurd (cc)
-  token_fact size.Word tok.Ret a gs e f h = absurd (cc)
-  token_fact size.Word tok.Call a gs e f h = absurd (cc)
-  token_fact size.Word tok.Save a gs e f h = absurd (cc)
-  token_fact size.Word tok.Jump a gs e f h = absurd (cc)
-  token_fact size.Word tok.End a gs e f h = absurd (cc)
-  token_fact size.Long tok.Zero a gs e f h = absurd (cc)
-  token_fact size.Long tok.One a gs e f h = absurd (cc)
-  token_fact size.Long tok.Two a gs e f h = absurd (cc)
-  token_fact size.Long tok.Four a gs e f h = absurd (cc)
-  token_fact size.Long tok.Eight a gs e f h = absurd (cc)
-  token_fact size.Long tok.Const a gs e f h = absurd (cc)
-  token_fact size.Long tok.Gaddr a gs e f h = absurd (cc)
-  token_fact size.Long tok.Loc a gs e f h = slot_fact tok.Loc a (kid s (slice_get gs 0)) (kid s (slice_get gs 1)) (inl refl) f
-  token_fact size.Long tok.Arg a gs e f h = slot_fact tok.Arg a (kid s (slice_get gs 0)) (kid s (slice_get gs 1)) (inr refl) f
-  token_fact size.Long tok.IndirB a gs e f h = absurd (cc)
-  token_fact size.Long tok.IndirW a gs e f h = absurd (cc)
-  token_fact size.Long tok.IndirL a gs e f h = at_fact size.Long (kid s (slice_get gs 0)) h.0
-  token_fact size.Long tok.Plus a gs e f h = absurd (cc)
-  token_fact size.Long tok.Minus a gs e f h = absurd (cc)
-  token_fact size.Long tok.Mul a gs e f h = absurd (cc)
-  token_fact size.Long tok.Div a gs e f h = absurd (cc)
-  token_fact size.Long tok.Mod a gs e f h = absurd (cc)
-  token_fact size.Long tok.And a gs e f h = absurd (cc)
-  token_fact size.Long tok.Or a gs e f h = absurd (cc)
-  token_fact size.Long tok.Xor a gs e f h = absurd (cc)
-  token_fact size.Long tok.Lsh a gs e f h = absurd (cc)
-  token_fact size.Long tok.Rsh a gs e f h = absurd (cc)
-  token_fact size.Long tok.Neg a gs e f h = absurd (cc)
-  token_fact size.Long tok.Com a gs e f h = absurd (cc)
-  token_fact size.Long tok.Sxb a gs e f h = absurd (cc)
-  token_fact size.Long tok.Zxb a gs e f h = absurd (cc)
-  token_fact size.Long tok.Sxw a gs e f h = absurd (cc)
-  token_fact size.Long tok.Zxw a gs e f h = absurd (cc)
-  token_fact size.Long tok.Ncb a gs e f h = absurd (cc)
-  token_fact size.Long tok.Ncw a gs e f h = absurd (cc)
-  token_fact size.Long tok.AssignB a gs e f h = absurd (cc)
-  token_fact size.Long tok.AssignW a gs e f h = absurd (cc)
-  token_fact size.Long tok.AssignL a gs e f h = absurd (cc)
-  token_fact size.Long tok.Cbr a gs e f h = absurd (cc)
-  token_fact size.Long tok.Push a gs e f h = absurd (cc)
-  token_fact size.Long tok.Ret a gs e f h = absurd (cc)
-  token_fact size.Long tok.Call a gs e f h = absurd (cc)
-  token_fact size.Long tok.Save a gs e f h = absurd (cc)
-  token_fact size.Long tok.Jump a gs e f h = absurd (cc)
-  token_fact size.Long tok.End a gs e f h = absurd (cc)
+  token_fact sizes.Byte tok.Zero a gs e f h = absurd (cc)
+  token_fact sizes.Byte tok.One a gs e f h = absurd (cc)
+  token_fact sizes.Byte tok.Two a gs e f h = absurd (cc)
+  token_fact sizes.Byte tok.Four a gs e f h = absurd (cc)
+  token_fact sizes.Byte tok.Eight a gs e f h = absurd (cc)
+  token_fact sizes.Byte tok.Const a gs e f h = absurd (cc)
+  token_fact sizes.Byte tok.Gaddr a gs e f h = absurd (cc)
+  token_fact sizes.Byte tok.Loc a gs e f h = absurd (cc)
+  token_fact sizes.Byte tok.Arg a gs e f h = absurd (cc)
+  token_fact sizes.Byte tok.IndirB a gs e f h = at_fact sizes.Byte (kid s (slice_get gs 0)) h.0
+  token_fact sizes.Byte tok.IndirW a gs e f h = absurd (cc)
+  token_fact sizes.Byte tok.IndirL a gs e f h = absurd (cc)
+  token_fact sizes.Byte tok.Plus a gs e f h = absurd (cc)
+  token_fact sizes.Byte tok.Minus a gs e f h = absurd (cc)
+  token_fact sizes.Byte tok.Mul a gs e f h = absurd (cc)
+  token_fact sizes.Byte tok.Div a gs e f h = absurd (cc)
+  token_fact sizes.Byte tok.Mod a gs e f h = absurd (cc)
+  token_fact sizes.Byte tok.And a gs e f h = absurd (cc)
+  token_fact sizes.Byte tok.Or a gs e f h = absurd (cc)
+  token_fact sizes.Byte tok.Xor a gs e f h = absurd (cc)
+  token_fact sizes.Byte tok.Lsh a gs e f h = absurd (cc)
+  token_fact sizes.Byte tok.Rsh a gs e f h = absurd (cc)
+  token_fact sizes.Byte tok.Neg a gs e f h = absurd (cc)
+  token_fact sizes.Byte tok.Com a gs e f h = absurd (cc)
+  token_fact sizes.Byte tok.Sxb a gs e f h = absurd (cc)
+  token_fact sizes.Byte tok.Zxb a gs e f h = absurd (cc)
+  token_fact sizes.Byte tok.Sxw a gs e f h = absurd (cc)
+  token_fact sizes.Byte tok.Zxw a gs e f h = absurd (cc)
+  token_fact sizes.Byte tok.Ncb a gs e f h = absurd (cc)
+  token_fact sizes.Byte tok.Ncw a gs e f h = absurd (cc)
+  token_fact sizes.Byte tok.AssignB a gs e f h = absurd (cc)
+  token_fact sizes.Byte tok.AssignW a gs e f h = absurd (cc)
+  token_fact sizes.Byte tok.AssignL a gs e f h = absurd (cc)
+  token_fact sizes.Byte tok.Cbr a gs e f h = absurd (cc)
+  token_fact sizes.Byte tok.Push a gs e f h = absurd (cc)
+  token_fact sizes.Byte tok.Ret a gs e f h = absurd (cc)
+  token_fact sizes.Byte tok.Call a gs e f h = absurd (cc)
+  token_fact sizes.Byte tok.Save a gs e f h = absurd (cc)
+  token_fact sizes.Byte tok.Jump a gs e f h = absurd (cc)
+  token_fact sizes.Byte tok.End a gs e f h = absurd (cc)
+  token_fact sizes.Word tok.Zero a gs e f h = absurd (cc)
+  token_fact sizes.Word tok.One a gs e f h = absurd (cc)
+  token_fact sizes.Word tok.Two a gs e f h = absurd (cc)
+  token_fact sizes.Word tok.Four a gs e f h = absurd (cc)
+  token_fact sizes.Word tok.Eight a gs e f h = absurd (cc)
+  token_fact sizes.Word tok.Const a gs e f h = absurd (cc)
+  token_fact sizes.Word tok.Gaddr a gs e f h = absurd (cc)
+  token_fact sizes.Word tok.Loc a gs e f h = absurd (cc)
+  token_fact sizes.Word tok.Arg a gs e f h = absurd (cc)
+  token_fact sizes.Word tok.IndirB a gs e f h = absurd (cc)
+  token_fact sizes.Word tok.IndirW a gs e f h = at_fact sizes.Word (kid s (slice_get gs 0)) h.0
+  token_fact sizes.Word tok.IndirL a gs e f h = absurd (cc)
+  token_fact sizes.Word tok.Plus a gs e f h = absurd (cc)
+  token_fact sizes.Word tok.Minus a gs e f h = absurd (cc)
+  token_fact sizes.Word tok.Mul a gs e f h = absurd (cc)
+  token_fact sizes.Word tok.Div a gs e f h = absurd (cc)
+  token_fact sizes.Word tok.Mod a gs e f h = absurd (cc)
+  token_fact sizes.Word tok.And a gs e f h = absurd (cc)
+  token_fact sizes.Word tok.Or a gs e f h = absurd (cc)
+  token_fact sizes.Word tok.Xor a gs e f h = absurd (cc)
+  token_fact sizes.Word tok.Lsh a gs e f h = absurd (cc)
+  token_fact sizes.Word tok.Rsh a gs e f h = absurd (cc)
+  token_fact sizes.Word tok.Neg a gs e f h = absurd (cc)
+  token_fact sizes.Word tok.Com a gs e f h = absurd (cc)
+  token_fact sizes.Word tok.Sxb a gs e f h = absurd (cc)
+  token_fact sizes.Word tok.Zxb a gs e f h = absurd (cc)
+  token_fact sizes.Word tok.Sxw a gs e f h = absurd (cc)
+  token_fact sizes.Word tok.Zxw a gs e f h = absurd (cc)
+  token_fact sizes.Word tok.Ncb a gs e f h = absurd (cc)
+  token_fact sizes.Word tok.Ncw a gs e f h = absurd (cc)
+  token_fact sizes.Word tok.AssignB a gs e f h = absurd (cc)
+  token_fact sizes.Word tok.AssignW a gs e f h = absurd (cc)
+  token_fact sizes.Word tok.AssignL a gs e f h = absurd (cc)
+  token_fact sizes.Word tok.Cbr a gs e f h = absurd (cc)
+  token_fact sizes.Word tok.Push a gs e f h = absurd (cc)
+  token_fact sizes.Word tok.Ret a gs e f h = absurd (cc)
+  token_fact sizes.Word tok.Call a gs e f h = absurd (cc)
+  token_fact sizes.Word tok.Save a gs e f h = absurd (cc)
+  token_fact sizes.Word tok.Jump a gs e f h = absurd (cc)
+  token_fact sizes.Word tok.End a gs e f h = absurd (cc)
+  token_fact sizes.Long tok.Zero a gs e f h = absurd (cc)
+  token_fact sizes.Long tok.One a gs e f h = absurd (cc)
+  token_fact sizes.Long tok.Two a gs e f h = absurd (cc)
+  token_fact sizes.Long tok.Four a gs e f h = absurd (cc)
+  token_fact sizes.Long tok.Eight a gs e f h = absurd (cc)
+  token_fact sizes.Long tok.Const a gs e f h = absurd (cc)
+  token_fact sizes.Long tok.Gaddr a gs e f h = absurd (cc)
+  token_fact sizes.Long tok.Loc a gs e f h = slot_fact tok.Loc a (kid s (slice_get gs 0)) (kid s (slice_get gs 1)) (inl refl) f
+  token_fact sizes.Long tok.Arg a gs e f h = slot_fact tok.Arg a (kid s (slice_get gs 0)) (kid s (slice_get gs 1)) (inr refl) f
+  token_fact sizes.Long tok.IndirB a gs e f h = absurd (cc)
+  token_fact sizes.Long tok.IndirW a gs e f h = absurd (cc)
+  token_fact sizes.Long tok.IndirL a gs e f h = at_fact sizes.Long (kid s (slice_get gs 0)) h.0
+  token_fact sizes.Long tok.Plus a gs e f h = absurd (cc)
+  token_fact sizes.Long tok.Minus a gs e f h = absurd (cc)
+  token_fact sizes.Long tok.Mul a gs e f h = absurd (cc)
+  token_fact sizes.Long tok.Div a gs e f h = absurd (cc)
+  token_fact sizes.Long tok.Mod a gs e f h = absurd (cc)
+  token_fact sizes.Long tok.And a gs e f h = absurd (cc)
+  token_fact sizes.Long tok.Or a gs e f h = absurd (cc)
+  token_fact sizes.Long tok.Xor a gs e f h = absurd (cc)
+  token_fact sizes.Long tok.Lsh a gs e f h = absurd (cc)
+  token_fact sizes.Long tok.Rsh a gs e f h = absurd (cc)
+  token_fact sizes.Long tok.Neg a gs e f h = absurd (cc)
+  token_fact sizes.Long tok.Com a gs e f h = absurd (cc)
+  token_fact sizes.Long tok.Sxb a gs e f h = absurd (cc)
+  token_fact sizes.Long tok.Zxb a gs e f h = absurd (cc)
+  token_fact sizes.Long tok.Sxw a gs e f h = absurd (cc)
+  token_fact sizes.Long tok.Zxw a gs e f h = absurd (cc)
+  token_fact sizes.Long tok.Ncb a gs e f h = absurd (cc)
+  token_fact sizes.Long tok.Ncw a gs e f h = absurd (cc)
+  token_fact sizes.Long tok.AssignB a gs e f h = absurd (cc)
+  token_fact sizes.Long tok.AssignW a gs e f h = absurd (cc)
+  token_fact sizes.Long tok.AssignL a gs e f h = absurd (cc)
+  token_fact sizes.Long tok.Cbr a gs e f h = absurd (cc)
+  token_fact sizes.Long tok.Push a gs e f h = absurd (cc)
+  token_fact sizes.Long tok.Ret a gs e f h = absurd (cc)
+  token_fact sizes.Long tok.Call a gs e f h = absurd (cc)
+  token_fact sizes.Long tok.Save a gs e f h = absurd (cc)
+  token_fact sizes.Long tok.Jump a gs e f h = absurd (cc)
+  token_fact sizes.Long tok.End a gs e f h = absurd (cc)
 
   class_fact : (z : Size) (k : Option Kind) (g : Meaning) (v : Sense) → sort_fits (option_map sort_of_kind k) (sort_of_kind (kind.Place z)) ≡ true → IsSense objects s k g v → PlaceFact z g
   class_fact z None g v e h = absurd h
-  class_fact size.Byte (Some kind.Reg) g v e h = absurd (cc)
-  class_fact size.Byte (Some kind.Con) g v e h = absurd (cc)
-  class_fact size.Byte (Some kind.Ea) g v e h = absurd (cc)
-  class_fact size.Byte (Some kind.Nothing) g v e h = absurd (cc)
-  class_fact size.Byte (Some (kind.Value size.Byte)) g v e h = absurd (cc)
-  class_fact size.Byte (Some (kind.Value size.Word)) g v e h = absurd (cc)
-  class_fact size.Byte (Some (kind.Value size.Long)) g v e h = absurd (cc)
-  class_fact size.Byte (Some (kind.Place size.Byte)) g v e h = inl h.1
-  class_fact size.Byte (Some (kind.Place size.Word)) g v e h = absurd (cc)
-  class_fact size.Byte (Some (kind.Place size.Long)) g v e h = absurd (cc)
-  class_fact size.Word (Some kind.Reg) g v e h = absurd (cc)
-  class_fact size.Word (Some kind.Con) g v e h = absurd (cc)
-  class_fact size.Word (Some kind.Ea) g v e h = absurd (cc)
-  class_fact size.Word (Some kind.Nothing) g v e h = absurd (cc)
-  class_fact size.Word (Some (kind.Value size.Byte)) g v e h = absurd (cc)
-  class_fact size.Word (Some (kind.Value size.Word)) g v e h = absurd (cc)
-  class_fact size.Word (Some (kind.Value size.Long)) g v e h = absurd (cc)
-  class_fact size.Word (Some (kind.Place size.Byte)) g v e h = absurd (cc)
-  class_fact size.Word (Some (kind.Place size.Word)) g v e h = inl h.1
-  class_fact size.Word (Some (kind.Place size.Long)) g v e h = absurd (cc)
-  class_fact size.Long (Some kind.Reg) g v e h = absurd (cc)
-  class_fact size.Long (Some kind.Con) g v e h = absurd (cc)
-  class_fact size.Long (Some kind.Ea) g v e h = absurd (cc)
-  class_fact size.Long (Some kind.Nothing) g v e h = absurd (cc)
-  class_fact size.Long (Some (kind.Value size.Byte)) g v e h = absurd (cc)
-  class_fact size.Long (Some (kind.Value size.Word)) g v e h = absurd (cc)
-  class_fact size.Long (Some (kind.Value size.Long)) g v e h = absurd (cc)
-  class_fact size.Long (Some (kind.Place size.Byte)) g v e h = absurd (cc)
-  class_fact size.Long (Some (kind.Place size.Word)) g v e h = absurd (cc)
-  class_fact size.Long (Some (kind.Place size.Long)) g v e h = inl h.1
+  class_fact sizes.Byte (Some kind.Reg) g v e h = absurd (cc)
+  class_fact sizes.Byte (Some kind.Con) g v e h = absurd (cc)
+  class_fact sizes.Byte (Some kind.Ea) g v e h = absurd (cc)
+  class_fact sizes.Byte (Some kind.Nothing) g v e h = absurd (cc)
+  class_fact sizes.Byte (Some (kind.Value sizes.Byte)) g v e h = absurd (cc)
+  class_fact sizes.Byte (Some (kind.Value sizes.Word)) g v e h = absurd (cc)
+  class_fact sizes.Byte (Some (kind.Value sizes.Long)) g v e h = absurd (cc)
+  class_fact sizes.Byte (Some (kind.Place sizes.Byte)) g v e h = inl h.1
+  class_fact sizes.Byte (Some (kind.Place sizes.Word)) g v e h = absurd (cc)
+  class_fact sizes.Byte (Some (kind.Place sizes.Long)) g v e h = absurd (cc)
+  class_fact sizes.Word (Some kind.Reg) g v e h = absurd (cc)
+  class_fact sizes.Word (Some kind.Con) g v e h = absurd (cc)
+  class_fact sizes.Word (Some kind.Ea) g v e h = absurd (cc)
+  class_fact sizes.Word (Some kind.Nothing) g v e h = absurd (cc)
+  class_fact sizes.Word (Some (kind.Value sizes.Byte)) g v e h = absurd (cc)
+  class_fact sizes.Word (Some (kind.Value sizes.Word)) g v e h = absurd (cc)
+  class_fact sizes.Word (Some (kind.Value sizes.Long)) g v e h = absurd (cc)
+  class_fact sizes.Word (Some (kind.Place sizes.Byte)) g v e h = absurd (cc)
+  class_fact sizes.Word (Some (kind.Place sizes.Word)) g v e h = inl h.1
+  class_fact sizes.Word (Some (kind.Place sizes.Long)) g v e h = absurd (cc)
+  class_fact sizes.Long (Some kind.Reg) g v e h = absurd (cc)
+  class_fact sizes.Long (Some kind.Con) g v e h = absurd (cc)
+  class_fact sizes.Long (Some kind.Ea) g v e h = absurd (cc)
+  class_fact sizes.Long (Some kind.Nothing) g v e h = absurd (cc)
+  class_fact sizes.Long (Some (kind.Value sizes.Byte)) g v e h = absurd (cc)
+  class_fact sizes.Long (Some (kind.Value sizes.Word)) g v e h = absurd (cc)
+  class_fact sizes.Long (Some (kind.Value sizes.Long)) g v e h = absurd (cc)
+  class_fact sizes.Long (Some (kind.Place sizes.Byte)) g v e h = absurd (cc)
+  class_fact sizes.Long (Some (kind.Place sizes.Word)) g v e h = absurd (cc)
+  class_fact sizes.Long (Some (kind.Place sizes.Long)) g v e h = inl h.1
 
   place_fact : (classes : List Class) (z : Size) {y : Sort} {pattern : Trees (sorted_test classes) (y ∷ [])} {l : Leaf} {f : Forest} {us : List Sense} → y ≡ sort_of_kind (kind.Place z)
       → Sensed objects s classes (y ∷ []) pattern (tree l f none) us → Tame objects s (kids l.tok) f → PlaceFact z (tree_means objects s l f)
@@ -545,9 +545,9 @@ module _ (objects : List Object) (s : Sight) where
         by Wild e = absurd (value_tame is tame e)
 
     zero_place : (z : Size) → g ≡ Of ZeroDivisor → IsZeroAt (sort_of_kind (kind.Place z)) g
-    zero_place size.Byte e = e
-    zero_place size.Word e = e
-    zero_place size.Long e = e
+    zero_place sizes.Byte e = e
+    zero_place sizes.Word e = e
+    zero_place sizes.Long e = e
 
     place_decided : (z : Size) → PlaceFact z g → ((m : State) → StandsFor objects s us m → StandsAt objects s us m (sort_of_kind (kind.Place z)) p (Some g))
         → Comes us (kind.Place z) p g ⊎ Fails us (kind.Place z) p g
@@ -575,22 +575,22 @@ module _ (objects : List Object) (s : Sight) where
   decided classes kind.Ea right {l = l} {f = f} {us = us} q sensed e tame some =
       value_decided us (first_part (stack_from classes 1 right)) (tree_means objects s l f) ea (subst (λ (x : Sort). IsTame objects s x (tree_means objects s l f)) q tame.0)
       (λ m st. subst (λ (x : Sort). StandsAt objects s us m x (first_part (stack_from classes 1 right)) (Some (tree_means objects s l f))) q (part_law classes right sensed e tame m st))
-  decided classes (kind.Value size.Byte) right {l = l} {f = f} {us = us} q sensed e tame some =
+  decided classes (kind.Value sizes.Byte) right {l = l} {f = f} {us = us} q sensed e tame some =
       value_decided us (first_part (stack_from classes 1 right)) (tree_means objects s l f) byte (subst (λ (x : Sort). IsTame objects s x (tree_means objects s l f)) q tame.0)
       (λ m st. subst (λ (x : Sort). StandsAt objects s us m x (first_part (stack_from classes 1 right)) (Some (tree_means objects s l f))) q (part_law classes right sensed e tame m st))
-  decided classes (kind.Value size.Word) right {l = l} {f = f} {us = us} q sensed e tame some =
+  decided classes (kind.Value sizes.Word) right {l = l} {f = f} {us = us} q sensed e tame some =
       value_decided us (first_part (stack_from classes 1 right)) (tree_means objects s l f) word (subst (λ (x : Sort). IsTame objects s x (tree_means objects s l f)) q tame.0)
       (λ m st. subst (λ (x : Sort). StandsAt objects s us m x (first_part (stack_from classes 1 right)) (Some (tree_means objects s l f))) q (part_law classes right sensed e tame m st))
-  decided classes (kind.Value size.Long) right {l = l} {f = f} {us = us} q sensed e tame some =
+  decided classes (kind.Value sizes.Long) right {l = l} {f = f} {us = us} q sensed e tame some =
       value_decided us (first_part (stack_from classes 1 right)) (tree_means objects s l f) long (subst (λ (x : Sort). IsTame objects s x (tree_means objects s l f)) q tame.0)
       (λ m st. subst (λ (x : Sort). StandsAt objects s us m x (first_part (stack_from classes 1 right)) (Some (tree_means objects s l f))) q (part_law classes right sensed e tame m st))
-  decided classes (kind.Place size.Byte) right {l = l} {f = f} {us = us} q sensed e tame some =
-      place_decided us (first_part (stack_from classes 1 right)) (tree_means objects s l f) size.Byte (place_fact classes size.Byte q sensed tame.1)
+  decided classes (kind.Place sizes.Byte) right {l = l} {f = f} {us = us} q sensed e tame some =
+      place_decided us (first_part (stack_from classes 1 right)) (tree_means objects s l f) sizes.Byte (place_fact classes sizes.Byte q sensed tame.1)
       (λ m st. subst (λ (x : Sort). StandsAt objects s us m x (first_part (stack_from classes 1 right)) (Some (tree_means objects s l f))) q (part_law classes right sensed e tame m st))
-  decided classes (kind.Place size.Word) right {l = l} {f = f} {us = us} q sensed e tame some =
-      place_decided us (first_part (stack_from classes 1 right)) (tree_means objects s l f) size.Word (place_fact classes size.Word q sensed tame.1)
+  decided classes (kind.Place sizes.Word) right {l = l} {f = f} {us = us} q sensed e tame some =
+      place_decided us (first_part (stack_from classes 1 right)) (tree_means objects s l f) sizes.Word (place_fact classes sizes.Word q sensed tame.1)
       (λ m st. subst (λ (x : Sort). StandsAt objects s us m x (first_part (stack_from classes 1 right)) (Some (tree_means objects s l f))) q (part_law classes right sensed e tame m st))
-  decided classes (kind.Place size.Long) right {l = l} {f = f} {us = us} q sensed e tame some =
-      place_decided us (first_part (stack_from classes 1 right)) (tree_means objects s l f) size.Long (place_fact classes size.Long q sensed tame.1)
+  decided classes (kind.Place sizes.Long) right {l = l} {f = f} {us = us} q sensed e tame some =
+      place_decided us (first_part (stack_from classes 1 right)) (tree_means objects s l f) sizes.Long (place_fact classes sizes.Long q sensed tame.1)
       (λ m st. subst (λ (x : Sort). StandsAt objects s us m x (first_part (stack_from classes 1 right)) (Some (tree_means objects s l f))) q (part_law classes right sensed e tame m st))
   decided classes kind.Nothing right q sensed e tame some = absurd (some refl)

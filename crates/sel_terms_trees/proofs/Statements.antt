@@ -1,7 +1,7 @@
 -- The pattern's act is the tree's deed.
 use Rattle.std.proofs.Common.{◌≡◌, ℕ, List, [], ◌++◌, Option, Some, None, Bool, true, false, refl, ap, slice_get}
 use Rattle.gg_base.specs.declared.size.Size.{Size}
-use Rattle.gg_base.specs.declared.size.Size.TheVariants as size
+use Rattle.gg_base.specs.declared.size.Size.TheVariants as sizes
 use Rattle.gg_base.specs.declared.relation.Rel.{Rel}
 use Rattle.tree_core.specs.declared.token.Tok.{Tok}
 use Rattle.tree_core.specs.declared.token.Tok.TheVariants as tok
@@ -179,9 +179,9 @@ module _ (objects : List Object) (s : Sight) (all : List Sense) (m : State) wher
   act_law tok.Zxw a st rest gs c f is e = absurd (cc)
   act_law tok.Ncb a st rest gs c f is e = absurd (cc)
   act_law tok.Ncw a st rest gs c f is e = absurd (cc)
-  act_law tok.AssignB a st rest gs c f is e = assign_law 1 (first_part (below st)) size.Byte (first_part st) (slice_get gs 0) (kid s (slice_get gs 1)) e.0 e.1.0
-  act_law tok.AssignW a st rest gs c f is e = assign_law 1 (first_part (below st)) size.Word (first_part st) (slice_get gs 0) (kid s (slice_get gs 1)) e.0 e.1.0
-  act_law tok.AssignL a st rest gs c f is e = assign_law 1 (first_part (below st)) size.Long (first_part st) (slice_get gs 0) (kid s (slice_get gs 1)) e.0 e.1.0
+  act_law tok.AssignB a st rest gs c f is e = assign_law 1 (first_part (below st)) sizes.Byte (first_part st) (slice_get gs 0) (kid s (slice_get gs 1)) e.0 e.1.0
+  act_law tok.AssignW a st rest gs c f is e = assign_law 1 (first_part (below st)) sizes.Word (first_part st) (slice_get gs 0) (kid s (slice_get gs 1)) e.0 e.1.0
+  act_law tok.AssignL a st rest gs c f is e = assign_law 1 (first_part (below st)) sizes.Long (first_part st) (slice_get gs 0) (kid s (slice_get gs 1)) e.0 e.1.0
   act_law tok.Cbr a st rest gs c f is e = branch_law a 1 (first_part st) (first_part (below st)) (kid s (slice_get gs 0)) (kid s (slice_get gs 1)) (ap att_of is) f e.0 e.1.0
   act_law tok.Push a st rest gs c f is e = pushed_law (first_part st) (kid s (slice_get gs 0)) e.0
   act_law tok.Ret a st rest gs c f is e = returned_law (first_part st) (kid s (slice_get gs 0)) e.0

@@ -3,7 +3,7 @@ use Rattle.std.proofs.Common.{◌≡◌, ◌⊎◌, inl, inr, ℕ, suc, ◌-◌,
 use Rattle.std.specs.Prelude.{◌&&◌, ◌||◌, not}
 use Rattle.std.specs.Option.{unwrap_or}
 use Rattle.gg_base.specs.declared.size.Size.{Size}
-use Rattle.gg_base.specs.declared.size.Size.TheVariants as size
+use Rattle.gg_base.specs.declared.size.Size.TheVariants as sizes
 use Rattle.gg_base.specs.Arithmetic.{div32, mul32, sub32, and32, neg32, ash32}
 use Rattle.tree_core.specs.declared.token.Tok.{Tok}
 use Rattle.tree_core.specs.declared.token.Tok.TheVariants as tok
@@ -112,9 +112,9 @@ module _ (objects : List Object) (s : Sight) (all : List Sense) (m : State) wher
   StandsAt sort.Long p o = IsOf p (kid s o)
   StandsAt sort.Byte p o = IsOf p (kid s o)
   StandsAt sort.Word p o = IsOf p (kid s o)
-  StandsAt sort.PlaceB p o = IsAtSome size.Byte p o
-  StandsAt sort.PlaceW p o = IsAtSome size.Word p o
-  StandsAt sort.PlaceL p o = IsAtSome size.Long p o
+  StandsAt sort.PlaceB p o = IsAtSome sizes.Byte p o
+  StandsAt sort.PlaceW p o = IsAtSome sizes.Word p o
+  StandsAt sort.PlaceL p o = IsAtSome sizes.Long p o
 
   -- the top of the stack of parts stands for the meanings from number k on, and below lies the rest
   abbrev pub Each : List Sort → List SubtreeShape → List Meaning → ℕ → List SubtreeShape → Type 0
@@ -394,7 +394,7 @@ module _ (objects : List Object) (s : Sight) (all : List Sense) (m : State) wher
           divisors = tt;
         }
 
-    own_place : (i : ℕ) (l : Leaf) (g : Meaning) → sense_at all i ≡ OfLeaf l → means objects s (OfLeaf l) ≡ g → IsPlace size.Long g → IsSpot (record { part = Home size.Long i; divisors = [] }) g
+    own_place : (i : ℕ) (l : Leaf) (g : Meaning) → sense_at all i ≡ OfLeaf l → means objects s (OfLeaf l) ≡ g → IsPlace sizes.Long g → IsSpot (record { part = Home sizes.Long i; divisors = [] }) g
     own_place i l g is e h = record { divides = refl; place = (ap (means objects s) is ∙ e, h); divisors = tt }
 
     given_constant : (n : ℕ) → n % 2 ^ 32 ≡ n → IsWorth (record { part = Worth (Constant n); divisors = [] }) n
@@ -435,7 +435,7 @@ module _ (objects : List Object) (s : Sight) (all : List Sense) (m : State) wher
     gaddr_law i (att.Callee f n) e is tame = absurd (cc)
 
     local_law : (i : ℕ) (a : Att) → is_of_kind (attribute_of tok.Loc) a ≡ true → sense_at all i ≡ OfLeaf (record { tok = tok.Loc; att = a })
-        → IsAtSome size.Long (record { part = Home size.Long i; divisors = [] }) (Some (token_means objects s tok.Loc a Wild Wild))
+        → IsAtSome sizes.Long (record { part = Home sizes.Long i; divisors = [] }) (Some (token_means objects s tok.Loc a Wild Wild))
     local_law i att.Nothing e is = absurd (cc)
     local_law i (att.Number n) e is = absurd (cc)
     local_law i (att.Object o k) e is = absurd (cc)
@@ -445,7 +445,7 @@ module _ (objects : List Object) (s : Sight) (all : List Sense) (m : State) wher
     local_law i (att.Callee f n) e is = absurd (cc)
 
     argument_law : (i : ℕ) (a : Att) → is_of_kind (attribute_of tok.Arg) a ≡ true → sense_at all i ≡ OfLeaf (record { tok = tok.Arg; att = a })
-        → IsAtSome size.Long (record { part = Home size.Long i; divisors = [] }) (Some (token_means objects s tok.Arg a Wild Wild))
+        → IsAtSome sizes.Long (record { part = Home sizes.Long i; divisors = [] }) (Some (token_means objects s tok.Arg a Wild Wild))
     argument_law i att.Nothing e is = absurd (cc)
     argument_law i (att.Number n) e is = absurd (cc)
     argument_law i (att.Object o k) e is = absurd (cc)
@@ -469,9 +469,9 @@ module _ (objects : List Object) (s : Sight) (all : List Sense) (m : State) wher
     token_law tok.Gaddr a i st rest gs f is e tame = (gaddr_law i a f is tame, e)
     token_law tok.Loc a i st rest gs f is e tame = (local_law i a f is, e)
     token_law tok.Arg a i st rest gs f is e tame = (argument_law i a f is, e)
-    token_law tok.IndirB a i st rest gs f is e tame = (memory_law size.Byte (first_part st) (kid s (slice_get gs 0)) e.0, e.1)
-    token_law tok.IndirW a i st rest gs f is e tame = (memory_law size.Word (first_part st) (kid s (slice_get gs 0)) e.0, e.1)
-    token_law tok.IndirL a i st rest gs f is e tame = (memory_law size.Long (first_part st) (kid s (slice_get gs 0)) e.0, e.1)
+    token_law tok.IndirB a i st rest gs f is e tame = (memory_law sizes.Byte (first_part st) (kid s (slice_get gs 0)) e.0, e.1)
+    token_law tok.IndirW a i st rest gs f is e tame = (memory_law sizes.Word (first_part st) (kid s (slice_get gs 0)) e.0, e.1)
+    token_law tok.IndirL a i st rest gs f is e tame = (memory_law sizes.Long (first_part st) (kid s (slice_get gs 0)) e.0, e.1)
     token_law tok.Plus a i st rest gs f is e tame = (
       two_law i (first_part st) (first_part (below st)) (two_role.Operator binary_op.Add) refl (operated tok.Plus) (operator_law i (first_part st) (first_part (below st)) binary_op.Add)
           (kid s (slice_get gs 0)) (kid s (slice_get gs 1)) e.0 e.1.0,

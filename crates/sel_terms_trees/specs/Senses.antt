@@ -18,7 +18,7 @@ use Rattle.tree_meaning_tame.specs.Tame.{tree_means}
 use Rattle.md_reader.specs.declared.types.Kind.{Kind}
 use Rattle.md_reader.specs.declared.types.Kind.TheVariants as kind
 use Rattle.md_reader.specs.declared.types.Class.{Class}
-use Rattle.md_reader.specs.declared.types.Sym.TheVariants as sym
+use Rattle.md_reader.specs.declared.types.Sym.TheVariants as grammar_symbol
 use Rattle.md_reader.specs.Patterns.{kind_at, kids_of, Trees, no_tree, node, sorted_test}
 use Rattle.term_core.specs.Value.{State, memory_at}
 
@@ -79,15 +79,16 @@ module _ (objects : List Object) (s : Sight) where
   pub data Sensed (classes : List Class) : (xs : List Sort) → Trees (sorted_test classes) xs → Forest → List Sense → Type 0 where
     nothing : Sensed classes [] no_tree none []
     token : {x : Sort} {xs : List Sort} {f g : Forest} {us vs : List Sense} (l : Leaf)
-        (passes : sorted_test classes (sym.Tok l.tok) x ≡ true)
-        (below : Trees (sorted_test classes) (kids_of (sym.Tok l.tok))) (beside : Trees (sorted_test classes) xs) → leaf_fits l ≡ true →
-        Sensed classes (kids_of (sym.Tok l.tok)) below f us → Sensed classes xs beside g vs →
-        Sensed classes (x ∷ xs) (node (sym.Tok l.tok) passes below beside) (tree l f g) (OfLeaf l ∷ (us ++ vs))
+        (passes : sorted_test classes (grammar_symbol.Tok l.tok) x ≡ true)
+        (below : Trees (sorted_test classes) (kids_of (grammar_symbol.Tok l.tok))) (beside : Trees (sorted_test classes) xs)
+        → leaf_fits l ≡ true →
+        Sensed classes (kids_of (grammar_symbol.Tok l.tok)) below f us → Sensed classes xs beside g vs →
+        Sensed classes (x ∷ xs) (node (grammar_symbol.Tok l.tok) passes below beside) (tree l f g) (OfLeaf l ∷ (us ++ vs))
     class : {x : Sort} {xs : List Sort} {f g : Forest} {vs : List Sense} {l : Leaf} (c : ℕ) (v : Sense)
-        (passes : sorted_test classes (sym.Class c) x ≡ true)
+        (passes : sorted_test classes (grammar_symbol.Class c) x ≡ true)
         (below : Trees (sorted_test classes) []) (beside : Trees (sorted_test classes) xs) →
         IsSense (kind_at classes c) (tree_means objects s l f) v → Sensed classes xs beside g vs →
-        Sensed classes (x ∷ xs) (node (sym.Class c) passes below beside) (tree l f g) (v ∷ vs)
+        Sensed classes (x ∷ xs) (node (grammar_symbol.Class c) passes below beside) (tree l f g) (v ∷ vs)
 
   -- A state of terms that stands for the tree state and the symbols: a symbol has its number, memory in the data area its content. What a
   -- symbol has that stands for no number isn't said, nor what stands outside the area.

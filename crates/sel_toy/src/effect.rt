@@ -6,11 +6,11 @@ ghost use Rattle.sel_terms.specs.RuleFacts.{size_of_symbol};
 ghost use Rattle.sel_terms.specs.Effects.{act_of, effect_of};
 ghost use Rattle.md_reader.specs.Patterns.{kind_at};
 ghost use Rattle.sel_target.specs.Calls.{IsFaultOf};
-ghost use Rattle.gg_base.specs.declared.size.Size.TheVariants as size;
+ghost use Rattle.gg_base.specs.declared.size.Size.TheVariants as sizes;
 ghost use Rattle.sel_target.specs.EffectTerms.{begins_with_save};
-ghost use Rattle.sel_toy_machine.specs.declared.form.ShapeForm.TheVariants as shapes;
-ghost use Rattle.sel_target.specs.declared.fault.TargetFault.TheVariants as faults;
-ghost use Rattle.sel_target.specs.declared.fault.TemplateKind.TheVariants as kinds;
+ghost use Rattle.sel_toy_machine.specs.declared.form.ShapeForm.TheVariants as shape_form;
+ghost use Rattle.sel_target.specs.declared.fault.TargetFault.TheVariants as target_fault;
+ghost use Rattle.sel_target.specs.declared.fault.TemplateKind.TheVariants as template_kind;
 ghost use Rattle.sel_toy_machine.specs.Forms.{form_of, shape_of, is_sized};
 ghost use Rattle.sel_toy_machine.specs.Templates.{undivided, where_true, sum, quotient, or_fault, gives_register, gives_nothing};
 ghost use Rattle.sel_toy_machine.specs.Spills.{found_spill, spill_effect};
@@ -63,7 +63,7 @@ fn is_sized(classes: &[Class], right: &[Sym], size: Size, i: u8) -> bool
 }
 
 fn is_long(classes: &[Class], right: &[Sym], i: u8) -> bool
-    ensures { result ≡ is_sized classes.now right.now size.Long i }
+    ensures { result ≡ is_sized classes.now right.now sizes.Long i }
 {
     is_sized(classes, right, Size::Long, i)
 }
@@ -252,7 +252,7 @@ fn found_based(
     kind: Option<Kind>,
     i: u8,
 ) -> Result<Option<Effect>, NoMemory>
-    ensures { IfOk result (λ o. option_map effect_of o ≡ found_shape classes.now right.now kind (shapes.Based i)) }
+    ensures { IfOk result (λ o. option_map effect_of o ≡ found_shape classes.now right.now kind (shape_form.Based i)) }
 {
     let held = holds_register(classes, symbol(right, i));
     Ok(match kind {
@@ -273,7 +273,7 @@ fn found_alone(
     kind: Option<Kind>,
     i: u8,
 ) -> Option<Effect>
-    ensures { option_map effect_of result ≡ found_shape classes.now right.now kind (shapes.Alone i) }
+    ensures { option_map effect_of result ≡ found_shape classes.now right.now kind (shape_form.Alone i) }
 {
     match kind {
         Some(Kind::Reg) => {
@@ -307,7 +307,7 @@ fn found_shape(
 }
 
 fn fault_at(line: u32) -> TargetFault
-    ensures { result ≡ faults.At line kinds.NotInstr }
+    ensures { result ≡ target_fault.At line template_kind.NotInstr }
 {
     TargetFault::At {
         line,

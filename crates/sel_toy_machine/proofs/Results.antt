@@ -14,7 +14,7 @@ use Rattle.md_reader.specs.declared.types.Give.{Give}
 use Rattle.md_reader.specs.declared.types.Give.TheVariants as give
 use Rattle.md_reader.specs.declared.types.Rule.{Rule}
 use Rattle.md_reader.specs.Patterns.{kind_at}
-use Rattle.term_core.specs.declared.operator.BinaryOp.TheVariants as binary
+use Rattle.term_core.specs.declared.operator.BinaryOp.TheVariants as binary_op
 use Rattle.term_core.specs.Shape.{Shape, Symbol, Memory, Binary}
 use Rattle.term_core.proofs.Values.{small as term_small}
 use Rattle.sel_terms.specs.Effects.{ActShape, EffectShape, Value, Number, Address, PlaceHome, PlaceAt, StoreHome, StoreAt, Branch, Push, Call, Save, Return, Jump}
@@ -37,7 +37,7 @@ use Rattle.sel_toy_machine.specs.declared.operand.Instr.TheVariants as instructi
 use Rattle.sel_toy_machine.specs.declared.form.Form.{Form}
 use Rattle.sel_toy_machine.specs.declared.form.Form.TheVariants as form
 use Rattle.sel_toy_machine.specs.declared.form.ShapeForm.{ShapeForm}
-use Rattle.sel_toy_machine.specs.declared.form.ShapeForm.TheVariants as shape
+use Rattle.sel_toy_machine.specs.declared.form.ShapeForm.TheVariants as shape_form
 use Rattle.sel_toy_machine.specs.Machine.{Machine}
 use Rattle.sel_toy_machine.specs.Forms.{shape_of, is_sized}
 use Rattle.sel_toy_machine.specs.Templates.{undivided, sum, quotient, gives_register, found_form, found_shape}
@@ -109,20 +109,20 @@ no_quotient x y e = ap (div32 x) e
 
 -- a shape divides by nothing
 undivided_shape : (classes : List Class) (rule : Rule) (k : Option Kind) (g : ShapeForm) (e : EffectShape) → found_shape classes rule.right k g ≡ Some e → e.divisors ≡ []
-undivided_shape classes rule None (shape.Alone i) e h = absurd (none_some e h)
-undivided_shape classes rule None (shape.Based i) e h = absurd (none_some e h)
-undivided_shape classes rule (Some kind.Reg) (shape.Alone i) e h = sym (ap (λ (x : EffectShape). x.divisors) (where_is _ _ e h).1)
-undivided_shape classes rule (Some kind.Reg) (shape.Based i) e h = absurd (none_some e h)
-undivided_shape classes rule (Some kind.Con) (shape.Alone i) e h = sym (ap (λ (x : EffectShape). x.divisors) (where_is _ _ e h).1)
-undivided_shape classes rule (Some kind.Con) (shape.Based i) e h = absurd (none_some e h)
-undivided_shape classes rule (Some kind.Ea) (shape.Alone i) e h = absurd (none_some e h)
-undivided_shape classes rule (Some kind.Ea) (shape.Based i) e h = sym (ap (λ (x : EffectShape). x.divisors) (where_is _ _ e h).1)
-undivided_shape classes rule (Some kind.Nothing) (shape.Alone i) e h = absurd (none_some e h)
-undivided_shape classes rule (Some kind.Nothing) (shape.Based i) e h = absurd (none_some e h)
-undivided_shape classes rule (Some (kind.Value size)) (shape.Alone i) e h = absurd (none_some e h)
-undivided_shape classes rule (Some (kind.Value size)) (shape.Based i) e h = sym (ap (λ (x : EffectShape). x.divisors) (where_is _ _ e h).1)
-undivided_shape classes rule (Some (kind.Place size)) (shape.Alone i) e h = sym (ap (λ (x : EffectShape). x.divisors) (where_is _ _ e h).1)
-undivided_shape classes rule (Some (kind.Place size)) (shape.Based i) e h = sym (ap (λ (x : EffectShape). x.divisors) (where_is _ _ e h).1)
+undivided_shape classes rule None (shape_form.Alone i) e h = absurd (none_some e h)
+undivided_shape classes rule None (shape_form.Based i) e h = absurd (none_some e h)
+undivided_shape classes rule (Some kind.Reg) (shape_form.Alone i) e h = sym (ap (λ (x : EffectShape). x.divisors) (where_is _ _ e h).1)
+undivided_shape classes rule (Some kind.Reg) (shape_form.Based i) e h = absurd (none_some e h)
+undivided_shape classes rule (Some kind.Con) (shape_form.Alone i) e h = sym (ap (λ (x : EffectShape). x.divisors) (where_is _ _ e h).1)
+undivided_shape classes rule (Some kind.Con) (shape_form.Based i) e h = absurd (none_some e h)
+undivided_shape classes rule (Some kind.Ea) (shape_form.Alone i) e h = absurd (none_some e h)
+undivided_shape classes rule (Some kind.Ea) (shape_form.Based i) e h = sym (ap (λ (x : EffectShape). x.divisors) (where_is _ _ e h).1)
+undivided_shape classes rule (Some kind.Nothing) (shape_form.Alone i) e h = absurd (none_some e h)
+undivided_shape classes rule (Some kind.Nothing) (shape_form.Based i) e h = absurd (none_some e h)
+undivided_shape classes rule (Some (kind.Value size)) (shape_form.Alone i) e h = absurd (none_some e h)
+undivided_shape classes rule (Some (kind.Value size)) (shape_form.Based i) e h = sym (ap (λ (x : EffectShape). x.divisors) (where_is _ _ e h).1)
+undivided_shape classes rule (Some (kind.Place size)) (shape_form.Alone i) e h = sym (ap (λ (x : EffectShape). x.divisors) (where_is _ _ e h).1)
+undivided_shape classes rule (Some (kind.Place size)) (shape_form.Based i) e h = sym (ap (λ (x : EffectShape). x.divisors) (where_is _ _ e h).1)
 
 module _ (q : TreeProgram) (f : Extent) (fs : List Extent) (classes : List Class) (rule : Rule) (hs : List (Attr Operand)) (v : View) (m : Machine) where
   abbrev I : Bool → EffectShape → Type 0
@@ -151,27 +151,27 @@ module _ (q : TreeProgram) (f : Extent) (fs : List Extent) (classes : List Class
       (sets_register q _ r (value v (Symbol i)) m lt (value_small v (Symbol i)) (move_runs size (source_at q hs i) (destination.Register r) m (value v (Symbol i)) x))
   form_sets (form.Address i) r e t found act inst divides lt = absurd (none_some e found)
   form_sets (form.Add i j) r e t found act inst divides lt =
-      let u = undivided (Value (Binary binary.Add (Symbol i) (Symbol j))) in
+      let u = undivided (Value (Binary binary_op.Add (Symbol i) (Symbol j))) in
       let w = where_is (gives_register rule.give && (is_sized classes rule.right Long i && is_sized classes rule.right Long j)) u e found in
-      let is = value_same (Binary binary.Add (Symbol i) (Symbol j)) t (ap (λ (x : EffectShape). x.act) w.1 ∙ act) in
+      let is = value_same (Binary binary_op.Add (Symbol i) (Symbol j)) t (ap (λ (x : EffectShape). x.act) w.1 ∙ act) in
       let inst' = subst (I true) (sym w.1) inst in
       let s = sized_both i j w.0 in
       let x = known true u inst' Long i s.0 inst'.read.0.0 in
       let y = known true u inst' Long j s.1 inst'.read.0.1 in
       subst (Setting (form.Add i j) r) is
-      (sets_register q _ r (value v (Binary binary.Add (Symbol i) (Symbol j))) m lt (value_small v (Binary binary.Add (Symbol i) (Symbol j)))
+      (sets_register q _ r (value v (Binary binary_op.Add (Symbol i) (Symbol j))) m lt (value_small v (Binary binary_op.Add (Symbol i) (Symbol j)))
       (add_runs (source_at q hs i) (source_at q hs j) (destination.Register r) m (value v (Symbol i)) (value v (Symbol j)) x y))
   form_sets (form.Divide i j) r e t found act inst divides lt =
-      let u : EffectShape = record { act = Value (Binary binary.Div (Symbol i) (Symbol j)); divisors = Symbol j ∷ [] } in
+      let u : EffectShape = record { act = Value (Binary binary_op.Div (Symbol i) (Symbol j)); divisors = Symbol j ∷ [] } in
       let w = where_is (gives_register rule.give && (is_sized classes rule.right Long i && is_sized classes rule.right Long j)) u e found in
-      let is = value_same (Binary binary.Div (Symbol i) (Symbol j)) t (ap (λ (x : EffectShape). x.act) w.1 ∙ act) in
+      let is = value_same (Binary binary_op.Div (Symbol i) (Symbol j)) t (ap (λ (x : EffectShape). x.act) w.1 ∙ act) in
       let inst' = subst (I true) (sym w.1) inst in
       let divides' = subst (DividesByNone v) (sym w.1) divides in
       let s = sized_both i j w.0 in
       let x = known true u inst' Long i s.0 inst'.read.0.0 in
       let y = known true u inst' Long j s.1 inst'.read.0.1 in
       subst (Setting (form.Divide i j) r) is
-      (sets_register q _ r (value v (Binary binary.Div (Symbol i) (Symbol j))) m lt (value_small v (Binary binary.Div (Symbol i) (Symbol j)))
+      (sets_register q _ r (value v (Binary binary_op.Div (Symbol i) (Symbol j))) m lt (value_small v (Binary binary_op.Div (Symbol i) (Symbol j)))
       (divide_runs (source_at q hs i) (source_at q hs j) (destination.Register r) m (value v (Symbol i)) (value v (Symbol j)) x y
       ∙ ap (λ o. followed (divided o (λ z. comes (put_in (destination.Register r) z m))) [] (run [])) (some_quotient (value v (Symbol i)) (value v (Symbol j)) divides'.0)))
   form_sets (form.Store size i j) r e t found act inst divides lt =
@@ -213,10 +213,10 @@ module _ (q : TreeProgram) (f : Extent) (fs : List Extent) (classes : List Class
   trap_ends (form.Address i) e d res found is inst zero_is = absurd (none_some e found)
   trap_ends (form.Add i j) e d res found is inst zero_is =
       let w = where_is (gives_register rule.give && (is_sized classes rule.right Long i && is_sized classes rule.right Long j))
-      (undivided (Value (Binary binary.Add (Symbol i) (Symbol j)))) e found in
+      (undivided (Value (Binary binary_op.Add (Symbol i) (Symbol j)))) e found in
       absurd (no_divisor d (ap (λ (x : EffectShape). x.divisors) w.1 ∙ is))
   trap_ends (form.Divide i j) e d res found is inst zero_is =
-      let u : EffectShape = record { act = Value (Binary binary.Div (Symbol i) (Symbol j)); divisors = Symbol j ∷ [] } in
+      let u : EffectShape = record { act = Value (Binary binary_op.Div (Symbol i) (Symbol j)); divisors = Symbol j ∷ [] } in
       let w = where_is (gives_register rule.give && (is_sized classes rule.right Long i && is_sized classes rule.right Long j)) u e found in
       let inst' = subst (I false) (sym w.1) inst in
       let same : Symbol j ≡ d = same_divisor (Symbol j) d (ap (λ (x : EffectShape). x.divisors) w.1 ∙ is) in
@@ -267,8 +267,8 @@ has_line : (classes : List Class) (rule : Rule) (e : EffectShape) → Taken clas
 has_line classes rule e (by_line l g lines is found) k = subst (λ ls. 1 ≤ length ls) (sym lines) (omega arith)
 has_line classes rule e (by_shape l lines gives found) k = absurd (no_shape (shape_of l.pieces) (subst (λ o. found_shape classes rule.right o (shape_of l.pieces) ≡ Some e) k found)) where
   no_shape : (g : ShapeForm) → found_shape classes rule.right (Some kind.Nothing) g ≡ Some e → ⊥
-  no_shape (shape.Alone i) h = none_some e h
-  no_shape (shape.Based i) h = none_some e h
+  no_shape (shape_form.Alone i) h = none_some e h
+  no_shape (shape_form.Based i) h = none_some e h
 
 form_narrow : (classes : List Class) (rule : Rule) (g : Form) (e : EffectShape) → found_form classes rule g ≡ Some e → IsNarrowEffect e
 form_narrow classes rule (form.Move size i) e h = subst IsNarrowEffect (where_is _ (undivided (Value (Symbol i))) e h).1 (tt, tt)
@@ -285,20 +285,20 @@ form_narrow classes rule (form.Return i) e h = subst IsNarrowEffect (where_is _ 
 form_narrow classes rule (form.Save i) e h = subst IsNarrowEffect (where_is _ (undivided (Save i)) e h).1 (tt, tt)
 
 shape_narrow : (classes : List Class) (rule : Rule) (k : Option Kind) (g : ShapeForm) (e : EffectShape) → found_shape classes rule.right k g ≡ Some e → IsNarrowEffect e
-shape_narrow classes rule None (shape.Alone i) e h = absurd (none_some e h)
-shape_narrow classes rule None (shape.Based i) e h = absurd (none_some e h)
-shape_narrow classes rule (Some kind.Reg) (shape.Alone i) e h = subst IsNarrowEffect (where_is _ (undivided (Value (Symbol i))) e h).1 (tt, tt)
-shape_narrow classes rule (Some kind.Reg) (shape.Based i) e h = absurd (none_some e h)
-shape_narrow classes rule (Some kind.Con) (shape.Alone i) e h = subst IsNarrowEffect (where_is _ (undivided (Number (Symbol i))) e h).1 (tt, tt)
-shape_narrow classes rule (Some kind.Con) (shape.Based i) e h = absurd (none_some e h)
-shape_narrow classes rule (Some kind.Ea) (shape.Alone i) e h = absurd (none_some e h)
-shape_narrow classes rule (Some kind.Ea) (shape.Based i) e h = subst IsNarrowEffect (where_is _ (undivided (Address (Symbol i))) e h).1 (tt, tt)
-shape_narrow classes rule (Some kind.Nothing) (shape.Alone i) e h = absurd (none_some e h)
-shape_narrow classes rule (Some kind.Nothing) (shape.Based i) e h = absurd (none_some e h)
-shape_narrow classes rule (Some (kind.Value size)) (shape.Alone i) e h = absurd (none_some e h)
-shape_narrow classes rule (Some (kind.Value size)) (shape.Based i) e h = subst IsNarrowEffect (where_is _ (undivided (Value (Memory size (Symbol i)))) e h).1 (tt, tt)
-shape_narrow classes rule (Some (kind.Place size)) (shape.Alone i) e h = subst IsNarrowEffect (where_is _ (undivided (PlaceHome size i)) e h).1 (tt, tt)
-shape_narrow classes rule (Some (kind.Place size)) (shape.Based i) e h = subst IsNarrowEffect (where_is _ (undivided (PlaceAt size (Symbol i))) e h).1 (tt, tt)
+shape_narrow classes rule None (shape_form.Alone i) e h = absurd (none_some e h)
+shape_narrow classes rule None (shape_form.Based i) e h = absurd (none_some e h)
+shape_narrow classes rule (Some kind.Reg) (shape_form.Alone i) e h = subst IsNarrowEffect (where_is _ (undivided (Value (Symbol i))) e h).1 (tt, tt)
+shape_narrow classes rule (Some kind.Reg) (shape_form.Based i) e h = absurd (none_some e h)
+shape_narrow classes rule (Some kind.Con) (shape_form.Alone i) e h = subst IsNarrowEffect (where_is _ (undivided (Number (Symbol i))) e h).1 (tt, tt)
+shape_narrow classes rule (Some kind.Con) (shape_form.Based i) e h = absurd (none_some e h)
+shape_narrow classes rule (Some kind.Ea) (shape_form.Alone i) e h = absurd (none_some e h)
+shape_narrow classes rule (Some kind.Ea) (shape_form.Based i) e h = subst IsNarrowEffect (where_is _ (undivided (Address (Symbol i))) e h).1 (tt, tt)
+shape_narrow classes rule (Some kind.Nothing) (shape_form.Alone i) e h = absurd (none_some e h)
+shape_narrow classes rule (Some kind.Nothing) (shape_form.Based i) e h = absurd (none_some e h)
+shape_narrow classes rule (Some (kind.Value size)) (shape_form.Alone i) e h = absurd (none_some e h)
+shape_narrow classes rule (Some (kind.Value size)) (shape_form.Based i) e h = subst IsNarrowEffect (where_is _ (undivided (Value (Memory size (Symbol i)))) e h).1 (tt, tt)
+shape_narrow classes rule (Some (kind.Place size)) (shape_form.Alone i) e h = subst IsNarrowEffect (where_is _ (undivided (PlaceHome size i)) e h).1 (tt, tt)
+shape_narrow classes rule (Some (kind.Place size)) (shape_form.Based i) e h = subst IsNarrowEffect (where_is _ (undivided (PlaceAt size (Symbol i))) e h).1 (tt, tt)
 
 is_narrow : (classes : List Class) (rule : Rule) (e : EffectShape) → Taken classes rule e → IsNarrowEffect e
 is_narrow classes rule e (by_line l g lines is found) = form_narrow classes rule g e found

@@ -9,13 +9,13 @@ use Rattle.tree_core.specs.declared.token.Sort.TheVariants as sort
 use Rattle.tree_core.specs.declared.tree.Att.TheVariants as att
 use Rattle.tree_core.specs.declared.tree.Leaf.{Leaf}
 use Rattle.tree_core.specs.declared.program.TreeItem.{TreeItem}
-use Rattle.tree_core.specs.declared.program.TreeItem.TheVariants as item
+use Rattle.tree_core.specs.declared.program.TreeItem.TheVariants as tree_item
 use Rattle.tree_core.specs.Attributes.{end_leaf}
 use Rattle.tree_core.specs.Trees.{none, tree}
 use Rattle.tree_core.specs.Items.{nothing, other}
 use Rattle.tree_core.specs.Labels.{TargetsStand}
 use Rattle.tree_core.specs.Valid.{PushesStand, main_takes_nothing, leaf_names, ItemStands, ItemsStand, LinksLie, IsValid}
-use Rattle.md_reader.specs.declared.types.Sym.TheVariants as symbols
+use Rattle.md_reader.specs.declared.types.Sym.TheVariants as grammar_symbol
 use Rattle.md_reader.specs.Patterns.{no_tree, node}
 use Rattle.md_reader.specs.Valid.{IsRule}
 use Rattle.sel_terms.specs.RuleFacts.{size_at}
@@ -39,7 +39,7 @@ stands i = ItemStands (main ∷ []) 0 main i
 abbrev names : Leaf → Type 0
 names l = leaf_names (main ∷ []) 0 main l ≡ true
 
-ret_stands : stands (item.Root (record { tok = tok.Ret; att = att.Nothing } ∷ (record { tok = tok.Zero; att = att.Number 0 } ∷ (end_leaf ∷ []))))
+ret_stands : stands (tree_item.Root (record { tok = tok.Ret; att = att.Nothing } ∷ (record { tok = tok.Zero; att = att.Number 0 } ∷ (end_leaf ∷ []))))
 ret_stands = (
   record {
     trees = tree (record { tok = tok.Ret; att = att.Nothing }) (tree (record { tok = tok.Zero; att = att.Number 0 }) none none) none;
@@ -76,8 +76,8 @@ rule_is = record {
     sort = sort.Long;
     declared = refl;
     short = omega arith;
-    tree = record { tree = node (symbols.Tok tok.Plus) refl (node (symbols.Class 1) refl no_tree (node (symbols.Class 1) refl no_tree no_tree)) no_tree; spelled = refl };
-    sorted = record { tree = node (symbols.Tok tok.Plus) refl (node (symbols.Class 1) refl no_tree (node (symbols.Class 1) refl no_tree no_tree)) no_tree; spelled = refl };
+    tree = record { tree = node (grammar_symbol.Tok tok.Plus) refl (node (grammar_symbol.Class 1) refl no_tree (node (grammar_symbol.Class 1) refl no_tree no_tree)) no_tree; spelled = refl };
+    sorted = record { tree = node (grammar_symbol.Tok tok.Plus) refl (node (grammar_symbol.Class 1) refl no_tree (node (grammar_symbol.Class 1) refl no_tree no_tree)) no_tree; spelled = refl };
     not_bare = refl;
   };
   template = record { few_restrictions = omega arith; restricted = tt; few_lines = omega arith; written = (refl, tt) };

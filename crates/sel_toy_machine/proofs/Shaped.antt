@@ -16,12 +16,12 @@ use Rattle.md_reader.specs.declared.types.Kind.{Kind}
 use Rattle.md_reader.specs.declared.types.Kind.TheVariants as kind
 use Rattle.md_reader.specs.declared.types.Class.{Class}
 use Rattle.md_reader.specs.declared.types.Sym.{Sym}
-use Rattle.md_reader.specs.declared.types.Sym.TheVariants as symbols
+use Rattle.md_reader.specs.declared.types.Sym.TheVariants as grammar_symbol
 use Rattle.md_reader.specs.declared.types.Give.TheVariants as give
 use Rattle.md_reader.specs.declared.types.Rule.{Rule}
 use Rattle.md_reader.specs.Patterns.{kind_at}
 use Rattle.term_core.specs.Shape.{Shape, Symbol, Memory, Binary}
-use Rattle.term_core.specs.declared.operator.BinaryOp.TheVariants as binary
+use Rattle.term_core.specs.declared.operator.BinaryOp.TheVariants as binary_op
 use Rattle.sel_terms.specs.Effects.{ActShape, EffectShape, Value, Number, Address, PlaceHome, PlaceAt, StoreHome, StoreAt, Branch, Push, Call, Save, Return, Jump}
 use Rattle.sel_terms.specs.RuleFacts.{size_of_some, size_at}
 use Rattle.sel_target.specs.declared.attr.Attr.{Attr}
@@ -35,7 +35,7 @@ use Rattle.sel_toy_machine.specs.declared.operand.Operand.TheVariants as operand
 use Rattle.sel_toy_machine.specs.declared.form.Form.{Form}
 use Rattle.sel_toy_machine.specs.declared.form.Form.TheVariants as form
 use Rattle.sel_toy_machine.specs.declared.form.ShapeForm.{ShapeForm}
-use Rattle.sel_toy_machine.specs.declared.form.ShapeForm.TheVariants as shape
+use Rattle.sel_toy_machine.specs.declared.form.ShapeForm.TheVariants as shape_form
 use Rattle.sel_toy_machine.specs.Machine.{Machine, in_register, long, reads, names, fits, is_place}
 use Rattle.sel_toy_machine.specs.Forms.{shape_of, is_sized}
 use Rattle.sel_toy_machine.specs.Templates.{undivided, gives_register, gives_nothing, found_form, found_shape, is_register, is_place_of, is_slot, holds_register, is_home, symbol}
@@ -60,9 +60,9 @@ form_gives : (classes : List Class) (rule : Rule) (g : Form) (e : EffectShape) (
 form_gives classes rule (form.Move size i) e l h is = shape_gives_none rule.give l is (both (gives_register rule.give) _ (where_is _ (undivided (Value (Symbol i))) e h).0).0
 form_gives classes rule (form.Address i) e l h is = none_some e h
 form_gives classes rule (form.Add i j) e l h is =
-    shape_gives_none rule.give l is (both (gives_register rule.give) _ (where_is _ (undivided (Value (Binary binary.Add (Symbol i) (Symbol j)))) e h).0).0
+    shape_gives_none rule.give l is (both (gives_register rule.give) _ (where_is _ (undivided (Value (Binary binary_op.Add (Symbol i) (Symbol j)))) e h).0).0
 form_gives classes rule (form.Divide i j) e l h is =
-    shape_gives_none rule.give l is (both (gives_register rule.give) _ (where_is _ (record { act = Value (Binary binary.Div (Symbol i) (Symbol j)); divisors = Symbol j ∷ [] }) e h).0).0
+    shape_gives_none rule.give l is (both (gives_register rule.give) _ (where_is _ (record { act = Value (Binary binary_op.Div (Symbol i) (Symbol j)); divisors = Symbol j ∷ [] }) e h).0).0
 form_gives classes rule (form.Store size i j) e l h is = shape_gives_register rule.give l is (both (gives_nothing rule.give) _ (where_is _ (undivided (StoreHome size i (Symbol j))) e h).0).0
 form_gives classes rule (form.StoreAt size i j) e l h is =
     shape_gives_register rule.give l is (both (gives_nothing rule.give) _ (where_is _ (undivided (StoreAt size (Symbol i) (Symbol j))) e h).0).0
@@ -100,8 +100,8 @@ register_fits (Some kind.Nothing) h e fit = absurd (untrue e)
 register_fits None h e fit = absurd (untrue e)
 
 symbol_register : (classes : List Class) (s : Sym) (h : Attr Operand) → holds_register classes (Some s) ≡ true → SymFits toy classes s h → (r : ℕ) × (h ≡ attr.Reg r)
-symbol_register classes (symbols.Tok x) h e fit = absurd (untrue e)
-symbol_register classes (symbols.Class c) h e fit = register_fits (kind_at classes c) h e fit
+symbol_register classes (grammar_symbol.Tok x) h e fit = absurd (untrue e)
+symbol_register classes (grammar_symbol.Class c) h e fit = register_fits (kind_at classes c) h e fit
 
 some_there : {X : Type 0} (o : Option X) (test : Option X → Bool) → test None ≡ false → test o ≡ true → is_some o ≡ true
 some_there None test none e = absurd (untrue (sym none ∙ e))
@@ -206,15 +206,15 @@ module _ (classes : List Class) (right : List Sym) (hs : List (Attr Operand)) (f
   slot_place tok.End a e fit = absurd (untrue e)
 
   home_place : (size : Size) (s : Sym) (h : Attr Operand) → is_home classes size (Some s) ≡ true → SymFits toy classes s h → OwnPlace h
-  home_place size (symbols.Tok x) (attr.Token l) e fit = slot_place l.tok l.att (subst (λ y. is_slot y ≡ true) (sym fit.0) (both (is_slot x) _ e).0) fit.1
-  home_place size (symbols.Tok x) (attr.Reg r) e fit = absurd fit
-  home_place size (symbols.Tok x) (attr.InSlot w) e fit = absurd fit
-  home_place size (symbols.Tok x) (attr.Value o) e fit = absurd fit
-  home_place size (symbols.Tok x) (attr.Place o) e fit = absurd fit
-  home_place size (symbols.Tok x) (attr.Con n) e fit = absurd fit
-  home_place size (symbols.Tok x) (attr.Ea o) e fit = absurd fit
-  home_place size (symbols.Tok x) attr.Nothing e fit = absurd fit
-  home_place size (symbols.Class c) h e fit = place_fits size (kind_at classes c) h e fit
+  home_place size (grammar_symbol.Tok x) (attr.Token l) e fit = slot_place l.tok l.att (subst (λ y. is_slot y ≡ true) (sym fit.0) (both (is_slot x) _ e).0) fit.1
+  home_place size (grammar_symbol.Tok x) (attr.Reg r) e fit = absurd fit
+  home_place size (grammar_symbol.Tok x) (attr.InSlot w) e fit = absurd fit
+  home_place size (grammar_symbol.Tok x) (attr.Value o) e fit = absurd fit
+  home_place size (grammar_symbol.Tok x) (attr.Place o) e fit = absurd fit
+  home_place size (grammar_symbol.Tok x) (attr.Con n) e fit = absurd fit
+  home_place size (grammar_symbol.Tok x) (attr.Ea o) e fit = absurd fit
+  home_place size (grammar_symbol.Tok x) attr.Nothing e fit = absurd fit
+  home_place size (grammar_symbol.Class c) h e fit = place_fits size (kind_at classes c) h e fit
 
   pub home_hole : (size : Size) (i : ℕ) → is_home classes size (symbol right i) ≡ true → Home i
   home_hole size zero e = absurd (untrue e)
@@ -224,18 +224,18 @@ module _ (classes : List Class) (right : List Sym) (hs : List (Attr Operand)) (f
       record { attribute = n.attribute; operand_is = p.operand_is; at = n.at; own = p.own; place = p.place }
 
   -- the operand of a shape over a register, and of one that is a place
-  pub based_is : (q : TreeProgram) (i : ℕ) → (e : holds_register classes (symbol right i) ≡ true) → shaped q (shape.Based i) hs ≡ operand.Based (register_hole i e).0
+  pub based_is : (q : TreeProgram) (i : ℕ) → (e : holds_register classes (symbol right i) ≡ true) → shaped q (shape_form.Based i) hs ≡ operand.Based (register_hole i e).0
   based_is q i e = ap (λ o. based (some_operand q o)) (register_hole i e).1
 
-  pub alone_is : (q : TreeProgram) (size : Size) (i : ℕ) → (e : is_home classes size (symbol right i) ≡ true) → shaped q (shape.Alone i) hs ≡ (home_hole size i e).operand_is
+  pub alone_is : (q : TreeProgram) (size : Size) (i : ℕ) → (e : is_home classes size (symbol right i) ≡ true) → shaped q (shape_form.Alone i) hs ≡ (home_hole size i e).operand_is
   alone_is q size i e = (let h = home_hole size i e in ap (some_operand q) h.at ∙ own_is q h.attribute h.operand_is h.own)
 
   -- a place's shape is a place
   pub place_shaped : (q : TreeProgram) (size : Size) (g : ShapeForm) (e : EffectShape) → found_shape classes right (Some (kind.Place size)) g ≡ Some e → is_place (shaped q g hs) ≡ true
-  place_shaped q size (shape.Alone i) e h =
+  place_shaped q size (shape_form.Alone i) e h =
       let w = (where_is (is_home classes size (symbol right i)) (undivided (PlaceHome size i)) e h).0 in
       subst (λ o. is_place o ≡ true) (sym (alone_is q size i w)) (home_hole size i w).place
-  place_shaped q size (shape.Based i) e h =
+  place_shaped q size (shape_form.Based i) e h =
       let w = (where_is (holds_register classes (symbol right i)) (undivided (PlaceAt size (Symbol i))) e h).0 in
       subst (λ o. is_place o ≡ true) (sym (based_is q i w)) refl
 
@@ -284,8 +284,8 @@ module _ (q : TreeProgram) (f : Extent) (fs : List Extent) (classes : List Class
 -- a register's symbol is a longword
 register_size : (classes : List Class) (o : Option Sym) → holds_register classes o ≡ true → size_of_some classes o ≡ Long
 register_size classes None e = refl
-register_size classes (Some (symbols.Tok x)) e = refl
-register_size classes (Some (symbols.Class c)) e = by (kind_at classes c) e where
+register_size classes (Some (grammar_symbol.Tok x)) e = refl
+register_size classes (Some (grammar_symbol.Class c)) e = by (kind_at classes c) e where
   by : (k : Option Kind) → is_register k ≡ true → Rattle.sel_terms.specs.RuleFacts.size_of_kind k ≡ Long
   by None h = refl
   by (Some kind.Reg) h = refl
@@ -305,8 +305,8 @@ module _ (q : TreeProgram) (f : Extent) (fs : List Extent) (classes : List Class
 
   pub value_shaped : (e : EffectShape) (t : Shape) (size : Size) (g : ShapeForm) → I e → found_shape classes rule.right (Some (kind.Value size)) g ≡ Some e → e.act ≡ Value t →
       reads (shaped q g hs) size m ≡ Some (value v t)
-  value_shaped e t size (shape.Alone i) inst found act = absurd (none_some e found)
-  value_shaped e t size (shape.Based i) inst found act =
+  value_shaped e t size (shape_form.Alone i) inst found act = absurd (none_some e found)
+  value_shaped e t size (shape_form.Based i) inst found act =
       let u = undivided (Value (Memory size (Symbol i))) in
       let w = where_is (holds_register classes (symbol rule.right i)) u e found in
       let is = act_value (Memory size (Symbol i)) t (act_of u e w.1 ∙ act) in
@@ -319,11 +319,11 @@ module _ (q : TreeProgram) (f : Extent) (fs : List Extent) (classes : List Class
 
   pub place_named : (e : EffectShape) (a : Shape) (size : Size) (g : ShapeForm) → I e → found_shape classes rule.right (Some (kind.Place size)) g ≡ Some e → e.act ≡ PlaceAt size a →
       names (shaped q g hs) size m ≡ Some (value v a)
-  place_named e a size (shape.Alone i) inst found act =
+  place_named e a size (shape_form.Alone i) inst found act =
       let u = undivided (PlaceHome size i) in
       let w = where_is (is_home classes size (symbol rule.right i)) u e found in
       absurd (home_not_at size size a i (act_of u e w.1 ∙ act))
-  place_named e a size (shape.Based i) inst found act =
+  place_named e a size (shape_form.Based i) inst found act =
       let u = undivided (PlaceAt size (Symbol i)) in
       let w = where_is (holds_register classes (symbol rule.right i)) u e found in
       let is = act_place size size (Symbol i) a (act_of u e w.1 ∙ act) in
@@ -334,8 +334,8 @@ module _ (q : TreeProgram) (f : Extent) (fs : List Extent) (classes : List Class
 
   pub address_named : (e : EffectShape) (t : Shape) (size : Size) (g : ShapeForm) → I e → found_shape classes rule.right (Some kind.Ea) g ≡ Some e → e.act ≡ Address t →
       names (shaped q g hs) size m ≡ Some (value v t)
-  address_named e t size (shape.Alone i) inst found act = absurd (none_some e found)
-  address_named e t size (shape.Based i) inst found act =
+  address_named e t size (shape_form.Alone i) inst found act = absurd (none_some e found)
+  address_named e t size (shape_form.Based i) inst found act =
       let u = undivided (Address (Symbol i)) in
       let w = where_is (holds_register classes (symbol rule.right i)) u e found in
       let is = act_address (Symbol i) t (act_of u e w.1 ∙ act) in
@@ -344,7 +344,7 @@ module _ (q : TreeProgram) (f : Extent) (fs : List Extent) (classes : List Class
       let holds = register_holds q f fs classes rule u hs v m inst' i r.0 inst'.read.0 r.1 (register_sized classes rule.right i w.0) in
       ap (λ o. names o size m) (based_is classes rule.right hs inst'.holes_fit q i w.0) ∙ ap Some holds ∙ ap (λ x. Some (value v x)) is
 
-  pub number_is : (e : EffectShape) (i n : ℕ) (h : Attr Operand) → I e → found_shape classes rule.right (Some kind.Con) (shape.Alone i) ≡ Some e →
+  pub number_is : (e : EffectShape) (i n : ℕ) (h : Attr Operand) → I e → found_shape classes rule.right (Some kind.Con) (shape_form.Alone i) ≡ Some e →
       hole hs i ≡ Some h → worth toy q Long h m ≡ Some n →
       (t : Shape) × (e.act ≡ Number t) × (value v t ≡ n)
   number_is e i n h inst found at is =
@@ -372,32 +372,32 @@ other a size i e is act h = no_home a size i (act_of (undivided a) e is ∙ act)
 
 home_own : (q : TreeProgram) (classes : List Class) (rule : Rule) (e : EffectShape) (size : Size) (i : ℕ) (hs : List (Attr Operand)) (h : Attr Operand) (k : Option Kind) (g : ShapeForm) →
     found_shape classes rule.right k g ≡ Some e → e.act ≡ PlaceHome size i → Fit toy classes rule.right hs → hole hs i ≡ Some h → own_operand toy h ≡ Some (shaped q g hs)
-home_own q classes rule e size i hs h None (shape.Alone j) found act fit at = absurd (none_some e found)
-home_own q classes rule e size i hs h None (shape.Based j) found act fit at = absurd (none_some e found)
-home_own q classes rule e size i hs h (Some kind.Reg) (shape.Alone j) found act fit at =
+home_own q classes rule e size i hs h None (shape_form.Alone j) found act fit at = absurd (none_some e found)
+home_own q classes rule e size i hs h None (shape_form.Based j) found act fit at = absurd (none_some e found)
+home_own q classes rule e size i hs h (Some kind.Reg) (shape_form.Alone j) found act fit at =
     absurd (other (Value (Symbol j)) size i e (where_is _ (undivided (Value (Symbol j))) e found).1 act tt)
-home_own q classes rule e size i hs h (Some kind.Reg) (shape.Based j) found act fit at = absurd (none_some e found)
-home_own q classes rule e size i hs h (Some kind.Con) (shape.Alone j) found act fit at =
+home_own q classes rule e size i hs h (Some kind.Reg) (shape_form.Based j) found act fit at = absurd (none_some e found)
+home_own q classes rule e size i hs h (Some kind.Con) (shape_form.Alone j) found act fit at =
     absurd (other (Number (Symbol j)) size i e (where_is _ (undivided (Number (Symbol j))) e found).1 act tt)
-home_own q classes rule e size i hs h (Some kind.Con) (shape.Based j) found act fit at = absurd (none_some e found)
-home_own q classes rule e size i hs h (Some kind.Ea) (shape.Alone j) found act fit at = absurd (none_some e found)
-home_own q classes rule e size i hs h (Some kind.Ea) (shape.Based j) found act fit at =
+home_own q classes rule e size i hs h (Some kind.Con) (shape_form.Based j) found act fit at = absurd (none_some e found)
+home_own q classes rule e size i hs h (Some kind.Ea) (shape_form.Alone j) found act fit at = absurd (none_some e found)
+home_own q classes rule e size i hs h (Some kind.Ea) (shape_form.Based j) found act fit at =
     absurd (other (Address (Symbol j)) size i e (where_is _ (undivided (Address (Symbol j))) e found).1 act tt)
-home_own q classes rule e size i hs h (Some kind.Nothing) (shape.Alone j) found act fit at = absurd (none_some e found)
-home_own q classes rule e size i hs h (Some kind.Nothing) (shape.Based j) found act fit at = absurd (none_some e found)
-home_own q classes rule e size i hs h (Some (kind.Value z)) (shape.Alone j) found act fit at = absurd (none_some e found)
-home_own q classes rule e size i hs h (Some (kind.Value z)) (shape.Based j) found act fit at =
+home_own q classes rule e size i hs h (Some kind.Nothing) (shape_form.Alone j) found act fit at = absurd (none_some e found)
+home_own q classes rule e size i hs h (Some kind.Nothing) (shape_form.Based j) found act fit at = absurd (none_some e found)
+home_own q classes rule e size i hs h (Some (kind.Value z)) (shape_form.Alone j) found act fit at = absurd (none_some e found)
+home_own q classes rule e size i hs h (Some (kind.Value z)) (shape_form.Based j) found act fit at =
     absurd (other (Value (Memory z (Symbol j))) size i e (where_is _ (undivided (Value (Memory z (Symbol j)))) e found).1 act tt)
-home_own q classes rule e size i hs h (Some (kind.Place z)) (shape.Alone j) found act fit at =
+home_own q classes rule e size i hs h (Some (kind.Place z)) (shape_form.Alone j) found act fit at =
     let w = where_is (is_home classes z (symbol rule.right j)) (undivided (PlaceHome z j)) e found in
     let same = act_home z size j i (act_of (undivided (PlaceHome z j)) e w.1 ∙ act) in
     let p = home_hole classes rule.right hs fit z j w.0 in
     let h_is = some_same p.attribute h (sym p.at ∙ (ap (hole hs) same ∙ at)) in
-    subst (λ x. own_operand toy x ≡ Some (shaped q (shape.Alone j) hs)) h_is (p.own ∙ ap Some (sym (alone_is classes rule.right hs fit q z j w.0)))
-home_own q classes rule e size i hs h (Some (kind.Place z)) (shape.Based j) found act fit at =
+    subst (λ x. own_operand toy x ≡ Some (shaped q (shape_form.Alone j) hs)) h_is (p.own ∙ ap Some (sym (alone_is classes rule.right hs fit q z j w.0)))
+home_own q classes rule e size i hs h (Some (kind.Place z)) (shape_form.Based j) found act fit at =
     absurd (other (PlaceAt z (Symbol j)) size i e (where_is _ (undivided (PlaceAt z (Symbol j))) e found).1 act tt)
 
-register_own : (classes : List Class) (rule : Rule) (e : EffectShape) (i : ℕ) → found_shape classes rule.right (Some kind.Reg) (shape.Alone i) ≡ Some e → e.act ≡ Value (Symbol i)
+register_own : (classes : List Class) (rule : Rule) (e : EffectShape) (i : ℕ) → found_shape classes rule.right (Some kind.Reg) (shape_form.Alone i) ≡ Some e → e.act ≡ Value (Symbol i)
 register_own classes rule e i found = sym (act_of (undivided (Value (Symbol i))) e (where_is (holds_register classes (symbol rule.right i)) (undivided (Value (Symbol i))) e found).1)
 
 pub toy_shapes : GivesShapes toy

@@ -13,7 +13,7 @@ use Rattle.md_reader.specs.declared.types.Kind.{Kind}
 use Rattle.md_reader.specs.declared.types.Kind.TheVariants as kind
 use Rattle.md_reader.specs.declared.types.Class.{Class}
 use Rattle.md_reader.specs.declared.types.Sym.{Sym}
-use Rattle.md_reader.specs.declared.types.Sym.TheVariants as symbols
+use Rattle.md_reader.specs.declared.types.Sym.TheVariants as grammar_symbol
 use Rattle.md_reader.specs.declared.types.Rule.{Rule}
 use Rattle.md_reader.specs.Patterns.{kind_at}
 use Rattle.term_core.specs.Shape.{Symbol}
@@ -95,8 +95,8 @@ no_token (Some kind.Nothing) l h = h
 
 -- a token's symbol is a longword
 token_size : (classes : List Class) (s : Sym) (l : Leaf) → SymFits toy classes s (attr.Token l) → size_of_symbol classes s ≡ Long
-token_size classes (symbols.Tok x) l h = refl
-token_size classes (symbols.Class c) l h = absurd (no_token (kind_at classes c) l h)
+token_size classes (grammar_symbol.Tok x) l h = refl
+token_size classes (grammar_symbol.Class c) l h = absurd (no_token (kind_at classes c) l h)
 
 number_taken : (size : Size) (n x : ℕ) → n ≡ x → x < 2 ^ (8 * bytes_of size) → Some (part size n) ≡ Some x
 number_taken size n x e lt = ap Some (ap (part size) e ∙ part_same size x lt)

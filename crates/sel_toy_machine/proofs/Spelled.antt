@@ -19,7 +19,7 @@ use Rattle.sel_target.specs.Instances.{hole, attr_touches, some_touches}
 use Rattle.sel_toy_machine.specs.declared.operand.Operand.{Operand}
 use Rattle.sel_toy_machine.specs.declared.operand.Operand.TheVariants.{Register, Based, Word, Deferred, Argument, Number}
 use Rattle.sel_toy_machine.specs.declared.form.ShapeForm.{ShapeForm}
-use Rattle.sel_toy_machine.specs.declared.form.ShapeForm.TheVariants as shape
+use Rattle.sel_toy_machine.specs.declared.form.ShapeForm.TheVariants as shape_form
 use Rattle.sel_toy_machine.specs.Machine.{bit_of, same}
 use Rattle.sel_toy_machine.specs.Forms.{shape_of}
 use Rattle.sel_toy_machine.specs.Filling.{nought, token_operand, operand_of, some_operand, operand_at, based, shaped, operand_filled}
@@ -166,8 +166,8 @@ based_touches (Number n) s e = absurd (nothing s e)
 
 shaped_touches : (q : TreeProgram) (f : ShapeForm) (hs : List (Attr Operand)) (s : Spot) → touches toy (shaped q f hs) s ≡ true →
     list_any (λ h. attr_touches toy h s) hs ≡ true
-shaped_touches q (shape.Alone i) hs s e = hole_touches q hs i s (hole hs i) refl e
-shaped_touches q (shape.Based i) hs s e = hole_touches q hs i s (hole hs i) refl (based_touches (operand_at q hs i) s e)
+shaped_touches q (shape_form.Alone i) hs s e = hole_touches q hs i s (hole hs i) refl e
+shaped_touches q (shape_form.Based i) hs s e = hole_touches q hs i s (hole hs i) refl (based_touches (operand_at q hs i) s e)
 
 -- a shape touches what its hole touches
 pub shape_touches : (q : TreeProgram) (l : Line) (hs : List (Attr Operand)) (s : Spot) → touches toy (operand_filled q l hs) s ≡ true →

@@ -17,7 +17,7 @@ use Rattle.tree_core.specs.Valid.{args_of, args_or, service_args, takes}
 use Rattle.tree_meaning.specs.State.{State}
 use Rattle.tree_meaning.specs.declared.machine.Finish.TheVariants as finish
 use Rattle.tree_meaning.specs.declared.value.Meaning.{Meaning as Place}
-use Rattle.tree_meaning.specs.declared.value.Meaning.TheVariants as places
+use Rattle.tree_meaning.specs.declared.value.Meaning.TheVariants as meaning
 use Rattle.tree_meaning.specs.Deeds.{Deed, Puts, Branches, Pushes, Returns as Leaves, Calls as CallDeed, Saves, Jumps, Traps, Strays}
 use Rattle.tree_meaning.specs.Steps.{Goes as GoesOn, GoesTo, Serves, Enters, Ends, strays, with_local_set, with_argument_set, with_pushed, without_pushed}
 use Rattle.tree_meaning.specs.Steps.{deed_step, put_in, wrote, got, called_as, served}
@@ -27,7 +27,7 @@ use Rattle.md_reader.specs.declared.types.Rule.{Rule}
 use Rattle.md_reader.specs.declared.types.Kind.{Kind}
 use Rattle.md_reader.specs.declared.types.Kind.TheVariants as kind
 use Rattle.md_reader.specs.Patterns.{kind_at}
-use Rattle.term_core.specs.declared.operator.BinaryOp.TheVariants as binary
+use Rattle.term_core.specs.declared.operator.BinaryOp.TheVariants as binary_op
 use Rattle.term_core.specs.Shape.{Shape, Symbol, Memory, Binary}
 use Rattle.sel_terms.specs.Effects.{ActShape, EffectShape, Value, Number, Address, PlaceHome, PlaceAt, StoreHome, StoreAt, Branch, Push, Call, Save, Return, Jump}
 use Rattle.sel_target.specs.declared.attr.Attr.{Attr}
@@ -45,7 +45,7 @@ use Rattle.sel_toy_machine.specs.declared.operand.Instr.TheVariants as instructi
 use Rattle.sel_toy_machine.specs.declared.form.Form.{Form}
 use Rattle.sel_toy_machine.specs.declared.form.Form.TheVariants as form
 use Rattle.sel_toy_machine.specs.declared.form.ShapeForm.{ShapeForm}
-use Rattle.sel_toy_machine.specs.declared.form.ShapeForm.TheVariants as shape
+use Rattle.sel_toy_machine.specs.declared.form.ShapeForm.TheVariants as shape_form
 use Rattle.sel_toy_machine.specs.Machine.{Machine, in_register, in_word, long, names, Stands, with_register, with_word, with_argument, with_area}
 use Rattle.sel_toy_machine.specs.Forms.{shape_of, is_sized}
 use Rattle.sel_toy_machine.specs.Templates.{undivided, sum, quotient, gives_nothing, found_form, found_shape, is_home, holds_register, symbol}
@@ -272,11 +272,11 @@ module _ (q : TreeProgram) (f : Extent) (fs : List Extent) (classes : List Class
 
   -- a place gets a number
   put_local : (size : Size) (k x : ℕ) → Stands q f fs v.state m → k < f.locals → x < 2 ^ 32 →
-      IsStep toy q f fs v.state m (followed (put_place size (operand.Word k) x m) [] (run [])) (deed_step q v.state (Puts (places.Local k) x))
+      IsStep toy q f fs v.state m (followed (put_place size (operand.Word k) x m) [] (run [])) (deed_step q v.state (Puts (meaning.Local k) x))
   put_local size k x h lt small = (with_word m k x, refl, stays _ _ (local_set q f fs v.state m h k x lt small) refl)
 
   put_argument : (size : Size) (k x : ℕ) → Stands q f fs v.state m → x < 2 ^ 32 →
-      IsStep toy q f fs v.state m (followed (put_place size (operand.Argument k) x m) [] (run [])) (deed_step q v.state (Puts (places.Argument k) x))
+      IsStep toy q f fs v.state m (followed (put_place size (operand.Argument k) x m) [] (run [])) (deed_step q v.state (Puts (meaning.Argument k) x))
   put_argument size k x h small = (with_argument m k x, refl, stays _ _ (argument_set q f fs v.state m h k x small) refl)
 
   put_bytes : (o : Option (List ℕ)) (size : Size) (a x : ℕ) → stored size v.state.area a x ≡ o → Stands q f fs v.state m →
@@ -285,9 +285,9 @@ module _ (q : TreeProgram) (f : Extent) (fs : List Extent) (classes : List Class
   put_bytes (Some after) size a x e h = (with_area m after, refl, stays _ _ (area_set q f fs v.state m h after (stored_bytes size v.state.area a x after h.bytes e)) refl)
 
   put_memory : (size : Size) (a x : ℕ) → Stands q f fs v.state m →
-      IsStep toy q f fs v.state m (followed (put_area (stored size m.area a x) m) [] (run [])) (deed_step q v.state (Puts (places.Memory size a) x))
+      IsStep toy q f fs v.state m (followed (put_area (stored size m.area a x) m) [] (run [])) (deed_step q v.state (Puts (meaning.Memory size a) x))
   put_memory size a x h =
-      subst (λ bytes. IsStep toy q f fs v.state m (followed (put_area (stored size bytes a x) m) [] (run [])) (deed_step q v.state (Puts (places.Memory size a) x))) (sym h.area)
+      subst (λ bytes. IsStep toy q f fs v.state m (followed (put_area (stored size bytes a x) m) [] (run [])) (deed_step q v.state (Puts (meaning.Memory size a) x))) (sym h.area)
       (put_bytes (stored size v.state.area a x) size a x refl h)
 
   nowhere : (size : Size) (x : ℕ) → stored size v.state.area 0 x ≡ None
@@ -297,21 +297,21 @@ module _ (q : TreeProgram) (f : Extent) (fs : List Extent) (classes : List Class
     by false e = ap (λ b. cond b (Some (with_number size v.state.area (0 - 65536) x)) None) e
 
   -- an operand that names address 0 is no place of the area: nothing is said
-  put_nowhere : (size : Size) (a x : ℕ) (c : Course Instr Machine) → Some 0 ≡ Some a → IsStep toy q f fs v.state m c (deed_step q v.state (Puts (places.Memory size a) x))
+  put_nowhere : (size : Size) (a x : ℕ) (c : Course Instr Machine) → Some 0 ≡ Some a → IsStep toy q f fs v.state m c (deed_step q v.state (Puts (meaning.Memory size a) x))
   put_nowhere size a x c e =
-      subst (λ n. IsStep toy q f fs v.state m c (deed_step q v.state (Puts (places.Memory size n) x))) (some_same 0 a e)
+      subst (λ n. IsStep toy q f fs v.state m c (deed_step q v.state (Puts (meaning.Memory size n) x))) (some_same 0 a e)
       (subst (λ o. IsStep toy q f fs v.state m c (put_in v.state o)) (sym (nowhere size x)) tt)
 
   put_named : (size : Size) (o : Operand) (a x : ℕ) → Stands q f fs v.state m → names o size m ≡ Some a →
-      IsStep toy q f fs v.state m (followed (put_place size o x m) [] (run [])) (deed_step q v.state (Puts (places.Memory size a) x))
+      IsStep toy q f fs v.state m (followed (put_place size o x m) [] (run [])) (deed_step q v.state (Puts (meaning.Memory size a) x))
   put_named size (operand.Register r) a x h e = absurd (none_some a e)
   put_named size (operand.Based r) a x h e =
-      subst (λ n. IsStep toy q f fs v.state m (followed (put_place size (operand.Based r) x m) [] (run [])) (deed_step q v.state (Puts (places.Memory size n) x)))
+      subst (λ n. IsStep toy q f fs v.state m (followed (put_place size (operand.Based r) x m) [] (run [])) (deed_step q v.state (Puts (meaning.Memory size n) x)))
       (some_same (long (in_register m r)) a e)
       (put_memory size (long (in_register m r)) x h)
   put_named size (operand.Word w) a x h e = put_nowhere size a x _ e
   put_named size (operand.Deferred w) a x h e =
-      subst (λ n. IsStep toy q f fs v.state m (followed (put_place size (operand.Deferred w) x m) [] (run [])) (deed_step q v.state (Puts (places.Memory size n) x)))
+      subst (λ n. IsStep toy q f fs v.state m (followed (put_place size (operand.Deferred w) x m) [] (run [])) (deed_step q v.state (Puts (meaning.Memory size n) x)))
       (some_same (long (in_word m w)) a e)
       (put_memory size (long (in_word m w)) x h)
   put_named size (operand.Argument k) a x h e = put_nowhere size a x _ e
@@ -339,7 +339,7 @@ module _ (q : TreeProgram) (f : Extent) (fs : List Extent) (classes : List Class
 
   store_at_did : (size : Size) (i j n : ℕ) (g : Place) → R (undivided (StoreAt size (Symbol i) (Symbol j))) →
       holds_register classes (symbol rule.right i) ≡ true → is_sized classes rule.right Long j ≡ true →
-      g ≡ places.Memory size (value v (Symbol i)) → value v (Symbol j) ≡ n → Did (instruction.Store size (based (operand_at q hs i)) (source_at q hs j) ∷ []) (Puts g n)
+      g ≡ meaning.Memory size (value v (Symbol i)) → value v (Symbol j) ≡ n → Did (instruction.Store size (based (operand_at q hs i)) (source_at q hs j) ∷ []) (Puts g n)
   store_at_did size i j n g ready held sized place is =
       let e = undivided (StoreAt size (Symbol i) (Symbol j)) in
       let x = worth_of e ready j sized ready.instance_of.read.1.0 in
@@ -349,7 +349,7 @@ module _ (q : TreeProgram) (f : Extent) (fs : List Extent) (classes : List Class
       subst (λ y. Did (instruction.Store size (based (operand_at q hs i)) (source_at q hs j) ∷ []) (Puts g y)) is
       (subst (λ p. Did (instruction.Store size p (source_at q hs j) ∷ []) (Puts g (value v (Symbol j)))) (sym o)
       (subst (λ w. Did (instruction.Store size (operand.Based r.0) (source_at q hs j) ∷ []) (Puts w (value v (Symbol j)))) (sym place)
-      (subst (λ c. IsStep toy q f fs v.state m c (deed_step q v.state (Puts (places.Memory size (value v (Symbol i))) (value v (Symbol j)))))
+      (subst (λ c. IsStep toy q f fs v.state m c (deed_step q v.state (Puts (meaning.Memory size (value v (Symbol i))) (value v (Symbol j)))))
       (sym (reads_on (source_at q hs j) (value v (Symbol j)) (λ y. put_place size (operand.Based r.0) y m) x))
       (put_named size (operand.Based r.0) (value v (Symbol i)) (value v (Symbol j)) ready.instance_of.agrees (ap Some address)))))
 
@@ -602,9 +602,9 @@ module _ (q : TreeProgram) (f : Extent) (fs : List Extent) (classes : List Class
   form_did : (g : Form) (e : EffectShape) (d : Deed) → found_form classes rule g ≡ Some e → R e → Act e.act d → Goal g d
   form_did (form.Move size i) e d found ready did = absurd (value_did (Symbol i) d (subst (λ (x : EffectShape). Act x.act d) (sym (where_is _ (undivided (Value (Symbol i))) e found).1) did))
   form_did (form.Add i j) e d found ready did =
-      absurd (value_did (Binary binary.Add (Symbol i) (Symbol j)) d (subst (λ (x : EffectShape). Act x.act d) (sym (where_is _ (sum i j) e found).1) did))
+      absurd (value_did (Binary binary_op.Add (Symbol i) (Symbol j)) d (subst (λ (x : EffectShape). Act x.act d) (sym (where_is _ (sum i j) e found).1) did))
   form_did (form.Divide i j) e d found ready did =
-      absurd (value_did (Binary binary.Div (Symbol i) (Symbol j)) d (subst (λ (x : EffectShape). Act x.act d) (sym (where_is _ (quotient i j) e found).1) did))
+      absurd (value_did (Binary binary_op.Div (Symbol i) (Symbol j)) d (subst (λ (x : EffectShape). Act x.act d) (sym (where_is _ (quotient i j) e found).1) did))
   form_did (form.Address i) e d found ready did = absurd (none_some e found)
   form_did (form.Store size i j) e d found ready did =
       let w = where_is _ (undivided (StoreHome size i (Symbol j))) e found in
@@ -696,25 +696,25 @@ module _ (q : TreeProgram) (f : Extent) (fs : List Extent) (classes : List Class
   no_deed Jump d h did = h
 
   shape_did : (k : Option Kind) (g : ShapeForm) (e : EffectShape) (d : Deed) → found_shape classes rule.right k g ≡ Some e → Act e.act d → ⊥
-  shape_did None (shape.Alone i) e d found did = none_some e found
-  shape_did None (shape.Based i) e d found did = none_some e found
-  shape_did (Some kind.Reg) (shape.Alone i) e d found did =
+  shape_did None (shape_form.Alone i) e d found did = none_some e found
+  shape_did None (shape_form.Based i) e d found did = none_some e found
+  shape_did (Some kind.Reg) (shape_form.Alone i) e d found did =
       no_deed (Value (Symbol i)) d tt (subst (λ (x : EffectShape). Act x.act d) (sym (where_is _ (undivided (Value (Symbol i))) e found).1) did)
-  shape_did (Some kind.Reg) (shape.Based i) e d found did = none_some e found
-  shape_did (Some kind.Con) (shape.Alone i) e d found did =
+  shape_did (Some kind.Reg) (shape_form.Based i) e d found did = none_some e found
+  shape_did (Some kind.Con) (shape_form.Alone i) e d found did =
       no_deed (Number (Symbol i)) d tt (subst (λ (x : EffectShape). Act x.act d) (sym (where_is _ (undivided (Number (Symbol i))) e found).1) did)
-  shape_did (Some kind.Con) (shape.Based i) e d found did = none_some e found
-  shape_did (Some kind.Ea) (shape.Alone i) e d found did = none_some e found
-  shape_did (Some kind.Ea) (shape.Based i) e d found did =
+  shape_did (Some kind.Con) (shape_form.Based i) e d found did = none_some e found
+  shape_did (Some kind.Ea) (shape_form.Alone i) e d found did = none_some e found
+  shape_did (Some kind.Ea) (shape_form.Based i) e d found did =
       no_deed (Address (Symbol i)) d tt (subst (λ (x : EffectShape). Act x.act d) (sym (where_is _ (undivided (Address (Symbol i))) e found).1) did)
-  shape_did (Some kind.Nothing) (shape.Alone i) e d found did = none_some e found
-  shape_did (Some kind.Nothing) (shape.Based i) e d found did = none_some e found
-  shape_did (Some (kind.Value size)) (shape.Alone i) e d found did = none_some e found
-  shape_did (Some (kind.Value size)) (shape.Based i) e d found did =
+  shape_did (Some kind.Nothing) (shape_form.Alone i) e d found did = none_some e found
+  shape_did (Some kind.Nothing) (shape_form.Based i) e d found did = none_some e found
+  shape_did (Some (kind.Value size)) (shape_form.Alone i) e d found did = none_some e found
+  shape_did (Some (kind.Value size)) (shape_form.Based i) e d found did =
       no_deed (Value (Memory size (Symbol i))) d tt (subst (λ (x : EffectShape). Act x.act d) (sym (where_is _ (undivided (Value (Memory size (Symbol i)))) e found).1) did)
-  shape_did (Some (kind.Place size)) (shape.Alone i) e d found did =
+  shape_did (Some (kind.Place size)) (shape_form.Alone i) e d found did =
       no_deed (PlaceHome size i) d tt (subst (λ (x : EffectShape). Act x.act d) (sym (where_is _ (undivided (PlaceHome size i)) e found).1) did)
-  shape_did (Some (kind.Place size)) (shape.Based i) e d found did =
+  shape_did (Some (kind.Place size)) (shape_form.Based i) e d found did =
       no_deed (PlaceAt size (Symbol i)) d tt (subst (λ (x : EffectShape). Act x.act d) (sym (where_is _ (undivided (PlaceAt size (Symbol i))) e found).1) did)
 
   pub did_by : (e : EffectShape) (d : Deed) → Taken classes rule e → R e → Act e.act d → Did (lines_of toy q rule hs res) d

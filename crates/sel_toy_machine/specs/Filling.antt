@@ -22,7 +22,7 @@ use Rattle.sel_toy_machine.specs.declared.operand.Instr.TheVariants as instructi
 use Rattle.sel_toy_machine.specs.declared.form.Form.{Form}
 use Rattle.sel_toy_machine.specs.declared.form.Form.TheVariants as form
 use Rattle.sel_toy_machine.specs.declared.form.ShapeForm.{ShapeForm}
-use Rattle.sel_toy_machine.specs.declared.form.ShapeForm.TheVariants as shape
+use Rattle.sel_toy_machine.specs.declared.form.ShapeForm.TheVariants as shape_form
 use Rattle.sel_toy_machine.specs.Forms.{form_of, shape_of}
 
 -- what stands for no operand
@@ -122,8 +122,8 @@ abbrev pub instr : TreeProgram → Line → List (Attr Operand) → Attr Operand
 instr q l hs zero = filled q (form_of l.pieces) hs zero
 
 abbrev pub shaped : TreeProgram → ShapeForm → List (Attr Operand) → Operand
-shaped q (shape.Alone i) hs = operand_at q hs i
-shaped q (shape.Based i) hs = based (operand_at q hs i)
+shaped q (shape_form.Alone i) hs = operand_at q hs i
+shaped q (shape_form.Based i) hs = based (operand_at q hs i)
 
 abbrev pub operand_filled : TreeProgram → Line → List (Attr Operand) → Operand
 operand_filled q l hs = shaped q (shape_of l.pieces) hs

@@ -12,7 +12,7 @@ use Rattle.sel_terms.specs.RuleFacts.{size_at}
 use Rattle.sel_toy_machine.specs.declared.form.Form.{Form}
 use Rattle.sel_toy_machine.specs.declared.form.Form.TheVariants as form
 use Rattle.sel_toy_machine.specs.declared.form.ShapeForm.{ShapeForm}
-use Rattle.sel_toy_machine.specs.declared.form.ShapeForm.TheVariants as shape
+use Rattle.sel_toy_machine.specs.declared.form.ShapeForm.TheVariants as shape_form
 
 -- the letter that a line begins with
 abbrev pub letter : List Piece → ℕ
@@ -58,8 +58,8 @@ form_of ps = form_by (letter ps) (nth_hole ps 0) (nth_hole ps 1) (nth_hole ps 2)
 
 -- one hole, perhaps between other pieces
 abbrev pub shape_of : List Piece → ShapeForm
-shape_of (piece.Hole i ∷ ps) = shape.Alone i
-shape_of ps = shape.Based (nth_hole ps 0)
+shape_of (piece.Hole i ∷ ps) = shape_form.Alone i
+shape_of ps = shape_form.Based (nth_hole ps 0)
 
 -- a symbol of a right side, from 1
 abbrev pub is_symbol : List Sym → ℕ → Bool

@@ -3,7 +3,7 @@ use Rattle.std.specs.Prelude.{ℕ, zero, suc, List, [], ◌∷◌, codes, Option
 use Rattle.gg_base.specs.declared.size.Size.TheVariants.{Long}
 use Rattle.tree_core.specs.declared.token.Tok.TheVariants as tok
 use Rattle.tree_core.specs.declared.tree.Att.TheVariants as att
-use Rattle.tree_core.specs.declared.program.TreeItem.TheVariants as item
+use Rattle.tree_core.specs.declared.program.TreeItem.TheVariants as tree_item
 use Rattle.tree_core.specs.declared.program.TreeFn.{TreeFn}
 use Rattle.tree_core.specs.declared.program.TreeProgram.{TreeProgram}
 use Rattle.tree_core.specs.Attributes.{end_leaf}
@@ -11,7 +11,7 @@ use Rattle.tree_meaning.specs.State.{begun}
 use Rattle.md_reader_pieces.specs.declared.piece.Piece.TheVariants as piece
 use Rattle.md_reader.specs.declared.types.Kind.TheVariants as kind
 use Rattle.md_reader.specs.declared.types.Class.{Class}
-use Rattle.md_reader.specs.declared.types.Sym.TheVariants as sym
+use Rattle.md_reader.specs.declared.types.Sym.TheVariants as grammar_symbol
 use Rattle.md_reader.specs.declared.types.Give.TheVariants as give
 use Rattle.md_reader.specs.declared.types.Rule.{Rule}
 use Rattle.sel_target.specs.declared.attr.Attr.{Attr}
@@ -32,7 +32,8 @@ main = record {
   name = codes "main";
   args = 0;
   locals = 0;
-  items = item.Root (record { tok = tok.Ret; att = att.Nothing } ∷ (record { tok = tok.Zero; att = att.Number 0 } ∷ (end_leaf ∷ []))) ∷ [];
+  items = tree_item.Root (record { tok = tok.Ret; att = att.Nothing } ∷
+      (record { tok = tok.Zero; att = att.Number 0 } ∷ (end_leaf ∷ []))) ∷ [];
 }
 
 abbrev pub program : TreeProgram
@@ -47,7 +48,7 @@ classes = record { name = codes "reg"; kind = kind.Reg } ∷ record { name = cod
 abbrev pub rule : Rule
 rule = record {
   left = 0;
-  right = sym.Tok tok.Plus ∷ sym.Class 1 ∷ sym.Class 1 ∷ [];
+  right = grammar_symbol.Tok tok.Plus ∷ grammar_symbol.Class 1 ∷ grammar_symbol.Class 1 ∷ [];
   restrictions = [];
   lines = record {
     line = 1;

@@ -11,26 +11,26 @@ use Rattle.md_reader.specs.declared.types.Kind.{Kind}
 use Rattle.md_reader.specs.declared.types.Kind.TheVariants as kind
 use Rattle.md_reader.specs.declared.types.Class.{Class}
 use Rattle.md_reader.specs.declared.types.Sym.{Sym}
-use Rattle.md_reader.specs.declared.types.Sym.TheVariants as sym
+use Rattle.md_reader.specs.declared.types.Sym.TheVariants as grammar_symbol
 use Rattle.md_reader.specs.declared.types.Give.{Give}
 use Rattle.md_reader.specs.declared.types.Give.TheVariants as give
 use Rattle.md_reader.specs.declared.types.Rule.{Rule}
 use Rattle.md_reader.specs.Patterns.{kind_at}
-use Rattle.term_core.specs.declared.operator.BinaryOp.TheVariants as binary
+use Rattle.term_core.specs.declared.operator.BinaryOp.TheVariants as binary_op
 use Rattle.term_core.specs.Shape.{Symbol, Memory, Binary}
 use Rattle.sel_terms.specs.Effects.{ActShape, EffectShape, Value, Number, Address, PlaceHome, PlaceAt, StoreHome}
 use Rattle.sel_terms.specs.Effects.{StoreAt, Branch, Push, Call, Save, Return, Jump}
-use Rattle.sel_target.specs.declared.fault.TemplateKind.TheVariants as faults
+use Rattle.sel_target.specs.declared.fault.TemplateKind.TheVariants as template_kind
 use Rattle.sel_target.specs.Meaning.{Fault}
 use Rattle.sel_target.specs.EffectTerms.{begins_with_save}
 use Rattle.sel_toy_machine.specs.declared.form.Form.{Form}
 use Rattle.sel_toy_machine.specs.declared.form.Form.TheVariants as form
 use Rattle.sel_toy_machine.specs.declared.form.ShapeForm.{ShapeForm}
-use Rattle.sel_toy_machine.specs.declared.form.ShapeForm.TheVariants as shape
+use Rattle.sel_toy_machine.specs.declared.form.ShapeForm.TheVariants as shape_form
 use Rattle.sel_toy_machine.specs.Forms.{form_of, shape_of, is_sized}
 
 abbrev pub fault_at : ℕ → Fault
-fault_at line = record { line = line; kind = faults.NotInstr }
+fault_at line = record { line = line; kind = template_kind.NotInstr }
 
 abbrev pub or_fault : ℕ → Option EffectShape → Result EffectShape Fault
 or_fault line None = Err (fault_at line)
@@ -48,10 +48,10 @@ gives_register give.Reuse = true
 gives_register g = false
 
 abbrev pub sum : ℕ → ℕ → EffectShape
-sum i j = undivided (Value (Binary binary.Add (Symbol i) (Symbol j)))
+sum i j = undivided (Value (Binary binary_op.Add (Symbol i) (Symbol j)))
 
 abbrev pub quotient : ℕ → ℕ → EffectShape
-quotient i j = record { act = Value (Binary binary.Div (Symbol i) (Symbol j)); divisors = Symbol j ∷ [] }
+quotient i j = record { act = Value (Binary binary_op.Div (Symbol i) (Symbol j)); divisors = Symbol j ∷ [] }
 
 abbrev pub gives_nothing : Give → Bool
 gives_nothing give.Nothing = true
@@ -74,13 +74,13 @@ is_slot x = false
 -- the symbol is a register's, or a place of the size
 abbrev pub holds_register : List Class → Option Sym → Bool
 holds_register classes None = false
-holds_register classes (Some (sym.Tok x)) = false
-holds_register classes (Some (sym.Class c)) = is_register (kind_at classes c)
+holds_register classes (Some (grammar_symbol.Tok x)) = false
+holds_register classes (Some (grammar_symbol.Class c)) = is_register (kind_at classes c)
 
 abbrev pub is_home : List Class → Size → Option Sym → Bool
 is_home classes size None = false
-is_home classes size (Some (sym.Tok x)) = is_slot x && (bytes_of size == bytes_of Long)
-is_home classes size (Some (sym.Class c)) = is_place_of size (kind_at classes c)
+is_home classes size (Some (grammar_symbol.Tok x)) = is_slot x && (bytes_of size == bytes_of Long)
+is_home classes size (Some (grammar_symbol.Class c)) = is_place_of size (kind_at classes c)
 
 abbrev pub symbol : List Sym → ℕ → Option Sym
 symbol right zero = None
@@ -120,16 +120,16 @@ found_line classes rule (Some f) = found_form classes rule f
 
 -- what a shape gives, by the kind of its class
 abbrev pub found_shape : List Class → List Sym → Option Kind → ShapeForm → Option EffectShape
-found_shape classes right (Some kind.Reg) (shape.Alone i) = where_true (holds_register classes (symbol right i))
+found_shape classes right (Some kind.Reg) (shape_form.Alone i) = where_true (holds_register classes (symbol right i))
     (undivided (Value (Symbol i)))
-found_shape classes right (Some kind.Con) (shape.Alone i) = where_true (is_sized classes right Long i) (undivided (Number (Symbol i)))
-found_shape classes right (Some (kind.Place size)) (shape.Alone i) = where_true (is_home classes size (symbol right i))
+found_shape classes right (Some kind.Con) (shape_form.Alone i) = where_true (is_sized classes right Long i) (undivided (Number (Symbol i)))
+found_shape classes right (Some (kind.Place size)) (shape_form.Alone i) = where_true (is_home classes size (symbol right i))
     (undivided (PlaceHome size i))
-found_shape classes right (Some (kind.Value size)) (shape.Based i) = where_true (holds_register classes (symbol right i))
+found_shape classes right (Some (kind.Value size)) (shape_form.Based i) = where_true (holds_register classes (symbol right i))
     (undivided (Value (Memory size (Symbol i))))
-found_shape classes right (Some (kind.Place size)) (shape.Based i) = where_true (holds_register classes (symbol right i))
+found_shape classes right (Some (kind.Place size)) (shape_form.Based i) = where_true (holds_register classes (symbol right i))
     (undivided (PlaceAt size (Symbol i)))
-found_shape classes right (Some kind.Ea) (shape.Based i) = where_true (holds_register classes (symbol right i))
+found_shape classes right (Some kind.Ea) (shape_form.Based i) = where_true (holds_register classes (symbol right i))
     (undivided (Address (Symbol i)))
 found_shape classes right k f = None
 

@@ -3,12 +3,12 @@ use Rattle.std.specs.Prelude.{◌≡◌, ◌⊎◌, ℕ, ◌==◌, ◌&&◌, ◌
 use Rattle.gg_base.specs.declared.size.Size.{Size}
 use Rattle.tree_core.specs.Area.{is_inside}
 use Rattle.term_core.specs.declared.operator.BinaryOp.{BinaryOp}
-use Rattle.term_core.specs.declared.operator.BinaryOp.TheVariants as binary
+use Rattle.term_core.specs.declared.operator.BinaryOp.TheVariants as binary_op
 use Rattle.term_core.specs.Shape.{Shape, Constant, Symbol, LastResult, Memory, Unary, Binary}
 use Rattle.term_core.specs.Value.{State, value}
 
 abbrev pub is_division : BinaryOp → Bool
-is_division binary.Div = true
+is_division binary_op.Div = true
 is_division op = false
 
 -- no part of a term divides by zero

@@ -7,51 +7,51 @@ use Rattle.tree_core.specs.declared.tree.Att.{Att}
 use Rattle.tree_core.specs.declared.tree.Att.TheVariants as att
 use Rattle.tree_core.specs.declared.tree.Leaf.{Leaf}
 use Rattle.tree_core.specs.declared.token.AttKind.{AttKind}
-use Rattle.tree_core.specs.declared.token.AttKind.TheVariants as kind
+use Rattle.tree_core.specs.declared.token.AttKind.TheVariants as att_kind
 use Rattle.tree_core.specs.Grammar.{sort_of}
 
 -- the kind of attribute that each token has
 abbrev pub attribute_of : Tok → AttKind
-attribute_of tok.Zero = kind.Own 0
-attribute_of tok.One = kind.Own 1
-attribute_of tok.Two = kind.Own 2
-attribute_of tok.Four = kind.Own 4
-attribute_of tok.Eight = kind.Own 8
-attribute_of tok.Const = kind.Other
-attribute_of tok.Gaddr = kind.Object
-attribute_of tok.Loc = kind.Local
-attribute_of tok.Arg = kind.Argument
-attribute_of tok.IndirB = kind.Nothing
-attribute_of tok.IndirW = kind.Nothing
-attribute_of tok.IndirL = kind.Nothing
-attribute_of tok.Plus = kind.Nothing
-attribute_of tok.Minus = kind.Nothing
-attribute_of tok.Mul = kind.Nothing
-attribute_of tok.Div = kind.Nothing
-attribute_of tok.Mod = kind.Nothing
-attribute_of tok.And = kind.Nothing
-attribute_of tok.Or = kind.Nothing
-attribute_of tok.Xor = kind.Nothing
-attribute_of tok.Lsh = kind.Nothing
-attribute_of tok.Rsh = kind.Nothing
-attribute_of tok.Neg = kind.Nothing
-attribute_of tok.Com = kind.Nothing
-attribute_of tok.Sxb = kind.Nothing
-attribute_of tok.Zxb = kind.Nothing
-attribute_of tok.Sxw = kind.Nothing
-attribute_of tok.Zxw = kind.Nothing
-attribute_of tok.Ncb = kind.Nothing
-attribute_of tok.Ncw = kind.Nothing
-attribute_of tok.AssignB = kind.Nothing
-attribute_of tok.AssignW = kind.Nothing
-attribute_of tok.AssignL = kind.Nothing
-attribute_of tok.Cbr = kind.Branch
-attribute_of tok.Push = kind.Nothing
-attribute_of tok.Ret = kind.Nothing
-attribute_of tok.Call = kind.Callee
-attribute_of tok.Save = kind.Local
-attribute_of tok.Jump = kind.Label
-attribute_of tok.End = kind.Nothing
+attribute_of tok.Zero = att_kind.Own 0
+attribute_of tok.One = att_kind.Own 1
+attribute_of tok.Two = att_kind.Own 2
+attribute_of tok.Four = att_kind.Own 4
+attribute_of tok.Eight = att_kind.Own 8
+attribute_of tok.Const = att_kind.Other
+attribute_of tok.Gaddr = att_kind.Object
+attribute_of tok.Loc = att_kind.Local
+attribute_of tok.Arg = att_kind.Argument
+attribute_of tok.IndirB = att_kind.Nothing
+attribute_of tok.IndirW = att_kind.Nothing
+attribute_of tok.IndirL = att_kind.Nothing
+attribute_of tok.Plus = att_kind.Nothing
+attribute_of tok.Minus = att_kind.Nothing
+attribute_of tok.Mul = att_kind.Nothing
+attribute_of tok.Div = att_kind.Nothing
+attribute_of tok.Mod = att_kind.Nothing
+attribute_of tok.And = att_kind.Nothing
+attribute_of tok.Or = att_kind.Nothing
+attribute_of tok.Xor = att_kind.Nothing
+attribute_of tok.Lsh = att_kind.Nothing
+attribute_of tok.Rsh = att_kind.Nothing
+attribute_of tok.Neg = att_kind.Nothing
+attribute_of tok.Com = att_kind.Nothing
+attribute_of tok.Sxb = att_kind.Nothing
+attribute_of tok.Zxb = att_kind.Nothing
+attribute_of tok.Sxw = att_kind.Nothing
+attribute_of tok.Zxw = att_kind.Nothing
+attribute_of tok.Ncb = att_kind.Nothing
+attribute_of tok.Ncw = att_kind.Nothing
+attribute_of tok.AssignB = att_kind.Nothing
+attribute_of tok.AssignW = att_kind.Nothing
+attribute_of tok.AssignL = att_kind.Nothing
+attribute_of tok.Cbr = att_kind.Branch
+attribute_of tok.Push = att_kind.Nothing
+attribute_of tok.Ret = att_kind.Nothing
+attribute_of tok.Call = att_kind.Callee
+attribute_of tok.Save = att_kind.Local
+attribute_of tok.Jump = att_kind.Label
+attribute_of tok.End = att_kind.Nothing
 
 -- the constants that have tokens of their own
 abbrev pub own_constants : List ℕ
@@ -59,15 +59,15 @@ own_constants = 0 ∷ 1 ∷ 2 ∷ 4 ∷ 8 ∷ []
 
 -- an attribute is of the kind, and in its range
 abbrev pub is_of_kind : AttKind → Att → Bool
-is_of_kind kind.Nothing att.Nothing = true
-is_of_kind (kind.Own k) (att.Number n) = n == k
-is_of_kind kind.Other (att.Number n) = not (list_any (λ k. n == k) own_constants)
-is_of_kind kind.Object (att.Object object offset) = not (offset == 2147483648)
-is_of_kind kind.Local (att.Slot n) = true
-is_of_kind kind.Argument (att.Slot n) = nat_le 1 n && nat_le n 255
-is_of_kind kind.Branch (att.Branch rel label) = true
-is_of_kind kind.Label (att.Label label) = true
-is_of_kind kind.Callee (att.Callee function count) = nat_le count 255
+is_of_kind att_kind.Nothing att.Nothing = true
+is_of_kind (att_kind.Own k) (att.Number n) = n == k
+is_of_kind att_kind.Other (att.Number n) = not (list_any (λ k. n == k) own_constants)
+is_of_kind att_kind.Object (att.Object object offset) = not (offset == 2147483648)
+is_of_kind att_kind.Local (att.Slot n) = true
+is_of_kind att_kind.Argument (att.Slot n) = nat_le 1 n && nat_le n 255
+is_of_kind att_kind.Branch (att.Branch rel label) = true
+is_of_kind att_kind.Label (att.Label label) = true
+is_of_kind att_kind.Callee (att.Callee function count) = nat_le count 255
 is_of_kind k a = false
 
 -- a leaf's attribute fits its token

@@ -7,7 +7,7 @@ use Rattle.tree_core.specs.declared.tree.Att.{Att}
 use Rattle.tree_core.specs.declared.tree.Att.TheVariants as att
 use Rattle.tree_core.specs.declared.tree.Leaf.{Leaf}
 use Rattle.tree_core.specs.declared.program.TreeItem.{TreeItem}
-use Rattle.tree_core.specs.declared.program.TreeItem.TheVariants as item
+use Rattle.tree_core.specs.declared.program.TreeItem.TheVariants as tree_item
 use Rattle.tree_core.specs.declared.program.TreeFn.{TreeFn}
 use Rattle.tree_core.specs.declared.items.Mention.{Mention}
 use Rattle.tree_core.specs.declared.items.Mention.TheVariants as mention
@@ -30,10 +30,10 @@ target_of_leaves (l ∷ w) = target_of l.att
 
 -- the label that stands there, and the label of the branch or jump that stands there
 abbrev pub label_in : Mention → TreeItem → Option ℕ
-label_in mention.Stands (item.Label label) = Some label
-label_in mention.Stands (item.Root w) = None
-label_in mention.Target (item.Label label) = None
-label_in mention.Target (item.Root w) = target_of_leaves w
+label_in mention.Stands (tree_item.Label label) = Some label
+label_in mention.Stands (tree_item.Root w) = None
+label_in mention.Target (tree_item.Label label) = None
+label_in mention.Target (tree_item.Root w) = target_of_leaves w
 
 -- the labels that stand in a function, and those to which its branches and jumps go
 abbrev pub labels : Mention → List TreeItem → List ℕ
@@ -68,8 +68,8 @@ role_of_leaves [] = role.Other
 role_of_leaves (l ∷ w) = role_of_token l.tok l.att
 
 abbrev pub role_of : TreeItem → Role
-role_of (item.Label label) = role.Other
-role_of (item.Root w) = role_of_leaves w
+role_of (tree_item.Label label) = role.Other
+role_of (tree_item.Root w) = role_of_leaves w
 
 -- all items push
 abbrev pub AllPush : List TreeItem → Type 0

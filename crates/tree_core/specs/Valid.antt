@@ -4,7 +4,7 @@ use Rattle.std.specs.Prelude.{◌∷◌, Option, Some, None, Bool, true, false, 
 use Rattle.std.specs.List.{All, AllPass, AllPairs, flat_map}
 use Rattle.std.specs.Str.{bytes_eq}
 use Rattle.tree_core.specs.declared.token.AttKind.{AttKind}
-use Rattle.tree_core.specs.declared.token.AttKind.TheVariants as kind
+use Rattle.tree_core.specs.declared.token.AttKind.TheVariants as att_kind
 use Rattle.tree_core.specs.declared.token.Sort.TheVariants as sort
 use Rattle.tree_core.specs.declared.tree.Att.{Att}
 use Rattle.tree_core.specs.declared.tree.Att.TheVariants as att
@@ -12,7 +12,7 @@ use Rattle.tree_core.specs.declared.tree.Leaf.{Leaf}
 use Rattle.tree_core.specs.declared.program.Link.{Link}
 use Rattle.tree_core.specs.declared.program.Object.{Object}
 use Rattle.tree_core.specs.declared.program.TreeItem.{TreeItem}
-use Rattle.tree_core.specs.declared.program.TreeItem.TheVariants as item
+use Rattle.tree_core.specs.declared.program.TreeItem.TheVariants as tree_item
 use Rattle.tree_core.specs.declared.program.TreeFn.{TreeFn}
 use Rattle.tree_core.specs.declared.program.TreeProgram.{TreeProgram}
 use Rattle.tree_core.specs.Attributes.{attribute_of}
@@ -47,10 +47,10 @@ takes (Some args) count = args == count
 
 -- a leaf names a local or an argument of its function, an object of the program, or a function or service with its number of arguments
 abbrev pub names : List TreeFn → ℕ → TreeFn → AttKind → Att → Bool
-names fs objects f kind.Local (att.Slot n) = nat_lt n f.locals
-names fs objects f kind.Argument (att.Slot n) = nat_le n f.args
-names fs objects f kind.Object (att.Object object offset) = nat_lt object objects
-names fs objects f kind.Callee (att.Callee function count) = takes (args_of fs function) count
+names fs objects f att_kind.Local (att.Slot n) = nat_lt n f.locals
+names fs objects f att_kind.Argument (att.Slot n) = nat_le n f.args
+names fs objects f att_kind.Object (att.Object object offset) = nat_lt object objects
+names fs objects f att_kind.Callee (att.Callee function count) = takes (args_of fs function) count
 names fs objects f k a = true
 
 abbrev pub leaf_names : List TreeFn → ℕ → TreeFn → Leaf → Bool
@@ -58,8 +58,8 @@ leaf_names fs objects f l = names fs objects f (attribute_of l.tok) l.att
 
 -- a root is a typed statement, whose leaves name what is there
 abbrev pub ItemStands : List TreeFn → ℕ → TreeFn → TreeItem → Type 0
-ItemStands fs objects f (item.Label label) = Unit {0}
-ItemStands fs objects f (item.Root w) = IsTyped w sort.Stmt × AllPass (leaf_names fs objects f) w
+ItemStands fs objects f (tree_item.Label label) = Unit {0}
+ItemStands fs objects f (tree_item.Root w) = IsTyped w sort.Stmt × AllPass (leaf_names fs objects f) w
 
 abbrev pub ItemsStand : List TreeFn → ℕ → TreeFn → Type 0
 ItemsStand fs objects f = All (ItemStands fs objects f) f.items

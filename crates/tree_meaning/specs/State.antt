@@ -2,7 +2,7 @@
 use Rattle.std.specs.Prelude.{ℕ, ◌==◌, List, [], ◌∷◌, Option, Some, None, cond}
 use Rattle.tree_core.specs.declared.tree.Leaf.{Leaf}
 use Rattle.tree_core.specs.declared.program.TreeItem.{TreeItem}
-use Rattle.tree_core.specs.declared.program.TreeItem.TheVariants as item
+use Rattle.tree_core.specs.declared.program.TreeItem.TheVariants as tree_item
 use Rattle.tree_core.specs.declared.program.TreeFn.{TreeFn}
 use Rattle.tree_meaning.specs.declared.machine.Finish.{Finish}
 use Rattle.tree_meaning.specs.declared.machine.Finish.TheVariants as finish
@@ -43,8 +43,8 @@ behind_if None l is rest = rest
 behind_if (Some m) l is rest = cond (m == l) is rest
 
 abbrev pub label_of : TreeItem → Option ℕ
-label_of (item.Label l) = Some l
-label_of (item.Root w) = None
+label_of (tree_item.Label l) = Some l
+label_of (tree_item.Root w) = None
 
 abbrev pub behind : List TreeItem → ℕ → List TreeItem
 behind [] l = []
@@ -53,8 +53,8 @@ behind (i ∷ is) l = behind_if (label_of i) l is (behind is l)
 -- the root that comes first among items, behind labels, and the items behind it
 abbrev pub ahead : List TreeItem → Option (List Leaf × List TreeItem)
 ahead [] = None
-ahead (item.Label l ∷ is) = ahead is
-ahead (item.Root w ∷ is) = Some (w, is)
+ahead (tree_item.Label l ∷ is) = ahead is
+ahead (tree_item.Root w ∷ is) = Some (w, is)
 
 -- where a run comes to: its end, or a tree
 pub data Next : Type 0 where

@@ -1,7 +1,7 @@
 -- The value of a tree: a number, a zero divisor or a wild access, whichever comes first from left to right.
 use Rattle.std.specs.Prelude.{ℕ, ◌-◌, List, [], ◌∷◌, Option, Some, None, slice_get}
 use Rattle.gg_base.specs.declared.size.Size.{Size}
-use Rattle.gg_base.specs.declared.size.Size.TheVariants as size
+use Rattle.gg_base.specs.declared.size.Size.TheVariants as sizes
 use Rattle.gg_base.specs.Arithmetic.{add32}
 use Rattle.tree_core.specs.declared.token.Tok.{Tok}
 use Rattle.tree_core.specs.declared.token.Tok.TheVariants as tok
@@ -102,9 +102,9 @@ module _ (objects : List Object) (s : Sight) where
   token_means tok.Gaddr a v w = object_at objects a
   token_means tok.Loc a v w = slot Local a
   token_means tok.Arg a v w = slot Argument a
-  token_means tok.IndirB a v w = at size.Byte v
-  token_means tok.IndirW a v w = at size.Word v
-  token_means tok.IndirL a v w = at size.Long v
+  token_means tok.IndirB a v w = at sizes.Byte v
+  token_means tok.IndirW a v w = at sizes.Word v
+  token_means tok.IndirL a v w = at sizes.Long v
   token_means tok.Plus a v w = two v w (operated tok.Plus)
   token_means tok.Minus a v w = two v w (operated tok.Minus)
   token_means tok.Mul a v w = two v w (operated tok.Mul)

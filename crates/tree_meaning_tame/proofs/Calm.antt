@@ -1,7 +1,7 @@
 -- In a calm tree that traps no part is wild.
 use Rattle.std.proofs.Common.{◌≡◌, ◌⊎◌, inl, inr, ℕ, suc, ◌-◌, List, [], ◌∷◌, Option, Some, None, Bool, true, false, refl, sym, ap, ◌∙◌, subst, slice_get}
 use Rattle.gg_base.specs.declared.size.Size.{Size}
-use Rattle.gg_base.specs.declared.size.Size.TheVariants as size
+use Rattle.gg_base.specs.declared.size.Size.TheVariants as sizes
 use Rattle.gg_base.specs.Arithmetic.{div32}
 use Rattle.tree_core.specs.declared.token.Tok.{Tok}
 use Rattle.tree_core.specs.declared.token.Tok.TheVariants as tok
@@ -211,9 +211,9 @@ module _ (objects : List Object) (s : Sight) where
   token_follows tok.Gaddr a gs some = leaf_follows (fate_of_value (read s (token_means objects s tok.Gaddr a Wild Wild))) (object_no_zero a)
   token_follows tok.Loc a gs some = leaf_follows (fate_of_place (Some (token_means objects s tok.Loc a Wild Wild))) (local_no_zero a)
   token_follows tok.Arg a gs some = leaf_follows (fate_of_place (Some (token_means objects s tok.Arg a Wild Wild))) (argument_no_zero a)
-  token_follows tok.IndirB a gs some = at_follows size.Byte (kid s (slice_get gs 0))
-  token_follows tok.IndirW a gs some = at_follows size.Word (kid s (slice_get gs 0))
-  token_follows tok.IndirL a gs some = at_follows size.Long (kid s (slice_get gs 0))
+  token_follows tok.IndirB a gs some = at_follows sizes.Byte (kid s (slice_get gs 0))
+  token_follows tok.IndirW a gs some = at_follows sizes.Word (kid s (slice_get gs 0))
+  token_follows tok.IndirL a gs some = at_follows sizes.Long (kid s (slice_get gs 0))
   token_follows tok.Plus a gs some = two_follows false (kid s (slice_get gs 0)) (kid s (slice_get gs 1)) (operated tok.Plus) (λ x y e. absurd (cc))
   token_follows tok.Minus a gs some = two_follows false (kid s (slice_get gs 0)) (kid s (slice_get gs 1)) (operated tok.Minus) (λ x y e. absurd (cc))
   token_follows tok.Mul a gs some = two_follows false (kid s (slice_get gs 0)) (kid s (slice_get gs 1)) (operated tok.Mul) (λ x y e. absurd (cc))

@@ -1,7 +1,7 @@
 -- What a tree means where more is seen: the same, or the first sight strays.
 use Rattle.std.proofs.Common.{◌≡◌, ◌⊎◌, inl, inr, ℕ, zero, suc, ◌-◌, List, Option, Some, None, refl, sym, ap, ◌∙◌, subst, slice_get}
 use Rattle.gg_base.specs.declared.size.Size.{Size}
-use Rattle.gg_base.specs.declared.size.Size.TheVariants as size
+use Rattle.gg_base.specs.declared.size.Size.TheVariants as sizes
 use Rattle.tree_core.specs.declared.token.Tok.{Tok}
 use Rattle.tree_core.specs.declared.token.Tok.TheVariants as tok
 use Rattle.tree_core.specs.declared.tree.Att.{Att}
@@ -84,9 +84,9 @@ module _ (objects : List Object) (s t : Sight) (c : Completes s t) where
   token_grows tok.Gaddr a v w v' w' e f = inr refl
   token_grows tok.Loc a v w v' w' e f = inr refl
   token_grows tok.Arg a v w v' w' e f = inr refl
-  token_grows tok.IndirB a v w v' w' e f = at_grows size.Byte v v' e
-  token_grows tok.IndirW a v w v' w' e f = at_grows size.Word v v' e
-  token_grows tok.IndirL a v w v' w' e f = at_grows size.Long v v' e
+  token_grows tok.IndirB a v w v' w' e f = at_grows sizes.Byte v v' e
+  token_grows tok.IndirW a v w v' w' e f = at_grows sizes.Word v v' e
+  token_grows tok.IndirL a v w v' w' e f = at_grows sizes.Long v v' e
   token_grows tok.Plus a v w v' w' e f = two_grows v w v' w' (operated tok.Plus) e f
   token_grows tok.Minus a v w v' w' e f = two_grows v w v' w' (operated tok.Minus) e f
   token_grows tok.Mul a v w v' w' e f = two_grows v w v' w' (operated tok.Mul) e f

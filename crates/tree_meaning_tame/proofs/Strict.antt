@@ -1,7 +1,7 @@
 -- A tree that has a value has one in all its parts.
 use Rattle.std.proofs.Common.{◌≡◌, ◌⊎◌, inl, inr, ℕ, suc, List, [], ◌∷◌, Option, Some, None, refl, slice_get}
 use Rattle.gg_base.specs.declared.size.Size.{Size}
-use Rattle.gg_base.specs.declared.size.Size.TheVariants as size
+use Rattle.gg_base.specs.declared.size.Size.TheVariants as sizes
 use Rattle.tree_core.specs.declared.token.Tok.{Tok}
 use Rattle.tree_core.specs.declared.token.Tok.TheVariants as tok
 use Rattle.tree_core.specs.declared.token.Sort.{Sort}
@@ -174,9 +174,9 @@ module _ (objects : List Object) (s : Sight) where
   token_down tok.Gaddr a gs h = tt
   token_down tok.Loc a gs h = tt
   token_down tok.Arg a gs h = tt
-  token_down tok.IndirB a gs h = (at_down size.Byte (kid s (slice_get gs 0)) h, tt)
-  token_down tok.IndirW a gs h = (at_down size.Word (kid s (slice_get gs 0)) h, tt)
-  token_down tok.IndirL a gs h = (at_down size.Long (kid s (slice_get gs 0)) h, tt)
+  token_down tok.IndirB a gs h = (at_down sizes.Byte (kid s (slice_get gs 0)) h, tt)
+  token_down tok.IndirW a gs h = (at_down sizes.Word (kid s (slice_get gs 0)) h, tt)
+  token_down tok.IndirL a gs h = (at_down sizes.Long (kid s (slice_get gs 0)) h, tt)
   token_down tok.Plus a gs h = (let e = two_down (kid s (slice_get gs 0)) (kid s (slice_get gs 1)) (operated tok.Plus) h in (e.0, (e.1, tt)))
   token_down tok.Minus a gs h = (let e = two_down (kid s (slice_get gs 0)) (kid s (slice_get gs 1)) (operated tok.Minus) h in (e.0, (e.1, tt)))
   token_down tok.Mul a gs h = (let e = two_down (kid s (slice_get gs 0)) (kid s (slice_get gs 1)) (operated tok.Mul) h in (e.0, (e.1, tt)))

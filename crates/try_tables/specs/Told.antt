@@ -2,7 +2,7 @@
 use Rattle.std.specs.Prelude.{◌≡◌, ℕ, List, length}
 use Rattle.md_reader.specs.declared.faults.DescKind.{DescKind}
 use Rattle.md_reader.specs.declared.faults.DescFault.{DescFault}
-use Rattle.md_reader.specs.declared.faults.DescFault.TheVariants as fault
+use Rattle.md_reader.specs.declared.faults.DescFault.TheVariants as desc_fault
 use Rattle.md_reader.specs.State.{Content}
 use Rattle.md_reader.specs.Desc.{Desc, Refused}
 use Rattle.md_reader.specs.First.{IsFirst}
@@ -13,8 +13,8 @@ use Rattle.try_tables.specs.declared.examining.Finding.TheVariants as finding
 
 -- a wrong line is told
 abbrev pub Says : DescFault → Finding → Type 0
-Says fault.NoMemory f = ⊥
-Says (fault.Line line kind) f = f ≡ finding.Wrong line kind
+Says desc_fault.NoMemory f = ⊥
+Says (desc_fault.Line line kind) f = f ≡ finding.Wrong line kind
 
 pub data Tells (bytes : List ℕ) : Finding → Type 0 where
   -- the bytes are a description whose tables have so many states
@@ -23,7 +23,7 @@ pub data Tells (bytes : List ℕ) : Finding → Type 0 where
       Tells bytes (finding.Tables rules states)
   -- they are none, and this is the first wrong line
   is_wrong : {line : ℕ} {kind : DescKind} →
-      Refused bytes (fault.Line line kind) → IsFirst bytes (fault.Line line kind) →
+      Refused bytes (desc_fault.Line line kind) → IsFirst bytes (desc_fault.Line line kind) →
       Tells bytes (finding.Wrong line kind)
   -- they are a description with more than 4,096 item sets
   is_full : (d : Content) → Desc bytes d → HasTooManySets d → Tells bytes finding.Full

@@ -8,7 +8,7 @@ use Rattle.vax_core.specs.declared.operand.Operand.{Operand}
 use Rattle.vax_core.specs.declared.op.Op.{Op}
 use Rattle.vax_core.specs.declared.op.Op.TheVariants.{Pushl, Addl2, Subl2, Movl, Calls, Ret}
 use Rattle.vax_core.specs.declared.code.CodeItem.{CodeItem}
-use Rattle.vax_core.specs.declared.code.CodeItem.TheVariants as items
+use Rattle.vax_core.specs.declared.code.CodeItem.TheVariants as item_kind
 use Rattle.vax_core.specs.declared.code.Code.{Code}
 
 abbrev pub main_name : List ℕ
@@ -34,7 +34,7 @@ abbrev pub popped : Reg → Operand
 popped r = record { base = bases.Inc r; index = None }
 
 abbrev pub instr : Op → List Operand → Option (List ℕ) → CodeItem
-instr op os target = items.Instr (record { op = op; operands = os; target = target })
+instr op os target = item_kind.Instr (record { op = op; operands = os; target = target })
 
 -- what such a program does, one instruction after the other
 pub data Act : Type 0 where
@@ -56,7 +56,7 @@ act_item Return = instr Ret [] None
 
 -- `.globl _main`, `_main:` and an entry mask that saves no register
 abbrev pub entry : List CodeItem
-entry = items.Globl main_name ∷ (items.Label main_name ∷ (items.Mask 0 ∷ []))
+entry = item_kind.Globl main_name ∷ (item_kind.Label main_name ∷ (item_kind.Mask 0 ∷ []))
 
 -- the code of these acts, with no data
 abbrev pub first_code : List Act → Code

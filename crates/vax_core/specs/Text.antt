@@ -11,7 +11,7 @@ use Rattle.vax_core.specs.declared.code.Instr.{Instr}
 use Rattle.vax_core.specs.declared.code.AreaItem.{AreaItem}
 use Rattle.vax_core.specs.declared.code.AreaItem.TheVariants as areas
 use Rattle.vax_core.specs.declared.code.CodeItem.{CodeItem}
-use Rattle.vax_core.specs.declared.code.CodeItem.TheVariants as items
+use Rattle.vax_core.specs.declared.code.CodeItem.TheVariants as item_kind
 use Rattle.vax_core.specs.declared.code.Code.{Code}
 use Rattle.vax_core.specs.Registers.{reg_text}
 use Rattle.vax_core.specs.Ops.{shape}
@@ -84,10 +84,10 @@ area_text (areas.Space n) = codes "\t.space\t" ++ decimal n
 
 -- a line of the code, without its line feed
 abbrev pub item_text : CodeItem → List ℕ
-item_text (items.Label name) = name ++ codes ":"
-item_text (items.Globl name) = codes "\t.globl\t" ++ name
-item_text (items.Mask mask) = codes "\t.word\t" ++ decimal mask
-item_text (items.Instr i) = instr_text i
+item_text (item_kind.Label name) = name ++ codes ":"
+item_text (item_kind.Globl name) = codes "\t.globl\t" ++ name
+item_text (item_kind.Mask mask) = codes "\t.word\t" ++ decimal mask
+item_text (item_kind.Instr i) = instr_text i
 
 abbrev pub area_line : AreaItem → List ℕ
 area_line item = area_text item ++ codes "\n"

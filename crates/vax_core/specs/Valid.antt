@@ -14,7 +14,7 @@ use Rattle.vax_core.specs.declared.code.Instr.{Instr}
 use Rattle.vax_core.specs.declared.code.AreaItem.{AreaItem}
 use Rattle.vax_core.specs.declared.code.AreaItem.TheVariants as areas
 use Rattle.vax_core.specs.declared.code.CodeItem.{CodeItem}
-use Rattle.vax_core.specs.declared.code.CodeItem.TheVariants as items
+use Rattle.vax_core.specs.declared.code.CodeItem.TheVariants as item_kind
 use Rattle.vax_core.specs.declared.code.Code.{Code}
 use Rattle.vax_core.specs.Registers.{reg_number}
 use Rattle.vax_core.specs.Ops.{shape}
@@ -128,10 +128,10 @@ is_area_item (areas.Long a) = is_addr a
 is_area_item (areas.Space n) = nat_le 1 n && nat_le n 1048576
 
 abbrev pub is_code_item : CodeItem → Bool
-is_code_item (items.Label name) = is_name name
-is_code_item (items.Globl name) = is_name name
-is_code_item (items.Mask mask) = nat_le mask 4095
-is_code_item (items.Instr i) = is_instr i
+is_code_item (item_kind.Label name) = is_name name
+is_code_item (item_kind.Globl name) = is_name name
+is_code_item (item_kind.Mask mask) = nat_le mask 4095
+is_code_item (item_kind.Instr i) = is_instr i
 
 abbrev pub is_code : Code → Bool
 is_code c = list_all is_area_item c.area && list_all is_code_item c.items

@@ -9,7 +9,7 @@ use Rattle.vax_core.specs.declared.op.Op.{Op}
 use Rattle.vax_core.specs.declared.op.Op.TheVariants.{Subl2, Clrl, Ret}
 use Rattle.vax_core.specs.declared.code.Instr.{Instr}
 use Rattle.vax_core.specs.declared.code.CodeItem.{CodeItem}
-use Rattle.vax_core.specs.declared.code.CodeItem.TheVariants as items
+use Rattle.vax_core.specs.declared.code.CodeItem.TheVariants as item_kind
 use Rattle.vax_core.specs.Registers.{operands_name, IsSetOf}
 
 -- `$n` and `r`
@@ -32,7 +32,7 @@ abbrev pub end_code : List Instr
 end_code = instr Clrl (register R0 ∷ []) ∷ (instr Ret [] ∷ [])
 
 abbrev pub code_items : List Instr → List CodeItem
-code_items is = map items.Instr is
+code_items is = map item_kind.Instr is
 
 -- a function's label is its name with `_` in front
 abbrev pub function_label : List ℕ → List ℕ
@@ -40,18 +40,19 @@ function_label name = codes "_" ++ name
 
 -- what stands before the body, and the whole
 abbrev pub frame_head : List ℕ → ℕ → ℕ → List CodeItem
-frame_head label mask words = items.Globl label ∷ (items.Label label ∷ (items.Mask mask ∷ code_items (room_code words)))
+frame_head label mask words = item_kind.Globl label ∷ (item_kind.Label label ∷ (item_kind.Mask mask ∷ code_items (room_code words)))
 
 abbrev pub frame_items : List ℕ → ℕ → ℕ → List CodeItem → List CodeItem
 frame_items label mask words body =
-    items.Globl label ∷ (items.Label label ∷ (items.Mask mask ∷ (code_items (room_code words) ++ (body ++ code_items end_code))))
+    item_kind.Globl label ∷ (item_kind.Label label ∷ (item_kind.Mask mask ∷
+    (code_items (room_code words) ++ (body ++ code_items end_code))))
 
 -- the registers among r0 to r11 that the instructions of a body name
 abbrev pub item_names : CodeItem → ℕ → Bool
-item_names (items.Label name) r = false
-item_names (items.Globl name) r = false
-item_names (items.Mask mask) r = false
-item_names (items.Instr i) r = operands_name i.operands r
+item_names (item_kind.Label name) r = false
+item_names (item_kind.Globl name) r = false
+item_names (item_kind.Mask mask) r = false
+item_names (item_kind.Instr i) r = operands_name i.operands r
 
 abbrev pub body_names : List CodeItem → ℕ → Bool
 body_names [] r = false

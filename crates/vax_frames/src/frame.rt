@@ -3,7 +3,7 @@ ghost use Rattle.std.specs.Prelude.{◌≡◌, ◌*◌, ◌≤◌, ◌<◌, ◌+
 ghost use Rattle.vax_core.specs.Homes as homes;
 ghost use Rattle.vax_core.specs.declared.op.Op.TheVariants.{Subl2, Clrl, Ret};
 ghost use Rattle.vax_core.specs.declared.register.Reg.TheVariants.{R0, Sp};
-ghost use Rattle.vax_core.specs.declared.code.CodeItem.TheVariants as items;
+ghost use Rattle.vax_core.specs.declared.code.CodeItem.TheVariants as item_kind;
 ghost use Rattle.vax_frames.specs.Frames.{number, register, instr, function_label, frame_head, IsFrameCode};
 
 use crate::mask::entry_mask;
@@ -42,7 +42,7 @@ fn register(r: Reg) -> Operand
 }
 
 fn instr(op: Op, operands: Operands) -> CodeItem
-    ensures { result ≡ items.Instr (instr op operands) }
+    ensures { result ≡ item_kind.Instr (instr op operands) }
 {
     CodeItem::Instr(Instr {
         op,
@@ -53,7 +53,7 @@ fn instr(op: Op, operands: Operands) -> CodeItem
 
 // `subl2 $n,sp`
 fn lower_sp(alloc: Global, bytes: u32) -> CodeItem
-    ensures { result ≡ items.Instr (instr Subl2 (number bytes ∷ (register Sp ∷ []))) }
+    ensures { result ≡ item_kind.Instr (instr Subl2 (number bytes ∷ (register Sp ∷ []))) }
 {
     let mut operands = Operands::new(alloc);
     operands.push(number(bytes));
@@ -63,7 +63,7 @@ fn lower_sp(alloc: Global, bytes: u32) -> CodeItem
 
 // `clrl r0`
 fn clear_r0(alloc: Global) -> CodeItem
-    ensures { result ≡ items.Instr (instr Clrl (register R0 ∷ [])) }
+    ensures { result ≡ item_kind.Instr (instr Clrl (register R0 ∷ [])) }
 {
     let mut operands = Operands::new(alloc);
     operands.push(register(Reg::R0));
@@ -72,7 +72,7 @@ fn clear_r0(alloc: Global) -> CodeItem
 
 // `ret`
 fn ret(alloc: Global) -> CodeItem
-    ensures { result ≡ items.Instr (instr Ret []) }
+    ensures { result ≡ item_kind.Instr (instr Ret []) }
 {
     instr(Op::Ret, Operands::new(alloc))
 }

@@ -3,17 +3,17 @@ use Rattle.std.proofs.Common.{◌≡◌, ℕ, zero, suc, ◌+◌, List, [], ◌�
 use Rattle.std.specs.Prelude.{slice_get}
 use Rattle.vax_core.specs.declared.code.Instr.{Instr}
 use Rattle.vax_core.specs.declared.code.CodeItem.{CodeItem}
-use Rattle.vax_core.specs.declared.code.CodeItem.TheVariants as items
+use Rattle.vax_core.specs.declared.code.CodeItem.TheVariants as item_kind
 use Rattle.vax_machine.specs.Labels.{skipped, next_item}
 use Rattle.vax_frames_law.specs.Within.{mask_of, mask_from, RunsOn, IsClosedAt, AreClosed, ClosedIsGuarded}
 
 -- the place of the instruction to which items run on is under the same mask
 pub runs_on : (k : ℕ) (list : List CodeItem) → RunsOn list → mask_from k list (skipped list) ≡ k
 runs_on k [] h = absurd h
-runs_on k (items.Label l ∷ rest) h = let z : skipped rest + 1 ≡ suc (skipped rest) = omega arith in ap (mask_from k (items.Label l ∷ rest)) z ∙ runs_on k rest h
-runs_on k (items.Globl l ∷ rest) h = let z : skipped rest + 1 ≡ suc (skipped rest) = omega arith in ap (mask_from k (items.Globl l ∷ rest)) z ∙ runs_on k rest h
-runs_on k (items.Mask mask ∷ rest) h = absurd h
-runs_on k (items.Instr i ∷ rest) h = refl
+runs_on k (item_kind.Label l ∷ rest) h = let z : skipped rest + 1 ≡ suc (skipped rest) = omega arith in ap (mask_from k (item_kind.Label l ∷ rest)) z ∙ runs_on k rest h
+runs_on k (item_kind.Globl l ∷ rest) h = let z : skipped rest + 1 ≡ suc (skipped rest) = omega arith in ap (mask_from k (item_kind.Globl l ∷ rest)) z ∙ runs_on k rest h
+runs_on k (item_kind.Mask mask ∷ rest) h = absurd h
+runs_on k (item_kind.Instr i ∷ rest) h = refl
 
 on_from : (k p : ℕ) (list : List CodeItem) → RunsOn (drop (suc p) list) → mask_from k list (suc p + skipped (drop (suc p) list)) ≡ mask_from k list p
 on_from k zero [] h = absurd h
@@ -33,36 +33,36 @@ module _ (code : List CodeItem) where
   instr_same x y e = cc
 
   -- what is said of an instruction among the items
-  closed_at : (k : ℕ) (list : List CodeItem) → AreClosed code k list → (p : ℕ) (i : Instr) → slice_get list p ≡ Some (items.Instr i) → IsClosedAt code (mask_from k list p) i (drop (suc p) list)
+  closed_at : (k : ℕ) (list : List CodeItem) → AreClosed code k list → (p : ℕ) (i : Instr) → slice_get list p ≡ Some (item_kind.Instr i) → IsClosedAt code (mask_from k list p) i (drop (suc p) list)
   closed_at k [] h zero i e = absurd cc
   closed_at k [] h (suc p) i e = absurd cc
-  closed_at k (items.Label l ∷ rest) h zero i e = absurd cc
-  closed_at k (items.Globl l ∷ rest) h zero i e = absurd cc
-  closed_at k (items.Mask mask ∷ rest) h zero i e = absurd cc
-  closed_at k (items.Instr j ∷ rest) h zero i e = subst (λ (x : Instr). IsClosedAt code k x rest) (same j i e) h.0
+  closed_at k (item_kind.Label l ∷ rest) h zero i e = absurd cc
+  closed_at k (item_kind.Globl l ∷ rest) h zero i e = absurd cc
+  closed_at k (item_kind.Mask mask ∷ rest) h zero i e = absurd cc
+  closed_at k (item_kind.Instr j ∷ rest) h zero i e = subst (λ (x : Instr). IsClosedAt code k x rest) (same j i e) h.0
     where
-      same : (j i : Instr) → ◌≡◌ {A = Option CodeItem} (Some (items.Instr j)) (Some (items.Instr i)) → j ≡ i
+      same : (j i : Instr) → ◌≡◌ {A = Option CodeItem} (Some (item_kind.Instr j)) (Some (item_kind.Instr i)) → j ≡ i
       same j i e = cc
-  closed_at k (items.Label l ∷ rest) h (suc p) i e = closed_at k rest h p i e
-  closed_at k (items.Globl l ∷ rest) h (suc p) i e = closed_at k rest h p i e
-  closed_at k (items.Mask mask ∷ rest) h (suc p) i e = closed_at mask rest h.1 p i e
-  closed_at k (items.Instr j ∷ rest) h (suc p) i e = closed_at k rest h.1 p i e
+  closed_at k (item_kind.Label l ∷ rest) h (suc p) i e = closed_at k rest h p i e
+  closed_at k (item_kind.Globl l ∷ rest) h (suc p) i e = closed_at k rest h p i e
+  closed_at k (item_kind.Mask mask ∷ rest) h (suc p) i e = closed_at mask rest h.1 p i e
+  closed_at k (item_kind.Instr j ∷ rest) h (suc p) i e = closed_at k rest h.1 p i e
 
   -- and of a mask
-  mask_at_is : (k : ℕ) (list : List CodeItem) → AreClosed code k list → (p mask : ℕ) → slice_get list p ≡ Some (items.Mask mask) → RunsOn (drop (suc p) list) × (mask_from k list p ≡ mask)
+  mask_at_is : (k : ℕ) (list : List CodeItem) → AreClosed code k list → (p mask : ℕ) → slice_get list p ≡ Some (item_kind.Mask mask) → RunsOn (drop (suc p) list) × (mask_from k list p ≡ mask)
   mask_at_is k [] h zero mask e = absurd cc
   mask_at_is k [] h (suc p) mask e = absurd cc
-  mask_at_is k (items.Label l ∷ rest) h zero mask e = absurd cc
-  mask_at_is k (items.Globl l ∷ rest) h zero mask e = absurd cc
-  mask_at_is k (items.Instr j ∷ rest) h zero mask e = absurd cc
-  mask_at_is k (items.Mask n ∷ rest) h zero mask e = (h.0, same n mask e)
+  mask_at_is k (item_kind.Label l ∷ rest) h zero mask e = absurd cc
+  mask_at_is k (item_kind.Globl l ∷ rest) h zero mask e = absurd cc
+  mask_at_is k (item_kind.Instr j ∷ rest) h zero mask e = absurd cc
+  mask_at_is k (item_kind.Mask n ∷ rest) h zero mask e = (h.0, same n mask e)
     where
-      same : (n mask : ℕ) → ◌≡◌ {A = Option CodeItem} (Some (items.Mask n)) (Some (items.Mask mask)) → n ≡ mask
+      same : (n mask : ℕ) → ◌≡◌ {A = Option CodeItem} (Some (item_kind.Mask n)) (Some (item_kind.Mask mask)) → n ≡ mask
       same n mask e = cc
-  mask_at_is k (items.Label l ∷ rest) h (suc p) mask e = mask_at_is k rest h p mask e
-  mask_at_is k (items.Globl l ∷ rest) h (suc p) mask e = mask_at_is k rest h p mask e
-  mask_at_is k (items.Mask n ∷ rest) h (suc p) mask e = mask_at_is n rest h.1 p mask e
-  mask_at_is k (items.Instr j ∷ rest) h (suc p) mask e = mask_at_is k rest h.1 p mask e
+  mask_at_is k (item_kind.Label l ∷ rest) h (suc p) mask e = mask_at_is k rest h p mask e
+  mask_at_is k (item_kind.Globl l ∷ rest) h (suc p) mask e = mask_at_is k rest h p mask e
+  mask_at_is k (item_kind.Mask n ∷ rest) h (suc p) mask e = mask_at_is n rest h.1 p mask e
+  mask_at_is k (item_kind.Instr j ∷ rest) h (suc p) mask e = mask_at_is k rest h.1 p mask e
 
 pub closed_is_guarded : ClosedIsGuarded
 closed_is_guarded code h = record {

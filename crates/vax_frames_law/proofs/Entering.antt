@@ -12,7 +12,7 @@ use Rattle.gg_base.specs.Arithmetic.{sub32}
 use Rattle.gg_base.specs.LittleEndian.{with_number}
 use Rattle.vax_core.specs.declared.register.Reg.TheVariants.{Ap, Fp, Sp}
 use Rattle.vax_core.specs.declared.code.CodeItem.{CodeItem}
-use Rattle.vax_core.specs.declared.code.CodeItem.TheVariants as items
+use Rattle.vax_core.specs.declared.code.CodeItem.TheVariants as item_kind
 use Rattle.vax_machine_live.specs.declared.frame.Frame.{Frame}
 use Rattle.vax_machine_live.specs.Control.{in_control}
 use Rattle.vax_machine.specs.declared.turn.Stop.{Stop}
@@ -114,7 +114,7 @@ made m count mask back place = record m {
 }
 
 module _ (m : State) (can : CanCall m) (count place entry mask : ℕ) (back : Option ℕ) (is_mask : IsMask mask)
-    (there : slice_get m.items (next_item m.items place) ≡ Some (items.Mask mask)) (at_entry : next_item m.items place ≡ entry) where
+    (there : slice_get m.items (next_item m.items place) ≡ Some (item_kind.Mask mask)) (at_entry : next_item m.items place ≡ entry) where
   number_aligned : number_at m - number_at m % 4 ≡ number_at m
   number_aligned = omega (arith, can.aligned, can.space)
 
@@ -171,7 +171,7 @@ module _ (m : State) (can : CanCall m) (count place entry mask : ℕ) (back : Op
       ap (λ (r : Result State Stop). r >>= λ (n : State). f n (reg n Sp) (slice_get n.items (next_item n.items place)) (next_item n.items place)) push_is
       ∙ ap (λ (x : ℕ). f (stacked_at (number_at m)) x (slice_get m.items (next_item m.items place)) (next_item m.items place)) (sp_at stacked can.sound.registers can.sound.area (number_at m))
       ∙ ap (λ (i : Option CodeItem). f (stacked_at (number_at m)) (number_at m) i (next_item m.items place)) there
-      ∙ ap (λ (p : ℕ). f (stacked_at (number_at m)) (number_at m) (Some (items.Mask mask)) p) at_entry
+      ∙ ap (λ (p : ℕ). f (stacked_at (number_at m)) (number_at m) (Some (item_kind.Mask mask)) p) at_entry
       ∙ framed_is
 
 -- ---- the state that the callee begins in

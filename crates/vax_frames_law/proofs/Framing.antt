@@ -7,7 +7,7 @@ use Rattle.std.proofs.lemmas.List.{drop_at}
 use Rattle.std.proofs.lemmas.Slice.Eq.{bytes_eq-Decides}
 use Rattle.vax_core.specs.declared.code.Instr.{Instr}
 use Rattle.vax_core.specs.declared.code.CodeItem.{CodeItem}
-use Rattle.vax_core.specs.declared.code.CodeItem.TheVariants as items
+use Rattle.vax_core.specs.declared.code.CodeItem.TheVariants as item_kind
 use Rattle.vax_machine.specs.Labels.{has_label, label_place, double_label, skipped, next_item}
 use Rattle.vax_frames.specs.Frames.{code_items, room_code, end_code, frame_items}
 use Rattle.vax_frames_law.specs.Within.{mask_of, mask_from, RunsOn, AreClosed, KeepWithin, AreFrames, no_frame, one_more, FramesAreGuarded}
@@ -35,40 +35,40 @@ after_instrs (i ∷ is) k = after_instrs is k
 -- a body has no mask
 after_body : (body : List CodeItem) (mask : ℕ) (xs ys : List CodeItem) (k : ℕ) → KeepWithin body mask (xs ++ ys) → mask_after k xs ≡ k
 after_body body mask [] ys k h = refl
-after_body body mask (items.Label l ∷ xs) ys k h = after_body body mask xs ys k h
-after_body body mask (items.Globl l ∷ xs) ys k h = after_body body mask xs ys k h
-after_body body mask (items.Mask n ∷ xs) ys k h = absurd h
-after_body body mask (items.Instr i ∷ xs) ys k h = after_body body mask xs ys k h.1
+after_body body mask (item_kind.Label l ∷ xs) ys k h = after_body body mask xs ys k h
+after_body body mask (item_kind.Globl l ∷ xs) ys k h = after_body body mask xs ys k h
+after_body body mask (item_kind.Mask n ∷ xs) ys k h = absurd h
+after_body body mask (item_kind.Instr i ∷ xs) ys k h = after_body body mask xs ys k h.1
 
 -- behind a body's items an instruction comes
 runs_behind : (body : List CodeItem) (mask : ℕ) (xs ys rest : List CodeItem) → KeepWithin body mask (xs ++ ys) → RunsOn rest → RunsOn (ys ++ rest)
 runs_behind body mask [] [] rest h r = r
-runs_behind body mask [] (items.Label l ∷ ys) rest h r = runs_behind body mask [] ys rest h r
-runs_behind body mask [] (items.Globl l ∷ ys) rest h r = runs_behind body mask [] ys rest h r
-runs_behind body mask [] (items.Mask n ∷ ys) rest h r = absurd h
-runs_behind body mask [] (items.Instr i ∷ ys) rest h r = tt
-runs_behind body mask (items.Label l ∷ xs) ys rest h r = runs_behind body mask xs ys rest h r
-runs_behind body mask (items.Globl l ∷ xs) ys rest h r = runs_behind body mask xs ys rest h r
-runs_behind body mask (items.Mask n ∷ xs) ys rest h r = absurd h
-runs_behind body mask (items.Instr i ∷ xs) ys rest h r = runs_behind body mask xs ys rest h.1 r
+runs_behind body mask [] (item_kind.Label l ∷ ys) rest h r = runs_behind body mask [] ys rest h r
+runs_behind body mask [] (item_kind.Globl l ∷ ys) rest h r = runs_behind body mask [] ys rest h r
+runs_behind body mask [] (item_kind.Mask n ∷ ys) rest h r = absurd h
+runs_behind body mask [] (item_kind.Instr i ∷ ys) rest h r = tt
+runs_behind body mask (item_kind.Label l ∷ xs) ys rest h r = runs_behind body mask xs ys rest h r
+runs_behind body mask (item_kind.Globl l ∷ xs) ys rest h r = runs_behind body mask xs ys rest h r
+runs_behind body mask (item_kind.Mask n ∷ xs) ys rest h r = absurd h
+runs_behind body mask (item_kind.Instr i ∷ xs) ys rest h r = runs_behind body mask xs ys rest h.1 r
 
 -- ---- a label of a body
 
 pub record Splits (body : List CodeItem) (name : List ℕ) : Type 0 where
   pub pre : List CodeItem
   pub post : List CodeItem
-  pub body_is : body ≡ pre ++ items.Label name ∷ post
+  pub body_is : body ≡ pre ++ item_kind.Label name ∷ post
 
 splits : (body : List CodeItem) (name : List ℕ) → has_label body name ≡ true → Splits body name
 splits [] name e = absurd (true≢false (sym e))
-splits (items.Globl l ∷ body) name e = let r = splits body name e in record { pre = items.Globl l ∷ r.pre; post = r.post; body_is = ap (λ (x : List CodeItem). items.Globl l ∷ x) r.body_is }
-splits (items.Mask n ∷ body) name e = let r = splits body name e in record { pre = items.Mask n ∷ r.pre; post = r.post; body_is = ap (λ (x : List CodeItem). items.Mask n ∷ x) r.body_is }
-splits (items.Instr i ∷ body) name e = let r = splits body name e in record { pre = items.Instr i ∷ r.pre; post = r.post; body_is = ap (λ (x : List CodeItem). items.Instr i ∷ x) r.body_is }
-splits (items.Label l ∷ body) name e = by (bytes_eq l name) refl e (λ f. splits body name f)
+splits (item_kind.Globl l ∷ body) name e = let r = splits body name e in record { pre = item_kind.Globl l ∷ r.pre; post = r.post; body_is = ap (λ (x : List CodeItem). item_kind.Globl l ∷ x) r.body_is }
+splits (item_kind.Mask n ∷ body) name e = let r = splits body name e in record { pre = item_kind.Mask n ∷ r.pre; post = r.post; body_is = ap (λ (x : List CodeItem). item_kind.Mask n ∷ x) r.body_is }
+splits (item_kind.Instr i ∷ body) name e = let r = splits body name e in record { pre = item_kind.Instr i ∷ r.pre; post = r.post; body_is = ap (λ (x : List CodeItem). item_kind.Instr i ∷ x) r.body_is }
+splits (item_kind.Label l ∷ body) name e = by (bytes_eq l name) refl e (λ f. splits body name f)
   where
-    by : (b : Bool) → bytes_eq l name ≡ b → (b || has_label body name) ≡ true → (has_label body name ≡ true → Splits body name) → Splits (items.Label l ∷ body) name
-    by true eq e rest = record { pre = []; post = body; body_is = ap (λ (n : List ℕ). items.Label n ∷ body) ((bytes_eq-Decides l name).0 eq) }
-    by false eq e rest = let r = rest e in record { pre = items.Label l ∷ r.pre; post = r.post; body_is = ap (λ (x : List CodeItem). items.Label l ∷ x) r.body_is }
+    by : (b : Bool) → bytes_eq l name ≡ b → (b || has_label body name) ≡ true → (has_label body name ≡ true → Splits body name) → Splits (item_kind.Label l ∷ body) name
+    by true eq e rest = record { pre = []; post = body; body_is = ap (λ (n : List ℕ). item_kind.Label n ∷ body) ((bytes_eq-Decides l name).0 eq) }
+    by false eq e rest = let r = rest e in record { pre = item_kind.Label l ∷ r.pre; post = r.post; body_is = ap (λ (x : List CodeItem). item_kind.Label l ∷ x) r.body_is }
 
 -- ---- a frame
 
@@ -94,13 +94,13 @@ module _ (code : List CodeItem) (once : double_label code ≡ None) (name : List
   label_under : (label : List ℕ) → has_label body label ≡ true → mask_from 0 code (next_item code (label_place code label)) ≡ mask
   label_under label e =
       let s = splits body label e in
-      let at = items.Label label ∷ s.post in
-      let front = items.Globl name ∷ (items.Label name ∷ (items.Mask mask ∷ (code_items (room_code words) ++ s.pre))) in
+      let at = item_kind.Label label ∷ s.post in
+      let front = item_kind.Globl name ∷ (item_kind.Label name ∷ (item_kind.Mask mask ∷ (code_items (room_code words) ++ s.pre))) in
       let rest = (at ++ code_items end_code) ++ post in
       let split : code ≡ (pre ++ front) ++ rest =
       code_is
       ∙ ap (λ (b : List CodeItem). pre ++ (frame_items name mask words b ++ post)) s.body_is
-      ∙ ap (λ (x : List CodeItem). pre ++ (items.Globl name ∷ (items.Label name ∷ (items.Mask mask ∷ x)))) (four (code_items (room_code words)) s.pre at (code_items end_code) post)
+      ∙ ap (λ (x : List CodeItem). pre ++ (item_kind.Globl name ∷ (item_kind.Label name ∷ (item_kind.Mask mask ∷ x)))) (four (code_items (room_code words)) s.pre at (code_items end_code) post)
       ∙ sym (append_assoc pre front rest) in
       let place : label_place code label ≡ length (pre ++ front) =
       ap (λ (x : List CodeItem). label_place x label) split
@@ -130,10 +130,10 @@ module _ (code : List CodeItem) (once : double_label code ≡ None) (name : List
 
   body_closed : (xs ys : List CodeItem) → KeepWithin body mask ys → AreClosed code mask tail → AreClosed code mask (ys ++ tail)
   body_closed xs [] h t = t
-  body_closed xs (items.Label l ∷ ys) h t = body_closed xs ys h t
-  body_closed xs (items.Globl l ∷ ys) h t = body_closed xs ys h t
-  body_closed xs (items.Mask n ∷ ys) h t = absurd h
-  body_closed xs (items.Instr i ∷ ys) h t = (
+  body_closed xs (item_kind.Label l ∷ ys) h t = body_closed xs ys h t
+  body_closed xs (item_kind.Globl l ∷ ys) h t = body_closed xs ys h t
+  body_closed xs (item_kind.Mask n ∷ ys) h t = absurd h
+  body_closed xs (item_kind.Instr i ∷ ys) h t = (
     record { named = h.0.named; onward = λ e. runs_behind body mask [] ys tail h.1 tt; branch = λ label e no_call. label_under label (h.0.branch label e no_call) },
     body_closed xs ys h.1 t,
   )

@@ -6,7 +6,7 @@ use Rattle.std.specs.Int.RustNames.{count_ones}
 use Rattle.gg_base.specs.declared.size.Size.TheVariants.{Long}
 use Rattle.vax_core.specs.declared.register.Reg.TheVariants.{Ap, Fp, Sp}
 use Rattle.vax_core.specs.declared.code.CodeItem.{CodeItem}
-use Rattle.vax_core.specs.declared.code.CodeItem.TheVariants as items
+use Rattle.vax_core.specs.declared.code.CodeItem.TheVariants as item_kind
 use Rattle.vax_machine.specs.declared.turn.Stop.{Stop}
 use Rattle.vax_machine.specs.State.{State, reg}
 use Rattle.vax_machine.specs.Labels.{next_item, label_place}
@@ -49,7 +49,7 @@ module _ (objects : List Object) (code : List CodeItem) (g : TreeFn) (em : HasFr
   at_entry : next_item m.items label ≡ em.entry
   at_entry = ap (λ (x : List CodeItem). next_item x (label_place x (function_label g.name))) same ∙ em.entry_is
 
-  mask_there : slice_get m.items (next_item m.items label) ≡ Some (items.Mask em.mask)
+  mask_there : slice_get m.items (next_item m.items label) ≡ Some (item_kind.Mask em.mask)
   mask_there = ap (λ (p : ℕ). slice_get m.items p) at_entry ∙ ap (λ (x : List CodeItem). slice_get x em.entry) same ∙ em.mask_there
 
   abbrev state : State

@@ -10,7 +10,7 @@ use Rattle.gg_base.specs.Arithmetic.{sub32}
 use Rattle.vax_core.specs.declared.register.Reg.TheVariants.{Fp, Sp}
 use Rattle.vax_core.specs.declared.code.Instr.{Instr}
 use Rattle.vax_core.specs.declared.code.CodeItem.{CodeItem}
-use Rattle.vax_core.specs.declared.code.CodeItem.TheVariants as items
+use Rattle.vax_core.specs.declared.code.CodeItem.TheVariants as item_kind
 use Rattle.vax_machine_live.specs.declared.frame.Frame.{Frame}
 use Rattle.vax_machine.specs.declared.turn.Stop.{Stop}
 use Rattle.vax_machine.specs.declared.memory.Region.{Region}
@@ -24,7 +24,7 @@ use Rattle.vax_machine.specs.Labels.{next_item, label_place}
 use Rattle.vax_machine.specs.Calls.{Acts, pushed, reserved, all_reserved, entry_mask, entered, framed, called, restored, returned_registers, back_to, left, returned}
 use Rattle.vax_core.specs.Ops.{shape}
 use Rattle.vax_machine.specs.declared.function.Test.{Test}
-use Rattle.vax_machine.specs.declared.function.Test.TheVariants as tests
+use Rattle.vax_machine.specs.declared.function.Test.TheVariants as test
 use Rattle.vax_machine.specs.declared.operands.Arguments.{Arguments}
 use Rattle.vax_machine.specs.Operands.{all_evaluated}
 use Rattle.vax_machine.specs.Functions.{applied, passes}
@@ -62,7 +62,7 @@ pub record Makes (k n : State) (back : Option ℕ) : Type 0 where
   pub mask : ℕ
   pub entry : ℕ
   pub f : Frame
-  pub there : slice_get k.items entry ≡ Some (items.Mask mask)
+  pub there : slice_get k.items entry ≡ Some (item_kind.Mask mask)
   pub items : n.items ≡ k.items
   pub frames : n.frames ≡ k.frames ++ f ∷ []
   pub mask_is : f.mask ≡ mask
@@ -125,7 +125,7 @@ all_room : (k : ℕ) (m : State) → AllAfter m (all_reserved k m)
 all_room zero m = λ r low high. same r m
 all_room (suc k) m = all_then m (reserved m) (λ n. all_reserved k n) (all_reserved_one m) (λ n. all_room k n)
 
-entered_makes : (k m n : State) (ap_at top mask entry : ℕ) (back : Option ℕ) → AllSame k m → slice_get k.items entry ≡ Some (items.Mask mask) → entered m ap_at top mask (entry + 1) back ≡ Ok n
+entered_makes : (k m n : State) (ap_at top mask entry : ℕ) (back : Option ℕ) → AllSame k m → slice_get k.items entry ≡ Some (item_kind.Mask mask) → entered m ap_at top mask (entry + 1) back ≡ Ok n
     → Makes k n back
 entered_makes k m n ap_at top mask entry back h there done = by (nat_le 4096 (length m.frames)) done
   where
@@ -166,17 +166,17 @@ entered_makes k m n ap_at top mask entry back h there done = by (nat_le 4096 (le
     by true e = absurd (no_state stack_full n e)
     by false e = makes n (some_state made n e)
 
-room_makes : (k : State) (t : Result State Stop) (n : State) (ap_at top mask entry : ℕ) (back : Option ℕ) → AllAfter k t → slice_get k.items entry ≡ Some (items.Mask mask)
+room_makes : (k : State) (t : Result State Stop) (n : State) (ap_at top mask entry : ℕ) (back : Option ℕ) → AllAfter k t → slice_get k.items entry ≡ Some (item_kind.Mask mask)
     → (t >>= λ (x : State). entered x ap_at top mask (entry + 1) back) ≡ Ok n → Makes k n back
 room_makes k (Ok m) n ap_at top mask entry back h there done = entered_makes k m n ap_at top mask entry back h there done
 room_makes k (Err e) n ap_at top mask entry back h there done = absurd (no_state e n done)
 
 framed_makes : (k m n : State) (ap_at entry : ℕ) (back : Option ℕ) (o : Option CodeItem) → AllSame k m → slice_get m.items entry ≡ o → framed m ap_at (entry_mask o) entry back ≡ Ok n → Makes k n back
 framed_makes k m n ap_at entry back None h there done = absurd (no_state bad_code n done)
-framed_makes k m n ap_at entry back (Some (items.Label l)) h there done = absurd (no_state bad_code n done)
-framed_makes k m n ap_at entry back (Some (items.Globl l)) h there done = absurd (no_state bad_code n done)
-framed_makes k m n ap_at entry back (Some (items.Instr i)) h there done = absurd (no_state bad_code n done)
-framed_makes k m n ap_at entry back (Some (items.Mask mask)) h there done = by (register_set m Sp (ap_at - ap_at % 4)) (all_set m (ap_at - ap_at % 4)) done
+framed_makes k m n ap_at entry back (Some (item_kind.Label l)) h there done = absurd (no_state bad_code n done)
+framed_makes k m n ap_at entry back (Some (item_kind.Globl l)) h there done = absurd (no_state bad_code n done)
+framed_makes k m n ap_at entry back (Some (item_kind.Instr i)) h there done = absurd (no_state bad_code n done)
+framed_makes k m n ap_at entry back (Some (item_kind.Mask mask)) h there done = by (register_set m Sp (ap_at - ap_at % 4)) (all_set m (ap_at - ap_at % 4)) done
   where
     one_low : 1 ≤ 1
     one_low = omega arith
@@ -184,7 +184,7 @@ framed_makes k m n ap_at entry back (Some (items.Mask mask)) h there done = by (
     one_high : 1 < 12
     one_high = omega arith
 
-    stands : slice_get k.items entry ≡ Some (items.Mask mask)
+    stands : slice_get k.items entry ≡ Some (item_kind.Mask mask)
     stands = ap (λ (x : List CodeItem). slice_get x entry) (sym (h 1 one_low one_high).items) ∙ there
 
     by : (t : Result State Stop) → AllAfter m t → (t >>= λ (x : State). all_reserved (count_ones mask + 5) x >>= λ (y : State). entered y ap_at (ap_at - ap_at % 4) mask (entry + 1) back) ≡ Ok n
@@ -311,22 +311,22 @@ from_branch t false None m e = tt
 from_branch t true (Some label) m e = (refl, no_call t)
 from_branch t false (Some label) m e = e
 
-from_always : (target : Option (List ℕ)) (m : State) → From (Branch tests.Always) target (branching true target m).ending
+from_always : (target : Option (List ℕ)) (m : State) → From (Branch test.Always) target (branching true target m).ending
 from_always None m = tt
-from_always (Some label) m = (refl, no_call tests.Always)
+from_always (Some label) m = (refl, no_call test.Always)
 
 from_test : (t : Test) (target : Option (List ℕ)) (m : State) → From (Branch t) target (branching (passes t m.conditions) target m).ending
-from_test tests.Always target m = from_always target m
-from_test tests.Equal target m = from_branch tests.Equal (passes tests.Equal m.conditions) target m refl
-from_test tests.NotEqual target m = from_branch tests.NotEqual (passes tests.NotEqual m.conditions) target m refl
-from_test tests.Less target m = from_branch tests.Less (passes tests.Less m.conditions) target m refl
-from_test tests.LessOrEqual target m = from_branch tests.LessOrEqual (passes tests.LessOrEqual m.conditions) target m refl
-from_test tests.Greater target m = from_branch tests.Greater (passes tests.Greater m.conditions) target m refl
-from_test tests.GreaterOrEqual target m = from_branch tests.GreaterOrEqual (passes tests.GreaterOrEqual m.conditions) target m refl
-from_test tests.LessUnsigned target m = from_branch tests.LessUnsigned (passes tests.LessUnsigned m.conditions) target m refl
-from_test tests.LessOrEqualUnsigned target m = from_branch tests.LessOrEqualUnsigned (passes tests.LessOrEqualUnsigned m.conditions) target m refl
-from_test tests.GreaterUnsigned target m = from_branch tests.GreaterUnsigned (passes tests.GreaterUnsigned m.conditions) target m refl
-from_test tests.GreaterOrEqualUnsigned target m = from_branch tests.GreaterOrEqualUnsigned (passes tests.GreaterOrEqualUnsigned m.conditions) target m refl
+from_test test.Always target m = from_always target m
+from_test test.Equal target m = from_branch test.Equal (passes test.Equal m.conditions) target m refl
+from_test test.NotEqual target m = from_branch test.NotEqual (passes test.NotEqual m.conditions) target m refl
+from_test test.Less target m = from_branch test.Less (passes test.Less m.conditions) target m refl
+from_test test.LessOrEqual target m = from_branch test.LessOrEqual (passes test.LessOrEqual m.conditions) target m refl
+from_test test.Greater target m = from_branch test.Greater (passes test.Greater m.conditions) target m refl
+from_test test.GreaterOrEqual target m = from_branch test.GreaterOrEqual (passes test.GreaterOrEqual m.conditions) target m refl
+from_test test.LessUnsigned target m = from_branch test.LessUnsigned (passes test.LessUnsigned m.conditions) target m refl
+from_test test.LessOrEqualUnsigned target m = from_branch test.LessOrEqualUnsigned (passes test.LessOrEqualUnsigned m.conditions) target m refl
+from_test test.GreaterUnsigned target m = from_branch test.GreaterUnsigned (passes test.GreaterUnsigned m.conditions) target m refl
+from_test test.GreaterOrEqualUnsigned target m = from_branch test.GreaterOrEqualUnsigned (passes test.GreaterOrEqualUnsigned m.conditions) target m refl
 
 from_call_by : (b c : Bool) (x y : Acts) (name : List ℕ) (count : ℕ) (target : Option (List ℕ)) (m : State)
     → From Call target (cond b (course_of x) (cond c (course_of y) (ends (Calls name count m [])))).ending
@@ -387,7 +387,7 @@ module _ (mask_at : ℕ → ℕ) (m : State) (g : IsGuarded m.items mask_at) (a 
         (subst (λ (fs : List Frame). AreIntact m.items mask_at fs to n.registers) (sym frames) (intact_moved m.items mask_at m.frames m.place to m.registers n.registers a there same));
   }
 
-  module _ (i : Instr) (stands : slice_get m.items p ≡ Some (items.Instr i)) (o : Option ℕ) (n : State) where
+  module _ (i : Instr) (stands : slice_get m.items p ≡ Some (item_kind.Instr i)) (o : Option ℕ) (n : State) where
     by_ending : (w : List ℕ) (e : Ending) (acts : Acts) → acts ≡ Ok (o, n) → OneStep acts w e → ((r : ℕ) → 2 ≤ r → r < 12 → has (mask_at p) r ≡ false → KeptAt r m1 e) → KeptAt 15 m1 e
         → e ≡ ending_there e (where_of m1) → From (action_of i.op) i.target e → Kept n
     by_ending w (Comes k) acts done one kept whole at from =
@@ -436,10 +436,10 @@ module _ (mask_at : ℕ → ℕ) (m : State) (g : IsGuarded m.items mask_at) (a 
 
   by_item : (x : Option CodeItem) (o : Option ℕ) (n : State) → slice_get m.items p ≡ x → at_item x p m ≡ Ok (o, n) → Kept n
   by_item None o n stands done = absurd (no_acts bad_code (o, n) done)
-  by_item (Some (items.Label l)) o n stands done = absurd (no_acts bad_code (o, n) done)
-  by_item (Some (items.Globl l)) o n stands done = absurd (no_acts bad_code (o, n) done)
-  by_item (Some (items.Mask k)) o n stands done = absurd (no_acts bad_code (o, n) done)
-  by_item (Some (items.Instr i)) o n stands done = step_keeps i stands o n done
+  by_item (Some (item_kind.Label l)) o n stands done = absurd (no_acts bad_code (o, n) done)
+  by_item (Some (item_kind.Globl l)) o n stands done = absurd (no_acts bad_code (o, n) done)
+  by_item (Some (item_kind.Mask k)) o n stands done = absurd (no_acts bad_code (o, n) done)
+  by_item (Some (item_kind.Instr i)) o n stands done = step_keeps i stands o n done
 
   act_keeps : (o : Option ℕ) (n : State) → act m ≡ Ok (o, n) → Kept n
   unfolding act

@@ -4,7 +4,7 @@ use Rattle.std.specs.Int.{bit_at}
 use Rattle.std.proofs.lemmas.Bool.{or_parts, le-leb, lt-ltb, true≢false}
 use Rattle.std.proofs.lemmas.Nat.Bits.{bit_at_lowest, bit_at-suc}
 use Rattle.vax_core.specs.declared.code.CodeItem.{CodeItem}
-use Rattle.vax_core.specs.declared.code.CodeItem.TheVariants as items
+use Rattle.vax_core.specs.declared.code.CodeItem.TheVariants as item_kind
 use Rattle.vax_core.specs.Registers.{bit, operands_name}
 use Rattle.vax_frames.specs.Frames.{item_names, body_names, is_kept, IsMaskOf, IsFrameCode}
 use Rattle.vax_frames_law.specs.Calling.{IsMask}
@@ -24,10 +24,10 @@ module _ (mask : ℕ) (body : List CodeItem) (h : IsMaskOf mask body) where
 
   within : (rest : List CodeItem) → ((r : ℕ) → 2 ≤ r → r < 12 → has mask r ≡ false → body_names rest r ≡ false) → StaysInside body rest → KeepWithin body mask rest
   within [] named inside = tt
-  within (items.Label l ∷ rest) named inside = within rest named inside
-  within (items.Globl l ∷ rest) named inside = within rest named inside
-  within (items.Mask k ∷ rest) named inside = inside
-  within (items.Instr i ∷ rest) named inside = (
+  within (item_kind.Label l ∷ rest) named inside = within rest named inside
+  within (item_kind.Globl l ∷ rest) named inside = within rest named inside
+  within (item_kind.Mask k ∷ rest) named inside = inside
+  within (item_kind.Instr i ∷ rest) named inside = (
     record {
       named = λ r low high out. (or_parts (operands_name i.operands r) (body_names rest r) (named r low high out)).0;
       branch = inside.0;

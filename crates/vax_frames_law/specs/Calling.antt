@@ -2,7 +2,7 @@
 use Rattle.std.specs.Prelude.{◌≡◌, ℕ, ◌+◌, ◌%◌, ◌^◌, ◌<◌, ◌≤◌, List, ◌∷◌, take, drop, slice_get, slice_index, Option, Some}
 use Rattle.vax_machine_live.specs.declared.frame.Frame.{Frame}
 use Rattle.vax_core.specs.declared.code.CodeItem.{CodeItem}
-use Rattle.vax_core.specs.declared.code.CodeItem.TheVariants as items
+use Rattle.vax_core.specs.declared.code.CodeItem.TheVariants as item_kind
 use Rattle.vax_machine.specs.Labels.{next_item, label_place}
 use Rattle.vax_machine_lists.specs.Runs.{HasInstrs}
 use Rattle.vax_frames.specs.Frames.{room_code}
@@ -35,7 +35,7 @@ pub record HasFrame (code : List CodeItem) (label : List ℕ) (locals : ℕ) : T
   pub few : words ≤ 1024
   pub is_mask : IsMask mask
   pub entry_is : next_item code (label_place code label) ≡ entry
-  pub mask_there : slice_get code entry ≡ Some (items.Mask mask)
+  pub mask_there : slice_get code entry ≡ Some (item_kind.Mask mask)
   pub room : HasInstrs code (entry + 1) (room_code words)
 
 -- A frame that a call has made in a state: its registers are kept in it, and where to go on.

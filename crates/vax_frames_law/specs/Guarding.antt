@@ -4,12 +4,12 @@ use Rattle.std.specs.Prelude.{◌≡◌, ℕ, ◌+◌, ◌/◌, ◌%◌, ◌^◌
 use Rattle.std.specs.Prelude.{Option, Some, None, Ok, Bool, true, false}
 use Rattle.vax_core.specs.declared.code.Instr.{Instr}
 use Rattle.vax_core.specs.declared.code.CodeItem.{CodeItem}
-use Rattle.vax_core.specs.declared.code.CodeItem.TheVariants as items
+use Rattle.vax_core.specs.declared.code.CodeItem.TheVariants as item_kind
 use Rattle.vax_core.specs.Registers.{operands_name}
 use Rattle.vax_machine_live.specs.declared.frame.Frame.{Frame}
 use Rattle.vax_machine.specs.declared.function.Action.{Action}
 use Rattle.vax_machine.specs.declared.function.Action.TheVariants.{Compute, Push, Branch, Call, Return}
-use Rattle.vax_machine.specs.declared.function.Test.TheVariants as tests
+use Rattle.vax_machine.specs.declared.function.Test.TheVariants as test
 use Rattle.vax_machine.specs.State.{State}
 use Rattle.vax_machine.specs.Functions.{action_of}
 use Rattle.vax_machine.specs.Labels.{main_name, next_item, label_place}
@@ -26,7 +26,7 @@ has mask r = (mask / 2 ^ r) % 2 == 1
 abbrev pub may_pass : Action → Bool
 may_pass (Compute f) = true
 may_pass Push = true
-may_pass (Branch tests.Always) = false
+may_pass (Branch test.Always) = false
 may_pass (Branch t) = true
 may_pass Call = true
 may_pass Return = false
@@ -34,14 +34,14 @@ may_pass Return = false
 -- Each place of a code belongs to a function with a mask: its instructions name no other registers of r2 to r11, the run comes to no
 -- other function's place behind an instruction or by a branch, and an entry mask is the mask of the places behind it.
 pub record IsGuarded (code : List CodeItem) (mask_at : ℕ → ℕ) : Type 0 where
-  pub named : (p : ℕ) (i : Instr) (r : ℕ) → slice_get code p ≡ Some (items.Instr i) → 2 ≤ r → r < 12 → has (mask_at p) r ≡ false
+  pub named : (p : ℕ) (i : Instr) (r : ℕ) → slice_get code p ≡ Some (item_kind.Instr i) → 2 ≤ r → r < 12 → has (mask_at p) r ≡ false
       → operands_name i.operands r ≡ false
-  pub onward : (p : ℕ) (i : Instr) → slice_get code p ≡ Some (items.Instr i) → may_pass (action_of i.op) ≡ true
+  pub onward : (p : ℕ) (i : Instr) → slice_get code p ≡ Some (item_kind.Instr i) → may_pass (action_of i.op) ≡ true
       → mask_at (next_item code (p + 1)) ≡ mask_at p
-  pub branch : (p : ℕ) (i : Instr) (label : List ℕ) → slice_get code p ≡ Some (items.Instr i) → i.target ≡ Some label
+  pub branch : (p : ℕ) (i : Instr) (label : List ℕ) → slice_get code p ≡ Some (item_kind.Instr i) → i.target ≡ Some label
       → (action_of i.op ≡ Call → ⊥)
       → mask_at (next_item code (label_place code label)) ≡ mask_at p
-  pub entry : (p mask : ℕ) → slice_get code p ≡ Some (items.Mask mask) → mask_at (next_item code (p + 1)) ≡ mask
+  pub entry : (p mask : ℕ) → slice_get code p ≡ Some (item_kind.Mask mask) → mask_at (next_item code (p + 1)) ≡ mask
 
 -- A call's frame, at a place and with registers: each register that its function may not use is as it was when it was called.
 pub record IsIntact (code : List CodeItem) (mask_at : ℕ → ℕ) (f : Frame) (place : ℕ) (registers : List ℕ) : Type 0 where

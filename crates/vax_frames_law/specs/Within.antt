@@ -2,7 +2,7 @@
 use Rattle.std.specs.Prelude.{◌≡◌, ℕ, zero, suc, ◌+◌, ◌<◌, ◌≤◌, List, [], ◌∷◌, ◌++◌, Some, None, true, false}
 use Rattle.vax_core.specs.declared.code.Instr.{Instr}
 use Rattle.vax_core.specs.declared.code.CodeItem.{CodeItem}
-use Rattle.vax_core.specs.declared.code.CodeItem.TheVariants as items
+use Rattle.vax_core.specs.declared.code.CodeItem.TheVariants as item_kind
 use Rattle.vax_core.specs.Registers.{operands_name}
 use Rattle.vax_machine.specs.declared.function.Action.TheVariants.{Call}
 use Rattle.vax_machine.specs.Functions.{action_of}
@@ -15,10 +15,10 @@ use Rattle.vax_frames_law.specs.Guarding.{has, may_pass, IsGuarded}
 
 -- the mask behind an item
 abbrev pub mask_of : CodeItem → ℕ → ℕ
-mask_of (items.Label l) k = k
-mask_of (items.Globl l) k = k
-mask_of (items.Mask mask) k = mask
-mask_of (items.Instr i) k = k
+mask_of (item_kind.Label l) k = k
+mask_of (item_kind.Globl l) k = k
+mask_of (item_kind.Mask mask) k = mask
+mask_of (item_kind.Instr i) k = k
 
 -- the mask of the function to which a place belongs: the last entry mask up to there
 abbrev pub mask_from : ℕ → List CodeItem → ℕ → ℕ
@@ -29,10 +29,10 @@ mask_from k (x ∷ rest) (suc p) = mask_from (mask_of x k) rest p
 -- an instruction is the first item that is neither a label nor a `.globl` line
 abbrev pub RunsOn : List CodeItem → Type 0
 RunsOn [] = ⊥
-RunsOn (items.Label l ∷ rest) = RunsOn rest
-RunsOn (items.Globl l ∷ rest) = RunsOn rest
-RunsOn (items.Mask mask ∷ rest) = ⊥
-RunsOn (items.Instr i ∷ rest) = Unit {0}
+RunsOn (item_kind.Label l ∷ rest) = RunsOn rest
+RunsOn (item_kind.Globl l ∷ rest) = RunsOn rest
+RunsOn (item_kind.Mask mask ∷ rest) = ⊥
+RunsOn (item_kind.Instr i ∷ rest) = Unit {0}
 
 -- An instruction under a mask, with items behind it: it names no other register of r2 to r11, it runs on to an instruction unless it never
 -- comes behind itself, and it branches to labels under the same mask.
@@ -45,10 +45,10 @@ pub record IsClosedAt (code : List CodeItem) (mask : ℕ) (i : Instr) (rest : Li
 -- so are all instructions, and an instruction comes behind each mask
 abbrev pub AreClosed : List CodeItem → ℕ → List CodeItem → Type 0
 AreClosed code k [] = Unit {0}
-AreClosed code k (items.Label l ∷ rest) = AreClosed code k rest
-AreClosed code k (items.Globl l ∷ rest) = AreClosed code k rest
-AreClosed code k (items.Mask mask ∷ rest) = RunsOn rest × AreClosed code mask rest
-AreClosed code k (items.Instr i ∷ rest) = IsClosedAt code k i rest × AreClosed code k rest
+AreClosed code k (item_kind.Label l ∷ rest) = AreClosed code k rest
+AreClosed code k (item_kind.Globl l ∷ rest) = AreClosed code k rest
+AreClosed code k (item_kind.Mask mask ∷ rest) = RunsOn rest × AreClosed code mask rest
+AreClosed code k (item_kind.Instr i ∷ rest) = IsClosedAt code k i rest × AreClosed code k rest
 
 abbrev pub ClosedIsGuarded : Type 0
 ClosedIsGuarded = (code : List CodeItem) → AreClosed code 0 code → IsGuarded code (mask_from 0 code)
@@ -62,10 +62,10 @@ pub record IsWithin (body : List CodeItem) (mask : ℕ) (i : Instr) : Type 0 whe
 
 abbrev pub KeepWithin : List CodeItem → ℕ → List CodeItem → Type 0
 KeepWithin body mask [] = Unit {0}
-KeepWithin body mask (items.Label l ∷ rest) = KeepWithin body mask rest
-KeepWithin body mask (items.Globl l ∷ rest) = KeepWithin body mask rest
-KeepWithin body mask (items.Mask k ∷ rest) = ⊥
-KeepWithin body mask (items.Instr i ∷ rest) = IsWithin body mask i × KeepWithin body mask rest
+KeepWithin body mask (item_kind.Label l ∷ rest) = KeepWithin body mask rest
+KeepWithin body mask (item_kind.Globl l ∷ rest) = KeepWithin body mask rest
+KeepWithin body mask (item_kind.Mask k ∷ rest) = ⊥
+KeepWithin body mask (item_kind.Instr i ∷ rest) = IsWithin body mask i × KeepWithin body mask rest
 
 -- a code of frames, each round a body that keeps within it
 pub data AreFrames : List CodeItem → Type 0 where
@@ -82,10 +82,10 @@ FramesAreGuarded = (code : List CodeItem) → double_label code ≡ None → Are
 -- a body has no mask, and its branches go to labels of its own
 abbrev pub StaysInside : List CodeItem → List CodeItem → Type 0
 StaysInside body [] = Unit {0}
-StaysInside body (items.Label l ∷ rest) = StaysInside body rest
-StaysInside body (items.Globl l ∷ rest) = StaysInside body rest
-StaysInside body (items.Mask k ∷ rest) = ⊥
-StaysInside body (items.Instr i ∷ rest) =
+StaysInside body (item_kind.Label l ∷ rest) = StaysInside body rest
+StaysInside body (item_kind.Globl l ∷ rest) = StaysInside body rest
+StaysInside body (item_kind.Mask k ∷ rest) = ⊥
+StaysInside body (item_kind.Instr i ∷ rest) =
     ((label : List ℕ) → i.target ≡ Some label → (action_of i.op ≡ Call → ⊥) → has_label body label ≡ true) × StaysInside body rest
 
 -- The code of a function with such a body keeps within its frame.

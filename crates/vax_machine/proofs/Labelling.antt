@@ -4,7 +4,7 @@ use Rattle.std.proofs.lemmas.List.{drop_more}
 use Rattle.vax_core.specs.declared.code.AreaItem.{AreaItem}
 use Rattle.vax_core.specs.declared.code.AreaItem.TheVariants as areas
 use Rattle.vax_core.specs.declared.code.CodeItem.{CodeItem}
-use Rattle.vax_core.specs.declared.code.CodeItem.TheVariants as items
+use Rattle.vax_core.specs.declared.code.CodeItem.TheVariants as item_kind
 use Rattle.vax_machine.specs.Area.{has_area_label}
 use Rattle.vax_machine.specs.Labels.{is_service, has_label, double_label, double_area_label}
 use Rattle.vax_machine.specs.Tables.{Names, place_in, area_place_in, with_name}
@@ -20,7 +20,7 @@ in_front xs place x pos le e =
 before : (place : ℕ) → 0 < place → place ≡ place - 1 + 1
 before place pos = omega arith
 
-pub places_more : (list : List CodeItem) (place : ℕ) (n : List ℕ) (names new : Names) → 0 < place → drop (place - 1) list ≡ items.Label n ∷ drop place list
+pub places_more : (list : List CodeItem) (place : ℕ) (n : List ℕ) (names new : Names) → 0 < place → drop (place - 1) list ≡ item_kind.Label n ∷ drop place list
     → names ≡ place_in (drop place list) place → new ≡ with_name names n (place - 1) → new ≡ place_in (drop (place - 1) list) (place - 1)
 places_more list place n names new pos e h put =
     put
@@ -34,7 +34,7 @@ area_places_more list place n names new pos e h put =
     ∙ ap (λ (t : Names). with_name t n (place - 1)) (h ∙ ap (λ (k : ℕ). area_place_in (drop place list) k) (before place pos))
     ∙ ap (λ (l : List AreaItem). area_place_in l (place - 1)) (sym e)
 
-pub double_more : (list : List CodeItem) (place : ℕ) (n : List ℕ) (names : Names) (again : Bool) (old new : Option (List ℕ)) → drop (place - 1) list ≡ items.Label n ∷ drop place list
+pub double_more : (list : List CodeItem) (place : ℕ) (n : List ℕ) (names : Names) (again : Bool) (old new : Option (List ℕ)) → drop (place - 1) list ≡ item_kind.Label n ∷ drop place list
     → names ≡ place_in (drop place list) place → again ≡ (is_service n || is_some (names n)) → old ≡ double_label (drop place list) → new ≡ cond again (Some n) old
     → new ≡ double_label (drop (place - 1) list)
 double_more list place n names again old new e h test was is =

@@ -8,7 +8,7 @@ use Rattle.vax_core.specs.declared.code.Code.{Code}
 use Rattle.vax_machine.specs.declared.turn.Stop.{Stop}
 use Rattle.vax_machine_live.specs.declared.frame.Frame.{Frame}
 use Rattle.vax_machine.specs.declared.area.Layout.{Layout}
-use Rattle.vax_machine.specs.declared.loading.LoadFault.TheVariants as faults
+use Rattle.vax_machine.specs.declared.loading.LoadFault.TheVariants as loading_fault
 use Rattle.vax_machine.specs.State.{State}
 use Rattle.vax_machine.specs.Area.{zeros, area_size, area_bytes}
 use Rattle.vax_machine.specs.LaidOut.{IsLaidOut}
@@ -38,8 +38,8 @@ loads_by c layout items l e f double area code main laid =
     let fits : nat_lt 1048576 (area_size c.area) ≡ false = ap (λ (x : List AreaItem). nat_lt 1048576 (area_size x)) (sym e) ∙ le-ltb 1048576 (area_size layout) size in
     ap (λ (o : Option (List ℕ)). or_double o c) double
     ∙ ap (λ (o : Option (List ℕ)). or_undefined o c) names
-    ∙ ap (λ b. cond b (too_large c) (Some faults.NoMain)) main_is
-    ∙ ap (λ b. cond b (Some faults.TooLarge) None) fits
+    ∙ ap (λ b. cond b (too_large c) (Some loading_fault.NoMain)) main_is
+    ∙ ap (λ b. cond b (Some loading_fault.TooLarge) None) fits
 
 -- the state before the call of `_main`
 pub blank_is : (c : Code) (input : List ℕ) (layout : List AreaItem) (items : List CodeItem) (area stack : List ℕ) (frames : List Frame) → layout ≡ c.area → items ≡ c.items → area

@@ -7,7 +7,7 @@ use Rattle.gg_base.specs.declared.size.Size.TheVariants.{Byte, Long}
 use Rattle.gg_base.specs.Arithmetic.{add32, sub32, mul32}
 use Rattle.vax_core.specs.declared.register.Reg.TheVariants.{R0, Fp, Sp}
 use Rattle.vax_core.specs.declared.code.CodeItem.{CodeItem}
-use Rattle.vax_core.specs.declared.code.CodeItem.TheVariants as items
+use Rattle.vax_core.specs.declared.code.CodeItem.TheVariants as item_kind
 use Rattle.vax_machine.specs.declared.turn.Stop.{Stop}
 use Rattle.vax_machine.specs.declared.turn.Stop.TheVariants.{Ended}
 use Rattle.vax_machine_live.specs.declared.frame.Frame.{Frame}
@@ -39,10 +39,10 @@ all_reserved (suc k) m = reserved m >>= λ (n : State). all_reserved k n
 -- the entry mask of an item, where it is one
 abbrev pub entry_mask : Option CodeItem → Option ℕ
 entry_mask None = None
-entry_mask (Some (items.Label n)) = None
-entry_mask (Some (items.Globl n)) = None
-entry_mask (Some (items.Mask mask)) = Some mask
-entry_mask (Some (items.Instr i)) = None
+entry_mask (Some (item_kind.Label n)) = None
+entry_mask (Some (item_kind.Globl n)) = None
+entry_mask (Some (item_kind.Mask mask)) = Some mask
+entry_mask (Some (item_kind.Instr i)) = None
 
 -- one more frame is live, and execution goes on behind the mask
 abbrev pub entered : State → ℕ → ℕ → ℕ → ℕ → Option ℕ → Result State Stop

@@ -12,7 +12,7 @@ use Rattle.vax_machine.specs.declared.function.Computed.{Computed}
 use Rattle.vax_machine.specs.declared.function.Function.{Function}
 use Rattle.vax_machine.specs.declared.function.Function.TheVariants as functions
 use Rattle.vax_machine.specs.declared.function.Test.{Test}
-use Rattle.vax_machine.specs.declared.function.Test.TheVariants as tests
+use Rattle.vax_machine.specs.declared.function.Test.TheVariants as test
 use Rattle.vax_machine.specs.declared.function.Action.{Action}
 use Rattle.vax_machine.specs.declared.function.Action.TheVariants.{Compute, Push, Branch, Call, Return}
 
@@ -60,17 +60,17 @@ action_of ops.Cmpl = Compute (functions.Compare Long)
 action_of ops.Tstb = Compute (functions.CompareWithZero Byte)
 action_of ops.Tstw = Compute (functions.CompareWithZero Word)
 action_of ops.Tstl = Compute (functions.CompareWithZero Long)
-action_of ops.Jbr = Branch tests.Always
-action_of ops.Jeql = Branch tests.Equal
-action_of ops.Jneq = Branch tests.NotEqual
-action_of ops.Jlss = Branch tests.Less
-action_of ops.Jleq = Branch tests.LessOrEqual
-action_of ops.Jgtr = Branch tests.Greater
-action_of ops.Jgeq = Branch tests.GreaterOrEqual
-action_of ops.Jlssu = Branch tests.LessUnsigned
-action_of ops.Jlequ = Branch tests.LessOrEqualUnsigned
-action_of ops.Jgtru = Branch tests.GreaterUnsigned
-action_of ops.Jgequ = Branch tests.GreaterOrEqualUnsigned
+action_of ops.Jbr = Branch test.Always
+action_of ops.Jeql = Branch test.Equal
+action_of ops.Jneq = Branch test.NotEqual
+action_of ops.Jlss = Branch test.Less
+action_of ops.Jleq = Branch test.LessOrEqual
+action_of ops.Jgtr = Branch test.Greater
+action_of ops.Jgeq = Branch test.GreaterOrEqual
+action_of ops.Jlssu = Branch test.LessUnsigned
+action_of ops.Jlequ = Branch test.LessOrEqualUnsigned
+action_of ops.Jgtru = Branch test.GreaterUnsigned
+action_of ops.Jgequ = Branch test.GreaterOrEqualUnsigned
 action_of ops.Calls = Call
 action_of ops.Ret = Return
 
@@ -128,14 +128,14 @@ applied (functions.CompareWithZero size) a b c = Some (only_conditions (is_negat
 
 -- whether a branch is taken
 abbrev pub passes : Test → Conditions → Bool
-passes tests.Always c = true
-passes tests.Equal c = c.is_zero
-passes tests.NotEqual c = not c.is_zero
-passes tests.Less c = c.negative
-passes tests.LessOrEqual c = c.negative || c.is_zero
-passes tests.Greater c = not (c.negative || c.is_zero)
-passes tests.GreaterOrEqual c = not c.negative
-passes tests.LessUnsigned c = c.carry
-passes tests.LessOrEqualUnsigned c = c.carry || c.is_zero
-passes tests.GreaterUnsigned c = not (c.carry || c.is_zero)
-passes tests.GreaterOrEqualUnsigned c = not c.carry
+passes test.Always c = true
+passes test.Equal c = c.is_zero
+passes test.NotEqual c = not c.is_zero
+passes test.Less c = c.negative
+passes test.LessOrEqual c = c.negative || c.is_zero
+passes test.Greater c = not (c.negative || c.is_zero)
+passes test.GreaterOrEqual c = not c.negative
+passes test.LessUnsigned c = c.carry
+passes test.LessOrEqualUnsigned c = c.carry || c.is_zero
+passes test.GreaterUnsigned c = not (c.carry || c.is_zero)
+passes test.GreaterOrEqualUnsigned c = not c.carry

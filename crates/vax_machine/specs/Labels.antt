@@ -8,9 +8,9 @@ use Rattle.vax_core.specs.declared.code.Instr.{Instr}
 use Rattle.vax_core.specs.declared.code.AreaItem.{AreaItem}
 use Rattle.vax_core.specs.declared.code.AreaItem.TheVariants as areas
 use Rattle.vax_core.specs.declared.code.CodeItem.{CodeItem}
-use Rattle.vax_core.specs.declared.code.CodeItem.TheVariants as items
+use Rattle.vax_core.specs.declared.code.CodeItem.TheVariants as item_kind
 use Rattle.vax_machine.specs.declared.function.Action.{Action}
-use Rattle.vax_machine.specs.declared.function.Action.TheVariants as actions
+use Rattle.vax_machine.specs.declared.function.Action.TheVariants as action
 use Rattle.vax_machine.specs.Functions.{action_of}
 use Rattle.vax_machine.specs.Area.{has_area_label}
 
@@ -29,20 +29,20 @@ is_service name = bytes_eq name putchar_name || bytes_eq name getchar_name
 -- how many labels and `.globl` lines stand at the front
 abbrev pub skipped : List CodeItem → ℕ
 skipped [] = 0
-skipped (items.Label name ∷ rest) = skipped rest + 1
-skipped (items.Globl name ∷ rest) = skipped rest + 1
-skipped (items.Mask mask ∷ rest) = 0
-skipped (items.Instr i ∷ rest) = 0
+skipped (item_kind.Label name ∷ rest) = skipped rest + 1
+skipped (item_kind.Globl name ∷ rest) = skipped rest + 1
+skipped (item_kind.Mask mask ∷ rest) = 0
+skipped (item_kind.Instr i ∷ rest) = 0
 
 -- the first place from there on that is none of these: the next item
 abbrev pub next_item : List CodeItem → ℕ → ℕ
 next_item list place = place + skipped (drop place list)
 
 abbrev pub is_label : CodeItem → List ℕ → Bool
-is_label (items.Label n) name = bytes_eq n name
-is_label (items.Globl n) name = false
-is_label (items.Mask m) name = false
-is_label (items.Instr i) name = false
+is_label (item_kind.Label n) name = bytes_eq n name
+is_label (item_kind.Globl n) name = false
+is_label (item_kind.Mask m) name = false
+is_label (item_kind.Instr i) name = false
 
 abbrev pub has_label : List CodeItem → List ℕ → Bool
 has_label [] name = false
@@ -54,10 +54,10 @@ label_place [] name = 0
 label_place (item ∷ rest) name = if is_label item name then 0 else label_place rest name + 1
 
 abbrev pub double_at : CodeItem → List CodeItem → Option (List ℕ) → Option (List ℕ)
-double_at (items.Label n) rest others = if is_service n || has_label rest n then Some n else others
-double_at (items.Globl n) rest others = others
-double_at (items.Mask m) rest others = others
-double_at (items.Instr i) rest others = others
+double_at (item_kind.Label n) rest others = if is_service n || has_label rest n then Some n else others
+double_at (item_kind.Globl n) rest others = others
+double_at (item_kind.Mask m) rest others = others
+double_at (item_kind.Instr i) rest others = others
 
 -- the first label of the code that stands again behind it, or has a service's name
 abbrev pub double_label : List CodeItem → Option (List ℕ)
@@ -107,11 +107,11 @@ undefined_operand layout [] = None
 undefined_operand layout (o ∷ os) = first_of (undefined_name layout (name_in o.base)) (undefined_operand layout os)
 
 abbrev pub is_call : Action → Bool
-is_call (actions.Compute f) = false
-is_call actions.Push = false
-is_call (actions.Branch t) = false
-is_call actions.Call = true
-is_call actions.Return = false
+is_call (action.Compute f) = false
+is_call action.Push = false
+is_call (action.Branch t) = false
+is_call action.Call = true
+is_call action.Return = false
 
 -- a branch goes to a label of the code, a call to one or to a service
 abbrev pub undefined_target : List CodeItem → Bool → Option (List ℕ) → Option (List ℕ)
@@ -122,10 +122,10 @@ abbrev pub undefined_in : List AreaItem → List CodeItem → Instr → Option (
 undefined_in layout all i = first_of (undefined_operand layout i.operands) (undefined_target all (is_call (action_of i.op)) i.target)
 
 abbrev pub undefined_at : List AreaItem → List CodeItem → CodeItem → Option (List ℕ)
-undefined_at layout all (items.Label n) = None
-undefined_at layout all (items.Globl n) = None
-undefined_at layout all (items.Mask m) = None
-undefined_at layout all (items.Instr i) = undefined_in layout all i
+undefined_at layout all (item_kind.Label n) = None
+undefined_at layout all (item_kind.Globl n) = None
+undefined_at layout all (item_kind.Mask m) = None
+undefined_at layout all (item_kind.Instr i) = undefined_in layout all i
 
 -- the first name of an instruction that isn't defined for its use
 abbrev pub undefined_label : List CodeItem → List AreaItem → List CodeItem → Option (List ℕ)

@@ -4,7 +4,7 @@ use Rattle.vax_core.specs.declared.code.Code.{Code}
 use Rattle.vax_machine.specs.declared.turn.Stop.{Stop}
 use Rattle.vax_machine.specs.declared.machine.Machine.{Machine}
 use Rattle.vax_machine.specs.declared.loading.LoadFault.{LoadFault}
-use Rattle.vax_machine.specs.declared.loading.LoadFault.TheVariants as faults
+use Rattle.vax_machine.specs.declared.loading.LoadFault.TheVariants as loading_fault
 use Rattle.vax_machine.specs.State.{State, cleared}
 use Rattle.vax_machine.specs.Area.{zeros, area_size, area_bytes}
 use Rattle.vax_machine.specs.Labels.{main_name, has_label, label_place, first_of, double_label, double_area_label}
@@ -14,13 +14,13 @@ use Rattle.vax_machine.specs.View.{state}
 
 -- the data area may have 1,048,576 bytes
 abbrev pub too_large : Code → Option LoadFault
-too_large c = if nat_lt 1048576 (area_size c.area) then Some faults.TooLarge else None
+too_large c = if nat_lt 1048576 (area_size c.area) then Some loading_fault.TooLarge else None
 
 abbrev pub no_main : Code → Option LoadFault
-no_main c = if has_label c.items main_name then too_large c else Some faults.NoMain
+no_main c = if has_label c.items main_name then too_large c else Some loading_fault.NoMain
 
 abbrev pub or_undefined : Option (List ℕ) → Code → Option LoadFault
-or_undefined (Some n) c = Some (faults.UndefinedLabel n)
+or_undefined (Some n) c = Some (loading_fault.UndefinedLabel n)
 or_undefined None c = no_main c
 
 -- the first name of a text that isn't defined for its use, the data area's before the code's
@@ -28,7 +28,7 @@ abbrev pub undefined_name_of : Code → Option (List ℕ)
 undefined_name_of c = first_of (undefined_area_label c.area c.area) (undefined_label c.items c.area c.items)
 
 abbrev pub or_double : Option (List ℕ) → Code → Option LoadFault
-or_double (Some n) c = Some (faults.DoubleLabel n)
+or_double (Some n) c = Some (loading_fault.DoubleLabel n)
 or_double None c = or_undefined (undefined_name_of c) c
 
 -- the first label of a text that stands again behind it or has a service's name, the data area's before the code's
@@ -80,13 +80,13 @@ Stands m n = SameFrom n.over m n
 -- what loading a code gives
 abbrev pub Loaded : Code → List ℕ → Result Machine LoadFault → Type 0
 Loaded c input (Ok m) = Loads c × Stands (state m) (start c input)
-Loaded c input (Err faults.NoMemory) = Unit {0}
-Loaded c input (Err (faults.DoubleLabel n)) = load_fault c ≡ Some (faults.DoubleLabel n)
-Loaded c input (Err (faults.UndefinedLabel n)) = load_fault c ≡ Some (faults.UndefinedLabel n)
-Loaded c input (Err faults.NoMain) = load_fault c ≡ Some faults.NoMain
-Loaded c input (Err faults.TooLarge) = load_fault c ≡ Some faults.TooLarge
+Loaded c input (Err loading_fault.NoMemory) = Unit {0}
+Loaded c input (Err (loading_fault.DoubleLabel n)) = load_fault c ≡ Some (loading_fault.DoubleLabel n)
+Loaded c input (Err (loading_fault.UndefinedLabel n)) = load_fault c ≡ Some (loading_fault.UndefinedLabel n)
+Loaded c input (Err loading_fault.NoMain) = load_fault c ≡ Some loading_fault.NoMain
+Loaded c input (Err loading_fault.TooLarge) = load_fault c ≡ Some loading_fault.TooLarge
 
 -- the fault of a label that stands twice
 abbrev pub IsDouble : Option (List ℕ) → LoadFault → Type 0
 IsDouble None e = ⊥
-IsDouble (Some n) e = e ≡ faults.DoubleLabel n
+IsDouble (Some n) e = e ≡ loading_fault.DoubleLabel n

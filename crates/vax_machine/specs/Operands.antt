@@ -9,7 +9,7 @@ use Rattle.vax_core.specs.declared.operand.Base.{Base}
 use Rattle.vax_core.specs.declared.operand.Base.TheVariants as bases
 use Rattle.vax_core.specs.declared.operand.Operand.{Operand}
 use Rattle.vax_core.specs.declared.op.Access.{Access}
-use Rattle.vax_core.specs.declared.op.Access.TheVariants as uses
+use Rattle.vax_core.specs.declared.op.Access.TheVariants as accesses
 use Rattle.vax_core.specs.declared.op.OperandKind.{OperandKind}
 use Rattle.vax_machine.specs.declared.turn.Stop.{Stop}
 use Rattle.vax_machine.specs.declared.operands.Location.{Location}
@@ -70,11 +70,11 @@ with_destination v l size = record { number = v; destination = Some (record { lo
 
 -- what an instruction takes of an operand, by the operand's access; a place that is only written is looked at when it is written
 unfoldable pub taken : State → Access → Location → Size → Result Evaluated Stop
-taken m uses.Read l size = fetched m l size >>= λ (v : ℕ). Ok (only_number v)
-taken m uses.Modify l size = fetched m l size >>= λ (v : ℕ). Ok (with_destination v l size)
-taken m uses.Write l size = Ok (with_destination 0 l size)
-taken m uses.Address l size = address_of l >>= λ (a : ℕ). Ok (only_number a)
-taken m uses.Count l size = fetched m l size >>= λ (v : ℕ). Ok (only_number v)
+taken m accesses.Read l size = fetched m l size >>= λ (v : ℕ). Ok (only_number v)
+taken m accesses.Modify l size = fetched m l size >>= λ (v : ℕ). Ok (with_destination v l size)
+taken m accesses.Write l size = Ok (with_destination 0 l size)
+taken m accesses.Address l size = address_of l >>= λ (a : ℕ). Ok (only_number a)
+taken m accesses.Count l size = fetched m l size >>= λ (v : ℕ). Ok (only_number v)
 
 -- one operand
 unfoldable pub evaluated : State → OperandKind → Operand → Result (Evaluated × State) Stop

@@ -3,7 +3,7 @@ use Rattle.std.specs.Prelude.{◌≡◌, ℕ, ◌+◌, Bool, List, Option, Some,
 use Rattle.vax_core.specs.declared.operand.Operand.{Operand}
 use Rattle.vax_core.specs.declared.op.Op.{Op}
 use Rattle.vax_core.specs.declared.code.CodeItem.{CodeItem}
-use Rattle.vax_core.specs.declared.code.CodeItem.TheVariants as items
+use Rattle.vax_core.specs.declared.code.CodeItem.TheVariants as item_kind
 use Rattle.vax_core.specs.Ops.{shape}
 use Rattle.vax_machine.specs.declared.turn.Turn.{Turn}
 use Rattle.vax_machine.specs.declared.turn.Turn.TheVariants as turns
@@ -49,10 +49,10 @@ instruction m op os target =
 -- the item at a place is done; the one behind it is then the next
 abbrev pub at_item : Option CodeItem → ℕ → State → Acts
 at_item None place m = Err bad_code
-at_item (Some (items.Label name)) place m = Err bad_code
-at_item (Some (items.Globl name)) place m = Err bad_code
-at_item (Some (items.Mask mask)) place m = Err bad_code
-at_item (Some (items.Instr i)) place m = instruction (record m { place = place + 1 }) i.op i.operands i.target
+at_item (Some (item_kind.Label name)) place m = Err bad_code
+at_item (Some (item_kind.Globl name)) place m = Err bad_code
+at_item (Some (item_kind.Mask mask)) place m = Err bad_code
+at_item (Some (item_kind.Instr i)) place m = instruction (record m { place = place + 1 }) i.op i.operands i.target
 
 unfoldable pub act : State → Acts
 act m = at_item (slice_get m.items (next_item m.items m.place)) (next_item m.items m.place) m

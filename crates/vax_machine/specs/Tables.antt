@@ -7,7 +7,7 @@ use Rattle.vax_core.specs.declared.operand.Operand.{Operand}
 use Rattle.vax_core.specs.declared.op.OperandKind.{OperandKind}
 use Rattle.vax_core.specs.declared.code.AreaItem.{AreaItem}
 use Rattle.vax_core.specs.declared.code.CodeItem.{CodeItem}
-use Rattle.vax_core.specs.declared.code.CodeItem.TheVariants as items
+use Rattle.vax_core.specs.declared.code.CodeItem.TheVariants as item_kind
 use Rattle.vax_machine.specs.declared.program.Links.{Links}
 use Rattle.vax_machine.specs.Area.{is_area_label, resolved, size_at}
 use Rattle.vax_machine.specs.Labels.{is_label, label_place}
@@ -62,10 +62,10 @@ target_of all (Some name) = label_place all name
 
 -- what the names of an item stand for
 abbrev pub links_of : List AreaItem → List CodeItem → CodeItem → Links
-links_of layout all (items.Label name) = record { target = 0; numbers = 0 ∷ (0 ∷ (0 ∷ [])) }
-links_of layout all (items.Globl name) = record { target = 0; numbers = 0 ∷ (0 ∷ (0 ∷ [])) }
-links_of layout all (items.Mask mask) = record { target = 0; numbers = 0 ∷ (0 ∷ (0 ∷ [])) }
-links_of layout all (items.Instr i) = record {
+links_of layout all (item_kind.Label name) = record { target = 0; numbers = 0 ∷ (0 ∷ (0 ∷ [])) }
+links_of layout all (item_kind.Globl name) = record { target = 0; numbers = 0 ∷ (0 ∷ (0 ∷ [])) }
+links_of layout all (item_kind.Mask mask) = record { target = 0; numbers = 0 ∷ (0 ∷ (0 ∷ [])) }
+links_of layout all (item_kind.Instr i) = record {
   target = target_of all i.target;
   numbers = operand_number layout (slice_get i.operands 0) ∷ (operand_number layout (slice_get i.operands 1) ∷
       (operand_number layout (slice_get i.operands 2) ∷ []));

@@ -55,13 +55,13 @@ fn copied(alloc: Global, name: &Name) -> Result<Name, AllocError>
 }
 
 ghost use Rattle.vax_core.specs.Valid.{is_code};
-ghost use Rattle.vax_machine.specs.declared.loading.LoadFault.TheVariants as faults;
+ghost use Rattle.vax_machine.specs.declared.loading.LoadFault.TheVariants as loading_fault;
 ghost use Rattle.vax_machine.specs.Loading.{Loaded, double_label_of, IsDouble};
 
 // The names of a code in which no label stands twice.
 fn names<'a>(alloc: Global, code: &'a Code) -> Result<Names<'a>, LoadFault>
     ensures loads { IfOk result (λ n. (n.layout.now ≡ code.now.area) × (n.items.now ≡ code.now.items) × (double_label_of code.now ≡ None)) }
-    ensures faulty { IfErr result (λ e. (e ≡ faults.NoMemory) ⊎ IsDouble (double_label_of code.now) e) }
+    ensures faulty { IfErr result (λ e. (e ≡ loading_fault.NoMemory) ⊎ IsDouble (double_label_of code.now) e) }
 {
     let layout = code.area.as_slice();
     let items = code.items.as_slice();

@@ -31,7 +31,7 @@ impl<'a> Machine<'a> {
     ghost use Rattle.vax_machine.specs.Step.{step_of, IsStep, act, instruction, acted, finished, pushing, branched};
     ghost use Rattle.vax_machine.specs.View.{state};
     ghost use Rattle.vax_machine.specs.Tables.{target_of, links_of};
-    ghost use Rattle.vax_core.specs.declared.code.CodeItem.TheVariants as item_kinds;
+    ghost use Rattle.vax_core.specs.declared.code.CodeItem.TheVariants as item_kind;
 
     /// Does the next instruction. It takes no memory. Once the run is over, each further call answers so again.
     pub fn step(&mut self) -> Turn
@@ -72,7 +72,7 @@ impl<'a> Machine<'a> {
 
     #[tactic(auto, unfolding(crate::specs::Step::instruction))]
     fn instruction(&mut self, instr: &Instr, links: Links) -> Result<Option<u8>, Stop>
-        requires { links ≡ links_of self.old.program.layout.now self.old.program.items.now (item_kinds.Instr instr.now) }
+        requires { links ≡ links_of self.old.program.layout.now self.old.program.items.now (item_kind.Instr instr.now) }
         ensures { Does result (state self.new) (instruction (state self.old) instr.now.op instr.now.operands instr.now.target) }
     {
         let Shape {

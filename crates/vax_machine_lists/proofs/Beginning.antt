@@ -10,7 +10,7 @@ use Rattle.vax_core.specs.declared.code.AreaItem.TheVariants as areas
 use Rattle.vax_core.specs.declared.code.Code.{Code}
 use Rattle.vax_core.specs.Valid.{is_area_item, is_code_item, is_code}
 use Rattle.vax_machine.specs.declared.turn.Stop.{Stop}
-use Rattle.vax_machine.specs.declared.loading.LoadFault.TheVariants as faults
+use Rattle.vax_machine.specs.declared.loading.LoadFault.TheVariants as loading_fault
 use Rattle.vax_machine.specs.State.{State}
 use Rattle.vax_machine.specs.Area.{zeros, padding, size_at, end_from, area_size, item_bytes, bytes_from, area_bytes}
 use Rattle.vax_machine.specs.Labels.{main_name, has_label, label_place}
@@ -68,11 +68,11 @@ undefined_by : (c : Code) (o : Option (List ℕ)) → or_undefined o c ≡ None 
 undefined_by c None e = e
 undefined_by c (Some n) e = absurd (cc)
 
-main_by : (c : Code) (b : Bool) → cond b (too_large c) (Some faults.NoMain) ≡ None → too_large c ≡ None
+main_by : (c : Code) (b : Bool) → cond b (too_large c) (Some loading_fault.NoMain) ≡ None → too_large c ≡ None
 main_by c true e = e
 main_by c false e = absurd (cc)
 
-large_by : (size : ℕ) (b : Bool) → nat_lt 1048576 size ≡ b → cond b (Some faults.TooLarge) None ≡ None → size ≤ 1048576
+large_by : (size : ℕ) (b : Bool) → nat_lt 1048576 size ≡ b → cond b (Some loading_fault.TooLarge) None ≡ None → size ≤ 1048576
 large_by size true f e = absurd (cc)
 large_by size false f e = ltb-false 1048576 size f
 

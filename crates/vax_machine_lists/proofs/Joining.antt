@@ -5,7 +5,7 @@ use Rattle.std.specs.Prelude.{slice_get}
 use Rattle.std.specs.Str.{bytes_eq}
 use Rattle.vax_core.specs.declared.code.Instr.{Instr}
 use Rattle.vax_core.specs.declared.code.CodeItem.{CodeItem}
-use Rattle.vax_core.specs.declared.code.CodeItem.TheVariants as items
+use Rattle.vax_core.specs.declared.code.CodeItem.TheVariants as item_kind
 use Rattle.vax_core.specs.Ops.{shape}
 use Rattle.vax_machine.specs.declared.turn.Stop.{Stop}
 use Rattle.vax_machine.specs.declared.operands.Arguments.{Arguments}
@@ -27,19 +27,19 @@ use Rattle.vax_machine_lists.proofs.Steps.{nothing, one, further, then_gets, get
 -- ---- the instruction at a machine's place
 
 -- no label is skipped before an instruction
-skips_none : (x : CodeItem) (xs : List CodeItem) (i : Instr) → ◌≡◌ {A = Option CodeItem} (Some x) (Some (items.Instr i)) → skipped (x ∷ xs) ≡ 0
-skips_none (items.Label n) xs i e = absurd cc
-skips_none (items.Globl n) xs i e = absurd cc
-skips_none (items.Mask m) xs i e = absurd cc
-skips_none (items.Instr j) xs i e = refl
+skips_none : (x : CodeItem) (xs : List CodeItem) (i : Instr) → ◌≡◌ {A = Option CodeItem} (Some x) (Some (item_kind.Instr i)) → skipped (x ∷ xs) ≡ 0
+skips_none (item_kind.Label n) xs i e = absurd cc
+skips_none (item_kind.Globl n) xs i e = absurd cc
+skips_none (item_kind.Mask m) xs i e = absurd cc
+skips_none (item_kind.Instr j) xs i e = refl
 
-plain_at : (list : List CodeItem) (place : ℕ) (i : Instr) → slice_get list place ≡ Some (items.Instr i) → skipped (drop place list) ≡ 0
+plain_at : (list : List CodeItem) (place : ℕ) (i : Instr) → slice_get list place ≡ Some (item_kind.Instr i) → skipped (drop place list) ≡ 0
 plain_at [] zero i e = absurd cc
 plain_at [] (suc n) i e = absurd cc
 plain_at (x ∷ xs) zero i e = skips_none x xs i e
 plain_at (x ∷ xs) (suc n) i e = plain_at xs n i e
 
-pub act_is : (m : State) (i : Instr) → slice_get m.items m.place ≡ Some (items.Instr i) → act m ≡ instruction (record m { place = m.place + 1 }) i.op i.operands i.target
+pub act_is : (m : State) (i : Instr) → slice_get m.items m.place ≡ Some (item_kind.Instr i) → act m ≡ instruction (record m { place = m.place + 1 }) i.op i.operands i.target
 unfolding act
 act_is m i here =
     let e : next_item m.items m.place ≡ m.place = omega (arith, plain_at m.items m.place i here) in
@@ -133,7 +133,7 @@ module _ (m : State) where
         subst (λ (v : List ℕ). Carries m (suc (length is)) (followed (record { written = v; ending = Stops x }) is (exec is))) (sym h.0)
         (0, gets_now m _ going h.1)
 
-  pub one_by_one : (is : List Instr) (i : Instr) → m.over ≡ None → slice_get m.items m.place ≡ Some (items.Instr i)
+  pub one_by_one : (is : List Instr) (i : Instr) → m.over ≡ None → slice_get m.items m.place ≡ Some (item_kind.Instr i)
       → ((n : State) → Carries (there n next) (length is) (exec is (there n next))) → Carries m (suc (length is)) (exec (i ∷ is) m)
   one_by_one is i going here rest =
       one_then_rest going is

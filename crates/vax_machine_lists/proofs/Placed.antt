@@ -12,7 +12,7 @@ use Rattle.vax_core.specs.declared.operand.Base.{Base}
 use Rattle.vax_core.specs.declared.operand.Base.TheVariants as bases
 use Rattle.vax_core.specs.declared.operand.Operand.{Operand}
 use Rattle.vax_core.specs.declared.op.Access.{Access}
-use Rattle.vax_core.specs.declared.op.Access.TheVariants as uses
+use Rattle.vax_core.specs.declared.op.Access.TheVariants as accesses
 use Rattle.vax_core.specs.declared.op.OperandKind.{OperandKind}
 use Rattle.vax_core.specs.declared.code.Instr.{Instr}
 use Rattle.vax_core.specs.declared.code.CodeItem.{CodeItem}
@@ -155,11 +155,11 @@ module _ (w : Where) where
 
   taken_there : (m : State) (a : Access) (l : Location) (s : Size) → taken (there m w) a l s ≡ taken m a l s
   unfolding taken
-  taken_there m uses.Read l s = ap (λ (t : Result ℕ Stop). t >>= λ (v : ℕ). Ok (only_number v)) (fetched_there m l s)
-  taken_there m uses.Modify l s = ap (λ (t : Result ℕ Stop). t >>= λ (v : ℕ). Ok (with_destination v l s)) (fetched_there m l s)
-  taken_there m uses.Write l s = refl
-  taken_there m uses.Address l s = refl
-  taken_there m uses.Count l s = ap (λ (t : Result ℕ Stop). t >>= λ (v : ℕ). Ok (only_number v)) (fetched_there m l s)
+  taken_there m accesses.Read l s = ap (λ (t : Result ℕ Stop). t >>= λ (v : ℕ). Ok (only_number v)) (fetched_there m l s)
+  taken_there m accesses.Modify l s = ap (λ (t : Result ℕ Stop). t >>= λ (v : ℕ). Ok (with_destination v l s)) (fetched_there m l s)
+  taken_there m accesses.Write l s = refl
+  taken_there m accesses.Address l s = refl
+  taken_there m accesses.Count l s = ap (λ (t : Result ℕ Stop). t >>= λ (v : ℕ). Ok (only_number v)) (fetched_there m l s)
 
   taken_by : (m : State) (t : Result Evaluated Stop) → (t >>= λ (e : Evaluated). Ok (e, there m w)) ≡ pair_there (t >>= λ (e : Evaluated). Ok (e, m))
   unfolding pair_there

@@ -13,7 +13,7 @@ use Rattle.vax_core.specs.declared.operand.Base.{Base}
 use Rattle.vax_core.specs.declared.operand.Base.TheVariants as bases
 use Rattle.vax_core.specs.declared.operand.Operand.{Operand}
 use Rattle.vax_core.specs.declared.op.Access.{Access}
-use Rattle.vax_core.specs.declared.op.Access.TheVariants as uses
+use Rattle.vax_core.specs.declared.op.Access.TheVariants as accesses
 use Rattle.vax_core.specs.declared.op.OperandKind.{OperandKind}
 use Rattle.vax_core.specs.declared.code.Instr.{Instr}
 use Rattle.vax_core.specs.Ops.{shape}
@@ -172,11 +172,11 @@ module _ (r : ℕ) (low : 1 ≤ r) (is_not_sp : reg_number Sp ≡ r → ⊥) (ot
 
   taken_same : (m n : State) (a : Access) (l : Location) (size : Size) → Same r m n → Spares l → Evaluates m (taken n a l size >>= λ (e : Evaluated). Ok (e, n))
   unfolding taken Evaluates SparesIn
-  taken_same m n uses.Read l size h g = number_taken m n (fetched n l size) h
-  taken_same m n uses.Modify l size h g = place_taken m n l size (fetched n l size) h g
-  taken_same m n uses.Write l size h g = (h, g)
-  taken_same m n uses.Address l size h g = number_taken m n (address_of l) h
-  taken_same m n uses.Count l size h g = number_taken m n (fetched n l size) h
+  taken_same m n accesses.Read l size h g = number_taken m n (fetched n l size) h
+  taken_same m n accesses.Modify l size h g = place_taken m n l size (fetched n l size) h g
+  taken_same m n accesses.Write l size h g = (h, g)
+  taken_same m n accesses.Address l size h g = number_taken m n (address_of l) h
+  taken_same m n accesses.Count l size h g = number_taken m n (fetched n l size) h
 
   evaluated_by : (m : State) (k : OperandKind) (o : Operand) (t : Result (Location × State) Stop) → SameBehind m t → SparesAt t
       → Evaluates m (t >>= λ (x : Location × State). taken x.1 k.access (indexed x.1 x.0 o.index k.size) k.size >>= λ (e : Evaluated). Ok (e, x.1))

@@ -20,12 +20,12 @@ use Rattle.vax_core.specs.declared.operand.Base.{Base}
 use Rattle.vax_core.specs.declared.operand.Base.TheVariants as bases
 use Rattle.vax_core.specs.declared.operand.Operand.{Operand}
 use Rattle.vax_core.specs.declared.op.Access.{Access}
-use Rattle.vax_core.specs.declared.op.Access.TheVariants as uses
+use Rattle.vax_core.specs.declared.op.Access.TheVariants as accesses
 use Rattle.vax_core.specs.declared.op.OperandKind.{OperandKind}
 use Rattle.vax_core.specs.declared.code.Instr.{Instr}
 use Rattle.vax_core.specs.declared.code.AreaItem.{AreaItem}
 use Rattle.vax_core.specs.declared.code.CodeItem.{CodeItem}
-use Rattle.vax_core.specs.declared.code.CodeItem.TheVariants as items
+use Rattle.vax_core.specs.declared.code.CodeItem.TheVariants as item_kind
 use Rattle.vax_core.specs.Ops.{shape}
 use Rattle.vax_core.specs.Registers.{reg_number}
 use Rattle.vax_core.specs.Valid.{allows, is_long, is_addr, is_addr_of, is_named_addr, is_base, is_index, is_operand, are_operands, is_target, is_instr, is_code_item}
@@ -302,11 +302,11 @@ place_taken n l s (Err e) h lt = tt
 
 taken_running : (n : State) (a : Access) (l : Location) (s : Size) → IsRunning n → SmallAt l → Evaluates (taken n a l s >>= λ (e : Evaluated). Ok (e, n))
 unfolding taken
-taken_running n uses.Read l s h g = number_taken n (fetched n l s) h (fetched_small n l s h g)
-taken_running n uses.Modify l s h g = place_taken n l s (fetched n l s) h (fetched_small n l s h g)
-taken_running n uses.Write l s h g = (omega arith, h)
-taken_running n uses.Address l s h g = number_taken n (address_of l) h (address_small l g)
-taken_running n uses.Count l s h g = number_taken n (fetched n l s) h (fetched_small n l s h g)
+taken_running n accesses.Read l s h g = number_taken n (fetched n l s) h (fetched_small n l s h g)
+taken_running n accesses.Modify l s h g = place_taken n l s (fetched n l s) h (fetched_small n l s h g)
+taken_running n accesses.Write l s h g = (omega arith, h)
+taken_running n accesses.Address l s h g = number_taken n (address_of l) h (address_small l g)
+taken_running n accesses.Count l s h g = number_taken n (fetched n l s) h (fetched_small n l s h g)
 
 evaluated_by : (k : OperandKind) (o : Operand) (t : Result (Location × State) Stop) → Located t
     → Evaluates (t >>= λ (x : Location × State). taken x.1 k.access (indexed x.1 x.0 o.index k.size) k.size >>= λ (e : Evaluated). Ok (e, x.1))
@@ -564,10 +564,10 @@ valid_at (y ∷ xs) (suc n) x h e = valid_at xs n x (both (is_code_item y) (list
 
 item_running : (m : State) (place : ℕ) (o : Option CodeItem) → IsRunning m → ((x : CodeItem) → o ≡ Some x → is_code_item x ≡ true) → ActsStay (at_item o place m)
 item_running m place None h valid = tt
-item_running m place (Some (items.Label name)) h valid = tt
-item_running m place (Some (items.Globl name)) h valid = tt
-item_running m place (Some (items.Mask mask)) h valid = tt
-item_running m place (Some (items.Instr i)) h valid = instruction_running (record m { place = place + 1 }) i (running_at m (place + 1) h) (valid (items.Instr i) refl)
+item_running m place (Some (item_kind.Label name)) h valid = tt
+item_running m place (Some (item_kind.Globl name)) h valid = tt
+item_running m place (Some (item_kind.Mask mask)) h valid = tt
+item_running m place (Some (item_kind.Instr i)) h valid = instruction_running (record m { place = place + 1 }) i (running_at m (place + 1) h) (valid (item_kind.Instr i) refl)
 
 act_running : (m : State) → IsRunning m → ActsStay (act m)
 unfolding act

@@ -2,7 +2,7 @@
 use Rattle.std.specs.Prelude.{◌≡◌, ℕ, ◌+◌, List, [], ◌∷◌, ◌++◌, length, slice_get, Some, None, Ok, Err}
 use Rattle.vax_core.specs.declared.code.Instr.{Instr}
 use Rattle.vax_core.specs.declared.code.CodeItem.{CodeItem}
-use Rattle.vax_core.specs.declared.code.CodeItem.TheVariants as items
+use Rattle.vax_core.specs.declared.code.CodeItem.TheVariants as item_kind
 use Rattle.vax_machine.specs.declared.turn.Stop.{Stop}
 use Rattle.vax_machine.specs.State.{State}
 use Rattle.vax_machine.specs.Labels.{label_place}
@@ -31,7 +31,7 @@ pub record Gets (m : State) (written : List ℕ) (count : ℕ) (acts : Acts) : T
 -- instructions stand from a place on
 abbrev pub HasInstrs : List CodeItem → ℕ → List Instr → Type 0
 HasInstrs code place [] = Unit {0}
-HasInstrs code place (i ∷ is) = (slice_get code place ≡ Some (items.Instr i)) × HasInstrs code (place + 1) is
+HasInstrs code place (i ∷ is) = (slice_get code place ≡ Some (item_kind.Instr i)) × HasInstrs code (place + 1) is
 
 -- a state at a place of the code that the machine m runs
 abbrev pub at_of : State → State → ℕ → State

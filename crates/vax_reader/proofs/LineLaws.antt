@@ -8,7 +8,7 @@ use Rattle.std.proofs.lemmas.Option.{same_Some, option_and_then_some}
 use Rattle.vax_core.specs.declared.code.AreaItem.{AreaItem}
 use Rattle.vax_core.specs.declared.code.AreaItem.TheVariants as areas
 use Rattle.vax_core.specs.declared.code.CodeItem.{CodeItem}
-use Rattle.vax_core.specs.declared.code.CodeItem.TheVariants as items
+use Rattle.vax_core.specs.declared.code.CodeItem.TheVariants as item_kind
 use Rattle.vax_core.specs.declared.operand.Addr.{Addr}
 use Rattle.vax_core.specs.declared.code.Instr.{Instr}
 use Rattle.vax_core.specs.Ops.{shape}
@@ -211,11 +211,11 @@ pub record ItemAt (bytes : List ℕ) (x : CodeItem × List ℕ) : Type 0 where
   pub valid : is_code_item x.0 ≡ true
   pub spelled : bytes ≡ item_line x.0 ++ x.1
 
-instr_line_takes : (bytes rest : List ℕ) (y : Instr × List ℕ) → strip (codes "\t") bytes ≡ Some rest → ended (instr_front rest) ≡ Some y → ItemAt bytes (items.Instr y.0, y.1)
+instr_line_takes : (bytes rest : List ℕ) (y : Instr × List ℕ) → strip (codes "\t") bytes ≡ Some rest → ended (instr_front rest) ≡ Some y → ItemAt bytes (item_kind.Instr y.0, y.1)
 instr_line_takes bytes rest y e f =
     let h = ended_takes (instr_front rest) y f in
     let i = instr_takes rest h.at h.is in
-    subst (λ (v : Instr). ItemAt bytes (items.Instr v, y.1)) h.same (record {
+    subst (λ (v : Instr). ItemAt bytes (item_kind.Instr v, y.1)) h.same (record {
       valid = i.valid;
       spelled =
           strip_takes (codes "\t") bytes rest e
@@ -230,40 +230,40 @@ item_takes bytes x e =
     either_some (named_front (codes ":\n") bytes) code_label _ x e
     (λ y ey more.
     let n = named_takes (codes ":\n") bytes y ey in
-    subst (ItemAt bytes) (same_Some (items.Label y.0, y.1) x more) (record { valid = n.0; spelled = n.1 ∙ sym (label_line y.0 y.1) }))
-    (λ e1. either_some (strip (codes "\t.globl\t") bytes) (λ (rest : List ℕ). option_map (code_item items.Globl) (named_front (codes "\n") rest)) _ x e1
-    (λ rest er more. map_some (code_item items.Globl) (named_front (codes "\n") rest) x more (λ y ey is.
+    subst (ItemAt bytes) (same_Some (item_kind.Label y.0, y.1) x more) (record { valid = n.0; spelled = n.1 ∙ sym (label_line y.0 y.1) }))
+    (λ e1. either_some (strip (codes "\t.globl\t") bytes) (λ (rest : List ℕ). option_map (code_item item_kind.Globl) (named_front (codes "\n") rest)) _ x e1
+    (λ rest er more. map_some (code_item item_kind.Globl) (named_front (codes "\n") rest) x more (λ y ey is.
     let n = named_takes (codes "\n") rest y ey in
     subst (ItemAt bytes) is (record { valid = n.0; spelled = globl_text bytes rest y er n })))
-    (λ e2. either_some (strip (codes "\t.word\t") bytes) (λ (rest : List ℕ). option_map (code_item items.Mask) (ended (up_to 4095 rest))) _ x e2
-    (λ rest er more. map_some (code_item items.Mask) (ended (up_to 4095 rest)) x more (λ y ey is.
+    (λ e2. either_some (strip (codes "\t.word\t") bytes) (λ (rest : List ℕ). option_map (code_item item_kind.Mask) (ended (up_to 4095 rest))) _ x e2
+    (λ rest er more. map_some (code_item item_kind.Mask) (ended (up_to 4095 rest)) x more (λ y ey is.
     let n = number_takes (codes "\t.word\t") bytes rest 4095 y er ey in
     subst (ItemAt bytes) is (record { valid = le-leb y.0 4095 n.0; spelled = n.1 })))
-    (λ e3. option_and_then_some (λ (rest : List ℕ). option_map (code_item items.Instr) (ended (instr_front rest))) (strip (codes "\t") bytes) x e3
-    (λ rest er more. map_some (code_item items.Instr) (ended (instr_front rest)) x more (λ y ey is. subst (ItemAt bytes) is (instr_line_takes bytes rest y er ey))))))
+    (λ e3. option_and_then_some (λ (rest : List ℕ). option_map (code_item item_kind.Instr) (ended (instr_front rest))) (strip (codes "\t") bytes) x e3
+    (λ rest er more. map_some (code_item item_kind.Instr) (ended (instr_front rest)) x more (λ y ey is. subst (ItemAt bytes) is (instr_line_takes bytes rest y er ey))))))
 
 code_ends : (rest : List ℕ) → EndsLine (10 ∷ rest)
 code_ends rest = record { operand = line_ends rest; name = refl; word = refl }
 
-code_label_again : (name rest : List ℕ) → is_name name ≡ true → item_front ((name ++ codes ":" ++ codes "\n") ++ rest) ≡ Some (items.Label name, rest)
+code_label_again : (name rest : List ℕ) → is_name name ≡ true → item_front ((name ++ codes ":" ++ codes "\n") ++ rest) ≡ Some (item_kind.Label name, rest)
 unfolding item_front
 code_label_again name rest h = ap item_front (label_line name rest) ∙ rw (label_again name rest h) refl
 
-code_globl_again : (name rest : List ℕ) → is_name name ≡ true → item_front ((codes "\t.globl\t" ++ name ++ codes "\n") ++ rest) ≡ Some (items.Globl name, rest)
+code_globl_again : (name rest : List ℕ) → is_name name ≡ true → item_front ((codes "\t.globl\t" ++ name ++ codes "\n") ++ rest) ≡ Some (item_kind.Globl name, rest)
 unfolding item_front
 code_globl_again name rest h = rw (no_label, append_assoc name (codes "\n") rest, globl_again name rest h) refl
 
-mask_again : (n : ℕ) (rest : List ℕ) → n ≤ 4095 → item_front ((codes "\t.word\t" ++ decimal n ++ codes "\n") ++ rest) ≡ Some (items.Mask n, rest)
+mask_again : (n : ℕ) (rest : List ℕ) → n ≤ 4095 → item_front ((codes "\t.word\t" ++ decimal n ++ codes "\n") ++ rest) ≡ Some (item_kind.Mask n, rest)
 unfolding item_front
 mask_again n rest le = rw (no_label, append_assoc (decimal n) (codes "\n") rest, up_to_again 4095 n (10 ∷ rest) (omega arith) le refl) refl
 
 -- a line that begins with a mnemonic is none of the others
 by_instr : (bytes : List ℕ) (x : CodeItem × List ℕ) → strip (codes "\t.globl\t") (9 ∷ bytes) ≡ None → strip (codes "\t.word\t") (9 ∷ bytes) ≡ None
-    → option_map (code_item items.Instr) (ended (instr_front bytes)) ≡ Some x → item_front (9 ∷ bytes) ≡ Some x
+    → option_map (code_item item_kind.Instr) (ended (instr_front bytes)) ≡ Some x → item_front (9 ∷ bytes) ≡ Some x
 unfolding item_front
 by_instr bytes x a b c = rw (no_label bytes, a, b) c
 
-instr_line_again : (i : Instr) (rest : List ℕ) → is_code_item (items.Instr i) ≡ true → item_front ((instr_text i ++ codes "\n") ++ rest) ≡ Some (items.Instr i, rest)
+instr_line_again : (i : Instr) (rest : List ℕ) → is_code_item (item_kind.Instr i) ≡ true → item_front ((instr_text i ++ codes "\n") ++ rest) ≡ Some (item_kind.Instr i, rest)
 instr_line_again i rest h =
     let body = (shape i.op).mnemonic ++ tail_text i.operands i.target in
     let none = no_directive i.op (tail_text i.operands i.target ++ (10 ∷ rest)) in
@@ -271,13 +271,13 @@ instr_line_again i rest h =
     let inner : body ++ (10 ∷ rest) ≡ (shape i.op).mnemonic ++ (tail_text i.operands i.target ++ (10 ∷ rest)) = append_assoc (shape i.op).mnemonic (tail_text i.operands i.target) (10 ∷ rest) in
     let found : instr_front (body ++ (10 ∷ rest)) ≡ Some (i, 10 ∷ rest) = instr_again i (10 ∷ rest) h (code_ends rest) in
     ap item_front shifted
-    ∙ by_instr (body ++ (10 ∷ rest)) (items.Instr i, rest)
+    ∙ by_instr (body ++ (10 ∷ rest)) (item_kind.Instr i, rest)
     (ap (λ (t : List ℕ). strip (codes "\t.globl\t") (9 ∷ t)) inner ∙ none.0)
     (ap (λ (t : List ℕ). strip (codes "\t.word\t") (9 ∷ t)) inner ∙ none.1)
     (rw found refl)
 
 pub item_again : (item : CodeItem) (rest : List ℕ) → is_code_item item ≡ true → item_front (item_line item ++ rest) ≡ Some (item, rest)
-item_again (items.Label name) rest h = code_label_again name rest h
-item_again (items.Globl name) rest h = code_globl_again name rest h
-item_again (items.Mask mask) rest h = mask_again mask rest (leb-true mask 4095 h)
-item_again (items.Instr i) rest h = instr_line_again i rest h
+item_again (item_kind.Label name) rest h = code_label_again name rest h
+item_again (item_kind.Globl name) rest h = code_globl_again name rest h
+item_again (item_kind.Mask mask) rest h = mask_again mask rest (leb-true mask 4095 h)
+item_again (item_kind.Instr i) rest h = instr_line_again i rest h

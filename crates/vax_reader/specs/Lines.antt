@@ -16,7 +16,7 @@ use Rattle.vax_core.specs.declared.code.Instr.{Instr}
 use Rattle.vax_core.specs.declared.code.AreaItem.{AreaItem}
 use Rattle.vax_core.specs.declared.code.AreaItem.TheVariants as areas
 use Rattle.vax_core.specs.declared.code.CodeItem.{CodeItem}
-use Rattle.vax_core.specs.declared.code.CodeItem.TheVariants as items
+use Rattle.vax_core.specs.declared.code.CodeItem.TheVariants as item_kind
 use Rattle.vax_core.specs.Ops.{shape}
 use Rattle.vax_core.specs.Mnemonics.{op_of}
 use Rattle.vax_core.specs.Valid.{is_instr}
@@ -117,12 +117,12 @@ area_front bytes =
     (counted_front bytes)))
 
 abbrev pub code_label : List ℕ × List ℕ → Option (CodeItem × List ℕ)
-code_label x = Some (code_item items.Label x)
+code_label x = Some (code_item item_kind.Label x)
 
 -- a line of the code
 unfoldable pub item_front : List ℕ → Option (CodeItem × List ℕ)
 item_front bytes =
     either (named_front (codes ":\n") bytes) code_label
-    (either (strip (codes "\t.globl\t") bytes) (λ (rest : List ℕ). option_map (code_item items.Globl) (named_front (codes "\n") rest))
-    (either (strip (codes "\t.word\t") bytes) (λ (rest : List ℕ). option_map (code_item items.Mask) (ended (up_to 4095 rest)))
-    (option_and_then (λ (rest : List ℕ). option_map (code_item items.Instr) (ended (instr_front rest))) (strip (codes "\t") bytes))))
+    (either (strip (codes "\t.globl\t") bytes) (λ (rest : List ℕ). option_map (code_item item_kind.Globl) (named_front (codes "\n") rest))
+    (either (strip (codes "\t.word\t") bytes) (λ (rest : List ℕ). option_map (code_item item_kind.Mask) (ended (up_to 4095 rest)))
+    (option_and_then (λ (rest : List ℕ). option_map (code_item item_kind.Instr) (ended (instr_front rest))) (strip (codes "\t") bytes))))

@@ -1,7 +1,7 @@
 // The table of what instructions compute, on terms.
 ghost use Rattle.std.specs.Prelude.{◌≡◌, IfOk};
-ghost use Rattle.term_core.specs.declared.operator.UnaryOp.TheVariants as unaries;
-ghost use Rattle.term_core.specs.declared.operator.BinaryOp.TheVariants as binaries;
+ghost use Rattle.term_core.specs.declared.operator.UnaryOp.TheVariants as unary_op;
+ghost use Rattle.term_core.specs.declared.operator.BinaryOp.TheVariants as binary_op;
 ghost use Rattle.term_core.specs.Shape.{shape_of, Constant, Unary, Binary};
 ghost use Rattle.vax_machine.specs.declared.function.Function.TheVariants as functions;
 ghost use Rattle.vax_templates.specs.Giving.{Compares, extended, truncated, given};
@@ -90,7 +90,7 @@ fn compared_with_zero(alloc: Global, size: Size, a: &Term) -> Result<Outcome, No
 }
 
 fn bits_cleared(alloc: Global, a: &Term, b: &Term) -> Result<Term, NoMemory>
-    ensures { IfOk result (λ r. shape_of r ≡ Binary binaries.And (shape_of b.now) (Unary unaries.Com (shape_of a.now))) }
+    ensures { IfOk result (λ r. shape_of r ≡ Binary binary_op.And (shape_of b.now) (Unary unary_op.Com (shape_of a.now))) }
 {
     let mask = one(alloc, UnaryOp::Com, a)?;
     let b = copy(alloc, b)?;

@@ -6,7 +6,7 @@ use Rattle.gg_base.specs.declared.size.Size.{Size}
 use Rattle.gg_base.specs.declared.size.Size.TheVariants.{Long}
 use Rattle.tree_core.specs.declared.token.Tok.{Tok}
 use Rattle.tree_core.specs.declared.token.Tok.TheVariants as tok
-use Rattle.tree_core.specs.declared.token.AttKind.TheVariants as attkind
+use Rattle.tree_core.specs.declared.token.AttKind.TheVariants as att_kind
 use Rattle.tree_core.specs.declared.tree.Att.{Att}
 use Rattle.tree_core.specs.declared.tree.Att.TheVariants as att
 use Rattle.tree_core.specs.declared.program.TreeProgram.{TreeProgram}
@@ -18,7 +18,7 @@ use Rattle.md_reader.specs.declared.types.Kind.{Kind}
 use Rattle.md_reader.specs.declared.types.Kind.TheVariants as kind
 use Rattle.md_reader.specs.declared.types.Class.{Class}
 use Rattle.md_reader.specs.declared.types.Sym.{Sym}
-use Rattle.md_reader.specs.declared.types.Sym.TheVariants as sym
+use Rattle.md_reader.specs.declared.types.Sym.TheVariants as grammar_symbol
 use Rattle.md_reader.specs.declared.types.Give.TheVariants as give
 use Rattle.md_reader.specs.declared.types.Rule.{Rule}
 use Rattle.md_reader.specs.Patterns.{kind_at}
@@ -40,7 +40,7 @@ use Rattle.vax_machine_lists.specs.Instructions.{exec}
 use Rattle.vax_templates.specs.declared.form.Base.TheVariants as base
 use Rattle.vax_templates.specs.declared.form.Form.{Form}
 use Rattle.vax_templates.specs.declared.setting.Hole.{Hole}
-use Rattle.vax_templates.specs.declared.setting.Hole.TheVariants as holes
+use Rattle.vax_templates.specs.declared.setting.Hole.TheVariants as hole_kind
 use Rattle.vax_templates.specs.declared.setting.Setting.{Setting}
 use Rattle.vax_templates.specs.Settings.{hole_of_token, hole_of_kind, hole_of, holes_of, hole_or_other, hole_at, own_of, setting_of}
 use Rattle.vax_templates.specs.Marks.{at_front}
@@ -72,8 +72,8 @@ module _ (q : TreeProgram) (m : State) where
   HasOne a = (n : ℕ) → worth vax q Long a m ≡ Some n → (addr_in q a).offset ≡ n
 
   abbrev Numbered : Hole → Attr Operand → Type 0
-  Numbered holes.Constant a = HasOne a
-  Numbered (holes.Literal k) a = HasOne a
+  Numbered hole_kind.Constant a = HasOne a
+  Numbered (hole_kind.Literal k) a = HasOne a
   Numbered h a = Unit {0}
 
   abbrev AllNumbered : List Hole → List (Attr Operand) → Type 0
@@ -88,7 +88,7 @@ module _ (q : TreeProgram) (m : State) where
   number_numbered : (x : Tok) (k : ℕ) → HasOne (attr.Token (record { tok = x; att = att.Number k }))
   number_numbered x k n e = some_number k n e
 
-  literal_numbered : (x : Tok) (k : ℕ) (a : Att) → is_of_kind (attkind.Own k) a ≡ true → HasOne (attr.Token (record { tok = x; att = a }))
+  literal_numbered : (x : Tok) (k : ℕ) (a : Att) → is_of_kind (att_kind.Own k) a ≡ true → HasOne (attr.Token (record { tok = x; att = a }))
   literal_numbered x k (att.Number n) f = number_numbered x n
   literal_numbered x k att.Nothing f = absurd (cc)
   literal_numbered x k (att.Object object offset) f = absurd (cc)
@@ -97,7 +97,7 @@ module _ (q : TreeProgram) (m : State) where
   literal_numbered x k (att.Label label) f = absurd (cc)
   literal_numbered x k (att.Callee function count) f = absurd (cc)
 
-  constant_numbered : (x : Tok) (a : Att) → is_of_kind attkind.Other a ≡ true → HasOne (attr.Token (record { tok = x; att = a }))
+  constant_numbered : (x : Tok) (a : Att) → is_of_kind att_kind.Other a ≡ true → HasOne (attr.Token (record { tok = x; att = a }))
   constant_numbered x (att.Number n) f = number_numbered x n
   constant_numbered x att.Nothing f = absurd (cc)
   constant_numbered x (att.Object object offset) f = absurd (cc)
@@ -126,9 +126,9 @@ module _ (q : TreeProgram) (m : State) where
   class_numbered None a f = tt
 
   symbol_numbered : (classes : List Class) (x : Sym) (a : Attr Operand) → SymFits vax classes x a → Numbered (hole_of classes x) a
-  symbol_numbered classes (sym.Class c) a f = class_numbered (kind_at classes c) a f
-  symbol_numbered classes (sym.Tok x) (attr.Token l) f = subst (λ y. Numbered (hole_of_token y) (attr.Token l)) f.0 (token_numbered l.tok l.att f.1)
-  symbol_numbered classes (sym.Tok x) a f = absurd f
+  symbol_numbered classes (grammar_symbol.Class c) a f = class_numbered (kind_at classes c) a f
+  symbol_numbered classes (grammar_symbol.Tok x) (attr.Token l) f = subst (λ y. Numbered (hole_of_token y) (attr.Token l)) f.0 (token_numbered l.tok l.att f.1)
+  symbol_numbered classes (grammar_symbol.Tok x) a f = absurd f
 
   all_numbered : (classes : List Class) (right : List Sym) (hs : List (Attr Operand)) → Fit vax classes right hs → AllNumbered (holes_of classes right) hs
   all_numbered classes [] [] f = tt
@@ -145,23 +145,23 @@ module _ (q : TreeProgram) (m : State) where
 
   role_numbered : (roles : List Hole) (hs : List (Attr Operand)) (i : ℕ) → AllNumbered roles hs → Numbered (hole_at roles i) (attr_at hs attr.Nothing i)
   role_numbered roles hs i h = by (i == 0) where
-    by : (b : Bool) → Numbered (cond b holes.Other (hole_or_other (slice_get roles (i - 1)))) (cond b attr.Nothing (attr_or attr.Nothing (slice_get hs (i - 1))))
+    by : (b : Bool) → Numbered (cond b hole_kind.Other (hole_or_other (slice_get roles (i - 1)))) (cond b attr.Nothing (attr_or attr.Nothing (slice_get hs (i - 1))))
     by true = tt
     by false = numbered_nth roles hs (i - 1) h
 
   one_of : (r : Hole) (i : ℕ) (t : Shape) (a : Attr Operand) → Numbered r a → constant_of r i ≡ Ok t → HasOne a
-  one_of holes.Constant i t a k e = k
-  one_of (holes.Literal n) i t a k e = k
-  one_of holes.Register i t a k e = absurd (err_ok _ t e)
-  one_of (holes.Value z) i t a k e = absurd (err_ok _ t e)
-  one_of (holes.Place z) i t a k e = absurd (err_ok _ t e)
-  one_of holes.Local i t a k e = absurd (err_ok _ t e)
-  one_of (holes.SavedPlace z) i t a k e = absurd (err_ok _ t e)
-  one_of holes.Address i t a k e = absurd (err_ok _ t e)
-  one_of holes.Object i t a k e = absurd (err_ok _ t e)
-  one_of holes.Saved i t a k e = absurd (err_ok _ t e)
-  one_of holes.Relation i t a k e = absurd (err_ok _ t e)
-  one_of holes.Other i t a k e = absurd (err_ok _ t e)
+  one_of hole_kind.Constant i t a k e = k
+  one_of (hole_kind.Literal n) i t a k e = k
+  one_of hole_kind.Register i t a k e = absurd (err_ok _ t e)
+  one_of (hole_kind.Value z) i t a k e = absurd (err_ok _ t e)
+  one_of (hole_kind.Place z) i t a k e = absurd (err_ok _ t e)
+  one_of hole_kind.Local i t a k e = absurd (err_ok _ t e)
+  one_of (hole_kind.SavedPlace z) i t a k e = absurd (err_ok _ t e)
+  one_of hole_kind.Address i t a k e = absurd (err_ok _ t e)
+  one_of hole_kind.Object i t a k e = absurd (err_ok _ t e)
+  one_of hole_kind.Saved i t a k e = absurd (err_ok _ t e)
+  one_of hole_kind.Relation i t a k e = absurd (err_ok _ t e)
+  one_of hole_kind.Other i t a k e = absurd (err_ok _ t e)
 
 not_zero : (k : ℕ) → (suc k == 0) ≡ false
 not_zero k = grind (arith, nat_tests)

@@ -12,7 +12,7 @@ use Rattle.sel_target.specs.declared.fault.TemplateKind.{TemplateKind}
 use Rattle.sel_target.specs.declared.fault.TemplateKind.TheVariants.{NotInstr, WrongSize, Order}
 use Rattle.vax_core.specs.declared.op.Op.{Op}
 use Rattle.vax_core.specs.declared.op.Access.{Access}
-use Rattle.vax_core.specs.declared.op.Access.TheVariants as access
+use Rattle.vax_core.specs.declared.op.Access.TheVariants as accesses
 use Rattle.vax_core.specs.declared.op.OperandKind.{OperandKind}
 use Rattle.vax_core.specs.Ops.{shape}
 use Rattle.vax_machine.specs.declared.function.Action.{Action}
@@ -115,13 +115,13 @@ module _ (s : Setting) (roles : List Hole) (zero' : Option Shape) (no_own : s.ow
 
   taken_unaimed : (a : Access) (w : Where) (size : Size) → EachOk Unaimed (taken s zero' a w size)
   unfolding taken
-  taken_unaimed access.Read w size = fetched_unaimed w size
-  taken_unaimed access.Modify w size =
+  taken_unaimed accesses.Read w size = fetched_unaimed w size
+  taken_unaimed accesses.Modify w size =
       bind_each (λ (t : Taken). Unit {0}) Unaimed (fetched s zero' w size) (λ (t : Taken). targeted s w size >>= both t)
       (λ t u. bind_each (λ (x : Target × Bool). ⊥) Unaimed (targeted s w size) (both t) (λ x n. absurd n) (targeted_never w size)) (always_ok (fetched s zero' w size) tt)
-  taken_unaimed access.Write w size = bind_each (λ (x : Target × Bool). ⊥) Unaimed (targeted s w size) written (λ x n. absurd n) (targeted_never w size)
-  taken_unaimed access.Address w size = addressed_unaimed w size
-  taken_unaimed access.Count w size = tt
+  taken_unaimed accesses.Write w size = bind_each (λ (x : Target × Bool). ⊥) Unaimed (targeted s w size) written (λ x n. absurd n) (targeted_never w size)
+  taken_unaimed accesses.Address w size = addressed_unaimed w size
+  taken_unaimed accesses.Count w size = tt
 
   evaluated_unaimed : (k : OperandKind) (f : Form) → EachOk Unaimed (evaluated s roles zero' k f)
   unfolding evaluated

@@ -41,7 +41,7 @@ use Rattle.vax_machine.specs.Step.{finished, pushing}
 use Rattle.vax_machine_lists.specs.Instructions.{Course, Stops, Returns, ends, comes, course_of, alone, evaluated_then, performed}
 use Rattle.vax_templates.specs.declared.form.Form.{Form}
 use Rattle.vax_templates.specs.declared.setting.Hole.{Hole}
-use Rattle.vax_templates.specs.declared.setting.Hole.TheVariants as hole
+use Rattle.vax_templates.specs.declared.setting.Hole.TheVariants as hole_kind
 use Rattle.vax_templates.specs.declared.setting.Own.TheVariants as own
 use Rattle.vax_templates.specs.Instructions.{Instruction, Relation, Jump, Calls, Ret, Operates, instruction_of}
 use Rattle.vax_templates.specs.Standing.{◌>>=◌}

@@ -16,7 +16,7 @@ use Rattle.sel_target.proofs.AreaBytes.{number_small}
 use Rattle.vax_core.specs.declared.register.Reg.{Reg}
 use Rattle.vax_core.specs.declared.register.Reg.TheVariants.{R0}
 use Rattle.vax_core.specs.declared.op.Access.{Access}
-use Rattle.vax_core.specs.declared.op.Access.TheVariants as access
+use Rattle.vax_core.specs.declared.op.Access.TheVariants as accesses
 use Rattle.vax_core.specs.declared.op.OperandKind.{OperandKind}
 use Rattle.vax_machine.specs.declared.turn.Stop.{Stop}
 use Rattle.vax_machine.specs.declared.memory.Region.{Region}
@@ -37,7 +37,7 @@ use Rattle.vax_templates.specs.declared.form.Base.{Base}
 use Rattle.vax_templates.specs.declared.form.Base.TheVariants as base
 use Rattle.vax_templates.specs.declared.form.Form.{Form}
 use Rattle.vax_templates.specs.declared.setting.Hole.{Hole}
-use Rattle.vax_templates.specs.declared.setting.Hole.TheVariants as hole
+use Rattle.vax_templates.specs.declared.setting.Hole.TheVariants as hole_kind
 use Rattle.vax_templates.specs.declared.setting.Own.{Own}
 use Rattle.vax_templates.specs.declared.setting.Own.TheVariants as own
 use Rattle.vax_templates.specs.declared.setting.Opening.{Opening}
@@ -135,18 +135,18 @@ module _ (c : Scene) (held : Option Shape) where
   through_points t w e = subst Points (ok_same (through t) w e) (λ safe. safe)
 
   hole_points : (r : Hole) (i : ℕ) (w : Where) → where_hole r i ≡ Ok w → Points w
-  hole_points hole.Register i w e = subst Points (ok_same _ w e) tt
-  hole_points (hole.Value z) i w e = subst Points (ok_same _ w e) tt
-  hole_points (hole.Place z) i w e = subst Points (ok_same _ w e) tt
-  hole_points hole.Local i w e = subst Points (ok_same _ w e) tt
-  hole_points (hole.SavedPlace z) i w e = subst Points (ok_same _ w e) tt
-  hole_points hole.Address i w e = subst Points (ok_same _ w e) (λ safe. tt)
-  hole_points hole.Constant i w e = absurd (err_ok _ w e)
-  hole_points (hole.Literal n) i w e = absurd (err_ok _ w e)
-  hole_points hole.Object i w e = subst Points (ok_same _ w e) (λ safe. tt)
-  hole_points hole.Saved i w e = subst Points (ok_same _ w e) tt
-  hole_points hole.Relation i w e = absurd (err_ok _ w e)
-  hole_points hole.Other i w e = absurd (err_ok _ w e)
+  hole_points hole_kind.Register i w e = subst Points (ok_same _ w e) tt
+  hole_points (hole_kind.Value z) i w e = subst Points (ok_same _ w e) tt
+  hole_points (hole_kind.Place z) i w e = subst Points (ok_same _ w e) tt
+  hole_points hole_kind.Local i w e = subst Points (ok_same _ w e) tt
+  hole_points (hole_kind.SavedPlace z) i w e = subst Points (ok_same _ w e) tt
+  hole_points hole_kind.Address i w e = subst Points (ok_same _ w e) (λ safe. tt)
+  hole_points hole_kind.Constant i w e = absurd (err_ok _ w e)
+  hole_points (hole_kind.Literal n) i w e = absurd (err_ok _ w e)
+  hole_points hole_kind.Object i w e = subst Points (ok_same _ w e) (λ safe. tt)
+  hole_points hole_kind.Saved i w e = subst Points (ok_same _ w e) tt
+  hole_points hole_kind.Relation i w e = absurd (err_ok _ w e)
+  hole_points hole_kind.Other i w e = absurd (err_ok _ w e)
 
   own_points : (o : Own) (w : Where) → where_own o ≡ Ok w → Points w
   own_points own.Nothing w e = absurd (err_ok _ w e)
@@ -159,18 +159,18 @@ module _ (c : Scene) (held : Option Shape) where
   zero_points opening.Other w e = absurd (err_ok _ w e)
 
   deferred_points : (r : Hole) (i : ℕ) (w : Where) → where_deferred r i ≡ Ok w → Points w
-  deferred_points hole.Register i w e = absurd (err_ok _ w e)
-  deferred_points (hole.Value z) i w e = absurd (err_ok _ w e)
-  deferred_points (hole.Place z) i w e = absurd (err_ok _ w e)
-  deferred_points hole.Local i w e = subst Points (ok_same _ w e) (λ safe. tt)
-  deferred_points (hole.SavedPlace z) i w e = absurd (err_ok _ w e)
-  deferred_points hole.Address i w e = absurd (err_ok _ w e)
-  deferred_points hole.Constant i w e = absurd (err_ok _ w e)
-  deferred_points (hole.Literal n) i w e = absurd (err_ok _ w e)
-  deferred_points hole.Object i w e = through_points (Symbol i) w e
-  deferred_points hole.Saved i w e = absurd (err_ok _ w e)
-  deferred_points hole.Relation i w e = absurd (err_ok _ w e)
-  deferred_points hole.Other i w e = absurd (err_ok _ w e)
+  deferred_points hole_kind.Register i w e = absurd (err_ok _ w e)
+  deferred_points (hole_kind.Value z) i w e = absurd (err_ok _ w e)
+  deferred_points (hole_kind.Place z) i w e = absurd (err_ok _ w e)
+  deferred_points hole_kind.Local i w e = subst Points (ok_same _ w e) (λ safe. tt)
+  deferred_points (hole_kind.SavedPlace z) i w e = absurd (err_ok _ w e)
+  deferred_points hole_kind.Address i w e = absurd (err_ok _ w e)
+  deferred_points hole_kind.Constant i w e = absurd (err_ok _ w e)
+  deferred_points (hole_kind.Literal n) i w e = absurd (err_ok _ w e)
+  deferred_points hole_kind.Object i w e = through_points (Symbol i) w e
+  deferred_points hole_kind.Saved i w e = absurd (err_ok _ w e)
+  deferred_points hole_kind.Relation i w e = absurd (err_ok _ w e)
+  deferred_points hole_kind.Other i w e = absurd (err_ok _ w e)
 
   alone_points : (i : ℕ) (b : Bool) (w : Where) → cond b (where_own c.setting.own) (where_hole (role_at c i) i) ≡ Ok w → Points w
   alone_points i true w e = own_points c.setting.own w e
@@ -364,15 +364,15 @@ module _ (c : Scene) (held : Option Shape) (m : State) (h : Sees c held m) where
     worth_so : number.number ≡ worth c t.term
     aim : IsDestination c m t.target number.destination
     at_size : AtSize number.destination size
-    narrow : kind ≡ access.Read → IsNarrow size number.number
+    narrow : kind ≡ accesses.Read → IsNarrow size number.number
 
   abbrev Address : Where → Size → Taken → Type 0
-  Address w size t = (t.missized ≡ false → AreRead c t.reads → CanStand c w size) × ((l : Location) → t.missized ≡ false → IsWhere c m w size l → IsTaken access.Address size l t)
+  Address w size t = (t.missized ≡ false → AreRead c t.reads → CanStand c w size) × ((l : Location) → t.missized ≡ false → IsWhere c m w size l → IsTaken accesses.Address size l t)
 
-  address_taken : (l : Location) (size : Size) (a : Shape) (x t : Taken) → l ≡ locations.Memory (worth c a) → x.term ≡ a → x.target ≡ None → x ≡ t → IsTaken access.Address size l t
+  address_taken : (l : Location) (size : Size) (a : Shape) (x t : Taken) → l ≡ locations.Memory (worth c a) → x.term ≡ a → x.target ≡ None → x ≡ t → IsTaken accesses.Address size l t
   unfolding machine.taken
   address_taken l size a x t is term_is none e =
-      subst (IsTaken access.Address size l) e
+      subst (IsTaken accesses.Address size l) e
       (record {
         number = machine.only_number (worth c a);
         is = ap (λ k. state.◌>>=◌ (machine.address_of k) (λ (n : ℕ). Ok (machine.only_number n))) is;
@@ -404,7 +404,7 @@ module _ (c : Scene) (held : Option Shape) (m : State) (h : Sees c held m) where
       pointer None h = tt
       pointer (Some x) h = h.0
 
-  read_taken : (l : Location) (size : Size) (t : Taken) → Fetches l size t → IsTaken access.Read size l t
+  read_taken : (l : Location) (size : Size) (t : Taken) → Fetches l size t → IsTaken accesses.Read size l t
   unfolding machine.taken
   read_taken l size t f = record {
     number = machine.only_number (worth c t.term);
@@ -415,10 +415,10 @@ module _ (c : Scene) (held : Option Shape) (m : State) (h : Sees c held m) where
     narrow = λ r. fetched_narrow m l size (worth c t.term) h.sound (small (term_state c.view) t.term) f.0;
   }
 
-  modify_taken : (l : Location) (size : Size) (u t : Taken) (x : Target × Bool) → Fetches l size u → IsTarget c m x.0 l size → both u x ≡ Ok t → IsTaken access.Modify size l t
+  modify_taken : (l : Location) (size : Size) (u t : Taken) (x : Target × Bool) → Fetches l size u → IsTarget c m x.0 l size → both u x ≡ Ok t → IsTaken accesses.Modify size l t
   unfolding machine.taken
   modify_taken l size u t x f aim e =
-      subst (IsTaken access.Modify size l) (ok_same _ t e)
+      subst (IsTaken accesses.Modify size l) (ok_same _ t e)
       (record {
         number = machine.with_destination (worth c u.term) l size;
         is = ap (λ k. state.◌>>=◌ k (λ (n : ℕ). Ok (machine.with_destination n l size))) f.0;
@@ -428,34 +428,34 @@ module _ (c : Scene) (held : Option Shape) (m : State) (h : Sees c held m) where
         narrow = λ r. cc;
       })
 
-  write_taken : (l : Location) (size : Size) (t : Taken) (x : Target × Bool) → IsTarget c m x.0 l size → written x ≡ Ok t → IsTaken access.Write size l t
+  write_taken : (l : Location) (size : Size) (t : Taken) (x : Target × Bool) → IsTarget c m x.0 l size → written x ≡ Ok t → IsTaken accesses.Write size l t
   unfolding machine.taken
   write_taken l size t x aim e =
-      subst (IsTaken access.Write size l) (ok_same _ t e)
+      subst (IsTaken accesses.Write size l) (ok_same _ t e)
       (record { number = machine.with_destination 0 l size; is = refl; worth_so = refl; aim = aim; at_size = refl; narrow = λ r. cc })
 
   taken_can : (kind : Access) (w : Where) (size : Size) (t : Taken) → Points c held w → taken c.setting held kind w size ≡ Ok t → t.missized ≡ false → AreRead c t.reads → CanAim c t.target
       → CanStand c w size
   unfolding taken
-  taken_can access.Read w size t p e none reads can = fetched_can w size t p e none reads
-  taken_can access.Modify w size t p e none reads can =
+  taken_can accesses.Read w size t p e none reads can = fetched_can w size t p e none reads
+  taken_can accesses.Modify w size t p e none reads can =
       let d = chained (fetched c.setting held w size) (λ (u : Taken). targeted c.setting w size >>= both u) t e in
       let x = chained (targeted c.setting w size) (both d.first) t d.then_so in
       let s = ok_same _ t x.then_so in
       let none' : (d.first.missized || x.first.1) ≡ false = ap (λ (y : Taken). y.missized) s ∙ none in
       fetched_can w size d.first p d.is (or_left d.first.missized x.first.1 none') (subst (λ (y : Taken). AreRead c y.reads) (sym s) reads)
-  taken_can access.Write w size t p e none reads can =
+  taken_can accesses.Write w size t p e none reads can =
       let x = chained (targeted c.setting w size) written t e in
       let s = ok_same _ t x.then_so in
       targeted_can w size x.first p x.is (ap (λ (y : Taken). y.missized) s ∙ none) (subst (λ (y : Taken). CanAim c y.target) (sym s) can)
-  taken_can access.Address w size t p e none reads can = (addressed_means w size t e).0 none reads
-  taken_can access.Count w size t p e none reads can = absurd (err_ok _ t e)
+  taken_can accesses.Address w size t p e none reads can = (addressed_means w size t e).0 none reads
+  taken_can accesses.Count w size t p e none reads can = absurd (err_ok _ t e)
 
   taken_means : (kind : Access) (w : Where) (size : Size) (t : Taken) (l : Location) → taken c.setting held kind w size ≡ Ok t → t.missized ≡ false → AreRead c t.reads →
       IsWhere c m w size l → IsTaken kind size l t
   unfolding taken
-  taken_means access.Read w size t l e none reads is = read_taken l size t (fetched_means w size t l e none reads is)
-  taken_means access.Modify w size t l e none reads is =
+  taken_means accesses.Read w size t l e none reads is = read_taken l size t (fetched_means w size t l e none reads is)
+  taken_means accesses.Modify w size t l e none reads is =
       let d = chained (fetched c.setting held w size) (λ (u : Taken). targeted c.setting w size >>= both u) t e in
       let x = chained (targeted c.setting w size) (both d.first) t d.then_so in
       let s = ok_same _ t x.then_so in
@@ -463,11 +463,11 @@ module _ (c : Scene) (held : Option Shape) (m : State) (h : Sees c held m) where
       modify_taken l size d.first t x.first
       (fetched_means w size d.first l d.is (or_left d.first.missized x.first.1 none') (subst (λ (y : Taken). AreRead c y.reads) (sym s) reads) is)
       (targeted_means w size x.first l x.is is (or_right d.first.missized x.first.1 none')) x.then_so
-  taken_means access.Write w size t l e none reads is =
+  taken_means accesses.Write w size t l e none reads is =
       let x = chained (targeted c.setting w size) written t e in
       write_taken l size t x.first (targeted_means w size x.first l x.is is (ap (λ (y : Taken). y.missized) (ok_same _ t x.then_so) ∙ none)) x.then_so
-  taken_means access.Address w size t l e none reads is = (addressed_means w size t e).1 l none is
-  taken_means access.Count w size t l e none reads is = absurd (err_ok _ t e)
+  taken_means accesses.Address w size t l e none reads is = (addressed_means w size t e).1 l none is
+  taken_means accesses.Count w size t l e none reads is = absurd (err_ok _ t e)
 
   -- what is only read has no destination
   sized_plain : (b : Bool) (x t : Taken) → x.target ≡ None → ◌≡◌ {A = Result Taken TemplateKind} (Ok (cond b x taken_missized)) (Ok t) → t.target ≡ None
@@ -504,11 +504,11 @@ module _ (c : Scene) (held : Option Shape) (m : State) (h : Sees c held m) where
 
   taken_plain : (kind : Access) (w : Where) (size : Size) (t : Taken) → aims kind ≡ false → taken c.setting held kind w size ≡ Ok t → t.target ≡ None
   unfolding taken
-  taken_plain access.Read w size t plain e = fetched_plain w size t e
-  taken_plain access.Modify w size t plain e = cc
-  taken_plain access.Write w size t plain e = cc
-  taken_plain access.Address w size t plain e = addressed_plain w size t e
-  taken_plain access.Count w size t plain e = absurd (err_ok _ t e)
+  taken_plain accesses.Read w size t plain e = fetched_plain w size t e
+  taken_plain accesses.Modify w size t plain e = cc
+  taken_plain accesses.Write w size t plain e = cc
+  taken_plain accesses.Address w size t plain e = addressed_plain w size t e
+  taken_plain accesses.Count w size t plain e = absurd (err_ok _ t e)
 
   pub evaluated_plain : (k : OperandKind) (f : Form) (t : Taken) → aims k.access ≡ false → evaluated c.setting c.roles held k f ≡ Ok t → t.target ≡ None
   unfolding evaluated

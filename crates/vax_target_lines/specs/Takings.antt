@@ -7,7 +7,7 @@ use Rattle.term_core.specs.Shape.{Shape}
 use Rattle.sel_target.specs.Values.{IsRead}
 use Rattle.vax_core.specs.declared.register.Reg.TheVariants.{R0}
 use Rattle.vax_core.specs.declared.op.Access.{Access}
-use Rattle.vax_core.specs.declared.op.Access.TheVariants as access
+use Rattle.vax_core.specs.declared.op.Access.TheVariants as accesses
 use Rattle.vax_core.specs.declared.op.OperandKind.{OperandKind}
 use Rattle.vax_machine.specs.declared.operands.Location.{Location}
 use Rattle.vax_machine.specs.declared.operands.Location.TheVariants as locations
@@ -49,7 +49,7 @@ CanAim c t = Unit {0}
 
 -- a number that is read is of the operand's size
 abbrev pub IsOfSize : OperandKind → ℕ → Type 0
-IsOfSize k n = k.access ≡ access.Read → IsNarrow k.size n
+IsOfSize k n = k.access ≡ accesses.Read → IsNarrow k.size n
 
 abbrev pub AreOfSize : List OperandKind → ℕ → ℕ → Type 0
 AreOfSize [] a b = Unit {0}
@@ -75,11 +75,11 @@ pub record AreArguments (c : Scene) (m : State) (kinds : List OperandKind) (x : 
 
 -- an operand's access has a destination
 abbrev pub aims : Access → Bool
-aims access.Read = false
-aims access.Modify = true
-aims access.Write = true
-aims access.Address = false
-aims access.Count = false
+aims accesses.Read = false
+aims accesses.Modify = true
+aims accesses.Write = true
+aims accesses.Address = false
+aims accesses.Count = false
 
 -- only the last operand is written
 abbrev pub LastIsWritten : List OperandKind → Type 0

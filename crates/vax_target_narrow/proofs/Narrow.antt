@@ -13,7 +13,7 @@ use Rattle.md_reader.specs.declared.types.Kind.{Kind}
 use Rattle.md_reader.specs.declared.types.Kind.TheVariants as kind
 use Rattle.md_reader.specs.declared.types.Class.{Class}
 use Rattle.md_reader.specs.declared.types.Sym.{Sym}
-use Rattle.md_reader.specs.declared.types.Sym.TheVariants as sym
+use Rattle.md_reader.specs.declared.types.Sym.TheVariants as grammar_symbol
 use Rattle.md_reader.specs.declared.types.Give.{Give}
 use Rattle.md_reader.specs.declared.types.Give.TheVariants as give
 use Rattle.md_reader.specs.declared.types.Rule.{Rule}
@@ -27,7 +27,7 @@ use Rattle.sel_target.specs.declared.fault.TemplateKind.{TemplateKind}
 use Rattle.sel_target.specs.declared.fault.TemplateKind.TheVariants.{NotInstr, WrongSize, Order}
 use Rattle.vax_core.specs.declared.op.Op.{Op}
 use Rattle.vax_core.specs.declared.op.Access.{Access}
-use Rattle.vax_core.specs.declared.op.Access.TheVariants as access
+use Rattle.vax_core.specs.declared.op.Access.TheVariants as accesses
 use Rattle.vax_core.specs.declared.op.OperandKind.{OperandKind}
 use Rattle.vax_core.specs.Ops.{shape}
 use Rattle.vax_machine.specs.declared.function.Action.{Action}
@@ -41,7 +41,7 @@ use Rattle.vax_templates.specs.declared.form.Base.{Base}
 use Rattle.vax_templates.specs.declared.form.Base.TheVariants as base
 use Rattle.vax_templates.specs.declared.form.Form.{Form}
 use Rattle.vax_templates.specs.declared.setting.Hole.{Hole}
-use Rattle.vax_templates.specs.declared.setting.Hole.TheVariants as hole
+use Rattle.vax_templates.specs.declared.setting.Hole.TheVariants as hole_kind
 use Rattle.vax_templates.specs.declared.setting.Own.{Own}
 use Rattle.vax_templates.specs.declared.setting.Own.TheVariants as own
 use Rattle.vax_templates.specs.declared.setting.Opening.{Opening}
@@ -70,7 +70,7 @@ use Rattle.vax_target_writing.proofs.Lines.{IsWell, read_well, shape_long}
 -- ---- what is narrow
 
 abbrev HoleIsNarrow : Hole → Type 0
-HoleIsNarrow (hole.Literal n) = n < 2 ^ 32
+HoleIsNarrow (hole_kind.Literal n) = n < 2 ^ 32
 HoleIsNarrow h = Unit {0}
 
 abbrev HolesAreNarrow : List Hole → Type 0
@@ -128,19 +128,19 @@ hole_nth (x ∷ holes) (suc k) h = hole_nth holes k h.1
 
 hole_is : (holes : List Hole) (i : ℕ) → HolesAreNarrow holes → HoleIsNarrow (hole_at holes i)
 hole_is holes i h = by (i == 0) where
-  by : (b : Bool) → HoleIsNarrow (cond b hole.Other (hole_or_other (slice_get holes (i - 1))))
+  by : (b : Bool) → HoleIsNarrow (cond b hole_kind.Other (hole_or_other (slice_get holes (i - 1))))
   by true = tt
   by false = hole_nth holes (i - 1) h
 
 constant_narrow : (h : Hole) (i : ℕ) → HoleIsNarrow h → EachOk IsNarrow (constant_of h i)
-constant_narrow hole.Constant i k = tt
-constant_narrow (hole.Literal n) i k = k
+constant_narrow hole_kind.Constant i k = tt
+constant_narrow (hole_kind.Literal n) i k = k
 constant_narrow h i k = tt
 
 address_narrow : (h : Hole) (i : ℕ) → HoleIsNarrow h → EachOk IsNarrow (address_of h i)
-address_narrow hole.Object i k = tt
-address_narrow hole.Constant i k = tt
-address_narrow (hole.Literal n) i k = k
+address_narrow hole_kind.Object i k = tt
+address_narrow hole_kind.Constant i k = tt
+address_narrow (hole_kind.Literal n) i k = k
 address_narrow h i k = tt
 
 module _ (s : Setting) (holes : List Hole) (zero' : Option Shape) (n : HolesAreNarrow holes) (z : SomeNarrow zero') where
@@ -159,7 +159,7 @@ module _ (s : Setting) (holes : List Hole) (zero' : Option Shape) (n : HolesAreN
   own_narrow (own.Slot y) t h = tt
 
   of_register : (h : Hole) (i : ℕ) → EachOk IsNarrow (register_of h i)
-  of_register hole.Register i = tt
+  of_register hole_kind.Register i = tt
   of_register h i = tt
 
   register_narrow : (i : ℕ) → EachOk IsNarrow (register_term s holes zero' i)
@@ -171,14 +171,14 @@ module _ (s : Setting) (holes : List Hole) (zero' : Option Shape) (n : HolesAreN
   where_own_narrow (own.Slot y) = tt
 
   where_hole_narrow : (h : Hole) (i : ℕ) → EachOk WhereNarrow (where_hole h i)
-  where_hole_narrow hole.Register i = tt
-  where_hole_narrow (hole.Value y) i = tt
-  where_hole_narrow (hole.Place y) i = tt
-  where_hole_narrow hole.Local i = tt
-  where_hole_narrow (hole.SavedPlace y) i = tt
-  where_hole_narrow hole.Address i = tt
-  where_hole_narrow hole.Object i = tt
-  where_hole_narrow hole.Saved i = tt
+  where_hole_narrow hole_kind.Register i = tt
+  where_hole_narrow (hole_kind.Value y) i = tt
+  where_hole_narrow (hole_kind.Place y) i = tt
+  where_hole_narrow hole_kind.Local i = tt
+  where_hole_narrow (hole_kind.SavedPlace y) i = tt
+  where_hole_narrow hole_kind.Address i = tt
+  where_hole_narrow hole_kind.Object i = tt
+  where_hole_narrow hole_kind.Saved i = tt
   where_hole_narrow h i = tt
 
   where_zero_narrow : (o : Opening) → EachOk WhereNarrow (where_zero o)
@@ -187,8 +187,8 @@ module _ (s : Setting) (holes : List Hole) (zero' : Option Shape) (n : HolesAreN
   where_zero_narrow opening.Return = tt
 
   where_deferred_narrow : (h : Hole) (i : ℕ) → EachOk WhereNarrow (where_deferred h i)
-  where_deferred_narrow hole.Local i = tt
-  where_deferred_narrow hole.Object i = tt
+  where_deferred_narrow hole_kind.Local i = tt
+  where_deferred_narrow hole_kind.Object i = tt
   where_deferred_narrow h i = tt
 
   displaced_narrow : (d r : Result Shape TemplateKind) → EachOk IsNarrow d → EachOk IsNarrow r → EachOk IsNarrow (displaced d r)
@@ -302,13 +302,13 @@ module _ (s : Setting) (holes : List Hole) (zero' : Option Shape) (n : HolesAreN
 
   taken_narrow : (a : Access) (w : Where) (size : Size) → WhereNarrow w → EachOk TakenNarrow (taken s zero' a w size)
   unfolding taken
-  taken_narrow access.Read w size h = fetched_narrow w size h
-  taken_narrow access.Modify w size h =
+  taken_narrow accesses.Read w size h = fetched_narrow w size h
+  taken_narrow accesses.Modify w size h =
       bind_each TakenNarrow TakenNarrow (fetched s zero' w size) (λ (t : Taken). targeted s w size >>= both t)
       (λ t k. bind_each Aimed TakenNarrow (targeted s w size) (both t) (λ x j. (k.0, j)) (targeted_narrow w size h)) (fetched_narrow w size h)
-  taken_narrow access.Write w size h = bind_each Aimed TakenNarrow (targeted s w size) written (λ x j. (omega arith, j)) (targeted_narrow w size h)
-  taken_narrow access.Address w size h = addressed_narrow w size h
-  taken_narrow access.Count w size h = tt
+  taken_narrow accesses.Write w size h = bind_each Aimed TakenNarrow (targeted s w size) written (λ x j. (omega arith, j)) (targeted_narrow w size h)
+  taken_narrow accesses.Address w size h = addressed_narrow w size h
+  taken_narrow accesses.Count w size h = tt
 
   evaluated_narrow : (k : OperandKind) (f : Form) → IsLongForm f → EachOk TakenNarrow (evaluated s holes zero' k f)
   unfolding evaluated
@@ -556,8 +556,8 @@ kind_narrow (Some kind.Ea) = tt
 kind_narrow (Some kind.Nothing) = tt
 
 symbol_narrow : (classes : List Class) (x : Sym) → HoleIsNarrow (hole_of classes x)
-symbol_narrow classes (sym.Tok t) = token_narrow t
-symbol_narrow classes (sym.Class c) = kind_narrow (kind_at classes c)
+symbol_narrow classes (grammar_symbol.Tok t) = token_narrow t
+symbol_narrow classes (grammar_symbol.Class c) = kind_narrow (kind_at classes c)
 
 symbols_narrow : (classes : List Class) (right : List Sym) → HolesAreNarrow (holes_of classes right)
 symbols_narrow classes [] = tt

@@ -23,7 +23,7 @@ use Rattle.vax_templates.specs.declared.form.Base.{Base}
 use Rattle.vax_templates.specs.declared.form.Base.TheVariants as base
 use Rattle.vax_templates.specs.declared.form.Form.{Form}
 use Rattle.vax_templates.specs.declared.setting.Hole.{Hole}
-use Rattle.vax_templates.specs.declared.setting.Hole.TheVariants as hole
+use Rattle.vax_templates.specs.declared.setting.Hole.TheVariants as hole_kind
 use Rattle.vax_templates.specs.declared.setting.Own.{Own}
 use Rattle.vax_templates.specs.declared.setting.Own.TheVariants as own
 use Rattle.vax_templates.specs.declared.setting.Opening.{Opening}
@@ -119,23 +119,23 @@ module _ (c : Scene) (zero : Option Shape) (m : State) (h : Sees c zero m) where
 
   deferred_stands : (r : Hole) (i : ℕ) (w : Where) (size : Size) → Means c m r i (filling_at c i) → where_deferred r i ≡ Ok w → CanStand c w size →
       BaseStands c m w (deferred_in c.program (filling_at c i)) size
-  deferred_stands hole.Register i w size k e can = absurd (err_ok _ w e)
-  deferred_stands (hole.Value z) i w size k e can = absurd (err_ok _ w e)
-  deferred_stands (hole.Place z) i w size k e can = absurd (err_ok _ w e)
-  deferred_stands hole.Local i w size k e can =
+  deferred_stands hole_kind.Register i w size k e can = absurd (err_ok _ w e)
+  deferred_stands (hole_kind.Value z) i w size k e can = absurd (err_ok _ w e)
+  deferred_stands (hole_kind.Place z) i w size k e can = absurd (err_ok _ w e)
+  deferred_stands hole_kind.Local i w size k e can =
       subst (λ x. BaseStands c m x (deferred_in c.program (filling_at c i)) size) (ok_same (At (Symbol i) None) w e)
       (k.plain, named_located m (deferred_in c.program (filling_at c i)).base size (worth c (Symbol i)) k.deferred)
-  deferred_stands (hole.SavedPlace z) i w size k e can = absurd (err_ok _ w e)
-  deferred_stands hole.Address i w size k e can = absurd (err_ok _ w e)
-  deferred_stands hole.Constant i w size k e can = absurd (err_ok _ w e)
-  deferred_stands (hole.Literal n) i w size k e can = absurd (err_ok _ w e)
-  deferred_stands hole.Object i w size k e can =
+  deferred_stands (hole_kind.SavedPlace z) i w size k e can = absurd (err_ok _ w e)
+  deferred_stands hole_kind.Address i w size k e can = absurd (err_ok _ w e)
+  deferred_stands hole_kind.Constant i w size k e can = absurd (err_ok _ w e)
+  deferred_stands (hole_kind.Literal n) i w size k e can = absurd (err_ok _ w e)
+  deferred_stands hole_kind.Object i w size k e can =
       subst (λ o. BaseStands c m w o size) (sym k.deferred_is)
       (through_stands (alone (bases.RelDef (addr_in c.program (filling_at c i)))) size (Symbol i) (resolved m.layout (addr_in c.program (filling_at c i))) w e can k.address refl
       (rel_deferred m (addr_in c.program (filling_at c i)) size))
-  deferred_stands hole.Saved i w size k e can = absurd (err_ok _ w e)
-  deferred_stands hole.Relation i w size k e can = absurd (err_ok _ w e)
-  deferred_stands hole.Other i w size k e can = absurd (err_ok _ w e)
+  deferred_stands hole_kind.Saved i w size k e can = absurd (err_ok _ w e)
+  deferred_stands hole_kind.Relation i w size k e can = absurd (err_ok _ w e)
+  deferred_stands hole_kind.Other i w size k e can = absurd (err_ok _ w e)
 
   -- ---- bases
 

@@ -26,7 +26,7 @@ use Rattle.vax_machine_lists.specs.Sound.{AllBelow}
 use Rattle.vax_templates.specs.declared.form.Number.{Number}
 use Rattle.vax_templates.specs.declared.form.Number.TheVariants as number
 use Rattle.vax_templates.specs.declared.setting.Hole.{Hole}
-use Rattle.vax_templates.specs.declared.setting.Hole.TheVariants as hole
+use Rattle.vax_templates.specs.declared.setting.Hole.TheVariants as hole_kind
 use Rattle.vax_templates.specs.declared.setting.Own.{Own}
 use Rattle.vax_templates.specs.declared.setting.Own.TheVariants as own
 use Rattle.vax_templates.specs.Settings.{hole_or_other}
@@ -74,79 +74,79 @@ module _ (c : Scene) (m : State) where
   number_resolved a n k = ap (λ o. resolved_of m.layout o (addr_in c.program a).offset) k.nameless ∙ k.is
 
   pub constant_known : (r : Hole) (i : ℕ) (t : Shape) (a : Attr Operand) → Means c m r i a → constant_of r i ≡ Ok t → IsNumber c a (worth c t)
-  constant_known hole.Register i t a k e = absurd (err_ok _ t e)
-  constant_known (hole.Value z) i t a k e = absurd (err_ok _ t e)
-  constant_known (hole.Place z) i t a k e = absurd (err_ok _ t e)
-  constant_known hole.Local i t a k e = absurd (err_ok _ t e)
-  constant_known (hole.SavedPlace z) i t a k e = absurd (err_ok _ t e)
-  constant_known hole.Address i t a k e = absurd (err_ok _ t e)
-  constant_known hole.Constant i t a k e = subst (λ s. IsNumber c a (worth c s)) (ok_same (Symbol i) t e) k
-  constant_known (hole.Literal n) i t a k e =
+  constant_known hole_kind.Register i t a k e = absurd (err_ok _ t e)
+  constant_known (hole_kind.Value z) i t a k e = absurd (err_ok _ t e)
+  constant_known (hole_kind.Place z) i t a k e = absurd (err_ok _ t e)
+  constant_known hole_kind.Local i t a k e = absurd (err_ok _ t e)
+  constant_known (hole_kind.SavedPlace z) i t a k e = absurd (err_ok _ t e)
+  constant_known hole_kind.Address i t a k e = absurd (err_ok _ t e)
+  constant_known hole_kind.Constant i t a k e = subst (λ s. IsNumber c a (worth c s)) (ok_same (Symbol i) t e) k
+  constant_known (hole_kind.Literal n) i t a k e =
       subst (λ s. IsNumber c a (worth c s)) (ok_same (Constant n) t e)
       (subst (λ x. IsNumber c a x) (let small : n ≡ n % 2 ^ 32 = omega (arith, k.low) in small) k)
-  constant_known hole.Object i t a k e = absurd (err_ok _ t e)
-  constant_known hole.Saved i t a k e = absurd (err_ok _ t e)
-  constant_known hole.Relation i t a k e = absurd (err_ok _ t e)
-  constant_known hole.Other i t a k e = absurd (err_ok _ t e)
+  constant_known hole_kind.Object i t a k e = absurd (err_ok _ t e)
+  constant_known hole_kind.Saved i t a k e = absurd (err_ok _ t e)
+  constant_known hole_kind.Relation i t a k e = absurd (err_ok _ t e)
+  constant_known hole_kind.Other i t a k e = absurd (err_ok _ t e)
 
   pub address_known : (r : Hole) (i : ℕ) (t : Shape) (a : Attr Operand) → Means c m r i a → address_of r i ≡ Ok t → resolved m.layout (addr_in c.program a) ≡ worth c t
-  address_known hole.Register i t a k e = absurd (err_ok _ t e)
-  address_known (hole.Value z) i t a k e = absurd (err_ok _ t e)
-  address_known (hole.Place z) i t a k e = absurd (err_ok _ t e)
-  address_known hole.Local i t a k e = absurd (err_ok _ t e)
-  address_known (hole.SavedPlace z) i t a k e = absurd (err_ok _ t e)
-  address_known hole.Address i t a k e = absurd (err_ok _ t e)
-  address_known hole.Constant i t a k e = number_resolved a (worth c t) (constant_known hole.Constant i t a k e)
-  address_known (hole.Literal n) i t a k e = number_resolved a (worth c t) (constant_known (hole.Literal n) i t a k e)
-  address_known hole.Object i t a k e = k.address ∙ ap (worth c) (ok_same (Symbol i) t e)
-  address_known hole.Saved i t a k e = absurd (err_ok _ t e)
-  address_known hole.Relation i t a k e = absurd (err_ok _ t e)
-  address_known hole.Other i t a k e = absurd (err_ok _ t e)
+  address_known hole_kind.Register i t a k e = absurd (err_ok _ t e)
+  address_known (hole_kind.Value z) i t a k e = absurd (err_ok _ t e)
+  address_known (hole_kind.Place z) i t a k e = absurd (err_ok _ t e)
+  address_known hole_kind.Local i t a k e = absurd (err_ok _ t e)
+  address_known (hole_kind.SavedPlace z) i t a k e = absurd (err_ok _ t e)
+  address_known hole_kind.Address i t a k e = absurd (err_ok _ t e)
+  address_known hole_kind.Constant i t a k e = number_resolved a (worth c t) (constant_known hole_kind.Constant i t a k e)
+  address_known (hole_kind.Literal n) i t a k e = number_resolved a (worth c t) (constant_known (hole_kind.Literal n) i t a k e)
+  address_known hole_kind.Object i t a k e = k.address ∙ ap (worth c) (ok_same (Symbol i) t e)
+  address_known hole_kind.Saved i t a k e = absurd (err_ok _ t e)
+  address_known hole_kind.Relation i t a k e = absurd (err_ok _ t e)
+  address_known hole_kind.Other i t a k e = absurd (err_ok _ t e)
 
   -- a number stands in no register
   pub number_no_operand : (r : Hole) (i : ℕ) (t : Shape) → address_of r i ≡ Ok t → is_operand r ≡ false
-  number_no_operand hole.Register i t e = absurd (err_ok _ t e)
-  number_no_operand (hole.Value z) i t e = absurd (err_ok _ t e)
-  number_no_operand (hole.Place z) i t e = absurd (err_ok _ t e)
-  number_no_operand hole.Local i t e = absurd (err_ok _ t e)
-  number_no_operand (hole.SavedPlace z) i t e = absurd (err_ok _ t e)
-  number_no_operand hole.Address i t e = absurd (err_ok _ t e)
-  number_no_operand hole.Constant i t e = refl
-  number_no_operand (hole.Literal n) i t e = refl
-  number_no_operand hole.Object i t e = refl
-  number_no_operand hole.Saved i t e = refl
-  number_no_operand hole.Relation i t e = refl
-  number_no_operand hole.Other i t e = refl
+  number_no_operand hole_kind.Register i t e = absurd (err_ok _ t e)
+  number_no_operand (hole_kind.Value z) i t e = absurd (err_ok _ t e)
+  number_no_operand (hole_kind.Place z) i t e = absurd (err_ok _ t e)
+  number_no_operand hole_kind.Local i t e = absurd (err_ok _ t e)
+  number_no_operand (hole_kind.SavedPlace z) i t e = absurd (err_ok _ t e)
+  number_no_operand hole_kind.Address i t e = absurd (err_ok _ t e)
+  number_no_operand hole_kind.Constant i t e = refl
+  number_no_operand (hole_kind.Literal n) i t e = refl
+  number_no_operand hole_kind.Object i t e = refl
+  number_no_operand hole_kind.Saved i t e = refl
+  number_no_operand hole_kind.Relation i t e = refl
+  number_no_operand hole_kind.Other i t e = refl
 
   pub constant_address : (r : Hole) (i : ℕ) (t : Shape) → constant_of r i ≡ Ok t → address_of r i ≡ Ok t
-  constant_address hole.Register i t e = e
-  constant_address (hole.Value z) i t e = e
-  constant_address (hole.Place z) i t e = e
-  constant_address hole.Local i t e = e
-  constant_address (hole.SavedPlace z) i t e = e
-  constant_address hole.Address i t e = e
-  constant_address hole.Constant i t e = e
-  constant_address (hole.Literal n) i t e = e
-  constant_address hole.Object i t e = absurd (err_ok _ t e)
-  constant_address hole.Saved i t e = e
-  constant_address hole.Relation i t e = e
-  constant_address hole.Other i t e = e
+  constant_address hole_kind.Register i t e = e
+  constant_address (hole_kind.Value z) i t e = e
+  constant_address (hole_kind.Place z) i t e = e
+  constant_address hole_kind.Local i t e = e
+  constant_address (hole_kind.SavedPlace z) i t e = e
+  constant_address hole_kind.Address i t e = e
+  constant_address hole_kind.Constant i t e = e
+  constant_address (hole_kind.Literal n) i t e = e
+  constant_address hole_kind.Object i t e = absurd (err_ok _ t e)
+  constant_address hole_kind.Saved i t e = e
+  constant_address hole_kind.Relation i t e = e
+  constant_address hole_kind.Other i t e = e
 
   -- ---- registers
 
   pub register_known : (r : Hole) (i : ℕ) (t : Shape) (a : Attr Operand) → Means c m r i a → register_of r i ≡ Ok t → reg m (register_in a) ≡ worth c t
-  register_known hole.Register i t a k e = ap (λ x. reg m (register_in x)) k.is ∙ k.holds ∙ ap (worth c) (ok_same (Symbol i) t e)
-  register_known (hole.Value z) i t a k e = absurd (err_ok _ t e)
-  register_known (hole.Place z) i t a k e = absurd (err_ok _ t e)
-  register_known hole.Local i t a k e = absurd (err_ok _ t e)
-  register_known (hole.SavedPlace z) i t a k e = absurd (err_ok _ t e)
-  register_known hole.Address i t a k e = absurd (err_ok _ t e)
-  register_known hole.Constant i t a k e = absurd (err_ok _ t e)
-  register_known (hole.Literal n) i t a k e = absurd (err_ok _ t e)
-  register_known hole.Object i t a k e = absurd (err_ok _ t e)
-  register_known hole.Saved i t a k e = absurd (err_ok _ t e)
-  register_known hole.Relation i t a k e = absurd (err_ok _ t e)
-  register_known hole.Other i t a k e = absurd (err_ok _ t e)
+  register_known hole_kind.Register i t a k e = ap (λ x. reg m (register_in x)) k.is ∙ k.holds ∙ ap (worth c) (ok_same (Symbol i) t e)
+  register_known (hole_kind.Value z) i t a k e = absurd (err_ok _ t e)
+  register_known (hole_kind.Place z) i t a k e = absurd (err_ok _ t e)
+  register_known hole_kind.Local i t a k e = absurd (err_ok _ t e)
+  register_known (hole_kind.SavedPlace z) i t a k e = absurd (err_ok _ t e)
+  register_known hole_kind.Address i t a k e = absurd (err_ok _ t e)
+  register_known hole_kind.Constant i t a k e = absurd (err_ok _ t e)
+  register_known (hole_kind.Literal n) i t a k e = absurd (err_ok _ t e)
+  register_known hole_kind.Object i t a k e = absurd (err_ok _ t e)
+  register_known hole_kind.Saved i t a k e = absurd (err_ok _ t e)
+  register_known hole_kind.Relation i t a k e = absurd (err_ok _ t e)
+  register_known hole_kind.Other i t a k e = absurd (err_ok _ t e)
 
   -- ---- operands that are holes
 
@@ -176,21 +176,21 @@ module _ (c : Scene) (m : State) where
 
   pub hole_stands : (r : Hole) (i : ℕ) (w : Where) (size : Size) →
       Means c m r i (filling_at c i) → where_hole r i ≡ Ok w → CanStand c w size → BaseStands w (operand_in c.program (filling_at c i)) size
-  hole_stands hole.Register i w size k e can =
+  hole_stands hole_kind.Register i w size k e can =
       subst (λ x. BaseStands x (operand_in c.program (filling_at c i)) size) (ok_same (Register (Symbol i)) w e)
       (record {
         place = locations.Register (register_in (filling_at c i));
         at = register_stands (filling_at c i) k.number size k.is;
         is = record { register = register_in (filling_at c i); is = refl; holds = ap (λ x. reg m (register_in x)) k.is ∙ k.holds };
       })
-  hole_stands (hole.Value z) i w size k e can =
+  hole_stands (hole_kind.Value z) i w size k e can =
       subst (λ x. CanStand c x size → BaseStands x (operand_in c.program (filling_at c i)) size) (ok_same (Value z i) w e) by can
     where
       by : z ≡ size → Stands c m (operand_in c.program (filling_at c i)) (Value z i) size
       by same =
           let r = reads_stand (operand_in c.program (filling_at c i)) size m (worth c (Symbol i)) (subst (λ y. reads (operand_in c.program (filling_at c i)) y m ≡ Some (worth c (Symbol i))) same k) in
           record { place = r.place; at = r.at; is = r.reads_so }
-  hole_stands (hole.Place z) i w size k e can =
+  hole_stands (hole_kind.Place z) i w size k e can =
       subst (λ x. CanStand c x size → BaseStands x (operand_in c.program (filling_at c i)) size) (ok_same (Place z i) w e) by can
     where
       by : z ≡ size → Stands c m (operand_in c.program (filling_at c i)) (Place z i) size
@@ -201,7 +201,7 @@ module _ (c : Scene) (m : State) where
             at = names_stand (operand_in c.program (filling_at c i)) size m p.address p.named_so;
             is = home_stands i size p.address p.named_so (λ some. reads_stand (operand_in c.program (filling_at c i)) size m (worth c (Symbol i)) (p.holds some));
           }
-  hole_stands hole.Local i w size k e can =
+  hole_stands hole_kind.Local i w size k e can =
       subst (λ x. CanStand c x size → BaseStands x (operand_in c.program (filling_at c i)) size) (ok_same (Local i) w e) by can
     where
       by : Long ≡ size → Stands c m (operand_in c.program (filling_at c i)) (Local i) size
@@ -217,7 +217,7 @@ module _ (c : Scene) (m : State) where
               subst (λ l. fetched m l Long ≡ Ok (worth c (Symbol i))) (stands_same m (operand_in c.program (filling_at c i)) Long r.place (locations.Memory k.address) r.at there) r.reads_so,
             );
           })
-  hole_stands (hole.SavedPlace z) i w size k e can =
+  hole_stands (hole_kind.SavedPlace z) i w size k e can =
       subst (λ x. CanStand c x size → BaseStands x (operand_in c.program (filling_at c i)) size) (ok_same (SavedPlace z i) w e) by can
     where
       by : z ≡ size → Stands c m (operand_in c.program (filling_at c i)) (SavedPlace z i) size
@@ -227,24 +227,24 @@ module _ (c : Scene) (m : State) where
             at = names_stand (operand_in c.program (filling_at c i)) size m (worth c (Symbol i)) (subst (λ y. names (operand_in c.program (filling_at c i)) y m ≡ Some (worth c (Symbol i))) same k);
             is = refl;
           }
-  hole_stands hole.Address i w size k e can =
+  hole_stands hole_kind.Address i w size k e can =
       subst (λ x. BaseStands x (operand_in c.program (filling_at c i)) size) (ok_same (At (Symbol i) None) w e)
       (k.plain, named_located m (operand_in c.program (filling_at c i)).base size (worth c (Symbol i)) k.named_so)
-  hole_stands hole.Constant i w size k e can = absurd (err_ok _ w e)
-  hole_stands (hole.Literal n) i w size k e can = absurd (err_ok _ w e)
-  hole_stands hole.Object i w size k e can =
+  hole_stands hole_kind.Constant i w size k e can = absurd (err_ok _ w e)
+  hole_stands (hole_kind.Literal n) i w size k e can = absurd (err_ok _ w e)
+  hole_stands hole_kind.Object i w size k e can =
       subst (λ x. BaseStands x (operand_in c.program (filling_at c i)) size) (ok_same (At (Symbol i) None) w e)
       (subst (λ o. BaseStands (At (Symbol i) None) o size) (sym k.operand_is)
       (refl, rel_found m (addr_in c.program (filling_at c i)) size ∙ ap (λ (x : ℕ). Ok (locations.Memory x, m)) k.address))
-  hole_stands hole.Saved i w size k e can =
+  hole_stands hole_kind.Saved i w size k e can =
       subst (λ x. BaseStands x (operand_in c.program (filling_at c i)) size) (ok_same (Saved i) w e)
       (let at =
       subst (λ o. StandsAt m o size (locations.Memory (displaced m Fp (word_addr k.local)))) (sym k.is)
       (plain_stands m (home k.local) size (locations.Memory (displaced m Fp (word_addr k.local))) refl
       (named_located m (home k.local).base size (displaced m Fp (word_addr k.local)) refl)) in
       record { place = locations.Memory (displaced m Fp (word_addr k.local)); at = at; is = (at, k) })
-  hole_stands hole.Relation i w size k e can = absurd (err_ok _ w e)
-  hole_stands hole.Other i w size k e can = absurd (err_ok _ w e)
+  hole_stands hole_kind.Relation i w size k e can = absurd (err_ok _ w e)
+  hole_stands hole_kind.Other i w size k e can = absurd (err_ok _ w e)
 
   -- ---- `%0`
 
@@ -301,8 +301,8 @@ module _ (c : Scene) (zero : Option Shape) (m : State) (h : Sees c zero m) where
   pub register_is : (i : ℕ) (t : Shape) → (is_lost c zero ≡ true → is_operand (role_at c i) ≡ false) →
       register_term c.setting c.roles zero i ≡ Ok t → reg m (register_in (filling_at c i)) ≡ worth c t
   register_is i t free e = by (i == 0) (h.means i free) e where
-    by : (b : Bool) → Means c m (cond b hole.Other (hole_or_other (slice_get c.roles (i - 1)))) i (cond b c.own (attr_or c.own (slice_get c.holes (i - 1)))) →
-        cond b (own_value c.setting.own zero) (register_of (cond b hole.Other (hole_or_other (slice_get c.roles (i - 1)))) i) ≡ Ok t →
+    by : (b : Bool) → Means c m (cond b hole_kind.Other (hole_or_other (slice_get c.roles (i - 1)))) i (cond b c.own (attr_or c.own (slice_get c.holes (i - 1)))) →
+        cond b (own_value c.setting.own zero) (register_of (cond b hole_kind.Other (hole_or_other (slice_get c.roles (i - 1)))) i) ≡ Ok t →
         reg m (register_in (cond b c.own (attr_or c.own (slice_get c.holes (i - 1))))) ≡ worth c t
     by true k e = own_held c m c.setting.own zero t h.holds e
     by false k e = register_known c m (hole_or_other (slice_get c.roles (i - 1))) i t (attr_or c.own (slice_get c.holes (i - 1))) k e

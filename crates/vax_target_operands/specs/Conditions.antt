@@ -3,7 +3,7 @@ use Rattle.std.specs.Prelude.{◌≡◌, ℕ, ◌*◌, ◌^◌, ◌<◌, Bool, t
 use Rattle.gg_base.specs.declared.size.Size.{Size}
 use Rattle.gg_base.specs.Sizes.{bytes_of}
 use Rattle.gg_base.specs.declared.relation.Rel.{Rel}
-use Rattle.gg_base.specs.declared.relation.Rel.TheVariants as rel
+use Rattle.gg_base.specs.declared.relation.Rel.TheVariants as relations
 use Rattle.gg_base.specs.Relations.{holds}
 use Rattle.term_core.specs.Shape.{Shape}
 use Rattle.sel_target.specs.EffectTerms.{compares_signed}
@@ -12,23 +12,23 @@ use Rattle.vax_machine.specs.declared.function.Conditions.{Conditions}
 use Rattle.vax_machine.specs.declared.function.Function.{Function}
 use Rattle.vax_machine.specs.declared.function.Function.TheVariants as functions
 use Rattle.vax_machine.specs.declared.function.Test.{Test}
-use Rattle.vax_machine.specs.declared.function.Test.TheVariants as tests
+use Rattle.vax_machine.specs.declared.function.Test.TheVariants as test
 use Rattle.vax_machine.specs.Functions.{passes, applied}
 use Rattle.vax_templates.specs.Giving.{Given, Computes, Divides, Compares, Tests, given}
 use Rattle.vax_target_operands.specs.Scenes.{Scene, worth}
 
 -- the test by which the branch of a relation goes
 abbrev pub test_of : Rel → Test
-test_of rel.Eq = tests.Equal
-test_of rel.Ne = tests.NotEqual
-test_of rel.Lt = tests.Less
-test_of rel.Le = tests.LessOrEqual
-test_of rel.Gt = tests.Greater
-test_of rel.Ge = tests.GreaterOrEqual
-test_of rel.Ltu = tests.LessUnsigned
-test_of rel.Leu = tests.LessOrEqualUnsigned
-test_of rel.Gtu = tests.GreaterUnsigned
-test_of rel.Geu = tests.GreaterOrEqualUnsigned
+test_of relations.Eq = test.Equal
+test_of relations.Ne = test.NotEqual
+test_of relations.Lt = test.Less
+test_of relations.Le = test.LessOrEqual
+test_of relations.Gt = test.Greater
+test_of relations.Ge = test.GreaterOrEqual
+test_of relations.Ltu = test.LessUnsigned
+test_of relations.Leu = test.LessOrEqualUnsigned
+test_of relations.Gtu = test.GreaterUnsigned
+test_of relations.Geu = test.GreaterOrEqualUnsigned
 
 -- the codes say how two numbers compare
 abbrev pub Compared : Conditions → ℕ → ℕ → Type 0

@@ -15,7 +15,7 @@ use Rattle.vax_machine.specs.State.{State, reg}
 use Rattle.vax_machine.specs.Area.{resolved}
 use Rattle.vax_machine_lists.specs.Sound.{IsSound}
 use Rattle.vax_templates.specs.declared.setting.Hole.{Hole}
-use Rattle.vax_templates.specs.declared.setting.Hole.TheVariants as hole
+use Rattle.vax_templates.specs.declared.setting.Hole.TheVariants as hole_kind
 use Rattle.vax_templates.specs.declared.setting.Own.{Own}
 use Rattle.vax_templates.specs.declared.setting.Own.TheVariants as own
 use Rattle.vax_templates.specs.declared.setting.Opening.TheVariants as opening
@@ -83,18 +83,18 @@ pub record IsSavedLocal (c : Scene) (h : Attr Operand) : Type 0 where
 
 -- what fills a hole is what the hole stands for
 abbrev pub Means : Scene → State → Hole → ℕ → Attr Operand → Type 0
-Means c m hole.Register i h = IsRegister c m i h
-Means c m (hole.Value size) i h = reads (operand_in c.program h) size m ≡ Some (worth c (Symbol i))
-Means c m (hole.Place size) i h = IsPlace c m size i h
-Means c m hole.Local i h = IsLocal c m i h
-Means c m (hole.SavedPlace size) i h = names (operand_in c.program h) size m ≡ Some (worth c (Symbol i))
-Means c m hole.Address i h = Names m (operand_in c.program h) (worth c (Symbol i))
-Means c m hole.Constant i h = IsNumber c h (worth c (Symbol i))
-Means c m (hole.Literal n) i h = IsNumber c h n
-Means c m hole.Object i h = IsObject c m i h
-Means c m hole.Saved i h = IsSavedLocal c h
-Means c m hole.Relation i h = Unit {0}
-Means c m hole.Other i h = Unit {0}
+Means c m hole_kind.Register i h = IsRegister c m i h
+Means c m (hole_kind.Value size) i h = reads (operand_in c.program h) size m ≡ Some (worth c (Symbol i))
+Means c m (hole_kind.Place size) i h = IsPlace c m size i h
+Means c m hole_kind.Local i h = IsLocal c m i h
+Means c m (hole_kind.SavedPlace size) i h = names (operand_in c.program h) size m ≡ Some (worth c (Symbol i))
+Means c m hole_kind.Address i h = Names m (operand_in c.program h) (worth c (Symbol i))
+Means c m hole_kind.Constant i h = IsNumber c h (worth c (Symbol i))
+Means c m (hole_kind.Literal n) i h = IsNumber c h n
+Means c m hole_kind.Object i h = IsObject c m i h
+Means c m hole_kind.Saved i h = IsSavedLocal c h
+Means c m hole_kind.Relation i h = Unit {0}
+Means c m hole_kind.Other i h = Unit {0}
 
 abbrev pub role_at : Scene → ℕ → Hole
 role_at c i = hole_at c.roles i

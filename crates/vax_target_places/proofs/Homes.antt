@@ -7,13 +7,13 @@ use Rattle.sel_terms.specs.Same.{same_size}
 use Rattle.sel_target.specs.declared.fault.TemplateKind.{TemplateKind}
 use Rattle.sel_target.specs.declared.fault.TemplateKind.TheVariants.{NotInstr}
 use Rattle.vax_core.specs.declared.op.Access.{Access}
-use Rattle.vax_core.specs.declared.op.Access.TheVariants as access
+use Rattle.vax_core.specs.declared.op.Access.TheVariants as accesses
 use Rattle.vax_core.specs.declared.op.OperandKind.{OperandKind}
 use Rattle.vax_templates.specs.declared.form.Base.{Base}
 use Rattle.vax_templates.specs.declared.form.Base.TheVariants as base
 use Rattle.vax_templates.specs.declared.form.Form.{Form}
 use Rattle.vax_templates.specs.declared.setting.Hole.{Hole}
-use Rattle.vax_templates.specs.declared.setting.Hole.TheVariants as holes
+use Rattle.vax_templates.specs.declared.setting.Hole.TheVariants as hole_kind
 use Rattle.vax_templates.specs.declared.setting.Own.{Own}
 use Rattle.vax_templates.specs.declared.setting.Own.TheVariants as own
 use Rattle.vax_templates.specs.declared.setting.Opening.{Opening}
@@ -29,8 +29,8 @@ use Rattle.vax_target_writing.proofs.Each.{EachOk, bind_each, if_ok}
 
 -- a symbol that is a place
 abbrev pub IsPlace : Hole → Type 0
-IsPlace (holes.Place z) = Unit {0}
-IsPlace holes.Local = Unit {0}
+IsPlace (hole_kind.Place z) = Unit {0}
+IsPlace hole_kind.Local = Unit {0}
 IsPlace h = ⊥
 
 module _ (s : Setting) (roles : List Hole) (zero : Option Shape) where
@@ -40,8 +40,8 @@ module _ (s : Setting) (roles : List Hole) (zero : Option Shape) where
   Home w = Unit {0}
 
   hole_home : (r : Hole) (i : ℕ) → (IsPlace r → IsPlace (hole_at roles i)) → EachOk Home (where_hole r i)
-  hole_home (holes.Place z) i k = k tt
-  hole_home holes.Local i k = k tt
+  hole_home (hole_kind.Place z) i k = k tt
+  hole_home hole_kind.Local i k = k tt
   hole_home r i k = tt
 
   own_home : (x : Own) → EachOk Home (where_own x)
@@ -53,8 +53,8 @@ module _ (s : Setting) (roles : List Hole) (zero : Option Shape) where
   zero_home x = tt
 
   deferred_home : (r : Hole) (i : ℕ) → EachOk Home (where_deferred r i)
-  deferred_home holes.Local i = tt
-  deferred_home holes.Object i = tt
+  deferred_home hole_kind.Local i = tt
+  deferred_home hole_kind.Object i = tt
   deferred_home r i = tt
 
   memory_home : (r : Result Shape TemplateKind) (g : Shape → Result Where TemplateKind) → ((t : Shape) → EachOk Home (g t)) → EachOk Home (r >>= g)
@@ -159,13 +159,13 @@ module _ (s : Setting) (roles : List Hole) (zero : Option Shape) where
 
   taken_to : (a : Access) (w : Where) (size : Size) → Home w → EachOk TakenTo (taken s zero a w size)
   unfolding taken
-  taken_to access.Read w size h = fetched_to w size
-  taken_to access.Modify w size h =
+  taken_to accesses.Read w size h = fetched_to w size
+  taken_to accesses.Modify w size h =
       bind_each TakenTo TakenTo (fetched s zero w size) (λ (t : Taken). targeted s w size >>= both t)
       (λ t k. bind_each (λ (y : Target × Bool). To y.0) TakenTo (targeted s w size) (both t) (λ y m. m) (targeted_to w size h)) (fetched_to w size)
-  taken_to access.Write w size h = bind_each (λ (y : Target × Bool). To y.0) TakenTo (targeted s w size) written (λ y m. m) (targeted_to w size h)
-  taken_to access.Address w size h = addressed_to w size
-  taken_to access.Count w size h = tt
+  taken_to accesses.Write w size h = bind_each (λ (y : Target × Bool). To y.0) TakenTo (targeted s w size) written (λ y m. m) (targeted_to w size h)
+  taken_to accesses.Address w size h = addressed_to w size
+  taken_to accesses.Count w size h = tt
 
   evaluated_to : (k : OperandKind) (f : Form) → EachOk TakenTo (evaluated s roles zero k f)
   unfolding evaluated

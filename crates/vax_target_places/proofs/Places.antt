@@ -3,7 +3,7 @@ use Rattle.std.proofs.Common.{◌≡◌, ◌⊎◌, inl, inr, ℕ, zero, suc, �
 use Rattle.std.proofs.lemmas.Bool.Decides.{nat_tests}
 use Rattle.tree_core.specs.declared.token.Tok.{Tok}
 use Rattle.tree_core.specs.declared.token.Tok.TheVariants as tok
-use Rattle.tree_core.specs.declared.token.AttKind.TheVariants as attkind
+use Rattle.tree_core.specs.declared.token.AttKind.TheVariants as att_kind
 use Rattle.tree_core.specs.declared.tree.Att.{Att}
 use Rattle.tree_core.specs.declared.tree.Att.TheVariants as att
 use Rattle.tree_core.specs.Attributes.{attribute_of, is_of_kind}
@@ -11,7 +11,7 @@ use Rattle.md_reader.specs.declared.types.Kind.{Kind}
 use Rattle.md_reader.specs.declared.types.Kind.TheVariants as kind
 use Rattle.md_reader.specs.declared.types.Class.{Class}
 use Rattle.md_reader.specs.declared.types.Sym.{Sym}
-use Rattle.md_reader.specs.declared.types.Sym.TheVariants as symbol
+use Rattle.md_reader.specs.declared.types.Sym.TheVariants as grammar_symbol
 use Rattle.md_reader.specs.Patterns.{kind_at}
 use Rattle.sel_terms.specs.Effects.{EffectShape}
 use Rattle.sel_target.specs.declared.attr.Attr.{Attr}
@@ -20,7 +20,7 @@ use Rattle.sel_target.specs.Values.{own_operand}
 use Rattle.sel_target.specs.Instances.{hole, KindFits, SymFits, Fit}
 use Rattle.vax_core.specs.declared.operand.Operand.{Operand}
 use Rattle.vax_templates.specs.declared.setting.Hole.{Hole}
-use Rattle.vax_templates.specs.declared.setting.Hole.TheVariants as holes
+use Rattle.vax_templates.specs.declared.setting.Hole.TheVariants as hole_kind
 use Rattle.vax_templates.specs.Settings.{hole_of_token, hole_of_kind, hole_of, holes_of, hole_or_other, hole_at, setting_of}
 use Rattle.vax_templates.specs.Found.{Progress, start, lines_judged, given_by}
 use Rattle.vax_target_meaning.specs.Vax.{vax}
@@ -35,7 +35,7 @@ use Rattle.vax_target_places.proofs.Lines.{Act, Left, lines_leave, given_act}
 abbrev Owned : Attr Operand → Type 0
 Owned h = (o : Operand) × (own_operand vax h ≡ Some o)
 
-local_owned : (a : Att) → is_of_kind attkind.Local a ≡ true → Owned (attr.Token (record { tok = tok.Loc; att = a }))
+local_owned : (a : Att) → is_of_kind att_kind.Local a ≡ true → Owned (attr.Token (record { tok = tok.Loc; att = a }))
 local_owned (att.Slot k) f = (vax.local k, refl)
 local_owned att.Nothing f = absurd (cc)
 local_owned (att.Number n) f = absurd (cc)
@@ -44,7 +44,7 @@ local_owned (att.Branch rel label) f = absurd (cc)
 local_owned (att.Label label) f = absurd (cc)
 local_owned (att.Callee function count) f = absurd (cc)
 
-argument_owned : (a : Att) → is_of_kind attkind.Argument a ≡ true → Owned (attr.Token (record { tok = tok.Arg; att = a }))
+argument_owned : (a : Att) → is_of_kind att_kind.Argument a ≡ true → Owned (attr.Token (record { tok = tok.Arg; att = a }))
 argument_owned (att.Slot k) f = (vax.argument k, refl)
 argument_owned att.Nothing f = absurd (cc)
 argument_owned (att.Number n) f = absurd (cc)
@@ -64,9 +64,9 @@ class_owned (Some (kind.Place z)) h f p = absurd f
 class_owned k h f p = absurd p
 
 symbol_owned : (classes : List Class) (x : Sym) (h : Attr Operand) → SymFits vax classes x h → IsPlace (hole_of classes x) → Owned h
-symbol_owned classes (symbol.Class c) h f p = class_owned (kind_at classes c) h f p
-symbol_owned classes (symbol.Tok x) (attr.Token l) f p = token_owned l.tok l.att f.1 (subst (λ y. IsPlace (hole_of_token y)) (sym f.0) p)
-symbol_owned classes (symbol.Tok x) h f p = absurd f
+symbol_owned classes (grammar_symbol.Class c) h f p = class_owned (kind_at classes c) h f p
+symbol_owned classes (grammar_symbol.Tok x) (attr.Token l) f p = token_owned l.tok l.att f.1 (subst (λ y. IsPlace (hole_of_token y)) (sym f.0) p)
+symbol_owned classes (grammar_symbol.Tok x) h f p = absurd f
 
 some_same : {X : Type 0} (x y : X) → Some x ≡ Some y → x ≡ y
 some_same x y e = cc
@@ -89,7 +89,7 @@ one_less k = omega arith
 
 role_is : (roles : List Hole) (k : ℕ) → hole_at roles (suc k) ≡ hole_or_other (slice_get roles k)
 role_is roles k =
-    ap (λ b. cond b holes.Other (hole_or_other (slice_get roles (suc k - 1)))) (not_zero k) ∙ ap (λ n. hole_or_other (slice_get roles n)) (one_less k)
+    ap (λ b. cond b hole_kind.Other (hole_or_other (slice_get roles (suc k - 1)))) (not_zero k) ∙ ap (λ n. hole_or_other (slice_get roles n)) (one_less k)
 
 place_owned : (classes : List Class) (right : List Sym) (hs : List (Attr Operand)) (i : ℕ) (h : Attr Operand) → Fit vax classes right hs → hole hs i ≡ Some h
     → (i ≡ 0) ⊎ IsPlace (hole_at (holes_of classes right) i) → Owned h

@@ -9,7 +9,7 @@ use Rattle.gg_base.specs.Sizes.{bytes_of}
 use Rattle.gg_base.specs.Arithmetic.{add32}
 use Rattle.tree_core.specs.declared.token.Tok.{Tok}
 use Rattle.tree_core.specs.declared.token.Tok.TheVariants as tok
-use Rattle.tree_core.specs.declared.token.AttKind.TheVariants as kinds
+use Rattle.tree_core.specs.declared.token.AttKind.TheVariants as att_kind
 use Rattle.tree_core.specs.declared.tree.Att.{Att}
 use Rattle.tree_core.specs.declared.tree.Att.TheVariants as att
 use Rattle.tree_core.specs.declared.program.Object.{Object}
@@ -19,7 +19,7 @@ use Rattle.md_reader.specs.declared.types.Kind.{Kind}
 use Rattle.md_reader.specs.declared.types.Kind.TheVariants as kind
 use Rattle.md_reader.specs.declared.types.Class.{Class}
 use Rattle.md_reader.specs.declared.types.Sym.{Sym}
-use Rattle.md_reader.specs.declared.types.Sym.TheVariants as symbols
+use Rattle.md_reader.specs.declared.types.Sym.TheVariants as grammar_symbol
 use Rattle.md_reader.specs.declared.types.Give.{Give}
 use Rattle.md_reader.specs.declared.types.Give.TheVariants as give
 use Rattle.md_reader.specs.declared.types.Rule.{Rule}
@@ -45,7 +45,7 @@ use Rattle.vax_machine.specs.Area.{resolved_of, label_address}
 use Rattle.vax_states.specs.Agreeing.{AreLabelled, Agrees}
 use Rattle.vax_states.proofs.Keeping.{reg_small}
 use Rattle.vax_templates.specs.declared.setting.Hole.{Hole}
-use Rattle.vax_templates.specs.declared.setting.Hole.TheVariants as holes
+use Rattle.vax_templates.specs.declared.setting.Hole.TheVariants as hole_kind
 use Rattle.vax_templates.specs.declared.setting.Own.TheVariants as own
 use Rattle.vax_templates.specs.declared.setting.Opening.{Opening}
 use Rattle.vax_templates.specs.declared.setting.Opening.TheVariants as opening
@@ -137,7 +137,7 @@ module _ (c : Scene) (m : State) (i : ℕ) (labelled : AreLabelled c.program.obj
         deferred = ap (λ x. named m (cond x (argument_deferred k) spare).base) is ∙ h;
       }
 
-  literal_means : (t : Tok) (k : ℕ) → k < 2 ^ 32 → (a : Att) → is_of_kind (kinds.Own k) a ≡ true → IsNumber c (token t a) k
+  literal_means : (t : Tok) (k : ℕ) → k < 2 ^ 32 → (a : Att) → is_of_kind (att_kind.Own k) a ≡ true → IsNumber c (token t a) k
   literal_means t k lt att.Nothing fits = cc
   literal_means t k lt (att.Number n) fits = record { nameless = refl; is = eqb-true n k fits; low = lt }
   literal_means t k lt (att.Object object offset) fits = cc
@@ -146,7 +146,7 @@ module _ (c : Scene) (m : State) (i : ℕ) (labelled : AreLabelled c.program.obj
   literal_means t k lt (att.Label label) fits = cc
   literal_means t k lt (att.Callee function count) fits = cc
 
-  constant_means : (a : Att) → is_of_kind kinds.Other a ≡ true → KnowsToken tok.Const a → TokenIsWhole tok.Const a (c.view.symbol i) → IsNumber c (token tok.Const a) (worth c (Symbol i))
+  constant_means : (a : Att) → is_of_kind att_kind.Other a ≡ true → KnowsToken tok.Const a → TokenIsWhole tok.Const a (c.view.symbol i) → IsNumber c (token tok.Const a) (worth c (Symbol i))
   constant_means att.Nothing fits known whole = cc
   constant_means (att.Number n) fits known whole = record { nameless = refl; is = some_same n (worth c (Symbol i)) (known whole); low = worth_small (Symbol i) }
   constant_means (att.Object object offset) fits known whole = cc
@@ -155,7 +155,7 @@ module _ (c : Scene) (m : State) (i : ℕ) (labelled : AreLabelled c.program.obj
   constant_means (att.Label label) fits known whole = cc
   constant_means (att.Callee function count) fits known whole = cc
 
-  object_means : (a : Att) → is_of_kind kinds.Object a ≡ true → KnowsToken tok.Gaddr a → TokenIsWhole tok.Gaddr a (c.view.symbol i) → IsObject c m i (token tok.Gaddr a)
+  object_means : (a : Att) → is_of_kind att_kind.Object a ≡ true → KnowsToken tok.Gaddr a → TokenIsWhole tok.Gaddr a (c.view.symbol i) → IsObject c m i (token tok.Gaddr a)
   object_means att.Nothing fits known whole = cc
   object_means (att.Number n) fits known whole = cc
   object_means (att.Object object offset) fits known whole = object_by (slice_get c.program.objects object) object offset refl (known whole)
@@ -164,7 +164,7 @@ module _ (c : Scene) (m : State) (i : ℕ) (labelled : AreLabelled c.program.obj
   object_means (att.Label label) fits known whole = cc
   object_means (att.Callee function count) fits known whole = cc
 
-  local_means : (a : Att) → is_of_kind kinds.Local a ≡ true → InFrame a → KnowsToken tok.Loc a → TokenIsWhole tok.Loc a (c.view.symbol i) → HasTokenHome tok.Loc a → IsLocal c m i (token tok.Loc a)
+  local_means : (a : Att) → is_of_kind att_kind.Local a ≡ true → InFrame a → KnowsToken tok.Loc a → TokenIsWhole tok.Loc a (c.view.symbol i) → HasTokenHome tok.Loc a → IsLocal c m i (token tok.Loc a)
   local_means att.Nothing fits low known whole homes = cc
   local_means (att.Number n) fits low known whole homes = cc
   local_means (att.Object object offset) fits low known whole homes = cc
@@ -173,7 +173,7 @@ module _ (c : Scene) (m : State) (i : ℕ) (labelled : AreLabelled c.program.obj
   local_means (att.Label label) fits low known whole homes = cc
   local_means (att.Callee function count) fits low known whole homes = cc
 
-  argument_means : (a : Att) → is_of_kind kinds.Argument a ≡ true → KnowsToken tok.Arg a → TokenIsWhole tok.Arg a (c.view.symbol i) → HasTokenHome tok.Arg a → IsLocal c m i (token tok.Arg a)
+  argument_means : (a : Att) → is_of_kind att_kind.Argument a ≡ true → KnowsToken tok.Arg a → TokenIsWhole tok.Arg a (c.view.symbol i) → HasTokenHome tok.Arg a → IsLocal c m i (token tok.Arg a)
   argument_means att.Nothing fits known whole homes = cc
   argument_means (att.Number n) fits known whole homes = cc
   argument_means (att.Object object offset) fits known whole homes = cc
@@ -182,7 +182,7 @@ module _ (c : Scene) (m : State) (i : ℕ) (labelled : AreLabelled c.program.obj
   argument_means (att.Label label) fits known whole homes = cc
   argument_means (att.Callee function count) fits known whole homes = cc
 
-  saved_means : (a : Att) → is_of_kind kinds.Local a ≡ true → InFrame a → IsSavedLocal c (token tok.Save a)
+  saved_means : (a : Att) → is_of_kind att_kind.Local a ≡ true → InFrame a → IsSavedLocal c (token tok.Save a)
   saved_means att.Nothing fits low = cc
   saved_means (att.Number n) fits low = cc
   saved_means (att.Object object offset) fits low = cc
@@ -280,20 +280,20 @@ module _ (c : Scene) (m : State) (i : ℕ) (labelled : AreLabelled c.program.obj
 
   symbol_means : (classes : List Class) (s : Sym) (h : Attr Operand) → SymFits vax classes s h → Knows (size_of_symbol classes s) h → IsWhole h (c.view.symbol i) →
       HasHome (size_of_symbol classes s) h → Means c m (hole_of classes s) i h
-  symbol_means classes (symbols.Class x) h fits known whole homes = class_means (kind_at classes x) h fits known whole homes
-  symbol_means classes (symbols.Tok t) (attr.Token l) fits known whole homes =
+  symbol_means classes (grammar_symbol.Class x) h fits known whole homes = class_means (kind_at classes x) h fits known whole homes
+  symbol_means classes (grammar_symbol.Tok t) (attr.Token l) fits known whole homes =
       by l.tok l.att fits.0 fits.1 fits.2 known whole homes
     where
       by : (x : Tok) (a : Att) → x ≡ t → leaf_fits (record { tok = x; att = a }) ≡ true → InFrame a → KnowsToken x a → TokenIsWhole x a (c.view.symbol i) → HasTokenHome x a
           → Means c m (hole_of_token t) i (token x a)
       by x a same fits low known whole homes = subst (λ y. Means c m (hole_of_token y) i (token x a)) same (token_means x a fits low known whole homes)
-  symbol_means classes (symbols.Tok t) (attr.Reg r) fits known whole homes = absurd fits
-  symbol_means classes (symbols.Tok t) (attr.InSlot k) fits known whole homes = absurd fits
-  symbol_means classes (symbols.Tok t) (attr.Value o) fits known whole homes = absurd fits
-  symbol_means classes (symbols.Tok t) (attr.Place o) fits known whole homes = absurd fits
-  symbol_means classes (symbols.Tok t) (attr.Con n) fits known whole homes = absurd fits
-  symbol_means classes (symbols.Tok t) (attr.Ea o) fits known whole homes = absurd fits
-  symbol_means classes (symbols.Tok t) attr.Nothing fits known whole homes = absurd fits
+  symbol_means classes (grammar_symbol.Tok t) (attr.Reg r) fits known whole homes = absurd fits
+  symbol_means classes (grammar_symbol.Tok t) (attr.InSlot k) fits known whole homes = absurd fits
+  symbol_means classes (grammar_symbol.Tok t) (attr.Value o) fits known whole homes = absurd fits
+  symbol_means classes (grammar_symbol.Tok t) (attr.Place o) fits known whole homes = absurd fits
+  symbol_means classes (grammar_symbol.Tok t) (attr.Con n) fits known whole homes = absurd fits
+  symbol_means classes (grammar_symbol.Tok t) (attr.Ea o) fits known whole homes = absurd fits
+  symbol_means classes (grammar_symbol.Tok t) attr.Nothing fits known whole homes = absurd fits
 
 -- ---- the holes of a rule
 
@@ -329,7 +329,7 @@ not_zero j = by (suc j == 0) refl where
   by false e = e
 
 pub role_is : (c : Scene) (j : ℕ) → role_at c (suc j) ≡ hole_or_other (slice_get c.roles j)
-role_is c j = ap (λ b. cond b holes.Other (hole_or_other (slice_get c.roles (suc j - 1)))) (not_zero j) ∙ ap (λ k. hole_or_other (slice_get c.roles k)) (one_back j)
+role_is c j = ap (λ b. cond b hole_kind.Other (hole_or_other (slice_get c.roles (suc j - 1)))) (not_zero j) ∙ ap (λ k. hole_or_other (slice_get c.roles k)) (one_back j)
 
 pub filling_is : (c : Scene) (j : ℕ) → filling_at c (suc j) ≡ attr_or c.own (slice_get c.holes j)
 filling_is c j = ap (λ b. cond b c.own (attr_or c.own (slice_get c.holes (suc j - 1)))) (not_zero j) ∙ ap (λ k. attr_or c.own (slice_get c.holes k)) (one_back j)
@@ -408,47 +408,47 @@ module _ (every : Bool) (q : TreeProgram) (f : Extent) (fs : List Extent) (class
 
   save_begins : (right : List Sym) → opening_of right ≡ opening.Save → begins_with_save right ≡ true
   save_begins [] o = cc
-  save_begins (symbols.Class x ∷ right) o = cc
-  save_begins (symbols.Tok tok.Zero ∷ right) o = cc
-  save_begins (symbols.Tok tok.One ∷ right) o = cc
-  save_begins (symbols.Tok tok.Two ∷ right) o = cc
-  save_begins (symbols.Tok tok.Four ∷ right) o = cc
-  save_begins (symbols.Tok tok.Eight ∷ right) o = cc
-  save_begins (symbols.Tok tok.Const ∷ right) o = cc
-  save_begins (symbols.Tok tok.Gaddr ∷ right) o = cc
-  save_begins (symbols.Tok tok.Loc ∷ right) o = cc
-  save_begins (symbols.Tok tok.Arg ∷ right) o = cc
-  save_begins (symbols.Tok tok.IndirB ∷ right) o = cc
-  save_begins (symbols.Tok tok.IndirW ∷ right) o = cc
-  save_begins (symbols.Tok tok.IndirL ∷ right) o = cc
-  save_begins (symbols.Tok tok.Plus ∷ right) o = cc
-  save_begins (symbols.Tok tok.Minus ∷ right) o = cc
-  save_begins (symbols.Tok tok.Mul ∷ right) o = cc
-  save_begins (symbols.Tok tok.Div ∷ right) o = cc
-  save_begins (symbols.Tok tok.Mod ∷ right) o = cc
-  save_begins (symbols.Tok tok.And ∷ right) o = cc
-  save_begins (symbols.Tok tok.Or ∷ right) o = cc
-  save_begins (symbols.Tok tok.Xor ∷ right) o = cc
-  save_begins (symbols.Tok tok.Lsh ∷ right) o = cc
-  save_begins (symbols.Tok tok.Rsh ∷ right) o = cc
-  save_begins (symbols.Tok tok.Neg ∷ right) o = cc
-  save_begins (symbols.Tok tok.Com ∷ right) o = cc
-  save_begins (symbols.Tok tok.Sxb ∷ right) o = cc
-  save_begins (symbols.Tok tok.Zxb ∷ right) o = cc
-  save_begins (symbols.Tok tok.Sxw ∷ right) o = cc
-  save_begins (symbols.Tok tok.Zxw ∷ right) o = cc
-  save_begins (symbols.Tok tok.Ncb ∷ right) o = cc
-  save_begins (symbols.Tok tok.Ncw ∷ right) o = cc
-  save_begins (symbols.Tok tok.AssignB ∷ right) o = cc
-  save_begins (symbols.Tok tok.AssignW ∷ right) o = cc
-  save_begins (symbols.Tok tok.AssignL ∷ right) o = cc
-  save_begins (symbols.Tok tok.Cbr ∷ right) o = cc
-  save_begins (symbols.Tok tok.Push ∷ right) o = cc
-  save_begins (symbols.Tok tok.Ret ∷ right) o = cc
-  save_begins (symbols.Tok tok.Call ∷ right) o = cc
-  save_begins (symbols.Tok tok.Save ∷ right) o = refl
-  save_begins (symbols.Tok tok.Jump ∷ right) o = cc
-  save_begins (symbols.Tok tok.End ∷ right) o = cc
+  save_begins (grammar_symbol.Class x ∷ right) o = cc
+  save_begins (grammar_symbol.Tok tok.Zero ∷ right) o = cc
+  save_begins (grammar_symbol.Tok tok.One ∷ right) o = cc
+  save_begins (grammar_symbol.Tok tok.Two ∷ right) o = cc
+  save_begins (grammar_symbol.Tok tok.Four ∷ right) o = cc
+  save_begins (grammar_symbol.Tok tok.Eight ∷ right) o = cc
+  save_begins (grammar_symbol.Tok tok.Const ∷ right) o = cc
+  save_begins (grammar_symbol.Tok tok.Gaddr ∷ right) o = cc
+  save_begins (grammar_symbol.Tok tok.Loc ∷ right) o = cc
+  save_begins (grammar_symbol.Tok tok.Arg ∷ right) o = cc
+  save_begins (grammar_symbol.Tok tok.IndirB ∷ right) o = cc
+  save_begins (grammar_symbol.Tok tok.IndirW ∷ right) o = cc
+  save_begins (grammar_symbol.Tok tok.IndirL ∷ right) o = cc
+  save_begins (grammar_symbol.Tok tok.Plus ∷ right) o = cc
+  save_begins (grammar_symbol.Tok tok.Minus ∷ right) o = cc
+  save_begins (grammar_symbol.Tok tok.Mul ∷ right) o = cc
+  save_begins (grammar_symbol.Tok tok.Div ∷ right) o = cc
+  save_begins (grammar_symbol.Tok tok.Mod ∷ right) o = cc
+  save_begins (grammar_symbol.Tok tok.And ∷ right) o = cc
+  save_begins (grammar_symbol.Tok tok.Or ∷ right) o = cc
+  save_begins (grammar_symbol.Tok tok.Xor ∷ right) o = cc
+  save_begins (grammar_symbol.Tok tok.Lsh ∷ right) o = cc
+  save_begins (grammar_symbol.Tok tok.Rsh ∷ right) o = cc
+  save_begins (grammar_symbol.Tok tok.Neg ∷ right) o = cc
+  save_begins (grammar_symbol.Tok tok.Com ∷ right) o = cc
+  save_begins (grammar_symbol.Tok tok.Sxb ∷ right) o = cc
+  save_begins (grammar_symbol.Tok tok.Zxb ∷ right) o = cc
+  save_begins (grammar_symbol.Tok tok.Sxw ∷ right) o = cc
+  save_begins (grammar_symbol.Tok tok.Zxw ∷ right) o = cc
+  save_begins (grammar_symbol.Tok tok.Ncb ∷ right) o = cc
+  save_begins (grammar_symbol.Tok tok.Ncw ∷ right) o = cc
+  save_begins (grammar_symbol.Tok tok.AssignB ∷ right) o = cc
+  save_begins (grammar_symbol.Tok tok.AssignW ∷ right) o = cc
+  save_begins (grammar_symbol.Tok tok.AssignL ∷ right) o = cc
+  save_begins (grammar_symbol.Tok tok.Cbr ∷ right) o = cc
+  save_begins (grammar_symbol.Tok tok.Push ∷ right) o = cc
+  save_begins (grammar_symbol.Tok tok.Ret ∷ right) o = cc
+  save_begins (grammar_symbol.Tok tok.Call ∷ right) o = cc
+  save_begins (grammar_symbol.Tok tok.Save ∷ right) o = refl
+  save_begins (grammar_symbol.Tok tok.Jump ∷ right) o = cc
+  save_begins (grammar_symbol.Tok tok.End ∷ right) o = cc
 
   save_by : (g : Give) → opening_by g rule.right ≡ opening.Save → begins_with_save rule.right ≡ true
   save_by give.Fresh o = save_begins rule.right o

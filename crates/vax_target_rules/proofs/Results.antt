@@ -35,7 +35,7 @@ use Rattle.vax_machine_lists.specs.Instructions.{Course, comes, exec}
 use Rattle.vax_templates.specs.declared.setting.Own.{Own}
 use Rattle.vax_templates.specs.declared.setting.Own.TheVariants as own
 use Rattle.vax_templates.specs.declared.setting.Hole.{Hole}
-use Rattle.vax_templates.specs.declared.setting.Hole.TheVariants as hole
+use Rattle.vax_templates.specs.declared.setting.Hole.TheVariants as hole_kind
 use Rattle.vax_templates.specs.Settings.{holes_of, setting_of, own_of, is_reuse, hole_of, hole_or_other}
 use Rattle.vax_templates.specs.Judging.{Last, Plain, Compared, Tested, Returning, Ended, is_operand}
 use Rattle.vax_templates.specs.Found.{Progress, left_value, last_deed, given_by, with_divisors}
@@ -157,7 +157,7 @@ module _ (q : TreeProgram) (f : Extent) (fs : List Extent) (classes : List Class
 
     by : (o : Option Sym) → slice_get rule.right j ≡ o → attr_touches vax (filling_at scene (suc j)) (RegAt (reg_number (register_in res))) ≡ false
     by None none =
-        let role : role_at scene (suc j) ≡ hole.Other = role_is scene j ∙ ap hole_or_other (mapped_at classes rule.right j ∙ ap (option_map (hole_of classes)) none) in
+        let role : role_at scene (suc j) ≡ hole_kind.Other = role_is scene j ∙ ap hole_or_other (mapped_at classes rule.right j ∙ ap (option_map (hole_of classes)) none) in
         absurd (let x : false ≡ true = ap is_operand (sym role) ∙ op in cc)
     by (Some s) there =
         let x = filled_at classes rule.right hs j s ready.instance_of.holes_fit there in

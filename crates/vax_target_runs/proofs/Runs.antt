@@ -26,7 +26,7 @@ use Rattle.vax_machine_lists.specs.Sound.{IsSound}
 use Rattle.vax_machine_lists.specs.Instructions.{Course, Ending, Comes, Goes, Calls, Returns, Stops, ends, comes, followed, bytes_first, performed, exec}
 use Rattle.vax_states.proofs.Keeping.{sound_register}
 use Rattle.vax_templates.specs.declared.setting.Hole.{Hole}
-use Rattle.vax_templates.specs.declared.setting.Hole.TheVariants as hole
+use Rattle.vax_templates.specs.declared.setting.Hole.TheVariants as hole_kind
 use Rattle.vax_templates.specs.declared.setting.Own.{Own}
 use Rattle.vax_templates.specs.declared.setting.Own.TheVariants as own
 use Rattle.vax_templates.specs.declared.setting.Opening.TheVariants as opening

@@ -22,7 +22,7 @@ use Rattle.vax_core.proofs.RegisterLaws.{none_named}
 use Rattle.vax_machine.specs.State.{State}
 use Rattle.vax_machine.specs.Area.{resolved}
 use Rattle.vax_templates.specs.declared.setting.Hole.{Hole}
-use Rattle.vax_templates.specs.declared.setting.Hole.TheVariants as hole
+use Rattle.vax_templates.specs.declared.setting.Hole.TheVariants as hole_kind
 use Rattle.vax_templates.specs.Judging.{is_operand}
 use Rattle.vax_templates.specs.Filled.{spare, numbered, addr_in, word_operand, slot_operand, argument_deferred, slot_deferred, leaf_operand, operand_in, leaf_deferred, deferred_in}
 use Rattle.vax_target_meaning.specs.Vax.{vax}
@@ -201,34 +201,34 @@ module _ (c : Scene) (changed : ℕ → Type 0) (m n : State) (d : Differs chang
 
   -- what a hole means stays
   pub means_kept : (r : Hole) (i : ℕ) (h : Attr Operand) → (is_operand r ≡ true → IsOff h) → Means c m r i h → Means c n r i h
-  means_kept hole.Register i h f k = record {
+  means_kept hole_kind.Register i h f k = record {
     number = k.number;
     is = k.is;
     low = k.low;
     holds = register_same changed m n d (numbered k.number) ((hole_away h (f refl)).base (numbered k.number) (ap (λ a. base_register (operand_in c.program a).base) k.is)) ∙ k.holds;
   }
-  means_kept (hole.Value size) i h f k = reads_same changed m n d (operand_in c.program h) size (hole_away h (f refl)) ∙ k
-  means_kept (hole.Place size) i h f k = record {
+  means_kept (hole_kind.Value size) i h f k = reads_same changed m n d (operand_in c.program h) size (hole_away h (f refl)) ∙ k
+  means_kept (hole_kind.Place size) i h f k = record {
     address = k.address;
     named_so = names_same changed m n d (operand_in c.program h) size (hole_away h (f refl)) ∙ k.named_so;
     holds = λ some. reads_same changed m n d (operand_in c.program h) size (hole_away h (f refl)) ∙ k.holds some;
   }
-  means_kept hole.Local i h f k = record {
+  means_kept hole_kind.Local i h f k = record {
     address = k.address;
     named_so = names_same changed m n d (operand_in c.program h) Long (hole_away h (f refl)) ∙ k.named_so;
     holds = reads_same changed m n d (operand_in c.program h) Long (hole_away h (f refl)) ∙ k.holds;
     plain = k.plain;
     deferred = named_same changed m n d (deferred_in c.program h) (deferred_away h) ∙ k.deferred;
   }
-  means_kept (hole.SavedPlace size) i h f k = names_same changed m n d (operand_in c.program h) size (hole_away h (f refl)) ∙ k
-  means_kept hole.Address i h f k = record { plain = k.plain; named_so = named_same changed m n d (operand_in c.program h) (hole_away h (f refl)) ∙ k.named_so }
-  means_kept hole.Constant i h f k = k
-  means_kept (hole.Literal y) i h f k = k
-  means_kept hole.Object i h f k = record {
+  means_kept (hole_kind.SavedPlace size) i h f k = names_same changed m n d (operand_in c.program h) size (hole_away h (f refl)) ∙ k
+  means_kept hole_kind.Address i h f k = record { plain = k.plain; named_so = named_same changed m n d (operand_in c.program h) (hole_away h (f refl)) ∙ k.named_so }
+  means_kept hole_kind.Constant i h f k = k
+  means_kept (hole_kind.Literal y) i h f k = k
+  means_kept hole_kind.Object i h f k = record {
     address = ap (λ x. resolved x.layout (addr_in c.program h)) d.is ∙ k.address;
     operand_is = k.operand_is;
     deferred_is = k.deferred_is;
   }
-  means_kept hole.Saved i h f k = k
-  means_kept hole.Relation i h f k = k
-  means_kept hole.Other i h f k = k
+  means_kept hole_kind.Saved i h f k = k
+  means_kept hole_kind.Relation i h f k = k
+  means_kept hole_kind.Other i h f k = k

@@ -16,7 +16,7 @@ use Rattle.vax_machine.specs.State.{State, with_reg, with_conditions}
 use Rattle.vax_machine_lists.specs.Instructions.{performed}
 use Rattle.vax_machine_lists.specs.Sound.{IsSound}
 use Rattle.vax_states.proofs.Keeping.{sound_register}
-use Rattle.vax_templates.specs.declared.setting.Hole.TheVariants as hole
+use Rattle.vax_templates.specs.declared.setting.Hole.TheVariants as hole_kind
 use Rattle.vax_templates.specs.Settings.{saved_setting}
 use Rattle.vax_templates.specs.Judging.{Last, Plain}
 use Rattle.vax_templates.specs.Found.{saved_found}
@@ -55,9 +55,9 @@ module _ (m : State) (r x : ℕ) (k : Conditions) (low : r < 12) (fits : x < 2 ^
   there : vax.reads (vax.register r) Long (reloaded m r x k) ≡ Some x
   there = ap Some (get_or-set_same m.registers (reg_number (numbered r)) x 0 (omega (arith, number_is r low, low, sound.registers)))
 
-found_so : (l : Line) (e : EffectShape) → saved_found kind.Reg l ≡ Ok e → ResultFound (saved_setting kind.Reg) (hole.Value Long ∷ []) l e
+found_so : (l : Line) (e : EffectShape) → saved_found kind.Reg l ≡ Ok e → ResultFound (saved_setting kind.Reg) (hole_kind.Value Long ∷ []) l e
 unfolding saved_found
-found_so l e is = result_found (saved_setting kind.Reg) (hole.Value Long ∷ []) l e is
+found_so l e is = result_found (saved_setting kind.Reg) (hole_kind.Value Long ∷ []) l e is
 
 pub lines_reload : LinesReload
 lines_reload q f fs l s w r n v m low slot set e fits =
@@ -66,7 +66,7 @@ lines_reload q f fs l s w r n v m low slot set e fits =
     let d = g.line.deed in
     let means : vax.reads (home w) Long m ≡ Some (value v (Symbol 1)) = e ∙ ap Some (sym (symbol_is v n set.symbol fits)) in
     let seen = sees q kind.Reg (attr.Value (home w)) (attr.Reg r) v m means f fs set.agrees (record { number = r; is = refl; low = low }) in
-    let plain : d.last ≡ Plain = line_plain (saved_setting kind.Reg) (hole.Value Long ∷ []) true None Plain l.pieces d g.line.did g.value g.own in
+    let plain : d.last ≡ Plain = line_plain (saved_setting kind.Reg) (hole_kind.Value Long ∷ []) true None Plain l.pieces d g.line.did g.value g.own in
     let term : g.value ≡ s.term = value_is g.value s.term (g.act ∙ s.act) in
     let none : AllByRecursion (λ (t : Shape). worth c t ≡ 0 → ⊥) d.divisors =
     subst (λ (x : List Shape). AllByRecursion (λ (t : Shape). worth c t ≡ 0 → ⊥) x) (sym (g.line.divisors ∙ s.undivided)) tt in

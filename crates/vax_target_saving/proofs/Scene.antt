@@ -18,7 +18,7 @@ use Rattle.sel_target.specs.SavingLaws.{IsValue, operand, register}
 use Rattle.vax_core.specs.declared.operand.Operand.{Operand}
 use Rattle.vax_machine.specs.State.{State}
 use Rattle.vax_templates.specs.declared.setting.Hole.{Hole}
-use Rattle.vax_templates.specs.declared.setting.Hole.TheVariants as hole
+use Rattle.vax_templates.specs.declared.setting.Hole.TheVariants as hole_kind
 use Rattle.vax_templates.specs.Settings.{hole_or_other, hole_at, saved_hole, saved_setting}
 use Rattle.vax_templates.specs.Filled.{attr_or, attr_at}
 use Rattle.vax_target_meaning.specs.Fitting.{fits, is_place}
@@ -30,7 +30,7 @@ use Rattle.vax_target_operands.specs.Scenes.{Scene, Means, OwnIs, Sees}
 abbrev pub scene : TreeProgram → Kind → Attr Operand → Attr Operand → View → Scene
 scene q k a res v = record { program = q; setting = saved_setting k; roles = saved_hole k ∷ []; holes = a ∷ []; own = res; view = v }
 
-none_behind : (k : ℕ) (x : Hole) → hole_or_other (slice_get (x ∷ []) (suc k)) ≡ hole.Other
+none_behind : (k : ℕ) (x : Hole) → hole_or_other (slice_get (x ∷ []) (suc k)) ≡ hole_kind.Other
 none_behind k x = refl
 
 not_zero : (k : ℕ) → (suc k == 0) ≡ false
@@ -46,7 +46,7 @@ module _ (q : TreeProgram) (k : Kind) (a res : Attr Operand) (v : View) (m : Sta
 
   role_is : (j : ℕ) → hole_at (saved_hole k ∷ []) (suc j) ≡ hole_or_other (slice_get (saved_hole k ∷ []) j)
   role_is j =
-      ap (λ b. cond b hole.Other (hole_or_other (slice_get (saved_hole k ∷ []) (suc j - 1)))) (not_zero j)
+      ap (λ b. cond b hole_kind.Other (hole_or_other (slice_get (saved_hole k ∷ []) (suc j - 1)))) (not_zero j)
       ∙ ap (λ n. hole_or_other (slice_get (saved_hole k ∷ []) n)) (one_less j)
 
   filling_is : (j : ℕ) → attr_at (a ∷ []) res (suc j) ≡ attr_or res (slice_get (a ∷ []) j)
@@ -82,12 +82,12 @@ short Long n lt = omega (arith, lt)
 -- ---- what is saved
 
 pub value_means : (q : TreeProgram) (size : Size) (a res : Attr Operand) (n : ℕ) (v : View) (m : State) → IsValue vax size a → v.symbol 1 ≡ Some n →
-    worth vax q size a m ≡ Some n → n < 2 ^ (8 * bytes_of size) → Means (scene q (kind.Value size) a res v) m (hole.Value size) 1 a
+    worth vax q size a m ≡ Some n → n < 2 ^ (8 * bytes_of size) → Means (scene q (kind.Value size) a res v) m (hole_kind.Value size) 1 a
 value_means q size a res n v m (operand o fit) known e lt = e ∙ ap Some (sym (symbol_is v n known (short size n lt)))
 value_means q size a res n v m (register r long below) known e lt = e ∙ ap Some (sym (symbol_is v n known (short size n lt)))
 
 pub place_means : (q : TreeProgram) (size : Size) (o : Operand) (res : Attr Operand) (n : ℕ) (v : View) (m : State) → v.symbol 1 ≡ Some n →
-    names o size m ≡ Some n → n < 2 ^ 32 → Means (scene q (kind.Place size) (attr.Place o) res v) m (hole.SavedPlace size) 1 (attr.Place o)
+    names o size m ≡ Some n → n < 2 ^ 32 → Means (scene q (kind.Place size) (attr.Place o) res v) m (hole_kind.SavedPlace size) 1 (attr.Place o)
 place_means q size o res n v m known e lt = e ∙ ap Some (sym (symbol_is v n known lt))
 
 first : (a b : Bool) → (a && b) ≡ true → a ≡ true
@@ -105,7 +105,7 @@ without o size m n plain e = same (named m o.base) ∙ (ap (λ i. option_map (mo
   same (Some y) = refl
 
 pub address_means : (q : TreeProgram) (o : Operand) (res : Attr Operand) (n : ℕ) (v : View) (m : State) → fits kind.Ea o ≡ true → v.symbol 1 ≡ Some n →
-    names o Long m ≡ Some n → n < 2 ^ 32 → Means (scene q kind.Ea (attr.Ea o) res v) m hole.Address 1 (attr.Ea o)
+    names o Long m ≡ Some n → n < 2 ^ 32 → Means (scene q kind.Ea (attr.Ea o) res v) m hole_kind.Address 1 (attr.Ea o)
 address_means q o res n v m fit known e lt =
     let plain = no_index o.index (first (is_none o.index) (is_place o) fit) in
     record { plain = plain; named_so = without o Long m n plain e ∙ ap Some (sym (symbol_is v n known lt)) }

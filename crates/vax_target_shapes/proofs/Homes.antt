@@ -6,7 +6,7 @@ use Rattle.gg_base.specs.declared.size.Size.{Size}
 use Rattle.gg_base.specs.declared.size.Size.TheVariants.{Byte, Long}
 use Rattle.tree_core.specs.declared.token.Tok.{Tok}
 use Rattle.tree_core.specs.declared.token.Tok.TheVariants as tok
-use Rattle.tree_core.specs.declared.token.AttKind.TheVariants as attkind
+use Rattle.tree_core.specs.declared.token.AttKind.TheVariants as att_kind
 use Rattle.tree_core.specs.declared.tree.Att.{Att}
 use Rattle.tree_core.specs.declared.tree.Att.TheVariants as att
 use Rattle.tree_core.specs.declared.program.TreeProgram.{TreeProgram}
@@ -17,7 +17,7 @@ use Rattle.md_reader.specs.declared.types.Kind.{Kind}
 use Rattle.md_reader.specs.declared.types.Kind.TheVariants as kind
 use Rattle.md_reader.specs.declared.types.Class.{Class}
 use Rattle.md_reader.specs.declared.types.Sym.{Sym}
-use Rattle.md_reader.specs.declared.types.Sym.TheVariants as sym
+use Rattle.md_reader.specs.declared.types.Sym.TheVariants as grammar_symbol
 use Rattle.md_reader.specs.declared.types.Give.TheVariants as give
 use Rattle.md_reader.specs.Patterns.{kind_at}
 use Rattle.term_core.specs.Shape.{Shape, Symbol}
@@ -36,7 +36,7 @@ use Rattle.vax_templates.specs.declared.form.Base.{Base}
 use Rattle.vax_templates.specs.declared.form.Base.TheVariants as base
 use Rattle.vax_templates.specs.declared.form.Form.{Form}
 use Rattle.vax_templates.specs.declared.setting.Hole.{Hole}
-use Rattle.vax_templates.specs.declared.setting.Hole.TheVariants as holes
+use Rattle.vax_templates.specs.declared.setting.Hole.TheVariants as hole_kind
 use Rattle.vax_templates.specs.declared.setting.Own.{Own}
 use Rattle.vax_templates.specs.declared.setting.Own.TheVariants as own
 use Rattle.vax_templates.specs.declared.setting.Opening.{Opening}
@@ -84,8 +84,8 @@ act_of_shape s roles k ls l e P h is =
 
 -- a symbol that is a place of a rule has its own operand
 abbrev Owns : TreeProgram → Hole → Attr Operand → Type 0
-Owns q (holes.Place z) a = own_operand vax a ≡ Some (operand_in q a)
-Owns q holes.Local a = own_operand vax a ≡ Some (operand_in q a)
+Owns q (hole_kind.Place z) a = own_operand vax a ≡ Some (operand_in q a)
+Owns q hole_kind.Local a = own_operand vax a ≡ Some (operand_in q a)
 Owns q h a = Unit {0}
 
 abbrev AllOwn : TreeProgram → List Hole → List (Attr Operand) → Type 0
@@ -94,7 +94,7 @@ AllOwn q [] (a ∷ hs) = ⊥
 AllOwn q (h ∷ roles) [] = ⊥
 AllOwn q (h ∷ roles) (a ∷ hs) = Owns q h a × AllOwn q roles hs
 
-local_owns : (q : TreeProgram) (a : Att) → is_of_kind attkind.Local a ≡ true → Owns q holes.Local (attr.Token (record { tok = tok.Loc; att = a }))
+local_owns : (q : TreeProgram) (a : Att) → is_of_kind att_kind.Local a ≡ true → Owns q hole_kind.Local (attr.Token (record { tok = tok.Loc; att = a }))
 local_owns q (att.Slot k) f = refl
 local_owns q att.Nothing f = absurd (cc)
 local_owns q (att.Number n) f = absurd (cc)
@@ -103,7 +103,7 @@ local_owns q (att.Branch rel label) f = absurd (cc)
 local_owns q (att.Label label) f = absurd (cc)
 local_owns q (att.Callee function count) f = absurd (cc)
 
-argument_owns : (q : TreeProgram) (a : Att) → is_of_kind attkind.Argument a ≡ true → Owns q holes.Local (attr.Token (record { tok = tok.Arg; att = a }))
+argument_owns : (q : TreeProgram) (a : Att) → is_of_kind att_kind.Argument a ≡ true → Owns q hole_kind.Local (attr.Token (record { tok = tok.Arg; att = a }))
 argument_owns q (att.Slot k) f = refl
 argument_owns q att.Nothing f = absurd (cc)
 argument_owns q (att.Number n) f = absurd (cc)
@@ -128,9 +128,9 @@ class_owns q (Some kind.Nothing) a f = tt
 class_owns q None a f = tt
 
 symbol_owns : (q : TreeProgram) (classes : List Class) (x : Sym) (a : Attr Operand) → SymFits vax classes x a → Owns q (hole_of classes x) a
-symbol_owns q classes (sym.Class c) a f = class_owns q (kind_at classes c) a f
-symbol_owns q classes (sym.Tok x) (attr.Token l) f = subst (λ y. Owns q (hole_of_token y) (attr.Token l)) f.0 (token_owns q l.tok l.att f.1)
-symbol_owns q classes (sym.Tok x) a f = absurd f
+symbol_owns q classes (grammar_symbol.Class c) a f = class_owns q (kind_at classes c) a f
+symbol_owns q classes (grammar_symbol.Tok x) (attr.Token l) f = subst (λ y. Owns q (hole_of_token y) (attr.Token l)) f.0 (token_owns q l.tok l.att f.1)
+symbol_owns q classes (grammar_symbol.Tok x) a f = absurd f
 
 all_own : (q : TreeProgram) (classes : List Class) (right : List Sym) (hs : List (Attr Operand)) → Fit vax classes right hs → AllOwn q (holes_of classes right) hs
 all_own q classes [] [] f = tt
@@ -173,23 +173,23 @@ module _ (q : TreeProgram) (s : Setting) (roles : List Hole) (hs : List (Attr Op
   -- the role of a symbol, and what fills it
   role_owns : (i : ℕ) → Owns q (hole_at roles i) (attr_at hs attr.Nothing i)
   role_owns i = by (i == 0) where
-    by : (b : Bool) → Owns q (cond b holes.Other (hole_or_other (slice_get roles (i - 1)))) (cond b attr.Nothing (attr_or attr.Nothing (slice_get hs (i - 1))))
+    by : (b : Bool) → Owns q (cond b hole_kind.Other (hole_or_other (slice_get roles (i - 1)))) (cond b attr.Nothing (attr_or attr.Nothing (slice_get hs (i - 1))))
     by true = tt
     by false = owns_nth q roles hs (i - 1) owns
 
   hole_home : (r : Hole) (i : ℕ) → Owns q r (attr_at hs attr.Nothing i) → EachOk (λ w. Home w (operand_in q (attr_at hs attr.Nothing i))) (where_hole r i)
-  hole_home (holes.Place z) i k = k
-  hole_home holes.Local i k = k
-  hole_home holes.Register i k = tt
-  hole_home (holes.Value z) i k = tt
-  hole_home (holes.SavedPlace z) i k = tt
-  hole_home holes.Address i k = tt
-  hole_home holes.Constant i k = tt
-  hole_home (holes.Literal n) i k = tt
-  hole_home holes.Object i k = tt
-  hole_home holes.Saved i k = tt
-  hole_home holes.Relation i k = tt
-  hole_home holes.Other i k = tt
+  hole_home (hole_kind.Place z) i k = k
+  hole_home hole_kind.Local i k = k
+  hole_home hole_kind.Register i k = tt
+  hole_home (hole_kind.Value z) i k = tt
+  hole_home (hole_kind.SavedPlace z) i k = tt
+  hole_home hole_kind.Address i k = tt
+  hole_home hole_kind.Constant i k = tt
+  hole_home (hole_kind.Literal n) i k = tt
+  hole_home hole_kind.Object i k = tt
+  hole_home hole_kind.Saved i k = tt
+  hole_home hole_kind.Relation i k = tt
+  hole_home hole_kind.Other i k = tt
 
   own_home : (x : Own) (o : Operand) → EachOk (λ w. Home w o) (where_own x)
   own_home own.Nothing o = tt
@@ -202,8 +202,8 @@ module _ (q : TreeProgram) (s : Setting) (roles : List Hole) (hs : List (Attr Op
   zero_home opening.Return o = tt
 
   deferred_home : (r : Hole) (i : ℕ) (o : Operand) → EachOk (λ w. Home w o) (where_deferred r i)
-  deferred_home holes.Local i o = tt
-  deferred_home holes.Object i o = tt
+  deferred_home hole_kind.Local i o = tt
+  deferred_home hole_kind.Object i o = tt
   deferred_home r i o = tt
 
   memory_home : (o : Operand) (r : Result Shape TemplateKind) (g : Shape → Result Where TemplateKind) → ((t : Shape) → EachOk (λ w. Home w o) (g t)) → EachOk (λ w. Home w o) (r >>= g)
@@ -328,20 +328,20 @@ symbol_given s roles i = by (i == 0) where
   own_given (own.Slot z) = tt
 
   role_given : (r : Hole) → EachOk (IsSymbol i) ((where_hole r i >>= where_indexed s roles None None Long) >>= register_given)
-  role_given holes.Register = refl
-  role_given (holes.Value z) = tt
-  role_given (holes.Place z) = tt
-  role_given holes.Local = tt
-  role_given (holes.SavedPlace z) = tt
-  role_given holes.Address = tt
-  role_given holes.Object = tt
-  role_given holes.Saved = tt
-  role_given holes.Constant = tt
-  role_given (holes.Literal n) = tt
-  role_given holes.Relation = tt
-  role_given holes.Other = tt
+  role_given hole_kind.Register = refl
+  role_given (hole_kind.Value z) = tt
+  role_given (hole_kind.Place z) = tt
+  role_given hole_kind.Local = tt
+  role_given (hole_kind.SavedPlace z) = tt
+  role_given hole_kind.Address = tt
+  role_given hole_kind.Object = tt
+  role_given hole_kind.Saved = tt
+  role_given hole_kind.Constant = tt
+  role_given (hole_kind.Literal n) = tt
+  role_given hole_kind.Relation = tt
+  role_given hole_kind.Other = tt
 
-  by : (b : Bool) → EachOk (IsSymbol i) ((cond b (where_own s.own) (where_hole (cond b holes.Other (hole_or_other (slice_get roles (i - 1)))) i) >>= where_indexed s roles None None Long)
+  by : (b : Bool) → EachOk (IsSymbol i) ((cond b (where_own s.own) (where_hole (cond b hole_kind.Other (hole_or_other (slice_get roles (i - 1)))) i) >>= where_indexed s roles None None Long)
       >>= register_given)
   by true = own_given s.own
   by false = role_given (hole_or_other (slice_get roles (i - 1)))

@@ -22,7 +22,7 @@ use Rattle.vax_templates.specs.declared.form.Base.{Base}
 use Rattle.vax_templates.specs.declared.form.Base.TheVariants as base
 use Rattle.vax_templates.specs.declared.form.Form.{Form}
 use Rattle.vax_templates.specs.declared.setting.Hole.{Hole}
-use Rattle.vax_templates.specs.declared.setting.Hole.TheVariants as hole
+use Rattle.vax_templates.specs.declared.setting.Hole.TheVariants as hole_kind
 use Rattle.vax_templates.specs.declared.setting.Own.{Own}
 use Rattle.vax_templates.specs.declared.setting.Own.TheVariants as own
 use Rattle.vax_templates.specs.declared.setting.Opening.{Opening}
@@ -91,39 +91,39 @@ module _ (c : Scene) (m : State) (h : Sees c None m) where
   object_is a t e = ap longword e ∙ is_longword (worth c t) (small (term_state c.view) t)
 
   hole_names : (r : Hole) (i : ℕ) (w : Where) → Means c m r i (filling_at c i) → where_hole r i ≡ Ok w → Names w (operand_in c.program (filling_at c i))
-  hole_names hole.Register i w k e = subst (λ x. Names x (operand_in c.program (filling_at c i))) (ok_same (Register (Symbol i)) w e) tt
-  hole_names (hole.Value z) i w k e = subst (λ x. Names x (operand_in c.program (filling_at c i))) (ok_same (Value z i) w e) tt
-  hole_names (hole.Place z) i w k e = subst (λ x. Names x (operand_in c.program (filling_at c i))) (ok_same (Place z i) w e) tt
-  hole_names hole.Local i w k e = subst (λ x. Names x (operand_in c.program (filling_at c i))) (ok_same (Local i) w e) tt
-  hole_names (hole.SavedPlace z) i w k e = subst (λ x. Names x (operand_in c.program (filling_at c i))) (ok_same (SavedPlace z i) w e) tt
-  hole_names hole.Address i w k e =
+  hole_names hole_kind.Register i w k e = subst (λ x. Names x (operand_in c.program (filling_at c i))) (ok_same (Register (Symbol i)) w e) tt
+  hole_names (hole_kind.Value z) i w k e = subst (λ x. Names x (operand_in c.program (filling_at c i))) (ok_same (Value z i) w e) tt
+  hole_names (hole_kind.Place z) i w k e = subst (λ x. Names x (operand_in c.program (filling_at c i))) (ok_same (Place z i) w e) tt
+  hole_names hole_kind.Local i w k e = subst (λ x. Names x (operand_in c.program (filling_at c i))) (ok_same (Local i) w e) tt
+  hole_names (hole_kind.SavedPlace z) i w k e = subst (λ x. Names x (operand_in c.program (filling_at c i))) (ok_same (SavedPlace z i) w e) tt
+  hole_names hole_kind.Address i w k e =
       subst (λ x. Names x (operand_in c.program (filling_at c i))) (ok_same (At (Symbol i) None) w e) (record { plain = k.plain; named_so = k.named_so })
-  hole_names hole.Object i w k e =
+  hole_names hole_kind.Object i w k e =
       subst (λ x. Names x (operand_in c.program (filling_at c i))) (ok_same (At (Symbol i) None) w e)
       (subst (λ o. IsAt o (Symbol i)) (sym k.operand_is) (record { plain = refl; named_so = object_is (addr_in c.program (filling_at c i)) (Symbol i) k.address }))
-  hole_names hole.Constant i w k e = absurd (err_ok _ w e)
-  hole_names (hole.Literal n) i w k e = absurd (err_ok _ w e)
-  hole_names hole.Saved i w k e = subst (λ x. Names x (operand_in c.program (filling_at c i))) (ok_same (Saved i) w e) tt
-  hole_names hole.Relation i w k e = absurd (err_ok _ w e)
-  hole_names hole.Other i w k e = absurd (err_ok _ w e)
+  hole_names hole_kind.Constant i w k e = absurd (err_ok _ w e)
+  hole_names (hole_kind.Literal n) i w k e = absurd (err_ok _ w e)
+  hole_names hole_kind.Saved i w k e = subst (λ x. Names x (operand_in c.program (filling_at c i))) (ok_same (Saved i) w e) tt
+  hole_names hole_kind.Relation i w k e = absurd (err_ok _ w e)
+  hole_names hole_kind.Other i w k e = absurd (err_ok _ w e)
 
   deferred_names : (r : Hole) (i : ℕ) (w : Where) → Means c m r i (filling_at c i) → where_deferred r i ≡ Ok w → Names w (deferred_in c.program (filling_at c i))
-  deferred_names hole.Local i w k e =
+  deferred_names hole_kind.Local i w k e =
       subst (λ x. Names x (deferred_in c.program (filling_at c i))) (ok_same (At (Symbol i) None) w e) (record { plain = k.plain; named_so = k.deferred })
-  deferred_names hole.Object i w k e =
+  deferred_names hole_kind.Object i w k e =
       through_names (deferred_in c.program (filling_at c i)) (Symbol i) w e
       (λ safe. subst (λ o. IsAt o (Memory Long (Symbol i))) (sym k.deferred_is)
       (record { plain = refl; named_so = in_area Long (Symbol i) (resolved m.layout (addr_in c.program (filling_at c i))) k.address safe }))
-  deferred_names hole.Register i w k e = absurd (err_ok _ w e)
-  deferred_names (hole.Value z) i w k e = absurd (err_ok _ w e)
-  deferred_names (hole.Place z) i w k e = absurd (err_ok _ w e)
-  deferred_names (hole.SavedPlace z) i w k e = absurd (err_ok _ w e)
-  deferred_names hole.Address i w k e = absurd (err_ok _ w e)
-  deferred_names hole.Constant i w k e = absurd (err_ok _ w e)
-  deferred_names (hole.Literal n) i w k e = absurd (err_ok _ w e)
-  deferred_names hole.Saved i w k e = absurd (err_ok _ w e)
-  deferred_names hole.Relation i w k e = absurd (err_ok _ w e)
-  deferred_names hole.Other i w k e = absurd (err_ok _ w e)
+  deferred_names hole_kind.Register i w k e = absurd (err_ok _ w e)
+  deferred_names (hole_kind.Value z) i w k e = absurd (err_ok _ w e)
+  deferred_names (hole_kind.Place z) i w k e = absurd (err_ok _ w e)
+  deferred_names (hole_kind.SavedPlace z) i w k e = absurd (err_ok _ w e)
+  deferred_names hole_kind.Address i w k e = absurd (err_ok _ w e)
+  deferred_names hole_kind.Constant i w k e = absurd (err_ok _ w e)
+  deferred_names (hole_kind.Literal n) i w k e = absurd (err_ok _ w e)
+  deferred_names hole_kind.Saved i w k e = absurd (err_ok _ w e)
+  deferred_names hole_kind.Relation i w k e = absurd (err_ok _ w e)
+  deferred_names hole_kind.Other i w k e = absurd (err_ok _ w e)
 
   -- `%0` isn't written yet, so each hole means what it stands for
   pub all_mean : (i : ℕ) → Means c m (role_at c i) i (filling_at c i)

@@ -4,7 +4,7 @@ use Rattle.std.specs.Prelude.{IsSome}
 use Rattle.gg_base.specs.declared.size.Size.{Size}
 use Rattle.gg_base.specs.declared.size.Size.TheVariants.{Byte, Word, Long}
 use Rattle.gg_base.specs.Arithmetic.{neg32}
-use Rattle.term_core.specs.declared.operator.UnaryOp.TheVariants as unary
+use Rattle.term_core.specs.declared.operator.UnaryOp.TheVariants as unary_op
 use Rattle.term_core.specs.Shape.{Shape, Symbol, LastResult, Memory, Unary}
 use Rattle.term_core.proofs.Values.{small}
 use Rattle.sel_terms.specs.Effects as effects
@@ -24,7 +24,7 @@ use Rattle.vax_templates.specs.declared.form.Base.{Base}
 use Rattle.vax_templates.specs.declared.form.Base.TheVariants as base
 use Rattle.vax_templates.specs.declared.form.Form.{Form}
 use Rattle.vax_templates.specs.declared.setting.Hole.{Hole}
-use Rattle.vax_templates.specs.declared.setting.Hole.TheVariants as hole
+use Rattle.vax_templates.specs.declared.setting.Hole.TheVariants as hole_kind
 use Rattle.vax_templates.specs.declared.setting.Own.{Own}
 use Rattle.vax_templates.specs.declared.setting.Own.TheVariants as own
 use Rattle.vax_templates.specs.declared.setting.Opening.{Opening}
@@ -82,28 +82,28 @@ module _ (c : Scene) (m : State) (h : Sees c None m) where
   zero_reads opening.Other size w e = absurd (err_ok _ w e)
 
   hole_reads : (r : Hole) (i : ℕ) (size : Size) (w : Where) → Means c m r i (filling_at c i) → where_hole r i ≡ Ok w → Reads w (operand_in c.program (filling_at c i)) size
-  hole_reads hole.Register i size w k e =
+  hole_reads hole_kind.Register i size w k e =
       subst (λ y. Reads y (operand_in c.program (filling_at c i)) size) (ok_same (Register (Symbol i)) w e)
       (subst (λ a. reads (operand_in c.program a) size m ≡ Some (worth c (cut size (Symbol i)))) (sym k.is) (ap Some (cut_is c size (Symbol i) (reg m (numbered k.number)) k.holds)))
-  hole_reads (hole.Value z) i size w k e =
+  hole_reads (hole_kind.Value z) i size w k e =
       subst (λ y. Reads y (operand_in c.program (filling_at c i)) size) (ok_same (Value z i) w e)
       (λ same. subst (λ y. reads (operand_in c.program (filling_at c i)) y m ≡ Some (worth c (Symbol i))) same k)
-  hole_reads (hole.Place z) i size w k e =
+  hole_reads (hole_kind.Place z) i size w k e =
       subst (λ y. Reads y (operand_in c.program (filling_at c i)) size) (ok_same (Place z i) w e)
       (λ same some. subst (λ y. reads (operand_in c.program (filling_at c i)) y m ≡ Some (worth c (Symbol i))) same (k.holds some))
-  hole_reads hole.Local i size w k e =
+  hole_reads hole_kind.Local i size w k e =
       subst (λ y. Reads y (operand_in c.program (filling_at c i)) size) (ok_same (Local i) w e)
       (λ same. subst (λ y. reads (operand_in c.program (filling_at c i)) y m ≡ Some (worth c (Symbol i))) same k.holds)
-  hole_reads (hole.SavedPlace z) i size w k e =
+  hole_reads (hole_kind.SavedPlace z) i size w k e =
       subst (λ y. Reads y (operand_in c.program (filling_at c i)) size) (ok_same (SavedPlace z i) w e)
       (λ same. subst (λ y. names (operand_in c.program (filling_at c i)) y m ≡ Some (worth c (Symbol i))) same k)
-  hole_reads hole.Address i size w k e = subst (λ y. Reads y (operand_in c.program (filling_at c i)) size) (ok_same (At (Symbol i) None) w e) tt
-  hole_reads hole.Object i size w k e = subst (λ y. Reads y (operand_in c.program (filling_at c i)) size) (ok_same (At (Symbol i) None) w e) tt
-  hole_reads hole.Constant i size w k e = absurd (err_ok _ w e)
-  hole_reads (hole.Literal n) i size w k e = absurd (err_ok _ w e)
-  hole_reads hole.Saved i size w k e = subst (λ y. Reads y (operand_in c.program (filling_at c i)) size) (ok_same (Saved i) w e) tt
-  hole_reads hole.Relation i size w k e = absurd (err_ok _ w e)
-  hole_reads hole.Other i size w k e = absurd (err_ok _ w e)
+  hole_reads hole_kind.Address i size w k e = subst (λ y. Reads y (operand_in c.program (filling_at c i)) size) (ok_same (At (Symbol i) None) w e) tt
+  hole_reads hole_kind.Object i size w k e = subst (λ y. Reads y (operand_in c.program (filling_at c i)) size) (ok_same (At (Symbol i) None) w e) tt
+  hole_reads hole_kind.Constant i size w k e = absurd (err_ok _ w e)
+  hole_reads (hole_kind.Literal n) i size w k e = absurd (err_ok _ w e)
+  hole_reads hole_kind.Saved i size w k e = subst (λ y. Reads y (operand_in c.program (filling_at c i)) size) (ok_same (Saved i) w e) tt
+  hole_reads hole_kind.Relation i size w k e = absurd (err_ok _ w e)
+  hole_reads hole_kind.Other i size w k e = absurd (err_ok _ w e)
 
   alone_reads : (i : ℕ) (size : Size) (w : Where) → cond (i == 0) (where_own c.setting.own) (where_hole (role_at c i) i) ≡ Ok w → Reads w (operand_in c.program (filling_at c i)) size
   alone_reads i size w e = by (i == 0) e where
@@ -123,11 +123,11 @@ module _ (c : Scene) (m : State) (h : Sees c None m) where
   through_reads o size a w e = subst (λ y. Reads y o size) (ok_same (At (Memory Long a) (Some (Memory Long a))) w e) tt
 
   deferred_reads : (r : Hole) (i : ℕ) (o : Operand) (size : Size) (w : Where) → where_deferred r i ≡ Ok w → Reads w o size
-  deferred_reads hole.Local i o size w e = subst (λ y. Reads y o size) (ok_same (At (Symbol i) None) w e) tt
-  deferred_reads hole.Object i o size w e = through_reads o size (Symbol i) w e
+  deferred_reads hole_kind.Local i o size w e = subst (λ y. Reads y o size) (ok_same (At (Symbol i) None) w e) tt
+  deferred_reads hole_kind.Object i o size w e = through_reads o size (Symbol i) w e
   deferred_reads r i o size w e = absurd (err_ok _ w e)
 
-  negative_is : (i : ℕ) (t : Shape) → constant_of (role_at c i) i ≡ Ok t → neg32 (addr_in c.program (filling_at c i)).offset ≡ worth c (Unary unary.Neg t)
+  negative_is : (i : ℕ) (t : Shape) → constant_of (role_at c i) i ≡ Ok t → neg32 (addr_in c.program (filling_at c i)).offset ≡ worth c (Unary unary_op.Neg t)
   negative_is i t e = ap neg32 (constant_known c m (role_at c i) i t (filling_at c i) (number_means c None m h i t (constant_address c m (role_at c i) i t e)) e).is
 
   base_reads : (b : Base) (size : Size) (w : Where) → BaseIsShort b → where_base c.setting c.roles None b ≡ Ok w → Reads w (F b) size
@@ -139,7 +139,7 @@ module _ (c : Scene) (m : State) (h : Sees c None m) where
       number_reads (number_addr c.program c.holes c.own n) size d.first w (number_is c None m h n d.first short d.is) d.then_so
   base_reads (base.Negative i) size w short e =
       let d = chained (constant_of (role_at c i) i) negated w e in
-      number_reads (addr_number (neg32 (addr_in c.program (filling_at c i)).offset)) size (Unary unary.Neg d.first) w (negative_is i d.first d.is) d.then_so
+      number_reads (addr_number (neg32 (addr_in c.program (filling_at c i)).offset)) size (Unary unary_op.Neg d.first) w (negative_is i d.first d.is) d.then_so
   base_reads (base.RegisterDeferred i) size w short e =
       let d = chained (register_term c.setting c.roles None i) at w e in at_reads (F (base.RegisterDeferred i)) size d.first w d.then_so
   base_reads (base.Displacement n i) size w short e =

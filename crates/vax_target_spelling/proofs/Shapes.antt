@@ -8,7 +8,7 @@ use Rattle.gg_base.specs.Arithmetic.{neg32}
 use Rattle.std.proofs.lemmas.Bool.Decides.{nat_tests}
 use Rattle.tree_core.specs.declared.token.Tok.{Tok}
 use Rattle.tree_core.specs.declared.token.Tok.TheVariants as tok
-use Rattle.tree_core.specs.declared.token.AttKind.TheVariants as attkind
+use Rattle.tree_core.specs.declared.token.AttKind.TheVariants as att_kind
 use Rattle.tree_core.specs.declared.tree.Att.{Att}
 use Rattle.tree_core.specs.declared.tree.Att.TheVariants as att
 use Rattle.tree_core.specs.declared.program.TreeProgram.{TreeProgram}
@@ -19,7 +19,7 @@ use Rattle.md_reader.specs.declared.types.Kind.{Kind}
 use Rattle.md_reader.specs.declared.types.Kind.TheVariants as kind
 use Rattle.md_reader.specs.declared.types.Class.{Class}
 use Rattle.md_reader.specs.declared.types.Sym.{Sym}
-use Rattle.md_reader.specs.declared.types.Sym.TheVariants as sym
+use Rattle.md_reader.specs.declared.types.Sym.TheVariants as grammar_symbol
 use Rattle.md_reader.specs.declared.types.Give.TheVariants as give
 use Rattle.md_reader.specs.declared.types.Rule.{Rule}
 use Rattle.md_reader.specs.Patterns.{kind_at}
@@ -40,7 +40,7 @@ use Rattle.vax_templates.specs.declared.form.Base.TheVariants as base
 use Rattle.vax_templates.specs.declared.form.Base.{Base as FormBase}
 use Rattle.vax_templates.specs.declared.form.Form.{Form}
 use Rattle.vax_templates.specs.declared.setting.Hole.{Hole}
-use Rattle.vax_templates.specs.declared.setting.Hole.TheVariants as holes
+use Rattle.vax_templates.specs.declared.setting.Hole.TheVariants as hole_kind
 use Rattle.vax_templates.specs.declared.setting.Own.{Own}
 use Rattle.vax_templates.specs.declared.setting.Own.TheVariants as own
 use Rattle.vax_templates.specs.declared.setting.Opening.{Opening}
@@ -145,18 +145,18 @@ pub record IsPointer (q : TreeProgram) (a : Attr Operand) : Type 0 where
   pub deferred : TouchesAlike (deferred_in q a) a
 
 abbrev pub Tells : TreeProgram → Hole → Attr Operand → Type 0
-Tells q holes.Register a = IsRegister a
-Tells q (holes.Value z) a = TouchesAlike (operand_in q a) a
-Tells q (holes.Place z) a = TouchesAlike (operand_in q a) a
-Tells q holes.Local a = IsPointer q a
-Tells q (holes.SavedPlace z) a = TouchesAlike (operand_in q a) a
-Tells q holes.Address a = TouchesAlike (operand_in q a) a
-Tells q holes.Constant a = TouchesAlike (operand_in q a) a
-Tells q (holes.Literal n) a = TouchesAlike (operand_in q a) a
-Tells q holes.Object a = IsPointer q a
-Tells q holes.Saved a = Unit {0}
-Tells q holes.Relation a = Unit {0}
-Tells q holes.Other a = Unit {0}
+Tells q hole_kind.Register a = IsRegister a
+Tells q (hole_kind.Value z) a = TouchesAlike (operand_in q a) a
+Tells q (hole_kind.Place z) a = TouchesAlike (operand_in q a) a
+Tells q hole_kind.Local a = IsPointer q a
+Tells q (hole_kind.SavedPlace z) a = TouchesAlike (operand_in q a) a
+Tells q hole_kind.Address a = TouchesAlike (operand_in q a) a
+Tells q hole_kind.Constant a = TouchesAlike (operand_in q a) a
+Tells q (hole_kind.Literal n) a = TouchesAlike (operand_in q a) a
+Tells q hole_kind.Object a = IsPointer q a
+Tells q hole_kind.Saved a = Unit {0}
+Tells q hole_kind.Relation a = Unit {0}
+Tells q hole_kind.Other a = Unit {0}
 
 abbrev pub AllTell : TreeProgram → List Hole → List (Attr Operand) → Type 0
 AllTell q [] [] = Unit {0}
@@ -167,7 +167,7 @@ AllTell q (h ∷ hs') (a ∷ hs) = Tells q h a × AllTell q hs' hs
 number_tells : (q : TreeProgram) (x : Tok) (a : Att) (n : ℕ) → a ≡ att.Number n → TouchesAlike (operand_in q (attr.Token (record { tok = x; att = a }))) (attr.Token (record { tok = x; att = a }))
 number_tells q x a n is s e = absurd (imm_touches (addr_number n) s (ap (λ b. touches vax (operand_in q (attr.Token (record { tok = x; att = b }))) s) (sym is) ∙ e))
 
-own_tells : (q : TreeProgram) (x : Tok) (k : ℕ) (a : Att) → is_of_kind (attkind.Own k) a ≡ true →
+own_tells : (q : TreeProgram) (x : Tok) (k : ℕ) (a : Att) → is_of_kind (att_kind.Own k) a ≡ true →
     TouchesAlike (operand_in q (attr.Token (record { tok = x; att = a }))) (attr.Token (record { tok = x; att = a }))
 own_tells q x k (att.Number n) f = number_tells q x (att.Number n) n refl
 own_tells q x k att.Nothing f = absurd (cc)
@@ -177,7 +177,7 @@ own_tells q x k (att.Branch rel label) f = absurd (cc)
 own_tells q x k (att.Label label) f = absurd (cc)
 own_tells q x k (att.Callee function count) f = absurd (cc)
 
-other_tells : (q : TreeProgram) (x : Tok) (a : Att) → is_of_kind attkind.Other a ≡ true →
+other_tells : (q : TreeProgram) (x : Tok) (a : Att) → is_of_kind att_kind.Other a ≡ true →
     TouchesAlike (operand_in q (attr.Token (record { tok = x; att = a }))) (attr.Token (record { tok = x; att = a }))
 other_tells q x (att.Number n) f = number_tells q x (att.Number n) n refl
 other_tells q x att.Nothing f = absurd (cc)
@@ -187,7 +187,7 @@ other_tells q x (att.Branch rel label) f = absurd (cc)
 other_tells q x (att.Label label) f = absurd (cc)
 other_tells q x (att.Callee function count) f = absurd (cc)
 
-object_tells : (q : TreeProgram) (x : Tok) (a : Att) → is_of_kind attkind.Object a ≡ true → IsPointer q (attr.Token (record { tok = x; att = a }))
+object_tells : (q : TreeProgram) (x : Tok) (a : Att) → is_of_kind att_kind.Object a ≡ true → IsPointer q (attr.Token (record { tok = x; att = a }))
 object_tells q x (att.Object object offset) f = record {
   place = λ s e. absurd (rel_touches (object_addr q object offset) s e);
   deferred = λ s e. absurd (reldef_touches (object_addr q object offset) s e);
@@ -219,7 +219,7 @@ argument_deferred_touches k s e = by (nat_le k 255) e where
   by true e = argument_at_touches k s e
   by false e = e
 
-local_tells : (q : TreeProgram) (a : Att) → is_of_kind attkind.Local a ≡ true → IsPointer q (attr.Token (record { tok = tok.Loc; att = a }))
+local_tells : (q : TreeProgram) (a : Att) → is_of_kind att_kind.Local a ≡ true → IsPointer q (attr.Token (record { tok = tok.Loc; att = a }))
 local_tells q (att.Slot k) f = record { place = λ s e. e; deferred = word_deferred_touches k }
 local_tells q att.Nothing f = absurd (cc)
 local_tells q (att.Number n) f = absurd (cc)
@@ -228,7 +228,7 @@ local_tells q (att.Branch rel label) f = absurd (cc)
 local_tells q (att.Label label) f = absurd (cc)
 local_tells q (att.Callee function count) f = absurd (cc)
 
-argument_tells : (q : TreeProgram) (a : Att) → is_of_kind attkind.Argument a ≡ true → IsPointer q (attr.Token (record { tok = tok.Arg; att = a }))
+argument_tells : (q : TreeProgram) (a : Att) → is_of_kind att_kind.Argument a ≡ true → IsPointer q (attr.Token (record { tok = tok.Arg; att = a }))
 argument_tells q (att.Slot k) f = record { place = λ s e. e; deferred = argument_deferred_touches k }
 argument_tells q att.Nothing f = absurd (cc)
 argument_tells q (att.Number n) f = absurd (cc)
@@ -260,9 +260,9 @@ class_tells q (Some kind.Nothing) h f = tt
 class_tells q (Some k) h f = absurd f
 
 symbol_tells : (q : TreeProgram) (classes : List Class) (x : Sym) (h : Attr Operand) → SymFits vax classes x h → Tells q (hole_of classes x) h
-symbol_tells q classes (sym.Class c) h f = class_tells q (kind_at classes c) h f
-symbol_tells q classes (sym.Tok x) (attr.Token l) f = subst (λ y. Tells q (hole_of_token y) (attr.Token l)) f.0 (token_tells q l.tok l.att f.1)
-symbol_tells q classes (sym.Tok x) h f = absurd f
+symbol_tells q classes (grammar_symbol.Class c) h f = class_tells q (kind_at classes c) h f
+symbol_tells q classes (grammar_symbol.Tok x) (attr.Token l) f = subst (λ y. Tells q (hole_of_token y) (attr.Token l)) f.0 (token_tells q l.tok l.att f.1)
+symbol_tells q classes (grammar_symbol.Tok x) h f = absurd f
 
 all_tell : (q : TreeProgram) (classes : List Class) (right : List Sym) (hs : List (Attr Operand)) → Fit vax classes right hs → AllTell q (holes_of classes right) hs
 all_tell q classes [] [] f = tt
@@ -321,18 +321,18 @@ module _ (q : TreeProgram) (set : Setting) (hs' : List Hole) (hs : List (Attr Op
   IsRegisterAt i = IsRegister (attr_at hs attr.Nothing i)
 
   register_hole : (h : Hole) (i : ℕ) (a : Attr Operand) → Tells q h a → EachOk (λ (t : Shape). IsRegister a) (register_of h i)
-  register_hole holes.Register i a k = k
-  register_hole (holes.Value z) i a k = tt
-  register_hole (holes.Place z) i a k = tt
-  register_hole holes.Local i a k = tt
-  register_hole (holes.SavedPlace z) i a k = tt
-  register_hole holes.Address i a k = tt
-  register_hole holes.Constant i a k = tt
-  register_hole (holes.Literal n) i a k = tt
-  register_hole holes.Object i a k = tt
-  register_hole holes.Saved i a k = tt
-  register_hole holes.Relation i a k = tt
-  register_hole holes.Other i a k = tt
+  register_hole hole_kind.Register i a k = k
+  register_hole (hole_kind.Value z) i a k = tt
+  register_hole (hole_kind.Place z) i a k = tt
+  register_hole hole_kind.Local i a k = tt
+  register_hole (hole_kind.SavedPlace z) i a k = tt
+  register_hole hole_kind.Address i a k = tt
+  register_hole hole_kind.Constant i a k = tt
+  register_hole (hole_kind.Literal n) i a k = tt
+  register_hole hole_kind.Object i a k = tt
+  register_hole hole_kind.Saved i a k = tt
+  register_hole hole_kind.Relation i a k = tt
+  register_hole hole_kind.Other i a k = tt
 
   no_value : (P : Shape → Type 0) (o : Own) → EachOk P (own_value o None)
   no_value P own.Nothing = tt
@@ -342,7 +342,7 @@ module _ (q : TreeProgram) (set : Setting) (hs' : List Hole) (hs : List (Attr Op
   register_at : (i : ℕ) → EachOk (λ (t : Shape). IsRegisterAt i) (register_term set hs' None i)
   register_at i = by (i == 0) where
     by : (b : Bool) → EachOk (λ (t : Shape). IsRegister (cond b attr.Nothing (attr_or attr.Nothing (slice_get hs (i - 1)))))
-        (cond b (own_value set.own None) (register_of (cond b holes.Other (hole_or_other (slice_get hs' (i - 1)))) i))
+        (cond b (own_value set.own None) (register_of (cond b hole_kind.Other (hole_or_other (slice_get hs' (i - 1)))) i))
     by true = no_value _ set.own
     by false = register_hole (hole_or_other (slice_get hs' (i - 1))) i (attr_or attr.Nothing (slice_get hs (i - 1))) (tells_nth q hs' hs (i - 1) tell)
 
@@ -368,44 +368,44 @@ module _ (q : TreeProgram) (set : Setting) (hs' : List Hole) (hs : List (Attr Op
   zero_told opening.Return x e = absurd (cc)
 
   symbol_told : (h : Hole) (i : ℕ) (a : Attr Operand) → Tells q h a → (attr_touches vax a s ≡ true → Somewhere) → EachOk (λ w. Told w (operand_in q a)) (where_hole h i)
-  symbol_told holes.Register i a k f = λ e. f (ap (λ b. attr_touches vax b s) k.is ∙ (ap (λ b. touches vax (operand_in q b) s) (sym k.is) ∙ e))
-  symbol_told (holes.Value z) i a k f = λ e. f (k s e)
-  symbol_told (holes.Place z) i a k f = λ e. f (k s e)
-  symbol_told holes.Local i a k f = λ e. f (k.place s e)
-  symbol_told (holes.SavedPlace z) i a k f = λ e. f (k s e)
-  symbol_told holes.Address i a k f = λ e. f (k s e)
-  symbol_told holes.Constant i a k f = tt
-  symbol_told (holes.Literal n) i a k f = tt
-  symbol_told holes.Object i a k f = λ e. f (k.place s e)
-  symbol_told holes.Saved i a k f = tt
-  symbol_told holes.Relation i a k f = tt
-  symbol_told holes.Other i a k f = tt
+  symbol_told hole_kind.Register i a k f = λ e. f (ap (λ b. attr_touches vax b s) k.is ∙ (ap (λ b. touches vax (operand_in q b) s) (sym k.is) ∙ e))
+  symbol_told (hole_kind.Value z) i a k f = λ e. f (k s e)
+  symbol_told (hole_kind.Place z) i a k f = λ e. f (k s e)
+  symbol_told hole_kind.Local i a k f = λ e. f (k.place s e)
+  symbol_told (hole_kind.SavedPlace z) i a k f = λ e. f (k s e)
+  symbol_told hole_kind.Address i a k f = λ e. f (k s e)
+  symbol_told hole_kind.Constant i a k f = tt
+  symbol_told (hole_kind.Literal n) i a k f = tt
+  symbol_told hole_kind.Object i a k f = λ e. f (k.place s e)
+  symbol_told hole_kind.Saved i a k f = tt
+  symbol_told hole_kind.Relation i a k f = tt
+  symbol_told hole_kind.Other i a k f = tt
 
   hole_told : (i : ℕ) → EachOk (λ w. Told w (operand_in q (attr_at hs attr.Nothing i))) (cond (i == 0) (where_own set.own) (where_hole (hole_at hs' i) i))
   hole_told i = by (i == 0) where
     by : (b : Bool) → EachOk (λ w. Told w (operand_in q (cond b attr.Nothing (attr_or attr.Nothing (slice_get hs (i - 1))))))
-        (cond b (where_own set.own) (where_hole (cond b holes.Other (hole_or_other (slice_get hs' (i - 1)))) i))
+        (cond b (where_own set.own) (where_hole (cond b hole_kind.Other (hole_or_other (slice_get hs' (i - 1)))) i))
     by true = own_told set.own (operand_in q attr.Nothing) no_own
     by false = symbol_told (hole_or_other (slice_get hs' (i - 1))) i (attr_or attr.Nothing (slice_get hs (i - 1))) (tells_nth q hs' hs (i - 1) tell) (any_nth s hs (i - 1))
 
   pointer_told : (h : Hole) (i : ℕ) (a : Attr Operand) → Tells q h a → (attr_touches vax a s ≡ true → Somewhere) → EachOk (λ w. Told w (deferred_in q a)) (where_deferred h i)
-  pointer_told holes.Register i a k f = tt
-  pointer_told (holes.Value z) i a k f = tt
-  pointer_told (holes.Place z) i a k f = tt
-  pointer_told holes.Local i a k f = λ e. f (k.deferred s e)
-  pointer_told (holes.SavedPlace z) i a k f = tt
-  pointer_told holes.Address i a k f = tt
-  pointer_told holes.Constant i a k f = tt
-  pointer_told (holes.Literal n) i a k f = tt
-  pointer_told holes.Object i a k f = λ e. f (k.deferred s e)
-  pointer_told holes.Saved i a k f = tt
-  pointer_told holes.Relation i a k f = tt
-  pointer_told holes.Other i a k f = tt
+  pointer_told hole_kind.Register i a k f = tt
+  pointer_told (hole_kind.Value z) i a k f = tt
+  pointer_told (hole_kind.Place z) i a k f = tt
+  pointer_told hole_kind.Local i a k f = λ e. f (k.deferred s e)
+  pointer_told (hole_kind.SavedPlace z) i a k f = tt
+  pointer_told hole_kind.Address i a k f = tt
+  pointer_told hole_kind.Constant i a k f = tt
+  pointer_told (hole_kind.Literal n) i a k f = tt
+  pointer_told hole_kind.Object i a k f = λ e. f (k.deferred s e)
+  pointer_told hole_kind.Saved i a k f = tt
+  pointer_told hole_kind.Relation i a k f = tt
+  pointer_told hole_kind.Other i a k f = tt
 
   deferred_told : (i : ℕ) → EachOk (λ w. Told w (deferred_in q (attr_at hs attr.Nothing i))) (where_deferred (hole_at hs' i) i)
   deferred_told i = by (i == 0) where
     by : (b : Bool) → EachOk (λ w. Told w (deferred_in q (cond b attr.Nothing (attr_or attr.Nothing (slice_get hs (i - 1))))))
-        (where_deferred (cond b holes.Other (hole_or_other (slice_get hs' (i - 1)))) i)
+        (where_deferred (cond b hole_kind.Other (hole_or_other (slice_get hs' (i - 1)))) i)
     by true = tt
     by false = pointer_told (hole_or_other (slice_get hs' (i - 1))) i (attr_or attr.Nothing (slice_get hs (i - 1))) (tells_nth q hs' hs (i - 1) tell) (any_nth s hs (i - 1))
 
@@ -507,23 +507,23 @@ module _ (q : TreeProgram) (set : Setting) (hs' : List Hole) (hs : List (Attr Op
       (given_told (filled q hs attr.Nothing f) g h) (form_told f size)
 
   constant_told : (h : Hole) (i : ℕ) (a : Attr Operand) → Tells q h a → (attr_touches vax a s ≡ true → Somewhere) → EachOk (λ (t : Shape). Touches (operand_in q a)) (constant_of h i)
-  constant_told holes.Register i a k f = tt
-  constant_told (holes.Value z) i a k f = tt
-  constant_told (holes.Place z) i a k f = tt
-  constant_told holes.Local i a k f = tt
-  constant_told (holes.SavedPlace z) i a k f = tt
-  constant_told holes.Address i a k f = tt
-  constant_told holes.Constant i a k f = λ e. f (k s e)
-  constant_told (holes.Literal n) i a k f = λ e. f (k s e)
-  constant_told holes.Object i a k f = tt
-  constant_told holes.Saved i a k f = tt
-  constant_told holes.Relation i a k f = tt
-  constant_told holes.Other i a k f = tt
+  constant_told hole_kind.Register i a k f = tt
+  constant_told (hole_kind.Value z) i a k f = tt
+  constant_told (hole_kind.Place z) i a k f = tt
+  constant_told hole_kind.Local i a k f = tt
+  constant_told (hole_kind.SavedPlace z) i a k f = tt
+  constant_told hole_kind.Address i a k f = tt
+  constant_told hole_kind.Constant i a k f = λ e. f (k s e)
+  constant_told (hole_kind.Literal n) i a k f = λ e. f (k s e)
+  constant_told hole_kind.Object i a k f = tt
+  constant_told hole_kind.Saved i a k f = tt
+  constant_told hole_kind.Relation i a k f = tt
+  constant_told hole_kind.Other i a k f = tt
 
   constant_at : (i : ℕ) → EachOk (λ (t : Shape). Touches (operand_in q (attr_at hs attr.Nothing i))) (constant_of (hole_at hs' i) i)
   constant_at i = by (i == 0) where
     by : (b : Bool) → EachOk (λ (t : Shape). Touches (operand_in q (cond b attr.Nothing (attr_or attr.Nothing (slice_get hs (i - 1))))))
-        (constant_of (cond b holes.Other (hole_or_other (slice_get hs' (i - 1)))) i)
+        (constant_of (cond b hole_kind.Other (hole_or_other (slice_get hs' (i - 1)))) i)
     by true = tt
     by false = constant_told (hole_or_other (slice_get hs' (i - 1))) i (attr_or attr.Nothing (slice_get hs (i - 1))) (tells_nth q hs' hs (i - 1) tell) (any_nth s hs (i - 1))
 

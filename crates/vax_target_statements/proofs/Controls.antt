@@ -4,7 +4,7 @@ use Rattle.std.specs.Prelude.{slice_get}
 use Rattle.std.specs.Option.{option_map}
 use Rattle.std.specs.List.{AllByRecursion}
 use Rattle.gg_base.specs.declared.relation.Rel.{Rel}
-use Rattle.gg_base.specs.declared.relation.Rel.TheVariants as rel
+use Rattle.gg_base.specs.declared.relation.Rel.TheVariants as relations
 use Rattle.gg_base.specs.Relations.{holds}
 use Rattle.tree_core.specs.declared.program.TreeProgram.{TreeProgram}
 use Rattle.tree_core.specs.declared.tree.Att.{Att}
@@ -75,16 +75,16 @@ jump_is o label n e = ap (λ x. branching true (option_map label_name x) n) e
 branch_is : (r : Rel) (o : Option ℕ) (label : ℕ) (n : State) → o ≡ Some label →
     performed (record { op = op_of_relation r; operands = []; target = option_map label_name o }) n ≡ branching (passes (test_of r) n.conditions) (Some (label_name label)) n
 unfolding performed
-branch_is rel.Eq o label n e = ap (λ x. branching (passes (test_of rel.Eq) n.conditions) (option_map label_name x) n) e
-branch_is rel.Ne o label n e = ap (λ x. branching (passes (test_of rel.Ne) n.conditions) (option_map label_name x) n) e
-branch_is rel.Lt o label n e = ap (λ x. branching (passes (test_of rel.Lt) n.conditions) (option_map label_name x) n) e
-branch_is rel.Le o label n e = ap (λ x. branching (passes (test_of rel.Le) n.conditions) (option_map label_name x) n) e
-branch_is rel.Gt o label n e = ap (λ x. branching (passes (test_of rel.Gt) n.conditions) (option_map label_name x) n) e
-branch_is rel.Ge o label n e = ap (λ x. branching (passes (test_of rel.Ge) n.conditions) (option_map label_name x) n) e
-branch_is rel.Ltu o label n e = ap (λ x. branching (passes (test_of rel.Ltu) n.conditions) (option_map label_name x) n) e
-branch_is rel.Leu o label n e = ap (λ x. branching (passes (test_of rel.Leu) n.conditions) (option_map label_name x) n) e
-branch_is rel.Gtu o label n e = ap (λ x. branching (passes (test_of rel.Gtu) n.conditions) (option_map label_name x) n) e
-branch_is rel.Geu o label n e = ap (λ x. branching (passes (test_of rel.Geu) n.conditions) (option_map label_name x) n) e
+branch_is relations.Eq o label n e = ap (λ x. branching (passes (test_of relations.Eq) n.conditions) (option_map label_name x) n) e
+branch_is relations.Ne o label n e = ap (λ x. branching (passes (test_of relations.Ne) n.conditions) (option_map label_name x) n) e
+branch_is relations.Lt o label n e = ap (λ x. branching (passes (test_of relations.Lt) n.conditions) (option_map label_name x) n) e
+branch_is relations.Le o label n e = ap (λ x. branching (passes (test_of relations.Le) n.conditions) (option_map label_name x) n) e
+branch_is relations.Gt o label n e = ap (λ x. branching (passes (test_of relations.Gt) n.conditions) (option_map label_name x) n) e
+branch_is relations.Ge o label n e = ap (λ x. branching (passes (test_of relations.Ge) n.conditions) (option_map label_name x) n) e
+branch_is relations.Ltu o label n e = ap (λ x. branching (passes (test_of relations.Ltu) n.conditions) (option_map label_name x) n) e
+branch_is relations.Leu o label n e = ap (λ x. branching (passes (test_of relations.Leu) n.conditions) (option_map label_name x) n) e
+branch_is relations.Gtu o label n e = ap (λ x. branching (passes (test_of relations.Gtu) n.conditions) (option_map label_name x) n) e
+branch_is relations.Geu o label n e = ap (λ x. branching (passes (test_of relations.Geu) n.conditions) (option_map label_name x) n) e
 
 signed_only : (rs : List Restriction) (right : List Sym) (r : Rel) → AllByRecursion (IsSignedBy 1 r) rs → AllByRecursion (λ x. (i : ℕ) → x ≡ restriction.Signed i → i ≡ 1) rs → is_signed rs
     ≡ true → compares_signed r ≡ true

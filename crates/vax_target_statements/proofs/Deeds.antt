@@ -13,7 +13,7 @@ use Rattle.tree_meaning.specs.Steps as steps
 use Rattle.tree_meaning.specs.Steps.{Step, deed_step, put_in, with_argument_set}
 use Rattle.tree_meaning.specs.Deeds.{Puts as PutsDeed, Pushes, Returns as Leaves}
 use Rattle.tree_meaning.specs.declared.value.Meaning.{Meaning as Place}
-use Rattle.tree_meaning.specs.declared.value.Meaning.TheVariants as places
+use Rattle.tree_meaning.specs.declared.value.Meaning.TheVariants as meaning
 use Rattle.md_reader.specs.declared.types.Class.{Class}
 use Rattle.md_reader.specs.declared.types.Rule.{Rule}
 use Rattle.term_core.specs.Shape.{Shape}
@@ -172,10 +172,10 @@ module _ (q : TreeProgram) (f : Extent) (fs : List Extent) (classes : List Class
     frames = live_there q f fs classes rule e hs res v m ready a x
 
     pub at_goes : (size : Size) (address t : Shape) (g : Place) (y : ℕ) → Puts S n size (worth S t) (λ l. l ≡ locations.Memory (worth S address)) D →
-        g ≡ places.Memory size (value v address) → value v t ≡ y → Steps D (deed_step q v.state (PutsDeed g y))
+        g ≡ meaning.Memory size (value v address) → value v t ≡ y → Steps D (deed_step q v.state (PutsDeed g y))
     at_goes size address t g y p is worth_so =
         subst (λ z. Steps D (deed_step q v.state (PutsDeed z y))) (sym is)
-        (subst (λ z. Steps D (deed_step q v.state (PutsDeed (places.Memory size (value v address)) z))) worth_so
+        (subst (λ z. Steps D (deed_step q v.state (PutsDeed (meaning.Memory size (value v address)) z))) worth_so
         (area_goes n (worth S address) size (worth S t) p.conditions D agrees frames (p.is ∙ ap (λ l. putting n l size (worth S t) p.conditions) p.there)
         (stored size v.state.area (worth S address) (worth S t)) refl))
 

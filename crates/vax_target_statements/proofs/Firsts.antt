@@ -15,7 +15,7 @@ use Rattle.md_reader.specs.declared.types.Kind.{Kind}
 use Rattle.md_reader.specs.declared.types.Kind.TheVariants as kind
 use Rattle.md_reader.specs.declared.types.Class.{Class}
 use Rattle.md_reader.specs.declared.types.Sym.{Sym}
-use Rattle.md_reader.specs.declared.types.Sym.TheVariants as symbols
+use Rattle.md_reader.specs.declared.types.Sym.TheVariants as grammar_symbol
 use Rattle.md_reader.specs.Patterns.{kind_at, kids_of, sort_fits, Trees, no_tree, node, onto, sorted_test, IsSorted}
 use Rattle.md_reader.specs.Rows.{is_branch}
 use Rattle.sel_target.specs.declared.attr.Attr.{Attr}
@@ -33,8 +33,8 @@ no_statement xs = list_all (λ x. not (is_statement x)) xs
 
 -- a token that branches or saves
 abbrev pub is_root : Option Sym → Bool
-is_root (Some (symbols.Tok tok.Cbr)) = true
-is_root (Some (symbols.Tok tok.Save)) = true
+is_root (Some (grammar_symbol.Tok tok.Cbr)) = true
+is_root (Some (grammar_symbol.Tok tok.Save)) = true
 is_root s = false
 
 abbrev AreQuiet : List Sym → Type 0
@@ -87,8 +87,8 @@ kids_quiet tok.Jump = refl
 kids_quiet tok.End = refl
 
 symbol_kids_quiet : (s : Sym) → no_statement (kids_of s) ≡ true
-symbol_kids_quiet (symbols.Tok t) = kids_quiet t
-symbol_kids_quiet (symbols.Class x) = refl
+symbol_kids_quiet (grammar_symbol.Tok t) = kids_quiet t
+symbol_kids_quiet (grammar_symbol.Class x) = refl
 
 branch_is_statement : (x : Sort) → fits sort.Stmt x ≡ true → not (is_statement x) ≡ true → ⊥
 branch_is_statement sort.Stmt e h = cc
@@ -99,7 +99,7 @@ branch_is_statement sort.PlaceB e h = cc
 branch_is_statement sort.PlaceW e h = cc
 branch_is_statement sort.PlaceL e h = cc
 
-token_quiet : (t : Tok) (x : Sort) → sort_fits (sort_of t) x ≡ true → not (is_statement x) ≡ true → is_root (Some (symbols.Tok t)) ≡ false
+token_quiet : (t : Tok) (x : Sort) → sort_fits (sort_of t) x ≡ true → not (is_statement x) ≡ true → is_root (Some (grammar_symbol.Tok t)) ≡ false
 token_quiet tok.Zero x e h = refl
 token_quiet tok.One x e h = refl
 token_quiet tok.Two x e h = refl
@@ -146,8 +146,8 @@ both true b e = (refl, e)
 both false b e = cc
 
 symbol_quiet : (classes : List Class) (s : Sym) (x : Sort) → sorted_test classes s x ≡ true → not (is_statement x) ≡ true → is_root (Some s) ≡ false
-symbol_quiet classes (symbols.Tok t) x e h = token_quiet t x e h
-symbol_quiet classes (symbols.Class k) x e h = refl
+symbol_quiet classes (grammar_symbol.Tok t) x e h = token_quiet t x e h
+symbol_quiet classes (grammar_symbol.Class k) x e h = refl
 
 trees_quiet : (classes : List Class) (xs : List Sort) (tree : Trees (sorted_test classes) xs) → no_statement xs ≡ true → (w : List Sym) → AreQuiet w → AreQuiet (onto tree w)
 trees_quiet classes [] no_tree h w q = q
@@ -172,7 +172,7 @@ root_first [] j s h e b = cc
 root_first (x ∷ w) zero s h e b = refl
 root_first (x ∷ w) (suc j) s h e b = absurd (let r : true ≡ false = sym b ∙ quiet_at w j s h e in cc)
 
-branch_is_root : (t : Tok) → is_branch (Some (symbols.Tok t)) ≡ true → is_root (Some (symbols.Tok t)) ≡ true
+branch_is_root : (t : Tok) → is_branch (Some (grammar_symbol.Tok t)) ≡ true → is_root (Some (grammar_symbol.Tok t)) ≡ true
 branch_is_root tok.Zero e = cc
 branch_is_root tok.One e = cc
 branch_is_root tok.Two e = cc
@@ -215,8 +215,8 @@ branch_is_root tok.Jump e = cc
 branch_is_root tok.End e = cc
 
 pub branch_first : (right : List Sym) (j : ℕ) (s : Sym) → IsRest right → slice_get right j ≡ Some s → is_branch (Some s) ≡ true → j ≡ 0
-branch_first right j (symbols.Tok t) h e b = root_first right j (symbols.Tok t) h e (branch_is_root t b)
-branch_first right j (symbols.Class k) h e b = cc
+branch_first right j (grammar_symbol.Tok t) h e b = root_first right j (grammar_symbol.Tok t) h e (branch_is_root t b)
+branch_first right j (grammar_symbol.Class k) h e b = cc
 
 -- ---- the symbol of a hole
 
@@ -234,7 +234,7 @@ symbol_of classes (s ∷ right) (x ∷ hs) zero h fit e = record { symbol = s; a
   same x y e = cc
 symbol_of classes (s ∷ right) (x ∷ hs) (suc j) h fit e = let r = symbol_of classes right hs j h fit.1 e in record { symbol = r.symbol; at = r.at; fits_so = r.fits_so }
 
-branches_only : (t : Tok) (rel : Rel) (label : ℕ) → is_of_kind (attribute_of t) (att.Branch rel label) ≡ true → is_branch (Some (symbols.Tok t)) ≡ true
+branches_only : (t : Tok) (rel : Rel) (label : ℕ) → is_of_kind (attribute_of t) (att.Branch rel label) ≡ true → is_branch (Some (grammar_symbol.Tok t)) ≡ true
 branches_only tok.Zero rel label e = cc
 branches_only tok.One rel label e = cc
 branches_only tok.Two rel label e = cc
@@ -293,7 +293,7 @@ branch_hole classes left right hs j l rel label sorted fit e is = by r.symbol r.
   r = symbol_of classes right hs j (attr.Token l) fit e
 
   by : (s : Sym) → slice_get right j ≡ Some s → SymFits vax classes s (attr.Token l) → j ≡ 0
-  by (symbols.Tok t) at x =
-      branch_first right j (symbols.Tok t) (rest_of classes left right sorted) at
+  by (grammar_symbol.Tok t) at x =
+      branch_first right j (grammar_symbol.Tok t) (rest_of classes left right sorted) at
       (branches_only t rel label (subst (λ y. is_of_kind (attribute_of y) (att.Branch rel label) ≡ true) x.0 (subst (λ y. is_of_kind (attribute_of l.tok) y ≡ true) is x.1)))
-  by (symbols.Class k) at x = absurd (no_class (kind_at classes k) l x)
+  by (grammar_symbol.Class k) at x = absurd (no_class (kind_at classes k) l x)

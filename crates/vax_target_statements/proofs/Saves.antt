@@ -15,7 +15,7 @@ use Rattle.tree_meaning.specs.Steps.{Step, deed_step}
 use Rattle.tree_meaning.specs.Deeds.{Saves}
 use Rattle.md_reader.specs.declared.types.Class.{Class}
 use Rattle.md_reader.specs.declared.types.Sym.{Sym}
-use Rattle.md_reader.specs.declared.types.Sym.TheVariants as symbols
+use Rattle.md_reader.specs.declared.types.Sym.TheVariants as grammar_symbol
 use Rattle.md_reader.specs.declared.types.Rule.{Rule}
 use Rattle.md_reader.specs.Patterns.{kind_at}
 use Rattle.term_core.specs.Shape.{LastResult}
@@ -42,7 +42,7 @@ use Rattle.vax_states.proofs.Standing.{local_written}
 use Rattle.vax_states.proofs.Keeping.{reg_small}
 use Rattle.vax_states.proofs.Sentences.{word_address}
 use Rattle.vax_templates.specs.declared.setting.Hole.{Hole}
-use Rattle.vax_templates.specs.declared.setting.Hole.TheVariants as holes
+use Rattle.vax_templates.specs.declared.setting.Hole.TheVariants as hole_kind
 use Rattle.vax_templates.specs.declared.setting.Setting.{Setting}
 use Rattle.vax_templates.specs.Settings.{hole_of_token, hole_of, holes_of, hole_or_other, hole_at, setting_of}
 use Rattle.vax_templates.specs.Judging.{Last, Plain, Compared, Tested, Returning, Ended}
@@ -130,7 +130,7 @@ saved_word tok.End k j lk lj e = word_one k j lk lj e
 
 -- ---- the token that saves
 
-hole_is_save : (t : Tok) → hole_of_token t ≡ holes.Saved → t ≡ tok.Save
+hole_is_save : (t : Tok) → hole_of_token t ≡ hole_kind.Saved → t ≡ tok.Save
 hole_is_save tok.Zero e = cc
 hole_is_save tok.One e = cc
 hole_is_save tok.Two e = cc
@@ -172,14 +172,14 @@ hole_is_save tok.Save e = refl
 hole_is_save tok.Jump e = cc
 hole_is_save tok.End e = cc
 
-begins : (right : List Sym) (t : Tok) → slice_get right 0 ≡ Some (symbols.Tok t) → t ≡ tok.Save → begins_with_save right ≡ true
+begins : (right : List Sym) (t : Tok) → slice_get right 0 ≡ Some (grammar_symbol.Tok t) → t ≡ tok.Save → begins_with_save right ≡ true
 begins [] t e is = cc
-begins (s ∷ right) t e is = subst (λ x. begins_with_save (x ∷ right) ≡ true) (sym (one s (symbols.Tok t) e ∙ ap symbols.Tok is)) refl where
+begins (s ∷ right) t e is = subst (λ x. begins_with_save (x ∷ right) ≡ true) (sym (one s (grammar_symbol.Tok t) e ∙ ap grammar_symbol.Tok is)) refl where
   one : (x y : Sym) → Some x ≡ Some y → x ≡ y
   one x y e = cc
 
 -- the last line saves in that token's place
-last_saves : (s : Setting) (roles : List Hole) (l : Last) (i : ℕ) → last_deed l ≡ Ok (Save i) → LastIs s roles None l → hole_at roles i ≡ holes.Saved
+last_saves : (s : Setting) (roles : List Hole) (l : Last) (i : ℕ) → last_deed l ≡ Ok (Save i) → LastIs s roles None l → hole_at roles i ≡ hole_kind.Saved
 last_saves s roles Plain i e h = absurd (err_ok _ _ e)
 last_saves s roles (Compared a b) i e h = absurd (err_ok _ _ e)
 last_saves s roles (Tested t) i e h = absurd (err_ok _ _ e)
@@ -210,7 +210,7 @@ module _ (q : TreeProgram) (f : Extent) (fs : List Extent) (classes : List Class
   F = found_so q f fs classes rule e hs res v m ready
 
   -- the place in which the last line saves is that of a token that saves
-  saved_role : (i : ℕ) → e.act ≡ Save i → hole_at (holes_of classes rule.right) i ≡ holes.Saved
+  saved_role : (i : ℕ) → e.act ≡ Save i → hole_at (holes_of classes rule.right) i ≡ hole_kind.Saved
   saved_role i is =
       let deed : F.deed ≡ Save i = ap (λ (y : EffectShape). y.act) F.is ∙ is in
       last_saves (setting_of classes rule) (holes_of classes rule.right) F.progress.last i
@@ -248,15 +248,15 @@ module _ (q : TreeProgram) (f : Extent) (fs : List Extent) (classes : List Class
   saves zero k is at lt = cc
   saves (suc j) k is at lt = some (slice_get hs j) refl at where
     by : (l : Leaf) → slice_get hs j ≡ Some (attr.Token l) → l.att ≡ att.Slot k → (y : Sym) → slice_get rule.right j ≡ Some y → SymFits vax classes y (attr.Token l) → SavesIn (suc j) k
-    by l there slot (symbols.Class z) stands_there fit p = absurd (no_class (kind_at classes z) l fit)
-    by l there slot (symbols.Tok t) stands_there fit p =
-        let role : hole_of_token t ≡ holes.Saved =
+    by l there slot (grammar_symbol.Class z) stands_there fit p = absurd (no_class (kind_at classes z) l fit)
+    by l there slot (grammar_symbol.Tok t) stands_there fit p =
+        let role : hole_of_token t ≡ hole_kind.Saved =
         sym (ap hole_or_other (ap (λ (o : Option Sym). option_map (hole_of classes) o) stands_there)) ∙ sym (ap hole_or_other (mapped_at classes rule.right j)) ∙ sym (role_is S j)
         ∙ saved_role (suc j) is in
         let saving : t ≡ tok.Save = hole_is_save t role in
-        let first : j ≡ 0 = root_first rule.right j (symbols.Tok t) (rest_of classes _ rule.right ready.instance_of.rule_fits.sides.sorted) stands_there
-        (subst (λ y. is_root (Some (symbols.Tok y)) ≡ true) (sym saving) refl) in
-        let begins_so = begins rule.right t (subst (λ y. slice_get rule.right y ≡ Some (symbols.Tok t)) first stands_there) saving in
+        let first : j ≡ 0 = root_first rule.right j (grammar_symbol.Tok t) (rest_of classes _ rule.right ready.instance_of.rule_fits.sides.sorted) stands_there
+        (subst (λ y. is_root (Some (grammar_symbol.Tok y)) ≡ true) (sym saving) refl) in
+        let begins_so = begins rule.right t (subst (λ y. slice_get rule.right y ≡ Some (grammar_symbol.Tok t)) first stands_there) saving in
         subst (λ y. G (steps.Goes (steps.with_local_set v.state k y))) (result_is begins_so)
         (saves_by (suc j) k p lt l there slot (subst InFrame slot fit.2))
 

@@ -12,7 +12,7 @@ use Rattle.sel_target.specs.declared.fault.TemplateKind.{TemplateKind}
 use Rattle.sel_target.specs.declared.fault.TemplateKind.TheVariants.{NotInstr, WrongSize, Order}
 use Rattle.vax_core.specs.declared.op.Op.{Op}
 use Rattle.vax_core.specs.declared.op.Access.{Access}
-use Rattle.vax_core.specs.declared.op.Access.TheVariants as access
+use Rattle.vax_core.specs.declared.op.Access.TheVariants as accesses
 use Rattle.vax_core.specs.declared.op.OperandKind.{OperandKind}
 use Rattle.vax_core.specs.Ops.{shape}
 use Rattle.vax_machine.specs.declared.function.Action.{Action}
@@ -22,7 +22,7 @@ use Rattle.vax_templates.specs.declared.form.Base.{Base}
 use Rattle.vax_templates.specs.declared.form.Base.TheVariants as base
 use Rattle.vax_templates.specs.declared.form.Form.{Form}
 use Rattle.vax_templates.specs.declared.setting.Hole.{Hole}
-use Rattle.vax_templates.specs.declared.setting.Hole.TheVariants as hole
+use Rattle.vax_templates.specs.declared.setting.Hole.TheVariants as hole_kind
 use Rattle.vax_templates.specs.declared.setting.Own.{Own}
 use Rattle.vax_templates.specs.declared.setting.Own.TheVariants as own
 use Rattle.vax_templates.specs.declared.setting.Opening.{Opening}
@@ -46,36 +46,36 @@ use Rattle.vax_target_runs.proofs.Runs.{judged_is}
 module _ (s : Setting) (roles : List Hole) (held : Option Shape) where
   -- the place of a saved result is that token's
   abbrev WhereIs : Where → Type 0
-  WhereIs (Saved i) = hole_at roles i ≡ hole.Saved
+  WhereIs (Saved i) = hole_at roles i ≡ hole_kind.Saved
   WhereIs w = Unit {0}
 
   hole_is : (r : Hole) (i : ℕ) (w : Where) → hole_at roles i ≡ r → where_hole r i ≡ Ok w → WhereIs w
-  hole_is hole.Register i w same e = subst WhereIs (ok_same _ w e) tt
-  hole_is (hole.Value z) i w same e = subst WhereIs (ok_same _ w e) tt
-  hole_is (hole.Place z) i w same e = subst WhereIs (ok_same _ w e) tt
-  hole_is hole.Local i w same e = subst WhereIs (ok_same _ w e) tt
-  hole_is (hole.SavedPlace z) i w same e = subst WhereIs (ok_same _ w e) tt
-  hole_is hole.Address i w same e = subst WhereIs (ok_same _ w e) tt
-  hole_is hole.Constant i w same e = absurd (err_ok _ w e)
-  hole_is (hole.Literal n) i w same e = absurd (err_ok _ w e)
-  hole_is hole.Object i w same e = subst WhereIs (ok_same _ w e) tt
-  hole_is hole.Saved i w same e = subst WhereIs (ok_same (Saved i) w e) same
-  hole_is hole.Relation i w same e = absurd (err_ok _ w e)
-  hole_is hole.Other i w same e = absurd (err_ok _ w e)
+  hole_is hole_kind.Register i w same e = subst WhereIs (ok_same _ w e) tt
+  hole_is (hole_kind.Value z) i w same e = subst WhereIs (ok_same _ w e) tt
+  hole_is (hole_kind.Place z) i w same e = subst WhereIs (ok_same _ w e) tt
+  hole_is hole_kind.Local i w same e = subst WhereIs (ok_same _ w e) tt
+  hole_is (hole_kind.SavedPlace z) i w same e = subst WhereIs (ok_same _ w e) tt
+  hole_is hole_kind.Address i w same e = subst WhereIs (ok_same _ w e) tt
+  hole_is hole_kind.Constant i w same e = absurd (err_ok _ w e)
+  hole_is (hole_kind.Literal n) i w same e = absurd (err_ok _ w e)
+  hole_is hole_kind.Object i w same e = subst WhereIs (ok_same _ w e) tt
+  hole_is hole_kind.Saved i w same e = subst WhereIs (ok_same (Saved i) w e) same
+  hole_is hole_kind.Relation i w same e = absurd (err_ok _ w e)
+  hole_is hole_kind.Other i w same e = absurd (err_ok _ w e)
 
   deferred_is : (r : Hole) (i : ℕ) (w : Where) → where_deferred r i ≡ Ok w → WhereIs w
-  deferred_is hole.Register i w e = absurd (err_ok _ w e)
-  deferred_is (hole.Value z) i w e = absurd (err_ok _ w e)
-  deferred_is (hole.Place z) i w e = absurd (err_ok _ w e)
-  deferred_is hole.Local i w e = subst WhereIs (ok_same _ w e) tt
-  deferred_is (hole.SavedPlace z) i w e = absurd (err_ok _ w e)
-  deferred_is hole.Address i w e = absurd (err_ok _ w e)
-  deferred_is hole.Constant i w e = absurd (err_ok _ w e)
-  deferred_is (hole.Literal n) i w e = absurd (err_ok _ w e)
-  deferred_is hole.Object i w e = subst WhereIs (ok_same _ w e) tt
-  deferred_is hole.Saved i w e = absurd (err_ok _ w e)
-  deferred_is hole.Relation i w e = absurd (err_ok _ w e)
-  deferred_is hole.Other i w e = absurd (err_ok _ w e)
+  deferred_is hole_kind.Register i w e = absurd (err_ok _ w e)
+  deferred_is (hole_kind.Value z) i w e = absurd (err_ok _ w e)
+  deferred_is (hole_kind.Place z) i w e = absurd (err_ok _ w e)
+  deferred_is hole_kind.Local i w e = subst WhereIs (ok_same _ w e) tt
+  deferred_is (hole_kind.SavedPlace z) i w e = absurd (err_ok _ w e)
+  deferred_is hole_kind.Address i w e = absurd (err_ok _ w e)
+  deferred_is hole_kind.Constant i w e = absurd (err_ok _ w e)
+  deferred_is (hole_kind.Literal n) i w e = absurd (err_ok _ w e)
+  deferred_is hole_kind.Object i w e = subst WhereIs (ok_same _ w e) tt
+  deferred_is hole_kind.Saved i w e = absurd (err_ok _ w e)
+  deferred_is hole_kind.Relation i w e = absurd (err_ok _ w e)
+  deferred_is hole_kind.Other i w e = absurd (err_ok _ w e)
 
   own_is : (o : Own) (w : Where) → where_own o ≡ Ok w → WhereIs w
   own_is own.Nothing w e = absurd (err_ok _ w e)
@@ -126,7 +126,7 @@ module _ (s : Setting) (roles : List Hole) (held : Option Shape) where
   form_is f size w e = form_by f.base f.index size w e
 
   abbrev AimIs : Option Target → Type 0
-  AimIs (Some (ToSaved i)) = hole_at roles i ≡ hole.Saved
+  AimIs (Some (ToSaved i)) = hole_at roles i ≡ hole_kind.Saved
   AimIs t = Unit {0}
 
   statement_of : {A : Type 0} (b : Bool) (x : Result A TemplateKind) (y : A) → cond b x (Err NotInstr) ≡ Ok y → x ≡ Ok y
@@ -209,15 +209,15 @@ module _ (s : Setting) (roles : List Hole) (held : Option Shape) where
 
   taken_is : (kind : Access) (w : Where) (size : Size) (t : Taken) → WhereIs w → taken s held kind w size ≡ Ok t → AimIs t.target
   unfolding taken
-  taken_is access.Read w size t p e = none_is t (fetched_none w size t e)
-  taken_is access.Modify w size t p e =
+  taken_is accesses.Read w size t p e = none_is t (fetched_none w size t e)
+  taken_is accesses.Modify w size t p e =
       let d = chained (fetched s held w size) (λ (u : Taken). targeted s w size >>= both u) t e in
       let x = chained (targeted s w size) (both d.first) t d.then_so in
       subst (λ (y : Taken). AimIs y.target) (ok_same _ t x.then_so) (targeted_is w size x.first p x.is)
-  taken_is access.Write w size t p e =
+  taken_is accesses.Write w size t p e =
       let x = chained (targeted s w size) written t e in subst (λ (y : Taken). AimIs y.target) (ok_same _ t x.then_so) (targeted_is w size x.first p x.is)
-  taken_is access.Address w size t p e = none_is t (addressed_none w size t e)
-  taken_is access.Count w size t p e = absurd (err_ok _ t e)
+  taken_is accesses.Address w size t p e = none_is t (addressed_none w size t e)
+  taken_is accesses.Count w size t p e = absurd (err_ok _ t e)
 
   evaluated_is : (k : OperandKind) (f : Form) (t : Taken) → evaluated s roles held k f ≡ Ok t → AimIs t.target
   unfolding evaluated
@@ -240,7 +240,7 @@ module _ (s : Setting) (roles : List Hole) (held : Option Shape) where
   -- ---- what a line does
 
   abbrev pub LastIs : Last → Type 0
-  LastIs (Ended (Save i)) = hole_at roles i ≡ hole.Saved
+  LastIs (Ended (Save i)) = hole_at roles i ≡ hole_kind.Saved
   LastIs l = Unit {0}
 
   abbrev DeedIs : Deed → Type 0

@@ -17,7 +17,7 @@ use Rattle.sel_target.specs.declared.fault.TemplateKind.TheVariants.{NotInstr, W
 use Rattle.sel_target.specs.Values.{View, term_state, IsReadWhere}
 use Rattle.vax_core.specs.declared.op.Op.{Op}
 use Rattle.vax_core.specs.declared.op.Access.{Access}
-use Rattle.vax_core.specs.declared.op.Access.TheVariants as access
+use Rattle.vax_core.specs.declared.op.Access.TheVariants as accesses
 use Rattle.vax_core.specs.declared.op.OperandKind.{OperandKind}
 use Rattle.vax_core.specs.Ops.{shape}
 use Rattle.vax_machine.specs.declared.function.Function.{Function}
@@ -31,7 +31,7 @@ use Rattle.vax_templates.specs.declared.form.Base.{Base}
 use Rattle.vax_templates.specs.declared.form.Base.TheVariants as base
 use Rattle.vax_templates.specs.declared.form.Form.{Form}
 use Rattle.vax_templates.specs.declared.setting.Hole.{Hole}
-use Rattle.vax_templates.specs.declared.setting.Hole.TheVariants as hole
+use Rattle.vax_templates.specs.declared.setting.Hole.TheVariants as hole_kind
 use Rattle.vax_templates.specs.declared.setting.Own.{Own}
 use Rattle.vax_templates.specs.declared.setting.Own.TheVariants as own
 use Rattle.vax_templates.specs.declared.setting.Opening.{Opening}
@@ -122,74 +122,74 @@ WherePlain (At a p) = NoDivision a × PlainIfAny p
 WherePlain w = Unit {0}
 
 constant_plain : (r : Hole) (i : ℕ) (t : Shape) → constant_of r i ≡ Ok t → NoDivision t
-constant_plain hole.Register i t e = absurd (err_ok _ t e)
-constant_plain (hole.Value z) i t e = absurd (err_ok _ t e)
-constant_plain (hole.Place z) i t e = absurd (err_ok _ t e)
-constant_plain hole.Local i t e = absurd (err_ok _ t e)
-constant_plain (hole.SavedPlace z) i t e = absurd (err_ok _ t e)
-constant_plain hole.Address i t e = absurd (err_ok _ t e)
-constant_plain hole.Constant i t e = subst NoDivision (ok_same _ t e) tt
-constant_plain (hole.Literal n) i t e = subst NoDivision (ok_same _ t e) tt
-constant_plain hole.Object i t e = absurd (err_ok _ t e)
-constant_plain hole.Saved i t e = absurd (err_ok _ t e)
-constant_plain hole.Relation i t e = absurd (err_ok _ t e)
-constant_plain hole.Other i t e = absurd (err_ok _ t e)
+constant_plain hole_kind.Register i t e = absurd (err_ok _ t e)
+constant_plain (hole_kind.Value z) i t e = absurd (err_ok _ t e)
+constant_plain (hole_kind.Place z) i t e = absurd (err_ok _ t e)
+constant_plain hole_kind.Local i t e = absurd (err_ok _ t e)
+constant_plain (hole_kind.SavedPlace z) i t e = absurd (err_ok _ t e)
+constant_plain hole_kind.Address i t e = absurd (err_ok _ t e)
+constant_plain hole_kind.Constant i t e = subst NoDivision (ok_same _ t e) tt
+constant_plain (hole_kind.Literal n) i t e = subst NoDivision (ok_same _ t e) tt
+constant_plain hole_kind.Object i t e = absurd (err_ok _ t e)
+constant_plain hole_kind.Saved i t e = absurd (err_ok _ t e)
+constant_plain hole_kind.Relation i t e = absurd (err_ok _ t e)
+constant_plain hole_kind.Other i t e = absurd (err_ok _ t e)
 
 address_plain : (r : Hole) (i : ℕ) (t : Shape) → address_of r i ≡ Ok t → NoDivision t
-address_plain hole.Register i t e = absurd (err_ok _ t e)
-address_plain (hole.Value z) i t e = absurd (err_ok _ t e)
-address_plain (hole.Place z) i t e = absurd (err_ok _ t e)
-address_plain hole.Local i t e = absurd (err_ok _ t e)
-address_plain (hole.SavedPlace z) i t e = absurd (err_ok _ t e)
-address_plain hole.Address i t e = absurd (err_ok _ t e)
-address_plain hole.Constant i t e = subst NoDivision (ok_same _ t e) tt
-address_plain (hole.Literal n) i t e = subst NoDivision (ok_same _ t e) tt
-address_plain hole.Object i t e = subst NoDivision (ok_same _ t e) tt
-address_plain hole.Saved i t e = absurd (err_ok _ t e)
-address_plain hole.Relation i t e = absurd (err_ok _ t e)
-address_plain hole.Other i t e = absurd (err_ok _ t e)
+address_plain hole_kind.Register i t e = absurd (err_ok _ t e)
+address_plain (hole_kind.Value z) i t e = absurd (err_ok _ t e)
+address_plain (hole_kind.Place z) i t e = absurd (err_ok _ t e)
+address_plain hole_kind.Local i t e = absurd (err_ok _ t e)
+address_plain (hole_kind.SavedPlace z) i t e = absurd (err_ok _ t e)
+address_plain hole_kind.Address i t e = absurd (err_ok _ t e)
+address_plain hole_kind.Constant i t e = subst NoDivision (ok_same _ t e) tt
+address_plain (hole_kind.Literal n) i t e = subst NoDivision (ok_same _ t e) tt
+address_plain hole_kind.Object i t e = subst NoDivision (ok_same _ t e) tt
+address_plain hole_kind.Saved i t e = absurd (err_ok _ t e)
+address_plain hole_kind.Relation i t e = absurd (err_ok _ t e)
+address_plain hole_kind.Other i t e = absurd (err_ok _ t e)
 
 register_plain : (r : Hole) (i : ℕ) (t : Shape) → register_of r i ≡ Ok t → NoDivision t
-register_plain hole.Register i t e = subst NoDivision (ok_same _ t e) tt
-register_plain (hole.Value z) i t e = absurd (err_ok _ t e)
-register_plain (hole.Place z) i t e = absurd (err_ok _ t e)
-register_plain hole.Local i t e = absurd (err_ok _ t e)
-register_plain (hole.SavedPlace z) i t e = absurd (err_ok _ t e)
-register_plain hole.Address i t e = absurd (err_ok _ t e)
-register_plain hole.Constant i t e = absurd (err_ok _ t e)
-register_plain (hole.Literal n) i t e = absurd (err_ok _ t e)
-register_plain hole.Object i t e = absurd (err_ok _ t e)
-register_plain hole.Saved i t e = absurd (err_ok _ t e)
-register_plain hole.Relation i t e = absurd (err_ok _ t e)
-register_plain hole.Other i t e = absurd (err_ok _ t e)
+register_plain hole_kind.Register i t e = subst NoDivision (ok_same _ t e) tt
+register_plain (hole_kind.Value z) i t e = absurd (err_ok _ t e)
+register_plain (hole_kind.Place z) i t e = absurd (err_ok _ t e)
+register_plain hole_kind.Local i t e = absurd (err_ok _ t e)
+register_plain (hole_kind.SavedPlace z) i t e = absurd (err_ok _ t e)
+register_plain hole_kind.Address i t e = absurd (err_ok _ t e)
+register_plain hole_kind.Constant i t e = absurd (err_ok _ t e)
+register_plain (hole_kind.Literal n) i t e = absurd (err_ok _ t e)
+register_plain hole_kind.Object i t e = absurd (err_ok _ t e)
+register_plain hole_kind.Saved i t e = absurd (err_ok _ t e)
+register_plain hole_kind.Relation i t e = absurd (err_ok _ t e)
+register_plain hole_kind.Other i t e = absurd (err_ok _ t e)
 
 hole_plain : (r : Hole) (i : ℕ) (w : Where) → where_hole r i ≡ Ok w → WherePlain w
-hole_plain hole.Register i w e = subst WherePlain (ok_same _ w e) tt
-hole_plain (hole.Value z) i w e = subst WherePlain (ok_same _ w e) tt
-hole_plain (hole.Place z) i w e = subst WherePlain (ok_same _ w e) tt
-hole_plain hole.Local i w e = subst WherePlain (ok_same _ w e) tt
-hole_plain (hole.SavedPlace z) i w e = subst WherePlain (ok_same _ w e) tt
-hole_plain hole.Address i w e = subst WherePlain (ok_same _ w e) (tt, tt)
-hole_plain hole.Constant i w e = absurd (err_ok _ w e)
-hole_plain (hole.Literal n) i w e = absurd (err_ok _ w e)
-hole_plain hole.Object i w e = subst WherePlain (ok_same _ w e) (tt, tt)
-hole_plain hole.Saved i w e = subst WherePlain (ok_same _ w e) tt
-hole_plain hole.Relation i w e = absurd (err_ok _ w e)
-hole_plain hole.Other i w e = absurd (err_ok _ w e)
+hole_plain hole_kind.Register i w e = subst WherePlain (ok_same _ w e) tt
+hole_plain (hole_kind.Value z) i w e = subst WherePlain (ok_same _ w e) tt
+hole_plain (hole_kind.Place z) i w e = subst WherePlain (ok_same _ w e) tt
+hole_plain hole_kind.Local i w e = subst WherePlain (ok_same _ w e) tt
+hole_plain (hole_kind.SavedPlace z) i w e = subst WherePlain (ok_same _ w e) tt
+hole_plain hole_kind.Address i w e = subst WherePlain (ok_same _ w e) (tt, tt)
+hole_plain hole_kind.Constant i w e = absurd (err_ok _ w e)
+hole_plain (hole_kind.Literal n) i w e = absurd (err_ok _ w e)
+hole_plain hole_kind.Object i w e = subst WherePlain (ok_same _ w e) (tt, tt)
+hole_plain hole_kind.Saved i w e = subst WherePlain (ok_same _ w e) tt
+hole_plain hole_kind.Relation i w e = absurd (err_ok _ w e)
+hole_plain hole_kind.Other i w e = absurd (err_ok _ w e)
 
 deferred_plain : (r : Hole) (i : ℕ) (w : Where) → where_deferred r i ≡ Ok w → WherePlain w
-deferred_plain hole.Register i w e = absurd (err_ok _ w e)
-deferred_plain (hole.Value z) i w e = absurd (err_ok _ w e)
-deferred_plain (hole.Place z) i w e = absurd (err_ok _ w e)
-deferred_plain hole.Local i w e = subst WherePlain (ok_same _ w e) (tt, tt)
-deferred_plain (hole.SavedPlace z) i w e = absurd (err_ok _ w e)
-deferred_plain hole.Address i w e = absurd (err_ok _ w e)
-deferred_plain hole.Constant i w e = absurd (err_ok _ w e)
-deferred_plain (hole.Literal n) i w e = absurd (err_ok _ w e)
-deferred_plain hole.Object i w e = subst WherePlain (ok_same _ w e) (tt, tt)
-deferred_plain hole.Saved i w e = absurd (err_ok _ w e)
-deferred_plain hole.Relation i w e = absurd (err_ok _ w e)
-deferred_plain hole.Other i w e = absurd (err_ok _ w e)
+deferred_plain hole_kind.Register i w e = absurd (err_ok _ w e)
+deferred_plain (hole_kind.Value z) i w e = absurd (err_ok _ w e)
+deferred_plain (hole_kind.Place z) i w e = absurd (err_ok _ w e)
+deferred_plain hole_kind.Local i w e = subst WherePlain (ok_same _ w e) (tt, tt)
+deferred_plain (hole_kind.SavedPlace z) i w e = absurd (err_ok _ w e)
+deferred_plain hole_kind.Address i w e = absurd (err_ok _ w e)
+deferred_plain hole_kind.Constant i w e = absurd (err_ok _ w e)
+deferred_plain (hole_kind.Literal n) i w e = absurd (err_ok _ w e)
+deferred_plain hole_kind.Object i w e = subst WherePlain (ok_same _ w e) (tt, tt)
+deferred_plain hole_kind.Saved i w e = absurd (err_ok _ w e)
+deferred_plain hole_kind.Relation i w e = absurd (err_ok _ w e)
+deferred_plain hole_kind.Other i w e = absurd (err_ok _ w e)
 
 own_none : (o : Own) (t : Shape) → own_value o None ≡ Ok t → ⊥
 own_none own.Nothing t e = err_ok _ t e
@@ -369,17 +369,17 @@ module _ (s : Setting) (roles : List Hole) where
 
   taken_plain : (kind : Access) (w : Where) (size : Size) (t : Taken) → WherePlain w → taken s None kind w size ≡ Ok t → TakenPlain t
   unfolding taken
-  taken_plain access.Read w size t p e = fetched_plain w size t p e
-  taken_plain access.Modify w size t p e =
+  taken_plain accesses.Read w size t p e = fetched_plain w size t p e
+  taken_plain accesses.Modify w size t p e =
       let d = chained (fetched s None w size) (λ (u : Taken). targeted s w size >>= both u) t e in
       let x = chained (targeted s w size) (both d.first) t d.then_so in
       let h = fetched_plain w size d.first p d.is in
       subst TakenPlain (ok_same _ t x.then_so) (record { term_so = h.term_so; reads_so = h.reads_so; aim_so = targeted_plain w size x.first p x.is })
-  taken_plain access.Write w size t p e =
+  taken_plain accesses.Write w size t p e =
       let x = chained (targeted s w size) written t e in
       subst TakenPlain (ok_same _ t x.then_so) (record { term_so = tt; reads_so = tt; aim_so = targeted_plain w size x.first p x.is })
-  taken_plain access.Address w size t p e = addressed_plain w size t p e
-  taken_plain access.Count w size t p e = absurd (err_ok _ t e)
+  taken_plain accesses.Address w size t p e = addressed_plain w size t p e
+  taken_plain accesses.Count w size t p e = absurd (err_ok _ t e)
 
   evaluated_plain : (k : OperandKind) (f : Form) (t : Taken) → evaluated s roles None k f ≡ Ok t → TakenPlain t
   unfolding evaluated

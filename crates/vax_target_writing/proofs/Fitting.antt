@@ -6,7 +6,7 @@ use Rattle.std.proofs.lemmas.Bool.Decides.{nat_tests}
 use Rattle.gg_base.specs.Arithmetic.{neg32}
 use Rattle.tree_core.specs.declared.token.Tok.{Tok}
 use Rattle.tree_core.specs.declared.token.Tok.TheVariants as tok
-use Rattle.tree_core.specs.declared.token.AttKind.TheVariants as attkind
+use Rattle.tree_core.specs.declared.token.AttKind.TheVariants as att_kind
 use Rattle.tree_core.specs.declared.tree.Att.{Att}
 use Rattle.tree_core.specs.declared.tree.Att.TheVariants as att
 use Rattle.tree_core.specs.declared.program.Object.{Object}
@@ -16,7 +16,7 @@ use Rattle.md_reader.specs.declared.types.Kind.{Kind}
 use Rattle.md_reader.specs.declared.types.Kind.TheVariants as kind
 use Rattle.md_reader.specs.declared.types.Class.{Class}
 use Rattle.md_reader.specs.declared.types.Sym.{Sym}
-use Rattle.md_reader.specs.declared.types.Sym.TheVariants as sym
+use Rattle.md_reader.specs.declared.types.Sym.TheVariants as grammar_symbol
 use Rattle.md_reader.specs.declared.types.Give.{Give}
 use Rattle.md_reader.specs.declared.types.Give.TheVariants as give
 use Rattle.md_reader.specs.Patterns.{kind_at}
@@ -117,7 +117,7 @@ named_is_addr None offset e = absurd (cc)
 named_is_addr (Some name) offset e = e
 
 module _ (q : TreeProgram) (can : CanWrite q) where
-  own_number : (k : ℕ) (a : Att) → is_of_kind (attkind.Own k) a ≡ true → IsSpelled q a → IsNumber (addr_of_att q a)
+  own_number : (k : ℕ) (a : Att) → is_of_kind (att_kind.Own k) a ≡ true → IsSpelled q a → IsNumber (addr_of_att q a)
   own_number k (att.Number n) e lt = record { addr = is_below n (2 ^ 32) lt; long = is_below n (2 ^ 32) lt }
   own_number k att.Nothing e lt = absurd (cc)
   own_number k (att.Object object offset) e lt = absurd (cc)
@@ -126,7 +126,7 @@ module _ (q : TreeProgram) (can : CanWrite q) where
   own_number k (att.Label label) e lt = absurd (cc)
   own_number k (att.Callee function count) e lt = absurd (cc)
 
-  other_number : (a : Att) → is_of_kind attkind.Other a ≡ true → IsSpelled q a → IsNumber (addr_of_att q a)
+  other_number : (a : Att) → is_of_kind att_kind.Other a ≡ true → IsSpelled q a → IsNumber (addr_of_att q a)
   other_number (att.Number n) e lt = record { addr = is_below n (2 ^ 32) lt; long = is_below n (2 ^ 32) lt }
   other_number att.Nothing e lt = absurd (cc)
   other_number (att.Object object offset) e lt = absurd (cc)
@@ -146,7 +146,7 @@ module _ (q : TreeProgram) (can : CanWrite q) where
   object_named object offset e h =
       label_named q.objects object offset can.objects h.0 (both_true (is_long offset) (not (offset == 2 ^ 31)) (is_below offset (2 ^ 32) h.1) e)
 
-  object_spells : (a : Att) → is_of_kind attkind.Object a ≡ true → IsSpelled q a → IsObject q (attr.Token (record { tok = tok.Gaddr; att = a }))
+  object_spells : (a : Att) → is_of_kind att_kind.Object a ≡ true → IsSpelled q a → IsObject q (attr.Token (record { tok = tok.Gaddr; att = a }))
   object_spells (att.Object object offset) e h =
       let n = object_named object offset e h in
       record {
@@ -161,7 +161,7 @@ module _ (q : TreeProgram) (can : CanWrite q) where
   object_spells (att.Label label) e h = absurd (cc)
   object_spells (att.Callee function count) e h = absurd (cc)
 
-  local_spells : (a : Att) → is_of_kind attkind.Local a ≡ true → InFrame a → IsLocal q (attr.Token (record { tok = tok.Loc; att = a }))
+  local_spells : (a : Att) → is_of_kind att_kind.Local a ≡ true → InFrame a → IsLocal q (attr.Token (record { tok = tok.Loc; att = a }))
   local_spells (att.Slot k) e lt = record { place = word_memory k lt; deferred = word_deferred k lt }
   local_spells att.Nothing e lt = absurd (cc)
   local_spells (att.Number n) e lt = absurd (cc)
@@ -170,7 +170,7 @@ module _ (q : TreeProgram) (can : CanWrite q) where
   local_spells (att.Label label) e lt = absurd (cc)
   local_spells (att.Callee function count) e lt = absurd (cc)
 
-  argument_spells : (a : Att) → is_of_kind attkind.Argument a ≡ true → IsLocal q (attr.Token (record { tok = tok.Arg; att = a }))
+  argument_spells : (a : Att) → is_of_kind att_kind.Argument a ≡ true → IsLocal q (attr.Token (record { tok = tok.Arg; att = a }))
   argument_spells (att.Slot k) e =
       let few = second (nat_le 1 k) (nat_le k 255) e in
       record { place = argument_memory k few; deferred = argument_deferred k few }
@@ -181,7 +181,7 @@ module _ (q : TreeProgram) (can : CanWrite q) where
   argument_spells (att.Label label) e = absurd (cc)
   argument_spells (att.Callee function count) e = absurd (cc)
 
-  saved_spells : (a : Att) → is_of_kind attkind.Local a ≡ true → InFrame a → IsMemory (operand_in q (attr.Token (record { tok = tok.Save; att = a })))
+  saved_spells : (a : Att) → is_of_kind att_kind.Local a ≡ true → InFrame a → IsMemory (operand_in q (attr.Token (record { tok = tok.Save; att = a })))
   saved_spells (att.Slot k) e lt = word_memory k lt
   saved_spells att.Nothing e lt = absurd (cc)
   saved_spells (att.Number n) e lt = absurd (cc)
@@ -249,16 +249,16 @@ module _ (q : TreeProgram) (can : CanWrite q) where
   class_spells (Some kind.Nothing) h f = tt
 
   symbol_spells : (classes : List Class) (s : Sym) (h : Attr Operand) → SymFits vax classes s h → TokenIsSpelled q h → Spells q (hole_of classes s) h
-  symbol_spells classes (sym.Class c) h f sp = class_spells (kind_at classes c) h f
-  symbol_spells classes (sym.Tok x) (attr.Token l) f sp =
+  symbol_spells classes (grammar_symbol.Class c) h f sp = class_spells (kind_at classes c) h f
+  symbol_spells classes (grammar_symbol.Tok x) (attr.Token l) f sp =
       subst (λ y. Spells q (hole_of_token y) (attr.Token l)) f.0 (token_spells l.tok l.att f.1 f.2 sp)
-  symbol_spells classes (sym.Tok x) (attr.Reg r) f sp = absurd f
-  symbol_spells classes (sym.Tok x) (attr.InSlot w) f sp = absurd f
-  symbol_spells classes (sym.Tok x) (attr.Value o) f sp = absurd f
-  symbol_spells classes (sym.Tok x) (attr.Place o) f sp = absurd f
-  symbol_spells classes (sym.Tok x) (attr.Con n) f sp = absurd f
-  symbol_spells classes (sym.Tok x) (attr.Ea o) f sp = absurd f
-  symbol_spells classes (sym.Tok x) attr.Nothing f sp = absurd f
+  symbol_spells classes (grammar_symbol.Tok x) (attr.Reg r) f sp = absurd f
+  symbol_spells classes (grammar_symbol.Tok x) (attr.InSlot w) f sp = absurd f
+  symbol_spells classes (grammar_symbol.Tok x) (attr.Value o) f sp = absurd f
+  symbol_spells classes (grammar_symbol.Tok x) (attr.Place o) f sp = absurd f
+  symbol_spells classes (grammar_symbol.Tok x) (attr.Con n) f sp = absurd f
+  symbol_spells classes (grammar_symbol.Tok x) (attr.Ea o) f sp = absurd f
+  symbol_spells classes (grammar_symbol.Tok x) attr.Nothing f sp = absurd f
 
   pub all_spell : (classes : List Class) (right : List Sym) (hs : List (Attr Operand)) → Fit vax classes right hs → AreSpelled q hs → AllSpell q (holes_of classes right) hs
   all_spell classes [] [] f sp = tt

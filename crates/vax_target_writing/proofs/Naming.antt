@@ -11,7 +11,7 @@ use Rattle.std.proofs.lemmas.List.Folds.{list_all-append}
 use Rattle.tree_core.specs.declared.token.Tok.{Tok}
 use Rattle.tree_core.specs.declared.token.Tok.TheVariants as tok
 use Rattle.tree_core.specs.declared.token.AttKind.{AttKind}
-use Rattle.tree_core.specs.declared.token.AttKind.TheVariants as attkind
+use Rattle.tree_core.specs.declared.token.AttKind.TheVariants as att_kind
 use Rattle.tree_core.specs.declared.tree.Att.{Att}
 use Rattle.tree_core.specs.declared.tree.Att.TheVariants as att
 use Rattle.tree_core.specs.declared.tree.Leaf.{Leaf}
@@ -25,7 +25,7 @@ use Rattle.md_reader.specs.declared.types.Kind.{Kind}
 use Rattle.md_reader.specs.declared.types.Kind.TheVariants as kind
 use Rattle.md_reader.specs.declared.types.Class.{Class}
 use Rattle.md_reader.specs.declared.types.Sym.{Sym}
-use Rattle.md_reader.specs.declared.types.Sym.TheVariants as sym
+use Rattle.md_reader.specs.declared.types.Sym.TheVariants as grammar_symbol
 use Rattle.md_reader.specs.Patterns.{kind_at}
 use Rattle.md_reader.specs.Rows.{is_branch, is_jump, is_call, any_symbol, behind_j, hole_behind, relation_fits, piece_fits, pieces_fit, line_fits}
 use Rattle.md_reader.specs.Valid.{MayWrite}
@@ -83,7 +83,7 @@ HasLabel h = (n : ℕ) × (label_in h ≡ Some n)
 abbrev HasCallee : Attr Operand → Type 0
 HasCallee h = (c : ℕ × ℕ) × (callee_in h ≡ Some c)
 
-branch_label : (a : Att) → is_of_kind attkind.Branch a ≡ true → (n : ℕ) × (label_of_att a ≡ Some n)
+branch_label : (a : Att) → is_of_kind att_kind.Branch a ≡ true → (n : ℕ) × (label_of_att a ≡ Some n)
 branch_label (att.Branch rel label) e = (label, refl)
 branch_label att.Nothing e = absurd (cc)
 branch_label (att.Number n) e = absurd (cc)
@@ -92,7 +92,7 @@ branch_label (att.Slot k) e = absurd (cc)
 branch_label (att.Label label) e = absurd (cc)
 branch_label (att.Callee function count) e = absurd (cc)
 
-jump_label : (a : Att) → is_of_kind attkind.Label a ≡ true → (n : ℕ) × (label_of_att a ≡ Some n)
+jump_label : (a : Att) → is_of_kind att_kind.Label a ≡ true → (n : ℕ) × (label_of_att a ≡ Some n)
 jump_label (att.Label label) e = (label, refl)
 jump_label att.Nothing e = absurd (cc)
 jump_label (att.Number n) e = absurd (cc)
@@ -101,7 +101,7 @@ jump_label (att.Slot k) e = absurd (cc)
 jump_label (att.Branch rel label) e = absurd (cc)
 jump_label (att.Callee function count) e = absurd (cc)
 
-call_callee : (a : Att) → is_of_kind attkind.Callee a ≡ true → (c : ℕ × ℕ) × (callee_of_att a ≡ Some c)
+call_callee : (a : Att) → is_of_kind att_kind.Callee a ≡ true → (c : ℕ × ℕ) × (callee_of_att a ≡ Some c)
 call_callee (att.Callee function count) e = ((function, count), refl)
 call_callee att.Nothing e = absurd (cc)
 call_callee (att.Number n) e = absurd (cc)
@@ -116,7 +116,7 @@ pub record IsToken (x : Tok) (h : Attr Operand) : Type 0 where
   pub is : h ≡ attr.Token leaf
   pub fits : is_of_kind (attribute_of x) leaf.att ≡ true
 
-token_is : (classes : List Class) (x : Tok) (h : Attr Operand) → SymFits vax classes (sym.Tok x) h → IsToken x h
+token_is : (classes : List Class) (x : Tok) (h : Attr Operand) → SymFits vax classes (grammar_symbol.Tok x) h → IsToken x h
 token_is classes x (attr.Token l) f = record { leaf = l; is = refl; fits = subst (λ y. is_of_kind (attribute_of y) l.att ≡ true) f.0 f.1 }
 token_is classes x (attr.Reg r) f = absurd f
 token_is classes x (attr.InSlot w) f = absurd f
@@ -130,15 +130,15 @@ label_of_token : (x : Tok) (h : Attr Operand) (t : IsToken x h) → (n : ℕ) ×
 label_of_token x h t l = (l.0, ap label_in t.is ∙ l.1)
 
 branch_has : (classes : List Class) (s : Sym) (h : Attr Operand) → SymFits vax classes s h → is_branch (Some s) ≡ true → HasLabel h
-branch_has classes (sym.Tok tok.Cbr) h f e = let t = token_is classes tok.Cbr h f in label_of_token tok.Cbr h t (branch_label t.leaf.att t.fits)
+branch_has classes (grammar_symbol.Tok tok.Cbr) h f e = let t = token_is classes tok.Cbr h f in label_of_token tok.Cbr h t (branch_label t.leaf.att t.fits)
 branch_has classes s h f e = absurd (cc)
 
 jump_has : (classes : List Class) (s : Sym) (h : Attr Operand) → SymFits vax classes s h → is_jump (Some s) ≡ true → HasLabel h
-jump_has classes (sym.Tok tok.Jump) h f e = let t = token_is classes tok.Jump h f in label_of_token tok.Jump h t (jump_label t.leaf.att t.fits)
+jump_has classes (grammar_symbol.Tok tok.Jump) h f e = let t = token_is classes tok.Jump h f in label_of_token tok.Jump h t (jump_label t.leaf.att t.fits)
 jump_has classes s h f e = absurd (cc)
 
 call_has : (classes : List Class) (s : Sym) (h : Attr Operand) → SymFits vax classes s h → is_call (Some s) ≡ true → HasCallee h
-call_has classes (sym.Tok tok.Call) h f e =
+call_has classes (grammar_symbol.Tok tok.Call) h f e =
     let t = token_is classes tok.Call h f in
     let c = call_callee t.leaf.att t.fits in
     (c.0, ap callee_in t.is ∙ c.1)
@@ -170,15 +170,15 @@ attr_small q (attr.Ea o) n e sp = absurd (no_some n e)
 attr_small q attr.Nothing n e sp = absurd (no_some n e)
 
 count_few : (k : AttKind) (function count : ℕ) → is_of_kind k (att.Callee function count) ≡ true → count ≤ 255
-count_few attkind.Callee function count e = grind (arith, nat_tests)
-count_few attkind.Nothing function count e = absurd (cc)
-count_few (attkind.Own n) function count e = absurd (cc)
-count_few attkind.Other function count e = absurd (cc)
-count_few attkind.Object function count e = absurd (cc)
-count_few attkind.Local function count e = absurd (cc)
-count_few attkind.Argument function count e = absurd (cc)
-count_few attkind.Branch function count e = absurd (cc)
-count_few attkind.Label function count e = absurd (cc)
+count_few att_kind.Callee function count e = grind (arith, nat_tests)
+count_few att_kind.Nothing function count e = absurd (cc)
+count_few (att_kind.Own n) function count e = absurd (cc)
+count_few att_kind.Other function count e = absurd (cc)
+count_few att_kind.Object function count e = absurd (cc)
+count_few att_kind.Local function count e = absurd (cc)
+count_few att_kind.Argument function count e = absurd (cc)
+count_few att_kind.Branch function count e = absurd (cc)
+count_few att_kind.Label function count e = absurd (cc)
 
 att_few : (k : AttKind) (a : Att) (c : ℕ × ℕ) → callee_of_att a ≡ Some c → is_of_kind k a ≡ true → c.1 ≤ 255
 att_few k (att.Callee function count) c e f = subst (λ (d : ℕ × ℕ). d.1 ≤ 255) (some_is (function, count) c e) (count_few k function count f)
@@ -199,16 +199,16 @@ no_token (Some kind.Ea) l f = f
 no_token (Some kind.Nothing) l f = f
 
 symbol_few : (classes : List Class) (s : Sym) (h : Attr Operand) (c : ℕ × ℕ) → SymFits vax classes s h → callee_in h ≡ Some c → c.1 ≤ 255
-symbol_few classes (sym.Tok x) (attr.Token l) c f e = att_few (attribute_of l.tok) l.att c e f.1
-symbol_few classes (sym.Tok x) (attr.Reg r) c f e = absurd f
-symbol_few classes (sym.Tok x) (attr.InSlot w) c f e = absurd f
-symbol_few classes (sym.Tok x) (attr.Value o) c f e = absurd f
-symbol_few classes (sym.Tok x) (attr.Place o) c f e = absurd f
-symbol_few classes (sym.Tok x) (attr.Con n) c f e = absurd f
-symbol_few classes (sym.Tok x) (attr.Ea o) c f e = absurd f
-symbol_few classes (sym.Tok x) attr.Nothing c f e = absurd f
-symbol_few classes (sym.Class k) h c f e = class_few h f e where
-  class_few : (h : Attr Operand) → SymFits vax classes (sym.Class k) h → callee_in h ≡ Some c → c.1 ≤ 255
+symbol_few classes (grammar_symbol.Tok x) (attr.Token l) c f e = att_few (attribute_of l.tok) l.att c e f.1
+symbol_few classes (grammar_symbol.Tok x) (attr.Reg r) c f e = absurd f
+symbol_few classes (grammar_symbol.Tok x) (attr.InSlot w) c f e = absurd f
+symbol_few classes (grammar_symbol.Tok x) (attr.Value o) c f e = absurd f
+symbol_few classes (grammar_symbol.Tok x) (attr.Place o) c f e = absurd f
+symbol_few classes (grammar_symbol.Tok x) (attr.Con n) c f e = absurd f
+symbol_few classes (grammar_symbol.Tok x) (attr.Ea o) c f e = absurd f
+symbol_few classes (grammar_symbol.Tok x) attr.Nothing c f e = absurd f
+symbol_few classes (grammar_symbol.Class k) h c f e = class_few h f e where
+  class_few : (h : Attr Operand) → SymFits vax classes (grammar_symbol.Class k) h → callee_in h ≡ Some c → c.1 ≤ 255
   class_few (attr.Token l) f e = absurd (no_token (kind_at classes k) l f)
   class_few (attr.Reg r) f e = absurd (no_some c e)
   class_few (attr.InSlot w) f e = absurd (no_some c e)
@@ -307,12 +307,12 @@ all_names q classes right hs register (l ∷ ls) can f sp h =
     (line_names q classes right hs register l.pieces can f sp h.0, all_names q classes right hs register ls can f sp h.1)
 
 -- a line that saves or reloads names none
-pub spill_names : (q : TreeProgram) (hs : List (Attr Operand)) (ps : List Piece) → line_fits true (sym.Class 0 ∷ []) ps ≡ true → Names q hs ps
+pub spill_names : (q : TreeProgram) (hs : List (Attr Operand)) (ps : List Piece) → line_fits true (grammar_symbol.Class 0 ∷ []) ps ≡ true → Names q hs ps
 spill_names q hs ps e =
-    let fit = pieces_of_line true (sym.Class 0 ∷ []) ps e in
+    let fit = pieces_of_line true (grammar_symbol.Class 0 ∷ []) ps e in
     record {
-      label = λ named. absurd (untrue (label_allowed true (sym.Class 0 ∷ []) ps fit named));
-      callee = λ named. absurd (untrue (callee_allowed true (sym.Class 0 ∷ []) ps fit named));
+      label = λ named. absurd (untrue (label_allowed true (grammar_symbol.Class 0 ∷ []) ps fit named));
+      callee = λ named. absurd (untrue (callee_allowed true (grammar_symbol.Class 0 ∷ []) ps fit named));
     } where
       untrue : false ≡ true → ⊥
       untrue e = cc

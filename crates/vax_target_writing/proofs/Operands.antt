@@ -17,7 +17,7 @@ use Rattle.vax_core.specs.declared.operand.Operand.{Operand}
 use Rattle.vax_core.specs.declared.register.Reg.{Reg}
 use Rattle.vax_core.specs.declared.register.Reg.TheVariants.{R0}
 use Rattle.vax_core.specs.declared.op.Access.{Access}
-use Rattle.vax_core.specs.declared.op.Access.TheVariants as access
+use Rattle.vax_core.specs.declared.op.Access.TheVariants as accesses
 use Rattle.vax_core.specs.declared.op.OperandKind.{OperandKind}
 use Rattle.vax_core.specs.Valid.{is_long, is_addr, is_base, is_place, is_memory, is_index, allows, is_operand, are_operands}
 use Rattle.vax_templates.specs.declared.form.Number.{Number}
@@ -26,7 +26,7 @@ use Rattle.vax_templates.specs.declared.form.Base.TheVariants as base
 use Rattle.vax_templates.specs.declared.form.Base.{Base as FormBase}
 use Rattle.vax_templates.specs.declared.form.Form.{Form}
 use Rattle.vax_templates.specs.declared.setting.Hole.{Hole}
-use Rattle.vax_templates.specs.declared.setting.Hole.TheVariants as hole
+use Rattle.vax_templates.specs.declared.setting.Hole.TheVariants as hole_kind
 use Rattle.vax_templates.specs.declared.setting.Own.{Own}
 use Rattle.vax_templates.specs.declared.setting.Own.TheVariants as own
 use Rattle.vax_templates.specs.declared.setting.Opening.{Opening}
@@ -164,18 +164,18 @@ pub record IsLocal (q : TreeProgram) (a : Attr Operand) : Type 0 where
 
 -- what stands for a hole can be spelled there
 abbrev pub Spells : TreeProgram → Hole → Attr Operand → Type 0
-Spells q hole.Register a = IsReadable (operand_in q a)
-Spells q (hole.Value z) a = IsReadable (operand_in q a)
-Spells q (hole.Place z) a = IsMemory (operand_in q a)
-Spells q hole.Local a = IsLocal q a
-Spells q (hole.SavedPlace z) a = IsMemory (operand_in q a)
-Spells q hole.Address a = IsPlain (operand_in q a)
-Spells q hole.Constant a = IsNumber (addr_in q a)
-Spells q (hole.Literal n) a = IsNumber (addr_in q a)
-Spells q hole.Object a = IsObject q a
-Spells q hole.Saved a = IsMemory (operand_in q a)
-Spells q hole.Relation a = Unit {0}
-Spells q hole.Other a = Unit {0}
+Spells q hole_kind.Register a = IsReadable (operand_in q a)
+Spells q (hole_kind.Value z) a = IsReadable (operand_in q a)
+Spells q (hole_kind.Place z) a = IsMemory (operand_in q a)
+Spells q hole_kind.Local a = IsLocal q a
+Spells q (hole_kind.SavedPlace z) a = IsMemory (operand_in q a)
+Spells q hole_kind.Address a = IsPlain (operand_in q a)
+Spells q hole_kind.Constant a = IsNumber (addr_in q a)
+Spells q (hole_kind.Literal n) a = IsNumber (addr_in q a)
+Spells q hole_kind.Object a = IsObject q a
+Spells q hole_kind.Saved a = IsMemory (operand_in q a)
+Spells q hole_kind.Relation a = Unit {0}
+Spells q hole_kind.Other a = Unit {0}
 
 abbrev pub AllSpell : TreeProgram → List Hole → List (Attr Operand) → Type 0
 AllSpell q [] [] = Unit {0}
@@ -265,60 +265,60 @@ module _ (q : TreeProgram) (s : Setting) (holes : List Hole) (zero' : Option Sha
   own_stands (own.Slot z) h = h
 
   symbol_stands : (h : Hole) (i : ℕ) (a : Attr Operand) → Spells q h a → EachOk (λ w. StandsBare w (operand_in q a)) (where_hole h i)
-  symbol_stands hole.Register i a k = k
-  symbol_stands (hole.Value z) i a k = k
-  symbol_stands (hole.Place z) i a k = k
-  symbol_stands hole.Local i a k = k.place
-  symbol_stands (hole.SavedPlace z) i a k = k
-  symbol_stands hole.Address i a k = k
-  symbol_stands hole.Constant i a k = tt
-  symbol_stands (hole.Literal n) i a k = tt
-  symbol_stands hole.Object i a k = k.place
-  symbol_stands hole.Saved i a k = k
-  symbol_stands hole.Relation i a k = tt
-  symbol_stands hole.Other i a k = tt
+  symbol_stands hole_kind.Register i a k = k
+  symbol_stands (hole_kind.Value z) i a k = k
+  symbol_stands (hole_kind.Place z) i a k = k
+  symbol_stands hole_kind.Local i a k = k.place
+  symbol_stands (hole_kind.SavedPlace z) i a k = k
+  symbol_stands hole_kind.Address i a k = k
+  symbol_stands hole_kind.Constant i a k = tt
+  symbol_stands (hole_kind.Literal n) i a k = tt
+  symbol_stands hole_kind.Object i a k = k.place
+  symbol_stands hole_kind.Saved i a k = k
+  symbol_stands hole_kind.Relation i a k = tt
+  symbol_stands hole_kind.Other i a k = tt
 
   hole_stands : (i : ℕ) → Filling → EachOk (λ w. StandsBare w (operand_in q (attr_at hs res i))) (cond (i == 0) (where_own s.own) (where_hole (hole_at holes i) i))
   hole_stands i h = by (i == 0) where
     by : (b : Bool) → EachOk (λ w. StandsBare w (operand_in q (cond b res (attr_or res (slice_get hs (i - 1))))))
-        (cond b (where_own s.own) (where_hole (cond b hole.Other (hole_or_other (slice_get holes (i - 1)))) i))
+        (cond b (where_own s.own) (where_hole (cond b hole_kind.Other (hole_or_other (slice_get holes (i - 1)))) i))
     by true = own_stands s.own h.1
     by false = symbol_stands (hole_or_other (slice_get holes (i - 1))) i (attr_or res (slice_get hs (i - 1))) (spells_nth q holes hs res (i - 1) h.0)
 
   -- numbers
   constant_is : (h : Hole) (i : ℕ) (a : Attr Operand) → Spells q h a → EachOk (λ (t : Shape). IsNumber (addr_in q a)) (constant_of h i)
-  constant_is hole.Register i a k = tt
-  constant_is (hole.Value z) i a k = tt
-  constant_is (hole.Place z) i a k = tt
-  constant_is hole.Local i a k = tt
-  constant_is (hole.SavedPlace z) i a k = tt
-  constant_is hole.Address i a k = tt
-  constant_is hole.Constant i a k = k
-  constant_is (hole.Literal n) i a k = k
-  constant_is hole.Object i a k = tt
-  constant_is hole.Saved i a k = tt
-  constant_is hole.Relation i a k = tt
-  constant_is hole.Other i a k = tt
+  constant_is hole_kind.Register i a k = tt
+  constant_is (hole_kind.Value z) i a k = tt
+  constant_is (hole_kind.Place z) i a k = tt
+  constant_is hole_kind.Local i a k = tt
+  constant_is (hole_kind.SavedPlace z) i a k = tt
+  constant_is hole_kind.Address i a k = tt
+  constant_is hole_kind.Constant i a k = k
+  constant_is (hole_kind.Literal n) i a k = k
+  constant_is hole_kind.Object i a k = tt
+  constant_is hole_kind.Saved i a k = tt
+  constant_is hole_kind.Relation i a k = tt
+  constant_is hole_kind.Other i a k = tt
 
   address_is : (h : Hole) (i : ℕ) (a : Attr Operand) → Spells q h a → EachOk (λ (t : Shape). is_addr (addr_in q a) ≡ true) (address_of h i)
-  address_is hole.Register i a k = tt
-  address_is (hole.Value z) i a k = tt
-  address_is (hole.Place z) i a k = tt
-  address_is hole.Local i a k = tt
-  address_is (hole.SavedPlace z) i a k = tt
-  address_is hole.Address i a k = tt
-  address_is hole.Constant i a k = k.addr
-  address_is (hole.Literal n) i a k = k.addr
-  address_is hole.Object i a k = k.addr
-  address_is hole.Saved i a k = tt
-  address_is hole.Relation i a k = tt
-  address_is hole.Other i a k = tt
+  address_is hole_kind.Register i a k = tt
+  address_is (hole_kind.Value z) i a k = tt
+  address_is (hole_kind.Place z) i a k = tt
+  address_is hole_kind.Local i a k = tt
+  address_is (hole_kind.SavedPlace z) i a k = tt
+  address_is hole_kind.Address i a k = tt
+  address_is hole_kind.Constant i a k = k.addr
+  address_is (hole_kind.Literal n) i a k = k.addr
+  address_is hole_kind.Object i a k = k.addr
+  address_is hole_kind.Saved i a k = tt
+  address_is hole_kind.Relation i a k = tt
+  address_is hole_kind.Other i a k = tt
 
   number_stands : (n : Number) → IsLongNumber n → AllSpell q holes hs → EachOk (λ (t : Shape). is_addr (number_addr q hs res n) ≡ true) (number_term holes n)
   number_stands (number.Itself n) long h = is_below n (2 ^ 32) long
   number_stands (number.Symbol i) long h = by (i == 0) where
     by : (b : Bool) → EachOk (λ (t : Shape). is_addr (addr_in q (cond b res (attr_or res (slice_get hs (i - 1))))) ≡ true)
-        (address_of (cond b hole.Other (hole_or_other (slice_get holes (i - 1)))) i)
+        (address_of (cond b hole_kind.Other (hole_or_other (slice_get holes (i - 1)))) i)
     by true = tt
     by false = address_is (hole_or_other (slice_get holes (i - 1))) i (attr_or res (slice_get hs (i - 1))) (spells_nth q holes hs res (i - 1) h)
 
@@ -333,29 +333,29 @@ module _ (q : TreeProgram) (s : Setting) (holes : List Hole) (zero' : Option Sha
       longs (Err e) n = tt
 
     by : (b : Bool) → EachOk (λ (t : Shape). is_long (addr_in q (cond b res (attr_or res (slice_get hs (i - 1))))).offset ≡ true)
-        (constant_of (cond b hole.Other (hole_or_other (slice_get holes (i - 1)))) i)
+        (constant_of (cond b hole_kind.Other (hole_or_other (slice_get holes (i - 1)))) i)
     by true = tt
     by false = offset (hole_or_other (slice_get holes (i - 1))) (attr_or res (slice_get hs (i - 1))) (spells_nth q holes hs res (i - 1) h)
 
   -- memory at the address that a symbol holds
   pointed_is : (h : Hole) (i : ℕ) (a : Attr Operand) → Spells q h a → EachOk (λ w. StandsBare w (deferred_in q a)) (where_deferred h i)
-  pointed_is hole.Register i a k = tt
-  pointed_is (hole.Value z) i a k = tt
-  pointed_is (hole.Place z) i a k = tt
-  pointed_is hole.Local i a k = k.deferred
-  pointed_is (hole.SavedPlace z) i a k = tt
-  pointed_is hole.Address i a k = tt
-  pointed_is hole.Constant i a k = tt
-  pointed_is (hole.Literal n) i a k = tt
-  pointed_is hole.Object i a k = k.deferred
-  pointed_is hole.Saved i a k = tt
-  pointed_is hole.Relation i a k = tt
-  pointed_is hole.Other i a k = tt
+  pointed_is hole_kind.Register i a k = tt
+  pointed_is (hole_kind.Value z) i a k = tt
+  pointed_is (hole_kind.Place z) i a k = tt
+  pointed_is hole_kind.Local i a k = k.deferred
+  pointed_is (hole_kind.SavedPlace z) i a k = tt
+  pointed_is hole_kind.Address i a k = tt
+  pointed_is hole_kind.Constant i a k = tt
+  pointed_is (hole_kind.Literal n) i a k = tt
+  pointed_is hole_kind.Object i a k = k.deferred
+  pointed_is hole_kind.Saved i a k = tt
+  pointed_is hole_kind.Relation i a k = tt
+  pointed_is hole_kind.Other i a k = tt
 
   deferred_stands : (i : ℕ) → AllSpell q holes hs → EachOk (λ w. StandsBare w (deferred_in q (attr_at hs res i))) (where_deferred (hole_at holes i) i)
   deferred_stands i h = by (i == 0) where
     by : (b : Bool) → EachOk (λ w. StandsBare w (deferred_in q (cond b res (attr_or res (slice_get hs (i - 1))))))
-        (where_deferred (cond b hole.Other (hole_or_other (slice_get holes (i - 1)))) i)
+        (where_deferred (cond b hole_kind.Other (hole_or_other (slice_get holes (i - 1)))) i)
     by true = tt
     by false = pointed_is (hole_or_other (slice_get holes (i - 1))) i (attr_or res (slice_get hs (i - 1))) (spells_nth q holes hs res (i - 1) h)
 
@@ -476,13 +476,13 @@ module _ (q : TreeProgram) (s : Setting) (holes : List Hole) (zero' : Option Sha
 
   taken_allows : (o : Operand) (a : Access) (w : Where) (size : Size) → Stands w o → EachOk (λ (t : Taken). allows a o.base ≡ true) (taken s zero' a w size)
   unfolding taken
-  taken_allows o access.Read w size h = always_ok (fetched s zero' w size) refl
-  taken_allows o access.Modify w size h =
+  taken_allows o accesses.Read w size h = always_ok (fetched s zero' w size) refl
+  taken_allows o accesses.Modify w size h =
       bind_each (λ (t : Taken). Unit {0}) (λ (t : Taken). is_place o.base ≡ true) (fetched s zero' w size) (λ (t : Taken). targeted s w size >>= both t)
       (λ t u. still_ok _ (targeted s w size) (both t) (targeted_place o w size h)) (always_ok (fetched s zero' w size) tt)
-  taken_allows o access.Write w size h = still_ok _ (targeted s w size) written (targeted_place o w size h)
-  taken_allows o access.Address w size h = addressed_memory o w size h
-  taken_allows o access.Count w size h = tt
+  taken_allows o accesses.Write w size h = still_ok _ (targeted s w size) written (targeted_place o w size h)
+  taken_allows o accesses.Address w size h = addressed_memory o w size h
+  taken_allows o accesses.Count w size h = tt
 
   evaluated_stands : (k : OperandKind) (f : Form) → IsLongForm f → Filling → EachOk (λ (t : Taken). is_operand k (filled q hs res f) ≡ true) (evaluated s holes zero' k f)
   unfolding evaluated

@@ -4,7 +4,7 @@ use Rattle.std.specs.Prelude.{nat_le}
 use Rattle.std.specs.List.{AllByRecursion, list_any}
 use Rattle.std.proofs.lemmas.Bool.Decides.{nat_tests}
 use Rattle.gg_base.specs.declared.relation.Rel.{Rel}
-use Rattle.gg_base.specs.declared.relation.Rel.TheVariants as rel
+use Rattle.gg_base.specs.declared.relation.Rel.TheVariants as relations
 use Rattle.tree_core.specs.declared.tree.Att.{Att}
 use Rattle.tree_core.specs.declared.tree.Att.TheVariants as att
 use Rattle.tree_core.specs.declared.program.TreeProgram.{TreeProgram}
@@ -63,16 +63,16 @@ pub record Names (q : TreeProgram) (hs : List (Attr Operand)) (ps : List Piece) 
   pub callee : list_any is_count_piece ps ≡ true → CanCall q hs
 
 relation_branches : (r : Rel) → ((shape (op_of_relation r)).operands ≡ []) × ((shape (op_of_relation r)).target ≡ true)
-relation_branches rel.Eq = (refl, refl)
-relation_branches rel.Ne = (refl, refl)
-relation_branches rel.Lt = (refl, refl)
-relation_branches rel.Le = (refl, refl)
-relation_branches rel.Gt = (refl, refl)
-relation_branches rel.Ge = (refl, refl)
-relation_branches rel.Ltu = (refl, refl)
-relation_branches rel.Leu = (refl, refl)
-relation_branches rel.Gtu = (refl, refl)
-relation_branches rel.Geu = (refl, refl)
+relation_branches relations.Eq = (refl, refl)
+relation_branches relations.Ne = (refl, refl)
+relation_branches relations.Lt = (refl, refl)
+relation_branches relations.Le = (refl, refl)
+relation_branches relations.Gt = (refl, refl)
+relation_branches relations.Ge = (refl, refl)
+relation_branches relations.Ltu = (refl, refl)
+relation_branches relations.Leu = (refl, refl)
+relation_branches relations.Gtu = (refl, refl)
+relation_branches relations.Geu = (refl, refl)
 
 att_branches : (a : Att) → ((shape (op_of_att a)).operands ≡ []) × ((shape (op_of_att a)).target ≡ true)
 att_branches (att.Branch r label) = relation_branches r

@@ -4,7 +4,7 @@ use Rattle.std.specs.Prelude.{ℕ, ◌-◌, ◌==◌, List, [], ◌∷◌, ◌++
 use Rattle.std.specs.Option.{option_map}
 use Rattle.std.specs.Fmt.{decimal}
 use Rattle.gg_base.specs.declared.relation.Rel.{Rel}
-use Rattle.gg_base.specs.declared.relation.Rel.TheVariants as rel
+use Rattle.gg_base.specs.declared.relation.Rel.TheVariants as relations
 use Rattle.tree_core.specs.declared.tree.Att.{Att}
 use Rattle.tree_core.specs.declared.tree.Att.TheVariants as att
 use Rattle.tree_core.specs.declared.program.TreeFn.{TreeFn}
@@ -22,16 +22,16 @@ use Rattle.vax_templates.specs.Filled.{alone, addr_number, attr_at, filled}
 
 -- the branch of a relation
 abbrev pub op_of_relation : Rel → Op
-op_of_relation rel.Eq = ops.Jeql
-op_of_relation rel.Ne = ops.Jneq
-op_of_relation rel.Lt = ops.Jlss
-op_of_relation rel.Le = ops.Jleq
-op_of_relation rel.Gt = ops.Jgtr
-op_of_relation rel.Ge = ops.Jgeq
-op_of_relation rel.Ltu = ops.Jlssu
-op_of_relation rel.Leu = ops.Jlequ
-op_of_relation rel.Gtu = ops.Jgtru
-op_of_relation rel.Geu = ops.Jgequ
+op_of_relation relations.Eq = ops.Jeql
+op_of_relation relations.Ne = ops.Jneq
+op_of_relation relations.Lt = ops.Jlss
+op_of_relation relations.Le = ops.Jleq
+op_of_relation relations.Gt = ops.Jgtr
+op_of_relation relations.Ge = ops.Jgeq
+op_of_relation relations.Ltu = ops.Jlssu
+op_of_relation relations.Leu = ops.Jlequ
+op_of_relation relations.Gtu = ops.Jgtru
+op_of_relation relations.Geu = ops.Jgequ
 
 abbrev pub op_of_att : Att → Op
 op_of_att (att.Branch r label) = op_of_relation r

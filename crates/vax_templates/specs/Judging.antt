@@ -21,7 +21,7 @@ use Rattle.vax_templates.specs.declared.form.Base.{Base}
 use Rattle.vax_templates.specs.declared.form.Base.TheVariants as base
 use Rattle.vax_templates.specs.declared.form.Form.{Form}
 use Rattle.vax_templates.specs.declared.setting.Hole.{Hole}
-use Rattle.vax_templates.specs.declared.setting.Hole.TheVariants as hole
+use Rattle.vax_templates.specs.declared.setting.Hole.TheVariants as hole_kind
 use Rattle.vax_templates.specs.declared.setting.Setting.{Setting}
 use Rattle.vax_templates.specs.Settings.{hole_at}
 use Rattle.vax_templates.specs.Instructions.{Instruction, Relation, Jump, Calls, Ret, Operates, instruction_of}
@@ -58,7 +58,7 @@ abbrev pub ends_statement : Setting → ActShape → Result Deed TemplateKind
 ends_statement s deed = if s.is_statement then ends deed else Err NotInstr
 
 abbrev pub is_relation : Hole → Bool
-is_relation hole.Relation = true
+is_relation hole_kind.Relation = true
 is_relation h = false
 
 -- a branch stands directly behind a comparison, or behind a test of bits where the relation compares with signs
@@ -107,12 +107,12 @@ acted s action.Return op x = Err NotInstr
 
 -- an operand of a symbol, which is read where it is spelled; constants and objects are numbers of the instruction
 abbrev pub is_operand : Hole → Bool
-is_operand hole.Register = true
-is_operand (hole.Value z) = true
-is_operand (hole.Place z) = true
-is_operand hole.Local = true
-is_operand (hole.SavedPlace z) = true
-is_operand hole.Address = true
+is_operand hole_kind.Register = true
+is_operand (hole_kind.Value z) = true
+is_operand (hole_kind.Place z) = true
+is_operand hole_kind.Local = true
+is_operand (hole_kind.SavedPlace z) = true
+is_operand hole_kind.Address = true
 is_operand h = false
 
 abbrev pub index_is_operand : List Hole → Option ℕ → Bool

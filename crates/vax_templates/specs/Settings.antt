@@ -7,7 +7,7 @@ use Rattle.md_reader.specs.declared.types.Kind.{Kind}
 use Rattle.md_reader.specs.declared.types.Kind.TheVariants as kind
 use Rattle.md_reader.specs.declared.types.Class.{Class}
 use Rattle.md_reader.specs.declared.types.Sym.{Sym}
-use Rattle.md_reader.specs.declared.types.Sym.TheVariants as sym
+use Rattle.md_reader.specs.declared.types.Sym.TheVariants as grammar_symbol
 use Rattle.md_reader.specs.declared.types.Restriction.{Restriction}
 use Rattle.md_reader.specs.declared.types.Restriction.TheVariants as restriction
 use Rattle.md_reader.specs.declared.types.Give.{Give}
@@ -16,7 +16,7 @@ use Rattle.md_reader.specs.declared.types.Rule.{Rule}
 use Rattle.md_reader.specs.Patterns.{kind_at}
 use Rattle.md_reader.specs.Rows.{is_nothing}
 use Rattle.vax_templates.specs.declared.setting.Hole.{Hole}
-use Rattle.vax_templates.specs.declared.setting.Hole.TheVariants as hole
+use Rattle.vax_templates.specs.declared.setting.Hole.TheVariants as hole_kind
 use Rattle.vax_templates.specs.declared.setting.Own.{Own}
 use Rattle.vax_templates.specs.declared.setting.Own.TheVariants as own
 use Rattle.vax_templates.specs.declared.setting.Opening.{Opening}
@@ -24,51 +24,51 @@ use Rattle.vax_templates.specs.declared.setting.Opening.TheVariants as opening
 use Rattle.vax_templates.specs.declared.setting.Setting.{Setting}
 
 abbrev pub hole_of_token : Tok → Hole
-hole_of_token tok.Zero = hole.Literal 0
-hole_of_token tok.One = hole.Literal 1
-hole_of_token tok.Two = hole.Literal 2
-hole_of_token tok.Four = hole.Literal 4
-hole_of_token tok.Eight = hole.Literal 8
-hole_of_token tok.Const = hole.Constant
-hole_of_token tok.Gaddr = hole.Object
-hole_of_token tok.Loc = hole.Local
-hole_of_token tok.Arg = hole.Local
-hole_of_token tok.Save = hole.Saved
-hole_of_token tok.Cbr = hole.Relation
-hole_of_token t = hole.Other
+hole_of_token tok.Zero = hole_kind.Literal 0
+hole_of_token tok.One = hole_kind.Literal 1
+hole_of_token tok.Two = hole_kind.Literal 2
+hole_of_token tok.Four = hole_kind.Literal 4
+hole_of_token tok.Eight = hole_kind.Literal 8
+hole_of_token tok.Const = hole_kind.Constant
+hole_of_token tok.Gaddr = hole_kind.Object
+hole_of_token tok.Loc = hole_kind.Local
+hole_of_token tok.Arg = hole_kind.Local
+hole_of_token tok.Save = hole_kind.Saved
+hole_of_token tok.Cbr = hole_kind.Relation
+hole_of_token t = hole_kind.Other
 
 abbrev pub hole_of_kind : Option Kind → Hole
-hole_of_kind None = hole.Other
-hole_of_kind (Some kind.Reg) = hole.Register
-hole_of_kind (Some (kind.Value z)) = hole.Value z
-hole_of_kind (Some (kind.Place z)) = hole.Place z
-hole_of_kind (Some kind.Con) = hole.Constant
-hole_of_kind (Some kind.Ea) = hole.Address
-hole_of_kind (Some kind.Nothing) = hole.Other
+hole_of_kind None = hole_kind.Other
+hole_of_kind (Some kind.Reg) = hole_kind.Register
+hole_of_kind (Some (kind.Value z)) = hole_kind.Value z
+hole_of_kind (Some (kind.Place z)) = hole_kind.Place z
+hole_of_kind (Some kind.Con) = hole_kind.Constant
+hole_of_kind (Some kind.Ea) = hole_kind.Address
+hole_of_kind (Some kind.Nothing) = hole_kind.Other
 
 abbrev pub hole_of : List Class → Sym → Hole
-hole_of classes (sym.Tok t) = hole_of_token t
-hole_of classes (sym.Class c) = hole_of_kind (kind_at classes c)
+hole_of classes (grammar_symbol.Tok t) = hole_of_token t
+hole_of classes (grammar_symbol.Class c) = hole_of_kind (kind_at classes c)
 
 abbrev pub holes_of : List Class → List Sym → List Hole
 holes_of classes right = map (hole_of classes) right
 
 -- in a line that saves, `%1` is what is saved; in a reload line it is the slot, a longword
 abbrev pub saved_hole : Kind → Hole
-saved_hole kind.Reg = hole.Value Long
-saved_hole (kind.Value z) = hole.Value z
-saved_hole (kind.Place z) = hole.SavedPlace z
-saved_hole kind.Ea = hole.Address
-saved_hole kind.Con = hole.Other
-saved_hole kind.Nothing = hole.Other
+saved_hole kind.Reg = hole_kind.Value Long
+saved_hole (kind.Value z) = hole_kind.Value z
+saved_hole (kind.Place z) = hole_kind.SavedPlace z
+saved_hole kind.Ea = hole_kind.Address
+saved_hole kind.Con = hole_kind.Other
+saved_hole kind.Nothing = hole_kind.Other
 
 abbrev pub hole_or_other : Option Hole → Hole
-hole_or_other None = hole.Other
+hole_or_other None = hole_kind.Other
 hole_or_other (Some h) = h
 
 -- symbols are numbered from 1
 abbrev pub hole_at : List Hole → ℕ → Hole
-hole_at holes i = if i == 0 then hole.Other else hole_or_other (slice_get holes (i - 1))
+hole_at holes i = if i == 0 then hole_kind.Other else hole_or_other (slice_get holes (i - 1))
 
 abbrev pub own_of : Give → Own
 own_of give.Fresh = own.Register
@@ -82,8 +82,8 @@ is_reuse give.Reuse = true
 is_reuse g = false
 
 abbrev pub opening_of : List Sym → Opening
-opening_of (sym.Tok tok.Ret ∷ right) = opening.Return
-opening_of (sym.Tok tok.Save ∷ right) = opening.Save
+opening_of (grammar_symbol.Tok tok.Ret ∷ right) = opening.Return
+opening_of (grammar_symbol.Tok tok.Save ∷ right) = opening.Save
 opening_of right = opening.Other
 
 -- a rule that gives an operand neither returns nor saves

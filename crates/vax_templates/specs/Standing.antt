@@ -3,8 +3,8 @@ use Rattle.std.specs.Prelude.{ℕ, ◌==◌, Bool, true, false, ◌||◌, List, 
 use Rattle.gg_base.specs.declared.size.Size.{Size}
 use Rattle.gg_base.specs.declared.size.Size.TheVariants.{Long}
 use Rattle.gg_base.specs.Sizes.{bytes_of}
-use Rattle.term_core.specs.declared.operator.UnaryOp.TheVariants as unary
-use Rattle.term_core.specs.declared.operator.BinaryOp.TheVariants as binary
+use Rattle.term_core.specs.declared.operator.UnaryOp.TheVariants as unary_op
+use Rattle.term_core.specs.declared.operator.BinaryOp.TheVariants as binary_op
 use Rattle.term_core.specs.Shape.{Shape, Constant, Symbol, Memory, Unary, Binary}
 use Rattle.sel_target.specs.declared.fault.TemplateKind.{TemplateKind}
 use Rattle.sel_target.specs.declared.fault.TemplateKind.TheVariants.{NotInstr}
@@ -14,7 +14,7 @@ use Rattle.vax_templates.specs.declared.form.Base.{Base}
 use Rattle.vax_templates.specs.declared.form.Base.TheVariants as base
 use Rattle.vax_templates.specs.declared.form.Form.{Form}
 use Rattle.vax_templates.specs.declared.setting.Hole.{Hole}
-use Rattle.vax_templates.specs.declared.setting.Hole.TheVariants as hole
+use Rattle.vax_templates.specs.declared.setting.Hole.TheVariants as hole_kind
 use Rattle.vax_templates.specs.declared.setting.Own.{Own}
 use Rattle.vax_templates.specs.declared.setting.Own.TheVariants as own
 use Rattle.vax_templates.specs.declared.setting.Opening.{Opening}
@@ -45,12 +45,12 @@ abbrev pub ◌>>=◌ : {A B E : Type 0} → Result A E → (A → Result B E) �
 
 -- the constant that a symbol stands for, and also an object's address
 abbrev pub constant_of : Hole → ℕ → Result Shape TemplateKind
-constant_of hole.Constant i = Ok (Symbol i)
-constant_of (hole.Literal n) i = Ok (Constant n)
+constant_of hole_kind.Constant i = Ok (Symbol i)
+constant_of (hole_kind.Literal n) i = Ok (Constant n)
 constant_of h i = Err NotInstr
 
 abbrev pub address_of : Hole → ℕ → Result Shape TemplateKind
-address_of hole.Object i = Ok (Symbol i)
+address_of hole_kind.Object i = Ok (Symbol i)
 address_of h i = constant_of h i
 
 abbrev pub absolute_term : List Hole → Number → Result Shape TemplateKind
@@ -67,7 +67,7 @@ own_value own.Register (Some t) = Ok t
 own_value o t = Err NotInstr
 
 abbrev pub register_of : Hole → ℕ → Result Shape TemplateKind
-register_of hole.Register i = Ok (Symbol i)
+register_of hole_kind.Register i = Ok (Symbol i)
 register_of h i = Err NotInstr
 
 -- what the register holds that a hole spells
@@ -80,14 +80,14 @@ where_own o = Ok OwnRegister
 
 -- where a hole alone stands
 abbrev pub where_hole : Hole → ℕ → Result Where TemplateKind
-where_hole hole.Register i = Ok (Register (Symbol i))
-where_hole (hole.Value z) i = Ok (Value z i)
-where_hole (hole.Place z) i = Ok (Place z i)
-where_hole hole.Local i = Ok (Local i)
-where_hole (hole.SavedPlace z) i = Ok (SavedPlace z i)
-where_hole hole.Address i = Ok (At (Symbol i) None)
-where_hole hole.Object i = Ok (At (Symbol i) None)
-where_hole hole.Saved i = Ok (Saved i)
+where_hole hole_kind.Register i = Ok (Register (Symbol i))
+where_hole (hole_kind.Value z) i = Ok (Value z i)
+where_hole (hole_kind.Place z) i = Ok (Place z i)
+where_hole hole_kind.Local i = Ok (Local i)
+where_hole (hole_kind.SavedPlace z) i = Ok (SavedPlace z i)
+where_hole hole_kind.Address i = Ok (At (Symbol i) None)
+where_hole hole_kind.Object i = Ok (At (Symbol i) None)
+where_hole hole_kind.Saved i = Ok (Saved i)
 where_hole h i = Err NotInstr
 
 abbrev pub where_zero : Opening → Result Where TemplateKind
@@ -100,15 +100,15 @@ through a = At (Memory Long a) (Some (Memory Long a))
 
 -- a local or an argument holds the address itself; an object's longword is read
 abbrev pub where_deferred : Hole → ℕ → Result Where TemplateKind
-where_deferred hole.Local i = Ok (At (Symbol i) None)
-where_deferred hole.Object i = Ok (through (Symbol i))
+where_deferred hole_kind.Local i = Ok (At (Symbol i) None)
+where_deferred hole_kind.Object i = Ok (through (Symbol i))
 where_deferred h i = Err NotInstr
 
 abbrev pub at : Shape → Result Where TemplateKind
 at a = Ok (At a None)
 
 abbrev pub sum : Shape → Shape → Shape
-sum a b = Binary binary.Add a b
+sum a b = Binary binary_op.Add a b
 
 abbrev pub displaced : Result Shape TemplateKind → Result Shape TemplateKind → Result Shape TemplateKind
 displaced d r = d >>= λ (a : Shape). r >>= λ (b : Shape). Ok (sum a b)
@@ -117,7 +117,7 @@ abbrev pub pointed : Shape → Result Where TemplateKind
 pointed a = Ok (through a)
 
 abbrev pub negated : Shape → Result Where TemplateKind
-negated t = Ok (Immediate (Unary unary.Neg t))
+negated t = Ok (Immediate (Unary unary_op.Neg t))
 
 abbrev pub itself : Shape → Result Where TemplateKind
 itself t = Ok (Immediate t)
@@ -136,7 +136,7 @@ where_base s holes zero (base.Deferred i) = where_deferred (hole_at holes i) i
 
 -- the index counts in multiples of the operand's size
 abbrev pub scaled : Size → Shape → Shape
-scaled size x = Binary binary.Mul (Constant (bytes_of size)) x
+scaled size x = Binary binary_op.Mul (Constant (bytes_of size)) x
 
 abbrev pub moved : Size → Where → Shape → Result Where TemplateKind
 moved size (At a p) x = Ok (At (sum a (scaled size x)) p)

@@ -3,13 +3,13 @@
 use Rattle.std.specs.Prelude.{ℕ, Bool, true, false, not, ◌||◌, List, [], ◌∷◌, ◌++◌, Option, Some, None, Result, Ok, Err, if◌then◌else◌}
 use Rattle.gg_base.specs.declared.size.Size.{Size}
 use Rattle.gg_base.specs.declared.size.Size.TheVariants.{Byte, Word, Long}
-use Rattle.term_core.specs.declared.operator.UnaryOp.TheVariants as unary
+use Rattle.term_core.specs.declared.operator.UnaryOp.TheVariants as unary_op
 use Rattle.term_core.specs.Shape.{Shape, Constant, Symbol, LastResult, Memory, Unary}
 use Rattle.sel_terms.specs.Same.{same_size}
 use Rattle.sel_target.specs.declared.fault.TemplateKind.{TemplateKind}
 use Rattle.sel_target.specs.declared.fault.TemplateKind.TheVariants.{NotInstr}
 use Rattle.vax_core.specs.declared.op.Access.{Access}
-use Rattle.vax_core.specs.declared.op.Access.TheVariants as access
+use Rattle.vax_core.specs.declared.op.Access.TheVariants as accesses
 use Rattle.vax_core.specs.declared.op.OperandKind.{OperandKind}
 use Rattle.vax_templates.specs.declared.form.Form.{Form}
 use Rattle.vax_templates.specs.declared.setting.Hole.{Hole}
@@ -51,8 +51,8 @@ taken_missized = record { term = Constant 0; reads = []; target = None; missized
 
 -- a number or a register that is read at this size
 abbrev pub cut : Size → Shape → Shape
-cut Byte t = Unary unary.Zx8 t
-cut Word t = Unary unary.Zx16 t
+cut Byte t = Unary unary_op.Zx8 t
+cut Word t = Unary unary_op.Zx16 t
 cut Long t = t
 
 abbrev pub sized : Size → Size → Taken → Taken
@@ -129,11 +129,11 @@ both t x = Ok (record t { target = Some x.0; missized = t.missized || x.1 })
 
 -- what an instruction takes of an operand, by the operand's access
 unfoldable pub taken : Setting → Option Shape → Access → Where → Size → Result Taken TemplateKind
-taken s zero access.Read w size = fetched s zero w size
-taken s zero access.Modify w size = fetched s zero w size >>= λ (t : Taken). targeted s w size >>= both t
-taken s zero access.Write w size = targeted s w size >>= written
-taken s zero access.Address w size = addressed w size
-taken s zero access.Count w size = Err NotInstr
+taken s zero accesses.Read w size = fetched s zero w size
+taken s zero accesses.Modify w size = fetched s zero w size >>= λ (t : Taken). targeted s w size >>= both t
+taken s zero accesses.Write w size = targeted s w size >>= written
+taken s zero accesses.Address w size = addressed w size
+taken s zero accesses.Count w size = Err NotInstr
 
 unfoldable pub evaluated : Setting → List Hole → Option Shape → OperandKind → Form → Result Taken TemplateKind
 evaluated s holes zero k f = form_where s holes zero f k.size >>= λ (w : Where). taken s zero k.access w k.size

@@ -11,7 +11,7 @@ use Rattle.sel_target.specs.declared.fault.TemplateKind.{TemplateKind}
 use Rattle.sel_target.specs.declared.fault.TemplateKind.TheVariants.{NotInstr, WrongSize, Order}
 use Rattle.vax_core.specs.declared.op.Op.{Op}
 use Rattle.vax_core.specs.declared.op.Access.{Access}
-use Rattle.vax_core.specs.declared.op.Access.TheVariants as access
+use Rattle.vax_core.specs.declared.op.Access.TheVariants as accesses
 use Rattle.vax_core.specs.declared.op.OperandKind.{OperandKind}
 use Rattle.vax_core.specs.Ops.{shape}
 use Rattle.vax_machine.specs.declared.function.Action.{Action}
@@ -25,7 +25,7 @@ use Rattle.vax_templates.specs.declared.form.Base.{Base}
 use Rattle.vax_templates.specs.declared.form.Base.TheVariants as base
 use Rattle.vax_templates.specs.declared.form.Form.{Form}
 use Rattle.vax_templates.specs.declared.setting.Hole.{Hole}
-use Rattle.vax_templates.specs.declared.setting.Hole.TheVariants as hole
+use Rattle.vax_templates.specs.declared.setting.Hole.TheVariants as hole_kind
 use Rattle.vax_templates.specs.declared.setting.Own.{Own}
 use Rattle.vax_templates.specs.declared.setting.Own.TheVariants as own
 use Rattle.vax_templates.specs.declared.setting.Opening.{Opening}
@@ -95,14 +95,14 @@ DeedWithin n d = SomeWithin n d.own × LastWithin n d.last × AreWithin n d.divi
 -- ---- operands, where no number and no value of `%0` nests deeper than m
 
 pub constant_within : (m : ℕ) → 1 ≤ m → (h : Hole) (i : ℕ) → EachOk (Within m) (constant_of h i)
-constant_within m l hole.Constant i = l
-constant_within m l (hole.Literal n) i = l
+constant_within m l hole_kind.Constant i = l
+constant_within m l (hole_kind.Literal n) i = l
 constant_within m l h i = tt
 
 address_within : (m : ℕ) → 1 ≤ m → (h : Hole) (i : ℕ) → EachOk (Within m) (address_of h i)
-address_within m l hole.Object i = l
-address_within m l hole.Constant i = l
-address_within m l (hole.Literal n) i = l
+address_within m l hole_kind.Object i = l
+address_within m l hole_kind.Constant i = l
+address_within m l (hole_kind.Literal n) i = l
 address_within m l h i = tt
 
 module _ (s : Setting) (holes : List Hole) (zero' : Option Shape) (m : ℕ) (l : 1 ≤ m) (z : SomeWithin m zero') where
@@ -121,7 +121,7 @@ module _ (s : Setting) (holes : List Hole) (zero' : Option Shape) (m : ℕ) (l :
   own_within (own.Slot y) t h = tt
 
   of_register : (h : Hole) (i : ℕ) → EachOk (Within m) (register_of h i)
-  of_register hole.Register i = l
+  of_register hole_kind.Register i = l
   of_register h i = tt
 
   register_within : (i : ℕ) → EachOk (Within m) (register_term s holes zero' i)
@@ -134,14 +134,14 @@ module _ (s : Setting) (holes : List Hole) (zero' : Option Shape) (m : ℕ) (l :
   where_own_within (own.Slot y) = tt
 
   where_hole_within : (h : Hole) (i : ℕ) → EachOk (WhereWithin (2 + m)) (where_hole h i)
-  where_hole_within hole.Register i = omega arith
-  where_hole_within (hole.Value y) i = tt
-  where_hole_within (hole.Place y) i = tt
-  where_hole_within hole.Local i = tt
-  where_hole_within (hole.SavedPlace y) i = tt
-  where_hole_within hole.Address i = omega arith
-  where_hole_within hole.Object i = omega arith
-  where_hole_within hole.Saved i = tt
+  where_hole_within hole_kind.Register i = omega arith
+  where_hole_within (hole_kind.Value y) i = tt
+  where_hole_within (hole_kind.Place y) i = tt
+  where_hole_within hole_kind.Local i = tt
+  where_hole_within (hole_kind.SavedPlace y) i = tt
+  where_hole_within hole_kind.Address i = omega arith
+  where_hole_within hole_kind.Object i = omega arith
+  where_hole_within hole_kind.Saved i = tt
   where_hole_within h i = tt
 
   where_zero_within : (o : Opening) → EachOk (WhereWithin (2 + m)) (where_zero o)
@@ -150,8 +150,8 @@ module _ (s : Setting) (holes : List Hole) (zero' : Option Shape) (m : ℕ) (l :
   where_zero_within opening.Return = tt
 
   where_deferred_within : (h : Hole) (i : ℕ) → EachOk (WhereWithin (2 + m)) (where_deferred h i)
-  where_deferred_within hole.Local i = omega arith
-  where_deferred_within hole.Object i = omega arith
+  where_deferred_within hole_kind.Local i = omega arith
+  where_deferred_within hole_kind.Object i = omega arith
   where_deferred_within h i = tt
 
   displaced_within : (d r : Result Shape TemplateKind) → EachOk (Within m) d → EachOk (Within m) r → EachOk (Within (1 + m)) (displaced d r)
@@ -271,13 +271,13 @@ module _ (s : Setting) (holes : List Hole) (zero' : Option Shape) (m : ℕ) (l :
 
   taken_within : (a : Access) (w : Where) (size : Size) → WhereWithin (3 + m) w → EachOk (TakenWithin (4 + m)) (taken s zero' a w size)
   unfolding taken
-  taken_within access.Read w size h = fetched_within w size h
-  taken_within access.Modify w size h =
+  taken_within accesses.Read w size h = fetched_within w size h
+  taken_within accesses.Modify w size h =
       bind_each (TakenWithin (4 + m)) (TakenWithin (4 + m)) (fetched s zero' w size) (λ (t : Taken). targeted s w size >>= both t)
       (λ t k. bind_each Aimed (TakenWithin (4 + m)) (targeted s w size) (both t) (λ x j. (k.0, j)) (targeted_within w size h)) (fetched_within w size h)
-  taken_within access.Write w size h = bind_each Aimed (TakenWithin (4 + m)) (targeted s w size) written (λ x j. (omega arith, j)) (targeted_within w size h)
-  taken_within access.Address w size h = addressed_within w size h
-  taken_within access.Count w size h = tt
+  taken_within accesses.Write w size h = bind_each Aimed (TakenWithin (4 + m)) (targeted s w size) written (λ x j. (omega arith, j)) (targeted_within w size h)
+  taken_within accesses.Address w size h = addressed_within w size h
+  taken_within accesses.Count w size h = tt
 
   evaluated_within : (k : OperandKind) (f : Form) → EachOk (TakenWithin (4 + m)) (evaluated s holes zero' k f)
   unfolding evaluated

@@ -21,7 +21,7 @@ use Rattle.vax_core.specs.declared.code.Instr.{Instr}
 use Rattle.vax_core.specs.declared.code.AreaItem.{AreaItem}
 use Rattle.vax_core.specs.declared.code.AreaItem.TheVariants as areas
 use Rattle.vax_core.specs.declared.code.CodeItem.{CodeItem}
-use Rattle.vax_core.specs.declared.code.CodeItem.TheVariants as items
+use Rattle.vax_core.specs.declared.code.CodeItem.TheVariants as item_kind
 use Rattle.vax_core.specs.declared.code.Code.{Code}
 use Rattle.vax_core.specs.Registers.{reg_text}
 use Rattle.vax_core.specs.Ops.{shape}
@@ -247,10 +247,10 @@ area_plain (areas.Long a) h = joined (addr_text a) (codes "\n") (addr_of_plain a
 area_plain (areas.Space n) h = joined (decimal n) (codes "\n") (decimal_plain n) refl
 
 item_plain : (item : CodeItem) → is_code_item item ≡ true → plain (item_line item) ≡ true
-item_plain (items.Label name) h = joined (name ++ codes ":") (codes "\n") (joined name (codes ":") (name_plain name h) refl) refl
-item_plain (items.Globl name) h = joined name (codes "\n") (name_plain name h) refl
-item_plain (items.Mask mask) h = joined (decimal mask) (codes "\n") (decimal_plain mask) refl
-item_plain (items.Instr i) h = joined (instr_text i) (codes "\n") (instr_plain i h) refl
+item_plain (item_kind.Label name) h = joined (name ++ codes ":") (codes "\n") (joined name (codes ":") (name_plain name h) refl) refl
+item_plain (item_kind.Globl name) h = joined name (codes "\n") (name_plain name h) refl
+item_plain (item_kind.Mask mask) h = joined (decimal mask) (codes "\n") (decimal_plain mask) refl
+item_plain (item_kind.Instr i) h = joined (instr_text i) (codes "\n") (instr_plain i h) refl
 
 areas_plain : (area : List AreaItem) → list_all is_area_item area ≡ true → plain (flat_map area_line area) ≡ true
 areas_plain [] h = refl

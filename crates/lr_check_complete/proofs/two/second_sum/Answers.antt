@@ -1,6 +1,6 @@
 use Rattle.std.proofs.Common.{ℕ, List, [], ◌∷◌, ◌++◌, subst}
 use Rattle.md_reader.specs.declared.types.Sym.{Sym}
-use Rattle.md_reader.specs.declared.types.Sym.TheVariants as symbol
+use Rattle.md_reader.specs.declared.types.Sym.TheVariants as grammar_symbol
 use Rattle.lr_check_found.specs.Lists.{IsList}
 use Rattle.lr_check_found.specs.Found.{Settles}
 use Rattle.lr_check_found.specs.Adding.{list_number}
@@ -13,9 +13,9 @@ returns c = λ A m. on_ok _ _ _
     (looks_map A c.args.found.now c.args.window _ _ _ _
     (λ g. two_in c.args.found.now c.args.number c.args.first c.args.sum c.args.token
     (subst (λ (b : ℕ). (u l : List Sym) → IsList c.args.found.now.lists b u → IsList c.args.found.now.lists (list_number c.args.found.now c.args.first) l
-    → Settles c.args.found.now c.args.number (u ++ (l ++ (symbol.Tok c.args.token ∷ []))))
+    → Settles c.args.found.now c.args.number (u ++ (l ++ (grammar_symbol.Tok c.args.token ∷ []))))
     c.list_number-upper.ensures
     (subst (λ (b : ℕ). (u l : List Sym) → IsList c.args.found.now.lists c.list_number-upper.result u → IsList c.args.found.now.lists b l
-    → Settles c.args.found.now c.args.number (u ++ (l ++ (symbol.Tok c.args.token ∷ []))))
+    → Settles c.args.found.now c.args.number (u ++ (l ++ (grammar_symbol.Tok c.args.token ∷ []))))
     c.list_number-lower.ensures g))))
     (c.settle.ensures A c.args.window m)

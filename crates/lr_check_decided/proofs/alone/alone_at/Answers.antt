@@ -1,6 +1,6 @@
 use Rattle.std.proofs.Common.{◌≡◌, ℕ, [], ◌∷◌, length, ap, refl, arith}
 use Rattle.std.proofs.lemmas.Option.{slice_get_within}
-use Rattle.md_reader.specs.declared.types.Sym.TheVariants as symbol
+use Rattle.md_reader.specs.declared.types.Sym.TheVariants as grammar_symbol
 use Rattle.lr_check_found.specs.declared.settlings.Settling.{Settling}
 use Rattle.lr_check_found.specs.Lists.{IsList}
 use Rattle.lr_check_found.specs.Found.{IsSettlingAt}
@@ -12,7 +12,7 @@ loop-number-init c = λ n lt. absurd (omega (arith, lt))
 
 pub loop-number-preserved : goal.loop-number-preserved
 loop-number-preserved c = up_to c.loop-number.number
-    (λ (i : ℕ). (e : Settling) → IsSettlingAt c.args.found.now i e → e.place ≡ c.args.place → IsList c.args.found.now.lists e.list (symbol.Class c.args.class ∷ []) → ⊥)
+    (λ (i : ℕ). (e : Settling) → IsSettlingAt c.args.found.now i e → e.place ≡ c.args.place → IsList c.args.found.now.lists e.list (grammar_symbol.Class c.args.class ∷ []) → ⊥)
     c.loop-number.number c.loop-number.invariant refl (c.is_alone_at.ensures.absent c.if-is_alone_at.false)
 
 pub returns-then-is_alone_at : goal.returns-then-is_alone_at

@@ -2,7 +2,7 @@ use Rattle.std.proofs.Common.{◌≡◌, ℕ, List, length, sym, ap, ◌∙◌, 
 use Rattle.std.proofs.lemmas.Result.{IfOk-weaker}
 use Rattle.md_reader.specs.declared.types.Rule.{Rule}
 use Rattle.md_reader.specs.declared.faults.DescFault.{DescFault}
-use Rattle.md_reader.specs.declared.faults.DescFault.TheVariants as fault
+use Rattle.md_reader.specs.declared.faults.DescFault.TheVariants as desc_fault
 use Rattle.md_reader.specs.State.{Content}
 use Rattle.md_reader.specs.Desc.{Desc, Refused}
 use Rattle.md_reader.specs.First.{IsFirst}
@@ -11,8 +11,8 @@ use Rattle.try_tables.specs.Told.{Says, Tells, has_tables, is_wrong, is_full}
 use Rattle.try_tables.proofs.examining.examine.Goals as goal
 
 says_tells : (bytes : List ℕ) (e : DescFault) → Refused bytes e → IsFirst bytes e → (f : Finding) → Says e f → Tells bytes f
-says_tells bytes fault.NoMemory r h f s = absurd s
-says_tells bytes (fault.Line line kind) r h f s = subst (Tells bytes) (sym s) (is_wrong r h)
+says_tells bytes desc_fault.NoMemory r h f s = absurd s
+says_tells bytes (desc_fault.Line line kind) r h f s = subst (Tells bytes) (sym s) (is_wrong r h)
 
 pub returns-in-Ok-build : goal.returns-in-Ok-build
 returns-in-Ok-build c =
