@@ -45,7 +45,8 @@ pub(crate) fn update_ready(
     p: Located,
     q: Lowered,
 ) -> Result<Assignable, NoMemory>
-    ensures { IfOk result (λ r. ready r ≡ assignments.update_ready frame.locals frame.functions (applied change p.ctype) (found p) (low q)) }
+    ensures { IfOk result (λ r. ready r ≡ assignments.update_ready frame.locals frame.functions
+        (applied change p.ctype) (found p) (low q)) }
 {
     let is_held = must_keep(frame, &q.items, &p.storage);
     let is_saved = !is_nil(&q.items);

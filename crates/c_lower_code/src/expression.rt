@@ -153,7 +153,8 @@ fn updated(
     l: u32,
 ) -> Result<Assignable, NoMemory>
     ensures { IfOk result (λ r. ready r ≡ assignments.updated frame.locals frame.functions (applied change)
-        (expressions.seek frame.locals frame.functions (place_of place.now) t l) (expressions.way frame.locals frame.functions (term e.now)).low) }
+        (expressions.seek frame.locals frame.functions (place_of place.now) t l)
+        (expressions.way frame.locals frame.functions (term e.now)).low) }
 {
     let p = seek(frame, place, t, l)?;
     let q = value(frame, e, p.temps, p.labels)?;
@@ -171,7 +172,8 @@ fn changed(
     l: u32,
 ) -> Result<Lowered, NoMemory>
     ensures { IfOk result (λ r. low r ≡ assignments.store_low (assignments.updated frame.locals frame.functions (applied change)
-        (expressions.seek frame.locals frame.functions (place_of place.now) t l) (expressions.way frame.locals frame.functions (term e.now)).low)) }
+        (expressions.seek frame.locals frame.functions (place_of place.now) t l)
+        (expressions.way frame.locals frame.functions (term e.now)).low)) }
 {
     store_low(frame.alloc, updated(frame, change, place, e, t, l)?)
 }
@@ -187,7 +189,8 @@ fn drop_changed(
     l: u32,
 ) -> Result<Emitted, NoMemory>
     ensures { IfOk result (λ r. done r ≡ assignments.store_drop (assignments.updated frame.locals frame.functions (applied change)
-        (expressions.seek frame.locals frame.functions (place_of place.now) t l) (expressions.way frame.locals frame.functions (term e.now)).low)) }
+        (expressions.seek frame.locals frame.functions (place_of place.now) t l)
+        (expressions.way frame.locals frame.functions (term e.now)).low)) }
 {
     store_drop(frame.alloc, updated(frame, change, place, e, t, l)?)
 }
@@ -203,7 +206,8 @@ fn assign_value(
 ) -> Result<Lowered, NoMemory>
     ensures { IfOk result (λ r. low r ≡ assignments.assign_low frame.locals frame.functions
         (assignments.local_of frame.locals frame.functions (expressions.seek frame.locals frame.functions (place_of place.now) t l))
-        (expressions.seek frame.locals frame.functions (place_of place.now) t l) (expressions.way frame.locals frame.functions (term e.now))) }
+        (expressions.seek frame.locals frame.functions (place_of place.now) t l)
+        (expressions.way frame.locals frame.functions (term e.now))) }
 {
     let p = seek(frame, place, t, l)?;
     match local_of(frame, &p) {
@@ -229,7 +233,8 @@ fn assign_effect(
 ) -> Result<Emitted, NoMemory>
     ensures { IfOk result (λ r. done r ≡ assignments.assign_drop frame.locals frame.functions
         (assignments.local_of frame.locals frame.functions (expressions.seek frame.locals frame.functions (place_of place.now) t l))
-        (expressions.seek frame.locals frame.functions (place_of place.now) t l) (expressions.way frame.locals frame.functions (term e.now))) }
+        (expressions.seek frame.locals frame.functions (place_of place.now) t l)
+        (expressions.way frame.locals frame.functions (term e.now))) }
 {
     let p = seek(frame, place, t, l)?;
     match local_of(frame, &p) {
@@ -498,7 +503,8 @@ pub(crate) fn branch(
 // A value that goes to its destination by a root of its own.
 #[cycle(expression)]
 fn kept(frame: Frame, to: Destination, e: &Expression, t: u32, l: u32) -> Result<Emitted, NoMemory>
-    ensures { IfOk result (λ r. done r ≡ parts.delivered (destination to) ((expressions.way frame.locals frame.functions (term e.now)).low t l)) }
+    ensures { IfOk result (λ r. done r ≡ parts.delivered (destination to)
+        ((expressions.way frame.locals frame.functions (term e.now)).low t l)) }
 {
     delivered(to, value(frame, e, t, l)?)
 }

@@ -70,7 +70,8 @@ fn one_declared(
     rest: &[Action],
     l: u32,
 ) -> Result<Emitted, NoMemory>
-    ensures { IfOk result (λ r. done r ≡ one_declared frame.locals frame.functions (declaration d.now) (map declaration others.now) (acts rest.now) l) }
+    ensures { IfOk result (λ r. done r ≡ one_declared frame.locals frame.functions
+        (declaration d.now) (map declaration others.now) (acts rest.now) l) }
 {
     match d {
         Declaration::Keep(_) => Ok(nothing(frame.alloc, frame.locals, l)),
@@ -138,7 +139,8 @@ fn for_of(
 // A `while`: its test stands in front where it is a constant, and else behind the body.
 #[cycle(statement)]
 fn while_of(frame: Frame, body: &Action, c: &Expression, l: u32) -> Result<Emitted, NoMemory>
-    ensures { IfOk result (λ r. done r ≡ statements.lower frame.locals frame.functions (WhileOf (term c.now) (act body.now)) NoActions 0 0 l) }
+    ensures { IfOk result (λ r. done r ≡ statements.lower frame.locals frame.functions
+        (WhileOf (term c.now) (act body.now)) NoActions 0 0 l) }
 {
     let onward = after(l)?;
     let end = after(onward)?;
@@ -202,7 +204,8 @@ fn if_of(
     onward: u32,
     l: u32,
 ) -> Result<Emitted, NoMemory>
-    ensures { IfOk result (λ r. done r ≡ statements.lower frame.locals frame.functions (IfOf (term c.now) (act a.now)) NoActions broken onward l) }
+    ensures { IfOk result (λ r. done r ≡ statements.lower frame.locals frame.functions
+        (IfOf (term c.now) (act a.now)) NoActions broken onward l) }
 {
     match going(a, broken, onward) {
         Some(to) => when(frame, c, to, l),

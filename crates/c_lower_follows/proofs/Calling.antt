@@ -229,7 +229,8 @@ module _ (program : TreeProgram) (code : List TreeItem) (callers : List Activati
 
   ways : (w : Tree) (quiet : Bool) (trees : List Tree) → must_pass_by size count w quiet trees ≡ false → (trees ≡ []) ⊎ ((stable size w ≡ true) ⊎ ((quiet ≡ true) × (breaks w ≡ false)))
   ways w quiet [] e = inl refl
-  ways w quiet (v ∷ vs) e = inr (⊎_elim (λ s. inl s) (λ h. let parts = and_parts quiet (not (breaks w)) h in inr (parts.0, not-true (breaks w) parts.1)) (or_cases (stable size w) (quiet && not (breaks w)) (not-false (stable size w || (quiet && not (breaks w))) e)))
+  ways w quiet (v ∷ vs) e = inr (⊎_elim (λ s. inl s) (λ h. let parts = and_parts quiet (not (breaks w)) h in inr (parts.0, not-true (breaks w) parts.1))
+      (or_cases (stable size w) (quiet && not (breaks w)) (not-false (stable size w || (quiet && not (breaks w))) e)))
 
   pass_by : (b : Bool) (p : Lowered) (q : Passing) (t : ℕ) (m : Rest → State → Runs) (n : RestAll → State → Runs) → must_pass_by size count p.tree q.quiet q.trees ≡ b → size ≤ t
       → DoesOne p t m → DoesAll q p.temps n → DoesAll (pass_so b p q) t (λ κ. m (λ x. n (λ xs. κ (x ∷ xs))))
@@ -287,7 +288,10 @@ pub record Calls (program : TreeProgram) (count : ℕ) (p : AProgram) (next : Ne
       → (κ : Behind) (cs : List Activation) → Backed program k κ cs → (st : State) → st.active ≡ length cs → AreBytes st.area → AreBytes st.input
       → Leads k (next (Body g.body) κ (begun_source g vs st)) (runs program (arrived (record { running = begun_tree tf vs; callers = cs; area = st.area; input = st.input })))
 
-module _ (program : TreeProgram) (code : List TreeItem) (callers : List Activation) (size count : ℕ) (scope : ℕ → Type 0) (level : ℕ) (within : (x : ℕ) → scope x → x < size) (p : AProgram) (next : Next) (counts_all : length program.functions ≡ count) (lowers : (f : ℕ) (g : ARoutine) → slice_get p.routines f ≡ Some g → (tf : TreeFn) × (slice_get program.functions f ≡ Some tf) × CodeOf count g tf.items) (calls : Calls program count p next level) where
+module _ (program : TreeProgram) (code : List TreeItem) (callers : List Activation) (size count : ℕ) (scope : ℕ → Type 0) (level : ℕ) (within : (x : ℕ) → scope x → x < size) (p : AProgram)
+    (next : Next) (counts_all : length program.functions ≡ count)
+    (lowers : (f : ℕ) (g : ARoutine) → slice_get p.routines f ≡ Some g → (tf : TreeFn) × (slice_get program.functions f ≡ Some tf) × CodeOf count g tf.items)
+    (calls : Calls program count p next level) where
   abbrev fine : State → Desk → Type 0
   fine st d = well program code callers size count scope level within st d
 

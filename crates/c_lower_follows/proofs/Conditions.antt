@@ -573,7 +573,8 @@ module _ (program : TreeProgram) (code : List TreeItem) (callers : List Activati
   pub comma_does : (a b : Lowering) (m n : Rest → State → Runs) → WayIt a m → WayIt b n → WayIt (comma a b) (λ κ. m (λ x. n κ))
   comma_does a b m n does does' = record {
     low = λ t l sz. let f = does.drop t l sz in let p = a.drop t l in comma_low p (b.low p.temps p.labels) t m n f (does'.low p.temps p.labels (omega (arith, f.grows)));
-    branch = λ sense to t l sz. let f = does.drop t l sz in let p = a.drop t l in comma_asks p (b.branch sense to p.temps p.labels) sense to t m n f (does'.branch sense to p.temps p.labels (omega (arith, f.grows)));
+    branch = λ sense to t l sz. let f = does.drop t l sz in let p = a.drop t l in
+        comma_asks p (b.branch sense to p.temps p.labels) sense to t m n f (does'.branch sense to p.temps p.labels (omega (arith, f.grows)));
     drop = λ t l sz. let f = does.drop t l sz in let p = a.drop t l in
         let both = then_drops p (b.drop p.temps p.labels) t m n f (does'.drop p.temps p.labels (omega (arith, f.grows))) in
         record { grows = both.grows; runs = λ k le is κ res st d ag h. both.runs k le is κ res st d ag h };

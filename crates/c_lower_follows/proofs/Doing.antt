@@ -201,7 +201,8 @@ module _ (program : TreeProgram) (code : List TreeItem) (callers : List Activati
           record { keeps = λ j sz o. s1.keeps j sz (⊎_elim (λ lt. inl lt) (λ ge. inr (omega (arith, does'.grows))) o); same = λ e. s1.same (front_nil p.items q.items e) } in
           assoc k p.items q.items is d _ (does.runs k le (q.items ++ is) (λ x. n (κ x)) res' st d ag
           (λ st1 d1 ag1 s1. waits_by p q n k le is κ st1 d1 (value program p.tree d1) does'
-          (λ e. let done = subst (λ o. Leads k (on o (λ x. on (value program q.tree d1) (λ y. κ x y st1))) (here is d1)) e (h st1 d1 ag1 (whole st1 d1 s1)) in subst (λ l. Leads k (stop ends.Trapped) (here (l ++ is) d1)) (sym none) done)
+          (λ e. let done = subst (λ o. Leads k (on o (λ x. on (value program q.tree d1) (λ y. κ x y st1))) (here is d1)) e (h st1 d1 ag1 (whole st1 d1 s1)) in
+          subst (λ l. Leads k (stop ends.Trapped) (here (l ++ is) d1)) (sym none) done)
           (resolves_back code p.items (q.items ++ is) res') refl ag1
           (λ v st2 d2 e ag2 s2.
           let eq = s2.same none in

@@ -29,7 +29,11 @@ small_get [] n v h e = absurd (cc)
 small_get (x ∷ xs) zero v h e = let same : x ≡ v = cc in omega (arith, h.0)
 small_get (x ∷ xs) (suc n) v h e = small_get xs n v h.1 e
 
-module _ (program : TreeProgram) (count : ℕ) (p : AProgram) (next : Next) (counts_all : length program.functions ≡ count) (lowers : (f : ℕ) (g : ARoutine) → slice_get p.routines f ≡ Some g → (tf : TreeFn) × (slice_get program.functions f ≡ Some tf) × CodeOf count g tf.items) (objects_are : program.objects ≡ p.objects) (addresses : (n : ℕ) (o : Object) → slice_get p.objects n ≡ Some o → o.address < 2 ^ 32) (next_is : (t : Task) (κ : Behind) (st : State) → next t κ st ≡ task p next t κ st) (fits : (f : ℕ) (g : ARoutine) → slice_get p.routines f ≡ Some g → FitsActs (length g.locals) no_local false g.body) where
+module _ (program : TreeProgram) (count : ℕ) (p : AProgram) (next : Next) (counts_all : length program.functions ≡ count)
+    (lowers : (f : ℕ) (g : ARoutine) → slice_get p.routines f ≡ Some g → (tf : TreeFn) × (slice_get program.functions f ≡ Some tf) × CodeOf count g tf.items)
+    (objects_are : program.objects ≡ p.objects) (addresses : (n : ℕ) (o : Object) → slice_get p.objects n ≡ Some o → o.address < 2 ^ 32)
+    (next_is : (t : Task) (κ : Behind) (st : State) → next t κ st ≡ task p next t κ st)
+    (fits : (f : ℕ) (g : ARoutine) → slice_get p.routines f ≡ Some g → FitsActs (length g.locals) no_local false g.body) where
   body_does : (level : ℕ) → Calls program count p next level → (k : ℕ) → k ≤ level → (f : ℕ) (g : ARoutine) → slice_get p.routines f ≡ Some g → (tf : TreeFn) → CodeOf count g tf.items
       → (vs : List ℕ) → AllSmall vs → (κ : Behind) (cs : List Activation) → Backed program k κ cs → (st : State) → st.active ≡ length cs → AreBytes st.area → AreBytes st.input
       → Leads k (next (Body g.body) κ (begun g vs st)) (runs program (arrived (record { running = begun_tree tf vs; callers = cs; area = st.area; input = st.input })))

@@ -67,7 +67,8 @@ same_tag l = ap one_if (eq-eqb l l refl)
 
 -- the items behind a label that stands once
 passes : (i : Item) (is : List Item) (l : ℕ) → tag i l ≡ 0 → behind (spelled i ∷ spelled_all is) l ≡ behind (spelled_all is) l
-passes (Label k) is l z = ⊎_elim (λ e. absurd (let one : one_if (k == l) ≡ 1 = ap one_if (eq-eqb k l e) in omega (arith, one, z))) (λ ne. ap (λ b. cond b (spelled_all is) (behind (spelled_all is) l)) (ne_eqb k l ne)) (cases_eq k l)
+passes (Label k) is l z = ⊎_elim (λ e. absurd (let one : one_if (k == l) ≡ 1 = ap one_if (eq-eqb k l e) in omega (arith, one, z)))
+    (λ ne. ap (λ b. cond b (spelled_all is) (behind (spelled_all is) l)) (ne_eqb k l ne)) (cases_eq k l)
 passes (AssignLoc n w) is l z = refl
 passes (AssignArg n w) is l z = refl
 passes (AssignMem i a w) is l z = mem i
@@ -137,7 +138,8 @@ once_count : (l u : ℕ) (is js : List Item) → Once (suc l) u is → ((m : ℕ
 once_count l u is js h e = record {
   grows = omega (arith, h.grows);
   once = λ m. ⊎_elim (λ y. let s = y.0 in omega (arith, e m, y.1, h.inside m (inl (omega arith)))) (λ n. omega (arith, e m, n.1, h.once m)) (tag_by l m);
-  inside = λ m o. ⊎_elim (λ y. let s = y.0 in absurd (⊎_elim (λ lt. omega arith) (λ ge. omega (arith, h.grows)) o)) (λ n. let ne = n.0 in omega (arith, e m, n.1, h.inside m (⊎_elim (λ lt. inl (omega arith)) (λ ge. inr ge) o))) (tag_by l m);
+  inside = λ m o. ⊎_elim (λ y. let s = y.0 in absurd (⊎_elim (λ lt. omega arith) (λ ge. omega (arith, h.grows)) o))
+      (λ n. let ne = n.0 in omega (arith, e m, n.1, h.inside m (⊎_elim (λ lt. inl (omega arith)) (λ ge. inr ge) o))) (tag_by l m);
 }
 
 -- items with no label
@@ -546,8 +548,11 @@ module _ (size count : ℕ) where
         once_fork l q.labels x.labels _ q.items x.items _ [] [] (λ m. refl) (λ m. refl) ((once_way c).branch false l size (suc (suc l))) (once_act a NoActions lb lc q.labels)
         (once_act b NoActions lb lc x.labels)
     once_act (WhileOf c a) rest lb lc l = once_while_by (constant_of c) c (Statements.lower size count a NoActions) l (λ x y m. once_act a NoActions x y m)
-    once_act (DoOf a c) rest lb lc l = let x = Statements.lower size count a NoActions (suc (suc l)) (suc l) (suc (suc (suc l))) in once_loop l l x.labels _ x.items _ (once_act a NoActions (suc (suc l)) (suc l) (suc (suc (suc l)))) ((once_way c).branch true l size x.labels)
-    once_act (ForOf i c e a) rest lb lc l = let x = Statements.effect size count i l in once_append l x.labels _ x.items _ (once_effect i l) (once_fors c e x.labels (Statements.lower size count a NoActions (suc (suc x.labels)) (suc x.labels)) (λ m. once_act a NoActions (suc (suc x.labels)) (suc x.labels) m))
+    once_act (DoOf a c) rest lb lc l = let x = Statements.lower size count a NoActions (suc (suc l)) (suc l) (suc (suc (suc l))) in
+        once_loop l l x.labels _ x.items _ (once_act a NoActions (suc (suc l)) (suc l) (suc (suc (suc l)))) ((once_way c).branch true l size x.labels)
+    once_act (ForOf i c e a) rest lb lc l = let x = Statements.effect size count i l in
+        once_append l x.labels _ x.items _ (once_effect i l)
+        (once_fors c e x.labels (Statements.lower size count a NoActions (suc (suc x.labels)) (suc x.labels)) (λ m. once_act a NoActions (suc (suc x.labels)) (suc x.labels) m))
 
     pub once_row : (row : SomeActions) (lb lc l : ℕ) → Once l (Statements.lower_row size count row lb lc l).labels (Statements.lower_row size count row lb lc l).items
     once_row NoActions lb lc l = once_nil l

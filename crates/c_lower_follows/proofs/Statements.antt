@@ -136,7 +136,10 @@ module _ (program : TreeProgram) (code : List TreeItem) (callers : List Activati
       assign_loc_step program code callers k n w is (λ v. written (put_local n v st) v (λ v. κ)) d small ag.ranged
       (λ v e. local_step n v k scope after is κ st d (subst Small e (worth_small program.objects (desk_sight d) ag.ranged w small)) sub ag (λ ag'. h _ _ ag'))
 
-  module _ (p : AProgram) (next : Next) (counts_all : length program.functions ≡ count) (lowers : (f : ℕ) (g : ARoutine) → slice_get p.routines f ≡ Some g → (tf : TreeFn) × (slice_get program.functions f ≡ Some tf) × CodeOf count g tf.items) (calls : Calls program count p next level) (objects_are : program.objects ≡ p.objects) (addresses : (n : ℕ) (o : Object) → slice_get p.objects n ≡ Some o → o.address < 2 ^ 32) (next_is : (t : Task) (κ : Behind) (st : State) → next t κ st ≡ task p next t κ st) where
+  module _ (p : AProgram) (next : Next) (counts_all : length program.functions ≡ count)
+      (lowers : (f : ℕ) (g : ARoutine) → slice_get p.routines f ≡ Some g → (tf : TreeFn) × (slice_get program.functions f ≡ Some tf) × CodeOf count g tf.items)
+      (calls : Calls program count p next level) (objects_are : program.objects ≡ p.objects) (addresses : (n : ℕ) (o : Object) → slice_get p.objects n ≡ Some o → o.address < 2 ^ 32)
+      (next_is : (t : Task) (κ : Behind) (st : State) → next t κ st ≡ task p next t κ st) where
     expression : (scope : ℕ → Type 0) → ((x : ℕ) → scope x → x < size) → (e : AnExpression) → Fits scope e → DoesWay program code callers size count scope level (way size count e) (expr p next e)
     expression scope within e fit = way_does program code callers size count scope level within p next counts_all lowers calls objects_are addresses e fit
 

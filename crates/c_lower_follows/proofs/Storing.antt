@@ -233,7 +233,8 @@ module _ (program : TreeProgram) (code : List TreeItem) (callers : List Activati
       quiet : q.items ≡ [] → Leads k (on (value program w d) (λ x. n (κ x) st)) (go (q.items ++ is) d)
       quiet none =
           waits_by program code callers size count scope level within (record { items = []; tree = w; temps = t0; labels = 0 }) q n k le is κ st d (value program w d) does
-          (λ e. let done = subst (λ o. Leads k (on o (λ x. on (value program q.tree d) (λ y. κ x y st))) (go is d)) e (h st d ag (record { keeps = λ j szj o ne. refl; same = λ e. (refl, refl) })) in subst (λ l. Leads k (stop ends.Trapped) (go (l ++ is) d)) (sym none) done)
+          (λ e. let done = subst (λ o. Leads k (on o (λ x. on (value program q.tree d) (λ y. κ x y st))) (go is d)) e
+          (h st d ag (record { keeps = λ j szj o ne. refl; same = λ e. (refl, refl) })) in subst (λ l. Leads k (stop ends.Trapped) (go (l ++ is) d)) (sym none) done)
           res refl ag
           (λ v st2 d2 e ag2 s2.
           let eq = s2.same none in
@@ -256,7 +257,8 @@ module _ (program : TreeProgram) (code : List TreeItem) (callers : List Activati
       → Leads k (on (value program w d) (λ x. n (κ x) st)) (go (q.items ++ is) d)
   waits w t0 q n k le is κ st d sz small below does res (inl none) ag h =
       waits_by program code callers size count scope level within (record { items = []; tree = w; temps = t0; labels = 0 }) q n k le is κ st d (value program w d) does
-      (λ e. let done = subst (λ o. Leads k (on o (λ x. on (value program q.tree d) (λ y. κ x y st))) (go is d)) e (h st d ag (record { keeps = λ j szj o. refl; same = λ e. (refl, refl) })) in subst (λ l. Leads k (stop ends.Trapped) (go (l ++ is) d)) (sym none) done)
+      (λ e. let done = subst (λ o. Leads k (on o (λ x. on (value program q.tree d) (λ y. κ x y st))) (go is d)) e (h st d ag (record { keeps = λ j szj o. refl; same = λ e. (refl, refl) })) in
+      subst (λ l. Leads k (stop ends.Trapped) (go (l ++ is) d)) (sym none) done)
       res refl ag
       (λ v st2 d2 e ag2 s2.
       let eq = s2.same none in

@@ -44,7 +44,8 @@ is_main f = bytes_eq f.name (codes "main")
 find_main : (count : ℕ) (gs : List ARoutine) (l n : ℕ) (g : ARoutine) → slice_get gs n ≡ Some g → IsMain g.name → ((f : ℕ) (h : ARoutine) → slice_get gs f ≡ Some h → IsMain h.name → f ≡ n)
     → find is_main (lower_all count gs l) ≡ slice_get (lower_all count gs l) n
 find_main count [] l n g e main only = absurd (cc)
-find_main count (h ∷ gs) l zero g e main only = let same : h ≡ g = cc in ap (λ b. cond b (Some (function_of h (body_of count h l))) (find is_main (lower_all count gs (body_of count h l).labels))) (subst (λ (x : ARoutine). IsMain x.name) (sym same) main)
+find_main count (h ∷ gs) l zero g e main only = let same : h ≡ g = cc in
+    ap (λ b. cond b (Some (function_of h (body_of count h l))) (find is_main (lower_all count gs (body_of count h l).labels))) (subst (λ (x : ARoutine). IsMain x.name) (sym same) main)
 find_main count (h ∷ gs) l (suc n) g e main only =
     let other : bytes_eq h.name (codes "main") ≡ false = not_main (bytes_eq h.name (codes "main")) refl in
     ap (λ b. cond b (Some (function_of h (body_of count h l))) (find is_main (lower_all count gs (body_of count h l).labels))) other

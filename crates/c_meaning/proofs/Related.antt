@@ -201,7 +201,8 @@ module _ (R : ℕ → Runs → Runs → Type 0) (kept : Kept R) where
 
     turn_kept : (l : ALoop) (b c : Behind → State → Runs) → Bodies b c → (k : ℕ) → k ≤ suc n → (κ μ : Behind) → OnBehind R k κ μ → OnState R k (turn_by p f l b κ) (turn_by p g l c μ)
     turn_kept l b c same k le κ μ h st =
-        counted_kept k _ _ (λ j lt. let h' : OnBehind R j κ μ = λ w st'. kept.weakens j k _ _ (omega arith) (h w st') in same j (omega arith) _ _ (turned_kept p f g j κ μ _ _ h' (dropped_kept l.step j (omega arith) _ _ (close j (omega arith) (Look l) κ μ h'))) st)
+        counted_kept k _ _ (λ j lt. let h' : OnBehind R j κ μ = λ w st'. kept.weakens j k _ _ (omega arith) (h w st') in
+        same j (omega arith) _ _ (turned_kept p f g j κ μ _ _ h' (dropped_kept l.step j (omega arith) _ _ (close j (omega arith) (Look l) κ μ h'))) st)
 
     look_kept : (l : ALoop) (b c : Behind → State → Runs) → Bodies b c → (k : ℕ) → k ≤ suc n → (κ μ : Behind) → OnBehind R k κ μ → OnState R k (look_by p f l b κ) (look_by p g l c μ)
     look_kept l b c same k le κ μ h = tested_kept l.condition k le _ _ _ _ (turn_kept l b c same k le κ μ h) (h Onward)

@@ -76,7 +76,8 @@ abbrev pub AreDefined : List Signature → List ARoutine → Type 0
 AreDefined signatures gs = (n : ℕ) (s : Signature) → slice_get signatures n ≡ Some s → Takes gs (callee_of n) (length s.parameters)
 
 -- what a body is typed as, from one state to another
-pub record BodyIsSound (signatures : List Signature) (looping : Bool) (parameters : ℕ) (row : SomeItems) (s : State) (acts : SomeActions) (r : State) : Type 0 where
+pub record BodyIsSound (signatures : List Signature) (looping : Bool) (parameters : ℕ) (row : SomeItems) (s : State)
+    (acts : SomeActions) (r : State) : Type 0 where
   pub fits : (size : ℕ) → length r.locals ≤ size → ItemsOf IsToken row → FitsActs size no_local looping acts
   pub stands : (gs : List ARoutine) (objects : ℕ) → length r.area.objects ≤ objects → AreDefined signatures gs →
       StandsActs (IsThere objects parameters) (Takes gs) objects acts

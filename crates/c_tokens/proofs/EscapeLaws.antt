@@ -33,7 +33,8 @@ up_to p (suc k) (b ∷ bs) = step (p b) refl (run_len p (take k bs)) (up_to p k 
     further n (inr h) = let low : n < k = h.0 in inr (omega arith, h.1)
 
     step : (t : Bool) → p b ≡ t → (n : ℕ) → UpTo p k bs n → UpTo p (suc k) (b ∷ bs) (cond t (suc n) 0)
-    step true e n u = let low : n ≤ length bs = u.within in record { pass = (e, u.pass); text_is = ap (λ (l : List ℕ). b ∷ l) u.text_is; length_is = ap suc u.length_is; within = omega arith; longest = further n u.longest }
+    step true e n u = let low : n ≤ length bs = u.within in
+        record { pass = (e, u.pass); text_is = ap (λ (l : List ℕ). b ∷ l) u.text_is; length_is = ap suc u.length_is; within = omega arith; longest = further n u.longest }
     step false e n u = record { pass = tt; text_is = refl; length_is = refl; within = omega arith; longest = inr (omega arith, e) }
 
 up_to_again : (p : ℕ → Bool) (k : ℕ) (run rest : List ℕ) → Pass p run → (length run ≡ k) ⊎ ((length run < k) × Stops p rest) → run_len p (take k (run ++ rest)) ≡ length run

@@ -113,7 +113,10 @@ mark_among_is (c ∷ cs) text m e = step (starts_with nat_eq text (mark_text c))
   where
     step : (t : Bool) → starts_with nat_eq text (mark_text c) ≡ t → (mark_among cs text ≡ Some m → Among m cs × (text ≡ mark_text m ++ drop (length (mark_text m)) text))
         → cond t (Some c) (mark_among cs text) ≡ Some m → Among m (c ∷ cs) × (text ≡ mark_text m ++ drop (length (mark_text m)) text)
-    step true f more h = let same = same_Some c m h in (subst (λ (x : Mark). Among x (c ∷ cs)) same (first cs), subst (λ (x : Mark). text ≡ mark_text x ++ drop (length (mark_text x)) text) same (begins c text f))
+    step true f more h = let same = same_Some c m h in (
+      subst (λ (x : Mark). Among x (c ∷ cs)) same (first cs),
+      subst (λ (x : Mark). text ≡ mark_text x ++ drop (length (mark_text x)) text) same (begins c text f),
+    )
     step false f more h = let r = more h in (later c cs r.0, r.1)
 
 -- no mark that begins the text is longer than the one that is found, and one is found

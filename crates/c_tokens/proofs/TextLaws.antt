@@ -35,7 +35,8 @@ goes_on at text p ok (Err (At place kind)) s =
 text_says : (n at : ℕ) (text : List ℕ) → length text ≤ n → TextSays at text (read_from 0 at text)
 text_says n at [] low = ended at
 text_says zero at (b ∷ bs) low = absurd (omega arith)
-text_says (suc n) at (b ∷ bs) low = step (piece_of at (b ∷ bs)) refl (piece_says at b bs) (λ (k : ℕ) (one : 1 ≤ k). text_says n (at + k) (drop k (b ∷ bs)) (let len : length (drop k (b ∷ bs)) ≡ suc (length bs) - k = length-drop k (b ∷ bs) in omega arith))
+text_says (suc n) at (b ∷ bs) low = step (piece_of at (b ∷ bs)) refl (piece_says at b bs)
+    (λ (k : ℕ) (one : 1 ≤ k). text_says n (at + k) (drop k (b ∷ bs)) (let len : length (drop k (b ∷ bs)) ≡ suc (length bs) - k = length-drop k (b ∷ bs) in omega arith))
   where
     step : (r : Result Piece TokenFault) → piece_of at (b ∷ bs) ≡ r → PieceSays at (b ∷ bs) r
         → ((k : ℕ) → 1 ≤ k → TextSays (at + k) (drop k (b ∷ bs)) (read_from 0 (at + k) (drop k (b ∷ bs)))) → TextSays at (b ∷ bs) (read_from 0 at (b ∷ bs))

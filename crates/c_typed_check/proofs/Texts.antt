@@ -85,7 +85,8 @@ pub main_nowhere : (rs : List Routine) (i : ℕ) → length rs ≤ i → from_on
 main_nowhere rs i le = rw (drop_all i rs le) refl
 
 -- a whole text: the functions that are known, and the externals, as the code holds them
-module _ (items l m : List External) (end : ℕ) (f : Known) (begun : Text) (is_l : l ≡ items) (is_m : m ≡ items) (known_is : fine (known (externals_of l)) ≡ Ok f) (begins : fine empty_text ≡ Ok begun) where
+module _ (items l m : List External) (end : ℕ) (f : Known) (begun : Text) (is_l : l ≡ items) (is_m : m ≡ items) (known_is : fine (known (externals_of l)) ≡ Ok f)
+    (begins : fine empty_text ≡ Ok begun) where
   all_known : known (externals_of items) ≡ f
   all_known =
       let k : known (externals_of l) ≡ f = cc in

@@ -64,7 +64,8 @@ integer_test x i = rw (i.is) refl
 arithmetic_means : (op : ArithmeticOperator) (at : ℕ) (x y : AnExpression) → Means (arithmetic op at x y) (IsArithmetic op x y) (NoRow (IsArithmetic op x y) at BadType)
 unfolding arithmetic
 arithmetic_means op at x y = means_row _ _ at BadType
-    (λ t e. let p = by_test (is_integer (type_of x) && is_integer (type_of y)) (ArithmeticOf op x y) t at BadType e in let q = both_true (is_integer (type_of x)) (is_integer (type_of y)) (p.0) in record { left = integer_type x (type_of x) refl (q.0); right = integer_type y (type_of y) refl (q.1); is = p.1 })
+    (λ t e. let p = by_test (is_integer (type_of x) && is_integer (type_of y)) (ArithmeticOf op x y) t at BadType e in let q = both_true (is_integer (type_of x)) (is_integer (type_of y)) (p.0) in
+    record { left = integer_type x (type_of x) refl (q.0); right = integer_type y (type_of y) refl (q.1); is = p.1 })
     (λ t r. rw (integer_test x r.left, integer_test y r.right, r.is) refl)
     (λ f e. by_test_one (is_integer (type_of x) && is_integer (type_of y)) (ArithmeticOf op x y) f at BadType e)
 
@@ -105,7 +106,8 @@ difference_found at x y t (Integer b) (Integer c) p q e = DifferenceOfIntegers (
 difference_found at x y t (Integer b) (Pointer c n) p q e = absurd (cc)
 difference_found at x y t (Pointer b m) Void p q e = absurd (cc)
 difference_found at x y t (Pointer b m) (Integer c) p q e = PointerMinus (record { to = b; stars = m; is = p }) (record { of = c; is = q }) (rw p (cc))
-difference_found at x y t (Pointer b m) (Pointer c n) p q e = let r = by_test (same_type (Pointer b m) (Pointer c n)) _ t at BadType e in DifferenceOfPointers (pointers_of x y b c m n p q (r.0)) (rw p (r.1))
+difference_found at x y t (Pointer b m) (Pointer c n) p q e = let r = by_test (same_type (Pointer b m) (Pointer c n)) _ t at BadType e in
+    DifferenceOfPointers (pointers_of x y b c m n p q (r.0)) (rw p (r.1))
 
 same_of : (x y : AnExpression) (p : ArePointers x y) → same_type (Pointer p.left.to p.left.stars) (Pointer p.right.to p.right.stars) ≡ true
 same_of x y p = rw (← p.left.is, ← p.right.is) p.same
@@ -184,14 +186,16 @@ comparable_only x y (NullAndPointer n l r) = rw (l.is, r.is) n
 equality_means : (rel : Rel) (at : ℕ) (x y : AnExpression) → Means (equality rel at x y) (IsEquality rel x y) (NoRow (IsEquality rel x y) at BadType)
 unfolding equality are_comparable
 equality_means rel at x y = means_row _ _ at BadType
-    (λ t e. let p = by_test (are_comparable_at (type_of x) (type_of y) x y) (CompareOf rel x y) t at BadType e in record { operands = comparable_found x y (type_of x) (type_of y) refl refl (p.0); is = p.1 })
+    (λ t e. let p = by_test (are_comparable_at (type_of x) (type_of y) x y) (CompareOf rel x y) t at BadType e in
+    record { operands = comparable_found x y (type_of x) (type_of y) refl refl (p.0); is = p.1 })
     (λ t r. rw (comparable_only x y r.operands, r.is) refl)
     (λ f e. by_test_one (are_comparable_at (type_of x) (type_of y) x y) (CompareOf rel x y) f at BadType e)
 
 logical_means : (whole : AnExpression) (at : ℕ) (x y : AnExpression) → Means (cond (is_scalar (type_of x) && is_scalar (type_of y)) (Ok whole) (bad at BadType)) (IsLogical whole x y)
     (NoRow (IsLogical whole x y) at BadType)
 logical_means whole at x y = means_row _ _ at BadType
-    (λ t e. let p = by_test (is_scalar (type_of x) && is_scalar (type_of y)) whole t at BadType e in let q = both_true (is_scalar (type_of x)) (is_scalar (type_of y)) (p.0) in record { left = q.0; right = q.1; is = p.1 })
+    (λ t e. let p = by_test (is_scalar (type_of x) && is_scalar (type_of y)) whole t at BadType e in let q = both_true (is_scalar (type_of x)) (is_scalar (type_of y)) (p.0) in
+    record { left = q.0; right = q.1; is = p.1 })
     (λ t r. rw (r.left, r.right, r.is) refl)
     (λ f e. by_test_one (is_scalar (type_of x) && is_scalar (type_of y)) whole f at BadType e)
 

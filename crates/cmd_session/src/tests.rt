@@ -44,8 +44,8 @@ fn reads_words(rt: HostRuntime) -> Result<(), Fail> {
         run,a,18446744073709551617=nothing;Run,a,7=nothing;meaning,s.c,7=meaning s.c 7;\
         meaning,s,1000000000=meaning s 1000000000;meaning=nothing;meaning,s=nothing;meaning,,7=nothing;\
         meaning,s,7,7=nothing;meaning,s,0=nothing;meaning,s,07=nothing;meaning,s,1000000001=nothing;means,s,7=nothing;\
-        load,d,1=load d 1;load,d,1000=load d 1000;load=nothing;load,d=nothing;load,,7=nothing;load,d,7,7=nothing;load,d,0=nothing;load,d,01=nothing;\
-        load,d,1001=nothing;load,d,1000000000=nothing";
+        load,d,1=load d 1;load,d,1000=load d 1000;load=nothing;load,d=nothing;load,,7=nothing;load,d,7,7=nothing;load,d,0=nothing;\
+        load,d,01=nothing;load,d,1001=nothing;load,d,1000000000=nothing";
     for row in rows.split(';') {
         let (words, wanted) = row.split_once('=').ok_or("no row")?;
         let got = said(rt.alloc(), words)?;

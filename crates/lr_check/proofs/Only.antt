@@ -61,7 +61,8 @@ module _ (R : ℕ → ℕ → Type 0) (apart : (m n : ℕ) → R m n → R n m �
       (cons_cases m ms n (f n (here n ns))) in
       (λ i. sym same i ∷ same_lists ns ms (pairs_tail n ns p) (pairs_tail m ms q)
       (λ x c. ⊎_elim (λ e. absurd (let r : R n n = subst (R n) (sym e ∙ same) (pairs_head n ns x p c) in apart n n r r)) (λ d. d) (cons_cases m ms x (f x (Contains-append_right (n ∷ []) ns x c))))
-      (λ x c. ⊎_elim (λ e. absurd (let r : R m m = subst (R m) (sym e ∙ sym same) (pairs_head m ms x q c) in apart m m r r)) (λ d. d) (cons_cases n ns x (g x (Contains-append_right (m ∷ []) ms x c)))) i)
+      (λ x c. ⊎_elim (λ e. absurd (let r : R m m = subst (R m) (sym e ∙ sym same) (pairs_head m ms x q c) in apart m m r r)) (λ d. d)
+      (cons_cases n ns x (g x (Contains-append_right (m ∷ []) ms x c)))) i)
 
 module _ (rules : List Rule) (stmt : ℕ) where
   goes_first_apart : (m n : ℕ) → GoesFirst rules stmt m n → GoesFirst rules stmt n m → ⊥

@@ -78,7 +78,8 @@ ordering_turn nodes order old rest order' rest' n k v s o e there f g =
       many = (let l = length-append order (k ∷ []) in let m = o.many in let h : length order' ≡ length (order ++ k ∷ []) = ap (λ (x : List ℕ). length x) f in omega (arith, l, m, h));
       within = λ j h. ⊎_elim
           (λ a. o.within j (subst (λ (x : List ℕ). Contains x j) (sym e) (Contains-append_left rest (k ∷ []) j a)))
-          (λ a. let lt : j < k = s.lower k j v there (reverse_has v.kids j a) in let here : k < length nodes = o.within k (subst (λ (x : List ℕ). Contains x k) (sym e) (Contains-push rest k)) in omega (arith, lt, here))
+          (λ a. let lt : j < k = s.lower k j v there (reverse_has v.kids j a) in let here : k < length nodes = o.within k (subst (λ (x : List ℕ). Contains x k) (sym e) (Contains-push rest k)) in
+          omega (arith, lt, here))
           (Contains-append_cases rest (reverse v.kids) j (subst (λ (x : List ℕ). Contains x j) g h));
     }
 

@@ -21,10 +21,11 @@ fn turn(
     from: u16,
     to: u16,
 ) -> Result<(), NoMemory>
-    ensures { (p : ℕ) → (automaton_of tables.now).go place.now.state (grammar_symbol.Class from) ≡ Some p → OnOk result (asked.new ≡ record {
-      own = asked.old.own ++ answers_to ((automaton_of tables.now).candidates p place.now.behind) 1 to;
-      depths = asked.old.depths ++ depths_to ((automaton_of tables.now).candidates p place.now.behind) 1 to;
-    }) }
+    ensures { (p : ℕ) → (automaton_of tables.now).go place.now.state (grammar_symbol.Class from) ≡ Some p
+        → OnOk result (asked.new ≡ record {
+          own = asked.old.own ++ answers_to ((automaton_of tables.now).candidates p place.now.behind) 1 to;
+          depths = asked.old.depths ++ depths_to ((automaton_of tables.now).candidates p place.now.behind) 1 to;
+        }) }
 {
     match tables.over(place.state, Sym::Class(from)) {
         Some(state) => {

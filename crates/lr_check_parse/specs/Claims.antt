@@ -42,7 +42,8 @@ HasEnd {L = L} {X = X} of =
 -- ---- by lists of answers
 
 -- its moves
-pub record HasMoves (rules : List Rule) (stmt at : ℕ) (before : List (List Sym)) (ws : List Token) (s : List Part) (o : Outcome) : Type 0 where
+pub record HasMoves (rules : List Rule) (stmt at : ℕ) (before : List (List Sym)) (ws : List Token) (s : List Part)
+    (o : Outcome) : Type 0 where
   pub log : List (Move Token)
   pub end : Ending Lists
   pub same : EndsSo end o
@@ -67,7 +68,8 @@ questioned of [] f = []
 questioned of (l ∷ ws) f = record { tok = of.token l; answers = f 0 } ∷ questioned of ws (λ i. f (suc i))
 
 -- some answers lead the parse to this end: those of the stack's nodes and those of the leaves to come
-pub record HasAnswers {L X : Type 0} (of : Answering L X) (rules : List Rule) (stmt at : ℕ) (before : List (List Sym)) (ws : List L) (a : List Sym) (o : Outcome) : Type 0 where
+pub record HasAnswers {L X : Type 0} (of : Answering L X) (rules : List Rule) (stmt at : ℕ) (before : List (List Sym)) (ws : List L)
+    (a : List Sym) (o : Outcome) : Type 0 where
   pub left : ℕ → List Bool
   pub to_come : ℕ → List Bool
   pub ends : Ends rules stmt at before (questioned of ws to_come) (labelled a left) o

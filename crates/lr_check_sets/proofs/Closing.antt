@@ -97,7 +97,8 @@ module _ (A : Automaton) (P : ℕ → Tok → Tok → Type 0) (T S : ℕ → Tok
       behind_only p n x z place e (same_state q p j k s go es ws) (subst (λ l. Begins l t n) e bg) (subst (λ b. S p n b z) same sm) (ap (λ l. z ++ l) es) refl
   kid_stage q p k t n m s z x (y ∷ []) (at_token j place go bg e es) ws may sm =
       behind_first p n x y z place e (same_state q p j k s go es ws) (subst (λ l. Begins l t n) e bg) sm may (ap (λ l. z ++ l) es) refl
-  kid_stage q p k t n m s z x (y ∷ w ∷ xs) (at_token j place go bg e es) ws may sm = absurd (let long : length (kids k) ≡ length (x ∷ y ∷ w ∷ xs) = ap length e in let le = few k in omega (arith, long, le))
+  kid_stage q p k t n m s z x (y ∷ w ∷ xs) (at_token j place go bg e es) ws may sm =
+      absurd (let long : length (kids k) ≡ length (x ∷ y ∷ w ∷ xs) = ap length e in let le = few k in omega (arith, long, le))
   kid_stage q p k t n m s z x xs (behind_only j l y v place e go fit kid es none) ws bg sm = absurd (cons_nil x xs none)
   kid_stage q p k t n m s z x xs (behind_first j l w y v place e go fit kid may es one) ws bg sm =
       let none : xs ≡ [] = tail_nil x y xs one in

@@ -177,7 +177,8 @@ module _ (rules : List Rule) (stmt classes : ℕ) (g : IsGrammar rules stmt clas
       by : (o : Option Rule) → slice_get rules n ≡ o → option_map (λ (r : Rule). r.left) o ≡ Some c → In (fresh n) (k ++ opened_from 0 rules (open_classes rules stmt classes (chains rules) k))
       by None f u = cc
       by (Some r) f u = In-right (fresh n) k (opened_from 0 rules (open_classes rules stmt classes (chains rules) k))
-          (subst (λ x. In (fresh x) (opened_from 0 rules (open_classes rules stmt classes (chains rules) k))) (let z : 0 + n ≡ n = omega arith in z) (opened_there rules (open_classes rules stmt classes (chains rules) k) 0 n r f (subst (Marked (open_classes rules stmt classes (chains rules) k)) (sym (Some-same r.left c u)) h)))
+          (subst (λ x. In (fresh x) (opened_from 0 rules (open_classes rules stmt classes (chains rules) k))) (let z : 0 + n ≡ n = omega arith in z)
+          (opened_there rules (open_classes rules stmt classes (chains rules) k) 0 n r f (subst (Marked (open_classes rules stmt classes (chains rules) k)) (sym (Some-same r.left c u)) h)))
 
   pub kernel_there : (k : List Item) (i : Item) → In i k → In i (item_set rules stmt classes (chains rules) k)
   unfolding item_set

@@ -89,7 +89,8 @@ module _ (rules : List Rule) (stmt classes : ℕ) (g : IsGrammar rules stmt clas
       λ k a e. ap (λ (x : List (List Item)). slice_get x k) (sym s.1) ∙ (slice_get-map (kernel_at rules stmt classes) s.0 k ∙ ap (option_map (kernel_at rules stmt classes)) e) in
       record {
         stacks = s.0;
-        many = (let l = length-map s.0 (kernel_at rules stmt classes) in let m : length (map (kernel_at rules stmt classes) s.0) ≡ length ks = ap (λ (x : List (List Item)). length x) s.1 in let v = o.over in omega (arith, l, m, v));
+        many = (let l = length-map s.0 (kernel_at rules stmt classes) in let m : length (map (kernel_at rules stmt classes) s.0) ≡ length ks = ap (λ (x : List (List Item)). length x) s.1 in
+            let v = o.over in omega (arith, l, m, v));
         differ = record {
           live = λ k a e.
               let r : Reached rules stmt classes g (kernel_at rules stmt classes a) =

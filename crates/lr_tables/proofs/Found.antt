@@ -283,7 +283,9 @@ module _ (rules : List Rule) (stmt classes : ℕ) (g : IsGrammar rules stmt clas
   found_stays q (suc m) le h =
       ⊎_elim
       (λ lt. let ih : found rules stmt classes m ≡ found rules stmt classes q = found_stays q m (omega (arith, lt)) h in
-      let none : slice_get (found rules stmt classes m) m ≡ None = slice_get_past (found rules stmt classes m) m (let l : length (found rules stmt classes m) ≡ length (found rules stmt classes q) = ap (λ (x : List (List Item)). length x) ih in omega (arith, l, h, lt)) in
+      let none : slice_get (found rules stmt classes m) m ≡ None =
+      slice_get_past (found rules stmt classes m) m (let l : length (found rules stmt classes m) ≡ length (found rules stmt classes q) = ap (λ (x : List (List Item)). length x) ih in
+      omega (arith, l, h, lt)) in
       ap (followed rules stmt classes (found rules stmt classes m)) none ∙ ih)
       (λ ge. ap (found rules stmt classes) (let e : suc m ≡ q = omega (arith, le, ge) in e))
       (cases_lt q (suc m))

@@ -207,7 +207,8 @@ module _ (rules : List Rule) (stmt classes : ℕ) (g : IsGrammar rules stmt clas
       let at : slice_get (found rules stmt classes (length rows)) q ≡ Some k = leads_kernel l in
       let there : In (advanced s.item) next_kernel = moved_there rules stmt classes g X (item_set rules stmt classes (chains rules) k) s.item (valid_set rules stmt classes g s.valid) s.before in
       let some : 0 < length next_kernel = in_some next_kernel (advanced s.item) there in
-      let p : (n : ℕ) × (position (same_kernel next_kernel) (found rules stmt classes (length rows)) ≡ Some n) = position_there (found rules stmt classes (length rows)) next_kernel (found_complete rules stmt classes g (length rows) (let m = b.many in omega (arith, m)) (X ∷ a) some) in
+      let p : (n : ℕ) × (position (same_kernel next_kernel) (found rules stmt classes (length rows)) ≡ Some n) =
+      position_there (found rules stmt classes (length rows)) next_kernel (found_complete rules stmt classes g (length rows) (let m = b.many in omega (arith, m)) (X ∷ a) some) in
       let lt : symbol_number X < 40 + classes = symbol_within rules stmt classes g s.item X s.before in (
         p.0,
         ap (λ (o : Option RowView). target_in o (symbol_number X)) (row_at q k at)
@@ -228,7 +229,8 @@ module _ (rules : List Rule) (stmt classes : ℕ) (g : IsGrammar rules stmt clas
   goes a q c l = by (target_at (record { content = content; rows = rows }) q (grammar_symbol.Class c)) refl
     where
       by : (o : Option ℕ) → target_at (record { content = content; rows = rows }) q (grammar_symbol.Class c) ≡ o → Goes rules stmt (record { content = content; rows = rows }) a c o
-      by None e = λ s. let p : (n : ℕ) × (target_at (record { content = content; rows = rows }) q (grammar_symbol.Class c) ≡ Some n) = leads_on a q (grammar_symbol.Class c) l s in none_some p.0 (sym e ∙ p.1)
+      by None e = λ s. let p : (n : ℕ) × (target_at (record { content = content; rows = rows }) q (grammar_symbol.Class c) ≡ Some n) = leads_on a q (grammar_symbol.Class c) l s in
+          none_some p.0 (sym e ∙ p.1)
       by (Some p) e = (stands_from a q p (grammar_symbol.Class c) l e, further l e)
 
   -- the cell of a kernel's row at a token
@@ -303,5 +305,7 @@ module _ (rules : List Rule) (stmt classes : ℕ) (g : IsGrammar rules stmt clas
 
       by : (o : Option ℕ) → target_at (record { content = content; rows = rows }) q (grammar_symbol.Tok t) ≡ o
           → Candidates rules stmt (record { content = content; rows = rows }) a t (cell (number t) o (reductions rules (follows rules stmt classes (number t)) (kernel_at rules stmt classes a)))
-      by None e = reduces (rules_of rules (follows rules stmt classes (number t)) (kernel_at rules stmt classes a)) (λ s. let p : (n : ℕ) × (target_at (record { content = content; rows = rows }) q (grammar_symbol.Tok t) ≡ Some n) = leads_on a q (grammar_symbol.Tok t) l s in none_some p.0 (sym e ∙ p.1)) (are_reductions a t) (reductions_are rules (follows rules stmt classes (number t)) (kernel_at rules stmt classes a))
+      by None e = reduces (rules_of rules (follows rules stmt classes (number t)) (kernel_at rules stmt classes a))
+          (λ s. let p : (n : ℕ) × (target_at (record { content = content; rows = rows }) q (grammar_symbol.Tok t) ≡ Some n) = leads_on a q (grammar_symbol.Tok t) l s in
+          none_some p.0 (sym e ∙ p.1)) (are_reductions a t) (reductions_are rules (follows rules stmt classes (number t)) (kernel_at rules stmt classes a))
       by (Some p) e = shift_case p e (number t == 39) refl

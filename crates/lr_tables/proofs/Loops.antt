@@ -52,7 +52,8 @@ short_dot rules stmt i X s e = by i.rule refl
     at (Some r) h g = let lt : i.dot < length r.right = slice_get_within r.right i.dot X g in let le : length r.right ≤ 16 = h r refl in omega arith
 
     by : (o : Option ℕ) → i.rule ≡ o → i.dot < 16
-    by None f = let lt : i.dot < length (right_of rules stmt i.rule) = slice_get_within (right_of rules stmt i.rule) i.dot X e in let two : length (right_of rules stmt i.rule) ≡ 2 = ap (λ o. length (right_of rules stmt o)) f in omega (arith, lt, two)
+    by None f = let lt : i.dot < length (right_of rules stmt i.rule) = slice_get_within (right_of rules stmt i.rule) i.dot X e in
+        let two : length (right_of rules stmt i.rule) ≡ 2 = ap (λ o. length (right_of rules stmt o)) f in omega (arith, lt, two)
     by (Some n) f = at (slice_get rules n) (λ r g. s.each n r g) (subst (λ o. slice_get (right_of rules stmt o) i.dot ≡ Some X) f e)
 
 -- a test that holds has its symbol
@@ -129,7 +130,8 @@ row_over rules stmt items ks most n (suc m) le h =
 -- what was entered behind one more symbol
 pub row_turn : (rules : List Rule) (stmt : ℕ) (items : List Item) (ks : List (List Item)) (n : ℕ) (old new : List (List Item)) (kernel : List Item) → old
     ≡ row_entered rules stmt items ks n → kernel ≡ moved rules stmt n items → new ≡ entered old kernel → new ≡ row_entered rules stmt items ks (n + 1)
-row_turn rules stmt items ks n old new kernel e f g = g ∙ ap (λ (x : List (List Item)). entered x kernel) e ∙ ap (entered (row_entered rules stmt items ks n)) f ∙ ap (row_entered rules stmt items ks) (let z : suc n ≡ n + 1 = omega arith in z)
+row_turn rules stmt items ks n old new kernel e f g = g ∙ ap (λ (x : List (List Item)). entered x kernel) e ∙ ap (entered (row_entered rules stmt items ks n)) f
+    ∙ ap (row_entered rules stmt items ks) (let z : suc n ≡ n + 1 = omega arith in z)
 
 pub row_full : (rules : List Rule) (stmt : ℕ) (items : List Item) (ks : List (List Item)) (n m most : ℕ) (keys : List (Vec Item Global)) → kernels keys
     ≡ row_entered rules stmt items ks (n + 1) → most < length keys → n < m → most < length (row_entered rules stmt items ks m)

@@ -85,4 +85,5 @@ In-filter_map h x y (z ∷ xs) at e = ⊎_elim (λ s. cons_here (h z) y (filter_
 
 pub filter_map-In : {X Y : Type 0} (h : X → Option Y) (y : Y) (xs : List X) → In y (filter_map h xs) → (x : X) × In x xs × (h x ≡ Some y)
 filter_map-In h y [] at = absurd at
-filter_map-In {X = X} h y (z ∷ xs) at = ⊎_elim (λ s. (z, inl refl, s)) (λ later. let c : (x : X) × In x xs × (h x ≡ Some y) = filter_map-In h y xs later in (c.0, inr c.1, c.2)) (cons_cases (h z) y (filter_map h xs) at)
+filter_map-In {X = X} h y (z ∷ xs) at = ⊎_elim (λ s. (z, inl refl, s)) (λ later. let c : (x : X) × In x xs × (h x ≡ Some y) = filter_map-In h y xs later in (c.0, inr c.1, c.2))
+    (cons_cases (h z) y (filter_map h xs) at)

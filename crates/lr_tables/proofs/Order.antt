@@ -99,7 +99,8 @@ advanced_before i j h = ⊎_elim (λ a. inl (omega (arith, a))) (λ a. inr (ap (
 pub Sorted-advanced : (xs : List Item) → Sorted xs → Sorted (map advanced xs)
 Sorted-advanced [] h = tt
 Sorted-advanced (x ∷ xs) h = (
-  In-Each (Before (advanced x)) (map advanced xs) (λ z at. let m : (y : Item) × In y xs × (z ≡ advanced y) = map-In advanced z xs at in subst (Before (advanced x)) (sym m.2) (advanced_before x m.0 (Each-In (Before x) xs m.0 h.0 m.1))),
+  In-Each (Before (advanced x)) (map advanced xs) (λ z at. let m : (y : Item) × In y xs × (z ≡ advanced y) = map-In advanced z xs at in
+      subst (Before (advanced x)) (sym m.2) (advanced_before x m.0 (Each-In (Before x) xs m.0 h.0 m.1))),
   Sorted-advanced xs h.1,
 )
 
@@ -111,7 +112,8 @@ record Opened (k : ℕ) (i : Item) : Type 0 where
 
 opened_is : (rs : List Rule) (m : List Bool) (k : ℕ) (i : Item) → In i (opened_from k rs m) → Opened k i
 opened_is [] m k i at = absurd at
-opened_is (r ∷ rs) m k i at = ⊎_elim (λ o. o) (λ u. let o : Opened (k + 1) i = opened_is rs m (k + 1) i u in record { place = o.place; is = o.is; from = (let f = o.from in omega (arith, f)) }) (by (get_or m r.left false) at)
+opened_is (r ∷ rs) m k i at = ⊎_elim (λ o. o) (λ u. let o : Opened (k + 1) i = opened_is rs m (k + 1) i u in record { place = o.place; is = o.is; from = (let f = o.from in omega (arith, f)) })
+    (by (get_or m r.left false) at)
   where
     by : (b : Bool) → In i (cond b (fresh k ∷ opened_from (k + 1) rs m) (opened_from (k + 1) rs m)) → Opened k i ⊎ In i (opened_from (k + 1) rs m)
     by true u = ⊎_elim (λ s. inl (record { place = k; is = sym s; from = omega arith })) (λ x. inr x) u

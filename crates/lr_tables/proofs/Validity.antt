@@ -70,8 +70,10 @@ is_grammar d v = record {
   start = (let lt = stmt_within 0 d.classes v.stmt in omega (arith, lt));
   lefts = λ n r e. (let q : IsRule d.classes r = rule_at d.classes d.rules n r v.rules e in class_within d.classes r.left q.sides.sort q.sides.declared);
   some = λ n r e. (let q : IsRule d.classes r = rule_at d.classes d.rules n r v.rules e in subst (λ (w : List Sym). 0 < length w) q.sides.sorted.spelled (tree_some d.classes q.sides.sorted.tree));
-  within = λ n k c r e f. (let s : (x : Sort) × (sort_of_symbol d.classes (grammar_symbol.Class c) ≡ Some x) = sorted_at r (rule_at d.classes d.rules n r v.rules e) (grammar_symbol.Class c) k f in class_within d.classes c s.0 s.1);
-  no_end = λ n k r e f. (let s : (x : Sort) × (sort_of_symbol d.classes (grammar_symbol.Tok tok.End) ≡ Some x) = sorted_at r (rule_at d.classes d.rules n r v.rules e) (grammar_symbol.Tok tok.End) k f in none_some s.0 s.1);
+  within = λ n k c r e f. (let s : (x : Sort) × (sort_of_symbol d.classes (grammar_symbol.Class c) ≡ Some x) = sorted_at r (rule_at d.classes d.rules n r v.rules e) (grammar_symbol.Class c) k f in
+      class_within d.classes c s.0 s.1);
+  no_end = λ n k r e f. (let s : (x : Sort) × (sort_of_symbol d.classes (grammar_symbol.Tok tok.End) ≡ Some x) =
+      sorted_at r (rule_at d.classes d.rules n r v.rules e) (grammar_symbol.Tok tok.End) k f in none_some s.0 s.1);
 }
   where
     sorted_at : (r : Rule) → IsRule d.classes r → (s : Sym) (k : ℕ) → slice_get r.right k ≡ Some s → (x : Sort) × (sort_of_symbol d.classes s ≡ Some x)

@@ -491,8 +491,11 @@ rule_run : (s : State) (r : Rule) (fs : List Form) (d : Content) → s.stage ≡
     → Runs s (ruling s.classes r ++ fs) d
 rule_run s r fs d g h k few runs =
     let t = k.template in
-    let p : Runs (inside s r r.restrictions []) (map Writes r.lines ++ Gives r.give ∷ fs) d = dos_run s r r.restrictions [] r.lines (Gives r.give ∷ fs) d t.written (let z = t.few_lines in omega (arith, z)) (runs_cons (inside s r r.restrictions r.lines) (behind s r) (Gives r.give) fs d (give_again s r fs k.gives) runs) in
-    let q : Runs (inside s r [] []) (map Restricts r.restrictions ++ (map Writes r.lines ++ Gives r.give ∷ fs)) d = ifs_run s r [] r.restrictions _ d t.restricted (let z = t.few_restrictions in omega (arith, z)) p in
+    let p : Runs (inside s r r.restrictions []) (map Writes r.lines ++ Gives r.give ∷ fs) d =
+    dos_run s r r.restrictions [] r.lines (Gives r.give ∷ fs) d t.written (let z = t.few_lines in omega (arith, z))
+    (runs_cons (inside s r r.restrictions r.lines) (behind s r) (Gives r.give) fs d (give_again s r fs k.gives) runs) in
+    let q : Runs (inside s r [] []) (map Restricts r.restrictions ++ (map Writes r.lines ++ Gives r.give ∷ fs)) d =
+    ifs_run s r [] r.restrictions _ d t.restricted (let z = t.few_restrictions in omega (arith, z)) p in
     let whole : Runs s (Head (name_at s.classes r.left) (map (symbol_word s.classes) r.right) ∷ (map Restricts r.restrictions ++ (map Writes r.lines ++ Gives r.give ∷ fs))) d =
     runs_cons s (inside s r [] []) _ _ d (head_again s r fs g h k.sides few) q in
     let a = append_assoc (map Restricts r.restrictions) (map Writes r.lines ++ Gives r.give ∷ []) fs in
@@ -526,7 +529,8 @@ pool_again m fs n ws ls c e = rw e refl
 
 all_run : (d : Content) → IsValid d → Runs start (telling d) d
 all_run d v =
-    let rules : Runs (saves stage.Rules d.pool d.classes d.spills) (flat_map (ruling d.classes) d.rules) d = rules_run (saves stage.Rules d.pool d.classes d.spills) d.rules d refl v.classes v.rules (let z = v.some in omega (arith, z)) (let z = v.few in omega (arith, z)) refl in
+    let rules : Runs (saves stage.Rules d.pool d.classes d.spills) (flat_map (ruling d.classes) d.rules) d =
+    rules_run (saves stage.Rules d.pool d.classes d.spills) d.rules d refl v.classes v.rules (let z = v.some in omega (arith, z)) (let z = v.few in omega (arith, z)) refl in
     let spills = spills_run d.pool d.classes d.spills _ d v.stmt v.spills v.eight rules in
     let classes = classes_run d.pool [] d.classes _ d v.classes spills in
     runs_cons start at_target Version _ d (version_again _) (runs_cons at_target at_pool Target _ d (target_again _)

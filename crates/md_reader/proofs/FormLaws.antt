@@ -159,7 +159,8 @@ pool_is [] k e = absurd (none-some k e)
 pool_is (a ∷ []) k e = absurd (none-some k e)
 pool_is (a ∷ w ∷ ws) k e =
     let p = guarded (same a (codes "pool")) (pool_from 0 (w ∷ ws)) k e in
-    option_and_then_some (λ (n : ℕ). pool_from n ws) (with_register 0 (register_of w)) k p.1 (λ i f g. let q = with_grown 0 (register_of w) i (register_small w) (omega arith) f in whole (pool_grown ws i k q.0 q.1 g))
+    option_and_then_some (λ (n : ℕ). pool_from n ws) (with_register 0 (register_of w)) k p.1
+    (λ i f g. let q = with_grown 0 (register_of w) i (register_small w) (omega arith) f in whole (pool_grown ws i k q.0 q.1 g))
   where
     whole : (k < 2 ^ 12) × (1 ≤ k) → IsPool k
     whole h = record { some = h.1; within = omega (arith, h.0) }

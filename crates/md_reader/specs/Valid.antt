@@ -59,7 +59,8 @@ abbrev pub MayWrite : Bool → List Sym → Line → Type 0
 MayWrite register right l = line_fits register right l.pieces ≡ true
 
 -- the restrictions and the lines of a template, in which `%0` may stand or not
-pub record IsTemplate (classes : List Class) (right : List Sym) (register : Bool) (restrictions : List Restriction) (lines : List Line) : Type 0 where
+pub record IsTemplate (classes : List Class) (right : List Sym) (register : Bool) (restrictions : List Restriction)
+    (lines : List Line) : Type 0 where
   pub few_restrictions : length restrictions ≤ 4
   pub restricted : AllByRecursion (MayRestrict classes right) restrictions
   pub few_lines : length lines ≤ 8

@@ -96,7 +96,8 @@ apart_bytes (l ∷ ls) h n = by (cases_lt 0 (times n (bytes_linked ls))) (apart_
 
     clear : Linked n ls → times n (four l.at) ≤ 0
     clear k =
-        ⊎_elim (λ some. absurd (let w = (four_is n l.at).within some in let a = h 0 (suc k.place) l (omega arith) (omega (arith, k.within)) in let f = k.from l in let t = k.to l in ⊎_elim (λ le. omega (arith, le, w, f, t)) (λ le. omega (arith, le, w, f, t)) a)) (λ none. none) (cases_lt 0 (times n (four l.at)))
+        ⊎_elim (λ some. absurd (let w = (four_is n l.at).within some in let a = h 0 (suc k.place) l (omega arith) (omega (arith, k.within)) in let f = k.from l in let t = k.to l in
+        ⊎_elim (λ le. omega (arith, le, w, f, t)) (λ le. omega (arith, le, w, f, t)) a)) (λ none. none) (cases_lt 0 (times n (four l.at)))
 
     by : (0 < times n (bytes_linked ls)) ⊎ (times n (bytes_linked ls) ≤ 0) → times n (bytes_linked ls) ≤ 1 → times n (bytes_linked (l ∷ ls)) ≤ 1
     by (inl some) few = let c = clear (linked n ls (omega (arith, some))) in omega (arith, sum, c, few)
@@ -135,7 +136,8 @@ bytes_apart ls h i j d lt lt' = by (cases_lt (get_or ls j d).at ((get_or ls i d)
     by (inr le) y = inl le
     by (inl x) (inr le) = inr le
     by (inl x) (inl y) =
-        ⊎_elim (λ low. absurd (let two = two_of b ls i j d lt lt' (omega arith) x (omega arith) (omega arith) in omega (arith, two, h b))) (λ high. absurd (let two = two_of a ls i j d lt lt' (omega arith) (omega arith) high y in omega (arith, two, h a))) (cases_lt a b)
+        ⊎_elim (λ low. absurd (let two = two_of b ls i j d lt lt' (omega arith) x (omega arith) (omega arith) in omega (arith, two, h b)))
+        (λ high. absurd (let two = two_of a ls i j d lt lt' (omega arith) (omega arith) high y in omega (arith, two, h a))) (cases_lt a b)
 
 pub apart_is : (ls : List Link) (b : Bool) → (IsTrue b ↔ BytesApart ls) → IsTrue b ↔ LinksApart ls
 apart_is ls b h = ((λ t. bytes_apart ls (h.0 t)), (λ p. h.1 (apart_bytes ls p)))

@@ -148,7 +148,8 @@ least_some from k best (m ∷ ms) e = here (least_some from k (better from best 
         let s = step (nat_le from m) refl refl h in
         record {
           above = s.0;
-          none = λ n le lt. split_eqb m n (λ b. cond b 1 0 + times n ms ≡ 0) (λ q. let low : from ≤ m = omega (arith, le, q) in absurd (omega (arith, s.1 low, q, lt))) (λ q. let z = h.none n le lt in omega (arith, z));
+          none = λ n le lt. split_eqb m n (λ b. cond b 1 0 + times n ms ≡ 0) (λ q. let low : from ≤ m = omega (arith, le, q) in absurd (omega (arith, s.1 low, q, lt)))
+              (λ q. let z = h.none n le lt in omega (arith, z));
         }
 
 covered : (base n : ℕ) → base ≤ n → n < base + 4096 → covers base n ≡ true
@@ -166,7 +167,8 @@ none_of (Some x) e = absurd cc
 pub once_goes : (ns : List ℕ) (from base : ℕ) → least from None ns ≡ Some base → is_some (met_once base (λ m. false) ns) ≡ true → ((n : ℕ) → n < from → times n ns ≤ 1) → (n : ℕ) → n < base
     + 4096 → times n ns ≤ 1
 once_goes ns from base e s h n lt =
-    ⊎_elim (λ low. h n low) (λ high. ⊎_elim (λ under. let z = (least_some from base None ns e).none n high under in omega (arith, z)) (λ over. here (some_of (met_once base (λ m. false) ns) s) (covered base n over lt)) (cases_lt n base)) (cases_lt n from)
+    ⊎_elim (λ low. h n low) (λ high. ⊎_elim (λ under. let z = (least_some from base None ns e).none n high under in omega (arith, z))
+    (λ over. here (some_of (met_once base (λ m. false) ns) s) (covered base n over lt)) (cases_lt n base)) (cases_lt n from)
   where
     here : (g : ℕ → Bool) × (met_once base (λ m. false) ns ≡ Some g) → covers base n ≡ true → times n ns ≤ 1
     here g cov = (once base (λ m. false) g.0 ns g.1 n cov).1
@@ -196,7 +198,8 @@ added_is base h (m ∷ ms) n cov e = by (added_is base (added base h m) ms n cov
 
     by : (added base h m n ≡ true) ⊎ (0 < times n ms) → (h n ≡ true) ⊎ (0 < times n (m ∷ ms))
     by (inr lt) = inr (more (eqb m n) lt)
-    by (inl q) = ⊎_elim (λ p. inl p) (λ p. let one : times n (m ∷ ms) ≡ 1 + times n ms = ap (λ (b : Bool). cond b 1 0 + times n ms) (eq-eqb m n (sym (eqb-true n m (now (covers base m) (eqb n m) p)))) in inr (omega (arith, one))) (or_cases (h n) (covers base m && eqb n m) q)
+    by (inl q) = ⊎_elim (λ p. inl p) (λ p. let one : times n (m ∷ ms) ≡ 1 + times n ms =
+        ap (λ (b : Bool). cond b 1 0 + times n ms) (eq-eqb m n (sym (eqb-true n m (now (covers base m) (eqb n m) p)))) in inr (omega (arith, one))) (or_cases (h n) (covers base m && eqb n m) q)
 
 added_stays : (base : ℕ) (h : ℕ → Bool) (ns : List ℕ) (n : ℕ) → h n ≡ true → added_all base h ns n ≡ true
 added_stays base h [] n e = e
@@ -260,7 +263,8 @@ unmet_of base h (m ∷ ms) e = unmet_cases base h m ms (λ w. unmet_of base h ms
 pub met_goes : (ts ns : List ℕ) (from base : ℕ) (g : ℕ → Bool) → least from None ts ≡ Some base → g ≡ added_all base (λ m. false) ns → all_met base g ts ≡ true
     → ((n : ℕ) → n < from → 0 < times n ts → 0 < times n ns) → (n : ℕ) → n < base + 4096 → 0 < times n ts → 0 < times n ns
 met_goes ts ns from base g e gs s h n lt q =
-    ⊎_elim (λ low. h n low q) (λ high. ⊎_elim (λ under. let z = (least_some from base None ts e).none n high under in absurd (omega (arith, z, q))) (λ over. here (covered base n over lt)) (cases_lt n base)) (cases_lt n from)
+    ⊎_elim (λ low. h n low q) (λ high. ⊎_elim (λ under. let z = (least_some from base None ts e).none n high under in absurd (omega (arith, z, q))) (λ over. here (covered base n over lt))
+    (cases_lt n base)) (cases_lt n from)
   where
     here : covers base n ≡ true → 0 < times n ns
     here cov =

@@ -61,9 +61,11 @@ pub record Splits (body : List CodeItem) (name : List ℕ) : Type 0 where
 
 splits : (body : List CodeItem) (name : List ℕ) → has_label body name ≡ true → Splits body name
 splits [] name e = absurd (true≢false (sym e))
-splits (item_kind.Globl l ∷ body) name e = let r = splits body name e in record { pre = item_kind.Globl l ∷ r.pre; post = r.post; body_is = ap (λ (x : List CodeItem). item_kind.Globl l ∷ x) r.body_is }
+splits (item_kind.Globl l ∷ body) name e = let r = splits body name e in
+    record { pre = item_kind.Globl l ∷ r.pre; post = r.post; body_is = ap (λ (x : List CodeItem). item_kind.Globl l ∷ x) r.body_is }
 splits (item_kind.Mask n ∷ body) name e = let r = splits body name e in record { pre = item_kind.Mask n ∷ r.pre; post = r.post; body_is = ap (λ (x : List CodeItem). item_kind.Mask n ∷ x) r.body_is }
-splits (item_kind.Instr i ∷ body) name e = let r = splits body name e in record { pre = item_kind.Instr i ∷ r.pre; post = r.post; body_is = ap (λ (x : List CodeItem). item_kind.Instr i ∷ x) r.body_is }
+splits (item_kind.Instr i ∷ body) name e = let r = splits body name e in
+    record { pre = item_kind.Instr i ∷ r.pre; post = r.post; body_is = ap (λ (x : List CodeItem). item_kind.Instr i ∷ x) r.body_is }
 splits (item_kind.Label l ∷ body) name e = by (bytes_eq l name) refl e (λ f. splits body name f)
   where
     by : (b : Bool) → bytes_eq l name ≡ b → (b || has_label body name) ≡ true → (has_label body name ≡ true → Splits body name) → Splits (item_kind.Label l ∷ body) name

@@ -38,5 +38,6 @@ place_from (item ∷ rest) place name =
 
 pub place_is : (names : Names) (items : List CodeItem) (name : List ℕ) (o : Option ℕ) → names ≡ place_in items 0 → o ≡ names name → unwrap_or o (length items) ≡ label_place items name
 place_is names items name o e h =
-    let is : unwrap_or o (length items) ≡ unwrap_or (place_in items 0 name) (0 + length items) = ap (λ (x : Option ℕ). unwrap_or x (length items)) (h ∙ (λ i. e i name)) ∙ (let z : length items ≡ 0 + length items = omega arith in ap (λ (d : ℕ). unwrap_or (place_in items 0 name) d) z) in
+    let is : unwrap_or o (length items) ≡ unwrap_or (place_in items 0 name) (0 + length items) = ap (λ (x : Option ℕ). unwrap_or x (length items)) (h ∙ (λ i. e i name))
+    ∙ (let z : length items ≡ 0 + length items = omega arith in ap (λ (d : ℕ). unwrap_or (place_in items 0 name) d) z) in
     omega (arith, is, place_from items 0 name)

@@ -224,7 +224,8 @@ module _ (q : TreeProgram) (f : Extent) (fs : List Extent) (classes : List Class
       let filling : filling_at S i ≡ attr.Token l = filled_hole S i (attr.Token l) there in
       let word : slot_operand l.tok k ≡ home p.there.1.local = ap (λ a. leaf_operand q l.tok a) (sym slot) ∙ ap (operand_in q) (sym filling) ∙ p.there.1.is in
       let same : k ≡ p.there.1.local = saved_word l.tok k p.there.1.local below p.there.1.low word in
-      let address = word_address (reg n Fp) k (let a = agrees.fp in let b = agrees.running.words in let d = agrees.bottom in let w = agrees.running.locals in omega (arith, a, b, d, w, lt)) (reg_small n Fp agrees.sound) in
+      let address = word_address (reg n Fp) k (let a = agrees.fp in let b = agrees.running.words in let d = agrees.bottom in let w = agrees.running.locals in omega (arith, a, b, d, w, lt))
+      (reg_small n Fp agrees.sound) in
       let location : p.place ≡ locations.Memory (word_of (reg n Fp) k) =
       stands_same n (operand_in q (filling_at S i)) Long p.place (locations.Memory (word_of (reg n Fp) k)) p.there.0
       (subst (λ o. StandsAt n o Long (locations.Memory (word_of (reg n Fp) k))) (sym (p.there.1.is ∙ ap home (sym same)))

@@ -5,13 +5,25 @@ use Rattle.c_lower_code.proofs.Calls.{call_falls, call_value, call_effect, call_
 use Rattle.c_lower_code.proofs.expression.+expression.Goals as goal
 
 pub value-pass-requires : goal.value-pass-requires
-value-pass-requires t c = (let h = call_falls c.args.e.now c.in-Call.field-0 c.in-Call.f c.in-Call.to c.in-Call.es c.deref.result.now c.in-Call.is (search rules) in let d = c.decreases in omega (arith, h, d), tt)
+value-pass-requires t c = (
+  let h = call_falls c.args.e.now c.in-Call.field-0 c.in-Call.f c.in-Call.to c.in-Call.es c.deref.result.now c.in-Call.is (search rules) in let d = c.decreases in
+      omega (arith, h, d),
+  tt,
+)
 
 pub discard-pass-requires : goal.discard-pass-requires
-discard-pass-requires t c = (let h = call_falls c.args.e.now c.in-Call.field-0 c.in-Call.f c.in-Call.to c.in-Call.es c.deref.result.now c.in-Call.is (search rules) in let d = c.decreases in omega (arith, h, d), tt)
+discard-pass-requires t c = (
+  let h = call_falls c.args.e.now c.in-Call.field-0 c.in-Call.f c.in-Call.to c.in-Call.es c.deref.result.now c.in-Call.is (search rules) in let d = c.decreases in
+      omega (arith, h, d),
+  tt,
+)
 
 pub deliver-pass-requires : goal.deliver-pass-requires
-deliver-pass-requires t c = (let h = call_falls c.args.e.now c.in-Call.field-0 c.in-Call.f c.in-Call.types c.in-Call.es c.deref.result.now c.in-Call.is (search rules) in let d = c.decreases in omega (arith, h, d), tt)
+deliver-pass-requires t c = (
+  let h = call_falls c.args.e.now c.in-Call.field-0 c.in-Call.f c.in-Call.types c.in-Call.es c.deref.result.now c.in-Call.is (search rules) in let d = c.decreases in
+      omega (arith, h, d),
+  tt,
+)
 
 pub value-returns-in_ok-pass-in-Call : goal.value-returns-in_ok-pass-in-Call
 value-returns-in_ok-pass-in-Call t c =

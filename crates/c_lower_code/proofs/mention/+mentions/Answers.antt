@@ -5,7 +5,11 @@ use Rattle.c_lower_code.proofs.Calls.{call_falls}
 use Rattle.c_lower_code.proofs.mention.+mentions.Goals as goal
 
 pub mentions-any_mentions-requires : goal.mentions-any_mentions-requires
-mentions-any_mentions-requires t c = (let h = call_falls c.args.e.now c.in-Call.field-0 c.in-Call.field-1 c.in-Call.field-2 c.in-Call.es c.deref.result.now c.in-Call.is (search rules) in let d = c.decreases in omega (arith, h, d), tt)
+mentions-any_mentions-requires t c = (
+  let h = call_falls c.args.e.now c.in-Call.field-0 c.in-Call.field-1 c.in-Call.field-2 c.in-Call.es c.deref.result.now c.in-Call.is (search rules) in
+      let d = c.decreases in omega (arith, h, d),
+  tt,
+)
 
 pub mentions-returns-in-Call : goal.mentions-returns-in-Call
 mentions-returns-in-Call t c =

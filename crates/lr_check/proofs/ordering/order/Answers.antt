@@ -42,4 +42,5 @@ returns-else-is_empty c =
     let n = c.loop-count.auto._count-end in
     let m = c.loop-count-test.false in
     let some = eqb-false _ 0 (sym c.is_empty.ensures ∙ c.if-is_empty.false) in
-    ordering_long c.args.nodes.now c.loop-count.order.items c.loop-count.rest.items c.loop-count._count c.requires c.loop-count.invariant (omega (arith, n, m)) (let l = c.loop-count.rest.ok.0 in omega (arith, l, some))
+    ordering_long c.args.nodes.now c.loop-count.order.items c.loop-count.rest.items c.loop-count._count c.requires c.loop-count.invariant (omega (arith, n, m))
+    (let l = c.loop-count.rest.ok.0 in omega (arith, l, some))

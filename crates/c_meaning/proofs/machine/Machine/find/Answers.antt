@@ -4,7 +4,8 @@ use Rattle.c_meaning.proofs.Steps.{over}
 use Rattle.c_meaning.proofs.machine.Machine.find.Goals as goal
 
 pub returns-in-Some : goal.returns-in-Some
-returns-in-Some c = let there = rw c.as_slice.ensures at c.in-Some.ensures in IfOk-weaker _ _ _ (λ event w. over w (rw (c.in-Variable.is, ← there) refl) (rw (c.in-Variable.is) (omega arith))) c.at.ensures
+returns-in-Some c = let there = rw c.as_slice.ensures at c.in-Some.ensures in
+    IfOk-weaker _ _ _ (λ event w. over w (rw (c.in-Variable.is, ← there) refl) (rw (c.in-Variable.is) (omega arith))) c.at.ensures
 
 pub returns-in-Indirection : goal.returns-in-Indirection
 returns-in-Indirection c = IfOk-weaker _ _ _ (λ event w. over w (rw (c.in-Indirection.is, c.deref.ensures) refl) (rw (c.in-Indirection.is, c.deref.ensures) (omega arith))) c.wait.ensures

@@ -9,5 +9,6 @@ returns c = record {
   there = λ A found u s at. settles_there A c.args.self.now c.args.place c.args.list found
       (subst (λ (f : FoundView). let k : Key = record { place = c.args.place; list = c.args.list } in Contains f.known k) c.self.view_is (c.has_key.ensures.there u)) s at;
   absent = λ A i e found at p q. c.has_key.ensures.back
-      (subst (λ (f : FoundView). let k : Key = record { place = c.args.place; list = c.args.list } in Contains f.known k) (sym c.self.view_is) (held_at A c.args.self.now c.args.place c.args.list i e found at p q));
+      (subst (λ (f : FoundView). let k : Key = record { place = c.args.place; list = c.args.list } in Contains f.known k) (sym c.self.view_is)
+      (held_at A c.args.self.now c.args.place c.args.list i e found at p q));
 }
