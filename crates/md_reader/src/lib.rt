@@ -16,5 +16,6 @@ pub use description::Description;
 pub use faults::{DescFault, DescKind};
 pub use lists::{Lines, Restrictions, Symbols};
 pub use md_reader_pieces::{Line, Piece, Pieces};
+pub use md_reader_text::is_word;
 pub use reader::read_description;
 pub use types::{Class, Give, Kind, Restriction, Rule, Sym};

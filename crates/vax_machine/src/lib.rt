@@ -20,6 +20,7 @@ pub use loading::{LoadFault, load};
 pub use machine::Machine;
 pub use running::run_for;
 pub use turn::{Stop, Turn};
+pub use vax_machine_live::Frames;
 
 #[cfg(test)]
 mod tests;

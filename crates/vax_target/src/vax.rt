@@ -13,7 +13,7 @@ use std::alloc::Global;
 use std::marker::Model;
 use tree_core::TreeProgram;
 use vax_core::{Instr, Operand};
-use vax_machine_live::Frames;
+use vax_machine::Frames;
 
 /// A state of the machine, of which contracts speak and no value is made.
 #[derive(Drop)]
