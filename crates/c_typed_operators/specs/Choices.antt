@@ -1,4 +1,6 @@
 -- The table of ? : and the comma, and conditions, on operands that have their types.
+-- choice_of and comma_of are rules of C themselves, which the relation of typing in c_typed_expressions cites as they stand here;
+-- condition_of is how the code computes it, and its rule is IsCondition of c_typed_law.
 use Rattle.std.specs.Prelude.{ℕ, Option, Some, None, Result, Ok, if◌then◌else◌}
 use Rattle.c_types.specs.declared.types.CType.{CType}
 use Rattle.c_types.specs.declared.types.CType.TheVariants.{Void, Integer, Pointer}

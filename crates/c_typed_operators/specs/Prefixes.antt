@@ -1,4 +1,5 @@
 -- The table of operators with one operand, of indexes, casts and sizes, on operands that have their types.
+-- The rows are rules of C themselves: the relation of typing in c_typed_expressions cites them as they stand here.
 use Rattle.std.specs.Prelude.{ℕ, Bool, true, false, ◌&&◌, Option, Some, None, Result, Ok, if◌then◌else◌}
 use Rattle.c_phrases.specs.declared.operator.PrefixOperator.{PrefixOperator}
 use Rattle.c_phrases.specs.declared.operator.PrefixOperator.TheVariants as prefixes

@@ -1,4 +1,6 @@
 -- The table of binary operators, on operands that have their types.
+-- This is how the code computes it; the rules are the rows of Table. But fits, what a place takes, and plus, which an index takes too,
+-- are rules themselves, which others cite.
 use Rattle.std.specs.Prelude.{ℕ, Bool, true, false, ◌||◌, ◌&&◌, Result, Ok, if◌then◌else◌}
 use Rattle.gg_base.specs.declared.relation.Rel.{Rel}
 use Rattle.gg_base.specs.declared.relation.Rel.TheVariants as relations

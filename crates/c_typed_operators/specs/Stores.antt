@@ -1,4 +1,5 @@
 -- The table of assignments, and what is given to a place, on operands that have their types.
+-- assign_of is the rule of C itself, which the relation of typing in c_typed_expressions cites as it stands here.
 use Rattle.std.specs.Prelude.{ℕ, ◌&&◌, Result, Ok, if◌then◌else◌}
 use Rattle.c_phrases.specs.declared.operator.AssignOperator.{AssignOperator}
 use Rattle.c_phrases.specs.declared.operator.AssignOperator.TheVariants as assigns

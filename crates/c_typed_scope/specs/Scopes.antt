@@ -1,4 +1,5 @@
 -- What names stand for.
+-- These are rules of C themselves, which the relations of typing cite: a name stands for its innermost declaration.
 use Rattle.std.specs.Prelude.{ℕ, ◌-◌, Bool, List, [], ◌∷◌, ◌++◌, length, take, Option, Some, None, is_some, slice_index_or, if◌then◌else◌}
 use Rattle.std.specs.Str.{bytes_eq}
 use Rattle.std.specs.Global.{Vec}

@@ -1,4 +1,5 @@
--- Types.
+-- The types of the C subset: which are the same, how many bytes they take, and what a place keeps of a value.
+-- These are rules themselves, those of C with the sizes of the VAX; the relations of typing and the meaning of programs cite them.
 use Rattle.std.specs.Prelude.{ℕ, ◌+◌, ◌-◌, ◌<◌, ◌^◌, Bool, true, false, ◌&&◌, ◌==◌, Option, Some, None, if◌then◌else◌}
 use Rattle.gg_base.specs.Arithmetic.{sext8, sext16, zext8, zext16}
 use Rattle.c_types.specs.declared.types.Integer.{Integer}
