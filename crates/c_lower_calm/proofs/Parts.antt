@@ -1,6 +1,7 @@
 -- That values, conditions, places and calls are calm where their parts are.
 use Rattle.std.proofs.Common.{◌≡◌, ℕ, suc, List, [], ◌∷◌, refl}
 use Rattle.std.specs.Prelude.{Bool, true, false, not, ◌&&◌, ◌||◌}
+use Rattle.std.proofs.lemmas.Bool.{not-true, not-false}
 use Rattle.gg_base.specs.declared.relation.Rel.{Rel}
 use Rattle.c_types.specs.declared.types.Integer.{Integer}
 use Rattle.c_types.specs.declared.types.Integer.TheVariants as ints
@@ -182,14 +183,6 @@ and_true_right : (a b : Bool) → a && b ≡ true → b ≡ true
 and_true_right true b e = e
 and_true_right false b e = absurd (cc)
 
-not_true : (a : Bool) → not a ≡ true → a ≡ false
-not_true true e = absurd (cc)
-not_true false e = refl
-
-not_false : (a : Bool) → not a ≡ false → a ≡ true
-not_false true e = refl
-not_false false e = absurd (cc)
-
 no_or : (a b c : Bool) → a ≡ false → b ≡ false → c ≡ false → a || (b || c) ≡ false
 no_or a b c e f g = cc
 
@@ -206,7 +199,7 @@ stable_inert size (Com w) h = stable_inert size w h
 stable_inert size (Bin op a b) h =
     let both = and_true_right (not (divides_by op)) (stable size a && stable size b) h in
     no_or (divides_by op) (divides a) (divides b)
-    (not_true (divides_by op) (and_true_left (not (divides_by op)) (stable size a && stable size b) h))
+    (not-true (divides_by op) (and_true_left (not (divides_by op)) (stable size a && stable size b) h))
     (stable_inert size a (and_true_left (stable size a) (stable size b) both))
     (stable_inert size b (and_true_right (stable size a) (stable size b) both))
 
@@ -229,7 +222,7 @@ module _ (size count : ℕ) where
   -- a first part that is not saved stands apart from the second
   pub must_apart : (is : List Item) (a b : Tree) → must size count is a b ≡ false → Apart a b
   must_apart [] a b h = conflict (divides a) (reads b) h
-  must_apart (i ∷ is) a b h = inert_apart a b (stable_inert size a (not_false (stable size a) h))
+  must_apart (i ∷ is) a b h = inert_apart a b (stable_inert size a (not-false (stable size a) h))
 
   saved_apart : (c : Bool) (u : ℕ) (a b : Tree) → (c ≡ false → Apart a b) → Apart (saved c u a) b
   saved_apart true u a b h = never

@@ -1,6 +1,7 @@
 -- That places, assignments and calls are calm where their parts are.
 use Rattle.std.proofs.Common.{◌≡◌, ℕ, List, [], ◌∷◌, refl}
 use Rattle.std.specs.Prelude.{Bool, true, false, not, ◌&&◌, ◌||◌, ◌==◌, if◌then◌else◌}
+use Rattle.std.proofs.lemmas.Bool.{not-false}
 use Rattle.c_types.specs.declared.types.CType.{CType}
 use Rattle.c_types.specs.declared.typed.Variable.{Variable}
 use Rattle.c_types.specs.declared.typed.Variable.TheVariants as variables
@@ -83,10 +84,6 @@ keep_inert : (c : Bool) (u : ℕ) (a : Tree) → (c ≡ false → is_leaf a ≡ 
 keep_inert true u a h = refl
 keep_inert false u a h = leaf_inert a (h refl)
 
-not_false : (a : Bool) → not a ≡ false → a ≡ true
-not_false true e = refl
-not_false false e = absurd (cc)
-
 not_false_and : (a b : Bool) → not (a && b) ≡ false → a ≡ true
 not_false_and true b e = refl
 not_false_and false b e = absurd (cc)
@@ -125,7 +122,7 @@ module _ (size count : ℕ) where
   kept_inert : (is : List Item) (s : Where) (u : ℕ) → divides (address_tree (held (must_keep size count is s) u s)) ≡ false
   kept_inert is (InLoc n) u = refl
   kept_inert is (InArg n) u = refl
-  kept_inert [] (InMem a) u = keep_inert (not (is_leaf a)) u a (not_false (is_leaf a))
+  kept_inert [] (InMem a) u = keep_inert (not (is_leaf a)) u a (not-false (is_leaf a))
   kept_inert (i ∷ is) (InMem a) u = keep_inert (not (is_leaf a && stable size a)) u a (not_false_and (is_leaf a) (stable size a))
 
   pub update_calm : (c : Bool) (f : Tree → Tree → Tree) → ((v w : Tree) → IsCalm v → IsCalm w → Apart v w → IsCalm (f v w)) → {p : Located} {q : Lowered}

@@ -3,7 +3,7 @@ use Rattle.std.proofs.Common.{◌≡◌, ℕ, zero, suc, ◌+◌, ◌≤◌, Lis
 use Rattle.std.specs.Prelude.{Bool, true, false, not, ◌||◌, ◌==◌, cond, slice_get, codes}
 use Rattle.std.specs.List.{All}
 use Rattle.std.specs.Str.{bytes_eq}
-use Rattle.std.proofs.lemmas.Bool.{eq-eqb}
+use Rattle.std.proofs.lemmas.Bool.{eq-eqb, false_from_ne_true}
 use Rattle.std.proofs.lemmas.List.Elements.{All-nil, All-cons}
 use Rattle.std.proofs.lemmas.Slice.Eq.{bytes_eq-Decides}
 use Rattle.tree_core.specs.declared.program.TreeFn.{TreeFn}
@@ -51,9 +51,6 @@ name_none count name (g ∷ gs) l h =
     ap (λ b. cond b 1 0 + named name (lower_all count gs (body_of count g l).labels)) (h 0 g refl) ∙ omega (arith, rest)
 
 -- no name has two answers
-false_so : (b : Bool) → (b ≡ true → ⊥) → b ≡ false
-false_so true h = absurd (h refl)
-false_so false h = refl
 
 name_once : (count : ℕ) (name : List ℕ) (gs : List ARoutine) (l n : ℕ) (g : ARoutine) → slice_get gs n ≡ Some g
     → bytes_eq g.name name ≡ true → ((f : ℕ) (h : ARoutine) → slice_get gs f ≡ Some h → bytes_eq h.name name ≡ true → f ≡ n)
@@ -63,10 +60,10 @@ name_once count name (h ∷ gs) l zero g e is only =
     let same : h ≡ g = cc in
     let here : bytes_eq h.name name ≡ true = subst (λ (x : ARoutine). bytes_eq x.name name ≡ true) (sym same) is in
     let rest = name_none count name gs (body_of count h l).labels
-    (λ f x ex. false_so (bytes_eq x.name name) (λ t. let r = only (suc f) x ex t in omega (arith, r))) in
+    (λ f x ex. false_from_ne_true (bytes_eq x.name name) (λ t. let r = only (suc f) x ex t in omega (arith, r))) in
     ap (λ b. cond b 1 0 + named name (lower_all count gs (body_of count h l).labels)) here ∙ omega (arith, rest)
 name_once count name (h ∷ gs) l (suc n) g e is only =
-    let other : bytes_eq h.name name ≡ false = false_so (bytes_eq h.name name) (λ t. let r = only 0 h refl t in omega (arith, r)) in
+    let other : bytes_eq h.name name ≡ false = false_from_ne_true (bytes_eq h.name name) (λ t. let r = only 0 h refl t in omega (arith, r)) in
     let rest = name_once count name gs (body_of count h l).labels n g e is (λ f x ex t. let r = only (suc f) x ex t in omega (arith, r)) in
     ap (λ b. cond b 1 0 + named name (lower_all count gs (body_of count h l).labels)) other ∙ omega (arith, rest)
 
@@ -84,7 +81,7 @@ name_most count name (g ∷ gs) l differ = cases (bytes_eq g.name name) refl
         → cond b 1 0 + named name (lower_all count gs (body_of count g l).labels) ≤ 1
     cases true e most =
         let none = name_none count name gs (body_of count g l).labels
-        (λ f x ex. false_so (bytes_eq x.name name)
+        (λ f x ex. false_from_ne_true (bytes_eq x.name name)
         (λ t. let r = differ 0 (suc f) g x refl ex (same_name g.name x.name name e t) in omega (arith, r))) in
         omega (arith, none)
     cases false e most = omega (arith, most)

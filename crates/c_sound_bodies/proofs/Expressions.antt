@@ -1,7 +1,7 @@
 -- What holds of each term because it holds of its parts holds of what expressions are typed as.
 use Rattle.std.proofs.Common.{◌≡◌, ℕ, ◌+◌, ◌≤◌, ◌==◌, Bool, true, false, List, length, Option, Some, None, Result, Ok, Err, refl, sym, ap, ◌∙◌, arith}
-use Rattle.std.proofs.lemmas.Bool.Decides.{nat_tests}
 use Rattle.std.specs.Prelude.{slice_get, if◌then◌else◌}
+use Rattle.std.proofs.lemmas.Bool.{eqb-true}
 use Rattle.c_types.specs.declared.typed.Variable.{Variable}
 use Rattle.c_types.specs.declared.typed.Callee.{Callee}
 use Rattle.c_types.specs.declared.typed.Moment.TheVariants as moments
@@ -40,9 +40,6 @@ behind objects a m b h r = record { laying = h.measuring ∙ r.laying; most = r.
 
 room_is : (objects : ℕ) (a b c : Area) → c ≡ b → Room objects a c → Room objects a b
 room_is objects a b c is r = rw is at r
-
-equal_counts : (n m : ℕ) → (n == m) ≡ true → n ≡ m
-equal_counts n m h = grind (arith, nat_tests)
 
 -- what a test that held let through
 record Held {A : Type 0} (test : Bool) (m : Result A Fault) (u : A) : Type 0 where
@@ -96,7 +93,7 @@ module _ (T : Token → Type 0) (known : Variable → Type 0) (calls : Callee �
     called_has (Some s) n opened es xs u is e many all =
         let h = held (length s.parameters == count es) _ _ u e in
         call_by_has (unfit s.parameters es xs) s n xs u h.rest (defined n s is)
-        (many ∙ sym (equal_counts (length s.parameters) (count es) h.holds)) all
+        (many ∙ sym (eqb-true (length s.parameters) (count es) h.holds)) all
 
     call_has : (f : Option ℕ) (opened : ℕ) (es : SomeExps) (xs : SomeExpressions) (u : AnExpression) → called signatures f opened es xs ≡ Ok u →
         arguments xs ≡ count es → Every P xs → P u

@@ -3,7 +3,7 @@ use Rattle.std.proofs.Common.{◌≡◌, ◌≢◌, ◌≤◌, ℕ, Bool, true, 
 use Rattle.std.specs.Prelude.{nat_le, ◌&&◌}
 use Rattle.std.specs.List.{starts_with}
 use Rattle.std.specs.Cmp.Lexicographic.{pointwise, same_text}
-use Rattle.std.proofs.lemmas.Bool.{leb-true}
+use Rattle.std.proofs.lemmas.Bool.{leb-true, and_parts}
 use Rattle.std.proofs.lemmas.Bool.Decides.{Decides-eqb}
 use Rattle.std.proofs.lemmas.Option.{none-some, same_Some}
 use Rattle.std.proofs.lemmas.Slice.Eq.{starts_is}
@@ -97,15 +97,10 @@ falling : List Mark → Bool
 falling [] = true
 falling (m ∷ ms) = shorter (length (mark_text m)) ms && falling ms
 
-both : (a b : Bool) → (a && b) ≡ true → (a ≡ true) × (b ≡ true)
-both true true e = (refl, refl)
-both true false e = absurd (cc)
-both false b e = absurd (cc)
-
 among_shorter : (n : ℕ) (m : Mark) (ms : List Mark) → shorter n ms ≡ true → Among m ms → length (mark_text m) ≤ n
 unfolding shorter
-among_shorter n m _ e (first ms) = leb-true (length (mark_text m)) n (both _ _ e).0
-among_shorter n m _ e (later c ms a) = among_shorter n m ms (both (nat_le (length (mark_text c)) n) (shorter n ms) e).1 a
+among_shorter n m _ e (first ms) = leb-true (length (mark_text m)) n (and_parts _ _ e).0
+among_shorter n m _ e (later c ms a) = among_shorter n m ms (and_parts (nat_le (length (mark_text c)) n) (shorter n ms) e).1 a
 
 mark_among_is : (ms : List Mark) (text : List ℕ) (m : Mark) → mark_among ms text ≡ Some m → Among m ms × (text ≡ mark_text m ++ drop (length (mark_text m)) text)
 mark_among_is [] text m e = absurd (none-some m e)
@@ -124,11 +119,11 @@ longest_among : (text : List ℕ) (n : Mark) (ms : List Mark) → falling ms ≡
     × ((mark_among ms text ≡ Some m) × (length (mark_text n) ≤ length (mark_text m)))
 unfolding falling
 longest_among text n _ e (first ms) f = (n, (rw f refl, omega arith))
-longest_among text n _ e (later c cs a) f = step (starts_with nat_eq text (mark_text c)) refl (longest_among text n cs (both (shorter (length (mark_text c)) cs) (falling cs) e).1 a f)
+longest_among text n _ e (later c cs a) f = step (starts_with nat_eq text (mark_text c)) refl (longest_among text n cs (and_parts (shorter (length (mark_text c)) cs) (falling cs) e).1 a f)
   where
     step : (t : Bool) → starts_with nat_eq text (mark_text c) ≡ t → (m : Mark) × ((mark_among cs text ≡ Some m) × (length (mark_text n) ≤ length (mark_text m))) → (m : Mark)
         × ((cond t (Some c) (mark_among cs text) ≡ Some m) × (length (mark_text n) ≤ length (mark_text m)))
-    step true g more = (c, (refl, among_shorter (length (mark_text c)) n cs (both (shorter (length (mark_text c)) cs) (falling cs) e).0 a))
+    step true g more = (c, (refl, among_shorter (length (mark_text c)) n cs (and_parts (shorter (length (mark_text c)) cs) (falling cs) e).0 a))
     step false g more = more
 
 mark_found : (m : Mark) → mark_among MARKS (mark_text m) ≡ Some m

@@ -1,6 +1,7 @@
 -- The table of binary operators, as it is computed, is its rows.
 use Rattle.std.proofs.Common.{◌≡◌, ℕ, Bool, true, false, ◌&&◌, ◌||◌, cond, Result, Ok, Err, refl, sym, ap, ◌∙◌}
 use Rattle.std.specs.Prelude.{IfOk, IfErr}
+use Rattle.std.proofs.lemmas.Bool.{and_parts}
 use Rattle.gg_base.specs.declared.relation.Rel.{Rel}
 use Rattle.gg_base.specs.declared.relation.Rel.TheVariants as relations
 use Rattle.c_phrases.specs.declared.operator.BinaryOperator.{BinaryOperator}
@@ -47,10 +48,6 @@ by_test_one : {A : Type 0} (b : Bool) (x : A) (f : Fault) (place : ℕ) (kind : 
 by_test_one true x f place kind e = absurd (cc)
 by_test_one false x f place kind e = cc
 
-both_true : (a b : Bool) → (a && b) ≡ true → (a ≡ true) × (b ≡ true)
-both_true true b e = (refl, e)
-both_true false b e = absurd (cc)
-
 integer_type : (x : AnExpression) (s : CType) → type_of x ≡ s → is_integer s ≡ true → IsInteger x
 unfolding is_integer
 integer_type x Void p e = absurd (cc)
@@ -64,7 +61,7 @@ integer_test x i = rw (i.is) refl
 arithmetic_means : (op : ArithmeticOperator) (at : ℕ) (x y : AnExpression) → Means (arithmetic op at x y) (IsArithmetic op x y) (NoRow (IsArithmetic op x y) at BadType)
 unfolding arithmetic
 arithmetic_means op at x y = means_row _ _ at BadType
-    (λ t e. let p = by_test (is_integer (type_of x) && is_integer (type_of y)) (ArithmeticOf op x y) t at BadType e in let q = both_true (is_integer (type_of x)) (is_integer (type_of y)) (p.0) in
+    (λ t e. let p = by_test (is_integer (type_of x) && is_integer (type_of y)) (ArithmeticOf op x y) t at BadType e in let q = and_parts (is_integer (type_of x)) (is_integer (type_of y)) (p.0) in
     record { left = integer_type x (type_of x) refl (q.0); right = integer_type y (type_of y) refl (q.1); is = p.1 })
     (λ t r. rw (integer_test x r.left, integer_test y r.right, r.is) refl)
     (λ f e. by_test_one (is_integer (type_of x) && is_integer (type_of y)) (ArithmeticOf op x y) f at BadType e)
@@ -194,7 +191,7 @@ equality_means rel at x y = means_row _ _ at BadType
 logical_means : (whole : AnExpression) (at : ℕ) (x y : AnExpression) → Means (cond (is_scalar (type_of x) && is_scalar (type_of y)) (Ok whole) (bad at BadType)) (IsLogical whole x y)
     (NoRow (IsLogical whole x y) at BadType)
 logical_means whole at x y = means_row _ _ at BadType
-    (λ t e. let p = by_test (is_scalar (type_of x) && is_scalar (type_of y)) whole t at BadType e in let q = both_true (is_scalar (type_of x)) (is_scalar (type_of y)) (p.0) in
+    (λ t e. let p = by_test (is_scalar (type_of x) && is_scalar (type_of y)) whole t at BadType e in let q = and_parts (is_scalar (type_of x)) (is_scalar (type_of y)) (p.0) in
     record { left = q.0; right = q.1; is = p.1 })
     (λ t r. rw (r.left, r.right, r.is) refl)
     (λ f e. by_test_one (is_scalar (type_of x) && is_scalar (type_of y)) whole f at BadType e)

@@ -1,3 +1,4 @@
 pub mod Lasting
 pub mod Following
 pub mod Composing
+pub mod Facts

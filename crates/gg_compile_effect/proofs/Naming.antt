@@ -1,9 +1,8 @@
 -- What the leaves of a tree name is there, in a state in which the tree is done.
-use Rattle.std.proofs.Common.{◌≡◌, ℕ, zero, suc, ◌<◌, ◌≤◌, List, [], ◌∷◌, length, Some, Bool, true, refl, sym, ap, ◌∙◌, subst, arith}
+use Rattle.std.proofs.Common.{◌≡◌, ℕ, zero, suc, ◌<◌, List, [], ◌∷◌, length, Some, Bool, true, refl, sym, ap, ◌∙◌, subst, arith}
 use Rattle.std.specs.Prelude.{IsSome, nat_lt, nat_le, take, slice_get}
 use Rattle.std.specs.List.{list_all, AllPass, AllByRecursion as All}
-use Rattle.std.proofs.lemmas.Bool.{leb-true, and_parts}
-use Rattle.std.proofs.lemmas.Bool.Decides.{nat_tests}
+use Rattle.std.proofs.lemmas.Bool.{leb-true, and_parts, ltb-true}
 use Rattle.std.proofs.lemmas.List.Sums.{list_all-from_AllPass}
 use Rattle.tree_core.specs.declared.token.Tok.{Tok}
 use Rattle.tree_core.specs.declared.token.Tok.TheVariants as tok
@@ -58,12 +57,6 @@ there [] n offset lt = absurd (omega (arith, lt))
 there (o ∷ os) zero offset lt = refl
 there (o ∷ os) (suc n) offset lt = there os n offset (omega (arith, lt))
 
-below : (n m : ℕ) → nat_lt n m ≡ true → n < m
-below n m e = grind (arith, nat_tests)
-
-within : (n m : ℕ) → nat_le n m ≡ true → n ≤ m
-within n m e = leb-true n m e
-
 module _ (q : TreeProgram) (d : Content) (g : TreeFn) (f : Extent) (fs : List Extent) (t : Trees) (s : Sight) (m : State)
     (own : f.locals ≡ g.locals) (given : length t.running.arguments ≡ g.args) where
   abbrev Fits : Leaf → Type 0
@@ -76,7 +69,7 @@ module _ (q : TreeProgram) (d : Content) (g : TreeFn) (f : Extent) (fs : List Ex
   Spelled l = IsSpelled q l.att
 
   local_there : (k : ℕ) → nat_lt k g.locals ≡ true → k < f.locals
-  local_there k e = let lt = below k g.locals e in omega (arith, lt, own)
+  local_there k e = let lt = ltb-true k g.locals e in omega (arith, lt, own)
 
   -- what a leaf names: a result is saved where it is left, and a call takes what is pushed
   named : (x : Tok) (a : Att) → is_of_kind (attribute_of x) a ≡ true → names q.functions (length q.objects) g (attribute_of x) a ≡ true → IsSpelled q a
@@ -84,7 +77,7 @@ module _ (q : TreeProgram) (d : Content) (g : TreeFn) (f : Extent) (fs : List Ex
       → NamedBy vax q d g.locals f fs t s m x a
   named tok.Loc (att.Slot k) fit is spelled saves calls = local_there k is
   named tok.Arg (att.Slot k) fit is spelled saves calls =
-      (within 1 k (and_parts (nat_le 1 k) (nat_le k 255) fit).0, (let le = within k g.args is in omega (arith, le, given)))
+      (leb-true 1 k (and_parts (nat_le 1 k) (nat_le k 255) fit).0, (let le = leb-true k g.args is in omega (arith, le, given)))
   named tok.Save (att.Slot k) fit is spelled saves calls = (local_there k is, saves refl)
   named tok.Call (att.Callee function count) fit is spelled saves calls = (is, calls function count refl refl)
   named x (att.Number n) fit is spelled saves calls = spelled

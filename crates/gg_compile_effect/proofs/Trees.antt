@@ -1,9 +1,10 @@
 -- A typed root is its tree's leaves and an End, and only its first leaf stands for a statement.
-use Rattle.std.proofs.Common.{◌≡◌, ℕ, List, [], ◌∷◌, ◌++◌, length, Option, Some, Bool, true, false, refl, sym, ap, ◌∙◌, subst, arith}
-use Rattle.std.specs.Prelude.{◌-◌, ◌&&◌, take}
+use Rattle.std.proofs.Common.{◌≡◌, ℕ, List, [], ◌∷◌, ◌++◌, length, Option, Some, true, refl, sym, ap, ◌∙◌, subst, arith}
+use Rattle.std.specs.Prelude.{◌-◌, take}
 use Rattle.std.specs.List.{AllByRecursion as All}
 use Rattle.std.proofs.lemmas.List.{length-append}
 use Rattle.std.proofs.Math.Seq.{take-append_seam}
+use Rattle.std.proofs.lemmas.Bool.{and_parts}
 use Rattle.tree_core.specs.declared.token.Tok.{Tok}
 use Rattle.tree_core.specs.declared.token.Tok.TheVariants as tok
 use Rattle.tree_core.specs.declared.token.Sort.{Sort}
@@ -111,12 +112,8 @@ low_fits sort.PlaceB h e = cc
 low_fits sort.PlaceW h e = cc
 low_fits sort.PlaceL h e = cc
 
-apart : (b c : Bool) → (b && c) ≡ true → (b ≡ true) × (c ≡ true)
-apart true c e = (refl, e)
-apart false c e = absurd (cc)
-
 low_leaf : (l : Leaf) (x : Sort) → NoStmt x → stands_for l x ≡ true → IsLow l
-low_leaf l x h e s = low_fits x h (subst (λ (o : Option Sort). sort_fits o x ≡ true) s (apart (sort_fits (sort_of l.tok) x) (leaf_fits l) e).0)
+low_leaf l x h e s = low_fits x h (subst (λ (o : Option Sort). sort_fits o x ≡ true) s (and_parts (sort_fits (sort_of l.tok) x) (leaf_fits l) e).0)
 
 low_leaves : (xs : List Sort) (f : Forest) (w : List Leaf) → Typed xs f → All NoStmt xs → All IsLow w → All IsLow (leaves_onto f w)
 low_leaves [] none w h n k = k

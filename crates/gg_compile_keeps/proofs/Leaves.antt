@@ -2,8 +2,7 @@
 use Rattle.std.proofs.Common.{◌≡◌, ℕ, ◌<◌, ◌≤◌, List, [], ◌∷◌, length, Some, true, refl, sym, ap, ◌∙◌, subst, arith}
 use Rattle.std.specs.Prelude.{nat_lt, nat_le}
 use Rattle.std.specs.List.{AllPass, AllByRecursion as All}
-use Rattle.std.proofs.lemmas.Bool.{leb-true, and_parts}
-use Rattle.std.proofs.lemmas.Bool.Decides.{nat_tests}
+use Rattle.std.proofs.lemmas.Bool.{leb-true, and_parts, ltb-true}
 use Rattle.tree_core.specs.declared.token.Tok.{Tok}
 use Rattle.tree_core.specs.declared.token.Tok.TheVariants as tok
 use Rattle.tree_core.specs.declared.token.Sort.TheVariants as sort
@@ -43,14 +42,11 @@ fit_leaves (l ∷ ws) h = (h.0, fit_leaves ws h.2)
 pub tree_fits : (w : List Leaf) → IsTyped w sort.Stmt → All Fits (tree_of w)
 tree_fits w h = fit_leaves (tree_of w) (leaves_of (tree_of w) (subst (λ (x : List Leaf). IsTyped x sort.Stmt) (sym (root_is w h)) h))
 
-below : (n m : ℕ) → nat_lt n m ≡ true → n < m
-below n m e = grind (arith, nat_tests)
-
 -- ---- locals and arguments
 
 module _ (q : TreeProgram) (g : TreeFn) (few : g.locals ≤ 1024) where
   local_low : (k : ℕ) → nat_lt k g.locals ≡ true → k < 1024
-  local_low k e = let lt = below k g.locals e in omega (arith, lt, few)
+  local_low k e = let lt = ltb-true k g.locals e in omega (arith, lt, few)
 
   argument_low : (k : ℕ) → is_of_kind (attribute_of tok.Arg) (att.Slot k) ≡ true → k < 1024
   argument_low k e = let le = leb-true k 255 (and_parts (nat_le 1 k) (nat_le k 255) e).1 in omega (arith, le)
@@ -71,7 +67,7 @@ module _ (q : TreeProgram) (g : TreeFn) (few : g.locals ≤ 1024) where
   in_frame x (att.Callee function count) fit is = tt
 
   own_low : (x : Tok) (a : Att) → names q.functions (length q.objects) g (attribute_of x) a ≡ true → (k : ℕ) → x ≡ tok.Loc → a ≡ att.Slot k → k < g.locals
-  own_low x a is k e f = below k g.locals (sym (λ i. names q.functions (length q.objects) g (attribute_of (e i)) (f i)) ∙ is)
+  own_low x a is k e f = ltb-true k g.locals (sym (λ i. names q.functions (length q.objects) g (attribute_of (e i)) (f i)) ∙ is)
 
   all_own : (ws : List Leaf) → All Fits ws → All (λ (l : Leaf). leaf_names q.functions (length q.objects) g l ≡ true) ws → All (λ (l : Leaf). IsSpelled q l.att) ws
       → All (λ (l : Leaf). IsOwn q g.locals l.tok l.att) ws

@@ -6,6 +6,7 @@ use Rattle.std.specs.Str.{bytes_eq}
 use Rattle.std.proofs.lemmas.Bool.{and_parts, eqb-true, leb-true, true≢false}
 use Rattle.std.proofs.lemmas.List.{length-replicate}
 use Rattle.std.proofs.lemmas.Slice.Eq.{bytes_eq-Decides}
+use Rattle.gg_base.proofs.Facts.{some_none}
 use Rattle.vax_core.specs.declared.code.Code.{Code}
 use Rattle.vax_core.specs.declared.code.CodeItem.{CodeItem}
 use Rattle.vax_core.specs.declared.code.AreaItem.{AreaItem}
@@ -138,9 +139,6 @@ has_there (x ∷ pre) post n = ap (λ (b : Bool). is_area_label x n || b) (has_t
     by true = refl
     by false = refl
 
-no_some : {A : Type 0} (a : A) → ◌≡◌ {A = Option A} (Some a) None → ⊥
-no_some a e = cc
-
 not_double : (x : AreaItem) (pre post : List AreaItem) (n : List ℕ) (code : List CodeItem) → double_area_label (x ∷ (pre ++ areas.Label n ∷ post)) code ≡ None
     → (is_area_label x n ≡ false) × (double_area_label (pre ++ areas.Label n ∷ post) code ≡ None)
 not_double (areas.Globl m) pre post n code e = (refl, e)
@@ -159,9 +157,9 @@ not_double (areas.Label m) pre post n code e = by (is_service m) (has_area_label
 
     by : (b c d : Bool) → has_area_label (pre ++ areas.Label n ∷ post) m ≡ c → cond (b || (c || d)) (Some m) (double_area_label (pre ++ areas.Label n ∷ post) code) ≡ None
         → (bytes_eq m n ≡ false) × (double_area_label (pre ++ areas.Label n ∷ post) code ≡ None)
-    by true c d h e = absurd (no_some m e)
-    by false true d h e = absurd (no_some m e)
-    by false false true h e = absurd (no_some m e)
+    by true c d h e = absurd (some_none m e)
+    by false true d h e = absurd (some_none m e)
+    by false false true h e = absurd (some_none m e)
     by false false false h e = (other (bytes_eq m n) refl h, e)
 
 pub first_address : (pre post : List AreaItem) (n : List ℕ) (code : List CodeItem) (at : ℕ) → double_area_label (pre ++ areas.Label n ∷ post) code ≡ None
@@ -175,7 +173,7 @@ pub area_labels_differ : (c : Code) → Loads c → double_area_label c.area c.i
 area_labels_differ c h = by (double_area_label c.area c.items) (double_label c.items) h
   where
     by : (a b : Option (List ℕ)) → or_double (first_of a b) c ≡ None → a ≡ None
-    by (Some n) b e = absurd (no_some _ e)
+    by (Some n) b e = absurd (some_none _ e)
     by None b e = refl
 
 module _ (whole : List AreaItem) (code : List CodeItem) (once : double_area_label whole code ≡ None) where

@@ -6,6 +6,7 @@ use Rattle.std.specs.Str.{bytes_eq}
 use Rattle.std.proofs.lemmas.List.{drop_at}
 use Rattle.std.proofs.lemmas.Bool.{eqb-true, true≢false}
 use Rattle.std.proofs.lemmas.Slice.Eq.{bytes_eq-Decides}
+use Rattle.gg_base.proofs.Facts.{some_none}
 use Rattle.vax_core.specs.declared.code.Code.{Code}
 use Rattle.vax_core.specs.declared.code.CodeItem.{CodeItem}
 use Rattle.vax_core.specs.declared.code.CodeItem.TheVariants as item_kind
@@ -53,16 +54,13 @@ has_all (x ∷ xs) pre rest =
 
 -- ---- labels
 
-no_some : {A : Type 0} (a : A) → ◌≡◌ {A = Option A} (Some a) None → ⊥
-no_some a e = cc
-
 -- the labels of a code that can be loaded differ
 pub labels_differ : (c : Code) → Loads c → double_label c.items ≡ None
 labels_differ c h = by (double_area_label c.area c.items) (double_label c.items) h
   where
     by : (a b : Option (List ℕ)) → or_double (first_of a b) c ≡ None → b ≡ None
-    by (Some n) b e = absurd (no_some _ e)
-    by None (Some n) e = absurd (no_some _ e)
+    by (Some n) b e = absurd (some_none _ e)
+    by None (Some n) e = absurd (some_none _ e)
     by None None e = refl
 
 -- ---- labels in a body

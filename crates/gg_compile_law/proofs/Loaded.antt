@@ -3,7 +3,7 @@ use Rattle.std.proofs.Common.{◌≡◌, ◌⊎◌, inl, inr, ℕ, zero, suc, �
 use Rattle.std.specs.Prelude.{slice_get, ◌||◌, ◌==◌, nat_lt, nat_le}
 use Rattle.std.specs.List.{AllByRecursion}
 use Rattle.std.specs.Str.{bytes_eq}
-use Rattle.std.proofs.lemmas.Bool.{and_parts, le-ltb, ltb-true, true≢false}
+use Rattle.std.proofs.lemmas.Bool.{and_parts, le-ltb, ltb-true, true≢false, false_from_ne_true}
 use Rattle.std.proofs.lemmas.List.Elements.{recursion_from_All}
 use Rattle.std.proofs.lemmas.Slice.Eq.{bytes_eq-Decides}
 use Rattle.vax_core.specs.declared.code.Code.{Code}
@@ -25,7 +25,7 @@ use Rattle.gg_compile_law.specs.Effects.{label_name}
 use Rattle.gg_compile_law.specs.Spelling.{power_of, after_zeros, by_byte, label_of, link_addr, spelled, block_of, blocks_of, area_of}
 use Rattle.gg_compile_law.specs.Loaded.{AreApart, AssembledLoads}
 use Rattle.gg_compile_law.proofs.Areas.{lies, end_behind}
-use Rattle.gg_compile_law.proofs.Names.{count, all_count, fun_count, trees_count, from_function_at, from_trees, stands_once, not_true, code_labels_differ, main_stands}
+use Rattle.gg_compile_law.proofs.Names.{count, all_count, fun_count, trees_count, from_function_at, from_trees, stands_once, code_labels_differ, main_stands}
 use Rattle.gg_compile_law.proofs.Spelling.{choose, plain, aligned_so, block_end, links_fit, found}
 
 -- ---- labels in an area
@@ -90,7 +90,7 @@ module _ (all : List Object) where
         let no_label = plain all 0 0 o.links 0 o.bytes in
         let again : has_area_label (content ++ blocks_of all os) o.label ≡ false =
         plain_has content (blocks_of all os) o.label no_label
-        ∙ not_true (has_area_label (blocks_of all os) o.label) (λ e. let m = from_object os o.label e in twice (differ 0 (suc m.0) o m.1 refl m.2 (sym m.3))) in
+        ∙ false_from_ne_true (has_area_label (blocks_of all os) o.label) (λ e. let m = from_object os o.label e in twice (differ 0 (suc m.0) o m.1 refl m.2 (sym m.3))) in
         ap (λ (b : Bool). cond (b || (has_area_label (content ++ blocks_of all os) o.label || has_label code o.label)) (Some o.label) (double_area_label (content ++ blocks_of all os) code))
         (services 0 o refl)
         ∙ ap (λ (b : Bool). cond (b || has_label code o.label) (Some o.label) (double_area_label (content ++ blocks_of all os) code)) again
@@ -194,7 +194,7 @@ no_code_label : (program : TreeProgram) (c : Code) → AreApart program.objects 
     → (trees_count o.label program.functions ≡ 0) ⊎ ((l : ℕ) × (l < 2 ^ 64) × (label_name l ≡ o.label)) → has_label c.items o.label ≡ false
 no_code_label program c apart i o is e (inr x) t = absurd (apart.functions i x.0 o x.1 is x.2 x.3)
 no_code_label program c apart i o is e (inl z) (inr t) = absurd (apart.trees i t.0 o is t.2)
-no_code_label program c apart i o is e (inl z) (inl y) = not_true (has_label c.items o.label) (λ h. let lt = stands_once o.label c.items h in omega (arith, e, z, y, lt))
+no_code_label program c apart i o is e (inl z) (inl y) = false_from_ne_true (has_label c.items o.label) (λ h. let lt = stands_once o.label c.items h in omega (arith, e, z, y, lt))
 
 area_named : (program : TreeProgram) (c : Code) → ((k : ℕ) (o : Object) → slice_get program.objects k ≡ Some o → has_area_label c.area o.label ≡ true)
     → AllByRecursion (LinksLie (length program.objects)) program.objects → undefined_area_label (area_of program.objects) c.area ≡ None

@@ -4,7 +4,7 @@ use Rattle.std.specs.Prelude.{slice_get, codes, ◌||◌, ◌==◌}
 use Rattle.std.specs.List.{filter_map}
 use Rattle.std.specs.Str.{bytes_eq}
 use Rattle.std.specs.Fmt.{decimal}
-use Rattle.std.proofs.lemmas.Bool.{eqb-true, eq-eqb, true≢false}
+use Rattle.std.proofs.lemmas.Bool.{eqb-true, eq-eqb, true≢false, false_from_ne_true}
 use Rattle.std.proofs.lemmas.Fmt.{decimal_injective}
 use Rattle.std.proofs.lemmas.Slice.Eq.{bytes_eq-Decides}
 use Rattle.std.specs.List.{cons_option}
@@ -66,10 +66,6 @@ once_behind : (x : CodeItem) (xs : List CodeItem) → Once (x ∷ xs) → Once x
 unfolding count
 once_behind x xs h = ((λ name. let le = h.0 name in omega (arith, le)), (λ name e. let z = h.1 name e in omega (arith, z)))
 
-pub not_true : (b : Bool) → (b ≡ true → ⊥) → b ≡ false
-not_true true h = absurd (h refl)
-not_true false h = refl
-
 here : (n : List ℕ) (xs : List CodeItem) → count n (item_kind.Label n ∷ xs) ≡ 1 + count n xs
 unfolding count
 here n xs = ap (λ (b : Bool). cond b 1 0 + count n xs) ((bytes_eq-Decides n n).1 refl)
@@ -82,8 +78,8 @@ no_double (item_kind.Instr n ∷ xs) h = no_double xs (once_behind (item_kind.In
 no_double (item_kind.Label n ∷ xs) h =
     let at = here n xs in
     let le = h.0 n in
-    let service : is_service n ≡ false = not_true (is_service n) (λ e. let z = h.1 n e in omega (arith, z, at)) in
-    let other : has_label xs n ≡ false = not_true (has_label xs n) (λ e. let there = stands_once n xs e in omega (arith, le, at, there)) in
+    let service : is_service n ≡ false = false_from_ne_true (is_service n) (λ e. let z = h.1 n e in omega (arith, z, at)) in
+    let other : has_label xs n ≡ false = false_from_ne_true (has_label xs n) (λ e. let there = stands_once n xs e in omega (arith, le, at, there)) in
     ap (λ (b : Bool). cond (b || has_label xs n) (Some n) (double_label xs)) service ∙ ap (λ (b : Bool). cond b (Some n) (double_label xs)) other
     ∙ no_double xs (once_behind (item_kind.Label n) xs h)
 

@@ -2,7 +2,7 @@
 use Rattle.std.proofs.Common.{◌≡◌, ℕ, zero, suc, ◌+◌, ◌^◌, ◌<◌, ◌≤◌, Bool, true, false, cond, List, [], ◌∷◌, length, refl, arith}
 use Rattle.std.specs.Prelude.{slice_get, ◌==◌, ◌&&◌, not, nat_lt, nat_le}
 use Rattle.std.specs.List.{AllByRecursion as All}
-use Rattle.std.proofs.lemmas.Bool.{and_parts, le-leb, lt-ltb, ltb-true}
+use Rattle.std.proofs.lemmas.Bool.{and_parts, le-leb, lt-ltb, ltb-true, and_from}
 use Rattle.std.proofs.lemmas.List.Elements.{recursion_from_All}
 use Rattle.tree_core.specs.declared.program.Link.{Link}
 use Rattle.tree_core.specs.declared.program.Object.{Object}
@@ -16,7 +16,7 @@ use Rattle.gg_compile_law.specs.Spelling.{power_of, after_zeros, by_byte, label_
 use Rattle.gg_compile_law.proofs.Areas.{lies}
 use Rattle.gg_compile_law.proofs.Spelling.{choose, aligned_so}
 use Rattle.gg_compile_laws.specs.Written.{HasPlainObjects}
-use Rattle.gg_compile_laws.proofs.Tests.{both, all_append}
+use Rattle.gg_compile_laws.proofs.Tests.{all_append}
 
 abbrev pub Fine : AreaItem → Type 0
 Fine x = is_area_item x ≡ true
@@ -28,7 +28,7 @@ AllFine xs = All Fine xs
 
 zeros_fine : (zeros : ℕ) (xs : List AreaItem) → zeros ≤ 1048576 → AllFine xs → AllFine (after_zeros zeros xs)
 zeros_fine zero xs le h = h
-zeros_fine (suc n) xs le h = (both (nat_le 1 (suc n)) (nat_le (suc n) 1048576) (le-leb 1 (suc n) (omega arith)) (le-leb (suc n) 1048576 le), h)
+zeros_fine (suc n) xs le h = (and_from (nat_le 1 (suc n)) (nat_le (suc n) 1048576) (le-leb 1 (suc n) (omega arith)) (le-leb (suc n) 1048576 le), h)
 
 byte_fine : (before : ℕ) (go : ℕ → List AreaItem) (b : ℕ) → b < 256 → before ≤ 1048576 → AllFine (go (suc before)) → AllFine (go 0) → AllFine (by_byte before go b)
 byte_fine before go zero lt le more none = more
@@ -55,7 +55,7 @@ module _ (all : List Object) (labels : All (λ (o : Object). is_name o.label ≡
   IsThere l = l.object < length all
 
   link_fine : (l : Link) → IsThere l → Fine (areas.Long (link_addr all l))
-  link_fine l lt = both (is_name (label_of (slice_get all l.object))) (is_long 0 && not (0 == 2 ^ 31)) (label_there all l.object labels lt) refl
+  link_fine l lt = and_from (is_name (label_of (slice_get all l.object))) (is_long 0 && not (0 == 2 ^ 31)) (label_there all l.object labels lt) refl
 
   bytes_fine : (passed zeros : ℕ) (ls : List Link) (at : ℕ) (bs : List ℕ) → All IsThere ls → AllBelow 256 bs → zeros + length bs ≤ 1048576 → AllFine (spelled all passed zeros ls at bs)
   bytes_fine passed zeros ls at [] there small few = zeros_fine zeros [] (omega (arith, few)) tt

@@ -4,6 +4,7 @@ use Rattle.std.specs.Prelude.{◌&&◌, ◌||◌, ◌==◌, nat_le, slice_get, s
 use Rattle.std.specs.List.{All, AllByRecursion, list_all}
 use Rattle.std.specs.Str.{bytes_eq}
 use Rattle.std.proofs.lemmas.Slice.Eq.{bytes_eq-Decides}
+use Rattle.std.proofs.lemmas.Option.{same_Some}
 use Rattle.tree_core.specs.declared.program.Object.{Object}
 use Rattle.tree_core.specs.declared.program.TreeFn.{TreeFn}
 use Rattle.c_sound.specs.Fits.{AreBytes}
@@ -15,9 +16,6 @@ use Rattle.vax_machine_lists.specs.Sound.{AllBelow}
 use Rattle.gg_compile_law.specs.Effects.{label_name}
 use Rattle.gg_compile_law.specs.Spelling.{HoldsNumbers}
 use Rattle.gg_compile_law.specs.Loaded.{AreApart}
-
-some_same : {X : Type 0} (x y : X) → Some x ≡ Some y → x ≡ y
-some_same x y e = cc
 
 -- ---- bytes
 
@@ -38,7 +36,7 @@ hold_numbers os names labels bytes = λ i d lt. (labels.addresses i d lt, all_be
 
 get_map : {X Y : Type 0} (f : X → Y) (xs : List X) (i : ℕ) (x : X) → slice_get xs i ≡ Some x → slice_get (map f xs) i ≡ Some (f x)
 get_map f [] i x e = absurd (cc)
-get_map f (y ∷ xs) zero x e = ap (λ (z : _). Some (f z)) (some_same y x e)
+get_map f (y ∷ xs) zero x e = ap (λ (z : _). Some (f z)) (same_Some y x e)
 get_map f (y ∷ xs) (suc i) x e = get_map f xs i x e
 
 either_false : (a b : Bool) → (a ≡ true → ⊥) → (b ≡ true → ⊥) → (a || b) ≡ false

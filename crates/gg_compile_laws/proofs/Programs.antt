@@ -2,6 +2,7 @@
 use Rattle.std.proofs.Common.{List, [], ◌∷◌, sym, subst}
 use Rattle.std.specs.List.{list_all, AllByRecursion as All}
 use Rattle.std.proofs.lemmas.List.Elements.{recursion_from_All}
+use Rattle.std.proofs.lemmas.Bool.{and_from}
 use Rattle.tree_core.specs.declared.program.Object.{Object}
 use Rattle.c_program.specs.Programs.{AProgram}
 use Rattle.c_sound.specs.Sound.{IsSound}
@@ -16,7 +17,7 @@ use Rattle.gg_compile_law.specs.Spelling.{HoldsNumbers}
 use Rattle.gg_compile_laws.proofs.Objects.{hold_numbers, objects_named}
 use Rattle.gg_compile_laws.proofs.Limits.{typed_programs_are_within_limits}
 use Rattle.gg_compile_laws.specs.Written.{HasPlainObjects, SelectedCodesCanBeWritten, SelectedProgramsCanBeWritten, TypedCodesCanBeWritten}
-use Rattle.gg_compile_laws.proofs.Tests.{both, all_true}
+use Rattle.gg_compile_laws.proofs.Tests.{all_true}
 use Rattle.gg_compile_laws.proofs.Areas.{area_fine}
 use Rattle.gg_compile_laws.proofs.Areas as areas
 use Rattle.gg_compile_laws.proofs.Functions.{code_fine}
@@ -24,7 +25,7 @@ use Rattle.gg_compile_laws.proofs.Functions.{code_fine}
 pub selected_codes_can_be_written : SelectedCodesCanBeWritten
 selected_codes_can_be_written q d c valid limits plain fit s =
     let can : CanWrite q = record { objects = plain.labels; functions = limits.names } in
-    both (list_all is_area_item c.area) (list_all is_code_item c.items)
+    and_from (list_all is_area_item c.area) (list_all is_code_item c.items)
     (all_true is_area_item c.area (subst (λ (a : List AreaItem). All areas.Fine a) (sym s.area) (area_fine q valid plain)))
     (all_true is_code_item c.items (code_fine q valid limits can d fit c.items s.functions))
 

@@ -1,18 +1,14 @@
 -- Tests of each element, and which names can be spelled.
-use Rattle.std.proofs.Common.{◌≡◌, ℕ, ◌+◌, ◌%◌, ◌^◌, ◌<◌, Bool, true, false, List, [], ◌∷◌, ◌++◌, length, refl, ◌∙◌, arith}
-use Rattle.std.specs.Prelude.{◌&&◌, nat_le}
+use Rattle.std.proofs.Common.{◌≡◌, ℕ, ◌+◌, ◌%◌, ◌^◌, ◌<◌, Bool, true, List, [], ◌∷◌, ◌++◌, length, refl, ◌∙◌, arith}
+use Rattle.std.specs.Prelude.{nat_le}
 use Rattle.std.specs.Fmt.{decimal}
 use Rattle.std.specs.List.{list_all, AllByRecursion as All}
-use Rattle.std.proofs.lemmas.Bool.{le-leb}
+use Rattle.std.proofs.lemmas.Bool.{le-leb, and_from}
 use Rattle.std.proofs.lemmas.Bool.Decides.{nat_tests}
 use Rattle.std.proofs.lemmas.Fmt.{decimal_by_steps, length-decimal-le}
 use Rattle.std.proofs.lemmas.List.Folds.{list_all-append}
 use Rattle.vax_core.specs.Valid.{is_name, is_name_part}
 use Rattle.gg_compile_law.specs.Effects.{label_name}
-
-pub both : (a b : Bool) → a ≡ true → b ≡ true → (a && b) ≡ true
-both true b e f = f
-both false b e f = absurd (cc)
 
 -- ---- all elements
 
@@ -22,7 +18,7 @@ all_append P (x ∷ xs) ys h k = (h.0, all_append P xs ys h.1 k)
 
 pub all_true : {X : Type 0} (p : X → Bool) (xs : List X) → All (λ (x : X). p x ≡ true) xs → list_all p xs ≡ true
 all_true p [] h = refl
-all_true p (x ∷ xs) h = both (p x) (list_all p xs) h.0 (all_true p xs h.1)
+all_true p (x ∷ xs) h = and_from (p x) (list_all p xs) h.0 (all_true p xs h.1)
 
 -- ---- the name of a label of 64 bits
 
@@ -41,4 +37,4 @@ digits_are_parts = decimal_by_steps (λ m ds. list_all is_name_part ds ≡ true)
 pub label_spelled : (n : ℕ) → n < 2 ^ 64 → is_name (label_name n) ≡ true
 label_spelled n lt =
     let short = length-decimal-le 20 n (omega arith) (omega (arith, lt)) lt in
-    both (nat_le (length (decimal n)) 63) (list_all is_name_part (decimal n)) (le-leb (length (decimal n)) 63 (omega (arith, short))) (digits_are_parts n lt)
+    and_from (nat_le (length (decimal n)) 63) (list_all is_name_part (decimal n)) (le-leb (length (decimal n)) 63 (omega (arith, short))) (digits_are_parts n lt)

@@ -3,6 +3,7 @@ use Rattle.std.proofs.Common.{◌≡◌, ℕ, ◌-◌, ◌==◌, List, [], ◌�
 use Rattle.std.specs.Prelude.{◌||◌, ◌&&◌, slice_get, codes}
 use Rattle.std.specs.Option.{option_map}
 use Rattle.std.specs.List.{AllByRecursion as All}
+use Rattle.std.proofs.lemmas.Option.{same_Some}
 use Rattle.tree_core.specs.declared.tree.Leaf.{Leaf}
 use Rattle.tree_core.specs.declared.program.TreeFn.{TreeFn}
 use Rattle.tree_core.specs.declared.program.TreeProgram.{TreeProgram}
@@ -27,9 +28,6 @@ use Rattle.sel_parse_lines.proofs.Filling.{selections_are_filled}
 use Rattle.gg_compile_names.specs.Claims.{HasNames, GoesInside, SelectedNamesAreThere}
 use Rattle.gg_compile_names.proofs.Operands.{stands, good, Good, filled_named, names_last}
 
-some_same : {X : Type 0} (x y : X) → Some x ≡ Some y → x ≡ y
-some_same x y e = cc
-
 or_true : (b : Bool) → (b || true) ≡ true
 or_true true = refl
 or_true false = refl
@@ -45,7 +43,7 @@ module _ (q : TreeProgram) (area : List AreaItem) (code : List CodeItem) (there 
 
   label_stands : (o : Option ℕ) → stands q area code o ≡ true → (n : ℕ) → o ≡ Some n → has_label code (label_name n) ≡ true
   label_stands None h n e = absurd (cc)
-  label_stands (Some k) h n e = subst (λ (m : ℕ). has_label code (label_name m) ≡ true) (some_same k n e) h
+  label_stands (Some k) h n e = subst (λ (m : ℕ). has_label code (label_name m) ≡ true) (same_Some k n e) h
 
   in_hole : (a : Attr Operand) → Good q area code a → (n : ℕ) → label_in a ≡ Some n → has_label code (label_name n) ≡ true
   in_hole (attr.Reg r) h n e = absurd (cc)

@@ -2,8 +2,9 @@
 use Rattle.std.proofs.Common.{◌≡◌, ℕ, zero, suc, ◌==◌, List, [], ◌∷◌, ◌++◌, Some, Bool, true, false, refl, sym, ap, subst}
 use Rattle.std.specs.Prelude.{◌||◌, slice_get}
 use Rattle.std.specs.Str.{bytes_eq}
-use Rattle.std.proofs.lemmas.Bool.{eqb-true, true≢false}
+use Rattle.std.proofs.lemmas.Bool.{eqb-true, true≢false, or_left, or_right}
 use Rattle.std.proofs.lemmas.Slice.Eq.{bytes_eq-Decides}
+use Rattle.std.proofs.lemmas.Option.{same_Some}
 use Rattle.tree_core.specs.declared.program.Object.{Object}
 use Rattle.tree_core.specs.declared.program.TreeItem.{TreeItem}
 use Rattle.tree_core.specs.declared.program.TreeFn.{TreeFn}
@@ -20,17 +21,6 @@ use Rattle.gg_compile_law.specs.Assembled.{IsTreeCode, nothing, label, root, IsF
 use Rattle.gg_compile_law.specs.Spelling.{block_of, blocks_of}
 use Rattle.gg_compile_names.specs.Claims.{LabelsStand}
 
-some_same : {X : Type 0} (x y : X) → Some x ≡ Some y → x ≡ y
-some_same x y e = cc
-
-or_left : (b c : Bool) → b ≡ true → (b || c) ≡ true
-or_left true c e = refl
-or_left false c e = absurd (cc)
-
-or_right : (b c : Bool) → c ≡ true → (b || c) ≡ true
-or_right true c e = refl
-or_right false c e = e
-
 -- ---- the data area
 
 area_behind : (xs ys : List AreaItem) (name : List ℕ) → has_area_label ys name ≡ true → has_area_label (xs ++ ys) name ≡ true
@@ -40,7 +30,7 @@ area_behind (x ∷ xs) ys name h = or_right (is_area_label x name) (has_area_lab
 object_stands : (all os : List Object) (n : ℕ) (o : Object) → slice_get os n ≡ Some o → has_area_label (blocks_of all os) o.label ≡ true
 object_stands all [] n o e = absurd (cc)
 object_stands all (x ∷ os) zero o e =
-    or_left (bytes_eq x.label o.label) _ ((bytes_eq-Decides x.label o.label).1 (ap (λ (y : Object). y.label) (some_same x o e)))
+    or_left (bytes_eq x.label o.label) _ ((bytes_eq-Decides x.label o.label).1 (ap (λ (y : Object). y.label) (same_Some x o e)))
 object_stands all (x ∷ os) (suc n) o e = area_behind (block_of all x) (blocks_of all os) o.label (object_stands all os n o e)
 
 -- ---- the code
@@ -85,14 +75,14 @@ module _ (q : TreeProgram) where
       → has_label code (function_label f.name) ≡ true
   functions_stand gs code none n f e = absurd (cc)
   functions_stand gs code (more g hs part rest h others) zero f e =
-      front part rest (function_label f.name) (subst (λ (x : TreeFn). has_label part (function_label x.name) ≡ true) (some_same g f e) (function_here g part h))
+      front part rest (function_label f.name) (subst (λ (x : TreeFn). has_label part (function_label x.name) ≡ true) (same_Some g f e) (function_here g part h))
   functions_stand gs code (more g hs part rest h others) (suc n) f e = behind part rest (function_label f.name) (functions_stand hs rest others n f e)
 
   trees_stand : (gs : List TreeFn) (code : List CodeItem) → AreFunctions q gs code → (n l : ℕ) (f : TreeFn) → slice_get gs n ≡ Some f → stands_in f.items l ≡ true
       → has_label code (label_name l) ≡ true
   trees_stand gs code none n l f e s = absurd (cc)
   trees_stand gs code (more g hs part rest h others) zero l f e s =
-      front part rest (label_name l) (trees_here g part l h (subst (λ (x : TreeFn). stands_in x.items l ≡ true) (sym (some_same g f e)) s))
+      front part rest (label_name l) (trees_here g part l h (subst (λ (x : TreeFn). stands_in x.items l ≡ true) (sym (same_Some g f e)) s))
   trees_stand gs code (more g hs part rest h others) (suc n) l f e s = behind part rest (label_name l) (trees_stand hs rest others n l f e s)
 
 pub labels_stand : LabelsStand

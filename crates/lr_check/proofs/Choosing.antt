@@ -5,6 +5,7 @@ use Rattle.std.specs.Prelude.{◌==◌, ◌||◌, nat_lt}
 use Rattle.std.specs.Option.{option_map}
 use Rattle.std.proofs.lemmas.Bool.{eqb-true, eqb-false, ne_eqb, le-ltb, or_from, cond-false}
 use Rattle.std.proofs.lemmas.List.Elements.{Contains-append_right}
+use Rattle.std.proofs.lemmas.Option.{same_Some, none-some}
 use Rattle.md_reader.specs.declared.types.Rule.{Rule}
 use Rattle.lr_tables.specs.declared.types.Choice.TheVariants as choice
 use Rattle.lr_tables.specs.View.{TableView}
@@ -31,12 +32,6 @@ pub record Chose (t : TableView) (nodes : List Node) (ns : List ℕ) (s : List P
   pub stands : Stands t nodes out.stack parts
   pub same : symbols parts ≡ symbols s
 
-Some-same : {X : Type 0} (x y : X) → Some x ≡ Some y → x ≡ y
-Some-same x y e = cc
-
-none_some : {X : Type 0} (x : X) → None ≡ Some x → ⊥
-none_some x e = cc
-
 pub place_there : (long size : ℕ) → 0 < size → size ≤ long → first_place long size ≡ Some (long - size)
 place_there long size some le =
     cond-false ((size == 0) || nat_lt long size) None (Some (long - size))
@@ -51,7 +46,7 @@ module _ (t : TableView) (nodes : List Node) where
   take_first n ns s parts l takes h e = record {
     taken = Some n;
     is = refl;
-    within = λ m f. subst (Contains (n ∷ ns)) (Some-same n m f) (here n ns);
+    within = λ m f. subst (Contains (n ∷ ns)) (same_Some n m f) (here n ns);
     parts = parts;
     takes = takes;
     stands = h;
@@ -111,7 +106,7 @@ module _ (t : TableView) (nodes : List Node) where
   pub chose : (ns : List ℕ) (l : List Entry) (s : List Part) → Stands t nodes l s → ((n : ℕ) → Contains ns n → Fits t.content.rules (length l) n)
       → Chose t nodes ns s (chosen t.content.rules nodes (map choice.Reduce ns) l)
   unfolding chosen
-  chose [] l s h f = record { taken = None; is = refl; within = λ n e. absurd (none_some n e); parts = s; takes = nothing; stands = h; same = refl }
+  chose [] l s h f = record { taken = None; is = refl; within = λ n e. absurd (none-some n e); parts = s; takes = nothing; stands = h; same = refl }
   chose (n ∷ ns) l s h f =
       by (slice_get t.content.rules n) (f n (here n ns)).there
       (λ k p g e. chose ns k p g (λ m c. subst (λ (x : ℕ). Fits t.content.rules x m) (sym e) (f m (Contains-append_right (n ∷ []) ns m c))))
@@ -119,11 +114,11 @@ module _ (t : TableView) (nodes : List Node) where
       by : (o : Option Rule) → o ≡ Some (f n (here n ns)).rule → ((k : List Entry) (p : List Part) → Stands t nodes k p → length k ≡ length l
           → Chose t nodes ns p (chosen t.content.rules nodes (map choice.Reduce ns) k))
           → Chose t nodes (n ∷ ns) s (taken_or (choice.Reduce n) (question_at nodes l o) (λ k. chosen t.content.rules nodes (map choice.Reduce ns) k))
-      by None e ih = absurd (none_some _ e)
+      by None e ih = absurd (none-some _ e)
       by (Some r) e ih =
           let x = f n (here n ns) in
           let there : slice_get t.content.rules n ≡ Some r = x.there ∙ sym e in
-          let same : r ≡ x.rule = Some-same r x.rule e in
+          let same : r ≡ x.rule = same_Some r x.rule e in
           let size : length r.right ≡ length x.rule.right = ap (λ (q : Rule). length q.right) same in
           let some : 0 < length r.right = (let a = x.some in omega (arith, a, size)) in
           let within : length r.right ≤ length l = (let a = x.within in omega (arith, a, size)) in

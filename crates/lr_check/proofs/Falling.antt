@@ -5,7 +5,7 @@ use Rattle.std.specs.Prelude.{◌==◌, ◌||◌, nat_lt}
 use Rattle.std.proofs.lemmas.List.{length-replicate, length-take-le}
 use Rattle.std.proofs.lemmas.List.Sums.{sum_by-set, sum_by-cons}
 use Rattle.std.proofs.lemmas.Bool.{ltb-true, ltb-false, eqb-false, or_parts}
-use Rattle.std.proofs.lemmas.Option.{slice_get_within}
+use Rattle.std.proofs.lemmas.Option.{slice_get_within, none-some}
 use Rattle.md_reader.specs.declared.types.Rule.{Rule}
 use Rattle.md_reader.specs.declared.types.Sym.TheVariants as grammar_symbol
 use Rattle.lr_tables.specs.declared.types.Choice.{Choice}
@@ -30,9 +30,6 @@ pub record Falls (total : ℕ) (c : Config) (a : After) : Type 0 where
 
 some_none : (o : Outcome) → Some o ≡ None → ⊥
 some_none o e = cc
-
-none_some : {X : Type 0} (x : X) → None ≡ Some x → ⊥
-none_some x e = cc
 
 blocks_falls : (total : ℕ) (c : Config) (stack : List Entry) → Falls total c (blocks c stack)
 blocks_falls total c stack = record { less = λ e. absurd (some_none _ e); seen = λ e. absurd (some_none _ e) }
@@ -96,7 +93,7 @@ place_is : (long size i : ℕ) → first_place long size ≡ Some i → (i + siz
 place_is long size i e = by ((size == 0) || nat_lt long size) refl e
   where
     by : (b : Bool) → ((size == 0) || nat_lt long size) ≡ b → cond b None (Some (long - size)) ≡ Some i → (i + size ≡ long) × (0 < size)
-    by true f g = absurd (none_some i g)
+    by true f g = absurd (none-some i g)
     by false f g =
         let p = or_parts (size == 0) (nat_lt long size) f in
         let ne : size ≡ 0 → ⊥ = eqb-false size 0 p.0 in

@@ -2,6 +2,8 @@
 use Rattle.std.proofs.Common.{◌≡◌, ℕ, ◌-◌, ◌≤◌, ◌<◌, List, [], ◌∷◌, ◌++◌, Option, Some, None, false, Contains, length, take, drop, map, slice_get, refl, sym, ap, ◌∙◌, subst, arith}
 use Rattle.std.specs.Option.{option_map}
 use Rattle.std.proofs.lemmas.List.{length-map, length-replicate, drop-map}
+use Rattle.std.proofs.lemmas.Option.{same_Some, none-some}
+use Rattle.gg_base.proofs.Facts.{some_none}
 use Rattle.tree_core.specs.declared.token.Tok.{Tok}
 use Rattle.md_reader.specs.declared.types.Rule.{Rule}
 use Rattle.md_reader.specs.declared.types.Sym.{Sym}
@@ -31,15 +33,6 @@ use Rattle.lr_check.proofs.Parts.{Stands, bottom, above, stands_length, stands_l
 use Rattle.lr_check.proofs.Choosing.{Fits, Chose, chose, place_there}
 use Rattle.lr_check.proofs.Seen.{seen_start}
 use Rattle.lr_check.proofs.Meaning.{token_at, coming_is, Agrees, Meant, ended, went, length_symbols, goes_some, shift_meant, class_meant}
-
-Some-same : {X : Type 0} (x y : X) → Some x ≡ Some y → x ≡ y
-Some-same x y e = cc
-
-none_some : {X : Type 0} (x : X) → None ≡ Some x → ⊥
-none_some x e = cc
-
-some_none : {X : Type 0} (x : X) → Some x ≡ None → ⊥
-some_none x e = cc
 
 nowhere_in : {X : Type 0} (x : X) → Contains [] x → ⊥
 nowhere_in x h = let lt = h.1 in omega (arith, lt)
@@ -141,8 +134,8 @@ module _ (t : TableView) (nodes : List Node) (order : List ℕ) (valid : IsValid
 
   ends_there : {at : ℕ} {before : List (List Sym)} {ws : List Token} {s : List Part} {x : After} → Meant t nodes order at before ws s x → (o : Outcome) → x.ending ≡ Some o
       → Ends t.content.rules (stmt_of t.content.classes) at before ws s o
-  ends_there {at = at} {before = before} {ws = ws} {s = s} (ended {o = p} h) o e = subst (Ends t.content.rules (stmt_of t.content.classes) at before ws s) (Some-same p o e) h
-  ends_there (went b w p g rest) o e = absurd (none_some o e)
+  ends_there {at = at} {before = before} {ws = ws} {s = s} (ended {o = p} h) o e = subst (Ends t.content.rules (stmt_of t.content.classes) at before ws s) (same_Some p o e) h
+  ends_there (went b w p g rest) o e = absurd (none-some o e)
 
   goes_onward : {at : ℕ} {before : List (List Sym)} {ws : List Token} {s : List Part} {x : After} → Meant t nodes order at before ws s x → x.ending ≡ None → Onward at before ws s x.config
   goes_onward (ended {o = p} h) e = absurd (some_none p e)

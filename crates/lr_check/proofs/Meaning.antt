@@ -4,6 +4,7 @@ use Rattle.std.proofs.Common.{slice_get, refl, sym, ap, ◌∙◌, subst, arith,
 use Rattle.std.specs.Prelude.{nat_lt}
 use Rattle.std.proofs.lemmas.List.{length-map, length-drop, length-replicate}
 use Rattle.std.proofs.lemmas.Bool.{ltb-true, ltb-false, both_ways}
+use Rattle.std.proofs.lemmas.Option.{same_Some, none-some}
 use Rattle.tree_core.specs.declared.token.Tok.TheVariants as tok
 use Rattle.md_reader.specs.declared.types.Rule.{Rule}
 use Rattle.md_reader.specs.declared.types.Sym.{Sym}
@@ -22,15 +23,6 @@ use Rattle.lr_check.specs.Steps.{Config, answers_of, tok_of, token_of, After, sh
 use Rattle.lr_check.proofs.Parts.{Stands, above}
 use Rattle.lr_check.proofs.Seen.{Seen, none_marked, seen_shift, seen_unit, seen_long}
 
-Some-same : {X : Type 0} (x y : X) → Some x ≡ Some y → x ≡ y
-Some-same x y e = cc
-
-none_some : {X : Type 0} (x : X) → None ≡ Some x → ⊥
-none_some x e = cc
-
-some_none : {X : Type 0} (x : X) → Some x ≡ None → ⊥
-some_none x e = cc
-
 nowhere_in : {X : Type 0} (x : X) → Contains [] x → ⊥
 nowhere_in x h = let lt = h.1 in omega (arith, lt)
 
@@ -48,8 +40,8 @@ coming_is nodes (n ∷ order) zero = refl
 coming_is nodes (n ∷ order) (suc at) = coming_is nodes order at
 
 next_is : (nodes : List Node) (order : List ℕ) (at n : ℕ) → slice_get order at ≡ Some n → tokens_from nodes at order ≡ token_at nodes n ∷ tokens_from nodes (at + 1) order
-next_is nodes [] at n e = absurd (none_some n e)
-next_is nodes (m ∷ order) zero n e = ap (λ (x : ℕ). token_at nodes x ∷ map (token_at nodes) order) (Some-same m n e)
+next_is nodes [] at n e = absurd (none-some n e)
+next_is nodes (m ∷ order) zero n e = ap (λ (x : ℕ). token_at nodes x ∷ map (token_at nodes) order) (same_Some m n e)
 next_is nodes (m ∷ order) (suc at) n e =
     let more : suc at + 1 ≡ suc (at + 1) = omega arith in
     next_is nodes order at n e ∙ ap (λ (x : ℕ). token_at nodes n ∷ tokens_from nodes x (m ∷ order)) (sym more)

@@ -1,12 +1,9 @@
 -- Samples whose kids have lower numbers.
 use Rattle.std.proofs.Common.{◌≡◌, ◌↔◌, ℕ, ◌+◌, ◌≤◌, ◌<◌, List, Some, Bool, true, false, All, Contains, length, get_or, slice_get, sym, ap, ◌∙◌, subst, ⊎_elim, arith, true≢false}
 use Rattle.std.proofs.lemmas.List.Elements.{All-contains, All-from_get_or, Contains-get_or}
-use Rattle.std.proofs.lemmas.Option.{slice_get-get_or, slice_get_within}
+use Rattle.std.proofs.lemmas.Option.{slice_get-get_or, slice_get_within, same_Some}
 use Rattle.std.proofs.lemmas.Bool.{cases_lt}
 use Rattle.lr_check.specs.Tree.{Node, IsSample}
-
-Some-same : {X : Type 0} (x y : X) → Some x ≡ Some y → x ≡ y
-Some-same x y e = cc
 
 -- the nodes below the number have kids of lower numbers
 pub record NumberedBelow (nodes : List Node) (n : ℕ) : Type 0 where
@@ -22,7 +19,7 @@ below_turn nodes n v b lt e h = record {
       (λ above.
       let same : m ≡ n = omega (arith, le, above) in
       let here : slice_get nodes n ≡ Some v = slice_get-get_or nodes n v lt ∙ ap Some (sym e) in
-      let node : u ≡ v = Some-same u v (sym there ∙ (ap (slice_get nodes) same ∙ here)) in
+      let node : u ≡ v = same_Some u v (sym there ∙ (ap (slice_get nodes) same ∙ here)) in
       let k_low : k < n = All-contains (λ (x : ℕ). x < n) v.kids k h (subst (λ (x : Node). Contains x.kids k) node c) in
       omega (arith, k_low, same))
       (cases_lt m n);

@@ -4,6 +4,8 @@ use Rattle.std.proofs.Common.{refl, sym, ap, ◌∙◌, subst, inl, inr, ⊎_eli
 use Rattle.std.specs.Prelude.{AllPairs}
 use Rattle.std.proofs.lemmas.Bool.{both_ways}
 use Rattle.std.proofs.lemmas.List.Elements.{Contains-append_cases, Contains-append_right}
+use Rattle.std.proofs.lemmas.Option.{same_Some}
+use Rattle.gg_base.proofs.Facts.{some_none}
 use Rattle.tree_core.specs.declared.token.Tok.{Tok}
 use Rattle.tree_core.specs.declared.token.Tok.TheVariants as tok
 use Rattle.md_reader.specs.declared.types.Rule.{Rule}
@@ -18,12 +20,6 @@ use Rattle.lr_check.specs.declared.sample.Outcome.TheVariants as outcome
 use Rattle.lr_check.specs.Tree.{Node, Token, Unfolds, ends, goes_on}
 use Rattle.lr_check.specs.Parse.{Part, symbols, coming, owner_answers, answer, asked, reduced, Takes, nothing, unrestricted, answered_yes, answered_no, Reduction, Ends, loops}
 use Rattle.lr_check.specs.Parse.{accepts, shifts, reduces, blocks, Replays, is_long, is_parsed}
-
-Some-same : {X : Type 0} (x y : X) → Some x ≡ Some y → x ≡ y
-Some-same x y e = cc
-
-some_none : {X : Type 0} (x : X) → Some x ≡ None → ⊥
-some_none x e = cc
 
 here : {X : Type 0} (x : X) (xs : List X) → Contains (x ∷ xs) x
 here x xs = (0, omega arith, refl)
@@ -76,7 +72,7 @@ module _ (rules : List Rule) (stmt : ℕ) where
   reductions_same a t ns ms p q = same_lists (GoesFirst rules stmt) goes_first_apart ns ms p.ordered q.ordered (λ n c. (q.exactly n).1 ((p.exactly n).0 c)) (λ n c. (p.exactly n).1 ((q.exactly n).0 c))
 
   rule_same : (n : ℕ) (r q : Rule) → slice_get rules n ≡ Some r → slice_get rules n ≡ Some q → r ≡ q
-  rule_same n r q e f = Some-same r q (sym e ∙ f)
+  rule_same n r q e f = same_Some r q (sym e ∙ f)
 
   none_more : (n : ℕ) (r q : Rule) → slice_get rules n ≡ Some r → slice_get rules n ≡ Some q → length r.restrictions ≡ 0 → 0 < length q.restrictions → ⊥
   none_more n r q e f z m = let l : length r.restrictions ≡ length q.restrictions = ap (λ (x : Rule). length x.restrictions) (rule_same n r q e f) in omega (arith, l, z, m)
@@ -133,8 +129,8 @@ module _ (rules : List Rule) (stmt : ℕ) where
   ends_same (reduces r n d e x) (shifts m g b y) = absurd (d.no_shift b)
   ends_same (reduces {at = at} {n = i} {before = before} {ws = ws} {s = s} {s' = u} r n d e x) (reduces {n = j} {s' = v} {o = p} q m c f y) =
       let same : (Some i ≡ Some j) × (u ≡ v) = reduction_same ws s u v (Some i) (Some j) d c in
-      let number : i ≡ j = Some-same i j same.0 in
-      let rule : q ≡ r = Some-same q r (sym f ∙ (ap (slice_get rules) (sym number) ∙ e)) in
+      let number : i ≡ j = same_Some i j same.0 in
+      let rule : q ≡ r = same_Some q r (sym f ∙ (ap (slice_get rules) (sym number) ∙ e)) in
       let stack : reduced v q ≡ reduced u r = (λ k. reduced (sym same.1 k) (rule k)) in
       ends_same x (subst (λ (z : List Part). Ends rules stmt at (symbols s ∷ before) ws z p) stack y)
   ends_same (reduces {n = i} {ws = ws} {s = s} {s' = u} r n d e x) (blocks {s' = v} m c) = absurd (some_none i (reduction_same ws s u v (Some i) None d c).0)
@@ -147,7 +143,7 @@ module _ (rules : List Rule) (stmt : ℕ) where
 unfolds_same : (nodes : List Node) {l : List ℕ} {w u : List Token} → Unfolds nodes l w → Unfolds nodes l u → w ≡ u
 unfolds_same nodes ends ends = refl
 unfolds_same nodes (goes_on {n = n} {rest = rest} {w = w} v e x) (goes_on {w = u} q f y) =
-    let same : q ≡ v = Some-same q v (sym f ∙ e) in
+    let same : q ≡ v = same_Some q v (sym f ∙ e) in
     let tail : w ≡ u = unfolds_same nodes x (subst (λ (z : Node). Unfolds nodes (z.kids ++ rest) u) same y) in
     let head : ◌≡◌ {A = Token} (record { tok = v.tok; answers = v.answers }) (record { tok = q.tok; answers = q.answers }) =
     ap {B = Token} (λ (z : Node). record { tok = z.tok; answers = z.answers }) (sym same) in

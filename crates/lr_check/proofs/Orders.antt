@@ -6,9 +6,6 @@ use Rattle.std.proofs.lemmas.List.Elements.{Contains-append_cases, Contains-push
 use Rattle.lr_check.specs.Tree.{Node, IsSample}
 use Rattle.lr_check.specs.Order.{Orders, ends, goes_on, IsOrder, IsLongOrder}
 
-Some-same : {X : Type 0} (x y : X) → Some x ≡ Some y → x ≡ y
-Some-same x y e = cc
-
 abbrev pub root : List Node → List ℕ
 root nodes = (length nodes - 1) ∷ []
 

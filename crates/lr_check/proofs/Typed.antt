@@ -1,20 +1,17 @@
 -- Samples whose kids fit their tokens, node by node.
 use Rattle.std.proofs.Common.{◌≡◌, ℕ, ◌+◌, ◌≤◌, ◌<◌, List, Some, true, length, get_or, slice_get, sym, ap, ◌∙◌, subst, ⊎_elim, arith}
-use Rattle.std.proofs.lemmas.Option.{slice_get-get_or, slice_get_within}
+use Rattle.std.proofs.lemmas.Option.{slice_get-get_or, slice_get_within, same_Some}
 use Rattle.std.proofs.lemmas.Bool.{cases_lt}
 use Rattle.tree_core.specs.declared.token.Sort.{Sort}
 use Rattle.tree_core.specs.Grammar.{kids}
 use Rattle.lr_check.specs.Tree.{Node}
 use Rattle.lr_check.specs.Statement.{fits_at, KidsFit, AreTyped}
 
-Some-same : {X : Type 0} (x y : X) → Some x ≡ Some y → x ≡ y
-Some-same x y e = cc
-
 here_is : {X : Type 0} (xs : List X) (n : ℕ) (x y : X) → n < length xs → x ≡ get_or xs n x → slice_get xs n ≡ Some y → y ≡ x
-here_is xs n x y lt e there = Some-same y x (sym there ∙ (slice_get-get_or xs n x lt ∙ ap Some (sym e)))
+here_is xs n x y lt e there = same_Some y x (sym there ∙ (slice_get-get_or xs n x lt ∙ ap Some (sym e)))
 
 at_is : {X : Type 0} (xs : List X) (n : ℕ) (d x : X) → n < length xs → slice_get xs n ≡ Some x → x ≡ get_or xs n d
-at_is xs n d x lt there = Some-same x (get_or xs n d) (sym there ∙ slice_get-get_or xs n d lt)
+at_is xs n d x lt there = same_Some x (get_or xs n d) (sym there ∙ slice_get-get_or xs n d lt)
 
 -- the kids before the n-th fit
 pub record FitBelow (nodes : List Node) (numbers : List ℕ) (sorts : List Sort) (n : ℕ) : Type 0 where

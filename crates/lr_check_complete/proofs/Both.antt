@@ -2,7 +2,7 @@
 use Rattle.std.proofs.Common.{◌≡◌, ℕ, List, [], ◌∷◌, ◌++◌, Option, Some, None, Contains, false, true≢false, length, slice_get, refl, sym, ap, ◌∙◌, subst}
 use Rattle.std.specs.Prelude.{slice_index_or, IfSome, nat_lt}
 use Rattle.std.proofs.lemmas.Bool.{lt-ltb}
-use Rattle.std.proofs.lemmas.Option.{slice_get_within}
+use Rattle.std.proofs.lemmas.Option.{slice_get_within, same_Some, none-some}
 use Rattle.tree_core.specs.declared.token.Tok.{Tok}
 use Rattle.tree_core.specs.declared.token.Sort.{Sort}
 use Rattle.tree_core.specs.Grammar.{kids}
@@ -19,7 +19,6 @@ use Rattle.lr_check_found.specs.Found.{FoundView, place_of, IsPlaceAt, IsSettlin
 use Rattle.lr_check_found.specs.Items.{HasOne, HasTwo, Begun, Made, HasMade}
 use Rattle.lr_check_found.specs.Sound.{IsFound}
 use Rattle.lr_check_found.specs.Adding.{list_number}
-use Rattle.lr_check_found.proofs.Reading.{Some-same, none_some}
 use Rattle.lr_check_found.proofs.Deriving.{IsSum, sum_of}
 use Rattle.lr_check_complete.specs.Kids.{FirstSum, FirstsIn, HasListAt, TwoKids, TwoIn, SecondIn, SecondAt, FirstIn, IsFrame}
 use Rattle.lr_check_complete.specs.Seconds.{SecondKid, SecondFound}
@@ -34,8 +33,8 @@ not_there xs ys k x same none at =
 -- a sum leads to the state of its settling
 pub same_behind : (f : FoundView) (i j p : ℕ) (y : Place) (s : List Sym) (e : Settling) → IsSettlingAt f i e → e.behind ≡ Some p → SumAt f i y s j → j ≡ p
 same_behind f i j p y s e at behind sum =
-    let same : sum.entry ≡ e = Some-same sum.entry e (sym sum.there ∙ at) in
-    Some-same j p (sym sum.behind ∙ (ap (λ (d : Settling). d.behind) same ∙ behind))
+    let same : sum.entry ≡ e = same_Some sum.entry e (sym sum.there ∙ at) in
+    same_Some j p (sym sum.behind ∙ (ap (λ (d : Settling). d.behind) same ∙ behind))
 
 pub second_kid : (A : Automaton) (f : FoundView) (n i p : ℕ) (x : Place) (m : Tok) (e : Settling) → IsSettlingAt f i e → e.behind ≡ Some p → TwoKids A f n x m i
     → SecondKid A f n x i (place_of p m x.behind)
@@ -90,7 +89,7 @@ second_done f n i p x m e at behind h = record {
 
 -- a settling that leads nowhere is no sum
 pub second_nowhere : (f : FoundView) (n i : ℕ) (x : Place) (m : Tok) (o : Option ℕ) → o ≡ None → ((e : Settling) → IsSettlingAt f i e → o ≡ e.behind) → SecondAt f n x m i
-second_nowhere f n i x m o none is = record { each = λ y s j sum. absurd (none_some j (sym none ∙ (is sum.entry sum.there ∙ sum.behind))) }
+second_nowhere f n i x m o none is = record { each = λ y s j sum. absurd (none-some j (sym none ∙ (is sum.entry sum.there ∙ sum.behind))) }
 
 pub if_some : {X : Type 0} (o : Option X) (Q : Type 0) → Q → IfSome o (λ x. Q)
 if_some None Q h = tt
@@ -102,14 +101,14 @@ pub frame_two : (A : Automaton) (f : FoundView) (q p n : ℕ) (k : Tok) (w v : S
     → IsPlaceAt f n x → HasTwo A x w v p
 frame_two A f q p n k w v numbers x frame kid c at =
     let h = frame.places n c in
-    let same : place_of q k h.0 ≡ x = Some-same (place_of q k h.0) x (sym h.1 ∙ at) in
+    let same : place_of q k h.0 ≡ x = same_Some (place_of q k h.0) x (sym h.1 ∙ at) in
     subst (λ (y : Place). HasTwo A y w v p) same (record { go = frame.go; kid = kid })
 
 pub frame_one : (A : Automaton) (f : FoundView) (q p n : ℕ) (k : Tok) (w : Sort) (numbers : List ℕ) (x : Place) → IsFrame A f q k p numbers → kids k ≡ w ∷ [] → Contains numbers n
     → IsPlaceAt f n x → HasOne A x w p
 frame_one A f q p n k w numbers x frame kid c at =
     let h = frame.places n c in
-    let same : place_of q k h.0 ≡ x = Some-same (place_of q k h.0) x (sym h.1 ∙ at) in
+    let same : place_of q k h.0 ≡ x = same_Some (place_of q k h.0) x (sym h.1 ∙ at) in
     subst (λ (y : Place). HasOne A y w p) same (record { go = frame.go; kid = kid })
 
 pub two_kids : (A : Automaton) (f : FoundView) (n i p : ℕ) (x : Place) (m : Tok) (w v : Sort) → IsPlaceAt f n x → HasTwo A x w v p → May m v → FirstSum f p w m i → TwoKids A f n x m i
@@ -123,6 +122,6 @@ first_in A f n p x m w sums found firsts each = record {
       let r = firsts.sums t s may sum in
       let l : HasListAt f p r.0 s = r.1.1 in
       let is : IsSum A l.place s l.behind = sum_of A f r.0 l.place s l.behind found l.sum in
-      let same : l.behind ≡ j = Some-same l.behind j (sym is.walks ∙ (ap (λ q. walk A q s) l.state ∙ ws)) in
+      let same : l.behind ≡ j = same_Some l.behind j (sym is.walks ∙ (ap (λ q. walk A q s) l.state ∙ ws)) in
       subst (SecondIn f n x m s) same ((each r.0 r.1.0).each l.place s l.behind l.sum);
 }

@@ -1,6 +1,6 @@
 -- Where nothing is lacking, what was found is closed under the rules of the sets.
 use Rattle.std.proofs.Common.{◌≡◌, ℕ, ◌<◌, List, [], ◌∷◌, ◌++◌, Option, Some, None, length, slice_get, refl, sym, ap, ◌∙◌, subst}
-use Rattle.std.proofs.lemmas.Option.{slice_get_within}
+use Rattle.std.proofs.lemmas.Option.{slice_get_within, same_Some, none-some}
 use Rattle.tree_core.specs.declared.token.Tok.{Tok}
 use Rattle.tree_core.specs.declared.token.Tok.TheVariants as tok
 use Rattle.tree_core.specs.declared.token.Sort.{Sort}
@@ -18,7 +18,6 @@ use Rattle.lr_check_sets.specs.Closed.{IsClosed}
 use Rattle.lr_check_found.specs.declared.places.Place.{Place}
 use Rattle.lr_check_found.specs.Found.{FoundView, place_of, IsPlaceAt, Settles}
 use Rattle.lr_check_found.specs.Sound.{IsSoundSettling, IsFound}
-use Rattle.lr_check_found.proofs.Reading.{Some-same, none_some}
 use Rattle.lr_check_found.specs.Count.{Tuple, HasMore}
 use Rattle.lr_check_found.proofs.Deriving.{walk_from}
 use Rattle.lr_check_found.proofs.Counting.{IsSumOf, no_more}
@@ -32,7 +31,7 @@ row_within : (t : TableView) (q p : ℕ) (X : Sym) → target_at t q X ≡ Some 
 row_within t q p X e = by (slice_get t.rows q) refl
   where
     by : (o : Option RowView) → slice_get t.rows q ≡ o → q < length t.rows
-    by None f = absurd (none_some p (sym (ap (λ (o : Option RowView). target_in o (symbol_number X)) f) ∙ e))
+    by None f = absurd (none-some p (sym (ap (λ (o : Option RowView). target_in o (symbol_number X)) f) ∙ e))
     by (Some r) f = slice_get_within t.rows q r f
 
 module _ (t : TableView) (f : FoundView) (found : IsFound (automaton_of t) f) (starts : (k : Tok) → May k sort.Stmt → HasPlace f 0 k tok.End)
@@ -53,7 +52,7 @@ module _ (t : TableView) (f : FoundView) (found : IsFound (automaton_of t) f) (s
   place_is q k b s h = subst (λ n. IsPlaceAt f n (place_of q k b)) (sym h.settles.place) h.at
 
   same_place : (q : ℕ) (k b : Tok) (s : List Sym) (h : HasSettling f q k b s) → (sound_at q k b s h).place ≡ place_of q k b
-  same_place q k b s h = Some-same (sound_at q k b s h).place (place_of q k b) (sym (sound_at q k b s h).there ∙ place_is q k b s h)
+  same_place q k b s h = same_Some (sound_at q k b s h).place (place_of q k b) (sym (sound_at q k b s h).there ∙ place_is q k b s h)
 
   same_list : (q : ℕ) (k b : Tok) (s : List Sym) (h : HasSettling f q k b s) → (sound_at q k b s h).list ≡ s
   same_list q k b s h = some_same (sound_at q k b s h).list s (sym (sound_at q k b s h).symbols ∙ h.settles.list)

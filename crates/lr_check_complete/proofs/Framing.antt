@@ -1,6 +1,7 @@
 -- Frames: how many kids a token has, and the places of a state and a token.
 use Rattle.std.proofs.Common.{◌≡◌, ◌⊎◌, ℕ, zero, suc, ◌+◌, ◌≤◌, ◌<◌, List, [], ◌∷◌, ◌++◌, Some, Contains, length, get_or, refl, sym, ap, ◌∙◌, subst, inl, inr, ⊎_elim, arith}
 use Rattle.std.proofs.lemmas.List.Elements.{Contains-append_left, Contains-append_right}
+use Rattle.std.proofs.lemmas.Option.{same_Some}
 use Rattle.lr_tables.proofs.Members.{In, In-cases, In-Contains, Contains-In}
 use Rattle.tree_core.specs.declared.token.Tok.{Tok}
 use Rattle.tree_core.specs.declared.token.Tok.TheVariants as tok
@@ -13,7 +14,6 @@ use Rattle.lr_check_found.specs.declared.settlings.How.TheVariants as how
 use Rattle.lr_check_found.specs.Found.{FoundView, place_of, IsPlaceAt, Settles}
 use Rattle.lr_check_found.specs.Items.{Made, HasMade}
 use Rattle.lr_check_found.specs.Sound.{IsFound}
-use Rattle.lr_check_found.proofs.Reading.{Some-same}
 use Rattle.lr_check_found.proofs.Below.{Below, none_below, one_more_at}
 use Rattle.lr_check_complete.specs.Kids.{OnlyIn, BothIn, KidsIn, IsFrame, FrameIn}
 
@@ -104,7 +104,7 @@ leaf_made A f q p n k numbers frame none c =
 pub token_is : (A : Automaton) (f : FoundView) (q p n : ℕ) (k : Tok) (numbers : List ℕ) (x : Place) → IsFrame A f q k p numbers → Contains numbers n → IsPlaceAt f n x → k ≡ x.token
 token_is A f q p n k numbers x frame c at =
     let h = frame.places n c in
-    ap (λ (y : Place). y.token) (Some-same (place_of q k h.0) x (sym h.1 ∙ at))
+    ap (λ (y : Place). y.token) (same_Some (place_of q k h.0) x (sym h.1 ∙ at))
 
 -- ---- what follows from the kids
 
@@ -159,5 +159,5 @@ pub frame_in : (A : Automaton) (f : FoundView) (q p : ℕ) (k : Tok) (numbers : 
     → ((n : ℕ) (b : Tok) → IsPlaceAt f n (place_of q k b) → Contains numbers n) →
     ((n : ℕ) → Contains numbers n → (x : Place) → IsPlaceAt f n x → KidsIn A f n x p (kids k)) → FrameIn A f q k
 frame_in A f q p k numbers go all g = record {
-  each = λ j n b go' at. subst (λ i. KidsIn A f n (place_of q k b) i (kids k)) (Some-same p j (sym go ∙ go')) (g n (all n b at) (place_of q k b) at);
+  each = λ j n b go' at. subst (λ i. KidsIn A f n (place_of q k b) i (kids k)) (same_Some p j (sym go ∙ go')) (g n (all n b at) (place_of q k b) at);
 }

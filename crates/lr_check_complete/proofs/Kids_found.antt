@@ -1,6 +1,7 @@
 -- Kids that were found, as items.
 use Rattle.std.proofs.Common.{◌≡◌, ℕ, List, [], ◌∷◌, ◌++◌, Option, Some, Contains, slice_get, refl, sym, ap, ◌∙◌, subst}
 use Rattle.std.specs.Prelude.{slice_index_or}
+use Rattle.std.proofs.lemmas.Option.{same_Some}
 use Rattle.tree_core.specs.declared.token.Tok.{Tok}
 use Rattle.tree_core.specs.declared.token.Sort.{Sort}
 use Rattle.md_reader.specs.declared.types.Sym.{Sym}
@@ -17,12 +18,11 @@ use Rattle.lr_check_found.specs.Found.{FoundView, place_of, IsPlaceAt, SumAt, Se
 use Rattle.lr_check_found.specs.Items.{HasOne, Begun, Made, HasMade}
 use Rattle.lr_check_found.specs.Sound.{IsSoundSettling, IsFound}
 use Rattle.lr_check_found.specs.Adding.{list_number, number_in}
-use Rattle.lr_check_found.proofs.Reading.{Some-same}
 use Rattle.lr_check_complete.specs.Kids.{OneKid, OneIn, OnlyAt}
 
 -- a place has one number
 pub one_place : (A : Automaton) (f : FoundView) (n m : ℕ) (x : Place) → IsFound A f → IsPlaceAt f n x → IsPlaceAt f m x → n ≡ m
-one_place A f n m x found a b = Some-same n m (sym (found.numbered n x a) ∙ found.numbered m x b)
+one_place A f n m x found a b = same_Some n m (sym (found.numbered n x a) ∙ found.numbered m x b)
 
 -- a sum leads to a state
 leads : (A : Automaton) (q : ℕ) (k t : Tok) (s : List Sym) → sets.Sum A q k t s → (p : ℕ) × (walk A q s ≡ Some p)

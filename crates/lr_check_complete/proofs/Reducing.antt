@@ -2,7 +2,7 @@
 use Rattle.std.proofs.Common.{◌≡◌, ℕ, ◌-◌, List, [], ◌∷◌, Option, Some, None, Contains, Bool, true, false, length, drop, slice_get, refl, sym, ap, ◌∙◌, subst, arith}
 use Rattle.std.specs.Prelude.{nat_lt, ◌==◌, slice_index_or, if◌then◌else◌}
 use Rattle.std.proofs.lemmas.Bool.{eqb-true}
-use Rattle.std.proofs.lemmas.Option.{get_or_from_slice_get}
+use Rattle.std.proofs.lemmas.Option.{get_or_from_slice_get, same_Some, none-some}
 use Rattle.md_reader.specs.State.{Content}
 use Rattle.md_reader.specs.declared.types.Rule.{Rule}
 use Rattle.md_reader.specs.declared.types.Sym.{Sym}
@@ -25,7 +25,6 @@ use Rattle.lr_check_found.specs.Lists.{IsList}
 use Rattle.lr_check_found.specs.Found.{FoundView, IsPlaceAt, IsSettlingAt, Settles}
 use Rattle.lr_check_found.specs.Items.{Made, HasMade}
 use Rattle.lr_check_found.specs.Sound.{IsSoundSettling, IsFound}
-use Rattle.lr_check_found.proofs.Reading.{Some-same, none_some}
 use Rattle.lr_check_found.proofs.Leading.{candidates_here, candidates_there}
 use Rattle.lr_check_complete.specs.Kids.{LeadsIn, ReducesIn}
 
@@ -134,9 +133,9 @@ module _ (t : TableView) (f : FoundView) (i : ℕ) (e : Settling) (x : Place) (p
       all : (b : Settling) (y : Place) (s : List Sym) (q : ℕ) (r : Production) → IsSettlingAt f i b → IsPlaceAt f b.place y → IsList f.lists b.list s → b.behind ≡ Some q →
           Free ((automaton_of t).candidates q y.behind) (reduce r) → size_of r ≡ length s → Settles f b.place (grammar_symbol.Class r.left ∷ [])
       all b y s q r ab py ls bq fr many =
-          let same : b ≡ e = Some-same b e (sym ab ∙ at) in
-          let state : q ≡ p = Some-same q p (sym bq ∙ (ap (λ (z : Settling). z.behind) same ∙ behind)) in
-          let beside : y ≡ x = Some-same y x (sym py ∙ (ap (λ (z : Settling). slice_get f.places z.place) same ∙ place)) in
+          let same : b ≡ e = same_Some b e (sym ab ∙ at) in
+          let state : q ≡ p = same_Some q p (sym bq ∙ (ap (λ (z : Settling). z.behind) same ∙ behind)) in
+          let beside : y ≡ x = same_Some y x (sym py ∙ (ap (λ (z : Settling). slice_get f.places z.place) same ∙ place)) in
           let fr' : Free (candidates_of rules choices) (reduce r) = subst (λ (cs : List Candidate). Free cs (reduce r)) (sym here) (candidates_here t p x.behind (reduce r)
           (subst (λ (j : ℕ). Free ((automaton_of t).candidates j x.behind) (reduce r)) state (subst (λ (z : Place). Free ((automaton_of t).candidates q z.behind) (reduce r)) beside fr))) in
           let c = has.each (reduce r) fr' in
@@ -147,11 +146,11 @@ module _ (t : TableView) (f : FoundView) (i : ℕ) (e : Settling) (x : Place) (p
 -- a settling that leads nowhere
 pub reduces_nowhere : (A : Automaton) (f : FoundView) (i : ℕ) (e : Settling) → IsSettlingAt f i e → e.behind ≡ None → ReducesIn A f i
 reduces_nowhere A f i e at none = record {
-  each = λ b y s q r ab py ls bq fr many. absurd (none_some q (sym (ap (λ (z : Settling). z.behind) (Some-same b e (sym ab ∙ at)) ∙ none) ∙ bq));
+  each = λ b y s q r ab py ls bq fr many. absurd (none-some q (sym (ap (λ (z : Settling). z.behind) (same_Some b e (sym ab ∙ at)) ∙ none) ∙ bq));
 }
 
 -- a place that isn't found
 pub reduces_lost : (A : Automaton) (f : FoundView) (i : ℕ) (e : Settling) → IsSettlingAt f i e → ((x : Place) → IsPlaceAt f e.place x → ⊥) → ReducesIn A f i
 reduces_lost A f i e at lost = record {
-  each = λ b y s q r ab py ls bq fr many. absurd (lost y (ap (λ (z : Settling). slice_get f.places z.place) (sym (Some-same b e (sym ab ∙ at))) ∙ py));
+  each = λ b y s q r ab py ls bq fr many. absurd (lost y (ap (λ (z : Settling). slice_get f.places z.place) (sym (same_Some b e (sym ab ∙ at))) ∙ py));
 }

@@ -6,7 +6,7 @@ use Rattle.std.proofs.lemmas.Bool.{cases_lt, cases_eq}
 use Rattle.std.proofs.lemmas.List.{get_or-set_other}
 use Rattle.std.proofs.lemmas.List.Sums.{sum_by-set}
 use Rattle.std.specs.Option.{option_map}
-use Rattle.std.proofs.lemmas.Option.{slice_get-map}
+use Rattle.std.proofs.lemmas.Option.{slice_get-map, same_Some, none-some}
 use Rattle.tree_core.specs.declared.token.Tok.{Tok}
 use Rattle.md_reader.specs.State.{Content}
 use Rattle.md_reader.specs.declared.types.Rule.{Rule}
@@ -21,7 +21,7 @@ use Rattle.lr_check_sets.specs.Faults.{Calms, calms}
 use Rattle.lr_check_sets.specs.Table.{production, productions, candidates_of, automaton_of}
 use Rattle.lr_check_found.specs.declared.choices.Leads.TheVariants.{Out, Whole, Inside}
 use Rattle.lr_check_found.specs.Choices.{seen, CandidateOf, HasFree}
-use Rattle.lr_check_found.proofs.Reading.{Some-same, none_some, at_contains}
+use Rattle.lr_check_found.proofs.Reading.{at_contains}
 use Rattle.lr_check_found.proofs.Leading.{candidates_here, candidates_there}
 use Rattle.lr_check_flaws.specs.Flaws.{StepsTo}
 use Rattle.lr_check_complete.proofs.Reducing.{whole_left, whole_choice, WholeChoice, choice_whole}
@@ -37,12 +37,12 @@ if_not_some None P h e = h
 if_not_some (Some x) P h e = cc
 
 pub some_at : {X : Type 0} (o : Option X) (x : X) (P : X → Type 0) → o ≡ Some x → IfSome o P → P x
-some_at None x P e h = absurd (none_some x e)
-some_at (Some y) x P e h = subst P (Some-same y x e) h
+some_at None x P e h = absurd (none-some x e)
+some_at (Some y) x P e h = subst P (same_Some y x e) h
 
 pub none_at : {X : Type 0} (o : Option X) (P : Type 0) → o ≡ None → IfNone o P → P
 none_at None P e h = h
-none_at (Some x) P e h = absurd (none_some x (sym e))
+none_at (Some x) P e h = absurd (none-some x (sym e))
 
 pub if_none_map : {X : Type 0} (o : Option X) (P Q : Type 0) → (P → Q) → IfNone o P → IfNone o Q
 if_none_map None P Q g h = g h
@@ -116,7 +116,7 @@ module _ (t : TableView) (q at c : ℕ) (b : Tok) (d : Content) (rules : List Ru
     where
       next : (d : ℕ) → StepsTo (automaton_of t) q b c d → slice_index_or marks d false ≡ true
       next d s =
-          let same : s.at ≡ at = Some-same s.at at (sym s.go ∙ go) in
+          let same : s.at ≡ at = same_Some s.at at (sym s.go ∙ go) in
           let fr : Free (candidates_of rules choices) (reduce s.rule) = subst (λ (cs : List Candidate). Free cs (reduce s.rule)) (sym here)
           (candidates_here t at b (reduce s.rule) (subst (λ (j : ℕ). Free ((automaton_of t).candidates j b) (reduce s.rule)) same s.free)) in
           let x = has.each (reduce s.rule) fr in
@@ -134,7 +134,7 @@ module _ (t : TableView) (q at c : ℕ) (b : Tok) (d : Content) (rules : List Ru
 
 -- a class that leads nowhere
 pub marked_nowhere : (A : Automaton) (q c : ℕ) (b : Tok) (marks : List Bool) → A.go q (grammar_symbol.Class c) ≡ None → LeadsToMarked A q b marks c
-marked_nowhere A q c b marks none = record { each = λ d s. absurd (none_some s.at (sym none ∙ s.go)) }
+marked_nowhere A q c b marks none = record { each = λ d s. absurd (none-some s.at (sym none ∙ s.go)) }
 
 -- a class that leads to calm ones is calm
 pub calm_class : (A : Automaton) (q c : ℕ) (b : Tok) (marks : List Bool) → AreCalm A q b marks → LeadsToMarked A q b marks c → Calms A q b (grammar_symbol.Class c ∷ [])

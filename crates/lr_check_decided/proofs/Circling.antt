@@ -1,7 +1,7 @@
 -- Settlings whose reductions come to an end, or turn.
 use Rattle.std.proofs.Common.{◌≡◌, ℕ, ◌<◌, List, [], ◌∷◌, Some, None, Contains, Bool, true, false, length, refl, sym, ap, ◌∙◌, subst}
 use Rattle.std.specs.Prelude.{slice_index_or}
-use Rattle.std.proofs.lemmas.Option.{get_or_from_slice_get}
+use Rattle.std.proofs.lemmas.Option.{get_or_from_slice_get, same_Some, none-some}
 use Rattle.md_reader.specs.State.{Content}
 use Rattle.md_reader.specs.declared.types.Rule.{Rule}
 use Rattle.md_reader.specs.declared.types.Sym.{Sym}
@@ -19,7 +19,6 @@ use Rattle.lr_check_found.specs.Choices.{HasFree}
 use Rattle.lr_check_found.specs.Lists.{IsList}
 use Rattle.lr_check_found.specs.Found.{FoundView, IsPlaceAt, IsSettlingAt, Settles}
 use Rattle.lr_check_found.specs.Sound.{IsSoundSettling, IsFound}
-use Rattle.lr_check_found.proofs.Reading.{Some-same, none_some}
 use Rattle.lr_check_found.proofs.Leading.{candidates_here, candidates_there}
 use Rattle.lr_check_complete.proofs.Reducing.{whole_left, whole_choice, WholeChoice, choice_whole}
 use Rattle.lr_check_complete.specs.Sets.{IsComplete}
@@ -38,10 +37,10 @@ pub calm_end : (A : Automaton) (f : FoundView) (i : ℕ) (e : Settling) (x : Pla
     Calms A x.state x.behind s
 calm_end A f i e x s found at place list none =
     let h : IsSoundSettling A f i e = found.settlings i e at in
-    let same : h.place ≡ x = Some-same h.place x (sym h.there ∙ place) in
+    let same : h.place ≡ x = same_Some h.place x (sym h.there ∙ place) in
     let list' : h.list ≡ s = lists_same h.list s (sym h.symbols ∙ list) in
     let nowhere : walk A x.state s ≡ None = ap (walk A x.state) (sym list') ∙ (ap (λ (z : Place). walk A z.state h.list) (sym same) ∙ (sym h.behind ∙ none)) in
-    calms (λ r p ws fr size. absurd (none_some p (sym nowhere ∙ ws)))
+    calms (λ r p ws fr size. absurd (none-some p (sym nowhere ∙ ws)))
 
 module _ (t : TableView) (f : FoundView) (i : ℕ) (e : Settling) (x : Place) (p : ℕ) (found : IsFound (automaton_of t) f) (at : IsSettlingAt f i e) (behind : e.behind ≡ Some p)
     (place : IsPlaceAt f e.place x)
@@ -54,7 +53,7 @@ module _ (t : TableView) (f : FoundView) (i : ℕ) (e : Settling) (x : Place) (p
   sound = found.settlings i e at
 
   same_place : sound.place ≡ x
-  same_place = Some-same sound.place x (sym sound.there ∙ place)
+  same_place = same_Some sound.place x (sym sound.there ∙ place)
 
   same_size : (s : List Sym) → IsList f.lists e.list s → length s ≡ size
   same_size s is = ap length (sym (get_or_from_slice_get f.lists.all e.list s [] is)) ∙ sym (long ∙ ap length lists)
@@ -70,7 +69,7 @@ module _ (t : TableView) (f : FoundView) (i : ℕ) (e : Settling) (x : Place) (p
       next : (r : Production) (j : ℕ) → walk (automaton_of t) x.state s ≡ Some j → Free ((automaton_of t).candidates j x.behind) (reduce r) → size_of r ≡ length s →
           Calms (automaton_of t) x.state x.behind (reduced r s)
       next r j ws fr many =
-          let same : j ≡ p = Some-same j p (sym ws ∙ walks s is) in
+          let same : j ≡ p = same_Some j p (sym ws ∙ walks s is) in
           let fr' : Free (candidates_of rules choices) (reduce r) = subst (λ (cs : List Candidate). Free cs (reduce r)) (sym here)
           (candidates_here t p x.behind (reduce r) (subst (λ (n : ℕ). Free ((automaton_of t).candidates n x.behind) (reduce r)) same fr)) in
           let c = has.each (reduce r) fr' in

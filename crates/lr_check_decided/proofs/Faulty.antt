@@ -1,5 +1,6 @@
 -- Faults of what was found.
 use Rattle.std.proofs.Common.{◌≡◌, ℕ, List, Some, None, sym, ap, ◌∙◌, subst}
+use Rattle.std.proofs.lemmas.Option.{same_Some, none-some}
 use Rattle.tree_core.specs.declared.token.Tok.{Tok}
 use Rattle.md_reader.specs.State.{Content}
 use Rattle.md_reader.specs.declared.types.Rule.{Rule}
@@ -13,15 +14,14 @@ use Rattle.lr_check_found.specs.declared.places.Place.{Place}
 use Rattle.lr_check_found.specs.declared.settlings.Settling.{Settling}
 use Rattle.lr_check_found.specs.Found.{FoundView, IsPlaceAt, IsSettlingAt}
 use Rattle.lr_check_found.specs.Sound.{IsSoundSettling, IsFound}
-use Rattle.lr_check_found.proofs.Reading.{Some-same, none_some}
 use Rattle.lr_check_flaws.specs.Flaws.{IsGapAt, IsDeadAt}
 
 pub is_gap_at : (A : Automaton) (f : FoundView) (n : ℕ) (x : Place) → IsPlaceAt f n x → A.go x.state (grammar_symbol.Tok x.token) ≡ None → IsGapAt A f n
-is_gap_at A f n x at none = record { place = x; there = at; unshifted = λ p e. none_some p (sym none ∙ e) }
+is_gap_at A f n x at none = record { place = x; there = at; unshifted = λ p e. none-some p (sym none ∙ e) }
 
 pub shifted : (A : Automaton) (f : FoundView) (n p : ℕ) (x y : Place) → IsPlaceAt f n x → A.go x.state (grammar_symbol.Tok x.token) ≡ Some p → IsPlaceAt f n y →
     (j : ℕ) × (A.go y.state (grammar_symbol.Tok y.token) ≡ Some j)
-shifted A f n p x y at go other = (p, subst (λ (z : Place). A.go z.state (grammar_symbol.Tok z.token) ≡ Some p) (Some-same x y (sym at ∙ other)) go)
+shifted A f n p x y at go other = (p, subst (λ (z : Place). A.go z.state (grammar_symbol.Tok z.token) ≡ Some p) (same_Some x y (sym at ∙ other)) go)
 
 pub is_dead_at : (A : Automaton) (f : FoundView) (i p : ℕ) (e : Settling) (x : Place) → IsFound A f → IsSettlingAt f i e → IsPlaceAt f e.place x → e.behind ≡ Some p →
     CanBlock (A.candidates p x.behind) → IsDeadAt A f i

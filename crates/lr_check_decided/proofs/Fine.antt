@@ -1,5 +1,6 @@
 -- Where all of the sets is found and no fault shows, there is none.
 use Rattle.std.proofs.Common.{◌≡◌, ℕ, ◌≤◌, List, Some, sym, ap, ◌∙◌, subst, arith}
+use Rattle.std.proofs.lemmas.Option.{same_Some}
 use Rattle.lr_check_found.specs.Count.{HasMore}
 use Rattle.tree_core.specs.declared.token.Tok.{Tok}
 use Rattle.md_reader.specs.declared.types.Sym.{Sym}
@@ -12,7 +13,6 @@ use Rattle.lr_check_found.specs.declared.settlings.Settling.{Settling}
 use Rattle.lr_check_found.specs.Lists.{IsList}
 use Rattle.lr_check_found.specs.Found.{FoundView, place_of, IsPlaceAt, IsSettlingAt}
 use Rattle.lr_check_found.specs.Sound.{IsSoundSettling}
-use Rattle.lr_check_found.proofs.Reading.{Some-same}
 use Rattle.lr_check_complete.specs.Sets.{HasPlace, HasSettling, HasSum, IsComplete}
 
 lists_same : (a b : List Sym) → Some a ≡ Some b → a ≡ b
@@ -25,7 +25,7 @@ module _ (A : Automaton) (f : FoundView) (c : IsComplete A f) where
   pub behind_is : (q p : ℕ) (k b : Tok) (s : List Sym) (h : HasSettling f q k b s) → walk A q s ≡ Some p → h.settles.entry.behind ≡ Some p
   behind_is q p k b s h ws =
       let e : IsSoundSettling A f h.settles.number h.settles.entry = c.found.settlings h.settles.number h.settles.entry h.settles.there in
-      let place : e.place ≡ place_of q k b = Some-same e.place (place_of q k b) (sym e.there ∙ place_is q k b s h) in
+      let place : e.place ≡ place_of q k b = same_Some e.place (place_of q k b) (sym e.there ∙ place_is q k b s h) in
       let list : e.list ≡ s = lists_same e.list s (sym e.symbols ∙ h.settles.list) in
       e.behind ∙ (ap (λ (x : Place). walk A x.state e.list) place ∙ (ap (walk A q) list ∙ ws))
 

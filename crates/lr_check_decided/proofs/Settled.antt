@@ -1,13 +1,13 @@
 -- Classes alone that settle where all of the sets is found.
 use Rattle.std.proofs.Common.{◌≡◌, ℕ, zero, suc, List, [], ◌∷◌, Some, length, slice_get, sym, ap, ◌∙◌, subst}
 use Rattle.std.specs.Prelude.{slice_index_or}
+use Rattle.std.proofs.lemmas.Option.{same_Some}
 use Rattle.tree_core.specs.declared.token.Tok.{Tok}
 use Rattle.md_reader.specs.declared.types.Sym.{Sym}
 use Rattle.md_reader.specs.declared.types.Sym.TheVariants as grammar_symbol
 use Rattle.lr_check_sets.specs.Automaton.{Automaton, Production, reduce, walk, size_of, Free, reduced}
 use Rattle.lr_check_found.specs.declared.places.Place.{Place}
 use Rattle.lr_check_found.specs.Found.{FoundView, IsPlaceAt, IsSettlingAt, Settles}
-use Rattle.lr_check_found.proofs.Reading.{Some-same}
 use Rattle.lr_check_flaws.specs.Flaws.{Along, along_one, along_on, IsCircleAt}
 use Rattle.lr_check_complete.specs.Sets.{HasSettling, IsComplete}
 use Rattle.lr_check_complete.proofs.Reducing.{whole_left}
@@ -31,7 +31,7 @@ module _ (A : Automaton) (f : FoundView) (n : ℕ) (x : Place) (complete : IsCom
 
   -- a place has one number
   back : (s : List Sym) → HasSettling f x.state x.token x.behind s → Settles f n s
-  back s h = subst (λ m. Settles f m s) (Some-same h.number n (sym (complete.found.numbered h.number x h.at) ∙ complete.found.numbered n x at)) h.settles
+  back s h = subst (λ m. Settles f m s) (same_Some h.number n (sym (complete.found.numbered h.number x h.at) ∙ complete.found.numbered n x at)) h.settles
 
   pub made : (s : List Sym) (p : ℕ) (r : Production) → Settles f n s → walk A x.state s ≡ Some p → Free (A.candidates p x.behind) (reduce r) → size_of r ≡ length s →
       Settles f n (grammar_symbol.Class r.left ∷ [])

@@ -2,10 +2,10 @@
 use Rattle.std.proofs.Common.{◌≡◌, ◌⊎◌, ℕ, zero, suc, ◌+◌, ◌≤◌, ◌<◌, List, [], ◌∷◌, ◌++◌, Some, length, drop, slice_get, refl, sym, ap, ◌∙◌, subst, inl, inr, ⊎_elim, arith}
 use Rattle.std.proofs.lemmas.Bool.{cases_eq}
 use Rattle.std.proofs.lemmas.List.{drop-append-le}
-use Rattle.std.proofs.lemmas.Option.{slice_get_within}
+use Rattle.std.proofs.lemmas.Option.{slice_get_within, none-some}
 use Rattle.tree_core.specs.declared.token.Tok.{Tok}
 use Rattle.lr_check_sets.specs.Automaton.{Automaton}
-use Rattle.lr_check_found.proofs.Reading.{none_some, slice_cases}
+use Rattle.lr_check_found.proofs.Reading.{slice_cases}
 use Rattle.lr_check_flaws.specs.Flaws.{StepsTo, Along, along_one, along_on}
 use Rattle.lr_check_decided.specs.declared.turning.Turn.{Turn}
 use Rattle.lr_check_decided.specs.Turn.{Led, led_here, led_on, IsTurn}
@@ -91,7 +91,7 @@ module _ (A : Automaton) (q : ℕ) (b : Tok) (most start : ℕ) where
     pub each : (j d : ℕ) → slice_get way j ≡ Some d → Along A q b d (drop (suc j) way ++ c ∷ []) c
 
   pub no_way : Way [] start
-  no_way = record { apart = tt; low = λ z m. absurd m; led = led_here; each = λ j d e. absurd (none_some d e) }
+  no_way = record { apart = tt; low = λ z m. absurd m; led = led_here; each = λ j d e. absurd (none-some d e) }
 
   -- a new class comes to the way
   pub way_on : (way : List ℕ) (c d : ℕ) → Way way c → ((j : ℕ) → slice_get way j ≡ Some c → ⊥) → c < most → StepsTo A q b c d → Way (way ++ c ∷ []) d

@@ -1,6 +1,7 @@
 -- What is asked of the next settling's node, by how it was found.
 use Rattle.std.proofs.Common.{◌≡◌, ℕ, zero, suc, ◌+◌, ◌<◌, List, [], ◌∷◌, ◌++◌, Some, Bool, length, slice_get, refl, sym, ap, ap₂, ◌∙◌, subst, ⊎_elim, arith}
 use Rattle.std.specs.Prelude.{slice_index_or, IfOk, OnOk, Result, Ok, Err}
+use Rattle.std.proofs.lemmas.Option.{same_Some}
 use Rattle.tree_core.specs.declared.token.Tok.{Tok}
 use Rattle.md_reader.specs.State.{Content}
 use Rattle.md_reader.specs.declared.types.Rule.{Rule}
@@ -19,7 +20,6 @@ use Rattle.lr_check_found.specs.Found.{FoundView, SettlesAt}
 use Rattle.lr_check_found.specs.Items.{Made, IsLater}
 use Rattle.lr_check_found.specs.Adding.{number_in, list_number}
 use Rattle.lr_check_found.specs.Sound.{IsSoundSettling, IsFound}
-use Rattle.lr_check_found.proofs.Reading.{Some-same}
 use Rattle.lr_check_samples.specs.Answering.{answers_to, depths_to}
 use Rattle.lr_check_samples.specs.Fixed.{IsMadeBy}
 use Rattle.lr_check_samples.specs.Nodes.{IsNode, DrawnKids, kids_leaf, kids_one, kids_two, kids_reduced}
@@ -35,7 +35,7 @@ there_in (y ∷ xs) (suc i) x lt = there_in xs i x (omega (arith, lt))
 index_of : {X : Type 0} (xs : List X) (i : ℕ) (x d : X) → slice_get xs i ≡ Some x → slice_index_or xs i d ≡ x
 index_of [] zero x d e = absurd (cc)
 index_of [] (suc i) x d e = absurd (cc)
-index_of (y ∷ xs) zero x d e = Some-same y x e
+index_of (y ∷ xs) zero x d e = same_Some y x e
 index_of (y ∷ xs) (suc i) x d e = index_of xs i x d e
 
 -- the list of what settles with a number
@@ -64,8 +64,8 @@ record Earlier (A : Automaton) (f : FoundView) (d : DrawingView) (j : ℕ) (y : 
 earlier : {A : Automaton} {f : FoundView} {d : DrawingView} {i j p : ℕ} {y : Place} {s : List Sym} → AreDrawn A f d → i ≡ length d.depths → j < i → SettlesAt f j y s p → Earlier A f d j y
 earlier {f = f} {d = d} {j = j} {y = y} drawn next lt at =
     let k = drawn.each j (slice_index_or d.depths j []) (there_in d.depths j [] (omega (arith, next, lt))) in
-    let same : k.entry ≡ at.entry = Some-same k.entry at.entry (sym k.there ∙ at.there) in
-    let place : k.place ≡ y = Some-same k.place y (sym k.at ∙ (ap (λ (e : Settling). slice_get f.places e.place) same ∙ at.place)) in
+    let same : k.entry ≡ at.entry = same_Some k.entry at.entry (sym k.there ∙ at.there) in
+    let place : k.place ≡ y = same_Some k.place y (sym k.at ∙ (ap (λ (e : Settling). slice_get f.places e.place) same ∙ at.place)) in
     record { numbers = k.numbers; own = k.answers; node = subst (λ (c : Place). IsNode d.nodes j c.token k.numbers k.answers) place k.node; drawn = k.drawn; lower = k.lower }
 
 -- how the next settling was made

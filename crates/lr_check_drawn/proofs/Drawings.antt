@@ -1,6 +1,6 @@
 -- The nodes of settlings fit, and stand for their trees.
 use Rattle.std.proofs.Common.{◌≡◌, ℕ, ◌<◌, List, Some, Bool, Contains, length, slice_get, refl, sym, ap, ◌∙◌, subst, arith}
-use Rattle.std.proofs.lemmas.Option.{slice_get_within}
+use Rattle.std.proofs.lemmas.Option.{slice_get_within, same_Some}
 use Rattle.tree_core.specs.Grammar.{kids}
 use Rattle.lr_check_sets.specs.Trees.{May}
 use Rattle.md_reader.specs.declared.types.Sym.{Sym}
@@ -13,7 +13,6 @@ use Rattle.lr_check_found.specs.declared.settlings.Settling.{Settling}
 use Rattle.lr_check_found.specs.Found.{FoundView, IsPlaceAt, IsSettlingAt, SettlesAt}
 use Rattle.lr_check_found.specs.Items.{Made}
 use Rattle.lr_check_found.specs.Sound.{IsSoundSettling, IsFound}
-use Rattle.lr_check_found.proofs.Reading.{Some-same}
 use Rattle.lr_check_samples.specs.Fixed.{IsMadeBy}
 use Rattle.lr_check_samples.specs.Nodes.{IsNode, DrawnKids, kids_leaf, kids_one, kids_two, kids_reduced}
 use Rattle.lr_check_samples.proofs.Making.{AreSame, same_settling, settles_of, MadeLeaf, MadeOne, MadeTwo, MadeReduced, made_leaf, made_one, made_two, made_reduced}
@@ -34,10 +33,10 @@ module _ (A : Automaton) (f : FoundView) (nodes : List Node) (found : IsFound A 
   made_so : {i : ℕ} {h : How} → IsMadeBy f i h → (e : Settling) → IsSettlingAt f i e → (x : Place) → IsPlaceAt f e.place x → MadeSo A f e.place h x
   made_so {i = i} {h = h} m e at x there =
       let k : IsSoundSettling A f i e = found.settlings i e at in
-      let by : e.how ≡ h = ap (λ (d : Settling). d.how) (Some-same e m.entry (sym at ∙ m.there)) ∙ m.how in
+      let by : e.how ≡ h = ap (λ (d : Settling). d.how) (same_Some e m.entry (sym at ∙ m.there)) ∙ m.how in
       record {
         list = k.list;
-        made = subst (λ (y : Place). Made A f e.place y h k.list) (Some-same k.place x (sym k.there ∙ there)) (subst (λ (g : How). Made A f e.place k.place g k.list) by k.made);
+        made = subst (λ (y : Place). Made A f e.place y h k.list) (same_Some k.place x (sym k.there ∙ there)) (subst (λ (g : How). Made A f e.place k.place g k.list) by k.made);
       }
 
   -- a settling's kids fit its place's token
@@ -79,14 +78,14 @@ module _ (A : Automaton) (f : FoundView) (d : DrawingView) (found : IsFound A f)
       lower n k v there c =
           let h = (drawn_at n (slice_get_within d.nodes n v there)).1 in
           let node : Node = record { tok = h.place.token; kids = h.numbers; answers = h.answers } in
-          let same : v ≡ node = Some-same v node (sym there ∙ h.node) in
+          let same : v ≡ node = same_Some v node (sym there ∙ h.node) in
           h.lower.each k (subst (λ (z : Node). Contains z.kids k) same c)
 
       typed : (n : ℕ) (v : Node) → slice_get d.nodes n ≡ Some v → KidsFit d.nodes v.kids (kids v.tok)
       typed n v there =
           let h = (drawn_at n (slice_get_within d.nodes n v there)).1 in
           let node : Node = record { tok = h.place.token; kids = h.numbers; answers = h.answers } in
-          let same : v ≡ node = Some-same v node (sym there ∙ h.node) in
+          let same : v ≡ node = same_Some v node (sym there ∙ h.node) in
           subst (λ (z : Node). KidsFit d.nodes z.kids (kids z.tok)) (sym same) (settled_fit A f d.nodes found h.drawn h.entry h.there h.place h.at)
 
   pub drawn_settled : length d.depths ≡ length f.settlings → AreSettled A f d.nodes
@@ -97,8 +96,8 @@ module _ (A : Automaton) (f : FoundView) (d : DrawingView) (found : IsFound A f)
           let lt : i < length f.settlings = slice_get_within f.settlings i at.entry at.there in
           let g = drawn_at i (let many = drawn.many in omega (arith, lt, all, many)) in
           let h = g.1 in
-          let entry : h.entry ≡ at.entry = Some-same h.entry at.entry (sym h.there ∙ at.there) in
-          let place : h.place ≡ x = Some-same h.place x (sym h.at ∙ (ap (λ (e : Settling). slice_get f.places e.place) entry ∙ at.place)) in
+          let entry : h.entry ≡ at.entry = same_Some h.entry at.entry (sym h.there ∙ at.there) in
+          let place : h.place ≡ x = same_Some h.place x (sym h.at ∙ (ap (λ (e : Settling). slice_get f.places e.place) entry ∙ at.place)) in
           record {
             kids = h.numbers;
             own = h.answers;

@@ -2,13 +2,13 @@
 use Rattle.std.proofs.Common.{◌≡◌, ℕ, zero, suc, ◌+◌, ◌-◌, ◌<◌, ◌≤◌, List, [], ◌∷◌, ◌++◌, Some, length, get_or, slice_get, refl, sym, ap, ◌∙◌, subst}
 use Rattle.std.proofs.Common.{⊎_elim, arith, length-append}
 use Rattle.std.specs.Prelude.{Result, Ok, Err, IfOk}
-use Rattle.std.proofs.lemmas.Option.{slice_get_within, slice_get-get_or, get_or_from_slice_get}
+use Rattle.std.proofs.lemmas.Option.{slice_get_within, slice_get-get_or, get_or_from_slice_get, same_Some, none-some}
 use Rattle.std.proofs.lemmas.List.{get_or_default}
 use Rattle.tree_core.specs.declared.token.Tok.{Tok}
 use Rattle.md_reader.specs.declared.types.Sym.TheVariants as grammar_symbol
 use Rattle.lr_check_sets.specs.Automaton.{Automaton}
 use Rattle.lr_check_found.specs.declared.places.Place.{Place}
-use Rattle.lr_check_found.proofs.Reading.{Some-same, none_some, slice_last, slice_cases}
+use Rattle.lr_check_found.proofs.Reading.{slice_last, slice_cases}
 use Rattle.lr_check_samples.specs.Answering.{answers_to, depths_to}
 use Rattle.lr_check_samples.specs.Samples.{Turning, turn, turn_on}
 use Rattle.lr_check_flaws.specs.Flaws.{StepsTo, Along, along_one, along_on}
@@ -28,18 +28,18 @@ module _ (A : Automaton) (q : ℕ) (t : Tok) where
 
   -- the step to the class with a number: from the first class, or from the one before it
   pub first_step : {c d : ℕ} {ds : List ℕ} → Along A q t c ds d → (e : ℕ) → slice_get ds 0 ≡ Some e → StepsTo A q t c e
-  first_step {c = c} (along_one {d = d} s) e at = subst (StepsTo A q t c) (Some-same d e at) s
-  first_step (along_on {e = g} {ds = []} h s) e at = absurd (let l = lasts h in none_some l.before (absurd (let long : 0 ≡ suc l.before = l.long in omega (arith, long))))
+  first_step {c = c} (along_one {d = d} s) e at = subst (StepsTo A q t c) (same_Some d e at) s
+  first_step (along_on {e = g} {ds = []} h s) e at = absurd (let l = lasts h in none-some l.before (absurd (let long : 0 ≡ suc l.before = l.long in omega (arith, long))))
   first_step (along_on {e = g} {ds = b ∷ ds} h s) e at = first_step h e at
 
   pub next_step : {c d : ℕ} {ds : List ℕ} → Along A q t c ds d → (n a e : ℕ) → slice_get ds n ≡ Some a → slice_get ds (suc n) ≡ Some e → StepsTo A q t a e
-  next_step (along_one s) n a e at next = absurd (none_some e next)
+  next_step (along_one s) n a e at next = absurd (none-some e next)
   next_step (along_on {d = d} {e = g} {ds = ds} h s) n a e at next = ⊎_elim
       (λ old. next_step h n a e (before n a at (let lt = slice_get_within ds (suc n) e old in omega (arith, lt))) old)
       (λ here. let l = lasts h in
       let long : length ds ≡ suc l.before = l.long in
       let same : n ≡ l.before = (let is : suc n ≡ length ds = here.0 in omega (arith, is, long)) in
-      let a_is : d ≡ a = Some-same d a (sym (ap (λ m. slice_get ds m) same ∙ l.last) ∙ before n a at (omega (arith, same, long))) in
+      let a_is : d ≡ a = same_Some d a (sym (ap (λ m. slice_get ds m) same ∙ l.last) ∙ before n a at (omega (arith, same, long))) in
       subst (λ z. StepsTo A q t z e) a_is (subst (StepsTo A q t d) (sym here.1) s))
       (slice_cases ds g (suc n) e next)
     where

@@ -1,5 +1,6 @@
 -- Flaws of what was found are faults of the sets.
 use Rattle.std.proofs.Common.{◌≡◌, ℕ, List, [], ◌∷◌, Some, drop, sym, ap, ◌∙◌, subst}
+use Rattle.std.proofs.lemmas.Option.{same_Some}
 use Rattle.tree_core.specs.declared.token.Tok.{Tok}
 use Rattle.md_reader.specs.declared.types.Sym.{Sym}
 use Rattle.md_reader.specs.declared.types.Sym.TheVariants as grammar_symbol
@@ -9,7 +10,6 @@ use Rattle.lr_check_sets.specs.Faults.{Fault, gap, dead, circle, Circles}
 use Rattle.lr_check_found.specs.declared.places.Place.{Place}
 use Rattle.lr_check_found.specs.Found.{FoundView, SettlesAt}
 use Rattle.lr_check_found.specs.Sound.{IsSoundSettling, IsFound}
-use Rattle.lr_check_found.proofs.Reading.{Some-same}
 use Rattle.lr_check_flaws.specs.declared.flaws.Flaw.{Flaw}
 use Rattle.lr_check_flaws.specs.declared.flaws.Flaw.TheVariants.{Gap, Dead, Circle}
 use Rattle.lr_check_flaws.specs.Flaws.{StepsTo, Along, along_one, along_on, IsFlaw}
@@ -22,7 +22,7 @@ module _ (A : Automaton) (f : FoundView) (i p : ℕ) (x : Place) (s : List Sym) 
   sound = found.settlings i at.entry at.there
 
   same_place : sound.place ≡ x
-  same_place = Some-same sound.place x (sym sound.there ∙ at.place)
+  same_place = same_Some sound.place x (sym sound.there ∙ at.place)
 
   same_list : sound.list ≡ s
   same_list = lists_same sound.list s (sym sound.symbols ∙ at.list)

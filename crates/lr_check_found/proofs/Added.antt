@@ -2,7 +2,7 @@
 use Rattle.std.proofs.Common.{◌≡◌, ℕ, ◌≤◌, ◌<◌, List, [], Option, Some, None, Contains, true, length, map, slice_get, refl, sym, ap, ◌∙◌, subst, arith}
 use Rattle.std.specs.Prelude.{Result, Ok, Err, OnOk}
 use Rattle.std.specs.Option.{option_map}
-use Rattle.std.proofs.lemmas.Option.{slice_get-map, slice_get_within}
+use Rattle.std.proofs.lemmas.Option.{slice_get-map, slice_get_within, same_Some, none-some}
 use Rattle.md_reader.specs.declared.types.Sym.{Sym}
 use Rattle.lr_check_sets.specs.Automaton.{Automaton, Candidate, walk, Free}
 use Rattle.lr_check_found.specs.declared.places.Place.{Place}
@@ -15,7 +15,7 @@ use Rattle.lr_check_found.specs.Found.{FoundView, key_of, IsPlaceAt, IsSettlingA
 use Rattle.lr_check_found.specs.Items.{Begun, Made, leaf, one, two, made_by_reduction, IsBehind, HasMade}
 use Rattle.lr_check_found.specs.Sound.{IsFound}
 use Rattle.lr_check_found.specs.Adding.{IsAdded, IsRelisted, settled, list_of, list_number, number_in, upper_of, lower_of, IsWider, HasWayOut}
-use Rattle.lr_check_found.proofs.Reading.{Some-same, none_some, at_contains, contains_at}
+use Rattle.lr_check_found.proofs.Reading.{at_contains, contains_at}
 use Rattle.lr_check_found.proofs.Growing.{grows_same, grows_both, made_grows}
 use Rattle.lr_check_found.proofs.Deriving.{walks_of_made}
 use Rattle.lr_check_found.proofs.Placing.{placed_found, placed_grows}
@@ -48,8 +48,8 @@ key_held A f k found c =
     by h.0 (slice_get f.settlings h.0) refl (sym (slice_get-map key_of f.settlings h.0) ∙ h.1)
   where
     by : (i : ℕ) (o : Option Settling) → slice_get f.settlings i ≡ o → option_map key_of (slice_get f.settlings i) ≡ Some k → (i : ℕ) × ((d : Settling) × (IsSettlingAt f i d × (key_of d ≡ k)))
-    by i None e g = absurd (none_some k (sym (ap (option_map key_of) e) ∙ g))
-    by i (Some d) e g = (i, (d, (e, Some-same (key_of d) k (sym (ap (option_map key_of) e) ∙ g))))
+    by i None e g = absurd (none-some k (sym (ap (option_map key_of) e) ∙ g))
+    by i (Some d) e g = (i, (d, (e, same_Some (key_of d) k (sym (ap (option_map key_of) e) ∙ g))))
 
 pub held_key : (A : Automaton) (f : FoundView) (i : ℕ) (d : Settling) → IsFound A f → IsSettlingAt f i d → Contains f.known (key_of d)
 held_key A f i d found at =
@@ -113,7 +113,7 @@ pub record Listed (A : Automaton) (f f1 : FoundView) (n l : ℕ) (x : Place) (h 
 pub listed : (A : Automaton) (f f1 : FoundView) (n l : ℕ) (x : Place) (h : How) → IsFound A f → HasMade A f n h → IsPlaceAt f n x →
     ((u w : List Sym) → IsList f.lists (upper_of f h) u → IsList f.lists (lower_of f h) w → IsList f1.lists l (list_of x.token h u w)) → Listed A f f1 n l x h
 listed A f f1 n l x h found m there number =
-    let made : Made A f n x h m.list = subst (λ (y : Place). Made A f n y h m.list) (Some-same m.place x (sym m.there ∙ there)) m.made in
+    let made : Made A f n x h m.list = subst (λ (y : Place). Made A f n y h m.list) (same_Some m.place x (sym m.there ∙ there)) m.made in
     let p : Parts f x h m.list = parts_of A f n x h m.list found made in
     record { list = m.list; made = made; at = subst (IsList f1.lists l) p.whole (number p.upper p.lower p.at_upper p.at_lower) }
 

@@ -2,7 +2,7 @@
 use Rattle.std.proofs.Common.{◌≡◌, ℕ, zero, suc, ◌+◌, ◌≤◌, ◌<◌, List, [], ◌∷◌, ◌++◌, Option, Some, None, Contains, Bool, true, false, length, get_or, take, slice_get, refl, sym}
 use Rattle.std.proofs.Common.{ap, ◌∙◌, subst, inl, inr, ⊎_elim, length-take, arith, true≢false}
 use Rattle.std.specs.Prelude.{nat_lt, ◌==◌, if◌then◌else◌}
-use Rattle.std.proofs.lemmas.Option.{slice_get_within, get_or_from_slice_get, slice_get-get_or}
+use Rattle.std.proofs.lemmas.Option.{slice_get_within, get_or_from_slice_get, slice_get-get_or, same_Some, none-some}
 use Rattle.std.proofs.lemmas.List.{get_or-take, length-take-le}
 use Rattle.std.proofs.lemmas.Bool.{cases_lt, lt-ltb, eqb-true}
 use Rattle.std.proofs.Math.Seq.{take-length}
@@ -18,12 +18,6 @@ use Rattle.lr_check_found.proofs.Below.{Below}
 asks_passes : (xs : List Restriction) → (if length xs == 0 then false else true) ≡ true → nat_lt 0 (length xs) ≡ true
 asks_passes [] e = absurd (true≢false (sym e))
 asks_passes (x ∷ xs) e = lt-ltb 0 (length (x ∷ xs)) (omega arith)
-
-Some-same : {X : Type 0} (x y : X) → Some x ≡ Some y → x ≡ y
-Some-same x y e = cc
-
-none_some : {X : Type 0} (x : X) → None ≡ Some x → ⊥
-none_some x e = cc
 
 -- a choice no further than the n-th is the candidate
 pub record FreeAt (rules : List Rule) (cs : List Choice) (n : ℕ) (c : Candidate) : Type 0 where
@@ -89,13 +83,13 @@ passes_ask (x ∷ xs) e = by (length (x ∷ xs) == 0) refl
 -- a choice before which each may be answered no is a free one
 free_of : (rules : List Rule) (cs : List Choice) (k : ℕ) (d : Choice) (c : Candidate) → slice_get cs k ≡ Some d → CandidateOf rules d c →
     ((j : ℕ) (x : Choice) → j < k → slice_get cs j ≡ Some x → may_pass rules x ≡ true) → Free (candidates_of rules cs) c
-free_of rules [] k d c e is pass = absurd (none_some d e)
-free_of rules (choice.Shift q ∷ cs) zero d c e is pass = subst (λ x. CandidateOf rules x c) (sym (Some-same (choice.Shift q) d e)) is
+free_of rules [] k d c e is pass = absurd (none-some d e)
+free_of rules (choice.Shift q ∷ cs) zero d c e is pass = subst (λ x. CandidateOf rules x c) (sym (same_Some (choice.Shift q) d e)) is
 free_of rules (choice.Shift q ∷ cs) (suc k) d c e is pass = absurd (true≢false (sym (pass 0 (choice.Shift q) (omega arith) refl)))
-free_of rules (choice.Accept ∷ cs) zero d c e is pass = subst (λ x. CandidateOf rules x c) (sym (Some-same choice.Accept d e)) is
+free_of rules (choice.Accept ∷ cs) zero d c e is pass = subst (λ x. CandidateOf rules x c) (sym (same_Some choice.Accept d e)) is
 free_of rules (choice.Accept ∷ cs) (suc k) d c e is pass = absurd (true≢false (sym (pass 0 choice.Accept (omega arith) refl)))
 free_of rules (choice.Reduce n ∷ cs) zero d c e is pass =
-    let h : (r : Rule) × ((slice_get rules n ≡ Some r) × (c ≡ reduce (production r))) = subst (λ x. CandidateOf rules x c) (sym (Some-same (choice.Reduce n) d e)) is in
+    let h : (r : Rule) × ((slice_get rules n ≡ Some r) × (c ≡ reduce (production r))) = subst (λ x. CandidateOf rules x c) (sym (same_Some (choice.Reduce n) d e)) is in
     subst (λ (o : Option Rule). Free (reduced_by o ++ candidates_of rules cs) c) (sym h.1.0) (inl h.1.1)
 free_of rules (choice.Reduce n ∷ cs) (suc k) d c e is pass =
     by (slice_get rules n) refl (free_of rules cs k d c e is (λ j x lt f. pass (suc j) x (omega (arith, lt)) f))
@@ -151,15 +145,15 @@ free_all rules cs n below le = record {
 pass_reduce : (rules : List Rule) (n : ℕ) (cs : List Choice) (k : ℕ) (d : Choice) (o : Option Rule) → slice_get rules n ≡ o → CanBlock (reduced_by o ++ candidates_of rules cs) →
     ((m : ℕ) → CanBlock (candidates_of rules cs) → slice_get cs m ≡ Some d → may_pass rules d ≡ true) → slice_get (choice.Reduce n ∷ cs) k ≡ Some d → may_pass rules d ≡ true
 pass_reduce rules n cs zero d None e can ih there =
-    subst (λ x. may_pass rules x ≡ true) (Some-same (choice.Reduce n) d there) (ap (λ (o : Option Rule). (seen_rule 0 o).asks) e)
+    subst (λ x. may_pass rules x ≡ true) (same_Some (choice.Reduce n) d there) (ap (λ (o : Option Rule). (seen_rule 0 o).asks) e)
 pass_reduce rules n cs zero d (Some r) e can ih there =
-    subst (λ x. may_pass rules x ≡ true) (Some-same (choice.Reduce n) d there) (ap (λ (o : Option Rule). (seen_rule 0 o).asks) e ∙ asks_passes r.restrictions can.0)
+    subst (λ x. may_pass rules x ≡ true) (same_Some (choice.Reduce n) d there) (ap (λ (o : Option Rule). (seen_rule 0 o).asks) e ∙ asks_passes r.restrictions can.0)
 pass_reduce rules n cs (suc k) d None e can ih there = ih k can there
 pass_reduce rules n cs (suc k) d (Some r) e can ih there = ih k can.1 there
 
 -- where nothing need be taken each choice passes
 pub passes_at : (rules : List Rule) (cs : List Choice) (k : ℕ) (d : Choice) → CanBlock (candidates_of rules cs) → slice_get cs k ≡ Some d → may_pass rules d ≡ true
-passes_at rules [] k d can e = absurd (none_some d e)
+passes_at rules [] k d can e = absurd (none-some d e)
 passes_at rules (choice.Shift q ∷ cs) k d can e = absurd can
 passes_at rules (choice.Accept ∷ cs) k d can e = absurd can
 passes_at rules (choice.Reduce n ∷ cs) k d can e = pass_reduce rules n cs k d (slice_get rules n) refl can (λ m c x. passes_at rules cs m d c x) e

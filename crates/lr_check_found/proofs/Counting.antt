@@ -3,7 +3,7 @@ use Rattle.std.proofs.Common.{◌≡◌, ℕ, zero, suc, ◌+◌, ◌≤◌, ◌
 use Rattle.std.proofs.Common.{inl, inr, arith, true≢false}
 use Rattle.std.specs.Prelude.{AllPairs, slice_index_or, count_by, if◌then◌else◌}
 use Rattle.std.proofs.lemmas.List.Sums.{sum_by-cons}
-use Rattle.std.proofs.lemmas.Option.{get_or_from_slice_get}
+use Rattle.std.proofs.lemmas.Option.{get_or_from_slice_get, same_Some, none-some}
 use Rattle.tree_core.specs.declared.token.Tok.TheVariants as tok
 use Rattle.md_reader.specs.declared.types.Sym.{Sym}
 use Rattle.lr_tables.proofs.Members.{In, In-Contains, Contains-In}
@@ -15,7 +15,6 @@ use Rattle.lr_check_found.specs.Lists.{IsList}
 use Rattle.lr_check_found.specs.Found.{FoundView, slot, place_of, IsSettlingAt, SumAt}
 use Rattle.lr_check_found.specs.Sound.{IsSoundSettling, IsFound}
 use Rattle.lr_check_found.specs.Count.{Tuple, HasMore}
-use Rattle.lr_check_found.proofs.Reading.{Some-same, none_some}
 use Rattle.lr_check_found.proofs.Pushing.{one_number}
 
 -- the settling's place and list
@@ -90,7 +89,7 @@ module _ (A : Automaton) (f : FoundView) (found : IsFound A f) where
       let place : h.place ≡ k.place = ap (λ (t : Tuple). t.place) both in
       let list : h.list ≡ k.list = ap (λ (t : Tuple). t.list) both in
       let number : e.place ≡ d.place =
-      Some-same e.place d.place (sym (found.numbered e.place h.place h.there) ∙ (ap (λ (x : Place). slice_index_or f.numbers (slot x) None) place ∙ found.numbered d.place k.place k.there)) in
+      same_Some e.place d.place (sym (found.numbered e.place h.place h.there) ∙ (ap (λ (x : Place). slice_index_or f.numbers (slot x) None) place ∙ found.numbered d.place k.place k.there)) in
       found.apart i j e d at at' number (one_number f.lists found.lists k.list e.list d.list (subst (IsList f.lists e.list) list h.symbols) k.symbols)
 
   apart_from : (n : ℕ) (es : List Settling) → ((i : ℕ) (e : Settling) → slice_get es i ≡ Some e → IsSettlingAt f (n + i) e) → Apart (tuples_of f es)
@@ -170,9 +169,9 @@ in_later false t ts u h = h
 
 listed : (f : FoundView) (es : List Settling) (i : ℕ) (e : Settling) (u : Tuple) → slice_get es i ≡ Some e → e.is_sum ≡ true → tuple_of f e ≡ u → In u (tuples_of f es)
 unfolding tuples_of
-listed f [] i e u at is same = absurd (none_some e at)
+listed f [] i e u at is same = absurd (none-some e at)
 listed f (d ∷ es) zero e u at is same =
-    in_if d.is_sum (tuple_of f d) (tuples_of f es) u (ap (λ (z : Settling). z.is_sum) (Some-same d e at) ∙ is) (ap (tuple_of f) (Some-same d e at) ∙ same)
+    in_if d.is_sum (tuple_of f d) (tuples_of f es) u (ap (λ (z : Settling). z.is_sum) (same_Some d e at) ∙ is) (ap (tuple_of f) (same_Some d e at) ∙ same)
 listed f (d ∷ es) (suc i) e u at is same = in_later d.is_sum (tuple_of f d) (tuples_of f es) u (listed f es i e u at is same)
 
 -- a sum that is found

@@ -1,5 +1,6 @@
 -- What follows from what has been found is in the sets.
 use Rattle.std.proofs.Common.{◌≡◌, ℕ, List, [], ◌∷◌, ◌++◌, Option, Some, drop, length, slice_get, refl, sym, ap, ◌∙◌, subst}
+use Rattle.std.proofs.lemmas.Option.{same_Some}
 use Rattle.tree_core.specs.declared.token.Tok.{Tok}
 use Rattle.tree_core.specs.declared.token.Tok.TheVariants as tok
 use Rattle.tree_core.specs.declared.token.Sort.{Sort}
@@ -18,7 +19,6 @@ use Rattle.lr_check_found.specs.declared.settlings.Settling.{Settling}
 use Rattle.lr_check_found.specs.Found.{FoundView, IsPlaceAt, SumAt}
 use Rattle.lr_check_found.specs.Items.{Fits, Begun, root, only, first, second, Made, leaf, one, two, made_by_reduction, IsBehind, behind_leaf, behind_one, behind_two, behind_reduced}
 use Rattle.lr_check_found.specs.Sound.{IsSoundSettling, IsFound}
-use Rattle.lr_check_found.proofs.Reading.{Some-same}
 
 -- the same place, by its parts
 at : (A : Automaton) (x : Place) (q : ℕ) (b : Tok) → x.state ≡ q → x.behind ≡ b → sets.Place A q x.token b → sets.Place A x.state x.token x.behind
@@ -36,8 +36,8 @@ pub record IsSum (A : Automaton) (y : Place) (s : List Sym) (p : ℕ) : Type 0 w
 pub sum_of : (A : Automaton) (f : FoundView) (i : ℕ) (y : Place) (s : List Sym) (p : ℕ) → IsFound A f → SumAt f i y s p → IsSum A y s p
 sum_of A f i y s p found h =
     let e : IsSoundSettling A f i h.entry = found.settlings i h.entry h.there in
-    let place : e.place ≡ y = Some-same e.place y (sym e.there ∙ h.place) in
-    let list : e.list ≡ s = Some-same e.list s (sym e.symbols ∙ h.list) in
+    let place : e.place ≡ y = same_Some e.place y (sym e.there ∙ h.place) in
+    let list : e.list ≡ s = same_Some e.list s (sym e.symbols ∙ h.list) in
     record {
       is_sum = subst (λ (z : Place). sets.Sum A z.state z.token z.behind s) place (subst (sets.Sum A e.place.state e.place.token e.place.behind) list (e.sum h.is_sum));
       walks = subst (λ (z : Place). walk A z.state s ≡ Some p) place (subst (λ (l : List Sym). walk A e.place.state l ≡ Some p) list (sym e.behind ∙ h.behind));
@@ -118,8 +118,8 @@ settled_of_made A f n x _ _ found there (two {i = i} {k = k} {p = p} {j = j} {h 
     }
 settled_of_made A f n x _ _ found there (made_by_reduction {i = i} {p = p} {s = s} e r at same list behind free size) =
     let k : IsSoundSettling A f i e = found.settlings i e at in
-    let place : k.place ≡ x = Some-same k.place x (sym k.there ∙ (ap (slice_get f.places) same ∙ there)) in
-    let symbols : k.list ≡ s = Some-same k.list s (sym k.symbols ∙ list) in
+    let place : k.place ≡ x = same_Some k.place x (sym k.there ∙ (ap (slice_get f.places) same ∙ there)) in
+    let symbols : k.list ≡ s = same_Some k.list s (sym k.symbols ∙ list) in
     let old : sets.Settling A x.state x.token x.behind s = subst (λ (y : Place). sets.Settling A y.state y.token y.behind s) place
     (subst (sets.Settling A k.place.state k.place.token k.place.behind) symbols k.settles) in
     let walks : walk A x.state s ≡ Some p = subst (λ (y : Place). walk A y.state s ≡ Some p) place (subst (λ l. walk A k.place.state l ≡ Some p) symbols (sym k.behind ∙ behind)) in
@@ -131,12 +131,12 @@ pub walks_of_made : (A : Automaton) (f : FoundView) (n : ℕ) (x : Place) (h : H
 walks_of_made A f n x _ _ _ found there (leaf {p = p} go kid) behind_leaf = refl
 walks_of_made A f n x _ _ _ found there (one {i = i} {p = p} {j = j} {y = y} {w = w} {s = s} h sum g) (behind_one {e = e} at') =
     let is : IsSum A y s j = sum_of A f i y s j found sum in
-    let same : e ≡ sum.entry = Some-same e sum.entry (sym at' ∙ sum.there) in
+    let same : e ≡ sum.entry = same_Some e sum.entry (sym at' ∙ sum.there) in
     ap (λ (d : Settling). d.behind) same ∙ (sum.behind ∙ (sym (kid_walks A y w p j x.behind s is g) ∙ sym (walk_from A x.state p (grammar_symbol.Tok x.token) s h.go)))
 walks_of_made A f n x _ _ _ found there (two {i = i} {k = k} {p = p} {j = j} {h = c} {y = y} {z = z} {w = w} {v = v} {s = s} {u = u} h sum g sum' g') (behind_two {e = e} at') =
     let is : IsSum A y s j = sum_of A f i y s j found sum in
     let is' : IsSum A z u c = sum_of A f k z u c found sum' in
-    let same : e ≡ sum'.entry = Some-same e sum'.entry (sym at' ∙ sum'.there) in
+    let same : e ≡ sum'.entry = same_Some e sum'.entry (sym at' ∙ sum'.there) in
     let lower : walk A x.state (s ++ (grammar_symbol.Tok x.token ∷ [])) ≡ Some j = walk_from A x.state p (grammar_symbol.Tok x.token) s h.go ∙ kid_walks A y w p j z.token s is g in
     ap (λ (d : Settling). d.behind) same ∙ (sum'.behind ∙ (sym (kid_walks A z v j c x.behind u is' g') ∙ sym (walk-append A x.state j u (s ++ (grammar_symbol.Tok x.token ∷ [])) lower)))
 walks_of_made A f n x _ _ _ found there (made_by_reduction e r at' same list behind free size) behind_reduced = refl

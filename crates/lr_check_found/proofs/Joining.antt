@@ -3,10 +3,9 @@ use Rattle.std.proofs.Common.{◌≡◌, ℕ, suc, ◌+◌, ◌-◌, ◌≤◌, 
 use Rattle.std.specs.Prelude.{slice_index_or}
 use Rattle.std.proofs.Math.Seq.{drop-cons}
 use Rattle.std.proofs.lemmas.List.{drop_all, get_or_default}
-use Rattle.std.proofs.lemmas.Option.{get_or_from_slice_get}
+use Rattle.std.proofs.lemmas.Option.{get_or_from_slice_get, same_Some}
 use Rattle.md_reader.specs.declared.types.Sym.{Sym}
 use Rattle.lr_check_found.specs.Lists.{ListsView, IsList, AreLists, KeepsLists, IsPushed, IsJoined}
-use Rattle.lr_check_found.proofs.Reading.{Some-same}
 use Rattle.lr_check_found.proofs.Pushing.{keeps_same, keeps_both}
 
 -- so many of the upper list's symbols, from its last on, are on top of the lower
@@ -61,8 +60,8 @@ joins_none v upper lower lists there = record { lists = lists; kept = keeps_same
 module _ (v w x : ListsView) (upper lower : ℕ) (up : (s : List Sym) × IsList v upper s) (low : (s : List Sym) × IsList v lower s) (kept : KeepsLists v w) (more : KeepsLists w x) where
   on_kept : (passed n : ℕ) → IsOn w upper lower passed n → IsOn x upper lower passed n
   on_kept passed n on u l a b le =
-      let same : up.0 ≡ u = Some-same up.0 u (sym (more.kept upper up.0 (kept.kept upper up.0 up.1)) ∙ a) in
-      let same' : low.0 ≡ l = Some-same low.0 l (sym (more.kept lower low.0 (kept.kept lower low.0 low.1)) ∙ b) in
+      let same : up.0 ≡ u = same_Some up.0 u (sym (more.kept upper up.0 (kept.kept upper up.0 up.1)) ∙ a) in
+      let same' : low.0 ≡ l = same_Some low.0 l (sym (more.kept lower low.0 (kept.kept lower low.0 low.1)) ∙ b) in
       more.kept n (drop (length u - passed) u ++ l)
       (on u l (subst (IsList w upper) same (kept.kept upper up.0 up.1)) (subst (IsList w lower) same' (kept.kept lower low.0 low.1)) le)
 

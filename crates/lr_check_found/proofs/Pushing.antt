@@ -1,13 +1,13 @@
 -- A symbol comes on top of a list.
 use Rattle.std.proofs.Common.{◌≡◌, ℕ, zero, suc, ◌+◌, ◌<◌, List, [], ◌∷◌, ◌++◌, Some, Contains, length, get_or, slice_get, refl, sym, ap, ◌∙◌, subst, ⊎_elim, arith, length-append}
 use Rattle.std.specs.Prelude.{slice_index_or}
-use Rattle.std.proofs.lemmas.Option.{slice_get_within, slice_get-get_or, get_or_from_slice_get}
+use Rattle.std.proofs.lemmas.Option.{slice_get_within, slice_get-get_or, get_or_from_slice_get, same_Some}
 use Rattle.md_reader.specs.declared.types.Sym.{Sym}
 use Rattle.lr_tables.specs.Symbols.{symbol_number}
 use Rattle.lr_tables.proofs.Symbols_apart.{symbol_number_same}
 use Rattle.lr_check_found.specs.declared.lists.Cell.{Cell}
 use Rattle.lr_check_found.specs.Lists.{ListsView, IsList, IsCell, AreLists, KeepsLists, IsPushed}
-use Rattle.lr_check_found.proofs.Reading.{Some-same, slice_left, slice_at_last, slice_cases, at_contains}
+use Rattle.lr_check_found.proofs.Reading.{slice_left, slice_at_last, slice_cases, at_contains}
 
 cell_of : Sym → ℕ → Cell
 cell_of X rest = record { symbol = symbol_number X; rest = rest }
@@ -17,7 +17,7 @@ pub found_cell : (v : ListsView) (X : Sym) (rest n : ℕ) (c : Cell) → AreList
 found_cell v X rest n c lists there is below s at =
     let h : IsCell v n c = lists.cells n c there in
     let top : h.top ≡ X = symbol_number_same h.top X (h.number ∙ is) in
-    let lower : h.rest ≡ s = Some-same h.rest s (sym h.lower ∙ (ap (slice_get v.all) below ∙ at)) in
+    let lower : h.rest ≡ s = same_Some h.rest s (sym h.lower ∙ (ap (slice_get v.all) below ∙ at)) in
     h.whole ∙ ap Some (ap (λ Y. Y ∷ h.rest) top ∙ ap (λ l. X ∷ l) lower)
 
 pub keeps_same : (v : ListsView) → KeepsLists v v
@@ -87,7 +87,7 @@ data Which (v : ListsView) (n : ℕ) (s : List Sym) : Type 0 where
   celled : (k : ℕ) (c : Cell) → n ≡ k + 1 → slice_get v.cells k ≡ Some c → (h : IsCell v k c) → s ≡ h.top ∷ h.rest → Which v n s
 
 which : (v : ListsView) (n : ℕ) (s : List Sym) → AreLists v → IsList v n s → Which v n s
-which v zero s lists e = empty refl (sym (Some-same [] s (sym lists.first ∙ e)))
+which v zero s lists e = empty refl (sym (same_Some [] s (sym lists.first ∙ e)))
 which v (suc k) s lists e =
     let within : suc k < length v.all = slice_get_within v.all (suc k) s e in
     let many = lists.many in
@@ -96,7 +96,7 @@ which v (suc k) s lists e =
     let there : slice_get v.cells k ≡ Some c = slice_get-get_or v.cells k (record { symbol = 0; rest = 0 }) lt in
     let h : IsCell v k c = lists.cells k c there in
     let up : suc k ≡ k + 1 = omega arith in
-    celled k c up there h (Some-same s (h.top ∷ h.rest) (sym e ∙ (ap (slice_get v.all) up ∙ h.whole)))
+    celled k c up there h (same_Some s (h.top ∷ h.rest) (sym e ∙ (ap (slice_get v.all) up ∙ h.whole)))
 
 pub one_number : (v : ListsView) → AreLists v → (s : List Sym) (n m : ℕ) → IsList v n s → IsList v m s → n ≡ m
 one_number v lists [] n m a b = by (which v n [] lists a) (which v m [] lists b)
@@ -143,6 +143,6 @@ pushed_is_new v w X rest n c l lists there cells all long absent at is below =
     record {
       lists = pushed_lists v w X rest s lists there.1 c is below cells all' absent;
       kept = kept;
-      number = λ u e. new ∙ ap Some (ap (λ k. X ∷ k) (Some-same s u (sym (kept.kept rest s there.1) ∙ e)));
+      number = λ u e. new ∙ ap Some (ap (λ k. X ∷ k) (same_Some s u (sym (kept.kept rest s there.1) ∙ e)));
       there = (X ∷ s, new);
     }

@@ -4,6 +4,8 @@ use Rattle.std.proofs.Common.{sym, ap, ◌∙◌, subst, inl, inr, ⊎_elim, ari
 use Rattle.std.proofs.lemmas.List.{drop-map}
 use Rattle.std.proofs.lemmas.Bool.{eqb-true}
 use Rattle.std.specs.Prelude.{◌==◌, if◌then◌else◌}
+use Rattle.std.proofs.lemmas.Option.{same_Some}
+use Rattle.gg_base.proofs.Facts.{some_none}
 use Rattle.tree_core.specs.declared.token.Tok.{Tok}
 use Rattle.tree_core.specs.declared.token.Tok.TheVariants as tok
 use Rattle.md_reader.specs.declared.types.Rule.{Rule}
@@ -39,12 +41,6 @@ use Rattle.lr_check.specs.declared.sample.Outcome.TheVariants as outcome
 use Rattle.lr_check.specs.Tree.{Token}
 use Rattle.lr_check.specs.Parse as parse
 use Rattle.lr_check.specs.Parse.{Part, symbols, coming, answer, owner_answers, used_at, asked, Takes, reduced, Reduction, Ends}
-
-some_none : {X : Type 0} (x : X) → Some x ≡ None → ⊥
-some_none x e = cc
-
-Some-same : {X : Type 0} (x y : X) → Some x ≡ Some y → x ≡ y
-Some-same x y e = cc
 
 nil_cons : {X : Type 0} (x : X) (xs : List X) → [] ≡ x ∷ xs → ⊥
 nil_cons x xs e = cc
@@ -97,7 +93,7 @@ module _ (rules : List Rule) where
     free = λ m h. (
       r,
       (
-        subst (λ (x : ℕ). slice_get rules x ≡ Some r) (Some-same n m h) e,
+        subst (λ (x : ℕ). slice_get rules x ≡ Some r) (same_Some n m h) e,
         subst (λ (l : List Production). Free (map reduce l) (reduce (production r))) (sym (is_first n r e ns))
             (inl refl),
       ),

@@ -2,10 +2,9 @@
 use Rattle.std.proofs.Common.{◌≡◌, ◌⊎◌, ℕ, zero, suc, ◌+◌, ◌-◌, ◌<◌, ◌≤◌, List, [], ◌∷◌, Some, None, Bool, true, false, Contains, length, set, replicate, get_or, slice_get, refl}
 use Rattle.std.proofs.Common.{sym, ap, ◌∙◌, subst, inl, inr, ⊎_elim, arith, true≢false}
 use Rattle.std.proofs.lemmas.Bool.{cases_lt}
-use Rattle.std.proofs.lemmas.Option.{slice_get_within, slice_get-get_or}
+use Rattle.std.proofs.lemmas.Option.{slice_get_within, slice_get-get_or, same_Some}
 use Rattle.lr_tables.proofs.Members.{In, In-Contains, Contains-In}
 use Rattle.lr_check.specs.Tree.{Node, IsSample}
-use Rattle.lr_check_nodes.proofs.Listing.{Some-same, none_some}
 use Rattle.lr_check_nodes.specs.Pruned.{with_marks, IsMarked, IsMarkedUser, AreReached, Reaching}
 
 pub set_same : (ms : List Bool) (k : ℕ) → k < length ms → IsMarked (set ms k true) k
@@ -57,7 +56,7 @@ marks_cases ms (k ∷ ks) n h = ⊎_elim
 none_marked : (n k : ℕ) → IsMarked (replicate n false) k → ⊥
 none_marked zero zero h = absurd (cc)
 none_marked zero (suc k) h = absurd (cc)
-none_marked (suc n) zero h = true≢false (sym (Some-same false true h))
+none_marked (suc n) zero h = true≢false (sym (same_Some false true h))
 none_marked (suc n) (suc k) h = none_marked n k h
 
 long_replicate : (n : ℕ) → length (replicate n false) ≡ n
@@ -108,7 +107,7 @@ reach_marked nodes marks marks' n v sample r at marked e = subst (λ l. Reaching
         (let low = sample.lower n k v at c in let lt = slice_get_within nodes n v at in let many = r.many in omega (arith, low, lt, many))
 
     same : (m : ℕ) (u : Node) → m ≡ n → slice_get nodes m ≡ Some u → u ≡ v
-    same m u e there = Some-same u v (sym there ∙ (ap (slice_get nodes) e ∙ at))
+    same m u e there = same_Some u v (sym there ∙ (ap (slice_get nodes) e ∙ at))
 
 -- and one that isn't has no kids to be marked
 pub reach_unmarked : (nodes : List Node) (marks : List Bool) (n : ℕ) → Reaching nodes marks (n + 1) → slice_get marks n ≡ Some false → Reaching nodes marks n
@@ -117,7 +116,7 @@ reach_unmarked nodes marks n r un = record {
   root = r.root;
   kids = λ m k u le h there c. ⊎_elim
       (λ above. r.kids m k u (omega (arith, above)) h there c)
-      (λ here. absurd (true≢false (Some-same true false (sym h ∙ (ap (slice_get marks) (let same : m ≡ n = omega (arith, le, here) in same) ∙ un)))))
+      (λ here. absurd (true≢false (same_Some true false (sym h ∙ (ap (slice_get marks) (let same : m ≡ n = omega (arith, le, here) in same) ∙ un)))))
       (cases_lt n m);
   used = r.used;
 }

@@ -4,14 +4,14 @@ use Rattle.std.proofs.Common.{ap, ap₂, ◌∙◌, subst, inl, inr, ⊎_elim, a
 use Rattle.std.specs.Prelude.{slice_index_or, Result, Ok, Err, OnOk}
 use Rattle.std.proofs.lemmas.Bool.{cases_lt}
 use Rattle.std.proofs.lemmas.List.{map-append, length-map, get_or_append_left}
-use Rattle.std.proofs.lemmas.Option.{slice_get_within, slice_get-get_or}
+use Rattle.std.proofs.lemmas.Option.{slice_get_within, slice_get-get_or, same_Some, none-some}
 use Rattle.tree_core.specs.declared.token.Sort.{Sort}
 use Rattle.tree_core.specs.declared.token.Sort.TheVariants as sort
 use Rattle.tree_core.specs.Grammar.{kids}
 use Rattle.lr_tables.proofs.Members.{In, In-Contains, Contains-In, In-left, In-right, In-cases, In-map, map-In}
 use Rattle.lr_check.specs.Tree.{Node, Token, Unfolds, ends, goes_on, IsTree, IsSample}
 use Rattle.lr_check.specs.Statement.{fits_at, KidsFit, AreTyped, IsStatement}
-use Rattle.lr_check_nodes.proofs.Listing.{Some-same, none_some, slice_left, slice_last, slice_cases, is_at, at_in}
+use Rattle.lr_check_nodes.proofs.Listing.{slice_left, slice_last, slice_cases, is_at, at_in}
 use Rattle.lr_check_nodes.specs.Pruned.{IsUsed, AreUsed, IsPruned, IsMarked, IsMarkedUser, AreReached, IsLeft, Pruning, PrunedView, renumbered, node_again, with_node, without_node}
 
 number_stays : (ns xs : List ℕ) (k : ℕ) → k < length ns → slice_index_or (ns ++ xs) k 0 ≡ slice_index_or ns k 0
@@ -38,7 +38,7 @@ prune_none nodes marks = record {
   left = λ n v h there lt. absurd (omega (arith, lt));
   low = λ n h lt. absurd (omega (arith, lt));
   rises = λ n m h g lt le. absurd (omega (arith, le));
-  all = λ m u e. absurd (none_some u (nowhere m u e));
+  all = λ m u e. absurd (none-some u (nowhere m u e));
   last = λ n h e. absurd (omega (arith, e));
 }
   where
@@ -75,7 +75,7 @@ module _ (nodes : List Node) (marks : List Bool) (sample : IsSample nodes) where
         (λ below. ap (slice_get more) (old n below) ∙ (slice_left p.nodes (node_again p.numbers v ∷ []) (number n) (node_again p.numbers u) (r.left n u h there below)
         ∙ ap Some (sym (again_stays p.numbers (length p.nodes ∷ []) u (kids_within p n i u r.many there (omega (arith, below)))))))
         (λ ge. let same : n ≡ i = omega (arith, lt, ge) in
-        let node : u ≡ v = Some-same u v (sym there ∙ (ap (slice_get nodes) same ∙ at)) in
+        let node : u ≡ v = same_Some u v (sym there ∙ (ap (slice_get nodes) same ∙ at)) in
         ap (slice_get more) (new n same) ∙ (slice_last p.nodes (node_again p.numbers v) ∙ ap Some (ap (node_again p.numbers) (sym node)
         ∙ sym (again_stays p.numbers (length p.nodes ∷ []) u (kids_within p n i u r.many there (omega (arith, same)))))))
         (cases_lt n i);
@@ -139,7 +139,7 @@ module _ (nodes : List Node) (marks : List Bool) (sample : IsSample nodes) where
   })
     where
       not_here : (n : ℕ) → IsMarked marks n → n ≡ i → ⊥
-      not_here n h same = true≢false (Some-same true false (sym h ∙ (ap (slice_get marks) same ∙ un)))
+      not_here n h same = true≢false (same_Some true false (sym h ∙ (ap (slice_get marks) same ∙ un)))
 
       below : (n : ℕ) → IsMarked marks n → n < i + 1 → n < i
       below n h le = ⊎_elim (λ less. less) (λ ge. absurd (not_here n h (omega (arith, le, ge)))) (cases_lt n i)
@@ -148,9 +148,9 @@ module _ (nodes : List Node) (marks : List Bool) (sample : IsSample nodes) where
       old n less = number_stays p.numbers (0 ∷ []) n (let many = r.many in omega (arith, less, many))
 
 map_at : (f : ℕ → ℕ) (ks : List ℕ) (i k : ℕ) → slice_get (map f ks) i ≡ Some k → (j : ℕ) × ((slice_get ks i ≡ Some j) × (f j ≡ k))
-map_at f [] zero k e = absurd (none_some k e)
-map_at f [] (suc i) k e = absurd (none_some k e)
-map_at f (j ∷ ks) zero k e = (j, (refl, Some-same (f j) k e))
+map_at f [] zero k e = absurd (none-some k e)
+map_at f [] (suc i) k e = absurd (none-some k e)
+map_at f (j ∷ ks) zero k e = (j, (refl, same_Some (f j) k e))
 map_at f (j ∷ ks) (suc i) k e = map_at f ks i k e
 
 module _ (nodes : List Node) (marks : List Bool) (p : PrunedView) (s : IsStatement nodes) (reached : AreReached nodes marks) (r : Pruning nodes marks p (length nodes)) where

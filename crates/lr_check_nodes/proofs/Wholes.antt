@@ -1,8 +1,10 @@
 -- Nodes whose kids stand before them and fit.
-use Rattle.std.proofs.Common.{◌≡◌, ◌⊎◌, ℕ, zero, suc, ◌+◌, ◌<◌, ◌≤◌, List, [], ◌∷◌, ◌++◌, Some, None, Bool, true, false, Contains, length, get_or, take, slice_get, refl, sym, ap}
-use Rattle.std.proofs.Common.{ap₂, ◌∙◌, subst, subst₂, inl, inr, ⊎_elim, arith, true≢false, length-append, append_assoc, append-nil}
+use Rattle.std.proofs.Common.{◌≡◌, ◌⊎◌, ℕ, zero, suc, ◌+◌, ◌<◌, ◌≤◌, List, [], ◌∷◌, ◌++◌, Some, None, Bool, true, Contains, length, get_or, take, slice_get, refl, sym, ap}
+use Rattle.std.proofs.Common.{ap₂, ◌∙◌, subst, subst₂, inl, inr, ⊎_elim, arith, length-append, append_assoc, append-nil}
 use Rattle.std.specs.Prelude.{Result, Ok, Err, IfOk}
 use Rattle.std.proofs.lemmas.List.{take_all, get_or_default}
+use Rattle.std.proofs.lemmas.Bool.{false≢true}
+use Rattle.std.proofs.lemmas.Option.{same_Some, none-some}
 use Rattle.tree_core.specs.declared.token.Tok.{Tok}
 use Rattle.tree_core.specs.declared.token.Sort.{Sort}
 use Rattle.tree_core.specs.declared.token.Sort.TheVariants as sort
@@ -11,18 +13,15 @@ use Rattle.lr_tables.proofs.Members.{In, Contains-In}
 use Rattle.lr_check.specs.Tree.{Node}
 use Rattle.lr_check.specs.Statement.{sort_fits, fits_at, KidsFit}
 use Rattle.lr_check_nodes.specs.Growing.{AreWhole, Grows, HasTreeOf, HaveKids, HasLast, HasTreeFrom, smallest}
-use Rattle.lr_check_nodes.proofs.Listing.{Some-same, none_some, slice_left, slice_last, slice_cases, at_in}
-
-false_true : false ≡ true → ⊥
-false_true e = true≢false (sym e)
+use Rattle.lr_check_nodes.proofs.Listing.{slice_left, slice_last, slice_cases, at_in}
 
 pub fits_more : (nodes more : List Node) (k : ℕ) (x : Sort) → fits_at (slice_get nodes k) x ≡ true → fits_at (slice_get (nodes ++ more) k) x ≡ true
-fits_more [] more k x h = absurd (false_true h)
+fits_more [] more k x h = absurd (false≢true h)
 fits_more (v ∷ nodes) more zero x h = h
 fits_more (v ∷ nodes) more (suc k) x h = fits_more nodes more k x h
 
 pub fits_within : (nodes : List Node) (k : ℕ) (x : Sort) → fits_at (slice_get nodes k) x ≡ true → k < length nodes
-fits_within [] k x h = absurd (false_true h)
+fits_within [] k x h = absurd (false≢true h)
 fits_within (v ∷ nodes) zero x h = omega arith
 fits_within (v ∷ nodes) (suc k) x h = let lt = fits_within nodes k x h in omega (arith, lt)
 
@@ -50,13 +49,13 @@ kids_within nodes (j ∷ ks) (x ∷ xs) h k c = ⊎_elim
     c
 
 pub fit_none : (nodes : List Node) (xs : List Sort) → xs ≡ [] → KidsFit nodes [] xs
-fit_none nodes xs e = record { many = ap length (sym e); each = λ i k x at is. absurd (none_some k at) }
+fit_none nodes xs e = record { many = ap length (sym e); each = λ i k x at is. absurd (none-some k at) }
 
 pub fit_more : (nodes : List Node) (k : ℕ) (ks : List ℕ) (x : Sort) (xs : List Sort) → fits_at (slice_get nodes k) x ≡ true → KidsFit nodes ks xs → KidsFit nodes (k ∷ ks) (x ∷ xs)
 fit_more nodes k ks x xs fits h = record { many = ap suc h.many; each = by }
   where
     by : (i j : ℕ) (y : Sort) → slice_get (k ∷ ks) i ≡ Some j → slice_get (x ∷ xs) i ≡ Some y → fits_at (slice_get nodes j) y ≡ true
-    by zero j y at is = ap₂ (λ (a : ℕ) (b : Sort). fits_at (slice_get nodes a) b) (sym (Some-same k j at)) (sym (Some-same x y is)) ∙ fits
+    by zero j y at is = ap₂ (λ (a : ℕ) (b : Sort). fits_at (slice_get nodes a) b) (sym (same_Some k j at)) (sym (same_Some x y is)) ∙ fits
     by (suc i) j y at is = h.each i j y at is
 
 pub fit_one : (nodes : List Node) (n : ℕ) (x : Sort) (xs : List Sort) → xs ≡ x ∷ [] → fits_at (slice_get nodes n) x ≡ true → KidsFit nodes (n ∷ []) xs

@@ -3,6 +3,8 @@ use Rattle.std.proofs.Common.{◌≡◌, ◌⊎◌, inl, inr, ℕ, zero, suc, �
 use Rattle.std.proofs.Common.{replicate, refl, sym, ap, ◌∙◌, subst, arith, length-set}
 use Rattle.std.proofs.lemmas.List.{length-replicate}
 use Rattle.std.proofs.lemmas.List.Sums.{sum_by-set, sum_by-cons}
+use Rattle.std.proofs.lemmas.Bool.{false_from_ne_true}
+use Rattle.std.proofs.lemmas.Option.{same_Some}
 use Rattle.md_reader.specs.declared.types.Rule.{Rule}
 use Rattle.md_reader.specs.declared.types.Sym.{Sym}
 use Rattle.md_reader.specs.declared.types.Sym.TheVariants as grammar_symbol
@@ -12,7 +14,7 @@ use Rattle.lr_tables.proofs.Validity.{is_grammar}
 use Rattle.lr_check.proofs.Seen.{Seen, seen_start, seen_shift, seen_unit, seen_long}
 use Rattle.lr_check_parse.specs.Moves.{Answering, Move, Shift, Reduce, Ending, Parses, loops, accepts, shifts, reduces, refuses, blocks}
 use Rattle.lr_check_parse.specs.Claims.{IsBounded}
-use Rattle.lr_check_parse.proofs.Choosing.{Some-same, taken_fits}
+use Rattle.lr_check_parse.proofs.Choosing.{taken_fits}
 
 count-cons : (b : Bool) (m : List Bool) → count_by not (b ∷ m) ≡ cond (not b) 1 0 + count_by not m
 count-cons b m = sum_by-cons (λ (x : Bool). cond (not x) 1 0) b m
@@ -47,10 +49,6 @@ length-drop zero [] le = refl
 length-drop zero (X ∷ a) le = omega arith
 length-drop (suc k) [] le = absurd (omega (arith, le))
 length-drop (suc k) (X ∷ a) le = let e = length-drop k a (omega (arith, le)) in omega (arith, e)
-
-pub unmarked : (b : Bool) → (b ≡ true → ⊥) → b ≡ false
-unmarked true h = absurd (h refl)
-unmarked false h = refl
 
 pub one_or_more : (k : ℕ) → 0 < k → (k ≡ 1) ⊎ (2 ≤ k)
 one_or_more k h = grind (arith, h)
@@ -98,7 +96,7 @@ module _ {L X : Type 0} (of : Answering L X) (rules : List Rule) (stmt classes :
       let new = set seen c true in
       let size : length new ≡ length seen = length-set seen c true in
       let h0 = ih new (record { seen_is = seen_unit seen a (a ∷ before) c marks.seen_is some within; size = size ∙ marks.size }) in
-      let off : get_or seen c false ≡ false = unmarked (get_or seen c false) (λ e. fresh (marks.seen_is.there c e)) in
+      let off : get_or seen c false ≡ false = false_from_ne_true (get_or seen c false) (λ e. fresh (marks.seen_is.there c e)) in
       let count = mark_count seen c within off in
       let d = length-drop 1 a (omega (arith, some)) in
       let long : length (grammar_symbol.Class c ∷ drop 1 a) ≡ length (drop 1 a) + 1 = omega arith in
@@ -163,7 +161,7 @@ module _ {L X : Type 0} (of : Answering L X) (rules : List Rule) (stmt classes :
   bounded (reduces {n = n} {before = before} {ws = ws} {a = a} {x = x} {y = y} {log = log} r h c there red more) =
       let ih = bounded more in
       let t = taken_fits of rules stmt classes g ws a x n y c in
-      let same : t.rule ≡ r = Some-same t.rule r (sym t.there ∙ there) in
+      let same : t.rule ≡ r = same_Some t.rule r (sym t.there ∙ there) in
       let size : length t.rule.right ≡ length r.right = ap (λ (q : Rule). length q.right) same in
       inr (h, λ seen marks. reduce_within ws a r log (Reduce n) before seen marks (g.lefts n r there) (let p = t.some in omega (arith, p, size)) (let p = t.within in omega (arith, p, size)) ih)
 

@@ -1,8 +1,10 @@
 -- Which rule is taken, whoever answers.
 use Rattle.std.proofs.Common.{◌≡◌, ℕ, zero, suc, ◌<◌, ◌≤◌, ◌==◌, List, [], ◌∷◌, Option, Some, None, Bool, true, false, Contains, length, slice_get, refl, sym, ap, ◌∙◌, subst, arith}
 use Rattle.std.specs.Prelude.{if◌then◌else◌}
-use Rattle.std.proofs.lemmas.Bool.{ne_eqb}
+use Rattle.std.proofs.lemmas.Bool.{ne_eqb, false≢true}
 use Rattle.std.proofs.lemmas.List.Elements.{Contains-append_right}
+use Rattle.std.proofs.lemmas.Option.{same_Some}
+use Rattle.gg_base.proofs.Facts.{some_none}
 use Rattle.tree_core.specs.declared.token.Tok.{Tok}
 use Rattle.md_reader.specs.declared.types.Rule.{Rule}
 use Rattle.md_reader.specs.declared.types.Sym.{Sym}
@@ -11,25 +13,16 @@ use Rattle.lr_tables.specs.Candidates.{MayReduce}
 use Rattle.lr_check.proofs.Covered.{covers}
 use Rattle.lr_check_parse.specs.Moves.{Answering, Taken, coming, decided_at, taken, Choice}
 
-pub Some-same : {Y : Type 0} (x y : Y) → Some x ≡ Some y → x ≡ y
-Some-same x y e = cc
-
-pub some_none : {Y : Type 0} (x : Y) → Some x ≡ None → ⊥
-some_none x e = cc
-
 pub here : {Y : Type 0} (x : Y) (xs : List Y) → Contains (x ∷ xs) x
 here x xs = (0, omega arith, refl)
-
-unlike : false ≡ true → ⊥
-unlike e = cc
 
 -- how many restrictions there are
 pub no_more : (n : ℕ) → (n == 0) ≡ true → n ≡ 0
 no_more zero e = refl
-no_more (suc n) e = absurd (unlike (sym (ne_eqb (suc n) 0 (λ q. omega (arith, q))) ∙ e))
+no_more (suc n) e = absurd (false≢true (sym (ne_eqb (suc n) 0 (λ q. omega (arith, q))) ∙ e))
 
 pub some_more : (n : ℕ) → (n == 0) ≡ false → 0 < n
-some_more zero e = absurd (unlike (sym e))
+some_more zero e = absurd (false≢true (sym e))
 some_more (suc n) e = omega arith
 
 pub is_none : (n : ℕ) → n ≡ 0 → (n == 0) ≡ true
@@ -60,7 +53,7 @@ module _ {L X : Type 0} (of : Answering L X) (rules : List Rule) where
   taken_among (m ∷ ns) x n y e = by (slice_get rules m) e (λ z f. taken_among ns z n y f)
     where
       first : (z : X) → Result (Some m) z ≡ Result (Some n) y → Contains (m ∷ ns) n
-      first z f = subst (Contains (m ∷ ns)) (Some-same m n (ap (λ (t : Taken X). t.rule) f)) (here m ns)
+      first z f = subst (Contains (m ∷ ns)) (same_Some m n (ap (λ (t : Taken X). t.rule) f)) (here m ns)
 
       tests : (r : Rule) (b c : Bool) → (if b then Result (Some m) x else if c then Result (Some m) (of.asked r x) else taken of rules ns (of.asked r x)) ≡ Result (Some n) y
           → ((z : X) → taken of rules ns z ≡ Result (Some n) y → Contains ns n) → Contains (m ∷ ns) n

@@ -2,6 +2,7 @@
 use Rattle.std.proofs.Common.{◌≡◌, ◌⊎◌, inl, inr, ℕ, zero, suc, ◌+◌, ◌-◌, ◌*◌, ◌≤◌, ◌<◌, List, [], ◌∷◌, Option, Some, None, Bool, true, false, not, Contains, length, count_by}
 use Rattle.std.proofs.Common.{get_or, set, drop, replicate, slice_get, refl, sym, ap, ◌∙◌, subst, arith, length-set}
 use Rattle.std.proofs.lemmas.List.{length-replicate}
+use Rattle.std.proofs.lemmas.Option.{same_Some}
 use Rattle.tree_core.specs.declared.token.Tok.{Tok}
 use Rattle.tree_core.specs.declared.token.Tok.TheVariants as tok
 use Rattle.md_reader.specs.declared.types.Rule.{Rule}
@@ -21,7 +22,7 @@ use Rattle.lr_check.proofs.Seen.{seen_start, seen_shift, seen_unit, seen_long}
 use Rattle.lr_check_parse.specs.Moves.{Answering, Move, Shift, Reduce, Ending, Accepts, Blocks, Loops, Refuses, Taken, taken, coming, Choice, Parses}
 use Rattle.lr_check_parse.specs.Moves as parse
 use Rattle.lr_check_parse.specs.Claims.{HasEnd}
-use Rattle.lr_check_parse.proofs.Choosing.{Some-same, taken_among}
+use Rattle.lr_check_parse.proofs.Choosing.{taken_among}
 use Rattle.lr_check_parse.proofs.Bounds.{left, count_most, mark_count, shift_less, long_less, unit_less, length-drop, one_or_more, Marks}
 
 pub nowhere_in : (a : List Sym) → Contains [] a → ⊥
@@ -73,7 +74,7 @@ module _ {L X : Type 0} (of : Answering L X) (rules : List Rule) (stmt classes :
   behind : (a : List Sym) (q n : ℕ) (r : Rule) (k : Tok) → Leads t a q → slice_get rules n ≡ Some r → MayReduce rules stmt a k n
       → (p : ℕ) × Leads t (grammar_symbol.Class r.left ∷ drop (length r.right) a) p
   behind a q n r k lead there m =
-      let same : m.rule ≡ r = Some-same m.rule r (sym m.there ∙ there) in
+      let same : m.rule ≡ r = same_Some m.rule r (sym m.there ∙ there) in
       let below = subst (λ (y : Rule). Rattle.lr_tables.specs.Items.Items rules stmt (drop (length y.right) a) (fresh n)) same (covers rules stmt m.complete).below in
       let before = opened rules stmt below n r refl there in
       let low = leads_below (length r.right) a q lead in

@@ -2,6 +2,7 @@
 use Rattle.std.proofs.Common.{◌≡◌, ℕ, zero, suc, ◌<◌, ◌==◌, List, [], ◌∷◌, Option, Some, None, Bool, true, false, Contains, length, drop, slice_get, refl, sym, ap, ◌∙◌, subst}
 use Rattle.std.specs.Prelude.{if◌then◌else◌}
 use Rattle.std.proofs.lemmas.List.Elements.{Contains-append_right}
+use Rattle.std.proofs.lemmas.Option.{same_Some}
 use Rattle.tree_core.specs.declared.token.Tok.{Tok}
 use Rattle.md_reader.specs.declared.types.Rule.{Rule}
 use Rattle.md_reader.specs.declared.types.Sym.{Sym}
@@ -16,7 +17,7 @@ use Rattle.lr_check_parse.specs.Moves.{Move, Shift, Reduce, Ending, Accepts, Blo
 use Rattle.lr_check_parse.specs.Moves as parse
 use Rattle.lr_check_parse.specs.Lists.{Lists, list_at, used, first_of, by_lists, answers_of, EndsSo}
 use Rattle.lr_check_parse.specs.Claims.{HasMoves, IsByLists}
-use Rattle.lr_check_parse.proofs.Choosing.{Some-same, here, no_more, some_more, is_none, is_some}
+use Rattle.lr_check_parse.proofs.Choosing.{here, no_more, some_more, is_none, is_some}
 
 -- ---- what stands beside the symbols
 
@@ -223,7 +224,7 @@ module _ (rules : List Rule) where
         shifts (subst (λ (b : List Sym). Contains before b → ⊥) (sym f) h) n (subst (λ (b : List Sym). StandsBefore rules stmt b (grammar_symbol.Tok w.tok)) (sym f) b)
         (ends_there more (record { symbol = grammar_symbol.Tok w.tok; answers = w.answers } ∷ s) (ap (λ (b : List Sym). grammar_symbol.Tok w.tok ∷ b) f) (ap (λ (y : Lists). w.answers ∷ y) g) o e)
     ends_there (parse.reduces {at = at} {n = n} {before = before} {ws = ws} {a = a} {x = x} {y = y} {z = z} r h c there red more) s f g o e =
-        let left : z ≡ list_at (first_of r) y ∷ drop (length r.right) y = sym (Some-same _ z red) in
+        let left : z ≡ list_at (first_of r) y ∷ drop (length r.right) y = sym (same_Some _ z red) in
         reduces_back at n before ws s y r o (subst (λ (b : List Sym). Contains before b → ⊥) (sym f) h)
         (subst (λ (b : List Sym). Choice by_lists rules stmt ws b (answers_of s) (Some n) y) (sym f) (subst (λ (v : Lists). Choice by_lists rules stmt ws a v (Some n) y) (sym g) c)) there
         (λ t k l. subst (λ (b : List Sym). Ends rules stmt at (b ∷ before) ws t o) (sym f)

@@ -2,6 +2,8 @@
 use Rattle.std.proofs.Common.{◌≡◌, ◌⊎◌, ℕ, zero, suc, ◌<◌, List, [], ◌∷◌, Option, Some, None, Contains, length, drop, get_or, slice_get, refl, sym, ap, ◌∙◌, subst, inl, inr, ⊎_elim, arith}
 use Rattle.std.specs.Prelude.{AllPairs}
 use Rattle.std.proofs.lemmas.List.Elements.{Contains-append_cases, Contains-append_right}
+use Rattle.std.proofs.lemmas.Option.{same_Some}
+use Rattle.gg_base.proofs.Facts.{some_none}
 use Rattle.tree_core.specs.declared.token.Tok.{Tok}
 use Rattle.tree_core.specs.declared.token.Tok.TheVariants as tok
 use Rattle.md_reader.specs.declared.types.Rule.{Rule}
@@ -11,7 +13,7 @@ use Rattle.lr_tables.specs.Items.{starts, moves}
 use Rattle.lr_tables.specs.Candidates.{StandsBefore, GoesFirst, AreReductions}
 use Rattle.lr_check_parse.specs.Moves.{Answering, Move, Shift, Reduce, Ending, Taken, taken, coming, Choice, Parses, loops, accepts, shifts, reduces, refuses, blocks}
 use Rattle.lr_check_parse.specs.Claims.{IsOneWay}
-use Rattle.lr_check_parse.proofs.Choosing.{Some-same, some_none, here}
+use Rattle.lr_check_parse.proofs.Choosing.{here}
 
 one_cases : {X : Type 0} (y x : X) → Contains (y ∷ []) x → y ≡ x
 one_cases y x h = by h.0 h.1 h.2
@@ -97,9 +99,9 @@ module _ {L X : Type 0} (of : Answering L X) (rules : List Rule) (stmt : ℕ) wh
       → Choice of rules stmt ws a x (Some i) y → Choice of rules stmt ws a x (Some j) y' → slice_get rules i ≡ Some r → slice_get rules j ≡ Some q → of.reduced i r y ≡ o → of.reduced j q y' ≡ p
       → (i ≡ j) × (q ≡ r) × (o ≡ p)
   both_reduced ws a x i j y y' r q o p c d t u red blue =
-      let number : i ≡ j = Some-same i j (choice_same ws a x (Some i) (Some j) y y' c d) in
+      let number : i ≡ j = same_Some i j (choice_same ws a x (Some i) (Some j) y y' c d) in
       let kept : y ≡ y' = kept_same ws a x (Some i) (Some j) y y' c d in
-      let rule : q ≡ r = Some-same q r (sym u ∙ (ap (slice_get rules) (sym number) ∙ t)) in (
+      let rule : q ≡ r = same_Some q r (sym u ∙ (ap (slice_get rules) (sym number) ∙ t)) in (
         number,
         rule,
         sym red ∙ (λ k. of.reduced (number k) (sym rule k) (kept k)) ∙ blue,
@@ -132,7 +134,7 @@ module _ {L X : Type 0} (of : Answering L X) (rules : List Rule) (stmt : ℕ) wh
       (reduces {n = j} {y = y'} {z = z'} {log = log'} {e = e'} q m d u blue h) =
       let b = both_reduced ws a x i j y y' r q (Some z) (Some z') c d t u red blue in
       let there : G at (a ∷ before) ws (grammar_symbol.Class r.left ∷ drop (length r.right) a) z log' e' =
-      subst (λ (k : X). G at (a ∷ before) ws (grammar_symbol.Class r.left ∷ drop (length r.right) a) k log' e') (Some-same z' z (sym b.2))
+      subst (λ (k : X). G at (a ∷ before) ws (grammar_symbol.Class r.left ∷ drop (length r.right) a) k log' e') (same_Some z' z (sym b.2))
       (subst (λ (k : Rule). G at (a ∷ before) ws (grammar_symbol.Class k.left ∷ drop (length k.right) a) z' log' e') b.1 h) in
       let s = one_way g there in
       (ap (λ (k : ℕ). Reduce k ∷ log) b.0 ∙ ap (λ (k : List (Move L)). Reduce j ∷ k) s.0, s.1)

@@ -2,6 +2,8 @@
 use Rattle.std.proofs.Common.{◌≡◌, ℕ, zero, suc, ◌+◌, ◌-◌, ◌<◌, ◌≤◌, ◌==◌, List, [], ◌∷◌, Option, Some, None, Bool, true, false, Contains, length, drop, slice_get, refl, sym, ap, ◌∙◌, subst, arith}
 use Rattle.std.specs.Prelude.{if◌then◌else◌}
 use Rattle.std.proofs.lemmas.List.Elements.{Contains-append_right}
+use Rattle.std.proofs.lemmas.Option.{same_Some}
+use Rattle.gg_base.proofs.Facts.{some_none}
 use Rattle.tree_core.specs.declared.token.Tok.{Tok}
 use Rattle.tree_core.specs.declared.token.Tok.TheVariants as tok
 use Rattle.md_reader.specs.declared.types.Rule.{Rule}
@@ -19,7 +21,7 @@ use Rattle.lr_check_parse.specs.Moves.{Answering, Move, Ending, Taken, coming, d
 use Rattle.lr_check_parse.specs.Moves as parse
 use Rattle.lr_check_parse.specs.Lists.{EndsSo}
 use Rattle.lr_check_parse.specs.Claims.{labelled, questioned, HasAnswers, IsAnswered}
-use Rattle.lr_check_parse.proofs.Choosing.{Some-same, some_none, here, no_more, some_more, Fits, fits, taken_fits}
+use Rattle.lr_check_parse.proofs.Choosing.{here, no_more, some_more, Fits, fits, taken_fits}
 use Rattle.lr_check_parse.proofs.Labels.{answered_by, symbols_labelled, used_labelled, answer_labelled, above, answers_above, drop_above}
 
 module _ {L X : Type 0} (of : Answering L X) (rules : List Rule) (stmt : ℕ) where
@@ -60,7 +62,7 @@ module _ {L X : Type 0} (of : Answering L X) (rules : List Rule) (stmt : ℕ) wh
       by_rule : (o : Option Rule) → slice_get rules n ≡ o → Fits rules a n → ((z : X) → Source a ns (others z).rule behind) → Source a (n ∷ ns) (decided_at of n o x others).rule behind
       by_rule None e g s = absurd (some_none g.rule (sym g.there ∙ e))
       by_rule (Some r) e g s =
-          let same : g.rule ≡ r = Some-same g.rule r (sym g.there ∙ e) in
+          let same : g.rule ≡ r = same_Some g.rule r (sym g.there ∙ e) in
           let size : length g.rule.right ≡ length r.right = ap (λ (q : Rule). length q.right) same in
           let lt : length r.right - 1 < length a = (let p = g.some in let q = g.within in omega (arith, p, q, size)) in
           tests r e lt (length r.restrictions == 0) (of.says r x) refl s
@@ -151,7 +153,7 @@ module _ {L X : Type 0} (of : Answering L X) (rules : List Rule) (stmt : ℕ) wh
       → Answers at (a ∷ before) ws (grammar_symbol.Class r.left ∷ drop (length r.right) a) o → Answers at before ws a o
   reduces_so classes g at n before ws a x y r o h c there ih =
       let t = taken_fits of rules stmt classes g ws a x n y c in
-      let same : t.rule ≡ r = Some-same t.rule r (sym t.there ∙ there) in
+      let same : t.rule ≡ r = same_Some t.rule r (sym t.there ∙ there) in
       let size : length t.rule.right ≡ length r.right = ap (λ (q : Rule). length q.right) same in
       let some : 0 < length r.right = (let p = t.some in omega (arith, p, size)) in
       let within : length r.right ≤ length a = (let p = t.within in omega (arith, p, size)) in

@@ -1,5 +1,6 @@
 -- How a place that was found begins, by its origin.
 use Rattle.std.proofs.Common.{◌≡◌, ℕ, List, [], ◌∷◌, Some, slice_get, ap, sym, ◌∙◌, subst}
+use Rattle.std.proofs.lemmas.Option.{same_Some}
 use Rattle.tree_core.specs.declared.token.Tok.TheVariants as tok
 use Rattle.tree_core.specs.declared.token.Sort.{Sort}
 use Rattle.tree_core.specs.declared.token.Sort.TheVariants as sort
@@ -14,7 +15,6 @@ use Rattle.lr_check_found.specs.declared.places.Origin.TheVariants as origin
 use Rattle.lr_check_found.specs.Found.{FoundView, IsPlaceAt, SumAt}
 use Rattle.lr_check_found.specs.Items.{HasTwo, Fits, Begun, root, only, first, second}
 use Rattle.lr_check_found.specs.Sound.{IsSoundPlace, IsFound}
-use Rattle.lr_check_found.proofs.Reading.{Some-same}
 use Rattle.lr_check_samples.specs.Fixed.{IsOrigin}
 
 -- a first kid
@@ -52,11 +52,11 @@ module _ {A : Automaton} {f : FoundView} {x : Place} where
   begun_first (root h) i y e at = absurd (cc)
   begun_first (only {i = j} {p = p} {y = z} {w = w} there h g) i y e at =
       let same : j ≡ i = cc in
-      let place : z ≡ y = Some-same z y (sym there ∙ (ap (slice_get f.places) same ∙ at)) in
+      let place : z ≡ y = same_Some z y (sym there ∙ (ap (slice_get f.places) same ∙ at)) in
       subst (BegunFirst A x) place (record { sort = w; others = []; state = p; go = h.go; kid = h.kid; at = g.state; may = g.may; behind = λ n. g.behind })
   begun_first (first {i = j} {p = p} {y = z} {w = w} {v = v} m there h g may) i y e at =
       let same : j ≡ i = cc in
-      let place : z ≡ y = Some-same z y (sym there ∙ (ap (slice_get f.places) same ∙ at)) in
+      let place : z ≡ y = same_Some z y (sym there ∙ (ap (slice_get f.places) same ∙ at)) in
       subst (BegunFirst A x) place (record { sort = w; others = v ∷ []; state = p; go = h.go; kid = h.kid; at = g.state; may = g.may; behind = λ n. absurd (some n) })
     where
       some : v ∷ [] ≡ [] → ⊥
@@ -70,7 +70,7 @@ module _ {A : Automaton} {f : FoundView} {x : Place} where
   begun_second (second {i = j} {n = k} {p = p} {j = q} {y = y'} {z = z} {w = w} {v = v} {s = s} there h sum fit g) i n y e at =
       let same : j ≡ i = cc in
       let number : k ≡ n = cc in
-      let place : y' ≡ y = Some-same y' y (sym there ∙ (ap (slice_get f.places) same ∙ at)) in
+      let place : y' ≡ y = same_Some y' y (sym there ∙ (ap (slice_get f.places) same ∙ at)) in
       subst (λ l. BegunSecond A f l x y) number
       (subst (BegunSecond A f k x) place
       (record { sort = w; second_sort = v; state = p; last = q; kid = z; list = s; has = h; sum = sum; fits = fit; second_fits = g }))
@@ -78,4 +78,4 @@ module _ {A : Automaton} {f : FoundView} {x : Place} where
 pub begun_so : (A : Automaton) (f : FoundView) → IsFound A f → (n : ℕ) (x : Place) (o : Origin) → IsPlaceAt f n x → IsOrigin f n o → Begun A f x o
 begun_so A f found n x o at is =
     let k : IsSoundPlace A f n x = found.places n x at in
-    subst (Begun A f x) (Some-same k.origin o (sym k.there ∙ is)) k.begun
+    subst (Begun A f x) (same_Some k.origin o (sym k.there ∙ is)) k.begun

@@ -1,5 +1,6 @@
 -- Nodes that are drawn for what was found unfold to its trees.
 use Rattle.std.proofs.Common.{◌≡◌, ℕ, zero, suc, List, [], ◌∷◌, ◌++◌, Some, None, Bool, true, length, slice_get, refl, sym, ap, ap₂, ◌∙◌, subst, append_assoc, append-nil}
+use Rattle.std.proofs.lemmas.Option.{same_Some, none-some}
 use Rattle.tree_core.specs.declared.token.Tok.{Tok}
 use Rattle.tree_core.specs.declared.token.Sort.{Sort}
 use Rattle.tree_core.specs.Grammar.{kids, sort_of}
@@ -47,17 +48,11 @@ node_fits nodes n {k = k} x there may = ap (λ o. fits_at o x) there ∙ by (sor
     by None h = h
     by (Some y) h = h
 
-Some-same : {X : Type 0} (x y : X) → Some x ≡ Some y → x ≡ y
-Some-same x y e = cc
-
-none_some : {X : Type 0} (x : X) → None ≡ Some x → ⊥
-none_some x e = cc
-
 abbrev the_none : List Node → List ℕ
 the_none nodes = []
 
 fit_none : (nodes : List Node) (xs : List Sort) → xs ≡ [] → KidsFit nodes [] xs
-fit_none nodes xs e = record { many = ap length (sym e); each = λ i k x h g. absurd (none_some k (nowhere i h)) }
+fit_none nodes xs e = record { many = ap length (sym e); each = λ i k x h g. absurd (none-some k (nowhere i h)) }
   where
     nowhere : (i : ℕ) {k : ℕ} → slice_get (the_none nodes) i ≡ Some k → None ≡ Some k
     nowhere zero h = h
@@ -67,19 +62,19 @@ fit_one : (nodes : List Node) (n : ℕ) (x : Sort) (xs : List Sort) → xs ≡ x
 fit_one nodes n x xs e fits = record { many = ap length (sym e); each = λ i k y h g. by i k y h (ap (λ l. slice_get l i) (sym e) ∙ g) }
   where
     by : (i k : ℕ) (y : Sort) → slice_get (n ∷ []) i ≡ Some k → slice_get (x ∷ []) i ≡ Some y → fits_at (slice_get nodes k) y ≡ true
-    by zero k y h g = ap₂ (λ (a : ℕ) (b : Sort). fits_at (slice_get nodes a) b) (sym (Some-same n k h)) (sym (Some-same x y g)) ∙ fits
-    by (suc zero) k y h g = absurd (none_some k h)
-    by (suc (suc i)) k y h g = absurd (none_some k h)
+    by zero k y h g = ap₂ (λ (a : ℕ) (b : Sort). fits_at (slice_get nodes a) b) (sym (same_Some n k h)) (sym (same_Some x y g)) ∙ fits
+    by (suc zero) k y h g = absurd (none-some k h)
+    by (suc (suc i)) k y h g = absurd (none-some k h)
 
 fit_two : (nodes : List Node) (n m : ℕ) (x v : Sort) (xs : List Sort) → xs ≡ x ∷ v ∷ [] → fits_at (slice_get nodes n) x ≡ true → fits_at (slice_get nodes m) v ≡ true →
     KidsFit nodes (n ∷ m ∷ []) xs
 fit_two nodes n m x v xs e fits fits' = record { many = ap length (sym e); each = λ i k y h g. by i k y h (ap (λ l. slice_get l i) (sym e) ∙ g) }
   where
     by : (i k : ℕ) (y : Sort) → slice_get (n ∷ m ∷ []) i ≡ Some k → slice_get (x ∷ v ∷ []) i ≡ Some y → fits_at (slice_get nodes k) y ≡ true
-    by zero k y h g = ap₂ (λ (a : ℕ) (b : Sort). fits_at (slice_get nodes a) b) (sym (Some-same n k h)) (sym (Some-same x y g)) ∙ fits
-    by (suc zero) k y h g = ap₂ (λ (a : ℕ) (b : Sort). fits_at (slice_get nodes a) b) (sym (Some-same m k h)) (sym (Some-same v y g)) ∙ fits'
-    by (suc (suc zero)) k y h g = absurd (none_some k h)
-    by (suc (suc (suc i))) k y h g = absurd (none_some k h)
+    by zero k y h g = ap₂ (λ (a : ℕ) (b : Sort). fits_at (slice_get nodes a) b) (sym (same_Some n k h)) (sym (same_Some x y g)) ∙ fits
+    by (suc zero) k y h g = ap₂ (λ (a : ℕ) (b : Sort). fits_at (slice_get nodes a) b) (sym (same_Some m k h)) (sym (same_Some v y g)) ∙ fits'
+    by (suc (suc zero)) k y h g = absurd (none-some k h)
+    by (suc (suc (suc i))) k y h g = absurd (none-some k h)
 
 module _ (A : Automaton) (f : FoundView) (nodes : List Node) (found : IsFound A f) where
   pub drawn : {i : ℕ} {ks : List ℕ} {own : List Bool} {ds : List ℕ} → DrawnKids A f nodes i ks own ds → IsDrawn A f nodes i ks own ds

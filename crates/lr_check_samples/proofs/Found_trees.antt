@@ -1,7 +1,7 @@
 -- The tree of a settling that was found leads to its list.
 use Rattle.std.proofs.Common.{◌≡◌, ℕ, suc, ◌+◌, ◌≤◌, ◌<◌, List, [], ◌∷◌, ◌++◌, Some, Bool, Contains, length, map, slice_get, refl, ap, ap₂, sym, ◌∙◌, ⊎_elim, subst, arith, length-append}
 use Rattle.std.proofs.lemmas.Bool.{cases_lt}
-use Rattle.std.proofs.lemmas.Option.{slice_get-get_or}
+use Rattle.std.proofs.lemmas.Option.{slice_get-get_or, same_Some}
 use Rattle.tree_core.specs.declared.token.Tok.{Tok}
 use Rattle.tree_core.specs.declared.token.Sort.{Sort}
 use Rattle.tree_core.specs.Grammar.{kids}
@@ -25,7 +25,6 @@ use Rattle.lr_check_found.specs.declared.places.Place.{Place}
 use Rattle.lr_check_found.specs.Found.{FoundView, SettlesAt}
 use Rattle.lr_check_found.specs.Items.{Fits}
 use Rattle.lr_check_found.specs.Sound.{IsFound}
-use Rattle.lr_check_found.proofs.Reading.{Some-same}
 use Rattle.lr_check_found.proofs.Deriving.{sum_of}
 use Rattle.lr_check_samples.specs.Answering.{root_no, further, answers_to, depths_to}
 use Rattle.lr_check_samples.specs.Fixed.{leaf, Fixed, fixed_leaf, fixed_one, fixed_two, fixed_reduced}
@@ -160,8 +159,8 @@ module _ (t : TableView) (m : MeetsLaws t) where
         let old : Leads (automaton_of t) x.state x.token x.behind g.whole ws own ds =
         subst (λ (z : Place). Leads (automaton_of t) z.state z.token z.behind g.whole ws own ds) same.places
         (subst (λ u. Leads (automaton_of t) y.state y.token y.behind u ws own ds) same.lists (leads set y v h set_at)) in
-        let place : l.place ≡ x = Some-same l.place x (sym l.there ∙ (ap (slice_get f.places) g.place ∙ k.there)) in
-        let list : l.list ≡ g.whole = Some-same l.list g.whole (sym l.symbols ∙ g.symbols) in
+        let place : l.place ≡ x = same_Some l.place x (sym l.there ∙ (ap (slice_get f.places) g.place ∙ k.there)) in
+        let list : l.list ≡ g.whole = same_Some l.list g.whole (sym l.symbols ∙ g.symbols) in
         let settles : sets.Settling (automaton_of t) x.state x.token x.behind g.whole =
         subst (λ (z : Place). sets.Settling (automaton_of t) z.state z.token z.behind g.whole) place
         (subst (sets.Settling (automaton_of t) l.place.state l.place.token l.place.behind) list l.settles) in

@@ -1,5 +1,6 @@
 -- How a settling that was found was made, by its number.
 use Rattle.std.proofs.Common.{◌≡◌, ℕ, List, [], ◌∷◌, ◌++◌, Some, length, slice_get, refl, ap, sym, ◌∙◌, subst}
+use Rattle.std.proofs.lemmas.Option.{same_Some}
 use Rattle.tree_core.specs.declared.token.Sort.{Sort}
 use Rattle.tree_core.specs.Grammar.{kids}
 use Rattle.md_reader.specs.declared.types.Sym.{Sym}
@@ -14,7 +15,6 @@ use Rattle.lr_check_found.specs.Lists.{IsList}
 use Rattle.lr_check_found.specs.Found.{FoundView, IsPlaceAt, IsSettlingAt, SettlesAt, SumAt}
 use Rattle.lr_check_found.specs.Items.{HasOne, HasTwo, Fits, Made, leaf, one, two, made_by_reduction}
 use Rattle.lr_check_found.specs.Sound.{IsSoundSettling, IsFound}
-use Rattle.lr_check_found.proofs.Reading.{Some-same}
 use Rattle.lr_check_samples.specs.Fixed.{IsMadeBy}
 
 -- a sum settles
@@ -29,11 +29,11 @@ pub record AreSame (y z : Place) (s u : List Sym) (p h : ℕ) : Type 0 where
 
 pub same_settling : {f : FoundView} {i p h : ℕ} {y z : Place} {s u : List Sym} → SettlesAt f i y s p → SettlesAt f i z u h → AreSame y z s u p h
 same_settling {f = f} {p = p} {h = h} {y = y} {z = z} {s = s} {u = u} a b =
-    let same : a.entry ≡ b.entry = Some-same a.entry b.entry (sym a.there ∙ b.there) in
+    let same : a.entry ≡ b.entry = same_Some a.entry b.entry (sym a.there ∙ b.there) in
     record {
-      places = Some-same y z (sym a.place ∙ (ap (λ (e : Settling). slice_get f.places e.place) same ∙ b.place));
-      lists = Some-same s u (sym a.list ∙ (ap (λ (e : Settling). slice_get f.lists.all e.list) same ∙ b.list));
-      states = Some-same p h (sym a.behind ∙ (ap (λ (e : Settling). e.behind) same ∙ b.behind));
+      places = same_Some y z (sym a.place ∙ (ap (λ (e : Settling). slice_get f.places e.place) same ∙ b.place));
+      lists = same_Some s u (sym a.list ∙ (ap (λ (e : Settling). slice_get f.lists.all e.list) same ∙ b.list));
+      states = same_Some p h (sym a.behind ∙ (ap (λ (e : Settling). e.behind) same ∙ b.behind));
     }
 
 -- what is known of what settles, however it was made
@@ -45,8 +45,8 @@ pub record IsSettledAt (A : Automaton) (x : Place) (s : List Sym) (p : ℕ) : Ty
 pub settled_at : (A : Automaton) (f : FoundView) → IsFound A f → {i p : ℕ} {x : Place} {s : List Sym} → SettlesAt f i x s p → IsSettledAt A x s p
 settled_at A f found {i = i} {p = p} {x = x} {s = s} a =
     let k : IsSoundSettling A f i a.entry = found.settlings i a.entry a.there in
-    let place : k.place ≡ x = Some-same k.place x (sym k.there ∙ a.place) in
-    let list : k.list ≡ s = Some-same k.list s (sym k.symbols ∙ a.list) in
+    let place : k.place ≡ x = same_Some k.place x (sym k.there ∙ a.place) in
+    let list : k.list ≡ s = same_Some k.list s (sym k.symbols ∙ a.list) in
     record {
       settles = subst (λ (y : Place). sets.Settling A y.state y.token y.behind s) place (subst (sets.Settling A k.place.state k.place.token k.place.behind) list k.settles);
       is_place = (found.places a.entry.place x a.place).is_place;
@@ -65,9 +65,9 @@ pub record IsSettled (A : Automaton) (f : FoundView) (i : ℕ) (h : How) (x : Pl
 pub settled_so : (A : Automaton) (f : FoundView) → IsFound A f → {i p : ℕ} {h : How} {x : Place} {s : List Sym} → IsMadeBy f i h → SettlesAt f i x s p → IsSettled A f i h x s p
 settled_so A f found {i = i} {p = p} {h = h} {x = x} {s = s} m a =
     let k : IsSoundSettling A f i a.entry = found.settlings i a.entry a.there in
-    let place : k.place ≡ x = Some-same k.place x (sym k.there ∙ a.place) in
-    let list : k.list ≡ s = Some-same k.list s (sym k.symbols ∙ a.list) in
-    let by : a.entry.how ≡ h = ap (λ (e : Settling). e.how) (Some-same a.entry m.entry (sym a.there ∙ m.there)) ∙ m.how in
+    let place : k.place ≡ x = same_Some k.place x (sym k.there ∙ a.place) in
+    let list : k.list ≡ s = same_Some k.list s (sym k.symbols ∙ a.list) in
+    let by : a.entry.how ≡ h = ap (λ (e : Settling). e.how) (same_Some a.entry m.entry (sym a.there ∙ m.there)) ∙ m.how in
     record {
       settles = subst (λ (y : Place). sets.Settling A y.state y.token y.behind s) place (subst (sets.Settling A k.place.state k.place.token k.place.behind) list k.settles);
       is_place = (found.places a.entry.place x a.place).is_place;

@@ -2,6 +2,8 @@
 use Rattle.std.proofs.Common.{◌≡◌, ℕ, suc, ◌<◌, List, [], ◌∷◌, Option, Some, None, true, false, Contains, length, slice_get, refl, sym, ap, ◌∙◌, subst, arith}
 use Rattle.std.proofs.lemmas.Bool.{both_ways}
 use Rattle.std.proofs.lemmas.List.Elements.{Contains-append_right}
+use Rattle.std.proofs.lemmas.Option.{same_Some}
+use Rattle.gg_base.proofs.Facts.{some_none}
 use Rattle.md_reader.specs.declared.types.Rule.{Rule}
 use Rattle.md_reader.specs.declared.types.Sym.{Sym}
 use Rattle.md_reader.specs.Valid.{IsValid}
@@ -22,18 +24,12 @@ use Rattle.lr_check_parse.proofs.Listing.{is_by_lists}
 use Rattle.lr_check_samples.specs.Stops.{Moves, by_shift, by_rule, Comes, at_once, by_move, Turns, one_turn, more_turns, Blocks, Loops, EndsAt, ends_blocked, ends_turning, EndsTurning}
 use Rattle.lr_check_samples.specs.Claims.{StopsEnd}
 
-Some-same : {X : Type 0} (x y : X) → Some x ≡ Some y → x ≡ y
-Some-same x y e = cc
-
-some_none : {X : Type 0} (x : X) → Some x ≡ None → ⊥
-some_none x e = cc
-
 first_in : (x : List Sym) (xs : List (List Sym)) → Contains (x ∷ xs) x
 first_in x xs = (0, omega arith, refl)
 
 module _ (rules : List Rule) (stmt : ℕ) where
   rule_same : (n : ℕ) (r q : Rule) → slice_get rules n ≡ Some r → slice_get rules n ≡ Some q → r ≡ q
-  rule_same n r q e f = Some-same r q (sym e ∙ f)
+  rule_same n r q e f = same_Some r q (sym e ∙ f)
 
   none_more : (n : ℕ) (r q : Rule) → slice_get rules n ≡ Some r → slice_get rules n ≡ Some q → length r.restrictions ≡ 0 → 0 < length q.restrictions → ⊥
   none_more n r q e f z m = let l : length r.restrictions ≡ length q.restrictions = ap (λ (x : Rule). length x.restrictions) (rule_same n r q e f) in omega (arith, l, z, m)
@@ -63,8 +59,8 @@ module _ (rules : List Rule) (stmt : ℕ) where
       reduced v q ≡ reduced u r
   stacks_same ws s u v i j r q d c e f =
       let same : (Some i ≡ Some j) × (u ≡ v) = reduction_same ws s u v (Some i) (Some j) d c in
-      let number : i ≡ j = Some-same i j same.0 in
-      let rule : q ≡ r = Some-same q r (sym f ∙ (ap (slice_get rules) (sym number) ∙ e)) in
+      let number : i ≡ j = same_Some i j same.0 in
+      let rule : q ≡ r = same_Some q r (sym f ∙ (ap (slice_get rules) (sym number) ∙ e)) in
       (λ k. reduced (sym same.1 k) (rule k))
 
   -- a move that shifts nothing

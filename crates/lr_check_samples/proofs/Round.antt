@@ -1,5 +1,6 @@
 -- The parse of the tree round a place comes to the place, with a stack that answers no to all.
 use Rattle.std.proofs.Common.{◌≡◌, ℕ, zero, suc, List, [], ◌∷◌, ◌++◌, Some, Bool, false, refl, ap, sym, ◌∙◌, subst, append_assoc, append-nil}
+use Rattle.std.proofs.lemmas.Option.{same_Some}
 use Rattle.tree_core.specs.declared.token.Tok.{Tok}
 use Rattle.tree_core.specs.declared.token.Sort.{Sort}
 use Rattle.md_reader.specs.declared.types.Sym.{Sym}
@@ -17,7 +18,6 @@ use Rattle.lr_check_found.specs.declared.places.Origin.TheVariants as origin
 use Rattle.lr_check_found.specs.Found.{FoundView, IsPlaceAt, SettlesAt}
 use Rattle.lr_check_found.specs.Sound.{IsFound}
 use Rattle.lr_check_found.proofs.Deriving.{IsSum, sum_of}
-use Rattle.lr_check_found.proofs.Reading.{Some-same}
 use Rattle.lr_check_samples.specs.Quiet.{answer_at, AreAlike, bare, IsQuiet}
 use Rattle.lr_check_samples.specs.Fixed.{leaf, Fixed, BeginsWith, Context, at_root, at_only, at_first, at_second}
 use Rattle.lr_check_samples.proofs.Alike.{alike-trans, symbols-quiet, symbols-bare, RunsSo, runs_so}
@@ -155,7 +155,7 @@ module _ (t : TableView) (m : MeetsLaws t) (f : FoundView) (found : IsFound (aut
   reaches {n = n} (at_first {i = i} {y = y} {z = z} {before = before} {behind = behind} {us = us} is there kid there' begins c) x at =
       let g : BegunFirst (automaton_of t) x y = begun_first (begun_so (automaton_of t) f found n x (origin.First i) at is) i y refl there in
       let r : Reaches (automaton_of t) y before behind = reaches c y there in
-      below_first (automaton_of t) (table t m) x y before behind us r g (begins_so (behind ++ the_end) begins ∙ ap (λ (c : Place). Some c.behind) (Some-same z x (sym there' ∙ at)))
+      below_first (automaton_of t) (table t m) x y before behind us r g (begins_so (behind ++ the_end) begins ∙ ap (λ (c : Place). Some c.behind) (same_Some z x (sym there' ∙ at)))
   reaches {n = n} (at_second {i = i} {j = j} {p = p} {y = y} {z = z} {s = s} {before = before} {behind = behind} {ws = ws} {own = own} {ds = ds} is there at' kid c) x at =
       let g : BegunSecond (automaton_of t) f j x y = begun_second (begun_so (automaton_of t) f found n x (origin.Second i j) at is) i j y refl there in
       let r : Reaches (automaton_of t) y before behind = reaches c y there in

@@ -3,6 +3,8 @@ use Rattle.std.proofs.Common.{◌≡◌, ℕ, zero, suc, ◌-◌, ◌<◌, List,
 use Rattle.std.specs.Prelude.{◌==◌, if◌then◌else◌}
 use Rattle.std.proofs.lemmas.List.{drop-map}
 use Rattle.std.proofs.lemmas.Bool.{eqb-true, true≢false}
+use Rattle.std.proofs.lemmas.Option.{same_Some}
+use Rattle.gg_base.proofs.Facts.{some_none}
 use Rattle.tree_core.specs.declared.token.Tok.{Tok}
 use Rattle.tree_core.specs.declared.token.Tok.TheVariants as tok
 use Rattle.md_reader.specs.declared.types.Rule.{Rule}
@@ -40,12 +42,6 @@ token l = record { tok = l.tok; answers = l.answers }
 pub symbols-parts : (a : List Entry) → symbols (parts a) ≡ auto.symbols a
 symbols-parts [] = refl
 symbols-parts (h ∷ a) = ap (λ l. h.symbol ∷ l) (symbols-parts a)
-
-pub Some-same : {X : Type 0} (x y : X) → Some x ≡ Some y → x ≡ y
-Some-same x y e = cc
-
-pub some_none : {X : Type 0} (x : X) → Some x ≡ None → ⊥
-some_none x e = cc
 
 answer-first : (bs : List Bool) → answer bs ≡ first_answer bs
 answer-first [] = refl
@@ -131,7 +127,7 @@ module _ (rules : List Rule) where
     after = b;
     takes = t;
     nothing = λ u. absurd (some_none n u);
-    rule = λ m u. (r, (subst (λ x. slice_get rules x ≡ Some r) (Some-same n m u) e, picks_as n ns r a (record { taken = Some (reduce (production r)); stack = b }) e h));
+    rule = λ m u. (r, (subst (λ x. slice_get rules x ≡ Some r) (same_Some n m u) e, picks_as n ns r a (record { taken = Some (reduce (production r)); stack = b }) e h));
   }
 
   taken_later : (n : ℕ) (ns : List ℕ) (r : Rule) (a : List Entry) → slice_get rules n ≡ Some r → 0 < length r.right → 0 < length r.restrictions → (production r).asks ≡ true →

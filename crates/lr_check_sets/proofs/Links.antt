@@ -1,6 +1,7 @@
 -- The items over productions are the items over rules.
 use Rattle.std.proofs.Common.{◌≡◌, ℕ, zero, suc, ◌+◌, List, [], ◌∷◌, Option, Some, None, Contains, length, drop, map, slice_get, refl, sym, ap, ◌∙◌, subst, arith}
 use Rattle.std.specs.Option.{option_map}
+use Rattle.std.proofs.lemmas.Option.{same_Some, none-some}
 use Rattle.tree_core.specs.declared.token.Tok.TheVariants as tok
 use Rattle.md_reader.specs.declared.types.Rule.{Rule}
 use Rattle.md_reader.specs.declared.types.Sym.{Sym}
@@ -14,12 +15,6 @@ use Rattle.lr_check_sets.specs.Items as model
 use Rattle.lr_check_sets.specs.Items.{start_of}
 use Rattle.lr_check_sets.specs.Table.{production, productions}
 
-pub Some-same : {X : Type 0} (x y : X) → Some x ≡ Some y → x ≡ y
-Some-same x y e = cc
-
-pub none_some : {X : Type 0} (x : X) → None ≡ Some x → ⊥
-none_some x e = cc
-
 nil_cons : {X : Type 0} (x : X) (xs : List X) → [] ≡ x ∷ xs → ⊥
 nil_cons x xs e = cc
 
@@ -30,9 +25,9 @@ drop_head [] (suc k) x after e = absurd (nil_cons x after e)
 drop_head (y ∷ w) (suc k) x after e = drop_head w k x after e
 
 pub slice_head : {X : Type 0} (w : List X) (k : ℕ) (x : X) → slice_get w k ≡ Some x → drop k w ≡ x ∷ drop (suc k) w
-slice_head [] zero x e = absurd (none_some x e)
-slice_head (y ∷ w) zero x e = ap (λ z. z ∷ w) (Some-same y x e)
-slice_head [] (suc k) x e = absurd (none_some x e)
+slice_head [] zero x e = absurd (none-some x e)
+slice_head (y ∷ w) zero x e = ap (λ z. z ∷ w) (same_Some y x e)
+slice_head [] (suc k) x e = absurd (none-some x e)
 slice_head (y ∷ w) (suc k) x e = slice_head w k x e
 
 pub drop_whole : {X : Type 0} (w : List X) → drop (length w) w ≡ []
@@ -68,14 +63,14 @@ module _ (rules : List Rule) (stmt : ℕ) where
 
   pub is_of : {i : Item} {r : Production} {rest : List Sym} (n : ℕ) (q : Rule) → Is rules stmt i r rest → i.rule ≡ Some n → slice_get rules n ≡ Some q →
       (r ≡ production q) × (rest ≡ drop i.dot q.right)
-  is_of n q (is_start e) f there = absurd (none_some n f)
+  is_of n q (is_start e) f there = absurd (none-some n f)
   is_of n q (is_rule {n = m} {dot = dot} p here e) f there =
-      let same : p ≡ q = Some-same p q (sym here ∙ (ap (slice_get rules) (Some-same m n f) ∙ there)) in
+      let same : p ≡ q = same_Some p q (sym here ∙ (ap (slice_get rules) (same_Some m n f) ∙ there)) in
       (ap production same, sym e ∙ ap (λ (x : Rule). drop dot x.right) same)
 
   left_is : (n c : ℕ) (o : Option Rule) → option_map (λ (r : Rule). r.left) o ≡ Some c → (r : Rule) × ((o ≡ Some r) × (r.left ≡ c))
-  left_is n c None e = absurd (none_some c e)
-  left_is n c (Some r) e = (r, (refl, Some-same r.left c e))
+  left_is n c None e = absurd (none-some c e)
+  left_is n c (Some r) e = (r, (refl, same_Some r.left c e))
 
   pub in_productions : (n : ℕ) (r : Rule) → slice_get rules n ≡ Some r → Contains (productions rules) (production r)
   in_productions n r e = In-Contains (production r) (map production rules) (In-map production r rules (slice_get-In r rules n e))

@@ -2,6 +2,7 @@
 use Rattle.std.proofs.Common.{◌≡◌, ℕ, zero, suc, ◌+◌, List, [], ◌∷◌, ◌++◌, Option, Some, None, Bool, true, length, reverse, slice_get, refl, sym, ap, ◌∙◌, subst, arith, append_assoc, append-nil}
 use Rattle.std.specs.List.{AllByRecursion}
 use Rattle.std.proofs.lemmas.List.{reverse-append}
+use Rattle.std.proofs.lemmas.Option.{same_Some, none-some}
 use Rattle.tree_core.specs.declared.token.Sort.{Sort}
 use Rattle.md_reader.specs.declared.types.Class.{Class}
 use Rattle.md_reader.specs.declared.types.Rule.{Rule}
@@ -10,7 +11,6 @@ use Rattle.md_reader.specs.declared.types.Sym.TheVariants as grammar_symbol
 use Rattle.md_reader.specs.Patterns.{kids_of, Trees, no_tree, node, onto, sorted_test}
 use Rattle.md_reader.specs.Valid.{IsRule}
 use Rattle.lr_check_sets.specs.Shapes.{arity, wanted_behind, wanted, IsTree}
-use Rattle.lr_check_sets.proofs.Links.{Some-same, none_some}
 
 abbrev pushes : List Sym → List Sym → List Sym
 pushes [] s = s
@@ -51,7 +51,7 @@ tree_of f w e =
     subst (λ (l : List Sym). wanted 1 l ≡ Some 0) (stack ∙ ap reverse e) b.left
 
 pub rule_at : (classes : List Class) (rs : List Rule) (n : ℕ) (r : Rule) → AllByRecursion (IsRule classes) rs → slice_get rs n ≡ Some r → IsRule classes r
-rule_at classes [] zero r h e = absurd (none_some r e)
-rule_at classes [] (suc n) r h e = absurd (none_some r e)
-rule_at classes (q ∷ rs) zero r h e = subst (IsRule classes) (Some-same q r e) h.0
+rule_at classes [] zero r h e = absurd (none-some r e)
+rule_at classes [] (suc n) r h e = absurd (none-some r e)
+rule_at classes (q ∷ rs) zero r h e = subst (IsRule classes) (same_Some q r e) h.0
 rule_at classes (q ∷ rs) (suc n) r h e = rule_at classes rs n r h.1 e

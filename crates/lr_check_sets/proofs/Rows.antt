@@ -6,7 +6,7 @@ use Rattle.std.specs.List.{range_with_len}
 use Rattle.std.specs.Option.{option_map}
 use Rattle.std.proofs.lemmas.List.FromFn.{get_or-map-range_with_len, length-map-range_with_len}
 use Rattle.std.proofs.lemmas.List.{get_or_past}
-use Rattle.std.proofs.lemmas.Option.{slice_get-map, slice_get_within, slice_get-get_or, get_or_from_slice_get}
+use Rattle.std.proofs.lemmas.Option.{slice_get-map, slice_get_within, slice_get-get_or, get_or_from_slice_get, same_Some, none-some}
 use Rattle.std.proofs.lemmas.Bool.{cases_lt}
 use Rattle.tree_core.specs.declared.token.Tok.{Tok}
 use Rattle.tree_core.specs.declared.token.Tok.TheVariants as tok
@@ -38,7 +38,7 @@ use Rattle.lr_check_sets.specs.Automaton.{Production, Candidate, shift, reduce, 
 use Rattle.lr_check_sets.specs.Items as model
 use Rattle.lr_check_sets.specs.Items.{AreCandidates, the_shift, the_reductions, AreReductions, IsLongestFirst, IsAutomatonOf}
 use Rattle.lr_check_sets.specs.Table.{production, productions, reduced_by, candidates_of, candidates_at, automaton_of}
-use Rattle.lr_check_sets.proofs.Links.{Some-same, none_some, drop_whole, Is, is_next, is_rest, is_of, in_productions, To, to, From, from}
+use Rattle.lr_check_sets.proofs.Links.{drop_whole, Is, is_next, is_rest, is_of, in_productions, To, to, From, from}
 
 -- the productions of rules by number
 abbrev pub rule_of : Option Rule → List Production
@@ -68,15 +68,15 @@ record At (rules : List Rule) (ns : List ℕ) (i : ℕ) (r : Production) : Type 
 
 at_place : (rules : List Rule) (ns : List ℕ) → ((n : ℕ) → In n ns → (r : Rule) × (slice_get rules n ≡ Some r)) → (i : ℕ) (r : Production) →
     slice_get (rules_of rules ns) i ≡ Some r → At rules ns i r
-at_place rules [] all zero r e = absurd (none_some r e)
-at_place rules [] all (suc i) r e = absurd (none_some r e)
+at_place rules [] all zero r e = absurd (none-some r e)
+at_place rules [] all (suc i) r e = absurd (none-some r e)
 at_place rules (n ∷ ns) all i r e = by i (all n (inl refl)) (λ j h. at_place rules ns (λ m k. all m (inr k)) j r h) e
   where
     by : (i : ℕ) → (q : Rule) × (slice_get rules n ≡ Some q) → ((j : ℕ) → slice_get (rules_of rules ns) j ≡ Some r → At rules ns j r) →
         slice_get (rule_of (slice_get rules n) ++ rules_of rules ns) i ≡ Some r → At rules (n ∷ ns) i r
     by zero q ih h =
         let here : slice_get (rule_of (Some q.0) ++ rules_of rules ns) 0 ≡ Some r = sym (ap (λ (o : Option Rule). slice_get (rule_of o ++ rules_of rules ns) 0) q.1) ∙ h in
-        record { number = n; rule = q.0; at = refl; there = q.1; is = sym (Some-same (production q.0) r here) }
+        record { number = n; rule = q.0; at = refl; there = q.1; is = sym (same_Some (production q.0) r here) }
     by (suc j) q ih h =
         let here : slice_get (rule_of (Some q.0) ++ rules_of rules ns) (suc j) ≡ Some r = sym (ap (λ (o : Option Rule). slice_get (rule_of o ++ rules_of rules ns) (suc j)) q.1) ∙ h in
         let a = ih j here in
@@ -122,7 +122,7 @@ module _ (rules : List Rule) (stmt classes : ℕ) (g : IsGrammar rules stmt clas
       get_or_past (map F (range_with_len 0 (40 + classes))) s None (omega (arith, l, le))
 
   target_kernel : (k : List Item) (p : ℕ) → target_of (found rules stmt classes (length rows)) k ≡ Some p → (0 < length k) × (slice_get (found rules stmt classes (length rows)) p ≡ Some k)
-  target_kernel [] p e = absurd (none_some p e)
+  target_kernel [] p e = absurd (none-some p e)
   target_kernel (i ∷ k) p e = (omega arith, position_is (found rules stmt classes (length rows)) (i ∷ k) p e)
 
   -- a state over a symbol, from the state of a stack
@@ -135,7 +135,7 @@ module _ (rules : List Rule) (stmt classes : ℕ) (g : IsGrammar rules stmt clas
       (sym (row_at q k at)) ∙ e in
       ⊎_elim
       (λ lt. target_kernel (kernel_at rules stmt classes (X ∷ a)) p (sym (target_is k (symbol_number X) lt) ∙ f))
-      (λ ge. absurd (none_some p (sym (target_past k (symbol_number X) ge) ∙ f)))
+      (λ ge. absurd (none-some p (sym (target_past k (symbol_number X) ge) ∙ f)))
       (cases_lt (symbol_number X) (40 + classes))
 
   -- where an item stands before the symbol, the state leads on
@@ -180,7 +180,7 @@ module _ (rules : List Rule) (stmt classes : ℕ) (g : IsGrammar rules stmt clas
   complete_item {a = a} n r m e =
       let f = from rules stmt m.complete in
       let o : (f.rule ≡ production m.rule) × (f.rest ≡ drop (length m.rule.right) m.rule.right) = is_of rules stmt n m.rule f.is refl m.there in
-      let same : m.rule ≡ r = Some-same m.rule r (sym m.there ∙ e) in
+      let same : m.rule ≡ r = same_Some m.rule r (sym m.there ∙ e) in
       let here : model.Item (productions rules) stmt a (production m.rule) [] =
       subst (model.Item (productions rules) stmt a (production m.rule)) (o.1 ∙ drop_whole m.rule.right) (subst (λ (p : Production). model.Item (productions rules) stmt a p f.rest) o.0 f.item) in
       (subst (λ (q : Rule). model.Item (productions rules) stmt a (production q) []) same here, in_productions rules stmt n r e)
@@ -211,9 +211,9 @@ module _ (rules : List Rule) (stmt classes : ℕ) (g : IsGrammar rules stmt clas
 -- a walk from the start is a stack that leads to the state
 module _ (t : TableView) where
   pub leads : (a : List Sym) (p : ℕ) → walk (automaton_of t) 0 a ≡ Some p → Leads t a p
-  leads [] p e = subst (Leads t []) (Some-same 0 p e) nowhere
+  leads [] p e = subst (Leads t []) (same_Some 0 p e) nowhere
   leads (X ∷ a) p e = by (λ q f. leads a q f) (walk (automaton_of t) 0 a) refl e
     where
       by : ((q : ℕ) → walk (automaton_of t) 0 a ≡ Some q → Leads t a q) → (o : Option ℕ) → walk (automaton_of t) 0 a ≡ o → go_from (automaton_of t) o X ≡ Some p → Leads t (X ∷ a) p
-      by ih None f h = absurd (none_some p h)
+      by ih None f h = absurd (none-some p h)
       by ih (Some q) f h = further (ih q f) h

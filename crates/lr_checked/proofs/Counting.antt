@@ -1,6 +1,7 @@
 -- The parse of a typed statement makes no more moves than its tokens times the classes and two.
-use Rattle.std.proofs.Common.{◌≡◌, ℕ, suc, ◌-◌, ◌≤◌, List, [], ◌∷◌, Option, Some, None, length, map, drop, slice_get, refl, sym, ap, ◌∙◌, subst, inl, inr, arith}
+use Rattle.std.proofs.Common.{◌≡◌, ℕ, suc, ◌-◌, ◌≤◌, List, [], ◌∷◌, Option, Some, length, map, drop, slice_get, refl, sym, ap, ◌∙◌, subst, inl, inr, arith}
 use Rattle.std.proofs.lemmas.List.{drop-map}
+use Rattle.std.proofs.lemmas.Option.{same_Some, none-some}
 use Rattle.tree_core.specs.declared.token.Tok.{Tok}
 use Rattle.tree_core.specs.declared.token.Tok.TheVariants as tok
 use Rattle.md_reader.specs.declared.types.Rule.{Rule}
@@ -31,15 +32,9 @@ use Rattle.lr_check.proofs.Only.{reductions_same, not_shifted}
 use Rattle.lr_check_law.proofs.Accepting.{toks, symbols-used, coming-is, is_first, asks_more, head_same, tail_same}
 use Rattle.lr_checked.specs.Accepted.{moves}
 
-Some-same : {X : Type 0} (x y : X) → Some x ≡ Some y → x ≡ y
-Some-same x y e = cc
-
-none_some : {X : Type 0} (x : X) → None ≡ Some x → ⊥
-none_some x e = cc
-
 module _ (rules : List Rule) where
   same_rule : (m n : ℕ) (q r : Rule) → slice_get rules m ≡ Some q → Some m ≡ Some n → slice_get rules n ≡ Some r → r ≡ q
-  same_rule m n q r at e there = Some-same r q (sym there ∙ (ap (slice_get rules) (sym (Some-same m n e)) ∙ at))
+  same_rule m n q r at e there = same_Some r q (sym there ∙ (ap (slice_get rules) (sym (same_Some m n e)) ∙ at))
 
   free_first : (m n : ℕ) (ns : List ℕ) (q r : Rule) → slice_get rules m ≡ Some q → Some m ≡ Some n → slice_get rules n ≡ Some r →
       Free (map reduce (rules_of rules (m ∷ ns))) (reduce (production r))
@@ -50,7 +45,7 @@ module _ (rules : List Rule) where
   -- the rule that is taken is a free candidate
   takes_free : {s u : List Part} {ns : List ℕ} {o : Option ℕ} → Takes rules s ns o u → (n : ℕ) (r : Rule) → o ≡ Some n → slice_get rules n ≡ Some r →
       Free (map reduce (rules_of rules ns)) (reduce (production r))
-  takes_free nothing n r e there = absurd (none_some n e)
+  takes_free nothing n r e there = absurd (none-some n e)
   takes_free (unrestricted {n = m} {ns = ns} q at z) n r e there = free_first m n ns q r at e there
   takes_free (answered_yes {n = m} {ns = ns} q at lt said) n r e there = free_first m n ns q r at e there
   takes_free (answered_no {n = m} {ns = ns} q at lt said more) n r e there =

@@ -5,7 +5,7 @@ use Rattle.std.specs.Prelude.{◌==◌}
 use Rattle.std.specs.Option.{option_map, option_map_or}
 use Rattle.std.proofs.lemmas.Bool.{eqb-true, eq-eqb, cases_Bool, cases_lt}
 use Rattle.std.proofs.lemmas.List.{get_or-replicate, get_or_past, length-replicate}
-use Rattle.std.proofs.lemmas.Option.{slice_get_within}
+use Rattle.std.proofs.lemmas.Option.{slice_get_within, same_Some}
 use Rattle.md_reader.specs.declared.types.Rule.{Rule}
 use Rattle.md_reader.specs.declared.types.Sym.{Sym}
 use Rattle.md_reader.specs.declared.types.Sym.TheVariants as grammar_symbol
@@ -21,9 +21,6 @@ use Rattle.lr_tables.proofs.Members.{In, In-left, In-right, In-cases, In-map, ma
 use Rattle.lr_tables.proofs.Marking.{Marked, marked_set, marked_kept, marked_here, rounds_sound, rounds_closed, rounds_kept, length-rounds}
 use Rattle.lr_tables.proofs.Symbols_apart.{symbol_number_same}
 
-Some-same : {X : Type 0} (x y : X) → Some x ≡ Some y → x ≡ y
-Some-same x y e = cc
-
 -- nothing is marked at first
 pub none_marked : (n c : ℕ) → Marked (replicate n false) c → ⊥
 none_marked n c h =
@@ -37,7 +34,7 @@ pub edge_is : (from : ℕ) (o : Option Sym) (e : Edge) → edge_to from o ≡ So
 edge_is from None e h = cc
 edge_is from (Some (grammar_symbol.Tok t)) e h = cc
 edge_is from (Some (grammar_symbol.Class c)) e h =
-    let same : record { from = from; to = c } ≡ e = Some-same _ _ h in
+    let same : record { from = from; to = c } ≡ e = same_Some _ _ h in
     (sym (ap (λ (x : Edge). x.from) same), ap (λ (x : Edge). Some (grammar_symbol.Class x.to)) same)
 
 module _ (rules : List Rule) (stmt classes : ℕ) (g : IsGrammar rules stmt classes) where
@@ -113,7 +110,7 @@ module _ (rules : List Rule) (stmt classes : ℕ) (g : IsGrammar rules stmt clas
   opened_there [] m k zero r e h = cc
   opened_there [] m k (suc n) r e h = cc
   opened_there (q ∷ rs) m k zero r e h =
-      let same : q ≡ r = Some-same q r e in
+      let same : q ≡ r = same_Some q r e in
       by (get_or m q.left false) (ap (λ (x : Rule). get_or m x.left false) same ∙ h)
     where
       by : (b : Bool) → b ≡ true → In (fresh (k + zero)) (cond b (fresh k ∷ opened_from (k + 1) rs m) (opened_from (k + 1) rs m))
@@ -178,7 +175,7 @@ module _ (rules : List Rule) (stmt classes : ℕ) (g : IsGrammar rules stmt clas
       by None f u = cc
       by (Some r) f u = In-right (fresh n) k (opened_from 0 rules (open_classes rules stmt classes (chains rules) k))
           (subst (λ x. In (fresh x) (opened_from 0 rules (open_classes rules stmt classes (chains rules) k))) (let z : 0 + n ≡ n = omega arith in z)
-          (opened_there rules (open_classes rules stmt classes (chains rules) k) 0 n r f (subst (Marked (open_classes rules stmt classes (chains rules) k)) (sym (Some-same r.left c u)) h)))
+          (opened_there rules (open_classes rules stmt classes (chains rules) k) 0 n r f (subst (Marked (open_classes rules stmt classes (chains rules) k)) (sym (same_Some r.left c u)) h)))
 
   pub kernel_there : (k : List Item) (i : Item) → In i k → In i (item_set rules stmt classes (chains rules) k)
   unfolding item_set

@@ -4,7 +4,7 @@ use Rattle.std.proofs.Common.{replicate, refl, sym, ap, ◌∙◌, subst, inl, i
 use Rattle.std.specs.Prelude.{◌==◌}
 use Rattle.std.proofs.lemmas.Bool.{eqb-true, eq-eqb, cases_Bool}
 use Rattle.std.proofs.lemmas.List.{length-replicate}
-use Rattle.std.proofs.lemmas.Option.{slice_get_within}
+use Rattle.std.proofs.lemmas.Option.{slice_get_within, same_Some}
 use Rattle.tree_core.specs.declared.token.Tok.{Tok}
 use Rattle.tree_core.specs.declared.token.Tok.TheVariants as tok
 use Rattle.md_reader.specs.declared.types.Rule.{Rule}
@@ -22,14 +22,11 @@ use Rattle.lr_tables.proofs.Marking.{Marked, marked_set, marked_kept, marked_her
 use Rattle.lr_tables.proofs.Symbols_apart.{number_same}
 use Rattle.lr_tables.proofs.Closing.{none_marked, edge_is}
 
-Some-same : {X : Type 0} (x y : X) → Some x ≡ Some y → x ≡ y
-Some-same x y e = cc
-
 from_is : (to : ℕ) (o : Option Sym) (e : Edge) → code.edge_from to o ≡ Some e → (e.to ≡ to) × (o ≡ Some (grammar_symbol.Class e.from))
 from_is to None e h = cc
 from_is to (Some (grammar_symbol.Tok t)) e h = cc
 from_is to (Some (grammar_symbol.Class c)) e h =
-    let same : record { from = c; to = to } ≡ e = Some-same _ _ h in
+    let same : record { from = c; to = to } ≡ e = same_Some _ _ h in
     (sym (ap (λ (x : Edge). x.to) same), ap (λ (x : Edge). Some (grammar_symbol.Class x.from)) same)
 
 token_is : (k : Tok) (o : Option Sym) → code.is_token (number k) o ≡ true → o ≡ Some (grammar_symbol.Tok k)
@@ -240,8 +237,8 @@ module _ (t : ℕ) (firsts : List Bool) where
   within_there (Z ∷ w) None m c j X e f h lt =
       within_there w (Some Z) (code.marked_if (code.may_begin t firsts Z) None m) c j X e f h (subst (λ n. c < n) (sym (length-mark (code.may_begin t firsts Z) None m)) lt)
   within_there (Z ∷ w) (Some Y) m c zero X e f h lt =
-      let y : Y ≡ grammar_symbol.Class c = Some-same Y (grammar_symbol.Class c) e in
-      let z : Z ≡ X = Some-same Z X f in
+      let y : Y ≡ grammar_symbol.Class c = same_Some Y (grammar_symbol.Class c) e in
+      let z : Z ≡ X = same_Some Z X f in
       within_kept w (Some Z) (code.marked_if (code.may_begin t firsts Z) (Some Y) m) c
       (subst (λ (b : Bool). Marked (code.marked_if b (Some Y) m) c) (sym (ap (code.may_begin t firsts) z ∙ h))
       (subst (λ (x : Sym). Marked (code.marked_if true (Some x) m) c) (sym y) (marked_here m c lt)))

@@ -1,12 +1,12 @@
 -- The numbered kernels are those that stacks lead to, each once.
 use Rattle.std.proofs.Common.{◌≡◌, ◌⊎◌, ℕ, zero, suc, ◌+◌, ◌≤◌, ◌<◌, List, [], ◌∷◌, ◌++◌, Option, Some, None, Bool, true, false, cond, length, get_or, map, filter, slice_get, refl}
 use Rattle.std.proofs.Common.{sym, ap, ◌∙◌, subst, inl, inr, ⊎_elim, arith, true≢false, length-append, append_assoc, append-nil}
-use Rattle.std.specs.Prelude.{◌==◌, ◌&&◌, ◌||◌, not, nat_lt, position}
+use Rattle.std.specs.Prelude.{◌==◌, ◌&&◌, not, nat_lt, position}
 use Rattle.std.specs.List.{list_any, prefix_len, position_or_len}
 use Rattle.std.specs.Option.{option_eq, option_map_or}
 use Rattle.std.specs.Cmp.Lexicographic.{pointwise, pointwise_decides}
-use Rattle.std.proofs.lemmas.Bool.{eqb-true, eq-eqb, cases_Bool, cases_lt, lt-ltb, ltb-true, and_parts, and_from, not_from_true, not-false}
-use Rattle.std.proofs.lemmas.Option.{slice_get_within, slice_get_past, slice_get-get_or, get_or_from_slice_get}
+use Rattle.std.proofs.lemmas.Bool.{eqb-true, eq-eqb, cases_Bool, cases_lt, lt-ltb, ltb-true, and_parts, and_from, not_from_true, not-false, or_left, or_right, or_cases}
+use Rattle.std.proofs.lemmas.Option.{slice_get_within, slice_get_past, slice_get-get_or, get_or_from_slice_get, same_Some, none-some}
 use Rattle.std.proofs.lemmas.List.{get_or_append_left}
 use Rattle.md_reader.specs.declared.types.Rule.{Rule}
 use Rattle.md_reader.specs.declared.types.Sym.{Sym}
@@ -21,12 +21,6 @@ use Rattle.lr_tables.specs.Numbering.{same_item, same_kernel, entered, row_enter
 use Rattle.lr_tables.proofs.Members.{In, In-left, In-right, In-cases, In-slice_get, slice_get-In, map-In, filter-In}
 use Rattle.lr_tables.proofs.Symbols_apart.{number-below}
 use Rattle.lr_tables.proofs.Closing.{next_within, set_empty}
-
-Some-same : {X : Type 0} (x y : X) → Some x ≡ Some y → x ≡ y
-Some-same x y e = cc
-
-none_some : {X : Type 0} (x : X) → None ≡ Some x → ⊥
-none_some x e = cc
 
 -- the test of items and kernels
 option_true : (o p : Option ℕ) → option_eq ◌==◌ o p ≡ true → o ≡ p
@@ -55,26 +49,14 @@ item_decides i j = (item_true i j, λ e. subst (λ (x : Item). same_item i x ≡
 pub kernel_decides : (k l : List Item) → (same_kernel k l ≡ true → k ≡ l) × (k ≡ l → same_kernel k l ≡ true)
 kernel_decides k l = pointwise_decides item_decides k l
 
-or_first : (b c : Bool) → b ≡ true → (b || c) ≡ true
-or_first true c e = refl
-or_first false c e = cc
-
-or_second : (b c : Bool) → c ≡ true → (b || c) ≡ true
-or_second true c e = refl
-or_second false c e = e
-
-or_cases : (b c : Bool) → (b || c) ≡ true → (b ≡ true) ⊎ (c ≡ true)
-or_cases true c e = inl refl
-or_cases false c e = inr e
-
 any_In : (k : List Item) (ks : List (List Item)) → list_any (same_kernel k) ks ≡ true → In k ks
 any_In k [] e = cc
 any_In k (l ∷ ks) e = ⊎_elim (λ a. inl (sym ((kernel_decides k l).0 a))) (λ a. inr (any_In k ks a)) (or_cases (same_kernel k l) (list_any (same_kernel k) ks) e)
 
 In_any : (k : List Item) (ks : List (List Item)) → In k ks → list_any (same_kernel k) ks ≡ true
 In_any k [] h = absurd h
-In_any k (l ∷ ks) h = ⊎_elim (λ e. or_first (same_kernel k l) (list_any (same_kernel k) ks) ((kernel_decides k l).1 (sym e)))
-    (λ a. or_second (same_kernel k l) (list_any (same_kernel k) ks) (In_any k ks a)) h
+In_any k (l ∷ ks) h = ⊎_elim (λ e. or_left (same_kernel k l) (list_any (same_kernel k) ks) ((kernel_decides k l).1 (sym e)))
+    (λ a. or_right (same_kernel k l) (list_any (same_kernel k) ks) (In_any k ks a)) h
 
 -- one list begins with another
 pub record Prefix (ks ls : List (List Item)) : Type 0 where
@@ -171,8 +153,8 @@ position_is ks k q e = by (nat_lt (position_or_len (same_kernel k) ks) (length k
     by true f h =
         let a : (l : List Item) × (slice_get ks (position_or_len (same_kernel k) ks) ≡ Some l)
         × (same_kernel k l ≡ true) = passes_at (same_kernel k) ks (ltb-true (position_or_len (same_kernel k) ks) (length ks) f) in
-        ap (slice_get ks) (sym (Some-same (position_or_len (same_kernel k) ks) q h)) ∙ (a.1 ∙ ap Some (sym ((kernel_decides k a.0).0 a.2)))
-    by false f h = absurd (none_some q h)
+        ap (slice_get ks) (sym (same_Some (position_or_len (same_kernel k) ks) q h)) ∙ (a.1 ∙ ap Some (sym ((kernel_decides k a.0).0 a.2)))
+    by false f h = absurd (none-some q h)
 
 -- the first item of a list that is not empty
 pub head_in : {X : Type 0} (l : List X) → 0 < length l → (x : X) × In x l

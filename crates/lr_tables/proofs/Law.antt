@@ -6,7 +6,7 @@ use Rattle.std.specs.List.{filter_map, cons_option, range_with_len}
 use Rattle.std.specs.Option.{option_map, option_and_then}
 use Rattle.std.proofs.lemmas.List.FromFn.{get_or-map-range_with_len, length-map-range_with_len}
 use Rattle.std.proofs.lemmas.List.{get_or_past, length-map}
-use Rattle.std.proofs.lemmas.Option.{slice_get-map, slice_get_within}
+use Rattle.std.proofs.lemmas.Option.{slice_get-map, slice_get_within, same_Some, none-some}
 use Rattle.std.proofs.lemmas.Bool.{cases_lt, eqb-true, eqb-false, eq-eqb, and_parts, and_from}
 use Rattle.tree_core.specs.declared.token.Tok.{Tok}
 use Rattle.tree_core.specs.declared.token.Tok.TheVariants as tok
@@ -39,12 +39,6 @@ use Rattle.lr_tables.proofs.Order.{RuleBefore, Before, Each, Each-In, Sorted, ke
 use Rattle.lr_tables.proofs.Found.{Prefix, prefix_get, found_prefix, found_complete, position_there, position_is, head_in, in_some, moved_symbol, symbol_within}
 use Rattle.lr_tables.proofs.Loops.{target_some}
 
-Some-same : {X : Type 0} (x y : X) → Some x ≡ Some y → x ≡ y
-Some-same x y e = cc
-
-none_some : {X : Type 0} (x : X) → None ≡ Some x → ⊥
-none_some x e = cc
-
 -- a reduction's rule
 record Reduces (rules : List Rule) (follow : List Bool) (i : Item) (n : ℕ) : Type 0 where
   rule : Rule
@@ -59,21 +53,21 @@ reduction_is rules follow i n e = by i.rule refl e
     test : (r : Rule) (m : ℕ) (b : Bool) → ((i.dot == length r.right) && get_or follow r.left false) ≡ b → cond b (Some m) None ≡ Some n
         → ((i.dot == length r.right) && get_or follow r.left false) ≡ true
     test r m true f h = f
-    test r m false f h = absurd (none_some n h)
+    test r m false f h = absurd (none-some n h)
 
     number_is : (m : ℕ) (b : Bool) → cond b (Some m) None ≡ Some n → m ≡ n
-    number_is m true h = Some-same m n h
-    number_is m false h = absurd (none_some n h)
+    number_is m true h = same_Some m n h
+    number_is m false h = absurd (none-some n h)
 
     at : (m : ℕ) → i.rule ≡ Some m → (o : Option Rule) → slice_get rules m ≡ o → reduction_at follow m i.dot o ≡ Some n → Reduces rules follow i n
-    at m f None g h = absurd (none_some n h)
+    at m f None g h = absurd (none-some n h)
     at m f (Some r) g h =
         let t = and_parts (i.dot == length r.right) (get_or follow r.left false) (test r m ((i.dot == length r.right) && get_or follow r.left false) refl h) in
         let same : m ≡ n = number_is m ((i.dot == length r.right) && get_or follow r.left false) h in
         record { rule = r; there = subst (λ x. slice_get rules x ≡ Some r) same g; is = f ∙ ap Some same; complete = eqb-true i.dot (length r.right) t.0; behind = t.1 }
 
     by : (o : Option ℕ) → i.rule ≡ o → option_and_then (λ (m : ℕ). reduction_at follow m i.dot (slice_get rules m)) o ≡ Some n → Reduces rules follow i n
-    by None f h = absurd (none_some n h)
+    by None f h = absurd (none-some n h)
     by (Some m) f h = at m f (slice_get rules m) refl h
 
 reduction_there : (rules : List Rule) (follow : List Bool) (n : ℕ) (r : Rule) → slice_get rules n ≡ Some r → Marked follow r.left
@@ -174,7 +168,7 @@ module _ (rules : List Rule) (stmt classes : ℕ) (g : IsGrammar rules stmt clas
       get_or_past (map F (range_with_len 0 (40 + classes))) s None (omega (arith, l, le))
 
   target_kernel : (k : List Item) (p : ℕ) → target_of (found rules stmt classes (length rows)) k ≡ Some p → (0 < length k) × (slice_get (found rules stmt classes (length rows)) p ≡ Some k)
-  target_kernel [] p e = absurd (none_some p e)
+  target_kernel [] p e = absurd (none-some p e)
   target_kernel (i ∷ k) p e = (omega arith, position_is (found rules stmt classes (length rows)) (i ∷ k) p e)
 
   -- a state over a symbol, from the state of a stack
@@ -187,7 +181,7 @@ module _ (rules : List Rule) (stmt classes : ℕ) (g : IsGrammar rules stmt clas
       ≡ Some p = ap (λ (o : Option RowView). target_in o (symbol_number X)) (sym (row_at q k at)) ∙ e in
       ⊎_elim
       (λ lt. target_kernel (kernel_at rules stmt classes (X ∷ a)) p (sym (target_is k (symbol_number X) lt) ∙ f))
-      (λ ge. absurd (none_some p (sym (target_past k (symbol_number X) ge) ∙ f)))
+      (λ ge. absurd (none-some p (sym (target_past k (symbol_number X) ge) ∙ f)))
       (cases_lt (symbol_number X) (40 + classes))
 
   first_state : slice_get (found rules stmt classes (length rows)) 0 ≡ Some (start ∷ [])
@@ -230,7 +224,7 @@ module _ (rules : List Rule) (stmt classes : ℕ) (g : IsGrammar rules stmt clas
     where
       by : (o : Option ℕ) → target_at (record { content = content; rows = rows }) q (grammar_symbol.Class c) ≡ o → Goes rules stmt (record { content = content; rows = rows }) a c o
       by None e = λ s. let p : (n : ℕ) × (target_at (record { content = content; rows = rows }) q (grammar_symbol.Class c) ≡ Some n) = leads_on a q (grammar_symbol.Class c) l s in
-          none_some p.0 (sym e ∙ p.1)
+          none-some p.0 (sym e ∙ p.1)
       by (Some p) e = (stands_from a q p (grammar_symbol.Class c) l e, further l e)
 
   -- the cell of a kernel's row at a token
@@ -307,5 +301,5 @@ module _ (rules : List Rule) (stmt classes : ℕ) (g : IsGrammar rules stmt clas
           → Candidates rules stmt (record { content = content; rows = rows }) a t (cell (number t) o (reductions rules (follows rules stmt classes (number t)) (kernel_at rules stmt classes a)))
       by None e = reduces (rules_of rules (follows rules stmt classes (number t)) (kernel_at rules stmt classes a))
           (λ s. let p : (n : ℕ) × (target_at (record { content = content; rows = rows }) q (grammar_symbol.Tok t) ≡ Some n) = leads_on a q (grammar_symbol.Tok t) l s in
-          none_some p.0 (sym e ∙ p.1)) (are_reductions a t) (reductions_are rules (follows rules stmt classes (number t)) (kernel_at rules stmt classes a))
+          none-some p.0 (sym e ∙ p.1)) (are_reductions a t) (reductions_are rules (follows rules stmt classes (number t)) (kernel_at rules stmt classes a))
       by (Some p) e = shift_case p e (number t == 39) refl

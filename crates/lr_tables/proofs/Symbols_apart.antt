@@ -1,5 +1,6 @@
 -- No two symbols have one number.
 use Rattle.std.proofs.Common.{◌≡◌, ◌⊎◌, ℕ, ◌+◌, ◌<◌, List, [], ◌∷◌, Option, Some, slice_get, refl, sym, ap, ◌∙◌, arith}
+use Rattle.std.proofs.lemmas.Option.{same_Some}
 use Rattle.tree_core.specs.declared.token.Tok.{Tok}
 use Rattle.tree_core.specs.declared.token.Tok.TheVariants as tok
 use Rattle.md_reader.specs.declared.types.Sym.{Sym}
@@ -97,11 +98,8 @@ number-below tok.Save = omega arith
 number-below tok.Jump = omega arith
 number-below tok.End = omega arith
 
-Some-same : {X : Type 0} (x y : X) → Some x ≡ Some y → x ≡ y
-Some-same x y e = cc
-
 pub number_same : (t u : Tok) → number t ≡ number u → t ≡ u
-number_same t u e = Some-same t u (sym (token_at t) ∙ ap (slice_get all_tokens) e ∙ token_at u)
+number_same t u e = same_Some t u (sym (token_at t) ∙ ap (slice_get all_tokens) e ∙ token_at u)
 
 pub symbol_number_same : (X Y : Sym) → symbol_number X ≡ symbol_number Y → X ≡ Y
 symbol_number_same (grammar_symbol.Tok t) (grammar_symbol.Tok u) e = ap grammar_symbol.Tok (number_same t u e)

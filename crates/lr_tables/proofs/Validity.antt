@@ -3,7 +3,7 @@ use Rattle.std.proofs.Common.{◌≡◌, ◌⊎◌, ℕ, zero, suc, ◌+◌, ◌
 use Rattle.std.specs.Prelude.{◌&&◌, ◌||◌, codes}
 use Rattle.std.specs.List.{AllByRecursion, list_any}
 use Rattle.std.specs.Option.{option_map}
-use Rattle.std.proofs.lemmas.Option.{slice_get_within}
+use Rattle.std.proofs.lemmas.Option.{slice_get_within, none-some}
 use Rattle.tree_core.specs.declared.token.Sort.{Sort}
 use Rattle.tree_core.specs.declared.token.Tok.TheVariants as tok
 use Rattle.std.specs.Str.{bytes_eq}
@@ -20,12 +20,9 @@ use Rattle.lr_tables.specs.Grammar.{IsGrammar}
 use Rattle.lr_tables.specs.Statements.{stmt_from, stmt_of}
 use Rattle.lr_tables.proofs.Members.{In, slice_get-In}
 
-none_some : {X : Type 0} (x : X) → None ≡ Some x → ⊥
-none_some x e = cc
-
 rule_at : (classes : List Class) (rs : List Rule) (n : ℕ) (r : Rule) → AllByRecursion (IsRule classes) rs → slice_get rs n ≡ Some r → IsRule classes r
-rule_at classes [] zero r h e = absurd (none_some r e)
-rule_at classes [] (suc n) r h e = absurd (none_some r e)
+rule_at classes [] zero r h e = absurd (none-some r e)
+rule_at classes [] (suc n) r h e = absurd (none-some r e)
 rule_at classes (q ∷ rs) zero r h e = let s : q ≡ r = cc in subst (IsRule classes) s h.0
 rule_at classes (q ∷ rs) (suc n) r h e = rule_at classes rs n r h.1 e
 
@@ -34,7 +31,7 @@ class_within : (classes : List Class) (c : ℕ) (x : Sort) → sort_of_symbol cl
 class_within classes c x e = by (slice_get classes c) refl e
   where
     by : (o : Option Class) → slice_get classes c ≡ o → option_map sort_of_kind (option_map (λ (y : Class). y.kind) o) ≡ Some x → c < length classes
-    by None f h = absurd (none_some x h)
+    by None f h = absurd (none-some x h)
     by (Some y) f h = slice_get_within classes c y f
 
 fits_some : (o : Option Sort) (x : Sort) → sort_fits o x ≡ true → (y : Sort) × (o ≡ Some y)
@@ -73,7 +70,7 @@ is_grammar d v = record {
   within = λ n k c r e f. (let s : (x : Sort) × (sort_of_symbol d.classes (grammar_symbol.Class c) ≡ Some x) = sorted_at r (rule_at d.classes d.rules n r v.rules e) (grammar_symbol.Class c) k f in
       class_within d.classes c s.0 s.1);
   no_end = λ n k r e f. (let s : (x : Sort) × (sort_of_symbol d.classes (grammar_symbol.Tok tok.End) ≡ Some x) =
-      sorted_at r (rule_at d.classes d.rules n r v.rules e) (grammar_symbol.Tok tok.End) k f in none_some s.0 s.1);
+      sorted_at r (rule_at d.classes d.rules n r v.rules e) (grammar_symbol.Tok tok.End) k f in none-some s.0 s.1);
 }
   where
     sorted_at : (r : Rule) → IsRule d.classes r → (s : Sym) (k : ℕ) → slice_get r.right k ≡ Some s → (x : Sort) × (sort_of_symbol d.classes s ≡ Some x)

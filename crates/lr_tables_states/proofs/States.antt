@@ -3,7 +3,7 @@ use Rattle.std.proofs.Common.{◌≡◌, ◌↔◌, ℕ, zero, suc, ◌+◌, ◌
 use Rattle.std.specs.Prelude.{position}
 use Rattle.std.specs.Option.{option_map}
 use Rattle.std.proofs.lemmas.List.FromFn.{get_or-map-range_with_len}
-use Rattle.std.proofs.lemmas.Option.{slice_get-map, slice_get_within}
+use Rattle.std.proofs.lemmas.Option.{slice_get-map, slice_get_within, same_Some, none-some}
 use Rattle.md_reader.specs.declared.types.Rule.{Rule}
 use Rattle.md_reader.specs.declared.types.Sym.{Sym}
 use Rattle.md_reader.specs.State.{Content}
@@ -28,12 +28,6 @@ use Rattle.lr_tables.proofs.Loops.{target_some}
 use Rattle.lr_tables.proofs.Law.{leads_kernel}
 use Rattle.lr_tables_states.specs.States.{SameItems, HasStack, StatesAreItemSets}
 
-Some-same : {X : Type 0} (x y : X) → Some x ≡ Some y → x ≡ y
-Some-same x y e = cc
-
-none_some : {X : Type 0} (x : X) → None ≡ Some x → ⊥
-none_some x e = cc
-
 there : {X : Type 0} (xs : List X) (n : ℕ) → n < length xs → (x : X) × (slice_get xs n ≡ Some x)
 there [] n lt = absurd (omega (arith, lt))
 there (x ∷ xs) zero lt = (x, refl)
@@ -41,10 +35,10 @@ there (x ∷ xs) (suc n) lt = there xs n (omega (arith, lt))
 
 -- what stands twice nowhere stands at one place
 one_place : (ks : List (List Item)) → Apart ks → (q p : ℕ) (k : List Item) → slice_get ks q ≡ Some k → slice_get ks p ≡ Some k → q ≡ p
-one_place [] h q p k e f = absurd (none_some k e)
+one_place [] h q p k e f = absurd (none-some k e)
 one_place (l ∷ ks) h zero zero k e f = refl
-one_place (l ∷ ks) h zero (suc p) k e f = absurd (h.0 (subst (λ (x : List Item). In x ks) (sym (Some-same l k e)) (slice_get-In k ks p f)))
-one_place (l ∷ ks) h (suc q) zero k e f = absurd (h.0 (subst (λ (x : List Item). In x ks) (sym (Some-same l k f)) (slice_get-In k ks q e)))
+one_place (l ∷ ks) h zero (suc p) k e f = absurd (h.0 (subst (λ (x : List Item). In x ks) (sym (same_Some l k e)) (slice_get-In k ks p f)))
+one_place (l ∷ ks) h (suc q) zero k e f = absurd (h.0 (subst (λ (x : List Item). In x ks) (sym (same_Some l k f)) (slice_get-In k ks q e)))
 one_place (l ∷ ks) h (suc q) (suc p) k e f = ap suc (one_place ks h.1 q p k e f)
 
 module _ (rules : List Rule) (stmt classes : ℕ) (g : IsGrammar rules stmt classes) (content : Content) (rows : List RowView) (b : IsRows rules stmt classes rows) where
@@ -126,7 +120,7 @@ module _ (rules : List Rule) (stmt classes : ℕ) (g : IsGrammar rules stmt clas
 
   same_items : (a c : List Sym) (q p : ℕ) → Leads table a q → Leads table c p → q ≡ p → SameItems rules stmt a c
   same_items a c q p l m e i =
-      let k : kernel a ≡ kernel c = Some-same (kernel a) (kernel c) (sym (kernel_of a q l) ∙ (ap (slice_get ks) e ∙ kernel_of c p m)) in
+      let k : kernel a ≡ kernel c = same_Some (kernel a) (kernel c) (sym (kernel_of a q l) ∙ (ap (slice_get ks) e ∙ kernel_of c p m)) in
       (items_moved a c k i, items_moved c a (sym k) i)
 
   same_state : (a c : List Sym) (q p : ℕ) → Leads table a q → Leads table c p → SameItems rules stmt a c → q ≡ p

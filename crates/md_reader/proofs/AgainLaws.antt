@@ -6,7 +6,7 @@ use Rattle.std.specs.Result.{IfOk, IfErr}
 use Rattle.std.specs.List.{flat_map, AllByRecursion}
 use Rattle.std.specs.Option.{option_map}
 use Rattle.std.proofs.lemmas.Option.{none-some, slice_get_within}
-use Rattle.std.proofs.lemmas.Bool.{ne_eqb, le-leb, lt-leb, leb-true, and_parts}
+use Rattle.std.proofs.lemmas.Bool.{ne_eqb, le-leb, lt-leb, leb-true, and_parts, false≢true}
 use Rattle.std.proofs.lemmas.List.{append-nil, length-map}
 use Rattle.md_reader_text.specs.Lines.{lines}
 use Rattle.md_reader_text.specs.Words.{same, words}
@@ -45,7 +45,7 @@ use Rattle.md_reader.specs.Valid.{Away, Apart, IsNamed, AreClasses, IsSpill, Are
 use Rattle.md_reader.specs.Desc.{Form, Version, Target, Pool, Declares, Saves, Head, Restricts, Writes, Gives, size_word, kind_words, saved_words, IsSaved, GiveWord, IsGive, Says}
 use Rattle.md_reader.specs.Desc.{name_at, symbol_word, saving, ruling, telling, numbered, Tell, Desc, Refused}
 use Rattle.md_reader.proofs.PatternLaws.{tree_exactly, sorted_back}
-use Rattle.md_reader.proofs.Inversion.{refused, ok_same, unlike, same_refl, not_same}
+use Rattle.md_reader.proofs.Inversion.{refused, ok_same, same_refl, not_same}
 
 -- whatever lines say these forms, the content is read
 Runs : State → List Form → Content → Type 0
@@ -256,7 +256,7 @@ small (b ∷ bs) n =
     lt-leb (suc b) 97 (omega (arith, h))
 
 no_token : (w : List ℕ) (t : Tok) → is_name w ≡ true → same w (name_of t) ≡ false
-no_token w t n = not_same w (name_of t) (λ e. unlike (sym (small w n) ∙ ap starts_capital e ∙ capital t))
+no_token w t n = not_same w (name_of t) (λ e. false≢true (sym (small w n) ∙ ap starts_capital e ∙ capital t))
 
 token_free : (ts : List Tok) (w : List ℕ) → is_name w ≡ true → token_among ts w ≡ None
 token_free [] w n = refl
@@ -338,18 +338,18 @@ symbol_again cs (grammar_symbol.Class c) y h e =
     rw (token_free TOKENS _ (named_at cs c h.named lt), class_of_again cs c lt h.apart) refl
 
 has_sort : (o : Option Sort) (x : Sort) → sort_fits o x ≡ true → (y : Sort) × (o ≡ Some y)
-has_sort None x e = absurd (unlike e)
+has_sort None x e = absurd (false≢true e)
 has_sort (Some y) x e = (y, refl)
 
 symbols_again : (cs : List Class) (xs : List Sort) (w : List Sym) → AreClasses cs → walk (sorted_test cs) xs w ≡ true → symbols_of cs (map (symbol_word cs) w) ≡ Some w
 symbols_again cs xs [] h e = refl
-symbols_again cs [] (s ∷ w) h e = absurd (unlike e)
+symbols_again cs [] (s ∷ w) h e = absurd (false≢true e)
 symbols_again cs (x ∷ xs) (s ∷ w) h e = at (sort_fits (sort_of_symbol cs s) x) refl e (symbols_again cs (kids_of s ++ xs) w h)
   where
     at : (b : Bool) → sort_fits (sort_of_symbol cs s) x ≡ b → cond b (walk (sorted_test cs) (kids_of s ++ xs) w) false ≡ true
         → (walk (sorted_test cs) (kids_of s ++ xs) w ≡ true → symbols_of cs (map (symbol_word cs) w) ≡ Some w) → symbols_of cs (map (symbol_word cs) (s ∷ w)) ≡ Some (s ∷ w)
     at true f e k = let y = has_sort (sort_of_symbol cs s) x f in rw (symbol_again cs s y.0 h y.1, k e) refl
-    at false f e k = absurd (unlike e)
+    at false f e k = absurd (false≢true e)
 
 -- the lines behind a head tell whether its rule has a register
 has_register_word : (n : ℕ) (w : List ℕ) (g : Give) → GiveWord n w g → has_register (plain_give w) ≡ has_register (Some g)
@@ -435,7 +435,7 @@ head_taken s r z h k few e =
 
 head_form : (class : List ℕ) (ss : List (List ℕ)) (cs : List Class) (right : List Sym) → ss ≡ map (symbol_word cs) right → count 1 right ≡ true
     → rule_form (codes "rule" ∷ class ∷ codes ":" ∷ ss) ≡ Some (class, ss)
-head_form class ss cs [] e c = absurd (unlike c)
+head_form class ss cs [] e c = absurd (false≢true c)
 head_form class ss cs (x ∷ xs) e c = rw e refl
 
 head_again : (s : State) (r : Rule) (fs : List Form) → s.stage ≡ stage.Rules → AreClasses s.classes → AreSides s.classes r.left r.right → length s.rules ≤ 999

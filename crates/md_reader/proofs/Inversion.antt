@@ -20,9 +20,6 @@ refused k t e = cc
 pub ok_same : {A K : Type 0} (a b : A) (r q : Result A K) → r ≡ Ok a → q ≡ Ok b → r ≡ q → a ≡ b
 ok_same a b r q e f g = cc
 
-pub unlike : false ≡ true → ⊥
-unlike e = cc
-
 pub guarded : {A : Type 0} (b : Bool) (o : Option A) (y : A) → cond b o None ≡ Some y → (b ≡ true) × (o ≡ Some y)
 guarded true o y e = (refl, e)
 guarded false o y e = absurd (none-some y e)

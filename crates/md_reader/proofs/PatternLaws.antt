@@ -69,9 +69,6 @@ counted [] (s ∷ w) = refl
 counted (x ∷ xs) [] = refl
 counted (x ∷ xs) (s ∷ w) = counted (kids_of s ++ xs) w ∙ ap (λ (n : ℕ). count n w) (length-append (kids_of s) xs)
 
-unlike : false ≡ true → ⊥
-unlike q = cc
-
 pub sorted_there : (classes : List Class) (left : Sort) (w : List Sym) (b : Bool) → b ≡ walk (sorted_test classes) (left ∷ []) w → IsTrue b → IsSorted classes left w
 sorted_there classes left w b e t = let f = found (sorted_test classes) (left ∷ []) w (sym e ∙ t) in record { tree = f.trees; spelled = f.spelled }
 

@@ -5,7 +5,7 @@ use Rattle.std.specs.Prelude.{codes}
 use Rattle.std.specs.Result.{OnOk}
 use Rattle.std.specs.Option.{option_map}
 use Rattle.std.proofs.lemmas.Option.{none-some, same_Some, option_and_then_some}
-use Rattle.std.proofs.lemmas.Bool.{eqb-true, eqb-false, leb-true, leb-false}
+use Rattle.std.proofs.lemmas.Bool.{eqb-true, eqb-false, leb-true, leb-false, false≢true}
 use Rattle.md_reader_text.specs.Words.{same, words}
 use Rattle.md_reader_pieces.specs.declared.piece.Piece.{Piece}
 use Rattle.md_reader_pieces.specs.declared.piece.Line.{Line}
@@ -35,7 +35,7 @@ use Rattle.md_reader.specs.View.{Stepped}
 use Rattle.md_reader.specs.Valid.{Away, Apart, IsNamed, IsPool, IsSpill, AreSides, MayRestrict, MayWrite, IsTemplate, MayGive, IsRule, IsValid}
 use Rattle.md_reader.specs.Fine.{IsBlank, IsDeclaring, IsWhole, IsInRule, StageFact, IsFine}
 use Rattle.md_reader.proofs.PatternLaws.{tree_exactly, sorted_there}
-use Rattle.md_reader.proofs.Inversion.{when, unless, refused, ok_same, unlike, same_refl, All-push}
+use Rattle.md_reader.proofs.Inversion.{when, unless, refused, ok_same, same_refl, All-push}
 use Rattle.md_reader.proofs.FormLaws.{class_line_is, if_line_is, do_line_is, give_line_is, pool_is}
 
 away : (i : ℕ) (cs : List Class) (w : List ℕ) → class_from i cs w ≡ None → Away w cs
@@ -44,7 +44,7 @@ away i (c ∷ cs) w e = step (same c.name w) refl e (away (i + 1) cs w)
   where
     step : (b : Bool) → same c.name w ≡ b → cond b (Some i) (class_from (i + 1) cs w) ≡ None → (class_from (i + 1) cs w ≡ None → Away w cs) → Away w (c ∷ cs)
     step true f e k = absurd (none-some i (sym e))
-    step false f e k = ((λ g. unlike (sym f ∙ ap (λ (x : List ℕ). same x w) g ∙ same_refl w)), k e)
+    step false f e k = ((λ g. false≢true (sym f ∙ ap (λ (x : List ℕ). same x w) g ∙ same_refl w)), k e)
 
 Apart-push : (cs : List Class) (c : Class) → Apart cs → Away c.name cs → Apart (cs ++ c ∷ [])
 Apart-push [] c h a = (tt, tt)
@@ -254,7 +254,7 @@ may_give classes left right give.Fresh e = e
 may_give classes left right give.Reuse e = e
 may_give classes left right give.Scratch e = e
 may_give classes left right give.Nothing e = e
-may_give classes left right (give.Shape l) e = absurd (unlike e)
+may_give classes left right (give.Shape l) e = absurd (false≢true e)
 
 given_kept : (s : State) (xs ls : List (List ℕ)) (g : Give) → MayGive s.classes s.left s.right g → s.register ≡ has_register (Some g) → IsInRule s xs → IsFine s xs → IsFine (ended_rule s g) ls
 given_kept s xs ls g m q f h =

@@ -1,6 +1,8 @@
 -- Lists of kinds and of attributes, joined.
-use Rattle.std.proofs.Common.{◌≡◌, ℕ, zero, suc, ◌<◌, ◌≤◌, List, [], ◌∷◌, ◌++◌, length, set, take, drop, get_or, slice_get, Option, Some, None, Bool, true, false, refl, ap, sym, ◌∙◌, arith}
+use Rattle.std.proofs.Common.{◌≡◌, ℕ, zero, suc, ◌<◌, ◌≤◌, List, [], ◌∷◌, ◌++◌, length, set, take, drop, get_or, slice_get, Option, Some, None, true, refl, ap, sym, ◌∙◌, arith}
 use Rattle.std.specs.Prelude.{◌&&◌}
+use Rattle.std.proofs.lemmas.Bool.{and_from}
+use Rattle.gg_base.proofs.Facts.{first_true, second_true}
 use Rattle.md_reader.specs.declared.types.Kind.{Kind}
 use Rattle.sel_target.specs.declared.attr.Attr.{Attr}
 use Rattle.sel_parse_desk.specs.Entries.{Entry, attrs, slot_of, slot_in}
@@ -9,18 +11,6 @@ use Rattle.sel_parse_desk.specs.Entries.{kind_in}
 
 same_rest : (m n : ℕ) → suc m ≡ suc n → m ≡ n
 same_rest m n e = omega (arith, e)
-
-both : (a b : Bool) → a ≡ true → b ≡ true → (a && b) ≡ true
-both true b e f = f
-both false b e f = absurd (cc)
-
-first_part : (a b : Bool) → (a && b) ≡ true → a ≡ true
-first_part true b e = refl
-first_part false b e = absurd (cc)
-
-second_part : (a b : Bool) → (a && b) ≡ true → b ≡ true
-second_part true b e = e
-second_part false b e = absurd (cc)
 
 module _ {O : Type 0} where
   joined_nil : (ks : List (Option Kind)) → joined {O = O} ks [] ≡ []
@@ -86,35 +76,35 @@ module _ {O : Type 0} where
   joined-set (k ∷ ks) (g ∷ hs) (suc i) h = ap (λ (es : List (Entry O)). record { kind = k; attr = g } ∷ es) (joined-set ks hs i h)
 
   pub are_low-snoc : (hs : List (Attr O)) (h : Attr O) → are_low hs ≡ true → is_low h ≡ true → are_low (hs ++ h ∷ []) ≡ true
-  are_low-snoc [] h e f = both (is_low h) true f refl
+  are_low-snoc [] h e f = and_from (is_low h) true f refl
   are_low-snoc (g ∷ hs) h e f =
-      both (is_low g) (are_low (hs ++ h ∷ [])) (first_part (is_low g) (are_low hs) e) (are_low-snoc hs h (second_part (is_low g) (are_low hs) e) f)
+      and_from (is_low g) (are_low (hs ++ h ∷ [])) (first_true (is_low g) (are_low hs) e) (are_low-snoc hs h (second_true (is_low g) (are_low hs) e) f)
 
   pub are_low-take : (n : ℕ) (hs : List (Attr O)) → are_low hs ≡ true → are_low (take n hs) ≡ true
   are_low-take zero hs e = refl
   are_low-take (suc n) [] e = refl
   are_low-take (suc n) (g ∷ hs) e =
-      both (is_low g) (are_low (take n hs)) (first_part (is_low g) (are_low hs) e) (are_low-take n hs (second_part (is_low g) (are_low hs) e))
+      and_from (is_low g) (are_low (take n hs)) (first_true (is_low g) (are_low hs) e) (are_low-take n hs (second_true (is_low g) (are_low hs) e))
 
   pub are_low-drop : (n : ℕ) (hs : List (Attr O)) → are_low hs ≡ true → are_low (drop n hs) ≡ true
   are_low-drop zero hs e = e
   are_low-drop (suc n) [] e = refl
-  are_low-drop (suc n) (g ∷ hs) e = are_low-drop n hs (second_part (is_low g) (are_low hs) e)
+  are_low-drop (suc n) (g ∷ hs) e = are_low-drop n hs (second_true (is_low g) (are_low hs) e)
 
   pub are_low-set : (hs : List (Attr O)) (i : ℕ) (h : Attr O) → are_low hs ≡ true → is_low h ≡ true → are_low (set hs i h) ≡ true
   are_low-set [] i h e f = refl
-  are_low-set (g ∷ hs) zero h e f = both (is_low h) (are_low hs) f (second_part (is_low g) (are_low hs) e)
+  are_low-set (g ∷ hs) zero h e f = and_from (is_low h) (are_low hs) f (second_true (is_low g) (are_low hs) e)
   are_low-set (g ∷ hs) (suc i) h e f =
-      both (is_low g) (are_low (set hs i h)) (first_part (is_low g) (are_low hs) e) (are_low-set hs i h (second_part (is_low g) (are_low hs) e) f)
+      and_from (is_low g) (are_low (set hs i h)) (first_true (is_low g) (are_low hs) e) (are_low-set hs i h (second_true (is_low g) (are_low hs) e) f)
 
   pub low_there : (hs : List (Attr O)) (i : ℕ) (h : Attr O) → are_low hs ≡ true → slice_get hs i ≡ Some h → is_low h ≡ true
   low_there [] i h e there = absurd (cc)
-  low_there (g ∷ hs) zero h e there = first_part (is_low h) (are_low hs) (ap (λ (x : Option (Attr O)). is_low (out x) && are_low hs) (sym there) ∙ e)
+  low_there (g ∷ hs) zero h e there = first_true (is_low h) (are_low hs) (ap (λ (x : Option (Attr O)). is_low (out x) && are_low hs) (sym there) ∙ e)
     where
       out : Option (Attr O) → Attr O
       out None = h
       out (Some x) = x
-  low_there (g ∷ hs) (suc i) h e there = low_there hs i h (second_part (is_low g) (are_low hs) e) there
+  low_there (g ∷ hs) (suc i) h e there = low_there hs i h (second_true (is_low g) (are_low hs) e) there
 
   pub low_so : (hs gs : List (Attr O)) → hs ≡ gs → are_low gs ≡ true → are_low hs ≡ true
   low_so hs gs e f = ap (λ (xs : List (Attr O)). are_low xs) e ∙ f
@@ -150,8 +140,8 @@ module _ {O : Type 0} where
 
   pub low_at : (hs : List (Attr O)) (i : ℕ) (h : Attr O) → are_low hs ≡ true → i < length hs → h ≡ get_or hs i h → is_low h ≡ true
   low_at [] i h e lt f = absurd (omega (arith, lt))
-  low_at (g ∷ hs) zero h e lt f = ap (λ (x : Attr O). is_low x) f ∙ first_part (is_low g) (are_low hs) e
-  low_at (g ∷ hs) (suc i) h e lt f = low_at hs i h (second_part (is_low g) (are_low hs) e) (omega (arith, lt)) f
+  low_at (g ∷ hs) zero h e lt f = ap (λ (x : Attr O). is_low x) f ∙ first_true (is_low g) (are_low hs) e
+  low_at (g ∷ hs) (suc i) h e lt f = low_at hs i h (second_true (is_low g) (are_low hs) e) (omega (arith, lt)) f
 
   pub one_there : (es : List (Entry O)) (i : ℕ) → i < length es → take 1 (drop i (attrs es)) ≡ attr_in (slice_get es i) ∷ []
   one_there [] i lt = absurd (omega (arith, lt))

@@ -2,6 +2,7 @@
 use Rattle.std.proofs.Common.{◌≡◌, ℕ, zero, suc, List, [], ◌∷◌, Option, Some, None, true, refl, sym, ap, ◌∙◌, subst, slice_get, arith}
 use Rattle.std.specs.Prelude.{count_ones, is_some, slice_index_or}
 use Rattle.std.specs.List.{AllByRecursion as All}
+use Rattle.std.proofs.lemmas.Bool.{and_parts}
 use Rattle.gg_base.specs.declared.relation.Rel.{Rel}
 use Rattle.gg_base.specs.declared.relation.Rel.TheVariants as relations
 use Rattle.gg_base.specs.declared.size.Size.{Size}
@@ -58,18 +59,11 @@ use Rattle.sel_parse_stands.specs.Stands as stands
 use Rattle.sel_parse_stands.specs.Stands.{NamedBy, Names, SymbolIs, Sees, IsFrame, Holds}
 use Rattle.sel_parse_stands.proofs.Carrying.{AllCarried}
 use Rattle.sel_parse_stands.proofs.Instances.{Hold}
-use Rattle.sel_parse_stands.proofs.Symbols.{both}
 use Rattle.sel_parse_effect.specs.Places.{StoresToPlaces}
 use Rattle.sel_parse_effect.proofs.Effects.{attribute_suc, store_home_alike, store_at_alike, branch_alike, push_alike, call_alike, save_alike, return_alike, jump_alike}
 use Rattle.sel_parse_effect.proofs.Giving as giving
 use Rattle.sel_parse_effect.proofs.Giving.{V, Later}
 use Rattle.sel_parse_effect.proofs.Homes.{home_found, home_later, forward}
-
-some_same : {X : Type 0} (x y : X) → Some x ≡ Some y → x ≡ y
-some_same x y e = cc
-
-none_some : {X : Type 0} (x : X) → None ≡ Some x → ⊥
-none_some x e = cc
 
 -- ---- which tokens do what
 
@@ -279,14 +273,14 @@ module _ {O I S F : Type 0} (of : Meaning O I S F) (law : IsLawful of) (stores :
   signed_all : (rs : List Restriction) (i : ℕ) (rel : Rel) (label : ℕ) → all_hold (selecting of q d first) es rs ≡ true → AttAt i (att.Branch rel label) → All (IsSignedBy i rel) rs
   signed_all [] i rel label h w = tt
   signed_all (restriction.Same a b ∷ rs) i rel label h w =
-      (tt, signed_all rs i rel label (both (holds (selecting of q d first) es (restriction.Same a b)) (all_hold (selecting of q d first) es rs) h).1 w)
+      (tt, signed_all rs i rel label (and_parts (holds (selecting of q d first) es (restriction.Same a b)) (all_hold (selecting of q d first) es rs) h).1 w)
   signed_all (restriction.Range j low high ∷ rs) i rel label h w =
-      (tt, signed_all rs i rel label (both (holds (selecting of q d first) es (restriction.Range j low high)) (all_hold (selecting of q d first) es rs) h).1 w)
+      (tt, signed_all rs i rel label (and_parts (holds (selecting of q d first) es (restriction.Range j low high)) (all_hold (selecting of q d first) es rs) h).1 w)
   signed_all (restriction.Signed j ∷ rs) i rel label h w =
       (λ e. same_signs rel (signed j e k.0), signed_all rs i rel label k.1 w)
     where
       k : (holds (selecting of q d first) es (restriction.Signed j) ≡ true) × (all_hold (selecting of q d first) es rs ≡ true)
-      k = both (holds (selecting of q d first) es (restriction.Signed j)) (all_hold (selecting of q d first) es rs) h
+      k = and_parts (holds (selecting of q d first) es (restriction.Signed j)) (all_hold (selecting of q d first) es rs) h
 
       signed : (j : ℕ) → j ≡ i → is_signed (relation_at (selecting of q d first) (attribute_at es j)) ≡ true → compares_signed rel ≡ true
       signed j e g =

@@ -2,6 +2,8 @@
 use Rattle.std.proofs.Common.{◌≡◌, ℕ, zero, suc, ◌-◌, ◌*◌, ◌^◌, ◌<◌, ◌==◌, List, [], ◌∷◌, ◌++◌, Option, Some, None, Bool, true, false, refl, sym, ap, ◌∙◌, subst, arith, slice_get}
 use Rattle.std.specs.Prelude.{is_some, unwrap_or, ◌||◌, Ok, cond}
 use Rattle.std.specs.List.{AllByRecursion as All}
+use Rattle.std.proofs.lemmas.Bool.{eqb-true, and_parts}
+use Rattle.std.proofs.lemmas.Option.{none-some, same_Some}
 use Rattle.gg_base.specs.declared.size.Size.{Size}
 use Rattle.gg_base.specs.declared.size.Size.TheVariants.{Byte, Word, Long}
 use Rattle.gg_base.specs.Sizes.{bytes_of}
@@ -43,8 +45,7 @@ use Rattle.sel_parse_selected.specs.Entries.{Entry, constant_of, token_number}
 use Rattle.sel_parse_selected.specs.Selected.{selecting}
 use Rattle.sel_parse_selected.specs.Entries.{spelled, same_operands, size_of_entry}
 use Rattle.sel_parse_stands.specs.Stands.{Sees, IsFrame, SymbolIs, ClassIs}
-use Rattle.sel_parse_stands.proofs.Symbols.{both, equal_numbers}
-use Rattle.sel_parse_stands.proofs.Instances.{Hold, hs_of, symbol_by, view, symbol_at_small, size_suc, none_some, some_same}
+use Rattle.sel_parse_stands.proofs.Instances.{Hold, hs_of, symbol_by, view, symbol_at_small, size_suc}
 use Rattle.sel_parse_stands.specs.Stands as stands
 use Rattle.md_reader.specs.Patterns.{kind_at}
 
@@ -537,28 +538,28 @@ pub divides_none : (v : View) (e : EffectShape) → divides_by_zero (term_state 
 divides_none v e h = no_zero v e.divisors h
 
 att_spelled : {O I S F : Type 0} (of : Meaning O I S F) (q : TreeProgram) (x : Tok) (a : Att) (o : O) (m : S) → token_operand of x a ≡ Some o → token_worth of q x a m ≡ of.reads o Long m
-att_spelled of q x att.Nothing o m e = absurd (none_some o e)
-att_spelled of q x (att.Number n) o m e = absurd (none_some o e)
-att_spelled of q x (att.Object object offset) o m e = absurd (none_some o e)
+att_spelled of q x att.Nothing o m e = absurd (none-some o e)
+att_spelled of q x (att.Number n) o m e = absurd (none-some o e)
+att_spelled of q x (att.Object object offset) o m e = absurd (none-some o e)
 att_spelled of q x (att.Slot k) o m e = ap (λ w. read_of of w Long m) e
-att_spelled of q x (att.Branch rel label) o m e = absurd (none_some o e)
-att_spelled of q x (att.Label label) o m e = absurd (none_some o e)
-att_spelled of q x (att.Callee function count) o m e = absurd (none_some o e)
+att_spelled of q x (att.Branch rel label) o m e = absurd (none-some o e)
+att_spelled of q x (att.Label label) o m e = absurd (none-some o e)
+att_spelled of q x (att.Callee function count) o m e = absurd (none-some o e)
 
 att_constant : {O I S F : Type 0} (of : Meaning O I S F) (q : TreeProgram) (d : Content) (first : ℕ) (x : Tok) (a : Att) (n : ℕ) (m : S) → token_number q a ≡ Some n
     → token_worth of q x a m ≡ Some n
-att_constant of q d first x att.Nothing n m e = absurd (none_some n e)
+att_constant of q d first x att.Nothing n m e = absurd (none-some n e)
 att_constant of q d first x (att.Number k) n m e = e
 att_constant of q d first x (att.Object object offset) n m e = e
-att_constant of q d first x (att.Slot k) n m e = absurd (none_some n e)
-att_constant of q d first x (att.Branch rel label) n m e = absurd (none_some n e)
-att_constant of q d first x (att.Label label) n m e = absurd (none_some n e)
-att_constant of q d first x (att.Callee function count) n m e = absurd (none_some n e)
+att_constant of q d first x (att.Slot k) n m e = absurd (none-some n e)
+att_constant of q d first x (att.Branch rel label) n m e = absurd (none-some n e)
+att_constant of q d first x (att.Label label) n m e = absurd (none-some n e)
+att_constant of q d first x (att.Callee function count) n m e = absurd (none-some n e)
 
 pub attribute_suc : {X : Type 0} (xs : List X) (j : ℕ) → attribute_at xs (suc j) ≡ slice_get xs j
 attribute_suc xs j = by (suc j == 0) refl where
   by : (b : Bool) → (suc j == 0) ≡ b → attribute_at xs (suc j) ≡ slice_get xs j
-  by true e = absurd (let h = equal_numbers (suc j) 0 e in omega (arith, h))
+  by true e = absurd (let h = eqb-true (suc j) 0 e in omega (arith, h))
   by false e = ap (λ b. cond b None (slice_get xs (suc j - 1))) e ∙ ap (slice_get xs) (let back : suc j - 1 ≡ j = omega arith in back)
 
 module _ {O I S F : Type 0} (of : Meaning O I S F) (law : IsLawful of) (q : TreeProgram) (d : Content) (first : ℕ) (f : Extent) (fs : List Extent) (t : State) (s : Sight) (m0 : S)
@@ -566,27 +567,27 @@ module _ {O I S F : Type 0} (of : Meaning O I S F) (law : IsLawful of) (q : Tree
   -- what is spelled is what is read
   class_spelled : (k : Option Kind) (a : Attr O) (v : Sense) (o : O) (z : Size) → ClassIs of q d first f fs t s m0 m k a v → spelled of a ≡ Some o → size_of_entry k ≡ Some z
       → worth of q (size_of_kind k) a m ≡ of.reads o z m
-  class_spelled k a v o z (stands.register r x lt is) e g = absurd (none_some o e)
-  class_spelled k a v o z (stands.in_slot w x le lt is) e g = absurd (none_some o e)
-  class_spelled k a v o z (stands.value z' o' x fits is) e g = ap (λ p. of.reads p z' m) (some_same o' o e) ∙ ap (λ y. of.reads o y m) (some_same z' z g)
-  class_spelled k a v o z (stands.place z' o' g' fits is) e g = ap (λ p. of.reads p z' m) (some_same o' o e) ∙ ap (λ y. of.reads o y m) (some_same z' z g)
-  class_spelled k a v o z (stands.number x lt) e g = absurd (none_some o e)
-  class_spelled k a v o z (stands.address o' x fits is) e g = absurd (none_some z g)
+  class_spelled k a v o z (stands.register r x lt is) e g = absurd (none-some o e)
+  class_spelled k a v o z (stands.in_slot w x le lt is) e g = absurd (none-some o e)
+  class_spelled k a v o z (stands.value z' o' x fits is) e g = ap (λ p. of.reads p z' m) (same_Some o' o e) ∙ ap (λ y. of.reads o y m) (same_Some z' z g)
+  class_spelled k a v o z (stands.place z' o' g' fits is) e g = ap (λ p. of.reads p z' m) (same_Some o' o e) ∙ ap (λ y. of.reads o y m) (same_Some z' z g)
+  class_spelled k a v o z (stands.number x lt) e g = absurd (none-some o e)
+  class_spelled k a v o z (stands.address o' x fits is) e g = absurd (none-some z g)
 
   symbol_spelled : (x : Sym) (k : Option Kind) (a : Attr O) (v : Sense) (o : O) (z : Size) → SymbolIs of q d first f fs t s m0 m x k a v → spelled of a ≡ Some o → size_of_entry k ≡ Some z
       → worth of q (size_of_symbol d.classes x) a m ≡ of.reads o z m
-  symbol_spelled x k a v o z (stands.token l fit named) e g = att_spelled of q l.tok l.att o m e ∙ ap (λ y. of.reads o y m) (some_same Long z g)
+  symbol_spelled x k a v o z (stands.token l fit named) e g = att_spelled of q l.tok l.att o m e ∙ ap (λ y. of.reads o y m) (same_Some Long z g)
   symbol_spelled x k a v o z (stands.class c a' v' is) e g = class_spelled (kind_at d.classes c) a v o z is e g
 
   constant_worth : (z : Size) (a : Attr O) (n : ℕ) → constant_of q a ≡ Some n → worth of q z a m ≡ Some n
-  constant_worth z (attr.Reg r) n e = absurd (none_some n e)
-  constant_worth z (attr.InSlot w) n e = absurd (none_some n e)
-  constant_worth z (attr.Value o) n e = absurd (none_some n e)
-  constant_worth z (attr.Place o) n e = absurd (none_some n e)
+  constant_worth z (attr.Reg r) n e = absurd (none-some n e)
+  constant_worth z (attr.InSlot w) n e = absurd (none-some n e)
+  constant_worth z (attr.Value o) n e = absurd (none-some n e)
+  constant_worth z (attr.Place o) n e = absurd (none-some n e)
   constant_worth z (attr.Con x) n e = e
-  constant_worth z (attr.Ea o) n e = absurd (none_some n e)
+  constant_worth z (attr.Ea o) n e = absurd (none-some n e)
   constant_worth z (attr.Token l) n e = att_constant of q d first l.tok l.att n m e
-  constant_worth z attr.Nothing n e = absurd (none_some n e)
+  constant_worth z attr.Nothing n e = absurd (none-some n e)
 
   -- an entry at its place
   record Entered (es : List (Entry O)) (right : List Sym) (j : ℕ) (e : Entry O) : Type 0 where
@@ -597,11 +598,11 @@ module _ {O I S F : Type 0} (of : Meaning O I S F) (law : IsLawful of) (q : Tree
 
   entered : (es : List (Entry O)) (right : List Sym) (vs : List Sense) (j : ℕ) (e : Entry O) → Hold of law q d first f fs t s m0 frame m sees es right vs → slice_get es j ≡ Some e
       → Entered es right j e
-  entered [] right vs j e holds at = absurd (none_some e at)
+  entered [] right vs j e holds at = absurd (none-some e at)
   entered (e' ∷ es) [] [] j e holds at = absurd holds
   entered (e' ∷ es) [] (v ∷ vs) j e holds at = absurd holds
   entered (e' ∷ es) (x ∷ xs) [] j e holds at = absurd holds
-  entered (e' ∷ es) (x ∷ xs) (v ∷ vs) zero e holds at = subst (λ w. Entered (e' ∷ es) (x ∷ xs) zero w) (some_same e' e at) (record { symbol = x; sense = v; is = holds.0; worth_is = refl })
+  entered (e' ∷ es) (x ∷ xs) (v ∷ vs) zero e holds at = subst (λ w. Entered (e' ∷ es) (x ∷ xs) zero w) (same_Some e' e at) (record { symbol = x; sense = v; is = holds.0; worth_is = refl })
   entered (e' ∷ es) (x ∷ xs) (v ∷ vs) (suc j) e holds at = (let r = entered es xs vs j e holds.1 at in record { symbol = r.symbol; sense = r.sense; is = r.is; worth_is = r.worth_is })
 
   record SpelledSame (a b : Option O) : Type 0 where
@@ -630,7 +631,7 @@ module _ {O I S F : Type 0} (of : Meaning O I S F) (law : IsLawful of) (q : Tree
 
     spelled_alike : (i j : ℕ) (a b : Entry O) → Entered es rule.right i a → Entered es rule.right j b → (selecting of q d first).alike a b ≡ true → by_index i ≡ by_index j
     spelled_alike i j a b x y e =
-        let h = both (same_size (size_of_entry a.kind) (size_of_entry b.kind)) (same_operands of (spelled of a.attr) (spelled of b.attr)) e in
+        let h = and_parts (same_size (size_of_entry a.kind) (size_of_entry b.kind)) (same_operands of (spelled of a.attr) (spelled of b.attr)) e in
         let z = sized (size_of_entry a.kind) (size_of_entry b.kind) h.0 in
         let o = spelled_same (spelled of a.attr) (spelled of b.attr) h.1 in
         x.worth_is ∙ symbol_spelled x.symbol a.kind a.attr x.sense o.operand z.0 x.is o.first_is z.1
@@ -638,12 +639,12 @@ module _ {O I S F : Type 0} (of : Meaning O I S F) (law : IsLawful of) (q : Tree
 
     -- symbols that are spelled alike have one number, if any
     same_symbols : SameForAlike (selecting of q d first) es V.symbol
-    same_symbols zero j a b p r e = absurd (none_some a p)
-    same_symbols (suc i) zero a b p r e = absurd (none_some b r)
+    same_symbols zero j a b p r e = absurd (none-some a p)
+    same_symbols (suc i) zero a b p r e = absurd (none-some b r)
     same_symbols (suc i) (suc j) a b p r e = spelled_alike i j a b (enter i a p) (enter j b r) e
 
     tells_constants : (i n : ℕ) (a : Entry O) → attribute_at es i ≡ Some a → constant_of q a.attr ≡ Some n → (term_state V).symbol i ≡ n
-    tells_constants zero n a p e = absurd (none_some a p)
+    tells_constants zero n a p e = absurd (none-some a p)
     tells_constants (suc i) n a p e =
         let x = enter i a p in
         ap (λ o. unwrap_or o 0) (x.worth_is ∙ constant_worth (size_of_symbol d.classes x.symbol) a.attr n e)

@@ -1,9 +1,11 @@
 -- The law: selected code has the tree's effect.
 use Rattle.std.proofs.Common.{◌≡◌, ℕ, zero, suc, ◌-◌, ◌<◌, ◌≤◌, List, [], ◌∷◌, length, Option, Some, None, Bool, true, false, cond, refl, sym, ap, ◌∙◌, subst}
 use Rattle.std.proofs.Common.{arith, slice_get}
-use Rattle.std.specs.Prelude.{IsSome, nat_lt, map, ◌&&◌}
+use Rattle.std.specs.Prelude.{IsSome, nat_lt, map}
 use Rattle.std.specs.List.{AllByRecursion as All}
 use Rattle.std.proofs.lemmas.Bool.Decides.{nat_tests}
+use Rattle.std.proofs.lemmas.Option.{same_Some, none-some}
+use Rattle.std.proofs.lemmas.Bool.{and_parts}
 use Rattle.gg_base.specs.declared.size.Size.{Size}
 use Rattle.gg_base.specs.declared.size.Size.TheVariants.{Byte, Word, Long}
 use Rattle.tree_core.specs.declared.token.Tok.{Tok}
@@ -54,12 +56,6 @@ use Rattle.sel_parse_stands.specs.Lines.{LinesSave}
 use Rattle.sel_parse_effect.specs.Standing.{Standing}
 use Rattle.sel_parse_effect.specs.Claims.{frame_sight, IsFit, Begins, HasEffect, SelectedHasEffect}
 use Rattle.sel_parse_effect.proofs.Interpreting.{interprets}
-
-some_same : {X : Type 0} (x y : X) → Some x ≡ Some y → x ≡ y
-some_same x y e = cc
-
-none_some : {X : Type 0} (x : X) → None ≡ Some x → ⊥
-none_some x e = cc
 
 -- ---- lines that were shown save and reload
 
@@ -142,9 +138,9 @@ module _ {O I S F : Type 0} (of : Meaning O I S F) (d : Content) (fit : IsFit of
 
   shown_at : (ks : List Kind) (ls : List Line) (i : ℕ) (k : Kind) → AreLinesShown of.spill_effect ks ls → All IsSpill ls → slice_get ks i ≡ Some k → i < length ls
       → IsLineShown of.spill_effect k (line_of (slice_get ls i)) × IsSpill (line_of (slice_get ls i))
-  shown_at [] ls i k h s e lt = absurd (none_some k e)
+  shown_at [] ls i k h s e lt = absurd (none-some k e)
   shown_at (y ∷ ks) [] i k h s e lt = absurd (omega (arith, lt))
-  shown_at (y ∷ ks) (l ∷ ls) zero k h s e lt = (subst (λ w. IsLineShown of.spill_effect w l) (some_same y k e) h.0, s.0)
+  shown_at (y ∷ ks) (l ∷ ls) zero k h s e lt = (subst (λ w. IsLineShown of.spill_effect w l) (same_Some y k e) h.0, s.0)
   shown_at (y ∷ ks) (l ∷ ls) (suc i) k h s e lt = shown_at ks ls i k h.1 s.1 e (omega (arith, lt))
 
   at : (i : ℕ) (k : Kind) → slice_get saved_kinds i ≡ Some k → i < 8 → ShownAt i k
@@ -200,10 +196,6 @@ module _ {O I S F : Type 0} (of : Meaning O I S F) (d : Content) (fit : IsFit of
   lines_save = record { values = value_line; places = place_line; addresses = address_line; reloads = reloading_line }
 
 -- ---- what the leaves name is there in the frame
-
-apart : (b c : Bool) → (b && c) ≡ true → (b ≡ true) × (c ≡ true)
-apart true c e = (refl, e)
-apart false c e = absurd (cc)
 
 some_there : (o : Option ℕ) → IsSome o → there o ≡ values.Wild → ⊥
 some_there None h e = absurd (cc)
@@ -319,7 +311,7 @@ module _ {O I S F : Type 0} (of : Meaning O I S F) (law : IsLawful of) (q : Tree
   fits_all [] (tree l below behind) w h k = absurd h
   fits_all (x ∷ xs) none w h k = absurd h
   fits_all (x ∷ xs) (tree l below behind) w h k =
-      ((apart (grammar.sort_fits (sort_of l.tok) x) (leaf_fits l) h.0).1, fits_all (kids l.tok) below (leaves_onto behind w) h.1 (fits_all xs behind w h.2 k))
+      ((and_parts (grammar.sort_fits (sort_of l.tok) x) (leaf_fits l) h.0).1, fits_all (kids l.tok) below (leaves_onto behind w) h.1 (fits_all xs behind w h.2 k))
 
   both_all : (w : List Leaf) → All (λ l. leaf_fits l ≡ true) w → All (Names of q d first f fs t (frame_sight of f t m) m) w → All IsGood w
   both_all [] h k = tt
@@ -367,14 +359,14 @@ module _ {O I S F : Type 0} (of : Meaning O I S F) (law : IsLawful of) (q : Tree
         where
           by : (b : Bool) → nat_lt k f.locals ≡ b → cond b (of.reads (of.local k) Long m) None ≡ Some n → k < f.locals
           by true h g = not_less k f.locals h
-          by false h g = absurd (none_some n g)
+          by false h g = absurd (none-some n g)
 
   local_sees : (k n : ℕ) → (frame_sight of f t m).locals k ≡ Some n → of.reads (of.local k) Long m ≡ Some n
   local_sees k n e = by (nat_lt k f.locals) e
     where
       by : (b : Bool) → cond b (of.reads (of.local k) Long m) None ≡ Some n → of.reads (of.local k) Long m ≡ Some n
       by true g = g
-      by false g = absurd (none_some n g)
+      by false g = absurd (none-some n g)
 
   begin_stands : Standing of q d first f fs t (frame_sight of f t m) m (record { entries = []; code = []; most = first }) [] []
   begin_stands = record {

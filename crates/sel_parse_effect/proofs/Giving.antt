@@ -1,6 +1,7 @@
 -- What a rule with a result leaves.
 use Rattle.std.proofs.Common.{◌≡◌, ℕ, ◌≤◌, ◌==◌, List, [], ◌∷◌, length, Option, Some, None, Bool, true, false, refl, sym, ap, ◌∙◌, subst, arith}
 use Rattle.std.specs.Prelude.{is_some, option_map, ◌||◌, count_ones}
+use Rattle.std.proofs.lemmas.Bool.{eqb-true}
 use Rattle.gg_base.specs.declared.size.Size.{Size}
 use Rattle.gg_base.specs.declared.size.Size.TheVariants.{Long}
 use Rattle.tree_meaning.specs.declared.value.Meaning.{Meaning as Place}
@@ -51,7 +52,6 @@ use Rattle.sel_parse_selected.specs.Selected.{selecting}
 use Rattle.sel_parse_stands.specs.Stands.{Sees, IsFrame, Holds, ClassIs, value as value_is, address as address_is, place as place_is}
 use Rattle.sel_target.specs.Values.{memory as memory_is}
 use Rattle.sel_parse.specs.Shown.{IsShown}
-use Rattle.sel_parse_stands.proofs.Symbols.{equal_numbers}
 use Rattle.sel_parse_stands.proofs.Loaded.{AllLoaded}
 use Rattle.sel_parse_stands.proofs.Carrying.{AllCarried}
 use Rattle.sel_parse_stands.proofs.Instances.{Hold, view, stands_for, known, instance, spelled_now}
@@ -157,7 +157,7 @@ record OneZero (v : View) (ds : List Shape) : Type 0 where
 one_zero : (v : View) (ds : List Shape) → length ds ≤ 1 → divides_by_zero (term_state v) ds ≡ true → OneZero v ds
 one_zero v [] few e = absurd (cc)
 one_zero v (x ∷ y ∷ ds) few e = absurd (omega (arith, few))
-one_zero v (x ∷ []) few e = record { divisor = x; only = refl; zero_is = equal_numbers (value v x) 0 (or_none (value v x == 0) e) } where
+one_zero v (x ∷ []) few e = record { divisor = x; only = refl; zero_is = eqb-true (value v x) 0 (or_none (value v x == 0) e) } where
   or_none : (b : Bool) → (b || false) ≡ true → b ≡ true
   or_none true h = refl
   or_none false h = h

@@ -1,6 +1,8 @@
 -- What is spelled at a rule's places, and which places stand there.
 use Rattle.std.proofs.Common.{◌≡◌, ℕ, zero, suc, ◌+◌, ◌<◌, ◌≤◌, List, [], ◌∷◌, length, Option, Some, None, true, refl, sym, ap, ◌∙◌, subst, slice_get, arith}
 use Rattle.std.specs.Prelude.{slice_index_or, option_map}
+use Rattle.std.proofs.lemmas.Option.{same_Some, none-some}
+use Rattle.std.proofs.lemmas.Bool.{and_parts}
 use Rattle.gg_base.specs.declared.size.Size.{Size}
 use Rattle.gg_base.specs.declared.size.Size.TheVariants.{Long}
 use Rattle.tree_core.specs.declared.token.Tok.{Tok}
@@ -38,14 +40,7 @@ use Rattle.sel_parse_selected.specs.Selected.{selecting}
 use Rattle.sel_parse_stands.specs.Stands as stands
 use Rattle.sel_parse_stands.specs.Stands.{NamedBy, ClassIs, SymbolIs, IsFrame, Holds}
 use Rattle.sel_parse_stands.proofs.Carrying.{Carried, AllCarried}
-use Rattle.sel_parse_stands.proofs.Symbols.{both}
 use Rattle.sel_parse_effect.proofs.Effects.{sizes_same, attribute_suc}
-
-some_same : {X : Type 0} (x y : X) → Some x ≡ Some y → x ≡ y
-some_same x y e = cc
-
-none_some : {X : Type 0} (x : X) → None ≡ Some x → ⊥
-none_some x e = cc
 
 -- a value is no place
 pub no_place : (v : Value) (z : Size) (g : Place) → meaning.Of v ≡ g → IsPlace z g → ⊥
@@ -182,36 +177,36 @@ module _ {O I S F : Type 0} (of : Meaning O I S F) (law : IsLawful of) (q : Tree
 
   class_sized : (m : S) (c : ℕ) (k : Option Kind) (a : Attr O) (v : Sense) (z : Size) → ClassIs of q d first f fs t s m0 m k a v → size_of_entry k ≡ Some z
       → Rattle.sel_terms.specs.RuleFacts.size_of_kind k ≡ z
-  class_sized m c k a v z (stands.register r n lt is) e = absurd (none_some z e)
-  class_sized m c k a v z (stands.in_slot w n le lt is) e = absurd (none_some z e)
-  class_sized m c k a v z (stands.value y o n fits is) e = some_same y z e
-  class_sized m c k a v z (stands.place y o p fits is) e = some_same y z e
-  class_sized m c k a v z (stands.number n lt) e = absurd (none_some z e)
-  class_sized m c k a v z (stands.address o n fits is) e = absurd (none_some z e)
+  class_sized m c k a v z (stands.register r n lt is) e = absurd (none-some z e)
+  class_sized m c k a v z (stands.in_slot w n le lt is) e = absurd (none-some z e)
+  class_sized m c k a v z (stands.value y o n fits is) e = same_Some y z e
+  class_sized m c k a v z (stands.place y o p fits is) e = same_Some y z e
+  class_sized m c k a v z (stands.number n lt) e = absurd (none-some z e)
+  class_sized m c k a v z (stands.address o n fits is) e = absurd (none-some z e)
 
   symbol_sized : (m : S) (x : Sym) (k : Option Kind) (a : Attr O) (v : Sense) (z : Size) → IsSymbol m x k a v → size_of_entry k ≡ Some z → size_of_symbol d.classes x ≡ z
-  symbol_sized m x k a v z (stands.token l fit named) e = some_same Long z e
+  symbol_sized m x k a v z (stands.token l fit named) e = same_Some Long z e
   symbol_sized m x k a v z (stands.class c a' v' is) e = class_sized m c (kind_at d.classes c) a v z is e
 
   spelled_own : (a : Attr O) (o p : O) → spelled of a ≡ Some o → own_operand of a ≡ Some p → o ≡ p
-  spelled_own (attr.Reg r) o p e g = absurd (none_some p g)
-  spelled_own (attr.InSlot w) o p e g = absurd (none_some p g)
-  spelled_own (attr.Value x) o p e g = absurd (none_some p g)
-  spelled_own (attr.Place x) o p e g = some_same o p (sym e ∙ g)
-  spelled_own (attr.Con n) o p e g = absurd (none_some p g)
-  spelled_own (attr.Ea x) o p e g = absurd (none_some p g)
-  spelled_own (attr.Token l) o p e g = some_same o p (sym e ∙ g)
-  spelled_own attr.Nothing o p e g = absurd (none_some p g)
+  spelled_own (attr.Reg r) o p e g = absurd (none-some p g)
+  spelled_own (attr.InSlot w) o p e g = absurd (none-some p g)
+  spelled_own (attr.Value x) o p e g = absurd (none-some p g)
+  spelled_own (attr.Place x) o p e g = same_Some o p (sym e ∙ g)
+  spelled_own (attr.Con n) o p e g = absurd (none-some p g)
+  spelled_own (attr.Ea x) o p e g = absurd (none-some p g)
+  spelled_own (attr.Token l) o p e g = same_Some o p (sym e ∙ g)
+  spelled_own attr.Nothing o p e g = absurd (none-some p g)
 
   own_spelled : (a : Attr O) (o : O) → own_operand of a ≡ Some o → spelled of a ≡ Some o
-  own_spelled (attr.Reg r) o e = absurd (none_some o e)
-  own_spelled (attr.InSlot w) o e = absurd (none_some o e)
-  own_spelled (attr.Value x) o e = absurd (none_some o e)
+  own_spelled (attr.Reg r) o e = absurd (none-some o e)
+  own_spelled (attr.InSlot w) o e = absurd (none-some o e)
+  own_spelled (attr.Value x) o e = absurd (none-some o e)
   own_spelled (attr.Place x) o e = e
-  own_spelled (attr.Con n) o e = absurd (none_some o e)
-  own_spelled (attr.Ea x) o e = absurd (none_some o e)
+  own_spelled (attr.Con n) o e = absurd (none-some o e)
+  own_spelled (attr.Ea x) o e = absurd (none-some o e)
   own_spelled (attr.Token l) o e = e
-  own_spelled attr.Nothing o e = absurd (none_some o e)
+  own_spelled attr.Nothing o e = absurd (none-some o e)
 
   abbrev spelling : Entry O → Spelling O
   spelling e = record { size = size_of_entry e.kind; operand = spelled of e.attr }
@@ -237,7 +232,7 @@ module _ {O I S F : Type 0} (of : Meaning O I S F) (law : IsLawful of) (q : Tree
 
   same_spelled : (es : List (Entry O)) → SameForAlike (selecting of q d first) es (spelled_at es)
   same_spelled es i j a b p r e =
-      let h = both (same_size (size_of_entry a.kind) (size_of_entry b.kind)) (same_operands of (spelled of a.attr) (spelled of b.attr)) e in
+      let h = and_parts (same_size (size_of_entry a.kind) (size_of_entry b.kind)) (same_operands of (spelled of a.attr) (spelled of b.attr)) e in
       ap (option_map spelling) p
       ∙ ap Some (one_spelling (size_of_entry a.kind) (size_of_entry b.kind) (spelled of a.attr) (spelled of b.attr) (alike_sizes (size_of_entry a.kind) (size_of_entry b.kind) h.0)
       (alike_operands (spelled of a.attr) (spelled of b.attr) h.1))
@@ -254,12 +249,12 @@ module _ {O I S F : Type 0} (of : Meaning O I S F) (law : IsLawful of) (q : Tree
 
   at_place : (m : S) (es : List (Entry O)) (right : List Sym) (vs : List Sense) (j : ℕ) (e : Entry O) → Holds of q d first f fs t s m0 m es right vs
       → slice_get es j ≡ Some e → AtPlace m right vs j e
-  at_place m [] right vs j e holds at = absurd (none_some e at)
+  at_place m [] right vs j e holds at = absurd (none-some e at)
   at_place m (b ∷ es) [] [] j e holds at = absurd holds
   at_place m (b ∷ es) [] (v ∷ vs) j e holds at = absurd holds
   at_place m (b ∷ es) (x ∷ xs) [] j e holds at = absurd holds
   at_place m (b ∷ es) (x ∷ xs) (v ∷ vs) zero e holds at =
-      subst (AtPlace m (x ∷ xs) (v ∷ vs) zero) (some_same b e at) (record { symbol = x; sense = v; there = refl; sensed = refl; is = holds.0 })
+      subst (AtPlace m (x ∷ xs) (v ∷ vs) zero) (same_Some b e at) (record { symbol = x; sense = v; there = refl; sensed = refl; is = holds.0 })
   at_place m (b ∷ es) (x ∷ xs) (v ∷ vs) (suc j) e holds at =
       let r = at_place m es xs vs j e holds.1 at in
       record { symbol = r.symbol; sense = r.sense; there = r.there; sensed = r.sensed; is = r.is }
@@ -295,13 +290,13 @@ module _ {O I S F : Type 0} (of : Meaning O I S F) (law : IsLawful of) (q : Tree
     sized : size_of_entry entry.kind ≡ Some z
 
   inverted : (es : List (Entry O)) (i : ℕ) (z : Size) (o : O) → spelled_at es i ≡ Some (record { size = Some z; operand = Some o }) → Inverted es i z o
-  inverted es zero z o e = absurd (none_some (record { size = Some z; operand = Some o }) e)
+  inverted es zero z o e = absurd (none-some (record { size = Some z; operand = Some o }) e)
   inverted es (suc i) z o e = by (slice_get es i) refl (ap (option_map spelling) (sym (attribute_suc es i)) ∙ e)
     where
       by : (w : Option (Entry O)) → slice_get es i ≡ w → option_map spelling w ≡ Some (record { size = Some z; operand = Some o }) → Inverted es (suc i) z o
-      by None at g = absurd (none_some (record { size = Some z; operand = Some o }) g)
+      by None at g = absurd (none-some (record { size = Some z; operand = Some o }) g)
       by (Some b) at g =
-          let same : spelling b ≡ record { size = Some z; operand = Some o } = some_same (spelling b) (record { size = Some z; operand = Some o }) g in
+          let same : spelling b ≡ record { size = Some z; operand = Some o } = same_Some (spelling b) (record { size = Some z; operand = Some o }) g in
           record { index = i; is = refl; entry = b; at = at; spells = ap (λ (x : Spelling O). x.operand) same; sized = ap (λ (x : Spelling O). x.size) same }
 
   pub home_found : (m : S) (rule : Rule) (es : List (Entry O)) (vs : List Sense) (i j : ℕ) (z : Size) (g : Place)
@@ -335,11 +330,11 @@ module _ {O I S F : Type 0} (of : Meaning O I S F) (law : IsLawful of) (q : Tree
 
   pub forward : (m m' : S) (right : List Sym) (es es' : List (Entry O)) (j : ℕ) (e : Entry O) → AllCarried of q d f t m m' right es es' → slice_get es j ≡ Some e
       → (b : Attr O) × (slice_get (attrs es') j ≡ Some b) × Carried of q d f t m m' (size_of_some d.classes (slice_get right j)) e.attr b
-  forward m m' right [] es' j e h at = absurd (none_some e at)
+  forward m m' right [] es' j e h at = absurd (none-some e at)
   forward m m' [] (a ∷ es) es' j e h at = absurd h
   forward m m' (x ∷ xs) (a ∷ es) [] j e h at = absurd h
   forward m m' (x ∷ xs) (a ∷ es) (b ∷ es') zero e h at =
-      (b.attr, refl, subst (λ (w : Entry O). Carried of q d f t m m' (size_of_symbol d.classes x) w.attr b.attr) (some_same a e at) h.0)
+      (b.attr, refl, subst (λ (w : Entry O). Carried of q d f t m m' (size_of_symbol d.classes x) w.attr b.attr) (same_Some a e at) h.0)
   forward m m' (x ∷ xs) (a ∷ es) (b ∷ es') (suc j) e h at = forward m m' xs es es' j e h.1 at
 
   pub home_later : (m m' : S) (right : List Sym) (es es' : List (Entry O)) (vs : List Sense) (i : ℕ) (z : Size) (g : Place)

@@ -2,6 +2,7 @@
 use Rattle.std.proofs.Common.{◌≡◌, ◌⊎◌, inl, inr, ℕ, zero, suc, ◌+◌, ◌≤◌, List, [], ◌∷◌, ◌++◌, length, Option, Some, None, true, false, refl, sym, ap, ◌∙◌, subst, arith, slice_get}
 use Rattle.std.specs.Prelude.{count_ones}
 use Rattle.std.specs.List.{AllByRecursion as All}
+use Rattle.std.proofs.lemmas.Option.{same_Some, none-some}
 use Rattle.tree_core.specs.declared.token.Tok.TheVariants as tok
 use Rattle.tree_core.specs.declared.tree.Att.{Att}
 use Rattle.tree_core.specs.declared.tree.Att.TheVariants as att
@@ -62,15 +63,9 @@ use Rattle.sel_parse_effect.proofs.Gives.{saves_alone, reduction_gives, reductio
 use Rattle.sel_parse_effect.proofs.Doing as doing
 use Rattle.sel_parse_effect.proofs.Growing.{reduction_grows, traps_still}
 
-some_same : {X : Type 0} (x y : X) → Some x ≡ Some y → x ≡ y
-some_same x y e = cc
-
-none_some : {X : Type 0} (x : X) → None ≡ Some x → ⊥
-none_some x e = cc
-
 rule_at : {X : Type 0} (P : X → Type 0) (rs : List X) (n : ℕ) (r : X) → All P rs → slice_get rs n ≡ Some r → P r
-rule_at P [] n r h e = absurd (none_some r e)
-rule_at P (y ∷ rs) zero r h e = subst P (some_same y r e) h.0
+rule_at P [] n r h e = absurd (none-some r e)
+rule_at P (y ∷ rs) zero r h e = subst P (same_Some y r e) h.0
 rule_at P (y ∷ rs) (suc n) r h e = rule_at P rs n r h.1 e
 
 ending_same : {I S : Type 0} (m n : S) → ◌≡◌ {A = Ending I S} (Comes m) (Comes n) → m ≡ n
@@ -188,7 +183,7 @@ module _ {O I S F : Type 0} (of : Meaning O I S F) (law : IsLawful of) (stores :
 
     may_not : rule.right ≡ grammar_symbol.Tok tok.Save ∷ [] → (p : Where) (e : Entry O) → MayMove of law q d first f fs t s m0 frame lines before.state rule.right Begin.symbols vs [] [] Begin p e → ⊥
     may_not alone p e (below i b at holding) =
-        none_some e
+        none-some e
         (ap (λ (w : List (Entry O)). slice_get w i)
         (sym (none_below before.state Begin.below (parted_at of q d first f fs t s m0 before.state rule.right [] vs [] x.entries size before.holds).rest)) ∙ at)
     may_not alone p e (among i b at holding apart) =
@@ -202,8 +197,8 @@ module _ {O I S F : Type 0} (of : Meaning O I S F) (law : IsLawful of) (stores :
         holds_none b g h = token_holds_none of law q d first f fs t s m0 frame lines b.kind o.save.leaf (subst (λ (w : Attr O). holds_register of (record { kind = b.kind; attr = w }) ≡ true) g h)
 
         only : (i : ℕ) → slice_get (o.entry ∷ []) i ≡ Some e → ⊥
-        only zero g = holds_none e (ap (λ (w : Entry O). w.attr) (sym (some_same o.entry e g)) ∙ o.save.is) holding
-        only (suc i) g = none_some e g
+        only zero g = holds_none e (ap (λ (w : Entry O). w.attr) (sym (same_Some o.entry e g)) ∙ o.save.is) holding
+        only (suc i) g = none-some e g
 
     due_still : (y new : Desk O I) (r : ℕ) → due of q d first false y ≡ Done (r, new) → Begin ≡ y → rule.right ≡ grammar_symbol.Tok tok.Save ∷ [] → Begin ≡ new
     due_still y new r e same alone =
@@ -283,17 +278,17 @@ module _ {O I S F : Type 0} (of : Meaning O I S F) (law : IsLawful of) (stores :
     pub came : (x' ≡ None) ⊎ ((y : Stack O I) × (x' ≡ Some y) × (reduced of q d first rule x ≡ Done y))
 
   came_of : (o : Outcome (Stack O I)) (x' : Kept O I) → kept_of o ≡ Some x' → (x' ≡ None) ⊎ ((y : Stack O I) × (x' ≡ Some y) × (o ≡ Done y))
-  came_of Full x' e = absurd (none_some x' e)
-  came_of Stuck x' e = inl (sym (some_same None x' e))
-  came_of (Done y) x' e = inr (y, sym (some_same (Some y) x' e), refl)
+  came_of Full x' e = absurd (none-some x' e)
+  came_of Stuck x' e = inl (sym (same_Some None x' e))
+  came_of (Done y) x' e = inr (y, sym (same_Some (Some y) x' e), refl)
 
   came : (n : ℕ) (rule : Rule) (x : Stack O I) (x' : Kept O I) → slice_get d.rules n ≡ Some rule → Select.reduced n (Some x) ≡ Some x'
       → (x' ≡ None) ⊎ ((y : Stack O I) × (x' ≡ Some y) × (reduced of q d first rule x ≡ Done y))
   came n rule x x' there e = came_of (reduced of q d first rule x) x' (ap (λ o. reduced_by of q d first o (Some x)) (sym there) ∙ e)
 
   none_kept : (o : Option Rule) (x' : Kept O I) → reduced_by of q d first o None ≡ Some x' → x' ≡ None
-  none_kept None x' e = sym (some_same None x' e)
-  none_kept (Some r) x' e = sym (some_same None x' e)
+  none_kept None x' e = sym (same_Some None x' e)
+  none_kept (Some r) x' e = sym (same_Some None x' e)
 
   module _ (rules_valid : All (IsRule d.classes) d.rules) (rules_shown : AreShown of.effect d) where
     pub gives_at : (x x' : Kept O I) (n : ℕ) (r : Rule) (a : List Sym) (us vs : List Sense) (v : Sense) → slice_get d.rules n ≡ Some r → length vs ≡ length r.right → answered Select r x ≡ true
@@ -352,7 +347,7 @@ module _ {O I S F : Type 0} (of : Meaning O I S F) (law : IsLawful of) (stores :
             ap (λ c. of.run c m0) more.is ∙ traps_still of law x.code more.more m0 (h (omega (arith, less, within)))))
 
         at : (o : Option Rule) → slice_get d.rules n ≡ o → Trapped of q d first f fs t s m0 x'
-        at None there = subst (λ w. Trapped of q d first f fs t s m0 w) (some_same None x' (ap (λ o. reduced_by of q d first o (Some x)) (sym there) ∙ e)) tt
+        at None there = subst (λ w. Trapped of q d first f fs t s m0 w) (same_Some None x' (ap (λ o. reduced_by of q d first o (Some x)) (sym there) ∙ e)) tt
         at (Some r) there = by r (came n r x x' there e)
 
     abbrev pub interprets : Interprets (selecting of q d first) d.classes d.rules q.objects s

@@ -2,6 +2,8 @@
 use Rattle.std.proofs.Common.{◌≡◌, ℕ, zero, suc, ◌-◌, ◌^◌, ◌%◌, ◌<◌, ◌==◌, List, [], ◌∷◌, Option, Some, None, Bool, true, false, cond, refl, sym, ap, ◌∙◌, subst}
 use Rattle.std.proofs.Common.{arith, slice_get}
 use Rattle.std.specs.Prelude.{◌||◌, slice_index_or, count_ones, unwrap_or}
+use Rattle.std.proofs.lemmas.Option.{same_Some, none-some}
+use Rattle.std.proofs.lemmas.Bool.{eqb-true}
 use Rattle.gg_base.specs.declared.size.Size.{Size}
 use Rattle.gg_base.specs.declared.size.Size.TheVariants.{Long}
 use Rattle.tree_core.specs.declared.token.Tok.{Tok}
@@ -58,12 +60,6 @@ use Rattle.sel_parse_effect.proofs.Giving as giving
 use Rattle.sel_parse_effect.proofs.Giving.{V, Later, Shaped}
 use Rattle.sel_parse_effect.proofs.Homes.{home_found, home_later}
 
-some_same : {X : Type 0} (x y : X) → Some x ≡ Some y → x ≡ y
-some_same x y e = cc
-
-none_some : {X : Type 0} (x : X) → None ≡ Some x → ⊥
-none_some x e = cc
-
 -- a place has one size
 one_size : (z y : Size) (g : Place) → IsPlace z g → IsPlace y g → z ≡ y
 one_size z y (meaning.Of v) h k = absurd h
@@ -82,18 +78,18 @@ at_suc : (right : List Sym) (j : ℕ) → symbol_at right (suc j) ≡ slice_get 
 at_suc right j = by (suc j == 0) refl
   where
     by : (b : Bool) → (suc j == 0) ≡ b → symbol_at right (suc j) ≡ slice_get right j
-    by true e = absurd (let h = Rattle.sel_parse_stands.proofs.Symbols.equal_numbers (suc j) 0 e in omega (arith, h))
+    by true e = absurd (let h = eqb-true (suc j) 0 e in omega (arith, h))
     by false e = ap (λ b. cond b None (slice_get right (suc j - 1))) e ∙ ap (slice_get right) (let back : suc j - 1 ≡ j = omega arith in back)
 
 pub one_hole : (right : List Sym) (ps : List Piece) (x : Sym) → only_symbol right ps ≡ Some x → OneHole right ps (Some x)
-one_hole right [] x e = absurd (none_some x e)
-one_hole right (piece.Hole zero ∷ []) x e = absurd (none_some x e)
+one_hole right [] x e = absurd (none-some x e)
+one_hole right (piece.Hole zero ∷ []) x e = absurd (none-some x e)
 one_hole right (piece.Hole (suc j) ∷ []) x e = record { index = j; is = refl; there = sym (at_suc right j) ∙ e }
-one_hole right (piece.Hole i ∷ p ∷ ps) x e = absurd (none_some x e)
-one_hole right (piece.Bytes w ∷ ps) x e = absurd (none_some x e)
-one_hole right (piece.Label ∷ ps) x e = absurd (none_some x e)
-one_hole right (piece.Callee ∷ ps) x e = absurd (none_some x e)
-one_hole right (piece.Count ∷ ps) x e = absurd (none_some x e)
+one_hole right (piece.Hole i ∷ p ∷ ps) x e = absurd (none-some x e)
+one_hole right (piece.Bytes w ∷ ps) x e = absurd (none-some x e)
+one_hole right (piece.Label ∷ ps) x e = absurd (none-some x e)
+one_hole right (piece.Callee ∷ ps) x e = absurd (none-some x e)
+one_hole right (piece.Count ∷ ps) x e = absurd (none-some x e)
 
 pub reg_symbol : (classes : List Class) (o : Option Sym) → is_reg (kind_of_symbol classes o) ≡ true → (c : ℕ) × (o ≡ Some (grammar_symbol.Class c)) × (kind_at classes c ≡ Some kind.Reg)
 reg_symbol classes None e = absurd (cc)
@@ -288,13 +284,13 @@ module _ {O I S F : Type 0} (of : Meaning O I S F) (law : IsLawful of) (q : Tree
 
   at_right : (bs : List (Entry O)) (right : List Sym) (ws : List Sense) (j : ℕ) (x : Sym) → Holds of q d first f fs t s m0 m' bs right ws → AllLoaded bs → slice_get right j ≡ Some x
       → (e : Entry O) × (slice_get (attrs bs) j ≡ Some e.attr) × (u : Sense) × (slice_index_or ws j unknown ≡ u) × SymbolIs of q d first f fs t s m0 m' x e.kind e.attr u × IsLoaded e.attr
-  at_right [] [] ws j x h k e = absurd (none_some x e)
+  at_right [] [] ws j x h k e = absurd (none-some x e)
   at_right [] (y ∷ ys) ws j x h k e = absurd h
   at_right (b ∷ bs) [] [] j x h k e = absurd h
   at_right (b ∷ bs) [] (w ∷ ws) j x h k e = absurd h
   at_right (b ∷ bs) (y ∷ ys) [] j x h k e = absurd h
   at_right (b ∷ bs) (y ∷ ys) (w ∷ ws) zero x h k e =
-      (b, refl, w, refl, subst (λ z. SymbolIs of q d first f fs t s m0 m' z b.kind b.attr w) (some_same y x e) h.0, k.0)
+      (b, refl, w, refl, subst (λ z. SymbolIs of q d first f fs t s m0 m' z b.kind b.attr w) (same_Some y x e) h.0, k.0)
   at_right (b ∷ bs) (y ∷ ys) (w ∷ ws) (suc j) x h k e = at_right bs ys ws j x h.1 k.1 e
 
   found_at : (j : ℕ) (x : Sym) → slice_get rule.right j ≡ Some x → At j x

@@ -1,6 +1,7 @@
 -- A parse by the one selection is a parse by the other.
 use Rattle.std.proofs.Common.{◌≡◌, ℕ, zero, suc, ◌+◌, ◌==◌, List, [], ◌∷◌, ◌++◌, length, map, take, drop, slice_get, Option, Some, None, Bool, true, false, refl, sym, ap, ◌∙◌, subst}
 use Rattle.std.specs.Prelude.{reverse, option_map, ◌-◌, ◌&&◌, if◌then◌else◌}
+use Rattle.std.proofs.lemmas.Option.{none-some, same_Some}
 use Rattle.tree_core.specs.declared.token.Tok.{Tok}
 use Rattle.tree_core.specs.declared.tree.Leaf.{Leaf}
 use Rattle.tree_core.specs.declared.program.TreeProgram.{TreeProgram}
@@ -32,7 +33,7 @@ use Rattle.sel_parse_slots.specs.Claims.{IsTaken}
 use Rattle.sel_parse_slots.proofs.Iterating as walk
 use Rattle.sel_parse_slots.proofs.Prefixes.{gamma}
 use Rattle.sel_parse_joined.specs.Claims.{IsSelectable, SameCode, SameFull}
-use Rattle.sel_parse_joined.proofs.Turning.{none_some, some_same, turned_cons, all_at, map_turned, map_take, map_get}
+use Rattle.sel_parse_joined.proofs.Turning.{turned_cons, all_at, map_turned, map_take, map_get}
 use Rattle.sel_parse_joined.proofs.Holding.{entry, Agrees, AllAgree, all_agree, alike_same, constant_same, relation_same}
 use Rattle.sel_parse_joined.proofs.Spilling.{outcome}
 use Rattle.sel_parse_joined.proofs.Reducing.{stack, reduced_same}
@@ -221,12 +222,12 @@ module _ {O I S F : Type 0} (of : Meaning O I S F) (law : IsLawful of) (q : Tree
       pub parse_of : Parses (by_attributes old) d.rules (stmt_of d.classes) at before ws a x log end
 
     some_kept : (o : Option (selected.Kept O I)) (z : computed.Kept O I) → option_map kept o ≡ Some z → (x : selected.Kept O I) × (o ≡ Some x) × (kept x ≡ z)
-    some_kept None z e = absurd (none_some z e)
-    some_kept (Some x) z e = (x, refl, some_same (kept x) z e)
+    some_kept None z e = absurd (none-some z e)
+    some_kept (Some x) z e = (x, refl, same_Some (kept x) z e)
 
     none_kept : (o : Option (selected.Kept O I)) → option_map kept o ≡ None → o ≡ None
     none_kept None e = refl
-    none_kept (Some x) e = absurd (none_some (kept x) (sym e))
+    none_kept (Some x) e = absurd (none-some (kept x) (sym e))
 
     same : {at : ℕ} {before : List (List Sym)} {ws : List Leaf} {a : List Sym} {y : computed.Kept O I} {log : List (Move Leaf)} {e : Ending (computed.Kept O I)}
         → Parses (by_attributes new) d.rules (stmt_of d.classes) at before ws a y log e → (x : selected.Kept O I) → kept x ≡ y → Before ws a x → Same at before ws a x log e
@@ -283,10 +284,10 @@ module _ {O I S F : Type 0} (of : Meaning O I S F) (law : IsLawful of) (q : Tree
 
         by : (e : Ending (selected.Kept O I)) → ending e ≡ Accepts (Some (record { entries = s.entries; code = code; most = most })) → selected.Parsed of q d first w s.log e
             → selected.Selected of q d first w code most
-        by (Accepts None) f p = absurd (none_some (record { entries = s.entries; code = code; most = most }) (accepted None (Some (record { entries = s.entries; code = code; most = most })) f))
+        by (Accepts None) f p = absurd (none-some (record { entries = s.entries; code = code; most = most }) (accepted None (Some (record { entries = s.entries; code = code; most = most })) f))
         by (Accepts (Some x)) f p =
             let z : stack of law q d first x ≡ record { entries = s.entries; code = code; most = most } =
-            some_same (stack of law q d first x) (record { entries = s.entries; code = code; most = most })
+            same_Some (stack of law q d first x) (record { entries = s.entries; code = code; most = most })
             (accepted (Some (stack of law q d first x)) (Some (record { entries = s.entries; code = code; most = most })) f) in
             done x (ap (λ (y : computed_desk.Stack O I). y.code) z) (ap (λ (y : computed_desk.Stack O I). y.most) z) p
         by (Blocks at) f p = absurd (cc)

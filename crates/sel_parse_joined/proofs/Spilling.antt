@@ -5,6 +5,7 @@ use Rattle.std.specs.List.{AllByRecursion as All, list_any}
 use Rattle.std.specs.Int.{bit_at}
 use Rattle.std.proofs.lemmas.List.{length-map}
 use Rattle.std.proofs.lemmas.List.Folds.{list_any-append}
+use Rattle.std.proofs.lemmas.Option.{none-some, same_Some}
 use Rattle.gg_base.specs.declared.size.Size.{Size}
 use Rattle.gg_base.specs.declared.size.Size.TheVariants.{Byte, Word, Long}
 use Rattle.tree_core.specs.declared.program.TreeProgram.{TreeProgram}
@@ -25,7 +26,7 @@ use Rattle.sel_parse_selected.specs.Spills as selected_spills
 use Rattle.sel_parse_desk.specs.Entries as computed_entries
 use Rattle.sel_parse_desk.specs.Desk as computed_desks
 use Rattle.sel_parse_desk.specs.Spills as computed_spills
-use Rattle.sel_parse_joined.proofs.Turning.{none_some, some_same, turned_get, turned_set, any_turned, all_at, all_more, map_turned, map_get, map_set, map_any, map_first}
+use Rattle.sel_parse_joined.proofs.Turning.{turned_get, turned_set, any_turned, all_at, all_more, map_turned, map_get, map_set, map_any, map_first}
 use Rattle.sel_parse_joined.proofs.Turning.{attributes_any, counted_back, last_turned, last_in, lowest_same}
 use Rattle.sel_parse_joined.proofs.Holding.{entry, Agrees, AllAgree}
 
@@ -299,9 +300,9 @@ module _ {O I S F : Type 0} (of : Meaning O I S F) (law : IsLawful of) (q : Tree
       (λ j f. last_in (selected_spills.holds_register of) x.below j f) e
     where
       by : (o o' : Option ℕ) → ((j : ℕ) → o ≡ Some j → j < length x.below) → selected_spills.deepest of o o' ≡ Some p → IsIn x p
-      by (Some j) o' h f = subst (IsIn x) (some_same (selected_spills.Below j) p f) (h j refl)
-      by None (Some i) h f = subst (IsIn x) (some_same (selected_spills.Among i) p f) tt
-      by None None h f = absurd (none_some p f)
+      by (Some j) o' h f = subst (IsIn x) (same_Some (selected_spills.Below j) p f) (h j refl)
+      by None (Some i) h f = subst (IsIn x) (same_Some (selected_spills.Among i) p f) tt
+      by None None h f = absurd (none-some p f)
 
   -- ---- it goes to a slot
 

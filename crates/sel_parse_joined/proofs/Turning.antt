@@ -5,16 +5,11 @@ use Rattle.std.specs.List.{AllByRecursion as All, list_any}
 use Rattle.std.proofs.lemmas.List.{length-reverse}
 use Rattle.std.proofs.lemmas.Grind.{reverse_onto}
 use Rattle.std.proofs.lemmas.List.Folds.{list_any-append}
+use Rattle.std.proofs.lemmas.Option.{none-some, same_Some}
 use Rattle.sel_parse_selected.specs.Desk as selected
 use Rattle.sel_parse_selected.specs.Spills as selected_spills
 use Rattle.sel_parse_desk.specs.Desk as computed
 use Rattle.sel_parse_desk.specs.Spills as computed_spills
-
-pub none_some : {X : Type 0} (x : X) → None ≡ Some x → ⊥
-none_some x e = cc
-
-pub some_same : {X : Type 0} (x y : X) → Some x ≡ Some y → x ≡ y
-some_same x y e = cc
 
 module _ {X : Type 0} where
   pub turned_cons : (x : X) (xs : List X) → reverse (x ∷ xs) ≡ reverse xs ++ x ∷ []
@@ -79,8 +74,8 @@ module _ {X : Type 0} where
       ap (list_any p) (turned_cons x xs) ∙ list_any-append p (reverse xs) (x ∷ []) ∙ ap (λ b. b || (p x || false)) (any_turned p xs) ∙ last_or p x (list_any p xs)
 
   pub all_at : (P : X → Type 0) (xs : List X) (i : ℕ) (x : X) → All P xs → slice_get xs i ≡ Some x → P x
-  all_at P [] i x h e = absurd (none_some x e)
-  all_at P (y ∷ xs) zero x h e = subst P (some_same y x e) h.0
+  all_at P [] i x h e = absurd (none-some x e)
+  all_at P (y ∷ xs) zero x h e = subst P (same_Some y x e) h.0
   all_at P (y ∷ xs) (suc i) x h e = all_at P xs i x h.1 e
 
   pub all_more : (P : X → Type 0) (xs : List X) (x : X) → All P xs → P x → All P (xs ++ x ∷ [])
@@ -176,13 +171,13 @@ module _ {X : Type 0} (p : X → Bool) where
       by false None = refl
 
   pub last_in : (xs : List X) (j : ℕ) → selected_spills.last_that p xs ≡ Some j → j < length xs
-  last_in [] j e = absurd (none_some j e)
+  last_in [] j e = absurd (none-some j e)
   last_in (x ∷ xs) j e = by (p x) (selected_spills.last_that p xs) (λ i f. last_in xs i f) e
     where
       by : (b : Bool) (o : Option ℕ) → ((i : ℕ) → o ≡ Some i → i < length xs) → selected_spills.later_of o (if b then Some 0 else None) ≡ Some j → j < length (x ∷ xs)
-      by b (Some i) h f = (let lt = h i refl in let s = some_same (i + 1) j f in omega (arith, lt, s))
-      by true None h f = (let s = some_same 0 j f in omega (arith, s))
-      by false None h f = absurd (none_some j f)
+      by b (Some i) h f = (let lt = h i refl in let s = same_Some (i + 1) j f in omega (arith, lt, s))
+      by true None h f = (let s = same_Some 0 j f in omega (arith, s))
+      by false None h f = absurd (none-some j f)
 
 -- ---- the lowest number
 

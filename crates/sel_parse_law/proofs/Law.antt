@@ -3,6 +3,7 @@ use Rattle.std.proofs.Common.{◌≡◌, ℕ, ◌-◌, ◌<◌, ◌≤◌, List,
 use Rattle.std.specs.Prelude.{cond, count_ones, nat_lt, Ok}
 use Rattle.std.specs.List.{AllByRecursion as All}
 use Rattle.std.proofs.lemmas.Bool.Decides.{nat_tests}
+use Rattle.std.proofs.lemmas.Option.{none-some}
 use Rattle.gg_base.specs.declared.size.Size.TheVariants.{Long}
 use Rattle.tree_core.specs.declared.token.Tok.{Tok}
 use Rattle.tree_core.specs.declared.token.Tok.TheVariants as tok
@@ -46,9 +47,6 @@ use Rattle.sel_parse_joined.proofs.Parsing.{same_code, same_full, whole, ending}
 use Rattle.sel_parse_desk.specs.Selected as desk
 use Rattle.sel_parse_desk.specs.Selected.{tree_of}
 use Rattle.sel_parse_law.specs.Claims.{EndsTree, CodeHasEffect, IsReady, UsesFewSlots, HasRoom, NeverBlocks, HasCode, TreesHaveCode}
-
-none_some : {X : Type 0} (x : X) → None ≡ Some x → ⊥
-none_some x e = cc
 
 -- ---- a tree with its End
 
@@ -104,14 +102,14 @@ module _ {O I S F : Type 0} (of : Meaning O I S F) (law : IsLawful of) (q : Tree
 
       by : (k n : ℕ) (b : Bool) → nat_lt k f.locals ≡ b → cond b (of.reads (of.local k) Long m) None ≡ Some n → k < f.locals
       by k n true h g = less k f.locals h
-      by k n false h g = absurd (none_some n g)
+      by k n false h g = absurd (none-some n g)
 
   sees : Sees of q d first f fs t (frame_sight of f t m) m m
   sees = record { agrees = begins.agrees; room = begins.room; locals = λ k n e. by k n (nat_lt k f.locals) e }
     where
       by : (k n : ℕ) (b : Bool) → cond b (of.reads (of.local k) Long m) None ≡ Some n → of.reads (of.local k) Long m ≡ Some n
       by k n true g = g
-      by k n false g = absurd (none_some n g)
+      by k n false g = absurd (none-some n g)
 
   own_local : (x : Tok) (a : Att) → NamedBy of q d first f fs t (frame_sight of f t m) m x a → (k : ℕ) → x ≡ tok.Loc → a ≡ att.Slot k → k < first
   own_local x a named k e g =

@@ -1,15 +1,10 @@
 -- What holds of each element of lists, and of what comes of a step.
-use Rattle.std.proofs.Common.{◌≡◌, ℕ, zero, suc, List, [], ◌∷◌, ◌++◌, Some, None, sym, subst, take, drop}
+use Rattle.std.proofs.Common.{◌≡◌, ℕ, zero, suc, List, [], ◌∷◌, ◌++◌, Some, sym, subst, take, drop}
 use Rattle.std.specs.Prelude.{reverse, slice_get, slice_set}
 use Rattle.std.specs.List.{AllByRecursion as All}
 use Rattle.std.proofs.lemmas.Grind.{reverse_onto}
+use Rattle.std.proofs.lemmas.Option.{same_Some, none-some}
 use Rattle.sel_parse_selected.specs.Desk.{Outcome, Full, Stuck, Done, bind}
-
-some_same : {X : Type 0} (x y : X) → Some x ≡ Some y → x ≡ y
-some_same x y e = cc
-
-none_some : {X : Type 0} (x : X) → None ≡ Some x → ⊥
-none_some x e = cc
 
 pub all_append : {X : Type 0} (P : X → Type 0) (xs ys : List X) → All P xs → All P ys → All P (xs ++ ys)
 all_append P [] ys h k = k
@@ -35,8 +30,8 @@ all_set P (x ∷ xs) zero y h k = (k, h.1)
 all_set P (x ∷ xs) (suc i) y h k = (h.0, all_set P xs i y h.1 k)
 
 pub all_get : {X : Type 0} (P : X → Type 0) (xs : List X) (n : ℕ) (x : X) → All P xs → slice_get xs n ≡ Some x → P x
-all_get P [] n x h e = absurd (none_some x e)
-all_get P (y ∷ xs) zero x h e = subst P (some_same y x e) h.0
+all_get P [] n x h e = absurd (none-some x e)
+all_get P (y ∷ xs) zero x h e = subst P (same_Some y x e) h.0
 all_get P (y ∷ xs) (suc n) x h e = all_get P xs n x h.1 e
 
 -- it holds of what is done

@@ -3,6 +3,7 @@ use Rattle.std.proofs.Common.{◌≡◌, ℕ, ◌≤◌, List, [], ◌∷◌, le
 use Rattle.std.specs.Prelude.{drop, slice_get}
 use Rattle.std.proofs.lemmas.List.{length-append, length-map}
 use Rattle.std.specs.List.{AllByRecursion as All}
+use Rattle.std.proofs.lemmas.Option.{same_Some, none-some}
 use Rattle.tree_core.specs.declared.tree.Leaf.{Leaf}
 use Rattle.tree_core.specs.declared.token.Tok.{Tok}
 use Rattle.tree_core.specs.declared.program.TreeProgram.{TreeProgram}
@@ -32,12 +33,6 @@ use Rattle.sel_parse_selected.specs.Selected.{Kept, kept_of, reduced_by, selecti
 use Rattle.sel_parse_moves.proofs.Typing.{stmt_kind}
 use Rattle.sel_parse_lines.specs.Claims.{StatementsHaveCode}
 use Rattle.sel_parse_lines.proofs.Each.{all_get, Each, each_bind, each_any}
-
-some_same : {X : Type 0} (x y : X) → Some x ≡ Some y → x ≡ y
-some_same x y e = cc
-
-none_some : {X : Type 0} (x : X) → None ≡ Some x → ⊥
-none_some x e = cc
 
 class_same : (c k : ℕ) (a : List Sym) → grammar_symbol.Class c ∷ a ≡ grammar_symbol.Class k ∷ [] → c ≡ k
 class_same c k a e = cc
@@ -102,12 +97,12 @@ module _ {O I S F : Type 0} (of : Meaning O I S F) (law : IsLawful of) (q : Tree
   shift l a (Some x) = λ e. absurd (no_token l.tok (stmt_of d.classes) a e)
 
   kept : (a : List Sym) (o : Outcome (Stack O I)) (z : Kept O I) → (a ≡ grammar_symbol.Class (stmt_of d.classes) ∷ [] → Each IsLong o) → kept_of o ≡ Some z → Has a z
-  kept a Full z h e = absurd (none_some z e)
-  kept a Stuck z h e = subst (Has a) (some_same None z e) tt
-  kept a (Done y) z h e = subst (Has a) (some_same (Some y) z e) h
+  kept a Full z h e = absurd (none-some z e)
+  kept a Stuck z h e = subst (Has a) (same_Some None z e) tt
+  kept a (Done y) z h e = subst (Has a) (same_Some (Some y) z e) h
 
   reduce : (n : ℕ) (r : Rule) → slice_get d.rules n ≡ Some r → (a : List Sym) (x z : Kept O I) → reduced_by of q d first (Some r) x ≡ Some z → Has (grammar_symbol.Class r.left ∷ a) z
-  reduce n r there a None z e = subst (Has (grammar_symbol.Class r.left ∷ a)) (some_same None z e) tt
+  reduce n r there a None z e = subst (Has (grammar_symbol.Class r.left ∷ a)) (same_Some None z e) tt
   reduce n r there a (Some x) z e =
       kept (grammar_symbol.Class r.left ∷ a) (reduced of q d first r x) z (λ f. reduced_long r (has_line n r there (class_same r.left (stmt_of d.classes) a f)) x) e
 

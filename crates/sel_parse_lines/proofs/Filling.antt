@@ -2,6 +2,7 @@
 use Rattle.std.proofs.Common.{◌≡◌, ℕ, zero, suc, ◌+◌, List, [], ◌∷◌, length, map, Option, Some, None, Bool, true, false, refl, ap, ◌∙◌, subst}
 use Rattle.std.specs.Prelude.{take, slice_get}
 use Rattle.std.specs.List.{AllByRecursion as All}
+use Rattle.std.proofs.lemmas.Option.{same_Some, none-some}
 use Rattle.tree_core.specs.declared.tree.Leaf.{Leaf}
 use Rattle.tree_core.specs.declared.program.TreeProgram.{TreeProgram}
 use Rattle.md_reader_pieces.specs.declared.piece.Line.{Line}
@@ -30,12 +31,6 @@ use Rattle.sel_parse_selected.specs.Selected.{Kept, kept_of, reduced_by, selecti
 use Rattle.sel_parse_moves.proofs.Covering.{known}
 use Rattle.sel_parse_lines.specs.Claims.{Lasts, IsFilled, SelectionsAreFilled}
 use Rattle.sel_parse_lines.proofs.Each.{all_append, all_take, all_drop, all_reverse, all_set, all_get, Each, each_bind}
-
-some_same : {X : Type 0} (x y : X) → Some x ≡ Some y → x ≡ y
-some_same x y e = cc
-
-none_some : {X : Type 0} (x : X) → None ≡ Some x → ⊥
-none_some x e = cc
 
 module _ {O I S F : Type 0} (of : Meaning O I S F) (q : TreeProgram) (d : Content) (first : ℕ) (good : Attr O → Bool) (lasts : Lasts of q good) where
   abbrev Passes : Attr O → Type 0
@@ -164,7 +159,7 @@ module _ {O I S F : Type 0} (of : Meaning O I S F) (q : TreeProgram) (d : Conten
 
   hole_passes : (hs : List (Attr O)) (i : ℕ) (o : Option (Attr O)) → All Passes hs → hole hs i ≡ o → Passes (own_register of q d first o)
   hole_passes hs i None h e = lasts.nothing
-  hole_passes hs zero (Some a) h e = absurd (none_some a e)
+  hole_passes hs zero (Some a) h e = absurd (none-some a e)
   hole_passes hs (suc i) (Some a) h e = all_get Passes hs i a h e
 
   number_passes : (o : Option (Attr O)) → Passes (own_number of q d first o)
@@ -231,13 +226,13 @@ module _ {O I S F : Type 0} (of : Meaning O I S F) (q : TreeProgram) (d : Conten
   shift l (Some x) p h = record { entries = (p, h.entries); code = h.code }
 
   kept : (o : Outcome (Stack O I)) (z : Kept O I) → Each Passed o → kept_of o ≡ Some z → Before z
-  kept Full z h e = absurd (none_some z e)
-  kept Stuck z h e = subst Before (some_same None z e) tt
-  kept (Done y) z h e = subst Before (some_same (Some y) z e) h
+  kept Full z h e = absurd (none-some z e)
+  kept Stuck z h e = subst Before (same_Some None z e) tt
+  kept (Done y) z h e = subst Before (same_Some (Some y) z e) h
 
   reduce : (r : Option Rule) (x z : Kept O I) → Before x → reduced_by of q d first r x ≡ Some z → Before z
-  reduce None x z h e = subst Before (some_same None z e) tt
-  reduce (Some r) None z h e = subst Before (some_same None z e) tt
+  reduce None x z h e = subst Before (same_Some None z e) tt
+  reduce (Some r) None z h e = subst Before (same_Some None z e) tt
   reduce (Some r) (Some x) z h e = kept (reduced of q d first r x) z (reduced_passes r x h) e
 
   iterate : {at : ℕ} {before : List (List Sym)} {ws : List Leaf} {a : List Sym} {x : Kept O I} {log : List (Move Leaf)} {e : Ending (Kept O I)}

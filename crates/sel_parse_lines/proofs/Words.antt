@@ -2,6 +2,7 @@
 use Rattle.std.proofs.Common.{◌≡◌, ℕ, zero, suc, ◌+◌, ◌-◌, ◌<◌, ◌≤◌, cond, List, [], length, Option, Some, None, Bool, false, true, refl, ap, ◌∙◌, subst, arith}
 use Rattle.std.specs.Prelude.{slice_get}
 use Rattle.std.proofs.lemmas.Bool.Decides.{nat_tests}
+use Rattle.std.proofs.lemmas.Option.{same_Some, none-some}
 use Rattle.tree_core.specs.declared.tree.Leaf.{Leaf}
 use Rattle.tree_core.specs.declared.program.TreeProgram.{TreeProgram}
 use Rattle.md_reader.specs.declared.types.Rule.{Rule}
@@ -27,22 +28,16 @@ use Rattle.sel_parse_moves.proofs.Covering.{known}
 use Rattle.sel_parse_lines.specs.Claims.{SelectionsUseFewWords}
 use Rattle.sel_parse_lines.proofs.Each.{Each, each_bind}
 
-some_same : {X : Type 0} (x y : X) → Some x ≡ Some y → x ≡ y
-some_same x y e = cc
-
-none_some : {X : Type 0} (x : X) → None ≡ Some x → ⊥
-none_some x e = cc
-
 larger : (n k m : ℕ) → n ≤ m → k ≤ m → larger_of n k ≤ m
 larger n k m a b = grind (arith, nat_tests)
 
 -- the lowest number that passes is one of those that were tried
 lowest_below : (passes : ℕ → Bool) (k n w : ℕ) → lowest passes k n ≡ Some w → w < k + n
-lowest_below passes k zero w e = absurd (none_some w e)
+lowest_below passes k zero w e = absurd (none-some w e)
 lowest_below passes k (suc n) w e = by (passes k) e (λ f. lowest_below passes (k + 1) n w f)
   where
     by : (b : Bool) → cond b (Some k) (lowest passes (k + 1) n) ≡ Some w → (lowest passes (k + 1) n ≡ Some w → w < k + 1 + n) → w < k + suc n
-    by true f more = let same = some_same k w f in omega (arith, same)
+    by true f more = let same = same_Some k w f in omega (arith, same)
     by false f more = let lt = more f in omega (arith, lt)
 
 module _ {O I S F : Type 0} (of : Meaning O I S F) (q : TreeProgram) (d : Content) (first : ℕ) (low : first ≤ 1024) where
@@ -126,13 +121,13 @@ module _ {O I S F : Type 0} (of : Meaning O I S F) (q : TreeProgram) (d : Conten
   shift l (Some x) h = h
 
   kept : (o : Outcome (Stack O I)) (z : Kept O I) → Each FewWords o → kept_of o ≡ Some z → Before z
-  kept Full z h e = absurd (none_some z e)
-  kept Stuck z h e = subst Before (some_same None z e) tt
-  kept (Done y) z h e = subst Before (some_same (Some y) z e) h
+  kept Full z h e = absurd (none-some z e)
+  kept Stuck z h e = subst Before (same_Some None z e) tt
+  kept (Done y) z h e = subst Before (same_Some (Some y) z e) h
 
   reduce : (r : Option Rule) (x z : Kept O I) → Before x → reduced_by of q d first r x ≡ Some z → Before z
-  reduce None x z h e = subst Before (some_same None z e) tt
-  reduce (Some r) None z h e = subst Before (some_same None z e) tt
+  reduce None x z h e = subst Before (same_Some None z e) tt
+  reduce (Some r) None z h e = subst Before (same_Some None z e) tt
   reduce (Some r) (Some x) z h e = kept (reduced of q d first r x) z (reduced_few r x h) e
 
   iterate : {at : ℕ} {before : List (List Sym)} {ws : List Leaf} {a : List Sym} {x : Kept O I} {log : List (Move Leaf)} {e : Ending (Kept O I)}

@@ -3,6 +3,8 @@ use Rattle.std.proofs.Common.{◌≡◌, ℕ, zero, suc, ◌+◌, List, [], ◌�
 use Rattle.std.proofs.Common.{append_assoc, add-one, ◌==◌}
 use Rattle.std.specs.Prelude.{if◌then◌else◌}
 use Rattle.std.proofs.lemmas.List.Elements.{Contains-append_right}
+use Rattle.std.proofs.lemmas.Option.{same_Some}
+use Rattle.gg_base.proofs.Facts.{some_none}
 use mathlib.Core.List.{append-nil}
 use Rattle.tree_core.specs.declared.token.Tok.TheVariants as tok
 use Rattle.tree_core.specs.declared.token.Sort.{Sort}
@@ -31,12 +33,6 @@ use Rattle.sel_parse_moves.specs.Covers as cover
 use Rattle.sel_terms_trees.specs.Senses.{piled}
 use Rattle.sel_parse_moves.proofs.Piles.{Peeled, peeled, Filled, filled}
 
-Some-same : {Y : Type 0} (x y : Y) → Some x ≡ Some y → x ≡ y
-Some-same x y e = cc
-
-some_none : {Y : Type 0} (x : Y) → Some x ≡ None → ⊥
-some_none x e = cc
-
 piled_more : {Y : Type 0} (ys : List Y) (y : Y) (b : List Y) → piled (ys ++ y ∷ []) b ≡ y ∷ piled ys b
 piled_more [] y b = refl
 piled_more (z ∷ ys) y b = piled_more ys y (z ∷ b)
@@ -44,7 +40,7 @@ piled_more (z ∷ ys) y b = piled_more ys y (z ∷ b)
 take_next : {Y : Type 0} (d : ℕ) (ys : List Y) (y : Y) → slice_get ys d ≡ Some y → take (suc d) ys ≡ take d ys ++ y ∷ []
 take_next zero [] y e = absurd (some_none y (sym e))
 take_next (suc d) [] y e = absurd (some_none y (sym e))
-take_next zero (z ∷ ys) y e = ap (λ (t : _). t ∷ []) (Some-same z y e)
+take_next zero (z ∷ ys) y e = ap (λ (t : _). t ∷ []) (same_Some z y e)
 take_next (suc d) (z ∷ ys) y e = ap (λ (t : List _). z ∷ t) (take_next d ys y e)
 
 take_whole : {Y : Type 0} (ys : List Y) → take (length ys) ys ≡ ys
@@ -181,7 +177,7 @@ module _ {X A : Type 0} (of : Selecting X A) (classes : List Class) (rules : Lis
 
       first : (r : Rule) → slice_get rules m ≡ Some r → answered of r x ≡ true → Result (Some m) x ≡ Result (Some n) y → Picked (m ∷ ns) x n y
       first r there holds f =
-          let s : m ≡ n = Some-same m n (ap (λ (t : TakenRule X). t.rule) f) in
+          let s : m ≡ n = same_Some m n (ap (λ (t : TakenRule X). t.rule) f) in
           record {
             rule = r;
             there = subst (λ (k : ℕ). slice_get rules k ≡ Some r) s there;
@@ -216,11 +212,11 @@ module _ {X A : Type 0} (of : Selecting X A) (classes : List Class) (rules : Lis
     where
       by : MayReduce rules stmt a (coming (by_attributes of) ws) n → Picked c.candidates x n y → Known a x n r y
       by m h =
-          let same : m.rule ≡ r = Some-same m.rule r (sym m.there ∙ there) in
+          let same : m.rule ≡ r = same_Some m.rule r (sym m.there ∙ there) in
           record {
             on = right_on rules stmt a n r there
                 (subst (λ (q : Rule). Items rules stmt a (record { rule = Some n; dot = length q.right })) same m.complete);
-            holds = subst (λ (q : Rule). answered of q x ≡ true) (Some-same h.rule r (sym h.there ∙ there)) h.holds;
+            holds = subst (λ (q : Rule). answered of q x ≡ true) (same_Some h.rule r (sym h.there ∙ there)) h.holds;
             same = h.same;
           }
 

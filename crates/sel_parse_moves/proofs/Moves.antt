@@ -1,6 +1,8 @@
 -- The moves of an attributed parse do what the tree does.
-use Rattle.std.proofs.Common.{◌≡◌, ◌⊎◌, inl, inr, ℕ, zero, suc, List, [], ◌∷◌, ◌++◌, Some, None, refl, sym, ap, ◌∙◌, subst, slice_get}
+use Rattle.std.proofs.Common.{◌≡◌, ◌⊎◌, inl, inr, ℕ, zero, suc, List, [], ◌∷◌, ◌++◌, Some, refl, sym, ap, ◌∙◌, subst, slice_get}
 use Rattle.std.specs.List.{AllByRecursion}
+use Rattle.std.proofs.lemmas.Option.{same_Some}
+use Rattle.gg_base.proofs.Facts.{some_none}
 use Rattle.tree_core.specs.declared.token.Sort.TheVariants as sort
 use Rattle.tree_core.specs.declared.tree.Leaf.{Leaf}
 use Rattle.tree_core.specs.declared.program.Object.{Object}
@@ -38,16 +40,10 @@ use Rattle.tree_meaning_tame.proofs.Calm.{trap_tame}
 use Rattle.tree_meaning_tame.proofs.Sights.{tree_deed_grows}
 use Rattle.sel_parse_moves.proofs.Typing.{covers_typed, typed_leaves, stmt_kind}
 
-some_none : {Y : Type 0} (x : Y) → Some x ≡ None → ⊥
-some_none x e = cc
-
-Some-same : {Y : Type 0} (x y : Y) → Some x ≡ Some y → x ≡ y
-Some-same x y e = cc
-
 pub rule_at : (classes : List Class) (rs : List Rule) (n : ℕ) (r : Rule) → AllByRecursion (IsRule classes) rs → slice_get rs n ≡ Some r → IsRule classes r
 rule_at classes [] zero r h e = absurd (some_none r (sym e))
 rule_at classes [] (suc n) r h e = absurd (some_none r (sym e))
-rule_at classes (q ∷ rs) zero r h e = subst (IsRule classes) (Some-same q r e) h.0
+rule_at classes (q ∷ rs) zero r h e = subst (IsRule classes) (same_Some q r e) h.0
 rule_at classes (q ∷ rs) (suc n) r h e = rule_at classes rs n r h.1 e
 
 leaves_before : (f : Forest) (v w : List Leaf) → leaves_onto f v ++ w ≡ leaves_onto f (v ++ w)

@@ -1,7 +1,9 @@
 -- The moves of a covered tree, made one after another.
-use Rattle.std.proofs.Common.{◌≡◌, ◌⊎◌, inl, inr, ℕ, ◌+◌, List, [], ◌∷◌, ◌++◌, length, Option, Some, None, Bool, true, false, refl, sym, ap, ◌∙◌, subst, slice_get, append_assoc, length-append}
+use Rattle.std.proofs.Common.{◌≡◌, ◌⊎◌, inl, inr, ℕ, ◌+◌, List, [], ◌∷◌, ◌++◌, length, Option, Some, None, Bool, true, refl, sym, ap, ◌∙◌, subst, slice_get, append_assoc, length-append}
 use Rattle.std.proofs.Common.{arith}
 use Rattle.std.specs.Option.{option_map}
+use Rattle.std.proofs.lemmas.Option.{same_Some}
+use Rattle.std.proofs.lemmas.Bool.{both_ways}
 use Rattle.gg_base.specs.declared.size.Size.TheVariants as sizes
 use Rattle.tree_core.specs.declared.token.Sort.{Sort}
 use Rattle.tree_core.specs.declared.token.Sort.TheVariants as sort
@@ -45,9 +47,6 @@ use Rattle.sel_terms_trees.proofs.Patterns.{numbered, pattern_law}
 use Rattle.sel_terms_trees.proofs.Rules.{effect_by, zero_there, sort_tame, sort_undivided, Comes, Fails, IsZeroAt, decided}
 use Rattle.sel_terms_trees.proofs.Statements.{ActIs, act_law}
 
-Some-same : {Y : Type 0} (x y : Y) → Some x ≡ Some y → x ≡ y
-Some-same x y e = cc
-
 piled_both : {Y : Type 0} (us vs b : List Y) → piled (us ++ vs) b ≡ piled vs (piled us b)
 piled_both [] vs b = refl
 piled_both (u ∷ us) vs b = piled_both us vs (u ∷ b)
@@ -89,10 +88,7 @@ same_fits (Some y) x e = e
 
 kind_there : (o : Option Kind) (y : Sort) → option_map sort_of_kind o ≡ Some y → (k : Kind) × (o ≡ Some k) × (y ≡ sort_of_kind k)
 kind_there None y e = absurd (cc)
-kind_there (Some k) y e = (k, refl, sym (Some-same (sort_of_kind k) y e))
-
-true_false : (b : Bool) → b ≡ false → b ≡ true → ⊥
-true_false b e f = cc
+kind_there (Some k) y e = (k, refl, sym (same_Some (sort_of_kind k) y e))
 
 module _ (objects : List Object) (s : Sight) (classes : List Class) where
   -- as many symbols as the pattern has
@@ -227,7 +223,7 @@ module _ {X A : Type 0} (of : Selecting X A) (classes : List Class) (rules : Lis
       by q = cases (decided objects s classes k r.right same w.sensed spelled (sort_tame objects s y0 x0 (tree_means objects s l f) fit tame.0, tame.1, tt) some)
         where
           holds : answered of r w.state ≡ true
-          holds = subst (λ (t : Rule). answered of t w.state ≡ true) (Some-same q.rule r (sym q.there ∙ there)) q.holds
+          holds = subst (λ (t : Rule). answered of t w.state ≡ true) (same_Some q.rule r (sym q.there ∙ there)) q.holds
 
           cases : Comes objects s w.senses k (first_part (stack_from classes 1 r.right)) (tree_means objects s l f)
               ⊎ Fails objects s w.senses k (first_part (stack_from classes 1 r.right)) (tree_means objects s l f) → ClassDone r.left x0 l f a us rest y
@@ -356,10 +352,10 @@ module _ {X A : Type 0} (of : Selecting X A) (classes : List Class) (rules : Lis
 
       by : Reduced w.state n [] y → Ran I y (deed_here l f)
       by q = last_done n r w.state q.state y (OfLeaf l ∷ w.senses) there none_kind size
-          (subst (λ (t : Rule). answered of t w.state ≡ true) (Some-same q.rule r (sym q.there ∙ there)) q.holds) stands q.red (after_all q.made) (deed_here l f) acts possible
+          (subst (λ (t : Rule). answered of t w.state ≡ true) (same_Some q.rule r (sym q.there ∙ there)) q.holds) stands q.red (after_all q.made) (deed_here l f) acts possible
 
   stmt_sort : (o : Option Kind) (y : Sort) → o ≡ Some kind.Nothing → option_map sort_of_kind o ≡ Some y → y ≡ sort.Stmt
-  stmt_sort o y e f = sym (Some-same sort.Stmt y (sym (ap (option_map sort_of_kind) e) ∙ f))
+  stmt_sort o y e f = sym (same_Some sort.Stmt y (sym (ap (option_map sort_of_kind) e) ∙ f))
 
   -- the moves that make the class of statements cover a tree do what the tree does
   filled_statement : (n : ℕ) (r : Rule) → slice_get rules n ≡ Some r → IsRule classes r → kind_at classes r.left ≡ Some kind.Nothing
@@ -373,7 +369,7 @@ module _ {X A : Type 0} (of : Selecting X A) (classes : List Class) (rules : Lis
       (perform p tame names.1 (kids_no_stmt l.tok) (of.shifted l x) y (grammar_symbol.Tok l.tok ∷ []) (OfLeaf l ∷ []) (Reduce n ∷ [])
       (subst (λ (t : List (Move Leaf)). Makes (of.shifted l x) t y) (append_assoc ms [] (Reduce n ∷ [])) (after_shift made)) (I.shifts x l [] [] fit names.0 stands))
   filled_statement n r there valid none_kind same spelled (cover.class c passes no_tree no_tree p cover.nothing) tame names x y made stands possible undivided =
-      absurd (true_false (is_bare classes r.right) valid.sides.not_bare
+      absurd (both_ways (is_bare classes r.right) valid.sides.not_bare
       (ap (is_bare classes) (sym spelled) ∙ nothing_there (kind_at classes c) (subst (λ (t : Sort). sort_fits (option_map sort_of_kind (kind_at classes c)) t ≡ true) same passes)))
 
   pub statement : ((n : ℕ) (r : Rule) → slice_get rules n ≡ Some r → IsRule classes r) → {c : ℕ} {l : Leaf} {f : Forest} {ms : List (Move Leaf)} → Covers classes rules c l f ms

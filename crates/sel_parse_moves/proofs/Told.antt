@@ -1,8 +1,9 @@
 -- Where restrictions hold of attributes, the numbers are as the rule's facts say.
 use Rattle.std.proofs.Common.{◌≡◌, ◌⊎◌, inl, inr, ℕ, zero, suc, ◌+◌, ◌<◌, ◌≤◌, ◌^◌, ◌==◌, List, [], ◌∷◌, ◌++◌, length, Option, Some, None, Bool, true, false, cond, refl, sym, ap, ◌∙◌, subst}
 use Rattle.std.proofs.Common.{arith}
-use Rattle.std.specs.Prelude.{min, max, nat_lt, ℤ, pos, negsuc, int_le, ◌&&◌, ◌||◌, slice_index_or}
+use Rattle.std.specs.Prelude.{min, max, nat_lt, ℤ, pos, negsuc, int_le, ◌&&◌, slice_index_or}
 use Rattle.std.proofs.lemmas.Bool.Decides.{nat_tests}
+use Rattle.std.proofs.lemmas.Bool.{and_parts, or_cases, eqb-true}
 use Rattle.gg_base.specs.Arithmetic.{com32}
 use Rattle.gg_base.specs.Sizes.{bytes_of}
 use Rattle.gg_base.specs.declared.size.Size.{Size}
@@ -19,28 +20,17 @@ use Rattle.lr_check_parse.specs.Attributes.{Selecting, attribute_at, signed, in_
 use Rattle.term_core.specs.Facts.{same_as}
 use Rattle.sel_parse_moves.specs.Told.{SameForAlike, FactsJoin, Tells, RestrictionsTell}
 
-both : (a b : Bool) → (a && b) ≡ true → (a ≡ true) × (b ≡ true)
-both true b e = (refl, e)
-both false b e = absurd (cc)
-
-either : (a b : Bool) → (a || b) ≡ true → (a ≡ true) ⊎ (b ≡ true)
-either true b e = inl refl
-either false b e = inr e
-
-equal_numbers : (n k : ℕ) → (n == k) ≡ true → n ≡ k
-equal_numbers n k e = grind (arith, nat_tests)
-
 leb_le : (a b : ℕ) → int_le (pos a) (pos b) ≡ true → a ≤ b
 leb_le a b e = grind (arith, nat_tests)
 
 -- a number between 0 and 31
 small : (low high z : ℤ) → is_small_range low high ≡ true → (int_le low z && int_le z high) ≡ true → (k : ℕ) × (z ≡ pos k) × (k < 32)
-small (negsuc a) high z e f = absurd (let h = both (int_le (pos 0) (negsuc a)) (int_le high (pos 31)) e in let g = h.0 in cc)
-small (pos a) high (negsuc b) e f = absurd (let h = both (int_le (pos a) (negsuc b)) (int_le (negsuc b) high) f in let g = h.0 in cc)
-small (pos a) (negsuc c) (pos b) e f = absurd (let h = both (int_le (pos a) (pos b)) (int_le (pos b) (negsuc c)) f in let g = h.1 in cc)
+small (negsuc a) high z e f = absurd (let h = and_parts (int_le (pos 0) (negsuc a)) (int_le high (pos 31)) e in let g = h.0 in cc)
+small (pos a) high (negsuc b) e f = absurd (let h = and_parts (int_le (pos a) (negsuc b)) (int_le (negsuc b) high) f in let g = h.0 in cc)
+small (pos a) (negsuc c) (pos b) e f = absurd (let h = and_parts (int_le (pos a) (pos b)) (int_le (pos b) (negsuc c)) f in let g = h.1 in cc)
 small (pos a) (pos c) (pos b) e f =
-    let h = both (int_le (pos a) (pos b)) (int_le (pos b) (pos c)) f in
-    let k = both (int_le (pos 0) (pos a)) (int_le (pos c) (pos 31)) e in
+    let h = and_parts (int_le (pos a) (pos b)) (int_le (pos b) (pos c)) f in
+    let k = and_parts (int_le (pos 0) (pos a)) (int_le (pos c) (pos 31)) e in
     let p = leb_le b c h.1 in
     let q = leb_le c 31 k.1 in
     (b, refl, omega (arith, p, q))
@@ -87,14 +77,14 @@ module _ {X A : Type 0} (of : Selecting X A) {Y : Type 0} (hs : List A) (f : ℕ
   once : (rs : List Restriction) → all_hold of hs rs ≡ true → (i : ℕ) → f (alike_once rs i) ≡ f i
   once [] h i = refl
   once (restriction.Same a b ∷ rs) h i =
-      let k = both (holds of hs (restriction.Same a b)) (all_hold of hs rs) h in
+      let k = and_parts (holds of hs (restriction.Same a b)) (all_hold of hs rs) h in
       once rs k.1 (cond (i == max a b) (min a b) i) ∙ by (i == max a b) refl (spelled_alike a b k.0)
     where
       by : (c : Bool) → (i == max a b) ≡ c → f a ≡ f b → f (cond c (min a b) i) ≡ f i
-      by true e s = least_most f a b s ∙ ap f (sym (equal_numbers i (max a b) e))
+      by true e s = least_most f a b s ∙ ap f (sym (eqb-true i (max a b) e))
       by false e s = refl
-  once (restriction.Range j low high ∷ rs) h i = once rs (both (holds of hs (restriction.Range j low high)) (all_hold of hs rs) h).1 i
-  once (restriction.Signed j ∷ rs) h i = once rs (both (holds of hs (restriction.Signed j)) (all_hold of hs rs) h).1 i
+  once (restriction.Range j low high ∷ rs) h i = once rs (and_parts (holds of hs (restriction.Range j low high)) (all_hold of hs rs) h).1 i
+  once (restriction.Signed j ∷ rs) h i = once rs (and_parts (holds of hs (restriction.Signed j)) (all_hold of hs rs) h).1 i
 
   often : (rs : List Restriction) → all_hold of hs rs ≡ true → (k i : ℕ) → f (repeated k (alike_once rs) i) ≡ f i
   often rs h zero i = refl
@@ -170,16 +160,16 @@ module _ {X A : Type 0} (of : Selecting X A) (classes : List Class) (r : Rule) (
 
   ranged : (rs : List Restriction) → all_hold of hs rs ≡ true → (i : ℕ) → is_ranged rs i ≡ true → m.symbol i < 32
   ranged [] h i e = absurd (cc)
-  ranged (restriction.Same a b ∷ rs) h i e = ranged rs (both (holds of hs (restriction.Same a b)) (all_hold of hs rs) h).1 i e
-  ranged (restriction.Signed j ∷ rs) h i e = ranged rs (both (holds of hs (restriction.Signed j)) (all_hold of hs rs) h).1 i e
+  ranged (restriction.Same a b ∷ rs) h i e = ranged rs (and_parts (holds of hs (restriction.Same a b)) (all_hold of hs rs) h).1 i e
+  ranged (restriction.Signed j ∷ rs) h i e = ranged rs (and_parts (holds of hs (restriction.Signed j)) (all_hold of hs rs) h).1 i e
   ranged (restriction.Range j low high ∷ rs) h i e =
-      by (either ((j == i) && is_small_range low high) (is_ranged rs i) e) (λ f. ranged rs k.1 i f)
+      by (or_cases ((j == i) && is_small_range low high) (is_ranged rs i) e) (λ f. ranged rs k.1 i f)
     where
       k : (holds of hs (restriction.Range j low high) ≡ true) × (all_hold of hs rs ≡ true)
-      k = both (holds of hs (restriction.Range j low high)) (all_hold of hs rs) h
+      k = and_parts (holds of hs (restriction.Range j low high)) (all_hold of hs rs) h
 
       by : (((j == i) && is_small_range low high) ≡ true) ⊎ (is_ranged rs i ≡ true) → (is_ranged rs i ≡ true → m.symbol i < 32) → m.symbol i < 32
-      by (inl f) go = (let p = both (j == i) (is_small_range low high) f in subst (λ n. m.symbol n < 32) (equal_numbers j i p.0) (in_small_range j low high p.1 k.0))
+      by (inl f) go = (let p = and_parts (j == i) (is_small_range low high) f in subst (λ n. m.symbol n < 32) (eqb-true j i p.0) (in_small_range j low high p.1 k.0))
       by (inr f) go = go f
 
   sized : (i : ℕ) (z : Size) → (bytes_of (slice_index_or (facts_of classes r) i (record { size = Long; is_count = false; same_as = i })).size == bytes_of z) ≡ true → (z ≡ Long → ⊥)
@@ -188,8 +178,8 @@ module _ {X A : Type 0} (of : Selecting X A) (classes : List Class) (r : Rule) (
     where
       by : (slice_index_or (facts_of classes r) i (record { size = Long; is_count = false; same_as = i }) ≡ fact_of classes r i)
           ⊎ (slice_index_or (facts_of classes r) i (record { size = Long; is_count = false; same_as = i }) ≡ record { size = Long; is_count = false; same_as = i }) → size_at classes r.right i ≡ z
-      by (inl f) = size_same (size_at classes r.right i) z (equal_numbers (bytes_of (size_at classes r.right i)) (bytes_of z) (ap (λ (x : Fact). bytes_of x.size == bytes_of z) (sym f) ∙ e))
-      by (inr f) = absurd (long (sym (size_same Long z (equal_numbers (bytes_of Long) (bytes_of z) (ap (λ (x : Fact). bytes_of x.size == bytes_of z) (sym f) ∙ e)))))
+      by (inl f) = size_same (size_at classes r.right i) z (eqb-true (bytes_of (size_at classes r.right i)) (bytes_of z) (ap (λ (x : Fact). bytes_of x.size == bytes_of z) (sym f) ∙ e))
+      by (inr f) = absurd (long (sym (size_same Long z (eqb-true (bytes_of Long) (bytes_of z) (ap (λ (x : Fact). bytes_of x.size == bytes_of z) (sym f) ∙ e)))))
 
   respects : all_hold of hs r.restrictions ≡ true → Respects (facts_of classes r) m
   respects h = record {

@@ -2,6 +2,7 @@
 use Rattle.std.proofs.Common.{◌≡◌, ℕ, suc, ◌+◌, List, [], ◌∷◌, Option, Some, None, Bool, true, false, cond, refl, sym, ap, ◌∙◌, subst, arith}
 use Rattle.std.specs.Prelude.{◌&&◌, ◌||◌, codes}
 use Rattle.std.specs.List.{list_any}
+use Rattle.std.proofs.lemmas.Bool.{and_from, and_parts}
 use Rattle.md_reader_text.specs.Words.{same}
 use Rattle.tree_core.specs.declared.token.Tok.{Tok}
 use Rattle.tree_core.specs.declared.token.Tok.TheVariants as tok
@@ -109,17 +110,8 @@ some_fits : (o : Option Sort) (y x : Sort) → trees.sort_fits o y ≡ true → 
 some_fits None y x e f = absurd (cc)
 some_fits (Some z) y x e f = fits_on z y x e f
 
-both : (b c : Bool) → b ≡ true → c ≡ true → (b && c) ≡ true
-both true true e f = refl
-both true false e f = absurd (cc)
-both false c e f = absurd (cc)
-
-apart : (b c : Bool) → (b && c) ≡ true → (b ≡ true) × (c ≡ true)
-apart true c e = (refl, e)
-apart false c e = absurd (cc)
-
 stands_on : (l : Leaf) (y x : Sort) → stands_for l y ≡ true → fits y x ≡ true → stands_for l x ≡ true
-stands_on l y x e f = let h = apart (trees.sort_fits (sort_of l.tok) y) (leaf_fits l) e in both (trees.sort_fits (sort_of l.tok) x) (leaf_fits l) (some_fits (sort_of l.tok) y x h.0 f) h.1
+stands_on l y x e f = let h = and_parts (trees.sort_fits (sort_of l.tok) y) (leaf_fits l) e in and_from (trees.sort_fits (sort_of l.tok) x) (leaf_fits l) (some_fits (sort_of l.tok) y x h.0 f) h.1
 
 same_fits : (o : Option Sort) (x : Sort) → sort_fits o x ≡ true → trees.sort_fits o x ≡ true
 same_fits None x e = cc
@@ -144,7 +136,7 @@ module _ (classes : List Class) (rules : List Rule) where
         → Typed xs f
     fills_typed cover.nothing = tt
     fills_typed (cover.token {x = x} l passes below beside fit p q) =
-        (both (trees.sort_fits (sort_of l.tok) x) (leaf_fits l) (same_fits (sort_of l.tok) x passes) fit, fills_typed p, fills_typed q)
+        (and_from (trees.sort_fits (sort_of l.tok) x) (leaf_fits l) (same_fits (sort_of l.tok) x passes) fit, fills_typed p, fills_typed q)
     fills_typed (cover.class {x = x} {l = l} c passes below beside p q) =
         (let h = covers_typed p in (stands_on l h.sort x h.stands (class_fits (sort_of_symbol classes (grammar_symbol.Class c)) h.sort x h.of_class passes), h.below, fills_typed q))
 
@@ -155,7 +147,7 @@ typed_leaves [] none w h k = k
 typed_leaves [] (tree l below behind) w h k = absurd h
 typed_leaves (x ∷ xs) none w h k = absurd h
 typed_leaves (x ∷ xs) (tree l below behind) w h k =
-    let s = apart (trees.sort_fits (sort_of l.tok) x) (leaf_fits l) h.0 in
+    let s = and_parts (trees.sort_fits (sort_of l.tok) x) (leaf_fits l) h.0 in
     (s.1, no_end l.tok x s.0, typed_leaves (kids l.tok) below (leaves_onto behind w) h.1 (typed_leaves xs behind w h.2 k))
   where
     no_end : (t : Tok) (x : Sort) → trees.sort_fits (sort_of t) x ≡ true → t ≡ tok.End → ⊥

@@ -2,6 +2,7 @@
 use Rattle.std.proofs.Common.{◌≡◌, ℕ, zero, suc, ◌+◌, ◌≤◌, List, [], ◌∷◌, length, map, take, drop, slice_get, Some, None, sym, ap, ◌∙◌, subst, arith}
 use Rattle.std.specs.Prelude.{count_ones}
 use Rattle.std.specs.List.{AllByRecursion}
+use Rattle.std.proofs.lemmas.Option.{none-some, same_Some}
 use Rattle.tree_core.specs.declared.tree.Leaf.{Leaf}
 use Rattle.tree_core.specs.declared.program.TreeProgram.{TreeProgram}
 use Rattle.tree_core_forks.specs.Forks.{forks}
@@ -25,7 +26,7 @@ use Rattle.sel_parse_slots.proofs.Counts.{tick}
 use Rattle.sel_parse_slots.proofs.Iterating as walk
 use Rattle.sel_parse_slots.proofs.Prefixes.{gamma}
 use Rattle.sel_parse_registers.specs.Claims.{HasRegisters, NeverLacks}
-use Rattle.sel_parse_registers.proofs.Pools.{none_some, some_same, total_reverse, total_parted}
+use Rattle.sel_parse_registers.proofs.Pools.{total_reverse, total_parted}
 use Rattle.sel_parse_registers.proofs.Owning.{Had, holds, Owned, OwnedAt, token_none}
 use Rattle.sel_parse_registers.proofs.Serving.{OwnedStack, reduced_had}
 
@@ -62,14 +63,14 @@ module _ {O I S F : Type 0} (of : Meaning O I S F) (law : IsLawful of) (q : Tree
       omega (arith, a, b, c)
 
   needs_at : (rules : List Rule) (n : ℕ) (r : Rule) → AllByRecursion (λ (r : Rule). need d.classes r ≤ count_ones d.pool) rules → slice_get rules n ≡ Some r → need d.classes r ≤ count_ones d.pool
-  needs_at [] n r h e = absurd (none_some r e)
-  needs_at (y ∷ rules) zero r h e = subst (λ (r : Rule). need d.classes r ≤ count_ones d.pool) (some_same y r e) h.0
+  needs_at [] n r h e = absurd (none-some r e)
+  needs_at (y ∷ rules) zero r h e = subst (λ (r : Rule). need d.classes r ≤ count_ones d.pool) (same_Some y r e) h.0
   needs_at (y ∷ rules) (suc n) r h e = needs_at rules n r h.1 e
 
   went : (o : Outcome (Stack O I)) → Had (OwnedStack of law q can d fit.valid.pool first) o → (z : Kept O I) → kept_of o ≡ Some z → OwnedKept z
-  went Full h z e = absurd (none_some z e)
+  went Full h z e = absurd (none-some z e)
   went Stuck h z e = absurd h
-  went (Done y) h z e = subst OwnedKept (some_same (Some y) z e) h
+  went (Done y) h z e = subst OwnedKept (same_Some (Some y) z e) h
 
   reduced_owned : (n : ℕ) (r : Rule) → slice_get d.rules n ≡ Some r → (ws : List Leaf) (a : List Sym) → piled r.right (drop (length r.right) a) ≡ a → (x z : Kept O I) → Before ws a x
       → reduced_by of q d first (Some r) x ≡ Some z → OwnedKept z

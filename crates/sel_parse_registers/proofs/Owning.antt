@@ -4,6 +4,7 @@ use Rattle.std.specs.Prelude.{slice_set, is_some, count_ones, ◌||◌, if◌the
 use Rattle.std.specs.List.{AllByRecursion as All}
 use Rattle.std.specs.Int.{bit_at}
 use Rattle.std.proofs.lemmas.Nat.Bits.{bit_at-pow_other}
+use Rattle.std.proofs.lemmas.Option.{none-some}
 use Rattle.tree_core.specs.declared.token.Tok.{Tok}
 use Rattle.tree_core.specs.declared.token.Tok.TheVariants as tok
 use Rattle.tree_core.specs.declared.tree.Att.{Att}
@@ -33,7 +34,7 @@ use Rattle.sel_parse_slots.proofs.Fine as fine
 use Rattle.sel_parse_slots.proofs.Fine.{registers}
 use Rattle.sel_parse_slots.proofs.Counting as counting
 use Rattle.sel_parse_slots.proofs.Counting.{Good, AllFine, Counted, Goes, goes_of, fine_at}
-use Rattle.sel_parse_registers.proofs.Pools.{none_some, tick_true, tick_small, apart_of, count_less_in, none_count, lowest_none, no_some, ones_counted, total_none, none_last}
+use Rattle.sel_parse_registers.proofs.Pools.{tick_true, tick_small, apart_of, count_less_in, none_count, lowest_none, no_some, ones_counted, total_none, none_last}
 use Rattle.sel_parse_registers.proofs.Pools.{none_first, made_free, not_free}
 
 -- ---- what comes of a step: a register was never missing
@@ -138,8 +139,8 @@ module _ {O I S F : Type 0} (of : Meaning O I S F) (law : IsLawful of) (q : Tree
       (r.0, λ f. sym (ap (λ b. if b then None else first_that (may_go of) desk.symbols) f) ∙ r.1)
     where
       by : (o o' : Option ℕ) → deepest of o o' ≡ None → (o ≡ None) × (o' ≡ None)
-      by (Some i) o' e = absurd (none_some (Below i) (sym e))
-      by None (Some i) e = absurd (none_some (Among i) (sym e))
+      by (Some i) o' e = absurd (none-some (Below i) (sym e))
+      by None (Some i) e = absurd (none-some (Among i) (sym e))
       by None None e = (refl, refl)
 
   -- no entry of these holds the register
@@ -234,7 +235,7 @@ module _ {O I S F : Type 0} (of : Meaning O I S F) (law : IsLawful of) (q : Tree
 
   pub symbols_less : (ss : List Sym) (es : List (Entry O)) (i w : ℕ) (k : Option Kind) → AllFine of law q d first ss es → slice_get es i ≡ Some (record { kind = k; attr = attr.InSlot w })
       → standing es + 1 ≤ needs.registers_among d.classes ss
-  symbols_less ss [] i w k h at = absurd (none_some (record { kind = k; attr = attr.InSlot w }) at)
+  symbols_less ss [] i w k h at = absurd (none-some (record { kind = k; attr = attr.InSlot w }) at)
   symbols_less [] (e ∷ es) i w k h at = absurd h
   symbols_less (s ∷ ss) (e ∷ es) zero w k h at =
       let a = in_slot_kind s e.attr w h.0 (ap (λ (o : Option (Entry O)). attr_in o) at) in

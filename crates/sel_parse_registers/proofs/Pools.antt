@@ -9,15 +9,11 @@ use Rattle.std.proofs.lemmas.Bool.Decides.{nat_tests}
 use Rattle.std.proofs.lemmas.Grind.{reverse_onto}
 use Rattle.std.proofs.lemmas.Nat.{ones-le}
 use Rattle.std.proofs.lemmas.Nat.Bits.{bit_at-suc, bit_at_lowest}
+use Rattle.std.proofs.lemmas.Bool.{eqb-true}
+use Rattle.std.proofs.lemmas.Option.{none-some, same_Some}
 use Rattle.sel_parse_selected.specs.Desk.{lowest}
 use Rattle.sel_parse_selected.specs.Spills.{behind_one, first_that, later_of, last_that}
-use Rattle.sel_parse_slots.proofs.Counts.{tick, tick_or, count, total, total_append, equal_same}
-
-pub none_some : {X : Type 0} (x : X) → None ≡ Some x → ⊥
-none_some x e = cc
-
-pub some_same : {X : Type 0} (x y : X) → Some x ≡ Some y → x ≡ y
-some_same x y e = cc
+use Rattle.sel_parse_slots.proofs.Counts.{tick, tick_or, count, total, total_append}
 
 pub tick_true : (b : Bool) → 1 ≤ tick b → b ≡ true
 tick_true true le = refl
@@ -59,7 +55,7 @@ none_count p k zero e = refl
 none_count p k (suc n) e = by (λ f. none_count p (k + 1) n f) (p k) refl e
   where
     by : (lowest p (k + 1) n ≡ None → count p (k + 1) n ≡ 0) → (b : Bool) → p k ≡ b → (if b then Some k else lowest p (k + 1) n) ≡ None → tick (p k) + count p (k + 1) n ≡ 0
-    by ih true is f = absurd (none_some k (sym f))
+    by ih true is f = absurd (none-some k (sym f))
     by ih false is f = (let a = ih f in let b = ap tick is in omega (arith, a, b))
 
 -- where the lowest is none, none passes
@@ -71,8 +67,8 @@ lowest_none p k (suc n) r e le lt = by (λ f far. lowest_none p (k + 1) n r f fa
     further f = grind (arith, nat_tests)
 
     by : (lowest p (k + 1) n ≡ None → k + 1 ≤ r → p r ≡ false) → (b : Bool) → p k ≡ b → (if b then Some k else lowest p (k + 1) n) ≡ None → (c : Bool) → (k == r) ≡ c → p r ≡ false
-    by ih true is f c g = absurd (none_some k (sym f))
-    by ih false is f true g = ap p (sym (equal_same k r g)) ∙ is
+    by ih true is f c g = absurd (none-some k (sym f))
+    by ih false is f true g = ap p (sym (eqb-true k r g)) ∙ is
     by ih false is f false g = ih f (further g)
 
 pub no_some : {X : Type 0} (o : Option X) → is_some o ≡ false → o ≡ None
@@ -132,8 +128,8 @@ module _ {X : Type 0} (p : X → Bool) where
   none_last (x ∷ xs) e = by (last_that p xs) (λ f. none_last xs f) (p x) refl e
     where
       by : (o : Option ℕ) → (o ≡ None → All (λ (x : X). p x ≡ false) xs) → (b : Bool) → p x ≡ b → later_of o (if b then Some 0 else None) ≡ None → (p x ≡ false) × All (λ (x : X). p x ≡ false) xs
-      by (Some i) ih b is f = absurd (none_some (i + 1) (sym f))
-      by None ih true is f = absurd (none_some 0 (sym f))
+      by (Some i) ih b is f = absurd (none-some (i + 1) (sym f))
+      by None ih true is f = absurd (none-some 0 (sym f))
       by None ih false is f = (is, ih refl)
 
   pub none_first : (xs : List X) → first_that p xs ≡ None → All (λ (x : X). p x ≡ false) xs
@@ -141,8 +137,8 @@ module _ {X : Type 0} (p : X → Bool) where
   none_first (x ∷ xs) e = by (first_that p xs) (λ f. none_first xs f) (p x) refl e
     where
       by : (o : Option ℕ) → (o ≡ None → All (λ (x : X). p x ≡ false) xs) → (b : Bool) → p x ≡ b → (if b then Some 0 else behind_one o) ≡ None → (p x ≡ false) × All (λ (x : X). p x ≡ false) xs
-      by o ih true is f = absurd (none_some 0 (sym f))
-      by (Some i) ih false is f = absurd (none_some (i + 1) (sym f))
+      by o ih true is f = absurd (none-some 0 (sym f))
+      by (Some i) ih false is f = absurd (none-some (i + 1) (sym f))
       by None ih false is f = (is, ih refl)
 
 module _ {X Y : Type 0} (f : X → Y) (p : Y → Bool) where
@@ -151,8 +147,8 @@ module _ {X Y : Type 0} (f : X → Y) (p : Y → Bool) where
   map_total (x ∷ xs) = (let a = tick_or (p (f x)) (list_any p (map f xs)) in let b = map_total xs in omega (arith, a, b))
 
   pub map_at : (xs : List X) (i : ℕ) (y : Y) → slice_get (map f xs) i ≡ Some y → tick (p y) ≤ total (λ (x : X). tick (p (f x))) xs
-  map_at [] i y e = absurd (none_some y e)
-  map_at (x ∷ xs) zero y e = (let a = ap (λ z. tick (p z)) (some_same (f x) y e) in omega (arith, a))
+  map_at [] i y e = absurd (none-some y e)
+  map_at (x ∷ xs) zero y e = (let a = ap (λ z. tick (p z)) (same_Some (f x) y e) in omega (arith, a))
   map_at (x ∷ xs) (suc i) y e = (let a = map_at xs i y e in omega (arith, a))
 
 -- ---- totals of lists that are turned round or parted

@@ -1,6 +1,7 @@
 -- What a parse keeps is what its moves make.
 use Rattle.std.proofs.Common.{◌≡◌, ℕ, ◌==◌, List, [], ◌∷◌, Option, Some, None, IsSome, Bool, true, false, length, slice_get, refl, sym, ap, ◌∙◌, subst}
 use Rattle.std.specs.Prelude.{if◌then◌else◌, option_and_then}
+use Rattle.gg_base.proofs.Facts.{some_none}
 use Rattle.tree_core.specs.declared.tree.Leaf.{Leaf}
 use Rattle.tree_core.specs.declared.program.TreeProgram.{TreeProgram}
 use Rattle.md_reader.specs.declared.types.Rule.{Rule}
@@ -9,7 +10,6 @@ use Rattle.md_reader.specs.State.{Content}
 use Rattle.lr_tables.specs.Statements.{stmt_of}
 use Rattle.lr_check_parse.specs.Moves.{Move, Shift, Reduce, Ending, Accepts, Blocks, Loops, Refuses, Taken, taken, decided_at, Choice, Parses, loops, accepts, shifts, reduces, refuses, blocks}
 use Rattle.lr_check_parse.specs.Attributes.{by_attributes, answered}
-use Rattle.lr_check_parse.proofs.Choosing.{some_none}
 use Rattle.lr_check_parse.proofs.OneWay.{parse_one_way}
 use Rattle.sel_target.specs.Meaning.{Meaning}
 use Rattle.sel_parse_selected.specs.Desk.{Stack, Outcome, Full, Stuck, Done}
@@ -43,13 +43,13 @@ module _ {O I S F : Type 0} (of : Meaning O I S F) (q : TreeProgram) (d : Conten
   -- a reduction that is refused found the frame full
   refused_full : (n : ℕ) (r : Rule) (x : Kept O I) → slice_get d.rules n ≡ Some r → reduced_by of q d first (Some r) x ≡ None
       → IsFullBehind of q d first [] x
-  refused_full n r None there e = absurd (some_none {Y = Kept O I} None e)
+  refused_full n r None there e = absurd (some_none {A = Kept O I} None e)
   refused_full n r (Some x) there e = by (reduced of q d first r x) refl e
     where
       by : (o : Outcome (Stack O I)) → reduced of q d first r x ≡ o → kept_of o ≡ None → IsFullBehind of q d first [] (Some x)
       by Full same f = record { number = n; rule = r; stack = x; behind = refl; there = there; full = same }
-      by Stuck same f = absurd (some_none {Y = Kept O I} None f)
-      by (Done y) same f = absurd (some_none {Y = Kept O I} (Some y) f)
+      by Stuck same f = absurd (some_none {A = Kept O I} None f)
+      by (Done y) same f = absurd (some_none {A = Kept O I} (Some y) f)
 
   -- how a parse with these moves ends
   abbrev pub Behind : List (Move Leaf) → Kept O I → Ending (Kept O I) → Type 0

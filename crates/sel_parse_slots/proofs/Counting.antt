@@ -1,8 +1,11 @@
 -- A reduction uses no more words than the entries before it hold registers and slots.
 use Rattle.std.proofs.Common.{◌≡◌, ◌⊎◌, inl, inr, ℕ, zero, suc, ◌+◌, ◌-◌, ◌<◌, ◌≤◌, ◌==◌, List, [], ◌∷◌, ◌++◌, Option, Some, None, Bool, true, false, refl, sym, ap, ◌∙◌, subst, arith}
 use Rattle.std.proofs.Common.{slice_get}
-use Rattle.std.specs.Prelude.{not, ◌&&◌, if◌then◌else◌, slice_set}
+use Rattle.std.specs.Prelude.{not, if◌then◌else◌, slice_set}
 use Rattle.std.proofs.lemmas.Bool.Decides.{nat_tests}
+use Rattle.std.proofs.lemmas.Option.{same_Some, none-some}
+use Rattle.std.proofs.lemmas.Bool.{not-true, eqb-true}
+use Rattle.gg_base.proofs.Facts.{first_true, second_true, true_or_false}
 use Rattle.tree_core.specs.declared.program.TreeProgram.{TreeProgram}
 use Rattle.md_reader.specs.declared.types.Kind.{Kind}
 use Rattle.md_reader.specs.declared.types.Kind.TheVariants as kind
@@ -24,30 +27,9 @@ use Rattle.sel_parse_selected.specs.Reductions.{loaded, reloaded_by, reloaded_at
 use Rattle.sel_parse_stands.proofs.Loaded.{IsLoaded}
 use Rattle.sel_parse_stands.proofs.Saving.{lowest_found}
 use Rattle.sel_parse_stands.proofs.Desks.{first_passes, last_passes}
-use Rattle.sel_parse_slots.proofs.Counts.{count, tick, count_any, below_lowest, none_lowest, total, total_set, total_append, equal_same, unequal}
+use Rattle.sel_parse_slots.proofs.Counts.{count, tick, count_any, below_lowest, none_lowest, total, total_set, total_append, unequal}
 use Rattle.sel_parse_slots.proofs.Fine as fine
 use Rattle.sel_parse_slots.proofs.Fine.{words, charge, weight, weight_charge, IsFine, fine_words, slot_word_one, fine_spilled}
-
-some_same : {X : Type 0} (x y : X) → Some x ≡ Some y → x ≡ y
-some_same x y e = cc
-
-none_some : {X : Type 0} (x : X) → None ≡ Some x → ⊥
-none_some x e = cc
-
-and_left : (a b : Bool) → (a && b) ≡ true → a ≡ true
-and_left true b e = refl
-and_left false b e = absurd (cc)
-
-and_right : (a b : Bool) → (a && b) ≡ true → b ≡ true
-and_right true b e = e
-and_right false b e = absurd (cc)
-
-not_true : (a : Bool) → not a ≡ true → a ≡ false
-not_true true e = absurd (cc)
-not_true false e = refl
-
-both_not : (b : Bool) → b ≡ true → b ≡ false → ⊥
-both_not b e f = cc
 
 not_not : (a : Bool) → tick (not (not a)) ≤ tick a
 not_not true = omega arith
@@ -61,16 +43,16 @@ set_other (x ∷ xs) (suc i) zero y apart = refl
 set_other (x ∷ xs) (suc i) (suc j) y apart = set_other xs i j y (λ e. apart (ap suc e))
 
 set_is : {X : Type 0} (bs : List X) (i : ℕ) (y x : X) → slice_get (slice_set bs i y) i ≡ Some x → y ≡ x
-set_is [] i y x e = absurd (none_some x e)
-set_is (b ∷ bs) zero y x e = some_same y x e
+set_is [] i y x e = absurd (none-some x e)
+set_is (b ∷ bs) zero y x e = same_Some y x e
 set_is (b ∷ bs) (suc i) y x e = set_is bs i y x e
 
 by_place : (n k : ℕ) → (n ≡ k) ⊎ (n ≡ k → ⊥)
 by_place n k = here (n == k) refl
   where
     here : (b : Bool) → (n == k) ≡ b → (n ≡ k) ⊎ (n ≡ k → ⊥)
-    here true g = inl (equal_same n k g)
-    here false g = inr (λ h. both_not (n == k) (same n k h) g)
+    here true g = inl (eqb-true n k g)
+    here false g = inr (λ h. true_or_false (n == k) (same n k h) g)
       where
         same : (n k : ℕ) → n ≡ k → (n == k) ≡ true
         same n k h = grind (arith, nat_tests)
@@ -132,25 +114,25 @@ module _ {O I S F : Type 0} (of : Meaning O I S F) (law : IsLawful of) (q : Tree
   within_total (e ∷ es) (g ∷ gs) h = (let a = h.0 in let b = within_total es gs h.1 in omega (arith, a, b))
 
   within_set : (es : List (Entry O)) (gs : List ℕ) (i : ℕ) (a b : Entry O) → slice_get es i ≡ Some a → charge_of b ≤ charge_of a → Within es gs → Within (slice_set es i b) gs
-  within_set [] gs i a b e le h = absurd (none_some a e)
+  within_set [] gs i a b e le h = absurd (none-some a e)
   within_set (x ∷ es) [] i a b e le h = absurd h
   within_set (x ∷ es) (g ∷ gs) zero a b e le h = (
-    (let same : charge_of x ≡ charge_of a = ap charge_of (some_same x a e) in let k = h.0 in omega (arith, same, k, le)),
+    (let same : charge_of x ≡ charge_of a = ap charge_of (same_Some x a e) in let k = h.0 in omega (arith, same, k, le)),
     h.1,
   )
   within_set (x ∷ es) (g ∷ gs) (suc i) a b e le h = (h.0, within_set es gs i a b e le h.1)
 
   pub fine_at : (ss : List Sym) (es : List (Entry O)) (i : ℕ) (e : Entry O) → AllFine ss es → slice_get es i ≡ Some e → (s : Sym) × (slice_get ss i ≡ Some s) × Fine s e.attr
-  fine_at ss [] i e h at = absurd (none_some e at)
+  fine_at ss [] i e h at = absurd (none-some e at)
   fine_at [] (x ∷ es) i e h at = absurd h
-  fine_at (s ∷ ss) (x ∷ es) zero e h at = (s, refl, subst (λ (w : Entry O). Fine s w.attr) (some_same x e at) h.0)
+  fine_at (s ∷ ss) (x ∷ es) zero e h at = (s, refl, subst (λ (w : Entry O). Fine s w.attr) (same_Some x e at) h.0)
   fine_at (s ∷ ss) (x ∷ es) (suc i) e h at = fine_at ss es i e h.1 at
 
   fine_set : (ss : List Sym) (es : List (Entry O)) (i : ℕ) (e b : Entry O) (s : Sym) → AllFine ss es → slice_get es i ≡ Some e → slice_get ss i ≡ Some s → Fine s b.attr
       → AllFine ss (slice_set es i b)
-  fine_set ss [] i e b s h at there new = absurd (none_some e at)
+  fine_set ss [] i e b s h at there new = absurd (none-some e at)
   fine_set [] (x ∷ es) i e b s h at there new = absurd h
-  fine_set (y ∷ ss) (x ∷ es) zero e b s h at there new = (subst (λ w. Fine w b.attr) (sym (some_same y s there)) new, h.1)
+  fine_set (y ∷ ss) (x ∷ es) zero e b s h at there new = (subst (λ w. Fine w b.attr) (sym (same_Some y s there)) new, h.1)
   fine_set (y ∷ ss) (x ∷ es) (suc i) e b s h at there new = (h.0, fine_set ss es i e b s h.1 at there new)
 
   fine_total : (ss : List Sym) (es : List (Entry O)) → AllFine ss es → total words_of es ≤ total weight_of es
@@ -161,11 +143,11 @@ module _ {O I S F : Type 0} (of : Meaning O I S F) (law : IsLawful of) (q : Tree
 
   -- less by one at a place at least
   fine_less : (ss : List Sym) (es : List (Entry O)) (i : ℕ) (e : Entry O) → AllFine ss es → slice_get es i ≡ Some e → words_of e + 1 ≤ weight_of e → total words_of es + 1 ≤ total weight_of es
-  fine_less ss [] i e h at lt = absurd (none_some e at)
+  fine_less ss [] i e h at lt = absurd (none-some e at)
   fine_less [] (x ∷ es) i e h at lt = absurd h
   fine_less (s ∷ ss) (x ∷ es) zero e h at lt =
-      let a = ap words_of (some_same x e at) in
-      let b = ap weight_of (some_same x e at) in
+      let a = ap words_of (same_Some x e at) in
+      let b = ap weight_of (same_Some x e at) in
       let c = fine_total ss es h.1 in
       omega (arith, a, b, c, lt)
   fine_less (s ∷ ss) (x ∷ es) (suc i) e h at lt =
@@ -181,11 +163,11 @@ module _ {O I S F : Type 0} (of : Meaning O I S F) (law : IsLawful of) (q : Tree
   charges_less ss es h = (let a = fine_total ss es h in let b = weights es in omega (arith, a, b))
 
   charge_less : (ss : List Sym) (es : List (Entry O)) (i : ℕ) (e : Entry O) → AllFine ss es → slice_get es i ≡ Some e → words_of e + 1 ≤ charge_of e → total words_of es + 1 ≤ total charge_of es
-  charge_less ss [] i e h at lt = absurd (none_some e at)
+  charge_less ss [] i e h at lt = absurd (none-some e at)
   charge_less [] (x ∷ es) i e h at lt = absurd h
   charge_less (s ∷ ss) (x ∷ es) zero e h at lt =
-      let a = ap words_of (some_same x e at) in
-      let b = ap charge_of (some_same x e at) in
+      let a = ap words_of (same_Some x e at) in
+      let b = ap charge_of (same_Some x e at) in
       let c = charges_less ss es h.1 in
       omega (arith, a, b, c, lt)
   charge_less (s ∷ ss) (x ∷ es) (suc i) e h at lt =
@@ -334,13 +316,13 @@ module _ {O I S F : Type 0} (of : Meaning O I S F) (law : IsLawful of) (q : Tree
             in_slot_still b g = ap (λ (x : Entry O). entry_in_slot of x w) g
 
             same_set : (xs : List (Entry O)) (n : ℕ) (x y : Entry O) → slice_get xs n ≡ Some x → slice_get (slice_set xs n y) n ≡ Some y
-            same_set [] n x y g = absurd (none_some x g)
+            same_set [] n x y g = absurd (none-some x g)
             same_set (z ∷ xs) zero x y g = refl
             same_set (z ∷ xs) (suc n) x y g = same_set xs n x y g
 
             by : (j ≡ k) ⊎ (j ≡ k → ⊥) → slice_get (slice_set desk.symbols j (entry_in_slot of e w)) k ≡ Some (record { kind = kd; attr = attr.InSlot u })
             by (inl g) =
-                let same : e ≡ record { kind = kd; attr = attr.InSlot u } = some_same e (record { kind = kd; attr = attr.InSlot u }) (sym at ∙ ap (slice_get desk.symbols) g ∙ there) in
+                let same : e ≡ record { kind = kd; attr = attr.InSlot u } = same_Some e (record { kind = kd; attr = attr.InSlot u }) (sym at ∙ ap (slice_get desk.symbols) g ∙ there) in
                 ap (slice_get (slice_set desk.symbols j (entry_in_slot of e w))) (sym g) ∙ same_set desk.symbols j e (entry_in_slot of e w) at ∙ ap Some (in_slot_still e same)
             by (inr g) = set_other desk.symbols j k (entry_in_slot of e w) g ∙ there
 
@@ -358,18 +340,18 @@ module _ {O I S F : Type 0} (of : Meaning O I S F) (law : IsLawful of) (q : Tree
             let r = first_passes (may_go of) desk.symbols i h in (
               r.element,
               r.there,
-              among i r.element r.there (and_right (not (is_register r.element.attr)) (holds_register of r.element) r.is)
-                  (λ g. both_not (is_register r.element.attr) g (not_true (is_register r.element.attr) (and_left (not (is_register r.element.attr)) (holds_register of r.element) r.is))),
+              among i r.element r.there (second_true (not (is_register r.element.attr)) (holds_register of r.element) r.is)
+                  (λ g. true_or_false (is_register r.element.attr) g (not-true (is_register r.element.attr) (first_true (not (is_register r.element.attr)) (holds_register of r.element) r.is))),
             )
 
         second : (g : Bool) (o : Option ℕ) → (if g then None else first_that (may_go of) desk.symbols) ≡ o → deepest of None o ≡ Some p → Goal p
-        second g None at k = absurd (none_some p k)
-        second true (Some i) at k = absurd (none_some i at)
-        second false (Some i) at k = subst Goal (some_same (Among i) p k) (among_goes i at)
+        second g None at k = absurd (none-some p k)
+        second true (Some i) at k = absurd (none-some i at)
+        second false (Some i) at k = subst Goal (same_Some (Among i) p k) (among_goes i at)
 
         by : (o : Option ℕ) → last_that (holds_register of) desk.below ≡ o → deepest of o (if given then None else first_that (may_go of) desk.symbols) ≡ Some p → Goal p
         by None at k = second given (if given then None else first_that (may_go of) desk.symbols) refl k
-        by (Some i) at k = subst Goal (some_same (Below i) p k) (let r = last_passes (holds_register of) desk.below i at in (r.element, r.there, below i r.element r.there r.is))
+        by (Some i) at k = subst Goal (same_Some (Below i) p k) (let r = last_passes (holds_register of) desk.below i at in (r.element, r.there, below i r.element r.there r.is))
 
     pub record IsDue (i : ℕ) (old : Desk O I) (p : ℕ × Desk O I) : Type 0 where
       pub small : p.0 < 12
@@ -478,7 +460,7 @@ module _ {O I S F : Type 0} (of : Meaning O I S F) (law : IsLawful of) (q : Tree
     one_good i desk h = at (slice_get desk.symbols i) refl
       where
         is : (e b : Entry O) → slice_get desk.symbols i ≡ Some e → IsLoaded e.attr → slice_get desk.symbols i ≡ Some b → IsLoaded b.attr
-        is e b g k f = subst (λ (x : Entry O). IsLoaded x.attr) (some_same e b (sym g ∙ f)) k
+        is e b g k f = subst (λ (x : Entry O). IsLoaded x.attr) (same_Some e b (sym g ∙ f)) k
 
         by : (k : Option Kind) (b : Attr O) → slice_get desk.symbols i ≡ Some (record { kind = k; attr = b })
             → Good top (reloaded_by of q d first i desk (record { kind = k; attr = b }) b) (Counted (suc i))
@@ -494,7 +476,7 @@ module _ {O I S F : Type 0} (of : Meaning O I S F) (law : IsLawful of) (q : Tree
         by k attr.Nothing g = plain i desk h (λ e f. is (record { kind = k; attr = attr.Nothing }) e g tt f)
 
         at : (o : Option (Entry O)) → slice_get desk.symbols i ≡ o → Good top (reloaded_at of q d first i desk o) (Counted (suc i))
-        at None g = plain i desk h (λ e f. absurd (none_some e (sym g ∙ f)))
+        at None g = plain i desk h (λ e f. absurd (none-some e (sym g ∙ f)))
         at (Some e) g = by e.kind e.attr g
 
     pub reloaded_good : (n i : ℕ) (desk : Desk O I) → Counted i desk → Good top (reloaded of q d first n i desk) (Counted (i + n))

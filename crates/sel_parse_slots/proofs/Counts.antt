@@ -4,6 +4,7 @@ use Rattle.std.proofs.Common.{slice_get}
 use Rattle.std.specs.Prelude.{slice_set, not, if◌then◌else◌, ◌||◌}
 use Rattle.std.specs.List.{list_any}
 use Rattle.std.proofs.lemmas.Bool.Decides.{nat_tests}
+use Rattle.std.proofs.lemmas.Bool.{eqb-true}
 use Rattle.sel_parse_selected.specs.Desk.{lowest}
 
 abbrev pub tick : Bool → ℕ
@@ -39,14 +40,11 @@ count_none p k (suc n) h =
     let b = count_none p (k + 1) n (λ v le. h v (omega (arith, le))) in
     omega (arith, a, b)
 
-pub equal_same : (w k : ℕ) → (w == k) ≡ true → w ≡ k
-equal_same w k e = grind (arith, nat_tests)
-
 pub unequal : (w k : ℕ) → (w ≡ k → ⊥) → (w == k) ≡ false
 unequal w k h = by (w == k) refl
   where
     by : (b : Bool) → (w == k) ≡ b → (w == k) ≡ false
-    by true e = absurd (h (equal_same w k e))
+    by true e = absurd (h (eqb-true w k e))
     by false e = e
 
 count_above : (w k n : ℕ) → w < k → count (λ v. w == v) k n ≡ 0
@@ -58,7 +56,7 @@ count_one w k (suc n) = by (count_one w (k + 1) n) (w == k) refl
   where
     by : count (λ v. w == v) (k + 1) n ≤ 1 → (b : Bool) → (w == k) ≡ b → tick (w == k) + count (λ v. w == v) (k + 1) n ≤ 1
     by b true e =
-        let same = equal_same w k e in
+        let same = eqb-true w k e in
         let a = tick_small (w == k) in
         let c = count_above w (k + 1) n (omega (arith, same)) in
         omega (arith, a, c)
@@ -73,7 +71,7 @@ count_some p k (suc n) r le lt e = by (λ far. count_some p (k + 1) n r far (ome
     further f = grind (arith, nat_tests)
 
     by : (k + 1 ≤ r → 1 ≤ count p (k + 1) n) → (b : Bool) → (k == r) ≡ b → 1 ≤ tick (p k) + count p (k + 1) n
-    by go true f = (let same = equal_same k r f in let a = ap tick (ap p same ∙ e) in omega (arith, a))
+    by go true f = (let same = eqb-true k r f in let a = ap tick (ap p same ∙ e) in omega (arith, a))
     by go false f = (let a = go (further f) in omega (arith, a))
 
 -- the lowest that passes has no more below it than fail

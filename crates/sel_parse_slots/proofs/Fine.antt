@@ -1,5 +1,5 @@
 -- What entries hold, in registers and slots.
-use Rattle.std.proofs.Common.{◌≡◌, ℕ, ◌+◌, ◌-◌, ◌<◌, ◌≤◌, ◌==◌, Option, Some, None, Bool, true, false, refl, sym, ap, ◌∙◌, subst, arith}
+use Rattle.std.proofs.Common.{◌≡◌, ℕ, ◌+◌, ◌-◌, ◌<◌, ◌≤◌, ◌==◌, Option, Some, None, true, false, refl, sym, ap, ◌∙◌, subst, arith}
 use Rattle.std.specs.Prelude.{is_some}
 use Rattle.std.specs.Int.{bit_at}
 use Rattle.std.proofs.lemmas.Nat.Bits.{bit_at-zero}
@@ -31,9 +31,6 @@ use Rattle.sel_parse_slots.proofs.Counts.{count, count_none, count_less, count_o
 found_some : {X : Type 0} (o : Option X) → is_some o ≡ true → (x : X) × (o ≡ Some x)
 found_some None e = absurd (cc)
 found_some (Some x) e = (x, refl)
-
-one_false : (b : Bool) → b ≡ false → b ≡ true → ⊥
-one_false b e f = cc
 
 module _ {O I S F : Type 0} (of : Meaning O I S F) (law : IsLawful of) (q : TreeProgram) (d : Content) (first : ℕ) where
   abbrev pub registers : Attr O → ℕ

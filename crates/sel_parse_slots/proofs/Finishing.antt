@@ -5,6 +5,7 @@ use Rattle.std.specs.Prelude.{Ok, option_map}
 use Rattle.std.specs.List.{AllByRecursion as All, list_any}
 use Rattle.std.specs.Int.{bit_at}
 use Rattle.std.proofs.lemmas.Nat.Bits.{bit_at-pow_other}
+use Rattle.std.proofs.lemmas.Option.{same_Some, none-some}
 use Rattle.gg_base.specs.declared.size.Size.TheVariants.{Byte, Word, Long}
 use Rattle.tree_core.specs.declared.token.Tok.{Tok}
 use Rattle.tree_core.specs.declared.token.Sort.{Sort}
@@ -47,12 +48,6 @@ use Rattle.sel_parse_slots.proofs.Counts.{count, count_less, count_any, count_on
 use Rattle.sel_parse_slots.proofs.Fine as fine
 use Rattle.sel_parse_slots.proofs.Fine.{registers, words, charge, IsFine}
 use Rattle.sel_parse_slots.proofs.Counting.{Good, good_bind, sum, charge_of, AllFine, Within, within_total, weights, Counted, IsDue, due_good, reloaded_good}
-
-some_same : {X : Type 0} (x y : X) → Some x ≡ Some y → x ≡ y
-some_same x y e = cc
-
-none_some : {X : Type 0} (x : X) → None ≡ Some x → ⊥
-none_some x e = cc
 
 -- ---- no class of statements stands in a right side
 
@@ -99,7 +94,7 @@ value_sort kind.Nothing h e = h refl
 pub right_none : (classes : List Class) (r : Rule) (k : Kind) → IsRule classes r → kind_at classes r.left ≡ Some k → (k ≡ kind.Nothing → ⊥) → All (IsNoStatement classes) r.right
 right_none classes r k is_rule is apart =
     let a = is_rule.sides in
-    let same : a.sort ≡ sort_of_kind k = some_same a.sort (sort_of_kind k) (sym a.declared ∙ ap (option_map sort_of_kind) is) in
+    let same : a.sort ≡ sort_of_kind k = same_Some a.sort (sort_of_kind k) (sym a.declared ∙ ap (option_map sort_of_kind) is) in
     subst (All (IsNoStatement classes)) a.sorted.spelled (none_onto classes a.sorted.tree [] ((λ e. value_sort k apart (sym same ∙ e)), tt) tt)
 
 module _ {O I S F : Type 0} (of : Meaning O I S F) (law : IsLawful of) (q : TreeProgram) (can : of.can_write q) (d : Content) (first : ℕ) where
@@ -238,10 +233,10 @@ module _ {O I S F : Type 0} (of : Meaning O I S F) (law : IsLawful of) (q : Tree
 
       at_symbol : (ss : List Sym) (bs : List (Entry O)) (j : ℕ) (s : Sym) → AllFine of law q d first ss bs → AllLoaded bs → slice_get ss j ≡ Some s
           → (a : Attr O) × (slice_get (attrs bs) j ≡ Some a) × IsFine of law q d first s a × IsLoaded a
-      at_symbol [] [] j s h k e = absurd (none_some s e)
+      at_symbol [] [] j s h k e = absurd (none-some s e)
       at_symbol [] (b ∷ bs) j s h k e = absurd h
       at_symbol (x ∷ ss) [] j s h k e = absurd h
-      at_symbol (x ∷ ss) (b ∷ bs) zero s h k e = (b.attr, refl, subst (λ w. IsFine of law q d first w b.attr) (some_same x s e) h.0, k.0)
+      at_symbol (x ∷ ss) (b ∷ bs) zero s h k e = (b.attr, refl, subst (λ w. IsFine of law q d first w b.attr) (same_Some x s e) h.0, k.0)
       at_symbol (x ∷ ss) (b ∷ bs) (suc j) s h k e = at_symbol ss bs j s h.1 k.1 e
 
       own_reg : (s : Sym) (c : ℕ) (a : Attr O) → IsFine of law q d first s a → IsLoaded a → s ≡ grammar_symbol.Class c → kind_at d.classes c ≡ Some kind.Reg → (r : ℕ) × (a ≡ attr.Reg r) × (r < 12)

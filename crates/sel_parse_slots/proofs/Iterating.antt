@@ -3,6 +3,7 @@ use Rattle.std.proofs.Common.{◌≡◌, ℕ, zero, suc, ◌+◌, ◌≤◌, ◌
 use Rattle.std.proofs.Common.{length-append}
 use Rattle.std.specs.Prelude.{reverse, Ok}
 use Rattle.std.specs.List.{AllByRecursion}
+use Rattle.std.proofs.lemmas.Option.{same_Some, none-some}
 use Rattle.tree_core.specs.declared.token.Tok.{Tok}
 use Rattle.tree_core.specs.declared.token.Sort.{Sort}
 use Rattle.tree_core.specs.declared.token.Sort.TheVariants as sort
@@ -47,15 +48,9 @@ use Rattle.sel_parse_slots.proofs.Finishing.{Reduced, started, register_named, r
 use Rattle.sel_parse_slots.proofs.Prefixes.{Part, Whole, gamma, opens, twos, ends, held_in_all, part_of, Marks, ends_of, opens_of, marks_ends, marks_opens, part_twos, arity, whole_ends}
 use Rattle.sel_parse_slots.proofs.Prefixes.{total_piled, sum_gamma}
 
-some_same : {X : Type 0} (x y : X) → Some x ≡ Some y → x ≡ y
-some_same x y e = cc
-
-none_some : {X : Type 0} (x : X) → None ≡ Some x → ⊥
-none_some x e = cc
-
 all_at : {X : Type 0} (P : X → Type 0) (xs : List X) (n : ℕ) (x : X) → AllByRecursion P xs → slice_get xs n ≡ Some x → P x
-all_at P [] n x h e = absurd (none_some x e)
-all_at P (y ∷ xs) zero x h e = subst P (some_same y x e) h.0
+all_at P [] n x h e = absurd (none-some x e)
+all_at P (y ∷ xs) zero x h e = subst P (same_Some y x e) h.0
 all_at P (y ∷ xs) (suc n) x h e = all_at P xs n x h.1 e
 
 abbrev tokens : List Leaf → List Tok
@@ -289,14 +284,14 @@ module _ {O I S F : Type 0} (of : Meaning O I S F) (law : IsLawful of) (q : Tree
               }
 
       went : (o : Outcome (Stack O I)) → Good (first + (k + 1)) o Done_well → (z : Kept O I) → kept_of o ≡ Some z → Before ws (grammar_symbol.Class r.left ∷ b) z
-      went Full w z e = absurd (none_some z e)
-      went Stuck w z e = subst (Before ws (grammar_symbol.Class r.left ∷ b)) (some_same None z e) tt
-      went (Done y) w z e = subst (Before ws (grammar_symbol.Class r.left ∷ b)) (some_same (Some y) z e) (next y w)
+      went Full w z e = absurd (none-some z e)
+      went Stuck w z e = subst (Before ws (grammar_symbol.Class r.left ∷ b)) (same_Some None z e) tt
+      went (Done y) w z e = subst (Before ws (grammar_symbol.Class r.left ∷ b)) (same_Some (Some y) z e) (next y w)
 
       full : (o : Outcome (Stack O I)) → Good (first + (k + 1)) o Done_well → kept_of o ≡ None → 1024 < first + (k + 1)
       full Full w e = w
-      full Stuck w e = absurd (none_some None (sym e))
-      full (Done y) w e = absurd (none_some (Some y) (sym e))
+      full Stuck w e = absurd (none-some None (sym e))
+      full (Done y) w e = absurd (none-some (Some y) (sym e))
 
     module _ (n : ℕ) (r : Rule) (there : slice_get d.rules n ≡ Some r) (ws : List Leaf) (a : List Sym) (on : piled r.right (drop (length r.right) a) ≡ a) where
       pub is_valid : IsRule d.classes r
@@ -306,7 +301,7 @@ module _ {O I S F : Type 0} (of : Meaning O I S F) (law : IsLawful of) (q : Tree
       has_effect = all_at (λ (r : Rule). (e : EffectShape) × (of.effect d.classes r ≡ Ok e)) d.rules n r fit.taken there
 
       pub reduce : (x z : Kept O I) → Before ws a x → reduced_by of q d first (Some r) x ≡ Some z → Before ws (grammar_symbol.Class r.left ∷ drop (length r.right) a) z
-      reduce None z h e = subst (Before ws (grammar_symbol.Class r.left ∷ drop (length r.right) a)) (some_same None z e) tt
+      reduce None z h e = subst (Before ws (grammar_symbol.Class r.left ∷ drop (length r.right) a)) (same_Some None z e) tt
       reduce (Some x) z h e =
           let b = drop (length r.right) a in
           let h' : At ws (piled r.right b) x = subst (λ l. At ws l x) (sym on) h in
@@ -314,7 +309,7 @@ module _ {O I S F : Type 0} (of : Meaning O I S F) (law : IsLawful of) (q : Tree
           went r is_valid has_effect.0 has_effect.1 ws b x h' s (reduced of q d first r x) (good r is_valid has_effect.0 has_effect.1 ws b x h' s) z e
 
       refuse : (x : Kept O I) → Before ws a x → reduced_by of q d first (Some r) x ≡ None → 1024 < first + (k + 1)
-      refuse None h e = absurd (none_some None (sym e))
+      refuse None h e = absurd (none-some None (sym e))
       refuse (Some x) h e =
           let b = drop (length r.right) a in
           let h' : At ws (piled r.right b) x = subst (λ l. At ws l x) (sym on) h in

@@ -1,6 +1,7 @@
 -- Entries that are carried on from a state to a later one: each is worth what it was, and a place stays the place that it was.
 use Rattle.std.proofs.Common.{◌≡◌, ℕ, zero, suc, List, [], ◌∷◌, Option, Some, None, false, refl, ◌∙◌, subst, slice_get}
 use Rattle.std.specs.List.{AllByRecursion as All}
+use Rattle.std.proofs.lemmas.Option.{none-some, same_Some}
 use Rattle.gg_base.specs.declared.size.Size.{Size}
 use Rattle.gg_base.specs.declared.size.Size.TheVariants.{Long}
 use Rattle.tree_core.specs.declared.token.Tok.{Tok}
@@ -20,12 +21,6 @@ use Rattle.sel_target.specs.Instances.{some_touches, attr_touches, IsWhole}
 use Rattle.sel_target.specs.Outcomes.{Keeps}
 use Rattle.sel_target.specs.StatementLaws.{att_of}
 use Rattle.sel_parse_selected.specs.Entries.{Entry, attrs}
-
-none_some : {X : Type 0} (x : X) → None ≡ Some x → ⊥
-none_some x e = cc
-
-some_same : {X : Type 0} (x y : X) → Some x ≡ Some y → x ≡ y
-some_same x y e = cc
 
 module _ {O I S F : Type 0} (of : Meaning O I S F) (q : TreeProgram) (d : Content) (f : Extent) (t : State) where
   abbrev pub Untouched : List Spot → Attr O → Type 0
@@ -69,7 +64,7 @@ module _ {O I S F : Type 0} (of : Meaning O I S F) (q : TreeProgram) (d : Conten
   token_kept spots m m' x (att.Slot k) n keeps free e = by (token_operand of x (att.Slot k)) free e
     where
       by : (o : Option O) → All (λ (w : Spot). some_touches of o w ≡ false) spots → read_of of o Long m ≡ Some n → read_of of o Long m' ≡ Some n
-      by None g h = absurd (none_some n h)
+      by None g h = absurd (none-some n h)
       by (Some o) g h = keeps.reads o Long n g h
   token_kept spots m m' x (att.Branch rel label) n keeps free e = e
   token_kept spots m m' x (att.Label label) n keeps free e = e
@@ -87,14 +82,14 @@ module _ {O I S F : Type 0} (of : Meaning O I S F) (q : TreeProgram) (d : Conten
   worth_kept spots m m' z attr.Nothing n keeps free e = e
 
   own_untouched : (spots : List Spot) (a : Attr O) (o : O) → Untouched spots a → own_operand of a ≡ Some o → All (λ x. touches of o x ≡ false) spots
-  own_untouched spots (attr.Reg r) o free e = absurd (none_some o e)
-  own_untouched spots (attr.InSlot w) o free e = absurd (none_some o e)
-  own_untouched spots (attr.Value p) o free e = absurd (none_some o e)
-  own_untouched spots (attr.Place p) o free e = subst (λ w. All (λ x. touches of w x ≡ false) spots) (some_same p o e) free
-  own_untouched spots (attr.Con n) o free e = absurd (none_some o e)
-  own_untouched spots (attr.Ea p) o free e = absurd (none_some o e)
+  own_untouched spots (attr.Reg r) o free e = absurd (none-some o e)
+  own_untouched spots (attr.InSlot w) o free e = absurd (none-some o e)
+  own_untouched spots (attr.Value p) o free e = absurd (none-some o e)
+  own_untouched spots (attr.Place p) o free e = subst (λ w. All (λ x. touches of w x ≡ false) spots) (same_Some p o e) free
+  own_untouched spots (attr.Con n) o free e = absurd (none-some o e)
+  own_untouched spots (attr.Ea p) o free e = absurd (none-some o e)
   own_untouched spots (attr.Token l) o free e = subst (λ w. All (λ (x : Spot). some_touches of w x ≡ false) spots) e free
-  own_untouched spots attr.Nothing o free e = absurd (none_some o e)
+  own_untouched spots attr.Nothing o free e = absurd (none-some o e)
 
   pub stays : (spots : List Spot) (m m' : S) (z : Size) (a : Attr O) → Keeps of spots m m' → Untouched spots a → Carried m m' z a a
   stays spots m m' z a keeps free = record {
@@ -133,7 +128,7 @@ module _ {O I S F : Type 0} (of : Meaning O I S F) (q : TreeProgram) (d : Conten
   carried_at m m' (x ∷ xs) (a ∷ as_) (e ∷ bs) zero b h at = record {
     before = a.attr;
     there = refl;
-    carried = subst (Carried m m' (size_of_symbol d.classes x) a.attr) (some_same e.attr b at) h.0;
+    carried = subst (Carried m m' (size_of_symbol d.classes x) a.attr) (same_Some e.attr b at) h.0;
   }
   carried_at m m' (x ∷ xs) (a ∷ as_) (e ∷ bs) (suc j) b h at =
       let r = carried_at m m' xs as_ bs j b h.1 at in

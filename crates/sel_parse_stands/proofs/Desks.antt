@@ -4,6 +4,9 @@ use Rattle.std.proofs.Common.{arith}
 use Rattle.std.specs.Prelude.{not, ◌&&◌, ◌||◌, if◌then◌else◌, slice_set, nat_lt}
 use Rattle.std.specs.Int.{bit_at}
 use Rattle.std.proofs.lemmas.Bool.Decides.{nat_tests}
+use Rattle.std.proofs.lemmas.Option.{same_Some, none-some}
+use Rattle.std.proofs.lemmas.Bool.{not-true}
+use Rattle.gg_base.proofs.Facts.{first_true, second_true, true_or_false}
 use Rattle.gg_base.specs.declared.size.Size.TheVariants.{Long}
 use Rattle.tree_core.specs.declared.program.TreeProgram.{TreeProgram}
 use Rattle.tree_meaning.specs.State.{State}
@@ -36,27 +39,6 @@ use Rattle.sel_parse_stands.proofs.Carrying.{AllUntouched, Carried, on, stays, A
 use Rattle.sel_parse_stands.proofs.Keeping.{holds_kept, sees_kept, not_held, comes_on}
 use Rattle.sel_parse_stands.proofs.Saving.{lowest_found, entry_saved, slot_holds_none, register_loaded}
 
-some_same : {X : Type 0} (x y : X) → Some x ≡ Some y → x ≡ y
-some_same x y e = cc
-
-none_some : {X : Type 0} (x : X) → None ≡ Some x → ⊥
-none_some x e = cc
-
-and_left : (a b : Bool) → (a && b) ≡ true → a ≡ true
-and_left true b e = refl
-and_left false b e = absurd (cc)
-
-and_right : (a b : Bool) → (a && b) ≡ true → b ≡ true
-and_right true b e = e
-and_right false b e = absurd (cc)
-
-not_true : (a : Bool) → not a ≡ true → a ≡ false
-not_true true e = absurd (cc)
-not_true false e = refl
-
-both_not : (b : Bool) → b ≡ true → b ≡ false → ⊥
-both_not b e f = cc
-
 -- ---- elements that pass
 
 done_same : {X : Type 0} (x y : X) → Done x ≡ Done y → x ≡ y
@@ -75,33 +57,33 @@ module _ {X : Type 0} (passes : X → Bool) where
     pub is : passes element ≡ true
 
   behind_some : (o : Option ℕ) (i : ℕ) → behind_one o ≡ Some i → (j : ℕ) × (o ≡ Some j) × (i ≡ suc j)
-  behind_some None i e = absurd (none_some i e)
-  behind_some (Some j) i e = (j, refl, (let h = some_same (j + 1) i e in omega (arith, h)))
+  behind_some None i e = absurd (none-some i e)
+  behind_some (Some j) i e = (j, refl, (let h = same_Some (j + 1) i e in omega (arith, h)))
 
   on_more : (x : X) (xs : List X) (i j : ℕ) → i ≡ suc j → Passes xs j → Passes (x ∷ xs) i
   on_more x xs i j e p = subst (Passes (x ∷ xs)) (sym e) (record { element = p.element; there = p.there; is = p.is })
 
   pub first_passes : (xs : List X) (i : ℕ) → first_that passes xs ≡ Some i → Passes xs i
-  first_passes [] i e = absurd (none_some i e)
+  first_passes [] i e = absurd (none-some i e)
   first_passes (x ∷ xs) i e = by (passes x) refl e (λ j f. first_passes xs j f)
     where
       by : (b : Bool) → passes x ≡ b → (if b then Some 0 else behind_one (first_that passes xs)) ≡ Some i
           → ((j : ℕ) → first_that passes xs ≡ Some j → Passes xs j) → Passes (x ∷ xs) i
-      by true is f go = subst (Passes (x ∷ xs)) (some_same 0 i f) (record { element = x; there = refl; is = is })
+      by true is f go = subst (Passes (x ∷ xs)) (same_Some 0 i f) (record { element = x; there = refl; is = is })
       by false is f go = (let r = behind_some (first_that passes xs) i f in on_more x xs i r.0 r.2 (go r.0 r.1))
 
   pub last_passes : (xs : List X) (i : ℕ) → last_that passes xs ≡ Some i → Passes xs i
-  last_passes [] i e = absurd (none_some i e)
+  last_passes [] i e = absurd (none-some i e)
   last_passes (x ∷ xs) i e = by (last_that passes xs) refl e (λ j f. last_passes xs j f)
     where
       here : (b : Bool) → passes x ≡ b → (if b then Some 0 else None) ≡ Some i → Passes (x ∷ xs) i
-      here true is f = subst (Passes (x ∷ xs)) (some_same 0 i f) (record { element = x; there = refl; is = is })
-      here false is f = absurd (none_some i f)
+      here true is f = subst (Passes (x ∷ xs)) (same_Some 0 i f) (record { element = x; there = refl; is = is })
+      here false is f = absurd (none-some i f)
 
       by : (o : Option ℕ) → last_that passes xs ≡ o → later_of o (if passes x then Some 0 else None) ≡ Some i
           → ((j : ℕ) → last_that passes xs ≡ Some j → Passes xs j) → Passes (x ∷ xs) i
       by None at f go = here (passes x) refl f
-      by (Some j) at f go = on_more x xs i j (let h = some_same (j + 1) i f in let k : i ≡ suc j = omega (arith, h) in k) (go j at)
+      by (Some j) at f go = on_more x xs i j (let h = same_Some (j + 1) i f in let k : i ≡ suc j = omega (arith, h) in k) (go j at)
 
 -- ---- one element is put
 
@@ -147,11 +129,11 @@ module _ {O I S F : Type 0} (of : Meaning O I S F) (law : IsLawful of) (q : Tree
         → Hold m' (slice_set es i (record { kind = e.kind; attr = a })) xs vs
 
   picked : (m : S) (es : List (Entry O)) (xs : List Sym) (vs : List Sense) (i : ℕ) (e : Entry O) → Hold m es xs vs → slice_get es i ≡ Some e → Picked m es xs vs i e
-  picked m [] xs vs i e holds at = absurd (none_some e at)
+  picked m [] xs vs i e holds at = absurd (none-some e at)
   picked m (b ∷ es) [] [] i e holds at = absurd holds
   picked m (b ∷ es) [] (v ∷ vs) i e holds at = absurd holds
   picked m (b ∷ es) (x ∷ xs) [] i e holds at = absurd holds
-  picked m (b ∷ es) (x ∷ xs) (v ∷ vs) zero e holds at = subst (Picked m (b ∷ es) (x ∷ xs) (v ∷ vs) zero) (some_same b e at) (record {
+  picked m (b ∷ es) (x ∷ xs) (v ∷ vs) zero e holds at = subst (Picked m (b ∷ es) (x ∷ xs) (v ∷ vs) zero) (same_Some b e at) (record {
     symbol = x;
     sense = v;
     there = refl;
@@ -176,14 +158,14 @@ module _ {O I S F : Type 0} (of : Meaning O I S F) (law : IsLawful of) (q : Tree
       → Keeps of spots m' m'' → Free spots es → slice_get es i ≡ Some e → slice_get right i ≡ Some x
       → Carried of q d f t m' m'' (size_of_symbol d.classes x) e.attr a
       → AllCarried of q d f t m m' right as_ es → AllCarried of q d f t m m'' right as_ (slice_set es i (record { kind = e.kind; attr = a }))
-  put_carried m m' m'' right as_ [] i e a x spots keeps free at there new h = absurd (none_some e at)
+  put_carried m m' m'' right as_ [] i e a x spots keeps free at there new h = absurd (none-some e at)
   put_carried m m' m'' [] [] (b ∷ es) i e a x spots keeps free at there new h = absurd h
   put_carried m m' m'' [] (c ∷ as_) (b ∷ es) i e a x spots keeps free at there new h = absurd h
   put_carried m m' m'' (y ∷ ys) [] (b ∷ es) i e a x spots keeps free at there new h = absurd h
   put_carried m m' m'' (y ∷ ys) (c ∷ as_) (b ∷ es) zero e a x spots keeps free at there new h = (
     on of q d f t m m' m'' (size_of_symbol d.classes y) c.attr b.attr a h.0
-        (subst (λ (z : Entry O). Carried of q d f t m' m'' (size_of_symbol d.classes y) z.attr a) (sym (some_same b e at))
-        (subst (λ z. Carried of q d f t m' m'' (size_of_symbol d.classes z) e.attr a) (sym (some_same y x there)) new)),
+        (subst (λ (z : Entry O). Carried of q d f t m' m'' (size_of_symbol d.classes y) z.attr a) (sym (same_Some b e at))
+        (subst (λ z. Carried of q d f t m' m'' (size_of_symbol d.classes z) e.attr a) (sym (same_Some y x there)) new)),
     all_carried_on of q d f t spots m m' m'' ys as_ es keeps free.1 h.1,
   )
   put_carried m m' m'' (y ∷ ys) (c ∷ as_) (b ∷ es) (suc i) e a x spots keeps free at there new h = (
@@ -202,7 +184,7 @@ module _ {O I S F : Type 0} (of : Meaning O I S F) (law : IsLawful of) (q : Tree
   word_found desk w e =
       let h = lowest_found (is_free_word of desk) first (1024 - first) w e in
       let free = not_held of law q d first f fs t s m0 (WordAt w) (desk.former ++ (desk.symbols ++ desk.below))
-      (not_true (held of (desk.former ++ (desk.symbols ++ desk.below)) (WordAt w)) h.is) in
+      (not-true (held of (desk.former ++ (desk.symbols ++ desk.below)) (WordAt w)) h.is) in
       let parts = free_parts (WordAt w ∷ []) desk.former (desk.symbols ++ desk.below) free in
       let two = free_parts (WordAt w ∷ []) desk.symbols desk.below parts.1 in
       let from = h.from in
@@ -218,15 +200,15 @@ module _ {O I S F : Type 0} (of : Meaning O I S F) (law : IsLawful of) (q : Tree
   pub due_found : (given : Bool) (desk : Desk O I) (r : ℕ) → free_register of d given desk ≡ Some r → IsDue given desk r
   due_found given desk r e =
       let found = lowest_found (is_free_register of d given desk) 0 12 r e in
-      let two = and_right (bit_at d.pool r == 1) (not (held of desk.below (RegAt r)) && (given || not (held of desk.symbols (RegAt r)))) found.is in
+      let two = second_true (bit_at d.pool r == 1) (not (held of desk.below (RegAt r)) && (given || not (held of desk.symbols (RegAt r)))) found.is in
       record {
         small = (let b = found.below in omega (arith, b));
         below = not_held of law q d first f fs t s m0 (RegAt r) desk.below
-            (not_true (held of desk.below (RegAt r)) (and_left (not (held of desk.below (RegAt r))) (given || not (held of desk.symbols (RegAt r))) two));
+            (not-true (held of desk.below (RegAt r)) (first_true (not (held of desk.below (RegAt r))) (given || not (held of desk.symbols (RegAt r))) two));
         symbols = λ g. not_held of law q d first f fs t s m0 (RegAt r) desk.symbols
-            (not_true (held of desk.symbols (RegAt r))
+            (not-true (held of desk.symbols (RegAt r))
             (subst (λ b. (b || not (held of desk.symbols (RegAt r))) ≡ true) g
-            (and_right (not (held of desk.below (RegAt r))) (given || not (held of desk.symbols (RegAt r))) two)));
+            (second_true (not (held of desk.below (RegAt r))) (given || not (held of desk.symbols (RegAt r))) two)));
       }
 
   -- The rule's symbols at the choice, in the state m, and what stands below them.
@@ -324,7 +306,7 @@ module _ {O I S F : Type 0} (of : Meaning O I S F) (law : IsLawful of) (q : Tree
       slots j u k lt there = by (by_place i j)
         where
           same_entry : i ≡ j → e ≡ record { kind = k; attr = attr.InSlot u }
-          same_entry g = some_same e (record { kind = k; attr = attr.InSlot u }) (sym at ∙ ap (slice_get desk.symbols) g ∙ there)
+          same_entry g = same_Some e (record { kind = k; attr = attr.InSlot u }) (sym at ∙ ap (slice_get desk.symbols) g ∙ there)
 
           by : (i ≡ j) ⊎ (i ≡ j → ⊥) → slice_get (slice_set desk.symbols i (entry_in_slot of e w)) j ≡ Some (record { kind = k; attr = attr.InSlot u })
           by (inl g) =
@@ -337,7 +319,7 @@ module _ {O I S F : Type 0} (of : Meaning O I S F) (law : IsLawful of) (q : Tree
           by : (i ≡ j) ⊎ (i ≡ j → ⊥) → IsLoaded b.attr
           by (inl g) =
               subst (λ (x : Entry O). IsLoaded x.attr)
-              (some_same (entry_in_slot of e w) b (sym (set_same desk.symbols i e (entry_in_slot of e w) at) ∙ ap (slice_get (slice_set desk.symbols i (entry_in_slot of e w))) g ∙ there))
+              (same_Some (entry_in_slot of e w) b (sym (set_same desk.symbols i e (entry_in_slot of e w) at) ∙ ap (slice_get (slice_set desk.symbols i (entry_in_slot of e w))) g ∙ there))
               (in_slot_loaded e.attr w apart (h i e (subst (λ k. k < n) (sym g) lt) at))
           by (inr g) = h j b lt (sym (set_other desk.symbols i j (entry_in_slot of e w) g) ∙ there)
 
@@ -378,8 +360,8 @@ module _ {O I S F : Type 0} (of : Meaning O I S F) (law : IsLawful of) (q : Tree
         let r = first_passes (may_go of) desk.symbols i h in (
           r.element,
           r.there,
-          among i r.element r.there (and_right (not (is_register r.element.attr)) (holds_register of r.element) r.is)
-              (λ g. both_not (is_register r.element.attr) g (not_true (is_register r.element.attr) (and_left (not (is_register r.element.attr)) (holds_register of r.element) r.is))),
+          among i r.element r.there (second_true (not (is_register r.element.attr)) (holds_register of r.element) r.is)
+              (λ g. true_or_false (is_register r.element.attr) g (not-true (is_register r.element.attr) (first_true (not (is_register r.element.attr)) (holds_register of r.element) r.is))),
         )
 
     may_victim : (given : Bool) (desk : Desk O I) (p : Where) → victim of given desk ≡ Some p → (e : Entry O) × (entry_at of desk p ≡ Some e) × MayMove desk p e
@@ -389,14 +371,14 @@ module _ {O I S F : Type 0} (of : Meaning O I S F) (law : IsLawful of) (q : Tree
         Goal p = (e : Entry O) × (entry_at of desk p ≡ Some e) × MayMove desk p e
 
         second : (g : Bool) (o : Option ℕ) → (if g then None else first_that (may_go of) desk.symbols) ≡ o → deepest of None o ≡ Some p → Goal p
-        second g None at k = absurd (none_some p k)
-        second true (Some i) at k = absurd (none_some i at)
-        second false (Some i) at k = subst Goal (some_same (Among i) p k) (may_among desk i at)
+        second g None at k = absurd (none-some p k)
+        second true (Some i) at k = absurd (none-some i at)
+        second false (Some i) at k = subst Goal (same_Some (Among i) p k) (may_among desk i at)
 
         by : (o : Option ℕ) → last_that (holds_register of) desk.below ≡ o
             → deepest of o (if given then None else first_that (may_go of) desk.symbols) ≡ Some p → Goal p
         by None at k = second given (if given then None else first_that (may_go of) desk.symbols) refl k
-        by (Some i) at k = subst Goal (some_same (Below i) p k) (may_below desk i at)
+        by (Some i) at k = subst Goal (same_Some (Below i) p k) (may_below desk i at)
 
     pub due_works : (given : Bool) (desk new : Desk O I) (r : ℕ) → due of q d first given desk ≡ Done (r, new) → Behind given desk r new
     due_works given desk new r h = by (free_register of d given desk) refl h
@@ -500,8 +482,8 @@ module _ {O I S F : Type 0} (of : Meaning O I S F) (law : IsLawful of) (q : Tree
       pub works : new.most ≤ f.words → Works desk → Works new
 
     set_is : (bs : List (Entry O)) (i : ℕ) (y x : Entry O) → slice_get (slice_set bs i y) i ≡ Some x → y ≡ x
-    set_is [] i y x e = absurd (none_some x e)
-    set_is (b ∷ bs) zero y x e = some_same y x e
+    set_is [] i y x e = absurd (none-some x e)
+    set_is (b ∷ bs) zero y x e = same_Some y x e
     set_is (b ∷ bs) (suc i) y x e = set_is bs i y x e
 
     at_most : (j i : ℕ) → j < suc i → (j ≡ i) ⊎ (j < i)
@@ -588,7 +570,7 @@ module _ {O I S F : Type 0} (of : Meaning O I S F) (law : IsLawful of) (q : Tree
       where
         plain : (k : Option Kind) (b : Attr O) → slice_get desk.symbols i ≡ Some (record { kind = k; attr = b }) → IsLoaded b → desk ≡ new → Reloaded (suc i) desk new
         plain k b there fine same = not_reloaded i desk new
-            (λ e g. subst (λ (x : Entry O). IsLoaded x.attr) (some_same (record { kind = k; attr = b }) e (sym there ∙ g)) fine) before same
+            (λ e g. subst (λ (x : Entry O). IsLoaded x.attr) (same_Some (record { kind = k; attr = b }) e (sym there ∙ g)) fine) before same
 
         due_then : (k : Option Kind) (w : ℕ) → slice_get desk.symbols i ≡ Some (record { kind = k; attr = attr.InSlot w })
             → (o : Outcome (ℕ × Desk O I)) → due of q d first false desk ≡ o
@@ -610,7 +592,7 @@ module _ {O I S F : Type 0} (of : Meaning O I S F) (law : IsLawful of) (q : Tree
         by k attr.Nothing there g = plain k attr.Nothing there tt (done_same desk new g)
 
         at : (o : Option (Entry O)) → slice_get desk.symbols i ≡ o → reloaded_at of q d first i desk o ≡ Done new → Reloaded (suc i) desk new
-        at None there g = not_reloaded i desk new (λ e h. absurd (none_some e (sym there ∙ h))) before (done_same desk new g)
+        at None there g = not_reloaded i desk new (λ e h. absurd (none-some e (sym there ∙ h))) before (done_same desk new g)
         at (Some e) there g = by e.kind e.attr there g
 
     pub reloaded_works : (n i : ℕ) (desk new : Desk O I) → LoadedTo i desk.symbols → reloaded of q d first n i desk ≡ Done new → Reloaded (i + n) desk new

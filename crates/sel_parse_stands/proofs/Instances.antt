@@ -2,6 +2,8 @@
 use Rattle.std.proofs.Common.{◌≡◌, ℕ, zero, suc, ◌-◌, ◌*◌, ◌%◌, ◌^◌, ◌<◌, ◌==◌, List, [], ◌∷◌, Option, Some, None, Bool, true, false, refl, sym, ap, ◌∙◌, subst, arith, slice_get}
 use Rattle.std.specs.Prelude.{IsSome, option_and_then, unwrap_or, slice_index_or, Ok, cond}
 use Rattle.std.specs.List.{AllByRecursion as All}
+use Rattle.std.proofs.lemmas.Bool.{eqb-true}
+use Rattle.std.proofs.lemmas.Option.{none-some, same_Some}
 use Rattle.gg_base.specs.declared.size.Size.{Size}
 use Rattle.gg_base.specs.declared.size.Size.TheVariants.{Byte, Word, Long}
 use Rattle.gg_base.specs.Sizes.{bytes_of}
@@ -31,7 +33,7 @@ use Rattle.sel_parse_selected.specs.Entries.{Entry, attrs}
 use Rattle.sel_parse_stands.specs.Stands.{SymbolIs, Sees, IsFrame, Holds}
 use Rattle.sel_parse_stands.proofs.Loaded.{AllLoaded}
 use Rattle.sel_parse_stands.proofs.Carrying.{AllCarried, carried_at}
-use Rattle.sel_parse_stands.proofs.Symbols.{symbol_reads, symbol_small, symbol_fits, symbol_spells, symbol_whole, symbol_homes, equal_numbers}
+use Rattle.sel_parse_stands.proofs.Symbols.{symbol_reads, symbol_small, symbol_fits, symbol_spells, symbol_whole, symbol_homes}
 
 size_small : (z : Size) (n : ℕ) → n < 2 ^ (8 * bytes_of z) → n % 2 ^ 32 ≡ n
 size_small Byte n lt = omega (arith, lt)
@@ -46,7 +48,7 @@ is_long Long x lt = lt
 pub size_suc : (d : Content) (right : List Sym) (j : ℕ) → size_at d.classes right (suc j) ≡ size_of_some d.classes (slice_get right j)
 size_suc d right j = by (suc j == 0) refl where
   by : (b : Bool) → (suc j == 0) ≡ b → size_at d.classes right (suc j) ≡ size_of_some d.classes (slice_get right j)
-  by true e = absurd (let h = equal_numbers (suc j) 0 e in omega (arith, h))
+  by true e = absurd (let h = eqb-true (suc j) 0 e in omega (arith, h))
   by false e =
       ap (λ b. cond b Long (size_of_some d.classes (slice_get right (suc j - 1)))) e ∙ ap (λ k. size_of_some d.classes (slice_get right k)) (let back : suc j - 1 ≡ j = omega arith in back)
 
@@ -54,12 +56,6 @@ size_suc d right j = by (suc j == 0) refl where
 abbrev pub numbered : (ℕ → Option ℕ) → ℕ → Option ℕ
 numbered f zero = None
 numbered f (suc j) = f j
-
-pub none_some : {X : Type 0} (x : X) → None ≡ Some x → ⊥
-none_some x e = cc
-
-pub some_same : {X : Type 0} (x y : X) → Some x ≡ Some y → x ≡ y
-some_same x y e = cc
 
 module _ {O I S F : Type 0} (of : Meaning O I S F) (law : IsLawful of) (q : TreeProgram) (d : Content) (first : ℕ) (f : Extent) (fs : List Extent) (t : State) (s : Sight) (m0 : S)
     (frame : IsFrame of q d first f fs t s m0) (m : S) (sees : Sees of q d first f fs t s m0 m) where
@@ -84,7 +80,7 @@ module _ {O I S F : Type 0} (of : Meaning O I S F) (law : IsLawful of) (q : Tree
   found (e ∷ es) [] (v ∷ vs) j h holds at = absurd holds
   found (e ∷ es) (x ∷ xs) [] j h holds at = absurd holds
   found (e ∷ es) (x ∷ xs) (v ∷ vs) zero h holds at =
-      record { symbol = x; kind = e.kind; sense = v; there = refl; sensed = refl; is = subst (λ a. SymbolIs of q d first f fs t s m0 m x e.kind a v) (some_same e.attr h at) holds.0 }
+      record { symbol = x; kind = e.kind; sense = v; there = refl; sensed = refl; is = subst (λ a. SymbolIs of q d first f fs t s m0 m x e.kind a v) (same_Some e.attr h at) holds.0 }
   found (e ∷ es) (x ∷ xs) (v ∷ vs) (suc j) h holds at =
       (let r = found es xs vs j h holds.1 at in record { symbol = r.symbol; kind = r.kind; sense = r.sense; there = r.there; sensed = r.sensed; is = r.is })
 
@@ -110,7 +106,7 @@ module _ {O I S F : Type 0} (of : Meaning O I S F) (law : IsLawful of) (q : Tree
 
   pub symbol_at_small : (es : List (Entry O)) (right : List Sym) (vs : List Sense) (j x : ℕ) (o : Option (Attr O)) → slice_get (hs_of es) j ≡ o → Hold es right vs → symbol_by es right j ≡ Some x
       → x < 2 ^ (8 * bytes_of (size_of_some d.classes (slice_get right j)))
-  symbol_at_small es right vs j x None at holds e = absurd (none_some x (sym (ap (λ o. option_and_then (λ h. worth of q (size_of_some d.classes (slice_get right j)) h m) o) at) ∙ e))
+  symbol_at_small es right vs j x None at holds e = absurd (none-some x (sym (ap (λ o. option_and_then (λ h. worth of q (size_of_some d.classes (slice_get right j)) h m) o) at) ∙ e))
   symbol_at_small es right vs j x (Some h) at holds e =
       let r = found es right vs j h holds at in
       let is = sym (worth_at es right j h at) ∙ e in
@@ -194,18 +190,18 @@ module _ {O I S F : Type 0} (of : Meaning O I S F) (law : IsLawful of) (q : Tree
           (symbol_fits of law q d first f fs t s m0 frame m' sees' x e.kind e.attr v loaded.0 holds.0, fits_now es xs vs loaded.1 holds.1)
 
       values_at : (i x : ℕ) (h : Attr O) → hole (attrs es') i ≡ Some h → (view es rule.right).symbol i ≡ Some x → worth of q (size_at d.classes rule.right i) h m' ≡ Some x
-      values_at zero x h at e' = absurd (none_some h at)
+      values_at zero x h at e' = absurd (none-some h at)
       values_at (suc j) x h at e' =
           let r = carried_at of q d f t m m' rule.right es es' j h carried at in
           subst (λ z. worth of q z h m' ≡ Some x) (sym (size_suc d rule.right j)) (r.carried.worth_is x (sym (worth_at es rule.right j r.before r.there) ∙ e'))
 
       small_at : (i x : ℕ) → (view es rule.right).symbol i ≡ Some x → x < 2 ^ (8 * bytes_of (size_at d.classes rule.right i))
-      small_at zero x e' = absurd (none_some x e')
+      small_at zero x e' = absurd (none-some x e')
       small_at (suc j) x e' =
           subst (λ z. x < 2 ^ (8 * bytes_of z)) (sym (size_suc d rule.right j)) (symbol_at_small es rule.right vs j x (slice_get (hs_of es) j) refl holds e')
 
       whole_at : (i : ℕ) (h : Attr O) → hole (attrs es') i ≡ Some h → IsWhole h ((view es rule.right).symbol i)
-      whole_at zero h at = absurd (none_some h at)
+      whole_at zero h at = absurd (none-some h at)
       whole_at (suc j) h at =
           let c = carried_at of q d f t m m' rule.right es es' j h carried at in
           let r = found es rule.right vs j c.before holds c.there in
@@ -220,11 +216,11 @@ module _ {O I S F : Type 0} (of : Meaning O I S F) (law : IsLawful of) (q : Tree
       found_now (e ∷ es) [] (v ∷ vs) j h holds at = absurd holds
       found_now (e ∷ es) (x ∷ xs) [] j h holds at = absurd holds
       found_now (e ∷ es) (x ∷ xs) (v ∷ vs) zero h holds at =
-          (x, e.kind, v, refl, subst (λ a. SymbolIs of q d first f fs t s m0 m' x e.kind a v) (some_same e.attr h at) holds.0)
+          (x, e.kind, v, refl, subst (λ a. SymbolIs of q d first f fs t s m0 m' x e.kind a v) (same_Some e.attr h at) holds.0)
       found_now (e ∷ es) (x ∷ xs) (v ∷ vs) (suc j) h holds at = found_now es xs vs j h holds.1 at
 
       homes_at : (i : ℕ) (h : Attr O) (o : O) → hole (attrs es') i ≡ Some h → own_operand of h ≡ Some o → IsSome (of.names o (size_at d.classes rule.right i) m')
-      homes_at zero h o at e' = absurd (none_some h at)
+      homes_at zero h o at e' = absurd (none-some h at)
       homes_at (suc j) h o at e' =
           let r = found_now es' rule.right vs j h now at in
           subst (λ z. IsSome (of.names o z m')) (sym (size_suc d rule.right j))

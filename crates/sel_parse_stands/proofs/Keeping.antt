@@ -4,6 +4,7 @@ use Rattle.std.specs.Prelude.{◌||◌}
 use Rattle.std.specs.List.{AllByRecursion as All}
 use Rattle.std.specs.Int.{bit_at}
 use Rattle.std.proofs.lemmas.Nat.Bits.{bit_at-zero}
+use Rattle.std.proofs.lemmas.Bool.{eqb-true}
 use Rattle.gg_base.specs.declared.size.Size.TheVariants.{Long}
 use Rattle.tree_core.specs.declared.program.TreeProgram.{TreeProgram}
 use Rattle.tree_meaning.specs.State.{State}
@@ -26,7 +27,6 @@ use Rattle.sel_target.specs.Instances.{attr_touches}
 use Rattle.sel_parse_selected.specs.Desk.{held}
 use Rattle.sel_parse_stands.specs.Stands as stands
 use Rattle.sel_parse_stands.specs.Stands.{ClassIs, SymbolIs, Sees, IsFrame, Holds}
-use Rattle.sel_parse_stands.proofs.Symbols.{equal_numbers}
 use Rattle.sel_parse_stands.proofs.Carrying.{Untouched, AllUntouched, place_kept}
 
 or_left : (a b : Bool) → (a || b) ≡ false → a ≡ false
@@ -89,7 +89,7 @@ module _ {O I S F : Type 0} (of : Meaning O I S F) (law : IsLawful of) (q : Tree
         ap (λ o. is_word o w) (law.spells.local_word k (omega (arith, lt))) ∙ by (k == w) refl
       where
         by : (b : Bool) → (k == w) ≡ b → (k == w) ≡ false
-        by true e = absurd (let h = equal_numbers k w e in let le = free.0 in omega (arith, h, lt, le))
+        by true e = absurd (let h = eqb-true k w e in let le = free.0 in omega (arith, h, lt, le))
         by false e = e
 
     all_untouched : (k : ℕ) (spots : List Spot) → k < f.locals → All (IsFree f) spots → All (λ x. touches of (of.local k) x ≡ false) spots

@@ -3,6 +3,7 @@ use Rattle.std.proofs.Common.{◌≡◌, ℕ, zero, suc, ◌+◌, ◌*◌, ◌%�
 use Rattle.std.specs.Prelude.{is_some, if◌then◌else◌}
 use Rattle.std.specs.Int.{bit_at}
 use Rattle.std.proofs.lemmas.Nat.Bits.{bit_at-zero}
+use Rattle.std.proofs.lemmas.Bool.{eqb-true, both_ways}
 use Rattle.gg_base.specs.declared.size.Size.{Size}
 use Rattle.gg_base.specs.declared.size.Size.TheVariants.{Byte, Word, Long}
 use Rattle.gg_base.specs.Sizes.{bytes_of}
@@ -50,7 +51,6 @@ use Rattle.sel_parse_stands.specs.Stands.{ClassIs, SymbolIs, Sees, IsFrame}
 use Rattle.sel_parse_selected.specs.Entries.{Entry}
 use Rattle.sel_parse_selected.specs.Desk.{lowest}
 use Rattle.sel_parse_selected.specs.Spills.{saving_line, is_register, holds_register, in_slot}
-use Rattle.sel_parse_stands.proofs.Symbols.{equal_numbers}
 use Rattle.sel_parse_stands.proofs.Loaded.{IsLoaded}
 use Rattle.sel_parse_stands.proofs.Carrying.{Homed, Carried}
 
@@ -64,7 +64,7 @@ abbrev pub saved_view : ℕ → State → View
 saved_view x t = record { symbol = λ i. Some (numbers x i); state = t }
 
 small_size : (z y : Size) (x : ℕ) → x < 2 ^ (8 * bytes_of z) → (bytes_of z == bytes_of y) ≡ true → x < 2 ^ (8 * bytes_of y)
-small_size z y x lt e = subst (λ b. x < 2 ^ (8 * b)) (equal_numbers (bytes_of z) (bytes_of y) e) lt
+small_size z y x lt e = subst (λ b. x < 2 ^ (8 * b)) (eqb-true (bytes_of z) (bytes_of y) e) lt
 
 saved_respects : (k : Kind) (x : ℕ) (t : State) → x < 2 ^ (8 * bytes_of (size_of_saved k)) → Respects (saved_facts k) (term_state (saved_view x t))
 saved_respects k x t lt = record { bytes = bytes; words = words; counts = counts; alike = alike } where
@@ -270,9 +270,6 @@ found_some : {X : Type 0} (o : Option X) → is_some o ≡ true → (x : X) × (
 found_some None e = absurd (cc)
 found_some (Some x) e = (x, refl)
 
-one_false : (b : Bool) → b ≡ false → b ≡ true → ⊥
-one_false b e f = cc
-
 module _ {O I S F : Type 0} (of : Meaning O I S F) (law : IsLawful of) (q : TreeProgram) (d : Content) (first : ℕ) (f : Extent) (fs : List Extent) (t : State) (s : Sight) (m0 : S)
     (frame : IsFrame of q d first f fs t s m0) (lines : LinesSave of d) where
   bits_none : (o : O) (r : ℕ) → of.registers o ≡ 0 → touches of o (RegAt r) ≡ false
@@ -301,12 +298,12 @@ module _ {O I S F : Type 0} (of : Meaning O I S F) (law : IsLawful of) (q : Tree
   pub slot_holds_none : (k : Option Kind) (w : ℕ) → w < 1024 → holds_register of (record { kind = k; attr = attr.InSlot w }) ≡ true → ⊥
   slot_holds_none k w lt h =
       let r = holding (record { kind = k; attr = attr.InSlot w }) h in
-      one_false (touches of (of.slot w) (RegAt r.0)) (bits_none (of.slot w) r.0 (law.spells.slot_bits w lt)) r.1
+      both_ways (touches of (of.slot w) (RegAt r.0)) (bits_none (of.slot w) r.0 (law.spells.slot_bits w lt)) r.1
 
   pub token_holds_none : (k : Option Kind) (l : Leaf) → holds_register of (record { kind = k; attr = attr.Token l }) ≡ true → ⊥
   token_holds_none k l h =
       let r = holding (record { kind = k; attr = attr.Token l }) h in
-      one_false (some_touches of (token_operand of l.tok l.att) (RegAt r.0)) (token_none l.tok l.att r.0) r.1
+      both_ways (some_touches of (token_operand of l.tok l.att) (RegAt r.0)) (token_none l.tok l.att r.0) r.1
 
   -- an entry that holds a register is saved by the line for its kind
   pub record Saved (m : S) (x : Sym) (e : Entry O) (v : Sense) (w : ℕ) : Type 0 where
@@ -346,14 +343,14 @@ module _ {O I S F : Type 0} (of : Meaning O I S F) (law : IsLawful of) (q : Tree
         spells : of.registers o ≡ 0 → ⊥
         spells e =
             let r = holding (record { kind = Some (kind.Place z); attr = attr.Place o }) h in
-            one_false (touches of o (RegAt r.0)) (bits_none o r.0 e) r.1
+            both_ways (touches of o (RegAt r.0)) (bits_none o r.0 e) r.1
 
         by : (g : Place) → PlaceIs of f t m z o g → Moved (Some (kind.Place z)) (attr.Place o) (OfPlace g)
         by g (local k' long is' lt low) = absurd (spells (ap of.registers is' ∙ law.spells.local_bits k'))
         by g (argument k' long is' lt) = absurd (spells (ap of.registers is' ∙ law.spells.argument_bits (k' + 1)))
         by g (memory n names) =
             place_saved of law q d first f fs t s m0 frame m sees (saving_line d (Some (kind.Place z))) z (lines.places z) o n w fits spells names from below
-    class_moved k a v (stands.number n lt) h = absurd (let r = holding (record { kind = k; attr = attr.Con n }) h in one_false false refl r.1)
+    class_moved k a v (stands.number n lt) h = absurd (let r = holding (record { kind = k; attr = attr.Con n }) h in both_ways false refl r.1)
     class_moved k a v (stands.address o n fits is) h =
         (address_saved of law q d first f fs t s m0 frame m sees (saving_line d (Some kind.Ea)) (lines.addresses) o n w fits is from below, λ no. tt)
 

@@ -1,7 +1,8 @@
 -- What a symbol's entry is worth.
-use Rattle.std.proofs.Common.{◌≡◌, ℕ, zero, suc, ◌+◌, ◌-◌, ◌*◌, ◌^◌, ◌<◌, ◌≤◌, ◌==◌, List, length, Option, Some, None, Bool, true, false, refl, sym, ap, ◌∙◌, subst, arith, slice_get}
+use Rattle.std.proofs.Common.{◌≡◌, ℕ, zero, suc, ◌+◌, ◌-◌, ◌*◌, ◌^◌, ◌<◌, ◌≤◌, List, length, Option, Some, None, true, refl, sym, ap, ◌∙◌, subst, arith, slice_get}
 use Rattle.std.specs.Prelude.{IsSome, ◌&&◌, nat_le}
 use Rattle.std.proofs.lemmas.Bool.Decides.{nat_tests}
+use Rattle.std.proofs.lemmas.Bool.{eqb-true, and_parts}
 use Rattle.gg_base.specs.declared.size.Size.{Size}
 use Rattle.gg_base.specs.declared.size.Size.TheVariants.{Long}
 use Rattle.gg_base.specs.Sizes.{bytes_of}
@@ -37,9 +38,6 @@ use Rattle.sel_parse_stands.specs.Stands.{NamedBy, ClassIs, register, in_slot, v
 use Rattle.sel_target.specs.Values.{PlaceIs, local, argument, memory}
 use Rattle.sel_parse_stands.proofs.Loaded.{IsLoaded}
 
-pub equal_numbers : (n k : ℕ) → (n == k) ≡ true → n ≡ k
-equal_numbers n k e = grind (arith, nat_tests)
-
 number_same : (k n : ℕ) → values.Number k ≡ values.Number n → k ≡ n
 number_same k n e = cc
 
@@ -55,12 +53,8 @@ is_some : {X : Type 0} (o : Option X) (x : X) → o ≡ Some x → IsSome o
 is_some None x e = absurd (cc)
 is_some (Some y) x e = refl
 
-pub both : (a b : Bool) → (a && b) ≡ true → (a ≡ true) × (b ≡ true)
-both true b e = (refl, e)
-both false b e = absurd (cc)
-
 argument_small : (k : ℕ) → (nat_le 1 k && nat_le k 255) ≡ true → k < 1024
-argument_small k e = (let h = both (nat_le 1 k) (nat_le k 255) e in within (h.1)) where
+argument_small k e = (let h = and_parts (nat_le 1 k) (nat_le k 255) e in within (h.1)) where
   within : nat_le k 255 ≡ true → k < 1024
   within g = grind (arith, nat_tests)
 
@@ -77,35 +71,35 @@ module _ {O I S F : Type 0} (of : Meaning O I S F) (law : IsLawful of) (q : Tree
   token_reads : (x : Tok) (a : Att) (n : ℕ) → is_of_kind (attribute_of x) a ≡ true → NamedBy of q d first f fs t s m0 x a
       → read s (token_means q.objects s x a values.Wild values.Wild) ≡ values.Number n → token_worth of q x a m ≡ Some n
   token_reads tok.Zero att.Nothing n fit named e = absurd (cc)
-  token_reads tok.Zero (att.Number k) n fit named e = ap Some (equal_numbers k 0 fit ∙ number_same 0 n e)
+  token_reads tok.Zero (att.Number k) n fit named e = ap Some (eqb-true k 0 fit ∙ number_same 0 n e)
   token_reads tok.Zero (att.Object object offset) n fit named e = absurd (cc)
   token_reads tok.Zero (att.Slot k) n fit named e = absurd (cc)
   token_reads tok.Zero (att.Branch rel label) n fit named e = absurd (cc)
   token_reads tok.Zero (att.Label label) n fit named e = absurd (cc)
   token_reads tok.Zero (att.Callee function count) n fit named e = absurd (cc)
   token_reads tok.One att.Nothing n fit named e = absurd (cc)
-  token_reads tok.One (att.Number k) n fit named e = ap Some (equal_numbers k 1 fit ∙ number_same 1 n e)
+  token_reads tok.One (att.Number k) n fit named e = ap Some (eqb-true k 1 fit ∙ number_same 1 n e)
   token_reads tok.One (att.Object object offset) n fit named e = absurd (cc)
   token_reads tok.One (att.Slot k) n fit named e = absurd (cc)
   token_reads tok.One (att.Branch rel label) n fit named e = absurd (cc)
   token_reads tok.One (att.Label label) n fit named e = absurd (cc)
   token_reads tok.One (att.Callee function count) n fit named e = absurd (cc)
   token_reads tok.Two att.Nothing n fit named e = absurd (cc)
-  token_reads tok.Two (att.Number k) n fit named e = ap Some (equal_numbers k 2 fit ∙ number_same 2 n e)
+  token_reads tok.Two (att.Number k) n fit named e = ap Some (eqb-true k 2 fit ∙ number_same 2 n e)
   token_reads tok.Two (att.Object object offset) n fit named e = absurd (cc)
   token_reads tok.Two (att.Slot k) n fit named e = absurd (cc)
   token_reads tok.Two (att.Branch rel label) n fit named e = absurd (cc)
   token_reads tok.Two (att.Label label) n fit named e = absurd (cc)
   token_reads tok.Two (att.Callee function count) n fit named e = absurd (cc)
   token_reads tok.Four att.Nothing n fit named e = absurd (cc)
-  token_reads tok.Four (att.Number k) n fit named e = ap Some (equal_numbers k 4 fit ∙ number_same 4 n e)
+  token_reads tok.Four (att.Number k) n fit named e = ap Some (eqb-true k 4 fit ∙ number_same 4 n e)
   token_reads tok.Four (att.Object object offset) n fit named e = absurd (cc)
   token_reads tok.Four (att.Slot k) n fit named e = absurd (cc)
   token_reads tok.Four (att.Branch rel label) n fit named e = absurd (cc)
   token_reads tok.Four (att.Label label) n fit named e = absurd (cc)
   token_reads tok.Four (att.Callee function count) n fit named e = absurd (cc)
   token_reads tok.Eight att.Nothing n fit named e = absurd (cc)
-  token_reads tok.Eight (att.Number k) n fit named e = ap Some (equal_numbers k 8 fit ∙ number_same 8 n e)
+  token_reads tok.Eight (att.Number k) n fit named e = ap Some (eqb-true k 8 fit ∙ number_same 8 n e)
   token_reads tok.Eight (att.Object object offset) n fit named e = absurd (cc)
   token_reads tok.Eight (att.Slot k) n fit named e = absurd (cc)
   token_reads tok.Eight (att.Branch rel label) n fit named e = absurd (cc)

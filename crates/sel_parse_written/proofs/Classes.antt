@@ -1,6 +1,7 @@
 -- The entries of classes have their classes' kinds.
-use Rattle.std.proofs.Common.{◌≡◌, ℕ, zero, suc, List, [], ◌∷◌, length, Option, Some, None, refl, subst, arith, slice_get}
+use Rattle.std.proofs.Common.{◌≡◌, ℕ, zero, suc, List, [], ◌∷◌, length, Option, Some, refl, subst, arith, slice_get}
 use Rattle.std.specs.Prelude.{slice_set}
+use Rattle.std.proofs.lemmas.Option.{same_Some, none-some}
 use Rattle.md_reader.specs.declared.types.Kind.{Kind}
 use Rattle.md_reader.specs.declared.types.Sym.{Sym}
 use Rattle.md_reader.specs.declared.types.Sym.TheVariants as grammar_symbol
@@ -8,12 +9,6 @@ use Rattle.md_reader.specs.Patterns.{kind_at}
 use Rattle.md_reader.specs.State.{Content}
 use Rattle.sel_terms_trees.specs.Senses.{piled}
 use Rattle.sel_parse_selected.specs.Entries.{Entry}
-
-some_same : {X : Type 0} (x y : X) → Some x ≡ Some y → x ≡ y
-some_same x y e = cc
-
-none_some : {X : Type 0} (x : X) → None ≡ Some x → ⊥
-none_some x e = cc
 
 -- of the class of a symbol
 abbrev pub KindIs : Content → Sym → Option Kind → Type 0
@@ -27,10 +22,10 @@ module _ {O : Type 0} (d : Content) where
   AllKinds ss es = ⊥
 
   pub kind_there : (ss : List Sym) (es : List (Entry O)) (i : ℕ) (e : Entry O) (s : Sym) → AllKinds ss es → slice_get es i ≡ Some e → slice_get ss i ≡ Some s → KindIs d s e.kind
-  kind_there ss [] i e s h at there = absurd (none_some e at)
+  kind_there ss [] i e s h at there = absurd (none-some e at)
   kind_there [] (x ∷ es) i e s h at there = absurd h
   kind_there (y ∷ ss) (x ∷ es) zero e s h at there =
-      subst (λ (z : Sym). KindIs d z e.kind) (some_same y s there) (subst (λ (z : Entry O). KindIs d y z.kind) (some_same x e at) h.0)
+      subst (λ (z : Sym). KindIs d z e.kind) (same_Some y s there) (subst (λ (z : Entry O). KindIs d y z.kind) (same_Some x e at) h.0)
   kind_there (y ∷ ss) (x ∷ es) (suc i) e s h at there = kind_there ss es i e s h.1 at there
 
   pub kinds_set : (ss : List Sym) (es : List (Entry O)) (i : ℕ) (b : Entry O) → AllKinds ss es → ((s : Sym) → slice_get ss i ≡ Some s → KindIs d s b.kind) → AllKinds ss (slice_set es i b)

@@ -2,6 +2,7 @@
 use Rattle.std.proofs.Common.{◌≡◌, ℕ, ◌+◌, List, [], ◌∷◌, length, map, Some, None, Bool, sym, ap, ◌∙◌, subst, slice_get, drop, take}
 use Rattle.std.specs.Prelude.{reverse, Ok}
 use Rattle.std.specs.List.{AllByRecursion as All}
+use Rattle.std.proofs.lemmas.Option.{same_Some, none-some}
 use Rattle.tree_core.specs.declared.tree.Leaf.{Leaf}
 use Rattle.tree_core.specs.declared.program.TreeProgram.{TreeProgram}
 use Rattle.tree_core_forks.specs.Forks.{forks}
@@ -41,12 +42,6 @@ use Rattle.sel_parse_written.proofs.Classes.{AllKinds, kinds_parted}
 use Rattle.sel_parse_written.proofs.Spilling.{Passes}
 use Rattle.sel_parse_written.proofs.Reducing.{IsStacked, reduced_passes}
 
-some_same : {X : Type 0} (x y : X) → Some x ≡ Some y → x ≡ y
-some_same x y e = cc
-
-none_some : {X : Type 0} (x : X) → None ≡ Some x → ⊥
-none_some x e = cc
-
 module _ {O I S F : Type 0} (of : Meaning O I S F) (law : IsLawful of) (q : TreeProgram) (can : of.can_write q) (d : Content) (fit : slots.IsTaken of d) (first : ℕ) (good : I → Bool)
     (pass : LinesPass of q d good) (lines : LinesSave of d) (k : ℕ) where
   abbrev Stacked : List Sym → Stack O I → Type 0
@@ -75,9 +70,9 @@ module _ {O I S F : Type 0} (of : Meaning O I S F) (law : IsLawful of) (q : Tree
   shift l a (Some x) h = record { kinds = (tt, h.kinds); code = h.code }
 
   kept : (a : List Sym) (o : Outcome (Stack O I)) (z : Kept O I) → Each (Stacked a) o → kept_of o ≡ Some z → Wrote a z
-  kept a Full z h e = absurd (none_some z e)
-  kept a Stuck z h e = subst (Wrote a) (some_same None z e) tt
-  kept a (Done y) z h e = subst (Wrote a) (some_same (Some y) z e) h
+  kept a Full z h e = absurd (none-some z e)
+  kept a Stuck z h e = subst (Wrote a) (same_Some None z e) tt
+  kept a (Done y) z h e = subst (Wrote a) (same_Some (Some y) z e) h
 
   module _ (n : ℕ) (r : Rule) (there : slice_get d.rules n ≡ Some r) (ws : List Leaf) (a : List Sym) (on : piled r.right (drop (length r.right) a) ≡ a) where
     abbrev others : List Sym
@@ -101,7 +96,7 @@ module _ {O I S F : Type 0} (of : Meaning O I S F) (law : IsLawful of) (q : Tree
         })
 
     reduce : (x z : Kept O I) → Before ws a x → Wrote a x → reduced_by of q d first (Some r) x ≡ Some z → Wrote (grammar_symbol.Class r.left ∷ others) z
-    reduce None z h g e = subst (Wrote (grammar_symbol.Class r.left ∷ others)) (some_same None z e) tt
+    reduce None z h g e = subst (Wrote (grammar_symbol.Class r.left ∷ others)) (same_Some None z e) tt
     reduce (Some x) z h g e =
         kept (grammar_symbol.Class r.left ∷ others) (reduced of q d first r x) z
         (stack_passes x (subst (λ (l : List Sym). walk.At of law q can d fit first k ws l x) (sym on) h)

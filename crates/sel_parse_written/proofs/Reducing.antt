@@ -1,7 +1,9 @@
 -- The lines of a reduction pass.
 use Rattle.std.proofs.Common.{◌≡◌, ℕ, zero, suc, ◌+◌, ◌<◌, ◌≤◌, ◌==◌, List, [], ◌∷◌, length, Option, Some, Bool, true, false, refl, sym, ap, subst, arith, slice_get}
-use Rattle.std.specs.Prelude.{not, ◌&&◌, ◌||◌, Ok}
+use Rattle.std.specs.Prelude.{not, ◌&&◌, Ok}
 use Rattle.std.specs.Int.{bit_at}
+use Rattle.std.proofs.lemmas.Bool.{not-true, or_parts}
+use Rattle.gg_base.proofs.Facts.{second_true}
 use Rattle.tree_core.specs.declared.program.TreeProgram.{TreeProgram}
 use Rattle.md_reader.specs.declared.types.Kind.{Kind}
 use Rattle.md_reader.specs.declared.types.Kind.TheVariants as kind
@@ -36,32 +38,20 @@ use Rattle.sel_parse_written.proofs.Rights.{right_none}
 use Rattle.sel_parse_written.proofs.Classes.{AllKinds}
 use Rattle.sel_parse_written.proofs.Spilling.{Passes, Written, IsTaken, due_taken, Brought, reloaded_written}
 
-and_right : (a b : Bool) → (a && b) ≡ true → b ≡ true
-and_right true b e = e
-and_right false b e = absurd (cc)
-
-not_true : (a : Bool) → not a ≡ true → a ≡ false
-not_true true e = absurd (cc)
-not_true false e = refl
-
-neither : (a b : Bool) → (a || b) ≡ false → (a ≡ false) × (b ≡ false)
-neither true b e = absurd (cc)
-neither false b e = (refl, e)
-
 module _ {O I S F : Type 0} (of : Meaning O I S F) (law : IsLawful of) (q : TreeProgram) (can : of.can_write q) (d : Content) (first : ℕ) (good : I → Bool)
     (pass : LinesPass of q d good) (lines : LinesSave of d) where
   -- ---- a register that is free is apart from the symbols
 
   held_avoids : (s : Spot) (es : List (Entry O)) → held of es s ≡ false → Avoids of s (attrs es)
   held_avoids s [] h = tt
-  held_avoids s (e ∷ es) h = let k = neither (attr_touches of e.attr s) (held of es s) h in (k.0, held_avoids s es k.1)
+  held_avoids s (e ∷ es) h = let k = or_parts (attr_touches of e.attr s) (held of es s) h in (k.0, held_avoids s es k.1)
 
   free_avoids : (desk : Desk O I) (r : ℕ) → is_free_register of d false desk r ≡ true → Avoids of (RegAt r) (attrs desk.symbols)
   free_avoids desk r h =
       held_avoids (RegAt r) desk.symbols
-      (not_true (held of desk.symbols (RegAt r))
-      (and_right (not (held of desk.below (RegAt r))) (not (held of desk.symbols (RegAt r)))
-      (and_right (bit_at d.pool r == 1) (not (held of desk.below (RegAt r)) && not (held of desk.symbols (RegAt r))) h)))
+      (not-true (held of desk.symbols (RegAt r))
+      (second_true (not (held of desk.below (RegAt r))) (not (held of desk.symbols (RegAt r)))
+      (second_true (bit_at d.pool r == 1) (not (held of desk.below (RegAt r)) && not (held of desk.symbols (RegAt r))) h)))
 
   -- ---- symbols in place can be spelled
 

@@ -1,6 +1,7 @@
 -- No class of statements stands in a rule's right side.
-use Rattle.std.proofs.Common.{◌≡◌, List, [], ◌∷◌, Option, Some, Bool, true, false, ap, ◌∙◌, subst}
+use Rattle.std.proofs.Common.{◌≡◌, List, [], ◌∷◌, Option, Some, false, ap, ◌∙◌, subst}
 use Rattle.std.specs.List.{AllByRecursion as All}
+use Rattle.gg_base.proofs.Facts.{true_or_false}
 use Rattle.tree_core.specs.declared.token.Sort.{Sort}
 use Rattle.tree_meaning_tame.proofs.Strict.{kids_no_stmt}
 use Rattle.md_reader.specs.declared.types.Kind.{Kind}
@@ -13,11 +14,8 @@ use Rattle.md_reader.specs.Rows.{is_nothing, is_bare}
 use Rattle.md_reader.specs.Valid.{IsRule}
 use Rattle.sel_parse_slots.proofs.Finishing.{IsNoStatement, none_onto}
 
-both : (b : Bool) → b ≡ true → b ≡ false → ⊥
-both b e f = cc
-
 no_nothing : (k : Option Kind) → is_nothing k ≡ false → k ≡ Some kind.Nothing → ⊥
-no_nothing k e is = both (is_nothing k) (ap is_nothing is) e
+no_nothing k e is = true_or_false (is_nothing k) (ap is_nothing is) e
 
 -- of a pattern that isn't a class of statements alone
 none_in : (classes : List Class) {x : Sort} (tree : Trees (sorted_test classes) (x ∷ [])) → is_bare classes (onto tree []) ≡ false → All (IsNoStatement classes) (onto tree [])

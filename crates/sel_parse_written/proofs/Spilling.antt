@@ -2,6 +2,7 @@
 use Rattle.std.proofs.Common.{◌≡◌, ℕ, zero, suc, ◌+◌, ◌-◌, ◌<◌, ◌≤◌, List, [], ◌∷◌, Option, Some, None, Bool, true, false, refl, sym, subst, arith, slice_get}
 use Rattle.std.specs.Prelude.{is_some}
 use Rattle.std.specs.List.{AllByRecursion as All}
+use Rattle.gg_base.proofs.Facts.{true_or_false}
 use Rattle.gg_base.specs.declared.size.Size.TheVariants.{Long}
 use Rattle.tree_core.specs.declared.program.TreeProgram.{TreeProgram}
 use Rattle.md_reader.specs.declared.types.Kind.{Kind}
@@ -34,9 +35,6 @@ found_some : {X : Type 0} (o : Option X) → is_some o ≡ true → (x : X) × (
 found_some None e = absurd (cc)
 found_some (Some x) e = (x, refl)
 
-both_not : (b : Bool) → b ≡ true → b ≡ false → ⊥
-both_not b e f = cc
-
 -- what holds of what is done, if there is room, and what holds in any case
 pub both : {X : Type 0} (top : ℕ) (o : Outcome X) (P Q : X → Type 0) → Good top o P → Each Q o → Each (λ (x : X). P x × Q x) o
 both top Full P Q h k = tt
@@ -54,7 +52,7 @@ module _ {O I S F : Type 0} (of : Meaning O I S F) (law : IsLawful of) (q : Tree
   slot_none k w low h =
       let o = found_some (lowest (λ r. attr_touches of (attr.InSlot w) (RegAt r)) 0 12) h in
       let r = lowest_found (λ r. attr_touches of (attr.InSlot w) (RegAt r)) 0 12 o.0 o.1 in
-      both_not _ r.is (bits_none of law q d first (of.slot w) o.0 (law.spells.slot_bits w low))
+      true_or_false _ r.is (bits_none of law q d first (of.slot w) o.0 (law.spells.slot_bits w low))
 
   abbrev IsSaved : Option Kind → Attr O → ℕ → Type 0
   IsSaved k a w = good (of.instr q (saving_line d k) (a ∷ []) (attr.Place (of.slot w))) ≡ true

@@ -1,9 +1,12 @@
 -- The bytes of a data area: what is read there, and that terms read the same.
 use Rattle.std.proofs.Common.{◌≡◌, ℕ, zero, suc, ◌+◌, ◌-◌, ◌*◌, ◌%◌, ◌^◌, ◌<◌, ◌≤◌, List, [], ◌∷◌, length, Some, None, Bool, true, false, refl, sym, ap, ◌∙◌, subst}
 use Rattle.std.proofs.Common.{arith, take, drop}
-use Rattle.std.specs.Prelude.{slice_index, nat_le, ◌&&◌, cond}
+use Rattle.std.specs.Prelude.{slice_index, nat_le, cond}
 use Rattle.std.specs.List.{AllByRecursion}
 use Rattle.std.proofs.lemmas.Bool.Decides.{nat_tests}
+use Rattle.std.proofs.lemmas.Option.{none-some, same_Some}
+use Rattle.std.proofs.lemmas.Bool.{false≢true}
+use Rattle.gg_base.proofs.Facts.{first_true}
 use Rattle.gg_base.specs.declared.size.Size.{Size}
 use Rattle.gg_base.specs.declared.size.Size.TheVariants.{Byte, Word, Long}
 use Rattle.gg_base.specs.Sizes.{bytes_of}
@@ -11,15 +14,6 @@ use Rattle.gg_base.specs.LittleEndian.{number_in}
 use Rattle.tree_core.specs.Area.{is_inside, fetched}
 use Rattle.term_core.specs.Value.{memory_at}
 use Rattle.sel_target.specs.Values.{View, term_state}
-
-none_some : {X : Type 0} (x : X) → None ≡ Some x → ⊥
-none_some x e = cc
-
-some_same : {X : Type 0} (x y : X) → Some x ≡ Some y → x ≡ y
-some_same x y e = cc
-
-untrue : false ≡ true → ⊥
-untrue e = cc
 
 abbrev pub Bytes : List ℕ → Type 0
 Bytes bytes = AllByRecursion (λ b. b < 256) bytes
@@ -60,8 +54,8 @@ number_small Long bytes at h =
     omega (arith, a, b, c, d)
 
 fetched_by : (b : Bool) (n x : ℕ) → cond b (Some n) None ≡ Some x → (b ≡ true) × (n ≡ x)
-fetched_by true n x e = (refl, some_same n x e)
-fetched_by false n x e = absurd (none_some x e)
+fetched_by true n x e = (refl, same_Some n x e)
+fetched_by false n x e = absurd (none-some x e)
 
 -- what is fetched is of its size
 pub fetched_small : (size : Size) (area : List ℕ) (a x : ℕ) → Bytes area → fetched size area a ≡ Some x → x < 2 ^ (8 * bytes_of size)
@@ -69,13 +63,9 @@ fetched_small size area a x h e =
     let r = fetched_by (is_inside size area a) (number_in size area (a - 65536)) x e in
     subst (λ n. n < 2 ^ (8 * bytes_of size)) r.1 (number_small size area (a - 65536) h)
 
-left : (a b : Bool) → (a && b) ≡ true → a ≡ true
-left true b e = refl
-left false b e = absurd (untrue e)
-
 pub outside_0 : (size : Size) (area : List ℕ) → is_inside size area 0 ≡ true → ⊥
 outside_0 size area e =
-    let h = left (nat_le 65536 0) (nat_le (0 + bytes_of size) (65536 + length area)) e in
+    let h = first_true (nat_le 65536 0) (nat_le (0 + bytes_of size) (65536 + length area)) e in
     grind (arith, nat_tests)
 
 -- nothing lies at address 0
@@ -86,7 +76,7 @@ not_at_0 size area x e =
 
 from_65536 : (size : Size) (area : List ℕ) (a : ℕ) → is_inside size area a ≡ true → 65536 ≤ a
 from_65536 size area a e =
-    let h = left (nat_le 65536 a) (nat_le (a + bytes_of size) (65536 + length area)) e in
+    let h = first_true (nat_le 65536 a) (nat_le (a + bytes_of size) (65536 + length area)) e in
     grind (arith, nat_tests)
 
 -- a byte as a term reads it
@@ -126,4 +116,4 @@ fetched_is v size a h inside =
 pub area_read : (v : View) (size : Size) (a x : ℕ) → Bytes v.state.area → fetched size v.state.area a ≡ Some x → memory_at (term_state v) size a ≡ x
 area_read v size a x h e =
     let r = fetched_by (is_inside size v.state.area a) (number_in size v.state.area (a - 65536)) x e in
-    some_same (memory_at (term_state v) size a) x (sym (fetched_is v size a h r.0) ∙ e)
+    same_Some (memory_at (term_state v) size a) x (sym (fetched_is v size a h r.0) ∙ e)

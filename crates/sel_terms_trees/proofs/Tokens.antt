@@ -45,9 +45,6 @@ use Rattle.term_core_accesses.specs.Accesses.{divides_well, Safe}
 use Rattle.sel_terms_meaning.specs.Meaning.{AllSafe, divides_by_zero}
 use Rattle.sel_terms_trees.proofs.Worths.{and_right, ill_left, ill_right, none_joined, some_first, some_second, safe_joined, weak, all_weak, div_none, div_some, left_shift, right_shift}
 
-Some-same : {Y : Type 0} (x y : Y) → Some x ≡ Some y → x ≡ y
-Some-same x y e = cc
-
 module _ (objects : List Object) (s : Sight) (all : List Sense) (m : State) where
   -- a part has the number; nothing divides by zero, and all accesses lie in the area
   pub record IsWorth (p : SubtreeShape) (n : ℕ) : Type 0 where

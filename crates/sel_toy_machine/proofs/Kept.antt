@@ -2,6 +2,7 @@
 use Rattle.std.proofs.Common.{◌≡◌, ℕ, ◌*◌, ◌^◌, ◌<◌, ◌==◌, List, [], ◌∷◌, Some, Bool, true, false, refl, sym, ap, ◌∙◌, arith}
 use Rattle.std.specs.Prelude.{cond}
 use Rattle.std.specs.Int.{bit_at}
+use Rattle.std.proofs.lemmas.Bool.{eqb-true, false≢true}
 use Rattle.gg_base.specs.declared.size.Size.{Size}
 use Rattle.gg_base.specs.declared.size.Size.TheVariants.{Long}
 use Rattle.gg_base.specs.Sizes.{bytes_of}
@@ -17,7 +18,7 @@ use Rattle.sel_toy_machine.specs.declared.operand.Operand.TheVariants.{Register,
 use Rattle.sel_toy_machine.specs.declared.operand.Instr.{Instr}
 use Rattle.sel_toy_machine.specs.Machine.{Machine, in_register, in_word, part, long, reads, names, bit_of, Stands, with_register, with_word}
 use Rattle.sel_toy_machine.specs.Running.{run}
-use Rattle.sel_toy_machine.proofs.Spelled.{equal_numbers, same_number, untrue, own_register}
+use Rattle.sel_toy_machine.proofs.Spelled.{same_number, own_register}
 use Rattle.sel_toy_machine.proofs.Readings.{part_same}
 use Rattle.sel_toy_machine.specs.Toy.{toy}
 
@@ -25,7 +26,7 @@ use Rattle.sel_toy_machine.specs.Toy.{toy}
 other_register : (k r : ℕ) → r < 12 → (bit_at (bit_of k) r == 1) ≡ false → (k == r) ≡ false
 other_register k r lt free = by (k == r) refl where
   by : (b : Bool) → (k == r) ≡ b → (k == r) ≡ false
-  by true e = absurd (untrue (sym free ∙ (ap (λ j. bit_at (bit_of j) r == 1) (equal_numbers k r e) ∙ own_register r lt)))
+  by true e = absurd (false≢true (sym free ∙ (ap (λ j. bit_at (bit_of j) r == 1) (eqb-true k r e) ∙ own_register r lt)))
   by false e = e
 
 register_reads : (m : Machine) (r x : ℕ) (o : Operand) (size : Size) (y : ℕ) → r < 12 → touches toy o (RegAt r) ≡ false →
@@ -91,7 +92,7 @@ word_names m w x (Number n) size y free e = e
 other_word : (f : Extent) (k w : ℕ) → k < f.locals → IsFree f (WordAt w) → (k == w) ≡ false
 other_word f k w lt free = by (k == w) refl where
   by : (b : Bool) → (k == w) ≡ b → (k == w) ≡ false
-  by true e = absurd (let g = equal_numbers k w e in let le = free.0 in omega (arith, g, lt, le))
+  by true e = absurd (let g = eqb-true k w e in let le = free.0 in omega (arith, g, lt, le))
   by false e = e
 
 word_stands : (m : Machine) (w x : ℕ) (q : TreeProgram) (f : Extent) (fs : List Extent) (t : State) → IsFree f (WordAt w) → Stands q f fs t m → Stands q f fs t (with_word m w x)

@@ -3,6 +3,8 @@ use Rattle.std.proofs.Common.{◌≡◌, ℕ, zero, suc, ◌+◌, ◌-◌, ◌*�
 use Rattle.std.specs.Prelude.{IsSome}
 use Rattle.std.specs.Option.{option_map}
 use Rattle.std.specs.List.{AllByRecursion}
+use Rattle.std.proofs.lemmas.Option.{none-some, same_Some}
+use Rattle.std.proofs.lemmas.Bool.{false≢true}
 use Rattle.gg_base.specs.declared.size.Size.{Size}
 use Rattle.gg_base.specs.declared.size.Size.TheVariants.{Byte, Word as Halfword, Long}
 use Rattle.gg_base.specs.Sizes.{bytes_of}
@@ -14,7 +16,6 @@ use Rattle.sel_target.specs.OperandLaws.{ReadsWhatIsThere}
 use Rattle.sel_toy_machine.specs.declared.operand.Operand.{Operand}
 use Rattle.sel_toy_machine.specs.declared.operand.Operand.TheVariants.{Register, Based, Word, Deferred, Argument, Number}
 use Rattle.sel_toy_machine.specs.Machine.{Machine, in_register, in_word, part, long, reads, names, registers, is_place, Stands}
-use Rattle.sel_toy_machine.proofs.Spelled.{none_some, some_same, untrue}
 use Rattle.sel_target.proofs.AreaBytes.{Bytes, fetched_small, not_at_0}
 use Rattle.sel_toy_machine.specs.Toy.{toy}
 
@@ -29,14 +30,14 @@ part_same Halfword n lt = omega (arith, lt)
 part_same Long n lt = omega (arith, lt)
 
 some_part : (size : Size) (n x : ℕ) → Some (part size n) ≡ Some x → x < 2 ^ (8 * bytes_of size)
-some_part size n x e = subst (λ k. k < 2 ^ (8 * bytes_of size)) (some_same (part size n) x e) (part_small size n)
+some_part size n x e = subst (λ k. k < 2 ^ (8 * bytes_of size)) (same_Some (part size n) x e) (part_small size n)
 
 argument_part : (size : Size) (o : Option ℕ) (x : ℕ) → option_map (part size) o ≡ Some x → x < 2 ^ (8 * bytes_of size)
-argument_part size None x e = absurd (none_some x e)
+argument_part size None x e = absurd (none-some x e)
 argument_part size (Some n) x e = some_part size n x e
 
 some_long : (n x : ℕ) → Some (long n) ≡ Some x → x < 2 ^ 32
-some_long n x e = subst (λ k. k < 2 ^ 32) (some_same (long n) x e) (omega arith)
+some_long n x e = subst (λ k. k < 2 ^ 32) (same_Some (long n) x e) (omega arith)
 
 pub small : (m : Machine) (o : Operand) (size : Size) (x : ℕ) → Bytes m.area → reads o size m ≡ Some x → x < 2 ^ (8 * bytes_of size)
 small m (Register r) size x h e = some_part size (in_register m r) x e
@@ -47,37 +48,37 @@ small m (Argument k) size x h e = argument_part size (slice_get m.arguments (k -
 small m (Number n) size x h e = some_part size n x e
 
 pub names_small : (m : Machine) (o : Operand) (size : Size) (x : ℕ) → names o size m ≡ Some x → x < 2 ^ 32
-names_small m (Register r) size x e = absurd (none_some x e)
+names_small m (Register r) size x e = absurd (none-some x e)
 names_small m (Based r) size x e = some_long (in_register m r) x e
-names_small m (Word w) size x e = subst (λ k. k < 2 ^ 32) (some_same 0 x e) (omega arith)
+names_small m (Word w) size x e = subst (λ k. k < 2 ^ 32) (same_Some 0 x e) (omega arith)
 names_small m (Deferred w) size x e = some_long (in_word m w) x e
-names_small m (Argument k) size x e = subst (λ k. k < 2 ^ 32) (some_same 0 x e) (omega arith)
-names_small m (Number n) size x e = absurd (none_some x e)
+names_small m (Argument k) size x e = subst (λ k. k < 2 ^ 32) (same_Some 0 x e) (omega arith)
+names_small m (Number n) size x e = absurd (none-some x e)
 
 -- no word and no argument lies in the data area
 at_0 : (size : Size) (area : List ℕ) (a x : ℕ) → Some 0 ≡ Some a → fetched size area a ≡ Some x → ⊥
-at_0 size area a x e g = not_at_0 size area x (subst (λ k. fetched size area k ≡ Some x) (sym (some_same 0 a e)) g)
+at_0 size area a x e g = not_at_0 size area x (subst (λ k. fetched size area k ≡ Some x) (sym (same_Some 0 a e)) g)
 
 memory_read : (m : Machine) (o : Operand) (size : Size) (a x : ℕ) → is_place o ≡ true → names o size m ≡ Some a → fetched size m.area a ≡ Some x → reads o size m ≡ Some x
-memory_read m (Register r) size a x p e g = absurd (untrue p)
-memory_read m (Based r) size a x p e g = subst (λ k. fetched size m.area k ≡ Some x) (sym (some_same (long (in_register m r)) a e)) g
+memory_read m (Register r) size a x p e g = absurd (false≢true p)
+memory_read m (Based r) size a x p e g = subst (λ k. fetched size m.area k ≡ Some x) (sym (same_Some (long (in_register m r)) a e)) g
 memory_read m (Word w) size a x p e g = absurd (at_0 size m.area a x e g)
-memory_read m (Deferred w) size a x p e g = subst (λ k. fetched size m.area k ≡ Some x) (sym (some_same (long (in_word m w)) a e)) g
+memory_read m (Deferred w) size a x p e g = subst (λ k. fetched size m.area k ≡ Some x) (sym (same_Some (long (in_word m w)) a e)) g
 memory_read m (Argument k) size a x p e g = absurd (at_0 size m.area a x e g)
-memory_read m (Number n) size a x p e g = absurd (untrue p)
+memory_read m (Number n) size a x p e g = absurd (false≢true p)
 
 place_read : (m : Machine) (o : Operand) (size : Size) (a x : ℕ) → is_place o ≡ true → (registers o ≡ 0 → ⊥) → names o size m ≡ Some a → reads o size m ≡ Some x →
     fetched size m.area a ≡ Some x
-place_read m (Register r) size a x p some e g = absurd (untrue p)
-place_read m (Based r) size a x p some e g = subst (λ k. fetched size m.area k ≡ Some x) (some_same (long (in_register m r)) a e) g
+place_read m (Register r) size a x p some e g = absurd (false≢true p)
+place_read m (Based r) size a x p some e g = subst (λ k. fetched size m.area k ≡ Some x) (same_Some (long (in_register m r)) a e) g
 place_read m (Word w) size a x p some e g = absurd (some refl)
 place_read m (Deferred w) size a x p some e g = absurd (some refl)
 place_read m (Argument k) size a x p some e g = absurd (some refl)
-place_read m (Number n) size a x p some e g = absurd (untrue p)
+place_read m (Number n) size a x p some e g = absurd (false≢true p)
 
 long_at : (xs : List ℕ) (k x : ℕ) → AllByRecursion (λ n. n < 2 ^ 32) xs → slice_get xs k ≡ Some x → x < 2 ^ 32
-long_at [] k x h e = absurd (none_some x e)
-long_at (y ∷ ys) zero x h e = subst (λ n. n < 2 ^ 32) (some_same y x e) h.0
+long_at [] k x h e = absurd (none-some x e)
+long_at (y ∷ ys) zero x h e = subst (λ n. n < 2 ^ 32) (same_Some y x e) h.0
 long_at (y ∷ ys) (suc k) x h e = long_at ys k x h.1 e
 
 there : {X : Type 0} (xs : List X) (k : ℕ) → k < length xs → IsSome (slice_get xs k)

@@ -2,6 +2,8 @@
 use Rattle.std.proofs.Common.{◌≡◌, ℕ, ◌/◌, ◌^◌, ◌<◌, ◌≤◌, ◌==◌, List, [], ◌∷◌, length, map, Option, Some, None, Bool, true, false, refl, sym, ap, ◌∙◌, subst, arith}
 use Rattle.std.specs.Prelude.{IsSome, unwrap_or, ◌&&◌, if◌then◌else◌}
 use Rattle.std.specs.List.{AllByRecursion}
+use Rattle.std.proofs.lemmas.Bool.{and_parts, eqb-true, false≢true}
+use Rattle.std.proofs.lemmas.Option.{none-some}
 use Rattle.gg_base.specs.declared.size.Size.{Size}
 use Rattle.gg_base.specs.declared.size.Size.TheVariants.{Long}
 use Rattle.gg_base.specs.Arithmetic.{add32, div32, neg32, magnitude, same_sign}
@@ -43,8 +45,7 @@ use Rattle.sel_toy_machine.specs.Forms.{shape_of, is_sized}
 use Rattle.sel_toy_machine.specs.Templates.{undivided, sum, quotient, gives_register, found_form, found_shape}
 use Rattle.sel_toy_machine.specs.Filling.{source_at, destination_of, filled}
 use Rattle.sel_toy_machine.specs.Running.{taken, put_in, read_then, divided, run}
-use Rattle.sel_toy_machine.proofs.Spelled.{equal_numbers, none_some, untrue}
-use Rattle.sel_toy_machine.proofs.Sources.{both, source_taken}
+use Rattle.sel_toy_machine.proofs.Sources.{source_taken}
 use Rattle.sel_toy_machine.proofs.Kept.{sets_register}
 use Rattle.sel_toy_machine.proofs.Taken.{Taken, by_line, by_shape, where_is, taken_by}
 use Rattle.sel_toy_machine.specs.Toy.{toy}
@@ -91,12 +92,12 @@ divide_runs a b d m x y e g =
 not_zero : (y : ℕ) → (y ≡ 0 → ⊥) → (y == 0) ≡ false
 not_zero y some = by (y == 0) refl where
   by : (b : Bool) → (y == 0) ≡ b → (y == 0) ≡ false
-  by true e = absurd (some (equal_numbers y 0 e))
+  by true e = absurd (some (eqb-true y 0 e))
   by false e = e
 
 quotient_by : (zero same : Bool) (a b : ℕ) → zero ≡ false →
     (if zero then None else if same then Some a else Some b) ≡ Some (unwrap_or (if zero then None else if same then Some a else Some b) 0)
-quotient_by true same a b e = absurd (untrue (sym e))
+quotient_by true same a b e = absurd (false≢true (sym e))
 quotient_by false true a b e = refl
 quotient_by false false a b e = refl
 
@@ -109,17 +110,17 @@ no_quotient x y e = ap (div32 x) e
 
 -- a shape divides by nothing
 undivided_shape : (classes : List Class) (rule : Rule) (k : Option Kind) (g : ShapeForm) (e : EffectShape) → found_shape classes rule.right k g ≡ Some e → e.divisors ≡ []
-undivided_shape classes rule None (shape_form.Alone i) e h = absurd (none_some e h)
-undivided_shape classes rule None (shape_form.Based i) e h = absurd (none_some e h)
+undivided_shape classes rule None (shape_form.Alone i) e h = absurd (none-some e h)
+undivided_shape classes rule None (shape_form.Based i) e h = absurd (none-some e h)
 undivided_shape classes rule (Some kind.Reg) (shape_form.Alone i) e h = sym (ap (λ (x : EffectShape). x.divisors) (where_is _ _ e h).1)
-undivided_shape classes rule (Some kind.Reg) (shape_form.Based i) e h = absurd (none_some e h)
+undivided_shape classes rule (Some kind.Reg) (shape_form.Based i) e h = absurd (none-some e h)
 undivided_shape classes rule (Some kind.Con) (shape_form.Alone i) e h = sym (ap (λ (x : EffectShape). x.divisors) (where_is _ _ e h).1)
-undivided_shape classes rule (Some kind.Con) (shape_form.Based i) e h = absurd (none_some e h)
-undivided_shape classes rule (Some kind.Ea) (shape_form.Alone i) e h = absurd (none_some e h)
+undivided_shape classes rule (Some kind.Con) (shape_form.Based i) e h = absurd (none-some e h)
+undivided_shape classes rule (Some kind.Ea) (shape_form.Alone i) e h = absurd (none-some e h)
 undivided_shape classes rule (Some kind.Ea) (shape_form.Based i) e h = sym (ap (λ (x : EffectShape). x.divisors) (where_is _ _ e h).1)
-undivided_shape classes rule (Some kind.Nothing) (shape_form.Alone i) e h = absurd (none_some e h)
-undivided_shape classes rule (Some kind.Nothing) (shape_form.Based i) e h = absurd (none_some e h)
-undivided_shape classes rule (Some (kind.Value size)) (shape_form.Alone i) e h = absurd (none_some e h)
+undivided_shape classes rule (Some kind.Nothing) (shape_form.Alone i) e h = absurd (none-some e h)
+undivided_shape classes rule (Some kind.Nothing) (shape_form.Based i) e h = absurd (none-some e h)
+undivided_shape classes rule (Some (kind.Value size)) (shape_form.Alone i) e h = absurd (none-some e h)
 undivided_shape classes rule (Some (kind.Value size)) (shape_form.Based i) e h = sym (ap (λ (x : EffectShape). x.divisors) (where_is _ _ e h).1)
 undivided_shape classes rule (Some (kind.Place size)) (shape_form.Alone i) e h = sym (ap (λ (x : EffectShape). x.divisors) (where_is _ _ e h).1)
 undivided_shape classes rule (Some (kind.Place size)) (shape_form.Based i) e h = sym (ap (λ (x : EffectShape). x.divisors) (where_is _ _ e h).1)
@@ -135,8 +136,8 @@ module _ (q : TreeProgram) (f : Extent) (fs : List Extent) (classes : List Class
   sized_both : (i j : ℕ) → (gives_register rule.give && (is_sized classes rule.right Long i && is_sized classes rule.right Long j)) ≡ true →
       (is_sized classes rule.right Long i ≡ true) × (is_sized classes rule.right Long j ≡ true)
   sized_both i j e =
-      both (is_sized classes rule.right Long i) (is_sized classes rule.right Long j)
-      (both (gives_register rule.give) (is_sized classes rule.right Long i && is_sized classes rule.right Long j) e).1
+      and_parts (is_sized classes rule.right Long i) (is_sized classes rule.right Long j)
+      (and_parts (gives_register rule.give) (is_sized classes rule.right Long i && is_sized classes rule.right Long j) e).1
 
   abbrev Setting : Form → ℕ → Shape → Type 0
   Setting g r t = Sets toy (filled q (Some g) hs (attr.Reg r) ∷ []) (RegAt r) q Long (attr.Reg r) (value v t) m
@@ -146,10 +147,10 @@ module _ (q : TreeProgram) (f : Extent) (fs : List Extent) (classes : List Class
       let w = where_is (gives_register rule.give && is_sized classes rule.right size i) (undivided (Value (Symbol i))) e found in
       let is = value_same (Symbol i) t (ap (λ (x : EffectShape). x.act) w.1 ∙ act) in
       let inst' = subst (I true) (sym w.1) inst in
-      let x = known true (undivided (Value (Symbol i))) inst' size i (both (gives_register rule.give) (is_sized classes rule.right size i) w.0).1 inst'.read.0 in
+      let x = known true (undivided (Value (Symbol i))) inst' size i (and_parts (gives_register rule.give) (is_sized classes rule.right size i) w.0).1 inst'.read.0 in
       subst (Setting (form.Move size i) r) is
       (sets_register q _ r (value v (Symbol i)) m lt (value_small v (Symbol i)) (move_runs size (source_at q hs i) (destination.Register r) m (value v (Symbol i)) x))
-  form_sets (form.Address i) r e t found act inst divides lt = absurd (none_some e found)
+  form_sets (form.Address i) r e t found act inst divides lt = absurd (none-some e found)
   form_sets (form.Add i j) r e t found act inst divides lt =
       let u = undivided (Value (Binary binary_op.Add (Symbol i) (Symbol j))) in
       let w = where_is (gives_register rule.give && (is_sized classes rule.right Long i && is_sized classes rule.right Long j)) u e found in
@@ -210,7 +211,7 @@ module _ (q : TreeProgram) (f : Extent) (fs : List Extent) (classes : List Class
   trap_ends (form.Move size i) e d res found is inst zero_is =
       let w = where_is (gives_register rule.give && is_sized classes rule.right size i) (undivided (Value (Symbol i))) e found in
       absurd (no_divisor d (ap (λ (x : EffectShape). x.divisors) w.1 ∙ is))
-  trap_ends (form.Address i) e d res found is inst zero_is = absurd (none_some e found)
+  trap_ends (form.Address i) e d res found is inst zero_is = absurd (none-some e found)
   trap_ends (form.Add i j) e d res found is inst zero_is =
       let w = where_is (gives_register rule.give && (is_sized classes rule.right Long i && is_sized classes rule.right Long j))
       (undivided (Value (Binary binary_op.Add (Symbol i) (Symbol j)))) e found in
@@ -246,7 +247,7 @@ module _ (q : TreeProgram) (f : Extent) (fs : List Extent) (classes : List Class
 
 form_divisors : (classes : List Class) (rule : Rule) (g : Form) (e : EffectShape) → found_form classes rule g ≡ Some e → length e.divisors ≤ 1
 form_divisors classes rule (form.Move size i) e h = subst (λ (x : EffectShape). length x.divisors ≤ 1) (where_is _ _ e h).1 (omega arith)
-form_divisors classes rule (form.Address i) e h = absurd (none_some e h)
+form_divisors classes rule (form.Address i) e h = absurd (none-some e h)
 form_divisors classes rule (form.Add i j) e h = subst (λ (x : EffectShape). length x.divisors ≤ 1) (where_is _ _ e h).1 (omega arith)
 form_divisors classes rule (form.Divide i j) e h = subst (λ (x : EffectShape). length x.divisors ≤ 1) (where_is _ _ e h).1 (omega arith)
 form_divisors classes rule (form.Store size i j) e h = subst (λ (x : EffectShape). length x.divisors ≤ 1) (where_is _ (undivided (StoreHome size i (Symbol j))) e h).1 (omega arith)
@@ -267,12 +268,12 @@ has_line : (classes : List Class) (rule : Rule) (e : EffectShape) → Taken clas
 has_line classes rule e (by_line l g lines is found) k = subst (λ ls. 1 ≤ length ls) (sym lines) (omega arith)
 has_line classes rule e (by_shape l lines gives found) k = absurd (no_shape (shape_of l.pieces) (subst (λ o. found_shape classes rule.right o (shape_of l.pieces) ≡ Some e) k found)) where
   no_shape : (g : ShapeForm) → found_shape classes rule.right (Some kind.Nothing) g ≡ Some e → ⊥
-  no_shape (shape_form.Alone i) h = none_some e h
-  no_shape (shape_form.Based i) h = none_some e h
+  no_shape (shape_form.Alone i) h = none-some e h
+  no_shape (shape_form.Based i) h = none-some e h
 
 form_narrow : (classes : List Class) (rule : Rule) (g : Form) (e : EffectShape) → found_form classes rule g ≡ Some e → IsNarrowEffect e
 form_narrow classes rule (form.Move size i) e h = subst IsNarrowEffect (where_is _ (undivided (Value (Symbol i))) e h).1 (tt, tt)
-form_narrow classes rule (form.Address i) e h = absurd (none_some e h)
+form_narrow classes rule (form.Address i) e h = absurd (none-some e h)
 form_narrow classes rule (form.Add i j) e h = subst IsNarrowEffect (where_is _ (sum i j) e h).1 ((tt, tt), tt)
 form_narrow classes rule (form.Divide i j) e h = subst IsNarrowEffect (where_is _ (quotient i j) e h).1 ((tt, tt), (tt, tt))
 form_narrow classes rule (form.Store size i j) e h = subst IsNarrowEffect (where_is _ (undivided (StoreHome size i (Symbol j))) e h).1 (tt, tt)
@@ -285,17 +286,17 @@ form_narrow classes rule (form.Return i) e h = subst IsNarrowEffect (where_is _ 
 form_narrow classes rule (form.Save i) e h = subst IsNarrowEffect (where_is _ (undivided (Save i)) e h).1 (tt, tt)
 
 shape_narrow : (classes : List Class) (rule : Rule) (k : Option Kind) (g : ShapeForm) (e : EffectShape) → found_shape classes rule.right k g ≡ Some e → IsNarrowEffect e
-shape_narrow classes rule None (shape_form.Alone i) e h = absurd (none_some e h)
-shape_narrow classes rule None (shape_form.Based i) e h = absurd (none_some e h)
+shape_narrow classes rule None (shape_form.Alone i) e h = absurd (none-some e h)
+shape_narrow classes rule None (shape_form.Based i) e h = absurd (none-some e h)
 shape_narrow classes rule (Some kind.Reg) (shape_form.Alone i) e h = subst IsNarrowEffect (where_is _ (undivided (Value (Symbol i))) e h).1 (tt, tt)
-shape_narrow classes rule (Some kind.Reg) (shape_form.Based i) e h = absurd (none_some e h)
+shape_narrow classes rule (Some kind.Reg) (shape_form.Based i) e h = absurd (none-some e h)
 shape_narrow classes rule (Some kind.Con) (shape_form.Alone i) e h = subst IsNarrowEffect (where_is _ (undivided (Number (Symbol i))) e h).1 (tt, tt)
-shape_narrow classes rule (Some kind.Con) (shape_form.Based i) e h = absurd (none_some e h)
-shape_narrow classes rule (Some kind.Ea) (shape_form.Alone i) e h = absurd (none_some e h)
+shape_narrow classes rule (Some kind.Con) (shape_form.Based i) e h = absurd (none-some e h)
+shape_narrow classes rule (Some kind.Ea) (shape_form.Alone i) e h = absurd (none-some e h)
 shape_narrow classes rule (Some kind.Ea) (shape_form.Based i) e h = subst IsNarrowEffect (where_is _ (undivided (Address (Symbol i))) e h).1 (tt, tt)
-shape_narrow classes rule (Some kind.Nothing) (shape_form.Alone i) e h = absurd (none_some e h)
-shape_narrow classes rule (Some kind.Nothing) (shape_form.Based i) e h = absurd (none_some e h)
-shape_narrow classes rule (Some (kind.Value size)) (shape_form.Alone i) e h = absurd (none_some e h)
+shape_narrow classes rule (Some kind.Nothing) (shape_form.Alone i) e h = absurd (none-some e h)
+shape_narrow classes rule (Some kind.Nothing) (shape_form.Based i) e h = absurd (none-some e h)
+shape_narrow classes rule (Some (kind.Value size)) (shape_form.Alone i) e h = absurd (none-some e h)
 shape_narrow classes rule (Some (kind.Value size)) (shape_form.Based i) e h = subst IsNarrowEffect (where_is _ (undivided (Value (Memory size (Symbol i)))) e h).1 (tt, tt)
 shape_narrow classes rule (Some (kind.Place size)) (shape_form.Alone i) e h = subst IsNarrowEffect (where_is _ (undivided (PlaceHome size i)) e h).1 (tt, tt)
 shape_narrow classes rule (Some (kind.Place size)) (shape_form.Based i) e h = subst IsNarrowEffect (where_is _ (undivided (PlaceAt size (Symbol i))) e h).1 (tt, tt)

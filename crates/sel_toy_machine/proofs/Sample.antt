@@ -3,6 +3,8 @@ use Rattle.std.proofs.Common.{◌≡◌, ℕ, zero, suc, ◌+◌, ◌*◌, ◌^�
 use Rattle.std.specs.Prelude.{IsSome, codes}
 use Rattle.std.specs.Str.{bytes_eq}
 use Rattle.std.proofs.lemmas.List.Elements.{All-from_recursion}
+use Rattle.std.proofs.lemmas.Option.{none-some, same_Some}
+use Rattle.std.proofs.lemmas.Bool.{false≢true}
 use Rattle.gg_base.specs.Sizes.{bytes_of}
 use Rattle.tree_core.specs.declared.token.Tok.TheVariants as tok
 use Rattle.tree_core.specs.declared.token.Sort.TheVariants as sort
@@ -27,7 +29,6 @@ use Rattle.sel_toy_machine.specs.Machine.{Stands}
 use Rattle.sel_toy_machine.specs.Templates.{sum}
 use Rattle.sel_toy_machine.specs.Toy.{toy}
 use Rattle.sel_toy_machine.specs.Sample.{main, program, classes, rule, holes, numbers, view, machine, frame, SumIsReady, SumIsSet}
-use Rattle.sel_toy_machine.proofs.Spelled.{none_some, some_same, untrue}
 use Rattle.sel_toy_machine.proofs.Results.{toy_templates}
 
 same_hole : (a b : Attr Operand) → Some a ≡ Some b → a ≡ b
@@ -85,33 +86,33 @@ rule_is = record {
 }
 
 values_are : (i x : ℕ) (h : Attr Operand) → hole holes i ≡ Some h → numbers i ≡ Some x → worth toy program (size_at classes rule.right i) h machine ≡ Some x
-values_are zero x h at e = absurd (none_some x e)
-values_are (suc zero) x h at e = absurd (none_some x e)
+values_are zero x h at e = absurd (none-some x e)
+values_are (suc zero) x h at e = absurd (none-some x e)
 values_are (suc (suc zero)) x h at e = subst (λ g. worth toy program (size_at classes rule.right 2) g machine ≡ Some x) (same_hole _ h at) e
 values_are (suc (suc (suc zero))) x h at e = subst (λ g. worth toy program (size_at classes rule.right 3) g machine ≡ Some x) (same_hole _ h at) e
-values_are (suc (suc (suc (suc i)))) x h at e = absurd (none_some x e)
+values_are (suc (suc (suc (suc i)))) x h at e = absurd (none-some x e)
 
 small_are : (i x : ℕ) → numbers i ≡ Some x → x < 2 ^ (8 * bytes_of (size_at classes rule.right i))
-small_are zero x e = absurd (none_some x e)
-small_are (suc zero) x e = absurd (none_some x e)
-small_are (suc (suc zero)) x e = subst (λ n. n < 2 ^ 32) (some_same 5 x e) (omega arith)
-small_are (suc (suc (suc zero))) x e = subst (λ n. n < 2 ^ 32) (some_same 7 x e) (omega arith)
-small_are (suc (suc (suc (suc i)))) x e = absurd (none_some x e)
+small_are zero x e = absurd (none-some x e)
+small_are (suc zero) x e = absurd (none-some x e)
+small_are (suc (suc zero)) x e = subst (λ n. n < 2 ^ 32) (same_Some 5 x e) (omega arith)
+small_are (suc (suc (suc zero))) x e = subst (λ n. n < 2 ^ 32) (same_Some 7 x e) (omega arith)
+small_are (suc (suc (suc (suc i)))) x e = absurd (none-some x e)
 
 whole_are : (i : ℕ) (h : Attr Operand) → hole holes i ≡ Some h → IsWhole h (numbers i)
-whole_are zero h at = absurd (none_some h at)
+whole_are zero h at = absurd (none-some h at)
 whole_are (suc zero) h at = subst (λ g. IsWhole g None) (same_hole _ h at) tt
 whole_are (suc (suc zero)) h at = subst (λ g. IsWhole g (Some 5)) (same_hole _ h at) refl
 whole_are (suc (suc (suc zero))) h at = subst (λ g. IsWhole g (Some 7)) (same_hole _ h at) refl
-whole_are (suc (suc (suc (suc i)))) h at = absurd (none_some h at)
+whole_are (suc (suc (suc (suc i)))) h at = absurd (none-some h at)
 
 -- no symbol is a place
 homes_are : (i : ℕ) (h : Attr Operand) (o : Operand) → hole holes i ≡ Some h → own_operand toy h ≡ Some o → IsSome (toy.names o (size_at classes rule.right i) machine)
-homes_are zero h o at e = absurd (none_some h at)
-homes_are (suc zero) h o at e = absurd (none_some o (ap (own_operand toy) (same_hole _ h at) ∙ e))
-homes_are (suc (suc zero)) h o at e = absurd (none_some o (ap (own_operand toy) (same_hole _ h at) ∙ e))
-homes_are (suc (suc (suc zero))) h o at e = absurd (none_some o (ap (own_operand toy) (same_hole _ h at) ∙ e))
-homes_are (suc (suc (suc (suc i)))) h o at e = absurd (none_some h at)
+homes_are zero h o at e = absurd (none-some h at)
+homes_are (suc zero) h o at e = absurd (none-some o (ap (own_operand toy) (same_hole _ h at) ∙ e))
+homes_are (suc (suc zero)) h o at e = absurd (none-some o (ap (own_operand toy) (same_hole _ h at) ∙ e))
+homes_are (suc (suc (suc zero))) h o at e = absurd (none-some o (ap (own_operand toy) (same_hole _ h at) ∙ e))
+homes_are (suc (suc (suc (suc i)))) h o at e = absurd (none-some h at)
 
 agrees : Stands program frame [] view.state machine
 agrees = record {
@@ -121,7 +122,7 @@ agrees = record {
   pushed = refl;
   callers = refl;
   functions = refl;
-  locals = λ k n e. absurd (none_some n e);
+  locals = λ k n e. absurd (none-some n e);
   bytes = tt;
   inputs = tt;
   longwords = tt;
@@ -141,7 +142,7 @@ sum_is_ready = record {
     agrees = agrees;
     room = tt;
     read = ((refl, refl), tt);
-    answered = λ e. absurd (untrue e);
+    answered = λ e. absurd (false≢true e);
   };
   result = (omega arith, (refl, (refl, (refl, tt))));
   divides = tt;

@@ -1,6 +1,8 @@
 -- The toy machine saves and reloads.
 use Rattle.std.proofs.Common.{◌≡◌, ℕ, ◌*◌, ◌^◌, ◌<◌, ◌==◌, [], ◌∷◌, Option, Some, None, true, refl, sym, ap, ◌∙◌, subst, arith}
 use Rattle.std.specs.Prelude.{◌&&◌}
+use Rattle.std.proofs.lemmas.Bool.{and_parts, eqb-true}
+use Rattle.std.proofs.lemmas.Option.{none-some}
 use Rattle.gg_base.specs.declared.size.Size.{Size}
 use Rattle.gg_base.specs.declared.size.Size.TheVariants.{Byte, Word as Halfword, Long}
 use Rattle.gg_base.specs.Sizes.{bytes_of}
@@ -29,8 +31,7 @@ use Rattle.sel_toy_machine.specs.Templates.{undivided}
 use Rattle.sel_toy_machine.specs.Spills.{found_spill}
 use Rattle.sel_toy_machine.specs.Filling.{filled, source_of}
 use Rattle.sel_toy_machine.specs.Running.{taken}
-use Rattle.sel_toy_machine.proofs.Spelled.{equal_numbers, none_some}
-use Rattle.sel_toy_machine.proofs.Sources.{both, same_size, symbol_value}
+use Rattle.sel_toy_machine.proofs.Sources.{same_size, symbol_value}
 use Rattle.sel_toy_machine.proofs.Kept.{sets_register, sets_word, sets_name}
 use Rattle.sel_toy_machine.proofs.Taken.{or_ok, where_is}
 use Rattle.sel_toy_machine.proofs.Results.{move_runs}
@@ -42,78 +43,78 @@ pub record Found (o : Option Form) (g : Form) (e : EffectShape) (a : ActShape) :
   pub effect_is : undivided a ≡ e
 
 is_one : (i : ℕ) → (i == 1) ≡ true → i ≡ 1
-is_one i e = equal_numbers i 1 e
+is_one i e = eqb-true i 1 e
 
 value_found : (size : Size) (o : Option Form) (e : EffectShape) → found_spill (kind.Value size) o ≡ Some e → Found o (form.Move size 1) e (StoreHome size 0 (Symbol 1))
-value_found size None e h = absurd (none_some e h)
+value_found size None e h = absurd (none-some e h)
 value_found size (Some (form.Move z i)) e h =
     let w = where_is ((bytes_of z == bytes_of size) && (i == 1)) (undivided (StoreHome size 0 (Symbol 1))) e h in
-    let b = both (bytes_of z == bytes_of size) (i == 1) w.0 in
+    let b = and_parts (bytes_of z == bytes_of size) (i == 1) w.0 in
     record { form_is = ap (λ y. Some (form.Move y i)) (same_size z size b.0) ∙ ap (λ j. Some (form.Move size j)) (is_one i b.1); effect_is = w.1 }
-value_found size (Some (form.Address i)) e h = absurd (none_some e h)
-value_found size (Some (form.Add i j)) e h = absurd (none_some e h)
-value_found size (Some (form.Divide i j)) e h = absurd (none_some e h)
-value_found size (Some (form.Store z i j)) e h = absurd (none_some e h)
-value_found size (Some (form.StoreAt z i j)) e h = absurd (none_some e h)
-value_found size (Some (form.Push i)) e h = absurd (none_some e h)
-value_found size (Some (form.Branch i j k)) e h = absurd (none_some e h)
-value_found size (Some (form.Jump i)) e h = absurd (none_some e h)
-value_found size (Some (form.Call i)) e h = absurd (none_some e h)
-value_found size (Some (form.Return i)) e h = absurd (none_some e h)
-value_found size (Some (form.Save i)) e h = absurd (none_some e h)
+value_found size (Some (form.Address i)) e h = absurd (none-some e h)
+value_found size (Some (form.Add i j)) e h = absurd (none-some e h)
+value_found size (Some (form.Divide i j)) e h = absurd (none-some e h)
+value_found size (Some (form.Store z i j)) e h = absurd (none-some e h)
+value_found size (Some (form.StoreAt z i j)) e h = absurd (none-some e h)
+value_found size (Some (form.Push i)) e h = absurd (none-some e h)
+value_found size (Some (form.Branch i j k)) e h = absurd (none-some e h)
+value_found size (Some (form.Jump i)) e h = absurd (none-some e h)
+value_found size (Some (form.Call i)) e h = absurd (none-some e h)
+value_found size (Some (form.Return i)) e h = absurd (none-some e h)
+value_found size (Some (form.Save i)) e h = absurd (none-some e h)
 
 place_found : (size : Size) (o : Option Form) (e : EffectShape) → found_spill (kind.Place size) o ≡ Some e → Found o (form.Address 1) e (StoreHome Long 0 (Symbol 1))
-place_found size None e h = absurd (none_some e h)
-place_found size (Some (form.Move z i)) e h = absurd (none_some e h)
+place_found size None e h = absurd (none-some e h)
+place_found size (Some (form.Move z i)) e h = absurd (none-some e h)
 place_found size (Some (form.Address i)) e h =
     let w = where_is (i == 1) (undivided (StoreHome Long 0 (Symbol 1))) e h in
     record { form_is = ap (λ j. Some (form.Address j)) (is_one i w.0); effect_is = w.1 }
-place_found size (Some (form.Add i j)) e h = absurd (none_some e h)
-place_found size (Some (form.Divide i j)) e h = absurd (none_some e h)
-place_found size (Some (form.Store z i j)) e h = absurd (none_some e h)
-place_found size (Some (form.StoreAt z i j)) e h = absurd (none_some e h)
-place_found size (Some (form.Push i)) e h = absurd (none_some e h)
-place_found size (Some (form.Branch i j k)) e h = absurd (none_some e h)
-place_found size (Some (form.Jump i)) e h = absurd (none_some e h)
-place_found size (Some (form.Call i)) e h = absurd (none_some e h)
-place_found size (Some (form.Return i)) e h = absurd (none_some e h)
-place_found size (Some (form.Save i)) e h = absurd (none_some e h)
+place_found size (Some (form.Add i j)) e h = absurd (none-some e h)
+place_found size (Some (form.Divide i j)) e h = absurd (none-some e h)
+place_found size (Some (form.Store z i j)) e h = absurd (none-some e h)
+place_found size (Some (form.StoreAt z i j)) e h = absurd (none-some e h)
+place_found size (Some (form.Push i)) e h = absurd (none-some e h)
+place_found size (Some (form.Branch i j k)) e h = absurd (none-some e h)
+place_found size (Some (form.Jump i)) e h = absurd (none-some e h)
+place_found size (Some (form.Call i)) e h = absurd (none-some e h)
+place_found size (Some (form.Return i)) e h = absurd (none-some e h)
+place_found size (Some (form.Save i)) e h = absurd (none-some e h)
 
 address_found : (o : Option Form) (e : EffectShape) → found_spill kind.Ea o ≡ Some e → Found o (form.Address 1) e (StoreHome Long 0 (Symbol 1))
-address_found None e h = absurd (none_some e h)
-address_found (Some (form.Move z i)) e h = absurd (none_some e h)
+address_found None e h = absurd (none-some e h)
+address_found (Some (form.Move z i)) e h = absurd (none-some e h)
 address_found (Some (form.Address i)) e h =
     let w = where_is (i == 1) (undivided (StoreHome Long 0 (Symbol 1))) e h in
     record { form_is = ap (λ j. Some (form.Address j)) (is_one i w.0); effect_is = w.1 }
-address_found (Some (form.Add i j)) e h = absurd (none_some e h)
-address_found (Some (form.Divide i j)) e h = absurd (none_some e h)
-address_found (Some (form.Store size i j)) e h = absurd (none_some e h)
-address_found (Some (form.StoreAt size i j)) e h = absurd (none_some e h)
-address_found (Some (form.Push i)) e h = absurd (none_some e h)
-address_found (Some (form.Branch i j k)) e h = absurd (none_some e h)
-address_found (Some (form.Jump i)) e h = absurd (none_some e h)
-address_found (Some (form.Call i)) e h = absurd (none_some e h)
-address_found (Some (form.Return i)) e h = absurd (none_some e h)
-address_found (Some (form.Save i)) e h = absurd (none_some e h)
+address_found (Some (form.Add i j)) e h = absurd (none-some e h)
+address_found (Some (form.Divide i j)) e h = absurd (none-some e h)
+address_found (Some (form.Store size i j)) e h = absurd (none-some e h)
+address_found (Some (form.StoreAt size i j)) e h = absurd (none-some e h)
+address_found (Some (form.Push i)) e h = absurd (none-some e h)
+address_found (Some (form.Branch i j k)) e h = absurd (none-some e h)
+address_found (Some (form.Jump i)) e h = absurd (none-some e h)
+address_found (Some (form.Call i)) e h = absurd (none-some e h)
+address_found (Some (form.Return i)) e h = absurd (none-some e h)
+address_found (Some (form.Save i)) e h = absurd (none-some e h)
 
 reload_found : (o : Option Form) (e : EffectShape) → found_spill kind.Reg o ≡ Some e → Found o (form.Move Long 1) e (Value (Symbol 1))
-reload_found None e h = absurd (none_some e h)
-reload_found (Some (form.Move Byte i)) e h = absurd (none_some e h)
-reload_found (Some (form.Move Halfword i)) e h = absurd (none_some e h)
+reload_found None e h = absurd (none-some e h)
+reload_found (Some (form.Move Byte i)) e h = absurd (none-some e h)
+reload_found (Some (form.Move Halfword i)) e h = absurd (none-some e h)
 reload_found (Some (form.Move Long i)) e h =
     let w = where_is (i == 1) (undivided (Value (Symbol 1))) e h in
     record { form_is = ap (λ j. Some (form.Move Long j)) (is_one i w.0); effect_is = w.1 }
-reload_found (Some (form.Address i)) e h = absurd (none_some e h)
-reload_found (Some (form.Add i j)) e h = absurd (none_some e h)
-reload_found (Some (form.Divide i j)) e h = absurd (none_some e h)
-reload_found (Some (form.Store size i j)) e h = absurd (none_some e h)
-reload_found (Some (form.StoreAt size i j)) e h = absurd (none_some e h)
-reload_found (Some (form.Push i)) e h = absurd (none_some e h)
-reload_found (Some (form.Branch i j k)) e h = absurd (none_some e h)
-reload_found (Some (form.Jump i)) e h = absurd (none_some e h)
-reload_found (Some (form.Call i)) e h = absurd (none_some e h)
-reload_found (Some (form.Return i)) e h = absurd (none_some e h)
-reload_found (Some (form.Save i)) e h = absurd (none_some e h)
+reload_found (Some (form.Address i)) e h = absurd (none-some e h)
+reload_found (Some (form.Add i j)) e h = absurd (none-some e h)
+reload_found (Some (form.Divide i j)) e h = absurd (none-some e h)
+reload_found (Some (form.Store size i j)) e h = absurd (none-some e h)
+reload_found (Some (form.StoreAt size i j)) e h = absurd (none-some e h)
+reload_found (Some (form.Push i)) e h = absurd (none-some e h)
+reload_found (Some (form.Branch i j k)) e h = absurd (none-some e h)
+reload_found (Some (form.Jump i)) e h = absurd (none-some e h)
+reload_found (Some (form.Call i)) e h = absurd (none-some e h)
+reload_found (Some (form.Return i)) e h = absurd (none-some e h)
+reload_found (Some (form.Save i)) e h = absurd (none-some e h)
 
 stored_same : (y z : Size) (i j : ℕ) (a b : Shape) → StoreHome y i a ≡ StoreHome z j b → a ≡ b
 stored_same y z i j a b e = cc
@@ -180,8 +181,8 @@ saved_narrow (kind.Value size) o e h = subst IsNarrowEffect (value_found size o 
 saved_narrow (kind.Place size) o e h = subst IsNarrowEffect (place_found size o e h).effect_is (tt, tt)
 saved_narrow kind.Ea o e h = subst IsNarrowEffect (address_found o e h).effect_is (tt, tt)
 saved_narrow kind.Reg o e h = subst IsNarrowEffect (reload_found o e h).effect_is (tt, tt)
-saved_narrow kind.Con o e h = absurd (none_some e h)
-saved_narrow kind.Nothing o e h = absurd (none_some e h)
+saved_narrow kind.Con o e h = absurd (none-some e h)
+saved_narrow kind.Nothing o e h = absurd (none-some e h)
 
 pub toy_saves : SavesAndReloads toy
 toy_saves = record {

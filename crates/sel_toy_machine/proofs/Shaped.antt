@@ -1,6 +1,8 @@
 -- The toy machine's shapes stand for what their rules give.
 use Rattle.std.proofs.Common.{◌≡◌, ℕ, zero, suc, ◌*◌, ◌^◌, ◌<◌, List, [], ◌∷◌, map, Option, Some, None, Bool, true, false, refl, sym, ap, ◌∙◌, subst, slice_get}
 use Rattle.std.specs.Prelude.{IsSome, is_some, Ok}
+use Rattle.std.proofs.lemmas.Bool.{and_parts, false≢true}
+use Rattle.std.proofs.lemmas.Option.{none-some, same_Some}
 use Rattle.gg_base.specs.declared.size.Size.{Size}
 use Rattle.gg_base.specs.declared.size.Size.TheVariants.{Long}
 use Rattle.gg_base.specs.Sizes.{bytes_of}
@@ -41,9 +43,9 @@ use Rattle.sel_toy_machine.specs.Forms.{shape_of, is_sized}
 use Rattle.sel_toy_machine.specs.Templates.{undivided, gives_register, gives_nothing, found_form, found_shape, is_register, is_place_of, is_slot, holds_register, is_home, symbol}
 use Rattle.sel_toy_machine.specs.Filling.{some_operand, based, shaped, operand_filled}
 use Rattle.sel_toy_machine.specs.Running.{run}
-use Rattle.sel_toy_machine.proofs.Spelled.{none_some, some_same, untrue, own_is}
+use Rattle.sel_toy_machine.proofs.Spelled.{own_is}
 use Rattle.sel_target.proofs.AreaBytes.{fetched_is}
-use Rattle.sel_toy_machine.proofs.Sources.{both, the, symbol_value, size_suc, filled_at, numbered}
+use Rattle.sel_toy_machine.proofs.Sources.{the, symbol_value, size_suc, filled_at, numbered}
 use Rattle.sel_toy_machine.proofs.Kept.{unchanged}
 use Rattle.sel_toy_machine.proofs.Taken.{Taken, by_line, by_shape, where_is, taken_by, shape_gives_none, shape_gives_register}
 use Rattle.sel_toy_machine.specs.Toy.{toy}
@@ -57,22 +59,22 @@ shape_same : (a b : Line) → give.Shape a ≡ give.Shape b → a ≡ b
 shape_same a b e = cc
 
 form_gives : (classes : List Class) (rule : Rule) (g : Form) (e : EffectShape) (l : Line) → found_form classes rule g ≡ Some e → rule.give ≡ give.Shape l → ⊥
-form_gives classes rule (form.Move size i) e l h is = shape_gives_none rule.give l is (both (gives_register rule.give) _ (where_is _ (undivided (Value (Symbol i))) e h).0).0
-form_gives classes rule (form.Address i) e l h is = none_some e h
+form_gives classes rule (form.Move size i) e l h is = shape_gives_none rule.give l is (and_parts (gives_register rule.give) _ (where_is _ (undivided (Value (Symbol i))) e h).0).0
+form_gives classes rule (form.Address i) e l h is = none-some e h
 form_gives classes rule (form.Add i j) e l h is =
-    shape_gives_none rule.give l is (both (gives_register rule.give) _ (where_is _ (undivided (Value (Binary binary_op.Add (Symbol i) (Symbol j)))) e h).0).0
+    shape_gives_none rule.give l is (and_parts (gives_register rule.give) _ (where_is _ (undivided (Value (Binary binary_op.Add (Symbol i) (Symbol j)))) e h).0).0
 form_gives classes rule (form.Divide i j) e l h is =
-    shape_gives_none rule.give l is (both (gives_register rule.give) _ (where_is _ (record { act = Value (Binary binary_op.Div (Symbol i) (Symbol j)); divisors = Symbol j ∷ [] }) e h).0).0
-form_gives classes rule (form.Store size i j) e l h is = shape_gives_register rule.give l is (both (gives_nothing rule.give) _ (where_is _ (undivided (StoreHome size i (Symbol j))) e h).0).0
+    shape_gives_none rule.give l is (and_parts (gives_register rule.give) _ (where_is _ (record { act = Value (Binary binary_op.Div (Symbol i) (Symbol j)); divisors = Symbol j ∷ [] }) e h).0).0
+form_gives classes rule (form.Store size i j) e l h is = shape_gives_register rule.give l is (and_parts (gives_nothing rule.give) _ (where_is _ (undivided (StoreHome size i (Symbol j))) e h).0).0
 form_gives classes rule (form.StoreAt size i j) e l h is =
-    shape_gives_register rule.give l is (both (gives_nothing rule.give) _ (where_is _ (undivided (StoreAt size (Symbol i) (Symbol j))) e h).0).0
-form_gives classes rule (form.Push i) e l h is = shape_gives_register rule.give l is (both (gives_nothing rule.give) _ (where_is _ (undivided (Push (Symbol i))) e h).0).0
+    shape_gives_register rule.give l is (and_parts (gives_nothing rule.give) _ (where_is _ (undivided (StoreAt size (Symbol i) (Symbol j))) e h).0).0
+form_gives classes rule (form.Push i) e l h is = shape_gives_register rule.give l is (and_parts (gives_nothing rule.give) _ (where_is _ (undivided (Push (Symbol i))) e h).0).0
 form_gives classes rule (form.Branch i j k) e l h is =
-    shape_gives_register rule.give l is (both (gives_nothing rule.give) _ (where_is _ (undivided (Branch i (Symbol j) (Symbol k))) e h).0).0
-form_gives classes rule (form.Jump i) e l h is = shape_gives_register rule.give l is (both (gives_nothing rule.give) _ (where_is _ (undivided Jump) e h).0).0
-form_gives classes rule (form.Call i) e l h is = shape_gives_register rule.give l is (both (gives_nothing rule.give) _ (where_is _ (undivided Call) e h).0).0
-form_gives classes rule (form.Return i) e l h is = shape_gives_register rule.give l is (both (gives_nothing rule.give) _ (where_is _ (undivided (Return (Symbol i))) e h).0).0
-form_gives classes rule (form.Save i) e l h is = shape_gives_register rule.give l is (both (gives_nothing rule.give) _ (where_is _ (undivided (Save i)) e h).0).0
+    shape_gives_register rule.give l is (and_parts (gives_nothing rule.give) _ (where_is _ (undivided (Branch i (Symbol j) (Symbol k))) e h).0).0
+form_gives classes rule (form.Jump i) e l h is = shape_gives_register rule.give l is (and_parts (gives_nothing rule.give) _ (where_is _ (undivided Jump) e h).0).0
+form_gives classes rule (form.Call i) e l h is = shape_gives_register rule.give l is (and_parts (gives_nothing rule.give) _ (where_is _ (undivided Call) e h).0).0
+form_gives classes rule (form.Return i) e l h is = shape_gives_register rule.give l is (and_parts (gives_nothing rule.give) _ (where_is _ (undivided (Return (Symbol i))) e h).0).0
+form_gives classes rule (form.Save i) e l h is = shape_gives_register rule.give l is (and_parts (gives_nothing rule.give) _ (where_is _ (undivided (Save i)) e h).0).0
 
 shape_taken : (classes : List Class) (rule : Rule) (e : EffectShape) (l : Line) → Taken classes rule e → rule.give ≡ give.Shape l → TakenShape classes rule e l
 shape_taken classes rule e l (by_line k g lines is found) gives = absurd (form_gives classes rule g e l found gives)
@@ -92,25 +94,25 @@ register_fits (Some kind.Reg) (attr.Con n) e fit = absurd fit
 register_fits (Some kind.Reg) (attr.Ea o) e fit = absurd fit
 register_fits (Some kind.Reg) (attr.Token l) e fit = absurd fit
 register_fits (Some kind.Reg) attr.Nothing e fit = absurd fit
-register_fits (Some (kind.Value size)) h e fit = absurd (untrue e)
-register_fits (Some (kind.Place size)) h e fit = absurd (untrue e)
-register_fits (Some kind.Con) h e fit = absurd (untrue e)
-register_fits (Some kind.Ea) h e fit = absurd (untrue e)
-register_fits (Some kind.Nothing) h e fit = absurd (untrue e)
-register_fits None h e fit = absurd (untrue e)
+register_fits (Some (kind.Value size)) h e fit = absurd (false≢true e)
+register_fits (Some (kind.Place size)) h e fit = absurd (false≢true e)
+register_fits (Some kind.Con) h e fit = absurd (false≢true e)
+register_fits (Some kind.Ea) h e fit = absurd (false≢true e)
+register_fits (Some kind.Nothing) h e fit = absurd (false≢true e)
+register_fits None h e fit = absurd (false≢true e)
 
 symbol_register : (classes : List Class) (s : Sym) (h : Attr Operand) → holds_register classes (Some s) ≡ true → SymFits toy classes s h → (r : ℕ) × (h ≡ attr.Reg r)
-symbol_register classes (grammar_symbol.Tok x) h e fit = absurd (untrue e)
+symbol_register classes (grammar_symbol.Tok x) h e fit = absurd (false≢true e)
 symbol_register classes (grammar_symbol.Class c) h e fit = register_fits (kind_at classes c) h e fit
 
 some_there : {X : Type 0} (o : Option X) (test : Option X → Bool) → test None ≡ false → test o ≡ true → is_some o ≡ true
-some_there None test none e = absurd (untrue (sym none ∙ e))
+some_there None test none e = absurd (false≢true (sym none ∙ e))
 some_there (Some x) test none e = refl
 
 module _ (classes : List Class) (right : List Sym) (hs : List (Attr Operand)) (fit : Fit toy classes right hs) where
   -- the hole of a register's symbol
   pub register_hole : (i : ℕ) → holds_register classes (symbol right i) ≡ true → (r : ℕ) × (hole hs i ≡ Some (attr.Reg r))
-  register_hole zero e = absurd (untrue e)
+  register_hole zero e = absurd (false≢true e)
   register_hole (suc j) e =
       let n = filled_at classes right hs j fit (some_there (slice_get right j) (holds_register classes) refl e) in
       let s = symbol_register classes n.symbol n.attribute (subst (λ o. holds_register classes o ≡ true) n.there e) n.fits in
@@ -138,75 +140,75 @@ module _ (classes : List Class) (right : List Sym) (hs : List (Attr Operand)) (f
   place_fits size (Some (kind.Place z)) (attr.Ea o) e fit = absurd fit
   place_fits size (Some (kind.Place z)) (attr.Token l) e fit = absurd fit
   place_fits size (Some (kind.Place z)) attr.Nothing e fit = absurd fit
-  place_fits size (Some (kind.Value z)) h e fit = absurd (untrue e)
-  place_fits size (Some kind.Reg) h e fit = absurd (untrue e)
-  place_fits size (Some kind.Con) h e fit = absurd (untrue e)
-  place_fits size (Some kind.Ea) h e fit = absurd (untrue e)
-  place_fits size (Some kind.Nothing) h e fit = absurd (untrue e)
-  place_fits size None h e fit = absurd (untrue e)
+  place_fits size (Some (kind.Value z)) h e fit = absurd (false≢true e)
+  place_fits size (Some kind.Reg) h e fit = absurd (false≢true e)
+  place_fits size (Some kind.Con) h e fit = absurd (false≢true e)
+  place_fits size (Some kind.Ea) h e fit = absurd (false≢true e)
+  place_fits size (Some kind.Nothing) h e fit = absurd (false≢true e)
+  place_fits size None h e fit = absurd (false≢true e)
 
   local_place : (a : Att) → is_of_kind (attribute_of tok.Loc) a ≡ true → OwnPlace (attr.Token (record { tok = tok.Loc; att = a }))
-  local_place att.Nothing e = absurd (untrue e)
-  local_place (att.Number n) e = absurd (untrue e)
-  local_place (att.Object object offset) e = absurd (untrue e)
-  local_place (att.Branch rel label) e = absurd (untrue e)
-  local_place (att.Label label) e = absurd (untrue e)
-  local_place (att.Callee function count) e = absurd (untrue e)
+  local_place att.Nothing e = absurd (false≢true e)
+  local_place (att.Number n) e = absurd (false≢true e)
+  local_place (att.Object object offset) e = absurd (false≢true e)
+  local_place (att.Branch rel label) e = absurd (false≢true e)
+  local_place (att.Label label) e = absurd (false≢true e)
+  local_place (att.Callee function count) e = absurd (false≢true e)
   local_place (att.Slot k) e = record { operand_is = operand.Word k; own = refl; place = refl }
 
   argument_place : (a : Att) → is_of_kind (attribute_of tok.Arg) a ≡ true → OwnPlace (attr.Token (record { tok = tok.Arg; att = a }))
-  argument_place att.Nothing e = absurd (untrue e)
-  argument_place (att.Number n) e = absurd (untrue e)
-  argument_place (att.Object object offset) e = absurd (untrue e)
-  argument_place (att.Branch rel label) e = absurd (untrue e)
-  argument_place (att.Label label) e = absurd (untrue e)
-  argument_place (att.Callee function count) e = absurd (untrue e)
+  argument_place att.Nothing e = absurd (false≢true e)
+  argument_place (att.Number n) e = absurd (false≢true e)
+  argument_place (att.Object object offset) e = absurd (false≢true e)
+  argument_place (att.Branch rel label) e = absurd (false≢true e)
+  argument_place (att.Label label) e = absurd (false≢true e)
+  argument_place (att.Callee function count) e = absurd (false≢true e)
   argument_place (att.Slot k) e = record { operand_is = operand.Argument k; own = refl; place = refl }
 
   slot_place : (x : Tok) (a : Att) → is_slot x ≡ true → is_of_kind (attribute_of x) a ≡ true → OwnPlace (attr.Token (record { tok = x; att = a }))
-  slot_place tok.Zero a e fit = absurd (untrue e)
-  slot_place tok.One a e fit = absurd (untrue e)
-  slot_place tok.Two a e fit = absurd (untrue e)
-  slot_place tok.Four a e fit = absurd (untrue e)
-  slot_place tok.Eight a e fit = absurd (untrue e)
-  slot_place tok.Const a e fit = absurd (untrue e)
-  slot_place tok.Gaddr a e fit = absurd (untrue e)
+  slot_place tok.Zero a e fit = absurd (false≢true e)
+  slot_place tok.One a e fit = absurd (false≢true e)
+  slot_place tok.Two a e fit = absurd (false≢true e)
+  slot_place tok.Four a e fit = absurd (false≢true e)
+  slot_place tok.Eight a e fit = absurd (false≢true e)
+  slot_place tok.Const a e fit = absurd (false≢true e)
+  slot_place tok.Gaddr a e fit = absurd (false≢true e)
   slot_place tok.Loc a e fit = local_place a fit
   slot_place tok.Arg a e fit = argument_place a fit
-  slot_place tok.IndirB a e fit = absurd (untrue e)
-  slot_place tok.IndirW a e fit = absurd (untrue e)
-  slot_place tok.IndirL a e fit = absurd (untrue e)
-  slot_place tok.Plus a e fit = absurd (untrue e)
-  slot_place tok.Minus a e fit = absurd (untrue e)
-  slot_place tok.Mul a e fit = absurd (untrue e)
-  slot_place tok.Div a e fit = absurd (untrue e)
-  slot_place tok.Mod a e fit = absurd (untrue e)
-  slot_place tok.And a e fit = absurd (untrue e)
-  slot_place tok.Or a e fit = absurd (untrue e)
-  slot_place tok.Xor a e fit = absurd (untrue e)
-  slot_place tok.Lsh a e fit = absurd (untrue e)
-  slot_place tok.Rsh a e fit = absurd (untrue e)
-  slot_place tok.Neg a e fit = absurd (untrue e)
-  slot_place tok.Com a e fit = absurd (untrue e)
-  slot_place tok.Sxb a e fit = absurd (untrue e)
-  slot_place tok.Zxb a e fit = absurd (untrue e)
-  slot_place tok.Sxw a e fit = absurd (untrue e)
-  slot_place tok.Zxw a e fit = absurd (untrue e)
-  slot_place tok.Ncb a e fit = absurd (untrue e)
-  slot_place tok.Ncw a e fit = absurd (untrue e)
-  slot_place tok.AssignB a e fit = absurd (untrue e)
-  slot_place tok.AssignW a e fit = absurd (untrue e)
-  slot_place tok.AssignL a e fit = absurd (untrue e)
-  slot_place tok.Cbr a e fit = absurd (untrue e)
-  slot_place tok.Push a e fit = absurd (untrue e)
-  slot_place tok.Ret a e fit = absurd (untrue e)
-  slot_place tok.Call a e fit = absurd (untrue e)
-  slot_place tok.Save a e fit = absurd (untrue e)
-  slot_place tok.Jump a e fit = absurd (untrue e)
-  slot_place tok.End a e fit = absurd (untrue e)
+  slot_place tok.IndirB a e fit = absurd (false≢true e)
+  slot_place tok.IndirW a e fit = absurd (false≢true e)
+  slot_place tok.IndirL a e fit = absurd (false≢true e)
+  slot_place tok.Plus a e fit = absurd (false≢true e)
+  slot_place tok.Minus a e fit = absurd (false≢true e)
+  slot_place tok.Mul a e fit = absurd (false≢true e)
+  slot_place tok.Div a e fit = absurd (false≢true e)
+  slot_place tok.Mod a e fit = absurd (false≢true e)
+  slot_place tok.And a e fit = absurd (false≢true e)
+  slot_place tok.Or a e fit = absurd (false≢true e)
+  slot_place tok.Xor a e fit = absurd (false≢true e)
+  slot_place tok.Lsh a e fit = absurd (false≢true e)
+  slot_place tok.Rsh a e fit = absurd (false≢true e)
+  slot_place tok.Neg a e fit = absurd (false≢true e)
+  slot_place tok.Com a e fit = absurd (false≢true e)
+  slot_place tok.Sxb a e fit = absurd (false≢true e)
+  slot_place tok.Zxb a e fit = absurd (false≢true e)
+  slot_place tok.Sxw a e fit = absurd (false≢true e)
+  slot_place tok.Zxw a e fit = absurd (false≢true e)
+  slot_place tok.Ncb a e fit = absurd (false≢true e)
+  slot_place tok.Ncw a e fit = absurd (false≢true e)
+  slot_place tok.AssignB a e fit = absurd (false≢true e)
+  slot_place tok.AssignW a e fit = absurd (false≢true e)
+  slot_place tok.AssignL a e fit = absurd (false≢true e)
+  slot_place tok.Cbr a e fit = absurd (false≢true e)
+  slot_place tok.Push a e fit = absurd (false≢true e)
+  slot_place tok.Ret a e fit = absurd (false≢true e)
+  slot_place tok.Call a e fit = absurd (false≢true e)
+  slot_place tok.Save a e fit = absurd (false≢true e)
+  slot_place tok.Jump a e fit = absurd (false≢true e)
+  slot_place tok.End a e fit = absurd (false≢true e)
 
   home_place : (size : Size) (s : Sym) (h : Attr Operand) → is_home classes size (Some s) ≡ true → SymFits toy classes s h → OwnPlace h
-  home_place size (grammar_symbol.Tok x) (attr.Token l) e fit = slot_place l.tok l.att (subst (λ y. is_slot y ≡ true) (sym fit.0) (both (is_slot x) _ e).0) fit.1
+  home_place size (grammar_symbol.Tok x) (attr.Token l) e fit = slot_place l.tok l.att (subst (λ y. is_slot y ≡ true) (sym fit.0) (and_parts (is_slot x) _ e).0) fit.1
   home_place size (grammar_symbol.Tok x) (attr.Reg r) e fit = absurd fit
   home_place size (grammar_symbol.Tok x) (attr.InSlot w) e fit = absurd fit
   home_place size (grammar_symbol.Tok x) (attr.Value o) e fit = absurd fit
@@ -217,7 +219,7 @@ module _ (classes : List Class) (right : List Sym) (hs : List (Attr Operand)) (f
   home_place size (grammar_symbol.Class c) h e fit = place_fits size (kind_at classes c) h e fit
 
   pub home_hole : (size : Size) (i : ℕ) → is_home classes size (symbol right i) ≡ true → Home i
-  home_hole size zero e = absurd (untrue e)
+  home_hole size zero e = absurd (false≢true e)
   home_hole size (suc j) e =
       let n = filled_at classes right hs j fit (some_there (slice_get right j) (is_home classes size) refl e) in
       let p = home_place size n.symbol n.attribute (subst (λ o. is_home classes size o ≡ true) n.there e) n.fits in
@@ -279,7 +281,7 @@ module _ (q : TreeProgram) (f : Extent) (fs : List Extent) (classes : List Class
       let n = the (v.symbol i) some in
       let small = subst (λ z. n.0 < 2 ^ (8 * bytes_of z)) size (inst.small i n.0 n.1) in
       let is = subst (λ z. worth toy q z (attr.Reg r) m ≡ Some n.0) size (inst.values i n.0 (attr.Reg r) at n.1) in
-      some_same (long (in_register m r)) n.0 is ∙ sym (symbol_value v i n.0 Long n.1 small)
+      same_Some (long (in_register m r)) n.0 is ∙ sym (symbol_value v i n.0 Long n.1 small)
 
 -- a register's symbol is a longword
 register_size : (classes : List Class) (o : Option Sym) → holds_register classes o ≡ true → size_of_some classes o ≡ Long
@@ -289,14 +291,14 @@ register_size classes (Some (grammar_symbol.Class c)) e = by (kind_at classes c)
   by : (k : Option Kind) → is_register k ≡ true → Rattle.sel_terms.specs.RuleFacts.size_of_kind k ≡ Long
   by None h = refl
   by (Some kind.Reg) h = refl
-  by (Some (kind.Value size)) h = absurd (untrue h)
-  by (Some (kind.Place size)) h = absurd (untrue h)
+  by (Some (kind.Value size)) h = absurd (false≢true h)
+  by (Some (kind.Place size)) h = absurd (false≢true h)
   by (Some kind.Con) h = refl
   by (Some kind.Ea) h = refl
   by (Some kind.Nothing) h = refl
 
 pub register_sized : (classes : List Class) (right : List Sym) (i : ℕ) → holds_register classes (symbol right i) ≡ true → size_at classes right i ≡ Long
-register_sized classes right zero e = absurd (untrue e)
+register_sized classes right zero e = absurd (false≢true e)
 register_sized classes right (suc j) e = size_suc classes right j ∙ register_size classes (slice_get right j) e
 
 module _ (q : TreeProgram) (f : Extent) (fs : List Extent) (classes : List Class) (rule : Rule) (hs : List (Attr Operand)) (v : View) (m : Machine) where
@@ -305,7 +307,7 @@ module _ (q : TreeProgram) (f : Extent) (fs : List Extent) (classes : List Class
 
   pub value_shaped : (e : EffectShape) (t : Shape) (size : Size) (g : ShapeForm) → I e → found_shape classes rule.right (Some (kind.Value size)) g ≡ Some e → e.act ≡ Value t →
       reads (shaped q g hs) size m ≡ Some (value v t)
-  value_shaped e t size (shape_form.Alone i) inst found act = absurd (none_some e found)
+  value_shaped e t size (shape_form.Alone i) inst found act = absurd (none-some e found)
   value_shaped e t size (shape_form.Based i) inst found act =
       let u = undivided (Value (Memory size (Symbol i))) in
       let w = where_is (holds_register classes (symbol rule.right i)) u e found in
@@ -334,7 +336,7 @@ module _ (q : TreeProgram) (f : Extent) (fs : List Extent) (classes : List Class
 
   pub address_named : (e : EffectShape) (t : Shape) (size : Size) (g : ShapeForm) → I e → found_shape classes rule.right (Some kind.Ea) g ≡ Some e → e.act ≡ Address t →
       names (shaped q g hs) size m ≡ Some (value v t)
-  address_named e t size (shape_form.Alone i) inst found act = absurd (none_some e found)
+  address_named e t size (shape_form.Alone i) inst found act = absurd (none-some e found)
   address_named e t size (shape_form.Based i) inst found act =
       let u = undivided (Address (Symbol i)) in
       let w = where_is (holds_register classes (symbol rule.right i)) u e found in
@@ -353,7 +355,7 @@ module _ (q : TreeProgram) (f : Extent) (fs : List Extent) (classes : List Class
       let inst' = subst I (sym w.1) inst in
       let x = numbered true q f fs classes rule u hs v m inst' Long i w.0 inst'.read.0 in
       let known = subst (λ z. worth toy q z h m ≡ Some x.number) x.sized (inst'.values i x.number h at x.known) in
-      (Symbol i, sym (act_of u e w.1), symbol_value v i x.number Long x.known x.below ∙ some_same x.number n (sym known ∙ is))
+      (Symbol i, sym (act_of u e w.1), symbol_value v i x.number Long x.known x.below ∙ same_Some x.number n (sym known ∙ is))
 
 found_at : (classes : List Class) (rule : Rule) (e : EffectShape) (l : Line) (k : Kind) → toy.effect classes rule ≡ Ok e → rule.give ≡ give.Shape l → kind_at classes rule.left ≡ Some k →
     found_shape classes rule.right (Some k) (shape_of l.pieces) ≡ Some e
@@ -372,27 +374,27 @@ other a size i e is act h = no_home a size i (act_of (undivided a) e is ∙ act)
 
 home_own : (q : TreeProgram) (classes : List Class) (rule : Rule) (e : EffectShape) (size : Size) (i : ℕ) (hs : List (Attr Operand)) (h : Attr Operand) (k : Option Kind) (g : ShapeForm) →
     found_shape classes rule.right k g ≡ Some e → e.act ≡ PlaceHome size i → Fit toy classes rule.right hs → hole hs i ≡ Some h → own_operand toy h ≡ Some (shaped q g hs)
-home_own q classes rule e size i hs h None (shape_form.Alone j) found act fit at = absurd (none_some e found)
-home_own q classes rule e size i hs h None (shape_form.Based j) found act fit at = absurd (none_some e found)
+home_own q classes rule e size i hs h None (shape_form.Alone j) found act fit at = absurd (none-some e found)
+home_own q classes rule e size i hs h None (shape_form.Based j) found act fit at = absurd (none-some e found)
 home_own q classes rule e size i hs h (Some kind.Reg) (shape_form.Alone j) found act fit at =
     absurd (other (Value (Symbol j)) size i e (where_is _ (undivided (Value (Symbol j))) e found).1 act tt)
-home_own q classes rule e size i hs h (Some kind.Reg) (shape_form.Based j) found act fit at = absurd (none_some e found)
+home_own q classes rule e size i hs h (Some kind.Reg) (shape_form.Based j) found act fit at = absurd (none-some e found)
 home_own q classes rule e size i hs h (Some kind.Con) (shape_form.Alone j) found act fit at =
     absurd (other (Number (Symbol j)) size i e (where_is _ (undivided (Number (Symbol j))) e found).1 act tt)
-home_own q classes rule e size i hs h (Some kind.Con) (shape_form.Based j) found act fit at = absurd (none_some e found)
-home_own q classes rule e size i hs h (Some kind.Ea) (shape_form.Alone j) found act fit at = absurd (none_some e found)
+home_own q classes rule e size i hs h (Some kind.Con) (shape_form.Based j) found act fit at = absurd (none-some e found)
+home_own q classes rule e size i hs h (Some kind.Ea) (shape_form.Alone j) found act fit at = absurd (none-some e found)
 home_own q classes rule e size i hs h (Some kind.Ea) (shape_form.Based j) found act fit at =
     absurd (other (Address (Symbol j)) size i e (where_is _ (undivided (Address (Symbol j))) e found).1 act tt)
-home_own q classes rule e size i hs h (Some kind.Nothing) (shape_form.Alone j) found act fit at = absurd (none_some e found)
-home_own q classes rule e size i hs h (Some kind.Nothing) (shape_form.Based j) found act fit at = absurd (none_some e found)
-home_own q classes rule e size i hs h (Some (kind.Value z)) (shape_form.Alone j) found act fit at = absurd (none_some e found)
+home_own q classes rule e size i hs h (Some kind.Nothing) (shape_form.Alone j) found act fit at = absurd (none-some e found)
+home_own q classes rule e size i hs h (Some kind.Nothing) (shape_form.Based j) found act fit at = absurd (none-some e found)
+home_own q classes rule e size i hs h (Some (kind.Value z)) (shape_form.Alone j) found act fit at = absurd (none-some e found)
 home_own q classes rule e size i hs h (Some (kind.Value z)) (shape_form.Based j) found act fit at =
     absurd (other (Value (Memory z (Symbol j))) size i e (where_is _ (undivided (Value (Memory z (Symbol j)))) e found).1 act tt)
 home_own q classes rule e size i hs h (Some (kind.Place z)) (shape_form.Alone j) found act fit at =
     let w = where_is (is_home classes z (symbol rule.right j)) (undivided (PlaceHome z j)) e found in
     let same = act_home z size j i (act_of (undivided (PlaceHome z j)) e w.1 ∙ act) in
     let p = home_hole classes rule.right hs fit z j w.0 in
-    let h_is = some_same p.attribute h (sym p.at ∙ (ap (hole hs) same ∙ at)) in
+    let h_is = same_Some p.attribute h (sym p.at ∙ (ap (hole hs) same ∙ at)) in
     subst (λ x. own_operand toy x ≡ Some (shaped q (shape_form.Alone j) hs)) h_is (p.own ∙ ap Some (sym (alone_is classes rule.right hs fit q z j w.0)))
 home_own q classes rule e size i hs h (Some (kind.Place z)) (shape_form.Based j) found act fit at =
     absurd (other (PlaceAt z (Symbol j)) size i e (where_is _ (undivided (PlaceAt z (Symbol j))) e found).1 act tt)

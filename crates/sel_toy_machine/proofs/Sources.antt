@@ -1,6 +1,8 @@
 -- A symbol with a number is read as that number, in an instance of a rule.
 use Rattle.std.proofs.Common.{◌≡◌, ℕ, zero, suc, ◌-◌, ◌*◌, ◌%◌, ◌^◌, ◌<◌, ◌==◌, List, [], ◌∷◌, Option, Some, None, Bool, true, false, refl, sym, ap, ◌∙◌, subst, arith, slice_get}
-use Rattle.std.specs.Prelude.{IsSome, is_some, unwrap_or, ◌&&◌, cond}
+use Rattle.std.specs.Prelude.{IsSome, is_some, unwrap_or, cond}
+use Rattle.std.proofs.lemmas.Bool.{and_parts, eqb-true, false≢true}
+use Rattle.std.proofs.lemmas.Option.{none-some, same_Some}
 use Rattle.gg_base.specs.declared.size.Size.{Size}
 use Rattle.gg_base.specs.declared.size.Size.TheVariants.{Byte, Word as Halfword, Long}
 use Rattle.gg_base.specs.Sizes.{bytes_of}
@@ -30,27 +32,22 @@ use Rattle.sel_toy_machine.specs.Machine.{Machine, part}
 use Rattle.sel_toy_machine.specs.Forms.{is_sized}
 use Rattle.sel_toy_machine.specs.Filling.{nought, token_operand, source_of, some_source, source_at}
 use Rattle.sel_toy_machine.specs.Running.{taken}
-use Rattle.sel_toy_machine.proofs.Spelled.{equal_numbers, none_some, some_same, untrue}
 use Rattle.sel_toy_machine.proofs.Readings.{part_same}
 use Rattle.sel_toy_machine.specs.Toy.{toy}
 
-pub both : (a b : Bool) → (a && b) ≡ true → (a ≡ true) × (b ≡ true)
-both true b e = (refl, e)
-both false b e = absurd (untrue e)
-
 pub same_size : (a b : Size) → (bytes_of a == bytes_of b) ≡ true → a ≡ b
 same_size Byte Byte e = refl
-same_size Byte Halfword e = absurd (untrue e)
-same_size Byte Long e = absurd (untrue e)
-same_size Halfword Byte e = absurd (untrue e)
+same_size Byte Halfword e = absurd (false≢true e)
+same_size Byte Long e = absurd (false≢true e)
+same_size Halfword Byte e = absurd (false≢true e)
 same_size Halfword Halfword e = refl
-same_size Halfword Long e = absurd (untrue e)
-same_size Long Byte e = absurd (untrue e)
-same_size Long Halfword e = absurd (untrue e)
+same_size Halfword Long e = absurd (false≢true e)
+same_size Long Byte e = absurd (false≢true e)
+same_size Long Halfword e = absurd (false≢true e)
 same_size Long Long e = refl
 
 pub the : (o : Option ℕ) → IsSome o → (x : ℕ) × (o ≡ Some x)
-the None h = absurd (untrue h)
+the None h = absurd (false≢true h)
 the (Some x) h = (x, refl)
 
 pub low_long : (size : Size) (x : ℕ) → x < 2 ^ (8 * bytes_of size) → x % 2 ^ 32 ≡ x
@@ -65,7 +62,7 @@ symbol_value v i x size e lt = ap (λ o. unwrap_or o 0 % 2 ^ 32) e ∙ low_long 
 pub size_suc : (classes : List Class) (right : List Sym) (j : ℕ) → size_at classes right (suc j) ≡ size_of_some classes (slice_get right j)
 size_suc classes right j = by (suc j == 0) refl where
   by : (b : Bool) → (suc j == 0) ≡ b → size_at classes right (suc j) ≡ size_of_some classes (slice_get right j)
-  by true e = absurd (let h = equal_numbers (suc j) 0 e in omega (arith, h))
+  by true e = absurd (let h = eqb-true (suc j) 0 e in omega (arith, h))
   by false e =
       ap (λ b. cond b Long (size_of_some classes (slice_get right (suc j - 1)))) e ∙ ap (λ k. size_of_some classes (slice_get right k)) (let back : suc j - 1 ≡ j = omega arith in back)
 
@@ -78,7 +75,7 @@ pub record Filled (classes : List Class) (right : List Sym) (hs : List (Attr Ope
   pub fits : SymFits toy classes symbol attribute
 
 pub filled_at : (classes : List Class) (right : List Sym) (hs : List (Attr Operand)) (j : ℕ) → Fit toy classes right hs → is_some (slice_get right j) ≡ true → Filled classes right hs j
-filled_at classes [] hs j fit e = absurd (untrue e)
+filled_at classes [] hs j fit e = absurd (false≢true e)
 filled_at classes (s ∷ right) [] j fit e = absurd fit
 filled_at classes (s ∷ right) (h ∷ hs) zero fit e = record { symbol = s; attribute = h; there = refl; at = refl; fits = fit.0 }
 filled_at classes (s ∷ right) (h ∷ hs) (suc j) fit e =
@@ -102,18 +99,18 @@ number_taken : (size : Size) (n x : ℕ) → n ≡ x → x < 2 ^ (8 * bytes_of s
 number_taken size n x e lt = ap Some (ap (part size) e ∙ part_same size x lt)
 
 slot_taken : (o : Option Operand) (x : ℕ) (m : Machine) → read_of toy o Long m ≡ Some x → toy.reads (unwrap_or o nought) Long m ≡ Some x
-slot_taken None x m e = absurd (none_some x e)
+slot_taken None x m e = absurd (none-some x e)
 slot_taken (Some o) x m e = e
 
 token_taken : (q : TreeProgram) (y : Tok) (a : Att) (x : ℕ) (m : Machine) → Rattle.sel_target.specs.Values.token_worth toy q y a m ≡ Some x → x < 2 ^ 32 →
     toy.reads (token_operand q y a) Long m ≡ Some x
-token_taken q y att.Nothing x m e lt = absurd (none_some x e)
-token_taken q y (att.Number n) x m e lt = number_taken Long n x (some_same n x e) lt
+token_taken q y att.Nothing x m e lt = absurd (none-some x e)
+token_taken q y (att.Number n) x m e lt = number_taken Long n x (same_Some n x e) lt
 token_taken q y (att.Object object offset) x m e lt = number_taken Long (unwrap_or (address_of (slice_get q.objects object) offset) 0) x (ap (λ o. unwrap_or o 0) e) lt
 token_taken q y (att.Slot k) x m e lt = slot_taken (slot_place operand.Word operand.Argument y k) x m e
-token_taken q y (att.Branch rel label) x m e lt = absurd (none_some x e)
-token_taken q y (att.Label label) x m e lt = absurd (none_some x e)
-token_taken q y (att.Callee function count) x m e lt = absurd (none_some x e)
+token_taken q y (att.Branch rel label) x m e lt = absurd (none-some x e)
+token_taken q y (att.Label label) x m e lt = absurd (none-some x e)
+token_taken q y (att.Callee function count) x m e lt = absurd (none-some x e)
 
 -- an attribute's number is what an instruction takes of it
 attr_taken : (q : TreeProgram) (h : Attr Operand) (size : Size) (x : ℕ) (m : Machine) → ((l : Leaf) → h ≡ attr.Token l → size ≡ Long) →
@@ -122,12 +119,12 @@ attr_taken q (attr.Reg r) size x m long e lt = e
 attr_taken q (attr.InSlot w) size x m long e lt = e
 attr_taken q (attr.Value o) size x m long e lt = e
 attr_taken q (attr.Place o) size x m long e lt = e
-attr_taken q (attr.Con n) size x m long e lt = number_taken size n x (some_same n x e) lt
+attr_taken q (attr.Con n) size x m long e lt = number_taken size n x (same_Some n x e) lt
 attr_taken q (attr.Ea o) size x m long e lt = e
 attr_taken q (attr.Token l) size x m long e lt =
     let is = long l refl in
     subst (λ z. toy.reads (token_operand q l.tok l.att) z m ≡ Some x) (sym is) (token_taken q l.tok l.att x m e (subst (λ z. x < 2 ^ (8 * bytes_of z)) is lt))
-attr_taken q attr.Nothing size x m long e lt = absurd (none_some x e)
+attr_taken q attr.Nothing size x m long e lt = absurd (none-some x e)
 
 module _ (every : Bool) (q : TreeProgram) (f : Extent) (fs : List Extent) (classes : List Class) (rule : Rule) (e : EffectShape) (hs : List (Attr Operand)) (v : View) (m : Machine)
     (inst : Instance toy every q f fs classes rule e hs v m) where
@@ -142,9 +139,9 @@ module _ (every : Bool) (q : TreeProgram) (f : Extent) (fs : List Extent) (class
     pub sized : size_at classes rule.right i ≡ size
 
   pub numbered : (size : Size) (i : ℕ) → is_sized classes rule.right size i ≡ true → IsSome (v.symbol i) → Numbered size i
-  numbered size zero sized some = absurd (untrue sized)
+  numbered size zero sized some = absurd (false≢true sized)
   numbered size (suc j) sized some =
-      let b = both (is_some (slice_get rule.right j)) (bytes_of (size_at classes rule.right (suc j)) == bytes_of size) sized in
+      let b = and_parts (is_some (slice_get rule.right j)) (bytes_of (size_at classes rule.right (suc j)) == bytes_of size) sized in
       let z = same_size (size_at classes rule.right (suc j)) size b.1 in
       let n = the (v.symbol (suc j)) some in
       record {
@@ -159,7 +156,7 @@ module _ (every : Bool) (q : TreeProgram) (f : Extent) (fs : List Extent) (class
 
   -- a source is worth what its symbol is as a term
   pub source_taken : (size : Size) (i : ℕ) → is_sized classes rule.right size i ≡ true → IsSome (v.symbol i) → taken (source_at q hs i) size m ≡ Some (value v (Symbol i))
-  source_taken size zero sized some = absurd (untrue sized)
+  source_taken size zero sized some = absurd (false≢true sized)
   source_taken size (suc j) sized some =
       let n = numbered size (suc j) sized some in
       let back : n.index ≡ j = (let e = n.is_index in omega (arith, e)) in

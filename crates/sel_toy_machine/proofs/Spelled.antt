@@ -1,10 +1,12 @@
 -- What the toy machine's operands spell: they are told apart, and touch what they spell.
 use Rattle.std.proofs.Common.{◌≡◌, ℕ, zero, suc, ◌^◌, ◌<◌, ◌==◌, List, [], ◌∷◌, Option, Some, None, Bool, true, false, refl, sym, ap, ◌∙◌, subst, arith, slice_get}
-use Rattle.std.specs.Prelude.{◌↔◌, ◌||◌, nat_lt, cond, unwrap_or}
+use Rattle.std.specs.Prelude.{◌↔◌, ◌||◌, cond, unwrap_or}
 use Rattle.std.specs.List.{list_any}
 use Rattle.std.specs.Int.{bit_at}
 use Rattle.std.proofs.lemmas.Bool.Decides.{nat_tests}
 use Rattle.std.proofs.lemmas.Nat.Bits.{bit_at-zero, bit_at-pow_same}
+use Rattle.std.proofs.lemmas.Bool.{eqb-true, lt-ltb, false≢true}
+use Rattle.std.proofs.lemmas.Option.{none-some, same_Some}
 use Rattle.tree_core.specs.declared.token.Tok.{Tok}
 use Rattle.tree_core.specs.declared.tree.Att.{Att}
 use Rattle.tree_core.specs.declared.tree.Att.TheVariants as att
@@ -25,61 +27,46 @@ use Rattle.sel_toy_machine.specs.Forms.{shape_of}
 use Rattle.sel_toy_machine.specs.Filling.{nought, token_operand, operand_of, some_operand, operand_at, based, shaped, operand_filled}
 use Rattle.sel_toy_machine.specs.Toy.{toy}
 
-pub equal_numbers : (n k : ℕ) → (n == k) ≡ true → n ≡ k
-equal_numbers n k e = grind (arith, nat_tests)
-
 pub same_number : (n : ℕ) → (n == n) ≡ true
 same_number n = grind (arith, nat_tests)
 
-pub is_below : (n k : ℕ) → n < k → nat_lt n k ≡ true
-is_below n k lt = grind (arith, nat_tests)
-
-pub none_some : {X : Type 0} (x : X) → None ≡ Some x → ⊥
-none_some x e = cc
-
-pub some_same : {X : Type 0} (x y : X) → Some x ≡ Some y → x ≡ y
-some_same x y e = cc
-
-pub untrue : false ≡ true → ⊥
-untrue e = cc
-
 alike : (a b : Operand) → same a b ≡ true → a ≡ b
-alike (Register i) (Register j) e = ap Register (equal_numbers i j e)
-alike (Register i) (Based j) e = absurd (untrue e)
-alike (Register i) (Word j) e = absurd (untrue e)
-alike (Register i) (Deferred j) e = absurd (untrue e)
-alike (Register i) (Argument j) e = absurd (untrue e)
-alike (Register i) (Number j) e = absurd (untrue e)
-alike (Based i) (Register j) e = absurd (untrue e)
-alike (Based i) (Based j) e = ap Based (equal_numbers i j e)
-alike (Based i) (Word j) e = absurd (untrue e)
-alike (Based i) (Deferred j) e = absurd (untrue e)
-alike (Based i) (Argument j) e = absurd (untrue e)
-alike (Based i) (Number j) e = absurd (untrue e)
-alike (Word i) (Register j) e = absurd (untrue e)
-alike (Word i) (Based j) e = absurd (untrue e)
-alike (Word i) (Word j) e = ap Word (equal_numbers i j e)
-alike (Word i) (Deferred j) e = absurd (untrue e)
-alike (Word i) (Argument j) e = absurd (untrue e)
-alike (Word i) (Number j) e = absurd (untrue e)
-alike (Deferred i) (Register j) e = absurd (untrue e)
-alike (Deferred i) (Based j) e = absurd (untrue e)
-alike (Deferred i) (Word j) e = absurd (untrue e)
-alike (Deferred i) (Deferred j) e = ap Deferred (equal_numbers i j e)
-alike (Deferred i) (Argument j) e = absurd (untrue e)
-alike (Deferred i) (Number j) e = absurd (untrue e)
-alike (Argument i) (Register j) e = absurd (untrue e)
-alike (Argument i) (Based j) e = absurd (untrue e)
-alike (Argument i) (Word j) e = absurd (untrue e)
-alike (Argument i) (Deferred j) e = absurd (untrue e)
-alike (Argument i) (Argument j) e = ap Argument (equal_numbers i j e)
-alike (Argument i) (Number j) e = absurd (untrue e)
-alike (Number i) (Register j) e = absurd (untrue e)
-alike (Number i) (Based j) e = absurd (untrue e)
-alike (Number i) (Word j) e = absurd (untrue e)
-alike (Number i) (Deferred j) e = absurd (untrue e)
-alike (Number i) (Argument j) e = absurd (untrue e)
-alike (Number i) (Number j) e = ap Number (equal_numbers i j e)
+alike (Register i) (Register j) e = ap Register (eqb-true i j e)
+alike (Register i) (Based j) e = absurd (false≢true e)
+alike (Register i) (Word j) e = absurd (false≢true e)
+alike (Register i) (Deferred j) e = absurd (false≢true e)
+alike (Register i) (Argument j) e = absurd (false≢true e)
+alike (Register i) (Number j) e = absurd (false≢true e)
+alike (Based i) (Register j) e = absurd (false≢true e)
+alike (Based i) (Based j) e = ap Based (eqb-true i j e)
+alike (Based i) (Word j) e = absurd (false≢true e)
+alike (Based i) (Deferred j) e = absurd (false≢true e)
+alike (Based i) (Argument j) e = absurd (false≢true e)
+alike (Based i) (Number j) e = absurd (false≢true e)
+alike (Word i) (Register j) e = absurd (false≢true e)
+alike (Word i) (Based j) e = absurd (false≢true e)
+alike (Word i) (Word j) e = ap Word (eqb-true i j e)
+alike (Word i) (Deferred j) e = absurd (false≢true e)
+alike (Word i) (Argument j) e = absurd (false≢true e)
+alike (Word i) (Number j) e = absurd (false≢true e)
+alike (Deferred i) (Register j) e = absurd (false≢true e)
+alike (Deferred i) (Based j) e = absurd (false≢true e)
+alike (Deferred i) (Word j) e = absurd (false≢true e)
+alike (Deferred i) (Deferred j) e = ap Deferred (eqb-true i j e)
+alike (Deferred i) (Argument j) e = absurd (false≢true e)
+alike (Deferred i) (Number j) e = absurd (false≢true e)
+alike (Argument i) (Register j) e = absurd (false≢true e)
+alike (Argument i) (Based j) e = absurd (false≢true e)
+alike (Argument i) (Word j) e = absurd (false≢true e)
+alike (Argument i) (Deferred j) e = absurd (false≢true e)
+alike (Argument i) (Argument j) e = ap Argument (eqb-true i j e)
+alike (Argument i) (Number j) e = absurd (false≢true e)
+alike (Number i) (Register j) e = absurd (false≢true e)
+alike (Number i) (Based j) e = absurd (false≢true e)
+alike (Number i) (Word j) e = absurd (false≢true e)
+alike (Number i) (Deferred j) e = absurd (false≢true e)
+alike (Number i) (Argument j) e = absurd (false≢true e)
+alike (Number i) (Number j) e = ap Number (eqb-true i j e)
 
 itself : (a : Operand) → same a a ≡ true
 itself (Register i) = same_number i
@@ -93,7 +80,7 @@ pub same_is : (a b : Operand) → (same a b ≡ true) ↔ (a ≡ b)
 same_is a b = (alike a b, λ e. subst (λ o. same a o ≡ true) e (itself a))
 
 pub own_bit : (r : ℕ) → r < 12 → bit_of r ≡ 2 ^ r
-own_bit r lt = ap (λ b. cond b (2 ^ r) 0) (is_below r 12 lt)
+own_bit r lt = ap (λ b. cond b (2 ^ r) 0) (lt-ltb r 12 lt)
 
 -- an operand that spells a register below 12 touches it
 pub own_register : (r : ℕ) → r < 12 → (bit_at (bit_of r) r == 1) ≡ true
@@ -104,12 +91,12 @@ no_bit r = ap (λ n. n == 1) (bit_at-zero r)
 
 -- a number touches nothing
 nothing : (s : Spot) → touches toy nought s ≡ true → ⊥
-nothing (RegAt r) e = untrue (sym (no_bit r) ∙ e)
-nothing (WordAt w) e = untrue e
+nothing (RegAt r) e = false≢true (sym (no_bit r) ∙ e)
+nothing (WordAt w) e = false≢true e
 
 number_nothing : (n : ℕ) (s : Spot) → touches toy (Number n) s ≡ true → ⊥
-number_nothing n (RegAt r) e = untrue (sym (no_bit r) ∙ e)
-number_nothing n (WordAt w) e = untrue e
+number_nothing n (RegAt r) e = false≢true (sym (no_bit r) ∙ e)
+number_nothing n (WordAt w) e = false≢true e
 
 slot_touches : (o : Option Operand) (s : Spot) → touches toy (unwrap_or o nought) s ≡ true → some_touches toy o s ≡ true
 slot_touches None s e = absurd (nothing s e)
@@ -145,19 +132,19 @@ any_behind p x xs e = by (p x) where
   by false = e
 
 any_at : {X : Type 0} (p : X → Bool) (xs : List X) (i : ℕ) (x : X) → slice_get xs i ≡ Some x → p x ≡ true → list_any p xs ≡ true
-any_at p [] i x at e = absurd (none_some x at)
-any_at p (y ∷ ys) zero x at e = any_here p y ys (subst (λ z. p z ≡ true) (sym (some_same y x at)) e)
+any_at p [] i x at e = absurd (none-some x at)
+any_at p (y ∷ ys) zero x at e = any_here p y ys (subst (λ z. p z ≡ true) (sym (same_Some y x at)) e)
 any_at p (y ∷ ys) (suc i) x at e = any_behind p y ys (any_at p ys i x at e)
 
 hole_touches : (q : TreeProgram) (hs : List (Attr Operand)) (i : ℕ) (s : Spot) (o : Option (Attr Operand)) → hole hs i ≡ o →
     touches toy (some_operand q o) s ≡ true → list_any (λ h. attr_touches toy h s) hs ≡ true
 hole_touches q hs i s None at e = absurd (nothing s e)
-hole_touches q hs zero s (Some h) at e = absurd (none_some h at)
+hole_touches q hs zero s (Some h) at e = absurd (none-some h at)
 hole_touches q hs (suc i) s (Some h) at e = any_at (λ g. attr_touches toy g s) hs i h at (of_touches q h s e)
 
 based_touches : (o : Operand) (s : Spot) → touches toy (based o) s ≡ true → touches toy o s ≡ true
 based_touches (Register r) (RegAt k) e = e
-based_touches (Register r) (WordAt w) e = absurd (untrue e)
+based_touches (Register r) (WordAt w) e = absurd (false≢true e)
 based_touches (Based r) s e = absurd (nothing s e)
 based_touches (Word w) s e = absurd (nothing s e)
 based_touches (Deferred w) s e = absurd (nothing s e)
@@ -178,24 +165,24 @@ slot_is : (o : Option Operand) (p : Operand) → o ≡ Some p → unwrap_or o no
 slot_is o p e = ap (λ w. unwrap_or w nought) e
 
 token_is : (q : TreeProgram) (x : Tok) (a : Att) (p : Operand) → Rattle.sel_target.specs.Values.token_operand toy x a ≡ Some p → token_operand q x a ≡ p
-token_is q x att.Nothing p e = absurd (none_some p e)
-token_is q x (att.Number n) p e = absurd (none_some p e)
-token_is q x (att.Object object offset) p e = absurd (none_some p e)
+token_is q x att.Nothing p e = absurd (none-some p e)
+token_is q x (att.Number n) p e = absurd (none-some p e)
+token_is q x (att.Object object offset) p e = absurd (none-some p e)
 token_is q x (att.Slot k) p e = slot_is (slot_place Word Argument x k) p e
-token_is q x (att.Branch rel label) p e = absurd (none_some p e)
-token_is q x (att.Label label) p e = absurd (none_some p e)
-token_is q x (att.Callee function count) p e = absurd (none_some p e)
+token_is q x (att.Branch rel label) p e = absurd (none-some p e)
+token_is q x (att.Label label) p e = absurd (none-some p e)
+token_is q x (att.Callee function count) p e = absurd (none-some p e)
 
 -- a symbol that is a place has its own operand
 pub own_is : (q : TreeProgram) (h : Attr Operand) (p : Operand) → own_operand toy h ≡ Some p → operand_of q h ≡ p
-own_is q (attr.Reg r) p e = absurd (none_some p e)
-own_is q (attr.InSlot w) p e = absurd (none_some p e)
-own_is q (attr.Value o) p e = absurd (none_some p e)
-own_is q (attr.Place o) p e = some_same o p e
-own_is q (attr.Con n) p e = absurd (none_some p e)
-own_is q (attr.Ea o) p e = absurd (none_some p e)
+own_is q (attr.Reg r) p e = absurd (none-some p e)
+own_is q (attr.InSlot w) p e = absurd (none-some p e)
+own_is q (attr.Value o) p e = absurd (none-some p e)
+own_is q (attr.Place o) p e = same_Some o p e
+own_is q (attr.Con n) p e = absurd (none-some p e)
+own_is q (attr.Ea o) p e = absurd (none-some p e)
 own_is q (attr.Token l) p e = token_is q l.tok l.att p e
-own_is q attr.Nothing p e = absurd (none_some p e)
+own_is q attr.Nothing p e = absurd (none-some p e)
 
 pub alone : (q : TreeProgram) (l : Line) (i : ℕ) (hs : List (Attr Operand)) (h : Attr Operand) (o : Operand) →
     l.pieces ≡ piece.Hole i ∷ [] → hole hs i ≡ Some h → own_operand toy h ≡ Some o → operand_filled q l hs ≡ o

@@ -5,6 +5,8 @@ use Rattle.std.specs.Prelude.{IsSome, ◌&&◌, cond, slice_set}
 use Rattle.std.specs.Option.{option_map}
 use Rattle.std.specs.List.{AllByRecursion}
 use Rattle.std.specs.Int.{w16, w32, to_le_bytes}
+use Rattle.std.proofs.lemmas.Bool.{and_parts, eqb-true, false≢true}
+use Rattle.std.proofs.lemmas.Option.{none-some, same_Some}
 use Rattle.gg_base.specs.declared.relation.Rel.{Rel}
 use Rattle.gg_base.specs.declared.size.Size.{Size}
 use Rattle.gg_base.specs.declared.size.Size.TheVariants.{Byte, Word as Halfword, Long}
@@ -53,10 +55,10 @@ use Rattle.sel_toy_machine.specs.Filling.{source_at, operand_at, some_operand, b
 use Rattle.sel_toy_machine.specs.Running.{taken, read_then, put_area, put_place, taken_in, run, step}
 use Rattle.sel_toy_machine.specs.Running as running
 use Rattle.sel_toy_machine.specs.Toy.{toy}
-use Rattle.sel_toy_machine.proofs.Spelled.{equal_numbers, none_some, some_same, untrue, own_is}
+use Rattle.sel_toy_machine.proofs.Spelled.{own_is}
 use Rattle.sel_target.proofs.AreaBytes.{Bytes, outside_0}
 use Rattle.sel_toy_machine.proofs.Readings.{part_same}
-use Rattle.sel_toy_machine.proofs.Sources.{both, source_taken}
+use Rattle.sel_toy_machine.proofs.Sources.{source_taken}
 use Rattle.sel_toy_machine.proofs.Taken.{Taken, by_line, by_shape, where_is, taken_by}
 use Rattle.sel_toy_machine.proofs.Results.{value_small}
 use Rattle.sel_toy_machine.proofs.Shaped.{register_hole, register_holds, register_sized}
@@ -149,9 +151,9 @@ module _ (q : TreeProgram) (f : Extent) (fs : List Extent) (t : State) (m : Mach
   } where
     by : (j n : ℕ) (b : Bool) → (j == k) ≡ b → cond (j == k) (Some x) (t.running.locals j) ≡ Some n → (j < f.locals) × (long (cond (j == k) x (in_word m j)) ≡ n)
     by j n true e g =
-        let is = equal_numbers j k e in (
+        let is = eqb-true j k e in (
           subst (λ y. y < f.locals) (sym is) lt,
-          ap (λ b. long (cond b x (in_word m j))) e ∙ part_same Long x small ∙ some_same x n (sym (ap (λ b. cond b (Some x)
+          ap (λ b. long (cond b x (in_word m j))) e ∙ part_same Long x small ∙ same_Some x n (sym (ap (λ b. cond b (Some x)
               (t.running.locals j)) e) ∙ g),
         )
     by j n false e g =
@@ -299,23 +301,23 @@ module _ (q : TreeProgram) (f : Extent) (fs : List Extent) (classes : List Class
   -- an operand that names address 0 is no place of the area: nothing is said
   put_nowhere : (size : Size) (a x : ℕ) (c : Course Instr Machine) → Some 0 ≡ Some a → IsStep toy q f fs v.state m c (deed_step q v.state (Puts (meaning.Memory size a) x))
   put_nowhere size a x c e =
-      subst (λ n. IsStep toy q f fs v.state m c (deed_step q v.state (Puts (meaning.Memory size n) x))) (some_same 0 a e)
+      subst (λ n. IsStep toy q f fs v.state m c (deed_step q v.state (Puts (meaning.Memory size n) x))) (same_Some 0 a e)
       (subst (λ o. IsStep toy q f fs v.state m c (put_in v.state o)) (sym (nowhere size x)) tt)
 
   put_named : (size : Size) (o : Operand) (a x : ℕ) → Stands q f fs v.state m → names o size m ≡ Some a →
       IsStep toy q f fs v.state m (followed (put_place size o x m) [] (run [])) (deed_step q v.state (Puts (meaning.Memory size a) x))
-  put_named size (operand.Register r) a x h e = absurd (none_some a e)
+  put_named size (operand.Register r) a x h e = absurd (none-some a e)
   put_named size (operand.Based r) a x h e =
       subst (λ n. IsStep toy q f fs v.state m (followed (put_place size (operand.Based r) x m) [] (run [])) (deed_step q v.state (Puts (meaning.Memory size n) x)))
-      (some_same (long (in_register m r)) a e)
+      (same_Some (long (in_register m r)) a e)
       (put_memory size (long (in_register m r)) x h)
   put_named size (operand.Word w) a x h e = put_nowhere size a x _ e
   put_named size (operand.Deferred w) a x h e =
       subst (λ n. IsStep toy q f fs v.state m (followed (put_place size (operand.Deferred w) x m) [] (run [])) (deed_step q v.state (Puts (meaning.Memory size n) x)))
-      (some_same (long (in_word m w)) a e)
+      (same_Some (long (in_word m w)) a e)
       (put_memory size (long (in_word m w)) x h)
   put_named size (operand.Argument k) a x h e = put_nowhere size a x _ e
-  put_named size (operand.Number n) a x h e = absurd (none_some a e)
+  put_named size (operand.Number n) a x h e = absurd (none-some a e)
 
   put_is : (size : Size) (o : Operand) (g : Place) (x : ℕ) → Stands q f fs v.state m → x < 2 ^ 32 → PlaceIs toy f v.state m size o g →
       IsStep toy q f fs v.state m (followed (put_place size o x m) [] (run [])) (deed_step q v.state (Puts g x))
@@ -440,14 +442,14 @@ module _ (q : TreeProgram) (f : Extent) (fs : List Extent) (classes : List Class
       length v.state.running.pushed ≡ count → Stands q f fs v.state m →
       IsStep toy q f fs v.state m (followed (running.service n m) [] (run [])) (served (without_pushed v.state count) n (take count v.state.running.pushed))
   serving n count true one_is ez eo fits size h =
-      let count_is : count ≡ 1 = sym (equal_numbers 1 count (sym (ap (λ b. takes (cond b (Some 1) (cond (n == 1) (Some 0) None)) count) ez) ∙ fits)) in
+      let count_is : count ≡ 1 = sym (eqb-true 1 count (sym (ap (λ b. takes (cond b (Some 1) (cond (n == 1) (Some 0) None)) count) ez) ∙ fits)) in
       subst (λ b. IsStep toy q f fs v.state m (followed (cond b (running.written m.pushed m) (cond (n == 1) (taken_in m.input m) (ends Breaks))) [] (run []))
       (cond b (wrote (without_pushed v.state count) (slice_get (take count v.state.running.pushed) 0)) (cond (n == 1) (got (without_pushed v.state count) v.state.input) strays))) (sym ez)
       (subst (λ ps. IsStep toy q f fs v.state m (followed (running.written ps m) [] (run []))
       (wrote (without_pushed v.state count) (slice_get (take count v.state.running.pushed) 0))) (sym h.pushed)
       (byte_written v.state.running.pushed count refl count_is size h))
   serving n count false true ez eo fits size h =
-      let count_is : count ≡ 0 = sym (equal_numbers 0 count (sym (ap (λ b. takes (cond b (Some 1)
+      let count_is : count ≡ 0 = sym (eqb-true 0 count (sym (ap (λ b. takes (cond b (Some 1)
       (cond (n == 1) (Some 0) None)) count) ez ∙ ap (λ b. takes (cond b (Some 0) None) count) eo) ∙ fits)) in
       subst (λ b. IsStep toy q f fs v.state m (followed (cond b (running.written m.pushed m) (cond (n == 1) (taken_in m.input m) (ends Breaks))) [] (run []))
       (cond b (wrote (without_pushed v.state count) (slice_get (take count v.state.running.pushed) 0)) (cond (n == 1) (got (without_pushed v.state count) v.state.input) strays))) (sym ez)
@@ -455,7 +457,7 @@ module _ (q : TreeProgram) (f : Extent) (fs : List Extent) (classes : List Class
       (subst (λ bs. IsStep toy q f fs v.state m (followed (taken_in bs m) [] (run [])) (got (without_pushed v.state count) v.state.input)) (sym h.input)
       (byte_taken v.state.input count refl count_is h)))
   serving n count false false ez eo fits size h =
-      absurd (untrue (sym (ap (λ b. takes (cond b (Some 1) (cond (n == 1) (Some 0) None)) count) ez ∙ ap (λ b. takes (cond b (Some 0) None) count) eo) ∙ fits))
+      absurd (false≢true (sym (ap (λ b. takes (cond b (Some 1) (cond (n == 1) (Some 0) None)) count) ez ∙ ap (λ b. takes (cond b (Some 0) None) count) eo) ∙ fits))
 
   calling : (function count : ℕ) (o : Option TreeFn) → slice_get q.functions function ≡ o → takes (args_of q.functions function) count ≡ true →
       length v.state.running.pushed ≡ count → Stands q f fs v.state m →
@@ -478,13 +480,13 @@ module _ (q : TreeProgram) (f : Extent) (fs : List Extent) (classes : List Class
       (calling function count (slice_get q.functions function) refl fits size h)))
 
   given_tests : (a b : Bool) → (gives_nothing rule.give && (a && b)) ≡ true → (a ≡ true) × (b ≡ true)
-  given_tests a b e = both a b (both (gives_nothing rule.give) (a && b) e).1
+  given_tests a b e = and_parts a b (and_parts (gives_nothing rule.give) (a && b) e).1
 
   abbrev Goal : Form → Deed → Type 0
   Goal g d = Did (filled q (Some g) hs res ∷ []) d
 
   one_is : (i : ℕ) → (gives_nothing rule.give && (i == 1)) ≡ true → i ≡ 1
-  one_is i e = equal_numbers i 1 (both (gives_nothing rule.give) (i == 1) e).1
+  one_is i e = eqb-true i 1 (and_parts (gives_nothing rule.give) (i == 1) e).1
 
   -- by the act of a form, for each deed
 
@@ -517,7 +519,7 @@ module _ (q : TreeProgram) (f : Extent) (fs : List Extent) (classes : List Class
   by_push : (i : ℕ) (d : Deed) → R (undivided (Push (Symbol i))) → (gives_nothing rule.give && is_sized classes rule.right Long i) ≡ true → Act (Push (Symbol i)) d → Goal (form.Push i) d
   by_push i (Puts g n) ready w did = absurd did
   by_push i (Branches rel label x y) ready w did = absurd did
-  by_push i (Pushes n) ready w did = push_did i n ready (both (gives_nothing rule.give) _ w).1 did
+  by_push i (Pushes n) ready w did = push_did i n ready (and_parts (gives_nothing rule.give) _ w).1 did
   by_push i (Leaves n) ready w did = absurd did
   by_push i (CallDeed function count) ready w did = absurd did
   by_push i (Saves slot) ready w did = absurd did
@@ -569,7 +571,7 @@ module _ (q : TreeProgram) (f : Extent) (fs : List Extent) (classes : List Class
   by_return i (Puts g n) ready w did = absurd did
   by_return i (Branches rel label x y) ready w did = absurd did
   by_return i (Pushes n) ready w did = absurd did
-  by_return i (Leaves n) ready w did = returned_did i n ready (both (gives_nothing rule.give) _ w).1 did
+  by_return i (Leaves n) ready w did = returned_did i n ready (and_parts (gives_nothing rule.give) _ w).1 did
   by_return i (CallDeed function count) ready w did = absurd did
   by_return i (Saves slot) ready w did = absurd did
   by_return i (Jumps label) ready w did = absurd did
@@ -583,7 +585,7 @@ module _ (q : TreeProgram) (f : Extent) (fs : List Extent) (classes : List Class
   by_save i (Leaves n) ready w did = absurd did
   by_save i (CallDeed function count) ready w did = absurd did
   by_save i (Saves slot) ready w did =
-      subst (λ o. Did (saved o ∷ []) (Saves slot)) (sym did.0) (save_did slot (undivided (Save i)) ready (both (gives_nothing rule.give) _ w).1 did.1)
+      subst (λ o. Did (saved o ∷ []) (Saves slot)) (sym did.0) (save_did slot (undivided (Save i)) ready (and_parts (gives_nothing rule.give) _ w).1 did.1)
   by_save i (Jumps label) ready w did = absurd did
   by_save i Traps ready w did = absurd did
   by_save i Strays ready w did = absurd did
@@ -605,7 +607,7 @@ module _ (q : TreeProgram) (f : Extent) (fs : List Extent) (classes : List Class
       absurd (value_did (Binary binary_op.Add (Symbol i) (Symbol j)) d (subst (λ (x : EffectShape). Act x.act d) (sym (where_is _ (sum i j) e found).1) did))
   form_did (form.Divide i j) e d found ready did =
       absurd (value_did (Binary binary_op.Div (Symbol i) (Symbol j)) d (subst (λ (x : EffectShape). Act x.act d) (sym (where_is _ (quotient i j) e found).1) did))
-  form_did (form.Address i) e d found ready did = absurd (none_some e found)
+  form_did (form.Address i) e d found ready did = absurd (none-some e found)
   form_did (form.Store size i j) e d found ready did =
       let w = where_is _ (undivided (StoreHome size i (Symbol j))) e found in
       by_store size i j d (subst R (sym w.1) ready) w.0 (subst (λ (x : EffectShape). Act x.act d) (sym w.1) did)
@@ -696,20 +698,20 @@ module _ (q : TreeProgram) (f : Extent) (fs : List Extent) (classes : List Class
   no_deed Jump d h did = h
 
   shape_did : (k : Option Kind) (g : ShapeForm) (e : EffectShape) (d : Deed) → found_shape classes rule.right k g ≡ Some e → Act e.act d → ⊥
-  shape_did None (shape_form.Alone i) e d found did = none_some e found
-  shape_did None (shape_form.Based i) e d found did = none_some e found
+  shape_did None (shape_form.Alone i) e d found did = none-some e found
+  shape_did None (shape_form.Based i) e d found did = none-some e found
   shape_did (Some kind.Reg) (shape_form.Alone i) e d found did =
       no_deed (Value (Symbol i)) d tt (subst (λ (x : EffectShape). Act x.act d) (sym (where_is _ (undivided (Value (Symbol i))) e found).1) did)
-  shape_did (Some kind.Reg) (shape_form.Based i) e d found did = none_some e found
+  shape_did (Some kind.Reg) (shape_form.Based i) e d found did = none-some e found
   shape_did (Some kind.Con) (shape_form.Alone i) e d found did =
       no_deed (Number (Symbol i)) d tt (subst (λ (x : EffectShape). Act x.act d) (sym (where_is _ (undivided (Number (Symbol i))) e found).1) did)
-  shape_did (Some kind.Con) (shape_form.Based i) e d found did = none_some e found
-  shape_did (Some kind.Ea) (shape_form.Alone i) e d found did = none_some e found
+  shape_did (Some kind.Con) (shape_form.Based i) e d found did = none-some e found
+  shape_did (Some kind.Ea) (shape_form.Alone i) e d found did = none-some e found
   shape_did (Some kind.Ea) (shape_form.Based i) e d found did =
       no_deed (Address (Symbol i)) d tt (subst (λ (x : EffectShape). Act x.act d) (sym (where_is _ (undivided (Address (Symbol i))) e found).1) did)
-  shape_did (Some kind.Nothing) (shape_form.Alone i) e d found did = none_some e found
-  shape_did (Some kind.Nothing) (shape_form.Based i) e d found did = none_some e found
-  shape_did (Some (kind.Value size)) (shape_form.Alone i) e d found did = none_some e found
+  shape_did (Some kind.Nothing) (shape_form.Alone i) e d found did = none-some e found
+  shape_did (Some kind.Nothing) (shape_form.Based i) e d found did = none-some e found
+  shape_did (Some (kind.Value size)) (shape_form.Alone i) e d found did = none-some e found
   shape_did (Some (kind.Value size)) (shape_form.Based i) e d found did =
       no_deed (Value (Memory size (Symbol i))) d tt (subst (λ (x : EffectShape). Act x.act d) (sym (where_is _ (undivided (Value (Memory size (Symbol i)))) e found).1) did)
   shape_did (Some (kind.Place size)) (shape_form.Alone i) e d found did =

@@ -1,6 +1,8 @@
 -- What a rule looks like that the toy machine takes.
 use Rattle.std.proofs.Common.{◌≡◌, ℕ, List, [], ◌∷◌, Option, Some, None, Bool, true, false, refl, sym, ap, ◌∙◌}
 use Rattle.std.specs.Prelude.{Result, Ok, Err}
+use Rattle.std.proofs.lemmas.Option.{none-some, same_Some}
+use Rattle.std.proofs.lemmas.Bool.{false≢true}
 use Rattle.md_reader_pieces.specs.declared.piece.Line.{Line}
 use Rattle.md_reader.specs.declared.types.Class.{Class}
 use Rattle.md_reader.specs.declared.types.Give.{Give}
@@ -12,7 +14,6 @@ use Rattle.sel_target.specs.Meaning.{Fault}
 use Rattle.sel_toy_machine.specs.declared.form.Form.{Form}
 use Rattle.sel_toy_machine.specs.Forms.{form_of, shape_of}
 use Rattle.sel_toy_machine.specs.Templates.{or_fault, fault_at, where_true, gives_register, gives_nothing, found_form, found_line, found_shape, found_rule, effect}
-use Rattle.sel_toy_machine.proofs.Spelled.{none_some, some_same, untrue}
 
 -- one line, or a shape alone
 pub data Taken (classes : List Class) (rule : Rule) (e : EffectShape) : Type 0 where
@@ -30,12 +31,12 @@ or_ok line None e h = absurd (err_ok (fault_at line) e h)
 or_ok line (Some x) e h = ap Some (ok_same x e h)
 
 pub where_is : (b : Bool) (x e : EffectShape) → where_true b x ≡ Some e → (b ≡ true) × (x ≡ e)
-where_is true x e h = (refl, some_same x e h)
-where_is false x e h = absurd (none_some e h)
+where_is true x e h = (refl, same_Some x e h)
+where_is false x e h = absurd (none-some e h)
 
 line_taken : (classes : List Class) (rule : Rule) (e : EffectShape) (l : Line) (o : Option Form) → rule.lines ≡ l ∷ [] → form_of l.pieces ≡ o →
     found_line classes rule o ≡ Some e → Taken classes rule e
-line_taken classes rule e l None el ef h = absurd (none_some e h)
+line_taken classes rule e l None el ef h = absurd (none-some e h)
 line_taken classes rule e l (Some f) el ef h = by_line l f el ef h
 
 rule_taken : (classes : List Class) (rule : Rule) (e : EffectShape) (lines : List Line) (g : Give) → rule.lines ≡ lines → rule.give ≡ g →
@@ -67,7 +68,7 @@ taken_by classes rule e h = rule_taken classes rule e rule.lines rule.give refl 
 
 -- a line's form gives a register, and no shape
 pub shape_gives_none : (g : Give) (l : Line) → g ≡ give.Shape l → gives_register g ≡ true → ⊥
-shape_gives_none g l e h = untrue (sym (ap gives_register e) ∙ h)
+shape_gives_none g l e h = false≢true (sym (ap gives_register e) ∙ h)
 
 pub shape_gives_register : (g : Give) (l : Line) → g ≡ give.Shape l → gives_nothing g ≡ true → ⊥
-shape_gives_register g l e h = untrue (sym (ap gives_nothing e) ∙ h)
+shape_gives_register g l e h = false≢true (sym (ap gives_nothing e) ∙ h)

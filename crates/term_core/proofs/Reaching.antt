@@ -1,9 +1,9 @@
 -- The normal form is reached from a term by its equations.
-use Rattle.std.proofs.Common.{◌≡◌, ℕ, ◌-◌, ◌%◌, ◌^◌, ◌<◌, ◌==◌, ◌&&◌, Bool, true, false, List, sym, refl, subst, arith}
+use Rattle.std.proofs.Common.{◌≡◌, ℕ, ◌-◌, ◌%◌, ◌^◌, ◌==◌, ◌&&◌, Bool, true, false, List, sym, refl, subst}
 use Rattle.std.specs.Prelude.{nat_lt, ◌||◌, if◌then◌else◌}
-use Rattle.std.proofs.lemmas.Bool.Decides.{nat_tests}
 use Rattle.std.specs.declared.cmp.Ordering.{Ordering}
 use Rattle.std.specs.declared.cmp.Ordering.TheVariants.{Less, Equal, Greater}
+use Rattle.std.proofs.lemmas.Bool.{eqb-true, ltb-true}
 use Rattle.gg_base.specs.declared.size.Size.TheVariants.{Byte, Word}
 use Rattle.term_core.specs.declared.facts.Fact.{Fact}
 use Rattle.term_core.specs.Facts.{has_size}
@@ -20,12 +20,6 @@ use Rattle.term_core.specs.Equations.{Equation, is_commutative, constant, consta
 use Rattle.term_core.specs.Equations.{add_constants, zx8_of_zx8, zx8_of_sx8, zx16_of_zx16, zx16_of_sx16, sx8_of_sx8, sx8_of_zx8, sx16_of_sx16, sx16_of_zx16, zx8_of_byte}
 use Rattle.term_core.specs.Equations.{zx8_of_memory, zx16_of_word, zx16_of_memory, shift_by_constant, shift_by_zx8, shift_by_sx8, count_of_count, spelled_alike, Reaches, stays, by}
 use Rattle.term_core.specs.Equations.{chain, in_memory, in_unary, in_binary}
-
-equal_of : (c k : ℕ) → (c == k) ≡ true → c ≡ k
-equal_of c k h = grind (arith, nat_tests)
-
-below_of : (c k : ℕ) → nat_lt c k ≡ true → c < k
-below_of c k h = grind (arith, nat_tests)
 
 module _ (facts : List Fact) where
   -- a choice, each side of which is reached where it is taken
@@ -81,7 +75,7 @@ module _ (facts : List Fact) where
 
   -- where a constant is the operator's neutral one
   neutral : (op : BinaryOp) (k c : ℕ) (t : Shape) → Equation facts (Binary op (Constant k) t) t → (c == k) ≡ true → Reaches facts (Binary op (Constant c) t) t
-  neutral op k c t e h = subst (λ n. Reaches facts (Binary op (Constant n) t) t) (sym (equal_of c k h)) (by e)
+  neutral op k c t e h = subst (λ n. Reaches facts (Binary op (Constant n) t) t) (sym (eqb-true c k h)) (by e)
 
   add_constant_reached : (t : Shape) (c : ℕ) → Reaches facts (Binary Add (Constant c) t) (add_constant c t)
   add_constant_reached (Constant d) c = by (constants Add c d refl)
@@ -160,7 +154,7 @@ module _ (facts : List Fact) where
   xor_reached a b = in_order_reached Xor xor_ordered refl xor_ordered_reached (order a b) a b refl
 
   shift_reached : (k : ℕ) (t : Shape) → Reaches facts (Binary Ash (Constant k) t) (if nat_lt k 32 then make_mul (Constant (2 ^ k)) t else Binary Ash (Constant k) t)
-  shift_reached k t = chosen (nat_lt k 32) (λ h. chain (by (shift_by_constant k t (below_of k 32 h))) (mul_reached (Constant (2 ^ k)) t)) (λ h. stays (Binary Ash (Constant k) t))
+  shift_reached k t = chosen (nat_lt k 32) (λ h. chain (by (shift_by_constant k t (ltb-true k 32 h))) (mul_reached (Constant (2 ^ k)) t)) (λ h. stays (Binary Ash (Constant k) t))
 
   ash_reached : (c t : Shape) → Reaches facts (Binary Ash c t) (make_ash c t)
   ash_reached (Constant k) (Constant d) = by (constants Ash k d refl)

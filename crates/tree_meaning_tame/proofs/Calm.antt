@@ -69,9 +69,6 @@ or_second : (b c : Bool) → (b || c) ≡ false → c ≡ false
 or_second true c e = cc
 or_second false c e = e
 
-true_false : (b : Bool) → b ≡ true → b ≡ false → ⊥
-true_false b e f = cc
-
 -- no memory is read among leaves behind
 reads_behind : (f : Forest) (w : List Leaf) → ReadsNothing (leaves_onto f w) → ReadsNothing w
 reads_behind none w h = h

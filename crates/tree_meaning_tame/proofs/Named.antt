@@ -1,7 +1,7 @@
 -- What named leaves name is there.
-use Rattle.std.proofs.Common.{◌≡◌, ℕ, zero, suc, ◌-◌, ◌<◌, ◌≤◌, List, [], ◌∷◌, Option, Some, None, Bool, true, false, length, refl, slice_get, arith}
-use Rattle.std.specs.Prelude.{nat_lt, nat_le, ◌&&◌}
-use Rattle.std.proofs.lemmas.Bool.Decides.{nat_tests}
+use Rattle.std.proofs.Common.{◌≡◌, ℕ, zero, suc, ◌-◌, ◌<◌, List, [], ◌∷◌, Option, Some, None, true, length, refl, slice_get, arith}
+use Rattle.std.specs.Prelude.{nat_le}
+use Rattle.std.proofs.lemmas.Bool.{ltb-true, leb-true, and_parts}
 use Rattle.tree_core.specs.declared.token.Tok.{Tok}
 use Rattle.tree_core.specs.declared.token.Tok.TheVariants as tok
 use Rattle.tree_core.specs.declared.tree.Att.{Att}
@@ -16,16 +16,6 @@ use Rattle.tree_meaning.specs.Values.{Sight, there, address_of}
 use Rattle.tree_meaning_tame.specs.Tame.{IsThere, AllThere}
 use Rattle.tree_meaning_tame.specs.Sights.{Frames, AllNamed}
 use Rattle.tree_meaning_tame.specs.Claims.{NamedIsThere}
-
-lt_true : (a b : ℕ) → nat_lt a b ≡ true → a < b
-lt_true a b e = grind (arith, nat_tests)
-
-le_true : (a b : ℕ) → nat_le a b ≡ true → a ≤ b
-le_true a b e = grind (arith, nat_tests)
-
-both : (a b : Bool) → (a && b) ≡ true → (a ≡ true) × (b ≡ true)
-both true b e = (refl, e)
-both false b e = absurd (cc)
 
 some_at : {Y : Type 0} (ys : List Y) (i : ℕ) → i < length ys → slice_get ys i ≡ None → ⊥
 some_at [] i lt e = omega (arith, lt)
@@ -56,7 +46,7 @@ module _ (fs : List TreeFn) (objects : List Object) (f : TreeFn) (t : Sight) (fr
   leaf_there tok.Const (att.Callee g n) e h = absurd (cc)
   leaf_there tok.Gaddr att.Nothing e h = absurd (cc)
   leaf_there tok.Gaddr (att.Number n) e h = absurd (cc)
-  leaf_there tok.Gaddr (att.Object o n) e h = object_there (slice_get objects o) n (some_at objects o (lt_true o (length objects) h))
+  leaf_there tok.Gaddr (att.Object o n) e h = object_there (slice_get objects o) n (some_at objects o (ltb-true o (length objects) h))
   leaf_there tok.Gaddr (att.Slot n) e h = absurd (cc)
   leaf_there tok.Gaddr (att.Branch r n) e h = absurd (cc)
   leaf_there tok.Gaddr (att.Label n) e h = absurd (cc)
@@ -64,7 +54,7 @@ module _ (fs : List TreeFn) (objects : List Object) (f : TreeFn) (t : Sight) (fr
   leaf_there tok.Loc att.Nothing e h = absurd (cc)
   leaf_there tok.Loc (att.Number n) e h = absurd (cc)
   leaf_there tok.Loc (att.Object o n) e h = absurd (cc)
-  leaf_there tok.Loc (att.Slot n) e h = not_wild (t.locals n) (frame.locals n (lt_true n f.locals h))
+  leaf_there tok.Loc (att.Slot n) e h = not_wild (t.locals n) (frame.locals n (ltb-true n f.locals h))
   leaf_there tok.Loc (att.Branch r n) e h = absurd (cc)
   leaf_there tok.Loc (att.Label n) e h = absurd (cc)
   leaf_there tok.Loc (att.Callee g n) e h = absurd (cc)
@@ -72,7 +62,7 @@ module _ (fs : List TreeFn) (objects : List Object) (f : TreeFn) (t : Sight) (fr
   leaf_there tok.Arg (att.Number n) e h = absurd (cc)
   leaf_there tok.Arg (att.Object o n) e h = absurd (cc)
   leaf_there tok.Arg (att.Slot n) e h =
-      (let p = both (nat_le 1 n) (nat_le n 255) e in let a = le_true 1 n p.0 in let b = le_true n f.args h in let c = frame.arguments in not_wild (slice_get t.arguments (n - 1))
+      (let p = and_parts (nat_le 1 n) (nat_le n 255) e in let a = leb-true 1 n p.0 in let b = leb-true n f.args h in let c = frame.arguments in not_wild (slice_get t.arguments (n - 1))
       (some_at t.arguments (n - 1) (omega (arith, a, b, c))))
   leaf_there tok.Arg (att.Branch r n) e h = absurd (cc)
   leaf_there tok.Arg (att.Label n) e h = absurd (cc)

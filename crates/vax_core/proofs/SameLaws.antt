@@ -1,9 +1,9 @@
 -- Operands that are found the same are equal, and those that are equal are found the same.
-use Rattle.std.proofs.Common.{◌≡◌, ◌↔◌, ℕ, Bool, true, false, eqb, ◌&&◌, List, [], ◌∷◌, Option, Some, None, refl, sym, ap, subst, ◌∙◌}
+use Rattle.std.proofs.Common.{◌≡◌, ◌↔◌, ℕ, Bool, true, eqb, ◌&&◌, List, [], ◌∷◌, Option, Some, None, refl, sym, ap, subst, ◌∙◌}
 use Rattle.std.specs.Prelude.{IsTrue, slice_get}
 use Rattle.std.specs.Cmp.Lexicographic.{same_text}
 use Rattle.std.proofs.lemmas.Cmp.{nat_list_eq_equiv}
-use Rattle.std.proofs.lemmas.Bool.{eqb-true, eq-eqb}
+use Rattle.std.proofs.lemmas.Bool.{eqb-true, eq-eqb, and_parts}
 use Rattle.std.proofs.lemmas.Option.{same_Some}
 use Rattle.vax_core.specs.declared.register.Reg.{Reg}
 use Rattle.vax_core.specs.declared.register.Reg.TheVariants.{R0}
@@ -77,10 +77,6 @@ parts_again (bases.RelDef a) = refl
 
 -- tests
 
-both : (a b : Bool) → (a && b) ≡ true → (a ≡ true) × (b ≡ true)
-both true b e = (refl, e)
-both false b e = absurd (cc)
-
 pair : {a b : Bool} → a ≡ true → b ≡ true → (a && b) ≡ true
 pair e f = rw e f
 
@@ -106,9 +102,9 @@ register_same (Some r) = eq-eqb (reg_number r) (reg_number r) refl
 
 base_equal : (a b : Base) → same_base a b ≡ true → a ≡ b
 base_equal a b e =
-    let h = both _ _ e in
-    let h1 = both _ _ h.0 in
-    let h2 = both _ _ h1.0 in
+    let h = and_parts _ _ e in
+    let h1 = and_parts _ _ h.0 in
+    let h2 = and_parts _ _ h1.0 in
     let m = same_mode (mode_of a) (mode_of b) (eqb-true _ _ h2.0) in
     let r = register_equal (base_register a) (base_register b) h2.1 in
     let n = name_equal (name_in a) (name_in b) h1.1 in
@@ -125,7 +121,7 @@ base_same b =
 
 operand_equal : (o p : Operand) → same_operand o p ≡ true → o ≡ p
 operand_equal o p e =
-    let h = both _ _ e in
+    let h = and_parts _ _ e in
     ap (λ (b : Base). record { base = b; index = o.index }) (base_equal o.base p.base h.0)
     ∙ ap (λ (x : Option Reg). record { base = p.base; index = x }) (register_equal o.index p.index h.1)
 

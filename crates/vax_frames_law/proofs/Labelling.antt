@@ -1,15 +1,13 @@
 -- The first label of a name.
-use Rattle.std.proofs.Common.{◌≡◌, ℕ, ◌+◌, Bool, true, false, cond, List, ◌∷◌, ◌++◌, length, Option, Some, None, refl, sym, ap, ◌∙◌, arith, []}
+use Rattle.std.proofs.Common.{◌≡◌, ℕ, ◌+◌, Bool, true, false, cond, List, ◌∷◌, ◌++◌, length, Some, None, refl, sym, ap, ◌∙◌, arith, []}
 use Rattle.std.specs.Prelude.{◌||◌}
 use Rattle.std.specs.Str.{bytes_eq}
 use Rattle.std.proofs.lemmas.Bool.{true≢false}
 use Rattle.std.proofs.lemmas.Slice.Eq.{bytes_eq-Decides}
+use Rattle.gg_base.proofs.Facts.{some_none}
 use Rattle.vax_core.specs.declared.code.CodeItem.{CodeItem}
 use Rattle.vax_core.specs.declared.code.CodeItem.TheVariants as item_kind
 use Rattle.vax_machine.specs.Labels.{is_service, is_label, has_label, label_place, double_label}
-
-no_some : {A : Type 0} (a : A) → ◌≡◌ {A = Option A} (Some a) None → ⊥
-no_some a e = cc
 
 has_there : (pre post : List CodeItem) (n : List ℕ) → has_label (pre ++ item_kind.Label n ∷ post) n ≡ true
 has_there [] post n = ap (λ (b : Bool). b || has_label post n) ((bytes_eq-Decides n n).1 refl)
@@ -34,8 +32,8 @@ not_double (item_kind.Label m) pre post n e = by (is_service m) (has_label (pre 
 
     by : (b c : Bool) → has_label (pre ++ item_kind.Label n ∷ post) m ≡ c → cond (b || c) (Some m) (double_label (pre ++ item_kind.Label n ∷ post)) ≡ None
         → (bytes_eq m n ≡ false) × (double_label (pre ++ item_kind.Label n ∷ post) ≡ None)
-    by true c h e = absurd (no_some m e)
-    by false true h e = absurd (no_some m e)
+    by true c h e = absurd (some_none m e)
+    by false true h e = absurd (some_none m e)
     by false false h e = (other (bytes_eq m n) refl h, e)
 
 pub first_place : (pre post : List CodeItem) (n : List ℕ) → double_label (pre ++ item_kind.Label n ∷ post) ≡ None → label_place (pre ++ item_kind.Label n ∷ post) n ≡ length pre

@@ -1,25 +1,17 @@
 -- The code of a function can be written, where its body can.
-use Rattle.std.proofs.Common.{◌≡◌, ℕ, zero, suc, ◌*◌, ◌^◌, ◌<◌, ◌≤◌, Bool, true, false, leb, ltb, ◌&&◌, List, [], ◌∷◌, ◌++◌, refl, sym, ap, ◌∙◌, arith}
+use Rattle.std.proofs.Common.{◌≡◌, ℕ, zero, suc, ◌*◌, ◌^◌, ◌<◌, ◌≤◌, true, leb, ltb, List, [], ◌∷◌, ◌++◌, refl, sym, ap, ◌∙◌, arith}
 use Rattle.std.specs.List.{list_all}
-use Rattle.std.proofs.lemmas.Bool.{le-leb, lt-ltb}
+use Rattle.std.proofs.lemmas.Bool.{le-leb, lt-ltb, and_from, and_parts}
 use Rattle.vax_core.specs.declared.code.CodeItem.{CodeItem}
 use Rattle.vax_core.specs.Valid.{is_name, is_code_item}
 use Rattle.vax_frames.specs.Frames.{room_code, end_code, code_items, function_label, IsFrameCode}
 use Rattle.vax_frames_law.specs.Writing.{FrameCodesAreValid}
 
-pair : (a b : Bool) → a ≡ true → b ≡ true → (a && b) ≡ true
-pair true b e f = f
-pair false b e f = e
-
-both : (a b : Bool) → (a && b) ≡ true → (a ≡ true) × (b ≡ true)
-both true b e = (refl, e)
-both false b e = absurd (cc)
-
 all_append : (xs ys : List CodeItem) → list_all is_code_item xs ≡ true → list_all is_code_item ys ≡ true → list_all is_code_item (xs ++ ys) ≡ true
 all_append [] ys h g = g
 all_append (x ∷ xs) ys h g =
-    let p = both (is_code_item x) (list_all is_code_item xs) h in
-    pair (is_code_item x) (list_all is_code_item (xs ++ ys)) p.0 (all_append xs ys p.1 g)
+    let p = and_parts (is_code_item x) (list_all is_code_item xs) h in
+    and_from (is_code_item x) (list_all is_code_item (xs ++ ys)) p.0 (all_append xs ys p.1 g)
 
 room_valid : (words : ℕ) → words ≤ 1024 → list_all is_code_item (code_items (room_code words)) ≡ true
 room_valid zero few = refl
@@ -33,4 +25,4 @@ frame_codes_are_valid name words body code named few valid h =
     let mask : leb h.mask 4095 ≡ true = le-leb h.mask 4095 (omega (arith, h.small)) in
     let rest = all_append (code_items (room_code words)) _ (room_valid words few) (all_append body (code_items end_code) valid refl) in
     ap (λ (xs : List CodeItem). list_all is_code_item xs) h.code_is
-    ∙ pair (is_name label) _ named (pair (is_name label) _ named (pair (leb h.mask 4095) _ mask rest))
+    ∙ and_from (is_name label) _ named (and_from (is_name label) _ named (and_from (leb h.mask 4095) _ mask rest))

@@ -2,7 +2,7 @@
 use Rattle.std.proofs.Common.{◌≡◌, ℕ, zero, suc, ◌+◌, ◌-◌, ◌*◌, ◌%◌, ◌<◌, ◌≤◌, Bool, true, false, cond, List, [], ◌∷◌, length, Result, Ok, Err, refl, sym, ap, subst, ◌∙◌, arith}
 use Rattle.std.proofs.Common.{lt-ltb, true≢false, length-set, get_or-set_same}
 use Rattle.std.specs.Prelude.{nat_lt, nat_le, ◌&&◌, ◌||◌}
-use Rattle.std.proofs.lemmas.Bool.{ltb-true, ltb-false, and_parts, leb-true}
+use Rattle.std.proofs.lemmas.Bool.{ltb-true, ltb-false, and_parts, leb-true, or_parts, false_from_ne_true}
 use Rattle.gg_base.specs.declared.size.Size.TheVariants.{Long}
 use Rattle.gg_base.specs.Arithmetic.{sub32}
 use Rattle.vax_core.specs.declared.register.Reg.TheVariants.{Sp}
@@ -21,21 +21,13 @@ not_both true true e f g = true≢false e
 not_both true false e f g = true≢false (sym g)
 not_both false y e f g = true≢false (sym f)
 
-not_either : (x y : Bool) → (x || y) ≡ false → (x ≡ false) × (y ≡ false)
-not_either true y e = absurd (true≢false e)
-not_either false y e = (refl, e)
-
-not_true : (x : Bool) → (x ≡ true → ⊥) → x ≡ false
-not_true true h = absurd (h refl)
-not_true false h = refl
-
 -- where no byte of a longword is a control word, each one is none
 each_byte : (frames : List Frame) (a address : ℕ) → a ≤ address → address < a + 4 → in_control frames a 4 ≡ false → in_control frames address 1 ≡ false
 each_byte [] a address low high e = refl
 each_byte (f ∷ fs) a address low high e =
-    let p = not_either (overlaps f a 4) (in_control fs a 4) e in
+    let p = or_parts (overlaps f a 4) (in_control fs a 4) e in
     let here : overlaps f address 1 ≡ false =
-    not_true (overlaps f address 1) (λ h.
+    false_from_ne_true (overlaps f address 1) (λ h.
     let q = and_parts (nat_lt f.fp (address + 1)) (nat_lt address f.top) h in
     let over : f.fp < address + 1 = ltb-true f.fp (address + 1) q.0 in
     let under : address < f.top = ltb-true address f.top q.1 in
@@ -98,7 +90,7 @@ in_stack frames a b c r e f h = by (nat_le 2139095040 a) b c e f h
     by false b c e f h = absurd (no_region access r h)
 
 above_area : (a size : ℕ) → size ≤ 1048576 → 2139095040 ≤ a → nat_le (a + 4) (65536 + size) ≡ false
-above_area a size small low = not_true (nat_le (a + 4) (65536 + size)) (λ h. let le : a + 4 ≤ 65536 + size = leb-true (a + 4) (65536 + size) h in omega arith)
+above_area a size small low = false_from_ne_true (nat_le (a + 4) (65536 + size)) (λ h. let le : a + 4 ≤ 65536 + size = leb-true (a + 4) (65536 + size) h in omega arith)
 
 out_of_area : (p q : Bool) (A : Type 0) (x y z : A) → q ≡ false → cond (p && q) x y ≡ z → y ≡ z
 out_of_area true true A x y z e h = absurd (true≢false e)

@@ -3,7 +3,7 @@ use Rattle.std.proofs.Common.{◌≡◌, ℕ, zero, suc, ◌+◌, ◌^◌, ◌<�
 use Rattle.std.proofs.Common.{sym, ap, ◌∙◌, arith, length-append}
 use Rattle.std.specs.Prelude.{nat_lt}
 use Rattle.std.specs.List.{list_all}
-use Rattle.std.proofs.lemmas.Bool.{ltb-true, ltb-false}
+use Rattle.std.proofs.lemmas.Bool.{ltb-true, ltb-false, and_parts}
 use Rattle.std.proofs.lemmas.List.{length-replicate}
 use Rattle.vax_core.specs.declared.code.AreaItem.{AreaItem}
 use Rattle.vax_core.specs.declared.code.AreaItem.TheVariants as areas
@@ -19,7 +19,7 @@ use Rattle.vax_machine.specs.Loading.{too_large, no_main, or_undefined, or_doubl
 use Rattle.vax_machine.proofs.LayoutLaws.{length-item_bytes}
 use Rattle.vax_machine_lists.specs.Sound.{AllBelow, IsRunning, RunsBeginSound}
 use Rattle.vax_machine_lists.proofs.Longwords.{below_append, four_below, two_below}
-use Rattle.vax_machine_lists.proofs.Soundness.{both, After, called_running}
+use Rattle.vax_machine_lists.proofs.Soundness.{After, called_running}
 
 -- ---- bytes
 
@@ -47,7 +47,7 @@ item_below layout (areas.Space n) at e = zeros_below n
 bytes_below : (layout items : List AreaItem) (at : ℕ) → list_all is_area_item items ≡ true → AllBelow 256 (bytes_from layout items at)
 bytes_below layout [] at e = tt
 bytes_below layout (item ∷ rest) at e =
-    let p = both (is_area_item item) (list_all is_area_item rest) e in
+    let p = and_parts (is_area_item item) (list_all is_area_item rest) e in
     below_append 256 (item_bytes layout item at) _ (item_below layout item at p.0) (bytes_below layout rest (at + size_at item at) p.1)
 
 length_bytes : (layout items : List AreaItem) (at : ℕ) → at + length (bytes_from layout items at) ≡ end_from items at
@@ -87,7 +87,7 @@ loads_small c h =
 
 blank_running : (c : Code) (input : List ℕ) → is_code c ≡ true → Loads c → AllBelow 256 input → IsRunning (blank c input)
 blank_running c input valid h bytes =
-    let p = both (list_all is_area_item c.area) (list_all is_code_item c.items) valid in
+    let p = and_parts (list_all is_area_item c.area) (list_all is_code_item c.items) valid in
     record {
       sound = record {
         going = refl;

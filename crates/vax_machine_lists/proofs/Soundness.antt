@@ -6,7 +6,7 @@ use Rattle.std.specs.Str.{bytes_eq}
 use Rattle.std.specs.List.{list_all}
 use Rattle.std.specs.Int.RustNames.{count_ones}
 use Rattle.std.specs.Int.{w16, to_le_bytes, from_le_bytes}
-use Rattle.std.proofs.lemmas.Bool.{leb-true, ltb-true}
+use Rattle.std.proofs.lemmas.Bool.{leb-true, ltb-true, and_parts}
 use Rattle.std.proofs.lemmas.Nat.{mod_below}
 use Rattle.gg_base.specs.declared.size.Size.{Size}
 use Rattle.gg_base.specs.declared.size.Size.TheVariants.{Byte, Word, Long}
@@ -55,10 +55,6 @@ use Rattle.vax_machine.specs.Step.{Goes, Writes, Stops, finished, pushing, branc
 use Rattle.vax_machine_lists.specs.Sound.{AllBelow, IsSound, AreSaved, IsRunning, Behind, StepsStaySound}
 use Rattle.vax_machine_lists.proofs.Longwords.{length-with_any, with_below, below_take, below_drop, below_set, below_get, long_below}
 use Rattle.vax_machine_lists.proofs.Numbers.{add_small, sub_small, mul_small, low_small, merged_small, SmallResult, applied_small}
-
-pub both : (a b : Bool) → (a && b) ≡ true → (a ≡ true) × (b ≡ true)
-both true b e = (refl, e)
-both false b e = absurd (cc)
 
 -- ---- parts of a state that are changed
 
@@ -316,7 +312,7 @@ evaluated_by k o (Err e) h = tt
 evaluated_running : (m : State) (k : OperandKind) (o : Operand) → IsRunning m → is_operand k o ≡ true → Evaluates (evaluated m k o)
 unfolding evaluated
 evaluated_running m k o h e =
-    let base = (both (is_base o.base) (is_index o.base o.index) (both (allows k.access o.base) _ e).1).0 in
+    let base = (and_parts (is_base o.base) (is_index o.base o.index) (and_parts (allows k.access o.base) _ e).1).0 in
     evaluated_by k o (located m o.base k.size) (located_running m o.base k.size h base)
 
 abbrev EvaluatesAll : Result (Arguments × State) Stop → Type 0
@@ -336,7 +332,7 @@ all_running : (ks : List OperandKind) (os : List Operand) (m : State) → IsRunn
 all_running [] os m h e = (omega arith, omega arith, h)
 all_running (k ∷ ks) [] m h e = tt
 all_running (k ∷ ks) (o ∷ os) m h e =
-    let p = both (is_operand k o) (are_operands ks os) e in
+    let p = and_parts (is_operand k o) (are_operands ks os) e in
     all_by (all_evaluated ks os) (λ n g. all_running ks os n g p.1) (evaluated m k o) (evaluated_running m k o h p.0)
 
 -- ---- what is done with them
@@ -552,15 +548,15 @@ acted_by i (Err e) h = tt
 instruction_running : (m : State) (i : Instr) → IsRunning m → is_instr i ≡ true → ActsStay (instruction m i.op i.operands i.target)
 unfolding instruction
 instruction_running m i h e =
-    acted_by i (all_evaluated (shape i.op).operands i.operands m) (all_running (shape i.op).operands i.operands m h (both (are_operands (shape i.op).operands i.operands) _ e).0)
+    acted_by i (all_evaluated (shape i.op).operands i.operands m) (all_running (shape i.op).operands i.operands m h (and_parts (are_operands (shape i.op).operands i.operands) _ e).0)
 
 same_item : (x y : CodeItem) → ◌≡◌ {A = Option CodeItem} (Some x) (Some y) → x ≡ y
 same_item x y e = cc
 
 valid_at : (xs : List CodeItem) (n : ℕ) (x : CodeItem) → list_all is_code_item xs ≡ true → slice_get xs n ≡ Some x → is_code_item x ≡ true
 valid_at [] n x h e = absurd (cc)
-valid_at (y ∷ xs) zero x h e = ap is_code_item (sym (same_item y x e)) ∙ (both (is_code_item y) (list_all is_code_item xs) h).0
-valid_at (y ∷ xs) (suc n) x h e = valid_at xs n x (both (is_code_item y) (list_all is_code_item xs) h).1 e
+valid_at (y ∷ xs) zero x h e = ap is_code_item (sym (same_item y x e)) ∙ (and_parts (is_code_item y) (list_all is_code_item xs) h).0
+valid_at (y ∷ xs) (suc n) x h e = valid_at xs n x (and_parts (is_code_item y) (list_all is_code_item xs) h).1 e
 
 item_running : (m : State) (place : ℕ) (o : Option CodeItem) → IsRunning m → ((x : CodeItem) → o ≡ Some x → is_code_item x ≡ true) → ActsStay (at_item o place m)
 item_running m place None h valid = tt

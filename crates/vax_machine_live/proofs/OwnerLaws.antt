@@ -2,7 +2,7 @@
 use Rattle.std.proofs.Common.{◌≡◌, ℕ, zero, suc, ◌+◌, ◌-◌, ◌*◌, ◌/◌, ◌<◌, ◌≤◌, Bool, true, false, List, [], ◌∷◌, ◌++◌, length, take, ◌⊎◌, inl, inr, refl, sym, ap, subst, ◌∙◌}
 use Rattle.std.proofs.Common.{arith, lt-ltb, true≢false}
 use Rattle.std.specs.Prelude.{◌&&◌, ◌||◌, Option, Some, None, slice_get, slice_index, nat_lt}
-use Rattle.std.proofs.lemmas.Bool.{ltb-true, ltb-false, le-ltb, and_parts}
+use Rattle.std.proofs.lemmas.Bool.{ltb-true, ltb-false, le-ltb, and_parts, or_right, or_left, false_from_ne_true}
 use Rattle.vax_machine_live.specs.declared.frame.Frame.{Frame}
 use Rattle.vax_machine_live.specs.Control.{overlaps, in_control}
 use Rattle.vax_machine_live.specs.Owners.{IsOwned, AreOwned, HasRoom, Gives}
@@ -19,18 +19,6 @@ byte_lies f address h =
     let p = and_parts (nat_lt f.fp (address + 1)) (nat_lt address f.top) h in
     let low : f.fp < address + 1 = ltb-true f.fp (address + 1) p.0 in
     record { low = omega arith; high = ltb-true address f.top p.1 }
-
-or_right : (x y : Bool) → y ≡ true → (x || y) ≡ true
-or_right true y e = refl
-or_right false y e = e
-
-or_left : (x y : Bool) → x ≡ true → (x || y) ≡ true
-or_left true y e = refl
-or_left false y e = absurd (true≢false (sym e))
-
-not_true : (x : Bool) → (x ≡ true → ⊥) → x ≡ false
-not_true true h = absurd (h refl)
-not_true false h = refl
 
 same_frame : (f g : Frame) → ◌≡◌ {A = Option Frame} (Some f) (Some g) → f ≡ g
 same_frame f g e = cc
@@ -76,7 +64,7 @@ owner_is owners number address f kept low inside =
 pub owned_by_none : (frames : List Frame) (owners : List ℕ) (address number : ℕ) → AreOwned frames owners → 2139095040 ≤ address → slice_index owners ((address - 2139095040) / 4) ≡ number
     → slice_get frames number ≡ None → false ≡ in_control frames address 1
 owned_by_none frames owners address number kept low e none =
-    sym (not_true (in_control frames address 1) (λ h.
+    sym (false_from_ne_true (in_control frames address 1) (λ h.
     let l = lies frames address h in
     let same : number ≡ l.number = sym e ∙ owner_is owners l.number address l.frame (kept.each l.number l.frame l.there) low l.inside in
     no_frame l.frame (sym none ∙ ap (λ (k : ℕ). slice_get frames k) same ∙ l.there)))
@@ -88,7 +76,7 @@ owned_by frames owners address number f kept low e there = by (overlaps f addres
     by : (b : Bool) → overlaps f address 1 ≡ b → b ≡ in_control frames address 1
     by true is = sym (found frames number address f there is)
     by false is =
-        sym (not_true (in_control frames address 1) (λ h.
+        sym (false_from_ne_true (in_control frames address 1) (λ h.
         let l = lies frames address h in
         let same : number ≡ l.number = sym e ∙ owner_is owners l.number address l.frame (kept.each l.number l.frame l.there) low l.inside in
         let frame : f ≡ l.frame = same_frame f l.frame (sym there ∙ ap (λ (k : ℕ). slice_get frames k) same ∙ l.there) in

@@ -4,7 +4,7 @@ use Rattle.std.proofs.Common.{sym, ap, subst, ◌∙◌, arith}
 use Rattle.std.specs.Prelude.{codes, is_some}
 use Rattle.std.specs.List.{Contains}
 use Rattle.std.specs.Cmp.Lexicographic.{same_text}
-use Rattle.std.proofs.lemmas.Bool.{eqb-true, eqb-false, or_cases}
+use Rattle.std.proofs.lemmas.Bool.{eqb-true, eqb-false, or_cases, or_right, both_ways}
 use Rattle.std.proofs.lemmas.List.{take_at, take-append-drop}
 use Rattle.vax_core.specs.declared.op.Op.{Op}
 use Rattle.vax_core.specs.Ops.{shape}
@@ -104,10 +104,6 @@ allowed_word stages.Code word h = code_word word h
 abbrev Passes : Stage → List ℕ → List ℕ → Type 0
 Passes stage more word = (is_allowed stage word ≡ true) × (run_len in_word (word ++ more) ≡ length word)
 
-or_last : (a b : Bool) → b ≡ true → (a || b) ≡ true
-or_last true b h = refl
-or_last false b h = h
-
 word_passes : (stage : Stage) (word more : List ℕ) → run_len in_word more ≡ 0 → IsAllowed stage word → Passes stage more word
 word_passes stages.Start word more h w = subst (Passes stages.Start more) (sym w) (refl, run_len-append in_word (codes ".data") more refl h)
 word_passes stages.Area word more h (inl w) = subst (Passes stages.Area more) (sym w) (refl, run_len-append in_word (codes ".byte") more refl h)
@@ -121,7 +117,7 @@ word_passes stages.Code word more h (inl w) = subst (Passes stages.Code more) (s
 word_passes stages.Code word more h (inr (inl w)) = subst (Passes stages.Code more) (sym w) (refl, run_len-append in_word (codes ".word") more refl h)
 word_passes stages.Code word more h (inr (inr w)) =
     let known : is_some (op_of (shape w.0).mnemonic) ≡ true = ap (λ (o : Option Op). is_some o) (op_again w.0) in
-    subst (Passes stages.Code more) (sym w.1) (or_last _ _ known, is_word w.0 more h)
+    subst (Passes stages.Code more) (sym w.1) (or_right _ _ known, is_word w.0 more h)
 
 -- where a word ends
 
@@ -163,18 +159,15 @@ allowed_is_found stage rest b =
 
 -- kinds
 
-not_both : (b : Bool) → b ≡ false → b ≡ true → ⊥
-not_both b f t = absurd (cc)
-
 by_tests : (stage : Stage) (rest : List ℕ) (feed label allowed : Bool) → has_line_feed rest ≡ feed → is_label_line rest ≡ label → begins_allowed stage rest ≡ allowed
     → IsKind stage rest (cond feed (cond label kinds.Operands (cond allowed kinds.Operands kinds.Word)) kinds.Cut)
 by_tests stage rest true true allowed f l a = (has_feed rest f, inl (label_begins rest l))
 by_tests stage rest true false true f l a = (has_feed rest f, inr (allowed_begins stage rest a))
 by_tests stage rest true false false f l a = (
   has_feed rest f,
-  λ b. not_both (is_label_line rest) l (label_is_found rest b),
+  λ b. both_ways (is_label_line rest) l (label_is_found rest b),
   λ b.
-      not_both (begins_allowed stage rest) a (allowed_is_found stage rest b),
+      both_ways (begins_allowed stage rest) a (allowed_is_found stage rest b),
 )
 by_tests stage rest false label allowed f l a = no_feed rest f
 

@@ -3,7 +3,7 @@ use Rattle.std.proofs.Common.{◌≡◌, ℕ, zero, suc, ◌+◌, ◌-◌, ◌%�
 use Rattle.std.proofs.Common.{arith, get_or-set_same}
 use Rattle.std.specs.Prelude.{slice_get, nat_lt, codes}
 use Rattle.std.specs.Str.{bytes_eq}
-use Rattle.std.proofs.lemmas.Bool.{eqb-true}
+use Rattle.std.proofs.lemmas.Bool.{eqb-true, false_from_ne_true, true≢false}
 use Rattle.std.proofs.lemmas.List.{length-take-le}
 use Rattle.std.proofs.lemmas.Slice.Eq.{bytes_eq-Decides}
 use Rattle.tree_core.specs.declared.tree.Att.{Att}
@@ -73,13 +73,6 @@ callee_first (h ∷ hs) function count e =
 same_tail : (a b : ℕ) (xs ys : List ℕ) → a ∷ xs ≡ b ∷ ys → xs ≡ ys
 same_tail a b xs ys e = cc
 
-not_true : (b : Bool) → (b ≡ true → ⊥) → b ≡ false
-not_true true h = absurd (h refl)
-not_true false h = refl
-
-true_false : true ≡ false → ⊥
-true_false e = cc
-
 none_named : (name : List ℕ) (fs : List TreeFn) (k : ℕ) (g : TreeFn) → named name fs ≡ 0 → slice_get fs k ≡ Some g → bytes_eq g.name name ≡ true → ⊥
 none_named name [] k g none there is = cc
 none_named name (x ∷ fs) zero g none there is =
@@ -90,7 +83,7 @@ none_named name (x ∷ fs) (suc k) g none there is = none_named name fs k g (ome
 
 apart : (name : List ℕ) (fs : List TreeFn) (k : ℕ) (g : TreeFn) → named name fs ≡ 0 → slice_get fs k ≡ Some g → bytes_eq (function_label g.name) (function_label name) ≡ false
 apart name fs k g none there =
-    not_true (bytes_eq (function_label g.name) (function_label name))
+    false_from_ne_true (bytes_eq (function_label g.name) (function_label name))
     (λ e. none_named name fs k g none there ((bytes_eq-Decides g.name name).1 (same_tail 95 95 g.name name ((bytes_eq-Decides (function_label g.name) (function_label name)).0 e))))
 
 module _ (q : TreeProgram) (f : Extent) (fs : List Extent) (classes : List Class) (rule : Rule) (e : EffectShape) (hs : List (Attr Operand)) (res : Attr Operand) (v : View) (m : State)
@@ -184,7 +177,7 @@ module _ (q : TreeProgram) (f : Extent) (fs : List Extent) (classes : List Class
       subst (λ k. G (answered (without_pushed t k) t.input)) none
       (subst (λ (i : List ℕ). G (answered (without_pushed t 0) i)) agrees.input
       (getchar_goes n.input agrees.sound.input_bytes (is ∙ ap (λ k. performed (call_instr k getchar_name) n) (sym none) ∙ getchar_is n)))
-  service_goes false false count takes_so many is = absurd (true_false (sym takes_so))
+  service_goes false false count takes_so many is = absurd (true≢false (sym takes_so))
 
   callee_goes : (o : Option TreeFn) (function count : ℕ) → slice_get q.functions function ≡ o → takes (args_or o (service_args (function - length q.functions))) count ≡ true →
       length t.running.pushed ≡ count → D ≡ performed (call_instr count (function_name o (function - length q.functions))) n →

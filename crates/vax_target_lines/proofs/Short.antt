@@ -4,6 +4,8 @@ use Rattle.std.specs.Prelude.{nat_le, ◌&&◌}
 use Rattle.std.specs.Option.{option_and_then, option_map}
 use Rattle.std.specs.List.{AllByRecursion}
 use Rattle.std.proofs.lemmas.Bool.{leb-true}
+use Rattle.std.proofs.lemmas.Option.{none-some, same_Some}
+use Rattle.gg_base.proofs.Facts.{first_true}
 use Rattle.md_reader_pieces.specs.declared.piece.Piece.{Piece}
 use Rattle.vax_core.specs.declared.op.Op.{Op}
 use Rattle.vax_core.specs.declared.op.OperandKind.{OperandKind}
@@ -26,7 +28,7 @@ use Rattle.vax_templates.specs.Forms.{base_front, index_front, with_index, index
 use Rattle.vax_templates.specs.Instructions.{Instruction, Relation, Jump, Calls, Ret, Operates, forms_from, only, behind_blank, is_label, is_call, is_empty, jumps, operates}
 use Rattle.vax_templates.specs.Instructions.{behind, relation_behind, relation, with_op, word_of, marks_behind, read_behind, instruction_of, whole, shape_of_pieces}
 use Rattle.vax_target_operands.specs.Places.{IsShort, BaseIsShort}
-use Rattle.vax_target_operands.proofs.Machine.{none_some, some_same, mapped, then_some}
+use Rattle.vax_target_operands.proofs.Machine.{mapped, then_some}
 
 -- ---- readings
 
@@ -35,12 +37,8 @@ either_some (Some x) f other y e = inl (x, refl, e)
 either_some None f other y e = inr e
 
 cond_some : {A : Type 0} (b : Bool) (x y : A) → cond b (Some x) None ≡ Some y → (b ≡ true) × (x ≡ y)
-cond_some true x y e = (refl, some_same x y e)
-cond_some false x y e = absurd (none_some y e)
-
-left : (a b : Bool) → (a && b) ≡ true → a ≡ true
-left true b e = refl
-left false b e = cc
+cond_some true x y e = (refl, same_Some x y e)
+cond_some false x y e = absurd (none-some y e)
 
 positive_short : (x y : ℕ × List Mark) → positive x ≡ Some y → y.0 < 2 ^ 32
 positive_short x y e =
@@ -52,7 +50,7 @@ positive_short x y e =
 negative_short : (x y : ℕ × List Mark) → negative x ≡ Some y → y.0 < 2 ^ 32
 negative_short x y e =
     let r = cond_some (nat_le 1 x.0 && nat_le x.0 2147483648) (2 ^ 32 - x.0, x.1) y e in
-    let le = leb-true 1 x.0 (left (nat_le 1 x.0) (nat_le x.0 2147483648) r.0) in
+    let le = leb-true 1 x.0 (first_true (nat_le 1 x.0) (nat_le x.0 2147483648) r.0) in
     let same = ap (λ (z : ℕ × List Mark). z.0) r.1 in
     omega (arith, le, same)
 
@@ -70,7 +68,7 @@ number_short : (ms : List Mark) (y : Number × List Mark) → number_spelled ms 
 unfolding number_spelled
 number_short ms y e = by (either_some (hole_front ms) of_symbol (option_map itself (signed_front ms)) y e) where
   by : ((x : ℕ × List Mark) × (hole_front ms ≡ Some x) × (of_symbol x ≡ Some y)) ⊎ (option_map itself (signed_front ms) ≡ Some y) → IsShort y.0
-  by (inl p) = subst (λ (z : Number × List Mark). IsShort z.0) (some_same (number.Symbol p.0.0, p.0.1) y p.2) tt
+  by (inl p) = subst (λ (z : Number × List Mark). IsShort z.0) (same_Some (number.Symbol p.0.0, p.0.1) y p.2) tt
   by (inr q) =
       let r = mapped itself (signed_front ms) y q in
       subst (λ (z : Number × List Mark). IsShort z.0) r.2 (signed_short ms r.0 r.1)
@@ -81,11 +79,11 @@ abbrev Short : Base × List Mark → Type 0
 Short y = BaseIsShort y.0
 
 hole_short : (made : ℕ → Base) (x : ℕ × List Mark) (y : Base × List Mark) → BaseIsShort (made x.0) → of_hole made x ≡ Some y → Short y
-hole_short made x y h e = subst Short (some_same (made x.0, x.1) y e) h
+hole_short made x y h e = subst Short (same_Some (made x.0, x.1) y e) h
 
 alone_short : (made : ℕ → Base) (n : Number) (rest : List Mark) (y : Base × List Mark) → ((i : ℕ) → BaseIsShort (made i)) → alone made n rest ≡ Some y → Short y
-alone_short made (number.Itself n) rest y h e = absurd (none_some y e)
-alone_short made (number.Symbol i) rest y h e = subst Short (some_same (made i, rest) y e) (h i)
+alone_short made (number.Itself n) rest y h e = absurd (none-some y e)
+alone_short made (number.Symbol i) rest y h e = subst Short (same_Some (made i, rest) y e) (h i)
 
 near_short : (x : Number × List Mark) (y : Base × List Mark) → IsShort x.0 → near x ≡ Some y → Short y
 near_short x y h e = by (either_some (at_front x.1) (of_hole (base.Displacement x.0)) (alone base.Hole x.0 x.1) y e) where
@@ -103,7 +101,7 @@ of_number_short : (made : Number → Base) (ms : List Mark) (y : Base × List Ma
     ≡ Some y → Short y
 of_number_short made ms y h e =
     let r = then_some (of_number made) (number_spelled ms) y e in
-    subst Short (some_same (made r.0.0, r.0.1) y r.2) (h r.0.0 (number_short ms r.0 r.1))
+    subst Short (same_Some (made r.0.0, r.0.1) y r.2) (h r.0.0 (number_short ms r.0 r.1))
 
 deferred_short : (ms : List Mark) (y : Base × List Mark) → deferred_front ms ≡ Some y → Short y
 unfolding deferred_front
@@ -120,7 +118,7 @@ immediate_short ms y e = by (either_some (negative_hole ms) (of_hole base.Negati
   by (inr q) = of_number_short base.Immediate ms y (λ n h. h) q
 
 named_short : (ms : List Mark) (y : Base × List Mark) → named_front ms ≡ Some y → Short y
-named_short ms y e = let r = then_some (λ (rest : List Mark). Some (base.RegisterZero, rest)) (strip 48 ms) y e in subst Short (some_same (base.RegisterZero, r.0) y r.2) tt
+named_short ms y e = let r = then_some (λ (rest : List Mark). Some (base.RegisterZero, rest)) (strip 48 ms) y e in subst Short (same_Some (base.RegisterZero, r.0) y r.2) tt
 
 abbrev behind_named : List Mark → Option (Base × List Mark)
 behind_named ms = either (at_front ms) (of_hole base.RegisterDeferred) (option_and_then near (number_spelled ms))
@@ -165,8 +163,8 @@ one_more [] f h x = (x, tt)
 one_more (g ∷ fs) f h x = (h.0, one_more fs f h.1 x)
 
 forms_short : (before : ℕ) (read : List Form) (ks : List OperandKind) (ms : List Mark) (fs : List Form) → AreShort read → forms_from before read ks ms ≡ Some fs → AreShort fs
-forms_short before read [] [] fs h e = subst AreShort (some_same read fs e) h
-forms_short before read [] (m ∷ ms) fs h e = absurd (none_some fs e)
+forms_short before read [] [] fs h e = subst AreShort (same_Some read fs e) h
+forms_short before read [] (m ∷ ms) fs h e = absurd (none-some fs e)
 forms_short before read (k ∷ ks) ms fs h e =
     let r = then_some (λ (x : Form × List Mark). forms_from 44 (read ++ x.0 ∷ []) ks x.1) (option_and_then form_front (strip before ms)) fs e in
     let f = then_some form_front (strip before ms) r.0 r.1 in
@@ -188,16 +186,16 @@ operates_short op ms j e =
 
 jumps_short : (t : Test) (ms : List Mark) (j : Instruction) → jumps t ms ≡ Some j → IsShortLine j
 jumps_short test.Always ms j e = only_short (behind_blank is_label (strip 32 ms)) Jump j tt e
-jumps_short test.Equal ms j e = absurd (none_some j e)
-jumps_short test.NotEqual ms j e = absurd (none_some j e)
-jumps_short test.Less ms j e = absurd (none_some j e)
-jumps_short test.LessOrEqual ms j e = absurd (none_some j e)
-jumps_short test.Greater ms j e = absurd (none_some j e)
-jumps_short test.GreaterOrEqual ms j e = absurd (none_some j e)
-jumps_short test.LessUnsigned ms j e = absurd (none_some j e)
-jumps_short test.LessOrEqualUnsigned ms j e = absurd (none_some j e)
-jumps_short test.GreaterUnsigned ms j e = absurd (none_some j e)
-jumps_short test.GreaterOrEqualUnsigned ms j e = absurd (none_some j e)
+jumps_short test.Equal ms j e = absurd (none-some j e)
+jumps_short test.NotEqual ms j e = absurd (none-some j e)
+jumps_short test.Less ms j e = absurd (none-some j e)
+jumps_short test.LessOrEqual ms j e = absurd (none-some j e)
+jumps_short test.Greater ms j e = absurd (none-some j e)
+jumps_short test.GreaterOrEqual ms j e = absurd (none-some j e)
+jumps_short test.LessUnsigned ms j e = absurd (none-some j e)
+jumps_short test.LessOrEqualUnsigned ms j e = absurd (none-some j e)
+jumps_short test.GreaterUnsigned ms j e = absurd (none-some j e)
+jumps_short test.GreaterOrEqualUnsigned ms j e = absurd (none-some j e)
 
 behind_short : (a : Action) (op : Op) (ms : List Mark) (j : Instruction) → behind a op ms ≡ Some j → IsShortLine j
 behind_short (action.Compute f) op ms j e = operates_short op ms j e
@@ -208,7 +206,7 @@ behind_short action.Return op ms j e = only_short (is_empty ms) Ret j tt e
 
 relation_by : (b : Bool) (ms : List Mark) (j : Instruction) → cond b (option_and_then relation_behind (hole_front ms)) None ≡ Some j → IsShortLine j
 relation_by true ms j e = let r = then_some relation_behind (hole_front ms) j e in only_short (behind_blank is_label (strip 32 r.0.1)) (Relation r.0.0) j tt r.2
-relation_by false ms j e = absurd (none_some j e)
+relation_by false ms j e = absurd (none-some j e)
 
 pub instruction_short : (ps : List Piece) (j : Instruction) → instruction_of ps ≡ Some j → IsShortLine j
 instruction_short ps j e = by (either_some (op_of (word_of ps)) (with_op (marks_behind ps)) (relation (word_of ps) (marks_behind ps)) j e) where

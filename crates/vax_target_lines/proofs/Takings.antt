@@ -1,8 +1,9 @@
 -- What an instruction takes of an operand on the machine is what the operand's term says.
 use Rattle.std.proofs.Common.{◌≡◌, ℕ, suc, zero, ◌+◌, ◌-◌, ◌*◌, ◌%◌, ◌^◌, ◌<◌, ◌≤◌, ◌==◌, ◌++◌, Bool, true, false, cond, List, [], ◌∷◌, length, map, take, Option, Some, None}
 use Rattle.std.proofs.Common.{Result, Ok, Err, refl, sym, ap, subst, ◌∙◌, arith}
-use Rattle.std.specs.Prelude.{not, ◌||◌}
+use Rattle.std.specs.Prelude.{◌||◌}
 use Rattle.std.specs.List.{AllByRecursion}
+use Rattle.std.proofs.lemmas.Bool.{not-false}
 use Rattle.gg_base.specs.declared.size.Size.{Size}
 use Rattle.gg_base.specs.declared.size.Size.TheVariants.{Byte, Word, Long}
 use Rattle.gg_base.specs.LittleEndian.{number_in}
@@ -74,10 +75,6 @@ long_size : (z : Size) → is_long z ≡ true → Long ≡ z
 long_size Byte e = cc
 long_size Word e = cc
 long_size Long e = refl
-
-not_false : (b : Bool) → not b ≡ false → b ≡ true
-not_false true e = refl
-not_false false e = cc
 
 or_left : (a b : Bool) → (a || b) ≡ false → a ≡ false
 or_left true b e = cc
@@ -320,10 +317,10 @@ module _ (c : Scene) (held : Option Shape) (m : State) (h : Sees c held m) where
   targeted_can (Value z i) size x p e none can = absurd (err_ok _ x (statement_of c.setting.is_statement _ x e))
   targeted_can (Place z i) size x p e none can =
       let s = ok_same _ x (statement_of c.setting.is_statement _ x e) in
-      same_sizes z size (not_false (same_size z size) (ap (λ (y : Target × Bool). y.1) s ∙ none))
+      same_sizes z size (not-false (same_size z size) (ap (λ (y : Target × Bool). y.1) s ∙ none))
   targeted_can (Local i) size x p e none can =
       let s = ok_same _ x (statement_of c.setting.is_statement _ x e) in
-      long_size size (not_false (is_long size) (ap (λ (y : Target × Bool). y.1) s ∙ none))
+      long_size size (not-false (is_long size) (ap (λ (y : Target × Bool). y.1) s ∙ none))
   targeted_can (SavedPlace z i) size x p e none can = absurd (err_ok _ x (statement_of c.setting.is_statement _ x e))
   targeted_can (Saved i) size x p e none can = tt
   targeted_can (At a q) size x p e none can =

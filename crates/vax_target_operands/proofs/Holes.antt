@@ -40,7 +40,7 @@ use Rattle.vax_target_meaning.specs.Reading.{named, names, reads, displaced}
 use Rattle.vax_target_operands.specs.Scenes.{Scene, worth, role_at, filling_at, is_lost, Means, IsRegister, IsPlace, IsLocal, Names, IsNumber, IsObject, OwnIs, IsOwnRegister, IsOwnSlot, Holds, Sees}
 use Rattle.vax_target_operands.specs.Places.{StandsAt, InRegister, IsHome, IsWhere, CanStand, Stands, IsShort}
 use Rattle.vax_target_operands.proofs.Binds.{err_ok, ok_same}
-use Rattle.vax_target_operands.proofs.Machine.{some_same, area_is_read, named_located, names_stand, ReadsAt, reads_stand, reg_found}
+use Rattle.vax_target_operands.proofs.Machine.{area_is_read, named_located, names_stand, ReadsAt, reads_stand, reg_found}
 
 pub below_all : (xs : List ℕ) → AllBelow 256 xs → AllByRecursion (λ b. b < 256) xs
 below_all [] h = tt

@@ -1,8 +1,10 @@
 -- What an operand reads and names is what the machine finds.
 use Rattle.std.proofs.Common.{◌≡◌, ℕ, ◌+◌, ◌-◌, ◌*◌, ◌^◌, ◌<◌, ◌≤◌, Bool, true, false, cond, List, length, Option, Some, None, Result, Ok, Err, refl, sym, ap, subst, ◌∙◌, arith}
-use Rattle.std.specs.Prelude.{nat_lt, nat_le, ◌&&◌}
+use Rattle.std.specs.Prelude.{nat_lt, nat_le}
 use Rattle.std.specs.Option.{option_map, option_and_then}
 use Rattle.std.proofs.lemmas.Bool.{leb-true}
+use Rattle.std.proofs.lemmas.Option.{none-some, same_Some}
+use Rattle.gg_base.proofs.Facts.{first_true, second_true}
 use Rattle.gg_base.specs.declared.size.Size.{Size}
 use Rattle.gg_base.specs.declared.size.Size.TheVariants.{Byte, Word, Long}
 use Rattle.gg_base.specs.Sizes.{bytes_of}
@@ -26,50 +28,36 @@ use Rattle.vax_target_meaning.specs.Reading.{is_own, is_own_place, number_of, nu
 use Rattle.vax_target_meaning.specs.Reading as reading
 use Rattle.vax_target_operands.specs.Places.{StandsAt}
 
-pub none_some : {X : Type 0} (x : X) → None ≡ Some x → ⊥
-none_some x e = cc
-
-pub some_same : {X : Type 0} (x y : X) → Some x ≡ Some y → x ≡ y
-some_same x y e = cc
-
 -- ---- options
 
 pub mapped : {X Y : Type 0} (f : X → Y) (o : Option X) (y : Y) → option_map f o ≡ Some y → (x : X) × (o ≡ Some x) × (f x ≡ y)
-mapped f None y e = absurd (none_some y e)
-mapped f (Some x) y e = (x, refl, some_same (f x) y e)
+mapped f None y e = absurd (none-some y e)
+mapped f (Some x) y e = (x, refl, same_Some (f x) y e)
 
 pub then_some : {X Y : Type 0} (f : X → Option Y) (o : Option X) (y : Y) → option_and_then f o ≡ Some y → (x : X) × (o ≡ Some x) × (f x ≡ Some y)
-then_some f None y e = absurd (none_some y e)
+then_some f None y e = absurd (none-some y e)
 then_some f (Some x) y e = (x, refl, e)
 
 cond_some : {X : Type 0} (b : Bool) (x y : X) → cond b (Some x) None ≡ Some y → (b ≡ true) × (x ≡ y)
-cond_some true x y e = (refl, some_same x y e)
-cond_some false x y e = absurd (none_some y e)
+cond_some true x y e = (refl, same_Some x y e)
+cond_some false x y e = absurd (none-some y e)
 
 pub longword_is : (n a : ℕ) → longword n ≡ Some a → n ≡ a
 longword_is n a e = (cond_some (nat_lt n (2 ^ 32)) n a e).1
 
 -- ---- memory
 
-pub left_true : (a b : Bool) → (a && b) ≡ true → a ≡ true
-left_true true b e = refl
-left_true false b e = cc
-
-pub right_true : (a b : Bool) → (a && b) ≡ true → b ≡ true
-right_true true b e = e
-right_true false b e = cc
-
 -- the data area is read where it is
 pub area_is_read : (m : State) (size : Size) (a x : ℕ) → trees.fetched size m.area a ≡ Some x → read m a size ≡ Ok x
 area_is_read m size a x e =
     let r = cond_some (trees.is_inside size m.area a) (number_in size m.area (a - 65536)) x e in
-    let low = leb-true 65536 a (left_true (nat_le 65536 a) (nat_le (a + bytes_of size) (65536 + length m.area)) r.0) in
-    let up = leb-true (a + bytes_of size) (65536 + length m.area) (right_true (nat_le 65536 a) (nat_le (a + bytes_of size) (65536 + length m.area)) r.0) in
+    let low = leb-true 65536 a (first_true (nat_le 65536 a) (nat_le (a + bytes_of size) (65536 + length m.area)) r.0) in
+    let up = leb-true (a + bytes_of size) (65536 + length m.area) (second_true (nat_le 65536 a) (nat_le (a + bytes_of size) (65536 + length m.area)) r.0) in
     area_read m a size low up ∙ ap (λ (n : ℕ). Ok n) r.1
 
 number_is : (r : Result ℕ Stop) (x : ℕ) → number_of r ≡ Some x → r ≡ Ok x
-number_is (Ok n) x e = ap (λ (k : ℕ). Ok k) (some_same n x e)
-number_is (Err s) x e = absurd (none_some x e)
+number_is (Ok n) x e = ap (λ (k : ℕ). Ok k) (same_Some n x e)
+number_is (Err s) x e = absurd (none-some x e)
 
 pub number_read : (b : Bool) (m : State) (a : ℕ) (size : Size) (x : ℕ) → number_at b m a size ≡ Some x → read m a size ≡ Ok x
 number_read true m a size x e = number_is (read m a size) x e
@@ -83,13 +71,13 @@ deferred_is m b a x e = ap (λ (r : Result ℕ Stop). r >>= λ (n : ℕ). Ok (lo
 -- a base that names an address stands there
 pub named_located : (m : State) (b : Base) (size : Size) (a : ℕ) → named m b ≡ Some a → located m b size ≡ Ok (locations.Memory a, m)
 unfolding located
-named_located m (bases.Imm d) size a e = absurd (none_some a e)
-named_located m (bases.Reg r) size a e = absurd (none_some a e)
-named_located m (bases.Def r) size a e = ap (λ (n : ℕ). Ok (locations.Memory n, m)) (some_same (reg m r) a e)
-named_located m (bases.Inc r) size a e = absurd (none_some a e)
-named_located m (bases.IncDef r) size a e = absurd (none_some a e)
-named_located m (bases.Dec r) size a e = absurd (none_some a e)
-named_located m (bases.Disp d r) size a e = ap (λ (n : ℕ). Ok (locations.Memory n, m)) (some_same (displaced m r d) a e)
+named_located m (bases.Imm d) size a e = absurd (none-some a e)
+named_located m (bases.Reg r) size a e = absurd (none-some a e)
+named_located m (bases.Def r) size a e = ap (λ (n : ℕ). Ok (locations.Memory n, m)) (same_Some (reg m r) a e)
+named_located m (bases.Inc r) size a e = absurd (none-some a e)
+named_located m (bases.IncDef r) size a e = absurd (none-some a e)
+named_located m (bases.Dec r) size a e = absurd (none-some a e)
+named_located m (bases.Disp d r) size a e = ap (λ (n : ℕ). Ok (locations.Memory n, m)) (same_Some (displaced m r d) a e)
 named_located m (bases.DispDef d r) size a e = deferred_is m (is_own r d) (displaced m r d) a e
 named_located m (bases.Abs n) size a e = ap (λ (k : ℕ). Ok (locations.Memory k, m)) (longword_is n a e)
 named_located m (bases.Rel d) size a e = ap (λ (k : ℕ). Ok (locations.Memory k, m)) (longword_is (resolved m.layout d) a e)
@@ -157,7 +145,7 @@ reads_stand o size m x e = by o.base refl e where
   by (bases.Reg r) is h = record {
     place = locations.Register r;
     at = record { base = locations.Register r; found = at_base m o (bases.Reg r) size _ is (reg_found m r size); is = register_stays m r o.index size };
-    reads_so = ap (λ (n : ℕ). Ok n) (some_same (low size (reg m r)) x h);
+    reads_so = ap (λ (n : ℕ). Ok n) (same_Some (low size (reg m r)) x h);
   }
   by (bases.Def r) is h = in_memory_stands o size m x h
   by (bases.Inc r) is h = in_memory_stands o size m x h

@@ -1,5 +1,6 @@
 -- A template divides at most once, and a statement has a line.
 use Rattle.std.proofs.Common.{◌≡◌, ℕ, suc, ◌≤◌, ◌&&◌, ◌||◌, Bool, true, false, cond, not, Option, Some, None, Result, Ok, Err, List, [], ◌∷◌, ◌++◌, length, refl, sym, ap, subst, ◌∙◌, arith}
+use Rattle.std.proofs.lemmas.Bool.{true≢false}
 use Rattle.md_reader_pieces.specs.declared.piece.Piece.{Piece}
 use Rattle.md_reader_pieces.specs.declared.piece.Line.{Line}
 use Rattle.md_reader.specs.declared.types.Kind.{Kind}
@@ -33,9 +34,6 @@ use Rattle.vax_templates.specs.Found.{Progress, start, progressed, at_line, kept
 use Rattle.vax_templates.specs.Found.{template_found, shape_read, shape_given, found}
 use Rattle.vax_target_order.specs.Laws.{RulesDivideOnce, StatementsHaveLines}
 use Rattle.vax_target_writing.proofs.Each.{EachOk, bind_each, always_ok, if_ok, of_ok}
-
-untrue : true ≡ false → ⊥
-untrue e = cc
 
 -- ---- one line
 
@@ -93,14 +91,14 @@ module _ (s : Setting) (holes : List Hole) (is_first : Bool) (zero' : Option Sha
 
   none_some : (ds : List Shape) → has_some ds ≡ false → ds ≡ []
   none_some [] e = refl
-  none_some (d ∷ ds) e = absurd (untrue e)
+  none_some (d ∷ ds) e = absurd (true≢false e)
 
   left_false : (a b : Bool) → (a || b) ≡ false → a ≡ false
-  left_false true b e = absurd (untrue e)
+  left_false true b e = absurd (true≢false e)
   left_false false b e = refl
 
   behind_first : (first : Bool) (ds : List Shape) → (not first && has_some ds) ≡ false → first ≡ false → ds ≡ []
-  behind_first true ds e f = absurd (untrue f)
+  behind_first true ds e f = absurd (true≢false f)
   behind_first false ds e f = none_some ds e
 
   ordered_so : (fs : List Form) (x : Arguments) (d : Deed) → Once d → EachOk Ordered (checked s holes is_first zero' fs x d)
@@ -172,7 +170,7 @@ more_once false p d h o = let e = length_none p.divisors d.divisors (o.never ref
 module _ (s : Setting) (holes : List Hole) where
   kept_once : (is_first : Bool) (line : ℕ) (p : Progress) (r : Result Deed TemplateKind) → Fewest is_first p → EachOk (InOrder is_first) r →
       EachOk (Fewest false) (at_line line r >>= kept line p)
-  kept_once is_first line p (Ok d) h o = record { once = more_once is_first p d h o; never = λ e. absurd (untrue (sym e)) }
+  kept_once is_first line p (Ok d) h o = record { once = more_once is_first p d h o; never = λ e. absurd (true≢false (sym e)) }
   kept_once is_first line p (Err e) h o = tt
 
   lines_once : (ls : List Line) (is_first : Bool) (p : Progress) → Fewest is_first p → EachOk (λ (q : Progress). length q.divisors ≤ 1) (lines_judged s holes is_first p ls)

@@ -1,6 +1,7 @@
 -- The VAX's templates store only to symbols that are places.
-use Rattle.std.proofs.Common.{◌≡◌, ◌⊎◌, inl, inr, ℕ, zero, suc, ◌-◌, ◌==◌, true, false, cond, Option, Some, None, List, [], ◌∷◌, refl, sym, ap, subst, ◌∙◌, arith, slice_get}
+use Rattle.std.proofs.Common.{◌≡◌, ◌⊎◌, inl, inr, ℕ, zero, suc, ◌-◌, ◌==◌, true, false, cond, Option, Some, List, [], ◌∷◌, refl, sym, ap, subst, ◌∙◌, arith, slice_get}
 use Rattle.std.proofs.lemmas.Bool.Decides.{nat_tests}
+use Rattle.std.proofs.lemmas.Option.{same_Some, none-some}
 use Rattle.tree_core.specs.declared.token.Tok.{Tok}
 use Rattle.tree_core.specs.declared.token.Tok.TheVariants as tok
 use Rattle.tree_core.specs.declared.token.AttKind.TheVariants as att_kind
@@ -68,17 +69,11 @@ symbol_owned classes (grammar_symbol.Class c) h f p = class_owned (kind_at class
 symbol_owned classes (grammar_symbol.Tok x) (attr.Token l) f p = token_owned l.tok l.att f.1 (subst (λ y. IsPlace (hole_of_token y)) (sym f.0) p)
 symbol_owned classes (grammar_symbol.Tok x) h f p = absurd f
 
-some_same : {X : Type 0} (x y : X) → Some x ≡ Some y → x ≡ y
-some_same x y e = cc
-
-none_some : {X : Type 0} (x : X) → None ≡ Some x → ⊥
-none_some x e = cc
-
 nth_owned : (classes : List Class) (right : List Sym) (hs : List (Attr Operand)) (k : ℕ) (h : Attr Operand) → Fit vax classes right hs → slice_get hs k ≡ Some h
     → IsPlace (hole_or_other (slice_get (holes_of classes right) k)) → Owned h
-nth_owned classes right [] k h f e p = absurd (none_some h e)
+nth_owned classes right [] k h f e p = absurd (none-some h e)
 nth_owned classes [] (x ∷ hs) k h f e p = absurd f
-nth_owned classes (y ∷ right) (x ∷ hs) zero h f e p = subst Owned (some_same x h e) (symbol_owned classes y x f.0 p)
+nth_owned classes (y ∷ right) (x ∷ hs) zero h f e p = subst Owned (same_Some x h e) (symbol_owned classes y x f.0 p)
 nth_owned classes (y ∷ right) (x ∷ hs) (suc k) h f e p = nth_owned classes right hs k h f.1 e p
 
 not_zero : (k : ℕ) → (suc k == 0) ≡ false
@@ -93,7 +88,7 @@ role_is roles k =
 
 place_owned : (classes : List Class) (right : List Sym) (hs : List (Attr Operand)) (i : ℕ) (h : Attr Operand) → Fit vax classes right hs → hole hs i ≡ Some h
     → (i ≡ 0) ⊎ IsPlace (hole_at (holes_of classes right) i) → Owned h
-place_owned classes right hs zero h f e p = absurd (none_some h e)
+place_owned classes right hs zero h f e p = absurd (none-some h e)
 place_owned classes right hs (suc k) h f e (inl z) = absurd (omega (arith, z))
 place_owned classes right hs (suc k) h f e (inr p) = nth_owned classes right hs k h f e (subst IsPlace (role_is (holes_of classes right) k) p)
 

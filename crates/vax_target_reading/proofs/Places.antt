@@ -1,8 +1,10 @@
 -- What stands at the places of the data area, of locals and of arguments.
-use Rattle.std.proofs.Common.{◌≡◌, ℕ, ◌+◌, ◌*◌, ◌%◌, ◌<◌, ◌≤◌, ◌==◌, ◌&&◌, Bool, true, false, cond, Option, Some, None, List, length, refl, sym, ap, subst, ◌∙◌, arith, slice_get}
+use Rattle.std.proofs.Common.{◌≡◌, ℕ, ◌+◌, ◌*◌, ◌%◌, ◌<◌, ◌==◌, ◌&&◌, Bool, true, false, cond, Option, Some, None, List, length, refl, sym, ap, subst, ◌∙◌, arith, slice_get}
 use Rattle.std.specs.Prelude.{nat_le, is_some, IsSome}
 use Rattle.std.specs.Option.{option_and_then}
 use Rattle.std.proofs.lemmas.Bool.Decides.{nat_tests}
+use Rattle.std.proofs.lemmas.Bool.{false≢true, le-leb}
+use Rattle.std.proofs.lemmas.Option.{none-some}
 use Rattle.gg_base.specs.declared.size.Size.{Size}
 use Rattle.gg_base.specs.declared.size.Size.TheVariants.{Long}
 use Rattle.gg_base.specs.Arithmetic.{add32, neg32}
@@ -28,25 +30,16 @@ use Rattle.vax_templates.specs.Filled.{spare, word_operand, slot_operand}
 use Rattle.vax_target_meaning.specs.Reading.{is_own, is_own_base, is_own_place, number_of, number_at, named, names, at_place, reads}
 use Rattle.vax_target_spelling.proofs.Own.{home_word, local_is}
 
-untrue : false ≡ true → ⊥
-untrue e = cc
-
-no_some : {A : Type 0} (x : A) → None ≡ Some x → ⊥
-no_some x e = cc
-
-some_is : {A : Type 0} (x y : A) → Some x ≡ Some y → x ≡ y
-some_is x y e = cc
-
 -- ---- operands that name an address read there
 
 pub by_names : (b : Base) (x : Option Reg) (size : Size) (a n : ℕ) (m : State) → names (record { base = b; index = x }) size m ≡ Some a →
     number_at (is_own_place (record { base = b; index = x })) m a size ≡ Some n → reads (record { base = b; index = x }) size m ≡ Some n
-by_names (bases.Imm d) x size a n m named e = absurd (no_some a named)
-by_names (bases.Reg r) x size a n m named e = absurd (no_some a named)
+by_names (bases.Imm d) x size a n m named e = absurd (none-some a named)
+by_names (bases.Reg r) x size a n m named e = absurd (none-some a named)
 by_names (bases.Def r) x size a n m named e = ap (option_and_then (at_place (record { base = bases.Def r; index = x }) size m)) named ∙ e
-by_names (bases.Inc r) x size a n m named e = absurd (no_some a named)
-by_names (bases.IncDef r) x size a n m named e = absurd (no_some a named)
-by_names (bases.Dec r) x size a n m named e = absurd (no_some a named)
+by_names (bases.Inc r) x size a n m named e = absurd (none-some a named)
+by_names (bases.IncDef r) x size a n m named e = absurd (none-some a named)
+by_names (bases.Dec r) x size a n m named e = absurd (none-some a named)
 by_names (bases.Disp d r) x size a n m named e = ap (option_and_then (at_place (record { base = bases.Disp d r; index = x }) size m)) named ∙ e
 by_names (bases.DispDef d r) x size a n m named e = ap (option_and_then (at_place (record { base = bases.DispDef d r; index = x }) size m)) named ∙ e
 by_names (bases.Abs k) x size a n m named e = ap (option_and_then (at_place (record { base = bases.Abs k; index = x }) size m)) named ∙ e
@@ -56,12 +49,12 @@ by_names (bases.RelDef d) x size a n m named e = ap (option_and_then (at_place (
 -- and what they read stands there
 pub of_names : (b : Base) (x : Option Reg) (size : Size) (a n : ℕ) (m : State) → names (record { base = b; index = x }) size m ≡ Some a →
     reads (record { base = b; index = x }) size m ≡ Some n → number_at (is_own_place (record { base = b; index = x })) m a size ≡ Some n
-of_names (bases.Imm d) x size a n m named e = absurd (no_some a named)
-of_names (bases.Reg r) x size a n m named e = absurd (no_some a named)
+of_names (bases.Imm d) x size a n m named e = absurd (none-some a named)
+of_names (bases.Reg r) x size a n m named e = absurd (none-some a named)
 of_names (bases.Def r) x size a n m named e = ap (option_and_then (at_place (record { base = bases.Def r; index = x }) size m)) (sym named) ∙ e
-of_names (bases.Inc r) x size a n m named e = absurd (no_some a named)
-of_names (bases.IncDef r) x size a n m named e = absurd (no_some a named)
-of_names (bases.Dec r) x size a n m named e = absurd (no_some a named)
+of_names (bases.Inc r) x size a n m named e = absurd (none-some a named)
+of_names (bases.IncDef r) x size a n m named e = absurd (none-some a named)
+of_names (bases.Dec r) x size a n m named e = absurd (none-some a named)
 of_names (bases.Disp d r) x size a n m named e = ap (option_and_then (at_place (record { base = bases.Disp d r; index = x }) size m)) (sym named) ∙ e
 of_names (bases.DispDef d r) x size a n m named e = ap (option_and_then (at_place (record { base = bases.DispDef d r; index = x }) size m)) (sym named) ∙ e
 of_names (bases.Abs k) x size a n m named e = ap (option_and_then (at_place (record { base = bases.Abs k; index = x }) size m)) (sym named) ∙ e
@@ -72,23 +65,20 @@ of_names (bases.RelDef d) x size a n m named e = ap (option_and_then (at_place (
 own_register : (r : Reg) (a : Addr) → is_own r a ≡ true → operand_bits (record { base = bases.Disp a r; index = None }) ≡ 0
 own_register Fp a e = refl
 own_register Ap a e = refl
-own_register r a e = absurd (untrue e)
+own_register r a e = absurd (false≢true e)
 
 own_bits : (b : Base) → is_own_base b ≡ true → operand_bits (record { base = b; index = None }) ≡ 0
 own_bits (bases.Disp a r) e = own_register r a e
-own_bits b e = absurd (untrue e)
+own_bits b e = absurd (false≢true e)
 
 pub own_spells_none : (b : Base) (x : Option Reg) → is_own_place (record { base = b; index = x }) ≡ true → operand_bits (record { base = b; index = x }) ≡ 0
 own_spells_none b None e = own_bits b e
-own_spells_none b (Some r) e = absurd (untrue e)
+own_spells_none b (Some r) e = absurd (false≢true e)
 
 -- ---- words and arguments
 
 is_own_word : (k : ℕ) → k < 1024 → is_own_place (home k) ≡ true
 is_own_word k lt = ap (λ (o : Option ℕ). is_some o) (home_word k lt)
-
-is_at_most : (n k : ℕ) → n ≤ k → nat_le n k ≡ true
-is_at_most n k le = grind (arith, nat_tests)
 
 is_zero : (n : ℕ) → n ≡ 0 → (n == 0) ≡ true
 is_zero n e = grind (arith, nat_tests)
@@ -101,11 +91,11 @@ three false b c e f g = absurd (cc)
 
 is_own_argument : (i : ℕ) → i < 255 → is_own_place (argument_home (i + 1)) ≡ true
 is_own_argument i lt =
-    three (nat_le 4 (4 * (i + 1))) (nat_le (4 * (i + 1)) 1020) (4 * (i + 1) % 4 == 0) (is_at_most 4 (4 * (i + 1)) (omega arith))
-    (is_at_most (4 * (i + 1)) 1020 (omega arith)) (is_zero (4 * (i + 1) % 4) (omega arith))
+    three (nat_le 4 (4 * (i + 1))) (nat_le (4 * (i + 1)) 1020) (4 * (i + 1) % 4 == 0) (le-leb 4 (4 * (i + 1)) (omega arith))
+    (le-leb (4 * (i + 1)) 1020 (omega arith)) (is_zero (4 * (i + 1) % 4) (omega arith))
 
 pub argument_is : (i : ℕ) → i < 255 → slot_operand tok.Arg (i + 1) ≡ argument_home (i + 1)
-argument_is i lt = ap (λ b. cond b (argument_home (i + 1)) spare) (is_at_most (i + 1) 255 (omega arith))
+argument_is i lt = ap (λ b. cond b (argument_home (i + 1)) spare) (le-leb (i + 1) 255 (omega arith))
 
 module _ (objects : List Object) (e : Extent) (es : List Extent) (t : Trees) (m : State) (h : Agrees objects e es t m) where
   home_address : (k : ℕ) → k < e.words → add32 (neg32 (4 * (k + 1))) (reg m Fp) ≡ word_of (reg m Fp) k
@@ -152,5 +142,5 @@ module _ (objects : List Object) (e : Extent) (es : List Extent) (t : Trees) (m 
   area_is_read false a x size is = ap (λ bytes. fetched size bytes a) h.area ∙ is
 
   pub area_is_read_back : (own : Bool) (a x : ℕ) (size : Size) → own ≡ false → number_at own m a size ≡ Some x → fetched size t.area a ≡ Some x
-  area_is_read_back true a x size e is = absurd (untrue (sym e))
+  area_is_read_back true a x size e is = absurd (false≢true (sym e))
   area_is_read_back false a x size e is = ap (λ bytes. fetched size bytes a) (sym h.area) ∙ is

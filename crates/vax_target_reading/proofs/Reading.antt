@@ -1,7 +1,8 @@
 -- The law, field by field.
-use Rattle.std.proofs.Common.{◌≡◌, ℕ, zero, suc, ◌^◌, ◌*◌, ◌<◌, Bool, true, false, Option, Some, List, [], ◌∷◌, map, length, refl, sym, subst, arith, slice_get}
+use Rattle.std.proofs.Common.{◌≡◌, ℕ, zero, suc, ◌^◌, ◌*◌, ◌<◌, Option, Some, List, [], ◌∷◌, map, length, refl, sym, subst, arith, slice_get}
 use Rattle.std.specs.Prelude.{IsSome}
 use Rattle.std.specs.List.{AllByRecursion}
+use Rattle.std.proofs.lemmas.Bool.{false_from_ne_true}
 use Rattle.gg_base.specs.Sizes.{bytes_of}
 use Rattle.vax_target_meaning.specs.Reading.{is_own_place, names, reads}
 use Rattle.vax_target_meaning.specs.Vax.{extent_of}
@@ -20,10 +21,6 @@ within [] k x e = absurd (cc)
 within (y ∷ ys) zero x e = omega arith
 within (y ∷ ys) (suc k) x e = let lt = within ys k x e in omega (arith, lt)
 
-not_true : (b : Bool) → (b ≡ true → ⊥) → b ≡ false
-not_true true h = absurd (h refl)
-not_true false h = refl
-
 some : (o : Option ℕ) (x : ℕ) → o ≡ Some x → IsSome o
 some o x e = subst IsSome (sym e) refl
 
@@ -36,7 +33,7 @@ operands_read = record {
       by_names o.base o.index size a x m named (area_is_read q.objects (extent_of f) (map extent_of fs) t m h (is_own_place o) a x size is);
   place_read = λ q f fs t o size a x m h fit spelled named is.
       area_is_read_back q.objects (extent_of f) (map extent_of fs) t m h (is_own_place o) a x size
-      (not_true (is_own_place o) (λ own. spelled (own_spells_none o.base o.index own))) (of_names o.base o.index size a x m named is);
+      (false_from_ne_true (is_own_place o) (λ own. spelled (own_spells_none o.base o.index own))) (of_names o.base o.index size a x m named is);
   local_read = λ q f fs t k x m h low is. local_is_read q.objects (extent_of f) (map extent_of fs) t m h k x low is;
   local_there = λ q f fs t k m h lt low. some _ _ (word_is_read q.objects (extent_of f) (map extent_of fs) t m h k low lt);
   local_named = λ q f fs t k m h lt low. word_is_named q.objects (extent_of f) (map extent_of fs) t m h k low;

@@ -26,12 +26,6 @@ use Rattle.tree_core.specs.Area.{fetched, is_inside}
 use Rattle.vax_target_meaning.specs.Reading as reading
 use Rattle.vax_target_meaning.specs.Reading.{number_of, longword, displaced, named, is_own, is_own_place, moved, names, at_place, in_memory, reads_by, reads}
 
-no_some : {A : Type 0} (x : A) → None ≡ Some x → ⊥
-no_some x e = cc
-
-some_is : {A : Type 0} (x y : A) → Some x ≡ Some y → x ≡ y
-some_is x y e = cc
-
 pub all_bytes : (bytes : List ℕ) → AllBelow 256 bytes → AllByRecursion (λ b. b < 256) bytes
 all_bytes [] h = tt
 all_bytes (b ∷ bs) h = (h.0, all_bytes bs h.1)

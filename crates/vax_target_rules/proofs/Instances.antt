@@ -3,6 +3,8 @@ use Rattle.std.proofs.Common.{◌≡◌, ℕ, zero, suc, ◌+◌, ◌-◌, ◌*�
 use Rattle.std.specs.Prelude.{IsSome, is_some, is_none, unwrap_or, ◌&&◌, not, nat_lt, nat_le, slice_get}
 use Rattle.std.specs.Option.{option_map}
 use Rattle.std.proofs.lemmas.Bool.{eqb-true, lt-ltb}
+use Rattle.std.proofs.lemmas.Option.{none-some, same_Some}
+use Rattle.gg_base.proofs.Facts.{first_true, second_true}
 use Rattle.gg_base.specs.declared.size.Size.{Size}
 use Rattle.gg_base.specs.declared.size.Size.TheVariants.{Byte, Word, Long}
 use Rattle.gg_base.specs.Sizes.{bytes_of}
@@ -54,7 +56,7 @@ use Rattle.vax_templates.specs.Filled.{alone, spare, attr_or, attr_at, numbered,
 use Rattle.vax_target_meaning.specs.Reading.{named, moved, names, reads}
 use Rattle.vax_target_meaning.specs.Vax.{vax}
 use Rattle.vax_target_operands.specs.Scenes.{Scene, worth, role_at, filling_at, IsRegister, IsPlace, IsLocal, Names, IsNumber, IsObject, IsSavedLocal, Means, OwnIs, IsOwnRegister, Sees}
-use Rattle.vax_target_operands.proofs.Machine.{none_some, some_same, mapped, left_true, right_true}
+use Rattle.vax_target_operands.proofs.Machine.{mapped}
 use Rattle.vax_target_rules.specs.Scene.{scene_of, InstancesAreSeen}
 
 pub some_of : (o : Option ℕ) → IsSome o → (x : ℕ) × (o ≡ Some x)
@@ -96,15 +98,15 @@ module _ (c : Scene) (m : State) (i : ℕ) (labelled : AreLabelled c.program.obj
 
   address_means : (o : Operand) → vax.fits kind.Ea o ≡ true → names o Long m ≡ Some (worth c (Symbol i)) → Names m o (worth c (Symbol i))
   address_means o fits e =
-      let none = none_index o (left_true (is_none o.index) _ fits) in
+      let none = none_index o (first_true (is_none o.index) _ fits) in
       let r = mapped (moved m o.index Long) (named m o.base) (worth c (Symbol i)) e in
       record { plain = none; named_so = r.1 ∙ ap (λ (x : ℕ). Some x) (sym (ap (λ x. moved m x Long r.0) none) ∙ r.2) }
 
   object_by : (o : Option Object) (object offset : ℕ) → slice_get c.program.objects object ≡ o → address_of o offset ≡ Some (worth c (Symbol i))
       → IsObject c m i (token tok.Gaddr (att.Object object offset))
-  object_by None object offset is e = absurd (none_some (worth c (Symbol i)) e)
+  object_by None object offset is e = absurd (none-some (worth c (Symbol i)) e)
   object_by (Some o) object offset is e = record {
-    address = ap (λ x. resolved_of m.layout (label_of x) offset) is ∙ ap (λ x. add32 x offset) (labelled object o is) ∙ some_same (add32 o.address offset) (worth c (Symbol i)) e;
+    address = ap (λ x. resolved_of m.layout (label_of x) offset) is ∙ ap (λ x. add32 x offset) (labelled object o is) ∙ same_Some (add32 o.address offset) (worth c (Symbol i)) e;
     operand_is = refl;
     deferred_is = refl;
   }
@@ -148,7 +150,7 @@ module _ (c : Scene) (m : State) (i : ℕ) (labelled : AreLabelled c.program.obj
 
   constant_means : (a : Att) → is_of_kind att_kind.Other a ≡ true → KnowsToken tok.Const a → TokenIsWhole tok.Const a (c.view.symbol i) → IsNumber c (token tok.Const a) (worth c (Symbol i))
   constant_means att.Nothing fits known whole = cc
-  constant_means (att.Number n) fits known whole = record { nameless = refl; is = some_same n (worth c (Symbol i)) (known whole); low = worth_small (Symbol i) }
+  constant_means (att.Number n) fits known whole = record { nameless = refl; is = same_Some n (worth c (Symbol i)) (known whole); low = worth_small (Symbol i) }
   constant_means (att.Object object offset) fits known whole = cc
   constant_means (att.Slot k) fits known whole = cc
   constant_means (att.Branch rel label) fits known whole = cc
@@ -177,7 +179,7 @@ module _ (c : Scene) (m : State) (i : ℕ) (labelled : AreLabelled c.program.obj
   argument_means att.Nothing fits known whole homes = cc
   argument_means (att.Number n) fits known whole homes = cc
   argument_means (att.Object object offset) fits known whole homes = cc
-  argument_means (att.Slot k) fits known whole homes = argument_by (nat_le k 255) k (right_true (nat_le 1 k) (nat_le k 255) fits) (known whole) (homes (slot_operand tok.Arg k) refl)
+  argument_means (att.Slot k) fits known whole homes = argument_by (nat_le k 255) k (second_true (nat_le 1 k) (nat_le k 255) fits) (known whole) (homes (slot_operand tok.Arg k) refl)
   argument_means (att.Branch rel label) fits known whole homes = cc
   argument_means (att.Label label) fits known whole homes = cc
   argument_means (att.Callee function count) fits known whole homes = cc
@@ -193,7 +195,7 @@ module _ (c : Scene) (m : State) (i : ℕ) (labelled : AreLabelled c.program.obj
 
   class_means : (k : Option Kind) (h : Attr Operand) → KindFits vax k h → Knows (size_of_kind k) h → IsWhole h (c.view.symbol i) → HasHome (size_of_kind k) h → Means c m (hole_of_kind k) i h
   class_means None h fits known whole homes = tt
-  class_means (Some kind.Reg) (attr.Reg r) fits known whole homes = record { number = r; is = refl; low = fits; holds = some_same (reg m (numbered r)) (worth c (Symbol i)) (known whole) }
+  class_means (Some kind.Reg) (attr.Reg r) fits known whole homes = record { number = r; is = refl; low = fits; holds = same_Some (reg m (numbered r)) (worth c (Symbol i)) (known whole) }
   class_means (Some kind.Reg) (attr.InSlot k) fits known whole homes = absurd fits
   class_means (Some kind.Reg) (attr.Value o) fits known whole homes = absurd fits
   class_means (Some kind.Reg) (attr.Place o) fits known whole homes = absurd fits
@@ -221,7 +223,7 @@ module _ (c : Scene) (m : State) (i : ℕ) (labelled : AreLabelled c.program.obj
   class_means (Some kind.Con) (attr.InSlot k) fits known whole homes = absurd fits
   class_means (Some kind.Con) (attr.Value o) fits known whole homes = absurd fits
   class_means (Some kind.Con) (attr.Place o) fits known whole homes = absurd fits
-  class_means (Some kind.Con) (attr.Con n) fits known whole homes = record { nameless = refl; is = some_same n (worth c (Symbol i)) (known whole); low = worth_small (Symbol i) }
+  class_means (Some kind.Con) (attr.Con n) fits known whole homes = record { nameless = refl; is = same_Some n (worth c (Symbol i)) (known whole); low = worth_small (Symbol i) }
   class_means (Some kind.Con) (attr.Ea o) fits known whole homes = absurd fits
   class_means (Some kind.Con) (attr.Token l) fits known whole homes = absurd fits
   class_means (Some kind.Con) attr.Nothing fits known whole homes = absurd fits

@@ -3,7 +3,7 @@ use Rattle.std.proofs.Common.{◌≡◌, ℕ, ◌+◌, ◌*◌, ◌^◌, ◌<◌
 use Rattle.std.specs.Prelude.{slice_index, nat_lt, ◌||◌, ◌&&◌, length}
 use Rattle.std.specs.Int.{bit_at}
 use Rattle.std.specs.Option.{option_map, option_and_then}
-use Rattle.std.proofs.lemmas.Bool.{lt-ltb}
+use Rattle.std.proofs.lemmas.Bool.{lt-ltb, or_right}
 use Rattle.gg_base.specs.declared.size.Size.{Size}
 use Rattle.gg_base.specs.declared.size.Size.TheVariants.{Long}
 use Rattle.gg_base.specs.Sizes.{bytes_of}
@@ -102,10 +102,6 @@ module _ (m : State) (rs : List ℕ) (k : Conditions) where
 named_true : (r : Reg) (n : ℕ) → n < 12 → reg_number r ≡ n → is_named (Some r) n ≡ true
 named_true r n lt e = ap (λ b. b && nat_lt n 12) (eq-eqb (reg_number r) n e) ∙ lt-ltb n 12 lt
 
-or_true : (a b : Bool) → b ≡ true → (a || b) ≡ true
-or_true true b e = refl
-or_true false b e = e
-
 names_both : (o : Operand) (n : ℕ) (r : Reg) → n < 12 → reg_number r ≡ n → (bit_at (operand_bits o) n == 1) ≡ false → operand_names o n ≡ true → ⊥
 names_both o n r lt e off on =
     let is : bit_at (operand_bits o) n ≡ 1 = operand_named o n ∙ ap bit on in
@@ -118,7 +114,7 @@ base_untouched o n r lt off is e =
 
 pub index_untouched : (o : Operand) (n : ℕ) (r : Reg) → n < 12 → (bit_at (operand_bits o) n == 1) ≡ false → o.index ≡ Some r → reg_number r ≡ n → ⊥
 index_untouched o n r lt off is e =
-    names_both o n r lt e off (or_true (is_named (base_register o.base) n) (is_named o.index n) (ap (λ x. is_named x n) is ∙ named_true r n lt e))
+    names_both o n r lt e off (or_right (is_named (base_register o.base) n) (is_named o.index n) (ap (λ x. is_named x n) is ∙ named_true r n lt e))
 
 -- ---- two states that differ
 

@@ -1,6 +1,7 @@
 -- A line that was checked to save stores what it saves in its slot.
 use Rattle.std.proofs.Common.{◌≡◌, inl, inr, ℕ, true, false, cond, Some, None, Result, Ok, List, [], ◌∷◌, sym, ap, subst, ◌∙◌}
 use Rattle.std.specs.List.{AllByRecursion}
+use Rattle.std.proofs.lemmas.Option.{same_Some}
 use Rattle.gg_base.specs.declared.size.Size.{Size}
 use Rattle.tree_core.specs.declared.program.TreeProgram.{TreeProgram}
 use Rattle.md_reader_pieces.specs.declared.piece.Line.{Line}
@@ -41,9 +42,6 @@ use Rattle.vax_target_saving.proofs.Found.{StatementFound, statement_found}
 use Rattle.vax_target_saving.proofs.Parts.{stored_reads}
 use Rattle.vax_target_saving.proofs.Scene.{scene}
 
-some_is : {A : Type 0} (x y : A) → Some x ≡ Some y → x ≡ y
-some_is x y e = cc
-
 ok_is : {A E : Type 0} (x y : A) → ◌≡◌ {A = Result A E} (Ok x) (Ok y) → x ≡ y
 ok_is x y e = cc
 
@@ -59,7 +57,7 @@ slot_stands m w size l f s =
 
 -- and the address that it names
 slot_named : (m : State) (w : ℕ) (size : Size) (a : ℕ) → IsFrameWord m w → names (home w) size m ≡ Some a → a ≡ word_of (reg m Fp) w
-slot_named m w size a f e = sym (some_is (displaced m Fp (word_addr w)) a e) ∙ slot_address m w f
+slot_named m w size a f e = sym (same_Some (displaced m Fp (word_addr w)) a e) ∙ slot_address m w f
 
 -- a number is put there
 puts : (m : State) (w : ℕ) (size : Size) (x : ℕ) (k : Conditions) → IsFrameWord m w → putting m (locations.Memory (word_of (reg m Fp) w)) size x k ≡ course_of (Ok (None, with_word m w size x k))

@@ -1,6 +1,7 @@
 -- What stands in a term that can be read can be read.
-use Rattle.std.proofs.Common.{◌≡◌, ℕ, ◌||◌, ◌&&◌, Bool, true, false, List, [], ◌∷◌, refl, sym, subst}
+use Rattle.std.proofs.Common.{◌≡◌, ℕ, ◌||◌, Bool, true, false, List, [], ◌∷◌, refl, sym, subst}
 use Rattle.std.specs.List.{AllByRecursion, list_any, list_all}
+use Rattle.std.proofs.lemmas.Bool.{false≢true, and_parts}
 use Rattle.term_core.specs.Shape.{Shape, Constant, Symbol, LastResult, Memory, Unary, Binary}
 use Rattle.term_core.specs.Order.{same_term}
 use Rattle.term_core.proofs.Alike.{term_same}
@@ -8,9 +9,6 @@ use Rattle.sel_terms.specs.Effects.{EffectShape, Value, StoreHome}
 use Rattle.sel_target.specs.Values.{View, IsRead}
 use Rattle.gg_base.specs.declared.size.Size.{Size}
 use Rattle.vax_templates.specs.Found.{contains, act_contains, effect_contains}
-
-untrue : false ≡ true → ⊥
-untrue e = cc
 
 or_split : (a b : Bool) (P : Type 0) → (a || b) ≡ true → (a ≡ true → P) → (b ≡ true → P) → P
 or_split true b P e f g = f refl
@@ -31,21 +29,17 @@ part_is_read v part (Binary op a b) e h =
     or_split (same_term part (Binary op a b)) (contains part a || contains part b) (IsRead v part) e (λ s. itself v part (Binary op a b) s h)
     (λ c. or_split (contains part a) (contains part b) (IsRead v part) c (λ x. part_is_read v part a x h.0) (λ x. part_is_read v part b x h.1))
 
-and_split : (a b : Bool) → (a && b) ≡ true → (a ≡ true) × (b ≡ true)
-and_split true b e = (refl, e)
-and_split false b e = absurd (untrue e)
-
 -- an effect of one term that doesn't divide
 all_read : (v : View) (e : EffectShape) (t : Shape) → ((part : Shape) → effect_contains e part ≡ true → contains part t ≡ true) → IsRead v t → (reads : List Shape) →
     list_all (effect_contains e) reads ≡ true → AllByRecursion (λ (r : Shape). IsRead v r) reads
 all_read v e t only h [] all = tt
 all_read v e t only h (r ∷ rs) all =
-    let both = and_split (effect_contains e r) (list_all (effect_contains e) rs) all in
+    let both = and_parts (effect_contains e r) (list_all (effect_contains e) rs) all in
     (part_is_read v r t (only r both.0) h, all_read v e t only h rs both.1)
 
 or_false : (a : Bool) → (a || false) ≡ true → a ≡ true
 or_false true e = refl
-or_false false e = absurd (untrue e)
+or_false false e = absurd (false≢true e)
 
 pub stored_reads : (v : View) (e : EffectShape) (z : Size) (i : ℕ) (t : Shape) → e.act ≡ StoreHome z i t → e.divisors ≡ [] → IsRead v t → (reads : List Shape) →
     list_all (effect_contains e) reads ≡ true → AllByRecursion (λ (r : Shape). IsRead v r) reads

@@ -1,8 +1,9 @@
 -- The scene in which a line saves: one symbol, and the slot for `%0`.
-use Rattle.std.proofs.Common.{◌≡◌, ℕ, zero, suc, ◌-◌, ◌*◌, ◌%◌, ◌^◌, ◌<◌, ◌==◌, ◌&&◌, Bool, true, false, cond, Option, Some, None, List, [], ◌∷◌, refl, sym, ap, subst, ◌∙◌, arith}
+use Rattle.std.proofs.Common.{◌≡◌, ℕ, zero, suc, ◌-◌, ◌*◌, ◌%◌, ◌^◌, ◌<◌, ◌==◌, true, false, cond, Option, Some, None, List, [], ◌∷◌, refl, sym, ap, subst, ◌∙◌, arith}
 use Rattle.std.proofs.Common.{slice_get, option_map}
 use Rattle.std.specs.Prelude.{is_none, unwrap_or}
 use Rattle.std.proofs.lemmas.Bool.Decides.{nat_tests}
+use Rattle.gg_base.proofs.Facts.{first_true}
 use Rattle.gg_base.specs.declared.size.Size.{Size}
 use Rattle.gg_base.specs.declared.size.Size.TheVariants.{Byte, Word, Long}
 use Rattle.gg_base.specs.Sizes.{bytes_of}
@@ -90,10 +91,6 @@ pub place_means : (q : TreeProgram) (size : Size) (o : Operand) (res : Attr Oper
     names o size m ≡ Some n → n < 2 ^ 32 → Means (scene q (kind.Place size) (attr.Place o) res v) m (hole_kind.SavedPlace size) 1 (attr.Place o)
 place_means q size o res n v m known e lt = e ∙ ap Some (sym (symbol_is v n known lt))
 
-first : (a b : Bool) → (a && b) ≡ true → a ≡ true
-first true b e = refl
-first false b e = absurd (cc)
-
 no_index : {A : Type 0} (o : Option A) → is_none o ≡ true → o ≡ None
 no_index None e = refl
 no_index (Some x) e = absurd (cc)
@@ -107,5 +104,5 @@ without o size m n plain e = same (named m o.base) ∙ (ap (λ i. option_map (mo
 pub address_means : (q : TreeProgram) (o : Operand) (res : Attr Operand) (n : ℕ) (v : View) (m : State) → fits kind.Ea o ≡ true → v.symbol 1 ≡ Some n →
     names o Long m ≡ Some n → n < 2 ^ 32 → Means (scene q kind.Ea (attr.Ea o) res v) m hole_kind.Address 1 (attr.Ea o)
 address_means q o res n v m fit known e lt =
-    let plain = no_index o.index (first (is_none o.index) (is_place o) fit) in
+    let plain = no_index o.index (first_true (is_none o.index) (is_place o) fit) in
     record { plain = plain; named_so = without o Long m n plain e ∙ ap Some (sym (symbol_is v n known lt)) }

@@ -3,7 +3,7 @@ use Rattle.std.proofs.Common.{◌≡◌, ◌⊎◌, inl, inr, ⊎_elim, ℕ, ◌
 use Rattle.std.proofs.Common.{length, refl, sym, ap, subst, ◌∙◌, arith, option_map}
 use Rattle.std.specs.Prelude.{nat_le, is_some}
 use Rattle.std.specs.Option.{option_and_then}
-use Rattle.std.proofs.lemmas.Bool.{le-leb, lt-leb, cases_lt}
+use Rattle.std.proofs.lemmas.Bool.{le-leb, lt-leb, cases_lt, false≢true}
 use Rattle.std.proofs.lemmas.Bool.Decides.{nat_tests}
 use Rattle.gg_base.specs.declared.size.Size.{Size}
 use Rattle.gg_base.specs.declared.size.Size.TheVariants.{Byte, Word, Long}
@@ -92,9 +92,6 @@ some_bytes Byte = omega arith
 some_bytes Word = omega arith
 some_bytes Long = omega arith
 
-untrue : false ≡ true → ⊥
-untrue e = cc
-
 module _ (m : State) (w : ℕ) (f : IsFrameWord m w) where
   is_touched : (size : Size) → touched m (place_of m w) size ≡ Ok (regions.Stack (place_of m w - 2139095040))
   unfolding touched
@@ -160,15 +157,15 @@ module _ (m : State) (w : ℕ) (f : IsFrameWord m w) where
 
     all_three : (a b c : Bool) (o : ℕ) → is_some (cond (a && (b && c)) (Some o) None) ≡ true → (a ≡ true) × (b ≡ true) × (c ≡ true)
     all_three true true true o e = (refl, refl, refl)
-    all_three true true false o e = absurd (untrue e)
-    all_three true false c o e = absurd (untrue e)
-    all_three false b c o e = absurd (untrue e)
+    all_three true true false o e = absurd (false≢true e)
+    all_three true false c o e = absurd (false≢true e)
+    all_three false b c o e = absurd (false≢true e)
 
     two_more : (a b c : Bool) → (a && (b && c)) ≡ true → (a ≡ true) × (b ≡ true) × (c ≡ true)
     two_more true true true e = (refl, refl, refl)
-    two_more true true false e = absurd (untrue e)
-    two_more true false c e = absurd (untrue e)
-    two_more false b c e = absurd (untrue e)
+    two_more true true false e = absurd (false≢true e)
+    two_more true false c e = absurd (false≢true e)
+    two_more false b c e = absurd (false≢true e)
 
     is_le : (a b : ℕ) → nat_le a b ≡ true → a ≤ b
     is_le a b e = grind (arith, nat_tests)
@@ -203,7 +200,7 @@ module _ (m : State) (w : ℕ) (f : IsFrameWord m w) where
         let from : 2139095040 ≤ reg m Fp = omega (arith, f.low, f.far) in
         let e = behind_fp offset (neg32 offset) refl b.0 b.1 from (omega (arith, f.end)) in
         subst (λ a. Apart a y) (sym e) (other_word (neg32 offset) (bytes_of y) b.0 b.1 b.2 b.3 (few_bytes y) (omega (arith, b.1, from)))
-    word_apart (Some name) offset y some other = absurd (untrue some)
+    word_apart (Some name) offset y some other = absurd (false≢true some)
 
     argument_apart : (name : Option (List ℕ)) (offset : ℕ) (y : Size) → is_argument name offset ≡ true → Apart (add32 (resolved_of m.layout name offset) (reg m Ap)) y
     argument_apart None offset y e =
@@ -212,12 +209,12 @@ module _ (m : State) (w : ℕ) (f : IsFrameWord m w) where
         let most = is_le offset 1020 t.1 in
         let sum : add32 offset (reg m Ap) ≡ reg m Ap + offset = omega (arith, most, f.top) in
         inr (omega (arith, sum, least, f.high, f.far))
-    argument_apart (Some name) offset y e = absurd (untrue e)
+    argument_apart (Some name) offset y e = absurd (false≢true e)
 
     own_apart : (r : Reg) (a : Addr) (y : Size) → is_own r a ≡ true → is_word (word_behind r a) w ≡ false → Apart (displaced m r a) y
     own_apart Fp a y own other = word_apart a.name a.offset y own other
     own_apart Ap a y own other = argument_apart a.name a.offset y own
-    own_apart r a y own other = absurd (untrue own)
+    own_apart r a y own other = absurd (false≢true own)
 
     at_own : (own : Bool) (r : Reg) (a : Addr) (y : Size) → is_own r a ≡ own → is_word (word_behind r a) w ≡ false →
         reading.number_at own after (displaced m r a) y ≡ reading.number_at own m (displaced m r a) y

@@ -1,7 +1,8 @@
 -- What the operands of registers, words and arguments spell, and which operands are spelled alike.
-use Rattle.std.proofs.Common.{◌≡◌, ◌↔◌, ℕ, zero, suc, ◌+◌, ◌-◌, ◌*◌, ◌/◌, ◌%◌, ◌^◌, ◌<◌, ◌≤◌, ◌==◌, ◌&&◌, ◌||◌, Bool, true, false, cond, Option, Some, None, refl, ap, ◌∙◌, arith}
+use Rattle.std.proofs.Common.{◌≡◌, ◌↔◌, ℕ, zero, suc, ◌+◌, ◌-◌, ◌*◌, ◌/◌, ◌%◌, ◌^◌, ◌<◌, ◌==◌, ◌&&◌, ◌||◌, Bool, true, false, cond, Option, Some, None, refl, ap, ◌∙◌, arith}
 use Rattle.std.specs.Prelude.{nat_lt, nat_le}
 use Rattle.std.proofs.lemmas.Bool.Decides.{nat_tests}
+use Rattle.std.proofs.lemmas.Bool.{lt-ltb, le-leb}
 use Rattle.gg_base.specs.Arithmetic.{neg32}
 use Rattle.tree_core.specs.declared.token.Tok.TheVariants as tok
 use Rattle.sel_target.specs.Meaning.{Spot, RegAt, WordAt, touches, is_word}
@@ -40,12 +41,6 @@ register_bits (suc (suc (suc (suc (suc (suc (suc (suc (suc (suc (suc (suc n)))))
 
 -- ---- words of the frame
 
-is_below : (n k : ℕ) → n < k → nat_lt n k ≡ true
-is_below n k lt = grind (arith, nat_tests)
-
-is_at_most : (n k : ℕ) → n ≤ k → nat_le n k ≡ true
-is_at_most n k le = grind (arith, nat_tests)
-
 is_zero : (n : ℕ) → n ≡ 0 → (n == 0) ≡ true
 is_zero n e = grind (arith, nat_tests)
 
@@ -61,7 +56,7 @@ by_tests false b c o e f g = absurd (cc)
 word_at : (w : ℕ) → w < 1024 → word_below (4 * (w + 1)) ≡ Some w
 word_at w lt =
     by_tests (nat_le 4 (4 * (w + 1))) (nat_le (4 * (w + 1)) 4096) (4 * (w + 1) % 4 == 0) (Some (4 * (w + 1) / 4 - 1))
-    (is_at_most 4 (4 * (w + 1)) (omega arith)) (is_at_most (4 * (w + 1)) 4096 (omega arith)) (is_zero (4 * (w + 1) % 4) (omega arith))
+    (le-leb 4 (4 * (w + 1)) (omega arith)) (le-leb (4 * (w + 1)) 4096 (omega arith)) (is_zero (4 * (w + 1) % 4) (omega arith))
     ∙ ap Some (let e : 4 * (w + 1) / 4 - 1 ≡ w = omega arith in e)
 
 pub home_word : (w : ℕ) → w < 1024 → word_of (home w).base ≡ Some w
@@ -71,7 +66,7 @@ pub at_home_word : (w : ℕ) → w < 1024 → word_of (at_home w).base ≡ Some 
 at_home_word w lt = home_word w lt
 
 pub local_is : (k : ℕ) → k < 1024 → word_operand k ≡ home k
-local_is k lt = ap (λ b. cond b (home k) spare) (is_below k 1024 lt)
+local_is k lt = ap (λ b. cond b (home k) spare) (lt-ltb k 1024 lt)
 
 pub local_word : (k : ℕ) → k < 1024 → word_of (word_operand k).base ≡ Some k
 local_word k lt = ap (λ (o : Operand). word_of o.base) (local_is k lt) ∙ home_word k lt

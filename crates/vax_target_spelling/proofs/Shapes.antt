@@ -6,6 +6,7 @@ use Rattle.gg_base.specs.declared.size.Size.{Size}
 use Rattle.gg_base.specs.declared.size.Size.TheVariants.{Byte, Long}
 use Rattle.gg_base.specs.Arithmetic.{neg32}
 use Rattle.std.proofs.lemmas.Bool.Decides.{nat_tests}
+use Rattle.std.proofs.lemmas.Bool.{false≢true, or_left, or_right}
 use Rattle.tree_core.specs.declared.token.Tok.{Tok}
 use Rattle.tree_core.specs.declared.token.Tok.TheVariants as tok
 use Rattle.tree_core.specs.declared.token.AttKind.TheVariants as att_kind
@@ -61,30 +62,27 @@ use Rattle.vax_target_meaning.specs.Vax.{vax}
 use Rattle.vax_target_writing.proofs.Each.{EachOk, bind_each, always_ok, still_ok, of_ok}
 use Rattle.vax_target_spelling.proofs.Own.{names_at, base_at, touches_is}
 
-untrue : false ≡ true → ⊥
-untrue e = cc
-
 -- ---- operands that touch nothing, and those that touch what a register touches
 
 imm_touches : (a : Addr) (s : Spot) → touches vax (alone (bases.Imm a)) s ≡ true → ⊥
-imm_touches a (RegAt n) e = untrue (sym (touches_is (alone (bases.Imm a)) (RegAt n)) ∙ e)
-imm_touches a (WordAt w) e = untrue e
+imm_touches a (RegAt n) e = false≢true (sym (touches_is (alone (bases.Imm a)) (RegAt n)) ∙ e)
+imm_touches a (WordAt w) e = false≢true e
 
 abs_touches : (n : ℕ) (s : Spot) → touches vax (alone (bases.Abs n)) s ≡ true → ⊥
-abs_touches n (RegAt k) e = untrue (sym (touches_is (alone (bases.Abs n)) (RegAt k)) ∙ e)
-abs_touches n (WordAt w) e = untrue e
+abs_touches n (RegAt k) e = false≢true (sym (touches_is (alone (bases.Abs n)) (RegAt k)) ∙ e)
+abs_touches n (WordAt w) e = false≢true e
 
 rel_touches : (a : Addr) (s : Spot) → touches vax (alone (bases.Rel a)) s ≡ true → ⊥
-rel_touches a (RegAt n) e = untrue (sym (touches_is (alone (bases.Rel a)) (RegAt n)) ∙ e)
-rel_touches a (WordAt w) e = untrue e
+rel_touches a (RegAt n) e = false≢true (sym (touches_is (alone (bases.Rel a)) (RegAt n)) ∙ e)
+rel_touches a (WordAt w) e = false≢true e
 
 reldef_touches : (a : Addr) (s : Spot) → touches vax (alone (bases.RelDef a)) s ≡ true → ⊥
-reldef_touches a (RegAt n) e = untrue (sym (touches_is (alone (bases.RelDef a)) (RegAt n)) ∙ e)
-reldef_touches a (WordAt w) e = untrue e
+reldef_touches a (RegAt n) e = false≢true (sym (touches_is (alone (bases.RelDef a)) (RegAt n)) ∙ e)
+reldef_touches a (WordAt w) e = false≢true e
 
 def_touches : (r : Reg) (s : Spot) → touches vax (alone (bases.Def r)) s ≡ true → touches vax (alone (bases.Reg r)) s ≡ true
 def_touches r (RegAt n) e = e
-def_touches r (WordAt w) e = absurd (untrue e)
+def_touches r (WordAt w) e = absurd (false≢true e)
 
 -- only fp stands before a word of the frame
 no_word : (n : ℕ) (a : Addr) → n < 12 → word_behind (numbered n) a ≡ None
@@ -104,20 +102,16 @@ no_word (suc (suc (suc (suc (suc (suc (suc (suc (suc (suc (suc (suc n)))))))))))
 
 disp_touches : (n : ℕ) (a : Addr) (s : Spot) → n < 12 → touches vax (alone (bases.Disp a (numbered n))) s ≡ true → touches vax (alone (bases.Reg (numbered n))) s ≡ true
 disp_touches n a (RegAt k) lt e = e
-disp_touches n a (WordAt w) lt e = absurd (untrue (ap (λ o. is_word o w) (sym (no_word n a lt)) ∙ e))
+disp_touches n a (WordAt w) lt e = absurd (false≢true (ap (λ o. is_word o w) (sym (no_word n a lt)) ∙ e))
 
 dispdef_touches : (n : ℕ) (a : Addr) (s : Spot) → n < 12 → touches vax (alone (bases.DispDef a (numbered n))) s ≡ true → touches vax (alone (bases.Reg (numbered n))) s ≡ true
 dispdef_touches n a (RegAt k) lt e = e
-dispdef_touches n a (WordAt w) lt e = absurd (untrue (ap (λ o. is_word o w) (sym (no_word n a lt)) ∙ e))
+dispdef_touches n a (WordAt w) lt e = absurd (false≢true (ap (λ o. is_word o w) (sym (no_word n a lt)) ∙ e))
 
 -- an index touches what its register touches, and the base what it does alone
 or_split : (a b : Bool) {P : Type 0} → (a || b) ≡ true → (a ≡ true → P) → (b ≡ true → P) → P
 or_split true b e f g = f refl
 or_split false b e f g = g e
-
-or_left : (a b : Bool) → a ≡ true → (a || b) ≡ true
-or_left true b e = refl
-or_left false b e = absurd (untrue e)
 
 indexed_touches : (o : Operand) (r : Reg) (s : Spot) (P : Type 0) → touches vax (record o { index = Some r }) s ≡ true →
     (touches vax o s ≡ true → P) → (touches vax (alone (bases.Reg r)) s ≡ true → P) → P
@@ -127,7 +121,7 @@ indexed_touches o r s P e f g =
     (λ n. g (touches_is (alone (bases.Reg r)) s ∙ as_register s n)) where
       as_register : (s : Spot) → names_at (Some r) s ≡ true → (base_at (bases.Reg r) s || names_at None s) ≡ true
       as_register (RegAt n) e = or_left _ false e
-      as_register (WordAt w) e = absurd (untrue e)
+      as_register (WordAt w) e = absurd (false≢true e)
 
 -- ---- what holes touch
 
@@ -278,12 +272,8 @@ tells_nth q (x ∷ hs') [] k h = absurd h
 tells_nth q (x ∷ hs') (a ∷ hs) zero h = h.0
 tells_nth q (x ∷ hs') (a ∷ hs) (suc k) h = tells_nth q hs' hs k h.1
 
-or_right : (a b : Bool) → b ≡ true → (a || b) ≡ true
-or_right true b e = refl
-or_right false b e = e
-
 any_nth : (s : Spot) (hs : List (Attr Operand)) (k : ℕ) → attr_touches vax (attr_or attr.Nothing (slice_get hs k)) s ≡ true → list_any (λ h. attr_touches vax h s) hs ≡ true
-any_nth s [] k e = absurd (untrue e)
+any_nth s [] k e = absurd (false≢true e)
 any_nth s (h ∷ hs) zero e = or_left (attr_touches vax h s) (list_any (λ g. attr_touches vax g s) hs) e
 any_nth s (h ∷ hs) (suc k) e = or_right (attr_touches vax h s) (list_any (λ g. attr_touches vax g s) hs) (any_nth s hs k e)
 
@@ -313,7 +303,7 @@ module _ (q : TreeProgram) (set : Setting) (hs' : List Hole) (hs : List (Attr Op
   hole_touches : (i : ℕ) → attr_touches vax (attr_at hs attr.Nothing i) s ≡ true → Somewhere
   hole_touches i e = by (i == 0) e where
     by : (b : Bool) → attr_touches vax (cond b attr.Nothing (attr_or attr.Nothing (slice_get hs (i - 1)))) s ≡ true → Somewhere
-    by true e = absurd (untrue e)
+    by true e = absurd (false≢true e)
     by false e = any_nth s hs (i - 1) e
 
   -- a hole's register

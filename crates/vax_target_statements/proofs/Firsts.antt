@@ -1,7 +1,8 @@
 -- Only the first symbol of a rule branches or saves.
 use Rattle.std.proofs.Common.{◌≡◌, ℕ, zero, suc, Bool, true, false, List, [], ◌∷◌, Option, Some, None, refl, sym, subst, ◌∙◌}
-use Rattle.std.specs.Prelude.{slice_get, not, ◌&&◌}
+use Rattle.std.specs.Prelude.{slice_get, not}
 use Rattle.std.specs.List.{AllByRecursion, list_all}
+use Rattle.std.proofs.lemmas.Bool.{and_parts}
 use Rattle.gg_base.specs.declared.relation.Rel.{Rel}
 use Rattle.tree_core.specs.declared.token.Tok.{Tok}
 use Rattle.tree_core.specs.declared.token.Tok.TheVariants as tok
@@ -141,10 +142,6 @@ token_quiet tok.Save x e h = absurd (branch_is_statement x e h)
 token_quiet tok.Jump x e h = refl
 token_quiet tok.End x e h = refl
 
-both : (a b : Bool) → (a && b) ≡ true → (a ≡ true) × (b ≡ true)
-both true b e = (refl, e)
-both false b e = cc
-
 symbol_quiet : (classes : List Class) (s : Sym) (x : Sort) → sorted_test classes s x ≡ true → not (is_statement x) ≡ true → is_root (Some s) ≡ false
 symbol_quiet classes (grammar_symbol.Tok t) x e h = token_quiet t x e h
 symbol_quiet classes (grammar_symbol.Class k) x e h = refl
@@ -152,7 +149,7 @@ symbol_quiet classes (grammar_symbol.Class k) x e h = refl
 trees_quiet : (classes : List Class) (xs : List Sort) (tree : Trees (sorted_test classes) xs) → no_statement xs ≡ true → (w : List Sym) → AreQuiet w → AreQuiet (onto tree w)
 trees_quiet classes [] no_tree h w q = q
 trees_quiet classes (x ∷ xs) (node s passes below beside) h w q =
-    let b = both (not (is_statement x)) (no_statement xs) h in
+    let b = and_parts (not (is_statement x)) (no_statement xs) h in
     (symbol_quiet classes s x passes b.0, trees_quiet classes (kids_of s) below (symbol_kids_quiet s) (onto beside w) (trees_quiet classes xs beside b.1 w q))
 
 tree_rest : (classes : List Class) (x : Sort) (tree : Trees (sorted_test classes) (x ∷ [])) → IsRest (onto tree [])

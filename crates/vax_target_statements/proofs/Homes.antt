@@ -3,6 +3,7 @@ use Rattle.std.proofs.Common.{◌≡◌, ℕ, zero, suc, ◌+◌, ◌-◌, ◌*�
 use Rattle.std.specs.Prelude.{slice_get, slice_set}
 use Rattle.std.specs.Int.{bit_at}
 use Rattle.std.proofs.lemmas.Bool.{lt-ltb, le-leb}
+use Rattle.std.proofs.lemmas.Option.{same_Some}
 use Rattle.gg_base.specs.declared.size.Size.{Size}
 use Rattle.gg_base.specs.declared.size.Size.TheVariants.{Long}
 use Rattle.gg_base.specs.Arithmetic.{add32}
@@ -46,7 +47,6 @@ use Rattle.vax_templates.specs.Filled.{spare, word_operand, slot_operand, operan
 use Rattle.vax_target_meaning.specs.Reading.{names, displaced}
 use Rattle.vax_target_meaning.specs.Vax.{vax, stands}
 use Rattle.vax_target_operands.specs.Scenes.{Scene, worth, filling_at}
-use Rattle.vax_target_operands.proofs.Machine.{some_same}
 use Rattle.vax_target_lines.specs.Lines.{MayHold, IsStored, putting, Puts}
 use Rattle.vax_target_lines.proofs.Performing.{number_is}
 use Rattle.vax_target_runs.specs.Runs.{OwnChanged, ZeroChanged, Changed, IsReturn, EndsIn}
@@ -149,7 +149,7 @@ module _ (q : TreeProgram) (f : Extent) (fs : List Extent) (classes : List Class
   home_address : (k address : ℕ) → k < 1024 → names (word_operand k) Long n ≡ Some address → address ≡ word_of (reg n Fp) k
   home_address k address lt e' =
       let is : Some (displaced n Fp (word_addr k)) ≡ Some address = ap (λ b. names (cond b (home k) spare) Long n) (sym (lt-ltb k 1024 lt)) ∙ e' in
-      sym (some_same (displaced n Fp (word_addr k)) address is)
+      sym (same_Some (displaced n Fp (word_addr k)) address is)
       ∙ word_address (reg n Fp) k (let a = agrees.fp in let b = agrees.running.words in let d = agrees.bottom in omega (arith, a, b, d, lt)) (reg_small n Fp agrees.sound)
 
   argument_address : (k address : ℕ) → k < length v.state.running.arguments → names (slot_operand tok.Arg (k + 1)) Long n ≡ Some address → address ≡ argument_of (reg n Ap) (k + 1)
@@ -159,7 +159,7 @@ module _ (q : TreeProgram) (f : Extent) (fs : List Extent) (classes : List Class
       let end = high_top q.objects _ _ v.state n agrees in
       let a = agrees.ap in
       let b = agrees.running.end in
-      sym (some_same (add32 (4 * (k + 1)) (reg n Ap)) address is) ∙ (let same : add32 (4 * (k + 1)) (reg n Ap) ≡ argument_of (reg n Ap) (k + 1) = omega (arith, a, b, end, lt) in same)
+      sym (same_Some (add32 (4 * (k + 1)) (reg n Ap)) address is) ∙ (let same : add32 (4 * (k + 1)) (reg n Ap) ≡ argument_of (reg n Ap) (k + 1) = omega (arith, a, b, end, lt) in same)
 
   local_goes : (k address : ℕ) (t : Shape) (p : Puts S n Long (worth S t) (λ l. l ≡ locations.Memory address) D) → k < f.locals → address ≡ word_of (reg n Fp) k →
       G (steps.Goes (steps.with_local_set v.state k (worth S t)))
@@ -187,7 +187,7 @@ module _ (q : TreeProgram) (f : Extent) (fs : List Extent) (classes : List Class
       argument_goes k address t (subst (λ z. Puts S n z (worth S t) (λ l. l ≡ locations.Memory address) D) long p) lt
       (argument_address k address lt (subst (λ z. names (slot_operand tok.Arg (k + 1)) z n ≡ Some address) long (subst (λ y. names y size n ≡ Some address) same named)))
   place_goes i size t h o g address p at is named (is_memory a there) =
-      let same = some_same address a (sym named ∙ same_names i h o size at is ∙ there) in
+      let same = same_Some address a (sym named ∙ same_names i h o size at is ∙ there) in
       area_goes q f fs classes rule e hs res v m ready n a size (worth S t) p.conditions D agrees frames
       (p.is ∙ ap (λ l. putting n l size (worth S t) p.conditions) (p.there ∙ ap locations.Memory same))
       (stored size v.state.area a (worth S t)) refl

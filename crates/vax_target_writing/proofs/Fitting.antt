@@ -1,8 +1,9 @@
 -- What stands for the holes of a rule, or of a line that saves or reloads, can be spelled; so its lines are valid instructions.
-use Rattle.std.proofs.Common.{◌≡◌, ℕ, zero, suc, ◌+◌, ◌*◌, ◌^◌, ◌<◌, ◌≤◌, ◌==◌, Bool, true, false, cond, not, ◌&&◌, Option, Some, None, List, [], ◌∷◌, length, refl, sym, subst, arith, slice_get}
+use Rattle.std.proofs.Common.{◌≡◌, ℕ, zero, suc, ◌+◌, ◌*◌, ◌^◌, ◌<◌, ◌≤◌, ◌==◌, true, cond, not, ◌&&◌, Option, Some, None, List, [], ◌∷◌, length, refl, sym, subst, arith, slice_get}
 use Rattle.std.specs.Prelude.{nat_lt, nat_le, is_none}
 use Rattle.std.specs.List.{AllByRecursion}
-use Rattle.std.proofs.lemmas.Bool.Decides.{nat_tests}
+use Rattle.std.proofs.lemmas.Bool.{lt-ltb, leb-true, and_from}
+use Rattle.gg_base.proofs.Facts.{first_true, second_true}
 use Rattle.gg_base.specs.Arithmetic.{neg32}
 use Rattle.tree_core.specs.declared.token.Tok.{Tok}
 use Rattle.tree_core.specs.declared.token.Tok.TheVariants as tok
@@ -35,23 +36,9 @@ use Rattle.vax_templates.specs.Filled.{leaf_deferred, operand_in, deferred_in, a
 use Rattle.vax_target_meaning.specs.Fitting.{steps, is_steady, is_place, fits, CanWrite}
 use Rattle.vax_target_meaning.specs.Vax.{vax}
 use Rattle.sel_target.specs.Spelled.{IsSpelled, TokenIsSpelled, AreSpelled}
-use Rattle.vax_target_writing.proofs.Operands.{IsReadable, IsMemory, IsPlain, IsNumber, IsObject, IsLocal, Spells, AllSpell, OwnSpells, both_true}
+use Rattle.vax_target_writing.proofs.Operands.{IsReadable, IsMemory, IsPlain, IsNumber, IsObject, IsLocal, Spells, AllSpell, OwnSpells}
 
 -- ---- tests
-
-pub first : (a b : Bool) → (a && b) ≡ true → a ≡ true
-first true b e = refl
-first false b e = absurd (cc)
-
-pub second : (a b : Bool) → (a && b) ≡ true → b ≡ true
-second true b e = e
-second false b e = absurd (cc)
-
-pub is_below : (n k : ℕ) → n < k → nat_lt n k ≡ true
-is_below n k lt = grind (arith, nat_tests)
-
-pub is_at_most : (n k : ℕ) → nat_le n k ≡ true → n ≤ k
-is_at_most n k e = grind (arith, nat_tests)
 
 neg32_below : (n : ℕ) → neg32 n < 2 ^ 32
 neg32_below n = omega arith
@@ -59,7 +46,7 @@ neg32_below n = omega arith
 -- ---- the words of a frame and the arguments
 
 home_base : (k : ℕ) → is_base (home k).base ≡ true
-home_base k = is_below (neg32 (4 * (k + 1))) (2 ^ 32) (neg32_below (4 * (k + 1)))
+home_base k = lt-ltb (neg32 (4 * (k + 1))) (2 ^ 32) (neg32_below (4 * (k + 1)))
 
 pub home_memory : (k : ℕ) → IsMemory (home k)
 home_memory k = record { memory = refl; base = home_base k }
@@ -68,21 +55,21 @@ pub at_home_plain : (k : ℕ) → IsPlain (at_home k)
 at_home_plain k = record { memory = record { memory = refl; base = home_base k }; bare = refl }
 
 word_memory : (k : ℕ) → k < 1024 → IsMemory (word_operand k)
-word_memory k lt = subst (λ b. IsMemory (cond b (home k) spare)) (sym (is_below k 1024 lt)) (home_memory k)
+word_memory k lt = subst (λ b. IsMemory (cond b (home k) spare)) (sym (lt-ltb k 1024 lt)) (home_memory k)
 
 word_deferred : (k : ℕ) → k < 1024 → IsPlain (cond (nat_lt k 1024) (at_home k) spare)
-word_deferred k lt = subst (λ b. IsPlain (cond b (at_home k) spare)) (sym (is_below k 1024 lt)) (at_home_plain k)
+word_deferred k lt = subst (λ b. IsPlain (cond b (at_home k) spare)) (sym (lt-ltb k 1024 lt)) (at_home_plain k)
 
 few_long : (k : ℕ) → k ≤ 255 → is_long (4 * k) ≡ true
-few_long k le = is_below (4 * k) (2 ^ 32) (omega arith)
+few_long k le = lt-ltb (4 * k) (2 ^ 32) (omega arith)
 
 argument_memory : (k : ℕ) → nat_le k 255 ≡ true → IsMemory (slot_operand tok.Arg k)
-argument_memory k e = subst (λ b. IsMemory (cond b (argument_home k) spare)) (sym e) (record { memory = refl; base = few_long k (is_at_most k 255 e) })
+argument_memory k e = subst (λ b. IsMemory (cond b (argument_home k) spare)) (sym e) (record { memory = refl; base = few_long k (leb-true k 255 e) })
 
 argument_deferred : (k : ℕ) → nat_le k 255 ≡ true → IsPlain (slot_deferred tok.Arg k)
 argument_deferred k e =
     subst (λ b. IsPlain (cond b (Rattle.vax_templates.specs.Filled.argument_deferred k) spare)) (sym e)
-    (record { memory = record { memory = refl; base = few_long k (is_at_most k 255 e) }; bare = refl })
+    (record { memory = record { memory = refl; base = few_long k (leb-true k 255 e) }; bare = refl })
 
 -- ---- operands that fit
 
@@ -92,7 +79,7 @@ readable o e = e
 pub memory : (o : Operand) → is_place o ≡ true → IsMemory o
 memory o e = by o.base o.index e where
   based : (b : Base) (x : Option Reg) → (is_base b && is_index b x) ≡ true → is_base b ≡ true
-  based b x e = first (is_base b) (is_index b x) e
+  based b x e = first_true (is_base b) (is_index b x) e
 
   by : (b : Base) (x : Option Reg) → (is_memory b && (not (steps b) && (is_base b && is_index b x))) ≡ true → IsMemory (record { base = b; index = x })
   by (bases.Imm a) x e = absurd (cc)
@@ -108,7 +95,7 @@ memory o e = by o.base o.index e where
   by (bases.RelDef a) x e = record { memory = refl; base = based (bases.RelDef a) x e }
 
 pub plain : (o : Operand) → fits kind.Ea o ≡ true → IsPlain o
-plain o e = record { memory = memory o (second (is_none o.index) (is_place o) e); bare = first (is_none o.index) (is_place o) e }
+plain o e = record { memory = memory o (second_true (is_none o.index) (is_place o) e); bare = first_true (is_none o.index) (is_place o) e }
 
 -- ---- holes
 
@@ -118,7 +105,7 @@ named_is_addr (Some name) offset e = e
 
 module _ (q : TreeProgram) (can : CanWrite q) where
   own_number : (k : ℕ) (a : Att) → is_of_kind (att_kind.Own k) a ≡ true → IsSpelled q a → IsNumber (addr_of_att q a)
-  own_number k (att.Number n) e lt = record { addr = is_below n (2 ^ 32) lt; long = is_below n (2 ^ 32) lt }
+  own_number k (att.Number n) e lt = record { addr = lt-ltb n (2 ^ 32) lt; long = lt-ltb n (2 ^ 32) lt }
   own_number k att.Nothing e lt = absurd (cc)
   own_number k (att.Object object offset) e lt = absurd (cc)
   own_number k (att.Slot n) e lt = absurd (cc)
@@ -127,7 +114,7 @@ module _ (q : TreeProgram) (can : CanWrite q) where
   own_number k (att.Callee function count) e lt = absurd (cc)
 
   other_number : (a : Att) → is_of_kind att_kind.Other a ≡ true → IsSpelled q a → IsNumber (addr_of_att q a)
-  other_number (att.Number n) e lt = record { addr = is_below n (2 ^ 32) lt; long = is_below n (2 ^ 32) lt }
+  other_number (att.Number n) e lt = record { addr = lt-ltb n (2 ^ 32) lt; long = lt-ltb n (2 ^ 32) lt }
   other_number att.Nothing e lt = absurd (cc)
   other_number (att.Object object offset) e lt = absurd (cc)
   other_number (att.Slot n) e lt = absurd (cc)
@@ -138,13 +125,13 @@ module _ (q : TreeProgram) (can : CanWrite q) where
   label_named : (objects : List Object) (object offset : ℕ) → AllByRecursion (λ (o : Object). is_name o.label ≡ true) objects → object < length objects →
       (is_long offset && not (offset == 2 ^ 31)) ≡ true → is_named_addr (label_of (slice_get objects object)) offset ≡ true
   label_named [] object offset all lt e = absurd (omega arith)
-  label_named (o ∷ os) zero offset all lt e = both_true (is_name o.label) (is_long offset && not (offset == 2 ^ 31)) all.0 e
+  label_named (o ∷ os) zero offset all lt e = and_from (is_name o.label) (is_long offset && not (offset == 2 ^ 31)) all.0 e
   label_named (o ∷ os) (suc object) offset all lt e = label_named os object offset all.1 (omega arith) e
 
   object_named : (object offset : ℕ) → not (offset == 2 ^ 31) ≡ true → IsSpelled q (att.Object object offset) →
       is_named_addr (label_of (slice_get q.objects object)) offset ≡ true
   object_named object offset e h =
-      label_named q.objects object offset can.objects h.0 (both_true (is_long offset) (not (offset == 2 ^ 31)) (is_below offset (2 ^ 32) h.1) e)
+      label_named q.objects object offset can.objects h.0 (and_from (is_long offset) (not (offset == 2 ^ 31)) (lt-ltb offset (2 ^ 32) h.1) e)
 
   object_spells : (a : Att) → is_of_kind att_kind.Object a ≡ true → IsSpelled q a → IsObject q (attr.Token (record { tok = tok.Gaddr; att = a }))
   object_spells (att.Object object offset) e h =
@@ -172,7 +159,7 @@ module _ (q : TreeProgram) (can : CanWrite q) where
 
   argument_spells : (a : Att) → is_of_kind att_kind.Argument a ≡ true → IsLocal q (attr.Token (record { tok = tok.Arg; att = a }))
   argument_spells (att.Slot k) e =
-      let few = second (nat_le 1 k) (nat_le k 255) e in
+      let few = second_true (nat_le 1 k) (nat_le k 255) e in
       record { place = argument_memory k few; deferred = argument_deferred k few }
   argument_spells att.Nothing e = absurd (cc)
   argument_spells (att.Number n) e = absurd (cc)
@@ -230,7 +217,7 @@ module _ (q : TreeProgram) (can : CanWrite q) where
   class_spells (Some (kind.Place z)) (attr.Ea o) f = absurd f
   class_spells (Some (kind.Place z)) (attr.Token l) f = absurd f
   class_spells (Some (kind.Place z)) attr.Nothing f = absurd f
-  class_spells (Some kind.Con) (attr.Con n) f = record { addr = is_below n (2 ^ 32) f; long = is_below n (2 ^ 32) f }
+  class_spells (Some kind.Con) (attr.Con n) f = record { addr = lt-ltb n (2 ^ 32) f; long = lt-ltb n (2 ^ 32) f }
   class_spells (Some kind.Con) (attr.Reg r) f = absurd f
   class_spells (Some kind.Con) (attr.InSlot w) f = absurd f
   class_spells (Some kind.Con) (attr.Value o) f = absurd f

@@ -1,6 +1,7 @@
 -- What holds where the shape of a template is judged right.
 use Rattle.std.proofs.Common.{◌≡◌, ℕ, true, Option, Some, None, Result, Ok, Err, List, refl, sym, ap, subst, ◌∙◌}
 use Rattle.std.specs.Prelude.{is_none}
+use Rattle.std.proofs.lemmas.Bool.{and_from}
 use Rattle.gg_base.specs.declared.size.Size.{Size}
 use Rattle.gg_base.specs.declared.size.Size.TheVariants.{Byte, Long}
 use Rattle.tree_core.specs.declared.program.TreeProgram.{TreeProgram}
@@ -32,7 +33,7 @@ use Rattle.vax_target_writing.specs.Laws.{ShapesFit}
 use Rattle.vax_target_writing.proofs.Each.{Each, EachOk, bind_each, always_ok, still_ok, of_ok}
 use Rattle.vax_target_writing.proofs.Longs.{IsLongForm}
 use Rattle.vax_target_writing.proofs.Lines.{shape_long}
-use Rattle.vax_target_writing.proofs.Operands.{IsMemory, AllSpell, OwnSpells, Stands, StandsBare, is_readable, both_true, readable_memory, memory_of_steady, base_stands, form_stands}
+use Rattle.vax_target_writing.proofs.Operands.{IsMemory, AllSpell, OwnSpells, Stands, StandsBare, is_readable, readable_memory, memory_of_steady, base_stands, form_stands}
 use Rattle.vax_target_writing.proofs.Fitting.{all_spell, own_spells}
 
 at_its_line : {A : Type 0} (P : Type 0) (line : ℕ) (r : Result A TemplateKind) → EachOk (λ (x : A). P) r → EachOk (λ (x : A). P) (at_line line r)
@@ -55,7 +56,7 @@ of_shape s holes k ls l e P h is =
 -- ---- what a shape may stand for
 
 place_fits : (o : Operand) → IsMemory o → is_place o ≡ true
-place_fits o h = both_true _ _ (memory_of_steady o.base h.memory) (readable_memory o h)
+place_fits o h = and_from _ _ (memory_of_steady o.base h.memory) (readable_memory o h)
 
 module _ (q : TreeProgram) (s : Setting) (holes : List Hole) (hs : List (Attr Operand)) (spell : AllSpell q holes hs × OwnSpells q s.own attr.Nothing) where
   place_given_fits : (z : Size) (o : Operand) (w : Where) → Stands w o → EachOk (λ (x : ActShape). is_place o ≡ true) (place_given z w)
@@ -87,7 +88,7 @@ module _ (q : TreeProgram) (s : Setting) (holes : List Hole) (hs : List (Attr Op
   address_given_fits o (Local i) h = tt
   address_given_fits o (SavedPlace y i) h = tt
   address_given_fits o (Saved i) h = tt
-  address_given_fits o (At a p) h = both_true (is_none o.index) (is_place o) h.bare (place_fits o h.memory)
+  address_given_fits o (At a p) h = and_from (is_none o.index) (is_place o) h.bare (place_fits o h.memory)
 
   address_fits : (b : FormBase) (x : Option ℕ) → IsLongForm (record { base = b; index = x }) →
       EachOk (λ (y : ActShape). fits kind.Ea (filled q hs attr.Nothing (record { base = b; index = x })) ≡ true)

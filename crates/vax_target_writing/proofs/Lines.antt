@@ -3,6 +3,7 @@ use Rattle.std.proofs.Common.{◌≡◌, ℕ, ◌+◌, Bool, true, false, cond, 
 use Rattle.std.specs.Prelude.{codes}
 use Rattle.std.specs.Option.{option_and_then}
 use Rattle.std.specs.List.{AllByRecursion, list_any}
+use Rattle.std.proofs.lemmas.Bool.{or_right}
 use Rattle.md_reader_text.specs.Words.{same}
 use Rattle.md_reader_pieces.specs.declared.piece.Piece.{Piece}
 use Rattle.md_reader_pieces.specs.declared.piece.Piece.TheVariants as piece
@@ -57,10 +58,6 @@ IsWell ms Jump = list_any is_label_mark ms ≡ true
 IsWell ms Calls = list_any is_count_mark ms ≡ true
 IsWell ms Ret = Unit {0}
 IsWell ms (Operates op fs) = AreRead (length (shape op).operands) fs
-
-or_right : (a b : Bool) → b ≡ true → (a || b) ≡ true
-or_right true b e = refl
-or_right false b e = e
 
 label_alone : (ms : List Mark) → is_label ms ≡ true → list_any is_label_mark ms ≡ true
 label_alone [] e = absurd (cc)

@@ -5,9 +5,11 @@ use Rattle.std.specs.Prelude.{nat_le, codes}
 use Rattle.std.specs.Fmt.{decimal}
 use Rattle.std.specs.List.{AllByRecursion, list_any, list_all}
 use Rattle.std.proofs.lemmas.Bool.Decides.{nat_tests}
-use Rattle.std.proofs.lemmas.Bool.{le-leb}
+use Rattle.std.proofs.lemmas.Bool.{le-leb, and_from}
 use Rattle.std.proofs.lemmas.Fmt.{decimal_by_steps, length-decimal-le}
 use Rattle.std.proofs.lemmas.List.Folds.{list_all-append}
+use Rattle.std.proofs.lemmas.Option.{none-some, same_Some}
+use Rattle.gg_base.proofs.Facts.{second_true}
 use Rattle.tree_core.specs.declared.token.Tok.{Tok}
 use Rattle.tree_core.specs.declared.token.Tok.TheVariants as tok
 use Rattle.tree_core.specs.declared.token.AttKind.{AttKind}
@@ -40,12 +42,7 @@ use Rattle.vax_target_meaning.specs.Fitting.{CanWrite}
 use Rattle.vax_target_meaning.specs.Vax.{vax}
 use Rattle.sel_target.specs.Spelled.{IsSpelled, TokenIsSpelled, AreSpelled}
 use Rattle.vax_target_writing.proofs.Lines.{is_label_piece, is_count_piece}
-use Rattle.vax_target_writing.proofs.Operands.{both_true}
 use Rattle.vax_target_writing.proofs.Written.{CanGo, CanCall, Names}
-
-second : (a b : Bool) → (a && b) ≡ true → b ≡ true
-second true b e = e
-second false b e = absurd (cc)
 
 -- ---- names
 
@@ -64,7 +61,7 @@ digits_are_parts = decimal_by_steps (λ m ds. list_all is_name_part ds ≡ true)
 label_spelled : (n : ℕ) → n < 2 ^ 32 → is_name (label_name n) ≡ true
 label_spelled n lt =
     let short = length-decimal-le 10 n (omega arith) (omega arith) (omega arith) in
-    both_true (nat_le (length (decimal n)) 63) (list_all is_name_part (decimal n)) (le-leb _ _ (omega arith)) (digits_are_parts n (omega arith))
+    and_from (nat_le (length (decimal n)) 63) (list_all is_name_part (decimal n)) (le-leb _ _ (omega arith)) (digits_are_parts n (omega arith))
 
 function_spelled : (fs : List TreeFn) (n m : ℕ) → AllByRecursion (λ (f : TreeFn). is_name (function_label f.name) ≡ true) fs →
     is_name (function_name (slice_get fs n) m) ≡ true
@@ -144,30 +141,24 @@ call_has classes (grammar_symbol.Tok tok.Call) h f e =
     (c.0, ap callee_in t.is ∙ c.1)
 call_has classes s h f e = absurd (cc)
 
-no_some : {A : Type 0} (x : A) → None ≡ Some x → ⊥
-no_some x e = cc
-
-some_is : {A : Type 0} (x y : A) → Some x ≡ Some y → x ≡ y
-some_is x y e = cc
-
 att_small : (q : TreeProgram) (a : Att) (n : ℕ) → label_of_att a ≡ Some n → IsSpelled q a → n < 2 ^ 32
-att_small q (att.Branch rel label) n e sp = subst (λ k. k < 2 ^ 32) (some_is label n e) sp
-att_small q (att.Label label) n e sp = subst (λ k. k < 2 ^ 32) (some_is label n e) sp
-att_small q att.Nothing n e sp = absurd (no_some n e)
-att_small q (att.Number k) n e sp = absurd (no_some n e)
-att_small q (att.Object object offset) n e sp = absurd (no_some n e)
-att_small q (att.Slot k) n e sp = absurd (no_some n e)
-att_small q (att.Callee function count) n e sp = absurd (no_some n e)
+att_small q (att.Branch rel label) n e sp = subst (λ k. k < 2 ^ 32) (same_Some label n e) sp
+att_small q (att.Label label) n e sp = subst (λ k. k < 2 ^ 32) (same_Some label n e) sp
+att_small q att.Nothing n e sp = absurd (none-some n e)
+att_small q (att.Number k) n e sp = absurd (none-some n e)
+att_small q (att.Object object offset) n e sp = absurd (none-some n e)
+att_small q (att.Slot k) n e sp = absurd (none-some n e)
+att_small q (att.Callee function count) n e sp = absurd (none-some n e)
 
 attr_small : (q : TreeProgram) (h : Attr Operand) (n : ℕ) → label_in h ≡ Some n → TokenIsSpelled q h → n < 2 ^ 32
 attr_small q (attr.Token l) n e sp = att_small q l.att n e sp
-attr_small q (attr.Reg r) n e sp = absurd (no_some n e)
-attr_small q (attr.InSlot w) n e sp = absurd (no_some n e)
-attr_small q (attr.Value o) n e sp = absurd (no_some n e)
-attr_small q (attr.Place o) n e sp = absurd (no_some n e)
-attr_small q (attr.Con k) n e sp = absurd (no_some n e)
-attr_small q (attr.Ea o) n e sp = absurd (no_some n e)
-attr_small q attr.Nothing n e sp = absurd (no_some n e)
+attr_small q (attr.Reg r) n e sp = absurd (none-some n e)
+attr_small q (attr.InSlot w) n e sp = absurd (none-some n e)
+attr_small q (attr.Value o) n e sp = absurd (none-some n e)
+attr_small q (attr.Place o) n e sp = absurd (none-some n e)
+attr_small q (attr.Con k) n e sp = absurd (none-some n e)
+attr_small q (attr.Ea o) n e sp = absurd (none-some n e)
+attr_small q attr.Nothing n e sp = absurd (none-some n e)
 
 count_few : (k : AttKind) (function count : ℕ) → is_of_kind k (att.Callee function count) ≡ true → count ≤ 255
 count_few att_kind.Callee function count e = grind (arith, nat_tests)
@@ -181,13 +172,13 @@ count_few att_kind.Branch function count e = absurd (cc)
 count_few att_kind.Label function count e = absurd (cc)
 
 att_few : (k : AttKind) (a : Att) (c : ℕ × ℕ) → callee_of_att a ≡ Some c → is_of_kind k a ≡ true → c.1 ≤ 255
-att_few k (att.Callee function count) c e f = subst (λ (d : ℕ × ℕ). d.1 ≤ 255) (some_is (function, count) c e) (count_few k function count f)
-att_few k (att.Branch rel label) c e f = absurd (no_some c e)
-att_few k (att.Label label) c e f = absurd (no_some c e)
-att_few k att.Nothing c e f = absurd (no_some c e)
-att_few k (att.Number n) c e f = absurd (no_some c e)
-att_few k (att.Object object offset) c e f = absurd (no_some c e)
-att_few k (att.Slot n) c e f = absurd (no_some c e)
+att_few k (att.Callee function count) c e f = subst (λ (d : ℕ × ℕ). d.1 ≤ 255) (same_Some (function, count) c e) (count_few k function count f)
+att_few k (att.Branch rel label) c e f = absurd (none-some c e)
+att_few k (att.Label label) c e f = absurd (none-some c e)
+att_few k att.Nothing c e f = absurd (none-some c e)
+att_few k (att.Number n) c e f = absurd (none-some c e)
+att_few k (att.Object object offset) c e f = absurd (none-some c e)
+att_few k (att.Slot n) c e f = absurd (none-some c e)
 
 no_token : (k : Option Kind) (l : Leaf) → KindFits vax k (attr.Token l) → ⊥
 no_token None l f = f
@@ -210,13 +201,13 @@ symbol_few classes (grammar_symbol.Tok x) attr.Nothing c f e = absurd f
 symbol_few classes (grammar_symbol.Class k) h c f e = class_few h f e where
   class_few : (h : Attr Operand) → SymFits vax classes (grammar_symbol.Class k) h → callee_in h ≡ Some c → c.1 ≤ 255
   class_few (attr.Token l) f e = absurd (no_token (kind_at classes k) l f)
-  class_few (attr.Reg r) f e = absurd (no_some c e)
-  class_few (attr.InSlot w) f e = absurd (no_some c e)
-  class_few (attr.Value o) f e = absurd (no_some c e)
-  class_few (attr.Place o) f e = absurd (no_some c e)
-  class_few (attr.Con n) f e = absurd (no_some c e)
-  class_few (attr.Ea o) f e = absurd (no_some c e)
-  class_few attr.Nothing f e = absurd (no_some c e)
+  class_few (attr.Reg r) f e = absurd (none-some c e)
+  class_few (attr.InSlot w) f e = absurd (none-some c e)
+  class_few (attr.Value o) f e = absurd (none-some c e)
+  class_few (attr.Place o) f e = absurd (none-some c e)
+  class_few (attr.Con n) f e = absurd (none-some c e)
+  class_few (attr.Ea o) f e = absurd (none-some c e)
+  class_few attr.Nothing f e = absurd (none-some c e)
 
 module _ (q : TreeProgram) (classes : List Class) where
   can_go : (p : Option Sym → Bool) → ((s : Sym) (h : Attr Operand) → SymFits vax classes s h → p (Some s) ≡ true → HasLabel h) →
@@ -227,7 +218,7 @@ module _ (q : TreeProgram) (classes : List Class) where
   can_go p has (s ∷ right) (h ∷ hs) f sp e = by (label_in h) refl (λ e. can_go p has right hs f.1 sp.1 e) where
     further : (b : Bool) → p (Some s) ≡ b → label_in h ≡ None → (b || any_symbol p right) ≡ true → any_symbol p right ≡ true
     further false is none e = e
-    further true is none e = let l = has s h f.0 is in absurd (no_some l.0 (sym none ∙ l.1))
+    further true is none e = let l = has s h f.0 is in absurd (none-some l.0 (sym none ∙ l.1))
 
     by : (o : Option ℕ) → label_in h ≡ o → (any_symbol p right ≡ true → CanGo hs) → CanGo (h ∷ hs)
     by (Some n) at rest = record { label = n; found = ap (λ x. first_of x (label_among hs)) at; spelled = label_spelled n (attr_small q h n at sp.0) }
@@ -242,7 +233,7 @@ module _ (q : TreeProgram) (classes : List Class) where
   can_call can (s ∷ right) (h ∷ hs) f e = by (callee_in h) refl (λ e. can_call can right hs f.1 e) where
     further : (b : Bool) → is_call (Some s) ≡ b → callee_in h ≡ None → (b || any_symbol is_call right) ≡ true → any_symbol is_call right ≡ true
     further false is none e = e
-    further true is none e = let c = call_has classes s h f.0 is in absurd (no_some c.0 (sym none ∙ c.1))
+    further true is none e = let c = call_has classes s h f.0 is in absurd (none-some c.0 (sym none ∙ c.1))
 
     by : (o : Option (ℕ × ℕ)) → callee_in h ≡ o → (any_symbol is_call right ≡ true → CanCall q hs) → CanCall q (h ∷ hs)
     by (Some c) at rest = record {
@@ -266,9 +257,9 @@ label_allowed register right (piece.Label ∷ ps) fit e = first (any_symbol is_b
   first true b e = refl
   first false b e = absurd (cc)
 label_allowed register right (piece.Bytes w ∷ ps) fit e = label_allowed register right ps fit e
-label_allowed register right (piece.Hole i ∷ ps) fit e = label_allowed register right ps (second (piece_fits register right (piece.Hole i)) (pieces_fit register right ps) fit) e
-label_allowed register right (piece.Callee ∷ ps) fit e = label_allowed register right ps (second (any_symbol is_call right) (pieces_fit register right ps) fit) e
-label_allowed register right (piece.Count ∷ ps) fit e = label_allowed register right ps (second (any_symbol is_call right) (pieces_fit register right ps) fit) e
+label_allowed register right (piece.Hole i ∷ ps) fit e = label_allowed register right ps (second_true (piece_fits register right (piece.Hole i)) (pieces_fit register right ps) fit) e
+label_allowed register right (piece.Callee ∷ ps) fit e = label_allowed register right ps (second_true (any_symbol is_call right) (pieces_fit register right ps) fit) e
+label_allowed register right (piece.Count ∷ ps) fit e = label_allowed register right ps (second_true (any_symbol is_call right) (pieces_fit register right ps) fit) e
 
 callee_allowed : (register : Bool) (right : List Sym) (ps : List Piece) → pieces_fit register right ps ≡ true → list_any is_count_piece ps ≡ true →
     any_symbol is_call right ≡ true
@@ -278,13 +269,13 @@ callee_allowed register right (piece.Count ∷ ps) fit e = first (any_symbol is_
   first true b e = refl
   first false b e = absurd (cc)
 callee_allowed register right (piece.Bytes w ∷ ps) fit e = callee_allowed register right ps fit e
-callee_allowed register right (piece.Hole i ∷ ps) fit e = callee_allowed register right ps (second (piece_fits register right (piece.Hole i)) (pieces_fit register right ps) fit) e
-callee_allowed register right (piece.Callee ∷ ps) fit e = callee_allowed register right ps (second (any_symbol is_call right) (pieces_fit register right ps) fit) e
+callee_allowed register right (piece.Hole i ∷ ps) fit e = callee_allowed register right ps (second_true (piece_fits register right (piece.Hole i)) (pieces_fit register right ps) fit) e
+callee_allowed register right (piece.Callee ∷ ps) fit e = callee_allowed register right ps (second_true (any_symbol is_call right) (pieces_fit register right ps) fit) e
 callee_allowed register right (piece.Label ∷ ps) fit e =
-    callee_allowed register right ps (second (any_symbol is_branch right || any_symbol is_jump right) (pieces_fit register right ps) fit) e
+    callee_allowed register right ps (second_true (any_symbol is_branch right || any_symbol is_jump right) (pieces_fit register right ps) fit) e
 
 pieces_of_line : (register : Bool) (right : List Sym) (ps : List Piece) → line_fits register right ps ≡ true → pieces_fit register right ps ≡ true
-pieces_of_line register right ps e = second (relation_fits register right (hole_behind (behind_j ps))) (pieces_fit register right ps) e
+pieces_of_line register right ps e = second_true (relation_fits register right (hole_behind (behind_j ps))) (pieces_fit register right ps) e
 
 either_is : (a b : Bool) {P : Type 0} → (a || b) ≡ true → (a ≡ true → P) → (b ≡ true → P) → P
 either_is true b e f g = f refl

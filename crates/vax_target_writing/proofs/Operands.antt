@@ -1,8 +1,9 @@
 -- An operand of a template, with its holes filled, is one that its instruction may have there.
 use Rattle.std.proofs.Common.{◌≡◌, ℕ, zero, suc, ◌-◌, ◌^◌, ◌<◌, ◌==◌, Bool, true, false, cond, not, ◌&&◌, Option, Some, None, Result, Ok, Err, List, [], ◌∷◌, map, length, refl, arith, slice_get}
-use Rattle.std.specs.Prelude.{nat_lt, is_none}
+use Rattle.std.specs.Prelude.{is_none}
 use Rattle.std.specs.List.{AllByRecursion}
-use Rattle.std.proofs.lemmas.Bool.Decides.{nat_tests}
+use Rattle.std.proofs.lemmas.Bool.{and_from, lt-ltb}
+use Rattle.gg_base.proofs.Facts.{second_true}
 use Rattle.gg_base.specs.declared.size.Size.{Size}
 use Rattle.gg_base.specs.Arithmetic.{neg32}
 use Rattle.tree_core.specs.declared.program.TreeProgram.{TreeProgram}
@@ -111,10 +112,6 @@ memory_of_steady (bases.Abs n) e = refl
 memory_of_steady (bases.Rel a) e = refl
 memory_of_steady (bases.RelDef a) e = refl
 
-pub both_true : (a b : Bool) → a ≡ true → b ≡ true → (a && b) ≡ true
-both_true true b e f = f
-both_true false b e f = absurd (cc)
-
 no_step : (b : Base) → is_steady_memory b ≡ true → not (steps b) ≡ true
 no_step (bases.Imm a) e = absurd (cc)
 no_step (bases.Reg r) e = absurd (cc)
@@ -130,12 +127,8 @@ no_step (bases.RelDef a) e = refl
 
 pub readable_memory : (o : Operand) → IsMemory o → IsReadable o
 readable_memory o h =
-    both_true (not (steps o.base)) (is_base o.base && is_index o.base o.index) (no_step o.base h.memory)
-    (both_true (is_base o.base) (is_index o.base o.index) h.base (index_stands o.base o.index h.memory))
-
-second : (a b : Bool) → (a && b) ≡ true → b ≡ true
-second true b e = e
-second false b e = absurd (cc)
+    and_from (not (steps o.base)) (is_base o.base && is_index o.base o.index) (no_step o.base h.memory)
+    (and_from (is_base o.base) (is_index o.base o.index) h.base (index_stands o.base o.index h.memory))
 
 pub writable_memory : (o : Operand) → IsMemory o → IsWritable o
 writable_memory o h = record { place = place_of_memory o.base h.memory; readable = readable_memory o h }
@@ -248,9 +241,6 @@ is_readable (SavedPlace z i) o h = readable_memory o h
 is_readable (Saved i) o h = readable_memory o h
 is_readable (At a p) o h = readable_memory o h
 
-is_below : (n k : ℕ) → n < k → nat_lt n k ≡ true
-is_below n k lt = grind (arith, nat_tests)
-
 neg32_below : (n : ℕ) → neg32 n < 2 ^ 32
 neg32_below n = omega arith
 
@@ -315,7 +305,7 @@ module _ (q : TreeProgram) (s : Setting) (holes : List Hole) (zero' : Option Sha
   address_is hole_kind.Other i a k = tt
 
   number_stands : (n : Number) → IsLongNumber n → AllSpell q holes hs → EachOk (λ (t : Shape). is_addr (number_addr q hs res n) ≡ true) (number_term holes n)
-  number_stands (number.Itself n) long h = is_below n (2 ^ 32) long
+  number_stands (number.Itself n) long h = lt-ltb n (2 ^ 32) long
   number_stands (number.Symbol i) long h = by (i == 0) where
     by : (b : Bool) → EachOk (λ (t : Shape). is_addr (addr_in q (cond b res (attr_or res (slice_get hs (i - 1))))) ≡ true)
         (address_of (cond b hole_kind.Other (hole_or_other (slice_get holes (i - 1)))) i)
@@ -324,7 +314,7 @@ module _ (q : TreeProgram) (s : Setting) (holes : List Hole) (zero' : Option Sha
 
   absolute_stands : (n : Number) → IsLongNumber n → AllSpell q holes hs →
       EachOk (λ (t : Shape). is_long (number_addr q hs res n).offset ≡ true) (absolute_term holes n)
-  absolute_stands (number.Itself n) long h = is_below n (2 ^ 32) long
+  absolute_stands (number.Itself n) long h = lt-ltb n (2 ^ 32) long
   absolute_stands (number.Symbol i) long h = by (i == 0) where
     offset : (h : Hole) (a : Attr Operand) → Spells q h a → EachOk (λ (t : Shape). is_long (addr_in q a).offset ≡ true) (constant_of h i)
     offset h a k = longs (constant_of h i) (constant_is h i a k) where
@@ -370,7 +360,7 @@ module _ (q : TreeProgram) (s : Setting) (holes : List Hole) (zero' : Option Sha
   displaced_holds P (Err e) r h = tt
 
   readable_number : (a : Addr) → is_addr a ≡ true → IsReadable (record { base = bases.Imm a; index = None })
-  readable_number a e = both_true (is_addr a) true e refl
+  readable_number a e = and_from (is_addr a) true e refl
 
   pub base_stands : (b : FormBase) → IsLongBase b → Filling → EachOk (λ w. StandsBare w (filled_base q hs res b)) (where_base s holes zero' b)
   unfolding where_base filled_base
@@ -387,7 +377,7 @@ module _ (q : TreeProgram) (s : Setting) (holes : List Hole) (zero' : Option Sha
       bind_each (λ (t : Shape). Unit {0}) (λ w. StandsBare w (record { base = bases.Imm (addr_number (neg32 (addr_in q (attr_at hs res i)).offset)); index = None }))
       (constant_of (hole_at holes i) i) negated
       (λ t u. readable_number (addr_number (neg32 (addr_in q (attr_at hs res i)).offset))
-      (is_below (neg32 (addr_in q (attr_at hs res i)).offset) (2 ^ 32) (neg32_below (addr_in q (attr_at hs res i)).offset)))
+      (lt-ltb (neg32 (addr_in q (attr_at hs res i)).offset) (2 ^ 32) (neg32_below (addr_in q (attr_at hs res i)).offset)))
       (always_ok (constant_of (hole_at holes i) i) tt)
   base_stands (base.RegisterDeferred i) long h =
       in_memory (λ w. StandsBare w (record { base = bases.Def (register_in (attr_at hs res i)); index = None })) (register_term s holes zero' i) at
@@ -491,8 +481,8 @@ module _ (q : TreeProgram) (s : Setting) (holes : List Hole) (zero' : Option Sha
       (λ w st. allowed (taken s zero' k.access w k.size) (is_readable w (filled q hs res f) st) (taken_allows (filled q hs res f) k.access w k.size st)) (form_stands f k.size long h) where
         allowed : (r : Result Taken TemplateKind) → IsReadable (filled q hs res f) → EachOk (λ (t : Taken). allows k.access (filled q hs res f).base ≡ true) r
             → EachOk (λ (t : Taken). is_operand k (filled q hs res f) ≡ true) r
-        allowed (Ok t) e f' = both_true (allows k.access (filled q hs res f).base) (is_base (filled q hs res f).base && is_index (filled q hs res f).base (filled q hs res f).index) f'
-            (second (not (steps (filled q hs res f).base)) (is_base (filled q hs res f).base && is_index (filled q hs res f).base (filled q hs res f).index) e)
+        allowed (Ok t) e f' = and_from (allows k.access (filled q hs res f).base) (is_base (filled q hs res f).base && is_index (filled q hs res f).base (filled q hs res f).index) f'
+            (second_true (not (steps (filled q hs res f).base)) (is_base (filled q hs res f).base && is_index (filled q hs res f).base (filled q hs res f).index) e)
         allowed (Err x) e f' = tt
 
   -- all operands are those that the instruction may have
@@ -509,5 +499,5 @@ module _ (q : TreeProgram) (s : Setting) (holes : List Hole) (zero' : Option Sha
       (evaluated_stands k f long.0 h) where
         rest : (r : Result Arguments TemplateKind) → is_operand k (filled q hs res f) ≡ true → EachOk (λ (x : Arguments). are_operands ks (map (filled q hs res) fs) ≡ true) r →
             EachOk (λ (x : Arguments). are_operands (k ∷ ks) (map (filled q hs res) (f ∷ fs)) ≡ true) r
-        rest (Ok x) is a = both_true (is_operand k (filled q hs res f)) (are_operands ks (map (filled q hs res) fs)) is a
+        rest (Ok x) is a = and_from (is_operand k (filled q hs res f)) (are_operands ks (map (filled q hs res) fs)) is a
         rest (Err x) is a = tt

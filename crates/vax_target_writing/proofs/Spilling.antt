@@ -1,5 +1,6 @@
 -- The laws: lines of rules, lines that save and reload, and slots.
 use Rattle.std.proofs.Common.{◌≡◌, true, [], ◌∷◌, Some, None, Ok, refl}
+use Rattle.std.proofs.lemmas.Bool.{and_from}
 use Rattle.gg_base.specs.declared.size.Size.{Size}
 use Rattle.tree_core.specs.declared.program.TreeProgram.{TreeProgram}
 use Rattle.md_reader_pieces.specs.declared.piece.Line.{Line}
@@ -20,7 +21,7 @@ use Rattle.vax_target_meaning.specs.Fitting.{is_place}
 use Rattle.vax_target_meaning.specs.Vax.{vax}
 use Rattle.vax_target_writing.specs.Laws.{LinesAreWritten, SlotsFit, SpillsAreWritten, IsValid}
 use Rattle.vax_target_writing.proofs.Each.{all_of_map}
-use Rattle.vax_target_writing.proofs.Operands.{IsMemory, Spells, OwnSpells, both_true, readable_memory, writable_memory, memory_of_steady}
+use Rattle.vax_target_writing.proofs.Operands.{IsMemory, Spells, OwnSpells, readable_memory, writable_memory, memory_of_steady}
 use Rattle.vax_target_writing.proofs.Fitting.{home_memory, at_home_plain, memory, plain, all_spell, own_spells}
 use Rattle.vax_target_writing.proofs.Naming.{all_names, spill_names}
 use Rattle.vax_target_writing.proofs.Written.{template_written}
@@ -34,7 +35,7 @@ lines_are_written q classes rule e hs res can is taken fit sp result =
     (all_spell q can classes rule.right hs fit sp, own_spells q can rule.give hs res result) taken)
 
 place_fits : (o : Operand) → IsMemory o → is_place o ≡ true
-place_fits o h = both_true _ _ (memory_of_steady o.base h.memory) (readable_memory o h)
+place_fits o h = and_from _ _ (memory_of_steady o.base h.memory) (readable_memory o h)
 
 pub slots_fit : SlotsFit
 slots_fit = record {

@@ -3,6 +3,7 @@ use Rattle.std.proofs.Common.{◌≡◌, ℕ, zero, suc, ◌≤◌, Bool, true, 
 use Rattle.std.specs.Prelude.{nat_le}
 use Rattle.std.specs.List.{AllByRecursion, list_any}
 use Rattle.std.proofs.lemmas.Bool.Decides.{nat_tests}
+use Rattle.std.proofs.lemmas.Bool.{le-leb, leb-true, and_from}
 use Rattle.gg_base.specs.declared.relation.Rel.{Rel}
 use Rattle.gg_base.specs.declared.relation.Rel.TheVariants as relations
 use Rattle.tree_core.specs.declared.tree.Att.{Att}
@@ -42,7 +43,7 @@ use Rattle.vax_templates.specs.FilledLines.{op_of_relation, op_of_att, op_in, la
 use Rattle.vax_target_writing.proofs.Each.{Each, EachOk, bind_each, always_ok, still_ok, of_ok}
 use Rattle.vax_target_writing.proofs.Table.{goes, target_is, at_most_three}
 use Rattle.vax_target_writing.proofs.Lines.{AreRead, IsWell, is_label_piece, is_count_piece, labels_behind, counts_behind, read_well}
-use Rattle.vax_target_writing.proofs.Operands.{AllSpell, OwnSpells, both_true, all_stand}
+use Rattle.vax_target_writing.proofs.Operands.{AllSpell, OwnSpells, all_stand}
 
 -- a label to go to, and a function to call
 pub record CanGo (hs : List (Attr Operand)) : Type 0 where
@@ -95,12 +96,9 @@ attr_branches attr.Nothing = (refl, refl)
 
 branch_written : (op : Op) (hs : List (Attr Operand)) → ((shape op).operands ≡ []) × ((shape op).target ≡ true) → CanGo hs → is_instr (branch_to op hs) ≡ true
 branch_written op hs e go =
-    both_true (are_operands (shape op).operands []) (is_target (shape op).target (option_map label_name (label_among hs)))
+    and_from (are_operands (shape op).operands []) (is_target (shape op).target (option_map label_name (label_among hs)))
     (ap (λ ks. are_operands ks []) e.0)
     (ap (λ b. is_target b (option_map label_name (label_among hs))) e.1 ∙ (ap (λ l. is_target true (option_map label_name l)) go.found ∙ go.spelled))
-
-at_most : (n k : ℕ) → n ≤ k → nat_le n k ≡ true
-at_most n k le = grind (arith, nat_tests)
 
 is_byte_long : (n : ℕ) → n ≤ 255 → is_long n ≡ true
 is_byte_long n le = grind (arith, nat_tests)
@@ -108,13 +106,10 @@ is_byte_long n le = grind (arith, nat_tests)
 call_written : (q : TreeProgram) (hs : List (Attr Operand)) → CanCall q hs → is_instr (call_of q (callee_among hs)) ≡ true
 call_written q hs c =
     ap (λ x. is_instr (call_of q x)) c.found
-    ∙ both_true (nat_le c.count 255 && (is_long c.count && true) && true) (is_name (callee_name q c.function))
-    (both_true (nat_le c.count 255 && (is_long c.count && true)) true
-    (both_true (nat_le c.count 255) (is_long c.count && true) (at_most c.count 255 c.few) (both_true (is_long c.count) true (is_byte_long c.count c.few) refl)) refl)
+    ∙ and_from (nat_le c.count 255 && (is_long c.count && true) && true) (is_name (callee_name q c.function))
+    (and_from (nat_le c.count 255 && (is_long c.count && true)) true
+    (and_from (nat_le c.count 255) (is_long c.count && true) (le-leb c.count 255 c.few) (and_from (is_long c.count) true (is_byte_long c.count c.few) refl)) refl)
     c.spelled
-
-at_least : (n k : ℕ) → nat_le n k ≡ true → n ≤ k
-at_least n k e = grind (arith, nat_tests)
 
 take_all : {A : Type 0} (n : ℕ) (xs : List A) → length xs ≤ n → take n xs ≡ xs
 take_all zero [] le = refl
@@ -140,8 +135,8 @@ module _ (q : TreeProgram) (s : Setting) (holes : List Hole) (hs : List (Attr Op
   operates_written : (op : Op) (fs : List Form) → AreRead (length (shape op).operands) fs → are_operands (shape op).operands (map (filled q hs res) fs) ≡ true →
       goes (action_of op) ≡ false → written (Operates op fs) ≡ true
   operates_written op fs r a g =
-      both_true (are_operands (shape op).operands (map (filled q hs res) (take 3 fs))) (is_target (shape op).target None)
-      (ap (λ ys. are_operands (shape op).operands (map (filled q hs res) ys)) (take_all 3 fs (omega (arith, r.many, at_least _ _ (at_most_three op)))) ∙ a)
+      and_from (are_operands (shape op).operands (map (filled q hs res) (take 3 fs))) (is_target (shape op).target None)
+      (ap (λ ys. are_operands (shape op).operands (map (filled q hs res) ys)) (take_all 3 fs (omega (arith, r.many, leb-true _ _ (at_most_three op)))) ∙ a)
       (ap (λ b. is_target b None) (target_is op ∙ g))
 
   operated_written : (is_first : Bool) (zero' : Option Shape) (op : Op) (fs : List Form) → AreRead (length (shape op).operands) fs → Filling →

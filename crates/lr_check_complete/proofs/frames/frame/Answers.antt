@@ -1,12 +1,12 @@
 use Rattle.std.proofs.Common.{ℕ, List, Contains, sym, ◌∙◌, subst}
+use Rattle.std.proofs.lemmas.Option.{none-some}
 use Rattle.lr_check_sets.specs.Table.{automaton_of}
 use Rattle.lr_check_complete.proofs.Turns.{on_ok, looks_map, looks_there}
 use Rattle.lr_check_complete.proofs.Framing.{frame_in}
-use Rattle.lr_check_found.proofs.Reading.{none_some}
 use Rattle.lr_check_complete.proofs.frames.frame.Goals as goal
 
 pub returns-in-None : goal.returns-in-None
-returns-in-None c = looks_there (automaton_of c.args.tables.now) c.args.found.now c.args.window _ _ (record { each = λ p n b go at. absurd (none_some p (sym c.in-None.is ∙ (c.over.ensures ∙ go))) })
+returns-in-None c = looks_there (automaton_of c.args.tables.now) c.args.found.now c.args.window _ _ (record { each = λ p n b go at. absurd (none-some p (sym c.in-None.is ∙ (c.over.ensures ∙ go))) })
 
 pub returns : goal.returns
 returns c = on_ok _ _ _

@@ -1,7 +1,8 @@
 use Rattle.std.proofs.Common.{sym, ◌∙◌, subst}
+use Rattle.std.proofs.lemmas.Option.{same_Some}
 use Rattle.lr_check_found.specs.declared.places.Place.{Place}
 use Rattle.lr_check_found.specs.Found.{IsPlaceAt}
-use Rattle.lr_check_found.proofs.Reading.{Some-same, looked_at}
+use Rattle.lr_check_found.proofs.Reading.{looked_at}
 use Rattle.lr_check_complete.specs.Kids.{OnlyIn}
 use Rattle.lr_check_complete.proofs.Turns.{on_ok, looks_map, looks_there}
 use Rattle.lr_check_complete.proofs.Both.{not_there}
@@ -18,5 +19,5 @@ returns-in-Some c = λ A found one.
     c.in-Some.ensures.lookup.1 in
     on_ok _ _ _
     (looks_map A c.args.found.now c.args.window _ _ _ _
-    (λ g y other. subst (λ (z : Place). OnlyIn c.args.found.now c.args.number z c.args.over c.args.wanted) (Some-same x y (sym there ∙ other)) g))
+    (λ g y other. subst (λ (z : Place). OnlyIn c.args.found.now c.args.number z c.args.over c.args.wanted) (same_Some x y (sym there ∙ other)) g))
     (c.only.ensures A found there (one x there))

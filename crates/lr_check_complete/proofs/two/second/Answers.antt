@@ -1,7 +1,8 @@
 use Rattle.std.proofs.Common.{sym, ◌∙◌, subst}
+use Rattle.std.proofs.lemmas.Option.{same_Some}
 use Rattle.lr_check_found.specs.declared.places.Place.{Place}
 use Rattle.lr_check_found.specs.Found.{IsPlaceAt}
-use Rattle.lr_check_found.proofs.Reading.{Some-same, looked_at}
+use Rattle.lr_check_found.proofs.Reading.{looked_at}
 use Rattle.lr_check_complete.specs.Kids.{SecondAt}
 use Rattle.lr_check_complete.proofs.Turns.{on_ok, looks_map, looks_there}
 use Rattle.lr_check_complete.proofs.Both.{not_there, second_kid, second_done}
@@ -18,6 +19,6 @@ returns c = λ A e found at behind two.
     c.in-Some.ensures.lookup.1 in
     on_ok _ _ _
     (looks_map A c.args.found.now c.args.window _ _ _ _
-    (λ g y other. subst (λ (z : Place). SecondAt c.args.found.now c.args.number z c.args.token c.args.first) (Some-same x y (sym there ∙ other))
+    (λ g y other. subst (λ (z : Place). SecondAt c.args.found.now c.args.number z c.args.token c.args.first) (same_Some x y (sym there ∙ other))
     (second_done c.args.found.now c.args.number c.args.first c.args.behind x c.args.token e at behind g)))
     (c.second_at.ensures A x found (second_kid A c.args.found.now c.args.number c.args.first c.args.behind x c.args.token e at behind (two x there)))

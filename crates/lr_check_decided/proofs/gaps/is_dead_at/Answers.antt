@@ -1,9 +1,10 @@
 use Rattle.std.proofs.Common.{◌≡◌, Some, sym, ◌∙◌, subst}
+use Rattle.std.proofs.lemmas.Option.{same_Some}
 use Rattle.lr_check_sets.specs.Automaton.{CanBlock}
 use Rattle.lr_check_sets.specs.Table.{automaton_of}
 use Rattle.lr_check_found.specs.declared.settlings.Settling.{Settling}
 use Rattle.lr_check_found.specs.Found.{IsPlaceAt, IsSettlingAt}
-use Rattle.lr_check_found.proofs.Reading.{Some-same, looked_at}
+use Rattle.lr_check_found.proofs.Reading.{looked_at}
 use Rattle.lr_check_complete.proofs.Both.{not_there}
 use Rattle.lr_check_decided.proofs.gaps.is_dead_at.Goals as goal
 
@@ -15,7 +16,7 @@ returns-in-Some c =
     record {
       some = λ u. c.is_dead.ensures.some c.args.number c.requires at u;
       none = λ u d x p other. subst (λ (z : Settling). IsPlaceAt f z.place x → z.behind ≡ Some p → CanBlock ((automaton_of c.args.tables.now).candidates p x.behind) → ⊥)
-          (Some-same e d (sym at ∙ other)) (c.is_dead.ensures.none u x p);
+          (same_Some e d (sym at ∙ other)) (c.is_dead.ensures.none u x p);
     }
 
 pub returns-in-None-clause-none : goal.returns-in-None-clause-none
