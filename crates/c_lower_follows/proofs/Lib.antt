@@ -1,3 +1,4 @@
+-- Endings of names: _by goes by the cases of a part that it is given; _step what one item of the code does. See docs/READING.md.
 pub mod Longwords
 pub mod Values
 pub mod Leads

@@ -1,3 +1,4 @@
+-- Endings of names: _by goes by a part that it is given; _so is made once it is decided what has to be saved. See docs/READING.md.
 pub mod Trees
 pub mod Spelling
 pub mod Parts

@@ -1,3 +1,4 @@
+-- Endings of names: _by goes by the class of a token, or another part that it is given. See docs/READING.md.
 pub mod Seen
 pub mod Stops
 pub mod TypeExits

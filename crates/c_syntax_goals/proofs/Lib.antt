@@ -1,3 +1,4 @@
+-- Endings of names: _by goes by the class of a token; _step speaks of one step of the parse, or of an operator that steps. See docs/READING.md.
 pub mod Tokens
 pub mod PhraseLaws
 pub mod Steps

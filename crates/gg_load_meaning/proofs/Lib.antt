@@ -1,3 +1,4 @@
+-- Endings of names: _by goes by the number of an element, whatever gave that. See docs/READING.md.
 pub mod Outcomes
 pub mod Table
 pub mod Calls

@@ -1,3 +1,4 @@
+-- Endings of names: _so a fact that its neighbours cite, or that a stack which is alike does the same. See docs/READING.md.
 pub mod Alike
 pub mod Splitting
 pub mod Asking

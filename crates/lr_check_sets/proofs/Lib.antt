@@ -1,3 +1,4 @@
+-- Endings of names: _step that one step of the parse keeps it. See docs/READING.md.
 pub mod Walks
 pub mod Beginnings
 pub mod Tables

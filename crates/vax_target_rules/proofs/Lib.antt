@@ -1,3 +1,4 @@
+-- Endings of names: _so a fact that its neighbours cite; _by goes by the cases of a part that it is given. See docs/READING.md.
 pub mod Instances
 pub mod Founds
 pub mod Results

@@ -1,3 +1,4 @@
+-- Endings of names: _so a fact that its neighbours cite. See docs/READING.md.
 pub mod Naming
 pub mod Valued
 pub mod Shapes
