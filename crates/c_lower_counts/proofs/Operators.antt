@@ -34,7 +34,7 @@ use Rattle.c_typed_operators.specs.Stores.{store, arithmetic_store, plus_store_a
 use Rattle.c_typed_operators.specs.Stores.{minus_store, store_by, assign_of}
 use Rattle.c_typed_operators.specs.Table.{IsSum, SumOfIntegers, PointerPlus, PlusPointer, IsDifference, DifferenceOfIntegers, PointerMinus, DifferenceOfPointers, IsOrdered}
 use Rattle.c_typed_operators.specs.Table.{OrderOfIntegers, OrderOfPointers, IsBinary}
-use Rattle.c_typed_expressions.specs.Expressions.{unfit, call_unless, called_by, called}
+use Rattle.c_typed_expressions.specs.Calls.{unfit, call_unless, called_by, called}
 
 -- what is answered has at most so many nodes
 abbrev pub Within : ℕ → Result AnExpression Fault → Type 0

@@ -17,7 +17,7 @@ use Rattle.c_syntax.proofs.UnitLaws.{longer_stars}
 use Rattle.c_typed_scope.specs.declared.entry.Entry.{Entry}
 use Rattle.c_typed_scope.specs.declared.entry.Signature.{Signature}
 use Rattle.c_typed_expressions.specs.Expressions.{written}
-use Rattle.c_typed_definition.specs.Declarations.{State}
+use Rattle.c_typed_definition.specs.State.{State}
 use Rattle.c_typed_definition.specs.Signatures.{known}
 use Rattle.c_typed_definition.specs.Headings.{Text, with_declared, body_of}
 use Rattle.c_typed_definition.specs.Texts.{empty_text}

@@ -26,7 +26,7 @@ use Rattle.c_typed_scope.specs.declared.entry.Entry.{Entry}
 use Rattle.c_typed_scope.specs.declared.entry.Signature.{Signature}
 use Rattle.c_typed_expressions.specs.Phrases.{init_in}
 use Rattle.c_typed_expressions.specs.Expressions.{written}
-use Rattle.c_typed_definition.specs.Declarations.{State, with_local}
+use Rattle.c_typed_definition.specs.State.{State, with_local}
 use Rattle.c_typed_definition.specs.Statements.{entered}
 use Rattle.c_typed_law.specs.Locals.{IsBegun, IsAutomatic, IsLocal, AreLocals}
 use Rattle.c_typed_law.specs.Statements.{IsFull, IsCondition, IsPart, IsTurn, IsReturn, IsStatement, AreItems}

@@ -28,7 +28,7 @@ use Rattle.c_typed_scope.specs.Scopes.{Scope}
 use Rattle.c_typed_scope.specs.Layout.{Area}
 use Rattle.c_typed_expressions.specs.Phrases.{params_in, brackets_in}
 use Rattle.c_typed_expressions.specs.Expressions.{written}
-use Rattle.c_typed_definition.specs.Declarations.{State, with_area}
+use Rattle.c_typed_definition.specs.State.{State, with_area}
 use Rattle.c_typed_definition.specs.Statements.{entered}
 use Rattle.c_typed_definition.specs.Signatures.{parameter_type}
 use Rattle.c_typed_definition.specs.Headings.{Text, with_parameter, with_declared, entered_function}

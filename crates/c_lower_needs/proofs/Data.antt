@@ -22,7 +22,7 @@ use Rattle.c_typed_scope.specs.Scopes.{Scope}
 use Rattle.c_typed_scope.specs.Layout.{Area, aligned, placed, with_object, one_more_literal, literal}
 use Rattle.c_typed_scope.specs.Contents.{Filled, with_contents, filled}
 use Rattle.c_typed_expressions.specs.Relations.{IsTyped, AreTyped}
-use Rattle.c_typed_definition.specs.Declarations.{label_of, counted_static, laid}
+use Rattle.c_typed_definition.specs.State.{label_of, counted_static, laid}
 use Rattle.c_lower_needs.specs.Claims.{Weight}
 
 -- ---- one object more

@@ -11,7 +11,7 @@ use Rattle.c_program.specs.Statements.{ADeclaration, KeepOf, ClearOf, BeginOf, A
 use Rattle.c_program.specs.Statements.{IfElseOf, WhileOf, DoOf, ForOf}
 use Rattle.c_typed_scope.specs.declared.entry.Entry.{Entry}
 use Rattle.c_typed_scope.specs.declared.entry.Signature.{Signature}
-use Rattle.c_typed_definition.specs.Declarations.{State}
+use Rattle.c_typed_definition.specs.State.{State}
 use Rattle.c_typed_law.specs.Statements.{AreItems}
 use Rattle.c_lower_counts.specs.Sizes.{declared_size, act_size, row_size}
 use Rattle.c_lower_counts.proofs.Statements.{items_size}

@@ -23,7 +23,7 @@ use Rattle.c_typed_scope.specs.Layout.{Area}
 use Rattle.c_typed_scope.specs.Contents.{Filled, filled_to}
 use Rattle.c_typed_expressions.specs.Phrases.{init_in, brackets_in}
 use Rattle.c_typed_expressions.specs.Expressions.{written}
-use Rattle.c_typed_definition.specs.Declarations.{State, with_area, measuring, variable_of, array_entry, with_local}
+use Rattle.c_typed_definition.specs.State.{State, with_area, measuring, variable_of, array_entry, with_local}
 use Rattle.c_typed_law.specs.Values.{IsElement, AreElements}
 use Rattle.c_typed_law.specs.Objects.{IsCount, AreLaid, HoldsAtFirst, IsFilled, IsObjectBy, IsObject}
 use Rattle.c_typed_law.specs.Locals.{IsBegun, IsAutomatic, IsLocal, AreLocals}

@@ -20,9 +20,9 @@ use Rattle.c_typed_scope.specs.Scopes.{Scope}
 use Rattle.c_typed_scope.specs.Layout.{Area}
 use Rattle.c_typed_scope.specs.Contents.{Filled}
 use Rattle.c_typed_expressions.specs.Phrases.{params_in}
-use Rattle.c_typed_expressions.specs.Expressions.{count}
+use Rattle.c_typed_expressions.specs.Calls.{count}
 use Rattle.c_typed_words.specs.Words.{EachIs, HasTokens}
-use Rattle.c_typed_definition.specs.Declarations.{State}
+use Rattle.c_typed_definition.specs.State.{State}
 use Rattle.c_typed_definition.specs.Signatures.{known}
 use Rattle.c_typed_definition.specs.Headings.{Text}
 use Rattle.c_typed_definition.specs.Texts.{empty_text}

@@ -6,7 +6,7 @@ use Rattle.c_phrases.specs.Units.{SomeItems, AFunction, ADeclared, function, glo
 use Rattle.c_program.specs.Programs.{ARoutine, AProgram}
 use Rattle.c_typed_scope.specs.declared.entry.Entry.{Entry}
 use Rattle.c_typed_scope.specs.declared.entry.Signature.{Signature}
-use Rattle.c_typed_definition.specs.Declarations.{State}
+use Rattle.c_typed_definition.specs.State.{State}
 use Rattle.c_typed_definition.specs.Signatures.{known}
 use Rattle.c_typed_definition.specs.Headings.{Text, with_declared, body_of}
 use Rattle.c_typed_definition.specs.Texts.{empty_text}

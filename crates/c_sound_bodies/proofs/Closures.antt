@@ -20,7 +20,7 @@ use Rattle.c_typed_words.proofs.Any.{AnyToken, any_exp}
 use Rattle.c_sound.specs.Fits.{StandsIn, Fits, FitsAll}
 use Rattle.c_sound.specs.Stands.{arguments, IsThere, Takes, Stands, StandAll}
 use Rattle.c_typed_expressions.specs.Relations.{IsTyped}
-use Rattle.c_typed_definition.specs.Declarations.{State}
+use Rattle.c_typed_definition.specs.State.{State}
 use Rattle.c_sound_bodies.specs.Claim.{IsKnown, InOrder, AreDefined}
 use Rattle.c_sound_bodies.proofs.Terms.{Every, Closed}
 use Rattle.c_sound_bodies.proofs.Growth.{exp_extends}

@@ -17,7 +17,8 @@ use Rattle.c_typed_scope.specs.Layout.{Area, literal}
 use Rattle.c_phrases.specs.Phrases.{AnExp, name, number, str, paren, call, index, step_after, step_before, prefix}
 use Rattle.c_phrases.specs.Phrases.{sizeof_exp, sizeof_type, cast, binary, choice, assign, comma, SomeExps, no_exps}
 use Rattle.c_phrases.specs.Phrases.{exps}
-use Rattle.c_typed_expressions.specs.Expressions.{written, callee_of, count, call_unless, called_by, called, unfit}
+use Rattle.c_typed_expressions.specs.Expressions.{written}
+use Rattle.c_typed_expressions.specs.Calls.{callee_of, count, call_unless, called_by, called, unfit}
 use Rattle.c_typed_expressions.specs.Relations.{IsNamed, NamesVariable, NamesArray, IsTyped, AreTyped}
 use Rattle.c_sound.specs.Stands.{arguments}
 use Rattle.c_typed_words.specs.Phrases.{ExpOf, ExpsOf}

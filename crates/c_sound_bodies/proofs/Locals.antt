@@ -21,7 +21,7 @@ use Rattle.c_sound.specs.Stands.{IsThere, Takes, StandsDeclared}
 use Rattle.c_typed_expressions.specs.Phrases.{init_in}
 use Rattle.c_typed_expressions.specs.Expressions.{written}
 use Rattle.c_typed_expressions.specs.Relations.{IsTyped}
-use Rattle.c_typed_definition.specs.Declarations.{State, with_area, with_local}
+use Rattle.c_typed_definition.specs.State.{State, with_area, with_local}
 use Rattle.c_typed_law.specs.Locals.{IsBegun, IsAutomatic, IsLocal, AreLocals}
 use Rattle.c_sound_bodies.specs.Claim.{IsKnown, InOrder, Extends, Grows, AreDefined}
 use Rattle.c_sound_bodies.proofs.Names.{scope_more, scope_named, known_more, named_outer}

@@ -18,7 +18,7 @@ use Rattle.c_typed_scope.specs.Contents.{Filled, filled_to, with_contents, fille
 use Rattle.c_sound.specs.Fits.{no_local}
 use Rattle.c_typed_expressions.specs.Phrases.{init_in, brackets_in}
 use Rattle.c_typed_expressions.specs.Expressions.{written}
-use Rattle.c_typed_definition.specs.Declarations.{State, with_area, variable_of, label_of, counted_static, array_entry, laid}
+use Rattle.c_typed_definition.specs.State.{State, with_area, variable_of, label_of, counted_static, array_entry, laid}
 use Rattle.c_typed_law.specs.Values.{IsLength, IsElement, AreElements}
 use Rattle.c_typed_law.specs.Objects.{IsCount, AreLaid, HoldsAtFirst, IsFilled, IsPlainObject, IsCountedArray}
 use Rattle.c_typed_law.specs.Objects.{IsArrayObject, IsObjectBy, IsObject}

@@ -7,7 +7,7 @@ use Rattle.c_program.specs.Statements.{ADeclaration, AnAction, SomeActions, NoAc
 use Rattle.c_program.specs.Programs.{ARoutine}
 use Rattle.c_sound.specs.Fits.{Fits, FitsMaybe, FitsAct, FitsActs, behind_act, declaring}
 use Rattle.c_sound.specs.Stands.{IsThere, Takes, Stands, StandsMaybe, StandsAct, StandsActs}
-use Rattle.c_typed_definition.specs.Declarations.{State}
+use Rattle.c_typed_definition.specs.State.{State}
 use Rattle.c_typed_definition.specs.Statements.{entered, left}
 use Rattle.c_sound_bodies.specs.Claim.{InOrder, Grows, AreDefined, behind_acts}
 use Rattle.c_sound_bodies.proofs.Names.{scope_entered, left_scope}

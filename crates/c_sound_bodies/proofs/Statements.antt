@@ -12,7 +12,7 @@ use Rattle.c_phrases.specs.Units.{no_items}
 use Rattle.c_program.specs.Statements.{AnAction, SomeActions, ReturnOf}
 use Rattle.c_sound.specs.Fits.{behind_act, declaring, no_local}
 use Rattle.c_typed_expressions.specs.Relations.{IsTyped}
-use Rattle.c_typed_definition.specs.Declarations.{State, with_area}
+use Rattle.c_typed_definition.specs.State.{State, with_area}
 use Rattle.c_typed_definition.specs.Statements.{entered}
 use Rattle.c_typed_law.specs.Statements.{IsFull, IsCondition, IsPart, IsTurn, IsReturn, IsStatement, AreItems}
 use Rattle.c_typed_law.proofs.Statements.{items_mean}

@@ -18,9 +18,10 @@ use Rattle.c_typed_scope.specs.declared.entry.Entry.TheVariants as entries
 use Rattle.c_typed_scope.specs.declared.entry.Signature.{Signature}
 use Rattle.c_typed_scope.specs.Scopes.{Scope}
 use Rattle.c_typed_scope.specs.Layout.{Area}
-use Rattle.c_typed_expressions.specs.Expressions.{callee_of}
+use Rattle.c_typed_expressions.specs.Calls.{callee_of}
 use Rattle.c_typed_definition.specs.Initialisers.{type_length}
-use Rattle.c_typed_definition.specs.Declarations.{State, type_object}
+use Rattle.c_typed_definition.specs.State.{State}
+use Rattle.c_typed_definition.specs.Declarations.{type_object}
 use Rattle.c_typed_definition.specs.Statements.{type_items}
 
 -- a variable of a function with so many locals, of which some are in scope, and so many parameters, where there are so many objects

@@ -14,9 +14,9 @@ use Rattle.c_typed_scope.specs.Scopes.{find}
 use Rattle.c_program.specs.Programs.{ARoutine}
 use Rattle.c_types.specs.declared.typed.Callee.{Callee}
 use Rattle.c_types.specs.declared.typed.Callee.TheVariants as callees
-use Rattle.c_typed_expressions.specs.Expressions.{callee_of}
+use Rattle.c_typed_expressions.specs.Calls.{callee_of}
 use Rattle.c_sound.specs.Stands.{IsDefined, Takes}
-use Rattle.c_typed_definition.specs.Declarations.{State}
+use Rattle.c_typed_definition.specs.State.{State}
 use Rattle.c_typed_definition.specs.Signatures.{signature_of, services, service_names, Known, with_function, known_by}
 use Rattle.c_typed_definition.specs.Signatures.{known_with, known_from}
 use Rattle.c_typed_definition.specs.Headings.{Text, is_below, with_declared, body_of}

@@ -22,7 +22,7 @@ use Rattle.c_typed_scope.specs.Scopes.{Scope, find}
 use Rattle.c_typed_scope.specs.Contents.{low_bytes}
 use Rattle.c_program.specs.Programs.{ARoutine}
 use Rattle.c_sound.specs.Labels.{is_label_start, is_label_part, is_label, entry_label, HoldsAddress, HoldsAddresses, AreLabelled}
-use Rattle.c_typed_definition.specs.Declarations.{State}
+use Rattle.c_typed_definition.specs.State.{State}
 use Rattle.c_typed_words.specs.Words.{IsName}
 use Rattle.c_sound_bodies.proofs.Objects.{IsVariable}
 use Rattle.c_sound_texts.proofs.Areas.{LieTo}

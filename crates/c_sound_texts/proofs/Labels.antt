@@ -22,7 +22,7 @@ use Rattle.c_typed_scope.specs.Layout.{Area, with_object, one_more_literal, lite
 use Rattle.c_typed_scope.specs.Contents.{Filled, filled_to, with_contents, filled}
 use Rattle.c_typed_expressions.specs.Phrases.{init_in, brackets_in}
 use Rattle.c_typed_expressions.specs.Expressions.{written}
-use Rattle.c_typed_definition.specs.Declarations.{State, with_area, label_of, variable_of, counted_static, array_entry, laid}
+use Rattle.c_typed_definition.specs.State.{State, with_area, label_of, variable_of, counted_static, array_entry, laid}
 use Rattle.c_typed_law.specs.Objects.{IsCount, IsFilled, IsPlainObject, IsCountedArray, IsArrayObject, IsObjectBy}
 use Rattle.c_typed_law.specs.Objects.{IsObject}
 use Rattle.c_typed_words.proofs.Any.{AnyToken, any_init, any_part}

@@ -21,7 +21,7 @@ use Rattle.c_program.specs.Programs.{ARoutine}
 use Rattle.c_sound.specs.Fits.{no_local}
 use Rattle.c_typed_expressions.specs.Phrases.{brackets_in, params_in}
 use Rattle.c_typed_expressions.specs.Expressions.{written}
-use Rattle.c_typed_definition.specs.Declarations.{State, with_area}
+use Rattle.c_typed_definition.specs.State.{State, with_area}
 use Rattle.c_typed_definition.specs.Signatures.{parameter_type}
 use Rattle.c_typed_definition.specs.Headings.{Text, with_parameter, with_state, with_declared, with_body, body_of}
 use Rattle.c_typed_definition.specs.Headings.{entered_function, left_function}

@@ -27,9 +27,11 @@ use Rattle.c_types.specs.Typed.{AnExpression, type_of}
 use Rattle.c_types.specs.Constants.{constant_of}
 use Rattle.c_typed_scope.specs.Contents.{in_range, length_of, Filled, filled_to, holding, with_contents, filled}
 use Rattle.c_typed_expressions.specs.Phrases.{init_in, brackets_in}
-use Rattle.c_typed_expressions.specs.Expressions.{count, written}
+use Rattle.c_typed_expressions.specs.Calls.{count}
+use Rattle.c_typed_expressions.specs.Expressions.{written}
 use Rattle.c_typed_definition.specs.Forms.{text_of, array_form, form_fits, text_length, given_count, own_length}
-use Rattle.c_typed_definition.specs.Declarations.{State, with_area, measuring, variable_of, label_of, counted_static, array_entry, laid, text_contents}
+use Rattle.c_typed_definition.specs.State.{State, with_area, measuring, variable_of, label_of, counted_static}
+use Rattle.c_typed_definition.specs.State.{array_entry, laid, text_contents}
 use Rattle.c_typed_law.specs.Values.{IsElement, AreElements}
 use Rattle.c_typed_law.specs.Objects.{IsCount, AreLaid, HoldsAtFirst, IsFilled, IsPlainObject, IsCountedArray}
 use Rattle.c_typed_law.specs.Objects.{IsArrayObject, IsObjectBy, IsObject}

@@ -22,7 +22,7 @@ use Rattle.c_typed_scope.specs.Layout.{Area}
 use Rattle.c_program.specs.Statements.{ADeclaration, AnAction, SomeActions}
 use Rattle.c_typed_expressions.specs.Phrases.{init_in, brackets_in, params_in}
 use Rattle.c_typed_expressions.specs.Expressions.{written}
-use Rattle.c_typed_definition.specs.Declarations.{State, with_area, with_local, named_state}
+use Rattle.c_typed_definition.specs.State.{State, with_area, with_local, named_state}
 use Rattle.c_typed_definition.specs.Statements.{entered, left}
 use Rattle.c_typed_definition.specs.Signatures.{parameter_type}
 use Rattle.c_typed_definition.specs.Headings.{Text, with_parameter, with_declared, entered_function, left_function}

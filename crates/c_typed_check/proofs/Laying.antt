@@ -30,8 +30,10 @@ use Rattle.c_typed_expressions.specs.Expressions.{integer_of, beside, sizeof_unl
 use Rattle.c_program.specs.Statements.{ADeclaration, AnAction, SomeActions}
 use Rattle.c_program.specs.Programs.{AProgram}
 use Rattle.c_typed_definition.specs.Initialisers.{type_length, type_element, type_elements}
-use Rattle.c_typed_definition.specs.Declarations.{State, with_area, measuring, counted_static, laid, length_in, literals_in, contents_of, finished, object_with, plain_object}
-use Rattle.c_typed_definition.specs.Declarations.{counted_array, array_object, object_by, type_object, with_local, begun, type_automatic, type_local, type_locals}
+use Rattle.c_typed_definition.specs.State.{State, with_area, measuring, counted_static, laid, with_local}
+use Rattle.c_typed_definition.specs.Declarations.{length_in, literals_in, contents_of, finished, object_with}
+use Rattle.c_typed_definition.specs.Declarations.{plain_object, counted_array, array_object, object_by, type_object}
+use Rattle.c_typed_definition.specs.Declarations.{begun, type_automatic, type_local, type_locals}
 use Rattle.c_typed_definition.specs.Statements.{entered, left, jump, type_full, type_condition, type_maybe, type_maybe_condition, type_return, type_statement, type_items}
 use Rattle.c_typed_definition.specs.Headings.{with_parameter, Text, with_declared, entered_function, agrees}
 use Rattle.c_typed_definition.specs.Headings.{earlier_by, head_of, is_below}

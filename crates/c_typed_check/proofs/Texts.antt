@@ -14,7 +14,8 @@ use Rattle.c_typed_scope.specs.declared.entry.Entry.{Entry}
 use Rattle.c_typed_scope.specs.declared.entry.Signature.{Signature}
 use Rattle.c_program.specs.declared.program.Routine.{Routine}
 use Rattle.c_program.specs.Programs.{ARoutine, AProgram, routine}
-use Rattle.c_typed_definition.specs.Declarations.{State, type_object}
+use Rattle.c_typed_definition.specs.State.{State}
+use Rattle.c_typed_definition.specs.Declarations.{type_object}
 use Rattle.c_typed_definition.specs.Signatures.{Known, known, known_with, known_from}
 use Rattle.c_typed_definition.specs.Headings.{Text}
 use Rattle.c_typed_definition.specs.Texts.{empty_text, whole_by, type_text, type_globals, type_external}

@@ -1,87 +1,28 @@
--- The declarations of variables: what their form alone tells, their lengths, their objects and their initialisers.
+-- The declarations of variables: their lengths, their objects and their initialisers.
 -- This is how the code computes it; the rules of typing are the relations of c_typed_law.
-use Rattle.std.specs.Prelude.{◌≡◌, ℕ, ◌+◌, ◌-◌, ◌*◌, ◌==◌, nat_lt, Bool, true, false, ◌||◌, ◌&&◌, List, [], ◌∷◌, ◌++◌}
-use Rattle.std.specs.Prelude.{length, Option, Some, None, Result, Ok, if◌then◌else◌}
-use Rattle.std.specs.Fmt.{decimal}
+use Rattle.std.specs.Prelude.{ℕ, ◌*◌, Bool, true, false, List, [], ◌∷◌, ◌++◌, length, Option, Some, None, Result, Ok}
 use Rattle.c_phrases.specs.declared.operator.Spec.{Spec}
 use Rattle.c_phrases.specs.declared.operator.Storage.{Storage}
 use Rattle.c_phrases.specs.declared.operator.Storage.TheVariants as storages
 use Rattle.c_types.specs.declared.types.CType.{CType}
-use Rattle.c_types.specs.declared.types.CType.TheVariants as types
-use Rattle.c_types.specs.declared.typed.Variable.{Variable}
-use Rattle.c_types.specs.declared.typed.Variable.TheVariants as variables
-use Rattle.c_types.specs.declared.fault.TypeKind.{TypeKind}
-use Rattle.c_types.specs.declared.fault.TypeKind.TheVariants.{Twice, LeftOut, BadInit, BadType}
-use Rattle.c_types.specs.Answers.{Fault, bad, ◌>>=◌}
+use Rattle.c_types.specs.Answers.{Fault, ◌>>=◌}
 use Rattle.c_types.specs.Types.{size_of, pointer_to}
-use Rattle.c_types.specs.Typed.{AnExpression}
-use Rattle.c_types.specs.Types.{is_scalar}
 use Rattle.c_typed_operators.specs.Stores.{given}
 use Rattle.c_typed_scope.specs.declared.entry.Entry.{Entry}
 use Rattle.c_typed_scope.specs.declared.entry.Entry.TheVariants as entries
 use Rattle.c_typed_scope.specs.declared.entry.Signature.{Signature}
-use Rattle.c_phrases.specs.Phrases.{AnExp, str, paren, SomeExps}
+use Rattle.c_phrases.specs.Phrases.{AnExp}
 use Rattle.c_phrases.specs.Units.{AnInit, value, elements, ADeclarator}
 use Rattle.c_typed_expressions.specs.Phrases.{first, init_in, brackets_in}
-use Rattle.c_typed_scope.specs.Scopes.{Scope, is_taken, with_name}
-use Rattle.c_typed_scope.specs.Layout.{Area, placed}
-use Rattle.c_typed_expressions.specs.Expressions.{written, count, type_exp}
+use Rattle.c_typed_scope.specs.Scopes.{Scope, with_name}
+use Rattle.c_typed_scope.specs.Layout.{Area}
+use Rattle.c_typed_expressions.specs.Expressions.{written, type_exp}
 use Rattle.c_typed_scope.specs.Contents.{Filled, filled_to, filled}
 use Rattle.c_typed_definition.specs.Initialisers.{type_length, type_element, type_elements}
 use Rattle.c_typed_definition.specs.Forms.{text_of, given_count, own_length, form_of, many, automatic_form}
 use Rattle.c_program.specs.Statements.{ADeclaration, KeepOf, ClearOf, BeginOf}
-
--- what is in scope and laid out while a function is read
-pub record State : Type 0 where
-  pub scope : Scope
-  pub locals : List CType
-  pub area : Area
-
-abbrev pub with_area : Area → State → State
-with_area a s = record { scope = s.scope; locals = s.locals; area = a }
-
-abbrev pub named_state : List ℕ → Entry → State → State
-named_state n e s = record { scope = with_name n e s.scope; locals = s.locals; area = s.area }
-
-abbrev pub measuring : Bool → Area → Area
-measuring b a = record { objects = a.objects; end = a.end; literals = a.literals; statics = a.statics; measuring = b }
-
-abbrev pub one_more_static : Area → Area
-one_more_static a = record { objects = a.objects; end = a.end; literals = a.literals; statics = a.statics + 1; measuring = a.measuring }
-
--- the variable of an object, and its label
-abbrev pub variable_of : Bool → ℕ → Variable
-variable_of true n = variables.Static n
-variable_of false n = variables.Global n
-
-abbrev pub label_of : Bool → List ℕ → Area → List ℕ
-label_of true name a = 84 ∷ decimal a.statics
-label_of false name a = 95 ∷ name
-
-abbrev pub counted_static : Bool → Area → Area
-counted_static true a = one_more_static a
-counted_static false a = a
-
--- an array's entry holds the type of its first element's address
-abbrev pub array_entry : Option CType → Variable → ℕ → Entry
-array_entry None v size = entries.Array types.Void v size
-array_entry (Some p) v size = entries.Array p v size
-
--- a variable's object, and the count of static locals
-unfoldable pub laid : Bool → ℕ → List ℕ → ℕ → ℕ → Area → Result (ℕ × Area) Fault
-laid is_static at name align size a = placed at (label_of is_static name a) align size [] a >>= λ r. Ok (r.0, counted_static is_static r.1)
-
-abbrev pub text_contents : Option (List ℕ) → Filled
-text_contents None = record { bytes = []; links = [] }
-text_contents (Some b) = record { bytes = b; links = [] }
-
-abbrev pub with_local : CType → List ℕ → State → State
-with_local t n s = record {
-  scope = with_name n (entries.Variable t (variables.Automatic (length s.locals))) s.scope;
-  locals =
-      s.locals ++ t ∷ [];
-  area = s.area;
-}
+use Rattle.c_typed_definition.specs.State.{State, with_area, measuring, variable_of, array_entry, laid, text_contents}
+use Rattle.c_typed_definition.specs.State.{with_local}
 
 module _ (names : List (List ℕ × Entry)) (signatures : List Signature) where
   -- The number of elements. While it is measured, its literals take no room: they lie behind the array.

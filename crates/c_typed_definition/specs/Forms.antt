@@ -10,7 +10,7 @@ use Rattle.c_phrases.specs.Phrases.{AnExp, str, paren}
 use Rattle.c_phrases.specs.Units.{AnInit, value, elements, ADeclarator}
 use Rattle.c_typed_scope.specs.Scopes.{Scope, is_taken}
 use Rattle.c_typed_expressions.specs.Phrases.{init_in, brackets_in}
-use Rattle.c_typed_expressions.specs.Expressions.{count}
+use Rattle.c_typed_expressions.specs.Calls.{count}
 
 -- the bytes of a string literal, also in parentheses
 unfoldable pub text_of : AnExp → Option (List ℕ)

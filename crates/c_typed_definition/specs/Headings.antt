@@ -19,7 +19,7 @@ use Rattle.c_phrases.specs.Units.{AParam, AFunction}
 use Rattle.c_typed_expressions.specs.Phrases.{params_in}
 use Rattle.c_typed_scope.specs.Scopes.{Scope, is_taken, enter, leave}
 use Rattle.c_typed_expressions.specs.Expressions.{written}
-use Rattle.c_typed_definition.specs.Declarations.{State, named_state}
+use Rattle.c_typed_definition.specs.State.{State, named_state}
 use Rattle.c_program.specs.Statements.{SomeActions}
 use Rattle.c_program.specs.Programs.{ARoutine}
 use Rattle.c_program.specs.Need.{need_of}

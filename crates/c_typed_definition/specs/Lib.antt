@@ -1,5 +1,6 @@
 pub mod Initialisers
 pub mod Forms
+pub mod State
 pub mod Declarations
 pub mod Statements
 pub mod Signatures

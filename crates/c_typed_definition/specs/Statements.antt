@@ -16,7 +16,8 @@ use Rattle.c_phrases.specs.Units.{no_items}
 use Rattle.c_typed_expressions.specs.Phrases.{first}
 use Rattle.c_typed_scope.specs.Scopes.{enter, leave}
 use Rattle.c_typed_expressions.specs.Expressions.{type_exp}
-use Rattle.c_typed_definition.specs.Declarations.{State, with_area, type_locals}
+use Rattle.c_typed_definition.specs.State.{State, with_area}
+use Rattle.c_typed_definition.specs.Declarations.{type_locals}
 use Rattle.c_program.specs.Statements.{AnAction, SomeActions, NoActions, MoreActions, DeclareOf, BlockOf, EvaluateOf}
 use Rattle.c_program.specs.Statements.{BreakOf, ContinueOf, ReturnOf, IfOf, IfElseOf, WhileOf, DoOf, ForOf}
 

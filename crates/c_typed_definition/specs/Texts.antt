@@ -18,7 +18,8 @@ use Rattle.c_typed_scope.specs.Scopes.{Scope, find}
 use Rattle.c_typed_scope.specs.Layout.{Area}
 use Rattle.c_typed_expressions.specs.Expressions.{integer_of, written}
 use Rattle.c_typed_definition.specs.Initialisers.{type_length}
-use Rattle.c_typed_definition.specs.Declarations.{State, with_area, type_object}
+use Rattle.c_typed_definition.specs.State.{State, with_area}
+use Rattle.c_typed_definition.specs.Declarations.{type_object}
 use Rattle.c_typed_definition.specs.Statements.{type_items}
 use Rattle.c_program.specs.Programs.{ARoutine, AProgram}
 use Rattle.c_typed_definition.specs.Signatures.{parameter_type, signature_of, services, service_names, known}

@@ -17,7 +17,9 @@ use Rattle.c_typed_scope.specs.Layout.{Area, literal}
 use Rattle.c_phrases.specs.Phrases.{AnExp, name, number, str, paren, call, index, step_after, step_before, prefix}
 use Rattle.c_phrases.specs.Phrases.{sizeof_exp, sizeof_type, cast, binary, choice, assign, comma, SomeExps, no_exps}
 use Rattle.c_phrases.specs.Phrases.{exps}
-use Rattle.c_typed_expressions.specs.Expressions.{written, named_by, named, is_function_by, is_function, callee, called, beside, sizeof_unless, type_exp, type_exps}
+use Rattle.c_typed_expressions.specs.Expressions.{written, named, is_function, callee, beside, sizeof_unless}
+use Rattle.c_typed_expressions.specs.Expressions.{type_exp, type_exps}
+use Rattle.c_typed_expressions.specs.Calls.{named_by, is_function_by, called}
 use Rattle.c_typed_expressions.specs.Relations.{Joint, FirstOf, Within, Behind, Beside, Unless, Refuses, Passes, IsNamed, NamesVariable, NamesArray, NamedFault, NamesNothing}
 use Rattle.c_typed_expressions.specs.Relations.{NamesFunction, IsTyped, AreTyped, FirstFault, FirstFaultOf}
 

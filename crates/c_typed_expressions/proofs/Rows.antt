@@ -27,7 +27,8 @@ use Rattle.c_phrases.specs.Phrases.{call, exps}
 use Rattle.c_phrases.specs.Shapes.{exp, exps_row, exp_list}
 use Rattle.c_typed_scope.specs.Scopes.{Scope}
 use Rattle.c_typed_scope.specs.Layout.{Area}
-use Rattle.c_typed_expressions.specs.Expressions.{count, callee, callee_of, called, unfit, type_exp, type_exps}
+use Rattle.c_typed_expressions.specs.Calls.{count, callee_of, called, unfit}
+use Rattle.c_typed_expressions.specs.Expressions.{callee, type_exp, type_exps}
 
 exps_row_is : (c : _) (row : Row_of-Expr c) → exps_row row ≡ exp_list (items-the_row-Expr c row)
 exps_row_is c end_of-Expr = refl

@@ -1,3 +1,4 @@
 pub mod Phrases
+pub mod Calls
 pub mod Expressions
 pub mod Relations

@@ -20,7 +20,8 @@ use Rattle.c_typed_scope.specs.Layout.{Area, literal}
 use Rattle.c_phrases.specs.Phrases.{AnExp, name, number, str, paren, call, index, step_after, step_before, prefix}
 use Rattle.c_phrases.specs.Phrases.{sizeof_exp, sizeof_type, cast, binary, choice, assign, comma, SomeExps, no_exps}
 use Rattle.c_phrases.specs.Phrases.{exps}
-use Rattle.c_typed_expressions.specs.Expressions.{written, is_function_by, is_function, callee, called}
+use Rattle.c_typed_expressions.specs.Expressions.{written, is_function, callee}
+use Rattle.c_typed_expressions.specs.Calls.{is_function_by, called}
 
 -- A part is typed as x, and then the whole as t.
 pub record Joint {A B : Type 0} (R : A → Type 0) (S : A → B → Type 0) (t : B) : Type 0 where

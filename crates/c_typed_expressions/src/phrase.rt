@@ -7,8 +7,9 @@ ghost use Rattle.c_phrases.specs.Shapes.{exp, exp_list};
 ghost use Rattle.c_typed_expressions.specs.Phrases.{first};
 ghost use Rattle.c_typed_scope.specs.Scopes.{find};
 ghost use Rattle.c_typed_scope.specs.Views.{scope, area};
-ghost use Rattle.c_typed_expressions.specs.Expressions.{integer_of, written, named, function_number, callee, is_function};
-ghost use Rattle.c_typed_expressions.specs.Expressions.{callee_of, unfit, called, type_exp, type_exps};
+ghost use Rattle.c_typed_expressions.specs.Expressions.{integer_of, written, named, callee, is_function, type_exp};
+ghost use Rattle.c_typed_expressions.specs.Expressions.{type_exps};
+ghost use Rattle.c_typed_expressions.specs.Calls.{function_number, callee_of, unfit, called};
 
 use c_phrases::operator::Spec;
 use c_phrases::tree::{Expr, Stars};
@@ -163,7 +164,7 @@ fn is_function(functions: &Functions, blocks: &Blocks, e: &Expr) -> bool
     }
 }
 
-#[tactic(auto, unfolding(crate::specs::Expressions::callee_of))]
+#[tactic(auto, unfolding(crate::specs::Calls::callee_of))]
 fn callee_of(number: u32) -> Callee
     ensures { result ≡ callee_of number }
 {

@@ -24,8 +24,11 @@ use Rattle.c_typed_expressions.specs.Phrases.{first, init_in, brackets_in}
 use Rattle.c_typed_expressions.specs.Expressions.{written}
 use Rattle.c_typed_expressions.proofs.Relations.{means_then, means_ok, means_is, exp_means}
 use Rattle.c_typed_definition.specs.Forms.{text_of, form_fits, given_count, own_length, form_of, automatic_by, automatic_form, many}
-use Rattle.c_typed_definition.specs.Declarations.{State, with_area, measuring, variable_of, array_entry, laid, text_contents, with_local, length_in, literals_in, contents_of}
-use Rattle.c_typed_definition.specs.Declarations.{object_with, plain_object, counted_array, array_object, object_by, type_object, begun, type_automatic, type_local, type_locals}
+use Rattle.c_typed_definition.specs.State.{State, with_area, measuring, variable_of, array_entry, laid, text_contents}
+use Rattle.c_typed_definition.specs.State.{with_local}
+use Rattle.c_typed_definition.specs.Declarations.{length_in, literals_in, contents_of, object_with, plain_object}
+use Rattle.c_typed_definition.specs.Declarations.{counted_array, array_object, object_by, type_object, begun}
+use Rattle.c_typed_definition.specs.Declarations.{type_automatic, type_local, type_locals}
 use Rattle.c_typed_law.specs.Tests.{With, Without, Lacking, Never}
 use Rattle.c_typed_law.specs.Forms.{IsForm, FormFault, IsPlainForm, PlainFault, IsAutomaticForm, AutomaticFormFault}
 use Rattle.c_typed_law.specs.Objects.{IsCount, CountFault, AreLaid, LaidFault, HoldsAtFirst, HoldsFault, IsFilled}

@@ -15,7 +15,7 @@ use Rattle.c_program.specs.Statements.{ADeclaration, KeepOf, ClearOf, BeginOf}
 use Rattle.c_typed_expressions.specs.Phrases.{first, init_in}
 use Rattle.c_typed_expressions.specs.Expressions.{written}
 use Rattle.c_typed_expressions.specs.Relations.{Joint, FirstOf, IsTyped, FirstFault}
-use Rattle.c_typed_definition.specs.Declarations.{State, with_area, with_local}
+use Rattle.c_typed_definition.specs.State.{State, with_area, with_local}
 use Rattle.c_typed_law.specs.Tests.{With, Lacking, Never}
 use Rattle.c_typed_law.specs.Forms.{IsAutomaticForm, AutomaticFormFault}
 use Rattle.c_typed_law.specs.Objects.{IsObject, ObjectFault}

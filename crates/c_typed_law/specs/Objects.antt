@@ -17,8 +17,7 @@ use Rattle.c_typed_expressions.specs.Phrases.{init_in, brackets_in}
 use Rattle.c_typed_expressions.specs.Expressions.{written}
 use Rattle.c_typed_expressions.specs.Relations.{Joint, FirstOf, Unless, IsTyped, FirstFault}
 use Rattle.c_typed_definition.specs.Forms.{text_of, given_count, own_length}
-use Rattle.c_typed_definition.specs.Declarations.{State, with_area, measuring, variable_of, array_entry, laid}
-use Rattle.c_typed_definition.specs.Declarations.{text_contents}
+use Rattle.c_typed_definition.specs.State.{State, with_area, measuring, variable_of, array_entry, laid, text_contents}
 use Rattle.c_typed_law.specs.Tests.{Without, Never}
 use Rattle.c_typed_law.specs.Values.{IsLength, LengthFault, IsElement, ElementFault, AreElements, ElementsFault}
 use Rattle.c_typed_law.specs.Forms.{IsForm, FormFault}

@@ -16,7 +16,7 @@ use Rattle.c_program.specs.Statements.{ADeclaration, AnAction, SomeActions, NoAc
 use Rattle.c_program.specs.Statements.{EvaluateOf, BreakOf, ContinueOf, ReturnOf, IfOf, IfElseOf, WhileOf, DoOf, ForOf}
 use Rattle.c_typed_expressions.specs.Phrases.{first}
 use Rattle.c_typed_expressions.specs.Relations.{Joint, FirstOf, IsTyped, FirstFault}
-use Rattle.c_typed_definition.specs.Declarations.{State, with_area}
+use Rattle.c_typed_definition.specs.State.{State, with_area}
 use Rattle.c_typed_definition.specs.Statements.{entered, left}
 use Rattle.c_typed_law.specs.Tests.{With, Lacking, Never}
 use Rattle.c_typed_law.specs.Locals.{AreLocals, LocalsFault}

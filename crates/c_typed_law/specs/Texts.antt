@@ -14,7 +14,7 @@ use Rattle.c_program.specs.Programs.{AProgram}
 use Rattle.c_typed_expressions.specs.Phrases.{params_in, brackets_in}
 use Rattle.c_typed_expressions.specs.Expressions.{integer_of, written}
 use Rattle.c_typed_expressions.specs.Relations.{Joint, FirstOf}
-use Rattle.c_typed_definition.specs.Declarations.{State, with_area}
+use Rattle.c_typed_definition.specs.State.{State, with_area}
 use Rattle.c_typed_definition.specs.Signatures.{parameter_type, signature_of, known}
 use Rattle.c_typed_definition.specs.Headings.{Text, with_state, is_below, with_parameter, with_declared, body_of}
 use Rattle.c_typed_definition.specs.Headings.{with_body, entered_function, left_function}

@@ -9,7 +9,7 @@ use Rattle.c_types.specs.declared.types.Integer.TheVariants as ints
 use Rattle.c_types.specs.Types.{is_scalar, integer_size, size_of}
 use Rattle.c_types.specs.Answers.{Fault, bad, ◌>>=◌}
 use Rattle.c_typed_scope.specs.Layout.{Area, aligned, placed}
-use Rattle.c_typed_definition.specs.Declarations.{laid}
+use Rattle.c_typed_definition.specs.State.{laid}
 
 is_above : (n m : ℕ) → 1114112 < m → nat_lt 1114112 (n + m) ≡ true
 is_above n m lt = grind (arith, nat_tests)

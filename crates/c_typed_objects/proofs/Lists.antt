@@ -18,9 +18,10 @@ use Rattle.c_typed_scope.specs.declared.entry.Signature.{Signature}
 use Rattle.c_typed_scope.specs.Scopes.{Scope}
 use Rattle.c_typed_scope.specs.Layout.{Area}
 use Rattle.c_typed_scope.specs.Contents.{Filled}
-use Rattle.c_typed_expressions.specs.Expressions.{count}
+use Rattle.c_typed_expressions.specs.Calls.{count}
 use Rattle.c_typed_definition.specs.Initialisers.{type_element, type_elements}
-use Rattle.c_typed_definition.specs.Declarations.{State, type_local, type_locals}
+use Rattle.c_typed_definition.specs.State.{State}
+use Rattle.c_typed_definition.specs.Declarations.{type_local, type_locals}
 
 pub count_is : (es : List Expr) → count (exp_list es) ≡ length es
 count_is [] = refl

@@ -8,8 +8,9 @@ ghost use Rattle.c_typed_scope.specs.Views.{scope, area, filled_so_far};
 ghost use Rattle.c_typed_scope.specs.Layout.{placed};
 ghost use Rattle.c_typed_expressions.specs.Phrases.{init_in};
 ghost use Rattle.c_typed_objects.specs.Views.{state};
-ghost use Rattle.c_typed_definition.specs.Declarations.{variable_of, label_of, counted_static, length_in, literals_in, contents_of};
-ghost use Rattle.c_typed_definition.specs.Declarations.{laid, plain_object, array_object, type_object};
+ghost use Rattle.c_typed_definition.specs.State.{variable_of, label_of, counted_static, laid};
+ghost use Rattle.c_typed_definition.specs.Declarations.{length_in, literals_in, contents_of, plain_object};
+ghost use Rattle.c_typed_definition.specs.Declarations.{array_object, type_object};
 
 use crate::environment::{Environment, declare};
 use crate::form::{check_form, given_count, own_length, text_of};
@@ -68,7 +69,7 @@ fn lay_literals(
 ghost use Rattle.c_typed_scope.specs.Answers.{OnlyTurns};
 
 // A variable's object, and the count of static locals.
-#[tactic(auto, unfolding(c_typed_definition::specs::Declarations::laid))]
+#[tactic(auto, unfolding(c_typed_definition::specs::State::laid))]
 fn lay_variable(
     alloc: Global,
     is_static: bool,
@@ -226,7 +227,7 @@ fn array_entry(of: CType, variable: Variable, size: u32) -> Result<Entry, TypeFa
 
 ghost use Rattle.c_types.specs.Types.{pointer_to, is_scalar};
 ghost use Rattle.c_types.specs.Answers.{Gives};
-ghost use Rattle.c_typed_definition.specs.Declarations.{array_entry};
+ghost use Rattle.c_typed_definition.specs.State.{array_entry};
 
 // The object of an array of this many elements.
 #[tactic(auto, unfolding(c_typed_definition::specs::Declarations::counted_array), using(crate::proofs::Limits::too_large))]

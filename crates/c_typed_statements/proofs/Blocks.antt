@@ -19,7 +19,7 @@ use Rattle.c_typed_scope.specs.declared.entry.Signature.{Signature}
 use Rattle.c_program.specs.declared.statement.Action.{Action}
 use Rattle.c_program.specs.declared.statement.Action.TheVariants as actions
 use Rattle.c_program.proofs.Rows.{act_block}
-use Rattle.c_typed_definition.specs.Declarations.{State}
+use Rattle.c_typed_definition.specs.State.{State}
 use Rattle.c_program.specs.Statements.{AnAction, SomeActions, NoActions, MoreActions, DeclareOf, BlockOf, act, acts}
 use Rattle.c_typed_statements.specs.Views.{scoped}
 use Rattle.c_typed_definition.specs.Statements.{entered, left, type_item, type_items, type_statement}

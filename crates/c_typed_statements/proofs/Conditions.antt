@@ -13,7 +13,7 @@ use Rattle.c_typed_scope.specs.Answers.{Turns}
 use Rattle.c_typed_scope.specs.Layout.{Area}
 use Rattle.c_typed_expressions.specs.Phrases.{first}
 use Rattle.c_typed_expressions.specs.Expressions.{type_exp}
-use Rattle.c_typed_definition.specs.Declarations.{State, with_area}
+use Rattle.c_typed_definition.specs.State.{State, with_area}
 use Rattle.c_typed_definition.specs.Statements.{type_full, type_condition}
 
 module _ (names : List (List ℕ × Entry)) (signatures : List Signature) where

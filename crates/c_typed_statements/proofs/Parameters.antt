@@ -10,7 +10,7 @@ use Rattle.c_types.specs.Types.{same_type}
 use Rattle.c_types.specs.Answers.{Fault, Fails, ◌>>=◌}
 use Rattle.c_typed_scope.specs.declared.entry.Entry.{Entry}
 use Rattle.c_typed_scope.specs.declared.entry.Signature.{Signature}
-use Rattle.c_typed_definition.specs.Declarations.{State}
+use Rattle.c_typed_definition.specs.State.{State}
 use Rattle.c_typed_definition.specs.Signatures.{parameter_type}
 use Rattle.c_typed_definition.specs.Headings.{same_types}
 use Rattle.c_typed_definition.specs.Texts.{type_parameter, type_parameters}

@@ -7,7 +7,7 @@ use Rattle.c_program.specs.Programs.{routine}
 use Rattle.c_typed_objects.specs.Views.{state}
 use Rattle.c_types.specs.Answers.{Fault, ◌>>=◌}
 use Rattle.c_program.specs.Statements.{SomeActions}
-use Rattle.c_typed_definition.specs.Declarations.{State}
+use Rattle.c_typed_definition.specs.State.{State}
 use Rattle.c_typed_definition.specs.Statements.{left}
 use Rattle.c_typed_definition.specs.Headings.{Text}
 use Rattle.c_typed_statements.specs.declared.functions.Builder.{Builder}

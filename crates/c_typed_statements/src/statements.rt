@@ -7,7 +7,7 @@ ghost use Rattle.c_phrases.specs.Units.{no_items};
 ghost use Rattle.c_phrases.specs.UnitShapes.{part, item_onto, items_of, statement_of};
 ghost use Rattle.c_typed_objects.specs.Views.{state};
 ghost use Rattle.c_program.specs.Statements.{act, acts, maybe_term};
-ghost use Rattle.c_typed_definition.specs.Declarations.{State};
+ghost use Rattle.c_typed_definition.specs.State.{State};
 ghost use Rattle.c_typed_statements.specs.Views.{scoped};
 ghost use Rattle.c_typed_definition.specs.Statements.{entered, jump, type_full, type_condition, type_maybe, type_maybe_condition};
 ghost use Rattle.c_typed_definition.specs.Statements.{type_return, type_statement, type_item, type_items};

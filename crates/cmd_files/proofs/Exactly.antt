@@ -9,7 +9,8 @@ use Rattle.gg_base.specs.declared.run.End.{End}
 use Rattle.cmd_files.specs.Forms.{Form, Runner, Holds, HoldsNone}
 use Rattle.cmd_files.specs.Outsides.{HasNoFault}
 use Rattle.cmd_files.specs.Stages.{input_limit}
-use Rattle.cmd_files.specs.Outcome.{Call, GetsInput, Starts, RanTo, IsRefusedAs, Leaves}
+use Rattle.cmd_files.specs.Calls.{Call, GetsInput, Starts}
+use Rattle.cmd_files.specs.Outcome.{RanTo, IsRefusedAs, Leaves}
 use Rattle.cmd_files.specs.Exact.{IsLongFile, IsNoItem, IsItem, LeavesLong, LeavesBytes, IsAnswer, Answers}
 
 -- what the file of a call is

@@ -12,7 +12,8 @@ use Rattle.cmd_files.specs.Forms.{Form, Runner, IsOfFiles}
 use Rattle.cmd_files.specs.Outsides.{FileIsWrong}
 use Rattle.cmd_files.specs.Stages.{FileRefused, Unread, LongFile, WrongFile, StarvedFile}
 use Rattle.cmd_files.specs.Stages.{InputRefused, BrokenInput, LongInput, StarvedInput, ToldRun, Unable, Told, StarvedRun}
-use Rattle.cmd_files.specs.Outcome.{Call, Finds, GetsInput, Starts, RanTo, IsUnable, Leaves}
+use Rattle.cmd_files.specs.Calls.{Call, Finds, GetsInput, Starts}
+use Rattle.cmd_files.specs.Outcome.{RanTo, IsUnable, Leaves}
 
 -- a file was refused for what it holds
 as_refused : {A : Type 0} (form : Form A) (runner : Runner A) (status : Status) (call : Call) → IsOfFiles status → form.status ≡ status →

@@ -8,7 +8,7 @@ use Rattle.cmd_session.specs.declared.status.Status.TheVariants as statuses
 use Rattle.cmd_files.specs.Forms.{Form, Runner}
 use Rattle.cmd_files.specs.Outsides.{HasNoFault}
 use Rattle.cmd_files.specs.Stages.{input_limit}
-use Rattle.cmd_files.specs.Outcome.{Call}
+use Rattle.cmd_files.specs.Calls.{Call}
 
 -- the file is told: it is over its limit, or no item's, or that of this item
 pub record IsLongFile (limit : ℕ) (file : Content) : Type 0 where

@@ -2,5 +2,6 @@ pub mod Forms
 pub mod Refusals
 pub mod Outsides
 pub mod Stages
+pub mod Calls
 pub mod Outcome
 pub mod Exact

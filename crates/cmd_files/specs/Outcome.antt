@@ -1,43 +1,17 @@
 -- What a command that runs the item of a file on the input finds and leaves behind, for each of its statuses.
-use Rattle.std.specs.Prelude.{◌≡◌, ◌⊎◌, ◌≤◌, ℕ, List, length, Some, None}
+use Rattle.std.specs.Prelude.{◌≡◌, ◌⊎◌, ℕ, List, Some}
 use Rattle.gg_base.specs.declared.run.Break.{Break}
 use Rattle.gg_base.specs.declared.run.End.{End}
 use Rattle.gg_base.specs.declared.run.End.TheVariants as ends
-use Rattle.cmd_session.specs.Reading.{Intake, GivesAll, HasOver, IsUntaken, IsUnbroken, Fails as InputFails, FailsAtMostOnce}
+use Rattle.cmd_session.specs.Reading.{HasOver, IsUntaken, IsUnbroken, Fails as InputFails, FailsAtMostOnce}
 use Rattle.cmd_session.specs.Writing.{TakesAll, GainsFront, RisesAtMostOnce, IsUntouched, IsCut, Reports}
 use Rattle.cmd_session.specs.Lines.{end_line, input_failed_line, input_too_long_line, output_failed_line}
 use Rattle.cmd_session.specs.declared.status.Status.{Status}
 use Rattle.cmd_session.specs.declared.status.Status.TheVariants as statuses
-use Rattle.cmd_files.specs.Forms.{Form, Runner, Holds}
-use Rattle.cmd_files.specs.Outsides.{Outside, IsUnfailed, FailsAtMost, IsUnread, FileIsLong, FileIsWrong}
+use Rattle.cmd_files.specs.Forms.{Form, Runner}
+use Rattle.cmd_files.specs.Outsides.{FailsAtMost, IsUnread, FileIsLong, FileIsWrong}
 use Rattle.cmd_files.specs.Stages.{input_limit}
-
--- a call of the command: the file's name and the number, and the input and all else of the outside before and behind it
-pub record Call : Type 0 where
-  pub name : List ℕ
-  pub count : ℕ
-  pub input : Intake
-  pub at : Outside
-
-abbrev pub call_of : List ℕ → ℕ → Intake → Outside → Call
-call_of name count input at = record { name = name; count = count; input = input; at = at }
-
--- the file is that item's, and no reading of the folder failed
-pub record Finds {A : Type 0} (form : Form A) (call : Call) (item : A) : Type 0 where
-  pub holds : Holds form (call.at.folder.holds call.name) item
-  pub unfailed : IsUnfailed call.at.folder
-
--- the input gave all that it had left, these bytes, and no reading of it failed
-pub record GetsInput (call : Call) (bytes : List ℕ) : Type 0 where
-  pub all : GivesAll call.input bytes
-  pub within : length bytes ≤ input_limit
-  pub unbroken : IsUnbroken call.input
-
--- the file is that item's, which can be run, and the input is these bytes
-pub record Starts {A : Type 0} (form : Form A) (runner : Runner A) (call : Call) (item : A) (bytes : List ℕ) : Type 0 where
-  pub finds : Finds form call item
-  pub input : GetsInput call bytes
-  pub able : runner.fault item ≡ None
+use Rattle.cmd_files.specs.Calls.{Call, Finds, GetsInput, Starts}
 
 -- the run came to this end, and `out` gained its output
 pub record RanTo {A : Type 0} (form : Form A) (runner : Runner A) (call : Call) (end : End) : Type 0 where

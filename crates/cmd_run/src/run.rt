@@ -4,7 +4,8 @@ ghost use Rattle.cmd_session.specs.Reading.{intake, TakesAtMost};
 ghost use Rattle.cmd_session.specs.Writing.{change};
 ghost use Rattle.cmd_files.specs.Outsides.{lookup, outside, FailsAtMost};
 ghost use Rattle.cmd_files.specs.Stages.{input_limit};
-ghost use Rattle.cmd_files.specs.Outcome.{call_of, Leaves};
+ghost use Rattle.cmd_files.specs.Calls.{call_of};
+ghost use Rattle.cmd_files.specs.Outcome.{Leaves};
 ghost use Rattle.cmd_files.specs.Exact.{IsExact};
 ghost use Rattle.cmd_run.specs.Texts.{text_form, code_runner};
 

@@ -18,7 +18,8 @@ use Rattle.cmd_session.specs.declared.status.Status.TheVariants as statuses
 use Rattle.cmd_session.specs.Lines.{end_status}
 use Rattle.cmd_files.specs.Forms.{Holds, HoldsNone}
 use Rattle.cmd_files.specs.Outsides.{FileIsWrong}
-use Rattle.cmd_files.specs.Outcome.{Call, RanTo, IsRefusedAs, IsUnable}
+use Rattle.cmd_files.specs.Calls.{Call}
+use Rattle.cmd_files.specs.Outcome.{RanTo, IsRefusedAs, IsUnable}
 use Rattle.cmd_files.specs.Exact.{IsAnswer}
 use Rattle.cmd_run.specs.Texts.{text_form, code_runner, fault_line}
 use Rattle.cmd_compile.specs.Keeping.{Keeps}

@@ -11,7 +11,8 @@ use Rattle.c_meaning.specs.Programs.{source}
 use Rattle.cmd_session.specs.declared.status.Status.{Status}
 use Rattle.cmd_session.specs.declared.status.Status.TheVariants as statuses
 use Rattle.cmd_files.specs.Outsides.{Outside}
-use Rattle.cmd_files.specs.Outcome.{Call, RanTo, IsRefusedAs}
+use Rattle.cmd_files.specs.Calls.{Call}
+use Rattle.cmd_files.specs.Outcome.{RanTo, IsRefusedAs}
 use Rattle.cmd_files.specs.Exact.{LeavesBytes, IsAnswer, Answers}
 use Rattle.cmd_run.specs.Texts.{text_limit, text_form, code_runner}
 use Rattle.cmd_compile.specs.Texts.{IsTextOf}

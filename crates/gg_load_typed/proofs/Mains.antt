@@ -8,8 +8,9 @@ use Rattle.c_typed_scope.specs.declared.entry.Entry.TheVariants as entries
 use Rattle.c_typed_scope.specs.declared.entry.Signature.{Signature}
 use Rattle.c_typed_scope.specs.Scopes.{find, with_name}
 use Rattle.c_typed_scope.specs.Layout.{Area}
-use Rattle.c_typed_expressions.specs.Expressions.{integer_of, written, callee_of}
-use Rattle.c_typed_definition.specs.Declarations.{State}
+use Rattle.c_typed_expressions.specs.Expressions.{integer_of, written}
+use Rattle.c_typed_expressions.specs.Calls.{callee_of}
+use Rattle.c_typed_definition.specs.State.{State}
 use Rattle.c_typed_definition.specs.Statements.{type_items}
 use Rattle.c_typed_definition.specs.Signatures.{services, service_names}
 use Rattle.c_typed_definition.specs.Headings.{head_of}

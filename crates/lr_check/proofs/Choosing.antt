@@ -12,7 +12,8 @@ use Rattle.lr_tables.specs.View.{TableView}
 use Rattle.lr_check.specs.declared.stack.Entry.{Entry}
 use Rattle.lr_check.specs.Tree.{Node}
 use Rattle.lr_check.specs.Parse.{Part, symbols, owner_answers, answer, asked, Takes, nothing, unrestricted, answered_yes, answered_no}
-use Rattle.lr_check.specs.Steps.{Taken, first_place, entry_at, answer_of, asked_of, asked_at, question, taken_or, question_at, chosen}
+use Rattle.lr_check.specs.Questions.{Taken, first_place, entry_at, answer_of, asked_of, asked_at, question, taken_or}
+use Rattle.lr_check.specs.Questions.{question_at, chosen}
 use Rattle.lr_check.proofs.Parts.{Stands, stands_length, stands_answers, stands_used, symbols_used, answer_left}
 
 -- the rule's right side has symbols, and no more than stand on the stack

@@ -6,7 +6,7 @@ use Rattle.lr_tables.specs.declared.types.Choice.{Choice}
 use Rattle.lr_tables.specs.declared.types.Choice.TheVariants as choice
 use Rattle.lr_check.specs.declared.stack.Entry.{Entry}
 use Rattle.lr_check.specs.Tree.{Node}
-use Rattle.lr_check.specs.Steps.{Asked, Taken, question_at, taken_or, chosen}
+use Rattle.lr_check.specs.Questions.{Asked, Taken, question_at, taken_or, chosen}
 
 module _ (rules : List Rule) (nodes : List Node) (cs : List Choice) (start : List Entry) (i : ℕ) (s : List Entry) (inv : chosen rules nodes (drop i cs) s ≡ chosen rules nodes cs start) where
   pub chosen_none : length cs ≤ i → ◌≡◌ {A = Taken} (record { choice = None; stack = s }) (chosen rules nodes cs start)

@@ -16,8 +16,9 @@ use Rattle.lr_tables.specs.Grammar.{IsGrammar}
 use Rattle.lr_check.specs.declared.stack.Entry.{Entry}
 use Rattle.lr_check.specs.declared.sample.Outcome.{Outcome}
 use Rattle.lr_check.specs.Tree.{Node}
-use Rattle.lr_check.specs.Steps.{Config, Asked, first_place, entry_at, asked_of, asked_at, question, question_at, chosen, top_of, token_of, After, blocks, shifted, marked, placed}
-use Rattle.lr_check.specs.Steps.{reduced_by, reduced, after_choice, step}
+use Rattle.lr_check.specs.Steps.{Config, top_of, token_of, After, blocks, shifted, marked, placed, reduced_by}
+use Rattle.lr_check.specs.Steps.{reduced, after_choice, step}
+use Rattle.lr_check.specs.Questions.{Asked, first_place, entry_at, asked_of, asked_at, question, question_at, chosen}
 
 -- what is left to do: the tokens to come, the stack, and the classes that were not on top
 abbrev pub weight : ℕ → Config → ℕ

@@ -26,7 +26,9 @@ use Rattle.lr_check.specs.Tree as tree
 use Rattle.lr_check.specs.Order.{Orders, ends, goes_on}
 use Rattle.lr_check.specs.Parse as parse
 use Rattle.lr_check.specs.Parse.{Part, symbols, coming, Ends, Reduction, Replays}
-use Rattle.lr_check.specs.Steps.{Config, first_config, Taken, answers_of, tok_of, token_of, entry_at, chosen, top_of, After, placed, reduced_by, reduced, after_choice, step}
+use Rattle.lr_check.specs.Steps.{Config, first_config, tok_of, token_of, top_of, After, placed, reduced_by, reduced}
+use Rattle.lr_check.specs.Steps.{after_choice, step}
+use Rattle.lr_check.specs.Questions.{Taken, answers_of, entry_at, chosen}
 use Rattle.lr_check.specs.Running.{Halts, over, onward, Computes, too_long, by_steps}
 use Rattle.lr_check.proofs.Covered.{covers, opened, statement_alone}
 use Rattle.lr_check.proofs.Parts.{Stands, bottom, above, stands_length, stands_leads, stands_below, stands_answers}

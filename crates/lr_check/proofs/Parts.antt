@@ -10,7 +10,8 @@ use Rattle.lr_tables.specs.Leads.{Leads, nowhere}
 use Rattle.lr_check.specs.declared.stack.Entry.{Entry}
 use Rattle.lr_check.specs.Tree.{Node}
 use Rattle.lr_check.specs.Parse.{Part, symbols, answers_at, answer, used_at}
-use Rattle.lr_check.specs.Steps.{answers_of, answer_of, asked_of, entry_at, state_of, top_of}
+use Rattle.lr_check.specs.Questions.{answers_of, answer_of, asked_of, entry_at}
+use Rattle.lr_check.specs.Steps.{state_of, top_of}
 
 -- what is left of the answers of an entry's node
 abbrev pub left : List Node → Entry → List Bool

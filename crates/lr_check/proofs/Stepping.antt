@@ -7,7 +7,8 @@ use Rattle.lr_tables.specs.View.{TableView}
 use Rattle.lr_tables.specs.Leads.{actions_at}
 use Rattle.lr_check.specs.declared.stack.Entry.{Entry}
 use Rattle.lr_check.specs.Tree.{Node}
-use Rattle.lr_check.specs.Steps.{Config, Taken, first_place, chosen, top_of, token_of, After, shifted, reduced_by, reduced, after_choice, step}
+use Rattle.lr_check.specs.Steps.{Config, top_of, token_of, After, shifted, reduced_by, reduced, after_choice, step}
+use Rattle.lr_check.specs.Questions.{Taken, first_place, chosen}
 
 -- what is done with a choice doesn't depend on the stack before the questions
 module _ (t : TableView) (next : Option ℕ) (c d : Config) (stack : List Entry) (at : d.at ≡ c.at) (seen : d.seen ≡ c.seen) where

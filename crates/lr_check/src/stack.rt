@@ -1,6 +1,8 @@
 // The stack of a parse, and the questions that restricted rules ask.
 ghost use Rattle.std.specs.Prelude.{◌≡◌, ◌<◌, length, IfSome, slice_get};
-ghost use Rattle.lr_check.specs.Steps.{answers_of, answer_of, asked_of, first_place, question, question_at, chosen, top_of};
+ghost use Rattle.lr_check.specs.Questions.{answers_of, answer_of, asked_of, first_place, question, question_at};
+ghost use Rattle.lr_check.specs.Questions.{chosen};
+ghost use Rattle.lr_check.specs.Steps.{top_of};
 
 use crate::sample::SampleNode;
 use lr_tables::{Choice, State};

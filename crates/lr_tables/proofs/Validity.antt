@@ -12,9 +12,9 @@ use Rattle.md_reader.specs.declared.types.Rule.{Rule}
 use Rattle.md_reader.specs.declared.types.Sym.{Sym}
 use Rattle.md_reader.specs.declared.types.Sym.TheVariants as grammar_symbol
 use Rattle.md_reader.specs.State.{Content}
-use Rattle.md_reader.specs.Rows.{is_nothing}
+use Rattle.md_reader.specs.Restrictions.{is_nothing}
 use Rattle.md_reader.specs.Patterns.{sort_of_symbol, sort_of_kind, sort_fits, sorted_test, Trees, no_tree, node, onto}
-use Rattle.md_reader.specs.Steps.{is_stmt}
+use Rattle.md_reader.specs.HeadSteps.{is_stmt}
 use Rattle.md_reader.specs.Valid.{IsRule, IsValid}
 use Rattle.lr_tables.specs.Grammar.{IsGrammar}
 use Rattle.lr_tables.specs.Statements.{stmt_from, stmt_of}

@@ -36,10 +36,13 @@ use Rattle.md_reader.specs.declared.reading.Stage.TheVariants as stage
 use Rattle.md_reader.specs.declared.symbols.TheConstants.{TOKENS}
 use Rattle.md_reader.specs.Patterns.{kids_of, sort_of_kind, sort_of_symbol, sort_fits, sorted_test, walk, count}
 use Rattle.md_reader.specs.Symbols.{token_among, token_of, class_from, class_of, symbol_of, symbols_of}
-use Rattle.md_reader.specs.Forms.{is_skipped, is_lower, is_name, kind_form, class_form, spill_form, saved_number, rule_form, give_form, plain_give, has_register, gives_register}
-use Rattle.md_reader.specs.Forms.{is_passed, register_behind}
+use Rattle.md_reader.specs.Forms.{is_skipped, is_lower, is_name, kind_form, class_form, spill_form, saved_number}
+use Rattle.md_reader.specs.RuleForms.{rule_form, give_form, plain_give, has_register, gives_register, is_passed}
+use Rattle.md_reader.specs.RuleForms.{register_behind}
 use Rattle.md_reader.specs.State.{State, Content}
-use Rattle.md_reader.specs.Steps.{line_at, has_stmt, stage_behind, spill_line, rule_step, ended_rule, give_line, step_at, step}
+use Rattle.md_reader.specs.HeadSteps.{line_at, has_stmt, stage_behind, spill_line}
+use Rattle.md_reader.specs.RuleSteps.{rule_step, ended_rule, give_line}
+use Rattle.md_reader.specs.Steps.{step_at, step}
 use Rattle.md_reader.specs.Reads.{start, content_of, taken, read_from, read, Answers}
 use Rattle.md_reader.specs.Valid.{Away, Apart, IsNamed, AreClasses, IsSpill, AreSides, MayRestrict, MayWrite, MayGive, IsRule, IsValid}
 use Rattle.md_reader.specs.Desc.{Form, Version, Target, Pool, Declares, Saves, Head, Restricts, Writes, Gives, size_word, kind_words, saved_words, IsSaved, GiveWord, IsGive, Says}

@@ -10,9 +10,10 @@ use Rattle.md_reader.specs.declared.faults.DescFault.{DescFault}
 use Rattle.md_reader.specs.declared.faults.DescFault.TheVariants as desc_fault
 use Rattle.md_reader.specs.declared.reading.Stage.{Stage}
 use Rattle.md_reader.specs.declared.reading.Stage.TheVariants as stage
-use Rattle.md_reader.specs.Forms.{register_behind}
+use Rattle.md_reader.specs.RuleForms.{register_behind}
 use Rattle.md_reader.specs.State.{State, Content}
-use Rattle.md_reader.specs.Steps.{has_stmt, line_step}
+use Rattle.md_reader.specs.HeadSteps.{has_stmt}
+use Rattle.md_reader.specs.Steps.{line_step}
 use Rattle.md_reader.specs.Reads.{start, content_of, ended_at, ended, taken, read_from, read, Answers}
 use Rattle.md_reader.specs.First.{no_line, one_line, WrongLine, WrongEnd, IsFirst}
 

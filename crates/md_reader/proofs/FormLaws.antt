@@ -18,8 +18,10 @@ use Rattle.md_reader.specs.declared.types.Give.{Give}
 use Rattle.md_reader.specs.declared.types.Give.TheVariants as give
 use Rattle.md_reader.specs.declared.forms.Saved.{Saved}
 use Rattle.md_reader.specs.declared.forms.Saved.TheVariants as saved
-use Rattle.md_reader.specs.Forms.{are_both, register_numbered, register_of, with_register, pool_from, pool_form, is_name, size_of, sized_kind, kind_form, class_form, sized_form}
-use Rattle.md_reader.specs.Forms.{spill_words, spill_form, rule_form, restriction_form, if_form, do_form, give_form, plain_give}
+use Rattle.md_reader.specs.Forms.{are_both, register_numbered, register_of, with_register, pool_from, pool_form}
+use Rattle.md_reader.specs.Forms.{is_name, size_of, sized_kind, kind_form, class_form, sized_form, spill_words}
+use Rattle.md_reader.specs.Forms.{spill_form}
+use Rattle.md_reader.specs.RuleForms.{rule_form, restriction_form, if_form, do_form, give_form, plain_give}
 use Rattle.md_reader.specs.Valid.{IsPool}
 use Rattle.md_reader.specs.Desc.{size_word, kind_words, saved_words, IsRestriction, GiveWord}
 use Rattle.md_reader.proofs.Inversion.{guarded, same_true}

@@ -32,11 +32,16 @@ use Rattle.md_reader.specs.declared.reading.Stage.TheVariants as stage
 use Rattle.md_reader.specs.declared.symbols.TheConstants.{TOKENS}
 use Rattle.md_reader.specs.Patterns.{kind_at, sorted_test, walk, count}
 use Rattle.md_reader.specs.Symbols.{token_among, token_of, token_or_class, class_from, class_of, symbol_of, symbols_of}
-use Rattle.md_reader.specs.Forms.{is_skipped, are_both, pool_form, class_form, spill_form, saved_number, rule_form, if_form, do_form, give_form, plain_give, register_behind}
-use Rattle.md_reader.specs.Rows.{restriction_fits, line_fits, pieces_fit, shape_fits, plain_fits, is_bare}
+use Rattle.md_reader.specs.Forms.{is_skipped, are_both, pool_form, class_form, spill_form, saved_number}
+use Rattle.md_reader.specs.RuleForms.{rule_form, if_form, do_form, give_form, plain_give, register_behind}
+use Rattle.md_reader.specs.Restrictions.{restriction_fits}
+use Rattle.md_reader.specs.Rows.{line_fits, pieces_fit, shape_fits, plain_fits, is_bare}
 use Rattle.md_reader.specs.State.{State, Content}
-use Rattle.md_reader.specs.Steps.{line_at, has_stmt, pool_step, new_class, spill_pieces, spill_text, spill_line, class_line, sort_step, right_step, left_step, rule_line, if_step}
-use Rattle.md_reader.specs.Steps.{do_pieces, do_text, ended_rule, shape_step, give_step, give_line, do_line, if_line, step_at}
+use Rattle.md_reader.specs.HeadSteps.{line_at, has_stmt, pool_step, new_class, spill_pieces, spill_text, spill_line}
+use Rattle.md_reader.specs.HeadSteps.{class_line}
+use Rattle.md_reader.specs.RuleSteps.{sort_step, right_step, left_step, rule_line, if_step, do_pieces, do_text}
+use Rattle.md_reader.specs.RuleSteps.{ended_rule, shape_step, give_step, give_line, do_line, if_line}
+use Rattle.md_reader.specs.Steps.{step_at}
 use Rattle.md_reader.specs.Reads.{start, content_of, ended_at, taken, read_from, read, Answers}
 use Rattle.md_reader.specs.Valid.{IsValid}
 use Rattle.md_reader.specs.Fine.{IsBlank, IsDeclaring, StageFact, IsFine}

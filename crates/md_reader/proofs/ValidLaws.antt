@@ -25,12 +25,17 @@ use Rattle.md_reader.specs.declared.reading.Stage.{Stage}
 use Rattle.md_reader.specs.declared.reading.Stage.TheVariants as stage
 use Rattle.md_reader.specs.Patterns.{kind_at, sort_of_symbol, sorted_test, walk, count}
 use Rattle.md_reader.specs.Symbols.{class_from, class_of, symbols_of}
-use Rattle.md_reader.specs.Forms.{is_skipped, are_both, is_name, pool_form, class_form, spill_form, saved_number, rule_form, if_form, do_form, give_form, plain_give, has_register}
-use Rattle.md_reader.specs.Forms.{is_passed, register_behind}
-use Rattle.md_reader.specs.Rows.{restriction_fits, line_fits, pieces_fit, shape_fits, plain_fits, is_bare}
+use Rattle.md_reader.specs.Forms.{is_skipped, are_both, is_name, pool_form, class_form, spill_form, saved_number}
+use Rattle.md_reader.specs.RuleForms.{rule_form, if_form, do_form, give_form, plain_give, has_register, is_passed}
+use Rattle.md_reader.specs.RuleForms.{register_behind}
+use Rattle.md_reader.specs.Restrictions.{restriction_fits}
+use Rattle.md_reader.specs.Rows.{line_fits, pieces_fit, shape_fits, plain_fits, is_bare}
 use Rattle.md_reader.specs.State.{State}
-use Rattle.md_reader.specs.Steps.{line_at, has_stmt, pool_step, new_class, spill_pieces, spill_text, spill_line, class_line, sort_step, right_step, left_step, rule_line, if_step}
-use Rattle.md_reader.specs.Steps.{do_pieces, do_text, ended_rule, shape_step, give_step, give_line, do_line, if_line, step_at, line_step}
+use Rattle.md_reader.specs.HeadSteps.{line_at, has_stmt, pool_step, new_class, spill_pieces, spill_text, spill_line}
+use Rattle.md_reader.specs.HeadSteps.{class_line}
+use Rattle.md_reader.specs.RuleSteps.{sort_step, right_step, left_step, rule_line, if_step, do_pieces, do_text}
+use Rattle.md_reader.specs.RuleSteps.{ended_rule, shape_step, give_step, give_line, do_line, if_line}
+use Rattle.md_reader.specs.Steps.{step_at, line_step}
 use Rattle.md_reader.specs.View.{Stepped}
 use Rattle.md_reader.specs.Valid.{Away, Apart, IsNamed, IsPool, IsSpill, AreSides, MayRestrict, MayWrite, IsTemplate, MayGive, IsRule, IsValid}
 use Rattle.md_reader.specs.Fine.{IsBlank, IsDeclaring, IsWhole, IsInRule, StageFact, IsFine}

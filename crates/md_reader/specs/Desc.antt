@@ -21,7 +21,8 @@ use Rattle.md_reader.specs.declared.forms.Saved.{Saved}
 use Rattle.md_reader.specs.declared.forms.Saved.TheVariants as saved
 use Rattle.md_reader.specs.declared.faults.DescFault.{DescFault}
 use Rattle.md_reader.specs.declared.faults.DescFault.TheVariants as desc_fault
-use Rattle.md_reader.specs.Forms.{is_skipped, pool_form, saved_number, restriction_form, plain_give}
+use Rattle.md_reader.specs.Forms.{is_skipped, pool_form, saved_number}
+use Rattle.md_reader.specs.RuleForms.{restriction_form, plain_give}
 use Rattle.md_reader.specs.State.{Content}
 use Rattle.md_reader.specs.Valid.{IsValid}
 

@@ -3,9 +3,9 @@ use Rattle.std.specs.Prelude.{◌≡◌, ℕ, ◌≤◌, true, List, [], length}
 use Rattle.std.specs.List.{AllByRecursion}
 use Rattle.md_reader.specs.declared.reading.Stage.{Stage}
 use Rattle.md_reader.specs.declared.reading.Stage.TheVariants as stage
-use Rattle.md_reader.specs.Forms.{register_behind}
+use Rattle.md_reader.specs.RuleForms.{register_behind}
 use Rattle.md_reader.specs.State.{State}
-use Rattle.md_reader.specs.Steps.{has_stmt}
+use Rattle.md_reader.specs.HeadSteps.{has_stmt}
 use Rattle.md_reader.specs.Valid.{IsPool, AreClasses, IsSpill, AreSides, IsTemplate, IsRule}
 
 -- nothing was declared yet

@@ -5,7 +5,7 @@ use Rattle.md_reader_text.specs.Words.{words}
 use Rattle.md_reader.specs.declared.faults.DescKind.{DescKind}
 use Rattle.md_reader.specs.declared.faults.DescFault.{DescFault}
 use Rattle.md_reader.specs.declared.faults.DescFault.TheVariants as desc_fault
-use Rattle.md_reader.specs.Forms.{register_behind}
+use Rattle.md_reader.specs.RuleForms.{register_behind}
 use Rattle.md_reader.specs.State.{State}
 use Rattle.md_reader.specs.Steps.{line_step}
 use Rattle.md_reader.specs.Reads.{start, ended}

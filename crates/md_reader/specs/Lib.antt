@@ -1,8 +1,12 @@
 pub mod Patterns
 pub mod Symbols
 pub mod Forms
+pub mod RuleForms
+pub mod Restrictions
 pub mod Rows
 pub mod State
+pub mod HeadSteps
+pub mod RuleSteps
 pub mod Steps
 pub mod Reads
 pub mod View

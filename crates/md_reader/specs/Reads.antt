@@ -8,9 +8,10 @@ use Rattle.md_reader.specs.declared.faults.DescFault.{DescFault}
 use Rattle.md_reader.specs.declared.faults.DescFault.TheVariants as desc_fault
 use Rattle.md_reader.specs.declared.reading.Stage.{Stage}
 use Rattle.md_reader.specs.declared.reading.Stage.TheVariants as stage
-use Rattle.md_reader.specs.Forms.{register_behind}
+use Rattle.md_reader.specs.RuleForms.{register_behind}
 use Rattle.md_reader.specs.State.{State, Content}
-use Rattle.md_reader.specs.Steps.{has_stmt, line_step}
+use Rattle.md_reader.specs.HeadSteps.{has_stmt}
+use Rattle.md_reader.specs.Steps.{line_step}
 
 abbrev pub start : State
 start = record {

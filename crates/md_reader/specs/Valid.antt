@@ -11,10 +11,12 @@ use Rattle.md_reader.specs.declared.types.Give.{Give}
 use Rattle.md_reader.specs.declared.types.Give.TheVariants as give
 use Rattle.md_reader.specs.declared.types.Rule.{Rule}
 use Rattle.md_reader.specs.Patterns.{kind_at, sort_of_symbol, IsTree, IsSorted}
-use Rattle.md_reader.specs.Forms.{is_name, has_register}
-use Rattle.md_reader.specs.Rows.{restriction_fits, line_fits, pieces_fit, shape_fits, plain_fits, is_bare}
+use Rattle.md_reader.specs.Forms.{is_name}
+use Rattle.md_reader.specs.RuleForms.{has_register}
+use Rattle.md_reader.specs.Restrictions.{restriction_fits}
+use Rattle.md_reader.specs.Rows.{line_fits, pieces_fit, shape_fits, plain_fits, is_bare}
 use Rattle.md_reader.specs.State.{Content}
-use Rattle.md_reader.specs.Steps.{has_stmt}
+use Rattle.md_reader.specs.HeadSteps.{has_stmt}
 
 -- no class has this name
 abbrev pub Away : List ℕ → List Class → Type 0

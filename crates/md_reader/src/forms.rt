@@ -3,11 +3,12 @@ ghost use Rattle.std.specs.Prelude.{◌≡◌, ◌≤◌, ◌^◌, IfSome};
 ghost use Rattle.std.specs.Option.{option_map};
 ghost use Rattle.md_reader_text.specs.Lines.{lines};
 ghost use Rattle.md_reader_text.specs.Words.{words};
-ghost use Rattle.md_reader.specs.Forms.{is_skipped, are_both, register_of, with_register, pool_from, pool_form, is_lower, in_name};
-ghost use Rattle.md_reader.specs.Forms.{is_name, size_of, plain_kind, sized_kind, kind_form, class_form, sized_form, spill_words};
-ghost use Rattle.md_reader.specs.Forms.{spill_form, size_number, saved_number, rule_form, symbol_number, same_form, range_form};
-ghost use Rattle.md_reader.specs.Forms.{restriction_form, if_form, do_form, give_form, plain_give, has_register, gives_register};
-ghost use Rattle.md_reader.specs.Forms.{is_passed, register_behind};
+ghost use Rattle.md_reader.specs.Forms.{is_skipped, are_both, register_of, with_register, pool_from, pool_form};
+ghost use Rattle.md_reader.specs.Forms.{is_lower, in_name, is_name, size_of, plain_kind, sized_kind, kind_form};
+ghost use Rattle.md_reader.specs.Forms.{class_form, sized_form, spill_words, spill_form, size_number, saved_number};
+ghost use Rattle.md_reader.specs.RuleForms.{rule_form, symbol_number, same_form, range_form, restriction_form};
+ghost use Rattle.md_reader.specs.RuleForms.{if_form, do_form, give_form, plain_give, has_register, gives_register};
+ghost use Rattle.md_reader.specs.RuleForms.{is_passed, register_behind};
 
 use crate::types::{Give, Kind, Restriction};
 use gg_base::Size;

@@ -4,10 +4,13 @@ ghost use Rattle.std.specs.Option.{option_map};
 ghost use Rattle.md_reader_text.specs.Lines.{lines};
 ghost use Rattle.md_reader_text.specs.Words.{words};
 ghost use Rattle.md_reader_pieces.specs.Pieces.{text_of, pieces};
-ghost use Rattle.md_reader.specs.Forms.{if_form, do_form, spill_form, register_behind};
-ghost use Rattle.md_reader.specs.Steps.{is_stmt, has_stmt, class_step, stage_behind, spill_pieces, spill_text, rule_step, if_step};
-ghost use Rattle.md_reader.specs.Steps.{do_pieces, do_text, shape_step, give_step, give_line, do_line, if_line, spill_line};
-ghost use Rattle.md_reader.specs.Steps.{class_line, step, line_step};
+ghost use Rattle.md_reader.specs.RuleForms.{if_form, do_form, register_behind};
+ghost use Rattle.md_reader.specs.Forms.{spill_form};
+ghost use Rattle.md_reader.specs.HeadSteps.{is_stmt, has_stmt, class_step, stage_behind, spill_pieces, spill_text};
+ghost use Rattle.md_reader.specs.HeadSteps.{spill_line, class_line};
+ghost use Rattle.md_reader.specs.RuleSteps.{rule_step, if_step, do_pieces, do_text, shape_step, give_step, give_line};
+ghost use Rattle.md_reader.specs.RuleSteps.{do_line, if_line};
+ghost use Rattle.md_reader.specs.Steps.{step, line_step};
 ghost use Rattle.md_reader.specs.View.{state, Stepped};
 
 use crate::faults::{DescKind, LineFault};
@@ -387,4 +390,4 @@ impl Reading {
 
 ghost use Rattle.std.specs.Prelude.{Ok, ◌∷◌};
 ghost use Rattle.md_reader.specs.Fine.{IsFine};
-ghost use Rattle.md_reader.specs.Steps.{ended_rule};
+ghost use Rattle.md_reader.specs.RuleSteps.{ended_rule};

@@ -1,11 +1,12 @@
 // What may stand in a rule: restrictions, holes, and what is given.
 ghost use Rattle.std.specs.Prelude.{◌≡◌};
 ghost use Rattle.std.specs.Option.{option_map};
-ghost use Rattle.md_reader.specs.Rows.{symbol_at, kind_of_symbol, size_of_kind, is_local, size_of_symbol, same_size, is_branch};
-ghost use Rattle.md_reader.specs.Rows.{is_jump, is_call, is_const, is_con, is_reg, is_nothing, restriction_fits, any_symbol};
-ghost use Rattle.md_reader.specs.Rows.{has_value, is_something, symbol_hole_fits, piece_fits, pieces_fit, behind_j, first_hole};
-ghost use Rattle.md_reader.specs.Rows.{hole_behind, relation_fits, line_fits, only_symbol, is_constant, shape_fits, plain_fits};
-ghost use Rattle.md_reader.specs.Rows.{is_bare};
+ghost use Rattle.md_reader.specs.Restrictions.{symbol_at, kind_of_symbol, size_of_kind, is_local, size_of_symbol};
+ghost use Rattle.md_reader.specs.Restrictions.{same_size, is_branch, is_jump, is_call, is_const, is_con, is_reg};
+ghost use Rattle.md_reader.specs.Restrictions.{is_nothing, restriction_fits};
+ghost use Rattle.md_reader.specs.Rows.{any_symbol, has_value, is_something, symbol_hole_fits, piece_fits, pieces_fit};
+ghost use Rattle.md_reader.specs.Rows.{behind_j, first_hole, hole_behind, relation_fits, line_fits, only_symbol};
+ghost use Rattle.md_reader.specs.Rows.{is_constant, shape_fits, plain_fits, is_bare};
 
 use crate::patterns::kind_at;
 use crate::types::{Class, Give, Kind, Restriction, Sym};

@@ -16,14 +16,21 @@ use Rattle.md_reader.specs.declared.reading.Stage.{Stage}
 use Rattle.md_reader.specs.declared.reading.Stage.TheVariants as stage
 use Rattle.md_reader.specs.Patterns.{kind_at, sort_of_symbol, sorted_test, walk, count}
 use Rattle.md_reader.specs.Symbols.{class_of, symbols_of}
-use Rattle.md_reader.specs.Forms.{are_both, pool_form, class_form, spill_form, saved_number, rule_form, if_form, do_form, give_form, plain_give}
-use Rattle.md_reader.specs.Rows.{restriction_fits, line_fits, pieces_fit, shape_fits, plain_fits, is_bare}
+use Rattle.md_reader.specs.Forms.{are_both, pool_form, class_form, spill_form, saved_number}
+use Rattle.md_reader.specs.RuleForms.{rule_form, if_form, do_form, give_form, plain_give}
+use Rattle.md_reader.specs.Restrictions.{restriction_fits}
+use Rattle.md_reader.specs.Rows.{line_fits, pieces_fit, shape_fits, plain_fits, is_bare}
 use Rattle.md_reader.specs.State.{State}
-use Rattle.md_reader.specs.Steps.{has_stmt, pool_step, new_class, class_step, spill_pieces, spill_text, spill_line, class_line, sort_step, right_step, left_step, rule_step}
-use Rattle.md_reader.specs.Steps.{rule_line, if_step, do_pieces, do_text, shape_step, give_step, give_line, do_line, if_line, step, step_at}
+use Rattle.md_reader.specs.HeadSteps.{has_stmt, pool_step, new_class, class_step, spill_pieces, spill_text}
+use Rattle.md_reader.specs.HeadSteps.{spill_line, class_line}
+use Rattle.md_reader.specs.RuleSteps.{sort_step, right_step, left_step, rule_step, rule_line, if_step, do_pieces}
+use Rattle.md_reader.specs.RuleSteps.{do_text, shape_step, give_step, give_line, do_line, if_line}
+use Rattle.md_reader.specs.Steps.{step, step_at}
 use Rattle.std.specs.Option.{option_map}
-use Rattle.md_reader_kinds.specs.Table.{Saying, Head, is_none, is_some, fails, lacks, bad_operand, bad_give, NewClass, Spill, NewRule, If, Do, Giving, head_if, spill_said}
-use Rattle.md_reader_kinds.specs.Table.{class_said, do_said, if_said, said_at, wrong_sorts, wrong_sort, Row, row, rows, first, kind_of, FirstKindIsAnswered}
+use Rattle.md_reader_kinds.specs.Sayings.{Saying, Head, NewClass, Spill, NewRule, If, Do, Giving, head_if, spill_said}
+use Rattle.md_reader_kinds.specs.Sayings.{class_said, do_said, if_said, said_at}
+use Rattle.md_reader_kinds.specs.Table.{is_none, is_some, fails, lacks, bad_operand, bad_give, wrong_sorts}
+use Rattle.md_reader_kinds.specs.Table.{wrong_sort, Row, row, rows, first, kind_of, FirstKindIsAnswered}
 
 module _ (s : State) (n : ℕ) (z : Bool) where
   abbrev Kind_of : Result State DescKind → Option Saying → Type 0

@@ -1,74 +1,24 @@
 -- The table of kinds: what may be wrong with a line at the point where it stands, in the order in which it is answered.
-use Rattle.std.specs.Prelude.{◌≡◌, ℕ, ◌==◌, ◌||◌, not, nat_le, Bool, true, false, List, [], ◌∷◌, length, Option, Some}
-use Rattle.std.specs.Prelude.{None, Result, Ok, Err, codes, if◌then◌else◌}
-use Rattle.std.specs.Option.{option_map}
+use Rattle.std.specs.Prelude.{◌≡◌, ℕ, ◌||◌, not, nat_le, Bool, true, false, List, [], ◌∷◌, length, Option, Some, None}
+use Rattle.std.specs.Prelude.{Result, Ok, Err, if◌then◌else◌}
 use Rattle.tree_core.specs.declared.token.Sort.{Sort}
-use Rattle.md_reader_pieces.specs.Pieces.{text_of, pieces}
-use Rattle.md_reader.specs.declared.types.Kind.{Kind}
+use Rattle.md_reader_pieces.specs.Pieces.{pieces}
 use Rattle.md_reader.specs.declared.types.Class.{Class}
 use Rattle.md_reader.specs.declared.types.Sym.{Sym}
 use Rattle.md_reader.specs.declared.types.Sym.TheVariants as grammar_symbol
-use Rattle.md_reader.specs.declared.types.Restriction.{Restriction}
 use Rattle.md_reader.specs.declared.types.Give.{Give}
 use Rattle.md_reader.specs.declared.faults.DescKind.{DescKind}
 use Rattle.md_reader.specs.declared.faults.DescKind.TheVariants as kinds
-use Rattle.md_reader.specs.declared.forms.Saved.{Saved}
-use Rattle.md_reader.specs.declared.reading.Stage.{Stage}
-use Rattle.md_reader.specs.declared.reading.Stage.TheVariants as stage
 use Rattle.md_reader.specs.Patterns.{kind_at, sort_of_symbol, sorted_test, walk, count}
 use Rattle.md_reader.specs.Symbols.{class_of, symbols_of}
-use Rattle.md_reader.specs.Forms.{is_skipped, are_both, pool_form, class_form, spill_form, saved_number, rule_form}
-use Rattle.md_reader.specs.Forms.{if_form, do_form, give_form, plain_give}
-use Rattle.md_reader.specs.Rows.{restriction_fits, line_fits, pieces_fit, shape_fits, plain_fits, is_bare}
+use Rattle.md_reader.specs.Forms.{is_skipped}
+use Rattle.md_reader.specs.RuleForms.{plain_give}
+use Rattle.md_reader.specs.Restrictions.{restriction_fits}
+use Rattle.md_reader.specs.Rows.{line_fits, pieces_fit, shape_fits, plain_fits, is_bare}
 use Rattle.md_reader.specs.State.{State}
-use Rattle.md_reader.specs.Steps.{has_stmt, line_step}
-
--- what a line says by its form
-pub data Saying : Type 0 where
-  Head : Saying
-  NewClass : (name : List ℕ) (kind : Kind) → Saying
-  Spill : (text : Option (List ℕ)) → Saying
-  NewRule : (class : List ℕ) (right : List (List ℕ)) → Saying
-  If : (r : Restriction) → Saying
-  Do : (text : List ℕ) → Saying
-  Giving : (word : List ℕ) → Saying
-
--- ---- the forms that are allowed at a point
-
-abbrev pub head_if : Bool → Option Saying
-head_if b = if b then Some Head else None
-
--- spill lines stand in the order of what they save
-abbrev pub spill_said : State → Option (Saved × List (List ℕ)) → Option Saying
-spill_said s None = None
-spill_said s (Some x) = if saved_number x.0 == length s.spills then Some (Spill (text_of x.1)) else None
-
-abbrev pub class_said : State → Option (List ℕ × Kind) → List (List ℕ) → Option Saying
-class_said s (Some x) ws = Some (NewClass x.0 x.1)
-class_said s None ws = spill_said s (spill_form ws)
-
--- `if` lines stand before the `do` lines
-abbrev pub do_said : Option (List (List ℕ)) → List (List ℕ) → Option Saying
-do_said (Some t) ws = option_map Do (text_of t)
-do_said None ws = option_map Giving (give_form ws)
-
-abbrev pub if_said : State → Option Restriction → List (List ℕ) → Option Saying
-if_said s (Some r) ws = if length s.lines == 0 then Some (If r) else None
-if_said s None ws = do_said (do_form ws) ws
-
-abbrev pub said_at : Stage → State → List (List ℕ) → Option Saying
-said_at stage.Version s ws = head_if (are_both ws (codes "version") (codes "1"))
-said_at stage.Target s ws = head_if (are_both ws (codes "target") (codes "vax"))
-said_at stage.Pool s ws = option_map (λ (m : ℕ). Head) (pool_form ws)
-said_at stage.Classes s ws = class_said s (class_form ws) ws
-said_at stage.Spills s ws = spill_said s (spill_form ws)
-said_at stage.Rules s ws = option_map (λ (x : List ℕ × List (List ℕ)). NewRule x.0 x.1) (rule_form ws)
-said_at stage.Template s ws = if_said s (if_form ws) ws
-
-abbrev pub said : State → List (List ℕ) → Option Saying
-said s ws = said_at s.stage s ws
-
--- ---- the tests
+use Rattle.md_reader.specs.HeadSteps.{has_stmt}
+use Rattle.md_reader.specs.Steps.{line_step}
+use Rattle.md_reader_kinds.specs.Sayings.{Saying, Head, NewClass, Spill, NewRule, If, Do, Giving, said}
 
 abbrev pub is_none : {A : Type 0} → Option A → Bool
 is_none None = true
@@ -106,8 +56,6 @@ bad_operand s None w = lacks (pieces_fit false s.right) (pieces w)
 abbrev pub bad_give : State → Option Give → List ℕ → Bool
 bad_give s (Some g) w = not (plain_fits (kind_at s.classes s.left) g)
 bad_give s None w = fails (shape_fits s.classes s.right (kind_at s.classes s.left)) (pieces w)
-
--- ---- the table
 
 pub record Row : Type 0 where
   pub kind : DescKind

@@ -1,6 +1,6 @@
 // What the restrictions of a rule ask.
 ghost use Rattle.std.specs.Prelude.{◌≡◌, ◌∷◌, [], ◌-◌, ◌<◌, Some, length, drop, IfOk, IfSome};
-ghost use Rattle.md_reader.specs.Rows.{same_size};
+ghost use Rattle.md_reader.specs.Restrictions.{same_size};
 ghost use Rattle.lr_check_parse.specs.Attributes.{signed, in_range, is_signed, attribute_at, constant_at, relation_at, same_spelling};
 ghost use Rattle.lr_check_parse.specs.Attributes.{holds, answered};
 ghost use Rattle.sel_target.specs.declared.attr.Attr.TheVariants as attr;

@@ -17,7 +17,7 @@ use Rattle.md_reader.specs.declared.types.Kind.{Kind}
 use Rattle.md_reader.specs.declared.types.Rule.{Rule}
 use Rattle.md_reader.specs.declared.types.Sym.{Sym}
 use Rattle.md_reader.specs.State.{Content}
-use Rattle.md_reader.specs.Rows.{same_size}
+use Rattle.md_reader.specs.Restrictions.{same_size}
 use Rattle.term_core.specs.Shape.{Shape, Constant, Symbol, LastResult, Memory, Unary, Binary}
 use Rattle.term_core.specs.Value.{Respects}
 use Rattle.term_core.specs.Value as term

@@ -21,7 +21,7 @@ use Rattle.md_reader.specs.declared.types.Kind.{Kind}
 use Rattle.md_reader.specs.declared.types.Rule.{Rule}
 use Rattle.md_reader.specs.declared.types.Sym.{Sym}
 use Rattle.md_reader.specs.Patterns.{kind_at}
-use Rattle.md_reader.specs.Rows.{same_size}
+use Rattle.md_reader.specs.Restrictions.{same_size}
 use Rattle.md_reader.specs.State.{Content}
 use Rattle.term_core.specs.Facts.{same_as}
 use Rattle.sel_terms.specs.RuleFacts.{size_of_symbol, size_of_some, facts_of}

@@ -15,7 +15,7 @@ use Rattle.md_reader.specs.declared.types.Rule.{Rule}
 use Rattle.md_reader.specs.declared.types.Sym.{Sym}
 use Rattle.md_reader.specs.declared.types.Sym.TheVariants as grammar_symbol
 use Rattle.md_reader.specs.Patterns.{kind_at, sort_fits}
-use Rattle.md_reader.specs.Rows.{is_reg, is_nothing}
+use Rattle.md_reader.specs.Restrictions.{is_reg, is_nothing}
 use Rattle.md_reader.specs.State.{Content}
 use Rattle.md_reader.specs.Valid.{IsRule, MayGive}
 use Rattle.term_core.specs.Value as term

@@ -28,7 +28,8 @@ use Rattle.md_reader.specs.declared.types.Rule.{Rule}
 use Rattle.md_reader.specs.declared.types.Sym.{Sym}
 use Rattle.md_reader.specs.declared.types.Sym.TheVariants as grammar_symbol
 use Rattle.md_reader.specs.Patterns.{kind_at}
-use Rattle.md_reader.specs.Rows.{is_reg, is_con, is_constant, kind_of_symbol, only_symbol, symbol_at, shape_fits}
+use Rattle.md_reader.specs.Restrictions.{is_reg, is_con, kind_of_symbol, symbol_at}
+use Rattle.md_reader.specs.Rows.{is_constant, only_symbol, shape_fits}
 use Rattle.md_reader.specs.State.{Content}
 use Rattle.md_reader.specs.Valid.{IsRule}
 use Rattle.term_core.specs.Shape.{Shape, Symbol}

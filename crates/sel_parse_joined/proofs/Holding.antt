@@ -16,7 +16,7 @@ use Rattle.md_reader.specs.declared.types.Kind.{Kind}
 use Rattle.md_reader.specs.declared.types.Kind.TheVariants as kind
 use Rattle.md_reader.specs.declared.types.Sym.{Sym}
 use Rattle.md_reader.specs.Patterns.{kind_at}
-use Rattle.md_reader.specs.Rows.{same_size}
+use Rattle.md_reader.specs.Restrictions.{same_size}
 use Rattle.md_reader.specs.State.{Content}
 use Rattle.sel_target.specs.declared.attr.Attr.{Attr}
 use Rattle.sel_target.specs.declared.attr.Attr.TheVariants as attr

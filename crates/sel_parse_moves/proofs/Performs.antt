@@ -22,7 +22,8 @@ use Rattle.md_reader.specs.declared.types.Rule.{Rule}
 use Rattle.md_reader.specs.declared.types.Sym.{Sym}
 use Rattle.md_reader.specs.declared.types.Sym.TheVariants as grammar_symbol
 use Rattle.md_reader.specs.Patterns.{sort_of_kind, sort_fits, kind_at, kids_of, Trees, no_tree, node, onto, sorted_test}
-use Rattle.md_reader.specs.Rows.{is_bare, is_nothing}
+use Rattle.md_reader.specs.Rows.{is_bare}
+use Rattle.md_reader.specs.Restrictions.{is_nothing}
 use Rattle.md_reader.specs.Valid.{IsRule}
 use Rattle.term_core.specs.Value.{State}
 use Rattle.sel_terms.specs.Effects.{EffectShape}

@@ -19,8 +19,8 @@ use Rattle.md_reader.specs.declared.types.Class.{Class}
 use Rattle.md_reader.specs.declared.types.Rule.{Rule}
 use Rattle.md_reader.specs.declared.types.Sym.TheVariants as grammar_symbol
 use Rattle.md_reader.specs.Patterns.{sort_fits, sort_of_symbol, kind_at, sorted_test}
-use Rattle.md_reader.specs.Rows.{is_nothing}
-use Rattle.md_reader.specs.Steps.{is_stmt, has_stmt}
+use Rattle.md_reader.specs.Restrictions.{is_nothing}
+use Rattle.md_reader.specs.HeadSteps.{is_stmt, has_stmt}
 use Rattle.md_reader.specs.Valid.{Away, Apart}
 use Rattle.md_reader.proofs.Inversion.{same_true}
 use Rattle.lr_tables.specs.Statements.{stmt_from, stmt_of}

@@ -14,7 +14,7 @@ use Rattle.md_reader.specs.declared.types.Kind.{Kind}
 use Rattle.md_reader.specs.declared.types.Kind.TheVariants as kind
 use Rattle.md_reader.specs.declared.types.Sym.{Sym}
 use Rattle.md_reader.specs.Patterns.{kind_at}
-use Rattle.md_reader.specs.Rows.{is_reg}
+use Rattle.md_reader.specs.Restrictions.{is_reg}
 use Rattle.md_reader.specs.State.{Content}
 use Rattle.md_reader.specs.Valid.{IsPool}
 use Rattle.sel_regs.specs.Need as needs

@@ -10,7 +10,8 @@ use Rattle.md_reader.specs.declared.types.Class.{Class}
 use Rattle.md_reader.specs.declared.types.Rule.{Rule}
 use Rattle.md_reader.specs.declared.types.Sym.TheVariants as grammar_symbol
 use Rattle.md_reader.specs.Patterns.{kind_at, Trees, no_tree, node, onto, sorted_test}
-use Rattle.md_reader.specs.Rows.{is_nothing, is_bare}
+use Rattle.md_reader.specs.Restrictions.{is_nothing}
+use Rattle.md_reader.specs.Rows.{is_bare}
 use Rattle.md_reader.specs.Valid.{IsRule}
 use Rattle.sel_parse_slots.proofs.Finishing.{IsNoStatement, none_onto}
 

@@ -7,7 +7,7 @@ use Rattle.md_reader.specs.declared.types.Give.{Give}
 use Rattle.md_reader.specs.declared.types.Give.TheVariants as give
 use Rattle.md_reader.specs.declared.types.Rule.{Rule}
 use Rattle.md_reader.specs.Patterns.{kind_at}
-use Rattle.md_reader.specs.Rows.{is_reg}
+use Rattle.md_reader.specs.Restrictions.{is_reg}
 
 -- a symbol stands for a register
 abbrev pub is_register : List Class → Sym → Bool

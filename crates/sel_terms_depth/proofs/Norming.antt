@@ -13,8 +13,11 @@ use Rattle.term_core.specs.declared.operator.BinaryOp.TheVariants.{Add, Sub, Mul
 use Rattle.term_core.specs.Operators.{binary}
 use Rattle.term_core.specs.Shape.{Shape, Constant, Symbol, LastResult, Memory, Unary, Binary}
 use Rattle.term_core.specs.Order.{order}
-use Rattle.term_core.specs.Norm.{in_order, make_neg, make_com, make_zx8, make_zx16, make_sx8, make_sx16, make_unary, add_constant, add_ordered, make_add, make_sub, mul_ordered}
-use Rattle.term_core.specs.Norm.{make_mul, make_div, masks_nothing, and_ordered, or_ordered, xor_ordered, make_ash, make_binary, norm}
+use Rattle.term_core.specs.NormBinary.{in_order, add_constant, add_ordered, make_add, make_sub, mul_ordered, make_mul}
+use Rattle.term_core.specs.NormBinary.{make_div, masks_nothing, and_ordered, or_ordered, xor_ordered, make_ash}
+use Rattle.term_core.specs.NormBinary.{make_binary}
+use Rattle.term_core.specs.NormUnary.{make_neg, make_com, make_zx8, make_zx16, make_sx8, make_sx16, make_unary}
+use Rattle.term_core.specs.Norm.{norm}
 use Rattle.sel_terms_depth.specs.Depth.{depth}
 
 pub positive : (t : Shape) → 1 ≤ depth t

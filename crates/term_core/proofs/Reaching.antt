@@ -14,8 +14,11 @@ use Rattle.term_core.specs.declared.operator.BinaryOp.TheVariants.{Add, Sub, Mul
 use Rattle.term_core.specs.Operators.{binary}
 use Rattle.term_core.specs.Shape.{Shape, Constant, Symbol, LastResult, Memory, Unary, Binary}
 use Rattle.term_core.specs.Order.{order}
-use Rattle.term_core.specs.Norm.{in_order, make_neg, make_com, make_zx8, make_zx16, make_sx8, make_sx16, make_unary, add_constant, add_ordered, make_add, make_sub, mul_ordered}
-use Rattle.term_core.specs.Norm.{make_mul, make_div, is_count_symbol, masks_nothing, and_ordered, make_and, or_ordered, make_or, xor_ordered, make_xor, make_ash, make_binary, norm}
+use Rattle.term_core.specs.NormBinary.{in_order, add_constant, add_ordered, make_add, make_sub, mul_ordered, make_mul}
+use Rattle.term_core.specs.NormBinary.{make_div, is_count_symbol, masks_nothing, and_ordered, make_and, or_ordered}
+use Rattle.term_core.specs.NormBinary.{make_or, xor_ordered, make_xor, make_ash, make_binary}
+use Rattle.term_core.specs.NormUnary.{make_neg, make_com, make_zx8, make_zx16, make_sx8, make_sx16, make_unary}
+use Rattle.term_core.specs.Norm.{norm}
 use Rattle.term_core.specs.Equations.{Equation, is_commutative, constant, constants, difference, exchanged, neg_twice, com_twice, add_zero, or_zero, xor_zero, mul_one, and_ones}
 use Rattle.term_core.specs.Equations.{add_constants, zx8_of_zx8, zx8_of_sx8, zx16_of_zx16, zx16_of_sx16, sx8_of_sx8, sx8_of_zx8, sx16_of_sx16, sx16_of_zx16, zx8_of_byte}
 use Rattle.term_core.specs.Equations.{zx8_of_memory, zx16_of_word, zx16_of_memory, shift_by_constant, shift_by_zx8, shift_by_sx8, count_of_count, spelled_alike, Reaches, stays, by}

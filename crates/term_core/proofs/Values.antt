@@ -11,7 +11,8 @@ use Rattle.term_core.specs.declared.operator.BinaryOp.{BinaryOp}
 use Rattle.term_core.specs.declared.operator.BinaryOp.TheVariants.{Add, Sub, Mul, Div, And, Or, Xor, Ash}
 use Rattle.term_core.specs.Operators.{unary, binary}
 use Rattle.term_core.specs.Shape.{Shape, Constant, Symbol, LastResult, Memory, Unary, Binary}
-use Rattle.term_core.specs.Norm.{unary_constant, binary_constant}
+use Rattle.term_core.specs.NormUnary.{unary_constant}
+use Rattle.term_core.specs.NormBinary.{binary_constant}
 use Rattle.term_core.specs.Value.{State, memory_at, value, Respects}
 use Rattle.term_core.specs.Equations.{Equation, is_commutative, constant, constants, difference, exchanged, neg_twice, com_twice, add_zero, or_zero, xor_zero, mul_one, and_ones}
 use Rattle.term_core.specs.Equations.{add_constants, zx8_of_zx8, zx8_of_sx8, zx16_of_zx16, zx16_of_sx16, sx8_of_sx8, sx8_of_zx8, sx16_of_sx16, sx16_of_zx16, zx8_of_byte}

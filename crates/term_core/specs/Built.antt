@@ -8,7 +8,8 @@ use Rattle.term_core.specs.declared.node.Node.{Node}
 use Rattle.term_core.specs.declared.node.Node.TheVariants as node
 use Rattle.term_core.specs.declared.built.Built.{Built}
 use Rattle.term_core.specs.Shape.{Shape, Constant, Symbol, LastResult, Memory, shape_of}
-use Rattle.term_core.specs.Norm.{make_unary, make_binary}
+use Rattle.term_core.specs.NormUnary.{make_unary}
+use Rattle.term_core.specs.NormBinary.{make_binary}
 
 abbrev pub shapes : Built → List Shape
 shapes b = map shape_of (reverse b.terms.items)

@@ -11,7 +11,8 @@ use Rattle.term_core.specs.declared.operator.BinaryOp.{BinaryOp}
 use Rattle.term_core.specs.declared.operator.BinaryOp.TheVariants.{Add, Sub, Mul, Div, And, Or, Xor, Ash}
 use Rattle.term_core.specs.Shape.{Shape, Constant, Symbol, Memory, Unary, Binary}
 use Rattle.term_core.specs.Order.{order}
-use Rattle.term_core.specs.Norm.{unary_constant, binary_constant}
+use Rattle.term_core.specs.NormUnary.{unary_constant}
+use Rattle.term_core.specs.NormBinary.{binary_constant}
 
 abbrev pub is_commutative : BinaryOp → Bool
 is_commutative Add = true

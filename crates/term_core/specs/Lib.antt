@@ -3,6 +3,8 @@ pub mod Shape
 pub mod Form
 pub mod Facts
 pub mod Order
+pub mod NormUnary
+pub mod NormBinary
 pub mod Norm
 pub mod Normal
 pub mod Value

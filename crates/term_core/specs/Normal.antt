@@ -3,7 +3,8 @@ use Rattle.std.specs.Prelude.{◌≡◌, ℕ, List}
 use Rattle.term_core.specs.declared.facts.Fact.{Fact}
 use Rattle.term_core.specs.Facts.{same_as}
 use Rattle.term_core.specs.Shape.{Shape, Constant, Symbol, LastResult, Memory, Unary, Binary}
-use Rattle.term_core.specs.Norm.{make_unary, make_binary}
+use Rattle.term_core.specs.NormUnary.{make_unary}
+use Rattle.term_core.specs.NormBinary.{make_binary}
 
 abbrev pub IsNormal : List Fact → Shape → Type 0
 IsNormal facts (Constant n) = Unit {0}

@@ -2,10 +2,10 @@
 
 ghost use Rattle.std.specs.Prelude.{◌≡◌, IfOk};
 ghost use Rattle.term_core.specs.Shape.{shape_of, Constant};
-ghost use Rattle.term_core.specs.Norm.{make_neg, make_com, make_zx8, make_zx16, make_sx8, make_sx16, make_unary};
-ghost use Rattle.term_core.specs.Norm.{add_constant, add_ordered, make_add, make_sub, mul_ordered, make_mul, make_div};
-ghost use Rattle.term_core.specs.Norm.{is_count_symbol, masks_nothing, and_ordered, make_and, or_ordered, make_or};
-ghost use Rattle.term_core.specs.Norm.{xor_ordered, make_xor, make_ash, make_binary};
+ghost use Rattle.term_core.specs.NormUnary.{make_neg, make_com, make_zx8, make_zx16, make_sx8, make_sx16, make_unary};
+ghost use Rattle.term_core.specs.NormBinary.{add_constant, add_ordered, make_add, make_sub, mul_ordered, make_mul};
+ghost use Rattle.term_core.specs.NormBinary.{make_div, is_count_symbol, masks_nothing, and_ordered, make_and};
+ghost use Rattle.term_core.specs.NormBinary.{or_ordered, make_or, xor_ordered, make_xor, make_ash, make_binary};
 
 use crate::construct::binary;
 use crate::facts::{Fact, has_size, is_count};

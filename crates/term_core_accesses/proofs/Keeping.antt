@@ -8,7 +8,9 @@ use Rattle.term_core.specs.declared.operator.UnaryOp.TheVariants.{Neg}
 use Rattle.term_core.specs.declared.operator.BinaryOp.{BinaryOp}
 use Rattle.term_core.specs.declared.operator.BinaryOp.TheVariants.{Add, Sub, Mul, Div, And, Or, Xor, Ash}
 use Rattle.term_core.specs.Shape.{Shape, Constant, Symbol, Memory, Unary, Binary}
-use Rattle.term_core.specs.Norm.{unary_constant, binary_constant, norm}
+use Rattle.term_core.specs.NormUnary.{unary_constant}
+use Rattle.term_core.specs.NormBinary.{binary_constant}
+use Rattle.term_core.specs.Norm.{norm}
 use Rattle.term_core.specs.Value.{State, value, Respects}
 use Rattle.term_core.specs.Equations.{Equation, is_commutative, is_quotient_by_zero, constant, constants, difference, exchanged, neg_twice, com_twice, add_zero, or_zero, xor_zero}
 use Rattle.term_core.specs.Equations.{mul_one, and_ones, add_constants, zx8_of_zx8, zx8_of_sx8, zx16_of_zx16, zx16_of_sx16, sx8_of_sx8, sx8_of_zx8, sx16_of_sx16, sx16_of_zx16}

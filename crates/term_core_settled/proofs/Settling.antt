@@ -15,8 +15,11 @@ use Rattle.term_core.specs.declared.operator.BinaryOp.TheVariants.{Add, Sub, Mul
 use Rattle.term_core.specs.Operators.{binary}
 use Rattle.term_core.specs.Shape.{Shape, Constant, Symbol, LastResult, Memory, Unary, Binary, size_of}
 use Rattle.term_core.specs.Order.{order}
-use Rattle.term_core.specs.Norm.{in_order, make_neg, make_zx8, make_zx16, make_unary, add_constant, add_ordered, make_add, make_sub, mul_ordered, make_mul, make_div, masks_nothing}
-use Rattle.term_core.specs.Norm.{and_ordered, make_and, or_ordered, make_or, xor_ordered, make_xor, make_ash, make_binary, norm}
+use Rattle.term_core.specs.NormBinary.{in_order, add_constant, add_ordered, make_add, make_sub, mul_ordered, make_mul}
+use Rattle.term_core.specs.NormBinary.{make_div, masks_nothing, and_ordered, make_and, or_ordered, make_or}
+use Rattle.term_core.specs.NormBinary.{xor_ordered, make_xor, make_ash, make_binary}
+use Rattle.term_core.specs.NormUnary.{make_neg, make_zx8, make_zx16, make_unary}
+use Rattle.term_core.specs.Norm.{norm}
 use Rattle.term_core.specs.Normal.{IsNormal, AreSettled}
 use Rattle.term_core.specs.Equations.{Equation, is_commutative, is_quotient_by_zero, constant, constants, difference, exchanged, neg_twice, com_twice, add_zero, or_zero, xor_zero}
 use Rattle.term_core.specs.Equations.{mul_one, and_ones, add_constants, zx8_of_zx8, zx8_of_sx8, zx16_of_zx16, zx16_of_sx16, sx8_of_sx8, sx8_of_zx8, sx16_of_sx16, sx16_of_zx16}

@@ -11,7 +11,8 @@ use Rattle.term_core.specs.declared.operator.BinaryOp.TheVariants.{Add}
 use Rattle.term_core.specs.Operators.{binary}
 use Rattle.term_core.specs.Shape.{Shape, Constant, Symbol, Memory, Unary, Binary, size_of}
 use Rattle.term_core.specs.Order.{order}
-use Rattle.term_core.specs.Norm.{in_order, make_neg, make_zx8, make_zx16, make_sx8, make_sx16, add_constant, mul_ordered, make_mul, make_ash}
+use Rattle.term_core.specs.NormBinary.{in_order, add_constant, mul_ordered, make_mul, make_ash}
+use Rattle.term_core.specs.NormUnary.{make_neg, make_zx8, make_zx16, make_sx8, make_sx16}
 
 -- a term is no larger one
 pub no_larger : (s t : Shape) → s ≡ t → size_of s < size_of t → ⊥

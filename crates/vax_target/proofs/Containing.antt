@@ -2,7 +2,7 @@
 use Rattle.std.proofs.Common.{◌≡◌, ◌||◌, Bool, true, false, refl}
 use Rattle.term_core.specs.Shape.{Shape, Constant, Symbol, LastResult, Memory, Unary, Binary}
 use Rattle.term_core.specs.Order.{same_term}
-use Rattle.vax_templates.specs.Found.{contains, parts_contain}
+use Rattle.vax_templates.specs.Dropped.{contains, parts_contain}
 
 or_false : (b : Bool) → b ≡ (b || false)
 or_false true = refl

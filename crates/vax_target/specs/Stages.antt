@@ -15,10 +15,12 @@ use Rattle.vax_templates.specs.declared.form.Form.{Form}
 use Rattle.vax_templates.specs.declared.form.Number.{Number}
 use Rattle.vax_templates.specs.declared.setting.Hole.{Hole}
 use Rattle.vax_templates.specs.declared.setting.Setting.{Setting}
-use Rattle.vax_templates.specs.Standing.{number_term, register_term, displaced}
+use Rattle.vax_templates.specs.HoleTerms.{number_term, register_term}
+use Rattle.vax_templates.specs.Standing.{displaced}
 use Rattle.vax_templates.specs.Taking.{Arguments, all_evaluated}
-use Rattle.vax_templates.specs.Judging.{Deed, instruction_did, line_did}
-use Rattle.vax_templates.specs.Found.{Progress, judged}
+use Rattle.vax_templates.specs.Deeds.{Deed}
+use Rattle.vax_templates.specs.Judging.{instruction_did, line_did}
+use Rattle.vax_templates.specs.Progress.{Progress, judged}
 use Rattle.vax_templates.specs.FilledLines.{filled_instruction}
 use Rattle.vax_target.specs.declared.instruction.LineInstruction.{LineInstruction}
 use Rattle.vax_target.specs.declared.judging.Before.{Before}

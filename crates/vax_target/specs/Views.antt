@@ -10,13 +10,14 @@ use Rattle.vax_templates.specs.Instructions.{Instruction}
 use Rattle.vax_templates.specs.Instructions as instruction
 use Rattle.vax_templates.specs.Standing.{Where}
 use Rattle.vax_templates.specs.Standing as where_
-use Rattle.vax_templates.specs.Taking.{Target, Taken, Arguments}
-use Rattle.vax_templates.specs.Taking as target
+use Rattle.vax_templates.specs.Targets.{Target}
+use Rattle.vax_templates.specs.Taking.{Taken, Arguments}
+use Rattle.vax_templates.specs.Targets as target
 use Rattle.vax_templates.specs.Giving.{Given}
 use Rattle.vax_templates.specs.Giving as given
-use Rattle.vax_templates.specs.Judging.{Last, Deed}
-use Rattle.vax_templates.specs.Judging as last
-use Rattle.vax_templates.specs.Found.{Progress}
+use Rattle.vax_templates.specs.Deeds.{Last, Deed}
+use Rattle.vax_templates.specs.Deeds as last
+use Rattle.vax_templates.specs.Progress.{Progress}
 use Rattle.vax_target.specs.declared.instruction.LineInstruction.{LineInstruction}
 use Rattle.vax_target.specs.declared.instruction.LineInstruction.TheVariants as lines
 use Rattle.vax_target.specs.declared.standing.Location.{Location}

@@ -5,11 +5,12 @@ ghost use Rattle.std.specs.Option.{option_map};
 ghost use Rattle.term_core.specs.Shape.{shape_of};
 ghost use Rattle.term_core.specs.Form.{shape_of_form};
 ghost use Rattle.sel_terms.specs.Effects.{act_of, effect_of};
-ghost use Rattle.vax_templates.specs.Found.{start, progressed, lines_judged, last_line, left_value, last_deed, register_given};
-ghost use Rattle.vax_templates.specs.Found.{base_number};
-ghost use Rattle.vax_templates.specs.Found.{address_given, value_given, home_given, place_given, shape_given, given_shape, given_by};
-ghost use Rattle.vax_templates.specs.Found.{given_line};
-ghost use Rattle.vax_templates.specs.Found.{contains, parts_contain, act_contains, effect_contains, first_dropped, none_dropped};
+ghost use Rattle.vax_templates.specs.Progress.{start, progressed, lines_judged, last_line};
+ghost use Rattle.vax_templates.specs.GiveLines.{left_value, last_deed, register_given, base_number, address_given};
+ghost use Rattle.vax_templates.specs.GiveLines.{value_given, home_given, place_given, shape_given, given_shape};
+ghost use Rattle.vax_templates.specs.GiveLines.{given_by, given_line};
+ghost use Rattle.vax_templates.specs.Dropped.{contains, parts_contain, act_contains, effect_contains, first_dropped};
+ghost use Rattle.vax_templates.specs.Dropped.{none_dropped};
 ghost use Rattle.vax_templates.specs.Found.{ended, found, saved_give, saved_found};
 ghost use Rattle.vax_target.specs.Answers.{Judges, Answers, Goes, fault_at};
 ghost use Rattle.vax_target.specs.Stages.{judged_run};
@@ -200,7 +201,7 @@ fn base_number(template: Template<'_>, base: Base) -> Result<Act, Refusal>
 }
 
 // What an operand is that a rule of this kind gives.
-#[tactic(auto, unfolding(vax_templates::specs::Found::shape_given))]
+#[tactic(auto, unfolding(vax_templates::specs::GiveLines::shape_given))]
 fn shape_given(template: Template<'_>, kind: Option<Kind>, form: Form) -> Result<Act, Refusal>
     ensures { Judges act_of result (shape_given template.entry.setting template.entry.holes.now kind form) }
 {

@@ -4,7 +4,7 @@ ghost use Rattle.vax_templates.specs.Settings.{hole_of_token, hole_of_kind, hole
 ghost use Rattle.vax_templates.specs.Settings.{opening_of, opening_by};
 ghost use Rattle.vax_templates.specs.Settings.{is_signed, setting_of, saved_own, is_reload, saved_setting};
 ghost use Rattle.md_reader.specs.Patterns.{kind_at};
-ghost use Rattle.md_reader.specs.Rows.{is_nothing};
+ghost use Rattle.md_reader.specs.Restrictions.{is_nothing};
 
 use gg_base::{NoMemory, Size};
 use md_reader::{Class, Give, Kind, Restriction, Rule, Sym};

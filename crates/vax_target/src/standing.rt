@@ -2,11 +2,10 @@
 ghost use Rattle.std.specs.Prelude.{◌≡◌, IfOk};
 ghost use Rattle.std.specs.Option.{option_map};
 ghost use Rattle.term_core.specs.Shape.{shape_of};
-ghost use Rattle.vax_templates.specs.Standing.{constant_of, address_of, absolute_term, number_term, own_value, register_of};
-ghost use Rattle.vax_templates.specs.Standing.{register_term};
-ghost use Rattle.vax_templates.specs.Standing.{where_own, where_hole, where_zero, through, where_deferred, where_base, moved};
-ghost use Rattle.vax_templates.specs.Standing.{where_indexed, form_where};
-ghost use Rattle.vax_templates.specs.Standing.{displaced};
+ghost use Rattle.vax_templates.specs.HoleTerms.{constant_of, address_of, absolute_term, number_term, own_value};
+ghost use Rattle.vax_templates.specs.HoleTerms.{register_of, register_term};
+ghost use Rattle.vax_templates.specs.Standing.{where_own, where_hole, where_zero, through, where_deferred, where_base};
+ghost use Rattle.vax_templates.specs.Standing.{moved, where_indexed, form_where, displaced};
 ghost use Rattle.vax_templates.specs.Settings.{hole_at};
 ghost use Rattle.vax_target.specs.Answers.{Judges};
 ghost use Rattle.vax_target.specs.Stages.{sum_of};

@@ -3,11 +3,11 @@ ghost use Rattle.std.specs.Prelude.{◌≡◌, IfOk, Ok};
 ghost use Rattle.std.specs.Option.{option_map};
 ghost use Rattle.term_core.specs.Shape.{shape_of};
 ghost use Rattle.sel_terms.specs.Same.{same_size};
-ghost use Rattle.vax_templates.specs.Standing.{own_value};
-ghost use Rattle.vax_templates.specs.Taking.{taken_term, taken_read, taken_missized, cut, sized, last_result, fetched, addressed};
-ghost use Rattle.vax_templates.specs.Taking.{is_long, own_target};
-ghost use Rattle.vax_templates.specs.Taking.{memory_target, zero_target, statement_target, targeted, taken, evaluated, no_arguments};
-ghost use Rattle.vax_templates.specs.Taking.{last_of, in_front};
+ghost use Rattle.vax_templates.specs.HoleTerms.{own_value};
+ghost use Rattle.vax_templates.specs.Taking.{taken_term, taken_read, taken_missized, cut, sized, last_result, fetched};
+ghost use Rattle.vax_templates.specs.Taking.{addressed, taken, evaluated, no_arguments, last_of, in_front};
+ghost use Rattle.vax_templates.specs.Targets.{is_long, own_target, memory_target, zero_target, statement_target};
+ghost use Rattle.vax_templates.specs.Targets.{targeted};
 ghost use Rattle.vax_target.specs.Answers.{Judges};
 ghost use Rattle.vax_target.specs.Stages.{taken_of_all};
 ghost use Rattle.vax_target.specs.Views.{where_of, term_of, target_of, taken_of, arguments_of, aimed};
@@ -275,7 +275,7 @@ impl<'a> Template<'a> {
         }
     }
 
-    #[tactic(auto, unfolding(vax_templates::specs::Taking::targeted))]
+    #[tactic(auto, unfolding(vax_templates::specs::Targets::targeted))]
     fn targeted(self, location: Location, size: Size) -> Result<(Destination, bool), Refusal>
         ensures { Judges aimed result (targeted self.entry.setting (where_of location) size) }
     {

@@ -22,7 +22,7 @@ use Rattle.md_reader.specs.declared.types.Sym.TheVariants as grammar_symbol
 use Rattle.md_reader.specs.declared.types.Give.TheVariants as give
 use Rattle.md_reader.specs.declared.types.Rule.{Rule}
 use Rattle.md_reader.specs.Patterns.{kind_at}
-use Rattle.md_reader.specs.Rows.{is_nothing}
+use Rattle.md_reader.specs.Restrictions.{is_nothing}
 use Rattle.term_core.specs.Shape.{Shape}
 use Rattle.sel_terms.specs.Effects.{ActShape, EffectShape, Value, Number, Address, PlaceAt}
 use Rattle.sel_terms_meaning.specs.Meaning.{terms_of_act}
@@ -46,8 +46,9 @@ use Rattle.vax_templates.specs.Settings.{hole_of_token, hole_of_kind, hole_of, h
 use Rattle.vax_templates.specs.Marks.{at_front}
 use Rattle.vax_templates.specs.Forms.{form_front, base_front, number_spelled, index_front}
 use Rattle.vax_templates.specs.Instructions.{shape_of_pieces}
-use Rattle.vax_templates.specs.Standing.{constant_of, ◌>>=◌}
-use Rattle.vax_templates.specs.Found.{number_given, shape_given, shape_read, given_shape, given_by}
+use Rattle.vax_templates.specs.HoleTerms.{constant_of}
+use Rattle.vax_templates.specs.Standing.{◌>>=◌}
+use Rattle.vax_templates.specs.GiveLines.{number_given, shape_given, shape_read, given_shape, given_by}
 use Rattle.vax_templates.specs.Filled.{attr_or, attr_at, addr_in, filled_or_spare}
 use Rattle.vax_target_meaning.specs.Running.{course_of}
 use Rattle.vax_target_meaning.specs.Vax.{vax}

@@ -27,13 +27,18 @@ use Rattle.vax_templates.specs.declared.setting.Opening.TheVariants as opening
 use Rattle.vax_templates.specs.declared.setting.Setting.{Setting}
 use Rattle.vax_templates.specs.Settings.{hole_at}
 use Rattle.vax_templates.specs.Instructions.{Instruction, Relation, Jump, Calls, Ret, Operates, instruction_of}
-use Rattle.vax_templates.specs.Standing.{Where, Immediate, Register, OwnRegister, RegisterZero, Value, Place, Local, SavedPlace, Saved, At, own_value, form_where, ◌>>=◌}
-use Rattle.vax_templates.specs.Taking.{Target, Taken, taken_missized, cut_term, sized, last_result, fetched, addressed, own_target, statement_target, targeted, written, both}
-use Rattle.vax_templates.specs.Taking.{taken, evaluated, Arguments, last_of, in_front, all_evaluated}
+use Rattle.vax_templates.specs.Standing.{Where, Immediate, Register, OwnRegister, RegisterZero, Value, Place, Local}
+use Rattle.vax_templates.specs.Standing.{SavedPlace, Saved, At, form_where, ◌>>=◌}
+use Rattle.vax_templates.specs.HoleTerms.{own_value}
+use Rattle.vax_templates.specs.Targets.{Target, own_target, statement_target, targeted}
+use Rattle.vax_templates.specs.Taking.{Taken, taken_missized, cut_term, sized, last_result, fetched, addressed}
+use Rattle.vax_templates.specs.Taking.{written, both, taken, evaluated, Arguments, last_of, in_front, all_evaluated}
 use Rattle.vax_templates.specs.Giving.{Given, Computes, Divides, Compares, Tests, given}
-use Rattle.vax_templates.specs.Judging.{Last, Plain, Compared, Tested, Returning, Ended, Deed, ends, ends_statement, is_relation, branches, computed, acted, is_disordered}
-use Rattle.vax_templates.specs.Judging.{in_order, with_reads, checked, operated, instruction_did, did_behind, read, line_did}
-use Rattle.vax_templates.specs.Found.{Progress, start, kept_or_put, at_line, kept, judged, lines_judged}
+use Rattle.vax_templates.specs.Deeds.{Last, Plain, Compared, Tested, Returning, Ended, Deed, ends, ends_statement}
+use Rattle.vax_templates.specs.Deeds.{is_relation, branches, computed, acted}
+use Rattle.vax_templates.specs.Judging.{is_disordered, in_order, with_reads, checked, operated, instruction_did}
+use Rattle.vax_templates.specs.Judging.{did_behind, read, line_did}
+use Rattle.vax_templates.specs.Progress.{Progress, start, kept_or_put, at_line, kept, judged, lines_judged}
 use Rattle.vax_target_writing.proofs.Each.{EachOk, bind_each, always_ok, if_ok, of_ok}
 
 -- nothing is put, and the codes at most are left

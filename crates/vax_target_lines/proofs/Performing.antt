@@ -45,11 +45,15 @@ use Rattle.vax_templates.specs.declared.setting.Hole.TheVariants as hole_kind
 use Rattle.vax_templates.specs.declared.setting.Own.TheVariants as own
 use Rattle.vax_templates.specs.Instructions.{Instruction, Relation, Jump, Calls, Ret, Operates, instruction_of}
 use Rattle.vax_templates.specs.Standing.{◌>>=◌}
-use Rattle.vax_templates.specs.Taking.{Target, ToOwn, ToSlot, ToHome, ToMemory, ToZero, ToSaved, Arguments, all_evaluated, evaluated, Taken, in_front, last_of}
+use Rattle.vax_templates.specs.Targets.{Target, ToOwn, ToSlot, ToHome, ToMemory, ToZero, ToSaved}
+use Rattle.vax_templates.specs.Taking.{Arguments, all_evaluated, evaluated, Taken, in_front, last_of}
 use Rattle.vax_templates.specs.Giving.{Given, Computes, Divides, Compares, Tests, given, extended}
-use Rattle.vax_templates.specs.Judging.{Last, Plain, Compared, Tested, Returning, Ended, Deed, leaves, ends_statement, is_relation, branches, is_movl, is_last_result, puts, put}
-use Rattle.vax_templates.specs.Judging.{divided, computed, acted, is_operand, spells_symbol, has_some, is_disordered, in_order, with_reads, checked, operated, instruction_did}
-use Rattle.vax_templates.specs.Judging.{returned, did_behind, line_did}
+use Rattle.vax_templates.specs.Deeds.{Last, Plain, Compared, Tested, Returning, Ended, Deed, leaves, ends_statement}
+use Rattle.vax_templates.specs.Deeds.{is_relation, branches, is_movl, is_last_result, puts, put, divided, computed}
+use Rattle.vax_templates.specs.Deeds.{acted}
+use Rattle.vax_templates.specs.Judging.{is_operand, spells_symbol, has_some, is_disordered, in_order, with_reads}
+use Rattle.vax_templates.specs.Judging.{checked, operated, instruction_did, returned, did_behind, line_did}
+use Rattle.vax_templates.specs.Deeds as deeds
 use Rattle.vax_templates.specs.Judging as judging
 use Rattle.vax_templates.specs.Settings.{hole_at}
 use Rattle.vax_templates.specs.Filled.{numbered, register_in, operand_in, filled}
@@ -116,7 +120,7 @@ module _ (c : Scene) (held : Option Shape) (m : State) (h : Sees c held m) where
   abbrev Did : Deed → Course → Type 0
   Did d did = DoesLine c m d.own did d.last
 
-  ended : (deed : ActShape) (d : Deed) (did : Course) → MayEnd c → DoesDeed c m deed did → judging.ends deed ≡ Ok d → Did d did
+  ended : (deed : ActShape) (d : Deed) (did : Course) → MayEnd c → DoesDeed c m deed did → deeds.ends deed ≡ Ok d → Did d did
   ended deed d did may x e = subst (λ (y : Deed). Did y did) (ok_same (leaves (Ended deed)) d e) (may, x)
 
   put_did : (op : Op) (to : Option Target) (dest : Option Destination) (t : Shape) (v : ℕ) (k : Conditions) (d : Deed) (size : Size) →
@@ -185,7 +189,7 @@ module _ (c : Scene) (held : Option Shape) (m : State) (h : Sees c held m) where
     last_is (Unary f a) e = cc
     last_is (Binary f a b) e = cc
 
-    by : (b : Bool) → (is_movl op && is_last_result t) ≡ b → cond b (judging.ends (act.Save i)) (Err NotInstr) ≡ Ok d → Did d (storing (Some x) v k)
+    by : (b : Bool) → (is_movl op && is_last_result t) ≡ b → cond b (deeds.ends (act.Save i)) (Err NotInstr) ≡ Ok d → Did d (storing (Some x) v k)
     by false q e = absurd (err_ok _ d e)
     by true q e =
         let size_is = at ∙ long (left (is_movl op) (is_last_result t) q) in
@@ -344,15 +348,15 @@ module _ (c : Scene) (held : Option Shape) (m : State) (h : Sees c held m) where
 
   -- ---- what is done with the operands
 
-  statement_of : (b : Bool) (deed : ActShape) (d : Deed) → cond b (judging.ends deed) (Err NotInstr) ≡ Ok d → leaves (Ended deed) ≡ d
+  statement_of : (b : Bool) (deed : ActShape) (d : Deed) → cond b (deeds.ends deed) (Err NotInstr) ≡ Ok d → leaves (Ended deed) ≡ d
   statement_of true deed d e = ok_same (leaves (Ended deed)) d e
   statement_of false deed d e = absurd (err_ok _ d e)
 
-  statement_true : (b : Bool) (deed : ActShape) (d : Deed) → cond b (judging.ends deed) (Err NotInstr) ≡ Ok d → b ≡ true
+  statement_true : (b : Bool) (deed : ActShape) (d : Deed) → cond b (deeds.ends deed) (Err NotInstr) ≡ Ok d → b ≡ true
   statement_true true deed d e = refl
   statement_true false deed d e = absurd (err_ok _ d e)
 
-  statement_did : (b : Bool) (deed : ActShape) (d : Deed) (did : Course) → c.setting.is_statement ≡ b → cond b (judging.ends deed) (Err NotInstr) ≡ Ok d → DoesDeed c m deed did → Did d did
+  statement_did : (b : Bool) (deed : ActShape) (d : Deed) (did : Course) → c.setting.is_statement ≡ b → cond b (deeds.ends deed) (Err NotInstr) ≡ Ok d → DoesDeed c m deed did → Did d did
   statement_did b deed d did is e x = subst (λ (y : Deed). Did y did) (statement_of b deed d e) (inl (is ∙ statement_true b deed d e), x)
 
   computes_so : (f : Function) (x : Arguments) (y : Numbers) (ks : List OperandKind) → Suits (action.Compute f) ks → AreArguments c m ks x y →
@@ -518,7 +522,7 @@ module _ (c : Scene) (held : Option Shape) (m : State) (h : Sees c held m) where
 
   -- ---- a zero divisor
 
-  undivided : (deed : ActShape) (d : Deed) → judging.ends deed ≡ Ok d → d.divisors ≡ []
+  undivided : (deed : ActShape) (d : Deed) → deeds.ends deed ≡ Ok d → d.divisors ≡ []
   undivided deed d e = ap (λ (y : Deed). y.divisors) (sym (ok_same (leaves (Ended deed)) d e))
 
   put_undivided : (op : Op) (to : Option Target) (t : Shape) (d : Deed) → put op to t ≡ Ok d → d.divisors ≡ []
@@ -529,7 +533,7 @@ module _ (c : Scene) (held : Option Shape) (m : State) (h : Sees c held m) where
   put_undivided op (Some (ToMemory z a)) t d e = undivided _ d e
   put_undivided op (Some ToZero) t d e = ap (λ (y : Deed). y.divisors) (sym (cond_ok (is_movl op) (leaves (Returning t)) d NotInstr e).1)
   put_undivided op (Some (ToSaved i)) t d e = by (is_movl op && is_last_result t) e where
-    by : (b : Bool) → cond b (judging.ends (act.Save i)) (Err NotInstr) ≡ Ok d → d.divisors ≡ []
+    by : (b : Bool) → cond b (deeds.ends (act.Save i)) (Err NotInstr) ≡ Ok d → d.divisors ≡ []
     by true e = undivided _ d e
     by false e = absurd (err_ok _ d e)
 
@@ -549,7 +553,7 @@ module _ (c : Scene) (held : Option Shape) (m : State) (h : Sees c held m) where
   computed_trap op to (Compares a b) o dest d w e x is z = absurd (no_divisor d.divisors w (ap (λ (y : Deed). y.divisors) (sym (ok_same (leaves (Compared a b)) d e))) is)
   computed_trap op to (Tests t) o dest d w e x is z = absurd (no_divisor d.divisors w (ap (λ (y : Deed). y.divisors) (sym (ok_same (leaves (Tested t)) d e))) is)
 
-  statement_undivided : (b : Bool) (deed : ActShape) (d : Deed) → cond b (judging.ends deed) (Err NotInstr) ≡ Ok d → d.divisors ≡ []
+  statement_undivided : (b : Bool) (deed : ActShape) (d : Deed) → cond b (deeds.ends deed) (Err NotInstr) ≡ Ok d → d.divisors ≡ []
   statement_undivided b deed d e = ap (λ (y : Deed). y.divisors) (sym (statement_of b deed d e))
 
   acted_trap : (a : Action) (op : Op) (x : Arguments) (y : Numbers) (ks : List OperandKind) (d : Deed) (w : Shape) → Suits a ks → acted c.setting a op x ≡ Ok d → AreArguments c m ks x y →

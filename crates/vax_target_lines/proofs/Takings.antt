@@ -43,12 +43,16 @@ use Rattle.vax_templates.specs.declared.setting.Own.{Own}
 use Rattle.vax_templates.specs.declared.setting.Own.TheVariants as own
 use Rattle.vax_templates.specs.declared.setting.Opening.{Opening}
 use Rattle.vax_templates.specs.declared.setting.Opening.TheVariants as opening
-use Rattle.vax_templates.specs.Standing.{Where, Immediate, Register, OwnRegister, RegisterZero, Value, Place, Local, SavedPlace, Saved, At, constant_of, absolute_term, number_term}
-use Rattle.vax_templates.specs.Standing.{own_value, register_term, where_own, where_hole, where_zero, where_deferred, through, at, sum, displaced, pointed, negated, itself}
-use Rattle.vax_templates.specs.Standing.{where_base, scaled, moved, where_indexed, form_where, ◌>>=◌}
-use Rattle.vax_templates.specs.Taking.{Target, ToOwn, ToSlot, ToHome, ToMemory, ToZero, ToSaved, Taken, taken_term, taken_read, taken_missized, cut, sized, last_result, cut_term}
-use Rattle.vax_templates.specs.Taking.{fetched, pointer_read, addressed, is_long, own_target, memory_target, zero_target, statement_target, targeted, written, both, taken}
-use Rattle.vax_templates.specs.Taking.{evaluated, Arguments, no_arguments, last_of, in_front, all_evaluated}
+use Rattle.vax_templates.specs.Standing.{Where, Immediate, Register, OwnRegister, RegisterZero, Value, Place, Local}
+use Rattle.vax_templates.specs.Standing.{SavedPlace, Saved, At, where_own, where_hole, where_zero, where_deferred}
+use Rattle.vax_templates.specs.Standing.{through, at, sum, displaced, pointed, negated, itself, where_base, scaled}
+use Rattle.vax_templates.specs.Standing.{moved, where_indexed, form_where, ◌>>=◌}
+use Rattle.vax_templates.specs.HoleTerms.{constant_of, absolute_term, number_term, own_value, register_term}
+use Rattle.vax_templates.specs.Targets.{Target, ToOwn, ToSlot, ToHome, ToMemory, ToZero, ToSaved, is_long, own_target}
+use Rattle.vax_templates.specs.Targets.{memory_target, zero_target, statement_target, targeted}
+use Rattle.vax_templates.specs.Taking.{Taken, taken_term, taken_read, taken_missized, cut, sized, last_result}
+use Rattle.vax_templates.specs.Taking.{cut_term, fetched, pointer_read, addressed, written, both, taken, evaluated}
+use Rattle.vax_templates.specs.Taking.{Arguments, no_arguments, last_of, in_front, all_evaluated}
 use Rattle.vax_templates.specs.Filled.{register_in, operand_in, filled}
 use Rattle.vax_target_operands.specs.Scenes.{Scene, worth, role_at, filling_at, OwnIs, IsOwnRegister, Sees}
 use Rattle.vax_target_operands.specs.Places.{StandsAt, InRegister, IsHome, IsWhere, IsReadIfAny, CanStand, Stands}

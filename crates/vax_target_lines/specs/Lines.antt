@@ -21,7 +21,8 @@ use Rattle.vax_machine.specs.Calls.{Acts}
 use Rattle.vax_machine.specs.Step.{pushing}
 use Rattle.vax_machine_lists.specs.Instructions.{Course, Returns, Stops, ends, comes, course_of, performed}
 use Rattle.vax_templates.specs.declared.setting.Own.TheVariants as own
-use Rattle.vax_templates.specs.Judging.{Last, Plain, Compared, Tested, Returning, Ended, Deed, line_did}
+use Rattle.vax_templates.specs.Deeds.{Last, Plain, Compared, Tested, Returning, Ended, Deed}
+use Rattle.vax_templates.specs.Judging.{line_did}
 use Rattle.vax_templates.specs.Filled.{register_in, operand_in}
 use Rattle.vax_templates.specs.FilledLines.{op_in, branch_to, call_of, callee_among, filled_line}
 use Rattle.vax_target_operands.specs.Scenes.{Scene, worth, filling_at, IsSavedLocal, Sees}

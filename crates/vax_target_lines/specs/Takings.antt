@@ -17,7 +17,8 @@ use Rattle.vax_machine.specs.State.{State}
 use Rattle.vax_machine.specs.Operands as machine
 use Rattle.vax_templates.specs.declared.form.Form.{Form}
 use Rattle.vax_templates.specs.declared.setting.Own.TheVariants as own
-use Rattle.vax_templates.specs.Taking.{Target, ToOwn, ToSlot, ToHome, ToMemory, ToZero, ToSaved, Arguments, all_evaluated}
+use Rattle.vax_templates.specs.Targets.{Target, ToOwn, ToSlot, ToHome, ToMemory, ToZero, ToSaved}
+use Rattle.vax_templates.specs.Taking.{Arguments, all_evaluated}
 use Rattle.vax_templates.specs.Filled.{operand_in, filled}
 use Rattle.vax_target_operands.specs.Scenes.{Scene, worth, filling_at, IsSavedLocal, Sees}
 use Rattle.vax_target_operands.specs.Places.{StandsAt, IsHome, BaseIsShort, MayBeRead}

@@ -50,18 +50,29 @@ use Rattle.vax_templates.specs.declared.setting.Setting.{Setting}
 use Rattle.vax_templates.specs.Settings.{hole_of_token, hole_of_kind, hole_of, holes_of, saved_hole, hole_or_other, hole_at, setting_of, saved_setting}
 use Rattle.vax_templates.specs.Instructions.{Instruction, Relation, Jump as Jumps, Calls, Ret, Operates, marks_behind, instruction_of, shape_of_pieces}
 use Rattle.vax_templates.specs.Standing as where_
-use Rattle.vax_templates.specs.Standing.{Where, constant_of, address_of, absolute_term, number_term, own_value, register_of, register_term, where_own, where_hole, where_zero}
-use Rattle.vax_templates.specs.Standing.{where_deferred, at, displaced, pointed, negated, itself, where_base, moved, where_indexed, form_where, through, ◌>>=◌}
-use Rattle.vax_templates.specs.Taking.{Target, ToOwn, ToSlot, ToHome, ToMemory, ToZero, ToSaved, Taken, taken_missized, cut, sized, last_result, cut_term, fetched, addressed}
-use Rattle.vax_templates.specs.Taking.{own_target, memory_target, zero_target, statement_target, targeted, written, both, taken, evaluated, Arguments, last_of, in_front}
-use Rattle.vax_templates.specs.Taking.{all_evaluated}
+use Rattle.vax_templates.specs.Standing.{Where, where_own, where_hole, where_zero, where_deferred, at, displaced}
+use Rattle.vax_templates.specs.Standing.{pointed, negated, itself, where_base, moved, where_indexed, form_where}
+use Rattle.vax_templates.specs.Standing.{through, ◌>>=◌}
+use Rattle.vax_templates.specs.HoleTerms.{constant_of, address_of, absolute_term, number_term, own_value, register_of}
+use Rattle.vax_templates.specs.HoleTerms.{register_term}
+use Rattle.vax_templates.specs.Targets.{Target, ToOwn, ToSlot, ToHome, ToMemory, ToZero, ToSaved, own_target}
+use Rattle.vax_templates.specs.Targets.{memory_target, zero_target, statement_target, targeted}
+use Rattle.vax_templates.specs.Taking.{Taken, taken_missized, cut, sized, last_result, cut_term, fetched, addressed}
+use Rattle.vax_templates.specs.Taking.{written, both, taken, evaluated, Arguments, last_of, in_front, all_evaluated}
 use Rattle.vax_templates.specs.Giving.{Given, Computes, Divides, Compares, Tests, extended, truncated, given}
-use Rattle.vax_templates.specs.Judging.{Last, Plain, Compared, Tested, Returning, Ended, Deed, leaves, ends, ends_statement, is_relation, branches, is_movl, is_last_result, put}
-use Rattle.vax_templates.specs.Judging.{divided, computed, acted, is_disordered, in_order, with_reads, checked, operated, instruction_did, returned, did_behind, read, line_did}
+use Rattle.vax_templates.specs.Deeds.{Last, Plain, Compared, Tested, Returning, Ended, Deed, leaves, ends}
+use Rattle.vax_templates.specs.Deeds.{ends_statement, is_relation, branches, is_movl, is_last_result, put, divided}
+use Rattle.vax_templates.specs.Deeds.{computed, acted}
+use Rattle.vax_templates.specs.Judging.{is_disordered, in_order, with_reads, checked, operated, instruction_did}
+use Rattle.vax_templates.specs.Judging.{returned, did_behind, read, line_did}
 use Rattle.vax_templates.specs.Found as found_
-use Rattle.vax_templates.specs.Found.{Progress, start, kept_or_put, progressed, at_line, kept, judged, lines_judged, left_value, last_deed, register_given, number_given}
-use Rattle.vax_templates.specs.Found.{base_number, address_given, value_given, home_given, place_given, without_index, shape_given, shape_read, given_shape, given_by, given_line}
-use Rattle.vax_templates.specs.Found.{first_dropped, none_dropped, with_divisors, ended, template_found, found, saved_found, saved_give}
+use Rattle.vax_templates.specs.Progress.{Progress, start, kept_or_put, progressed, at_line, kept, judged}
+use Rattle.vax_templates.specs.Progress.{lines_judged}
+use Rattle.vax_templates.specs.GiveLines.{left_value, last_deed, register_given, number_given, base_number}
+use Rattle.vax_templates.specs.GiveLines.{address_given, value_given, home_given, place_given, without_index}
+use Rattle.vax_templates.specs.GiveLines.{shape_given, shape_read, given_shape, given_by, given_line}
+use Rattle.vax_templates.specs.Dropped.{first_dropped, none_dropped}
+use Rattle.vax_templates.specs.Found.{with_divisors, ended, template_found, found, saved_found, saved_give}
 use Rattle.vax_target_narrow.specs.Laws.{EffectsAreNarrow}
 use Rattle.vax_target_writing.proofs.Each.{Each, EachOk, bind_each, if_ok, of_ok}
 use Rattle.vax_target_writing.proofs.Longs.{IsLongNumber, IsLongBase, IsLongForm}

@@ -29,9 +29,11 @@ use Rattle.vax_templates.specs.declared.setting.Own.TheVariants as own
 use Rattle.vax_templates.specs.declared.setting.Opening.{Opening}
 use Rattle.vax_templates.specs.declared.setting.Opening.TheVariants as opening
 use Rattle.vax_templates.specs.Judging.{is_operand, base_spells, index_is_operand, spells_symbol}
-use Rattle.vax_templates.specs.Standing.{Where, Immediate, Register, OwnRegister, RegisterZero, Value, Place, Local, SavedPlace, Saved, At, constant_of, absolute_term, number_term}
-use Rattle.vax_templates.specs.Standing.{register_term, where_own, where_hole, where_zero, through, where_deferred, at, sum, displaced, pointed, negated, itself, where_base}
+use Rattle.vax_templates.specs.Standing.{Where, Immediate, Register, OwnRegister, RegisterZero, Value, Place, Local}
+use Rattle.vax_templates.specs.Standing.{SavedPlace, Saved, At, where_own, where_hole, where_zero, through}
+use Rattle.vax_templates.specs.Standing.{where_deferred, at, sum, displaced, pointed, negated, itself, where_base}
 use Rattle.vax_templates.specs.Standing.{scaled, moved, where_indexed, form_where, ◌>>=◌}
+use Rattle.vax_templates.specs.HoleTerms.{constant_of, absolute_term, number_term, register_term}
 use Rattle.vax_templates.specs.Filled.{alone, addr_number, register_in, addr_in, number_addr, operand_in, deferred_in, filled_base, with_index, filled}
 use Rattle.vax_target_operands.specs.Scenes.{Scene, worth, role_at, filling_at, is_lost, Means, Sees}
 use Rattle.vax_target_operands.specs.Places.{StandsAt, IsWhere, IsReadIfAny, CanStand, Stands, BaseIsShort, MayBeRead, OperandsStand}

@@ -31,8 +31,10 @@ use Rattle.vax_templates.specs.declared.setting.Own.{Own}
 use Rattle.vax_templates.specs.declared.setting.Own.TheVariants as own
 use Rattle.vax_templates.specs.Settings.{hole_or_other}
 use Rattle.vax_templates.specs.Judging.{is_operand}
-use Rattle.vax_templates.specs.Standing.{Where, Register, OwnRegister, Value, Place, Local, SavedPlace, Saved, At, constant_of, address_of, absolute_term, number_term, own_value}
-use Rattle.vax_templates.specs.Standing.{register_of, register_term, where_own, where_hole, where_deferred}
+use Rattle.vax_templates.specs.Standing.{Where, Register, OwnRegister, Value, Place, Local, SavedPlace, Saved, At}
+use Rattle.vax_templates.specs.Standing.{where_own, where_hole, where_deferred}
+use Rattle.vax_templates.specs.HoleTerms.{constant_of, address_of, absolute_term, number_term, own_value, register_of}
+use Rattle.vax_templates.specs.HoleTerms.{register_term}
 use Rattle.vax_templates.specs.Filled.{alone, addr_number, attr_or, numbered, register_in, addr_in, number_addr, operand_in, deferred_in}
 use Rattle.vax_core.specs.declared.register.Reg.TheVariants.{Fp}
 use Rattle.vax_core.specs.Homes.{home, word_addr}

@@ -17,10 +17,10 @@ use Rattle.vax_templates.specs.declared.form.Base.{Base}
 use Rattle.vax_templates.specs.declared.form.Base.TheVariants as base
 use Rattle.vax_templates.specs.declared.form.Form.{Form}
 use Rattle.vax_templates.specs.Filled.{operand_in, filled}
-use Rattle.vax_templates.specs.Standing.{Where, Immediate, Register, OwnRegister, RegisterZero, Value, Place, Local, SavedPlace, Saved, At}
+use Rattle.vax_templates.specs.Standing.{Where, Immediate, Register, OwnRegister, RegisterZero, Value, Place, Local}
+use Rattle.vax_templates.specs.Standing.{SavedPlace, Saved, At, form_where}
 use Rattle.vax_target_meaning.specs.Reading.{names}
 use Rattle.vax_templates.specs.Judging.{spells_symbol}
-use Rattle.vax_templates.specs.Standing.{form_where}
 use Rattle.vax_target_operands.specs.Scenes.{Scene, worth, filling_at, IsSavedLocal, is_lost, Sees}
 
 -- the machine finds the operand's place there, and nothing changes by that

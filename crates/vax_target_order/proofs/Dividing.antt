@@ -24,14 +24,19 @@ use Rattle.vax_templates.specs.declared.setting.Setting.{Setting}
 use Rattle.vax_templates.specs.Settings.{hole_at, holes_of, setting_of}
 use Rattle.vax_templates.specs.Instructions.{Instruction, Relation, Jump, Calls, Ret, Operates, instruction_of, shape_of_pieces}
 use Rattle.vax_templates.specs.Standing.{◌>>=◌}
-use Rattle.vax_templates.specs.Taking.{Target, ToOwn, ToSlot, ToHome, ToMemory, ToZero, ToSaved, Arguments, all_evaluated}
+use Rattle.vax_templates.specs.Targets.{Target, ToOwn, ToSlot, ToHome, ToMemory, ToZero, ToSaved}
+use Rattle.vax_templates.specs.Taking.{Arguments, all_evaluated}
 use Rattle.vax_templates.specs.Giving.{Given, Computes, Divides, Compares, Tests, given}
-use Rattle.vax_templates.specs.Judging.{Last, Plain, Compared, Tested, Returning, Ended, Deed, leaves, ends, ends_statement, is_relation, branches, is_movl, is_last_result}
-use Rattle.vax_templates.specs.Judging.{has_some, put, divided, computed, acted, is_disordered, with_reads, checked, operated, instruction_did, returned, did_behind, read}
-use Rattle.vax_templates.specs.Judging.{line_did}
+use Rattle.vax_templates.specs.Deeds.{Last, Plain, Compared, Tested, Returning, Ended, Deed, leaves, ends}
+use Rattle.vax_templates.specs.Deeds.{ends_statement, is_relation, branches, is_movl, is_last_result, put, divided}
+use Rattle.vax_templates.specs.Deeds.{computed, acted}
+use Rattle.vax_templates.specs.Judging.{has_some, is_disordered, with_reads, checked, operated, instruction_did}
+use Rattle.vax_templates.specs.Judging.{returned, did_behind, read, line_did}
 use Rattle.vax_templates.specs.Found as found_
-use Rattle.vax_templates.specs.Found.{Progress, start, progressed, at_line, kept, judged, lines_judged, given_by, given_line, first_dropped, none_dropped, with_divisors, ended}
-use Rattle.vax_templates.specs.Found.{template_found, shape_read, shape_given, found}
+use Rattle.vax_templates.specs.Progress.{Progress, start, progressed, at_line, kept, judged, lines_judged}
+use Rattle.vax_templates.specs.GiveLines.{given_by, given_line, shape_read, shape_given}
+use Rattle.vax_templates.specs.Dropped.{first_dropped, none_dropped}
+use Rattle.vax_templates.specs.Found.{with_divisors, ended, template_found, found}
 use Rattle.vax_target_order.specs.Laws.{RulesDivideOnce, StatementsHaveLines}
 use Rattle.vax_target_writing.proofs.Each.{EachOk, bind_each, always_ok, if_ok, of_ok}
 

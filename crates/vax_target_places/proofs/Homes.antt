@@ -20,11 +20,16 @@ use Rattle.vax_templates.specs.declared.setting.Opening.{Opening}
 use Rattle.vax_templates.specs.declared.setting.Opening.TheVariants as opening
 use Rattle.vax_templates.specs.declared.setting.Setting.{Setting}
 use Rattle.vax_templates.specs.Settings.{hole_at}
-use Rattle.vax_templates.specs.Standing.{Where, Immediate, Register, OwnRegister, RegisterZero, Value, Place, Local, SavedPlace, Saved, At, constant_of, number_term, absolute_term, register_term}
-use Rattle.vax_templates.specs.Standing.{own_value, where_own, where_hole, where_zero, where_deferred, at, displaced, pointed, negated, itself, where_base, moved, where_indexed, form_where, ◌>>=◌}
-use Rattle.vax_templates.specs.Taking.{Target, ToOwn, ToHome, Taken, taken_term, taken_read, taken_missized, sized, last_result, cut_term, fetched}
-use Rattle.vax_templates.specs.Taking.{addressed, is_long, own_target, memory_target, zero_target, statement_target, targeted, written, both, taken, evaluated, Arguments, last_of, in_front}
-use Rattle.vax_templates.specs.Taking.{all_evaluated}
+use Rattle.vax_templates.specs.Standing.{Where, Immediate, Register, OwnRegister, RegisterZero, Value, Place, Local}
+use Rattle.vax_templates.specs.Standing.{SavedPlace, Saved, At, where_own, where_hole, where_zero, where_deferred, at}
+use Rattle.vax_templates.specs.Standing.{displaced, pointed, negated, itself, where_base, moved, where_indexed}
+use Rattle.vax_templates.specs.Standing.{form_where, ◌>>=◌}
+use Rattle.vax_templates.specs.HoleTerms.{constant_of, number_term, absolute_term, register_term, own_value}
+use Rattle.vax_templates.specs.Targets.{Target, ToOwn, ToHome, is_long, own_target, memory_target, zero_target}
+use Rattle.vax_templates.specs.Targets.{statement_target, targeted}
+use Rattle.vax_templates.specs.Taking.{Taken, taken_term, taken_read, taken_missized, sized, last_result, cut_term}
+use Rattle.vax_templates.specs.Taking.{fetched, addressed, written, both, taken, evaluated, Arguments, last_of}
+use Rattle.vax_templates.specs.Taking.{in_front, all_evaluated}
 use Rattle.vax_target_writing.proofs.Each.{EachOk, bind_each, if_ok}
 
 -- a symbol that is a place

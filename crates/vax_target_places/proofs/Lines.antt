@@ -27,13 +27,20 @@ use Rattle.vax_templates.specs.declared.setting.Hole.{Hole}
 use Rattle.vax_templates.specs.declared.setting.Setting.{Setting}
 use Rattle.vax_templates.specs.Settings.{hole_at}
 use Rattle.vax_templates.specs.Instructions.{Instruction, Relation, Jump, Calls, Ret, Operates, instruction_of, shape_of_pieces}
-use Rattle.vax_templates.specs.Standing.{Where, Register, Place, Local, At, constant_of, form_where, ◌>>=◌}
-use Rattle.vax_templates.specs.Taking.{Target, ToOwn, ToSlot, ToHome, ToMemory, ToZero, ToSaved, fetched, Arguments, all_evaluated}
+use Rattle.vax_templates.specs.Standing.{Where, Register, Place, Local, At, form_where, ◌>>=◌}
+use Rattle.vax_templates.specs.HoleTerms.{constant_of}
+use Rattle.vax_templates.specs.Targets.{Target, ToOwn, ToSlot, ToHome, ToMemory, ToZero, ToSaved}
+use Rattle.vax_templates.specs.Taking.{fetched, Arguments, all_evaluated}
 use Rattle.vax_templates.specs.Giving.{Given, Computes, Divides, Compares, Tests, given}
-use Rattle.vax_templates.specs.Judging.{Last, Plain, Compared, Tested, Returning, Ended, Deed, leaves, ends, ends_statement, is_relation, branches, is_movl, is_last_result, put, divided, computed}
-use Rattle.vax_templates.specs.Judging.{acted, is_disordered, in_order, with_reads, checked, operated, instruction_did, returned, did_behind, line_did, read}
-use Rattle.vax_templates.specs.Found.{Progress, at_line, kept, judged, lines_judged, left_value, last_deed, register_given, number_given, base_number, address_given, value_given}
-use Rattle.vax_templates.specs.Found.{place_given, without_index, shape_given, shape_read, given_by}
+use Rattle.vax_templates.specs.Deeds.{Last, Plain, Compared, Tested, Returning, Ended, Deed, leaves, ends}
+use Rattle.vax_templates.specs.Deeds.{ends_statement, is_relation, branches, is_movl, is_last_result, put, divided}
+use Rattle.vax_templates.specs.Deeds.{computed, acted}
+use Rattle.vax_templates.specs.Judging.{is_disordered, in_order, with_reads, checked, operated, instruction_did}
+use Rattle.vax_templates.specs.Judging.{returned, did_behind, line_did, read}
+use Rattle.vax_templates.specs.Progress.{Progress, at_line, kept, judged, lines_judged}
+use Rattle.vax_templates.specs.GiveLines.{left_value, last_deed, register_given, number_given, base_number}
+use Rattle.vax_templates.specs.GiveLines.{address_given, value_given, place_given, without_index, shape_given}
+use Rattle.vax_templates.specs.GiveLines.{shape_read, given_by}
 use Rattle.vax_target_writing.proofs.Each.{EachOk, bind_each, if_ok}
 use Rattle.vax_target_places.proofs.Homes.{IsPlace, ToSome, all_to}
 

@@ -23,7 +23,8 @@ use Rattle.vax_core.specs.declared.operand.Operand.{Operand}
 use Rattle.vax_templates.specs.declared.setting.Hole.{Hole}
 use Rattle.vax_templates.specs.declared.setting.Hole.TheVariants as hole_kind
 use Rattle.vax_templates.specs.Settings.{hole_of_token, hole_of_kind, hole_of, holes_of, hole_or_other, hole_at, setting_of}
-use Rattle.vax_templates.specs.Found.{Progress, start, lines_judged, given_by}
+use Rattle.vax_templates.specs.Progress.{Progress, start, lines_judged}
+use Rattle.vax_templates.specs.GiveLines.{given_by}
 use Rattle.vax_target_meaning.specs.Vax.{vax}
 use Rattle.vax_target_writing.proofs.Each.{of_ok}
 use Rattle.vax_target_rules.proofs.Founds.{rule_is}

@@ -19,12 +19,17 @@ use Rattle.vax_templates.specs.declared.setting.Setting.{Setting}
 use Rattle.vax_templates.specs.Settings.{hole_at}
 use Rattle.vax_templates.specs.Instructions.{Instruction, Relation, Jump, Calls, Ret, Operates, instruction_of}
 use Rattle.vax_templates.specs.Standing.{◌>>=◌}
-use Rattle.vax_templates.specs.Taking.{Target, ToOwn, ToSlot, ToHome, ToMemory, ToZero, ToSaved, Arguments, all_evaluated}
+use Rattle.vax_templates.specs.Targets.{Target, ToOwn, ToSlot, ToHome, ToMemory, ToZero, ToSaved}
+use Rattle.vax_templates.specs.Taking.{Arguments, all_evaluated}
 use Rattle.vax_templates.specs.Giving.{Given, Computes, Divides, Compares, Tests, given}
-use Rattle.vax_templates.specs.Judging.{Last, Plain, Compared, Tested, Returning, Ended, Deed, leaves, ends_statement, is_relation, branches, is_movl, is_last_result, puts, put}
-use Rattle.vax_templates.specs.Judging.{divided, computed, acted, has_some, is_disordered, in_order, with_reads, checked, operated, instruction_did, returned, did_behind, line_did}
+use Rattle.vax_templates.specs.Deeds.{Last, Plain, Compared, Tested, Returning, Ended, Deed, leaves, ends_statement}
+use Rattle.vax_templates.specs.Deeds.{is_relation, branches, is_movl, is_last_result, puts, put, divided, computed}
+use Rattle.vax_templates.specs.Deeds.{acted}
+use Rattle.vax_templates.specs.Judging.{has_some, is_disordered, in_order, with_reads, checked, operated}
+use Rattle.vax_templates.specs.Judging.{instruction_did, returned, did_behind, line_did}
+use Rattle.vax_templates.specs.Deeds as deeds
 use Rattle.vax_templates.specs.Judging as judging
-use Rattle.vax_templates.specs.Found.{Progress, judged, lines_judged}
+use Rattle.vax_templates.specs.Progress.{Progress, judged, lines_judged}
 use Rattle.vax_target_operands.proofs.Binds.{err_ok, ok_same, Chained, chained, cond_ok}
 use Rattle.vax_target_runs.proofs.Runs.{IsJudged, judged_is}
 
@@ -34,7 +39,7 @@ IsFew ds = length ds ≤ 1
 of_deed : (u d : Deed) → ◌≡◌ {A = Result Deed TemplateKind} (Ok u) (Ok d) → u.divisors ≡ d.divisors
 of_deed u d e = ap (λ (y : Deed). y.divisors) (ok_same u d e)
 
-statement_none : (b : Bool) (deed : ActShape) (d : Deed) → cond b (judging.ends deed) (Err NotInstr) ≡ Ok d → [] ≡ d.divisors
+statement_none : (b : Bool) (deed : ActShape) (d : Deed) → cond b (deeds.ends deed) (Err NotInstr) ≡ Ok d → [] ≡ d.divisors
 statement_none true deed d e = of_deed (leaves (Ended deed)) d e
 statement_none false deed d e = absurd (err_ok _ d e)
 

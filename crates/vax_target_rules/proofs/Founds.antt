@@ -23,8 +23,10 @@ use Rattle.vax_templates.specs.declared.setting.Hole.{Hole}
 use Rattle.vax_templates.specs.declared.setting.Setting.{Setting}
 use Rattle.vax_templates.specs.Settings.{holes_of, setting_of}
 use Rattle.vax_templates.specs.Standing.{◌>>=◌}
-use Rattle.vax_templates.specs.Judging.{Last}
-use Rattle.vax_templates.specs.Found.{Progress, start, at_line, lines_judged, given_by, given_line, contains, act_contains, effect_contains, first_dropped, none_dropped}
+use Rattle.vax_templates.specs.Deeds.{Last}
+use Rattle.vax_templates.specs.Progress.{Progress, start, at_line, lines_judged}
+use Rattle.vax_templates.specs.GiveLines.{given_by, given_line}
+use Rattle.vax_templates.specs.Dropped.{contains, act_contains, effect_contains, first_dropped, none_dropped}
 use Rattle.vax_templates.specs.Found.{with_divisors, checked, ended, template_found, found}
 use Rattle.vax_target_operands.proofs.Binds.{err_ok, ok_same, Chained, chained}
 use Rattle.vax_target_runs.proofs.Runs.{at_line_is}

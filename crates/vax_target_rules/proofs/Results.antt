@@ -16,7 +16,8 @@ use Rattle.md_reader.specs.declared.types.Give.{Give}
 use Rattle.md_reader.specs.declared.types.Give.TheVariants as give
 use Rattle.md_reader.specs.declared.types.Rule.{Rule}
 use Rattle.md_reader.specs.Patterns.{kind_at}
-use Rattle.md_reader.specs.Rows.{is_nothing, plain_fits}
+use Rattle.md_reader.specs.Restrictions.{is_nothing}
+use Rattle.md_reader.specs.Rows.{plain_fits}
 use Rattle.md_reader.specs.Valid.{MayGive}
 use Rattle.term_core.specs.Shape.{Shape}
 use Rattle.sel_terms.specs.Effects.{ActShape, EffectShape, Value}
@@ -37,8 +38,11 @@ use Rattle.vax_templates.specs.declared.setting.Own.TheVariants as own
 use Rattle.vax_templates.specs.declared.setting.Hole.{Hole}
 use Rattle.vax_templates.specs.declared.setting.Hole.TheVariants as hole_kind
 use Rattle.vax_templates.specs.Settings.{holes_of, setting_of, own_of, is_reuse, hole_of, hole_or_other}
-use Rattle.vax_templates.specs.Judging.{Last, Plain, Compared, Tested, Returning, Ended, is_operand}
-use Rattle.vax_templates.specs.Found.{Progress, left_value, last_deed, given_by, with_divisors}
+use Rattle.vax_templates.specs.Deeds.{Last, Plain, Compared, Tested, Returning, Ended}
+use Rattle.vax_templates.specs.Judging.{is_operand}
+use Rattle.vax_templates.specs.Progress.{Progress}
+use Rattle.vax_templates.specs.GiveLines.{left_value, last_deed, given_by}
+use Rattle.vax_templates.specs.Found.{with_divisors}
 use Rattle.vax_templates.specs.Filled.{attr_or, numbered, register_in}
 use Rattle.vax_target_meaning.specs.Running.{course_of}
 use Rattle.vax_target_meaning.specs.Vax.{vax}

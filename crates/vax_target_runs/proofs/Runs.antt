@@ -33,9 +33,11 @@ use Rattle.vax_templates.specs.declared.setting.Opening.TheVariants as opening
 use Rattle.vax_templates.specs.declared.setting.Setting.{Setting}
 use Rattle.vax_templates.specs.Standing.{◌>>=◌}
 use Rattle.vax_templates.specs.Instructions.{Instruction, Relation, Jump, Calls as CallsLine, Ret, Operates, instruction_of}
-use Rattle.vax_templates.specs.Judging.{Last, Plain, Compared, Tested, Returning, Ended, Deed, leaves, returned, did_behind, line_did, is_operand}
+use Rattle.vax_templates.specs.Deeds.{Last, Plain, Compared, Tested, Returning, Ended, Deed, leaves}
+use Rattle.vax_templates.specs.Judging.{returned, did_behind, line_did, is_operand}
 use Rattle.vax_templates.specs.Judging as judging
-use Rattle.vax_templates.specs.Found.{Progress, start, kept_or_put, progressed, at_line, kept, judged, lines_judged}
+use Rattle.vax_templates.specs.Progress.{Progress, start, kept_or_put, progressed, at_line, kept, judged}
+use Rattle.vax_templates.specs.Progress.{lines_judged}
 use Rattle.vax_templates.specs.Filled.{register_in, operand_in, deferred_in}
 use Rattle.vax_templates.specs.FilledLines.{filled_instruction, filled_line, plain_return}
 use Rattle.vax_target_meaning.specs.Vax.{vax}

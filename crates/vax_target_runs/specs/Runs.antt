@@ -12,8 +12,9 @@ use Rattle.vax_machine.specs.declared.turn.Stop.TheVariants.{Trapped}
 use Rattle.vax_machine.specs.State.{State}
 use Rattle.vax_machine_lists.specs.Instructions.{Course, Stops, ends, comes, exec}
 use Rattle.vax_templates.specs.declared.setting.Own.TheVariants as own
-use Rattle.vax_templates.specs.Judging.{Last, Plain, Returning, Ended, is_operand}
-use Rattle.vax_templates.specs.Found.{Progress, start, lines_judged}
+use Rattle.vax_templates.specs.Deeds.{Last, Plain, Returning, Ended}
+use Rattle.vax_templates.specs.Judging.{is_operand}
+use Rattle.vax_templates.specs.Progress.{Progress, start, lines_judged}
 use Rattle.vax_templates.specs.Filled.{register_in}
 use Rattle.vax_templates.specs.FilledLines.{filled_line}
 use Rattle.vax_target_meaning.specs.Vax.{vax}

@@ -9,8 +9,11 @@ use Rattle.sel_target.specs.declared.fault.TemplateKind.{TemplateKind}
 use Rattle.vax_templates.specs.declared.setting.Hole.{Hole}
 use Rattle.vax_templates.specs.declared.setting.Setting.{Setting}
 use Rattle.vax_templates.specs.Standing.{◌>>=◌}
-use Rattle.vax_templates.specs.Judging.{Last, Plain, Compared, Tested, Returning, Ended, Deed, line_did}
-use Rattle.vax_templates.specs.Found.{Progress, start, kept_or_put, at_line, kept, progressed, left_value, last_deed, given_line, effect_contains, first_dropped, none_dropped}
+use Rattle.vax_templates.specs.Deeds.{Last, Plain, Compared, Tested, Returning, Ended, Deed}
+use Rattle.vax_templates.specs.Judging.{line_did}
+use Rattle.vax_templates.specs.Progress.{Progress, start, kept_or_put, at_line, kept, progressed}
+use Rattle.vax_templates.specs.GiveLines.{left_value, last_deed, given_line}
+use Rattle.vax_templates.specs.Dropped.{effect_contains, first_dropped, none_dropped}
 use Rattle.vax_templates.specs.Found.{with_divisors, checked, ended, template_found}
 
 -- a line did this, and its effect is that, in which all stands that it read

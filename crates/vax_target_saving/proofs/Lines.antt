@@ -26,7 +26,7 @@ use Rattle.vax_machine.specs.Operands.{located}
 use Rattle.vax_machine_lists.specs.Instructions.{Course, course_of, followed, performed, exec}
 use Rattle.vax_states.specs.Stack.{word_of}
 use Rattle.vax_templates.specs.Settings.{saved_hole, saved_setting, is_reload}
-use Rattle.vax_templates.specs.Judging.{Last, Plain, Ended}
+use Rattle.vax_templates.specs.Deeds.{Last, Plain, Ended}
 use Rattle.vax_templates.specs.Found.{saved_found, template_found}
 use Rattle.vax_target_meaning.specs.Reading.{displaced, names}
 use Rattle.vax_target_meaning.specs.Running as running

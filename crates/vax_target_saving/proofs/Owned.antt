@@ -16,10 +16,14 @@ use Rattle.vax_templates.specs.declared.setting.Setting.{Setting}
 use Rattle.vax_templates.specs.Settings.{hole_at}
 use Rattle.vax_templates.specs.Instructions.{Instruction, Relation, Jump, Calls, Ret, Operates, instruction_of}
 use Rattle.vax_templates.specs.Standing.{◌>>=◌}
-use Rattle.vax_templates.specs.Taking.{Target, ToOwn, ToSlot, ToHome, ToMemory, ToZero, ToSaved, Arguments, all_evaluated}
+use Rattle.vax_templates.specs.Targets.{Target, ToOwn, ToSlot, ToHome, ToMemory, ToZero, ToSaved}
+use Rattle.vax_templates.specs.Taking.{Arguments, all_evaluated}
 use Rattle.vax_templates.specs.Giving.{Given, Computes, Divides, Compares, Tests, given}
-use Rattle.vax_templates.specs.Judging.{Last, Plain, Compared, Tested, Returning, Ended, Deed, leaves, ends, ends_statement, is_relation, branches, is_movl, is_last_result, put}
-use Rattle.vax_templates.specs.Judging.{divided, computed, acted, is_disordered, in_order, with_reads, checked, operated, instruction_did, returned, did_behind, read, line_did}
+use Rattle.vax_templates.specs.Deeds.{Last, Plain, Compared, Tested, Returning, Ended, Deed, leaves, ends}
+use Rattle.vax_templates.specs.Deeds.{ends_statement, is_relation, branches, is_movl, is_last_result, put, divided}
+use Rattle.vax_templates.specs.Deeds.{computed, acted}
+use Rattle.vax_templates.specs.Judging.{is_disordered, in_order, with_reads, checked, operated, instruction_did}
+use Rattle.vax_templates.specs.Judging.{returned, did_behind, read, line_did}
 use Rattle.vax_target_writing.proofs.Each.{EachOk, bind_each, always_ok, if_ok, of_ok}
 
 abbrev pub IsPlain : Deed → Type 0

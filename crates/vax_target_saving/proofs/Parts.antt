@@ -8,7 +8,7 @@ use Rattle.term_core.proofs.Alike.{term_same}
 use Rattle.sel_terms.specs.Effects.{EffectShape, Value, StoreHome}
 use Rattle.sel_target.specs.Values.{View, IsRead}
 use Rattle.gg_base.specs.declared.size.Size.{Size}
-use Rattle.vax_templates.specs.Found.{contains, act_contains, effect_contains}
+use Rattle.vax_templates.specs.Dropped.{contains, act_contains, effect_contains}
 
 or_split : (a b : Bool) (P : Type 0) → (a || b) ≡ true → (a ≡ true → P) → (b ≡ true → P) → P
 or_split true b P e f g = f refl

@@ -18,7 +18,7 @@ use Rattle.vax_machine_lists.specs.Sound.{IsSound}
 use Rattle.vax_states.proofs.Keeping.{sound_register}
 use Rattle.vax_templates.specs.declared.setting.Hole.TheVariants as hole_kind
 use Rattle.vax_templates.specs.Settings.{saved_setting}
-use Rattle.vax_templates.specs.Judging.{Last, Plain}
+use Rattle.vax_templates.specs.Deeds.{Last, Plain}
 use Rattle.vax_templates.specs.Found.{saved_found}
 use Rattle.vax_templates.specs.Filled.{numbered}
 use Rattle.vax_target_meaning.specs.Vax.{vax}

@@ -46,12 +46,17 @@ use Rattle.vax_templates.specs.Settings.{hole_of_token, hole_of_kind, hole_of, h
 use Rattle.vax_templates.specs.Marks.{at_front}
 use Rattle.vax_templates.specs.Forms.{form_front, base_front, number_spelled, index_front}
 use Rattle.vax_templates.specs.Instructions.{shape_of_pieces}
-use Rattle.vax_templates.specs.Standing.{Where, Register, Place, Local, At, constant_of, number_term, absolute_term, register_term, where_own, where_hole, where_zero}
-use Rattle.vax_templates.specs.Standing.{where_deferred, at, displaced, pointed, negated, itself, where_base, moved, where_indexed, form_where, ◌>>=◌}
+use Rattle.vax_templates.specs.Standing.{Where, Register, Place, Local, At, where_own, where_hole, where_zero}
+use Rattle.vax_templates.specs.Standing.{where_deferred, at, displaced, pointed, negated, itself, where_base, moved}
+use Rattle.vax_templates.specs.Standing.{where_indexed, form_where, ◌>>=◌}
+use Rattle.vax_templates.specs.HoleTerms.{constant_of, number_term, absolute_term, register_term}
 use Rattle.vax_templates.specs.Taking.{Taken, fetched}
-use Rattle.vax_templates.specs.Found.{Progress, start, at_line, lines_judged, given_line, register_given, number_given, base_number, address_given, value_given, home_given}
-use Rattle.vax_templates.specs.Found.{place_given, without_index, shape_given, shape_read, given_shape, first_dropped, none_dropped, with_divisors, checked, ended, template_found}
-use Rattle.vax_templates.specs.Found.{found}
+use Rattle.vax_templates.specs.Progress.{Progress, start, at_line, lines_judged}
+use Rattle.vax_templates.specs.GiveLines.{given_line, register_given, number_given, base_number, address_given}
+use Rattle.vax_templates.specs.GiveLines.{value_given, home_given, place_given, without_index, shape_given}
+use Rattle.vax_templates.specs.GiveLines.{shape_read, given_shape}
+use Rattle.vax_templates.specs.Dropped.{first_dropped, none_dropped}
+use Rattle.vax_templates.specs.Found.{with_divisors, checked, ended, template_found, found}
 use Rattle.vax_templates.specs.Filled.{attr_or, attr_at, operand_in, filled_base, with_index, filled, filled_or_spare, filled_operand}
 use Rattle.vax_target_meaning.specs.Vax.{vax}
 use Rattle.vax_target_writing.proofs.Each.{EachOk, bind_each, if_ok, of_ok}

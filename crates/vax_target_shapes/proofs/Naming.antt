@@ -27,9 +27,11 @@ use Rattle.vax_templates.specs.declared.setting.Own.{Own}
 use Rattle.vax_templates.specs.declared.setting.Own.TheVariants as own
 use Rattle.vax_templates.specs.declared.setting.Opening.{Opening}
 use Rattle.vax_templates.specs.declared.setting.Opening.TheVariants as opening
-use Rattle.vax_templates.specs.Standing.{Where, Immediate, Register, OwnRegister, RegisterZero, Value, Place, Local, SavedPlace, Saved, At, sum, scaled, through, at, pointed}
-use Rattle.vax_templates.specs.Standing.{itself, negated, displaced, where_own, where_hole, where_zero, where_deferred, constant_of, number_term, absolute_term, register_term}
-use Rattle.vax_templates.specs.Standing.{where_base, moved, where_indexed, form_where, ◌>>=◌}
+use Rattle.vax_templates.specs.Standing.{Where, Immediate, Register, OwnRegister, RegisterZero, Value, Place, Local}
+use Rattle.vax_templates.specs.Standing.{SavedPlace, Saved, At, sum, scaled, through, at, pointed, itself, negated}
+use Rattle.vax_templates.specs.Standing.{displaced, where_own, where_hole, where_zero, where_deferred, where_base}
+use Rattle.vax_templates.specs.Standing.{moved, where_indexed, form_where, ◌>>=◌}
+use Rattle.vax_templates.specs.HoleTerms.{constant_of, number_term, absolute_term, register_term}
 use Rattle.vax_templates.specs.Judging.{is_operand}
 use Rattle.vax_templates.specs.Filled.{register_in, addr_in, number_addr, operand_in, deferred_in, filled_base, with_index, filled}
 use Rattle.vax_target_meaning.specs.Reading as reading

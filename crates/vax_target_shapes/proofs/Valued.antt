@@ -29,11 +29,14 @@ use Rattle.vax_templates.specs.declared.setting.Own.{Own}
 use Rattle.vax_templates.specs.declared.setting.Own.TheVariants as own
 use Rattle.vax_templates.specs.declared.setting.Opening.{Opening}
 use Rattle.vax_templates.specs.declared.setting.Opening.TheVariants as opening
-use Rattle.vax_templates.specs.Standing.{Where, Immediate, Register, OwnRegister, RegisterZero, Value, Place, Local, SavedPlace, Saved, At, at, pointed, itself, negated, displaced}
-use Rattle.vax_templates.specs.Standing.{own_value, where_own, where_hole, where_zero, where_deferred, constant_of, number_term, absolute_term, register_term, where_base, moved}
-use Rattle.vax_templates.specs.Standing.{where_indexed, form_where, ◌>>=◌}
-use Rattle.vax_templates.specs.Taking.{Taken, taken_term, taken_read, taken_missized, cut, cut_term, sized, last_result, fetched}
-use Rattle.vax_templates.specs.Found.{value_given}
+use Rattle.vax_templates.specs.Standing.{Where, Immediate, Register, OwnRegister, RegisterZero, Value, Place, Local}
+use Rattle.vax_templates.specs.Standing.{SavedPlace, Saved, At, at, pointed, itself, negated, displaced, where_own}
+use Rattle.vax_templates.specs.Standing.{where_hole, where_zero, where_deferred, where_base, moved, where_indexed}
+use Rattle.vax_templates.specs.Standing.{form_where, ◌>>=◌}
+use Rattle.vax_templates.specs.HoleTerms.{own_value, constant_of, number_term, absolute_term, register_term}
+use Rattle.vax_templates.specs.Taking.{Taken, taken_term, taken_read, taken_missized, cut, cut_term, sized}
+use Rattle.vax_templates.specs.Taking.{last_result, fetched}
+use Rattle.vax_templates.specs.GiveLines.{value_given}
 use Rattle.vax_templates.specs.Filled.{alone, numbered, addr_in, addr_number, number_addr, operand_in, filled_base, with_index, filled}
 use Rattle.vax_target_meaning.specs.Reading as reading
 use Rattle.vax_target_meaning.specs.Reading.{longword, is_own_place, number_at, names, reads}

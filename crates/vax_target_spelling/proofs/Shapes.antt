@@ -50,12 +50,18 @@ use Rattle.vax_templates.specs.declared.setting.Setting.{Setting}
 use Rattle.vax_templates.specs.Settings.{hole_of_token, hole_of_kind, hole_of, holes_of, hole_or_other, hole_at, own_of, opening_by, setting_of}
 use Rattle.vax_templates.specs.FrameWords.{word_behind}
 use Rattle.vax_templates.specs.Instructions.{shape_of_pieces}
-use Rattle.vax_templates.specs.Standing.{Where, Immediate, Register, OwnRegister, RegisterZero, Value, Place, Local, SavedPlace, Saved, At, ◌>>=◌}
-use Rattle.vax_templates.specs.Standing.{constant_of, register_of, own_value, register_term, where_own, where_hole, where_zero, where_deferred, at, displaced, pointed, negated}
-use Rattle.vax_templates.specs.Standing.{itself, number_term, absolute_term, where_base, moved, where_indexed, form_where}
+use Rattle.vax_templates.specs.Standing.{Where, Immediate, Register, OwnRegister, RegisterZero, Value, Place, Local}
+use Rattle.vax_templates.specs.Standing.{SavedPlace, Saved, At, ◌>>=◌, where_own, where_hole, where_zero}
+use Rattle.vax_templates.specs.Standing.{where_deferred, at, displaced, pointed, negated, itself, where_base, moved}
+use Rattle.vax_templates.specs.Standing.{where_indexed, form_where}
+use Rattle.vax_templates.specs.HoleTerms.{constant_of, register_of, own_value, register_term, number_term}
+use Rattle.vax_templates.specs.HoleTerms.{absolute_term}
 use Rattle.vax_templates.specs.Taking.{fetched}
-use Rattle.vax_templates.specs.Found.{Progress, start, at_line, lines_judged, given_line, register_given, base_number, number_given, address_given, value_given, place_given}
-use Rattle.vax_templates.specs.Found.{without_index, shape_given, shape_read, given_shape, ended, template_found, checked, with_divisors, found}
+use Rattle.vax_templates.specs.Progress.{Progress, start, at_line, lines_judged}
+use Rattle.vax_templates.specs.GiveLines.{given_line, register_given, base_number, number_given, address_given}
+use Rattle.vax_templates.specs.GiveLines.{value_given, place_given, without_index, shape_given, shape_read}
+use Rattle.vax_templates.specs.GiveLines.{given_shape}
+use Rattle.vax_templates.specs.Found.{ended, template_found, checked, with_divisors, found}
 use Rattle.vax_templates.specs.Filled.{alone, spare, numbered, register_in, attr_or, attr_at, addr_in, addr_number, number_addr, object_addr, word_operand, slot_operand}
 use Rattle.vax_templates.specs.Filled.{slot_deferred, argument_deferred, leaf_operand, operand_in, deferred_in, filled_base, with_index, filled, filled_or_spare, filled_operand}
 use Rattle.vax_target_meaning.specs.Vax.{vax}

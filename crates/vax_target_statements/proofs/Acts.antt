@@ -33,10 +33,13 @@ use Rattle.vax_templates.specs.declared.setting.Hole.{Hole}
 use Rattle.vax_templates.specs.declared.setting.Setting.{Setting}
 use Rattle.vax_templates.specs.Settings.{holes_of, setting_of, hole_at}
 use Rattle.vax_templates.specs.Instructions.{shape_of_pieces}
-use Rattle.vax_templates.specs.Standing.{Where, Immediate, Register, OwnRegister, RegisterZero, Value as ValueAt, Place, Local, SavedPlace, Saved, At, constant_of, form_where, ◌>>=◌}
+use Rattle.vax_templates.specs.Standing.{Where, Immediate, Register, OwnRegister, RegisterZero, Value as ValueAt}
+use Rattle.vax_templates.specs.Standing.{Place, Local, SavedPlace, Saved, At, form_where, ◌>>=◌}
+use Rattle.vax_templates.specs.HoleTerms.{constant_of}
 use Rattle.vax_templates.specs.Taking.{fetched}
-use Rattle.vax_templates.specs.Judging.{Last, Plain, Compared, Tested, Returning, Ended}
-use Rattle.vax_templates.specs.Found.{left_value, last_deed, register_given, number_given, base_number, address_given, value_given, place_given, shape_given, shape_read, given_by}
+use Rattle.vax_templates.specs.Deeds.{Last, Plain, Compared, Tested, Returning, Ended}
+use Rattle.vax_templates.specs.GiveLines.{left_value, last_deed, register_given, number_given, base_number}
+use Rattle.vax_templates.specs.GiveLines.{address_given, value_given, place_given, shape_given, shape_read, given_by}
 use Rattle.vax_target_meaning.specs.Vax.{vax, stands}
 use Rattle.vax_target_operands.specs.Scenes.{Scene}
 use Rattle.vax_target_operands.proofs.Binds.{err_ok, ok_same, chained}

@@ -18,7 +18,7 @@ use Rattle.md_reader.specs.declared.types.Restriction.{Restriction}
 use Rattle.md_reader.specs.declared.types.Restriction.TheVariants as restriction
 use Rattle.md_reader.specs.declared.types.Sym.{Sym}
 use Rattle.md_reader.specs.declared.types.Rule.{Rule}
-use Rattle.md_reader.specs.Rows.{symbol_at, is_branch}
+use Rattle.md_reader.specs.Restrictions.{symbol_at, is_branch}
 use Rattle.md_reader.specs.Valid.{MayRestrict}
 use Rattle.term_core.specs.Shape.{Shape}
 use Rattle.sel_terms.specs.Effects.{EffectShape}

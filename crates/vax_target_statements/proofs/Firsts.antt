@@ -18,7 +18,7 @@ use Rattle.md_reader.specs.declared.types.Class.{Class}
 use Rattle.md_reader.specs.declared.types.Sym.{Sym}
 use Rattle.md_reader.specs.declared.types.Sym.TheVariants as grammar_symbol
 use Rattle.md_reader.specs.Patterns.{kind_at, kids_of, sort_fits, Trees, no_tree, node, onto, sorted_test, IsSorted}
-use Rattle.md_reader.specs.Rows.{is_branch}
+use Rattle.md_reader.specs.Restrictions.{is_branch}
 use Rattle.sel_target.specs.declared.attr.Attr.{Attr}
 use Rattle.sel_target.specs.declared.attr.Attr.TheVariants as attr
 use Rattle.sel_target.specs.Instances.{KindFits, SymFits, Fit}

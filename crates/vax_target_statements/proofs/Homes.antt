@@ -42,7 +42,7 @@ use Rattle.vax_states.proofs.Keeping.{reg_small}
 use Rattle.vax_states.proofs.Sentences.{word_address}
 use Rattle.vax_templates.specs.declared.setting.Own.TheVariants as own
 use Rattle.vax_templates.specs.Settings.{holes_of, setting_of, own_of, is_reuse}
-use Rattle.vax_templates.specs.Found.{given_by}
+use Rattle.vax_templates.specs.GiveLines.{given_by}
 use Rattle.vax_templates.specs.Filled.{spare, word_operand, slot_operand, operand_in, register_in}
 use Rattle.vax_target_meaning.specs.Reading.{names, displaced}
 use Rattle.vax_target_meaning.specs.Vax.{vax, stands}

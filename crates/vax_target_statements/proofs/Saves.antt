@@ -45,8 +45,9 @@ use Rattle.vax_templates.specs.declared.setting.Hole.{Hole}
 use Rattle.vax_templates.specs.declared.setting.Hole.TheVariants as hole_kind
 use Rattle.vax_templates.specs.declared.setting.Setting.{Setting}
 use Rattle.vax_templates.specs.Settings.{hole_of_token, hole_of, holes_of, hole_or_other, hole_at, setting_of}
-use Rattle.vax_templates.specs.Judging.{Last, Plain, Compared, Tested, Returning, Ended}
-use Rattle.vax_templates.specs.Found.{last_deed, start, given_by}
+use Rattle.vax_templates.specs.Deeds.{Last, Plain, Compared, Tested, Returning, Ended}
+use Rattle.vax_templates.specs.GiveLines.{last_deed, given_by}
+use Rattle.vax_templates.specs.Progress.{start}
 use Rattle.vax_target_operands.proofs.Binds.{err_ok, ok_same}
 use Rattle.vax_target_rules.proofs.Founds.{IsFound}
 use Rattle.vax_target_rules.proofs.Instances.{mapped_at, role_is}

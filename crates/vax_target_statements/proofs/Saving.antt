@@ -30,16 +30,25 @@ use Rattle.vax_templates.specs.declared.setting.Opening.TheVariants as opening
 use Rattle.vax_templates.specs.declared.setting.Setting.{Setting}
 use Rattle.vax_templates.specs.Settings.{hole_at}
 use Rattle.vax_templates.specs.Instructions.{Instruction, Relation, Jump as JumpLine, Calls as CallsLine, Ret, Operates, instruction_of}
-use Rattle.vax_templates.specs.Standing.{Where, Immediate, Register, OwnRegister, RegisterZero, Value, Place, Local, SavedPlace, Saved, At, constant_of, absolute_term, number_term}
-use Rattle.vax_templates.specs.Standing.{own_value, register_term, where_own, where_hole, where_zero, where_deferred, at, sum, displaced, pointed, negated, itself, where_base}
-use Rattle.vax_templates.specs.Standing.{scaled, moved, where_indexed, form_where, ◌>>=◌}
-use Rattle.vax_templates.specs.Taking.{Target, ToOwn, ToSlot, ToHome, ToMemory, ToZero, ToSaved, Taken, taken_missized, last_result, cut_term, fetched, addressed, own_target}
-use Rattle.vax_templates.specs.Taking.{memory_target, zero_target, targeted, written, both, taken, evaluated, Arguments, no_arguments, last_of, in_front, all_evaluated}
+use Rattle.vax_templates.specs.Standing.{Where, Immediate, Register, OwnRegister, RegisterZero, Value, Place, Local}
+use Rattle.vax_templates.specs.Standing.{SavedPlace, Saved, At, where_own, where_hole, where_zero, where_deferred, at}
+use Rattle.vax_templates.specs.Standing.{sum, displaced, pointed, negated, itself, where_base, scaled, moved}
+use Rattle.vax_templates.specs.Standing.{where_indexed, form_where, ◌>>=◌}
+use Rattle.vax_templates.specs.HoleTerms.{constant_of, absolute_term, number_term, own_value, register_term}
+use Rattle.vax_templates.specs.Targets.{Target, ToOwn, ToSlot, ToHome, ToMemory, ToZero, ToSaved, own_target}
+use Rattle.vax_templates.specs.Targets.{memory_target, zero_target, targeted}
+use Rattle.vax_templates.specs.Taking.{Taken, taken_missized, last_result, cut_term, fetched, addressed, written}
+use Rattle.vax_templates.specs.Taking.{both, taken, evaluated, Arguments, no_arguments, last_of, in_front}
+use Rattle.vax_templates.specs.Taking.{all_evaluated}
 use Rattle.vax_templates.specs.Giving.{Given, Computes, Divides, Compares, Tests, given}
-use Rattle.vax_templates.specs.Judging.{Last, Plain, Compared, Tested, Returning, Ended, Deed, leaves, ends_statement, is_relation, branches, is_movl, is_last_result, puts, put}
-use Rattle.vax_templates.specs.Judging.{divided, computed, acted, in_order, is_disordered, with_reads, checked, operated, instruction_did, returned, did_behind, line_did}
+use Rattle.vax_templates.specs.Deeds.{Last, Plain, Compared, Tested, Returning, Ended, Deed, leaves, ends_statement}
+use Rattle.vax_templates.specs.Deeds.{is_relation, branches, is_movl, is_last_result, puts, put, divided, computed}
+use Rattle.vax_templates.specs.Deeds.{acted}
+use Rattle.vax_templates.specs.Judging.{in_order, is_disordered, with_reads, checked, operated, instruction_did}
+use Rattle.vax_templates.specs.Judging.{returned, did_behind, line_did}
+use Rattle.vax_templates.specs.Deeds as deeds
 use Rattle.vax_templates.specs.Judging as judging
-use Rattle.vax_templates.specs.Found.{Progress, judged, lines_judged}
+use Rattle.vax_templates.specs.Progress.{Progress, judged, lines_judged}
 use Rattle.vax_target_operands.proofs.Binds.{err_ok, ok_same, chained, cond_ok}
 use Rattle.vax_target_runs.proofs.Runs.{judged_is}
 
@@ -257,7 +266,7 @@ module _ (s : Setting) (roles : List Hole) (held : Option Shape) where
   put_is op (Some (ToMemory z b)) t d a e = of_deed (leaves (Ended (StoreAt z b t))) d tt e
   put_is op (Some ToZero) t d a e = subst DeedIs (cond_ok (is_movl op) (leaves (Returning t)) d NotInstr e).1 tt
   put_is op (Some (ToSaved i)) t d a e = by (is_movl op && is_last_result t) e where
-    by : (b : Bool) → cond b (judging.ends (Save i)) (Err NotInstr) ≡ Ok d → DeedIs d
+    by : (b : Bool) → cond b (deeds.ends (Save i)) (Err NotInstr) ≡ Ok d → DeedIs d
     by true e = of_deed (leaves (Ended (Save i))) d a e
     by false e = absurd (err_ok _ d e)
 
@@ -268,7 +277,7 @@ module _ (s : Setting) (roles : List Hole) (held : Option Shape) where
   computed_is op to (Compares x y) d a e = of_deed (leaves (Compared x y)) d tt e
   computed_is op to (Tests t) d a e = of_deed (leaves (Tested t)) d tt e
 
-  statement_is : (b : Bool) (deed : ActShape) (d : Deed) → DeedIs (leaves (Ended deed)) → cond b (judging.ends deed) (Err NotInstr) ≡ Ok d → DeedIs d
+  statement_is : (b : Bool) (deed : ActShape) (d : Deed) → DeedIs (leaves (Ended deed)) → cond b (deeds.ends deed) (Err NotInstr) ≡ Ok d → DeedIs d
   statement_is true deed d h e = of_deed (leaves (Ended deed)) d h e
   statement_is false deed d h e = absurd (err_ok _ d e)
 

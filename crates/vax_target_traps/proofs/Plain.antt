@@ -39,15 +39,24 @@ use Rattle.vax_templates.specs.declared.setting.Opening.TheVariants as opening
 use Rattle.vax_templates.specs.declared.setting.Setting.{Setting}
 use Rattle.vax_templates.specs.Settings.{hole_at}
 use Rattle.vax_templates.specs.Instructions.{Instruction, Relation, Jump as JumpLine, Calls as CallsLine, Ret, Operates, instruction_of}
-use Rattle.vax_templates.specs.Standing.{Where, Immediate, Register, OwnRegister, RegisterZero, Value, Place, Local, SavedPlace, Saved, At, constant_of, address_of, absolute_term}
-use Rattle.vax_templates.specs.Standing.{number_term, own_value, register_of, register_term, where_own, where_hole, where_zero, through, where_deferred, at, sum, displaced}
-use Rattle.vax_templates.specs.Standing.{pointed, negated, itself, where_base, scaled, moved, where_indexed, form_where, ◌>>=◌}
-use Rattle.vax_templates.specs.Taking.{Target, ToOwn, ToSlot, ToHome, ToMemory, ToZero, ToSaved, Taken, taken_term, taken_read, taken_missized, cut, sized, last_result, cut_term}
-use Rattle.vax_templates.specs.Taking.{fetched, pointer_read, addressed, own_target, memory_target, zero_target, statement_target, targeted, written, both, taken, evaluated}
+use Rattle.vax_templates.specs.Standing.{Where, Immediate, Register, OwnRegister, RegisterZero, Value, Place, Local}
+use Rattle.vax_templates.specs.Standing.{SavedPlace, Saved, At, where_own, where_hole, where_zero, through}
+use Rattle.vax_templates.specs.Standing.{where_deferred, at, sum, displaced, pointed, negated, itself, where_base}
+use Rattle.vax_templates.specs.Standing.{scaled, moved, where_indexed, form_where, ◌>>=◌}
+use Rattle.vax_templates.specs.HoleTerms.{constant_of, address_of, absolute_term, number_term, own_value, register_of}
+use Rattle.vax_templates.specs.HoleTerms.{register_term}
+use Rattle.vax_templates.specs.Targets.{Target, ToOwn, ToSlot, ToHome, ToMemory, ToZero, ToSaved, own_target}
+use Rattle.vax_templates.specs.Targets.{memory_target, zero_target, statement_target, targeted}
+use Rattle.vax_templates.specs.Taking.{Taken, taken_term, taken_read, taken_missized, cut, sized, last_result}
+use Rattle.vax_templates.specs.Taking.{cut_term, fetched, pointer_read, addressed, written, both, taken, evaluated}
 use Rattle.vax_templates.specs.Taking.{Arguments, no_arguments, last_of, in_front, all_evaluated}
 use Rattle.vax_templates.specs.Giving.{Given, Computes, Divides, Compares, Tests, given, extended, truncated}
-use Rattle.vax_templates.specs.Judging.{Last, Plain, Compared, Tested, Returning, Ended, Deed, leaves, ends_statement, is_relation, branches, is_movl, is_last_result, puts, put}
-use Rattle.vax_templates.specs.Judging.{divided, computed, acted, in_order, is_disordered, with_reads, checked, operated, instruction_did, did_behind, line_did}
+use Rattle.vax_templates.specs.Deeds.{Last, Plain, Compared, Tested, Returning, Ended, Deed, leaves, ends_statement}
+use Rattle.vax_templates.specs.Deeds.{is_relation, branches, is_movl, is_last_result, puts, put, divided, computed}
+use Rattle.vax_templates.specs.Deeds.{acted}
+use Rattle.vax_templates.specs.Judging.{in_order, is_disordered, with_reads, checked, operated, instruction_did}
+use Rattle.vax_templates.specs.Judging.{did_behind, line_did}
+use Rattle.vax_templates.specs.Deeds as deeds
 use Rattle.vax_templates.specs.Judging as judging
 use Rattle.vax_target_operands.proofs.Binds.{err_ok, ok_same, Chained, chained, cond_ok}
 use Rattle.vax_target_lines.specs.Lines.{terms_of_last}
@@ -419,7 +428,7 @@ module _ (s : Setting) (roles : List Hole) where
   abbrev DeedPlain : Deed → Type 0
   DeedPlain d = ArePlain (terms_of_last d.last)
 
-  ended : (deed : ActShape) (d : Deed) → DeedPlain (leaves (Ended deed)) → judging.ends deed ≡ Ok d → DeedPlain d
+  ended : (deed : ActShape) (d : Deed) → DeedPlain (leaves (Ended deed)) → deeds.ends deed ≡ Ok d → DeedPlain d
   ended deed d h e = subst DeedPlain (ok_same (leaves (Ended deed)) d e) h
 
   put_plain : (op : Op) (to : Option Target) (t : Shape) (d : Deed) → AimPlain to → IsPlain t → put op to t ≡ Ok d → DeedPlain d
@@ -430,7 +439,7 @@ module _ (s : Setting) (roles : List Hole) where
   put_plain op (Some (ToMemory z b)) t d a p e = ended (StoreAt z b t) d (plain_if b a, (p, tt)) e
   put_plain op (Some ToZero) t d a p e = subst DeedPlain (cond_ok (is_movl op) (leaves (Returning t)) d NotInstr e).1 tt
   put_plain op (Some (ToSaved i)) t d a p e = by (is_movl op && is_last_result t) e where
-    by : (b : Bool) → cond b (judging.ends (Save i)) (Err NotInstr) ≡ Ok d → DeedPlain d
+    by : (b : Bool) → cond b (deeds.ends (Save i)) (Err NotInstr) ≡ Ok d → DeedPlain d
     by true e = ended (Save i) d tt e
     by false e = absurd (err_ok _ d e)
 
@@ -479,7 +488,7 @@ module _ (s : Setting) (roles : List Hole) where
   computed_plain op to (Compares x y) d a p e = subst DeedPlain (ok_same (leaves (Compared x y)) d e) tt
   computed_plain op to (Tests t) d a p e = subst DeedPlain (ok_same (leaves (Tested t)) d e) tt
 
-  statement_plain : (b : Bool) (deed : ActShape) (d : Deed) → DeedPlain (leaves (Ended deed)) → cond b (judging.ends deed) (Err NotInstr) ≡ Ok d → DeedPlain d
+  statement_plain : (b : Bool) (deed : ActShape) (d : Deed) → DeedPlain (leaves (Ended deed)) → cond b (deeds.ends deed) (Err NotInstr) ≡ Ok d → DeedPlain d
   statement_plain true deed d h e = ended deed d h e
   statement_plain false deed d h e = absurd (err_ok _ d e)
 
@@ -512,7 +521,7 @@ module _ (s : Setting) (roles : List Hole) where
       subst LinePlain (in_order_is (is_disordered s roles true None fs u.first) (with_reads x.first u.first) d u.then_so)
       (record { reads_so = h.reads_so; ends_so = acted_plain (action_of op) op x.first u.first h u.is })
 
-  of_statement : (b : Bool) (deed : ActShape) (d : Deed) → DeedPlain (leaves (Ended deed)) → cond b (judging.ends deed) (Err NotInstr) ≡ Ok d → LinePlain d
+  of_statement : (b : Bool) (deed : ActShape) (d : Deed) → DeedPlain (leaves (Ended deed)) → cond b (deeds.ends deed) (Err NotInstr) ≡ Ok d → LinePlain d
   of_statement true deed d h e = subst LinePlain (ok_same (leaves (Ended deed)) d e) (record { reads_so = tt; ends_so = h })
   of_statement false deed d h e = absurd (err_ok _ d e)
 

@@ -11,7 +11,8 @@ use Rattle.md_reader.specs.declared.types.Give.{Give}
 use Rattle.md_reader.specs.declared.types.Give.TheVariants as give
 use Rattle.md_reader.specs.declared.types.Rule.{Rule}
 use Rattle.md_reader.specs.Patterns.{kind_at}
-use Rattle.md_reader.specs.Rows.{is_nothing, plain_fits, shape_fits}
+use Rattle.md_reader.specs.Restrictions.{is_nothing}
+use Rattle.md_reader.specs.Rows.{plain_fits, shape_fits}
 use Rattle.md_reader.specs.Valid.{MayGive}
 use Rattle.term_core.specs.Shape.{Shape}
 use Rattle.sel_terms.specs.Effects.{ActShape, EffectShape}
@@ -29,8 +30,9 @@ use Rattle.vax_templates.specs.declared.setting.Hole.{Hole}
 use Rattle.vax_templates.specs.declared.setting.Setting.{Setting}
 use Rattle.vax_templates.specs.Settings.{holes_of, setting_of}
 use Rattle.vax_templates.specs.Standing.{◌>>=◌}
-use Rattle.vax_templates.specs.Judging.{Last, Plain, Compared, Tested, Returning, Ended}
-use Rattle.vax_templates.specs.Found.{Progress, start, judged, lines_judged, last_deed, given_by}
+use Rattle.vax_templates.specs.Deeds.{Last, Plain, Compared, Tested, Returning, Ended}
+use Rattle.vax_templates.specs.Progress.{Progress, start, judged, lines_judged}
+use Rattle.vax_templates.specs.GiveLines.{last_deed, given_by}
 use Rattle.vax_target_meaning.specs.Running.{course_of, run}
 use Rattle.vax_target_meaning.specs.Vax.{vax}
 use Rattle.vax_target_operands.specs.Scenes.{Scene, Sees}

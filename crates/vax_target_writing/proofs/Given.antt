@@ -22,10 +22,14 @@ use Rattle.vax_templates.specs.declared.setting.Hole.{Hole}
 use Rattle.vax_templates.specs.declared.setting.Setting.{Setting}
 use Rattle.vax_templates.specs.Settings.{holes_of, setting_of}
 use Rattle.vax_templates.specs.Instructions.{shape_of_pieces}
-use Rattle.vax_templates.specs.Standing.{Where, Immediate, Register, OwnRegister, RegisterZero, Value, Place, Local, SavedPlace, Saved, At, where_base, where_indexed, form_where, ◌>>=◌}
+use Rattle.vax_templates.specs.Standing.{Where, Immediate, Register, OwnRegister, RegisterZero, Value, Place, Local}
+use Rattle.vax_templates.specs.Standing.{SavedPlace, Saved, At, where_base, where_indexed, form_where, ◌>>=◌}
 use Rattle.vax_templates.specs.Taking.{fetched}
-use Rattle.vax_templates.specs.Found.{Progress, start, at_line, lines_judged, given_line, register_given, base_number, address_given, value_given, home_given, place_given}
-use Rattle.vax_templates.specs.Found.{without_index, shape_given, shape_read, given_shape, ended, template_found, checked, with_divisors, found}
+use Rattle.vax_templates.specs.Progress.{Progress, start, at_line, lines_judged}
+use Rattle.vax_templates.specs.GiveLines.{given_line, register_given, base_number, address_given, value_given}
+use Rattle.vax_templates.specs.GiveLines.{home_given, place_given, without_index, shape_given, shape_read}
+use Rattle.vax_templates.specs.GiveLines.{given_shape}
+use Rattle.vax_templates.specs.Found.{ended, template_found, checked, with_divisors, found}
 use Rattle.vax_templates.specs.Filled.{filled_base, filled, filled_or_spare, filled_operand}
 use Rattle.vax_target_meaning.specs.Fitting.{is_place, fits}
 use Rattle.vax_target_meaning.specs.Vax.{vax}

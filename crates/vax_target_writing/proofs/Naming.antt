@@ -29,7 +29,8 @@ use Rattle.md_reader.specs.declared.types.Class.{Class}
 use Rattle.md_reader.specs.declared.types.Sym.{Sym}
 use Rattle.md_reader.specs.declared.types.Sym.TheVariants as grammar_symbol
 use Rattle.md_reader.specs.Patterns.{kind_at}
-use Rattle.md_reader.specs.Rows.{is_branch, is_jump, is_call, any_symbol, behind_j, hole_behind, relation_fits, piece_fits, pieces_fit, line_fits}
+use Rattle.md_reader.specs.Restrictions.{is_branch, is_jump, is_call}
+use Rattle.md_reader.specs.Rows.{any_symbol, behind_j, hole_behind, relation_fits, piece_fits, pieces_fit, line_fits}
 use Rattle.md_reader.specs.Valid.{MayWrite}
 use Rattle.sel_target.specs.declared.attr.Attr.{Attr}
 use Rattle.sel_target.specs.declared.attr.Attr.TheVariants as attr

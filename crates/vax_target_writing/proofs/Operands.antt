@@ -34,11 +34,14 @@ use Rattle.vax_templates.specs.declared.setting.Opening.{Opening}
 use Rattle.vax_templates.specs.declared.setting.Opening.TheVariants as opening
 use Rattle.vax_templates.specs.declared.setting.Setting.{Setting}
 use Rattle.vax_templates.specs.Settings.{hole_or_other, hole_at}
-use Rattle.vax_templates.specs.Standing.{Where, Immediate, Register, OwnRegister, RegisterZero, Value, Place, Local, SavedPlace, Saved, At}
-use Rattle.vax_templates.specs.Standing.{constant_of, address_of, absolute_term, number_term, register_term, where_own, where_hole, where_zero, where_deferred, at, displaced}
-use Rattle.vax_templates.specs.Standing.{pointed, negated, itself, where_base, moved, where_indexed, form_where, ◌>>=◌}
-use Rattle.vax_templates.specs.Taking.{Taken, Target, Arguments, fetched, addressed, own_target, statement_target, memory_target, zero_target, targeted, written, both, taken}
-use Rattle.vax_templates.specs.Taking.{evaluated, all_evaluated, in_front}
+use Rattle.vax_templates.specs.Standing.{Where, Immediate, Register, OwnRegister, RegisterZero, Value, Place, Local}
+use Rattle.vax_templates.specs.Standing.{SavedPlace, Saved, At, where_own, where_hole, where_zero, where_deferred, at}
+use Rattle.vax_templates.specs.Standing.{displaced, pointed, negated, itself, where_base, moved, where_indexed}
+use Rattle.vax_templates.specs.Standing.{form_where, ◌>>=◌}
+use Rattle.vax_templates.specs.HoleTerms.{constant_of, address_of, absolute_term, number_term, register_term}
+use Rattle.vax_templates.specs.Taking.{Taken, Arguments, fetched, addressed, written, both, taken, evaluated}
+use Rattle.vax_templates.specs.Taking.{all_evaluated, in_front}
+use Rattle.vax_templates.specs.Targets.{Target, own_target, statement_target, memory_target, zero_target, targeted}
 use Rattle.vax_templates.specs.Filled.{attr_or, attr_at, register_in, addr_number, addr_in, number_addr, operand_in, deferred_in, filled_base, with_index, filled}
 use Rattle.vax_target_meaning.specs.Fitting.{steps, is_steady}
 use Rattle.vax_target_writing.proofs.Each.{EachOk, bind_each, always_ok, still_ok, if_ok}

@@ -7,7 +7,7 @@ use Rattle.md_reader_pieces.specs.declared.piece.Line.{Line}
 use Rattle.md_reader.specs.declared.types.Kind.{Kind}
 use Rattle.md_reader.specs.declared.types.Kind.TheVariants as kind
 use Rattle.md_reader.specs.Patterns.{kind_at}
-use Rattle.md_reader.specs.Forms.{has_register}
+use Rattle.md_reader.specs.RuleForms.{has_register}
 use Rattle.md_reader.specs.Valid.{IsSpill}
 use Rattle.sel_terms.specs.Effects.{EffectShape}
 use Rattle.sel_target.specs.declared.attr.Attr.{Attr}

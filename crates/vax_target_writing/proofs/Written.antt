@@ -33,11 +33,14 @@ use Rattle.vax_templates.specs.Instructions.{Instruction, Relation, Jump, Calls,
 use Rattle.vax_templates.specs.Standing.{◌>>=◌}
 use Rattle.vax_templates.specs.Taking.{Arguments, all_evaluated}
 use Rattle.vax_templates.specs.Giving.{given}
-use Rattle.vax_templates.specs.Judging.{Last, Plain, Compared, Tested, Returning, Ended, Deed, ends_statement, computed, acted, checked, operated, instruction_did, returned}
-use Rattle.vax_templates.specs.Judging.{did_behind, read, line_did}
+use Rattle.vax_templates.specs.Deeds.{Last, Plain, Compared, Tested, Returning, Ended, Deed, ends_statement, computed}
+use Rattle.vax_templates.specs.Deeds.{acted}
+use Rattle.vax_templates.specs.Judging.{checked, operated, instruction_did, returned, did_behind, read, line_did}
 use Rattle.sel_terms.specs.Effects as effects
 use Rattle.vax_core.specs.declared.op.Op.TheVariants as ops
-use Rattle.vax_templates.specs.Found.{Progress, start, at_line, kept, judged, lines_judged, given_line, ended, template_found}
+use Rattle.vax_templates.specs.Progress.{Progress, start, at_line, kept, judged, lines_judged}
+use Rattle.vax_templates.specs.GiveLines.{given_line}
+use Rattle.vax_templates.specs.Found.{ended, template_found}
 use Rattle.vax_templates.specs.Filled.{attr_at, filled}
 use Rattle.vax_templates.specs.FilledLines.{op_of_relation, op_of_att, op_in, label_among, label_name, branch_to, callee_among, callee_name, call_of, filled_instruction, filled_line}
 use Rattle.vax_target_writing.proofs.Each.{Each, EachOk, bind_each, always_ok, still_ok, of_ok}

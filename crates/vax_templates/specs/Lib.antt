@@ -2,10 +2,16 @@ pub mod Marks
 pub mod Forms
 pub mod Instructions
 pub mod Settings
+pub mod HoleTerms
 pub mod Standing
+pub mod Targets
 pub mod Taking
 pub mod Giving
+pub mod Deeds
 pub mod Judging
+pub mod Progress
+pub mod GiveLines
+pub mod Dropped
 pub mod Found
 pub mod Filled
 pub mod FilledLines

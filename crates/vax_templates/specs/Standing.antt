@@ -1,5 +1,5 @@
 -- Where an operand of a template stands, on terms, as the machine's operands stand somewhere on numbers.
-use Rattle.std.specs.Prelude.{ℕ, ◌==◌, Bool, true, false, ◌||◌, List, [], Option, Some, None, Result, Ok, Err, if◌then◌else◌}
+use Rattle.std.specs.Prelude.{ℕ, ◌==◌, List, Option, Some, None, Result, Ok, Err, if◌then◌else◌}
 use Rattle.gg_base.specs.declared.size.Size.{Size}
 use Rattle.gg_base.specs.declared.size.Size.TheVariants.{Long}
 use Rattle.gg_base.specs.Sizes.{bytes_of}
@@ -8,8 +8,6 @@ use Rattle.term_core.specs.declared.operator.BinaryOp.TheVariants as binary_op
 use Rattle.term_core.specs.Shape.{Shape, Constant, Symbol, Memory, Unary, Binary}
 use Rattle.sel_target.specs.declared.fault.TemplateKind.{TemplateKind}
 use Rattle.sel_target.specs.declared.fault.TemplateKind.TheVariants.{NotInstr}
-use Rattle.vax_templates.specs.declared.form.Number.{Number}
-use Rattle.vax_templates.specs.declared.form.Number.TheVariants as number
 use Rattle.vax_templates.specs.declared.form.Base.{Base}
 use Rattle.vax_templates.specs.declared.form.Base.TheVariants as base
 use Rattle.vax_templates.specs.declared.form.Form.{Form}
@@ -21,6 +19,7 @@ use Rattle.vax_templates.specs.declared.setting.Opening.{Opening}
 use Rattle.vax_templates.specs.declared.setting.Opening.TheVariants as opening
 use Rattle.vax_templates.specs.declared.setting.Setting.{Setting}
 use Rattle.vax_templates.specs.Settings.{hole_at}
+use Rattle.vax_templates.specs.HoleTerms.{constant_of, absolute_term, number_term, register_term}
 
 -- a number, a symbol's register, `%0`, register 0, a symbol's value, a symbol's place, a local, a place whose address
 -- is saved, the local of
@@ -42,37 +41,6 @@ infixl 10 ◌>>=◌
 abbrev pub ◌>>=◌ : {A B E : Type 0} → Result A E → (A → Result B E) → Result B E
 (Ok x) >>= f = f x
 (Err e) >>= f = Err e
-
--- the constant that a symbol stands for, and also an object's address
-abbrev pub constant_of : Hole → ℕ → Result Shape TemplateKind
-constant_of hole_kind.Constant i = Ok (Symbol i)
-constant_of (hole_kind.Literal n) i = Ok (Constant n)
-constant_of h i = Err NotInstr
-
-abbrev pub address_of : Hole → ℕ → Result Shape TemplateKind
-address_of hole_kind.Object i = Ok (Symbol i)
-address_of h i = constant_of h i
-
-abbrev pub absolute_term : List Hole → Number → Result Shape TemplateKind
-absolute_term holes (number.Itself n) = Ok (Constant n)
-absolute_term holes (number.Symbol i) = constant_of (hole_at holes i) i
-
-abbrev pub number_term : List Hole → Number → Result Shape TemplateKind
-number_term holes (number.Itself n) = Ok (Constant n)
-number_term holes (number.Symbol i) = address_of (hole_at holes i) i
-
--- what `%0` holds, where it is a register with a value
-abbrev pub own_value : Own → Option Shape → Result Shape TemplateKind
-own_value own.Register (Some t) = Ok t
-own_value o t = Err NotInstr
-
-abbrev pub register_of : Hole → ℕ → Result Shape TemplateKind
-register_of hole_kind.Register i = Ok (Symbol i)
-register_of h i = Err NotInstr
-
--- what the register holds that a hole spells
-abbrev pub register_term : Setting → List Hole → Option Shape → ℕ → Result Shape TemplateKind
-register_term s holes zero i = if i == 0 then own_value s.own zero else register_of (hole_at holes i) i
 
 abbrev pub where_own : Own → Result Where TemplateKind
 where_own own.Nothing = Err NotInstr

@@ -34,14 +34,21 @@ use Rattle.vax_templates.specs.declared.setting.Setting.{Setting}
 use Rattle.vax_templates.specs.Settings.{hole_at}
 use Rattle.vax_templates.specs.Instructions.{Instruction, Relation, Jump as Jumps, Calls, Ret, Operates, instruction_of}
 use Rattle.vax_templates.specs.Standing as where_
-use Rattle.vax_templates.specs.Standing.{Where, constant_of, address_of, absolute_term, number_term, own_value, register_of, register_term, where_own, where_hole, where_zero}
-use Rattle.vax_templates.specs.Standing.{where_deferred, at, displaced, pointed, negated, itself, where_base, moved, where_indexed, form_where, ◌>>=◌}
-use Rattle.vax_templates.specs.Taking.{Target, ToOwn, ToSlot, ToHome, ToMemory, ToZero, ToSaved, Taken, taken_missized, cut, sized, last_result, cut_term, fetched, addressed}
-use Rattle.vax_templates.specs.Taking.{own_target, memory_target, zero_target, statement_target, targeted, written, both, taken, evaluated, Arguments, last_of, in_front}
-use Rattle.vax_templates.specs.Taking.{all_evaluated}
+use Rattle.vax_templates.specs.Standing.{Where, where_own, where_hole, where_zero, where_deferred, at, displaced}
+use Rattle.vax_templates.specs.Standing.{pointed, negated, itself, where_base, moved, where_indexed, form_where}
+use Rattle.vax_templates.specs.Standing.{◌>>=◌}
+use Rattle.vax_templates.specs.HoleTerms.{constant_of, address_of, absolute_term, number_term, own_value, register_of}
+use Rattle.vax_templates.specs.HoleTerms.{register_term}
+use Rattle.vax_templates.specs.Targets.{Target, ToOwn, ToSlot, ToHome, ToMemory, ToZero, ToSaved, own_target}
+use Rattle.vax_templates.specs.Targets.{memory_target, zero_target, statement_target, targeted}
+use Rattle.vax_templates.specs.Taking.{Taken, taken_missized, cut, sized, last_result, cut_term, fetched, addressed}
+use Rattle.vax_templates.specs.Taking.{written, both, taken, evaluated, Arguments, last_of, in_front, all_evaluated}
 use Rattle.vax_templates.specs.Giving.{Given, Computes, Divides, Compares, Tests, extended, truncated, given}
-use Rattle.vax_templates.specs.Judging.{Last, Plain, Compared, Tested, Returning, Ended, Deed, leaves, ends, ends_statement, is_relation, branches, is_movl, is_last_result, put}
-use Rattle.vax_templates.specs.Judging.{divided, computed, acted, is_disordered, in_order, with_reads, checked, operated, instruction_did, returned, did_behind, read, line_did}
+use Rattle.vax_templates.specs.Deeds.{Last, Plain, Compared, Tested, Returning, Ended, Deed, leaves, ends}
+use Rattle.vax_templates.specs.Deeds.{ends_statement, is_relation, branches, is_movl, is_last_result, put, divided}
+use Rattle.vax_templates.specs.Deeds.{computed, acted}
+use Rattle.vax_templates.specs.Judging.{is_disordered, in_order, with_reads, checked, operated, instruction_did}
+use Rattle.vax_templates.specs.Judging.{returned, did_behind, read, line_did}
 use Rattle.vax_target_writing.proofs.Each.{EachOk, bind_each, if_ok}
 
 -- ---- what nests no deeper than n

@@ -25,13 +25,18 @@ use Rattle.vax_templates.specs.declared.setting.Setting.{Setting}
 use Rattle.vax_templates.specs.Settings.{holes_of, saved_hole, hole_at, setting_of, saved_setting}
 use Rattle.vax_templates.specs.Instructions.{shape_of_pieces}
 use Rattle.vax_templates.specs.Standing as where_
-use Rattle.vax_templates.specs.Standing.{Where, constant_of, form_where, ◌>>=◌}
+use Rattle.vax_templates.specs.Standing.{Where, form_where, ◌>>=◌}
+use Rattle.vax_templates.specs.HoleTerms.{constant_of}
 use Rattle.vax_templates.specs.Taking.{Taken, fetched}
-use Rattle.vax_templates.specs.Judging.{Last, Plain, Compared, Tested, Returning, Ended, Deed, line_did}
+use Rattle.vax_templates.specs.Deeds.{Last, Plain, Compared, Tested, Returning, Ended, Deed}
+use Rattle.vax_templates.specs.Judging.{line_did}
 use Rattle.vax_templates.specs.Found as found_
-use Rattle.vax_templates.specs.Found.{Progress, start, kept_or_put, at_line, kept, judged, lines_judged, left_value, last_deed, register_given, number_given}
-use Rattle.vax_templates.specs.Found.{base_number, address_given, value_given, home_given, place_given, shape_given, shape_read, given_by, given_line}
-use Rattle.vax_templates.specs.Found.{first_dropped, none_dropped, with_divisors, ended, template_found, found, saved_found, saved_give}
+use Rattle.vax_templates.specs.Progress.{Progress, start, kept_or_put, at_line, kept, judged, lines_judged}
+use Rattle.vax_templates.specs.GiveLines.{left_value, last_deed, register_given, number_given, base_number}
+use Rattle.vax_templates.specs.GiveLines.{address_given, value_given, home_given, place_given, shape_given}
+use Rattle.vax_templates.specs.GiveLines.{shape_read, given_by, given_line}
+use Rattle.vax_templates.specs.Dropped.{first_dropped, none_dropped}
+use Rattle.vax_templates.specs.Found.{with_divisors, ended, template_found, found, saved_found, saved_give}
 use Rattle.vax_target_writing.proofs.Each.{EachOk, bind_each, if_ok}
 use Rattle.vax_templates_depth.specs.Laws.{FoundWithin, TemplatesAreShallow, SavedLinesAreShallow}
 use Rattle.vax_templates_depth.proofs.Lines.{Within, ActWithin, SomeWithin, WhereWithin, TakenWithin, LastWithin, DeedWithin, constant_within, form_within, fetched_within, line_within}

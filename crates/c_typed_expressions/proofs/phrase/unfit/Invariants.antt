@@ -1,7 +1,7 @@
 use Rattle.std.proofs.Common.{◌≡◌, drop}
 use Rattle.c_types.specs.Typed.{terms}
 use Rattle.c_phrases.specs.Shapes.{exp_list}
-use Rattle.c_typed_expressions.specs.Expressions.{unfit}
+use Rattle.c_typed_expressions.specs.Calls.{unfit}
 use Rattle.c_typed_expressions.proofs.phrase.unfit.Given as goal
 
 -- what is left decides

@@ -1,7 +1,8 @@
 use Rattle.cmd_session.specs.Reading.{intake}
 use Rattle.cmd_session.specs.Writing.{change}
 use Rattle.cmd_files.specs.Outsides.{lookup, outside}
-use Rattle.cmd_files.specs.Outcome.{Leaves, call_of}
+use Rattle.cmd_files.specs.Outcome.{Leaves}
+use Rattle.cmd_files.specs.Calls.{call_of}
 use Rattle.cmd_files.specs.Exact.{IsExact}
 use Rattle.cmd_meaning.specs.Sources.{source_form, source_runner}
 use Rattle.cmd_run.specs.Texts.{text_form, code_runner}

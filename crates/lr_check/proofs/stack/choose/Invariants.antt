@@ -1,5 +1,5 @@
 use Rattle.std.proofs.Common.{◌≡◌, drop}
-use Rattle.lr_check.specs.Steps.{chosen}
+use Rattle.lr_check.specs.Questions.{chosen}
 use Rattle.lr_check.proofs.stack.choose.Given as goal
 
 abbrev pub invariant-loop-choice : goal.invariant-loop-choice

@@ -1,6 +1,6 @@
 use Rattle.std.proofs.Common.{◌≡◌, length}
 use Rattle.md_reader_text.specs.Lines.{lines}
-use Rattle.md_reader.specs.Forms.{register_behind}
+use Rattle.md_reader.specs.RuleForms.{register_behind}
 use Rattle.md_reader.proofs.forms.register_behind.Given as goal
 
 abbrev pub invariant-loop-line : goal.invariant-loop-line

@@ -2,7 +2,7 @@ use Rattle.std.proofs.Common.{◌≡◌, map, drop}
 use Rattle.std.specs.List.{list_all}
 use Rattle.term_core.specs.Shape.{shape_of}
 use Rattle.sel_terms.specs.Effects.{effect_of}
-use Rattle.vax_templates.specs.Found.{effect_contains}
+use Rattle.vax_templates.specs.Dropped.{effect_contains}
 use Rattle.vax_target.proofs.found.all_stand.Given as goal
 
 abbrev pub invariant-loop-t : goal.invariant-loop-t

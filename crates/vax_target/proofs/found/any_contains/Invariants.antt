@@ -1,7 +1,7 @@
 use Rattle.std.proofs.Common.{◌≡◌, map, drop}
 use Rattle.std.specs.List.{list_any}
 use Rattle.term_core.specs.Shape.{shape_of}
-use Rattle.vax_templates.specs.Found.{contains}
+use Rattle.vax_templates.specs.Dropped.{contains}
 use Rattle.vax_target.proofs.found.any_contains.Given as goal
 
 abbrev pub invariant-loop-t : goal.invariant-loop-t

@@ -1,6 +1,6 @@
 use Rattle.std.proofs.Common.{◌≡◌, map, drop}
 use Rattle.sel_terms.specs.Effects.{effect_of}
-use Rattle.vax_templates.specs.Found.{first_dropped}
+use Rattle.vax_templates.specs.Dropped.{first_dropped}
 use Rattle.vax_target.specs.Views.{reads_of}
 use Rattle.vax_target.proofs.found.first_dropped.Given as goal
 

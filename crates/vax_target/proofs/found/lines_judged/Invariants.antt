@@ -1,5 +1,5 @@
 use Rattle.std.proofs.Common.{◌≡◌, drop, true}
-use Rattle.vax_templates.specs.Found.{start, lines_judged}
+use Rattle.vax_templates.specs.Progress.{start, lines_judged}
 use Rattle.vax_target.specs.Views.{progress_of}
 use Rattle.vax_target.proofs.found.lines_judged.Given as goal
 
