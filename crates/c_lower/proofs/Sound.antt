@@ -14,7 +14,7 @@ use Rattle.c_typed_check.specs.declared.program.Program.{Program}
 use Rattle.c_sound.specs.Labels.{AreLabelled}
 use Rattle.c_sound.specs.Sound.{IsSound}
 use Rattle.c_lower_scheme.specs.Programs.{body_of, lower_all, lowered}
-use Rattle.c_sound_texts.proofs.Whole.{typed_is_sound}
+use Rattle.c_sound_texts.proofs.Law.{typed_is_sound}
 
 pub sound : (s : Program) → ∥ IsSound (program s.held) ∥₁
 sound s = ∥∥₁_map s.is_typed (λ t. typed_is_sound (program s.held) t.unit t.tokens t.typed)

@@ -5,4 +5,4 @@ pub mod Places
 pub mod Calls
 pub mod Phrases
 pub mod Statements
-pub mod Whole
+pub mod Law

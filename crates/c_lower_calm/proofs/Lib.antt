@@ -4,7 +4,7 @@ pub mod Parts
 pub mod Places
 pub mod Phrases
 pub mod Statements
-pub mod Whole
+pub mod Law
 pub mod Backs
 pub mod Plain
 pub mod Standing

@@ -4,7 +4,7 @@
 ghost use Rattle.c_lower_calm.specs.Claim.{EachTreeIsCalm, PlainIsOneTree, PlainStatementsAreOneTree};
 
 /// The law: the trees that a program is lowered to are calm. It does nothing.
-#[tactic(auto, using(crate::proofs::Whole::each_tree_is_calm))]
+#[tactic(auto, using(crate::proofs::Law::each_tree_is_calm))]
 pub fn each_tree_is_calm()
     ensures { EachTreeIsCalm }
 {}

@@ -5,4 +5,4 @@ pub mod Labels
 pub mod Operators
 pub mod Phrases
 pub mod Statements
-pub mod Programs
+pub mod Law

@@ -17,4 +17,4 @@ pub mod Waiting
 pub mod Statements
 pub mod Functions
 pub mod Labels
-pub mod Whole
+pub mod Law

@@ -4,7 +4,7 @@
 ghost use Rattle.c_lower_follows.specs.Claim.{LoweringFollows};
 
 /// The law: the trees of a program that typing accepts follow it. It does nothing.
-#[tactic(auto, using(crate::proofs::Whole::lowering_follows))]
+#[tactic(auto, using(crate::proofs::Law::lowering_follows))]
 pub fn lowering_follows()
     ensures { LoweringFollows }
 {}

@@ -6,4 +6,4 @@ pub mod Objects
 pub mod Adding
 pub mod Values
 pub mod Units
-pub mod Programs
+pub mod Law

@@ -4,7 +4,7 @@
 ghost use Rattle.c_lower_scheme.specs.Examples.{Examples};
 
 /// The law: what some phrases are lowered to. It does nothing.
-#[tactic(auto, using(crate::proofs::Worked::worked))]
+#[tactic(auto, using(crate::proofs::Law::worked))]
 pub fn phrases_lower()
     ensures { Examples }
 {}

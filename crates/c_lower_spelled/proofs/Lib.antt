@@ -3,7 +3,7 @@ pub mod Parts
 pub mod Places
 pub mod Phrases
 pub mod Statements
-pub mod Whole
+pub mod Law
 pub mod Names
 pub mod Sources
 pub mod Locals

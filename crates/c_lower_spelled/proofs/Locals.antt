@@ -4,7 +4,7 @@ use Rattle.std.specs.Prelude.{slice_get}
 use Rattle.tree_core.specs.declared.program.TreeFn.{TreeFn}
 use Rattle.c_program.specs.Programs.{ARoutine}
 use Rattle.c_lower_scheme.specs.Programs.{body_of, lower_all}
-use Rattle.c_lower_bounds.proofs.Whole.{each_function_fits}
+use Rattle.c_lower_bounds.proofs.Law.{each_function_fits}
 use Rattle.c_lower_spelled.specs.Claims.{LocalsAreFew}
 
 -- a function of the trees has one of the program at its number

@@ -11,4 +11,4 @@ pub mod Labels
 pub mod Loops
 pub mod Spelled
 pub mod Naming
-pub mod Whole
+pub mod Law

@@ -19,7 +19,7 @@ use Rattle.c_meaning.specs.Programs.{means, at_first, finished, main_of, source}
 use Rattle.c_meaning.specs.Calls.{begun}
 use Rattle.c_meaning.specs.Pending.{with_flow, stack, bottom, to_come}
 use Rattle.c_meaning.specs.Parts.{state}
-use Rattle.c_meaning.proofs.Related.{means_is}
+use Rattle.c_meaning.proofs.Law.{means_is}
 
 pub begins : (typed : Bor Program) (input : Bor (List ℕ)) (g : Routine) (b : Bor (List Action)) (frames : Vec Frame) (store : Store) (locals area : List ℕ)
     → slice_get (program typed.now).routines typed.now.main ≡ Some (routine g) → b.now ≡ g.body.items → frames.items ≡ [] → state store

@@ -10,7 +10,7 @@ use Rattle.c_program.specs.Programs.{ARoutine, AProgram}
 use Rattle.c_meaning.specs.Values.{Body}
 use Rattle.c_meaning.specs.Calls.{answer, begun}
 use Rattle.c_meaning.specs.Programs.{finished, at_first, main_of, source}
-use Rattle.c_meaning.proofs.Related.{IsStop, Kept, Same, means_kept}
+use Rattle.c_meaning.proofs.Law.{IsStop, Kept, Same, means_kept}
 
 not_spent : (e : End) → IsStop e → e ≡ Spent → ⊥
 not_spent (Ended v) h is = cc

@@ -1,4 +1,4 @@
-pub mod Related
+pub mod Law
 pub mod Ends
 pub mod Rows
 pub mod Steps

@@ -39,7 +39,7 @@ use Rattle.c_meaning.specs.Values.{Rest, RestAll, Look, Body, chosen}
 use Rattle.c_meaning.specs.Meaning.{dropped, look_at, turn_at, arguments, expr, stmts}
 use Rattle.c_meaning.specs.Programs.{means}
 use Rattle.c_meaning.specs.Calls.{passed, call, called, back, begun}
-use Rattle.c_meaning.proofs.Related.{means_is}
+use Rattle.c_meaning.proofs.Law.{means_is}
 use Rattle.c_meaning.specs.Pending.{with_value, with_flow, end_of, Signal, Valued, Leaves, Then, waits, to_come}
 use Rattle.c_meaning.specs.Pending.{stack, bottom, before, going}
 use Rattle.c_meaning.specs.Parts.{loop_of, maybe_bor, state}

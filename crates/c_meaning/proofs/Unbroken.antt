@@ -9,7 +9,7 @@ use Rattle.c_program.specs.Programs.{ARoutine, AProgram}
 use Rattle.c_meaning.specs.Values.{Body}
 use Rattle.c_meaning.specs.Calls.{answer, begun}
 use Rattle.c_meaning.specs.Programs.{finished, at_first, main_of, source}
-use Rattle.c_meaning.proofs.Related.{IsStop, Kept, Same, means_kept}
+use Rattle.c_meaning.proofs.Law.{IsStop, Kept, Same, means_kept}
 
 -- with fewer than k counted turns and calls the run does not break
 abbrev Whole : ℕ → Runs → Runs → Type 0

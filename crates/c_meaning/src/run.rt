@@ -110,7 +110,7 @@ impl<'a> SourceRun<'a> {
 }
 
 /// The law of what counted turns and calls begin: it means what it is made of. It does nothing.
-#[tactic(auto, using(crate::proofs::Related::means_is))]
+#[tactic(auto, using(crate::proofs::Law::means_is))]
 pub fn tasks_mean()
     ensures { (p : AProgram) (t : Task) (κ : Behind) (st : State) → means p t κ st ≡ task p (means p) t κ st }
 {}

@@ -28,7 +28,7 @@ use Rattle.c_sound_bodies.proofs.Names.{scope_more, known_more}
 use Rattle.c_sound_bodies.proofs.Growth.{Laying, exp_lays}
 use Rattle.c_sound_bodies.proofs.Locals.{local_sound, locals_sound}
 use Rattle.c_sound_bodies.proofs.Parts.{order_entered}
-use Rattle.c_sound_bodies.proofs.Statements.{condition_sound, part_sound, turn_sound, statement_sound}
+use Rattle.c_sound_bodies.proofs.Law.{condition_sound, part_sound, turn_sound, statement_sound}
 
 -- whichever local
 abbrev pub any_local : ℕ → Type 0

@@ -8,7 +8,7 @@ pub mod Closures
 pub mod Objects
 pub mod Locals
 pub mod Parts
-pub mod Statements
+pub mod Law
 pub mod Areas
 pub mod Lengths
 pub mod Adding

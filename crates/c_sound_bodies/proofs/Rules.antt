@@ -33,7 +33,7 @@ use Rattle.c_typed_operators.specs.Stores.{store, arithmetic_store, plus_store_a
 use Rattle.c_typed_operators.specs.Stores.{minus_store, store_by, assign_of}
 use Rattle.c_typed_operators.specs.Table.{IsSum, SumOfIntegers, PointerPlus, PlusPointer, IsDifference, DifferenceOfIntegers, PointerMinus, DifferenceOfPointers, IsOrdered}
 use Rattle.c_typed_operators.specs.Table.{OrderOfIntegers, OrderOfPointers, IsBinary}
-use Rattle.c_typed_operators.proofs.Rows.{binary_means}
+use Rattle.c_typed_operators.proofs.Law.{binary_means}
 use Rattle.c_sound_bodies.proofs.Terms.{Closed}
 
 abbrev typed : AnExpression → Result AnExpression Fault

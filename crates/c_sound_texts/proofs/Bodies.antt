@@ -35,7 +35,7 @@ use Rattle.c_sound_bodies.proofs.Names.{scope_more, scope_named, scope_entered, 
 use Rattle.c_sound_bodies.proofs.Growth.{extends_same, extends_further}
 use Rattle.c_sound_bodies.proofs.Objects.{length_extends, objects_are_sound}
 use Rattle.c_sound_bodies.proofs.Locals.{grows_same, grows_further, grows_area, order_more}
-use Rattle.c_sound_bodies.proofs.Statements.{bodies_are_sound}
+use Rattle.c_sound_bodies.proofs.Law.{bodies_are_sound}
 use Rattle.c_sound_texts.proofs.Functions.{appended}
 
 -- a typed function, where there are so many objects

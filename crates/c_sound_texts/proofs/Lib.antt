@@ -11,4 +11,4 @@ pub mod Bodies
 pub mod Labels
 pub mod Named
 pub mod Labelled
-pub mod Whole
+pub mod Law

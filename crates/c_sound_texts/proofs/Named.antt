@@ -42,7 +42,7 @@ use Rattle.c_sound_bodies.proofs.Objects.{IsVariable, Declares, object_declares}
 use Rattle.c_sound_texts.proofs.Labels.{Each, Differ, each_weaker, each_joined, differ_joined, labels, IsNew, OfStatic, OfLiteral, HasFew, Numbers, numbers_same, numbers_further}
 use Rattle.c_sound_texts.proofs.Labels.{numbering, new_more, new_apart, heads, tails, LaidFor, Declared, object_declared, static_numbers, labels_joined}
 use Rattle.c_sound_texts.proofs.Functions.{appended, find_further}
-use Rattle.c_sound_bodies.proofs.Statements.{bodies_are_sound}
+use Rattle.c_sound_bodies.proofs.Law.{bodies_are_sound}
 use Rattle.c_sound_texts.proofs.Bodies.{TextIsSound, function_begins, Parametered, parameters_order, declared_sound, external_sound}
 
 -- where nothing is laid

@@ -8,4 +8,4 @@ pub mod StringLaws
 pub mod PieceLaws
 pub mod AgainLaws
 pub mod TextLaws
-pub mod Ended
+pub mod Law

@@ -4,7 +4,7 @@ ghost use Rattle.c_tokens.specs.declared.token.Spanned.{Spanned};
 ghost use Rattle.c_tokens.specs.Grammar.{Tokens, IsEnded};
 
 /// The last token of a text is its end. It does nothing.
-#[tactic(auto, using(crate::proofs::Ended::tokens_ended))]
+#[tactic(auto, using(crate::proofs::Law::tokens_ended))]
 pub fn tokens_are_ended()
     ensures { (at : ℕ) (text : List ℕ) (ts : List Spanned) → Tokens at text ts → IsEnded ts }
 {}

@@ -42,7 +42,7 @@ use Rattle.c_typed_definition.specs.Texts.{type_parameter, parameter_length, typ
 use Rattle.c_typed_definition.specs.Texts.{type_introduced, type_function, type_globals, type_declared}
 use Rattle.c_typed_definition.specs.Texts.{type_externals, whole_by, main_of, empty_text, type_text}
 use Rattle.c_typed_check.specs.Laid.{LiesBehind, LieFrom, AreLaid}
-use Rattle.c_typed_law.proofs.Texts.{text_means}
+use Rattle.c_typed_law.proofs.Law.{text_means}
 use Rattle.c_typed_check.specs.Typed.{IsTypedUnit}
 
 -- one more behind the others

@@ -21,7 +21,7 @@ use Rattle.c_typed_definition.specs.Signatures.{signature_of, known}
 use Rattle.c_typed_definition.specs.Texts.{type_parameters, type_globals, type_body, type_introduced, type_function}
 use Rattle.c_typed_definition.specs.Texts.{type_declared, type_external, type_externals, main_of, whole_by, type_text}
 use Rattle.c_typed_definition.specs.Texts.{empty_text}
-use Rattle.c_typed_law.proofs.Texts.{text_means}
+use Rattle.c_typed_law.proofs.Law.{text_means}
 use Rattle.c_typed_check.specs.Typed.{IsTypedUnit, need_in, need_at}
 
 pub record KeepsNeed (r : ARoutine) : Type 0 where

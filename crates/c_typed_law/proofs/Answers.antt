@@ -9,7 +9,7 @@ use Rattle.c_phrases.specs.Units.{AnExternal}
 use Rattle.c_program.specs.Programs.{AProgram}
 use Rattle.c_typed_definition.specs.Texts.{type_text}
 use Rattle.c_typed_law.specs.Texts.{IsText, TextFault}
-use Rattle.c_typed_law.proofs.Texts.{text_means}
+use Rattle.c_typed_law.proofs.Law.{text_means}
 
 means_found : {X A : Type 0} (view : X → A) (r : Result X TypeFault) (m : Result A Fault) (R : A → Type 0) (F : Fault → Type 0) → Means m R F → Gives view r m → IfOk r (λ x. R (view x))
 means_found view (Ok x) m R F h given = h.found (view x) given

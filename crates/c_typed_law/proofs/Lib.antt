@@ -2,5 +2,5 @@ pub mod Combined
 pub mod Values
 pub mod Objects
 pub mod Statements
-pub mod Texts
+pub mod Law
 pub mod Answers

@@ -22,7 +22,7 @@ use Rattle.c_phrases.specs.Units.{AnInit, value, elements, ADeclarator}
 use Rattle.c_program.specs.Statements.{ADeclaration, KeepOf, ClearOf, BeginOf}
 use Rattle.c_typed_expressions.specs.Phrases.{first, init_in, brackets_in}
 use Rattle.c_typed_expressions.specs.Expressions.{written}
-use Rattle.c_typed_expressions.proofs.Relations.{means_then, means_ok, means_is, exp_means}
+use Rattle.c_typed_expressions.proofs.Law.{means_then, means_ok, means_is, exp_means}
 use Rattle.c_typed_definition.specs.Forms.{text_of, form_fits, given_count, own_length, form_of, automatic_by, automatic_form, many}
 use Rattle.c_typed_definition.specs.State.{State, with_area, measuring, variable_of, array_entry, laid, text_contents}
 use Rattle.c_typed_definition.specs.State.{with_local}

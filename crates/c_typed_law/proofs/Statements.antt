@@ -14,7 +14,7 @@ use Rattle.c_phrases.specs.Units.{continue_on, give_back, if_then, if_else, whil
 use Rattle.c_phrases.specs.Units.{no_items}
 use Rattle.c_program.specs.Statements.{AnAction, NoActions, MoreActions, DeclareOf, BlockOf, EvaluateOf, BreakOf, ContinueOf, ReturnOf, IfOf, IfElseOf, WhileOf, DoOf, ForOf}
 use Rattle.c_typed_expressions.specs.Phrases.{first}
-use Rattle.c_typed_expressions.proofs.Relations.{means_then, means_ok, exp_means}
+use Rattle.c_typed_expressions.proofs.Law.{means_then, means_ok, exp_means}
 use Rattle.c_typed_definition.specs.State.{State, with_area}
 use Rattle.c_typed_definition.specs.Statements.{entered, left, jump, type_full, type_condition, type_maybe, type_maybe_condition, type_return, type_statement, type_items}
 use Rattle.c_typed_law.specs.Tests.{With, Lacking, Never}

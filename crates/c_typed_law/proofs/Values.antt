@@ -17,7 +17,7 @@ use Rattle.c_typed_scope.specs.Layout.{Area}
 use Rattle.c_typed_scope.specs.Contents.{length_of, linked, Filled, with_value, with_link, integer_element, linked_element, element_of}
 use Rattle.c_phrases.specs.Phrases.{AnExp, SomeExps, no_exps, exps}
 use Rattle.c_typed_expressions.specs.Phrases.{first}
-use Rattle.c_typed_expressions.proofs.Relations.{means_then, means_ok, exp_means}
+use Rattle.c_typed_expressions.proofs.Law.{means_then, means_ok, exp_means}
 use Rattle.c_typed_definition.specs.Initialisers.{type_length, type_element, type_elements}
 use Rattle.c_typed_law.specs.Values.{IsIntegerValue, IntegerFault, IsAddressValue, AddressFault, IsPointerValue, Null, Address, PointerFault, IsWritten, WrittenFault, IsLength}
 use Rattle.c_typed_law.specs.Values.{LengthFault, IsElement, ElementFault, AreElements, ElementsFault}

@@ -1,4 +1,4 @@
 //! What declarations, statements and texts of C are typed as, and which fault is their first.
 #![tactic(auto)]
 
-pub mod law;
+pub mod laws;

@@ -1,3 +1,3 @@
-pub mod Followers
+pub mod Law
 pub mod Turns
 pub mod Counting

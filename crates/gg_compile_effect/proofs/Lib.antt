@@ -1,4 +1,4 @@
 pub mod Trees
 pub mod Naming
 pub mod Courses
-pub mod Effect
+pub mod Law

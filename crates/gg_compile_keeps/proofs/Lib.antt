@@ -2,4 +2,4 @@ pub mod Leaves
 pub mod Trees
 pub mod Functions
 pub mod Names
-pub mod Keeping
+pub mod Law

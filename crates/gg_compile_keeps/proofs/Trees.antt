@@ -17,18 +17,18 @@ use Rattle.sel_parse_desk.specs.Selected as desk
 use Rattle.sel_parse_selected.specs.Selected.{Selected}
 use Rattle.sel_parse_effect.specs.Claims.{IsFit}
 use Rattle.sel_parse_lines.proofs.Words.{selections_use_few_words}
-use Rattle.sel_parse_joined.proofs.Parsing.{same_code}
+use Rattle.sel_parse_joined.proofs.Law.{same_code}
 use Rattle.vax_core.specs.declared.code.Instr.{Instr}
 use Rattle.vax_core.specs.declared.code.CodeItem.{CodeItem}
 use Rattle.vax_target_meaning.specs.Vax.{vax}
-use Rattle.vax_target_laws.proofs.Lawful.{vax_is_lawful}
+use Rattle.vax_target_laws.proofs.Law.{vax_is_lawful}
 use Rattle.gg_compile_law.specs.Effects.{HasEffect}
 use Rattle.gg_compile_law.specs.Assembled.{IsTreeCode}
 use Rattle.gg_compile_law.specs.Assembled as assembled
 use Rattle.gg_compile_law.proofs.Validity.{all_at, IsIn}
 use Rattle.gg_compile_effect.specs.Claims.{IsTreeOf}
 use Rattle.gg_compile_effect.proofs.Trees.{root_is}
-use Rattle.gg_compile_effect.proofs.Effect.{all_taken, selected_trees_have_effect}
+use Rattle.gg_compile_effect.proofs.Law.{all_taken, selected_trees_have_effect}
 use Rattle.gg_compile_code.specs.Selecting.{AreSelected, nothing, label, tree}
 use Rattle.gg_compile_keeps.specs.Programs.{IsSelectable}
 use Rattle.gg_compile_keeps.proofs.Leaves.{tree_own}

@@ -34,7 +34,7 @@ use Rattle.vax_machine.specs.Running.{run}
 use Rattle.tree_meaning.specs.Meaning.{main_of, tree_run}
 use Rattle.vax_frames_law.proofs.Labelling.{first_place}
 use Rattle.vax_frames_law.proofs.Masks.{mask_is}
-use Rattle.tree_meaning.proofs.Ending.{tree_run_unbroken}
+use Rattle.tree_meaning.proofs.Law.{tree_run_unbroken}
 use Rattle.gg_compile_law.proofs.Starting.{found, compiled_follow}
 
 -- ---- items in a list

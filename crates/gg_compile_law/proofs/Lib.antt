@@ -15,4 +15,4 @@ pub mod Demo
 pub mod Spelling
 pub mod Names
 pub mod Loaded
-pub mod Written
+pub mod Law

@@ -15,14 +15,14 @@ use Rattle.vax_machine.specs.Labels.{main_name, label_place}
 use Rattle.vax_machine.specs.Calls.{called}
 use Rattle.vax_machine.specs.Loading.{blank, begun as loaded, start}
 use Rattle.vax_machine.specs.Running.{state_run, run as code_run}
-use Rattle.vax_machine.proofs.Ends.{run_has_one_end}
+use Rattle.vax_machine.proofs.Law.{run_has_one_end}
 use Rattle.tree_core.specs.declared.program.TreeFn.{TreeFn}
 use Rattle.tree_core.specs.declared.program.TreeProgram.{TreeProgram}
 use Rattle.tree_core.specs.Area.{opening}
 use Rattle.tree_meaning.specs.State.{begun, arrived}
 use Rattle.tree_meaning.specs.State.{State as Trees}
 use Rattle.tree_meaning.specs.Meaning.{run, runs, main_at, tree_run}
-use Rattle.tree_meaning.proofs.Ending.{tree_run_unbroken}
+use Rattle.tree_meaning.proofs.Law.{tree_run_unbroken}
 use Rattle.vax_states.specs.Stack.{nobody}
 use Rattle.vax_machine_lists.specs.Sound.{AllBelow, IsSound}
 use Rattle.vax_frames.specs.Frames.{function_label}

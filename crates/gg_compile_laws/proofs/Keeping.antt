@@ -6,11 +6,11 @@ use Rattle.c_sound.specs.Labels.{AreLabelled}
 use Rattle.c_sound.specs.Sound.{IsSound}
 use Rattle.c_meaning.specs.Programs.{source}
 use Rattle.c_lower_scheme.specs.Programs.{body_of, lower_all, lowered}
-use Rattle.c_lower_follows.proofs.Whole.{lowering_follows}
-use Rattle.c_lower_valid.proofs.Whole.{lowered_is_valid}
-use Rattle.c_lower_calm.proofs.Whole.{each_tree_is_calm}
+use Rattle.c_lower_follows.proofs.Law.{lowering_follows}
+use Rattle.c_lower_valid.proofs.Law.{lowered_is_valid}
+use Rattle.c_lower_calm.proofs.Law.{each_tree_is_calm}
 use Rattle.gg_compile_keeps.specs.Programs.{IsSelectable}
-use Rattle.gg_compile_keeps.proofs.Keeping.{selected_codes_keep_trees}
+use Rattle.gg_compile_keeps.proofs.Law.{selected_codes_keep_trees}
 use Rattle.gg_compile_laws.specs.Keeping.{IsWithinLimits, SelectedCodesKeepPrograms}
 use Rattle.gg_compile_laws.proofs.Objects.{all_below, hold_numbers, are_apart, objects_named}
 

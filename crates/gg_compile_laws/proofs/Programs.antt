@@ -6,9 +6,9 @@ use Rattle.std.proofs.lemmas.Bool.{and_from}
 use Rattle.tree_core.specs.declared.program.Object.{Object}
 use Rattle.c_program.specs.Programs.{AProgram}
 use Rattle.c_sound.specs.Sound.{IsSound}
-use Rattle.c_sound_texts.proofs.Whole.{typed_is_sound}
+use Rattle.c_sound_texts.proofs.Law.{typed_is_sound}
 use Rattle.c_lower_scheme.specs.Programs.{lowered}
-use Rattle.c_lower_valid.proofs.Whole.{lowered_is_valid}
+use Rattle.c_lower_valid.proofs.Law.{lowered_is_valid}
 use Rattle.vax_core.specs.declared.code.AreaItem.{AreaItem}
 use Rattle.vax_core.specs.Valid.{is_area_item, is_code_item}
 use Rattle.vax_machine_lists.specs.Sound.{AllBelow}

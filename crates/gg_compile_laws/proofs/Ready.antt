@@ -18,7 +18,7 @@ use Rattle.sel_parse_effect.specs.Claims.{IsFit}
 use Rattle.sel_parse_law.specs.Claims.{IsReady, HasCode}
 use Rattle.sel_parse_law.proofs.Law.{has_room, never_blocks, trees_have_code}
 use Rattle.vax_target_meaning.specs.Vax.{vax}
-use Rattle.vax_target_laws.proofs.Lawful.{vax_is_lawful}
+use Rattle.vax_target_laws.proofs.Law.{vax_is_lawful}
 use Rattle.gg_compile_law.proofs.Validity.{all_at}
 use Rattle.gg_compile_keeps.proofs.Leaves.{root_is, tree_own}
 use Rattle.gg_compile_laws.specs.Ready.{HasReadyTrees, EachTreeHasCode}

@@ -1,6 +1,6 @@
 -- The trees of a typed program are ready.
-use Rattle.c_sound_texts.proofs.Whole.{typed_is_sound}
-use Rattle.c_lower_valid.proofs.Whole.{lowered_is_valid}
+use Rattle.c_sound_texts.proofs.Law.{typed_is_sound}
+use Rattle.c_lower_valid.proofs.Law.{lowered_is_valid}
 use Rattle.gg_compile_laws.proofs.Objects.{objects_named}
 use Rattle.gg_compile_laws.proofs.Rooms.{lowered_programs_have_rooms}
 use Rattle.gg_compile_laws.specs.Typed.{TypedProgramsAreReady}

@@ -1,3 +1,3 @@
 pub mod Fitting
 pub mod Spelling
-pub mod Units
+pub mod Law

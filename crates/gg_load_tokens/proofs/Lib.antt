@@ -2,4 +2,4 @@ pub mod Digits
 pub mod Pieces
 pub mod Reading
 pub mod Lines
-pub mod Texts
+pub mod Law

@@ -6,7 +6,7 @@ ghost use Rattle.c_typed_law.specs.Texts.{IsText};
 ghost use Rattle.gg_load_phrases.specs.Unit.{source_unit};
 ghost use Rattle.gg_load_program.specs.Program.{source_program};
 
-use c_typed_law::law::text_law;
+use c_typed_law::laws::text_law;
 
 /// The unit of a generated source is typed as this program.
 pub fn generated_unit_is_typed()

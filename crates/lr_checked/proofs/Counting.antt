@@ -29,7 +29,7 @@ use Rattle.lr_check.specs.Tree.{Token}
 use Rattle.lr_check.specs.Parse as parse
 use Rattle.lr_check.specs.Parse.{Part, symbols, coming, asked, Takes, nothing, unrestricted, answered_yes, answered_no, Reduction, Ends}
 use Rattle.lr_check.proofs.Only.{reductions_same, not_shifted}
-use Rattle.lr_check_law.proofs.Accepting.{toks, symbols-used, coming-is, is_first, asks_more, head_same, tail_same}
+use Rattle.lr_check_law.proofs.Law.{toks, symbols-used, coming-is, is_first, asks_more, head_same, tail_same}
 use Rattle.lr_checked.specs.Accepted.{moves}
 
 module _ (rules : List Rule) where

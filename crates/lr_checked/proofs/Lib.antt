@@ -1,6 +1,6 @@
 pub mod Trees
 pub mod Counting
-pub mod Never
+pub mod Law
 pub mod Printing
 pub mod Tables
 pub mod Typed

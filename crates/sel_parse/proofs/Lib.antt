@@ -4,4 +4,4 @@ pub mod Telling
 pub mod States
 pub mod Placing
 pub mod Going
-pub mod Excluding
+pub mod Law

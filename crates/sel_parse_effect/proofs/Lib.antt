@@ -7,4 +7,4 @@ pub mod Gives
 pub mod Doing
 pub mod Growing
 pub mod Interpreting
-pub mod Final
+pub mod Law

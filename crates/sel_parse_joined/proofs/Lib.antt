@@ -2,4 +2,4 @@ pub mod Turning
 pub mod Holding
 pub mod Spilling
 pub mod Reducing
-pub mod Parsing
+pub mod Law

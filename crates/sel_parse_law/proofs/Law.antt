@@ -36,14 +36,14 @@ use Rattle.sel_parse_stands.specs.Stands as stands
 use Rattle.sel_parse_stands.specs.Stands.{NamedBy, Names, Sees, IsFrame}
 use Rattle.sel_parse_stands.proofs.Symbols.{symbol_fits}
 use Rattle.sel_parse_effect.specs.Claims.{frame_sight, IsFit, Begins}
-use Rattle.sel_parse_effect.proofs.Final as effect
+use Rattle.sel_parse_effect.proofs.Law as effect
 use Rattle.sel_parse_slots.specs.Claims.{IsOwn, IsTaken}
-use Rattle.sel_parse_slots.proofs.Iterating as slots
-use Rattle.sel_parse_ends.proofs.Ends as ends
+use Rattle.sel_parse_slots.proofs.Law as slots
+use Rattle.sel_parse_ends.proofs.Law as ends
 use Rattle.sel_parse_registers.specs.Claims.{HasRegisters}
-use Rattle.sel_parse_registers.proofs.Never.{never_lacks}
+use Rattle.sel_parse_registers.proofs.Law.{never_lacks}
 use Rattle.sel_parse_joined.specs.Claims.{IsSelectable}
-use Rattle.sel_parse_joined.proofs.Parsing.{same_code, same_full, whole, ending}
+use Rattle.sel_parse_joined.proofs.Law.{same_code, same_full, whole, ending}
 use Rattle.sel_parse_desk.specs.Selected as desk
 use Rattle.sel_parse_desk.specs.Selected.{tree_of}
 use Rattle.sel_parse_law.specs.Claims.{EndsTree, CodeHasEffect, IsReady, UsesFewSlots, HasRoom, NeverBlocks, HasCode, TreesHaveCode}

@@ -10,7 +10,7 @@ use Rattle.tree_core.specs.Grammar.{kids}
 use Rattle.tree_core.specs.Attributes.{end_leaf}
 use Rattle.tree_core.specs.Trees.{Forest, none, tree, leaves_onto, Typed, IsTyped, grown}
 use Rattle.tree_core.specs.Calm.{CalmBefore}
-use Rattle.tree_core.proofs.Growing.{grows_back}
+use Rattle.tree_core.proofs.Law.{grows_back}
 use Rattle.tree_meaning.specs.Values.{Sight, meanings}
 use Rattle.md_reader.specs.declared.types.Class.{Class}
 use Rattle.md_reader.specs.declared.types.Rule.{Rule}

@@ -1,4 +1,4 @@
 pub mod Pools
 pub mod Owning
 pub mod Serving
-pub mod Never
+pub mod Law

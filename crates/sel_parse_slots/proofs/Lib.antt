@@ -3,4 +3,4 @@ pub mod Fine
 pub mod Counting
 pub mod Finishing
 pub mod Prefixes
-pub mod Iterating
+pub mod Law

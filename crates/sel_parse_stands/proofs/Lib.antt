@@ -6,4 +6,4 @@ pub mod Keeping
 pub mod Parting
 pub mod Saving
 pub mod Desks
-pub mod Laws
+pub mod Law

@@ -2,4 +2,4 @@ pub mod Rights
 pub mod Classes
 pub mod Spilling
 pub mod Reducing
-pub mod Iterating
+pub mod Law

@@ -3,4 +3,4 @@ pub mod Tokens
 pub mod Patterns
 pub mod Rules
 pub mod Statements
-pub mod Laws
+pub mod Law

@@ -121,7 +121,7 @@ impl Templates for Toy {
 }
 
 impl Target for Toy {
-    ghost use Rattle.sel_toy_machine.proofs.Lawful.{toy_is_lawful};
+    ghost use Rattle.sel_toy_machine.proofs.Law.{toy_is_lawful};
 
     ghost lawful = { toy_is_lawful };
 }

@@ -1,7 +1,7 @@
 -- Endings of names: _by goes by the cases of a part that it is given. See docs/READING.md.
 pub mod InOrder
 pub mod Kept
-pub mod Lawful
+pub mod Law
 pub mod Readings
 pub mod Results
 pub mod Sample

@@ -7,6 +7,6 @@ pub mod Lists_of_labels
 pub mod Elements
 pub mod Lists_of_links
 pub mod Validity
-pub mod Growing
+pub mod Law
 pub mod Apart
 pub mod Naming

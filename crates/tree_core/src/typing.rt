@@ -115,7 +115,7 @@ impl Wanted {
 
 /// The law of trees and their leaves: leaves of well-typed trees, read from the right, give those
 /// trees back. It does nothing.
-#[tactic(auto, using(crate::proofs::Growing::grows_back))]
+#[tactic(auto, using(crate::proofs::Law::grows_back))]
 pub fn trees_grow_back()
     ensures { GrowsBack }
 {}

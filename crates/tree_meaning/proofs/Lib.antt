@@ -1,4 +1,4 @@
 pub mod Frames
 pub mod Meanings
-pub mod Ending
+pub mod Law
 pub mod Advancing

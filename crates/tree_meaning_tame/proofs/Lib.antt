@@ -2,4 +2,4 @@ pub mod Strict
 pub mod Calm
 pub mod Sights
 pub mod Named
-pub mod Laws
+pub mod Law

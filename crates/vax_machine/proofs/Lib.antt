@@ -1,5 +1,5 @@
 -- Endings of names: _by goes by the cases of a part that it is given. See docs/READING.md.
-pub mod Ends
+pub mod Law
 pub mod Stepping
 pub mod Registers
 pub mod Places

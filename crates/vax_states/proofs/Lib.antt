@@ -2,4 +2,4 @@ pub mod Pieces
 pub mod Touching
 pub mod Keeping
 pub mod Standing
-pub mod Sentences
+pub mod Law

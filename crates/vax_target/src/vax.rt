@@ -116,7 +116,7 @@ impl Templates for Vax {
 }
 
 impl Target for Vax {
-    ghost use Rattle.vax_target_laws.proofs.Lawful.{vax_is_lawful};
+    ghost use Rattle.vax_target_laws.proofs.Law.{vax_is_lawful};
 
     ghost lawful = { vax_is_lawful };
 }

@@ -1,3 +1,3 @@
 pub mod Services
 pub mod Calling
-pub mod Whole
+pub mod Law

@@ -1,3 +1,3 @@
 -- Endings of names: _so a fact that its neighbours cite. See docs/READING.md.
 pub mod Idle
-pub mod Giving
+pub mod Law

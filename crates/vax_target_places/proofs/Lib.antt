@@ -1,3 +1,3 @@
 pub mod Homes
 pub mod Lines
-pub mod Places
+pub mod Law

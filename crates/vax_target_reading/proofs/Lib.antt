@@ -1,3 +1,3 @@
 pub mod Small
 pub mod Places
-pub mod Reading
+pub mod Law

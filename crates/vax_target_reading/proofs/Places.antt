@@ -24,7 +24,7 @@ use Rattle.vax_machine.specs.Memory.{read}
 use Rattle.vax_states.specs.Stack.{long_at, Extent, word_of, argument_of}
 use Rattle.vax_states.specs.Agreeing.{Agrees}
 use Rattle.vax_states.proofs.Keeping.{reg_small}
-use Rattle.vax_states.proofs.Sentences.{word_address}
+use Rattle.vax_states.proofs.Law.{word_address}
 use Rattle.vax_states.proofs.Standing.{high_top, word_read, local_read, argument_read, area_read_so}
 use Rattle.vax_templates.specs.Filled.{spare, word_operand, slot_operand}
 use Rattle.vax_target_meaning.specs.Reading.{is_own, is_own_base, is_own_place, number_of, number_at, named, names, at_place, reads}

@@ -31,7 +31,7 @@ use Rattle.vax_templates.specs.Deeds as deeds
 use Rattle.vax_templates.specs.Judging as judging
 use Rattle.vax_templates.specs.Progress.{Progress, judged, lines_judged}
 use Rattle.vax_target_operands.proofs.Binds.{err_ok, ok_same, Chained, chained, cond_ok}
-use Rattle.vax_target_runs.proofs.Runs.{IsJudged, judged_is}
+use Rattle.vax_target_runs.proofs.Law.{IsJudged, judged_is}
 
 abbrev IsFew : List Shape → Type 0
 IsFew ds = length ds ≤ 1

@@ -29,7 +29,7 @@ use Rattle.vax_templates.specs.GiveLines.{given_by, given_line}
 use Rattle.vax_templates.specs.Dropped.{contains, act_contains, effect_contains, first_dropped, none_dropped}
 use Rattle.vax_templates.specs.Found.{with_divisors, checked, ended, template_found, found}
 use Rattle.vax_target_operands.proofs.Binds.{err_ok, ok_same, Chained, chained}
-use Rattle.vax_target_runs.proofs.Runs.{at_line_is}
+use Rattle.vax_target_runs.proofs.Law.{at_line_is}
 
 -- how a template was judged
 pub record IsFound (s : Setting) (roles : List Hole) (k : Option Kind) (ls : List Line) (g : Give) (e : EffectShape) : Type 0 where

@@ -3,4 +3,4 @@ pub mod Instances
 pub mod Founds
 pub mod Results
 pub mod Counts
-pub mod Rules
+pub mod Law

@@ -53,7 +53,7 @@ use Rattle.vax_target_lines.proofs.Performing.{number_is}
 use Rattle.vax_target_runs.specs.Kept.{Differs}
 use Rattle.vax_target_runs.specs.Runs.{OwnChanged, ZeroChanged, Changed, SeesBehind, Reaches, EndsIn, ComesTo, RunsTo, IsApart, line_of, IsCalm}
 use Rattle.vax_target_runs.proofs.Kept.{registers_are_kept}
-use Rattle.vax_target_runs.proofs.Runs.{lines_run}
+use Rattle.vax_target_runs.proofs.Law.{lines_run}
 use Rattle.vax_target_rules.specs.Scene.{scene_of}
 use Rattle.vax_target_rules.proofs.Founds.{IsFound, rule_is, reads_safe, front_safe}
 use Rattle.vax_target_rules.proofs.Instances.{IsFilled, filled_at, mapped_at, role_is, filling_is, register_result, instance_seen}

@@ -1,3 +1,3 @@
 pub mod Kept
 pub mod Seen
-pub mod Runs
+pub mod Law

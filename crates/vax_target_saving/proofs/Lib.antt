@@ -8,4 +8,4 @@ pub mod Lines
 pub mod Saving
 pub mod Owned
 pub mod Reloading
-pub mod Whole
+pub mod Law

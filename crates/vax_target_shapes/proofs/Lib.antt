@@ -1,5 +1,5 @@
 -- Endings of names: _so a fact that its neighbours cite. See docs/READING.md.
 pub mod Naming
 pub mod Valued
-pub mod Shapes
+pub mod Law
 pub mod Homes

@@ -1,3 +1,3 @@
 pub mod Own
 pub mod Shapes
-pub mod Spelling
+pub mod Law

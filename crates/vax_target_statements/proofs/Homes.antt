@@ -39,7 +39,7 @@ use Rattle.vax_machine_lists.specs.Instructions.{Course}
 use Rattle.vax_states.specs.Stack.{word_of, argument_of}
 use Rattle.vax_states.proofs.Standing.{local_written, argument_written, high_top}
 use Rattle.vax_states.proofs.Keeping.{reg_small}
-use Rattle.vax_states.proofs.Sentences.{word_address}
+use Rattle.vax_states.proofs.Law.{word_address}
 use Rattle.vax_templates.specs.declared.setting.Own.TheVariants as own
 use Rattle.vax_templates.specs.Settings.{holes_of, setting_of, own_of, is_reuse}
 use Rattle.vax_templates.specs.GiveLines.{given_by}

@@ -5,4 +5,4 @@ pub mod Firsts
 pub mod Controls
 pub mod Saving
 pub mod Saves
-pub mod Stated
+pub mod Law

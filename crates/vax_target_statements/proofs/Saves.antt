@@ -40,7 +40,7 @@ use Rattle.vax_machine_lists.specs.Instructions.{Course}
 use Rattle.vax_states.specs.Stack.{word_of}
 use Rattle.vax_states.proofs.Standing.{local_written}
 use Rattle.vax_states.proofs.Keeping.{reg_small}
-use Rattle.vax_states.proofs.Sentences.{word_address}
+use Rattle.vax_states.proofs.Law.{word_address}
 use Rattle.vax_templates.specs.declared.setting.Hole.{Hole}
 use Rattle.vax_templates.specs.declared.setting.Hole.TheVariants as hole_kind
 use Rattle.vax_templates.specs.declared.setting.Setting.{Setting}

@@ -50,7 +50,7 @@ use Rattle.vax_templates.specs.Deeds as deeds
 use Rattle.vax_templates.specs.Judging as judging
 use Rattle.vax_templates.specs.Progress.{Progress, judged, lines_judged}
 use Rattle.vax_target_operands.proofs.Binds.{err_ok, ok_same, chained, cond_ok}
-use Rattle.vax_target_runs.proofs.Runs.{judged_is}
+use Rattle.vax_target_runs.proofs.Law.{judged_is}
 
 module _ (s : Setting) (roles : List Hole) (held : Option Shape) where
   -- the place of a saved result is that token's

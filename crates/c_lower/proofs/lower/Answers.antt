@@ -1,11 +1,11 @@
 use Rattle.std.proofs.Math.Logic.{∥∥₁_map}
 use Rattle.tree_core.specs.Valid.{IsValid}
 use Rattle.c_program.specs.Programs.{program}
-use Rattle.c_lower_follows.proofs.Whole.{lowering_follows}
-use Rattle.c_lower_valid.proofs.Whole.{lowered_is_valid}
-use Rattle.c_lower_bounds.proofs.Whole.{each_function_fits, functions_stay}
+use Rattle.c_lower_follows.proofs.Law.{lowering_follows}
+use Rattle.c_lower_valid.proofs.Law.{lowered_is_valid}
+use Rattle.c_lower_bounds.proofs.Law.{each_function_fits, functions_stay}
 use Rattle.c_lower_calm.specs.Claim.{TreesAreCalm, PlainStatementsStand}
-use Rattle.c_lower_calm.proofs.Whole.{each_tree_is_calm}
+use Rattle.c_lower_calm.proofs.Law.{each_tree_is_calm}
 use Rattle.c_lower_calm.proofs.Standing.{plain_statements_are_one_tree}
 use Rattle.c_lower.specs.Claims.{FollowsAlways, HasParts}
 use Rattle.c_lower.proofs.Sound.{sound, lowered_has, few_args, labels_handed}

@@ -1,4 +1,4 @@
-use Rattle.c_lower_bounds.proofs.Whole.{functions_stay as all_stay}
+use Rattle.c_lower_bounds.proofs.Law.{functions_stay as all_stay}
 use Rattle.c_lower_bounds.proofs.functions_stay.Goals as goal
 
 pub returns : goal.returns

@@ -1,4 +1,4 @@
-use Rattle.c_sound_texts.proofs.Whole.{typed_is_sound}
+use Rattle.c_sound_texts.proofs.Law.{typed_is_sound}
 use Rattle.c_sound_texts.proofs.typed_is_sound.Goals as goal
 
 pub returns : goal.returns

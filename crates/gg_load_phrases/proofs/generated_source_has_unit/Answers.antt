@@ -1,4 +1,4 @@
-use Rattle.gg_load_phrases.proofs.Units.{unit_of_source}
+use Rattle.gg_load_phrases.proofs.Law.{unit_of_source}
 use Rattle.gg_load_phrases.proofs.generated_source_has_unit.Goals as goal
 
 pub returns : goal.returns

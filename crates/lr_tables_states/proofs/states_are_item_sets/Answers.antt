@@ -1,4 +1,4 @@
-use Rattle.lr_tables_states.proofs.States.{states_are_item_sets}
+use Rattle.lr_tables_states.proofs.Law.{states_are_item_sets}
 use Rattle.lr_tables_states.proofs.states_are_item_sets.Goals as goal
 
 pub returns : goal.returns

@@ -1,4 +1,4 @@
-use Rattle.sel_parse_effect.proofs.Final as law
+use Rattle.sel_parse_effect.proofs.Law as law
 use Rattle.sel_parse_effect.proofs.selected_has_effect.Goals as goal
 
 pub returns : goal.returns

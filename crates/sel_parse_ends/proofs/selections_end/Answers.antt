@@ -1,4 +1,4 @@
-use Rattle.sel_parse_ends.proofs.Ends as law
+use Rattle.sel_parse_ends.proofs.Law as law
 use Rattle.sel_parse_ends.proofs.selections_end.Goals as goal
 
 pub returns-clause-blocks : goal.returns-clause-blocks

@@ -1,4 +1,4 @@
-use Rattle.sel_parse_joined.proofs.Parsing as law
+use Rattle.sel_parse_joined.proofs.Law as law
 use Rattle.sel_parse_joined.proofs.selections_are_one.Goals as goal
 
 pub returns-clause-code : goal.returns-clause-code

@@ -1,4 +1,4 @@
-use Rattle.sel_parse_registers.proofs.Never as law
+use Rattle.sel_parse_registers.proofs.Law as law
 use Rattle.sel_parse_registers.proofs.registers_can_be_had.Goals as goal
 
 pub returns : goal.returns

@@ -1,4 +1,4 @@
-use Rattle.sel_parse_slots.proofs.Iterating as law
+use Rattle.sel_parse_slots.proofs.Law as law
 use Rattle.sel_parse_slots.proofs.selections_use_few_slots.Goals as goal
 
 pub returns-clause-few : goal.returns-clause-few

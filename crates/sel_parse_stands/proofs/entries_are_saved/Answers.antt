@@ -1,4 +1,4 @@
-use Rattle.sel_parse_stands.proofs.Laws as laws
+use Rattle.sel_parse_stands.proofs.Law as laws
 use Rattle.sel_parse_stands.proofs.entries_are_saved.Goals as goal
 
 pub returns-clause-saved : goal.returns-clause-saved

@@ -1,4 +1,4 @@
-use Rattle.sel_parse_written.proofs.Iterating as law
+use Rattle.sel_parse_written.proofs.Law as law
 use Rattle.sel_parse_written.proofs.selections_are_written.Goals as goal
 
 pub returns-clause-passes : goal.returns-clause-passes

@@ -1,4 +1,4 @@
-use Rattle.sel_terms_trees.proofs.Laws.{rules_mean_trees}
+use Rattle.sel_terms_trees.proofs.Law.{rules_mean_trees}
 use Rattle.sel_terms_trees.proofs.rules_mean_trees.Goals as goal
 
 pub returns : goal.returns

@@ -1,4 +1,4 @@
-use Rattle.sel_terms_trees.proofs.Laws.{statements_mean_trees}
+use Rattle.sel_terms_trees.proofs.Law.{statements_mean_trees}
 use Rattle.sel_terms_trees.proofs.statements_mean_trees.Goals as goal
 
 pub returns : goal.returns

@@ -1,4 +1,4 @@
-use Rattle.term_core_settled.proofs.Settling.{norm_is_settled}
+use Rattle.term_core_settled.proofs.Law.{norm_is_settled}
 use Rattle.term_core_settled.proofs.norm_is_settled.Goals as goal
 
 pub returns : goal.returns

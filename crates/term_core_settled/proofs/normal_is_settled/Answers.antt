@@ -1,4 +1,4 @@
-use Rattle.term_core_settled.proofs.Settling.{normal_is_settled}
+use Rattle.term_core_settled.proofs.Law.{normal_is_settled}
 use Rattle.term_core_settled.proofs.normal_is_settled.Goals as goal
 
 pub returns : goal.returns

@@ -1,4 +1,4 @@
-use Rattle.tree_meaning_tame.proofs.Laws.{deed_is_tame}
+use Rattle.tree_meaning_tame.proofs.Law.{deed_is_tame}
 use Rattle.tree_meaning_tame.proofs.deeds_are_tame.Goals as goal
 
 pub returns : goal.returns

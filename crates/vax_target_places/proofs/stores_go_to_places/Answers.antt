@@ -1,4 +1,4 @@
-use Rattle.vax_target_places.proofs.Places as law
+use Rattle.vax_target_places.proofs.Law as law
 use Rattle.vax_target_places.proofs.stores_go_to_places.Goals as goal
 
 pub returns : goal.returns

@@ -2,7 +2,7 @@ use Rattle.std.proofs.Common.{◌≡◌, refl, Ok}
 use Rattle.std.proofs.lemmas.Result.{err_from_is_err_and}
 use Rattle.c_phrases.specs.UnitShapes.{unit_of}
 use Rattle.c_typed_statements.specs.Views.{text}
-use Rattle.c_typed_law.proofs.Texts.{text_means}
+use Rattle.c_typed_law.proofs.Law.{text_means}
 use Rattle.c_typed_check.specs.Functions.{functions_of}
 use Rattle.c_typed_check.proofs.Texts.{whole_runs, whole_fails, whole_lacks}
 use Rattle.c_typed_check.proofs.program.typed_unit.Goals as goal

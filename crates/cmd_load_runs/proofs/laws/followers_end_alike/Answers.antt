@@ -1,4 +1,4 @@
-use Rattle.cmd_load_runs.proofs.Followers.{ends_like}
+use Rattle.cmd_load_runs.proofs.Law.{ends_like}
 use Rattle.cmd_load_runs.proofs.laws.followers_end_alike.Goals as goal
 
 pub returns : goal.returns

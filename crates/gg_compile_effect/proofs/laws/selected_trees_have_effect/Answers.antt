@@ -1,4 +1,4 @@
-use Rattle.gg_compile_effect.proofs.Effect as law
+use Rattle.gg_compile_effect.proofs.Law as law
 use Rattle.gg_compile_effect.proofs.laws.selected_trees_have_effect.Goals as goal
 
 pub returns : goal.returns

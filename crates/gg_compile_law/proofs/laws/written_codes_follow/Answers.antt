@@ -1,4 +1,4 @@
-use Rattle.gg_compile_law.proofs.Written.{written_codes_follow}
+use Rattle.gg_compile_law.proofs.Law.{written_codes_follow}
 use Rattle.gg_compile_law.proofs.laws.written_codes_follow.Goals as goal
 
 pub returns : goal.returns

@@ -1,4 +1,4 @@
-use Rattle.lr_checked.proofs.Never as Laws
+use Rattle.lr_checked.proofs.Law as Laws
 use Rattle.lr_checked.proofs.laws.parses_accept.Goals as goal
 
 pub returns : goal.returns

@@ -1,4 +1,4 @@
-use Rattle.sel_parse.proofs.Excluding.{has_one_code, is_not_full, is_not_blocked, is_one_refusal}
+use Rattle.sel_parse.proofs.Law.{has_one_code, is_not_full, is_not_blocked, is_one_refusal}
 use Rattle.sel_parse.proofs.laws.answers_are_one.Goals as goal
 
 pub returns-clause-code : goal.returns-clause-code

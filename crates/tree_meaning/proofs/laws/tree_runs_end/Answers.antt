@@ -1,4 +1,4 @@
-use Rattle.tree_meaning.proofs.Ending.{tree_run_ends, tree_run_unbroken}
+use Rattle.tree_meaning.proofs.Law.{tree_run_ends, tree_run_unbroken}
 use Rattle.tree_meaning.proofs.laws.tree_runs_end.Goals as goal
 
 pub returns-clause-one_end : goal.returns-clause-one_end

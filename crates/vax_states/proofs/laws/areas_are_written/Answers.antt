@@ -1,4 +1,4 @@
-use Rattle.vax_states.proofs.Sentences.{areas_are_written}
+use Rattle.vax_states.proofs.Law.{areas_are_written}
 use Rattle.vax_states.proofs.laws.areas_are_written.Goals as goal
 
 pub returns : goal.returns

@@ -1,4 +1,4 @@
-use Rattle.vax_states.proofs.Sentences.{calls_stand_apart}
+use Rattle.vax_states.proofs.Law.{calls_stand_apart}
 use Rattle.vax_states.proofs.laws.calls_stand_apart.Goals as goal
 
 pub returns : goal.returns

@@ -1,4 +1,4 @@
-use Rattle.vax_states.proofs.Sentences.{free_words_are_free}
+use Rattle.vax_states.proofs.Law.{free_words_are_free}
 use Rattle.vax_states.proofs.laws.free_words_are_free.Goals as goal
 
 pub returns : goal.returns

@@ -1,4 +1,4 @@
-use Rattle.vax_states.proofs.Sentences.{homes_are_named}
+use Rattle.vax_states.proofs.Law.{homes_are_named}
 use Rattle.vax_states.proofs.laws.homes_are_named.Goals as goal
 
 pub returns : goal.returns

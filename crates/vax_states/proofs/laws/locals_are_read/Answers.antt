@@ -1,4 +1,4 @@
-use Rattle.vax_states.proofs.Sentences.{locals_are_read}
+use Rattle.vax_states.proofs.Law.{locals_are_read}
 use Rattle.vax_states.proofs.laws.locals_are_read.Goals as goal
 
 pub returns : goal.returns

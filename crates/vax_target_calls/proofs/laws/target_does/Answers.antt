@@ -1,4 +1,4 @@
-use Rattle.vax_target_calls.proofs.Whole.{target_does}
+use Rattle.vax_target_calls.proofs.Law.{target_does}
 use Rattle.vax_target_calls.proofs.laws.target_does.Goals as goal
 
 pub returns : goal.returns

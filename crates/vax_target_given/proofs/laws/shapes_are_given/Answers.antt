@@ -1,4 +1,4 @@
-use Rattle.vax_target_given.proofs.Giving.{shapes_are_given}
+use Rattle.vax_target_given.proofs.Law.{shapes_are_given}
 use Rattle.vax_target_given.proofs.laws.shapes_are_given.Goals as goal
 
 pub returns : goal.returns

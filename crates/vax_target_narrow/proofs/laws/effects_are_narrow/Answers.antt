@@ -1,4 +1,4 @@
-use Rattle.vax_target_narrow.proofs.Narrow.{effects_are_narrow}
+use Rattle.vax_target_narrow.proofs.Law.{effects_are_narrow}
 use Rattle.vax_target_narrow.proofs.laws.effects_are_narrow.Goals as goal
 
 pub returns : goal.returns

@@ -1,4 +1,4 @@
-use Rattle.vax_target_reading.proofs.Reading.{operands_read}
+use Rattle.vax_target_reading.proofs.Law.{operands_read}
 use Rattle.vax_target_reading.proofs.laws.operands_read.Goals as goal
 
 pub returns : goal.returns

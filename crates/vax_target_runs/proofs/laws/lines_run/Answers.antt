@@ -1,5 +1,5 @@
--- The lemma of `Runs`.
-use Rattle.vax_target_runs.proofs.Runs.{lines_run}
+-- The lemma of `Law`.
+use Rattle.vax_target_runs.proofs.Law.{lines_run}
 use Rattle.vax_target_runs.proofs.laws.lines_run.Goals as goal
 
 pub returns : goal.returns

@@ -1,4 +1,4 @@
-use Rattle.vax_target_saving.proofs.Whole.{target_saves}
+use Rattle.vax_target_saving.proofs.Law.{target_saves}
 use Rattle.vax_target_saving.proofs.laws.target_saves.Goals as goal
 
 pub returns : goal.returns

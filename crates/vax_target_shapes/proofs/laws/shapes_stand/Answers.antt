@@ -1,4 +1,4 @@
-use Rattle.vax_target_shapes.proofs.Shapes.{shapes_stand}
+use Rattle.vax_target_shapes.proofs.Law.{shapes_stand}
 use Rattle.vax_target_shapes.proofs.laws.shapes_stand.Goals as goal
 
 pub returns : goal.returns

@@ -1,4 +1,4 @@
-use Rattle.vax_target_spelling.proofs.Spelling.{alike_are_equal}
+use Rattle.vax_target_spelling.proofs.Law.{alike_are_equal}
 use Rattle.vax_target_spelling.proofs.laws.alike_are_equal.Goals as goal
 
 pub returns : goal.returns

@@ -1,4 +1,4 @@
-use Rattle.vax_target_spelling.proofs.Spelling.{holes_are_themselves}
+use Rattle.vax_target_spelling.proofs.Law.{holes_are_themselves}
 use Rattle.vax_target_spelling.proofs.laws.holes_are_themselves.Goals as goal
 
 pub returns : goal.returns

@@ -1,4 +1,4 @@
-use Rattle.vax_target_spelling.proofs.Spelling.{registers_spell}
+use Rattle.vax_target_spelling.proofs.Law.{registers_spell}
 use Rattle.vax_target_spelling.proofs.laws.registers_spell.Goals as goal
 
 pub returns : goal.returns

@@ -1,4 +1,4 @@
-use Rattle.vax_target_spelling.proofs.Spelling.{shapes_touch}
+use Rattle.vax_target_spelling.proofs.Law.{shapes_touch}
 use Rattle.vax_target_spelling.proofs.laws.shapes_touch.Goals as goal
 
 pub returns : goal.returns

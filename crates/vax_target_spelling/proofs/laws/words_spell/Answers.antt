@@ -1,4 +1,4 @@
-use Rattle.vax_target_spelling.proofs.Spelling.{words_spell}
+use Rattle.vax_target_spelling.proofs.Law.{words_spell}
 use Rattle.vax_target_spelling.proofs.laws.words_spell.Goals as goal
 
 pub returns : goal.returns

@@ -1,5 +1,5 @@
 use Rattle.tree_meaning.specs.Meaning.{tree_run}
-use Rattle.tree_meaning.proofs.Ending.{tree_run_lasts}
+use Rattle.tree_meaning.proofs.Law.{tree_run_lasts}
 use Rattle.tree_meaning.proofs.run.TreeRun.new.Goals as goal
 
 pub returns-in_err-machine-clause-one_end : goal.returns-in_err-machine-clause-one_end

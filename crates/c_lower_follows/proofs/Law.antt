@@ -9,10 +9,10 @@ use Rattle.tree_core.specs.declared.program.Object.{Object}
 use Rattle.tree_core.specs.declared.program.TreeFn.{TreeFn}
 use Rattle.tree_core.specs.Area.{bytes_from}
 use Rattle.tree_meaning.specs.Meaning.{runs, main_at, main_of as main_of_trees, tree_run}
-use Rattle.tree_meaning.proofs.Ending.{tree_run_lasts}
+use Rattle.tree_meaning.proofs.Law.{tree_run_lasts}
 use Rattle.c_program.specs.Programs.{ARoutine, AProgram}
 use Rattle.c_meaning.specs.Programs.{finished, means, at_first, main_of}
-use Rattle.c_meaning.proofs.Related.{means_is}
+use Rattle.c_meaning.proofs.Law.{means_is}
 use Rattle.c_lower_scheme.specs.Programs.{body_of, function_of, lower_all, lowered}
 use Rattle.c_sound.specs.Fits.{AreBytes}
 use Rattle.c_sound.specs.Sound.{IsMain, IsSound}

@@ -23,7 +23,7 @@ use Rattle.sel_parse_selected.specs.Reductions.{reduced}
 use Rattle.sel_parse_selected.specs.Selected.{Kept, shifted, kept_of, reduced_by, selecting}
 use Rattle.sel_parse_slots.specs.Claims.{IsTaken}
 use Rattle.sel_parse_slots.proofs.Counts.{tick}
-use Rattle.sel_parse_slots.proofs.Iterating as walk
+use Rattle.sel_parse_slots.proofs.Law as walk
 use Rattle.sel_parse_slots.proofs.Prefixes.{gamma}
 use Rattle.sel_parse_registers.specs.Claims.{HasRegisters, NeverLacks}
 use Rattle.sel_parse_registers.proofs.Pools.{total_reverse, total_parted}

@@ -21,7 +21,7 @@ use Rattle.tree_core.specs.Grammar.{kids, sort_of}
 use Rattle.tree_core.specs.Attributes.{attribute_of, is_of_kind, leaf_fits, end_leaf}
 use Rattle.tree_core.specs.Trees.{Forest, none, tree, leaves_onto, Typed, IsTyped, grown, before}
 use Rattle.tree_core.specs.Trees as grammar
-use Rattle.tree_core.proofs.Growing.{grows_back}
+use Rattle.tree_core.proofs.Law.{grows_back}
 use Rattle.tree_meaning.specs.State.{State, sight}
 use Rattle.tree_meaning.specs.Deeds.{Deed, Puts, Branches, Pushes, Returns, Calls, Saves as SavesTo, Jumps, Traps, Strays}
 use Rattle.tree_meaning.specs.declared.value.Value.TheVariants as values

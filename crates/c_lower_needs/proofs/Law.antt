@@ -22,7 +22,7 @@ use Rattle.c_typed_definition.specs.Texts.{empty_text}
 use Rattle.c_typed_law.specs.Texts.{AreParameters, IsBody, IsFunction, IsExternalBy, AreExternals, IsText}
 use Rattle.c_lower_spelled.specs.Claims.{NeedAtMost}
 use Rattle.c_lower_spelled.proofs.Locals.{locals_are_few}
-use Rattle.c_lower_counts.proofs.Programs.{typed_have_few_labels}
+use Rattle.c_lower_counts.proofs.Law.{typed_have_few_labels}
 use Rattle.c_lower_needs.specs.Claims.{CountsFit}
 use Rattle.c_lower_needs.proofs.Locals.{Count}
 use Rattle.c_lower_needs.proofs.Needs.{body_need}

@@ -17,7 +17,7 @@ use Rattle.c_phrases.specs.Units.{SomeItems, ADeclarator, AParam, AFunction, ADe
 use Rattle.c_typed_expressions.specs.Phrases.{params_in, brackets_in}
 use Rattle.c_typed_expressions.specs.Expressions.{integer_of, written}
 use Rattle.c_typed_expressions.specs.Relations.{Joint}
-use Rattle.c_typed_expressions.proofs.Relations.{means_then, means_ok}
+use Rattle.c_typed_expressions.proofs.Law.{means_then, means_ok}
 use Rattle.c_typed_definition.specs.State.{State, with_area}
 use Rattle.c_typed_definition.specs.Signatures.{parameter_type, signature_of, known}
 use Rattle.c_typed_definition.specs.Headings.{Text, with_state, same_signature, earlier_by, is_below, head_by}

@@ -29,13 +29,13 @@ use Rattle.sel_parse_selected.specs.Selected.{Selected, Kept, kept_of, reduced_b
 use Rattle.sel_parse_stands.specs.Lines.{LinesSave}
 use Rattle.sel_parse_stands.proofs.Parting.{taken_off, left_below}
 use Rattle.sel_parse_effect.specs.Claims.{IsFit}
-use Rattle.sel_parse_effect.proofs.Final.{lines_save}
+use Rattle.sel_parse_effect.proofs.Law.{lines_save}
 use Rattle.sel_parse_lines.proofs.Each.{Each}
 use Rattle.sel_parse_lines.proofs.Words.{selections_use_few_words}
 use Rattle.sel_parse_slots.specs.Claims as slots
 use Rattle.sel_parse_slots.proofs.Prefixes.{gamma}
-use Rattle.sel_parse_slots.proofs.Iterating as walk
-use Rattle.sel_parse_joined.proofs.Parsing.{same_code}
+use Rattle.sel_parse_slots.proofs.Law as walk
+use Rattle.sel_parse_joined.proofs.Law.{same_code}
 use Rattle.sel_parse_law.specs.Claims.{IsReady}
 use Rattle.sel_parse_written.specs.Claims.{LinesPass, SelectionsPass, SelectionsAreWritten, SelectionsUseLowWords}
 use Rattle.sel_parse_written.proofs.Classes.{AllKinds, kinds_parted}

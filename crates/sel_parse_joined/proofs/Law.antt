@@ -30,7 +30,7 @@ use Rattle.sel_parse_desk.specs.Entries as computed_entries
 use Rattle.sel_parse_desk.specs.Desk as computed_desk
 use Rattle.sel_parse_desk.specs.Selected as computed
 use Rattle.sel_parse_slots.specs.Claims.{IsTaken}
-use Rattle.sel_parse_slots.proofs.Iterating as walk
+use Rattle.sel_parse_slots.proofs.Law as walk
 use Rattle.sel_parse_slots.proofs.Prefixes.{gamma}
 use Rattle.sel_parse_joined.specs.Claims.{IsSelectable, SameCode, SameFull}
 use Rattle.sel_parse_joined.proofs.Turning.{turned_cons, all_at, map_turned, map_take, map_get}

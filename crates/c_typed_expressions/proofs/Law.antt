@@ -8,7 +8,7 @@ use Rattle.c_typed_operators.specs.Prefixes.{prefix_of, index_of, step, cast_of,
 use Rattle.c_typed_operators.specs.Choices.{choice_of, comma_of}
 use Rattle.c_typed_operators.specs.Stores.{assign_of}
 use Rattle.c_typed_operators.specs.Table.{Means}
-use Rattle.c_typed_operators.proofs.Rows.{binary_means}
+use Rattle.c_typed_operators.proofs.Law.{binary_means}
 use Rattle.c_typed_scope.specs.declared.entry.Entry.{Entry}
 use Rattle.c_typed_scope.specs.declared.entry.Entry.TheVariants as entries
 use Rattle.c_typed_scope.specs.declared.entry.Signature.{Signature}

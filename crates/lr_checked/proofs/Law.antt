@@ -13,7 +13,7 @@ use Rattle.lr_check.specs.declared.sample.Outcome.TheVariants as outcome
 use Rattle.lr_check.specs.Tree.{Token}
 use Rattle.lr_check.specs.Parse.{Ends}
 use Rattle.lr_check.proofs.Only.{ends_same}
-use Rattle.lr_check_law.proofs.Accepting.{toks, toks-tree, every_tree_is_accepted}
+use Rattle.lr_check_law.proofs.Law.{toks, toks-tree, every_tree_is_accepted}
 use Rattle.lr_check_parse.specs.Moves.{Answering, Ending, Accepts, Blocks, Loops, Refuses}
 use Rattle.lr_check_parse.specs.Lists.{EndsSo}
 use Rattle.lr_check_parse.specs.Claims.{questioned}

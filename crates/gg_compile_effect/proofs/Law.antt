@@ -29,7 +29,7 @@ use Rattle.sel_parse_desk.specs.Selected.{tree_of}
 use Rattle.sel_parse_selected.specs.Selected.{Selected}
 use Rattle.sel_parse_effect.specs.Claims.{frame_sight, IsFit, Begins}
 use Rattle.sel_parse_effect.specs.Claims as selection
-use Rattle.sel_parse_effect.proofs.Final.{selected_has_effect}
+use Rattle.sel_parse_effect.proofs.Law.{selected_has_effect}
 use Rattle.sel_parse_lines.proofs.Ending.{statements_have_code}
 use Rattle.vax_core.specs.declared.code.Instr.{Instr}
 use Rattle.vax_machine.specs.State.{State}
@@ -39,8 +39,8 @@ use Rattle.vax_states.specs.Agreeing.{Agrees}
 use Rattle.vax_target_meaning.specs.Fitting.{CanWrite}
 use Rattle.vax_target_meaning.specs.Running.{run}
 use Rattle.vax_target_meaning.specs.Vax.{vax}
-use Rattle.vax_target_places.proofs.Places.{stores_go_to_places}
-use Rattle.vax_target_laws.proofs.Lawful.{vax_is_lawful}
+use Rattle.vax_target_places.proofs.Law.{stores_go_to_places}
+use Rattle.vax_target_laws.proofs.Law.{vax_is_lawful}
 use Rattle.gg_compile_law.specs.Effects.{Does, IsReady, HasEffect}
 use Rattle.gg_compile_effect.specs.Claims.{IsTreeOf, SelectedTreesHaveEffect}
 use Rattle.gg_compile_effect.proofs.Trees.{root_is}

@@ -15,7 +15,7 @@ use Rattle.vax_core.specs.declared.operand.Operand.{Operand}
 use Rattle.vax_machine.specs.State.{State}
 use Rattle.vax_target_meaning.specs.Vax.{vax}
 use Rattle.vax_target_statements.specs.Laws.{IsOrdinary}
-use Rattle.vax_target_statements.proofs.Stated.{statements_do}
+use Rattle.vax_target_statements.proofs.Law.{statements_do}
 use Rattle.vax_target_calls.proofs.Calling.{calls_do}
 
 module _ (q : TreeProgram) (f : Extent) (fs : List Extent) (classes : List Class) (rule : Rule) (e : EffectShape) (d : Deed)

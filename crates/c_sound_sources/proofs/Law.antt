@@ -3,7 +3,7 @@ use Rattle.std.proofs.Common.{subst}
 use Rattle.c_typed_words.specs.Words.{IsToken, EachIs}
 use Rattle.c_typed_words.proofs.Spelled.{unit_of}
 use Rattle.c_typed_words.proofs.Tokens.{each_token}
-use Rattle.c_sound_texts.proofs.Whole.{text_is_sound}
+use Rattle.c_sound_texts.proofs.Law.{text_is_sound}
 use Rattle.c_sound_sources.specs.Claim.{SourcesAreSound}
 
 pub sources_are_sound : SourcesAreSound

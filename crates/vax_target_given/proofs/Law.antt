@@ -62,7 +62,7 @@ use Rattle.vax_target_rules.specs.Scene.{scene_of}
 use Rattle.vax_target_rules.proofs.Founds.{IsFound, rule_is, front_safe}
 use Rattle.vax_target_rules.proofs.Instances.{instances_are_seen}
 use Rattle.vax_target_rules.proofs.Results.{Comes, found_so, comes_so}
-use Rattle.vax_target_shapes.proofs.Shapes.{shapes_stand}
+use Rattle.vax_target_shapes.proofs.Law.{shapes_stand}
 use Rattle.vax_target_shapes.proofs.Homes.{homes_stay, registers_stay}
 use Rattle.vax_target_given.proofs.Idle.{lines_are_idle}
 

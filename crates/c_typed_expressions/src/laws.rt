@@ -11,7 +11,7 @@ ghost use Rattle.c_typed_expressions.specs.Relations.{IsTyped, FirstFault};
 
 /// The definition that `expression` computes answers what the two relations say: exactly the one typed expression, or
 /// exactly the first fault, its own parts' faults from left to right before its own.
-#[tactic(auto, using(crate::proofs::Relations::exp_means))]
+#[tactic(auto, using(crate::proofs::Law::exp_means))]
 pub fn expression_law()
     ensures { (names : List (List ℕ × Entry)) (signatures : List Signature) (scope : Scope) (e : AnExp) (a : Area)
         → Means (type_exp names signatures scope e a) (IsTyped names signatures scope e a) (FirstFault names signatures scope e a) }

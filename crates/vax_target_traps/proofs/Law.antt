@@ -40,7 +40,7 @@ use Rattle.vax_target_operands.proofs.Binds.{ok_same, Chained, chained}
 use Rattle.vax_target_lines.specs.Lines.{terms_of_last}
 use Rattle.vax_target_lines.proofs.Performing.{lines_trap}
 use Rattle.vax_target_runs.specs.Runs.{line_of}
-use Rattle.vax_target_runs.proofs.Runs.{IsJudged, judged_is, closed}
+use Rattle.vax_target_runs.proofs.Law.{IsJudged, judged_is, closed}
 use Rattle.vax_target_rules.specs.Scene.{scene_of}
 use Rattle.vax_target_rules.proofs.Founds.{IsFound, rule_is, reads_safe, front_safe}
 use Rattle.vax_target_rules.proofs.Instances.{instance_seen}

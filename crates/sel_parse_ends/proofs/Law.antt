@@ -22,7 +22,7 @@ use Rattle.sel_target.specs.Meaning.{Meaning}
 use Rattle.sel_target.specs.Laws.{IsLawful}
 use Rattle.sel_parse_moves.specs.Claims.{root}
 use Rattle.sel_parse_selected.specs.Selected.{Kept, selecting, start, Parsed, Blocked, blocks, circles}
-use Rattle.sel_parse_slots.proofs.Iterating.{has_room}
+use Rattle.sel_parse_slots.proofs.Law.{has_room}
 use Rattle.sel_parse_ends.specs.Claims.{HasCode, IsStuck, NeverBlocks, SelectionsEnd}
 
 not_done : (at : ℕ) → outcome.Blocks at ≡ outcome.Done → ⊥

@@ -10,7 +10,7 @@ ghost use Rattle.c_typed_law.specs.Texts.{IsText, TextFault};
 
 /// The definition that a reader of whole texts computes answers what the two relations say: exactly the one typed program,
 /// or exactly the first fault, in the order of the externals, their parts from left to right, and operands before their operator.
-#[tactic(auto, using(crate::proofs::Texts::text_means))]
+#[tactic(auto, using(crate::proofs::Law::text_means))]
 pub fn text_law()
     ensures { (text : List AnExternal) (end : ℕ) → Means (type_text text end) (IsText text) (TextFault text end) }
 {}

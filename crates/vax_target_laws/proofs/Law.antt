@@ -10,16 +10,16 @@ use Rattle.vax_core.specs.Valid.{is_instr}
 use Rattle.vax_target_meaning.specs.Vax.{vax}
 use Rattle.vax_target_order.proofs.Running.{instructions_run}
 use Rattle.vax_target_order.proofs.Dividing.{rules_divide_once, statements_have_lines}
-use Rattle.vax_target_spelling.proofs.Spelling.{alike_are_equal, registers_spell, words_spell, shapes_touch, holes_are_themselves}
+use Rattle.vax_target_spelling.proofs.Law.{alike_are_equal, registers_spell, words_spell, shapes_touch, holes_are_themselves}
 use Rattle.vax_target_writing.proofs.Given.{shapes_fit}
 use Rattle.vax_target_writing.proofs.Spilling.{lines_are_written, slots_fit}
-use Rattle.vax_target_reading.proofs.Reading.{operands_read}
-use Rattle.vax_target_narrow.proofs.Narrow.{effects_are_narrow}
-use Rattle.vax_target_rules.proofs.Rules.{results_are_left}
-use Rattle.vax_target_traps.proofs.Trapping.{zero_divisors_trap}
-use Rattle.vax_target_given.proofs.Giving.{shapes_are_given}
-use Rattle.vax_target_saving.proofs.Whole.{written, target_saves}
-use Rattle.vax_target_calls.proofs.Whole.{target_does}
+use Rattle.vax_target_reading.proofs.Law.{operands_read}
+use Rattle.vax_target_narrow.proofs.Law.{effects_are_narrow}
+use Rattle.vax_target_rules.proofs.Law.{results_are_left}
+use Rattle.vax_target_traps.proofs.Law.{zero_divisors_trap}
+use Rattle.vax_target_given.proofs.Law.{shapes_are_given}
+use Rattle.vax_target_saving.proofs.Law.{written, target_saves}
+use Rattle.vax_target_calls.proofs.Law.{target_does}
 
 spells : SpellsItself vax
 spells = record {
