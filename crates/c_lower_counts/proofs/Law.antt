@@ -3,17 +3,16 @@ use Rattle.std.proofs.Common.{◌≡◌, ℕ, ◌+◌, ◌≤◌, false, List, [
 use Rattle.c_tokens.specs.declared.token.Token.TheVariants as token
 use Rattle.c_tokens.specs.declared.marks.Mark.TheVariants as marks
 use Rattle.c_phrases.specs.declared.operator.Spec.{Spec}
-use Rattle.c_phrases.specs.declared.tree.Named.{Named}
 use Rattle.c_phrases.specs.Classes.{Placed, sign}
 use Rattle.c_phrases.specs.Spelling.{onto_spec, onto_stars, onto_name}
-use Rattle.c_phrases.specs.Units.{SomeItems, AParam, SomeParams, no_params, void_word, params, AFunction, ADeclared}
+use Rattle.c_phrases.specs.Units.{SomeItems, AParam, params, AFunction, ADeclared}
 use Rattle.c_phrases.specs.Units.{function, globals, AnExternal}
-use Rattle.c_phrases.specs.UnitSpelling.{onto_length, onto_named, onto_param, onto_more_params, onto_params}
-use Rattle.c_phrases.specs.UnitSpelling.{onto_body, onto_declared, onto_static, onto_externals}
+use Rattle.c_phrases.specs.UnitSpelling.{onto_length, onto_named, onto_param, onto_params}
+use Rattle.c_phrases.specs.UnitSpelling.{onto_body, onto_declared, onto_externals}
 use Rattle.c_program.specs.Programs.{ARoutine, AProgram}
 use Rattle.c_syntax.proofs.ListLaws.{longer_length}
 use Rattle.c_syntax.proofs.ItemLaws.{longer_spec, longer_declarators}
-use Rattle.c_syntax.proofs.UnitLaws.{longer_stars}
+use Rattle.c_syntax.proofs.UnitLaws.{longer_stars, longer_named, longer_static, longer_params, longer_some_params}
 use Rattle.c_typed_scope.specs.declared.entry.Entry.{Entry}
 use Rattle.c_typed_scope.specs.declared.entry.Signature.{Signature}
 use Rattle.c_typed_expressions.specs.Expressions.{written}
@@ -27,32 +26,14 @@ use Rattle.c_lower_counts.specs.Claims.{ProgramsAreSmall, TypedHaveFewLabels}
 use Rattle.c_lower_counts.proofs.Labels.{labels_are_few}
 use Rattle.c_lower_counts.proofs.Statements.{items_size}
 
-named_grows : (n : Option Named) (w : List Placed) → length w ≤ length (onto_named n w)
-named_grows None w = omega arith
-named_grows (Some n) w = omega arith
-
 param_grows : (p : AParam) (w : List Placed) → length w ≤ length (onto_param p w)
 param_grows p w = omega (
   arith,
   longer_spec p.spec (onto_stars p.stars (onto_named p.name (onto_length p.length w))),
   longer_stars p.stars (onto_named p.name (onto_length p.length w)),
-  named_grows p.name (onto_length p.length w),
+  longer_named p.name (onto_length p.length w),
   longer_length p.length w,
 )
-
-more_params_grow : (ps : List AParam) (w : List Placed) → length w ≤ length (onto_more_params ps w)
-more_params_grow [] w = omega arith
-more_params_grow (p ∷ ps) w = omega (arith, param_grows p (onto_more_params ps w), more_params_grow ps w)
-
-params_grow : (ps : SomeParams) (w : List Placed) → length w ≤ length (onto_params ps w)
-params_grow no_params w = omega arith
-params_grow (void_word at) w = omega arith
-params_grow (params []) w = omega arith
-params_grow (params (p ∷ ps)) w = omega (arith, param_grows p (onto_more_params ps w), more_params_grow ps w)
-
-static_grows : (s : Option ℕ) (w : List Placed) → length w ≤ length (onto_static s w)
-static_grows None w = omega arith
-static_grows (Some at) w = omega arith
 
 size_behind : (gs : List ARoutine) (g : ARoutine) → routines_size (gs ++ g ∷ []) ≡ routines_size gs + row_size g.body
 size_behind [] g = omega arith
@@ -89,7 +70,7 @@ module _ (names : List (List ℕ × Entry)) (signatures : List Signature) where
       omega (
         arith,
         longer_stars f.stars (onto_name f.name f.at (sign marks.OpenParenthesis f.opened ∷ onto_params f.params behind)),
-        params_grow f.params behind,
+        longer_some_params f.params behind,
       )
 
   external_size : (spec : Spec) (d : ADeclared) (t r : Text) → IsExternalBy names signatures spec d t r → (w : List Placed)
@@ -106,7 +87,7 @@ module _ (names : List (List ℕ × Entry)) (signatures : List Signature) where
       let v : List Placed = onto_externals es w in
       let x = external_size e.spec e.declared t j.part j.typed v in
       let y = externals_size es j.part r j.whole w in
-      omega (arith, static_grows e.static_at (onto_spec e.spec (onto_declared e.declared v)), longer_spec e.spec (onto_declared e.declared v))
+      omega (arith, longer_static e.static_at (onto_spec e.spec (onto_declared e.declared v)), longer_spec e.spec (onto_declared e.declared v))
 
 text_size : (p : AProgram) (text : List AnExternal) → IsText text p → (w : List Placed) → program_size p + length w ≤ length (onto_externals text w)
 unfolding IsText

@@ -2,19 +2,17 @@
 use Rattle.std.proofs.Common.{◌≡◌, ℕ, ◌+◌, ◌≤◌, Bool, true, false, List, ◌∷◌, length, Result, Ok, Err, ap, arith}
 use Rattle.std.specs.Prelude.{if◌then◌else◌}
 use Rattle.c_tokens.specs.declared.marks.Mark.TheVariants as marks
-use Rattle.c_phrases.specs.declared.tree.TypeName.{TypeName}
 use Rattle.c_phrases.specs.Classes.{Placed, sign}
 use Rattle.c_phrases.specs.Phrases.{AnExp, name, number, str, paren, call, index, step_after, step_before, prefix}
 use Rattle.c_phrases.specs.Phrases.{sizeof_exp, sizeof_type, cast, binary, choice, assign, comma, SomeExps, no_exps}
 use Rattle.c_phrases.specs.Phrases.{exps}
 use Rattle.c_phrases.specs.Operators.{binary_mark, step_mark, assign_mark}
-use Rattle.c_phrases.specs.Spelling.{onto_stars, onto_type, onto_exp, onto_first, onto_others}
+use Rattle.c_phrases.specs.Spelling.{onto_exp, onto_first, onto_others}
 use Rattle.c_types.specs.declared.typed.Moment.TheVariants as moments
 use Rattle.c_types.specs.Answers.{Fault, ◌>>=◌}
 use Rattle.c_types.specs.Typed.{AnExpression, LiteralAt, SomeExpressions}
 use Rattle.c_program.specs.Need.{nodes, all_nodes}
-use Rattle.c_syntax.proofs.ItemLaws.{longer_spec}
-use Rattle.c_syntax.proofs.UnitLaws.{longer_stars}
+use Rattle.c_syntax.proofs.ExpressionLaws.{longer_type}
 use Rattle.c_typed_scope.specs.declared.entry.Entry.{Entry}
 use Rattle.c_typed_scope.specs.declared.entry.Signature.{Signature}
 use Rattle.c_typed_scope.specs.Scopes.{Scope}
@@ -23,9 +21,6 @@ use Rattle.c_typed_expressions.specs.Expressions.{written}
 use Rattle.c_typed_expressions.specs.Relations.{IsNamed, NamesVariable, NamesArray, IsTyped, AreTyped}
 use Rattle.c_lower_counts.proofs.Operators.{answered, binary_nodes, index_nodes, prefix_nodes, step_nodes, cast_nodes, sizeof_nodes, sizeof_type_nodes, choice_nodes, assign_nodes}
 use Rattle.c_lower_counts.proofs.Operators.{comma_nodes, called_nodes}
-
-type_grows : (t : TypeName) (w : List Placed) → length w ≤ length (onto_type t w)
-type_grows t w = omega (arith, longer_spec t.spec (onto_stars t.stars w), longer_stars t.stars w)
 
 -- a literal is one node
 literal_by : (measures : Bool) (m : Result (ℕ × Area) Fault) (size : ℕ) (a : Area) (t : AnExpression × Area)
@@ -82,12 +77,12 @@ module _ (names : List (List ℕ × Entry)) (signatures : List Signature) (scope
         let u = answered _ _ t.0 (sizeof_nodes at j.part.0) j.whole.typed in
         omega arith
     exp_nodes (sizeof_type at o of) a t j w =
-        let x = type_grows of (sign marks.CloseParenthesis 0 ∷ w) in
+        let x = longer_type of (sign marks.CloseParenthesis 0 ∷ w) in
         let u = answered _ _ t.0 (sizeof_type_nodes at (written of.spec of.stars)) j.typed in
         omega arith
     exp_nodes (cast o to e) a t j w =
         let x = exp_nodes e a j.part j.typed w in
-        let y = type_grows to (sign marks.CloseParenthesis 0 ∷ onto_exp e w) in
+        let y = longer_type to (sign marks.CloseParenthesis 0 ∷ onto_exp e w) in
         let u = answered _ _ t.0 (cast_nodes o (written to.spec to.stars) j.part.0) j.whole.typed in
         omega arith
     exp_nodes (binary l op at r) a t j w =

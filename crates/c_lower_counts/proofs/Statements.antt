@@ -1,5 +1,5 @@
 -- A typed statement is at most as large as its phrase has tokens.
-use Rattle.std.proofs.Common.{◌≡◌, ℕ, ◌+◌, ◌≤◌, Bool, true, false, List, [], ◌∷◌, ◌++◌, length, Option, Some, None, ap, arith}
+use Rattle.std.proofs.Common.{◌≡◌, ℕ, ◌+◌, ◌≤◌, Bool, true, List, [], ◌∷◌, ◌++◌, length, Option, Some, None, ap, arith}
 use Rattle.c_tokens.specs.declared.marks.Mark.TheVariants as marks
 use Rattle.c_tokens.specs.declared.words.Key.TheVariants as keys
 use Rattle.c_phrases.specs.declared.operator.Spec.{Spec}
@@ -12,15 +12,15 @@ use Rattle.c_phrases.specs.Units.{AnInit, value, elements, AnInitialised, ADecla
 use Rattle.c_phrases.specs.Units.{expression, break_off, continue_on, give_back, if_then, if_else, while_loop}
 use Rattle.c_phrases.specs.Units.{do_loop, for_loop, SomeItems, no_items, local_item, statement_item}
 use Rattle.c_phrases.specs.UnitSpelling.{onto_part, onto_length, onto_init, onto_initialised, onto_declarator}
-use Rattle.c_phrases.specs.UnitSpelling.{onto_more_declarators, onto_declarators, onto_storage, onto_condition}
+use Rattle.c_phrases.specs.UnitSpelling.{onto_more_declarators, onto_declarators, onto_condition}
 use Rattle.c_phrases.specs.UnitSpelling.{onto_statement, onto_items, onto_trailing}
 use Rattle.c_types.specs.declared.types.CType.{CType}
 use Rattle.c_types.specs.Typed.{AnExpression}
 use Rattle.c_program.specs.Need.{nodes, maybe_nodes}
 use Rattle.c_program.specs.Statements.{ADeclaration, KeepOf, ClearOf, BeginOf, AnAction, SomeActions}
 use Rattle.c_syntax.proofs.ExpressionLaws.{longer_first}
-use Rattle.c_syntax.proofs.ListLaws.{longer_length, longer_declarator}
-use Rattle.c_syntax.proofs.ItemLaws.{longer_spec}
+use Rattle.c_syntax.proofs.ListLaws.{longer_length, longer_declarator, longer_trailing}
+use Rattle.c_syntax.proofs.ItemLaws.{longer_spec, longer_storage}
 use Rattle.c_syntax.proofs.UnitLaws.{longer_stars}
 use Rattle.c_typed_scope.specs.declared.entry.Entry.{Entry}
 use Rattle.c_typed_scope.specs.declared.entry.Signature.{Signature}
@@ -41,15 +41,6 @@ declared_behind (KeepOf object ∷ ds) es = declared_behind ds es
 declared_behind (ClearOf n ∷ ds) es = declared_behind ds es
 declared_behind (BeginOf n e ∷ ds) es = let x = declared_behind ds es in omega arith
 
-trailing_grows : (t : Bool) (w : List Placed) → length w ≤ length (onto_trailing t w)
-trailing_grows true w = omega arith
-trailing_grows false w = omega arith
-
-storage_grows : (s : Storage) (w : List Placed) → length w ≤ length (onto_storage s w)
-storage_grows storages.Automatic w = omega arith
-storage_grows (storages.Static at) w = omega arith
-storage_grows (storages.Register at) w = omega arith
-
 -- the size of one declaration
 abbrev One : ADeclaration → ℕ
 One d = declared_size (d ∷ [])
@@ -66,7 +57,7 @@ module _ (names : List (List ℕ × Entry)) (signatures : List Signature) where
   init_size t n (elements es trailing) s r j w =
       let v : List Placed = sign marks.CloseBrace 0 ∷ w in
       let is = ap (λ (z : ADeclaration × State). One z.0) j in
-      omega (arith, longer_first es (onto_trailing trailing v), trailing_grows trailing v)
+      omega (arith, longer_first es (onto_trailing trailing v), longer_trailing trailing v)
 
   begun_size : (t : CType) (n : ℕ) (i : Option AnInitialised) (s : State) (r : ADeclaration × State) → IsBegun names signatures t n (init_in i) s r
       → (w : List Placed) → One r.0 + length w ≤ length (onto_initialised i w)
@@ -221,7 +212,7 @@ module _ (names : List (List ℕ × Entry)) (signatures : List Signature) where
           let is = ap (λ (z : SomeActions × State). row_size z.0) k.whole in
           omega (
             arith,
-            storage_grows l.storage (onto_spec l.spec (onto_declarators l.declarators behind)),
+            longer_storage l.storage (onto_spec l.spec (onto_declarators l.declarators behind)),
             longer_spec l.spec (onto_declarators l.declarators behind),
           )
       items_size looping (statement_item a rest) s r j w =

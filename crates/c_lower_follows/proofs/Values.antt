@@ -4,12 +4,13 @@ use Rattle.std.specs.Prelude.{Bool, true, false, nat_lt, if◌then◌else◌, sl
 use Rattle.std.specs.Int.{w16, w32, from_le_bytes}
 use Rattle.std.proofs.lemmas.Bool.{eqb-true, cond-false, le-ltb}
 use Rattle.std.proofs.lemmas.Bool.Decides.{nat_tests}
-use Rattle.std.proofs.lemmas.Nat.{and_mask, or_of_32, xor_of_32}
+use Rattle.std.proofs.lemmas.Nat.{or_of_32, xor_of_32}
 use Rattle.gg_base.specs.declared.size.Size.{Size}
 use Rattle.gg_base.specs.declared.size.Size.TheVariants as sizes
 use Rattle.gg_base.specs.Arithmetic.{and32, neg32, com32, div32, sext8, sext16, zext8, zext16, shifted_left, shifted_right, ash32}
 use Rattle.gg_base.specs.LittleEndian.{number_in}
-use Rattle.c_lower_follows.proofs.Longwords.{SmallOption, sext8_small, sext16_small, sext8_zext8, sext16_zext16, and_small, div_small, ash_small}
+use Rattle.gg_base.proofs.Words.{ash_small, low_count, sext8_small, sext16_small, and_small, sext8_zext8, sext16_zext16}
+use Rattle.c_lower_follows.proofs.Longwords.{SmallOption, div_small}
 use Rattle.tree_core.specs.declared.token.Tok.TheVariants as tok
 use Rattle.tree_core.specs.declared.tree.Att.TheVariants as att
 use Rattle.tree_core.specs.declared.tree.Leaf.{Leaf}
@@ -138,15 +139,11 @@ fetched_by false n h = tt
 pub fetched_small : (z : Size) (area : List ℕ) (x : ℕ) → AreBytes area → Small (there (fetched z area x))
 fetched_small z area x h = fetched_by (is_inside z area x) (number_in z area (x - 65536)) (number_small z area (x - 65536) h)
 
--- the counts of shifts
-count_is : (y : ℕ) → and32 y 31 ≡ y % 32
-count_is y = and_mask y 5
-
 shift_left_by : (c x : ℕ) → c < 32 → shifted_left c x ≡ ash32 c x
 shift_left_by c x h = grind (arith, nat_tests)
 
 shift_left : (x y : ℕ) → shifted_left (y % 32) x ≡ ash32 (and32 y 31) x
-shift_left x y = shift_left_by (y % 32) x (omega arith) ∙ ap (λ c. ash32 c x) (sym (count_is y))
+shift_left x y = shift_left_by (y % 32) x (omega arith) ∙ ap (λ c. ash32 c x) (sym (low_count y))
 
 shift_right_zero : (x : ℕ) → x < 2 ^ 32 → shifted_right 0 x ≡ ash32 (neg32 0) x
 shift_right_zero x h = grind (arith, nat_tests)
@@ -165,7 +162,7 @@ shift_right_by zero x lt h = shift_right_zero x h
 shift_right_by (suc c) x lt h = shift_right_more c x (omega arith)
 
 shift_right : (x y : ℕ) → x < 2 ^ 32 → shifted_right (y % 32) x ≡ ash32 (neg32 (and32 y 31)) x
-shift_right x y h = shift_right_by (y % 32) x (omega arith) h ∙ ap (λ c. ash32 (neg32 c) x) (sym (count_is y))
+shift_right x y h = shift_right_by (y % 32) x (omega arith) h ∙ ap (λ c. ash32 (neg32 c) x) (sym (low_count y))
 
 quotient_is : (o : Option ℕ) → quotient o ≡ or_zero o
 quotient_is None = refl

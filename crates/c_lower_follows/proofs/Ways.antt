@@ -1,13 +1,13 @@
 -- What each expression is lowered to does what the expression means.
-use Rattle.std.proofs.Common.{◌≡◌, ℕ, ◌%◌, ◌≤◌, ◌<◌, ◌^◌, List, [], ◌∷◌, ◌++◌, length, Option, Some, None, refl, ap, arith, sym, ◌∙◌, subst}
+use Rattle.std.proofs.Common.{◌≡◌, ℕ, ◌≤◌, ◌<◌, ◌^◌, List, [], ◌∷◌, ◌++◌, length, Option, Some, None, refl, ap, arith, sym, ◌∙◌, subst}
 use Rattle.std.specs.Prelude.{Bool, true, false, ◌==◌, slice_get, if◌then◌else◌}
 use Rattle.std.specs.Option.{option_map}
-use Rattle.std.proofs.Math.Nat.{mul_comm}
 use Rattle.std.proofs.lemmas.Bool.{eqb-true}
 use Rattle.std.proofs.lemmas.Bool.Decides.{nat_tests}
 use Rattle.gg_base.specs.declared.run.End.TheVariants as ends
 use Rattle.gg_base.specs.Runs.{Runs, stop}
 use Rattle.gg_base.specs.Arithmetic.{add32, sub32, mul32, neg32, com32, div32}
+use Rattle.gg_base.proofs.Words.{mul_turned, add_turned}
 use Rattle.tree_core.specs.declared.program.Object.{Object}
 use Rattle.tree_core.specs.declared.program.TreeItem.{TreeItem}
 use Rattle.tree_core.specs.declared.program.TreeFn.{TreeFn}
@@ -90,12 +90,6 @@ multiply_is x y κ = refl
 divide_is : (x y : ℕ) (κ : ℕ → Runs) → on (or_zero (apply ariths.Divide x y)) κ ≡ on (or_zero (div32 x y)) κ
 unfolding apply
 divide_is x y κ = refl
-
-mul_turned : (a b : ℕ) → mul32 a b ≡ mul32 b a
-mul_turned a b = ap (λ n. n % 2 ^ 32) (mul_comm a b)
-
-add_turned : (a b : ℕ) → add32 a b ≡ add32 b a
-add_turned a b = omega arith
 
 mul_one : (y s : ℕ) → s ≡ 1 → y < 2 ^ 32 → y ≡ mul32 y s
 mul_one y s e h = let one : mul32 y 1 ≡ y = omega arith in sym (ap (mul32 y) e ∙ one)

@@ -5,7 +5,6 @@ use Rattle.c_tokens.specs.declared.token.Token.TheVariants as token
 use Rattle.c_tokens.specs.declared.marks.Mark.TheVariants as marks
 use Rattle.c_tokens.specs.declared.words.Key.TheVariants as keys
 use Rattle.c_phrases.specs.declared.operator.Spec.{Spec}
-use Rattle.c_phrases.specs.declared.operator.Storage.{Storage}
 use Rattle.c_phrases.specs.declared.operator.Storage.TheVariants as storages
 use Rattle.c_phrases.specs.declared.tree.Named.{Named}
 use Rattle.c_phrases.specs.Classes.{Placed, word, sign}
@@ -14,14 +13,14 @@ use Rattle.c_phrases.specs.Spelling.{onto_exp, onto_spec, onto_stars, onto_name}
 use Rattle.c_phrases.specs.Units.{ALength, ADeclarator, AStatement, block, empty, expression, break_off, continue_on, give_back, if_then, if_else, while_loop, do_loop, for_loop}
 use Rattle.c_phrases.specs.Units.{SomeItems, no_items, local_item, statement_item, AParam, SomeParams, no_params, void_word, params, AFunction, ADeclared, function, globals}
 use Rattle.c_phrases.specs.Units.{AnExternal}
-use Rattle.c_phrases.specs.UnitSpelling.{onto_part, onto_length, onto_storage, onto_declarators, onto_more_declarators, onto_condition, onto_statement, onto_items, onto_named, onto_param}
-use Rattle.c_phrases.specs.UnitSpelling.{onto_more_params, onto_params, onto_body, onto_declared, onto_static, onto_external, onto_externals}
+use Rattle.c_phrases.specs.UnitSpelling.{onto_part, onto_length, onto_declarators, onto_more_declarators, onto_condition, onto_statement, onto_items, onto_named, onto_param}
+use Rattle.c_phrases.specs.UnitSpelling.{onto_more_params, onto_params, onto_body, onto_declared, onto_external, onto_externals}
 use Rattle.c_types.specs.declared.types.CType.{CType}
 use Rattle.c_types.specs.Typed.{AnExpression}
 use Rattle.c_program.specs.Statements.{AnAction, SomeActions}
 use Rattle.c_syntax.proofs.ExpressionLaws.{longer_exp}
-use Rattle.c_syntax.proofs.ItemLaws.{longer_spec}
-use Rattle.c_syntax.proofs.UnitLaws.{longer_stars}
+use Rattle.c_syntax.proofs.ItemLaws.{longer_spec, longer_storage}
+use Rattle.c_syntax.proofs.UnitLaws.{longer_stars, longer_named, longer_static}
 use Rattle.c_typed_scope.specs.declared.entry.Entry.{Entry}
 use Rattle.c_typed_scope.specs.declared.entry.Signature.{Signature}
 use Rattle.c_typed_scope.specs.Scopes.{Scope}
@@ -42,11 +41,6 @@ use Rattle.c_lower_needs.proofs.Objects.{object_adds, declarators_add}
 
 abbrev Held : State → ℕ
 Held s = Weight s.area
-
-storage_grows : (s : Storage) (w : List Placed) → length w ≤ length (onto_storage s w)
-storage_grows storages.Automatic w = omega arith
-storage_grows (storages.Static at) w = omega arith
-storage_grows (storages.Register at) w = omega arith
 
 module _ (names : List (List ℕ × Entry)) (signatures : List Signature) where
   -- ---- expressions in statements
@@ -160,7 +154,7 @@ module _ (names : List (List ℕ × Entry)) (signatures : List Signature) where
           let is = ap (λ (z : SomeActions × State). Held z.1) k.whole in
           omega (
             arith,
-            storage_grows l.storage (onto_spec l.spec (onto_declarators l.declarators behind)),
+            longer_storage l.storage (onto_spec l.spec (onto_declarators l.declarators behind)),
             longer_spec l.spec (onto_declarators l.declarators behind),
           )
       items_weigh looping (statement_item a rest) s r j w =
@@ -171,14 +165,6 @@ module _ (names : List (List ℕ × Entry)) (signatures : List Signature) where
           omega arith
 
 -- ---- functions and texts
-
-named_grows : (n : Option Named) (w : List Placed) → length w ≤ length (onto_named n w)
-named_grows None w = omega arith
-named_grows (Some n) w = omega arith
-
-static_grows : (s : Option ℕ) (w : List Placed) → length w ≤ length (onto_static s w)
-static_grows None w = omega arith
-static_grows (Some at) w = omega arith
 
 parameter_weighs : (o : Option Named) (t : CType) (n : ℕ) (s : State) → Held (with_parameter o t n s) ≡ Held s
 parameter_weighs None t n s = refl
@@ -219,7 +205,7 @@ module _ (names : List (List ℕ × Entry)) (signatures : List Signature) where
         arith,
         longer_spec p.spec (onto_stars p.stars (onto_named p.name (onto_length p.length w))),
         longer_stars p.stars (onto_named p.name (onto_length p.length w)),
-        named_grows p.name (onto_length p.length w),
+        longer_named p.name (onto_length p.length w),
       )
 
   parameters_add : (defines : Bool) (ps : List AParam) (n : ℕ) (s r : State) → AreParameters names signatures defines ps n s r → (w : List Placed)
@@ -288,7 +274,7 @@ module _ (names : List (List ℕ × Entry)) (signatures : List Signature) where
       let y = externals_add es j.part r j.whole w in
       omega (
         arith,
-        static_grows e.static_at (onto_spec e.spec (onto_declared e.declared v)),
+        longer_static e.static_at (onto_spec e.spec (onto_declared e.declared v)),
         longer_spec e.spec (onto_declared e.declared v),
       )
 

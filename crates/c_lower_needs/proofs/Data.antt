@@ -9,13 +9,11 @@ use Rattle.c_phrases.specs.Classes.{Placed, sign}
 use Rattle.c_phrases.specs.Phrases.{AnExp, name, number, str, paren, call, index, step_after, step_before, prefix, sizeof_exp, sizeof_type, cast, binary, choice, assign, comma}
 use Rattle.c_phrases.specs.Phrases.{SomeExps, no_exps, exps}
 use Rattle.c_phrases.specs.Operators.{binary_mark, step_mark, assign_mark}
-use Rattle.c_phrases.specs.Spelling.{onto_type, onto_stars, onto_exp, onto_first, onto_others}
-use Rattle.c_phrases.specs.declared.tree.TypeName.{TypeName}
+use Rattle.c_phrases.specs.Spelling.{onto_exp, onto_first, onto_others}
 use Rattle.c_types.specs.declared.fault.TypeKind.TheVariants.{DataFull}
 use Rattle.c_types.specs.Answers.{Fault, bad, ◌>>=◌}
 use Rattle.c_types.specs.Typed.{AnExpression, LiteralAt, SomeExpressions}
-use Rattle.c_syntax.proofs.ItemLaws.{longer_spec}
-use Rattle.c_syntax.proofs.UnitLaws.{longer_stars}
+use Rattle.c_syntax.proofs.ExpressionLaws.{longer_type}
 use Rattle.c_typed_scope.specs.declared.entry.Entry.{Entry}
 use Rattle.c_typed_scope.specs.declared.entry.Signature.{Signature}
 use Rattle.c_typed_scope.specs.Scopes.{Scope}
@@ -95,9 +93,6 @@ filled_keeps n f a = let same = contents_keep n f a.objects in omega arith
 
 -- ---- expressions: two for each token
 
-type_grows : (t : TypeName) (w : List Placed) → length w ≤ length (onto_type t w)
-type_grows t w = omega (arith, longer_spec t.spec (onto_stars t.stars w), longer_stars t.stars w)
-
 module _ (names : List (List ℕ × Entry)) (signatures : List Signature) (scope : Scope) where
   mutual
     pub exp_adds : (e : AnExp) (a : Area) (t : AnExpression × Area) → IsTyped names signatures scope e a t → (w : List Placed)
@@ -136,12 +131,12 @@ module _ (names : List (List ℕ × Entry)) (signatures : List Signature) (scope
         let is = ap Weight j.whole.left in
         omega arith
     exp_adds (sizeof_type at o of) a t j w =
-        let x = type_grows of (sign marks.CloseParenthesis 0 ∷ w) in
+        let x = longer_type of (sign marks.CloseParenthesis 0 ∷ w) in
         let is = ap Weight j.left in
         omega arith
     exp_adds (cast o to e) a t j w =
         let x = exp_adds e a j.part j.typed w in
-        let y = type_grows to (sign marks.CloseParenthesis 0 ∷ onto_exp e w) in
+        let y = longer_type to (sign marks.CloseParenthesis 0 ∷ onto_exp e w) in
         let is = ap Weight j.whole.left in
         omega arith
     exp_adds (binary l op at r) a t j w =

@@ -2,6 +2,7 @@
 use Rattle.std.proofs.Common.{◌≡◌, ℕ, zero, suc, ◌+◌, ◌*◌, ◌≤◌, Bool, List, [], ◌∷◌, ◌++◌, length, Option, Some, None, refl, ap, sym, subst, arith}
 use Rattle.std.specs.Prelude.{slice_get, is_some}
 use Rattle.std.proofs.lemmas.List.{length-append}
+use Rattle.c_syntax.proofs.UnitLaws.{longer_declared}
 use Rattle.c_tokens.specs.declared.token.Token.TheVariants as token
 use Rattle.c_phrases.specs.declared.operator.Spec.{Spec}
 use Rattle.c_phrases.specs.declared.tree.Named.{Named}
@@ -26,7 +27,7 @@ use Rattle.c_lower_counts.proofs.Law.{typed_have_few_labels}
 use Rattle.c_lower_needs.specs.Claims.{CountsFit}
 use Rattle.c_lower_needs.proofs.Locals.{Count}
 use Rattle.c_lower_needs.proofs.Needs.{body_need}
-use Rattle.c_lower_needs.proofs.Units.{function_takes, declared_grows, external_takes}
+use Rattle.c_lower_needs.proofs.Units.{function_takes, external_takes}
 
 -- ---- parameters are no automatic locals
 
@@ -118,7 +119,7 @@ module _ (names : List (List ℕ × Entry)) (signatures : List Signature) where
   externals_little (e ∷ es) t r j m w most all =
       let v : List Placed = onto_externals es w in
       let first = external_takes e v in
-      let longer = declared_grows e.declared v in
+      let longer = longer_declared e.declared v in
       externals_little es j.part r j.whole m w (omega arith) (external_little e.spec e.declared t j.part j.typed m v (omega arith) all)
 
   externals_done : (es : List AnExternal) (t r : Text) → AreExternals names signatures es t r → (w : List Placed)
@@ -129,7 +130,7 @@ module _ (names : List (List ℕ × Entry)) (signatures : List Signature) where
       let one = external_done e.spec e.declared t j.part j.typed in
       let x = externals_done es j.part r j.whole w in
       let first = external_takes e v in
-      let longer = declared_grows e.declared v in
+      let longer = longer_declared e.declared v in
       omega arith
 
 text_little : (p : AProgram) (text : List AnExternal) → IsText text p → (m : ℕ) (w : List Placed) → length (onto_externals text w) ≤ m

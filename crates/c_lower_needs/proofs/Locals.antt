@@ -11,13 +11,13 @@ use Rattle.c_phrases.specs.Phrases.{AnExp}
 use Rattle.c_phrases.specs.Spelling.{onto_spec}
 use Rattle.c_phrases.specs.Units.{AnInit, value, elements, ADeclarator, AStatement, block, empty, expression, break_off, continue_on, give_back, if_then, if_else, while_loop, do_loop, for_loop}
 use Rattle.c_phrases.specs.Units.{SomeItems, no_items, local_item, statement_item}
-use Rattle.c_phrases.specs.UnitSpelling.{onto_part, onto_declarator, onto_more_declarators, onto_declarators, onto_storage, onto_condition, onto_statement, onto_items}
+use Rattle.c_phrases.specs.UnitSpelling.{onto_part, onto_declarator, onto_more_declarators, onto_declarators, onto_condition, onto_statement, onto_items}
 use Rattle.c_types.specs.declared.types.CType.{CType}
 use Rattle.c_types.specs.Typed.{AnExpression}
 use Rattle.c_program.specs.Statements.{ADeclaration, AnAction, SomeActions}
 use Rattle.c_syntax.proofs.ExpressionLaws.{longer_exp}
 use Rattle.c_syntax.proofs.ListLaws.{longer_declarator}
-use Rattle.c_syntax.proofs.ItemLaws.{longer_spec}
+use Rattle.c_syntax.proofs.ItemLaws.{longer_spec, longer_storage, longer_part}
 use Rattle.c_typed_scope.specs.declared.entry.Entry.{Entry}
 use Rattle.c_typed_scope.specs.declared.entry.Signature.{Signature}
 use Rattle.c_typed_expressions.specs.Phrases.{init_in, brackets_in}
@@ -31,15 +31,6 @@ use Rattle.c_typed_law.specs.Statements.{IsFull, IsCondition, IsPart, IsTurn, Is
 -- how many automatic locals there are so far
 abbrev pub Count : State → ℕ
 Count s = length s.locals
-
-part_grows : (e : Option AnExp) (w : List Placed) → length w ≤ length (onto_part e w)
-part_grows None w = omega arith
-part_grows (Some e) w = omega (arith, longer_exp e w)
-
-storage_grows : (s : Storage) (w : List Placed) → length w ≤ length (onto_storage s w)
-storage_grows storages.Automatic w = omega arith
-storage_grows (storages.Static at) w = omega arith
-storage_grows (storages.Register at) w = omega arith
 
 module _ (names : List (List ℕ × Entry)) (signatures : List Signature) where
   -- ---- declarations
@@ -141,7 +132,7 @@ module _ (names : List (List ℕ × Entry)) (signatures : List Signature) where
       statement_adds looping (continue_on at) s r j w = let is = ap (λ (z : AnAction × State). Count z.1) j.typed in omega arith
       statement_adds looping (give_back at e) s r j w =
           let x = return_keeps e s r j in
-          omega (arith, part_grows e (sign marks.Semicolon 0 ∷ w))
+          omega (arith, longer_part e (sign marks.Semicolon 0 ∷ w))
       statement_adds looping (if_then at o c a) s r j w =
           let k = j.whole in
           let x = condition_keeps c s j.part j.typed in
@@ -181,7 +172,7 @@ module _ (names : List (List ℕ × Entry)) (signatures : List Signature) where
           let u = part_keeps e k.part.1 m.part m.typed in
           let v = statement_adds true a m.part.1 q.part q.typed w in
           let is = ap (λ (z : AnAction × State). Count z.1) q.whole in
-          omega (arith, part_grows i (sign marks.Semicolon 0 ∷ onto_part c middle), part_grows c middle, part_grows e last)
+          omega (arith, longer_part i (sign marks.Semicolon 0 ∷ onto_part c middle), longer_part c middle, longer_part e last)
 
       pub items_add : (looping : Bool) (row : SomeItems) (s : State) (r : SomeActions × State)
           → AreItems names signatures result_type looping row s r → (w : List Placed) → Count r.1 + length w ≤ Count s + length (onto_items row w)
@@ -194,7 +185,7 @@ module _ (names : List (List ℕ × Entry)) (signatures : List Signature) where
           let is = ap (λ (z : SomeActions × State). Count z.1) k.whole in
           omega (
             arith,
-            storage_grows l.storage (onto_spec l.spec (onto_declarators l.declarators behind)),
+            longer_storage l.storage (onto_spec l.spec (onto_declarators l.declarators behind)),
             longer_spec l.spec (onto_declarators l.declarators behind),
           )
       items_add looping (statement_item a rest) s r j w =

@@ -12,8 +12,8 @@ use Rattle.c_phrases.specs.UnitSpelling.{onto_part, onto_length, onto_trailing, 
 use Rattle.c_types.specs.declared.types.CType.{CType}
 use Rattle.c_types.specs.Types.{size_of, pointer_to}
 use Rattle.c_program.specs.Statements.{ADeclaration}
-use Rattle.c_syntax.proofs.ExpressionLaws.{longer_exp, longer_first}
-use Rattle.c_syntax.proofs.ListLaws.{longer_length}
+use Rattle.c_syntax.proofs.ExpressionLaws.{longer_exp}
+use Rattle.c_syntax.proofs.ListLaws.{longer_length, longer_trailing, longer_init, longer_initialised}
 use Rattle.c_syntax.proofs.UnitLaws.{longer_stars}
 use Rattle.c_typed_scope.specs.declared.entry.Entry.{Entry}
 use Rattle.c_typed_scope.specs.declared.entry.Entry.TheVariants as entries
@@ -29,20 +29,6 @@ use Rattle.c_typed_law.specs.Objects.{IsCount, AreLaid, HoldsAtFirst, IsFilled, 
 use Rattle.c_typed_law.specs.Locals.{IsBegun, IsAutomatic, IsLocal, AreLocals}
 use Rattle.c_lower_needs.specs.Claims.{Weight}
 use Rattle.c_lower_needs.proofs.Data.{exp_adds, laid_adds, filled_keeps}
-
-trailing_grows : (t : Bool) (w : List Placed) → length w ≤ length (onto_trailing t w)
-trailing_grows true w = omega arith
-trailing_grows false w = omega arith
-
-init_grows : (i : AnInit) (w : List Placed) → length w ≤ length (onto_init i w)
-init_grows (value e) w = omega (arith, longer_exp e w)
-init_grows (elements es t) w =
-    let v : List Placed = sign marks.CloseBrace 0 ∷ w in
-    omega (arith, longer_first es (onto_trailing t v), trailing_grows t v)
-
-initialised_grows : (i : Option AnInitialised) (w : List Placed) → length w ≤ length (onto_initialised i w)
-initialised_grows None w = omega arith
-initialised_grows (Some i) w = omega (arith, init_grows i.with_init w)
 
 abbrev Held : Filled × Area → ℕ
 Held z = Weight z.1
@@ -78,7 +64,7 @@ module _ (names : List (List ℕ × Entry)) (signatures : List Signature) (scope
   init_holds t is_array (elements es trailing) a r j w =
       let v : List Placed = sign marks.CloseBrace 0 ∷ w in
       let x = firsts_hold t es (record { bytes = []; links = [] }, a) r j (onto_trailing trailing v) in
-      omega (arith, trailing_grows trailing v)
+      omega (arith, longer_trailing trailing v)
   init_holds t true (value e) a r j w = let is = ap Held j in omega (arith, longer_exp e w)
   init_holds t false (value e) a r j w = element_adds t e (record { bytes = []; links = [] }, a) r j w
 
@@ -129,7 +115,7 @@ module _ (names : List (List ℕ × Entry)) (signatures : List Signature) where
       let e : Entry = entries.Variable t (variable_of is_static q.0) in
       let x = laid_adds is_static d.at d.name (size_of t) (size_of t) s.area q j.typed in
       let y = filled_adds q.0 (size_of t) t false d e (with_area q.1 s) r j.whole w in
-      let z = initialised_grows d.init w in
+      let z = longer_initialised d.init w in
       omega arith
   by_length_adds is_static t d (Some l) s r j w =
       let v : List Placed = onto_initialised d.init w in
@@ -142,7 +128,7 @@ module _ (names : List (List ℕ × Entry)) (signatures : List Signature) where
       let x = laid_adds is_static d.at d.name (size_of t) (n * size_of t) j.part.1 q k.typed in
       let laid = length_adds names signatures s.scope l.value q.1 m.part m.typed (sign marks.CloseBracket 0 ∷ v) in
       let y = filled_adds q.0 (n * size_of t) t true d e (with_area m.part s) r m.whole w in
-      let z = initialised_grows d.init w in
+      let z = longer_initialised d.init w in
       omega arith
 
   pub object_adds : (is_static : Bool) (spec : Spec) (d : ADeclarator) (s : State) (r : ℕ × State) → IsObject names signatures is_static spec d s r
@@ -157,7 +143,7 @@ module _ (names : List (List ℕ × Entry)) (signatures : List Signature) where
       → Weight r.1.area + 2 * length w ≤ Weight s.area + 2 * length (onto_init i w)
   init_adds t n (elements es trailing) s r j w =
       let is = ap (λ (z : ADeclaration × State). Weight z.1.area) j in
-      omega (arith, init_grows (elements es trailing) w)
+      omega (arith, longer_init (elements es trailing) w)
   init_adds t n (value e) s r j w =
       let x = exp_adds names signatures s.scope e s.area j.part j.typed w in
       let is = ap (λ (z : ADeclaration × State). Weight z.1.area) j.whole.whole in
@@ -174,7 +160,7 @@ module _ (names : List (List ℕ × Entry)) (signatures : List Signature) where
       let t : CType = written spec d.stars in
       let v : List Placed = onto_initialised d.init w in
       let x = begun_adds t (length s.locals) d.init (with_local t d.name s) r j.whole w in
-      let grows = initialised_grows d.init w in
+      let grows = longer_initialised d.init w in
       omega (arith, longer_stars d.stars (onto_name d.name d.at (onto_length d.length v)), longer_length d.length v)
 
   local_adds : (storage : Storage) (spec : Spec) (d : ADeclarator) (s : State) (r : ADeclaration × State)

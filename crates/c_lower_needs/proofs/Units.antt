@@ -1,19 +1,18 @@
 -- What a unit declares stands within its tokens.
-use Rattle.std.proofs.Common.{◌≡◌, ℕ, zero, suc, ◌+◌, ◌≤◌, Bool, true, false, List, [], ◌∷◌, ◌++◌, length, Option, Some, None, ap, arith}
+use Rattle.std.proofs.Common.{◌≡◌, ℕ, zero, suc, ◌+◌, ◌≤◌, Bool, true, false, List, [], ◌∷◌, ◌++◌, length, Option, Some, ap, arith}
 use Rattle.std.specs.Prelude.{slice_get, is_some, if◌then◌else◌}
 use Rattle.std.proofs.lemmas.List.{length-append}
 use Rattle.c_tokens.specs.declared.token.Token.TheVariants as token
 use Rattle.c_tokens.specs.declared.marks.Mark.TheVariants as marks
 use Rattle.c_phrases.specs.declared.operator.Spec.{Spec}
-use Rattle.c_phrases.specs.declared.tree.Named.{Named}
 use Rattle.c_phrases.specs.Classes.{Placed, sign}
 use Rattle.c_phrases.specs.Spelling.{onto_spec, onto_stars, onto_name}
 use Rattle.c_phrases.specs.Units.{SomeItems, AParam, SomeParams, no_params, void_word, params, AFunction, ADeclared, function, globals, AnExternal, AUnit}
-use Rattle.c_phrases.specs.UnitSpelling.{onto_length, onto_named, onto_param, onto_more_params, onto_params, onto_body, onto_declared, onto_static, onto_external, onto_externals, unit_tokens}
+use Rattle.c_phrases.specs.UnitSpelling.{onto_length, onto_named, onto_param, onto_more_params, onto_params, onto_body, onto_declared, onto_external, onto_externals, unit_tokens}
 use Rattle.c_types.specs.declared.types.CType.{CType}
 use Rattle.c_syntax.proofs.ListLaws.{longer_length}
-use Rattle.c_syntax.proofs.ItemLaws.{longer_spec, longer_declarators, longer_items}
-use Rattle.c_syntax.proofs.UnitLaws.{longer_stars}
+use Rattle.c_syntax.proofs.ItemLaws.{longer_spec}
+use Rattle.c_syntax.proofs.UnitLaws.{longer_stars, longer_named, longer_static, longer_body, longer_declared}
 use Rattle.c_typed_scope.specs.declared.entry.Entry.TheVariants as entries
 use Rattle.c_typed_scope.specs.Scopes.{find}
 use Rattle.c_typed_expressions.specs.Phrases.{params_in}
@@ -23,17 +22,13 @@ use Rattle.c_lower_needs.proofs.Needs.{body_need}
 
 -- ---- what stands in front
 
-named_grows : (n : Option Named) (w : List Placed) → length w ≤ length (onto_named n w)
-named_grows None w = omega arith
-named_grows (Some n) w = omega arith
-
 -- a parameter has a token at least
 param_takes : (p : AParam) (w : List Placed) → 1 + length w ≤ length (onto_param p w)
 param_takes p w = omega (
   arith,
   longer_spec p.spec (onto_stars p.stars (onto_named p.name (onto_length p.length w))),
   longer_stars p.stars (onto_named p.name (onto_length p.length w)),
-  named_grows p.name (onto_length p.length w),
+  longer_named p.name (onto_length p.length w),
   longer_length p.length w,
 )
 
@@ -47,14 +42,6 @@ params_take (void_word at) w = omega arith
 params_take (params []) w = omega arith
 params_take (params (p ∷ ps)) w = omega (arith, param_takes p (onto_more_params ps w), more_params_take ps w)
 
-static_grows : (s : Option ℕ) (w : List Placed) → length w ≤ length (onto_static s w)
-static_grows None w = omega arith
-static_grows (Some at) w = omega arith
-
-body_grows : (o : Option SomeItems) (w : List Placed) → length w ≤ length (onto_body o w)
-body_grows None w = omega arith
-body_grows (Some row) w = omega (arith, longer_items row (sign marks.CloseBrace 0 ∷ w))
-
 -- a function's tokens: its name and parentheses, its parameters, and its body
 pub function_takes : (f : AFunction) (w : List Placed)
     → 3 + (length (params_in f.params) + length (onto_body f.body w)) ≤ length (onto_declared (function f) w)
@@ -66,15 +53,11 @@ function_takes f w =
       params_take f.params behind,
     )
 
-pub declared_grows : (d : ADeclared) (w : List Placed) → length w ≤ length (onto_declared d w)
-declared_grows (function f) w = let x = function_takes f w in let y = body_grows f.body w in omega arith
-declared_grows (globals ds) w = omega (arith, longer_declarators ds (sign marks.Semicolon 0 ∷ w))
-
 -- an external has a token before what it declares
 pub external_takes : (e : AnExternal) (w : List Placed) → 1 + length (onto_declared e.declared w) ≤ length (onto_external e w)
 external_takes e w = omega (
   arith,
-  static_grows e.static_at (onto_spec e.spec (onto_declared e.declared w)),
+  longer_static e.static_at (onto_spec e.spec (onto_declared e.declared w)),
   longer_spec e.spec (onto_declared e.declared w),
 )
 
@@ -94,7 +77,7 @@ external_within (x ∷ es) (suc n) e there w =
     let v : List Placed = onto_externals es w in
     let within = r.1 in
     let first = external_takes x v in
-    let longer = declared_grows x.declared v in
+    let longer = longer_declared x.declared v in
     (r.0, omega arith)
 
 function_within : (unit : AUnit) (f : AFunction) → Declares unit f
@@ -151,7 +134,7 @@ known_few (e ∷ es) k w =
     let x = known_few es (known_with e k) w in
     let one = one_more e e.declared k in
     let first = external_takes e v in
-    let longer = declared_grows e.declared v in
+    let longer = longer_declared e.declared v in
     omega arith
 
 pub functions_are_few : FunctionsAreFew

@@ -9,6 +9,7 @@ use Rattle.tree_core.specs.declared.program.TreeItem.TheVariants as tree_item
 use Rattle.tree_core.specs.declared.program.TreeFn.{TreeFn}
 use Rattle.tree_core.specs.Items.{target_of, times, all_labels}
 use Rattle.tree_core.specs.Labels.{TargetsStandIn}
+use Rattle.tree_core.proofs.Apart.{times-append}
 use Rattle.c_lower_scheme.specs.Trees.{Item, Label, AssignLoc, AssignArg, AssignMem, Cbr, Jump, Push, Call, Save, Ret}
 use Rattle.c_lower_scheme.specs.Spelling.{spelled, spelled_all}
 use Rattle.c_lower_valid.proofs.Marks.{at, tag, aim, stands, aims}
@@ -21,10 +22,6 @@ number_of (Some l) n = at l n
 times_more : (o : Option ℕ) (n : ℕ) (ms : List ℕ) → times n (cons_option o ms) ≡ number_of o n + times n ms
 times_more None n ms = omega arith
 times_more (Some l) n ms = refl
-
-times_append : (n : ℕ) (a b : List ℕ) → times n (a ++ b) ≡ times n a + times n b
-times_append n [] b = omega arith
-times_append n (m ∷ a) b = let h = times_append n a b in omega arith
 
 -- a reading of items that finds the labels that stand there
 module _ (h : TreeItem → Option ℕ) (on_label : (l : ℕ) → h (tree_item.Label l) ≡ Some l)
@@ -53,7 +50,7 @@ module _ (h : TreeItem → Option ℕ) (on_label : (l : ℕ) → h (tree_item.La
   stands_all n (i ∷ is) = omega (arith, times_more (h (spelled i)) n (filter_map h (spelled_all is)), stands_there i n, stands_all n is)
 
   stands_before : (n : ℕ) (is : List Item) (ms : List ℕ) → times n (filter_map h (spelled_all is) ++ ms) ≡ stands n is + times n ms
-  stands_before n is ms = omega (arith, times_append n (filter_map h (spelled_all is)) ms, stands_all n is)
+  stands_before n is ms = omega (arith, times-append n (filter_map h (spelled_all is)) ms, stands_all n is)
 
 -- one that finds the labels to which they go
 module _ (h : TreeItem → Option ℕ) (on_label : (l : ℕ) → h (tree_item.Label l) ≡ None)

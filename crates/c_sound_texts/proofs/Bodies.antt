@@ -3,6 +3,7 @@ use Rattle.std.proofs.Common.{◌≡◌, ℕ, ◌+◌, ◌<◌, ◌≤◌, Bool,
 use Rattle.std.proofs.lemmas.Bool.Decides.{nat_tests}
 use Rattle.std.proofs.lemmas.List.{length-map}
 use Rattle.std.specs.Prelude.{is_some, nat_lt, slice_get}
+use Rattle.gg_base.proofs.Facts.{slice_cases}
 use Rattle.c_phrases.specs.declared.operator.Spec.{Spec}
 use Rattle.c_phrases.specs.declared.tree.Named.{Named}
 use Rattle.c_phrases.specs.Phrases.{AnExp}
@@ -36,7 +37,6 @@ use Rattle.c_sound_bodies.proofs.Growth.{extends_same, extends_further}
 use Rattle.c_sound_bodies.proofs.Objects.{length_extends, objects_are_sound}
 use Rattle.c_sound_bodies.proofs.Locals.{grows_same, grows_further, grows_area, order_more}
 use Rattle.c_sound_bodies.proofs.Law.{bodies_are_sound}
-use Rattle.c_sound_texts.proofs.Functions.{appended}
 
 -- a typed function, where there are so many objects
 pub record RoutineIsSound (signatures : List Signature) (objects : ℕ) (g : ARoutine) : Type 0 where
@@ -158,7 +158,7 @@ module _ (names : List (List ℕ × Entry)) (signatures : List Signature) where
       r ≡ with_body b t → TextIsSound signatures r
   one_more t r b h one is = rw is (record {
     order = h.order;
-    routines = λ i g here. elim (appended t.bodies b i g here) [ inl x ↦ h.routines i g x | inr x ↦ rw (x.1) one ];
+    routines = λ i g here. elim (slice_cases t.bodies b i g here) [ inl x ↦ h.routines i g x | inr x ↦ rw (x.1) one ];
   })
 
   body_sound : (spec : Spec) (f : AFunction) (o : Option SomeItems) → BodyOf IsToken o → (s : State) (t r : Text) →

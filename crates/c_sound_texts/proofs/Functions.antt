@@ -1,10 +1,11 @@
 -- Each function of a text that is defined is typed, once, in the order of the first definitions.
-use Rattle.std.proofs.Common.{◌≡◌, ℕ, zero, suc, ◌+◌, ◌-◌, ◌≤◌, ◌==◌, ◌&&◌, Bool, true, false, List, [], ◌∷◌, ◌++◌, length, map, Option, Some, None, ◌⊎◌, inl, inr, refl, sym, ap, subst, ◌∙◌, arith}
+use Rattle.std.proofs.Common.{◌≡◌, ℕ, zero, suc, ◌+◌, ◌-◌, ◌≤◌, ◌==◌, ◌&&◌, Bool, true, false, List, [], ◌∷◌, ◌++◌, length, map, Option, Some, None, inl, inr, refl, sym, ap, subst, ◌∙◌, arith}
 use Rattle.std.proofs.lemmas.List.{length-map, map-append}
 use Rattle.std.proofs.lemmas.Bool.{lt-ltb, ne_eqb, and_from}
 use Rattle.std.proofs.lemmas.Slice.Eq.{bytes_eq-Decides}
 use Rattle.std.specs.Prelude.{codes, is_some, slice_get, if◌then◌else◌}
 use Rattle.std.specs.Str.{bytes_eq}
+use Rattle.gg_base.proofs.Facts.{slice_cases}
 use Rattle.c_phrases.specs.declared.operator.Spec.{Spec}
 use Rattle.c_phrases.specs.Units.{SomeItems, AFunction, ADeclared, function, globals, AnExternal}
 use Rattle.c_typed_scope.specs.declared.entry.Entry.{Entry}
@@ -35,14 +36,6 @@ numbered n (b ∷ bs) = (b.name, entries.Function n) ∷ numbered (n + 1) bs
 -- the services, and typed functions behind them
 abbrev pub known_of : List ARoutine → Known
 known_of bodies = record { names = service_names ++ numbered 2 bodies; signatures = services ++ map heading_of bodies }
-
--- one of these, or the one that is added
-pub appended : {A : Type 0} (xs : List A) (y : A) (i : ℕ) (g : A) → slice_get (xs ++ y ∷ []) i ≡ Some g →
-    (slice_get xs i ≡ Some g) ⊎ ((i ≡ length xs) × (g ≡ y))
-appended [] y zero g e = let same : g ≡ y = cc in inr (refl, same)
-appended [] y (suc i) g e = absurd (cc)
-appended (x ∷ xs) y zero g e = inl e
-appended (x ∷ xs) y (suc i) g e = elim (appended xs y i g e) [ inl h ↦ inl h | inr h ↦ inr (ap suc h.0, h.1) ]
 
 numbered_more : (n : ℕ) (bodies : List ARoutine) (b : ARoutine) →
     numbered n (bodies ++ b ∷ []) ≡ numbered n bodies ++ (b.name, entries.Function (n + length bodies)) ∷ []
@@ -168,12 +161,12 @@ differ_more : (bodies : List ARoutine) (b : ARoutine) → IsNew b.name bodies �
     (i j : ℕ) (g h : ARoutine) → slice_get (bodies ++ b ∷ []) i ≡ Some g → slice_get (bodies ++ b ∷ []) j ≡ Some h →
     bytes_eq g.name h.name ≡ true → i ≡ j
 differ_more bodies b new old i j g h p q same =
-    elim (appended bodies b i g p) [
-      | inl x ↦ elim (appended bodies b j h q) [
+    elim (slice_cases bodies b i g p) [
+      | inl x ↦ elim (slice_cases bodies b j h q) [
         | inl y ↦ old i j g h x y same
         | inr y ↦ not_both (bytes_eq b.name g.name) (other_way g.name b.name (rw (y.1) at same)) (new.others i g x)
       ]
-      | inr x ↦ elim (appended bodies b j h q) [
+      | inr x ↦ elim (slice_cases bodies b j h q) [
         | inl y ↦ not_both (bytes_eq b.name h.name) (rw (x.1) at same) (new.others j h y)
         | inr y ↦ x.0 ∙ sym y.0
       ]
@@ -183,7 +176,7 @@ none_more : (bodies : List ARoutine) (b : ARoutine) (name : List ℕ) → bytes_
     ((i : ℕ) (g : ARoutine) → slice_get bodies i ≡ Some g → bytes_eq g.name name ≡ false) →
     (i : ℕ) (g : ARoutine) → slice_get (bodies ++ b ∷ []) i ≡ Some g → bytes_eq g.name name ≡ false
 none_more bodies b name new old i g p =
-    elim (appended bodies b i g p) [ inl x ↦ old i g x | inr x ↦ rw (x.1) new ]
+    elim (slice_cases bodies b i g p) [ inl x ↦ old i g x | inr x ↦ rw (x.1) new ]
 
 with_by : (test : Bool) (k more : Known) → test ≡ false → (if test then k else more) ≡ more
 with_by true k more h = absurd (cc)

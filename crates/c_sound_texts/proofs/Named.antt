@@ -5,6 +5,7 @@ use Rattle.std.specs.Fmt.{decimal}
 use Rattle.std.specs.Prelude.{codes, is_some, slice_get, if◌then◌else◌}
 use Rattle.std.specs.Str.{bytes_eq}
 use Rattle.std.proofs.lemmas.Slice.Eq.{bytes_eq-Decides}
+use Rattle.gg_base.proofs.Facts.{slice_cases}
 use Rattle.c_tokens.specs.declared.token.Token.TheVariants as token
 use Rattle.c_phrases.specs.declared.operator.Spec.{Spec}
 use Rattle.c_phrases.specs.declared.tree.Named.{Named}
@@ -41,7 +42,7 @@ use Rattle.c_sound_bodies.proofs.Areas.{items_lay, order_any}
 use Rattle.c_sound_bodies.proofs.Objects.{IsVariable, Declares, object_declares}
 use Rattle.c_sound_texts.proofs.Labels.{Each, Differ, each_weaker, each_joined, differ_joined, labels, IsNew, OfStatic, OfLiteral, HasFew, Numbers, numbers_same, numbers_further}
 use Rattle.c_sound_texts.proofs.Labels.{numbering, new_more, new_apart, heads, tails, LaidFor, Declared, object_declared, static_numbers, labels_joined}
-use Rattle.c_sound_texts.proofs.Functions.{appended, find_further}
+use Rattle.c_sound_texts.proofs.Functions.{find_further}
 use Rattle.c_sound_bodies.proofs.Law.{bodies_are_sound}
 use Rattle.c_sound_texts.proofs.Bodies.{TextIsSound, function_begins, Parametered, parameters_order, declared_sound, external_sound}
 
@@ -266,7 +267,7 @@ function_added s bodies b h f = record {
   each = h.each;
   differ = h.differ;
   counted = h.counted;
-  functions = λ i g here. elim (appended bodies b i g here) [ inl x ↦ h.functions i g x | inr x ↦ rw (x.1) f ];
+  functions = λ i g here. elim (slice_cases bodies b i g here) [ inl x ↦ h.functions i g x | inr x ↦ rw (x.1) f ];
   putchar = h.putchar;
   getchar = h.getchar;
 }

@@ -40,7 +40,7 @@ use Rattle.c_syntax_goals.specs.Declarators as Declarators
 use Rattle.c_syntax_goals.specs.Statements as Statements
 use Rattle.c_syntax_goals.specs.Wanted as Wanted
 use Rattle.c_syntax_goals.specs.Externals as Externals
-use Rattle.c_syntax_goals.specs.Goals.{Goal, Val, Stack, Done, Want, Steps, Opens, Refuses, Passes, Expr, Assign}
+use Rattle.c_syntax_goals.specs.Goals.{Goal, Val, Stack, Done, Want, Steps, Opens, Refuses, Expr, Assign}
 use Rattle.c_syntax_goals.specs.Goals.{Cast, Tail, Back, WantParen, WantBracket, WantSemi, WantWhile, TypeWords}
 use Rattle.c_syntax_goals.specs.Goals.{AfterUnsigned, Stars, Condition, Simple, Statement, Items, PartSemi, PartParen}
 use Rattle.c_syntax_goals.specs.Goals.{ForOpen, ElsePart, Local, DeclaratorName, ArrayPart, Length, InitPart, Init}
@@ -58,7 +58,7 @@ use Rattle.c_syntax_goals.proofs.Tokens.{single, token_of}
 use Rattle.c_syntax_goals.proofs.Steps.{NoSet, back, expand_cond, step_refuses}
 use Rattle.c_syntax_goals.proofs.Going.{Starts, StartClass, starts, not_start, quiet_others, law_exp, law_assign, law_cond, law_operand}
 use Rattle.c_syntax_goals.proofs.PhraseLaws.{limit_low}
-use Rattle.c_syntax_goals.proofs.Stating.{pass_array, pass_init, pass_else, expand_length, expand_init, expand_elements, expand_next, expand_semi, expand_paren, expand_after_name}
+use Rattle.c_syntax_goals.proofs.Stating.{pass_array, pass_init, pass_else, expand_length, expand_init, expand_elements, expand_next, expand_semi, expand_paren, expand_after_name, name_by}
 use Rattle.c_syntax_goals.proofs.Stating.{expand_items, expand_local, law_init, law_elements_init, law_condition, law_semi, law_paren, law_statement, law_local, law_params}
 use Rattle.c_syntax_goals.proofs.Stating.{law_external}
 use Rattle.c_syntax.proofs.Exits.{IsReal, fails_when, real, fails_here, deep, opens, class_not, assign_leads, exp_leads, operand_leads, no_close, no_bracket}
@@ -690,14 +690,9 @@ items_begin n ts = λ f h. h
 pub items_step_leads : (n : ℕ) (ts rest behind : List Placed) → ItemsLead n ts rest → ItemsLead n rest behind → ItemsLead n ts behind
 items_step_leads n ts rest behind l g = λ f h. l f (g f h)
 
--- parameters
-named_by : (k : Class) → (k ≢ c.Name) → (t : Placed) (n : ℕ) (κ : Option Named → Stack) → Externals.opt_name_turn k t n κ ≡ Passes n None
-named_by c.Name h t n κ = absurd (h refl)
-named_by k h t n κ = refl
-
 pub named_none : (n : ℕ) (ts : List Placed) → NoName ts → Leads (Want OptName) n ts None n ts
 named_none n [] h = λ κ. refl
-named_none n (t ∷ ts) h = λ κ. rw (named_by (class_of t.kind) (not_named t.kind h) t n κ) refl
+named_none n (t ∷ ts) h = λ κ. rw (name_by (class_of t.kind) (not_named t.kind h) t n κ) refl
 
 pub named_some : (n at : ℕ) (x : List ℕ) (ts rest : List Placed) → ts ≡ onto_name x at rest → Leads (Want OptName) n ts (Some (record { name = x; at = at })) n rest
 named_some n at x ts rest e = λ κ. rw e refl

@@ -102,7 +102,7 @@ longer_spec (specs.UnsignedChar at b) w = omega arith
 longer_spec (specs.UnsignedShort at b i) w = omega (arith, longer_int i w)
 longer_spec (specs.Void at) w = omega arith
 
-longer_type : (t : TypeName) (w : List Placed) → length w ≤ length (onto_type t w)
+pub longer_type : (t : TypeName) (w : List Placed) → length w ≤ length (onto_type t w)
 longer_type t w = omega (arith, longer_spec t.spec (onto_stars t.stars w), longer_stars t.stars w)
 
 mutual

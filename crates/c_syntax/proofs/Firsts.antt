@@ -14,6 +14,7 @@ use Rattle.c_syntax_goals.specs.UnitOpenings.{levelled}
 use Rattle.c_tokens.specs.Grammar.{IsEnded}
 use Rattle.c_syntax_goals.specs.Refusals.{NoneDeep, FirstAreLow, FirstDeepIs, Begins, NotHereAt, TooDeepAt}
 use Rattle.c_syntax_goals.proofs.Lowness.{low_both}
+use Rattle.c_syntax_goals.proofs.Faults.{seen_append}
 use Rattle.c_syntax.specs.declared.fault.SyntaxFault.{SyntaxFault}
 use Rattle.c_syntax.specs.declared.fault.SyntaxFault.TheVariants.{NoMemory, NotHere, TooDeep}
 use Rattle.c_syntax.specs.Answers.{HasFault, IsOnlyFault}
@@ -35,17 +36,13 @@ two_places [] t r (y ∷ b) u s e = Earlier b (let same : t ≡ y = cc in ap (λ
 two_places (x ∷ a) t r [] u s e = Later a (let same : x ≡ u = cc in ap (λ (z : Spanned). z ∷ a) same)
 two_places (x ∷ a) t r (y ∷ b) u s e = further x y a t b u (cc) (two_places a t r b u s (cc))
 
-seen_joined : (a b : List Spanned) → seen (a ++ b) ≡ seen a ++ seen b
-seen_joined [] b = refl
-seen_joined (t ∷ a) b = ap (λ (z : List Placed). placed t ∷ z) (seen_joined a b)
-
 -- a unit that begins with tokens begins with fewer of them
 begins_fewer : (ts more : List Placed) (u : AUnit) → Begins (ts ++ more) u → Begins ts u
 begins_fewer ts more u b = record { fits = b.fits; word = more ++ b.word; text = b.text ∙ append_assoc ts more b.word }
 
 up_to : (a : List Spanned) (t : Spanned) (more : List Spanned) (rest : List Placed) → seen (a ++ t ∷ more) ++ rest ≡ (seen a ++ placed t ∷ []) ++ (seen more ++ rest)
 up_to a t more rest =
-    ap (λ (z : List Placed). z ++ rest) (seen_joined a (t ∷ more))
+    ap (λ (z : List Placed). z ++ rest) (seen_append a (t ∷ more))
     ∙ (append_assoc (seen a) (placed t ∷ seen more) rest ∙ sym (append_assoc (seen a) (placed t ∷ []) (seen more ++ rest)))
 
 -- of a unit that begins with more tokens than those up to a place

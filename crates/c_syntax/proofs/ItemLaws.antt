@@ -1,9 +1,9 @@
 -- What stands in a block, one more at the end.
 use Rattle.std.proofs.Common.{◌≡◌, ◌<◌, ◌≤◌, ℕ, ◌+◌, List, [], ◌∷◌, ◌++◌, length, refl, sym, ◌∙◌, ap, subst, arith, inl}
-use Rattle.std.specs.Prelude.{Option, Some, None, true}
-use Rattle.std.proofs.lemmas.Bool.Decides.{nat_tests}
+use Rattle.std.specs.Prelude.{Option, Some, None}
 use Rattle.std.specs.declared.vec.Vec.{Vec}
 use Rattle.std.specs.declared.alloc.Global.{Global}
+use Rattle.c_syntax_goals.proofs.PhraseLaws.{limit_low}
 use Rattle.c_tokens.specs.declared.words.Key.TheVariants as keys
 use Rattle.c_tokens.specs.declared.marks.Mark.TheVariants as marks
 use Rattle.c_phrases.specs.declared.operator.Spec.{Spec}
@@ -37,9 +37,6 @@ row_is c (more_of-Item i rest) = ap (item_onto i) (row_is _ rest)
 
 pub block_is : (body : Vec Item Global) → statement_of (Block body) ≡ block (items_of body.items)
 block_is body = ap block (row_is _ (hidden-the_row-Item-0 body) ∙ ap items_of (items_hidden-the_row-Item-0 body))
-
-limit_low : (m : ℕ) → m ≤ 200 → limit m ≡ true
-limit_low m le = grind (arith, nat_tests)
 
 pub block_read : (n m : ℕ) (ts inner rest : List Placed) (body : Vec Item Global) → ts ≡ sign marks.OpenBrace 0 ∷ inner → (m ≡ n + 1) × (n + 1 ≤ 200)
     → ReadsItems m inner (items_of body.items) (sign marks.CloseBrace 0 ∷ rest) → ReadsStatement n ts (statement_of (Block body)) rest
@@ -87,7 +84,7 @@ items_more n ts rest behind a b r s = record {
 }
 
 -- an item has a token
-longer_part : (e : Option AnExp) (w : List Placed) → length w ≤ length (onto_part e w)
+pub longer_part : (e : Option AnExp) (w : List Placed) → length w ≤ length (onto_part e w)
 longer_part None w = omega arith
 longer_part (Some e) w = omega (arith, longer_exp e w)
 
@@ -111,7 +108,7 @@ pub longer_declarators : (ds : List ADeclarator) (w : List Placed) → length w 
 longer_declarators [] w = omega arith
 longer_declarators (d ∷ ds) w = omega (arith, longer_declarator d (onto_more_declarators ds w), longer_more ds w)
 
-longer_storage : (s : Storage) (w : List Placed) → length w ≤ length (onto_storage s w)
+pub longer_storage : (s : Storage) (w : List Placed) → length w ≤ length (onto_storage s w)
 longer_storage storages.Automatic w = omega arith
 longer_storage (storages.Static at) w = omega arith
 longer_storage (storages.Register at) w = omega arith

@@ -86,15 +86,15 @@ pub longer_length : (l : Option ALength) (w : List Placed) → length w ≤ leng
 longer_length None w = omega arith
 longer_length (Some l) w = omega (arith, longer_part l.value (sign marks.CloseBracket 0 ∷ w))
 
-longer_trailing : (t : Bool) (w : List Placed) → length w ≤ length (onto_trailing t w)
+pub longer_trailing : (t : Bool) (w : List Placed) → length w ≤ length (onto_trailing t w)
 longer_trailing true w = omega arith
 longer_trailing false w = omega arith
 
-longer_init : (i : AnInit) (w : List Placed) → length w ≤ length (onto_init i w)
+pub longer_init : (i : AnInit) (w : List Placed) → length w ≤ length (onto_init i w)
 longer_init (value e) w = omega (arith, longer_exp e w)
 longer_init (elements es t) w = omega (arith, longer_first es (onto_trailing t (sign marks.CloseBrace 0 ∷ w)), longer_trailing t (sign marks.CloseBrace 0 ∷ w))
 
-longer_initialised : (i : Option AnInitialised) (w : List Placed) → length w ≤ length (onto_initialised i w)
+pub longer_initialised : (i : Option AnInitialised) (w : List Placed) → length w ≤ length (onto_initialised i w)
 longer_initialised None w = omega arith
 longer_initialised (Some i) w = omega (arith, longer_init i.with_init w)
 

@@ -1,5 +1,5 @@
 -- Tokens as the phrases see them.
-use Rattle.std.proofs.Common.{◌≡◌, ◌<◌, suc, List, [], ◌∷◌, length, refl, ap, arith}
+use Rattle.std.proofs.Common.{◌≡◌, ◌<◌, List, [], ◌∷◌, length, refl, arith}
 use Rattle.c_tokens.specs.declared.token.Token.{Token}
 use Rattle.c_tokens.specs.declared.token.Token.TheVariants as token
 use Rattle.c_tokens.specs.declared.token.Spanned.{Spanned}
@@ -7,10 +7,6 @@ use Rattle.c_tokens.specs.declared.marks.Mark.{Mark}
 use Rattle.c_phrases.specs.Classes.{Placed, seen}
 use Rattle.c_syntax.specs.StatementLeads.{HasToken}
 use Rattle.c_phrases.specs.Takes.{NoMark, NoBinary, NoPrefix, NoStep, NoAssign, NoBinaryMark, NoPrefixMark, NoStepMark, NoAssignMark}
-
-pub length_seen : (ts : List Spanned) → length (seen ts) ≡ length ts
-length_seen [] = refl
-length_seen (t ∷ ts) = ap suc (length_seen ts)
 
 pub no_binary : (ts : List Placed) → NoMark ts → NoBinary ts
 no_binary [] h = tt

@@ -66,7 +66,7 @@ pub longer_stars : (ats : List ℕ) (w : List Placed) → length w ≤ length (o
 longer_stars [] w = omega arith
 longer_stars (at ∷ ats) w = omega (arith, longer_stars ats w)
 
-longer_named : (n : Option Named) (w : List Placed) → length w ≤ length (onto_named n w)
+pub longer_named : (n : Option Named) (w : List Placed) → length w ≤ length (onto_named n w)
 longer_named None w = omega arith
 longer_named (Some n) w = omega arith
 
@@ -128,21 +128,21 @@ pub unit_ends : (ts rest behind : List Placed) (xs : List AnExternal) (at : ℕ)
 unit_ends ts rest behind xs at s e n = record { text = s.text ∙ ap (onto_externals xs) (e ∙ ap (λ (l : List Placed). record { kind = token.End; at = at } ∷ l) n); fits = s.fits; low = s.low }
 
 -- an external has a token
-longer_params : (ps : List AParam) (w : List Placed) → length w ≤ length (onto_more_params ps w)
+pub longer_params : (ps : List AParam) (w : List Placed) → length w ≤ length (onto_more_params ps w)
 longer_params [] w = omega arith
 longer_params (p ∷ ps) w = omega (arith, longer_param p (onto_more_params ps w), longer_params ps w)
 
-longer_some_params : (ps : SomeParams) (w : List Placed) → length w ≤ length (onto_params ps w)
+pub longer_some_params : (ps : SomeParams) (w : List Placed) → length w ≤ length (onto_params ps w)
 longer_some_params no_params w = omega arith
 longer_some_params (void_word at) w = omega arith
 longer_some_params (params []) w = omega arith
 longer_some_params (params (p ∷ ps)) w = omega (arith, longer_param p (onto_more_params ps w), longer_params ps w)
 
-longer_body : (b : Option SomeItems) (w : List Placed) → length w ≤ length (onto_body b w)
+pub longer_body : (b : Option SomeItems) (w : List Placed) → length w ≤ length (onto_body b w)
 longer_body None w = omega arith
 longer_body (Some is) w = omega (arith, longer_items is (sign marks.CloseBrace 0 ∷ w))
 
-longer_declared : (d : ADeclared) (w : List Placed) → length w ≤ length (onto_declared d w)
+pub longer_declared : (d : ADeclared) (w : List Placed) → length w ≤ length (onto_declared d w)
 longer_declared (function f) w = omega (
   arith,
   longer_stars f.stars (onto_name f.name f.at
@@ -152,7 +152,7 @@ longer_declared (function f) w = omega (
 )
 longer_declared (globals ds) w = omega (arith, longer_declarators ds (sign marks.Semicolon 0 ∷ w))
 
-longer_static : (s : Option ℕ) (w : List Placed) → length w ≤ length (onto_static s w)
+pub longer_static : (s : Option ℕ) (w : List Placed) → length w ≤ length (onto_static s w)
 longer_static None w = omega arith
 longer_static (Some at) w = omega arith
 

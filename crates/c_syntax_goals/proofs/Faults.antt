@@ -32,11 +32,11 @@ tokens_append : (v w : List Opening) → tokens_of (v ++ w) ≡ tokens_of v ++ t
 tokens_append [] w = refl
 tokens_append (o ∷ v) w = ap (λ (x : List Placed). o.token ∷ x) (tokens_append v w)
 
-seen_append : (v w : List Spanned) → seen (v ++ w) ≡ seen v ++ seen w
+pub seen_append : (v w : List Spanned) → seen (v ++ w) ≡ seen v ++ seen w
 seen_append [] w = refl
 seen_append (t ∷ v) w = ap (λ (x : List Placed). placed t ∷ x) (seen_append v w)
 
-length_seen : (ts : List Spanned) → length (seen ts) ≡ length ts
+pub length_seen : (ts : List Spanned) → length (seen ts) ≡ length ts
 length_seen [] = refl
 length_seen (t ∷ ts) = ap suc (length_seen ts)
 

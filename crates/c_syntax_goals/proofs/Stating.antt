@@ -92,7 +92,7 @@ init_by : (k : Class) → (k ≢ c.Equals) → (t : Placed) (n : ℕ) (κ : Opti
 init_by c.Equals h t n κ = absurd (h refl)
 init_by k h t n κ = refl
 
-name_by : (k : Class) → (k ≢ c.Name) → (t : Placed) (n : ℕ) (κ : Option Named → Stack) → Externals.opt_name_turn k t n κ ≡ Passes n None
+pub name_by : (k : Class) → (k ≢ c.Name) → (t : Placed) (n : ℕ) (κ : Option Named → Stack) → Externals.opt_name_turn k t n κ ≡ Passes n None
 name_by c.Name h t n κ = absurd (h refl)
 name_by k h t n κ = refl
 

@@ -12,7 +12,7 @@ use Rattle.c_typed_scope.specs.Scopes.{Scope, find, is_taken}
 use Rattle.c_typed_expressions.specs.Phrases.{brackets_in, init_in}
 use Rattle.c_typed_definition.specs.Forms.{form_fits, form_of, automatic_by, automatic_form}
 
-free_by : (o : Option Entry) (at : ℕ) (m : Result (Unit {0}) Fault) → (if is_some o then bad at Twice else m) ≡ Ok tt → o ≡ None
+pub free_by : (o : Option Entry) (at : ℕ) (m : Result (Unit {0}) Fault) → (if is_some o then bad at Twice else m) ≡ Ok tt → o ≡ None
 free_by None at m h = refl
 free_by (Some e) at m h = absurd (cc)
 

@@ -1,5 +1,5 @@
 -- Elements and declarators that are typed one after another: what is left decides.
-use Rattle.std.proofs.Common.{◌≡◌, ℕ, ◌+◌, ◌<◌, ◌≤◌, List, [], ◌∷◌, ◌++◌, length, drop, get_or, map, refl, ap, sym, ◌∙◌, Result, Ok, Err, arith}
+use Rattle.std.proofs.Common.{◌≡◌, ℕ, ◌+◌, ◌<◌, ◌≤◌, List, [], ◌∷◌, ◌++◌, length, drop, get_or, map, refl, ap, sym, ◌∙◌, Result, Ok, Err}
 use Rattle.std.proofs.lemmas.List.{drop_more, drop_all}
 use Rattle.c_phrases.specs.declared.operator.Spec.{Spec}
 use Rattle.c_phrases.specs.declared.operator.Storage.{Storage}
@@ -18,14 +18,9 @@ use Rattle.c_typed_scope.specs.declared.entry.Signature.{Signature}
 use Rattle.c_typed_scope.specs.Scopes.{Scope}
 use Rattle.c_typed_scope.specs.Layout.{Area}
 use Rattle.c_typed_scope.specs.Contents.{Filled}
-use Rattle.c_typed_expressions.specs.Calls.{count}
 use Rattle.c_typed_definition.specs.Initialisers.{type_element, type_elements}
 use Rattle.c_typed_definition.specs.State.{State}
 use Rattle.c_typed_definition.specs.Declarations.{type_local, type_locals}
-
-pub count_is : (es : List Expr) → count (exp_list es) ≡ length es
-count_is [] = refl
-count_is (e ∷ rest) = omega (arith, count_is rest)
 
 map_push : (done : List Declaration) (x : Declaration) → map declaration (done ++ x ∷ []) ≡ map declaration done ++ declaration x ∷ []
 map_push [] x = refl

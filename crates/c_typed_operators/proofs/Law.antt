@@ -4,6 +4,7 @@ use Rattle.std.specs.Prelude.{IfOk, IfErr}
 use Rattle.std.proofs.lemmas.Bool.{and_parts}
 use Rattle.gg_base.specs.declared.relation.Rel.{Rel}
 use Rattle.gg_base.specs.declared.relation.Rel.TheVariants as relations
+use Rattle.gg_base.proofs.Facts.{or_true}
 use Rattle.c_phrases.specs.declared.operator.BinaryOperator.{BinaryOperator}
 use Rattle.c_phrases.specs.declared.operator.BinaryOperator.TheVariants as binaries
 use Rattle.c_types.specs.declared.types.CType.{CType}
@@ -154,10 +155,6 @@ order_means : (a b : Rel) (at : ℕ) (x y : AnExpression) → Means (order a b a
 unfolding order
 order_means a b at x y = means_row _ _ at BadType (λ t e. order_found a b at x y t (type_of x) (type_of y) refl refl e) (λ t r. order_only a b at x y t r)
     (λ f e. order_one a b at x y f (type_of x) (type_of y) e)
-
-or_true : (a : Bool) → (a || true) ≡ true
-or_true true = refl
-or_true false = refl
 
 pointers_or_null : (x y : AnExpression) (b c : integers.Integer) (m n : ℕ) → type_of x ≡ Pointer b m → type_of y ≡ Pointer c n → (same : Bool) → same
     ≡ same_type (Pointer b m) (Pointer c n) → (same || is_null y) ≡ true → AreComparable x y

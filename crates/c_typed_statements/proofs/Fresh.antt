@@ -1,10 +1,8 @@
 -- What an accepted name of a function or a parameter says: it is new in its scope.
-use Rattle.std.proofs.Common.{◌≡◌, ℕ, Bool, Option, Some, None, Result, Ok, Err, refl, if◌then◌else◌}
-use Rattle.std.specs.Prelude.{is_some}
+use Rattle.std.proofs.Common.{◌≡◌, ℕ, Bool, Option, Some, None, Ok, Err, refl}
+use Rattle.c_typed_objects.proofs.Forms.{free_by}
 use Rattle.c_phrases.specs.declared.tree.Named.{Named}
 use Rattle.c_phrases.specs.Units.{AParam}
-use Rattle.c_types.specs.declared.fault.TypeKind.TheVariants.{Twice}
-use Rattle.c_types.specs.Answers.{Fault, bad}
 use Rattle.c_typed_scope.specs.declared.entry.Entry.{Entry}
 use Rattle.c_typed_scope.specs.declared.entry.Entry.TheVariants as entries
 use Rattle.c_typed_scope.specs.Scopes.{Scope, find, is_taken}
@@ -15,10 +13,6 @@ earlier_none None at h = refl
 earlier_none (Some (entries.Function n)) at h = absurd (cc)
 earlier_none (Some (entries.Variable t v)) at h = absurd (cc)
 earlier_none (Some (entries.Array t v n)) at h = absurd (cc)
-
-free_by : (o : Option Entry) (at : ℕ) (m : Result (Unit {0}) Fault) → (if is_some o then bad at Twice else m) ≡ Ok tt → o ≡ None
-free_by None at m h = refl
-free_by (Some e) at m h = absurd (cc)
 
 pub parameter_free : (o : Option Named) (n : Named) (defines : Bool) (at : ℕ) (p : AParam) (s : Scope) → o ≡ Some n → parameter_form o defines at p s ≡ Ok tt → find s.here n.name ≡ None
 unfolding is_taken

@@ -1,6 +1,7 @@
 -- Parameters that are declared one after another: what is left decides.
-use Rattle.std.proofs.Common.{◌≡◌, ℕ, ◌+◌, ◌<◌, ◌≤◌, Bool, List, [], ◌∷◌, length, drop, get_or, map, refl, ap, sym, ◌∙◌, Result, Ok, Err, ◌++◌, append_assoc, arith, ◌≢◌, true, false, ◌&&◌}
+use Rattle.std.proofs.Common.{◌≡◌, ℕ, ◌+◌, ◌<◌, ◌≤◌, Bool, List, [], ◌∷◌, length, drop, get_or, map, refl, ap, sym, ◌∙◌, Result, Ok, Err, ◌++◌, append_assoc, arith, ◌≢◌, true, false}
 use Rattle.std.proofs.lemmas.List.{drop_more, drop_all, append-nil}
+use Rattle.gg_base.proofs.Facts.{and_false}
 use Rattle.c_phrases.specs.declared.tree.Param.{Param}
 use Rattle.c_phrases.specs.UnitShapes.{param_of, param_list}
 use Rattle.c_types.specs.declared.fault.TypeFault.{TypeFault}
@@ -47,12 +48,8 @@ same_not xs ys i x y d lx ly isx isy same = rw (drop_more xs i d lx, drop_more y
 pub same_end : (xs ys : List CType) (i : ℕ) → length xs ≤ i → length ys ≤ i → same_types (drop i xs) (drop i ys) ≡ true
 same_end xs ys i lx ly = rw (drop_all i xs lx, drop_all i ys ly) refl
 
-false_behind : (b : Bool) → (b && false) ≡ false
-false_behind true = refl
-false_behind false = refl
-
 pub same_length : (xs ys : List CType) → length xs ≢ length ys → same_types xs ys ≡ false
 same_length [] [] ne = absurd (ne refl)
 same_length [] (y ∷ ys) ne = refl
 same_length (x ∷ xs) [] ne = refl
-same_length (x ∷ xs) (y ∷ ys) ne = rw (same_length xs ys (λ e. ne (omega (arith, e)))) (false_behind (same_type x y))
+same_length (x ∷ xs) (y ∷ ys) ne = rw (same_length xs ys (λ e. ne (omega (arith, e)))) (and_false (same_type x y))

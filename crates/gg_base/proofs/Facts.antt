@@ -1,9 +1,11 @@
--- Small facts of choices and truth values that proofs of many crates cite, beside those of std.
-use Rattle.std.proofs.Common.{◌≡◌, Option, Some, None, Bool, true, false, refl}
-use Rattle.std.specs.Prelude.{◌&&◌}
+-- Small facts of truth values, choices, numbers and lists that proofs of many crates cite, beside those of std.
+use Rattle.std.proofs.Common.{◌≡◌, ℕ, zero, suc, ◌+◌, ◌-◌, ◌<◌, Bool, true, false, ◌⊎◌, inl, inr, ⊎_elim, Option, Some, None, List, [], ◌∷◌, ◌++◌, length, refl, sym, ap, subst, arith}
+use Rattle.std.specs.Prelude.{◌&&◌, ◌||◌, ◌==◌, cond, is_none, slice_get}
+use Rattle.std.specs.List.{AllByRecursion as All}
+use Rattle.std.proofs.lemmas.Option.{none-some, same_Some}
+use Rattle.std.proofs.lemmas.Bool.Decides.{nat_tests}
 
-pub some_none : {A : Type 0} (x : A) → Some x ≡ None → ⊥
-some_none x e = cc
+-- truth values
 
 pub first_true : (a b : Bool) → (a && b) ≡ true → a ≡ true
 first_true true b e = refl
@@ -13,5 +15,86 @@ pub second_true : (a b : Bool) → (a && b) ≡ true → b ≡ true
 second_true true b e = e
 second_true false b e = cc
 
+pub first_false : (a b : Bool) → (a || b) ≡ false → a ≡ false
+first_false true b e = cc
+first_false false b e = refl
+
+pub second_false : (a b : Bool) → (a || b) ≡ false → b ≡ false
+second_false true b e = cc
+second_false false b e = e
+
 pub true_or_false : (b : Bool) → b ≡ true → b ≡ false → ⊥
 true_or_false b e h = cc
+
+pub or_true : (b : Bool) → (b || true) ≡ true
+or_true true = refl
+or_true false = refl
+
+pub and_false : (b : Bool) → (b && false) ≡ false
+and_false true = refl
+and_false false = refl
+
+-- choices
+
+pub some_none : {A : Type 0} (x : A) → Some x ≡ None → ⊥
+some_none x e = cc
+
+pub none_is : {A : Type 0} (o : Option A) → is_none o ≡ true → o ≡ None
+none_is None e = refl
+none_is (Some x) e = absurd (cc)
+
+pub guarded : {A : Type 0} (b : Bool) (o : Option A) (y : A) → cond b o None ≡ Some y → (b ≡ true) × (o ≡ Some y)
+guarded true o y e = (refl, e)
+guarded false o y e = absurd (none-some y e)
+
+-- numbers
+
+pub not_zero : (k : ℕ) → (suc k == 0) ≡ false
+not_zero k = grind (arith, nat_tests)
+
+pub one_less : (k : ℕ) → suc k - 1 ≡ k
+one_less k = omega arith
+
+pub is_zero : (n : ℕ) → n ≡ 0 → (n == 0) ≡ true
+is_zero n e = ap (λ (k : ℕ). k == 0) e
+
+-- lists
+
+pub nil_cons : {A : Type 0} (x : A) (xs : List A) → [] ≡ x ∷ xs → ⊥
+nil_cons x xs e = cc
+
+pub head_same : {A : Type 0} (x y : A) (xs ys : List A) → x ∷ xs ≡ y ∷ ys → x ≡ y
+head_same x y xs ys e = cc
+
+pub tail_same : {A : Type 0} (x y : A) (xs ys : List A) → x ∷ xs ≡ y ∷ ys → xs ≡ ys
+tail_same x y xs ys e = cc
+
+pub slice_some : {A : Type 0} (xs : List A) (n : ℕ) → n < length xs → (x : A) × (slice_get xs n ≡ Some x)
+slice_some [] n lt = absurd (omega (arith, lt))
+slice_some (x ∷ xs) zero lt = (x, refl)
+slice_some (x ∷ xs) (suc n) lt = slice_some xs n (omega (arith, lt))
+
+pub slice_left : {A : Type 0} (xs ys : List A) (n : ℕ) (x : A) → slice_get xs n ≡ Some x → slice_get (xs ++ ys) n ≡ Some x
+slice_left [] ys n x e = absurd (none-some x e)
+slice_left (z ∷ xs) ys zero x e = e
+slice_left (z ∷ xs) ys (suc n) x e = slice_left xs ys n x e
+
+pub slice_last : {A : Type 0} (xs : List A) (x : A) → slice_get (xs ++ x ∷ []) (length xs) ≡ Some x
+slice_last [] x = refl
+slice_last (z ∷ xs) x = slice_last xs x
+
+pub all_append : {A : Type 0} (P : A → Type 0) (xs ys : List A) → All P xs → All P ys → All P (xs ++ ys)
+all_append P [] ys h g = g
+all_append P (x ∷ xs) ys h g = (h.0, all_append P xs ys h.1 g)
+
+pub all_get : {A : Type 0} (P : A → Type 0) (xs : List A) (n : ℕ) (x : A) → All P xs → slice_get xs n ≡ Some x → P x
+all_get P [] n x h e = absurd (none-some x e)
+all_get P (y ∷ xs) zero x h e = subst P (same_Some y x e) h.0
+all_get P (y ∷ xs) (suc n) x h e = all_get P xs n x h.1 e
+
+pub slice_cases : {A : Type 0} (xs : List A) (x : A) (n : ℕ) (y : A)
+    → slice_get (xs ++ x ∷ []) n ≡ Some y → (slice_get xs n ≡ Some y) ⊎ ((n ≡ length xs) × (y ≡ x))
+slice_cases [] x zero y e = inr (refl, sym (same_Some x y e))
+slice_cases [] x (suc n) y e = absurd (none-some y e)
+slice_cases (z ∷ xs) x zero y e = inl e
+slice_cases (z ∷ xs) x (suc n) y e = ⊎_elim (λ h. inl h) (λ h. inr (ap suc h.0, h.1)) (slice_cases xs x n y e)

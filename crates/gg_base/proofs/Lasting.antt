@@ -7,11 +7,11 @@ use Rattle.gg_base.specs.declared.run.End.TheVariants.{Spent}
 use Rattle.gg_base.specs.Runs.{Outcome, Runs, byte_first, one_first, emit, counted, stop, OneEnd}
 use Rattle.gg_base.specs.Lasting.{Grows, Lasts}
 
-emits_grow : (n b : ℕ) (o p : Outcome) → Grows n o p → Grows n (byte_first b o) (byte_first b p)
+pub emits_grow : (n b : ℕ) (o p : Outcome) → Grows n o p → Grows n (byte_first b o) (byte_first b p)
 emits_grow n b o p (inl e) = inl (ap (byte_first b) e)
 emits_grow n b o p (inr h) = inr (h.0, (h.1.0, ap (λ l. b ∷ l) h.1.1), h.2)
 
-counts_grow : (n : ℕ) (o p : Outcome) → Grows n o p → Grows (suc n) (one_first o) (one_first p)
+pub counts_grow : (n : ℕ) (o p : Outcome) → Grows n o p → Grows (suc n) (one_first o) (one_first p)
 counts_grow n o p (inl e) = inl (ap one_first e)
 counts_grow n o p (inr h) = inr (h.0, h.1, ap suc h.2)
 

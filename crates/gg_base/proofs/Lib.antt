@@ -2,3 +2,4 @@ pub mod Lasting
 pub mod Following
 pub mod Composing
 pub mod Facts
+pub mod Words

@@ -1,9 +1,10 @@
 -- What the leaves of a tree name is there, in a state in which the tree is done.
 use Rattle.std.proofs.Common.{◌≡◌, ℕ, zero, suc, ◌<◌, List, [], ◌∷◌, length, Some, Bool, true, refl, sym, ap, ◌∙◌, subst, arith}
-use Rattle.std.specs.Prelude.{IsSome, nat_lt, nat_le, take, slice_get}
+use Rattle.std.specs.Prelude.{IsSome, nat_lt, nat_le, slice_get}
 use Rattle.std.specs.List.{list_all, AllPass, AllByRecursion as All}
 use Rattle.std.proofs.lemmas.Bool.{leb-true, and_parts, ltb-true}
 use Rattle.std.proofs.lemmas.List.Sums.{list_all-from_AllPass}
+use Rattle.sel_parse_lines.proofs.Each.{all_take}
 use Rattle.tree_core.specs.declared.token.Tok.{Tok}
 use Rattle.tree_core.specs.declared.token.Tok.TheVariants as tok
 use Rattle.tree_core.specs.declared.token.Sort.TheVariants as sort
@@ -35,11 +36,6 @@ use Rattle.gg_compile_law.specs.Roles.{Calls, Saves, role_of}
 use Rattle.gg_compile_effect.proofs.Trees.{IsLow, Headed, headed, root_is}
 
 -- ---- what holds of each leaf of a root holds of each of its tree's
-
-all_take : {X : Type 0} (P : X → Type 0) (n : ℕ) (xs : List X) → All P xs → All P (take n xs)
-all_take P zero xs h = tt
-all_take P (suc n) [] h = tt
-all_take P (suc n) (x ∷ xs) h = (h.0, all_take P n xs h.1)
 
 all_pass : {X : Type 0} (p : X → Bool) (xs : List X) → list_all p xs ≡ true → All (λ (x : X). p x ≡ true) xs
 all_pass p [] h = tt

@@ -14,11 +14,8 @@ use Rattle.tree_core.specs.Grammar.{kids, sort_of, fits}
 use Rattle.tree_core.specs.Attributes.{leaf_fits, end_leaf}
 use Rattle.tree_core.specs.Trees.{Forest, none, tree, leaves_onto, sort_fits, stands_for, Typed, IsTyped}
 use Rattle.sel_parse_moves.specs.Claims.{root}
+use Rattle.sel_parse_moves.proofs.Moves.{leaves_before}
 use Rattle.sel_parse_desk.specs.Selected.{tree_of}
-
-leaves_before : (f : Forest) (v w : List Leaf) → leaves_onto f v ++ w ≡ leaves_onto f (v ++ w)
-leaves_before none v w = refl
-leaves_before (tree l below behind) v w = ap (λ (t : List Leaf). l ∷ t) (leaves_before below (leaves_onto behind v) w ∙ ap (leaves_onto below) (leaves_before behind v w))
 
 taken_off : (v : List Leaf) (e : Leaf) → take (length (v ++ e ∷ []) - 1) (v ++ e ∷ []) ≡ v
 taken_off v e =

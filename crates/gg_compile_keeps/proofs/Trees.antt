@@ -16,7 +16,7 @@ use Rattle.sel_parse_desk.specs.Selected.{tree_of}
 use Rattle.sel_parse_desk.specs.Selected as desk
 use Rattle.sel_parse_selected.specs.Selected.{Selected}
 use Rattle.sel_parse_effect.specs.Claims.{IsFit}
-use Rattle.sel_parse_lines.proofs.Words.{selections_use_few_words}
+use Rattle.sel_parse_lines.proofs.Words.{selections_use_few_words, larger}
 use Rattle.sel_parse_joined.proofs.Law.{same_code}
 use Rattle.vax_core.specs.declared.code.Instr.{Instr}
 use Rattle.vax_core.specs.declared.code.CodeItem.{CodeItem}
@@ -38,9 +38,6 @@ larger_left n m = grind (arith, nat_tests)
 
 larger_right : (n m : ℕ) → m ≤ larger_of n m
 larger_right n m = grind (arith, nat_tests)
-
-larger_within : (n m k : ℕ) → n ≤ k → m ≤ k → larger_of n m ≤ k
-larger_within n m k a b = grind (arith, nat_tests)
 
 -- where a frame has more words, the code has its effect all the more
 wider : (q : TreeProgram) (locals args most words : ℕ) (w : List Leaf) (code : List Instr) → most ≤ words → HasEffect q locals args most w code → HasEffect q locals args words w code
@@ -110,7 +107,7 @@ module _ (q : TreeProgram) (ok : IsSelectable q) (d : Content) (fit : IsFit vax 
   words_few used most is code sub le (nothing u) = le
   words_few used most is code sub le (label u m l js rest h) = words_few u most js rest (behind (tree_item.Label l) js sub) le h
   words_few used most is code sub le (tree u k m w js instrs rest one h) =
-      words_few (larger_of u k) most js rest (behind (tree_item.Root w) js sub) (larger_within u k 1024 le (few w (sub w (0, refl)) instrs k one)) h
+      words_few (larger_of u k) most js rest (behind (tree_item.Root w) js sub) (larger u k 1024 le (few w (sub w (0, refl)) instrs k one)) h
 
   pub tree_code : (words used most : ℕ) (is : List TreeItem) (code : List CodeItem) → Among is → most ≤ words → AreSelected vax d q g.locals used is code most
       → IsTreeCode q g words is code

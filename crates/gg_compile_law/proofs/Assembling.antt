@@ -34,6 +34,7 @@ use Rattle.vax_machine.specs.Running.{run}
 use Rattle.tree_meaning.specs.Meaning.{main_of, tree_run}
 use Rattle.vax_frames_law.proofs.Labelling.{first_place}
 use Rattle.vax_frames_law.proofs.Masks.{mask_is}
+use Rattle.vax_frames_law.proofs.Framing.{four}
 use Rattle.tree_meaning.proofs.Law.{tree_run_unbroken}
 use Rattle.gg_compile_law.proofs.Starting.{found, compiled_follow}
 
@@ -107,13 +108,6 @@ module _ (program : TreeProgram) (g : TreeFn) (words l : ℕ) where
 
 -- ---- a function's code
 
-five : (r p l e post : List CodeItem) → (r ++ ((p ++ l) ++ e)) ++ post ≡ (r ++ p) ++ ((l ++ e) ++ post)
-five r p l e post =
-    append_assoc r ((p ++ l) ++ e) post
-    ∙ ap (λ (x : List CodeItem). r ++ (x ++ post)) (append_assoc p l e)
-    ∙ ap (λ (x : List CodeItem). r ++ x) (append_assoc p (l ++ e) post)
-    ∙ sym (append_assoc r p ((l ++ e) ++ post))
-
 -- the code of trees is a body, where the program is valid
 module _ (program : TreeProgram) (v : IsValid program) (n : ℕ) (g : TreeFn) (there : slice_get program.functions n ≡ Some g) (words : ℕ) where
   tree_body : (is : List TreeItem) (body : List CodeItem) → IsTreeCode program g words is body → ((w : List Leaf) → IsIn (tree_item.Root w) is → IsIn (tree_item.Root w) g.items)
@@ -175,7 +169,7 @@ module _ (program : TreeProgram) (valid : IsValid program) (number : ℕ) (g : T
       let split : code ≡ (pre ++ front) ++ behind_it =
       framed_code
       ∙ ap (λ (b : List CodeItem). pre ++ (frame_items name f.mask f.words b ++ post)) r.body_is
-      ∙ ap (λ (x : List CodeItem). pre ++ (item_kind.Globl name ∷ (item_kind.Label name ∷ (item_kind.Mask f.mask ∷ x)))) (five (code_items (room_code f.words)) r.pre at (code_items end_code) post)
+      ∙ ap (λ (x : List CodeItem). pre ++ (item_kind.Globl name ∷ (item_kind.Label name ∷ (item_kind.Mask f.mask ∷ x)))) (four (code_items (room_code f.words)) r.pre at (code_items end_code) post)
       ∙ sym (append_assoc pre front behind_it) in
       let place : label_place code (label_name l) ≡ length (pre ++ front) =
       ap (λ (x : List CodeItem). label_place x (label_name l)) split

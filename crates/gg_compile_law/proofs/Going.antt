@@ -16,7 +16,7 @@ use Rattle.tree_core.specs.declared.program.TreeProgram.{TreeProgram}
 use Rattle.tree_meaning.specs.State.{Activation}
 use Rattle.tree_meaning.specs.State.{State as Trees}
 use Rattle.vax_states.specs.Stack.{Extent, Holds, Hold, caller}
-use Rattle.vax_machine_lists.specs.Sound.{AllBelow, IsSound}
+use Rattle.vax_machine_lists.specs.Sound.{AllBelow}
 use Rattle.vax_states.specs.Agreeing.{Agrees}
 use Rattle.vax_machine_lists.specs.Runs.{Leads, Halts, Gets}
 use Rattle.gg_compile_law.specs.Programs.{IsActive, Waits, ends_run, goes_on}
@@ -26,21 +26,10 @@ use Rattle.vax_states.proofs.Standing.{kept}
 use Rattle.vax_machine_lists.proofs.Steps.{got_on, got_over}
 use Rattle.vax_frames_law.proofs.Returning.{run_ends, caller_state, caller_agrees, answer_is}
 use Rattle.vax_frames_law.proofs.Returning.{goes_on as goes_back}
+use Rattle.vax_frames_law.proofs.Functions.{sound_at}
 use Rattle.gg_compile_law.proofs.Rooms.{space, as_many, waits_small}
 
 -- ---- what doesn't matter for agreeing
-
-pub sound_at : (n : State) (place : ℕ) (code : List CodeItem) (over : Option Stop) → over ≡ None → IsSound n → IsSound (record n { place = place; items = code; over = over })
-sound_at n place code over none h = record {
-  going = none;
-  registers = h.registers;
-  longwords = h.longwords;
-  stack = h.stack;
-  stack_bytes = h.stack_bytes;
-  area = h.area;
-  area_bytes = h.area_bytes;
-  input_bytes = h.input_bytes;
-}
 
 pub agrees_at : (objects : List Object) (e : Extent) (es : List Extent) (t : Trees) (n : State) (place : ℕ) (code : List CodeItem) (over : Option Stop) → over ≡ None → Agrees objects e es t n
     → Agrees objects e es t (record n { place = place; items = code; over = over })

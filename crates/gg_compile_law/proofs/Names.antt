@@ -19,6 +19,7 @@ use Rattle.tree_core.specs.declared.program.TreeFn.{TreeFn}
 use Rattle.tree_core.specs.declared.program.TreeProgram.{TreeProgram}
 use Rattle.tree_core.specs.Items.{times, all_labels}
 use Rattle.tree_core.specs.Valid.{named, IsValid}
+use Rattle.tree_core.proofs.Apart.{times-append}
 use Rattle.vax_frames.specs.Frames.{function_label, room_code, end_code, code_items, frame_items}
 use Rattle.gg_compile_law.specs.Effects.{label_name}
 use Rattle.gg_compile_law.specs.Assembled.{IsTreeCode, nothing, label, root, IsFunctionCode, AreFunctions, none, more}
@@ -178,10 +179,6 @@ from_function_at name (g ∷ fs) = by (bytes_eq (function_label g.name) name) re
 
 -- ---- trees
 
-times_append : (n : ℕ) (a b : List ℕ) → times n (a ++ b) ≡ times n a + times n b
-times_append n [] b = omega arith
-times_append n (m ∷ a) b = let h = times_append n a b in omega (arith, h)
-
 label_test : (m l : ℕ) → m < 2 ^ 64 → l < 2 ^ 64 → bytes_eq (label_name m) (label_name l) ≡ (m == l)
 label_test m l a b =
     same_bool (bytes_eq (label_name m) (label_name l)) (m == l)
@@ -200,7 +197,7 @@ module _ (h : TreeItem → Option ℕ) (on_label : (l : ℕ) → h (tree_item.La
       ∙ sym (ap (λ (o : Option ℕ). times l (cons_option o (filter_map h is))) (on_label m))
 
   tree_before : (l : ℕ) (is : List TreeItem) (ms : List ℕ) → l < 2 ^ 64 → AreSmall is → tree_count (label_name l) is + times l ms ≡ times l (filter_map h is ++ ms)
-  tree_before l is ms low small = ap (λ (n : ℕ). n + times l ms) (tree_times l is low small) ∙ sym (times_append l (filter_map h is) ms)
+  tree_before l is ms low small = ap (λ (n : ℕ). n + times l ms) (tree_times l is low small) ∙ sym (times-append l (filter_map h is) ms)
 
 before_others : (l : ℕ) (f : TreeFn) (fs : List TreeFn) → l < 2 ^ 64 → AreSmall f.items → tree_count (label_name l) f.items + times l (all_labels fs) ≡ times l (all_labels (f ∷ fs))
 before_others l f fs low small = tree_before _ (λ n. refl) (λ w. refl) l f.items (all_labels fs) low small

@@ -1,6 +1,6 @@
 -- The run of a program's code begins where the run of its trees begins, and follows it.
 use Rattle.std.proofs.Common.{◌≡◌, ℕ, zero, suc, Bool, true, false, cond, List, [], ◌∷◌, length, Option, Some, None, refl, sym, ap, subst, ◌∙◌, arith}
-use Rattle.std.specs.Prelude.{slice_get, codes, replicate}
+use Rattle.std.specs.Prelude.{slice_get, codes}
 use Rattle.std.specs.List.{find}
 use Rattle.std.specs.Str.{bytes_eq}
 use Rattle.std.proofs.lemmas.List.{length-replicate}
@@ -25,6 +25,7 @@ use Rattle.tree_meaning.specs.Meaning.{run, runs, main_at, tree_run}
 use Rattle.tree_meaning.proofs.Law.{tree_run_unbroken}
 use Rattle.vax_states.specs.Stack.{nobody}
 use Rattle.vax_machine_lists.specs.Sound.{AllBelow, IsSound}
+use Rattle.vax_machine_lists.proofs.Beginning.{below_zeros}
 use Rattle.vax_frames.specs.Frames.{function_label}
 use Rattle.gg_compile_law.specs.Programs.{IsEmitted, StandsAt, Waits, ends_run, Stands, IsCompiled, CompiledFollow}
 use Rattle.vax_frames_law.specs.Laws.{Begins}
@@ -49,10 +50,6 @@ found (f ∷ fs) g e = by (bytes_eq f.name (codes "main")) refl e (found fs g)
     by false eq e rest = let r = rest e in (suc r.0, r.1, r.2)
 
 -- ---- the state before the call of `_main`
-
-below_zeros : (n : ℕ) → AllBelow 256 (replicate n 0)
-below_zeros zero = tt
-below_zeros (suc n) = (omega arith, below_zeros n)
 
 zeros_below : (n : ℕ) → AllBelow 256 (zeros n)
 unfolding zeros

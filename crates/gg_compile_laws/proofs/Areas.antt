@@ -4,6 +4,7 @@ use Rattle.std.specs.Prelude.{slice_get, ◌==◌, ◌&&◌, not, nat_lt, nat_le
 use Rattle.std.specs.List.{AllByRecursion as All}
 use Rattle.std.proofs.lemmas.Bool.{and_parts, le-leb, lt-ltb, ltb-true, and_from}
 use Rattle.std.proofs.lemmas.List.Elements.{recursion_from_All}
+use Rattle.gg_base.proofs.Facts.{all_append}
 use Rattle.tree_core.specs.declared.program.Link.{Link}
 use Rattle.tree_core.specs.declared.program.Object.{Object}
 use Rattle.tree_core.specs.declared.program.TreeProgram.{TreeProgram}
@@ -16,7 +17,6 @@ use Rattle.gg_compile_law.specs.Spelling.{power_of, after_zeros, by_byte, label_
 use Rattle.gg_compile_law.proofs.Areas.{lies}
 use Rattle.gg_compile_law.proofs.Spelling.{choose, aligned_so}
 use Rattle.gg_compile_laws.specs.Written.{HasPlainObjects}
-use Rattle.gg_compile_laws.proofs.Tests.{all_append}
 
 abbrev pub Fine : AreaItem → Type 0
 Fine x = is_area_item x ≡ true

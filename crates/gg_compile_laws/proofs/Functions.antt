@@ -4,6 +4,7 @@ use Rattle.std.specs.Prelude.{◌&&◌, slice_get}
 use Rattle.std.specs.List.{AllByRecursion as All}
 use Rattle.std.proofs.lemmas.Bool.{le-leb, lt-ltb}
 use Rattle.std.proofs.lemmas.Bool.Decides.{nat_tests}
+use Rattle.gg_base.proofs.Facts.{all_append}
 use Rattle.tree_core.specs.declared.tree.Leaf.{Leaf}
 use Rattle.tree_core.specs.declared.program.TreeItem.{TreeItem}
 use Rattle.tree_core.specs.declared.program.TreeItem.TheVariants as tree_item
@@ -23,7 +24,7 @@ use Rattle.gg_compile_law.specs.Names.{AreSmall, HaveSmall}
 use Rattle.gg_compile_law.proofs.Validity.{IsIn}
 use Rattle.gg_compile_code.specs.Selecting.{AreSelected, nothing, label, tree, IsSelectedFunction, AreSelectedFunctions, none, more}
 use Rattle.gg_compile_laws.specs.Keeping.{IsWithinLimits}
-use Rattle.gg_compile_laws.proofs.Tests.{all_append, label_spelled}
+use Rattle.gg_compile_laws.proofs.Tests.{label_spelled}
 use Rattle.gg_compile_laws.proofs.Trees.{instrs_valid, words_low}
 
 abbrev pub Fine : CodeItem → Type 0

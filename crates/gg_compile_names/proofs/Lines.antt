@@ -4,6 +4,7 @@ use Rattle.std.specs.Prelude.{◌||◌, ◌&&◌, slice_get, codes}
 use Rattle.std.specs.Option.{option_map}
 use Rattle.std.specs.List.{AllByRecursion as All}
 use Rattle.std.proofs.lemmas.Option.{same_Some}
+use Rattle.gg_base.proofs.Facts.{or_true}
 use Rattle.tree_core.specs.declared.tree.Leaf.{Leaf}
 use Rattle.tree_core.specs.declared.program.TreeFn.{TreeFn}
 use Rattle.tree_core.specs.declared.program.TreeProgram.{TreeProgram}
@@ -27,10 +28,6 @@ use Rattle.sel_parse_lines.specs.Claims.{IsFilled}
 use Rattle.sel_parse_lines.proofs.Filling.{selections_are_filled}
 use Rattle.gg_compile_names.specs.Claims.{HasNames, GoesInside, SelectedNamesAreThere}
 use Rattle.gg_compile_names.proofs.Operands.{stands, good, Good, filled_named, names_last}
-
-or_true : (b : Bool) → (b || true) ≡ true
-or_true true = refl
-or_true false = refl
 
 module _ (q : TreeProgram) (area : List AreaItem) (code : List CodeItem) (there : HasNames q area code) where
   abbrev Fine : Instr → Type 0

@@ -38,7 +38,7 @@ place_there long size some le =
     cond-false ((size == 0) || nat_lt long size) None (Some (long - size))
     (or_from (size == 0) (nat_lt long size) (ne_eqb size 0 (λ e. omega (arith, e, some))) (le-ltb long size le))
 
-here : {X : Type 0} (x : X) (xs : List X) → Contains (x ∷ xs) x
+pub here : {X : Type 0} (x : X) (xs : List X) → Contains (x ∷ xs) x
 here x xs = (0, omega arith, refl)
 
 module _ (t : TableView) (nodes : List Node) where

@@ -36,15 +36,15 @@ blocks_falls : (total : ℕ) (c : Config) (stack : List Entry) → Falls total c
 blocks_falls total c stack = record { less = λ e. absurd (some_none _ e); seen = λ e. absurd (some_none _ e) }
 
 -- counts of classes that were not on top
-count-cons : (b : Bool) (m : List Bool) → count_by not (b ∷ m) ≡ cond (not b) 1 0 + count_by not m
+pub count-cons : (b : Bool) (m : List Bool) → count_by not (b ∷ m) ≡ cond (not b) 1 0 + count_by not m
 count-cons b m = sum_by-cons (λ (x : Bool). cond (not x) 1 0) b m
 
-count_most : (m : List Bool) → count_by not m ≤ length m
+pub count_most : (m : List Bool) → count_by not m ≤ length m
 count_most [] = omega arith
 count_most (true ∷ m) = let a = count_most m in let b : count_by not (true ∷ m) ≡ 0 + count_by not m = count-cons true m in omega (arith, a, b)
 count_most (false ∷ m) = let a = count_most m in let b : count_by not (false ∷ m) ≡ 1 + count_by not m = count-cons false m in omega (arith, a, b)
 
-mark_count : (m : List Bool) (n : ℕ) → n < length m → get_or m n false ≡ false → count_by not (set m n true) + 1 ≡ count_by not m
+pub mark_count : (m : List Bool) (n : ℕ) → n < length m → get_or m n false ≡ false → count_by not (set m n true) + 1 ≡ count_by not m
 mark_count m n h e =
     let f : Bool → ℕ = λ x. cond (not x) 1 0 in
     let s : count_by not (set m n true) + f (get_or m n false) ≡ count_by not m + 0 = sum_by-set f m n true false h in

@@ -24,14 +24,14 @@ use Rattle.lr_check.specs.Parse.{accepts, shifts, reduces, blocks, Replays, is_l
 here : {X : Type 0} (x : X) (xs : List X) → Contains (x ∷ xs) x
 here x xs = (0, omega arith, refl)
 
-one_cases : {X : Type 0} (y x : X) → Contains (y ∷ []) x → y ≡ x
+pub one_cases : {X : Type 0} (y x : X) → Contains (y ∷ []) x → y ≡ x
 one_cases y x h = by h.0 h.1 h.2
   where
     by : (k : ℕ) → k < 1 → get_or (y ∷ []) k x ≡ x → y ≡ x
     by zero lt e = e
     by (suc k) lt e = absurd (omega (arith, lt))
 
-cons_cases : {X : Type 0} (y : X) (ys : List X) (x : X) → Contains (y ∷ ys) x → (y ≡ x) ⊎ Contains ys x
+pub cons_cases : {X : Type 0} (y : X) (ys : List X) (x : X) → Contains (y ∷ ys) x → (y ≡ x) ⊎ Contains ys x
 cons_cases y ys x h = ⊎_elim (λ a. inl (one_cases y x a)) (λ b. inr b) (Contains-append_cases (y ∷ []) ys x h)
 
 nowhere_in : {X : Type 0} (x : X) → Contains [] x → ⊥

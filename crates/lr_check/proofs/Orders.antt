@@ -3,6 +3,7 @@ use Rattle.std.proofs.Common.{◌≡◌, ℕ, zero, suc, ◌+◌, ◌-◌, ◌�
 use Rattle.std.proofs.Common.{⊎_elim, arith, append_assoc, append-nil, length-append}
 use Rattle.std.proofs.lemmas.List.{reverse-append, reverse-reverse, length-reverse, take_more, take_all, get_or-reverse}
 use Rattle.std.proofs.lemmas.List.Elements.{Contains-append_cases, Contains-push_cases, Contains-push, Contains-append_left, Contains-append_right}
+use Rattle.gg_base.proofs.Facts.{slice_some}
 use Rattle.lr_check.specs.Tree.{Node, IsSample}
 use Rattle.lr_check.specs.Order.{Orders, ends, goes_on, IsOrder, IsLongOrder}
 
@@ -58,11 +59,6 @@ kids_all kids old rest n e le = e ∙ ap (λ (y : List ℕ). old ++ y) (take_all
 pub next_within : (nodes : List Node) (order old rest : List ℕ) (n k : ℕ) → Ordering nodes order old n → old ≡ rest ++ k ∷ [] → k < length nodes
 next_within nodes order old rest n k o e = o.within k (subst (λ (x : List ℕ). Contains x k) (sym e) (Contains-push rest k))
 
-slice_get_some : {X : Type 0} (xs : List X) (k : ℕ) → k < length xs → (x : X) × (slice_get xs k ≡ Some x)
-slice_get_some [] k lt = absurd (omega (arith, lt))
-slice_get_some (x ∷ xs) zero lt = (x, refl)
-slice_get_some (x ∷ xs) (suc k) lt = slice_get_some xs k (omega (arith, lt))
-
 pub ordering_turn : (nodes : List Node) (order old rest order' rest' : List ℕ) (n k : ℕ) (v : Node) → IsSample nodes → Ordering nodes order old n → old ≡ rest ++ k ∷ [] → slice_get nodes k
     ≡ Some v → order' ≡ order ++ k ∷ [] → rest' ≡ rest ++ reverse v.kids → Ordering nodes order' rest' (n + 1)
 ordering_turn nodes order old rest order' rest' n k v s o e there f g =
@@ -94,7 +90,7 @@ module _ (nodes : List Node) (s : IsSample nodes) where
   orders_list n lt ih (k ∷ l) h =
       let here : k < n + 1 = h k (0, omega arith, refl) in
       let within : k < length nodes = omega (arith, here, lt) in
-      let v : (x : Node) × (slice_get nodes k ≡ Some x) = slice_get_some nodes k within in
+      let v : (x : Node) × (slice_get nodes k ≡ Some x) = slice_some nodes k within in
       let below : (w : List ℕ) × Orders nodes v.0.kids w = ih v.0.kids (λ j c. let less : j < k = s.lower k j v.0 v.1 c in omega (arith, less, here)) in
       let beside : (w : List ℕ) × Orders nodes l w = orders_list n lt ih l (λ j c. h j (Contains-append_right (k ∷ []) l j c)) in
       (k ∷ (below.0 ++ beside.0), goes_on v.0 v.1 (orders_append nodes l beside.0 below.1 beside.1))

@@ -19,12 +19,11 @@ use Rattle.lr_check_found.specs.declared.places.Place.{Place}
 use Rattle.lr_check_found.specs.Found.{FoundView, place_of, IsPlaceAt, Settles}
 use Rattle.lr_check_found.specs.Sound.{IsSoundSettling, IsFound}
 use Rattle.lr_check_found.specs.Count.{Tuple, HasMore}
-use Rattle.lr_check_found.proofs.Deriving.{walk_from}
+use Rattle.lr_check_found.proofs.Deriving.{walk_from, whole_left}
 use Rattle.lr_check_found.proofs.Counting.{IsSumOf, no_more}
 use Rattle.lr_check_sets.proofs.Closing.{sum_in}
 use Rattle.lr_check_complete.specs.Sets.{HasPlace, HasSettling, HasSum, IsComplete}
 use Rattle.lr_check_complete.specs.Kids.{KidsIn, FrameIn, ReducesIn}
-use Rattle.lr_check_complete.proofs.Reducing.{whole_left}
 
 -- a state that leads on has a row
 row_within : (t : TableView) (q p : ℕ) (X : Sym) → target_at t q X ≡ Some p → q < length t.rows

@@ -9,6 +9,7 @@ use Rattle.tree_core.specs.declared.token.Sort.{Sort}
 use Rattle.tree_core.specs.Grammar.{kids}
 use Rattle.md_reader.specs.declared.types.Sym.TheVariants as grammar_symbol
 use Rattle.lr_check_sets.specs.Automaton.{Automaton}
+use Rattle.lr_check_sets.proofs.Closing.{few}
 use Rattle.lr_check_found.specs.declared.places.Place.{Place}
 use Rattle.lr_check_found.specs.declared.settlings.How.TheVariants as how
 use Rattle.lr_check_found.specs.Found.{FoundView, place_of, IsPlaceAt, Settles}
@@ -16,49 +17,6 @@ use Rattle.lr_check_found.specs.Items.{Made, HasMade}
 use Rattle.lr_check_found.specs.Sound.{IsFound}
 use Rattle.lr_check_found.proofs.Below.{Below, none_below, one_more_at}
 use Rattle.lr_check_complete.specs.Kids.{OnlyIn, BothIn, KidsIn, IsFrame, FrameIn}
-
--- tokens have at most two kids
-few : (k : Tok) → length (kids k) ≤ 2
-few tok.Zero = omega arith
-few tok.One = omega arith
-few tok.Two = omega arith
-few tok.Four = omega arith
-few tok.Eight = omega arith
-few tok.Const = omega arith
-few tok.Gaddr = omega arith
-few tok.Loc = omega arith
-few tok.Arg = omega arith
-few tok.IndirB = omega arith
-few tok.IndirW = omega arith
-few tok.IndirL = omega arith
-few tok.Plus = omega arith
-few tok.Minus = omega arith
-few tok.Mul = omega arith
-few tok.Div = omega arith
-few tok.Mod = omega arith
-few tok.And = omega arith
-few tok.Or = omega arith
-few tok.Xor = omega arith
-few tok.Lsh = omega arith
-few tok.Rsh = omega arith
-few tok.Neg = omega arith
-few tok.Com = omega arith
-few tok.Sxb = omega arith
-few tok.Zxb = omega arith
-few tok.Sxw = omega arith
-few tok.Zxw = omega arith
-few tok.Ncb = omega arith
-few tok.Ncw = omega arith
-few tok.AssignB = omega arith
-few tok.AssignW = omega arith
-few tok.AssignL = omega arith
-few tok.Cbr = omega arith
-few tok.Push = omega arith
-few tok.Ret = omega arith
-few tok.Call = omega arith
-few tok.Save = omega arith
-few tok.Jump = omega arith
-few tok.End = omega arith
 
 nil_of : {X : Type 0} (xs : List X) → length xs ≡ 0 → xs ≡ []
 nil_of [] e = refl

@@ -1,5 +1,5 @@
 -- Reductions of whole lists, as items.
-use Rattle.std.proofs.Common.{◌≡◌, ℕ, ◌-◌, List, [], ◌∷◌, Option, Some, None, Contains, Bool, true, false, length, drop, slice_get, refl, sym, ap, ◌∙◌, subst, arith}
+use Rattle.std.proofs.Common.{◌≡◌, ℕ, ◌-◌, List, [], ◌∷◌, Option, Some, None, Contains, Bool, true, false, length, slice_get, refl, sym, ap, ◌∙◌, subst, arith}
 use Rattle.std.specs.Prelude.{nat_lt, ◌==◌, slice_index_or, if◌then◌else◌}
 use Rattle.std.proofs.lemmas.Bool.{eqb-true}
 use Rattle.std.proofs.lemmas.Option.{get_or_from_slice_get, same_Some, none-some}
@@ -11,9 +11,8 @@ use Rattle.lr_tables.specs.declared.types.Choice.{Choice}
 use Rattle.lr_tables.specs.declared.types.Choice.TheVariants as choice
 use Rattle.lr_tables.specs.View.{TableView}
 use Rattle.lr_tables.specs.Leads.{actions_at}
-use Rattle.lr_check_sets.specs.Automaton.{Automaton, Production, Candidate, shift, reduce, size_of, Free, reduced}
+use Rattle.lr_check_sets.specs.Automaton.{Automaton, Production, Candidate, shift, reduce, size_of, Free}
 use Rattle.lr_check_sets.specs.Table.{production, candidates_of, automaton_of}
-use Rattle.lr_check_sets.proofs.Links.{drop_whole}
 use Rattle.lr_check_found.specs.declared.choices.Leads.{Leads}
 use Rattle.lr_check_found.specs.declared.choices.Leads.TheVariants.{Out, Whole, Inside}
 use Rattle.lr_check_found.specs.declared.places.Place.{Place}
@@ -43,7 +42,7 @@ out_whole n k e = cc
 inside_whole : {X : Type 0} (k : ℕ) → Inside ≡ Whole k → X
 inside_whole k e = cc
 
-whole_same : (j k : ℕ) → Whole j ≡ Whole k → j ≡ k
+pub whole_same : (j k : ℕ) → Whole j ≡ Whole k → j ≡ k
 whole_same j k e = cc
 
 if_out : (b : Bool) (x y : Leads) → b ≡ true → (if b then x else y) ≡ x
@@ -65,13 +64,10 @@ is_whole long left size k e = by (nat_lt size long) (long == size) refl refl
     }
     by false false f g = inside_whole k (sym (if_else (nat_lt size long) (Out (long - size)) (if long == size then Whole left else Inside) f ∙ if_else (long == size) (Whole left) Inside g) ∙ e)
 
-pub whole_left : (r : Production) (s : List Sym) → size_of r ≡ length s → reduced r s ≡ grammar_symbol.Class r.left ∷ []
-whole_left r s e = ap (λ l. grammar_symbol.Class r.left ∷ l) (ap (λ n. drop n s) e ∙ drop_whole s)
-
-reduce_same : (r s : Production) → reduce r ≡ reduce s → r ≡ s
+pub reduce_same : (r s : Production) → reduce r ≡ reduce s → r ≡ s
 reduce_same r s e = cc
 
-shift_reduce : (r : Production) → reduce r ≡ shift → ⊥
+pub shift_reduce : (r : Production) → reduce r ≡ shift → ⊥
 shift_reduce r e = cc
 
 -- the choice of a free reduction of the whole list leads to its class

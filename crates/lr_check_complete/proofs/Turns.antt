@@ -1,7 +1,6 @@
 -- Looks one behind another.
 use Rattle.std.proofs.Common.{◌≡◌, ℕ, ◌+◌, ◌≤◌, ◌<◌, List, [], ◌∷◌, ◌++◌, Contains, length, get_or, ap, ◌∙◌, subst, ◌⊎◌, inl, inr, ⊎_elim, arith, length-append}
 use Rattle.std.proofs.lemmas.Bool.{cases_lt}
-use Rattle.std.specs.Prelude.{Result, Ok, Err, OnOk}
 use Rattle.std.proofs.lemmas.List.{get_or_default}
 use Rattle.lr_tables.proofs.Members.{In, In-cases, In-Contains, Contains-In}
 use Rattle.lr_check_sets.specs.Automaton.{Automaton}
@@ -11,10 +10,6 @@ use Rattle.lr_check_found.specs.Items.{IsItem}
 use Rattle.lr_check_found.proofs.Below.{Below, none_below, one_more, of_all}
 use Rattle.lr_check_complete.specs.declared.window.Window.{Window}
 use Rattle.lr_check_complete.specs.Looks.{AreItems, Looks}
-
-pub on_ok : {X E : Type 0} (r : Result X E) (P Q : Type 0) → (P → Q) → OnOk r P → OnOk r Q
-on_ok (Ok u) P Q f h = f h
-on_ok (Err e) P Q f h = tt
 
 module _ (A : Automaton) (f : FoundView) (w : Window) where
   -- nothing is pushed, and P is true

@@ -15,16 +15,17 @@ use Rattle.lr_tables.specs.declared.types.Choice.{Choice}
 use Rattle.lr_tables.specs.declared.types.Choice.TheVariants as choice
 use Rattle.lr_tables.specs.View.{TableView}
 use Rattle.lr_tables.specs.Leads.{actions_at}
-use Rattle.lr_check_sets.specs.Automaton.{Automaton, Production, Candidate, shift, reduce, Free}
+use Rattle.lr_check_sets.specs.Automaton.{Automaton, Production, Candidate, reduce, Free}
 use Rattle.lr_check_sets.specs.Bound.{HasClasses}
 use Rattle.lr_check_sets.specs.Faults.{Calms, calms}
 use Rattle.lr_check_sets.specs.Table.{production, productions, candidates_of, automaton_of}
+use Rattle.lr_check_sets.proofs.Rows.{at_contains}
 use Rattle.lr_check_found.specs.declared.choices.Leads.TheVariants.{Out, Whole, Inside}
 use Rattle.lr_check_found.specs.Choices.{seen, CandidateOf, HasFree}
-use Rattle.lr_check_found.proofs.Reading.{at_contains}
 use Rattle.lr_check_found.proofs.Leading.{candidates_here, candidates_there}
+use Rattle.lr_check_found.proofs.Deriving.{whole_left}
 use Rattle.lr_check_flaws.specs.Flaws.{StepsTo}
-use Rattle.lr_check_complete.proofs.Reducing.{whole_left, whole_choice, WholeChoice, choice_whole}
+use Rattle.lr_check_complete.proofs.Reducing.{whole_choice, WholeChoice, choice_whole, whole_same, reduce_same, shift_reduce}
 use Rattle.lr_check_decided.specs.Calm.{marked, AreCalm, IsNext, Stuck, LeadsToMarked, AreStuck, MakesUnmarked, MakesMarked, OneUnmarked, AllMarked}
 
 -- what a test of an option says
@@ -56,9 +57,6 @@ pub if_ok_both : {X E : Type 0} (r : Result X E) (P Q R : X → Type 0) → ((x 
 if_ok_both (Ok x) P Q R g h k = g x h k
 if_ok_both (Err e) P Q R g h k = tt
 
-pub leads_same : (j k : ℕ) → Whole j ≡ Whole k → j ≡ k
-leads_same j k e = cc
-
 pub out_not : (n k : ℕ) → Out n ≡ Whole k → ⊥
 out_not n k e = cc
 
@@ -72,14 +70,8 @@ module _ (rules : List Rule) (size : ℕ) (marks : List Bool) (d : Choice) (clas
   unmarked_made (Some k) h = record { leads = leads ∙ ap Whole (sym h.0); unmarked = ap (λ j. slice_index_or marks j false) h.0 ∙ h.1 }
 
   pub marked_made : (o : Option ℕ) → IfNone o (slice_index_or marks class false ≡ true) → IfNone o (MakesMarked rules size marks d)
-  marked_made None h = record { each = λ k e. subst (λ j. slice_index_or marks j false ≡ true) (leads_same class k (sym leads ∙ e)) h }
+  marked_made None h = record { each = λ k e. subst (λ j. slice_index_or marks j false ≡ true) (whole_same class k (sym leads ∙ e)) h }
   marked_made (Some k) h = tt
-
-shift_reduce : (r : Production) → reduce r ≡ shift → ⊥
-shift_reduce r e = cc
-
-reduce_same : (r s : Production) → reduce r ≡ reduce s → r ≡ s
-reduce_same r s e = cc
 
 -- the rule of a choice is a rule of the description
 pub rule_listed : (rules : List Rule) (d : Choice) (r : Production) → CandidateOf rules d (reduce r) → Contains (productions rules) r

@@ -2,6 +2,7 @@
 use Rattle.std.proofs.Common.{◌≡◌, ℕ, ◌<◌, List, [], ◌∷◌, Some, None, Contains, Bool, true, false, length, refl, sym, ap, ◌∙◌, subst}
 use Rattle.std.specs.Prelude.{slice_index_or}
 use Rattle.std.proofs.lemmas.Option.{get_or_from_slice_get, same_Some, none-some}
+use Rattle.lr_check_flaws.proofs.Law.{lists_same}
 use Rattle.md_reader.specs.State.{Content}
 use Rattle.md_reader.specs.declared.types.Rule.{Rule}
 use Rattle.md_reader.specs.declared.types.Sym.{Sym}
@@ -20,16 +21,14 @@ use Rattle.lr_check_found.specs.Lists.{IsList}
 use Rattle.lr_check_found.specs.Found.{FoundView, IsPlaceAt, IsSettlingAt, Settles}
 use Rattle.lr_check_found.specs.Sound.{IsSoundSettling, IsFound}
 use Rattle.lr_check_found.proofs.Leading.{candidates_here, candidates_there}
-use Rattle.lr_check_complete.proofs.Reducing.{whole_left, whole_choice, WholeChoice, choice_whole}
+use Rattle.lr_check_found.proofs.Deriving.{whole_left}
+use Rattle.lr_check_complete.proofs.Reducing.{whole_choice, WholeChoice, choice_whole}
 use Rattle.lr_check_complete.specs.Sets.{IsComplete}
 use Rattle.lr_check_decided.specs.declared.circles.Restless.{Restless}
 use Rattle.lr_check_decided.specs.Calm.{AreCalm, AreStuck, OneUnmarked, AllMarked}
 use Rattle.lr_check_decided.specs.Turn.{IsRestless}
 use Rattle.lr_check_decided.proofs.Settled.{made}
 use Rattle.lr_check_decided.proofs.Calming.{rule_listed}
-
-lists_same : (a b : List Sym) → Some a ≡ Some b → a ≡ b
-lists_same a b e = cc
 
 -- nothing settles on from a list that leads nowhere
 pub calm_end : (A : Automaton) (f : FoundView) (i : ℕ) (e : Settling) (x : Place) (s : List Sym) → IsFound A f → IsSettlingAt f i e → IsPlaceAt f e.place x → IsList f.lists e.list s

@@ -1,6 +1,7 @@
 -- Where all of the sets is found and no fault shows, there is none.
 use Rattle.std.proofs.Common.{◌≡◌, ℕ, ◌≤◌, List, Some, sym, ap, ◌∙◌, subst, arith}
 use Rattle.std.proofs.lemmas.Option.{same_Some}
+use Rattle.lr_check_flaws.proofs.Law.{lists_same}
 use Rattle.lr_check_found.specs.Count.{HasMore}
 use Rattle.tree_core.specs.declared.token.Tok.{Tok}
 use Rattle.md_reader.specs.declared.types.Sym.{Sym}
@@ -14,9 +15,6 @@ use Rattle.lr_check_found.specs.Lists.{IsList}
 use Rattle.lr_check_found.specs.Found.{FoundView, place_of, IsPlaceAt, IsSettlingAt}
 use Rattle.lr_check_found.specs.Sound.{IsSoundSettling}
 use Rattle.lr_check_complete.specs.Sets.{HasPlace, HasSettling, HasSum, IsComplete}
-
-lists_same : (a b : List Sym) → Some a ≡ Some b → a ≡ b
-lists_same a b e = cc
 
 module _ (A : Automaton) (f : FoundView) (c : IsComplete A f) where
   place_is : (q : ℕ) (k b : Tok) (s : List Sym) (h : HasSettling f q k b s) → IsPlaceAt f h.settles.entry.place (place_of q k b)

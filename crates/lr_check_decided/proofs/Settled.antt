@@ -8,9 +8,9 @@ use Rattle.md_reader.specs.declared.types.Sym.TheVariants as grammar_symbol
 use Rattle.lr_check_sets.specs.Automaton.{Automaton, Production, reduce, walk, size_of, Free, reduced}
 use Rattle.lr_check_found.specs.declared.places.Place.{Place}
 use Rattle.lr_check_found.specs.Found.{FoundView, IsPlaceAt, IsSettlingAt, Settles}
+use Rattle.lr_check_found.proofs.Deriving.{whole_left}
 use Rattle.lr_check_flaws.specs.Flaws.{Along, along_one, along_on, IsCircleAt}
 use Rattle.lr_check_complete.specs.Sets.{HasSettling, IsComplete}
-use Rattle.lr_check_complete.proofs.Reducing.{whole_left}
 use Rattle.lr_check_decided.specs.Turn.{Led, led_here, led_on}
 use Rattle.lr_check_decided.proofs.Fine.{behind_is}
 

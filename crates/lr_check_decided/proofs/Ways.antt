@@ -3,9 +3,9 @@ use Rattle.std.proofs.Common.{◌≡◌, ◌⊎◌, ℕ, zero, suc, ◌+◌, ◌
 use Rattle.std.proofs.lemmas.Bool.{cases_eq}
 use Rattle.std.proofs.lemmas.List.{drop-append-le}
 use Rattle.std.proofs.lemmas.Option.{slice_get_within, none-some}
+use Rattle.gg_base.proofs.Facts.{slice_cases}
 use Rattle.tree_core.specs.declared.token.Tok.{Tok}
 use Rattle.lr_check_sets.specs.Automaton.{Automaton}
-use Rattle.lr_check_found.proofs.Reading.{slice_cases}
 use Rattle.lr_check_flaws.specs.Flaws.{StepsTo, Along, along_one, along_on}
 use Rattle.lr_check_decided.specs.declared.turning.Turn.{Turn}
 use Rattle.lr_check_decided.specs.Turn.{Led, led_here, led_on, IsTurn}

@@ -157,10 +157,6 @@ if_ok (Err e) P Q f h = h
 pub made_as : {f : FoundView} {i : ℕ} {h g : How} → h ≡ g → IsMadeBy f i h → IsMadeBy f i g
 made_as {f = f} {i = i} e m = subst (IsMadeBy f i) e m
 
-pub on_ok : {T E : Type 0} (r : Result T E) (P Q : Type 0) → (P → Q) → OnOk r P → OnOk r Q
-on_ok (Ok x) P Q f h = f h
-on_ok (Err e) P Q f h = h
-
 -- what is asked until a class alone is reduced, as the code finds it
 pub turn_asked : {E : Type 0} (r : Result (Unit {0}) E) (t : TableView) (a b : AskedView) (p q to : ℕ) (k : Tok) (rules : List Rule) (choices : List Choice) (d : Content) →
     d ≡ t.content → rules ≡ d.rules → choices ≡ actions_at t q k → q ≡ p → OnOk r (b ≡ with_taken a rules choices 1 to) →

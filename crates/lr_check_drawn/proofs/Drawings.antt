@@ -1,6 +1,7 @@
 -- The nodes of settlings fit, and stand for their trees.
 use Rattle.std.proofs.Common.{◌≡◌, ℕ, ◌<◌, List, Some, Bool, Contains, length, slice_get, refl, sym, ap, ◌∙◌, subst, arith}
 use Rattle.std.proofs.lemmas.Option.{slice_get_within, same_Some}
+use Rattle.gg_base.proofs.Facts.{slice_some}
 use Rattle.tree_core.specs.Grammar.{kids}
 use Rattle.lr_check_sets.specs.Trees.{May}
 use Rattle.md_reader.specs.declared.types.Sym.{Sym}
@@ -20,7 +21,6 @@ use Rattle.lr_check_drawn.specs.Drawing.{DrawingView, IsDrawnAt, AreDrawn}
 use Rattle.lr_check_nodes.specs.Growing.{AreWhole}
 use Rattle.lr_check_drawn.specs.Rising.{HaveNodes}
 use Rattle.lr_check_drawn.specs.Sampled.{Draws, AreSettled}
-use Rattle.lr_check_nodes.proofs.Listing.{is_at}
 use Rattle.lr_check_nodes.proofs.Wholes.{fit_none, fit_one, fit_two}
 use Rattle.lr_check_drawn.proofs.Leaves.{node_fits}
 
@@ -69,7 +69,7 @@ module _ (A : Automaton) (f : FoundView) (nodes : List Node) (found : IsFound A 
 module _ (A : Automaton) (f : FoundView) (d : DrawingView) (found : IsFound A f) (drawn : AreDrawn A f d) where
   -- each node is that of a settling
   drawn_at : (n : ℕ) → n < length d.nodes → (ds : List ℕ) × IsDrawnAt A f d n ds
-  drawn_at n lt = let ds = is_at d.depths n (let many = drawn.many in omega (arith, many, lt)) in (ds.0, drawn.each n ds.0 ds.1)
+  drawn_at n lt = let ds = slice_some d.depths n (let many = drawn.many in omega (arith, many, lt)) in (ds.0, drawn.each n ds.0 ds.1)
 
   pub drawn_whole : AreWhole d.nodes
   drawn_whole = record { lower = lower; typed = record { each = typed } }

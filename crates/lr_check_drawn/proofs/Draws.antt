@@ -1,5 +1,6 @@
 -- One node more.
 use Rattle.std.proofs.Common.{◌≡◌, ◌⊎◌, ℕ, zero, suc, ◌+◌, List, [], ◌∷◌, ◌++◌, Some, None, length, slice_get, refl, sym, ap, ◌∙◌, subst, inl, inr, ⊎_elim, length-append}
+use Rattle.gg_base.proofs.Facts.{slice_last}
 use Rattle.tree_core.specs.declared.token.Tok.{Tok}
 use Rattle.lr_check_sets.specs.Automaton.{Automaton}
 use Rattle.lr_check.specs.Tree.{Node}
@@ -16,10 +17,6 @@ last_or [] x y (suc zero) e = absurd (cc)
 last_or [] x y (suc (suc i)) e = absurd (cc)
 last_or (z ∷ xs) x y zero e = inl e
 last_or (z ∷ xs) x y (suc i) e = ⊎_elim (λ h. inl h) (λ h. inr (ap suc h.0, h.1)) (last_or xs x y i e)
-
-last_there : {X : Type 0} (xs : List X) (x : X) → slice_get (xs ++ x ∷ []) (length xs) ≡ Some x
-last_there [] x = refl
-last_there (y ∷ xs) x = last_there xs x
 
 abbrev the_none : List ℕ → List (List ℕ)
 the_none ds = []
@@ -44,7 +41,7 @@ module _ (A : Automaton) (f : FoundView) where
       let e : IsSoundSettling A f i n.entry = found.settlings i n.entry n.there in
       let node : Node = record { tok = token; kids = k.numbers; answers = k.asked.own } in
       let tok : token ≡ e.place.token = n.has_token e.place e.there in
-      let there : slice_get (d.nodes ++ node ∷ []) i ≡ Some node = ap (slice_get (d.nodes ++ node ∷ [])) (next ∙ sym drawn.many) ∙ last_there d.nodes node in
+      let there : slice_get (d.nodes ++ node ∷ []) i ≡ Some node = ap (slice_get (d.nodes ++ node ∷ [])) (next ∙ sym drawn.many) ∙ slice_last d.nodes node in
       record {
         entry = n.entry;
         place = e.place;

@@ -1,5 +1,6 @@
 -- Nodes that are whole have trees.
 use Rattle.std.proofs.Common.{◌≡◌, ℕ, zero, suc, ◌<◌, List, [], ◌∷◌, ◌++◌, Option, Some, None, Bool, true, length, slice_get, refl, sym, ap, ◌∙◌, subst, inl, inr, arith, append_assoc, append-nil}
+use Rattle.gg_base.proofs.Facts.{slice_some}
 use Rattle.tree_core.specs.declared.token.Tok.{Tok}
 use Rattle.tree_core.specs.declared.token.Sort.{Sort}
 use Rattle.tree_core.specs.Grammar.{kids, sort_of}
@@ -12,9 +13,8 @@ use Rattle.lr_check_parse.specs.Typed as parse
 use Rattle.lr_check_samples.specs.Fixed.{leaf, tokens}
 use Rattle.lr_check_samples.specs.Nodes.{Stands, IsNode}
 use Rattle.lr_check_samples.proofs.Drawing.{stands_both, stands_node}
-use Rattle.lr_check_samples.proofs.Typing.{may_fits}
+use Rattle.lr_check_samples.proofs.Typing.{may_fits, tokens-append}
 use Rattle.lr_check_nodes.specs.Growing.{AreWhole}
-use Rattle.lr_check_nodes.proofs.Listing.{is_at}
 use Rattle.lr_check_nodes.proofs.Wholes.{fits_within, kids_head, kids_tail, kids_within}
 
 -- a node fits where its token may stand
@@ -29,10 +29,6 @@ typed_append : {xs ys : List Sort} {u v : List Tok} → parse.AreTyped xs u → 
 typed_append parse.ends g = g
 typed_append {ys = ys} {v = v} (parse.begins {xs = xs} {w = w} t fit h) g =
     parse.begins t fit (subst (λ l. parse.AreTyped l (w ++ v)) (append_assoc (kids t) xs ys) (typed_append h g))
-
-tokens-append : (u v : List Leaf) → tokens (u ++ v) ≡ tokens u ++ tokens v
-tokens-append [] v = refl
-tokens-append (l ∷ u) v = ap (λ w. l.tok ∷ w) (tokens-append u v)
 
 -- a token and the trees of its kids
 pub typed_node : (k : Tok) (x : Sort) (us : List Leaf) → May k x → parse.AreTyped (kids k) (tokens us) → parse.AreTyped (x ∷ []) (k ∷ tokens us)
@@ -80,7 +76,7 @@ module _ (nodes : List Node) (w : AreWhole nodes) where
   below_leaves : (m n : ℕ) (x : Sort) → n < m → fits_at (slice_get nodes n) x ≡ true → HaveLeaves nodes (n ∷ []) (x ∷ [])
   below_leaves zero n x lt fits = absurd (omega (arith, lt))
   below_leaves (suc m) n x lt fits =
-      let v = is_at nodes n (fits_within nodes n x fits) in
+      let v = slice_some nodes n (fits_within nodes n x fits) in
       node_leaves nodes n v.0 x v.1 fits (all_leaves m (below_leaves m) v.0.kids (kids v.0.tok)
       (λ k c. let low = w.lower n k v.0 v.1 (In-Contains k v.0.kids c) in omega (arith, low, lt)) (w.typed.each n v.0 v.1))
 

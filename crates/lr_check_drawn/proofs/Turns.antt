@@ -4,11 +4,11 @@ use Rattle.std.proofs.Common.{⊎_elim, arith, length-append}
 use Rattle.std.specs.Prelude.{Result, Ok, Err, IfOk}
 use Rattle.std.proofs.lemmas.Option.{slice_get_within, slice_get-get_or, get_or_from_slice_get, same_Some, none-some}
 use Rattle.std.proofs.lemmas.List.{get_or_default}
+use Rattle.gg_base.proofs.Facts.{slice_last, slice_cases}
 use Rattle.tree_core.specs.declared.token.Tok.{Tok}
 use Rattle.md_reader.specs.declared.types.Sym.TheVariants as grammar_symbol
 use Rattle.lr_check_sets.specs.Automaton.{Automaton}
 use Rattle.lr_check_found.specs.declared.places.Place.{Place}
-use Rattle.lr_check_found.proofs.Reading.{slice_last, slice_cases}
 use Rattle.lr_check_samples.specs.Answering.{answers_to, depths_to}
 use Rattle.lr_check_samples.specs.Samples.{Turning, turn, turn_on}
 use Rattle.lr_check_flaws.specs.Flaws.{StepsTo, Along, along_one, along_on}

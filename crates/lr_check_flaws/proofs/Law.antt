@@ -14,7 +14,7 @@ use Rattle.lr_check_flaws.specs.declared.flaws.Flaw.{Flaw}
 use Rattle.lr_check_flaws.specs.declared.flaws.Flaw.TheVariants.{Gap, Dead, Circle}
 use Rattle.lr_check_flaws.specs.Flaws.{StepsTo, Along, along_one, along_on, IsFlaw}
 
-lists_same : (a b : List Sym) → Some a ≡ Some b → a ≡ b
+pub lists_same : (a b : List Sym) → Some a ≡ Some b → a ≡ b
 lists_same a b e = cc
 
 module _ (A : Automaton) (f : FoundView) (i p : ℕ) (x : Place) (s : List Sym) (found : IsFound A f) (at : SettlesAt f i x s p) where

@@ -5,6 +5,7 @@ use Rattle.std.specs.Option.{option_map}
 use Rattle.std.proofs.lemmas.Option.{slice_get-map, slice_get_within, same_Some, none-some}
 use Rattle.md_reader.specs.declared.types.Sym.{Sym}
 use Rattle.lr_check_sets.specs.Automaton.{Automaton, Candidate, walk, Free}
+use Rattle.lr_check_sets.proofs.Rows.{at_contains}
 use Rattle.lr_check_found.specs.declared.places.Place.{Place}
 use Rattle.lr_check_found.specs.declared.places.Origin.{Origin}
 use Rattle.lr_check_found.specs.declared.settlings.How.{How}
@@ -15,7 +16,7 @@ use Rattle.lr_check_found.specs.Found.{FoundView, key_of, IsPlaceAt, IsSettlingA
 use Rattle.lr_check_found.specs.Items.{Begun, Made, leaf, one, two, made_by_reduction, IsBehind, HasMade}
 use Rattle.lr_check_found.specs.Sound.{IsFound}
 use Rattle.lr_check_found.specs.Adding.{IsAdded, IsRelisted, settled, list_of, list_number, number_in, upper_of, lower_of, IsWider, HasWayOut}
-use Rattle.lr_check_found.proofs.Reading.{at_contains, contains_at}
+use Rattle.lr_check_found.proofs.Reading.{contains_at}
 use Rattle.lr_check_found.proofs.Growing.{grows_same, grows_both, made_grows}
 use Rattle.lr_check_found.proofs.Deriving.{walks_of_made}
 use Rattle.lr_check_found.proofs.Placing.{placed_found, placed_grows}

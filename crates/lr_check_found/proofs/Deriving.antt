@@ -94,7 +94,7 @@ two_settles : (A : Automaton) (q p j : ℕ) (k b n m : Tok) (w v : Sort) (s u : 
 two_settles A q p j k b n m w v s u place go kid may may' sum ws sum' =
     sets.whole (sets.with_kid (first_in A q p k b n m w v s place go kid may may' sum) (walk_from A q p (grammar_symbol.Tok k) s go ∙ ws) refl sum')
 
-whole_left : (r : Production) (s : List Sym) → size_of r ≡ length s → reduced r s ≡ grammar_symbol.Class r.left ∷ []
+pub whole_left : (r : Production) (s : List Sym) → size_of r ≡ length s → reduced r s ≡ grammar_symbol.Class r.left ∷ []
 whole_left r s e = ap (λ l. grammar_symbol.Class r.left ∷ l) (ap (λ n. drop n s) e ∙ drop_whole s)
 
 -- a kid's sum, where it is wanted

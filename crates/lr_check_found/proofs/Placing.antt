@@ -5,6 +5,7 @@ use Rattle.std.specs.Prelude.{slice_index_or, count_by}
 use Rattle.std.proofs.lemmas.Bool.{cases_lt}
 use Rattle.std.proofs.lemmas.List.{get_or_past, get_or-append_right, get_or_append_left}
 use Rattle.std.proofs.lemmas.Option.{slice_get_within}
+use Rattle.gg_base.proofs.Facts.{slice_left, slice_cases}
 use Rattle.lr_check_sets.specs.Automaton.{Automaton}
 use Rattle.lr_check_found.specs.declared.places.Place.{Place}
 use Rattle.lr_check_found.specs.declared.places.Origin.{Origin}
@@ -14,7 +15,7 @@ use Rattle.lr_check_found.specs.Found.{FoundView, slot, key_of, IsPlaceAt, IsSet
 use Rattle.lr_check_found.specs.Items.{Begun, root, only, first, second, IsEarlier}
 use Rattle.lr_check_found.specs.Sound.{IsSoundPlace, IsSoundSettling, IsFound}
 use Rattle.lr_check_found.specs.Adding.{IsPlaced}
-use Rattle.lr_check_found.proofs.Reading.{slice_left, slice_at_last, slice_cases}
+use Rattle.lr_check_found.proofs.Reading.{slice_at_last}
 use Rattle.lr_check_found.proofs.Slots.{one_slot}
 use Rattle.lr_check_found.proofs.Growing.{begun_grows, made_grows}
 use Rattle.lr_check_found.proofs.Deriving.{place_of_begun}

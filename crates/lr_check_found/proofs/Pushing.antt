@@ -2,12 +2,14 @@
 use Rattle.std.proofs.Common.{◌≡◌, ℕ, zero, suc, ◌+◌, ◌<◌, List, [], ◌∷◌, ◌++◌, Some, Contains, length, get_or, slice_get, refl, sym, ap, ◌∙◌, subst, ⊎_elim, arith, length-append}
 use Rattle.std.specs.Prelude.{slice_index_or}
 use Rattle.std.proofs.lemmas.Option.{slice_get_within, slice_get-get_or, get_or_from_slice_get, same_Some}
+use Rattle.lr_check_sets.proofs.Rows.{at_contains}
+use Rattle.gg_base.proofs.Facts.{slice_left, slice_cases}
 use Rattle.md_reader.specs.declared.types.Sym.{Sym}
 use Rattle.lr_tables.specs.Symbols.{symbol_number}
 use Rattle.lr_tables.proofs.Symbols_apart.{symbol_number_same}
 use Rattle.lr_check_found.specs.declared.lists.Cell.{Cell}
 use Rattle.lr_check_found.specs.Lists.{ListsView, IsList, IsCell, AreLists, KeepsLists, IsPushed}
-use Rattle.lr_check_found.proofs.Reading.{slice_left, slice_at_last, slice_cases, at_contains}
+use Rattle.lr_check_found.proofs.Reading.{slice_at_last}
 
 cell_of : Sym → ℕ → Cell
 cell_of X rest = record { symbol = symbol_number X; rest = rest }

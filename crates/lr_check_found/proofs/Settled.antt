@@ -7,6 +7,7 @@ use Rattle.std.proofs.lemmas.List.{get_or-set_same, get_or-set_other, length-set
 use Rattle.std.proofs.lemmas.List.Elements.{Contains-append_left, Contains-append_right}
 use Rattle.std.proofs.lemmas.List.Sums.{sum_by-cons, sum_by-append}
 use Rattle.std.proofs.lemmas.Option.{slice_get_within}
+use Rattle.gg_base.proofs.Facts.{slice_left, slice_cases}
 use Rattle.lr_tables.proofs.Members.{In, In-cases, In-Contains, Contains-In}
 use Rattle.md_reader.specs.declared.types.Sym.{Sym}
 use Rattle.lr_check_sets.specs.Automaton.{Automaton, Candidate, shift, reduce, walk, Free, Outside}
@@ -19,7 +20,7 @@ use Rattle.lr_check_found.specs.Found.{FoundView, slot, key_of, IsPlaceAt, IsSet
 use Rattle.lr_check_found.specs.Items.{Made, leaf, one, two, made_by_reduction, IsLater}
 use Rattle.lr_check_found.specs.Sound.{IsSoundPlace, IsSoundSettling, IsHeldSum, IsFound}
 use Rattle.lr_check_found.specs.Adding.{with_lists, IsRelisted, with_sum, held, with_key, with_entry, settled, IsWider, HasWayOut}
-use Rattle.lr_check_found.proofs.Reading.{slice_left, slice_at_last, slice_cases}
+use Rattle.lr_check_found.proofs.Reading.{slice_at_last}
 use Rattle.lr_check_found.proofs.Growing.{begun_grows, made_grows}
 use Rattle.lr_check_found.proofs.Deriving.{settled_of_made}
 use Rattle.lr_check_found.proofs.Placing.{settling_grows}

@@ -3,51 +3,9 @@ use Rattle.std.proofs.Common.{◌≡◌, ℕ, ◌+◌, ◌*◌, ◌<◌, ap, ◌
 use Rattle.tree_core.specs.declared.token.Tok.{Tok}
 use Rattle.tree_core.specs.declared.token.Tok.TheVariants as tok
 use Rattle.lr_tables.specs.Symbols.{number}
-use Rattle.lr_tables.proofs.Symbols_apart.{number_same}
+use Rattle.lr_tables.proofs.Symbols_apart.{number_same, number-below}
 use Rattle.lr_check_found.specs.declared.places.Place.{Place}
 use Rattle.lr_check_found.specs.Found.{slot, place_of}
-
-below : (t : Tok) → number t < 40
-below tok.Zero = omega arith
-below tok.One = omega arith
-below tok.Two = omega arith
-below tok.Four = omega arith
-below tok.Eight = omega arith
-below tok.Const = omega arith
-below tok.Gaddr = omega arith
-below tok.Loc = omega arith
-below tok.Arg = omega arith
-below tok.IndirB = omega arith
-below tok.IndirW = omega arith
-below tok.IndirL = omega arith
-below tok.Plus = omega arith
-below tok.Minus = omega arith
-below tok.Mul = omega arith
-below tok.Div = omega arith
-below tok.Mod = omega arith
-below tok.And = omega arith
-below tok.Or = omega arith
-below tok.Xor = omega arith
-below tok.Lsh = omega arith
-below tok.Rsh = omega arith
-below tok.Neg = omega arith
-below tok.Com = omega arith
-below tok.Sxb = omega arith
-below tok.Zxb = omega arith
-below tok.Sxw = omega arith
-below tok.Zxw = omega arith
-below tok.Ncb = omega arith
-below tok.Ncw = omega arith
-below tok.AssignB = omega arith
-below tok.AssignW = omega arith
-below tok.AssignL = omega arith
-below tok.Cbr = omega arith
-below tok.Push = omega arith
-below tok.Ret = omega arith
-below tok.Call = omega arith
-below tok.Save = omega arith
-below tok.Jump = omega arith
-below tok.End = omega arith
 
 upper : (a b c d : ℕ) → b < 40 → d < 40 → a * 40 + b ≡ c * 40 + d → a ≡ c
 upper a b c d l k e = omega arith
@@ -65,7 +23,7 @@ same_place x y s t b =
 pub one_slot : (x y : Place) → slot x ≡ slot y → x ≡ y
 one_slot x y e =
     let pair : x.state * 40 + number x.token ≡ y.state * 40 + number y.token =
-    upper (x.state * 40 + number x.token) (number x.behind) (y.state * 40 + number y.token) (number y.behind) (below x.behind) (below y.behind) e in
-    same_place x y (upper x.state (number x.token) y.state (number y.token) (below x.token) (below y.token) pair)
-    (lower x.state (number x.token) y.state (number y.token) (below x.token) (below y.token) pair)
-    (lower (x.state * 40 + number x.token) (number x.behind) (y.state * 40 + number y.token) (number y.behind) (below x.behind) (below y.behind) e)
+    upper (x.state * 40 + number x.token) (number x.behind) (y.state * 40 + number y.token) (number y.behind) (number-below x.behind) (number-below y.behind) e in
+    same_place x y (upper x.state (number x.token) y.state (number y.token) (number-below x.token) (number-below y.token) pair)
+    (lower x.state (number x.token) y.state (number y.token) (number-below x.token) (number-below y.token) pair)
+    (lower (x.state * 40 + number x.token) (number x.behind) (y.state * 40 + number y.token) (number y.behind) (number-below x.behind) (number-below y.behind) e)

@@ -5,7 +5,7 @@ use Rattle.std.proofs.lemmas.List.{drop-map}
 use Rattle.std.proofs.lemmas.Bool.{eqb-true}
 use Rattle.std.specs.Prelude.{◌==◌, if◌then◌else◌}
 use Rattle.std.proofs.lemmas.Option.{same_Some}
-use Rattle.gg_base.proofs.Facts.{some_none}
+use Rattle.gg_base.proofs.Facts.{some_none, head_same, tail_same}
 use Rattle.tree_core.specs.declared.token.Tok.{Tok}
 use Rattle.tree_core.specs.declared.token.Tok.TheVariants as tok
 use Rattle.md_reader.specs.declared.types.Rule.{Rule}
@@ -40,21 +40,9 @@ use Rattle.lr_check_law.specs.Accepting.{tokens_of, EveryTreeIsAccepted}
 use Rattle.lr_check.specs.declared.sample.Outcome.TheVariants as outcome
 use Rattle.lr_check.specs.Tree.{Token}
 use Rattle.lr_check.specs.Parse as parse
-use Rattle.lr_check.specs.Parse.{Part, symbols, coming, answer, owner_answers, used_at, asked, Takes, reduced, Reduction, Ends}
-
-nil_cons : {X : Type 0} (x : X) (xs : List X) → [] ≡ x ∷ xs → ⊥
-nil_cons x xs e = cc
-
-pub head_same : {X : Type 0} (x y : X) (xs ys : List X) → x ∷ xs ≡ y ∷ ys → x ≡ y
-head_same x y xs ys e = cc
-
-pub tail_same : {X : Type 0} (x y : X) (xs ys : List X) → x ∷ xs ≡ y ∷ ys → xs ≡ ys
-tail_same x y xs ys e = cc
-
-pub symbols-used : (depth : ℕ) (s : List Part) → symbols (used_at depth s) ≡ symbols s
-symbols-used depth [] = refl
-symbols-used zero (p ∷ s) = refl
-symbols-used (suc depth) (p ∷ s) = ap (λ l. p.symbol ∷ l) (symbols-used depth s)
+use Rattle.lr_check.specs.Parse.{Part, symbols, coming, answer, owner_answers, asked, Takes, reduced, Reduction, Ends}
+use Rattle.lr_check.proofs.Law.{nowhere_in}
+use Rattle.lr_check.proofs.Parts.{symbols_used}
 
 -- the tokens to come, the end included
 abbrev pub toks : List Token → List Tok
@@ -113,7 +101,7 @@ module _ (rules : List Rule) where
     taken = p.taken;
     after = p.after;
     takes = parse.answered_no r e lt refused p.takes;
-    same = p.same ∙ symbols-used (length r.right - 1) s;
+    same = p.same ∙ symbols_used (length r.right - 1) s;
     none = λ h. subst (λ (l : List Production). CanBlock (map reduce l)) (sym (is_first n r e ns)) (asks, p.none h);
     free = λ m h. let f = p.free m h in (f.0, (f.1.0, subst (λ (l : List Production). Free (map reduce l) (reduce (production f.0))) (sym (is_first n r e ns)) (inr (asks, f.1.1))));
   }
@@ -124,7 +112,7 @@ module _ (rules : List Rule) where
     where
       by_answer : (r : Rule) → slice_get rules n ≡ Some r → 0 < length r.restrictions → (production r).asks ≡ true → (b : Bool) → answer (owner_answers s r) ≡ b →
           ((z : List Part) → Picks rules ns z) → Picks rules (n ∷ ns) s
-      by_answer r e lt asks true said ih = picks_first n ns s (asked s r) r e (parse.answered_yes r e lt said) (symbols-used (length r.right - 1) s)
+      by_answer r e lt asks true said ih = picks_first n ns s (asked s r) r e (parse.answered_yes r e lt said) (symbols_used (length r.right - 1) s)
       by_answer r e lt asks false refused ih = picks_later n ns s r e lt asks refused (ih (asked s r))
 
       by_restrictions : (r : Rule) → slice_get rules n ≡ Some r → (j : ℕ) → length r.restrictions ≡ j → ((z : List Part) → Picks rules ns z) → Picks rules (n ∷ ns) s
@@ -133,9 +121,6 @@ module _ (rules : List Rule) where
 
       by : (r : Rule) × (slice_get rules n ≡ Some r) → ((z : List Part) → Picks rules ns z) → Picks rules (n ∷ ns) s
       by r ih = by_restrictions r.0 r.1 (length r.0.restrictions) refl ih
-
-none_in : {X : Type 0} (x : X) → Contains [] x → ⊥
-none_in x h = omega (arith, h.1)
 
 pub toks-some : (ws : List Token) → (u : List Tok) × (toks ws ≡ coming ws ∷ u)
 toks-some [] = ([], refl)
@@ -223,7 +208,7 @@ module _ (t : TableView) (v : IsValid t.content) (b : IsNumbered t) where
         let top : grammar_symbol.Tok w.tok ∷ symbols s ≡ grammar_symbol.Tok k ∷ a = ap (λ z. grammar_symbol.Tok z ∷ symbols s) first ∙ ap (λ z. grammar_symbol.Tok k ∷ z) e in
         subst (λ l. Ends t.content.rules (stmt_of t.content.classes) at before l s outcome.Done) (sym same)
         (parse.shifts new ne'.0 sb' (ih shift free (at + 1) [] vs (record { symbol = grammar_symbol.Tok w.tok; answers = w.answers } ∷ s) (tail_same w.tok k (toks vs) u g') ne'.1 top
-        (λ x c. absurd (none_in x c))))
+        (λ x c. absurd (nowhere_in x c))))
 
     reducing : (ns : List ℕ) → (StandsBefore t.content.rules (stmt_of t.content.classes) a (grammar_symbol.Tok k) → ⊥) → AreReductions t.content.rules (stmt_of t.content.classes) a k ns →
         candidates_at t p k ≡ map reduce (rules_of t.content.rules ns) → Ends t.content.rules (stmt_of t.content.classes) at before ws s outcome.Done
@@ -295,4 +280,4 @@ pub every_tree_is_accepted : EveryTreeIsAccepted
 every_tree_is_accepted t v b fine tree =
     let m : MeetsLaws t = tables_meet_laws t v b in
     ending t v b (whole_trees_end (productions t.content.rules) (automaton_of t) m.no_end m.no_empty m.trees m.exact fine tree) 0 [] (tokens_of tree) [] (toks-tree tree [])
-    (no-ends tree [] tt) refl (λ x c. absurd (none_in x c))
+    (no-ends tree [] tt) refl (λ x c. absurd (nowhere_in x c))

@@ -5,13 +5,14 @@ use Rattle.std.specs.Prelude.{slice_index_or, Result, Ok, Err, OnOk}
 use Rattle.std.proofs.lemmas.Bool.{cases_lt}
 use Rattle.std.proofs.lemmas.List.{map-append, length-map, get_or_append_left}
 use Rattle.std.proofs.lemmas.Option.{slice_get_within, slice_get-get_or, same_Some, none-some}
+use Rattle.gg_base.proofs.Facts.{slice_some, slice_left, slice_last, slice_cases}
 use Rattle.tree_core.specs.declared.token.Sort.{Sort}
 use Rattle.tree_core.specs.declared.token.Sort.TheVariants as sort
 use Rattle.tree_core.specs.Grammar.{kids}
 use Rattle.lr_tables.proofs.Members.{In, In-Contains, Contains-In, In-left, In-right, In-cases, In-map, map-In}
 use Rattle.lr_check.specs.Tree.{Node, Token, Unfolds, ends, goes_on, IsTree, IsSample}
 use Rattle.lr_check.specs.Statement.{fits_at, KidsFit, AreTyped, IsStatement}
-use Rattle.lr_check_nodes.proofs.Listing.{slice_left, slice_last, slice_cases, is_at, at_in}
+use Rattle.lr_check_nodes.proofs.Listing.{at_in}
 use Rattle.lr_check_nodes.specs.Pruned.{IsUsed, AreUsed, IsPruned, IsMarked, IsMarkedUser, AreReached, IsLeft, Pruning, PrunedView, renumbered, node_again, with_node, without_node}
 
 number_stays : (ns xs : List ℕ) (k : ℕ) → k < length ns → slice_index_or (ns ++ xs) k 0 ≡ slice_index_or ns k 0
@@ -186,7 +187,7 @@ module _ (nodes : List Node) (marks : List Bool) (p : PrunedView) (s : IsStateme
   -- a node fits as the one for which it is left
   fits_again : (k : ℕ) (x : Sort) → IsMarked marks k → k < length nodes → fits_at (slice_get nodes k) x ≡ true → fits_at (slice_get p.nodes (number k)) x ≡ true
   fits_again k x h lt e =
-      let v = is_at nodes k lt in
+      let v = slice_some nodes k lt in
       ap (λ o. fits_at o x) (here k v.0 h v.1) ∙ (ap (λ o. fits_at o x) (sym v.1) ∙ e)
 
   typed : (n : ℕ) (u : Node) → slice_get p.nodes n ≡ Some u → KidsFit p.nodes u.kids (kids u.tok)
@@ -206,7 +207,7 @@ module _ (nodes : List Node) (marks : List Bool) (p : PrunedView) (s : IsStateme
 
   used : (n : ℕ) → n + 1 < length p.nodes → IsUsed p.nodes n
   used n lt =
-      let u = is_at p.nodes n (omega (arith, lt)) in
+      let u = slice_some p.nodes n (omega (arith, lt)) in
       let l : IsLeft nodes marks p.numbers (length nodes) n u.0 = r.all n u.0 u.1 in
       let below : l.number < length nodes = l.below in
       let not_root : l.number + 1 < length nodes = ⊎_elim (λ less. less)

@@ -5,6 +5,7 @@ use Rattle.std.specs.Prelude.{Result, Ok, Err, IfOk}
 use Rattle.std.proofs.lemmas.List.{take_all, get_or_default}
 use Rattle.std.proofs.lemmas.Bool.{false≢true}
 use Rattle.std.proofs.lemmas.Option.{same_Some, none-some}
+use Rattle.gg_base.proofs.Facts.{slice_left, slice_last, slice_cases}
 use Rattle.tree_core.specs.declared.token.Tok.{Tok}
 use Rattle.tree_core.specs.declared.token.Sort.{Sort}
 use Rattle.tree_core.specs.declared.token.Sort.TheVariants as sort
@@ -13,7 +14,7 @@ use Rattle.lr_tables.proofs.Members.{In, Contains-In}
 use Rattle.lr_check.specs.Tree.{Node}
 use Rattle.lr_check.specs.Statement.{sort_fits, fits_at, KidsFit}
 use Rattle.lr_check_nodes.specs.Growing.{AreWhole, Grows, HasTreeOf, HaveKids, HasLast, HasTreeFrom, smallest}
-use Rattle.lr_check_nodes.proofs.Listing.{slice_left, slice_last, slice_cases, at_in}
+use Rattle.lr_check_nodes.proofs.Listing.{at_in}
 
 pub fits_more : (nodes more : List Node) (k : ℕ) (x : Sort) → fits_at (slice_get nodes k) x ≡ true → fits_at (slice_get (nodes ++ more) k) x ≡ true
 fits_more [] more k x h = absurd (false≢true h)

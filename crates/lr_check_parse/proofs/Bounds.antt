@@ -1,8 +1,7 @@
 -- Each move leaves less to do.
-use Rattle.std.proofs.Common.{◌≡◌, ◌⊎◌, inl, inr, ℕ, zero, suc, ◌+◌, ◌-◌, ◌*◌, ◌≤◌, ◌<◌, List, [], ◌∷◌, Bool, true, false, cond, not, Contains, length, count_by, get_or, set, drop}
+use Rattle.std.proofs.Common.{◌≡◌, ◌⊎◌, inl, inr, ℕ, zero, suc, ◌+◌, ◌-◌, ◌*◌, ◌≤◌, ◌<◌, List, [], ◌∷◌, Bool, true, false, not, Contains, length, count_by, get_or, set, drop}
 use Rattle.std.proofs.Common.{replicate, refl, sym, ap, ◌∙◌, subst, arith, length-set}
 use Rattle.std.proofs.lemmas.List.{length-replicate}
-use Rattle.std.proofs.lemmas.List.Sums.{sum_by-set, sum_by-cons}
 use Rattle.std.proofs.lemmas.Bool.{false_from_ne_true}
 use Rattle.std.proofs.lemmas.Option.{same_Some}
 use Rattle.md_reader.specs.declared.types.Rule.{Rule}
@@ -12,24 +11,10 @@ use Rattle.lr_tables.specs.Grammar.{IsGrammar}
 use Rattle.lr_tables.specs.Statements.{stmt_of}
 use Rattle.lr_tables.proofs.Validity.{is_grammar}
 use Rattle.lr_check.proofs.Seen.{Seen, seen_start, seen_shift, seen_unit, seen_long}
+use Rattle.lr_check.proofs.Falling.{count_most, mark_count}
 use Rattle.lr_check_parse.specs.Moves.{Answering, Move, Shift, Reduce, Ending, Parses, loops, accepts, shifts, reduces, refuses, blocks}
 use Rattle.lr_check_parse.specs.Claims.{IsBounded}
 use Rattle.lr_check_parse.proofs.Choosing.{taken_fits}
-
-count-cons : (b : Bool) (m : List Bool) → count_by not (b ∷ m) ≡ cond (not b) 1 0 + count_by not m
-count-cons b m = sum_by-cons (λ (x : Bool). cond (not x) 1 0) b m
-
-pub count_most : (m : List Bool) → count_by not m ≤ length m
-count_most [] = omega arith
-count_most (true ∷ m) = let a = count_most m in let b : count_by not (true ∷ m) ≡ 0 + count_by not m = count-cons true m in omega (arith, a, b)
-count_most (false ∷ m) = let a = count_most m in let b : count_by not (false ∷ m) ≡ 1 + count_by not m = count-cons false m in omega (arith, a, b)
-
-pub mark_count : (m : List Bool) (n : ℕ) → n < length m → get_or m n false ≡ false → count_by not (set m n true) + 1 ≡ count_by not m
-mark_count m n h e =
-    let f : Bool → ℕ = λ x. cond (not x) 1 0 in
-    let s : count_by not (set m n true) + f (get_or m n false) ≡ count_by not m + 0 = sum_by-set f m n true false h in
-    let g : f (get_or m n false) ≡ 1 = ap f e in
-    omega (arith, s, g)
 
 -- what is left to do: each leaf counts twice, each symbol once, and then the classes that were not on top
 abbrev pub left : ℕ → ℕ → List Bool → ℕ

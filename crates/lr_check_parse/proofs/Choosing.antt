@@ -11,10 +11,8 @@ use Rattle.md_reader.specs.declared.types.Sym.{Sym}
 use Rattle.lr_tables.specs.Grammar.{IsGrammar}
 use Rattle.lr_tables.specs.Candidates.{MayReduce}
 use Rattle.lr_check.proofs.Covered.{covers}
+use Rattle.lr_check.proofs.Choosing.{here}
 use Rattle.lr_check_parse.specs.Moves.{Answering, Taken, coming, decided_at, taken, Choice}
-
-pub here : {Y : Type 0} (x : Y) (xs : List Y) → Contains (x ∷ xs) x
-here x xs = (0, omega arith, refl)
 
 -- how many restrictions there are
 pub no_more : (n : ℕ) → (n == 0) ≡ true → n ≡ 0
@@ -24,9 +22,6 @@ no_more (suc n) e = absurd (false≢true (sym (ne_eqb (suc n) 0 (λ q. omega (ar
 pub some_more : (n : ℕ) → (n == 0) ≡ false → 0 < n
 some_more zero e = absurd (false≢true (sym e))
 some_more (suc n) e = omega arith
-
-pub is_none : (n : ℕ) → n ≡ 0 → (n == 0) ≡ true
-is_none n e = ap (λ (k : ℕ). k == 0) e
 
 pub is_some : (n : ℕ) → 0 < n → (n == 0) ≡ false
 is_some n lt = ne_eqb n 0 (λ q. omega (arith, q, lt))

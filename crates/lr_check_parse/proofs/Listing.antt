@@ -3,6 +3,7 @@ use Rattle.std.proofs.Common.{◌≡◌, ℕ, zero, suc, ◌<◌, ◌==◌, List
 use Rattle.std.specs.Prelude.{if◌then◌else◌}
 use Rattle.std.proofs.lemmas.List.Elements.{Contains-append_right}
 use Rattle.std.proofs.lemmas.Option.{same_Some}
+use Rattle.gg_base.proofs.Facts.{is_zero}
 use Rattle.tree_core.specs.declared.token.Tok.{Tok}
 use Rattle.md_reader.specs.declared.types.Rule.{Rule}
 use Rattle.md_reader.specs.declared.types.Sym.{Sym}
@@ -13,11 +14,13 @@ use Rattle.lr_check.specs.Tree.{Token}
 use Rattle.lr_check.specs.Parse.{Part, symbols, answer, answers_at, owner_answers, used_at, asked, reduced, Takes, nothing, unrestricted, answered_yes, answered_no, Reduction}
 use Rattle.lr_check.specs.Parse.{Ends, loops, accepts, shifts, reduces, blocks}
 use Rattle.lr_check.specs.Parse as replay
+use Rattle.lr_check.proofs.Choosing.{here}
+use Rattle.lr_check.proofs.Parts.{symbols_used}
 use Rattle.lr_check_parse.specs.Moves.{Move, Shift, Reduce, Ending, Accepts, Blocks, Loops, Refuses, Taken, coming, decided_at, taken, Choice, Parses}
 use Rattle.lr_check_parse.specs.Moves as parse
 use Rattle.lr_check_parse.specs.Lists.{Lists, list_at, used, first_of, by_lists, answers_of, EndsSo}
 use Rattle.lr_check_parse.specs.Claims.{HasMoves, IsByLists}
-use Rattle.lr_check_parse.proofs.Choosing.{here, no_more, some_more, is_none, is_some}
+use Rattle.lr_check_parse.proofs.Choosing.{no_more, some_more, is_some}
 
 -- ---- what stands beside the symbols
 
@@ -32,12 +35,6 @@ used_listed zero [] = refl
 used_listed (suc d) [] = refl
 used_listed zero (p ∷ s) = refl
 used_listed (suc d) (p ∷ s) = ap (λ (x : Lists). p.answers ∷ x) (used_listed d s)
-
-used_symbols : (d : ℕ) (s : List Part) → symbols (used_at d s) ≡ symbols s
-used_symbols zero [] = refl
-used_symbols (suc d) [] = refl
-used_symbols zero (p ∷ s) = refl
-used_symbols (suc d) (p ∷ s) = ap (λ (a : List Sym). p.symbol ∷ a) (used_symbols d s)
 
 dropped_listed : (k : ℕ) (s : List Part) → answers_of (drop k s) ≡ drop k (answers_of s)
 dropped_listed zero s = refl
@@ -87,15 +84,15 @@ module _ (rules : List Rule) where
   taken_listed : {s s' : List Part} {ns : List ℕ} {o : Option ℕ} → Takes rules s ns o s' → (taken by_lists rules ns (answers_of s) ≡ Result o (answers_of s')) × (symbols s' ≡ symbols s)
   taken_listed nothing = (refl, refl)
   taken_listed (unrestricted {s = s} {n = n} {ns = ns} r there e) =
-      (decided_is n ns r (answers_of s) true (answer (list_at (first_of r) (answers_of s))) there (is_none (length r.restrictions) e) refl, refl)
+      (decided_is n ns r (answers_of s) true (answer (list_at (first_of r) (answers_of s))) there (is_zero (length r.restrictions) e) refl, refl)
   taken_listed (answered_yes {s = s} {n = n} {ns = ns} r there more said) = (
     decided_is n ns r (answers_of s) false true there (is_some (length r.restrictions) more) (says_is r s true said) ∙ ap (Result (Some n)) (sym (used_listed (first_of r) s)),
-    used_symbols (first_of r) s,
+    symbols_used (first_of r) s,
   )
   taken_listed (answered_no {s = s} {n = n} {ns = ns} r there more said rest) =
       let ih = taken_listed rest in (
         decided_is n ns r (answers_of s) false false there (is_some (length r.restrictions) more) (says_is r s false said) ∙ ap (others ns) (sym (used_listed (first_of r) s)) ∙ ih.0,
-        ih.1 ∙ used_symbols (first_of r) s,
+        ih.1 ∙ symbols_used (first_of r) s,
       )
 
   -- ---- and a choice by lists is one with parts
@@ -130,7 +127,7 @@ module _ (rules : List Rule) where
       (λ t f. listed_taken ns t o x (λ m c. are m (Contains-append_right (n ∷ []) ns m c)) f)
     where
       denied : (r : Rule) → slice_get rules n ≡ Some r → 0 < length r.restrictions → answer (owner_answers s r) ≡ false → TakesSo (asked s r) ns o x → TakesSo s (n ∷ ns) o x
-      denied r there more f t = record { stack = t.stack; takes = answered_no r there more f t.takes; answers = t.answers; same = t.same ∙ used_symbols (first_of r) s }
+      denied r there more f t = record { stack = t.stack; takes = answered_no r there more f t.takes; answers = t.answers; same = t.same ∙ symbols_used (first_of r) s }
 
       by : (r : Rule) → slice_get rules n ≡ Some r → (b c : Bool) → (length r.restrictions == 0) ≡ b → answer (owner_answers s r) ≡ c → tested n r ns (answers_of s) b c ≡ Result o x
           → ((t : List Part) → taken by_lists rules ns (answers_of t) ≡ Result o x → TakesSo t ns o x) → TakesSo s (n ∷ ns) o x
@@ -145,7 +142,7 @@ module _ (rules : List Rule) where
         takes = subst (λ (p : Option ℕ). Takes rules s (n ∷ ns) p (asked s r)) (result_rule (Some n) o (used (first_of r) (answers_of s)) x h)
             (answered_yes r there (some_more (length r.restrictions) f) g);
         answers = used_listed (first_of r) s ∙ result_kept (Some n) o (used (first_of r) (answers_of s)) x h;
-        same = used_symbols (first_of r) s;
+        same = symbols_used (first_of r) s;
       }
       by r there false false f g h go = denied r there (some_more (length r.restrictions) f) g (go (asked s r) (ap (others ns) (used_listed (first_of r) s) ∙ h))
 

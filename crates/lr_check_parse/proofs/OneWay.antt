@@ -1,8 +1,11 @@
 -- A parse ends in one way.
-use Rattle.std.proofs.Common.{◌≡◌, ◌⊎◌, ℕ, zero, suc, ◌<◌, List, [], ◌∷◌, Option, Some, None, Contains, length, drop, get_or, slice_get, refl, sym, ap, ◌∙◌, subst, inl, inr, ⊎_elim, arith}
+use Rattle.std.proofs.Common.{◌≡◌, ◌⊎◌, ℕ, zero, suc, List, [], ◌∷◌, Option, Some, None, Contains, length, drop, slice_get, refl, sym, ap, ◌∙◌, subst, ⊎_elim, arith}
 use Rattle.std.specs.Prelude.{AllPairs}
-use Rattle.std.proofs.lemmas.List.Elements.{Contains-append_cases, Contains-append_right}
+use Rattle.std.proofs.lemmas.List.Elements.{Contains-append_right}
 use Rattle.std.proofs.lemmas.Option.{same_Some}
+use Rattle.lr_check.proofs.Law.{nowhere_in}
+use Rattle.lr_check.proofs.Only.{cons_cases}
+use Rattle.lr_check.proofs.Choosing.{here}
 use Rattle.gg_base.proofs.Facts.{some_none}
 use Rattle.tree_core.specs.declared.token.Tok.{Tok}
 use Rattle.tree_core.specs.declared.token.Tok.TheVariants as tok
@@ -13,20 +16,6 @@ use Rattle.lr_tables.specs.Items.{starts, moves}
 use Rattle.lr_tables.specs.Candidates.{StandsBefore, GoesFirst, AreReductions}
 use Rattle.lr_check_parse.specs.Moves.{Answering, Move, Shift, Reduce, Ending, Taken, taken, coming, Choice, Parses, loops, accepts, shifts, reduces, refuses, blocks}
 use Rattle.lr_check_parse.specs.Claims.{IsOneWay}
-use Rattle.lr_check_parse.proofs.Choosing.{here}
-
-one_cases : {X : Type 0} (y x : X) → Contains (y ∷ []) x → y ≡ x
-one_cases y x h = by h.0 h.1 h.2
-  where
-    by : (k : ℕ) → k < 1 → get_or (y ∷ []) k x ≡ x → y ≡ x
-    by zero lt e = e
-    by (suc k) lt e = absurd (omega (arith, lt))
-
-cons_cases : {X : Type 0} (y : X) (ys : List X) (x : X) → Contains (y ∷ ys) x → (y ≡ x) ⊎ Contains ys x
-cons_cases y ys x h = ⊎_elim (λ a. inl (one_cases y x a)) (λ b. inr b) (Contains-append_cases (y ∷ []) ys x h)
-
-nowhere_in : {X : Type 0} (x : X) → Contains [] x → ⊥
-nowhere_in x h = let lt = h.1 in omega (arith, lt)
 
 -- two lists in one strict order that have the same elements are the same
 module _ (R : ℕ → ℕ → Type 0) (apart : (m n : ℕ) → R m n → R n m → ⊥) where

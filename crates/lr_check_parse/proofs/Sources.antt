@@ -17,11 +17,12 @@ use Rattle.lr_check.specs.declared.sample.Outcome.{Outcome}
 use Rattle.lr_check.specs.declared.sample.Outcome.TheVariants as outcome
 use Rattle.lr_check.specs.Parse.{Part, symbols, reduced, Takes, nothing, unrestricted, answered_yes, answered_no, Reduction, Ends, loops, accepts, shifts, reduces, blocks}
 use Rattle.lr_check.specs.Parse as replay
+use Rattle.lr_check.proofs.Choosing.{here}
 use Rattle.lr_check_parse.specs.Moves.{Answering, Move, Ending, Taken, coming, decided_at, taken, Choice, Parses}
 use Rattle.lr_check_parse.specs.Moves as parse
 use Rattle.lr_check_parse.specs.Lists.{EndsSo}
 use Rattle.lr_check_parse.specs.Claims.{labelled, questioned, HasAnswers, IsAnswered}
-use Rattle.lr_check_parse.proofs.Choosing.{here, no_more, some_more, Fits, fits, taken_fits}
+use Rattle.lr_check_parse.proofs.Choosing.{no_more, some_more, Fits, fits, taken_fits}
 use Rattle.lr_check_parse.proofs.Labels.{answered_by, symbols_labelled, used_labelled, answer_labelled, above, answers_above, drop_above}
 
 module _ {L X : Type 0} (of : Answering L X) (rules : List Rule) (stmt : ℕ) where

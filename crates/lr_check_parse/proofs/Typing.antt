@@ -41,7 +41,7 @@ tail_same x y u w e = cc
 head_same : (x y : Leaf) (u w : List Leaf) → x ∷ u ≡ y ∷ w → x ≡ y
 head_same x y u w e = cc
 
-snoc_same : (u w : List Leaf) (z : Leaf) → u ++ z ∷ [] ≡ w ++ z ∷ [] → u ≡ w
+pub snoc_same : (u w : List Leaf) (z : Leaf) → u ++ z ∷ [] ≡ w ++ z ∷ [] → u ≡ w
 snoc_same [] [] z e = refl
 snoc_same [] (x ∷ w) z e = absurd (no_end w z (tail_same z x [] (w ++ z ∷ []) e))
 snoc_same (x ∷ u) [] z e = absurd (no_end u z (sym (tail_same x z (u ++ z ∷ []) [] e)))

@@ -5,6 +5,7 @@ use Rattle.md_reader.specs.declared.types.Sym.TheVariants as grammar_symbol
 use Rattle.lr_check_sets.specs.Automaton.{Automaton, Production, Candidate, shift, reduce, walk, size_of, CanBlock}
 use Rattle.lr_check_sets.specs.Answers.{Entry, Leaf, symbols, first_answer, other_answers, owner, asked, Picked, pick_by, pick, held_reduced, Step, shifts, reduces, Runs, here}
 use Rattle.lr_check_sets.specs.Answers.{then_step, Reductions, one_reduction, more_reductions}
+use Rattle.lr_check_sets.proofs.Asks.{by_no}
 use Rattle.lr_check_samples.specs.Quiet.{SameAnswers, AreAlike, bare, IsQuiet}
 
 pub same-first : (b c : List Bool) → SameAnswers b c → first_answer b ≡ first_answer c
@@ -162,16 +163,11 @@ asked-bare [] (Y ∷ s) = refl
 asked-bare (X ∷ []) (Y ∷ s) = refl
 asked-bare (X ∷ Z ∷ right) (Y ∷ s) = ap (λ l. record { symbol = Y; answers = [] } ∷ l) (asked-bare (Z ∷ right) s)
 
-passed : (asks said : Bool) (r : Production) (a b : List Entry) (p : Picked) → asks ≡ true → said ≡ false → pick_by asks said r a b p ≡ p
-passed false said r a b p e f = absurd (true≢false (sym e))
-passed true true r a b p e f = absurd (true≢false f)
-passed true false r a b p e f = refl
-
 bare_takes_nothing : (cs : List Candidate) (s : List Sym) → CanBlock cs → pick cs (bare s) ≡ record { taken = None; stack = bare s }
 bare_takes_nothing [] s h = refl
 bare_takes_nothing (shift ∷ cs) s h = absurd h
 bare_takes_nothing (reduce r ∷ cs) s h =
-    passed r.asks (first_answer (owner r.right (bare s))) r (bare s) (asked r.right (bare s)) (pick cs (asked r.right (bare s))) h.0 (ap first_answer (owner-bare r.right s))
+    by_no r.asks (first_answer (owner r.right (bare s))) r (bare s) (asked r.right (bare s)) (pick cs (asked r.right (bare s))) h.0 (ap first_answer (owner-bare r.right s))
     ∙ (ap (pick cs) (asked-bare r.right s) ∙ bare_takes_nothing cs s h.1)
 
 pub quiet_takes_nothing : (cs : List Candidate) (s : List Sym) (z : List Entry) → CanBlock cs → IsQuiet s z → PicksSo cs None (bare s) z

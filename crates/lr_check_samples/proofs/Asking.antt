@@ -1,68 +1,17 @@
 -- The questions that are asked before a reduction of a whole list, and that these answers take it.
-use Rattle.std.proofs.Common.{◌≡◌, ℕ, zero, suc, ◌+◌, ◌-◌, ◌≤◌, ◌<◌, List, [], ◌∷◌, ◌++◌, Option, Some, None, Bool, true, false, length, take, drop, refl, ap, sym, ◌∙◌, inl, inr}
-use Rattle.std.proofs.Common.{⊎_elim, subst, arith, append_assoc, length-append, take_at, one-add}
+use Rattle.std.proofs.Common.{◌≡◌, ℕ, suc, ◌+◌, ◌-◌, ◌≤◌, ◌<◌, List, [], ◌∷◌, ◌++◌, Some, Bool, true, false, length, take, refl, ap, sym, ◌∙◌, inl, inr}
+use Rattle.std.proofs.Common.{⊎_elim, subst, arith, length-append}
 use Rattle.std.specs.Prelude.{◌==◌, nat_lt, if◌then◌else◌}
 use Rattle.std.proofs.lemmas.Bool.{cases_lt, eq-eqb, ne_eqb, lt-ltb, le-ltb, eqb-true, and_parts, and_from, true≢false}
 use Rattle.md_reader.specs.declared.types.Sym.{Sym}
 use Rattle.lr_check_sets.specs.Automaton.{Automaton, Production, Candidate, shift, reduce, walk, size_of, Free}
 use Rattle.lr_check_sets.specs.Answers.{Entry, pick}
 use Rattle.lr_check_sets.specs.Shapes.{wanted, IsTree}
-use Rattle.lr_check_sets.proofs.Asks.{push, pick_free, pick_yes, pick_no}
-use Rattle.lr_check_sets.proofs.Shapes.{wanted-append, wanted-none, wanted-more, wanted-zero, none_some, some_same, tree_some, cut}
+use Rattle.lr_check_sets.proofs.Asks.{pick_free, pick_yes, pick_no}
+use Rattle.lr_check_sets.proofs.Shapes.{tree_some}
 use Rattle.lr_check_sets.proofs.Reached.{hold, length-hold}
-use Rattle.lr_check_sets.proofs.Fixed.{push_at, pushes, GoesDown, DeepIn}
+use Rattle.lr_check_sets.proofs.Fixed.{pushes, GoesDown, DeepIn, push-root, push-below, one_more, reaches}
 use Rattle.lr_check_samples.specs.Answering.{is_wanted, answers_to, depths_to}
-
--- a push by a right side is a push at a depth
-push_is : (right : List Sym) (d : ℕ) (z : List Entry) → length right ≡ suc d → push right false z ≡ push_at d z
-push_is right d [] e = refl
-push_is [] d (h ∷ a) e = absurd (omega arith)
-push_is (X ∷ []) zero (h ∷ a) e = refl
-push_is (X ∷ []) (suc d) (h ∷ a) e = absurd (omega arith)
-push_is (X ∷ Y ∷ right) zero (h ∷ a) e = absurd (omega arith)
-push_is (X ∷ Y ∷ right) (suc d) (h ∷ a) e = ap (λ l. h ∷ l) (push_is (Y ∷ right) d a (omega arith))
-
--- at the root of a list, and below it
-push-root : (right s : List Sym) (x : Bool) (b : List Bool) (z : List Entry) → length right ≡ length s → 0 < length s → push right x (hold s b ++ z) ≡ hold s (x ∷ b) ++ z
-push-root right [] x b z e lt = absurd (omega arith)
-push-root [] (X ∷ s) x b z e lt = absurd (omega arith)
-push-root (Y ∷ []) (X ∷ []) x b z e lt = refl
-push-root (Y ∷ V ∷ right) (X ∷ []) x b z e lt = absurd (omega arith)
-push-root (Y ∷ []) (X ∷ W ∷ s) x b z e lt = absurd (omega arith)
-push-root (Y ∷ V ∷ right) (X ∷ W ∷ s) x b z e lt = ap (λ l. record { symbol = X; answers = [] } ∷ l) (push-root (V ∷ right) (W ∷ s) x b z (omega arith) (omega arith))
-
-push-below : (right s : List Sym) (d : ℕ) (b : List Bool) (z : List Entry) → length right ≡ length s + suc d → 0 < length s → push right false (hold s b ++ z) ≡ hold s b ++ push_at d z
-push-below right [] d b z e lt = absurd (omega arith)
-push-below [] (X ∷ s) d b z e lt = absurd (omega arith)
-push-below (Y ∷ []) (X ∷ s) d b z e lt = absurd (omega arith)
-push-below (Y ∷ V ∷ right) (X ∷ []) d b z e lt = ap (λ l. record { symbol = X; answers = b } ∷ l) (push_is (V ∷ right) d z (omega arith))
-push-below (Y ∷ V ∷ right) (X ∷ W ∷ s) d b z e lt = ap (λ l. record { symbol = X; answers = [] } ∷ l) (push-below (V ∷ right) (W ∷ s) d b z (omega arith) (omega arith))
-
--- below a tree, one more is wanted before it
-one_more : (s u : List Sym) → IsTree s → wanted 1 (s ++ u) ≡ Some 0 → wanted 1 u ≡ Some 1
-one_more s u tree h = go (wanted 1 u) refl
-  where
-    go : (w : Option ℕ) → wanted 1 u ≡ w → wanted 1 u ≡ Some 1
-    go None f = absurd (none_some 0 (sym (wanted-none 1 s u f) ∙ h))
-    go (Some zero) f = absurd (none_some 0 (sym (wanted-zero s (tree_some s tree)) ∙ (sym (wanted-append 1 0 s u f) ∙ h)))
-    go (Some (suc j)) f =
-        let more : wanted (1 + j) s ≡ Some (0 + j) = wanted-more 1 0 j s tree in
-        let all : wanted (suc j) s ≡ Some 0 = sym (wanted-append 1 (suc j) s u f) ∙ h in
-        let none : 0 + j ≡ 0 = some_same (0 + j) 0 (sym more ∙ (ap (λ n. wanted n s) (one-add j) ∙ all)) in
-        f ∙ ap Some (omega arith)
-
--- a right side on a stack: the list and some symbols below it
-reaches : (s a top below : List Sym) (d : ℕ) → s ++ a ≡ top ++ below → length top ≡ length s + suc d → (d < length a) × (top ≡ s ++ take (d + 1) a)
-reaches s a top below d e size =
-    let rest : List Sym = drop (length s) top in
-    let split : top ≡ s ++ rest = cut top below s a (sym e) (omega arith) in
-    let long : length rest ≡ d + 1 = omega (arith, ap length split, length-append s rest) in
-    let lower : a ≡ rest ++ below = same_tail s a (rest ++ below) (e ∙ (ap (λ l. l ++ below) split ∙ append_assoc s rest below)) in
-    (omega (arith, ap length lower, length-append rest below), split ∙ ap (λ l. s ++ l) (sym (ap (take (d + 1)) lower ∙ take_at rest below (d + 1) long)))
-  where
-    same_tail : (p u v : List Sym) → p ++ u ≡ p ++ v → u ≡ v
-    same_tail [] u v e = e
-    same_tail (X ∷ p) u v e = same_tail p u v (cc)
 
 -- the right side of a candidate stands on each stack of the state, and is a tree
 abbrev pub StandsOn : Automaton → ℕ → List Sym → Production → Type 0

@@ -1,6 +1,7 @@
 -- What the automaton's parse of a sample comes to, the parse over the rules comes to.
 use Rattle.std.proofs.Common.{◌≡◌, ℕ, suc, List, [], ◌∷◌, ◌++◌, Some, true, false, length, map, refl, sym, ap, ◌∙◌, subst, arith}
 use Rattle.std.specs.Prelude.{IsTrue}
+use Rattle.gg_base.proofs.Facts.{nil_cons, head_same, tail_same}
 use Rattle.tree_core.specs.declared.token.Tok.{Tok}
 use Rattle.tree_core.specs.declared.token.Tok.TheVariants as tok
 use Rattle.tree_core.specs.declared.token.Sort.{Sort}
@@ -47,15 +48,6 @@ turns-more : {rules : _} {stmt : ℕ} {ws : List Token} {s a b : List Part} → 
 turns-more (one_turn n) m = more_turns n (one_turn m)
 turns-more (more_turns n r) m = more_turns n (turns-more r m)
 
-cons_nil : {X : Type 0} (x : X) (xs : List X) → [] ≡ x ∷ xs → ⊥
-cons_nil x xs e = cc
-
-head_same : {X : Type 0} (x y : X) (xs ys : List X) → x ∷ xs ≡ y ∷ ys → x ≡ y
-head_same x y xs ys e = cc
-
-tail_same : {X : Type 0} (x y : X) (xs ys : List X) → x ∷ xs ≡ y ∷ ys → xs ≡ ys
-tail_same x y xs ys e = cc
-
 -- what is to come begins so
 next_is : (f : Leaf) (w rest : List Leaf) → f ∷ w ≡ rest ++ the_end → coming (map token rest) ≡ f.tok
 next_is f w [] e = ap (λ (l : Leaf). l.tok) (sym (head_same f (record { tok = tok.End; answers = [] }) w [] e))
@@ -75,7 +67,7 @@ module _ (t : TableView) (v : IsValid t.content) (b : IsNumbered t) (m : MeetsLa
     where
       by : (rest : List Leaf) → f ∷ w ≡ rest ++ the_end → NoEnds rest → Comes t.content.rules (stmt_of t.content.classes) ws s (map token rest) (parts a) →
           Follows ws s (record { symbol = grammar_symbol.Tok f.tok; answers = f.answers } ∷ c) w
-      by [] e free comes = absurd (cons_nil x w' (sym (tail_same f (record { tok = tok.End; answers = [] }) w [] e) ∙ some))
+      by [] e free comes = absurd (nil_cons x w' (sym (tail_same f (record { tok = tok.End; answers = [] }) w [] e) ∙ some))
       by (l ∷ rest) e free comes =
           let same : f ≡ l = head_same f l w (rest ++ the_end) e in
           record {

@@ -1,26 +1,24 @@
 -- The tree of a settling that was found leads to its list.
-use Rattle.std.proofs.Common.{◌≡◌, ℕ, suc, ◌+◌, ◌≤◌, ◌<◌, List, [], ◌∷◌, ◌++◌, Some, Bool, Contains, length, map, slice_get, refl, ap, ap₂, sym, ◌∙◌, ⊎_elim, subst, arith, length-append}
-use Rattle.std.proofs.lemmas.Bool.{cases_lt}
-use Rattle.std.proofs.lemmas.Option.{slice_get-get_or, same_Some}
+use Rattle.std.proofs.Common.{◌≡◌, ℕ, suc, ◌+◌, List, [], ◌∷◌, ◌++◌, Some, Bool, length, slice_get, refl, ap, ap₂, sym, ◌∙◌, subst, arith, length-append}
+use Rattle.std.proofs.lemmas.Option.{same_Some}
 use Rattle.tree_core.specs.declared.token.Tok.{Tok}
 use Rattle.tree_core.specs.declared.token.Sort.{Sort}
 use Rattle.tree_core.specs.Grammar.{kids}
 use Rattle.md_reader.specs.declared.types.Sym.{Sym}
 use Rattle.md_reader.specs.declared.types.Sym.TheVariants as grammar_symbol
 use Rattle.lr_tables.specs.View.{TableView}
-use Rattle.lr_check_sets.specs.Automaton.{Automaton, Production, Candidate, reduce, walk, size_of, Free, IsTable}
-use Rattle.lr_check_sets.specs.Items.{AreCandidates, the_shift, the_reductions, IsLongestFirst}
+use Rattle.lr_check_sets.specs.Automaton.{Automaton, Production, reduce, walk, size_of, Free, IsTable}
 use Rattle.lr_check_sets.specs.Shapes.{IsTree}
 use Rattle.lr_check_sets.specs.Exact.{MeetsLaws}
 use Rattle.lr_check_sets.specs.Table.{automaton_of, productions}
 use Rattle.lr_check_sets.specs.Answers.{Leaf}
 use Rattle.lr_check_sets.specs.Sums as sets
 use Rattle.lr_check_sets.proofs.Walks.{walk-append}
-use Rattle.lr_check_sets.proofs.Tables.{table_of_items, free-reductions}
+use Rattle.lr_check_sets.proofs.Tables.{table_of_items}
 use Rattle.lr_check_sets.proofs.Reached.{MetPlace, met_place}
 use Rattle.lr_check_sets.proofs.Shapes.{PartShape, OnTop, kid_shape, settling_tree, top_of_free}
 use Rattle.lr_check_sets.proofs.Whole_sets.{place_back, settling_back}
-use Rattle.lr_check_sets.proofs.Fixed.{GoesDown}
+use Rattle.lr_check_sets.proofs.Fixed_sums.{goes_down}
 use Rattle.lr_check_found.specs.declared.places.Place.{Place}
 use Rattle.lr_check_found.specs.Found.{FoundView, SettlesAt}
 use Rattle.lr_check_found.specs.Items.{Fits}
@@ -31,28 +29,6 @@ use Rattle.lr_check_samples.specs.Fixed.{leaf, Fixed, fixed_leaf, fixed_one, fix
 use Rattle.lr_check_samples.proofs.Asking.{Taking, taking}
 use Rattle.lr_check_samples.proofs.Leading.{Leads, opened, with_kid, reduced_whole}
 use Rattle.lr_check_samples.proofs.Making.{settles_of, AreSame, same_settling, settled_so, MadeLeaf, MadeOne, MadeTwo, MadeReduced, made_leaf, made_one, made_two, made_reduced}
-
--- the candidates of a table go down
-down : (rs : List Production) → IsLongestFirst rs → GoesDown (map reduce rs)
-down [] h = tt
-down (x ∷ rs) h = (shorter, down rs (λ i j r s lt e f. h (suc i) (suc j) r s (omega arith) e f))
-  where
-    shorter : (y : Production) → Free (map reduce rs) (reduce y) → size_of y ≤ size_of x
-    shorter y f =
-        let g : (r : Production) × ((reduce y ≡ reduce r) × Contains rs r) = free-reductions rs (reduce y) f in
-        at g.0 (same_rule g.0 g.1.0) g.1.1
-      where
-        same_rule : (r : Production) → reduce y ≡ reduce r → y ≡ r
-        same_rule r e = cc
-
-        at : (r : Production) → y ≡ r → Contains rs r → size_of y ≤ size_of x
-        at r e c =
-            let u : size_of x < size_of r → ⊥ = h 0 (suc c.0) x r (omega arith) refl (slice_get-get_or rs c.0 r c.1 ∙ ap Some c.2) in
-            ⊎_elim (λ lt. absurd (u lt)) (λ le. omega (arith, ap size_of e)) (cases_lt (size_of x) (size_of r))
-
-goes_down : {G : List Production} {stmt : ℕ} {a : List Sym} {t : Tok} {cs : List Candidate} → AreCandidates G stmt a t cs → GoesDown cs
-goes_down (the_shift r i) = tt
-goes_down (the_reductions rs none are e) = subst GoesDown (sym e) (down rs are.ordered)
 
 -- a token with kids to come
 token_shape : (k : Tok) (n : ℕ) → length (kids k) ≡ n → PartShape (grammar_symbol.Tok k ∷ []) n

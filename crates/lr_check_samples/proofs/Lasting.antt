@@ -1,19 +1,14 @@
 -- What is drawn stays drawn when nodes are added.
-use Rattle.std.proofs.Common.{◌≡◌, ℕ, zero, suc, List, [], ◌∷◌, ◌++◌, Some, Bool, slice_get}
+use Rattle.std.proofs.Common.{ℕ, List, ◌++◌, Bool}
+use Rattle.gg_base.proofs.Facts.{slice_left}
 use Rattle.tree_core.specs.declared.token.Tok.{Tok}
 use Rattle.lr_check_sets.specs.Automaton.{Automaton}
 use Rattle.lr_check.specs.Tree.{Node}
 use Rattle.lr_check_found.specs.Found.{FoundView}
 use Rattle.lr_check_samples.specs.Nodes.{IsNode, DrawnKids, kids_leaf, kids_one, kids_two, kids_reduced}
 
-pub slice_lasts : {X : Type 0} (u v : List X) (n : ℕ) (x : X) → slice_get u n ≡ Some x → slice_get (u ++ v) n ≡ Some x
-slice_lasts [] v zero x e = absurd (cc)
-slice_lasts [] v (suc n) x e = absurd (cc)
-slice_lasts (y ∷ u) v zero x e = e
-slice_lasts (y ∷ u) v (suc n) x e = slice_lasts u v n x e
-
 pub node_lasts : (nodes more : List Node) (n : ℕ) (k : Tok) (ks : List ℕ) (own : List Bool) → IsNode nodes n k ks own → IsNode (nodes ++ more) n k ks own
-node_lasts nodes more n k ks own h = slice_lasts nodes more n (record { tok = k; kids = ks; answers = own }) h
+node_lasts nodes more n k ks own h = slice_left nodes more n (record { tok = k; kids = ks; answers = own }) h
 
 pub kids_last : {A : Automaton} {f : FoundView} {nodes : List Node} {i : ℕ} {ks : List ℕ} {own : List Bool} {ds : List ℕ} (more : List Node) →
     DrawnKids A f nodes i ks own ds → DrawnKids A f (nodes ++ more) i ks own ds

@@ -27,6 +27,7 @@ use Rattle.lr_check_sets.specs.Answers as auto
 use Rattle.lr_check_sets.specs.Answers.{Entry, Leaf, Picked, first_answer, other_answers, owner, pick_by, pick, held_reduced, Step, Runs, IsBlocked, Reductions, the_end}
 use Rattle.lr_check_sets.proofs.Links.{in_productions}
 use Rattle.lr_check_sets.proofs.Rows.{rule_of, rules_of, candidates_are, leads}
+use Rattle.lr_check_sets.proofs.Asks.{by_no, by_none}
 use Rattle.lr_check.specs.Tree.{Token}
 use Rattle.lr_check.specs.Parse as parse
 use Rattle.lr_check.specs.Parse.{Part, symbols, coming, answer, answers_at, owner_answers, used_at, asked, Takes, reduced, Reduction}
@@ -80,7 +81,7 @@ reduced-parts r a some =
     ap₂ (λ (bs : List Bool) (l : List Part). record { symbol = grammar_symbol.Class r.left; answers = bs } ∷ l) (owner-rule r a some)
     (drop-map (λ (h : Entry). record { symbol = h.symbol; answers = h.answers }) (length r.right) a)
 
--- what is picked of the reductions is what is taken of the rules
+-- what is by_none of the reductions is what is taken of the rules
 record Picks (rules : List Rule) (ns : List ℕ) (a : List Entry) : Type 0 where
   taken : Option ℕ
   after : List Entry
@@ -88,19 +89,10 @@ record Picks (rules : List Rule) (ns : List ℕ) (a : List Entry) : Type 0 where
   nothing : taken ≡ None → pick (map reduce (rules_of rules ns)) a ≡ record { taken = None; stack = after }
   rule : (n : ℕ) → taken ≡ Some n → (r : Rule) × ((slice_get rules n ≡ Some r) × (pick (map reduce (rules_of rules ns)) a ≡ record { taken = Some (reduce (production r)); stack = after }))
 
-picked : (asks said : Bool) (r : Production) (a b : List Entry) (rest : Picked) → asks ≡ false → pick_by asks said r a b rest ≡ record { taken = Some (reduce r); stack = a }
-picked false said r a b rest e = refl
-picked true said r a b rest e = absurd (true≢false e)
-
 picked_yes : (asks said : Bool) (r : Production) (a b : List Entry) (rest : Picked) → asks ≡ true → said ≡ true → pick_by asks said r a b rest ≡ record { taken = Some (reduce r); stack = b }
 picked_yes false said r a b rest e f = absurd (true≢false (sym e))
 picked_yes true false r a b rest e f = absurd (true≢false (sym f))
 picked_yes true true r a b rest e f = refl
-
-passed : (asks said : Bool) (r : Production) (a b : List Entry) (rest : Picked) → asks ≡ true → said ≡ false → pick_by asks said r a b rest ≡ rest
-passed false said r a b rest e f = absurd (true≢false (sym e))
-passed true true r a b rest e f = absurd (true≢false f)
-passed true false r a b rest e f = refl
 
 module _ (rules : List Rule) where
   is_first : (n : ℕ) (r : Rule) → slice_get rules n ≡ Some r → (ns : List ℕ) → rules_of rules (n ∷ ns) ≡ production r ∷ rules_of rules ns
@@ -134,7 +126,7 @@ module _ (rules : List Rule) where
       answer (owner_answers (parts a) r) ≡ false → Picks rules ns (auto.asked r.right a) → Picks rules (n ∷ ns) a
   taken_later n ns r a e some lt asks said p =
       let on : pick (reduce (production r) ∷ map reduce (rules_of rules ns)) a ≡ pick (map reduce (rules_of rules ns)) (auto.asked r.right a) =
-      passed (production r).asks (first_answer (owner r.right a)) (production r) a (auto.asked r.right a) (pick (map reduce (rules_of rules ns)) (auto.asked r.right a)) asks
+      by_no (production r).asks (first_answer (owner r.right a)) (production r) a (auto.asked r.right a) (pick (map reduce (rules_of rules ns)) (auto.asked r.right a)) asks
       (sym (answer-first (owner r.right a)) ∙ (ap answer (sym (owner-rule r a some)) ∙ said)) in
       record {
         taken = p.taken;
@@ -160,7 +152,7 @@ module _ (rules : List Rule) where
       by_restrictions : (r : Rule) → slice_get rules n ≡ Some r → 0 < length r.right → (j : ℕ) → length r.restrictions ≡ j → ((z : List Entry) → Picks rules ns z) → Picks rules (n ∷ ns) a
       by_restrictions r e some zero f ih =
           taken_first n ns r a a e (parse.unrestricted r e f)
-          (picked (production r).asks (first_answer (owner r.right a)) (production r) a (auto.asked r.right a) (pick (map reduce (rules_of rules ns)) (auto.asked r.right a)) (asks_none r f))
+          (by_none (production r).asks (first_answer (owner r.right a)) (production r) a (auto.asked r.right a) (pick (map reduce (rules_of rules ns)) (auto.asked r.right a)) (asks_none r f))
       by_restrictions r e some (suc j) f ih = by_answer r e some (omega (arith, f)) (asks_more r j f) (answer (owner_answers (parts a) r)) refl ih
 
       by : (r : Rule) × ((slice_get rules n ≡ Some r) × (0 < length r.right)) → ((z : List Entry) → Picks rules ns z) → Picks rules (n ∷ ns) a

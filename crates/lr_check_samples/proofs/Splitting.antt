@@ -1,6 +1,6 @@
 -- Which of a kid's questions its parent's root answers, and which go further down.
 use Rattle.std.proofs.Common.{◌≡◌, ◌⊎◌, ℕ, suc, ◌+◌, ◌-◌, ◌≤◌, ◌<◌, List, [], ◌∷◌, ◌++◌, Some, Bool, false, length, take, drop, refl, ap, sym, ◌∙◌, subst, inl, inr, ⊎_elim, arith}
-use Rattle.std.proofs.Common.{length-append, length-drop, length-take, take-append-drop, suc-add, zero-add}
+use Rattle.std.proofs.Common.{length-append, length-drop, length-take, take-append-drop}
 use Rattle.std.specs.Prelude.{if◌then◌else◌}
 use Rattle.std.proofs.lemmas.Bool.{cases_lt, cases_eq, eq-eqb, ne_eqb, lt-ltb, le-ltb}
 use Rattle.std.proofs.lemmas.List.{take-append-le}
@@ -10,6 +10,7 @@ use Rattle.lr_check_sets.specs.Shapes.{wanted}
 use Rattle.lr_check_sets.proofs.Reached.{hold}
 use Rattle.lr_check_sets.proofs.Shapes.{PartShape}
 use Rattle.lr_check_sets.proofs.Fixed.{push_at, pushes, push_at-root, push_at-below, DeepIn, one_still}
+use Rattle.lr_check_sets.proofs.Fixed_sums.{take_past}
 use Rattle.lr_check_samples.specs.Answering.{root_no, further}
 
 -- one depth
@@ -29,10 +30,6 @@ further_past size d ds le = ap (λ (b : Bool). if b then further size ds else (d
 abbrev pub AreFar : ℕ → List ℕ → Type 0
 AreFar size [] = Unit {0}
 AreFar size (d ∷ ds) = (size ≤ d + 1) × AreFar size ds
-
-take_past : (s a : List Sym) (n : ℕ) → take (length s + n) (s ++ a) ≡ s ++ take n a
-take_past [] a n = ap (λ m. take m a) (zero-add n)
-take_past (X ∷ s) a n = ap (λ m. take m (X ∷ (s ++ a))) (suc-add (length s) n) ∙ ap (λ l. X ∷ l) (take_past s a n)
 
 -- no right side ends inside an unfinished list
 pub are_far : (s a0 : List Sym) (l : ℕ) → PartShape s (suc l) → (ds : List ℕ) → DeepIn (s ++ a0) ds → AreFar (length s) ds

@@ -8,12 +8,13 @@ use Rattle.lr_check_sets.specs.Exact.{MeetsLaws}
 use Rattle.lr_check_sets.specs.Shapes.{IsTree}
 use Rattle.lr_check_sets.specs.Table.{automaton_of, productions}
 use Rattle.lr_check_sets.specs.Sums as sets
-use Rattle.lr_check_sets.specs.Answers.{Entry, Leaf, symbols, next_token, the_end, pick, Runs, IsBlocked, blocked, Reductions, one_reduction, more_reductions}
+use Rattle.lr_check_sets.specs.Answers.{Entry, Leaf, symbols, next_token, the_end, Runs, IsBlocked, Reductions, one_reduction, more_reductions}
 use Rattle.lr_check_sets.proofs.Walks.{walk-append}
 use Rattle.lr_check_sets.proofs.Reached.{hold, symbols-hold, symbols-append, runs-append}
 use Rattle.lr_check_sets.proofs.Shapes as gaps
 use Rattle.lr_check_sets.proofs.Whole_sets.{place_back}
 use Rattle.lr_check_sets.proofs.Fixed.{pushes, symbols-pushes, pushes-append}
+use Rattle.lr_check_sets.proofs.Faults.{is_blocked}
 use Rattle.lr_check_found.specs.Found.{FoundView}
 use Rattle.lr_check_found.specs.Sound.{IsFound}
 use Rattle.lr_check_samples.specs.Answering.{answers_to, depths_to}
@@ -40,16 +41,6 @@ pub record LoopsBy (A : Automaton) (w : List Leaf) : Type 0 where
   pub runs : Runs A [] (w ++ the_end) first rest
   pub turns : Reductions A rest first second
   pub same : symbols first ≡ symbols second
-
-is_blocked : (A : Automaton) (p : ℕ) (t : Tok) (a b : List Entry) (w : List Leaf) → next_token w ≡ Some t → walk A 0 (symbols a) ≡ Some p →
-    pick (A.candidates p t) a ≡ record { taken = None; stack = b } → IsBlocked A a w
-is_blocked A p t a b [] g at pk = absurd (no_token g)
-  where
-    no_token : None ≡ Some t → ⊥
-    no_token e = cc
-is_blocked A p t a b (d ∷ w) g at pk =
-    let same : d.tok ≡ t = cc in
-    blocked at (subst (λ m. pick (A.candidates p m) a ≡ record { taken = None; stack = b }) (sym same) pk)
 
 -- a stack that answers no to all
 quiet_blocks : (A : Automaton) (p : ℕ) (t : Tok) (a : List Sym) (z : List Entry) (w : List Leaf) → IsQuiet a z → walk A 0 a ≡ Some p → next_token w ≡ Some t → CanBlock (A.candidates p t) →

@@ -44,7 +44,7 @@ fits_so (Some y) x h = h
 pub may_fits : (k : Tok) (x : Sort) → May k x → IsTrue (sort_fits (sort_of k) x)
 may_fits k x h = fits_so (sort_of k) x h
 
-tokens-append : (u v : List Leaf) → tokens (u ++ v) ≡ tokens u ++ tokens v
+pub tokens-append : (u v : List Leaf) → tokens (u ++ v) ≡ tokens u ++ tokens v
 tokens-append [] v = refl
 tokens-append (l ∷ u) v = ap (λ w. l.tok ∷ w) (tokens-append u v)
 

@@ -35,7 +35,7 @@ says_yes [] (h ∷ a) lt le = absurd (omega arith)
 says_yes (X ∷ []) (h ∷ a) lt le = refl
 says_yes (X ∷ Y ∷ right) (h ∷ a) lt le = says_yes (Y ∷ right) a (omega arith) (omega arith)
 
-by_none : (asks said : Bool) (r : Production) (a b : List Entry) (rest : Picked) → asks ≡ false → pick_by asks said r a b rest ≡ record { taken = Some (reduce r); stack = a }
+pub by_none : (asks said : Bool) (r : Production) (a b : List Entry) (rest : Picked) → asks ≡ false → pick_by asks said r a b rest ≡ record { taken = Some (reduce r); stack = a }
 by_none false said r a b rest e = refl
 by_none true said r a b rest e = absurd (true≢false e)
 
@@ -44,7 +44,7 @@ by_yes false said r a b c rest e f g = absurd (true≢false (sym e))
 by_yes true false r a b c rest e f g = absurd (true≢false (sym f))
 by_yes true true r a b c rest e f g = ap (λ l. record { taken = Some (reduce r); stack = l }) g
 
-by_no : (asks said : Bool) (r : Production) (a b : List Entry) (rest : Picked) → asks ≡ true → said ≡ false → pick_by asks said r a b rest ≡ rest
+pub by_no : (asks said : Bool) (r : Production) (a b : List Entry) (rest : Picked) → asks ≡ true → said ≡ false → pick_by asks said r a b rest ≡ rest
 by_no false said r a b rest e f = absurd (true≢false (sym e))
 by_no true true r a b rest e f = absurd (true≢false f)
 by_no true false r a b rest e f = refl

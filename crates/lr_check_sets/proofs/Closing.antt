@@ -13,7 +13,7 @@ use Rattle.lr_check_sets.specs.Faults.{Calms, calms, NoFault}
 use Rattle.lr_check_sets.specs.Closed.{IsClosed, IsFine, marked, marked_at, ClosedIsEnough}
 
 -- tokens have at most two kids
-few : (k : Tok) → length (kids k) ≤ 2
+pub few : (k : Tok) → length (kids k) ≤ 2
 few tok.Zero = omega arith
 few tok.One = omega arith
 few tok.Two = omega arith

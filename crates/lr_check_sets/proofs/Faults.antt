@@ -23,7 +23,7 @@ unfolding bare
 symbols-bare [] = refl
 symbols-bare (X ∷ s) = ap (λ l. X ∷ l) (symbols-bare s)
 
-is_blocked : (A : Automaton) (p : ℕ) (t : Tok) (a b : List Entry) (w : List Leaf) → next_token w ≡ Some t → walk A 0 (symbols a) ≡ Some p →
+pub is_blocked : (A : Automaton) (p : ℕ) (t : Tok) (a b : List Entry) (w : List Leaf) → next_token w ≡ Some t → walk A 0 (symbols a) ≡ Some p →
     pick (A.candidates p t) a ≡ record { taken = None; stack = b } → IsBlocked A a w
 is_blocked A p t a b [] g at pk = absurd (no_token g)
   where

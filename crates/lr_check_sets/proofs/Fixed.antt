@@ -34,7 +34,7 @@ pushes-append [] es z = refl
 pushes-append (d ∷ ds) es z = ap (push_at d) (pushes-append ds es z)
 
 -- a push by a right side is a push at a depth
-push_is : (right : List Sym) (d : ℕ) (z : List Entry) → length right ≡ suc d → push right false z ≡ push_at d z
+pub push_is : (right : List Sym) (d : ℕ) (z : List Entry) → length right ≡ suc d → push right false z ≡ push_at d z
 push_is right d [] e = refl
 push_is [] d (h ∷ a) e = absurd (omega arith)
 push_is (X ∷ []) zero (h ∷ a) e = refl
@@ -43,7 +43,7 @@ push_is (X ∷ Y ∷ right) zero (h ∷ a) e = absurd (omega arith)
 push_is (X ∷ Y ∷ right) (suc d) (h ∷ a) e = ap (λ l. h ∷ l) (push_is (Y ∷ right) d a (omega arith))
 
 -- at the root of a list, and below it
-push-root : (right s : List Sym) (x : Bool) (b : List Bool) (z : List Entry) → length right ≡ length s → 0 < length s → push right x (hold s b ++ z) ≡ hold s (x ∷ b) ++ z
+pub push-root : (right s : List Sym) (x : Bool) (b : List Bool) (z : List Entry) → length right ≡ length s → 0 < length s → push right x (hold s b ++ z) ≡ hold s (x ∷ b) ++ z
 push-root right [] x b z e lt = absurd (omega arith)
 push-root [] (X ∷ s) x b z e lt = absurd (omega arith)
 push-root (Y ∷ []) (X ∷ []) x b z e lt = refl
@@ -51,7 +51,7 @@ push-root (Y ∷ V ∷ right) (X ∷ []) x b z e lt = absurd (omega arith)
 push-root (Y ∷ []) (X ∷ W ∷ s) x b z e lt = absurd (omega arith)
 push-root (Y ∷ V ∷ right) (X ∷ W ∷ s) x b z e lt = ap (λ l. record { symbol = X; answers = [] } ∷ l) (push-root (V ∷ right) (W ∷ s) x b z (omega arith) (omega arith))
 
-push-below : (right s : List Sym) (d : ℕ) (b : List Bool) (z : List Entry) → length right ≡ length s + suc d → 0 < length s → push right false (hold s b ++ z) ≡ hold s b ++ push_at d z
+pub push-below : (right s : List Sym) (d : ℕ) (b : List Bool) (z : List Entry) → length right ≡ length s + suc d → 0 < length s → push right false (hold s b ++ z) ≡ hold s b ++ push_at d z
 push-below right [] d b z e lt = absurd (omega arith)
 push-below [] (X ∷ s) d b z e lt = absurd (omega arith)
 push-below (Y ∷ []) (X ∷ s) d b z e lt = absurd (omega arith)
@@ -93,7 +93,7 @@ deep-append a [] es h g = g
 deep-append a (d ∷ ds) es h g = (h.0, deep-append a ds es h.1 g)
 
 -- below a tree, one more is wanted before it
-one_more : (s u : List Sym) → IsTree s → wanted 1 (s ++ u) ≡ Some 0 → wanted 1 u ≡ Some 1
+pub one_more : (s u : List Sym) → IsTree s → wanted 1 (s ++ u) ≡ Some 0 → wanted 1 u ≡ Some 1
 one_more s u tree h = go (wanted 1 u) refl
   where
     go : (w : Option ℕ) → wanted 1 u ≡ w → wanted 1 u ≡ Some 1
@@ -126,7 +126,7 @@ pub record Asked (A : Automaton) (q : ℕ) (s : List Sym) (cs : List Candidate) 
   pub picks : (b : List Bool) (z : List Entry) → pick cs (hold s (root ++ b) ++ pushes depths z) ≡ record { taken = Some (reduce r); stack = hold s b ++ z }
 
 -- a right side on a stack: the list and some symbols below it
-reaches : (s a top below : List Sym) (d : ℕ) → s ++ a ≡ top ++ below → length top ≡ length s + suc d → (d < length a) × (top ≡ s ++ take (d + 1) a)
+pub reaches : (s a top below : List Sym) (d : ℕ) → s ++ a ≡ top ++ below → length top ≡ length s + suc d → (d < length a) × (top ≡ s ++ take (d + 1) a)
 reaches s a top below d e size =
     let rest : List Sym = drop (length s) top in
     let split : top ≡ s ++ rest = cut top below s a (sym e) (omega arith) in

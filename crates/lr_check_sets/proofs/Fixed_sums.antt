@@ -22,7 +22,7 @@ use Rattle.lr_check_sets.proofs.Shapes.{PartShape, OnTop, part_shape, settling_t
 use Rattle.lr_check_sets.proofs.Whole_sets.{part_back, settling_back}
 use Rattle.lr_check_sets.proofs.Fixed.{push_at, pushes, symbols-pushes, pushes-append, push_at-root, push_at-below, hold-append, GoesDown, DeepIn, deep-append, one_still, Asked, asked_of}
 
-take_past : (s a : List Sym) (n : ℕ) → take (length s + n) (s ++ a) ≡ s ++ take n a
+pub take_past : (s a : List Sym) (n : ℕ) → take (length s + n) (s ++ a) ≡ s ++ take n a
 take_past [] a n = ap (λ m. take m a) (zero-add n)
 take_past (X ∷ s) a n = ap (λ m. take m (X ∷ (s ++ a))) (suc-add (length s) n) ∙ ap (λ l. X ∷ l) (take_past s a n)
 
@@ -88,7 +88,7 @@ pub record FixedTree (A : Automaton) (q : ℕ) (k t : Tok) (s : List Sym) : Type
       Runs A (pushes depths z) (record { tok = k; answers = answers ++ b } ∷ leaves_all its_kids w) (hold s b ++ z) w
 
 -- the candidates of a table go down
-down : (rs : List Production) → IsLongestFirst rs → GoesDown (map reduce rs)
+pub down : (rs : List Production) → IsLongestFirst rs → GoesDown (map reduce rs)
 down [] h = tt
 down (x ∷ rs) h = (shorter, down rs (λ i j r s lt e f. h (suc i) (suc j) r s (omega arith) e f))
   where
@@ -105,7 +105,7 @@ down (x ∷ rs) h = (shorter, down rs (λ i j r s lt e f. h (suc i) (suc j) r s 
             let u : size_of x < size_of r → ⊥ = h 0 (suc c.0) x r (omega arith) refl (slice_get-get_or rs c.0 r c.1 ∙ ap Some c.2) in
             ⊎_elim (λ lt. absurd (u lt)) (λ le. omega (arith, ap size_of e)) (cases_lt (size_of x) (size_of r))
 
-goes_down : {G : List Production} {stmt : ℕ} {a : List Sym} {t : Tok} {cs : List Candidate} → AreCandidates G stmt a t cs → GoesDown cs
+pub goes_down : {G : List Production} {stmt : ℕ} {a : List Sym} {t : Tok} {cs : List Candidate} → AreCandidates G stmt a t cs → GoesDown cs
 goes_down (the_shift r i) = tt
 goes_down (the_reductions rs none are e) = subst GoesDown (sym e) (down rs are.ordered)
 

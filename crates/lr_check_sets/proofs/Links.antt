@@ -2,6 +2,7 @@
 use Rattle.std.proofs.Common.{◌≡◌, ℕ, zero, suc, ◌+◌, List, [], ◌∷◌, Option, Some, None, Contains, length, drop, map, slice_get, refl, sym, ap, ◌∙◌, subst, arith}
 use Rattle.std.specs.Option.{option_map}
 use Rattle.std.proofs.lemmas.Option.{same_Some, none-some}
+use Rattle.gg_base.proofs.Facts.{nil_cons}
 use Rattle.tree_core.specs.declared.token.Tok.TheVariants as tok
 use Rattle.md_reader.specs.declared.types.Rule.{Rule}
 use Rattle.md_reader.specs.declared.types.Sym.{Sym}
@@ -14,9 +15,6 @@ use Rattle.lr_check_sets.specs.Automaton.{Production}
 use Rattle.lr_check_sets.specs.Items as model
 use Rattle.lr_check_sets.specs.Items.{start_of}
 use Rattle.lr_check_sets.specs.Table.{production, productions}
-
-nil_cons : {X : Type 0} (x : X) (xs : List X) → [] ≡ x ∷ xs → ⊥
-nil_cons x xs e = cc
 
 -- what stands behind a dot
 pub drop_head : {X : Type 0} (w : List X) (k : ℕ) (x : X) (after : List X) → drop k w ≡ x ∷ after → (slice_get w k ≡ Some x) × (drop (suc k) w ≡ after)

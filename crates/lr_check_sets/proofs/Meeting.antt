@@ -11,7 +11,7 @@ use Rattle.lr_tables.specs.View.{TableView}
 use Rattle.lr_tables.specs.Leads.{actions_at}
 use Rattle.lr_tables.specs.Promises.{IsNumbered}
 use Rattle.lr_tables.proofs.Law.{candidates}
-use Rattle.lr_tables.proofs.Validity.{is_grammar}
+use Rattle.lr_tables.proofs.Validity.{is_grammar, rule_at}
 use Rattle.lr_check_sets.specs.Automaton.{Production}
 use Rattle.lr_check_sets.specs.Items.{IsAutomatonOf, HasNoEnd, HasNoEmpty}
 use Rattle.lr_check_sets.specs.Shapes.{IsTree, HasTrees}
@@ -19,7 +19,7 @@ use Rattle.lr_check_sets.specs.Bound.{HasClasses}
 use Rattle.lr_check_sets.specs.Exact.{TablesMeetLaws}
 use Rattle.lr_check_sets.specs.Table.{production, productions, candidates_at, automaton_of}
 use Rattle.lr_check_sets.proofs.Links.{of_productions}
-use Rattle.lr_check_sets.proofs.Patterned.{tree_of, rule_at}
+use Rattle.lr_check_sets.proofs.Patterned.{tree_of}
 use Rattle.lr_check_sets.proofs.Rows.{leads_on, stands_from, item_before, stands, are_candidates, leads, slice_at}
 
 module _ (t : TableView) (v : IsValid t.content) (b : IsNumbered t) where

@@ -1,15 +1,11 @@
 -- Right sides are trees: as many are wanted behind them as none.
-use Rattle.std.proofs.Common.{◌≡◌, ℕ, zero, suc, ◌+◌, List, [], ◌∷◌, ◌++◌, Option, Some, None, Bool, true, length, reverse, slice_get, refl, sym, ap, ◌∙◌, subst, arith, append_assoc, append-nil}
-use Rattle.std.specs.List.{AllByRecursion}
+use Rattle.std.proofs.Common.{◌≡◌, ℕ, suc, ◌+◌, List, [], ◌∷◌, ◌++◌, Option, Some, None, Bool, true, length, reverse, refl, sym, ap, ◌∙◌, subst, arith, append_assoc, append-nil}
 use Rattle.std.proofs.lemmas.List.{reverse-append}
-use Rattle.std.proofs.lemmas.Option.{same_Some, none-some}
 use Rattle.tree_core.specs.declared.token.Sort.{Sort}
 use Rattle.md_reader.specs.declared.types.Class.{Class}
-use Rattle.md_reader.specs.declared.types.Rule.{Rule}
 use Rattle.md_reader.specs.declared.types.Sym.{Sym}
 use Rattle.md_reader.specs.declared.types.Sym.TheVariants as grammar_symbol
 use Rattle.md_reader.specs.Patterns.{kids_of, Trees, no_tree, node, onto, sorted_test}
-use Rattle.md_reader.specs.Valid.{IsRule}
 use Rattle.lr_check_sets.specs.Shapes.{arity, wanted_behind, wanted, IsTree}
 
 abbrev pushes : List Sym → List Sym → List Sym
@@ -49,9 +45,3 @@ tree_of f w e =
     let b = behind_trees f 1 0 1 [] [] refl (omega arith) in
     let stack : b.stack ≡ reverse (onto f []) = sym b.same ∙ (pushes-is (onto f []) [] ∙ append-nil (reverse (onto f []))) in
     subst (λ (l : List Sym). wanted 1 l ≡ Some 0) (stack ∙ ap reverse e) b.left
-
-pub rule_at : (classes : List Class) (rs : List Rule) (n : ℕ) (r : Rule) → AllByRecursion (IsRule classes) rs → slice_get rs n ≡ Some r → IsRule classes r
-rule_at classes [] zero r h e = absurd (none-some r e)
-rule_at classes [] (suc n) r h e = absurd (none-some r e)
-rule_at classes (q ∷ rs) zero r h e = subst (IsRule classes) (same_Some q r e) h.0
-rule_at classes (q ∷ rs) (suc n) r h e = rule_at classes rs n r h.1 e

@@ -98,7 +98,7 @@ longest_first rules stmt ns all pairs i j r s lt er es less =
 pub slice_at : {X : Type 0} (xs : List X) (x : X) (m : Contains xs x) → slice_get xs m.0 ≡ Some x
 slice_at xs x m = slice_get-get_or xs m.0 x m.1 ∙ ap Some m.2
 
-at_contains : {X : Type 0} (xs : List X) (k : ℕ) (x : X) → slice_get xs k ≡ Some x → Contains xs x
+pub at_contains : {X : Type 0} (xs : List X) (k : ℕ) (x : X) → slice_get xs k ≡ Some x → Contains xs x
 at_contains xs k x e = (k, slice_get_within xs k x e, get_or_from_slice_get xs k x x e)
 
 module _ (rules : List Rule) (stmt classes : ℕ) (g : IsGrammar rules stmt classes) (content : Content) (rows : List RowView) (b : IsRows rules stmt classes rows) where

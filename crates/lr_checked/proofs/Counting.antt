@@ -2,6 +2,7 @@
 use Rattle.std.proofs.Common.{◌≡◌, ℕ, suc, ◌-◌, ◌≤◌, List, [], ◌∷◌, Option, Some, length, map, drop, slice_get, refl, sym, ap, ◌∙◌, subst, inl, inr, arith}
 use Rattle.std.proofs.lemmas.List.{drop-map}
 use Rattle.std.proofs.lemmas.Option.{same_Some, none-some}
+use Rattle.gg_base.proofs.Facts.{head_same, tail_same}
 use Rattle.tree_core.specs.declared.token.Tok.{Tok}
 use Rattle.tree_core.specs.declared.token.Tok.TheVariants as tok
 use Rattle.md_reader.specs.declared.types.Rule.{Rule}
@@ -29,7 +30,8 @@ use Rattle.lr_check.specs.Tree.{Token}
 use Rattle.lr_check.specs.Parse as parse
 use Rattle.lr_check.specs.Parse.{Part, symbols, coming, asked, Takes, nothing, unrestricted, answered_yes, answered_no, Reduction, Ends}
 use Rattle.lr_check.proofs.Only.{reductions_same, not_shifted}
-use Rattle.lr_check_law.proofs.Law.{toks, symbols-used, coming-is, is_first, asks_more, head_same, tail_same}
+use Rattle.lr_check.proofs.Parts.{symbols_used}
+use Rattle.lr_check_law.proofs.Law.{toks, coming-is, is_first, asks_more}
 use Rattle.lr_checked.specs.Accepted.{moves}
 
 module _ (rules : List Rule) where
@@ -56,8 +58,8 @@ module _ (rules : List Rule) where
   takes_symbols : {s u : List Part} {ns : List ℕ} {o : Option ℕ} → Takes rules s ns o u → symbols u ≡ symbols s
   takes_symbols nothing = refl
   takes_symbols (unrestricted q at z) = refl
-  takes_symbols (answered_yes {s = s} q at lt said) = symbols-used (length q.right - 1) s
-  takes_symbols (answered_no {s = s} q at lt said more) = takes_symbols more ∙ symbols-used (length q.right - 1) s
+  takes_symbols (answered_yes {s = s} q at lt said) = symbols_used (length q.right - 1) s
+  takes_symbols (answered_no {s = s} q at lt said more) = takes_symbols more ∙ symbols_used (length q.right - 1) s
 
 module _ (t : TableView) (v : IsValid t.content) (b : IsNumbered t) where
   laws : MeetsLaws t

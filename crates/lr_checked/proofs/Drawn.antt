@@ -21,13 +21,13 @@ use Rattle.lr_check_found.specs.Count.{HasMore}
 use Rattle.lr_checked.specs.Refusals.{Blocking, Looping, FaultIsReal, FullIsFirst}
 use Rattle.lr_checked.specs.Samples.{refusal_of}
 
-block_done : (n : ℕ) → outcome.Blocks n ≡ outcome.Done → ⊥
+pub block_done : (n : ℕ) → outcome.Blocks n ≡ outcome.Done → ⊥
 block_done n e = cc
 
 block_long : (n : ℕ) → outcome.Blocks n ≡ outcome.Long → ⊥
 block_long n e = cc
 
-loop_done : (n : ℕ) → outcome.Loops n ≡ outcome.Done → ⊥
+pub loop_done : (n : ℕ) → outcome.Loops n ≡ outcome.Done → ⊥
 loop_done n e = cc
 
 loop_long : (n : ℕ) → outcome.Loops n ≡ outcome.Long → ⊥

@@ -7,6 +7,7 @@ use Rattle.lr_check.specs.declared.sample.Outcome.TheVariants as outcome
 use Rattle.lr_check.specs.Tree.{Node, Token}
 use Rattle.lr_check.specs.Parse.{Ends, Replays, is_long, is_parsed}
 use Rattle.lr_check.specs.Statement.{IsStatement}
+use Rattle.lr_check.proofs.Law.{nowhere_in}
 use Rattle.lr_check_samples.specs.Stops.{at_once, Blocks, Loops, EndsAt, ends_blocked, ends_turning}
 use Rattle.lr_checked.specs.declared.checking.CheckFault.{CheckFault}
 use Rattle.lr_checked.specs.declared.checking.CheckFault.TheVariants as check_fault
@@ -14,7 +15,7 @@ use Rattle.lr_checked.specs.Accepted.{NeverStops}
 use Rattle.lr_checked.specs.Refusals.{Blocking, Looping, FaultIsReal, SomeStops, some_blocks, some_loops, IsStopped}
 use Rattle.lr_checked.proofs.Typed.{typed_tokens}
 use Rattle.lr_checked.proofs.Stopping as stopping
-use Rattle.lr_checked.proofs.Stopping.{Nothing, Twice, nowhere_in}
+use Rattle.lr_checked.proofs.Stopping.{Nothing, Twice}
 
 long_block : (n : ℕ) → outcome.Long ≡ outcome.Blocks n → ⊥
 long_block n e = cc

@@ -1,26 +1,14 @@
 -- How the parse ends that ends at the first stack that comes twice, and where it stops step by step.
-use Rattle.std.proofs.Common.{◌≡◌, ◌⊎◌, ℕ, zero, suc, ◌<◌, List, [], ◌∷◌, None, Contains, get_or, inl, inr, ⊎_elim, arith}
-use Rattle.std.proofs.lemmas.List.Elements.{Contains-append_cases}
+use Rattle.std.proofs.Common.{◌≡◌, ◌⊎◌, ℕ, List, [], ◌∷◌, None, Contains, ⊎_elim}
 use Rattle.md_reader.specs.declared.types.Rule.{Rule}
 use Rattle.md_reader.specs.declared.types.Sym.{Sym}
 use Rattle.lr_check.specs.declared.sample.Outcome.{Outcome}
 use Rattle.lr_check.specs.declared.sample.Outcome.TheVariants as outcome
 use Rattle.lr_check.specs.Tree.{Token}
 use Rattle.lr_check.specs.Parse.{Part, symbols, Reduction, Ends, loops, accepts, shifts, reduces, blocks}
+use Rattle.lr_check.proofs.Law.{nowhere_in}
+use Rattle.lr_check.proofs.Only.{cons_cases}
 use Rattle.lr_check_samples.specs.Stops.{Moves, by_shift, by_rule, Comes, at_once, by_move, Turns, one_turn, more_turns}
-
-pub nowhere_in : {X : Type 0} (x : X) → Contains [] x → ⊥
-nowhere_in x h = let lt = h.1 in omega (arith, lt)
-
-one_cases : {X : Type 0} (y x : X) → Contains (y ∷ []) x → y ≡ x
-one_cases y x h = by h.0 h.1 h.2
-  where
-    by : (k : ℕ) → k < 1 → get_or (y ∷ []) k x ≡ x → y ≡ x
-    by zero lt e = e
-    by (suc k) lt e = absurd (omega (arith, lt))
-
-cons_cases : {X : Type 0} (y : X) (ys : List X) (x : X) → Contains (y ∷ ys) x → (y ≡ x) ⊎ Contains ys x
-cons_cases y ys x h = ⊎_elim (λ a. inl (one_cases y x a)) (λ b. inr b) (Contains-append_cases (y ∷ []) ys x h)
 
 module _ (rules : List Rule) (stmt : ℕ) where
   one_move : {ws us vs : List Token} {s a b : List Part} → Comes rules stmt ws s us a → Moves rules stmt us a vs b → Comes rules stmt ws s vs b

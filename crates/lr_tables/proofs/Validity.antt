@@ -1,9 +1,8 @@
 -- A valid description's rules are a grammar.
-use Rattle.std.proofs.Common.{◌≡◌, ◌⊎◌, ℕ, zero, suc, ◌+◌, ◌≤◌, ◌<◌, List, [], ◌∷◌, Option, Some, None, Bool, true, false, cond, length, slice_get, refl, sym, ap, ◌∙◌, subst, inl, inr, ⊎_elim, arith}
+use Rattle.std.proofs.Common.{◌≡◌, ◌⊎◌, ℕ, zero, suc, ◌+◌, ◌≤◌, ◌<◌, List, [], ◌∷◌, Some, Bool, true, false, cond, length, slice_get, sym, ap, ◌∙◌, subst, inl, inr, ⊎_elim, arith}
 use Rattle.std.specs.Prelude.{◌&&◌, ◌||◌, codes}
 use Rattle.std.specs.List.{AllByRecursion, list_any}
-use Rattle.std.specs.Option.{option_map}
-use Rattle.std.proofs.lemmas.Option.{slice_get_within, none-some}
+use Rattle.std.proofs.lemmas.Option.{none-some}
 use Rattle.tree_core.specs.declared.token.Sort.{Sort}
 use Rattle.tree_core.specs.declared.token.Tok.TheVariants as tok
 use Rattle.std.specs.Str.{bytes_eq}
@@ -13,37 +12,26 @@ use Rattle.md_reader.specs.declared.types.Sym.{Sym}
 use Rattle.md_reader.specs.declared.types.Sym.TheVariants as grammar_symbol
 use Rattle.md_reader.specs.State.{Content}
 use Rattle.md_reader.specs.Restrictions.{is_nothing}
-use Rattle.md_reader.specs.Patterns.{sort_of_symbol, sort_of_kind, sort_fits, sorted_test, Trees, no_tree, node, onto}
+use Rattle.md_reader.specs.Patterns.{sort_of_symbol, sorted_test, Trees, no_tree, node, onto}
 use Rattle.md_reader.specs.HeadSteps.{is_stmt}
 use Rattle.md_reader.specs.Valid.{IsRule, IsValid}
+use Rattle.md_reader.proofs.AgainLaws.{declared, has_sort}
 use Rattle.lr_tables.specs.Grammar.{IsGrammar}
 use Rattle.lr_tables.specs.Statements.{stmt_from, stmt_of}
 use Rattle.lr_tables.proofs.Members.{In, slice_get-In}
 
-rule_at : (classes : List Class) (rs : List Rule) (n : ℕ) (r : Rule) → AllByRecursion (IsRule classes) rs → slice_get rs n ≡ Some r → IsRule classes r
+pub rule_at : (classes : List Class) (rs : List Rule) (n : ℕ) (r : Rule) → AllByRecursion (IsRule classes) rs → slice_get rs n ≡ Some r → IsRule classes r
 rule_at classes [] zero r h e = absurd (none-some r e)
 rule_at classes [] (suc n) r h e = absurd (none-some r e)
 rule_at classes (q ∷ rs) zero r h e = let s : q ≡ r = cc in subst (IsRule classes) s h.0
 rule_at classes (q ∷ rs) (suc n) r h e = rule_at classes rs n r h.1 e
-
--- a class with a sort is declared
-class_within : (classes : List Class) (c : ℕ) (x : Sort) → sort_of_symbol classes (grammar_symbol.Class c) ≡ Some x → c < length classes
-class_within classes c x e = by (slice_get classes c) refl e
-  where
-    by : (o : Option Class) → slice_get classes c ≡ o → option_map sort_of_kind (option_map (λ (y : Class). y.kind) o) ≡ Some x → c < length classes
-    by None f h = absurd (none-some x h)
-    by (Some y) f h = slice_get_within classes c y f
-
-fits_some : (o : Option Sort) (x : Sort) → sort_fits o x ≡ true → (y : Sort) × (o ≡ Some y)
-fits_some None x e = cc
-fits_some (Some y) x e = (y, refl)
 
 -- each symbol of a sorted tree has a sort
 symbols_sorted : (classes : List Class) {xs : List Sort} (t : Trees (sorted_test classes) xs) (w : List Sym) (s : Sym) → In s (onto t w) → ((x : Sort) × (sort_of_symbol classes s ≡ Some x)) ⊎ In s w
 symbols_sorted classes no_tree w s h = inr h
 symbols_sorted classes (node {x = x} q passes below beside) w s h =
     ⊎_elim
-    (λ e. inl (let y : (z : Sort) × (sort_of_symbol classes q ≡ Some z) = fits_some (sort_of_symbol classes q) x passes in (y.0, ap (sort_of_symbol classes) (sym e) ∙ y.1)))
+    (λ e. inl (let y : (z : Sort) × (sort_of_symbol classes q ≡ Some z) = has_sort (sort_of_symbol classes q) x passes in (y.0, ap (sort_of_symbol classes) (sym e) ∙ y.1)))
     (λ a. ⊎_elim (λ y. inl y) (λ b. symbols_sorted classes beside w s b) (symbols_sorted classes below (onto beside w) s a))
     h
 
@@ -65,10 +53,10 @@ is_grammar d v = record {
   short = record { each = λ n r e. (rule_at d.classes d.rules n r v.rules e).sides.short };
   few_classes = v.classes.few;
   start = (let lt = stmt_within 0 d.classes v.stmt in omega (arith, lt));
-  lefts = λ n r e. (let q : IsRule d.classes r = rule_at d.classes d.rules n r v.rules e in class_within d.classes r.left q.sides.sort q.sides.declared);
+  lefts = λ n r e. (let q : IsRule d.classes r = rule_at d.classes d.rules n r v.rules e in declared d.classes r.left q.sides.sort q.sides.declared);
   some = λ n r e. (let q : IsRule d.classes r = rule_at d.classes d.rules n r v.rules e in subst (λ (w : List Sym). 0 < length w) q.sides.sorted.spelled (tree_some d.classes q.sides.sorted.tree));
   within = λ n k c r e f. (let s : (x : Sort) × (sort_of_symbol d.classes (grammar_symbol.Class c) ≡ Some x) = sorted_at r (rule_at d.classes d.rules n r v.rules e) (grammar_symbol.Class c) k f in
-      class_within d.classes c s.0 s.1);
+      declared d.classes c s.0 s.1);
   no_end = λ n k r e f. (let s : (x : Sort) × (sort_of_symbol d.classes (grammar_symbol.Tok tok.End) ≡ Some x) =
       sorted_at r (rule_at d.classes d.rules n r v.rules e) (grammar_symbol.Tok tok.End) k f in none-some s.0 s.1);
 }

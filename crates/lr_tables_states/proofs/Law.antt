@@ -4,6 +4,7 @@ use Rattle.std.specs.Prelude.{position}
 use Rattle.std.specs.Option.{option_map}
 use Rattle.std.proofs.lemmas.List.FromFn.{get_or-map-range_with_len}
 use Rattle.std.proofs.lemmas.Option.{slice_get-map, slice_get_within, same_Some, none-some}
+use Rattle.gg_base.proofs.Facts.{slice_some}
 use Rattle.md_reader.specs.declared.types.Rule.{Rule}
 use Rattle.md_reader.specs.declared.types.Sym.{Sym}
 use Rattle.md_reader.specs.State.{Content}
@@ -27,11 +28,6 @@ use Rattle.lr_tables.proofs.Found.{Apart, position_there, head_in, in_some, foun
 use Rattle.lr_tables.proofs.Loops.{target_some}
 use Rattle.lr_tables.proofs.Law.{leads_kernel}
 use Rattle.lr_tables_states.specs.States.{SameItems, HasStack, StatesAreItemSets}
-
-there : {X : Type 0} (xs : List X) (n : ℕ) → n < length xs → (x : X) × (slice_get xs n ≡ Some x)
-there [] n lt = absurd (omega (arith, lt))
-there (x ∷ xs) zero lt = (x, refl)
-there (x ∷ xs) (suc n) lt = there xs n (omega (arith, lt))
 
 -- what stands twice nowhere stands at one place
 one_place : (ks : List (List Item)) → Apart ks → (q p : ℕ) (k : List Item) → slice_get ks q ≡ Some k → slice_get ks p ≡ Some k → q ≡ p
@@ -94,7 +90,7 @@ module _ (rules : List Rule) (stmt classes : ℕ) (g : IsGrammar rules stmt clas
 
   stack_of : (q : ℕ) → q < length rows → Stack q
   stack_of q lt =
-      let k = there ks q (let m = b.many in omega (arith, m, lt)) in
+      let k = slice_some ks q (let m = b.many in omega (arith, m, lt)) in
       let r = found_reached rules stmt classes g (length rows) k.0 (slice_get-In k.0 ks q k.1) in
       let i : (i : Item) × In i (kernel r.stack) = head_in (kernel r.stack) (subst (λ (x : List Item). 0 < length x) (sym r.leads) r.some) in
       let valid = kernel_valid rules stmt classes g r.stack i.0 i.1 in

@@ -327,7 +327,7 @@ named_at [] c h lt = absurd (omega arith)
 named_at (k ∷ cs) zero h lt = h.0
 named_at (k ∷ cs) (suc c) h lt = named_at cs c h.1 (omega arith)
 
-declared : (cs : List Class) (c : ℕ) (y : Sort) → sort_of_symbol cs (grammar_symbol.Class c) ≡ Some y → c < length cs
+pub declared : (cs : List Class) (c : ℕ) (y : Sort) → sort_of_symbol cs (grammar_symbol.Class c) ≡ Some y → c < length cs
 declared cs c y e = at (slice_get cs c) refl e
   where
     at : (o : Option Class) → slice_get cs c ≡ o → option_map sort_of_kind (option_map (λ (x : Class). x.kind) o) ≡ Some y → c < length cs
@@ -340,7 +340,7 @@ symbol_again cs (grammar_symbol.Class c) y h e =
     let lt = declared cs c y e in
     rw (token_free TOKENS _ (named_at cs c h.named lt), class_of_again cs c lt h.apart) refl
 
-has_sort : (o : Option Sort) (x : Sort) → sort_fits o x ≡ true → (y : Sort) × (o ≡ Some y)
+pub has_sort : (o : Option Sort) (x : Sort) → sort_fits o x ≡ true → (y : Sort) × (o ≡ Some y)
 has_sort None x e = absurd (false≢true e)
 has_sort (Some y) x e = (y, refl)
 

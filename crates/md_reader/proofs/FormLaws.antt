@@ -11,6 +11,7 @@ use Rattle.md_reader_text.specs.Words.{same}
 use Rattle.md_reader_text.specs.Numbers.{number}
 use Rattle.gg_base.specs.declared.size.Size.{Size}
 use Rattle.gg_base.specs.declared.size.Size.TheVariants as sizes
+use Rattle.gg_base.proofs.Facts.{guarded}
 use Rattle.md_reader.specs.declared.types.Kind.{Kind}
 use Rattle.md_reader.specs.declared.types.Kind.TheVariants as kind
 use Rattle.md_reader.specs.declared.types.Restriction.{Restriction}
@@ -24,7 +25,7 @@ use Rattle.md_reader.specs.Forms.{spill_form}
 use Rattle.md_reader.specs.RuleForms.{rule_form, restriction_form, if_form, do_form, give_form, plain_give}
 use Rattle.md_reader.specs.Valid.{IsPool}
 use Rattle.md_reader.specs.Desc.{size_word, kind_words, saved_words, IsRestriction, GiveWord}
-use Rattle.md_reader.proofs.Inversion.{guarded, same_true}
+use Rattle.md_reader.proofs.Inversion.{same_true}
 
 -- one arm of a chain of tests on a word
 pick : {A : Type 0} (b : Bool) (a y : A) (o : Option A) (P : A → Type 0) → cond b (Some a) o ≡ Some y → (b ≡ true → P a) → (o ≡ Some y → P y) → P y

@@ -1,7 +1,6 @@
 -- What is known where a test let something pass.
-use Rattle.std.proofs.Common.{◌≡◌, ℕ, Bool, true, false, cond, List, [], ◌∷◌, ◌++◌, Option, Some, None, Result, Ok, Err, refl}
+use Rattle.std.proofs.Common.{◌≡◌, ℕ, Bool, true, false, cond, List, [], ◌∷◌, ◌++◌, Result, Ok, Err, refl}
 use Rattle.std.specs.List.{AllByRecursion}
-use Rattle.std.proofs.lemmas.Option.{none-some}
 use Rattle.std.proofs.lemmas.Slice.Eq.{bytes_eq-Decides}
 use Rattle.md_reader_text.specs.Words.{same}
 use Rattle.md_reader.specs.declared.faults.DescKind.{DescKind}
@@ -19,10 +18,6 @@ refused k t e = cc
 
 pub ok_same : {A K : Type 0} (a b : A) (r q : Result A K) → r ≡ Ok a → q ≡ Ok b → r ≡ q → a ≡ b
 ok_same a b r q e f g = cc
-
-pub guarded : {A : Type 0} (b : Bool) (o : Option A) (y : A) → cond b o None ≡ Some y → (b ≡ true) × (o ≡ Some y)
-guarded true o y e = (refl, e)
-guarded false o y e = absurd (none-some y e)
 
 pub same_true : (a b : List ℕ) → same a b ≡ true → a ≡ b
 same_true a b e = (bytes_eq-Decides a b).0 e

@@ -11,6 +11,7 @@ use Rattle.md_reader.specs.declared.types.Class.{Class}
 use Rattle.tree_core.specs.declared.token.Tok.{Tok}
 use Rattle.tree_core.specs.declared.token.Tok.TheVariants as tok
 use Rattle.tree_core.specs.Grammar.{kids}
+use Rattle.tree_core.proofs.Walking.{both_true}
 use Rattle.md_reader.specs.declared.types.Sym.{Sym}
 use Rattle.md_reader.specs.declared.types.Sym.TheVariants as grammar_symbol
 use Rattle.md_reader.specs.Patterns.{kids_of, sort_of_symbol, sort_fits, Trees, no_tree, node, onto, any_test, sorted_test, IsTree, IsSorted, walk, count}
@@ -33,10 +34,6 @@ cut ok (a ∷ fs) bs (node s p below beside) = cut_step ok a fs bs s p below (on
       spelled = ap (λ (t : List Sym). s ∷ onto below t) c.spelled;
     }
 
-guarded : (b c : Bool) → cond b c false ≡ true → (b ≡ true) × (c ≡ true)
-guarded true c e = (refl, e)
-guarded false c e = absurd cc
-
 pub record Found (ok : Sym → Sort → Bool) (xs : List Sort) (w : List Sym) : Type 0 where
   pub trees : Trees ok xs
   pub spelled : onto trees [] ≡ w
@@ -46,7 +43,7 @@ found ok [] [] e = record { trees = no_tree; spelled = refl }
 found ok [] (s ∷ w) e = absurd cc
 found ok (x ∷ xs) [] e = absurd cc
 found ok (x ∷ xs) (s ∷ w) e =
-    let g = guarded (ok s x) (walk ok (kids_of s ++ xs) w) e in
+    let g = both_true (ok s x) (walk ok (kids_of s ++ xs) w) e in
     joined (found ok (kids_of s ++ xs) w g.1) g.0
   where
     joined_cut : (w' : List Sym) → w' ≡ w → Cut ok (kids_of s) xs w' → ok s x ≡ true → Found ok (x ∷ xs) (s ∷ w)

@@ -1,3 +1,4 @@
+-- Endings of names: _step what a form of the line does to what is known of it. See docs/READING.md.
 pub mod Patterns
 pub mod Symbols
 pub mod Forms

@@ -1,5 +1,5 @@
 -- What a template's own effect reads and gives, from its pattern's effect.
-use Rattle.std.proofs.Common.{◌≡◌, ℕ, zero, suc, ◌-◌, ◌*◌, ◌^◌, ◌<◌, ◌==◌, List, [], ◌∷◌, ◌++◌, Option, Some, None, Bool, true, false, refl, sym, ap, ◌∙◌, subst, arith, slice_get}
+use Rattle.std.proofs.Common.{◌≡◌, ℕ, zero, suc, ◌-◌, ◌*◌, ◌^◌, ◌<◌, ◌==◌, List, [], ◌∷◌, Option, Some, None, Bool, true, false, refl, sym, ap, ◌∙◌, subst, arith, slice_get}
 use Rattle.std.specs.Prelude.{is_some, unwrap_or, ◌||◌, Ok, cond}
 use Rattle.std.specs.List.{AllByRecursion as All}
 use Rattle.std.proofs.lemmas.Bool.{eqb-true, and_parts}
@@ -7,6 +7,7 @@ use Rattle.std.proofs.lemmas.Option.{none-some, same_Some}
 use Rattle.gg_base.specs.declared.size.Size.{Size}
 use Rattle.gg_base.specs.declared.size.Size.TheVariants.{Byte, Word, Long}
 use Rattle.gg_base.specs.Sizes.{bytes_of}
+use Rattle.gg_base.proofs.Facts.{all_append}
 use Rattle.tree_core.specs.declared.tree.Att.{Att}
 use Rattle.tree_core.specs.declared.tree.Att.TheVariants as att
 use Rattle.tree_core.specs.declared.token.Tok.{Tok}
@@ -60,10 +61,6 @@ safe_map every P Q area m (Binary op a b) go h = (safe_map every P Q area m a go
 -- what is safe can be read
 pub safe_reads : (every : Bool) (v : View) (area : List ℕ) (t : Shape) → area ≡ v.state.area → Safe every (λ i. is_some (v.symbol i) ≡ true) area (term_state v) t → IsReadWhere every v t
 safe_reads every v area t e h = subst (λ bytes. Safe every (λ i. is_some (v.symbol i) ≡ true) bytes (term_state v) t) e h
-
-all_and : {X : Type 0} (P : X → Type 0) (xs ys : List X) → All P xs → All P ys → All P (xs ++ ys)
-all_and P [] ys h g = g
-all_and P (x ∷ xs) ys h g = (h.0, all_and P xs ys h.1 g)
 
 pub sizes_same : (x y : Option Size) (z : Size) → same_size x y ≡ true → x ≡ Some z → y ≡ Some z
 sizes_same (Some Byte) (Some Byte) z e f = f
@@ -268,7 +265,7 @@ module _ (every : Bool) (v : View) (known : ℕ → Bool) (is_known : (i : ℕ) 
 
   pub effect_reads : (e w : EffectShape) → EffectsAlike facts known area m e w → SafeAct every (λ i. known i ≡ true) area m w.act → AllSafe every (λ i. known i ≡ true) area m w.divisors
       → All (IsReadWhere every v) (terms_of e)
-  effect_reads e w h safe divisors = all_and (IsReadWhere every v) (terms_of_act e.act) e.divisors (act_reads e.act w.act h.act safe) (all_read e.divisors w.divisors h.divisors divisors)
+  effect_reads e w h safe divisors = all_append (IsReadWhere every v) (terms_of_act e.act) e.divisors (act_reads e.act w.act h.act safe) (all_read e.divisors w.divisors h.divisors divisors)
 
   -- an act that is alike to a value is a value
   pub record IsValue (a : ActShape) (u : Shape) : Type 0 where

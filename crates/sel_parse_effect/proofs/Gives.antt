@@ -50,11 +50,12 @@ use Rattle.sel_parse_selected.specs.Reductions.{reloaded, shaped, with_result, w
 use Rattle.sel_parse_selected.specs.Selected.{selecting}
 use Rattle.sel_parse_stands.specs.Stands.{IsFrame}
 use Rattle.sel_parse_stands.specs.Lines.{LinesSave}
+use Rattle.sel_parse_stands.proofs.Desks.{done_same}
 use Rattle.sel_parse_effect.specs.Standing.{Standing}
 use Rattle.sel_parse_effect.proofs.Giving as giving
 use Rattle.sel_parse_effect.proofs.Giving.{no_save_kind}
 use Rattle.sel_parse_effect.proofs.Reducing as red
-use Rattle.sel_parse_effect.proofs.Reducing.{done_same, reg_is, nothing_is, bound, Start, tops, Ready, Brought, brought, Taken, taken}
+use Rattle.sel_parse_effect.proofs.Reducing.{reg_is, nothing_is, bound, Start, tops, Ready, Brought, brought, Taken, taken}
 use Rattle.sel_parse_effect.proofs.Shapes as shapes
 
 -- a rule that begins with Save is that token alone

@@ -2,6 +2,7 @@
 use Rattle.std.proofs.Common.{◌≡◌, ℕ, zero, suc, ◌+◌, ◌≤◌, List, [], ◌++◌, length, Option, Some, None, Bool, true, false, refl, sym, ap, ◌∙◌, subst, arith, append_assoc, slice_get}
 use mathlib.Core.List.{append-nil}
 use Rattle.std.proofs.lemmas.Bool.Decides.{nat_tests}
+use Rattle.sel_parse_stands.proofs.Desks.{full_done, stuck_done, done_same}
 use Rattle.tree_core.specs.declared.program.TreeProgram.{TreeProgram}
 use Rattle.md_reader.specs.declared.types.Give.{Give}
 use Rattle.md_reader.specs.declared.types.Give.TheVariants as give
@@ -17,16 +18,10 @@ use Rattle.sel_target.specs.Laws.{IsLawful}
 use Rattle.sel_target.specs.Instances.{lines_of}
 use Rattle.sel_target.specs.SavingLaws.{saving, reloading}
 use Rattle.sel_parse_selected.specs.Entries.{Entry, attrs}
-use Rattle.sel_parse_selected.specs.Desk.{Stack, Desk, desk_of, Full, Stuck, Done, bind, free_register, free_slot}
+use Rattle.sel_parse_selected.specs.Desk.{Stack, Desk, desk_of, Done, bind, free_register, free_slot}
 use Rattle.sel_parse_selected.specs.Spills.{Where, victim, entry_at, saving_line, saved, saved_in, spilled, with_free, due_by, due}
 use Rattle.sel_parse_selected.specs.Reductions.{reload_line, loaded, reloaded_by, reloaded_at, reloaded, finished, shaped, given_by, reduced}
-use Rattle.sel_parse_effect.proofs.Reducing.{done_same, bound}
-
-full_done : {X : Type 0} (x : X) → Full ≡ Done x → ⊥
-full_done x e = cc
-
-stuck_done : {X : Type 0} (x : X) → Stuck ≡ Done x → ⊥
-stuck_done x e = cc
+use Rattle.sel_parse_effect.proofs.Reducing.{bound}
 
 -- more code, and no fewer words
 pub record Grows {I : Type 0} (code : List I) (most : ℕ) (code' : List I) (most' : ℕ) : Type 0 where

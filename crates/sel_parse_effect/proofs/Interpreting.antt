@@ -3,6 +3,7 @@ use Rattle.std.proofs.Common.{◌≡◌, ◌⊎◌, inl, inr, ℕ, zero, suc, �
 use Rattle.std.specs.Prelude.{count_ones}
 use Rattle.std.specs.List.{AllByRecursion as All}
 use Rattle.std.proofs.lemmas.Option.{same_Some, none-some}
+use Rattle.gg_base.proofs.Facts.{all_get}
 use Rattle.tree_core.specs.declared.token.Tok.TheVariants as tok
 use Rattle.tree_core.specs.declared.tree.Att.{Att}
 use Rattle.tree_core.specs.declared.tree.Att.TheVariants as att
@@ -54,20 +55,15 @@ use Rattle.sel_parse_stands.specs.Lines.{LinesSave}
 use Rattle.sel_parse_stands.proofs.Loaded.{IsLoaded, AllLoaded}
 use Rattle.sel_parse_stands.proofs.Parting.{parted_at}
 use Rattle.sel_parse_stands.proofs.Saving.{token_holds_none}
-use Rattle.sel_parse_stands.proofs.Desks.{MayMove, below, among, due_unmoved}
+use Rattle.sel_parse_stands.proofs.Desks.{MayMove, below, among, due_unmoved, done_same}
 use Rattle.sel_parse_effect.specs.Standing.{OnlyTokens, Standing, Stands, Trapped, Did}
 use Rattle.sel_parse_effect.specs.Places.{StoresToPlaces}
 use Rattle.sel_parse_effect.proofs.Giving as giving
 use Rattle.sel_parse_effect.proofs.Reducing as red
-use Rattle.sel_parse_effect.proofs.Reducing.{done_same, bound, tops, Ready, Brought, brought, Taken, taken}
+use Rattle.sel_parse_effect.proofs.Reducing.{bound, tops, Ready, Brought, brought, Taken, taken}
 use Rattle.sel_parse_effect.proofs.Gives.{saves_alone, reduction_gives, reduction_traps}
 use Rattle.sel_parse_effect.proofs.Doing as doing
 use Rattle.sel_parse_effect.proofs.Growing.{reduction_grows, traps_still}
-
-rule_at : {X : Type 0} (P : X → Type 0) (rs : List X) (n : ℕ) (r : X) → All P rs → slice_get rs n ≡ Some r → P r
-rule_at P [] n r h e = absurd (none-some r e)
-rule_at P (y ∷ rs) zero r h e = subst P (same_Some y r e) h.0
-rule_at P (y ∷ rs) (suc n) r h e = rule_at P rs n r h.1 e
 
 ending_same : {I S : Type 0} (m n : S) → ◌≡◌ {A = Ending I S} (Comes m) (Comes n) → m ≡ n
 ending_same m n e = cc
@@ -153,7 +149,7 @@ module _ {O I S F : Type 0} (of : Meaning O I S F) (law : IsLawful of) (stores :
     where
       one : (o : Option (Entry O)) → slice_get desk.symbols i ≡ o → reloaded_at of q d first i desk o ≡ Done desk
       one None at = refl
-      one (Some e) at = not_reloaded i desk e e.attr (rule_at (λ (x : Entry O). IsLoaded x.attr) desk.symbols i e h at)
+      one (Some e) at = not_reloaded i desk e e.attr (all_get (λ (x : Entry O). IsLoaded x.attr) desk.symbols i e h at)
 
   -- One reduction of a statement.
   module _ (rule : Rule) (is_rule : IsRule d.classes rule) (shown : IsShown of.effect (count_ones d.pool) d.classes rule) (x x' : Stack O I) (vs : List Sense)
@@ -302,8 +298,8 @@ module _ {O I S F : Type 0} (of : Meaning O I S F) (law : IsLawful of) (stores :
         by (inl g) = subst (λ w. St w (grammar_symbol.Class r.left ∷ a) (v ∷ us)) (sym g) tt
         by (inr g) = subst (λ w. St w (grammar_symbol.Class r.left ∷ a) (v ∷ us)) (sym g.1) (λ within. (
             let less = (reduction_grows of q d first r x g.0 g.2).grows in
-            reduction_gives of law q valid can d first f fs t s m0 frame lines r (rule_at (IsRule d.classes) d.rules n r rules_valid there)
-            (rule_at (IsShown of.effect (count_ones d.pool) d.classes) d.rules n r rules_shown there) x g.0 a us vs size hold (before (omega (arith, less, within))) v fits gives g.2 within))
+            reduction_gives of law q valid can d first f fs t s m0 frame lines r (all_get (IsRule d.classes) d.rules n r rules_valid there)
+            (all_get (IsShown of.effect (count_ones d.pool) d.classes) d.rules n r rules_shown there) x g.0 a us vs size hold (before (omega (arith, less, within))) v fits gives g.2 within))
 
     pub does_at : (x x' : Kept O I) (n : ℕ) (r : Rule) (vs : List Sense) (e0 : Deed) → slice_get d.rules n ≡ Some r → length vs ≡ length r.right → answered Select r x ≡ true
         → St x (piled r.right []) (piled vs []) → kind_at d.classes r.left ≡ Some kind.Nothing
@@ -316,8 +312,8 @@ module _ {O I S F : Type 0} (of : Meaning O I S F) (law : IsLawful of) (stores :
         by (inl g) = subst (λ w. Did of q d first f fs t s m0 w e0) (sym g) tt
         by (inr g) = subst (λ w. Did of q d first f fs t s m0 w e0) (sym g.1) (λ within. (
             let less = (reduction_grows of q d first r x g.0 g.2).grows in
-            reduction_does r (rule_at (IsRule d.classes) d.rules n r rules_valid there)
-            (rule_at (IsShown of.effect (count_ones d.pool) d.classes) d.rules n r rules_shown there) x g.0 vs size hold (before (omega (arith, less, within))) is e0 does g.2 within))
+            reduction_does r (all_get (IsRule d.classes) d.rules n r rules_valid there)
+            (all_get (IsShown of.effect (count_ones d.pool) d.classes) d.rules n r rules_shown there) x g.0 vs size hold (before (omega (arith, less, within))) is e0 does g.2 within))
 
     pub traps_at : (x x' : Kept O I) (n : ℕ) (r : Rule) (a : List Sym) (us vs : List Sense) → slice_get d.rules n ≡ Some r → length vs ≡ length r.right → answered Select r x ≡ true
         → St x (piled r.right a) (piled vs us) → ((m : term.State) → StandsFor q.objects s vs m → TrapsBy q.objects s vs (effect_read d.classes r) m)
@@ -329,8 +325,8 @@ module _ {O I S F : Type 0} (of : Meaning O I S F) (law : IsLawful of) (stores :
         by (inl g) = subst (λ w. Trapped of q d first f fs t s m0 w) (sym g) tt
         by (inr g) = subst (λ w. Trapped of q d first f fs t s m0 w) (sym g.1) (λ within. (
             let less = (reduction_grows of q d first r x g.0 g.2).grows in
-            reduction_traps of law q valid can d first f fs t s m0 frame lines r (rule_at (IsRule d.classes) d.rules n r rules_valid there)
-            (rule_at (IsShown of.effect (count_ones d.pool) d.classes) d.rules n r rules_shown there) x g.0 a us vs size hold (before (omega (arith, less, within))) trapping g.2 within))
+            reduction_traps of law q valid can d first f fs t s m0 frame lines r (all_get (IsRule d.classes) d.rules n r rules_valid there)
+            (all_get (IsShown of.effect (count_ones d.pool) d.classes) d.rules n r rules_shown there) x g.0 a us vs size hold (before (omega (arith, less, within))) trapping g.2 within))
 
     pub shift_trapped : (x : Kept O I) (l : Leaf) → Trapped of q d first f fs t s m0 x → Trapped of q d first f fs t s m0 (shifted l x)
     shift_trapped None l h = tt

@@ -43,7 +43,7 @@ use Rattle.sel_parse_stands.proofs.Loaded.{AllLoaded}
 use Rattle.sel_parse_stands.proofs.Carrying.{AllUntouched, AllCarried, same_state}
 use Rattle.sel_parse_stands.proofs.Keeping.{none_touched, holds_kept, sees_kept, avoided, comes_on}
 use Rattle.sel_parse_stands.proofs.Parting.{parted_at}
-use Rattle.sel_parse_stands.proofs.Desks.{IsDue, Works, LoadedTo, due_works, reloaded_works, all_loaded, holds_length}
+use Rattle.sel_parse_stands.proofs.Desks.{IsDue, Works, LoadedTo, due_works, reloaded_works, all_loaded, holds_length, full_done, stuck_done}
 use Rattle.sel_parse_effect.specs.Standing.{Standing}
 use Rattle.sel_parse_effect.proofs.Giving as giving
 use Rattle.sel_parse_effect.proofs.Giving.{no_save_kind, Later, Leaves, Shaped}
@@ -65,15 +65,6 @@ nothing_is (Some (kind.Place z)) e = absurd (cc)
 nothing_is (Some kind.Con) e = absurd (cc)
 nothing_is (Some kind.Ea) e = absurd (cc)
 nothing_is (Some kind.Nothing) e = refl
-
-pub done_same : {X : Type 0} (x y : X) → Done x ≡ Done y → x ≡ y
-done_same x y e = cc
-
-full_done : {X : Type 0} (x : X) → Full ≡ Done x → ⊥
-full_done x e = cc
-
-stuck_done : {X : Type 0} (x : X) → Stuck ≡ Done x → ⊥
-stuck_done x e = cc
 
 pub bound : {X Y : Type 0} (o : Outcome X) (go : X → Outcome Y) (y : Y) → bind o go ≡ Done y → (x : X) × (o ≡ Done x) × (go x ≡ Done y)
 bound Full go y e = absurd (full_done y e)

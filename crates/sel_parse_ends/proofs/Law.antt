@@ -18,18 +18,13 @@ use Rattle.lr_check_parse.proofs.Sources.{parse_answered}
 use Rattle.lr_check_parse.proofs.Typing.{leaves_are_tokens}
 use Rattle.lr_check_parse.proofs.Existence.{parse_has_end}
 use Rattle.lr_checked.specs.Accepted.{NeverStops, tokens}
+use Rattle.lr_checked.proofs.Drawn.{block_done, loop_done}
 use Rattle.sel_target.specs.Meaning.{Meaning}
 use Rattle.sel_target.specs.Laws.{IsLawful}
 use Rattle.sel_parse_moves.specs.Claims.{root}
 use Rattle.sel_parse_selected.specs.Selected.{Kept, selecting, start, Parsed, Blocked, blocks, circles}
 use Rattle.sel_parse_slots.proofs.Law.{has_room}
 use Rattle.sel_parse_ends.specs.Claims.{HasCode, IsStuck, NeverBlocks, SelectionsEnd}
-
-not_done : (at : ℕ) → outcome.Blocks at ≡ outcome.Done → ⊥
-not_done at e = cc
-
-no_circle : (at : ℕ) → outcome.Loops at ≡ outcome.Done → ⊥
-no_circle at e = cc
 
 -- with answers they have the same tokens
 asked_tokens : {X : Type 0} (of : Answering Leaf X) (w : List Leaf) (f : ℕ → List Bool) → tokens (questioned of w f) ≡ map of.token w
@@ -45,8 +40,8 @@ module _ {O I S F : Type 0} (of : Meaning O I S F) (q : TreeProgram) (d : Conten
         never.only (questioned by w a.to_come) o (subst IsStatement (sym (asked_tokens by w a.to_come)) (leaves_are_tokens w typed)) a.ends
 
     not_blocked : Blocked of q d first w → ⊥
-    not_blocked (blocks log at p) = not_done at (done log (Blocks at) (outcome.Blocks at) p refl)
-    not_blocked (circles log at p) = no_circle at (done log (Loops at) (outcome.Loops at) p refl)
+    not_blocked (blocks log at p) = block_done at (done log (Blocks at) (outcome.Blocks at) p refl)
+    not_blocked (circles log at p) = loop_done at (done log (Loops at) (outcome.Loops at) p refl)
 
 pub never_blocks : {O I S F : Type 0} (of : Meaning O I S F) → NeverBlocks of
 never_blocks of q d first w valid never typed h = not_blocked of q d first w valid never typed h

@@ -12,7 +12,7 @@ use Rattle.tree_core.specs.declared.tree.Att.TheVariants as att
 use Rattle.tree_core.specs.declared.tree.Leaf.{Leaf}
 use Rattle.tree_core.specs.declared.program.TreeProgram.{TreeProgram}
 use Rattle.tree_core.specs.Attributes.{leaf_fits, end_leaf}
-use Rattle.tree_core.specs.Trees.{Forest, none, tree, leaves_onto}
+use Rattle.tree_core.specs.Trees.{leaves_onto}
 use Rattle.tree_meaning.specs.State.{State}
 use Rattle.md_reader.specs.declared.types.Rule.{Rule}
 use Rattle.md_reader.specs.declared.types.Sym.TheVariants as grammar_symbol
@@ -30,7 +30,7 @@ use Rattle.sel_target.specs.Laws.{IsLawful}
 use Rattle.sel_parse.specs.Shown.{IsShown}
 use Rattle.sel_parse_moves.specs.Claims.{root}
 use Rattle.sel_parse_moves.proofs.Covering.{AreLeaves}
-use Rattle.sel_parse_moves.proofs.Moves.{leaves_of}
+use Rattle.sel_parse_moves.proofs.Moves.{leaves_of, leaves_before}
 use Rattle.sel_parse_selected.specs.Selected as selected
 use Rattle.sel_parse_stands.specs.Stands as stands
 use Rattle.sel_parse_stands.specs.Stands.{NamedBy, Names, Sees, IsFrame}
@@ -49,10 +49,6 @@ use Rattle.sel_parse_desk.specs.Selected.{tree_of}
 use Rattle.sel_parse_law.specs.Claims.{EndsTree, CodeHasEffect, IsReady, UsesFewSlots, HasRoom, NeverBlocks, HasCode, TreesHaveCode}
 
 -- ---- a tree with its End
-
-leaves_before : (f : Forest) (v w : List Leaf) → leaves_onto f v ++ w ≡ leaves_onto f (v ++ w)
-leaves_before none v w = refl
-leaves_before (tree l below behind) v w = ap (λ (t : List Leaf). l ∷ t) (leaves_before below (leaves_onto behind v) w ∙ ap (leaves_onto below) (leaves_before behind v w))
 
 all_but_last : (v : List Leaf) (e : Leaf) → take (length v) (v ++ e ∷ []) ≡ v
 all_but_last [] e = refl

@@ -1,14 +1,10 @@
 -- What holds of each element of lists, and of what comes of a step.
-use Rattle.std.proofs.Common.{◌≡◌, ℕ, zero, suc, List, [], ◌∷◌, ◌++◌, Some, sym, subst, take, drop}
-use Rattle.std.specs.Prelude.{reverse, slice_get, slice_set}
+use Rattle.std.proofs.Common.{ℕ, zero, suc, List, [], ◌∷◌, sym, subst, take, drop}
+use Rattle.std.specs.Prelude.{reverse, slice_set}
 use Rattle.std.specs.List.{AllByRecursion as All}
 use Rattle.std.proofs.lemmas.Grind.{reverse_onto}
-use Rattle.std.proofs.lemmas.Option.{same_Some, none-some}
+use Rattle.gg_base.proofs.Facts.{all_append}
 use Rattle.sel_parse_selected.specs.Desk.{Outcome, Full, Stuck, Done, bind}
-
-pub all_append : {X : Type 0} (P : X → Type 0) (xs ys : List X) → All P xs → All P ys → All P (xs ++ ys)
-all_append P [] ys h k = k
-all_append P (x ∷ xs) ys h k = (h.0, all_append P xs ys h.1 k)
 
 pub all_take : {X : Type 0} (P : X → Type 0) (n : ℕ) (xs : List X) → All P xs → All P (take n xs)
 all_take P zero xs h = tt
@@ -28,11 +24,6 @@ pub all_set : {X : Type 0} (P : X → Type 0) (xs : List X) (i : ℕ) (y : X) �
 all_set P [] i y h k = tt
 all_set P (x ∷ xs) zero y h k = (k, h.1)
 all_set P (x ∷ xs) (suc i) y h k = (h.0, all_set P xs i y h.1 k)
-
-pub all_get : {X : Type 0} (P : X → Type 0) (xs : List X) (n : ℕ) (x : X) → All P xs → slice_get xs n ≡ Some x → P x
-all_get P [] n x h e = absurd (none-some x e)
-all_get P (y ∷ xs) zero x h e = subst P (same_Some y x e) h.0
-all_get P (y ∷ xs) (suc n) x h e = all_get P xs n x h.1 e
 
 -- it holds of what is done
 abbrev pub Each : {X : Type 0} → (X → Type 0) → Outcome X → Type 0

@@ -4,6 +4,7 @@ use Rattle.std.specs.Prelude.{drop, slice_get}
 use Rattle.std.proofs.lemmas.List.{length-append, length-map}
 use Rattle.std.specs.List.{AllByRecursion as All}
 use Rattle.std.proofs.lemmas.Option.{same_Some, none-some}
+use Rattle.gg_base.proofs.Facts.{all_get}
 use Rattle.tree_core.specs.declared.tree.Leaf.{Leaf}
 use Rattle.tree_core.specs.declared.token.Tok.{Tok}
 use Rattle.tree_core.specs.declared.program.TreeProgram.{TreeProgram}
@@ -32,7 +33,7 @@ use Rattle.sel_parse_selected.specs.Reductions.{reloaded, finished, shaped, with
 use Rattle.sel_parse_selected.specs.Selected.{Kept, kept_of, reduced_by, selecting, shifted, start}
 use Rattle.sel_parse_moves.proofs.Typing.{stmt_kind}
 use Rattle.sel_parse_lines.specs.Claims.{StatementsHaveCode}
-use Rattle.sel_parse_lines.proofs.Each.{all_get, Each, each_bind, each_any}
+use Rattle.sel_parse_lines.proofs.Each.{Each, each_bind, each_any}
 
 class_same : (c k : ℕ) (a : List Sym) → grammar_symbol.Class c ∷ a ≡ grammar_symbol.Class k ∷ [] → c ≡ k
 class_same c k a e = cc

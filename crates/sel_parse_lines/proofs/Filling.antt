@@ -3,6 +3,7 @@ use Rattle.std.proofs.Common.{◌≡◌, ℕ, zero, suc, ◌+◌, List, [], ◌�
 use Rattle.std.specs.Prelude.{take, slice_get}
 use Rattle.std.specs.List.{AllByRecursion as All}
 use Rattle.std.proofs.lemmas.Option.{same_Some, none-some}
+use Rattle.gg_base.proofs.Facts.{all_append, all_get}
 use Rattle.tree_core.specs.declared.tree.Leaf.{Leaf}
 use Rattle.tree_core.specs.declared.program.TreeProgram.{TreeProgram}
 use Rattle.md_reader_pieces.specs.declared.piece.Line.{Line}
@@ -30,7 +31,7 @@ use Rattle.sel_parse_selected.specs.Reductions.{with_result, with_scratch, given
 use Rattle.sel_parse_selected.specs.Selected.{Kept, kept_of, reduced_by, selecting, shifted, start}
 use Rattle.sel_parse_moves.proofs.Covering.{known}
 use Rattle.sel_parse_lines.specs.Claims.{Lasts, IsFilled, SelectionsAreFilled}
-use Rattle.sel_parse_lines.proofs.Each.{all_append, all_take, all_drop, all_reverse, all_set, all_get, Each, each_bind}
+use Rattle.sel_parse_lines.proofs.Each.{all_take, all_drop, all_reverse, all_set, Each, each_bind}
 
 module _ {O I S F : Type 0} (of : Meaning O I S F) (q : TreeProgram) (d : Content) (first : ℕ) (good : Attr O → Bool) (lasts : Lasts of q good) where
   abbrev Passes : Attr O → Type 0

@@ -28,7 +28,7 @@ use Rattle.sel_parse_moves.proofs.Covering.{known}
 use Rattle.sel_parse_lines.specs.Claims.{SelectionsUseFewWords}
 use Rattle.sel_parse_lines.proofs.Each.{Each, each_bind}
 
-larger : (n k m : ℕ) → n ≤ m → k ≤ m → larger_of n k ≤ m
+pub larger : (n k m : ℕ) → n ≤ m → k ≤ m → larger_of n k ≤ m
 larger n k m a b = grind (arith, nat_tests)
 
 -- the lowest number that passes is one of those that were tried

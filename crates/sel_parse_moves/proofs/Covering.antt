@@ -4,6 +4,7 @@ use Rattle.std.proofs.Common.{append_assoc, add-one, ◌==◌}
 use Rattle.std.specs.Prelude.{if◌then◌else◌}
 use Rattle.std.proofs.lemmas.List.Elements.{Contains-append_right}
 use Rattle.std.proofs.lemmas.Option.{same_Some}
+use Rattle.lr_check.proofs.Choosing.{here}
 use Rattle.gg_base.proofs.Facts.{some_none}
 use mathlib.Core.List.{append-nil}
 use Rattle.tree_core.specs.declared.token.Tok.TheVariants as tok
@@ -25,7 +26,6 @@ use Rattle.sel_parse_moves.specs.Made.{Made}
 use Rattle.lr_check_parse.specs.Moves.{Move, Shift, Reduce, Ending, Accepts, coming, Taken as TakenRule, decided_at, taken, Choice, Parses}
 use Rattle.lr_check_parse.specs.Moves as parse
 use Rattle.lr_check_parse.specs.Attributes.{Selecting, all_hold, symbols_of, answered, by_attributes}
-use Rattle.lr_check_parse.proofs.Choosing.{here}
 use Rattle.lr_check_parse.proofs.Choosing as choosing
 use Rattle.sel_parse_moves.specs.Made as made
 use Rattle.sel_parse_moves.specs.Covers.{Covers, Fills, Parts, Pile, CoversAll}

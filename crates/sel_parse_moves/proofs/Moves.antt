@@ -1,8 +1,6 @@
 -- The moves of an attributed parse do what the tree does.
-use Rattle.std.proofs.Common.{◌≡◌, ◌⊎◌, inl, inr, ℕ, zero, suc, List, [], ◌∷◌, ◌++◌, Some, refl, sym, ap, ◌∙◌, subst, slice_get}
+use Rattle.std.proofs.Common.{◌≡◌, ◌⊎◌, inl, inr, ℕ, List, [], ◌∷◌, ◌++◌, refl, sym, ap, ◌∙◌, subst, slice_get}
 use Rattle.std.specs.List.{AllByRecursion}
-use Rattle.std.proofs.lemmas.Option.{same_Some}
-use Rattle.gg_base.proofs.Facts.{some_none}
 use Rattle.tree_core.specs.declared.token.Sort.TheVariants as sort
 use Rattle.tree_core.specs.declared.tree.Leaf.{Leaf}
 use Rattle.tree_core.specs.declared.program.Object.{Object}
@@ -12,11 +10,10 @@ use Rattle.tree_core.specs.Trees.{Forest, none, tree, leaves_onto, Typed, IsType
 use Rattle.tree_core.specs.Calm.{CalmBefore}
 use Rattle.tree_core.proofs.Law.{grows_back}
 use Rattle.tree_meaning.specs.Values.{Sight, meanings}
-use Rattle.md_reader.specs.declared.types.Class.{Class}
-use Rattle.md_reader.specs.declared.types.Rule.{Rule}
 use Rattle.md_reader.specs.State.{Content}
-use Rattle.md_reader.specs.Valid.{IsRule, IsValid}
+use Rattle.md_reader.specs.Valid.{IsValid}
 use Rattle.lr_tables.specs.Statements.{stmt_of}
+use Rattle.lr_tables.proofs.Validity.{rule_at}
 use Rattle.lr_check.specs.declared.sample.Outcome.{Outcome}
 use Rattle.lr_check.specs.declared.sample.Outcome.TheVariants as outcome
 use Rattle.lr_check_parse.specs.Moves.{Move, Ending, Accepts, Blocks, Loops, Refuses}
@@ -32,6 +29,7 @@ use Rattle.sel_parse_moves.specs.Interprets.{Interprets, Ran}
 use Rattle.lr_check_parse.specs.Lists.{EndsSo}
 use Rattle.sel_parse_moves.specs.Claims.{root, IsParsed, IsFair, MovesMeanTree, AlwaysAccepts}
 use Rattle.lr_check_parse.proofs.Sources.{parse_answered}
+use Rattle.lr_check_parse.proofs.Typing.{snoc_same}
 use Rattle.sel_parse_moves.proofs.Covering.{AreLeaves, covers_whole}
 use Rattle.sel_parse_moves.proofs.Performs.{named, statement}
 use Rattle.tree_meaning_tame.specs.Claims.{IsDeed}
@@ -40,30 +38,16 @@ use Rattle.tree_meaning_tame.proofs.Calm.{trap_tame}
 use Rattle.tree_meaning_tame.proofs.Sights.{tree_deed_grows}
 use Rattle.sel_parse_moves.proofs.Typing.{covers_typed, typed_leaves, stmt_kind}
 
-pub rule_at : (classes : List Class) (rs : List Rule) (n : ℕ) (r : Rule) → AllByRecursion (IsRule classes) rs → slice_get rs n ≡ Some r → IsRule classes r
-rule_at classes [] zero r h e = absurd (some_none r (sym e))
-rule_at classes [] (suc n) r h e = absurd (some_none r (sym e))
-rule_at classes (q ∷ rs) zero r h e = subst (IsRule classes) (same_Some q r e) h.0
-rule_at classes (q ∷ rs) (suc n) r h e = rule_at classes rs n r h.1 e
-
-leaves_before : (f : Forest) (v w : List Leaf) → leaves_onto f v ++ w ≡ leaves_onto f (v ++ w)
+pub leaves_before : (f : Forest) (v w : List Leaf) → leaves_onto f v ++ w ≡ leaves_onto f (v ++ w)
 leaves_before none v w = refl
 leaves_before (tree l below behind) v w = ap (λ (t : List Leaf). l ∷ t) (leaves_before below (leaves_onto behind v) w ∙ ap (leaves_onto below) (leaves_before behind v w))
 
 cons_first : (a b : Leaf) (v w : List Leaf) → (a ∷ v) ≡ (b ∷ w) → (a ≡ b) × (v ≡ w)
 cons_first a b v w e = (cc, cc)
 
-last_off : (v w : List Leaf) (e : Leaf) → v ++ e ∷ [] ≡ w ++ e ∷ [] → v ≡ w
-last_off [] [] e h = refl
-last_off [] (b ∷ []) e h = absurd (let q = cons_first e b [] (e ∷ []) h in let r = q.1 in cc)
-last_off [] (b ∷ d ∷ w) e h = absurd (let q = cons_first e b [] (d ∷ (w ++ e ∷ [])) h in let r = q.1 in cc)
-last_off (a ∷ []) [] e h = absurd (let q = cons_first a e (e ∷ []) [] h in let r = q.1 in cc)
-last_off (a ∷ d ∷ v) [] e h = absurd (let q = cons_first a e (d ∷ (v ++ e ∷ [])) [] h in let r = q.1 in cc)
-last_off (a ∷ v) (b ∷ w) e h = (let q = cons_first a b (v ++ e ∷ []) (w ++ e ∷ []) h in let r = last_off v w e q.1 in (ap (λ (x : Leaf). x ∷ v) q.0 ∙ ap (λ (t : List Leaf). b ∷ t) r))
-
 -- the leaves of a typed tree
 pub leaves_of : (w : List Leaf) → IsTyped (root w) sort.Stmt → AreLeaves w
-leaves_of w h = subst AreLeaves (last_off (leaves_onto h.trees []) w end_leaf (leaves_before h.trees [] (end_leaf ∷ []) ∙ h.spelled)) (typed_leaves (sort.Stmt ∷ []) h.trees [] h.typed tt)
+leaves_of w h = subst AreLeaves (snoc_same (leaves_onto h.trees []) w end_leaf (leaves_before h.trees [] (end_leaf ∷ []) ∙ h.spelled)) (typed_leaves (sort.Stmt ∷ []) h.trees [] h.typed tt)
 
 -- the parse covers the whole tree
 pub record Covered (d : Content) {X A : Type 0} (of : Selecting X A) (w : List Leaf) (x y : X) : Type 0 where

@@ -47,6 +47,7 @@ use Rattle.tree_meaning_tame.proofs.Strict.{NoStmt, kids_no_stmt}
 use Rattle.sel_terms_trees.proofs.Patterns.{numbered, pattern_law}
 use Rattle.sel_terms_trees.proofs.Rules.{effect_by, zero_there, sort_tame, sort_undivided, Comes, Fails, IsZeroAt, decided}
 use Rattle.sel_terms_trees.proofs.Statements.{ActIs, act_law}
+use Rattle.sel_terms_trees.proofs.Law.{same_fits}
 
 piled_both : {Y : Type 0} (us vs b : List Y) → piled (us ++ vs) b ≡ piled vs (piled us b)
 piled_both [] vs b = refl
@@ -61,7 +62,7 @@ pushed_is : {ok : Sym → Sort → Bool} {xs : List Sort} (p : Trees ok xs) (w a
 pushed_is no_tree w a = refl
 pushed_is (node s passes below beside) w a = pushed_is below (onto beside w) (s ∷ a) ∙ pushed_is beside w (pushed below (s ∷ a))
 
-fits_stmt : (x : Sort) → fits sort.Stmt x ≡ true → x ≡ sort.Stmt
+pub fits_stmt : (x : Sort) → fits sort.Stmt x ≡ true → x ≡ sort.Stmt
 fits_stmt sort.Stmt e = refl
 fits_stmt sort.Long e = absurd (cc)
 fits_stmt sort.Byte e = absurd (cc)
@@ -82,10 +83,6 @@ nothing_there (Some (kind.Value sizes.Long)) e = absurd (cc)
 nothing_there (Some (kind.Place sizes.Byte)) e = absurd (cc)
 nothing_there (Some (kind.Place sizes.Word)) e = absurd (cc)
 nothing_there (Some (kind.Place sizes.Long)) e = absurd (cc)
-
-same_fits : (o : Option Sort) (x : Sort) → sort_fits o x ≡ true → trees.sort_fits o x ≡ true
-same_fits None x e = cc
-same_fits (Some y) x e = e
 
 kind_there : (o : Option Kind) (y : Sort) → option_map sort_of_kind o ≡ Some y → (k : Kind) × (o ≡ Some k) × (y ≡ sort_of_kind k)
 kind_there None y e = absurd (cc)

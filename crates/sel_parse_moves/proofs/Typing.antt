@@ -3,6 +3,7 @@ use Rattle.std.proofs.Common.{◌≡◌, ℕ, suc, ◌+◌, List, [], ◌∷◌,
 use Rattle.std.specs.Prelude.{◌&&◌, ◌||◌, codes}
 use Rattle.std.specs.List.{list_any}
 use Rattle.std.proofs.lemmas.Bool.{and_from, and_parts}
+use Rattle.sel_terms_trees.proofs.Law.{same_fits}
 use Rattle.md_reader_text.specs.Words.{same}
 use Rattle.tree_core.specs.declared.token.Tok.{Tok}
 use Rattle.tree_core.specs.declared.token.Tok.TheVariants as tok
@@ -112,10 +113,6 @@ some_fits (Some z) y x e f = fits_on z y x e f
 
 stands_on : (l : Leaf) (y x : Sort) → stands_for l y ≡ true → fits y x ≡ true → stands_for l x ≡ true
 stands_on l y x e f = let h = and_parts (trees.sort_fits (sort_of l.tok) y) (leaf_fits l) e in and_from (trees.sort_fits (sort_of l.tok) x) (leaf_fits l) (some_fits (sort_of l.tok) y x h.0 f) h.1
-
-same_fits : (o : Option Sort) (x : Sort) → sort_fits o x ≡ true → trees.sort_fits o x ≡ true
-same_fits None x e = cc
-same_fits (Some y) x e = e
 
 class_fits : (o : Option Sort) (y x : Sort) → o ≡ Some y → sort_fits o x ≡ true → fits y x ≡ true
 class_fits o y x e f = subst (λ (t : Option Sort). sort_fits t x ≡ true) e f

@@ -10,6 +10,7 @@ use Rattle.tree_core.specs.declared.token.Tok.TheVariants as tok
 use Rattle.tree_core.specs.declared.tree.Att.{Att}
 use Rattle.tree_core.specs.declared.tree.Att.TheVariants as att
 use Rattle.tree_core.specs.declared.program.TreeProgram.{TreeProgram}
+use Rattle.tree_core.proofs.Windows.{none_of}
 use Rattle.md_reader.specs.declared.types.Kind.{Kind}
 use Rattle.md_reader.specs.declared.types.Kind.TheVariants as kind
 use Rattle.md_reader.specs.declared.types.Sym.{Sym}
@@ -29,12 +30,12 @@ use Rattle.sel_parse_selected.specs.Desk.{Desk, Outcome, Full, Stuck, Done, bind
 use Rattle.sel_parse_selected.specs.Spills.{Where, Below, Among, first_that, last_that, is_register, holds_register, may_go, deepest, victim, in_slot, entry_in_slot, saved, saved_in, spilled}
 use Rattle.sel_parse_selected.specs.Spills.{with_free, due_by, due}
 use Rattle.sel_parse_stands.proofs.Saving.{lowest_found}
-use Rattle.sel_parse_slots.proofs.Counts.{tick, count, count_any, count_none, count_one, total, total_set}
+use Rattle.sel_parse_slots.proofs.Counts.{tick, count, count_any, count_none, count_one, total, total_set, tick_small}
 use Rattle.sel_parse_slots.proofs.Fine as fine
 use Rattle.sel_parse_slots.proofs.Fine.{registers}
 use Rattle.sel_parse_slots.proofs.Counting as counting
 use Rattle.sel_parse_slots.proofs.Counting.{Good, AllFine, Counted, Goes, goes_of, fine_at}
-use Rattle.sel_parse_registers.proofs.Pools.{tick_true, tick_small, apart_of, count_less_in, none_count, lowest_none, no_some, ones_counted, total_none, none_last}
+use Rattle.sel_parse_registers.proofs.Pools.{tick_true, apart_of, count_less_in, none_count, lowest_none, ones_counted, total_none, none_last}
 use Rattle.sel_parse_registers.proofs.Pools.{none_first, made_free, not_free}
 
 -- ---- what comes of a step: a register was never missing
@@ -153,7 +154,7 @@ module _ {O I S F : Type 0} (of : Meaning O I S F) (law : IsLawful of) (q : Tree
       both false b e f = f
 
       one : attr_touches of e.attr (RegAt r) ≡ false
-      one = lowest_none (λ v. attr_touches of e.attr (RegAt v)) 0 12 r (no_some (lowest (λ v. attr_touches of e.attr (RegAt v)) 0 12) h.0) (omega arith) lt
+      one = lowest_none (λ v. attr_touches of e.attr (RegAt v)) 0 12 r (none_of (lowest (λ v. attr_touches of e.attr (RegAt v)) 0 12) h.0) (omega arith) lt
 
   kind_small : (v : ℕ) (k : Option Kind) → KindFits of k (attr.Reg v) → v < 12
   kind_small v None h = absurd h
@@ -176,7 +177,7 @@ module _ {O I S F : Type 0} (of : Meaning O I S F) (law : IsLawful of) (q : Tree
     where
       none : (a : Attr O) → holds_register of (record { kind = e.kind; attr = a }) ≡ false → registers of law q d first a ≤ 0
       none a h =
-          let n = none_count (λ v. attr_touches of a (RegAt v)) 0 12 (no_some (lowest (λ v. attr_touches of a (RegAt v)) 0 12) h) in
+          let n = none_count (λ v. attr_touches of a (RegAt v)) 0 12 (none_of (lowest (λ v. attr_touches of a (RegAt v)) 0 12) h) in
           omega (arith, n)
 
       by : (a : Attr O) → fine.IsFine of law q d first s a → may_go of (record { kind = e.kind; attr = a }) ≡ false → registers of law q d first a ≤ tick (is_register a)

@@ -1,6 +1,6 @@
 -- Counts: the registers of a pool, the elements of a list that pass, and searches that find none.
 use Rattle.std.proofs.Common.{◌≡◌, ℕ, zero, suc, ◌+◌, ◌/◌, ◌^◌, ◌<◌, ◌≤◌, ◌==◌, List, [], ◌∷◌, map, take, drop, slice_get, Option, Some, None, Bool, true, false, refl, sym, ap, ◌∙◌, arith}
-use Rattle.std.specs.Prelude.{reverse, not, is_some, ◌&&◌, ◌||◌, count_ones, if◌then◌else◌}
+use Rattle.std.specs.Prelude.{reverse, not, ◌&&◌, ◌||◌, count_ones, if◌then◌else◌}
 use Rattle.std.specs.List.{AllByRecursion as All, list_any}
 use Rattle.std.specs.Int.{bit_at}
 use lib.Count.{ones_step}
@@ -22,10 +22,6 @@ tick_true false le = absurd (omega (arith, le))
 pub tick_none : (b : Bool) → tick b ≤ 0 → b ≡ false
 tick_none true le = absurd (omega (arith, le))
 tick_none false le = refl
-
-pub tick_small : (b : Bool) → tick b ≤ 1
-tick_small true = omega arith
-tick_small false = omega arith
 
 -- where one implies the other
 pub tick_implied : (b c : Bool) → (b ≡ true → c ≡ true) → tick b ≤ tick c
@@ -70,10 +66,6 @@ lowest_none p k (suc n) r e le lt = by (λ f far. lowest_none p (k + 1) n r f fa
     by ih true is f c g = absurd (none-some k (sym f))
     by ih false is f true g = ap p (sym (eqb-true k r g)) ∙ is
     by ih false is f false g = ih f (further g)
-
-pub no_some : {X : Type 0} (o : Option X) → is_some o ≡ false → o ≡ None
-no_some None e = refl
-no_some (Some x) e = absurd (cc)
 
 -- ---- how many registers a pool has
 

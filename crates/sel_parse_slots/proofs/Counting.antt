@@ -26,7 +26,7 @@ use Rattle.sel_parse_selected.specs.Spills.{spilled, with_free, due_by, due}
 use Rattle.sel_parse_selected.specs.Reductions.{loaded, reloaded_by, reloaded_at, reloaded}
 use Rattle.sel_parse_stands.proofs.Loaded.{IsLoaded}
 use Rattle.sel_parse_stands.proofs.Saving.{lowest_found}
-use Rattle.sel_parse_stands.proofs.Desks.{first_passes, last_passes}
+use Rattle.sel_parse_stands.proofs.Desks.{first_passes, last_passes, set_other}
 use Rattle.sel_parse_slots.proofs.Counts.{count, tick, count_any, below_lowest, none_lowest, total, total_set, total_append, unequal}
 use Rattle.sel_parse_slots.proofs.Fine as fine
 use Rattle.sel_parse_slots.proofs.Fine.{words, charge, weight, weight_charge, IsFine, fine_words, slot_word_one, fine_spilled}
@@ -34,13 +34,6 @@ use Rattle.sel_parse_slots.proofs.Fine.{words, charge, weight, weight_charge, Is
 not_not : (a : Bool) → tick (not (not a)) ≤ tick a
 not_not true = omega arith
 not_not false = omega arith
-
-set_other : {X : Type 0} (xs : List X) (i j : ℕ) (y : X) → (i ≡ j → ⊥) → slice_get (slice_set xs i y) j ≡ slice_get xs j
-set_other [] i j y apart = refl
-set_other (x ∷ xs) zero zero y apart = absurd (apart refl)
-set_other (x ∷ xs) zero (suc j) y apart = refl
-set_other (x ∷ xs) (suc i) zero y apart = refl
-set_other (x ∷ xs) (suc i) (suc j) y apart = set_other xs i j y (λ e. apart (ap suc e))
 
 set_is : {X : Type 0} (bs : List X) (i : ℕ) (y x : X) → slice_get (slice_set bs i y) i ≡ Some x → y ≡ x
 set_is [] i y x e = absurd (none-some x e)

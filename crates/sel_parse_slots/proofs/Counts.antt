@@ -20,7 +20,7 @@ pub tick_or : (a b : Bool) → tick (a || b) ≤ tick a + tick b
 tick_or true b = omega arith
 tick_or false b = omega arith
 
-tick_small : (a : Bool) → tick a ≤ 1
+pub tick_small : (a : Bool) → tick a ≤ 1
 tick_small true = omega arith
 tick_small false = omega arith
 

@@ -1,6 +1,5 @@
 -- What entries hold, in registers and slots.
-use Rattle.std.proofs.Common.{◌≡◌, ℕ, ◌+◌, ◌-◌, ◌<◌, ◌≤◌, ◌==◌, Option, Some, None, true, false, refl, sym, ap, ◌∙◌, subst, arith}
-use Rattle.std.specs.Prelude.{is_some}
+use Rattle.std.proofs.Common.{◌≡◌, ℕ, ◌+◌, ◌-◌, ◌<◌, ◌≤◌, ◌==◌, Option, Some, true, false, refl, sym, ap, ◌∙◌, subst, arith}
 use Rattle.std.specs.Int.{bit_at}
 use Rattle.std.proofs.lemmas.Nat.Bits.{bit_at-zero}
 use Rattle.tree_core.specs.declared.token.Tok.{Tok}
@@ -10,6 +9,7 @@ use Rattle.tree_core.specs.declared.tree.Att.TheVariants as att
 use Rattle.tree_core.specs.declared.tree.Leaf.{Leaf}
 use Rattle.tree_core.specs.declared.program.TreeProgram.{TreeProgram}
 use Rattle.tree_core.specs.Attributes.{leaf_fits}
+use Rattle.tree_core.proofs.Windows.{some_of}
 use Rattle.md_reader.specs.declared.types.Kind.{Kind}
 use Rattle.md_reader.specs.declared.types.Kind.TheVariants as kind
 use Rattle.md_reader.specs.declared.types.Sym.{Sym}
@@ -27,10 +27,6 @@ use Rattle.sel_parse_selected.specs.Spills.{is_register, holds_register, in_slot
 use Rattle.sel_parse_stands.proofs.Saving.{lowest_found}
 use Rattle.sel_parse_slots.specs.Claims.{IsOwn}
 use Rattle.sel_parse_slots.proofs.Counts.{count, count_none, count_less, count_one, count_some, tick, unequal}
-
-found_some : {X : Type 0} (o : Option X) → is_some o ≡ true → (x : X) × (o ≡ Some x)
-found_some None e = absurd (cc)
-found_some (Some x) e = (x, refl)
 
 module _ {O I S F : Type 0} (of : Meaning O I S F) (law : IsLawful of) (q : TreeProgram) (d : Content) (first : ℕ) where
   abbrev pub registers : Attr O → ℕ
@@ -157,7 +153,7 @@ module _ {O I S F : Type 0} (of : Meaning O I S F) (law : IsLawful of) (q : Tree
 
   holding : (k : Option Kind) (a : Attr O) → holds_register of (record { kind = k; attr = a }) ≡ true → 1 ≤ registers a
   holding k a h =
-      let o = found_some (lowest (λ r. attr_touches of a (RegAt r)) 0 12) h in
+      let o = some_of (lowest (λ r. attr_touches of a (RegAt r)) 0 12) h in
       let r = lowest_found (λ r. attr_touches of a (RegAt r)) 0 12 o.0 o.1 in
       count_some (λ r. attr_touches of a (RegAt r)) 0 12 o.0 r.from r.below r.is
 

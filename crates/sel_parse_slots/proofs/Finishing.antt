@@ -6,6 +6,7 @@ use Rattle.std.specs.List.{AllByRecursion as All, list_any}
 use Rattle.std.specs.Int.{bit_at}
 use Rattle.std.proofs.lemmas.Nat.Bits.{bit_at-pow_other}
 use Rattle.std.proofs.lemmas.Option.{same_Some, none-some}
+use Rattle.sel_parse_moves.proofs.Performs.{fits_stmt}
 use Rattle.gg_base.specs.declared.size.Size.TheVariants.{Byte, Word, Long}
 use Rattle.tree_core.specs.declared.token.Tok.{Tok}
 use Rattle.tree_core.specs.declared.token.Sort.{Sort}
@@ -54,15 +55,6 @@ use Rattle.sel_parse_slots.proofs.Counting.{Good, good_bind, sum, charge_of, All
 abbrev pub IsNoStatement : List Class → Sym → Type 0
 IsNoStatement classes (grammar_symbol.Tok t) = Unit {0}
 IsNoStatement classes (grammar_symbol.Class c) = kind_at classes c ≡ Some kind.Nothing → ⊥
-
-fits_stmt : (x : Sort) → fits sort.Stmt x ≡ true → x ≡ sort.Stmt
-fits_stmt sort.Stmt e = refl
-fits_stmt sort.Long e = absurd (cc)
-fits_stmt sort.Byte e = absurd (cc)
-fits_stmt sort.Word e = absurd (cc)
-fits_stmt sort.PlaceB e = absurd (cc)
-fits_stmt sort.PlaceW e = absurd (cc)
-fits_stmt sort.PlaceL e = absurd (cc)
 
 no_statement : (classes : List Class) (s : Sym) (x : Sort) → sorted_test classes s x ≡ true → (x ≡ sort.Stmt → ⊥) → IsNoStatement classes s
 no_statement classes (grammar_symbol.Tok t) x e apart = tt

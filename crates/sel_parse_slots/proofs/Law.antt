@@ -21,6 +21,7 @@ use Rattle.md_reader.specs.Rows.{shape_fits}
 use Rattle.md_reader.specs.State.{Content}
 use Rattle.md_reader.specs.Valid.{IsRule}
 use Rattle.lr_tables.specs.Statements.{stmt_of}
+use Rattle.lr_tables.proofs.Validity.{rule_at}
 use Rattle.lr_check_parse.specs.Moves.{Move, Ending, Accepts, Blocks, Loops, Refuses, Parses}
 use Rattle.lr_check_parse.specs.Moves as parse
 use Rattle.lr_check_parse.specs.Attributes.{by_attributes}
@@ -34,7 +35,7 @@ use Rattle.sel_target.specs.Instances.{hole}
 use Rattle.sel_target.specs.Laws.{IsLawful}
 use Rattle.sel_parse_moves.specs.Claims.{root}
 use Rattle.sel_parse_moves.proofs.Covering.{AreLeaves, known}
-use Rattle.sel_parse_moves.proofs.Moves.{leaves_of, rule_at}
+use Rattle.sel_parse_moves.proofs.Moves.{leaves_of}
 use Rattle.sel_parse_selected.specs.Entries.{Entry, attrs}
 use Rattle.sel_parse_selected.specs.Desk.{Stack, Desk, desk_of, Outcome, Full, Stuck, Done}
 use Rattle.sel_parse_selected.specs.Reductions.{first_hole, reduced}

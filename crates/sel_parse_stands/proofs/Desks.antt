@@ -41,13 +41,13 @@ use Rattle.sel_parse_stands.proofs.Saving.{lowest_found, entry_saved, slot_holds
 
 -- ---- elements that pass
 
-done_same : {X : Type 0} (x y : X) → Done x ≡ Done y → x ≡ y
+pub done_same : {X : Type 0} (x y : X) → Done x ≡ Done y → x ≡ y
 done_same x y e = cc
 
-full_done : {X : Type 0} (x : X) → Full ≡ Done x → ⊥
+pub full_done : {X : Type 0} (x : X) → Full ≡ Done x → ⊥
 full_done x e = cc
 
-stuck_done : {X : Type 0} (x : X) → Stuck ≡ Done x → ⊥
+pub stuck_done : {X : Type 0} (x : X) → Stuck ≡ Done x → ⊥
 stuck_done x e = cc
 
 module _ {X : Type 0} (passes : X → Bool) where
@@ -87,7 +87,7 @@ module _ {X : Type 0} (passes : X → Bool) where
 
 -- ---- one element is put
 
-set_other : {X : Type 0} (xs : List X) (i j : ℕ) (y : X) → (i ≡ j → ⊥) → slice_get (slice_set xs i y) j ≡ slice_get xs j
+pub set_other : {X : Type 0} (xs : List X) (i j : ℕ) (y : X) → (i ≡ j → ⊥) → slice_get (slice_set xs i y) j ≡ slice_get xs j
 set_other [] i j y apart = refl
 set_other (x ∷ xs) zero zero y apart = absurd (apart refl)
 set_other (x ∷ xs) zero (suc j) y apart = refl

@@ -4,9 +4,9 @@ use Rattle.std.specs.Prelude.{IsSome, option_and_then, unwrap_or, slice_index_or
 use Rattle.std.specs.List.{AllByRecursion as All}
 use Rattle.std.proofs.lemmas.Bool.{eqb-true}
 use Rattle.std.proofs.lemmas.Option.{none-some, same_Some}
-use Rattle.gg_base.specs.declared.size.Size.{Size}
-use Rattle.gg_base.specs.declared.size.Size.TheVariants.{Byte, Word, Long}
+use Rattle.gg_base.specs.declared.size.Size.TheVariants.{Long}
 use Rattle.gg_base.specs.Sizes.{bytes_of}
+use Rattle.gg_base.proofs.Words.{low_long}
 use Rattle.tree_core.specs.declared.program.TreeProgram.{TreeProgram}
 use Rattle.tree_core.specs.Valid.{IsValid}
 use Rattle.tree_core.specs.Area.{fetched}
@@ -34,16 +34,6 @@ use Rattle.sel_parse_stands.specs.Stands.{SymbolIs, Sees, IsFrame, Holds}
 use Rattle.sel_parse_stands.proofs.Loaded.{AllLoaded}
 use Rattle.sel_parse_stands.proofs.Carrying.{AllCarried, carried_at}
 use Rattle.sel_parse_stands.proofs.Symbols.{symbol_reads, symbol_small, symbol_fits, symbol_spells, symbol_whole, symbol_homes}
-
-size_small : (z : Size) (n : ℕ) → n < 2 ^ (8 * bytes_of z) → n % 2 ^ 32 ≡ n
-size_small Byte n lt = omega (arith, lt)
-size_small Word n lt = omega (arith, lt)
-size_small Long n lt = omega (arith, lt)
-
-pub is_long : (z : Size) (x : ℕ) → x < 2 ^ (8 * bytes_of z) → x < 2 ^ 32
-is_long Byte x lt = omega (arith, lt)
-is_long Word x lt = omega (arith, lt)
-is_long Long x lt = lt
 
 pub size_suc : (d : Content) (right : List Sym) (j : ℕ) → size_at d.classes right (suc j) ≡ size_of_some d.classes (slice_get right j)
 size_suc d right j = by (suc j == 0) refl where
@@ -132,7 +122,7 @@ module _ {O I S F : Type 0} (of : Meaning O I S F) (law : IsLawful of) (q : Tree
   stands_by es right vs (suc j) n holds e =
       let is = stands_at es right vs j n (slice_get (hs_of es) j) refl holds e in
       ap (λ o. unwrap_or o 0 % 2 ^ 32) is
-      ∙ size_small (size_of_some d.classes (slice_get right j)) n (symbol_at_small es right vs j n (slice_get (hs_of es) j) refl holds is)
+      ∙ low_long (size_of_some d.classes (slice_get right j)) n (symbol_at_small es right vs j n (slice_get (hs_of es) j) refl holds is)
 
   -- the state of terms of the view stands for the senses
   pub stands_for : (es : List (Entry O)) (right : List Sym) (vs : List Sense) → Hold es right vs → StandsFor q.objects s vs (term_state (view es right))

@@ -1,11 +1,11 @@
 -- What code leaves that writes no spot that an entry touches.
 use Rattle.std.proofs.Common.{◌≡◌, ℕ, ◌<◌, ◌==◌, List, [], ◌∷◌, ◌++◌, Option, Bool, true, false, refl, ap, ◌∙◌, arith}
-use Rattle.std.specs.Prelude.{◌||◌}
 use Rattle.std.specs.List.{AllByRecursion as All}
 use Rattle.std.specs.Int.{bit_at}
 use Rattle.std.proofs.lemmas.Nat.Bits.{bit_at-zero}
 use Rattle.std.proofs.lemmas.Bool.{eqb-true}
 use Rattle.gg_base.specs.declared.size.Size.TheVariants.{Long}
+use Rattle.gg_base.proofs.Facts.{first_false, second_false}
 use Rattle.tree_core.specs.declared.program.TreeProgram.{TreeProgram}
 use Rattle.tree_meaning.specs.State.{State}
 use Rattle.tree_meaning.specs.Values.{Sight}
@@ -28,14 +28,6 @@ use Rattle.sel_parse_selected.specs.Desk.{held}
 use Rattle.sel_parse_stands.specs.Stands as stands
 use Rattle.sel_parse_stands.specs.Stands.{ClassIs, SymbolIs, Sees, IsFrame, Holds}
 use Rattle.sel_parse_stands.proofs.Carrying.{Untouched, AllUntouched, place_kept}
-
-or_left : (a b : Bool) → (a || b) ≡ false → a ≡ false
-or_left true b e = absurd (cc)
-or_left false b e = refl
-
-or_right : (a b : Bool) → (a || b) ≡ false → b ≡ false
-or_right true b e = absurd (cc)
-or_right false b e = e
 
 module _ {O I S F : Type 0} (of : Meaning O I S F) (law : IsLawful of) (q : TreeProgram) (d : Content) (first : ℕ) (f : Extent) (fs : List Extent) (t : State) (s : Sight) (m0 : S) where
   pub class_kept : (spots : List Spot) (m m' : S) (k : Option Kind) (a : Attr O) (v : Sense) → Keeps of spots m m' → Untouched of q d f t spots a → ClassIs of q d first f fs t s m0 m k a v
@@ -70,7 +62,7 @@ module _ {O I S F : Type 0} (of : Meaning O I S F) (law : IsLawful of) (q : Tree
   -- what no entry holds
   pub not_held : (x : Spot) (es : List (Entry O)) → held of es x ≡ false → AllUntouched of q d f t (x ∷ []) es
   not_held x [] e = tt
-  not_held x (y ∷ ys) e = ((or_left (attr_touches of y.attr x) (held of ys x) e, tt), not_held x ys (or_right (attr_touches of y.attr x) (held of ys x) e))
+  not_held x (y ∷ ys) e = ((first_false (attr_touches of y.attr x) (held of ys x) e, tt), not_held x ys (second_false (attr_touches of y.attr x) (held of ys x) e))
 
   pub avoided : (x : Spot) (es : List (Entry O)) → AllUntouched of q d f t (x ∷ []) es → Avoids of x (attrs es)
   avoided x [] h = tt

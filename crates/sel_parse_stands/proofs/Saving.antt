@@ -1,18 +1,20 @@
 -- An entry is saved in a word, and brought back.
-use Rattle.std.proofs.Common.{◌≡◌, ℕ, zero, suc, ◌+◌, ◌*◌, ◌%◌, ◌^◌, ◌<◌, ◌≤◌, ◌==◌, List, [], ◌∷◌, Option, Some, None, Bool, true, false, refl, sym, ap, ◌∙◌, subst, arith}
-use Rattle.std.specs.Prelude.{is_some, if◌then◌else◌}
+use Rattle.std.proofs.Common.{◌≡◌, ℕ, zero, suc, ◌+◌, ◌*◌, ◌^◌, ◌<◌, ◌≤◌, ◌==◌, List, [], ◌∷◌, Option, Some, None, Bool, true, false, refl, sym, ap, ◌∙◌, subst, arith}
+use Rattle.std.specs.Prelude.{if◌then◌else◌}
 use Rattle.std.specs.Int.{bit_at}
 use Rattle.std.proofs.lemmas.Nat.Bits.{bit_at-zero}
 use Rattle.std.proofs.lemmas.Bool.{eqb-true, both_ways}
 use Rattle.gg_base.specs.declared.size.Size.{Size}
 use Rattle.gg_base.specs.declared.size.Size.TheVariants.{Byte, Word, Long}
 use Rattle.gg_base.specs.Sizes.{bytes_of}
+use Rattle.gg_base.proofs.Words.{low_long}
 use Rattle.tree_core.specs.declared.token.Tok.{Tok}
 use Rattle.tree_core.specs.declared.token.Tok.TheVariants as tok
 use Rattle.tree_core.specs.declared.tree.Att.{Att}
 use Rattle.tree_core.specs.declared.tree.Att.TheVariants as att
 use Rattle.tree_core.specs.declared.tree.Leaf.{Leaf}
 use Rattle.tree_core.specs.declared.program.TreeProgram.{TreeProgram}
+use Rattle.tree_core.proofs.Windows.{some_of}
 use Rattle.tree_meaning.specs.declared.value.Meaning.TheVariants as meaning
 use Rattle.tree_meaning.specs.State.{State}
 use Rattle.tree_meaning.specs.declared.value.Meaning.{Meaning as Place}
@@ -88,11 +90,6 @@ saved_respects k x t lt = record { bytes = bytes; words = words; counts = counts
   alike (suc zero) = refl
   alike (suc (suc i)) = refl
 
-long_size : (z : Size) (x : ℕ) → x < 2 ^ (8 * bytes_of z) → x % 2 ^ 32 ≡ x
-long_size Byte x lt = omega (arith, lt)
-long_size Word x lt = omega (arith, lt)
-long_size Long x lt = omega (arith, lt)
-
 low_is : (z : Size) (x : ℕ) → x < 2 ^ (8 * bytes_of z) → low z x ≡ x
 low_is Byte x lt = omega (arith, lt)
 low_is Word x lt = omega (arith, lt)
@@ -106,7 +103,7 @@ saved_term : (k : Kind) (y : Shape) (x : ℕ) (t : State) → x < 2 ^ (8 * bytes
 saved_term k y x t lt narrow e =
     let same = shown_is_alike (saved_facts k) (λ i. true) t.area (term_state (saved_view x t)) (record { act = Value y; divisors = [] }) (record { act = Value (Symbol 1); divisors = [] })
     (saved_respects k x t lt) (λ i. refl) (narrow, tt) (tt, tt) (ap (λ (u : Shape). record { act = Value u; divisors = [] }) e) in
-    record { worth = same.act.worth ∙ long_size (size_of_saved k) x lt; reads = (same.act.safe true).1 refl }
+    record { worth = same.act.worth ∙ low_long (size_of_saved k) x lt; reads = (same.act.safe true).1 refl }
 
 module _ {O I S F : Type 0} (of : Meaning O I S F) (law : IsLawful of) (q : TreeProgram) (d : Content) (first : ℕ) (f : Extent) (fs : List Extent) (t : State) (s : Sight) (m0 : S)
     (frame : IsFrame of q d first f fs t s m0) where
@@ -266,10 +263,6 @@ lowest_found passes k (suc n) r e = by (λ e'. lowest_found passes (k + 1) n r e
   by ih true is e' = let same : k ≡ r = cc in record { is = subst (λ x. passes x ≡ true) same is; from = omega arith; below = omega arith }
   by ih false is e' = let rest = ih e' in record { is = rest.is; from = omega (arith, rest.from); below = omega (arith, rest.below) }
 
-found_some : {X : Type 0} (o : Option X) → is_some o ≡ true → (x : X) × (o ≡ Some x)
-found_some None e = absurd (cc)
-found_some (Some x) e = (x, refl)
-
 module _ {O I S F : Type 0} (of : Meaning O I S F) (law : IsLawful of) (q : TreeProgram) (d : Content) (first : ℕ) (f : Extent) (fs : List Extent) (t : State) (s : Sight) (m0 : S)
     (frame : IsFrame of q d first f fs t s m0) (lines : LinesSave of d) where
   bits_none : (o : O) (r : ℕ) → of.registers o ≡ 0 → touches of o (RegAt r) ≡ false
@@ -292,7 +285,7 @@ module _ {O I S F : Type 0} (of : Meaning O I S F) (law : IsLawful of) (q : Tree
   -- an entry that holds a register: one that it touches
   holding : (e : Entry O) → holds_register of e ≡ true → (r : ℕ) × (attr_touches of e.attr (RegAt r) ≡ true)
   holding e h =
-      let o = found_some (lowest (λ r. attr_touches of e.attr (RegAt r)) 0 12) h in
+      let o = some_of (lowest (λ r. attr_touches of e.attr (RegAt r)) 0 12) h in
       (o.0, (lowest_found (λ r. attr_touches of e.attr (RegAt r)) 0 12 o.0 o.1).is)
 
   pub slot_holds_none : (k : Option Kind) (w : ℕ) → w < 1024 → holds_register of (record { kind = k; attr = attr.InSlot w }) ≡ true → ⊥

@@ -3,7 +3,7 @@ use Rattle.std.proofs.Common.{◌≡◌, ℕ, zero, suc, ◌+◌, ◌<◌, ◌�
 use Rattle.std.specs.Prelude.{not, ◌&&◌, Ok}
 use Rattle.std.specs.Int.{bit_at}
 use Rattle.std.proofs.lemmas.Bool.{not-true, or_parts}
-use Rattle.gg_base.proofs.Facts.{second_true}
+use Rattle.gg_base.proofs.Facts.{second_true, all_append}
 use Rattle.tree_core.specs.declared.program.TreeProgram.{TreeProgram}
 use Rattle.md_reader.specs.declared.types.Kind.{Kind}
 use Rattle.md_reader.specs.declared.types.Kind.TheVariants as kind
@@ -28,7 +28,7 @@ use Rattle.sel_parse_selected.specs.Spills.{due}
 use Rattle.sel_parse_selected.specs.Reductions.{reloaded, finished, shaped, with_result, with_scratch, given_by, reduced}
 use Rattle.sel_parse_stands.specs.Lines.{LinesSave}
 use Rattle.sel_parse_stands.proofs.Loaded.{IsLoaded, AllLoaded}
-use Rattle.sel_parse_lines.proofs.Each.{all_append, Each, each_bind}
+use Rattle.sel_parse_lines.proofs.Each.{Each, each_bind}
 use Rattle.sel_parse_slots.proofs.Fine as fine
 use Rattle.sel_parse_slots.proofs.Fine.{IsFine}
 use Rattle.sel_parse_slots.proofs.Counting.{AllFine, Counted}

@@ -1,10 +1,10 @@
 -- The instructions that save entries and reload registers' symbols pass.
 use Rattle.std.proofs.Common.{◌≡◌, ℕ, zero, suc, ◌+◌, ◌-◌, ◌<◌, ◌≤◌, List, [], ◌∷◌, Option, Some, None, Bool, true, false, refl, sym, subst, arith, slice_get}
-use Rattle.std.specs.Prelude.{is_some}
 use Rattle.std.specs.List.{AllByRecursion as All}
-use Rattle.gg_base.proofs.Facts.{true_or_false}
+use Rattle.gg_base.proofs.Facts.{true_or_false, all_append}
 use Rattle.gg_base.specs.declared.size.Size.TheVariants.{Long}
 use Rattle.tree_core.specs.declared.program.TreeProgram.{TreeProgram}
+use Rattle.tree_core.proofs.Windows.{some_of}
 use Rattle.md_reader.specs.declared.types.Kind.{Kind}
 use Rattle.md_reader.specs.declared.types.Kind.TheVariants as kind
 use Rattle.md_reader.specs.declared.types.Sym.{Sym}
@@ -23,17 +23,13 @@ use Rattle.sel_parse_selected.specs.Spills.{Where, saving_line, holds_register, 
 use Rattle.sel_parse_selected.specs.Reductions.{reload_line, loaded, reloaded_by, reloaded_at, reloaded}
 use Rattle.sel_parse_stands.specs.Lines.{LinesSave}
 use Rattle.sel_parse_stands.proofs.Saving.{lowest_found}
-use Rattle.sel_parse_lines.proofs.Each.{all_append, Each, each_bind}
+use Rattle.sel_parse_lines.proofs.Each.{Each, each_bind}
 use Rattle.sel_parse_slots.proofs.Fine as fine
 use Rattle.sel_parse_slots.proofs.Fine.{words, charge, bits_none, IsFine, fine_spilled}
 use Rattle.sel_parse_slots.proofs.Counting as counting
 use Rattle.sel_parse_slots.proofs.Counting.{Good, fine_at, slot_kind, Counted, Goes, goes_of, IsDue, due_good, one_good}
 use Rattle.sel_parse_written.specs.Claims.{LinesPass}
 use Rattle.sel_parse_written.proofs.Classes.{KindIs, AllKinds, kind_there, kinds_set}
-
-found_some : {X : Type 0} (o : Option X) → is_some o ≡ true → (x : X) × (o ≡ Some x)
-found_some None e = absurd (cc)
-found_some (Some x) e = (x, refl)
 
 -- what holds of what is done, if there is room, and what holds in any case
 pub both : {X : Type 0} (top : ℕ) (o : Outcome X) (P Q : X → Type 0) → Good top o P → Each Q o → Each (λ (x : X). P x × Q x) o
@@ -50,7 +46,7 @@ module _ {O I S F : Type 0} (of : Meaning O I S F) (law : IsLawful of) (q : Tree
 
   slot_none : (k : Option Kind) (w : ℕ) → w < 1024 → holds_register of (record { kind = k; attr = attr.InSlot w }) ≡ true → ⊥
   slot_none k w low h =
-      let o = found_some (lowest (λ r. attr_touches of (attr.InSlot w) (RegAt r)) 0 12) h in
+      let o = some_of (lowest (λ r. attr_touches of (attr.InSlot w) (RegAt r)) 0 12) h in
       let r = lowest_found (λ r. attr_touches of (attr.InSlot w) (RegAt r)) 0 12 o.0 o.1 in
       true_or_false _ r.is (bits_none of law q d first (of.slot w) o.0 (law.spells.slot_bits w low))
 

@@ -23,7 +23,7 @@ byte_at [] n h = omega arith
 byte_at (b ∷ bs) zero h = h.0
 byte_at (b ∷ bs) (suc n) h = byte_at bs n h.1
 
-take_index : (n k : ℕ) (xs : List ℕ) → k < n → slice_index (take n xs) k ≡ slice_index xs k
+pub take_index : (n k : ℕ) (xs : List ℕ) → k < n → slice_index (take n xs) k ≡ slice_index xs k
 take_index zero k xs lt = absurd (omega (arith, lt))
 take_index (suc n) k [] lt = refl
 take_index (suc n) zero (x ∷ xs) lt = refl

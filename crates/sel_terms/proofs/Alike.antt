@@ -15,10 +15,10 @@ use Rattle.term_core.proofs.Alike.{term_same, term_itself}
 
 -- the parts of a conjunction
 
-number_is : (n : ℕ) → (n == n) ≡ true
+pub number_is : (n : ℕ) → (n == n) ≡ true
 number_is n = grind (arith, nat_tests)
 
-equal_sizes : (z y : Size) → same_size z y ≡ true → z ≡ y
+pub equal_sizes : (z y : Size) → same_size z y ≡ true → z ≡ y
 equal_sizes z y e = size_same z y (eqb-true (bytes_of z) (bytes_of y) e)
 
 act_same : (a b : ActShape) → same_act a b ≡ true → a ≡ b

@@ -44,7 +44,7 @@ more m n l [] h = tt
 more m n l (s ∷ ss) h =
     (record { part = omega (arith, l, h.0.part); divisors = more_divisors m n l s.divisors h.0.divisors }, more m n l ss h.1)
 
-joined : (n : ℕ) (xs ys : List Shape) → AreWithin n xs → AreWithin n ys → AreWithin n (xs ++ ys)
+pub joined : (n : ℕ) (xs ys : List Shape) → AreWithin n xs → AreWithin n ys → AreWithin n (xs ++ ys)
 joined n [] ys h k = k
 joined n (x ∷ xs) ys h k = (h.0, joined n xs ys h.1 k)
 

@@ -150,7 +150,7 @@ own_narrow two_role.RightShift t h = tt
 own_narrow two_role.Assign t h = tt
 own_narrow two_role.Branch t h = tt
 
-joined_narrow : (ds es : List Shape) → AllNarrow ds → AllNarrow es → AllNarrow (ds ++ es)
+pub joined_narrow : (ds es : List Shape) → AllNarrow ds → AllNarrow es → AllNarrow (ds ++ es)
 joined_narrow [] es h k = k
 joined_narrow (d ∷ ds) es h k = (h.0, joined_narrow ds es h.1 k)
 

@@ -69,7 +69,7 @@ no_statement objects s (Some (kind.Place sizes.Byte)) l f v e h = cc
 no_statement objects s (Some (kind.Place sizes.Word)) l f v e h = cc
 no_statement objects s (Some (kind.Place sizes.Long)) l f v e h = cc
 
-same_fits : (o : Option Sort) (x : Sort) → sort_fits o x ≡ true → trees.sort_fits o x ≡ true
+pub same_fits : (o : Option Sort) (x : Sort) → sort_fits o x ≡ true → trees.sort_fits o x ≡ true
 same_fits None x e = cc
 same_fits (Some y) x e = e
 

@@ -17,6 +17,7 @@ use Rattle.tree_core.specs.Grammar.{kids, sort_of, fits}
 use Rattle.tree_core.specs.Attributes.{attribute_of, is_of_kind}
 use Rattle.tree_core.specs.Trees.{sort_fits}
 use Rattle.gg_base.specs.LittleEndian.{number_in}
+use Rattle.gg_base.proofs.Facts.{and_false}
 use Rattle.tree_core.specs.Area.{is_inside, fetched}
 use Rattle.tree_meaning.specs.declared.value.Value.{Value}
 use Rattle.tree_meaning.specs.declared.value.Value.TheVariants.{Number, ZeroDivisor, Wild}
@@ -43,7 +44,7 @@ use Rattle.tree_meaning_tame.specs.Tame.{IsTame}
 use Rattle.sel_terms_trees.specs.Effects.{IsKnown}
 use Rattle.term_core_accesses.specs.Accesses.{divides_well, Safe}
 use Rattle.sel_terms_meaning.specs.Meaning.{AllSafe, divides_by_zero}
-use Rattle.sel_terms_trees.proofs.Worths.{and_right, ill_left, ill_right, none_joined, some_first, some_second, safe_joined, weak, all_weak, div_none, div_some, left_shift, right_shift}
+use Rattle.sel_terms_trees.proofs.Worths.{ill_left, ill_right, none_joined, some_first, some_second, safe_joined, weak, all_weak, div_none, div_some, left_shift, right_shift}
 
 module _ (objects : List Object) (s : Sight) (all : List Sense) (m : State) where
   -- a part has the number; nothing divides by zero, and all accesses lie in the area
@@ -319,8 +320,8 @@ module _ (objects : List Object) (s : Sight) (all : List Sense) (m : State) wher
       own_zero x y h k e =
           ap (λ (n : ℕ). divides_well m a && (divides_well m b && not (n == 0))) k.worth
           ∙ ap (λ (c : Bool). divides_well m a && (divides_well m b && not c)) e
-          ∙ ap (λ (c : Bool). divides_well m a && c) (and_right (divides_well m b))
-          ∙ and_right (divides_well m a)
+          ∙ ap (λ (c : Bool). divides_well m a && c) (and_false (divides_well m b))
+          ∙ and_false (divides_well m a)
 
       quotient_law : (x y : ℕ) → IsWorth p x → IsWorth q y → (o : Option ℕ) → div32 x y ≡ o → IsOf (two i two_role.Quotient p q) (quotient o)
       quotient_law x y h k None e = record {

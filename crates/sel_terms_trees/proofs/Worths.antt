@@ -1,27 +1,16 @@
 -- What the operators of terms make of the values of their parts.
 use Rattle.std.proofs.Common.{◌≡◌, ◌⊎◌, inl, inr, ℕ, ◌-◌, ◌*◌, ◌/◌, ◌%◌, ◌^◌, ◌<◌, ◌==◌, List, [], ◌∷◌, ◌++◌, Some, None, Bool, true, false, cond, refl, sym, ap, ◌∙◌, subst, arith}
 use Rattle.std.specs.Prelude.{nat_lt, ◌&&◌, ◌||◌, not}
-use Rattle.std.proofs.lemmas.Nat.{and_mask}
 use Rattle.std.proofs.lemmas.Bool.Decides.{nat_tests}
 use Rattle.std.proofs.lemmas.List.Folds.{list_any-append}
 use Rattle.gg_base.specs.Arithmetic.{and32, neg32, com32, zext8, div32, same_sign, magnitude, is_negative, ash32, shifted_left, shifted_right}
+use Rattle.gg_base.proofs.Facts.{or_true, and_false}
+use Rattle.gg_base.proofs.Words.{low_count}
 use Rattle.term_core.specs.declared.operator.BinaryOp.{BinaryOp}
 use Rattle.term_core.specs.Shape.{Shape, Constant, Symbol, LastResult, Memory as Fetch, Unary, Binary}
 use Rattle.term_core.specs.Value.{State, value}
 use Rattle.term_core_accesses.specs.Accesses.{divides_well, is_division, Safe}
 use Rattle.sel_terms_meaning.specs.Meaning.{AllSafe, divides_by_zero}
-
-pub and_right : (b : Bool) → (b && false) ≡ false
-and_right true = refl
-and_right false = refl
-
-pub or_right : (b : Bool) → (b || true) ≡ true
-or_right true = refl
-or_right false = refl
-
--- a count modulo 32
-low_count : (y : ℕ) → and32 y 31 ≡ y % 32
-low_count y = and_mask y 5
 
 count_small : (y : ℕ) → y % 32 < 32
 count_small y = omega arith
@@ -85,7 +74,7 @@ module _ (m : State) where
   ill_left op a b e = ap (λ (c : Bool). c && (divides_well m b && not (is_division op && (value m b == 0)))) e
 
   pub ill_right : (op : BinaryOp) (a b : Shape) → divides_well m b ≡ false → divides_well m (Binary op a b) ≡ false
-  ill_right op a b e = ap (λ (c : Bool). divides_well m a && (c && not (is_division op && (value m b == 0)))) e ∙ and_right (divides_well m a)
+  ill_right op a b e = ap (λ (c : Bool). divides_well m a && (c && not (is_division op && (value m b == 0)))) e ∙ and_false (divides_well m a)
 
   pub none_joined : (ds es : List Shape) → divides_by_zero m ds ≡ false → divides_by_zero m es ≡ false → divides_by_zero m (ds ++ es) ≡ false
   none_joined ds es e f = list_any-append (λ d. value m d == 0) ds es ∙ ap (λ (b : Bool). b || divides_by_zero m es) e ∙ f
@@ -94,7 +83,7 @@ module _ (m : State) where
   some_first ds es e = list_any-append (λ d. value m d == 0) ds es ∙ ap (λ (b : Bool). b || divides_by_zero m es) e
 
   pub some_second : (ds es : List Shape) → divides_by_zero m es ≡ true → divides_by_zero m (ds ++ es) ≡ true
-  some_second ds es e = list_any-append (λ d. value m d == 0) ds es ∙ ap (λ (b : Bool). divides_by_zero m ds || b) e ∙ or_right (divides_by_zero m ds)
+  some_second ds es e = list_any-append (λ d. value m d == 0) ds es ∙ ap (λ (b : Bool). divides_by_zero m ds || b) e ∙ or_true (divides_by_zero m ds)
 
   module _ (every : Bool) (known : ℕ → Type 0) (area : List ℕ) where
     pub safe_joined : (ds es : List Shape) → AllSafe every known area m ds → AllSafe every known area m es → AllSafe every known area m (ds ++ es)

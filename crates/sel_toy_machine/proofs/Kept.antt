@@ -3,6 +3,7 @@ use Rattle.std.proofs.Common.{◌≡◌, ℕ, ◌*◌, ◌^◌, ◌<◌, ◌==�
 use Rattle.std.specs.Prelude.{cond}
 use Rattle.std.specs.Int.{bit_at}
 use Rattle.std.proofs.lemmas.Bool.{eqb-true, false≢true}
+use Rattle.sel_terms.proofs.Alike.{number_is}
 use Rattle.gg_base.specs.declared.size.Size.{Size}
 use Rattle.gg_base.specs.declared.size.Size.TheVariants.{Long}
 use Rattle.gg_base.specs.Sizes.{bytes_of}
@@ -18,7 +19,7 @@ use Rattle.sel_toy_machine.specs.declared.operand.Operand.TheVariants.{Register,
 use Rattle.sel_toy_machine.specs.declared.operand.Instr.{Instr}
 use Rattle.sel_toy_machine.specs.Machine.{Machine, in_register, in_word, part, long, reads, names, bit_of, Stands, with_register, with_word}
 use Rattle.sel_toy_machine.specs.Running.{run}
-use Rattle.sel_toy_machine.proofs.Spelled.{same_number, own_register}
+use Rattle.sel_toy_machine.proofs.Spelled.{own_register}
 use Rattle.sel_toy_machine.proofs.Readings.{part_same}
 use Rattle.sel_toy_machine.specs.Toy.{toy}
 
@@ -124,7 +125,7 @@ pub sets_register : (q : TreeProgram) (code : List Instr) (r x : ℕ) (m : Machi
 sets_register q code r x m lt small e = record {
   state = with_register m r x;
   ran = e;
-  gets = ap (λ b. Some (part Long (cond b x (in_register m r)))) (same_number r) ∙ ap Some (part_same Long x small);
+  gets = ap (λ b. Some (part Long (cond b x (in_register m r)))) (number_is r) ∙ ap Some (part_same Long x small);
   keeps = register_kept m r x lt;
 }
 
@@ -134,7 +135,7 @@ pub sets_word : (q : TreeProgram) (code : List Instr) (size : Size) (w x : ℕ) 
 sets_word q code size w x m small e = record {
   state = with_word m w x;
   ran = e;
-  gets = ap (λ b. Some (part size (cond b x (in_word m w)))) (same_number w) ∙ ap Some (part_same size x small);
+  gets = ap (λ b. Some (part size (cond b x (in_word m w)))) (number_is w) ∙ ap Some (part_same size x small);
   keeps = word_kept m w x;
 }
 
@@ -142,7 +143,7 @@ pub sets_name : (code : List Instr) (w x : ℕ) (m : Machine) → x < 2 ^ 32 →
 sets_name code w x m small e = record {
   state = with_word m w x;
   ran = e;
-  gets = λ size. ap (λ b. Some (long (cond b x (in_word m w)))) (same_number w) ∙ ap Some (part_same Long x small);
+  gets = λ size. ap (λ b. Some (long (cond b x (in_word m w)))) (number_is w) ∙ ap Some (part_same Long x small);
   keeps = word_kept m w x;
 }
 

@@ -6,6 +6,7 @@ use Rattle.std.proofs.lemmas.Option.{none-some, same_Some}
 use Rattle.gg_base.specs.declared.size.Size.{Size}
 use Rattle.gg_base.specs.declared.size.Size.TheVariants.{Byte, Word as Halfword, Long}
 use Rattle.gg_base.specs.Sizes.{bytes_of}
+use Rattle.gg_base.proofs.Words.{low_long}
 use Rattle.tree_core.specs.declared.token.Tok.{Tok}
 use Rattle.tree_core.specs.declared.tree.Att.{Att}
 use Rattle.tree_core.specs.declared.tree.Att.TheVariants as att
@@ -49,11 +50,6 @@ same_size Long Long e = refl
 pub the : (o : Option ℕ) → IsSome o → (x : ℕ) × (o ≡ Some x)
 the None h = absurd (false≢true h)
 the (Some x) h = (x, refl)
-
-pub low_long : (size : Size) (x : ℕ) → x < 2 ^ (8 * bytes_of size) → x % 2 ^ 32 ≡ x
-low_long Byte x lt = omega (arith, lt)
-low_long Halfword x lt = omega (arith, lt)
-low_long Long x lt = omega (arith, lt)
 
 -- the view's number of a symbol is its value as a term
 pub symbol_value : (v : View) (i x : ℕ) (size : Size) → v.symbol i ≡ Some x → x < 2 ^ (8 * bytes_of size) → value v (Symbol i) ≡ x

@@ -1,12 +1,12 @@
 -- What the toy machine's operands spell: they are told apart, and touch what they spell.
-use Rattle.std.proofs.Common.{◌≡◌, ℕ, zero, suc, ◌^◌, ◌<◌, ◌==◌, List, [], ◌∷◌, Option, Some, None, Bool, true, false, refl, sym, ap, ◌∙◌, subst, arith, slice_get}
+use Rattle.std.proofs.Common.{◌≡◌, ℕ, zero, suc, ◌^◌, ◌<◌, ◌==◌, List, [], ◌∷◌, Option, Some, None, Bool, true, false, refl, sym, ap, ◌∙◌, subst, slice_get}
 use Rattle.std.specs.Prelude.{◌↔◌, ◌||◌, cond, unwrap_or}
 use Rattle.std.specs.List.{list_any}
 use Rattle.std.specs.Int.{bit_at}
-use Rattle.std.proofs.lemmas.Bool.Decides.{nat_tests}
 use Rattle.std.proofs.lemmas.Nat.Bits.{bit_at-zero, bit_at-pow_same}
 use Rattle.std.proofs.lemmas.Bool.{eqb-true, lt-ltb, false≢true}
 use Rattle.std.proofs.lemmas.Option.{none-some, same_Some}
+use Rattle.sel_terms.proofs.Alike.{number_is}
 use Rattle.tree_core.specs.declared.token.Tok.{Tok}
 use Rattle.tree_core.specs.declared.tree.Att.{Att}
 use Rattle.tree_core.specs.declared.tree.Att.TheVariants as att
@@ -26,9 +26,6 @@ use Rattle.sel_toy_machine.specs.Machine.{bit_of, same}
 use Rattle.sel_toy_machine.specs.Forms.{shape_of}
 use Rattle.sel_toy_machine.specs.Filling.{nought, token_operand, operand_of, some_operand, operand_at, based, shaped, operand_filled}
 use Rattle.sel_toy_machine.specs.Toy.{toy}
-
-pub same_number : (n : ℕ) → (n == n) ≡ true
-same_number n = grind (arith, nat_tests)
 
 alike : (a b : Operand) → same a b ≡ true → a ≡ b
 alike (Register i) (Register j) e = ap Register (eqb-true i j e)
@@ -69,12 +66,12 @@ alike (Number i) (Argument j) e = absurd (false≢true e)
 alike (Number i) (Number j) e = ap Number (eqb-true i j e)
 
 itself : (a : Operand) → same a a ≡ true
-itself (Register i) = same_number i
-itself (Based i) = same_number i
-itself (Word i) = same_number i
-itself (Deferred i) = same_number i
-itself (Argument i) = same_number i
-itself (Number i) = same_number i
+itself (Register i) = number_is i
+itself (Based i) = number_is i
+itself (Word i) = number_is i
+itself (Deferred i) = number_is i
+itself (Argument i) = number_is i
+itself (Number i) = number_is i
 
 pub same_is : (a b : Operand) → (same a b ≡ true) ↔ (a ≡ b)
 same_is a b = (alike a b, λ e. subst (λ o. same a o ≡ true) e (itself a))

@@ -18,7 +18,7 @@ use Rattle.term_core.specs.Equations.{Equation, is_commutative, constant, consta
 use Rattle.term_core.specs.Equations.{add_constants, zx8_of_zx8, zx8_of_sx8, zx16_of_zx16, zx16_of_sx16, sx8_of_sx8, sx8_of_zx8, sx16_of_sx16, sx16_of_zx16, zx8_of_byte}
 use Rattle.term_core.specs.Equations.{zx8_of_memory, zx16_of_word, zx16_of_memory, shift_by_constant, shift_by_zx8, shift_by_sx8, count_of_count, spelled_alike, Reaches, stays, by}
 use Rattle.term_core.specs.Equations.{chain, in_memory, in_unary, in_binary}
-use Rattle.term_core.proofs.Words
+use Rattle.gg_base.proofs.Words
 
 unary_small : (op : UnaryOp) (n : ℕ) → unary op n < 2 ^ 32
 unary_small Neg n = omega arith
@@ -41,7 +41,7 @@ binary_small Ash m n hm hn = Words.ash_small m n hn
 low_small : (n : ℕ) → n % 2 ^ 32 < 2 ^ 32
 low_small n = omega arith
 
-low_same : (n : ℕ) → n < 2 ^ 32 → n % 2 ^ 32 ≡ n
+pub low_same : (n : ℕ) → n < 2 ^ 32 → n % 2 ^ 32 ≡ n
 low_same n h = omega arith
 
 memory_small : (m : State) (size : Size) (a : ℕ) → memory_at m size a < 2 ^ 32

@@ -1,5 +1,5 @@
 -- The equations of terms drop no access and make none.
-use Rattle.std.proofs.Common.{◌≡◌, ◌↔◌, ℕ, ◌%◌, ◌<◌, ◌^◌, ◌==◌, List, Bool, true, false, refl, sym, ap, ◌∙◌, subst, arith}
+use Rattle.std.proofs.Common.{◌≡◌, ◌↔◌, ℕ, ◌%◌, ◌<◌, ◌^◌, ◌==◌, List, Bool, true, false, refl, sym, ap, ◌∙◌, subst}
 use Rattle.std.specs.Prelude.{◌&&◌, ◌||◌, not}
 use Rattle.gg_base.specs.declared.size.Size.{Size}
 use Rattle.term_core.specs.declared.facts.Fact.{Fact}
@@ -17,8 +17,9 @@ use Rattle.term_core.specs.Equations.{mul_one, and_ones, add_constants, zx8_of_z
 use Rattle.term_core.specs.Equations.{zx8_of_byte, zx8_of_memory, zx16_of_word, zx16_of_memory, shift_by_constant, shift_by_zx8, shift_by_sx8, count_of_count, spelled_alike}
 use Rattle.term_core.specs.Equations.{Reaches, stays, by, chain, in_memory, in_unary, in_binary}
 use Rattle.term_core.proofs.Values
-use Rattle.term_core.proofs.Words
+use Rattle.gg_base.proofs.Words
 use Rattle.term_core.proofs.Reaching.{norm_reached}
+use Rattle.term_core.proofs.Values.{low_same}
 use Rattle.term_core_accesses.specs.Accesses.{Access, is_division, divides_well, accesses, IsOneOf, Knows}
 use Rattle.term_core_accesses.specs.Keeping.{IsNarrow, NormKeepsAccesses}
 use Rattle.term_core_accesses.proofs.Accesses.{in_front, in_back, by_part, own}
@@ -32,9 +33,6 @@ and_turned true true = refl
 and_turned true false = refl
 and_turned false true = refl
 and_turned false false = refl
-
-low_same : (n : ℕ) → n < 2 ^ 32 → n % 2 ^ 32 ≡ n
-low_same n h = omega arith
 
 module _ (facts : List Fact) (every : Bool) (known : ℕ → Type 0) (m : State) (respects : Respects facts m) (alike : (i : ℕ) → known (same_as facts i) ↔ known i) where
   -- the second term makes the accesses of the first, and no others

@@ -65,7 +65,7 @@ four_is n a =
     let h = four_by n a _ _ _ _ (times n (four a)) (which n a _ _ _ _ (once a n) (once (a + 1) n) (once (a + 2) n) (once (a + 3) n)) refl in
     record { few = h.0; within = h.1; counts = h.2 }
 
-times-append : (n : ℕ) (xs ys : List ℕ) → times n (xs ++ ys) ≡ times n xs + times n ys
+pub times-append : (n : ℕ) (xs ys : List ℕ) → times n (xs ++ ys) ≡ times n xs + times n ys
 times-append n [] ys = omega arith
 times-append n (x ∷ xs) ys = let h = times-append n xs ys in omega (arith, h)
 

@@ -13,7 +13,7 @@ use Rattle.tree_core.specs.Attributes.{attribute_of, is_of_kind, end_leaf, is_en
 use Rattle.tree_core.specs.Trees.{Forest, none, tree, leaves_onto, stands_for, sort_fits, Typed, IsTyped, walk}
 use Rattle.tree_core.specs.Wanted.{IsLast, CanPush}
 
-both_true : (b c : Bool) → cond b c false ≡ true → (b ≡ true) × (c ≡ true)
+pub both_true : (b c : Bool) → cond b c false ≡ true → (b ≡ true) × (c ≡ true)
 both_true true c e = (refl, e)
 both_true false c e = absurd cc
 

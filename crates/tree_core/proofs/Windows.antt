@@ -155,11 +155,11 @@ least_some from k best (m ∷ ms) e = here (least_some from k (better from best 
 covered : (base n : ℕ) → base ≤ n → n < base + 4096 → covers base n ≡ true
 covered base n le lt = rw (le-leb base n le, lt-ltb n (base + 4096) lt) refl
 
-some_of : {A : Type 0} (o : Option A) → is_some o ≡ true → (x : A) × (o ≡ Some x)
+pub some_of : {A : Type 0} (o : Option A) → is_some o ≡ true → (x : A) × (o ≡ Some x)
 some_of None e = absurd cc
 some_of (Some x) e = (x, refl)
 
-none_of : {A : Type 0} (o : Option A) → is_some o ≡ false → o ≡ None
+pub none_of : {A : Type 0} (o : Option A) → is_some o ≡ false → o ≡ None
 none_of None e = refl
 none_of (Some x) e = absurd cc
 

@@ -1,9 +1,9 @@
 -- A run of trees has one end.
-use Rattle.std.proofs.Common.{◌≡◌, inl, inr, ℕ, zero, suc, ◌≤◌, List, ◌∷◌, Option, Some, None, refl, ap, arith}
+use Rattle.std.proofs.Common.{◌≡◌, inl, inr, ℕ, zero, suc, ◌≤◌, List, Option, Some, None, refl, ap, arith}
 use Rattle.gg_base.specs.declared.run.End.TheVariants as ends
 use Rattle.gg_base.specs.Runs.{OneEnd, Outcome, byte_first, one_first}
 use Rattle.gg_base.specs.Follows.{IsBroken, NeverBroken}
-use Rattle.gg_base.proofs.Lasting.{one_end_of}
+use Rattle.gg_base.proofs.Lasting.{one_end_of, emits_grow}
 use Rattle.gg_base.specs.Lasting.{Grows, Lasts}
 use Rattle.tree_core.specs.declared.program.TreeProgram.{TreeProgram}
 use Rattle.tree_core.specs.Trees.{grown}
@@ -29,10 +29,6 @@ not_spent finish.Trapped h = cc
 not_spent finish.Wild h = cc
 not_spent finish.Deep h = cc
 
-grows_emit : (n b : ℕ) (o p : Outcome) → Grows n o p → Grows n (byte_first b o) (byte_first b p)
-grows_emit n b o p (inl e) = inl (ap (byte_first b) e)
-grows_emit n b o p (inr h) = inr (h.0, (h.1.0, ap (λ (l : List ℕ). b ∷ l) h.1.1), h.2)
-
 module _ (p : TreeProgram) where
   bounded : (n : ℕ) (x : Next) → (run p n x).number ≤ n
   bounded n (over e) = omega arith
@@ -51,7 +47,7 @@ module _ (p : TreeProgram) where
   grows : (n : ℕ) (x : Next) → Grows n (run p n x) (run p (suc n) x)
   grows n (over e) = inl refl
   grows zero (tree_at w s) = inr (refl, ((run p 1 (tree_at w s)).output, refl), (let h = bounded 1 (tree_at w s) in omega (arith, h)))
-  grows (suc n) (tree_at w s) = counts_grow n _ _ (carried_kept (Grows n) (grows_emit n) (run p n) (run p (suc n)) (grows n) (tree_step p s (grown w)))
+  grows (suc n) (tree_at w s) = counts_grow n _ _ (carried_kept (Grows n) (emits_grow n) (run p n) (run p (suc n)) (grows n) (tree_step p s (grown w)))
 
   runs_last : (x : Next) (k : ℕ) → Lasts k (runs p x)
   runs_last x k = record { bound = λ n lt. bounded n x; all_spent = λ n lt e. all_spent n x e; grows = λ n lt. grows n x }

@@ -3,6 +3,7 @@ use Rattle.std.proofs.Common.{◌≡◌, ◌⊎◌, inl, inr, ℕ, suc, ◌-◌,
 use Rattle.gg_base.specs.declared.size.Size.{Size}
 use Rattle.gg_base.specs.declared.size.Size.TheVariants as sizes
 use Rattle.gg_base.specs.Arithmetic.{div32}
+use Rattle.gg_base.proofs.Facts.{first_false, second_false}
 use Rattle.tree_core.specs.declared.token.Tok.{Tok}
 use Rattle.tree_core.specs.declared.token.Tok.TheVariants as tok
 use Rattle.tree_core.specs.declared.token.Sort.{Sort}
@@ -24,7 +25,7 @@ use Rattle.tree_meaning.specs.Values.{Sight, there, read, kid, bind, at, token_m
 use Rattle.tree_meaning.specs.Deeds.{Deed, Puts, Branches, Pushes, Returns, Calls, Saves, Jumps, Traps, Strays, given, assigned, branched, deed_of}
 use Rattle.tree_meaning_tame.specs.Tame.{tree_means}
 use Rattle.tree_meaning_tame.specs.Tame.{IsTame, Tame, IsThere, AllThere}
-use Rattle.std.specs.Prelude.{◌||◌, ◌&&◌}
+use Rattle.std.specs.Prelude.{◌&&◌}
 use Rattle.std.specs.List.{list_any}
 use Rattle.tree_core.specs.Calm.{divides, reads_memory, ReadsNothing, CalmBefore}
 use Rattle.tree_meaning_tame.proofs.Strict.{NoStmt, kids_no_stmt}
@@ -61,19 +62,11 @@ first_well Well = refl
 first_well Zero = refl
 first_well Astray = refl
 
-or_first : (b c : Bool) → (b || c) ≡ false → b ≡ false
-or_first true c e = cc
-or_first false c e = refl
-
-or_second : (b c : Bool) → (b || c) ≡ false → c ≡ false
-or_second true c e = cc
-or_second false c e = e
-
 -- no memory is read among leaves behind
 reads_behind : (f : Forest) (w : List Leaf) → ReadsNothing (leaves_onto f w) → ReadsNothing w
 reads_behind none w h = h
 reads_behind (tree l below behind) w h =
-    reads_behind behind w (reads_behind below (leaves_onto behind w) (or_second (reads_memory l.tok) (list_any (λ k. reads_memory k.tok) (leaves_onto below (leaves_onto behind w))) h))
+    reads_behind behind w (reads_behind below (leaves_onto behind w) (second_false (reads_memory l.tok) (list_any (λ k. reads_memory k.tok) (leaves_onto below (leaves_onto behind w))) h))
 
 module _ (objects : List Object) (s : Sight) where
   abbrev pub fate_at : Sort → Option Meaning → Fate
@@ -536,8 +529,8 @@ module _ (objects : List Object) (s : Sight) where
   quiet [] f w typed h r = tt
   quiet (x ∷ xs) none w typed h r = tt
   quiet (x ∷ xs) (tree l below behind) w typed h r =
-      let here = or_first (reads_memory l.tok) (list_any (λ k. reads_memory k.tok) (leaves_onto below (leaves_onto behind w))) r in
-      let inner = or_second (reads_memory l.tok) (list_any (λ k. reads_memory k.tok) (leaves_onto below (leaves_onto behind w))) r in
+      let here = first_false (reads_memory l.tok) (list_any (λ k. reads_memory k.tok) (leaves_onto below (leaves_onto behind w))) r in
+      let inner = second_false (reads_memory l.tok) (list_any (λ k. reads_memory k.tok) (leaves_onto below (leaves_onto behind w))) r in
       let low = quiet (kids l.tok) below (leaves_onto behind w) typed.1 h.1 inner in
       let sorts = guarded (sort_fits (sort_of l.tok) x) (leaf_fits l) typed.0 in (
         token_quiet l.tok l.att (meanings objects s below) x sorts.0 here h.0 (kids_tame (kids l.tok) below typed.1 low),

@@ -24,13 +24,13 @@ named : (o : Option Reg) → IsSetOf (named_bits o) (is_named o)
 named None n = bit_at-zero n
 named (Some r) n = by_number (reg_number r) n (eqb (reg_number r) n) refl
 
-max_bits : (x y : Bool) → max (bit x) (bit y) ≡ bit (x || y)
+pub max_bits : (x y : Bool) → max (bit x) (bit y) ≡ bit (x || y)
 max_bits true true = refl
 max_bits true false = refl
 max_bits false true = refl
 max_bits false false = refl
 
-either : (a b : ℕ) (f g : ℕ → Bool) → IsSetOf a f → IsSetOf b g → IsSetOf (bit_or a b) (λ n. f n || g n)
+pub either : (a b : ℕ) (f g : ℕ → Bool) → IsSetOf a f → IsSetOf b g → IsSetOf (bit_or a b) (λ n. f n || g n)
 either a b f g h k n = bit_at_or a b n ∙ ap (λ (x : ℕ). max x (bit_at b n)) (h n) ∙ ap (λ (x : ℕ). max (bit (f n)) x) (k n) ∙ max_bits (f n) (g n)
 
 pub operand_named : (o : Operand) → IsSetOf (operand_bits o) (operand_names o)
@@ -39,7 +39,7 @@ operand_named o = either (named_bits (base_register o.base)) (named_bits o.index
 shift : (x y z : Bool) → (x || (y || z)) ≡ (x || y || z)
 shift x y z = sym (or_assoc x y z)
 
-or_false : (x : Bool) → (x || false) ≡ x
+pub or_false : (x : Bool) → (x || false) ≡ x
 or_false true = refl
 or_false false = refl
 

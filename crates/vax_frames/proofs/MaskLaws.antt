@@ -1,33 +1,21 @@
 -- The bits of a mask are the registers that a body names.
-use Rattle.std.proofs.Common.{◌≡◌, ℕ, zero, suc, ◌+◌, ◌^◌, ◌<◌, ◌≤◌, Bool, true, false, min, max, bit_and, bit_or, ltb, leb, ◌&&◌, ◌||◌, List, [], ◌∷◌, ◌++◌, refl, sym, ap, ◌∙◌, arith}
+use Rattle.std.proofs.Common.{◌≡◌, ℕ, zero, suc, ◌+◌, ◌^◌, ◌<◌, ◌≤◌, Bool, true, false, min, bit_and, bit_or, ltb, leb, ◌&&◌, ◌||◌, List, [], ◌∷◌, ◌++◌, refl, sym, ap, ◌∙◌, arith}
 use Rattle.std.proofs.Math.Bool.{or_assoc}
 use Rattle.std.proofs.Math.Dec.{lit<}
 use Rattle.std.proofs.lemmas.Bool.{le-ltb, and_right}
-use Rattle.std.proofs.lemmas.Nat.Bits.{bit_at-zero, bit_at_or, bit_at_and, bit_at_above}
+use Rattle.std.proofs.lemmas.Nat.Bits.{bit_at-zero, bit_at_and, bit_at_above}
 use Rattle.std.proofs.lemmas.Nat.{and_le_r}
 use Rattle.std.specs.Int.{bit_at}
 use Rattle.vax_core.specs.declared.code.CodeItem.{CodeItem}
 use Rattle.vax_core.specs.Registers.{bit, IsSetOf}
+use Rattle.vax_core.proofs.RegisterLaws.{either, or_false}
 use Rattle.vax_frames.specs.Frames.{item_names, body_names, is_kept, IsMaskOf}
-
-max_bits : (x y : Bool) → max (bit x) (bit y) ≡ bit (x || y)
-max_bits true true = refl
-max_bits true false = refl
-max_bits false true = refl
-max_bits false false = refl
 
 min_bits : (x y : Bool) → min (bit x) (bit y) ≡ bit (y && x)
 min_bits true true = refl
 min_bits true false = refl
 min_bits false true = refl
 min_bits false false = refl
-
-either : (a b : ℕ) (f g : ℕ → Bool) → IsSetOf a f → IsSetOf b g → IsSetOf (bit_or a b) (λ n. f n || g n)
-either a b f g h k n = bit_at_or a b n ∙ ap (λ (x : ℕ). max x (bit_at b n)) (h n) ∙ ap (λ (x : ℕ). max (bit (f n)) x) (k n) ∙ max_bits (f n) (g n)
-
-or_false : (x : Bool) → (x || false) ≡ x
-or_false true = refl
-or_false false = refl
 
 one_more : (xs : List CodeItem) (x : CodeItem) (n : ℕ) → body_names (xs ++ x ∷ []) n ≡ (body_names xs n || item_names x n)
 one_more [] x n = or_false (item_names x n)

@@ -74,7 +74,7 @@ splits (item_kind.Label l ∷ body) name e = by (bytes_eq l name) refl e (λ f. 
 
 -- ---- a frame
 
-four : (r p l e post : List CodeItem) → (r ++ ((p ++ l) ++ e)) ++ post ≡ (r ++ p) ++ ((l ++ e) ++ post)
+pub four : (r p l e post : List CodeItem) → (r ++ ((p ++ l) ++ e)) ++ post ≡ (r ++ p) ++ ((l ++ e) ++ post)
 four r p l e post =
     append_assoc r ((p ++ l) ++ e) post
     ∙ ap (λ (x : List CodeItem). r ++ (x ++ post)) (append_assoc p l e)

@@ -36,6 +36,7 @@ use Rattle.vax_machine_lists.proofs.Placed.{Where, there, where_of, ending_there
 use Rattle.vax_machine_lists.proofs.Joining.{OneStep, one_performed}
 use Rattle.vax_machine.specs.Loading.{blank}
 use Rattle.vax_machine.specs.Labels.{main_name}
+use Rattle.vax_machine.proofs.Room.{same_state, no_state}
 use Rattle.vax_frames_law.specs.Guarding.{has, may_pass, IsGuarded, IsIntact, AreIntact, outermost, inner, KeepsRegisters, StepsKeep, ReturnsRestore, CallsSave, RunsBeginIntact}
 use Rattle.vax_machine_lists.specs.Kept.{Same, KeptAt}
 use Rattle.vax_machine_lists.proofs.Registers.{same, trans, register_kept, frames_kept}
@@ -51,12 +52,6 @@ intact_moved code mask_at frames place to old new (inner outer all f place' back
     inner outer frames f to back new eq is (record { mask = there ∙ h.mask; kept = λ r low high e. same r low high (ap (λ (k : ℕ). has k r) h.mask ∙ e) ∙ h.kept r low high e }) others
 
 -- ---- what a call makes
-
-some_state : (m n : State) → ◌≡◌ {A = Result State Stop} (Ok m) (Ok n) → m ≡ n
-some_state m n e = cc
-
-no_state : (e : Stop) (n : State) → ◌≡◌ {A = Result State Stop} (Err e) (Ok n) → ⊥
-no_state e n h = cc
 
 pub record Makes (k n : State) (back : Option ℕ) : Type 0 where
   pub mask : ℕ
@@ -164,7 +159,7 @@ entered_makes k m n ap_at top mask entry back h there done = by (nat_le 4096 (le
 
     by : (b : Bool) → cond b (Err stack_full) (Ok made) ≡ Ok n → Makes k n back
     by true e = absurd (no_state stack_full n e)
-    by false e = makes n (some_state made n e)
+    by false e = makes n (same_state made n e)
 
 room_makes : (k : State) (t : Result State Stop) (n : State) (ap_at top mask entry : ℕ) (back : Option ℕ) → AllAfter k t → slice_get k.items entry ≡ Some (item_kind.Mask mask)
     → (t >>= λ (x : State). entered x ap_at top mask (entry + 1) back) ≡ Ok n → Makes k n back

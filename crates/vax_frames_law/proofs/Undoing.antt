@@ -15,6 +15,7 @@ use Rattle.vax_machine.specs.State.{State, reg, with_reg, cleared, frame, bad_co
 use Rattle.vax_machine.specs.Memory.{touched, read, written, register_set, with_number_at}
 use Rattle.vax_machine.specs.Labels.{next_item}
 use Rattle.vax_machine.specs.Calls.{Acts, pushed, reserved, all_reserved, entry_mask, entered, framed, called, back_to, left, returned}
+use Rattle.vax_machine.proofs.Room.{same_state, no_state}
 use Rattle.vax_frames_law.specs.Undoing.{Notes, CallsNote, IsUndone, ReturnsUndo}
 use Rattle.vax_frames_law.proofs.Returning.{innermost_of}
 
@@ -110,12 +111,6 @@ pushed_to m v size = by (nat_lt (sub32 (reg m Sp) 4) 2139095040)
 
 -- ---- a call
 
-some_state : (m n : State) → ◌≡◌ {A = Result State Stop} (Ok m) (Ok n) → m ≡ n
-some_state m n e = cc
-
-no_state : (e : Stop) (n : State) → ◌≡◌ {A = Result State Stop} (Err e) (Ok n) → ⊥
-no_state e n h = cc
-
 entered_notes : (m k n : State) (at top mask behind : ℕ) (back : Option ℕ) → Lowered m k → length m.registers ≡ 15 → at ≡ sub32 (reg m Sp) 4 → entered k at top mask behind back ≡ Ok n → Notes m n back
 entered_notes m k n at top mask behind back low size is done = by (nat_le 4096 (length k.frames)) done
   where
@@ -144,7 +139,7 @@ entered_notes m k n at top mask behind back low size is done = by (nat_le 4096 (
 
     by : (b : Bool) → cond b (Err stack_full) (Ok made) ≡ Ok n → Notes m n back
     by true e = absurd (no_state stack_full n e)
-    by false e = notes n (some_state made n e)
+    by false e = notes n (same_state made n e)
 
 room_notes : (m : State) (t : Result State Stop) (n : State) (at top mask behind : ℕ) (back : Option ℕ) → After m t → length m.registers ≡ 15 → at ≡ sub32 (reg m Sp) 4
     → (t >>= λ (x : State). entered x at top mask behind back) ≡ Ok n → Notes m n back

@@ -1,9 +1,9 @@
 -- A run of a code has one end, and a machine that was made of the code runs so.
 use Rattle.std.proofs.Common.{◌≡◌, ℕ, zero, suc, ◌≤◌, List, [], ◌∷◌, inl, inr, refl, ap, arith, Option, Some, None, sym, ◌∙◌}
 use Rattle.gg_base.specs.declared.run.End.TheVariants.{Spent}
-use Rattle.gg_base.specs.Runs.{Outcome, byte_first, one_first, OneEnd}
+use Rattle.gg_base.specs.Runs.{one_first, OneEnd}
 use Rattle.gg_base.specs.Lasting.{Grows, Lasts}
-use Rattle.gg_base.proofs.Lasting.{one_end_of}
+use Rattle.gg_base.proofs.Lasting.{one_end_of, emits_grow, counts_grow}
 use Rattle.vax_core.specs.declared.code.Code.{Code}
 use Rattle.vax_machine.specs.declared.turn.Stop.{Stop}
 use Rattle.vax_machine.specs.declared.turn.Stop.TheVariants as stops
@@ -35,14 +35,6 @@ spent_counts_all : (n : ℕ) (m : State) → (steps n m).end ≡ Spent → (step
 spent_counts_all zero m h = refl
 spent_counts_all (suc n) m h = spent_behind n (step_of m) (spent_counts_all n) h
 
-one_grows : (n : ℕ) (a b : Outcome) → Grows n a b → Grows (suc n) (one_first a) (one_first b)
-one_grows n a b (inl e) = inl (ap one_first e)
-one_grows n a b (inr h) = inr (h.0, h.1, ap suc h.2)
-
-byte_grows : (n c : ℕ) (a b : Outcome) → Grows n a b → Grows n (byte_first c a) (byte_first c b)
-byte_grows n c a b (inl e) = inl (ap (byte_first c) e)
-byte_grows n c a b (inr h) = inr (h.0, (h.1.0, ap (λ (l : List ℕ). c ∷ l) h.1.1), h.2)
-
 first_grows : (x : Next) → Grows 0 (record { output = []; end = Spent; number = 0 }) (one_first (behind x (steps 0)))
 first_grows (Goes k) = inr (refl, ([], refl), refl)
 first_grows (Writes b k) = inr (refl, (b ∷ [], refl), refl)
@@ -50,12 +42,12 @@ first_grows (Stops e) = inr (refl, ([], refl), refl)
 
 grows_behind : (n : ℕ) (x : Next) → ((k : State) → Grows n (steps n k) (steps (suc n) k)) → Grows n (behind x (steps n)) (behind x (steps (suc n)))
 grows_behind n (Goes k) h = h k
-grows_behind n (Writes b k) h = byte_grows n b _ _ (h k)
+grows_behind n (Writes b k) h = emits_grow n b _ _ (h k)
 grows_behind n (Stops e) h = inl refl
 
 grows : (n : ℕ) (m : State) → Grows n (steps n m) (steps (suc n) m)
 grows zero m = first_grows (step_of m)
-grows (suc n) m = one_grows n _ _ (grows_behind n (step_of m) (grows n))
+grows (suc n) m = counts_grow n _ _ (grows_behind n (step_of m) (grows n))
 
 state_lasts : (m : State) (k : ℕ) → Lasts k (state_run m)
 state_lasts m k = record {

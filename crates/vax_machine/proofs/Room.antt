@@ -48,10 +48,10 @@ record Reserved (m n : State) (count : ℕ) : Type 0 where
   high : 0 < count → reg m Sp ≤ 2147483648
   free : (address : ℕ) → reg n Sp ≤ address → address < reg m Sp → in_control m.frames address 1 ≡ false
 
-same_state : (m n : State) → ◌≡◌ {A = Result State Stop} (Ok m) (Ok n) → m ≡ n
+pub same_state : (m n : State) → ◌≡◌ {A = Result State Stop} (Ok m) (Ok n) → m ≡ n
 same_state m n e = cc
 
-no_state : (e : Stop) (n : State) → ◌≡◌ {A = Result State Stop} (Err e) (Ok n) → ⊥
+pub no_state : (e : Stop) (n : State) → ◌≡◌ {A = Result State Stop} (Err e) (Ok n) → ⊥
 no_state e n h = cc
 
 -- sp as it was set

@@ -23,7 +23,7 @@ use Rattle.vax_machine_lists.proofs.Soundness.{After, called_running}
 
 -- ---- bytes
 
-below_zeros : (n : ℕ) → AllBelow 256 (replicate n 0)
+pub below_zeros : (n : ℕ) → AllBelow 256 (replicate n 0)
 below_zeros zero = tt
 below_zeros (suc n) = (omega arith, below_zeros n)
 

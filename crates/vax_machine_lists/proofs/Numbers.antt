@@ -1,12 +1,12 @@
 -- What instructions compute of longwords are longwords.
 use Rattle.std.proofs.Common.{◌≡◌, ℕ, ◌+◌, ◌-◌, ◌*◌, ◌/◌, ◌%◌, ◌^◌, ◌<◌, ◌≤◌, Bool, true, false, cond, Option, Some, None, arith}
-use Rattle.std.specs.Prelude.{min}
 use Rattle.std.specs.Int.Bits.{and_lt}
-use Rattle.std.proofs.lemmas.Nat.{or_lt, xor_lt, mod_below, shr_le}
+use Rattle.std.proofs.lemmas.Nat.{or_lt, xor_lt, mod_below}
 use Rattle.std.proofs.Math.Nat.{div-le_self}
 use Rattle.gg_base.specs.declared.size.Size.{Size}
 use Rattle.gg_base.specs.declared.size.Size.TheVariants.{Byte, Word, Long}
-use Rattle.gg_base.specs.Arithmetic.{add32, sub32, mul32, and32, or32, xor32, neg32, com32, sext8, sext16, zext8, zext16, is_negative, magnitude, same_sign, div32, shifted_left, shifted_right, ash32}
+use Rattle.gg_base.specs.Arithmetic.{add32, sub32, mul32, and32, or32, xor32, neg32, com32, sext8, sext16, zext8, zext16, magnitude, same_sign, div32}
+use Rattle.gg_base.proofs.Words.{neg_small, shifted_left_small, shifted_right_small, ash_small, magnitude_small}
 use Rattle.vax_machine.specs.declared.function.Computed.{Computed}
 use Rattle.vax_machine.specs.declared.function.Function.{Function}
 use Rattle.vax_machine.specs.declared.function.Function.TheVariants as functions
@@ -21,9 +21,6 @@ sub_small a b = mod_below (a + (2 ^ 32 - b)) (2 ^ 32) (omega arith)
 
 pub mul_small : (a b : ℕ) → mul32 a b < 2 ^ 32
 mul_small a b = mod_below (a * b) (2 ^ 32) (omega arith)
-
-neg_small : (a : ℕ) → neg32 a < 2 ^ 32
-neg_small a = mod_below (2 ^ 32 - a) (2 ^ 32) (omega arith)
 
 com_small : (a : ℕ) → com32 a < 2 ^ 32
 com_small a = omega arith
@@ -66,9 +63,6 @@ abbrev pub SmallResult : Option Computed → Type 0
 SmallResult None = Unit {0}
 SmallResult (Some c) = c.value < 2 ^ 32
 
-magnitude_small : (a : ℕ) → a < 2 ^ 32 → magnitude a < 2 ^ 32
-magnitude_small a h = either_small (is_negative a) (neg32 a) a (neg_small a) h
-
 div_by : (z s : Bool) (q : ℕ) → q < 2 ^ 32 → SmallSome (cond z None (cond s (Some q) (Some (neg32 q))))
 div_by true s q h = tt
 div_by false true q h = h
@@ -83,17 +77,6 @@ div_small a b h =
     let m = magnitude_small a h in
     let d = div-le_self (magnitude a) (magnitude b) in
     quotient_small (div32 a b) (div_by _ (same_sign a b) (magnitude a / magnitude b) (omega (arith, m, d)))
-
-left_small : (places a : ℕ) → shifted_left places a < 2 ^ 32
-left_small places a = either_small _ ((a * 2 ^ places) % 2 ^ 32) 0 (mod_below (a * 2 ^ places) (2 ^ 32) (omega arith)) (omega arith)
-
-right_small : (places a : ℕ) → a < 2 ^ 32 → shifted_right places a < 2 ^ 32
-right_small places a h =
-    let d = shr_le a (min places 31) in
-    either_small (is_negative a) (com32 (com32 a / 2 ^ min places 31)) (a / 2 ^ min places 31) (com_small _) (omega (arith, h, d))
-
-shift_small : (count a : ℕ) → a < 2 ^ 32 → ash32 count a < 2 ^ 32
-shift_small count a h = either_small _ (shifted_left (zext8 count) a) (shifted_right (2 ^ 8 - zext8 count) a) (left_small (zext8 count) a) (right_small (2 ^ 8 - zext8 count) a h)
 
 pub applied_small : (f : Function) (a b : ℕ) (c : Bool) → a < 2 ^ 32 → b < 2 ^ 32 → SmallResult (applied f a b c)
 applied_small (functions.Copy size) a b c h g = h
@@ -112,6 +95,6 @@ applied_small functions.BitSet a b c h g = or_lt 32 a b h g
 applied_small functions.BitClear a b c h g = and_lt 32 b (com32 a) g (com_small a)
 applied_small functions.ExclusiveOr a b c h g = xor_lt 32 a b h g
 applied_small functions.BitTest a b c h g = and_lt 32 a b h g
-applied_small functions.Shift a b c h g = shift_small a b g
+applied_small functions.Shift a b c h g = ash_small a b g
 applied_small (functions.Compare size) a b c h g = omega arith
 applied_small (functions.CompareWithZero size) a b c h g = omega arith

@@ -31,6 +31,7 @@ use Rattle.vax_core.specs.Registers.{reg_number}
 use Rattle.vax_core.specs.Valid.{allows, is_long, is_addr, is_addr_of, is_named_addr, is_base, is_index, is_operand, are_operands, is_target, is_instr, is_code_item}
 use Rattle.vax_machine_live.specs.declared.frame.Frame.{Frame}
 use Rattle.vax_machine_live.specs.Control.{in_control}
+use Rattle.vax_machine_live.proofs.OwnerLaws.{same_frame}
 use Rattle.vax_machine.specs.declared.turn.Stop.{Stop}
 use Rattle.vax_machine.specs.declared.memory.Region.{Region}
 use Rattle.vax_machine.specs.declared.memory.Region.TheVariants as regions
@@ -417,12 +418,9 @@ saved_take zero fs h = tt
 saved_take (suc n) [] h = tt
 saved_take (suc n) (f ∷ fs) h = (h.0, saved_take n fs h.1)
 
-some_same : (f g : Frame) → ◌≡◌ {A = Option Frame} (Some f) (Some g) → f ≡ g
-some_same f g e = cc
-
 saved_get : (fs : List Frame) (n : ℕ) (f : Frame) → AreSaved fs → slice_get fs n ≡ Some f → AllBelow (2 ^ 32) f.saved
 saved_get [] n f h e = absurd (cc)
-saved_get (x ∷ fs) zero f h e = subst (λ (g : Frame). AllBelow (2 ^ 32) g.saved) (some_same x f e) h.0
+saved_get (x ∷ fs) zero f h e = subst (λ (g : Frame). AllBelow (2 ^ 32) g.saved) (same_frame x f e) h.0
 saved_get (x ∷ fs) (suc n) f h e = saved_get fs n f h.1 e
 
 touched_then : (n : State) (t : Result Region Stop) → IsRunning n → After (t >>= λ (r : Region). Ok n)

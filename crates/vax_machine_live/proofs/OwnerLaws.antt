@@ -20,7 +20,7 @@ byte_lies f address h =
     let low : f.fp < address + 1 = ltb-true f.fp (address + 1) p.0 in
     record { low = omega arith; high = ltb-true address f.top p.1 }
 
-same_frame : (f g : Frame) → ◌≡◌ {A = Option Frame} (Some f) (Some g) → f ≡ g
+pub same_frame : (f g : Frame) → ◌≡◌ {A = Option Frame} (Some f) (Some g) → f ≡ g
 same_frame f g e = cc
 
 no_frame : (f : Frame) → ◌≡◌ {A = Option Frame} None (Some f) → ⊥

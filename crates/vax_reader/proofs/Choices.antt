@@ -12,11 +12,6 @@ pub map_some : {A B P : Type 0} (f : A → B) (o : Option A) (y : B) → option_
 map_some f None y e k = absurd (none-some y e)
 map_some f (Some x) y e k = k x refl (same_Some (f x) y e)
 
--- a value behind a test that held, or that did not
-pub guarded : {A : Type 0} (b : Bool) (o : Option A) (y : A) → cond b o None ≡ Some y → (b ≡ true) × (o ≡ Some y)
-guarded true o y e = (refl, e)
-guarded false o y e = absurd (none-some y e)
-
 pub unless : {A : Type 0} (b : Bool) (o : Option A) (y : A) → cond b None o ≡ Some y → (b ≡ false) × (o ≡ Some y)
 unless true o y e = absurd (none-some y e)
 unless false o y e = (refl, e)

@@ -4,6 +4,7 @@ use Rattle.std.specs.Prelude.{slice_get, nat_lt, ◌||◌}
 use Rattle.std.proofs.lemmas.Bool.{le-ltb, or_from, and_left, and_right}
 use Rattle.gg_base.specs.declared.size.Size.TheVariants.{Long}
 use Rattle.gg_base.specs.LittleEndian.{with_number}
+use Rattle.gg_base.proofs.Facts.{nil_cons, head_same, tail_same}
 use Rattle.vax_machine_live.specs.declared.frame.Frame.{Frame}
 use Rattle.vax_machine_live.specs.Control.{overlaps, in_control}
 use Rattle.tree_meaning.specs.State.{Activation}
@@ -152,28 +153,19 @@ pub record Innermost (stack : List ℕ) (frames : List Frame) (own : Extent) (re
   pub here : Holds stack f own c low high
   pub others : Hold stack outer rest cs high
 
-same_head : {A : Type 0} (x y : A) (xs ys : List A) → x ∷ xs ≡ y ∷ ys → x ≡ y
-same_head x y xs ys e = cc
-
-same_tail : {A : Type 0} (x y : A) (xs ys : List A) → x ∷ xs ≡ y ∷ ys → xs ≡ ys
-same_tail x y xs ys e = cc
-
-no_cons : {A : Type 0} (x : A) (xs : List A) → [] ≡ x ∷ xs → ⊥
-no_cons x xs e = cc
-
 pub innermost_is : (stack : List ℕ) (frames : List Frame) (es : List Extent) (xs : List Activation) (low : ℕ) → Hold stack frames es xs low
     → (own : Extent) (rest : List Extent) (c : Activation) (cs : List Activation) → es ≡ own ∷ rest → xs ≡ c ∷ cs → Innermost stack frames own rest c cs low
-innermost_is stack frames es xs low nobody own rest c cs p q = absurd (no_cons own rest p)
+innermost_is stack frames es xs low nobody own rest c cs p q = absurd (nil_cons own rest p)
 innermost_is stack frames es xs low (caller outer all f e rest_e a rest_a low' high eq here others) own rest c cs p q = record {
   outer = outer;
   f = f;
   high = high;
   frames_are = eq;
-  here = subst (λ (x : Extent). Holds stack f x c low high) (same_head e own rest_e rest p) (subst (λ (x : Activation). Holds stack f e x low high) (same_head a c rest_a cs q) here);
-  others = subst (λ (x : List Extent). Hold stack outer x cs high) (same_tail e own rest_e rest p) (subst (λ (x : List Activation). Hold stack outer rest_e x high) (same_tail a c rest_a cs q) others);
+  here = subst (λ (x : Extent). Holds stack f x c low high) (head_same e own rest_e rest p) (subst (λ (x : Activation). Holds stack f e x low high) (head_same a c rest_a cs q) here);
+  others = subst (λ (x : List Extent). Hold stack outer x cs high) (tail_same e own rest_e rest p) (subst (λ (x : List Activation). Hold stack outer rest_e x high) (tail_same a c rest_a cs q) others);
 }
 
 -- where none is suspended, none has a frame, and the stack's end is reached
 pub nobody_is : (stack : List ℕ) (frames : List Frame) (es : List Extent) (xs : List Activation) (low : ℕ) → Hold stack frames es xs low → xs ≡ [] → (frames ≡ []) × (low ≡ 2147483648) × (es ≡ [])
 nobody_is stack frames es xs low nobody q = (refl, refl, refl)
-nobody_is stack frames es xs low (caller outer all f e rest_e a rest_a low' high eq here others) q = absurd (no_cons a rest_a (sym q))
+nobody_is stack frames es xs low (caller outer all f e rest_e a rest_a low' high eq here others) q = absurd (nil_cons a rest_a (sym q))

@@ -14,7 +14,7 @@ use Rattle.vax_machine.specs.State.{State, ◌>>=◌}
 use Rattle.vax_machine.specs.Memory.{touched, read, written, number_at, with_number_at}
 use Rattle.vax_states.specs.Stack.{long_at}
 
-some_bytes : (size : Size) → 1 ≤ bytes_of size
+pub some_bytes : (size : Size) → 1 ≤ bytes_of size
 some_bytes Byte = omega arith
 some_bytes Word = omega arith
 some_bytes Long = omega arith

@@ -6,9 +6,7 @@ use Rattle.std.specs.Str.{bytes_eq}
 use Rattle.std.proofs.lemmas.Bool.{eqb-true, false_from_ne_true, true≢false}
 use Rattle.std.proofs.lemmas.List.{length-take-le}
 use Rattle.std.proofs.lemmas.Slice.Eq.{bytes_eq-Decides}
-use Rattle.tree_core.specs.declared.tree.Att.{Att}
 use Rattle.tree_core.specs.declared.tree.Att.TheVariants as att
-use Rattle.tree_core.specs.declared.tree.Leaf.{Leaf}
 use Rattle.tree_core.specs.declared.program.TreeFn.{TreeFn}
 use Rattle.tree_core.specs.declared.program.TreeProgram.{TreeProgram}
 use Rattle.tree_core.specs.Valid.{named, service_args, args_or, takes}
@@ -44,22 +42,11 @@ use Rattle.vax_target_lines.specs.Lines.{DoesDeed}
 use Rattle.vax_target_runs.specs.Runs.{EndsIn}
 use Rattle.vax_target_statements.proofs.Acts.{c, did, IsDeed, statement_ends, agrees_there, room_there, live_there, codes_agree}
 use Rattle.vax_target_statements.proofs.Deeds.{Steps}
+use Rattle.vax_target_statements.proofs.Controls.{token_is}
 use Rattle.vax_target_calls.specs.Laws.{CallsDo}
 use Rattle.vax_target_calls.proofs.Services.{call_instr, call_is, putchar_is, getchar_is, put_acts, set_up, agrees_result, sp_high, agrees_popped, top_read, input_agrees}
 
 -- ---- the callee
-
-token_is : (h : Attr Operand) (a : Att) → att_of (Some h) ≡ Some a → (l : Leaf) × (h ≡ attr.Token l) × (l.att ≡ a)
-token_is (attr.Reg r) a e = cc
-token_is (attr.InSlot w) a e = cc
-token_is (attr.Value o) a e = cc
-token_is (attr.Place o) a e = cc
-token_is (attr.Con n) a e = cc
-token_is (attr.Ea o) a e = cc
-token_is (attr.Token l) a e = (l, refl, same l.att a e) where
-  same : (x y : Att) → Some x ≡ Some y → x ≡ y
-  same x y e = cc
-token_is attr.Nothing a e = cc
 
 -- it is the first hole's
 callee_first : (hs : List (Attr Operand)) (function count : ℕ) → att_of (slice_get hs 0) ≡ Some (att.Callee function count) → callee_among hs ≡ Some (function, count)

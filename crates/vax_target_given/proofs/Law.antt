@@ -1,7 +1,7 @@
 -- What a rule that gives a shape gives: the operand stands for it, and the rule's lines change nothing.
-use Rattle.std.proofs.Common.{◌≡◌, ℕ, zero, suc, ◌-◌, ◌==◌, Bool, true, false, cond, Option, Some, None, Ok, List, [], ◌∷◌, map, refl, sym, ap, subst, ◌∙◌, arith, slice_get}
-use Rattle.std.proofs.lemmas.Bool.Decides.{nat_tests}
+use Rattle.std.proofs.Common.{◌≡◌, ℕ, zero, suc, ◌-◌, ◌==◌, Bool, true, false, cond, Option, Some, None, Ok, List, [], ◌∷◌, map, refl, sym, ap, subst, ◌∙◌, slice_get}
 use Rattle.std.specs.List.{AllByRecursion}
+use Rattle.vax_target_spelling.proofs.Shapes.{nth_is}
 use Rattle.gg_base.specs.declared.size.Size.{Size}
 use Rattle.gg_base.specs.declared.size.Size.TheVariants.{Long}
 use Rattle.tree_core.specs.declared.token.Tok.{Tok}
@@ -63,7 +63,7 @@ use Rattle.vax_target_rules.proofs.Founds.{IsFound, rule_is, front_safe}
 use Rattle.vax_target_rules.proofs.Instances.{instances_are_seen}
 use Rattle.vax_target_rules.proofs.Results.{Comes, found_so, comes_so}
 use Rattle.vax_target_shapes.proofs.Law.{shapes_stand}
-use Rattle.vax_target_shapes.proofs.Homes.{homes_stay, registers_stay}
+use Rattle.vax_target_shapes.proofs.Homes.{homes_stay, registers_stay, filled_with}
 use Rattle.vax_target_given.proofs.Idle.{lines_are_idle}
 
 -- ---- a hole that is a number has no other one
@@ -163,20 +163,6 @@ module _ (q : TreeProgram) (m : State) where
   one_of hole_kind.Saved i t a k e = absurd (err_ok _ t e)
   one_of hole_kind.Relation i t a k e = absurd (err_ok _ t e)
   one_of hole_kind.Other i t a k e = absurd (err_ok _ t e)
-
-not_zero : (k : ℕ) → (suc k == 0) ≡ false
-not_zero k = grind (arith, nat_tests)
-
-one_less : (k : ℕ) → suc k - 1 ≡ k
-one_less k = omega arith
-
-filling_is : (hs : List (Attr Operand)) (k : ℕ) → attr_at hs attr.Nothing (suc k) ≡ attr_or attr.Nothing (slice_get hs k)
-filling_is hs k =
-    ap (λ b. cond b attr.Nothing (attr_or attr.Nothing (slice_get hs (suc k - 1)))) (not_zero k) ∙ ap (λ n. attr_or attr.Nothing (slice_get hs n)) (one_less k)
-
-filled_with : (hs : List (Attr Operand)) (i : ℕ) (h : Attr Operand) → hole hs i ≡ Some h → attr_at hs attr.Nothing i ≡ h
-filled_with hs zero h e = absurd (cc)
-filled_with hs (suc k) h e = filling_is hs k ∙ ap (attr_or attr.Nothing) e
 
 hole_front_is : (i : ℕ) → shape_of_pieces (piece.Hole i ∷ []) ≡ Some (record { base = base.Hole i; index = None })
 unfolding form_front base_front number_spelled index_front at_front

@@ -28,17 +28,13 @@ use Rattle.vax_templates.specs.Forms.{base_front, index_front, with_index, index
 use Rattle.vax_templates.specs.Instructions.{Instruction, Relation, Jump, Calls, Ret, Operates, forms_from, only, behind_blank, is_label, is_call, is_empty, jumps, operates}
 use Rattle.vax_templates.specs.Instructions.{behind, relation_behind, relation, with_op, word_of, marks_behind, read_behind, instruction_of, whole, shape_of_pieces}
 use Rattle.vax_target_operands.specs.Places.{IsShort, BaseIsShort}
-use Rattle.vax_target_operands.proofs.Machine.{mapped, then_some}
+use Rattle.vax_target_operands.proofs.Machine.{mapped, then_some, cond_some}
 
 -- ---- readings
 
 pub either_some : {A B : Type 0} (o : Option A) (f : A → Option B) (other : Option B) (y : B) → either o f other ≡ Some y → ((x : A) × (o ≡ Some x) × (f x ≡ Some y)) ⊎ (other ≡ Some y)
 either_some (Some x) f other y e = inl (x, refl, e)
 either_some None f other y e = inr e
-
-cond_some : {A : Type 0} (b : Bool) (x y : A) → cond b (Some x) None ≡ Some y → (b ≡ true) × (x ≡ y)
-cond_some true x y e = (refl, same_Some x y e)
-cond_some false x y e = absurd (none-some y e)
 
 positive_short : (x y : ℕ × List Mark) → positive x ≡ Some y → y.0 < 2 ^ 32
 positive_short x y e =

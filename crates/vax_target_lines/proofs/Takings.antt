@@ -7,8 +7,10 @@ use Rattle.std.proofs.lemmas.Bool.{not-false}
 use Rattle.gg_base.specs.declared.size.Size.{Size}
 use Rattle.gg_base.specs.declared.size.Size.TheVariants.{Byte, Word, Long}
 use Rattle.gg_base.specs.LittleEndian.{number_in}
+use Rattle.gg_base.proofs.Facts.{first_false, second_false}
 use Rattle.term_core.specs.Shape.{Shape, Constant, Symbol, LastResult, Memory}
 use Rattle.sel_terms.specs.Same.{same_size}
+use Rattle.sel_terms.proofs.Alike.{equal_sizes}
 use Rattle.sel_target.specs.declared.fault.TemplateKind.{TemplateKind}
 use Rattle.sel_target.specs.declared.fault.TemplateKind.TheVariants.{NotInstr}
 use Rattle.term_core.proofs.Values.{small}
@@ -64,35 +66,16 @@ use Rattle.vax_target_lines.specs.Takings.{IsTarget, IsDestination, AreRead, Can
 
 -- ---- sizes
 
-pub same_sizes : (z y : Size) → same_size z y ≡ true → z ≡ y
-same_sizes Byte Byte e = refl
-same_sizes Byte Word e = cc
-same_sizes Byte Long e = cc
-same_sizes Word Byte e = cc
-same_sizes Word Word e = refl
-same_sizes Word Long e = cc
-same_sizes Long Byte e = cc
-same_sizes Long Word e = cc
-same_sizes Long Long e = refl
-
 long_size : (z : Size) → is_long z ≡ true → Long ≡ z
 long_size Byte e = cc
 long_size Word e = cc
 long_size Long e = refl
 
-or_left : (a b : Bool) → (a || b) ≡ false → a ≡ false
-or_left true b e = cc
-or_left false b e = refl
-
-or_right : (a b : Bool) → (a || b) ≡ false → b ≡ false
-or_right true b e = cc
-or_right false b e = e
-
 -- an operand of its own size
 sized_is : (has wanted : Size) (x t : Taken) → ◌≡◌ {A = Result Taken TemplateKind} (Ok (sized has wanted x)) (Ok t) → t.missized ≡ false → (has ≡ wanted) × (x ≡ t)
 sized_is has wanted x t e none = by (same_size has wanted) refl (ok_same _ t e) where
   by : (b : Bool) → same_size has wanted ≡ b → cond b x taken_missized ≡ t → (has ≡ wanted) × (x ≡ t)
-  by true same is = (same_sizes has wanted same, is)
+  by true same is = (equal_sizes has wanted same, is)
   by false same is = absurd (let r : true ≡ false = ap (λ (y : Taken). y.missized) is ∙ none in cc)
 
 -- ---- what is read is of its size
@@ -321,7 +304,7 @@ module _ (c : Scene) (held : Option Shape) (m : State) (h : Sees c held m) where
   targeted_can (Value z i) size x p e none can = absurd (err_ok _ x (statement_of c.setting.is_statement _ x e))
   targeted_can (Place z i) size x p e none can =
       let s = ok_same _ x (statement_of c.setting.is_statement _ x e) in
-      same_sizes z size (not-false (same_size z size) (ap (λ (y : Target × Bool). y.1) s ∙ none))
+      equal_sizes z size (not-false (same_size z size) (ap (λ (y : Target × Bool). y.1) s ∙ none))
   targeted_can (Local i) size x p e none can =
       let s = ok_same _ x (statement_of c.setting.is_statement _ x e) in
       long_size size (not-false (is_long size) (ap (λ (y : Target × Bool). y.1) s ∙ none))
@@ -444,7 +427,7 @@ module _ (c : Scene) (held : Option Shape) (m : State) (h : Sees c held m) where
       let x = chained (targeted c.setting w size) (both d.first) t d.then_so in
       let s = ok_same _ t x.then_so in
       let none' : (d.first.missized || x.first.1) ≡ false = ap (λ (y : Taken). y.missized) s ∙ none in
-      fetched_can w size d.first p d.is (or_left d.first.missized x.first.1 none') (subst (λ (y : Taken). AreRead c y.reads) (sym s) reads)
+      fetched_can w size d.first p d.is (first_false d.first.missized x.first.1 none') (subst (λ (y : Taken). AreRead c y.reads) (sym s) reads)
   taken_can accesses.Write w size t p e none reads can =
       let x = chained (targeted c.setting w size) written t e in
       let s = ok_same _ t x.then_so in
@@ -462,8 +445,8 @@ module _ (c : Scene) (held : Option Shape) (m : State) (h : Sees c held m) where
       let s = ok_same _ t x.then_so in
       let none' : (d.first.missized || x.first.1) ≡ false = ap (λ (y : Taken). y.missized) s ∙ none in
       modify_taken l size d.first t x.first
-      (fetched_means w size d.first l d.is (or_left d.first.missized x.first.1 none') (subst (λ (y : Taken). AreRead c y.reads) (sym s) reads) is)
-      (targeted_means w size x.first l x.is is (or_right d.first.missized x.first.1 none')) x.then_so
+      (fetched_means w size d.first l d.is (first_false d.first.missized x.first.1 none') (subst (λ (y : Taken). AreRead c y.reads) (sym s) reads) is)
+      (targeted_means w size x.first l x.is is (second_false d.first.missized x.first.1 none')) x.then_so
   taken_means accesses.Write w size t l e none reads is =
       let x = chained (targeted c.setting w size) written t e in
       write_taken l size t x.first (targeted_means w size x.first l x.is is (ap (λ (y : Taken). y.missized) (ok_same _ t x.then_so) ∙ none)) x.then_so
@@ -637,7 +620,7 @@ module _ (c : Scene) (held : Option Shape) (m : State) (h : Sees c held m) where
       let d = chained (evaluated c.setting c.roles held k f) (λ (t : Taken). all_evaluated c.setting c.roles held [] fs >>= in_front t) x e in
       let s : whole d.first no_arguments ≡ x = ok_same _ x d.then_so in
       let v = evaluated_means k f d.first may.0 d.is
-      (or_left d.first.missized false (ap (λ (y : Arguments). y.missized) s ∙ none))
+      (first_false d.first.missized false (ap (λ (y : Arguments). y.missized) s ∙ none))
       (read_front d.first.reads [] (subst (λ (y : Arguments). AreRead c y.reads) (sym s) reads))
       (subst (λ (y : Arguments). CanAim c y.target) (sym s) can) in
       last_taken k f fs n d.first x v s
@@ -649,10 +632,10 @@ module _ (c : Scene) (held : Option Shape) (m : State) (h : Sees c held m) where
       let reads' = subst (λ (y : Arguments). AreRead c y.reads) (sym s) reads in
       let can' = subst (λ (y : Arguments). CanAim c y.target) (sym s) can in
       more_by k j f ks fs n d.first r.first x last.0 d.is may.0
-      (or_left d.first.missized r.first.missized none')
+      (first_false d.first.missized r.first.missized none')
       (read_front d.first.reads r.first.reads reads')
       (all_taken n (j ∷ ks) fs r.first last.1 (let few' : suc (length (j ∷ ks)) ≤ suc n = few in omega (arith, few')) may.1 r.is
-      (or_right d.first.missized r.first.missized none') (read_back d.first.reads r.first.reads reads') (back_can d.first.target r.first.target can'))
+      (second_false d.first.missized r.first.missized none') (read_back d.first.reads r.first.reads reads') (back_can d.first.target r.first.target can'))
       s
     where
       back_can : (t u : Option Target) → CanAim c (last_of t u) → CanAim c u

@@ -1,5 +1,5 @@
 -- The constants of what a template does are longwords.
-use Rattle.std.proofs.Common.{◌≡◌, ℕ, zero, suc, ◌-◌, ◌^◌, ◌<◌, ◌==◌, Bool, true, false, cond, ◌&&◌, Option, Some, None, Result, Ok, Err, List, [], ◌∷◌, ◌++◌, arith, slice_get}
+use Rattle.std.proofs.Common.{◌≡◌, ℕ, zero, suc, ◌-◌, ◌^◌, ◌<◌, ◌==◌, Bool, true, false, cond, ◌&&◌, Option, Some, None, Result, Ok, Err, List, [], ◌∷◌, arith, slice_get}
 use Rattle.std.specs.Prelude.{is_none}
 use Rattle.std.specs.List.{AllByRecursion}
 use Rattle.gg_base.specs.declared.size.Size.{Size}
@@ -22,6 +22,7 @@ use Rattle.term_core.specs.Shape.{Shape, Constant, LastResult}
 use Rattle.term_core_accesses.specs.Keeping.{IsNarrow}
 use Rattle.sel_terms.specs.Effects.{ActShape, EffectShape, Value, PlaceHome, Branch, Push, Call, Save, Jump}
 use Rattle.sel_terms_meaning.specs.Alike.{AllNarrow, IsNarrowAct, IsNarrowEffect}
+use Rattle.sel_terms_meaning.proofs.Narrow.{joined_narrow}
 use Rattle.sel_terms.specs.Same.{same_size}
 use Rattle.sel_target.specs.declared.fault.TemplateKind.{TemplateKind}
 use Rattle.sel_target.specs.declared.fault.TemplateKind.TheVariants.{NotInstr, WrongSize, Order}
@@ -449,17 +450,13 @@ module _ (s : Setting) (holes : List Hole) (zero' : Option Shape) (n : HolesAreN
 
 -- ---- templates
 
-more_narrow : (a b : List Shape) → AllNarrow a → AllNarrow b → AllNarrow (a ++ b)
-more_narrow [] b h k = k
-more_narrow (t ∷ a) b h k = (h.0, more_narrow a b h.1 k)
-
 own_kept : (a b : Option Shape) → SomeNarrow a → SomeNarrow b → SomeNarrow (kept_or_put a b)
 own_kept a None h k = h
 own_kept a (Some t) h k = k
 
 module _ (s : Setting) (holes : List Hole) (n : HolesAreNarrow holes) where
   kept_narrow : (line : ℕ) (p : Progress) (r : Result Deed TemplateKind) → ProgressNarrow p → EachOk DeedNarrow r → EachOk ProgressNarrow (at_line line r >>= kept line p)
-  kept_narrow line p (Ok d) h k = (own_kept p.own d.own h.0 k.0, k.1, more_narrow p.divisors d.divisors h.2 k.2)
+  kept_narrow line p (Ok d) h k = (own_kept p.own d.own h.0 k.0, k.1, joined_narrow p.divisors d.divisors h.2 k.2)
   kept_narrow line p (Err e) h k = tt
 
   lines_narrow : (ls : List Line) (is_first : Bool) (p : Progress) → ProgressNarrow p → EachOk ProgressNarrow (lines_judged s holes is_first p ls)

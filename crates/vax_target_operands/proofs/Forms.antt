@@ -1,10 +1,11 @@
 -- An operand with its holes filled stands where its template says.
-use Rattle.std.proofs.Common.{◌≡◌, ℕ, ◌-◌, ◌*◌, ◌%◌, ◌^◌, ◌<◌, ◌==◌, Bool, true, false, cond, Option, Some, None, Result, Ok, Err, refl, sym, ap, subst, ◌∙◌, arith}
+use Rattle.std.proofs.Common.{◌≡◌, ℕ, ◌-◌, ◌*◌, ◌%◌, ◌^◌, ◌<◌, ◌==◌, true, false, cond, Option, Some, None, Result, Ok, Err, refl, sym, ap, subst, ◌∙◌, arith}
 use Rattle.std.specs.Prelude.{◌||◌}
 use Rattle.gg_base.specs.declared.size.Size.{Size}
 use Rattle.gg_base.specs.declared.size.Size.TheVariants.{Byte, Word, Long}
 use Rattle.gg_base.specs.Sizes.{bytes_of}
 use Rattle.gg_base.specs.Arithmetic.{add32, mul32, neg32}
+use Rattle.gg_base.proofs.Facts.{first_false, second_false}
 use Rattle.term_core.specs.Shape.{Shape, Symbol, Memory}
 use Rattle.sel_target.specs.declared.fault.TemplateKind.{TemplateKind}
 use Rattle.sel_target.specs.Values.{IsRead}
@@ -62,16 +63,8 @@ abs_found m n size = refl
 
 -- ---- parts of a judgement
 
-left_false : (a b : Bool) → (a || b) ≡ false → a ≡ false
-left_false true b e = cc
-left_false false b e = refl
-
-right_false : (a b : Bool) → (a || b) ≡ false → b ≡ false
-right_false true b e = cc
-right_false false b e = e
-
 -- a displaced address is a sum
-displaced_is : (x y : Result Shape TemplateKind) (t : Shape) → displaced x y ≡ Ok t →
+pub displaced_is : (x y : Result Shape TemplateKind) (t : Shape) → displaced x y ≡ Ok t →
     (a : Shape) × (b : Shape) × (x ≡ Ok a) × (y ≡ Ok b) × (sum a b ≡ t)
 displaced_is x y t e =
     let d = chained x _ t e in
@@ -224,14 +217,14 @@ module _ (c : Scene) (zero : Option Shape) (m : State) (h : Sees c zero m) where
       (where_base c.setting c.roles zero b >>= where_indexed c.setting c.roles zero index size) ≡ Ok w → CanStand c w size → Stands c m (with_index c.holes c.own index (F b)) w size
   form_stands_by b None w size short may e can =
       let d = chained (where_base c.setting c.roles zero b) (where_indexed c.setting c.roles zero None size) w e in
-      place_stands w (F b) size (base_stands b w size short (λ lost. left_false (base_spells c.roles b) false (may lost)) (d.is ∙ d.then_so) can)
+      place_stands w (F b) size (base_stands b w size short (λ lost. first_false (base_spells c.roles b) false (may lost)) (d.is ∙ d.then_so) can)
   form_stands_by b (Some i) w size short may e can =
       let d = chained (where_base c.setting c.roles zero b) (where_indexed c.setting c.roles zero (Some i) size) w e in
       let x = chained (register_term c.setting c.roles zero i) (moved size d.first) w d.then_so in
       indexed_stands d.first w (F b) x.first (register_in (filling_at c i)) size
-      (register_is c zero m h i x.first (λ lost. right_false (base_spells c.roles b) (is_operand (role_at c i)) (may lost)) x.is)
+      (register_is c zero m h i x.first (λ lost. second_false (base_spells c.roles b) (is_operand (role_at c i)) (may lost)) x.is)
       x.then_so
-      (λ safe. base_stands b d.first size short (λ lost. left_false (base_spells c.roles b) (is_operand (role_at c i)) (may lost)) d.is safe)
+      (λ safe. base_stands b d.first size short (λ lost. first_false (base_spells c.roles b) (is_operand (role_at c i)) (may lost)) d.is safe)
       can
 
 pub operands_stand : OperandsStand

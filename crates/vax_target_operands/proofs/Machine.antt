@@ -38,7 +38,7 @@ pub then_some : {X Y : Type 0} (f : X → Option Y) (o : Option X) (y : Y) → o
 then_some f None y e = absurd (none-some y e)
 then_some f (Some x) y e = (x, refl, e)
 
-cond_some : {X : Type 0} (b : Bool) (x y : X) → cond b (Some x) None ≡ Some y → (b ≡ true) × (x ≡ y)
+pub cond_some : {X : Type 0} (b : Bool) (x y : X) → cond b (Some x) None ≡ Some y → (b ≡ true) × (x ≡ y)
 cond_some true x y e = (refl, same_Some x y e)
 cond_some false x y e = absurd (none-some y e)
 

@@ -1,7 +1,7 @@
 -- The VAX's templates store only to symbols that are places.
-use Rattle.std.proofs.Common.{◌≡◌, ◌⊎◌, inl, inr, ℕ, zero, suc, ◌-◌, ◌==◌, true, false, cond, Option, Some, List, [], ◌∷◌, refl, sym, ap, subst, ◌∙◌, arith, slice_get}
-use Rattle.std.proofs.lemmas.Bool.Decides.{nat_tests}
+use Rattle.std.proofs.Common.{◌≡◌, ◌⊎◌, inl, inr, ℕ, zero, suc, ◌-◌, true, cond, Option, Some, List, [], ◌∷◌, refl, sym, ap, subst, ◌∙◌, arith, slice_get}
 use Rattle.std.proofs.lemmas.Option.{same_Some, none-some}
+use Rattle.gg_base.proofs.Facts.{not_zero, one_less}
 use Rattle.tree_core.specs.declared.token.Tok.{Tok}
 use Rattle.tree_core.specs.declared.token.Tok.TheVariants as tok
 use Rattle.tree_core.specs.declared.token.AttKind.TheVariants as att_kind
@@ -76,12 +76,6 @@ nth_owned classes right [] k h f e p = absurd (none-some h e)
 nth_owned classes [] (x ∷ hs) k h f e p = absurd f
 nth_owned classes (y ∷ right) (x ∷ hs) zero h f e p = subst Owned (same_Some x h e) (symbol_owned classes y x f.0 p)
 nth_owned classes (y ∷ right) (x ∷ hs) (suc k) h f e p = nth_owned classes right hs k h f.1 e p
-
-not_zero : (k : ℕ) → (suc k == 0) ≡ false
-not_zero k = grind (arith, nat_tests)
-
-one_less : (k : ℕ) → suc k - 1 ≡ k
-one_less k = omega arith
 
 role_is : (roles : List Hole) (k : ℕ) → hole_at roles (suc k) ≡ hole_or_other (slice_get roles k)
 role_is roles k =

@@ -1,6 +1,7 @@
 -- A template divides in its first line alone.
 use Rattle.std.proofs.Common.{◌≡◌, ℕ, ◌≤◌, ◌++◌, Bool, true, false, cond, List, [], ◌∷◌, length, Option, Some, None, Result, Ok, Err, refl, sym, ap, subst, ◌∙◌, arith}
-use Rattle.std.specs.Prelude.{not, ◌||◌, ◌&&◌}
+use Rattle.std.specs.Prelude.{not, ◌&&◌}
+use Rattle.gg_base.proofs.Facts.{first_false}
 use Rattle.md_reader_pieces.specs.declared.piece.Line.{Line}
 use Rattle.md_reader_pieces.specs.declared.piece.Piece.{Piece}
 use Rattle.term_core.specs.Shape.{Shape, Constant}
@@ -73,10 +74,6 @@ has_none : (ds : List Shape) → has_some ds ≡ false → [] ≡ ds
 has_none [] e = refl
 has_none (d ∷ ds) e = cc
 
-or_left : (a b : Bool) → (a || b) ≡ false → a ≡ false
-or_left true b e = cc
-or_left false b e = refl
-
 in_order_is : (b : Bool) (u d : Deed) → in_order b u ≡ Ok d → (b ≡ false) × (u ≡ d)
 in_order_is b u d e = by u.missized b e where
   by : (x b : Bool) → cond x (Err WrongSize) (cond b (Err Order) (Ok u)) ≡ Ok d → (b ≡ false) × (u ≡ d)
@@ -102,7 +99,7 @@ module _ (s : Setting) (roles : List Hole) (held : Option Shape) (is_first : Boo
       let same : u.first.divisors ≡ d.divisors = ap (λ (y : Deed). y.divisors) o.1 in
       record {
         few = subst IsFew same (acted_few s (action_of op) op x.first u.first u.is);
-        none = λ f. has_none u.first.divisors (subst (λ b. (not b && has_some u.first.divisors) ≡ false) f (or_left (not is_first && has_some u.first.divisors) _ o.0)) ∙ same;
+        none = λ f. has_none u.first.divisors (subst (λ b. (not b && has_some u.first.divisors) ≡ false) f (first_false (not is_first && has_some u.first.divisors) _ o.0)) ∙ same;
       }
 
   branches_none : (i : ℕ) (before : Last) (d : Deed) → branches s i before ≡ Ok d → [] ≡ d.divisors

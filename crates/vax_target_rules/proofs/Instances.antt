@@ -1,14 +1,14 @@
 -- In an instance of a rule each hole means what it stands for.
-use Rattle.std.proofs.Common.{◌≡◌, ℕ, zero, suc, ◌+◌, ◌-◌, ◌*◌, ◌%◌, ◌^◌, ◌<◌, ◌≤◌, ◌==◌, Bool, true, false, cond, List, [], ◌∷◌, map, Option, Some, None, refl, sym, ap, subst, ◌∙◌, arith}
+use Rattle.std.proofs.Common.{◌≡◌, ℕ, zero, suc, ◌+◌, ◌-◌, ◌%◌, ◌^◌, ◌<◌, ◌≤◌, Bool, true, false, cond, List, [], ◌∷◌, map, Option, Some, None, refl, sym, ap, subst, ◌∙◌, arith}
 use Rattle.std.specs.Prelude.{IsSome, is_some, is_none, unwrap_or, ◌&&◌, not, nat_lt, nat_le, slice_get}
 use Rattle.std.specs.Option.{option_map}
 use Rattle.std.proofs.lemmas.Bool.{eqb-true, lt-ltb}
 use Rattle.std.proofs.lemmas.Option.{none-some, same_Some}
-use Rattle.gg_base.proofs.Facts.{first_true, second_true}
+use Rattle.gg_base.proofs.Facts.{first_true, second_true, not_zero, one_less}
 use Rattle.gg_base.specs.declared.size.Size.{Size}
-use Rattle.gg_base.specs.declared.size.Size.TheVariants.{Byte, Word, Long}
-use Rattle.gg_base.specs.Sizes.{bytes_of}
+use Rattle.gg_base.specs.declared.size.Size.TheVariants.{Long}
 use Rattle.gg_base.specs.Arithmetic.{add32}
+use Rattle.gg_base.proofs.Words.{low_long}
 use Rattle.tree_core.specs.declared.token.Tok.{Tok}
 use Rattle.tree_core.specs.declared.token.Tok.TheVariants as tok
 use Rattle.tree_core.specs.declared.token.AttKind.TheVariants as att_kind
@@ -62,11 +62,6 @@ use Rattle.vax_target_rules.specs.Scene.{scene_of, InstancesAreSeen}
 pub some_of : (o : Option ℕ) → IsSome o → (x : ℕ) × (o ≡ Some x)
 some_of None h = absurd (let e : false ≡ true = h in cc)
 some_of (Some x) h = (x, refl)
-
-low_long : (size : Size) (x : ℕ) → x < 2 ^ (8 * bytes_of size) → x % 2 ^ 32 ≡ x
-low_long Byte x lt = omega (arith, lt)
-low_long Word x lt = omega (arith, lt)
-low_long Long x lt = omega (arith, lt)
 
 -- ---- a symbol and what fills it
 
@@ -320,24 +315,14 @@ mapped_at classes [] j = refl
 mapped_at classes (s ∷ right) zero = refl
 mapped_at classes (s ∷ right) (suc j) = mapped_at classes right j
 
--- symbols are numbered from 1
-one_back : (j : ℕ) → suc j - 1 ≡ j
-one_back j = omega arith
-
-not_zero : (j : ℕ) → (suc j == 0) ≡ false
-not_zero j = by (suc j == 0) refl where
-  by : (b : Bool) → (suc j == 0) ≡ b → (suc j == 0) ≡ false
-  by true e = absurd (let h = eqb-true (suc j) 0 e in omega (arith, h))
-  by false e = e
-
 pub role_is : (c : Scene) (j : ℕ) → role_at c (suc j) ≡ hole_or_other (slice_get c.roles j)
-role_is c j = ap (λ b. cond b hole_kind.Other (hole_or_other (slice_get c.roles (suc j - 1)))) (not_zero j) ∙ ap (λ k. hole_or_other (slice_get c.roles k)) (one_back j)
+role_is c j = ap (λ b. cond b hole_kind.Other (hole_or_other (slice_get c.roles (suc j - 1)))) (not_zero j) ∙ ap (λ k. hole_or_other (slice_get c.roles k)) (one_less j)
 
 pub filling_is : (c : Scene) (j : ℕ) → filling_at c (suc j) ≡ attr_or c.own (slice_get c.holes j)
-filling_is c j = ap (λ b. cond b c.own (attr_or c.own (slice_get c.holes (suc j - 1)))) (not_zero j) ∙ ap (λ k. attr_or c.own (slice_get c.holes k)) (one_back j)
+filling_is c j = ap (λ b. cond b c.own (attr_or c.own (slice_get c.holes (suc j - 1)))) (not_zero j) ∙ ap (λ k. attr_or c.own (slice_get c.holes k)) (one_less j)
 
 pub size_is : (classes : List Class) (right : List Sym) (j : ℕ) → size_at classes right (suc j) ≡ size_of_some classes (slice_get right j)
-size_is classes right j = ap (λ b. cond b Long (size_of_some classes (slice_get right (suc j - 1)))) (not_zero j) ∙ ap (λ k. size_of_some classes (slice_get right k)) (one_back j)
+size_is classes right j = ap (λ b. cond b Long (size_of_some classes (slice_get right (suc j - 1)))) (not_zero j) ∙ ap (λ k. size_of_some classes (slice_get right k)) (one_less j)
 
 -- what stands for `%0` is a register where it has a value
 pub register_result : (g : Give) (hs : List (Attr Operand)) (a : Attr Operand) → own_of g ≡ own.Register → IsResult vax g hs a → (n : ℕ) × (a ≡ attr.Reg n) × (n < 12)

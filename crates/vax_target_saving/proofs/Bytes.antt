@@ -3,6 +3,7 @@ use Rattle.std.proofs.Common.{◌≡◌, ◌⊎◌, inl, inr, ℕ, zero, suc, �
 use Rattle.std.specs.Prelude.{slice_index, slice_set}
 use Rattle.std.specs.Int.{w16, w32, to_le_bytes}
 use Rattle.std.proofs.lemmas.Nat.{from_le_bytes-to_le_bytes_2, le_bytes_4}
+use Rattle.sel_target.proofs.AreaBytes.{take_index}
 use Rattle.gg_base.specs.declared.size.Size.{Size}
 use Rattle.gg_base.specs.declared.size.Size.TheVariants.{Byte, Word, Long}
 use Rattle.gg_base.specs.Sizes.{bytes_of}
@@ -97,12 +98,6 @@ outside place p bytes i (inl lt) = patched_before place p bytes i lt
 outside place p bytes i (inr le) = patched_behind place p bytes i le
 
 -- ---- numbers, byte by byte
-
-take_index : (n k : ℕ) (xs : List ℕ) → k < n → slice_index (take n xs) k ≡ slice_index xs k
-take_index zero k xs lt = absurd (omega (arith, lt))
-take_index (suc n) k [] lt = refl
-take_index (suc n) zero (x ∷ xs) lt = refl
-take_index (suc n) (suc k) (x ∷ xs) lt = take_index n k xs (omega (arith, lt))
 
 drop_index : (n k i : ℕ) (xs : List ℕ) → i ≡ n + k → slice_index (drop n xs) k ≡ slice_index xs i
 drop_index zero k i xs e = ap (slice_index xs) (let z : k ≡ i = omega (arith, e) in z)

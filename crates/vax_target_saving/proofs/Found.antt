@@ -1,6 +1,7 @@
 -- What is found of a template of one line: what the line did, and that the effect has what it read.
 use Rattle.std.proofs.Common.{◌≡◌, ℕ, Bool, true, false, cond, Option, Some, None, Result, Ok, Err, List, [], ◌∷◌, refl, subst}
 use Rattle.std.specs.List.{list_all}
+use Rattle.vax_target_operands.proofs.Binds.{ok_same}
 use Rattle.md_reader_pieces.specs.declared.piece.Line.{Line}
 use Rattle.md_reader.specs.declared.types.Give.TheVariants as give
 use Rattle.term_core.specs.Shape.{Shape}
@@ -36,15 +37,12 @@ pub record ResultFound (s : Setting) (holes : List Hole) (l : Line) (e : EffectS
 no_ok : {A E : Type 0} (x : A) (e : E) → Err e ≡ Ok x → ⊥
 no_ok x e is = cc
 
-ok_is : {A E : Type 0} (x y : A) → ◌≡◌ {A = Result A E} (Ok x) (Ok y) → x ≡ y
-ok_is x y is = cc
-
 -- what follows where nothing that was read is dropped
 kept_reads : (P : EffectShape → Type 0) (e x : EffectShape) (line : ℕ) (reads : List Shape) → none_dropped x (first_dropped x ((line, reads) ∷ [])) ≡ Ok e →
     (list_all (effect_contains x) reads ≡ true → P x) → P e
 kept_reads P e x line reads is h = by (list_all (effect_contains x) reads) refl is where
   by : (b : Bool) → list_all (effect_contains x) reads ≡ b → none_dropped x (cond b None (Some line)) ≡ Ok e → P e
-  by true all is = subst P (ok_is x e is) (h all)
+  by true all is = subst P (ok_same x e is) (h all)
   by false all is = absurd (no_ok e _ is)
 
 put_is : (o : Option Shape) → o ≡ kept_or_put None o

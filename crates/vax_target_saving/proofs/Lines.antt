@@ -33,6 +33,7 @@ use Rattle.vax_target_meaning.specs.Running as running
 use Rattle.vax_target_meaning.specs.Vax.{vax}
 use Rattle.vax_target_operands.specs.Scenes.{Scene, worth, Sees}
 use Rattle.vax_target_operands.specs.Places.{StandsAt}
+use Rattle.vax_target_operands.proofs.Binds.{ok_same}
 use Rattle.vax_target_lines.specs.Lines.{IsStored, putting, DoesDeed, DoesLine, terms_of_last}
 use Rattle.vax_target_lines.proofs.Performing.{lines_do}
 use Rattle.vax_target_saving.specs.Laws.{with_word}
@@ -42,9 +43,6 @@ use Rattle.vax_target_saving.proofs.Found.{StatementFound, statement_found}
 use Rattle.vax_target_saving.proofs.Parts.{stored_reads}
 use Rattle.vax_target_saving.proofs.Scene.{scene}
 
-ok_is : {A E : Type 0} (x y : A) → ◌≡◌ {A = Result A E} (Ok x) (Ok y) → x ≡ y
-ok_is x y e = cc
-
 -- ---- the slot
 
 -- where a slot's operand stands
@@ -52,7 +50,7 @@ slot_stands : (m : State) (w : ℕ) (size : Size) (l : Location) → IsFrameWord
 unfolding located
 slot_stands m w size l f s =
     let found : (locations.Memory (displaced m Fp (word_addr w)), m) ≡ (s.base, m) =
-    ok_is {E = Stop} (locations.Memory (displaced m Fp (word_addr w)), m) (s.base, m) s.found in
+    ok_same {E = Stop} (locations.Memory (displaced m Fp (word_addr w)), m) (s.base, m) s.found in
     sym s.is ∙ (sym (ap (λ (x : Location × State). x.0) found) ∙ ap locations.Memory (slot_address m w f))
 
 -- and the address that it names

@@ -1,12 +1,12 @@
 -- The scene in which a line saves: one symbol, and the slot for `%0`.
-use Rattle.std.proofs.Common.{◌≡◌, ℕ, zero, suc, ◌-◌, ◌*◌, ◌%◌, ◌^◌, ◌<◌, ◌==◌, true, false, cond, Option, Some, None, List, [], ◌∷◌, refl, sym, ap, subst, ◌∙◌, arith}
+use Rattle.std.proofs.Common.{◌≡◌, ℕ, zero, suc, ◌-◌, ◌*◌, ◌%◌, ◌^◌, ◌<◌, true, cond, Option, Some, None, List, [], ◌∷◌, refl, sym, ap, subst, ◌∙◌, arith}
 use Rattle.std.proofs.Common.{slice_get, option_map}
 use Rattle.std.specs.Prelude.{is_none, unwrap_or}
-use Rattle.std.proofs.lemmas.Bool.Decides.{nat_tests}
-use Rattle.gg_base.proofs.Facts.{first_true}
+use Rattle.gg_base.proofs.Facts.{first_true, not_zero, one_less, none_is}
 use Rattle.gg_base.specs.declared.size.Size.{Size}
-use Rattle.gg_base.specs.declared.size.Size.TheVariants.{Byte, Word, Long}
+use Rattle.gg_base.specs.declared.size.Size.TheVariants.{Long}
 use Rattle.gg_base.specs.Sizes.{bytes_of}
+use Rattle.gg_base.proofs.Words.{is_long}
 use Rattle.tree_core.specs.declared.program.TreeProgram.{TreeProgram}
 use Rattle.md_reader.specs.declared.types.Kind.{Kind}
 use Rattle.md_reader.specs.declared.types.Kind.TheVariants as kind
@@ -33,12 +33,6 @@ scene q k a res v = record { program = q; setting = saved_setting k; roles = sav
 
 none_behind : (k : ℕ) (x : Hole) → hole_or_other (slice_get (x ∷ []) (suc k)) ≡ hole_kind.Other
 none_behind k x = refl
-
-not_zero : (k : ℕ) → (suc k == 0) ≡ false
-not_zero k = grind (arith, nat_tests)
-
-one_less : (k : ℕ) → suc k - 1 ≡ k
-one_less k = omega arith
 
 -- one symbol means what its hole stands for
 module _ (q : TreeProgram) (k : Kind) (a res : Attr Operand) (v : View) (m : State) (h : Means (scene q k a res v) m (saved_hole k) 1 a) where
@@ -75,25 +69,16 @@ module _ (q : TreeProgram) (k : Kind) (a res : Attr Operand) (v : View) (m : Sta
 pub symbol_is : (v : View) (n : ℕ) → v.symbol 1 ≡ Some n → n < 2 ^ 32 → value v (Symbol 1) ≡ n
 symbol_is v n known lt = ap (λ (o : Option ℕ). unwrap_or o 0 % 2 ^ 32) known ∙ (let e : n % 2 ^ 32 ≡ n = omega (arith, lt) in e)
 
-short : (size : Size) (n : ℕ) → n < 2 ^ (8 * bytes_of size) → n < 2 ^ 32
-short Byte n lt = omega (arith, lt)
-short Word n lt = omega (arith, lt)
-short Long n lt = omega (arith, lt)
-
 -- ---- what is saved
 
 pub value_means : (q : TreeProgram) (size : Size) (a res : Attr Operand) (n : ℕ) (v : View) (m : State) → IsValue vax size a → v.symbol 1 ≡ Some n →
     worth vax q size a m ≡ Some n → n < 2 ^ (8 * bytes_of size) → Means (scene q (kind.Value size) a res v) m (hole_kind.Value size) 1 a
-value_means q size a res n v m (operand o fit) known e lt = e ∙ ap Some (sym (symbol_is v n known (short size n lt)))
-value_means q size a res n v m (register r long below) known e lt = e ∙ ap Some (sym (symbol_is v n known (short size n lt)))
+value_means q size a res n v m (operand o fit) known e lt = e ∙ ap Some (sym (symbol_is v n known (is_long size n lt)))
+value_means q size a res n v m (register r long below) known e lt = e ∙ ap Some (sym (symbol_is v n known (is_long size n lt)))
 
 pub place_means : (q : TreeProgram) (size : Size) (o : Operand) (res : Attr Operand) (n : ℕ) (v : View) (m : State) → v.symbol 1 ≡ Some n →
     names o size m ≡ Some n → n < 2 ^ 32 → Means (scene q (kind.Place size) (attr.Place o) res v) m (hole_kind.SavedPlace size) 1 (attr.Place o)
 place_means q size o res n v m known e lt = e ∙ ap Some (sym (symbol_is v n known lt))
-
-no_index : {A : Type 0} (o : Option A) → is_none o ≡ true → o ≡ None
-no_index None e = refl
-no_index (Some x) e = absurd (cc)
 
 without : (o : Operand) (size : Size) (m : State) (n : ℕ) → o.index ≡ None → names o size m ≡ Some n → named m o.base ≡ Some n
 without o size m n plain e = same (named m o.base) ∙ (ap (λ i. option_map (moved m i size) (named m o.base)) (sym plain) ∙ e) where
@@ -104,5 +89,5 @@ without o size m n plain e = same (named m o.base) ∙ (ap (λ i. option_map (mo
 pub address_means : (q : TreeProgram) (o : Operand) (res : Attr Operand) (n : ℕ) (v : View) (m : State) → fits kind.Ea o ≡ true → v.symbol 1 ≡ Some n →
     names o Long m ≡ Some n → n < 2 ^ 32 → Means (scene q kind.Ea (attr.Ea o) res v) m hole_kind.Address 1 (attr.Ea o)
 address_means q o res n v m fit known e lt =
-    let plain = no_index o.index (first_true (is_none o.index) (is_place o) fit) in
+    let plain = none_is o.index (first_true (is_none o.index) (is_place o) fit) in
     record { plain = plain; named_so = without o Long m n plain e ∙ ap Some (sym (symbol_is v n known lt)) }

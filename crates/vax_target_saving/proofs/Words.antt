@@ -87,11 +87,6 @@ few_bytes Byte = omega arith
 few_bytes Word = omega arith
 few_bytes Long = omega arith
 
-some_bytes : (size : Size) → 1 ≤ bytes_of size
-some_bytes Byte = omega arith
-some_bytes Word = omega arith
-some_bytes Long = omega arith
-
 module _ (m : State) (w : ℕ) (f : IsFrameWord m w) where
   is_touched : (size : Size) → touched m (place_of m w) size ≡ Ok (regions.Stack (place_of m w - 2139095040))
   unfolding touched

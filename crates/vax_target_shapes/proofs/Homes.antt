@@ -1,7 +1,7 @@
 -- A symbol's own place keeps its operand, and a register that is given is a symbol's own.
-use Rattle.std.proofs.Common.{◌≡◌, ℕ, zero, suc, ◌-◌, ◌==◌, Bool, true, false, cond, Option, Some, None, Result, Ok, Err, List, [], ◌∷◌, refl, sym, ap, subst, ◌∙◌, arith, slice_get}
+use Rattle.std.proofs.Common.{◌≡◌, ℕ, zero, suc, ◌-◌, ◌==◌, Bool, true, false, cond, Option, Some, None, Result, Ok, Err, List, [], ◌∷◌, refl, sym, ap, subst, ◌∙◌, slice_get}
 use Rattle.std.specs.Prelude.{is_none}
-use Rattle.std.proofs.lemmas.Bool.Decides.{nat_tests}
+use Rattle.vax_target_spelling.proofs.Shapes.{nth_is}
 use Rattle.gg_base.specs.declared.size.Size.{Size}
 use Rattle.gg_base.specs.declared.size.Size.TheVariants.{Byte, Long}
 use Rattle.tree_core.specs.declared.token.Tok.{Tok}
@@ -150,20 +150,10 @@ owns_nth q (x ∷ roles) [] k h = absurd h
 owns_nth q (x ∷ roles) (a ∷ hs) zero h = h.0
 owns_nth q (x ∷ roles) (a ∷ hs) (suc k) h = owns_nth q roles hs k h.1
 
-not_zero : (k : ℕ) → (suc k == 0) ≡ false
-not_zero k = grind (arith, nat_tests)
-
-one_less : (k : ℕ) → suc k - 1 ≡ k
-one_less k = omega arith
-
-filling_is : (hs : List (Attr Operand)) (k : ℕ) → attr_at hs attr.Nothing (suc k) ≡ attr_or attr.Nothing (slice_get hs k)
-filling_is hs k =
-    ap (λ b. cond b attr.Nothing (attr_or attr.Nothing (slice_get hs (suc k - 1)))) (not_zero k) ∙ ap (λ n. attr_or attr.Nothing (slice_get hs n)) (one_less k)
-
 -- what fills a hole
-filled_with : (hs : List (Attr Operand)) (i : ℕ) (h : Attr Operand) → hole hs i ≡ Some h → attr_at hs attr.Nothing i ≡ h
+pub filled_with : (hs : List (Attr Operand)) (i : ℕ) (h : Attr Operand) → hole hs i ≡ Some h → attr_at hs attr.Nothing i ≡ h
 filled_with hs zero h e = absurd (cc)
-filled_with hs (suc k) h e = filling_is hs k ∙ ap (attr_or attr.Nothing) e
+filled_with hs (suc k) h e = nth_is hs k ∙ ap (attr_or attr.Nothing) e
 
 module _ (q : TreeProgram) (s : Setting) (roles : List Hole) (hs : List (Attr Operand)) (owns : AllOwn q roles hs) where
   -- a symbol's place stands for its own operand

@@ -40,18 +40,12 @@ use Rattle.vax_target_operands.specs.Scenes.{Scene, worth, role_at, filling_at, 
 use Rattle.vax_target_operands.specs.Places.{BaseIsShort}
 use Rattle.vax_target_operands.proofs.Binds.{err_ok, ok_same, chained}
 use Rattle.vax_target_operands.proofs.Holes.{area_bytes, memory_read, number_is, absolute_is, register_is}
+use Rattle.vax_target_operands.proofs.Forms.{displaced_is}
 
 pub is_longword : (n : ℕ) → n < 2 ^ 32 → longword n ≡ Some n
 is_longword n lt = ap (λ b. cond b (Some n) None) (below n (2 ^ 32) lt) where
   below : (n k : ℕ) → n < k → nat_lt n k ≡ true
   below n k lt = grind (arith, nat_tests)
-
--- a displaced address is a sum
-displaced_is : (x y : Result Shape TemplateKind) (t : Shape) → displaced x y ≡ Ok t → (a : Shape) × (b : Shape) × (x ≡ Ok a) × (y ≡ Ok b) × (sum a b ≡ t)
-displaced_is x y t e =
-    let d = chained x _ t e in
-    let r = chained y _ t d.then_so in
-    (d.first, r.first, d.is, r.is, ok_same (sum d.first r.first) t r.then_so)
 
 module _ (c : Scene) (m : State) (h : Sees c None m) where
   abbrev F : Base → Operand

@@ -10,6 +10,7 @@ use Rattle.term_core.proofs.Values.{small}
 use Rattle.sel_terms.specs.Effects as effects
 use Rattle.sel_terms.specs.Effects.{ActShape}
 use Rattle.sel_terms.specs.Same.{same_size}
+use Rattle.sel_terms.proofs.Alike.{equal_sizes}
 use Rattle.sel_target.specs.declared.fault.TemplateKind.{TemplateKind}
 use Rattle.sel_target.specs.declared.fault.TemplateKind.TheVariants.{WrongSize}
 use Rattle.sel_target.specs.Values.{term_state, IsRead}
@@ -44,7 +45,6 @@ use Rattle.vax_target_operands.specs.Scenes.{Scene, worth, role_at, filling_at, 
 use Rattle.vax_target_operands.specs.Places.{BaseIsShort}
 use Rattle.vax_target_operands.proofs.Binds.{err_ok, ok_same, chained}
 use Rattle.vax_target_operands.proofs.Holes.{memory_read, number_is, constant_known, number_means, constant_address}
-use Rattle.vax_target_lines.proofs.Takings.{same_sizes}
 use Rattle.vax_target_reading.proofs.Places.{by_names}
 use Rattle.vax_target_shapes.proofs.Naming.{is_longword, in_area, all_mean, NamesAt, form_names}
 
@@ -190,7 +190,7 @@ module _ (c : Scene) (m : State) (h : Sees c None m) where
   sized_is : (z size : Size) (x t : Taken) → sized z size x ≡ t → t.missized ≡ false → (z ≡ size) × (x ≡ t)
   sized_is z size x t e whole = by (same_size z size) refl e where
     by : (b : Bool) → same_size z size ≡ b → cond b x taken_missized ≡ t → (z ≡ size) × (x ≡ t)
-    by true same e = (same_sizes z size same, e)
+    by true same e = (equal_sizes z size same, e)
     by false same e = absurd (missized (ap (λ (y : Taken). y.missized) e ∙ whole)) where
       missized : true ≡ false → ⊥
       missized q = cc

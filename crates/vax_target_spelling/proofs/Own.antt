@@ -1,9 +1,9 @@
 -- What the operands of registers, words and arguments spell, and which operands are spelled alike.
 use Rattle.std.proofs.Common.{◌≡◌, ◌↔◌, ℕ, zero, suc, ◌+◌, ◌-◌, ◌*◌, ◌/◌, ◌%◌, ◌^◌, ◌<◌, ◌==◌, ◌&&◌, ◌||◌, Bool, true, false, cond, Option, Some, None, refl, ap, ◌∙◌, arith}
 use Rattle.std.specs.Prelude.{nat_lt, nat_le}
-use Rattle.std.proofs.lemmas.Bool.Decides.{nat_tests}
 use Rattle.std.proofs.lemmas.Bool.{lt-ltb, le-leb}
-use Rattle.gg_base.specs.Arithmetic.{neg32}
+use Rattle.gg_base.proofs.Facts.{is_zero}
+use Rattle.gg_base.proofs.Words.{neg_twice}
 use Rattle.tree_core.specs.declared.token.Tok.TheVariants as tok
 use Rattle.sel_target.specs.Meaning.{Spot, RegAt, WordAt, touches, is_word}
 use Rattle.vax_core.specs.declared.register.Reg.{Reg}
@@ -41,12 +41,6 @@ register_bits (suc (suc (suc (suc (suc (suc (suc (suc (suc (suc (suc (suc n)))))
 
 -- ---- words of the frame
 
-is_zero : (n : ℕ) → n ≡ 0 → (n == 0) ≡ true
-is_zero n e = grind (arith, nat_tests)
-
-twice_negative : (n : ℕ) → n < 2 ^ 32 → neg32 (neg32 n) ≡ n
-twice_negative n lt = omega arith
-
 by_tests : (a b c : Bool) (o : Option ℕ) → a ≡ true → b ≡ true → c ≡ true → cond (a && (b && c)) o None ≡ o
 by_tests true true true o e f g = refl
 by_tests true true false o e f g = absurd (cc)
@@ -60,7 +54,7 @@ word_at w lt =
     ∙ ap Some (let e : 4 * (w + 1) / 4 - 1 ≡ w = omega arith in e)
 
 pub home_word : (w : ℕ) → w < 1024 → word_of (home w).base ≡ Some w
-home_word w lt = ap word_below (twice_negative (4 * (w + 1)) (omega arith)) ∙ word_at w lt
+home_word w lt = ap word_below (neg_twice (4 * (w + 1)) (omega arith)) ∙ word_at w lt
 
 pub at_home_word : (w : ℕ) → w < 1024 → word_of (at_home w).base ≡ Some w
 at_home_word w lt = home_word w lt
@@ -105,7 +99,7 @@ as_bit : (b : Bool) → (bit b == 1) ≡ b
 as_bit true = refl
 as_bit false = refl
 
-or_false : (b : Bool) → b ≡ (b || false)
+pub or_false : (b : Bool) → b ≡ (b || false)
 or_false true = refl
 or_false false = refl
 

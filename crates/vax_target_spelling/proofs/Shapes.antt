@@ -5,7 +5,7 @@ use Rattle.std.specs.List.{list_any}
 use Rattle.gg_base.specs.declared.size.Size.{Size}
 use Rattle.gg_base.specs.declared.size.Size.TheVariants.{Byte, Long}
 use Rattle.gg_base.specs.Arithmetic.{neg32}
-use Rattle.std.proofs.lemmas.Bool.Decides.{nat_tests}
+use Rattle.gg_base.proofs.Facts.{not_zero, one_less}
 use Rattle.std.proofs.lemmas.Bool.{false≢true, or_left, or_right}
 use Rattle.tree_core.specs.declared.token.Tok.{Tok}
 use Rattle.tree_core.specs.declared.token.Tok.TheVariants as tok
@@ -66,6 +66,7 @@ use Rattle.vax_templates.specs.Filled.{alone, spare, numbered, register_in, attr
 use Rattle.vax_templates.specs.Filled.{slot_deferred, argument_deferred, leaf_operand, operand_in, deferred_in, filled_base, with_index, filled, filled_or_spare, filled_operand}
 use Rattle.vax_target_meaning.specs.Vax.{vax}
 use Rattle.vax_target_writing.proofs.Each.{EachOk, bind_each, always_ok, still_ok, of_ok}
+use Rattle.vax_target_writing.proofs.Naming.{either_is}
 use Rattle.vax_target_spelling.proofs.Own.{names_at, base_at, touches_is}
 
 -- ---- operands that touch nothing, and those that touch what a register touches
@@ -114,15 +115,10 @@ dispdef_touches : (n : ℕ) (a : Addr) (s : Spot) → n < 12 → touches vax (al
 dispdef_touches n a (RegAt k) lt e = e
 dispdef_touches n a (WordAt w) lt e = absurd (false≢true (ap (λ o. is_word o w) (sym (no_word n a lt)) ∙ e))
 
--- an index touches what its register touches, and the base what it does alone
-or_split : (a b : Bool) {P : Type 0} → (a || b) ≡ true → (a ≡ true → P) → (b ≡ true → P) → P
-or_split true b e f g = f refl
-or_split false b e f g = g e
-
 indexed_touches : (o : Operand) (r : Reg) (s : Spot) (P : Type 0) → touches vax (record o { index = Some r }) s ≡ true →
     (touches vax o s ≡ true → P) → (touches vax (alone (bases.Reg r)) s ≡ true → P) → P
 indexed_touches o r s P e f g =
-    or_split (base_at o.base s) (names_at (Some r) s) (sym (touches_is (record o { index = Some r }) s) ∙ e)
+    either_is (base_at o.base s) (names_at (Some r) s) (sym (touches_is (record o { index = Some r }) s) ∙ e)
     (λ b. f (touches_is o s ∙ or_left (base_at o.base s) (names_at o.index s) b))
     (λ n. g (touches_is (alone (bases.Reg r)) s ∙ as_register s n)) where
       as_register : (s : Spot) → names_at (Some r) s ≡ true → (base_at (bases.Reg r) s || names_at None s) ≡ true
@@ -614,13 +610,7 @@ unfolding Rattle.vax_templates.specs.Forms.form_front Rattle.vax_templates.specs
     Rattle.vax_templates.specs.Forms.index_front Rattle.vax_templates.specs.Marks.at_front filled_base
 alone_filled q i hs = refl
 
-not_zero : (k : ℕ) → (suc k == 0) ≡ false
-not_zero k = grind (arith, nat_tests)
-
-one_less : (k : ℕ) → suc k - 1 ≡ k
-one_less k = omega arith
-
-nth_is : (hs : List (Attr Operand)) (k : ℕ) → attr_at hs attr.Nothing (suc k) ≡ attr_or attr.Nothing (slice_get hs k)
+pub nth_is : (hs : List (Attr Operand)) (k : ℕ) → attr_at hs attr.Nothing (suc k) ≡ attr_or attr.Nothing (slice_get hs k)
 nth_is hs k =
     ap (λ b. cond b attr.Nothing (attr_or attr.Nothing (slice_get hs (suc k - 1)))) (not_zero k)
     ∙ ap (λ n. attr_or attr.Nothing (slice_get hs n)) (one_less k)

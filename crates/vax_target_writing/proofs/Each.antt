@@ -1,5 +1,5 @@
 -- What holds of a value where there is one, carried through the parts of a reading and of a judgement.
-use Rattle.std.proofs.Common.{◌≡◌, Bool, true, false, cond, Option, Some, None, Result, Ok, Err, List, [], ◌∷◌, ◌++◌, map, refl, subst, option_map}
+use Rattle.std.proofs.Common.{◌≡◌, Bool, true, false, cond, Option, Some, None, Result, Ok, Err, List, [], ◌∷◌, map, refl, subst, option_map}
 use Rattle.std.specs.Option.{option_and_then}
 use Rattle.std.specs.List.{AllByRecursion}
 use Rattle.vax_templates.specs.Marks.{either}
@@ -61,11 +61,6 @@ if_each P false x y h k = k refl
 pub if_ok : {A E : Type 0} (P : A → Type 0) (b : Bool) (x y : Result A E) → (b ≡ true → EachOk P x) → (b ≡ false → EachOk P y) → EachOk P (cond b x y)
 if_ok P true x y h k = h refl
 if_ok P false x y h k = k refl
-
--- lists
-pub all_behind : {A : Type 0} (P : A → Type 0) (xs : List A) (x : A) → AllByRecursion P xs → P x → AllByRecursion P (xs ++ x ∷ [])
-all_behind P [] x h k = (k, tt)
-all_behind P (y ∷ ys) x h k = (h.0, all_behind P ys x h.1 k)
 
 pub all_of_map : {A B : Type 0} (P : B → Type 0) (f : A → B) (xs : List A) → AllByRecursion (λ (x : A). P (f x)) xs → AllByRecursion P (map f xs)
 all_of_map P f [] h = tt

@@ -5,6 +5,7 @@ use Rattle.std.specs.List.{AllByRecursion}
 use Rattle.std.proofs.lemmas.Bool.{lt-ltb, leb-true, and_from}
 use Rattle.gg_base.proofs.Facts.{first_true, second_true}
 use Rattle.gg_base.specs.Arithmetic.{neg32}
+use Rattle.gg_base.proofs.Words.{neg_small}
 use Rattle.tree_core.specs.declared.token.Tok.{Tok}
 use Rattle.tree_core.specs.declared.token.Tok.TheVariants as tok
 use Rattle.tree_core.specs.declared.token.AttKind.TheVariants as att_kind
@@ -40,13 +41,10 @@ use Rattle.vax_target_writing.proofs.Operands.{IsReadable, IsMemory, IsPlain, Is
 
 -- ---- tests
 
-neg32_below : (n : ℕ) → neg32 n < 2 ^ 32
-neg32_below n = omega arith
-
 -- ---- the words of a frame and the arguments
 
 home_base : (k : ℕ) → is_base (home k).base ≡ true
-home_base k = lt-ltb (neg32 (4 * (k + 1))) (2 ^ 32) (neg32_below (4 * (k + 1)))
+home_base k = lt-ltb (neg32 (4 * (k + 1))) (2 ^ 32) (neg_small (4 * (k + 1)))
 
 pub home_memory : (k : ℕ) → IsMemory (home k)
 home_memory k = record { memory = refl; base = home_base k }

@@ -4,6 +4,7 @@ use Rattle.std.specs.Prelude.{codes}
 use Rattle.std.specs.Option.{option_and_then}
 use Rattle.std.specs.List.{AllByRecursion, list_any}
 use Rattle.std.proofs.lemmas.Bool.{or_right}
+use Rattle.md_reader.proofs.Inversion.{All-push}
 use Rattle.md_reader_text.specs.Words.{same}
 use Rattle.md_reader_pieces.specs.declared.piece.Piece.{Piece}
 use Rattle.md_reader_pieces.specs.declared.piece.Piece.TheVariants as piece
@@ -23,7 +24,7 @@ use Rattle.vax_templates.specs.Marks.{marks_of, is_byte, strip, hole_front}
 use Rattle.vax_templates.specs.Forms.{form_front}
 use Rattle.vax_templates.specs.Instructions.{Instruction, Relation, Jump, Calls, Ret, Operates, forms_from, is_label, is_call, behind_blank, only, is_empty, jumps, operates}
 use Rattle.vax_templates.specs.Instructions.{behind, relation_behind, relation, with_op, word_len, word_of, marks_behind, instruction_of, whole, shape_of_pieces}
-use Rattle.vax_target_writing.proofs.Each.{Each, either_each, and_then_each, map_each, always, if_each, all_behind}
+use Rattle.vax_target_writing.proofs.Each.{Each, either_each, and_then_each, map_each, always, if_each}
 use Rattle.vax_target_writing.proofs.Longs.{IsLongForm, IsLongFront, form_long}
 
 -- ---- operands
@@ -38,7 +39,7 @@ forms_are before read [] [] count h e = record { longs = h; many = omega (arith,
 forms_are before read [] (m ∷ ms) count h e = tt
 forms_are before read (k ∷ ks) ms count h e =
     and_then_each IsLongFront (AreRead count) (option_and_then form_front (strip before ms)) (λ (x : Form × List Mark). forms_from 44 (read ++ x.0 ∷ []) ks x.1)
-    (λ x long. forms_are 44 (read ++ x.0 ∷ []) ks x.1 count (all_behind IsLongForm read x.0 h long) (omega (arith, e, length-append read (x.0 ∷ []))))
+    (λ x long. forms_are 44 (read ++ x.0 ∷ []) ks x.1 count (All-push IsLongForm read x.0 h long) (omega (arith, e, length-append read (x.0 ∷ []))))
     (and_then_each (λ y. Unit {0}) IsLongFront (strip before ms) form_front (λ y u. form_long y) (always (strip before ms) tt))
 
 -- ---- holes that name a label or a call

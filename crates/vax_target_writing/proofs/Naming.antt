@@ -47,16 +47,16 @@ use Rattle.vax_target_writing.proofs.Written.{CanGo, CanCall, Names}
 
 -- ---- names
 
-digit_part : (m : ℕ) → m < 10 → is_name_part (48 + m) ≡ true
+pub digit_part : (m : ℕ) → m < 10 → is_name_part (48 + m) ≡ true
 digit_part m h = grind (arith, nat_tests)
 
-digits_step : (m : ℕ) (ds : List ℕ) → list_all is_name_part ds ≡ true → list_all is_name_part (ds ++ (48 + m % 10) ∷ []) ≡ true
+pub digits_step : (m : ℕ) (ds : List ℕ) → list_all is_name_part ds ≡ true → list_all is_name_part (ds ++ (48 + m % 10) ∷ []) ≡ true
 digits_step m ds h = list_all-append is_name_part ds ((48 + m % 10) ∷ []) ∙ rw (h, digit_part (m % 10) (omega arith)) refl
 
-digit_one : (m : ℕ) → m < 10 → list_all is_name_part ((48 + m) ∷ []) ≡ true
+pub digit_one : (m : ℕ) → m < 10 → list_all is_name_part ((48 + m) ∷ []) ≡ true
 digit_one m h = rw (digit_part m h) refl
 
-digits_are_parts : (n : ℕ) → n < 2 ^ 64 → list_all is_name_part (decimal n) ≡ true
+pub digits_are_parts : (n : ℕ) → n < 2 ^ 64 → list_all is_name_part (decimal n) ≡ true
 digits_are_parts = decimal_by_steps (λ m ds. list_all is_name_part ds ≡ true) (λ m l. digit_one m l) (λ m ds l h. digits_step m ds h)
 
 label_spelled : (n : ℕ) → n < 2 ^ 32 → is_name (label_name n) ≡ true
@@ -278,7 +278,7 @@ callee_allowed register right (piece.Label ∷ ps) fit e =
 pieces_of_line : (register : Bool) (right : List Sym) (ps : List Piece) → line_fits register right ps ≡ true → pieces_fit register right ps ≡ true
 pieces_of_line register right ps e = second_true (relation_fits register right (hole_behind (behind_j ps))) (pieces_fit register right ps) e
 
-either_is : (a b : Bool) {P : Type 0} → (a || b) ≡ true → (a ≡ true → P) → (b ≡ true → P) → P
+pub either_is : (a b : Bool) {P : Type 0} → (a || b) ≡ true → (a ≡ true → P) → (b ≡ true → P) → P
 either_is true b e f g = f refl
 either_is false b e f g = g e
 

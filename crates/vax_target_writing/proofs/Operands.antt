@@ -1,11 +1,12 @@
 -- An operand of a template, with its holes filled, is one that its instruction may have there.
-use Rattle.std.proofs.Common.{◌≡◌, ℕ, zero, suc, ◌-◌, ◌^◌, ◌<◌, ◌==◌, Bool, true, false, cond, not, ◌&&◌, Option, Some, None, Result, Ok, Err, List, [], ◌∷◌, map, length, refl, arith, slice_get}
+use Rattle.std.proofs.Common.{◌≡◌, ℕ, zero, suc, ◌-◌, ◌^◌, ◌==◌, Bool, true, false, cond, not, ◌&&◌, Option, Some, None, Result, Ok, Err, List, [], ◌∷◌, map, length, refl, arith, slice_get}
 use Rattle.std.specs.Prelude.{is_none}
 use Rattle.std.specs.List.{AllByRecursion}
 use Rattle.std.proofs.lemmas.Bool.{and_from, lt-ltb}
 use Rattle.gg_base.proofs.Facts.{second_true}
 use Rattle.gg_base.specs.declared.size.Size.{Size}
 use Rattle.gg_base.specs.Arithmetic.{neg32}
+use Rattle.gg_base.proofs.Words.{neg_small}
 use Rattle.tree_core.specs.declared.program.TreeProgram.{TreeProgram}
 use Rattle.sel_target.specs.declared.attr.Attr.{Attr}
 use Rattle.sel_target.specs.declared.fault.TemplateKind.{TemplateKind}
@@ -244,9 +245,6 @@ is_readable (SavedPlace z i) o h = readable_memory o h
 is_readable (Saved i) o h = readable_memory o h
 is_readable (At a p) o h = readable_memory o h
 
-neg32_below : (n : ℕ) → neg32 n < 2 ^ 32
-neg32_below n = omega arith
-
 module _ (q : TreeProgram) (s : Setting) (holes : List Hole) (zero' : Option Shape) (hs : List (Attr Operand)) (res : Attr Operand) where
   abbrev Filling : Type 0
   Filling = AllSpell q holes hs × OwnSpells q s.own res
@@ -380,7 +378,7 @@ module _ (q : TreeProgram) (s : Setting) (holes : List Hole) (zero' : Option Sha
       bind_each (λ (t : Shape). Unit {0}) (λ w. StandsBare w (record { base = bases.Imm (addr_number (neg32 (addr_in q (attr_at hs res i)).offset)); index = None }))
       (constant_of (hole_at holes i) i) negated
       (λ t u. readable_number (addr_number (neg32 (addr_in q (attr_at hs res i)).offset))
-      (lt-ltb (neg32 (addr_in q (attr_at hs res i)).offset) (2 ^ 32) (neg32_below (addr_in q (attr_at hs res i)).offset)))
+      (lt-ltb (neg32 (addr_in q (attr_at hs res i)).offset) (2 ^ 32) (neg_small (addr_in q (attr_at hs res i)).offset)))
       (always_ok (constant_of (hole_at holes i) i) tt)
   base_stands (base.RegisterDeferred i) long h =
       in_memory (λ w. StandsBare w (record { base = bases.Def (register_in (attr_at hs res i)); index = None })) (register_term s holes zero' i) at

@@ -1,5 +1,5 @@
 -- How deep the terms nest of what a template does, line by line.
-use Rattle.std.proofs.Common.{◌≤◌, ℕ, ◌+◌, ◌*◌, Bool, true, false, Option, Some, None, Result, Ok, Err, List, [], ◌∷◌, ◌++◌, length, arith}
+use Rattle.std.proofs.Common.{◌≤◌, ℕ, ◌+◌, ◌*◌, Bool, true, false, Option, Some, None, Result, Ok, Err, List, [], ◌∷◌, length, arith}
 use Rattle.std.specs.Prelude.{max, is_none}
 use Rattle.gg_base.specs.declared.size.Size.{Size}
 use Rattle.gg_base.specs.declared.size.Size.TheVariants.{Byte, Long}
@@ -13,7 +13,7 @@ use Rattle.term_core.specs.Shape.{Shape}
 use Rattle.sel_terms.specs.Effects.{ActShape, EffectShape, Value, PlaceHome}
 use Rattle.sel_terms.specs.Same.{same_size}
 use Rattle.sel_terms_depth.specs.Depth.{AreWithin, IsWithin}
-use Rattle.sel_terms_depth.proofs.Patterns.{more_divisors}
+use Rattle.sel_terms_depth.proofs.Patterns.{more_divisors, joined}
 use Rattle.sel_target.specs.declared.fault.TemplateKind.{TemplateKind}
 use Rattle.sel_target.specs.declared.fault.TemplateKind.TheVariants.{NotInstr, WrongSize}
 use Rattle.sel_target.specs.Meaning.{Fault}
@@ -52,10 +52,6 @@ grown m (l ∷ ls) = grown (6 + m) ls
 grown_is : (m : ℕ) (ls : List Line) → grown m ls ≤ 6 * length ls + m
 grown_is m [] = omega arith
 grown_is m (l ∷ ls) = omega (arith, grown_is (6 + m) ls)
-
-joined : (n : ℕ) (a b : List Shape) → AreWithin n a → AreWithin n b → AreWithin n (a ++ b)
-joined n [] b h k = k
-joined n (t ∷ a) b h k = (h.0, joined n a b h.1 k)
 
 more_some : (m n : ℕ) → m ≤ n → (t : Option Shape) → SomeWithin m t → SomeWithin n t
 more_some m n l None h = tt

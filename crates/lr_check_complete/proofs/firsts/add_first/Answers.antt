@@ -1,7 +1,8 @@
 use Rattle.std.proofs.Common.{sym, ◌∙◌}
 use Rattle.lr_check_found.specs.declared.settlings.Item.TheVariants as item
 use Rattle.lr_check_found.specs.declared.places.Origin.TheVariants as origin
-use Rattle.lr_check_complete.proofs.Turns.{on_ok, looks_there, looks_pushed}
+use Rattle.lr_check_found.proofs.Added.{on_ok}
+use Rattle.lr_check_complete.proofs.Turns.{looks_there, looks_pushed}
 use Rattle.lr_check_complete.proofs.Gaining.{first_at, sums_only, first_begun}
 use Rattle.lr_check_complete.proofs.firsts.add_first.Goals as goal
 

@@ -1,6 +1,7 @@
-use Rattle.lr_check_complete.proofs.Turns.{on_ok, looks_map}
+use Rattle.lr_check_complete.proofs.Turns.{looks_map}
 use Rattle.lr_check_complete.proofs.Framing.{none_kids, one_kids, two_kids_are, kids_none, kids_one, kids_two}
 use Rattle.lr_check_complete.proofs.frames.all_kids.Goals as goal
+use Rattle.lr_check_found.proofs.Added.{on_ok}
 
 pub returns-then-kids-eq0 : goal.returns-then-kids-eq0
 returns-then-kids-eq0 c = λ A q found frame. on_ok _ _ _

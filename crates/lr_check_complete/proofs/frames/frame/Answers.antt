@@ -1,7 +1,8 @@
 use Rattle.std.proofs.Common.{ℕ, List, Contains, sym, ◌∙◌, subst}
 use Rattle.std.proofs.lemmas.Option.{none-some}
+use Rattle.lr_check_found.proofs.Added.{on_ok}
 use Rattle.lr_check_sets.specs.Table.{automaton_of}
-use Rattle.lr_check_complete.proofs.Turns.{on_ok, looks_map, looks_there}
+use Rattle.lr_check_complete.proofs.Turns.{looks_map, looks_there}
 use Rattle.lr_check_complete.proofs.Framing.{frame_in}
 use Rattle.lr_check_complete.proofs.frames.frame.Goals as goal
 

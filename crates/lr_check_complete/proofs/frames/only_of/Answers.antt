@@ -3,8 +3,9 @@ use Rattle.std.proofs.lemmas.Option.{same_Some}
 use Rattle.lr_check_found.specs.declared.places.Place.{Place}
 use Rattle.lr_check_found.specs.Found.{IsPlaceAt}
 use Rattle.lr_check_found.proofs.Reading.{looked_at}
+use Rattle.lr_check_found.proofs.Added.{on_ok}
 use Rattle.lr_check_complete.specs.Kids.{OnlyIn}
-use Rattle.lr_check_complete.proofs.Turns.{on_ok, looks_map, looks_there}
+use Rattle.lr_check_complete.proofs.Turns.{looks_map, looks_there}
 use Rattle.lr_check_complete.proofs.Both.{not_there}
 use Rattle.lr_check_complete.proofs.frames.only_of.Goals as goal
 

@@ -1,7 +1,8 @@
 use Rattle.std.proofs.Common.{ℕ, List, Contains, sym, subst}
 use Rattle.lr_check_found.specs.declared.settlings.Item.TheVariants as item
 use Rattle.lr_check_found.specs.declared.places.Origin.TheVariants as origin
-use Rattle.lr_check_complete.proofs.Turns.{on_ok, looks_map, looks_pushed}
+use Rattle.lr_check_found.proofs.Added.{on_ok}
+use Rattle.lr_check_complete.proofs.Turns.{looks_map, looks_pushed}
 use Rattle.lr_check_complete.proofs.Kids_found.{held_sum, one_made, only_at, only_begun}
 use Rattle.lr_check_complete.proofs.kids.only_at.Goals as goal
 

@@ -3,7 +3,8 @@ use Rattle.md_reader.specs.declared.types.Sym.{Sym}
 use Rattle.md_reader.specs.declared.types.Sym.TheVariants as grammar_symbol
 use Rattle.lr_check_found.specs.Lists.{IsList}
 use Rattle.lr_check_found.specs.Found.{Settles}
-use Rattle.lr_check_complete.proofs.Turns.{on_ok, looks_map}
+use Rattle.lr_check_found.proofs.Added.{on_ok}
+use Rattle.lr_check_complete.proofs.Turns.{looks_map}
 use Rattle.lr_check_complete.proofs.Kids_found.{one_in}
 use Rattle.lr_check_complete.proofs.kids.only_sum.Goals as goal
 

@@ -1,9 +1,10 @@
 use Rattle.std.proofs.Common.{ℕ, ◌<◌, length}
+use Rattle.lr_check_found.proofs.Added.{on_ok}
 use Rattle.lr_check_sets.specs.Closed.{IsClosed}
 use Rattle.lr_check_sets.specs.Table.{automaton_of}
 use Rattle.lr_check_complete.specs.Sets.{HasPlace, HasSettling, HasSum}
 use Rattle.lr_check_complete.specs.Kids.{ReducesIn}
-use Rattle.lr_check_complete.proofs.Turns.{on_ok, looks_both}
+use Rattle.lr_check_complete.proofs.Turns.{looks_both}
 use Rattle.lr_check_complete.proofs.Complete_sets.{closed}
 use Rattle.lr_check_complete.proofs.lacking.push_lacking.Goals as goal
 

@@ -1,8 +1,9 @@
 use Rattle.std.proofs.Common.{sym, ap, ◌∙◌, subst}
 use Rattle.lr_check_found.specs.declared.choices.Seen.{Seen}
 use Rattle.lr_check_found.specs.declared.choices.Leads.{Leads}
+use Rattle.lr_check_found.proofs.Added.{on_ok}
 use Rattle.lr_check_complete.specs.Kids.{LeadsIn}
-use Rattle.lr_check_complete.proofs.Turns.{on_ok, looks_map, looks_there}
+use Rattle.lr_check_complete.proofs.Turns.{looks_map, looks_there}
 use Rattle.lr_check_complete.proofs.reductions.by_choice.Goals as goal
 
 pub returns-in-Whole : goal.returns-in-Whole

@@ -4,7 +4,8 @@ use Rattle.lr_check_sets.specs.Table.{automaton_of}
 use Rattle.lr_check_found.specs.Lists.{ListsView}
 use Rattle.lr_check_found.specs.Found.{IsPlaceAt}
 use Rattle.lr_check_found.proofs.Reading.{looked_at}
-use Rattle.lr_check_complete.proofs.Turns.{on_ok, looks_map, looks_there}
+use Rattle.lr_check_found.proofs.Added.{on_ok}
+use Rattle.lr_check_complete.proofs.Turns.{looks_map, looks_there}
 use Rattle.lr_check_complete.proofs.Both.{not_there}
 use Rattle.lr_check_complete.proofs.Reducing.{reduced_made, reduces_in, reduces_nowhere, reduces_lost}
 use Rattle.lr_check_complete.proofs.reductions.by_settling.Goals as goal

@@ -1,5 +1,6 @@
 use Rattle.std.proofs.Common.{◌<◌, ℕ, List, Contains, length, sym, subst, arith}
-use Rattle.lr_check_complete.proofs.Turns.{on_ok, looks_both, looks_there, elem_at}
+use Rattle.lr_check_found.proofs.Added.{on_ok}
+use Rattle.lr_check_complete.proofs.Turns.{looks_both, looks_there, elem_at}
 use Rattle.lr_check_complete.proofs.Both.{frame_two, two_kids, first_in}
 use Rattle.lr_check_complete.proofs.two.pair.Goals as goal
 

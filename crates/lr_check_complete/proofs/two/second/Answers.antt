@@ -3,8 +3,9 @@ use Rattle.std.proofs.lemmas.Option.{same_Some}
 use Rattle.lr_check_found.specs.declared.places.Place.{Place}
 use Rattle.lr_check_found.specs.Found.{IsPlaceAt}
 use Rattle.lr_check_found.proofs.Reading.{looked_at}
+use Rattle.lr_check_found.proofs.Added.{on_ok}
 use Rattle.lr_check_complete.specs.Kids.{SecondAt}
-use Rattle.lr_check_complete.proofs.Turns.{on_ok, looks_map, looks_there}
+use Rattle.lr_check_complete.proofs.Turns.{looks_map, looks_there}
 use Rattle.lr_check_complete.proofs.Both.{not_there, second_kid, second_done}
 use Rattle.lr_check_complete.proofs.two.second.Goals as goal
 

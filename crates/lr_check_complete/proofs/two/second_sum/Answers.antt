@@ -4,7 +4,8 @@ use Rattle.md_reader.specs.declared.types.Sym.TheVariants as grammar_symbol
 use Rattle.lr_check_found.specs.Lists.{IsList}
 use Rattle.lr_check_found.specs.Found.{Settles}
 use Rattle.lr_check_found.specs.Adding.{list_number}
-use Rattle.lr_check_complete.proofs.Turns.{on_ok, looks_map}
+use Rattle.lr_check_found.proofs.Added.{on_ok}
+use Rattle.lr_check_complete.proofs.Turns.{looks_map}
 use Rattle.lr_check_complete.proofs.Both.{two_in}
 use Rattle.lr_check_complete.proofs.two.second_sum.Goals as goal
 

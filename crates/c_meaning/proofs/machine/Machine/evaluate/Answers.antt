@@ -2,7 +2,7 @@ use Rattle.std.proofs.Common.{arith, refl, ap, ◌∙◌, ◌≡◌, []}
 use Rattle.std.proofs.lemmas.Result.{IfOk-weaker}
 use Rattle.c_meaning.proofs.Steps.{over}
 use Rattle.c_types.specs.Typed.{term}
-use Rattle.c_meaning.proofs.Rows.{term_call}
+use Rattle.c_types.proofs.Rows.{term_call}
 use Rattle.c_meaning.proofs.machine.Machine.evaluate.Goals as goal
 
 pub returns-in-Number : goal.returns-in-Number

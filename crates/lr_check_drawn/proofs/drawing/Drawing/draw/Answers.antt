@@ -1,7 +1,7 @@
 use Rattle.lr_check_sets.specs.Table.{automaton_of}
-use Rattle.lr_check_drawn.proofs.Asks.{on_ok}
 use Rattle.lr_check_drawn.proofs.Draws.{draws}
 use Rattle.lr_check_drawn.proofs.drawing.Drawing.draw.Goals as goal
+use Rattle.lr_check_found.proofs.Added.{on_ok}
 
 pub returns-clause-drawn : goal.returns-clause-drawn
 returns-clause-drawn c = on_ok c.hold.result _ _

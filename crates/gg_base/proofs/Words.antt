@@ -6,6 +6,9 @@ use Rattle.std.proofs.Math.Nat.{mul_comm, div-le_self}
 use Rattle.std.proofs.Math.Pow.{pow_mono}
 use Rattle.std.proofs.lemmas.Nat.{and_le_l, and_comm, and_mask, shr_le}
 use Rattle.std.proofs.lemmas.Bool.Decides.{nat_tests}
+use Rattle.gg_base.specs.declared.size.Size.{Size}
+use Rattle.gg_base.specs.declared.size.Size.TheVariants.{Byte, Word, Long}
+use Rattle.gg_base.specs.Sizes.{bytes_of}
 use Rattle.gg_base.specs.Arithmetic.{add32, sub32, mul32, and32, neg32, com32, zext8, zext16, sext8, sext16, is_negative, magnitude, same_sign, div32, shifted_left, shifted_right, ash32}
 
 -- results are below 2^32
@@ -22,6 +25,9 @@ sext8_small a = grind (arith, nat_tests)
 pub sext16_small : (a : ℕ) → sext16 a < 2 ^ 32
 sext16_small a = grind (arith, nat_tests)
 
+pub neg_small : (a : ℕ) → neg32 a < 2 ^ 32
+neg_small a = omega arith
+
 pub and_small : (a b : ℕ) → a < 2 ^ 32 → and32 a b < 2 ^ 32
 and_small a b h = omega (arith, and_le_l a b)
 
@@ -29,7 +35,7 @@ pub shifted_left_small : (k a : ℕ) → shifted_left k a < 2 ^ 32
 shifted_left_small k a = grind (arith, nat_tests)
 
 -- a choice of two small numbers is small
-either_small : (b : Bool) (x y : ℕ) → x < 2 ^ 32 → y < 2 ^ 32 → (if b then x else y) < 2 ^ 32
+pub either_small : (b : Bool) (x y : ℕ) → x < 2 ^ 32 → y < 2 ^ 32 → (if b then x else y) < 2 ^ 32
 either_small true x y hx hy = hx
 either_small false x y hx hy = hy
 
@@ -39,13 +45,13 @@ shifted_right_small k a h = either_small (is_negative a) _ _ (omega arith) (omeg
 pub ash_small : (c a : ℕ) → a < 2 ^ 32 → ash32 c a < 2 ^ 32
 ash_small c a h = either_small (nat_lt (zext8 c) (2 ^ 7)) _ _ (shifted_left_small (zext8 c) a) (shifted_right_small (2 ^ 8 - zext8 c) a h)
 
-magnitude_small : (a : ℕ) → a < 2 ^ 32 → magnitude a < 2 ^ 32
+pub magnitude_small : (a : ℕ) → a < 2 ^ 32 → magnitude a < 2 ^ 32
 magnitude_small a h = either_small (is_negative a) _ _ (omega arith) h
 
-quotient_small : (a b : ℕ) → a < 2 ^ 32 → magnitude a / magnitude b < 2 ^ 32
+pub quotient_small : (a b : ℕ) → a < 2 ^ 32 → magnitude a / magnitude b < 2 ^ 32
 quotient_small a b h = omega (arith, div-le_self (magnitude a) (magnitude b), magnitude_small a h)
 
-div_small_by : (zero same : Bool) (q : ℕ) → q < 2 ^ 32 → unwrap_or (if zero then None else if same then Some q else Some (neg32 q)) 0 < 2 ^ 32
+pub div_small_by : (zero same : Bool) (q : ℕ) → q < 2 ^ 32 → unwrap_or (if zero then None else if same then Some q else Some (neg32 q)) 0 < 2 ^ 32
 div_small_by true same q h = omega arith
 div_small_by false true q h = h
 div_small_by false false q h = omega arith
@@ -85,12 +91,27 @@ and_ones a h = and_comm (2 ^ 32 - 1) a ∙ and_mask a 32 ∙ (let e : a % 2 ^ 32
 pub and_count : (a : ℕ) → a < 32 → and32 31 a ≡ a
 and_count a h = and_comm 31 a ∙ and_mask a 5 ∙ (let e : a % 2 ^ 5 ≡ a = omega arith in e)
 
+pub low_count : (y : ℕ) → and32 y 31 ≡ y % 32
+low_count y = and_mask y 5
+
+-- what fits an operand of a size
+
+pub is_long : (z : Size) (x : ℕ) → x < 2 ^ (8 * bytes_of z) → x < 2 ^ 32
+is_long Byte x lt = omega (arith, lt)
+is_long Word x lt = omega (arith, lt)
+is_long Long x lt = lt
+
+pub low_long : (z : Size) (x : ℕ) → x < 2 ^ (8 * bytes_of z) → x % 2 ^ 32 ≡ x
+low_long Byte x lt = omega (arith, lt)
+low_long Word x lt = omega (arith, lt)
+low_long Long x lt = omega (arith, lt)
+
 -- extensions
 
-sext8_cases : (a : ℕ) → ((a % 2 ^ 8 < 128) × (sext8 a ≡ a % 2 ^ 8)) ⊎ ((128 ≤ a % 2 ^ 8) × (sext8 a ≡ a % 2 ^ 8 + (2 ^ 32 - 2 ^ 8)))
+pub sext8_cases : (a : ℕ) → ((a % 2 ^ 8 < 128) × (sext8 a ≡ a % 2 ^ 8)) ⊎ ((128 ≤ a % 2 ^ 8) × (sext8 a ≡ a % 2 ^ 8 + (2 ^ 32 - 2 ^ 8)))
 sext8_cases a = grind (arith, nat_tests)
 
-sext16_cases : (a : ℕ) → ((a % 2 ^ 16 < 2 ^ 15) × (sext16 a ≡ a % 2 ^ 16)) ⊎ ((2 ^ 15 ≤ a % 2 ^ 16) × (sext16 a ≡ a % 2 ^ 16 + (2 ^ 32 - 2 ^ 16)))
+pub sext16_cases : (a : ℕ) → ((a % 2 ^ 16 < 2 ^ 15) × (sext16 a ≡ a % 2 ^ 16)) ⊎ ((2 ^ 15 ≤ a % 2 ^ 16) × (sext16 a ≡ a % 2 ^ 16 + (2 ^ 32 - 2 ^ 16)))
 sext16_cases a = grind (arith, nat_tests)
 
 pub zext8_zext8 : (a : ℕ) → zext8 (zext8 a) ≡ zext8 a
@@ -125,7 +146,7 @@ ash_zext8 c a = ap (λ n. if nat_lt n (2 ^ 7) then shifted_left n a else shifted
 pub ash_sext8 : (c a : ℕ) → ash32 (sext8 c) a ≡ ash32 c a
 ash_sext8 c a = ap (λ n. if nat_lt n (2 ^ 7) then shifted_left n a else shifted_right (2 ^ 8 - n) a) (zext8_sext8 c)
 
-shifted_left_is : (k a : ℕ) → k < 32 → shifted_left k a ≡ (a * 2 ^ k) % 2 ^ 32
+pub shifted_left_is : (k a : ℕ) → k < 32 → shifted_left k a ≡ (a * 2 ^ k) % 2 ^ 32
 shifted_left_is k a h = grind (arith, nat_tests)
 
 pub ash_count : (k a : ℕ) → k < 32 → ash32 k a ≡ mul32 (2 ^ k) a
