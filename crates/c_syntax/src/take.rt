@@ -19,7 +19,7 @@ use c_tokens::{Key, Mark, Spanned, Token};
 pub const LEVELS: u32 = 200;
 
 /// The fault of the token at the front, that it may not stand there.
-#[tactic(auto, using(crate::proofs::Seen::length_seen))]
+#[tactic(auto, using(c_syntax_goals::proofs::Faults::length_seen))]
 pub fn not_here(tokens: &[Spanned]) -> Fault
     ensures { result ≡ faults.NotHere (length (seen tokens.now)) }
 {
@@ -129,7 +129,7 @@ pub fn take_assign(tokens: &[Spanned]) -> Option<(AssignOperator, u32, &[Spanned
 }
 
 /// The level behind what opens here.
-#[tactic(auto, using(crate::proofs::Seen::length_seen))]
+#[tactic(auto, using(c_syntax_goals::proofs::Faults::length_seen))]
 pub fn open_levels(level: u32, by: u32, tokens: &[Spanned]) -> Result<u32, Fault>
     requires low { level ≤ 200 }
     requires small { by ≤ 2 }

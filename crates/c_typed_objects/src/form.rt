@@ -45,7 +45,7 @@ ghost use Rattle.c_typed_definition.specs.Forms.{text_fits};
 
 // An array's initialiser is a list that isn't empty, or for one-byte elements a string literal; any other variable's is
 // one value.
-#[tactic(auto, using(crate::proofs::Lists::count_is))]
+#[tactic(auto, using(c_typed_expressions::proofs::Rows::count_is))]
 fn form_fits(of: CType, length: &Option<Length>, given: &Option<Initialised>) -> bool
     ensures { result ≡ form_fits of (brackets_in (length_of length.now)) (init_in (initialised_of given.now)) }
 {
@@ -68,7 +68,7 @@ fn form_fits(of: CType, length: &Option<Length>, given: &Option<Initialised>) ->
 }
 
 /// How many elements an array's initialiser has.
-#[tactic(auto, using(crate::proofs::Lists::count_is))]
+#[tactic(auto, using(c_typed_expressions::proofs::Rows::count_is))]
 pub fn given_count(given: &Option<Initialised>) -> usize
     ensures { result ≡ given_count (init_in (initialised_of given.now)) }
 {
@@ -85,7 +85,7 @@ pub fn given_count(given: &Option<Initialised>) -> usize
 }
 
 /// How many elements an array without a length gets: a string's closing zero is one.
-#[tactic(auto, using(crate::proofs::Lists::count_is))]
+#[tactic(auto, using(c_typed_expressions::proofs::Rows::count_is))]
 pub fn own_length(given: &Option<Initialised>) -> Result<u32, TypeFault>
     ensures { Gives (λ n. n) result (Ok (own_length (init_in (initialised_of given.now)))) }
 {

@@ -10,7 +10,6 @@ ghost use Rattle.gg_compile_law.specs.Loaded.{AssembledLoads};
 ghost use Rattle.gg_compile_law.specs.Written.{WrittenCodesLoad, WrittenCodesFollow};
 
 /// The law: the stack has room for 1,024 active calls.
-#[tactic(auto, using(crate::proofs::Rooms::stack_has_room))]
 pub fn stack_has_room()
     ensures { StackHasRoom }
 {}
