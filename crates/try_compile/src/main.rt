@@ -1,7 +1,8 @@
 // Compiles C sources and runs both sides. Each line of its input is `REGISTERS@SOURCE@N@INPUT`: the shipped description with so many
 // registers in its pool, or as it is. For each it writes what the command `compile` leaves behind: its status and its report. Where
 // that is a text, it writes what `run` of the text leaves with that number and that input, and what `meaning` of the source leaves,
-// where that differs. A description is read and checked once for the lines that name it one behind another.
+// where that differs. A description is read and checked once for the lines that name it one behind another. Of a line `text@TEXT@N@INPUT`
+// it writes what `run` of that assembly text leaves; `~` stands for a TAB there and `/` for a line feed.
 #![tactic(auto)]
 
 use cmd_check::{Accepted, read_accepted};
@@ -173,6 +174,20 @@ fn told(
     }
 }
 
+// What `run` leaves behind of an assembly text, in which `~` stands for a TAB and `/` for a line feed.
+fn ran_alone(alloc: Global, row: &str, count: u64, input: &str) -> Result<String, AllocError> {
+    let mut text = String::new(alloc);
+    for letter in row.chars() {
+        match letter {
+            '~' => text.push('\t')?,
+            '/' => text.push('\n')?,
+            other => text.push(other)?,
+        }
+    }
+    let mut folder = folder_of(alloc, "a.s", text.as_bytes())?;
+    ran(alloc, &mut folder, true, count, input)
+}
+
 fn answer(rt: HostRuntime, opened: &mut Opened, line: &str) -> io::Result<()> {
     let mut parts = line.split('@');
     let (Some(registers), Some(source), Some(count), Some(input)) = (
@@ -186,6 +201,10 @@ fn answer(rt: HostRuntime, opened: &mut Opened, line: &str) -> io::Result<()> {
     let Ok(count) = count.parse::<u64>() else {
         return println!(rt; "no number");
     };
+    if registers == "text" {
+        let told = ran_alone(rt.alloc(), source, count, input)?;
+        return println!(rt; "{told}");
+    }
     if opened.registers.as_str() != registers {
         *opened = open(rt.alloc(), registers)?;
     }

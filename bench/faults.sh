@@ -1,0 +1,107 @@
+#!/bin/sh
+# Looks up each input of the tables of docs/faults.md, with its report, in the stored runs of the programs `try_*`, and names what stands in
+# none. It reads the stored files alone, which `rt ci` compares with what the programs write.
+# Usage: bench/faults.sh
+set -eu
+. "$(dirname -- "$0")/common.sh"
+
+python3 - "$here" <<'PY'
+import difflib
+import re
+import sys
+
+HERE = sys.argv[1]
+POOLS = {"": "", "text": "", "1": "pool r0\n", "2": "pool r0 r1\n", "3": "pool r0 r1 r2\n"}
+
+
+def stored(crate, name="stdin"):
+    with open(f"{HERE}/crates/{crate}/{name}") as file:
+        return file.read()
+
+
+def lines_of(text):
+    return [line.strip() for line in text.strip().split("\n")]
+
+
+def of_types():
+    """A row is told with its kind and a mark at the fault's place."""
+    for line in stored("try_types", "stdout").split("\n"):
+        kind, _, marked = line.partition(" ")
+        for mark in re.finditer("@", marked):
+            yield marked[: mark.start()] + marked[mark.end() :], kind
+
+
+def of_compile():
+    for row, answer in zip(stored("try_compile").split("\n"), stored("try_compile", "stdout").split("\n")):
+        if row:
+            registers, given = row.split("@")[:2]
+            yield POOLS[registers] + given, answer
+
+
+def of_tables():
+    """Each case is told with its lines; those before `=> front` are no case."""
+    case = []
+    for line in stored("try_tables", "stdout").split("\n"):
+        if line == "=> front":
+            case = []
+        elif line.startswith("=> ") and line[3:8] not in ("sets", "stack"):
+            yield "\n".join(case), line
+            case = []
+        else:
+            case.append(line.strip())
+
+
+def of_check():
+    """The whole description, or its rules and classes less and more than the shipped one's."""
+    with open(f"{HERE}/examples/vax.gg") as file:
+        shipped = lines_of(file.read())
+    answers = re.findall(r"^accepted.*|^(?:blocks|loops)\n(?:  .*\n)*", stored("try_check", "stdout"), re.M)
+    for text, answer in zip(stored("try_check").split("="), answers):
+        lines = lines_of(text)
+        changes = difflib.unified_diff(shipped, lines, n=0, lineterm="")
+        named = [f"{line[0]} {line[1:]}" for line in changes if line[1:5] in ("rule", "clas")]
+        yield "\n".join(named if len(named) < 20 else lines), answer
+
+
+def of_templates():
+    """The lines that save and reload, and the rules, each with the next answer."""
+    items = []
+    for line in lines_of(stored("try_templates")):
+        if line.startswith(("spill", "reload", "rule")):
+            items.append([line])
+        elif items and not line.startswith("#"):
+            items[-1].append(line)
+    return zip(map("\n".join, items), stored("try_templates", "stdout").split("\n"))
+
+
+def spans(cell):
+    return re.findall("`([^`]+)`", cell)
+
+
+def is_stored(reports, shown):
+    """Whether some row is the input, whose answer has all the reports."""
+    whole = re.compile(".+".join(map(re.escape, shown.split("…"))), re.S)
+    return any(whole.fullmatch(row) and all(report in answer for report in reports) for row, answer in ROWS)
+
+
+def of_page():
+    """The reports and the input of each row of the page's tables; a row whose last cell is empty goes on with the one before."""
+    with open(f"{HERE}/docs/faults.md") as file:
+        lines = [line.rstrip("\n") for line in file if line.startswith("| ")]
+    rows = []
+    for report, shown, _, way in (re.split(r" *\| *", line)[1:-1] for line in lines):
+        if not way or not report:
+            rows[-1] = (rows[-1][0] + report, rows[-1][1] + shown)
+        elif "`" in report:
+            rows.append((report, shown))
+    return rows
+
+
+ROWS = [row for rows in (of_types, of_compile, of_tables, of_check, of_templates) for row in rows()]
+page = of_page()
+missing = [(report, shown) for report, shown in page if not is_stored(spans(report), "\n".join(spans(shown)))]
+for report, shown in missing:
+    print(f"in no stored run: {shown}, answered by {report}")
+print(f"{len(page) - len(missing)} of {len(page)} inputs of docs/faults.md stand in stored runs")
+sys.exit(1 if missing or not page else 0)
+PY
