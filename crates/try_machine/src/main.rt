@@ -6,13 +6,16 @@
 // `with R1 R2 C INSTRUCTION`: what r2 holds behind an instruction, and the codes; r1, r2 and whether C is set are given, all numbers
 //   in hexadecimal.
 // `taken BRANCH`: with which codes a branch is taken.
+// `under CODES BRANCH`: whether a branch is taken under the codes; of N, Z and C those stand that are set, and `-` where none is.
 // `mode OPERATION OPERAND`: what an operation reads by an operand, and what r3 and r4 hold behind it. Before it they hold 65,536 and
 //   65,548, and r5 holds 2.
 #![tactic(auto)]
 
+mod conditions;
 mod running;
 mod templates;
 
+use conditions::under;
 use running::told;
 use std::alloc::{AllocError, Global};
 use std::io;
@@ -36,6 +39,8 @@ fn answer(alloc: Global, row: &str) -> Result<String, AllocError> {
         instruction(alloc, row)
     } else if let Some(row) = row.strip_prefix("taken ") {
         branch(alloc, row)
+    } else if let Some(row) = row.strip_prefix("under ") {
+        under(alloc, row)
     } else if let Some(row) = row.strip_prefix("mode ") {
         mode(alloc, row)
     } else {

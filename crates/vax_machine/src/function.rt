@@ -83,8 +83,8 @@ pub struct Computed {
     pub conditions: Conditions,
 }
 
-/// The row of the instruction table.
-pub(crate) fn action_of(op: Op) -> Action
+/// What an instruction does, by the VAX Architecture Handbook: its row of the table of functions.
+pub fn action_of(op: Op) -> Action
     ensures { result ≡ action_of op }
 {
     match op {
@@ -257,7 +257,7 @@ fn quotient(value: Option<u32>) -> Option<Computed>
 
 impl Test {
     /// Whether a branch with this test is taken.
-    pub(crate) fn passes(self, c: Conditions) -> bool
+    pub fn passes(self, c: Conditions) -> bool
         ensures { result ≡ passes self c }
     {
         match self {

@@ -21,6 +21,3 @@ pub use machine::Machine;
 pub use running::run_for;
 pub use turn::{Stop, Turn};
 pub use vax_machine_live::Frames;
-
-#[cfg(test)]
-mod tests;
