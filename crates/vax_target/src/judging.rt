@@ -4,8 +4,10 @@ ghost use Rattle.std.specs.List.{list_any};
 ghost use Rattle.std.specs.Option.{option_map};
 ghost use Rattle.term_core.specs.Shape.{shape_of};
 ghost use Rattle.sel_terms.specs.Effects.{act_of};
-ghost use Rattle.vax_templates.specs.Deeds.{leaves, ends, ends_statement, is_relation, branches, is_movl};
-ghost use Rattle.vax_templates.specs.Deeds.{is_last_result, puts, put, divided, computed, acted};
+ghost use Rattle.sel_terms.specs.Effects as act;
+ghost use Rattle.vax_templates.specs.Deeds.{leaves, ends, is_relation, branches, is_movl};
+ghost use Rattle.vax_templates.specs.Deeds.{is_last_result, puts, put, computed, acted};
+ghost use Rattle.vax_templates.specs.Giving.{Divides, given};
 ghost use Rattle.vax_templates.specs.Judging.{is_operand, index_is_operand, base_spells, spells_symbol, is_disordered};
 ghost use Rattle.vax_templates.specs.Judging.{in_order, checked, operated, instruction_did, returned, did_behind};
 ghost use Rattle.vax_templates.specs.Judging.{line_did};
@@ -27,7 +29,7 @@ use sel_terms::Act;
 use std::alloc::Global;
 use term_core::{Term, copy};
 use vax_core::Op;
-use vax_machine::function::Action;
+use vax_machine::function::{Action, Function};
 use vax_templates::{Base, Form, Hole};
 
 /// What a line leaves to the next: nothing, two numbers that were compared, one that was tested, a value in register 0, or the deed that
@@ -68,6 +70,13 @@ fn ends(alloc: Global, deed: Act) -> Step
     ensures { ends (act_of deed) ≡ Ok (deed_of result) }
 {
     leaves(alloc, Before::Ended(deed))
+}
+
+// The first operand is pushed.
+fn pushes(alloc: Global, arguments: Operands) -> Step
+    ensures { ends (act.Push (shape_of arguments.first)) ≡ Ok (deed_of result) }
+{
+    ends(alloc, Act::Push(arguments.first))
 }
 
 fn puts(alloc: Global, t: Term) -> Step
@@ -144,17 +153,26 @@ fn only(alloc: Global, t: Term) -> Result<Vec<Term>, NoMemory>
     Ok(terms)
 }
 
-// The step divides by this.
-fn divided(alloc: Global, mut step: Step, divisor: Term) -> Result<Step, Refusal>
-    ensures { Judges deed_of result (divided (shape_of divisor) (deed_of step)) }
+// The step, which divides by these.
+fn with_divisors(step: Step, divisors: Vec<Term>) -> Step
+    ensures { deed_of result ≡ record (deed_of step) { divisors = map shape_of divisors.items } }
 {
-    match only(alloc, divisor) {
-        Ok(divisors) => {
-            step.divisors = divisors;
-            Ok(step)
-        }
-        Err(NoMemory) => Err(Refusal::NoMemory),
-    }
+    Step { divisors, ..step }
+}
+
+// A quotient by this divisor, at its destination.
+fn put_divided(
+    alloc: Global,
+    op: Op,
+    to: Option<Destination>,
+    t: Term,
+    divisor: Term,
+) -> Result<Step, Refusal>
+    ensures { Judges deed_of result (computed op (option_map target_of to) (Divides (shape_of t) (shape_of divisor))) }
+{
+    let step = put_at(alloc, op, to, t)?;
+    let divisors = only(alloc, divisor)?;
+    Ok(with_divisors(step, divisors))
 }
 
 fn computed(
@@ -167,10 +185,7 @@ fn computed(
 {
     match outcome {
         Outcome::Computes(t) => put_at(alloc, op, to, t),
-        Outcome::Divides(t, divisor) => match put_at(alloc, op, to, t) {
-            Ok(step) => divided(alloc, step, divisor),
-            Err(refusal) => Err(refusal),
-        },
+        Outcome::Divides(t, divisor) => put_divided(alloc, op, to, t, divisor),
         Outcome::Compares(a, b) => Ok(leaves(alloc, Before::Compared(a, b))),
         Outcome::Tests(t) => Ok(leaves(alloc, Before::Tested(t))),
     }
@@ -216,29 +231,22 @@ fn returned(alloc: Global, t: &Term, instruction: &LineInstruction) -> Result<St
 }
 
 impl<'a> Template<'a> {
-    fn ends_statement(self, deed: Act) -> Result<Step, Refusal>
-        ensures { Judges deed_of result (ends_statement self.entry.setting (act_of deed)) }
-    {
-        if self.setting.is_statement {
-            Ok(ends(self.alloc, deed))
-        } else {
-            Err(NOT_INSTR)
-        }
-    }
-
     // A branch by the relation of the symbol with this number.
     fn branches(self, i: u8, before: &Before) -> Result<Step, Refusal>
         ensures { Judges deed_of result (branches self.entry.setting i (last_of before.now)) }
     {
+        if !self.setting.is_statement {
+            return Err(NOT_INSTR);
+        }
         match before {
             Before::Compared(a, b) => {
                 let a = copy(self.alloc, a)?;
                 let b = copy(self.alloc, b)?;
-                self.ends_statement(Act::Branch(i, a, b))
+                Ok(ends(self.alloc, Act::Branch(i, a, b)))
             }
             Before::Tested(t) if self.setting.is_signed => {
                 let t = copy(self.alloc, t)?;
-                self.ends_statement(Act::Branch(i, t, Term::K(0)))
+                Ok(ends(self.alloc, Act::Branch(i, t, Term::K(0))))
             }
             _ => Err(NOT_INSTR),
         }
@@ -278,18 +286,30 @@ impl<'a> Template<'a> {
         false
     }
 
+    // What an instruction computes, at its destination.
+    fn applied(self, function: Function, op: Op, arguments: Operands) -> Result<Step, Refusal>
+        ensures { Judges deed_of result (computed op (option_map target_of arguments.destination)
+            (given function (shape_of arguments.first) (shape_of arguments.second))) }
+    {
+        let Operands {
+            first,
+            second,
+            destination,
+            ..
+        } = arguments;
+        match given(self.alloc, function, &first, &second) {
+            Ok(outcome) => computed(self.alloc, op, destination, outcome),
+            Err(NoMemory) => Err(Refusal::NoMemory),
+        }
+    }
+
     fn acted(self, action: Action, op: Op, arguments: Operands) -> Result<Step, Refusal>
         ensures { Judges deed_of result (acted self.entry.setting action op (arguments_of arguments)) }
     {
         match action {
-            Action::Compute(function) => {
-                match given(self.alloc, function, &arguments.first, &arguments.second) {
-                    Ok(outcome) => computed(self.alloc, op, arguments.destination, outcome),
-                    Err(NoMemory) => Err(Refusal::NoMemory),
-                }
-            }
-            Action::Push => self.ends_statement(Act::Push(arguments.first)),
-            Action::Branch(_) | Action::Call | Action::Return => Err(NOT_INSTR),
+            Action::Compute(function) => self.applied(function, op, arguments),
+            Action::Push if self.setting.is_statement => Ok(pushes(self.alloc, arguments)),
+            Action::Push | Action::Branch(_) | Action::Call | Action::Return => Err(NOT_INSTR),
         }
     }
 
@@ -336,10 +356,13 @@ impl<'a> Template<'a> {
             LineInstruction::Relation(i) if is_relation(hole_at(self.holes, *i)) => {
                 self.branches(*i, before)
             }
-            LineInstruction::Jump => self.ends_statement(Act::Jump),
-            LineInstruction::Call => self.ends_statement(Act::Call),
+            LineInstruction::Jump if self.setting.is_statement => Ok(ends(self.alloc, Act::Jump)),
+            LineInstruction::Call if self.setting.is_statement => Ok(ends(self.alloc, Act::Call)),
             LineInstruction::Operates(op, forms) => self.operated(is_first, zero, *op, forms),
-            LineInstruction::Relation(_) | LineInstruction::Return => Err(NOT_INSTR),
+            LineInstruction::Relation(_)
+            | LineInstruction::Jump
+            | LineInstruction::Call
+            | LineInstruction::Return => Err(NOT_INSTR),
         }
     }
 

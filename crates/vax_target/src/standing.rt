@@ -5,7 +5,7 @@ ghost use Rattle.term_core.specs.Shape.{shape_of};
 ghost use Rattle.vax_templates.specs.HoleTerms.{constant_of, address_of, absolute_term, number_term, own_value};
 ghost use Rattle.vax_templates.specs.HoleTerms.{register_of, register_term};
 ghost use Rattle.vax_templates.specs.Standing.{where_own, where_hole, where_zero, through, where_deferred, where_base};
-ghost use Rattle.vax_templates.specs.Standing.{moved, where_indexed, form_where, displaced};
+ghost use Rattle.vax_templates.specs.Standing.{moved, where_indexed, form_where, displaced, sum, scaled};
 ghost use Rattle.vax_templates.specs.Settings.{hole_at};
 ghost use Rattle.vax_target.specs.Answers.{Judges};
 ghost use Rattle.vax_target.specs.Stages.{sum_of};
@@ -132,6 +132,14 @@ fn where_deferred(alloc: Global, hole: Hole, i: u8) -> Result<Location, Refusal>
     }
 }
 
+// The address so many operands of this size behind another.
+fn address_behind(alloc: Global, size: Size, a: Term, x: Term) -> Result<Term, NoMemory>
+    ensures { IfOk result (λ t. shape_of t ≡ sum (shape_of a) (scaled size (shape_of x))) }
+{
+    let x = binary(alloc, BinaryOp::Mul, Term::K(size.bytes()), x)?;
+    binary(alloc, BinaryOp::Add, a, x)
+}
+
 impl<'a> Template<'a> {
     fn absolute_term(self, number: Number) -> Result<Term, Refusal>
         ensures { Judges shape_of result (absolute_term self.entry.holes.now number) }
@@ -214,11 +222,10 @@ impl<'a> Template<'a> {
         ensures { Judges where_of result (moved size (where_of location) (shape_of x)) }
     {
         match location {
-            Location::At(a, pointer) => {
-                let x = binary(self.alloc, BinaryOp::Mul, Term::K(size.bytes()), x)?;
-                let a = binary(self.alloc, BinaryOp::Add, a, x)?;
-                Ok(Location::At(a, pointer))
-            }
+            Location::At(a, pointer) => match address_behind(self.alloc, size, a, x) {
+                Ok(a) => Ok(Location::At(a, pointer)),
+                Err(NoMemory) => Err(Refusal::NoMemory),
+            },
             _ => Err(NOT_INSTR),
         }
     }

@@ -1,11 +1,13 @@
 // What an instruction takes of its operands, on terms.
-ghost use Rattle.std.specs.Prelude.{◌≡◌, IfOk, Ok};
+ghost use Rattle.std.specs.Prelude.{◌≡◌, IfOk, Ok, map};
 ghost use Rattle.std.specs.Option.{option_map};
 ghost use Rattle.term_core.specs.Shape.{shape_of};
 ghost use Rattle.sel_terms.specs.Same.{same_size};
+ghost use Rattle.vax_core.specs.declared.op.Access.TheVariants as accesses;
 ghost use Rattle.vax_templates.specs.HoleTerms.{own_value};
 ghost use Rattle.vax_templates.specs.Taking.{taken_term, taken_read, taken_missized, cut, sized, last_result, fetched};
-ghost use Rattle.vax_templates.specs.Taking.{addressed, taken, evaluated, no_arguments, last_of, in_front};
+ghost use Rattle.vax_templates.specs.Taking.{pointer_read, addressed, written, both, taken, evaluated};
+ghost use Rattle.vax_templates.specs.Taking.{no_arguments, last_of, in_front};
 ghost use Rattle.vax_templates.specs.Targets.{is_long, own_target, memory_target, zero_target, statement_target};
 ghost use Rattle.vax_templates.specs.Targets.{targeted};
 ghost use Rattle.vax_target.specs.Answers.{Judges};
@@ -125,6 +127,17 @@ fn sized(alloc: Global, has: Size, wanted: Size, t: Operand) -> Operand
     }
 }
 
+// The pointer that was read for an address, if there is one.
+fn pointer_read(alloc: Global, pointer: Option<Term>) -> Result<Vec<Term>, NoMemory>
+    ensures { IfOk result (λ v. map shape_of v.items ≡ pointer_read (term_of pointer)) }
+{
+    let mut reads = Vec::new(alloc);
+    if let Some(pointer) = pointer {
+        reads.push(pointer)?;
+    }
+    Ok(reads)
+}
+
 fn own_target(own: Own, size: Size) -> Result<(Destination, bool), Refusal>
     ensures { Judges aimed result (own_target own size) }
 {
@@ -172,6 +185,32 @@ fn last_of(front: Option<Destination>, last: Option<Destination>) -> Option<Dest
         return Some(destination);
     }
     front
+}
+
+// What is taken of an operand that is written alone.
+fn written(alloc: Global, target: (Destination, bool)) -> Operand
+    ensures { written (aimed target) ≡ Ok (taken_of result) }
+{
+    let (destination, is_missized) = target;
+    Operand {
+        term: Term::K(0),
+        reads: Vec::new(alloc),
+        destination: Some(destination),
+        is_missized,
+    }
+}
+
+// What is read, with what is written.
+fn both(taken: Operand, target: (Destination, bool)) -> Operand
+    ensures { both (taken_of taken) (aimed target) ≡ Ok (taken_of result) }
+{
+    let (destination, is_missized) = target;
+    Operand {
+        term: taken.term,
+        reads: taken.reads,
+        destination: Some(destination),
+        is_missized: taken.is_missized || is_missized,
+    }
 }
 
 // The arguments with an operand in front of them.
@@ -258,13 +297,12 @@ impl<'a> Template<'a> {
     {
         let alloc = self.alloc;
         match location {
-            Location::At(a, pointer) => {
-                let mut taken = taken_term(alloc, a);
-                if let Some(pointer) = pointer {
-                    taken.reads.push(pointer)?;
-                }
-                Ok(taken)
-            }
+            Location::At(term, pointer) => Ok(Operand {
+                term,
+                reads: pointer_read(alloc, pointer)?,
+                destination: None,
+                is_missized: false,
+            }),
             Location::SavedPlace(has, i) => Ok(sized(
                 alloc,
                 has,
@@ -303,6 +341,21 @@ impl<'a> Template<'a> {
         }
     }
 
+    // What is taken of an operand that is read and written.
+    #[tactic(auto, unfolding(vax_templates::specs::Taking::taken))]
+    fn modified(
+        self,
+        zero: &Option<Term>,
+        location: Location,
+        size: Size,
+    ) -> Result<Operand, Refusal>
+        ensures { Judges taken_of result (taken self.entry.setting (term_of zero.now) accesses.Modify (where_of location) size) }
+    {
+        let taken = self.fetched(zero, &location, size)?;
+        let target = self.targeted(location, size)?;
+        Ok(both(taken, target))
+    }
+
     #[tactic(auto, unfolding(vax_templates::specs::Taking::taken))]
     fn taken(
         self,
@@ -315,22 +368,8 @@ impl<'a> Template<'a> {
     {
         match access {
             Access::Read => self.fetched(zero, &location, size),
-            Access::Modify => {
-                let mut taken = self.fetched(zero, &location, size)?;
-                let (destination, is_missized) = self.targeted(location, size)?;
-                taken.destination = Some(destination);
-                taken.is_missized = taken.is_missized || is_missized;
-                Ok(taken)
-            }
-            Access::Write => {
-                let (destination, is_missized) = self.targeted(location, size)?;
-                Ok(Operand {
-                    term: Term::K(0),
-                    reads: Vec::new(self.alloc),
-                    destination: Some(destination),
-                    is_missized,
-                })
-            }
+            Access::Modify => self.modified(zero, location, size),
+            Access::Write => Ok(written(self.alloc, self.targeted(location, size)?)),
             Access::Address => self.addressed(location, size),
             Access::Count => Err(NOT_INSTR),
         }
