@@ -1,5 +1,6 @@
 -- Externals and declarators that are read one after another: what is left decides.
-use Rattle.std.proofs.Common.{◌≡◌, ℕ, ◌+◌, ◌<◌, ◌≤◌, List, [], ◌∷◌, length, drop, get_or, map, refl, ap, sym, ◌∙◌, Result, Ok, Err, Option, Some, None, true, false, Bool, arith}
+use Rattle.std.proofs.Common.{◌≡◌, ℕ, ◌+◌, ◌<◌, ◌≤◌, List, [], ◌∷◌, length, drop, get_or, map, refl, ap, sym, ◌∙◌, Result, Ok, Err, Option, Some, None, true, false, Bool, cond, arith}
+use Rattle.std.specs.List.{position_from}
 use Rattle.std.proofs.lemmas.List.{drop_more, drop_all}
 use Rattle.c_phrases.specs.declared.operator.Spec.{Spec}
 use Rattle.c_phrases.specs.declared.tree.Declarator.{Declarator}
@@ -60,7 +61,7 @@ module _ (names : List (List ℕ × Entry)) (signatures : List Signature) where
   externals_end es i t le = rw (drop_all i es le) refl
 
 -- a number among the last of them, by its number among all
-abbrev pub from_on : ℕ → Option ℕ → Option ℕ
+abbrev from_on : ℕ → Option ℕ → Option ℕ
 from_on n None = None
 from_on n (Some m) = Some (n + m)
 
@@ -68,22 +69,24 @@ from_none : (m : Option ℕ) → from_on 0 m ≡ m
 from_none None = refl
 from_none (Some m) = ap Some (omega arith)
 
-from_behind : (n : ℕ) (m : Option ℕ) → from_on n (behind m) ≡ from_on (n + 1) m
+from_behind : (n : ℕ) (m : Option ℕ) → from_on (n + 1) m ≡ from_on n (behind m)
 from_behind n None = refl
 from_behind n (Some m) = ap Some (omega arith)
 
-pub main_begins : (rs : List Routine) → main_of (map routine rs) ≡ from_on 0 (main_of (map routine rs))
-main_begins rs = rw (from_none (main_of (map routine rs))) refl
+abbrev pub begins : Routine → Bool
+begins r = is_main (routine r)
 
-pub main_here : (rs : List Routine) (i : ℕ) (r d : Routine) (n : ℕ) → i < length rs → r ≡ get_or rs i d → is_main (routine r) ≡ true → from_on i (main_of (map routine (drop i rs))) ≡ Some i
-main_here rs i r d n lt is main = rw (drop_more rs i d lt, ← is, main) (ap Some (omega arith))
+main_from : (rs : List Routine) (n : ℕ) → position_from begins n rs ≡ from_on n (main_of (map routine rs))
+main_from [] n = refl
+main_from (r ∷ rs) n = by (begins r) (main_from rs (n + 1))
+  where
+    by : (b : Bool) → position_from begins (n + 1) rs ≡ from_on (n + 1) (main_of (map routine rs)) →
+        cond b (Some n) (position_from begins (n + 1) rs) ≡ from_on n (cond b (Some 0) (behind (main_of (map routine rs))))
+    by true h = ap Some (omega arith)
+    by false h = h ∙ from_behind n (main_of (map routine rs))
 
-pub main_later : (rs : List Routine) (i : ℕ) (r d : Routine) → i < length rs → r ≡ get_or rs i d → is_main (routine r) ≡ false → from_on i (main_of (map routine (drop i rs)))
-    ≡ from_on (i + 1) (main_of (map routine (drop (i + 1) rs)))
-main_later rs i r d lt is main = rw (drop_more rs i d lt, ← is, main) (from_behind i (main_of (map routine (drop (i + 1) rs))))
-
-pub main_nowhere : (rs : List Routine) (i : ℕ) → length rs ≤ i → from_on i (main_of (map routine (drop i rs))) ≡ None
-main_nowhere rs i le = rw (drop_all i rs le) refl
+pub main_is : (rs : List Routine) → position_from begins 0 rs ≡ main_of (map routine rs)
+main_is rs = main_from rs 0 ∙ from_none (main_of (map routine rs))
 
 -- a whole text: the functions that are known, and the externals, as the code holds them
 module _ (items l m : List External) (end : ℕ) (f : Known) (begun : Text) (is_l : l ≡ items) (is_m : m ≡ items) (known_is : fine (known (externals_of l)) ≡ Ok f)

@@ -199,16 +199,10 @@ fn is_main(r: &Routine) -> bool
 }
 
 // The number of the function where a run begins.
-#[tactic(auto, using(crate::proofs::Texts::main_begins, crate::proofs::Texts::main_here, crate::proofs::Texts::main_later, crate::proofs::Texts::main_nowhere))]
 fn main_number(routines: &[Routine]) -> Option<usize>
     ensures { result ≡ main_of (map routine routines.now) }
 {
-    for number in 0..routines.len() {
-        if is_main(&routines[number]) {
-            return Some(number);
-        }
-    }
-    None
+    routines.iter().position(is_main)
 }
 
 // The typed program of a unit, or its first fault, by the definition.

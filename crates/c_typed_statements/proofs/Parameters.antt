@@ -1,5 +1,7 @@
 -- Parameters that are declared one after another: what is left decides.
-use Rattle.std.proofs.Common.{◌≡◌, ℕ, ◌+◌, ◌<◌, ◌≤◌, Bool, List, [], ◌∷◌, length, drop, get_or, map, refl, ap, sym, ◌∙◌, Result, Ok, Err, ◌++◌, append_assoc, arith, ◌≢◌, true, false}
+use Rattle.std.proofs.Common.{◌≡◌, ℕ, ◌+◌, ◌<◌, ◌≤◌, Bool, List, [], ◌∷◌, length, drop, get_or, map, refl, ap, sym, ◌∙◌, Result, Ok, Err, ◌++◌, append_assoc, arith, ◌≢◌, false}
+use Rattle.std.specs.Prelude.{◌&&◌}
+use Rattle.std.specs.List.{list_all, zip}
 use Rattle.std.proofs.lemmas.List.{drop_more, drop_all, append-nil}
 use Rattle.gg_base.proofs.Facts.{and_false}
 use Rattle.c_phrases.specs.declared.tree.Param.{Param}
@@ -37,16 +39,15 @@ types_step done more ps i p d lt is pushed = rw (drop_more ps i d lt, ← is, pu
 pub types_end : (done : List CType) (ps : List Param) (i : ℕ) → length ps ≤ i → done ++ map parameter_type (param_list (drop i ps)) ≡ done
 types_end done ps i le = rw (drop_all i ps le) (append-nil done)
 
--- two lists of types, one by one
-pub same_step : (xs ys : List CType) (i : ℕ) (x y d : CType) → i < length xs → i < length ys → x ≡ get_or xs i d → y ≡ get_or ys i d → same_type x y ≡ true
-    → same_types (drop i xs) (drop i ys) ≡ same_types (drop (i + 1) xs) (drop (i + 1) ys)
-same_step xs ys i x y d lx ly isx isy same = rw (drop_more xs i d lx, drop_more ys i d ly, ← isx, ← isy, same) refl
+-- two lists of types, pair by pair
+abbrev pub same_pair : CType × CType → Bool
+same_pair p = same_type p.0 p.1
 
-pub same_not : (xs ys : List CType) (i : ℕ) (x y d : CType) → i < length xs → i < length ys → x ≡ get_or xs i d → y ≡ get_or ys i d → same_type x y ≡ false → same_types (drop i xs) (drop i ys) ≡ false
-same_not xs ys i x y d lx ly isx isy same = rw (drop_more xs i d lx, drop_more ys i d ly, ← isx, ← isy, same) refl
-
-pub same_end : (xs ys : List CType) (i : ℕ) → length xs ≤ i → length ys ≤ i → same_types (drop i xs) (drop i ys) ≡ true
-same_end xs ys i lx ly = rw (drop_all i xs lx, drop_all i ys ly) refl
+pub same_pairs : (xs ys : List CType) → length xs ≡ length ys → list_all same_pair (zip xs ys) ≡ same_types xs ys
+same_pairs [] [] e = refl
+same_pairs [] (y ∷ ys) e = absurd (omega (arith, e))
+same_pairs (x ∷ xs) [] e = absurd (omega (arith, e))
+same_pairs (x ∷ xs) (y ∷ ys) e = ap (λ (b : Bool). same_type x y && b) (same_pairs xs ys (omega (arith, e)))
 
 pub same_length : (xs ys : List CType) → length xs ≢ length ys → same_types xs ys ≡ false
 same_length [] [] ne = absurd (ne refl)

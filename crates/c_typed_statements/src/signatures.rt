@@ -59,19 +59,10 @@ pub fn signature(alloc: Global, spec: Spec, f: &Function) -> Result<Signature, A
     })
 }
 
-#[tactic(auto, using(crate::proofs::Parameters::same_step, crate::proofs::Parameters::same_not, crate::proofs::Parameters::same_end, crate::proofs::Parameters::same_length))]
 fn same_types(a: &[CType], b: &[CType]) -> bool
     ensures { result ≡ same_types a.now b.now }
 {
-    if a.len() != b.len() {
-        return false;
-    }
-    for i in 0..a.len() {
-        if !a[i].is_same(b[i]) {
-            return false;
-        }
-    }
-    true
+    a.len() == b.len() && a.iter().zip(b).all(|(s, t)| s.is_same(*t))
 }
 
 /// Whether two declarations of a function agree.

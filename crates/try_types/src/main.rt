@@ -35,8 +35,8 @@ fn show_layout(rt: HostRuntime, program: &Program) -> io::Result<()> {
 
 fn show_need(rt: HostRuntime, program: &Program) -> io::Result<()> {
     let routines = program.plain().routines.as_slice();
-    for number in 0..routines.len() {
-        let name = spelled(rt, &routines[number].name)?;
+    for (number, routine) in routines.iter().enumerate() {
+        let name = spelled(rt, &routine.name)?;
         if let Ok(function) = u32::try_from(number) {
             println!(rt; "  {name} needs {}", program.need(function))?;
         }

@@ -1,6 +1,0 @@
-use Rattle.std.proofs.Common.{◌≡◌, drop}
-use Rattle.c_typed_definition.specs.Headings.{same_types}
-use Rattle.c_typed_statements.proofs.signatures.same_types.Given as goal
-
-abbrev pub invariant-loop-i : goal.invariant-loop-i
-invariant-loop-i l = same_types (drop l.i l.a) (drop l.i l.b) ≡ same_types l.a l.b
