@@ -1,41 +1,50 @@
 -- Samples whose kids have lower numbers.
-use Rattle.std.proofs.Common.{◌≡◌, ◌↔◌, ℕ, ◌+◌, ◌≤◌, ◌<◌, List, Some, Bool, true, false, All, Contains, length, get_or, slice_get, sym, ap, ◌∙◌, subst, ⊎_elim, arith, true≢false}
+use Rattle.std.proofs.Common.{◌≡◌, ◌↔◌, ℕ, ◌+◌, ◌<◌, List, [], Some, Bool, true, false, All, Contains, length, get_or, slice_get, refl, sym, ap, ◌∙◌, subst, arith, true≢false}
+use Rattle.std.specs.Bool.{MatchBool}
+use Rattle.std.specs.List.{AllWithin, HoldsAt, enumerate_from}
 use Rattle.std.proofs.lemmas.List.Elements.{All-contains, All-from_get_or, Contains-get_or}
-use Rattle.std.proofs.lemmas.Option.{slice_get-get_or, slice_get_within, same_Some}
-use Rattle.std.proofs.lemmas.Bool.{cases_lt}
+use Rattle.std.proofs.lemmas.List.FromFn.{length-enumerate_from, get_or-enumerate_from}
+use Rattle.std.proofs.lemmas.Option.{slice_get-get_or, get_or_from_slice_get, slice_get_within}
+use Rattle.tree_core.specs.declared.token.Tok.TheVariants as tokens
 use Rattle.lr_check.specs.Tree.{Node, IsSample}
 
--- the nodes below the number have kids of lower numbers
-pub record NumberedBelow (nodes : List Node) (n : ℕ) : Type 0 where
-  pub each : (m k : ℕ) (v : Node) → m < n → slice_get nodes m ≡ Some v → Contains v.kids k → k < m
+-- a number, and a node whose kids have lower numbers
+abbrev pub IsAbove : ℕ × Node → Type 0
+IsAbove p = All (λ (k : ℕ). k < p.0) p.1.kids
 
-pub below_none : (nodes : List Node) → NumberedBelow nodes 0
-below_none nodes = record { each = λ m k v lt. absurd (omega (arith, lt)) }
+abbrev pub NotAbove : ℕ × Node → Type 0
+NotAbove p = IsAbove p → ⊥
 
-pub below_turn : (nodes : List Node) (n : ℕ) (v : Node) → NumberedBelow nodes n → n < length nodes → v ≡ get_or nodes n v → All (λ (k : ℕ). k < n) v.kids → NumberedBelow nodes (n + 1)
-below_turn nodes n v b lt e h = record {
-  each = λ m k u le there c. ⊎_elim
-      (λ below. b.each m k u below there c)
-      (λ above.
-      let same : m ≡ n = omega (arith, le, above) in
-      let here : slice_get nodes n ≡ Some v = slice_get-get_or nodes n v lt ∙ ap Some (sym e) in
-      let node : u ≡ v = same_Some u v (sym there ∙ (ap (slice_get nodes) same ∙ here)) in
-      let k_low : k < n = All-contains (λ (x : ℕ). x < n) v.kids k h (subst (λ (x : Node). Contains x.kids k) node c) in
-      omega (arith, k_low, same))
-      (cases_lt m n);
-}
+abbrev pub AreAbove : List Node → Type 0
+AreAbove nodes = AllWithin IsAbove (enumerate_from 0 nodes) 0 (length (enumerate_from 0 nodes))
 
-pub below_all : (nodes : List Node) (n : ℕ) (b : Bool) → NumberedBelow nodes n → length nodes ≤ n → ((b ≡ true) ↔ (0 < length nodes)) → (b ≡ true) ↔ IsSample nodes
-below_all nodes n b h le t = (
-  (λ e. record { some = t.0 e; lower = λ m k v there c. h.each m k v (let lt = slice_get_within nodes m v there in omega (arith, lt, le)) there c }),
-  (λ s. t.1 s.some),
-)
+abbrev pub OneIsNot : List Node → Type 0
+OneIsNot nodes = (n : ℕ) × (n < length (enumerate_from 0 nodes)) × HoldsAt NotAbove (enumerate_from 0 nodes) n
 
-pub below_not : (nodes : List Node) (n : ℕ) (v : Node) (b : Bool) → n < length nodes → v ≡ get_or nodes n v → ((b ≡ true) ↔ All (λ (k : ℕ). k < n) v.kids) → b ≡ false → (false ≡ true) ↔ IsSample nodes
-below_not nodes n v b lt e t f = (
-  (λ u. absurd (true≢false (sym u))),
-  (λ s.
-      let here : slice_get nodes n ≡ Some v = slice_get-get_or nodes n v lt ∙ ap Some (sym e) in
-      let all : All (λ (k : ℕ). k < n) v.kids = All-from_get_or (λ (k : ℕ). k < n) v.kids 0 (λ i l. s.lower n (get_or v.kids i 0) v here (Contains-get_or v.kids i 0 l)) in
-      sym f ∙ t.1 all),
-)
+nothing : Node
+nothing = record { tok = tokens.End; kids = []; answers = [] }
+
+pair_is : (nodes : List Node) (n : ℕ) (d v : Node) → n < length nodes → get_or nodes n d ≡ v → get_or (enumerate_from 0 nodes) n (n, d) ≡ (n, v)
+pair_is nodes n d v lt e =
+    let zero_plus : 0 + n ≡ n = omega arith in
+    get_or-enumerate_from 0 nodes n (n, d) lt ∙ (ap (λ (m : ℕ). (m, get_or nodes n d)) zero_plus ∙ ap (λ (x : Node). (n, x)) e)
+
+lower : (nodes : List Node) → AreAbove nodes → (n k : ℕ) (v : Node) → slice_get nodes n ≡ Some v → Contains v.kids k → k < n
+lower nodes all n k v there c =
+    let lt : n < length nodes = slice_get_within nodes n v there in
+    let within : n < length (enumerate_from 0 nodes) = omega (arith, lt, length-enumerate_from 0 nodes) in
+    let above : All (λ (j : ℕ). j < n) v.kids = subst IsAbove (pair_is nodes n v v lt (get_or_from_slice_get nodes n v v there)) (all n (n, v) (omega arith) within) in
+    All-contains (λ (j : ℕ). j < n) v.kids k above c
+
+not_lower : (nodes : List Node) → IsSample nodes → OneIsNot nodes → ⊥
+not_lower nodes s h =
+    let within = h.1 in
+    let lt : h.0 < length nodes = omega (arith, within, length-enumerate_from 0 nodes) in
+    let v : Node = get_or nodes h.0 nothing in
+    let here : slice_get nodes h.0 ≡ Some v = slice_get-get_or nodes h.0 nothing lt in
+    let above : IsAbove (h.0, v) = All-from_get_or (λ (k : ℕ). k < h.0) v.kids 0 (λ i l. s.lower h.0 (get_or v.kids i 0) v here (Contains-get_or v.kids i 0 l)) in
+    h.2 (h.0, nothing) (subst IsAbove (sym (pair_is nodes h.0 nothing v lt refl)) above)
+
+pub numbered : (nodes : List Node) (b : Bool) → 0 < length nodes → MatchBool b (AreAbove nodes) (OneIsNot nodes) → (b ≡ true) ↔ IsSample nodes
+numbered nodes true some h = ((λ e. record { some = some; lower = lower nodes h }), (λ s. refl))
+numbered nodes false some h = ((λ e. absurd (true≢false (sym e))), (λ s. absurd (not_lower nodes s h)))

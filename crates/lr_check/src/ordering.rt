@@ -14,8 +14,8 @@ pub const MAX_TOKENS: usize = 100_000;
 fn push_kids(kids: &[u32], rest: &mut Vec<usize>) -> Result<(), NoMemory>
     ensures { IfOk result (λ _. rest.new.items ≡ rest.old.items ++ reverse kids.now) }
 {
-    for passed in 0..kids.len() {
-        rest.push(kids[kids.len() - 1 - passed] as usize)?;
+    for kid in kids.iter().rev() {
+        rest.push(*kid as usize)?;
     }
     Ok(())
 }

@@ -72,12 +72,11 @@ fn are_below(kids: &[u32], number: usize) -> bool
 fn are_numbered(nodes: &[SampleNode]) -> bool
     ensures { IsTrue result ↔ IsSample nodes.now }
 {
-    for number in 0..nodes.len() {
-        if !are_below(nodes[number].kids(), number) {
-            return false;
-        }
-    }
-    nodes.len() > 0
+    !nodes.is_empty()
+        && nodes
+            .iter()
+            .enumerate()
+            .all(|(number, node)| are_below(node.kids(), number))
 }
 
 impl Sample {

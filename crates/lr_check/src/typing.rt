@@ -22,28 +22,20 @@ fn fits_at(nodes: &[SampleNode], number: usize, wanted: Sort) -> bool
 fn kids_fit(nodes: &[SampleNode], kids: &[u32], sorts: &[Sort]) -> bool
     ensures { IsTrue result → KidsFit nodes.now kids.now sorts.now }
 {
-    if kids.len() != sorts.len() {
-        return false;
-    }
-    for at in 0..kids.len() {
-        if !fits_at(nodes, kids[at] as usize, sorts[at]) {
-            return false;
-        }
-    }
-    true
+    kids.len() == sorts.len()
+        && kids
+            .iter()
+            .zip(sorts)
+            .all(|(kid, sort)| fits_at(nodes, *kid as usize, *sort))
 }
 
 // Whether the kids of each node fit its token.
 fn are_typed(nodes: &[SampleNode]) -> bool
     ensures { IsTrue result → AreTyped nodes.now }
 {
-    for number in 0..nodes.len() {
-        let node = &nodes[number];
-        if !kids_fit(nodes, node.kids(), node.tok().kids()) {
-            return false;
-        }
-    }
-    true
+    nodes
+        .iter()
+        .all(|node| kids_fit(nodes, node.kids(), node.tok().kids()))
 }
 
 /// Whether the sample's tree is a well-typed statement; where it is not said to be, it may be one.

@@ -4,7 +4,8 @@ use Rattle.std.proofs.Common.{ap, ◌∙◌, subst, inl, inr, ⊎_elim, length-t
 use Rattle.std.specs.Prelude.{nat_lt, ◌==◌, if◌then◌else◌}
 use Rattle.std.proofs.lemmas.Option.{slice_get_within, get_or_from_slice_get, slice_get-get_or, same_Some, none-some}
 use Rattle.std.proofs.lemmas.List.{get_or-take, length-take-le}
-use Rattle.std.proofs.lemmas.Bool.{cases_lt, lt-ltb, eqb-true}
+use Rattle.std.specs.List.{AllWithin, HoldsAt}
+use Rattle.std.proofs.lemmas.Bool.{lt-ltb, eqb-true}
 use Rattle.std.proofs.Math.Seq.{take-length}
 use Rattle.md_reader.specs.declared.types.Rule.{Rule}
 use Rattle.md_reader.specs.declared.types.Restriction.{Restriction}
@@ -60,17 +61,6 @@ free_at rules (choice.Shift q ∷ cs) n c below stop free = record { at = 0; one
 free_at rules (choice.Accept ∷ cs) n c below stop free = record { at = 0; one = choice.Accept; near = omega arith; there = refl; is = free }
 free_at rules (choice.Reduce m ∷ cs) n c below stop free =
     free_reduce rules m cs n c (slice_get rules m) refl below stop (λ k b s f. free_at rules cs k c b s f) free
-
--- the turns of the loop: one more passes
-pub pass_turn : (rules : List Rule) (cs : List Choice) (n : ℕ) (d : Choice) → PassBelow rules cs n → d ≡ get_or cs n d → may_pass rules d ≡ true → PassBelow rules cs (n + 1)
-pass_turn rules cs n d below is pass k x less e =
-    ⊎_elim
-    (λ l. below k x l e)
-    (λ ge.
-    let same : k ≡ n = omega (arith, less, ge) in
-    let here : d ≡ x = is ∙ (ap (λ i. get_or cs i d) (sym same) ∙ get_or_from_slice_get cs k x d e) in
-    subst (λ y. may_pass rules y ≡ true) here pass)
-    (cases_lt k n)
 
 passes_ask : (xs : List Restriction) → nat_lt 0 (length xs) ≡ true → (if length xs == 0 then false else true) ≡ true
 passes_ask [] e = absurd (true≢false (sym e))
@@ -141,6 +131,23 @@ free_all rules cs n below le = record {
 
     found : (c : Candidate) → FreeAt rules cs (length cs) c → (x : Choice) × (Contains cs x × CandidateOf rules x c)
     found c h = (h.one, ((h.at, slice_get_within cs h.at h.one h.there, get_or_from_slice_get cs h.at h.one h.one h.there), h.is))
+
+abbrev pub Passes : List Rule → Choice → Type 0
+Passes rules d = may_pass rules d ≡ true
+
+abbrev pub Stops : List Rule → Choice → Type 0
+Stops rules d = may_pass rules d ≡ false
+
+pass_below : (rules : List Rule) (cs : List Choice) (n : ℕ) → AllWithin (Passes rules) cs 0 n → PassBelow rules cs n
+pass_below rules cs n all k d lt e = subst (Passes rules) (get_or_from_slice_get cs k d d e) (all k d (omega arith) lt)
+
+pub free_to_first : (rules : List Rule) (cs : List Choice) (n : ℕ) → (n < length cs) × HoldsAt (Stops rules) cs n × AllWithin (Passes rules) cs 0 n → HasFree rules cs (take (n + 1) cs)
+free_to_first rules cs n h =
+    let d : Choice = get_or cs n choice.Accept in
+    free_up_to rules cs n d (pass_below rules cs n h.2) h.0 (sym (get_or_from_slice_get cs n d d (slice_get-get_or cs n choice.Accept h.0))) (h.1 choice.Accept)
+
+pub free_where_all_pass : (rules : List Rule) (cs : List Choice) → AllWithin (Passes rules) cs 0 (length cs) → HasFree rules cs cs
+free_where_all_pass rules cs all = free_all rules cs (length cs) (pass_below rules cs (length cs) all) (omega arith)
 
 pass_reduce : (rules : List Rule) (n : ℕ) (cs : List Choice) (k : ℕ) (d : Choice) (o : Option Rule) → slice_get rules n ≡ o → CanBlock (reduced_by o ++ candidates_of rules cs) →
     ((m : ℕ) → CanBlock (candidates_of rules cs) → slice_get cs m ≡ Some d → may_pass rules d ≡ true) → slice_get (choice.Reduce n ∷ cs) k ≡ Some d → may_pass rules d ≡ true

@@ -93,10 +93,8 @@ pub fn can_block(rules: &[Rule], choices: &[Choice]) -> bool
 pub fn free_choices<'a>(rules: &[Rule], choices: &'a [Choice]) -> &'a [Choice]
     ensures { HasFree rules.now choices.now result.now }
 {
-    for at in 0..choices.len() {
-        if !may_pass(rules, choices[at]) {
-            return &choices[..at + 1];
-        }
+    match choices.iter().position(|choice| !may_pass(rules, *choice)) {
+        Some(at) => &choices[..at + 1],
+        None => choices,
     }
-    choices
 }

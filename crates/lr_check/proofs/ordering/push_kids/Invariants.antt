@@ -1,5 +1,5 @@
-use Rattle.std.proofs.Common.{◌≡◌, ◌++◌, take, reverse}
+use Rattle.std.proofs.Common.{◌≡◌, ◌++◌, map}
 use Rattle.lr_check.proofs.ordering.push_kids.Given as goal
 
-abbrev pub invariant-loop-passed : goal.invariant-loop-passed
-invariant-loop-passed l = l.rest.items ≡ l.fn.rest.items ++ take l.passed (reverse l.kids)
+abbrev pub invariant-loop-kid : goal.invariant-loop-kid
+invariant-loop-kid l = l.rest.items ≡ l.fn.rest.items ++ map (λ y. y.now) l.yielded

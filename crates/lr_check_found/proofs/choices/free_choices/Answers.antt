@@ -1,16 +1,27 @@
-use Rattle.std.proofs.Common.{sym, ◌∙◌, arith}
-use Rattle.lr_check_found.proofs.Choosing.{pass_turn, free_up_to, free_all}
+use Rattle.std.proofs.Common.{ℕ, ◌<◌, List, Option, length, rules, subst}
+use Rattle.std.specs.List.{AllWithin, HoldsAt}
+use Rattle.std.specs.Option.{MatchOption}
+use Rattle.std.proofs.lemmas.Iterator.{YieldsList-from_slice, IsFirst-from_position}
+use borrow.Author.Tests.{tests}
+use Rattle.md_reader.specs.declared.types.Rule.{Rule}
+use Rattle.lr_tables.specs.declared.types.Choice.{Choice}
+use Rattle.lr_check_found.proofs.Choosing.{Passes, Stops, free_to_first, free_where_all_pass}
 use Rattle.lr_check_found.proofs.choices.free_choices.Goals as goal
 
-pub loop-at-init : goal.loop-at-init
-loop-at-init c = λ k d lt e. absurd (omega (arith, lt))
+-- what `position` answers
+abbrev Answers : List Rule → List Choice → Option ℕ → Type 0
+Answers rules cs o = MatchOption o (AllWithin (Passes rules) cs 0 (length cs)) (λ i. (i < length cs) × HoldsAt (Stops rules) cs i × AllWithin (Passes rules) cs 0 i)
 
-pub loop-at-preserved : goal.loop-at-preserved
-loop-at-preserved c = pass_turn c.args.rules.now c.args.choices.now c.loop-at.at c.index-choices-at.result c.loop-at.invariant c.index-choices-at.is (sym c.may_pass.ensures ∙ c.if-not-may_pass.false)
+pub returns-in-Some : goal.returns-in-Some
+returns-in-Some c =
+    free_to_first c.args.rules.now c.args.choices.now c.in-Some.at
+    (subst (Answers c.args.rules.now c.args.choices.now) c.in-Some.is
+    (IsFirst-from_position _ _ c.position.result (Stops c.args.rules.now) (Passes c.args.rules.now) c.position.ensures.ran (YieldsList-from_slice c.args.choices.now cc)
+    (λ x q k. search (rules, tests)) (λ x q k. search (rules, tests))))
 
-pub returns-then-not-may_pass : goal.returns-then-not-may_pass
-returns-then-not-may_pass c = free_up_to c.args.rules.now c.args.choices.now c.loop-at.at c.index-choices-at.result c.loop-at.invariant c.loop-at-test.true c.index-choices-at.is
-    (sym c.may_pass.ensures ∙ c.if-not-may_pass.true)
-
-pub returns : goal.returns
-returns c = free_all c.args.rules.now c.args.choices.now c.loop-at.at c.loop-at.invariant c.loop-at-test.false
+pub returns-in-None : goal.returns-in-None
+returns-in-None c =
+    free_where_all_pass c.args.rules.now c.args.choices.now
+    (subst (Answers c.args.rules.now c.args.choices.now) c.in-None.is
+    (IsFirst-from_position _ _ c.position.result (Stops c.args.rules.now) (Passes c.args.rules.now) c.position.ensures.ran (YieldsList-from_slice c.args.choices.now cc)
+    (λ x q k. search (rules, tests)) (λ x q k. search (rules, tests))))
