@@ -24,12 +24,7 @@ fn place_of(way: &[u16], class: u16) -> Option<usize>
     ensures there { IfSome result (λ j. slice_get way.now j ≡ Some class) }
     ensures absent { IfNone result ((j : ℕ) → slice_get way.now j ≡ Some class → ⊥) }
 {
-    for at in 0..way.len() {
-        if way[at] == class {
-            return Some(at);
-        }
-    }
-    None
+    way.iter().position(|other| *other == class)
 }
 
 // What stands behind the place, and the class.

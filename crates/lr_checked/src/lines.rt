@@ -79,8 +79,8 @@ fn put_node(into: &mut Vec<u8>, number: usize, node: &SampleNode) -> Result<(), 
 fn put_nodes(into: &mut Vec<u8>, nodes: &[SampleNode]) -> Result<(), AllocError>
     ensures { OnOk result (into.new.items ≡ into.old.items ++ lines_from 0 nodes.now) }
 {
-    for number in 0..nodes.len() {
-        put_node(into, number, &nodes[number])?;
+    for (number, node) in nodes.iter().enumerate() {
+        put_node(into, number, node)?;
     }
     Ok(())
 }

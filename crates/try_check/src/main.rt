@@ -79,16 +79,8 @@ fn lines(alloc: Global, bytes: &[u8]) -> Result<String, NoMemory>
     requires { length bytes.now ≤ 262144 }
 {
     let mut text = String::new(alloc);
-    let mut begin = 0;
-    for at in 0..bytes.len() {
-        if bytes[at] == b'=' && begin <= at {
-            let line = line(alloc, &bytes[begin..at])?;
-            text.push_str(&line)?;
-            begin = at + 1;
-        }
-    }
-    if begin <= bytes.len() {
-        let line = line(alloc, &bytes[begin..])?;
+    for description in bytes.split(|byte| *byte == b'=') {
+        let line = line(alloc, description)?;
         text.push_str(&line)?;
     }
     Ok(text)
