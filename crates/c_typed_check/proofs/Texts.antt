@@ -73,19 +73,19 @@ from_behind : (n : ℕ) (m : Option ℕ) → from_on (n + 1) m ≡ from_on n (be
 from_behind n None = refl
 from_behind n (Some m) = ap Some (omega arith)
 
-abbrev pub begins : Routine → Bool
-begins r = is_main (routine r)
+abbrev pub begins_run : Routine → Bool
+begins_run r = is_main (routine r)
 
-main_from : (rs : List Routine) (n : ℕ) → position_from begins n rs ≡ from_on n (main_of (map routine rs))
+main_from : (rs : List Routine) (n : ℕ) → position_from begins_run n rs ≡ from_on n (main_of (map routine rs))
 main_from [] n = refl
-main_from (r ∷ rs) n = by (begins r) (main_from rs (n + 1))
+main_from (r ∷ rs) n = by (begins_run r) (main_from rs (n + 1))
   where
-    by : (b : Bool) → position_from begins (n + 1) rs ≡ from_on (n + 1) (main_of (map routine rs)) →
-        cond b (Some n) (position_from begins (n + 1) rs) ≡ from_on n (cond b (Some 0) (behind (main_of (map routine rs))))
+    by : (b : Bool) → position_from begins_run (n + 1) rs ≡ from_on (n + 1) (main_of (map routine rs)) →
+        cond b (Some n) (position_from begins_run (n + 1) rs) ≡ from_on n (cond b (Some 0) (behind (main_of (map routine rs))))
     by true h = ap Some (omega arith)
     by false h = h ∙ from_behind n (main_of (map routine rs))
 
-pub main_is : (rs : List Routine) → position_from begins 0 rs ≡ main_of (map routine rs)
+pub main_is : (rs : List Routine) → position_from begins_run 0 rs ≡ main_of (map routine rs)
 main_is rs = main_from rs 0 ∙ from_none (main_of (map routine rs))
 
 -- a whole text: the functions that are known, and the externals, as the code holds them
