@@ -8,14 +8,13 @@ ghost use Rattle.vax_templates.specs.Marks.{strip};
 ghost use Rattle.vax_target.specs.Answers.{Reads};
 ghost use Rattle.vax_target.specs.Views.{instruction_view, forms_view, form_view};
 
-use crate::action::action_of;
 use crate::form::form;
 use crate::marks::{hole, marks_of, put_bytes, put_pieces, strip};
 use crate::refusal::{NOT_INSTR, Refusal};
 use md_reader::{Piece, is_word};
 use std::alloc::Global;
 use vax_core::{Op, OperandKind};
-use vax_machine::function::{Action, Test};
+use vax_machine::function::{Action, Test, action_of};
 use vax_templates::{Form, Mark};
 
 /// An instruction of a template: `j%i %L`, `jbr %L`, `calls %N,%F`, `ret`, or one with its operands.

@@ -15,7 +15,6 @@ ghost use Rattle.vax_target.specs.Answers.{Judges};
 ghost use Rattle.vax_target.specs.Stages.{did_after, line_after};
 ghost use Rattle.vax_target.specs.Views.{term_of, target_of, arguments_of, given_of, last_of, deed_of, instruction_view};
 
-use crate::action::action_of;
 use crate::giving::{Outcome, given};
 use crate::instruction::{LineInstruction, instruction_of};
 use crate::refusal::{NOT_INSTR, Refusal};
@@ -29,7 +28,7 @@ use sel_terms::Act;
 use std::alloc::Global;
 use term_core::{Term, copy};
 use vax_core::Op;
-use vax_machine::function::{Action, Function};
+use vax_machine::function::{Action, Function, action_of};
 use vax_templates::{Base, Form, Hole};
 
 /// What a line leaves to the next: nothing, two numbers that were compared, one that was tested, a value in register 0, or the deed that

@@ -1,7 +1,6 @@
 //! The VAX as a target: what templates do to symbols, and templates with their holes filled.
 #![tactic(auto)]
 
-mod action;
 mod filling;
 mod form;
 pub mod found;
