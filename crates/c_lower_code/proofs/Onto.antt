@@ -45,12 +45,6 @@ onto_append (Bin op a b) w v = ap (λ l. plain (operator_token op) ∷ l) (ap (l
 pub onto_behind : (t : Tree) (v : List Leaf) → leaves_onto t v ≡ leaves_onto t [] ++ v
 onto_behind t v = onto_append t [] v
 
-pub indir_behind : (i : Integer) (v : List Leaf) → indir_onto i v ≡ indir_onto i [] ++ v
-indir_behind i v = indir_append i [] v
-
-pub conv_behind : (i : Integer) (v : List Leaf) → conv_onto i v ≡ conv_onto i [] ++ v
-conv_behind i v = conv_append i [] v
-
 assign_behind : (i : Integer) (a w : Tree) (v : List Leaf) → assign_onto i a w v ≡ assign_onto i a w [] ++ v
 assign_behind ints.Char a w v = ap (λ l. plain tok.AssignB ∷ plain tok.IndirB ∷ l) (ap (λ l. leaves_onto a (plain tok.Ncb ∷ l)) (onto_behind w v) ∙ onto_append a (plain tok.Ncb ∷ leaves_onto w []) v)
 assign_behind ints.UnsignedChar a w v = ap (λ l. plain tok.AssignB ∷ plain tok.IndirB ∷ l)

@@ -152,9 +152,6 @@ once_front l u js is z h = once_same l u is (js ++ is) h (λ m. omega (arith, st
 once_wider : (l k u : ℕ) (is : List Item) → l ≤ k → Once k u is → Once l u is
 once_wider l k u is le h = record { grows = omega (arith, h.grows); once = h.once; inside = λ m o. h.inside m (⊎_elim (λ lt. inl (omega arith)) (λ ge. inr ge) o) }
 
-once_empty : (l u : ℕ) → l ≤ u → Once l u []
-once_empty l u le = record { grows = le; once = λ m. omega arith; inside = λ m o. refl }
-
 none_saving : (b : Bool) (u : ℕ) (w : Tree) (m : ℕ) → stands m (Places.saving b u w) ≡ 0
 none_saving true u w m = refl
 none_saving false u w m = refl

@@ -158,10 +158,6 @@ pub state_some : (o : Option State) (st st' : State) → true ≡ is_some o → 
 state_some None st st' h e = absurd (cc)
 state_some (Some x) st st' h e = ap Some (sym e)
 
-pub state_none : (o : Option State) → false ≡ is_some o → o ≡ None
-state_none None h = refl
-state_none (Some x) h = absurd (cc)
-
 pub chosen_some : (v : ℕ) (a b : Runs) → (v ≡ 0 → ⊥) → chosen v a b ≡ a
 chosen_some zero a b h = absurd (h refl)
 chosen_some (suc v) a b h = refl

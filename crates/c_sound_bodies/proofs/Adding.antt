@@ -44,9 +44,6 @@ adds_further a b c h k = record {
   is = k.is ∙ (ap (λ (os : List Object). os ++ k.more) h.is ∙ append_assoc a.objects h.more k.more);
 }
 
-pub added_adds : (a : Area) (r : ℕ × Area) → Added a r → Adds a r.1
-added_adds a r h = record { more = h.last ∷ []; is = h.is }
-
 unchanged : (size : ℕ) (a : Area) (t : AnExpression × Area) → t ≡ (LiteralAt 0 size, a) → Adds a t.1
 unchanged size a t is = rw is (adds_none a)
 

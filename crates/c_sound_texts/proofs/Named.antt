@@ -253,10 +253,6 @@ declared_finds earlier spec f t (Some (entries.Function k)) is j = rw j (record 
 declared_finds earlier spec f t (Some (entries.Variable c v)) is j = absurd j
 declared_finds earlier spec f t (Some (entries.Array c v size)) is j = absurd j
 
-declared_more : (earlier : Option ℕ) (spec : Spec) (f : AFunction) (t : Text) → More t.state.scope (with_declared earlier spec f t).state.scope
-declared_more None spec f t = named_more t.state.scope f.name (entries.Function (length t.declared))
-declared_more (Some n) spec f t = same_names t.state.scope
-
 declared_area : (earlier : Option ℕ) (spec : Spec) (f : AFunction) (t : Text) → (with_declared earlier spec f t).state.area ≡ t.state.area
 declared_area None spec f t = refl
 declared_area (Some n) spec f t = refl

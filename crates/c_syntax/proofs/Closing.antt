@@ -109,9 +109,6 @@ pub cond_tail : (n m : ℕ) (ts rest : List Placed) (e : AnExp) (f : Fault) → 
 cond_tail n m ts rest e f i h = fails_when cond_goals n ts f (λ r κ. operand_leads n m ts rest e i (λ x. Want (Tail false x) κ) ∙ real (Want (Tail false e)) m rest f (h e) r κ)
 
 -- lengths
-pub length_deep : (n o : ℕ) (ts inner : List Placed) (f : Fault) → ts ≡ sign marks.OpenBracket o ∷ inner → (f ≡ TooDeep (length ts)) × (200 < n + 1) → Fails (Want ArrayPart) n ts f
-length_deep n o ts inner f e d = deep ArrayPart n 1 (sign marks.OpenBracket o) ts inner f _ (λ κ. refl) e d
-
 length_opens : (n i o : ℕ) (ts inner : List Placed) (κ : Option ALength → Stack) → ts ≡ sign marks.OpenBracket o ∷ inner → (i ≡ n + 1) × (n + 1 ≤ 200) → run limit (Want ArrayPart κ) n ts
     ≡ run limit (Want Length (λ e. Want (Back n) (λ x. κ (Some (record { opened = o; value = e }))))) i inner
 length_opens n i o ts inner κ e up = opens ArrayPart κ n i 1 (sign marks.OpenBracket o) ts inner _ refl e up
@@ -248,9 +245,6 @@ init_value_err n ts f h d = fails_when (Want Init) n ts f (λ r κ. expand_init 
 
 pub init_value : (n m : ℕ) (ts rest : List Placed) (e : AnExp) → IsNot (token.Mark marks.OpenBrace) ts → IsRead 1 1 n ts e rest m → Leads (Want Init) n ts (value e) n rest
 init_value n m ts rest e h i = λ κ. expand_init limit n κ ts h ∙ assign_leads n m ts rest e i _ ∙ back limit n m _ rest
-
-pub init_deep : (n : ℕ) (ts inner : List Placed) (f : Fault) → ts ≡ sign marks.OpenBrace 0 ∷ inner → (f ≡ TooDeep (length ts)) × (200 < n + 1) → Fails (Want Init) n ts f
-init_deep n ts inner f e d = deep Init n 1 (sign marks.OpenBrace 0) ts inner f _ (λ κ. refl) e d
 
 pub init_elements_err : (n i : ℕ) (ts inner : List Placed) (f : Fault) → ts ≡ sign marks.OpenBrace 0 ∷ inner → (i ≡ n + 1) × (n + 1 ≤ 200) → Fails (Want Elements) i inner f → Fails (Want Init) n ts f
 init_elements_err n i ts inner f e up h = fails_when (Want Init) n ts f (λ r κ. opens Init κ n i 1 (sign marks.OpenBrace 0) ts inner _ refl e up ∙ real (Want Elements) i inner f h r _)
@@ -432,13 +426,6 @@ no_condition n κ (t ∷ ts) h = rw (condition_by (class_of t.kind) (class_not t
 pub condition_none : (n : ℕ) (ts : List Placed) (f : Fault) → f ≡ NotHere (length ts) → IsNot (token.Mark marks.OpenParenthesis) ts → Fails (Want Condition) n ts f
 condition_none n ts f e h = fails_here (Want Condition) n ts (length ts) f e (λ κ. no_condition n κ ts h)
 
-pub condition_deep : (n o : ℕ) (ts inner : List Placed) (f : Fault) → ts ≡ sign marks.OpenParenthesis o ∷ inner → (f ≡ TooDeep (length ts)) × (200 < n + 1) → Fails (Want Condition) n ts f
-condition_deep n o ts inner f e d = deep Condition n 1 (sign marks.OpenParenthesis o) ts inner f _ (λ κ. refl) e d
-
-pub condition_err : (n i o : ℕ) (ts inner : List Placed) (f : Fault) → ts ≡ sign marks.OpenParenthesis o ∷ inner → (i ≡ n + 1) × (n + 1 ≤ 200) → Fails (Want Expr) i inner f
-    → Fails (Want Condition) n ts f
-condition_err n i o ts inner f e up h = fails_when (Want Condition) n ts f (λ r κ. opens Condition κ n i 1 (sign marks.OpenParenthesis o) ts inner _ refl e up ∙ real (Want Expr) i inner f h r _)
-
 pub condition_close : (n i j o : ℕ) (ts inner rest : List Placed) (e : AnExp) (f : Fault) → ts ≡ sign marks.OpenParenthesis o ∷ inner → (i ≡ n + 1) × (n + 1 ≤ 200)
     → IsRead 0 0 i inner e rest j → (f ≡ NotHere (length rest)) × IsNot (token.Mark marks.CloseParenthesis) rest → Fails (Want Condition) n ts f
 condition_close n i j o ts inner rest e f t up g d = fails_here (Want Condition) n ts (length rest) f d.0
@@ -592,35 +579,17 @@ pub compute_semi : (n j : ℕ) (ts rest : List Placed) (e : AnExp) (f : Fault) �
 compute_semi n j ts rest e f h g d = fails_here (Want Simple) n ts (length rest) f d.0 (λ κ. expand_simple n κ ts h ∙ exp_leads n j ts rest e g _ ∙ back limit n j _ rest ∙ no_semi n _ rest d.1)
 
 -- statements
-pub block_deep : (n : ℕ) (ts inner : List Placed) (f : Fault) → ts ≡ sign marks.OpenBrace 0 ∷ inner → (f ≡ TooDeep (length ts)) × (200 < n + 1) → Fails (Want Statement) n ts f
-block_deep n ts inner f e d = deep Statement n 1 (sign marks.OpenBrace 0) ts inner f _ (λ κ. refl) e d
-
-pub block_err : (n i : ℕ) (ts inner : List Placed) (f : Fault) → ts ≡ sign marks.OpenBrace 0 ∷ inner → (i ≡ n + 1) × (n + 1 ≤ 200) → Fails (Want Items) i inner f → Fails (Want Statement) n ts f
-block_err n i ts inner f e up h = fails_when (Want Statement) n ts f (λ r κ. opens Statement κ n i 1 (sign marks.OpenBrace 0) ts inner _ refl e up ∙ real (Want Items) i inner f h r _)
-
-pub if_deep : (n at : ℕ) (ts after : List Placed) (f : Fault) → ts ≡ word keys.If at ∷ after → (f ≡ TooDeep (length ts)) × (200 < n + 1) → Fails (Want Statement) n ts f
-if_deep n at ts after f e d = deep Statement n 1 (word keys.If at) ts after f _ (λ κ. refl) e d
-
 pub if_err : (n i at : ℕ) (ts after : List Placed) (f : Fault) → ts ≡ word keys.If at ∷ after → (i ≡ n + 1) × (n + 1 ≤ 200) → Fails (if_goals at) i after f → Fails (Want Statement) n ts f
 if_err n i at ts after f e up h = fails_when (Want Statement) n ts f (λ r κ. opens Statement κ n i 1 (word keys.If at) ts after _ refl e up
     ∙ real (if_goals at) i after f h r (λ s. Want (Back n) (λ x. κ s)))
-
-pub while_deep : (n at : ℕ) (ts after : List Placed) (f : Fault) → ts ≡ word keys.While at ∷ after → (f ≡ TooDeep (length ts)) × (200 < n + 1) → Fails (Want Statement) n ts f
-while_deep n at ts after f e d = deep Statement n 1 (word keys.While at) ts after f _ (λ κ. refl) e d
 
 pub while_err : (n i at : ℕ) (ts after : List Placed) (f : Fault) → ts ≡ word keys.While at ∷ after → (i ≡ n + 1) × (n + 1 ≤ 200) → Fails (while_goals at) i after f → Fails (Want Statement) n ts f
 while_err n i at ts after f e up h = fails_when (Want Statement) n ts f
     (λ r κ. opens Statement κ n i 1 (word keys.While at) ts after _ refl e up ∙ real (while_goals at) i after f h r (λ s. Want (Back n) (λ x. κ s)))
 
-pub do_deep : (n at : ℕ) (ts after : List Placed) (f : Fault) → ts ≡ word keys.Do at ∷ after → (f ≡ TooDeep (length ts)) × (200 < n + 1) → Fails (Want Statement) n ts f
-do_deep n at ts after f e d = deep Statement n 1 (word keys.Do at) ts after f _ (λ κ. refl) e d
-
 pub do_err : (n i at : ℕ) (ts after : List Placed) (f : Fault) → ts ≡ word keys.Do at ∷ after → (i ≡ n + 1) × (n + 1 ≤ 200) → Fails (do_goals at) i after f → Fails (Want Statement) n ts f
 do_err n i at ts after f e up h = fails_when (Want Statement) n ts f (λ r κ. opens Statement κ n i 1 (word keys.Do at) ts after _ refl e up
     ∙ real (do_goals at) i after f h r (λ s. Want (Back n) (λ x. κ s)))
-
-pub for_word_deep : (n at : ℕ) (ts after : List Placed) (f : Fault) → ts ≡ word keys.For at ∷ after → (f ≡ TooDeep (length ts)) × (200 < n + 1) → Fails (Want Statement) n ts f
-for_word_deep n at ts after f e d = deep Statement n 1 (word keys.For at) ts after f _ (λ κ. refl) e d
 
 pub for_err : (n i at : ℕ) (ts after : List Placed) (f : Fault) → ts ≡ word keys.For at ∷ after → (i ≡ n + 1) × (n + 1 ≤ 200) → Fails (for_goals at i) i after f → Fails (Want Statement) n ts f
 for_err n i at ts after f e up h = fails_when (Want Statement) n ts f (λ r κ.

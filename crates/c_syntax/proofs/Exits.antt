@@ -11,7 +11,6 @@ use Rattle.c_tokens.specs.declared.words.Key.TheVariants as keys
 use Rattle.c_tokens.specs.declared.marks.Mark.{Mark}
 use Rattle.c_tokens.specs.declared.marks.Mark.TheVariants as marks
 use Rattle.c_phrases.specs.declared.operator.BinaryOperator.{BinaryOperator}
-use Rattle.c_phrases.specs.declared.operator.PrefixOperator.{PrefixOperator}
 use Rattle.c_phrases.specs.declared.operator.StepOperator.{StepOperator}
 use Rattle.c_phrases.specs.declared.operator.AssignOperator.{AssignOperator}
 use Rattle.c_phrases.specs.declared.operator.AssignOperator.TheVariants as assigns
@@ -20,14 +19,14 @@ use Rattle.c_syntax_goals.specs.declared.fault.Fault.TheVariants.{NoMemory, NotH
 use Rattle.c_phrases.specs.declared.tree.TypeName.{TypeName}
 use Rattle.c_phrases.specs.Classes.{Placed, Class, class_of, key_class, mark_class, word, sign}
 use Rattle.c_phrases.specs.Classes as c
-use Rattle.c_phrases.specs.Phrases.{AnExp, name, number, str, paren, call, index, step_after, sizeof_exp, comma}
+use Rattle.c_phrases.specs.Phrases.{AnExp, paren, call, index, step_after, sizeof_exp, comma}
 use Rattle.c_phrases.specs.Phrases.{SomeExps, no_exps, exps, after_exp, IsAt, AllAt}
-use Rattle.c_phrases.specs.Spelling.{onto_name, onto_exp, onto_first, onto_others}
-use Rattle.c_phrases.specs.Operators.{binary_mark, prefix_mark, step_mark, assign_mark}
+use Rattle.c_phrases.specs.Spelling.{onto_exp, onto_first, onto_others}
+use Rattle.c_phrases.specs.Operators.{binary_mark, step_mark, assign_mark}
 use Rattle.c_phrases.specs.Levels.{LowExp, LowExps, limit}
 use Rattle.c_phrases.specs.Takes.{IsTypeWord, NoTypeWord, assign_of, prefix_of, step_of, NoPrefix, NoPrefixMark, NoStep, NoStepMark, NoAssign, NoAssignMark}
 use Rattle.c_phrases.specs.Fronts.{Quiet, IsNot, NoCast}
-use Rattle.c_syntax.specs.Reads.{NoName, NoNumber, NoString, BeginsCast, StopClass, IsStop, IsPart, IsRead, ReadsType}
+use Rattle.c_syntax.specs.Reads.{NoName, NoNumber, NoString, BeginsCast, StopClass, IsStop, IsRead, ReadsType}
 use Rattle.c_syntax.specs.Reads.{ArgumentsSoFar, ReadsArguments, IsSome}
 use Rattle.c_syntax.specs.Leads.{Fails, Leads, TailFails, TailLeads, PostFails, CommasFail}
 use Rattle.c_syntax_goals.specs.Wanted as Wanted
@@ -44,7 +43,7 @@ use Rattle.c_syntax_goals.specs.Groups.{cast_behind, paren_behind, sizeof_behind
 use Rattle.c_syntax_goals.specs.Machine.{run}
 use Rattle.c_syntax_goals.proofs.Tokens.{single, token_of}
 use Rattle.c_syntax_goals.proofs.PhraseLaws.{limit_low}
-use Rattle.c_syntax_goals.proofs.Steps.{Unset, NoSet, step_opens, step_deep, step_refuses, tail_binary, tail_assign, unary_prefix, unary_step, post_step, back, loosen, quiet_call}
+use Rattle.c_syntax_goals.proofs.Steps.{Unset, NoSet, step_opens, step_deep, step_refuses, tail_binary, tail_assign, unary_step, post_step, back, loosen, quiet_call}
 use Rattle.c_syntax_goals.proofs.Steps.{group_type, sizeof_group_type, cast_plain, assign_plain, sizeof_is_plain, assign_cast, expand_expr, expand_cond, expand_arguments}
 use Rattle.c_syntax_goals.proofs.Going.{StartClass, Starts, starts, not_start, quiet_others, law_exp, law_assign, law_operand, law_unary, law_first}
 
@@ -147,12 +146,6 @@ pub expr_commas : (n m : ℕ) (ts rest : List Placed) (e : AnExp) (f : Fault) �
 expr_commas n m ts rest e f i h = fails_when (Want Expr) n ts f (λ r κ. expand_expr limit n κ ts ∙ assign_leads n m ts rest e i (λ a. Want (Commas a) κ) ∙ real (Want (Commas e)) m rest f (h e) r κ)
 
 -- commas
-pub commas_deep : (n : ℕ) (ts after : List Placed) (f : Fault) → ts ≡ sign marks.Comma 0 ∷ after → (f ≡ TooDeep (length ts)) × (200 < n + 1) → CommasFail n ts f
-commas_deep n ts after f e d = λ l. deep (Commas l) n 1 (sign marks.Comma 0) ts after f (λ κ. Want Assign (λ r. Want (Commas (comma l r)) κ)) (λ κ. refl) e d
-
-pub commas_err : (n i : ℕ) (ts after : List Placed) (f : Fault) → ts ≡ sign marks.Comma 0 ∷ after → (i ≡ n + 1) × (n + 1 ≤ 200) → Fails (Want Assign) i after f → CommasFail n ts f
-commas_err n i ts after f e up h = λ l. fails_when (Want (Commas l)) n ts f (λ r κ. opens (Commas l) κ n i 1 (sign marks.Comma 0) ts after _ refl e up ∙ real (Want Assign) i after f h r _)
-
 pub commas_more : (n i m : ℕ) (ts after rest : List Placed) (e : AnExp) (f : Fault) → ts ≡ sign marks.Comma 0 ∷ after → (i ≡ n + 1) × (n + 1 ≤ 200) → IsRead 1 1 i after e rest m
     → CommasFail m rest f → CommasFail n ts f
 commas_more n i m ts after rest e f t up g h = λ l. fails_when (Want (Commas l)) n ts f
@@ -268,15 +261,6 @@ pub choice_leads : (n m i j k q : ℕ) (ts rest inner next last end out : List P
     × (m + 1 ≤ 200) → IsRead 0 0 i inner e next j → next ≡ sign marks.Colon 0 ∷ last → IsRead 13 13 j last d end k → TailLeads k end q out → TailLeads n ts q out
 choice_leads n m i j k q ts rest inner next last end out at e d l t up g b o p = λ f h. choice_tail n m i j k ts rest inner next last end at e d f l t up g b o (p f h)
 
--- rows of binary operators
-pub row_deep : (n : ℕ) (ts after : List Placed) (op : BinaryOperator) (at : ℕ) (f : Fault) → ts ≡ sign (binary_mark op) at ∷ after → (f ≡ TooDeep (length ts)) × (200 < n + 1) → TailFails n ts f
-row_deep n ts after op at f e d = λ l. deep (Tail false l) n 1 (sign (binary_mark op) at) ts after f _ (λ κ. tail_binary op at n false l κ) e d
-
-pub row_operand : (n i : ℕ) (ts after : List Placed) (op : BinaryOperator) (at : ℕ) (f : Fault) → ts ≡ sign (binary_mark op) at ∷ after → (i ≡ n + 1) × (n + 1 ≤ 200)
-    → Fails (Want Cast) i after f → TailFails n ts f
-row_operand n i ts after op at f e up h = λ l. fails_when (Want (Tail false l)) n ts f
-    (λ r κ. opens (Tail false l) κ n i 1 (sign (binary_mark op) at) ts after _ (tail_binary op at n false l κ) e up ∙ real (Want Cast) i after f h r _)
-
 pub row_tail : (n i m : ℕ) (ts after rest : List Placed) (op : BinaryOperator) (at : ℕ) (e : AnExp) (f : Fault) → ts ≡ sign (binary_mark op) at ∷ after → (i ≡ n + 1) × (n + 1 ≤ 200)
     → IsRead 13 13 i after e rest m → TailFails m rest f → TailFails n ts f
 row_tail n i m ts after rest op at e f t up g h = λ l. fails_when (Want (Tail false l)) n ts f
@@ -294,9 +278,6 @@ row_leads n i m j k ts after rest next end op at e t up g l p = λ f h. row_more
 -- cast
 pub cast_unary_err : (n : ℕ) (ts : List Placed) (f : Fault) → NoCast ts → Fails (Want Unary) n ts f → Fails (Want Cast) n ts f
 cast_unary_err n ts f b h = fails_when (Want Cast) n ts f (λ r κ. cast_plain limit n κ ts b ∙ real (Want Unary) n ts f h r κ)
-
-pub cast_deep : (n o : ℕ) (ts inner : List Placed) (f : Fault) → (ts ≡ sign marks.OpenParenthesis o ∷ inner) × IsTypeWord inner → (f ≡ TooDeep (length ts)) × (200 < n + 1) → Fails (Want Cast) n ts f
-cast_deep n o ts inner f e d = deep Cast n 1 (sign marks.OpenParenthesis o) ts inner f (λ κ. Want (Group o n) κ) (λ κ. refl) e.0 d
 
 cast_opens : (n i o : ℕ) (ts inner : List Placed) (κ : AnExp → Stack) → (ts ≡ sign marks.OpenParenthesis o ∷ inner) × IsTypeWord inner → (i ≡ n + 1) × (n + 1 ≤ 200)
     → run limit (Want Cast κ) n ts ≡ run limit (type_goals (cast_behind o κ)) i inner
@@ -318,32 +299,6 @@ pub cast_err : (n i o : ℕ) (ts inner rest last : List Placed) (t : TypeName) (
 cast_err n i o ts inner rest last t f e up g b h = fails_when (Want Cast) n ts f
     (λ r κ. cast_opens n i o ts inner κ e up ∙ g.leads i (cast_behind o κ) ∙ close_leads i rest last _ b ∙ real (Want Cast) i last f h r _)
 
--- unary
-pub prefix_deep : (n : ℕ) (ts after : List Placed) (op : PrefixOperator) (at : ℕ) (f : Fault) → ts ≡ sign (prefix_mark op) at ∷ after → (f ≡ TooDeep (length ts)) × (200 < n + 1)
-    → Fails (Want Unary) n ts f
-prefix_deep n ts after op at f e d = deep Unary n 1 (sign (prefix_mark op) at) ts after f _ (λ κ. unary_prefix op at n κ) e d
-
-pub prefix_err : (n i : ℕ) (ts after : List Placed) (op : PrefixOperator) (at : ℕ) (f : Fault) → ts ≡ sign (prefix_mark op) at ∷ after → (i ≡ n + 1) × (n + 1 ≤ 200)
-    → Fails (Want Cast) i after f → Fails (Want Unary) n ts f
-prefix_err n i ts after op at f e up h = fails_when (Want Unary) n ts f
-    (λ r κ. opens Unary κ n i 1 (sign (prefix_mark op) at) ts after _ (unary_prefix op at n κ) e up ∙ real (Want Cast) i after f h r _)
-
-pub step_deeper : (n : ℕ) (ts after : List Placed) (op : StepOperator) (at : ℕ) (f : Fault) → ts ≡ sign (step_mark op) at ∷ after → (f ≡ TooDeep (length ts)) × (200 < n + 1)
-    → Fails (Want Unary) n ts f
-step_deeper n ts after op at f e d = deep Unary n 1 (sign (step_mark op) at) ts after f _ (λ κ. unary_step op at n κ) e d
-
-pub step_err : (n i : ℕ) (ts after : List Placed) (op : StepOperator) (at : ℕ) (f : Fault) → ts ≡ sign (step_mark op) at ∷ after → (i ≡ n + 1) × (n + 1 ≤ 200)
-    → Fails (Want Unary) i after f → Fails (Want Unary) n ts f
-step_err n i ts after op at f e up h = fails_when (Want Unary) n ts f (λ r κ. opens Unary κ n i 1 (sign (step_mark op) at) ts after _ (unary_step op at n κ) e up ∙ real (Want Unary) i after f h r _)
-
-pub size_deep : (n : ℕ) (ts after : List Placed) (at : ℕ) (f : Fault) → ts ≡ word keys.Sizeof at ∷ after → (f ≡ TooDeep (length ts)) × (200 < n + 1) → Fails (Want Unary) n ts f
-size_deep n ts after at f e d = deep Unary n 1 (word keys.Sizeof at) ts after f (λ κ. Want (SizeofTail at) κ) (λ κ. refl) e d
-
-pub size_err : (n i : ℕ) (ts after : List Placed) (at : ℕ) (f : Fault) → ts ≡ word keys.Sizeof at ∷ after → (i ≡ n + 1) × (n + 1 ≤ 200) → Fails (Want (SizeofTail at)) i after f
-    → Fails (Want Unary) n ts f
-size_err n i ts after at f e up h = fails_when (Want Unary) n ts f (λ r κ. opens Unary κ n i 1 (word keys.Sizeof at) ts after (Want (SizeofTail at) κ) refl e up
-    ∙ real (Want (SizeofTail at)) i after f h r κ)
-
 -- a primary and what follows it
 abbrev NoOperator : Class → Type 0
 NoOperator c.Sign = ⊥
@@ -355,6 +310,7 @@ abbrev NoStepClass : Class → Type 0
 NoStepClass c.Step = ⊥
 NoStepClass k = Unit {0}
 
+-- unary
 no_operator_mark : (m : Mark) → prefix_of m ≡ None → NoOperator (mark_class m)
 no_operator_mark marks.Plus e = absurd (none-some _ (sym e))
 no_operator_mark marks.Minus e = absurd (none-some _ (sym e))
@@ -418,10 +374,6 @@ unary_post_err n m ts rest e f p s z l h = fails_when (Want Unary) n ts f (λ r 
 pub sizeof_unary_err : (at n : ℕ) (ts : List Placed) (f : Fault) → NoCast ts → Fails (Want Unary) n ts f → Fails (Want (SizeofTail at)) n ts f
 sizeof_unary_err at n ts f b h = fails_when (Want (SizeofTail at)) n ts f (λ r κ. sizeof_is_plain limit at n κ ts b ∙ real (Want Unary) n ts f h r _)
 
-pub sizeof_deep : (at n o : ℕ) (ts inner : List Placed) (f : Fault) → (ts ≡ sign marks.OpenParenthesis o ∷ inner) × IsTypeWord inner → (f ≡ TooDeep (length ts)) × (200 < n + 1)
-    → Fails (Want (SizeofTail at)) n ts f
-sizeof_deep at n o ts inner f e d = deep (SizeofTail at) n 1 (sign marks.OpenParenthesis o) ts inner f (λ κ. Want (SizeofGroup at o n) κ) (λ κ. refl) e.0 d
-
 sizeof_opens : (at n i o : ℕ) (ts inner : List Placed) (κ : AnExp → Stack) → (ts ≡ sign marks.OpenParenthesis o ∷ inner) × IsTypeWord inner → (i ≡ n + 1) × (n + 1 ≤ 200)
     → run limit (Want (SizeofTail at) κ) n ts ≡ run limit (type_goals (sizeof_behind at o n κ)) i inner
 sizeof_opens at n i o ts inner κ e up = opens (SizeofTail at) κ n i 1 (sign marks.OpenParenthesis o) ts inner (Want (SizeofGroup at o n) κ) refl e.0 up ∙ sizeof_group_type limit at o n i κ inner e.1
@@ -450,13 +402,6 @@ pub sizeof_ended : (at n i o : ℕ) (ts inner rest last : List Placed) (t : Type
 sizeof_ended at n i o ts inner rest last t f e up g b h = fails_here (Want (SizeofTail at)) n ts (length last) f h.0
     (λ κ. sizeof_opens at n i o ts inner κ e up ∙ g.leads i (sizeof_behind at o n κ) ∙ close_leads i rest last _ b ∙ back limit n i _ last ∙ stopped n _ last h.1)
 
--- a primary
-pub primary_named_err : (n at : ℕ) (x : List ℕ) (ts rest : List Placed) (f : Fault) → ts ≡ onto_name x at rest → Fails (Want (CallTail x at)) n rest f → Fails (Want Primary) n ts f
-primary_named_err n at x ts rest f e h = fails_when (Want Primary) n ts f (λ r κ. rw e (real (Want (CallTail x at)) n rest f h r κ))
-
-pub primary_named : (n m at : ℕ) (x : List ℕ) (ts rest last : List Placed) (e : AnExp) → ts ≡ onto_name x at rest → Leads (Want (CallTail x at)) n rest e m last → Leads (Want Primary) n ts e m last
-primary_named n m at x ts rest last e t l = λ κ. rw t (l κ)
-
 -- a token that is no name, number or string
 abbrev pub NoWord : Class → Type 0
 NoWord c.Name = ⊥
@@ -464,6 +409,7 @@ NoWord c.Number = ⊥
 NoWord c.Str = ⊥
 NoWord k = Unit {0}
 
+-- a primary
 no_word_by : (k : Class) → NoWord k → (t : Placed) (n : ℕ) (κ : AnExp → Stack) → Expressions.primary_step k t n κ ≡ Expressions.parens_step k t n κ
 no_word_by c.Name h t n κ = absurd h
 no_word_by c.Number h t n κ = absurd h
@@ -477,12 +423,6 @@ primary_parens n t ts κ h = rw (no_word_by (class_of t.kind) h t n κ) refl
 pub parens_none : (n : ℕ) (ts : List Placed) (f : Fault) → f ≡ NotHere (length ts) → IsNot (token.Mark marks.OpenParenthesis) ts → Fails (Want Parens) n ts f
 parens_none n ts f e h = fails_here (Want Parens) n ts (length ts) f e (λ κ. no_parens n κ ts h)
 
-pub parens_deep : (n o : ℕ) (ts inner : List Placed) (f : Fault) → ts ≡ sign marks.OpenParenthesis o ∷ inner → (f ≡ TooDeep (length ts)) × (200 < n + 1) → Fails (Want Parens) n ts f
-parens_deep n o ts inner f e d = deep Parens n 1 (sign marks.OpenParenthesis o) ts inner f _ (λ κ. refl) e d
-
-pub parens_err : (n i o : ℕ) (ts inner : List Placed) (f : Fault) → ts ≡ sign marks.OpenParenthesis o ∷ inner → (i ≡ n + 1) × (n + 1 ≤ 200) → Fails (Want Expr) i inner f → Fails (Want Parens) n ts f
-parens_err n i o ts inner f e up h = fails_when (Want Parens) n ts f (λ r κ. opens Parens κ n i 1 (sign marks.OpenParenthesis o) ts inner _ refl e up ∙ real (Want Expr) i inner f h r _)
-
 pub parens_close : (n i j o : ℕ) (ts inner rest : List Placed) (e : AnExp) (f : Fault) → ts ≡ sign marks.OpenParenthesis o ∷ inner → (i ≡ n + 1) × (n + 1 ≤ 200)
     → IsRead 0 0 i inner e rest j → (f ≡ NotHere (length rest)) × IsNot (token.Mark marks.CloseParenthesis) rest → Fails (Want Parens) n ts f
 parens_close n i j o ts inner rest e f t up g h = fails_here (Want Parens) n ts (length rest) f h.0
@@ -494,22 +434,9 @@ parens_leads n i j o ts inner rest last e t up g b = λ κ. opens Parens κ n i 
     ∙ close_leads j rest last _ b ∙ back limit n j _ last
 
 -- behind a name
-call_not : (k : Class) → (k ≢ c.OpenParen) → (t : Placed) (n : ℕ) (x : List ℕ) (at : ℕ) (κ : AnExp → Stack) → Expressions.call_turn k t n x at κ ≡ Goals.Passes n (name x at)
-call_not c.OpenParen h t n x at κ = absurd (h refl)
-call_not k h t n x at κ = refl
-
-pub name_leads : (n at : ℕ) (x : List ℕ) (ts : List Placed) → IsNot (token.Mark marks.OpenParenthesis) ts → Leads (Want (CallTail x at)) n ts (name x at) n ts
-name_leads n at x [] h = λ κ. refl
-name_leads n at x (t ∷ ts) h = λ κ. rw (call_not (class_of t.kind) (class_not t.kind (token.Mark marks.OpenParenthesis) refl h) t n x at κ) refl
-
 pub call_deep : (n at o : ℕ) (x : List ℕ) (ts inner : List Placed) (f : Fault) → ts ≡ sign marks.OpenParenthesis o ∷ inner → (f ≡ TooDeep (length ts)) × (200 < n + 2)
     → Fails (Want (CallTail x at)) n ts f
 call_deep n at o x ts inner f e d = deep (CallTail x at) n 2 (sign marks.OpenParenthesis o) ts inner f _ (λ κ. refl) e d
-
-pub call_err : (n i at o : ℕ) (x : List ℕ) (ts inner : List Placed) (f : Fault) → ts ≡ sign marks.OpenParenthesis o ∷ inner → (i ≡ n + 2) × (n + 2 ≤ 200) → Fails (Want Arguments) i inner f
-    → Fails (Want (CallTail x at)) n ts f
-call_err n i at o x ts inner f e up h = fails_when (Want (CallTail x at)) n ts f
-    (λ r κ. opens (CallTail x at) κ n i 2 (sign marks.OpenParenthesis o) ts inner _ refl e up ∙ real (Want Arguments) i inner f h r _)
 
 arguments_lead : (n : ℕ) (ts rest : List Placed) (es : SomeExps) (κ : SomeExps → Stack) → ReadsArguments n ts es rest → run limit (Want Arguments κ) n ts ≡ run limit (κ es) n rest
 arguments_lead n ts rest es κ r = rw (r.text) (law_first limit es κ n rest r.at r.low)
@@ -557,13 +484,6 @@ pub arguments_close : (n : ℕ) (ts rest : List Placed) (es : SomeExps) (f : Fau
     × IsNot (token.Mark marks.CloseParenthesis) rest → Fails (Want Arguments) n ts f
 arguments_close n ts rest es f s i h = fails_here (Want Arguments) n ts (length rest) f h.0 (λ κ. so_far n ts rest es κ s ∙ no_more n _ rest h.1 i)
 
--- indexes and steps
-pub index_deep : (n o : ℕ) (ts inner : List Placed) (f : Fault) → ts ≡ sign marks.OpenBracket o ∷ inner → (f ≡ TooDeep (length ts)) × (200 < n + 2) → PostFails n ts f
-index_deep n o ts inner f e d = λ l. deep (PostTail l) n 2 (sign marks.OpenBracket o) ts inner f _ (λ κ. refl) e d
-
-pub index_err : (n i o : ℕ) (ts inner : List Placed) (f : Fault) → ts ≡ sign marks.OpenBracket o ∷ inner → (i ≡ n + 2) × (n + 2 ≤ 200) → Fails (Want Expr) i inner f → PostFails n ts f
-index_err n i o ts inner f e up h = λ l. fails_when (Want (PostTail l)) n ts f (λ r κ. opens (PostTail l) κ n i 2 (sign marks.OpenBracket o) ts inner _ refl e up ∙ real (Want Expr) i inner f h r _)
-
 pub index_close : (n i j o : ℕ) (ts inner rest : List Placed) (e : AnExp) (f : Fault) → ts ≡ sign marks.OpenBracket o ∷ inner → (i ≡ n + 2) × (n + 2 ≤ 200) → IsRead 0 0 i inner e rest j
     → (f ≡ NotHere (length rest)) × IsNot (token.Mark marks.CloseBracket) rest → PostFails n ts f
 index_close n i j o ts inner rest e f t up g h = λ l. fails_here (Want (PostTail l)) n ts (length rest) f h.0
@@ -578,26 +498,9 @@ index_more n i j o ts inner rest last e f t up g b h = λ l. fails_when (Want (P
     (λ r κ. opens (PostTail l) κ n i 2 (sign marks.OpenBracket o) ts inner _ refl t up ∙ exp_leads i j inner rest e g _ ∙ bracket_leads j rest last _ b ∙ back limit (n + 1) j _ last
     ∙ real (Want (PostTail (index l o e))) (n + 1) last f (h (index l o e)) r κ)
 
-pub post_deep : (n : ℕ) (ts after : List Placed) (op : StepOperator) (at : ℕ) (f : Fault) → ts ≡ sign (step_mark op) at ∷ after → (f ≡ TooDeep (length ts)) × (200 < n + 1) → PostFails n ts f
-post_deep n ts after op at f e d = λ l. deep (PostTail l) n 1 (sign (step_mark op) at) ts after f _ (λ κ. post_step op at n l κ) e d
-
 pub post_more : (n i : ℕ) (ts after : List Placed) (op : StepOperator) (at : ℕ) (f : Fault) → ts ≡ sign (step_mark op) at ∷ after → (i ≡ n + 1) × (n + 1 ≤ 200) → PostFails i after f → PostFails n ts f
 post_more n i ts after op at f e up h = λ l. fails_when (Want (PostTail l)) n ts f
     (λ r κ. opens (PostTail l) κ n i 1 (sign (step_mark op) at) ts after _ (post_step op at n l κ) e up ∙ real (Want (PostTail (step_after l op at))) i after f (h (step_after l op at)) r κ)
-
-post_refuses : (k : Class) → StopClass k → (k ≢ c.OpenBracket) → NoStepClass k → (t : Placed) (n : ℕ) (l : AnExp) (κ : AnExp → Stack) → Expressions.post_turn k t n l κ ≡ Steps Refuses
-post_refuses c.OpenParen h i j t n l κ = refl
-post_refuses c.OpenBracket h i j t n l κ = absurd (i refl)
-post_refuses c.Step h i j t n l κ = absurd j
-post_refuses k h i j t n l κ = absurd h
-
-post_stopped : (n : ℕ) (l : AnExp) (κ : AnExp → Stack) (ts : List Placed) → IsStop ts → IsNot (token.Mark marks.OpenBracket) ts → NoStep ts → run limit (Want (PostTail l) κ) n ts
-    ≡ Err (NotHere (length ts))
-post_stopped n l κ [] h i j = absurd h
-post_stopped n l κ (t ∷ ts) h i j = rw (post_refuses (class_of t.kind) h (class_not t.kind (token.Mark marks.OpenBracket) refl i) (no_step_of t.kind j) t n l κ) refl
-
-pub post_ended : (n : ℕ) (ts : List Placed) (f : Fault) → IsNot (token.Mark marks.OpenBracket) ts → NoStep ts → (f ≡ NotHere (length ts)) × IsStop ts → PostFails n ts f
-post_ended n ts f i j h = λ l. fails_here (Want (PostTail l)) n ts (length ts) f h.0 (λ κ. post_stopped n l κ ts h.1 i j)
 
 -- a fault, or an answer, handed on
 pub err_map : {A : Type 0} (r : Result A Fault) (P Q : Fault → Type 0) → ((f : Fault) → P f → Q f) → IfErr r P → IfErr r Q
@@ -615,21 +518,6 @@ when_true false A B h e = absurd (cc)
 pub when_false : (b : Bool) (A B : Type 0) → MatchBool b A B → b ≡ false → B
 when_false false A B h e = h
 when_false true A B h e = absurd (cc)
-
-pub part_as : (n m : ℕ) (ts us rest : List Placed) (e : AnExp) → ts ≡ us → IsPart n us e rest m → IsPart n ts e rest m
-part_as n m ts us rest e t h = rw t h
-
-pub number_part : (n v at : ℕ) (ts rest : List Placed) → n ≤ 200 → ts ≡ record { kind = token.Number v; at = at } ∷ rest → IsPart n ts (number v at) rest n
-number_part n v at ts rest le e = record { text = e; at = tt; low = tt; level = refl; rises = omega arith; top = le }
-
-pub str_part : (n at : ℕ) (b : List ℕ) (ts rest : List Placed) → n ≤ 200 → ts ≡ record { kind = token.Str b; at = at } ∷ rest → IsPart n ts (str b at) rest n
-str_part n at b ts rest le e = record { text = e; at = tt; low = tt; level = refl; rises = omega arith; top = le }
-
-pub number_leads : (n v at : ℕ) (ts rest : List Placed) → ts ≡ record { kind = token.Number v; at = at } ∷ rest → Leads (Want Primary) n ts (number v at) n rest
-number_leads n v at ts rest e = λ κ. rw e refl
-
-pub str_leads : (n at : ℕ) (b : List ℕ) (ts rest : List Placed) → ts ≡ record { kind = token.Str b; at = at } ∷ rest → Leads (Want Primary) n ts (str b at) n rest
-str_leads n at b ts rest e = λ κ. rw e refl
 
 no_word_of : (k : Token) → ((x : List ℕ) → k ≢ token.Name x) → ((v : ℕ) → k ≢ token.Number v) → ((b : List ℕ) → k ≢ token.Str b) → NoWord (class_of k)
 no_word_of (token.Name x) f g h = absurd (f x refl)
@@ -653,6 +541,3 @@ primary_is_parens n (t ∷ ts) κ f g h = primary_parens n t ts κ (no_word_of t
 
 pub primary_parens_err : (n : ℕ) (ts : List Placed) (f : Fault) → NoName ts → NoNumber ts → NoString ts → Fails (Want Parens) n ts f → Fails (Want Primary) n ts f
 primary_parens_err n ts f a b d h = fails_when (Want Primary) n ts f (λ r κ. primary_is_parens n ts κ a b d ∙ real (Want Parens) n ts f h r κ)
-
-pub primary_parens_leads : (n m : ℕ) (ts rest : List Placed) (e : AnExp) → NoName ts → NoNumber ts → NoString ts → Leads (Want Parens) n ts e m rest → Leads (Want Primary) n ts e m rest
-primary_parens_leads n m ts rest e a b d l = λ κ. primary_is_parens n ts κ a b d ∙ l κ

@@ -29,14 +29,6 @@ elements_end m ts rest last es s e = record {
   low = λ n f h. (h, subst (LowExps limit es) f s.low);
 }
 
-pub elements_comma_end : (m : ℕ) (ts rest after last : List Placed) (es : SomeExps) → ArgumentsSoFar m ts es rest → rest ≡ sign marks.Comma 0 ∷ after → after
-    ≡ sign marks.CloseBrace 0 ∷ last → ReadsElements m ts (elements es true) last
-elements_comma_end m ts rest after last es s e f = record {
-  text = ap (λ (l : List Placed). sign marks.OpenBrace 0 ∷ l) (s.text ∙ ap (onto_first es) (e ∙ ap (λ (l : List Placed). sign marks.Comma 0 ∷ l) f));
-  fits = (same_some es s.some, s.at);
-  low = λ n g h. (h, subst (LowExps limit es) g s.low);
-}
-
 -- declarators
 pub declarators_push : (ds : List Declarator) (d : Declarator) → declarators_of (ds ++ d ∷ []) ≡ declarators_of ds ++ declarator_of d ∷ []
 declarators_push [] d = refl

@@ -1,10 +1,10 @@
 -- The exits of the functions that read types.
-use Rattle.std.proofs.Common.{◌≡◌, ◌≢◌, ℕ, List, [], ◌∷◌, ◌++◌, Some, None, refl, ◌∙◌, ap, append_assoc}
+use Rattle.std.proofs.Common.{◌≡◌, ◌≢◌, ℕ, List, [], ◌∷◌, ◌++◌, None, refl, ◌∙◌, ap, append_assoc}
 use Rattle.std.specs.Prelude.{Option}
 use Rattle.c_tokens.specs.declared.token.Token.TheVariants as token
 use Rattle.c_tokens.specs.declared.words.Key.TheVariants as keys
 use Rattle.c_tokens.specs.declared.marks.Mark.TheVariants as marks
-use Rattle.c_phrases.specs.Classes.{Placed, Class, class_of, word, sign}
+use Rattle.c_phrases.specs.Classes.{Placed, Class, class_of, sign}
 use Rattle.c_phrases.specs.Classes as c
 use Rattle.c_syntax_goals.proofs.Tokens.{not_class}
 use Rattle.c_syntax_goals.specs.Goals.{Stack, Want, AfterShort, Stars, Passes}
@@ -14,9 +14,6 @@ use Rattle.c_phrases.specs.Levels.{limit}
 use Rattle.c_phrases.specs.Spelling.{onto_stars}
 use Rattle.c_phrases.specs.Fronts.{IsNot}
 use Rattle.c_syntax.specs.Reads.{ReadsInt, ReadsStars, StarsSoFar}
-
-pub int_read : (ts rest : List Placed) (at : ℕ) → ts ≡ word keys.Int at ∷ rest → ReadsInt ts (Some at) rest
-int_read ts rest at e = record { text = e; leads = λ n κ. rw e refl }
 
 pub int_none : (ts : List Placed) → IsNot (token.Key keys.Int) ts → ReadsInt ts None ts
 int_none ts h = record { text = refl; leads = λ n κ. passes ts h κ n }

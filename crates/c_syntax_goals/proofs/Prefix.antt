@@ -225,11 +225,6 @@ no_unit_begins pre bad post e u w fits text =
     let h : run free (Want Whole Done) 0 (unit_tokens u) ≡ Ok u = law_unit free u fits (low_externals u.externals) in
     no_ok u (NotHere (suc (length w))) (sym h ∙ ap (run free (Want Whole Done) 0) text ∙ g ∙ ap (λ (x : Result AUnit Fault). moved x (suc (length w))) f)
 
--- the text ends where no unit does
-pub no_unit_is : (ts : List Placed) → run limit (Want Whole Done) 0 ts ≡ Err (NotHere 0) → (u : AUnit) → ExternalsFit u.externals → unit_tokens u ≡ ts → ⊥
-no_unit_is ts e u fits text =
-    no_ok u (NotHere 0) (sym (law_unit free u fits (low_externals u.externals)) ∙ ap (run free (Want Whole Done) 0) text ∙ free_here (Want Whole Done) 0 ts 0 e)
-
 -- each unit that begins with the tokens up to the fault's own opens a level past the limit
 pub too_deep_begins : (pre : List Placed) (bad : Placed) (post : List Placed) → run limit (Want Whole Done) 0 (pre ++ bad ∷ post) ≡ Err (TooDeep (suc (length post)))
     → (u : AUnit) (w : List Placed) → ExternalsFit u.externals → LowExternals limit u.externals → unit_tokens u ≡ pre ++ bad ∷ w → ⊥

@@ -134,9 +134,6 @@ after_name_by k h t n ats f at κ L = refl
 not_name : (n : List ℕ) (k : Token) → (class_of k ≡ c.Name → ⊥) → token.Name n ≡ k → ⊥
 not_name n k h e = h (ap class_of (sym e))
 
-name_no : (n : List ℕ) (at : ℕ) (w : List Placed) (k : Token) → (class_of k ≡ c.Name → ⊥) → IsNot k (onto_name n at w)
-name_no n at w k h = not_name n k h
-
 -- what is spelled between a type's words and a name
 stars_no : (ats : List ℕ) (w : List Placed) (k : Token) → (token.Mark marks.Star ≡ k → ⊥) → IsNot k w → IsNot k (onto_stars ats w)
 stars_no [] w k h i = i
@@ -162,9 +159,6 @@ initialised_no (Some i) w e = λ f. absurd (cc)
 length_no : (k : Token) (l : Option ALength) (w : List Placed) → (token.Mark marks.OpenBracket ≡ k → ⊥) → (EndClass (class_of k) → ⊥) → Ending w → IsNot k (onto_length l w)
 length_no k None w h i e = ending_no k w i e
 length_no k (Some l) w h i e = h
-
-open_name : (n : List ℕ) (m : Mark) → token.Mark m ≡ token.Name n → ⊥
-open_name n m e = absurd (cc)
 
 more_ending : (ds : List ADeclarator) (w : List Placed) → Ending (onto_more_declarators ds (sign marks.Semicolon 0 ∷ w))
 more_ending [] w = tt

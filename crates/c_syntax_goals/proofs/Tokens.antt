@@ -1,5 +1,5 @@
 -- A class of one token tells the token.
-use Rattle.std.proofs.Common.{◌≡◌, ◌≢◌, List, [], ◌∷◌, Option, Some, None, ◌∙◌, ap}
+use Rattle.std.proofs.Common.{◌≡◌, ◌≢◌, Option, Some, None, ◌∙◌, ap}
 use Rattle.std.proofs.lemmas.Option.{none-some, same_Some}
 use Rattle.c_tokens.specs.declared.token.Token.{Token}
 use Rattle.c_tokens.specs.declared.token.Token.TheVariants as token
@@ -7,9 +7,8 @@ use Rattle.c_tokens.specs.declared.words.Key.{Key}
 use Rattle.c_tokens.specs.declared.words.Key.TheVariants as keys
 use Rattle.c_tokens.specs.declared.marks.Mark.{Mark}
 use Rattle.c_tokens.specs.declared.marks.Mark.TheVariants as marks
-use Rattle.c_phrases.specs.Classes.{Placed, Class, class_of, key_class, mark_class}
+use Rattle.c_phrases.specs.Classes.{Class, class_of, key_class, mark_class}
 use Rattle.c_phrases.specs.Classes as c
-use Rattle.c_phrases.specs.Fronts.{IsNot, NotClass}
 
 -- the token of a class that has one alone
 abbrev pub token_of : Class → Option Token
@@ -88,7 +87,3 @@ single (token.Str s) t e = absurd (none-some t e)
 
 pub not_class : (k w : Token) → token_of (class_of w) ≡ Some w → k ≢ w → class_of k ≢ class_of w
 not_class k w e h f = h (single k w (ap token_of f ∙ e))
-
-pub other_class : (w : Token) (ts : List Placed) → token_of (class_of w) ≡ Some w → IsNot w ts → NotClass (class_of w) ts
-other_class w [] e h = tt
-other_class w (t ∷ ts) e h = not_class t.kind w e h

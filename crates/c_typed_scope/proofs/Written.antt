@@ -2,7 +2,7 @@
 use Rattle.std.proofs.Common.{◌≡◌, ℕ, zero, suc, ◌+◌, ◌-◌, ◌*◌, ◌<◌, ◌≤◌, ◌/◌, ◌%◌, ◌^◌, List, [], ◌∷◌, ◌++◌, Option, Some, None, length, get_or, append_assoc, refl, ap, sym, ◌∙◌, add-one, arith}
 use Rattle.std.specs.Prelude.{slice_get}
 use Rattle.std.proofs.Math.ListN.{set, replicate}
-use Rattle.std.proofs.lemmas.List.{append-nil, replicate_more}
+use Rattle.std.proofs.lemmas.List.{replicate_more}
 use Rattle.std.proofs.Math.Nat.{div-mul-le_self}
 use Rattle.tree_core.specs.declared.program.Object.{Object}
 use Rattle.tree_core.specs.declared.program.Link.{Link}
@@ -34,10 +34,6 @@ low_bytes_step size i v lt = let e : size - i ≡ (size - (i + 1)) + 1 = omega a
 pub written_more : (old now : List ℕ) (size i v rest : ℕ) → i < size → now ++ low_bytes (size - i) rest ≡ old ++ low_bytes size v → (now ++ (rest % 256) ∷ [])
     ++ low_bytes (size - (i + 1)) (rest / 256) ≡ old ++ low_bytes size v
 written_more old now size i v rest lt far = append_assoc now ((rest % 256) ∷ []) (low_bytes (size - (i + 1)) (rest / 256)) ∙ ap (λ l. now ++ l) (sym (low_bytes_step size i rest lt)) ∙ far
-
--- all bytes are written
-pub written_all : (old now : List ℕ) (size i v rest : ℕ) → size ≤ i → now ++ low_bytes (size - i) rest ≡ old ++ low_bytes size v → now ≡ old ++ low_bytes size v
-written_all old now size i v rest le far = let e : size - i ≡ 0 = omega arith in sym (append-nil now) ∙ rw e at far
 
 pub near : (end n a b c d : ℕ) → a ≡ end → b ≡ n → c ≡ n → d ≡ n → 1 ≤ n → n ≤ 4 → (a + (b - 1)) / c * d ≤ end + 3
 near end n a b c d p q r s one four = rw (p, q, r, s) (omega (arith, div-mul-le_self (end + (n - 1)) n))

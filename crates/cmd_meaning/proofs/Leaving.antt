@@ -1,5 +1,5 @@
 -- How a file is read as a source, and how its run is told.
-use Rattle.std.proofs.Common.{◌≡◌, ℕ, List, false, Ok, Err, refl, sym, ap, subst, ◌∙◌}
+use Rattle.std.proofs.Common.{◌≡◌, ℕ, List, false, Err, refl, sym, ap, subst, ◌∙◌}
 use Rattle.gg_base.specs.declared.place.Place.{Place}
 use Rattle.gg_base.specs.declared.run.Break.{Break}
 use Rattle.gg_base.specs.declared.run.End.{End}
@@ -10,11 +10,9 @@ use Rattle.cmd_session.specs.Telling.{Tells}
 use Rattle.cmd_session.specs.Writing.{Change}
 use Rattle.cmd_session.specs.declared.status.Status.{Status}
 use Rattle.cmd_session.specs.declared.status.Status.TheVariants as statuses
-use Rattle.cmd_files.specs.Forms.{IsReadAs, IsRefusedBy}
+use Rattle.cmd_files.specs.Forms.{IsRefusedBy}
 use Rattle.cmd_files.specs.Stages.{ToldRun, Told}
 use Rattle.c_program.specs.Programs.{AProgram}
-use Rattle.c_typed_check.specs.declared.program.Program.{Program}
-use Rattle.c_typed_check.specs.Views.{typed}
 use Rattle.c_typed.specs.declared.source.SourceKind.{SourceKind}
 use Rattle.c_typed.specs.declared.source.SourceFault.{SourceFault}
 use Rattle.c_typed.specs.declared.source.SourceFault.TheVariants as faults
@@ -31,10 +29,6 @@ no_source bytes line fault place kind is refused only named = record {
   refuses = record { place = place; kind = kind; first = subst (IsRefused bytes) is refused; named = named };
   unread = λ program reads. subst (λ (f : SourceFault). IsOnly (Err f) program) is (only program reads);
 }
-
--- bytes that are the source of a program
-pub is_source : (bytes : List ℕ) (p : Program) → Reads bytes (typed p) → ((program : AProgram) → Reads bytes program → IsOnly (Ok p) program) → IsReadAs source_form bytes (typed p)
-is_source bytes p reads only = record { reads = reads; only = only }
 
 -- an end that breaks nothing is a source's
 source_end : (end : End) → ((kind : Break) → end ≡ ends.Broken kind → ⊥) → IsSourceEnd end

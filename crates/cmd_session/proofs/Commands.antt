@@ -8,7 +8,7 @@ use Rattle.std.specs.declared.alloc.Global.{Global}
 use Rattle.std.specs.String.{string_bytes}
 use Rattle.std.proofs.lemmas.Fmt.{parse-decimal, decimal_injective}
 use Rattle.std.proofs.lemmas.Slice.Eq.{bytes_eq-Decides}
-use Rattle.cmd_session.specs.Words.{spelled, SaysNamed, SaysPaired, SaysCounted, NoNamed, OnlyNamed, NoPaired, OnlyPaired, NoCounted, OnlyCounted}
+use Rattle.cmd_session.specs.Words.{spelled, SaysNamed, SaysPaired, SaysCounted, OnlyNamed, NoPaired, OnlyPaired, NoCounted, OnlyCounted}
 
 two : {A : Type 0} (xs : List A) (a b : A) → 2 ≤ length xs → length xs < 3 → a ≡ get_or xs 0 a → b ≡ get_or xs 1 b → xs ≡ a ∷ (b ∷ [])
 two [] a b low high first second = absurd (omega arith)
@@ -72,9 +72,6 @@ named_not_paired word other words name h one another k = let same_as = sym k.wor
 
 pub named_not_counted : (word other : List ℕ) (greatest : ℕ) (words : List (List ℕ)) (name : List ℕ) → SaysNamed word words name → NoCounted other greatest words
 named_not_counted word other greatest words name h another count k = let same_as = sym k.words_are ∙ h.words_are in cc
-
-pub paired_not_named : (word other : List ℕ) (words : List (List ℕ)) (one name : List ℕ) → SaysPaired word words one name → NoNamed other words
-paired_not_named word other words one name h another k = let same_as = sym k.words_are ∙ h.words_are in cc
 
 pub only_paired : (word : List ℕ) (words : List (List ℕ)) (one other : List ℕ) → SaysPaired word words one other → OnlyPaired word words one other
 only_paired word words one other h first second k = let same_as = sym k.words_are ∙ h.words_are in (cc, cc)

@@ -1,10 +1,9 @@
 -- Writing all of some bytes, front by front.
-use Rattle.std.proofs.Common.{◌≡◌, ℕ, List, ◌++◌, take, drop, Option, Some, None, Result, Ok, Err, inl, inr, refl, sym, ap, subst, ◌∙◌, append_assoc}
+use Rattle.std.proofs.Common.{◌≡◌, ℕ, List, ◌++◌, take, drop, Option, Some, None, Ok, sym, ap, subst, ◌∙◌, append_assoc}
 use Rattle.std.proofs.lemmas.List.{take-append-drop}
-use Rattle.gg_outside.specs.declared.faults.SinkFault.{SinkFault}
 use Rattle.gg_outside.specs.declared.faults.SinkFault.TheVariants as sink_faults
-use Rattle.gg_outside.specs.Outside.{Takes, RoseAtMostOnce, count_after_write}
-use Rattle.cmd_session.specs.Writing.{Change, Adds, Reports}
+use Rattle.gg_outside.specs.Outside.{Takes}
+use Rattle.cmd_session.specs.Writing.{Change, Adds}
 
 -- what was written so far is the front before what is left
 pub record WrittenSoFar (sink : Change) (bytes rest : List ℕ) : Type 0 where
@@ -29,13 +28,3 @@ goes_on E old mid new before at now n bytes rest after is counts t h = record {
   gains = adds_more E old mid new h.front rest n h.gains t;
   quiet = counts ∙ h.quiet;
 }
-
--- equal lines are reported alike
-pub Reports-eq : (report : Change) (line other : List ℕ) → line ≡ other → Reports report line → Reports report other
-Reports-eq report line other e h = subst (Reports report) e h
-
--- a write counts one fault or none
-pub counts_once : {T : Type 0} (count : ℕ) (answer : Result T SinkFault) → RoseAtMostOnce count (count_after_write count answer)
-counts_once count (Ok x) = inl refl
-counts_once count (Err sink_faults.NoMemory) = inl refl
-counts_once count (Err sink_faults.Failed) = inr refl

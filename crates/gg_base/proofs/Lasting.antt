@@ -40,9 +40,6 @@ lasts_emit k b r h = record { bound = h.bound; all_spent = h.all_spent; grows = 
 pub lasts_counted : (k : ℕ) (r : Runs) → Lasts k r → Lasts (suc k) (counted r)
 lasts_counted k r h = record { bound = counted_bound k r h; all_spent = counted_spent k r h; grows = counted_grows k r h }
 
-pub lasts_below : (j k : ℕ) (r : Runs) → j ≤ k → Lasts k r → Lasts j r
-lasts_below j k r le h = record { bound = λ n lt. h.bound n (omega arith); all_spent = λ n lt. h.all_spent n (omega arith); grows = λ n lt. h.grows n (omega arith) }
-
 module _ (r : Runs) (lasts : (k : ℕ) → Lasts k r) where
   bounded : (n : ℕ) → (r n).number ≤ n
   bounded n = (lasts (suc n)).bound n (omega arith)

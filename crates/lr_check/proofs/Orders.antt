@@ -16,20 +16,6 @@ pub record Ordering (nodes : List Node) (order rest : List ℕ) (n : ℕ) : Type
   pub many : length order ≡ n
   pub within : (k : ℕ) → Contains rest k → k < length nodes
 
-pub ordering_start : (nodes : List Node) (order rest : List ℕ) → IsSample nodes → order ≡ [] → rest ≡ (length nodes - 1) ∷ [] → Ordering nodes order rest 0
-ordering_start nodes order rest s e f = record {
-  onto = λ w o. subst (λ (x : List ℕ). Orders nodes (root nodes) (x ++ w)) (sym e) (subst (λ (x : List ℕ). Orders nodes (reverse x) w) f o);
-  many = ap (λ (x : List ℕ). length x) e;
-  within = λ k h. one k (subst (λ (x : List ℕ). Contains x k) f h);
-}
-  where
-    one : (k : ℕ) → Contains ((length nodes - 1) ∷ []) k → k < length nodes
-    one k h = by h.0 h.1 h.2
-      where
-        by : (j : ℕ) → j < 1 → get_or ((length nodes - 1) ∷ []) j k ≡ k → k < length nodes
-        by zero lt e = let some = s.some in omega (arith, e, some)
-        by (suc j) lt e = absurd (omega (arith, lt))
-
 reverse_push : (rest : List ℕ) (n : ℕ) → reverse (rest ++ n ∷ []) ≡ n ∷ reverse rest
 reverse_push rest n = reverse-append rest (n ∷ [])
 

@@ -7,7 +7,6 @@ use Rattle.lr_check.specs.Tree.{Node}
 use Rattle.lr_check_found.specs.declared.settlings.How.{How}
 use Rattle.lr_check_found.specs.Found.{FoundView}
 use Rattle.lr_check_found.specs.Sound.{IsSoundSettling, IsFound}
-use Rattle.lr_check_samples.specs.Fixed.{IsMadeBy}
 use Rattle.lr_check_samples.proofs.Lasting.{node_lasts, kids_last}
 use Rattle.lr_check_drawn.specs.Drawing.{DrawingView, KidsView, held, IsNext, IsDrawnAt, AreDrawn, IsAsked}
 
@@ -76,6 +75,3 @@ module _ (A : Automaton) (f : FoundView) where
       nowhere : (i : ℕ) (ds : List ℕ) → slice_get (the_none ds) i ≡ Some ds → ⊥
       nowhere zero ds e = none_some ds e
       nowhere (suc i) ds e = none_some ds e
-
-pub made_by : {f : FoundView} {i : ℕ} {h : How} {token : Tok} → IsNext f i h token → IsMadeBy f i h
-made_by n = record { entry = n.entry; there = n.there; how = n.how }

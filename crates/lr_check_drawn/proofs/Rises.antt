@@ -2,7 +2,6 @@
 use Rattle.std.proofs.Common.{◌≡◌, ℕ, ◌<◌, List, [], ◌∷◌, Some, None, true, length, slice_get, refl, sym, ap, ◌∙◌, subst, arith}
 use Rattle.std.specs.Prelude.{Result, Ok, Err, IfOk}
 use Rattle.tree_core.specs.declared.token.Tok.{Tok}
-use Rattle.tree_core.specs.declared.token.Sort.{Sort}
 use Rattle.tree_core.specs.declared.token.Sort.TheVariants as sort
 use Rattle.tree_core.specs.Grammar.{kids}
 use Rattle.lr_check_sets.specs.Trees.{May}
@@ -15,26 +14,12 @@ use Rattle.lr_check_found.specs.Found.{FoundView, IsPlaceAt}
 use Rattle.lr_check_samples.specs.Fixed.{IsOrigin}
 use Rattle.lr_check_samples.specs.Nodes.{IsNode}
 use Rattle.lr_check_nodes.specs.Growing.{AreWhole, HasLast, HasTreeFrom}
-use Rattle.lr_check_nodes.proofs.Wholes.{fit_one, fit_two, grows_none, grows_both, fits_grow, node_grows, last_over}
+use Rattle.lr_check_nodes.proofs.Wholes.{fit_two, grows_none, grows_both, node_grows, last_over}
 use Rattle.lr_check_drawn.specs.Rising.{BegunFirst, begun_only, begun_both, BegunSecond, IsBegun, HasBegun, AreBegun, HasToken, HaveNodes, StandsAt, FitsFirst, fits_only}
 use Rattle.lr_check_drawn.specs.Rising.{fits_first, HasFirst, has_only, has_first, over_only, over_first, over_second, up_here, up_more, HasParent, AfterParent, Rising}
 use Rattle.lr_check_drawn.specs.Rising.{HasRisen}
 use Rattle.lr_check_drawn.proofs.Leaves.{node_fits}
 use Rattle.lr_check_drawn.proofs.Begun.{have_nodes_grow, up_grows}
-
-two_one : (x y z : Sort) → x ∷ y ∷ [] ≡ z ∷ [] → ⊥
-two_one x y z e = cc
-
--- a first kid and its parent, where it is the only one, and where it isn't
-pub only_fits : (nodes : List Node) (token behind : Tok) (kid : ℕ) → FitsFirst nodes token behind kid → (length (kids token) ≡ 2 → ⊥) → KidsFit nodes (kid ∷ []) (kids token)
-only_fits nodes token behind kid (fits_only {w = w} e fits) one = fit_one nodes kid w (kids token) e fits
-only_fits nodes token behind kid (fits_first e fits may) one = absurd (one (ap length e))
-
-pub both_fit : (a b : List Node) (token behind : Tok) (kid second : ℕ) → FitsFirst a token behind kid → length (kids token) ≡ 2 → HasTreeFrom a b behind second →
-    KidsFit b (kid ∷ second ∷ []) (kids token)
-both_fit a b token behind kid second (fits_only e fits) two h = absurd (let one : length (kids token) ≡ 1 = ap length e in omega (arith, one, two))
-both_fit a b token behind kid second (fits_first {w = w} {v = v} e fits may) two h =
-    fit_two b kid second w v (kids token) e (fits_grow h.has.grows kid w fits) (node_fits b second behind h.kids [] v h.has.node may)
 
 module _ {E : Type 0} where
   pub only_if : (r : Result ℕ E) (a b : List Node) (token behind : Tok) (kid : ℕ) → FitsFirst a token behind kid → (length (kids token) ≡ 2 → ⊥) →

@@ -11,9 +11,6 @@ use Rattle.lr_check_found.specs.declared.lists.Cell.{Cell}
 use Rattle.lr_check_found.specs.Lists.{ListsView, IsList, IsCell, AreLists, KeepsLists, IsPushed}
 use Rattle.lr_check_found.proofs.Reading.{slice_at_last}
 
-cell_of : Sym → ℕ → Cell
-cell_of X rest = record { symbol = symbol_number X; rest = rest }
-
 -- the cell that is there is the symbol's
 pub found_cell : (v : ListsView) (X : Sym) (rest n : ℕ) (c : Cell) → AreLists v → slice_get v.cells n ≡ Some c → c.symbol ≡ symbol_number X → c.rest ≡ rest → IsPushed v X rest (n + 1)
 found_cell v X rest n c lists there is below s at =

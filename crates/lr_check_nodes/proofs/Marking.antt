@@ -5,7 +5,7 @@ use Rattle.std.proofs.lemmas.Bool.{cases_lt}
 use Rattle.std.proofs.lemmas.Option.{slice_get_within, slice_get-get_or, same_Some}
 use Rattle.lr_tables.proofs.Members.{In, In-Contains, Contains-In}
 use Rattle.lr_check.specs.Tree.{Node, IsSample}
-use Rattle.lr_check_nodes.specs.Pruned.{with_marks, IsMarked, IsMarkedUser, AreReached, Reaching}
+use Rattle.lr_check_nodes.specs.Pruned.{with_marks, IsMarked, IsMarkedUser, Reaching}
 
 pub set_same : (ms : List Bool) (k : ℕ) → k < length ms → IsMarked (set ms k true) k
 set_same [] k lt = absurd (omega (arith, lt))
@@ -59,26 +59,6 @@ none_marked zero (suc k) h = absurd (cc)
 none_marked (suc n) zero h = true≢false (sym (same_Some false true h))
 none_marked (suc n) (suc k) h = none_marked n k h
 
-long_replicate : (n : ℕ) → length (replicate n false) ≡ n
-long_replicate zero = refl
-long_replicate (suc n) = ap suc (long_replicate n)
-
--- at first the root alone is marked
-pub reach_none : (nodes : List Node) (marks marks' : List Bool) → IsSample nodes → marks ≡ replicate (length nodes) false → marks' ≡ set marks (length nodes - 1) true →
-    Reaching nodes marks' (length nodes)
-reach_none nodes marks marks' sample e e' =
-    let some : 0 < length nodes = sample.some in
-    let long : length marks ≡ length nodes = ap length e ∙ long_replicate (length nodes) in
-    let only : (m : ℕ) → IsMarked marks' m → length nodes - 1 ≡ m =
-    λ m h. ⊎_elim (λ a. absurd (none_marked (length nodes) m (subst (λ l. IsMarked l m) e a))) (λ b. b)
-    (set_cases marks (length nodes - 1) m (subst (λ l. IsMarked l m) e' h)) in
-    record {
-      many = ap length e' ∙ (set_long marks (length nodes - 1) ∙ long);
-      root = subst (λ l. IsMarked l (length nodes - 1)) (sym e') (set_same marks (length nodes - 1) (omega (arith, some, long)));
-      kids = λ m k v le h there c. absurd (let lt = slice_get_within nodes m v there in omega (arith, lt, le));
-      used = λ m h lt. absurd (let same = only m h in omega (arith, lt, same));
-    }
-
 -- a node that is marked is looked at
 pub reach_marked : (nodes : List Node) (marks marks' : List Bool) (n : ℕ) (v : Node) → IsSample nodes → Reaching nodes marks (n + 1) → slice_get nodes n ≡ Some v → IsMarked marks n →
     marks' ≡ with_marks marks v.kids → Reaching nodes marks' n
@@ -121,9 +101,6 @@ reach_unmarked nodes marks n r un = record {
   used = r.used;
 }
 
-pub reach_all : (nodes : List Node) (marks : List Bool) → Reaching nodes marks 0 → AreReached nodes marks
-reach_all nodes marks r = record { many = r.many; root = r.root; kids = λ n k v h there c. r.kids n k v (omega arith) h there c; used = r.used }
-
 -- a look at a node, as the code makes it
 pub look_marked : (nodes : List Node) (marks marks' : List Bool) (n : ℕ) (v : Node) (d : Bool) (ks : List ℕ) → IsSample nodes → Reaching nodes marks (n + 1) → n < length nodes →
     v ≡ get_or nodes n v → get_or marks n d ≡ true → ks ≡ v.kids → marks' ≡ with_marks marks ks → Reaching nodes marks' n
@@ -133,6 +110,3 @@ look_marked nodes marks marks' n v d ks sample r lt is marked kids e =
 
 pub look_unmarked : (nodes : List Node) (marks : List Bool) (n : ℕ) (d : Bool) → Reaching nodes marks (n + 1) → n < length nodes → get_or marks n d ≡ false → Reaching nodes marks n
 look_unmarked nodes marks n d r lt un = reach_unmarked nodes marks n r (slice_get-get_or marks n d (let many = r.many in omega (arith, lt, many)) ∙ ap Some un)
-
-pub reach_at : (nodes : List Node) (marks : List Bool) (n m : ℕ) → n ≡ m → Reaching nodes marks n → Reaching nodes marks m
-reach_at nodes marks n m e r = subst (Reaching nodes marks) e r

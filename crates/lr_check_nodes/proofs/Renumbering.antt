@@ -1,5 +1,5 @@
 -- The nodes that are left, with their new numbers.
-use Rattle.std.proofs.Common.{◌≡◌, ◌⊎◌, ℕ, zero, suc, ◌+◌, ◌-◌, ◌<◌, ◌≤◌, List, [], ◌∷◌, ◌++◌, Some, None, Bool, true, false, Contains, length, map, get_or, slice_get, refl, sym}
+use Rattle.std.proofs.Common.{◌≡◌, ◌⊎◌, ℕ, zero, suc, ◌+◌, ◌-◌, ◌<◌, ◌≤◌, List, [], ◌∷◌, ◌++◌, Some, Bool, true, false, Contains, length, map, get_or, slice_get, refl, sym}
 use Rattle.std.proofs.Common.{ap, ap₂, ◌∙◌, subst, inl, inr, ⊎_elim, arith, true≢false, length-append}
 use Rattle.std.specs.Prelude.{slice_index_or, Result, Ok, Err, OnOk}
 use Rattle.std.proofs.lemmas.Bool.{cases_lt}
@@ -31,21 +31,6 @@ again_stays ns xs v low = ap (λ (ks : List ℕ). record { tok = v.tok; kids = k
 
 abbrev the_none : List Node → List Node
 the_none nodes = []
-
-pub prune_none : (nodes : List Node) (marks : List Bool) → Pruning nodes marks (record { nodes = []; numbers = [] }) 0
-prune_none nodes marks = record {
-  many = refl;
-  within = omega arith;
-  left = λ n v h there lt. absurd (omega (arith, lt));
-  low = λ n h lt. absurd (omega (arith, lt));
-  rises = λ n m h g lt le. absurd (omega (arith, le));
-  all = λ m u e. absurd (none-some u (nowhere m u e));
-  last = λ n h e. absurd (omega (arith, e));
-}
-  where
-    nowhere : (m : ℕ) (u : Node) → slice_get (the_none nodes) m ≡ Some u → None ≡ Some u
-    nowhere zero u e = e
-    nowhere (suc m) u e = e
 
 module _ (nodes : List Node) (marks : List Bool) (sample : IsSample nodes) where
   kids_low : (n i : ℕ) (v : Node) → slice_get nodes n ≡ Some v → n ≤ i → (k : ℕ) → In k v.kids → k < i

@@ -79,10 +79,6 @@ grows_none nodes = record { more = []; grown = sym (append-nil nodes) }
 pub grows_both : {a b c : List Node} → Grows a b → Grows b c → Grows a c
 grows_both {a = a} g h = record { more = g.more ++ h.more; grown = h.grown ∙ (ap (λ l. l ++ h.more) g.grown ∙ append_assoc a g.more h.more) }
 
--- what holds of the nodes holds of more
-pub fits_grow : {a b : List Node} → Grows a b → (k : ℕ) (x : Sort) → fits_at (slice_get a k) x ≡ true → fits_at (slice_get b k) x ≡ true
-fits_grow {a = a} g k x h = subst (λ l. fits_at (slice_get l k) x ≡ true) (sym g.grown) (fits_more a g.more k x h)
-
 pub kids_grow : {a b : List Node} → Grows a b → (ks : List ℕ) (xs : List Sort) → KidsFit a ks xs → KidsFit b ks xs
 kids_grow {a = a} g ks xs h = subst (λ l. KidsFit l ks xs) (sym g.grown) (kids_more a g.more ks xs h)
 
@@ -137,22 +133,6 @@ module _ {E : Type 0} where
   from_if (Ok n) a b c k ks g h = record { kids = ks; has = last_over g h }
   from_if (Err e) a b c k ks g h = tt
 
-pub smallest_fits : (x : Sort) → sort_fits (sort_of (smallest x)) x ≡ true
-smallest_fits sort.Byte = refl
-smallest_fits sort.Word = refl
-smallest_fits sort.Long = refl
-smallest_fits sort.PlaceB = refl
-smallest_fits sort.PlaceW = refl
-smallest_fits sort.PlaceL = refl
-smallest_fits sort.Stmt = refl
-
-pub small_none : (x : Sort) (xs : List Sort) → xs ≡ kids (smallest x) → length xs ≡ 0 → kids (smallest x) ≡ []
-small_none x xs e none = by (kids (smallest x)) (ap length (sym e) ∙ none)
-  where
-    by : (ys : List Sort) → length ys ≡ 0 → ys ≡ []
-    by [] n = refl
-    by (y ∷ ys) n = absurd (omega (arith, n))
-
 abbrev IsSmall : List Sort → Type 0
 IsSmall xs = (xs ≡ []) ⊎ (xs ≡ sort.Long ∷ [])
 
@@ -164,9 +144,6 @@ small sort.PlaceB = inr refl
 small sort.PlaceW = inr refl
 small sort.PlaceL = inl refl
 small sort.Stmt = inl refl
-
-pub small_one : (x : Sort) (xs : List Sort) → xs ≡ kids (smallest x) → (length xs ≡ 0 → ⊥) → kids (smallest x) ≡ sort.Long ∷ []
-small_one x xs e some = ⊎_elim (λ none. absurd (some (ap length (e ∙ none)))) (λ one. one) (small x)
 
 -- the turns over a token's kids
 pub kids_none : (nodes : List Node) (xs : List Sort) → AreWhole nodes → HaveKids nodes nodes (take 0 xs) []

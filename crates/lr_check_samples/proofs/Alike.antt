@@ -20,16 +20,6 @@ same-others [] (y ∷ c) h n = h (suc n)
 same-others (x ∷ b) [] h n = h (suc n)
 same-others (x ∷ b) (y ∷ c) h n = h (suc n)
 
-pub alike-refl : (a : List Entry) → AreAlike a a
-alike-refl [] = tt
-alike-refl (h ∷ a) = (refl, (λ n. refl), alike-refl a)
-
-pub alike-sym : (a b : List Entry) → AreAlike a b → AreAlike b a
-alike-sym [] [] h = tt
-alike-sym [] (g ∷ b) h = absurd h
-alike-sym (f ∷ a) [] h = absurd h
-alike-sym (f ∷ a) (g ∷ b) h = (sym h.0, (λ n. sym (h.1 n)), alike-sym a b h.2)
-
 pub alike-trans : (a b c : List Entry) → AreAlike a b → AreAlike b c → AreAlike a c
 alike-trans [] [] c h k = k
 alike-trans [] (g ∷ b) c h k = absurd h

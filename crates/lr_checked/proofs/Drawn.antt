@@ -13,12 +13,10 @@ use Rattle.lr_check.proofs.Only.{replays_same}
 use Rattle.lr_check_samples.specs.Stops.{EndsAt, ends_blocked, ends_turning, EndsTurning}
 use Rattle.lr_check_samples.specs.Drawn.{BlockingNodes, LoopingNodes}
 use Rattle.lr_check_samples.proofs.Replaying.{stops_end}
-use Rattle.lr_check_sets.specs.Automaton.{Automaton}
 use Rattle.lr_check_drawn.specs.Sampled.{IsSampleOf}
 use Rattle.lr_check_flaws.specs.declared.flaws.Flaw.{Flaw}
 use Rattle.lr_check_flaws.specs.declared.flaws.Flaw.TheVariants.{Gap, Dead, Circle}
-use Rattle.lr_check_found.specs.Count.{HasMore}
-use Rattle.lr_checked.specs.Refusals.{Blocking, Looping, FaultIsReal, FullIsFirst}
+use Rattle.lr_checked.specs.Refusals.{Blocking, Looping, FaultIsReal}
 use Rattle.lr_checked.specs.Samples.{refusal_of}
 
 pub block_done : (n : ℕ) → outcome.Blocks n ≡ outcome.Done → ⊥
@@ -83,8 +81,3 @@ pub drawn_statement : (d : Content) (flaw : Flaw) (nodes : List Node) → IsSamp
 drawn_statement d (Gap n) nodes k = k.statement
 drawn_statement d (Dead i) nodes k = k.statement
 drawn_statement d (Circle i classes) nodes k = k.statement
-
-pub drawn_first : (A : Automaton) (flaw : Flaw) (nodes : List Node) → (HasMore A 4000000 → ⊥) → FullIsFirst A (refusal_of flaw nodes)
-drawn_first A (Gap n) nodes few = few
-drawn_first A (Dead i) nodes few = few
-drawn_first A (Circle i classes) nodes few = few

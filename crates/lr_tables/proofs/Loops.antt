@@ -9,7 +9,7 @@ use Rattle.std.specs.Cmp.Lexicographic.{pointwise}
 use Rattle.std.proofs.lemmas.List.{take_more, map-append, map_push, length-map}
 use Rattle.std.proofs.lemmas.List.Elements.{filter_map-append, filter-append}
 use Rattle.std.proofs.lemmas.Option.{slice_get_within, slice_get-map}
-use Rattle.std.proofs.lemmas.Bool.{cases_lt, eqb-true, eqb-false}
+use Rattle.std.proofs.lemmas.Bool.{cases_lt, eqb-false}
 use Rattle.indexmap.specs.IndexSet.{insert_key}
 use Rattle.md_reader.specs.declared.types.Rule.{Rule}
 use Rattle.md_reader.specs.declared.types.Sym.{Sym}
@@ -101,10 +101,6 @@ pub entered_some : (ks : List (List Item)) (k : List Item) → 0 < length k → 
 entered_some ks [] lt = absurd (omega arith)
 entered_some ks (i ∷ k) lt = refl
 
-pub entered_none : (ks : List (List Item)) (k : List Item) → length k ≡ 0 → entered ks k ≡ ks
-entered_none ks [] e = refl
-entered_none ks (i ∷ k) e = absurd (omega arith)
-
 -- kernels that are known stay
 pub length-entered : (ks : List (List Item)) (k : List Item) → length ks ≤ length (entered ks k)
 length-entered ks [] = omega arith
@@ -141,9 +137,6 @@ row_full rules stmt items ks n m most keys e h lt =
 -- a kernel that is not empty
 pub not_empty : {X : Type 0} (l : List X) (n : ℕ) → n ≡ length l → (n == 0) ≡ false → 0 < length l
 not_empty l n e h = let u : n ≡ 0 → ⊥ = eqb-false n 0 h in omega (arith, u, e)
-
-pub all_empty : {X : Type 0} (l : List X) (n : ℕ) → n ≡ length l → (n == 0) ≡ true → length l ≡ 0
-all_empty l n e h = let u : n ≡ 0 = eqb-true n 0 h in omega (arith, u, e)
 
 -- the first kernel
 pub found_first : (rules : List Rule) (stmt classes : ℕ) (old new : List (List Item)) (k : List Item) → old ≡ [] → k ≡ start ∷ [] → new ≡ entered old k → new ≡ found rules stmt classes 0
@@ -204,10 +197,6 @@ target_some ks (i ∷ k) lt = refl
 
 pub target_read : (keys : List (Vec Item Global)) (k : List Item) (o : Option ℕ) → 0 < length k → o ≡ position (λ (v : Vec Item Global). same_kernel k v.items) keys → o ≡ target_of (kernels keys) k
 target_read keys k o lt e = e ∙ position-kernels (same_kernel k) keys ∙ sym (target_some (kernels keys) k lt)
-
-pub target_nil : (ks : List (List Item)) (k : List Item) → length k ≡ 0 → None ≡ target_of ks k
-target_nil ks [] e = refl
-target_nil ks (i ∷ k) e = absurd (omega arith)
 
 pub err_same : {X : Type 0} (x y : BuildFault) → ◌≡◌ {A = Result X BuildFault} (Err x) (Err y) → x ≡ y
 err_same x y e = cc

@@ -1,7 +1,6 @@
 -- The walk succeeds exactly where there are such trees.
-use Rattle.std.proofs.Common.{nat_le, ◌≡◌, ◌↔◌, ℕ, zero, suc, ◌+◌, ◌<◌, drop, List, [], ◌∷◌, ◌++◌, length, Bool, true, false, cond, refl, sym, ap, ◌∙◌, Option, Result, Ok, Err}
+use Rattle.std.proofs.Common.{nat_le, ◌≡◌, ◌↔◌, ℕ, zero, suc, ◌+◌, ◌<◌, drop, List, [], ◌∷◌, ◌++◌, length, Bool, true, false, cond, refl, sym, ap, ◌∙◌, Option}
 use Rattle.std.proofs.Common.{arith, get_or, reverse, eqb, ◌≤◌, length-append, IsTrue}
-use Rattle.std.specs.Result.{IfOk}
 use Rattle.std.proofs.lemmas.List.{reverse-append, length-reverse}
 use Rattle.std.proofs.lemmas.Bool.{ne_eqb, leb-true}
 use Rattle.std.proofs.Math.ListN.{drop_of_length-le}
@@ -71,11 +70,6 @@ sorted_there classes left w b e t = let f = found (sorted_test classes) (left �
 
 pub sorted_back : (classes : List Class) (left : Sort) (w : List Sym) (b : Bool) → b ≡ walk (sorted_test classes) (left ∷ []) w → IsSorted classes left w → IsTrue b
 sorted_back classes left w b e h = e ∙ whole (sorted_test classes) left h.tree w h.spelled
-
-pub sorted_exactly : {E : Type 0} (classes : List Class) (left : Sort) (w : List Sym) (r : Result Bool E) → IfOk r (λ b. b ≡ walk (sorted_test classes) (left ∷ []) w)
-    → IfOk r (λ b. IsTrue b ↔ IsSorted classes left w)
-sorted_exactly classes left w (Ok b) e = (sorted_there classes left w b e, sorted_back classes left w b e)
-sorted_exactly classes left w (Err x) e = e
 
 pub tree_there : (w : List Sym) (b : Bool) → b ≡ walk any_test (sort.Long ∷ []) w → IsTrue b → IsTree w
 tree_there w b e t = let f = found any_test (sort.Long ∷ []) w (sym e ∙ t) in record { tree = f.trees; spelled = f.spelled }

@@ -191,9 +191,6 @@ rule_kept s t xs ls (Some x) w h e =
 passed_behind : (l : List ℕ) (ls : List (List ℕ)) → is_passed (words l) ≡ true → register_behind (l ∷ ls) ≡ register_behind ls
 passed_behind l ls e = rw e refl
 
-whole_after : (s t : State) → t.pool ≡ s.pool → t.classes ≡ s.classes → t.spills ≡ s.spills → IsWhole s → IsWhole t
-whole_after s t a b c w = record { pool = rw a w.pool; stmt = rw b w.stmt; eight = rw c w.eight }
-
 if_kept : (s t : State) (l : List ℕ) (ls : List (List ℕ)) (r : Restriction) → is_passed (words l) ≡ true → IsInRule s (l ∷ ls) → s.stage ≡ stage.Template → IsFine s (l ∷ ls) → if_step s r
     ≡ Ok t → IsFine t ls
 if_kept s t l ls r p f g h e =

@@ -1,5 +1,5 @@
 -- A class comes on top in the place of a right side.
-use Rattle.std.proofs.Common.{◌≡◌, ◌⊎◌, inl, inr, ℕ, ◌+◌, ◌-◌, ◌<◌, ◌≤◌, List, ◌∷◌, Bool, true, false, Contains, length, get_or, set, drop, replicate, refl, sym, ap, ◌∙◌, subst, arith, length-set}
+use Rattle.std.proofs.Common.{◌≡◌, ◌⊎◌, inl, inr, ℕ, ◌+◌, ◌-◌, ◌<◌, ◌≤◌, List, ◌∷◌, Bool, true, false, Contains, length, get_or, set, drop, replicate, sym, ap, ◌∙◌, subst, arith, length-set}
 use Rattle.std.specs.Prelude.{nat_lt, if◌then◌else◌}
 use Rattle.std.proofs.lemmas.Bool.{lt-ltb}
 use Rattle.std.proofs.lemmas.List.{length-replicate}
@@ -16,9 +16,6 @@ use Rattle.sel_parse.specs.Steps.{seen_before}
 
 more_than_one : (k : ℕ) → 2 ≤ k → nat_lt 1 k ≡ true
 more_than_one k le = lt-ltb 1 k (omega (arith, le))
-
-pub before_one : (seen : List Bool) → seen_before seen 1 ≡ seen
-before_one seen = refl
 
 pub before_more : (seen : List Bool) (k : ℕ) → 2 ≤ k → seen_before seen k ≡ replicate (length seen) false
 before_more seen k le = ap (λ (b : Bool). if b then replicate (length seen) false else seen) (more_than_one k le)

@@ -16,9 +16,6 @@ bind_fails desk_fault.NoMemory x go f = tt
 bind_fails desk_fault.FrameFull x go f = ap (λ o. bind o go) f
 bind_fails desk_fault.NoRegister x go f = ap (λ o. bind o go) f
 
-pub fails_at : {X : Type 0} (e : DeskFault) (x y : Outcome X) → x ≡ y → Fails e y → Fails e x
-fails_at e x y same f = subst (Fails e) (sym same) f
-
 module _ {O I S F : Type 0} (of : Meaning O I S F) (q : TreeProgram) (d : Content) (first : ℕ) where
   pub reload_fails : (e : DeskFault) (n i : ℕ) (desk : Desk O I) → 0 < n
       → Fails e (reloaded_at of q d first i desk (slot_in (slice_get desk.symbols i))) → Fails e (reloaded of q d first n i desk)

@@ -43,10 +43,6 @@ take_twice xs (suc i) zero le = absurd (omega (arith, le))
 take_twice [] (suc i) (suc n) le = refl
 take_twice (x ∷ xs) (suc i) (suc n) le = ap (λ (zs : List _). x ∷ zs) (take_twice xs i n (omega (arith, le)))
 
--- each count is at most the number of entries
-pub room_left : {X : Type 0} (p : X → Bool) (xs : List X) (n : ℕ) → length xs ≡ n → count_by p xs ≤ n
-room_left p xs n e = let m = count_by-le-length p xs in omega (arith, m, e)
-
 module _ {O I S F : Type 0} (of : Meaning O I S F) where
   pub none_tallied : (es : List (Entry O)) (registers words : List ℕ) → es ≡ [] → registers ≡ replicate 12 0 → words ≡ replicate 1024 0
       → AreTallied of (attrs es) registers words 0

@@ -122,9 +122,6 @@ no_save_kind classes rule k is_rule is apart =
     let same_sort : Some a.sort ≡ Some (sort_of_kind k) = sym a.declared ∙ ap (option_map sort_of_kind) is in
     no_save classes (sort_of_kind k) rule.right (subst (λ x. IsSorted classes x rule.right) (let h : a.sort ≡ sort_of_kind k = cc in h) a.sorted) apart
 
-map_act : (every : Bool) (P Q : ℕ → Type 0) (area : List ℕ) (m : term.State) (u : Shape) → ((i : ℕ) → P i → Q i) → SafeAct every P area m (Value u) → SafeAct every Q area m (Value u)
-map_act every P Q area m u go h = safe_map every P Q area m u go h
-
 map_each : (every : Bool) (P Q : ℕ → Type 0) (area : List ℕ) (m : term.State) (a : ActShape) → ((i : ℕ) → P i → Q i) → SafeAct every P area m a → SafeAct every Q area m a
 map_each every P Q area m (Value x) go h = safe_map every P Q area m x go h
 map_each every P Q area m (Number x) go h = safe_map every P Q area m x go h

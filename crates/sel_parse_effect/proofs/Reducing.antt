@@ -14,7 +14,7 @@ use Rattle.md_reader.specs.declared.types.Give.TheVariants as give
 use Rattle.md_reader.specs.declared.types.Rule.{Rule}
 use Rattle.md_reader.specs.declared.types.Sym.{Sym}
 use Rattle.md_reader.specs.declared.types.Sym.TheVariants as grammar_symbol
-use Rattle.md_reader.specs.Patterns.{kind_at, sort_fits}
+use Rattle.md_reader.specs.Patterns.{kind_at}
 use Rattle.md_reader.specs.Restrictions.{is_reg, is_nothing}
 use Rattle.md_reader.specs.State.{Content}
 use Rattle.md_reader.specs.Valid.{IsRule, MayGive}
@@ -70,9 +70,6 @@ pub bound : {X Y : Type 0} (o : Outcome X) (go : X → Outcome Y) (y : Y) → bi
 bound Full go y e = absurd (full_done y e)
 bound Stuck go y e = absurd (stuck_done y e)
 bound (Done x) go y e = (x, refl, e)
-
-no_reg : sort_fits (Some sort.Stmt) sort.Long ≡ true → ⊥
-no_reg e = cc
 
 module _ {O I S F : Type 0} (of : Meaning O I S F) (law : IsLawful of) (q : TreeProgram) (valid : IsValid q) (d : Content) (first : ℕ) (f : Extent) (fs : List Extent) (t : State) (s : Sight)
     (m0 : S) (frame : IsFrame of q d first f fs t s m0) (lines : LinesSave of d) where

@@ -42,9 +42,6 @@ pub leaves_before : (f : Forest) (v w : List Leaf) → leaves_onto f v ++ w ≡ 
 leaves_before none v w = refl
 leaves_before (tree l below behind) v w = ap (λ (t : List Leaf). l ∷ t) (leaves_before below (leaves_onto behind v) w ∙ ap (leaves_onto below) (leaves_before behind v w))
 
-cons_first : (a b : Leaf) (v w : List Leaf) → (a ∷ v) ≡ (b ∷ w) → (a ≡ b) × (v ≡ w)
-cons_first a b v w e = (cc, cc)
-
 -- the leaves of a typed tree
 pub leaves_of : (w : List Leaf) → IsTyped (root w) sort.Stmt → AreLeaves w
 leaves_of w h = subst AreLeaves (snoc_same (leaves_onto h.trees []) w end_leaf (leaves_before h.trees [] (end_leaf ∷ []) ∙ h.spelled)) (typed_leaves (sort.Stmt ∷ []) h.trees [] h.typed tt)
@@ -87,9 +84,6 @@ traps_or (Saves k) = inr (inr tt)
 traps_or (Jumps k) = inr (inr tt)
 traps_or Traps = inl refl
 traps_or Strays = inr (inl refl)
-
-not_traps : (d : Deed) → IsDeed d → d ≡ Traps → ⊥
-not_traps d h e = subst IsDeed e h
 
 impossible : (area : List ℕ) (d : Deed) → d ≡ Strays → IsPossible area d → ⊥
 impossible area d e p = subst (IsPossible area) e p

@@ -1,5 +1,5 @@
 -- What a rule says of its symbols is settled: the least symbol that is spelled like another one gives way to none.
-use Rattle.std.proofs.Common.{◌≡◌, ℕ, zero, suc, ◌+◌, ◌<◌, ◌≤◌, ◌⊎◌, inl, inr, List, [], ◌∷◌, length, Bool, true, false, sym, ap, ◌∙◌, refl, subst, arith, length-append, add-one}
+use Rattle.std.proofs.Common.{◌≡◌, ℕ, zero, suc, ◌+◌, ◌<◌, ◌≤◌, ◌⊎◌, inl, inr, List, [], ◌∷◌, length, sym, ap, ◌∙◌, refl, subst, arith, length-append, add-one}
 use Rattle.std.proofs.lemmas.List.{get_or_push, get_or_append_left, get_or_past}
 use Rattle.std.specs.Prelude.{◌==◌, min, max, slice_index_or, if◌then◌else◌}
 use Rattle.std.proofs.lemmas.Bool.Decides.{nat_tests}
@@ -12,11 +12,6 @@ use Rattle.term_core.specs.declared.facts.Fact.{Fact}
 use Rattle.term_core.specs.Facts.{same_as}
 use Rattle.term_core.specs.Normal.{AreSettled}
 use Rattle.sel_terms.specs.RuleFacts.{alike_once, repeated, least_alike, fact_of, facts_below, saved_facts}
-
--- a symbol gives way to a lesser one
-lesser_if : (b : Bool) (x i : ℕ) → x ≤ i → (if b then x else i) ≤ i
-lesser_if true x i h = h
-lesser_if false x i h = omega arith
 
 lesser_of_two : (i a b : ℕ) → (if i == max a b then min a b else i) ≤ i
 lesser_of_two i a b = grind (arith, nat_tests)

@@ -264,9 +264,6 @@ act_address a b e = cc
 act_home : (y z : Size) (i j : ℕ) → PlaceHome y i ≡ PlaceHome z j → i ≡ j
 act_home y z i j e = cc
 
-at_not_home : (y z : Size) (a : Shape) (j : ℕ) → PlaceAt y a ≡ PlaceHome z j → ⊥
-at_not_home y z a j e = cc
-
 home_not_at : (y z : Size) (a : Shape) (j : ℕ) → PlaceHome z j ≡ PlaceAt y a → ⊥
 home_not_at y z a j e = cc
 

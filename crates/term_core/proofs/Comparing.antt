@@ -1,7 +1,7 @@
 -- The order of terms is that of their nodes.
 use Rattle.std.proofs.Common.{◌≡◌, ℕ, List, [], ◌∷◌, ◌++◌, ◌-◌, take, sym, ap, ◌∙◌, refl}
 use Rattle.std.specs.Borrow.{Bor}
-use mathlib.Core.List.{append_assoc, append-nil}
+use mathlib.Core.List.{append_assoc}
 use Rattle.std.specs.Ordering.{nat_cmp, ordering_then}
 use Rattle.std.specs.declared.cmp.Ordering.{Ordering}
 use Rattle.std.specs.declared.cmp.Ordering.TheVariants.{Less, Equal, Greater}
@@ -39,11 +39,6 @@ then_last : (o : Ordering) → ordering_then o Equal ≡ o
 then_last Less = refl
 then_last Equal = refl
 then_last Greater = refl
-
-pub order_whole : (s t : Shape) → nodes_order (nodes_of s) (nodes_of t) ≡ order s t
-order_whole s t =
-    ap (λ x. nodes_order x (nodes_of t)) (sym (append-nil (nodes_of s))) ∙ ap (nodes_order (nodes_of s ++ [])) (sym (append-nil (nodes_of t)))
-    ∙ order_by_nodes s t [] [] ∙ then_last (order s t)
 
 -- the first two nodes, and what is behind them
 pub compared : (n m : Node) (s t : Bor Term) (all rest new all' rest' new' : List (Bor Term)) → all ≡ rest ++ s ∷ [] → all' ≡ rest' ++ t ∷ [] → Opens n (shape_of s.now) rest new

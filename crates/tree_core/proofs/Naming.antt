@@ -15,9 +15,6 @@ pub record Sifted (fs : List TreeFn) (parts part : ℕ) (met : List Bool) (n : �
   pub marked : (k : ℕ) (d : TreeFn) → k < n → part_of parts (hash_of (get_or fs k d).name) ≡ part → get_or met (slot_of (hash_of (get_or fs k d).name)) false ≡ true
   pub settled : (k : ℕ) (d : TreeFn) → k < n → part_of parts (hash_of (get_or fs k d).name) ≡ part → IsSettled fs k (get_or fs k d)
 
-pub nothing_sifted : (fs : List TreeFn) (parts part : ℕ) (met : List Bool) → length met ≡ 65536 → Sifted fs parts part met 0
-nothing_sifted fs parts part met e = record { wide = e; marked = λ k d lt. absurd (omega arith); settled = λ k d lt. absurd (omega arith) }
-
 module _ (fs : List TreeFn) (parts part : ℕ) (met : List Bool) (n : ℕ) (f : TreeFn) (within : n < length fs) (is : f ≡ get_or fs n f) (was : Sifted fs parts part met n) where
   -- what holds of each function before the place and of the one there
   one_more : (P : ℕ → TreeFn → Type 0) → ((k : ℕ) (d : TreeFn) → k < n → P k (get_or fs k d)) → P n f → (k : ℕ) (d : TreeFn) → k < n + 1 → P k (get_or fs k d)

@@ -26,9 +26,6 @@ no_attribute (att.Branch r l) e = absurd cc
 no_attribute (att.Label l) e = absurd cc
 no_attribute (att.Callee f n) e = absurd cc
 
-leaf_is : Tok → Att → Leaf
-leaf_is t a = record { tok = t; att = a }
-
 end_is : (t : Tok) (a : Att) → is_end (record { tok = t; att = a }) ≡ true → (let l : Leaf = record { tok = t; att = a } in l) ≡ end_leaf
 end_is tok.Zero a e = absurd cc
 end_is tok.One a e = absurd cc

@@ -1,11 +1,11 @@
 -- What the first trees of a forest stand for.
-use Rattle.std.proofs.Common.{◌≡◌, ℕ, zero, suc, List, ◌∷◌, length, take, drop, Option, refl, sym, ap, ◌∙◌, subst}
+use Rattle.std.proofs.Common.{◌≡◌, ℕ, zero, suc, List, ◌∷◌, length, take, Option, refl, sym, ap, ◌∙◌, subst}
 use Rattle.tree_core.specs.declared.program.Object.{Object}
 use Rattle.tree_core.specs.declared.program.TreeProgram.{TreeProgram}
 use Rattle.tree_core.specs.declared.token.Sort.{Sort}
 use Rattle.tree_core.specs.declared.tree.Leaf.{Leaf}
 use Rattle.tree_core.specs.Grammar.{kids}
-use Rattle.tree_core.specs.Trees.{Forest, none, tree, firsts, others, grown}
+use Rattle.tree_core.specs.Trees.{Forest, none, tree, firsts, grown}
 use Rattle.tree_meaning.specs.declared.machine.Machine.{Machine}
 use Rattle.tree_meaning.specs.State.{State, sight}
 use Rattle.tree_meaning.specs.Deeds.{Deed, deed_of, tree_deed}
@@ -20,11 +20,6 @@ meanings-firsts objects s zero f = refl
 meanings-firsts objects s (suc k) none = refl
 meanings-firsts objects s (suc k) (tree l below behind) =
     ap (λ (ms : List Meaning). leaf_means objects s l (slice_get (meanings objects s below) 0) (slice_get (meanings objects s below) 1) ∷ ms) (meanings-firsts objects s k behind)
-
-pub meanings-others : (objects : List Object) (s : Sight) (k : ℕ) (f : Forest) → meanings objects s (others k f) ≡ drop k (meanings objects s f)
-meanings-others objects s zero f = refl
-meanings-others objects s (suc k) none = refl
-meanings-others objects s (suc k) (tree l below behind) = meanings-others objects s k behind
 
 -- a root does what the tree of its leaves does
 pub root_steps : (p : TreeProgram) (s : State) (w ks : List Leaf) (root : Leaf) (ms : List Meaning) (sorts : List Sort) (a b : Option Meaning) (byte : Option ℕ) (new : Machine)

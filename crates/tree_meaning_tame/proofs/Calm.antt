@@ -57,11 +57,6 @@ fate_of_deed Traps = Zero
 fate_of_deed Strays = Astray
 fate_of_deed d = Well
 
-first_well : (r : Fate) → first r Well ≡ r
-first_well Well = refl
-first_well Zero = refl
-first_well Astray = refl
-
 -- no memory is read among leaves behind
 reads_behind : (f : Forest) (w : List Leaf) → ReadsNothing (leaves_onto f w) → ReadsNothing w
 reads_behind none w h = h

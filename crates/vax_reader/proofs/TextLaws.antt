@@ -1,5 +1,5 @@
 -- What was read so far, and that a text has one code or one first wrong line.
-use Rattle.std.proofs.Common.{◌≡◌, inl, inr, ℕ, ◌+◌, ◌<◌, ◌≤◌, Bool, true, ◌&&◌, List, [], ◌∷◌, ◌++◌, length, Some, None, refl, sym, ap, subst, ◌∙◌, arith, append_assoc, length-append}
+use Rattle.std.proofs.Common.{◌≡◌, inl, inr, ℕ, ◌+◌, ◌<◌, Bool, true, ◌&&◌, List, [], ◌∷◌, ◌++◌, length, Some, None, refl, sym, ap, subst, ◌∙◌, arith, append_assoc, length-append}
 use Rattle.std.specs.Prelude.{codes, Result, Ok, Err, IfOk, IfErr}
 use Rattle.std.specs.List.{list_all, flat_map}
 use Rattle.std.proofs.lemmas.Bool.{and_parts, and_from}
@@ -59,15 +59,6 @@ pub item_shorter : (rest : List ℕ) (item : CodeItem) (after : List ℕ) → it
 item_shorter rest item after e = item_length rest item after (item_takes rest (item, after) e).spelled
 
 -- the data area
-
-pub area_begins : (bytes rest : List ℕ) (area : List AreaItem) → strip (codes "\t.data\n") bytes ≡ Some rest → area ≡ [] → AreaLines bytes area 2 rest
-area_begins bytes rest area e is =
-    let s = strip_takes (codes "\t.data\n") bytes rest e in
-    subst (λ (a : List AreaItem). AreaLines bytes a 2 rest) (sym is) (record {
-      valid = refl;
-      text = s;
-      number = refl;
-    })
 
 pub area_goes_on : (bytes : List ℕ) (area : List AreaItem) (line : ℕ) (rest : List ℕ) (item : AreaItem) (after : List ℕ) (now : List AreaItem) → area_front rest ≡ Some (item, after) → now
     ≡ area ++ item ∷ [] → AreaLines bytes area line rest → AreaLines bytes now (line + 1) after
@@ -362,9 +353,3 @@ inverse bytes (Ok d) found first = λ c r. unique bytes d c found r
 inverse bytes (Err e) found first = λ c r. given_back bytes c e first r
 
 -- the count of the lines stays below the length of the text
-
-pub text_shorter : (word rest after : List ℕ) → strip word rest ≡ Some after → 0 < length word → length after < length rest
-text_shorter word rest after e some = let s = strip_takes word rest after e in omega (arith, ap length s, length-append word after)
-
-pub data_count : (bytes rest : List ℕ) → strip (codes "\t.data\n") bytes ≡ Some rest → 2 + length rest ≤ length bytes
-data_count bytes rest e = let s = strip_takes (codes "\t.data\n") bytes rest e in omega (arith, ap length s, length-append (codes "\t.data\n") rest)

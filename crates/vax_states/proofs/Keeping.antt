@@ -1,6 +1,6 @@
 -- What leaves a state standing for a state of a tree program.
 use Rattle.std.proofs.Common.{◌≡◌, ◌⊎◌, inl, inr, ⊎_elim, ℕ, zero, suc, ◌+◌, ◌-◌, ◌*◌, ◌^◌, ◌<◌, ◌≤◌, Bool, true, false, cond, List, [], ◌∷◌, length, Option, Some, refl, sym, ap}
-use Rattle.std.proofs.Common.{◌∙◌, arith, length-set, get_or-set_same}
+use Rattle.std.proofs.Common.{◌∙◌, arith, length-set}
 use Rattle.std.specs.Prelude.{slice_get, slice_set, ◌==◌}
 use Rattle.std.proofs.lemmas.Bool.{eqb-true, eqb-false, cases_lt}
 use Rattle.gg_base.specs.declared.size.Size.{Size}
@@ -8,7 +8,6 @@ use Rattle.gg_base.specs.declared.size.Size.TheVariants.{Long}
 use Rattle.gg_base.specs.Sizes.{bytes_of}
 use Rattle.gg_base.specs.LittleEndian.{with_number}
 use Rattle.vax_core.specs.declared.register.Reg.{Reg}
-use Rattle.vax_core.specs.declared.register.Reg.TheVariants.{Sp}
 use Rattle.vax_core.specs.Registers.{reg_number}
 use Rattle.vax_machine_live.specs.declared.frame.Frame.{Frame}
 use Rattle.vax_machine.specs.State.{State, reg}
@@ -57,9 +56,6 @@ sound_area m size at v h le =
       area_bytes = with_below size m.area at v h.area_bytes;
       input_bytes = h.input_bytes;
     }
-
-pub reg_same : (m : State) (n v : ℕ) → IsSound m → n < 15 → reg (record m { registers = slice_set m.registers 14 v }) Sp ≡ v
-reg_same m n v h lt = get_or-set_same m.registers 14 v 0 (omega (arith, h.registers))
 
 pub reg_small : (m : State) (r : Reg) → IsSound m → reg m r < 2 ^ 32
 reg_small m r h = below_get (2 ^ 32) (reg_number r) m.registers (omega arith) h.longwords

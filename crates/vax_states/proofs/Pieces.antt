@@ -1,5 +1,5 @@
 -- The pieces of the stack that live calls hold.
-use Rattle.std.proofs.Common.{◌≡◌, ◌⊎◌, inl, inr, ℕ, zero, suc, ◌+◌, ◌-◌, ◌*◌, ◌^◌, ◌<◌, ◌≤◌, Bool, true, false, List, [], ◌∷◌, ◌++◌, length, Some, refl, sym, ap, subst, ◌∙◌, arith}
+use Rattle.std.proofs.Common.{◌≡◌, ◌⊎◌, inl, inr, ℕ, zero, suc, ◌+◌, ◌-◌, ◌*◌, ◌^◌, ◌<◌, ◌≤◌, Bool, true, false, List, [], ◌∷◌, ◌++◌, length, Some, refl, ap, subst, ◌∙◌, arith}
 use Rattle.std.specs.Prelude.{slice_get, nat_lt, ◌||◌}
 use Rattle.std.proofs.lemmas.Bool.{le-ltb, or_from, and_left, and_right}
 use Rattle.gg_base.specs.declared.size.Size.TheVariants.{Long}
@@ -164,8 +164,3 @@ innermost_is stack frames es xs low (caller outer all f e rest_e a rest_a low' h
   here = subst (λ (x : Extent). Holds stack f x c low high) (head_same e own rest_e rest p) (subst (λ (x : Activation). Holds stack f e x low high) (head_same a c rest_a cs q) here);
   others = subst (λ (x : List Extent). Hold stack outer x cs high) (tail_same e own rest_e rest p) (subst (λ (x : List Activation). Hold stack outer rest_e x high) (tail_same a c rest_a cs q) others);
 }
-
--- where none is suspended, none has a frame, and the stack's end is reached
-pub nobody_is : (stack : List ℕ) (frames : List Frame) (es : List Extent) (xs : List Activation) (low : ℕ) → Hold stack frames es xs low → xs ≡ [] → (frames ≡ []) × (low ≡ 2147483648) × (es ≡ [])
-nobody_is stack frames es xs low nobody q = (refl, refl, refl)
-nobody_is stack frames es xs low (caller outer all f e rest_e a rest_a low' high eq here others) q = absurd (nil_cons a rest_a (sym q))

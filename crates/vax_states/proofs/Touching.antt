@@ -3,7 +3,7 @@ use Rattle.std.proofs.Common.{◌≡◌, ℕ, ◌+◌, ◌-◌, ◌≤◌, true,
 use Rattle.std.specs.Prelude.{nat_le}
 use Rattle.std.proofs.lemmas.Bool.{le-leb, lt-leb}
 use Rattle.gg_base.specs.declared.size.Size.{Size}
-use Rattle.gg_base.specs.declared.size.Size.TheVariants.{Byte, Word, Long}
+use Rattle.gg_base.specs.declared.size.Size.TheVariants.{Long}
 use Rattle.gg_base.specs.Sizes.{bytes_of}
 use Rattle.gg_base.specs.LittleEndian.{number_in, with_number}
 use Rattle.vax_machine_live.specs.Control.{in_control}
@@ -13,11 +13,6 @@ use Rattle.vax_machine.specs.declared.memory.Region.TheVariants.{Stack, Area}
 use Rattle.vax_machine.specs.State.{State, ◌>>=◌}
 use Rattle.vax_machine.specs.Memory.{touched, read, written, number_at, with_number_at}
 use Rattle.vax_states.specs.Stack.{long_at}
-
-pub some_bytes : (size : Size) → 1 ≤ bytes_of size
-some_bytes Byte = omega arith
-some_bytes Word = omega arith
-some_bytes Long = omega arith
 
 module _ (m : State) where
   pub stack_touched : (a : ℕ) → length m.area ≤ 1048576 → 2139095040 ≤ a → a + 4 ≤ 2147483648 → in_control m.frames a 4 ≡ false → touched m a Long ≡ Ok (Stack (a - 2139095040))

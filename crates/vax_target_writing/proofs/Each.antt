@@ -33,9 +33,6 @@ pub always : {A : Type 0} {P : Type 0} (o : Option A) → P → Each (λ (x : A)
 always None p = tt
 always (Some x) p = p
 
-pub of_some : {A : Type 0} (P : A → Type 0) (o : Option A) (x : A) → o ≡ Some x → Each P o → P x
-of_some P o x e h = subst (Each P) e h
-
 pub bind_each : {A B E : Type 0} (Q : A → Type 0) (P : B → Type 0) (r : Result A E) (f : A → Result B E) →
     ((x : A) → Q x → EachOk P (f x)) → EachOk Q r → EachOk P (r >>= f)
 bind_each Q P (Ok x) f h k = h x k
