@@ -1,7 +1,11 @@
 -- Names that are looked at part by part of their hashes.
 use Rattle.std.proofs.Common.{◌≡◌, ⊎_elim, inl, inr, ℕ, suc, ◌+◌, ◌<◌, ◌≤◌, List, [], ◌∷◌, length, get_or, set, Bool, true, false, cond, refl, sym, ap, ◌∙◌, subst, arith, length-set}
 use Rattle.std.specs.Str.{bytes_eq}
-use Rattle.std.proofs.lemmas.Bool.{cases_lt, cases_eq, both_ways}
+use Rattle.std.specs.Bool.{MatchBool}
+use Rattle.std.specs.Prelude.{IsTrue, ◌↔◌}
+use Rattle.std.specs.List.{range_with_len, AllWithin, HoldsAt}
+use Rattle.std.proofs.lemmas.Bool.{cases_lt, cases_eq, both_ways, true≢false}
+use Rattle.std.proofs.lemmas.List.FromFn.{length-range_with_len, get_or-range_with_len}
 use Rattle.std.proofs.lemmas.List.{get_or-set_same, get_or-set_other, get_or_default}
 use Rattle.std.proofs.lemmas.Slice.Eq.{bytes_eq-Decides}
 use Rattle.tree_core.specs.declared.program.TreeFn.{TreeFn}
@@ -121,3 +125,17 @@ settled_differ (g ∷ gs) parts some all name =
         ⊎_elim (λ differ. differ h.first g h.apart (h.one g ∙ sym (h.other g)))
         (λ once. let e : named name (g ∷ gs) ≡ 1 = ap (λ (w : List ℕ). named w (g ∷ gs)) (sym (h.other g)) ∙ once in absurd (omega (arith, many, e)))
         (all (part_of parts (hash_of f.name)) (part_in (hash_of f.name)) h.second g h.within refl)
+
+-- so says a look at one part after the other that ends at the first clash
+pub all_settled : (fs : List TreeFn) (parts : ℕ) → 0 < parts → (r : Bool)
+    → MatchBool r (AllWithin (λ p. AreSettled parts p fs) (range_with_len 0 parts) 0 (length (range_with_len 0 parts)))
+    ((k : ℕ) × (k < length (range_with_len 0 parts)) × HoldsAt (λ _. NamesDiffer fs → ⊥) (range_with_len 0 parts) k)
+    → IsTrue r ↔ NamesDiffer fs
+all_settled fs parts some true h = ((λ t. settled_differ fs parts some each), (λ d. refl))
+  where
+    same : (p : ℕ) → p < parts → get_or (range_with_len 0 parts) p 0 ≡ p
+    same p lt = omega (arith, get_or-range_with_len 0 parts p 0 lt)
+
+    each : (p : ℕ) → p < parts → AreSettled parts p fs
+    each p lt = subst (λ q. AreSettled parts q fs) (same p lt) (h p 0 (omega arith) (omega (arith, length-range_with_len 0 parts)))
+all_settled fs parts some false h = ((λ t. absurd (true≢false (sym t))), (λ d. absurd (h.2 0 d)))

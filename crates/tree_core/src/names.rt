@@ -16,12 +16,7 @@ pub(crate) fn names_differ(functions: &[TreeFn]) -> bool
     ensures { IsTrue result ↔ NamesDiffer functions.now }
 {
     let parts = functions.len() / 512 + 1;
-    for part in 0..parts {
-        if !are_settled(functions, parts, part) {
-            return false;
-        }
-    }
-    true
+    (0..parts).all(|part| are_settled(functions, parts, part))
 }
 
 // Whether each name of the part is another one than those before it, or is counted once.
