@@ -4,6 +4,7 @@ use Rattle.std.proofs.Math.Bool.{Bool-set}
 use Rattle.std.specs.Coded.{Coded-set, coded_ℕ, coded_list}
 use Rattle.std.specs.Prelude.{Result, Ok, Err, IfOk, slice_get}
 use Rattle.std.proofs.Math.Logic.{∥∥₁_map, ∥∥₁_elim}
+use Rattle.gg_base.proofs.Facts.{no_prop}
 use native.Mathlib.Bridge.{le_prop}
 use Rattle.tree_core.specs.declared.program.Object.{Object}
 use Rattle.tree_core.specs.declared.program.TreeFn.{TreeFn}
@@ -51,9 +52,6 @@ labels_stay p s = subst (AreLabelled p.objects) (sym (names_stay (length p.routi
 
 pub few_args : (p : AProgram) → ∥ IsSound p ∥₁ → (n : ℕ) (f : TreeFn) → slice_get (lowered p).functions n ≡ Some f → f.args ≤ 32
 few_args p h n f here = ∥∥₁_elim h le_prop (λ s. few_arguments p s n f here)
-
-no_prop : IsProp ⊥
-no_prop = hlevel
 
 -- each part of it is a proposition
 pub are_labelled : (os : List Object) (names : List (List ℕ)) → ∥ AreLabelled os names ∥₁ → AreLabelled os names

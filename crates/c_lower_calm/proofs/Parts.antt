@@ -3,6 +3,7 @@ use Rattle.std.proofs.Common.{◌≡◌, ℕ, suc, List, [], ◌∷◌, refl}
 use Rattle.std.specs.Prelude.{Bool, true, false, not, ◌&&◌, ◌||◌}
 use Rattle.std.proofs.lemmas.Bool.{not-true, not-false}
 use Rattle.gg_base.specs.declared.relation.Rel.{Rel}
+use Rattle.gg_base.proofs.Facts.{false_true}
 use Rattle.c_types.specs.declared.types.Integer.{Integer}
 use Rattle.c_types.specs.declared.types.Integer.TheVariants as ints
 use Rattle.c_types.specs.declared.types.CType.{CType}
@@ -39,9 +40,6 @@ pub record CalmReady (r : Assignable) : Type 0 where
   pub value : IsCalm r.value
   pub apart : Apart (address_tree r.place) r.value
   pub items : AreCalm r.items
-
-pub never : {A : Type 0} → false ≡ true → A
-never e = absurd (cc)
 
 -- a tree that does not divide stands before any other
 pub inert_apart : (a b : Tree) → divides a ≡ false → Apart a b
@@ -225,7 +223,7 @@ module _ (size count : ℕ) where
   must_apart (i ∷ is) a b h = inert_apart a b (stable_inert size a (not-false (stable size a) h))
 
   saved_apart : (c : Bool) (u : ℕ) (a b : Tree) → (c ≡ false → Apart a b) → Apart (saved c u a) b
-  saved_apart true u a b h = never
+  saved_apart true u a b h = false_true
   saved_apart false u a b h = h refl
 
   joined_calm : {a b : Lowering} → CalmWay a → CalmWay b → (t l : ℕ) → CalmTwo (joined size count a b t l)

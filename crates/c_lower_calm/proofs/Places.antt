@@ -2,6 +2,7 @@
 use Rattle.std.proofs.Common.{◌≡◌, ℕ, List, [], ◌∷◌, refl}
 use Rattle.std.specs.Prelude.{Bool, true, false, not, ◌&&◌, ◌||◌, ◌==◌, if◌then◌else◌}
 use Rattle.std.proofs.lemmas.Bool.{not-false}
+use Rattle.gg_base.proofs.Facts.{false_true}
 use Rattle.c_types.specs.declared.types.CType.{CType}
 use Rattle.c_types.specs.declared.typed.Variable.{Variable}
 use Rattle.c_types.specs.declared.typed.Variable.TheVariants as variables
@@ -18,7 +19,7 @@ use Rattle.c_lower_scheme.specs.Values.{scaled_by, advance, advance_by, retreat,
 use Rattle.c_lower_scheme.specs.Calls.{pushes, called_drop, called_low, passed_as, pass_so, called_deliver}
 use Rattle.c_lower_scheme.specs.Assignments.{ready_so, update_so, store_drop, store_low_at, store_low, must_hold, must_keep, step_tree, step_ready, step_low}
 use Rattle.c_lower_calm.proofs.Trees.{Apart, IsCalm, IsCalmItem, AreCalm, none, next, behind, none_left}
-use Rattle.c_lower_calm.proofs.Parts.{CalmLow, CalmFound, CalmReady, never, inert_apart, calm_saving, calm_saved, calm_fitted, over_calm, leaf_inert, must_apart, delivered_calm}
+use Rattle.c_lower_calm.proofs.Parts.{CalmLow, CalmFound, CalmReady, inert_apart, calm_saving, calm_saved, calm_fitted, over_calm, leaf_inert, must_apart, delivered_calm}
 
 calm_where : (v : Variable) → IsCalm (address_tree (where_of v))
 calm_where (variables.Automatic n) = tt
@@ -101,12 +102,12 @@ saved_inert false u w h = h
 module _ (size count : ℕ) where
   held_apart : (between : Bool) (is : List Item) (w : Tree) (u : ℕ) (s : Where)
       → Apart (address_tree (held (must_hold size count between is w s) u s)) w
-  held_apart between is w u (InLoc n) = never
-  held_apart between is w u (InArg n) = never
+  held_apart between is w u (InLoc n) = false_true
+  held_apart between is w u (InArg n) = false_true
   held_apart between is w u (InMem a) = by (must size count is a w || (between && breaks a)) (λ e. must_apart size count is a w (none_left (must size count is a w) (between && breaks a) e))
     where
       by : (c : Bool) → (c ≡ false → Apart a w) → Apart (saved c u a) w
-      by true h = never
+      by true h = false_true
       by false h = h refl
 
   pub assigned_calm : (between : Bool) {p : Located} {q : Lowered} → CalmFound p → CalmLow q → CalmReady (ready_so (must_hold size count between q.items q.tree p.place) p q)
@@ -169,7 +170,7 @@ scaled_calm s w h = by (s == 1)
   where
     by : (b : Bool) → IsCalm (if b then w else Bin ariths.Multiply (Num s) w)
     by true = h
-    by false = (tt, h, never)
+    by false = (tt, h, false_true)
 
 scaled_reads : (s : ℕ) (w : Tree) → reads w ≡ false → reads (scaled_by s w) ≡ false
 scaled_reads s w h = by (s == 1)

@@ -1,6 +1,7 @@
 -- Calm trees and items, and that what they are spelled as is calm.
 use Rattle.std.proofs.Common.{◌≡◌, ℕ, zero, suc, List, [], ◌∷◌, ◌++◌, length, Some, refl, sym, ◌∙◌, subst}
 use Rattle.std.specs.Prelude.{Bool, true, false, ◌||◌, ◌==◌, slice_get, if◌then◌else◌}
+use Rattle.gg_base.proofs.Facts.{false_true}
 use Rattle.c_types.specs.declared.types.Integer.{Integer}
 use Rattle.c_types.specs.declared.types.Integer.TheVariants as ints
 use Rattle.c_types.specs.declared.typed.ArithmeticOperator.{ArithmeticOperator}
@@ -156,9 +157,6 @@ root_piece : (l : Leaf) {s t : List Leaf → List Leaf} {d e r q : Bool} → len
 root_piece l two silent apart p q =
     two_piece l true true two silent (λ x. refl) (λ x. refl) (λ x. refl) (λ x. absurd (cc)) (λ x. absurd (cc)) apart p q
 
-never_divides : {A : Type 0} → false ≡ true → A
-never_divides e = absurd (cc)
-
 loc_piece : (n : ℕ) → Piece (λ w. leaf tok.Loc (att.Slot n) ∷ w) false false
 loc_piece n = leaf_piece (leaf tok.Loc (att.Slot n)) refl refl refl
 
@@ -183,8 +181,8 @@ RootIsCalm (tree_item.Root w) = Calm w
 
 pub spelled_calm : (i : Item) → IsCalmItem i → RootIsCalm (spelled i)
 spelled_calm (Label l) h = tt
-spelled_calm (AssignLoc n w) h = whole_piece (root_piece (plain tok.AssignL) refl refl never_divides (loc_piece n) (tree_piece w h))
-spelled_calm (AssignArg n w) h = whole_piece (root_piece (plain tok.AssignL) refl refl never_divides (arg_piece (suc n)) (tree_piece w h))
+spelled_calm (AssignLoc n w) h = whole_piece (root_piece (plain tok.AssignL) refl refl false_true (loc_piece n) (tree_piece w h))
+spelled_calm (AssignArg n w) h = whole_piece (root_piece (plain tok.AssignL) refl refl false_true (arg_piece (suc n)) (tree_piece w h))
 spelled_calm (AssignMem i a w) h = assign_calm i a w h.0 h.1 h.2
 spelled_calm (Cbr rel l a b) h = whole_piece (root_piece (leaf tok.Cbr (att.Branch rel l)) refl refl h.2 (tree_piece a h.0) (tree_piece b h.1))
 spelled_calm (Jump l) h = whole_piece (leaf_piece (leaf tok.Jump (att.Label l)) refl refl refl)

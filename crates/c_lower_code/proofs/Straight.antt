@@ -1,11 +1,7 @@
 -- A block in a straight run is looked into.
-use Rattle.std.proofs.Common.{◌≡◌, ℕ, suc, List, [], ◌∷◌, length, Bool, refl, ap, sym, ◌∙◌}
+use Rattle.std.proofs.Common.{◌≡◌, ℕ, suc, List, [], Bool, ap, sym, ◌∙◌}
 use Rattle.c_program.specs.Statements.{ADeclaration, AnAction, SomeActions, MoreActions, BlockOf}
 use Rattle.c_lower_scheme.specs.Zeros.{is_overwritten}
-
-pub none_left : {A : Type 0} (xs : List A) → length xs ≡ 0 → xs ≡ []
-none_left [] e = refl
-none_left (x ∷ xs) e = absurd (cc)
 
 pub block_goes : (k j n : ℕ) (ds : List ADeclaration) (rest others inner : SomeActions) (first : AnAction) (r : Bool) → k ≡ suc j → ds ≡ [] → rest ≡ MoreActions first others
     → first ≡ BlockOf inner → r ≡ is_overwritten j n [] inner → r ≡ is_overwritten k n ds rest

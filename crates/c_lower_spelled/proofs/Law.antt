@@ -1,6 +1,7 @@
 -- Numbers, offsets and labels of a program's trees.
 use Rattle.std.proofs.Common.{◌≡◌, ℕ, zero, suc, ◌<◌, ◌≤◌, ◌^◌, List, [], ◌∷◌, length, Some, refl, ap, sym, subst, arith}
 use Rattle.std.specs.Prelude.{true, false, slice_get}
+use Rattle.gg_base.proofs.Facts.{false_true}
 use Rattle.c_types.specs.declared.typed.Callee.{Callee}
 use Rattle.c_program.specs.Programs.{ARoutine}
 use Rattle.c_sound.specs.Fits.{FitsActs, no_local}
@@ -17,9 +18,6 @@ use Rattle.c_lower_spelled.proofs.Trees.{AreLong, none, next, behind, roots_spel
 use Rattle.c_lower_spelled.proofs.Parts.{LongEnds, nought}
 use Rattle.c_lower_spelled.proofs.Statements.{row_long}
 
-no_loop : {A : Type 0} → false ≡ true → A
-no_loop e = absurd (cc)
-
 module _ (objects most count : ℕ) (takes : Callee → ℕ → Type 0) where
   abbrev Fit : List ARoutine → Type 0
   Fit gs = (f : ℕ) (g : ARoutine) → slice_get gs f ≡ Some g → FitsActs (length g.locals) no_local false g.body
@@ -35,7 +33,7 @@ module _ (objects most count : ℕ) (takes : Callee → ℕ → Type 0) where
   items_long : (g : ARoutine) (l : ℕ) → FitsActs (length g.locals) no_local false g.body
       → StandsActs (IsThere objects (length g.parameters)) takes objects g.body → (body_of count g l).labels ≤ most
       → AreLong objects most (items_of (body_of count g l))
-  items_long g l f s le = behind ((body_long g l f s).items no_loop le) (next nought none)
+  items_long g l f s le = behind ((body_long g l f s).items false_true le) (next nought none)
 
   grows_all : (gs : List ARoutine) (l : ℕ) → Fit gs → Stand gs → l ≤ labels_behind count gs l
   grows_all [] l f s = omega arith

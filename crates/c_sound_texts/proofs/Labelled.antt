@@ -11,6 +11,7 @@ use Rattle.std.specs.Fmt.{decimal}
 use Rattle.std.specs.Int.{w32, to_le_bytes}
 use Rattle.std.specs.List.{All, list_all}
 use Rattle.std.specs.Prelude.{codes, nat_le, slice_get}
+use Rattle.gg_base.proofs.Facts.{same_tail}
 use Rattle.tree_core.specs.declared.program.Object.{Object}
 use Rattle.tree_core.specs.declared.program.Link.{Link}
 use Rattle.tree_core.specs.Valid.{is_aligned, is_whole, is_placed, rounded, object_lies}
@@ -27,7 +28,7 @@ use Rattle.c_typed_words.specs.Words.{IsName}
 use Rattle.c_sound_bodies.proofs.Objects.{IsVariable}
 use Rattle.c_sound_texts.proofs.Areas.{LieTo}
 use Rattle.c_sound_texts.proofs.Held.{places_of, Addressed, Contains, contents, AreContained}
-use Rattle.c_sound_texts.proofs.Labels.{Each, Differ, labels, IsNew, OfStatic, OfLiteral, HasFew, heads, tails}
+use Rattle.c_sound_texts.proofs.Labels.{Each, Differ, labels, IsNew, OfStatic, OfLiteral, HasFew, heads}
 use Rattle.c_sound_texts.proofs.Named.{start, IsFunctionEntry, not_named, IsLabel, Numbered, Variable, NamesFunction, IsNamed}
 
 -- digits of a number may stand in a label
@@ -78,7 +79,7 @@ not_function (entries.Function n) f is a b = a
 no_function : (s : State) (name x : List ℕ) → NamesFunction s.scope name → IsLabel s x → x ≢ entry_label name
 no_function s name x f (Numbered new) e = not_named start s.area name x new (sym e)
 no_function s name x f (Variable n e is_name found variable is) same =
-    let names : n ≡ name = tails 95 95 n name (sym is ∙ same) in
+    let names : n ≡ name = same_tail 95 95 n name (sym is ∙ same) in
     let here : find s.scope.here name ≡ Some e = subst (λ (z : List ℕ). find s.scope.here z ≡ Some e) names found in
     let both : Some e ≡ Some f.entry = sym here ∙ f.found in
     not_function e f.entry (cc) variable f.function

@@ -5,6 +5,7 @@ use Rattle.std.proofs.lemmas.Fmt.{decimal_injective}
 use Rattle.std.proofs.lemmas.List.{map-append}
 use Rattle.std.specs.Fmt.{decimal}
 use Rattle.std.specs.Prelude.{if◌then◌else◌}
+use Rattle.gg_base.proofs.Facts.{same_tail}
 use Rattle.tree_core.specs.declared.program.Object.{Object}
 use Rattle.c_tokens.specs.declared.token.Token.TheVariants as token
 use Rattle.c_phrases.specs.declared.operator.Spec.{Spec}
@@ -104,9 +105,6 @@ new_more a b c d s l t m x (OfLiteral k least below is) = OfLiteral k (omega ari
 same_number : (k j : ℕ) → k < 2 ^ 32 → j < 2 ^ 32 → decimal k ≡ decimal j → k ≡ j
 same_number k j p q e = decimal_injective k j (omega arith) (omega arith) e
 
-pub tails : (c d : ℕ) (xs ys : List ℕ) → c ∷ xs ≡ d ∷ ys → xs ≡ ys
-tails c d xs ys e = cc
-
 pub heads : (c d : ℕ) (xs ys : List ℕ) → c ∷ xs ≡ d ∷ ys → c ≡ d
 heads c d xs ys e = cc
 
@@ -114,11 +112,11 @@ heads c d xs ys e = cc
 pub new_apart : (a b c : Area) → HasFew c → b.statics ≤ c.statics → b.literals ≤ c.literals → (x y : List ℕ) → IsNew a b x → IsNew b c y → x ≢ y
 new_apart a b c few s l x y (OfStatic k least below is) (OfStatic j from under same) e =
     let small : c.statics < 2 ^ 32 = few.statics in
-    let equal = same_number k j (omega arith) (omega arith) (tails 84 84 (decimal k) (decimal j) (sym is ∙ e ∙ same)) in
+    let equal = same_number k j (omega arith) (omega arith) (same_tail 84 84 (decimal k) (decimal j) (sym is ∙ e ∙ same)) in
     omega arith
 new_apart a b c few s l x y (OfLiteral k least below is) (OfLiteral j from under same) e =
     let small : c.literals < 2 ^ 32 = few.literals in
-    let equal = same_number k j (omega arith) (omega arith) (tails 83 83 (decimal k) (decimal j) (sym is ∙ e ∙ same)) in
+    let equal = same_number k j (omega arith) (omega arith) (same_tail 83 83 (decimal k) (decimal j) (sym is ∙ e ∙ same)) in
     omega arith
 new_apart a b c few s l x y (OfStatic k least below is) (OfLiteral j from under same) e =
     let equal = heads 84 83 (decimal k) (decimal j) (sym is ∙ e ∙ same) in omega arith

@@ -5,7 +5,7 @@ use Rattle.std.specs.Fmt.{decimal}
 use Rattle.std.specs.Prelude.{codes, is_some, slice_get, if◌then◌else◌}
 use Rattle.std.specs.Str.{bytes_eq}
 use Rattle.std.proofs.lemmas.Slice.Eq.{bytes_eq-Decides}
-use Rattle.gg_base.proofs.Facts.{slice_cases}
+use Rattle.gg_base.proofs.Facts.{slice_cases, same_tail}
 use Rattle.c_tokens.specs.declared.token.Token.TheVariants as token
 use Rattle.c_phrases.specs.declared.operator.Spec.{Spec}
 use Rattle.c_phrases.specs.declared.tree.Named.{Named}
@@ -41,7 +41,7 @@ use Rattle.c_sound_bodies.proofs.Growth.{exp_lays}
 use Rattle.c_sound_bodies.proofs.Areas.{items_lay, order_any}
 use Rattle.c_sound_bodies.proofs.Objects.{IsVariable, Declares, object_declares}
 use Rattle.c_sound_texts.proofs.Labels.{Each, Differ, each_weaker, each_joined, differ_joined, labels, IsNew, OfStatic, OfLiteral, HasFew, Numbers, numbers_same, numbers_further}
-use Rattle.c_sound_texts.proofs.Labels.{numbering, new_more, new_apart, heads, tails, LaidFor, Declared, object_declared, static_numbers, labels_joined}
+use Rattle.c_sound_texts.proofs.Labels.{numbering, new_more, new_apart, heads, LaidFor, Declared, object_declared, static_numbers, labels_joined}
 use Rattle.c_sound_texts.proofs.Functions.{find_further}
 use Rattle.c_sound_bodies.proofs.Law.{bodies_are_sound}
 use Rattle.c_sound_texts.proofs.Bodies.{TextIsSound, function_begins, Parametered, parameters_order, declared_sound, external_sound}
@@ -181,7 +181,7 @@ same_names s = record { names = []; here = sym (append_nil s.here) }
 name_apart : (s : State) (n : List ℕ) → find s.scope.here n ≡ None → (x : List ℕ) → IsLabel s x → x ≢ 95 ∷ n
 name_apart s n none x (Numbered new) e = not_named start s.area n x new (sym e)
 name_apart s n none x (Variable m f is_name found variable is) e =
-    let same : m ≡ n = tails 95 95 m n (sym is ∙ e) in
+    let same : m ≡ n = same_tail 95 95 m n (sym is ∙ e) in
     let here : find s.scope.here n ≡ Some f = subst (λ (z : List ℕ). find s.scope.here z ≡ Some f) same found in
     absurd (let clash : None ≡ Some f = sym none ∙ here in cc)
 

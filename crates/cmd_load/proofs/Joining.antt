@@ -4,6 +4,7 @@ use Rattle.std.proofs.Math.Logic.{∥∥₁_map, ∥∥₁_elim}
 use Rattle.gg_base.specs.declared.run.End.{End}
 use Rattle.gg_base.specs.declared.run.End.TheVariants.{Ended, Trapped, Wild, Deep, Spent, Broken}
 use Rattle.gg_base.specs.Runs.{Outcome, OneEnd}
+use Rattle.gg_base.proofs.Facts.{no_prop}
 use Rattle.cmd_session.specs.declared.status.Status.{Status}
 use Rattle.cmd_session.specs.Writing.{Change, TakesAll}
 use Rattle.cmd_session.specs.Telling.{IsStarved}
@@ -24,9 +25,6 @@ use Rattle.cmd_load_runs.specs.Sides.{EndsAt, HasEndedLike, EndsLike}
 use Rattle.cmd_load.specs.declared.sides.Sizes.{Sizes}
 use Rattle.cmd_load.specs.Telling.{greatest_number, summary_of, SidesTold, Unwritten, Written, OneSpent, BothValues}
 use Rattle.cmd_load.specs.Outcome.{Made, Loads as Outcomes, NotWritten, IsSpent, BothEnded}
-
-no_prop : IsProp ⊥
-no_prop = hlevel
 
 no_fault : (fault : Option LoadFault) → ∥ fault ≡ None ∥₁ → fault ≡ None
 no_fault None h = refl

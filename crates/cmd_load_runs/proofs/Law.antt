@@ -7,6 +7,7 @@ use Rattle.gg_base.specs.declared.run.End.{End}
 use Rattle.gg_base.specs.declared.run.End.TheVariants.{Ended, Trapped, Wild, Deep, Spent, Broken}
 use Rattle.gg_base.specs.Runs.{Outcome, Runs, OneEnd}
 use Rattle.gg_base.specs.Follows.{IsLost, GetsLost, Says, Tells, Follows}
+use Rattle.gg_base.proofs.Facts.{no_prop}
 use Rattle.gg_load_meaning.specs.Run.{ComesTo}
 use Rattle.cmd_load_runs.specs.Sides.{EndsAt, EndsLike}
 
@@ -16,9 +17,6 @@ below_or zero zero = inr (omega arith)
 below_or zero (suc m) = inl (omega arith)
 below_or (suc n) zero = inr (omega arith)
 below_or (suc n) (suc m) = elim (below_or n m) [ inl h ↦ inl (omega (arith, h)) | inr h ↦ inr (omega (arith, h)) ]
-
-no_prop : IsProp ⊥
-no_prop = hlevel
 
 -- A run that comes to an end with a value.
 module _ (a : Runs) (o : Outcome) (value : ℕ) (comes : ComesTo a o) (end_is : o.end ≡ Ended value) where

@@ -1,6 +1,6 @@
 -- Small facts of truth values, choices, numbers and lists that proofs of many crates cite, beside those of std.
 use Rattle.std.proofs.Common.{◌≡◌, ℕ, zero, suc, ◌+◌, ◌-◌, ◌<◌, Bool, true, false, ◌⊎◌, inl, inr, ⊎_elim, Option, Some, None, List, [], ◌∷◌, ◌++◌, length, refl, sym, ap, subst, arith}
-use Rattle.std.specs.Prelude.{◌&&◌, ◌||◌, ◌==◌, cond, is_none, slice_get}
+use Rattle.std.specs.Prelude.{◌≤◌, ◌&&◌, ◌||◌, ◌==◌, cond, is_none, IsSome, Result, Ok, Err, IfOk, slice_get, slice_index_or}
 use Rattle.std.specs.List.{AllByRecursion as All}
 use Rattle.std.proofs.lemmas.Option.{none-some, same_Some}
 use Rattle.std.proofs.lemmas.Bool.Decides.{nat_tests}
@@ -26,6 +26,17 @@ second_false false b e = e
 pub true_or_false : (b : Bool) → b ≡ true → b ≡ false → ⊥
 true_or_false b e h = cc
 
+pub false_true : {A : Type 0} → false ≡ true → A
+false_true e = absurd (cc)
+
+pub same_bool : (a b : Bool) → (a ≡ true → b ≡ true) → (b ≡ true → a ≡ true) → a ≡ b
+same_bool true b h g = sym (h refl)
+same_bool false true h g = g refl
+same_bool false false h g = refl
+
+pub no_prop : IsProp ⊥
+no_prop = hlevel
+
 pub or_true : (b : Bool) → (b || true) ≡ true
 or_true true = refl
 or_true false = refl
@@ -47,7 +58,25 @@ pub guarded : {A : Type 0} (b : Bool) (o : Option A) (y : A) → cond b o None �
 guarded true o y e = (refl, e)
 guarded false o y e = absurd (none-some y e)
 
+pub unguarded : {A : Type 0} (b : Bool) (o : Option A) (y : A) → cond b None o ≡ Some y → (b ≡ false) × (o ≡ Some y)
+unguarded false o y e = (refl, e)
+unguarded true o y e = absurd (none-some y e)
+
+pub the_number : (o : Option ℕ) → IsSome o → (x : ℕ) × (o ≡ Some x)
+the_number None h = absurd (let e : false ≡ true = h in cc)
+the_number (Some x) h = (x, refl)
+
+pub err_ok : {A E : Type 0} (e : E) (x : A) → Err e ≡ Ok x → ⊥
+err_ok e x h = cc
+
+pub if_ok : {A E : Type 0} (r : Result A E) (P Q : A → Type 0) → ((x : A) → P x → Q x) → IfOk r P → IfOk r Q
+if_ok (Ok x) P Q g h = g x h
+if_ok (Err e) P Q g h = tt
+
 -- numbers
+
+pub one_up : (m n : ℕ) → m ≤ n → m ≤ 1 + n
+one_up m n le = omega (arith, le)
 
 pub not_zero : (k : ℕ) → (suc k == 0) ≡ false
 not_zero k = grind (arith, nat_tests)
@@ -98,3 +127,21 @@ slice_cases [] x zero y e = inr (refl, sym (same_Some x y e))
 slice_cases [] x (suc n) y e = absurd (none-some y e)
 slice_cases (z ∷ xs) x zero y e = inl e
 slice_cases (z ∷ xs) x (suc n) y e = ⊎_elim (λ h. inl h) (λ h. inr (ap suc h.0, h.1)) (slice_cases xs x n y e)
+
+pub nil_of : {A : Type 0} (xs : List A) → length xs ≡ 0 → xs ≡ []
+nil_of [] e = refl
+nil_of (x ∷ xs) e = absurd (omega (arith, e))
+
+pub same_tail : (a b : ℕ) (xs ys : List ℕ) → a ∷ xs ≡ b ∷ ys → xs ≡ ys
+same_tail a b xs ys e = cc
+
+pub index_of : {A : Type 0} (xs : List A) (i : ℕ) (x d : A) → slice_get xs i ≡ Some x → slice_index_or xs i d ≡ x
+index_of [] zero x d e = absurd (cc)
+index_of [] (suc i) x d e = absurd (cc)
+index_of (y ∷ xs) zero x d e = same_Some y x e
+index_of (y ∷ xs) (suc i) x d e = index_of xs i x d e
+
+pub index_there : {A : Type 0} (xs : List A) (i : ℕ) (d : A) → i < length xs → slice_get xs i ≡ Some (slice_index_or xs i d)
+index_there [] i d lt = absurd (omega (arith, lt))
+index_there (x ∷ xs) zero d lt = refl
+index_there (x ∷ xs) (suc i) d lt = index_there xs i d (omega (arith, lt))

@@ -2,6 +2,7 @@
 use Rattle.std.proofs.Common.{◌≡◌, true, sym, subst}
 use Rattle.std.proofs.Math.Bool.{Bool-set}
 use Rattle.std.proofs.Math.Logic.{∥∥₁_map, ∥∥₁_elim}
+use Rattle.gg_base.proofs.Facts.{no_prop}
 use Rattle.tree_core.specs.declared.program.TreeItem.TheVariants as tree_item
 use Rattle.tree_core.specs.declared.program.TreeProgram.{TreeProgram}
 use Rattle.md_reader.specs.State.{Content}
@@ -22,9 +23,6 @@ use Rattle.gg_compile_laws.proofs.Limits.{typed_codes_keep_programs}
 use Rattle.gg_compile_laws.proofs.Typed.{typed_programs_are_ready}
 use Rattle.gg_compile_laws.proofs.Programs.{typed_codes_can_be_written}
 use Rattle.gg_compile.specs.Needs.{AllFit}
-
-no_prop : IsProp ⊥
-no_prop = hlevel
 
 -- no tree of trees that are ready blocks, turns or finds its frame full
 pub all_go : (q : TreeProgram) (d : Content) → ∥ HasReadyTrees q ∥₁ → IsFit vax d → NeverStops d → ProgramGoes vax d q

@@ -8,6 +8,7 @@ use Rattle.std.proofs.lemmas.Bool.{eqb-true, eq-eqb, true≢false, false_from_ne
 use Rattle.std.proofs.lemmas.Fmt.{decimal_injective}
 use Rattle.std.proofs.lemmas.Slice.Eq.{bytes_eq-Decides}
 use Rattle.std.specs.List.{cons_option}
+use Rattle.gg_base.proofs.Facts.{same_tail, same_bool}
 use Rattle.vax_core.specs.declared.code.Instr.{Instr}
 use Rattle.vax_core.specs.declared.code.CodeItem.{CodeItem}
 use Rattle.vax_core.specs.declared.code.CodeItem.TheVariants as item_kind
@@ -132,14 +133,6 @@ module _ (program : TreeProgram) (name : List ℕ) where
       omega (arith, a, h, r)
 
 -- ---- functions
-
-same_bool : (a b : Bool) → (a ≡ true → b ≡ true) → (b ≡ true → a ≡ true) → a ≡ b
-same_bool true b h g = sym (h refl)
-same_bool false true h g = g refl
-same_bool false false h g = refl
-
-same_tail : (a b : ℕ) (xs ys : List ℕ) → a ∷ xs ≡ b ∷ ys → xs ≡ ys
-same_tail a b xs ys e = cc
 
 same_test : (a b : List ℕ) → bytes_eq (function_label a) (function_label b) ≡ bytes_eq a b
 same_test a b =

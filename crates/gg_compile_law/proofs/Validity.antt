@@ -1,8 +1,9 @@
 -- What a valid tree program says of its functions' items, in the words that are used here.
 use Rattle.std.proofs.Common.{◌≡◌, ℕ, zero, suc, ◌+◌, ◌<◌, ◌≤◌, Bool, true, false, cond, List, [], ◌∷◌, length, Option, Some, None, refl, sym, ap, subst, ◌∙◌, arith}
-use Rattle.std.specs.Prelude.{◌-◌, slice_get, slice_index_or, ◌==◌, ◌||◌}
+use Rattle.std.specs.Prelude.{◌-◌, slice_get, ◌==◌, ◌||◌}
 use Rattle.std.specs.List.{All, AllPass, filter_map, cons_option}
 use Rattle.std.proofs.lemmas.Bool.{eqb-true, eq-eqb, leb-true, and_parts}
+use Rattle.gg_base.proofs.Facts.{index_of}
 use Rattle.tree_core.specs.declared.token.Tok.{Tok}
 use Rattle.tree_core.specs.declared.token.Tok.TheVariants as tok
 use Rattle.tree_core.specs.declared.token.Sort.TheVariants as sort
@@ -276,17 +277,8 @@ target_stands is h w at l e = stands_by _ (λ n. refl) (λ w. refl) is l (h l (f
 
 -- ---- what is said of each function, and of each root
 
-index_is : {A : Type 0} (xs : List A) (k : ℕ) (x d : A) → slice_get xs k ≡ Some x → slice_index_or xs k d ≡ x
-index_is [] zero x d e = absurd cc
-index_is [] (suc k) x d e = absurd cc
-index_is (y ∷ xs) zero x d e = same y x e
-  where
-    same : {A : Type 0} (y x : A) → ◌≡◌ {A = Option A} (Some y) (Some x) → y ≡ x
-    same y x e = cc
-index_is (y ∷ xs) (suc k) x d e = index_is xs k x d e
-
 pub all_at : {A : Type 0} (P : A → Type 0) (xs : List A) (k : ℕ) (x : A) → All P xs → slice_get xs k ≡ Some x → P x
-all_at P xs k x h e = subst P (index_is xs k x x e) (h k x (in_list xs k x e))
+all_at P xs k x h e = subst P (index_of xs k x x e) (h k x (in_list xs k x e))
 
 -- what a valid program says of a root of a function
 pub record RootFacts (program : TreeProgram) (g : TreeFn) (w : List Leaf) : Type 0 where

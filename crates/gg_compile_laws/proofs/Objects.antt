@@ -1,10 +1,11 @@
 -- What typing says of a program's objects, as the code of its trees asks it.
-use Rattle.std.proofs.Common.{◌≡◌, ℕ, zero, suc, ◌<◌, List, [], ◌∷◌, length, map, Some, Bool, true, false, refl, sym, ap, ◌∙◌, subst, arith}
+use Rattle.std.proofs.Common.{◌≡◌, ℕ, zero, suc, List, [], ◌∷◌, length, map, Some, Bool, true, false, refl, sym, ap, ◌∙◌, subst}
 use Rattle.std.specs.Prelude.{◌&&◌, ◌||◌, ◌==◌, nat_le, slice_get, slice_index_or}
 use Rattle.std.specs.List.{All, AllByRecursion, list_all}
 use Rattle.std.specs.Str.{bytes_eq}
 use Rattle.std.proofs.lemmas.Slice.Eq.{bytes_eq-Decides}
 use Rattle.std.proofs.lemmas.Option.{same_Some}
+use Rattle.gg_base.proofs.Facts.{index_there}
 use Rattle.tree_core.specs.declared.program.Object.{Object}
 use Rattle.tree_core.specs.declared.program.TreeFn.{TreeFn}
 use Rattle.c_sound.specs.Fits.{AreBytes}
@@ -22,11 +23,6 @@ use Rattle.gg_compile_law.specs.Loaded.{AreApart}
 pub all_below : (bs : List ℕ) → AreBytes bs → AllBelow 256 bs
 all_below [] h = tt
 all_below (b ∷ bs) h = (h.0, all_below bs h.1)
-
-index_there : {X : Type 0} (xs : List X) (i : ℕ) (d : X) → i < length xs → slice_get xs i ≡ Some (slice_index_or xs i d)
-index_there [] i d lt = absurd (omega (arith, lt))
-index_there (x ∷ xs) zero d lt = refl
-index_there (x ∷ xs) (suc i) d lt = index_there xs i d (omega (arith, lt))
 
 -- links hold addresses, and objects bytes
 pub hold_numbers : (os : List Object) (names : List (List ℕ)) → AreLabelled os names → HoldBytes os → All (HoldsNumbers os) os

@@ -4,6 +4,7 @@ use Rattle.std.proofs.Math.Logic.{∥∥₁_map, ∥∥₁_elim}
 use Rattle.gg_base.specs.declared.run.End.{End}
 use Rattle.gg_base.specs.declared.run.End.TheVariants as ends
 use Rattle.gg_base.specs.Follows.{Says, Asks, Tells, Follows}
+use Rattle.gg_base.proofs.Facts.{no_prop}
 use Rattle.gg_outside.specs.Outside.{Content as File, Stored, IsThat}
 use Rattle.md_reader.specs.State.{Content}
 use Rattle.c_program.specs.Programs.{AProgram}
@@ -25,9 +26,6 @@ use Rattle.cmd_run.specs.Texts.{text_form, code_runner, fault_line}
 use Rattle.cmd_compile.specs.Keeping.{Keeps}
 use Rattle.cmd_compile.specs.Texts.{IsTextOf}
 use Rattle.gg_headline.specs.Claims.{HoldsText, TextsAreTaken, RunsTell, EndsAt, RunsEnd}
-
-no_prop : IsProp ⊥
-no_prop = hlevel
 
 module _ (d : Content) (p : AProgram) (text : List ℕ) (is : IsTextOf d p text) where
   -- what a file of the text is found to hold is its code

@@ -7,6 +7,7 @@ use Rattle.std.proofs.lemmas.List.{get_or-set_other}
 use Rattle.std.proofs.lemmas.List.Sums.{sum_by-set}
 use Rattle.std.specs.Option.{option_map}
 use Rattle.std.proofs.lemmas.Option.{slice_get-map, same_Some, none-some}
+use Rattle.gg_base.proofs.Facts.{false_true}
 use Rattle.tree_core.specs.declared.token.Tok.{Tok}
 use Rattle.md_reader.specs.State.{Content}
 use Rattle.md_reader.specs.declared.types.Rule.{Rule}
@@ -48,10 +49,6 @@ none_at (Some x) P e h = absurd (none-some x (sym e))
 pub if_none_map : {X : Type 0} (o : Option X) (P Q : Type 0) → (P → Q) → IfNone o P → IfNone o Q
 if_none_map None P Q g h = g h
 if_none_map (Some x) P Q g h = tt
-
-pub if_ok : {X E : Type 0} (r : Result X E) (P Q : X → Type 0) → ((x : X) → P x → Q x) → IfOk r P → IfOk r Q
-if_ok (Ok x) P Q g h = g x h
-if_ok (Err e) P Q g h = tt
 
 pub if_ok_both : {X E : Type 0} (r : Result X E) (P Q R : X → Type 0) → ((x : X) → P x → Q x → R x) → IfOk r P → IfOk r Q → IfOk r R
 if_ok_both (Ok x) P Q R g h k = g x h k
@@ -132,9 +129,6 @@ marked_nowhere A q c b marks none = record { each = λ d s. absurd (none-some s.
 pub calm_class : (A : Automaton) (q c : ℕ) (b : Tok) (marks : List Bool) → AreCalm A q b marks → LeadsToMarked A q b marks c → Calms A q b (grammar_symbol.Class c ∷ [])
 calm_class A q c b marks are leads = calms (λ r p ws fr size. subst (Calms A q b) (sym (whole_left r (grammar_symbol.Class c ∷ []) size))
     (are.each r.left (leads.each r.left (record { at = p; rule = r; go = ws; free = fr; one = size; left = refl }))))
-
-false_true : {X : Type 0} → false ≡ true → X
-false_true e = cc
 
 -- one mark more
 pub marked_calm : (A : Automaton) (q : ℕ) (b : Tok) (marks : List Bool) (c : ℕ) → c < length marks → AreCalm A q b marks → Calms A q b (grammar_symbol.Class c ∷ []) → AreCalm A q b (set marks c true)

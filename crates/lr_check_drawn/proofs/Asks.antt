@@ -1,7 +1,8 @@
 -- What is asked of the next settling's node, by how it was found.
-use Rattle.std.proofs.Common.{◌≡◌, ℕ, zero, suc, ◌+◌, ◌<◌, List, [], ◌∷◌, ◌++◌, Some, Bool, length, slice_get, refl, sym, ap, ap₂, ◌∙◌, subst, ⊎_elim, arith}
-use Rattle.std.specs.Prelude.{slice_index_or, IfOk, OnOk, Result, Ok, Err}
+use Rattle.std.proofs.Common.{◌≡◌, ℕ, ◌+◌, ◌<◌, List, [], ◌∷◌, ◌++◌, Some, Bool, length, slice_get, refl, sym, ap, ap₂, ◌∙◌, subst, ⊎_elim, arith}
+use Rattle.std.specs.Prelude.{slice_index_or, OnOk, Result, Ok, Err}
 use Rattle.std.proofs.lemmas.Option.{same_Some}
+use Rattle.gg_base.proofs.Facts.{index_of, index_there}
 use Rattle.tree_core.specs.declared.token.Tok.{Tok}
 use Rattle.md_reader.specs.State.{Content}
 use Rattle.md_reader.specs.declared.types.Rule.{Rule}
@@ -26,17 +27,6 @@ use Rattle.lr_check_samples.specs.Nodes.{IsNode, DrawnKids, kids_leaf, kids_one,
 use Rattle.lr_check_samples.proofs.Making.{settles_of, MadeOne, MadeTwo, MadeReduced, made_one, made_two, made_reduced}
 use Rattle.lr_check_drawn.specs.Asked.{AskedView, with_kid, with_taken}
 use Rattle.lr_check_drawn.specs.Drawing.{DrawingView, KidsView, none_asked, kids_in, answers_in, choices_at, choices_behind, AreBelow, AreDrawn, IsAsked}
-
-there_in : {X : Type 0} (xs : List X) (i : ℕ) (x : X) → i < length xs → slice_get xs i ≡ Some (slice_index_or xs i x)
-there_in [] i x lt = absurd (omega (arith, lt))
-there_in (y ∷ xs) zero x lt = refl
-there_in (y ∷ xs) (suc i) x lt = there_in xs i x (omega (arith, lt))
-
-index_of : {X : Type 0} (xs : List X) (i : ℕ) (x d : X) → slice_get xs i ≡ Some x → slice_index_or xs i d ≡ x
-index_of [] zero x d e = absurd (cc)
-index_of [] (suc i) x d e = absurd (cc)
-index_of (y ∷ xs) zero x d e = same_Some y x e
-index_of (y ∷ xs) (suc i) x d e = index_of xs i x d e
 
 -- the list of what settles with a number
 listed : (f : FoundView) (j : ℕ) (y : Place) (s : List Sym) (p : ℕ) → SettlesAt f j y s p → slice_index_or f.lists.all (list_number f j) [] ≡ s
@@ -63,7 +53,7 @@ record Earlier (A : Automaton) (f : FoundView) (d : DrawingView) (j : ℕ) (y : 
 
 earlier : {A : Automaton} {f : FoundView} {d : DrawingView} {i j p : ℕ} {y : Place} {s : List Sym} → AreDrawn A f d → i ≡ length d.depths → j < i → SettlesAt f j y s p → Earlier A f d j y
 earlier {f = f} {d = d} {j = j} {y = y} drawn next lt at =
-    let k = drawn.each j (slice_index_or d.depths j []) (there_in d.depths j [] (omega (arith, next, lt))) in
+    let k = drawn.each j (slice_index_or d.depths j []) (index_there d.depths j [] (omega (arith, next, lt))) in
     let same : k.entry ≡ at.entry = same_Some k.entry at.entry (sym k.there ∙ at.there) in
     let place : k.place ≡ y = same_Some k.place y (sym k.at ∙ (ap (λ (e : Settling). slice_get f.places e.place) same ∙ at.place)) in
     record { numbers = k.numbers; own = k.answers; node = subst (λ (c : Place). IsNode d.nodes j c.token k.numbers k.answers) place k.node; drawn = k.drawn; lower = k.lower }
@@ -149,10 +139,6 @@ asked_again t f d i j c k found drawn next m e =
     first ∙ ap₂ (λ (x : List Choice) (y : List Sym). record { numbers = l.numbers; asked = with_taken a t.content.rules x (length y) c }) choices list in
     asked_as (second ∙ ap (λ z. record { numbers = l.numbers; asked = z }) (taken_at t a g.state n.place.behind (length g.whole) c))
     (record { drawn = kids_reduced m at l.drawn; lower = below_lower i j l.numbers n.later l.lower })
-
-pub if_ok : {T E : Type 0} (r : Result T E) (P Q : T → Type 0) → ((x : T) → P x → Q x) → IfOk r P → IfOk r Q
-if_ok (Ok x) P Q f h = f x h
-if_ok (Err e) P Q f h = h
 
 pub made_as : {f : FoundView} {i : ℕ} {h g : How} → h ≡ g → IsMadeBy f i h → IsMadeBy f i g
 made_as {f = f} {i = i} e m = subst (IsMadeBy f i) e m

@@ -35,10 +35,6 @@ one_step A p t r u y (d ∷ w) g at pk =
     let same : d.tok ≡ t = cc in
     reduces at (subst (λ m. pick (A.candidates p m) u ≡ record { taken = Some (reduce r); stack = y }) (sym same) pk)
 
-nothing : {X : Type 0} (l : List X) → length l ≡ 0 → l ≡ []
-nothing [] e = refl
-nothing (X ∷ l) e = absurd (omega arith)
-
 runs_as : {A : Automaton} {x x' y y' : List Entry} {w w' v : List Leaf} → x ≡ x' → w ≡ w' → y ≡ y' → Runs A x w y v → Runs A x' w' y' v
 runs_as {A = A} {x = x} {x' = x'} {y = y} {y' = y'} {w = w} {w' = w'} {v = v} e f g r =
     subst (λ u. Runs A u w' y' v) e (subst (λ u. Runs A x u y' v) f (subst (λ u. Runs A x w u v) g r))

@@ -13,6 +13,7 @@ use Rattle.md_reader_text.specs.Words.{same, words}
 use Rattle.md_reader_pieces.specs.declared.piece.Line.{Line}
 use Rattle.gg_base.specs.declared.size.Size.{Size}
 use Rattle.gg_base.specs.declared.size.Size.TheVariants as sizes
+use Rattle.gg_base.proofs.Facts.{err_ok}
 use Rattle.tree_core.specs.declared.token.Tok.{Tok}
 use Rattle.tree_core.specs.declared.token.Tok.TheVariants as tok
 use Rattle.tree_core.specs.declared.token.Sort.{Sort}
@@ -48,7 +49,7 @@ use Rattle.md_reader.specs.Valid.{Away, Apart, IsNamed, AreClasses, IsSpill, Are
 use Rattle.md_reader.specs.Desc.{Form, Version, Target, Pool, Declares, Saves, Head, Restricts, Writes, Gives, size_word, kind_words, saved_words, IsSaved, GiveWord, IsGive, Says}
 use Rattle.md_reader.specs.Desc.{name_at, symbol_word, saving, ruling, telling, numbered, Tell, Desc, Refused}
 use Rattle.md_reader.proofs.PatternLaws.{tree_exactly, sorted_back}
-use Rattle.md_reader.proofs.Inversion.{refused, ok_same, same_refl, not_same}
+use Rattle.md_reader.proofs.Inversion.{ok_same, same_refl, not_same}
 
 -- whatever lines say these forms, the content is read
 Runs : State → List Form → Content → Type 0
@@ -549,7 +550,7 @@ desc_reads bytes d h = apply start (telling d) d (all_run d h.valid) 1 (lines by
 pub refusal : (r : Result Content DescFault) (bytes : List ℕ) → Answers r (read bytes) → IfErr r (Refused bytes)
 refusal (Ok d) bytes e = tt
 refusal (Err desc_fault.NoMemory) bytes e = tt
-refusal (Err (desc_fault.Line n k)) bytes e = λ d h. refused _ _ (sym e ∙ desc_reads bytes d h)
+refusal (Err (desc_fault.Line n k)) bytes e = λ d h. err_ok _ _ (sym e ∙ desc_reads bytes d h)
 
 pub only : (r : Result Content DescFault) (bytes : List ℕ) → Answers r (read bytes) → IfOk r (λ d. (c : Content) → Desc bytes c → d ≡ c)
 only (Ok d) bytes e = λ c h. ok_same _ _ _ _ refl refl (sym e ∙ desc_reads bytes c h)

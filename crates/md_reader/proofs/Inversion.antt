@@ -13,9 +13,6 @@ pub unless : {A : Type 0} (b : Bool) (k : DescKind) (r : Result A DescKind) (t :
 unless true k r t e = (refl, e)
 unless false k r t e = absurd cc
 
-pub refused : {A K : Type 0} (k : K) (t : A) → Err k ≡ Ok t → ⊥
-refused k t e = cc
-
 pub ok_same : {A K : Type 0} (a b : A) (r q : Result A K) → r ≡ Ok a → q ≡ Ok b → r ≡ q → a ≡ b
 ok_same a b r q e f g = cc
 

@@ -7,6 +7,7 @@ use Rattle.std.specs.Option.{option_map}
 use Rattle.std.proofs.lemmas.Option.{none-some, same_Some, option_and_then_some}
 use Rattle.std.proofs.lemmas.Bool.{eqb-true, leb-true}
 use Rattle.std.proofs.lemmas.List.{append-nil}
+use Rattle.gg_base.proofs.Facts.{err_ok}
 use Rattle.md_reader_text.specs.Lines.{lines}
 use Rattle.md_reader_text.specs.Words.{same, words}
 use Rattle.md_reader_pieces.specs.declared.piece.Piece.{Piece}
@@ -47,7 +48,7 @@ use Rattle.md_reader.specs.Valid.{IsValid}
 use Rattle.md_reader.specs.Fine.{IsBlank, IsDeclaring, StageFact, IsFine}
 use Rattle.md_reader.specs.Desc.{Form, Version, Target, Pool, Declares, Saves, Head, Restricts, Writes, Gives, kind_words, saved_words, GiveWord, Says, name_at, symbol_word}
 use Rattle.md_reader.specs.Desc.{saving, ruling, telling, numbered, Tell, Desc}
-use Rattle.md_reader.proofs.Inversion.{when, unless, refused, ok_same, same_true}
+use Rattle.md_reader.proofs.Inversion.{when, unless, ok_same, same_true}
 use Rattle.md_reader.proofs.FormLaws.{both_words, class_line_is, spill_line_is, rule_line_is, if_line_is, do_line_is, give_line_is, plain_word}
 use Rattle.md_reader.proofs.ValidLaws.{skip_kept, line_kept, is_valid, begins}
 
@@ -142,7 +143,7 @@ blank_told : (m : ℕ) (classes : List Class) (spills : List Line) (rules : List
 blank_told m classes spills rules a b c = rw (a, b, c) refl
 
 pool_told : (s t : State) (n : ℕ) (ws : List (List ℕ)) (o : Option ℕ) → pool_form ws ≡ o → IsBlank s → pool_step s o ≡ Ok t → OneMore (Version ∷ Target ∷ []) t n ws
-pool_told s t n ws None v f e = absurd (refused _ _ e)
+pool_told s t n ws None v f e = absurd (err_ok _ _ e)
 pool_told s t n ws (Some m) v f e =
     rw (← ok_same _ _ _ _ refl refl e) (record { form = Pool m; says = v; more = blank_told m s.classes s.spills s.rules f.classes f.spills f.rules })
 
@@ -154,7 +155,7 @@ class_pushed m classes c spills rules a b =
 
 class_told : (s t : State) (n : ℕ) (ws : List (List ℕ)) (name : List ℕ) (k : Kind) (o : Option ℕ) → ws ≡ codes "class" ∷ name ∷ kind_words k → IsDeclaring s → s.stage ≡ stage.Classes
     → new_class s name k o ≡ Ok t → OneMore (telling (content_of s)) t n ws
-class_told s t n ws name k (Some i) w d g e = absurd (refused _ _ e)
+class_told s t n ws name k (Some i) w d g e = absurd (err_ok _ _ e)
 class_told s t n ws name k None w d g e =
     let c : Class = record { name = name; kind = k } in
     rw (← ok_same _ _ _ _ refl refl e) (record { form = Declares c; says = w; more = rw g (class_pushed s.pool s.classes c s.spills s.rules d.spills d.rules) })
@@ -187,16 +188,16 @@ spill_told s t n ws x w ps a b c d r e =
 
 spill_pieces_told : (s t : State) (n : ℕ) (ws : List (List ℕ)) (x : Saved × List (List ℕ)) (w : List ℕ) (o : Option (List Piece)) → ws ≡ saved_words x.0 ++ x.1 → saved_number x.0
     ≡ length s.spills → text_of x.1 ≡ Some w → pieces w ≡ o → s.rules ≡ [] → spill_pieces s n o ≡ Ok t → OneMore (telling (content_of s)) t n ws
-spill_pieces_told s t n ws x w None a b c d r e = absurd (refused _ _ e)
+spill_pieces_told s t n ws x w None a b c d r e = absurd (err_ok _ _ e)
 spill_pieces_told s t n ws x w (Some ps) a b c d r e = spill_told s t n ws x w ps a b c d r e
 
 spill_text_told : (s t : State) (n : ℕ) (ws : List (List ℕ)) (x : Saved × List (List ℕ)) (o : Option (List ℕ)) → ws ≡ saved_words x.0 ++ x.1 → saved_number x.0 ≡ length s.spills
     → text_of x.1 ≡ o → s.rules ≡ [] → spill_text s n o ≡ Ok t → OneMore (telling (content_of s)) t n ws
-spill_text_told s t n ws x None a b c r e = absurd (refused _ _ e)
+spill_text_told s t n ws x None a b c r e = absurd (err_ok _ _ e)
 spill_text_told s t n ws x (Some w) a b c r e = spill_pieces_told s t n ws x w _ a b c refl r e
 
 spill_line_told : (s t : State) (n : ℕ) (ws : List (List ℕ)) (o : Option (Saved × List (List ℕ))) → spill_form ws ≡ o → s.rules ≡ [] → spill_line s n o ≡ Ok t → OneMore (telling (content_of s)) t n ws
-spill_line_told s t n ws None v r e = absurd (refused _ _ e)
+spill_line_told s t n ws None v r e = absurd (err_ok _ _ e)
 spill_line_told s t n ws (Some x) v r e =
     let a = unless (eqb (saved_number x.0) (length s.spills)) _ _ t e in
     let b = unless (has_stmt s.classes) _ _ t a.1 in
@@ -212,7 +213,7 @@ class_line_told s t n ws (Some x) v d g e =
 -- a rule's head
 sort_told : (s t : State) (n : ℕ) (ws : List (List ℕ)) (left : ℕ) (right : List Sym) (z : Bool) (o : Option Sort) → ws
     ≡ codes "rule" ∷ name_at s.classes left ∷ codes ":" ∷ map (symbol_word s.classes) right → sort_step s left right z o ≡ Ok t → OneMore (telling (content_of s)) t n ws
-sort_told s t n ws left right z None w e = absurd (refused _ _ e)
+sort_told s t n ws left right z None w e = absurd (err_ok _ _ e)
 sort_told s t n ws left right z (Some sort) w e =
     let a = when (is_bare s.classes right) _ _ t e in
     let b = unless (walk (sorted_test s.classes) (sort ∷ []) right) _ _ t a.1 in
@@ -220,7 +221,7 @@ sort_told s t n ws left right z (Some sort) w e =
 
 right_told : (s t : State) (n : ℕ) (ws ss : List (List ℕ)) (left : ℕ) (z : Bool) (o : Option (List Sym)) → ws ≡ codes "rule" ∷ name_at s.classes left ∷ codes ":" ∷ ss
     → symbols_of s.classes ss ≡ o → right_step s left z o ≡ Ok t → OneMore (telling (content_of s)) t n ws
-right_told s t n ws ss left z None w f e = absurd (refused _ _ e)
+right_told s t n ws ss left z None w f e = absurd (err_ok _ _ e)
 right_told s t n ws ss left z (Some right) w f e =
     let a = unless (count 1 right) _ _ t e in
     let k = ap (λ (x : List (List ℕ)). codes "rule" ∷ name_at s.classes left ∷ codes ":" ∷ x) (sym (symbols_named s.classes ss right f)) in
@@ -228,13 +229,13 @@ right_told s t n ws ss left z (Some right) w f e =
 
 left_told : (s t : State) (n : ℕ) (ws ss : List (List ℕ)) (class : List ℕ) (z : Bool) (o : Option ℕ) → ws ≡ codes "rule" ∷ class ∷ codes ":" ∷ ss → class_of s.classes class ≡ o
     → left_step s z ss o ≡ Ok t → OneMore (telling (content_of s)) t n ws
-left_told s t n ws ss class z None w f e = absurd (refused _ _ e)
+left_told s t n ws ss class z None w f e = absurd (err_ok _ _ e)
 left_told s t n ws ss class z (Some left) w f e =
     let k = ap (λ (x : List ℕ). codes "rule" ∷ x ∷ codes ":" ∷ ss) (sym (class_named s.classes class left f)) in
     right_told s t n ws ss left z _ (w ∙ k) refl e
 
 rule_told : (s t : State) (n : ℕ) (ws : List (List ℕ)) (z : Bool) (o : Option (List ℕ × List (List ℕ))) → rule_form ws ≡ o → rule_line s z o ≡ Ok t → OneMore (telling (content_of s)) t n ws
-rule_told s t n ws z None v e = absurd (refused _ _ e)
+rule_told s t n ws z None v e = absurd (err_ok _ _ e)
 rule_told s t n ws z (Some x) v e =
     let a = when (nat_le 1000 (length s.rules)) _ _ t e in
     let b = unless (nat_le (length x.1) 16) _ _ t a.1 in
@@ -269,7 +270,7 @@ if_told s t n ws r v g e =
 
 do_pieces_told : (s t : State) (n : ℕ) (ws rest : List (List ℕ)) (w : List ℕ) (o : Option (List Piece)) → ws ≡ codes "do" ∷ rest → text_of rest ≡ Some w → pieces w ≡ o → s.stage
     ≡ stage.Template → do_pieces s n o ≡ Ok t → OneMore (told_at stage.Template s) t n ws
-do_pieces_told s t n ws rest w None a b c g e = absurd (refused _ _ e)
+do_pieces_told s t n ws rest w None a b c g e = absurd (err_ok _ _ e)
 do_pieces_told s t n ws rest w (Some ps) a b c g e =
     let q = unless (line_fits s.register s.right ps) _ _ t e in
     rw (← ok_same _ _ _ _ refl refl q.1) (record {
@@ -280,7 +281,7 @@ do_pieces_told s t n ws rest w (Some ps) a b c g e =
 
 do_told : (s t : State) (n : ℕ) (ws rest : List (List ℕ)) (o : Option (List ℕ)) → ws ≡ codes "do" ∷ rest → text_of rest ≡ o → s.stage ≡ stage.Template → do_text s n o ≡ Ok t
     → OneMore (told_at stage.Template s) t n ws
-do_told s t n ws rest None a b g e = absurd (refused _ _ e)
+do_told s t n ws rest None a b g e = absurd (err_ok _ _ e)
 do_told s t n ws rest (Some w) a b g e =
     let q = when (nat_le 8 (length s.lines)) _ _ t e in
     do_pieces_told s t n ws rest w _ a b refl g q.1
@@ -302,7 +303,7 @@ given_told s n ws w g a b =
 
 shape_told : (s t : State) (n : ℕ) (ws : List (List ℕ)) (w : List ℕ) (o : Option (List Piece)) → ws ≡ codes "give" ∷ w ∷ [] → plain_give w ≡ None → pieces w ≡ o → shape_step s n o ≡ Ok t
     → OneMore (told_at stage.Template s) t n ws
-shape_told s t n ws w None a b c e = absurd (refused _ _ e)
+shape_told s t n ws w None a b c e = absurd (err_ok _ _ e)
 shape_told s t n ws w (Some ps) a b c e =
     let p = unless (pieces_fit false s.right ps) _ _ t e in
     let q = unless (shape_fits s.classes s.right (kind_at s.classes s.left) ps) _ _ t p.1 in
@@ -316,7 +317,7 @@ give_told s t n ws w (Some g) a b e =
     rw (← ok_same _ _ _ _ refl refl p.1) (given_told s n ws w g a (plain_word n w g b))
 
 give_line_told : (s t : State) (n : ℕ) (ws : List (List ℕ)) (o : Option (List ℕ)) → give_form ws ≡ o → give_line s n o ≡ Ok t → OneMore (told_at stage.Template s) t n ws
-give_line_told s t n ws None v e = absurd (refused _ _ e)
+give_line_told s t n ws None v e = absurd (err_ok _ _ e)
 give_line_told s t n ws (Some w) v e = give_told s t n ws w _ (give_line_is ws w v) refl e
 
 do_line_told : (s t : State) (n : ℕ) (ws : List (List ℕ)) (o : Option (List (List ℕ))) → do_form ws ≡ o → s.stage ≡ stage.Template → do_line s n o ws ≡ Ok t → OneMore (told_at stage.Template s) t n ws
@@ -348,21 +349,21 @@ record TheRest (before : List Form) (xs : List (ℕ × List (List ℕ))) (d : Co
   valid : IsValid d
 
 neither : (b : Bool) (x y : ℕ × DescKind) (d : Content) → cond b (Err x) (Err y) ≡ Ok d → ⊥
-neither true x y d e = refused x d e
-neither false x y d e = refused y d e
+neither true x y d e = err_ok x d e
+neither false x y d e = err_ok y d e
 
 end_told : (g : Stage) (n : ℕ) (s : State) (d : Content) → s.stage ≡ g → IsFine s [] → ended_at g n s ≡ Ok d → TheRest (told_at g s) [] d
-end_told stage.Version n s d g h e = absurd (refused _ _ e)
-end_told stage.Target n s d g h e = absurd (refused _ _ e)
-end_told stage.Pool n s d g h e = absurd (refused _ _ e)
+end_told stage.Version n s d g h e = absurd (err_ok _ _ e)
+end_told stage.Target n s d g h e = absurd (err_ok _ _ e)
+end_told stage.Pool n s d g h e = absurd (err_ok _ _ e)
 end_told stage.Classes n s d g h e = absurd (neither (has_stmt s.classes) _ _ d e)
 end_told stage.Spills n s d g h e = absurd (neither (nat_le (length s.spills) 6) _ _ d e)
 end_told stage.Rules n s d g h e = at (nat_le 1 (length s.rules)) refl e
   where
     at : (b : Bool) → nat_le 1 (length s.rules) ≡ b → cond {A = Result Content (ℕ × DescKind)} b (Ok (content_of s)) (Err (n, kinds.MissingRule)) ≡ Ok d → TheRest (told_at stage.Rules s) [] d
     at true f e = rw (← ok_same _ _ _ _ refl refl e) (record { forms = []; tell = tt; whole = append-nil (telling (content_of s)); valid = is_valid s g (leb-true 1 (length s.rules) f) h })
-    at false f e = absurd (refused _ _ e)
-end_told stage.Template n s d g h e = absurd (refused _ _ e)
+    at false f e = absurd (err_ok _ _ e)
+end_told stage.Template n s d g h e = absurd (err_ok _ _ e)
 
 from_told : (n : ℕ) (s : State) (ls : List (List ℕ)) (d : Content) → IsFine s ls → read_from n s ls ≡ Ok d → TheRest (told_at s.stage s) (numbered n ls) d
 from_told n s [] d h e = end_told s.stage n s d refl h e
@@ -380,7 +381,7 @@ from_told n s (l ∷ ls) d h e = at (is_skipped (words l)) refl e (λ t k f. fro
     took : (r : Result State DescKind) → ((t : State) → r ≡ Ok t → IsFine t ls) → ((t : State) → r ≡ Ok t → OneMore (told_at s.stage s) t n (words l))
         → ((t : State) → IsFine t ls → read_from (n + 1) t ls ≡ Ok d → TheRest (told_at t.stage t) (numbered (n + 1) ls) d) → taken n r (λ (t : State). read_from (n + 1) t ls) ≡ Ok d
         → TheRest (told_at s.stage s) ((n, words l) ∷ numbered (n + 1) ls) d
-    took (Err x) fine told go e = absurd (refused _ _ e)
+    took (Err x) fine told go e = absurd (err_ok _ _ e)
     took (Ok t) fine told go e = longer t (told t refl) (go t (fine t refl) e)
 
     at : (b : Bool) → is_skipped (words l) ≡ b → taken n (cond b (Ok s) (step_at s.stage s n (words l) (register_behind ls))) (λ (t : State). read_from (n + 1) t ls) ≡ Ok d

@@ -6,6 +6,7 @@ use Rattle.std.specs.Result.{OnOk}
 use Rattle.std.specs.Option.{option_map}
 use Rattle.std.proofs.lemmas.Option.{none-some, same_Some, option_and_then_some}
 use Rattle.std.proofs.lemmas.Bool.{eqb-true, eqb-false, leb-true, leb-false, false≢true}
+use Rattle.gg_base.proofs.Facts.{err_ok}
 use Rattle.md_reader_text.specs.Words.{same, words}
 use Rattle.md_reader_pieces.specs.declared.piece.Piece.{Piece}
 use Rattle.md_reader_pieces.specs.declared.piece.Line.{Line}
@@ -40,7 +41,7 @@ use Rattle.md_reader.specs.View.{Stepped}
 use Rattle.md_reader.specs.Valid.{Away, Apart, IsNamed, IsPool, IsSpill, AreSides, MayRestrict, MayWrite, IsTemplate, MayGive, IsRule, IsValid}
 use Rattle.md_reader.specs.Fine.{IsBlank, IsDeclaring, IsWhole, IsInRule, StageFact, IsFine}
 use Rattle.md_reader.proofs.PatternLaws.{tree_exactly, sorted_there}
-use Rattle.md_reader.proofs.Inversion.{when, unless, refused, ok_same, same_refl, All-push}
+use Rattle.md_reader.proofs.Inversion.{when, unless, ok_same, same_refl, All-push}
 use Rattle.md_reader.proofs.FormLaws.{class_line_is, if_line_is, do_line_is, give_line_is, pool_is}
 
 away : (i : ℕ) (cs : List Class) (w : List ℕ) → class_from i cs w ≡ None → Away w cs
@@ -62,7 +63,7 @@ Apart-push (b ∷ cs) c h a = (Away-push b.name cs c h.0 a.0, Apart-push cs c h.
 -- a class that is not declared yet
 class_kept : (s t : State) (xs ls : List (List ℕ)) (name : List ℕ) (k : Kind) (o : Option ℕ) → is_name name ≡ true → IsDeclaring s → s.stage ≡ stage.Classes → IsFine s xs
     → nat_le 64 (length s.classes) ≡ false → class_of s.classes name ≡ o → new_class s name k o ≡ Ok t → IsFine t ls
-class_kept s t xs ls name k (Some i) n d g h le f e = absurd (refused _ _ e)
+class_kept s t xs ls name k (Some i) n d g h le f e = absurd (err_ok _ _ e)
 class_kept s t xs ls name k None n d g h le f e =
     let c : Class = record { name = name; kind = k } in
     let lt = leb-false 64 (length s.classes) le in
@@ -105,15 +106,15 @@ saved_kept s t xs ls n ps m st h e =
         record { pool = m.pool; stmt = st; some = omega (arith, l); few = omega (arith, l, k); rules = m.rules }
 
 spill_pieces_kept : (s t : State) (xs ls : List (List ℕ)) (n : ℕ) (o : Option (List Piece)) → MaySave s → has_stmt s.classes ≡ true → IsFine s xs → spill_pieces s n o ≡ Ok t → IsFine t ls
-spill_pieces_kept s t xs ls n None m st h e = absurd (refused _ _ e)
+spill_pieces_kept s t xs ls n None m st h e = absurd (err_ok _ _ e)
 spill_pieces_kept s t xs ls n (Some ps) m st h e = saved_kept s t xs ls n ps m st h e
 
 spill_text_kept : (s t : State) (xs ls : List (List ℕ)) (n : ℕ) (o : Option (List ℕ)) → MaySave s → has_stmt s.classes ≡ true → IsFine s xs → spill_text s n o ≡ Ok t → IsFine t ls
-spill_text_kept s t xs ls n None m st h e = absurd (refused _ _ e)
+spill_text_kept s t xs ls n None m st h e = absurd (err_ok _ _ e)
 spill_text_kept s t xs ls n (Some w) m st h e = spill_pieces_kept s t xs ls n (pieces w) m st h e
 
 spill_kept : (s t : State) (xs ls : List (List ℕ)) (n : ℕ) (o : Option (Saved × List (List ℕ))) → MaySave s → IsFine s xs → spill_line s n o ≡ Ok t → IsFine t ls
-spill_kept s t xs ls n None m h e = absurd (refused _ _ e)
+spill_kept s t xs ls n None m h e = absurd (err_ok _ _ e)
 spill_kept s t xs ls n (Some x) m h e =
     let a = unless (eqb (saved_number x.0) (length s.spills)) _ _ t e in
     let b = unless (has_stmt s.classes) _ _ t a.1 in
@@ -142,7 +143,7 @@ as_many classes (w ∷ ws) right e =
 
 sides_kept : (s t : State) (xs ls : List (List ℕ)) (left : ℕ) (right : List Sym) (o : Option Sort) → sort_of_symbol s.classes (grammar_symbol.Class left) ≡ o → length right ≤ 16 → count 1 right
     ≡ true → length s.rules ≤ 999 → IsWhole s → IsFine s xs → sort_step s left right (register_behind ls) o ≡ Ok t → IsFine t ls
-sides_kept s t xs ls left right None f le c few w h e = absurd (refused _ _ e)
+sides_kept s t xs ls left right None f le c few w h e = absurd (err_ok _ _ e)
 sides_kept s t xs ls left right (Some sort) f le c few w h e =
     let a = when (is_bare s.classes right) _ _ t e in
     let b = unless (walk (sorted_test s.classes) (sort ∷ []) right) _ _ t a.1 in
@@ -170,18 +171,18 @@ sides_kept s t xs ls left right (Some sort) f le c few w h e =
 
 right_kept : (s t : State) (xs ls : List (List ℕ)) (left : ℕ) (ws : List (List ℕ)) (o : Option (List Sym)) → symbols_of s.classes ws ≡ o → length ws ≤ 16 → length s.rules ≤ 999 → IsWhole s
     → IsFine s xs → right_step s left (register_behind ls) o ≡ Ok t → IsFine t ls
-right_kept s t xs ls left ws None f le few w h e = absurd (refused _ _ e)
+right_kept s t xs ls left ws None f le few w h e = absurd (err_ok _ _ e)
 right_kept s t xs ls left ws (Some right) f le few w h e =
     let a = unless (count 1 right) _ _ t e in
     sides_kept s t xs ls left right _ refl (rw (as_many s.classes ws right f) le) a.0 few w h a.1
 
 left_kept : (s t : State) (xs ls : List (List ℕ)) (ws : List (List ℕ)) (o : Option ℕ) → length ws ≤ 16 → length s.rules ≤ 999 → IsWhole s → IsFine s xs
     → left_step s (register_behind ls) ws o ≡ Ok t → IsFine t ls
-left_kept s t xs ls ws None le few w h e = absurd (refused _ _ e)
+left_kept s t xs ls ws None le few w h e = absurd (err_ok _ _ e)
 left_kept s t xs ls ws (Some left) le few w h e = right_kept s t xs ls left ws _ refl le few w h e
 
 rule_kept : (s t : State) (xs ls : List (List ℕ)) (o : Option (List ℕ × List (List ℕ))) → IsWhole s → IsFine s xs → rule_line s (register_behind ls) o ≡ Ok t → IsFine t ls
-rule_kept s t xs ls None w h e = absurd (refused _ _ e)
+rule_kept s t xs ls None w h e = absurd (err_ok _ _ e)
 rule_kept s t xs ls (Some x) w h e =
     let a = when (nat_le 1000 (length s.rules)) _ _ t e in
     let b = unless (nat_le (length x.1) 16) _ _ t a.1 in
@@ -220,7 +221,7 @@ if_kept s t l ls r p f g h e =
 
 do_pieces_kept : (s t : State) (l : List ℕ) (ls : List (List ℕ)) (n : ℕ) (o : Option (List Piece)) → nat_le 8 (length s.lines) ≡ false → is_passed (words l) ≡ true → IsInRule s (l ∷ ls)
     → s.stage ≡ stage.Template → IsFine s (l ∷ ls) → do_pieces s n o ≡ Ok t → IsFine t ls
-do_pieces_kept s t l ls n None le p f g h e = absurd (refused _ _ e)
+do_pieces_kept s t l ls n None le p f g h e = absurd (err_ok _ _ e)
 do_pieces_kept s t l ls n (Some ps) le p f g h e =
     let a = unless (line_fits s.register s.right ps) _ _ t e in
     let lt = leb-false 8 (length s.lines) le in
@@ -246,7 +247,7 @@ do_pieces_kept s t l ls n (Some ps) le p f g h e =
 
 do_kept : (s t : State) (l : List ℕ) (ls : List (List ℕ)) (n : ℕ) (o : Option (List ℕ)) → is_passed (words l) ≡ true → IsInRule s (l ∷ ls) → s.stage ≡ stage.Template → IsFine s (l ∷ ls)
     → do_text s n o ≡ Ok t → IsFine t ls
-do_kept s t l ls n None p f g h e = absurd (refused _ _ e)
+do_kept s t l ls n None p f g h e = absurd (err_ok _ _ e)
 do_kept s t l ls n (Some w) p f g h e =
     let a = when (nat_le 8 (length s.lines)) _ _ t e in
     do_pieces_kept s t l ls n (pieces w) a.0 p f g h a.1
@@ -280,7 +281,7 @@ register_given l ls w e = rw (not_passed (words l) w (give_line_is (words l) w e
     not_passed ws w f = rw f refl
 
 shape_kept : (s t : State) (xs ls : List (List ℕ)) (n : ℕ) (o : Option (List Piece)) → s.register ≡ false → IsInRule s xs → IsFine s xs → shape_step s n o ≡ Ok t → IsFine t ls
-shape_kept s t xs ls n None q f h e = absurd (refused _ _ e)
+shape_kept s t xs ls n None q f h e = absurd (err_ok _ _ e)
 shape_kept s t xs ls n (Some ps) q f h e =
     let a = unless (pieces_fit false s.right ps) _ _ t e in
     let b = unless (shape_fits s.classes s.right (kind_at s.classes s.left) ps) _ _ t a.1 in
@@ -296,7 +297,7 @@ give_kept s t l ls n w (Some g) k v f h e =
 
 give_line_kept : (s t : State) (l : List ℕ) (ls : List (List ℕ)) (n : ℕ) (o : Option (List ℕ)) → give_form (words l) ≡ o → IsInRule s (l ∷ ls) → IsFine s (l ∷ ls) → give_line s n o ≡ Ok t
     → IsFine t ls
-give_line_kept s t l ls n None v f h e = absurd (refused _ _ e)
+give_line_kept s t l ls n None v f h e = absurd (err_ok _ _ e)
 give_line_kept s t l ls n (Some w) v f h e = give_kept s t l ls n w _ refl v f h e
 
 do_passed : (ws rest : List (List ℕ)) → do_form ws ≡ Some rest → is_passed ws ≡ true
@@ -319,7 +320,7 @@ blank_after : (s : State) (xs ls : List (List ℕ)) (g : Stage) → IsBlank s �
 blank_after s xs ls g b h f = record { classes = h.classes; spills = h.spills; few = h.few; rules = h.rules; stage = f }
 
 pool_kept : (s t : State) (xs ls : List (List ℕ)) (ws : List (List ℕ)) (o : Option ℕ) → pool_form ws ≡ o → IsBlank s → IsFine s xs → pool_step s o ≡ Ok t → IsFine t ls
-pool_kept s t xs ls ws None v f h e = absurd (refused _ _ e)
+pool_kept s t xs ls ws None v f h e = absurd (err_ok _ _ e)
 pool_kept s t xs ls ws (Some m) v f h e =
     rw (← ok_same _ _ _ _ refl refl e) (record { classes = h.classes; spills = h.spills; few = h.few; rules = h.rules; stage = record { pool = pool_is ws m v; spills = f.spills; rules = f.rules } })
 

@@ -84,10 +84,8 @@ pub fn is_tree(right: &[Sym]) -> bool
 fn put_kids(stack: &mut Vec<Sort>, kids: &[Sort]) -> Result<(), NoMemory>
     ensures { OnOk result (reverse stack.new.items ≡ kids.now ++ reverse stack.old.items) }
 {
-    let mut i = kids.len();
-    while i > 0 {
-        i -= 1;
-        stack.push(kids[i])?;
+    for kid in kids.iter().rev() {
+        stack.push(*kid)?;
     }
     Ok(())
 }

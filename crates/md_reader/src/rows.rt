@@ -181,14 +181,9 @@ fn piece_fits(register: bool, right: &[Sym], piece: &Piece) -> bool
 pub fn pieces_fit(register: bool, right: &[Sym], pieces: &[Piece]) -> bool
     ensures { result ≡ pieces_fit register right.now pieces.now }
 {
-    let mut rest = pieces;
-    while let [piece, others @ ..] = rest {
-        if !piece_fits(register, right, piece) {
-            return false;
-        }
-        rest = others;
-    }
-    true
+    pieces
+        .iter()
+        .all(|piece| piece_fits(register, right, piece))
 }
 
 fn behind_j(pieces: &[Piece]) -> Option<&[Piece]>

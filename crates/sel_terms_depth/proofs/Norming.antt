@@ -4,6 +4,7 @@ use Rattle.std.specs.Prelude.{max, nat_lt, if◌then◌else◌}
 use Rattle.std.specs.declared.cmp.Ordering.{Ordering}
 use Rattle.std.specs.declared.cmp.Ordering.TheVariants.{Less, Equal, Greater}
 use Rattle.gg_base.specs.declared.size.Size.TheVariants.{Byte, Word}
+use Rattle.gg_base.proofs.Facts.{one_up}
 use Rattle.term_core.specs.declared.facts.Fact.{Fact}
 use Rattle.term_core.specs.Facts.{has_size}
 use Rattle.term_core.specs.declared.operator.UnaryOp.{UnaryOp}
@@ -33,9 +34,6 @@ chosen : (b : Bool) (s t : Shape) (n : ℕ) → depth s ≤ n → depth t ≤ n 
 chosen true s t n h k = h
 chosen false s t n h k = k
 
-up : (m n : ℕ) → m ≤ n → m ≤ 1 + n
-up m n h = omega (arith, h)
-
 neg_depth : (t : Shape) → depth (make_neg t) ≤ 1 + depth t
 neg_depth (Constant n) = omega arith
 neg_depth (Unary Neg t) = omega arith
@@ -48,30 +46,30 @@ com_depth t = omega arith
 
 zx8_depth : (facts : List Fact) (t : Shape) → depth (make_zx8 facts t) ≤ 1 + depth t
 zx8_depth facts (Constant n) = omega arith
-zx8_depth facts (Unary Zx8 t) = up _ _ (zx8_depth facts t)
-zx8_depth facts (Unary Sx8 t) = up _ _ (zx8_depth facts t)
+zx8_depth facts (Unary Zx8 t) = one_up _ _ (zx8_depth facts t)
+zx8_depth facts (Unary Sx8 t) = one_up _ _ (zx8_depth facts t)
 zx8_depth facts (Symbol i) = chosen (has_size facts i Byte) _ _ 2 (omega arith) (omega arith)
 zx8_depth facts (Memory Byte a) = omega arith
 zx8_depth facts t = omega arith
 
 zx16_depth : (facts : List Fact) (t : Shape) → depth (make_zx16 facts t) ≤ 1 + depth t
 zx16_depth facts (Constant n) = omega arith
-zx16_depth facts (Unary Zx16 t) = up _ _ (zx16_depth facts t)
-zx16_depth facts (Unary Sx16 t) = up _ _ (zx16_depth facts t)
+zx16_depth facts (Unary Zx16 t) = one_up _ _ (zx16_depth facts t)
+zx16_depth facts (Unary Sx16 t) = one_up _ _ (zx16_depth facts t)
 zx16_depth facts (Symbol i) = chosen (has_size facts i Word) _ _ 2 (omega arith) (omega arith)
 zx16_depth facts (Memory Word a) = omega arith
 zx16_depth facts t = omega arith
 
 sx8_depth : (t : Shape) → depth (make_sx8 t) ≤ 1 + depth t
 sx8_depth (Constant n) = omega arith
-sx8_depth (Unary Sx8 t) = up _ _ (sx8_depth t)
-sx8_depth (Unary Zx8 t) = up _ _ (sx8_depth t)
+sx8_depth (Unary Sx8 t) = one_up _ _ (sx8_depth t)
+sx8_depth (Unary Zx8 t) = one_up _ _ (sx8_depth t)
 sx8_depth t = omega arith
 
 sx16_depth : (t : Shape) → depth (make_sx16 t) ≤ 1 + depth t
 sx16_depth (Constant n) = omega arith
-sx16_depth (Unary Sx16 t) = up _ _ (sx16_depth t)
-sx16_depth (Unary Zx16 t) = up _ _ (sx16_depth t)
+sx16_depth (Unary Sx16 t) = one_up _ _ (sx16_depth t)
+sx16_depth (Unary Zx16 t) = one_up _ _ (sx16_depth t)
 sx16_depth t = omega arith
 
 unary_depth : (facts : List Fact) (op : UnaryOp) (t : Shape) → depth (make_unary facts op t) ≤ 1 + depth t

@@ -6,6 +6,7 @@ use Rattle.std.proofs.lemmas.Option.{none-some, same_Some}
 use Rattle.gg_base.specs.declared.size.Size.{Size}
 use Rattle.gg_base.specs.declared.size.Size.TheVariants.{Long}
 use Rattle.gg_base.specs.Sizes.{bytes_of}
+use Rattle.gg_base.proofs.Facts.{the_number}
 use Rattle.tree_core.specs.declared.token.Tok.{Tok}
 use Rattle.tree_core.specs.declared.token.Tok.TheVariants as tok
 use Rattle.tree_core.specs.declared.tree.Att.{Att}
@@ -45,7 +46,7 @@ use Rattle.sel_toy_machine.specs.Filling.{some_operand, based, shaped, operand_f
 use Rattle.sel_toy_machine.specs.Running.{run}
 use Rattle.sel_toy_machine.proofs.Spelled.{own_is}
 use Rattle.sel_target.proofs.AreaBytes.{fetched_is}
-use Rattle.sel_toy_machine.proofs.Sources.{the, symbol_value, size_suc, filled_at, numbered}
+use Rattle.sel_toy_machine.proofs.Sources.{symbol_value, size_suc, filled_at, numbered}
 use Rattle.sel_toy_machine.proofs.Kept.{unchanged}
 use Rattle.sel_toy_machine.proofs.Taken.{Taken, by_line, by_shape, where_is, taken_by, shape_gives_none, shape_gives_register}
 use Rattle.sel_toy_machine.specs.Toy.{toy}
@@ -110,7 +111,7 @@ some_there None test none e = absurd (false≢true (sym none ∙ e))
 some_there (Some x) test none e = refl
 
 module _ (classes : List Class) (right : List Sym) (hs : List (Attr Operand)) (fit : Fit toy classes right hs) where
-  -- the hole of a register's symbol
+  -- the_number hole of a register's symbol
   pub register_hole : (i : ℕ) → holds_register classes (symbol right i) ≡ true → (r : ℕ) × (hole hs i ≡ Some (attr.Reg r))
   register_hole zero e = absurd (false≢true e)
   register_hole (suc j) e =
@@ -118,7 +119,7 @@ module _ (classes : List Class) (right : List Sym) (hs : List (Attr Operand)) (f
       let s = symbol_register classes n.symbol n.attribute (subst (λ o. holds_register classes o ≡ true) n.there e) n.fits in
       (s.0, n.at ∙ ap Some s.1)
 
-  -- the hole of a symbol that is a place has an operand that is one
+  -- the_number hole of a symbol that is a place has an operand that is one
   pub record Home (i : ℕ) : Type 0 where
     pub attribute : Attr Operand
     pub operand_is : Operand
@@ -225,7 +226,7 @@ module _ (classes : List Class) (right : List Sym) (hs : List (Attr Operand)) (f
       let p = home_place size n.symbol n.attribute (subst (λ o. is_home classes size o ≡ true) n.there e) n.fits in
       record { attribute = n.attribute; operand_is = p.operand_is; at = n.at; own = p.own; place = p.place }
 
-  -- the operand of a shape over a register, and of one that is a place
+  -- the_number operand of a shape over a register, and of one that is a place
   pub based_is : (q : TreeProgram) (i : ℕ) → (e : holds_register classes (symbol right i) ≡ true) → shaped q (shape_form.Based i) hs ≡ operand.Based (register_hole i e).0
   based_is q i e = ap (λ o. based (some_operand q o)) (register_hole i e).1
 
@@ -272,10 +273,10 @@ act_of x y e = ap (λ (w : EffectShape). w.act) e
 
 module _ (q : TreeProgram) (f : Extent) (fs : List Extent) (classes : List Class) (rule : Rule) (e : EffectShape) (hs : List (Attr Operand)) (v : View) (m : Machine)
     (inst : Instance toy true q f fs classes rule e hs v m) where
-  -- the register of a symbol that has a number holds it
+  -- the_number register of a symbol that has a number holds it
   pub register_holds : (i r : ℕ) → IsSome (v.symbol i) → hole hs i ≡ Some (attr.Reg r) → size_at classes rule.right i ≡ Long → long (in_register m r) ≡ value v (Symbol i)
   register_holds i r some at size =
-      let n = the (v.symbol i) some in
+      let n = the_number (v.symbol i) some in
       let small = subst (λ z. n.0 < 2 ^ (8 * bytes_of z)) size (inst.small i n.0 n.1) in
       let is = subst (λ z. worth toy q z (attr.Reg r) m ≡ Some n.0) size (inst.values i n.0 (attr.Reg r) at n.1) in
       same_Some (long (in_register m r)) n.0 is ∙ sym (symbol_value v i n.0 Long n.1 small)

@@ -7,6 +7,7 @@ use Rattle.gg_base.specs.declared.size.Size.{Size}
 use Rattle.gg_base.specs.declared.size.Size.TheVariants.{Byte, Word as Halfword, Long}
 use Rattle.gg_base.specs.Sizes.{bytes_of}
 use Rattle.gg_base.proofs.Words.{low_long}
+use Rattle.gg_base.proofs.Facts.{the_number}
 use Rattle.tree_core.specs.declared.token.Tok.{Tok}
 use Rattle.tree_core.specs.declared.tree.Att.{Att}
 use Rattle.tree_core.specs.declared.tree.Att.TheVariants as att
@@ -47,11 +48,7 @@ same_size Long Byte e = absurd (false≢true e)
 same_size Long Halfword e = absurd (false≢true e)
 same_size Long Long e = refl
 
-pub the : (o : Option ℕ) → IsSome o → (x : ℕ) × (o ≡ Some x)
-the None h = absurd (false≢true h)
-the (Some x) h = (x, refl)
-
--- the view's number of a symbol is its value as a term
+-- the_number view's number of a symbol is its value as a term
 pub symbol_value : (v : View) (i x : ℕ) (size : Size) → v.symbol i ≡ Some x → x < 2 ^ (8 * bytes_of size) → value v (Symbol i) ≡ x
 symbol_value v i x size e lt = ap (λ o. unwrap_or o 0 % 2 ^ 32) e ∙ low_long size x lt
 
@@ -124,7 +121,7 @@ attr_taken q attr.Nothing size x m long e lt = absurd (none-some x e)
 
 module _ (every : Bool) (q : TreeProgram) (f : Extent) (fs : List Extent) (classes : List Class) (rule : Rule) (e : EffectShape) (hs : List (Attr Operand)) (v : View) (m : Machine)
     (inst : Instance toy every q f fs classes rule e hs v m) where
-  -- the hole of a symbol with its number
+  -- the_number hole of a symbol with its number
   pub record Numbered (size : Size) (i : ℕ) : Type 0 where
     pub number : ℕ
     pub index : ℕ
@@ -139,7 +136,7 @@ module _ (every : Bool) (q : TreeProgram) (f : Extent) (fs : List Extent) (class
   numbered size (suc j) sized some =
       let b = and_parts (is_some (slice_get rule.right j)) (bytes_of (size_at classes rule.right (suc j)) == bytes_of size) sized in
       let z = same_size (size_at classes rule.right (suc j)) size b.1 in
-      let n = the (v.symbol (suc j)) some in
+      let n = the_number (v.symbol (suc j)) some in
       record {
         number = n.0;
         index = j;

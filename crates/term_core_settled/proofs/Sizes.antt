@@ -4,6 +4,7 @@ use Rattle.std.specs.Prelude.{nat_lt, if◌then◌else◌}
 use Rattle.std.specs.declared.cmp.Ordering.{Ordering}
 use Rattle.std.specs.declared.cmp.Ordering.TheVariants.{Less, Equal, Greater}
 use Rattle.gg_base.specs.declared.size.Size.TheVariants.{Byte, Word}
+use Rattle.gg_base.proofs.Facts.{one_up}
 use Rattle.term_core.specs.declared.facts.Fact.{Fact}
 use Rattle.term_core.specs.Facts.{has_size}
 use Rattle.term_core.specs.declared.operator.UnaryOp.TheVariants.{Neg, Zx8, Zx16, Sx8, Sx16}
@@ -23,9 +24,6 @@ chosen : (b : Bool) (s t : Shape) (n : ℕ) → size_of s ≤ n → size_of t �
 chosen true s t n h k = h
 chosen false s t n h k = k
 
-up : (m n : ℕ) → m ≤ n → m ≤ 1 + n
-up m n h = omega (arith, h)
-
 pub neg_size : (t : Shape) → size_of (make_neg t) ≤ 1 + size_of t
 neg_size (Constant n) = omega arith
 neg_size (Unary Neg t) = omega arith
@@ -33,30 +31,30 @@ neg_size t = omega arith
 
 pub zx8_size : (facts : List Fact) (t : Shape) → size_of (make_zx8 facts t) ≤ 1 + size_of t
 zx8_size facts (Constant n) = omega arith
-zx8_size facts (Unary Zx8 t) = up _ _ (zx8_size facts t)
-zx8_size facts (Unary Sx8 t) = up _ _ (zx8_size facts t)
+zx8_size facts (Unary Zx8 t) = one_up _ _ (zx8_size facts t)
+zx8_size facts (Unary Sx8 t) = one_up _ _ (zx8_size facts t)
 zx8_size facts (Symbol i) = chosen (has_size facts i Byte) _ _ 2 (omega arith) (omega arith)
 zx8_size facts (Memory Byte a) = omega arith
 zx8_size facts t = omega arith
 
 pub zx16_size : (facts : List Fact) (t : Shape) → size_of (make_zx16 facts t) ≤ 1 + size_of t
 zx16_size facts (Constant n) = omega arith
-zx16_size facts (Unary Zx16 t) = up _ _ (zx16_size facts t)
-zx16_size facts (Unary Sx16 t) = up _ _ (zx16_size facts t)
+zx16_size facts (Unary Zx16 t) = one_up _ _ (zx16_size facts t)
+zx16_size facts (Unary Sx16 t) = one_up _ _ (zx16_size facts t)
 zx16_size facts (Symbol i) = chosen (has_size facts i Word) _ _ 2 (omega arith) (omega arith)
 zx16_size facts (Memory Word a) = omega arith
 zx16_size facts t = omega arith
 
 pub sx8_size : (t : Shape) → size_of (make_sx8 t) ≤ 1 + size_of t
 sx8_size (Constant n) = omega arith
-sx8_size (Unary Sx8 t) = up _ _ (sx8_size t)
-sx8_size (Unary Zx8 t) = up _ _ (sx8_size t)
+sx8_size (Unary Sx8 t) = one_up _ _ (sx8_size t)
+sx8_size (Unary Zx8 t) = one_up _ _ (sx8_size t)
 sx8_size t = omega arith
 
 pub sx16_size : (t : Shape) → size_of (make_sx16 t) ≤ 1 + size_of t
 sx16_size (Constant n) = omega arith
-sx16_size (Unary Sx16 t) = up _ _ (sx16_size t)
-sx16_size (Unary Zx16 t) = up _ _ (sx16_size t)
+sx16_size (Unary Sx16 t) = one_up _ _ (sx16_size t)
+sx16_size (Unary Zx16 t) = one_up _ _ (sx16_size t)
 sx16_size t = omega arith
 
 -- What comes of a constant that is added to a term: a constant, a sum, or what is no larger than the term.

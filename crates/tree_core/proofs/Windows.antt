@@ -3,6 +3,7 @@ use Rattle.std.proofs.Common.{◌≡◌, ◌⊎◌, inl, inr, ⊎_elim, min, ℕ
 use Rattle.std.proofs.Common.{Option, Some, None, arith, replicate, get_or}
 use Rattle.std.specs.Prelude.{nat_le, is_some}
 use Rattle.std.proofs.lemmas.Bool.{eqb-true, eq-eqb, le-leb, leb-true, leb-false, lt-ltb, cases_lt, both_ways, or_cases}
+use Rattle.gg_base.proofs.Facts.{unguarded}
 use Rattle.tree_core.specs.Window.{covers, added, added_all, met_once, all_met, lesser, better, least}
 use Rattle.tree_core.specs.Items.{times}
 
@@ -50,14 +51,10 @@ once_step base h m ms n cov new rest =
     other : eqb m n ≡ false → (h n ≡ true → 0 + times n ms ≡ 0) × (0 + times n ms ≤ 1)
     other e = ((λ q. let none = rest.0 (added_before base h m n q) in omega (arith, none)), omega (arith, rest.1))
 
-guard : {A : Type 0} (b : Bool) (o : Option A) (x : A) → cond b None o ≡ Some x → (b ≡ false) × (o ≡ Some x)
-guard true o x e = absurd cc
-guard false o x e = (refl, e)
-
 pub once : (base : ℕ) (h g : ℕ → Bool) (ns : List ℕ) → met_once base h ns ≡ Some g → (n : ℕ) → covers base n ≡ true → StandsOnce base h ns n
 once base h g [] e n cov = ((λ q. refl), omega arith)
 once base h g (m ∷ ms) e n cov =
-    let q = guard (h m) (met_once base (added base h m) ms) g e in
+    let q = unguarded (h m) (met_once base (added base h m) ms) g e in
     once_step base h m ms n cov q.0 (once base (added base h m) g ms q.1 n cov)
 
 -- some number stands again

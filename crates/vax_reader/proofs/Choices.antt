@@ -1,5 +1,5 @@
 -- What a reading found, taken apart.
-use Rattle.std.proofs.Common.{◌≡◌, Bool, true, false, cond, Option, Some, None, refl}
+use Rattle.std.proofs.Common.{◌≡◌, Option, Some, None, refl}
 use Rattle.std.specs.Option.{option_map}
 use Rattle.std.proofs.lemmas.Option.{none-some, same_Some}
 use Rattle.vax_reader.specs.Fronts.{either}
@@ -11,7 +11,3 @@ either_some None f other y e found none = none e
 pub map_some : {A B P : Type 0} (f : A → B) (o : Option A) (y : B) → option_map f o ≡ Some y → ((x : A) → o ≡ Some x → f x ≡ y → P) → P
 map_some f None y e k = absurd (none-some y e)
 map_some f (Some x) y e k = k x refl (same_Some (f x) y e)
-
-pub unless : {A : Type 0} (b : Bool) (o : Option A) (y : A) → cond b None o ≡ Some y → (b ≡ false) × (o ≡ Some y)
-unless true o y e = absurd (none-some y e)
-unless false o y e = (refl, e)

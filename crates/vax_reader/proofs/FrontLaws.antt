@@ -11,10 +11,10 @@ use Rattle.std.proofs.lemmas.List.{take_at, drop_at, take-append-drop}
 use Rattle.std.proofs.lemmas.Option.{none-some, same_Some, some_pair_parts, option_and_then_some, cond_some}
 use Rattle.std.proofs.lemmas.Str.Parse.{IsNumeralModel, numerals_by_value, tells_all_ascii_digits}
 use Rattle.std.proofs.lemmas.Fmt.{digits_decimal, digits_value-decimal, decimal-digits_value, decimal_digit, first_decimal, decimal_nonempty}
-use Rattle.gg_base.proofs.Facts.{guarded}
+use Rattle.gg_base.proofs.Facts.{guarded, unguarded}
 use Rattle.vax_core.specs.Text.{signed_text, offset_text}
 use Rattle.vax_reader.specs.Fronts.{strip, run_len, is_padded, number_of, number_front, at_most, at_least, up_to, from_one, below_zero, minus_front, signed_front, offset_front}
-use Rattle.vax_reader.proofs.Choices.{either_some, map_some, unless}
+use Rattle.vax_reader.proofs.Choices.{either_some, map_some}
 
 -- words
 
@@ -73,8 +73,8 @@ number_of_takes : (ds rest : List ℕ) (n : ℕ) (after : List ℕ) → all_asci
 number_of_takes [] rest n after all e = absurd (none-some (n, after) e)
 number_of_takes (d ∷ ds) rest n after all e =
     let v = digits_value 10 (d ∷ ds) in
-    let a = unless (is_padded (d ∷ ds)) (cond (ltb (2 ^ 31) v) None (Some (v, rest))) (n, after) e in
-    let b = unless (ltb (2 ^ 31) v) (Some (v, rest)) (n, after) a.1 in
+    let a = unguarded (is_padded (d ∷ ds)) (cond (ltb (2 ^ 31) v) None (Some (v, rest))) (n, after) e in
+    let b = unguarded (ltb (2 ^ 31) v) (Some (v, rest)) (n, after) a.1 in
     let p = some_pair_parts v n rest after b.1 in
     let small : v ≤ 2 ^ 31 = ltb-false (2 ^ 31) v b.0 in
     let spelled : decimal v ≡ d ∷ ds = decimal-digits_value own (d ∷ ds) all (omega arith) (plain_front d ds a.0) (omega arith) in

@@ -6,6 +6,7 @@ use Rattle.std.specs.Str.{bytes_eq}
 use Rattle.std.proofs.lemmas.Bool.{eqb-true, false_from_ne_true, true≢false}
 use Rattle.std.proofs.lemmas.List.{length-take-le}
 use Rattle.std.proofs.lemmas.Slice.Eq.{bytes_eq-Decides}
+use Rattle.gg_base.proofs.Facts.{same_tail}
 use Rattle.tree_core.specs.declared.tree.Att.TheVariants as att
 use Rattle.tree_core.specs.declared.program.TreeFn.{TreeFn}
 use Rattle.tree_core.specs.declared.program.TreeProgram.{TreeProgram}
@@ -56,9 +57,6 @@ callee_first (h ∷ hs) function count e =
     ap (λ x. first_callee (callee_in x) (callee_among hs)) t.1 ∙ ap (λ x. first_callee (callee_of_att x) (callee_among hs)) t.2
 
 -- ---- names
-
-same_tail : (a b : ℕ) (xs ys : List ℕ) → a ∷ xs ≡ b ∷ ys → xs ≡ ys
-same_tail a b xs ys e = cc
 
 none_named : (name : List ℕ) (fs : List TreeFn) (k : ℕ) (g : TreeFn) → named name fs ≡ 0 → slice_get fs k ≡ Some g → bytes_eq g.name name ≡ true → ⊥
 none_named name [] k g none there is = cc

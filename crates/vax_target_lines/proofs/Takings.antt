@@ -7,7 +7,7 @@ use Rattle.std.proofs.lemmas.Bool.{not-false}
 use Rattle.gg_base.specs.declared.size.Size.{Size}
 use Rattle.gg_base.specs.declared.size.Size.TheVariants.{Byte, Word, Long}
 use Rattle.gg_base.specs.LittleEndian.{number_in}
-use Rattle.gg_base.proofs.Facts.{first_false, second_false}
+use Rattle.gg_base.proofs.Facts.{first_false, second_false, err_ok}
 use Rattle.term_core.specs.Shape.{Shape, Constant, Symbol, LastResult, Memory}
 use Rattle.sel_terms.specs.Same.{same_size}
 use Rattle.sel_terms.proofs.Alike.{equal_sizes}
@@ -59,7 +59,7 @@ use Rattle.vax_templates.specs.Filled.{register_in, operand_in, filled}
 use Rattle.vax_target_operands.specs.Scenes.{Scene, worth, role_at, filling_at, OwnIs, IsOwnRegister, Sees}
 use Rattle.vax_target_operands.specs.Places.{StandsAt, InRegister, IsHome, IsWhere, IsReadIfAny, CanStand, Stands}
 use Rattle.vax_target_operands.specs.Conditions.{IsNarrow}
-use Rattle.vax_target_operands.proofs.Binds.{err_ok, ok_same, Chained, chained}
+use Rattle.vax_target_operands.proofs.Binds.{ok_same, Chained, chained}
 use Rattle.vax_target_operands.proofs.Holes.{below_all, stands_same, register_stands, own_held, memory_read}
 use Rattle.vax_target_operands.proofs.Forms.{operands_stand}
 use Rattle.vax_target_lines.specs.Takings.{IsTarget, IsDestination, AreRead, CanAim, IsOfSize, AreOfSize, AtSize, last_size, AreArguments, aims, LastIsWritten, MayStand, Takes, OperandsAreTaken}

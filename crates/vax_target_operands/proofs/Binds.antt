@@ -1,9 +1,7 @@
 -- What is left where parts of a judgement are chained.
 use Rattle.std.proofs.Common.{◌≡◌, ℕ, Bool, true, false, cond, Result, Ok, Err, refl, ap}
+use Rattle.gg_base.proofs.Facts.{err_ok}
 use Rattle.vax_templates.specs.Standing.{◌>>=◌}
-
-pub err_ok : {A E : Type 0} (e : E) (x : A) → Err e ≡ Ok x → ⊥
-err_ok e x h = cc
 
 pub ok_same : {A E : Type 0} (x y : A) → ◌≡◌ {A = Result A E} (Ok x) (Ok y) → x ≡ y
 ok_same x y h = cc

@@ -9,15 +9,11 @@ use Rattle.gg_base.specs.declared.relation.Rel.{Rel}
 use Rattle.gg_base.specs.declared.relation.Rel.TheVariants.{Eq, Ne, Lt, Le, Gt, Ge, Ltu, Leu, Gtu, Geu}
 use Rattle.gg_base.specs.Relations.{holds, signed_rank}
 use Rattle.gg_base.specs.Arithmetic.{sext8, sext16, zext8, zext16}
+use Rattle.gg_base.proofs.Facts.{same_bool}
 use Rattle.sel_target.specs.EffectTerms.{compares_signed}
 use Rattle.vax_machine.specs.declared.function.Conditions.{Conditions}
 use Rattle.vax_machine.specs.Functions.{extended, is_negative_at, passes}
 use Rattle.vax_target_operands.specs.Conditions.{test_of, Compared, Tested, IsNarrow}
-
-bools : (p q : Bool) → (p ≡ true → q ≡ true) → (q ≡ true → p ≡ true) → p ≡ q
-bools true q f g = sym (f refl)
-bools false true f g = g refl
-bools false false f g = refl
 
 -- ---- tests of numbers
 
@@ -31,7 +27,7 @@ not_lt : (x y : ℕ) → not (nat_lt x y) ≡ nat_le y x
 not_lt x y = grind (arith, nat_tests)
 
 eq_eq : (a b x y : ℕ) → (a ≡ b → x ≡ y) → (x ≡ y → a ≡ b) → (a == b) ≡ (x == y)
-eq_eq a b x y f g = bools (a == b) (x == y) (λ e. eq-eqb x y (f (equal a b e))) (λ e. eq-eqb a b (g (equal x y e))) where
+eq_eq a b x y f g = same_bool (a == b) (x == y) (λ e. eq-eqb x y (f (equal a b e))) (λ e. eq-eqb a b (g (equal x y e))) where
   equal : (n k : ℕ) → (n == k) ≡ true → n ≡ k
   equal n k e = grind (arith, nat_tests)
 
@@ -76,7 +72,7 @@ ordered_by : (a b x y top gap : ℕ) → top + top + gap ≡ 2 ^ 32 → a < top 
 ordered_by a b x y top gap whole la lb ea eb = by ea.is eb.is where
   made : (a < b → x < y) → (x < y → a < b) → (a ≡ b → x ≡ y) → (x ≡ y → a ≡ b) → x < 2 ^ 32 → y < 2 ^ 32 → Ordered a b x y
   made up down on back lx ly = record {
-    lesser = bools (nat_lt a b) (nat_lt x y)
+    lesser = same_bool (nat_lt a b) (nat_lt x y)
         (λ e. lt-ltb x y (up (let r : a < b = grind (arith, nat_tests) in r)))
         (λ e. lt-ltb a b (down (let r : x < y = grind (arith, nat_tests) in r)));
     equal = eq_eq a b x y on back;
@@ -133,7 +129,7 @@ tested_by k x lx n z Geu s = cc
 
 -- a longword is negative where it is less than 0
 long_negative : (x : ℕ) → x < 2 ^ 32 → nat_le (2 ^ 31) x ≡ nat_lt (signed_rank x) (signed_rank 0)
-long_negative x lx = bools (nat_le (2 ^ 31) x) (nat_lt (signed_rank x) (signed_rank 0))
+long_negative x lx = same_bool (nat_le (2 ^ 31) x) (nat_lt (signed_rank x) (signed_rank 0))
     (λ e. lt-ltb (signed_rank x) (signed_rank 0) (let h : 2 ^ 31 ≤ x = leb-true (2 ^ 31) x e in omega (arith, h, lx)))
     (λ e. le-leb (2 ^ 31) x (let h : signed_rank x < signed_rank 0 = grind (arith, nat_tests) in omega (arith, h, lx)))
 

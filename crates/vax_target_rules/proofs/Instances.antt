@@ -1,10 +1,10 @@
 -- In an instance of a rule each hole means what it stands for.
-use Rattle.std.proofs.Common.{◌≡◌, ℕ, zero, suc, ◌+◌, ◌-◌, ◌%◌, ◌^◌, ◌<◌, ◌≤◌, Bool, true, false, cond, List, [], ◌∷◌, map, Option, Some, None, refl, sym, ap, subst, ◌∙◌, arith}
+use Rattle.std.proofs.Common.{◌≡◌, ℕ, zero, suc, ◌+◌, ◌-◌, ◌%◌, ◌^◌, ◌<◌, ◌≤◌, Bool, true, cond, List, [], ◌∷◌, map, Option, Some, None, refl, sym, ap, subst, ◌∙◌, arith}
 use Rattle.std.specs.Prelude.{IsSome, is_some, is_none, unwrap_or, ◌&&◌, not, nat_lt, nat_le, slice_get}
 use Rattle.std.specs.Option.{option_map}
 use Rattle.std.proofs.lemmas.Bool.{eqb-true, lt-ltb}
 use Rattle.std.proofs.lemmas.Option.{none-some, same_Some}
-use Rattle.gg_base.proofs.Facts.{first_true, second_true, not_zero, one_less}
+use Rattle.gg_base.proofs.Facts.{first_true, second_true, not_zero, one_less, the_number}
 use Rattle.gg_base.specs.declared.size.Size.{Size}
 use Rattle.gg_base.specs.declared.size.Size.TheVariants.{Long}
 use Rattle.gg_base.specs.Arithmetic.{add32}
@@ -59,10 +59,6 @@ use Rattle.vax_target_operands.specs.Scenes.{Scene, worth, role_at, filling_at, 
 use Rattle.vax_target_operands.proofs.Machine.{mapped}
 use Rattle.vax_target_rules.specs.Scene.{scene_of, InstancesAreSeen}
 
-pub some_of : (o : Option ℕ) → IsSome o → (x : ℕ) × (o ≡ Some x)
-some_of None h = absurd (let e : false ≡ true = h in cc)
-some_of (Some x) h = (x, refl)
-
 -- ---- a symbol and what fills it
 
 module _ (c : Scene) (m : State) (i : ℕ) (labelled : AreLabelled c.program.objects m) where
@@ -111,7 +107,7 @@ module _ (c : Scene) (m : State) (i : ℕ) (labelled : AreLabelled c.program.obj
 
   local_by : (b : Bool) (k : ℕ) → nat_lt k 1024 ≡ true → reads (word_operand k) Long m ≡ Some (worth c (Symbol i)) → IsSome (names (word_operand k) Long m) → IsLocal c m i (token tok.Loc (att.Slot k))
   local_by b k is e some =
-      let a = some_of (names (word_operand k) Long m) some in
+      let a = the_number (names (word_operand k) Long m) some in
       let h : reads (home k) Long m ≡ Some (worth c (Symbol i)) = ap (λ x. reads (cond x (home k) spare) Long m) (sym is) ∙ e in
       record {
         address = a.0;
@@ -124,7 +120,7 @@ module _ (c : Scene) (m : State) (i : ℕ) (labelled : AreLabelled c.program.obj
   argument_by : (b : Bool) (k : ℕ) → nat_le k 255 ≡ true → reads (slot_operand tok.Arg k) Long m ≡ Some (worth c (Symbol i)) → IsSome (names (slot_operand tok.Arg k) Long m) →
       IsLocal c m i (token tok.Arg (att.Slot k))
   argument_by b k is e some =
-      let a = some_of (names (slot_operand tok.Arg k) Long m) some in
+      let a = the_number (names (slot_operand tok.Arg k) Long m) some in
       let h : reads (argument_home k) Long m ≡ Some (worth c (Symbol i)) = ap (λ x. reads (cond x (argument_home k) spare) Long m) (sym is) ∙ e in
       record {
         address = a.0;
@@ -209,7 +205,7 @@ module _ (c : Scene) (m : State) (i : ℕ) (labelled : AreLabelled c.program.obj
   class_means (Some (kind.Place z)) (attr.Reg r) fits known whole homes = absurd fits
   class_means (Some (kind.Place z)) (attr.InSlot k) fits known whole homes = absurd fits
   class_means (Some (kind.Place z)) (attr.Value o) fits known whole homes = absurd fits
-  class_means (Some (kind.Place z)) (attr.Place o) fits known whole homes = (let x = some_of (names o z m) (homes o refl) in record { address = x.0; named_so = x.1; holds = known })
+  class_means (Some (kind.Place z)) (attr.Place o) fits known whole homes = (let x = the_number (names o z m) (homes o refl) in record { address = x.0; named_so = x.1; holds = known })
   class_means (Some (kind.Place z)) (attr.Con n) fits known whole homes = absurd fits
   class_means (Some (kind.Place z)) (attr.Ea o) fits known whole homes = absurd fits
   class_means (Some (kind.Place z)) (attr.Token l) fits known whole homes = absurd fits
@@ -364,7 +360,7 @@ module _ (every : Bool) (q : TreeProgram) (f : Extent) (fs : List Extent) (class
 
   hole_known : (i : ℕ) (h : Attr Operand) (size : Size) → hole hs i ≡ Some h → size_at classes rule.right i ≡ size → IsSome (v.symbol i) → target.worth vax q size h m ≡ Some (worth scene (Symbol i))
   hole_known i h size at sized some =
-      let x = some_of (v.symbol i) some in
+      let x = the_number (v.symbol i) some in
       subst (λ z. target.worth vax q z h m ≡ Some (worth scene (Symbol i))) sized (inst.values i x.0 h at x.1 ∙ ap (λ (y : ℕ). Some y) (sym (symbol_worth i x.0 x.1)))
 
   means_by : (j : ℕ) (o : Option Sym) → slice_get rule.right j ≡ o → Means scene m (role_at scene (suc j)) (suc j) (filling_at scene (suc j))

@@ -1,5 +1,6 @@
 use Rattle.std.proofs.Common.{ℕ, List, Option}
 use Rattle.std.specs.Prelude.{IfNone}
+use Rattle.gg_base.proofs.Facts.{if_ok}
 use Rattle.md_reader.specs.declared.types.Sym.{Sym}
 use Rattle.lr_check_sets.specs.Faults.{Calms, NoFault}
 use Rattle.lr_check_sets.specs.Table.{automaton_of}
@@ -8,7 +9,7 @@ use Rattle.lr_check_found.specs.declared.settlings.Settling.{Settling}
 use Rattle.lr_check_found.specs.Lists.{IsList}
 use Rattle.lr_check_found.specs.Found.{IsPlaceAt, IsSettlingAt}
 use Rattle.lr_check_flaws.specs.declared.flaws.Flaw.{Flaw}
-use Rattle.lr_check_decided.proofs.Calming.{if_ok, if_none_map}
+use Rattle.lr_check_decided.proofs.Calming.{if_none_map}
 use Rattle.lr_check_decided.proofs.Fine.{fine}
 use Rattle.lr_check_decided.proofs.deciding.find_flaw.Goals as goal
 

@@ -1,8 +1,5 @@
-use Rattle.std.proofs.Common.{◌≡◌, ◌≤◌, ◌++◌, drop, length, reverse}
+use Rattle.std.proofs.Common.{◌≡◌, ◌++◌, map}
 use Rattle.md_reader.proofs.patterns.put_kids.Given as goal
 
-abbrev pub invariant-loop-i : goal.invariant-loop-i
-invariant-loop-i l = (reverse l.stack.items ≡ drop l.i l.kids ++ reverse l.fn.stack.items) × (l.i ≤ length l.kids)
-
-abbrev pub decreases-loop-i : goal.decreases-loop-i
-decreases-loop-i l = l.i
+abbrev pub invariant-loop-kid : goal.invariant-loop-kid
+invariant-loop-kid l = l.stack.items ≡ l.fn.stack.items ++ map (λ y. y.now) l.yielded

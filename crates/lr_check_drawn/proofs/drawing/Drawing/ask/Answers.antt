@@ -1,6 +1,7 @@
 use Rattle.lr_check_sets.specs.Table.{automaton_of}
-use Rattle.lr_check_drawn.proofs.Asks.{asked_leaf, asked_one, asked_two, asked_again, if_ok, made_as}
+use Rattle.lr_check_drawn.proofs.Asks.{asked_leaf, asked_one, asked_two, asked_again, made_as}
 use Rattle.lr_check_drawn.proofs.drawing.Drawing.ask.Goals as goal
+use Rattle.gg_base.proofs.Facts.{if_ok}
 
 pub returns-in-Leaf : goal.returns-in-Leaf
 returns-in-Leaf c = asked_leaf (automaton_of c.args.tables.now) c.args.found.now c.args.self.now c.args.number _ (made_as c.in-Leaf.is c.requires.made)
