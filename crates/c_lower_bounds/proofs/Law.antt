@@ -6,6 +6,7 @@ use Rattle.c_program.specs.Need.{largest_of, need_of}
 use Rattle.c_program.specs.Programs.{ARoutine}
 use Rattle.c_lower_scheme.specs.Parts.{Emitted}
 use Rattle.c_lower_scheme.specs.Programs.{body_of, items_of, function_of, lower_all}
+use Rattle.c_lower_scheme.proofs.Facts.{all_lowered}
 use Rattle.c_lower_bounds.specs.Claim.{FitsFrame, EachFunctionFits, FunctionsStay}
 use Rattle.c_lower_bounds.proofs.Trees.{Narrow, none, next, behind, root_forks}
 use Rattle.c_lower_bounds.proofs.Statements.{Holds, row_holds}
@@ -40,10 +41,6 @@ pub each_function_fits : EachFunctionFits
 each_function_fits p n g f e h =
     let k = at_number (length p.routines) p.routines 0 n g f e h in
     subst (FitsFrame (need_of g.locals g.body)) k.1 (function_fits (length p.routines) k.0 g)
-
-all_lowered : (count : ℕ) (gs : List ARoutine) (l : ℕ) → length (lower_all count gs l) ≡ length gs
-all_lowered count [] l = refl
-all_lowered count (g ∷ gs) l = ap suc (all_lowered count gs (body_of count g l).labels)
 
 pub functions_stay : FunctionsStay
 functions_stay p = record {

@@ -15,6 +15,7 @@ use Rattle.tree_core.specs.Calm.{divides as token_divides, reads_memory, ReadsNo
 use Rattle.c_lower_scheme.specs.Trees.{Tree, Num, Gaddr, Loc, Arg, Indir, Conv, Neg, Com, Bin, Item, Label, AssignLoc, AssignArg, AssignMem, Cbr, Jump, Push, Call, Save, Ret}
 use Rattle.c_lower_scheme.specs.Trees.{divides_by, divides, reads}
 use Rattle.c_lower_scheme.specs.Spelling.{leaf, plain, constant_token, operator_token, indir_onto, conv_onto, leaves_onto as spelled_onto, assign_onto, spelled}
+use Rattle.c_lower_scheme.proofs.Facts.{neither}
 use Rattle.c_lower_calm.proofs.Trees.{Apart, IsCalm, IsCalmItem, RootIsCalm, constant_leaf, operator_two}
 
 -- Leaves in front of others that are one tree, where calm leaves tell C. Where d is true it divides, and r tells whether it reads.
@@ -37,9 +38,6 @@ or_no_left false b e = refl
 or_no_right : (a b : Bool) → a || b ≡ false → b ≡ false
 or_no_right true b e = absurd (cc)
 or_no_right false b e = e
-
-both_no : (a b : Bool) → a ≡ false → b ≡ false → a || b ≡ false
-both_no a b e f = cc
 
 silent_here : (l : Leaf) (w : List Leaf) → ReadsNothing (l ∷ w) → reads_memory l.tok ≡ false
 silent_here l w h = or_no_left (reads_memory l.tok) (list_any (λ (x : Leaf). reads_memory x.tok) w) h
@@ -99,7 +97,7 @@ two_back l {s = s} {t = t} {d = d} {e = e} {r = r} {q = q} own two divide p k = 
   other = λ n g. refl;
   leaves = λ g w. ap (λ v. l ∷ v) (p.leaves (k.forest none) (leaves_onto g w) ∙ ap s (k.leaves none (leaves_onto g w)));
   loud = λ w h.
-      both_no r q (p.loud (t w) (silent_behind l (s (t w)) h)) (k.loud w (p.tail (t w) (silent_behind l (s (t w)) h)));
+      neither r q (p.loud (t w) (silent_behind l (s (t w)) h)) (k.loud w (p.tail (t w) (silent_behind l (s (t w)) h)));
   tail = λ w h. k.tail w (p.tail (t w) (silent_behind l (s (t w)) h));
   deep = λ x g w h. or_cases own (d || e)
       (λ y. h.0 (divide y))

@@ -1,18 +1,19 @@
 -- That values, conditions, places and calls are calm where their parts are.
 use Rattle.std.proofs.Common.{◌≡◌, ℕ, suc, List, [], ◌∷◌, refl}
 use Rattle.std.specs.Prelude.{Bool, true, false, not, ◌&&◌, ◌||◌}
-use Rattle.std.proofs.lemmas.Bool.{not-true, not-false}
+use Rattle.std.proofs.lemmas.Bool.{not-false}
 use Rattle.gg_base.specs.declared.relation.Rel.{Rel}
 use Rattle.gg_base.proofs.Facts.{false_true}
 use Rattle.c_types.specs.declared.types.Integer.{Integer}
 use Rattle.c_types.specs.declared.types.Integer.TheVariants as ints
 use Rattle.c_types.specs.declared.types.CType.{CType}
-use Rattle.c_lower_scheme.specs.Trees.{Tree, Num, Gaddr, Loc, Arg, Indir, Conv, Neg, Com, Bin, Item, divides_by, divides, reads, breaks, stable, is_leaf}
+use Rattle.c_lower_scheme.specs.Trees.{Tree, Item, divides, reads, breaks, stable}
 use Rattle.c_lower_scheme.specs.Parts.{Lowered, Pair, Emitted, Lowering, Located, Assignable, due, over, Destination, InLocal, AsResult, delivered}
 use Rattle.c_lower_scheme.specs.Places.{saving, saved, integer_of, conv, fitted, address_tree}
 use Rattle.c_lower_scheme.specs.Conditions.{test, dropped, valued, conditional, effective, mapped, chained, same, goal, chain, chain_drop, drop_two, choose, comma}
 use Rattle.c_lower_scheme.specs.Conditions.{truth_of, deliver_as, converting, choose_deliver}
 use Rattle.c_lower_scheme.specs.Values.{must, joined, binary, relation}
+use Rattle.c_lower_scheme.proofs.Facts.{stable_inert}
 use Rattle.c_lower_calm.proofs.Trees.{Apart, IsCalm, AreCalm, none, next, behind}
 
 pub record CalmLow (p : Lowered) : Type 0 where
@@ -183,34 +184,6 @@ and_true_right false b e = absurd (cc)
 
 no_or : (a b c : Bool) → a ≡ false → b ≡ false → c ≡ false → a || (b || c) ≡ false
 no_or a b c e f g = cc
-
--- what nothing changes does not divide, and neither does a leaf
-pub stable_inert : (size : ℕ) (w : Tree) → stable size w ≡ true → divides w ≡ false
-stable_inert size (Num n) h = refl
-stable_inert size (Gaddr n) h = refl
-stable_inert size (Loc n) h = refl
-stable_inert size (Arg n) h = refl
-stable_inert size (Indir i a) h = absurd (cc)
-stable_inert size (Conv i w) h = stable_inert size w h
-stable_inert size (Neg w) h = stable_inert size w h
-stable_inert size (Com w) h = stable_inert size w h
-stable_inert size (Bin op a b) h =
-    let both = and_true_right (not (divides_by op)) (stable size a && stable size b) h in
-    no_or (divides_by op) (divides a) (divides b)
-    (not-true (divides_by op) (and_true_left (not (divides_by op)) (stable size a && stable size b) h))
-    (stable_inert size a (and_true_left (stable size a) (stable size b) both))
-    (stable_inert size b (and_true_right (stable size a) (stable size b) both))
-
-pub leaf_inert : (w : Tree) → is_leaf w ≡ true → divides w ≡ false
-leaf_inert (Num n) h = refl
-leaf_inert (Gaddr n) h = refl
-leaf_inert (Loc n) h = refl
-leaf_inert (Arg n) h = refl
-leaf_inert (Indir i a) h = absurd (cc)
-leaf_inert (Conv i w) h = absurd (cc)
-leaf_inert (Neg w) h = absurd (cc)
-leaf_inert (Com w) h = absurd (cc)
-leaf_inert (Bin op a b) h = absurd (cc)
 
 conflict : (a b : Bool) → a && b ≡ false → a ≡ true → b ≡ false
 conflict true b e h = e

@@ -18,8 +18,9 @@ use Rattle.c_lower_scheme.specs.Places.{saved, next_if, read_from, assign_to, ad
 use Rattle.c_lower_scheme.specs.Values.{scaled_by, advance, advance_by, retreat, apart, step, must}
 use Rattle.c_lower_scheme.specs.Calls.{pushes, called_drop, called_low, passed_as, pass_so, called_deliver}
 use Rattle.c_lower_scheme.specs.Assignments.{ready_so, update_so, store_drop, store_low_at, store_low, must_hold, must_keep, step_tree, step_ready, step_low}
+use Rattle.c_lower_scheme.proofs.Facts.{leaf_inert}
 use Rattle.c_lower_calm.proofs.Trees.{Apart, IsCalm, IsCalmItem, AreCalm, none, next, behind, none_left}
-use Rattle.c_lower_calm.proofs.Parts.{CalmLow, CalmFound, CalmReady, inert_apart, calm_saving, calm_saved, calm_fitted, over_calm, leaf_inert, must_apart, delivered_calm}
+use Rattle.c_lower_calm.proofs.Parts.{CalmLow, CalmFound, CalmReady, inert_apart, calm_saving, calm_saved, calm_fitted, over_calm, must_apart, delivered_calm}
 
 calm_where : (v : Variable) → IsCalm (address_tree (where_of v))
 calm_where (variables.Automatic n) = tt

@@ -2,7 +2,7 @@
 use Rattle.std.proofs.Common.{◌≡◌, ℕ, suc, ◌≤◌, ◌<◌, ◌^◌, List, [], ◌∷◌, ◌++◌, length, Option, Some, None, refl, ap, arith, sym, ◌∙◌, subst, ◌⊎◌, ⊎_elim}
 use Rattle.std.specs.Prelude.{true, false, not, ◌&&◌, ◌||◌, cond, slice_get, slice_set}
 use Rattle.std.proofs.Math.ListN.{set}
-use Rattle.std.proofs.lemmas.Bool.{cases_lt, cases_eq, eq-eqb, ne_eqb, and_parts, leb-true, or_parts, or_from, not-true}
+use Rattle.std.proofs.lemmas.Bool.{cases_lt, cases_eq, eq-eqb, ne_eqb, and_parts, leb-true, or_parts}
 use Rattle.std.proofs.lemmas.List.{length-set, get_or-set_same, get_or-set_other}
 use Rattle.std.proofs.lemmas.Option.{slice_get_past, slice_get-get_or}
 use Rattle.tree_meaning.specs.declared.value.Value.{Value}
@@ -170,20 +170,6 @@ module _ (program : TreeProgram) where
       let whole = or_parts (divides_by op) (divides a || divides b) e in
       let parts = or_parts (divides a) (divides b) whole.1 in
       bind_pure (value a d) _ (value_pure a d parts.0) (λ x. bind_pure (value b d) _ (value_pure b d parts.1) (λ y. apply_pure op x y whole.0)) h
-
-pub stable_pure : (size : ℕ) (w : Tree) → stable size w ≡ true → divides w ≡ false
-stable_pure size (Num n) s = refl
-stable_pure size (Gaddr n) s = refl
-stable_pure size (Loc n) s = refl
-stable_pure size (Arg n) s = refl
-stable_pure size (Indir i a) s = absurd (cc)
-stable_pure size (Conv i w) s = stable_pure size w s
-stable_pure size (Neg w) s = stable_pure size w s
-stable_pure size (Com w) s = stable_pure size w s
-stable_pure size (Bin op a b) s =
-    let whole = and_parts (not (divides_by op)) (stable size a && stable size b) s in
-    let parts = and_parts (stable size a) (stable size b) whole.1 in
-    or_from (divides_by op) (divides a || divides b) (not-true (divides_by op) whole.0) (or_from (divides a) (divides b) (stable_pure size a parts.0) (stable_pure size b parts.1))
 
 -- The states agree on the locals in scope, on the parameters, the data area and the input; nothing waits to be passed.
 pub record Agree (size : ℕ) (scope : ℕ → Type 0) (depth : ℕ) (st : State) (d : Desk) : Type 0 where

@@ -18,12 +18,13 @@ use Rattle.c_lower_scheme.specs.Parts.{Lowered, Where, InLoc, InArg, InMem, Loca
 use Rattle.c_lower_scheme.specs.Places.{held, saving, saved, next_if, integer_of, read_from, assign_to}
 use Rattle.c_lower_scheme.specs.Values.{must}
 use Rattle.c_lower_scheme.specs.Assignments.{ready_so, must_hold, assign_ready, stays, must_keep, update_so, update_ready, postfix_so, postfix}
+use Rattle.c_lower_scheme.proofs.Facts.{leaf_inert}
 use Rattle.c_lower_follows.proofs.Values.{SmallTree}
 use Rattle.c_lower_follows.proofs.Leads.{Leads}
 use Rattle.c_lower_follows.proofs.Steps.{Desk, on, Resolves, resolves_back}
 use Rattle.c_lower_follows.proofs.Agreeing.{Below, below_more, alike_set, value, value_alike, value_stable, Since, since_start, set_same, set_other, not_nil, front_nil, back_nil}
 use Rattle.c_lower_follows.proofs.Placing.{place_on, SmallPlace, PurePlace, FitsPlace, read_mem, read_place, below_read, small_read}
-use Rattle.c_lower_follows.proofs.Storing.{is_leaf_pure, Held, good, go, DoesIt, IsReady, IsPlace, then_at, apart, assign_root, address_by, use_number, hold, waits}
+use Rattle.c_lower_follows.proofs.Storing.{Held, good, go, DoesIt, IsReady, IsPlace, then_at, apart, assign_root, address_by, use_number, hold, waits}
 use Rattle.c_lower_follows.proofs.Doing.{Makes, since_both, save_temp, Maps}
 
 module _ (program : TreeProgram) (code : List TreeItem) (callers : List Activation) (size count : ℕ) (scope : ℕ → Type 0) (level : ℕ) (within : (x : ℕ) → scope x → x < size) where
@@ -304,7 +305,7 @@ module _ (program : TreeProgram) (code : List TreeItem) (callers : List Activati
   update_mem true a is0 ty p l t f g q m n e sz made does does' = change_saved (not (is_nil q.items)) a is0 ty p l t f g q m n (not_nil_false q.items) sz made does does'
   update_mem false a is0 ty p l t f g q m n e sz made does does' =
       let stay : stays size count q.items a ≡ true = not-false (stays size count q.items a) e in
-      change_plain (not (is_nil q.items)) (InMem a) is0 ty p l t f g q m n (not_nil_false q.items) sz (is_leaf_pure a (stays_leaf q.items a stay)) made (λ u v le h. below_more u v a le h)
+      change_plain (not (is_nil q.items)) (InMem a) is0 ty p l t f g q m n (not_nil_false q.items) sz (leaf_inert a (stays_leaf q.items a stay)) made (λ u v le h. below_more u v a le h)
       (λ st d st' d' fit s. stays_same q.items a p q.temps q.temps ty st d st' d' stay fit s does'.grows) does does'
 
   update_place : (s : Where) (is0 : List Item) (ty : CType) (p l t : ℕ) (f : Tree → Tree → Tree) (g : CType → ℕ → ℕ → Rest → State → Runs) (q : Lowered) (m : RestAt → State → Runs)
@@ -325,7 +326,7 @@ module _ (program : TreeProgram) (code : List TreeItem) (callers : List Activati
   update_pure_by : (is : List Item) (u : ℕ) (s : Where) → PurePlace (held (must_keep size count is s) u s)
   update_pure_by is u (InLoc n) = tt
   update_pure_by is u (InArg n) = tt
-  update_pure_by is u (InMem a) = pure_so (not (stays size count is a)) u a (λ e. is_leaf_pure a (stays_leaf is a (not-false (stays size count is a) e)))
+  update_pure_by is u (InMem a) = pure_so (not (stays size count is a)) u a (λ e. leaf_inert a (stays_leaf is a (not-false (stays size count is a) e)))
 
   pub update_pure : (f : Tree → Tree → Tree) (p : Located) (q : Lowered) → PurePlace (update_ready size count f p q).place
   update_pure f p q = update_pure_by q.items q.temps p.place
@@ -433,7 +434,7 @@ module _ (program : TreeProgram) (code : List TreeItem) (callers : List Activati
       → DoesFound (record { items = is0; type = ty; place = InMem a; temps = u; labels = l }) t m
       → DoesLow (postfix_so b f (record { items = is0; type = ty; place = InMem a; temps = u; labels = l })) t (λ κ. m (λ ty s. read_at ty s (λ x. store_at ty s (g ty x) (λ y. κ x))))
   post_mem true a is0 ty u l t f g m e sz made does = post_saved a is0 ty u l t f g m sz made does
-  post_mem false a is0 ty u l t f g m e sz made does = post_plain (InMem a) is0 ty u l t f g m sz (is_leaf_pure a (not-false (is_leaf a) e)) made does
+  post_mem false a is0 ty u l t f g m e sz made does = post_plain (InMem a) is0 ty u l t f g m sz (leaf_inert a (not-false (is_leaf a) e)) made does
 
   post_by : (s : Where) (is0 : List Item) (ty : CType) (u l t : ℕ) (f : Tree → Tree) (g : CType → ℕ → ℕ) (m : RestAt → State → Runs) → size ≤ t → MapsIt f (g ty)
       → DoesFound (record { items = is0; type = ty; place = s; temps = u; labels = l }) t m

@@ -21,7 +21,7 @@ use Rattle.c_sound.specs.Fits.{AreBytes}
 use Rattle.c_lower_follows.proofs.Values.{SmallTree, Ranged, Small, worth_small}
 use Rattle.c_lower_follows.proofs.Leads.{Leads, leads_deep, leads_none, leads_below, leads_counted, leads_quiet, leads_emit}
 use Rattle.c_lower_follows.proofs.Steps.{moves, Desk, desk_sight, on, Resolves, resolves_back, state, lost, push_step, call_counts, save_step}
-use Rattle.c_lower_follows.proofs.Agreeing.{Below, below_more, Alike, value, value_alike, value_stable, value_pure, stable_pure, Since, agree_temp, set_same, set_other, not_nil, front_nil, back_nil}
+use Rattle.c_lower_follows.proofs.Agreeing.{Below, below_more, Alike, value, value_alike, value_stable, value_pure, Since, agree_temp, set_same, set_other, not_nil, front_nil, back_nil}
 use Rattle.c_lower_follows.proofs.Storing.{use_number}
 use Rattle.c_lower_follows.proofs.Doing.{Drops, Delivers, delivered_does, assoc, split, save_temp}
 use Rattle.std.specs.Prelude.{if◌then◌else◌}
@@ -40,6 +40,7 @@ use Rattle.std.proofs.lemmas.Option.{slice_get_past}
 use Rattle.c_meaning.specs.Calls.{put_char, got, call, answer, back, begun as begun_source, entered}
 use Rattle.c_meaning.specs.Calls.{called as called_source}
 use Rattle.c_lower_scheme.specs.Programs.{body_of, items_of}
+use Rattle.c_lower_scheme.proofs.Facts.{stable_inert}
 use Rattle.c_lower_follows.proofs.Assigning.{agreed, gone, DoesLow}
 
 abbrev pub SmallAll : List Tree → Type 0
@@ -239,7 +240,7 @@ module _ (program : TreeProgram) (code : List TreeItem) (callers : List Activati
       ⊎_elim
       (λ last. pass_waits p q t m n (inr last) (λ st1 d1 st2 d2 s. ap (value program p.tree) (s.same (does'.none last)).1) does does')
       (λ o. ⊎_elim
-      (λ s. pass_waits p q t m n (inl (stable_pure size p.tree s)) (λ st1 d1 st2 d2 g. value_stable program size p.temps p.tree d1 d2 s does.below (λ j szj lt. g.keeps j szj (inl lt))) does does')
+      (λ s. pass_waits p q t m n (inl (stable_inert size p.tree s)) (λ st1 d1 st2 d2 g. value_stable program size p.temps p.tree d1 d2 s does.below (λ j szj lt. g.keeps j szj (inl lt))) does does')
       (λ h. pass_waits p q t m n (inl (or_parts (divides p.tree) (reads p.tree) h.1).0) (λ st1 d1 st2 d2 g. value_alike program p.temps p.tree d1 d2 does.below (g.still h.0).1) does does')
       o)
       (ways p.tree q.quiet q.trees e)

@@ -15,26 +15,22 @@ use Rattle.tree_meaning.specs.Values.{bind, there}
 use Rattle.c_meaning.specs.State.{State}
 use Rattle.c_meaning.specs.Values.{Rest, chosen}
 use Rattle.c_lower_scheme.specs.Trees.{Tree, Num, Item, AssignLoc, Cbr, Ret, divides, reads, breaks, stable}
-use Rattle.c_lower_scheme.specs.Spelling.{spelled, spelled_all}
+use Rattle.c_lower_scheme.specs.Spelling.{spelled_all}
 use Rattle.c_lower_scheme.specs.Parts.{Lowered, Pair, Emitted, Lowering, due, over, over_two, Destination, InLocal, AsResult, delivered}
 use Rattle.c_lower_scheme.specs.Places.{saving, next_if}
 use Rattle.c_lower_scheme.specs.Conditions.{valued, effective, mapped, test}
 use Rattle.c_lower_scheme.specs.Values.{must, join_so, join, binary, joined}
+use Rattle.c_lower_scheme.proofs.Facts.{stable_inert}
 use Rattle.c_sound.specs.Fits.{AreBytes}
 use Rattle.c_lower_follows.proofs.Values.{SmallTree, Small, worth_small}
 use Rattle.c_lower_follows.proofs.Leads.{Leads, leads_wild}
 use Rattle.c_lower_follows.proofs.Steps.{Desk, desk_sight, on, Resolves, resolves_back, at, at_items, state, moves, lost, silent, assign_loc_step, cbr_step, ret_step}
-use Rattle.c_lower_follows.proofs.Agreeing.{Below, below_more, value, value_stable, value_pure, stable_pure, Agree, Since, since_start, agree_temp, set_same, set_other, not_nil, front_nil, back_nil}
+use Rattle.c_lower_follows.proofs.Agreeing.{Below, below_more, value, value_stable, value_pure, Agree, Since, since_start, agree_temp, set_same, set_other, not_nil, front_nil, back_nil}
 
 pub on_bind : (o : Value) (f : ℕ → Value) (κ : ℕ → Runs) → on (bind o f) κ ≡ on o (λ x. on (f x) κ)
 on_bind (Number x) f κ = refl
 on_bind ZeroDivisor f κ = refl
 on_bind Wild f κ = refl
-
--- where a list of items is spelled
-pub spelled_append : (a b : List Item) → spelled_all (a ++ b) ≡ spelled_all a ++ spelled_all b
-spelled_append [] b = refl
-spelled_append (i ∷ a) b = ap (λ l. spelled i ∷ l) (spelled_append a b)
 
 abbrev pub either_way : Bool → (State → Runs) → (State → Runs) → State → Runs
 either_way true met unmet = met
@@ -179,7 +175,7 @@ module _ (program : TreeProgram) (code : List TreeItem) (callers : List Activati
       runs = λ k le is κ res st d ag h.
           let res' = split p.items q.items is res in
           assoc k p.items q.items is d _ (does.runs k le (q.items ++ is) (λ x. n (κ x)) res' st d ag
-          (λ st1 d1 ag1 s1. waits_by p q n k le is κ st1 d1 (value program p.tree d1) does' (λ e. absurd (value_pure program p.tree d1 (stable_pure size p.tree stays) e))
+          (λ st1 d1 ag1 s1. waits_by p q n k le is κ st1 d1 (value program p.tree d1) does' (λ e. absurd (value_pure program p.tree d1 (stable_inert size p.tree stays) e))
           (resolves_back code p.items (q.items ++ is) res') refl ag1
           (λ v st2 d2 e ag2 s2.
           let kept : value program p.tree d2 ≡ Number v = value_stable program size p.temps p.tree d1 d2 stays does.below (λ j sz lt. s2.keeps j sz (inl lt)) ∙ e in

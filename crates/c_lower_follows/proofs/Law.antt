@@ -14,28 +14,21 @@ use Rattle.c_program.specs.Programs.{ARoutine, AProgram}
 use Rattle.c_meaning.specs.Programs.{finished, means, at_first, main_of}
 use Rattle.c_meaning.proofs.Law.{means_is}
 use Rattle.c_lower_scheme.specs.Programs.{body_of, function_of, lower_all, lowered}
+use Rattle.c_lower_scheme.proofs.Facts.{all_lowered}
 use Rattle.c_sound.specs.Fits.{AreBytes}
 use Rattle.c_sound.specs.Sound.{IsMain, IsSound}
+use Rattle.c_sound.proofs.Bytes.{zeros_are_bytes, bytes_joined}
 use Rattle.c_lower_follows.specs.Claim.{LoweringFollows}
-use Rattle.c_lower_follows.proofs.Values.{bytes_append}
 use Rattle.c_lower_follows.proofs.Leads.{Leads, leads_ended, follows_led}
 use Rattle.c_lower_follows.proofs.Calling.{CodeOf, Backed}
 use Rattle.c_lower_follows.proofs.Functions.{calls_at}
 use Rattle.c_lower_follows.proofs.Labels.{all_code}
 
-all_lowered : (count : ℕ) (gs : List ARoutine) (l : ℕ) → length (lower_all count gs l) ≡ length gs
-all_lowered count [] l = refl
-all_lowered count (g ∷ gs) l = ap suc (all_lowered count gs (body_of count g l).labels)
-
-zeros : (n : ℕ) → AreBytes (replicate n 0)
-zeros zero = tt
-zeros (suc n) = (omega arith, zeros n)
-
 -- the data area holds bytes
 opening_bytes : (at : ℕ) (os : List Object) → ((n : ℕ) (o : Object) → slice_get os n ≡ Some o → AreBytes o.bytes) → AreBytes (bytes_from at os)
 opening_bytes at [] h = tt
-opening_bytes at (o ∷ os) h = bytes_append (replicate (o.address - at) 0) _ (zeros (o.address - at))
-    (bytes_append o.bytes _ (h 0 o refl) (opening_bytes (o.address + o.size) os (λ n x e. h (suc n) x e)))
+opening_bytes at (o ∷ os) h = bytes_joined (replicate (o.address - at) 0) _ (zeros_are_bytes (o.address - at))
+    (bytes_joined o.bytes _ (h 0 o refl) (opening_bytes (o.address + o.size) os (λ n x e. h (suc n) x e)))
 
 abbrev is_main : TreeFn → Bool
 is_main f = bytes_eq f.name (codes "main")

@@ -34,7 +34,8 @@ use Rattle.c_lower_scheme.specs.Spelling.{spelled_all}
 use Rattle.c_lower_scheme.specs.Parts.{Where, InLoc, InArg, InMem, Located, Assignable}
 use Rattle.c_lower_scheme.specs.Places.{integer_of, conv, fitted, read_from, address_tree, read_low, address_low}
 use Rattle.c_sound.specs.Fits.{AreBytes}
-use Rattle.c_lower_follows.proofs.Values.{bytes_take, bytes_drop, bytes_append, SmallTree}
+use Rattle.c_sound.proofs.Bytes.{bytes_joined}
+use Rattle.c_lower_follows.proofs.Values.{bytes_take, bytes_drop, SmallTree}
 use Rattle.c_lower_follows.proofs.Leads.{Leads, leads_wild}
 use Rattle.c_lower_follows.proofs.Steps.{Desk, on, Resolves, state, silent, narrowed, written_at}
 use Rattle.c_lower_follows.proofs.Agreeing.{Below, value, ranged_set, set_both, get_same, get_other}
@@ -48,10 +49,10 @@ bytes_set (x ∷ xs) (suc n) v lt h = (h.0, bytes_set xs n v lt h.1)
 
 number_bytes : (z : Size) (area : List ℕ) (x v : ℕ) → AreBytes area → AreBytes (with_number z area x v)
 number_bytes sizes.Byte area x v h = bytes_set area x (v % 2 ^ 8) (omega arith) h
-number_bytes sizes.Word area x v h = bytes_append (take x area) _ (bytes_take x area h)
-    (bytes_append (to_le_bytes w16 (v % 2 ^ 16)) (drop (x + 2) area) (omega arith, (omega arith, tt)) (bytes_drop (x + 2) area h))
-number_bytes sizes.Long area x v h = bytes_append (take x area) _ (bytes_take x area h)
-    (bytes_append (to_le_bytes w32 v) (drop (x + 4) area) (omega arith, (omega arith, (omega arith, (omega arith, tt)))) (bytes_drop (x + 4) area h))
+number_bytes sizes.Word area x v h = bytes_joined (take x area) _ (bytes_take x area h)
+    (bytes_joined (to_le_bytes w16 (v % 2 ^ 16)) (drop (x + 2) area) (omega arith, (omega arith, tt)) (bytes_drop (x + 2) area h))
+number_bytes sizes.Long area x v h = bytes_joined (take x area) _ (bytes_take x area h)
+    (bytes_joined (to_le_bytes w32 v) (drop (x + 4) area) (omega arith, (omega arith, (omega arith, (omega arith, tt)))) (bytes_drop (x + 4) area h))
 
 stored_by : (b : Bool) (xs ys : List ℕ) → cond b (Some xs) None ≡ Some ys → xs ≡ ys
 stored_by true xs ys e = cc

@@ -18,29 +18,19 @@ use Rattle.c_meaning.specs.declared.store.Spot.{Spot}
 use Rattle.c_meaning.specs.declared.store.Spot.TheVariants.{Local, Parameter, Memory}
 use Rattle.c_meaning.specs.State.{State, integer_access, with_locals, with_parameters, with_area, put_local, put}
 use Rattle.c_meaning.specs.Values.{Rest, RestAt, written, store_at}
-use Rattle.c_lower_scheme.specs.Trees.{Gaddr, Neg, Com, Bin, Tree, Num, Loc, Arg, Indir, Conv, Item, AssignLoc, AssignArg, AssignMem, divides, stable, is_leaf}
+use Rattle.c_lower_scheme.specs.Trees.{Tree, Loc, Item, AssignLoc, AssignArg, AssignMem, divides, stable}
 use Rattle.c_lower_scheme.specs.Spelling.{spelled_all}
 use Rattle.c_lower_scheme.specs.Parts.{Lowered, Where, InLoc, InArg, InMem, Located, Assignable, Emitted, InLocal}
 use Rattle.c_lower_scheme.specs.Places.{saving, saved, integer_of, fitted, assign_to}
 use Rattle.c_lower_scheme.specs.Assignments.{store_drop, store_low_at, store_low, fill_low, fill_drop}
+use Rattle.c_lower_scheme.proofs.Facts.{stable_inert}
 use Rattle.c_lower_follows.proofs.Values.{SmallTree, Small, worth_small}
 use Rattle.c_lower_follows.proofs.Leads.{Leads}
 use Rattle.c_lower_follows.proofs.Steps.{Desk, desk_sight, on, Resolves, resolves_back, lost, narrowed, written_at, assign_loc_step, assign_arg_step, assign_mem_step}
-use Rattle.c_lower_follows.proofs.Agreeing.{Below, alike_set, value, value_alike, value_stable, value_pure, stable_pure, Since, set_same, set_other, get_same, not_nil, back_nil}
+use Rattle.c_lower_follows.proofs.Agreeing.{Below, alike_set, value, value_alike, value_stable, value_pure, Since, set_same, set_other, get_same, not_nil, back_nil}
 use Rattle.c_lower_follows.proofs.Placing.{stored_kept, stored_narrowed, conv_value, place_on, SmallPlace, PurePlace, ok, run_at, DoesPlace, DoesReady, fitted_maps, put_local_step}
 use Rattle.c_lower_follows.proofs.Placing.{put_argument_step, put_memory_step, whole_value, FitsPlace}
 use Rattle.c_lower_follows.proofs.Doing.{waits_by, Does, Drops, Delivers, assoc, split, save_temp}
-
-pub is_leaf_pure : (a : Tree) → is_leaf a ≡ true → divides a ≡ false
-is_leaf_pure (Num n) e = refl
-is_leaf_pure (Gaddr n) e = refl
-is_leaf_pure (Loc n) e = refl
-is_leaf_pure (Arg n) e = refl
-is_leaf_pure (Indir i a) e = absurd (cc)
-is_leaf_pure (Conv i w) e = absurd (cc)
-is_leaf_pure (Neg w) e = absurd (cc)
-is_leaf_pure (Com w) e = absurd (cc)
-is_leaf_pure (Bin op a b) e = absurd (cc)
 
 -- what a part that may be saved, and the items behind it, leave
 pub record Held (size t0 v u : ℕ) (items : List Item) (st : State) (d : Desk) (st' : State) (d' : Desk) : Type 0 where
@@ -244,7 +234,7 @@ module _ (program : TreeProgram) (code : List TreeItem) (callers : List Activati
       stays : stable size w ≡ true → Below t0 w → Leads k (on (value program w d) (λ x. n (κ x) st)) (go (q.items ++ is) d)
       stays s below =
           waits_by program code callers size count scope level within (record { items = []; tree = w; temps = t0; labels = 0 }) q n k le is κ st d (value program w d) does
-          (λ e. absurd (value_pure program w d (stable_pure size w s) e))
+          (λ e. absurd (value_pure program w d (stable_inert size w s) e))
           res refl ag
           (λ v st2 d2 e ag2 s2.
           let same : value program w d2 ≡ Number v = value_stable program size t0 w d d2 s below (λ j szj lt. s2.keeps j szj (inl lt)) ∙ e in
@@ -266,7 +256,7 @@ module _ (program : TreeProgram) (code : List TreeItem) (callers : List Activati
       subst (λ o. Leads k (on o (λ x. on (value program q.tree d2) (λ y. κ x y st2))) (go is d2)) same (h st2 d2 ag2 s2))
   waits w t0 q n k le is κ st d sz small below does res (inr s) ag h =
       waits_by program code callers size count scope level within (record { items = []; tree = w; temps = t0; labels = 0 }) q n k le is κ st d (value program w d) does
-      (λ e. absurd (value_pure program w d (stable_pure size w s) e))
+      (λ e. absurd (value_pure program w d (stable_inert size w s) e))
       res refl ag
       (λ v st2 d2 e ag2 s2.
       let same : value program w d2 ≡ Number v = value_stable program size t0 w d d2 s below (λ j szj lt. s2.keeps j szj (inl lt)) ∙ e in

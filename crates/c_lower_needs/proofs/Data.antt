@@ -1,5 +1,5 @@
 -- A phrase that is typed adds at most two objects for each of its tokens, literals and static locals among them.
-use Rattle.std.proofs.Common.{◌≡◌, ℕ, zero, suc, ◌+◌, ◌*◌, ◌≤◌, Bool, true, false, List, [], ◌∷◌, ◌++◌, length, Result, Ok, Err, refl, ap, arith}
+use Rattle.std.proofs.Common.{◌≡◌, ℕ, ◌+◌, ◌*◌, ◌≤◌, Bool, true, false, List, [], ◌∷◌, ◌++◌, length, Result, Ok, Err, refl, ap, arith}
 use Rattle.std.specs.Prelude.{nat_lt, if◌then◌else◌}
 use Rattle.std.specs.Fmt.{decimal}
 use Rattle.std.proofs.lemmas.List.{length-append}
@@ -18,7 +18,8 @@ use Rattle.c_typed_scope.specs.declared.entry.Entry.{Entry}
 use Rattle.c_typed_scope.specs.declared.entry.Signature.{Signature}
 use Rattle.c_typed_scope.specs.Scopes.{Scope}
 use Rattle.c_typed_scope.specs.Layout.{Area, aligned, placed, with_object, one_more_literal, literal}
-use Rattle.c_typed_scope.specs.Contents.{Filled, with_contents, filled}
+use Rattle.c_typed_scope.specs.Contents.{Filled, filled}
+use Rattle.c_typed_scope.proofs.Written.{held_length}
 use Rattle.c_typed_expressions.specs.Relations.{IsTyped, AreTyped}
 use Rattle.c_typed_definition.specs.State.{label_of, counted_static, laid}
 use Rattle.c_lower_needs.specs.Claims.{Weight}
@@ -81,15 +82,9 @@ unfolding laid
 laid_adds is_static at label align size a r e =
     laid_by is_static _ a r (λ q h. placed_adds at (label_of is_static label a) align size [] a q h) e
 
--- what an object holds is no object
-contents_keep : (n : ℕ) (f : Filled) (os : List Object) → length (with_contents n f os) ≡ length os
-contents_keep n f [] = refl
-contents_keep zero f (o ∷ os) = refl
-contents_keep (suc n) f (o ∷ os) = ap suc (contents_keep n f os)
-
 pub filled_keeps : (n : ℕ) (f : Filled) (a : Area) → Weight (filled n f a) ≡ Weight a
 unfolding filled
-filled_keeps n f a = let same = contents_keep n f a.objects in omega arith
+filled_keeps n f a = let same = held_length n f a.objects in omega arith
 
 -- ---- expressions: two for each token
 

@@ -21,6 +21,7 @@ use Rattle.c_typed_definition.specs.Headings.{Text, with_parameter, with_declare
 use Rattle.c_typed_definition.specs.Signatures.{known, parameter_type}
 use Rattle.c_typed_definition.specs.Texts.{empty_text}
 use Rattle.c_typed_law.specs.Texts.{AreParameters, IsBody, IsFunction, IsExternalBy, AreExternals, IsText}
+use Rattle.c_typed_law.proofs.Declared.{declared_bodies}
 use Rattle.c_lower_spelled.specs.Claims.{NeedAtMost}
 use Rattle.c_lower_spelled.proofs.Locals.{locals_are_few}
 use Rattle.c_lower_counts.proofs.Law.{typed_have_few_labels}
@@ -52,10 +53,6 @@ little_at : (m : ℕ) (gs : List ARoutine) → AllLittle m gs → (n : ℕ) (g :
 little_at m [] all n g there = absurd (cc)
 little_at m (x ∷ gs) all zero g there = subst (Little m) (let same : x ≡ g = cc in same) all.0
 little_at m (x ∷ gs) all (suc n) g there = little_at m gs all.1 n g there
-
-declared_same : (earlier : Option ℕ) (spec : Spec) (f : AFunction) (t : Text) → (with_declared earlier spec f t).bodies ≡ t.bodies
-declared_same None spec f t = refl
-declared_same (Some n) spec f t = refl
 
 -- how many functions are typed so far
 abbrev Done : Text → ℕ
@@ -95,13 +92,13 @@ module _ (names : List (List ℕ × Entry)) (signatures : List Signature) where
       let zero_locals : Count k.part ≡ 0 = parameters_keep (is_some f.body) (params_in f.params) 0 (entered_function u.state) k.part k.typed in
       let takes = function_takes f w in
       body_little spec f f.body k.part u r k.whole.whole zero_locals m w (omega arith)
-      (subst (AllLittle m) (sym (declared_same j.part spec f t)) all)
+      (subst (AllLittle m) (sym (declared_bodies j.part spec f t)) all)
 
   function_done : (spec : Spec) (f : AFunction) (t r : Text) → IsFunction names signatures spec f t r → Done r ≤ 1 + Done t
   function_done spec f t r j =
       let k = j.whole.whole in
       let x = body_done spec f f.body k.part (with_declared j.part spec f t) r k.whole.whole in
-      let same = ap (λ (gs : List ARoutine). length gs) (declared_same j.part spec f t) in
+      let same = ap (λ (gs : List ARoutine). length gs) (declared_bodies j.part spec f t) in
       omega arith
 
   external_little : (spec : Spec) (d : ADeclared) (t r : Text) → IsExternalBy names signatures spec d t r → (m : ℕ) (w : List Placed)

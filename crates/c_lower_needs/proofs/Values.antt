@@ -1,6 +1,5 @@
 -- Strings are no longer than their source, and each element of an initialiser writes at most four bytes.
-use Rattle.std.proofs.Common.{◌≡◌, ℕ, zero, suc, ◌+◌, ◌≤◌, List, ◌∷◌, ◌++◌, length, Option, Some, None, refl, ap, subst, arith}
-use Rattle.std.specs.Prelude.{◌/◌, ◌^◌}
+use Rattle.std.proofs.Common.{◌≡◌, ℕ, ◌+◌, ◌≤◌, List, ◌∷◌, ◌++◌, length, Option, Some, None, ap, subst, arith}
 use Rattle.std.proofs.lemmas.List.{length-append}
 use Rattle.tree_core.specs.declared.program.Object.{Object}
 use Rattle.c_tokens.specs.declared.token.Token.{Token}
@@ -18,6 +17,7 @@ use Rattle.c_types.specs.Types.{integer_size}
 use Rattle.c_types.specs.Typed.{AnExpression}
 use Rattle.c_typed_scope.specs.Layout.{Area}
 use Rattle.c_typed_scope.specs.Contents.{Filled, low_bytes, address_at}
+use Rattle.c_typed_scope.proofs.Written.{low_length}
 use Rattle.c_typed_words.specs.Words.{EachIs}
 use Rattle.c_typed_law.specs.Values.{IsPointerValue, Null, Address, IsWritten}
 use Rattle.c_lower_needs.specs.Claims.{IsShort, StringsAreShort, ElementsAreSmall}
@@ -68,10 +68,6 @@ pub strings_are_short : StringsAreShort
 strings_are_short bytes list unit few tokens is = subst (EachIs IsShort) is.text (each_short 0 bytes list tokens few)
 
 -- ---- elements of initialisers
-
-low_length : (n v : ℕ) → length (low_bytes n v) ≡ n
-low_length zero v = refl
-low_length (suc n) v = ap suc (low_length n (v / 2 ^ 8))
 
 integer_small : (b : Integer) → integer_size b ≤ 4
 unfolding integer_size

@@ -18,6 +18,7 @@ use Rattle.c_lower_scheme.specs.Trees.{Item, Num, Ret}
 use Rattle.c_lower_scheme.specs.Spelling.{spelled, spelled_all}
 use Rattle.c_lower_scheme.specs.Calls.{callee_number}
 use Rattle.c_lower_scheme.specs.Programs.{body_of, items_of, function_of, lower_all}
+use Rattle.c_lower_scheme.proofs.Facts.{all_lowered}
 use Rattle.c_lower_valid.specs.Claim.{LoweredIsValid}
 use Rattle.c_lower_valid.proofs.Named.{Scene, AllName}
 use Rattle.c_lower_valid.proofs.Rows.{scene, item_stands}
@@ -26,7 +27,7 @@ use Rattle.c_lower_valid.proofs.Acts.{fine_acts}
 use Rattle.c_lower_valid.proofs.Marks.{nowhere, marked_plain}
 use Rattle.c_lower_valid.proofs.Loops.{marked_row}
 use Rattle.c_lower_valid.proofs.Spelled.{targets_stand, labels_before}
-use Rattle.c_lower_valid.proofs.Naming.{all_lowered, each_lowered, lowered_at, none_behind, names_right}
+use Rattle.c_lower_valid.proofs.Naming.{each_lowered, lowered_at, none_behind, names_right}
 
 items_stand : (fs : List TreeFn) (objects : ℕ) (fn : TreeFn) (few : fn.args ≤ 255) (is : List Item)
     → AllName (scene fs objects fn few) fn.locals is → All (ItemStands fs objects fn) (spelled_all is)

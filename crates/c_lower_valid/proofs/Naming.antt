@@ -5,16 +5,12 @@ use Rattle.std.specs.List.{All}
 use Rattle.std.specs.Str.{bytes_eq}
 use Rattle.std.proofs.lemmas.Bool.{eq-eqb, false_from_ne_true}
 use Rattle.std.proofs.lemmas.List.Elements.{All-nil, All-cons}
-use Rattle.std.proofs.lemmas.Slice.Eq.{bytes_eq-Decides}
 use Rattle.tree_core.specs.declared.program.TreeFn.{TreeFn}
 use Rattle.tree_core.specs.Valid.{named, main_takes_nothing, NamesRight}
 use Rattle.c_program.specs.Programs.{ARoutine, AProgram}
 use Rattle.c_sound.specs.Sound.{IsSound}
+use Rattle.c_sound.proofs.Bytes.{same_names}
 use Rattle.c_lower_scheme.specs.Programs.{body_of, function_of, lower_all}
-
-pub all_lowered : (count : ℕ) (gs : List ARoutine) (l : ℕ) → length (lower_all count gs l) ≡ length gs
-all_lowered count [] l = refl
-all_lowered count (g ∷ gs) l = ap suc (all_lowered count gs (body_of count g l).labels)
 
 -- what holds of each routine as it is lowered, from whatever label on
 pub each_lowered : (P : TreeFn → Type 0) (count : ℕ) (gs : List ARoutine) (l : ℕ)
@@ -67,9 +63,6 @@ name_once count name (h ∷ gs) l (suc n) g e is only =
     let rest = name_once count name gs (body_of count h l).labels n g e is (λ f x ex t. let r = only (suc f) x ex t in omega (arith, r)) in
     ap (λ b. cond b 1 0 + named name (lower_all count gs (body_of count h l).labels)) other ∙ omega (arith, rest)
 
-same_name : (a b c : List ℕ) → bytes_eq a c ≡ true → bytes_eq b c ≡ true → bytes_eq a b ≡ true
-same_name a b c h g = (bytes_eq-Decides a b).1 ((bytes_eq-Decides a c).0 h ∙ sym ((bytes_eq-Decides b c).0 g))
-
 name_most : (count : ℕ) (name : List ℕ) (gs : List ARoutine) (l : ℕ)
     → ((f k : ℕ) (g h : ARoutine) → slice_get gs f ≡ Some g → slice_get gs k ≡ Some h → bytes_eq g.name h.name ≡ true → f ≡ k)
     → named name (lower_all count gs l) ≤ 1
@@ -82,7 +75,7 @@ name_most count name (g ∷ gs) l differ = cases (bytes_eq g.name name) refl
     cases true e most =
         let none = name_none count name gs (body_of count g l).labels
         (λ f x ex. false_from_ne_true (bytes_eq x.name name)
-        (λ t. let r = differ 0 (suc f) g x refl ex (same_name g.name x.name name e t) in omega (arith, r))) in
+        (λ t. let r = differ 0 (suc f) g x refl ex (same_names g.name x.name name e t) in omega (arith, r))) in
         omega (arith, none)
     cases false e most = omega (arith, most)
 

@@ -8,6 +8,7 @@ use Rattle.tree_core.specs.Items.{role_of, AllPush, CallsInOrder, nothing, other
 use Rattle.c_lower_scheme.specs.Trees.{Tree, Item, Label, AssignLoc, AssignArg, AssignMem, Cbr, Jump, Push, Call, Save, Ret}
 use Rattle.c_lower_scheme.specs.Spelling.{spelled, spelled_all}
 use Rattle.c_lower_scheme.specs.Calls.{pushes, args_count}
+use Rattle.c_lower_scheme.proofs.Facts.{spelled_append}
 
 order_append : {a : List TreeItem} (b : List TreeItem) → CallsInOrder a → CallsInOrder b → CallsInOrder (a ++ b)
 order_append b nothing g = g
@@ -16,10 +17,6 @@ order_append b (call ps c is all ap' rc h e) g = call ps c (is ++ b) _ ap' rc (o
     (ap (λ x. x ++ b) e ∙ append_assoc ps (c ∷ is) b)
 order_append b (saved ps c s is all ap' rc rs h e) g = saved ps c s (is ++ b) _ ap' rc rs (order_append b h g)
     (ap (λ x. x ++ b) e ∙ append_assoc ps (c ∷ s ∷ is) b)
-
-spelled_append : (a b : List Item) → spelled_all (a ++ b) ≡ spelled_all a ++ spelled_all b
-spelled_append [] b = refl
-spelled_append (i ∷ a) b = ap (λ w. spelled i ∷ w) (spelled_append a b)
 
 -- items in which calls are in order
 abbrev pub Orderly : List Item → Type 0

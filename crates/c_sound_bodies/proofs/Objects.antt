@@ -1,6 +1,5 @@
 -- Declarations of objects: they add objects, and the names of what they add.
-use Rattle.std.proofs.Common.{◌≡◌, ℕ, zero, suc, ◌+◌, ◌*◌, ◌<◌, ◌≤◌, Bool, true, false, List, [], ◌∷◌, length, Option, Some, None, Result, Ok, Err, refl, ap, ◌∙◌, arith}
-use Rattle.tree_core.specs.declared.program.Object.{Object}
+use Rattle.std.proofs.Common.{◌≡◌, ℕ, ◌+◌, ◌*◌, ◌<◌, ◌≤◌, Bool, true, false, List, [], length, Option, Some, None, Result, Ok, Err, refl, ap, ◌∙◌, arith}
 use Rattle.c_phrases.specs.declared.operator.Spec.{Spec}
 use Rattle.c_phrases.specs.Phrases.{AnExp, SomeExps, no_exps, exps}
 use Rattle.c_phrases.specs.Units.{AnInit, value, elements, ADeclarator}
@@ -14,7 +13,8 @@ use Rattle.c_typed_scope.specs.declared.entry.Entry.TheVariants as entries
 use Rattle.c_typed_scope.specs.declared.entry.Signature.{Signature}
 use Rattle.c_typed_scope.specs.Scopes.{Scope, with_name}
 use Rattle.c_typed_scope.specs.Layout.{Area}
-use Rattle.c_typed_scope.specs.Contents.{Filled, filled_to, with_contents, filled}
+use Rattle.c_typed_scope.specs.Contents.{Filled, filled_to, filled}
+use Rattle.c_typed_scope.proofs.Written.{held_length}
 use Rattle.c_sound.specs.Fits.{no_local}
 use Rattle.c_typed_expressions.specs.Phrases.{init_in, brackets_in}
 use Rattle.c_typed_expressions.specs.Expressions.{written}
@@ -29,15 +29,9 @@ use Rattle.c_sound_bodies.proofs.Names.{variable_more, scope_more, scope_named, 
 use Rattle.c_sound_bodies.proofs.Lengths.{count_stays}
 use Rattle.c_sound_bodies.proofs.Growth.{Added, placed_adds, placed_small, extends_same, extends_further, exp_extends}
 
--- what an object holds at first leaves its place and number
-pub contents_length : (n : ℕ) (f : Filled) (os : List Object) → length (with_contents n f os) ≡ length os
-contents_length n f [] = refl
-contents_length zero f (o ∷ os) = refl
-contents_length (suc n) f (o ∷ os) = let rest = contents_length n f os in ap suc rest
-
 pub filled_extends : (n : ℕ) (f : Filled) (a : Area) → Extends a (filled n f a)
 unfolding filled
-filled_extends n f a = let same = contents_length n f a.objects in record { objects = omega arith; measuring = refl }
+filled_extends n f a = let same = held_length n f a.objects in record { objects = omega arith; measuring = refl }
 
 counted_added : (is_static : Bool) (a : Area) (r : ℕ × Area) → Added a r → Added a (r.0, counted_static is_static r.1)
 counted_added true a r h = record { number = h.number; last = h.last; is = h.is; objects = h.objects; measuring = h.measuring }

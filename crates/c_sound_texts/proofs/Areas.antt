@@ -15,9 +15,10 @@ use Rattle.c_types.specs.Typed.{AnExpression, LiteralAt}
 use Rattle.c_typed_scope.specs.Layout.{Area, aligned, with_object, placed, one_more_literal, literal}
 use Rattle.c_tokens.specs.declared.token.Token.TheVariants as token
 use Rattle.c_sound.specs.Fits.{AreBytes}
+use Rattle.c_sound.proofs.Bytes.{bytes_joined}
 use Rattle.c_typed_words.specs.Words.{IsToken}
 use Rattle.c_sound_bodies.proofs.Growth.{Laying}
-use Rattle.c_sound_texts.proofs.Held.{bytes_joined, places_of, Addressed, Contains, contains_more, contents, AreContained, contained_more}
+use Rattle.c_sound_texts.proofs.Held.{places_of, Addressed, Contains, contains_more, contents, AreContained, contained_more}
 
 -- the objects lie one behind another from an address on, up to another
 abbrev pub LieTo : ℕ → List Object → ℕ → Type 0

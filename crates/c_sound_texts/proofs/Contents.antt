@@ -1,5 +1,5 @@
 -- What an object holds at first: as many bytes as its size, and links that lie in them.
-use Rattle.std.proofs.Common.{◌≡◌, ℕ, zero, suc, ◌+◌, ◌-◌, ◌/◌, ◌^◌, ◌<◌, ◌≤◌, true, List, [], length, refl, ap, inl, length-append, arith}
+use Rattle.std.proofs.Common.{◌≡◌, ℕ, ◌+◌, ◌-◌, ◌<◌, ◌≤◌, true, List, [], length, refl, inl, length-append, arith}
 use Rattle.std.proofs.Math.ListN.{replicate, get_or}
 use Rattle.std.proofs.lemmas.Bool.{and_from, le-leb, lt-ltb}
 use Rattle.std.proofs.lemmas.Bool.Decides.{nat_tests}
@@ -15,14 +15,11 @@ use Rattle.c_types.specs.declared.types.CType.TheVariants as types
 use Rattle.c_types.specs.Types.{integer_size, size_of}
 use Rattle.c_types.specs.Typed.{AnExpression}
 use Rattle.c_typed_scope.specs.Contents.{low_bytes, Filled, with_value, address_at, with_link, filled_to}
+use Rattle.c_typed_scope.proofs.Written.{low_length}
 use Rattle.c_typed_law.specs.Values.{Null, Address, IsWritten}
 use Rattle.c_sound_texts.proofs.Held.{Contains, places_of, value_contained, link_contained}
 use Rattle.c_sound_texts.proofs.Areas.{link_more}
 use Rattle.c_sound_texts.proofs.Linked.{NamesObjects, linked_below}
-
-low_length : (n v : ℕ) → length (low_bytes n v) ≡ n
-low_length zero v = refl
-low_length (suc n) v = ap suc (low_length n (v / 2 ^ 8))
 
 -- one value more
 pub written_contained : (t : CType) (x : AnExpression) (os : List Object) (f g : Filled) → NamesObjects (length os) x →

@@ -22,6 +22,7 @@ use Rattle.c_typed_definition.specs.Signatures.{signature_of, services, service_
 use Rattle.c_typed_definition.specs.Signatures.{known_with, known_from}
 use Rattle.c_typed_definition.specs.Headings.{Text, is_below, with_declared, body_of}
 use Rattle.c_typed_law.specs.Texts.{IsBody, IsFunction, IsExternalBy, AreExternals}
+use Rattle.c_typed_law.proofs.Declared.{declared_bodies}
 use Rattle.c_sound_bodies.specs.Claim.{AreDefined}
 
 -- the signature of a typed function
@@ -225,10 +226,6 @@ corresponds_more k bodies spec f b name heading none c =
       no_putchar = none_more bodies b (codes "putchar") new.putchar c.no_putchar;
       no_getchar = none_more bodies b (codes "getchar") new.getchar c.no_getchar;
     }
-
-declared_bodies : (earlier : Option ℕ) (spec : Spec) (f : AFunction) (t : Text) → (with_declared earlier spec f t).bodies ≡ t.bodies
-declared_bodies None spec f t = refl
-declared_bodies (Some n) spec f t = refl
 
 -- a function that is defined was not known before
 fresh_by : (defines : Bool) (o all : Option Entry) (n : ℕ) → ((e : Entry) → o ≡ Some e → all ≡ Some e) →

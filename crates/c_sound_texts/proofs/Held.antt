@@ -8,18 +8,11 @@ use Rattle.tree_core.specs.declared.program.Object.{Object}
 use Rattle.tree_core.specs.declared.program.Link.{Link}
 use Rattle.c_typed_scope.specs.Contents.{low_bytes, Filled, with_value, address_at, with_link, filled_to}
 use Rattle.c_sound.specs.Fits.{AreBytes}
-
-pub bytes_joined : (xs ys : List ℕ) → AreBytes xs → AreBytes ys → AreBytes (xs ++ ys)
-bytes_joined [] ys h k = k
-bytes_joined (x ∷ xs) ys h k = (h.0, bytes_joined xs ys h.1 k)
+use Rattle.c_sound.proofs.Bytes.{zeros_are_bytes, bytes_joined}
 
 low_bytes_are : (n v : ℕ) → AreBytes (low_bytes n v)
 low_bytes_are zero v = tt
 low_bytes_are (suc n) v = (omega arith, low_bytes_are n (v / 2 ^ 8))
-
-zeros_are_bytes : (n : ℕ) → AreBytes (replicate n 0)
-zeros_are_bytes zero = tt
-zeros_are_bytes (suc n) = (omega arith, zeros_are_bytes n)
 
 -- the addresses of objects
 abbrev pub places_of : List Object → List ℕ

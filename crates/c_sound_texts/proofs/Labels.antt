@@ -21,6 +21,7 @@ use Rattle.c_typed_scope.specs.declared.entry.Signature.{Signature}
 use Rattle.c_typed_scope.specs.Scopes.{with_name}
 use Rattle.c_typed_scope.specs.Layout.{Area, with_object, one_more_literal, literal}
 use Rattle.c_typed_scope.specs.Contents.{Filled, filled_to, with_contents, filled}
+use Rattle.c_typed_scope.proofs.Written.{held_length}
 use Rattle.c_typed_expressions.specs.Phrases.{init_in, brackets_in}
 use Rattle.c_typed_expressions.specs.Expressions.{written}
 use Rattle.c_typed_definition.specs.State.{State, with_area, label_of, variable_of, counted_static, array_entry, laid}
@@ -29,7 +30,6 @@ use Rattle.c_typed_law.specs.Objects.{IsObject}
 use Rattle.c_typed_words.proofs.Any.{AnyToken, any_init, any_part}
 use Rattle.c_sound_bodies.proofs.Growth.{Laying}
 use Rattle.c_sound_bodies.proofs.Lengths.{count_stays}
-use Rattle.c_sound_bodies.proofs.Objects.{contents_length}
 use Rattle.c_sound_bodies.proofs.Adding.{contents_lay, literals_lay}
 use Rattle.c_sound_texts.proofs.Areas.{Placed, placed_is}
 
@@ -188,7 +188,7 @@ unfolding filled
 filled_numbers n f a b h = record {
   statics = h.statics;
   literals = h.literals;
-  counted = let same : length (with_contents n f b.objects) ≡ length b.objects = contents_length n f b.objects in
+  counted = let same : length (with_contents n f b.objects) ≡ length b.objects = held_length n f b.objects in
       let one : b.statics + b.literals + length a.objects ≤ a.statics + a.literals + length b.objects = h.counted in
       omega arith;
   more = h.more;

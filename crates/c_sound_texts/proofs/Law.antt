@@ -2,10 +2,8 @@
 use Rattle.std.proofs.Common.{◌≡◌, ℕ, zero, suc, ◌+◌, ◌<◌, ◌≤◌, ◌^◌, ◌==◌, ◌&&◌, true, List, [], ◌∷◌, length, Some, refl, sym, ap, subst, ◌∙◌, arith}
 use Rattle.std.proofs.lemmas.Bool.{and_from, and_parts, leb-true}
 use Rattle.std.proofs.lemmas.List.Elements.{All-head, All-tail}
-use Rattle.std.proofs.lemmas.Slice.Eq.{bytes_eq-Decides}
 use Rattle.std.specs.Prelude.{codes, slice_get, nat_le, IsTrue}
 use Rattle.std.specs.List.{All}
-use Rattle.std.specs.Str.{bytes_eq}
 use Rattle.tree_core.specs.declared.program.Object.{Object}
 use Rattle.tree_core.specs.Valid.{LinksLie, is_aligned, is_whole, is_placed, rounded, object_lies, objects_lie}
 use Rattle.c_phrases.specs.Units.{AnExternal}
@@ -13,6 +11,7 @@ use Rattle.c_typed_scope.specs.declared.entry.Entry.TheVariants as entries
 use Rattle.c_typed_scope.specs.declared.entry.Signature.{Signature}
 use Rattle.c_program.specs.Programs.{AProgram}
 use Rattle.c_sound.specs.Sound.{HoldBytes, IsSound}
+use Rattle.c_sound.proofs.Bytes.{same_names}
 use Rattle.c_typed_definition.specs.Signatures.{known, services, service_names, Known}
 use Rattle.c_typed_definition.specs.Headings.{Text}
 use Rattle.c_typed_definition.specs.Texts.{main_of, empty_text}
@@ -50,9 +49,6 @@ addresses_below : (at : ℕ) (os : List Object) (last : ℕ) → LieTo at os las
 addresses_below at [] last h n o here = absurd (cc)
 addresses_below at (x ∷ os) last h zero o here = let same : o ≡ x = cc in rw same (address_below at x h.0)
 addresses_below at (x ∷ os) last h (suc n) o here = addresses_below (x.address + x.size) os last h.1 n o here
-
-same_names : (a b c : List ℕ) → bytes_eq a c ≡ true → bytes_eq b c ≡ true → bytes_eq a b ≡ true
-same_names a b c h k = (bytes_eq-Decides a b).1 ((bytes_eq-Decides a c).0 h ∙ sym ((bytes_eq-Decides b c).0 k))
 
 -- where a text begins
 abbrev beginning : Known

@@ -8,7 +8,6 @@ use Rattle.std.proofs.lemmas.Slice.Eq.{bytes_eq-Decides}
 use Rattle.gg_base.proofs.Facts.{slice_cases, same_tail}
 use Rattle.c_tokens.specs.declared.token.Token.TheVariants as token
 use Rattle.c_phrases.specs.declared.operator.Spec.{Spec}
-use Rattle.c_phrases.specs.declared.tree.Named.{Named}
 use Rattle.c_phrases.specs.Phrases.{AnExp}
 use Rattle.c_phrases.specs.Units.{SomeItems, ADeclarator, AParam, AFunction, ADeclared, function, globals, AnExternal}
 use Rattle.c_types.specs.declared.types.CType.{CType}
@@ -24,7 +23,7 @@ use Rattle.c_typed_expressions.specs.Phrases.{brackets_in, params_in}
 use Rattle.c_typed_expressions.specs.Expressions.{written}
 use Rattle.c_typed_definition.specs.State.{State, with_area}
 use Rattle.c_typed_definition.specs.Signatures.{parameter_type}
-use Rattle.c_typed_definition.specs.Headings.{Text, with_parameter, with_state, with_declared, with_body, body_of}
+use Rattle.c_typed_definition.specs.Headings.{Text, with_state, with_declared, with_body, body_of}
 use Rattle.c_typed_definition.specs.Headings.{entered_function, left_function}
 use Rattle.c_typed_definition.specs.Texts.{empty_text}
 use Rattle.c_typed_law.specs.Headings.{IsEarlier}
@@ -32,6 +31,7 @@ use Rattle.c_typed_law.specs.Texts.{IsParameterLength, AreParameters, IsBody, Is
 use Rattle.c_typed_law.specs.Texts.{AreExternals}
 use Rattle.c_typed_law.specs.Statements.{AreItems}
 use Rattle.c_typed_law.proofs.Statements.{items_mean}
+use Rattle.c_typed_law.proofs.Declared.{parameter_area}
 use Rattle.c_typed_words.specs.Words.{IsName, IsToken}
 use Rattle.c_typed_words.specs.Phrases.{DeclaratorOf, DeclaratorsOf, BodyOf, DeclaredOf, ExternalsOf}
 use Rattle.c_typed_words.proofs.Any.{AnyToken, any_exp, any_items}
@@ -253,10 +253,6 @@ declared_finds earlier spec f t (Some (entries.Function k)) is j = rw j (record 
 declared_finds earlier spec f t (Some (entries.Variable c v)) is j = absurd j
 declared_finds earlier spec f t (Some (entries.Array c v size)) is j = absurd j
 
-declared_area : (earlier : Option ℕ) (spec : Spec) (f : AFunction) (t : Text) → (with_declared earlier spec f t).state.area ≡ t.state.area
-declared_area None spec f t = refl
-declared_area (Some n) spec f t = refl
-
 -- one function more
 function_added : (s : State) (bodies : List ARoutine) (b : ARoutine) → IsNamed s bodies → NamesFunction s.scope b.name → IsNamed s (bodies ++ b ∷ [])
 function_added s bodies b h f = record {
@@ -267,10 +263,6 @@ function_added s bodies b h f = record {
   putchar = h.putchar;
   getchar = h.getchar;
 }
-
-with_parameter_area : (name : Option Named) (t : CType) (n : ℕ) (s : State) → (with_parameter name t n s).area ≡ s.area
-with_parameter_area None t n s = refl
-with_parameter_area (Some name) t n s = refl
 
 module _ (names : List (List ℕ × Entry)) (signatures : List Signature) where
   parameter_length_numbers : (l : Option (Option AnExp)) (scope : Scope) (a b : Area) → IsParameterLength names signatures l scope a b → Numbers a b
@@ -289,7 +281,7 @@ module _ (names : List (List ℕ × Entry)) (signatures : List Signature) where
       let k = i.whole in
       let first = parameter_length_numbers (brackets_in p.length) s.scope s.area k.part k.typed in
       let area : j.part.area ≡ k.part =
-      ap (λ (z : State). z.area) k.whole ∙ with_parameter_area p.name (parameter_type p) n (with_area k.part s) in
+      ap (λ (z : State). z.area) k.whole ∙ parameter_area p.name (parameter_type p) n (with_area k.part s) in
       numbers_further s.area j.part.area r.area (subst (Numbers s.area) (sym area) first) (parameters_number defines ps (n + 1) j.part r j.whole)
 
   -- a function's body, and where it ends

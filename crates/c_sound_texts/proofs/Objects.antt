@@ -26,6 +26,7 @@ use Rattle.c_typed_scope.specs.Layout.{Area, aligned}
 use Rattle.c_types.specs.Typed.{AnExpression, type_of}
 use Rattle.c_types.specs.Constants.{constant_of}
 use Rattle.c_typed_scope.specs.Contents.{in_range, length_of, Filled, filled_to, holding, with_contents, filled}
+use Rattle.c_typed_scope.proofs.Written.{held_length}
 use Rattle.c_typed_expressions.specs.Phrases.{init_in, brackets_in}
 use Rattle.c_typed_expressions.specs.Calls.{count}
 use Rattle.c_typed_expressions.specs.Expressions.{written}
@@ -85,11 +86,6 @@ held : (g : Filled) (os : List Object) (o : Object) (more : List Object) →
     with_contents (length os) g ((os ++ o ∷ []) ++ more) ≡ os ++ holding g o ∷ more
 held g [] o more = refl
 held g (x ∷ os) o more = ap (λ (z : List Object). x ∷ z) (held g os o more)
-
-held_length : (n : ℕ) (g : Filled) (os : List Object) → length (with_contents n g os) ≡ length os
-held_length n g [] = refl
-held_length zero g (o ∷ os) = refl
-held_length (suc n) g (o ∷ os) = ap suc (held_length n g os)
 
 -- an object that gets what it holds, once others were laid behind it
 held_places : (n : ℕ) (g : Filled) (os : List Object) → places_of (with_contents n g os) ≡ places_of os

@@ -7,7 +7,6 @@ use Rattle.tree_core.specs.declared.program.Object.{Object}
 use Rattle.c_phrases.specs.declared.operator.Spec.{Spec}
 use Rattle.c_phrases.specs.declared.operator.Storage.{Storage}
 use Rattle.c_phrases.specs.declared.operator.Storage.TheVariants as storages
-use Rattle.c_phrases.specs.declared.tree.Named.{Named}
 use Rattle.c_phrases.specs.Phrases.{AnExp, name, number, str, paren, call, index, step_after, step_before, prefix}
 use Rattle.c_phrases.specs.Phrases.{sizeof_exp, sizeof_type, cast, binary, choice, assign, comma, SomeExps, no_exps}
 use Rattle.c_phrases.specs.Phrases.{exps}
@@ -35,7 +34,7 @@ use Rattle.c_typed_definition.specs.Declarations.{length_in, literals_in, conten
 use Rattle.c_typed_definition.specs.Declarations.{plain_object, counted_array, array_object, object_by, type_object}
 use Rattle.c_typed_definition.specs.Declarations.{begun, type_automatic, type_local, type_locals}
 use Rattle.c_typed_definition.specs.Statements.{entered, left, jump, type_full, type_condition, type_maybe, type_maybe_condition, type_return, type_statement, type_items}
-use Rattle.c_typed_definition.specs.Headings.{with_parameter, Text, with_declared, entered_function, agrees}
+use Rattle.c_typed_definition.specs.Headings.{Text, with_declared, entered_function, agrees}
 use Rattle.c_typed_definition.specs.Headings.{earlier_by, head_of, is_below}
 use Rattle.c_typed_definition.specs.Signatures.{signature_of, known}
 use Rattle.c_typed_definition.specs.Texts.{type_parameter, parameter_length, type_parameters, type_body}
@@ -43,6 +42,7 @@ use Rattle.c_typed_definition.specs.Texts.{type_introduced, type_function, type_
 use Rattle.c_typed_definition.specs.Texts.{type_externals, whole_by, main_of, empty_text, type_text}
 use Rattle.c_typed_check.specs.Laid.{LiesBehind, LieFrom, AreLaid}
 use Rattle.c_typed_law.proofs.Law.{text_means}
+use Rattle.c_typed_law.proofs.Declared.{declared_area, parameter_area}
 use Rattle.c_typed_check.specs.Typed.{IsTypedUnit}
 
 -- one more behind the others
@@ -282,14 +282,6 @@ module _ (names : List (List ℕ × Entry)) (signatures : List Signature) (gives
 
 abbrev LeavesText : Text → Result Text Fault → Type 0
 LeavesText t m = Leaves (IsLaid t.state.area) (λ (r : Text). IsLaid r.state.area) m
-
-declared_area : (earlier : Option ℕ) (spec : Spec) (f : AFunction) (t : Text) → (with_declared earlier spec f t).state.area ≡ t.state.area
-declared_area None spec f t = refl
-declared_area (Some n) spec f t = refl
-
-parameter_area : (n : Option Named) (t : CType) (k : ℕ) (s : State) → (with_parameter n t k s).area ≡ s.area
-parameter_area None t k s = refl
-parameter_area (Some n) t k s = refl
 
 module _ (names : List (List ℕ × Entry)) (signatures : List Signature) where
   parameter_length_leaves : (l : Option (Option AnExp)) (scope : Scope) (a : Area) → Leaves (IsLaid a) IsLaid (parameter_length names signatures l scope a)

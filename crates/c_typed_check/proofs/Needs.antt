@@ -22,6 +22,7 @@ use Rattle.c_typed_definition.specs.Texts.{type_parameters, type_globals, type_b
 use Rattle.c_typed_definition.specs.Texts.{type_declared, type_external, type_externals, main_of, whole_by, type_text}
 use Rattle.c_typed_definition.specs.Texts.{empty_text}
 use Rattle.c_typed_law.proofs.Law.{text_means}
+use Rattle.c_typed_law.proofs.Declared.{declared_bodies}
 use Rattle.c_typed_check.specs.Typed.{IsTypedUnit, need_in, need_at}
 
 pub record KeepsNeed (r : ARoutine) : Type 0 where
@@ -44,10 +45,6 @@ record Bound {A B : Type 0} (m : Result A Fault) (k : A → Result B Fault) (y :
 bound : {A B : Type 0} (m : Result A Fault) (k : A → Result B Fault) (y : B) → (m >>= k) ≡ Ok y → Bound m k y
 bound (Ok x) k y e = record { part = x; is = refl; rest = e }
 bound (Err f) k y e = absurd (cc)
-
-same_bodies : (earlier : Option ℕ) (spec : Spec) (f : AFunction) (t : Text) → (with_declared earlier spec f t).bodies ≡ t.bodies
-same_bodies None spec f t = refl
-same_bodies (Some n) spec f t = refl
 
 abbrev fine : {A : Type 0} → A → Result A Fault
 fine x = Ok x
@@ -79,7 +76,7 @@ module _ (names : List (List ℕ × Entry)) (signatures : List Signature) where
       type_introduced names signatures earlier spec f (with_declared earlier spec f t)) u typed in
       let b = bound (head_of (is_some f.body) (is_below (find names f.name) (length t.bodies + 2)) (integer_of spec) f.stars f.at)
       (λ ok. type_introduced names signatures a.part spec f (with_declared a.part spec f t)) u a.rest in
-      introduced_keeps a.part spec f (with_declared a.part spec f t) u b.rest (subst AllKeep (sym (same_bodies a.part spec f t)) keep)
+      introduced_keeps a.part spec f (with_declared a.part spec f t) u b.rest (subst AllKeep (sym (declared_bodies a.part spec f t)) keep)
 
   declared_keeps : (spec : Spec) (d : ADeclared) (t u : Text) → type_declared names signatures spec d t ≡ Ok u → AllKeep t.bodies → AllKeep u.bodies
   declared_keeps spec (function f) t u typed keep = function_keeps spec f t u typed keep

@@ -4,3 +4,4 @@ pub mod Objects
 pub mod Statements
 pub mod Law
 pub mod Answers
+pub mod Declared

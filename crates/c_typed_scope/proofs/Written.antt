@@ -72,3 +72,14 @@ literal_laid at bytes label closed size n a b off named ended sized laid =
 -- one zero more
 pub padded_more : (old now : List ℕ) (n : ℕ) → now ≡ old ++ replicate n 0 → now ++ 0 ∷ [] ≡ old ++ replicate (n + 1) 0
 padded_more old now n is = rw (is, append_assoc, replicate_more) refl
+
+-- lengths stay
+
+pub held_length : (n : ℕ) (g : Filled) (os : List Object) → length (with_contents n g os) ≡ length os
+held_length n g [] = refl
+held_length zero g (o ∷ os) = refl
+held_length (suc n) g (o ∷ os) = ap suc (held_length n g os)
+
+pub low_length : (n v : ℕ) → length (low_bytes n v) ≡ n
+low_length zero v = refl
+low_length (suc n) v = ap suc (low_length n (v / 2 ^ 8))

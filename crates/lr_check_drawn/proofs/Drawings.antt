@@ -8,6 +8,7 @@ use Rattle.md_reader.specs.declared.types.Sym.{Sym}
 use Rattle.lr_check_sets.specs.Automaton.{Automaton}
 use Rattle.lr_check.specs.Tree.{Node}
 use Rattle.lr_check.specs.Statement.{KidsFit}
+use Rattle.lr_check.proofs.Typed.{fit_none, fit_one, fit_two}
 use Rattle.lr_check_found.specs.declared.places.Place.{Place}
 use Rattle.lr_check_found.specs.declared.settlings.How.{How}
 use Rattle.lr_check_found.specs.declared.settlings.Settling.{Settling}
@@ -21,7 +22,6 @@ use Rattle.lr_check_drawn.specs.Drawing.{DrawingView, IsDrawnAt, AreDrawn}
 use Rattle.lr_check_nodes.specs.Growing.{AreWhole}
 use Rattle.lr_check_drawn.specs.Rising.{HaveNodes}
 use Rattle.lr_check_drawn.specs.Sampled.{Draws, AreSettled}
-use Rattle.lr_check_nodes.proofs.Wholes.{fit_none, fit_one, fit_two}
 use Rattle.lr_check_drawn.proofs.Leaves.{node_fits}
 
 -- how a settling at a place was made

@@ -7,6 +7,7 @@ use Rattle.tree_core.specs.Grammar.{kids}
 use Rattle.lr_check_sets.specs.Trees.{May}
 use Rattle.lr_check.specs.Tree.{Node}
 use Rattle.lr_check.specs.Statement.{fits_at, KidsFit}
+use Rattle.lr_check.proofs.Typed.{fit_two}
 use Rattle.lr_check_found.specs.declared.places.Place.{Place}
 use Rattle.lr_check_found.specs.declared.places.Origin.{Origin}
 use Rattle.lr_check_found.specs.declared.places.Origin.TheVariants as origin
@@ -14,7 +15,7 @@ use Rattle.lr_check_found.specs.Found.{FoundView, IsPlaceAt}
 use Rattle.lr_check_samples.specs.Fixed.{IsOrigin}
 use Rattle.lr_check_samples.specs.Nodes.{IsNode}
 use Rattle.lr_check_nodes.specs.Growing.{AreWhole, HasLast, HasTreeFrom}
-use Rattle.lr_check_nodes.proofs.Wholes.{fit_two, grows_none, grows_both, node_grows, last_over}
+use Rattle.lr_check_nodes.proofs.Wholes.{grows_none, grows_both, node_grows, last_over}
 use Rattle.lr_check_drawn.specs.Rising.{BegunFirst, begun_only, begun_both, BegunSecond, IsBegun, HasBegun, AreBegun, HasToken, HaveNodes, StandsAt, FitsFirst, fits_only}
 use Rattle.lr_check_drawn.specs.Rising.{fits_first, HasFirst, has_only, has_first, over_only, over_first, over_second, up_here, up_more, HasParent, AfterParent, Rising}
 use Rattle.lr_check_drawn.specs.Rising.{HasRisen}

@@ -1,10 +1,9 @@
 -- Nodes whose kids stand before them and fit.
 use Rattle.std.proofs.Common.{◌≡◌, ◌⊎◌, ℕ, zero, suc, ◌+◌, ◌<◌, ◌≤◌, List, [], ◌∷◌, ◌++◌, Some, None, Bool, true, Contains, length, get_or, take, slice_get, refl, sym, ap}
-use Rattle.std.proofs.Common.{ap₂, ◌∙◌, subst, subst₂, inl, inr, ⊎_elim, arith, length-append, append_assoc, append-nil}
+use Rattle.std.proofs.Common.{◌∙◌, subst, subst₂, inl, inr, ⊎_elim, arith, length-append, append_assoc, append-nil}
 use Rattle.std.specs.Prelude.{Result, Ok, Err, IfOk}
 use Rattle.std.proofs.lemmas.List.{take_all, get_or_default}
 use Rattle.std.proofs.lemmas.Bool.{false≢true}
-use Rattle.std.proofs.lemmas.Option.{same_Some, none-some}
 use Rattle.gg_base.proofs.Facts.{slice_left, slice_last, slice_cases}
 use Rattle.tree_core.specs.declared.token.Tok.{Tok}
 use Rattle.tree_core.specs.declared.token.Sort.{Sort}
@@ -13,6 +12,7 @@ use Rattle.tree_core.specs.Grammar.{kids, sort_of}
 use Rattle.lr_tables.proofs.Members.{In, Contains-In}
 use Rattle.lr_check.specs.Tree.{Node}
 use Rattle.lr_check.specs.Statement.{sort_fits, fits_at, KidsFit}
+use Rattle.lr_check.proofs.Typed.{fit_none, fit_more}
 use Rattle.lr_check_nodes.specs.Growing.{AreWhole, Grows, HasTreeOf, HaveKids, HasLast, HasTreeFrom, smallest}
 use Rattle.lr_check_nodes.proofs.Listing.{at_in}
 
@@ -48,23 +48,6 @@ kids_within nodes (j ∷ ks) (x ∷ xs) h k c = ⊎_elim
     (λ e. subst (λ z. z < length nodes) e (fits_within nodes j x (kids_head nodes j ks x xs h)))
     (λ g. kids_within nodes ks xs (kids_tail nodes j ks x xs h) k g)
     c
-
-pub fit_none : (nodes : List Node) (xs : List Sort) → xs ≡ [] → KidsFit nodes [] xs
-fit_none nodes xs e = record { many = ap length (sym e); each = λ i k x at is. absurd (none-some k at) }
-
-pub fit_more : (nodes : List Node) (k : ℕ) (ks : List ℕ) (x : Sort) (xs : List Sort) → fits_at (slice_get nodes k) x ≡ true → KidsFit nodes ks xs → KidsFit nodes (k ∷ ks) (x ∷ xs)
-fit_more nodes k ks x xs fits h = record { many = ap suc h.many; each = by }
-  where
-    by : (i j : ℕ) (y : Sort) → slice_get (k ∷ ks) i ≡ Some j → slice_get (x ∷ xs) i ≡ Some y → fits_at (slice_get nodes j) y ≡ true
-    by zero j y at is = ap₂ (λ (a : ℕ) (b : Sort). fits_at (slice_get nodes a) b) (sym (same_Some k j at)) (sym (same_Some x y is)) ∙ fits
-    by (suc i) j y at is = h.each i j y at is
-
-pub fit_one : (nodes : List Node) (n : ℕ) (x : Sort) (xs : List Sort) → xs ≡ x ∷ [] → fits_at (slice_get nodes n) x ≡ true → KidsFit nodes (n ∷ []) xs
-fit_one nodes n x xs e fits = subst (KidsFit nodes (n ∷ [])) (sym e) (fit_more nodes n [] x [] fits (fit_none nodes [] refl))
-
-pub fit_two : (nodes : List Node) (n m : ℕ) (x v : Sort) (xs : List Sort) → xs ≡ x ∷ v ∷ [] → fits_at (slice_get nodes n) x ≡ true → fits_at (slice_get nodes m) v ≡ true →
-    KidsFit nodes (n ∷ m ∷ []) xs
-fit_two nodes n m x v xs e fits fits' = subst (KidsFit nodes (n ∷ m ∷ [])) (sym e) (fit_more nodes n (m ∷ []) x (v ∷ []) fits (fit_more nodes m [] v [] fits' (fit_none nodes [] refl)))
 
 -- one more behind them
 pub fit_snoc : (nodes : List Node) (ks : List ℕ) (xs : List Sort) (k : ℕ) (x : Sort) → KidsFit nodes ks xs → fits_at (slice_get nodes k) x ≡ true → KidsFit nodes (ks ++ k ∷ []) (xs ++ x ∷ [])

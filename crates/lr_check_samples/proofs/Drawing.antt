@@ -1,6 +1,5 @@
 -- Nodes that are drawn for what was found unfold to its trees.
-use Rattle.std.proofs.Common.{◌≡◌, ℕ, zero, suc, List, [], ◌∷◌, ◌++◌, Some, None, Bool, true, length, slice_get, refl, sym, ap, ap₂, ◌∙◌, subst, append_assoc, append-nil}
-use Rattle.std.proofs.lemmas.Option.{same_Some, none-some}
+use Rattle.std.proofs.Common.{◌≡◌, ℕ, List, [], ◌∷◌, ◌++◌, Some, None, Bool, true, slice_get, refl, sym, ap, ◌∙◌, subst, append_assoc, append-nil}
 use Rattle.tree_core.specs.declared.token.Tok.{Tok}
 use Rattle.tree_core.specs.declared.token.Sort.{Sort}
 use Rattle.tree_core.specs.Grammar.{kids, sort_of}
@@ -8,7 +7,8 @@ use Rattle.lr_check_sets.specs.Automaton.{Automaton}
 use Rattle.lr_check_sets.specs.Trees.{May, fits_in}
 use Rattle.lr_check_sets.specs.Answers.{Leaf}
 use Rattle.lr_check.specs.Tree.{Node, Token, Unfolds, goes_on}
-use Rattle.lr_check.specs.Statement.{sort_fits, fits_at, KidsFit}
+use Rattle.lr_check.specs.Statement.{sort_fits, fits_at}
+use Rattle.lr_check.proofs.Typed.{fit_none, fit_one, fit_two}
 use Rattle.lr_check_found.specs.declared.places.Place.{Place}
 use Rattle.lr_check_found.specs.Found.{FoundView, SettlesAt}
 use Rattle.lr_check_found.specs.Sound.{IsFound}
@@ -50,31 +50,6 @@ node_fits nodes n {k = k} x there may = ap (λ o. fits_at o x) there ∙ by (sor
 
 abbrev the_none : List Node → List ℕ
 the_none nodes = []
-
-fit_none : (nodes : List Node) (xs : List Sort) → xs ≡ [] → KidsFit nodes [] xs
-fit_none nodes xs e = record { many = ap length (sym e); each = λ i k x h g. absurd (none-some k (nowhere i h)) }
-  where
-    nowhere : (i : ℕ) {k : ℕ} → slice_get (the_none nodes) i ≡ Some k → None ≡ Some k
-    nowhere zero h = h
-    nowhere (suc i) h = h
-
-fit_one : (nodes : List Node) (n : ℕ) (x : Sort) (xs : List Sort) → xs ≡ x ∷ [] → fits_at (slice_get nodes n) x ≡ true → KidsFit nodes (n ∷ []) xs
-fit_one nodes n x xs e fits = record { many = ap length (sym e); each = λ i k y h g. by i k y h (ap (λ l. slice_get l i) (sym e) ∙ g) }
-  where
-    by : (i k : ℕ) (y : Sort) → slice_get (n ∷ []) i ≡ Some k → slice_get (x ∷ []) i ≡ Some y → fits_at (slice_get nodes k) y ≡ true
-    by zero k y h g = ap₂ (λ (a : ℕ) (b : Sort). fits_at (slice_get nodes a) b) (sym (same_Some n k h)) (sym (same_Some x y g)) ∙ fits
-    by (suc zero) k y h g = absurd (none-some k h)
-    by (suc (suc i)) k y h g = absurd (none-some k h)
-
-fit_two : (nodes : List Node) (n m : ℕ) (x v : Sort) (xs : List Sort) → xs ≡ x ∷ v ∷ [] → fits_at (slice_get nodes n) x ≡ true → fits_at (slice_get nodes m) v ≡ true →
-    KidsFit nodes (n ∷ m ∷ []) xs
-fit_two nodes n m x v xs e fits fits' = record { many = ap length (sym e); each = λ i k y h g. by i k y h (ap (λ l. slice_get l i) (sym e) ∙ g) }
-  where
-    by : (i k : ℕ) (y : Sort) → slice_get (n ∷ m ∷ []) i ≡ Some k → slice_get (x ∷ v ∷ []) i ≡ Some y → fits_at (slice_get nodes k) y ≡ true
-    by zero k y h g = ap₂ (λ (a : ℕ) (b : Sort). fits_at (slice_get nodes a) b) (sym (same_Some n k h)) (sym (same_Some x y g)) ∙ fits
-    by (suc zero) k y h g = ap₂ (λ (a : ℕ) (b : Sort). fits_at (slice_get nodes a) b) (sym (same_Some m k h)) (sym (same_Some v y g)) ∙ fits'
-    by (suc (suc zero)) k y h g = absurd (none-some k h)
-    by (suc (suc (suc i))) k y h g = absurd (none-some k h)
 
 module _ (A : Automaton) (f : FoundView) (nodes : List Node) (found : IsFound A f) where
   pub drawn : {i : ℕ} {ks : List ℕ} {own : List Bool} {ds : List ℕ} → DrawnKids A f nodes i ks own ds → IsDrawn A f nodes i ks own ds

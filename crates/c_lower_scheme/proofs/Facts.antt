@@ -1,0 +1,46 @@
+-- Small facts of lowered trees that several laws of lowering cite.
+use Rattle.std.proofs.Common.{◌≡◌, ℕ, suc, List, [], ◌∷◌, length, refl, ap, ◌++◌}
+use Rattle.std.specs.Prelude.{Bool, true, false, not, ◌&&◌, ◌||◌}
+use Rattle.std.proofs.lemmas.Bool.{not-true}
+use Rattle.gg_base.proofs.Facts.{first_true, second_true}
+use Rattle.c_program.specs.Programs.{ARoutine}
+use Rattle.c_lower_scheme.specs.Programs.{body_of, lower_all}
+use Rattle.c_lower_scheme.specs.Trees.{Tree, Num, Gaddr, Loc, Arg, Indir, Conv, Neg, Com, Bin, divides_by, divides, stable, is_leaf, Item}
+use Rattle.c_lower_scheme.specs.Spelling.{spelled, spelled_all}
+
+pub all_lowered : (count : ℕ) (gs : List ARoutine) (l : ℕ) → length (lower_all count gs l) ≡ length gs
+all_lowered count [] l = refl
+all_lowered count (g ∷ gs) l = ap suc (all_lowered count gs (body_of count g l).labels)
+
+pub leaf_inert : (w : Tree) → is_leaf w ≡ true → divides w ≡ false
+leaf_inert (Num n) h = refl
+leaf_inert (Gaddr n) h = refl
+leaf_inert (Loc n) h = refl
+leaf_inert (Arg n) h = refl
+leaf_inert (Indir i a) h = absurd (cc)
+leaf_inert (Conv i w) h = absurd (cc)
+leaf_inert (Neg w) h = absurd (cc)
+leaf_inert (Com w) h = absurd (cc)
+leaf_inert (Bin op a b) h = absurd (cc)
+
+pub neither : (a b : Bool) → a ≡ false → b ≡ false → a || b ≡ false
+neither a b e h = cc
+
+pub stable_inert : (size : ℕ) (w : Tree) → stable size w ≡ true → divides w ≡ false
+stable_inert size (Num n) h = refl
+stable_inert size (Gaddr n) h = refl
+stable_inert size (Loc n) h = refl
+stable_inert size (Arg n) h = refl
+stable_inert size (Indir i a) h = absurd (cc)
+stable_inert size (Conv i w) h = stable_inert size w h
+stable_inert size (Neg w) h = stable_inert size w h
+stable_inert size (Com w) h = stable_inert size w h
+stable_inert size (Bin op a b) h =
+    let both = second_true (not (divides_by op)) (stable size a && stable size b) h in
+    let op_inert = not-true (divides_by op) (first_true (not (divides_by op)) (stable size a && stable size b) h) in
+    let a_inert = stable_inert size a (first_true (stable size a) (stable size b) both) in
+    neither (divides_by op) (divides a || divides b) op_inert (neither (divides a) (divides b) a_inert (stable_inert size b (second_true (stable size a) (stable size b) both)))
+
+pub spelled_append : (a b : List Item) → spelled_all (a ++ b) ≡ spelled_all a ++ spelled_all b
+spelled_append [] b = refl
+spelled_append (i ∷ a) b = ap (λ l. spelled i ∷ l) (spelled_append a b)
