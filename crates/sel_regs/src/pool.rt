@@ -140,12 +140,7 @@ fn lowest(registers: &[Register; 16]) -> Option<u8>
     ensures free { IfSome result (λ r. slice_get registers.now r ≡ Some Register.Free) }
     ensures lowest { IfSome result (λ r. (q : ℕ) → q < r → slice_get registers.now q ≡ Some Register.Free → ⊥) }
 {
-    for r in 0..16u8 {
-        if is_free(registers[r as usize]) {
-            return Some(r);
-        }
-    }
-    None
+    (0..16u8).find(|r| is_free_at(registers, *r))
 }
 
 fn is_free(register: Register) -> bool
@@ -155,6 +150,13 @@ fn is_free(register: Register) -> bool
         Register::Free => true,
         _ => false,
     }
+}
+
+fn is_free_at(registers: &[Register; 16], r: u8) -> bool
+    requires { r < 16 }
+    ensures { IsTrue result ↔ (slice_get registers.now r ≡ Some Register.Free) }
+{
+    is_free(registers[r as usize])
 }
 
 // Whether a register is in a set.
