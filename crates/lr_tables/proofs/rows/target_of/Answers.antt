@@ -1,5 +1,5 @@
 use Rattle.std.proofs.Common.{◌≡◌, ◌∙◌, sym, ap, Some, None, refl}
-use Rattle.lr_tables.proofs.Loops.{target_read, target_nil, not_empty, all_empty}
+use Rattle.lr_tables.proofs.Loops.{target_read, not_empty}
 use Rattle.lr_tables.proofs.rows.target_of.Goals as goal
 
 pub returns-in-Some : goal.returns-in-Some
