@@ -2,6 +2,7 @@
 use Rattle.std.specs.Prelude.{◌≡◌, ℕ, nat_lt, List, [], ◌∷◌, Option, Some, None, Result, Ok, Err, if◌then◌else◌}
 use Rattle.vax_core.specs.declared.code.Code.{Code}
 use Rattle.vax_machine.specs.declared.turn.Stop.{Stop}
+use Rattle.vax_machine.specs.declared.label.Names.{Names}
 use Rattle.vax_machine.specs.declared.machine.Machine.{Machine}
 use Rattle.vax_machine.specs.declared.loading.LoadFault.{LoadFault}
 use Rattle.vax_machine.specs.declared.loading.LoadFault.TheVariants as loading_fault
@@ -90,3 +91,7 @@ Loaded c input (Err loading_fault.TooLarge) = load_fault c ≡ Some loading_faul
 abbrev pub IsDouble : Option (List ℕ) → LoadFault → Type 0
 IsDouble None e = ⊥
 IsDouble (Some n) e = e ≡ loading_fault.DoubleLabel n
+
+-- the code that names are of
+abbrev pub code_of : Names → Code
+code_of n = record { area = n.layout.now; items = n.items.now }

@@ -1,7 +1,7 @@
 // Making a machine of a code.
 ghost use Rattle.std.specs.Prelude.{◌≡◌, ◌⊎◌, true, None, IfOk, IfErr};
 
-use crate::area::{lay_out, zeros};
+use crate::area::{Layout, lay_out, zeros};
 use crate::function::Conditions;
 use crate::label::{Labels, Names, area_labels, code_labels};
 use crate::machine::Machine;
@@ -91,31 +91,62 @@ pub fn load<'a>(alloc: Global, code: &'a Code, input: &'a [u8]) -> Result<Machin
     ensures { Loaded code.now input.now result }
 {
     let names = names(alloc, code)?;
-    if let Some(name) = names.undefined_area_label() {
-        return Err(LoadFault::UndefinedLabel(copied(alloc, name)?));
+    names.load(alloc, input)
+}
+
+impl<'a> Names<'a> {
+    ghost use Rattle.std.specs.List.{list_all};
+    ghost use Rattle.vax_core.specs.Valid.{is_area_item};
+    ghost use Rattle.vax_machine.specs.LaidOut.{IsLaidOut};
+    ghost use Rattle.vax_machine.specs.Loading.{code_of, blank};
+    ghost use Rattle.vax_machine.specs.View.{state};
+
+    // A machine behind the call of `_main`, of a code in which no label stands twice.
+    fn load(&self, alloc: Global, input: &'a [u8]) -> Result<Machine<'a>, LoadFault>
+        requires valid { is_code (code_of self.now) ≡ true }
+        requires single { double_label_of (code_of self.now) ≡ None }
+        ensures { Loaded (code_of self.now) input.now result }
+    {
+        if let Some(name) = self.undefined_area_label() {
+            return Err(LoadFault::UndefinedLabel(copied(alloc, name)?));
+        }
+        if let Some(name) = self.undefined_label() {
+            return Err(LoadFault::UndefinedLabel(copied(alloc, name)?));
+        }
+        if !self.has_main() {
+            return Err(LoadFault::NoMain);
+        }
+        let Some(layout) = lay_out(alloc, self.layout)? else {
+            return Err(LoadFault::TooLarge);
+        };
+        let mut machine = self.blank(alloc, &layout, input)?;
+        machine.begin(self.main_place());
+        Ok(machine)
     }
-    if let Some(name) = names.undefined_label() {
-        return Err(LoadFault::UndefinedLabel(copied(alloc, name)?));
+
+    // The machine before that call.
+    fn blank(
+        &self,
+        alloc: Global,
+        layout: &Layout,
+        input: &'a [u8],
+    ) -> Result<Machine<'a>, AllocError>
+        requires laid { IsLaidOut self.now.layout.now layout.now }
+        requires valid { list_all is_area_item self.now.layout.now ≡ true }
+        ensures { IfOk result (λ m. state m ≡ blank (code_of self.now) input.now) }
+    {
+        Ok(Machine {
+            program: self.link(alloc, layout)?,
+            place: 0,
+            registers: [0, 0, 0, 0, 0, 0, 0, 0, 0, 0, 0, 0, 0, 0, STACK_TOP],
+            conditions: Conditions::CLEARED,
+            area: self.area_bytes(alloc, layout)?,
+            stack: zeros(alloc, STACK_SIZE as usize)?,
+            frames: Frames::new(alloc)?,
+            input,
+            over: None,
+        })
     }
-    if !names.has_main() {
-        return Err(LoadFault::NoMain);
-    }
-    let Some(layout) = lay_out(alloc, names.layout)? else {
-        return Err(LoadFault::TooLarge);
-    };
-    let mut machine = Machine {
-        program: names.link(alloc, &layout)?,
-        place: 0,
-        registers: [0, 0, 0, 0, 0, 0, 0, 0, 0, 0, 0, 0, 0, 0, STACK_TOP],
-        conditions: Conditions::CLEARED,
-        area: names.area_bytes(alloc, &layout)?,
-        stack: zeros(alloc, STACK_SIZE as usize)?,
-        frames: Frames::new(alloc)?,
-        input,
-        over: None,
-    };
-    machine.begin(names.main_place());
-    Ok(machine)
 }
 
 impl<'a> Machine<'a> {
