@@ -3,7 +3,7 @@ ghost use Rattle.std.specs.Prelude.{◌≡◌, ◌⊎◌, true, None, IfOk, IfEr
 
 use crate::area::{Layout, lay_out, zeros};
 use crate::function::Conditions;
-use crate::label::{Labels, Names, area_labels, code_labels};
+use crate::label::{Names, area_labels, code_labels};
 use crate::machine::Machine;
 use gg_base::Name;
 use gg_base::limits::{STACK_SIZE, STACK_TOP};
@@ -58,6 +58,16 @@ ghost use Rattle.vax_core.specs.Valid.{is_code};
 ghost use Rattle.vax_machine.specs.declared.loading.LoadFault.TheVariants as loading_fault;
 ghost use Rattle.vax_machine.specs.Loading.{Loaded, double_label_of, IsDouble};
 
+// The fault of a label that stands twice.
+fn double(alloc: Global, name: &Name) -> LoadFault
+    ensures { (result ≡ loading_fault.NoMemory) ⊎ (result ≡ loading_fault.DoubleLabel name.now) }
+{
+    match copied(alloc, name) {
+        Ok(name) => LoadFault::DoubleLabel(name),
+        Err(_) => LoadFault::NoMemory,
+    }
+}
+
 // The names of a code in which no label stands twice.
 fn names<'a>(alloc: Global, code: &'a Code) -> Result<Names<'a>, LoadFault>
     ensures loads { IfOk result (λ n. (n.layout.now ≡ code.now.area) × (n.items.now ≡ code.now.items) × (double_label_of code.now ≡ None)) }
@@ -65,21 +75,15 @@ fn names<'a>(alloc: Global, code: &'a Code) -> Result<Names<'a>, LoadFault>
 {
     let layout = code.area.as_slice();
     let items = code.items.as_slice();
-    let Labels {
-        places: code,
-        double: in_code,
-    } = code_labels(alloc, items)?;
-    let Labels {
-        places: area,
-        double: in_area,
-    } = area_labels(alloc, layout, items, &code)?;
-    match in_area.or(in_code) {
-        Some(name) => Err(LoadFault::DoubleLabel(copied(alloc, name)?)),
+    let in_code = code_labels(alloc, items)?;
+    let in_area = area_labels(alloc, layout, items, &in_code.places)?;
+    match in_area.double.or(in_code.double) {
+        Some(name) => Err(double(alloc, name)),
         None => Ok(Names {
             layout,
             items,
-            area,
-            code,
+            area: in_area.places,
+            code: in_code.places,
         }),
     }
 }
