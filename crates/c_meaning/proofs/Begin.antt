@@ -21,15 +21,16 @@ use Rattle.c_meaning.specs.Pending.{with_flow, stack, bottom, to_come}
 use Rattle.c_meaning.specs.Parts.{state}
 use Rattle.c_meaning.proofs.Law.{means_is}
 
-pub begins : (typed : Bor Program) (input : Bor (List ℕ)) (g : Routine) (b : Bor (List Action)) (frames : Vec Frame) (store : Store) (locals area : List ℕ)
-    → slice_get (program typed.now).routines typed.now.main ≡ Some (routine g) → b.now ≡ g.body.items → frames.items ≡ [] → state store
+pub begins : (typed : Bor Program) (input : Bor (List ℕ)) (g : Routine) (body : Vec Action) (frames : Vec Frame) (store : Store) (locals area : List ℕ)
+    → slice_get (program typed.now).routines typed.now.main ≡ Some (routine g) → body ≡ g.body → frames.items ≡ [] → state store
     ≡ record { call = record { locals = locals; parameters = [] }; area = area; input = input.now; active = 1 } → locals ≡ replicate (length g.locals) 0 → area ≡ opening typed.now.objects
-    → to_come (record { program = typed; control = Block b; frames = frames; store = store }) ≡ source (program typed.now) input.now
-begins typed input g b frames store locals area is body none at zeros opened =
+    → stmts (program typed.now) (means (program typed.now)) (acts body.items) (with_flow (stack (program typed.now) (bottom (program typed.now)) frames.items)) (state store)
+    ≡ source (program typed.now) input.now
+begins typed input g body frames store locals area is same none at zeros opened =
     let p = program typed.now in
     let first : state store ≡ begun (routine g) [] (at_first p input.now) = at
     ∙ (λ i. record { call = record { locals = zeros i; parameters = [] }; area = opened i; input = input.now; active = 1 }) in
-    ap (λ l. stmts p (means p) (acts l) (with_flow (stack p (bottom p) frames.items)) (state store)) body
+    ap (λ (v : Vec Action). stmts p (means p) (acts v.items) (with_flow (stack p (bottom p) frames.items)) (state store)) same
     ∙ ap (λ fs. stmts p (means p) (routine g).body (with_flow (stack p (bottom p) fs)) (state store)) none
     ∙ ap (λ st. stmts p (means p) (routine g).body finished st) first
     ∙ sym (means_is p (Body (routine g).body) finished (begun (routine g) [] (at_first p input.now)))

@@ -29,7 +29,7 @@ use Rattle.c_meaning.specs.declared.frame.ValueFrame.TheVariants as waiting
 use Rattle.c_meaning.specs.declared.frame.FlowFrame.{FlowFrame}
 use Rattle.c_meaning.specs.declared.frame.FlowFrame.TheVariants as leaving
 use Rattle.c_meaning.specs.declared.frame.Frame.{Frame}
-use Rattle.c_meaning.specs.declared.frame.Frame.TheVariants.{ForValue, ForFlow}
+use Rattle.c_meaning.specs.declared.frame.Frame.TheVariants.{ForValue, ForArgument, ForFlow, ForCall}
 use Rattle.c_meaning.specs.declared.frame.Control.{Control}
 use Rattle.c_meaning.specs.declared.frame.Control.TheVariants as controls
 use Rattle.c_meaning.specs.declared.machine.Machine.{Machine}
@@ -85,6 +85,14 @@ pushed m f c v push =
 pub waits_for : (m : Machine) (f : Frame) (c : Control) (v : Vec Frame) → v.items ≡ m.frames.items ++ f ∷ [] → Waiting m f c Quiet (record m { control = c; frames = v })
 waits_for m f c v push = record { progress = (pushed m f c v push, omega (arith, ap frames_work push, work_push m.frames.items f)) }
 
+-- what is done behind a frame that was just put on the list
+pub behind : {new : Machine} {event : Event} {F : Then → State → Runs} {a : ℕ} (m : Machine) (v : Vec Frame) (f : Frame) → v.items ≡ m.frames.items ++ f ∷ []
+    → Makes (record m { frames = v }) F a event new → Makes m (λ κ. F (before (program m.program.now) f κ)) (a + frame_work f) event new
+behind {new} {event} {F} {a} m v f push h =
+    let p = program m.program.now in
+    over h (sym (ap (λ fs. F (stack p (bottom p) fs) (state m.store)) push ∙ ap (λ κ. F κ (state m.store)) (stack_push p (bottom p) m.frames.items f)))
+    (omega (arith, ap frames_work push, work_push m.frames.items f))
+
 pub counts : (m : Machine) (f : Frame) (c : Control) (v : Vec Frame) → v.items ≡ m.frames.items ++ f ∷ [] → Counts m f c Counted (record m { control = c; frames = v })
 counts m f c v push = record { progress = ap counted (pushed m f c v push) }
 
@@ -95,13 +103,13 @@ popped m v f x pop =
     let p = program m.program.now in
     ap (λ fs. stack p (bottom p) fs x (state m.store)) pop ∙ ap (λ κ. κ x (state m.store)) (stack_push p (bottom p) v.items f)
 
-pub popped_value : (m : Machine) (v : Vec Frame) (f : ValueFrame) (x : ℕ) {event : Event} {new : Machine} → m.frames.items ≡ v.items ++ ForValue f ∷ []
-    → Resumes (record m { frames = v }) f x event new → Does m (controls.Value x) event new
-popped_value m v f x pop h = over h (popped m v (ForValue f) (Valued x) pop) (omega (arith, ap frames_work pop, work_push v.items (ForValue f)))
+pub popped_value : (m : Machine) (v : Vec Frame) (f : Frame) (x : ℕ) {event : Event} {new : Machine} → m.frames.items ≡ v.items ++ f ∷ []
+    → Makes (record m { frames = v }) (λ κ. before (program m.program.now) f κ (Valued x)) (frame_work f + 1) event new → Does m (controls.Value x) event new
+popped_value m v f x pop h = over h (popped m v f (Valued x) pop) (omega (arith, ap frames_work pop, work_push v.items f))
 
-pub popped_flow : (m : Machine) (v : Vec Frame) (f : FlowFrame) (w : Flow) {event : Event} {new : Machine} → m.frames.items ≡ v.items ++ ForFlow f ∷ []
-    → GoesOn (record m { frames = v }) f w event new → Does m (controls.Left w) event new
-popped_flow m v f w pop h = over h (popped m v (ForFlow f) (Leaves w) pop) (omega (arith, ap frames_work pop, work_push v.items (ForFlow f)))
+pub popped_flow : (m : Machine) (v : Vec Frame) (f : Frame) (w : Flow) {event : Event} {new : Machine} → m.frames.items ≡ v.items ++ f ∷ []
+    → Makes (record m { frames = v }) (λ κ. before (program m.program.now) f κ (Leaves w)) (frame_work f + 1) event new → Does m (controls.Left w) event new
+popped_flow m v f w pop h = over h (popped m v f (Leaves w) pop) (omega (arith, ap frames_work pop, work_push v.items f))
 
 -- a frame that is not for a value, or not for a statement that is left, is passed
 value_work_pos : (f : ValueFrame) → 0 < value_work f
@@ -117,7 +125,6 @@ value_work_pos (waiting.Comma e) = omega arith
 value_work_pos (waiting.Found t u) = omega arith
 value_work_pos (waiting.Assign t s) = omega arith
 value_work_pos (waiting.Change t s op x) = omega arith
-value_work_pos (waiting.Argument c done ts es) = omega arith
 value_work_pos waiting.Forget = omega arith
 value_work_pos (waiting.Begin n ds) = omega arith
 value_work_pos (waiting.If a) = omega arith
@@ -129,15 +136,24 @@ value_work_pos (waiting.Look l) = omega arith
 flow_work_pos : (f : FlowFrame) → 0 < flow_work f
 flow_work_pos (leaving.Statements ss) = omega arith
 flow_work_pos (leaving.Turn l) = omega arith
-flow_work_pos (leaving.Call c active) = omega arith
 
-pub passed_value : (m : Machine) (v : Vec Frame) (f : FlowFrame) (x : ℕ) {event : Event} {new : Machine} → m.frames.items ≡ v.items ++ ForFlow f ∷ []
+frame_work_pos : (f : Frame) → 0 < frame_work f
+frame_work_pos (ForValue f) = value_work_pos f
+frame_work_pos (ForArgument c done ts es) = omega arith
+frame_work_pos (ForFlow f) = flow_work_pos f
+frame_work_pos (ForCall c active) = omega arith
+
+pub passed_value : (m : Machine) (v : Vec Frame) (f : Frame) (x : ℕ) {event : Event} {new : Machine} → m.frames.items ≡ v.items ++ f ∷ []
+    → before (program m.program.now) f (waits (record m { frames = v })) (Valued x) ≡ waits (record m { frames = v }) (Valued x)
     → Goes (record m { frames = v }) (controls.Value x) event new → Does m (controls.Value x) event new
-passed_value m v f x pop h = over h (popped m v (ForFlow f) (Valued x) pop) (omega (arith, ap frames_work pop, work_push v.items (ForFlow f), flow_work_pos f))
+passed_value m v f x pop same h = over h (popped m v f (Valued x) pop ∙ ap (λ κ. κ (state m.store)) same)
+    (omega (arith, ap frames_work pop, work_push v.items f, frame_work_pos f))
 
-pub passed_flow : (m : Machine) (v : Vec Frame) (f : ValueFrame) (w : Flow) {event : Event} {new : Machine} → m.frames.items ≡ v.items ++ ForValue f ∷ []
+pub passed_flow : (m : Machine) (v : Vec Frame) (f : Frame) (w : Flow) {event : Event} {new : Machine} → m.frames.items ≡ v.items ++ f ∷ []
+    → before (program m.program.now) f (waits (record m { frames = v })) (Leaves w) ≡ waits (record m { frames = v }) (Leaves w)
     → Goes (record m { frames = v }) (controls.Left w) event new → Does m (controls.Left w) event new
-passed_flow m v f w pop h = over h (popped m v (ForValue f) (Leaves w) pop) (omega (arith, ap frames_work pop, work_push v.items (ForValue f), value_work_pos f))
+passed_flow m v f w pop same h = over h (popped m v f (Leaves w) pop ∙ ap (λ κ. κ (state m.store)) same)
+    (omega (arith, ap frames_work pop, work_push v.items f, frame_work_pos f))
 
 -- steps up to what shows
 pub reaches : (old mid new : Machine) (event : Event) → (event ≡ Quiet → ⊥) → to_come old ≡ to_come mid → Steps mid event new → Reaches old event new
@@ -204,11 +220,12 @@ passes {new} {event} m f done more x v t ts all es is kept pushed w =
     ) (omega arith)
 
 -- a call of a function begins, or would be one too many
-pub call_begins : {new : Machine} {event : Event} (b : Bor (List Action)) (m : Machine) (s : Store) (g : Routine) (vs locals : List ℕ) (caller : Activation) → m.store.active < 1024 → b.now
-    ≡ g.body.items → state s ≡ record (state m.store) { call = record { locals = locals; parameters = vs }; active = m.store.active + 1 } → locals ≡ replicate (length g.locals) 0 → caller
-    ≡ m.store.call → Counts (record m { store = s }) (ForFlow (leaving.Call caller m.store.active)) (controls.Block b) event new
+pub call_begins : {new : Machine} {event : Event} (body : Vec Action) (m : Machine) (s : Store) (g : Routine) (vs locals : List ℕ) (caller : Activation) → m.store.active < 1024 → body
+    ≡ g.body → state s ≡ record (state m.store) { call = record { locals = locals; parameters = vs }; active = m.store.active + 1 } → locals ≡ replicate (length g.locals) 0 → caller
+    ≡ m.store.call → Makes (record m { store = s }) (λ κ st. counted (stmts (program m.program.now) (means (program m.program.now)) (acts body.items)
+    (with_flow (before (program m.program.now) (ForCall caller m.store.active) κ)) st)) 0 event new
     → Makes m (λ κ. called (Some (routine g)) (means (program m.program.now)) vs (with_value κ)) 2 event new
-call_begins {new} {event} b m s g vs locals caller lt body at zeros back_to w =
+call_begins {new} {event} body m s g vs locals caller lt same at zeros back_to w =
     let p = program m.program.now in
     let κ : Rest = with_value (waits m) in
     let st = state m.store in
@@ -217,9 +234,9 @@ call_begins {new} {event} b m s g vs locals caller lt body at zeros back_to w =
     ap (λ x. counted (if x then means p (Body (routine g).body) (back κ st) (begun (routine g) vs st) else stop Deep)) (lt-ltb m.store.active 1024 lt)
     ∙ ap counted (
     means_is p (Body (routine g).body) (back κ st) (begun (routine g) vs st)
-    ∙ ap (λ l. stmts p (means p) (acts l) (back κ st) (begun (routine g) vs st)) (sym body)
-    ∙ ap (λ z. stmts p (means p) (acts b.now) (back κ st) z) (sym first)
-    ∙ ap (λ c. stmts p (means p) (acts b.now) (with_flow (before p (ForFlow (leaving.Call c m.store.active)) (waits m))) (state s)) (sym back_to))
+    ∙ ap (λ (v : Vec Action). stmts p (means p) (acts v.items) (back κ st) (begun (routine g) vs st)) (sym same)
+    ∙ ap (λ z. stmts p (means p) (acts body.items) (back κ st) z) (sym first)
+    ∙ ap (λ c. stmts p (means p) (acts body.items) (with_flow (before p (ForCall c m.store.active) (waits m))) (state s)) (sym back_to))
     ) (omega arith)
 
 pub call_deep : {new : Machine} {event : Event} (m : Machine) (g : Routine) (vs : List ℕ) → 1024 ≤ m.store.active → Makes m (λ κ st. counted (stop (end_of finish.Deep))) 0 event new

@@ -9,7 +9,7 @@ use Rattle.c_meaning.specs.declared.frame.ValueFrame.TheVariants as waiting
 use Rattle.c_meaning.specs.declared.frame.FlowFrame.{FlowFrame}
 use Rattle.c_meaning.specs.declared.frame.FlowFrame.TheVariants as leaving
 use Rattle.c_meaning.specs.declared.frame.Frame.{Frame}
-use Rattle.c_meaning.specs.declared.frame.Frame.TheVariants.{ForValue, ForFlow}
+use Rattle.c_meaning.specs.declared.frame.Frame.TheVariants.{ForValue, ForArgument, ForFlow, ForCall}
 use Rattle.c_meaning.specs.declared.frame.Control.{Control}
 use Rattle.c_meaning.specs.declared.frame.Control.TheVariants as controls
 use Rattle.c_meaning.specs.declared.machine.Machine.{Machine}
@@ -39,7 +39,6 @@ value_work (waiting.Comma e) = term_work (term e.now.value) + 1
 value_work (waiting.Found t u) = use_work u + 1
 value_work (waiting.Assign t s) = 1
 value_work (waiting.Change t s op x) = 1
-value_work (waiting.Argument f done ts es) = arguments_work (terms es.now) + 1
 value_work waiting.Forget = 1
 value_work (waiting.Begin n ds) = declarations_work (map declaration ds.now) + 1
 value_work (waiting.If a) = act_work (act a.now.value) + 1
@@ -51,11 +50,12 @@ value_work (waiting.Look l) = loop_work (loop_of l)
 abbrev pub flow_work : FlowFrame → ℕ
 flow_work (leaving.Statements ss) = acts_work (acts ss.now) + 1
 flow_work (leaving.Turn l) = again_to_do (loop_of l)
-flow_work (leaving.Call c active) = 1
 
 abbrev pub frame_work : Frame → ℕ
 frame_work (ForValue f) = value_work f
+frame_work (ForArgument f done ts es) = arguments_work (terms es.now) + 1
 frame_work (ForFlow f) = flow_work f
+frame_work (ForCall c active) = 1
 
 abbrev pub frames_work : List Frame → ℕ
 frames_work [] = 0
@@ -63,8 +63,8 @@ frames_work (f ∷ fs) = frame_work f + frames_work fs
 
 abbrev pub control_work : Control → ℕ
 control_work (controls.Evaluate e) = term_work (term e.now)
-control_work (controls.Perform a) = act_work (act a.now)
-control_work (controls.Block ss) = acts_work (acts ss.now)
+control_work (controls.Perform a) = act_work (act a.now.value)
+control_work (controls.Block ss) = acts_work (acts ss.now.items)
 control_work (controls.Declare ds) = declarations_work (map declaration ds.now)
 control_work (controls.Value v) = 1
 control_work (controls.Left w) = 1

@@ -22,7 +22,7 @@ use Rattle.c_meaning.specs.declared.frame.ValueFrame.TheVariants as waiting
 use Rattle.c_meaning.specs.declared.frame.FlowFrame.{FlowFrame}
 use Rattle.c_meaning.specs.declared.frame.FlowFrame.TheVariants as leaving
 use Rattle.c_meaning.specs.declared.frame.Frame.{Frame}
-use Rattle.c_meaning.specs.declared.frame.Frame.TheVariants.{ForValue, ForFlow}
+use Rattle.c_meaning.specs.declared.frame.Frame.TheVariants.{ForValue, ForArgument, ForFlow, ForCall}
 use Rattle.c_meaning.specs.declared.frame.Control.{Control}
 use Rattle.c_meaning.specs.declared.frame.Control.TheVariants as controls
 use Rattle.c_meaning.specs.declared.machine.Machine.{Machine}
@@ -81,8 +81,6 @@ module _ (p : AProgram) where
   resume (waiting.Found t u) κ a = used u t (Memory a) (with_value κ)
   resume (waiting.Assign t s) κ v = store_at t s v (with_value κ)
   resume (waiting.Change t s op x) κ y = changed t s op x y (with_value κ)
-  resume (waiting.Argument f done ts es) κ v = passed ts.now v (λ x us.
-      arguments p (means p) (terms es.now) us (λ xs. call p (means p) f (done.items ++ x ∷ xs) (with_value κ)))
   resume waiting.Forget κ v = κ (Leaves Onward)
   resume (waiting.Begin n ds) κ v = local_set p (means p) n v (declared p (means p) (map declaration ds.now) (with_flow κ))
   resume (waiting.If a) κ v = λ st. chosen v (stmt p (means p) (act a.now.value) (with_flow κ) st) (κ (Leaves Onward) st)
@@ -97,14 +95,18 @@ module _ (p : AProgram) where
   leave (leaving.Statements ss) κ w = followed p (means p) (with_flow κ) (stmts p (means p) (acts ss.now) (with_flow κ)) w
   leave (leaving.Turn l) κ w = turned p (means p) (with_flow κ) (dropped p (means p) (maybe_bor l.step)
       (means p (Look (loop_of l)) (with_flow κ))) w
-  leave (leaving.Call c active) κ w = λ st. κ (Valued (answer w)) (record st { call = activation c; active = active })
 
   -- what is not for a frame goes past it
   abbrev pub before : Frame → Then → Then
   before (ForValue f) κ (Valued v) = resume f κ v
   before (ForValue f) κ (Leaves w) = κ (Leaves w)
+  before (ForArgument f done ts es) κ (Valued v) = passed ts.now v (λ x us.
+      arguments p (means p) (terms es.now) us (λ xs. call p (means p) f (done.items ++ x ∷ xs) (with_value κ)))
+  before (ForArgument f done ts es) κ (Leaves w) = κ (Leaves w)
   before (ForFlow f) κ (Valued v) = κ (Valued v)
   before (ForFlow f) κ (Leaves w) = leave f κ w
+  before (ForCall c active) κ (Valued v) = κ (Valued v)
+  before (ForCall c active) κ (Leaves w) = λ st. κ (Valued (answer w)) (record st { call = activation c; active = active })
 
   -- all that waits, the last of it first
   abbrev pub stack : Then → List Frame → Then
@@ -119,8 +121,8 @@ module _ (p : AProgram) where
   -- what is done now, and then what waits
   abbrev pub going : Control → Then → State → Runs
   going (controls.Evaluate e) κ = expr p (means p) (term e.now) (with_value κ)
-  going (controls.Perform a) κ = stmt p (means p) (act a.now) (with_flow κ)
-  going (controls.Block ss) κ = stmts p (means p) (acts ss.now) (with_flow κ)
+  going (controls.Perform a) κ = stmt p (means p) (act a.now.value) (with_flow κ)
+  going (controls.Block ss) κ = stmts p (means p) (acts ss.now.items) (with_flow κ)
   going (controls.Declare ds) κ = declared p (means p) (map declaration ds.now) (with_flow κ)
   going (controls.Value v) κ = κ (Valued v)
   going (controls.Left w) κ = κ (Leaves w)

@@ -5,6 +5,7 @@ use Rattle.gg_base.specs.declared.run.SourceTurn.{SourceTurn}
 use Rattle.gg_base.specs.declared.run.SourceTurn.TheVariants as turns
 use Rattle.gg_base.specs.Runs.{Outcome, Runs, Remaining, stop, emit, counted}
 use Rattle.c_program.specs.Programs.{program}
+use Rattle.c_program.specs.Statements.{AnAction, SomeActions}
 use Rattle.c_meaning.specs.declared.flow.Flow.{Flow}
 use Rattle.c_meaning.specs.declared.flow.Finish.{Finish}
 use Rattle.c_meaning.specs.declared.flow.Finish.TheVariants as finish
@@ -17,8 +18,11 @@ use Rattle.c_meaning.specs.declared.frame.Control.{Control}
 use Rattle.c_meaning.specs.declared.machine.Machine.{Machine}
 use Rattle.c_meaning.specs.State.{State}
 use Rattle.c_meaning.specs.Turns.{answers, Turns}
+use Rattle.c_meaning.specs.Meaning.{stmt, stmts}
+use Rattle.c_meaning.specs.Programs.{means}
+use Rattle.c_meaning.specs.Work.{act_work, acts_work}
 use Rattle.c_meaning.specs.Parts.{state}
-use Rattle.c_meaning.specs.Pending.{Then, end_of, resume, leave, before, going, waits, to_come}
+use Rattle.c_meaning.specs.Pending.{Then, with_flow, end_of, resume, leave, before, going, waits, to_come}
 use Rattle.c_meaning.specs.FrameWork.{value_work, flow_work, frame_work, frames_work, control_work, work}
 
 -- What is left of a run behind an event. A quiet one leaves less than `bound` to do.
@@ -38,6 +42,13 @@ Does old c event new = Makes old (going (program old.program.now) c) (control_wo
 
 abbrev pub Steps : Machine → Event → Machine → Type 0
 Steps old event new = Does old old.control event new
+
+-- it does a statement, or statements one after another
+abbrev pub Performs : Machine → AnAction → Event → Machine → Type 0
+Performs old a event new = Makes old (λ κ. stmt (program old.program.now) (means (program old.program.now)) a (with_flow κ)) (act_work a) event new
+
+abbrev pub Blocks : Machine → SomeActions → Event → Machine → Type 0
+Blocks old row event new = Makes old (λ κ. stmts (program old.program.now) (means (program old.program.now)) row (with_flow κ)) (acts_work row) event new
 
 -- a control is what is done next
 abbrev pub Goes : Machine → Control → Event → Machine → Type 0

@@ -12,7 +12,7 @@ ghost use Rattle.c_meaning.specs.Pending.{with_value};
 ghost use Rattle.c_meaning.specs.Work.{arguments_work};
 
 use crate::flow::{Event, Finish};
-use crate::frame::{Control, FlowFrame, ValueFrame};
+use crate::frame::{Control, Frame};
 use crate::machine::Machine;
 use crate::store::{Activation, zeros};
 use c_program::Routine;
@@ -39,10 +39,7 @@ impl<'a> Machine<'a> {
     {
         match rest.split_first() {
             None => self.call(alloc, callee, done),
-            Some((first, rest)) => self.wait(
-                ValueFrame::Argument(callee, done, to, rest),
-                Control::Evaluate(first),
-            ),
+            Some((first, rest)) => self.watch(Frame::ForArgument(callee, done, to, rest), first),
         }
     }
 
@@ -105,7 +102,7 @@ impl<'a> Machine<'a> {
                 parameters: values,
             });
             self.count(
-                FlowFrame::Call(caller, active),
+                Frame::ForCall(caller, active),
                 Control::Block(&function.body),
             )
         } else {
@@ -127,7 +124,7 @@ impl<'a> Machine<'a> {
         ensures { Makes self.old (λ κ st. got st.input (with_value κ) st) 2 result self.new }
     {
         let value = self.store.get();
-        self.go(Control::Value(value))
+        self.give(value)
     }
 }
 

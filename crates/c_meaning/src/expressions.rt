@@ -30,37 +30,34 @@ impl<'a> Machine<'a> {
         ensures { IfOk result (λ event. Does self.old (controls.Evaluate e.entry) event self.new) }
     {
         match e {
-            Expression::Number(value) => Ok(self.go(Control::Value(*value))),
+            Expression::Number(value) => Ok(self.give(*value)),
             Expression::Literal(object, _) => Ok(self.address_of_object(*object)),
             Expression::Array(_, variable, _) => Ok(self.address_of_variable(*variable)),
             Expression::Read(place) => self.find(place, Use::Read),
-            Expression::SizeofExpression(size, _) => Ok(self.go(Control::Value(*size))),
-            Expression::SizeofType(size) => Ok(self.go(Control::Value(*size))),
+            Expression::SizeofExpression(size, _) => Ok(self.give(*size)),
+            Expression::SizeofType(size) => Ok(self.give(*size)),
             Expression::Address(_, place) => self.find(place, Use::Address),
             Expression::Call(_, callee, to, arguments) => {
                 self.argue(alloc, *callee, Vec::new(alloc), to.as_slice(), arguments)
             }
             Expression::Step(moment, by, place) => self.find(place, Use::Step(*moment, *by)),
-            Expression::Unary(op, a) => self.wait(ValueFrame::Unary(*op), Control::Evaluate(a)),
-            Expression::Cast(to, a) => self.wait(ValueFrame::Convert(*to), Control::Evaluate(a)),
-            Expression::Convert(to, a) => self.wait(ValueFrame::Convert(*to), Control::Evaluate(a)),
+            Expression::Unary(op, a) => self.wait(ValueFrame::Unary(*op), a),
+            Expression::Cast(to, a) => self.wait(ValueFrame::Convert(*to), a),
+            Expression::Convert(to, a) => self.wait(ValueFrame::Convert(*to), a),
             Expression::Arithmetic(op, a, b) => self.operands(Operator::Arithmetic(*op), a, b),
             Expression::Compare(rel, a, b) => self.operands(Operator::Compare(*rel), a, b),
-            Expression::AndAnd(a, b) => self.wait(ValueFrame::AndRight(b), Control::Evaluate(a)),
-            Expression::OrOr(a, b) => self.wait(ValueFrame::OrRight(b), Control::Evaluate(a)),
+            Expression::AndAnd(a, b) => self.wait(ValueFrame::AndRight(b), a),
+            Expression::OrOr(a, b) => self.wait(ValueFrame::OrRight(b), a),
             Expression::Advance(of, a, b) => self.operands(Operator::Advance(*of), a, b),
             Expression::AdvanceBy(of, a, b) => self.operands(Operator::AdvanceBy(*of), a, b),
             Expression::Retreat(of, a, b) => self.operands(Operator::Retreat(*of), a, b),
             Expression::Distance(of, a, b) => self.operands(Operator::Distance(*of), a, b),
-            Expression::Choice(_, c, a, b) => self.wait(
-                ValueFrame::Choose(a, b),
-                Control::Evaluate(c),
-            ),
+            Expression::Choice(_, c, a, b) => self.wait(ValueFrame::Choose(a, b), c),
             Expression::Assign(place, b) => self.find(place, Use::Assign(b)),
             Expression::ArithmeticAssign(op, place, b) => self.find(place, Use::Change(*op, b)),
             Expression::AdvanceAssign(place, b) => self.find(place, Use::Advance(b)),
             Expression::RetreatAssign(place, b) => self.find(place, Use::Retreat(b)),
-            Expression::Comma(_, a, b) => self.wait(ValueFrame::Comma(b), Control::Evaluate(a)),
+            Expression::Comma(_, a, b) => self.wait(ValueFrame::Comma(b), a),
         }
     }
 
@@ -75,7 +72,7 @@ impl<'a> Machine<'a> {
             (before (plain self.old.program.now) (frames.ForValue (waiting.Right operator right.entry)) κ)))
             (term_work (term left.now.value) + term_work (term right.now.value) + 2) event self.new) }
     {
-        self.wait(ValueFrame::Right(operator, right), Control::Evaluate(left))
+        self.wait(ValueFrame::Right(operator, right), left)
     }
 
     fn address_of_object(&mut self, object: u32) -> Event
@@ -102,7 +99,7 @@ impl<'a> Machine<'a> {
         match spot {
             Spot::Local(_) => self.stop(Finish::Wild),
             Spot::Parameter(_) => self.stop(Finish::Wild),
-            Spot::Memory(address) => self.go(Control::Value(address)),
+            Spot::Memory(address) => self.give(address),
         }
     }
 
@@ -112,7 +109,7 @@ impl<'a> Machine<'a> {
     {
         match value {
             None => self.stop(Finish::Wild),
-            Some(value) => self.go(Control::Value(value)),
+            Some(value) => self.give(value),
         }
     }
 
@@ -122,43 +119,38 @@ impl<'a> Machine<'a> {
     {
         match value {
             None => self.stop(Finish::Trapped),
-            Some(value) => self.go(Control::Value(value)),
+            Some(value) => self.give(value),
         }
     }
 
     /// A frame, which is off the list, is given a value.
-    pub(crate) fn resume(
-        &mut self,
-        alloc: Global,
-        frame: ValueFrame<'a>,
-        value: u32,
-    ) -> Result<Event, NoMemory>
+    pub(crate) fn resume(&mut self, frame: ValueFrame<'a>, value: u32) -> Result<Event, NoMemory>
         ensures { IfOk result (λ event. Resumes self.old frame.entry value event self.new) }
     {
         match frame {
-            ValueFrame::Unary(op) => Ok(self.go(Control::Value(apply_unary(op, value)))),
-            ValueFrame::Convert(to) => Ok(self.go(Control::Value(convert(to, value)))),
+            ValueFrame::Unary(op) => Ok(self.give(apply_unary(op, value))),
+            ValueFrame::Convert(to) => Ok(self.give(convert(to, value))),
             ValueFrame::Right(operator, right) => {
-                self.wait(ValueFrame::Last(operator, value), Control::Evaluate(right))
+                self.wait(ValueFrame::Last(operator, value), right)
             }
             ValueFrame::Last(operator, left) => Ok(self.value_or_trap(operator.combine(
                 left, value,
             ))),
             ValueFrame::AndRight(right) => {
                 if value == 0 {
-                    Ok(self.go(Control::Value(0)))
+                    Ok(self.give(0))
                 } else {
-                    self.wait(ValueFrame::Truth, Control::Evaluate(right))
+                    self.wait(ValueFrame::Truth, right)
                 }
             }
             ValueFrame::OrRight(right) => {
                 if value == 0 {
-                    self.wait(ValueFrame::Truth, Control::Evaluate(right))
+                    self.wait(ValueFrame::Truth, right)
                 } else {
-                    Ok(self.go(Control::Value(1)))
+                    Ok(self.give(1))
                 }
             }
-            ValueFrame::Truth => Ok(self.go(Control::Value(logical(value)))),
+            ValueFrame::Truth => Ok(self.give(logical(value))),
             ValueFrame::Choose(a, b) => Ok(self.go(Control::Evaluate(if value == 0 {
                 b
             } else {
@@ -170,10 +162,7 @@ impl<'a> Machine<'a> {
             ValueFrame::Change(of, spot, operator, old) => Ok(self.change(
                 of, spot, operator, old, value,
             )),
-            ValueFrame::Argument(callee, done, to, rest) => self.pass(
-                alloc, callee, done, to, rest, value,
-            ),
-            ValueFrame::Forget => Ok(self.go(Control::Left(Flow::Onward))),
+            ValueFrame::Forget => Ok(self.quit(Flow::Onward)),
             ValueFrame::Begin(local, rest) => Ok(self.begin(local, value, rest)),
             ValueFrame::If(a) => Ok(self.choose(
                 value,
@@ -185,10 +174,10 @@ impl<'a> Machine<'a> {
                 Control::Perform(a),
                 Control::Perform(b),
             )),
-            ValueFrame::Return => Ok(self.go(Control::Left(Flow::Returned(value)))),
+            ValueFrame::Return => Ok(self.quit(Flow::Returned(value))),
             ValueFrame::Test(of) => {
                 if value == 0 {
-                    Ok(self.go(Control::Left(Flow::Onward)))
+                    Ok(self.quit(Flow::Onward))
                 } else {
                     self.turn(of)
                 }

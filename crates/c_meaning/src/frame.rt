@@ -27,7 +27,7 @@ pub(crate) enum Use<'a> {
 }
 
 /// Work that waits for a value.
-#[derive(Drop)]
+#[derive(Clone, Copy)]
 pub(crate) enum ValueFrame<'a> {
     Unary(UnaryOperator),
     Convert(CType),
@@ -46,9 +46,6 @@ pub(crate) enum ValueFrame<'a> {
     Assign(CType, Spot),
     /// The right operand of a compound assignment comes; what the place held is known.
     Change(CType, Spot, Operator, u32),
-    /// An argument comes: whose it is, those before it, its parameter's type and the further ones, and the arguments
-    /// behind it.
-    Argument(Callee, Vec<u32>, &'a [CType], &'a [Expression]),
     Forget,
     /// The first value of an automatic local comes, and declarations follow.
     Begin(u32, &'a [Declaration]),
@@ -62,30 +59,33 @@ pub(crate) enum ValueFrame<'a> {
 }
 
 /// Work that waits until a statement is left.
-#[derive(Drop)]
+#[derive(Clone, Copy)]
 pub(crate) enum FlowFrame<'a> {
     /// The statements behind it.
     Statements(&'a [Action]),
     /// A turn of a loop.
     Turn(Loop<'a>),
-    /// A call, behind which the caller goes on as one of so many active calls.
-    Call(Activation, u32),
 }
 
 /// Work that waits for what is done now.
 #[derive(Drop)]
 pub(crate) enum Frame<'a> {
     ForValue(ValueFrame<'a>),
+    /// An argument comes: whose it is, those before it, its parameter's type and the further ones, and the arguments
+    /// behind it.
+    ForArgument(Callee, Vec<u32>, &'a [CType], &'a [Expression]),
     ForFlow(FlowFrame<'a>),
+    /// A call is left, behind which the caller goes on as one of so many active calls.
+    ForCall(Activation, u32),
 }
 
 /// What is done now.
 #[derive(Clone, Copy)]
 pub(crate) enum Control<'a> {
     Evaluate(&'a Expression),
-    Perform(&'a Action),
+    Perform(&'a Box<Action>),
     /// Statements one after another.
-    Block(&'a [Action]),
+    Block(&'a Vec<Action>),
     /// Declarations one after another.
     Declare(&'a [Declaration]),
     /// An expression has this value.

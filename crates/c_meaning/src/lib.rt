@@ -2,6 +2,7 @@
 #![tactic(auto)]
 
 mod calls;
+mod current;
 mod expressions;
 mod flow;
 mod frame;

@@ -9,10 +9,12 @@ ghost use Rattle.c_meaning.specs.declared.frame.Frame.TheVariants as frames;
 ghost use Rattle.c_meaning.specs.Pending.{to_come, end_of, with_value};
 ghost use Rattle.c_meaning.specs.Runner.{Makes, Steps, Does, Goes, Waiting, Counts, Reaches};
 
+use crate::current::Current;
 use crate::flow::{Event, Finish, Flow};
-use crate::frame::{Control, FlowFrame, Frame, ValueFrame};
+use crate::frame::{Control, Frame, ValueFrame};
 use crate::store::{Store, zeros};
 use c_program::Program;
+use c_types::Expression;
 use gg_base::NoMemory;
 use std::alloc::Global;
 use tree_core::area::opening;
@@ -22,7 +24,7 @@ use tree_core::area::opening;
 #[derive(Drop)]
 pub(crate) struct Machine<'a> {
     pub(crate) program: &'a Program,
-    pub(crate) control: Control<'a>,
+    pub(crate) control: Current<'a>,
     pub(crate) frames: Vec<Frame<'a>>,
     pub(crate) store: Store<'a>,
 }
@@ -40,7 +42,7 @@ impl<'a> Machine<'a> {
         match program.routines.get(program.main) {
             None => Ok(Machine {
                 program,
-                control: Control::Stop(Finish::Wild),
+                control: Current::of(Control::Stop(Finish::Wild)),
                 frames: Vec::new(alloc),
                 store: Store::begin(alloc, Vec::new(alloc), area, input),
             }),
@@ -48,7 +50,7 @@ impl<'a> Machine<'a> {
                 let locals = zeros(alloc, main.locals.as_slice().len())?;
                 Ok(Machine {
                     program,
-                    control: Control::Block(&main.body),
+                    control: Current::of(Control::Block(&main.body)),
                     frames: Vec::new(alloc),
                     store: Store::begin(alloc, locals, area, input),
                 })
@@ -72,7 +74,7 @@ impl<'a> Machine<'a> {
     fn step(&mut self, alloc: Global) -> Result<Event, NoMemory>
         ensures { IfOk result (λ event. Steps self.old event self.new) }
     {
-        match self.control {
+        match self.control.get() {
             Control::Evaluate(e) => self.evaluate(alloc, e),
             Control::Perform(action) => self.perform(action),
             Control::Block(actions) => self.block(actions),
@@ -89,8 +91,12 @@ impl<'a> Machine<'a> {
     {
         match self.frames.pop() {
             None => Ok(self.stop(Finish::Ended(value))),
-            Some(Frame::ForValue(frame)) => self.resume(alloc, frame, value),
-            Some(Frame::ForFlow(_)) => Ok(self.go(Control::Value(value))),
+            Some(Frame::ForValue(frame)) => self.resume(frame, value),
+            Some(Frame::ForArgument(callee, done, to, rest)) => self.pass(
+                alloc, callee, done, to, rest, value,
+            ),
+            Some(Frame::ForFlow(_)) => Ok(self.give(value)),
+            Some(Frame::ForCall(_, _)) => Ok(self.give(value)),
         }
     }
 
@@ -101,7 +107,12 @@ impl<'a> Machine<'a> {
         match self.frames.pop() {
             None => Ok(self.stop(Finish::Ended(flow.answer()))),
             Some(Frame::ForFlow(frame)) => self.go_on(frame, flow),
-            Some(Frame::ForValue(_)) => Ok(self.go(Control::Left(flow))),
+            Some(Frame::ForCall(caller, active)) => {
+                self.store.leave(caller, active);
+                Ok(self.give(flow.answer()))
+            }
+            Some(Frame::ForValue(_)) => Ok(self.quit(flow)),
+            Some(Frame::ForArgument(_, _, _, _)) => Ok(self.quit(flow)),
         }
     }
 
@@ -109,8 +120,22 @@ impl<'a> Machine<'a> {
     pub(crate) fn go(&mut self, control: Control<'a>) -> Event
         ensures { Goes self.old control.entry result self.new }
     {
-        self.control = control;
+        self.control = Current::of(control);
         Event::Quiet
+    }
+
+    /// The value goes to what waits last.
+    pub(crate) fn give(&mut self, value: u32) -> Event
+        ensures { Goes self.old (controls.Value value) result self.new }
+    {
+        self.go(Control::Value(value))
+    }
+
+    /// A statement is left so.
+    pub(crate) fn quit(&mut self, flow: Flow) -> Event
+        ensures { Goes self.old (controls.Left flow) result self.new }
+    {
+        self.go(Control::Left(flow))
     }
 
     /// The run ends here.
@@ -120,42 +145,37 @@ impl<'a> Machine<'a> {
         self.go(Control::Stop(finish))
     }
 
-    /// Something is done next, for whose value a frame waits.
+    /// An expression is evaluated next, for whose value a frame waits.
     pub(crate) fn wait(
         &mut self,
         frame: ValueFrame<'a>,
-        control: Control<'a>,
+        e: &'a Expression,
     ) -> Result<Event, NoMemory>
-        ensures { IfOk result (λ event. Waiting self.old (frames.ForValue frame.entry) control.entry event self.new) }
+        ensures { IfOk result (λ event.
+            Waiting self.old (frames.ForValue frame.entry) (controls.Evaluate e.entry) event self.new) }
     {
-        self.frames.push(Frame::ForValue(frame))?;
-        self.control = control;
-        Ok(Event::Quiet)
+        self.watch(Frame::ForValue(frame), e)
     }
 
-    /// Something is done next, and a frame waits until it is left.
-    pub(crate) fn watch(
-        &mut self,
-        frame: FlowFrame<'a>,
-        control: Control<'a>,
-    ) -> Result<Event, NoMemory>
-        ensures { IfOk result (λ event. Waiting self.old (frames.ForFlow frame.entry) control.entry event self.new) }
+    /// An expression is evaluated next, and any frame waits for it.
+    pub(crate) fn watch(&mut self, frame: Frame<'a>, e: &'a Expression) -> Result<Event, NoMemory>
+        ensures { IfOk result (λ event. Waiting self.old frame.entry (controls.Evaluate e.entry) event self.new) }
     {
-        self.frames.push(Frame::ForFlow(frame))?;
-        self.control = control;
+        self.frames.push(frame)?;
+        self.control = Current::of(Control::Evaluate(e));
         Ok(Event::Quiet)
     }
 
     /// A turn or call is counted, with which something is done next, and a frame waits until it is left.
     pub(crate) fn count(
         &mut self,
-        frame: FlowFrame<'a>,
+        frame: Frame<'a>,
         control: Control<'a>,
     ) -> Result<Event, NoMemory>
-        ensures { IfOk result (λ event. Counts self.old (frames.ForFlow frame.entry) control.entry event self.new) }
+        ensures { IfOk result (λ event. Counts self.old frame.entry control.entry event self.new) }
     {
-        self.frames.push(Frame::ForFlow(frame))?;
-        self.control = control;
+        self.frames.push(frame)?;
+        self.control = Current::of(control);
         Ok(Event::Counted)
     }
 
@@ -163,7 +183,7 @@ impl<'a> Machine<'a> {
     pub(crate) fn write(&mut self, byte: u8) -> Event
         ensures { Makes self.old (λ κ st. emit byte (with_value κ byte st)) 0 result self.new }
     {
-        self.control = Control::Value(u32::from(byte));
+        self.control = Current::of(Control::Value(u32::from(byte)));
         Event::Wrote(byte)
     }
 
@@ -171,7 +191,7 @@ impl<'a> Machine<'a> {
     pub(crate) fn count_end(&mut self, finish: Finish) -> Event
         ensures { Makes self.old (λ κ st. counted (stop (end_of finish))) 0 result self.new }
     {
-        self.control = Control::Stop(finish);
+        self.control = Current::of(Control::Stop(finish));
         Event::Counted
     }
 }

@@ -36,13 +36,8 @@ impl<'a> Machine<'a> {
                     Some(spot) => self.at(*of, spot, then),
                 }
             }
-            Place::Indirection(of, a) => {
-                self.wait(ValueFrame::Found(*of, then), Control::Evaluate(a))
-            }
-            Place::Index(of, sum) => self.wait(
-                ValueFrame::Found(*of, then),
-                Control::Evaluate(sum),
-            ),
+            Place::Indirection(of, a) => { self.wait(ValueFrame::Found(*of, then), a) }
+            Place::Index(of, sum) => self.wait(ValueFrame::Found(*of, then), sum),
         }
     }
 
@@ -58,7 +53,7 @@ impl<'a> Machine<'a> {
             }
             Use::Address => Ok(self.address_of(spot)),
             Use::Step(moment, by) => Ok(self.step_at(of, spot, moment, by)),
-            Use::Assign(b) => self.wait(ValueFrame::Assign(of, spot), Control::Evaluate(b)),
+            Use::Assign(b) => self.wait(ValueFrame::Assign(of, spot), b),
             Use::Change(op, b) => self.change_at(of, spot, Operator::Arithmetic(op), b),
             Use::Advance(b) => self.change_at(of, spot, Operator::Advance(of), b),
             Use::Retreat(b) => self.change_at(of, spot, Operator::Retreat(of), b),
@@ -79,10 +74,7 @@ impl<'a> Machine<'a> {
     {
         match self.store.held(of, spot) {
             None => Ok(self.stop(Finish::Wild)),
-            Some(old) => self.wait(
-                ValueFrame::Change(of, spot, operator, old),
-                Control::Evaluate(right),
-            ),
+            Some(old) => self.wait(ValueFrame::Change(of, spot, operator, old), right),
         }
     }
 
@@ -128,7 +120,7 @@ impl<'a> Machine<'a> {
         ensures { Makes self.old (λ κ st. written (put of spot kept st) value (with_value κ)) 2 result self.new }
     {
         if self.store.put(of, spot, kept) {
-            self.go(Control::Value(value))
+            self.give(value)
         } else {
             self.stop(Finish::Wild)
         }

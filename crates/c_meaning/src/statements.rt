@@ -2,19 +2,19 @@
 
 ghost use Rattle.std.specs.Prelude.{◌≡◌, ◌+◌, IfOk};
 ghost use Rattle.c_program.specs.Programs.{program as plain};
-ghost use Rattle.c_program.specs.Statements.{maybe_term};
+ghost use Rattle.c_program.specs.Statements.{maybe_term, act, acts};
 ghost use Rattle.c_meaning.specs.declared.frame.Control.TheVariants as controls;
 ghost use Rattle.c_meaning.specs.Values.{chosen, Look};
 ghost use Rattle.c_meaning.specs.Meaning.{local_set, look_at, turn_at, dropped, returned};
 ghost use Rattle.c_meaning.specs.Programs.{means};
-ghost use Rattle.c_meaning.specs.Runner.{Makes, Does, GoesOn};
+ghost use Rattle.c_meaning.specs.Runner.{Makes, Does, Performs, Blocks, GoesOn};
 ghost use Rattle.c_meaning.specs.Pending.{going, with_flow};
 ghost use Rattle.c_meaning.specs.Parts.{maybe_bor, loop_of};
 ghost use Rattle.c_meaning.specs.Work.{loop_work, again_to_do, maybe_work};
 ghost use Rattle.c_meaning.specs.FrameWork.{control_work};
 
 use crate::flow::{Event, Finish, Flow};
-use crate::frame::{Control, FlowFrame, Loop, ValueFrame};
+use crate::frame::{Control, FlowFrame, Frame, Loop, ValueFrame};
 use crate::machine::Machine;
 use c_program::{Action, Declaration};
 use c_types::Expression;
@@ -23,17 +23,17 @@ use gg_base::NoMemory;
 impl<'a> Machine<'a> {
     /// The first step of a statement.
     pub(crate) fn perform(&mut self, action: &'a Action) -> Result<Event, NoMemory>
-        ensures { IfOk result (λ event. Does self.old (controls.Perform action.entry) event self.new) }
+        ensures { IfOk result (λ event. Performs self.old (act action.now) event self.new) }
     {
         match action {
             Action::Declare(declarations) => Ok(self.go(Control::Declare(declarations))),
             Action::Block(actions) => Ok(self.go(Control::Block(actions))),
-            Action::Evaluate(e) => self.wait(ValueFrame::Forget, Control::Evaluate(e)),
-            Action::Break => Ok(self.go(Control::Left(Flow::Broke))),
-            Action::Continue => Ok(self.go(Control::Left(Flow::Continued))),
+            Action::Evaluate(e) => self.wait(ValueFrame::Forget, e),
+            Action::Break => Ok(self.quit(Flow::Broke)),
+            Action::Continue => Ok(self.quit(Flow::Continued)),
             Action::Return(value) => self.give_back(value),
-            Action::If(c, a) => self.wait(ValueFrame::If(a), Control::Evaluate(c)),
-            Action::IfElse(c, a, b) => self.wait(ValueFrame::IfElse(a, b), Control::Evaluate(c)),
+            Action::If(c, a) => self.wait(ValueFrame::If(a), c),
+            Action::IfElse(c, a, b) => self.wait(ValueFrame::IfElse(a, b), c),
             Action::While(c, body) => self.look(Loop {
                 condition: Some(c),
                 step: None,
@@ -52,7 +52,7 @@ impl<'a> Machine<'a> {
                 };
                 match first {
                     None => self.look(whole),
-                    Some(e) => self.wait(ValueFrame::Look(whole), Control::Evaluate(e)),
+                    Some(e) => self.wait(ValueFrame::Look(whole), e),
                 }
             }
         }
@@ -65,18 +65,22 @@ impl<'a> Machine<'a> {
             event self.new) }
     {
         match value {
-            None => Ok(self.go(Control::Left(Flow::Returned(0)))),
-            Some(e) => self.wait(ValueFrame::Return, Control::Evaluate(e)),
+            None => Ok(self.quit(Flow::Returned(0))),
+            Some(e) => self.wait(ValueFrame::Return, e),
         }
     }
 
-    /// The first of these statements, before those behind it.
+    /// The first step of these statements: that of the first, which those behind it wait for.
     pub(crate) fn block(&mut self, actions: &'a [Action]) -> Result<Event, NoMemory>
-        ensures { IfOk result (λ event. Does self.old (controls.Block actions.entry) event self.new) }
+        ensures { IfOk result (λ event. Blocks self.old (acts actions.now) event self.new) }
     {
         match actions.split_first() {
-            None => Ok(self.go(Control::Left(Flow::Onward))),
-            Some((first, rest)) => self.watch(FlowFrame::Statements(rest), Control::Perform(first)),
+            None => Ok(self.quit(Flow::Onward)),
+            Some((first, rest)) => {
+                self.frames
+                    .push(Frame::ForFlow(FlowFrame::Statements(rest)))?;
+                self.perform(first)
+            }
         }
     }
 
@@ -85,12 +89,12 @@ impl<'a> Machine<'a> {
         ensures { IfOk result (λ event. Does self.old (controls.Declare declarations.entry) event self.new) }
     {
         match declarations.split_first() {
-            None => Ok(self.go(Control::Left(Flow::Onward))),
+            None => Ok(self.quit(Flow::Onward)),
             Some((Declaration::Keep(_), rest)) => Ok(self.go(Control::Declare(rest))),
             Some((Declaration::Clear(local), rest)) => Ok(self.begin(*local, 0, rest)),
             Some((Declaration::Begin(local, e), rest)) => {
                 if self.store.put_local(*local, 0) {
-                    self.wait(ValueFrame::Begin(*local, rest), Control::Evaluate(e))
+                    self.wait(ValueFrame::Begin(*local, rest), e)
                 } else {
                     Ok(self.stop(Finish::Wild))
                 }
@@ -126,7 +130,7 @@ impl<'a> Machine<'a> {
     {
         match at.condition {
             None => self.turn(at),
-            Some(c) => self.wait(ValueFrame::Test(at), Control::Evaluate(c)),
+            Some(c) => self.wait(ValueFrame::Test(at), c),
         }
     }
 
@@ -135,7 +139,10 @@ impl<'a> Machine<'a> {
         ensures { IfOk result (λ event. Makes self.old (λ κ. turn_at (plain self.old.program.now)
             (means (plain self.old.program.now)) (loop_of of.entry) (with_flow κ)) 0 event self.new) }
     {
-        self.count(FlowFrame::Turn(of), Control::Perform(of.body))
+        self.count(
+            Frame::ForFlow(FlowFrame::Turn(of)),
+            Control::Perform(of.body),
+        )
     }
 
     /// A frame, which is off the list, is told how a statement was left.
@@ -144,21 +151,17 @@ impl<'a> Machine<'a> {
     {
         match frame {
             FlowFrame::Statements(rest) => match flow {
-                Flow::Onward => Ok(self.go(Control::Block(rest))),
-                Flow::Broke => Ok(self.go(Control::Left(Flow::Broke))),
-                Flow::Continued => Ok(self.go(Control::Left(Flow::Continued))),
-                Flow::Returned(value) => Ok(self.go(Control::Left(Flow::Returned(value)))),
+                Flow::Onward => self.block(rest),
+                Flow::Broke => Ok(self.quit(Flow::Broke)),
+                Flow::Continued => Ok(self.quit(Flow::Continued)),
+                Flow::Returned(value) => Ok(self.quit(Flow::Returned(value))),
             },
             FlowFrame::Turn(of) => match flow {
                 Flow::Onward => self.again(of),
-                Flow::Broke => Ok(self.go(Control::Left(Flow::Onward))),
+                Flow::Broke => Ok(self.quit(Flow::Onward)),
                 Flow::Continued => self.again(of),
-                Flow::Returned(value) => Ok(self.go(Control::Left(Flow::Returned(value)))),
+                Flow::Returned(value) => Ok(self.quit(Flow::Returned(value))),
             },
-            FlowFrame::Call(caller, active) => {
-                self.store.leave(caller, active);
-                Ok(self.go(Control::Value(flow.answer())))
-            }
         }
     }
 
@@ -170,7 +173,7 @@ impl<'a> Machine<'a> {
     {
         match of.step {
             None => self.look(of),
-            Some(e) => self.wait(ValueFrame::Look(of), Control::Evaluate(e)),
+            Some(e) => self.wait(ValueFrame::Look(of), e),
         }
     }
 }

@@ -9,4 +9,4 @@ returns-in-None c = let none : c.args.rest.now ≡ [] = nil_from_length _ c.in-N
     IfOk-weaker _ _ _ (λ event w. over w (rw (none, append-nil c.args.done.items) refl) (rw none (omega arith))) c.call.ensures
 
 pub returns-in-Some : goal.returns-in-Some
-returns-in-Some c = let more = c.in-Some.ensures.cases.0 in IfOk-weaker _ _ _ (λ event w. over w (rw (more) refl) (rw (more) (omega arith))) c.wait.ensures
+returns-in-Some c = let more = c.in-Some.ensures.cases.0 in IfOk-weaker _ _ _ (λ event w. over w (rw (more) refl) (rw (more) (omega arith))) c.watch.ensures

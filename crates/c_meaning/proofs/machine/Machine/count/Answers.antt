@@ -1,6 +1,5 @@
-use Rattle.c_meaning.specs.declared.frame.Frame.TheVariants.{ForFlow}
 use Rattle.c_meaning.proofs.Steps.{counts}
 use Rattle.c_meaning.proofs.machine.Machine.count.Goals as goal
 
 pub returns : goal.returns
-returns c = counts c.args.self.now (ForFlow c.args.frame) c.args.control c.push.new.self c.in_ok-push.ensures.items
+returns c = rw c.of-self.ensures (counts c.args.self.now c.args.frame c.args.control c.push.new.self c.in_ok-push.ensures.items)

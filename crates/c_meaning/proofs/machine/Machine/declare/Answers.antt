@@ -5,7 +5,7 @@ use Rattle.c_meaning.proofs.Steps.{over, state_some}
 use Rattle.c_meaning.proofs.machine.Machine.declare.Goals as goal
 
 pub returns-in-None : goal.returns-in-None
-returns-in-None c = let none : c.args.declarations.now ≡ [] = nil_from_length _ c.in-None.ensures.cases in over c.go.ensures (rw none refl) (rw none (omega arith))
+returns-in-None c = let none : c.args.declarations.now ≡ [] = nil_from_length _ c.in-None.ensures.cases in over c.quit.ensures (rw none refl) (rw none (omega arith))
 
 pub returns-then-put_local : goal.returns-then-put_local
 returns-then-put_local c =

@@ -6,16 +6,16 @@ use Rattle.c_types.proofs.Rows.{term_call}
 use Rattle.c_meaning.proofs.machine.Machine.evaluate.Goals as goal
 
 pub returns-in-Number : goal.returns-in-Number
-returns-in-Number c = over c.go.ensures (rw (c.in-Number.is) refl) (rw (c.in-Number.is) (omega arith))
+returns-in-Number c = over c.give.ensures (rw (c.in-Number.is) refl) (rw (c.in-Number.is) (omega arith))
 
 pub returns-in-Read : goal.returns-in-Read
 returns-in-Read c = IfOk-weaker _ _ _ (λ event w. over w (rw (c.in-Read.is) refl) (rw (c.in-Read.is) (omega arith))) c.find.ensures
 
 pub returns-in-SizeofExpression : goal.returns-in-SizeofExpression
-returns-in-SizeofExpression c = over c.go-in-SizeofExpression.ensures (rw (c.in-SizeofExpression.is) refl) (rw (c.in-SizeofExpression.is) (omega arith))
+returns-in-SizeofExpression c = over c.give-in-SizeofExpression.ensures (rw (c.in-SizeofExpression.is) refl) (rw (c.in-SizeofExpression.is) (omega arith))
 
 pub returns-in-SizeofType : goal.returns-in-SizeofType
-returns-in-SizeofType c = over c.go-in-SizeofType.ensures (rw (c.in-SizeofType.is) refl) (rw (c.in-SizeofType.is) (omega arith))
+returns-in-SizeofType c = over c.give-in-SizeofType.ensures (rw (c.in-SizeofType.is) refl) (rw (c.in-SizeofType.is) (omega arith))
 
 pub returns-in-Address : goal.returns-in-Address
 returns-in-Address c = IfOk-weaker _ _ _ (λ event w. over w (rw (c.in-Address.is) refl) (rw (c.in-Address.is) (omega arith))) c.find-in-Address.ensures

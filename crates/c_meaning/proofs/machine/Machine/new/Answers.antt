@@ -1,3 +1,4 @@
+use Rattle.std.proofs.Common.{refl}
 use Rattle.c_meaning.proofs.Begin.{begins}
 use Rattle.c_meaning.proofs.Steps.{found}
 use Rattle.c_meaning.proofs.machine.Machine.new.Goals as goal
@@ -8,5 +9,5 @@ returns-in_ok-locals-in-Some c =
     let there = found c.args.program.now.routines.items c.deref.result.now c.args.program.now.main c.in-Some.main.now c.deref.ensures.value lookup.3.0 lookup.1 in
     let zeros = rw c.as_slice-in-Some.ensures at c.in_ok-locals-in-Some.ensures in
     let area = rw c.as_slice.ensures at c.in_ok-area.ensures in
-    begins c.args.program c.args.input c.in-Some.main.now c.deref-in-Some.result c.new-in-Some.result c.begin-in-Some.result c.in_ok-locals-in-Some.locals.items c.in_ok-area.area.items
-    there c.deref-in-Some.ensures.value c.new-in-Some.ensures.items c.begin-in-Some.ensures zeros area
+    rw c.of-in-Some.ensures (begins c.args.program c.args.input c.in-Some.main.now c.in-Some.main.now.body c.new-in-Some.result c.begin-in-Some.result c.in_ok-locals-in-Some.locals.items c.in_ok-area.area.items
+    there refl c.new-in-Some.ensures.items c.begin-in-Some.ensures zeros area)

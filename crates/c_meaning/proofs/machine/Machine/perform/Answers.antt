@@ -5,17 +5,17 @@ use Rattle.c_program.proofs.Rows.{block_is}
 use Rattle.c_meaning.proofs.machine.Machine.perform.Goals as goal
 
 pub returns-in-Block : goal.returns-in-Block
-returns-in-Block c = let is = block_is c.args.action.now c.in-Block.actions c.deref-in-Block.result.now c.in-Block.is c.deref-in-Block.ensures.value in
+returns-in-Block c = let is = block_is c.args.action.now c.in-Block.actions c.in-Block.actions.items c.in-Block.is refl in
     over c.go-in-Block.ensures (rw (is) refl) (rw (is) (omega arith))
 
 pub returns-in-Evaluate : goal.returns-in-Evaluate
 returns-in-Evaluate c = IfOk-weaker _ _ _ (λ event w. over w (rw (c.in-Evaluate.is) refl) (rw (c.in-Evaluate.is) (omega arith))) c.wait.ensures
 
 pub returns-in-Break : goal.returns-in-Break
-returns-in-Break c = over c.go-in-Break.ensures (rw (c.in-Break.is) refl) (rw (c.in-Break.is) (omega arith))
+returns-in-Break c = over c.quit.ensures (rw (c.in-Break.is) refl) (rw (c.in-Break.is) (omega arith))
 
 pub returns-in-Continue : goal.returns-in-Continue
-returns-in-Continue c = over c.go-in-Continue.ensures (rw (c.in-Continue.is) refl) (rw (c.in-Continue.is) (omega arith))
+returns-in-Continue c = over c.quit-in-Continue.ensures (rw (c.in-Continue.is) refl) (rw (c.in-Continue.is) (omega arith))
 
 pub returns-in-Return : goal.returns-in-Return
 returns-in-Return c = IfOk-weaker _ _ _ (λ event w. over w (rw (c.in-Return.is) refl) (rw (c.in-Return.is) (omega arith))) c.give_back.ensures
