@@ -51,23 +51,18 @@ impl<'a> Machine<'a> {
     }
 
     // The byte that the next instruction writes, if it writes one.
-    #[tactic(auto, unfolding(crate::specs::Step::act))]
+    #[tactic(auto, unfolding(crate::specs::Step::act), using(std::proofs::lemmas::Option::slice_get_within))]
     fn act(&mut self) -> Result<Option<u8>, Stop>
         ensures { Does result (state self.new) (act (state self.old)) }
     {
         let items = self.program.items;
         let place = self.program.next_item(self.place);
-        if place >= items.len() {
+        let Some(CodeItem::Instr(instr)) = items.get(place) else {
             return Err(BAD_CODE);
-        }
-        match &items[place] {
-            CodeItem::Instr(instr) => {
-                let links = self.program.links(place);
-                self.place = place + 1;
-                self.instruction(instr, links)
-            }
-            _ => Err(BAD_CODE),
-        }
+        };
+        let links = self.program.links(place);
+        self.place = place + 1;
+        self.instruction(instr, links)
     }
 
     #[tactic(auto, unfolding(crate::specs::Step::instruction))]
