@@ -1,5 +1,5 @@
 -- A machine at the begin of a program.
-use Rattle.std.proofs.Common.{◌≡◌, ℕ, List, [], replicate, length, Some, refl, sym, ap, ◌∙◌}
+use Rattle.std.proofs.Common.{◌≡◌, ℕ, List, [], replicate, length, Some, sym, ap, ◌∙◌}
 use Rattle.std.specs.Prelude.{slice_get}
 use Rattle.std.specs.Global.{Vec}
 use Rattle.std.specs.Borrow.{Bor}
@@ -10,14 +10,12 @@ use Rattle.c_program.specs.declared.program.Program.{Program}
 use Rattle.c_program.specs.Statements.{acts}
 use Rattle.c_program.specs.Programs.{program, routine}
 use Rattle.c_meaning.specs.declared.frame.Frame.{Frame}
-use Rattle.c_meaning.specs.declared.frame.Control.TheVariants.{Block}
 use Rattle.c_meaning.specs.declared.store.Store.{Store}
-use Rattle.c_meaning.specs.State.{State}
 use Rattle.c_meaning.specs.Values.{Body}
 use Rattle.c_meaning.specs.Meaning.{stmts}
 use Rattle.c_meaning.specs.Programs.{means, at_first, finished, main_of, source}
 use Rattle.c_meaning.specs.Calls.{begun}
-use Rattle.c_meaning.specs.Pending.{with_flow, stack, bottom, to_come}
+use Rattle.c_meaning.specs.Pending.{with_flow, stack, bottom}
 use Rattle.c_meaning.specs.Parts.{state}
 use Rattle.c_meaning.proofs.Law.{means_is}
 

@@ -1,9 +1,9 @@
 -- A run of a program has one end.
-use Rattle.std.proofs.Common.{ℕ, ◌<◌, ◌≤◌, List, [], Option, Some, None, subst, arith}
+use Rattle.std.proofs.Common.{ℕ, ◌≤◌, List, [], Option, Some, None, subst, arith}
 use Rattle.std.specs.Prelude.{◌≡◌, slice_get, suc}
 use Rattle.gg_base.specs.declared.run.End.{End}
 use Rattle.gg_base.specs.declared.run.End.TheVariants.{Ended, Trapped, Wild, Deep, Spent, Broken}
-use Rattle.gg_base.specs.Runs.{Outcome, Runs, OneEnd}
+use Rattle.gg_base.specs.Runs.{Runs, OneEnd}
 use Rattle.gg_base.specs.Lasting.{Grows, Lasts}
 use Rattle.gg_base.proofs.Lasting.{lasts_none, lasts_stop, lasts_emit, lasts_counted, one_end_of}
 use Rattle.c_program.specs.Programs.{ARoutine, AProgram}

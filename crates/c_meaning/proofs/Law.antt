@@ -1,5 +1,5 @@
 -- A relation between runs that is kept by stops, bytes and counts is kept by every phrase and every task.
-use Rattle.std.proofs.Common.{◌≡◌, ℕ, zero, suc, ◌+◌, ◌<◌, ◌≤◌, List, [], ◌∷◌, Option, Some, None, refl, ap, arith}
+use Rattle.std.proofs.Common.{◌≡◌, ℕ, zero, suc, ◌<◌, ◌≤◌, List, [], ◌∷◌, Option, Some, None, refl, ap, arith}
 use Rattle.std.specs.Prelude.{slice_get, nat_lt, Bool, true, false, if◌then◌else◌}
 use Rattle.gg_base.specs.declared.run.End.{End}
 use Rattle.gg_base.specs.declared.run.End.TheVariants.{Ended, Trapped, Wild, Deep, Spent, Broken}
@@ -7,7 +7,6 @@ use Rattle.gg_base.specs.Runs.{Runs, stop, byte_first, emit, one_first, counted}
 use Rattle.c_types.specs.declared.types.CType.{CType}
 use Rattle.c_types.specs.declared.typed.Callee.{Callee}
 use Rattle.c_types.specs.declared.typed.Callee.TheVariants as callees
-use Rattle.c_types.specs.declared.typed.Variable.{Variable}
 use Rattle.c_types.specs.declared.typed.Direction.{Direction}
 use Rattle.c_types.specs.declared.typed.Moment.{Moment}
 use Rattle.c_types.specs.Constants.{converted, apply, distance}
@@ -24,7 +23,7 @@ use Rattle.c_meaning.specs.declared.flow.Flow.TheVariants.{Onward, Broke, Contin
 use Rattle.c_meaning.specs.State.{State, address, spot_of, held, put_local, put}
 use Rattle.c_meaning.specs.Values.{Rest, RestAll, RestAt, Behind, ALoop, plain_loop, for_loop, Task, Look, Body, Next}
 use Rattle.c_meaning.specs.Values.{chosen, or_wild, or_trap, written, read_at, store_at, stepped, of_moment, step_at}
-use Rattle.c_meaning.specs.Values.{address_of, located, array_address}
+use Rattle.c_meaning.specs.Values.{address_of, located}
 use Rattle.c_meaning.specs.Calls.{passed, put_char, got, back, begun, called, call}
 use Rattle.c_meaning.specs.Meaning.{expr, place, arguments, dropped, tested, turned, turn_by, look_by, returned}
 use Rattle.c_meaning.specs.Meaning.{local_set, declared, followed, stmt, stmts, task}

@@ -3,7 +3,7 @@ use Rattle.std.proofs.Common.{◌≡◌, ℕ, zero, suc, ◌+◌, ◌-◌, [], B
 use Rattle.gg_base.specs.declared.run.End.{End}
 use Rattle.gg_base.specs.declared.run.End.TheVariants.{Spent}
 use Rattle.gg_base.specs.declared.run.SourceTurn.TheVariants as turns
-use Rattle.gg_base.specs.Runs.{Outcome, Runs, Remaining, stop, emit, counted, after, Closed, Advances}
+use Rattle.gg_base.specs.Runs.{Outcome, Runs, Remaining, stop, emit, counted, Closed, Advances}
 use Rattle.c_meaning.specs.declared.flow.Finish.{Finish}
 use Rattle.c_meaning.specs.declared.flow.Finish.TheVariants as finish
 use Rattle.c_meaning.specs.declared.machine.Machine.{Machine}

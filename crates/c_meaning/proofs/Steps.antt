@@ -6,7 +6,7 @@ use Rattle.std.specs.Prelude.{slice_get, nat_lt, map, is_some, unwrap_or, true, 
 use Rattle.std.specs.Option.{option_map}
 use Rattle.std.specs.Global.{Vec}
 use Rattle.std.specs.Borrow.{Bor}
-use Rattle.gg_base.specs.Runs.{Runs, stop, emit, counted}
+use Rattle.gg_base.specs.Runs.{Runs, stop, counted}
 use Rattle.c_types.specs.declared.typed.Expression.{Expression}
 use Rattle.c_types.specs.declared.types.CType.{CType}
 use Rattle.c_types.specs.declared.typed.Callee.{Callee}
@@ -44,8 +44,8 @@ use Rattle.c_meaning.specs.Pending.{with_value, with_flow, end_of, Signal, Value
 use Rattle.c_meaning.specs.Pending.{stack, bottom, before, going}
 use Rattle.c_meaning.specs.Parts.{loop_of, maybe_bor, state}
 use Rattle.c_meaning.specs.Work.{arguments_work, term_work}
-use Rattle.c_meaning.specs.FrameWork.{value_work, flow_work, frame_work, frames_work, control_work, work}
-use Rattle.c_meaning.specs.Runner.{Progress, Makes, Does, Steps, Goes, Waiting, Counts, Resumes, GoesOn, Reaches}
+use Rattle.c_meaning.specs.FrameWork.{value_work, flow_work, frame_work, frames_work}
+use Rattle.c_meaning.specs.Runner.{Progress, Makes, Does, Steps, Goes, Waiting, Counts, Resumes, Reaches}
 
 -- the work of one that is equal
 pub term_same : {a b : Expression} → a ≡ b → term_work (term a) ≡ term_work (term b)

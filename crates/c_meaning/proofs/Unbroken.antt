@@ -1,10 +1,10 @@
 -- No run of a program breaks.
-use Rattle.std.proofs.Common.{ℕ, zero, suc, ◌<◌, ◌≤◌, List, [], Option, Some, None, subst, arith}
+use Rattle.std.proofs.Common.{ℕ, zero, suc, ◌<◌, List, [], Option, Some, None, subst, arith}
 use Rattle.std.specs.Prelude.{◌≡◌, slice_get}
 use Rattle.gg_base.specs.declared.run.Break.{Break}
 use Rattle.gg_base.specs.declared.run.End.{End}
 use Rattle.gg_base.specs.declared.run.End.TheVariants.{Ended, Trapped, Wild, Deep, Spent, Broken}
-use Rattle.gg_base.specs.Runs.{Runs, stop, counted}
+use Rattle.gg_base.specs.Runs.{Runs, counted}
 use Rattle.c_program.specs.Programs.{ARoutine, AProgram}
 use Rattle.c_meaning.specs.Values.{Body}
 use Rattle.c_meaning.specs.Calls.{answer, begun}

@@ -45,10 +45,12 @@ Steps old event new = Does old old.control event new
 
 -- it does a statement, or statements one after another
 abbrev pub Performs : Machine → AnAction → Event → Machine → Type 0
-Performs old a event new = Makes old (λ κ. stmt (program old.program.now) (means (program old.program.now)) a (with_flow κ)) (act_work a) event new
+Performs old a event new =
+    Makes old (λ κ. stmt (program old.program.now) (means (program old.program.now)) a (with_flow κ)) (act_work a) event new
 
 abbrev pub Blocks : Machine → SomeActions → Event → Machine → Type 0
-Blocks old row event new = Makes old (λ κ. stmts (program old.program.now) (means (program old.program.now)) row (with_flow κ)) (acts_work row) event new
+Blocks old row event new =
+    Makes old (λ κ. stmts (program old.program.now) (means (program old.program.now)) row (with_flow κ)) (acts_work row) event new
 
 -- a control is what is done next
 abbrev pub Goes : Machine → Control → Event → Machine → Type 0

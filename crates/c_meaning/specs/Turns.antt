@@ -4,7 +4,7 @@ use Rattle.gg_base.specs.declared.run.End.{End}
 use Rattle.gg_base.specs.declared.run.End.TheVariants as ends
 use Rattle.gg_base.specs.declared.run.SourceTurn.{SourceTurn}
 use Rattle.gg_base.specs.declared.run.SourceTurn.TheVariants as turns
-use Rattle.gg_base.specs.Runs.{Outcome, Runs, Remaining}
+use Rattle.gg_base.specs.Runs.{Runs, Remaining}
 
 -- Bytes are written before other answers.
 abbrev pub writing : List ℕ → List SourceTurn → List SourceTurn

@@ -1,4 +1,4 @@
-// What a machine does now, as one value: a machine's fields name no phrase of its program.
+// What is done now, closed up: a machine's type then shows no type of its program's phrases.
 
 ghost use Rattle.std.specs.Prelude.{◌≡◌};
 

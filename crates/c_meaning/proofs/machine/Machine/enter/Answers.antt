@@ -1,6 +1,5 @@
-use Rattle.std.proofs.Common.{arith, refl, ap, ◌∙◌, ◌≡◌, []}
+use Rattle.std.proofs.Common.{refl}
 use Rattle.std.proofs.lemmas.Result.{IfOk-weaker}
-use Rattle.c_meaning.proofs.Steps.{over}
 use Rattle.c_meaning.proofs.Steps.{call_begins, call_deep}
 use Rattle.c_meaning.proofs.machine.Machine.enter.Goals as goal
 
