@@ -68,12 +68,7 @@ pub fn register_held<T: Templates>(target: &T, attrs: &[Attr<T::Operand>], regis
     requires { register < 12 }
     ensures { result ≡ register_held T.meaning attrs.now register }
 {
-    match attrs.split_first() {
-        None => false,
-        Some((attr, others)) => {
-            in_register(target, register, attr) || register_held(target, others, register)
-        }
-    }
+    attrs.iter().any(|attr| in_register(target, register, attr))
 }
 
 fn in_word<T: Templates>(target: &T, word: u32, attr: &Attr<T::Operand>) -> bool
@@ -89,10 +84,7 @@ fn in_word<T: Templates>(target: &T, word: u32, attr: &Attr<T::Operand>) -> bool
 pub fn word_held<T: Templates>(target: &T, attrs: &[Attr<T::Operand>], word: u32) -> bool
     ensures { result ≡ word_held T.meaning attrs.now word }
 {
-    match attrs.split_first() {
-        None => false,
-        Some((attr, others)) => in_word(target, word, attr) || word_held(target, others, word),
-    }
+    attrs.iter().any(|attr| in_word(target, word, attr))
 }
 
 fn is_register<O>(attr: &Attr<O>) -> bool

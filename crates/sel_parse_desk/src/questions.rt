@@ -1,5 +1,5 @@
 // What the restrictions of a rule ask.
-ghost use Rattle.std.specs.Prelude.{◌≡◌, ◌∷◌, [], ◌-◌, ◌<◌, Some, length, drop, IfOk, IfSome};
+ghost use Rattle.std.specs.Prelude.{◌≡◌, ◌∷◌, [], ◌-◌, ◌<◌, Some, length, drop, IfOk, IfSome, slice_get};
 ghost use Rattle.md_reader.specs.Restrictions.{same_size};
 ghost use Rattle.lr_check_parse.specs.Attributes.{signed, in_range, is_signed, attribute_at, constant_at, relation_at, same_spelling};
 ghost use Rattle.lr_check_parse.specs.Attributes.{holds, answered};
@@ -45,20 +45,20 @@ fn same_size(a: Option<Size>, b: Option<Size>) -> bool
 fn alone(alloc: Global) -> Result<Line, NoMemory>
     ensures { IfOk result (λ l. l ≡ alone) }
 {
-    let pieces = vec![in alloc; Piece::Hole(1)]?;
+    let pieces = alone_in(alloc, Piece::Hole(1))?;
     Ok(Line {
         line: 0,
         pieces: Pieces::from_vec(pieces),
     })
 }
 
-/// An attribute alone, as the only hole of a line.
-pub fn alone_in<O: Drop>(alloc: Global, attr: Attr<O>) -> Result<Vec<Attr<O>>, NoMemory>
-    ensures { IfOk result (λ v. v.items ≡ attr ∷ []) }
+/// An item alone, as the only piece or the only hole of a line.
+pub fn alone_in<X: Drop>(alloc: Global, item: X) -> Result<Vec<X>, NoMemory>
+    ensures { IfOk result (λ v. v.items ≡ item ∷ []) }
 {
-    let mut holes = Vec::new(alloc);
-    holes.push(attr)?;
-    Ok(holes)
+    let mut items = Vec::new(alloc);
+    items.push(item)?;
+    Ok(items)
 }
 
 // The place of a local's or an argument's token.
@@ -220,7 +220,7 @@ fn place_of<O: Drop>(entries: &Entries<O>, size: usize, number: u8) -> Option<us
     ensures within { IfSome result (λ i. i < length entries.now) }
 {
     let long = entries.len();
-    let base = if size < long { long - size } else { 0 };
+    let base = long.saturating_sub(size);
     if number == 0 {
         return None;
     }
@@ -232,7 +232,30 @@ fn place_of<O: Drop>(entries: &Entries<O>, size: usize, number: u8) -> Option<us
     }
 }
 
-// Whether two symbols are of one size, and spelled alike.
+// Whether the symbols at two places are of one size, and spelled alike.
+#[tactic(auto, using(crate::proofs::Asking::alike_in))]
+fn alike_at<T: Templates>(
+    setting: &Setting<T>,
+    entries: &Entries<T::Operand>,
+    a: usize,
+    b: usize,
+) -> Result<bool, NoMemory>
+    requires a { a < length entries.now }
+    requires b { b < length entries.now }
+    ensures { IfOk result (λ yes. yes ≡ same_spelling (selecting T.meaning setting.now.program.now setting.now.description.now
+        setting.now.first) (slice_get entries.now a) (slice_get entries.now b)) }
+{
+    if same_size(
+        size_of_entry(entries.kind(a)),
+        size_of_entry(entries.kind(b)),
+    ) {
+        spelled_alike(setting, entries.attr(a), entries.attr(b))
+    } else {
+        Ok(false)
+    }
+}
+
+// Whether two symbols, which may be missing, are of one size, and spelled alike.
 fn alike<T: Templates>(
     setting: &Setting<T>,
     entries: &Entries<T::Operand>,
@@ -244,16 +267,10 @@ fn alike<T: Templates>(
     ensures { IfOk result (λ yes. yes ≡ same_spelling (selecting T.meaning setting.now.program.now setting.now.description.now
         setting.now.first) (entry_at entries.now a) (entry_at entries.now b)) }
 {
-    let (Some(a), Some(b)) = (a, b) else {
-        return Ok(false);
-    };
-    if !same_size(
-        size_of_entry(entries.kind(a)),
-        size_of_entry(entries.kind(b)),
-    ) {
-        return Ok(false);
+    match (a, b) {
+        (Some(a), Some(b)) => alike_at(setting, entries, a, b),
+        _ => Ok(false),
     }
-    spelled_alike(setting, &entries.attrs()[a], &entries.attrs()[b])
 }
 
 fn constant_at<T: Templates>(

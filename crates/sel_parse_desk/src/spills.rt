@@ -51,10 +51,7 @@ fn free_register<T: Templates>(
 fn is_late(late: &[u32], word: u32) -> bool
     ensures { result ≡ list_any (λ v. v == word) late.now }
 {
-    match late.split_first() {
-        None => false,
-        Some((own, others)) => *own == word || is_late(others, word),
-    }
+    late.iter().any(|own| *own == word)
 }
 
 fn is_free_word<T: Templates>(
