@@ -4,3 +4,4 @@ pub mod Calming
 pub mod Fine
 pub mod Settled
 pub mod Circling
+pub mod Firsts

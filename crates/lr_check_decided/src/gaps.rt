@@ -35,12 +35,7 @@ pub fn find_gap(tables: &Tables, found: &Found) -> Option<usize>
     ensures none { IfNone result ((n : ℕ) (x : Place) → IsPlaceAt found.now n x → (p : ℕ)
         × ((automaton_of tables.now).go x.state (grammar_symbol.Tok x.token) ≡ Some p)) }
 {
-    for number in 0..found.places().len() {
-        if is_gap(tables, found, number) {
-            return Some(number);
-        }
-    }
-    None
+    (0..found.places().len()).find(|number| is_gap(tables, found, *number))
 }
 
 // Whether some answers take nothing at the settling's list.
@@ -83,10 +78,9 @@ pub fn find_dead(tables: &Tables, found: &Found) -> Option<usize>
         → IsPlaceAt found.now e.place x → e.behind ≡ Some p →
         CanBlock ((automaton_of tables.now).candidates p x.behind) → ⊥) }
 {
-    for number in 0..found.settlings().len() {
-        if is_dead_at(tables, found, number) {
-            return Some(number);
-        }
-    }
-    None
+    (0..found.settlings().len()).find(
+        |number|
+            requires { IsFound (automaton_of tables.now) found.now }
+        { is_dead_at(tables, found, *number) },
+    )
 }
