@@ -1,11 +1,11 @@
 -- Searches from a number on.
 use Rattle.std.proofs.Common.{◌≡◌, ℕ, zero, suc, ◌+◌, ◌-◌, ◌<◌, ◌≤◌, List, [], ◌∷◌, length, take, get_or, Option, Some, None, Bool, true, false, refl, ap, sym, ◌∙◌, subst, arith}
-use Rattle.std.specs.Prelude.{◌||◌, if◌then◌else◌}
-use Rattle.std.specs.List.{list_any}
+use Rattle.std.specs.Prelude.{◌||◌, if◌then◌else◌, is_some, IfSome}
+use Rattle.std.specs.List.{list_any, find, position_from, range_with_len}
 use Rattle.sel_parse_desk.specs.Desk.{lowest}
 use Rattle.sel_parse_desk.specs.Spills.{behind_one, first_that}
 
--- the lowest number that passes
+-- the lowest number that passes, number by number
 pub lowest_here : (p : ℕ → Bool) (i n : ℕ) → i < n → p i ≡ true → lowest p i (n - i) ≡ Some i
 lowest_here p i n lt e = by (n - i) (omega (arith, lt))
   where
@@ -23,6 +23,65 @@ lowest_later p i n lt e = by (n - i) (n - (i + 1)) (omega (arith, lt))
 
 pub lowest_none : (p : ℕ → Bool) (i n : ℕ) → n ≤ i → lowest p i (n - i) ≡ None
 lowest_none p i n le = ap (λ (m : ℕ). lowest p i m) (let s : n - i ≡ 0 = omega (arith, le) in s)
+
+-- as `any` and `find` meet it in a range
+pub any_lowest : (p : ℕ → Bool) (k n : ℕ) → list_any p (range_with_len k n) ≡ is_some (lowest p k n)
+any_lowest p k zero = refl
+any_lowest p k (suc n) = by (p k) (any_lowest p (k + 1) n)
+  where
+    by : (b : Bool) → list_any p (range_with_len (k + 1) n) ≡ is_some (lowest p (k + 1) n)
+        → (b || list_any p (range_with_len (k + 1) n)) ≡ is_some (if b then Some k else lowest p (k + 1) n)
+    by true h = refl
+    by false h = h
+
+pub find_lowest : (p : ℕ → Bool) (k n : ℕ) → find p (range_with_len k n) ≡ lowest p k n
+find_lowest p k zero = refl
+find_lowest p k (suc n) = ap (λ (o : Option ℕ). if p k then Some k else o) (find_lowest p (k + 1) n)
+
+pub lowest_below : (p : ℕ → Bool) (k n m : ℕ) → (0 < n → k + n ≤ m) → IfSome (lowest p k n) (λ i. i < m)
+lowest_below p k zero m le = tt
+lowest_below p k (suc n) m le =
+    let whole : k + suc n ≤ m = le (omega arith) in
+    by (p k) (omega (arith, whole)) (lowest_below p (k + 1) n m (λ _. omega (arith, whole)))
+  where
+    by : (b : Bool) → k < m → IfSome (lowest p (k + 1) n) (λ i. i < m) → IfSome (if b then Some k else lowest p (k + 1) n) (λ i. i < m)
+    by true h g = h
+    by false h g = g
+
+-- the first element that passes, as `position` meets it
+abbrev plus : ℕ → Option ℕ → Option ℕ
+plus i None = None
+plus i (Some k) = Some (k + i)
+
+plus_one : (i : ℕ) (o : Option ℕ) → plus (i + 1) o ≡ plus i (behind_one o)
+plus_one i None = refl
+plus_one i (Some k) = ap (λ (j : ℕ). Some j) (let s : k + (i + 1) ≡ k + 1 + i = omega arith in s)
+
+plus_none : (o : Option ℕ) → plus 0 o ≡ o
+plus_none None = refl
+plus_none (Some k) = ap (λ (j : ℕ). Some j) (let s : k + 0 ≡ k = omega arith in s)
+
+module _ {X : Type 0} (p : X → Bool) where
+  first_from : (xs : List X) (i : ℕ) → position_from p i xs ≡ plus i (first_that p xs)
+  first_from [] i = refl
+  first_from (x ∷ xs) i = by (p x) (first_from xs (i + 1))
+    where
+      by : (b : Bool) → position_from p (i + 1) xs ≡ plus (i + 1) (first_that p xs)
+          → (if b then Some i else position_from p (i + 1) xs) ≡ plus i (if b then Some 0 else behind_one (first_that p xs))
+      by true h = ap (λ (j : ℕ). Some j) (let s : i ≡ 0 + i = omega arith in s)
+      by false h = h ∙ plus_one i (first_that p xs)
+
+  pub first_position : (xs : List X) → position_from p 0 xs ≡ first_that p xs
+  first_position xs = first_from xs 0 ∙ plus_none (first_that p xs)
+
+  pub first_within : (xs : List X) → IfSome (first_that p xs) (λ i. i < length xs)
+  first_within [] = tt
+  first_within (y ∷ xs) = by (p y) (first_that p xs) (first_within xs)
+    where
+      by : (b : Bool) (o : Option ℕ) → IfSome o (λ i. i < length xs) → IfSome (if b then Some 0 else behind_one o) (λ i. i < length (y ∷ xs))
+      by true o h = omega arith
+      by false None h = tt
+      by false (Some k) h = omega (arith, h)
 
 -- the first element that passes
 module _ {X : Type 0} (p : X → Bool) where

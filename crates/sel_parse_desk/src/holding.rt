@@ -55,12 +55,7 @@ pub fn word_of<T: Templates>(target: &T, attr: &Attr<T::Operand>) -> Option<u32>
 pub fn holds_some<T: Templates>(target: &T, attr: &Attr<T::Operand>) -> bool
     ensures { result ≡ holds_some T.meaning attr.now }
 {
-    for register in 0..REGISTERS {
-        if in_register(target, register, attr) {
-            return true;
-        }
-    }
-    false
+    (0..REGISTERS).any(|register| in_register(target, register, attr))
 }
 
 /// Whether one of a rule's few symbols holds a register.
@@ -105,16 +100,5 @@ pub fn first_to_go<T: Templates>(target: &T, attrs: &[Attr<T::Operand>]) -> Opti
     ensures place { result ≡ first_that (may_go T.meaning) attrs.now }
     ensures within { IfSome result (λ i. i < length attrs.now) }
 {
-    match attrs.split_first() {
-        None => None,
-        Some((attr, others)) => {
-            if may_go(target, attr) {
-                return Some(0);
-            }
-            match first_to_go(target, others) {
-                None => None,
-                Some(place) => Some(place + 1),
-            }
-        }
-    }
+    attrs.iter().position(|attr| may_go(target, attr))
 }

@@ -74,12 +74,7 @@ fn free_slot<T: Templates>(setting: &Setting<T>, desk: &Desk<T::Operand, T::Inst
     ensures word { result ≡ free_slot T.meaning setting.now.first (desk_of desk.now) }
     ensures small { IfSome result (λ w. w < 1024) }
 {
-    for word in setting.first..1024 {
-        if is_free_word(setting, desk, word) {
-            return Some(word);
-        }
-    }
-    None
+    (setting.first..1024).find(|word| is_free_word(setting, desk, *word))
 }
 
 fn saving_place(kind: Option<Kind>) -> usize
