@@ -1,5 +1,6 @@
 -- The stages of a template as the code holds their parts.
 use Rattle.std.specs.Prelude.{ℕ, Bool, List, Option, Some, Result}
+use Rattle.std.specs.Global.{Box}
 use Rattle.md_reader_pieces.specs.declared.piece.Piece.{Piece}
 use Rattle.md_reader_pieces.specs.declared.piece.Line.{Line}
 use Rattle.tree_core.specs.declared.program.TreeProgram.{TreeProgram}
@@ -27,16 +28,16 @@ use Rattle.vax_target.specs.declared.judging.Before.{Before}
 use Rattle.vax_target.specs.declared.found.Run.{Run}
 use Rattle.vax_target.specs.Views.{term_of, last_of, instruction_view, progress_of}
 
-abbrev pub sum_of : Setting → List Hole → Option Term → Number → ℕ → Result Shape TemplateKind
+abbrev pub sum_of : Setting → List Hole → Option (Box Term) → Number → ℕ → Result Shape TemplateKind
 sum_of s holes zero n i = displaced (number_term holes n) (register_term s holes (term_of zero) i)
 
-abbrev pub taken_of_all : Setting → List Hole → Option Term → List OperandKind → List Form → Result Arguments TemplateKind
+abbrev pub taken_of_all : Setting → List Hole → Option (Box Term) → List OperandKind → List Form → Result Arguments TemplateKind
 taken_of_all s holes zero kinds forms = all_evaluated s holes (term_of zero) kinds forms
 
-abbrev pub did_after : Setting → List Hole → Bool → Option Term → Before → LineInstruction → Result Deed TemplateKind
+abbrev pub did_after : Setting → List Hole → Bool → Option (Box Term) → Before → LineInstruction → Result Deed TemplateKind
 did_after s holes is_first zero before i = instruction_did s holes is_first (term_of zero) (last_of before) (instruction_view i)
 
-abbrev pub line_after : Setting → List Hole → Bool → Option Term → Before → List Piece → Result Deed TemplateKind
+abbrev pub line_after : Setting → List Hole → Bool → Option (Box Term) → Before → List Piece → Result Deed TemplateKind
 line_after s holes is_first zero before pieces = line_did s holes is_first (term_of zero) (last_of before) pieces
 
 abbrev pub judged_run : Setting → List Hole → Bool → Line → Run → Result Progress Fault

@@ -2,9 +2,9 @@
 use Rattle.std.specs.Prelude.{ℕ, Bool, List, map, Option}
 use Rattle.std.specs.Option.{option_map}
 use Rattle.term_core.specs.declared.term.Term.{Term}
-use Rattle.term_core.specs.Shape.{Shape, shape_of}
+use Rattle.term_core.specs.Shape.{Shape, Symbol, shape_of}
 use Rattle.sel_terms.specs.Effects.{act_of}
-use Rattle.std.specs.Global.{Vec}
+use Rattle.std.specs.Global.{Vec, Box}
 use Rattle.vax_templates.specs.declared.form.Form.{Form}
 use Rattle.vax_templates.specs.Instructions.{Instruction}
 use Rattle.vax_templates.specs.Instructions as instruction
@@ -34,8 +34,11 @@ use Rattle.vax_target.specs.declared.judging.Step.{Step}
 use Rattle.vax_target.specs.declared.found.LineReads.{LineReads}
 use Rattle.vax_target.specs.declared.found.Run.{Run}
 
-abbrev pub term_of : Option Term → Option Shape
-term_of t = option_map shape_of t
+abbrev pub held : Box Term → Shape
+held t = shape_of t.value
+
+abbrev pub term_of : Option (Box Term) → Option Shape
+term_of t = option_map held t
 
 abbrev pub form_view : Form → Form
 form_view f = f
@@ -51,8 +54,8 @@ instruction_view lines.Return = instruction.Ret
 instruction_view (lines.Operates op fs) = instruction.Operates op fs.items
 
 abbrev pub where_of : Location → Where
-where_of (locations.Number t) = where_.Immediate (shape_of t)
-where_of (locations.Register t) = where_.Register (shape_of t)
+where_of (locations.Number t) = where_.Immediate (held t)
+where_of (locations.Register i) = where_.Register (Symbol i)
 where_of locations.Own = where_.OwnRegister
 where_of locations.RegisterZero = where_.RegisterZero
 where_of (locations.Value z i) = where_.Value z i
@@ -60,13 +63,13 @@ where_of (locations.Place z i) = where_.Place z i
 where_of (locations.Local i) = where_.Local i
 where_of (locations.SavedPlace z i) = where_.SavedPlace z i
 where_of (locations.Saved i) = where_.Saved i
-where_of (locations.At a p) = where_.At (shape_of a) (term_of p)
+where_of (locations.At a p) = where_.At (held a) (term_of p)
 
 abbrev pub target_of : Destination → Target
 target_of destinations.Own = target.ToOwn
 target_of (destinations.Slot z) = target.ToSlot z
 target_of (destinations.Home z i) = target.ToHome z i
-target_of (destinations.Memory z a) = target.ToMemory z (shape_of a)
+target_of (destinations.Memory z a) = target.ToMemory z (held a)
 target_of destinations.RegisterZero = target.ToZero
 target_of (destinations.Saved i) = target.ToSaved i
 
@@ -75,7 +78,7 @@ aimed x = (target_of x.0, x.1)
 
 abbrev pub taken_of : Operand → Taken
 taken_of t = record {
-  term = shape_of t.term;
+  term = held t.term;
   reads = map shape_of t.reads.items;
   target = option_map target_of t.destination;
   missized = t.is_missized;
@@ -83,25 +86,25 @@ taken_of t = record {
 
 abbrev pub arguments_of : Operands → Arguments
 arguments_of x = record {
-  first = shape_of x.first;
-  second = shape_of x.second;
+  first = held x.first;
+  second = held x.second;
   reads = map shape_of x.reads.items;
   target = option_map target_of x.destination;
   missized = x.is_missized;
 }
 
 abbrev pub given_of : Outcome → Given
-given_of (outcomes.Computes t) = given.Computes (shape_of t)
-given_of (outcomes.Divides t d) = given.Divides (shape_of t) (shape_of d)
-given_of (outcomes.Compares a b) = given.Compares (shape_of a) (shape_of b)
-given_of (outcomes.Tests t) = given.Tests (shape_of t)
+given_of (outcomes.Computes t) = given.Computes (held t)
+given_of (outcomes.Divides t d) = given.Divides (held t) (held d)
+given_of (outcomes.Compares a b) = given.Compares (held a) (held b)
+given_of (outcomes.Tests t) = given.Tests (held t)
 
 abbrev pub last_of : Before → Last
 last_of befores.Plain = last.Plain
-last_of (befores.Compared a b) = last.Compared (shape_of a) (shape_of b)
-last_of (befores.Tested t) = last.Tested (shape_of t)
-last_of (befores.Returning t) = last.Returning (shape_of t)
-last_of (befores.Ended deed) = last.Ended (act_of deed)
+last_of (befores.Compared a b) = last.Compared (held a) (held b)
+last_of (befores.Tested t) = last.Tested (held t)
+last_of (befores.Returning t) = last.Returning (held t)
+last_of (befores.Ended deed) = last.Ended (act_of deed.value)
 
 abbrev pub deed_of : Step → Deed
 deed_of d = record {

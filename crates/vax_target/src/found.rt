@@ -40,7 +40,7 @@ pub struct LineReads {
 /// What the lines so far left: what `%0` holds, what the last line left to the next, by what was divided, and what was read of memory.
 #[derive(Drop)]
 pub struct Run {
-    pub own: Option<Term>,
+    pub own: Option<Box<Term>>,
     pub leaves: Before,
     pub divisors: Vec<Term>,
     pub reads: Vec<LineReads>,
@@ -125,11 +125,11 @@ fn last_line(lines: &[Line]) -> u32
     }
 }
 
-fn left_value(own: Option<Term>) -> Result<Act, Refusal>
+fn left_value(own: Option<Box<Term>>) -> Result<Act, Refusal>
     ensures { Judges act_of result (left_value (term_of own)) }
 {
     match own {
-        Some(t) => Ok(Act::Value(t)),
+        Some(t) => Ok(Act::Value(Box::into_inner(t))),
         None => Err(NOT_INSTR),
     }
 }
@@ -138,7 +138,7 @@ fn last_deed(before: Before) -> Result<Act, Refusal>
     ensures { Judges act_of result (last_deed (last_of before)) }
 {
     match before {
-        Before::Ended(deed) => Ok(deed),
+        Before::Ended(deed) => Ok(Box::into_inner(deed)),
         _ => Err(NOT_INSTR),
     }
 }
@@ -147,7 +147,7 @@ fn register_given(location: Location) -> Result<Act, Refusal>
     ensures { Judges act_of result (register_given (where_of location)) }
 {
     match location {
-        Location::Register(t) => Ok(Act::Value(t)),
+        Location::Register(i) => Ok(Act::Value(Term::V(i))),
         _ => Err(NOT_INSTR),
     }
 }
@@ -156,7 +156,7 @@ fn address_given(location: Location) -> Result<Act, Refusal>
     ensures { Judges act_of result (address_given (where_of location)) }
 {
     match location {
-        Location::At(a, _) => Ok(Act::Address(a)),
+        Location::At(a, _) => Ok(Act::Address(Box::into_inner(a))),
         _ => Err(NOT_INSTR),
     }
 }
@@ -167,7 +167,7 @@ fn value_given(taken: Operand) -> Result<Act, Refusal>
     if taken.is_missized {
         return Err(Refusal::Wrong(TemplateKind::WrongSize));
     }
-    Ok(Act::Value(taken.term))
+    Ok(Act::Value(Box::into_inner(taken.term)))
 }
 
 fn home_given(size: Size, has: Size, i: u8) -> Result<Act, Refusal>
@@ -186,7 +186,7 @@ fn place_given(size: Size, location: Location) -> Result<Act, Refusal>
     match location {
         Location::Place(has, i) => home_given(size, has, i),
         Location::Local(i) => home_given(size, Size::Long, i),
-        Location::At(a, _) => Ok(Act::PlaceAt(size, a)),
+        Location::At(a, _) => Ok(Act::PlaceAt(size, Box::into_inner(a))),
         _ => Err(NOT_INSTR),
     }
 }
@@ -231,7 +231,7 @@ fn given_shape(template: Template<'_>, kind: Option<Kind>, shape: &Line) -> Resu
 fn given_by(
     template: Template<'_>,
     kind: Option<Kind>,
-    own: Option<Term>,
+    own: Option<Box<Term>>,
     leaves: Before,
     give: &Give,
 ) -> Result<Act, Refusal>
@@ -359,8 +359,9 @@ fn first_dropped(
 fn none_dropped(alloc: Global, effect: Effect, reads: &[LineReads]) -> Result<Effect, TargetFault>
     ensures { Answers effect_of result (none_dropped (effect_of effect) (first_dropped (effect_of effect) (map reads_of reads.now))) }
 {
+    let effect = Box::new(alloc, effect)?;
     match first_dropped(alloc, &effect, reads)? {
-        None => Ok(effect),
+        None => Ok(Box::into_inner(effect)),
         Some(line) => Err(TargetFault::At {
             line,
             kind: TemplateKind::NotInstr,

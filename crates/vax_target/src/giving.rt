@@ -7,64 +7,66 @@ ghost use Rattle.vax_machine.specs.declared.function.Function.TheVariants as fun
 ghost use Rattle.vax_templates.specs.Giving.{Compares, extended, truncated, given};
 ghost use Rattle.vax_target.specs.Views.{given_of};
 
+use crate::heap::{boxed, copied, joined};
 use gg_base::{NoMemory, Size};
 use std::alloc::Global;
-use term_core::{BinaryOp, Term, UnaryOp, binary, copy, unary};
+use term_core::{BinaryOp, Term, UnaryOp, copy, unary};
 use vax_machine::function::Function;
 
 /// What an instruction computes: a result, a quotient with its divisor, two numbers that are compared, or one whose sign and zero are
 /// tested.
 #[derive(Drop)]
 pub enum Outcome {
-    Computes(Term),
-    Divides(Term, Term),
-    Compares(Term, Term),
-    Tests(Term),
+    Computes(Box<Term>),
+    Divides(Box<Term>, Box<Term>),
+    Compares(Box<Term>, Box<Term>),
+    Tests(Box<Term>),
 }
 
 // The operator on a copy of the term.
-fn one(alloc: Global, op: UnaryOp, t: &Term) -> Result<Term, NoMemory>
-    ensures { IfOk result (λ r. shape_of r ≡ Unary op (shape_of t.now)) }
+fn one(alloc: Global, op: UnaryOp, t: &Term) -> Result<Box<Term>, NoMemory>
+    ensures { IfOk result (λ r. shape_of r.value ≡ Unary op (shape_of t.now)) }
 {
     let t = copy(alloc, t)?;
-    unary(alloc, op, t)
+    boxed(alloc, unary(alloc, op, t)?)
 }
 
 // The operator on copies of the terms.
-fn two(alloc: Global, op: BinaryOp, a: &Term, b: &Term) -> Result<Term, NoMemory>
-    ensures { IfOk result (λ r. shape_of r ≡ Binary op (shape_of a.now) (shape_of b.now)) }
+fn two(alloc: Global, op: BinaryOp, a: &Term, b: &Term) -> Result<Box<Term>, NoMemory>
+    ensures { IfOk result (λ r. shape_of r.value ≡ Binary op (shape_of a.now) (shape_of b.now)) }
 {
-    let a = copy(alloc, a)?;
-    let b = copy(alloc, b)?;
-    binary(alloc, op, a, b)
+    let a = copied(alloc, a)?;
+    let b = copied(alloc, b)?;
+    joined(alloc, op, a, b)
 }
 
 // The operator on a copy of the term and a constant.
-fn with_constant(alloc: Global, op: BinaryOp, a: &Term, n: u32) -> Result<Term, NoMemory>
-    ensures { IfOk result (λ r. shape_of r ≡ Binary op (shape_of a.now) (Constant n)) }
+fn with_constant(alloc: Global, op: BinaryOp, a: &Term, n: u32) -> Result<Box<Term>, NoMemory>
+    ensures { IfOk result (λ r. shape_of r.value ≡ Binary op (shape_of a.now) (Constant n)) }
 {
-    let a = copy(alloc, a)?;
-    binary(alloc, op, a, Term::K(n))
+    let a = copied(alloc, a)?;
+    let b = boxed(alloc, Term::K(n))?;
+    joined(alloc, op, a, b)
 }
 
 // A number of this size as a longword of the same sign.
-fn extended(alloc: Global, size: Size, t: &Term) -> Result<Term, NoMemory>
-    ensures { IfOk result (λ r. shape_of r ≡ extended size (shape_of t.now)) }
+fn extended(alloc: Global, size: Size, t: &Term) -> Result<Box<Term>, NoMemory>
+    ensures { IfOk result (λ r. shape_of r.value ≡ extended size (shape_of t.now)) }
 {
     match size {
         Size::Byte => one(alloc, UnaryOp::Sx8, t),
         Size::Word => one(alloc, UnaryOp::Sx16, t),
-        Size::Long => copy(alloc, t),
+        Size::Long => copied(alloc, t),
     }
 }
 
-fn truncated(alloc: Global, size: Size, t: &Term) -> Result<Term, NoMemory>
-    ensures { IfOk result (λ r. shape_of r ≡ truncated size (shape_of t.now)) }
+fn truncated(alloc: Global, size: Size, t: &Term) -> Result<Box<Term>, NoMemory>
+    ensures { IfOk result (λ r. shape_of r.value ≡ truncated size (shape_of t.now)) }
 {
     match size {
         Size::Byte => one(alloc, UnaryOp::Zx8, t),
         Size::Word => one(alloc, UnaryOp::Zx16, t),
-        Size::Long => copy(alloc, t),
+        Size::Long => copied(alloc, t),
     }
 }
 
@@ -72,7 +74,7 @@ fn quotient(alloc: Global, a: &Term, b: &Term) -> Result<Outcome, NoMemory>
     ensures { IfOk result (λ g. given_of g ≡ given functions.Divide (shape_of a.now) (shape_of b.now)) }
 {
     let t = two(alloc, BinaryOp::Div, b, a)?;
-    Ok(Outcome::Divides(t, copy(alloc, a)?))
+    Ok(Outcome::Divides(t, copied(alloc, a)?))
 }
 
 fn compared(alloc: Global, size: Size, a: &Term, b: &Term) -> Result<Outcome, NoMemory>
@@ -86,15 +88,15 @@ fn compared_with_zero(alloc: Global, size: Size, a: &Term) -> Result<Outcome, No
     ensures { IfOk result (λ g. given_of g ≡ Compares (extended size (shape_of a.now)) (Constant 0)) }
 {
     let a = extended(alloc, size, a)?;
-    Ok(Outcome::Compares(a, Term::K(0)))
+    Ok(Outcome::Compares(a, boxed(alloc, Term::K(0))?))
 }
 
-fn bits_cleared(alloc: Global, a: &Term, b: &Term) -> Result<Term, NoMemory>
-    ensures { IfOk result (λ r. shape_of r ≡ Binary binary_op.And (shape_of b.now) (Unary unary_op.Com (shape_of a.now))) }
+fn bits_cleared(alloc: Global, a: &Term, b: &Term) -> Result<Box<Term>, NoMemory>
+    ensures { IfOk result (λ r. shape_of r.value ≡ Binary binary_op.And (shape_of b.now) (Unary unary_op.Com (shape_of a.now))) }
 {
     let mask = one(alloc, UnaryOp::Com, a)?;
-    let b = copy(alloc, b)?;
-    binary(alloc, BinaryOp::And, b, mask)
+    let b = copied(alloc, b)?;
+    joined(alloc, BinaryOp::And, b, mask)
 }
 
 /// What is computed of the first and the second operand.
@@ -102,8 +104,8 @@ pub fn given(alloc: Global, function: Function, a: &Term, b: &Term) -> Result<Ou
     ensures { IfOk result (λ g. given_of g ≡ given function (shape_of a.now) (shape_of b.now)) }
 {
     match function {
-        Function::Copy(_) => Ok(Outcome::Computes(copy(alloc, a)?)),
-        Function::Clear => Ok(Outcome::Computes(Term::K(0))),
+        Function::Copy(_) => Ok(Outcome::Computes(copied(alloc, a)?)),
+        Function::Clear => Ok(Outcome::Computes(boxed(alloc, Term::K(0))?)),
         Function::Negate => Ok(Outcome::Computes(one(alloc, UnaryOp::Neg, a)?)),
         Function::Complement => Ok(Outcome::Computes(one(alloc, UnaryOp::Com, a)?)),
         Function::SignExtend(size) => Ok(Outcome::Computes(extended(alloc, size, a)?)),

@@ -16,6 +16,7 @@ ghost use Rattle.vax_target.specs.Stages.{did_after, line_after};
 ghost use Rattle.vax_target.specs.Views.{term_of, target_of, arguments_of, given_of, last_of, deed_of, instruction_view};
 
 use crate::giving::{Outcome, given};
+use crate::heap::copied;
 use crate::instruction::{LineInstruction, instruction_of};
 use crate::refusal::{NOT_INSTR, Refusal};
 use crate::setting::hole_at;
@@ -36,17 +37,17 @@ use vax_templates::{Base, Form, Hole};
 #[derive(Drop)]
 pub enum Before {
     Plain,
-    Compared(Term, Term),
-    Tested(Term),
-    Returning(Term),
-    Ended(Act),
+    Compared(Box<Term>, Box<Term>),
+    Tested(Box<Term>),
+    Returning(Box<Term>),
+    Ended(Box<Act>),
 }
 
 /// What a line puts into `%0`, what it leaves to the next, by what it divides, what it reads of memory, and whether an operand has another
 /// size.
 #[derive(Drop)]
 pub struct Step {
-    pub own: Option<Term>,
+    pub own: Option<Box<Term>>,
     pub leaves: Before,
     pub divisors: Vec<Term>,
     pub reads: Vec<Term>,
@@ -65,21 +66,22 @@ fn leaves(alloc: Global, before: Before) -> Step
     }
 }
 
-fn ends(alloc: Global, deed: Act) -> Step
-    ensures { ends (act_of deed) ≡ Ok (deed_of result) }
+fn ends(alloc: Global, deed: Act) -> Result<Step, NoMemory>
+    ensures { IfOk result (λ d. ends (act_of deed) ≡ Ok (deed_of d)) }
 {
-    leaves(alloc, Before::Ended(deed))
+    let deed = Box::new(alloc, deed)?;
+    Ok(leaves(alloc, Before::Ended(deed)))
 }
 
 // The first operand is pushed.
-fn pushes(alloc: Global, arguments: Operands) -> Step
-    ensures { ends (act.Push (shape_of arguments.first)) ≡ Ok (deed_of result) }
+fn pushes(alloc: Global, arguments: Operands) -> Result<Step, NoMemory>
+    ensures { IfOk result (λ d. ends (act.Push (shape_of arguments.first.value)) ≡ Ok (deed_of d)) }
 {
-    ends(alloc, Act::Push(arguments.first))
+    ends(alloc, Act::Push(Box::into_inner(arguments.first)))
 }
 
-fn puts(alloc: Global, t: Term) -> Step
-    ensures { deed_of result ≡ puts (shape_of t) }
+fn puts(alloc: Global, t: Box<Term>) -> Step
+    ensures { deed_of result ≡ puts (shape_of t.value) }
 {
     Step {
         own: Some(t),
@@ -118,24 +120,33 @@ fn is_last_result(t: &Term) -> bool
 }
 
 // A result at its destination.
-fn put(alloc: Global, op: Op, to: Destination, t: Term) -> Result<Step, Refusal>
-    ensures { Judges deed_of result (put op (Some (target_of to)) (shape_of t)) }
+fn put(alloc: Global, op: Op, to: Destination, t: Box<Term>) -> Result<Step, Refusal>
+    ensures { Judges deed_of result (put op (Some (target_of to)) (shape_of t.value)) }
 {
     match to {
         Destination::Own => Ok(puts(alloc, t)),
-        Destination::Slot(size) => Ok(ends(alloc, Act::StoreHome(size, 0, t))),
-        Destination::Home(size, i) => Ok(ends(alloc, Act::StoreHome(size, i, t))),
-        Destination::Memory(size, a) => Ok(ends(alloc, Act::StoreAt(size, a, t))),
+        Destination::Slot(size) => {
+            let deed = Act::StoreHome(size, 0, Box::into_inner(t));
+            Ok(ends(alloc, deed)?)
+        }
+        Destination::Home(size, i) => {
+            let deed = Act::StoreHome(size, i, Box::into_inner(t));
+            Ok(ends(alloc, deed)?)
+        }
+        Destination::Memory(size, a) => {
+            let deed = Act::StoreAt(size, Box::into_inner(a), Box::into_inner(t));
+            Ok(ends(alloc, deed)?)
+        }
         Destination::RegisterZero if is_movl(op) => Ok(leaves(alloc, Before::Returning(t))),
         Destination::Saved(i) if is_movl(op) && is_last_result(&t) => {
-            Ok(ends(alloc, Act::Save(i)))
+            Ok(ends(alloc, Act::Save(i))?)
         }
         Destination::RegisterZero | Destination::Saved(_) => Err(NOT_INSTR),
     }
 }
 
-fn put_at(alloc: Global, op: Op, to: Option<Destination>, t: Term) -> Result<Step, Refusal>
-    ensures { Judges deed_of result (put op (option_map target_of to) (shape_of t)) }
+fn put_at(alloc: Global, op: Op, to: Option<Destination>, t: Box<Term>) -> Result<Step, Refusal>
+    ensures { Judges deed_of result (put op (option_map target_of to) (shape_of t.value)) }
 {
     match to {
         Some(to) => put(alloc, op, to, t),
@@ -144,11 +155,11 @@ fn put_at(alloc: Global, op: Op, to: Option<Destination>, t: Term) -> Result<Ste
 }
 
 // The one term as a list.
-fn only(alloc: Global, t: Term) -> Result<Vec<Term>, NoMemory>
-    ensures { IfOk result (λ v. map shape_of v.items ≡ shape_of t ∷ []) }
+fn only(alloc: Global, t: Box<Term>) -> Result<Vec<Term>, NoMemory>
+    ensures { IfOk result (λ v. map shape_of v.items ≡ shape_of t.value ∷ []) }
 {
     let mut terms = Vec::new(alloc);
-    terms.push(t)?;
+    terms.push(Box::into_inner(t))?;
     Ok(terms)
 }
 
@@ -164,10 +175,10 @@ fn put_divided(
     alloc: Global,
     op: Op,
     to: Option<Destination>,
-    t: Term,
-    divisor: Term,
+    t: Box<Term>,
+    divisor: Box<Term>,
 ) -> Result<Step, Refusal>
-    ensures { Judges deed_of result (computed op (option_map target_of to) (Divides (shape_of t) (shape_of divisor))) }
+    ensures { Judges deed_of result (computed op (option_map target_of to) (Divides (shape_of t.value) (shape_of divisor.value))) }
 {
     let step = put_at(alloc, op, to, t)?;
     let divisors = only(alloc, divisor)?;
@@ -223,7 +234,7 @@ fn returned(alloc: Global, t: &Term, instruction: &LineInstruction) -> Result<St
     match instruction {
         LineInstruction::Return => {
             let t = copy(alloc, t)?;
-            Ok(ends(alloc, Act::Return(t)))
+            Ok(ends(alloc, Act::Return(t))?)
         }
         _ => Err(NOT_INSTR),
     }
@@ -239,13 +250,14 @@ impl<'a> Template<'a> {
         }
         match before {
             Before::Compared(a, b) => {
-                let a = copy(self.alloc, a)?;
-                let b = copy(self.alloc, b)?;
-                Ok(ends(self.alloc, Act::Branch(i, a, b)))
+                let a = copied(self.alloc, a)?;
+                let b = copied(self.alloc, b)?;
+                let deed = Act::Branch(i, Box::into_inner(a), Box::into_inner(b));
+                Ok(ends(self.alloc, deed)?)
             }
             Before::Tested(t) if self.setting.is_signed => {
                 let t = copy(self.alloc, t)?;
-                Ok(ends(self.alloc, Act::Branch(i, t, Term::K(0))))
+                Ok(ends(self.alloc, Act::Branch(i, t, Term::K(0)))?)
             }
             _ => Err(NOT_INSTR),
         }
@@ -288,7 +300,7 @@ impl<'a> Template<'a> {
     // What an instruction computes, at its destination.
     fn applied(self, function: Function, op: Op, arguments: Operands) -> Result<Step, Refusal>
         ensures { Judges deed_of result (computed op (option_map target_of arguments.destination)
-            (given function (shape_of arguments.first) (shape_of arguments.second))) }
+            (given function (shape_of arguments.first.value) (shape_of arguments.second.value))) }
     {
         let Operands {
             first,
@@ -307,12 +319,18 @@ impl<'a> Template<'a> {
     {
         match action {
             Action::Compute(function) => self.applied(function, op, arguments),
-            Action::Push if self.setting.is_statement => Ok(pushes(self.alloc, arguments)),
+            Action::Push if self.setting.is_statement => Ok(pushes(self.alloc, arguments)?),
             Action::Push | Action::Branch(_) | Action::Call | Action::Return => Err(NOT_INSTR),
         }
     }
 
-    fn is_disordered(self, is_first: bool, zero: &Option<Term>, forms: &[Form], step: &Step) -> bool
+    fn is_disordered(
+        self,
+        is_first: bool,
+        zero: &Option<Box<Term>>,
+        forms: &[Form],
+        step: &Step,
+    ) -> bool
         ensures { result ≡ is_disordered self.entry.setting self.entry.holes.now is_first (term_of zero.now) forms.now (deed_of step.now) }
     {
         (!is_first && !step.divisors.is_empty())
@@ -323,7 +341,7 @@ impl<'a> Template<'a> {
     fn operated(
         self,
         is_first: bool,
-        zero: &Option<Term>,
+        zero: &Option<Box<Term>>,
         op: Op,
         forms: &[Form],
     ) -> Result<Step, Refusal>
@@ -345,7 +363,7 @@ impl<'a> Template<'a> {
     fn instruction_did(
         self,
         is_first: bool,
-        zero: &Option<Term>,
+        zero: &Option<Box<Term>>,
         before: &Before,
         instruction: &LineInstruction,
     ) -> Result<Step, Refusal>
@@ -355,8 +373,8 @@ impl<'a> Template<'a> {
             LineInstruction::Relation(i) if is_relation(hole_at(self.holes, *i)) => {
                 self.branches(*i, before)
             }
-            LineInstruction::Jump if self.setting.is_statement => Ok(ends(self.alloc, Act::Jump)),
-            LineInstruction::Call if self.setting.is_statement => Ok(ends(self.alloc, Act::Call)),
+            LineInstruction::Jump if self.setting.is_statement => Ok(ends(self.alloc, Act::Jump)?),
+            LineInstruction::Call if self.setting.is_statement => Ok(ends(self.alloc, Act::Call)?),
             LineInstruction::Operates(op, forms) => self.operated(is_first, zero, *op, forms),
             LineInstruction::Relation(_)
             | LineInstruction::Jump
@@ -370,7 +388,7 @@ impl<'a> Template<'a> {
     pub fn line_did(
         self,
         is_first: bool,
-        zero: &Option<Term>,
+        zero: &Option<Box<Term>>,
         before: &Before,
         pieces: &[Piece],
     ) -> Result<Step, Refusal>

@@ -5,6 +5,7 @@ mod filling;
 mod form;
 pub mod found;
 mod giving;
+mod heap;
 mod instruction;
 mod judging;
 mod line;

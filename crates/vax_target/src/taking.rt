@@ -1,7 +1,7 @@
 // What an instruction takes of its operands, on terms.
 ghost use Rattle.std.specs.Prelude.{◌≡◌, IfOk, Ok, map};
 ghost use Rattle.std.specs.Option.{option_map};
-ghost use Rattle.term_core.specs.Shape.{shape_of};
+ghost use Rattle.term_core.specs.Shape.{shape_of, Symbol};
 ghost use Rattle.sel_terms.specs.Same.{same_size};
 ghost use Rattle.vax_core.specs.declared.op.Access.TheVariants as accesses;
 ghost use Rattle.vax_templates.specs.HoleTerms.{own_value};
@@ -14,6 +14,7 @@ ghost use Rattle.vax_target.specs.Answers.{Judges};
 ghost use Rattle.vax_target.specs.Stages.{taken_of_all};
 ghost use Rattle.vax_target.specs.Views.{where_of, term_of, target_of, taken_of, arguments_of, aimed};
 
+use crate::heap::{boxed, copied};
 use crate::refusal::{NOT_INSTR, Refusal};
 use crate::standing::{Location, Template};
 use gg_base::{NoMemory, Size};
@@ -28,7 +29,7 @@ pub enum Destination {
     Own,
     Slot(Size),
     Home(Size, u8),
-    Memory(Size, Term),
+    Memory(Size, Box<Term>),
     RegisterZero,
     Saved(u8),
 }
@@ -37,7 +38,7 @@ pub enum Destination {
 /// the operand has another size.
 #[derive(Drop)]
 pub struct Operand {
-    pub term: Term,
+    pub term: Box<Term>,
     pub reads: Vec<Term>,
     pub destination: Option<Destination>,
     pub is_missized: bool,
@@ -46,8 +47,8 @@ pub struct Operand {
 /// What an instruction takes of all its operands.
 #[derive(Drop)]
 pub struct Operands {
-    pub first: Term,
-    pub second: Term,
+    pub first: Box<Term>,
+    pub second: Box<Term>,
     pub reads: Vec<Term>,
     pub destination: Option<Destination>,
     pub is_missized: bool,
@@ -69,8 +70,8 @@ fn is_long(size: Size) -> bool
 }
 
 // A term that takes no memory to be read.
-fn taken_term(alloc: Global, term: Term) -> Operand
-    ensures { taken_of result ≡ taken_term (shape_of term) }
+fn taken_term(alloc: Global, term: Box<Term>) -> Operand
+    ensures { taken_of result ≡ taken_term (shape_of term.value) }
 {
     Operand {
         term,
@@ -80,8 +81,15 @@ fn taken_term(alloc: Global, term: Term) -> Operand
     }
 }
 
-fn taken_read(alloc: Global, term: Term) -> Result<Operand, NoMemory>
-    ensures { IfOk result (λ t. taken_of t ≡ taken_read (shape_of term)) }
+// The value of a symbol.
+fn taken_symbol(alloc: Global, i: u8) -> Result<Operand, NoMemory>
+    ensures { IfOk result (λ t. taken_of t ≡ taken_term (Symbol i)) }
+{
+    Ok(taken_term(alloc, boxed(alloc, Term::V(i))?))
+}
+
+fn taken_read(alloc: Global, term: Box<Term>) -> Result<Operand, NoMemory>
+    ensures { IfOk result (λ t. taken_of t ≡ taken_read (shape_of term.value)) }
 {
     let read = copy(alloc, &term)?;
     let mut reads = Vec::new(alloc);
@@ -94,14 +102,24 @@ fn taken_read(alloc: Global, term: Term) -> Result<Operand, NoMemory>
     })
 }
 
-fn taken_missized(alloc: Global) -> Operand
-    ensures { taken_of result ≡ taken_missized }
+fn taken_missized(alloc: Global) -> Result<Operand, NoMemory>
+    ensures { IfOk result (λ t. taken_of t ≡ taken_missized) }
 {
-    Operand {
-        term: Term::K(0),
+    Ok(Operand {
+        term: boxed(alloc, Term::K(0))?,
         reads: Vec::new(alloc),
         destination: None,
         is_missized: true,
+    })
+}
+
+fn cut_term(alloc: Global, size: Size, t: Term) -> Result<Term, NoMemory>
+    ensures { IfOk result (λ r. shape_of r ≡ cut size (shape_of t)) }
+{
+    match size {
+        Size::Byte => unary(alloc, UnaryOp::Zx8, t),
+        Size::Word => unary(alloc, UnaryOp::Zx16, t),
+        Size::Long => Ok(t),
     }
 }
 
@@ -109,31 +127,27 @@ fn taken_missized(alloc: Global) -> Operand
 fn cut(alloc: Global, size: Size, t: Term) -> Result<Operand, NoMemory>
     ensures { IfOk result (λ r. taken_of r ≡ taken_term (cut size (shape_of t))) }
 {
-    let t = match size {
-        Size::Byte => unary(alloc, UnaryOp::Zx8, t)?,
-        Size::Word => unary(alloc, UnaryOp::Zx16, t)?,
-        Size::Long => t,
-    };
-    Ok(taken_term(alloc, t))
+    let t = cut_term(alloc, size, t)?;
+    Ok(taken_term(alloc, boxed(alloc, t)?))
 }
 
-fn sized(alloc: Global, has: Size, wanted: Size, t: Operand) -> Operand
-    ensures { taken_of result ≡ sized has wanted (taken_of t) }
+fn sized(alloc: Global, has: Size, wanted: Size, t: Operand) -> Result<Operand, NoMemory>
+    ensures { IfOk result (λ r. taken_of r ≡ sized has wanted (taken_of t)) }
 {
     if same_size(has, wanted) {
-        t
+        Ok(t)
     } else {
         taken_missized(alloc)
     }
 }
 
 // The pointer that was read for an address, if there is one.
-fn pointer_read(alloc: Global, pointer: Option<Term>) -> Result<Vec<Term>, NoMemory>
+fn pointer_read(alloc: Global, pointer: Option<Box<Term>>) -> Result<Vec<Term>, NoMemory>
     ensures { IfOk result (λ v. map shape_of v.items ≡ pointer_read (term_of pointer)) }
 {
     let mut reads = Vec::new(alloc);
     if let Some(pointer) = pointer {
-        reads.push(pointer)?;
+        reads.push(Box::into_inner(pointer))?;
     }
     Ok(reads)
 }
@@ -148,8 +162,8 @@ fn own_target(own: Own, size: Size) -> Result<(Destination, bool), Refusal>
     }
 }
 
-fn memory_target(own: Own, a: Term, size: Size) -> Result<(Destination, bool), Refusal>
-    ensures { Judges aimed result (memory_target own (shape_of a) size) }
+fn memory_target(own: Own, a: Box<Term>, size: Size) -> Result<(Destination, bool), Refusal>
+    ensures { Judges aimed result (memory_target own (shape_of a.value) size) }
 {
     match own {
         Own::Slot(_) => Err(NOT_INSTR),
@@ -166,16 +180,18 @@ fn zero_target(opening: Opening) -> Result<(Destination, bool), Refusal>
     }
 }
 
-fn no_arguments(alloc: Global) -> Operands
-    ensures { arguments_of result ≡ no_arguments }
+fn no_arguments(alloc: Global) -> Result<Operands, NoMemory>
+    ensures { IfOk result (λ x. arguments_of x ≡ no_arguments) }
 {
-    Operands {
-        first: Term::K(0),
-        second: Term::K(0),
+    let first = boxed(alloc, Term::K(0))?;
+    let second = boxed(alloc, Term::K(0))?;
+    Ok(Operands {
+        first,
+        second,
         reads: Vec::new(alloc),
         destination: None,
         is_missized: false,
-    }
+    })
 }
 
 fn last_of(front: Option<Destination>, last: Option<Destination>) -> Option<Destination>
@@ -188,16 +204,17 @@ fn last_of(front: Option<Destination>, last: Option<Destination>) -> Option<Dest
 }
 
 // What is taken of an operand that is written alone.
-fn written(alloc: Global, target: (Destination, bool)) -> Operand
-    ensures { written (aimed target) ≡ Ok (taken_of result) }
+fn written(alloc: Global, target: (Destination, bool)) -> Result<Operand, NoMemory>
+    ensures { IfOk result (λ t. written (aimed target) ≡ Ok (taken_of t)) }
 {
+    let term = boxed(alloc, Term::K(0))?;
     let (destination, is_missized) = target;
-    Operand {
-        term: Term::K(0),
+    Ok(Operand {
+        term,
         reads: Vec::new(alloc),
         destination: Some(destination),
         is_missized,
-    }
+    })
 }
 
 // What is read, with what is written.
@@ -241,7 +258,7 @@ fn in_front(taken: Operand, behind: Operands) -> Result<Operands, NoMemory>
 }
 
 impl<'a> Template<'a> {
-    fn last_result(self, zero: &Option<Term>, size: Size) -> Result<Operand, Refusal>
+    fn last_result(self, zero: &Option<Box<Term>>, size: Size) -> Result<Operand, Refusal>
         ensures { Judges taken_of result (last_result self.entry.setting.opening (term_of zero.now) size) }
     {
         match (self.setting.opening, zero) {
@@ -254,7 +271,7 @@ impl<'a> Template<'a> {
     #[tactic(auto, unfolding(vax_templates::specs::Taking::fetched))]
     pub fn fetched(
         self,
-        zero: &Option<Term>,
+        zero: &Option<Box<Term>>,
         location: &Location,
         size: Size,
     ) -> Result<Operand, Refusal>
@@ -263,30 +280,25 @@ impl<'a> Template<'a> {
         let alloc = self.alloc;
         match location {
             Location::Number(t) => Ok(cut(alloc, size, copy(alloc, t)?)?),
-            Location::Register(t) => Ok(cut(alloc, size, copy(alloc, t)?)?),
-            Location::Own => Ok(cut(alloc, size, self.own_value(zero)?)?),
+            Location::Register(i) => Ok(cut(alloc, size, Term::V(*i))?),
+            Location::Own => Ok(cut(alloc, size, Box::into_inner(self.own_value(zero)?))?),
             Location::RegisterZero => self.last_result(zero, size),
-            Location::Value(has, i) => Ok(sized(alloc, *has, size, taken_term(alloc, Term::V(*i)))),
-            Location::Place(has, i) => Ok(sized(
-                alloc,
-                *has,
-                size,
-                taken_read(alloc, Term::V(*i))?,
-            )),
-            Location::Local(i) => Ok(sized(
-                alloc,
-                Size::Long,
-                size,
-                taken_term(alloc, Term::V(*i)),
-            )),
+            Location::Value(has, i) => Ok(sized(alloc, *has, size, taken_symbol(alloc, *i)?)?),
+            Location::Place(has, i) => {
+                let t = boxed(alloc, Term::V(*i))?;
+                Ok(sized(alloc, *has, size, taken_read(alloc, t)?)?)
+            }
+            Location::Local(i) => Ok(sized(alloc, Size::Long, size, taken_symbol(alloc, *i)?)?),
             Location::SavedPlace(has, i) => {
-                let t = Term::Mem(*has, Box::new(alloc, Term::V(*i))?);
-                Ok(sized(alloc, *has, size, taken_read(alloc, t)?))
+                let a = boxed(alloc, Term::V(*i))?;
+                let t = boxed(alloc, Term::Mem(*has, a))?;
+                Ok(sized(alloc, *has, size, taken_read(alloc, t)?)?)
             }
             Location::Saved(_) => Err(NOT_INSTR),
             Location::At(a, _) => {
-                let a = copy(alloc, a)?;
-                Ok(taken_read(alloc, Term::Mem(size, Box::new(alloc, a)?))?)
+                let a = copied(alloc, a)?;
+                let t = boxed(alloc, Term::Mem(size, a))?;
+                Ok(taken_read(alloc, t)?)
             }
         }
     }
@@ -303,12 +315,7 @@ impl<'a> Template<'a> {
                 destination: None,
                 is_missized: false,
             }),
-            Location::SavedPlace(has, i) => Ok(sized(
-                alloc,
-                has,
-                size,
-                taken_term(alloc, Term::V(i)),
-            )),
+            Location::SavedPlace(has, i) => Ok(sized(alloc, has, size, taken_symbol(alloc, i)?)?),
             _ => Err(NOT_INSTR),
         }
     }
@@ -345,7 +352,7 @@ impl<'a> Template<'a> {
     #[tactic(auto, unfolding(vax_templates::specs::Taking::taken))]
     fn modified(
         self,
-        zero: &Option<Term>,
+        zero: &Option<Box<Term>>,
         location: Location,
         size: Size,
     ) -> Result<Operand, Refusal>
@@ -359,7 +366,7 @@ impl<'a> Template<'a> {
     #[tactic(auto, unfolding(vax_templates::specs::Taking::taken))]
     fn taken(
         self,
-        zero: &Option<Term>,
+        zero: &Option<Box<Term>>,
         access: Access,
         location: Location,
         size: Size,
@@ -369,7 +376,7 @@ impl<'a> Template<'a> {
         match access {
             Access::Read => self.fetched(zero, &location, size),
             Access::Modify => self.modified(zero, location, size),
-            Access::Write => Ok(written(self.alloc, self.targeted(location, size)?)),
+            Access::Write => Ok(written(self.alloc, self.targeted(location, size)?)?),
             Access::Address => self.addressed(location, size),
             Access::Count => Err(NOT_INSTR),
         }
@@ -378,7 +385,7 @@ impl<'a> Template<'a> {
     #[tactic(auto, unfolding(vax_templates::specs::Taking::evaluated))]
     fn evaluated(
         self,
-        zero: &Option<Term>,
+        zero: &Option<Box<Term>>,
         kind: OperandKind,
         form: Form,
     ) -> Result<Operand, Refusal>
@@ -392,14 +399,14 @@ impl<'a> Template<'a> {
     #[cycle(all_evaluated)]
     pub fn all_evaluated(
         self,
-        zero: &Option<Term>,
+        zero: &Option<Box<Term>>,
         kinds: &[OperandKind],
         forms: &[Form],
     ) -> Result<Operands, Refusal>
         ensures { Judges arguments_of result (taken_of_all self.entry.setting self.entry.holes.now zero.now kinds.now forms.now) }
     {
         let [kind, kinds @ ..] = kinds else {
-            return Ok(no_arguments(self.alloc));
+            return Ok(no_arguments(self.alloc)?);
         };
         let [form, forms @ ..] = forms else {
             return Err(NOT_INSTR);

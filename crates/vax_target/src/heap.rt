@@ -1,0 +1,36 @@
+// Terms on the heap, as the parts of a judgement hold them.
+ghost use Rattle.std.specs.Prelude.{◌≡◌, IfOk};
+ghost use Rattle.term_core.specs.Shape.{shape_of, Binary};
+
+use gg_base::NoMemory;
+use std::alloc::Global;
+use term_core::{BinaryOp, Term, binary, copy};
+
+/// The term.
+pub fn boxed(alloc: Global, t: Term) -> Result<Box<Term>, NoMemory>
+    ensures { IfOk result (λ b. shape_of b.value ≡ shape_of t) }
+{
+    Ok(Box::new(alloc, t)?)
+}
+
+/// A copy of the term.
+pub fn copied(alloc: Global, t: &Term) -> Result<Box<Term>, NoMemory>
+    ensures { IfOk result (λ b. shape_of b.value ≡ shape_of t.now) }
+{
+    boxed(alloc, copy(alloc, t)?)
+}
+
+/// The operator on the terms.
+pub fn joined(
+    alloc: Global,
+    op: BinaryOp,
+    a: Box<Term>,
+    b: Box<Term>,
+) -> Result<Box<Term>, NoMemory>
+    ensures { IfOk result (λ r. shape_of r.value ≡ Binary op (shape_of a.value) (shape_of b.value)) }
+{
+    boxed(
+        alloc,
+        binary(alloc, op, Box::into_inner(a), Box::into_inner(b))?,
+    )
+}
