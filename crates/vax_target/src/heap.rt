@@ -6,21 +6,21 @@ use gg_base::NoMemory;
 use std::alloc::Global;
 use term_core::{BinaryOp, Term, binary, copy};
 
-/// The term.
+/// The term in a box of its own.
 pub fn boxed(alloc: Global, t: Term) -> Result<Box<Term>, NoMemory>
     ensures { IfOk result (λ b. shape_of b.value ≡ shape_of t) }
 {
     Ok(Box::new(alloc, t)?)
 }
 
-/// A copy of the term.
+/// A copy of the term, in a box of its own.
 pub fn copied(alloc: Global, t: &Term) -> Result<Box<Term>, NoMemory>
     ensures { IfOk result (λ b. shape_of b.value ≡ shape_of t.now) }
 {
     boxed(alloc, copy(alloc, t)?)
 }
 
-/// The operator on the terms.
+/// The operator on the two terms, in a box of its own.
 pub fn joined(
     alloc: Global,
     op: BinaryOp,
