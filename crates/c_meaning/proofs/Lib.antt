@@ -1,6 +1,5 @@
 pub mod Law
 pub mod Ends
-pub mod Rows
 pub mod Steps
 pub mod Runs
 pub mod Begin

@@ -1,1 +1,0 @@
--- The list behind the row of a call's arguments.
