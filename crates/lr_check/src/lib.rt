@@ -6,8 +6,6 @@ mod parse;
 mod replaying;
 mod sample;
 mod stack;
-#[cfg(test)]
-mod tests;
 mod typing;
 
 pub use replaying::replay;

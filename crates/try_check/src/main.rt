@@ -1,5 +1,8 @@
-// The program `try_check`: reads machine descriptions from the input, and says of each whether every tree is parsed.
+// The program `try_check`: reads machine descriptions from the input, and says of each whether every tree is parsed; or, where trees
+// stand behind a `~`, how the parse of each ends.
 #![tactic(auto)]
+
+mod trees;
 
 ghost use Rattle.std.specs.Prelude.{◌≤◌, length};
 
@@ -13,6 +16,7 @@ use md_reader::read_description;
 use std::alloc::Global;
 use std::process::ExitCode;
 use std::str;
+use trees::sample_of;
 
 /// The most bytes of a description.
 const MAX_BYTES: usize = 262_144;
@@ -74,13 +78,43 @@ fn line(alloc: Global, bytes: &[u8]) -> Result<String, NoMemory>
     }
 }
 
+// How the parse of each tree by the description's tables ends. The trees stand with a `~` between them.
+fn replays(alloc: Global, description: &str, trees: &str) -> Result<String, NoMemory> {
+    if description.len() > MAX_BYTES {
+        return Ok(String::from_str(alloc, "the description is too long\n")?);
+    }
+    let description = match read_description(alloc, description.as_bytes()) {
+        Ok(description) => description,
+        Err(_) => return Ok(String::from_str(alloc, "no description\n")?),
+    };
+    let tables = match build(alloc, description) {
+        Ok(tables) => tables,
+        Err(_) => return Ok(String::from_str(alloc, "no tables\n")?),
+    };
+    let mut text = String::new(alloc);
+    for tree in trees.split('~') {
+        let sample = sample_of(alloc, tree)?;
+        let end = replayed(alloc, &tables, &sample)?;
+        text.push_str(&end)?;
+    }
+    Ok(text)
+}
+
+// A description and the trees behind it, where there are trees.
+fn with_trees(bytes: &[u8]) -> Option<(&str, &str)> {
+    str::from_utf8(bytes).ok()?.split_once('~')
+}
+
 // The lines of each description: they stand one after another, with a line of `=` between them.
 fn lines(alloc: Global, bytes: &[u8]) -> Result<String, NoMemory>
     requires { length bytes.now ≤ 262144 }
 {
     let mut text = String::new(alloc);
     for description in bytes.split(|byte| *byte == b'=') {
-        let line = line(alloc, description)?;
+        let line = match with_trees(description) {
+            Some((description, trees)) => replays(alloc, description, trees)?,
+            None => line(alloc, description)?,
+        };
         text.push_str(&line)?;
     }
     Ok(text)
