@@ -11,7 +11,7 @@ import re
 import sys
 
 HERE = sys.argv[1]
-POOLS = {"": "", "text": "", "1": "pool r0\n", "2": "pool r0 r1\n", "3": "pool r0 r1 r2\n"}
+POOLS = {"": "", "text": "", "source": "", "1": "pool r0\n", "2": "pool r0 r1\n", "3": "pool r0 r1 r2\n"}
 
 
 def stored(crate, name="stdin"):
@@ -31,11 +31,12 @@ def of_types():
             yield marked[: mark.start()] + marked[mark.end() :], kind
 
 
-def of_compile():
-    for row, answer in zip(stored("try_compile").split("\n"), stored("try_compile", "stdout").split("\n")):
-        if row:
-            registers, given = row.split("@")[:2]
-            yield POOLS[registers] + given, answer
+def of_commands():
+    """Rows of the whole program show how calls fail, and stand in no table."""
+    for row, answer in zip(stored("try_commands").split("\n"), stored("try_commands", "stdout").split("\n")):
+        kind, _, given = row.partition("@")
+        if kind in POOLS and row:
+            yield POOLS[kind] + given.split("@")[0], answer
 
 
 def of_tables():
@@ -97,7 +98,7 @@ def of_page():
     return rows
 
 
-ROWS = [row for rows in (of_types, of_compile, of_tables, of_check, of_templates) for row in rows()]
+ROWS = [row for rows in (of_types, of_commands, of_tables, of_check, of_templates) for row in rows()]
 page = of_page()
 missing = [(report, shown) for report, shown in page if not is_stored(spans(report), "\n".join(spans(shown)))]
 for report, shown in missing:

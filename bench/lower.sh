@@ -3,7 +3,7 @@
 # programs, what those programs and their trees do, and the processor times on sources of 100 KiB and of 1 MiB of one mix.
 # Usage: bench/lower.sh [PROGRAMS [SEED]]; PROGRAMS (default 2000) generated programs from the seed SEED (default 1) on.
 # C_REFERENCE names the folder of the plain lowering, a Cargo project whose modules read, type and lower sources and generate programs.
-# Where it isn't set or isn't there, only the worked programs of `try_meaning` are run, and the two sizes are compared.
+# Where it isn't set or isn't there, only the worked programs of `try_commands` are run, and the two sizes are compared.
 set -eu
 . "$(dirname -- "$0")/common.sh"
 programs=${1:-2000}
@@ -89,7 +89,7 @@ fi
 program=$(program_of try_lowering)
 [ -n "$program" ] || skip "BUILT names a folder without try_lowering"
 
-python3 - "$program" "$plain" "$work" "$here/crates/try_meaning/stdin" "$programs" "$seed" <<'PY'
+python3 - "$program" "$plain" "$work" "$here/crates/try_commands/stdin" "$programs" "$seed" <<'PY'
 import re
 import resource
 import sys
@@ -244,10 +244,11 @@ def compare_runs(table):
 
 
 def worked_programs(given):
-    """The table of sources with worked meanings: a source, its number and its input on each line, with `@` between."""
+    """The sources with worked meanings: the rows that begin with `source`, then a source, its number and its input, with `@` between."""
     table = f"{work}/worked.txt"
     with open(given) as file, open(table, "w") as out:
-        out.write("\n\n".join(line.split("@")[0] for line in file.read().splitlines()) + "\n")
+        rows = (line.split("@") for line in file.read().splitlines())
+        out.write("\n\n".join(row[1] for row in rows if row[0] == "source") + "\n")
     return table
 
 

@@ -9,6 +9,3 @@ pub mod source;
 
 pub use meaning::run_source;
 pub use source::SourceText;
-
-#[cfg(test)]
-mod tests;

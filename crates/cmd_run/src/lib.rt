@@ -7,6 +7,3 @@ pub mod run;
 pub mod text;
 
 pub use run::run_text;
-
-#[cfg(test)]
-mod tests;

@@ -14,6 +14,3 @@ pub use output::{no_memory, refuse, refuse_with, write_all};
 pub use running::{Moment, Run, tell_run, write_run};
 pub use status::Status;
 pub use words::{Command, command_of};
-
-#[cfg(test)]
-mod tests;

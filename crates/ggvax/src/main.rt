@@ -1,11 +1,8 @@
 // The program `ggvax`: from a C source to VAX assembly text and its run, and runs of such texts.
 #![tactic(auto)]
 
-#[cfg(test)]
-mod tests;
-pub mod top;
-
 use cmd_session::Status;
+use cmd_top::ggvax;
 use gg_base::NoMemory;
 use gg_outside::{StdFolder, StdSink, StdSource};
 use std::env;
@@ -34,7 +31,7 @@ fn run(rt: HostRuntime) -> Result<Status, NoMemory> {
     let mut input = StdSource::new(rt)?;
     let mut out = StdSink::out(rt)?;
     let mut report = StdSink::err(rt)?;
-    Ok(top::ggvax(
+    Ok(ggvax(
         alloc,
         words.as_slice(),
         &mut folder,

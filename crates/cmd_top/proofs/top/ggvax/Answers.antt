@@ -12,8 +12,8 @@ use Rattle.cmd_compile.specs.Outcome.{files, FailAtMost, Leaves as CompileLeaves
 use Rattle.cmd_compile.specs.Exact.{IsExact as CompileIsExact}
 use Rattle.cmd_load.specs.Outcome.{Leaves as LoadLeaves}
 use Rattle.cmd_load.specs.Exact.{IsExact as LoadIsExact}
-use Rattle.ggvax.proofs.Chosen.{only_check, only_compile, only_run, only_meaning, only_load, counts, carried, named, paired}
-use Rattle.ggvax.proofs.top.ggvax.Goals as goal
+use Rattle.cmd_top.proofs.Chosen.{only_check, only_compile, only_run, only_meaning, only_load, counts, carried, named, paired}
+use Rattle.cmd_top.proofs.top.ggvax.Goals as goal
 
 pub returns-in-Meaning-clause-meaning : goal.returns-in-Meaning-clause-meaning
 returns-in-Meaning-clause-meaning g c = λ source count said.
