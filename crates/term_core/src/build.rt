@@ -7,7 +7,7 @@ ghost use Rattle.term_core.specs.NormBinary.{add_constant, add_ordered, make_add
 ghost use Rattle.term_core.specs.NormBinary.{make_div, is_count_symbol, masks_nothing, and_ordered, make_and};
 ghost use Rattle.term_core.specs.NormBinary.{or_ordered, make_or, xor_ordered, make_xor, make_ash, make_binary};
 
-use crate::construct::binary;
+use crate::construct::{binary, unary};
 use crate::facts::{Fact, has_size, is_count};
 use crate::operator::{BinaryOp, UnaryOp};
 use crate::order::compare;
@@ -57,8 +57,8 @@ fn make_neg(alloc: Global, t: Term) -> Result<Term, NoMemory>
 {
     match t {
         Term::K(n) => Ok(Term::K(UnaryOp::Neg.apply(n))),
-        Term::Neg(t) => Ok(Box::into_inner(t)),
-        t => Ok(Term::Neg(Box::new(alloc, t)?)),
+        Term::Unary(UnaryOp::Neg, t) => Ok(Box::into_inner(t)),
+        t => unary(alloc, UnaryOp::Neg, t),
     }
 }
 
@@ -67,8 +67,8 @@ fn make_com(alloc: Global, t: Term) -> Result<Term, NoMemory>
 {
     match t {
         Term::K(n) => Ok(Term::K(UnaryOp::Com.apply(n))),
-        Term::Com(t) => Ok(Box::into_inner(t)),
-        t => Ok(Term::Com(Box::new(alloc, t)?)),
+        Term::Unary(UnaryOp::Com, t) => Ok(Box::into_inner(t)),
+        t => unary(alloc, UnaryOp::Com, t),
     }
 }
 
@@ -77,11 +77,11 @@ fn make_zx8(alloc: Global, facts: &[Fact], t: Term) -> Result<Term, NoMemory>
 {
     match t {
         Term::K(n) => Ok(Term::K(UnaryOp::Zx8.apply(n))),
-        Term::Zx8(t) => make_zx8(alloc, facts, Box::into_inner(t)),
-        Term::Sx8(t) => make_zx8(alloc, facts, Box::into_inner(t)),
+        Term::Unary(UnaryOp::Zx8, t) => make_zx8(alloc, facts, Box::into_inner(t)),
+        Term::Unary(UnaryOp::Sx8, t) => make_zx8(alloc, facts, Box::into_inner(t)),
         Term::V(i) if has_size(facts, i, Size::Byte) => Ok(Term::V(i)),
         Term::Mem(Size::Byte, a) => Ok(Term::Mem(Size::Byte, a)),
-        t => Ok(Term::Zx8(Box::new(alloc, t)?)),
+        t => unary(alloc, UnaryOp::Zx8, t),
     }
 }
 
@@ -90,11 +90,11 @@ fn make_zx16(alloc: Global, facts: &[Fact], t: Term) -> Result<Term, NoMemory>
 {
     match t {
         Term::K(n) => Ok(Term::K(UnaryOp::Zx16.apply(n))),
-        Term::Zx16(t) => make_zx16(alloc, facts, Box::into_inner(t)),
-        Term::Sx16(t) => make_zx16(alloc, facts, Box::into_inner(t)),
+        Term::Unary(UnaryOp::Zx16, t) => make_zx16(alloc, facts, Box::into_inner(t)),
+        Term::Unary(UnaryOp::Sx16, t) => make_zx16(alloc, facts, Box::into_inner(t)),
         Term::V(i) if has_size(facts, i, Size::Word) => Ok(Term::V(i)),
         Term::Mem(Size::Word, a) => Ok(Term::Mem(Size::Word, a)),
-        t => Ok(Term::Zx16(Box::new(alloc, t)?)),
+        t => unary(alloc, UnaryOp::Zx16, t),
     }
 }
 
@@ -103,9 +103,9 @@ fn make_sx8(alloc: Global, t: Term) -> Result<Term, NoMemory>
 {
     match t {
         Term::K(n) => Ok(Term::K(UnaryOp::Sx8.apply(n))),
-        Term::Sx8(t) => make_sx8(alloc, Box::into_inner(t)),
-        Term::Zx8(t) => make_sx8(alloc, Box::into_inner(t)),
-        t => Ok(Term::Sx8(Box::new(alloc, t)?)),
+        Term::Unary(UnaryOp::Sx8, t) => make_sx8(alloc, Box::into_inner(t)),
+        Term::Unary(UnaryOp::Zx8, t) => make_sx8(alloc, Box::into_inner(t)),
+        t => unary(alloc, UnaryOp::Sx8, t),
     }
 }
 
@@ -114,9 +114,9 @@ fn make_sx16(alloc: Global, t: Term) -> Result<Term, NoMemory>
 {
     match t {
         Term::K(n) => Ok(Term::K(UnaryOp::Sx16.apply(n))),
-        Term::Sx16(t) => make_sx16(alloc, Box::into_inner(t)),
-        Term::Zx16(t) => make_sx16(alloc, Box::into_inner(t)),
-        t => Ok(Term::Sx16(Box::new(alloc, t)?)),
+        Term::Unary(UnaryOp::Sx16, t) => make_sx16(alloc, Box::into_inner(t)),
+        Term::Unary(UnaryOp::Zx16, t) => make_sx16(alloc, Box::into_inner(t)),
+        t => unary(alloc, UnaryOp::Sx16, t),
     }
 }
 
@@ -127,9 +127,14 @@ fn add_constant(alloc: Global, c: u32, t: Term) -> Result<Term, NoMemory>
     match t {
         Term::K(d) => Ok(Term::K(BinaryOp::Add.apply(c, d))),
         t if c == 0 => Ok(t),
-        Term::Add(first, rest) => match *first {
+        Term::Binary(BinaryOp::Add, first, rest) => match *first {
             Term::K(d) => add_constant(alloc, BinaryOp::Add.apply(c, d), Box::into_inner(rest)),
-            _ => binary(alloc, BinaryOp::Add, Term::K(c), Term::Add(first, rest)),
+            _ => binary(
+                alloc,
+                BinaryOp::Add,
+                Term::K(c),
+                Term::Binary(BinaryOp::Add, first, rest),
+            ),
         },
         t => binary(alloc, BinaryOp::Add, Term::K(c), t),
     }
@@ -295,8 +300,8 @@ fn make_ash(alloc: Global, count: Term, t: Term) -> Result<Term, NoMemory>
 {
     match count {
         Term::K(k) => shift_by(alloc, k, t),
-        Term::Zx8(count) => make_ash(alloc, Box::into_inner(count), t),
-        Term::Sx8(count) => make_ash(alloc, Box::into_inner(count), t),
+        Term::Unary(UnaryOp::Zx8, count) => make_ash(alloc, Box::into_inner(count), t),
+        Term::Unary(UnaryOp::Sx8, count) => make_ash(alloc, Box::into_inner(count), t),
         count => binary(alloc, BinaryOp::Ash, count, t),
     }
 }

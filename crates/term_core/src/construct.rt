@@ -13,15 +13,7 @@ use std::alloc::Global;
 pub fn unary(alloc: Global, op: UnaryOp, t: Term) -> Result<Term, NoMemory>
     ensures { IfOk result (λ r. shape_of r ≡ Unary op (shape_of t)) }
 {
-    let t = Box::new(alloc, t)?;
-    Ok(match op {
-        UnaryOp::Neg => Term::Neg(t),
-        UnaryOp::Com => Term::Com(t),
-        UnaryOp::Zx8 => Term::Zx8(t),
-        UnaryOp::Zx16 => Term::Zx16(t),
-        UnaryOp::Sx8 => Term::Sx8(t),
-        UnaryOp::Sx16 => Term::Sx16(t),
-    })
+    Ok(Term::Unary(op, Box::new(alloc, t)?))
 }
 
 /// The operator on two terms.
@@ -30,16 +22,7 @@ pub fn binary(alloc: Global, op: BinaryOp, a: Term, b: Term) -> Result<Term, NoM
 {
     let a = Box::new(alloc, a)?;
     let b = Box::new(alloc, b)?;
-    Ok(match op {
-        BinaryOp::Add => Term::Add(a, b),
-        BinaryOp::Sub => Term::Sub(a, b),
-        BinaryOp::Mul => Term::Mul(a, b),
-        BinaryOp::Div => Term::Div(a, b),
-        BinaryOp::And => Term::And(a, b),
-        BinaryOp::Or => Term::Or(a, b),
-        BinaryOp::Xor => Term::Xor(a, b),
-        BinaryOp::Ash => Term::Ash(a, b),
-    })
+    Ok(Term::Binary(op, a, b))
 }
 
 /// A term of the same shape.
