@@ -1,4 +1,5 @@
 // What a command finds in memory: files, an input, sinks, and the calls of each that fail.
+ghost use Rattle.std.specs.Prelude.{◌<◌};
 
 use cmd_meaning::run_source;
 use cmd_run::run_text;
@@ -129,6 +130,13 @@ fn padded(alloc: Global, text: &str, length: usize) -> Result<Vec<u8>, AllocErro
     Ok(bytes)
 }
 
+// How many bytes a call takes: at least one.
+fn at_least_one(count: usize) -> usize
+    ensures { 0 < result }
+{
+    if 0 < count { count } else { 1 }
+}
+
 // The words between commas; none in an empty text.
 fn words_of(alloc: Global, text: &str) -> Result<Vec<String>, AllocError> {
     let mut words = Vec::new(alloc);
@@ -176,10 +184,11 @@ pub fn called(
         bytes: Bytes::from_vec(bytes),
     })?;
     let given = padded(alloc, input, world.input_length)?;
+    let most = at_least_one(world.most);
     let mut folder = MemFolder::new(alloc, files, world.folder);
-    let mut input = MemSource::new(given, world.most, world.input);
-    let mut out = MemSink::new(alloc, world.most, world.out);
-    let mut report = MemSink::new(alloc, world.most, world.report);
+    let mut input = MemSource::new(given, most, world.input);
+    let mut out = MemSink::new(alloc, most, world.out);
+    let mut report = MemSink::new(alloc, most, world.report);
     let status = ggvax(
         alloc,
         words.as_slice(),
