@@ -1,7 +1,8 @@
 -- The lists behind the rows of a call, and a list of arguments that is typed one after another.
-use Rattle.std.proofs.Common.{◌≡◌, ℕ, ◌+◌, List, [], ◌∷◌, ◌++◌, true, Option, Some, None, ◌<◌, ◌≤◌, drop, length-drop, get_or, eqb, eq-eqb, ne_eqb, ltb-false, false, subst, length}
+use Rattle.std.proofs.Common.{◌≡◌, ℕ, Bool, not, cond, ◌+◌, List, [], ◌∷◌, ◌++◌, true, Option, Some, None, ◌<◌, ◌≤◌, drop, length-drop, get_or, eqb, eq-eqb, ne_eqb, ltb-false, false, subst, length}
 use Rattle.std.proofs.Common.{length-append, refl, ap, sym, ◌∙◌, Result, Ok, Err, arith}
 use Rattle.std.specs.Global.{Vec}
+use Rattle.std.specs.List.{position_from, zip}
 use Rattle.std.specs.Prelude.{slice_get}
 use Rattle.std.proofs.lemmas.List.{drop_more, nil_from_length}
 use Rattle.std.proofs.lemmas.Option.{slice_get_read, slice_get_past}
@@ -27,6 +28,7 @@ use Rattle.c_phrases.specs.Phrases.{call, exps}
 use Rattle.c_phrases.specs.Shapes.{exp, exps_row, exp_list}
 use Rattle.c_typed_scope.specs.Scopes.{Scope}
 use Rattle.c_typed_scope.specs.Layout.{Area}
+use Rattle.c_typed_expressions.specs.Phrases.{first}
 use Rattle.c_typed_expressions.specs.Calls.{count, callee_of, called, unfit}
 use Rattle.c_typed_expressions.specs.Expressions.{callee, type_exp, type_exps}
 
@@ -159,8 +161,40 @@ pub called_runs : (signatures : List Signature) (o : Option ℕ) (n : ℕ) (s : 
 called_runs signatures o n s opened es xs f to is found same fit callee types =
     rw (is, found, count_is es, eq-eqb _ _ same, ← fit, callee, types) (sym (ap Ok (term_call s.result (callee_of n) s.parameters xs)))
 
--- one more argument is taken
-pub unfit_more : (ps : List CType) (es : List Expr) (xs : List Expression) (i : ℕ) (p0 : CType) (e0 : Expr) (x0 : Expression) → i < length ps → i < length es → i < length xs
-    → fits (get_or ps i p0) (term (get_or xs i x0)) ≡ true → unfit (drop i ps) (exp_list (drop i es)) (terms (drop i xs))
-    ≡ unfit (drop (i + 1) ps) (exp_list (drop (i + 1) es)) (terms (drop (i + 1) xs))
-unfit_more ps es xs i p0 e0 x0 lp le lx fit = rw (drop_more ps i p0 lp, drop_more es i e0 le, drop_more xs i x0 lx, fit) refl
+-- the first argument that its parameter does not take, by number
+abbrev pub is_unfit : CType × Expression → Bool
+is_unfit p = not (fits p.0 (term p.1))
+
+abbrev pub Placed : List Expr → Option ℕ → Option ℕ → Type 0
+Placed es None r = r ≡ None
+Placed es (Some i) r = (i < length es) × ((d : Expr) → r ≡ Some (first (exp (get_or es i d))))
+
+heads : (e d : Expr) (es ds : List Expr) → e ∷ es ≡ d ∷ ds → d ≡ e
+heads e d es ds same = cc
+
+tails : (e d : Expr) (es ds : List Expr) → e ∷ es ≡ d ∷ ds → ds ≡ es
+tails e d es ds same = cc
+
+unfit_from : (ps : List CType) (es : List Expr) (xs : List Expression) (all : List Expr) (i : ℕ) → drop i all ≡ es → i + length es ≡ length all → length ps ≡ length es
+    → length xs ≡ length es → Placed all (position_from is_unfit i (zip ps xs)) (unfit ps (exp_list es) (terms xs))
+unfit_from [] es xs all i here long same typed = refl
+unfit_from (p ∷ ps) [] xs all i here long same typed = absurd (omega (arith, same))
+unfit_from (p ∷ ps) (e ∷ es) [] all i here long same typed = absurd (omega (arith, typed))
+unfit_from (p ∷ ps) (e ∷ es) (x ∷ xs) all i here long same typed =
+    by (fits p (term x)) (unfit_from ps es xs all (i + 1) (tails e (get_or all i e) es (drop (i + 1) all) (both e)) (omega (arith, long)) (omega (arith, same)) (omega (arith, typed)))
+  where
+    lt : i < length all
+    lt = omega (arith, long)
+
+    both : (d : Expr) → e ∷ es ≡ get_or all i d ∷ drop (i + 1) all
+    both d = sym here ∙ drop_more all i d lt
+
+    by : (b : Bool) → Placed all (position_from is_unfit (i + 1) (zip ps xs)) (unfit ps (exp_list es) (terms xs))
+        → Placed all (cond (not b) (Some i) (position_from is_unfit (i + 1) (zip ps xs))) (cond b (unfit ps (exp_list es) (terms xs)) (Some (first (exp e))))
+    by true h = h
+    by false h = (lt, λ d. ap (λ (z : Expr). Some (first (exp z))) (sym (heads e (get_or all i d) es (drop (i + 1) all) (both d))))
+
+pub unfit_placed : (ps : List CType) (es : List Expr) (xs : List Expression) (o : Option ℕ) → o ≡ position_from is_unfit 0 (zip ps xs) → length ps ≡ length es
+    → length xs ≡ length es → Placed es o (unfit ps (exp_list es) (terms xs))
+unfit_placed ps es xs o is same typed =
+    subst (λ (r : Option ℕ). Placed es r (unfit ps (exp_list es) (terms xs))) (sym is) (unfit_from ps es xs es 0 refl (omega arith) same typed)

@@ -183,12 +183,11 @@ fn unfit(parameters: &[CType], arguments: &[Expr], xs: &[Expression]) -> Option<
     requires typed { length xs.now ≡ length arguments.now }
     ensures { result ≡ unfit parameters.now (exp_list arguments.now) (terms xs.now) }
 {
-    for i in 0..arguments.len() {
-        if !fits(parameters[i], &xs[i]) {
-            return Some(first(&arguments[i]));
-        }
-    }
-    None
+    let number = parameters
+        .iter()
+        .zip(xs)
+        .position(|(parameter, x)| !fits(*parameter, x))?;
+    Some(first(&arguments[number]))
 }
 
 #[tactic(auto, using(crate::proofs::Rows::count_is))]
