@@ -220,8 +220,7 @@ impl Drawing {
             nodes: Vec::new(alloc),
             depths: Vec::new(alloc),
         };
-        for number in 0..found.settlings().len() {
-            let entry = found.settlings()[number];
+        for (number, entry) in found.settlings().iter().enumerate() {
             let token = token_of(found, entry.place);
             drawing.draw(alloc, tables, found, number, entry.how, token)?;
         }
