@@ -1,5 +1,5 @@
 -- The nodes that are left, with their new numbers.
-use Rattle.std.proofs.Common.{◌≡◌, ◌⊎◌, ℕ, zero, suc, ◌+◌, ◌-◌, ◌<◌, ◌≤◌, List, [], ◌∷◌, ◌++◌, Some, Bool, true, false, Contains, length, map, get_or, slice_get, refl, sym}
+use Rattle.std.proofs.Common.{◌≡◌, ℕ, zero, suc, ◌+◌, ◌-◌, ◌<◌, ◌≤◌, List, [], ◌∷◌, ◌++◌, Some, Bool, true, false, Contains, length, map, get_or, slice_get, refl, sym}
 use Rattle.std.proofs.Common.{ap, ap₂, ◌∙◌, subst, inl, inr, ⊎_elim, arith, true≢false, length-append}
 use Rattle.std.specs.Prelude.{slice_index_or, Result, Ok, Err, OnOk}
 use Rattle.std.proofs.lemmas.Bool.{cases_lt}
@@ -9,11 +9,11 @@ use Rattle.gg_base.proofs.Facts.{slice_some, slice_left, slice_last, slice_cases
 use Rattle.tree_core.specs.declared.token.Sort.{Sort}
 use Rattle.tree_core.specs.declared.token.Sort.TheVariants as sort
 use Rattle.tree_core.specs.Grammar.{kids}
-use Rattle.lr_tables.proofs.Members.{In, In-Contains, Contains-In, In-left, In-right, In-cases, In-map, map-In}
-use Rattle.lr_check.specs.Tree.{Node, Token, Unfolds, ends, goes_on, IsTree, IsSample}
-use Rattle.lr_check.specs.Statement.{fits_at, KidsFit, AreTyped, IsStatement}
+use Rattle.lr_tables.proofs.Members.{In, In-Contains, Contains-In, In-cases, In-map, map-In}
+use Rattle.lr_check.specs.Tree.{Node, Token, Unfolds, ends, goes_on, IsSample}
+use Rattle.lr_check.specs.Statement.{fits_at, KidsFit, IsStatement}
 use Rattle.lr_check_nodes.proofs.Listing.{at_in}
-use Rattle.lr_check_nodes.specs.Pruned.{IsUsed, AreUsed, IsPruned, IsMarked, IsMarkedUser, AreReached, IsLeft, Pruning, PrunedView, renumbered, node_again, with_node, without_node}
+use Rattle.lr_check_nodes.specs.Pruned.{IsUsed, IsPruned, IsMarked, IsMarkedUser, AreReached, IsLeft, Pruning, PrunedView, renumbered, node_again, with_node, without_node}
 
 number_stays : (ns xs : List ℕ) (k : ℕ) → k < length ns → slice_index_or (ns ++ xs) k 0 ≡ slice_index_or ns k 0
 number_stays ns xs k lt = get_or_append_left ns xs 0 k lt

@@ -1,5 +1,5 @@
 -- Nodes whose kids stand before them and fit.
-use Rattle.std.proofs.Common.{◌≡◌, ◌⊎◌, ℕ, zero, suc, ◌+◌, ◌<◌, ◌≤◌, List, [], ◌∷◌, ◌++◌, Some, None, Bool, true, Contains, length, get_or, take, slice_get, refl, sym, ap}
+use Rattle.std.proofs.Common.{◌≡◌, ◌⊎◌, ℕ, zero, suc, ◌+◌, ◌<◌, ◌≤◌, List, [], ◌∷◌, ◌++◌, Some, Bool, true, Contains, length, get_or, take, slice_get, refl, sym, ap}
 use Rattle.std.proofs.Common.{◌∙◌, subst, subst₂, inl, inr, ⊎_elim, arith, length-append, append_assoc, append-nil}
 use Rattle.std.specs.Prelude.{Result, Ok, Err, IfOk}
 use Rattle.std.proofs.lemmas.List.{take_all, get_or_default}
@@ -14,7 +14,6 @@ use Rattle.lr_check.specs.Tree.{Node}
 use Rattle.lr_check.specs.Statement.{sort_fits, fits_at, KidsFit}
 use Rattle.lr_check.proofs.Typed.{fit_none, fit_more}
 use Rattle.lr_check_nodes.specs.Growing.{AreWhole, Grows, HasTreeOf, HaveKids, HasLast, HasTreeFrom, smallest}
-use Rattle.lr_check_nodes.proofs.Listing.{at_in}
 
 pub fits_more : (nodes more : List Node) (k : ℕ) (x : Sort) → fits_at (slice_get nodes k) x ≡ true → fits_at (slice_get (nodes ++ more) k) x ≡ true
 fits_more [] more k x h = absurd (false≢true h)

@@ -40,8 +40,8 @@ fn reached(alloc: Global, nodes: &[SampleNode]) -> Result<Vec<bool>, NoMemory>
 {
     let mut marks = vec![in alloc; false; nodes.len()]?;
     marks[nodes.len() - 1] = true;
-    for passed in 0..nodes.len() {
-        look(&mut marks, nodes, nodes.len() - 1 - passed);
+    for number in (0..nodes.len()).rev() {
+        look(&mut marks, nodes, number);
     }
     Ok(marks)
 }

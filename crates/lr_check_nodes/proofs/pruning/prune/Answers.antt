@@ -1,4 +1,4 @@
-use Rattle.std.proofs.Common.{List, ap, sym, subst, arith}
+use Rattle.std.proofs.Common.{ap, sym, subst, arith}
 use Rattle.lr_check_nodes.specs.Pruned.{IsPruned, PrunedView}
 use Rattle.lr_check_nodes.proofs.Renumbering.{pruned_all}
 use Rattle.lr_check_nodes.proofs.pruning.prune.Goals as goal
