@@ -12,10 +12,10 @@ use Rattle.lr_check_found.proofs.Pushing.{keeps_same, keeps_both}
 abbrev pub IsOn : ListsView → ℕ → ℕ → ℕ → ℕ → Type 0
 IsOn v upper lower passed n = (u l : List Sym) → IsList v upper u → IsList v lower l → passed ≤ length u → IsList v n (drop (length u - passed) u ++ l)
 
-pub on_none : (v : ListsView) (upper lower : ℕ) → IsOn v upper lower 0 lower
+on_none : (v : ListsView) (upper lower : ℕ) → IsOn v upper lower 0 lower
 on_none v upper lower u l a b le = b ∙ ap Some (ap (λ k. k ++ l) (sym (drop_all (length u - 0) u (omega arith))))
 
-read : (v : ListsView) (upper : ℕ) (u : List Sym) → IsList v upper u → slice_index_or v.all upper [] ≡ u
+pub read : (v : ListsView) (upper : ℕ) (u : List Sym) → IsList v upper u → slice_index_or v.all upper [] ≡ u
 read v upper u a = get_or_from_slice_get v.all upper u [] a
 
 pub on_more : (v : ListsView) (upper lower passed n m : ℕ) (X : Sym) (list : List Sym) → list ≡ slice_index_or v.all upper [] → passed < length list → X ≡ get_or list (length list - 1 - passed) X →
@@ -32,13 +32,13 @@ on_more v upper lower passed n m X list is lt at on push u l a b le =
     ∙ ap (λ (Y : Sym). Y ∷ drop (length u - passed) u) (ap (λ k. get_or u k X) one ∙ sym here)) in
     more ∙ ap Some (ap (λ k. k ++ l) (sym cons))
 
-pub on_more_at : (v : ListsView) (upper lower passed n m : ℕ) (d : Sym) (list : List Sym) → list ≡ slice_index_or v.all upper [] → passed < length list →
+on_more_at : (v : ListsView) (upper lower passed n m : ℕ) (d : Sym) (list : List Sym) → list ≡ slice_index_or v.all upper [] → passed < length list →
     IsOn v upper lower passed n → IsPushed v (get_or list (length list - 1 - passed) d) n m → IsOn v upper lower (passed + 1) m
 on_more_at v upper lower passed n m d list is lt on push =
     on_more v upper lower passed n m (get_or list (length list - 1 - passed) d) list is lt
     (get_or_default list (length list - 1 - passed) d (get_or list (length list - 1 - passed) d) (omega (arith, lt))) on push
 
-pub on_all : (v : ListsView) (upper lower passed n : ℕ) (list : List Sym) → list ≡ slice_index_or v.all upper [] → length list ≤ passed → passed ≤ length list → IsOn v upper lower passed n
+on_all : (v : ListsView) (upper lower passed n : ℕ) (list : List Sym) → list ≡ slice_index_or v.all upper [] → length list ≤ passed → passed ≤ length list → IsOn v upper lower passed n
     → IsJoined v upper lower n
 on_all v upper lower passed n list is ge le on u l a b =
     let same : list ≡ u = is ∙ read v upper u a in

@@ -10,6 +10,5 @@ pub mod Settled
 pub mod Counting
 pub mod Added
 pub mod Below
-mod Putting
 pub mod Leading
 mod Listing

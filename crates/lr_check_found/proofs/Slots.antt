@@ -1,7 +1,6 @@
 -- No two places have one slot.
 use Rattle.std.proofs.Common.{◌≡◌, ℕ, ◌+◌, ◌*◌, ◌<◌, ap, ◌∙◌, arith}
 use Rattle.tree_core.specs.declared.token.Tok.{Tok}
-use Rattle.tree_core.specs.declared.token.Tok.TheVariants as tok
 use Rattle.lr_tables.specs.Symbols.{number}
 use Rattle.lr_tables.proofs.Symbols_apart.{number_same, number-below}
 use Rattle.lr_check_found.specs.declared.places.Place.{Place}

@@ -87,14 +87,9 @@ impl Lists {
         requires { AreLists self.now }
         ensures { IfSome result (λ n. IsJoined self.now upper lower n) }
     {
-        let list = self.get(upper);
-        let count = list.len();
         let mut number = lower;
-        for passed in 0..count {
-            match self.find(list[count - 1 - passed], number) {
-                Some(next) => number = next,
-                None => return None,
-            }
+        for symbol in self.get(upper).iter().rev() {
+            number = self.find(*symbol, number)?;
         }
         Some(number)
     }

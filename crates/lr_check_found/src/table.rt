@@ -1,5 +1,5 @@
 // Sets of plain numbers, and a table that grows.
-ghost use Rattle.std.specs.Prelude.{◌≡◌, ◌⊎◌, ◌++◌, ◌∷◌, [], ℕ, length, Contains, slice_get, slice_index_or, false, IfOk, IfSome};
+ghost use Rattle.std.specs.Prelude.{◌≡◌, ◌++◌, ◌∷◌, [], ℕ, Contains, slice_get, slice_index_or, false, IfOk, IfSome};
 ghost use Rattle.std.specs.Prelude.{IsTrue, OnOk, Some, None};
 
 use crate::lists::Cell;
@@ -49,9 +49,11 @@ pub fn put(numbers: &mut Vec<Option<usize>>, at: usize, number: usize) -> Result
     ensures others { OnOk result ((i : ℕ) → (i ≡ at → ⊥) → slice_index_or numbers.new.items i None
         ≡ slice_index_or numbers.old.items i None) }
 {
-    while numbers.len() <= at {
-        numbers.push(None)?;
+    if at < numbers.len() {
+        numbers[at] = Some(number);
+    } else {
+        numbers.resize(at, None)?;
+        numbers.push(Some(number))?;
     }
-    numbers[at] = Some(number);
     Ok(())
 }
