@@ -166,11 +166,9 @@ impl Lists {
         ensures number { IfOk result (λ n. IsJoined self.new upper lower n) }
         ensures there { IfOk result (λ n. (s : List Sym) × IsList self.new n s) }
     {
-        let count = self.get(upper).len();
         let mut number = lower;
-        for passed in 0..count {
-            let list = self.get(upper);
-            let symbol = list[count - 1 - passed];
+        for at in (0..self.get(upper).len()).rev() {
+            let symbol = self.get(upper)[at];
             number = self.push(alloc, symbol, number)?;
         }
         Ok(number)
