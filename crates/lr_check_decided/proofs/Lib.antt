@@ -5,3 +5,4 @@ pub mod Fine
 pub mod Settled
 pub mod Circling
 pub mod Firsts
+pub mod Standing

@@ -1,17 +1,15 @@
 // Where a class alone settles.
-ghost use Rattle.std.specs.Prelude.{◌≡◌, IsTrue, false, [], ◌∷◌};
+ghost use Rattle.std.specs.Prelude.{◌≡◌, [], ◌∷◌};
 ghost use Rattle.md_reader.specs.declared.types.Sym.TheVariants as grammar_symbol;
-ghost use Rattle.lr_check_found.specs.declared.settlings.Settling.{Settling};
-ghost use Rattle.lr_check_found.specs.Lists.{IsList};
-ghost use Rattle.lr_check_found.specs.Found.{IsSettlingAt, Settles};
+ghost use Rattle.lr_check_found.specs.Found.{Settles};
+ghost use Rattle.lr_check_decided.specs.Alone.{is_class, is_alone};
 
-use lr_check_found::Found;
+use lr_check_found::{Found, Settling};
 use md_reader::Sym;
 
 // Whether the list is the class alone.
 fn is_class(list: &[Sym], class: u16) -> bool
-    ensures same { IsTrue result → list.now ≡ grammar_symbol.Class class ∷ [] }
-    ensures other { result ≡ false → list.now ≡ grammar_symbol.Class class ∷ [] → ⊥ }
+    ensures { result ≡ is_class list.now class }
 {
     match list {
         [Sym::Class(only)] => *only == class,
@@ -19,18 +17,11 @@ fn is_class(list: &[Sym], class: u16) -> bool
     }
 }
 
-// Whether the settling with the number is the class alone, at the place with the number.
-fn is_alone_at(found: &Found, number: usize, place: usize, class: u16) -> bool
-    ensures there { IsTrue result → (h : Settles found.now place (grammar_symbol.Class class ∷ [])) × (h.number ≡ number) }
-    ensures absent { result ≡ false → (e : Settling) → IsSettlingAt found.now number e → e.place ≡ place
-        → IsList found.now.lists e.list (grammar_symbol.Class class ∷ []) → ⊥ }
+// Whether the settling is the class alone, at the place with the number.
+fn is_alone(found: &Found, place: usize, class: u16, settling: &Settling) -> bool
+    ensures { result ≡ is_alone found.now place class settling.now }
 {
-    match found.settlings().get(number) {
-        Some(settling) => {
-            settling.place == place && is_class(found.lists().get(settling.list), class)
-        }
-        None => false,
-    }
+    settling.place == place && is_class(found.lists().get(settling.list), class)
 }
 
 /// The number of the settling that is the class alone at the place with the number.
@@ -38,10 +29,12 @@ pub fn alone_at(found: &Found, place: usize, class: u16) -> usize
     requires { Settles found.now place (grammar_symbol.Class class ∷ []) }
     ensures { (h : Settles found.now place (grammar_symbol.Class class ∷ [])) × (h.number ≡ result) }
 {
-    for number in 0..found.settlings().len() {
-        if is_alone_at(found, number, place, class) {
-            return number;
-        }
+    match found
+        .settlings()
+        .iter()
+        .position(|settling| is_alone(found, place, class, settling))
+    {
+        Some(number) => number,
+        None => unreachable!(),
     }
-    unreachable!()
 }

@@ -5,25 +5,6 @@ use Rattle.std.specs.List.{list_any, find, position_from, range_with_len}
 use Rattle.sel_parse_desk.specs.Desk.{lowest}
 use Rattle.sel_parse_desk.specs.Spills.{behind_one, first_that}
 
--- the lowest number that passes, number by number
-pub lowest_here : (p : ℕ → Bool) (i n : ℕ) → i < n → p i ≡ true → lowest p i (n - i) ≡ Some i
-lowest_here p i n lt e = by (n - i) (omega (arith, lt))
-  where
-    by : (m : ℕ) → 0 < m → lowest p i m ≡ Some i
-    by zero h = absurd (omega (arith, h))
-    by (suc m) h = ap (λ (b : Bool). if b then Some i else lowest p (i + 1) m) e
-
-pub lowest_later : (p : ℕ → Bool) (i n : ℕ) → i < n → p i ≡ false → lowest p i (n - i) ≡ lowest p (i + 1) (n - (i + 1))
-lowest_later p i n lt e = by (n - i) (n - (i + 1)) (omega (arith, lt))
-  where
-    by : (m k : ℕ) → m ≡ k + 1 → lowest p i m ≡ lowest p (i + 1) k
-    by zero k h = absurd (omega (arith, h))
-    by (suc m) k h =
-        ap (λ (b : Bool). if b then Some i else lowest p (i + 1) m) e ∙ ap (λ (j : ℕ). lowest p (i + 1) j) (let s : m ≡ k = omega (arith, h) in s)
-
-pub lowest_none : (p : ℕ → Bool) (i n : ℕ) → n ≤ i → lowest p i (n - i) ≡ None
-lowest_none p i n le = ap (λ (m : ℕ). lowest p i m) (let s : n - i ≡ 0 = omega (arith, le) in s)
-
 -- as `any` and `find` meet it in a range
 pub any_lowest : (p : ℕ → Bool) (k n : ℕ) → list_any p (range_with_len k n) ≡ is_some (lowest p k n)
 any_lowest p k zero = refl

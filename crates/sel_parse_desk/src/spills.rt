@@ -40,12 +40,13 @@ fn free_register<T: Templates>(
     requires ready { IsReady T.meaning desk.now }
     ensures { result ≡ free_register T.meaning setting.now.description.now given (desk_of desk.now) }
 {
-    for register in 0..REGISTERS {
-        if is_free_register(setting, desk, given, register) {
-            return Some(register);
-        }
-    }
-    None
+    (0..REGISTERS).find(
+        |register|
+            requires ready { IsReady T.meaning desk.now }
+            requires small { register.now < 12 }
+            ensures { result ≡ is_free_register T.meaning setting.entry.now.description.now given (desk_of desk.entry.now) register.now }
+        { is_free_register(setting, desk, given, *register) },
+    )
 }
 
 fn is_late(late: &[u32], word: u32) -> bool
