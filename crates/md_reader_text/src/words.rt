@@ -13,26 +13,19 @@ fn is_blank(byte: u8) -> bool
 fn without_blanks(line: &[u8]) -> &[u8]
     ensures { result.now ≡ without_blanks line.now }
 {
-    let mut rest = line;
-    while let [byte, others @ ..] = rest {
-        if !is_blank(*byte) {
-            return rest;
-        }
-        rest = others;
+    match line.iter().position(|byte| !is_blank(*byte)) {
+        Some(start) => &line[start..],
+        None => &[],
     }
-    rest
 }
 
 fn word_len(line: &[u8]) -> usize
     ensures len { result ≡ word_len line.now }
     ensures bound { result ≤ length line.now }
 {
-    for (i, byte) in line.iter().enumerate() {
-        if is_blank(*byte) {
-            return i;
-        }
-    }
-    line.len()
+    line.iter()
+        .position(|byte| is_blank(*byte))
+        .unwrap_or(line.len())
 }
 
 #[tactic(auto, unfolding(crate::specs::Words::cut_word))]

@@ -1,6 +1,0 @@
-use Rattle.std.proofs.Common.{◌≡◌, ◌+◌, drop}
-use Rattle.md_reader_text.specs.Words.{word_len}
-use Rattle.md_reader_text.proofs.words.word_len.Given as goal
-
-abbrev pub invariant-loop-i : goal.invariant-loop-i
-invariant-loop-i l = l.i + word_len (drop l.i l.line) ≡ word_len l.line
