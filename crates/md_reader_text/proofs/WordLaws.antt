@@ -3,9 +3,8 @@ use Rattle.std.proofs.Common.{Bor, ◌≡◌, ◌≤◌, ◌+◌, ◌-◌, ℕ, 
 use Rattle.std.proofs.Math.ListN.{drop_of_length-le}
 use Rattle.std.proofs.Math.Seq.{take-length}
 use Rattle.std.proofs.lemmas.List.{length-drop}
-use Rattle.std.proofs.lemmas.List.Sums.{prefix_len-le-length}
 use Rattle.std.specs.List.{position, position_or_len}
-use Rattle.std.specs.Option.{option_map, unwrap_or}
+use Rattle.std.specs.Option.{option_map}
 use Rattle.md_reader_text.specs.Lists.{put_front, list_of}
 use Rattle.md_reader_text.specs.Words.{is_blank, words, without_blanks, word_len, word_at, cut_word}
 
@@ -56,18 +55,6 @@ pub seen_words : (r : Option (Bor (List ℕ) × Bor (List ℕ))) (line : List �
     ≡ list_of (option_map (λ (x : Bor (List ℕ) × Bor (List ℕ)). (x.0.now, words x.1.now)) r)
 seen_words None line e = cut_word_is line ∙ ap (λ (o : Option (List ℕ × List ℕ)). list_of (option_map go_on o)) (sym e)
 seen_words (Some x) line e = cut_word_is line ∙ ap (λ (o : Option (List ℕ × List ℕ)). list_of (option_map go_on o)) (sym e)
-
--- where the first blank stands, as `position` tells it
-pub word_len_found : (line : List ℕ) → word_len line ≡ unwrap_or (position is_blank line) (length line)
-word_len_found line = grind (arith, same line, prefix_len-le-length (λ b. not (is_blank b)) line)
-  where
-    same : (line : List ℕ) → word_len line ≡ position_or_len is_blank line
-    same [] = refl
-    same (b ∷ bs) = step (is_blank b) (same bs)
-      where
-        step : (t : Bool) → word_len bs ≡ position_or_len is_blank bs → cond t 0 (suc (word_len bs)) ≡ cond (not t) (1 + position_or_len is_blank bs) 0
-        step true h = refl
-        step false h = omega (arith, h)
 
 -- the blanks in front, as `position` finds the first byte that is none
 abbrev pub shows : ℕ → Bool

@@ -8,12 +8,9 @@ fn line_len(text: &[u8]) -> usize
     ensures len { result ≡ line_len text.now }
     ensures bound { result ≤ length text.now }
 {
-    for (i, byte) in text.iter().enumerate() {
-        if *byte == b'\n' {
-            return i;
-        }
-    }
-    text.len()
+    text.iter()
+        .position(|byte| *byte == b'\n')
+        .unwrap_or(text.len())
 }
 
 fn cut_line(text: &[u8]) -> Option<(&[u8], &[u8])>

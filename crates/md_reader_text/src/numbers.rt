@@ -13,12 +13,9 @@ pub fn digits_len(text: &[u8]) -> usize
     ensures len { result ≡ digits_len text.now }
     ensures bound { result ≤ length text.now }
 {
-    for (i, byte) in text.iter().enumerate() {
-        if !is_digit(*byte) {
-            return i;
-        }
-    }
-    text.len()
+    text.iter()
+        .position(|byte| !is_digit(*byte))
+        .unwrap_or(text.len())
 }
 
 fn number_from(most: u32, digits: &[u8]) -> Option<u32>

@@ -1,0 +1,17 @@
+-- How many elements stand in front of the first one that passes a test, as `position` tells it.
+use Rattle.std.proofs.Common.{◌≡◌, ◌+◌, ◌∙◌, ℕ, suc, Bool, true, false, not, cond, List, [], ◌∷◌, length, refl, arith}
+use Rattle.std.proofs.lemmas.List.Sums.{prefix_len-le-length}
+use Rattle.std.specs.List.{position, position_or_len}
+use Rattle.std.specs.Option.{unwrap_or}
+
+module _ (ends : ℕ → Bool) (len : List ℕ → ℕ) (none : len [] ≡ 0) (more : (b : ℕ) (bs : List ℕ) → len (b ∷ bs) ≡ cond (ends b) 0 (suc (len bs))) where
+  same : (text : List ℕ) → len text ≡ position_or_len ends text
+  same [] = none
+  same (b ∷ bs) = more b bs ∙ step (ends b) (same bs)
+    where
+      step : (t : Bool) → len bs ≡ position_or_len ends bs → cond t 0 (suc (len bs)) ≡ cond (not t) (1 + position_or_len ends bs) 0
+      step true h = refl
+      step false h = omega (arith, h)
+
+  pub len_found : (text : List ℕ) → len text ≡ unwrap_or (position ends text) (length text)
+  len_found text = grind (arith, same text, prefix_len-le-length (λ b. not (ends b)) text)

@@ -1,6 +1,0 @@
-use Rattle.std.proofs.Common.{◌≡◌, ◌+◌, drop}
-use Rattle.md_reader_text.specs.Lines.{line_len}
-use Rattle.md_reader_text.proofs.lines.line_len.Given as goal
-
-abbrev pub invariant-loop-i : goal.invariant-loop-i
-invariant-loop-i l = l.i + line_len (drop l.i l.text) ≡ line_len l.text
