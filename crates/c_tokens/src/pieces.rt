@@ -1,6 +1,6 @@
 // The piece at the front of a text: a token, or what parts tokens.
 ghost use Rattle.std.specs.Prelude.{◌≡◌, ◌≤◌, ◌<◌, ◌+◌, length, IfSome, IfOk};
-ghost use Rattle.c_tokens.specs.Pieces.{word_token, word_piece, number_piece, sign_copied, character_end, character_piece, closes};
+ghost use Rattle.c_tokens.specs.Pieces.{word_token, word_piece, number_piece, sign_copied, character_end, character_piece};
 ghost use Rattle.c_tokens.specs.Pieces.{comment_len, string_from, string_token, mark_piece, slash_piece, piece_of};
 ghost use Rattle.c_tokens.specs.Reading.{Gives};
 
@@ -191,30 +191,13 @@ fn string_piece(alloc: Global, text: &[u8], at: u32) -> Result<Piece, TokenFault
     })
 }
 
-fn closes(text: &[u8]) -> bool
-    ensures { result ≡ closes text.now }
-{
-    match text {
-        [first, second, ..] => *first == b'*' && *second == b'/',
-        _ => false,
-    }
-}
-
 // The length up to and with the first `*/`.
 fn comment_len(text: &[u8]) -> Option<usize>
     ensures is { result ≡ comment_len text.now }
     ensures within { IfSome result (λ n. n ≤ length text.now) }
 {
-    let mut length: usize = 0;
-    let mut rest = text;
-    while let [_, others @ ..] = rest {
-        if closes(rest) {
-            return Some(length + 2);
-        }
-        length += 1;
-        rest = others;
-    }
-    None
+    let start = text.windows(2).position(|pair| pair == b"*/".as_slice())?;
+    Some(start + 2)
 }
 
 fn mark_piece(text: &[u8], at: u32) -> Result<Piece, TokenFault>

@@ -70,15 +70,13 @@ pub fn place_of(bytes: &[u8], offset: u32) -> Place
 {
     let mut line: u32 = 1;
     let mut column: u32 = 1;
-    let mut rest = &bytes[..offset as usize];
-    while let [byte, others @ ..] = rest {
+    for byte in &bytes[..offset as usize] {
         if *byte == b'\n' {
             line += 1;
             column = 1;
         } else {
             column += 1;
         }
-        rest = others;
     }
     Place { line, column }
 }
