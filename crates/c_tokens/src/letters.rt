@@ -47,12 +47,9 @@ pub fn word_len(text: &[u8]) -> usize
     ensures len { result ≡ run_len in_word text.now }
     ensures bound { result ≤ length text.now }
 {
-    for (i, byte) in text.iter().enumerate() {
-        if !in_word(*byte) {
-            return i;
-        }
-    }
-    text.len()
+    text.iter()
+        .position(|byte| !in_word(*byte))
+        .unwrap_or(text.len())
 }
 
 /// How many bytes stand in front of the line's end.
@@ -60,12 +57,9 @@ pub fn line_len(text: &[u8]) -> usize
     ensures len { result ≡ run_len in_line text.now }
     ensures bound { result ≤ length text.now }
 {
-    for (i, byte) in text.iter().enumerate() {
-        if *byte == b'\n' {
-            return i;
-        }
-    }
-    text.len()
+    text.iter()
+        .position(|byte| *byte == b'\n')
+        .unwrap_or(text.len())
 }
 
 /// How many digits of the base stand at the front.
@@ -73,10 +67,7 @@ pub fn digits_len(base: u64, text: &[u8]) -> usize
     ensures len { result ≡ run_len (is_digit_of base) text.now }
     ensures bound { result ≤ length text.now }
 {
-    for (i, byte) in text.iter().enumerate() {
-        if digit_value(*byte) >= base {
-            return i;
-        }
-    }
-    text.len()
+    text.iter()
+        .position(|byte| digit_value(*byte) >= base)
+        .unwrap_or(text.len())
 }
