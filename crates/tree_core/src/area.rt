@@ -26,9 +26,8 @@ pub fn opening(alloc: Global, objects: &[Object]) -> Result<Vec<u8>, NoMemory>
 fn fill(area: &mut Vec<u8>, count: u64) -> Result<(), NoMemory>
     ensures { OnOk result (area.new.items ≡ area.old.items ++ replicate count 0) }
 {
-    for _ in 0..count {
-        area.push(0)?;
-    }
+    let length = area.len().checked_add(count as usize).ok_or(NoMemory)?;
+    area.resize(length, 0)?;
     Ok(())
 }
 
