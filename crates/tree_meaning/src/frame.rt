@@ -52,7 +52,7 @@ impl<'a> Frame<'a> {
         ensures { OnOk result (activation self.new ≡ record (activation self.old)
             { locals = with_local (activation self.old).locals number value }) }
     {
-        set_local(&mut self.locals, number as usize, value)
+        set_local(&mut self.locals, number, value)
     }
 
     /// Writes an argument, if there is such a one.
@@ -94,13 +94,14 @@ impl<'a> Frame<'a> {
 }
 
 // Writes a local, with room for those before it.
-fn set_local(locals: &mut Vec<Option<u32>>, number: usize, value: u32) -> Result<(), AllocError>
+fn set_local(locals: &mut Vec<Option<u32>>, number: u32, value: u32) -> Result<(), AllocError>
     ensures { OnOk result (written locals.new.items ≡ with_local (written locals.old.items) number value) }
 {
-    while locals.len() <= number {
-        locals.push(None)?;
+    let at = number as usize;
+    if locals.len() <= at {
+        locals.resize(at + 1, None)?;
     }
-    locals[number] = Some(value);
+    locals[at] = Some(value);
     Ok(())
 }
 

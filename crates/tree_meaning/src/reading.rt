@@ -26,10 +26,8 @@ impl<'a> Machine<'a> {
             (grown leaves.now)) }
     {
         let mut stack = Vec::new(alloc);
-        let mut left = leaves.len();
-        while left > 0 {
-            left -= 1;
-            self.read_leaf(&mut stack, leaves[left])?;
+        for leaf in leaves.iter().rev() {
+            self.read_leaf(&mut stack, *leaf)?;
         }
         Ok(stack)
     }
