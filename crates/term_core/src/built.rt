@@ -67,10 +67,8 @@ pub fn built_of(alloc: Global, facts: &[Fact], nodes: &[Node]) -> Result<Built, 
     ensures { IfOk result (λ b. shapes b ≡ built facts.now nodes.now) }
 {
     let mut built = Built::new(alloc);
-    let mut left = nodes.len();
-    while left > 0 {
-        left -= 1;
-        built.build(alloc, facts, nodes[left])?;
+    for node in nodes.iter().rev() {
+        built.build(alloc, facts, *node)?;
     }
     Ok(built)
 }

@@ -1,12 +1,14 @@
-use Rattle.std.proofs.Common.{◌≡◌, ◌≤◌, length, drop}
+use Rattle.std.proofs.Common.{◌≡◌, ◌++◌, length, drop}
+use Rattle.std.specs.Iterator.Adapters.{rev_source}
+use Rattle.std.specs.Slice.Iter.{iter_rest}
 use Rattle.term_core.specs.Built.{shapes, built}
 use Rattle.term_core.proofs.built.built_of.Given as goal
 
-abbrev pub invariant-loop-left : goal.invariant-loop-left
-invariant-loop-left l = record {
-  within : l.left ≤ length l.nodes;
-  read : shapes l.built ≡ built l.facts (drop l.left l.nodes);
-}
-
-abbrev pub decreases-loop-left : goal.decreases-loop-left
-decreases-loop-left l = l.left
+-- The nodes that are left stand in front of those that are read.
+abbrev pub invariant-loop-node : goal.invariant-loop-node
+invariant-loop-node l =
+    let left = iter_rest (rev_source l.node-iterator) in
+    record {
+      parted : left ++ drop (length left) l.nodes ≡ l.nodes;
+      read : shapes l.built ≡ built l.facts (drop (length left) l.nodes);
+    }
