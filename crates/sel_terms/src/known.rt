@@ -102,11 +102,10 @@ pub fn rule_facts(alloc: Global, rule: &Rule, classes: &[Class]) -> Result<Vec<F
     ensures said { IfOk result (λ v. v.items ≡ facts_of classes.now rule.now) }
     ensures settled { IfOk result (λ v. AreSettled v.items) }
 {
-    let mut facts = Vec::new(alloc);
     let count = rule.right.as_slice().len() as u8 + 1;
-    for i in 0..count {
-        facts.push(fact_of(rule, classes, i))?;
-    }
+    let facts = (0..count)
+        .map(|i| fact_of(rule, classes, i))
+        .collect(alloc)?;
     Ok(facts)
 }
 

@@ -72,11 +72,9 @@ fn stack_of(alloc: Global, classes: &[Class], right: &[Sym]) -> Result<Stack, No
     ensures { IfOk result (λ s. contents s ≡ stack_from classes.now 1 right.now) }
 {
     let mut stack = Stack::new(alloc);
-    let mut number = right.len();
-    while number > 0 {
-        let role = role_of(classes, right[number - 1]);
-        step(alloc, number as u8, role, &mut stack)?;
-        number -= 1;
+    for (index, symbol) in right.iter().enumerate().rev() {
+        let role = role_of(classes, *symbol);
+        step(alloc, index as u8 + 1, role, &mut stack)?;
     }
     Ok(stack)
 }
