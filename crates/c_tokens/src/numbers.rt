@@ -16,8 +16,7 @@ pub fn number_in(base: u64, limit: u64, digits: &[u8]) -> Option<u32>
     ensures within { IfSome result (λ v. v ≤ limit) }
 {
     let mut number: u64 = 0;
-    let mut rest = digits;
-    while let [digit, others @ ..] = rest {
+    for digit in digits {
         let value = digit_value(*digit);
         if value >= base {
             return None;
@@ -26,7 +25,6 @@ pub fn number_in(base: u64, limit: u64, digits: &[u8]) -> Option<u32>
         if number > limit {
             return None;
         }
-        rest = others;
     }
     Some(number as u32)
 }

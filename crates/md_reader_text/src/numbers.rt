@@ -23,14 +23,12 @@ fn number_from(most: u32, digits: &[u8]) -> Option<u32>
     ensures bound { IfSome result (λ n. n ≤ most) }
 {
     let mut value: u32 = 0;
-    let mut rest = digits;
-    while let [byte, others @ ..] = rest {
+    for byte in digits {
         if !is_digit(*byte) {
             return None;
         }
         let longer = u64::from(value) * 10 + u64::from(*byte - b'0');
         value = longer.min(u64::from(most)) as u32;
-        rest = others;
     }
     Some(value)
 }
