@@ -1,18 +1,16 @@
 -- Bytes that are written one after another, and the object that holds them.
-use Rattle.std.proofs.Common.{◌≡◌, ℕ, zero, suc, ◌+◌, ◌-◌, ◌*◌, ◌<◌, ◌≤◌, ◌/◌, ◌%◌, ◌^◌, List, [], ◌∷◌, ◌++◌, Option, Some, None, length, get_or, append_assoc, refl, ap, sym, ◌∙◌, add-one, arith}
-use Rattle.std.specs.Prelude.{slice_get}
-use Rattle.std.proofs.Math.ListN.{set, replicate}
-use Rattle.std.proofs.lemmas.List.{replicate_more}
+use Rattle.std.proofs.Common.{◌≡◌, ℕ, zero, suc, ◌+◌, ◌-◌, ◌*◌, ◌<◌, ◌≤◌, ◌/◌, ◌%◌, ◌^◌, List, [], ◌∷◌, ◌++◌, length, get_or, append_assoc, refl, ap, sym, ◌∙◌, add-one, arith}
+use Rattle.std.proofs.Math.ListN.{set}
 use Rattle.std.proofs.Math.Nat.{div-mul-le_self}
 use Rattle.tree_core.specs.declared.program.Object.{Object}
 use Rattle.tree_core.specs.declared.program.Link.{Link}
 use Rattle.std.proofs.Common.{Bool, true, false, cond, Result, Ok, Err}
 use Rattle.std.specs.Fmt.{decimal}
 use Rattle.c_types.specs.declared.fault.TypeKind.TheVariants.{DataFull}
-use Rattle.c_types.specs.Answers.{Fault, bad, ◌>>=◌}
-use Rattle.c_types.specs.Typed.{AnExpression, LiteralAt}
-use Rattle.c_typed_scope.specs.Layout.{Area, aligned, placed, literal, one_more_literal, with_object}
-use Rattle.c_typed_scope.specs.Contents.{low_bytes, address_at, Filled, holding, with_contents}
+use Rattle.c_types.specs.Answers.{Fault, bad}
+use Rattle.c_types.specs.Typed.{LiteralAt}
+use Rattle.c_typed_scope.specs.Layout.{Area, placed, literal, with_object}
+use Rattle.c_typed_scope.specs.Contents.{low_bytes, Filled, holding, with_contents}
 
 pub low_bytes_more : (n v : ℕ) → low_bytes (n + 1) v ≡ (v % 2 ^ 8) ∷ low_bytes n (v / 2 ^ 8)
 low_bytes_more n v = rw (add-one n) refl
@@ -68,10 +66,6 @@ literal_laid at bytes label closed size n a b off named ended sized laid =
     let same : b.literals ≡ a.literals = placed_literals at label closed 1 size n a b laid in
     let h : placed at (83 ∷ decimal a.literals) 1 (length bytes + 1) (bytes ++ 0 ∷ []) a ≡ Ok (n, b) = rw (← named, ← ended, ← sized) laid in
     unless a.measuring _ _ off ∙ rw (h, same, sized) refl
-
--- one zero more
-pub padded_more : (old now : List ℕ) (n : ℕ) → now ≡ old ++ replicate n 0 → now ++ 0 ∷ [] ≡ old ++ replicate (n + 1) 0
-padded_more old now n is = rw (is, append_assoc, replicate_more) refl
 
 -- lengths stay
 

@@ -185,15 +185,11 @@ ghost use Rattle.c_typed_scope.specs.Contents.{pointer_element};
 ghost use Rattle.std.specs.Prelude.{◌^◌};
 
 // With zeros for what is missing.
-fn padded(bytes: Vec<u8>, size: u32) -> Result<Vec<u8>, AllocError>
+fn padded(mut bytes: Vec<u8>, size: u32) -> Result<Vec<u8>, AllocError>
     ensures { IfOk result (λ b. b.items ≡ bytes.items ++ replicate (size - length bytes.items) 0) }
 {
-    let mut whole = bytes;
-    let missing = (size as usize).saturating_sub(whole.len());
-    for turn in 0..missing {
-        whole.push(0)?;
-    }
-    Ok(whole)
+    bytes.resize(bytes.len().max(size as usize), 0)?;
+    Ok(bytes)
 }
 
 ghost use Rattle.std.specs.Prelude.{◌-◌, IfOk};
