@@ -1,7 +1,7 @@
 -- Constants that are wanted: lengths, and the bytes and links of what an object holds at first.
 -- wanted, element_of and its parts are how the code computes it; the rules of typing are the relations of c_typed_law (IsWritten for one
 -- element), which cite the other definitions here.
-use Rattle.std.specs.Prelude.{ℕ, zero, suc, ◌+◌, ◌-◌, ◌/◌, ◌%◌, ◌^◌, nat_lt, Bool, ◌&&◌, List, [], ◌∷◌, ◌++◌, length}
+use Rattle.std.specs.Prelude.{ℕ, zero, suc, ◌-◌, ◌/◌, ◌%◌, ◌^◌, nat_lt, ◌&&◌, List, [], ◌∷◌, ◌++◌, length}
 use Rattle.std.specs.Prelude.{slice_get, Option, Some, None, Result, Ok, if◌then◌else◌}
 use Rattle.std.proofs.Math.ListN.{replicate}
 use Rattle.tree_core.specs.declared.program.Object.{Object}
