@@ -1,7 +1,7 @@
 -- Arguments that are pushed one at a time, the last first.
 use Rattle.std.proofs.Common.{◌≡◌, ℕ, suc, Bool, List, [], ◌∷◌, ◌++◌, refl, ap, sym, ◌∙◌, append_assoc}
 use Rattle.c_lower_scheme.specs.Trees.{Tree, Item, Loc, Push, Call, Save}
-use Rattle.c_lower_scheme.specs.Parts.{Lowered, Emitted, InLocal}
+use Rattle.c_lower_scheme.specs.Parts.{InLocal}
 use Rattle.c_lower_scheme.specs.Calls.{pushes, args_count, called_low, called_drop, called_deliver}
 
 pub pushes_append : (ws : List Tree) (is js : List Item) → pushes ws (is ++ js) ≡ pushes ws is ++ js

@@ -37,11 +37,11 @@ fn args_count(trees: &Vec<Tree>) -> Result<u32, NoMemory>
 }
 
 // The last argument is pushed first.
-fn push_all(items: &mut Vec<Item>, mut trees: Vec<Tree>) -> Result<(), NoMemory>
+fn push_all(items: &mut Vec<Item>, trees: Vec<Tree>) -> Result<(), NoMemory>
     ensures { OnOk result (all_items items.new.items ≡ all_items items.old.items ++ calls.pushes (all_trees trees.items) []) }
 {
-    while let Some(last) = trees.pop() {
-        put(items, Item::Push(last))?;
+    for tree in trees.into_iter().rev() {
+        put(items, Item::Push(tree))?;
     }
     Ok(())
 }
