@@ -76,11 +76,7 @@ pub(crate) fn spot_of(objects: &[Object], variable: Variable) -> Option<Spot>
 pub(crate) fn zeros(alloc: Global, count: usize) -> Result<Vec<u32>, AllocError>
     ensures { IfOk result (λ v. v.items ≡ replicate count 0) }
 {
-    let mut zeros = Vec::new(alloc);
-    for _ in 0..count {
-        zeros.push(0)?;
-    }
-    Ok(zeros)
+    vec![in alloc; 0; count]
 }
 
 impl<'a> Store<'a> {
