@@ -220,14 +220,14 @@ fn declare_parameters(
     ensures { OnlyTurns result (state environment.new) (type_parameters functions.now.names functions.now.signatures.items
         defines at (param_list params.now) 0 (state environment.old)) }
 {
-    for number in 0..params.len() {
+    for (number, parameter) in params.iter().enumerate() {
         declare_parameter(
             alloc,
             functions,
             defines,
             at,
             number,
-            &params[number],
+            parameter,
             environment,
         )?;
     }
