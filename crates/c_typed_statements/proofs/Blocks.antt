@@ -1,5 +1,5 @@
 -- The declarations and statements of a block, one after another.
-use Rattle.std.proofs.Common.{◌≡◌, ℕ, ◌+◌, ◌<◌, ◌≤◌, Bool, List, [], ◌∷◌, ◌++◌, Option, length, drop, get_or, refl, ap, sym, subst, ◌∙◌, Result, Ok, Err}
+use Rattle.std.proofs.Common.{◌≡◌, ℕ, ◌+◌, ◌<◌, ◌≤◌, Bool, List, [], ◌∷◌, ◌++◌, length, drop, get_or, refl, ap, sym, ◌∙◌, Result, Ok, Err}
 use Rattle.std.proofs.lemmas.List.{drop_more, drop_all}
 use Rattle.std.specs.Global.{Vec}
 use Rattle.c_phrases.specs.declared.tree.Item.{Item}
@@ -7,7 +7,7 @@ use Rattle.c_phrases.specs.declared.tree.Item.TheVariants as item
 use Rattle.c_phrases.specs.declared.tree.Statement.{Statement, Row_of-Item, end_of-Item, more_of-Item, items-the_row-Item}
 use Rattle.c_phrases.specs.declared.tree.Item.TheBlock.{hidden-the_row-Item-0, items_hidden-the_row-Item-0}
 use Rattle.c_phrases.specs.declared.tree.Statement.TheVariants as statement
-use Rattle.c_phrases.specs.Units.{AStatement, block, SomeItems, no_items}
+use Rattle.c_phrases.specs.Units.{block, no_items}
 use Rattle.c_phrases.specs.UnitShapes.{statement_of, item_onto, items_row, items_of}
 use Rattle.c_types.specs.declared.types.CType.{CType}
 use Rattle.c_types.specs.declared.fault.TypeFault.{TypeFault}

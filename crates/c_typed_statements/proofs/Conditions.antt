@@ -1,10 +1,10 @@
 -- Full expressions and conditions: what the code answers, once the expression is typed.
-use Rattle.std.proofs.Common.{◌≡◌, ℕ, List, Result, Ok, Err, refl, ap, sym, ◌∙◌}
+use Rattle.std.proofs.Common.{◌≡◌, ℕ, List, Result, Ok, Err, refl}
 use Rattle.c_phrases.specs.Phrases.{AnExp}
 use Rattle.c_types.specs.declared.fault.TypeFault.{TypeFault}
 use Rattle.c_types.specs.declared.fault.TypeFault.TheVariants.{NoMemory, At}
 use Rattle.c_types.specs.declared.typed.Expression.{Expression}
-use Rattle.c_types.specs.Answers.{Fault, bad, ◌>>=◌, Fails, Gives}
+use Rattle.c_types.specs.Answers.{Fails, Gives}
 use Rattle.c_types.specs.Typed.{AnExpression, term}
 use Rattle.c_typed_operators.specs.Choices.{condition_of}
 use Rattle.c_typed_scope.specs.declared.entry.Entry.{Entry}

@@ -1,5 +1,5 @@
 -- What an accepted name of a function or a parameter says: it is new in its scope.
-use Rattle.std.proofs.Common.{◌≡◌, ℕ, Bool, Option, Some, None, Ok, Err, refl}
+use Rattle.std.proofs.Common.{◌≡◌, ℕ, Bool, Option, Some, None, Ok, refl}
 use Rattle.c_typed_objects.proofs.Forms.{free_by}
 use Rattle.c_phrases.specs.declared.tree.Named.{Named}
 use Rattle.c_phrases.specs.Units.{AParam}
