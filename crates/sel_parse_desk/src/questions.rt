@@ -340,12 +340,10 @@ pub fn answered<T: Templates>(
         setting.now.first) rule.now (Some (stack_of desk.now))) }
 {
     let size = rule.right.as_slice().len();
-    let mut left = rule.restrictions.as_slice();
-    while let [restriction, others @ ..] = left {
+    for restriction in rule.restrictions.as_slice() {
         if !holds(setting, &desk.stack.entries, size, *restriction)? {
             return Ok(false);
         }
-        left = others;
     }
     Ok(true)
 }
