@@ -104,9 +104,7 @@ struct Parse<O, I> {
 fn clear(seen: &mut [bool])
     ensures { seen.new ≡ replicate (length seen.old) false }
 {
-    for mark in seen.iter_mut() {
-        *mark = false;
-    }
+    seen.fill(false);
 }
 
 fn top_of(states: &[State]) -> State
@@ -164,8 +162,7 @@ fn choose<T: Templates>(
     ensures { IfOk result (λ o. o ≡ chosen (takes T.meaning setting.now.program.now setting.now.description.now setting.now.first
         (stack_of desk.now)) choices.now) }
 {
-    let mut left = choices;
-    while let [choice, others @ ..] = left {
+    for choice in choices {
         match *choice {
             Choice::Shift(state) => return Ok(Some(Choice::Shift(state))),
             Choice::Accept => return Ok(Some(Choice::Accept)),
@@ -175,7 +172,6 @@ fn choose<T: Templates>(
                 }
             }
         }
-        left = others;
     }
     Ok(None)
 }

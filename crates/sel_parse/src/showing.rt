@@ -94,12 +94,8 @@ fn rules_refused<T: Templates>(
     requires few { length rules.now ≤ 1000 }
     ensures { Refuses result (rules_refused T.meaning.effect classes.now 1 rules.now) }
 {
-    let mut number = 1;
-    let mut left = rules;
-    while let [rule, others @ ..] = left {
-        rule_refused(alloc, target, number, rule, classes)?;
-        number += 1;
-        left = others;
+    for (number, rule) in rules.iter().enumerate() {
+        rule_refused(alloc, target, number as u32 + 1, rule, classes)?;
     }
     Ok(())
 }
@@ -109,15 +105,14 @@ fn pools_refused(registers: u32, classes: &[Class], rules: &[Rule]) -> Result<()
     requires few { length rules.now ≤ 1000 }
     ensures { Refuses result (pools_refused registers classes.now 1 rules.now) }
 {
-    let mut number = 1;
-    let mut left = rules;
-    while let [rule, others @ ..] = left {
+    for (number, rule) in rules.iter().enumerate() {
         let need = need(rule, classes);
         if registers < need {
-            return Err(ShowFault::PoolSmall { rule: number, need });
+            return Err(ShowFault::PoolSmall {
+                rule: number as u32 + 1,
+                need,
+            });
         }
-        number += 1;
-        left = others;
     }
     Ok(())
 }
@@ -171,15 +166,8 @@ fn lines_refused<T: Templates>(
     requires lines { AllByRecursion IsSpill lines.now }
     ensures { Refuses result (lines_refused T.meaning.spill_effect kinds.now lines.now) }
 {
-    let mut kinds_left = kinds;
-    let mut left = lines;
-    while let [kind, kinds_behind @ ..] = kinds_left {
-        let [line, others @ ..] = left else {
-            return Ok(());
-        };
+    for (kind, line) in kinds.iter().zip(lines) {
         line_refused(alloc, target, *kind, line)?;
-        kinds_left = kinds_behind;
-        left = others;
     }
     Ok(())
 }

@@ -1,15 +1,6 @@
-use Rattle.std.proofs.Common.{◌≡◌, ◌+◌, ◌≤◌, length}
-use Rattle.std.specs.List.{AllByRecursion}
-use Rattle.md_reader.specs.Valid.{IsRule}
+use Rattle.std.proofs.Common.{◌≡◌, ◌+◌, drop}
 use Rattle.sel_parse.specs.Shown.{pools_refused}
 use Rattle.sel_parse.proofs.showing.pools_refused.Given as goal
 
-abbrev pub invariant-loop-left : goal.invariant-loop-left
-invariant-loop-left l = record {
-  valid : AllByRecursion (IsRule l.classes) l.left;
-  few : l.number + length l.left ≤ 1001;
-  same : pools_refused l.registers l.classes 1 l.rules ≡ pools_refused l.registers l.classes l.number l.left;
-}
-
-abbrev pub decreases-loop-left : goal.decreases-loop-left
-decreases-loop-left l = length l.left
+abbrev pub invariant-loop-number : goal.invariant-loop-number
+invariant-loop-number l = pools_refused l.registers l.classes 1 l.rules ≡ pools_refused l.registers l.classes (l.number + 1) (drop l.number l.rules)
