@@ -1,4 +1,5 @@
 pub mod Choices
+pub mod RunLaws
 pub mod FrontLaws
 pub mod NameLaws
 pub mod OperandLaws

@@ -37,12 +37,10 @@ fn digit_len(bytes: &[u8]) -> usize
     ensures len { result ≡ run_len is_ascii_digit bytes.now }
     ensures within { result ≤ length bytes.now }
 {
-    for (i, b) in bytes.iter().enumerate() {
-        if !b.is_ascii_digit() {
-            return i;
-        }
-    }
-    bytes.len()
+    bytes
+        .iter()
+        .position(|b| !b.is_ascii_digit())
+        .unwrap_or(bytes.len())
 }
 
 fn value(digits: &[u8]) -> u32
@@ -142,12 +140,10 @@ fn name_part_len(bytes: &[u8]) -> usize
     ensures len { result ≡ run_len is_name_part bytes.now }
     ensures within { result ≤ length bytes.now }
 {
-    for (i, b) in bytes.iter().enumerate() {
-        if !is_name_part(*b) {
-            return i;
-        }
-    }
-    bytes.len()
+    bytes
+        .iter()
+        .position(|b| !is_name_part(*b))
+        .unwrap_or(bytes.len())
 }
 
 /// A name of at most 64 bytes.

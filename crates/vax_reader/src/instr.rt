@@ -19,12 +19,10 @@ pub fn word_len(bytes: &[u8]) -> usize
     ensures len { result ≡ run_len in_word bytes.now }
     ensures within { result ≤ length bytes.now }
 {
-    for (i, b) in bytes.iter().enumerate() {
-        if *b == b'\t' || *b == b'\n' {
-            return i;
-        }
-    }
-    bytes.len()
+    bytes
+        .iter()
+        .position(|b| *b == b'\t' || *b == b'\n')
+        .unwrap_or(bytes.len())
 }
 
 fn is_last(kinds: &[OperandKind], target: bool) -> bool
