@@ -1,16 +1,9 @@
 -- Instructions and lines at the front of some bytes, as the reader computes them.
-use Rattle.std.specs.Prelude.{ℕ, Bool, true, false, not, ◌==◌, ◌||◌, nat_eq, List, [], ◌∷◌, ◌++◌, take, drop, Option}
+use Rattle.std.specs.Prelude.{ℕ, Bool, true, false, not, ◌==◌, ◌||◌, List, [], ◌∷◌, ◌++◌, take, drop, Option}
 use Rattle.std.specs.Prelude.{Some, None, if◌then◌else◌, codes}
 use Rattle.std.specs.Option.{option_and_then, option_map}
-use Rattle.std.specs.Cmp.Lexicographic.{pointwise}
 use Rattle.vax_core.specs.declared.operand.Operand.{Operand}
 use Rattle.vax_core.specs.declared.op.Op.{Op}
-use Rattle.vax_core.specs.declared.op.Op.TheVariants.{Movb, Movw, Movl, Clrb, Clrw, Clrl, Mnegl, Mcoml, Pushl, Cvtbl}
-use Rattle.vax_core.specs.declared.op.Op.TheVariants.{Cvtwl, Cvtlb, Cvtlw, Movzbl, Movzwl, Movab, Movaw, Moval, Addl2}
-use Rattle.vax_core.specs.declared.op.Op.TheVariants.{Addl3, Subl2, Subl3, Mull2, Mull3, Divl2, Divl3, Incl, Decl}
-use Rattle.vax_core.specs.declared.op.Op.TheVariants.{Bisl2, Bisl3, Bicl2, Bicl3, Xorl2, Xorl3, Bitl, Ashl, Cmpb, Cmpw}
-use Rattle.vax_core.specs.declared.op.Op.TheVariants.{Cmpl, Tstb, Tstw, Tstl, Jbr, Jeql, Jneq, Jlss, Jleq, Jgtr, Jgeq}
-use Rattle.vax_core.specs.declared.op.Op.TheVariants.{Jlssu, Jlequ, Jgtru, Jgequ, Calls, Ret}
 use Rattle.vax_core.specs.declared.op.OperandKind.{OperandKind}
 use Rattle.vax_core.specs.declared.code.Instr.{Instr}
 use Rattle.vax_core.specs.declared.code.AreaItem.{AreaItem}
