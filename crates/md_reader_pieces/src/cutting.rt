@@ -14,12 +14,9 @@ fn part_len(text: &[u8]) -> usize
     ensures len { result ≡ part_len text.now }
     ensures bound { result ≤ length text.now }
 {
-    for (i, byte) in text.iter().enumerate() {
-        if *byte == b'%' {
-            return i;
-        }
-    }
-    text.len()
+    text.iter()
+        .position(|byte| *byte == b'%')
+        .unwrap_or(text.len())
 }
 
 /// The hole whose name stands at the front, and how long the name is.
