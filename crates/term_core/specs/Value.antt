@@ -1,8 +1,8 @@
 -- What a term is worth.
-use Rattle.std.specs.Prelude.{ℕ, ◌≡◌, ◌+◌, ◌*◌, ◌%◌, ◌^◌, ◌<◌, List, true}
+use Rattle.std.specs.Prelude.{ℕ, ◌≡◌, ◌%◌, ◌^◌, ◌<◌, List, true}
 use Rattle.gg_base.specs.declared.size.Size.{Size}
 use Rattle.gg_base.specs.LittleEndian.{word_of, number_of}
-use Rattle.gg_base.specs.declared.size.Size.TheVariants.{Byte, Word, Long}
+use Rattle.gg_base.specs.declared.size.Size.TheVariants.{Byte, Word}
 use Rattle.term_core.specs.declared.facts.Fact.{Fact}
 use Rattle.term_core.specs.Facts.{has_size, is_count, same_as}
 use Rattle.term_core.specs.Operators.{unary, binary}
