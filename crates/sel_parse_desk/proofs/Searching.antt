@@ -1,5 +1,5 @@
 -- Searches from a number on.
-use Rattle.std.proofs.Common.{◌≡◌, ℕ, zero, suc, ◌+◌, ◌-◌, ◌<◌, ◌≤◌, List, [], ◌∷◌, length, take, get_or, Option, Some, None, Bool, true, false, refl, ap, sym, ◌∙◌, subst, arith}
+use Rattle.std.proofs.Common.{◌≡◌, ℕ, zero, suc, ◌+◌, ◌-◌, ◌<◌, ◌≤◌, List, [], ◌∷◌, length, take, drop, Option, Some, None, Bool, true, false, refl, ap, sym, ◌∙◌, subst, arith}
 use Rattle.std.specs.Prelude.{◌||◌, if◌then◌else◌, is_some, IfSome}
 use Rattle.std.specs.List.{list_any, find, position_from, range_with_len}
 use Rattle.sel_parse_desk.specs.Desk.{lowest}
@@ -30,7 +30,7 @@ lowest_below p k (suc n) m le =
     by false h g = g
 
 -- the first element that passes, as `position` meets it
-abbrev plus : ℕ → Option ℕ → Option ℕ
+abbrev pub plus : ℕ → Option ℕ → Option ℕ
 plus i None = None
 plus i (Some k) = Some (k + i)
 
@@ -55,6 +55,21 @@ module _ {X : Type 0} (p : X → Bool) where
   pub first_position : (xs : List X) → position_from p 0 xs ≡ first_that p xs
   first_position xs = first_from xs 0 ∙ plus_none (first_that p xs)
 
+  one_behind : (i : ℕ) (o : Option ℕ) → behind_one (plus i o) ≡ plus (suc i) o
+  one_behind i None = refl
+  one_behind i (Some k) = ap (λ (j : ℕ). Some j) (let s : k + i + 1 ≡ k + suc i = omega arith in s)
+
+  -- where none of the first n passes
+  pub first_behind : (xs : List X) (n : ℕ) → list_any p (take n xs) ≡ false → first_that p xs ≡ plus n (first_that p (drop n xs))
+  first_behind xs zero none = sym (plus_none (first_that p xs))
+  first_behind [] (suc n) none = refl
+  first_behind (y ∷ xs) (suc n) none = by (p y) none (first_behind xs n)
+    where
+      by : (b : Bool) → (b || list_any p (take n xs)) ≡ false → (list_any p (take n xs) ≡ false → first_that p xs ≡ plus n (first_that p (drop n xs)))
+          → (if b then Some 0 else behind_one (first_that p xs)) ≡ plus (suc n) (first_that p (drop n xs))
+      by true h go = absurd (cc)
+      by false h go = ap behind_one (go h) ∙ one_behind n (first_that p (drop n xs))
+
   pub first_within : (xs : List X) → IfSome (first_that p xs) (λ i. i < length xs)
   first_within [] = tt
   first_within (y ∷ xs) = by (p y) (first_that p xs) (first_within xs)
@@ -66,36 +81,6 @@ module _ {X : Type 0} (p : X → Bool) where
 
 -- the first element that passes
 module _ {X : Type 0} (p : X → Bool) where
-  pub first_here : (xs : List X) (i : ℕ) (x : X) → list_any p (take i xs) ≡ false → i < length xs → x ≡ get_or xs i x → p x ≡ true → first_that p xs ≡ Some i
-  first_here [] i x none lt e f = absurd (omega (arith, lt))
-  first_here (y ∷ xs) zero x none lt e f = ap (λ (b : Bool). if b then Some 0 else behind_one (first_that p xs)) (ap p (sym e) ∙ f)
-  first_here (y ∷ xs) (suc i) x none lt e f =
-      by (p y) none (λ h. first_here xs i x h (omega (arith, lt)) e f)
-    where
-      by : (b : Bool) → (b || list_any p (take i xs)) ≡ false → (list_any p (take i xs) ≡ false → first_that p xs ≡ Some i)
-          → (if b then Some 0 else behind_one (first_that p xs)) ≡ Some (suc i)
-      by true h go = absurd (cc)
-      by false h go = ap behind_one (go h) ∙ ap (λ (k : ℕ). Some k) (let s : i + 1 ≡ suc i = omega arith in s)
-
-  pub first_end : (xs : List X) (i : ℕ) → list_any p (take i xs) ≡ false → length xs ≤ i → first_that p xs ≡ None
-  first_end [] i h le = refl
-  first_end (y ∷ xs) zero h le = absurd (omega (arith, le))
-  first_end (y ∷ xs) (suc i) h le = by (p y) h (λ f. first_end xs i f (omega (arith, le)))
-    where
-      by : (b : Bool) → (b || list_any p (take i xs)) ≡ false → (list_any p (take i xs) ≡ false → first_that p xs ≡ None)
-          → (if b then Some 0 else behind_one (first_that p xs)) ≡ None
-      by true f go = absurd (cc)
-      by false f go = ap behind_one (go f)
-
-  pub first_nowhere : (xs : List X) → list_any p xs ≡ false → first_that p xs ≡ None
-  first_nowhere [] h = refl
-  first_nowhere (y ∷ xs) h = by (p y) h (first_nowhere xs)
-    where
-      by : (b : Bool) → (b || list_any p xs) ≡ false → (list_any p xs ≡ false → first_that p xs ≡ None)
-          → (if b then Some 0 else behind_one (first_that p xs)) ≡ None
-      by true h go = absurd (cc)
-      by false h go = ap behind_one (go h)
-
   -- before the first element that passes none does
   pub first_before : (xs : List X) (i : ℕ) → first_that p xs ≡ Some i → (i < length xs) × (list_any p (take i xs) ≡ false)
   first_before [] i e = absurd (cc)
@@ -125,17 +110,3 @@ module _ {X : Type 0} (p : X → Bool) where
       by true o go f = absurd (cc)
       by false None go f = go refl
       by false (Some k) go f = absurd (cc)
-
-  -- one more element that doesn't pass
-  pub none_more : (xs : List X) (i : ℕ) (x : X) → list_any p (take i xs) ≡ false → i < length xs → x ≡ get_or xs i x → p x ≡ false
-      → list_any p (take (i + 1) xs) ≡ false
-  none_more [] i x none lt e f = absurd (omega (arith, lt))
-  none_more (y ∷ xs) zero x none lt e f = ap (λ (b : Bool). b || false) (ap p (sym e) ∙ f)
-  none_more (y ∷ xs) (suc i) x none lt e f =
-      ap (λ (j : ℕ). list_any p (take j (y ∷ xs))) (let s : suc i + 1 ≡ suc (i + 1) = omega arith in s)
-      ∙ by (p y) none (λ h. none_more xs i x h (omega (arith, lt)) e f)
-    where
-      by : (b : Bool) → (b || list_any p (take i xs)) ≡ false → (list_any p (take i xs) ≡ false → list_any p (take (i + 1) xs) ≡ false)
-          → (b || list_any p (take (i + 1) xs)) ≡ false
-      by true h go = absurd (cc)
-      by false h go = go h

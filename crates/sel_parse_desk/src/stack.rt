@@ -267,12 +267,10 @@ fn first_from<T: Templates>(target: &T, attrs: &[Attr<T::Operand>], from: usize)
     requires none_before { list_any (holds_some T.meaning) (take from attrs.now) ≡ false }
     ensures { result ≡ first_that (holds_some T.meaning) attrs.now }
 {
-    for at in from..attrs.len() {
-        if holds_some(target, &attrs[at]) {
-            return Some(at);
-        }
-    }
-    None
+    let behind = attrs[from..]
+        .iter()
+        .position(|attr| holds_some(target, attr))?;
+    Some(from + behind)
 }
 
 /// The place of the deepest entry that holds a register.
