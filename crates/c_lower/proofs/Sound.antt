@@ -1,9 +1,10 @@
 -- The program that code holds is sound, and so its trees have what lowering hands on.
-use Rattle.std.proofs.Common.{◌≡◌, ◌≢◌, ◌≤◌, ℕ, zero, suc, List, [], ◌∷◌, length, map, Some, refl, sym, ap, subst}
+use Rattle.std.proofs.Common.{◌≡◌, ◌≢◌, ◌≤◌, ℕ, zero, suc, List, [], ◌∷◌, length, map, Some, refl, sym, subst}
 use Rattle.std.proofs.Math.Bool.{Bool-set}
 use Rattle.std.specs.Coded.{Coded-set, coded_ℕ, coded_list}
 use Rattle.std.specs.Prelude.{Result, Ok, Err, IfOk, slice_get}
 use Rattle.std.proofs.Math.Logic.{∥∥₁_map, ∥∥₁_elim}
+use Rattle.c_lower_valid.proofs.Naming.{labels_stay}
 use Rattle.gg_base.proofs.Facts.{no_prop}
 use native.Mathlib.Bridge.{le_prop}
 use Rattle.tree_core.specs.declared.program.Object.{Object}
@@ -31,11 +32,7 @@ pub lowered_has : {E : Type 0} (s : Program) (x : Held) → x ≡ s.held → (r 
 lowered_has s x e r P trees h =
     answered r (lowered (program s.held)) P (subst (λ (y : Held). IfOk r (λ q. q ≡ lowered (program y))) e trees) h
 
--- names and arguments stay
-names_stay : (count : ℕ) (gs : List ARoutine) (l : ℕ) → map (λ (f : TreeFn). f.name) (lower_all count gs l) ≡ map (λ (g : ARoutine). g.name) gs
-names_stay count [] l = refl
-names_stay count (g ∷ gs) l = ap (λ (ns : List (List ℕ)). g.name ∷ ns) (names_stay count gs (body_of count g l).labels)
-
+-- arguments stay
 few_all : (count : ℕ) (gs : List ARoutine) (l : ℕ) → ((n : ℕ) (g : ARoutine) → slice_get gs n ≡ Some g → length g.parameters ≤ 32) →
     (n : ℕ) (f : TreeFn) → slice_get (lower_all count gs l) n ≡ Some f → f.args ≤ 32
 few_all count [] l few n f here = absurd (cc)
@@ -46,9 +43,6 @@ few_all count (g ∷ gs) l few (suc n) f here = few_all count gs (body_of count 
 
 few_arguments : (p : AProgram) → IsSound p → (n : ℕ) (f : TreeFn) → slice_get (lowered p).functions n ≡ Some f → f.args ≤ 32
 few_arguments p s n f here = few_all (length p.routines) p.routines 0 s.parameters n f here
-
-labels_stay : (p : AProgram) → IsSound p → AreLabelled p.objects (map (λ (f : TreeFn). f.name) (lowered p).functions)
-labels_stay p s = subst (AreLabelled p.objects) (sym (names_stay (length p.routines) p.routines 0)) s.labels
 
 pub few_args : (p : AProgram) → ∥ IsSound p ∥₁ → (n : ℕ) (f : TreeFn) → slice_get (lowered p).functions n ≡ Some f → f.args ≤ 32
 few_args p h n f here = ∥∥₁_elim h le_prop (λ s. few_arguments p s n f here)

@@ -1,6 +1,6 @@
 -- Each label stands once in a function, so each jump goes where it is to.
 use Rattle.std.proofs.Common.{◌≡◌, ℕ, zero, suc, ◌+◌, ◌≤◌, ◌<◌, List, [], ◌∷◌, ◌++◌, length, Option, Some, None, refl, ap, arith, sym, ◌∙◌, subst, append_assoc, ◌⊎◌, inl, inr, ⊎_elim}
-use Rattle.std.specs.Prelude.{Bool, true, false, not, ◌==◌, cond, slice_get}
+use Rattle.std.specs.Prelude.{Bool, true, false, not, cond, slice_get}
 use Rattle.std.proofs.lemmas.Bool.{cases_lt, cases_eq, eq-eqb, ne_eqb}
 use Rattle.tree_core.specs.declared.program.TreeFn.{TreeFn}
 use Rattle.tree_meaning.specs.State.{behind}
@@ -33,41 +33,16 @@ use Rattle.c_lower_scheme.specs.Zeros
 use Rattle.c_lower_scheme.specs.Flow
 use Rattle.c_lower_scheme.specs.Statements
 use Rattle.c_lower_scheme.specs.Programs.{body_of, items_of, function_of, lower_all}
+use Rattle.c_lower_scheme.proofs.Labels.{at, tag_by, tag, stands, stands_append}
 use Rattle.c_lower_follows.proofs.Steps.{Resolves, Goes}
 use Rattle.c_lower_follows.proofs.Calling.{CodeOf}
 
-abbrev one_if : Bool → ℕ
-one_if true = 1
-one_if false = 0
-
--- whether an item is a label, as a number
-abbrev tag : Item → ℕ → ℕ
-tag (Label l) m = one_if (l == m)
-tag (AssignLoc n w) m = 0
-tag (AssignArg n w) m = 0
-tag (AssignMem i a w) m = 0
-tag (Cbr r l a b) m = 0
-tag (Jump l) m = 0
-tag (Push w) m = 0
-tag (Call f n) m = 0
-tag (Save n) m = 0
-tag (Ret w) m = 0
-
--- how often a label stands among items
-abbrev stands : ℕ → List Item → ℕ
-stands m [] = 0
-stands m (i ∷ is) = tag i m + stands m is
-
-stands_append : (m : ℕ) (a b : List Item) → stands m (a ++ b) ≡ stands m a + stands m b
-stands_append m [] b = omega arith
-stands_append m (i ∷ a) b = let h = stands_append m a b in omega arith
-
-same_tag : (l : ℕ) → one_if (l == l) ≡ 1
-same_tag l = ap one_if (eq-eqb l l refl)
+same_tag : (l : ℕ) → at l l ≡ 1
+same_tag l = ap (λ b. cond b 1 0) (eq-eqb l l refl)
 
 -- the items behind a label that stands once
 passes : (i : Item) (is : List Item) (l : ℕ) → tag i l ≡ 0 → behind (spelled i ∷ spelled_all is) l ≡ behind (spelled_all is) l
-passes (Label k) is l z = ⊎_elim (λ e. absurd (let one : one_if (k == l) ≡ 1 = ap one_if (eq-eqb k l e) in omega (arith, one, z)))
+passes (Label k) is l z = ⊎_elim (λ e. absurd (let one : at k l ≡ 1 = ap (λ b. cond b 1 0) (eq-eqb k l e) in omega (arith, one, z)))
     (λ ne. ap (λ b. cond b (spelled_all is) (behind (spelled_all is) l)) (ne_eqb k l ne)) (cases_eq k l)
 passes (AssignLoc n w) is l z = refl
 passes (AssignArg n w) is l z = refl
@@ -130,11 +105,8 @@ once_append l u w a b h g = record {
       (λ ge. omega (arith, stands_append m a b, g.inside m (inr ge), h.inside m (inr (omega (arith, g.grows))))) o;
 }
 
-tag_by : (l m : ℕ) → ((l ≡ m) × (one_if (l == m) ≡ 1)) ⊎ ((l ≡ m → ⊥) × (one_if (l == m) ≡ 0))
-tag_by l m = ⊎_elim (λ e. inl (e, ap one_if (eq-eqb l m e))) (λ n. inr (n, ap one_if (ne_eqb l m n))) (cases_eq l m)
-
 -- one label below the others, anywhere
-once_count : (l u : ℕ) (is js : List Item) → Once (suc l) u is → ((m : ℕ) → stands m js ≡ one_if (l == m) + stands m is) → Once l u js
+once_count : (l u : ℕ) (is js : List Item) → Once (suc l) u is → ((m : ℕ) → stands m js ≡ at l m + stands m is) → Once l u js
 once_count l u is js h e = record {
   grows = omega (arith, h.grows);
   once = λ m. ⊎_elim (λ y. let s = y.0 in omega (arith, e m, y.1, h.inside m (inl (omega arith)))) (λ n. omega (arith, e m, n.1, h.once m)) (tag_by l m);
@@ -461,7 +433,7 @@ module _ (size count : ℕ) where
 
   -- three labels: the top's, the one for `continue`, the end's
   once_three : (l q : ℕ) (inner js : List Item) → Once (suc (suc (suc l))) q inner
-      → ((m : ℕ) → stands m js ≡ one_if (l == m) + (one_if (suc l == m) + (one_if (suc (suc l) == m) + stands m inner))) → Once l q js
+      → ((m : ℕ) → stands m js ≡ at l m + (at (suc l) m + (at (suc (suc l)) m + stands m inner))) → Once l q js
   once_three l q inner js h e =
       let one = once_count (suc (suc l)) q inner (Label (suc (suc l)) ∷ inner) h (λ m. refl) in
       let two = once_count (suc l) q (Label (suc (suc l)) ∷ inner) (Label (suc l) ∷ Label (suc (suc l)) ∷ inner) one (λ m. refl) in

@@ -34,8 +34,8 @@ use Rattle.c_lower_scheme.specs.Spelling.{spelled_all}
 use Rattle.c_lower_scheme.specs.Parts.{Where, InLoc, InArg, InMem, Located, Assignable}
 use Rattle.c_lower_scheme.specs.Places.{integer_of, conv, fitted, read_from, address_tree, read_low, address_low}
 use Rattle.c_sound.specs.Fits.{AreBytes}
-use Rattle.c_sound.proofs.Bytes.{bytes_joined}
-use Rattle.c_lower_follows.proofs.Values.{bytes_take, bytes_drop, SmallTree}
+use Rattle.c_sound.proofs.Bytes.{bytes_joined, bytes_drop}
+use Rattle.c_lower_follows.proofs.Values.{bytes_take, SmallTree}
 use Rattle.c_lower_follows.proofs.Leads.{Leads, leads_wild}
 use Rattle.c_lower_follows.proofs.Steps.{Desk, on, Resolves, state, silent, narrowed, written_at}
 use Rattle.c_lower_follows.proofs.Agreeing.{Below, value, ranged_set, set_both, get_same, get_other}

@@ -32,6 +32,7 @@ use Rattle.c_types.specs.Types.{kept}
 use Rattle.c_types.specs.Constants.{apply, remainder_by}
 use Rattle.c_meaning.specs.State.{integer_access}
 use Rattle.c_sound.specs.Fits.{AreBytes}
+use Rattle.c_sound.proofs.Bytes.{bytes_drop}
 use Rattle.c_lower_scheme.specs.Trees.{Tree, Num, Gaddr, Loc, Arg, Indir, Conv, Neg, Com, Bin}
 use Rattle.c_lower_scheme.specs.Spelling.{leaf, plain, constant_token, operator_token, leaves_onto}
 
@@ -106,11 +107,6 @@ pub bytes_take : (n : ℕ) (xs : List ℕ) → AreBytes xs → AreBytes (take n 
 bytes_take zero xs h = tt
 bytes_take (suc n) [] h = tt
 bytes_take (suc n) (x ∷ xs) h = (h.0, bytes_take n xs h.1)
-
-pub bytes_drop : (n : ℕ) (xs : List ℕ) → AreBytes xs → AreBytes (drop n xs)
-bytes_drop zero xs h = h
-bytes_drop (suc n) [] h = tt
-bytes_drop (suc n) (x ∷ xs) h = bytes_drop n xs h.1
 
 bytes_index : (xs : List ℕ) (i : ℕ) → AreBytes xs → slice_index xs i < 256
 bytes_index [] i h = omega arith

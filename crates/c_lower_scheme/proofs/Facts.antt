@@ -1,5 +1,5 @@
 -- Small facts of lowered trees that several laws of lowering cite.
-use Rattle.std.proofs.Common.{◌≡◌, ℕ, suc, List, [], ◌∷◌, length, refl, ap, ◌++◌}
+use Rattle.std.proofs.Common.{◌≡◌, ℕ, suc, List, [], ◌∷◌, length, refl, ap, ◌++◌, map}
 use Rattle.std.specs.Prelude.{Bool, true, false, not, ◌&&◌, ◌||◌}
 use Rattle.std.proofs.lemmas.Bool.{not-true}
 use Rattle.gg_base.proofs.Facts.{first_true, second_true}
@@ -7,6 +7,7 @@ use Rattle.c_program.specs.Programs.{ARoutine}
 use Rattle.c_lower_scheme.specs.Programs.{body_of, lower_all}
 use Rattle.c_lower_scheme.specs.Trees.{Tree, Num, Gaddr, Loc, Arg, Indir, Conv, Neg, Com, Bin, divides_by, divides, stable, is_leaf, Item}
 use Rattle.c_lower_scheme.specs.Spelling.{spelled, spelled_all}
+use Rattle.tree_core.specs.declared.program.TreeFn.{TreeFn}
 
 pub all_lowered : (count : ℕ) (gs : List ARoutine) (l : ℕ) → length (lower_all count gs l) ≡ length gs
 all_lowered count [] l = refl
@@ -44,3 +45,8 @@ stable_inert size (Bin op a b) h =
 pub spelled_append : (a b : List Item) → spelled_all (a ++ b) ≡ spelled_all a ++ spelled_all b
 spelled_append [] b = refl
 spelled_append (i ∷ a) b = ap (λ l. spelled i ∷ l) (spelled_append a b)
+
+-- routines keep their names
+pub names_stay : (count : ℕ) (gs : List ARoutine) (l : ℕ) → map (λ (f : TreeFn). f.name) (lower_all count gs l) ≡ map (λ (g : ARoutine). g.name) gs
+names_stay count [] l = refl
+names_stay count (g ∷ gs) l = ap (λ (ns : List (List ℕ)). g.name ∷ ns) (names_stay count gs (body_of count g l).labels)

@@ -2,6 +2,7 @@
 use Rattle.std.proofs.Common.{◌≡◌, ℕ, zero, suc, ◌<◌, ◌≤◌, ◌^◌, List, [], ◌∷◌, length, Some, refl, ap, sym, subst, arith}
 use Rattle.std.specs.Prelude.{true, false, slice_get}
 use Rattle.gg_base.proofs.Facts.{false_true}
+use Rattle.gg_base.proofs.Words.{zero_small}
 use Rattle.c_types.specs.declared.typed.Callee.{Callee}
 use Rattle.c_program.specs.Programs.{ARoutine}
 use Rattle.c_sound.specs.Fits.{FitsActs, no_local}
@@ -15,7 +16,7 @@ use Rattle.c_lower_scheme.specs.Spelling.{spelled_all}
 use Rattle.c_lower_scheme.specs.Programs.{body_of, items_of, function_of, lower_all, lowered}
 use Rattle.c_lower_spelled.specs.Claims.{labels_behind, label_count, LoweredIsSpelled, LabelsAreSmall}
 use Rattle.c_lower_spelled.proofs.Trees.{AreLong, none, next, behind, roots_spell, labels_small}
-use Rattle.c_lower_spelled.proofs.Parts.{LongEnds, nought}
+use Rattle.c_lower_spelled.proofs.Parts.{LongEnds}
 use Rattle.c_lower_spelled.proofs.Statements.{row_long}
 
 module _ (objects most count : ℕ) (takes : Callee → ℕ → Type 0) where
@@ -33,7 +34,7 @@ module _ (objects most count : ℕ) (takes : Callee → ℕ → Type 0) where
   items_long : (g : ARoutine) (l : ℕ) → FitsActs (length g.locals) no_local false g.body
       → StandsActs (IsThere objects (length g.parameters)) takes objects g.body → (body_of count g l).labels ≤ most
       → AreLong objects most (items_of (body_of count g l))
-  items_long g l f s le = behind ((body_long g l f s).items false_true le) (next nought none)
+  items_long g l f s le = behind ((body_long g l f s).items false_true le) (next zero_small none)
 
   grows_all : (gs : List ARoutine) (l : ℕ) → Fit gs → Stand gs → l ≤ labels_behind count gs l
   grows_all [] l f s = omega arith

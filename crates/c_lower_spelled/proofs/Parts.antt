@@ -2,6 +2,7 @@
 use Rattle.std.proofs.Common.{◌≡◌, ℕ, suc, ◌<◌, ◌≤◌, ◌^◌, List, refl, arith}
 use Rattle.std.specs.Prelude.{Bool, true, false, not}
 use Rattle.gg_base.specs.declared.relation.Rel.{Rel}
+use Rattle.gg_base.proofs.Words.{zero_small}
 use Rattle.c_types.specs.declared.types.Integer.{Integer}
 use Rattle.c_types.specs.declared.types.Integer.TheVariants as ints
 use Rattle.c_types.specs.declared.types.CType.{CType}
@@ -12,9 +13,6 @@ use Rattle.c_lower_scheme.specs.Conditions.{test, dropped, valued, conditional, 
 use Rattle.c_lower_scheme.specs.Conditions.{truth_of, deliver_as, converting, choose_drop, choose_deliver}
 use Rattle.c_lower_scheme.specs.Values.{must, joined, binary, relation}
 use Rattle.c_lower_spelled.proofs.Trees.{IsLong, AreLong, none, next, behind}
-
-pub nought : 0 < 2 ^ 32
-nought = omega arith
 
 pub unit_long : 1 < 2 ^ 32
 unit_long = omega arith
@@ -75,7 +73,7 @@ module _ (objects most : ℕ) where
   over_long f keeps l p h = record { grows = h.grows; tree = keeps p.tree h.tree; items = h.items }
 
   pub test_long : (sense : Bool) (to l : ℕ) (p : Lowered) → LongLow l p → LongEnds (to < most) l (test sense to p)
-  test_long sense to l p h = record { grows = h.grows; items = λ lt le. behind (h.items le) (next (lt, h.tree, nought) none) }
+  test_long sense to l p h = record { grows = h.grows; items = λ lt le. behind (h.items le) (next (lt, h.tree, zero_small) none) }
 
   pub delivered_long : (to : Destination) (l : ℕ) (p : Lowered) → LongLow l p → LongEnds (Unit {0}) l (delivered to p)
   delivered_long (InLocal n) l p h = record { grows = h.grows; items = λ y le. behind (h.items le) (next h.tree none) }
@@ -118,7 +116,7 @@ module _ (objects most : ℕ) where
             tree = tt;
             items = λ le.
                 let lt : l < most = omega arith in
-                next nought (behind (c.items lt le) (next unit_long (next lt none)));
+                next zero_small (behind (c.items lt le) (next unit_long (next lt none)));
           }
 
   pub mapped_long : (f : Tree → Tree) → ((w : Tree) → Long w → Long (f w)) → (e : Lowering) → LongWay e → LongWay (mapped f e)

@@ -1,6 +1,7 @@
 -- That places, assignments and calls have long numbers and small labels where their parts have.
 use Rattle.std.proofs.Common.{ℕ, ◌<◌, ◌≤◌, ◌^◌, List, [], ◌∷◌, arith}
 use Rattle.std.specs.Prelude.{Bool, true, false, ◌==◌, if◌then◌else◌}
+use Rattle.gg_base.proofs.Words.{zero_small}
 use Rattle.c_types.specs.declared.types.Integer.TheVariants as ints
 use Rattle.c_types.specs.declared.types.CType.{CType}
 use Rattle.c_types.specs.declared.types.CType.TheVariants as types
@@ -21,7 +22,7 @@ use Rattle.c_lower_scheme.specs.Values.{scaled_by, advance, advance_by, retreat,
 use Rattle.c_lower_scheme.specs.Calls.{pushes, called_drop, called_low, passed_as, pass_so, called_deliver}
 use Rattle.c_lower_scheme.specs.Assignments.{ready_so, update_so, store_drop, store_low_at, store_low, must_keep, step_tree, step_ready, step_low}
 use Rattle.c_lower_spelled.proofs.Trees.{IsLong, IsLongItem, AreLong, none, next, behind}
-use Rattle.c_lower_spelled.proofs.Parts.{LongLow, LongEnds, nought, long_saving, long_saved, long_fitted, over_long, due_long, delivered_long}
+use Rattle.c_lower_spelled.proofs.Parts.{LongLow, LongEnds, long_saving, long_saved, long_fitted, over_long, due_long, delivered_long}
 
 -- sizes are longwords
 size_long : (t : CType) → size_of t < 2 ^ 32
@@ -63,8 +64,8 @@ module _ (objects most : ℕ) where
 
   -- a variable's object is there
   pub long_where : (params : ℕ) (v : Variable) → IsThere objects params v → LongAt (where_of v)
-  long_where params (variables.Automatic n) h = nought
-  long_where params (variables.Parameter n) h = nought
+  long_where params (variables.Automatic n) h = zero_small
+  long_where params (variables.Parameter n) h = zero_small
   long_where params (variables.Global n) h = h
   long_where params (variables.Static n) h = h
 
@@ -91,8 +92,8 @@ module _ (objects most : ℕ) where
   long_holding b u (InMem a) h = long_saving objects most b u a h
 
   long_held : (b : Bool) (u : ℕ) (s : Where) → LongAt s → LongAt (held b u s)
-  long_held b u (InLoc n) h = nought
-  long_held b u (InArg n) h = nought
+  long_held b u (InLoc n) h = zero_small
+  long_held b u (InArg n) h = zero_small
   long_held b u (InMem a) h = long_saved objects most b u a h
 
   assign_long : (ty : CType) (s : Where) (w : Tree) → LongAt s → Long w → IsLongItem objects most (assign_to ty s w)

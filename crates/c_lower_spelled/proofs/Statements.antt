@@ -1,6 +1,7 @@
 -- That each statement of a sound program has long numbers and small labels.
 use Rattle.std.proofs.Common.{◌≡◌, ℕ, suc, ◌<◌, List, [], ◌∷◌, refl, arith}
 use Rattle.std.specs.Prelude.{Bool, true, false, Option, Some, None}
+use Rattle.gg_base.proofs.Words.{zero_small}
 use Rattle.c_types.specs.declared.typed.Callee.{Callee}
 use Rattle.c_types.specs.declared.typed.Variable.{Variable}
 use Rattle.c_types.specs.Constants.{constant_of}
@@ -16,7 +17,7 @@ use Rattle.c_lower_scheme.specs.Zeros.{is_zeroed}
 use Rattle.c_lower_scheme.specs.Flow.{two_done, clearing}
 use Rattle.c_lower_scheme.specs.Statements.{unless, when, effect, returning, declare, while_by, for_tested, for_of, lower, lower_row, going, going_alone, if_by}
 use Rattle.c_lower_spelled.proofs.Trees.{AreLong, none, next, behind}
-use Rattle.c_lower_spelled.proofs.Parts.{LongEnds, nought}
+use Rattle.c_lower_spelled.proofs.Parts.{LongEnds}
 use Rattle.c_lower_spelled.proofs.Phrases.{way_long}
 
 module _ (objects most params size count : ℕ) (takes : Callee → ℕ → Type 0) where
@@ -31,7 +32,7 @@ module _ (objects most params size count : ℕ) (takes : Callee → ℕ → Type
   Loops inside lb lc = inside ≡ true → (lb < most) × (lc < most)
 
   clearing_long : (b : Bool) (n : ℕ) → AreLong objects most (clearing b n)
-  clearing_long true n = next nought none
+  clearing_long true n = next zero_small none
   clearing_long false n = none
 
   always : (so : Type 0) (l : ℕ) (p : Emitted) → Ends (Unit {0}) l p → Ends so l p
@@ -57,7 +58,7 @@ module _ (objects most params size count : ℕ) (takes : Callee → ℕ → Type
 
     returning_long : (e : Option AnExpression) (l : ℕ) → FitsMaybe scope e → StandsMaybe There takes objects e
         → Ends (Unit {0}) l (returning size count e l)
-    returning_long None l f s = record { grows = omega arith; items = λ y le. next nought none }
+    returning_long None l f s = record { grows = omega arith; items = λ y le. next zero_small none }
     returning_long (Some e) l f s = (way_long objects most params size count takes scope e f s).deliver AsResult size l
 
     -- a `while`, by its body

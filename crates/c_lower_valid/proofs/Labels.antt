@@ -21,7 +21,8 @@ use Rattle.c_lower_scheme.specs.Values
 use Rattle.c_lower_scheme.specs.Calls
 use Rattle.c_lower_scheme.specs.Assignments
 use Rattle.c_lower_scheme.specs.Expressions
-use Rattle.c_lower_valid.proofs.Marks.{nowhere, at, Marked, marked_nil, marked_out, marked_append, marked_plain, marked_front, mute_saving, mute_holding, mute_assign, mute_append}
+use Rattle.c_lower_scheme.proofs.Labels.{at}
+use Rattle.c_lower_valid.proofs.Marks.{nowhere, Marked, marked_nil, marked_out, marked_append, marked_plain, marked_front, mute_saving, mute_holding, mute_assign, mute_append}
 use Rattle.c_lower_valid.proofs.Marks.{mute_pushes, MarkedWay, marked_branch, marked_valued, marked_effective, marked_conditional, marked_two, marked_chain, marked_chain_drop}
 use Rattle.c_lower_valid.proofs.Marks.{marked_drops, marked_fork, marked_delivered, marked_apart}
 

@@ -13,7 +13,8 @@ use Rattle.c_lower_scheme.specs.Mentions
 use Rattle.c_lower_scheme.specs.Zeros
 use Rattle.c_lower_scheme.specs.Flow
 use Rattle.c_lower_scheme.specs.Statements
-use Rattle.c_lower_valid.proofs.Marks.{at, stands, aims, stands_append, aims_append, nowhere, Marked, marked_nil, marked_out, marked_append, marked_same, marked_plain}
+use Rattle.c_lower_scheme.proofs.Labels.{at, stands, stands_append}
+use Rattle.c_lower_valid.proofs.Marks.{aims, aims_append, nowhere, Marked, marked_nil, marked_out, marked_append, marked_same, marked_plain}
 use Rattle.c_lower_valid.proofs.Marks.{marked_front, marked_count, IsMute, marked_inner, marked_fork}
 use Rattle.c_lower_valid.proofs.Labels.{marked_way}
 

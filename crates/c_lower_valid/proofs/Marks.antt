@@ -1,7 +1,7 @@
 -- Labels among items: each stands once, and each to which a branch or jump goes stands there too, or is named from outside.
-use Rattle.std.proofs.Common.{◌≡◌, ℕ, suc, ◌+◌, ◌≤◌, ◌<◌, List, [], ◌∷◌, ◌++◌, refl, ap, arith, ◌∙◌, ◌⊎◌, inl, inr, ⊎_elim}
-use Rattle.std.specs.Prelude.{Bool, true, false, ◌==◌, cond}
-use Rattle.std.proofs.lemmas.Bool.{cases_lt, cases_eq, eq-eqb, ne_eqb}
+use Rattle.std.proofs.Common.{◌≡◌, ℕ, suc, ◌+◌, ◌≤◌, ◌<◌, List, [], ◌∷◌, ◌++◌, refl, arith, ◌∙◌, ◌⊎◌, inl, inr, ⊎_elim}
+use Rattle.std.specs.Prelude.{Bool, true, false}
+use Rattle.std.proofs.lemmas.Bool.{cases_lt}
 use Rattle.gg_base.specs.declared.relation.Rel.{Rel}
 use Rattle.c_types.specs.declared.types.CType.{CType}
 use Rattle.c_lower_scheme.specs.Trees.{Tree, Num, Item, Label, AssignLoc, AssignArg, AssignMem, Cbr, Jump, Push, Call, Save, Ret, breaks}
@@ -9,24 +9,9 @@ use Rattle.c_lower_scheme.specs.Parts
 use Rattle.c_lower_scheme.specs.Places
 use Rattle.c_lower_scheme.specs.Conditions
 use Rattle.c_lower_scheme.specs.Calls
+use Rattle.c_lower_scheme.proofs.Labels.{at, tag_by, stands, stands_append}
 
--- whether a number is a label's
-abbrev pub at : ℕ → ℕ → ℕ
-at l m = cond (l == m) 1 0
-
--- whether an item is a label, and whether it goes to one, as numbers
-abbrev pub tag : Item → ℕ → ℕ
-tag (Label l) m = at l m
-tag (AssignLoc n w) m = 0
-tag (AssignArg n w) m = 0
-tag (AssignMem i a w) m = 0
-tag (Cbr r l a b) m = 0
-tag (Jump l) m = 0
-tag (Push w) m = 0
-tag (Call f n) m = 0
-tag (Save n) m = 0
-tag (Ret w) m = 0
-
+-- whether an item goes to a label, as a number
 abbrev pub aim : Item → ℕ → ℕ
 aim (Label l) m = 0
 aim (AssignLoc n w) m = 0
@@ -39,18 +24,10 @@ aim (Call f n) m = 0
 aim (Save n) m = 0
 aim (Ret w) m = 0
 
--- how often a label stands among items, and how often one of them goes to it
-abbrev pub stands : ℕ → List Item → ℕ
-stands m [] = 0
-stands m (i ∷ is) = tag i m + stands m is
-
+-- how often one of the items goes to a label
 abbrev pub aims : ℕ → List Item → ℕ
 aims m [] = 0
 aims m (i ∷ is) = aim i m + aims m is
-
-pub stands_append : (m : ℕ) (a b : List Item) → stands m (a ++ b) ≡ stands m a + stands m b
-stands_append m [] b = omega arith
-stands_append m (i ∷ a) b = let h = stands_append m a b in omega arith
 
 pub aims_append : (m : ℕ) (a b : List Item) → aims m (a ++ b) ≡ aims m a + aims m b
 aims_append m [] b = omega arith
@@ -123,9 +100,6 @@ marked_plain out l u is js h z = marked_same out l u is (is ++ js) h (λ m. omeg
 pub marked_front : (out : ℕ → ℕ) (l u : ℕ) (js is : List Item) → IsMute js → Marked out l u is → Marked out l u (js ++ is)
 marked_front out l u js is z h = marked_same out l u is (js ++ is) h (λ m. omega (arith, stands_append m js is, z m))
     (λ m lt. omega (arith, aims_append m js is, z m))
-
-tag_by : (l m : ℕ) → ((l ≡ m) × (at l m ≡ 1)) ⊎ ((l ≡ m → ⊥) × (at l m ≡ 0))
-tag_by l m = ⊎_elim (λ e. inl (e, ap (λ b. cond b 1 0) (eq-eqb l m e))) (λ n. inr (n, ap (λ b. cond b 1 0) (ne_eqb l m n))) (cases_eq l m)
 
 -- one label below the others, anywhere, to which what is below may go
 pub marked_count : (out out' : ℕ → ℕ) (l u : ℕ) (is js : List Item) → Marked out' (suc l) u is → ((m : ℕ) → out' m ≤ out m + at l m)

@@ -1,5 +1,5 @@
 -- The functions of a lowered program, and their names.
-use Rattle.std.proofs.Common.{◌≡◌, ℕ, zero, suc, ◌+◌, ◌≤◌, List, [], ◌∷◌, length, Some, None, refl, ap, arith, sym, ◌∙◌, subst}
+use Rattle.std.proofs.Common.{◌≡◌, ℕ, zero, suc, ◌+◌, ◌≤◌, List, [], ◌∷◌, length, Some, None, refl, ap, arith, sym, ◌∙◌, subst, map}
 use Rattle.std.specs.Prelude.{Bool, true, false, not, ◌||◌, ◌==◌, cond, slice_get, codes}
 use Rattle.std.specs.List.{All}
 use Rattle.std.specs.Str.{bytes_eq}
@@ -10,7 +10,9 @@ use Rattle.tree_core.specs.Valid.{named, main_takes_nothing, NamesRight}
 use Rattle.c_program.specs.Programs.{ARoutine, AProgram}
 use Rattle.c_sound.specs.Sound.{IsSound}
 use Rattle.c_sound.proofs.Bytes.{same_names}
-use Rattle.c_lower_scheme.specs.Programs.{body_of, function_of, lower_all}
+use Rattle.c_sound.specs.Labels.{AreLabelled}
+use Rattle.c_lower_scheme.specs.Programs.{body_of, function_of, lower_all, lowered}
+use Rattle.c_lower_scheme.proofs.Facts.{names_stay}
 
 -- what holds of each routine as it is lowered, from whatever label on
 pub each_lowered : (P : TreeFn → Type 0) (count : ℕ) (gs : List ARoutine) (l : ℕ)
@@ -100,3 +102,7 @@ names_right p sound =
       no_getchar = name_none count (codes "getchar") p.routines 0 sound.no_getchar;
       differ = λ name. name_most count name p.routines 0 sound.differ;
     }
+
+-- labels of objects stay
+pub labels_stay : (p : AProgram) → IsSound p → AreLabelled p.objects (map (λ (f : TreeFn). f.name) (lowered p).functions)
+labels_stay p s = subst (AreLabelled p.objects) (sym (names_stay (length p.routines) p.routines 0)) s.labels

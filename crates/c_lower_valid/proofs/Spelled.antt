@@ -12,7 +12,8 @@ use Rattle.tree_core.specs.Labels.{TargetsStandIn}
 use Rattle.tree_core.proofs.Apart.{times-append}
 use Rattle.c_lower_scheme.specs.Trees.{Item, Label, AssignLoc, AssignArg, AssignMem, Cbr, Jump, Push, Call, Save, Ret}
 use Rattle.c_lower_scheme.specs.Spelling.{spelled, spelled_all}
-use Rattle.c_lower_valid.proofs.Marks.{at, tag, aim, stands, aims}
+use Rattle.c_lower_scheme.proofs.Labels.{at, tag, stands}
+use Rattle.c_lower_valid.proofs.Marks.{aim, aims}
 
 -- how often a number is the one that may be there
 abbrev number_of : Option ℕ → ℕ → ℕ

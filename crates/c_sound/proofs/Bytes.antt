@@ -1,9 +1,10 @@
 -- Lists of bytes, and names.
 use Rattle.std.proofs.Common.{ℕ, zero, suc, ◌+◌, List, [], ◌∷◌, ◌++◌, arith, ◌≡◌, true, sym, ◌∙◌}
 use Rattle.std.proofs.Math.ListN.{replicate}
-use Rattle.c_sound.specs.Fits.{AreBytes}
 use Rattle.std.proofs.lemmas.Slice.Eq.{bytes_eq-Decides}
 use Rattle.std.specs.Str.{bytes_eq}
+use Rattle.std.specs.Prelude.{drop}
+use Rattle.c_sound.specs.Fits.{AreBytes}
 
 pub zeros_are_bytes : (n : ℕ) → AreBytes (replicate n 0)
 zeros_are_bytes zero = tt
@@ -15,3 +16,8 @@ bytes_joined (x ∷ xs) ys h k = (h.0, bytes_joined xs ys h.1 k)
 
 pub same_names : (a b c : List ℕ) → bytes_eq a c ≡ true → bytes_eq b c ≡ true → bytes_eq a b ≡ true
 same_names a b c h k = (bytes_eq-Decides a b).1 ((bytes_eq-Decides a c).0 h ∙ sym ((bytes_eq-Decides b c).0 k))
+
+pub bytes_drop : (n : ℕ) (xs : List ℕ) → AreBytes xs → AreBytes (drop n xs)
+bytes_drop zero xs h = h
+bytes_drop (suc n) [] h = tt
+bytes_drop (suc n) (x ∷ xs) h = bytes_drop n xs h.1

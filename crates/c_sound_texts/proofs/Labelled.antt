@@ -1,5 +1,5 @@
 -- The labels of a typed program's objects, as `AreLabelled` has them, and the addresses at their links.
-use Rattle.std.proofs.Common.{◌≡◌, ◌≢◌, ℕ, zero, suc, ◌+◌, ◌%◌, ◌/◌, ◌^◌, ◌<◌, ◌≤◌, ◌==◌, ◌&&◌, ◌||◌, Bool, true, false, List, [], ◌∷◌, ◌++◌, length, map, take, drop, Some, refl}
+use Rattle.std.proofs.Common.{◌≡◌, ◌≢◌, ℕ, zero, suc, ◌+◌, ◌%◌, ◌/◌, ◌^◌, ◌<◌, ◌≤◌, ◌==◌, ◌&&◌, true, List, [], ◌∷◌, ◌++◌, length, map, take, drop, Some, refl}
 use Rattle.std.proofs.Common.{sym, ap, subst, ◌∙◌, length-append, arith}
 use Rattle.std.proofs.lemmas.Bool.{and_from, and_parts, le-leb, leb-true, eqb-true}
 use Rattle.std.proofs.lemmas.Bool.Decides.{nat_tests}
@@ -15,6 +15,7 @@ use Rattle.gg_base.proofs.Facts.{same_tail}
 use Rattle.tree_core.specs.declared.program.Object.{Object}
 use Rattle.tree_core.specs.declared.program.Link.{Link}
 use Rattle.tree_core.specs.Valid.{is_aligned, is_whole, is_placed, rounded, object_lies}
+use Rattle.tree_core.proofs.Validity.{rounded_up}
 use Rattle.c_tokens.specs.Letters.{is_letter, in_word}
 use Rattle.c_tokens.specs.Grammar.{Pass}
 use Rattle.c_typed_scope.specs.declared.entry.Entry.{Entry}
@@ -129,14 +130,6 @@ addresses_held : (os : List Object) (o : Object) → Contains (places_of os) (co
 addresses_held os o h = All-weaker (Addressed (places_of os) o.bytes) (HoldsAddress os o.bytes) (address_held os o.bytes) o.links h.links
 
 -- each object takes a byte, so there are no more of them than bytes
-rounded_up : (align at : ℕ) → ((align == 1) || ((align == 2) || (align == 4))) ≡ true → at ≤ rounded align at
-rounded_up align at h = by (align == 1) (align == 2) (align == 4) refl refl refl h
-  where
-    by : (a b c : Bool) → (align == 1) ≡ a → (align == 2) ≡ b → (align == 4) ≡ c → (a || (b || c)) ≡ true → at ≤ rounded align at
-    by true b c e f g k = let is : align ≡ 1 = eqb-true align 1 e in rw is (omega arith)
-    by false true c e f g k = let is : align ≡ 2 = eqb-true align 2 f in rw is (omega arith)
-    by false false true e f g k = let is : align ≡ 4 = eqb-true align 4 g in rw is (omega arith)
-    by false false false e f g k = absurd (cc)
 
 lies_behind : (at : ℕ) (o : Object) → object_lies at o ≡ true → (at ≤ o.address) × (o.address + o.size ≤ 1114112)
 lies_behind at o h =

@@ -5,7 +5,7 @@ use Rattle.std.specs.declared.alloc.Global.{Global}
 use Rattle.c_tokens.specs.declared.marks.Mark.TheVariants as marks
 use Rattle.c_phrases.specs.declared.operator.BinaryOperator.{BinaryOperator}
 use Rattle.c_phrases.specs.declared.operator.BinaryOperator.TheVariants as binaries
-use Rattle.c_phrases.specs.declared.tree.Expr.{Expr, Row_of-Expr, end_of-Expr, more_of-Expr, items-the_row-Expr}
+use Rattle.c_phrases.specs.declared.tree.Expr.{Expr}
 use Rattle.c_phrases.specs.declared.tree.Expr.TheBlock.{hidden-the_row-Expr-0, items_hidden-the_row-Expr-0}
 use Rattle.c_phrases.specs.declared.tree.Expr.TheVariants.{Call}
 use Rattle.c_phrases.specs.Classes.{Placed, sign}
@@ -21,9 +21,10 @@ use Rattle.c_phrases.specs.declared.operator.Spec.TheVariants as specs
 use Rattle.std.specs.Prelude.{Option, Some, None, true}
 use Rattle.std.proofs.lemmas.Bool.Decides.{nat_tests}
 use Rattle.c_phrases.specs.Levels.{LowExp, LowExps, limit}
-use Rattle.c_phrases.specs.Shapes.{exp, exps_row, exp_list}
+use Rattle.c_phrases.specs.Shapes.{exp, exp_list}
 use Rattle.c_phrases.specs.Fronts.{Quiet, mark_strength}
 use Rattle.c_phrases.specs.Takes.{NoBinary}
+use Rattle.c_phrases.proofs.Rows.{exps_row_is}
 use Rattle.c_syntax.proofs.Stops.{quiet_unjoined}
 use Rattle.c_syntax_goals.proofs.PhraseLaws.{lower, binary_strength, level_top, quieter, limit_low}
 use Rattle.c_syntax_goals.specs.Goals.{Want, CallTail}
@@ -31,12 +32,9 @@ use Rattle.c_syntax.specs.Leads.{Leads}
 use Rattle.c_syntax.specs.Reads.{IsPart, IsRead, IsMore, Ready, IsSome, ArgumentsSoFar, ReadsArguments}
 
 -- a call's arguments as a list
-exps_is : (c : _) (row : Row_of-Expr c) → exps_row row ≡ exp_list (items-the_row-Expr c row)
-exps_is c end_of-Expr = refl
-exps_is c (more_of-Expr e rest) = ap (exps (exp e)) (exps_is _ rest)
 
 pub call_is : (n : List ℕ) (at o : ℕ) (list : Vec Expr Global) → exp (Call n at o list) ≡ call n at o (exp_list list.items)
-call_is n at o list = ap (call n at o) (exps_is _ (hidden-the_row-Expr-0 list) ∙ ap exp_list (items_hidden-the_row-Expr-0 list))
+call_is n at o list = ap (call n at o) (exps_row_is _ (hidden-the_row-Expr-0 list) ∙ ap exp_list (items_hidden-the_row-Expr-0 list))
 
 pub call_as : (n m : ℕ) (f : List ℕ) (at o : ℕ) (ts : List Placed) (list : Vec Expr Global) (rest : List Placed) → IsPart n ts (call f at o (exp_list list.items)) rest m
     → IsPart n ts (exp (Call f at o list)) rest m

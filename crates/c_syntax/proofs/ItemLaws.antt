@@ -13,7 +13,6 @@ use Rattle.c_phrases.specs.declared.operator.Storage.TheVariants as storages
 use Rattle.c_phrases.specs.declared.tree.Item.{Item}
 use Rattle.c_phrases.specs.declared.tree.Item.TheVariants.{Local, Statement}
 use Rattle.c_phrases.specs.declared.tree.Item.TheBlock.{hidden-the_row-Item-0, items_hidden-the_row-Item-0}
-use Rattle.c_phrases.specs.declared.tree.Statement.{Row_of-Item, end_of-Item, more_of-Item, items-the_row-Item}
 use Rattle.c_phrases.specs.declared.tree.Statement.TheVariants.{Block}
 use Rattle.c_phrases.specs.Classes.{Placed, word, sign}
 use Rattle.c_phrases.specs.Phrases.{AnExp}
@@ -26,17 +25,14 @@ use Rattle.c_phrases.specs.UnitSpelling.{onto_part, onto_condition, onto_stateme
 use Rattle.c_phrases.specs.UnitSpelling.{onto_storage, onto_declarators, onto_more_declarators}
 use Rattle.c_phrases.specs.Fits.{ItemsFit}
 use Rattle.c_phrases.specs.UnitLevels.{LowItems}
-use Rattle.c_phrases.specs.UnitShapes.{local_of, statement_of, item_onto, items_row, items_of}
+use Rattle.c_phrases.specs.UnitShapes.{local_of, statement_of, item_onto, items_of}
+use Rattle.c_phrases.proofs.Rows.{items_row_is}
 use Rattle.c_syntax.specs.Stands.{ReadsItems, ReadsStatement}
 use Rattle.c_syntax.proofs.ExpressionLaws.{longer_exp}
 use Rattle.c_syntax.proofs.ListLaws.{longer_declarator}
 
-row_is : (c : _) (row : Row_of-Item c) → items_row row ≡ items_of (items-the_row-Item c row)
-row_is c end_of-Item = refl
-row_is c (more_of-Item i rest) = ap (item_onto i) (row_is _ rest)
-
 pub block_is : (body : Vec Item Global) → statement_of (Block body) ≡ block (items_of body.items)
-block_is body = ap block (row_is _ (hidden-the_row-Item-0 body) ∙ ap items_of (items_hidden-the_row-Item-0 body))
+block_is body = ap block (items_row_is _ (hidden-the_row-Item-0 body) ∙ ap items_of (items_hidden-the_row-Item-0 body))
 
 pub block_read : (n m : ℕ) (ts inner rest : List Placed) (body : Vec Item Global) → ts ≡ sign marks.OpenBrace 0 ∷ inner → (m ≡ n + 1) × (n + 1 ≤ 200)
     → ReadsItems m inner (items_of body.items) (sign marks.CloseBrace 0 ∷ rest) → ReadsStatement n ts (statement_of (Block body)) rest

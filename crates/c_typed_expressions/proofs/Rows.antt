@@ -7,7 +7,7 @@ use Rattle.std.specs.Prelude.{slice_get}
 use Rattle.std.proofs.lemmas.List.{drop_more, nil_from_length}
 use Rattle.std.proofs.lemmas.Option.{slice_get_read, slice_get_past}
 use Rattle.std.specs.Prelude.{nat_lt}
-use Rattle.c_phrases.specs.declared.tree.Expr.{Expr, Row_of-Expr, end_of-Expr, more_of-Expr, items-the_row-Expr}
+use Rattle.c_phrases.specs.declared.tree.Expr.{Expr}
 use Rattle.c_phrases.specs.declared.tree.Expr.TheBlock.{hidden-the_row-Expr-0, items_hidden-the_row-Expr-0}
 use Rattle.c_phrases.specs.declared.tree.Expr.TheVariants as exprs
 use Rattle.c_types.specs.declared.types.CType.{CType}
@@ -24,17 +24,14 @@ use Rattle.c_typed_operators.specs.Rules.{fits}
 use Rattle.c_typed_scope.specs.declared.entry.Entry.{Entry}
 use Rattle.c_typed_scope.specs.declared.entry.Signature.{Signature}
 use Rattle.c_typed_scope.specs.Answers.{Turns}
-use Rattle.c_phrases.specs.Phrases.{call, exps}
-use Rattle.c_phrases.specs.Shapes.{exp, exps_row, exp_list}
+use Rattle.c_phrases.specs.Phrases.{call}
+use Rattle.c_phrases.specs.Shapes.{exp, exp_list}
+use Rattle.c_phrases.proofs.Rows.{exps_row_is}
 use Rattle.c_typed_scope.specs.Scopes.{Scope}
 use Rattle.c_typed_scope.specs.Layout.{Area}
 use Rattle.c_typed_expressions.specs.Phrases.{first}
 use Rattle.c_typed_expressions.specs.Calls.{count, callee_of, called, unfit}
 use Rattle.c_typed_expressions.specs.Expressions.{callee, type_exp, type_exps}
-
-exps_row_is : (c : _) (row : Row_of-Expr c) → exps_row row ≡ exp_list (items-the_row-Expr c row)
-exps_row_is c end_of-Expr = refl
-exps_row_is c (more_of-Expr e rest) = ap (exps (exp e)) (exps_row_is _ rest)
 
 pub exp_call : (n : List ℕ) (at opened : ℕ) (es : Vec Expr) → exp (exprs.Call n at opened es) ≡ call n at opened (exp_list es.items)
 exp_call n at opened es = ap (call n at opened) (exps_row_is _ (hidden-the_row-Expr-0 es) ∙ ap exp_list (items_hidden-the_row-Expr-0 es))

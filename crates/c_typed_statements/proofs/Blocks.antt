@@ -4,11 +4,12 @@ use Rattle.std.proofs.lemmas.List.{drop_more, drop_all}
 use Rattle.std.specs.Global.{Vec}
 use Rattle.c_phrases.specs.declared.tree.Item.{Item}
 use Rattle.c_phrases.specs.declared.tree.Item.TheVariants as item
-use Rattle.c_phrases.specs.declared.tree.Statement.{Statement, Row_of-Item, end_of-Item, more_of-Item, items-the_row-Item}
+use Rattle.c_phrases.specs.declared.tree.Statement.{Statement}
 use Rattle.c_phrases.specs.declared.tree.Item.TheBlock.{hidden-the_row-Item-0, items_hidden-the_row-Item-0}
 use Rattle.c_phrases.specs.declared.tree.Statement.TheVariants as statement
 use Rattle.c_phrases.specs.Units.{block, no_items}
-use Rattle.c_phrases.specs.UnitShapes.{statement_of, item_onto, items_row, items_of}
+use Rattle.c_phrases.specs.UnitShapes.{statement_of, item_onto, items_of}
+use Rattle.c_phrases.proofs.Rows.{items_row_is}
 use Rattle.c_types.specs.declared.types.CType.{CType}
 use Rattle.c_types.specs.declared.fault.TypeFault.{TypeFault}
 use Rattle.c_types.specs.declared.fault.TypeFault.TheVariants.{NoMemory, At}
@@ -23,10 +24,6 @@ use Rattle.c_typed_definition.specs.State.{State}
 use Rattle.c_program.specs.Statements.{AnAction, SomeActions, NoActions, MoreActions, DeclareOf, BlockOf, act, acts}
 use Rattle.c_typed_statements.specs.Views.{scoped}
 use Rattle.c_typed_definition.specs.Statements.{entered, left, type_item, type_items, type_statement}
-
-items_row_is : (c : _) (row : Row_of-Item c) → items_row row ≡ items_of (items-the_row-Item c row)
-items_row_is c end_of-Item = refl
-items_row_is c (more_of-Item i rest) = ap (item_onto i) (items_row_is _ rest)
 
 pub block_is : (s : Statement) (row : Vec Item) (list : List Item) → s ≡ statement.Block row → list ≡ row.items → statement_of s ≡ block (items_of list)
 block_is s row list is same = ap statement_of is ∙ ap block (items_row_is _ (hidden-the_row-Item-0 row) ∙ ap items_of (items_hidden-the_row-Item-0 row ∙ sym same))

@@ -1,5 +1,5 @@
 -- The tokens of bytes are tokens of the grammar, and there is at most one more than bytes.
-use Rattle.std.proofs.Common.{◌≡◌, ◌≢◌, ◌<◌, ◌≤◌, ◌^◌, ℕ, zero, suc, ◌+◌, ◌-◌, ◌∙◌, ◌==◌, Bool, true, false, List, [], ◌∷◌, ◌++◌, length, drop, Option, Some, None, refl, sym, ap}
+use Rattle.std.proofs.Common.{◌≡◌, ◌≢◌, ◌<◌, ◌≤◌, ◌^◌, ℕ, ◌+◌, ◌-◌, ◌∙◌, ◌==◌, Bool, true, false, List, [], ◌∷◌, ◌++◌, length, Option, Some, None, refl, sym, ap}
 use Rattle.std.proofs.Common.{subst, length-drop, arith}
 use Rattle.std.proofs.lemmas.Bool.Decides.{nat_tests}
 use Rattle.std.specs.Prelude.{◌||◌, nat_lt, if◌then◌else◌}
@@ -19,16 +19,12 @@ use Rattle.c_phrases.specs.Classes.{seen}
 use Rattle.c_phrases.specs.Units.{AUnit}
 use Rattle.c_phrases.specs.Grammar.{IsUnit}
 use Rattle.c_sound.specs.Fits.{AreBytes}
+use Rattle.c_sound.proofs.Bytes.{bytes_drop}
 use Rattle.c_typed_words.specs.Words.{BeginsWord, IsName, IsToken, EachIs, HasTokens}
 
 bytes_behind : (xs ys : List ℕ) → AreBytes (xs ++ ys) → AreBytes ys
 bytes_behind [] ys h = h
 bytes_behind (x ∷ xs) ys h = bytes_behind xs ys h.1
-
-bytes_drop : (n : ℕ) (bs : List ℕ) → AreBytes bs → AreBytes (drop n bs)
-bytes_drop zero bs h = h
-bytes_drop (suc n) [] h = tt
-bytes_drop (suc n) (b ∷ bs) h = bytes_drop n bs h.1
 
 -- the byte of an escape
 one_of : (test : Bool) (x v : ℕ) (o : Option ℕ) → x < 256 → (o ≡ Some v → v < 256) → (if test then Some x else o) ≡ Some v → v < 256

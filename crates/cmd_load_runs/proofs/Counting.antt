@@ -6,6 +6,7 @@ use Rattle.vax_machine.specs.declared.turn.Stop.TheVariants as stops
 use Rattle.vax_machine.specs.State.{State}
 use Rattle.vax_machine.specs.Step.{Next, Goes, Writes, Stops, step_of, IsStep}
 use Rattle.vax_machine.specs.Running.{behind, steps}
+use Rattle.vax_machine.proofs.Stepping.{one_step}
 
 -- what was written and counted so far, and what is left, make the whole
 pub record Stands (whole : Outcome) (out : List ℕ) (done : ℕ) (rest : Outcome) : Type 0 where
@@ -50,19 +51,16 @@ wrote m k b (Stops (stops.Ended v)) step = absurd (let e = step.0 in cc)
 wrote m k b (Stops stops.Trapped) step = absurd (let e = step.0 in cc)
 wrote m k b (Stops (stops.Broken kind)) step = absurd (let e = step.0 in cc)
 
-next : (m : State) (n i : ℕ) → i < n → steps (n - i) m ≡ one_first (behind (step_of m) (steps (n - (i + 1))))
-next m n i lt = let e : n - i ≡ suc (n - (i + 1)) = omega arith in ap (λ (k : ℕ). steps k m) e
-
 -- so many steps of at most n are done
 abbrev pub Does : Outcome → ℕ → List ℕ → ℕ → State → Type 0
 Does whole n out i m = Stands whole out i (steps (n - i) m)
 
 pub went : (whole : Outcome) (n i : ℕ) (out : List ℕ) (m m' : State) → i < n → IsStep turns.Going m' (step_of m) → Does whole n out i m → Does whole n out (i + 1) m'
 went whole n i out m m' lt step h =
-    counted whole out i _ _ (next m n i lt ∙ ap one_first (going m' (n - (i + 1)) (step_of m) step)) h
+    counted whole out i _ _ (one_step m n i lt ∙ ap one_first (going m' (n - (i + 1)) (step_of m) step)) h
 
 pub put : (whole : Outcome) (n i b : ℕ) (out : List ℕ) (m m' : State) → i < n → IsStep (turns.Wrote b) m' (step_of m) → Does whole n out i m →
     Does whole n (out ++ b ∷ []) (i + 1) m'
 put whole n i b out m m' lt step h =
     written whole out (i + 1) b _ _ refl
-    (counted whole out i _ (byte_first b (steps (n - (i + 1)) m')) (next m n i lt ∙ ap one_first (wrote m' (n - (i + 1)) b (step_of m) step)) h)
+    (counted whole out i _ (byte_first b (steps (n - (i + 1)) m')) (one_step m n i lt ∙ ap one_first (wrote m' (n - (i + 1)) b (step_of m) step)) h)

@@ -1,10 +1,11 @@
 -- Laws of arithmetic on 32 bits.
-use Rattle.std.proofs.Common.{◌≡◌, ℕ, ◌+◌, ◌-◌, ◌*◌, ◌/◌, ◌%◌, ◌^◌, ◌<◌, ◌≤◌, ◌==◌, Bool, true, false, ◌⊎◌, inl, inr, ap, ◌∙◌, arith}
+use Rattle.std.proofs.Common.{◌≡◌, ℕ, ◌+◌, ◌-◌, ◌*◌, ◌/◌, ◌%◌, ◌^◌, ◌<◌, ◌≤◌, ◌==◌, Bool, true, false, ◌⊎◌, inl, inr, refl, ap, ◌∙◌, arith}
 use Rattle.std.specs.Prelude.{nat_lt, min, if◌then◌else◌, Some, None}
 use Rattle.std.specs.Option.{unwrap_or}
 use Rattle.std.proofs.Math.Nat.{mul_comm, div-le_self}
 use Rattle.std.proofs.Math.Pow.{pow_mono}
 use Rattle.std.proofs.lemmas.Nat.{and_le_l, and_comm, and_mask, shr_le}
+use Rattle.std.proofs.lemmas.Bool.{ne_eqb}
 use Rattle.std.proofs.lemmas.Bool.Decides.{nat_tests}
 use Rattle.gg_base.specs.declared.size.Size.{Size}
 use Rattle.gg_base.specs.declared.size.Size.TheVariants.{Byte, Word, Long}
@@ -12,6 +13,9 @@ use Rattle.gg_base.specs.Sizes.{bytes_of}
 use Rattle.gg_base.specs.Arithmetic.{add32, sub32, mul32, and32, neg32, com32, zext8, zext16, sext8, sext16, is_negative, magnitude, same_sign, div32, shifted_left, shifted_right, ash32}
 
 -- results are below 2^32
+
+pub zero_small : 0 < 2 ^ 32
+zero_small = omega arith
 
 pub zext8_small : (a : ℕ) → zext8 a < 2 ^ 32
 zext8_small a = omega arith
@@ -58,6 +62,16 @@ div_small_by false false q h = omega arith
 
 pub div_small : (a b : ℕ) → a < 2 ^ 32 → unwrap_or (div32 a b) 0 < 2 ^ 32
 div_small a b h = div_small_by (b == 0) (same_sign a b) (magnitude a / magnitude b) (quotient_small a b h)
+
+some_quotient_by : (zero same : Bool) (p q : ℕ) → zero ≡ false →
+    (if zero then None else if same then Some p else Some q) ≡ Some (unwrap_or (if zero then None else if same then Some p else Some q) 0)
+some_quotient_by true same p q e = absurd (cc)
+some_quotient_by false true p q e = refl
+some_quotient_by false false p q e = refl
+
+-- a quotient by another number than 0
+pub some_quotient : (x y : ℕ) → (y ≡ 0 → ⊥) → div32 x y ≡ Some (unwrap_or (div32 x y) 0)
+some_quotient x y h = some_quotient_by (y == 0) (same_sign x y) (magnitude x / magnitude y) (neg32 (magnitude x / magnitude y)) (ne_eqb y 0 h)
 
 -- sums and products
 

@@ -1,6 +1,6 @@
 -- What the parts of a program's trees need: objects within the data area, and locals within a frame.
-use Rattle.std.proofs.Common.{◌≡◌, ◌⊎◌, ℕ, ◌+◌, ◌<◌, ◌≤◌, Bool, true, false, List, [], ◌∷◌, length, get_or, Some, None, refl, ap, subst, inl, inr, arith}
-use Rattle.std.specs.Prelude.{◌==◌, ◌&&◌, ◌||◌, nat_le, slice_get}
+use Rattle.std.proofs.Common.{◌≡◌, ◌⊎◌, ℕ, ◌+◌, ◌<◌, ◌≤◌, true, List, [], ◌∷◌, length, get_or, Some, None, refl, ap, subst, inl, inr, arith}
+use Rattle.std.specs.Prelude.{◌==◌, ◌&&◌, nat_le, slice_get}
 use Rattle.std.specs.List.{All}
 use Rattle.std.proofs.Math.Logic.{∥∥₁_map, ∥∥₁_elim}
 use native.Mathlib.Bridge.{le_prop}
@@ -11,20 +11,12 @@ use Rattle.tree_core.specs.declared.program.Object.{Object}
 use Rattle.tree_core.specs.declared.program.TreeFn.{TreeFn}
 use Rattle.tree_core.specs.declared.program.TreeProgram.{TreeProgram}
 use Rattle.tree_core.specs.Valid.{is_aligned, is_whole, is_placed, rounded, object_lies, objects_lie, IsValid}
+use Rattle.tree_core.proofs.Validity.{rounded_up}
 use Rattle.c_program.specs.Programs.{ARoutine, AProgram}
 use Rattle.c_program.specs.Need.{need_of}
 use Rattle.c_typed_check.specs.Typed.{need_at, need_in}
 use Rattle.c_lower.specs.Claims.{HasParts}
 use Rattle.gg_compile.specs.Needs.{AllFit}
-
-rounded_up : (align at : ℕ) → ((align == 1) || ((align == 2) || (align == 4))) ≡ true → at ≤ rounded align at
-rounded_up align at h = by (align == 1) (align == 2) (align == 4) refl refl refl h
-  where
-    by : (a b c : Bool) → (align == 1) ≡ a → (align == 2) ≡ b → (align == 4) ≡ c → (a || (b || c)) ≡ true → at ≤ rounded align at
-    by true b c e f g k = let is : align ≡ 1 = eqb-true align 1 e in rw is (omega arith)
-    by false true c e f g k = let is : align ≡ 2 = eqb-true align 2 f in rw is (omega arith)
-    by false false true e f g k = let is : align ≡ 4 = eqb-true align 4 g in rw is (omega arith)
-    by false false false e f g k = absurd (cc)
 
 -- an object behind an address, and the bytes that it has
 lies : (at : ℕ) (o : Object) → object_lies at o ≡ true → (at ≤ o.address) × (o.address + o.size ≤ 1114112) × (length o.bytes ≡ o.size)

@@ -16,6 +16,7 @@ use Rattle.sel_parse_desk.specs.Selected.{tree_of}
 use Rattle.sel_parse_desk.specs.Selected as desk
 use Rattle.sel_parse_selected.specs.Selected.{Selected}
 use Rattle.sel_parse_effect.specs.Claims.{IsFit}
+use Rattle.sel_parse_effect.proofs.Growing.{larger as larger_left}
 use Rattle.sel_parse_lines.proofs.Words.{selections_use_few_words, larger}
 use Rattle.sel_parse_joined.proofs.Law.{same_code}
 use Rattle.vax_core.specs.declared.code.Instr.{Instr}
@@ -32,9 +33,6 @@ use Rattle.gg_compile_effect.proofs.Law.{all_taken, selected_trees_have_effect}
 use Rattle.gg_compile_code.specs.Selecting.{AreSelected, nothing, label, tree}
 use Rattle.gg_compile_keeps.specs.Programs.{IsSelectable}
 use Rattle.gg_compile_keeps.proofs.Leaves.{tree_own}
-
-larger_left : (n m : ℕ) → n ≤ larger_of n m
-larger_left n m = grind (arith, nat_tests)
 
 larger_right : (n m : ℕ) → m ≤ larger_of n m
 larger_right n m = grind (arith, nat_tests)

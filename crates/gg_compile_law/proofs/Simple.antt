@@ -37,6 +37,7 @@ use Rattle.vax_machine_lists.specs.Sound.{AllBelow}
 use Rattle.vax_states.specs.Agreeing.{Agrees}
 use Rattle.vax_core.specs.Homes.{home}
 use Rattle.vax_machine_lists.specs.Instructions.{Course, Comes, Goes, Calls as CallsOut, one_byte, ends, comes, course_of, followed, performed, exec}
+use Rattle.vax_machine_lists.proofs.Soundness.{conditions_sound}
 use Rattle.gg_compile_law.specs.Effects.{label_name, Does, IsReady, HasEffect}
 use Rattle.vax_frames.specs.Frames.{function_label}
 use Rattle.gg_compile_law.specs.Demo.{jump_code, call_code}
@@ -46,12 +47,12 @@ use Rattle.vax_states.proofs.Touching.{stack_read}
 use Rattle.vax_states.proofs.Keeping.{sound_register, reg_small}
 use Rattle.vax_states.proofs.Standing.{kept, rebuilt, register_kept, high_top, free_below, push_written, local_written, fp_low, fp_high_is}
 use Rattle.vax_frames_law.proofs.Entering.{dropped}
-use Rattle.vax_frames_law.proofs.FrameCode.{sound_conditions, end_is, end_agrees, end_result}
+use Rattle.vax_frames_law.proofs.FrameCode.{end_is, end_agrees, end_result}
 
 module _ (objects : List Object) (e : Extent) (es : List Extent) (t : Trees) (m : State) (h : Agrees objects e es t m) where
   -- the condition codes don't matter
   pub agrees_codes : (c : Conditions) → Agrees objects e es t (with_conditions m c)
-  agrees_codes c = kept objects e es t m h (with_conditions m c) (sound_conditions m c h.sound) refl refl refl refl refl refl refl (λ a from. refl)
+  agrees_codes c = kept objects e es t m h (with_conditions m c) (conditions_sound m c h.sound) refl refl refl refl refl refl refl (λ a from. refl)
 
   -- nor the last call's result
   pub agrees_result : (v : ℕ) → Agrees objects e es (with_result t v) m

@@ -1,26 +1,16 @@
 -- The code that is selected of a C program's trees keeps the program.
-use Rattle.std.proofs.Common.{◌≡◌, ℕ, List, [], ◌∷◌, length, map, refl, sym, ap, subst}
-use Rattle.tree_core.specs.declared.program.TreeFn.{TreeFn}
-use Rattle.c_program.specs.Programs.{ARoutine, AProgram}
-use Rattle.c_sound.specs.Labels.{AreLabelled}
+use Rattle.c_program.specs.Programs.{AProgram}
 use Rattle.c_sound.specs.Sound.{IsSound}
 use Rattle.c_meaning.specs.Programs.{source}
-use Rattle.c_lower_scheme.specs.Programs.{body_of, lower_all, lowered}
+use Rattle.c_lower_scheme.specs.Programs.{lowered}
 use Rattle.c_lower_follows.proofs.Law.{lowering_follows}
 use Rattle.c_lower_valid.proofs.Law.{lowered_is_valid}
+use Rattle.c_lower_valid.proofs.Naming.{labels_stay}
 use Rattle.c_lower_calm.proofs.Law.{each_tree_is_calm}
 use Rattle.gg_compile_keeps.specs.Programs.{IsSelectable}
 use Rattle.gg_compile_keeps.proofs.Law.{selected_codes_keep_trees}
 use Rattle.gg_compile_laws.specs.Keeping.{IsWithinLimits, SelectedCodesKeepPrograms}
 use Rattle.gg_compile_laws.proofs.Objects.{all_below, hold_numbers, are_apart, objects_named}
-
--- names stay
-names_stay : (count : ℕ) (gs : List ARoutine) (l : ℕ) → map (λ (f : TreeFn). f.name) (lower_all count gs l) ≡ map (λ (g : ARoutine). g.name) gs
-names_stay count [] l = refl
-names_stay count (g ∷ gs) l = ap (λ (ns : List (List ℕ)). g.name ∷ ns) (names_stay count gs (body_of count g l).labels)
-
-labels_stay : (p : AProgram) → IsSound p → AreLabelled p.objects (map (λ (f : TreeFn). f.name) (lowered p).functions)
-labels_stay p s = subst (AreLabelled p.objects) (sym (names_stay (length p.routines) p.routines 0)) s.labels
 
 selectable : (p : AProgram) → IsSound p → IsWithinLimits (lowered p) → IsSelectable (lowered p)
 selectable p s limits =

@@ -2,6 +2,7 @@
 use Rattle.std.proofs.Common.{◌≡◌, ℕ, zero, suc, ◌-◌, ◌==◌, List, [], ◌∷◌, Option, Some, None, Bool, true, false, cond, refl, ap}
 use Rattle.std.specs.Prelude.{nat_lt, nat_le, is_none, slice_get}
 use Rattle.std.specs.List.{AllByRecursion as All}
+use Rattle.gg_base.proofs.Facts.{none_is as is_none_is}
 use Rattle.tree_core.specs.declared.token.Tok.{Tok}
 use Rattle.tree_core.specs.declared.token.Tok.TheVariants as tok
 use Rattle.tree_core.specs.declared.tree.Att.{Att}
@@ -31,10 +32,6 @@ use Rattle.sel_parse_lines.specs.Claims.{Lasts}
 
 no_some : {X : Type 0} (x : X) → ◌≡◌ {A = Option X} (Some x) None → ⊥
 no_some x e = cc
-
-pub is_none_is : {X : Type 0} (o : Option X) → is_none o ≡ true → o ≡ None
-is_none_is None e = refl
-is_none_is (Some x) e = absurd (cc)
 
 pub none_is : {X : Type 0} (o : Option X) → o ≡ None → is_none o ≡ true
 none_is o e = ap is_none e

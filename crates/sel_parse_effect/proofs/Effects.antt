@@ -26,6 +26,7 @@ use Rattle.term_core.specs.Facts.{same_as}
 use Rattle.sel_terms.specs.Effects.{ActShape, EffectShape, Value, Number, Address, PlaceHome, PlaceAt, StoreHome, StoreAt, Branch, Push, Call, Save, Return, Jump, norm_effect}
 use Rattle.sel_terms.specs.Reading.{effect_read}
 use Rattle.sel_terms.specs.RuleFacts.{size_of_some, size_of_kind, size_of_symbol, size_at, facts_of}
+use Rattle.sel_terms.proofs.Facts.{size_behind}
 use Rattle.sel_target.specs.declared.attr.Attr.{Attr}
 use Rattle.sel_target.specs.declared.attr.Attr.TheVariants as attr
 use Rattle.sel_target.specs.Meaning.{Meaning, Extent}
@@ -46,7 +47,7 @@ use Rattle.sel_parse_selected.specs.Entries.{Entry, constant_of, token_number}
 use Rattle.sel_parse_selected.specs.Selected.{selecting}
 use Rattle.sel_parse_selected.specs.Entries.{spelled, same_operands, size_of_entry}
 use Rattle.sel_parse_stands.specs.Stands.{Sees, IsFrame, SymbolIs, ClassIs}
-use Rattle.sel_parse_stands.proofs.Instances.{Hold, hs_of, symbol_by, view, symbol_at_small, size_suc}
+use Rattle.sel_parse_stands.proofs.Instances.{Hold, hs_of, symbol_by, view, symbol_at_small}
 use Rattle.sel_parse_stands.specs.Stands as stands
 use Rattle.md_reader.specs.Patterns.{kind_at}
 
@@ -654,7 +655,7 @@ module _ {O I S F : Type 0} (of : Meaning O I S F) (law : IsLawful of) (q : Tree
 
     tells_small : (z : Size) (i : ℕ) → (z ≡ Long → ⊥) → 0 < 2 ^ (8 * bytes_of z) → size_at d.classes rule.right i ≡ z → (term_state V).symbol i < 2 ^ (8 * bytes_of z)
     tells_small z zero short lt e = absurd (short (sym e))
-    tells_small z (suc i) short lt e = small_or i z (by_index i) refl (sym (size_suc d rule.right i) ∙ e) lt
+    tells_small z (suc i) short lt e = small_or i z (by_index i) refl (sym (size_behind d.classes rule.right i) ∙ e) lt
 
     tells : Tells (selecting of q d first) d.classes rule es (term_state V)
     tells = record {

@@ -42,7 +42,7 @@ on a b c k m n g h = record {
   grows = (let x = g.grows in let y = h.grows in omega (arith, x, y));
 }
 
-larger : (n k : ℕ) → n ≤ larger_of n k
+pub larger : (n k : ℕ) → n ≤ larger_of n k
 larger n k = grind (arith, nat_tests)
 
 module _ {O I S F : Type 0} (of : Meaning O I S F) (q : TreeProgram) (d : Content) (first : ℕ) where

@@ -37,6 +37,7 @@ use Rattle.sel_terms.specs.Effects.{ActShape, Value, Number, Address, PlaceHome,
 use Rattle.sel_terms.specs.Reading.{effect_read, stack_from}
 use Rattle.sel_terms.specs.Wanted.{whole, first_part}
 use Rattle.sel_terms.specs.RuleFacts.{facts_of}
+use Rattle.sel_terms.proofs.Facts.{same_Value}
 use Rattle.sel_terms_meaning.specs.Alike.{ActsAlike}
 use Rattle.sel_terms_trees.specs.Senses.{Sense, OfLeaf, OfNumber, OfPlace, IsPlace, unknown, means_at, StandsFor}
 use Rattle.sel_terms_trees.specs.Effects.{Gives, GivesBy}
@@ -205,9 +206,6 @@ const_number tok.End a c e = absurd (cc)
 number_same : (n k : ℕ) → OfNumber n ≡ OfNumber k → n ≡ k
 number_same n k e = cc
 
-value_same : (t u : Shape) → Value t ≡ Value u → t ≡ u
-value_same t u e = cc
-
 number_term : (t u : Shape) → Number t ≡ Number u → t ≡ u
 number_term t u e = cc
 
@@ -342,7 +340,7 @@ module _ {O I S F : Type 0} (of : Meaning O I S F) (law : IsLawful of) (q : Tree
           let val = value_alike true View0 (λ i. Rattle.std.specs.Prelude.is_some (View0.symbol i)) (λ i. refl) (facts_of d.classes rule) s.area frame.area shown.found.act
           (giving.wanted_term of law q valid d first f fs t s m0 frame rule)
           (subst (ActsAlike (facts_of d.classes rule) (λ i. Rattle.std.specs.Prelude.is_some (View0.symbol i)) s.area (term_state View0) shown.found.act) act_is al.act) in
-          let term_is : val.term ≡ Symbol (suc j) = value_same val.term (Symbol (suc j))
+          let term_is : val.term ≡ Symbol (suc j) = same_Value val.term (Symbol (suc j))
           (sym val.is ∙ law.shapes.register_shape d.classes rule shown.found (suc j) l shown.found_is mode is pieces) in
           let small = law.reads.reads_small q f fs t (of.register r) Long n m' later.seen.agrees reads in
           let number : value View0 (giving.wanted_term of law q valid d first f fs t s m0 frame rule) ≡ n =

@@ -1,10 +1,8 @@
 -- A rule with entries that stand for senses is an instance of the target's.
-use Rattle.std.proofs.Common.{◌≡◌, ℕ, zero, suc, ◌-◌, ◌*◌, ◌%◌, ◌^◌, ◌<◌, ◌==◌, List, [], ◌∷◌, Option, Some, None, Bool, true, false, refl, sym, ap, ◌∙◌, subst, arith, slice_get}
-use Rattle.std.specs.Prelude.{IsSome, option_and_then, unwrap_or, slice_index_or, Ok, cond}
+use Rattle.std.proofs.Common.{◌≡◌, ℕ, zero, suc, ◌*◌, ◌%◌, ◌^◌, ◌<◌, List, [], ◌∷◌, Option, Some, None, Bool, true, refl, sym, ap, ◌∙◌, subst, slice_get}
+use Rattle.std.specs.Prelude.{IsSome, option_and_then, unwrap_or, slice_index_or, Ok}
 use Rattle.std.specs.List.{AllByRecursion as All}
-use Rattle.std.proofs.lemmas.Bool.{eqb-true}
 use Rattle.std.proofs.lemmas.Option.{none-some, same_Some}
-use Rattle.gg_base.specs.declared.size.Size.TheVariants.{Long}
 use Rattle.gg_base.specs.Sizes.{bytes_of}
 use Rattle.gg_base.proofs.Words.{low_long}
 use Rattle.tree_core.specs.declared.program.TreeProgram.{TreeProgram}
@@ -20,6 +18,7 @@ use Rattle.md_reader.specs.State.{Content}
 use Rattle.md_reader.specs.Valid.{IsRule}
 use Rattle.sel_terms.specs.Effects.{EffectShape}
 use Rattle.sel_terms.specs.RuleFacts.{size_of_some, size_at}
+use Rattle.sel_terms.proofs.Facts.{size_behind}
 use Rattle.sel_target.specs.declared.attr.Attr.{Attr}
 use Rattle.sel_target.specs.Meaning.{Meaning, Extent}
 use Rattle.sel_target.specs.Values.{View, term_state, IsReadWhere, worth, own_operand}
@@ -34,13 +33,6 @@ use Rattle.sel_parse_stands.specs.Stands.{SymbolIs, Sees, IsFrame, Holds}
 use Rattle.sel_parse_stands.proofs.Loaded.{AllLoaded}
 use Rattle.sel_parse_stands.proofs.Carrying.{AllCarried, carried_at}
 use Rattle.sel_parse_stands.proofs.Symbols.{symbol_reads, symbol_small, symbol_fits, symbol_spells, symbol_whole, symbol_homes}
-
-pub size_suc : (d : Content) (right : List Sym) (j : ℕ) → size_at d.classes right (suc j) ≡ size_of_some d.classes (slice_get right j)
-size_suc d right j = by (suc j == 0) refl where
-  by : (b : Bool) → (suc j == 0) ≡ b → size_at d.classes right (suc j) ≡ size_of_some d.classes (slice_get right j)
-  by true e = absurd (let h = eqb-true (suc j) 0 e in omega (arith, h))
-  by false e =
-      ap (λ b. cond b Long (size_of_some d.classes (slice_get right (suc j - 1)))) e ∙ ap (λ k. size_of_some d.classes (slice_get right k)) (let back : suc j - 1 ≡ j = omega arith in back)
 
 -- numbers count from 1
 abbrev pub numbered : (ℕ → Option ℕ) → ℕ → Option ℕ
@@ -183,12 +175,12 @@ module _ {O I S F : Type 0} (of : Meaning O I S F) (law : IsLawful of) (q : Tree
       values_at zero x h at e' = absurd (none-some h at)
       values_at (suc j) x h at e' =
           let r = carried_at of q d f t m m' rule.right es es' j h carried at in
-          subst (λ z. worth of q z h m' ≡ Some x) (sym (size_suc d rule.right j)) (r.carried.worth_is x (sym (worth_at es rule.right j r.before r.there) ∙ e'))
+          subst (λ z. worth of q z h m' ≡ Some x) (sym (size_behind d.classes rule.right j)) (r.carried.worth_is x (sym (worth_at es rule.right j r.before r.there) ∙ e'))
 
       small_at : (i x : ℕ) → (view es rule.right).symbol i ≡ Some x → x < 2 ^ (8 * bytes_of (size_at d.classes rule.right i))
       small_at zero x e' = absurd (none-some x e')
       small_at (suc j) x e' =
-          subst (λ z. x < 2 ^ (8 * bytes_of z)) (sym (size_suc d rule.right j)) (symbol_at_small es rule.right vs j x (slice_get (hs_of es) j) refl holds e')
+          subst (λ z. x < 2 ^ (8 * bytes_of z)) (sym (size_behind d.classes rule.right j)) (symbol_at_small es rule.right vs j x (slice_get (hs_of es) j) refl holds e')
 
       whole_at : (i : ℕ) (h : Attr O) → hole (attrs es') i ≡ Some h → IsWhole h ((view es rule.right).symbol i)
       whole_at zero h at = absurd (none-some h at)
@@ -213,5 +205,5 @@ module _ {O I S F : Type 0} (of : Meaning O I S F) (law : IsLawful of) (q : Tree
       homes_at zero h o at e' = absurd (none-some h at)
       homes_at (suc j) h o at e' =
           let r = found_now es' rule.right vs j h now at in
-          subst (λ z. IsSome (of.names o z m')) (sym (size_suc d rule.right j))
+          subst (λ z. IsSome (of.names o z m')) (sym (size_behind d.classes rule.right j))
           (subst (λ w. IsSome (of.names o (size_of_some d.classes w) m')) (sym r.3) (symbol_homes of law q d first f fs t s m0 frame m' sees' r.0 r.1 h r.2 o r.4 e'))

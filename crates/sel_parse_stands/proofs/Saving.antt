@@ -44,6 +44,7 @@ use Rattle.sel_target.specs.SavingLaws.{Saves, Reloads, operand as is_operand, r
 use Rattle.sel_terms_meaning.specs.Alike.{IsNarrowAct}
 use Rattle.sel_target.specs.Outcomes.{Keeps}
 use Rattle.sel_target.specs.Courses.{comes}
+use Rattle.sel_target.proofs.Facts.{low_is}
 use Rattle.sel_terms_trees.specs.Senses.{Sense, OfNumber, OfPlace}
 use Rattle.term_core_accesses.specs.Keeping.{IsNarrow}
 use Rattle.sel_terms_meaning.proofs.Alike.{shown_is_alike}
@@ -89,11 +90,6 @@ saved_respects k x t lt = record { bytes = bytes; words = words; counts = counts
   alike zero = refl
   alike (suc zero) = refl
   alike (suc (suc i)) = refl
-
-low_is : (z : Size) (x : ℕ) → x < 2 ^ (8 * bytes_of z) → low z x ≡ x
-low_is Byte x lt = omega (arith, lt)
-low_is Word x lt = omega (arith, lt)
-low_is Long x lt = refl
 
 record SavedTerm (y : Shape) (x : ℕ) (t : State) : Type 0 where
   worth : value (saved_view x t) y ≡ x

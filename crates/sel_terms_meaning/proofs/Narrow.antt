@@ -1,5 +1,6 @@
 -- The constants of a pattern's effect are longwords.
 use Rattle.std.proofs.Common.{ℕ, ◌+◌, ◌<◌, ◌^◌, List, [], ◌∷◌, ◌++◌, Option, Some, None, arith}
+use Rattle.gg_base.proofs.Words.{zero_small}
 use Rattle.tree_core.specs.declared.token.Tok.{Tok}
 use Rattle.tree_core.specs.declared.token.Tok.TheVariants as tok
 use Rattle.md_reader.specs.declared.types.Kind.{Kind}
@@ -39,9 +40,6 @@ AllTrees (p ∷ ps) = IsNarrowTree p × AllTrees ps
 
 small : (n : ℕ) → n < 32 → n < 2 ^ 32
 small n h = omega (arith, h)
-
-zero_small : 0 < 2 ^ 32
-zero_small = omega arith
 
 abbrev IsNarrowLeaf : LeafRole → Type 0
 IsNarrowLeaf (leaf_role.Constant n) = n < 2 ^ 32

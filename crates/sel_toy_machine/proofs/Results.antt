@@ -1,12 +1,13 @@
 -- The toy machine's templates do what their effects say.
-use Rattle.std.proofs.Common.{◌≡◌, ℕ, ◌/◌, ◌^◌, ◌<◌, ◌≤◌, ◌==◌, List, [], ◌∷◌, length, map, Option, Some, None, Bool, true, false, refl, sym, ap, ◌∙◌, subst, arith}
-use Rattle.std.specs.Prelude.{IsSome, unwrap_or, ◌&&◌, if◌then◌else◌}
+use Rattle.std.proofs.Common.{◌≡◌, ℕ, ◌^◌, ◌<◌, ◌≤◌, List, [], ◌∷◌, length, map, Option, Some, None, Bool, true, false, refl, sym, ap, ◌∙◌, subst, arith}
+use Rattle.std.specs.Prelude.{IsSome, ◌&&◌}
 use Rattle.std.specs.List.{AllByRecursion}
-use Rattle.std.proofs.lemmas.Bool.{and_parts, eqb-true, false≢true}
+use Rattle.std.proofs.lemmas.Bool.{and_parts}
 use Rattle.std.proofs.lemmas.Option.{none-some}
 use Rattle.gg_base.specs.declared.size.Size.{Size}
 use Rattle.gg_base.specs.declared.size.Size.TheVariants.{Long}
-use Rattle.gg_base.specs.Arithmetic.{add32, div32, neg32, magnitude, same_sign}
+use Rattle.gg_base.specs.Arithmetic.{add32, div32}
+use Rattle.gg_base.proofs.Words.{some_quotient}
 use Rattle.tree_core.specs.declared.program.TreeProgram.{TreeProgram}
 use Rattle.md_reader_pieces.specs.declared.piece.Line.{Line}
 use Rattle.md_reader.specs.declared.types.Kind.{Kind}
@@ -20,6 +21,7 @@ use Rattle.term_core.specs.declared.operator.BinaryOp.TheVariants as binary_op
 use Rattle.term_core.specs.Shape.{Shape, Symbol, Memory, Binary}
 use Rattle.term_core.proofs.Values.{small as term_small}
 use Rattle.sel_terms.specs.Effects.{ActShape, EffectShape, Value, Number, Address, PlaceHome, PlaceAt, StoreHome, StoreAt, Branch, Push, Call, Save, Return, Jump}
+use Rattle.sel_terms.proofs.Facts.{same_Value}
 use Rattle.sel_terms_meaning.specs.Alike.{IsNarrowEffect}
 use Rattle.sel_target.specs.declared.attr.Attr.{Attr}
 use Rattle.sel_target.specs.declared.attr.Attr.TheVariants as attr
@@ -49,9 +51,6 @@ use Rattle.sel_toy_machine.proofs.Sources.{source_taken}
 use Rattle.sel_toy_machine.proofs.Kept.{sets_register}
 use Rattle.sel_toy_machine.proofs.Taken.{Taken, by_line, by_shape, where_is, taken_by}
 use Rattle.sel_toy_machine.specs.Toy.{toy}
-
-pub value_same : (a b : Shape) → Value a ≡ Value b → a ≡ b
-value_same a b e = cc
 
 -- an act that gives no value
 abbrev NoValue : ActShape → Type 0
@@ -88,22 +87,6 @@ divide_runs : (a b : Source) (d : Destination) (m : Machine) (x y : ℕ) → tak
 divide_runs a b d m x y e g =
     ap (λ o. followed (read_then o (λ k. read_then (taken b Long m) (λ n. divided (div32 k n) (λ z. comes (put_in d z m))))) [] (run [])) e
     ∙ ap (λ o. followed (read_then o (λ n. divided (div32 x n) (λ z. comes (put_in d z m)))) [] (run [])) g
-
-not_zero : (y : ℕ) → (y ≡ 0 → ⊥) → (y == 0) ≡ false
-not_zero y some = by (y == 0) refl where
-  by : (b : Bool) → (y == 0) ≡ b → (y == 0) ≡ false
-  by true e = absurd (some (eqb-true y 0 e))
-  by false e = e
-
-quotient_by : (zero same : Bool) (a b : ℕ) → zero ≡ false →
-    (if zero then None else if same then Some a else Some b) ≡ Some (unwrap_or (if zero then None else if same then Some a else Some b) 0)
-quotient_by true same a b e = absurd (false≢true (sym e))
-quotient_by false true a b e = refl
-quotient_by false false a b e = refl
-
--- a quotient by another number than 0
-some_quotient : (x y : ℕ) → (y ≡ 0 → ⊥) → div32 x y ≡ Some (unwrap_or (div32 x y) 0)
-some_quotient x y some = quotient_by (y == 0) (same_sign x y) (magnitude x / magnitude y) (neg32 (magnitude x / magnitude y)) (not_zero y some)
 
 no_quotient : (x y : ℕ) → y ≡ 0 → div32 x y ≡ None
 no_quotient x y e = ap (div32 x) e
@@ -145,7 +128,7 @@ module _ (q : TreeProgram) (f : Extent) (fs : List Extent) (classes : List Class
   form_sets : (g : Form) (r : ℕ) (e : EffectShape) (t : Shape) → found_form classes rule g ≡ Some e → e.act ≡ Value t → I true e → DividesByNone v e → r < 12 → Setting g r t
   form_sets (form.Move size i) r e t found act inst divides lt =
       let w = where_is (gives_register rule.give && is_sized classes rule.right size i) (undivided (Value (Symbol i))) e found in
-      let is = value_same (Symbol i) t (ap (λ (x : EffectShape). x.act) w.1 ∙ act) in
+      let is = same_Value (Symbol i) t (ap (λ (x : EffectShape). x.act) w.1 ∙ act) in
       let inst' = subst (I true) (sym w.1) inst in
       let x = known true (undivided (Value (Symbol i))) inst' size i (and_parts (gives_register rule.give) (is_sized classes rule.right size i) w.0).1 inst'.read.0 in
       subst (Setting (form.Move size i) r) is
@@ -154,7 +137,7 @@ module _ (q : TreeProgram) (f : Extent) (fs : List Extent) (classes : List Class
   form_sets (form.Add i j) r e t found act inst divides lt =
       let u = undivided (Value (Binary binary_op.Add (Symbol i) (Symbol j))) in
       let w = where_is (gives_register rule.give && (is_sized classes rule.right Long i && is_sized classes rule.right Long j)) u e found in
-      let is = value_same (Binary binary_op.Add (Symbol i) (Symbol j)) t (ap (λ (x : EffectShape). x.act) w.1 ∙ act) in
+      let is = same_Value (Binary binary_op.Add (Symbol i) (Symbol j)) t (ap (λ (x : EffectShape). x.act) w.1 ∙ act) in
       let inst' = subst (I true) (sym w.1) inst in
       let s = sized_both i j w.0 in
       let x = known true u inst' Long i s.0 inst'.read.0.0 in
@@ -165,7 +148,7 @@ module _ (q : TreeProgram) (f : Extent) (fs : List Extent) (classes : List Class
   form_sets (form.Divide i j) r e t found act inst divides lt =
       let u : EffectShape = record { act = Value (Binary binary_op.Div (Symbol i) (Symbol j)); divisors = Symbol j ∷ [] } in
       let w = where_is (gives_register rule.give && (is_sized classes rule.right Long i && is_sized classes rule.right Long j)) u e found in
-      let is = value_same (Binary binary_op.Div (Symbol i) (Symbol j)) t (ap (λ (x : EffectShape). x.act) w.1 ∙ act) in
+      let is = same_Value (Binary binary_op.Div (Symbol i) (Symbol j)) t (ap (λ (x : EffectShape). x.act) w.1 ∙ act) in
       let inst' = subst (I true) (sym w.1) inst in
       let divides' = subst (DividesByNone v) (sym w.1) divides in
       let s = sized_both i j w.0 in

@@ -1,5 +1,5 @@
 -- The toy machine saves and reloads.
-use Rattle.std.proofs.Common.{◌≡◌, ℕ, ◌*◌, ◌^◌, ◌<◌, ◌==◌, [], ◌∷◌, Option, Some, None, true, refl, sym, ap, ◌∙◌, subst, arith}
+use Rattle.std.proofs.Common.{◌≡◌, ℕ, ◌*◌, ◌^◌, ◌<◌, ◌==◌, [], ◌∷◌, Option, Some, None, true, refl, sym, ap, ◌∙◌, subst}
 use Rattle.std.specs.Prelude.{◌&&◌}
 use Rattle.std.proofs.lemmas.Bool.{and_parts, eqb-true}
 use Rattle.std.proofs.lemmas.Option.{none-some}
@@ -12,6 +12,7 @@ use Rattle.md_reader.specs.declared.types.Kind.{Kind}
 use Rattle.md_reader.specs.declared.types.Kind.TheVariants as kind
 use Rattle.term_core.specs.Shape.{Shape, Symbol}
 use Rattle.sel_terms.specs.Effects.{ActShape, EffectShape, Value, StoreHome}
+use Rattle.sel_terms.proofs.Facts.{same_Value}
 use Rattle.sel_terms_meaning.specs.Alike.{IsNarrowEffect}
 use Rattle.sel_target.specs.declared.attr.Attr.{Attr}
 use Rattle.sel_target.specs.declared.attr.Attr.TheVariants as attr
@@ -19,6 +20,7 @@ use Rattle.sel_target.specs.Meaning.{RegAt, WordAt}
 use Rattle.sel_target.specs.Values.{View, value, low, worth}
 use Rattle.sel_target.specs.Outcomes.{Sets, SetsName}
 use Rattle.sel_target.specs.SavingLaws.{Saves, Reloads, IsValue, operand as is_operand, register as is_register, saving, reloading, SavesAndReloads}
+use Rattle.sel_target.proofs.Facts.{low_is}
 use Rattle.sel_toy_machine.specs.declared.operand.Operand.{Operand}
 use Rattle.sel_toy_machine.specs.declared.operand.Operand.TheVariants as operand
 use Rattle.sel_toy_machine.specs.declared.operand.Source.TheVariants as source
@@ -119,16 +121,8 @@ reload_found (Some (form.Save i)) e h = absurd (none-some e h)
 stored_same : (y z : Size) (i j : ℕ) (a b : Shape) → StoreHome y i a ≡ StoreHome z j b → a ≡ b
 stored_same y z i j a b e = cc
 
-value_same : (a b : Shape) → Value a ≡ Value b → a ≡ b
-value_same a b e = cc
-
 stored_term : (y z : Size) (e : EffectShape) (t : Shape) → undivided (StoreHome y 0 (Symbol 1)) ≡ e → e.act ≡ StoreHome z 0 t → Symbol 1 ≡ t
 stored_term y z e t is act = stored_same y z 0 0 (Symbol 1) t (ap (λ (x : EffectShape). x.act) is ∙ act)
-
-low_same : (size : Size) (x : ℕ) → x < 2 ^ (8 * bytes_of size) → low size x ≡ x
-low_same Byte x lt = omega (arith, lt)
-low_same Halfword x lt = omega (arith, lt)
-low_same Long x lt = refl
 
 value_taken : (q : TreeProgram) (size : Size) (a : Attr Operand) (n : ℕ) (m : Machine) → IsValue toy size a → worth toy q size a m ≡ Some n → taken (source_of q a) size m ≡ Some n
 value_taken q size a n m (is_operand o fits) e = e
@@ -140,7 +134,7 @@ value_spilled : (q : TreeProgram) (size : Size) (l : Line) (s : Saves toy (kind.
 value_spilled q size l s a w n v m is known e lt =
     let r = value_found size (form_of l.pieces) s.effect (or_ok l.line (found_spill (kind.Value size) (form_of l.pieces)) s.effect s.taken) in
     let term = stored_term size size s.effect s.term r.effect_is s.act in
-    let number : n ≡ low size (value v s.term) = sym (ap (low size) (ap (value v) (sym term) ∙ symbol_value v 1 n size known lt) ∙ low_same size n lt) in
+    let number : n ≡ low size (value v s.term) = sym (ap (low size) (ap (value v) (sym term) ∙ symbol_value v 1 n size known lt) ∙ low_is size n lt) in
     subst (λ x. Sets toy (saving toy q l a w) (WordAt w) q size (attr.Value (operand.Word w)) x m) number
     (subst (λ o. Sets toy (filled q o (a ∷ []) (attr.Place (operand.Word w)) ∷ []) (WordAt w) q size (attr.Value (operand.Word w)) n m) (sym r.form_is)
     (sets_word q _ size w n m lt (move_runs size (source_of q a) (destination.Word w) m n (value_taken q size a n m is e))))
@@ -170,7 +164,7 @@ reloaded : (q : TreeProgram) (l : Line) (s : Reloads toy l) (w r n : ℕ) (v : V
     Sets toy (reloading toy q l w r) (RegAt r) q Long (attr.Reg r) (value v s.term) m
 reloaded q l s w r n v m lt known e small =
     let g = reload_found (form_of l.pieces) s.effect (or_ok l.line (found_spill kind.Reg (form_of l.pieces)) s.effect s.taken) in
-    let term = value_same (Symbol 1) s.term (ap (λ (x : EffectShape). x.act) g.effect_is ∙ s.act) in
+    let term = same_Value (Symbol 1) s.term (ap (λ (x : EffectShape). x.act) g.effect_is ∙ s.act) in
     let number : n ≡ value v s.term = sym (ap (value v) (sym term) ∙ symbol_value v 1 n Long known small) in
     subst (λ x. Sets toy (reloading toy q l w r) (RegAt r) q Long (attr.Reg r) x m) number
     (subst (λ o. Sets toy (filled q o (attr.Value (operand.Word w) ∷ []) (attr.Reg r) ∷ []) (RegAt r) q Long (attr.Reg r) n m) (sym g.form_is)

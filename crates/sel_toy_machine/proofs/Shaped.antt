@@ -27,6 +27,7 @@ use Rattle.term_core.specs.Shape.{Shape, Symbol, Memory, Binary}
 use Rattle.term_core.specs.declared.operator.BinaryOp.TheVariants as binary_op
 use Rattle.sel_terms.specs.Effects.{ActShape, EffectShape, Value, Number, Address, PlaceHome, PlaceAt, StoreHome, StoreAt, Branch, Push, Call, Save, Return, Jump}
 use Rattle.sel_terms.specs.RuleFacts.{size_of_some, size_at}
+use Rattle.sel_terms.proofs.Facts.{same_Value, size_behind}
 use Rattle.sel_target.specs.declared.attr.Attr.{Attr}
 use Rattle.sel_target.specs.declared.attr.Attr.TheVariants as attr
 use Rattle.sel_target.specs.Meaning.{Extent}
@@ -46,7 +47,7 @@ use Rattle.sel_toy_machine.specs.Filling.{some_operand, based, shaped, operand_f
 use Rattle.sel_toy_machine.specs.Running.{run}
 use Rattle.sel_toy_machine.proofs.Spelled.{own_is}
 use Rattle.sel_target.proofs.AreaBytes.{fetched_is}
-use Rattle.sel_toy_machine.proofs.Sources.{symbol_value, size_suc, filled_at, numbered}
+use Rattle.sel_toy_machine.proofs.Sources.{symbol_value, filled_at, numbered}
 use Rattle.sel_toy_machine.proofs.Kept.{unchanged}
 use Rattle.sel_toy_machine.proofs.Taken.{Taken, by_line, by_shape, where_is, taken_by, shape_gives_none, shape_gives_register}
 use Rattle.sel_toy_machine.specs.Toy.{toy}
@@ -253,8 +254,6 @@ shape_fits q classes rule e kind.Ea l hs taken gives is fit = refl
 shape_fits q classes rule e kind.Nothing l hs taken gives is fit = refl
 
 -- which act a shape has
-act_value : (a b : Shape) → Value a ≡ Value b → a ≡ b
-act_value a b e = cc
 
 act_place : (y z : Size) (a b : Shape) → PlaceAt y a ≡ PlaceAt z b → a ≡ b
 act_place y z a b e = cc
@@ -297,7 +296,7 @@ register_size classes (Some (grammar_symbol.Class c)) e = by (kind_at classes c)
 
 pub register_sized : (classes : List Class) (right : List Sym) (i : ℕ) → holds_register classes (symbol right i) ≡ true → size_at classes right i ≡ Long
 register_sized classes right zero e = absurd (false≢true e)
-register_sized classes right (suc j) e = size_suc classes right j ∙ register_size classes (slice_get right j) e
+register_sized classes right (suc j) e = size_behind classes right j ∙ register_size classes (slice_get right j) e
 
 module _ (q : TreeProgram) (f : Extent) (fs : List Extent) (classes : List Class) (rule : Rule) (hs : List (Attr Operand)) (v : View) (m : Machine) where
   abbrev I : EffectShape → Type 0
@@ -309,7 +308,7 @@ module _ (q : TreeProgram) (f : Extent) (fs : List Extent) (classes : List Class
   value_shaped e t size (shape_form.Based i) inst found act =
       let u = undivided (Value (Memory size (Symbol i))) in
       let w = where_is (holds_register classes (symbol rule.right i)) u e found in
-      let is = act_value (Memory size (Symbol i)) t (act_of u e w.1 ∙ act) in
+      let is = same_Value (Memory size (Symbol i)) t (act_of u e w.1 ∙ act) in
       let inst' = subst I (sym w.1) inst in
       let r = register_hole classes rule.right hs inst'.holes_fit i w.0 in
       let holds = register_holds q f fs classes rule u hs v m inst' i r.0 inst'.read.0.0 r.1 (register_sized classes rule.right i w.0) in

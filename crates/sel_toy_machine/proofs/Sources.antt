@@ -1,7 +1,7 @@
 -- A symbol with a number is read as that number, in an instance of a rule.
-use Rattle.std.proofs.Common.{◌≡◌, ℕ, zero, suc, ◌-◌, ◌*◌, ◌%◌, ◌^◌, ◌<◌, ◌==◌, List, [], ◌∷◌, Option, Some, None, Bool, true, false, refl, sym, ap, ◌∙◌, subst, arith, slice_get}
-use Rattle.std.specs.Prelude.{IsSome, is_some, unwrap_or, cond}
-use Rattle.std.proofs.lemmas.Bool.{and_parts, eqb-true, false≢true}
+use Rattle.std.proofs.Common.{◌≡◌, ℕ, zero, suc, ◌*◌, ◌%◌, ◌^◌, ◌<◌, ◌==◌, List, [], ◌∷◌, Option, Some, None, Bool, true, refl, sym, ap, ◌∙◌, subst, arith, slice_get}
+use Rattle.std.specs.Prelude.{IsSome, is_some, unwrap_or}
+use Rattle.std.proofs.lemmas.Bool.{and_parts, false≢true}
 use Rattle.std.proofs.lemmas.Option.{none-some, same_Some}
 use Rattle.gg_base.specs.declared.size.Size.{Size}
 use Rattle.gg_base.specs.declared.size.Size.TheVariants.{Byte, Word as Halfword, Long}
@@ -13,8 +13,6 @@ use Rattle.tree_core.specs.declared.tree.Att.{Att}
 use Rattle.tree_core.specs.declared.tree.Att.TheVariants as att
 use Rattle.tree_core.specs.declared.tree.Leaf.{Leaf}
 use Rattle.tree_core.specs.declared.program.TreeProgram.{TreeProgram}
-use Rattle.md_reader.specs.declared.types.Kind.{Kind}
-use Rattle.md_reader.specs.declared.types.Kind.TheVariants as kind
 use Rattle.md_reader.specs.declared.types.Class.{Class}
 use Rattle.md_reader.specs.declared.types.Sym.{Sym}
 use Rattle.md_reader.specs.declared.types.Sym.TheVariants as grammar_symbol
@@ -23,11 +21,13 @@ use Rattle.md_reader.specs.Patterns.{kind_at}
 use Rattle.term_core.specs.Shape.{Symbol}
 use Rattle.sel_terms.specs.Effects.{EffectShape}
 use Rattle.sel_terms.specs.RuleFacts.{size_of_symbol, size_of_some, size_at}
+use Rattle.sel_terms.proofs.Facts.{size_behind}
 use Rattle.sel_target.specs.declared.attr.Attr.{Attr}
 use Rattle.sel_target.specs.declared.attr.Attr.TheVariants as attr
 use Rattle.sel_target.specs.Meaning.{Extent}
 use Rattle.sel_target.specs.Values.{View, value, worth, address_of, slot_place, read_of}
-use Rattle.sel_target.specs.Instances.{KindFits, SymFits, Fit, Instance}
+use Rattle.sel_target.specs.Instances.{SymFits, Fit, Instance}
+use Rattle.sel_target.proofs.Facts.{no_token}
 use Rattle.sel_toy_machine.specs.declared.operand.Operand.{Operand}
 use Rattle.sel_toy_machine.specs.declared.operand.Operand.TheVariants as operand
 use Rattle.sel_toy_machine.specs.Machine.{Machine, part}
@@ -52,13 +52,6 @@ same_size Long Long e = refl
 pub symbol_value : (v : View) (i x : ℕ) (size : Size) → v.symbol i ≡ Some x → x < 2 ^ (8 * bytes_of size) → value v (Symbol i) ≡ x
 symbol_value v i x size e lt = ap (λ o. unwrap_or o 0 % 2 ^ 32) e ∙ low_long size x lt
 
-pub size_suc : (classes : List Class) (right : List Sym) (j : ℕ) → size_at classes right (suc j) ≡ size_of_some classes (slice_get right j)
-size_suc classes right j = by (suc j == 0) refl where
-  by : (b : Bool) → (suc j == 0) ≡ b → size_at classes right (suc j) ≡ size_of_some classes (slice_get right j)
-  by true e = absurd (let h = eqb-true (suc j) 0 e in omega (arith, h))
-  by false e =
-      ap (λ b. cond b Long (size_of_some classes (slice_get right (suc j - 1)))) e ∙ ap (λ k. size_of_some classes (slice_get right k)) (let back : suc j - 1 ≡ j = omega arith in back)
-
 -- a symbol with what stands for it
 pub record Filled (classes : List Class) (right : List Sym) (hs : List (Attr Operand)) (j : ℕ) : Type 0 where
   pub symbol : Sym
@@ -74,19 +67,10 @@ filled_at classes (s ∷ right) (h ∷ hs) zero fit e = record { symbol = s; att
 filled_at classes (s ∷ right) (h ∷ hs) (suc j) fit e =
     (let r = filled_at classes right hs j fit.1 e in record { symbol = r.symbol; attribute = r.attribute; there = r.there; at = r.at; fits = r.fits })
 
-no_token : (k : Option Kind) (l : Leaf) → KindFits toy k (attr.Token l) → ⊥
-no_token None l h = h
-no_token (Some kind.Reg) l h = h
-no_token (Some (kind.Value size)) l h = h
-no_token (Some (kind.Place size)) l h = h
-no_token (Some kind.Con) l h = h
-no_token (Some kind.Ea) l h = h
-no_token (Some kind.Nothing) l h = h
-
 -- a token's symbol is a longword
 token_size : (classes : List Class) (s : Sym) (l : Leaf) → SymFits toy classes s (attr.Token l) → size_of_symbol classes s ≡ Long
 token_size classes (grammar_symbol.Tok x) l h = refl
-token_size classes (grammar_symbol.Class c) l h = absurd (no_token (kind_at classes c) l h)
+token_size classes (grammar_symbol.Class c) l h = absurd (no_token toy (kind_at classes c) l h)
 
 number_taken : (size : Size) (n x : ℕ) → n ≡ x → x < 2 ^ (8 * bytes_of size) → Some (part size n) ≡ Some x
 number_taken size n x e lt = ap Some (ap (part size) e ∙ part_same size x lt)
@@ -156,5 +140,5 @@ module _ (every : Bool) (q : TreeProgram) (f : Extent) (fs : List Extent) (class
       let r = subst (Filled classes rule.right hs) back n.hole_of in
       let worth_is = subst (λ z. worth toy q z r.attribute m ≡ Some n.number) n.sized (inst.values (suc j) n.number r.attribute r.at n.known) in
       let long : (l : Leaf) → r.attribute ≡ attr.Token l → size ≡ Long = λ l is.
-      sym n.sized ∙ size_suc classes rule.right j ∙ ap (size_of_some classes) r.there ∙ token_size classes r.symbol l (subst (SymFits toy classes r.symbol) is r.fits) in
+      sym n.sized ∙ size_behind classes rule.right j ∙ ap (size_of_some classes) r.there ∙ token_size classes r.symbol l (subst (SymFits toy classes r.symbol) is r.fits) in
       ap (λ o. taken (some_source q o) size m) r.at ∙ attr_taken q r.attribute size n.number m long worth_is n.below ∙ ap Some (sym (symbol_value v (suc j) n.number size n.known n.below))

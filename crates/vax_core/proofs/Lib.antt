@@ -3,3 +3,4 @@ pub mod ValidLaws
 pub mod MnemonicLaws
 pub mod NumberLaws
 pub mod SameLaws
+pub mod ShapeLaws

@@ -17,22 +17,11 @@ use Rattle.vax_states.specs.Stack.{Extent}
 use Rattle.vax_machine_lists.specs.Sound.{IsSound}
 use Rattle.vax_states.specs.Agreeing.{Agrees}
 use Rattle.vax_machine_lists.specs.Instructions.{Course, ends, comes, Returns, course_of, followed, performed, exec}
+use Rattle.vax_machine_lists.proofs.Soundness.{conditions_sound}
 use Rattle.vax_frames.specs.Frames.{number, register, instr, room_code, end_code}
 use Rattle.vax_states.proofs.Keeping.{sound_register}
 use Rattle.vax_states.proofs.Standing.{kept}
 use Rattle.vax_frames_law.proofs.Entering.{SameMemory}
-
-pub sound_conditions : (m : State) (c : Conditions) → IsSound m → IsSound (with_conditions m c)
-sound_conditions m c h = record {
-  going = h.going;
-  registers = h.registers;
-  longwords = h.longwords;
-  stack = h.stack;
-  stack_bytes = h.stack_bytes;
-  area = h.area;
-  area_bytes = h.area_bytes;
-  input_bytes = h.input_bytes;
-}
 
 -- sp is lower by so many longwords, and all else is the same
 pub record Lowers (m n : State) (words : ℕ) : Type 0 where
@@ -71,7 +60,7 @@ module _ (m : State) (sound : IsSound m) (low : 2139095040 ≤ reg m Sp) (high :
         n,
         subtract_is k room,
         record {
-          sound = sound_conditions (with_reg m Sp (sub32 (reg m Sp) k)) (lowered_codes k) (sound_register m 14 (sub32 (reg m Sp) k) sound (omega (arith, v, high)));
+          sound = conditions_sound (with_reg m Sp (sub32 (reg m Sp) k)) (lowered_codes k) (sound_register m 14 (sub32 (reg m Sp) k) sound (omega (arith, v, high)));
           memory = record { layout = refl; area = refl; stack = refl; frames = refl; input = refl };
           fp = get_or-set_other m.registers 14 13 (sub32 (reg m Sp) k) 0 (λ q. omega (arith, q));
           ap = get_or-set_other m.registers 14 12 (sub32 (reg m Sp) k) 0 (λ q. omega (arith, q));
@@ -93,7 +82,7 @@ module _ (objects : List Object) (e : Extent) (es : List Extent) (t : Trees) (m 
 
   pub end_agrees : Agrees objects e es t ended
   end_agrees =
-      kept objects e es t m h ended (sound_conditions (with_reg m R0 0) zero_codes (sound_register m 0 0 h.sound (omega arith))) refl refl refl refl
+      kept objects e es t m h ended (conditions_sound (with_reg m R0 0) zero_codes (sound_register m 0 0 h.sound (omega arith))) refl refl refl refl
       (get_or-set_other m.registers 0 13 0 0 (λ q. omega (arith, q)))
       (get_or-set_other m.registers 0 12 0 0 (λ q. omega (arith, q)))
       (get_or-set_other m.registers 0 14 0 0 (λ q. omega (arith, q)))

@@ -1,72 +1,14 @@
 -- The numbers of an instruction's operands.
-use Rattle.std.proofs.Common.{◌≡◌, ℕ, ◌≤◌, List, [], ◌∷◌, length, take, drop, refl, subst, sym, ap, ◌∙◌, lit≤, arith, ◌<◌, ◌-◌}
+use Rattle.std.proofs.Common.{◌≡◌, ℕ, ◌≤◌, List, [], ◌∷◌, length, take, drop, refl, subst, sym, ap, ◌∙◌, arith, ◌<◌, ◌-◌}
 use Rattle.std.specs.Prelude.{slice_get}
 use Rattle.std.proofs.Math.Seq.{take-length}
 use Rattle.vax_core.specs.declared.op.Op.{Op}
-use Rattle.vax_core.specs.declared.op.Op.TheVariants as ops
 use Rattle.vax_core.specs.declared.op.OperandKind.{OperandKind}
 use Rattle.vax_core.specs.declared.operand.Operand.{Operand}
 use Rattle.vax_core.specs.declared.code.AreaItem.{AreaItem}
 use Rattle.vax_core.specs.Ops.{shape}
+use Rattle.vax_core.proofs.ShapeLaws.{few_operands}
 use Rattle.vax_machine.specs.Tables.{operand_number, HasNumbers}
-
--- no instruction has more than three operands
-few : (op : Op) → length (shape op).operands ≤ 3
-few ops.Movb = lit≤ tt
-few ops.Movw = lit≤ tt
-few ops.Movl = lit≤ tt
-few ops.Clrb = lit≤ tt
-few ops.Clrw = lit≤ tt
-few ops.Clrl = lit≤ tt
-few ops.Mnegl = lit≤ tt
-few ops.Mcoml = lit≤ tt
-few ops.Pushl = lit≤ tt
-few ops.Cvtbl = lit≤ tt
-few ops.Cvtwl = lit≤ tt
-few ops.Cvtlb = lit≤ tt
-few ops.Cvtlw = lit≤ tt
-few ops.Movzbl = lit≤ tt
-few ops.Movzwl = lit≤ tt
-few ops.Movab = lit≤ tt
-few ops.Movaw = lit≤ tt
-few ops.Moval = lit≤ tt
-few ops.Addl2 = lit≤ tt
-few ops.Addl3 = lit≤ tt
-few ops.Subl2 = lit≤ tt
-few ops.Subl3 = lit≤ tt
-few ops.Mull2 = lit≤ tt
-few ops.Mull3 = lit≤ tt
-few ops.Divl2 = lit≤ tt
-few ops.Divl3 = lit≤ tt
-few ops.Incl = lit≤ tt
-few ops.Decl = lit≤ tt
-few ops.Bisl2 = lit≤ tt
-few ops.Bisl3 = lit≤ tt
-few ops.Bicl2 = lit≤ tt
-few ops.Bicl3 = lit≤ tt
-few ops.Xorl2 = lit≤ tt
-few ops.Xorl3 = lit≤ tt
-few ops.Bitl = lit≤ tt
-few ops.Ashl = lit≤ tt
-few ops.Cmpb = lit≤ tt
-few ops.Cmpw = lit≤ tt
-few ops.Cmpl = lit≤ tt
-few ops.Tstb = lit≤ tt
-few ops.Tstw = lit≤ tt
-few ops.Tstl = lit≤ tt
-few ops.Jbr = lit≤ tt
-few ops.Jeql = lit≤ tt
-few ops.Jneq = lit≤ tt
-few ops.Jlss = lit≤ tt
-few ops.Jleq = lit≤ tt
-few ops.Jgtr = lit≤ tt
-few ops.Jgeq = lit≤ tt
-few ops.Jlssu = lit≤ tt
-few ops.Jlequ = lit≤ tt
-few ops.Jgtru = lit≤ tt
-few ops.Jgequ = lit≤ tt
-few ops.Calls = lit≤ tt
-few ops.Ret = lit≤ tt
 
 three : (layout : List AreaItem) (ks : List OperandKind) (os : List Operand) → length ks ≤ 3
     → HasNumbers layout ks os (operand_number layout (slice_get os 0) ∷ (operand_number layout (slice_get os 1) ∷ (operand_number layout (slice_get os 2) ∷ [])))
@@ -84,7 +26,7 @@ pub has_numbers : (layout : List AreaItem) (op : Op) (os : List Operand) (kinds 
     → HasNumbers layout kinds os numbers
 has_numbers layout op os kinds numbers e h =
     subst (λ (ks : List OperandKind). HasNumbers layout ks os numbers) (sym e)
-    (subst (λ (ns : List ℕ). HasNumbers layout (shape op).operands os ns) (sym h) (three layout (shape op).operands os (few op)))
+    (subst (λ (ns : List ℕ). HasNumbers layout (shape op).operands os ns) (sym h) (three layout (shape op).operands os (few_operands op)))
 
 behind_first : {A : Type 0} (x : A) (xs : List A) → xs ≡ take (length (x ∷ xs) - 1) (drop 1 (x ∷ xs))
 behind_first x xs = let e : length xs ≡ length (x ∷ xs) - 1 = omega arith in sym (take-length xs) ∙ ap (λ (n : ℕ). take n xs) e

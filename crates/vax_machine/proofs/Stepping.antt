@@ -20,7 +20,7 @@ pub record Stands (whole : Outcome) (old out : List ℕ) (rest : Outcome) : Type
 pub begins : (o : Outcome) (old : List ℕ) → Stands o old old o
 begins o old = record { ended = refl; output = refl }
 
-one_step : (m : State) (n i : ℕ) → i < n → steps (n - i) m ≡ one_first (behind (step_of m) (steps (n - (i + 1))))
+pub one_step : (m : State) (n i : ℕ) → i < n → steps (n - i) m ≡ one_first (behind (step_of m) (steps (n - (i + 1))))
 one_step m n i lt = let e : n - i ≡ suc (n - (i + 1)) = omega arith in ap (λ (k : ℕ). steps k m) e
 
 going≢wrote : (b : ℕ) → turns.Going ≡ turns.Wrote b → ⊥

@@ -4,6 +4,7 @@ use Rattle.std.specs.Prelude.{slice_index, slice_set}
 use Rattle.std.specs.Int.{w16, w32, to_le_bytes, from_le_bytes}
 use Rattle.std.proofs.lemmas.List.{drop_at, drop-drop, length-take-le, length-drop, drop-take, take-append-le, take-take}
 use Rattle.std.proofs.lemmas.Nat.{from_le_bytes-to_le_bytes_4}
+use Rattle.std.specs.List.{AllByRecursion}
 use Rattle.gg_base.specs.declared.size.Size.{Size}
 use Rattle.gg_base.specs.declared.size.Size.TheVariants.{Byte, Word, Long}
 use Rattle.gg_base.specs.Sizes.{bytes_of}
@@ -103,3 +104,8 @@ from_four bytes h =
 
 pub long_below : (bytes : List ℕ) (at : ℕ) → AllBelow 256 bytes → number_in Long bytes at < 2 ^ 32
 long_below bytes at h = from_four (take 4 (drop at bytes)) (below_take 256 4 (drop at bytes) (below_drop 256 at bytes h))
+
+-- each is a byte
+pub all_bytes : (xs : List ℕ) → AllBelow 256 xs → AllByRecursion (λ b. b < 256) xs
+all_bytes [] h = tt
+all_bytes (x ∷ xs) h = (h.0, all_bytes xs h.1)

@@ -578,3 +578,16 @@ where_running (Some e) m h = tt
 
 pub steps_stay_sound : StepsStaySound
 steps_stay_sound m h = where_running m.over m h
+
+-- condition codes change nothing of it
+pub conditions_sound : (n : State) (k : Conditions) → IsSound n → IsSound (with_conditions n k)
+conditions_sound n k s = record {
+  going = s.going;
+  registers = s.registers;
+  longwords = s.longwords;
+  stack = s.stack;
+  stack_bytes = s.stack_bytes;
+  area = s.area;
+  area_bytes = s.area_bytes;
+  input_bytes = s.input_bytes;
+}

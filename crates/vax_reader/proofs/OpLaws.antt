@@ -1,7 +1,6 @@
 -- What holds of each row of the instruction table, and how a mnemonic is looked up.
-use Rattle.std.proofs.Common.{◌≡◌, ℕ, ◌≤◌, true, leb, List, ◌∷◌, ◌++◌, length, None, refl}
+use Rattle.std.proofs.Common.{◌≡◌, ℕ, List, ◌∷◌, ◌++◌, length, None, refl}
 use Rattle.std.specs.Prelude.{codes}
-use Rattle.std.proofs.lemmas.Bool.{leb-true}
 use Rattle.vax_core.specs.declared.op.Op.{Op}
 use Rattle.vax_core.specs.declared.op.Op.TheVariants.{Movb, Movw, Movl, Clrb, Clrw, Clrl, Mnegl, Mcoml, Pushl, Cvtbl, Cvtwl, Cvtlb, Cvtlw, Movzbl, Movzwl, Movab, Movaw, Moval}
 use Rattle.vax_core.specs.declared.op.Op.TheVariants.{Addl2, Addl3, Subl2, Subl3, Mull2, Mull3, Divl2, Divl3, Incl, Decl, Bisl2, Bisl3, Bicl2, Bicl3, Xorl2, Xorl3, Bitl, Ashl}
@@ -9,67 +8,6 @@ use Rattle.vax_core.specs.declared.op.Op.TheVariants.{Cmpb, Cmpw, Cmpl, Tstb, Ts
 use Rattle.vax_core.specs.Ops.{shape}
 use Rattle.vax_reader.specs.Fronts.{run_len, strip}
 use Rattle.vax_reader.specs.Lines.{in_word}
-
-few_of : (op : Op) → leb (length (shape op).operands) 3 ≡ true
-few_of Movb = refl
-few_of Movw = refl
-few_of Movl = refl
-few_of Clrb = refl
-few_of Clrw = refl
-few_of Clrl = refl
-few_of Mnegl = refl
-few_of Mcoml = refl
-few_of Pushl = refl
-few_of Cvtbl = refl
-few_of Cvtwl = refl
-few_of Cvtlb = refl
-few_of Cvtlw = refl
-few_of Movzbl = refl
-few_of Movzwl = refl
-few_of Movab = refl
-few_of Movaw = refl
-few_of Moval = refl
-few_of Addl2 = refl
-few_of Addl3 = refl
-few_of Subl2 = refl
-few_of Subl3 = refl
-few_of Mull2 = refl
-few_of Mull3 = refl
-few_of Divl2 = refl
-few_of Divl3 = refl
-few_of Incl = refl
-few_of Decl = refl
-few_of Bisl2 = refl
-few_of Bisl3 = refl
-few_of Bicl2 = refl
-few_of Bicl3 = refl
-few_of Xorl2 = refl
-few_of Xorl3 = refl
-few_of Bitl = refl
-few_of Ashl = refl
-few_of Cmpb = refl
-few_of Cmpw = refl
-few_of Cmpl = refl
-few_of Tstb = refl
-few_of Tstw = refl
-few_of Tstl = refl
-few_of Jbr = refl
-few_of Jeql = refl
-few_of Jneq = refl
-few_of Jlss = refl
-few_of Jleq = refl
-few_of Jgtr = refl
-few_of Jgeq = refl
-few_of Jlssu = refl
-few_of Jlequ = refl
-few_of Jgtru = refl
-few_of Jgequ = refl
-few_of Calls = refl
-few_of Ret = refl
-
--- no instruction takes more than three operands
-pub few : (op : Op) → length (shape op).operands ≤ 3
-few op = leb-true (length (shape op).operands) 3 (few_of op)
 
 -- a mnemonic is one word
 pub is_word : (op : Op) (rest : List ℕ) → run_len in_word rest ≡ 0 → run_len in_word ((shape op).mnemonic ++ rest) ≡ length (shape op).mnemonic

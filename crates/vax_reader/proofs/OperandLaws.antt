@@ -15,6 +15,7 @@ use Rattle.vax_core.specs.declared.operand.Operand.{Operand}
 use Rattle.vax_core.specs.Registers.{reg_text}
 use Rattle.vax_core.specs.Text.{signed_text, offset_text, addr_text_of, addr_text, at_text, base_text, index_text, operand_text}
 use Rattle.vax_core.specs.Valid.{is_name_start, is_name, is_long, is_named_addr, is_addr_of, is_addr, is_base}
+use Rattle.vax_core.proofs.ValidLaws.{named_is_addr}
 use Rattle.vax_reader.specs.Fronts.{either, strip, number_front, signed_front, offset_front, name_front, reg_front, closed, at_front}
 use Rattle.vax_reader.specs.Operands.{number_addr, labelled, label_addr, addr_front, base_at, alone, near, far, absolute, stepped, deferred_front, immediate, at_or_stepped}
 use Rattle.vax_reader.specs.Operands.{plain_front, base_front, some_index, index_front, with_index, indexed, operand_front}
@@ -248,10 +249,6 @@ no_at rest h = rw h refl
 alone_named : (base : Base) (name : Option (List ℕ)) (offset : ℕ) (rest : List ℕ) → is_named_addr name offset ≡ true → alone base name rest ≡ Some (base, rest)
 alone_named base None offset rest h = absurd (cc)
 alone_named base (Some name) offset rest h = refl
-
-named_is_addr : (name : Option (List ℕ)) (offset : ℕ) → is_named_addr name offset ≡ true → is_addr_of name offset ≡ true
-named_is_addr None offset h = absurd (cc)
-named_is_addr (Some name) offset h = h
 
 disp_again : (a : Addr) (r : Reg) (rest : List ℕ) → is_addr a ≡ true → base_front (addr_text a ++ (at_text r ++ rest)) ≡ Some (bases.Disp a r, rest)
 unfolding base_front

@@ -82,7 +82,7 @@ fn label(alloc: Global, target: bool, bytes: &[u8]) -> Result<(Option<Name>, &[u
 }
 
 // What stands behind a mnemonic.
-#[tactic(auto, using(crate::proofs::OpLaws::few), unfolding(crate::specs::Lines::behind_mnemonic))]
+#[tactic(auto, using(vax_core::proofs::ShapeLaws::few_operands), unfolding(crate::specs::Lines::behind_mnemonic))]
 fn behind_mnemonic(alloc: Global, op: Op, bytes: &[u8]) -> Result<(Instr, &[u8]), LineFault>
     ensures { Gives result (behind_mnemonic op bytes.now) }
 {

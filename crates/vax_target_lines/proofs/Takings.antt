@@ -34,6 +34,7 @@ use Rattle.vax_machine.specs.State as state
 use Rattle.vax_machine.specs.Memory.{low, read, touched, number_at}
 use Rattle.vax_machine.specs.Operands as machine
 use Rattle.vax_machine_lists.specs.Sound.{IsSound, AllBelow}
+use Rattle.vax_machine_lists.proofs.Longwords.{all_bytes}
 use Rattle.vax_states.proofs.Keeping.{reg_small}
 use Rattle.vax_templates.specs.declared.form.Number.{Number}
 use Rattle.vax_templates.specs.declared.form.Base.{Base}
@@ -60,7 +61,7 @@ use Rattle.vax_target_operands.specs.Scenes.{Scene, worth, role_at, filling_at, 
 use Rattle.vax_target_operands.specs.Places.{StandsAt, InRegister, IsHome, IsWhere, IsReadIfAny, CanStand, Stands}
 use Rattle.vax_target_operands.specs.Conditions.{IsNarrow}
 use Rattle.vax_target_operands.proofs.Binds.{ok_same, Chained, chained}
-use Rattle.vax_target_operands.proofs.Holes.{below_all, stands_same, register_stands, own_held, memory_read}
+use Rattle.vax_target_operands.proofs.Holes.{stands_same, register_stands, own_held, memory_read}
 use Rattle.vax_target_operands.proofs.Forms.{operands_stand}
 use Rattle.vax_target_lines.specs.Takings.{IsTarget, IsDestination, AreRead, CanAim, IsOfSize, AreOfSize, AtSize, last_size, AreArguments, aims, LastIsWritten, MayStand, Takes, OperandsAreTaken}
 
@@ -86,8 +87,8 @@ narrow_low Word n lt = omega arith
 narrow_low Long n lt = lt
 
 narrow_at : (m : State) (size : Size) (r : Region) → IsSound m → IsNarrow size (number_at m size r)
-narrow_at m size (regions.Area at) s = number_small size m.area at (below_all m.area s.area_bytes)
-narrow_at m size (regions.Stack at) s = number_small size m.stack at (below_all m.stack s.stack_bytes)
+narrow_at m size (regions.Area at) s = number_small size m.area at (all_bytes m.area s.area_bytes)
+narrow_at m size (regions.Stack at) s = number_small size m.stack at (all_bytes m.stack s.stack_bytes)
 
 read_narrow : (m : State) (size : Size) (a n : ℕ) → IsSound m → read m a size ≡ Ok n → IsNarrow size n
 unfolding read

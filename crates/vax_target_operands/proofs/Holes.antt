@@ -1,5 +1,5 @@
 -- What a hole means, as a number, a register, or an operand.
-use Rattle.std.proofs.Common.{◌≡◌, ℕ, ◌-◌, ◌%◌, ◌^◌, ◌<◌, ◌==◌, Bool, true, false, cond, List, [], ◌∷◌, Option, Some, None, IsSome, Result, Ok, Err, refl, sym, ap, subst, ◌∙◌, arith}
+use Rattle.std.proofs.Common.{◌≡◌, ℕ, ◌-◌, ◌%◌, ◌^◌, ◌<◌, ◌==◌, Bool, true, false, cond, Option, Some, None, IsSome, Result, Ok, Err, refl, sym, ap, subst, ◌∙◌, arith}
 use Rattle.std.specs.Prelude.{slice_get}
 use Rattle.std.specs.List.{AllByRecursion}
 use Rattle.gg_base.specs.declared.size.Size.{Size}
@@ -23,7 +23,7 @@ use Rattle.vax_machine.specs.State.{State, reg, ◌>>=◌}
 use Rattle.vax_machine.specs.Area.{resolved, resolved_of}
 use Rattle.vax_machine.specs.Memory.{read}
 use Rattle.vax_machine.specs.Operands.{located, indexed, fetched, deferred}
-use Rattle.vax_machine_lists.specs.Sound.{AllBelow}
+use Rattle.vax_machine_lists.proofs.Longwords.{all_bytes}
 use Rattle.vax_templates.specs.declared.form.Number.{Number}
 use Rattle.vax_templates.specs.declared.form.Number.TheVariants as number
 use Rattle.vax_templates.specs.declared.setting.Hole.{Hole}
@@ -44,10 +44,6 @@ use Rattle.vax_target_operands.specs.Scenes.{Scene, worth, role_at, filling_at, 
 use Rattle.vax_target_operands.specs.Places.{StandsAt, InRegister, IsHome, IsWhere, CanStand, Stands, IsShort}
 use Rattle.vax_target_operands.proofs.Binds.{ok_same}
 use Rattle.vax_target_operands.proofs.Machine.{area_is_read, named_located, names_stand, ReadsAt, reads_stand, reg_found}
-
-pub below_all : (xs : List ℕ) → AllBelow 256 xs → AllByRecursion (λ b. b < 256) xs
-below_all [] h = tt
-below_all (x ∷ xs) h = (h.0, below_all xs h.1)
 
 -- an operand is found at one place
 pub stands_same : (m : State) (o : Operand) (size : Size) (k l : Location) → StandsAt m o size k → StandsAt m o size l → k ≡ l
@@ -276,7 +272,7 @@ module _ (c : Scene) (m : State) where
 
 module _ (c : Scene) (zero : Option Shape) (m : State) (h : Sees c zero m) where
   pub area_bytes : AllByRecursion (λ b. b < 256) c.view.state.area
-  area_bytes = subst (λ l. AllByRecursion (λ b. b < 256) l) h.area (below_all m.area h.sound.area_bytes)
+  area_bytes = subst (λ l. AllByRecursion (λ b. b < 256) l) h.area (all_bytes m.area h.sound.area_bytes)
 
   -- memory that may be read holds what the term says
   pub memory_read : (size : Size) (a : Shape) (x : ℕ) → x ≡ worth c a → IsRead c.view (Memory size a) → read m x size ≡ Ok (worth c (Memory size a))

@@ -1,10 +1,10 @@
 -- Each function of the machine computes what its row says of terms.
-use Rattle.std.proofs.Common.{◌≡◌, ℕ, ◌<◌, ◌^◌, ◌==◌, ◌/◌, Bool, true, false, cond, Option, Some, None, refl, sym, ap, ◌∙◌, arith}
+use Rattle.std.proofs.Common.{◌≡◌, ℕ, ◌<◌, ◌^◌, false, Option, Some, refl, sym, ap, ◌∙◌}
 use Rattle.std.specs.Prelude.{unwrap_or}
-use Rattle.std.proofs.lemmas.Bool.Decides.{nat_tests}
 use Rattle.gg_base.specs.declared.size.Size.{Size}
 use Rattle.gg_base.specs.declared.size.Size.TheVariants.{Byte, Word, Long}
-use Rattle.gg_base.specs.Arithmetic.{div32, and32, neg32, same_sign, magnitude}
+use Rattle.gg_base.specs.Arithmetic.{div32, and32}
+use Rattle.gg_base.proofs.Words.{some_quotient}
 use Rattle.term_core.specs.declared.operator.UnaryOp.TheVariants.{Com}
 use Rattle.term_core.specs.declared.operator.BinaryOp.TheVariants.{Div, And}
 use Rattle.term_core.specs.Shape.{Shape, Constant, Unary, Binary}
@@ -34,18 +34,6 @@ truncated_is c Word t = refl
 truncated_is c Long t = refl
 
 -- ---- division
-
-zero_or_not : (y : ℕ) (b : Bool) → (y == 0) ≡ b → (y ≡ 0 → ⊥) → (y == 0) ≡ false
-zero_or_not y true e h = absurd (h (grind (arith, nat_tests)))
-zero_or_not y false e h = e
-
-divided_by : (z s : Bool) (p q : ℕ) → z ≡ false → cond z None (cond s (Some p) (Some q)) ≡ Some (unwrap_or (cond z None (cond s (Some p) (Some q))) 0)
-divided_by true s p q e = cc
-divided_by false true p q e = refl
-divided_by false false p q e = refl
-
-some_quotient : (x y : ℕ) → (y ≡ 0 → ⊥) → div32 x y ≡ Some (unwrap_or (div32 x y) 0)
-some_quotient x y h = divided_by (y == 0) (same_sign x y) (magnitude x / magnitude y) (neg32 (magnitude x / magnitude y)) (zero_or_not y (y == 0) refl h)
 
 quotient_is : (x y : ℕ) → Quotient (quotient (div32 x y)) y (unwrap_or (div32 x y) 0)
 quotient_is x y = record {

@@ -1,8 +1,7 @@
 -- What is read is of its size, and an address is a longword.
-use Rattle.std.proofs.Common.{◌≡◌, ℕ, ◌-◌, ◌*◌, ◌^◌, ◌<◌, Bool, true, false, cond, Option, Some, None, Result, Ok, Err, List, [], ◌∷◌, refl, subst, arith, option_map}
+use Rattle.std.proofs.Common.{◌≡◌, ℕ, ◌-◌, ◌*◌, ◌^◌, ◌<◌, Bool, true, false, cond, Option, Some, None, Result, Ok, Err, refl, subst, arith, option_map}
 use Rattle.std.specs.Prelude.{nat_lt}
 use Rattle.std.specs.Option.{option_and_then}
-use Rattle.std.specs.List.{AllByRecursion}
 use Rattle.std.proofs.lemmas.Bool.Decides.{nat_tests}
 use Rattle.gg_base.specs.declared.size.Size.{Size}
 use Rattle.gg_base.specs.declared.size.Size.TheVariants.{Byte, Word, Long}
@@ -20,15 +19,12 @@ use Rattle.vax_machine.specs.declared.memory.Region.TheVariants as regions
 use Rattle.vax_machine.specs.State.{State, reg, ◌>>=◌}
 use Rattle.vax_machine.specs.Area.{resolved}
 use Rattle.vax_machine.specs.Memory.{low, touched, number_at, read}
-use Rattle.vax_machine_lists.specs.Sound.{AllBelow, IsSound}
+use Rattle.vax_machine_lists.specs.Sound.{IsSound}
+use Rattle.vax_machine_lists.proofs.Longwords.{all_bytes}
 use Rattle.vax_states.proofs.Keeping.{reg_small}
 use Rattle.tree_core.specs.Area.{fetched, is_inside}
 use Rattle.vax_target_meaning.specs.Reading as reading
 use Rattle.vax_target_meaning.specs.Reading.{number_of, longword, displaced, named, is_own, is_own_place, moved, names, at_place, in_memory, reads_by, reads}
-
-pub all_bytes : (bytes : List ℕ) → AllBelow 256 bytes → AllByRecursion (λ b. b < 256) bytes
-all_bytes [] h = tt
-all_bytes (b ∷ bs) h = (h.0, all_bytes bs h.1)
 
 -- what is below a bound, where there is something
 abbrev pub Below : ℕ → Option ℕ → Type 0

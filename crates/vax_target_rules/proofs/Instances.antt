@@ -30,6 +30,7 @@ use Rattle.term_core.specs.Shape.{Shape, Symbol, LastResult}
 use Rattle.term_core.proofs.Values.{small}
 use Rattle.sel_terms.specs.Effects.{EffectShape}
 use Rattle.sel_terms.specs.RuleFacts.{size_of_kind, size_of_symbol, size_of_some, size_at}
+use Rattle.sel_terms.proofs.Facts.{size_behind}
 use Rattle.sel_target.specs.declared.attr.Attr.{Attr}
 use Rattle.sel_target.specs.declared.attr.Attr.TheVariants as attr
 use Rattle.sel_target.specs.Meaning.{Extent}
@@ -317,9 +318,6 @@ role_is c j = ap (λ b. cond b hole_kind.Other (hole_or_other (slice_get c.roles
 pub filling_is : (c : Scene) (j : ℕ) → filling_at c (suc j) ≡ attr_or c.own (slice_get c.holes j)
 filling_is c j = ap (λ b. cond b c.own (attr_or c.own (slice_get c.holes (suc j - 1)))) (not_zero j) ∙ ap (λ k. attr_or c.own (slice_get c.holes k)) (one_less j)
 
-pub size_is : (classes : List Class) (right : List Sym) (j : ℕ) → size_at classes right (suc j) ≡ size_of_some classes (slice_get right j)
-size_is classes right j = ap (λ b. cond b Long (size_of_some classes (slice_get right (suc j - 1)))) (not_zero j) ∙ ap (λ k. size_of_some classes (slice_get right k)) (one_less j)
-
 -- what stands for `%0` is a register where it has a value
 pub register_result : (g : Give) (hs : List (Attr Operand)) (a : Attr Operand) → own_of g ≡ own.Register → IsResult vax g hs a → (n : ℕ) × (a ≡ attr.Reg n) × (n < 12)
 register_result give.Fresh hs (attr.Reg n) is r = (n, refl, r.0)
@@ -369,7 +367,7 @@ module _ (every : Bool) (q : TreeProgram) (f : Extent) (fs : List Extent) (class
       (sym (role_is scene j ∙ ap hole_or_other (mapped_at classes rule.right j ∙ ap (option_map (hole_of classes)) is))) tt
   means_by j (Some s) is =
       let x = filled_at classes rule.right hs j s inst.holes_fit is in
-      let sized : size_at classes rule.right (suc j) ≡ size_of_symbol classes s = size_is classes rule.right j ∙ ap (size_of_some classes) is in
+      let sized : size_at classes rule.right (suc j) ≡ size_of_symbol classes s = size_behind classes rule.right j ∙ ap (size_of_some classes) is in
       subst (λ r. Means scene m r (suc j) (filling_at scene (suc j)))
       (sym (role_is scene j ∙ ap hole_or_other (mapped_at classes rule.right j ∙ ap (option_map (hole_of classes)) is)))
       (subst (λ a. Means scene m (hole_of classes s) (suc j) a) (sym (filling_is scene j ∙ ap (attr_or res) x.at))

@@ -25,6 +25,7 @@ use Rattle.vax_machine.specs.declared.function.Conditions.{Conditions}
 use Rattle.vax_machine.specs.State.{State, reg, with_reg, with_conditions}
 use Rattle.vax_machine_lists.specs.Sound.{IsSound}
 use Rattle.vax_machine_lists.specs.Instructions.{Course, Ending, Comes, Goes, Calls, Returns, Stops, ends, comes, followed, bytes_first, performed, exec}
+use Rattle.vax_machine_lists.proofs.Soundness.{conditions_sound}
 use Rattle.vax_states.proofs.Keeping.{sound_register}
 use Rattle.vax_templates.specs.declared.setting.Hole.{Hole}
 use Rattle.vax_templates.specs.declared.setting.Hole.TheVariants as hole_kind
@@ -52,18 +53,6 @@ use Rattle.vax_target_runs.proofs.Seen.{means_kept}
 use Rattle.vax_target_runs.specs.Runs.{OwnChanged, ZeroChanged, Changed, SeesBehind, Reaches, IsReturn, EndsIn, ComesTo, RunsTo, IsApart, line_of, AllRead, IsCalm, LinesRun}
 
 -- ---- states that differ
-
-conditions_sound : (n : State) (k : Conditions) → IsSound n → IsSound (with_conditions n k)
-conditions_sound n k s = record {
-  going = s.going;
-  registers = s.registers;
-  longwords = s.longwords;
-  stack = s.stack;
-  stack_bytes = s.stack_bytes;
-  area = s.area;
-  area_bytes = s.area_bytes;
-  input_bytes = s.input_bytes;
-}
 
 -- one change after another
 joined : (a b e : ℕ → Type 0) (m n x : State) → ((r : ℕ) → a r → e r) → ((r : ℕ) → b r → e r) → Differs a m n → Differs b n x → Differs e m x

@@ -16,7 +16,7 @@ use Rattle.sel_target.specs.Meaning.{RegAt}
 use Rattle.sel_target.specs.Instances.{attr_touches}
 use Rattle.vax_core.specs.declared.register.Reg.{Reg}
 use Rattle.vax_core.specs.declared.operand.Operand.{Operand}
-use Rattle.vax_core.specs.Homes.{home, at_home, argument_home}
+use Rattle.vax_core.specs.Homes.{at_home}
 use Rattle.vax_core.specs.Registers.{reg_number, base_register, operand_bits, bit}
 use Rattle.vax_core.proofs.RegisterLaws.{none_named}
 use Rattle.vax_machine.specs.State.{State}
@@ -25,6 +25,7 @@ use Rattle.vax_templates.specs.declared.setting.Hole.{Hole}
 use Rattle.vax_templates.specs.declared.setting.Hole.TheVariants as hole_kind
 use Rattle.vax_templates.specs.Judging.{is_operand}
 use Rattle.vax_templates.specs.Filled.{spare, numbered, addr_in, word_operand, slot_operand, argument_deferred, slot_deferred, leaf_operand, operand_in, leaf_deferred, deferred_in}
+use Rattle.vax_templates.proofs.Homes.{local_bits, argument_bits}
 use Rattle.vax_target_meaning.specs.Vax.{vax}
 use Rattle.vax_target_operands.specs.Scenes.{Scene, worth, Means, IsRegister, IsPlace, IsLocal, Names, IsNumber, IsObject, IsSavedLocal}
 use Rattle.vax_target_runs.specs.Kept.{Differs}
@@ -34,18 +35,6 @@ use Rattle.vax_target_runs.proofs.Kept.{base_untouched, index_untouched, Away, r
 
 no_bit : (o : Operand) (x : ℕ) → operand_bits o ≡ 0 → (bit_at (operand_bits o) x == 1) ≡ false
 no_bit o x e = ap (λ b. bit_at b x == 1) e ∙ ap (λ b. b == 1) (none_named x)
-
-word_bits : (k : ℕ) → operand_bits (word_operand k) ≡ 0
-word_bits k = by (nat_lt k 1024) where
-  by : (b : Bool) → operand_bits (cond b (home k) spare) ≡ 0
-  by true = refl
-  by false = refl
-
-argument_bits : (k : ℕ) → operand_bits (slot_operand tok.Arg k) ≡ 0
-argument_bits k = by (nat_le k 255) where
-  by : (b : Bool) → operand_bits (cond b (argument_home k) spare) ≡ 0
-  by true = refl
-  by false = refl
 
 at_word_bits : (k : ℕ) → operand_bits (cond (nat_lt k 1024) (at_home k) spare) ≡ 0
 at_word_bits k = by (nat_lt k 1024) where
@@ -61,46 +50,46 @@ at_argument_bits k = by (nat_le k 255) where
 
 -- an argument's operand, or a word's
 slot_bits : (t : Tok) (k : ℕ) → operand_bits (slot_operand t k) ≡ 0
-slot_bits tok.Zero k = word_bits k
-slot_bits tok.One k = word_bits k
-slot_bits tok.Two k = word_bits k
-slot_bits tok.Four k = word_bits k
-slot_bits tok.Eight k = word_bits k
-slot_bits tok.Const k = word_bits k
-slot_bits tok.Gaddr k = word_bits k
-slot_bits tok.Loc k = word_bits k
+slot_bits tok.Zero k = local_bits k
+slot_bits tok.One k = local_bits k
+slot_bits tok.Two k = local_bits k
+slot_bits tok.Four k = local_bits k
+slot_bits tok.Eight k = local_bits k
+slot_bits tok.Const k = local_bits k
+slot_bits tok.Gaddr k = local_bits k
+slot_bits tok.Loc k = local_bits k
 slot_bits tok.Arg k = argument_bits k
-slot_bits tok.IndirB k = word_bits k
-slot_bits tok.IndirW k = word_bits k
-slot_bits tok.IndirL k = word_bits k
-slot_bits tok.Plus k = word_bits k
-slot_bits tok.Minus k = word_bits k
-slot_bits tok.Mul k = word_bits k
-slot_bits tok.Div k = word_bits k
-slot_bits tok.Mod k = word_bits k
-slot_bits tok.And k = word_bits k
-slot_bits tok.Or k = word_bits k
-slot_bits tok.Xor k = word_bits k
-slot_bits tok.Lsh k = word_bits k
-slot_bits tok.Rsh k = word_bits k
-slot_bits tok.Neg k = word_bits k
-slot_bits tok.Com k = word_bits k
-slot_bits tok.Sxb k = word_bits k
-slot_bits tok.Zxb k = word_bits k
-slot_bits tok.Sxw k = word_bits k
-slot_bits tok.Zxw k = word_bits k
-slot_bits tok.Ncb k = word_bits k
-slot_bits tok.Ncw k = word_bits k
-slot_bits tok.AssignB k = word_bits k
-slot_bits tok.AssignW k = word_bits k
-slot_bits tok.AssignL k = word_bits k
-slot_bits tok.Cbr k = word_bits k
-slot_bits tok.Push k = word_bits k
-slot_bits tok.Ret k = word_bits k
-slot_bits tok.Call k = word_bits k
-slot_bits tok.Save k = word_bits k
-slot_bits tok.Jump k = word_bits k
-slot_bits tok.End k = word_bits k
+slot_bits tok.IndirB k = local_bits k
+slot_bits tok.IndirW k = local_bits k
+slot_bits tok.IndirL k = local_bits k
+slot_bits tok.Plus k = local_bits k
+slot_bits tok.Minus k = local_bits k
+slot_bits tok.Mul k = local_bits k
+slot_bits tok.Div k = local_bits k
+slot_bits tok.Mod k = local_bits k
+slot_bits tok.And k = local_bits k
+slot_bits tok.Or k = local_bits k
+slot_bits tok.Xor k = local_bits k
+slot_bits tok.Lsh k = local_bits k
+slot_bits tok.Rsh k = local_bits k
+slot_bits tok.Neg k = local_bits k
+slot_bits tok.Com k = local_bits k
+slot_bits tok.Sxb k = local_bits k
+slot_bits tok.Zxb k = local_bits k
+slot_bits tok.Sxw k = local_bits k
+slot_bits tok.Zxw k = local_bits k
+slot_bits tok.Ncb k = local_bits k
+slot_bits tok.Ncw k = local_bits k
+slot_bits tok.AssignB k = local_bits k
+slot_bits tok.AssignW k = local_bits k
+slot_bits tok.AssignL k = local_bits k
+slot_bits tok.Cbr k = local_bits k
+slot_bits tok.Push k = local_bits k
+slot_bits tok.Ret k = local_bits k
+slot_bits tok.Call k = local_bits k
+slot_bits tok.Save k = local_bits k
+slot_bits tok.Jump k = local_bits k
+slot_bits tok.End k = local_bits k
 
 at_slot_bits : (t : Tok) (k : ℕ) → operand_bits (slot_deferred t k) ≡ 0
 at_slot_bits tok.Zero k = at_word_bits k
@@ -175,7 +164,7 @@ deferred_bits q attr.Nothing = refl
 -- what a hole's operand spells, the hole touches
 hole_bit : (q : TreeProgram) (h : Attr Operand) (x : ℕ) → attr_touches vax h (RegAt x) ≡ false → (bit_at (operand_bits (operand_in q h)) x == 1) ≡ false
 hole_bit q (attr.Reg r) x e = e
-hole_bit q (attr.InSlot w) x e = no_bit (word_operand w) x (word_bits w)
+hole_bit q (attr.InSlot w) x e = no_bit (word_operand w) x (local_bits w)
 hole_bit q (attr.Value o) x e = e
 hole_bit q (attr.Place o) x e = e
 hole_bit q (attr.Con n) x e = no_bit (operand_in q (attr.Con n)) x refl

@@ -7,6 +7,7 @@ use Rattle.md_reader.specs.declared.types.Kind.TheVariants as kind
 use Rattle.term_core.specs.Shape.{Shape, Symbol}
 use Rattle.term_core.proofs.Values.{small}
 use Rattle.sel_terms.specs.Effects.{EffectShape, Value}
+use Rattle.sel_terms.proofs.Facts.{same_Value}
 use Rattle.sel_target.specs.declared.attr.Attr.TheVariants as attr
 use Rattle.sel_target.specs.Values.{value, term_state, IsRead}
 use Rattle.vax_core.specs.Homes.{home}
@@ -15,6 +16,7 @@ use Rattle.vax_machine.specs.declared.function.Conditions.{Conditions}
 use Rattle.vax_machine.specs.State.{State, with_reg, with_conditions}
 use Rattle.vax_machine_lists.specs.Instructions.{performed}
 use Rattle.vax_machine_lists.specs.Sound.{IsSound}
+use Rattle.vax_machine_lists.proofs.Soundness.{conditions_sound}
 use Rattle.vax_states.proofs.Keeping.{sound_register}
 use Rattle.vax_templates.specs.declared.setting.Hole.TheVariants as hole_kind
 use Rattle.vax_templates.specs.Settings.{saved_setting}
@@ -28,15 +30,11 @@ use Rattle.vax_target_lines.proofs.Performing.{lines_do, number_is}
 use Rattle.vax_target_runs.specs.Kept.{Differs}
 use Rattle.vax_target_runs.proofs.Kept.{registers_are_kept}
 use Rattle.vax_target_saving.specs.Laws.{LinesReload}
-use Rattle.vax_target_saving.proofs.Words.{sound_codes}
 use Rattle.vax_target_saving.proofs.Found.{ResultFound, result_found}
 use Rattle.vax_target_saving.proofs.Parts.{value_reads}
 use Rattle.vax_target_saving.proofs.Scene.{scene, sees, symbol_is}
 use Rattle.vax_target_saving.proofs.Lines.{one_line}
 use Rattle.vax_target_saving.proofs.Owned.{line_plain}
-
-value_is : (a b : Shape) → Value a ≡ Value b → a ≡ b
-value_is a b e = cc
 
 -- a register with a number
 abbrev reloaded : State → ℕ → ℕ → Conditions → State
@@ -49,7 +47,7 @@ module _ (m : State) (r x : ℕ) (k : Conditions) (low : r < 12) (fits : x < 2 ^
     conditions = k;
     is = refl;
     others = λ y off. get_or-set_other m.registers (reg_number (numbered r)) y x 0 (λ e. off (e ∙ number_is r low));
-    sound = sound_codes (with_reg m (numbered r) x) k (sound_register m (reg_number (numbered r)) x sound fits);
+    sound = conditions_sound (with_reg m (numbered r) x) k (sound_register m (reg_number (numbered r)) x sound fits);
   }
 
   there : vax.reads (vax.register r) Long (reloaded m r x k) ≡ Some x
@@ -67,7 +65,7 @@ lines_reload q f fs l s w r n v m low slot set e fits =
     let means : vax.reads (home w) Long m ≡ Some (value v (Symbol 1)) = e ∙ ap Some (sym (symbol_is v n set.symbol fits)) in
     let seen = sees q kind.Reg (attr.Value (home w)) (attr.Reg r) v m means f fs set.agrees (record { number = r; is = refl; low = low }) in
     let plain : d.last ≡ Plain = line_plain (saved_setting kind.Reg) (hole_kind.Value Long ∷ []) true None Plain l.pieces d g.line.did g.value g.own in
-    let term : g.value ≡ s.term = value_is g.value s.term (g.act ∙ s.act) in
+    let term : g.value ≡ s.term = same_Value g.value s.term (g.act ∙ s.act) in
     let none : AllByRecursion (λ (t : Shape). worth c t ≡ 0 → ⊥) d.divisors =
     subst (λ (x : List Shape). AllByRecursion (λ (t : Shape). worth c t ≡ 0 → ⊥) x) (sym (g.line.divisors ∙ s.undivided)) tt in
     let ends : AllByRecursion (λ (t : Shape). IsRead v t) (terms_of_last d.last) = subst (λ (x : Last). AllByRecursion (λ (t : Shape). IsRead v t) (terms_of_last x)) (sym plain) tt in

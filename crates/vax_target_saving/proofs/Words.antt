@@ -29,7 +29,8 @@ use Rattle.vax_machine.specs.declared.memory.Region.TheVariants as regions
 use Rattle.vax_machine.specs.State.{State, reg, with_conditions, access, frame, ◌>>=◌}
 use Rattle.vax_machine.specs.Area.{resolved_of}
 use Rattle.vax_machine.specs.Memory.{low, touched, number_at, with_number_at, read, written}
-use Rattle.vax_machine_lists.specs.Sound.{AllBelow, IsSound}
+use Rattle.vax_machine_lists.specs.Sound.{AllBelow}
+use Rattle.vax_machine_lists.proofs.Soundness.{conditions_sound}
 use Rattle.vax_states.specs.Stack.{Extent, word_of}
 use Rattle.vax_states.specs.Agreeing.{Agrees, HasRoom}
 use Rattle.vax_states.proofs.Pieces.{word_low, word_high, words_free}
@@ -265,21 +266,9 @@ module _ (m : State) (w : ℕ) (f : IsFrameWord m w) where
 
 -- ---- the state still stands for the trees' one
 
-pub sound_codes : (n : State) (k : Conditions) → IsSound n → IsSound (with_conditions n k)
-sound_codes n k h = record {
-  going = h.going;
-  registers = h.registers;
-  longwords = h.longwords;
-  stack = h.stack;
-  stack_bytes = h.stack_bytes;
-  area = h.area;
-  area_bytes = h.area_bytes;
-  input_bytes = h.input_bytes;
-}
-
 agrees_codes : (objects : List Object) (e : Extent) (es : List Extent) (t : Trees) (n : State) (k : Conditions) → Agrees objects e es t n → Agrees objects e es t (with_conditions n k)
 agrees_codes objects e es t n k h = record {
-  sound = sound_codes n k h.sound;
+  sound = conditions_sound n k h.sound;
   labelled = h.labelled;
   area = h.area;
   input = h.input;

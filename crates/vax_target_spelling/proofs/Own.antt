@@ -1,6 +1,6 @@
 -- What the operands of registers, words and arguments spell, and which operands are spelled alike.
 use Rattle.std.proofs.Common.{◌≡◌, ◌↔◌, ℕ, zero, suc, ◌+◌, ◌-◌, ◌*◌, ◌/◌, ◌%◌, ◌^◌, ◌<◌, ◌==◌, ◌&&◌, ◌||◌, Bool, true, false, cond, Option, Some, None, refl, ap, ◌∙◌, arith}
-use Rattle.std.specs.Prelude.{nat_lt, nat_le}
+use Rattle.std.specs.Prelude.{nat_le}
 use Rattle.std.proofs.lemmas.Bool.{lt-ltb, le-leb}
 use Rattle.gg_base.proofs.Facts.{is_zero}
 use Rattle.gg_base.proofs.Words.{neg_twice}
@@ -64,18 +64,6 @@ local_is k lt = ap (λ b. cond b (home k) spare) (lt-ltb k 1024 lt)
 
 pub local_word : (k : ℕ) → k < 1024 → word_of (word_operand k).base ≡ Some k
 local_word k lt = ap (λ (o : Operand). word_of o.base) (local_is k lt) ∙ home_word k lt
-
-pub local_bits : (k : ℕ) → operand_bits (word_operand k) ≡ 0
-local_bits k = by (nat_lt k 1024) where
-  by : (b : Bool) → operand_bits (cond b (home k) spare) ≡ 0
-  by true = refl
-  by false = refl
-
-pub argument_bits : (k : ℕ) → operand_bits (slot_operand tok.Arg k) ≡ 0
-argument_bits k = by (nat_le k 255) where
-  by : (b : Bool) → operand_bits (cond b (argument_home k) spare) ≡ 0
-  by true = refl
-  by false = refl
 
 pub argument_word : (k : ℕ) → word_of (slot_operand tok.Arg k).base ≡ None
 argument_word k = by (nat_le k 255) where

@@ -30,7 +30,7 @@ use Rattle.sel_target.specs.declared.attr.Attr.{Attr}
 use Rattle.sel_target.specs.declared.attr.Attr.TheVariants as attr
 use Rattle.sel_target.specs.declared.fault.TemplateKind.{TemplateKind}
 use Rattle.sel_target.specs.Meaning.{Fault, Spot, RegAt, WordAt, touches, is_word}
-use Rattle.sel_target.specs.Values.{own_operand, token_operand, slot_place}
+use Rattle.sel_target.specs.Values.{own_operand}
 use Rattle.sel_target.specs.Instances.{hole, attr_touches, KindFits, SymFits, Fit}
 use Rattle.vax_core.specs.declared.register.Reg.{Reg}
 use Rattle.vax_core.specs.declared.operand.Addr.{Addr}
@@ -63,8 +63,9 @@ use Rattle.vax_templates.specs.GiveLines.{value_given, place_given, without_inde
 use Rattle.vax_templates.specs.GiveLines.{given_shape}
 use Rattle.vax_templates.specs.Found.{ended, template_found, checked, with_divisors, found}
 use Rattle.vax_templates.specs.Filled.{alone, spare, numbered, register_in, attr_or, attr_at, addr_in, addr_number, number_addr, object_addr, word_operand, slot_operand}
-use Rattle.vax_templates.specs.Filled.{slot_deferred, argument_deferred, leaf_operand, operand_in, deferred_in, filled_base, with_index, filled, filled_or_spare, filled_operand}
+use Rattle.vax_templates.specs.Filled.{slot_deferred, argument_deferred, operand_in, deferred_in, filled_base, with_index, filled, filled_or_spare, filled_operand}
 use Rattle.vax_target_meaning.specs.Vax.{vax}
+use Rattle.vax_target_meaning.proofs.Own.{attr_alone}
 use Rattle.vax_target_writing.proofs.Each.{EachOk, bind_each, always_ok, still_ok, of_ok}
 use Rattle.vax_target_writing.proofs.Naming.{either_is}
 use Rattle.vax_target_spelling.proofs.Own.{names_at, base_at, touches_is}
@@ -580,30 +581,6 @@ shape_touches q classes rule e l hs s is gives fit =
     (ap (λ g. template_found (setting_of classes rule) (holes_of classes rule.right) (kind_at classes rule.left) rule.lines g) (sym gives) ∙ is)
 
 -- ---- a hole alone
-
-slot_alone : (x : Tok) (k : ℕ) (o : Operand) → slot_place word_operand (slot_operand tok.Arg) x k ≡ Some o → slot_operand x k ≡ o
-slot_alone tok.Loc k o e = cc
-slot_alone tok.Arg k o e = cc
-slot_alone x k o e = absurd (cc)
-
-token_alone : (q : TreeProgram) (x : Tok) (a : Att) (o : Operand) → token_operand vax x a ≡ Some o → leaf_operand q x a ≡ o
-token_alone q x (att.Slot k) o e = slot_alone x k o e
-token_alone q x att.Nothing o e = absurd (cc)
-token_alone q x (att.Number n) o e = absurd (cc)
-token_alone q x (att.Object object offset) o e = absurd (cc)
-token_alone q x (att.Branch rel label) o e = absurd (cc)
-token_alone q x (att.Label label) o e = absurd (cc)
-token_alone q x (att.Callee function count) o e = absurd (cc)
-
-attr_alone : (q : TreeProgram) (h : Attr Operand) (o : Operand) → own_operand vax h ≡ Some o → operand_in q h ≡ o
-attr_alone q (attr.Place p) o e = cc
-attr_alone q (attr.Token l) o e = token_alone q l.tok l.att o e
-attr_alone q (attr.Reg r) o e = absurd (cc)
-attr_alone q (attr.InSlot w) o e = absurd (cc)
-attr_alone q (attr.Value p) o e = absurd (cc)
-attr_alone q (attr.Con n) o e = absurd (cc)
-attr_alone q (attr.Ea p) o e = absurd (cc)
-attr_alone q attr.Nothing o e = absurd (cc)
 
 alone_filled : (q : TreeProgram) (i : ℕ) (hs : List (Attr Operand)) → filled_operand q (piece.Hole i ∷ []) hs ≡ operand_in q (attr_at hs attr.Nothing i)
 unfolding Rattle.vax_templates.specs.Forms.form_front Rattle.vax_templates.specs.Forms.base_front Rattle.vax_templates.specs.Forms.number_spelled

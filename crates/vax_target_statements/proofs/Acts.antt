@@ -24,8 +24,8 @@ use Rattle.sel_target.specs.Instances.{Ready}
 use Rattle.vax_core.specs.declared.operand.Operand.{Operand}
 use Rattle.vax_machine.specs.declared.function.Conditions.{Conditions}
 use Rattle.vax_machine.specs.State.{State, with_conditions}
-use Rattle.vax_machine_lists.specs.Sound.{IsSound}
 use Rattle.vax_machine_lists.specs.Instructions.{Course, exec}
+use Rattle.vax_machine_lists.proofs.Soundness.{conditions_sound}
 use Rattle.vax_states.specs.Agreeing.{HasRoom}
 use Rattle.vax_templates.specs.declared.form.Base.{Base}
 use Rattle.vax_templates.specs.declared.form.Base.TheVariants as base
@@ -148,18 +148,6 @@ last_given s roles k o l give.Scratch a e d = e
 last_given s roles k o l give.Nothing a e d = e
 last_given s roles k o l (give.Shape x) a e d =
     let f = chained (shape_read (shape_of_pieces x.pieces)) (shape_given s roles k) a e in absurd (shape_plain s roles k f.first a f.then_so d)
-
-conditions_sound : (n : State) (k : Conditions) → IsSound n → IsSound (with_conditions n k)
-conditions_sound n k s = record {
-  going = s.going;
-  registers = s.registers;
-  longwords = s.longwords;
-  stack = s.stack;
-  stack_bytes = s.stack_bytes;
-  area = s.area;
-  area_bytes = s.area_bytes;
-  input_bytes = s.input_bytes;
-}
 
 -- the condition codes stand for nothing of trees
 pub codes_agree : (q : TreeProgram) (f : Extent) (fs : List Extent) (t : Trees) (n : State) (k : Conditions) → stands q f fs t n → stands q f fs t (with_conditions n k)

@@ -3,10 +3,6 @@ use Rattle.std.proofs.Common.{◌≡◌, ℕ, zero, suc, List, Option, Some, Non
 use Rattle.gg_base.specs.declared.size.Size.{Size}
 use Rattle.gg_base.specs.declared.size.Size.TheVariants.{Long}
 use Rattle.tree_core.specs.declared.program.TreeProgram.{TreeProgram}
-use Rattle.tree_core.specs.declared.token.Tok.{Tok}
-use Rattle.tree_core.specs.declared.token.Tok.TheVariants as tok
-use Rattle.tree_core.specs.declared.tree.Att.{Att}
-use Rattle.tree_core.specs.declared.tree.Att.TheVariants as att
 use Rattle.tree_core.specs.Area.{stored}
 use Rattle.tree_meaning.specs.State.{State as Trees}
 use Rattle.tree_meaning.specs.Steps as steps
@@ -20,9 +16,8 @@ use Rattle.term_core.specs.Shape.{Shape}
 use Rattle.term_core.proofs.Values.{small}
 use Rattle.sel_terms.specs.Effects.{ActShape, EffectShape}
 use Rattle.sel_target.specs.declared.attr.Attr.{Attr}
-use Rattle.sel_target.specs.declared.attr.Attr.TheVariants as attr
 use Rattle.sel_target.specs.Meaning.{Extent}
-use Rattle.sel_target.specs.Values.{View, term_state, value, slot_place, own_operand, token_operand}
+use Rattle.sel_target.specs.Values.{View, term_state, value}
 use Rattle.sel_target.specs.Instances.{hole, Ready}
 use Rattle.sel_target.specs.StatementLaws.{IsStep}
 use Rattle.vax_core.specs.declared.register.Reg.TheVariants.{R0}
@@ -38,7 +33,7 @@ use Rattle.vax_machine.specs.Step.{pushing}
 use Rattle.vax_machine_lists.specs.Instructions as lists
 use Rattle.vax_machine_lists.specs.Instructions.{Course, exec}
 use Rattle.vax_states.proofs.Standing.{area_written_so, push_written}
-use Rattle.vax_templates.specs.Filled.{slot_operand, leaf_operand, operand_in, attr_or}
+use Rattle.vax_templates.specs.Filled.{attr_or}
 use Rattle.vax_target_meaning.specs.Running.{course_of}
 use Rattle.vax_target_meaning.specs.Vax.{vax, stands}
 use Rattle.vax_target_operands.specs.Scenes.{Scene, worth, filling_at}
@@ -53,85 +48,6 @@ filled_hole s zero h e = cc
 filled_hole s (suc j) h e = filling_is s j ∙ ap (attr_or s.own) e
 
 -- a symbol's own place is what its hole spells
-pub own_is : (q : TreeProgram) (h : Attr Operand) (o : Operand) → own_operand vax h ≡ Some o → operand_in q h ≡ o
-own_is q (attr.Reg r) o e = absurd (none_op o e) where
-  none_op : (o : Operand) → None ≡ Some o → ⊥
-  none_op o e = cc
-own_is q (attr.InSlot w) o e = absurd (none_op o e) where
-  none_op : (o : Operand) → None ≡ Some o → ⊥
-  none_op o e = cc
-own_is q (attr.Value p) o e = absurd (none_op o e) where
-  none_op : (o : Operand) → None ≡ Some o → ⊥
-  none_op o e = cc
-own_is q (attr.Place p) o e = some_op p o e where
-  some_op : (p o : Operand) → Some p ≡ Some o → p ≡ o
-  some_op p o e = cc
-own_is q (attr.Con n) o e = absurd (none_op o e) where
-  none_op : (o : Operand) → None ≡ Some o → ⊥
-  none_op o e = cc
-own_is q (attr.Ea p) o e = absurd (none_op o e) where
-  none_op : (o : Operand) → None ≡ Some o → ⊥
-  none_op o e = cc
-own_is q (attr.Token l) o e = token_is l.tok l.att o e where
-  none_op : (o : Operand) → None ≡ Some o → ⊥
-  none_op o e = cc
-
-  some_op : (p o : Operand) → Some p ≡ Some o → p ≡ o
-  some_op p o e = cc
-
-  slot_is : (t : Tok) (k : ℕ) (o : Operand) → slot_place vax.local vax.argument t k ≡ Some o → slot_operand t k ≡ o
-  slot_is tok.Zero k o e = absurd (none_op o e)
-  slot_is tok.One k o e = absurd (none_op o e)
-  slot_is tok.Two k o e = absurd (none_op o e)
-  slot_is tok.Four k o e = absurd (none_op o e)
-  slot_is tok.Eight k o e = absurd (none_op o e)
-  slot_is tok.Const k o e = absurd (none_op o e)
-  slot_is tok.Gaddr k o e = absurd (none_op o e)
-  slot_is tok.Loc k o e = some_op _ o e
-  slot_is tok.Arg k o e = some_op _ o e
-  slot_is tok.IndirB k o e = absurd (none_op o e)
-  slot_is tok.IndirW k o e = absurd (none_op o e)
-  slot_is tok.IndirL k o e = absurd (none_op o e)
-  slot_is tok.Plus k o e = absurd (none_op o e)
-  slot_is tok.Minus k o e = absurd (none_op o e)
-  slot_is tok.Mul k o e = absurd (none_op o e)
-  slot_is tok.Div k o e = absurd (none_op o e)
-  slot_is tok.Mod k o e = absurd (none_op o e)
-  slot_is tok.And k o e = absurd (none_op o e)
-  slot_is tok.Or k o e = absurd (none_op o e)
-  slot_is tok.Xor k o e = absurd (none_op o e)
-  slot_is tok.Lsh k o e = absurd (none_op o e)
-  slot_is tok.Rsh k o e = absurd (none_op o e)
-  slot_is tok.Neg k o e = absurd (none_op o e)
-  slot_is tok.Com k o e = absurd (none_op o e)
-  slot_is tok.Sxb k o e = absurd (none_op o e)
-  slot_is tok.Zxb k o e = absurd (none_op o e)
-  slot_is tok.Sxw k o e = absurd (none_op o e)
-  slot_is tok.Zxw k o e = absurd (none_op o e)
-  slot_is tok.Ncb k o e = absurd (none_op o e)
-  slot_is tok.Ncw k o e = absurd (none_op o e)
-  slot_is tok.AssignB k o e = absurd (none_op o e)
-  slot_is tok.AssignW k o e = absurd (none_op o e)
-  slot_is tok.AssignL k o e = absurd (none_op o e)
-  slot_is tok.Cbr k o e = absurd (none_op o e)
-  slot_is tok.Push k o e = absurd (none_op o e)
-  slot_is tok.Ret k o e = absurd (none_op o e)
-  slot_is tok.Call k o e = absurd (none_op o e)
-  slot_is tok.Save k o e = absurd (none_op o e)
-  slot_is tok.Jump k o e = absurd (none_op o e)
-  slot_is tok.End k o e = absurd (none_op o e)
-
-  token_is : (t : Tok) (a : Att) (o : Operand) → token_operand vax t a ≡ Some o → leaf_operand q t a ≡ o
-  token_is t att.Nothing o e = absurd (none_op o e)
-  token_is t (att.Number n) o e = absurd (none_op o e)
-  token_is t (att.Object object offset) o e = absurd (none_op o e)
-  token_is t (att.Slot k) o e = slot_is t k o e
-  token_is t (att.Branch rel label) o e = absurd (none_op o e)
-  token_is t (att.Label label) o e = absurd (none_op o e)
-  token_is t (att.Callee function count) o e = absurd (none_op o e)
-own_is q attr.Nothing o e = absurd (none_op o e) where
-  none_op : (o : Operand) → None ≡ Some o → ⊥
-  none_op o e = cc
 
 module _ (q : TreeProgram) (f : Extent) (fs : List Extent) (classes : List Class) (rule : Rule) (e : EffectShape) (hs : List (Attr Operand)) (res : Attr Operand) (v : View) (m : State)
     (ready : Ready vax q f fs classes rule e hs res v m) where

@@ -1,5 +1,5 @@
 -- Only the first symbol of a rule branches or saves.
-use Rattle.std.proofs.Common.{◌≡◌, ℕ, zero, suc, Bool, true, false, List, [], ◌∷◌, Option, Some, None, refl, sym, subst, ◌∙◌}
+use Rattle.std.proofs.Common.{◌≡◌, ℕ, zero, suc, Bool, true, false, List, [], ◌∷◌, Option, Some, refl, sym, subst, ◌∙◌}
 use Rattle.std.specs.Prelude.{slice_get, not}
 use Rattle.std.specs.List.{AllByRecursion, list_all}
 use Rattle.std.proofs.lemmas.Bool.{and_parts}
@@ -12,8 +12,6 @@ use Rattle.tree_core.specs.declared.tree.Att.TheVariants as att
 use Rattle.tree_core.specs.declared.tree.Leaf.{Leaf}
 use Rattle.tree_core.specs.Grammar.{kids, sort_of, fits}
 use Rattle.tree_core.specs.Attributes.{attribute_of, is_of_kind}
-use Rattle.md_reader.specs.declared.types.Kind.{Kind}
-use Rattle.md_reader.specs.declared.types.Kind.TheVariants as kind
 use Rattle.md_reader.specs.declared.types.Class.{Class}
 use Rattle.md_reader.specs.declared.types.Sym.{Sym}
 use Rattle.md_reader.specs.declared.types.Sym.TheVariants as grammar_symbol
@@ -21,7 +19,8 @@ use Rattle.md_reader.specs.Patterns.{kind_at, kids_of, sort_fits, Trees, no_tree
 use Rattle.md_reader.specs.Restrictions.{is_branch}
 use Rattle.sel_target.specs.declared.attr.Attr.{Attr}
 use Rattle.sel_target.specs.declared.attr.Attr.TheVariants as attr
-use Rattle.sel_target.specs.Instances.{KindFits, SymFits, Fit}
+use Rattle.sel_target.specs.Instances.{SymFits, Fit}
+use Rattle.sel_target.proofs.Facts.{no_token}
 use Rattle.vax_core.specs.declared.operand.Operand.{Operand}
 use Rattle.vax_target_meaning.specs.Vax.{vax}
 
@@ -273,15 +272,6 @@ branches_only tok.Save rel label e = cc
 branches_only tok.Jump rel label e = cc
 branches_only tok.End rel label e = cc
 
-pub no_class : (k : Option Kind) (l : Leaf) → KindFits vax k (attr.Token l) → ⊥
-no_class None l h = h
-no_class (Some kind.Reg) l h = h
-no_class (Some (kind.Value size)) l h = h
-no_class (Some (kind.Place size)) l h = h
-no_class (Some kind.Con) l h = h
-no_class (Some kind.Ea) l h = h
-no_class (Some kind.Nothing) l h = h
-
 -- a hole that branches is the first
 pub branch_hole : (classes : List Class) (left : Sort) (right : List Sym) (hs : List (Attr Operand)) (j : ℕ) (l : Leaf) (rel : Rel) (label : ℕ) →
     IsSorted classes left right → Fit vax classes right hs → slice_get hs j ≡ Some (attr.Token l) → l.att ≡ att.Branch rel label → j ≡ 0
@@ -293,4 +283,4 @@ branch_hole classes left right hs j l rel label sorted fit e is = by r.symbol r.
   by (grammar_symbol.Tok t) at x =
       branch_first right j (grammar_symbol.Tok t) (rest_of classes left right sorted) at
       (branches_only t rel label (subst (λ y. is_of_kind (attribute_of y) (att.Branch rel label) ≡ true) x.0 (subst (λ y. is_of_kind (attribute_of l.tok) y ≡ true) is x.1)))
-  by (grammar_symbol.Class k) at x = absurd (no_class (kind_at classes k) l x)
+  by (grammar_symbol.Class k) at x = absurd (no_token vax (kind_at classes k) l x)

@@ -46,6 +46,7 @@ use Rattle.vax_templates.specs.GiveLines.{given_by}
 use Rattle.vax_templates.specs.Filled.{spare, word_operand, slot_operand, operand_in, register_in}
 use Rattle.vax_target_meaning.specs.Reading.{names, displaced}
 use Rattle.vax_target_meaning.specs.Vax.{vax, stands}
+use Rattle.vax_target_meaning.proofs.Own.{attr_alone}
 use Rattle.vax_target_operands.specs.Scenes.{Scene, worth, filling_at}
 use Rattle.vax_target_lines.specs.Lines.{MayHold, IsStored, putting, Puts}
 use Rattle.vax_target_lines.proofs.Performing.{number_is}
@@ -55,7 +56,7 @@ use Rattle.vax_target_rules.proofs.Founds.{IsFound}
 use Rattle.vax_target_rules.proofs.Instances.{register_result}
 use Rattle.vax_target_rules.proofs.Results.{found_so, low, avoids_at, avoided}
 use Rattle.vax_target_statements.proofs.Acts.{c, did, IsDeed, left_plain, agrees_there, live_there}
-use Rattle.vax_target_statements.proofs.Deeds.{filled_hole, own_is, Steps, goes, area_goes}
+use Rattle.vax_target_statements.proofs.Deeds.{filled_hole, Steps, goes, area_goes}
 
 -- what a symbol's own place spells, its hole touches
 own_touches : (h : Attr Operand) (o : Operand) (s : Spot) → own_operand vax h ≡ Some o → attr_touches vax h s ≡ touches vax o s
@@ -198,7 +199,7 @@ module _ (q : TreeProgram) (f : Extent) (fs : List Extent) (classes : List Class
     by : IsStored S n size i p.place → G (deed_step q v.state (PutsDeed g (worth S t)))
     by (inl s) = absurd (no_slot rule.give s.0.0 s.0.1)
     by (inr h) =
-        let o : operand_in q (filling_at S i) ≡ home_is.operand_is = ap (operand_in q) (filled_hole S i home_is.attribute home_is.at) ∙ own_is q home_is.attribute home_is.operand_is home_is.own in
+        let o : operand_in q (filling_at S i) ≡ home_is.operand_is = ap (operand_in q) (filled_hole S i home_is.attribute home_is.at) ∙ attr_alone q home_is.attribute home_is.operand_is home_is.own in
         place_goes i size t home_is.attribute home_is.operand_is g h.address
         (record { place = p.place; conditions = p.conditions; there = h.is; is = p.is })
         home_is.at home_is.own (subst (λ z. names z size n ≡ Some h.address) o h.named_so) home_is.place

@@ -29,6 +29,7 @@ use Rattle.term_core.proofs.Values.{small}
 use Rattle.sel_target.specs.EffectTerms.{begins_with_save}
 use Rattle.sel_target.specs.Instances.{hole, InFrame, SymFits, Ready}
 use Rattle.sel_target.specs.StatementLaws.{att_of}
+use Rattle.sel_target.proofs.Facts.{no_token}
 use Rattle.vax_core.specs.declared.register.Reg.TheVariants.{R0, Ap, Fp}
 use Rattle.vax_core.specs.declared.operand.Base.{Base}
 use Rattle.vax_core.specs.declared.operand.Base.TheVariants as bases
@@ -64,7 +65,7 @@ use Rattle.vax_target_lines.specs.Lines.{putting, Puts}
 use Rattle.vax_target_runs.specs.Runs.{EndsIn}
 use Rattle.vax_target_statements.proofs.Acts.{c, did, last_given, agrees_there, live_there}
 use Rattle.vax_target_statements.proofs.Deeds.{filled_hole, Steps, goes}
-use Rattle.vax_target_statements.proofs.Firsts.{rest_of, is_root, root_first, no_class, symbol_of}
+use Rattle.vax_target_statements.proofs.Firsts.{rest_of, is_root, root_first, symbol_of}
 use Rattle.vax_target_statements.proofs.Saving.{LastIs, lines_save}
 use Rattle.vax_target_statements.proofs.Controls.{token_is}
 
@@ -251,7 +252,7 @@ module _ (q : TreeProgram) (f : Extent) (fs : List Extent) (classes : List Class
   saves zero k is at lt = cc
   saves (suc j) k is at lt = some (slice_get hs j) refl at where
     by : (l : Leaf) → slice_get hs j ≡ Some (attr.Token l) → l.att ≡ att.Slot k → (y : Sym) → slice_get rule.right j ≡ Some y → SymFits vax classes y (attr.Token l) → SavesIn (suc j) k
-    by l there slot (grammar_symbol.Class z) stands_there fit p = absurd (no_class (kind_at classes z) l fit)
+    by l there slot (grammar_symbol.Class z) stands_there fit p = absurd (no_token vax (kind_at classes z) l fit)
     by l there slot (grammar_symbol.Tok t) stands_there fit p =
         let role : hole_of_token t ≡ hole_kind.Saved =
         sym (ap hole_or_other (ap (λ (o : Option Sym). option_map (hole_of classes) o) stands_there)) ∙ sym (ap hole_or_other (mapped_at classes rule.right j)) ∙ sym (role_is S j)

@@ -30,7 +30,8 @@ use Rattle.vax_core.specs.declared.operand.Base.{Base}
 use Rattle.vax_core.specs.declared.operand.Base.TheVariants as bases
 use Rattle.vax_core.specs.declared.operand.Operand.{Operand}
 use Rattle.vax_core.specs.Homes.{home, at_home, argument_home}
-use Rattle.vax_core.specs.Valid.{is_name, is_long, is_addr_of, is_named_addr, is_base, is_index, is_memory}
+use Rattle.vax_core.specs.Valid.{is_name, is_long, is_named_addr, is_base, is_index, is_memory}
+use Rattle.vax_core.proofs.ValidLaws.{named_is_addr}
 use Rattle.vax_templates.specs.Settings.{hole_of_token, hole_of_kind, hole_of, holes_of, own_of}
 use Rattle.vax_templates.specs.Filled.{alone, spare, numbered, label_of, object_addr, addr_of_att, addr_number, word_operand, slot_operand, slot_deferred, leaf_operand}
 use Rattle.vax_templates.specs.Filled.{leaf_deferred, operand_in, deferred_in, addr_in}
@@ -96,10 +97,6 @@ pub plain : (o : Operand) → fits kind.Ea o ≡ true → IsPlain o
 plain o e = record { memory = memory o (second_true (is_none o.index) (is_place o) e); bare = first_true (is_none o.index) (is_place o) e }
 
 -- ---- holes
-
-named_is_addr : (n : Option (List ℕ)) (offset : ℕ) → is_named_addr n offset ≡ true → is_addr_of n offset ≡ true
-named_is_addr None offset e = absurd (cc)
-named_is_addr (Some name) offset e = e
 
 module _ (q : TreeProgram) (can : CanWrite q) where
   own_number : (k : ℕ) (a : Att) → is_of_kind (att_kind.Own k) a ≡ true → IsSpelled q a → IsNumber (addr_of_att q a)

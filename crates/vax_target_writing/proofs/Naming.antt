@@ -23,8 +23,6 @@ use Rattle.tree_core.specs.Attributes.{attribute_of, is_of_kind}
 use Rattle.md_reader_pieces.specs.declared.piece.Piece.{Piece}
 use Rattle.md_reader_pieces.specs.declared.piece.Piece.TheVariants as piece
 use Rattle.md_reader_pieces.specs.declared.piece.Line.{Line}
-use Rattle.md_reader.specs.declared.types.Kind.{Kind}
-use Rattle.md_reader.specs.declared.types.Kind.TheVariants as kind
 use Rattle.md_reader.specs.declared.types.Class.{Class}
 use Rattle.md_reader.specs.declared.types.Sym.{Sym}
 use Rattle.md_reader.specs.declared.types.Sym.TheVariants as grammar_symbol
@@ -35,13 +33,14 @@ use Rattle.md_reader.specs.Valid.{MayWrite}
 use Rattle.sel_target.specs.declared.attr.Attr.{Attr}
 use Rattle.sel_target.specs.declared.attr.Attr.TheVariants as attr
 use Rattle.sel_target.specs.Courses.{function_label}
-use Rattle.sel_target.specs.Instances.{KindFits, SymFits, Fit}
+use Rattle.sel_target.specs.Instances.{SymFits, Fit}
 use Rattle.vax_core.specs.declared.operand.Operand.{Operand}
 use Rattle.vax_core.specs.Valid.{is_name, is_name_part}
 use Rattle.vax_templates.specs.FilledLines.{label_in, label_of_att, first_of, label_among, label_name, callee_in, callee_of_att, first_callee, callee_among, function_name}
 use Rattle.vax_target_meaning.specs.Fitting.{CanWrite}
 use Rattle.vax_target_meaning.specs.Vax.{vax}
 use Rattle.sel_target.specs.Spelled.{IsSpelled, TokenIsSpelled, AreSpelled}
+use Rattle.sel_target.proofs.Facts.{no_token}
 use Rattle.vax_target_writing.proofs.Lines.{is_label_piece, is_count_piece}
 use Rattle.vax_target_writing.proofs.Written.{CanGo, CanCall, Names}
 
@@ -181,15 +180,6 @@ att_few k (att.Number n) c e f = absurd (none-some c e)
 att_few k (att.Object object offset) c e f = absurd (none-some c e)
 att_few k (att.Slot n) c e f = absurd (none-some c e)
 
-no_token : (k : Option Kind) (l : Leaf) → KindFits vax k (attr.Token l) → ⊥
-no_token None l f = f
-no_token (Some kind.Reg) l f = f
-no_token (Some (kind.Value z)) l f = f
-no_token (Some (kind.Place z)) l f = f
-no_token (Some kind.Con) l f = f
-no_token (Some kind.Ea) l f = f
-no_token (Some kind.Nothing) l f = f
-
 symbol_few : (classes : List Class) (s : Sym) (h : Attr Operand) (c : ℕ × ℕ) → SymFits vax classes s h → callee_in h ≡ Some c → c.1 ≤ 255
 symbol_few classes (grammar_symbol.Tok x) (attr.Token l) c f e = att_few (attribute_of l.tok) l.att c e f.1
 symbol_few classes (grammar_symbol.Tok x) (attr.Reg r) c f e = absurd f
@@ -201,7 +191,7 @@ symbol_few classes (grammar_symbol.Tok x) (attr.Ea o) c f e = absurd f
 symbol_few classes (grammar_symbol.Tok x) attr.Nothing c f e = absurd f
 symbol_few classes (grammar_symbol.Class k) h c f e = class_few h f e where
   class_few : (h : Attr Operand) → SymFits vax classes (grammar_symbol.Class k) h → callee_in h ≡ Some c → c.1 ≤ 255
-  class_few (attr.Token l) f e = absurd (no_token (kind_at classes k) l f)
+  class_few (attr.Token l) f e = absurd (no_token vax (kind_at classes k) l f)
   class_few (attr.Reg r) f e = absurd (none-some c e)
   class_few (attr.InSlot w) f e = absurd (none-some c e)
   class_few (attr.Value o) f e = absurd (none-some c e)

@@ -1,0 +1,37 @@
+-- A hole alone is its symbol's place.
+use Rattle.std.proofs.Common.{◌≡◌, ℕ, Some}
+use Rattle.tree_core.specs.declared.token.Tok.{Tok}
+use Rattle.tree_core.specs.declared.tree.Att.{Att}
+use Rattle.tree_core.specs.declared.program.TreeProgram.{TreeProgram}
+use Rattle.tree_core.specs.declared.token.Tok.TheVariants as tok
+use Rattle.tree_core.specs.declared.tree.Att.TheVariants as att
+use Rattle.sel_target.specs.declared.attr.Attr.{Attr}
+use Rattle.sel_target.specs.declared.attr.Attr.TheVariants as attr
+use Rattle.sel_target.specs.Values.{own_operand, token_operand, slot_place}
+use Rattle.vax_core.specs.declared.operand.Operand.{Operand}
+use Rattle.vax_templates.specs.Filled.{word_operand, slot_operand, leaf_operand, operand_in}
+use Rattle.vax_target_meaning.specs.Vax.{vax}
+
+slot_alone : (x : Tok) (k : ℕ) (o : Operand) → slot_place word_operand (slot_operand tok.Arg) x k ≡ Some o → slot_operand x k ≡ o
+slot_alone tok.Loc k o e = cc
+slot_alone tok.Arg k o e = cc
+slot_alone x k o e = absurd (cc)
+
+token_alone : (q : TreeProgram) (x : Tok) (a : Att) (o : Operand) → token_operand vax x a ≡ Some o → leaf_operand q x a ≡ o
+token_alone q x (att.Slot k) o e = slot_alone x k o e
+token_alone q x att.Nothing o e = absurd (cc)
+token_alone q x (att.Number n) o e = absurd (cc)
+token_alone q x (att.Object object offset) o e = absurd (cc)
+token_alone q x (att.Branch rel label) o e = absurd (cc)
+token_alone q x (att.Label label) o e = absurd (cc)
+token_alone q x (att.Callee function count) o e = absurd (cc)
+
+pub attr_alone : (q : TreeProgram) (h : Attr Operand) (o : Operand) → own_operand vax h ≡ Some o → operand_in q h ≡ o
+attr_alone q (attr.Place p) o e = cc
+attr_alone q (attr.Token l) o e = token_alone q l.tok l.att o e
+attr_alone q (attr.Reg r) o e = absurd (cc)
+attr_alone q (attr.InSlot w) o e = absurd (cc)
+attr_alone q (attr.Value p) o e = absurd (cc)
+attr_alone q (attr.Con n) o e = absurd (cc)
+attr_alone q (attr.Ea p) o e = absurd (cc)
+attr_alone q attr.Nothing o e = absurd (cc)
