@@ -55,12 +55,8 @@ fn find_file<'a>(files: &'a [MemFile], name: &[u8]) -> Option<&'a [u8]>
     ensures found { IfSome result (λ bytes. content_of files.now name.now ≡ Stored bytes.now) }
     ensures missing { IfNone result (content_of files.now name.now ≡ Missing) }
 {
-    for file in files {
-        if file.name.as_slice() == name {
-            return Some(file.bytes.as_slice());
-        }
-    }
-    None
+    let file = files.iter().find(|file| file.name.as_slice() == name)?;
+    Some(file.bytes.as_slice())
 }
 
 impl Folder for MemFolder {
