@@ -1,7 +1,10 @@
 -- A word or a number at the front is its one spelling, and each spelling is found.
 use Rattle.std.proofs.Common.{◌≡◌, inl, inr, ℕ, zero, suc, ◌+◌, ◌-◌, ◌^◌, ◌<◌, ◌≤◌, Bool, true, false, cond, eqb, leb, ltb, List, [], ◌∷◌, ◌++◌, length, take, drop, get_or, Some}
 use Rattle.std.proofs.Common.{None, refl, sym, ap, subst, ◌∙◌, arith}
-use Rattle.std.specs.Prelude.{codes}
+use Rattle.std.specs.Prelude.{codes, Option, MatchOption, ◌==◌, ◌&&◌, if◌then◌else◌, nat_eq}
+use Rattle.std.specs.Borrow.{Bor}
+use Rattle.std.specs.Cmp.Lexicographic.{pointwise}
+use Rattle.std.specs.Option.{option_copied}
 use Rattle.std.specs.Char.{is_ascii_digit}
 use Rattle.std.specs.Str.{all_ascii_digits}
 use Rattle.std.specs.Str.Parse.{digits_value, AllDigits}
@@ -25,14 +28,24 @@ strip_takes (c ∷ cs) (x ∷ xs) r e =
     let h = guarded (eqb x c) (strip cs xs) r e in
     rw (eqb-true x c h.0) (ap (λ (t : List ℕ). c ∷ t) (strip_takes cs xs r h.1))
 
-at_end : (p : List ℕ) (i : ℕ) → i < length p → strip (drop i p) [] ≡ None
-at_end [] i lt = absurd (omega arith)
-at_end (c ∷ cs) zero lt = refl
-at_end (c ∷ cs) (suc i) lt = at_end cs i (omega arith)
+-- as `strip_prefix` tells it
+strip_parts : (p b : List ℕ) → strip p b ≡ (if pointwise nat_eq (take (length p) b) p then Some (drop (length p) b) else None)
+strip_parts [] b = refl
+strip_parts (c ∷ cs) [] = refl
+strip_parts (c ∷ cs) (b ∷ bs) = by (b == c) (strip_parts cs bs)
+  where
+    same : Bool
+    same = pointwise nat_eq (take (length cs) bs) cs
 
-pub strip_short : (p b : List ℕ) (i : ℕ) (r : List ℕ) → i < length p → length r < 1 → strip p b ≡ strip (drop i p) r → strip p b ≡ None
-strip_short p b i [] lt short e = e ∙ at_end p i lt
-strip_short p b i (x ∷ r) lt short e = absurd (omega arith)
+    by : (t : Bool) → strip cs bs ≡ (if same then Some (drop (length cs) bs) else None)
+        → (if t then strip cs bs else None) ≡ (if t && same then Some (drop (length cs) bs) else None)
+    by true h = h
+    by false h = refl
+
+pub strip_told : (p b : List ℕ) (r : Option (Bor (List ℕ))) → MatchOption r (pointwise nat_eq (take (length p) b) p ≡ false)
+    (λ x. (pointwise nat_eq (take (length p) b) p ≡ true) × (x.now ≡ drop (length p) b) × (length x.now + length p ≡ length b)) → strip p b ≡ option_copied r
+strip_told p b None h = strip_parts p b ∙ ap (λ t. if t then Some (drop (length p) b) else None) h
+strip_told p b (Some x) h = strip_parts p b ∙ (ap (λ t. if t then Some (drop (length p) b) else None) h.0 ∙ ap Some (sym h.1))
 
 -- digits
 

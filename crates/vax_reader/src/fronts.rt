@@ -20,17 +20,7 @@ const GREATEST: u32 = 0x7fff_ffff;
 pub fn strip<'a>(word: &[u8], bytes: &'a [u8]) -> Option<&'a [u8]>
     ensures { strip word.now bytes.now ≡ option_copied result }
 {
-    let mut rest = bytes;
-    for c in word {
-        let [b, others @ ..] = rest else {
-            return None;
-        };
-        if *b != *c {
-            return None;
-        }
-        rest = others;
-    }
-    Some(rest)
+    bytes.strip_prefix(word)
 }
 
 fn digit_len(bytes: &[u8]) -> usize
