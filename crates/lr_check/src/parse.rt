@@ -36,9 +36,7 @@ ghost use Rattle.lr_check.specs.Steps.{first_config};
 fn clear(seen: &mut [bool])
     ensures { seen.new ≡ replicate (length seen.old) false }
 {
-    for mark in seen.iter_mut() {
-        *mark = false;
-    }
+    seen.fill(false);
 }
 
 impl Parse {
