@@ -4,6 +4,7 @@ use Rattle.std.proofs.Common.{ap, ◌∙◌, subst, inl, inr, ⊎_elim, length-t
 use Rattle.std.specs.Prelude.{nat_lt, ◌==◌, if◌then◌else◌}
 use Rattle.std.proofs.lemmas.Option.{slice_get_within, get_or_from_slice_get, slice_get-get_or, same_Some, none-some}
 use Rattle.std.proofs.lemmas.List.{get_or-take, length-take-le}
+use Rattle.std.specs.Bool.{MatchBool}
 use Rattle.std.specs.List.{AllWithin, HoldsAt}
 use Rattle.std.proofs.lemmas.Bool.{lt-ltb, eqb-true}
 use Rattle.std.proofs.Math.Seq.{take-length}
@@ -14,7 +15,6 @@ use Rattle.lr_tables.specs.declared.types.Choice.TheVariants as choice
 use Rattle.lr_check_sets.specs.Automaton.{Candidate, reduce, Free, CanBlock}
 use Rattle.lr_check_sets.specs.Table.{production, reduced_by, candidates_of}
 use Rattle.lr_check_found.specs.Choices.{seen_rule, CandidateOf, may_pass, HasFree}
-use Rattle.lr_check_found.proofs.Below.{Below}
 
 asks_passes : (xs : List Restriction) → (if length xs == 0 then false else true) ≡ true → nat_lt 0 (length xs) ≡ true
 asks_passes [] e = absurd (true≢false (sym e))
@@ -165,10 +165,6 @@ passes_at rules (choice.Shift q ∷ cs) k d can e = absurd can
 passes_at rules (choice.Accept ∷ cs) k d can e = absurd can
 passes_at rules (choice.Reduce n ∷ cs) k d can e = pass_reduce rules n cs k d (slice_get rules n) refl can (λ m c x. passes_at rules cs m d c x) e
 
--- one that doesn't pass shows that something is taken
-pub not_blocked : (rules : List Rule) (cs : List Choice) (n : ℕ) (d : Choice) → n < length cs → d ≡ get_or cs n d → may_pass rules d ≡ false → CanBlock (candidates_of rules cs) → false ≡ true
-not_blocked rules cs n d lt is stop can = sym stop ∙ passes_at rules cs n d can (slice_get-get_or cs n d lt ∙ ap Some (sym is))
-
 -- where each choice passes, nothing need be taken
 all_pass : (rules : List Rule) (cs : List Choice) → ((k : ℕ) (d : Choice) → slice_get cs k ≡ Some d → may_pass rules d ≡ true) → CanBlock (candidates_of rules cs)
 all_pass rules [] h = tt
@@ -182,5 +178,15 @@ all_pass rules (choice.Reduce n ∷ cs) h = by (slice_get rules n) refl (all_pas
         let asks : nat_lt 0 (length r.restrictions) ≡ true = sym (ap (λ (o : Option Rule). (seen_rule 0 o).asks) e) ∙ h 0 (choice.Reduce n) refl in
         subst (λ (o : Option Rule). CanBlock (reduced_by o ++ candidates_of rules cs)) (sym e) (passes_ask r.restrictions asks, rest)
 
-pub may_block : (rules : List Rule) (cs : List Choice) (n : ℕ) → Below cs n (λ d. may_pass rules d ≡ true) → length cs ≤ n → CanBlock (candidates_of rules cs)
-may_block rules cs n b le = all_pass rules cs (λ k d e. b.each k d (let lt = slice_get_within cs k d e in omega (arith, lt, le)) e)
+-- as `all` tells it
+abbrev pub Told : List Rule → List Choice → Bool → Type 0
+Told rules cs r = MatchBool r (AllWithin (Passes rules) cs 0 (length cs)) ((k : ℕ) × (k < length cs) × HoldsAt (Stops rules) cs k)
+
+pub told_where_blocked : (rules : List Rule) (cs : List Choice) (r : Bool) → Told rules cs r → CanBlock (candidates_of rules cs) → r ≡ true
+told_where_blocked rules cs true h can = refl
+told_where_blocked rules cs false h can =
+    sym (h.2 choice.Accept) ∙ passes_at rules cs h.0 (get_or cs h.0 choice.Accept) can (slice_get-get_or cs h.0 choice.Accept h.1)
+
+pub blocked_where_told : (rules : List Rule) (cs : List Choice) (r : Bool) → Told rules cs r → r ≡ true → CanBlock (candidates_of rules cs)
+blocked_where_told rules cs true h e = all_pass rules cs (λ k d there. pass_below rules cs (length cs) h k d (slice_get_within cs k d there) there)
+blocked_where_told rules cs false h e = absurd (true≢false (sym e))

@@ -50,12 +50,9 @@ fn one_leads_out(rules: &[Rule], choices: &[Choice], size: usize) -> bool
     ensures some { IsTrue result → (c : Choice) × (Contains choices.now c × LeadsOut rules.now size c) }
     ensures each { (c : Choice) → Contains choices.now c → LeadsOut rules.now size c → IsTrue result }
 {
-    for choice in choices {
-        if candidate(rules, *choice, size).leads_out() {
-            return true;
-        }
-    }
-    false
+    choices
+        .iter()
+        .any(|choice| candidate(rules, *choice, size).leads_out())
 }
 
 // Whether some choice leads out of a list of so many symbols, with the token next.

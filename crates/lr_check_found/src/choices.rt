@@ -81,12 +81,7 @@ pub fn can_block(rules: &[Rule], choices: &[Choice]) -> bool
     ensures blocks { CanBlock (candidates_of rules.now choices.now) → IsTrue result }
     ensures real { IsTrue result → CanBlock (candidates_of rules.now choices.now) }
 {
-    for choice in choices {
-        if !may_pass(rules, *choice) {
-            return false;
-        }
-    }
-    true
+    choices.iter().all(|choice| may_pass(rules, *choice))
 }
 
 /// The choices that some answers take: no further than the first that may not be answered no.
