@@ -23,12 +23,7 @@ use tree_core::{Sort, Tok};
 fn has_list(found: &Found, sums: &[usize], list: usize) -> bool
     ensures { IsTrue result → (i : ℕ) × (Contains sums.now i × (list_number found.now i ≡ list)) }
 {
-    for sum in sums {
-        if found.list_number(*sum) == list {
-            return true;
-        }
-    }
-    false
+    sums.iter().any(|sum| found.list_number(*sum) == list)
 }
 
 fn add_list(found: &Found, sum: usize, sums: &mut Vec<usize>) -> Result<(), NoMemory>
