@@ -74,10 +74,7 @@ impl Pruned {
     fn renumbered(&self, alloc: Global, kids: &[u32]) -> Result<Vec<u32>, NoMemory>
         ensures { IfOk result (λ v. v.items ≡ renumbered self.now.numbers kids.now) }
     {
-        let mut numbers = Vec::new(alloc);
-        for kid in kids {
-            numbers.push(self.number(*kid))?;
-        }
+        let numbers = kids.iter().map(|kid| self.number(*kid)).collect(alloc)?;
         Ok(numbers)
     }
 
