@@ -14,14 +14,13 @@ fn statements(classes: &[Class]) -> u16
     requires { length classes.now ≤ 64 }
     ensures { result ≡ stmt_of classes.now }
 {
-    let mut number: u16 = 0;
-    for class in classes {
-        if class.name.as_slice() == b"stmt".as_slice() {
-            return number;
-        }
-        number += 1;
+    match classes
+        .iter()
+        .position(|class| class.name.as_slice() == b"stmt".as_slice())
+    {
+        Some(number) => number as u16,
+        None => 0,
     }
-    0
 }
 
 /// The tables of the description, or the description again and why none are built: `TablesFull`
