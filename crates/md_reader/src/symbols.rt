@@ -56,12 +56,7 @@ pub const TOKENS: [Tok; 39] = [
 fn token_among(tokens: &[Tok], word: &[u8]) -> Option<Tok>
     ensures { result ≡ token_among tokens.now word.now }
 {
-    for tok in tokens {
-        if is_word(word, tok.name()) {
-            return Some(*tok);
-        }
-    }
-    None
+    tokens.iter().find(|tok| is_word(word, tok.name())).copied()
 }
 
 ghost use Rattle.md_reader.specs.Symbols.{token_among};
@@ -85,14 +80,10 @@ pub fn class_of(classes: &[Class], word: &[u8]) -> Option<u16>
     requires { length classes.now ≤ 64 }
     ensures { result ≡ class_of classes.now word.now }
 {
-    let mut number: u16 = 0;
-    for class in classes {
-        if is_named(class, word) {
-            return Some(number);
-        }
-        number += 1;
+    match classes.iter().position(|class| is_named(class, word)) {
+        Some(number) => Some(number as u16),
+        None => None,
     }
-    None
 }
 
 fn symbol_of(classes: &[Class], word: &[u8]) -> Option<Sym>
