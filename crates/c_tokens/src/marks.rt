@@ -167,12 +167,10 @@ fn mark_among(marks: &[Mark], text: &[u8]) -> Option<Mark>
     ensures is { result ≡ mark_among marks.now text.now }
     ensures within { IfSome result (λ m. length (mark_text m) ≤ length text.now) }
 {
-    for mark in marks {
-        if text.starts_with(mark.spelling().as_bytes()) {
-            return Some(*mark);
-        }
-    }
-    None
+    marks
+        .iter()
+        .find(|mark| text.starts_with(mark.spelling().as_bytes()))
+        .copied()
 }
 
 /// The longest mark with which the text begins.

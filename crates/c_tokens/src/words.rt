@@ -133,12 +133,9 @@ pub const KEYS: [Key; 32] = [
 fn key_among(keys: &[Key], word: &[u8]) -> Option<Key>
     ensures { result ≡ key_among keys.now word.now }
 {
-    for key in keys {
-        if word == key.spelling().as_bytes() {
-            return Some(*key);
-        }
-    }
-    None
+    keys.iter()
+        .find(|key| word == key.spelling().as_bytes())
+        .copied()
 }
 
 /// The keyword that the word is.

@@ -1,6 +1,0 @@
-use Rattle.std.proofs.Common.{◌≡◌, drop}
-use Rattle.c_tokens.specs.Words.{key_among}
-use Rattle.c_tokens.proofs.words.key_among.Given as goal
-
-abbrev pub invariant-loop-key : goal.invariant-loop-key
-invariant-loop-key l = key_among (drop l.key-index l.keys) l.word ≡ key_among l.keys l.word
