@@ -1,8 +1,8 @@
 -- Parameters that are declared one after another: what is left decides.
-use Rattle.std.proofs.Common.{◌≡◌, ℕ, ◌+◌, ◌<◌, ◌≤◌, Bool, List, [], ◌∷◌, length, drop, get_or, map, refl, ap, Ok, ◌++◌, append_assoc, arith, ◌≢◌, false}
+use Rattle.std.proofs.Common.{◌≡◌, ℕ, ◌+◌, ◌<◌, ◌≤◌, Bool, List, [], ◌∷◌, length, drop, get_or, map, refl, ap, Ok, arith, ◌≢◌, false}
 use Rattle.std.specs.Prelude.{◌&&◌}
 use Rattle.std.specs.List.{list_all, zip}
-use Rattle.std.proofs.lemmas.List.{drop_more, drop_all, append-nil}
+use Rattle.std.proofs.lemmas.List.{drop_more, drop_all}
 use Rattle.gg_base.proofs.Facts.{and_false}
 use Rattle.c_phrases.specs.declared.tree.Param.{Param}
 use Rattle.c_phrases.specs.UnitShapes.{param_of, param_list}
@@ -32,12 +32,9 @@ module _ (names : List (List ℕ × Entry)) (signatures : List Signature) where
   pub parameters_end : (defines : Bool) (at : ℕ) (ps : List Param) (i : ℕ) (s : State) → length ps ≤ i → type_parameters names signatures defines at (param_list (drop i ps)) i s ≡ Ok s
   parameters_end defines at ps i s le = rw (drop_all i ps le) refl
 
-pub types_step : (done more : List CType) (ps : List Param) (i : ℕ) (p d : Param) → i < length ps → p ≡ get_or ps i d → more ≡ done ++ parameter_type (param_of p) ∷ [] → done
-    ++ map parameter_type (param_list (drop i ps)) ≡ more ++ map parameter_type (param_list (drop (i + 1) ps))
-types_step done more ps i p d lt is pushed = rw (drop_more ps i d lt, ← is, pushed, append_assoc done (parameter_type (param_of p) ∷ []) (map parameter_type (param_list (drop (i + 1) ps)))) refl
-
-pub types_end : (done : List CType) (ps : List Param) (i : ℕ) → length ps ≤ i → done ++ map parameter_type (param_list (drop i ps)) ≡ done
-types_end done ps i le = rw (drop_all i ps le) (append-nil done)
+pub types_written : (ps : List Param) → map (λ p. parameter_type (param_of p)) ps ≡ map parameter_type (param_list ps)
+types_written [] = refl
+types_written (p ∷ ps) = ap (λ (types : List CType). parameter_type (param_of p) ∷ types) (types_written ps)
 
 -- two lists of types, pair by pair
 abbrev pub same_pair : CType × CType → Bool

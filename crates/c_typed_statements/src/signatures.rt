@@ -38,14 +38,10 @@ pub fn parameters(params: &Params) -> &[Param]
     }
 }
 
-#[tactic(auto, using(crate::proofs::Parameters::types_step, crate::proofs::Parameters::types_end))]
 fn parameter_types(alloc: Global, params: &[Param]) -> Result<Types, AllocError>
     ensures { IfOk result (λ t. t ≡ map parameter_type (param_list params.now)) }
 {
-    let mut types = Vec::new(alloc);
-    for p in params {
-        types.push(parameter_type(p))?;
-    }
+    let types = params.iter().map(parameter_type).collect(alloc)?;
     Ok(Types::from_vec(types))
 }
 
