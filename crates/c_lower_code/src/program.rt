@@ -35,15 +35,13 @@ fn copied_name(alloc: Global, name: &[u8]) -> Result<Vec<u8>, NoMemory>
     Ok(copy)
 }
 
-// What an object holds, each byte of which is looked at.
+// What an object holds.
 fn copied_bytes(alloc: Global, bytes: &[u8]) -> Result<Vec<u8>, NoMemory>
     ensures copy { IfOk result (λ v. v.items ≡ bytes.now) }
     ensures bytes { IfOk result (λ v. AreBytes bytes.now) }
 {
     let mut copy = Vec::new(alloc);
-    for byte in bytes {
-        copy.push(*byte)?;
-    }
+    copy.extend_from_slice(bytes)?;
     Ok(copy)
 }
 
