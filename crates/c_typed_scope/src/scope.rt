@@ -60,11 +60,10 @@ impl Blocks {
 fn find_outer(blocks: &[Block], name: &[u8]) -> Option<Entry>
     ensures { result ≡ find_outer blocks.now name.now }
 {
-    let mut found = None;
-    for block in blocks {
+    for block in blocks.iter().rev() {
         if let Some(entry) = block.find(name) {
-            found = Some(entry);
+            return Some(entry);
         }
     }
-    found
+    None
 }

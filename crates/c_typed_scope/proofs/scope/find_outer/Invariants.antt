@@ -1,7 +1,7 @@
-use Rattle.std.proofs.Common.{◌≡◌, drop}
-use Rattle.c_typed_scope.specs.Scopes.{find_outer, later}
+use Rattle.std.proofs.Common.{◌≡◌, None, map}
+use Rattle.c_typed_scope.proofs.Innermost.{find_inner}
 use Rattle.c_typed_scope.proofs.scope.find_outer.Given as goal
 
--- what is left decides, and else what was found
+-- the blocks so far don't declare it
 abbrev pub invariant-loop-block : goal.invariant-loop-block
-invariant-loop-block l = later (find_outer (drop l.block-index l.blocks) l.name) l.found ≡ find_outer l.blocks l.name
+invariant-loop-block l = find_inner (map (λ y. y.now) l.yielded) l.name ≡ None
