@@ -1,31 +1,20 @@
--- What is true of each element, as a loop comes along.
-use Rattle.std.proofs.Common.{◌≡◌, ⊎_elim, ℕ, zero, suc, ◌+◌, ◌<◌, ◌≤◌, List, [], ◌∷◌, length, get_or, Bool, true, false, cond, refl, sym, ap, ◌∙◌, subst, arith}
-use Rattle.std.specs.List.{All}
+-- What is true of each element, and how names are counted.
+use Rattle.std.proofs.Common.{◌≡◌, ℕ, zero, suc, ◌+◌, ◌<◌, ◌≤◌, List, [], ◌∷◌, length, get_or, Bool, true, false, cond, refl, sym, ap, subst, arith}
+use Rattle.std.specs.Prelude.{◌↔◌, IsTrue}
+use Rattle.std.specs.Bool.{MatchBool}
+use Rattle.std.specs.List.{All, AllWithin, HoldsAt}
 use Rattle.std.specs.Str.{bytes_eq}
-use Rattle.std.proofs.lemmas.Bool.{cases_lt}
+use Rattle.std.proofs.lemmas.Iterator.Search.{true_from_All}
 use Rattle.std.proofs.lemmas.Slice.Eq.{bytes_eq-Decides}
 use Rattle.tree_core.specs.declared.program.TreeFn.{TreeFn}
 use Rattle.tree_core.specs.Valid.{named, NamesDiffer}
 
-default_free : {X : Type 0} (xs : List X) (i : ℕ) (d e : X) → i < length xs → get_or xs i d ≡ get_or xs i e
-default_free [] i d e lt = absurd (omega arith)
-default_free (x ∷ xs) zero d e lt = refl
-default_free (x ∷ xs) (suc i) d e lt = default_free xs i d e (omega arith)
-
-pub all_more : {X : Type 0} (P : X → Type 0) (xs : List X) (i : ℕ) (x : X) → i < length xs → x ≡ get_or xs i x → ((k : ℕ) (d : X) → k < i → P (get_or xs k d)) → P x → (k : ℕ) (d : X)
-    → k < i + 1 → P (get_or xs k d)
-all_more {X} P xs i x lt e before here k d lt' =
-    ⊎_elim (λ low. before k d low) (λ high. let z : k ≡ i = omega arith in subst (λ (j : ℕ). P (get_or xs j d)) (sym z) (subst P (e ∙ default_free xs i x d lt) here)) (cases_lt k i)
-
-pub all_more_at : {X : Type 0} (P : X → Type 0) (xs : List X) (i : ℕ) (e : X) → i < length xs → ((k : ℕ) (d : X) → k < i → P (get_or xs k d)) → P (get_or xs i e) → (k : ℕ) (d : X) → k < i
-    + 1 → P (get_or xs k d)
-all_more_at {X} P xs i e lt before here = all_more P xs i (get_or xs i e) lt (default_free xs i e (get_or xs i e) lt) before here
-
-pub all_fails : {X : Type 0} (P : X → Type 0) (xs : List X) (i : ℕ) (x : X) → i < length xs → x ≡ get_or xs i x → (P x → ⊥) → All P xs → ⊥
-all_fails P xs i x lt e fails all = fails (subst P (sym e) (all i x lt))
-
-pub all_done : {X : Type 0} (P : X → Type 0) (xs : List X) (i : ℕ) → length xs ≤ i → ((k : ℕ) (d : X) → k < i → P (get_or xs k d)) → All P xs
-all_done P xs i le before k d lt = before k d (omega arith)
+-- `all` of a test that decides P
+pub all_decided : {X : Type 0} (P : X → Type 0) (r : Bool) (xs : List X) → MatchBool r (AllWithin P xs 0 (length xs)) ((k : ℕ) × (k < length xs) × HoldsAt (λ x. P x → ⊥) xs k) → IsTrue r ↔ All P xs
+all_decided {X} P r xs m = (
+  (λ t k d lt. subst (λ (b : Bool). MatchBool b (AllWithin P xs 0 (length xs)) ((i : ℕ) × (i < length xs) × HoldsAt (λ x. P x → ⊥) xs i)) t m k d (omega arith) lt),
+  true_from_All P (λ (x : X). P x → ⊥) r xs (λ x p q. q p) m,
+)
 
 more : (b : Bool) (n : ℕ) → 1 ≤ n → 1 ≤ cond b 1 0 + n
 more true n le = omega arith

@@ -1,6 +1,6 @@
 // Whether labels stand once, and branches and jumps stay in their function.
 
-ghost use Rattle.std.specs.Prelude.{◌≡◌, ◌↔◌, ◌<◌, ◌^◌, IsTrue, IfSome, false, None, is_some};
+ghost use Rattle.std.specs.Prelude.{◌≡◌, ◌↔◌, ◌<◌, ◌^◌, [], ◌∷◌, IsTrue, IfSome, false, None, is_some};
 ghost use Rattle.std.specs.List.{All};
 ghost use Rattle.tree_core.specs.declared.items.Mention.TheVariants as mention;
 ghost use Rattle.tree_core.specs.Items.{labels, all_labels};
@@ -29,12 +29,11 @@ pub(crate) fn labels_stand_once(functions: &[TreeFn]) -> bool
 pub(crate) fn targets_stand(functions: &[TreeFn]) -> bool
     ensures { IsTrue result ↔ All TargetsStand functions.now }
 {
-    for function in functions {
-        if !targets_stand_in(function.items.as_slice()) {
-            return false;
-        }
-    }
-    true
+    functions.iter().all(
+        |function|
+            ensures { IsTrue result ↔ TargetsStand function.now }
+        { targets_stand_in(function.items.as_slice()) },
+    )
 }
 
 // The least label from a number on.
@@ -121,17 +120,22 @@ fn meet_all(window: &mut Window, items: &[TreeItem])
     }
 }
 
+// Whether the label to which the item goes was met, if it is one of the window.
+fn is_met(window: &Window, item: &TreeItem) -> bool
+    ensures { result ≡ all_met window.now.base (has window.now) (labels mention.Target (item.now ∷ [])) }
+{
+    match item.label(Mention::Target) {
+        Some(label) => {
+            let number = u64::from(label);
+            !window.covers(number) || window.has(number)
+        }
+        None => true,
+    }
+}
+
 // Whether those labels of the window to which the items go were met.
 fn all_met(window: &Window, items: &[TreeItem]) -> bool
     ensures { result ≡ all_met window.now.base (has window.now) (labels mention.Target items.now) }
 {
-    for item in items {
-        if let Some(label) = item.label(Mention::Target) {
-            let number = u64::from(label);
-            if window.covers(number) && !window.has(number) {
-                return false;
-            }
-        }
-    }
-    true
+    items.iter().all(|item| is_met(window, item))
 }

@@ -66,11 +66,8 @@ fn part_of(parts: usize, hash: u32) -> usize
 pub(crate) fn count_named(functions: &[TreeFn], name: &[u8]) -> usize
     ensures { result ≡ named name.now functions.now }
 {
-    let mut count = 0;
-    for function in functions {
-        if function.name.as_slice() == name {
-            count += 1;
-        }
-    }
-    count
+    functions
+        .iter()
+        .filter(|function| function.name.as_slice() == name)
+        .count()
 }

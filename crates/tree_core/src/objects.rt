@@ -42,12 +42,9 @@ fn object_lies(at: u64, object: &Object) -> bool
 pub(crate) fn links_lie(objects: &[Object]) -> bool
     ensures { IsTrue result ↔ All (LinksLie (length objects.now)) objects.now }
 {
-    for object in objects {
-        if !links_lie_in(objects.len(), object) {
-            return false;
-        }
-    }
-    true
+    objects
+        .iter()
+        .all(|object| links_lie_in(objects.len(), object))
 }
 
 fn links_lie_in(objects: usize, object: &Object) -> bool
@@ -60,12 +57,7 @@ fn links_lie_in(objects: usize, object: &Object) -> bool
 fn each_link_lies(objects: usize, size: u32, links: &[Link]) -> bool
     ensures { IsTrue result ↔ AllPass (link_lies objects size) links.now }
 {
-    for link in links {
-        if !link_lies(objects, size, *link) {
-            return false;
-        }
-    }
-    true
+    links.iter().all(|link| link_lies(objects, size, *link))
 }
 
 fn link_lies(objects: usize, size: u32, link: Link) -> bool

@@ -59,34 +59,26 @@ fn names_are_right(functions: &[TreeFn]) -> bool
 fn main_takes_nothing(functions: &[TreeFn]) -> bool
     ensures { IsTrue result ↔ AllPass main_takes_nothing functions.now }
 {
-    for function in functions {
-        if function.name.as_slice() == b"main".as_slice() && function.args != 0 {
-            return false;
-        }
-    }
-    true
+    let main = b"main".as_slice();
+    functions.iter().all(|function| function.name.as_slice() != main || function.args == 0)
 }
 
 fn roots_stand(functions: &[TreeFn], objects: usize) -> bool
     ensures { IsTrue result ↔ All (ItemsStand functions.now objects) functions.now }
 {
-    for function in functions {
-        if !items_stand(functions, objects, function) {
-            return false;
-        }
-    }
-    true
+    functions
+        .iter()
+        .all(|function| items_stand(functions, objects, function))
 }
 
 fn items_stand(functions: &[TreeFn], objects: usize, function: &TreeFn) -> bool
     ensures { IsTrue result ↔ ItemsStand functions.now objects function.now }
 {
-    for item in function.items.as_slice() {
-        if !item_stands(functions, objects, function, item) {
-            return false;
-        }
-    }
-    true
+    function
+        .items
+        .as_slice()
+        .iter()
+        .all(|item| item_stands(functions, objects, function, item))
 }
 
 // Whether a root is a typed statement whose leaves name what is there.
@@ -105,12 +97,9 @@ fn item_stands(functions: &[TreeFn], objects: usize, function: &TreeFn, item: &T
 fn leaves_name(functions: &[TreeFn], objects: usize, function: &TreeFn, leaves: &[Leaf]) -> bool
     ensures { IsTrue result ↔ AllPass (leaf_names functions.now objects function.now) leaves.now }
 {
-    for leaf in leaves {
-        if !leaf_names(functions, objects, function, *leaf) {
-            return false;
-        }
-    }
-    true
+    leaves
+        .iter()
+        .all(|leaf| leaf_names(functions, objects, function, *leaf))
 }
 
 // Whether the local, argument, object or function that the leaf names is there.
@@ -149,10 +138,7 @@ pub fn args_of(functions: &[TreeFn], number: u32) -> Option<u32>
 fn pushes_stand(functions: &[TreeFn]) -> bool
     ensures { IsTrue result ↔ All PushesStand functions.now }
 {
-    for function in functions {
-        if !calls_in_order(function.items.as_slice()) {
-            return false;
-        }
-    }
-    true
+    functions
+        .iter()
+        .all(|function| calls_in_order(function.items.as_slice()))
 }

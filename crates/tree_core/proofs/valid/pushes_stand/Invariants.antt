@@ -1,7 +1,0 @@
-use Rattle.std.proofs.Common.{ℕ, ◌<◌, get_or}
-use Rattle.tree_core.specs.declared.program.TreeFn.{TreeFn}
-use Rattle.tree_core.specs.Valid.{PushesStand}
-use Rattle.tree_core.proofs.valid.pushes_stand.Given as goal
-
-abbrev pub invariant-loop-function : goal.invariant-loop-function
-invariant-loop-function l = (k : ℕ) (d : TreeFn) → k < l.function-index → PushesStand (get_or l.functions k d)
