@@ -46,17 +46,22 @@ fn is_small_range(low: i32, high: i32) -> bool
     0 <= low && high <= 31
 }
 
+// Whether the restriction is a small range of the symbol's constant.
+fn is_range_of(restriction: &Restriction, i: u8) -> bool
+    ensures { result ≡ is_ranged (restriction.now ∷ []) i }
+{
+    match restriction {
+        Restriction::Range(j, low, high) => *j == i && is_small_range(*low, *high),
+        _ => false,
+    }
+}
+
 fn is_ranged(restrictions: &[Restriction], i: u8) -> bool
     ensures { result ≡ is_ranged restrictions.now i }
 {
-    for restriction in restrictions {
-        if let Restriction::Range(j, low, high) = restriction {
-            if *j == i && is_small_range(*low, *high) {
-                return true;
-            }
-        }
-    }
-    false
+    restrictions
+        .iter()
+        .any(|restriction| is_range_of(restriction, i))
 }
 
 // One reading of the restrictions, in which the greater symbol of each pair that is spelled alike gives way to the lesser.
