@@ -161,10 +161,7 @@ impl<'a> Machine<'a> {
 fn main_of(functions: &[TreeFn]) -> Option<&TreeFn>
     ensures { option_copied result ≡ main_of functions.now }
 {
-    for function in functions {
-        if function.name.as_slice() == b"main".as_slice() {
-            return Some(function);
-        }
-    }
-    None
+    functions
+        .iter()
+        .find(|function| function.name.as_slice() == b"main".as_slice())
 }
