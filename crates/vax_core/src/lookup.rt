@@ -66,12 +66,9 @@ fn ops_with(letter: u8) -> &'static [Op]
 fn among(ops: &[Op], word: &[u8]) -> Option<Op>
     ensures { among ops.now word.now ≡ result }
 {
-    for op in ops {
-        if word == op.shape().mnemonic.as_bytes() {
-            return Some(*op);
-        }
-    }
-    None
+    ops.iter()
+        .find(|op| word == op.shape().mnemonic.as_bytes())
+        .copied()
 }
 
 #[tactic(auto, unfolding(crate::specs::Mnemonics::op_of))]

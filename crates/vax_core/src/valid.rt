@@ -30,12 +30,7 @@ fn is_name_part(c: u8) -> bool
 fn are_name_parts(bytes: &[u8]) -> bool
     ensures { result ≡ list_all is_name_part bytes.now }
 {
-    for c in bytes {
-        if !is_name_part(*c) {
-            return false;
-        }
-    }
-    true
+    bytes.iter().all(|c| is_name_part(*c))
 }
 
 fn is_name(name: &Name) -> bool
@@ -206,23 +201,13 @@ fn is_code_item(item: &CodeItem) -> bool
 fn are_area_items(items: &[AreaItem]) -> bool
     ensures { result ≡ list_all is_area_item items.now }
 {
-    for item in items {
-        if !is_area_item(item) {
-            return false;
-        }
-    }
-    true
+    items.iter().all(is_area_item)
 }
 
 fn are_code_items(items: &[CodeItem]) -> bool
     ensures { result ≡ list_all is_code_item items.now }
 {
-    for item in items {
-        if !is_code_item(item) {
-            return false;
-        }
-    }
-    true
+    items.iter().all(is_code_item)
 }
 
 impl Code {
