@@ -41,9 +41,7 @@ fn give(owners: &mut [u16], first: usize, last: usize, number: u16)
     requires within { last ≤ length owners.old }
     ensures { Gives number first last owners.old owners.new }
 {
-    for place in first..last {
-        owners[place] = number;
-    }
+    owners[first..last].fill(number);
 }
 
 // Whether the byte of the stack at an address is a control word of one of these frames.
