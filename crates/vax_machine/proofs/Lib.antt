@@ -7,6 +7,7 @@ pub mod Addresses
 pub mod Keeping
 pub mod Numbers
 pub mod Labelling
+pub mod Mapping
 pub mod TableLaws
 pub mod LayoutLaws
 pub mod Starting

@@ -142,7 +142,7 @@ pub struct Names<'a> {
 impl<'a> Names<'a> {
     ghost use Rattle.vax_machine.specs.Area.{has_area_label};
     ghost use Rattle.vax_machine.specs.Labels.{main_name, has_label, label_place, undefined_name, undefined_operand};
-    ghost use Rattle.vax_machine.specs.Labels.{undefined_target, undefined_in, undefined_label, undefined_area_at};
+    ghost use Rattle.vax_machine.specs.Labels.{undefined_target, undefined_in, undefined_at, undefined_label, undefined_area_at};
     ghost use Rattle.vax_machine.specs.Labels.{undefined_area_label};
 
     /// Whether a label of the code has this name.
@@ -193,12 +193,9 @@ impl<'a> Names<'a> {
     fn undefined_operand<'b>(&self, operands: &'b [Operand]) -> Option<&'b Name>
         ensures { option_copied result ≡ undefined_operand self.now.layout.now operands.now }
     {
-        for operand in operands {
-            if let Some(name) = self.undefined_name(name_in(&operand.base)) {
-                return Some(name);
-            }
-        }
-        None
+        operands
+            .iter()
+            .find_map(|operand| self.undefined_name(name_in(&operand.base)))
     }
 
     fn undefined_target<'b>(&self, call: bool, target: &'b Option<Name>) -> Option<&'b Name>
@@ -223,19 +220,20 @@ impl<'a> Names<'a> {
         self.undefined_target(is_call(action_of(instr.op)), &instr.target)
     }
 
+    fn undefined_at<'b>(&self, item: &'b CodeItem) -> Option<&'b Name>
+        ensures { option_copied result ≡ undefined_at self.now.layout.now self.now.items.now item.now }
+    {
+        match item {
+            CodeItem::Label(_) | CodeItem::Globl(_) | CodeItem::Mask(_) => None,
+            CodeItem::Instr(instr) => self.undefined_in(instr),
+        }
+    }
+
     /// The first name of an instruction that isn't defined for its use.
     pub(crate) fn undefined_label(&self) -> Option<&'a Name>
         ensures { option_copied result ≡ undefined_label self.now.items.now self.now.layout.now self.now.items.now }
     {
-        let items = self.items;
-        for item in items {
-            if let CodeItem::Instr(instr) = item {
-                if let Some(name) = self.undefined_in(instr) {
-                    return Some(name);
-                }
-            }
-        }
-        None
+        self.items.iter().find_map(|item| self.undefined_at(item))
     }
 
     fn undefined_area_at<'b>(&self, item: &'b AreaItem) -> Option<&'b Name>
@@ -256,12 +254,8 @@ impl<'a> Names<'a> {
     pub(crate) fn undefined_area_label(&self) -> Option<&'a Name>
         ensures { option_copied result ≡ undefined_area_label self.now.layout.now self.now.layout.now }
     {
-        let layout = self.layout;
-        for item in layout {
-            if let Some(name) = self.undefined_area_at(item) {
-                return Some(name);
-            }
-        }
-        None
+        self.layout
+            .iter()
+            .find_map(|item| self.undefined_area_at(item))
     }
 }

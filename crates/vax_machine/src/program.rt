@@ -120,12 +120,14 @@ impl<'a> Names<'a> {
         requires { IsLaidOut self.now.layout.now layout.now }
         ensures { IfOk result (λ v. v.items ≡ map (links_of self.now.layout.now self.now.items.now) self.now.items.now) }
     {
-        let mut all = Vec::new(alloc);
-        let items = self.items;
-        for item in items {
-            all.push(self.links(layout, item))?;
-        }
-        Ok(all)
+        self.items
+            .iter()
+            .map(
+                |item|
+                    requires { IsLaidOut self.now.layout.now layout.now }
+                { self.links(layout, item) },
+            )
+            .collect(alloc)
     }
 
     /// The code with what its names stand for.

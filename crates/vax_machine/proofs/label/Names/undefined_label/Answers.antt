@@ -1,0 +1,18 @@
+use Rattle.std.proofs.Common.{◌≡◌, List, [], ◌∷◌, refl, ap, ◌∙◌, rules, tests}
+use Rattle.std.proofs.lemmas.Iterator.{YieldsList-from_slice}
+use Rattle.vax_core.specs.declared.code.AreaItem.{AreaItem}
+use Rattle.vax_core.specs.declared.code.CodeItem.{CodeItem}
+use Rattle.vax_machine.specs.Labels.{first_of, undefined_at, undefined_label}
+use Rattle.vax_machine.proofs.Mapping.{first_name, mapped}
+use Rattle.vax_machine.proofs.label.Names.undefined_label.Goals as goal
+
+first_item : (items : List CodeItem) (layout : List AreaItem) (all : List CodeItem) → first_name (undefined_at layout all) items ≡ undefined_label items layout all
+first_item [] layout all = refl
+first_item (item ∷ items) layout all = ap (first_of (undefined_at layout all item)) (first_item items layout all)
+
+pub returns : goal.returns
+returns c =
+    let layout = c.args.self.now.layout.now in
+    let items = c.args.self.now.items.now in
+    mapped _ _ _ _ (undefined_at layout items) (λ x r q k. search (rules, tests)) c.find_map.result _ _ items (YieldsList-from_slice items cc).runs c.find_map.ensures.ran c.find_map.ensures.runs
+    ∙ first_item items layout items
