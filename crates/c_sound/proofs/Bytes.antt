@@ -1,9 +1,9 @@
 -- Lists of bytes, and names.
-use Rattle.std.proofs.Common.{ℕ, zero, suc, ◌+◌, List, [], ◌∷◌, ◌++◌, arith, ◌≡◌, true, sym, ◌∙◌}
+use Rattle.std.proofs.Common.{ℕ, zero, suc, ◌+◌, List, [], ◌∷◌, ◌++◌, Fits, w8, arith, ◌≡◌, true, sym, ◌∙◌}
 use Rattle.std.proofs.Math.ListN.{replicate}
 use Rattle.std.proofs.lemmas.Slice.Eq.{bytes_eq-Decides}
 use Rattle.std.specs.Str.{bytes_eq}
-use Rattle.std.specs.Prelude.{drop}
+use Rattle.std.specs.Prelude.{drop, slice_index_or}
 use Rattle.c_sound.specs.Fits.{AreBytes}
 
 pub zeros_are_bytes : (n : ℕ) → AreBytes (replicate n 0)
@@ -21,3 +21,8 @@ pub bytes_drop : (n : ℕ) (xs : List ℕ) → AreBytes xs → AreBytes (drop n 
 bytes_drop zero xs h = h
 bytes_drop (suc n) [] h = tt
 bytes_drop (suc n) (x ∷ xs) h = bytes_drop n xs h.1
+
+-- bytes that code holds are bytes
+pub bytes_fit : (bs : List ℕ) → ((i : ℕ) → Fits w8 (slice_index_or bs i 0)) → AreBytes bs
+bytes_fit [] f = tt
+bytes_fit (b ∷ bs) f = (let fits = (f 0).fits in omega arith, bytes_fit bs (λ i. f (suc i)))

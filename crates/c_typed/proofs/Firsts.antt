@@ -1,5 +1,5 @@
 -- A source has one first fault at most, and none where it has a program: what each step answers decides.
-use Rattle.std.proofs.Common.{◌≡◌, ◌<◌, ◌⊎◌, inl, inr, ℕ, zero, suc, List, [], ◌∷◌, slice_index_or, Fits, w8, refl, sym, ap, subst, ◌∙◌, Ok, Err, arith}
+use Rattle.std.proofs.Common.{◌≡◌, ◌⊎◌, inl, inr, ℕ, List, refl, sym, ap, subst, ◌∙◌, Err}
 use Rattle.gg_base.specs.declared.place.Place.{Place}
 use Rattle.c_tokens.specs.declared.token.Spanned.{Spanned}
 use Rattle.c_tokens.specs.declared.token.TokenKind.{TokenKind}
@@ -20,7 +20,6 @@ use Rattle.c_types.specs.declared.fault.TypeFault.{TypeFault}
 use Rattle.c_types.specs.declared.fault.TypeFault.TheVariants as type_fault
 use Rattle.c_types.specs.Answers.{Fault}
 use Rattle.c_typed_operators.specs.Table.{OnlyFault}
-use Rattle.c_sound.specs.Fits.{AreBytes}
 use Rattle.c_typed_law.specs.Texts.{TextFault}
 use Rattle.c_typed.specs.declared.source.SourceKind.{SourceKind}
 use Rattle.c_typed.specs.declared.source.SourceKind.TheVariants as kinds
@@ -77,11 +76,6 @@ module _ (bytes : List ℕ) (place : Place) (kind : SourceKind) where
       types h.offset h.fault
       (subst (λ (v : AUnit). TextFault v.externals v.end (record { place = h.offset; kind = h.fault })) (sym (unit h.unit is)) h.first)
       h.place_is h.kind_is
-
--- bytes that code holds are bytes
-pub bytes_fit : (bs : List ℕ) → ((i : ℕ) → Fits w8 (slice_index_or bs i 0)) → AreBytes bs
-bytes_fit [] f = tt
-bytes_fit (b ∷ bs) f = (let fits = (f 0).fits in omega arith, bytes_fit bs (λ i. f (suc i)))
 
 -- by the answers of the three steps, where `ts` are the tokens that were found
 module _ (bytes : List ℕ) (items ts : List Spanned) (same : ts ≡ items) (only : (xs : List Spanned) → Tokens 0 bytes xs → items ≡ xs)
