@@ -54,12 +54,9 @@ pub fn first_unmarked(
     ensures some { IfSome result (λ k. OneUnmarked rules.now size marks.now choices.now k) }
     ensures none { IfNone result (AllMarked rules.now size marks.now choices.now) }
 {
-    for choice in choices {
-        if let Some(class) = unmarked(rules, *choice, size, marks) {
-            return Some(class);
-        }
-    }
-    None
+    choices
+        .iter()
+        .find_map(|choice| unmarked(rules, *choice, size, marks))
 }
 
 /// A class that isn't marked to which a reduction of the class alone leads.
