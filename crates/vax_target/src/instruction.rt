@@ -144,12 +144,10 @@ fn word_len(bytes: &[u8]) -> usize
     ensures len { result ≡ word_len bytes.now }
     ensures within { result ≤ length bytes.now }
 {
-    for (i, b) in bytes.iter().enumerate() {
-        if *b == b' ' {
-            return i;
-        }
-    }
-    bytes.len()
+    bytes
+        .iter()
+        .position(|byte| *byte == b' ')
+        .unwrap_or(bytes.len())
 }
 
 /// The instruction of a line.

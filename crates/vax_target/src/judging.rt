@@ -285,16 +285,18 @@ impl<'a> Template<'a> {
         }
     }
 
+    // Whether an operand is read of a symbol.
+    fn spells_symbol(self, form: &Form) -> bool
+        ensures { result ≡ spells_symbol self.entry.holes.now form.now }
+    {
+        self.base_spells(form.base) || self.index_is_operand(form.index)
+    }
+
     // Whether one of the operands is read of a symbol.
     fn spell_symbols(self, forms: &[Form]) -> bool
         ensures { result ≡ list_any (spells_symbol self.entry.holes.now) forms.now }
     {
-        for form in forms {
-            if self.base_spells(form.base) || self.index_is_operand(form.index) {
-                return true;
-            }
-        }
-        false
+        forms.iter().any(|form| self.spells_symbol(form))
     }
 
     // What an instruction computes, at its destination.

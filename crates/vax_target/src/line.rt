@@ -170,10 +170,7 @@ impl<'a> Filling<'a> {
         ensures { IfOk result (λ os. os ≡ map (filled self.entry.program.now self.entry.holes.now self.entry.zero.now) (take 3 forms.now)) }
     {
         let mut operands = Operands::new(self.alloc);
-        for (i, form) in forms.iter().enumerate() {
-            if i == 3 {
-                return Ok(operands);
-            }
+        for form in forms.iter().take(3) {
             operands.push(self.filled(*form)?);
         }
         Ok(operands)

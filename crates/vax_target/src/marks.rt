@@ -18,9 +18,7 @@ const GREATEST: u64 = 2_147_483_649;
 pub fn put_bytes(marks: &mut Vec<Mark>, bytes: &[u8]) -> Result<(), NoMemory>
     ensures { OnOk result (marks.new.items ≡ marks.old.items ++ map Byte bytes.now) }
 {
-    for byte in bytes {
-        marks.push(Mark::Byte(*byte))?;
-    }
+    marks.extend(bytes.iter().map(|byte| Mark::Byte(*byte)))?;
     Ok(())
 }
 
@@ -41,10 +39,8 @@ fn put_piece(marks: &mut Vec<Mark>, piece: &Piece) -> Result<(), NoMemory>
 pub fn put_pieces(marks: &mut Vec<Mark>, pieces: &[Piece]) -> Result<(), NoMemory>
     ensures { OnOk result (marks.new.items ≡ marks.old.items ++ marks_of pieces.now) }
 {
-    let mut left = pieces;
-    while let [piece, others @ ..] = left {
+    for piece in pieces {
         put_piece(marks, piece)?;
-        left = others;
     }
     Ok(())
 }

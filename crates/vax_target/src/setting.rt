@@ -66,10 +66,10 @@ fn hole_of(classes: &[Class], symbol: Sym) -> Hole
 pub fn holes_of(alloc: Global, classes: &[Class], right: &[Sym]) -> Result<Vec<Hole>, NoMemory>
     ensures { IfOk result (λ v. v.items ≡ holes_of classes.now right.now) }
 {
-    let mut holes = Vec::new(alloc);
-    for symbol in right {
-        holes.push(hole_of(classes, *symbol))?;
-    }
+    let holes = right
+        .iter()
+        .map(|symbol| hole_of(classes, *symbol))
+        .collect(alloc)?;
     Ok(holes)
 }
 
@@ -140,12 +140,7 @@ fn opening_by(give: &Give, right: &[Sym]) -> Opening
 fn is_signed(restrictions: &[Restriction]) -> bool
     ensures { result ≡ is_signed restrictions.now }
 {
-    for restriction in restrictions {
-        if let Restriction::Signed(_) = restriction {
-            return true;
-        }
-    }
-    false
+    restrictions.iter().any(|restriction| matches!(restriction, Restriction::Signed(_)))
 }
 
 fn is_nothing(kind: Option<Kind>) -> bool

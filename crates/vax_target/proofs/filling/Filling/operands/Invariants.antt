@@ -1,9 +1,6 @@
-use Rattle.std.proofs.Common.{◌≡◌, ◌≤◌, map, take}
+use Rattle.std.proofs.Common.{◌≡◌, map}
 use Rattle.vax_templates.specs.Filled.{filled}
 use Rattle.vax_target.proofs.filling.Filling.operands.Given as goal
 
-abbrev pub invariant-loop-i : goal.invariant-loop-i
-invariant-loop-i l = record {
-  filled_so_far : l.operands ≡ map (filled l.self.program.now l.self.holes.now l.self.zero.now) (take l.i l.forms);
-  few : l.i ≤ 3;
-}
+abbrev pub invariant-loop-form : goal.invariant-loop-form
+invariant-loop-form l = l.operands ≡ map (filled l.self.program.now l.self.holes.now l.self.zero.now) (map (λ y. y.now) l.yielded)
