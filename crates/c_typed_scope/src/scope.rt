@@ -60,10 +60,5 @@ impl Blocks {
 fn find_outer(blocks: &[Block], name: &[u8]) -> Option<Entry>
     ensures { result ≡ find_outer blocks.now name.now }
 {
-    for block in blocks.iter().rev() {
-        if let Some(entry) = block.find(name) {
-            return Some(entry);
-        }
-    }
-    None
+    blocks.iter().rev().find_map(|block| block.find(name))
 }

@@ -3,3 +3,4 @@ pub mod Following
 pub mod Composing
 pub mod Facts
 pub mod Words
+pub mod Mapping

@@ -67,12 +67,7 @@ fn label_in(attr: &Attr<Operand>) -> Option<u32>
 fn label_among(holes: &[Attr<Operand>]) -> Option<u32>
     ensures { result ≡ label_among holes.now }
 {
-    for attr in holes {
-        if let Some(label) = label_in(attr) {
-            return Some(label);
-        }
-    }
-    None
+    holes.iter().find_map(label_in)
 }
 
 fn callee_in(attr: &Attr<Operand>) -> Option<(u32, u32)>
@@ -91,12 +86,7 @@ fn callee_in(attr: &Attr<Operand>) -> Option<(u32, u32)>
 fn callee_among(holes: &[Attr<Operand>]) -> Option<(u32, u32)>
     ensures { result ≡ callee_among holes.now }
 {
-    for attr in holes {
-        if let Some(callee) = callee_in(attr) {
-            return Some(callee);
-        }
-    }
-    None
+    holes.iter().find_map(callee_in)
 }
 
 fn label_name(alloc: Global, n: u32) -> Result<Name, NoMemory>
