@@ -1,13 +1,12 @@
 -- One turn of each loop that computes a definition.
-use Rattle.std.proofs.Common.{◌≡◌, ℕ, zero, suc, ⊎_elim, ◌+◌, ◌≤◌, ◌<◌, List, [], ◌∷◌, ◌++◌, Option, Some, None, Result, Err, Bool, true, false, cond, length, get_or, take, drop}
-use Rattle.std.proofs.Common.{map, filter, slice_get, refl, sym, ap, ap₂, ◌∙◌, subst, arith, length-append, append-nil}
+use Rattle.std.proofs.Common.{◌≡◌, ℕ, zero, suc, ⊎_elim, ◌+◌, ◌≤◌, ◌<◌, List, [], ◌∷◌, ◌++◌, Option, Some, None, Result, Err, Bool, true, false, cond, length}
+use Rattle.std.proofs.Common.{slice_get, refl, sym, ap, ap₂, ◌∙◌, subst, arith, length-append}
 use Rattle.std.specs.Prelude.{Vec, ◌==◌, ◌||◌, not, nat_lt, position}
 use Rattle.std.specs.declared.alloc.Global.{Global}
-use Rattle.std.specs.List.{filter_map, list_any, prefix_len, position_or_len}
+use Rattle.std.specs.List.{list_any, prefix_len, position_or_len}
 use Rattle.std.specs.Option.{option_map, option_map_or}
 use Rattle.std.specs.Cmp.Lexicographic.{pointwise}
-use Rattle.std.proofs.lemmas.List.{take_more, map-append, map_push, length-map}
-use Rattle.std.proofs.lemmas.List.Elements.{filter_map-append, filter-append}
+use Rattle.std.proofs.lemmas.List.{map_push, length-map}
 use Rattle.std.proofs.lemmas.Option.{slice_get_within, slice_get-map}
 use Rattle.std.proofs.lemmas.Bool.{cases_lt, eqb-false}
 use Rattle.indexmap.specs.IndexSet.{insert_key}
@@ -16,9 +15,9 @@ use Rattle.md_reader.specs.declared.types.Sym.{Sym}
 use Rattle.lr_tables.specs.declared.item.Item.{Item}
 use Rattle.lr_tables.specs.declared.numbering.BuildFault.{BuildFault}
 use Rattle.lr_tables.specs.Symbols.{symbol_number}
-use Rattle.lr_tables.specs.Items.{right_of, right_at, next, start, advanced}
+use Rattle.lr_tables.specs.Items.{right_of, right_at, next, start}
 use Rattle.lr_tables.specs.Grammar.{IsShort}
-use Rattle.lr_tables.specs.Sets.{chains, item_set, stands_before, moved}
+use Rattle.lr_tables.specs.Sets.{chains, item_set, moved}
 use Rattle.lr_tables.specs.Numbering.{same_item, same_kernel, kernels, entered, row_entered, followed, found, IsOver}
 use Rattle.lr_tables.specs.Rows.{target_of}
 
@@ -27,21 +26,6 @@ stands_some o X s e = ap (λ (p : Option Sym). option_map_or (λ (Y : Sym). symb
 
 pub stands_none : (o : Option Sym) (s : ℕ) → None ≡ o → false ≡ option_map_or (λ (Y : Sym). symbol_number Y == s) o false
 stands_none o s e = ap (λ (p : Option Sym). option_map_or (λ (Y : Sym). symbol_number Y == s) p false) e
-
--- one more element of a list that is filtered and mapped
-pub filter_map_turn : {X Y : Type 0} (h : X → Option Y) (xs : List X) (n : ℕ) (x : X) (ys : List Y) → n < length xs → x ≡ get_or xs n x → ys ≡ filter_map h (take n xs) → ys
-    ++ filter_map h (x ∷ []) ≡ filter_map h (take (n + 1) xs)
-filter_map_turn h xs n x ys lt e i =
-    sym (ap (filter_map h) (take_more xs n x lt) ∙ filter_map-append h (take n xs) (get_or xs n x ∷ []) ∙ ap (λ l. l ++ filter_map h (get_or xs n x ∷ [])) (sym i)
-    ∙ ap (λ z. ys ++ filter_map h (z ∷ [])) (sym e))
-
-pub filter_map_none : {X Y : Type 0} (h : X → Option Y) (xs : List X) (n : ℕ) (x : X) (ys : List Y) → n < length xs → x ≡ get_or xs n x → ys ≡ filter_map h (take n xs) → h x ≡ None → ys
-    ≡ filter_map h (take (n + 1) xs)
-filter_map_none h xs n x ys lt e i g = sym (append-nil ys) ∙ rw (g) at (filter_map_turn h xs n x ys lt e i)
-
-pub filter_map_some : {X Y : Type 0} (h : X → Option Y) (xs : List X) (n : ℕ) (x : X) (y : Y) (ys : List Y) → n < length xs → x ≡ get_or xs n x → ys ≡ filter_map h (take n xs) → h x
-    ≡ Some y → ys ++ y ∷ [] ≡ filter_map h (take (n + 1) xs)
-filter_map_some h xs n x y ys lt e i g = rw (g) at (filter_map_turn h xs n x ys lt e i)
 
 -- the dot of an item before a symbol
 pub short_dot : (rules : List Rule) (stmt : ℕ) (i : Item) (X : Sym) → IsShort rules → next rules stmt i ≡ Some X → i.dot < 16
@@ -60,27 +44,6 @@ short_dot rules stmt i X s e = by i.rule refl
 pub stands_next : (o : Option Sym) (s : ℕ) → option_map_or (λ (Y : Sym). symbol_number Y == s) o false ≡ true → (X : Sym) × (o ≡ Some X)
 stands_next None s e = cc
 stands_next (Some X) s e = (X, refl)
-
-pub moved_nil : (rules : List Rule) (stmt symbol : ℕ) → [] ≡ moved rules stmt symbol []
-unfolding moved
-moved_nil rules stmt symbol = refl
-
-moved_turn : (rules : List Rule) (stmt symbol : ℕ) (items : List Item) (n : ℕ) (i : Item) (k : List Item) → n < length items → i ≡ get_or items n i → k
-    ≡ moved rules stmt symbol (take n items) → k ++ map advanced (filter (stands_before rules stmt symbol) (i ∷ [])) ≡ moved rules stmt symbol (take (n + 1) items)
-unfolding moved
-moved_turn rules stmt symbol items n i k lt e h =
-    let p = stands_before rules stmt symbol in
-    sym (ap (λ l. map advanced (filter p l)) (take_more items n i lt) ∙ ap (map advanced) (filter-append p (take n items) (get_or items n i ∷ []))
-    ∙ map-append advanced (filter p (take n items)) (filter p (get_or items n i ∷ [])) ∙ ap (λ l. l ++ map advanced (filter p (get_or items n i ∷ []))) (sym h)
-    ∙ ap (λ z. k ++ map advanced (filter p (z ∷ []))) (sym e))
-
-pub moved_skip : (rules : List Rule) (stmt symbol : ℕ) (items : List Item) (n : ℕ) (i : Item) (k : List Item) → n < length items → i ≡ get_or items n i → k
-    ≡ moved rules stmt symbol (take n items) → stands_before rules stmt symbol i ≡ false → k ≡ moved rules stmt symbol (take (n + 1) items)
-moved_skip rules stmt symbol items n i k lt e h g = sym (append-nil k) ∙ (ap (λ (b : Bool). k ++ map advanced (cond b (i ∷ []) [])) (sym g) ∙ moved_turn rules stmt symbol items n i k lt e h)
-
-pub moved_push : (rules : List Rule) (stmt symbol : ℕ) (items : List Item) (n : ℕ) (i : Item) (k : List Item) → n < length items → i ≡ get_or items n i → k
-    ≡ moved rules stmt symbol (take n items) → stands_before rules stmt symbol i ≡ true → k ++ advanced i ∷ [] ≡ moved rules stmt symbol (take (n + 1) items)
-moved_push rules stmt symbol items n i k lt e h g = ap (λ (b : Bool). k ++ map advanced (cond b (i ∷ []) [])) (sym g) ∙ moved_turn rules stmt symbol items n i k lt e h
 
 -- keys with their vectors' items
 abbrev VecSame : Vec Item Global → Vec Item Global → Bool

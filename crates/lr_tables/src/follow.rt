@@ -36,12 +36,7 @@ fn end_edge(rule: &Rule) -> Option<Edge>
 pub fn begin_edges(alloc: Global, rules: &[Rule]) -> Result<Vec<Edge>, NoMemory>
     ensures { IfOk result (λ edges. edges.items ≡ begin_edges rules.now) }
 {
-    let mut edges = Vec::new(alloc);
-    for rule in rules {
-        if let Some(edge) = begin_edge(rule) {
-            edges.push(edge)?;
-        }
-    }
+    let edges = rules.iter().filter_map(begin_edge).collect(alloc)?;
     Ok(edges)
 }
 
@@ -49,12 +44,7 @@ pub fn begin_edges(alloc: Global, rules: &[Rule]) -> Result<Vec<Edge>, NoMemory>
 pub fn end_edges(alloc: Global, rules: &[Rule]) -> Result<Vec<Edge>, NoMemory>
     ensures { IfOk result (λ edges. edges.items ≡ end_edges rules.now) }
 {
-    let mut edges = Vec::new(alloc);
-    for rule in rules {
-        if let Some(edge) = end_edge(rule) {
-            edges.push(edge)?;
-        }
-    }
+    let edges = rules.iter().filter_map(end_edge).collect(alloc)?;
     Ok(edges)
 }
 

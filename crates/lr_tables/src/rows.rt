@@ -74,12 +74,10 @@ fn reductions(
 ) -> Result<Vec<Choice>, NoMemory>
     ensures { IfOk result (λ choices. choices.items ≡ reductions rules.now follow.now kernel.now) }
 {
-    let mut choices = Vec::new(alloc);
-    for item in kernel {
-        if let Some(number) = reduction(rules, follow, *item) {
-            choices.push(Choice::Reduce(number))?;
-        }
-    }
+    let choices = kernel
+        .iter()
+        .filter_map(|item| reduction(rules, follow, *item).map(Choice::Reduce))
+        .collect(alloc)?;
     Ok(choices)
 }
 

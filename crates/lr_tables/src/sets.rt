@@ -1,7 +1,8 @@
 // Item sets. A set is known by its kernel, the start or the items with a dot behind a symbol: first
 // those with more symbols before the dot, then by the rule's place.
-ghost use Rattle.std.specs.Prelude.{◌≡◌, ◌≤◌, length, IfOk};
+ghost use Rattle.std.specs.Prelude.{◌≡◌, ◌≤◌, length, IfOk, if◌then◌else◌, Some, None};
 ghost use Rattle.lr_tables.specs.Grammar.{IsShort};
+ghost use Rattle.lr_tables.specs.Items.{advanced};
 ghost use Rattle.lr_tables.specs.Sets.{edge_to, first_edge, chains, marked_before, marked_all, opened_from, item_set, stands_before, moved};
 
 use crate::item::{Item, next_symbol, symbol_number};
@@ -32,12 +33,7 @@ fn first_edge(rule: &Rule) -> Option<Edge>
 pub fn chains(alloc: Global, rules: &[Rule]) -> Result<Vec<Edge>, NoMemory>
     ensures { IfOk result (λ edges. edges.items ≡ chains rules.now) }
 {
-    let mut edges = Vec::new(alloc);
-    for rule in rules {
-        if let Some(edge) = first_edge(rule) {
-            edges.push(edge)?;
-        }
-    }
+    let edges = rules.iter().filter_map(first_edge).collect(alloc)?;
     Ok(edges)
 }
 
@@ -110,6 +106,21 @@ fn stands_before(rules: &[Rule], stmt: u16, item: Item, symbol: usize) -> bool
     }
 }
 
+// The item with its dot behind one more symbol, if that has this number.
+fn stepped(rules: &[Rule], stmt: u16, item: Item, symbol: usize) -> Option<Item>
+    requires { IsShort rules.now }
+    ensures { result ≡ (if stands_before rules.now stmt symbol item then Some (advanced item) else None) }
+{
+    if stands_before(rules, stmt, item, symbol) {
+        Some(Item {
+            rule: item.rule,
+            dot: item.dot + 1,
+        })
+    } else {
+        None
+    }
+}
+
 /// The kernel behind the symbol with this number.
 pub fn moved(
     alloc: Global,
@@ -121,14 +132,9 @@ pub fn moved(
     requires { IsShort rules.now }
     ensures { IfOk result (λ kernel. kernel.items ≡ moved rules.now stmt symbol items.now) }
 {
-    let mut kernel = Vec::new(alloc);
-    for item in items {
-        if stands_before(rules, stmt, *item, symbol) {
-            kernel.push(Item {
-                rule: item.rule,
-                dot: item.dot + 1,
-            })?;
-        }
-    }
+    let kernel = items
+        .iter()
+        .filter_map(|item| stepped(rules, stmt, *item, symbol))
+        .collect(alloc)?;
     Ok(kernel)
 }

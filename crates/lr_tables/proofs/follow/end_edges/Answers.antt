@@ -1,12 +1,14 @@
-use Rattle.std.proofs.Common.{sym, ◌∙◌}
+use Rattle.std.proofs.Common.{rules, ◌≡◌, filter_map}
+use Rattle.std.proofs.lemmas.Iterator.{YieldsList-from_slice, items_from_collect}
+use Rattle.std.proofs.lemmas.Iterator.Consumers.{YieldsList-from_filter_map}
+use Rattle.std.proofs.lemmas.Result.{IfOk-at_ok}
+use borrow.Author.Tests.{tests}
 use Rattle.lr_tables.specs.Looking.{end_edge}
-use Rattle.lr_tables.proofs.Loops.{filter_map_some, filter_map_none}
 use Rattle.lr_tables.proofs.follow.end_edges.Goals as goal
-use Rattle.lr_tables.proofs.follow.end_edges.Goals.{in-Some+in_ok-push, in_default}
 
-pub loop-rule-preserved : goal.loop-rule-preserved
-loop-rule-preserved c = elim c.match-end_edge.branch [
-  | in-Some+in_ok-push w ↦ rw (w.edges-is, w.in_ok-push.ensures.items) (filter_map_some end_edge _ _ c.rule-item.result _ _ c.loop-rule-test.true c.rule-item.is c.loop-rule.invariant
-      (sym w.in-Some.ensures))
-  | in_default w ↦ rw w.edges-is (filter_map_none end_edge _ _ c.rule-item.result _ c.loop-rule-test.true c.rule-item.is c.loop-rule.invariant (sym c.end_edge.ensures ∙ w.in_default.is))
-]
+pub returns : goal.returns
+returns c =
+    let rules_now = c.args.rules.now in
+    let kept = items_from_collect c.collect.result c.collect.ensures.ran
+    (YieldsList-from_filter_map _ end_edge (YieldsList-from_slice rules_now cc) c.filter_map.ensures.closure (λ x r q k. search (rules, tests))) in
+    IfOk-at_ok (λ v. v.items ≡ filter_map end_edge rules_now) c.in_ok-edges.was kept

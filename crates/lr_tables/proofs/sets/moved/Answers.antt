@@ -1,23 +1,31 @@
-use Rattle.std.proofs.Common.{◌≡◌, ◌<◌, ◌∙◌, sym, arith, get_or, refl, None}
-use Rattle.std.proofs.lemmas.List.{get_or_default}
-use Rattle.lr_tables.proofs.Loops.{short_dot, stands_next, moved_nil, moved_skip, moved_push}
+use Rattle.std.proofs.Common.{rules, ◌≡◌, ◌∙◌, List, [], ◌∷◌, Option, Some, None, Bool, true, false, cond, map, filter, filter_map, refl, ap}
+use Rattle.std.specs.List.{cons_option}
+use Rattle.std.proofs.lemmas.Iterator.{YieldsList-from_slice, items_from_collect}
+use Rattle.std.proofs.lemmas.Iterator.Consumers.{YieldsList-from_filter_map}
+use Rattle.std.proofs.lemmas.Result.{IfOk-at_ok}
+use borrow.Author.Tests.{tests}
+use Rattle.lr_tables.specs.declared.item.Item.{Item}
+use Rattle.lr_tables.specs.Items.{advanced}
+use Rattle.lr_tables.specs.Sets.{stands_before, moved}
 use Rattle.lr_tables.proofs.sets.moved.Goals as goal
-use Rattle.lr_tables.proofs.sets.moved.Goals.{then-stands_before+in_ok-push, else-stands_before}
 
-pub loop-item-init : goal.loop-item-init
-loop-item-init c = rw c.new-kernel.ensures.items (moved_nil _ _ _)
+-- an item that is moved on where it passes the test
+abbrev stepped : (Item → Bool) → Item → Option Item
+stepped test i = cond (test i) (Some (advanced i)) None
 
-pub overflow_add-item : goal.overflow_add-item
-overflow_add-item c =
-    let x = stands_next _ _ (sym c.stands_before.ensures ∙ c.if-stands_before.true) in
-    let lt = short_dot c.args.rules.now c.args.stmt (get_or c.args.items.now c.loop-item.item-index record { rule = None; dot = 0 }) x.0 c.requires x.1 in
-    omega (arith, lt)
+filter_map_stepped : (test : Item → Bool) (items : List Item) → filter_map (stepped test) items ≡ map advanced (filter test items)
+filter_map_stepped test [] = refl
+filter_map_stepped test (i ∷ is) = by (test i) (filter_map_stepped test is)
+  where
+    by : (b : Bool) → filter_map (stepped test) is ≡ map advanced (filter test is) → cons_option (cond b (Some (advanced i)) None) (filter_map (stepped test) is)
+        ≡ map advanced (cond b (i ∷ filter test is) (filter test is))
+    by true e = ap (λ k. advanced i ∷ k) e
+    by false e = e
 
-pub loop-item-preserved : goal.loop-item-preserved
-loop-item-preserved c = elim c.if-stands_before.branch [
-  | then-stands_before+in_ok-push w ↦ rw (w.kernel-is, w.in_ok-push.ensures.items)
-      (moved_push _ _ _ _ _ (get_or c.args.items.now c.loop-item.item-index record { rule = None; dot = 0 }) _ c.loop-item-test.true (get_or_default _ _ _ _ c.loop-item-test.true)
-      c.loop-item.invariant (sym c.stands_before.ensures ∙ w.if-stands_before.true))
-  | else-stands_before w ↦ rw w.kernel-is (moved_skip _ _ _ _ _ (get_or c.args.items.now c.loop-item.item-index record { rule = None; dot = 0 }) _ c.loop-item-test.true
-      (get_or_default _ _ _ _ c.loop-item-test.true) c.loop-item.invariant (sym c.stands_before.ensures ∙ w.if-stands_before.false))
-]
+pub returns : goal.returns
+unfolding moved
+returns c =
+    let step = stepped (stands_before c.args.rules.now c.args.stmt c.args.symbol) in
+    let kept = items_from_collect c.collect.result c.collect.ensures.ran
+    (YieldsList-from_filter_map _ step (YieldsList-from_slice c.args.items.now cc) c.filter_map.ensures.closure (λ x r q k. search (rules, tests, c.requires))) in
+    IfOk-at_ok (λ v. v.items ≡ filter_map step c.args.items.now) c.in_ok-kernel.was kept ∙ filter_map_stepped (stands_before c.args.rules.now c.args.stmt c.args.symbol) c.args.items.now
