@@ -62,14 +62,14 @@ fn open(rules: &[Rule], set: &ClassSet, items: &mut Vec<Item>) -> Result<(), NoM
     requires { length rules.now ≤ 1000 }
     ensures { IfOk result (λ _. items.new.items ≡ items.old.items ++ opened_from 0 rules.now set.now) }
 {
-    for (number, rule) in rules.iter().enumerate() {
-        if set.contains(rule.left) {
-            items.push(Item {
-                rule: Some(number as u16),
-                dot: 0,
-            })?;
-        }
-    }
+    let opened = (0..rules.len() as u16)
+        .zip(rules)
+        .filter(|(_, rule)| set.contains(rule.left))
+        .map(|(number, _)| Item {
+            rule: Some(number),
+            dot: 0,
+        });
+    items.extend(opened)?;
     Ok(())
 }
 
