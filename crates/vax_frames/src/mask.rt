@@ -22,11 +22,8 @@ fn item_registers(item: &CodeItem) -> u16
 fn body_registers(body: &[CodeItem]) -> u16
     ensures { IsSetOf result (body_names body.now) }
 {
-    let mut named = 0;
-    for item in body {
-        named |= item_registers(item);
-    }
-    named
+    body.iter()
+        .fold(0, |named, item| named | item_registers(item))
 }
 
 /// The mask that saves exactly the registers among r2 to r11 that the body names.
