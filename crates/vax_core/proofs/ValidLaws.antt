@@ -1,18 +1,26 @@
--- Fewer operands than kinds, and addresses with a name.
-use Rattle.std.proofs.Common.{◌≡◌, ℕ, zero, suc, ◌<◌, false, List, [], ◌∷◌, length, drop, refl, sym, ◌∙◌, arith, true, Option, Some, None}
+-- Operands beside their kinds, and addresses with a name.
+use Rattle.std.proofs.Common.{◌≡◌, ◌≢◌, ℕ, Bool, true, false, ◌&&◌, List, [], ◌∷◌, length, refl, ap, arith, Option, Some, None}
+use Rattle.std.specs.List.{list_all, zip}
+use Rattle.gg_base.proofs.Facts.{and_false}
 use Rattle.vax_core.specs.declared.op.OperandKind.{OperandKind}
 use Rattle.vax_core.specs.declared.operand.Operand.{Operand}
-use Rattle.vax_core.specs.Valid.{are_operands, is_addr_of, is_named_addr}
+use Rattle.vax_core.specs.Valid.{is_operand, are_operands, is_addr_of, is_named_addr}
 
-at_end : (kinds : List OperandKind) (i : ℕ) → i < length kinds → are_operands (drop i kinds) [] ≡ false
-at_end [] i lt = absurd (omega arith)
-at_end (kind ∷ kinds) zero lt = refl
-at_end (kind ∷ kinds) (suc i) lt = at_end kinds i (omega arith)
+-- kinds and operands, pair by pair
+abbrev pub of_kind : OperandKind × Operand → Bool
+of_kind p = is_operand p.0 p.1
 
-pub too_few : (kinds : List OperandKind) (os : List Operand) (i : ℕ) (rest : List Operand) → i < length kinds → length rest < 1 → are_operands (drop i kinds) rest ≡ are_operands kinds os
-    → false ≡ are_operands kinds os
-too_few kinds os i [] lt short e = sym (at_end kinds i lt) ∙ e
-too_few kinds os i (o ∷ rest) lt short e = absurd (omega arith)
+pub each_of_kind : (kinds : List OperandKind) (os : List Operand) → length kinds ≡ length os → list_all of_kind (zip kinds os) ≡ are_operands kinds os
+each_of_kind [] [] e = refl
+each_of_kind [] (o ∷ os) e = absurd (omega (arith, e))
+each_of_kind (kind ∷ kinds) [] e = absurd (omega (arith, e))
+each_of_kind (kind ∷ kinds) (o ∷ os) e = ap (λ (b : Bool). is_operand kind o && b) (each_of_kind kinds os (omega (arith, e)))
+
+pub other_count : (kinds : List OperandKind) (os : List Operand) → length kinds ≢ length os → are_operands kinds os ≡ false
+other_count [] [] ne = absurd (ne refl)
+other_count [] (o ∷ os) ne = refl
+other_count (kind ∷ kinds) [] ne = refl
+other_count (kind ∷ kinds) (o ∷ os) ne = rw (other_count kinds os (λ e. ne (omega (arith, e)))) (and_false (is_operand kind o))
 
 -- an address that has a name is an address
 pub named_is_addr : (n : Option (List ℕ)) (offset : ℕ) → is_named_addr n offset ≡ true → is_addr_of n offset ≡ true

@@ -20,11 +20,10 @@ impl Instr {
     pub fn registers(&self) -> RegSet
         ensures { IsSetOf result.0 (operands_name self.now.operands) }
     {
-        let mut set = RegSet::empty();
-        for operand in self.operands.as_slice() {
-            set.insert(operand.registers());
-        }
-        set
+        self.operands
+            .as_slice()
+            .iter()
+            .fold(RegSet::empty(), |set, operand| set.union(operand.registers()))
     }
 }
 

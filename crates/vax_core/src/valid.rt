@@ -134,17 +134,11 @@ fn is_operand(kind: OperandKind, o: &Operand) -> bool
 fn are_operands(kinds: &[OperandKind], operands: &[Operand]) -> bool
     ensures { result ≡ are_operands kinds.now operands.now }
 {
-    let mut rest = operands;
-    for kind in kinds {
-        let [o, others @ ..] = rest else {
-            return false;
-        };
-        if !is_operand(*kind, o) {
-            return false;
-        }
-        rest = others;
-    }
-    rest.is_empty()
+    kinds.len() == operands.len()
+        && kinds
+            .iter()
+            .zip(operands)
+            .all(|(kind, o)| is_operand(*kind, o))
 }
 
 fn is_target(wanted: bool, target: &Option<Name>) -> bool

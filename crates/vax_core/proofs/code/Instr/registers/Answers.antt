@@ -1,16 +1,18 @@
-use Rattle.std.proofs.Common.{◌≡◌, ◌+◌, ◌++◌, ◌∷◌, [], take, get_or, bit_or, ap, ◌∙◌, suc, arith, rules}
-use Rattle.std.proofs.Math.Seq.{take-suc}
+use Rattle.std.proofs.Common.{◌≡◌, rules, List, []}
+use Rattle.std.proofs.lemmas.Fn.{fold_over, fronts}
+use Rattle.std.proofs.lemmas.Iterator.{YieldsList-from_slice}
+use borrow.Author.Tests.{tests}
 use Rattle.vax_core.specs.declared.operand.Operand.{Operand}
-use Rattle.vax_core.proofs.RegisterLaws.{more_named}
+use Rattle.vax_core.specs.declared.register.RegSet.{RegSet}
+use Rattle.vax_core.specs.Registers.{operands_name, IsSetOf}
+use Rattle.vax_core.proofs.RegisterLaws.{none_named, more_named}
 use Rattle.vax_core.proofs.code.Instr.registers.Goals as goal
 
-pub loop-operand-preserved : goal.loop-operand-preserved
-loop-operand-preserved c =
-    let os = c.as_slice-operand-items.result.now in
-    let i = c.loop-operand.operand-index in
-    let o = c.operand-item.result in
-    let at : get_or os i o ≡ o = search rules in
-    let next : i + 1 ≡ suc i = omega arith in
-    let front : take (suc i) os ≡ take i os ++ o ∷ [] = take-suc os i o c.loop-operand-test.true ∙ ap (λ (x : Operand). take i os ++ x ∷ []) at in
-    let set : c.insert.new.self.0 ≡ bit_or c.loop-operand.set.0 c.registers.result.0 = search rules in
-    rw (set, next, front) (more_named c.loop-operand.set.0 c.registers.result.0 (take i os) o c.loop-operand.invariant c.registers.ensures.named)
+pub returns : goal.returns
+returns c =
+    let os = c.as_slice.result.now in
+    let empty : c.empty.result.0 ≡ 0 = search rules in
+    let first : IsSetOf c.empty.result.0 (operands_name []) = rw empty none_named in
+    let same : c.args.self.now.operands ≡ os = search rules in
+    rw same (fold_over fronts (λ y. y.now) _ (λ (front : List Operand) (set : RegSet). IsSetOf set.0 (operands_name front)) _
+    (λ front set o more q h k. search (rules, tests, more_named, h)) _ os c.empty.result c.fold.result (YieldsList-from_slice os cc).runs first c.fold.ensures.ran)
