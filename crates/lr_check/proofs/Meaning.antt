@@ -18,7 +18,7 @@ use Rattle.lr_check.specs.declared.sample.Outcome.{Outcome}
 use Rattle.lr_check.specs.declared.sample.Outcome.TheVariants as outcome
 use Rattle.lr_check.specs.Tree.{Node, Token}
 use Rattle.lr_check.specs.Parse as parse
-use Rattle.lr_check.specs.Parse.{Part, symbols, coming, owner_answers, Ends, Reduction}
+use Rattle.lr_check.specs.Parse.{Part, symbols, coming, Ends}
 use Rattle.lr_check.specs.Steps.{Config, tok_of, token_of, After, shifted, seen_before, marked}
 use Rattle.lr_check.specs.Questions.{answers_of}
 use Rattle.lr_check.proofs.Parts.{Stands, above}

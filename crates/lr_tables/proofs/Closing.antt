@@ -1,11 +1,11 @@
 -- The item set of a stack's kernel holds exactly the items that are valid for the stack.
-use Rattle.std.proofs.Common.{◌≡◌, ◌⊎◌, ◌↔◌, ℕ, zero, suc, ◌+◌, ◌≤◌, ◌<◌, List, [], ◌∷◌, ◌++◌, Option, Some, None, Bool, true, false, cond, length, get_or, set, slice_get}
-use Rattle.std.proofs.Common.{replicate, map, filter, refl, sym, ap, ◌∙◌, subst, inl, inr, ⊎_elim, arith, length-set, true≢false}
+use Rattle.std.proofs.Common.{◌≡◌, ◌⊎◌, ℕ, zero, suc, ◌+◌, ◌<◌, List, [], ◌∷◌, ◌++◌, Option, Some, None, Bool, true, false, cond, length, get_or, slice_get}
+use Rattle.std.proofs.Common.{replicate, filter, refl, sym, ap, ◌∙◌, subst, inl, inr, ⊎_elim, arith, length-set, true≢false}
 use Rattle.std.specs.Prelude.{◌==◌}
 use Rattle.std.specs.Option.{option_map, option_map_or}
-use Rattle.std.proofs.lemmas.Bool.{eqb-true, eq-eqb, cases_Bool, cases_lt}
+use Rattle.std.proofs.lemmas.Bool.{eqb-true, eq-eqb, cases_lt}
 use Rattle.std.proofs.lemmas.List.{get_or-replicate, get_or_past, length-replicate}
-use Rattle.std.proofs.lemmas.Option.{slice_get_within, same_Some}
+use Rattle.std.proofs.lemmas.Option.{same_Some}
 use Rattle.md_reader.specs.declared.types.Rule.{Rule}
 use Rattle.md_reader.specs.declared.types.Sym.{Sym}
 use Rattle.md_reader.specs.declared.types.Sym.TheVariants as grammar_symbol
@@ -18,7 +18,7 @@ use Rattle.lr_tables.specs.Marks.{rounds}
 use Rattle.lr_tables.specs.Sets.{edge_to, first_edge, chains, marked_before, marked_all, opened_from, open_classes, item_set, stands_before, moved}
 use Rattle.lr_tables.specs.Kernels.{kernel_at}
 use Rattle.lr_tables.proofs.Members.{In, In-left, In-right, In-cases, In-map, map-In, In-filter, filter-In, In-filter_map, filter_map-In, slice_get-In, In-slice_get}
-use Rattle.lr_tables.proofs.Marking.{Marked, marked_set, marked_kept, marked_here, rounds_sound, rounds_closed, rounds_kept, length-rounds}
+use Rattle.lr_tables.proofs.Marking.{Marked, marked_set, marked_kept, marked_here, rounds_sound, rounds_closed, rounds_kept}
 use Rattle.lr_tables.proofs.Symbols_apart.{symbol_number_same}
 
 -- nothing is marked at first

@@ -1,8 +1,8 @@
 -- As many item sets as kernels are found.
-use Rattle.std.proofs.Common.{◌≡◌, ◌⊎◌, ◌↔◌, ℕ, zero, suc, ◌+◌, ◌≤◌, ◌<◌, List, [], ◌∷◌, Option, Some, None, length, map, slice_get, refl, sym, ap, ◌∙◌, subst, inl, inr, ⊎_elim, arith}
+use Rattle.std.proofs.Common.{◌≡◌, ◌⊎◌, ℕ, zero, suc, ◌≤◌, ◌<◌, List, [], ◌∷◌, Some, length, map, slice_get, refl, sym, ap, ◌∙◌, subst, inl, inr, ⊎_elim, arith}
 use Rattle.std.specs.Option.{option_map}
 use Rattle.std.proofs.lemmas.List.{length-map}
-use Rattle.std.proofs.lemmas.Option.{slice_get-map, slice_get_within, same_Some}
+use Rattle.std.proofs.lemmas.Option.{slice_get-map, same_Some}
 use Rattle.md_reader.specs.declared.types.Rule.{Rule}
 use Rattle.md_reader.specs.declared.types.Sym.{Sym}
 use Rattle.lr_tables.specs.declared.item.Item.{Item}
@@ -13,8 +13,8 @@ use Rattle.lr_tables.specs.Sets.{chains, item_set}
 use Rattle.lr_tables.specs.Kernels.{kernel_at}
 use Rattle.lr_tables.specs.Numbering.{found, IsOver}
 use Rattle.lr_tables.proofs.Members.{In, slice_get-In, In-slice_get, map-In}
-use Rattle.lr_tables.proofs.Closing.{kernel_valid, set_valid, valid_set, kernel_there, set_empty}
-use Rattle.lr_tables.proofs.Order.{InKernel, kernel_in, kernel_sorted, set_kernel, sorted_same}
+use Rattle.lr_tables.proofs.Closing.{kernel_valid, set_valid, valid_set, set_empty}
+use Rattle.lr_tables.proofs.Order.{kernel_in, kernel_sorted, set_kernel, sorted_same}
 use Rattle.lr_tables.proofs.Found.{Apart, Reached, found_reached, found_apart, found_complete, head_in}
 
 nothing_at : {X : Type 0} (k : ℕ) (x : X) → slice_get [] k ≡ Some x → ⊥

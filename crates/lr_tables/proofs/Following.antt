@@ -1,8 +1,8 @@
 -- FOLLOW as it is computed is the least set.
-use Rattle.std.proofs.Common.{◌≡◌, ◌⊎◌, ◌↔◌, ℕ, zero, suc, ◌+◌, ◌-◌, ◌≤◌, ◌<◌, List, [], ◌∷◌, ◌++◌, Option, Some, None, Bool, true, false, cond, length, get_or, set, slice_get}
+use Rattle.std.proofs.Common.{◌≡◌, ◌⊎◌, ℕ, zero, suc, ◌+◌, ◌-◌, ◌<◌, List, [], ◌∷◌, Option, Some, None, Bool, true, false, cond, length, set, slice_get}
 use Rattle.std.proofs.Common.{replicate, refl, sym, ap, ◌∙◌, subst, inl, inr, ⊎_elim, arith, length-set, true≢false}
 use Rattle.std.specs.Prelude.{◌==◌}
-use Rattle.std.proofs.lemmas.Bool.{eqb-true, eq-eqb, cases_Bool}
+use Rattle.std.proofs.lemmas.Bool.{eqb-true, eq-eqb}
 use Rattle.std.proofs.lemmas.List.{length-replicate}
 use Rattle.std.proofs.lemmas.Option.{slice_get_within, same_Some}
 use Rattle.tree_core.specs.declared.token.Tok.{Tok}
@@ -15,10 +15,10 @@ use Rattle.lr_tables.specs.Symbols.{number}
 use Rattle.lr_tables.specs.Follow.{Starts, itself, by_rule, Follow, at_end, within, behind}
 use Rattle.lr_tables.specs.Grammar.{IsGrammar}
 use Rattle.lr_tables.specs.Marks.{rounds}
-use Rattle.lr_tables.specs.Sets.{edge_to, marked_before}
+use Rattle.lr_tables.specs.Sets.{edge_to}
 use Rattle.lr_tables.specs.Looking as code
 use Rattle.lr_tables.proofs.Members.{In, In-filter_map, filter_map-In, slice_get-In, In-slice_get}
-use Rattle.lr_tables.proofs.Marking.{Marked, marked_set, marked_kept, marked_here, rounds_sound, rounds_closed, rounds_kept, length-rounds}
+use Rattle.lr_tables.proofs.Marking.{Marked, marked_set, marked_kept, marked_here, rounds_sound, rounds_closed, rounds_kept}
 use Rattle.lr_tables.proofs.Symbols_apart.{number_same}
 use Rattle.lr_tables.proofs.Closing.{none_marked, edge_is}
 

@@ -1,21 +1,21 @@
 -- The numbered kernels are those that stacks lead to, each once.
 use Rattle.std.proofs.Common.{◌≡◌, ◌⊎◌, ℕ, zero, suc, ◌+◌, ◌≤◌, ◌<◌, List, [], ◌∷◌, ◌++◌, Option, Some, None, Bool, true, false, cond, length, get_or, map, filter, slice_get, refl}
 use Rattle.std.proofs.Common.{sym, ap, ◌∙◌, subst, inl, inr, ⊎_elim, arith, true≢false, length-append, append_assoc, append-nil}
-use Rattle.std.specs.Prelude.{◌==◌, ◌&&◌, not, nat_lt, position}
+use Rattle.std.specs.Prelude.{◌==◌, not, nat_lt, position}
 use Rattle.std.specs.List.{list_any, prefix_len, position_or_len}
 use Rattle.std.specs.Option.{option_eq, option_map_or}
-use Rattle.std.specs.Cmp.Lexicographic.{pointwise, pointwise_decides}
-use Rattle.std.proofs.lemmas.Bool.{eqb-true, eq-eqb, cases_Bool, cases_lt, lt-ltb, ltb-true, and_parts, and_from, not_from_true, not-false, or_left, or_right, or_cases}
+use Rattle.std.specs.Cmp.Lexicographic.{pointwise_decides}
+use Rattle.std.proofs.lemmas.Bool.{eqb-true, eq-eqb, cases_lt, lt-ltb, ltb-true, and_parts, and_from, or_left, or_right, or_cases}
 use Rattle.std.proofs.lemmas.Option.{slice_get_within, slice_get_past, slice_get-get_or, get_or_from_slice_get, same_Some, none-some}
 use Rattle.std.proofs.lemmas.List.{get_or_append_left}
 use Rattle.md_reader.specs.declared.types.Rule.{Rule}
 use Rattle.md_reader.specs.declared.types.Sym.{Sym}
 use Rattle.md_reader.specs.declared.types.Sym.TheVariants as grammar_symbol
 use Rattle.lr_tables.specs.declared.item.Item.{Item}
-use Rattle.lr_tables.specs.Symbols.{number, symbol_number}
+use Rattle.lr_tables.specs.Symbols.{symbol_number}
 use Rattle.lr_tables.specs.Items.{next, start, advanced}
 use Rattle.lr_tables.specs.Grammar.{IsGrammar}
-use Rattle.lr_tables.specs.Sets.{chains, opened_from, open_classes, marked_all, item_set, stands_before, moved}
+use Rattle.lr_tables.specs.Sets.{chains, item_set, stands_before, moved}
 use Rattle.lr_tables.specs.Kernels.{kernel_at}
 use Rattle.lr_tables.specs.Numbering.{same_item, same_kernel, entered, row_entered, followed, found}
 use Rattle.lr_tables.proofs.Members.{In, In-left, In-right, In-cases, In-slice_get, slice_get-In, map-In, filter-In}

@@ -1,12 +1,12 @@
 -- The tables' answers are those of the stacks.
-use Rattle.std.proofs.Common.{◌≡◌, ◌⊎◌, ◌↔◌, ℕ, zero, suc, ◌+◌, ◌≤◌, ◌<◌, List, [], ◌∷◌, Option, Some, None, Bool, true, false, cond, Contains, length, get_or, map, slice_get}
-use Rattle.std.proofs.Common.{refl, sym, ap, ap₂, ◌∙◌, subst, inl, inr, ⊎_elim, arith, true≢false}
+use Rattle.std.proofs.Common.{◌≡◌, ◌⊎◌, ℕ, zero, suc, ◌+◌, ◌≤◌, ◌<◌, List, [], ◌∷◌, Option, Some, None, Bool, true, false, cond, length, get_or, map, slice_get}
+use Rattle.std.proofs.Common.{refl, sym, ap, ◌∙◌, subst, inl, inr, ⊎_elim, arith}
 use Rattle.std.specs.Prelude.{◌==◌, ◌&&◌, AllPairs, position}
 use Rattle.std.specs.List.{filter_map, cons_option, range_with_len}
 use Rattle.std.specs.Option.{option_map, option_and_then}
 use Rattle.std.proofs.lemmas.List.FromFn.{get_or-map-range_with_len, length-map-range_with_len}
-use Rattle.std.proofs.lemmas.List.{get_or_past, length-map}
-use Rattle.std.proofs.lemmas.Option.{slice_get-map, slice_get_within, same_Some, none-some}
+use Rattle.std.proofs.lemmas.List.{get_or_past}
+use Rattle.std.proofs.lemmas.Option.{slice_get-map, same_Some, none-some}
 use Rattle.std.proofs.lemmas.Bool.{cases_lt, eqb-true, eqb-false, eq-eqb, and_parts, and_from}
 use Rattle.tree_core.specs.declared.token.Tok.{Tok}
 use Rattle.tree_core.specs.declared.token.Tok.TheVariants as tok
@@ -19,7 +19,6 @@ use Rattle.lr_tables.specs.declared.types.Choice.{Choice}
 use Rattle.lr_tables.specs.declared.types.Choice.TheVariants as choice
 use Rattle.lr_tables.specs.Symbols.{number, symbol_number}
 use Rattle.lr_tables.specs.Items.{right_of, right_at, next, start, advanced, Items}
-use Rattle.lr_tables.specs.Follow.{Follow}
 use Rattle.lr_tables.specs.Grammar.{IsGrammar}
 use Rattle.lr_tables.specs.Sets.{chains, item_set, moved}
 use Rattle.lr_tables.specs.Kernels.{kernel_at}
@@ -30,13 +29,13 @@ use Rattle.lr_tables.specs.View.{RowView, TableView}
 use Rattle.lr_tables.specs.Built.{IsRows}
 use Rattle.lr_tables.specs.Leads.{target_in, target_at, actions_in, actions_at, Leads, nowhere, further}
 use Rattle.lr_tables.specs.Candidates.{StandsBefore, MayReduce, GoesFirst, AreReductions, Candidates, accepts, shifts, reduces, Goes}
-use Rattle.lr_tables.proofs.Members.{In, In-Contains, Contains-In, slice_get-In, In-slice_get, In-filter_map, filter_map-In}
+use Rattle.lr_tables.proofs.Members.{In, In-Contains, Contains-In, In-filter_map, filter_map-In}
 use Rattle.lr_tables.proofs.Symbols_apart.{number-below, number_same}
 use Rattle.lr_tables.proofs.Marking.{Marked}
-use Rattle.lr_tables.proofs.Closing.{kernel_valid, set_valid, valid_set, kernel_there, moved_there, moved_only}
+use Rattle.lr_tables.proofs.Closing.{kernel_valid, set_valid, valid_set, moved_there, moved_only}
 use Rattle.lr_tables.proofs.Following.{follow_sound, follow_complete}
-use Rattle.lr_tables.proofs.Order.{RuleBefore, Before, Each, Each-In, Sorted, kernel_sorted, kernel_in, set_kernel}
-use Rattle.lr_tables.proofs.Found.{Prefix, prefix_get, found_prefix, found_complete, position_there, position_is, head_in, in_some, moved_symbol, symbol_within}
+use Rattle.lr_tables.proofs.Order.{RuleBefore, Before, Each, Each-In, Sorted, kernel_sorted, set_kernel}
+use Rattle.lr_tables.proofs.Found.{prefix_get, found_prefix, found_complete, position_there, position_is, head_in, in_some, symbol_within}
 use Rattle.lr_tables.proofs.Loops.{target_some}
 
 -- a reduction's rule

@@ -1,5 +1,5 @@
 -- The limit on item sets, for a description.
-use Rattle.std.proofs.Common.{◌≡◌, ℕ, List, length, subst, ◌≤◌, arith}
+use Rattle.std.proofs.Common.{◌≡◌, ℕ, List, length, subst}
 use Rattle.md_reader.specs.declared.types.Rule.{Rule}
 use Rattle.md_reader.specs.State.{Content}
 use Rattle.md_reader.specs.Valid.{IsValid}
@@ -8,7 +8,6 @@ use Rattle.lr_tables.specs.Over.{HasTooMany}
 use Rattle.lr_tables.specs.Built.{IsRows}
 use Rattle.lr_tables.specs.Statements.{stmt_of}
 use Rattle.lr_tables.specs.View.{RowView}
-use Rattle.lr_tables.specs.Grammar.{IsGrammar}
 use Rattle.lr_tables.proofs.Counting.{too_many, not_too_many}
 use Rattle.lr_tables.proofs.Validity.{is_grammar}
 

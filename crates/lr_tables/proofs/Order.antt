@@ -1,12 +1,11 @@
 -- The order of items in kernels, by which equal sets are equal lists.
-use Rattle.std.proofs.Common.{◌≡◌, ◌⊎◌, ℕ, zero, suc, ◌+◌, ◌≤◌, ◌<◌, List, [], ◌∷◌, ◌++◌, Option, Some, None, Bool, true, false, cond, map, filter, get_or, length, refl, sym, ap}
+use Rattle.std.proofs.Common.{◌≡◌, ◌⊎◌, ℕ, ◌+◌, ◌≤◌, ◌<◌, List, [], ◌∷◌, ◌++◌, Option, Some, None, Bool, true, false, cond, map, filter, get_or, refl, sym, ap}
 use Rattle.std.proofs.Common.{◌∙◌, subst, inl, inr, ⊎_elim, arith}
 use Rattle.md_reader.specs.declared.types.Rule.{Rule}
 use Rattle.md_reader.specs.declared.types.Sym.{Sym}
 use Rattle.lr_tables.specs.declared.item.Item.{Item}
 use Rattle.lr_tables.specs.Symbols.{symbol_number}
 use Rattle.lr_tables.specs.Items.{start, fresh, advanced}
-use Rattle.lr_tables.specs.Marks.{rounds}
 use Rattle.lr_tables.specs.Sets.{chains, opened_from, open_classes, item_set, stands_before, moved}
 use Rattle.lr_tables.specs.Kernels.{kernel_at}
 use Rattle.lr_tables.proofs.Members.{In, In-cases, filter-In, map-In}

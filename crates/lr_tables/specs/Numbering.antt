@@ -1,12 +1,11 @@
 -- The item sets in the order in which they are found: breadth first, symbols by their numbers.
-use Rattle.std.specs.Prelude.{◌≡◌, ℕ, zero, suc, ◌+◌, ◌<◌, List, [], ◌∷◌, Option, Some, None, Bool, ◌==◌, ◌&&◌, length, slice_get, map, Vec}
+use Rattle.std.specs.Prelude.{ℕ, zero, suc, ◌+◌, ◌<◌, List, [], ◌∷◌, Option, Some, None, Bool, ◌==◌, ◌&&◌, length, slice_get, map, Vec}
 use Rattle.std.specs.declared.alloc.Global.{Global}
 use Rattle.std.specs.Option.{option_eq}
 use Rattle.std.specs.Cmp.Lexicographic.{pointwise}
 use Rattle.indexmap.specs.IndexSet.{insert_key}
 use Rattle.md_reader.specs.declared.types.Rule.{Rule}
 use Rattle.lr_tables.specs.declared.item.Item.{Item}
-use Rattle.lr_tables.specs.declared.marks.Edge.{Edge}
 use Rattle.lr_tables.specs.Items.{start}
 use Rattle.lr_tables.specs.Sets.{chains, item_set, moved}
 

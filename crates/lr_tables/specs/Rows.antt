@@ -1,5 +1,5 @@
 -- The rows of the tables as the code computes them.
-use Rattle.std.specs.Prelude.{◌≡◌, ℕ, ◌+◌, ◌≤◌, List, [], ◌∷◌, Option, Some, None, Bool, false, ◌==◌, ◌&&◌, length, map}
+use Rattle.std.specs.Prelude.{ℕ, ◌+◌, List, [], ◌∷◌, Option, Some, None, Bool, false, ◌==◌, ◌&&◌, length, map}
 use Rattle.std.specs.Prelude.{position, slice_get, slice_index_or, if◌then◌else◌}
 use Rattle.std.specs.List.{filter_map, range_with_len}
 use Rattle.std.specs.Option.{option_map, option_and_then}

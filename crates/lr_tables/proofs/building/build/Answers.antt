@@ -1,4 +1,4 @@
-use Rattle.std.proofs.Common.{◌≡◌, ◌∙◌, ap, length, List, Err}
+use Rattle.std.proofs.Common.{◌∙◌, ap, length, List, Err}
 use Rattle.md_reader.specs.declared.types.Class.{Class}
 use Rattle.lr_tables.specs.Statements.{stmt_of}
 use Rattle.lr_tables.proofs.Limits.{built_few, full_many}

@@ -1,4 +1,4 @@
-use Rattle.std.proofs.Common.{◌≡◌, ◌∙◌, sym, ap}
+use Rattle.std.proofs.Common.{◌∙◌, sym, ap}
 use Rattle.lr_tables.specs.Numbering.{kernels}
 use Rattle.lr_tables.proofs.Loops.{kernels_insert, entered_some, not_empty}
 use Rattle.lr_tables.proofs.numbering.enter.Goals as goal

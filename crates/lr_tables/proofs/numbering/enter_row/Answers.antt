@@ -1,4 +1,4 @@
-use Rattle.std.proofs.Common.{◌≡◌, ◌∙◌, sym, arith}
+use Rattle.std.proofs.Common.{arith}
 use Rattle.lr_tables.proofs.Loops.{row_turn, row_full}
 use Rattle.lr_tables.proofs.numbering.enter_row.Goals as goal
 

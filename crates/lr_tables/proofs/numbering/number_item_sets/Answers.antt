@@ -1,10 +1,9 @@
-use Rattle.std.proofs.Common.{◌≡◌, ◌≤◌, ◌+◌, ◌∙◌, sym, ap, arith, length, ◌++◌, ◌∷◌, [], List, slice_get, Some, Err}
+use Rattle.std.proofs.Common.{◌≡◌, ◌+◌, ◌∙◌, sym, ap, arith, length, ◌++◌, ◌∷◌, [], List, slice_get, Some, Err}
 use Rattle.std.proofs.lemmas.Result.{err_from_is_err_and}
-use Rattle.lr_tables.specs.declared.item.Item.{Item}
 use Rattle.lr_tables.specs.declared.marks.Edge.{Edge}
 use Rattle.lr_tables.specs.Items.{start}
 use Rattle.lr_tables.specs.Sets.{chains, item_set}
-use Rattle.lr_tables.specs.Numbering.{kernels, found, row_entered}
+use Rattle.lr_tables.specs.Numbering.{kernels, found}
 use Rattle.lr_tables.proofs.Loops.{found_first, first_many, found_turn, found_over, kernel_read, keys_grow, err_same}
 use Rattle.lr_tables.proofs.numbering.number_item_sets.Goals as goal
 

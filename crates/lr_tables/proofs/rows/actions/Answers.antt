@@ -1,4 +1,4 @@
-use Rattle.std.proofs.Common.{◌≡◌, ◌<◌, ℕ, ◌∙◌, sym, ap₂, arith, length, List, [], Option, None, Bool}
+use Rattle.std.proofs.Common.{◌<◌, ℕ, ◌∙◌, ap₂, arith, length, List, [], Option, None, Bool}
 use Rattle.std.proofs.lemmas.List.{get_or_read}
 use Rattle.lr_tables.specs.Rows.{cell, reductions}
 use Rattle.lr_tables.proofs.RowTurns.{actions_none, actions_turn}

@@ -1,4 +1,4 @@
-use Rattle.std.proofs.Common.{◌≡◌, ◌∙◌, sym, ap}
+use Rattle.std.proofs.Common.{◌∙◌}
 use Rattle.lr_tables.proofs.RowTurns.{follows_none, follows_turn}
 use Rattle.lr_tables.proofs.rows.all_follows.Goals as goal
 

@@ -1,4 +1,3 @@
-use Rattle.std.proofs.Common.{◌≡◌, ◌∙◌, sym, ap}
 use Rattle.lr_tables.proofs.RowTurns.{rows_all}
 use Rattle.lr_tables.proofs.rows.all_rows.Goals as goal
 

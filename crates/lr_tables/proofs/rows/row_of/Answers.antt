@@ -1,4 +1,4 @@
-use Rattle.std.proofs.Common.{◌≡◌, ◌+◌, ℕ, ◌∙◌, sym, ap, arith, length, List, Option}
+use Rattle.std.proofs.Common.{◌≡◌, ◌+◌, ℕ, ◌∙◌, ap, arith, length, List, Option}
 use Rattle.lr_tables.specs.declared.marks.Edge.{Edge}
 use Rattle.lr_tables.specs.Sets.{item_set}
 use Rattle.lr_tables.specs.Rows.{actions_of}

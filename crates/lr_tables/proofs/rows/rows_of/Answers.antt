@@ -1,4 +1,4 @@
-use Rattle.std.proofs.Common.{◌≡◌, ◌∙◌}
+use Rattle.std.proofs.Common.{◌∙◌}
 use Rattle.lr_tables.specs.Numbering.{kernels}
 use Rattle.lr_tables.specs.Rows.{row_of}
 use Rattle.lr_tables.proofs.RowTurns.{rows_turn, rows_done}

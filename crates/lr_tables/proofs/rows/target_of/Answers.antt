@@ -1,4 +1,4 @@
-use Rattle.std.proofs.Common.{◌≡◌, ◌∙◌, sym, ap, Some, None, refl}
+use Rattle.std.proofs.Common.{◌∙◌, sym, ap, Some, None, refl}
 use Rattle.lr_tables.proofs.Loops.{target_read, not_empty}
 use Rattle.lr_tables.proofs.rows.target_of.Goals as goal
 

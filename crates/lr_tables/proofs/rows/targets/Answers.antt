@@ -1,4 +1,4 @@
-use Rattle.std.proofs.Common.{◌≡◌, ◌∙◌, sym, ap}
+use Rattle.std.proofs.Common.{◌∙◌, ap}
 use Rattle.lr_tables.specs.Numbering.{kernels}
 use Rattle.lr_tables.specs.Rows.{target_of}
 use Rattle.lr_tables.proofs.RowTurns.{targets_none, targets_turn}

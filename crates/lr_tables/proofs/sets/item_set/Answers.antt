@@ -1,4 +1,4 @@
-use Rattle.std.proofs.Common.{rules, ◌≡◌, ◌∙◌, sym, ap, ◌++◌}
+use Rattle.std.proofs.Common.{rules}
 use Rattle.lr_tables.specs.Sets.{item_set}
 use Rattle.lr_tables.proofs.sets.item_set.Goals as goal
 

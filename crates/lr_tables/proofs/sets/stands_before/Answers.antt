@@ -1,4 +1,3 @@
-use Rattle.std.proofs.Common.{◌∙◌, sym, ap}
 use Rattle.lr_tables.proofs.Loops.{stands_some, stands_none}
 use Rattle.lr_tables.proofs.sets.stands_before.Goals as goal
 
