@@ -20,10 +20,10 @@ impl Instr {
     pub fn registers(&self) -> RegSet
         ensures { IsSetOf result.0 (operands_name self.now.operands) }
     {
-        self.operands
-            .as_slice()
-            .iter()
-            .fold(RegSet::empty(), |set, operand| set.union(operand.registers()))
+        self.operands.as_slice().iter().fold(
+            RegSet::empty(),
+            |set, operand| set.union(operand.registers()),
+        )
     }
 }
 
