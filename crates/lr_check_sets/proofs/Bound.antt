@@ -4,6 +4,7 @@ use Rattle.std.proofs.Common.{ap₂, sym, ◌∙◌, inl, inr, ⊎_elim, subst, 
 use Rattle.std.specs.List.{IsDistinct, list_any, AllByRecursion}
 use Rattle.std.proofs.lemmas.Map.Steps.{length-le_from_distinct_below}
 use lib.Dec.{eqb}
+use Rattle.std.proofs.lemmas.Option.{same_Some}
 use Rattle.tree_core.specs.declared.token.Tok.{Tok}
 use Rattle.tree_core.specs.declared.token.Tok.TheVariants as tok
 use Rattle.md_reader.specs.declared.types.Sym.{Sym}
@@ -34,9 +35,6 @@ pub ends_some : {A : Automaton} {a : List Sym} {v : List Tok} → Ends A a v →
 ends_some accepts = (tok.End, ([], refl))
 ends_some (goes {t = t} {w = w} at nb h) = (t, (w, refl))
 
-some_same : (n m : ℕ) → Some n ≡ Some m → n ≡ m
-some_same n m e = cc
-
 -- how many tokens the stack holds
 abbrev pub tokens : List Sym → ℕ
 tokens [] = 0
@@ -58,12 +56,12 @@ behind_class c (Some zero) n e = absurd (none e)
 behind_class c (Some (suc j)) n e = let same : 0 + j ≡ n = cc in ap Some (omega arith)
 
 classes_only : (s : List Sym) (n : ℕ) → tokens s ≡ 0 → wanted 1 s ≡ Some (suc (suc n)) → ⊥
-classes_only [] n z e = let same : 1 ≡ suc (suc n) = some_same 1 (suc (suc n)) e in omega arith
+classes_only [] n z e = let same : 1 ≡ suc (suc n) = same_Some 1 (suc (suc n)) e in omega arith
 classes_only (grammar_symbol.Tok k ∷ s) n z e = omega arith
 classes_only (grammar_symbol.Class c ∷ s) n z e = classes_only s (suc n) z (behind_class c (wanted 1 s) (suc (suc n)) e)
 
 one_class : (s : List Sym) → IsTree s → tokens s ≡ 0 → (c : ℕ) × (s ≡ grammar_symbol.Class c ∷ [])
-one_class [] h e = absurd (omega (arith, some_same 1 0 h))
+one_class [] h e = absurd (omega (arith, same_Some 1 0 h))
 one_class (grammar_symbol.Tok k ∷ s) h e = absurd (omega arith)
 one_class (grammar_symbol.Class c ∷ []) h e = (c, refl)
 one_class (grammar_symbol.Class c ∷ grammar_symbol.Tok k ∷ s) h e = absurd (omega arith)
@@ -112,7 +110,7 @@ module _ (A : Automaton) (k : ℕ) (final : (p : ℕ) → walk A 0 (grammar_symb
   no_circle (goes {a = a} {t = t'} {w = w'} {p = p'} at' nb h) t w e (circle y p r at f g path) =
       let s : t' ≡ t = cc in
       let u : w' ≡ w = cc in
-      let q : p ≡ p' = some_same p p' (sym at ∙ at') in
+      let q : p ≡ p' = same_Some p p' (sym at ∙ at') in
       let f' : Free (A.candidates p' t') (reduce r) = subst (λ z. Free (A.candidates z t') (reduce r)) q (subst (λ z. Free (A.candidates p z) (reduce r)) (sym s) f) in
       no_circle (h (reduce r) f') t w (ap₂ (λ x z. x ∷ z) s u) (subst (Circle A t) g (rotate path p r at f g))
 

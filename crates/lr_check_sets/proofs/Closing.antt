@@ -1,5 +1,5 @@
 -- Predicates that are closed under the rules hold of the least sets, and without faults these have none.
-use Rattle.std.proofs.Common.{◌≡◌, ℕ, zero, suc, ◌≤◌, ◌<◌, List, [], ◌∷◌, ◌++◌, Some, length, refl, sym, ap, ◌∙◌, subst, arith}
+use Rattle.std.proofs.Common.{◌≡◌, ℕ, ◌≤◌, List, [], ◌∷◌, ◌++◌, Some, length, refl, sym, ap, subst, arith}
 use Rattle.tree_core.specs.declared.token.Tok.{Tok}
 use Rattle.tree_core.specs.declared.token.Tok.TheVariants as tok
 use Rattle.tree_core.specs.declared.token.Sort.{Sort}
@@ -7,9 +7,9 @@ use Rattle.tree_core.specs.Grammar.{kids}
 use Rattle.md_reader.specs.declared.types.Sym.{Sym}
 use Rattle.md_reader.specs.declared.types.Sym.TheVariants as grammar_symbol
 use Rattle.lr_check_sets.specs.Trees.{May, Begins}
-use Rattle.lr_check_sets.specs.Automaton.{Automaton, Production, reduce, walk, size_of, Free, reduced}
+use Rattle.lr_check_sets.specs.Automaton.{Automaton, walk}
 use Rattle.lr_check_sets.specs.Sums.{Place, Partly, Settling, Sum, at_start, at_kid, opened, with_kid, whole, settled, sum}
-use Rattle.lr_check_sets.specs.Faults.{Calms, calms, NoFault}
+use Rattle.lr_check_sets.specs.Faults.{NoFault}
 use Rattle.lr_check_sets.specs.Closed.{IsClosed, IsFine, marked, marked_at, ClosedIsEnough}
 
 -- tokens have at most two kids
@@ -60,9 +60,6 @@ cons_nil x xs e = cc
 
 tail_nil : (x y : Sort) (xs : List Sort) → x ∷ xs ≡ y ∷ [] → xs ≡ []
 tail_nil x y xs e = cc
-
-Some-same : (x y : ℕ) → Some x ≡ Some y → x ≡ y
-Some-same x y e = cc
 
 module _ (A : Automaton) (P : ℕ → Tok → Tok → Type 0) (T S : ℕ → Tok → Tok → List Sym → Type 0) (closed : IsClosed A P T S) where
   -- how far a subtree of a place is read: its token alone, the only kid, the first of two, or both

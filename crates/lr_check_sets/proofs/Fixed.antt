@@ -2,12 +2,13 @@
 use Rattle.std.proofs.Common.{◌≡◌, ℕ, zero, suc, ◌+◌, ◌-◌, ◌≤◌, ◌<◌, List, [], ◌∷◌, ◌++◌, Option, Some, None, Bool, true, false, length, take, drop, refl, ap, sym, ◌∙◌, inl, inr}
 use Rattle.std.proofs.Common.{⊎_elim, subst, arith, append_assoc, length-append, take_at, one-add}
 use Rattle.std.proofs.lemmas.Bool.{cases_lt}
+use Rattle.std.proofs.lemmas.Option.{none-some, same_Some}
 use Rattle.md_reader.specs.declared.types.Sym.{Sym}
 use Rattle.lr_check_sets.specs.Automaton.{Automaton, Production, Candidate, shift, reduce, walk, size_of, Free}
 use Rattle.lr_check_sets.specs.Answers.{Entry, symbols, pick}
 use Rattle.lr_check_sets.proofs.Asks.{push, pick_free, pick_yes, pick_no}
 use Rattle.lr_check_sets.specs.Shapes.{wanted, IsTree}
-use Rattle.lr_check_sets.proofs.Shapes.{wanted-append, wanted-none, wanted-more, wanted-zero, none_some, some_same, tree_some, cut}
+use Rattle.lr_check_sets.proofs.Shapes.{wanted-append, wanted-none, wanted-more, wanted-zero, tree_some, cut}
 use Rattle.lr_check_sets.proofs.Reached.{hold, length-hold}
 
 -- a no more for the symbol at a depth
@@ -97,12 +98,12 @@ pub one_more : (s u : List Sym) → IsTree s → wanted 1 (s ++ u) ≡ Some 0 �
 one_more s u tree h = go (wanted 1 u) refl
   where
     go : (w : Option ℕ) → wanted 1 u ≡ w → wanted 1 u ≡ Some 1
-    go None f = absurd (none_some 0 (sym (wanted-none 1 s u f) ∙ h))
-    go (Some zero) f = absurd (none_some 0 (sym (wanted-zero s (tree_some s tree)) ∙ (sym (wanted-append 1 0 s u f) ∙ h)))
+    go None f = absurd (none-some 0 (sym (wanted-none 1 s u f) ∙ h))
+    go (Some zero) f = absurd (none-some 0 (sym (wanted-zero s (tree_some s tree)) ∙ (sym (wanted-append 1 0 s u f) ∙ h)))
     go (Some (suc j)) f =
         let more : wanted (1 + j) s ≡ Some (0 + j) = wanted-more 1 0 j s tree in
         let all : wanted (suc j) s ≡ Some 0 = sym (wanted-append 1 (suc j) s u f) ∙ h in
-        let none : 0 + j ≡ 0 = some_same (0 + j) 0 (sym more ∙ (ap (λ n. wanted n s) (one-add j) ∙ all)) in
+        let none : 0 + j ≡ 0 = same_Some (0 + j) 0 (sym more ∙ (ap (λ n. wanted n s) (one-add j) ∙ all)) in
         f ∙ ap Some (omega arith)
 
 -- below an unfinished list that wants one, one is wanted
@@ -110,12 +111,12 @@ pub one_still : (s u : List Sym) (l : ℕ) → wanted 1 s ≡ Some (suc l) → 0
 one_still s u l still some h = go (wanted 1 u) refl
   where
     go : (w : Option ℕ) → wanted 1 u ≡ w → wanted 1 u ≡ Some 1
-    go None f = absurd (none_some 1 (sym (wanted-none 1 s u f) ∙ h))
-    go (Some zero) f = absurd (none_some 1 (sym (wanted-zero s some) ∙ (sym (wanted-append 1 0 s u f) ∙ h)))
+    go None f = absurd (none-some 1 (sym (wanted-none 1 s u f) ∙ h))
+    go (Some zero) f = absurd (none-some 1 (sym (wanted-zero s some) ∙ (sym (wanted-append 1 0 s u f) ∙ h)))
     go (Some (suc j)) f =
         let more : wanted (1 + j) s ≡ Some (suc l + j) = wanted-more 1 (suc l) j s still in
         let all : wanted (suc j) s ≡ Some 1 = sym (wanted-append 1 (suc j) s u f) ∙ h in
-        let one : suc l + j ≡ 1 = some_same (suc l + j) 1 (sym more ∙ (ap (λ n. wanted n s) (one-add j) ∙ all)) in
+        let one : suc l + j ≡ 1 = same_Some (suc l + j) 1 (sym more ∙ (ap (λ n. wanted n s) (one-add j) ∙ all)) in
         f ∙ ap Some (omega arith)
 
 -- what a parse inside a list asks of the list's root and of what stands below

@@ -3,6 +3,7 @@ use Rattle.std.proofs.Common.{◌≡◌, ℕ, zero, suc, ◌+◌, ◌≤◌, ◌
 use Rattle.std.proofs.Common.{subst, arith, append_assoc, append-nil, length-append, take-append-drop, take_at, suc-add, one-add}
 use Rattle.std.proofs.lemmas.List.{reverse-reverse, length-reverse, take-append-le}
 use Rattle.std.proofs.lemmas.Bool.{cases_lt}
+use Rattle.std.proofs.lemmas.Option.{none-some, same_Some}
 use Rattle.tree_core.specs.declared.token.Tok.{Tok}
 use Rattle.tree_core.specs.declared.token.Sort.{Sort}
 use Rattle.md_reader.specs.declared.types.Sym.{Sym}
@@ -49,14 +50,8 @@ wanted-zero [] h = absurd (omega arith)
 wanted-zero (X ∷ []) h = refl
 wanted-zero (X ∷ Y ∷ s) h = ap (wanted_behind X) (wanted-zero (Y ∷ s) (omega arith))
 
-pub none_some : (n : ℕ) → None ≡ Some n → ⊥
-none_some n e = cc
-
-pub some_same : (n m : ℕ) → Some n ≡ Some m → n ≡ m
-some_same n m e = cc
-
 pub tree_some : (s : List Sym) → IsTree s → 0 < length s
-tree_some [] e = absurd (omega (arith, some_same 1 0 e))
+tree_some [] e = absurd (omega (arith, same_Some 1 0 e))
 tree_some (X ∷ s) e = omega arith
 
 -- a top of a tree wants nothing more
@@ -67,12 +62,12 @@ tree_tops s b d m tree e some h = by_lower (wanted 1 d) refl
     whole_list = ap (wanted 1) (sym e) ∙ tree
 
     by_lower : (o : Option ℕ) → wanted 1 d ≡ o → ⊥
-    by_lower None f = none_some 0 (sym (wanted-none 1 b d f) ∙ whole_list)
-    by_lower (Some zero) f = none_some 0 (sym (wanted-zero b some) ∙ (sym (wanted-append 1 0 b d f) ∙ whole_list))
+    by_lower None f = none-some 0 (sym (wanted-none 1 b d f) ∙ whole_list)
+    by_lower (Some zero) f = none-some 0 (sym (wanted-zero b some) ∙ (sym (wanted-append 1 0 b d f) ∙ whole_list))
     by_lower (Some (suc j)) f =
         let more : wanted (1 + j) b ≡ Some (suc m + j) = wanted-more 1 (suc m) j b h in
         let same : wanted (suc j) b ≡ Some 0 = sym (wanted-append 1 (suc j) b d f) ∙ whole_list in
-        let both : suc m + j ≡ 0 = some_same (suc m + j) 0 (sym more ∙ (ap (λ n. wanted n b) (one-add j) ∙ same)) in
+        let both : suc m + j ≡ 0 = same_Some (suc m + j) 0 (sym more ∙ (ap (λ n. wanted n b) (one-add j) ∙ same)) in
         omega arith
 
 -- two ways to cut one list
@@ -110,8 +105,8 @@ kid_shape s' s n tree part = record {
         same_tail (X ∷ p) u v e = same_tail p u v (cc)
 
         by_lower : (b1 d : List Sym) → s ≡ b1 ++ d → 0 < length b1 → 0 < length d → (o : Option ℕ) → wanted 1 b1 ≡ o → wanted 1 (s' ++ b1) ≡ Some (suc m) → ⊥
-        by_lower b1 d e some rest None f h = none_some (suc m) (sym (wanted-none 1 s' b1 f) ∙ h)
-        by_lower b1 d e some rest (Some zero) f h = none_some (suc m) (sym (wanted-zero s' (tree_some s' tree)) ∙ (sym (wanted-append 1 0 s' b1 f) ∙ h))
+        by_lower b1 d e some rest None f h = none-some (suc m) (sym (wanted-none 1 s' b1 f) ∙ h)
+        by_lower b1 d e some rest (Some zero) f h = none-some (suc m) (sym (wanted-zero s' (tree_some s' tree)) ∙ (sym (wanted-append 1 0 s' b1 f) ∙ h))
         by_lower b1 d e some rest (Some (suc j)) f h = part.tops b1 d j e some rest f
 
 module _ (G : List Production) (A : Automaton) (no_end : HasNoEnd G) (no_empty : HasNoEmpty G) (trees : HasTrees G) (exact : IsAutomatonOf G A) where
@@ -144,12 +139,12 @@ module _ (G : List Production) (A : Automaton) (no_end : HasNoEnd G) (no_empty :
       subst (λ n. IsTree (grammar_symbol.Class r.left ∷ drop n s)) o.size (one_left rest (wanted 1 rest) refl (ap (wanted 1) (sym split) ∙ tree))
     where
       one_left : (rest : List Sym) (w : Option ℕ) → wanted 1 rest ≡ w → wanted 1 (o.top ++ rest) ≡ Some 0 → IsTree (grammar_symbol.Class r.left ∷ rest)
-      one_left rest None f h = absurd (none_some 0 (sym (wanted-none 1 o.top rest f) ∙ h))
-      one_left rest (Some zero) f h = absurd (none_some 0 (sym (wanted-zero o.top (tree_some o.top o.tree)) ∙ (sym (wanted-append 1 0 o.top rest f) ∙ h)))
+      one_left rest None f h = absurd (none-some 0 (sym (wanted-none 1 o.top rest f) ∙ h))
+      one_left rest (Some zero) f h = absurd (none-some 0 (sym (wanted-zero o.top (tree_some o.top o.tree)) ∙ (sym (wanted-append 1 0 o.top rest f) ∙ h)))
       one_left rest (Some (suc j)) f h =
           let more : wanted (1 + j) o.top ≡ Some (0 + j) = wanted-more 1 0 j o.top o.tree in
           let all : wanted (suc j) o.top ≡ Some 0 = sym (wanted-append 1 (suc j) o.top rest f) ∙ h in
-          let none : 0 + j ≡ 0 = some_same (0 + j) 0 (sym more ∙ (ap (λ n. wanted n o.top) (one-add j) ∙ all)) in
+          let none : 0 + j ≡ 0 = same_Some (0 + j) 0 (sym more ∙ (ap (λ n. wanted n o.top) (one-add j) ∙ all)) in
           ap (wanted_behind (grammar_symbol.Class r.left)) f ∙ ap Some (omega arith)
 
   table : IsTable A
@@ -183,9 +178,9 @@ module _ (G : List Production) (A : Automaton) (no_end : HasNoEnd G) (no_empty :
   token_top k n r a e o some = by_top o.top o.below o.there o.tree (omega (arith, o.size))
     where
       by_wanted : (b : List Sym) (w : Option ℕ) → wanted 1 b ≡ w → wanted_behind (grammar_symbol.Tok k) w ≡ Some 0 → ⊥
-      by_wanted b None f h = none_some 0 h
-      by_wanted b (Some zero) f h = none_some 0 h
-      by_wanted b (Some (suc j)) f h = omega (arith, e, some_same (length (kids k) + j) 0 h)
+      by_wanted b None f h = none-some 0 h
+      by_wanted b (Some zero) f h = none-some 0 h
+      by_wanted b (Some (suc j)) f h = omega (arith, e, same_Some (length (kids k) + j) 0 h)
 
       by_top : (b below : List Sym) → grammar_symbol.Tok k ∷ a ≡ b ++ below → IsTree b → 0 < length b → ⊥
       by_top [] below h tree lt = omega arith
@@ -201,15 +196,15 @@ module _ (G : List Production) (A : Automaton) (no_end : HasNoEnd G) (no_empty :
       all = kid_shape s' s (suc n) tree part
 
       whole_top : wanted 1 (s' ++ s) ≡ Some 0 → ⊥
-      whole_top h = omega (arith, some_same (suc n) 0 (sym all.still ∙ h))
+      whole_top h = omega (arith, same_Some (suc n) 0 (sym all.still ∙ h))
 
       inside : (b1 d : List Sym) → s ≡ b1 ++ d → 0 < length b1 → wanted 1 (s' ++ b1) ≡ Some 0 → ⊥
       inside b1 [] e some h = whole_top (ap (λ l. wanted 1 (s' ++ l)) (e ∙ append-nil b1) ∙ h)
       inside b1 (X ∷ d) e some h = by_lower (wanted 1 b1) refl
         where
           by_lower : (w : Option ℕ) → wanted 1 b1 ≡ w → ⊥
-          by_lower None f = none_some 0 (sym (wanted-none 1 s' b1 f) ∙ h)
-          by_lower (Some zero) f = none_some 0 (sym (wanted-zero s' (tree_some s' tree)) ∙ (sym (wanted-append 1 0 s' b1 f) ∙ h))
+          by_lower None f = none-some 0 (sym (wanted-none 1 s' b1 f) ∙ h)
+          by_lower (Some zero) f = none-some 0 (sym (wanted-zero s' (tree_some s' tree)) ∙ (sym (wanted-append 1 0 s' b1 f) ∙ h))
           by_lower (Some (suc j)) f = part.tops b1 (X ∷ d) j e some (omega arith) f
 
       same_tail : (p u v : List Sym) → p ++ u ≡ p ++ v → u ≡ v
@@ -232,12 +227,12 @@ module _ (G : List Production) (A : Automaton) (no_end : HasNoEnd G) (no_empty :
           by_lower b2 (wanted 1 b2) refl (ap (wanted 1) (sym split) ∙ o.tree)
         where
           by_lower : (b2 : List Sym) (w : Option ℕ) → wanted 1 b2 ≡ w → wanted 1 ((s' ++ s) ++ b2) ≡ Some 0 → ⊥
-          by_lower b2 None f h = none_some 0 (sym (wanted-none 1 (s' ++ s) b2 f) ∙ h)
-          by_lower b2 (Some zero) f h = none_some 0 (sym (wanted-zero (s' ++ s) (omega (arith, length-append s' s, tree_some s' tree))) ∙ (sym (wanted-append 1 0 (s' ++ s) b2 f) ∙ h))
+          by_lower b2 None f h = none-some 0 (sym (wanted-none 1 (s' ++ s) b2 f) ∙ h)
+          by_lower b2 (Some zero) f h = none-some 0 (sym (wanted-zero (s' ++ s) (omega (arith, length-append s' s, tree_some s' tree))) ∙ (sym (wanted-append 1 0 (s' ++ s) b2 f) ∙ h))
           by_lower b2 (Some (suc j)) f h =
               let more : wanted (1 + j) (s' ++ s) ≡ Some (suc n + j) = wanted-more 1 (suc n) j (s' ++ s) all.still in
               let it : wanted (suc j) (s' ++ s) ≡ Some 0 = sym (wanted-append 1 (suc j) (s' ++ s) b2 f) ∙ h in
-              omega (arith, some_same (suc n + j) 0 (sym more ∙ (ap (λ z. wanted z (s' ++ s)) (one-add j) ∙ it)))
+              omega (arith, same_Some (suc n + j) 0 (sym more ∙ (ap (λ z. wanted z (s' ++ s)) (one-add j) ∙ it)))
 
   -- a right side that ends inside the last kid's parent is the whole of it
   pub last_top : (s' s a : List Sym) (r : Production) → IsTree s' → PartShape s 1 → OnTop r ((s' ++ s) ++ a) → length s' < size_of r → size_of r < length (s' ++ s) → ⊥
@@ -257,8 +252,8 @@ module _ (G : List Production) (A : Automaton) (no_end : HasNoEnd G) (no_empty :
       inside b1 d e some rest h = by_lower (wanted 1 b1) refl
         where
           by_lower : (w : Option ℕ) → wanted 1 b1 ≡ w → ⊥
-          by_lower None f = none_some 0 (sym (wanted-none 1 s' b1 f) ∙ h)
-          by_lower (Some zero) f = none_some 0 (sym (wanted-zero s' (tree_some s' tree)) ∙ (sym (wanted-append 1 0 s' b1 f) ∙ h))
+          by_lower None f = none-some 0 (sym (wanted-none 1 s' b1 f) ∙ h)
+          by_lower (Some zero) f = none-some 0 (sym (wanted-zero s' (tree_some s' tree)) ∙ (sym (wanted-append 1 0 s' b1 f) ∙ h))
           by_lower (Some (suc j)) f = part.tops b1 d j e some rest f
 
   -- a place without a shift has no candidate
@@ -293,7 +288,7 @@ module _ (G : List Production) (A : Automaton) (no_end : HasNoEnd G) (no_empty :
   by_sum : {p0 : ℕ} {n0 m : Tok} {s' : List Sym} → LooseSum A p0 n0 m s' → (s a : List Sym) (n p : ℕ) → PartShape s (suc (suc n)) → walk A p0 s' ≡ Some p → walk A 0 ((s' ++ s) ++ a) ≡ Some p →
       ((p' : ℕ) → A.go p (grammar_symbol.Tok m) ≡ Some p' → ⊥) → ⊥
   by_sum (loose_sum {t = m} {s = s'} {p = p1} c set ws f o) s a n p part ws' at u =
-      let same : p1 ≡ p = some_same p1 p (sym ws ∙ ws') in
+      let same : p1 ≡ p = same_Some p1 p (sym ws ∙ ws') in
       by_choice s' s a n p m c (settling_tree set) part at (subst (λ z. Free (A.candidates z m) c) same f) o u
 
   kid_blocks : {q : ℕ} {k t : Tok} {s : List Sym} {ys : List Sort} {n : Tok} → LoosePartly A q k t s ys n → (x : Sort) (xs : List Sort) → ys ≡ x ∷ xs → (a : List Sym) → walk A 0 a ≡ Some q →
