@@ -6,6 +6,7 @@ use Rattle.std.proofs.lemmas.List.{length-replicate, length-take-le}
 use Rattle.std.proofs.lemmas.List.Sums.{sum_by-set, sum_by-cons}
 use Rattle.std.proofs.lemmas.Bool.{ltb-true, ltb-false, eqb-false, or_parts}
 use Rattle.std.proofs.lemmas.Option.{slice_get_within, none-some}
+use Rattle.gg_base.proofs.Facts.{some_none}
 use Rattle.md_reader.specs.declared.types.Rule.{Rule}
 use Rattle.md_reader.specs.declared.types.Sym.TheVariants as grammar_symbol
 use Rattle.lr_tables.specs.declared.types.Choice.{Choice}
@@ -28,9 +29,6 @@ weight total c = (total - c.at) * (2 * (length c.seen + 1)) + (length c.stack * 
 pub record Falls (total : ℕ) (c : Config) (a : After) : Type 0 where
   pub less : a.ending ≡ None → weight total a.config < weight total c
   pub seen : a.ending ≡ None → length a.config.seen ≡ length c.seen
-
-some_none : (o : Outcome) → Some o ≡ None → ⊥
-some_none o e = cc
 
 blocks_falls : (total : ℕ) (c : Config) (stack : List Entry) → Falls total c (blocks c stack)
 blocks_falls total c stack = record { less = λ e. absurd (some_none _ e); seen = λ e. absurd (some_none _ e) }

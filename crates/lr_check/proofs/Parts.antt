@@ -1,9 +1,10 @@
 -- The entries of the code's stack, whose top stands last, and the parts that they stand for.
-use Rattle.std.proofs.Common.{◌≡◌, ℕ, zero, suc, ◌+◌, ◌-◌, ◌≤◌, ◌<◌, List, [], ◌∷◌, ◌++◌, Some, Bool, true, false, cond, length, get_or, set, take, drop, slice_get, refl, sym, ap}
+use Rattle.std.proofs.Common.{◌≡◌, ℕ, zero, suc, ◌+◌, ◌-◌, ◌≤◌, ◌<◌, List, [], ◌∷◌, ◌++◌, Bool, true, false, cond, length, get_or, set, take, drop, slice_get, refl, sym, ap}
 use Rattle.std.proofs.Common.{◌∙◌, subst, arith, add-zero}
 use Rattle.std.specs.Prelude.{nat_lt}
 use Rattle.std.proofs.lemmas.List.{get_or-drop, drop-drop, drop_all, take_all, take-append-le, set-append_left, set_at, get_or_append_left, get_or_at, length_push}
 use Rattle.std.proofs.lemmas.Bool.{ltb-false}
+use Rattle.gg_base.proofs.Facts.{slice_last}
 use Rattle.md_reader.specs.declared.types.Sym.{Sym}
 use Rattle.lr_tables.specs.View.{TableView}
 use Rattle.lr_tables.specs.Leads.{Leads, nowhere}
@@ -55,14 +56,10 @@ length_last es l e f = ap (λ (x : List Entry). length x) f ∙ length_push es e
 get_last : (es : List Entry) (e d : Entry) → get_or (es ++ e ∷ []) (length es) d ≡ e
 get_last es e d = get_or_at es e [] d (length es) refl
 
-slice_get_last : (es : List Entry) (e : Entry) → slice_get (es ++ e ∷ []) (length es) ≡ Some e
-slice_get_last [] e = refl
-slice_get_last (x ∷ es) e = slice_get_last es e
-
 pub top_last : (es : List Entry) (e : Entry) → top_of (es ++ e ∷ []) ≡ e.state
 top_last es e =
     let n : length (es ++ e ∷ []) - 1 ≡ length es = (let m = length_push es e in omega (arith, m)) in
-    ap state_of (ap (slice_get (es ++ e ∷ [])) n ∙ slice_get_last es e)
+    ap state_of (ap (slice_get (es ++ e ∷ [])) n ∙ slice_last es e)
 
 pub symbols_used : (k : ℕ) (s : List Part) → symbols (used_at k s) ≡ symbols s
 symbols_used k [] = refl

@@ -5,6 +5,7 @@ use Rattle.std.proofs.Common.{inl, inr, ⊎_elim, arith}
 use Rattle.std.proofs.lemmas.List.{get_or-replicate, get_or_past, get_or-set_same, get_or-set_other, length-replicate}
 use Rattle.std.proofs.lemmas.List.Elements.{Contains-append_cases, Contains-append_right}
 use Rattle.std.proofs.lemmas.Bool.{cases_lt, cases_eq, both_ways}
+use Rattle.gg_base.proofs.Facts.{nil_cons}
 use Rattle.md_reader.specs.declared.types.Sym.{Sym}
 use Rattle.md_reader.specs.declared.types.Sym.TheVariants as grammar_symbol
 use Rattle.tree_core.specs.declared.token.Tok.{Tok}
@@ -39,9 +40,6 @@ none_marked n c e =
     (λ le. both_ways (get_or (replicate n false) c false) (get_or_past (replicate n false) c false (let l : length (replicate n false) ≡ n = length-replicate n false in omega (arith, l, le))) e)
     (cases_lt c n)
 
-unlike_nil : (X : Sym) (a : List Sym) → [] ≡ X ∷ a → ⊥
-unlike_nil X a e = cc
-
 unlike_tops : (t : Tok) (c : ℕ) (a b : List Sym) → grammar_symbol.Tok t ∷ a ≡ grammar_symbol.Class c ∷ b → ⊥
 unlike_tops t c a b e = cc
 
@@ -54,7 +52,7 @@ length_same a b e = ap (λ (x : List Sym). length x) e
 pub seen_start : (n : ℕ) → Seen (replicate n false) [] ([] ∷ [])
 seen_start n = record {
   there = λ c e. absurd (none_marked n c e);
-  back = λ c h. absurd (unlike_nil (grammar_symbol.Class c) [] (one_cases [] (grammar_symbol.Class c ∷ []) h));
+  back = λ c h. absurd (nil_cons (grammar_symbol.Class c) [] (one_cases [] (grammar_symbol.Class c ∷ []) h));
   lower = λ b h. omega arith;
 }
 
