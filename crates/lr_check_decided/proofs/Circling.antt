@@ -2,7 +2,6 @@
 use Rattle.std.proofs.Common.{◌≡◌, ℕ, ◌<◌, List, [], ◌∷◌, Some, None, Contains, Bool, true, false, length, refl, sym, ap, ◌∙◌, subst}
 use Rattle.std.specs.Prelude.{slice_index_or}
 use Rattle.std.proofs.lemmas.Option.{get_or_from_slice_get, same_Some, none-some}
-use Rattle.lr_check_flaws.proofs.Law.{lists_same}
 use Rattle.md_reader.specs.State.{Content}
 use Rattle.md_reader.specs.declared.types.Rule.{Rule}
 use Rattle.md_reader.specs.declared.types.Sym.{Sym}
@@ -37,7 +36,7 @@ pub calm_end : (A : Automaton) (f : FoundView) (i : ℕ) (e : Settling) (x : Pla
 calm_end A f i e x s found at place list none =
     let h : IsSoundSettling A f i e = found.settlings i e at in
     let same : h.place ≡ x = same_Some h.place x (sym h.there ∙ place) in
-    let list' : h.list ≡ s = lists_same h.list s (sym h.symbols ∙ list) in
+    let list' : h.list ≡ s = same_Some h.list s (sym h.symbols ∙ list) in
     let nowhere : walk A x.state s ≡ None = ap (walk A x.state) (sym list') ∙ (ap (λ (z : Place). walk A z.state h.list) (sym same) ∙ (sym h.behind ∙ none)) in
     calms (λ r p ws fr size. absurd (none-some p (sym nowhere ∙ ws)))
 
@@ -58,7 +57,7 @@ module _ (t : TableView) (f : FoundView) (i : ℕ) (e : Settling) (x : Place) (p
   same_size s is = ap length (sym (get_or_from_slice_get f.lists.all e.list s [] is)) ∙ sym (long ∙ ap length lists)
 
   walks : (s : List Sym) → IsList f.lists e.list s → walk (automaton_of t) x.state s ≡ Some p
-  walks s is = ap (walk (automaton_of t) x.state) (lists_same s sound.list (sym is ∙ sound.symbols))
+  walks s is = ap (walk (automaton_of t) x.state) (same_Some s sound.list (sym is ∙ sound.symbols))
       ∙ (ap (λ (z : Place). walk (automaton_of t) z.state sound.list) (sym same_place) ∙ (sym sound.behind ∙ behind))
 
   pub calm_list : AreCalm (automaton_of t) x.state x.behind marks → AllMarked rules size marks free → (s : List Sym) → IsList f.lists e.list s

@@ -1,7 +1,6 @@
 -- Where all of the sets is found and no fault shows, there is none.
 use Rattle.std.proofs.Common.{◌≡◌, ℕ, ◌≤◌, List, Some, sym, ap, ◌∙◌, subst, arith}
 use Rattle.std.proofs.lemmas.Option.{same_Some}
-use Rattle.lr_check_flaws.proofs.Law.{lists_same}
 use Rattle.lr_check_found.specs.Count.{HasMore}
 use Rattle.tree_core.specs.declared.token.Tok.{Tok}
 use Rattle.md_reader.specs.declared.types.Sym.{Sym}
@@ -24,7 +23,7 @@ module _ (A : Automaton) (f : FoundView) (c : IsComplete A f) where
   behind_is q p k b s h ws =
       let e : IsSoundSettling A f h.settles.number h.settles.entry = c.found.settlings h.settles.number h.settles.entry h.settles.there in
       let place : e.place ≡ place_of q k b = same_Some e.place (place_of q k b) (sym e.there ∙ place_is q k b s h) in
-      let list : e.list ≡ s = lists_same e.list s (sym e.symbols ∙ h.settles.list) in
+      let list : e.list ≡ s = same_Some e.list s (sym e.symbols ∙ h.settles.list) in
       e.behind ∙ (ap (λ (x : Place). walk A x.state e.list) place ∙ (ap (walk A q) list ∙ ws))
 
   pub fine : ((n : ℕ) (x : Place) → IsPlaceAt f n x → (p : ℕ) × (A.go x.state (grammar_symbol.Tok x.token) ≡ Some p)) →

@@ -14,9 +14,6 @@ use Rattle.lr_check_flaws.specs.declared.flaws.Flaw.{Flaw}
 use Rattle.lr_check_flaws.specs.declared.flaws.Flaw.TheVariants.{Gap, Dead, Circle}
 use Rattle.lr_check_flaws.specs.Flaws.{StepsTo, Along, along_one, along_on, IsFlaw}
 
-pub lists_same : (a b : List Sym) → Some a ≡ Some b → a ≡ b
-lists_same a b e = cc
-
 module _ (A : Automaton) (f : FoundView) (i p : ℕ) (x : Place) (s : List Sym) (found : IsFound A f) (at : SettlesAt f i x s p) where
   sound : IsSoundSettling A f i at.entry
   sound = found.settlings i at.entry at.there
@@ -25,7 +22,7 @@ module _ (A : Automaton) (f : FoundView) (i p : ℕ) (x : Place) (s : List Sym) 
   same_place = same_Some sound.place x (sym sound.there ∙ at.place)
 
   same_list : sound.list ≡ s
-  same_list = lists_same sound.list s (sym sound.symbols ∙ at.list)
+  same_list = same_Some sound.list s (sym sound.symbols ∙ at.list)
 
   -- the settling is one of the sets
   pub settles : sets.Settling A x.state x.token x.behind s
