@@ -3,7 +3,7 @@ use Rattle.std.proofs.Common.{◌≡◌, ℕ, zero, suc, ◌+◌, ◌<◌, List,
 use Rattle.std.specs.Prelude.{slice_index_or}
 use Rattle.std.proofs.lemmas.Option.{slice_get_within, slice_get-get_or, get_or_from_slice_get, same_Some}
 use Rattle.lr_check_sets.proofs.Rows.{at_contains}
-use Rattle.gg_base.proofs.Facts.{slice_left, slice_cases}
+use Rattle.gg_base.proofs.Facts.{slice_left, slice_cases, head_same, tail_same}
 use Rattle.md_reader.specs.declared.types.Sym.{Sym}
 use Rattle.lr_tables.specs.Symbols.{symbol_number}
 use Rattle.lr_tables.proofs.Symbols_apart.{symbol_number_same}
@@ -73,12 +73,6 @@ module _ (v w : ListsView) (X : Sym) (rest : ℕ) (s : List Sym) (lists : AreLis
 -- two numbers of one list are the same
 cons_nil : (X : Sym) (s : List Sym) → X ∷ s ≡ [] → ⊥
 cons_nil X s e = cc
-
-head_same : (X Y : Sym) (s u : List Sym) → X ∷ s ≡ Y ∷ u → X ≡ Y
-head_same X Y s u e = cc
-
-tail_same : (X Y : Sym) (s u : List Sym) → X ∷ s ≡ Y ∷ u → s ≡ u
-tail_same X Y s u e = cc
 
 -- a number is the empty list's or a cell's
 data Which (v : ListsView) (n : ℕ) (s : List Sym) : Type 0 where
