@@ -1,6 +1,7 @@
 -- The tokens of a typed tree's leaves.
 use Rattle.std.proofs.Common.{◌≡◌, List, [], ◌∷◌, ◌++◌, map, Bool, true, false, refl, sym, ap, ◌∙◌, subst}
 use Rattle.std.specs.Prelude.{◌&&◌, IsTrue}
+use Rattle.gg_base.proofs.Facts.{head_same, tail_same}
 use Rattle.tree_core.specs.declared.token.Tok.{Tok}
 use Rattle.tree_core.specs.declared.token.Sort.{Sort}
 use Rattle.tree_core.specs.declared.token.Sort.TheVariants as sort
@@ -34,12 +35,6 @@ onto_append (tree l below behind) u v =
 no_end : (w : List Leaf) (z : Leaf) → [] ≡ w ++ z ∷ [] → ⊥
 no_end [] z e = cc
 no_end (x ∷ w) z e = cc
-
-tail_same : (x y : Leaf) (u w : List Leaf) → x ∷ u ≡ y ∷ w → u ≡ w
-tail_same x y u w e = cc
-
-head_same : (x y : Leaf) (u w : List Leaf) → x ∷ u ≡ y ∷ w → x ≡ y
-head_same x y u w e = cc
 
 pub snoc_same : (u w : List Leaf) (z : Leaf) → u ++ z ∷ [] ≡ w ++ z ∷ [] → u ≡ w
 snoc_same [] [] z e = refl
