@@ -1,5 +1,6 @@
 -- A tree with fixed answers that leads from each stack to a list on top of it, and how such trees are made.
-use Rattle.std.proofs.Common.{◌≡◌, ℕ, suc, ◌<◌, List, [], ◌∷◌, ◌++◌, Some, None, Bool, length, refl, ap, ap₂, sym, ◌∙◌, subst, arith, append_assoc, append-nil, drop_at}
+use Rattle.std.proofs.Common.{◌≡◌, ℕ, suc, ◌<◌, List, [], ◌∷◌, ◌++◌, Some, Bool, length, refl, ap, ap₂, sym, ◌∙◌, subst, arith, append_assoc, append-nil, drop_at}
+use Rattle.std.proofs.lemmas.Option.{none-some}
 use Rattle.tree_core.specs.declared.token.Tok.{Tok}
 use Rattle.md_reader.specs.declared.types.Sym.{Sym}
 use Rattle.md_reader.specs.declared.types.Sym.TheVariants as grammar_symbol
@@ -25,12 +26,9 @@ pub record Leads (A : Automaton) (q : ℕ) (k n : Tok) (s : List Sym) (ws : List
 abbrev pub leaf_with : Tok → List Bool → Leaf
 leaf_with k own = record { tok = k; answers = own }
 
-no_token : (t : Tok) → None ≡ Some t → ⊥
-no_token t e = cc
-
 one_step : (A : Automaton) (p : ℕ) (t : Tok) (r : Production) (u y : List Entry) (w : List Leaf) → next_token w ≡ Some t → walk A 0 (symbols u) ≡ Some p →
     pick (A.candidates p t) u ≡ record { taken = Some (reduce r); stack = y } → Step A u w (held_reduced r y) w
-one_step A p t r u y [] g at pk = absurd (no_token t g)
+one_step A p t r u y [] g at pk = absurd (none-some t g)
 one_step A p t r u y (d ∷ w) g at pk =
     let same : d.tok ≡ t = cc in
     reduces at (subst (λ m. pick (A.candidates p m) u ≡ record { taken = Some (reduce r); stack = y }) (sym same) pk)
