@@ -1,6 +1,7 @@
 -- Tokens of a typed statement, with answers, are those of a tree.
 use Rattle.std.proofs.Common.{◌≡◌, List, [], ◌∷◌, ◌++◌, Option, Some, None, map, true, refl, sym, ap, ◌∙◌}
 use Rattle.std.specs.Prelude.{IsTrue}
+use Rattle.gg_base.proofs.Facts.{nil_cons, head_same, tail_same}
 use Rattle.tree_core.specs.declared.token.Tok.{Tok}
 use Rattle.tree_core.specs.declared.token.Sort.{Sort}
 use Rattle.tree_core.specs.declared.token.Sort.TheVariants as sort
@@ -39,17 +40,8 @@ record Grown (xs : List Sort) (w : List Token) : Type 0 where
   trees : Trees xs
   same : as_tokens (leaves_all trees []) ≡ w
 
-nil_cons : (t : Tok) (u : List Tok) → [] ≡ t ∷ u → ⊥
-nil_cons t u e = cc
-
 cons_nil : (t : Tok) (u : List Tok) → t ∷ u ≡ [] → ⊥
 cons_nil t u e = cc
-
-head_same : (t k : Tok) (u v : List Tok) → t ∷ u ≡ k ∷ v → t ≡ k
-head_same t k u v e = cc
-
-tail_same : (t k : Tok) (u v : List Tok) → t ∷ u ≡ k ∷ v → u ≡ v
-tail_same t k u v e = cc
 
 grown_more : (x : Sort) (xs : List Sort) (t : Tok) (f : Token) (w : List Token) → f.tok ≡ t → May t x → Grown (kids t ++ xs) w → Grown (x ∷ xs) (f ∷ w)
 grown_more x xs t f w e may g =
