@@ -1,9 +1,10 @@
 -- Where nothing is refused, each rule is shown.
 use Rattle.std.proofs.Common.{◌≡◌, ◌≤◌, ℕ, ◌+◌, Bool, true, false, cond, List, [], ◌∷◌, refl, sym, Option, Some, None}
-use Rattle.std.specs.Prelude.{Result, Ok, Err, nat_lt, count_ones, is_none}
+use Rattle.std.specs.Prelude.{Result, Ok, Err, nat_lt, count_ones}
 use Rattle.std.specs.List.{AllByRecursion}
 use Rattle.std.proofs.lemmas.Option.{none-some}
 use Rattle.std.proofs.lemmas.Bool.{ltb-false}
+use Rattle.gg_base.proofs.Facts.{none_is}
 use Rattle.md_reader_pieces.specs.declared.piece.Line.{Line}
 use Rattle.md_reader.specs.declared.types.Kind.{Kind}
 use Rattle.md_reader.specs.declared.types.Class.{Class}
@@ -95,13 +96,9 @@ all_lines_shown effect saved d h =
     let rules = rules_refused effect d.classes 1 d.rules in
     each_line_shown saved saved_kinds d.spills (first_is_none lines rules (first_is_none pools (first_of lines rules) h).1).0
 
-none_of : (o : Option Refusal) → is_none o ≡ true → o ≡ None
-none_of None h = refl
-none_of (Some r) h = cc
-
 pub rules_shown : (effect : Effects) (saved : Saving) (d : Content) → is_shown effect saved d ≡ true
     → AllByRecursion (IsShown effect (count_ones d.pool) d.classes) d.rules
-rules_shown effect saved d h = all_shown effect saved d (none_of (first_refusal effect saved d) h)
+rules_shown effect saved d h = all_shown effect saved d (none_is (first_refusal effect saved d) h)
 
 pub lines_shown : (effect : Effects) (saved : Saving) (d : Content) → is_shown effect saved d ≡ true → AreLinesShown saved saved_kinds d.spills
-lines_shown effect saved d h = all_lines_shown effect saved d (none_of (first_refusal effect saved d) h)
+lines_shown effect saved d h = all_lines_shown effect saved d (none_is (first_refusal effect saved d) h)
