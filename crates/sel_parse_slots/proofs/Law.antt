@@ -1,9 +1,10 @@
 -- A parse uses no more words than the tree has tokens with two kids, and one.
-use Rattle.std.proofs.Common.{◌≡◌, ℕ, zero, suc, ◌+◌, ◌≤◌, ◌<◌, List, [], ◌∷◌, ◌++◌, length, map, Some, None, true, refl, sym, ap, ◌∙◌, subst, arith, slice_get, take, drop}
+use Rattle.std.proofs.Common.{◌≡◌, ℕ, suc, ◌+◌, ◌≤◌, ◌<◌, List, [], ◌∷◌, ◌++◌, length, map, Some, None, true, refl, sym, ap, ◌∙◌, subst, arith, slice_get, take, drop}
 use Rattle.std.proofs.Common.{length-append}
 use Rattle.std.specs.Prelude.{reverse, Ok}
 use Rattle.std.specs.List.{AllByRecursion}
 use Rattle.std.proofs.lemmas.Option.{same_Some, none-some}
+use Rattle.gg_base.proofs.Facts.{all_get}
 use Rattle.tree_core.specs.declared.token.Tok.{Tok}
 use Rattle.tree_core.specs.declared.token.Sort.{Sort}
 use Rattle.tree_core.specs.declared.token.Sort.TheVariants as sort
@@ -48,11 +49,6 @@ use Rattle.sel_parse_slots.proofs.Counting.{Good, sum, charge_of, Fine, AllFine,
 use Rattle.sel_parse_slots.proofs.Finishing.{Reduced, started, register_named, reduction_good}
 use Rattle.sel_parse_slots.proofs.Prefixes.{Part, Whole, gamma, opens, twos, ends, held_in_all, part_of, Marks, ends_of, opens_of, marks_ends, marks_opens, part_twos, arity, whole_ends}
 use Rattle.sel_parse_slots.proofs.Prefixes.{total_piled, sum_gamma}
-
-all_at : {X : Type 0} (P : X → Type 0) (xs : List X) (n : ℕ) (x : X) → AllByRecursion P xs → slice_get xs n ≡ Some x → P x
-all_at P [] n x h e = absurd (none-some x e)
-all_at P (y ∷ xs) zero x h e = subst P (same_Some y x e) h.0
-all_at P (y ∷ xs) (suc n) x h e = all_at P xs n x h.1 e
 
 abbrev tokens : List Leaf → List Tok
 tokens w = map (λ (l : Leaf). l.tok) w
@@ -299,7 +295,7 @@ module _ {O I S F : Type 0} (of : Meaning O I S F) (law : IsLawful of) (q : Tree
       is_valid = rule_at d.classes d.rules n r fit.valid.rules there
 
       pub has_effect : (e : EffectShape) × (of.effect d.classes r ≡ Ok e)
-      has_effect = all_at (λ (r : Rule). (e : EffectShape) × (of.effect d.classes r ≡ Ok e)) d.rules n r fit.taken there
+      has_effect = all_get (λ (r : Rule). (e : EffectShape) × (of.effect d.classes r ≡ Ok e)) d.rules n r fit.taken there
 
       pub reduce : (x z : Kept O I) → Before ws a x → reduced_by of q d first (Some r) x ≡ Some z → Before ws (grammar_symbol.Class r.left ∷ drop (length r.right) a) z
       reduce None z h e = subst (Before ws (grammar_symbol.Class r.left ∷ drop (length r.right) a)) (same_Some None z e) tt
