@@ -31,9 +31,6 @@ use Rattle.sel_toy_machine.specs.Toy.{toy}
 use Rattle.sel_toy_machine.specs.Sample.{main, program, classes, rule, holes, numbers, view, machine, frame, SumIsReady, SumIsSet}
 use Rattle.sel_toy_machine.proofs.Results.{toy_templates}
 
-same_hole : (a b : Attr Operand) → Some a ≡ Some b → a ≡ b
-same_hole a b g = cc
-
 abbrev stands : TreeItem → Type 0
 stands i = ItemStands (main ∷ []) 0 main i
 
@@ -88,8 +85,8 @@ rule_is = record {
 values_are : (i x : ℕ) (h : Attr Operand) → hole holes i ≡ Some h → numbers i ≡ Some x → worth toy program (size_at classes rule.right i) h machine ≡ Some x
 values_are zero x h at e = absurd (none-some x e)
 values_are (suc zero) x h at e = absurd (none-some x e)
-values_are (suc (suc zero)) x h at e = subst (λ g. worth toy program (size_at classes rule.right 2) g machine ≡ Some x) (same_hole _ h at) e
-values_are (suc (suc (suc zero))) x h at e = subst (λ g. worth toy program (size_at classes rule.right 3) g machine ≡ Some x) (same_hole _ h at) e
+values_are (suc (suc zero)) x h at e = subst (λ g. worth toy program (size_at classes rule.right 2) g machine ≡ Some x) (same_Some _ h at) e
+values_are (suc (suc (suc zero))) x h at e = subst (λ g. worth toy program (size_at classes rule.right 3) g machine ≡ Some x) (same_Some _ h at) e
 values_are (suc (suc (suc (suc i)))) x h at e = absurd (none-some x e)
 
 small_are : (i x : ℕ) → numbers i ≡ Some x → x < 2 ^ (8 * bytes_of (size_at classes rule.right i))
@@ -101,17 +98,17 @@ small_are (suc (suc (suc (suc i)))) x e = absurd (none-some x e)
 
 whole_are : (i : ℕ) (h : Attr Operand) → hole holes i ≡ Some h → IsWhole h (numbers i)
 whole_are zero h at = absurd (none-some h at)
-whole_are (suc zero) h at = subst (λ g. IsWhole g None) (same_hole _ h at) tt
-whole_are (suc (suc zero)) h at = subst (λ g. IsWhole g (Some 5)) (same_hole _ h at) refl
-whole_are (suc (suc (suc zero))) h at = subst (λ g. IsWhole g (Some 7)) (same_hole _ h at) refl
+whole_are (suc zero) h at = subst (λ g. IsWhole g None) (same_Some _ h at) tt
+whole_are (suc (suc zero)) h at = subst (λ g. IsWhole g (Some 5)) (same_Some _ h at) refl
+whole_are (suc (suc (suc zero))) h at = subst (λ g. IsWhole g (Some 7)) (same_Some _ h at) refl
 whole_are (suc (suc (suc (suc i)))) h at = absurd (none-some h at)
 
 -- no symbol is a place
 homes_are : (i : ℕ) (h : Attr Operand) (o : Operand) → hole holes i ≡ Some h → own_operand toy h ≡ Some o → IsSome (toy.names o (size_at classes rule.right i) machine)
 homes_are zero h o at e = absurd (none-some h at)
-homes_are (suc zero) h o at e = absurd (none-some o (ap (own_operand toy) (same_hole _ h at) ∙ e))
-homes_are (suc (suc zero)) h o at e = absurd (none-some o (ap (own_operand toy) (same_hole _ h at) ∙ e))
-homes_are (suc (suc (suc zero))) h o at e = absurd (none-some o (ap (own_operand toy) (same_hole _ h at) ∙ e))
+homes_are (suc zero) h o at e = absurd (none-some o (ap (own_operand toy) (same_Some _ h at) ∙ e))
+homes_are (suc (suc zero)) h o at e = absurd (none-some o (ap (own_operand toy) (same_Some _ h at) ∙ e))
+homes_are (suc (suc (suc zero))) h o at e = absurd (none-some o (ap (own_operand toy) (same_Some _ h at) ∙ e))
 homes_are (suc (suc (suc (suc i)))) h o at e = absurd (none-some h at)
 
 agrees : Stands program frame [] view.state machine

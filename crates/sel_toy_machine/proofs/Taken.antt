@@ -3,6 +3,7 @@ use Rattle.std.proofs.Common.{◌≡◌, ℕ, List, [], ◌∷◌, Option, Some,
 use Rattle.std.specs.Prelude.{Result, Ok, Err}
 use Rattle.std.proofs.lemmas.Option.{none-some, same_Some}
 use Rattle.std.proofs.lemmas.Bool.{false≢true}
+use Rattle.gg_base.proofs.Facts.{err_ok}
 use Rattle.md_reader_pieces.specs.declared.piece.Line.{Line}
 use Rattle.md_reader.specs.declared.types.Class.{Class}
 use Rattle.md_reader.specs.declared.types.Give.{Give}
@@ -19,9 +20,6 @@ use Rattle.sel_toy_machine.specs.Templates.{or_fault, fault_at, where_true, give
 pub data Taken (classes : List Class) (rule : Rule) (e : EffectShape) : Type 0 where
   by_line : (l : Line) (f : Form) → rule.lines ≡ l ∷ [] → form_of l.pieces ≡ Some f → found_form classes rule f ≡ Some e → Taken classes rule e
   by_shape : (l : Line) → rule.lines ≡ [] → rule.give ≡ give.Shape l → found_shape classes rule.right (kind_at classes rule.left) (shape_of l.pieces) ≡ Some e → Taken classes rule e
-
-err_ok : (x : Fault) (e : EffectShape) → ◌≡◌ {A = Result EffectShape Fault} (Err x) (Ok e) → ⊥
-err_ok x e h = cc
 
 ok_same : (x y : EffectShape) → ◌≡◌ {A = Result EffectShape Fault} (Ok x) (Ok y) → x ≡ y
 ok_same x y h = cc
