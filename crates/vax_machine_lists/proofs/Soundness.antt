@@ -1,13 +1,14 @@
 -- Each step of a machine that goes on leaves such a machine, unless the run is over.
-use Rattle.std.proofs.Common.{◌≡◌, ℕ, zero, suc, ◌+◌, ◌-◌, ◌*◌, ◌%◌, ◌^◌, ◌<◌, ◌≤◌, Bool, true, false, cond, leb, List, [], ◌∷◌, ◌++◌, length, take, Option, Some, None, Result, Ok}
+use Rattle.std.proofs.Common.{◌≡◌, ℕ, zero, suc, ◌+◌, ◌-◌, ◌%◌, ◌^◌, ◌<◌, ◌≤◌, Bool, true, false, cond, List, [], ◌∷◌, ◌++◌, length, take, Option, Some, None, Result, Ok}
 use Rattle.std.proofs.Common.{Err, refl, sym, ap, subst, ◌∙◌, arith, length-set}
 use Rattle.std.specs.Prelude.{slice_get, slice_index, slice_set, nat_le, nat_lt, ◌==◌, ◌&&◌, ◌/◌}
 use Rattle.std.specs.Str.{bytes_eq}
 use Rattle.std.specs.List.{list_all}
 use Rattle.std.specs.Int.RustNames.{count_ones}
-use Rattle.std.specs.Int.{w16, to_le_bytes, from_le_bytes}
+use Rattle.std.specs.Int.{w16, from_le_bytes}
 use Rattle.std.proofs.lemmas.Bool.{leb-true, ltb-true, and_parts}
 use Rattle.std.proofs.lemmas.Nat.{mod_below}
+use Rattle.std.proofs.lemmas.Option.{same_Some}
 use Rattle.gg_base.specs.declared.size.Size.{Size}
 use Rattle.gg_base.specs.declared.size.Size.TheVariants.{Byte, Word, Long}
 use Rattle.gg_base.specs.Arithmetic.{add32, sub32, mul32}
@@ -28,10 +29,9 @@ use Rattle.vax_core.specs.declared.code.CodeItem.{CodeItem}
 use Rattle.vax_core.specs.declared.code.CodeItem.TheVariants as item_kind
 use Rattle.vax_core.specs.Ops.{shape}
 use Rattle.vax_core.specs.Registers.{reg_number}
-use Rattle.vax_core.specs.Valid.{allows, is_long, is_addr, is_addr_of, is_named_addr, is_base, is_index, is_operand, are_operands, is_target, is_instr, is_code_item}
+use Rattle.vax_core.specs.Valid.{allows, is_addr, is_addr_of, is_named_addr, is_base, is_index, is_operand, are_operands, is_instr, is_code_item}
 use Rattle.vax_machine_live.specs.declared.frame.Frame.{Frame}
 use Rattle.vax_machine_live.specs.Control.{in_control}
-use Rattle.vax_machine_live.proofs.OwnerLaws.{same_frame}
 use Rattle.vax_machine.specs.declared.turn.Stop.{Stop}
 use Rattle.vax_machine.specs.declared.memory.Region.{Region}
 use Rattle.vax_machine.specs.declared.memory.Region.TheVariants as regions
@@ -46,16 +46,16 @@ use Rattle.vax_machine.specs.declared.function.Conditions.{Conditions}
 use Rattle.vax_machine.specs.declared.function.Action.TheVariants.{Compute, Push, Branch, Call, Return}
 use Rattle.vax_machine.specs.State.{State, reg, with_reg, with_conditions, cleared, access, frame, stack_full, bad_code, ◌>>=◌}
 use Rattle.vax_machine.specs.Area.{resolved, resolved_of, label_address}
-use Rattle.vax_machine.specs.Memory.{low, touched, read, written, register_set, number_at, with_number_at, merged}
-use Rattle.vax_machine.specs.Operands.{deferred, located, indexed, moved, fetched, address_of, taken, evaluated, all_evaluated, in_front, only_number, with_destination, put, stored}
+use Rattle.vax_machine.specs.Memory.{touched, read, written, register_set, number_at, with_number_at, merged}
+use Rattle.vax_machine.specs.Operands.{deferred, located, indexed, fetched, address_of, taken, evaluated, all_evaluated, in_front, only_number, with_destination, put, stored}
 use Rattle.vax_machine.specs.Functions.{action_of, applied, passes}
 use Rattle.vax_machine.specs.Labels.{putchar_name, getchar_name, next_item, label_place}
 use Rattle.vax_machine.specs.Calls.{Acts, pushed, reserved, all_reserved, entry_mask, entered, framed, called, restored, returned_registers, back_to, left, returned_from, returned}
 use Rattle.vax_machine.specs.Calls.{putchar, getchar, got, silent, called_by_name}
-use Rattle.vax_machine.specs.Step.{Goes, Writes, Stops, finished, pushing, branched, acted, instruction, at_item, act, next_of, next_where, step_of}
+use Rattle.vax_machine.specs.Step.{finished, pushing, branched, acted, instruction, at_item, act, next_of, next_where}
 use Rattle.vax_machine_lists.specs.Sound.{AllBelow, IsSound, AreSaved, IsRunning, Behind, StepsStaySound}
 use Rattle.vax_machine_lists.proofs.Longwords.{length-with_any, with_below, below_take, below_drop, below_set, below_get, long_below}
-use Rattle.vax_machine_lists.proofs.Numbers.{add_small, sub_small, mul_small, low_small, merged_small, SmallResult, applied_small}
+use Rattle.vax_machine_lists.proofs.Numbers.{add_small, sub_small, low_small, merged_small, SmallResult, applied_small}
 
 -- ---- parts of a state that are changed
 
@@ -420,7 +420,7 @@ saved_take (suc n) (f ∷ fs) h = (h.0, saved_take n fs h.1)
 
 saved_get : (fs : List Frame) (n : ℕ) (f : Frame) → AreSaved fs → slice_get fs n ≡ Some f → AllBelow (2 ^ 32) f.saved
 saved_get [] n f h e = absurd (cc)
-saved_get (x ∷ fs) zero f h e = subst (λ (g : Frame). AllBelow (2 ^ 32) g.saved) (same_frame x f e) h.0
+saved_get (x ∷ fs) zero f h e = subst (λ (g : Frame). AllBelow (2 ^ 32) g.saved) (same_Some x f e) h.0
 saved_get (x ∷ fs) (suc n) f h e = saved_get fs n f h.1 e
 
 touched_then : (n : State) (t : Result Region Stop) → IsRunning n → After (t >>= λ (r : Region). Ok n)
@@ -548,12 +548,9 @@ unfolding instruction
 instruction_running m i h e =
     acted_by i (all_evaluated (shape i.op).operands i.operands m) (all_running (shape i.op).operands i.operands m h (and_parts (are_operands (shape i.op).operands i.operands) _ e).0)
 
-same_item : (x y : CodeItem) → ◌≡◌ {A = Option CodeItem} (Some x) (Some y) → x ≡ y
-same_item x y e = cc
-
 valid_at : (xs : List CodeItem) (n : ℕ) (x : CodeItem) → list_all is_code_item xs ≡ true → slice_get xs n ≡ Some x → is_code_item x ≡ true
 valid_at [] n x h e = absurd (cc)
-valid_at (y ∷ xs) zero x h e = ap is_code_item (sym (same_item y x e)) ∙ (and_parts (is_code_item y) (list_all is_code_item xs) h).0
+valid_at (y ∷ xs) zero x h e = ap is_code_item (sym (same_Some y x e)) ∙ (and_parts (is_code_item y) (list_all is_code_item xs) h).0
 valid_at (y ∷ xs) (suc n) x h e = valid_at xs n x (and_parts (is_code_item y) (list_all is_code_item xs) h).1 e
 
 item_running : (m : State) (place : ℕ) (o : Option CodeItem) → IsRunning m → ((x : CodeItem) → o ≡ Some x → is_code_item x ≡ true) → ActsStay (at_item o place m)

@@ -1,8 +1,9 @@
 -- Which frame a byte of the stack belongs to.
 use Rattle.std.proofs.Common.{◌≡◌, ℕ, zero, suc, ◌+◌, ◌-◌, ◌*◌, ◌/◌, ◌<◌, ◌≤◌, Bool, true, false, List, [], ◌∷◌, ◌++◌, length, take, ◌⊎◌, inl, inr, refl, sym, ap, subst, ◌∙◌}
 use Rattle.std.proofs.Common.{arith, lt-ltb, true≢false}
-use Rattle.std.specs.Prelude.{◌&&◌, ◌||◌, Option, Some, None, slice_get, slice_index, nat_lt}
+use Rattle.std.specs.Prelude.{◌&&◌, ◌||◌, Some, None, slice_get, slice_index, nat_lt}
 use Rattle.std.proofs.lemmas.Bool.{ltb-true, ltb-false, le-ltb, and_parts, or_right, or_left, false_from_ne_true}
+use Rattle.std.proofs.lemmas.Option.{same_Some, none-some}
 use Rattle.vax_machine_live.specs.declared.frame.Frame.{Frame}
 use Rattle.vax_machine_live.specs.Control.{overlaps, in_control}
 use Rattle.vax_machine_live.specs.Owners.{IsOwned, AreOwned, HasRoom, Gives}
@@ -20,17 +21,11 @@ byte_lies f address h =
     let low : f.fp < address + 1 = ltb-true f.fp (address + 1) p.0 in
     record { low = omega arith; high = ltb-true address f.top p.1 }
 
-pub same_frame : (f g : Frame) → ◌≡◌ {A = Option Frame} (Some f) (Some g) → f ≡ g
-same_frame f g e = cc
-
-no_frame : (f : Frame) → ◌≡◌ {A = Option Frame} None (Some f) → ⊥
-no_frame f e = cc
-
 -- a byte of a live frame is found
 pub found : (frames : List Frame) (number address : ℕ) (f : Frame) → slice_get frames number ≡ Some f → overlaps f address 1 ≡ true → in_control frames address 1 ≡ true
-found [] number address f e h = absurd (no_frame f e)
+found [] number address f e h = absurd (none-some f e)
 found (g ∷ gs) zero address f e h =
-    or_left (overlaps g address 1) (in_control gs address 1) (ap (λ (x : Frame). overlaps x address 1) (same_frame g f e) ∙ h)
+    or_left (overlaps g address 1) (in_control gs address 1) (ap (λ (x : Frame). overlaps x address 1) (same_Some g f e) ∙ h)
 found (g ∷ gs) (suc n) address f e h = or_right (overlaps g address 1) (in_control gs address 1) (found gs n address f e h)
 
 -- a byte of a control word lies in a frame
@@ -67,7 +62,7 @@ owned_by_none frames owners address number kept low e none =
     sym (false_from_ne_true (in_control frames address 1) (λ h.
     let l = lies frames address h in
     let same : number ≡ l.number = sym e ∙ owner_is owners l.number address l.frame (kept.each l.number l.frame l.there) low l.inside in
-    no_frame l.frame (sym none ∙ ap (λ (k : ℕ). slice_get frames k) same ∙ l.there)))
+    none-some l.frame (sym none ∙ ap (λ (k : ℕ). slice_get frames k) same ∙ l.there)))
 
 pub owned_by : (frames : List Frame) (owners : List ℕ) (address number : ℕ) (f : Frame) → AreOwned frames owners → 2139095040 ≤ address → slice_index owners ((address - 2139095040) / 4)
     ≡ number → slice_get frames number ≡ Some f → overlaps f address 1 ≡ in_control frames address 1
@@ -79,7 +74,7 @@ owned_by frames owners address number f kept low e there = by (overlaps f addres
         sym (false_from_ne_true (in_control frames address 1) (λ h.
         let l = lies frames address h in
         let same : number ≡ l.number = sym e ∙ owner_is owners l.number address l.frame (kept.each l.number l.frame l.there) low l.inside in
-        let frame : f ≡ l.frame = same_frame f l.frame (sym there ∙ ap (λ (k : ℕ). slice_get frames k) same ∙ l.there) in
+        let frame : f ≡ l.frame = same_Some f l.frame (sym there ∙ ap (λ (k : ℕ). slice_get frames k) same ∙ l.there) in
         true≢false (sym l.inside ∙ ap (λ (x : Frame). overlaps x address 1) (sym frame) ∙ is)))
 
 -- a few bytes are control words where the first or the last one is, since a frame has at least 4 bytes
@@ -157,7 +152,7 @@ last_is slice frames now a k q r owners kept some few s v e h f =
 front_get : (frames : List Frame) (n k : ℕ) (f : Frame) → slice_get (take n frames) k ≡ Some f → slice_get frames k ≡ Some f
 front_get [] zero k f e = e
 front_get [] (suc n) k f e = e
-front_get (g ∷ gs) zero k f e = absurd (no_frame f e)
+front_get (g ∷ gs) zero k f e = absurd (none-some f e)
 front_get (g ∷ gs) (suc n) zero f e = e
 front_get (g ∷ gs) (suc n) (suc k) f e = front_get gs n k f e
 
@@ -167,11 +162,11 @@ one_less frames owners n kept = record { each = λ k f e. kept.each k f (front_g
 -- ---- one frame more
 
 pub none_yet : (owners : List ℕ) → AreOwned [] owners
-none_yet owners = record { each = λ k f e. absurd (no_frame f e) }
+none_yet owners = record { each = λ k f e. absurd (none-some f e) }
 
 at_end : (frames : List Frame) (f g : Frame) (n : ℕ) → slice_get (frames ++ f ∷ []) n ≡ Some g → (slice_get frames n ≡ Some g) ⊎ ((n ≡ length frames) × (f ≡ g))
-at_end [] f g zero e = inr (refl, same_frame f g e)
-at_end [] f g (suc n) e = absurd (no_frame g e)
+at_end [] f g zero e = inr (refl, same_Some f g e)
+at_end [] f g (suc n) e = absurd (none-some g e)
 at_end (h ∷ hs) f g zero e = inl e
 at_end (h ∷ hs) f g (suc n) e = by (at_end hs f g n e)
   where
