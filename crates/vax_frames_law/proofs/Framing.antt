@@ -1,10 +1,11 @@
 -- A code of frames keeps within its functions.
-use Rattle.std.proofs.Common.{◌≡◌, ℕ, zero, suc, ◌+◌, Bool, true, false, List, [], ◌∷◌, ◌++◌, length, drop, Option, Some, None, refl, sym, ap, subst, ◌∙◌, arith, append_assoc}
+use Rattle.std.proofs.Common.{◌≡◌, ℕ, zero, suc, ◌+◌, Bool, true, false, List, [], ◌∷◌, ◌++◌, length, drop, None, refl, sym, ap, subst, ◌∙◌, arith, append_assoc}
 use Rattle.std.specs.Prelude.{◌==◌, ◌||◌, ◌&&◌, nat_lt}
 use Rattle.std.specs.Str.{bytes_eq}
 use Rattle.std.proofs.lemmas.Bool.{ne_eqb, and_left, true≢false}
 use Rattle.std.proofs.lemmas.List.{drop_at}
 use Rattle.std.proofs.lemmas.Slice.Eq.{bytes_eq-Decides}
+use Rattle.std.proofs.lemmas.Option.{none-some}
 use Rattle.vax_core.specs.declared.code.Instr.{Instr}
 use Rattle.vax_core.specs.declared.code.CodeItem.{CodeItem}
 use Rattle.vax_core.specs.declared.code.CodeItem.TheVariants as item_kind
@@ -84,9 +85,6 @@ four r p l e post =
 not_number : (n r : ℕ) → (n ≡ r → ⊥) → ((n == r) && nat_lt r 12) ≡ false
 not_number n r ne = and_left (n == r) (nat_lt r 12) (ne_eqb n r ne)
 
-no_target : (label : List ℕ) → ◌≡◌ {A = Option (List ℕ)} None (Some label) → ⊥
-no_target label e = cc
-
 module _ (code : List CodeItem) (once : double_label code ≡ None) (name : List ℕ) (mask words : ℕ) (body pre post : List CodeItem) (within : KeepWithin body mask body)
     (code_is : code ≡ pre ++ (frame_items name mask words body ++ post)) where
   abbrev tail : List CodeItem
@@ -123,8 +121,8 @@ module _ (code : List CodeItem) (once : double_label code ≡ None) (name : List
 
   end_closed : AreClosed code mask post → AreClosed code mask tail
   end_closed h = (
-    record { named = λ r low high e. or_both r (not_number 0 r (λ q. omega (arith, q, low))); onward = λ e. tt; branch = λ label e. absurd (no_target label e) },
-    (record { named = λ r low high e. refl; onward = λ e. absurd (true≢false (sym e)); branch = λ label e. absurd (no_target label e) }, h),
+    record { named = λ r low high e. or_both r (not_number 0 r (λ q. omega (arith, q, low))); onward = λ e. tt; branch = λ label e. absurd (none-some label e) },
+    (record { named = λ r low high e. refl; onward = λ e. absurd (true≢false (sym e)); branch = λ label e. absurd (none-some label e) }, h),
   )
     where
       or_both : (r : ℕ) → ((0 == r) && nat_lt r 12) ≡ false → ((((0 == r) && nat_lt r 12) || false) || false) ≡ false
@@ -143,7 +141,7 @@ module _ (code : List CodeItem) (once : double_label code ≡ None) (name : List
   room_closed : (w : ℕ) (rest : List CodeItem) → RunsOn rest → AreClosed code mask rest → AreClosed code mask (code_items (room_code w) ++ rest)
   room_closed zero rest r h = h
   room_closed (suc w) rest r h = (
-    record { named = λ r low high e. or_three r (not_number 14 r (λ q. omega (arith, q, high))); onward = λ e. r; branch = λ label e. absurd (no_target label e) },
+    record { named = λ r low high e. or_three r (not_number 14 r (λ q. omega (arith, q, high))); onward = λ e. r; branch = λ label e. absurd (none-some label e) },
     h,
   )
     where

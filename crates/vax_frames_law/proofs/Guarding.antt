@@ -7,6 +7,7 @@ use Rattle.std.specs.Str.{bytes_eq}
 use Rattle.std.proofs.lemmas.List.{same_from_push}
 use Rattle.gg_base.specs.declared.size.Size.TheVariants.{Byte, Long}
 use Rattle.gg_base.specs.Arithmetic.{sub32}
+use Rattle.gg_base.proofs.Facts.{err_ok}
 use Rattle.vax_core.specs.declared.register.Reg.TheVariants.{Fp, Sp}
 use Rattle.vax_core.specs.declared.code.Instr.{Instr}
 use Rattle.vax_core.specs.declared.code.CodeItem.{CodeItem}
@@ -36,7 +37,7 @@ use Rattle.vax_machine_lists.proofs.Placed.{Where, there, where_of, ending_there
 use Rattle.vax_machine_lists.proofs.Joining.{OneStep, one_performed}
 use Rattle.vax_machine.specs.Loading.{blank}
 use Rattle.vax_machine.specs.Labels.{main_name}
-use Rattle.vax_machine.proofs.Room.{same_state, no_state}
+use Rattle.vax_machine.proofs.Room.{same_state}
 use Rattle.vax_frames_law.specs.Guarding.{has, may_pass, IsGuarded, IsIntact, AreIntact, outermost, inner, KeepsRegisters, StepsKeep, ReturnsRestore, CallsSave, RunsBeginIntact}
 use Rattle.vax_machine_lists.specs.Kept.{Same, KeptAt}
 use Rattle.vax_machine_lists.proofs.Registers.{same, trans, register_kept, frames_kept}
@@ -158,19 +159,19 @@ entered_makes k m n ap_at top mask entry back h there done = by (nat_le 4096 (le
     })
 
     by : (b : Bool) → cond b (Err stack_full) (Ok made) ≡ Ok n → Makes k n back
-    by true e = absurd (no_state stack_full n e)
+    by true e = absurd (err_ok stack_full n e)
     by false e = makes n (same_state made n e)
 
 room_makes : (k : State) (t : Result State Stop) (n : State) (ap_at top mask entry : ℕ) (back : Option ℕ) → AllAfter k t → slice_get k.items entry ≡ Some (item_kind.Mask mask)
     → (t >>= λ (x : State). entered x ap_at top mask (entry + 1) back) ≡ Ok n → Makes k n back
 room_makes k (Ok m) n ap_at top mask entry back h there done = entered_makes k m n ap_at top mask entry back h there done
-room_makes k (Err e) n ap_at top mask entry back h there done = absurd (no_state e n done)
+room_makes k (Err e) n ap_at top mask entry back h there done = absurd (err_ok e n done)
 
 framed_makes : (k m n : State) (ap_at entry : ℕ) (back : Option ℕ) (o : Option CodeItem) → AllSame k m → slice_get m.items entry ≡ o → framed m ap_at (entry_mask o) entry back ≡ Ok n → Makes k n back
-framed_makes k m n ap_at entry back None h there done = absurd (no_state bad_code n done)
-framed_makes k m n ap_at entry back (Some (item_kind.Label l)) h there done = absurd (no_state bad_code n done)
-framed_makes k m n ap_at entry back (Some (item_kind.Globl l)) h there done = absurd (no_state bad_code n done)
-framed_makes k m n ap_at entry back (Some (item_kind.Instr i)) h there done = absurd (no_state bad_code n done)
+framed_makes k m n ap_at entry back None h there done = absurd (err_ok bad_code n done)
+framed_makes k m n ap_at entry back (Some (item_kind.Label l)) h there done = absurd (err_ok bad_code n done)
+framed_makes k m n ap_at entry back (Some (item_kind.Globl l)) h there done = absurd (err_ok bad_code n done)
+framed_makes k m n ap_at entry back (Some (item_kind.Instr i)) h there done = absurd (err_ok bad_code n done)
 framed_makes k m n ap_at entry back (Some (item_kind.Mask mask)) h there done = by (register_set m Sp (ap_at - ap_at % 4)) (all_set m (ap_at - ap_at % 4)) done
   where
     one_low : 1 ≤ 1
@@ -187,7 +188,7 @@ framed_makes k m n ap_at entry back (Some (item_kind.Mask mask)) h there done = 
     by (Ok x) g done =
         room_makes k (all_reserved (count_ones mask + 5) x) n ap_at (ap_at - ap_at % 4) mask entry back
         (all_join k x (all_reserved (count_ones mask + 5) x) (λ r low high. trans r k m x (h r low high) (g r low high)) (all_room (count_ones mask + 5) x)) stands done
-    by (Err e) g done = absurd (no_state e n done)
+    by (Err e) g done = absurd (err_ok e n done)
 
 called_makes : (k n : State) (count place : ℕ) (back : Option ℕ) → called k count place back ≡ Ok n → Makes k n back
 unfolding called
@@ -196,12 +197,9 @@ called_makes k n count place back done = by (pushed k count) (all_pushed k count
     by : (t : Result State Stop) → AllAfter k t → (t >>= λ (m : State). framed m (reg m Sp) (entry_mask (slice_get m.items (next_item m.items place))) (next_item m.items place) back) ≡ Ok n
         → Makes k n back
     by (Ok m) h done = framed_makes k m n (reg m Sp) (next_item m.items place) back (slice_get m.items (next_item m.items place)) h refl done
-    by (Err e) h done = absurd (no_state e n done)
+    by (Err e) h done = absurd (err_ok e n done)
 
 -- ---- what a return leaves
-
-no_acts : (e : Stop) (x : Option ℕ × State) → ◌≡◌ {A = Acts} (Err e) (Ok x) → ⊥
-no_acts e x h = cc
 
 some_acts : (x y : Option ℕ × State) → ◌≡◌ {A = Acts} (Ok x) (Ok y) → x.1 ≡ y.1
 some_acts x y e = cc
@@ -234,19 +232,19 @@ unfolding returned
 returned_backs m n o outer f eq done = by_fp (reg m Fp == f.fp) (sym (innermost_of m m.frames outer f eq) ∙ done)
   where
     by_back : (b : Option ℕ) (count : ℕ) → f.back ≡ b → back_to (left (record m { frames = outer }) f count) b ≡ Ok (o, n) → Backs m n outer f
-    by_back None count is e = absurd (no_acts _ (o, n) e)
+    by_back None count is e = absurd (err_ok _ _ e)
     by_back (Some place) count is e =
         let x : record (left (record m { frames = outer }) f count) { place = place } ≡ n = some_acts (None, record (left (record m { frames = outer }) f count) { place = place }) (o, n) e in
         subst (λ (y : State). Backs m y outer f) x (record { place = place; back = is; frames = refl; items = refl; at = refl; registers = λ r lt. back_register m f count r lt })
 
     by_read : (t : Result ℕ Stop) → (t >>= λ (count : ℕ). back_to (left (record m { frames = outer }) f count) f.back) ≡ Ok (o, n) → Backs m n outer f
     by_read (Ok count) e = by_back f.back count refl e
-    by_read (Err x) e = absurd (no_acts x (o, n) e)
+    by_read (Err x) e = absurd (err_ok _ _ e)
 
     by_fp : (b : Bool) → cond b (read (record m { frames = outer }) f.ap Byte >>= λ (count : ℕ). back_to (left (record m { frames = outer }) f count) f.back) (Err frame) ≡ Ok (o, n)
         → Backs m n outer f
     by_fp true e = by_read (read (record m { frames = outer }) f.ap Byte) e
-    by_fp false e = absurd (no_acts frame (o, n) e)
+    by_fp false e = absurd (err_ok _ _ e)
 
 -- the innermost of intact frames
 pub record LastIntact (code : List CodeItem) (mask_at : ℕ → ℕ) (frames : List Frame) (place : ℕ) (registers : List ℕ) : Type 0 where
@@ -361,7 +359,7 @@ same_calls l c n is w e = cc
 
 silent_is : (t : Result State Stop) (o : Option ℕ) (n : State) → silent t ≡ Ok (o, n) → t ≡ Ok n
 silent_is (Ok m) o n e = ap (λ (x : State). Ok x) (some_acts (None, m) (o, n) e)
-silent_is (Err x) o n e = absurd (no_acts x (o, n) e)
+silent_is (Err x) o n e = absurd (err_ok _ _ e)
 
 module _ (mask_at : ℕ → ℕ) (m : State) (g : IsGuarded m.items mask_at) (a : AreIntact m.items mask_at m.frames m.place m.registers) where
   abbrev p : ℕ
@@ -419,7 +417,7 @@ module _ (mask_at : ℕ → ℕ) (m : State) (g : IsGuarded m.items mask_at) (a 
               (λ r low high e. b.registers r high ∙ restored_all m.items mask_at k l.f m.place m.registers l.last r low high
               (λ f. (kept r low high (ap (λ (x : ℕ). has x r) l.last.mask ∙ f)).register))));
         }
-    by_ending w (Stops x) acts done one kept whole at from = absurd (no_acts x (o, n) (sym one.1 ∙ done))
+    by_ending w (Stops x) acts done one kept whole at from = absurd (err_ok _ _ (sym one.1 ∙ done))
 
     placed : (performed i m1).ending ≡ ending_there (performed i m1).ending (where_of m1)
     placed = ap (λ (c : Course). c.ending) (performed_there (where_of m1) i m1)
@@ -430,10 +428,10 @@ module _ (mask_at : ℕ → ℕ) (m : State) (g : IsGuarded m.items mask_at) (a 
         (λ r low high e. register_kept r (omega (arith, low)) high i m1 (g.named p i r stands low high e)) (frames_kept i m1) placed (from_performed i m1)
 
   by_item : (x : Option CodeItem) (o : Option ℕ) (n : State) → slice_get m.items p ≡ x → at_item x p m ≡ Ok (o, n) → Kept n
-  by_item None o n stands done = absurd (no_acts bad_code (o, n) done)
-  by_item (Some (item_kind.Label l)) o n stands done = absurd (no_acts bad_code (o, n) done)
-  by_item (Some (item_kind.Globl l)) o n stands done = absurd (no_acts bad_code (o, n) done)
-  by_item (Some (item_kind.Mask k)) o n stands done = absurd (no_acts bad_code (o, n) done)
+  by_item None o n stands done = absurd (err_ok _ _ done)
+  by_item (Some (item_kind.Label l)) o n stands done = absurd (err_ok _ _ done)
+  by_item (Some (item_kind.Globl l)) o n stands done = absurd (err_ok _ _ done)
+  by_item (Some (item_kind.Mask k)) o n stands done = absurd (err_ok _ _ done)
   by_item (Some (item_kind.Instr i)) o n stands done = step_keeps i stands o n done
 
   act_keeps : (o : Option ℕ) (n : State) → act m ≡ Ok (o, n) → Kept n

@@ -8,6 +8,7 @@ use Rattle.std.proofs.lemmas.List.{get_or-take, get_or-drop, same_from_push, tak
 use Rattle.gg_base.specs.declared.size.Size.TheVariants.{Byte, Long}
 use Rattle.gg_base.specs.Arithmetic.{add32, mul32}
 use Rattle.gg_base.specs.LittleEndian.{number_in}
+use Rattle.gg_base.proofs.Facts.{slice_last}
 use Rattle.vax_core.specs.declared.register.Reg.TheVariants.{R0, Fp, Sp}
 use Rattle.vax_machine_live.specs.declared.frame.Frame.{Frame}
 use Rattle.vax_machine_live.specs.Control.{in_control}
@@ -48,10 +49,6 @@ low_byte bytes at n lt e =
 
 -- ---- the innermost frame
 
-last_is : (outer : List Frame) (f : Frame) → slice_get (outer ++ f ∷ []) (length outer) ≡ Some f
-last_is [] f = refl
-last_is (g ∷ outer) f = last_is outer f
-
 pub innermost_of : (m : State) (all outer : List Frame) (f : Frame) → all ≡ outer ++ f ∷ []
     → returned_from m (take (length all - 1) all) (slice_get all (length all - 1)) ≡ returned_from m outer (Some f)
 innermost_of m all outer f e =
@@ -59,7 +56,7 @@ innermost_of m all outer f e =
     ap (λ (fs : List Frame). returned_from m (take (length fs - 1) fs) (slice_get fs (length fs - 1))) e
     ∙ ap (λ (i : ℕ). returned_from m (take i (outer ++ f ∷ [])) (slice_get (outer ++ f ∷ []) i)) n
     ∙ ap (λ (fs : List Frame). returned_from m fs (slice_get (outer ++ f ∷ []) (length outer))) (take_at outer (f ∷ []) (length outer) refl)
-    ∙ ap (λ (o : Option Frame). returned_from m outer o) (last_is outer f)
+    ∙ ap (λ (o : Option Frame). returned_from m outer o) (slice_last outer f)
 
 module _ (objects : List Object) (e : Extent) (es : List Extent) (t : Trees) (m : State) (h : Agrees objects e es t m) where
   abbrev f : Frame

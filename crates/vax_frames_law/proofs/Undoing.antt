@@ -5,8 +5,8 @@ use Rattle.std.specs.Prelude.{slice_get, slice_index, slice_set, nat_lt, nat_le,
 use Rattle.std.specs.Int.RustNames.{count_ones}
 use Rattle.gg_base.specs.declared.size.Size.TheVariants.{Byte, Long}
 use Rattle.gg_base.specs.Arithmetic.{add32, sub32, mul32}
+use Rattle.gg_base.proofs.Facts.{err_ok}
 use Rattle.vax_core.specs.declared.register.Reg.TheVariants.{Ap, Fp, Sp}
-use Rattle.vax_core.specs.declared.code.CodeItem.{CodeItem}
 use Rattle.vax_machine_live.specs.declared.frame.Frame.{Frame}
 use Rattle.vax_machine.specs.declared.turn.Stop.{Stop}
 use Rattle.vax_machine.specs.declared.memory.Region.{Region}
@@ -15,8 +15,8 @@ use Rattle.vax_machine.specs.State.{State, reg, with_reg, cleared, frame, bad_co
 use Rattle.vax_machine.specs.Memory.{touched, read, written, register_set, with_number_at}
 use Rattle.vax_machine.specs.Labels.{next_item}
 use Rattle.vax_machine.specs.Calls.{Acts, pushed, reserved, all_reserved, entry_mask, entered, framed, called, back_to, left, returned}
-use Rattle.vax_machine.proofs.Room.{same_state, no_state}
-use Rattle.vax_frames_law.specs.Undoing.{Notes, CallsNote, IsUndone, ReturnsUndo}
+use Rattle.vax_machine.proofs.Room.{same_state}
+use Rattle.vax_frames_law.specs.Undoing.{Notes, CallsNote, ReturnsUndo}
 use Rattle.vax_frames_law.proofs.Returning.{innermost_of}
 
 -- all registers but sp are the same, and the live frames
@@ -138,23 +138,23 @@ entered_notes m k n at top mask behind back low size is done = by (nat_le 4096 (
     })
 
     by : (b : Bool) → cond b (Err stack_full) (Ok made) ≡ Ok n → Notes m n back
-    by true e = absurd (no_state stack_full n e)
+    by true e = absurd (err_ok stack_full n e)
     by false e = notes n (same_state made n e)
 
 room_notes : (m : State) (t : Result State Stop) (n : State) (at top mask behind : ℕ) (back : Option ℕ) → After m t → length m.registers ≡ 15 → at ≡ sub32 (reg m Sp) 4
     → (t >>= λ (x : State). entered x at top mask behind back) ≡ Ok n → Notes m n back
 room_notes m (Ok k) n at top mask behind back low size is done = entered_notes m k n at top mask behind back low size is done
-room_notes m (Err e) n at top mask behind back low size is done = absurd (no_state e n done)
+room_notes m (Err e) n at top mask behind back low size is done = absurd (err_ok e n done)
 
 framed_notes : (m k n : State) (at entry : ℕ) (back mask : Option ℕ) → Lowered m k → length m.registers ≡ 15 → at ≡ sub32 (reg m Sp) 4 → framed k at mask entry back ≡ Ok n → Notes m n back
-framed_notes m k n at entry back None low size is done = absurd (no_state bad_code n done)
+framed_notes m k n at entry back None low size is done = absurd (err_ok bad_code n done)
 framed_notes m k n at entry back (Some mask) low size is done = by (register_set k Sp (at - at % 4)) (set_after k (at - at % 4)) done
   where
     by : (t : Result State Stop) → After k t → (t >>= λ (x : State). all_reserved (count_ones mask + 5) x >>= λ (y : State). entered y at (at - at % 4) mask (entry + 1) back) ≡ Ok n → Notes m n back
     by (Ok x) g done =
         room_notes m (all_reserved (count_ones mask + 5) x) n at (at - at % 4) mask (entry + 1) back
         (join_after m x (all_reserved (count_ones mask + 5) x) (joined m k x low g) (room_after (count_ones mask + 5) x)) size is done
-    by (Err e) g done = absurd (no_state e n done)
+    by (Err e) g done = absurd (err_ok e n done)
 
 pub calls_note : CallsNote
 unfolding called
@@ -163,12 +163,9 @@ calls_note m n count place back size done = by (pushed m count) (pushed_to m cou
     by : (t : Result State Stop) → PushedTo m t → (t >>= λ (k : State). framed k (reg k Sp) (entry_mask (slice_get k.items (next_item k.items place))) (next_item k.items place) back) ≡ Ok n
         → Notes m n back
     by (Ok k) h done = framed_notes m k n (reg k Sp) (next_item k.items place) back (entry_mask (slice_get k.items (next_item k.items place))) h.0 size h.1 done
-    by (Err e) h done = absurd (no_state e n done)
+    by (Err e) h done = absurd (err_ok e n done)
 
 -- ---- a return
-
-no_acts : (e : Stop) (x : Option ℕ × State) → ◌≡◌ {A = Acts} (Err e) (Ok x) → ⊥
-no_acts e x h = cc
 
 some_acts : (x y : Option ℕ × State) → ◌≡◌ {A = Acts} (Ok x) (Ok y) → x.1 ≡ y.1
 some_acts x y e = cc
@@ -186,14 +183,14 @@ unfolding returned
 returned_pops q r o outer f count eq found done = by_fp (reg q Fp == f.fp) (sym (innermost_of q q.frames outer f eq) ∙ done)
   where
     by_back : (b : Option ℕ) → f.back ≡ b → back_to (left (record q { frames = outer }) f count) b ≡ Ok (o, r) → Pops r outer f count
-    by_back None is e = absurd (no_acts _ (o, r) e)
+    by_back None is e = absurd (err_ok _ _ e)
     by_back (Some place) is e =
         let x : record (left (record q { frames = outer }) f count) { place = place } ≡ r = some_acts (None, record (left (record q { frames = outer }) f count) { place = place }) (o, r) e in
         subst (λ (y : State). Pops y outer f count) x (record { frames = refl; fp = refl; ap = refl; sp = refl; back = is })
 
     by_fp : (b : Bool) → cond b (read (record q { frames = outer }) f.ap Byte >>= λ (k : ℕ). back_to (left (record q { frames = outer }) f k) f.back) (Err frame) ≡ Ok (o, r) → Pops r outer f count
     by_fp true e = by_back f.back refl (ap (λ (t : Result ℕ Stop). t >>= λ (k : ℕ). back_to (left (record q { frames = outer }) f k) f.back) (sym found) ∙ e)
-    by_fp false e = absurd (no_acts frame (o, r) e)
+    by_fp false e = absurd (err_ok _ _ e)
 
 popped_to : (sp count : ℕ) → sp < 2 ^ 32 → count < 256 → add32 (sub32 sp 4) (add32 4 (mul32 4 count)) ≡ add32 sp (4 * count)
 popped_to sp count low few = omega (arith, low, few)

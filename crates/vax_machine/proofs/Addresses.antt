@@ -1,5 +1,6 @@
 -- Where the items of a data area lie, and its labels.
 use Rattle.std.proofs.Common.{◌≡◌, ℕ, suc, zero, ◌+◌, ◌<◌, ◌≤◌, ◌-◌, Bool, true, false, cond, List, [], ◌∷◌, length, get_or, Option, Some, None, refl, sym, ap, ◌∙◌, arith}
+use Rattle.std.proofs.lemmas.Option.{same_Some}
 use Rattle.vax_core.specs.declared.code.AreaItem.{AreaItem}
 use Rattle.vax_machine.specs.declared.area.Layout.{Layout}
 use Rattle.vax_machine.specs.Area.{is_area_label, size_at, end_from, address_from, label_address}
@@ -11,9 +12,6 @@ record Lies (addresses : List ℕ) (first place address : ℕ) : Type 0 where
   below : first ≤ place
   within : place < first + length addresses
   is : get_or addresses (place - first) 0 ≡ address
-
-same_place : (a b : ℕ) → ◌≡◌ {A = Option ℕ} (Some a) (Some b) → a ≡ b
-same_place a b e = cc
 
 further : (at : ℕ) (addresses : List ℕ) (first place address : ℕ) → Lies addresses (first + 1) place address → Lies (at ∷ addresses) first place address
 further at addresses first place address h =
@@ -29,7 +27,7 @@ further at addresses first place address h =
 lies_by : (b : Bool) (o : Option ℕ) (first place at address : ℕ) (addresses : List ℕ) → cond b (Some first) o ≡ Some place
     → (o ≡ Some place → Lies addresses (first + 1) place address) → Lies (at ∷ addresses) first place (cond b at address)
 lies_by true o first place at address addresses e h =
-    let p : first ≡ place = same_place first place e in
+    let p : first ≡ place = same_Some first place e in
     let z : place - first ≡ 0 = omega arith in
     record {
       below = omega arith;

@@ -5,6 +5,7 @@ use Rattle.std.specs.Prelude.{nat_lt, nat_le, ◌&&◌, ◌||◌}
 use Rattle.std.proofs.lemmas.Bool.{ltb-true, ltb-false, and_parts, leb-true, or_parts, false_from_ne_true}
 use Rattle.gg_base.specs.declared.size.Size.TheVariants.{Long}
 use Rattle.gg_base.specs.Arithmetic.{sub32}
+use Rattle.gg_base.proofs.Facts.{err_ok}
 use Rattle.vax_core.specs.declared.register.Reg.TheVariants.{Sp}
 use Rattle.vax_machine_live.specs.declared.frame.Frame.{Frame}
 use Rattle.vax_machine_live.specs.Control.{overlaps, in_control}
@@ -51,16 +52,13 @@ record Reserved (m n : State) (count : ℕ) : Type 0 where
 pub same_state : (m n : State) → ◌≡◌ {A = Result State Stop} (Ok m) (Ok n) → m ≡ n
 same_state m n e = cc
 
-pub no_state : (e : Stop) (n : State) → ◌≡◌ {A = Result State Stop} (Err e) (Ok n) → ⊥
-no_state e n h = cc
-
 -- sp as it was set
 set_sp : (m n : State) (v : ℕ) → IsWhole m → register_set m Sp v ≡ Ok n → (2139095040 ≤ v) × (n ≡ with_reg m Sp v)
 unfolding register_set
 set_sp m n v whole e = by (nat_lt v 2139095040) refl e
   where
     by : (b : Bool) → nat_lt v 2139095040 ≡ b → cond b (Err stack_full) (Ok (with_reg m Sp v)) ≡ Ok n → (2139095040 ≤ v) × (n ≡ with_reg m Sp v)
-    by true h e = absurd (no_state stack_full n e)
+    by true h e = absurd (err_ok stack_full n e)
     by false h e = (ltb-false v 2139095040 h, sym (same_state (with_reg m Sp v) n e))
 
 sp_is : (m : State) (v : ℕ) → IsWhole m → reg (with_reg m Sp v) Sp ≡ v
@@ -76,18 +74,15 @@ record Touchable (frames : List Frame) (a : ℕ) : Type 0 where
   high : a + 4 ≤ 2147483648
   free : in_control frames a 4 ≡ false
 
-no_region : (e : Stop) (r : Region) → ◌≡◌ {A = Result Region Stop} (Err e) (Ok r) → ⊥
-no_region e r h = cc
-
 in_stack : (frames : List Frame) (a : ℕ) (b c : Bool) (r : Region) → nat_le (a + 4) 2147483648 ≡ b → in_control frames a 4 ≡ c
     → cond (nat_le 2139095040 a && b) (cond c (Err frame) (Ok (regions.Stack (a - 2139095040)))) (Err access) ≡ Ok r → Touchable frames a
 in_stack frames a b c r e f h = by (nat_le 2139095040 a) b c e f h
   where
     by : (p b c : Bool) → nat_le (a + 4) 2147483648 ≡ b → in_control frames a 4 ≡ c → cond (p && b) (cond c (Err frame) (Ok (regions.Stack (a - 2139095040)))) (Err access) ≡ Ok r → Touchable frames a
     by true true false e f h = record { high = leb-true (a + 4) 2147483648 e; free = f }
-    by true true true e f h = absurd (no_region frame r h)
-    by true false c e f h = absurd (no_region access r h)
-    by false b c e f h = absurd (no_region access r h)
+    by true true true e f h = absurd (err_ok frame r h)
+    by true false c e f h = absurd (err_ok access r h)
+    by false b c e f h = absurd (err_ok access r h)
 
 above_area : (a size : ℕ) → size ≤ 1048576 → 2139095040 ≤ a → nat_le (a + 4) (65536 + size) ≡ false
 above_area a size small low = false_from_ne_true (nat_le (a + 4) (65536 + size)) (λ h. let le : a + 4 ≤ 65536 + size = leb-true (a + 4) (65536 + size) h in omega arith)
@@ -105,11 +100,11 @@ touchable m a r whole low e =
 
 one_by : (m : State) (k : State) (sp : ℕ) (t : Result State Stop) → IsWhole m → 2139095040 ≤ reg m Sp → reg m Sp < 4294967296 → sp ≡ sub32 (reg m Sp) 4
     → register_set m Sp sp ≡ t → (t >>= λ (n : State). touched n sp Long >>= λ (r : Region). Ok n) ≡ Ok k → Reserved m k 1
-one_by m k sp (Err e) whole low fits is set done = absurd (no_state e k done)
+one_by m k sp (Err e) whole low fits is set done = absurd (err_ok e k done)
 one_by m k sp (Ok n) whole low fits is set done = by (touched n sp Long) refl done
   where
     by : (t : Result Region Stop) → touched n sp Long ≡ t → (t >>= λ (r : Region). Ok n) ≡ Ok k → Reserved m k 1
-    by (Err e) touch done = absurd (no_state e k done)
+    by (Err e) touch done = absurd (err_ok e k done)
     by (Ok r) touch done =
         let s = set_sp m n sp whole set in
         let lowered : sp + 4 ≡ reg m Sp = omega (arith, is, low, fits, s.0) in
@@ -147,7 +142,7 @@ further m n k count h g =
 
 all_by : (m n : State) (count : ℕ) (t : Result State Stop) → IsWhole m → 2139095040 ≤ reg m Sp → reg m Sp < 4294967296 → reserved m ≡ t → (t >>= λ (x : State). all_reserved count x) ≡ Ok n
     → ((k : State) → IsWhole k → 2139095040 ≤ reg k Sp → reg k Sp < 4294967296 → all_reserved count k ≡ Ok n → Reserved k n count) → Reserved m n (suc count)
-all_by m n count (Err e) whole low fits one done rest = absurd (no_state e n done)
+all_by m n count (Err e) whole low fits one done rest = absurd (err_ok e n done)
 all_by m n count (Ok k) whole low fits one done rest =
     let r = one_reserved m k whole low fits one in
     let lowered = r.lowered in
