@@ -1,10 +1,10 @@
 -- The numbers that a line spells are longwords.
-use Rattle.std.proofs.Common.{◌≡◌, ℕ, ◌+◌, ◌-◌, ◌*◌, ◌^◌, ◌<◌, ◌≤◌, ◌⊎◌, inl, inr, ◌++◌, Bool, true, false, cond, List, [], ◌∷◌, Option, Some, None, refl, sym, ap, subst, ◌∙◌, arith}
+use Rattle.std.proofs.Common.{◌≡◌, ℕ, ◌+◌, ◌-◌, ◌^◌, ◌<◌, ◌⊎◌, inl, inr, ◌++◌, Bool, true, false, cond, List, [], ◌∷◌, Option, Some, None, refl, ap, subst, arith}
 use Rattle.std.specs.Prelude.{nat_le, ◌&&◌}
 use Rattle.std.specs.Option.{option_and_then, option_map}
 use Rattle.std.specs.List.{AllByRecursion}
 use Rattle.std.proofs.lemmas.Bool.{leb-true}
-use Rattle.std.proofs.lemmas.Option.{none-some, same_Some}
+use Rattle.std.proofs.lemmas.Option.{none-some, same_Some, cond_some}
 use Rattle.gg_base.proofs.Facts.{first_true}
 use Rattle.md_reader_pieces.specs.declared.piece.Piece.{Piece}
 use Rattle.vax_core.specs.declared.op.Op.{Op}
@@ -26,9 +26,9 @@ use Rattle.vax_templates.specs.Marks.{marks_of, either, strip, hole_front, numbe
 use Rattle.vax_templates.specs.Forms.{of_symbol, itself, number_spelled, of_number, of_hole, alone, near, far, deferred_front, negative_hole, immediate_front, named_front}
 use Rattle.vax_templates.specs.Forms.{base_front, index_front, with_index, indexed, form_front}
 use Rattle.vax_templates.specs.Instructions.{Instruction, Relation, Jump, Calls, Ret, Operates, forms_from, only, behind_blank, is_label, is_call, is_empty, jumps, operates}
-use Rattle.vax_templates.specs.Instructions.{behind, relation_behind, relation, with_op, word_of, marks_behind, read_behind, instruction_of, whole, shape_of_pieces}
+use Rattle.vax_templates.specs.Instructions.{behind, relation_behind, relation, with_op, word_of, marks_behind, instruction_of, whole, shape_of_pieces}
 use Rattle.vax_target_operands.specs.Places.{IsShort, BaseIsShort}
-use Rattle.vax_target_operands.proofs.Machine.{mapped, then_some, cond_some}
+use Rattle.vax_target_operands.proofs.Machine.{mapped, then_some}
 
 -- ---- readings
 

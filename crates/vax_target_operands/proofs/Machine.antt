@@ -1,15 +1,14 @@
 -- What an operand reads and names is what the machine finds.
-use Rattle.std.proofs.Common.{◌≡◌, ℕ, ◌+◌, ◌-◌, ◌*◌, ◌^◌, ◌<◌, ◌≤◌, Bool, true, false, cond, List, length, Option, Some, None, Result, Ok, Err, refl, sym, ap, subst, ◌∙◌, arith}
+use Rattle.std.proofs.Common.{◌≡◌, ℕ, ◌+◌, ◌-◌, ◌^◌, Bool, true, false, length, Option, Some, None, Result, Ok, Err, refl, ap, ◌∙◌}
 use Rattle.std.specs.Prelude.{nat_lt, nat_le}
 use Rattle.std.specs.Option.{option_map, option_and_then}
 use Rattle.std.proofs.lemmas.Bool.{leb-true}
-use Rattle.std.proofs.lemmas.Option.{none-some, same_Some}
+use Rattle.std.proofs.lemmas.Option.{none-some, same_Some, cond_some}
 use Rattle.gg_base.proofs.Facts.{first_true, second_true}
 use Rattle.gg_base.specs.declared.size.Size.{Size}
-use Rattle.gg_base.specs.declared.size.Size.TheVariants.{Byte, Word, Long}
+use Rattle.gg_base.specs.declared.size.Size.TheVariants.{Long}
 use Rattle.gg_base.specs.Sizes.{bytes_of}
 use Rattle.gg_base.specs.LittleEndian.{number_in}
-use Rattle.gg_base.specs.Arithmetic.{add32, mul32}
 use Rattle.tree_core.specs.Area as trees
 use Rattle.vax_core.specs.declared.register.Reg.{Reg}
 use Rattle.vax_core.specs.declared.operand.Addr.{Addr}
@@ -37,10 +36,6 @@ mapped f (Some x) y e = (x, refl, same_Some (f x) y e)
 pub then_some : {X Y : Type 0} (f : X → Option Y) (o : Option X) (y : Y) → option_and_then f o ≡ Some y → (x : X) × (o ≡ Some x) × (f x ≡ Some y)
 then_some f None y e = absurd (none-some y e)
 then_some f (Some x) y e = (x, refl, e)
-
-pub cond_some : {X : Type 0} (b : Bool) (x y : X) → cond b (Some x) None ≡ Some y → (b ≡ true) × (x ≡ y)
-cond_some true x y e = (refl, same_Some x y e)
-cond_some false x y e = absurd (none-some y e)
 
 pub longword_is : (n a : ℕ) → longword n ≡ Some a → n ≡ a
 longword_is n a e = (cond_some (nat_lt n (2 ^ 32)) n a e).1
