@@ -5,17 +5,12 @@ use Rattle.std.specs.List.{AllByRecursion}
 use Rattle.std.proofs.lemmas.Bool.{false_from_ne_true}
 use Rattle.vax_machine_lists.proofs.Longwords.{all_bytes}
 use Rattle.gg_base.specs.Sizes.{bytes_of}
+use Rattle.gg_base.proofs.Facts.{slice_some}
 use Rattle.vax_target_meaning.specs.Reading.{is_own_place, names, reads}
 use Rattle.vax_target_meaning.specs.Vax.{extent_of}
 use Rattle.vax_target_reading.specs.Laws.{OperandsRead}
 use Rattle.vax_target_reading.proofs.Small.{below, names_below, reads_below}
 use Rattle.vax_target_reading.proofs.Places.{by_names, of_names, own_spells_none, word_is_read, local_is_read, argument_is_read, argument_is_named, word_is_named, area_is_read, area_is_read_back}
-
--- an element within a list
-nth : (xs : List ℕ) (k : ℕ) → k < length xs → (x : ℕ) × (slice_get xs k ≡ Some x)
-nth [] k lt = absurd (omega arith)
-nth (x ∷ xs) zero lt = (x, refl)
-nth (x ∷ xs) (suc k) lt = nth xs k (omega arith)
 
 within : (xs : List ℕ) (k x : ℕ) → slice_get xs k ≡ Some x → k < length xs
 within [] k x e = absurd (cc)
@@ -40,6 +35,6 @@ operands_read = record {
   local_named = λ q f fs t k m h lt low. word_is_named q.objects (extent_of f) (map extent_of fs) t m h k low;
   argument_read = λ q f fs t k x m h is. argument_is_read q.objects (extent_of f) (map extent_of fs) t m h k x (within t.running.arguments k x is) is;
   argument_there = λ q f fs t k m h lt.
-      let n = nth t.running.arguments k lt in some _ n.0 (argument_is_read q.objects (extent_of f) (map extent_of fs) t m h k n.0 lt n.1);
+      let n = slice_some t.running.arguments k lt in some _ n.0 (argument_is_read q.objects (extent_of f) (map extent_of fs) t m h k n.0 lt n.1);
   argument_named = λ q f fs t k m h lt. argument_is_named q.objects (extent_of f) (map extent_of fs) t m h k lt;
 }
