@@ -1,5 +1,6 @@
 -- A line that puts something into `%0` leaves nothing else to the next.
 use Rattle.std.proofs.Common.{◌≡◌, ℕ, ◌&&◌, Bool, cond, Option, Some, None, Ok, Err, List, refl}
+use Rattle.std.proofs.lemmas.Option.{none-some}
 use Rattle.md_reader_pieces.specs.declared.piece.Piece.{Piece}
 use Rattle.term_core.specs.Shape.{Shape, Constant}
 use Rattle.sel_terms.specs.Effects as effects
@@ -29,11 +30,8 @@ use Rattle.vax_target_writing.proofs.Each.{EachOk, bind_each, always_ok, if_ok, 
 abbrev pub IsPlain : Deed → Type 0
 IsPlain d = (t : Shape) → d.own ≡ Some t → d.last ≡ Plain
 
-no_some : (t : Shape) → None ≡ Some t → ⊥
-no_some t e = cc
-
 none_own : (l : Last) → IsPlain (leaves l)
-none_own l t e = absurd (no_some t e)
+none_own l t e = absurd (none-some t e)
 
 put_plain : (op : Op) (to : Option Target) (t : Shape) → EachOk IsPlain (put op to t)
 put_plain op None t = tt
