@@ -1,12 +1,12 @@
 -- What instructions compute of longwords are longwords.
-use Rattle.std.proofs.Common.{◌≡◌, ℕ, ◌+◌, ◌-◌, ◌*◌, ◌/◌, ◌%◌, ◌^◌, ◌<◌, ◌≤◌, Bool, true, false, cond, Option, Some, None, arith}
+use Rattle.std.proofs.Common.{ℕ, ◌+◌, ◌-◌, ◌*◌, ◌/◌, ◌%◌, ◌^◌, ◌<◌, Bool, true, false, cond, Option, Some, None, arith}
 use Rattle.std.specs.Int.Bits.{and_lt}
 use Rattle.std.proofs.lemmas.Nat.{or_lt, xor_lt, mod_below}
 use Rattle.std.proofs.Math.Nat.{div-le_self}
 use Rattle.gg_base.specs.declared.size.Size.{Size}
 use Rattle.gg_base.specs.declared.size.Size.TheVariants.{Byte, Word, Long}
-use Rattle.gg_base.specs.Arithmetic.{add32, sub32, mul32, and32, or32, xor32, neg32, com32, sext8, sext16, zext8, zext16, magnitude, same_sign, div32}
-use Rattle.gg_base.proofs.Words.{neg_small, shifted_left_small, shifted_right_small, ash_small, magnitude_small}
+use Rattle.gg_base.specs.Arithmetic.{add32, sub32, mul32, neg32, com32, zext8, zext16, magnitude, same_sign, div32}
+use Rattle.gg_base.proofs.Words.{neg_small, ash_small, magnitude_small}
 use Rattle.vax_machine.specs.declared.function.Computed.{Computed}
 use Rattle.vax_machine.specs.declared.function.Function.{Function}
 use Rattle.vax_machine.specs.declared.function.Function.TheVariants as functions
@@ -35,7 +35,7 @@ merged_small Byte old v h g = omega (arith, h)
 merged_small Word old v h g = omega (arith, h)
 merged_small Long old v h g = g
 
-either_small : (b : Bool) (x y : ℕ) → x < 2 ^ 32 → y < 2 ^ 32 → cond b x y < 2 ^ 32
+pub either_small : (b : Bool) (x y : ℕ) → x < 2 ^ 32 → y < 2 ^ 32 → cond b x y < 2 ^ 32
 either_small true x y h g = h
 either_small false x y h g = g
 

@@ -55,7 +55,7 @@ use Rattle.vax_machine.specs.Calls.{putchar, getchar, got, silent, called_by_nam
 use Rattle.vax_machine.specs.Step.{finished, pushing, branched, acted, instruction, at_item, act, next_of, next_where}
 use Rattle.vax_machine_lists.specs.Sound.{AllBelow, IsSound, AreSaved, IsRunning, Behind, StepsStaySound}
 use Rattle.vax_machine_lists.proofs.Longwords.{length-with_any, with_below, below_take, below_drop, below_set, below_get, long_below}
-use Rattle.vax_machine_lists.proofs.Numbers.{add_small, sub_small, low_small, merged_small, SmallResult, applied_small}
+use Rattle.vax_machine_lists.proofs.Numbers.{add_small, sub_small, low_small, merged_small, SmallResult, applied_small, either_small}
 
 -- ---- parts of a state that are changed
 
@@ -473,13 +473,9 @@ called_running m count place back h =
     (λ n g. framed_running n (reg n Sp) (entry_mask (slice_get n.items (next_item n.items place))) (next_item n.items place) back g (reg_small n Sp g))
     (pushed_running m count h)
 
-restored_by : (b : Bool) (x y : ℕ) → x < 2 ^ 32 → y < 2 ^ 32 → cond b x y < 2 ^ 32
-restored_by true x y h g = h
-restored_by false x y h g = g
-
 restored_small : (m : State) (f : Frame) (r : ℕ) → IsRunning m → AllBelow (2 ^ 32) f.saved → restored m f r < 2 ^ 32
 restored_small m f r h g =
-    restored_by ((f.mask / 2 ^ r) % 2 == 1) (slice_index f.saved r) (slice_index m.registers r) (below_get (2 ^ 32) r f.saved (omega arith) g)
+    either_small ((f.mask / 2 ^ r) % 2 == 1) (slice_index f.saved r) (slice_index m.registers r) (below_get (2 ^ 32) r f.saved (omega arith) g)
     (below_get (2 ^ 32) r m.registers (omega arith) h.sound.longwords)
 
 left_running : (m : State) (f : Frame) (count : ℕ) → IsRunning m → AllBelow (2 ^ 32) f.saved → IsRunning (left m f count)
