@@ -41,7 +41,7 @@ use Rattle.vax_machine.proofs.Room.{same_state}
 use Rattle.vax_frames_law.specs.Guarding.{has, may_pass, IsGuarded, IsIntact, AreIntact, outermost, inner, KeepsRegisters, StepsKeep, ReturnsRestore, CallsSave, RunsBeginIntact}
 use Rattle.vax_machine_lists.specs.Kept.{Same, KeptAt}
 use Rattle.vax_machine_lists.proofs.Registers.{same, trans, register_kept, frames_kept}
-use Rattle.vax_frames_law.proofs.Returning.{innermost_of}
+use Rattle.vax_frames_law.proofs.Returning.{innermost_of, some_acts}
 
 -- other registers and another place of the same function
 intact_moved : (code : List CodeItem) (mask_at : ℕ → ℕ) (frames : List Frame) (place to : ℕ) (old new : List ℕ) → AreIntact code mask_at frames place old
@@ -200,9 +200,6 @@ called_makes k n count place back done = by (pushed k count) (all_pushed k count
     by (Err e) h done = absurd (err_ok e n done)
 
 -- ---- what a return leaves
-
-some_acts : (x y : Option ℕ × State) → ◌≡◌ {A = Acts} (Ok x) (Ok y) → x.1 ≡ y.1
-some_acts x y e = cc
 
 pub record Backs (m n : State) (outer : List Frame) (f : Frame) : Type 0 where
   pub place : ℕ

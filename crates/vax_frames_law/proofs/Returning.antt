@@ -16,7 +16,7 @@ use Rattle.vax_machine.specs.declared.turn.Stop.{Stop}
 use Rattle.vax_machine.specs.declared.turn.Stop.TheVariants.{Ended}
 use Rattle.vax_machine.specs.State.{State, reg, frame, ◌>>=◌}
 use Rattle.vax_machine.specs.Memory.{touched, read}
-use Rattle.vax_machine.specs.Calls.{restored, back_to, left, returned_from, returned}
+use Rattle.vax_machine.specs.Calls.{restored, back_to, left, returned_from, returned, Acts}
 use Rattle.tree_core.specs.declared.program.Object.{Object}
 use Rattle.tree_meaning.specs.State.{Activation}
 use Rattle.tree_meaning.specs.State.{State as Trees}
@@ -48,6 +48,9 @@ low_byte bytes at n lt e =
     sym (get_or-take 4 (drop at bytes) 0 0 (omega arith) ∙ get_or-drop at bytes 0 0 ∙ ap (λ (i : ℕ). slice_index bytes i) z) ∙ low_of_four (take 4 (drop at bytes)) n lt e
 
 -- ---- the innermost frame
+
+pub some_acts : (x y : Option ℕ × State) → ◌≡◌ {A = Acts} (Ok x) (Ok y) → x.1 ≡ y.1
+some_acts x y e = cc
 
 pub innermost_of : (m : State) (all outer : List Frame) (f : Frame) → all ≡ outer ++ f ∷ []
     → returned_from m (take (length all - 1) all) (slice_get all (length all - 1)) ≡ returned_from m outer (Some f)

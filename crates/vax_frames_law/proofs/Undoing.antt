@@ -14,10 +14,10 @@ use Rattle.vax_machine.specs.declared.memory.Region.TheVariants as regions
 use Rattle.vax_machine.specs.State.{State, reg, with_reg, cleared, frame, bad_code, stack_full, ◌>>=◌}
 use Rattle.vax_machine.specs.Memory.{touched, read, written, register_set, with_number_at}
 use Rattle.vax_machine.specs.Labels.{next_item}
-use Rattle.vax_machine.specs.Calls.{Acts, pushed, reserved, all_reserved, entry_mask, entered, framed, called, back_to, left, returned}
+use Rattle.vax_machine.specs.Calls.{pushed, reserved, all_reserved, entry_mask, entered, framed, called, back_to, left, returned}
 use Rattle.vax_machine.proofs.Room.{same_state}
 use Rattle.vax_frames_law.specs.Undoing.{Notes, CallsNote, ReturnsUndo}
-use Rattle.vax_frames_law.proofs.Returning.{innermost_of}
+use Rattle.vax_frames_law.proofs.Returning.{innermost_of, some_acts}
 
 -- all registers but sp are the same, and the live frames
 record Lowered (m n : State) : Type 0 where
@@ -166,9 +166,6 @@ calls_note m n count place back size done = by (pushed m count) (pushed_to m cou
     by (Err e) h done = absurd (err_ok e n done)
 
 -- ---- a return
-
-some_acts : (x y : Option ℕ × State) → ◌≡◌ {A = Acts} (Ok x) (Ok y) → x.1 ≡ y.1
-some_acts x y e = cc
 
 record Pops (r : State) (outer : List Frame) (f : Frame) (count : ℕ) : Type 0 where
   frames : r.frames ≡ outer
