@@ -59,7 +59,7 @@ of_shape s holes k ls l e P h is =
 
 -- ---- what a shape may stand for
 
-place_fits : (o : Operand) → IsMemory o → is_place o ≡ true
+pub place_fits : (o : Operand) → IsMemory o → is_place o ≡ true
 place_fits o h = and_from _ _ (memory_of_steady o.base h.memory) (readable_memory o h)
 
 module _ (q : TreeProgram) (s : Setting) (holes : List Hole) (hs : List (Attr Operand)) (spell : AllSpell q holes hs × OwnSpells q s.own attr.Nothing) where

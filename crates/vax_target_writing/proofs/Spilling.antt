@@ -1,6 +1,5 @@
 -- The laws: lines of rules, lines that save and reload, and slots.
-use Rattle.std.proofs.Common.{◌≡◌, true, [], ◌∷◌, Some, None, Ok, refl}
-use Rattle.std.proofs.lemmas.Bool.{and_from}
+use Rattle.std.proofs.Common.{◌≡◌, [], ◌∷◌, Some, None, Ok, refl}
 use Rattle.gg_base.specs.declared.size.Size.{Size}
 use Rattle.tree_core.specs.declared.program.TreeProgram.{TreeProgram}
 use Rattle.md_reader_pieces.specs.declared.piece.Line.{Line}
@@ -17,14 +16,14 @@ use Rattle.vax_core.specs.declared.operand.Operand.{Operand}
 use Rattle.vax_core.specs.Homes.{home, at_home}
 use Rattle.vax_templates.specs.Settings.{holes_of, setting_of, saved_hole, saved_own, saved_setting}
 use Rattle.vax_templates.specs.Found.{found, saved_found, saved_give}
-use Rattle.vax_target_meaning.specs.Fitting.{is_place}
 use Rattle.vax_target_meaning.specs.Vax.{vax}
 use Rattle.vax_target_writing.specs.Laws.{LinesAreWritten, SlotsFit, SpillsAreWritten, IsValid}
 use Rattle.vax_target_writing.proofs.Each.{all_of_map}
-use Rattle.vax_target_writing.proofs.Operands.{IsMemory, Spells, OwnSpells, readable_memory, writable_memory, memory_of_steady}
+use Rattle.vax_target_writing.proofs.Operands.{Spells, OwnSpells, readable_memory, writable_memory}
 use Rattle.vax_target_writing.proofs.Fitting.{home_memory, at_home_plain, memory, plain, all_spell, own_spells}
 use Rattle.vax_target_writing.proofs.Naming.{all_names, spill_names}
 use Rattle.vax_target_writing.proofs.Written.{template_written}
+use Rattle.vax_target_writing.proofs.Given.{place_fits}
 
 pub lines_are_written : LinesAreWritten
 unfolding found
@@ -33,9 +32,6 @@ lines_are_written q classes rule e hs res can is taken fit sp result =
     (template_written q (setting_of classes rule) (holes_of classes rule.right) hs res (kind_at classes rule.left) rule.lines rule.give e
     (all_names q classes rule.right hs (has_register (Some rule.give)) rule.lines can fit sp is.template.written)
     (all_spell q can classes rule.right hs fit sp, own_spells q can rule.give hs res result) taken)
-
-place_fits : (o : Operand) → IsMemory o → is_place o ≡ true
-place_fits o h = and_from _ _ (memory_of_steady o.base h.memory) (readable_memory o h)
 
 pub slots_fit : SlotsFit
 slots_fit = record {
