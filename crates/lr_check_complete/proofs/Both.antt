@@ -20,9 +20,10 @@ use Rattle.lr_check_found.specs.Items.{HasOne, HasTwo, Begun, Made, HasMade}
 use Rattle.lr_check_found.specs.Sound.{IsFound}
 use Rattle.lr_check_found.specs.Adding.{list_number}
 use Rattle.lr_check_found.proofs.Deriving.{IsSum, sum_of}
+use Rattle.lr_check_found.proofs.Added.{list_is}
 use Rattle.lr_check_complete.specs.Kids.{FirstSum, FirstsIn, HasListAt, TwoKids, TwoIn, SecondIn, SecondAt, FirstIn, IsFrame}
 use Rattle.lr_check_complete.specs.Seconds.{SecondKid, SecondFound}
-use Rattle.lr_check_complete.proofs.Kids_found.{HeldSum, sum_held, list_is}
+use Rattle.lr_check_complete.proofs.Kids_found.{HeldSum, sum_held}
 
 -- where a look finds nothing, nothing is there
 pub not_there : {X : Type 0} (xs ys : List X) (k : ℕ) (x : X) → xs ≡ ys → false ≡ nat_lt k (length xs) → slice_get ys k ≡ Some x → ⊥

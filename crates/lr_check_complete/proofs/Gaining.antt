@@ -16,9 +16,10 @@ use Rattle.lr_check_found.specs.Items.{HasTwo, Begun}
 use Rattle.lr_check_found.specs.Sound.{IsFound}
 use Rattle.lr_check_found.specs.Adding.{list_number}
 use Rattle.lr_check_found.proofs.Below.{Below, none_below, one_more_at, of_all}
+use Rattle.lr_check_found.proofs.Added.{list_is}
 use Rattle.lr_check_complete.specs.Kids.{FirstSum, FirstsIn, HasListAt}
 use Rattle.lr_check_complete.specs.Firsts.{HasListOf, AddsList, AddsLists, FirstKid, FirstAt, SumOf}
-use Rattle.lr_check_complete.proofs.Kids_found.{HeldSum, held_sum, sum_held, list_is}
+use Rattle.lr_check_complete.proofs.Kids_found.{HeldSum, held_sum, sum_held}
 
 -- ---- one list
 

@@ -1,5 +1,5 @@
 -- Kids that were found, as items.
-use Rattle.std.proofs.Common.{◌≡◌, ℕ, List, [], ◌∷◌, ◌++◌, Option, Some, Contains, slice_get, refl, sym, ap, ◌∙◌, subst}
+use Rattle.std.proofs.Common.{◌≡◌, ℕ, List, [], ◌∷◌, ◌++◌, Contains, refl, sym, ◌∙◌, subst}
 use Rattle.std.specs.Prelude.{slice_index_or}
 use Rattle.std.proofs.lemmas.Option.{same_Some}
 use Rattle.tree_core.specs.declared.token.Tok.{Tok}
@@ -7,26 +7,23 @@ use Rattle.tree_core.specs.declared.token.Sort.{Sort}
 use Rattle.md_reader.specs.declared.types.Sym.{Sym}
 use Rattle.md_reader.specs.declared.types.Sym.TheVariants as grammar_symbol
 use Rattle.lr_check_sets.specs.Trees.{May}
-use Rattle.lr_check_sets.specs.Automaton.{Automaton, walk}
+use Rattle.lr_check_sets.specs.Automaton.{Automaton}
 use Rattle.lr_check_sets.specs.Sums as sets
+use Rattle.lr_check_sets.proofs.Whole_ends.{sum_walk}
 use Rattle.lr_check_found.specs.declared.places.Place.{Place}
 use Rattle.lr_check_found.specs.declared.places.Origin.TheVariants as origin
-use Rattle.lr_check_found.specs.declared.settlings.Settling.{Settling}
 use Rattle.lr_check_found.specs.declared.settlings.How.TheVariants as how
 use Rattle.lr_check_found.specs.Lists.{IsList}
 use Rattle.lr_check_found.specs.Found.{FoundView, place_of, IsPlaceAt, SumAt, Settles}
 use Rattle.lr_check_found.specs.Items.{HasOne, Begun, Made, HasMade}
 use Rattle.lr_check_found.specs.Sound.{IsSoundSettling, IsFound}
-use Rattle.lr_check_found.specs.Adding.{list_number, number_in}
+use Rattle.lr_check_found.specs.Adding.{list_number}
+use Rattle.lr_check_found.proofs.Added.{list_is}
 use Rattle.lr_check_complete.specs.Kids.{OneKid, OneIn, OnlyAt}
 
 -- a place has one number
 pub one_place : (A : Automaton) (f : FoundView) (n m : ℕ) (x : Place) → IsFound A f → IsPlaceAt f n x → IsPlaceAt f m x → n ≡ m
 one_place A f n m x found a b = same_Some n m (sym (found.numbered n x a) ∙ found.numbered m x b)
-
--- a sum leads to a state
-leads : (A : Automaton) (q : ℕ) (k t : Tok) (s : List Sym) → sets.Sum A q k t s → (p : ℕ) × (walk A q s ≡ Some p)
-leads A q k t s (sets.sum {p = p} c set ws f o) = (p, ws)
 
 -- a sum that is held at a place
 pub record HeldSum (f : FoundView) (i : ℕ) (y : Place) : Type 0 where
@@ -39,7 +36,7 @@ held_sum A f n i y found at c =
     let h = found.sums n i c in
     let e : IsSoundSettling A f i h.entry = found.settlings i h.entry h.there in
     let place : IsPlaceAt f h.entry.place y = subst (λ k. IsPlaceAt f k y) (sym h.place) at in
-    let l = leads A e.place.state e.place.token e.place.behind e.list (e.sum h.is_sum) in
+    let l = sum_walk (e.sum h.is_sum) in
     record {
       list = e.list;
       behind = l.0;
@@ -50,10 +47,6 @@ held_sum A f n i y found at c =
 pub sum_held : (A : Automaton) (f : FoundView) (n i j : ℕ) (y : Place) (s : List Sym) → IsFound A f → IsPlaceAt f n y → SumAt f i y s j → Contains (slice_index_or f.sums n []) i
 sum_held A f n i j y s found at h =
     subst (λ k. Contains (slice_index_or f.sums k []) i) (one_place A f h.entry.place n y found h.place at) (found.all_sums i h.entry h.there h.is_sum)
-
--- the list of a sum
-pub list_is : (f : FoundView) (i j : ℕ) (y : Place) (s : List Sym) → SumAt f i y s j → IsList f.lists (list_number f i) s
-list_is f i j y s h = ap (λ (o : Option Settling). slice_get f.lists.all (number_in o)) h.there ∙ h.list
 
 -- ---- one kid
 

@@ -30,15 +30,16 @@ pub record Parts (f : FoundView) (x : Place) (h : How) (s : List Sym) : Type 0 w
   pub at_lower : IsList f.lists (lower_of f h) lower
   pub whole : list_of x.token h upper lower ≡ s
 
-kid_list : (f : FoundView) (i : ℕ) (y : Place) (s : List Sym) (p : ℕ) → SumAt f i y s p → IsList f.lists (list_number f i) s
-kid_list f i y s p h = ap (λ (o : Option Settling). slice_get f.lists.all (number_in o)) h.there ∙ h.list
+-- the list of a sum
+pub list_is : (f : FoundView) (i : ℕ) (y : Place) (s : List Sym) (p : ℕ) → SumAt f i y s p → IsList f.lists (list_number f i) s
+list_is f i y s p h = ap (λ (o : Option Settling). slice_get f.lists.all (number_in o)) h.there ∙ h.list
 
 pub parts_of : (A : Automaton) (f : FoundView) (n : ℕ) (x : Place) (h : How) (s : List Sym) → IsFound A f → Made A f n x h s → Parts f x h s
 parts_of A f n x _ _ found (leaf go kid) = record { upper = []; lower = []; at_upper = found.lists.first; at_lower = found.lists.first; whole = refl }
 parts_of A f n x _ _ found (one {i = i} {j = j} {y = y} {s = s} h sum k) =
-    record { upper = s; lower = []; at_upper = kid_list f i y s j sum; at_lower = found.lists.first; whole = refl }
+    record { upper = s; lower = []; at_upper = list_is f i y s j sum; at_lower = found.lists.first; whole = refl }
 parts_of A f n x _ _ found (two {i = i} {k = k} {j = j} {h = c} {y = y} {z = z} {s = s} {u = u} h sum g sum' g') =
-    record { upper = u; lower = s; at_upper = kid_list f k z u c sum'; at_lower = kid_list f i y s j sum; whole = refl }
+    record { upper = u; lower = s; at_upper = list_is f k z u c sum'; at_lower = list_is f i y s j sum; whole = refl }
 parts_of A f n x _ _ found (made_by_reduction e r there same list behind free size) =
     record { upper = []; lower = []; at_upper = found.lists.first; at_lower = found.lists.first; whole = refl }
 

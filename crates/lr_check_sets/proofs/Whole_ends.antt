@@ -21,8 +21,9 @@ use Rattle.lr_check_sets.proofs.Beginnings.{begins_first, behind, onto-first, sh
 use Rattle.lr_check_sets.proofs.Shapes.{sum_tree}
 use Rattle.lr_check_sets.proofs.Whole_sets.{sum_back, inside_or_whole, some_size, settling_part}
 
-sum_walk_w : {A : Automaton} {q : ℕ} {k t : Tok} {s : List Sym} → Sum A q k t s → (p : ℕ) × (walk A q s ≡ Some p)
-sum_walk_w (sum {p = p} c h e f o) = (p, e)
+-- a sum leads to a state
+pub sum_walk : {A : Automaton} {q : ℕ} {k t : Tok} {s : List Sym} → Sum A q k t s → (p : ℕ) × (walk A q s ≡ Some p)
+sum_walk (sum {p = p} c h e f o) = (p, e)
 
 -- without trees to come the next token is the one behind
 no_more : {xs : List Sort} (vs : Trees xs) → xs ≡ [] → (t : Tok) (w : List Tok) → (first vs t ≡ t) × (onto_all vs w ≡ w)
@@ -92,7 +93,7 @@ module _ (G : List Production) (A : Automaton) (no_end : HasNoEnd G) (no_empty :
         (λ s' h i. subst (λ y. Ends A (s' ++ a) y) e (cont s' h (λ r m wm f le. subst (λ y. Ends A (reduced r s' ++ a) y) (sym e) (i r m wm f le)))))
     trees_end (more_trees {x = x} {xs = xs} v vs) q k t s a u w p e at ws part inner cont =
         tree_ends v p (s ++ a) (first vs t) (behind vs u w) (onto_all vs w) (onto-first vs t u w e) (walk-append A 0 q s a at ∙ ws) (at_kid part ws (begins_first vs t))
-        (λ s' h i. let there : (p' : ℕ) × (walk A p s' ≡ Some p') = sum_walk_w h in
+        (λ s' h i. let there : (p' : ℕ) × (walk A p s' ≡ Some p') = sum_walk h in
         subst (λ y. Ends A y (onto_all vs w)) (append_assoc s' s a)
         (trees_end vs q k t (s' ++ s) a u w there.0 e at (walk-append A q p s' s ws ∙ there.1) (with_kid part ws (begins_first vs t) h)
         (λ none r m wm f lt.
