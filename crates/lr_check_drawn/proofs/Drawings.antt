@@ -18,11 +18,11 @@ use Rattle.lr_check_found.specs.Sound.{IsSoundSettling, IsFound}
 use Rattle.lr_check_samples.specs.Fixed.{IsMadeBy}
 use Rattle.lr_check_samples.specs.Nodes.{IsNode, DrawnKids, kids_leaf, kids_one, kids_two, kids_reduced}
 use Rattle.lr_check_samples.proofs.Making.{AreSame, same_settling, settles_of, MadeLeaf, MadeOne, MadeTwo, MadeReduced, made_leaf, made_one, made_two, made_reduced}
+use Rattle.lr_check_samples.proofs.Drawing.{node_fits}
 use Rattle.lr_check_drawn.specs.Drawing.{DrawingView, IsDrawnAt, AreDrawn}
 use Rattle.lr_check_nodes.specs.Growing.{AreWhole}
 use Rattle.lr_check_drawn.specs.Rising.{HaveNodes}
 use Rattle.lr_check_drawn.specs.Sampled.{Draws, AreSettled}
-use Rattle.lr_check_drawn.proofs.Leaves.{node_fits}
 
 -- how a settling at a place was made
 record MadeSo (A : Automaton) (f : FoundView) (n : ℕ) (h : How) (x : Place) : Type 0 where
@@ -51,7 +51,7 @@ module _ (A : Automaton) (f : FoundView) (nodes : List Node) (found : IsFound A 
       let g : MadeOne A f j x m.list = made_one m.made j refl in
       let same : AreSame y g.kid v g.kid_list h g.behind = same_settling kid_at (settles_of g.sum) in
       fit_one nodes n g.sort (kids x.token) g.has.kid
-      (node_fits nodes n y.token ks own g.sort node (subst (λ (c : Place). May c.token g.sort) (sym same.places) g.fits.may))
+      (node_fits nodes n g.sort node (subst (λ (c : Place). May c.token g.sort) (sym same.places) g.fits.may))
   settled_fit (kids_two {j = j} {k = l} {p = h} {h = o} {n = n} {m = q} {y = y} {z = z} {s = v} {u = u} {ks = ks} {ks' = ks'} {own = own} {own' = own'} by kid_at node kid second_at node' second)
       e at x there =
       let m = made_so by e at x there in
@@ -59,8 +59,8 @@ module _ (A : Automaton) (f : FoundView) (nodes : List Node) (found : IsFound A 
       let same : AreSame y g.kid v g.kid_list h g.behind = same_settling kid_at (settles_of g.sum) in
       let same' : AreSame z g.second u g.second_list o g.last = same_settling second_at (settles_of g.second_sum) in
       fit_two nodes n q g.sort g.second_sort (kids x.token) g.has.kid
-      (node_fits nodes n y.token ks own g.sort node (subst (λ (c : Place). May c.token g.sort) (sym same.places) g.fits.may))
-      (node_fits nodes q z.token ks' own' g.second_sort node' (subst (λ (c : Place). May c.token g.second_sort) (sym same'.places) g.second_fits.may))
+      (node_fits nodes n g.sort node (subst (λ (c : Place). May c.token g.sort) (sym same.places) g.fits.may))
+      (node_fits nodes q g.second_sort node' (subst (λ (c : Place). May c.token g.second_sort) (sym same'.places) g.second_fits.may))
   settled_fit (kids_reduced {j = j} {c = c} by set_at set) e at x there =
       let m = made_so by e at x there in
       let g : MadeReduced A f e.place j c x m.list = made_reduced m.made j c refl in

@@ -1,5 +1,5 @@
 -- Nodes that are whole have trees.
-use Rattle.std.proofs.Common.{◌≡◌, ℕ, zero, suc, ◌<◌, List, [], ◌∷◌, ◌++◌, Option, Some, None, Bool, true, length, slice_get, refl, sym, ap, ◌∙◌, subst, inl, inr, arith, append_assoc, append-nil}
+use Rattle.std.proofs.Common.{◌≡◌, ℕ, zero, suc, ◌<◌, List, [], ◌∷◌, ◌++◌, Option, Some, None, true, length, slice_get, refl, sym, ap, ◌∙◌, subst, inl, inr, arith, append_assoc, append-nil}
 use Rattle.gg_base.proofs.Facts.{slice_some}
 use Rattle.tree_core.specs.declared.token.Tok.{Tok}
 use Rattle.tree_core.specs.declared.token.Sort.{Sort}
@@ -11,19 +11,11 @@ use Rattle.lr_check.specs.Tree.{Node}
 use Rattle.lr_check.specs.Statement.{sort_fits, fits_at, KidsFit}
 use Rattle.lr_check_parse.specs.Typed as parse
 use Rattle.lr_check_samples.specs.Fixed.{leaf, tokens}
-use Rattle.lr_check_samples.specs.Nodes.{Stands, IsNode}
+use Rattle.lr_check_samples.specs.Nodes.{Stands}
 use Rattle.lr_check_samples.proofs.Drawing.{stands_both, stands_node}
 use Rattle.lr_check_samples.proofs.Typing.{may_fits, tokens-append}
 use Rattle.lr_check_nodes.specs.Growing.{AreWhole}
 use Rattle.lr_check_nodes.proofs.Wholes.{fits_within, kids_head, kids_tail, kids_within}
-
--- a node fits where its token may stand
-pub node_fits : (nodes : List Node) (n : ℕ) (k : Tok) (ks : List ℕ) (own : List Bool) (x : Sort) → IsNode nodes n k ks own → May k x → fits_at (slice_get nodes n) x ≡ true
-node_fits nodes n k ks own x there may = ap (λ o. fits_at o x) there ∙ by (sort_of k) may
-  where
-    by : (o : Option Sort) → fits_in o x ≡ true → sort_fits o x ≡ true
-    by None h = h
-    by (Some y) h = h
 
 typed_append : {xs ys : List Sort} {u v : List Tok} → parse.AreTyped xs u → parse.AreTyped ys v → parse.AreTyped (xs ++ ys) (u ++ v)
 typed_append parse.ends g = g

@@ -14,12 +14,12 @@ use Rattle.lr_check_found.specs.declared.places.Origin.TheVariants as origin
 use Rattle.lr_check_found.specs.Found.{FoundView, IsPlaceAt}
 use Rattle.lr_check_samples.specs.Fixed.{IsOrigin}
 use Rattle.lr_check_samples.specs.Nodes.{IsNode}
+use Rattle.lr_check_samples.proofs.Drawing.{node_fits}
 use Rattle.lr_check_nodes.specs.Growing.{AreWhole, HasLast, HasTreeFrom}
 use Rattle.lr_check_nodes.proofs.Wholes.{grows_none, grows_both, node_grows, last_over}
 use Rattle.lr_check_drawn.specs.Rising.{BegunFirst, begun_only, begun_both, BegunSecond, IsBegun, HasBegun, AreBegun, HasToken, HaveNodes, StandsAt, FitsFirst, fits_only}
 use Rattle.lr_check_drawn.specs.Rising.{fits_first, HasFirst, has_only, has_first, over_only, over_first, over_second, up_here, up_more, HasParent, AfterParent, Rising}
 use Rattle.lr_check_drawn.specs.Rising.{HasRisen}
-use Rattle.lr_check_drawn.proofs.Leaves.{node_fits}
 use Rattle.lr_check_drawn.proofs.Begun.{have_nodes_grow, up_grows}
 
 module _ {E : Type 0} where
@@ -52,9 +52,9 @@ module _ (f : FoundView) (n : ℕ) (o : Origin) (is : (q : Origin) → IsOrigin 
   first_fits nodes node i token behind s e tok back = by (begun_as s.place s.there (origin.First i) e).1
     where
       by : BegunFirst f n s.place i → FitsFirst nodes token behind node
-      by (begun_only {y = y} {w = w} lt at one may) = fits_only (ap kids (tok y at) ∙ one) (node_fits nodes node s.place.token s.token.kids s.token.answers w s.token.node may)
+      by (begun_only {y = y} {w = w} lt at one may) = fits_only (ap kids (tok y at) ∙ one) (node_fits nodes node w s.token.node may)
       by (begun_both {y = y} {w = w} {v = v} lt at two may may') =
-          fits_first (ap kids (tok y at) ∙ two) (node_fits nodes node s.place.token s.token.kids s.token.answers w s.token.node may)
+          fits_first (ap kids (tok y at) ∙ two) (node_fits nodes node w s.token.node may)
           (subst (λ (t : Tok). May t v) (sym (back s.place s.there)) may')
 
   -- the parent's place
@@ -112,8 +112,8 @@ module _ (f : FoundView) (n : ℕ) (o : Origin) (is : (q : Origin) → IsOrigin 
       let b : BegunSecond f n s.place i k = (begun_as s.place s.there (origin.Second i k) e).1 in
       let t : HasToken nodes k b.first.token = settled.each k b.behind b.first b.list b.settles in
       fit_two nodes j node b.first_sort b.second_sort (kids token) (ap kids (tok b.parent b.at) ∙ b.two)
-      (subst (λ m. fits_at (slice_get nodes m) b.first_sort ≡ true) (sym same) (node_fits nodes k b.first.token t.kids t.answers b.first_sort t.node b.first_may))
-      (node_fits nodes node s.place.token s.token.kids s.token.answers b.second_sort s.token.node b.second_may)
+      (subst (λ m. fits_at (slice_get nodes m) b.first_sort ≡ true) (sym same) (node_fits nodes k b.first_sort t.node b.first_may))
+      (node_fits nodes node b.second_sort s.token.node b.second_may)
 
   pub second_after : (old new : List Node) (node i k j m : ℕ) (token : Tok) → StandsAt f old n node → o ≡ origin.Second i k → ((y : Place) → IsPlaceAt f i y → token ≡ y.token) → j ≡ k →
       HasLast old new token (j ∷ node ∷ []) [] m → HasParent f old new n node i m
@@ -150,7 +150,7 @@ risen f old now new n top m node begun r h = subst (λ l. HasRisen f old l n top
   up = r.up;
   is_root = h.0;
   last = r.stands.last;
-  statement = node_fits now node r.stands.place.token r.stands.token.kids r.stands.token.answers sort.Stmt r.stands.token.node
+  statement = node_fits now node sort.Stmt r.stands.token.node
       (root_may (begun.each m r.stands.place r.stands.there));
 })
   where

@@ -41,7 +41,7 @@ stands_none : {nodes : List Node} → Stands nodes [] []
 stands_none = record { unfolds = λ rest u h. h }
 
 -- a node fits where its token may stand
-node_fits : (nodes : List Node) (n : ℕ) {k : Tok} {ks : List ℕ} {own : List Bool} (x : Sort) → IsNode nodes n k ks own → May k x → fits_at (slice_get nodes n) x ≡ true
+pub node_fits : (nodes : List Node) (n : ℕ) {k : Tok} {ks : List ℕ} {own : List Bool} (x : Sort) → IsNode nodes n k ks own → May k x → fits_at (slice_get nodes n) x ≡ true
 node_fits nodes n {k = k} x there may = ap (λ o. fits_at o x) there ∙ by (sort_of k) may
   where
     by : (o : _) → fits_in o x ≡ true → sort_fits o x ≡ true
