@@ -15,6 +15,7 @@ use Rattle.lr_check.specs.Parse.{Part, symbols, owner_answers, answer, asked, Ta
 use Rattle.lr_check.specs.Questions.{Taken, first_place, entry_at, answer_of, asked_of, asked_at, question, taken_or}
 use Rattle.lr_check.specs.Questions.{question_at, chosen}
 use Rattle.lr_check.proofs.Parts.{Stands, stands_length, stands_answers, stands_used, symbols_used, answer_left}
+use Rattle.lr_check.proofs.Contained.{here}
 
 -- the rule's right side has symbols, and no more than stand on the stack
 pub record Fits (rules : List Rule) (long n : ℕ) : Type 0 where
@@ -37,9 +38,6 @@ pub place_there : (long size : ℕ) → 0 < size → size ≤ long → first_pla
 place_there long size some le =
     cond-false ((size == 0) || nat_lt long size) None (Some (long - size))
     (or_from (size == 0) (nat_lt long size) (ne_eqb size 0 (λ e. omega (arith, e, some))) (le-ltb long size le))
-
-pub here : {X : Type 0} (x : X) (xs : List X) → Contains (x ∷ xs) x
-here x xs = (0, omega arith, refl)
 
 module _ (t : TableView) (nodes : List Node) where
   take_first : (n : ℕ) (ns : List ℕ) (s parts : List Part) (l : List Entry) → Takes t.content.rules s (n ∷ ns) (Some n) parts → Stands t nodes l parts → symbols parts ≡ symbols s

@@ -35,9 +35,7 @@ use Rattle.lr_check.proofs.Parts.{Stands, bottom, above, stands_length, stands_l
 use Rattle.lr_check.proofs.Choosing.{Fits, Chose, chose, place_there}
 use Rattle.lr_check.proofs.Seen.{seen_start}
 use Rattle.lr_check.proofs.Meaning.{token_at, coming_is, Agrees, Meant, ended, went, length_symbols, goes_some, shift_meant, class_meant}
-
-pub nowhere_in : {X : Type 0} (x : X) → Contains [] x → ⊥
-nowhere_in x h = let lt = h.1 in omega (arith, lt)
+use Rattle.lr_check.proofs.Contained.{nowhere_in}
 
 module _ (t : TableView) (nodes : List Node) (order : List ℕ) (valid : IsValid t.content) (numbered : IsNumbered t) where
   grammar : IsGrammar t.content.rules (stmt_of t.content.classes) (length t.content.classes)

@@ -7,6 +7,7 @@ pub mod Parts
 pub mod Chosen
 pub mod Stepping
 pub mod Choosing
+pub mod Contained
 pub mod Seen
 pub mod Meaning
 pub mod Law

@@ -23,9 +23,7 @@ use Rattle.lr_check.specs.Steps.{Config, tok_of, token_of, After, shifted, seen_
 use Rattle.lr_check.specs.Questions.{answers_of}
 use Rattle.lr_check.proofs.Parts.{Stands, above}
 use Rattle.lr_check.proofs.Seen.{Seen, none_marked, seen_shift, seen_unit, seen_long}
-
-nowhere_in : {X : Type 0} (x : X) → Contains [] x → ⊥
-nowhere_in x h = let lt = h.1 in omega (arith, lt)
+use Rattle.lr_check.proofs.Contained.{nowhere_in}
 
 -- a node's token
 abbrev pub token_at : List Node → ℕ → Token

@@ -1,9 +1,9 @@
 -- A parse ends in one way.
-use Rattle.std.proofs.Common.{◌≡◌, ◌⊎◌, ℕ, zero, suc, ◌+◌, ◌-◌, ◌<◌, List, [], ◌∷◌, ◌++◌, Option, Some, None, true, false, Contains, length, get_or, slice_get}
-use Rattle.std.proofs.Common.{refl, sym, ap, ◌∙◌, subst, inl, inr, ⊎_elim, arith}
+use Rattle.std.proofs.Common.{◌≡◌, ◌⊎◌, ℕ, zero, suc, ◌+◌, ◌-◌, ◌<◌, List, [], ◌∷◌, ◌++◌, Option, Some, None, true, false, Contains, length, slice_get}
+use Rattle.std.proofs.Common.{refl, sym, ap, ◌∙◌, subst, ⊎_elim, arith}
 use Rattle.std.specs.Prelude.{AllPairs}
 use Rattle.std.proofs.lemmas.Bool.{both_ways}
-use Rattle.std.proofs.lemmas.List.Elements.{Contains-append_cases, Contains-append_right}
+use Rattle.std.proofs.lemmas.List.Elements.{Contains-append_right}
 use Rattle.std.proofs.lemmas.Option.{same_Some}
 use Rattle.gg_base.proofs.Facts.{some_none}
 use Rattle.tree_core.specs.declared.token.Tok.{Tok}
@@ -20,22 +20,7 @@ use Rattle.lr_check.specs.declared.sample.Outcome.TheVariants as outcome
 use Rattle.lr_check.specs.Tree.{Node, Token, Unfolds, ends, goes_on}
 use Rattle.lr_check.specs.Parse.{Part, symbols, coming, owner_answers, answer, asked, reduced, Takes, nothing, unrestricted, answered_yes, answered_no, Reduction, Ends, loops}
 use Rattle.lr_check.specs.Parse.{accepts, shifts, reduces, blocks, Replays, is_long, is_parsed}
-
-here : {X : Type 0} (x : X) (xs : List X) → Contains (x ∷ xs) x
-here x xs = (0, omega arith, refl)
-
-pub one_cases : {X : Type 0} (y x : X) → Contains (y ∷ []) x → y ≡ x
-one_cases y x h = by h.0 h.1 h.2
-  where
-    by : (k : ℕ) → k < 1 → get_or (y ∷ []) k x ≡ x → y ≡ x
-    by zero lt e = e
-    by (suc k) lt e = absurd (omega (arith, lt))
-
-pub cons_cases : {X : Type 0} (y : X) (ys : List X) (x : X) → Contains (y ∷ ys) x → (y ≡ x) ⊎ Contains ys x
-cons_cases y ys x h = ⊎_elim (λ a. inl (one_cases y x a)) (λ b. inr b) (Contains-append_cases (y ∷ []) ys x h)
-
-nowhere_in : {X : Type 0} (x : X) → Contains [] x → ⊥
-nowhere_in x h = let lt = h.1 in omega (arith, lt)
+use Rattle.lr_check.proofs.Contained.{here, cons_cases, nowhere_in}
 
 -- two lists in one strict order that have the same elements are the same
 module _ (R : ℕ → ℕ → Type 0) (apart : (m n : ℕ) → R m n → R n m → ⊥) where

@@ -1,14 +1,15 @@
 -- The classes that were on top since a token was shifted or the stack became shorter tell which stacks
 -- stood before.
-use Rattle.std.proofs.Common.{◌≡◌, ◌⊎◌, ℕ, zero, suc, ◌+◌, ◌≤◌, ◌<◌, List, [], ◌∷◌, Bool, true, false, Contains, length, get_or, set, drop, replicate, refl, sym, ap, ◌∙◌, subst}
+use Rattle.std.proofs.Common.{◌≡◌, ◌⊎◌, ℕ, ◌+◌, ◌≤◌, ◌<◌, List, [], ◌∷◌, Bool, true, false, Contains, length, get_or, set, drop, replicate, sym, ap, ◌∙◌, subst}
 use Rattle.std.proofs.Common.{inl, inr, ⊎_elim, arith}
 use Rattle.std.proofs.lemmas.List.{get_or-replicate, get_or_past, get_or-set_same, get_or-set_other, length-replicate}
-use Rattle.std.proofs.lemmas.List.Elements.{Contains-append_cases, Contains-append_right}
+use Rattle.std.proofs.lemmas.List.Elements.{Contains-append_right}
 use Rattle.std.proofs.lemmas.Bool.{cases_lt, cases_eq, both_ways}
 use Rattle.gg_base.proofs.Facts.{nil_cons}
 use Rattle.md_reader.specs.declared.types.Sym.{Sym}
 use Rattle.md_reader.specs.declared.types.Sym.TheVariants as grammar_symbol
 use Rattle.tree_core.specs.declared.token.Tok.{Tok}
+use Rattle.lr_check.proofs.Contained.{here, one_cases, cons_cases}
 
 -- of the stacks that stood, the present one among them, none is shorter than it, and the marks are of
 -- those that differ from it in a class on top
@@ -16,19 +17,6 @@ pub record Seen (seen : List Bool) (a : List Sym) (stood : List (List Sym)) : Ty
   pub there : (c : ℕ) → get_or seen c false ≡ true → Contains stood (grammar_symbol.Class c ∷ drop 1 a)
   pub back : (c : ℕ) → Contains stood (grammar_symbol.Class c ∷ drop 1 a) → get_or seen c false ≡ true
   pub lower : (b : List Sym) → Contains stood b → length a ≤ length b
-
-here : {X : Type 0} (x : X) (xs : List X) → Contains (x ∷ xs) x
-here x xs = (0, omega arith, refl)
-
-one_cases : {X : Type 0} (y x : X) → Contains (y ∷ []) x → y ≡ x
-one_cases y x h = by h.0 h.1 h.2
-  where
-    by : (k : ℕ) → k < 1 → get_or (y ∷ []) k x ≡ x → y ≡ x
-    by zero lt e = e
-    by (suc k) lt e = absurd (omega (arith, lt))
-
-cons_cases : {X : Type 0} (y : X) (ys : List X) (x : X) → Contains (y ∷ ys) x → (y ≡ x) ⊎ Contains ys x
-cons_cases y ys x h = ⊎_elim (λ a. inl (one_cases y x a)) (λ b. inr b) (Contains-append_cases (y ∷ []) ys x h)
 
 there_too : {X : Type 0} (y : X) (ys : List X) (x : X) → Contains ys x → Contains (y ∷ ys) x
 there_too y ys x h = Contains-append_right (y ∷ []) ys x h

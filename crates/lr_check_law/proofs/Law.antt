@@ -1,6 +1,6 @@
 -- Where the parse ends for all answers, the parse with answers accepts, and no stack comes twice without a shift between.
-use Rattle.std.proofs.Common.{◌≡◌, ◌⊎◌, ◌↔◌, ℕ, zero, suc, ◌+◌, ◌-◌, ◌<◌, List, [], ◌∷◌, ◌++◌, Option, Some, None, Bool, true, false, Contains, length, map, drop, slice_get, refl}
-use Rattle.std.proofs.Common.{sym, ap, ◌∙◌, subst, inl, inr, ⊎_elim, arith}
+use Rattle.std.proofs.Common.{◌≡◌, ℕ, zero, suc, ◌+◌, ◌-◌, ◌<◌, List, [], ◌∷◌, ◌++◌, Option, Some, None, Bool, true, false, Contains, length, map, drop, slice_get, refl}
+use Rattle.std.proofs.Common.{sym, ap, ◌∙◌, subst, inl, inr, arith}
 use Rattle.std.proofs.lemmas.List.{drop-map}
 use Rattle.std.proofs.lemmas.Bool.{eqb-true}
 use Rattle.std.specs.Prelude.{◌==◌, if◌then◌else◌}
@@ -18,16 +18,16 @@ use Rattle.lr_tables.specs.View.{TableView}
 use Rattle.lr_tables.specs.Statements.{stmt_of}
 use Rattle.lr_tables.specs.Promises.{IsNumbered}
 use Rattle.lr_tables.specs.Leads.{actions_at}
-use Rattle.lr_tables.specs.Candidates.{StandsBefore, MayReduce, AreReductions, Candidates, accepts, shifts, reduces}
+use Rattle.lr_tables.specs.Candidates.{StandsBefore, AreReductions, Candidates, accepts, shifts, reduces}
 use Rattle.lr_tables.proofs.Members.{In, In-Contains, Contains-In}
 use Rattle.lr_tables.proofs.Law.{candidates}
 use Rattle.lr_tables.proofs.Validity.{is_grammar}
 use Rattle.lr_check_sets.specs.Automaton as model
-use Rattle.lr_check_sets.specs.Automaton.{Production, Candidate, Automaton, shift, reduce, walk, Free, CanBlock, IsTable}
+use Rattle.lr_check_sets.specs.Automaton.{Production, Candidate, shift, reduce, walk, Free, CanBlock, IsTable}
 use Rattle.lr_check_sets.specs.Table.{production, candidates_of, candidates_at, automaton_of, productions}
 use Rattle.lr_check_sets.proofs.Rows.{rule_of, rules_of, candidates_are, leads}
 use Rattle.lr_check_sets.proofs.Tables.{table_of_items}
-use Rattle.lr_check_sets.proofs.Bound.{Path, done, next, Circle, circle, no_circle}
+use Rattle.lr_check_sets.proofs.Bound.{Path, done, next, circle, no_circle}
 use Rattle.lr_check_sets.proofs.Ends_within.{final, tops}
 use Rattle.lr_check_sets.proofs.Whole_ends.{whole_trees_end}
 use Rattle.lr_check_sets.proofs.Meeting.{tables_meet_laws}
@@ -41,8 +41,8 @@ use Rattle.lr_check.specs.declared.sample.Outcome.TheVariants as outcome
 use Rattle.lr_check.specs.Tree.{Token}
 use Rattle.lr_check.specs.Parse as parse
 use Rattle.lr_check.specs.Parse.{Part, symbols, coming, answer, owner_answers, asked, Takes, reduced, Reduction, Ends}
-use Rattle.lr_check.proofs.Law.{nowhere_in}
 use Rattle.lr_check.proofs.Parts.{symbols_used}
+use Rattle.lr_check.proofs.Contained.{nowhere_in}
 
 -- the tokens to come, the end included
 abbrev pub toks : List Token → List Tok

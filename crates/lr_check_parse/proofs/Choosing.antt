@@ -11,7 +11,7 @@ use Rattle.md_reader.specs.declared.types.Sym.{Sym}
 use Rattle.lr_tables.specs.Grammar.{IsGrammar}
 use Rattle.lr_tables.specs.Candidates.{MayReduce}
 use Rattle.lr_check.proofs.Covered.{covers}
-use Rattle.lr_check.proofs.Choosing.{here}
+use Rattle.lr_check.proofs.Contained.{here}
 use Rattle.lr_check_parse.specs.Moves.{Answering, Taken, coming, decided_at, taken, Choice}
 
 -- how many restrictions there are

@@ -20,14 +20,12 @@ use Rattle.lr_tables.proofs.Validity.{is_grammar}
 use Rattle.lr_check.proofs.Covered.{covers, opened, statement_alone}
 use Rattle.lr_check.proofs.Seen.{seen_start, seen_shift, seen_unit, seen_long}
 use Rattle.lr_check.proofs.Falling.{count_most, mark_count}
-use Rattle.lr_check_parse.specs.Moves.{Answering, Move, Shift, Reduce, Ending, Accepts, Blocks, Loops, Refuses, Taken, taken, coming, Choice, Parses}
+use Rattle.lr_check.proofs.Contained.{nowhere_in}
+use Rattle.lr_check_parse.specs.Moves.{Answering, Move, Shift, Reduce, Ending, Accepts, Blocks, Loops, Refuses, taken, coming, Choice, Parses}
 use Rattle.lr_check_parse.specs.Moves as parse
 use Rattle.lr_check_parse.specs.Claims.{HasEnd}
 use Rattle.lr_check_parse.proofs.Choosing.{taken_among}
 use Rattle.lr_check_parse.proofs.Bounds.{left, shift_less, long_less, unit_less, length-drop, one_or_more, Marks}
-
-pub nowhere_in : (a : List Sym) → Contains [] a → ⊥
-nowhere_in a h = (let lt = h.1 in omega (arith, lt))
 
 -- what is left falls
 new_size : (w i : ℕ) (seen new : List Bool) → length new ≡ length seen → left w i new ≡ (2 * w + i) * (length seen + 1) + count_by not new

@@ -14,9 +14,9 @@ use Rattle.lr_check.specs.Tree.{Token}
 use Rattle.lr_check.specs.Parse.{Part, symbols, answer, answers_at, owner_answers, used_at, asked, reduced, Takes, nothing, unrestricted, answered_yes, answered_no, Reduction}
 use Rattle.lr_check.specs.Parse.{Ends, loops, accepts, shifts, reduces, blocks}
 use Rattle.lr_check.specs.Parse as replay
-use Rattle.lr_check.proofs.Choosing.{here}
 use Rattle.lr_check.proofs.Parts.{symbols_used}
-use Rattle.lr_check_parse.specs.Moves.{Move, Shift, Reduce, Ending, Accepts, Blocks, Loops, Refuses, Taken, coming, decided_at, taken, Choice, Parses}
+use Rattle.lr_check.proofs.Contained.{here}
+use Rattle.lr_check_parse.specs.Moves.{Move, Shift, Reduce, Ending, Accepts, Blocks, Loops, Taken, coming, decided_at, taken, Choice, Parses}
 use Rattle.lr_check_parse.specs.Moves as parse
 use Rattle.lr_check_parse.specs.Lists.{Lists, list_at, used, first_of, by_lists, answers_of, EndsSo}
 use Rattle.lr_check_parse.specs.Claims.{HasMoves, IsByLists}

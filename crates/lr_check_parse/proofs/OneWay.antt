@@ -1,11 +1,7 @@
 -- A parse ends in one way.
-use Rattle.std.proofs.Common.{◌≡◌, ◌⊎◌, ℕ, zero, suc, List, [], ◌∷◌, Option, Some, None, Contains, length, drop, slice_get, refl, sym, ap, ◌∙◌, subst, ⊎_elim, arith}
-use Rattle.std.specs.Prelude.{AllPairs}
-use Rattle.std.proofs.lemmas.List.Elements.{Contains-append_right}
+use Rattle.std.proofs.Common.{◌≡◌, ℕ, List, [], ◌∷◌, Option, Some, None, length, drop, slice_get, refl, sym, ap, ◌∙◌, subst}
 use Rattle.std.proofs.lemmas.Option.{same_Some}
-use Rattle.lr_check.proofs.Law.{nowhere_in}
-use Rattle.lr_check.proofs.Only.{cons_cases}
-use Rattle.lr_check.proofs.Choosing.{here}
+use Rattle.lr_check.proofs.Only.{reductions_same}
 use Rattle.gg_base.proofs.Facts.{some_none}
 use Rattle.tree_core.specs.declared.token.Tok.{Tok}
 use Rattle.tree_core.specs.declared.token.Tok.TheVariants as tok
@@ -13,43 +9,9 @@ use Rattle.md_reader.specs.declared.types.Rule.{Rule}
 use Rattle.md_reader.specs.declared.types.Sym.{Sym}
 use Rattle.md_reader.specs.declared.types.Sym.TheVariants as grammar_symbol
 use Rattle.lr_tables.specs.Items.{starts, moves}
-use Rattle.lr_tables.specs.Candidates.{StandsBefore, GoesFirst, AreReductions}
+use Rattle.lr_tables.specs.Candidates.{StandsBefore}
 use Rattle.lr_check_parse.specs.Moves.{Answering, Move, Shift, Reduce, Ending, Taken, taken, coming, Choice, Parses, loops, accepts, shifts, reduces, refuses, blocks}
 use Rattle.lr_check_parse.specs.Claims.{IsOneWay}
-
--- two lists in one strict order that have the same elements are the same
-module _ (R : ℕ → ℕ → Type 0) (apart : (m n : ℕ) → R m n → R n m → ⊥) where
-  pairs_tail : (x : ℕ) (xs : List ℕ) → AllPairs R (x ∷ xs) → AllPairs R xs
-  pairs_tail x xs h = λ i j d lt le. h (suc i) (suc j) d (omega (arith, lt)) (omega (arith, le))
-
-  pairs_head : (x : ℕ) (xs : List ℕ) (y : ℕ) → AllPairs R (x ∷ xs) → Contains xs y → R x y
-  pairs_head x xs y h c = let lt = c.1 in subst (R x) c.2 (h zero (suc c.0) y (omega arith) (omega (arith, lt)))
-
-  same_lists : (ns ms : List ℕ) → AllPairs R ns → AllPairs R ms → ((n : ℕ) → Contains ns n → Contains ms n) → ((n : ℕ) → Contains ms n → Contains ns n) → ns ≡ ms
-  same_lists [] [] p q f g = refl
-  same_lists [] (m ∷ ms) p q f g = absurd (nowhere_in m (g m (here m ms)))
-  same_lists (n ∷ ns) [] p q f g = absurd (nowhere_in n (f n (here n ns)))
-  same_lists (n ∷ ns) (m ∷ ms) p q f g =
-      let same : m ≡ n =
-      ⊎_elim
-      (λ e. e)
-      (λ c. ⊎_elim (λ e. sym e) (λ d. absurd (apart n m (pairs_head n ns m p d) (pairs_head m ms n q c))) (cons_cases n ns m (g m (here m ms))))
-      (cons_cases m ms n (f n (here n ns))) in
-      (λ i. sym same i ∷ same_lists ns ms (pairs_tail n ns p) (pairs_tail m ms q)
-      (λ x c. ⊎_elim (λ e. absurd (let r : R n n = subst (R n) (sym e ∙ same) (pairs_head n ns x p c) in apart n n r r)) (λ d. d) (cons_cases m ms x (f x (Contains-append_right (n ∷ []) ns x c))))
-      (λ x c. ⊎_elim (λ e. absurd (let r : R m m = subst (R m) (sym e ∙ sym same) (pairs_head m ms x q c) in apart m m r r)) (λ d. d)
-      (cons_cases n ns x (g x (Contains-append_right (m ∷ []) ms x c)))) i)
-
-module _ (rules : List Rule) (stmt : ℕ) where
-  goes_first_apart : (m n : ℕ) → GoesFirst rules stmt m n → GoesFirst rules stmt n m → ⊥
-  goes_first_apart m n a b =
-      ⊎_elim
-      (λ lt. ⊎_elim (λ gt. omega (arith, lt, gt)) (λ y. let e = y.0 in omega (arith, lt, e)) b)
-      (λ x. let e = x.0 in let l = x.1 in ⊎_elim (λ gt. omega (arith, e, gt)) (λ y. let k = y.1 in omega (arith, l, k)) b)
-      a
-
-  reductions_same : (a : List Sym) (t : Tok) (ns ms : List ℕ) → AreReductions rules stmt a t ns → AreReductions rules stmt a t ms → ns ≡ ms
-  reductions_same a t ns ms p q = same_lists (GoesFirst rules stmt) goes_first_apart ns ms p.ordered q.ordered (λ n c. (q.exactly n).1 ((p.exactly n).0 c)) (λ n c. (p.exactly n).1 ((q.exactly n).0 c))
 
 module _ {L X : Type 0} (of : Answering L X) (rules : List Rule) (stmt : ℕ) where
   taken_same : (ws : List L) (a : List Sym) (x : X) (o p : Option ℕ) (y z : X) → Choice of rules stmt ws a x o y → Choice of rules stmt ws a x p z

@@ -17,7 +17,7 @@ use Rattle.lr_check.specs.declared.sample.Outcome.{Outcome}
 use Rattle.lr_check.specs.declared.sample.Outcome.TheVariants as outcome
 use Rattle.lr_check.specs.Parse.{Part, symbols, reduced, Takes, nothing, unrestricted, answered_yes, answered_no, Reduction, Ends, loops, accepts, shifts, reduces, blocks}
 use Rattle.lr_check.specs.Parse as replay
-use Rattle.lr_check.proofs.Choosing.{here}
+use Rattle.lr_check.proofs.Contained.{here}
 use Rattle.lr_check_parse.specs.Moves.{Answering, Move, Ending, Taken, coming, decided_at, taken, Choice, Parses}
 use Rattle.lr_check_parse.specs.Moves as parse
 use Rattle.lr_check_parse.specs.Lists.{EndsSo}

@@ -23,9 +23,7 @@ use Rattle.lr_check_parse.proofs.Existence.{parse_has_end}
 use Rattle.lr_check_parse.proofs.Listing.{is_by_lists}
 use Rattle.lr_check_samples.specs.Stops.{Moves, by_shift, by_rule, Comes, at_once, by_move, Turns, one_turn, more_turns, Blocks, Loops, EndsAt, ends_blocked, ends_turning, EndsTurning}
 use Rattle.lr_check_samples.specs.Claims.{StopsEnd}
-
-first_in : (x : List Sym) (xs : List (List Sym)) → Contains (x ∷ xs) x
-first_in x xs = (0, omega arith, refl)
+use Rattle.lr_check.proofs.Contained.{here}
 
 module _ (rules : List Rule) (stmt : ℕ) where
   rule_same : (n : ℕ) (r q : Rule) → slice_get rules n ≡ Some r → slice_get rules n ≡ Some q → r ≡ q
@@ -110,7 +108,7 @@ module _ (rules : List Rule) (stmt : ℕ) where
   ends_turned : {at : ℕ} {before : List (List Sym)} {ws rest : List Token} {s a b : List Part} {o : Outcome} → Ends rules stmt at before ws s o → Comes rules stmt ws s rest a →
       Turns rules stmt rest a b →
       symbols a ≡ symbols b → Turned o
-  ends_turned {at = at} {before = before} {b = b} x (at_once {s = s}) t same = record { at = at; same = turned x b t (subst (Contains (symbols s ∷ before)) same (first_in (symbols s) before)) }
+  ends_turned {at = at} {before = before} {b = b} x (at_once {s = s}) t same = record { at = at; same = turned x b t (subst (Contains (symbols s ∷ before)) same (here (symbols s) before)) }
   ends_turned {at = at} (loops h) (by_move m c) t same = record { at = at; same = refl }
   ends_turned (accepts n e f) (by_move (by_shift ne sb) c) t same = absurd (ne f)
   ends_turned (accepts n e f) (by_move (by_rule r red there) c) t same = absurd (not_shifted rules stmt red e f)

@@ -23,6 +23,7 @@ use Rattle.lr_checked.specs.Accepted.{tokens, moves}
 use Rattle.lr_checked.specs.Claims.{NoFaultIsEnough, ParsesAccept}
 use Rattle.lr_checked.proofs.Trees.{statement_tree}
 use Rattle.lr_checked.proofs.Counting.{counted}
+use Rattle.lr_checked.proofs.Drawn.{block_done, loop_done}
 
 toks_length : (w : List Token) → length (toks w) ≡ length w + 1
 toks_length [] = refl
@@ -58,12 +59,6 @@ no_fault_is_enough t valid numbered fine = record {
 tokens_questioned : {L X : Type 0} (of : Answering L X) (w : List L) (f : ℕ → List Bool) → tokens (questioned of w f) ≡ map of.token w
 tokens_questioned of [] f = refl
 tokens_questioned of (l ∷ w) f = ap (λ (u : List Tok). of.token l ∷ u) (tokens_questioned of w (λ i. f (suc i)))
-
-block_done : (at : ℕ) → outcome.Blocks at ≡ outcome.Done → ⊥
-block_done at e = cc
-
-loop_done : (at : ℕ) → outcome.Loops at ≡ outcome.Done → ⊥
-loop_done at e = cc
 
 pub parses_accept : {L X : Type 0} (of : Answering L X) → ParsesAccept of
 parses_accept {L = L} {X = X} of d valid never w x log e typed p = by e refl

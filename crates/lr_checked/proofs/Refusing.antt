@@ -7,8 +7,8 @@ use Rattle.lr_check.specs.declared.sample.Outcome.TheVariants as outcome
 use Rattle.lr_check.specs.Tree.{Node, Token}
 use Rattle.lr_check.specs.Parse.{Ends, Replays, is_long, is_parsed}
 use Rattle.lr_check.specs.Statement.{IsStatement}
-use Rattle.lr_check.proofs.Law.{nowhere_in}
 use Rattle.lr_check_samples.specs.Stops.{at_once, Blocks, Loops, EndsAt, ends_blocked, ends_turning}
+use Rattle.lr_check.proofs.Contained.{nowhere_in}
 use Rattle.lr_checked.specs.declared.checking.CheckFault.{CheckFault}
 use Rattle.lr_checked.specs.declared.checking.CheckFault.TheVariants as check_fault
 use Rattle.lr_checked.specs.Accepted.{NeverStops}
@@ -16,6 +16,7 @@ use Rattle.lr_checked.specs.Refusals.{Blocking, Looping, FaultIsReal, SomeStops,
 use Rattle.lr_checked.proofs.Typed.{typed_tokens}
 use Rattle.lr_checked.proofs.Stopping as stopping
 use Rattle.lr_checked.proofs.Stopping.{Nothing, Twice}
+use Rattle.lr_checked.proofs.Drawn.{block_done, loop_done}
 
 long_block : (n : ℕ) → outcome.Long ≡ outcome.Blocks n → ⊥
 long_block n e = cc
@@ -84,12 +85,6 @@ module _ (d : Content) where
   is_stopped check_fault.CheckFull real = tt
   is_stopped (check_fault.Blocks nodes) real = blocking_stops nodes real
   is_stopped (check_fault.Loops nodes) real = looping_stops nodes real
-
-  block_done : (n : ℕ) → outcome.Blocks n ≡ outcome.Done → ⊥
-  block_done n e = cc
-
-  loop_done : (n : ℕ) → outcome.Loops n ≡ outcome.Done → ⊥
-  loop_done n e = cc
 
   -- where no typed statement stops the parse, none does
   pub none_stops : NeverStops d → SomeStops d → ⊥

@@ -4,7 +4,6 @@ use Rattle.std.proofs.Common.{append_assoc, add-one, ◌==◌}
 use Rattle.std.specs.Prelude.{if◌then◌else◌}
 use Rattle.std.proofs.lemmas.List.Elements.{Contains-append_right}
 use Rattle.std.proofs.lemmas.Option.{same_Some}
-use Rattle.lr_check.proofs.Choosing.{here}
 use Rattle.gg_base.proofs.Facts.{some_none}
 use mathlib.Core.List.{append-nil}
 use Rattle.tree_core.specs.declared.token.Tok.TheVariants as tok
@@ -22,6 +21,7 @@ use Rattle.md_reader.specs.Valid.{IsRule}
 use Rattle.lr_tables.specs.declared.item.Item.{Item}
 use Rattle.lr_tables.specs.Items.{right_of, right_at, next, advanced, Items, starts, opens, moves}
 use Rattle.lr_tables.specs.Candidates.{MayReduce}
+use Rattle.lr_check.proofs.Contained.{here}
 use Rattle.sel_parse_moves.specs.Made.{Made}
 use Rattle.lr_check_parse.specs.Moves.{Move, Shift, Reduce, Ending, Accepts, coming, Taken as TakenRule, decided_at, taken, Choice, Parses}
 use Rattle.lr_check_parse.specs.Moves as parse
