@@ -4,6 +4,7 @@ use Rattle.std.proofs.Math.ListN.{replicate}
 use Rattle.std.proofs.lemmas.List.Elements.{All-nil, All-push, All-weaker}
 use Rattle.std.specs.Prelude.{slice_get}
 use Rattle.std.specs.List.{All}
+use Rattle.gg_base.proofs.Facts.{slice_left}
 use Rattle.tree_core.specs.declared.program.Object.{Object}
 use Rattle.tree_core.specs.declared.program.Link.{Link}
 use Rattle.c_typed_scope.specs.Contents.{low_bytes, Filled, with_value, address_at, with_link, filled_to}
@@ -30,11 +31,6 @@ pub record Contains (places : List ℕ) (f : Filled) : Type 0 where
   pub bytes : AreBytes f.bytes
   pub links : All (Addressed places f.bytes) f.links
 
-get_more : (xs ys : List ℕ) (i v : ℕ) → slice_get xs i ≡ Some v → slice_get (xs ++ ys) i ≡ Some v
-get_more [] ys i v h = absurd (cc)
-get_more (x ∷ xs) ys zero v h = h
-get_more (x ∷ xs) ys (suc i) v h = get_more xs ys i v h
-
 take_longer : (n : ℕ) (xs ys : List ℕ) → n ≤ length xs → take n (xs ++ ys) ≡ take n xs
 take_longer zero xs ys le = refl
 take_longer (suc n) [] ys le = absurd (omega arith)
@@ -52,7 +48,7 @@ addressed_more places more bytes behind l h =
     let within : l.at + 4 ≤ length bytes = h.within in
     record {
       address = h.address;
-      named = get_more places more l.object h.address h.named;
+      named = slice_left places more l.object h.address h.named;
       within = omega arith;
       four = four_longer l.at bytes behind within ∙ h.four;
     }

@@ -1,22 +1,21 @@
 -- The labels of a typed program's objects, as `AreLabelled` has them, and the addresses at their links.
-use Rattle.std.proofs.Common.{◌≡◌, ◌≢◌, ℕ, zero, suc, ◌+◌, ◌%◌, ◌/◌, ◌^◌, ◌<◌, ◌≤◌, ◌==◌, ◌&&◌, true, List, [], ◌∷◌, ◌++◌, length, map, take, drop, Some, refl}
-use Rattle.std.proofs.Common.{sym, ap, subst, ◌∙◌, length-append, arith}
+use Rattle.std.proofs.Common.{◌≡◌, ◌≢◌, ℕ, zero, suc, ◌+◌, ◌%◌, ◌/◌, ◌^◌, ◌<◌, ◌≤◌, ◌==◌, ◌&&◌, true, List, [], ◌∷◌, ◌++◌, length, map, Some, refl}
+use Rattle.std.proofs.Common.{sym, ap, subst, ◌∙◌, arith}
 use Rattle.std.proofs.lemmas.Bool.{and_from, and_parts, le-leb, leb-true, eqb-true}
 use Rattle.std.proofs.lemmas.Bool.Decides.{nat_tests}
 use Rattle.std.proofs.lemmas.Fmt.{decimal_by_steps, length-decimal-le}
-use Rattle.std.proofs.lemmas.List.Elements.{All-nil, All-cons, All-head, All-tail, All-weaker}
+use Rattle.std.proofs.lemmas.List.Elements.{All-head, All-tail, All-weaker}
 use Rattle.std.proofs.lemmas.List.Folds.{list_all-append}
-use Rattle.std.specs.Char.{is_ascii_alphanumeric}
 use Rattle.std.specs.Fmt.{decimal}
 use Rattle.std.specs.Int.{w32, to_le_bytes}
 use Rattle.std.specs.List.{All, list_all}
 use Rattle.std.specs.Prelude.{codes, nat_le, slice_get}
-use Rattle.gg_base.proofs.Facts.{same_tail}
+use Rattle.gg_base.proofs.Facts.{tail_same}
 use Rattle.tree_core.specs.declared.program.Object.{Object}
 use Rattle.tree_core.specs.declared.program.Link.{Link}
 use Rattle.tree_core.specs.Valid.{is_aligned, is_whole, is_placed, rounded, object_lies}
 use Rattle.tree_core.proofs.Validity.{rounded_up}
-use Rattle.c_tokens.specs.Letters.{is_letter, in_word}
+use Rattle.c_tokens.specs.Letters.{in_word}
 use Rattle.c_tokens.specs.Grammar.{Pass}
 use Rattle.c_typed_scope.specs.declared.entry.Entry.{Entry}
 use Rattle.c_typed_scope.specs.declared.entry.Entry.TheVariants as entries
@@ -29,7 +28,7 @@ use Rattle.c_typed_words.specs.Words.{IsName}
 use Rattle.c_sound_bodies.proofs.Objects.{IsVariable}
 use Rattle.c_sound_texts.proofs.Areas.{LieTo}
 use Rattle.c_sound_texts.proofs.Held.{places_of, Addressed, Contains, contents, AreContained}
-use Rattle.c_sound_texts.proofs.Labels.{Each, Differ, labels, IsNew, OfStatic, OfLiteral, HasFew, heads}
+use Rattle.c_sound_texts.proofs.Labels.{Each, Differ, labels, OfStatic, OfLiteral, HasFew}
 use Rattle.c_sound_texts.proofs.Named.{start, IsFunctionEntry, not_named, IsLabel, Numbered, Variable, NamesFunction, IsNamed}
 
 -- digits of a number may stand in a label
@@ -80,7 +79,7 @@ not_function (entries.Function n) f is a b = a
 no_function : (s : State) (name x : List ℕ) → NamesFunction s.scope name → IsLabel s x → x ≢ entry_label name
 no_function s name x f (Numbered new) e = not_named start s.area name x new (sym e)
 no_function s name x f (Variable n e is_name found variable is) same =
-    let names : n ≡ name = same_tail 95 95 n name (sym is ∙ same) in
+    let names : n ≡ name = tail_same 95 95 n name (sym is ∙ same) in
     let here : find s.scope.here name ≡ Some e = subst (λ (z : List ℕ). find s.scope.here z ≡ Some e) names found in
     let both : Some e ≡ Some f.entry = sym here ∙ f.found in
     not_function e f.entry (cc) variable f.function

@@ -5,7 +5,7 @@ use Rattle.std.proofs.lemmas.Fmt.{decimal_injective}
 use Rattle.std.proofs.lemmas.List.{map-append}
 use Rattle.std.specs.Fmt.{decimal}
 use Rattle.std.specs.Prelude.{if◌then◌else◌}
-use Rattle.gg_base.proofs.Facts.{same_tail}
+use Rattle.gg_base.proofs.Facts.{tail_same, head_same}
 use Rattle.tree_core.specs.declared.program.Object.{Object}
 use Rattle.c_tokens.specs.declared.token.Token.TheVariants as token
 use Rattle.c_phrases.specs.declared.operator.Spec.{Spec}
@@ -25,7 +25,7 @@ use Rattle.c_typed_scope.proofs.Written.{held_length}
 use Rattle.c_typed_expressions.specs.Phrases.{init_in, brackets_in}
 use Rattle.c_typed_expressions.specs.Expressions.{written}
 use Rattle.c_typed_definition.specs.State.{State, with_area, label_of, variable_of, counted_static, array_entry, laid}
-use Rattle.c_typed_law.specs.Objects.{IsCount, IsFilled, IsPlainObject, IsCountedArray, IsArrayObject, IsObjectBy}
+use Rattle.c_typed_law.specs.Objects.{IsFilled, IsPlainObject, IsCountedArray, IsArrayObject, IsObjectBy}
 use Rattle.c_typed_law.specs.Objects.{IsObject}
 use Rattle.c_typed_words.proofs.Any.{AnyToken, any_init, any_part}
 use Rattle.c_sound_bodies.proofs.Growth.{Laying}
@@ -105,25 +105,22 @@ new_more a b c d s l t m x (OfLiteral k least below is) = OfLiteral k (omega ari
 same_number : (k j : ℕ) → k < 2 ^ 32 → j < 2 ^ 32 → decimal k ≡ decimal j → k ≡ j
 same_number k j p q e = decimal_injective k j (omega arith) (omega arith) e
 
-pub heads : (c d : ℕ) (xs ys : List ℕ) → c ∷ xs ≡ d ∷ ys → c ≡ d
-heads c d xs ys e = cc
-
 -- later numbers are others
 pub new_apart : (a b c : Area) → HasFew c → b.statics ≤ c.statics → b.literals ≤ c.literals → (x y : List ℕ) → IsNew a b x → IsNew b c y → x ≢ y
 new_apart a b c few s l x y (OfStatic k least below is) (OfStatic j from under same) e =
     let small : c.statics < 2 ^ 32 = few.statics in
-    let equal = same_number k j (omega arith) (omega arith) (same_tail 84 84 (decimal k) (decimal j) (sym is ∙ e ∙ same)) in
+    let equal = same_number k j (omega arith) (omega arith) (tail_same 84 84 (decimal k) (decimal j) (sym is ∙ e ∙ same)) in
     omega arith
 new_apart a b c few s l x y (OfLiteral k least below is) (OfLiteral j from under same) e =
     let small : c.literals < 2 ^ 32 = few.literals in
-    let equal = same_number k j (omega arith) (omega arith) (same_tail 83 83 (decimal k) (decimal j) (sym is ∙ e ∙ same)) in
+    let equal = same_number k j (omega arith) (omega arith) (tail_same 83 83 (decimal k) (decimal j) (sym is ∙ e ∙ same)) in
     omega arith
 new_apart a b c few s l x y (OfStatic k least below is) (OfLiteral j from under same) e =
-    let equal = heads 84 83 (decimal k) (decimal j) (sym is ∙ e ∙ same) in omega arith
+    let equal = head_same 84 83 (decimal k) (decimal j) (sym is ∙ e ∙ same) in omega arith
 new_apart a b c few s l x y (OfLiteral k least below is) (OfStatic j from under same) e =
-    let equal = heads 83 84 (decimal k) (decimal j) (sym is ∙ e ∙ same) in omega arith
+    let equal = head_same 83 84 (decimal k) (decimal j) (sym is ∙ e ∙ same) in omega arith
 
-few_before : (a b : Area) → a.statics ≤ b.statics → a.literals ≤ b.literals → HasFew b → HasFew a
+pub few_before : (a b : Area) → a.statics ≤ b.statics → a.literals ≤ b.literals → HasFew b → HasFew a
 few_before a b s l few =
     let statics : b.statics < 2 ^ 32 = few.statics in
     let literals : b.literals < 2 ^ 32 = few.literals in

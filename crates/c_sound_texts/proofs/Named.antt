@@ -5,7 +5,7 @@ use Rattle.std.specs.Fmt.{decimal}
 use Rattle.std.specs.Prelude.{codes, is_some, slice_get, if◌then◌else◌}
 use Rattle.std.specs.Str.{bytes_eq}
 use Rattle.std.proofs.lemmas.Slice.Eq.{bytes_eq-Decides}
-use Rattle.gg_base.proofs.Facts.{slice_cases, same_tail}
+use Rattle.gg_base.proofs.Facts.{slice_cases, tail_same, head_same}
 use Rattle.c_tokens.specs.declared.token.Token.TheVariants as token
 use Rattle.c_phrases.specs.declared.operator.Spec.{Spec}
 use Rattle.c_phrases.specs.Phrases.{AnExp}
@@ -23,8 +23,8 @@ use Rattle.c_typed_expressions.specs.Phrases.{brackets_in, params_in}
 use Rattle.c_typed_expressions.specs.Expressions.{written}
 use Rattle.c_typed_definition.specs.State.{State, with_area}
 use Rattle.c_typed_definition.specs.Signatures.{parameter_type}
-use Rattle.c_typed_definition.specs.Headings.{Text, with_state, with_declared, with_body, body_of}
-use Rattle.c_typed_definition.specs.Headings.{entered_function, left_function}
+use Rattle.c_typed_definition.specs.Headings.{Text, with_declared, body_of}
+use Rattle.c_typed_definition.specs.Headings.{entered_function}
 use Rattle.c_typed_definition.specs.Texts.{empty_text}
 use Rattle.c_typed_law.specs.Headings.{IsEarlier}
 use Rattle.c_typed_law.specs.Texts.{IsParameterLength, AreParameters, IsBody, IsFunction, AreGlobals, IsExternalBy}
@@ -33,18 +33,18 @@ use Rattle.c_typed_law.specs.Statements.{AreItems}
 use Rattle.c_typed_law.proofs.Statements.{items_mean}
 use Rattle.c_typed_law.proofs.Declared.{parameter_area}
 use Rattle.c_typed_words.specs.Words.{IsName, IsToken}
-use Rattle.c_typed_words.specs.Phrases.{DeclaratorOf, DeclaratorsOf, BodyOf, DeclaredOf, ExternalsOf}
+use Rattle.c_typed_words.specs.Phrases.{DeclaratorsOf, DeclaredOf, ExternalsOf}
 use Rattle.c_typed_words.proofs.Any.{AnyToken, any_exp, any_items}
-use Rattle.c_sound_bodies.specs.Claim.{InOrder, Extends, Grows}
+use Rattle.c_sound_bodies.specs.Claim.{InOrder}
 use Rattle.c_sound_bodies.proofs.Names.{left_scope}
 use Rattle.c_sound_bodies.proofs.Growth.{exp_lays}
 use Rattle.c_sound_bodies.proofs.Areas.{items_lay, order_any}
-use Rattle.c_sound_bodies.proofs.Objects.{IsVariable, Declares, object_declares}
-use Rattle.c_sound_texts.proofs.Labels.{Each, Differ, each_weaker, each_joined, differ_joined, labels, IsNew, OfStatic, OfLiteral, HasFew, Numbers, numbers_same, numbers_further}
-use Rattle.c_sound_texts.proofs.Labels.{numbering, new_more, new_apart, heads, LaidFor, Declared, object_declared, static_numbers, labels_joined}
+use Rattle.c_sound_bodies.proofs.Objects.{IsVariable, object_declares}
+use Rattle.c_sound_texts.proofs.Labels.{Each, Differ, each_weaker, each_joined, differ_joined, labels, IsNew, OfStatic, OfLiteral, HasFew, Numbers, numbers_same, numbers_further, few_before}
+use Rattle.c_sound_texts.proofs.Labels.{numbering, new_more, new_apart, Declared, object_declared, static_numbers, labels_joined}
 use Rattle.c_sound_texts.proofs.Functions.{find_further}
 use Rattle.c_sound_bodies.proofs.Law.{bodies_are_sound}
-use Rattle.c_sound_texts.proofs.Bodies.{TextIsSound, function_begins, Parametered, parameters_order, declared_sound, external_sound}
+use Rattle.c_sound_texts.proofs.Bodies.{TextIsSound, function_begins, parameters_order, declared_sound, external_sound}
 
 -- where nothing is laid
 abbrev pub start : Area
@@ -98,19 +98,13 @@ label_more s r h statics literals x (Variable n e is_name found variable is) = V
 
 -- a label that is not of a name at file level
 pub not_named : (a b : Area) (n x : List ℕ) → IsNew a b x → 95 ∷ n ≢ x
-not_named a b n x (OfStatic k least below is) e = let equal = heads 95 84 n (decimal k) (e ∙ is) in omega arith
-not_named a b n x (OfLiteral k least below is) e = let equal = heads 95 83 n (decimal k) (e ∙ is) in omega arith
+not_named a b n x (OfStatic k least below is) e = let equal = head_same 95 84 n (decimal k) (e ∙ is) in omega arith
+not_named a b n x (OfLiteral k least below is) e = let equal = head_same 95 83 n (decimal k) (e ∙ is) in omega arith
 
 old_apart : (s : State) (b : Area) → HasFew b → s.area.statics ≤ b.statics → s.area.literals ≤ b.literals →
     (x y : List ℕ) → IsLabel s x → IsNew s.area b y → x ≢ y
 old_apart s b few statics literals x y (Numbered new) k e = new_apart start s.area b few statics literals x y new k e
 old_apart s b few statics literals x y (Variable n f is_name found variable is) k e = not_named s.area b n y k (sym is ∙ e)
-
-few_before : (a b : Area) → a.statics ≤ b.statics → a.literals ≤ b.literals → HasFew b → HasFew a
-few_before a b s l few =
-    let statics = few.statics in
-    let literals = few.literals in
-    record { statics = omega arith; literals = omega arith }
 
 no_functions : (s r : Scope) (bodies : List ARoutine) → More s r → ((i : ℕ) (g : ARoutine) → slice_get bodies i ≡ Some g → NamesFunction s g.name) →
     (i : ℕ) (g : ARoutine) → slice_get bodies i ≡ Some g → NamesFunction r g.name
@@ -181,7 +175,7 @@ same_names s = record { names = []; here = sym (append_nil s.here) }
 name_apart : (s : State) (n : List ℕ) → find s.scope.here n ≡ None → (x : List ℕ) → IsLabel s x → x ≢ 95 ∷ n
 name_apart s n none x (Numbered new) e = not_named start s.area n x new (sym e)
 name_apart s n none x (Variable m f is_name found variable is) e =
-    let same : m ≡ n = same_tail 95 95 m n (sym is ∙ e) in
+    let same : m ≡ n = tail_same 95 95 m n (sym is ∙ e) in
     let here : find s.scope.here n ≡ Some f = subst (λ (z : List ℕ). find s.scope.here z ≡ Some f) same found in
     absurd (let clash : None ≡ Some f = sym none ∙ here in cc)
 

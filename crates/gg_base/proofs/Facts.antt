@@ -1,6 +1,6 @@
 -- Small facts of truth values, choices, numbers and lists that proofs of many crates cite, beside those of std.
 use Rattle.std.proofs.Common.{◌≡◌, ℕ, zero, suc, ◌+◌, ◌-◌, ◌<◌, Bool, true, false, ◌⊎◌, inl, inr, ⊎_elim, Option, Some, None, List, [], ◌∷◌, ◌++◌, length, refl, sym, ap, subst, arith}
-use Rattle.std.specs.Prelude.{◌≤◌, ◌&&◌, ◌||◌, ◌==◌, cond, is_none, IsSome, Result, Ok, Err, IfOk, slice_get, slice_index_or}
+use Rattle.std.specs.Prelude.{◌≤◌, ◌&&◌, ◌||◌, ◌==◌, cond, is_none, IsSome, Result, Ok, Err, IfOk, slice_get, slice_set, slice_index_or}
 use Rattle.std.specs.List.{AllByRecursion as All}
 use Rattle.std.proofs.lemmas.Option.{none-some, same_Some}
 use Rattle.std.proofs.lemmas.Bool.Decides.{nat_tests}
@@ -112,6 +112,18 @@ pub slice_last : {A : Type 0} (xs : List A) (x : A) → slice_get (xs ++ x ∷ [
 slice_last [] x = refl
 slice_last (z ∷ xs) x = slice_last xs x
 
+pub slice_set_same : {A : Type 0} (xs : List A) (n : ℕ) (y : A) → n < length xs → slice_get (slice_set xs n y) n ≡ Some y
+slice_set_same [] n y lt = absurd (omega (arith, lt))
+slice_set_same (x ∷ xs) zero y lt = refl
+slice_set_same (x ∷ xs) (suc n) y lt = slice_set_same xs n y (omega (arith, lt))
+
+pub slice_set_other : {A : Type 0} (xs : List A) (n : ℕ) (y : A) (i : ℕ) → (i ≡ n → ⊥) → slice_get (slice_set xs n y) i ≡ slice_get xs i
+slice_set_other [] n y i ne = refl
+slice_set_other (x ∷ xs) zero y zero ne = absurd (ne refl)
+slice_set_other (x ∷ xs) zero y (suc i) ne = refl
+slice_set_other (x ∷ xs) (suc n) y zero ne = refl
+slice_set_other (x ∷ xs) (suc n) y (suc i) ne = slice_set_other xs n y i (λ e. ne (ap suc e))
+
 pub all_append : {A : Type 0} (P : A → Type 0) (xs ys : List A) → All P xs → All P ys → All P (xs ++ ys)
 all_append P [] ys h g = g
 all_append P (x ∷ xs) ys h g = (h.0, all_append P xs ys h.1 g)
@@ -131,9 +143,6 @@ slice_cases (z ∷ xs) x (suc n) y e = ⊎_elim (λ h. inl h) (λ h. inr (ap suc
 pub nil_of : {A : Type 0} (xs : List A) → length xs ≡ 0 → xs ≡ []
 nil_of [] e = refl
 nil_of (x ∷ xs) e = absurd (omega (arith, e))
-
-pub same_tail : (a b : ℕ) (xs ys : List ℕ) → a ∷ xs ≡ b ∷ ys → xs ≡ ys
-same_tail a b xs ys e = cc
 
 pub index_of : {A : Type 0} (xs : List A) (i : ℕ) (x d : A) → slice_get xs i ≡ Some x → slice_index_or xs i d ≡ x
 index_of [] zero x d e = absurd (cc)

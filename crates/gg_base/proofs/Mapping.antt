@@ -6,6 +6,7 @@ use Rattle.std.specs.Fn.{Called}
 use Rattle.std.specs.List.{FoldsTo}
 use Rattle.std.specs.Iterator.{AlwaysYields, Yields, FindsMapped}
 use Rattle.std.specs.Iterator.Runs.{YieldsRun, SomeRun, AllItemsGive, IsFirstToGive}
+use Rattle.gg_base.proofs.Facts.{some_none}
 use denote.Param.Members.{Mut}
 
 -- an answer, or else what comes later
@@ -17,9 +18,6 @@ or_later None later = later
 abbrev pub first_given : {B C : Type 0} → (B → Option C) → List B → Option C
 first_given h [] = None
 first_given h (y ∷ ys) = or_later (h y) (first_given h ys)
-
-some_none : {R : Type 0} (n : R) → ◌≡◌ {A = Option R} (Some n) None → ⊥
-some_none n e = cc
 
 module _ {S A B C R F : Type 0} (steps : S → Option A → S → Type 0) (v : A → B) (w : R → C) (g : Mut F (A × Unit {0}) (Option R)) (f : F) (h : B → Option C)
     (k : (x : A) (r : Option R) (q : F) → Called g f (x, tt) r q → (q ≡ f) × (option_map w r ≡ h (v x))) where

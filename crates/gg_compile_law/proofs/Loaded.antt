@@ -6,6 +6,7 @@ use Rattle.std.specs.Str.{bytes_eq}
 use Rattle.std.proofs.lemmas.Bool.{and_parts, le-ltb, ltb-true, true≢false, false_from_ne_true}
 use Rattle.std.proofs.lemmas.List.Elements.{recursion_from_All}
 use Rattle.std.proofs.lemmas.Slice.Eq.{bytes_eq-Decides}
+use Rattle.gg_base.proofs.Facts.{slice_some}
 use Rattle.vax_core.specs.declared.code.Code.{Code}
 use Rattle.vax_core.specs.declared.code.CodeItem.{CodeItem}
 use Rattle.vax_core.specs.declared.code.AreaItem.{AreaItem}
@@ -26,7 +27,7 @@ use Rattle.gg_compile_law.specs.Spelling.{power_of, after_zeros, by_byte, label_
 use Rattle.gg_compile_law.specs.Loaded.{AreApart, AssembledLoads}
 use Rattle.gg_compile_law.proofs.Areas.{lies, end_behind}
 use Rattle.gg_compile_law.proofs.Names.{count, all_count, fun_count, trees_count, from_function_at, from_trees, stands_once, code_labels_differ, main_stands}
-use Rattle.gg_compile_law.proofs.Spelling.{choose, plain, aligned_so, block_end, links_fit, found}
+use Rattle.gg_compile_law.proofs.Spelling.{choose, plain, aligned_so, block_end, links_fit}
 
 -- ---- labels in an area
 
@@ -126,7 +127,7 @@ module _ (all : List Object) where
 
     defined : (l : Link) → l.object < length all → undefined_name whole (Some (label_of (slice_get all l.object))) ≡ None
     defined l lt =
-        let x = found all l.object lt in
+        let x = slice_some all l.object lt in
         ap (λ (o : Option Object). undefined_name whole (Some (label_of o))) x.1 ∙ ap (λ (b : Bool). cond b None (Some x.0.label)) (there l.object x.0 x.1)
 
     named_link : (l : Link) (xs : List AreaItem) → l.object < length all → Named xs → Named (areas.Long (link_addr all l) ∷ xs)

@@ -8,7 +8,7 @@ use Rattle.std.proofs.lemmas.Bool.{eqb-true, eq-eqb, true≢false, false_from_ne
 use Rattle.std.proofs.lemmas.Fmt.{decimal_injective}
 use Rattle.std.proofs.lemmas.Slice.Eq.{bytes_eq-Decides}
 use Rattle.std.specs.List.{cons_option}
-use Rattle.gg_base.proofs.Facts.{same_tail, same_bool}
+use Rattle.gg_base.proofs.Facts.{same_bool, tail_same}
 use Rattle.vax_core.specs.declared.code.Instr.{Instr}
 use Rattle.vax_core.specs.declared.code.CodeItem.{CodeItem}
 use Rattle.vax_core.specs.declared.code.CodeItem.TheVariants as item_kind
@@ -137,7 +137,7 @@ module _ (program : TreeProgram) (name : List ℕ) where
 same_test : (a b : List ℕ) → bytes_eq (function_label a) (function_label b) ≡ bytes_eq a b
 same_test a b =
     same_bool (bytes_eq (function_label a) (function_label b)) (bytes_eq a b)
-    (λ e. (bytes_eq-Decides a b).1 (same_tail 95 95 a b ((bytes_eq-Decides (function_label a) (function_label b)).0 e)))
+    (λ e. (bytes_eq-Decides a b).1 (tail_same 95 95 a b ((bytes_eq-Decides (function_label a) (function_label b)).0 e)))
     (λ e. (bytes_eq-Decides (function_label a) (function_label b)).1 (ap function_label ((bytes_eq-Decides a b).0 e)))
 
 fun_named : (x : List ℕ) (fs : List TreeFn) → fun_count (function_label x) fs ≡ named x fs
@@ -175,7 +175,7 @@ from_function_at name (g ∷ fs) = by (bytes_eq (function_label g.name) name) re
 label_test : (m l : ℕ) → m < 2 ^ 64 → l < 2 ^ 64 → bytes_eq (label_name m) (label_name l) ≡ (m == l)
 label_test m l a b =
     same_bool (bytes_eq (label_name m) (label_name l)) (m == l)
-    (λ e. eq-eqb m l (decimal_injective m l a b (same_tail 76 76 (decimal m) (decimal l) ((bytes_eq-Decides (label_name m) (label_name l)).0 e))))
+    (λ e. eq-eqb m l (decimal_injective m l a b (tail_same 76 76 (decimal m) (decimal l) ((bytes_eq-Decides (label_name m) (label_name l)).0 e))))
     (λ e. (bytes_eq-Decides (label_name m) (label_name l)).1 (ap label_name (eqb-true m l e)))
 
 module _ (h : TreeItem → Option ℕ) (on_label : (l : ℕ) → h (tree_item.Label l) ≡ Some l) (on_root : (w : List Leaf) → h (tree_item.Root w) ≡ None) where

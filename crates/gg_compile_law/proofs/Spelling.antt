@@ -1,5 +1,5 @@
 -- The area that is spelled item by item is the objects' blocks.
-use Rattle.std.proofs.Common.{◌≡◌, ℕ, zero, suc, ◌+◌, ◌-◌, ◌^◌, ◌<◌, ◌≤◌, Bool, true, false, cond, List, [], ◌∷◌, ◌++◌, length, take, drop, replicate, Option, Some, None, refl}
+use Rattle.std.proofs.Common.{◌≡◌, ℕ, zero, suc, ◌+◌, ◌-◌, ◌^◌, ◌≤◌, Bool, true, false, cond, List, [], ◌∷◌, ◌++◌, length, take, drop, replicate, Option, Some, None, refl}
 use Rattle.std.proofs.Common.{sym, ap, subst, ◌∙◌, arith, append_assoc, length-append}
 use Rattle.std.specs.Prelude.{slice_get, ◌==◌, ◌&&◌, ◌||◌, nat_lt, nat_le}
 use Rattle.std.specs.List.{AllByRecursion}
@@ -8,6 +8,7 @@ use Rattle.std.proofs.lemmas.Bool.{and_parts, eqb-true, leb-true, ltb-true, true
 use Rattle.std.proofs.lemmas.List.{drop_at, take-append-drop}
 use Rattle.std.proofs.lemmas.List.Elements.{recursion_from_All}
 use Rattle.gg_base.specs.Arithmetic.{add32}
+use Rattle.gg_base.proofs.Facts.{slice_some}
 use Rattle.vax_core.specs.declared.code.CodeItem.{CodeItem}
 use Rattle.vax_core.specs.declared.code.AreaItem.{AreaItem}
 use Rattle.vax_core.specs.declared.code.AreaItem.TheVariants as areas
@@ -198,11 +199,6 @@ module _ (all : List Object) where
 
 -- ---- all of them
 
-pub found : (xs : List Object) (n : ℕ) → n < length xs → (x : Object) × (slice_get xs n ≡ Some x)
-found [] n lt = absurd (omega (arith, lt))
-found (x ∷ xs) zero lt = (x, refl)
-found (x ∷ xs) (suc n) lt = found xs n (omega (arith, lt))
-
 module _ (all : List Object) (whole : List AreaItem) (places : (n : ℕ) (o : Object) → slice_get all n ≡ Some o → Placed all whole o) where
   resolved_so : (l : Link) (x : Object) → slice_get all l.object ≡ Some x → resolved whole (link_addr all l) ≡ x.address
   resolved_so l x is =
@@ -215,7 +211,7 @@ module _ (all : List Object) (whole : List AreaItem) (places : (n : ℕ) (o : Ob
   hold_all bytes size [] h g = tt
   hold_all bytes size (l ∷ ls) h g =
       let lt = ltb-true l.object (length all) (and_parts (nat_le (l.at + 4) size) (nat_lt l.object (length all)) h.0).1 in
-      let x = found all l.object lt in
+      let x = slice_some all l.object lt in
       (g.0 x.0 x.1 ∙ ap (λ (a : ℕ). to_le_bytes w32 a) (sym (resolved_so l x.0 x.1)), hold_all bytes size ls h.1 g.1)
 
   are_blocks : (os : List Object) (at : ℕ) → objects_lie at os ≡ true → AllByRecursion (LinksLie (length all)) os → AllByRecursion (HoldsNumbers all) os → AreBlocks whole os (blocks_of all os)

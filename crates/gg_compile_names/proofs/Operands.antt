@@ -30,9 +30,6 @@ use Rattle.vax_templates.specs.FilledLines.{label_of_att, label_name}
 use Rattle.vax_target_meaning.specs.Vax.{vax}
 use Rattle.sel_parse_lines.specs.Claims.{Lasts}
 
-no_some : {X : Type 0} (x : X) → ◌≡◌ {A = Option X} (Some x) None → ⊥
-no_some x e = cc
-
 pub none_is : {X : Type 0} (o : Option X) → o ≡ None → is_none o ≡ true
 none_is o e = ap is_none e
 

@@ -6,7 +6,7 @@ use Rattle.std.specs.Str.{bytes_eq}
 use Rattle.std.proofs.lemmas.Bool.{eqb-true, false_from_ne_true, true≢false}
 use Rattle.std.proofs.lemmas.List.{length-take-le}
 use Rattle.std.proofs.lemmas.Slice.Eq.{bytes_eq-Decides}
-use Rattle.gg_base.proofs.Facts.{same_tail}
+use Rattle.gg_base.proofs.Facts.{tail_same}
 use Rattle.tree_core.specs.declared.tree.Att.TheVariants as att
 use Rattle.tree_core.specs.declared.program.TreeFn.{TreeFn}
 use Rattle.tree_core.specs.declared.program.TreeProgram.{TreeProgram}
@@ -15,7 +15,7 @@ use Rattle.tree_meaning.specs.State.{State as Trees}
 use Rattle.tree_meaning.specs.declared.machine.Finish.TheVariants as finish
 use Rattle.tree_meaning.specs.Deeds.{Deed, Puts, Branches, Pushes, Returns as Leaves, Calls as Enters, Saves, Jumps, Traps, Strays}
 use Rattle.tree_meaning.specs.Steps as steps
-use Rattle.tree_meaning.specs.Steps.{Step, without_pushed, with_result, called_as, wrote, got as answered, strays, deed_step}
+use Rattle.tree_meaning.specs.Steps.{Step, without_pushed, called_as, wrote, got as answered, strays, deed_step}
 use Rattle.md_reader.specs.declared.types.Class.{Class}
 use Rattle.md_reader.specs.declared.types.Rule.{Rule}
 use Rattle.sel_terms.specs.Effects.{EffectShape, Call}
@@ -69,7 +69,7 @@ none_named name (x ∷ fs) (suc k) g none there is = none_named name fs k g (ome
 apart : (name : List ℕ) (fs : List TreeFn) (k : ℕ) (g : TreeFn) → named name fs ≡ 0 → slice_get fs k ≡ Some g → bytes_eq (function_label g.name) (function_label name) ≡ false
 apart name fs k g none there =
     false_from_ne_true (bytes_eq (function_label g.name) (function_label name))
-    (λ e. none_named name fs k g none there ((bytes_eq-Decides g.name name).1 (same_tail 95 95 g.name name ((bytes_eq-Decides (function_label g.name) (function_label name)).0 e))))
+    (λ e. none_named name fs k g none there ((bytes_eq-Decides g.name name).1 (tail_same 95 95 g.name name ((bytes_eq-Decides (function_label g.name) (function_label name)).0 e))))
 
 module _ (q : TreeProgram) (f : Extent) (fs : List Extent) (classes : List Class) (rule : Rule) (e : EffectShape) (hs : List (Attr Operand)) (res : Attr Operand) (v : View) (m : State)
     (ready : Ready vax q f fs classes rule e hs res v m) (act : e.act ≡ Call) where
