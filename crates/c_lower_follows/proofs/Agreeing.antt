@@ -1,10 +1,7 @@
 -- When the source's state and the trees' state agree, and what changes leave of that.
 use Rattle.std.proofs.Common.{◌≡◌, ℕ, suc, ◌≤◌, ◌<◌, ◌^◌, List, [], ◌∷◌, ◌++◌, length, Option, Some, None, refl, ap, arith, sym, ◌∙◌, subst, ◌⊎◌, ⊎_elim}
 use Rattle.std.specs.Prelude.{true, false, not, ◌&&◌, ◌||◌, cond, slice_get, slice_set}
-use Rattle.std.proofs.Math.ListN.{set}
-use Rattle.std.proofs.lemmas.Bool.{cases_lt, cases_eq, eq-eqb, ne_eqb, and_parts, leb-true, or_parts}
-use Rattle.std.proofs.lemmas.List.{length-set, get_or-set_same, get_or-set_other}
-use Rattle.std.proofs.lemmas.Option.{slice_get_past, slice_get-get_or}
+use Rattle.std.proofs.lemmas.Bool.{cases_eq, eq-eqb, ne_eqb, and_parts, leb-true, or_parts}
 use Rattle.tree_meaning.specs.declared.value.Value.{Value}
 use Rattle.tree_meaning.specs.declared.value.Value.TheVariants.{Number, ZeroDivisor, Wild}
 use Rattle.tree_meaning.specs.State.{with_local}
@@ -12,6 +9,7 @@ use Rattle.tree_meaning.specs.Values.{bind, there, address_of}
 use Rattle.tree_core.specs.declared.program.Object.{Object}
 use Rattle.tree_core.specs.Area.{fetched}
 use Rattle.gg_base.specs.Arithmetic.{neg32, com32}
+use Rattle.gg_base.proofs.Facts.{slice_set_same, slice_set_other}
 use Rattle.c_types.specs.declared.types.Integer.{Integer}
 use Rattle.c_types.specs.Types.{kept}
 use Rattle.tree_core.specs.declared.program.TreeProgram.{TreeProgram}
@@ -30,25 +28,12 @@ set_same f n v = ap (λ b. cond b (Some v) (f n)) (eq-eqb n n refl)
 pub set_other : (f : ℕ → Option ℕ) (n v m : ℕ) → (m ≡ n → ⊥) → with_local f n v m ≡ f m
 set_other f n v m ne = ap (λ b. cond b (Some v) (f m)) (ne_eqb m n ne)
 
-get_past : (xs : List ℕ) (n v x : ℕ) → length xs ≤ x → slice_get (slice_set xs n v) x ≡ slice_get xs x
-get_past xs n v x le = slice_get_past (slice_set xs n v) x (omega (arith, length-set xs n v)) ∙ sym (slice_get_past xs x le)
-
-pub get_other : (xs : List ℕ) (n v x : ℕ) → (x ≡ n → ⊥) → slice_get (slice_set xs n v) x ≡ slice_get xs x
-get_other xs n v x ne =
-    ⊎_elim
-    (λ lt. slice_get-get_or (slice_set xs n v) x 0 (omega (arith, length-set xs n v)) ∙ ap Some (get_or-set_other xs n x v 0 ne) ∙ sym (slice_get-get_or xs x 0 lt))
-    (λ le. get_past xs n v x le)
-    (cases_lt x (length xs))
-
-pub get_same : (xs : List ℕ) (n v : ℕ) → n < length xs → slice_get (slice_set xs n v) n ≡ Some v
-get_same xs n v lt = slice_get-get_or (slice_set xs n v) n 0 (omega (arith, length-set xs n v)) ∙ ap Some (get_or-set_same xs n v 0 lt)
-
 -- writing a local on both sides
 pub set_both : (xs : List ℕ) (f : ℕ → Option ℕ) (n v x : ℕ) → n < length xs → f x ≡ slice_get xs x → with_local f n v x ≡ slice_get (slice_set xs n v) x
 set_both xs f n v x lt e =
     ⊎_elim
-    (λ eq. subst (λ i. with_local f n v i ≡ slice_get (slice_set xs n v) i) (sym eq) (set_same f n v ∙ sym (get_same xs n v lt)))
-    (λ ne. set_other f n v x ne ∙ e ∙ sym (get_other xs n v x ne))
+    (λ eq. subst (λ i. with_local f n v i ≡ slice_get (slice_set xs n v) i) (sym eq) (set_same f n v ∙ sym (slice_set_same xs n v lt)))
+    (λ ne. set_other f n v x ne ∙ e ∙ sym (slice_set_other xs n v x ne))
     (cases_eq x n)
 
 pub not_nil : {A : Type 0} (xs : List A) (y : A) (ys : List A) → xs ++ (y ∷ ys) ≡ [] → ⊥

@@ -12,6 +12,7 @@ use Rattle.gg_base.specs.declared.size.Size.TheVariants as sizes
 use Rattle.gg_base.specs.Arithmetic.{sext8, sext16, zext8, zext16}
 use Rattle.gg_base.specs.Runs.{Runs, stop}
 use Rattle.gg_base.specs.LittleEndian.{with_number}
+use Rattle.gg_base.proofs.Facts.{slice_set_same, slice_set_other}
 use Rattle.tree_core.specs.declared.program.TreeItem.{TreeItem}
 use Rattle.tree_core.specs.declared.program.TreeProgram.{TreeProgram}
 use Rattle.tree_core.specs.Area.{fetched, stored, is_inside}
@@ -38,7 +39,7 @@ use Rattle.c_sound.proofs.Bytes.{bytes_joined, bytes_drop}
 use Rattle.c_lower_follows.proofs.Values.{bytes_take, SmallTree}
 use Rattle.c_lower_follows.proofs.Leads.{Leads, leads_wild}
 use Rattle.c_lower_follows.proofs.Steps.{Desk, on, Resolves, state, silent, narrowed, written_at}
-use Rattle.c_lower_follows.proofs.Agreeing.{Below, value, ranged_set, set_both, get_same, get_other}
+use Rattle.c_lower_follows.proofs.Agreeing.{Below, value, ranged_set, set_both}
 use Rattle.c_lower_follows.proofs.Doing.{on_bind, Agrees, here, Onto, Does, Maps}
 
 -- writing to memory keeps bytes
@@ -313,8 +314,8 @@ module _ (program : TreeProgram) (code : List TreeItem) (callers : List Activati
     get_set : (xs : List ℕ) (n u m v : ℕ) → u < 2 ^ 32 → ((m v : ℕ) → slice_get xs m ≡ Some v → v < 2 ^ 32) → n < length xs → slice_get (slice_set xs n u) m ≡ Some v → v < 2 ^ 32
     get_set xs n u m v lt r inside e =
         ⊎_elim
-        (λ eq. let one : Some v ≡ Some u = sym e ∙ subst (λ i. slice_get (slice_set xs n u) i ≡ Some u) (sym eq) (get_same xs n u inside) in let same : v ≡ u = cc in omega arith)
-        (λ ne. r m v (sym (get_other xs n u m ne) ∙ e))
+        (λ eq. let one : Some v ≡ Some u = sym e ∙ subst (λ i. slice_get (slice_set xs n u) i ≡ Some u) (sym eq) (slice_set_same xs n u inside) in let same : v ≡ u = cc in omega arith)
+        (λ ne. r m v (sym (slice_set_other xs n u m ne) ∙ e))
         (cases_eq m n)
 
     put_argument_by : (n u k : ℕ) (is : List Item) (κ : Rest) (st : State) (d : Desk) (b : Bool) → nat_lt n (length st.call.parameters) ≡ b → u < 2 ^ 32 → ok st d

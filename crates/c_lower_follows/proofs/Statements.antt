@@ -5,6 +5,7 @@ use Rattle.std.specs.Option.{option_map}
 use Rattle.std.proofs.lemmas.Bool.{cases_eq, ltb-true}
 use Rattle.std.proofs.lemmas.List.{length-set}
 use Rattle.gg_base.specs.Runs.{Runs, counted}
+use Rattle.gg_base.proofs.Facts.{slice_set_same, slice_set_other}
 use Rattle.tree_core.specs.declared.program.Object.{Object}
 use Rattle.tree_core.specs.declared.program.TreeItem.{TreeItem}
 use Rattle.tree_core.specs.declared.program.TreeFn.{TreeFn}
@@ -39,7 +40,7 @@ use Rattle.c_lower_scheme.proofs.Places.{local_is}
 use Rattle.c_lower_follows.proofs.Values.{SmallTree, Small, worth_small}
 use Rattle.c_lower_follows.proofs.Leads.{Leads, leads_wild, leads_quiet, leads_counted, leads_none, leads_below}
 use Rattle.c_lower_follows.proofs.Steps.{on, Desk, desk_sight, Resolves, resolves_back, at, at_items, state, silent, moves, assign_loc_step, ret_step, jump_step, jump_counts, label_step, label_counts}
-use Rattle.c_lower_follows.proofs.Agreeing.{value, Agree, set_same, set_other, get_same, get_other, ranged_set}
+use Rattle.c_lower_follows.proofs.Agreeing.{value, Agree, set_same, set_other, ranged_set}
 use Rattle.c_lower_follows.proofs.Doing.{DoesWay}
 use Rattle.c_lower_follows.proofs.Calling.{CodeOf, Calls}
 use Rattle.c_lower_follows.proofs.Placing.{fitted_maps, whole_value}
@@ -92,8 +93,8 @@ module _ (program : TreeProgram) (code : List TreeItem) (callers : List Activati
       let inside : n < length st.call.locals = ltb-true n (length st.call.locals) e in
       h (record {
         local = λ x sc. ⊎_elim
-            (λ eq. subst (λ i. with_local d.locals n u i ≡ slice_get (slice_set st.call.locals n u) i) (sym eq) (set_same d.locals n u ∙ sym (get_same st.call.locals n u inside)))
-            (λ ne. set_other d.locals n u x ne ∙ ag.local x (sub x sc ne) ∙ sym (get_other st.call.locals n u x ne))
+            (λ eq. subst (λ i. with_local d.locals n u i ≡ slice_get (slice_set st.call.locals n u) i) (sym eq) (set_same d.locals n u ∙ sym (slice_set_same st.call.locals n u inside)))
+            (λ ne. set_other d.locals n u x ne ∙ ag.local x (sub x sc ne) ∙ sym (slice_set_other st.call.locals n u x ne))
             (cases_eq x n);
         count = length-set st.call.locals n u ∙ ag.count;
         arguments = ag.arguments;
@@ -117,7 +118,7 @@ module _ (program : TreeProgram) (code : List TreeItem) (callers : List Activati
       → Leads k (written (option_map (with_locals st) (cond b (Some (slice_set st.call.locals n 0)) None)) 0 (λ v. κ)) (from is d)
   cleared_by n k scope is κ st d false e ag h = leads_wild k _ (silent program code callers (arrived (state program code callers (spelled_all is) d)))
   cleared_by n k scope is κ st d true e ag h = h (record {
-    local = λ x sc. ag.local x sc.0 ∙ sym (get_other st.call.locals n 0 x sc.1);
+    local = λ x sc. ag.local x sc.0 ∙ sym (slice_set_other st.call.locals n 0 x sc.1);
     count = length-set st.call.locals n 0 ∙ ag.count;
     arguments = ag.arguments;
     area = ag.area;

@@ -3,6 +3,7 @@ use Rattle.std.proofs.Common.{◌≡◌, ℕ, suc, ◌≤◌, ◌<◌, ◌^◌, 
 use Rattle.std.specs.Prelude.{Bool, true, false, slice_get, slice_set}
 use Rattle.gg_base.specs.declared.run.End.TheVariants as ends
 use Rattle.gg_base.specs.Runs.{Runs, stop}
+use Rattle.gg_base.proofs.Facts.{slice_set_same}
 use Rattle.tree_core.specs.declared.program.TreeItem.{TreeItem}
 use Rattle.tree_core.specs.declared.program.TreeProgram.{TreeProgram}
 use Rattle.tree_core.specs.Area.{stored}
@@ -27,7 +28,7 @@ use Rattle.c_lower_scheme.proofs.Facts.{stable_inert}
 use Rattle.c_lower_follows.proofs.Values.{SmallTree, Small, worth_small}
 use Rattle.c_lower_follows.proofs.Leads.{Leads}
 use Rattle.c_lower_follows.proofs.Steps.{Desk, desk_sight, on, Resolves, resolves_back, lost, narrowed, written_at, assign_loc_step, assign_arg_step, assign_mem_step}
-use Rattle.c_lower_follows.proofs.Agreeing.{Below, alike_set, value, value_alike, value_stable, value_pure, Since, set_same, set_other, get_same, not_nil, back_nil}
+use Rattle.c_lower_follows.proofs.Agreeing.{Below, alike_set, value, value_alike, value_stable, value_pure, Since, set_same, set_other, not_nil, back_nil}
 use Rattle.c_lower_follows.proofs.Placing.{stored_kept, stored_narrowed, conv_value, place_on, SmallPlace, PurePlace, ok, run_at, DoesPlace, DoesReady, fitted_maps, put_local_step}
 use Rattle.c_lower_follows.proofs.Placing.{put_argument_step, put_memory_step, whole_value, FitsPlace}
 use Rattle.c_lower_follows.proofs.Doing.{waits_by, Does, Drops, Delivers, assoc, split, save_temp}
@@ -157,7 +158,7 @@ module _ (program : TreeProgram) (code : List TreeItem) (callers : List Activati
         (λ inside ag2.
         let st2 : State = with_parameters st1 (slice_set st1.call.parameters n x) in
         let d2 : Desk = record d1 { arguments = slice_set d1.arguments n x } in
-        use_number k (slice_get d2.arguments n) x is κ st2 d2 (get_same d1.arguments n x inside)
+        use_number k (slice_get d2.arguments n) x is κ st2 d2 (slice_set_same d1.arguments n x inside)
         (h st2 d2 ag2 (since_end t u u is0 [] i st d st1 d1 st2 d2 does.grows (omega arith) s1 (λ j szj o. refl))))))));
   }
   store_low_by (InMem a) is0 ty w u l t m sz pure does = record {
