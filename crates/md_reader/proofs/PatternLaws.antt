@@ -4,6 +4,7 @@ use Rattle.std.proofs.Common.{arith, get_or, reverse, eqb, ◌≤◌, length-app
 use Rattle.std.proofs.lemmas.List.{reverse-append, length-reverse}
 use Rattle.std.proofs.lemmas.Bool.{ne_eqb, leb-true}
 use Rattle.std.proofs.Math.ListN.{drop_of_length-le}
+use Rattle.std.proofs.Math.Seq.{drop-cons}
 use Rattle.tree_core.specs.declared.token.Sort.{Sort}
 use Rattle.tree_core.specs.declared.token.Sort.TheVariants as sort
 use Rattle.md_reader.specs.declared.types.Class.{Class}
@@ -88,11 +89,6 @@ at_more (suc i) (s ∷ w) lt = at_more i w (omega arith)
 pub too_many : (n i : ℕ) (w : List Sym) → n ≡ 0 → i < length w → count n (drop i w) ≡ count 1 w → false ≡ count 1 w
 too_many n i w e lt h = sym (at_more i w lt) ∙ ap (λ (m : ℕ). count m (drop i w)) (sym e) ∙ h
 
-at_item : (i : ℕ) (w : List Sym) (d : Sym) → i < length w → drop i w ≡ get_or w i d ∷ drop (suc i) w
-at_item i [] d lt = absurd (omega arith)
-at_item zero (s ∷ w) d lt = refl
-at_item (suc i) (s ∷ w) d lt = at_item i w d (omega arith)
-
 wanted_last : (items rest : List Sort) (x : Sort) → items ≡ rest ++ x ∷ [] → reverse items ≡ x ∷ reverse rest
 wanted_last items rest x e = ap (λ (t : List Sort). reverse t) e ∙ reverse-append rest (x ∷ [])
 
@@ -100,7 +96,7 @@ stepped : (ok : Sym → Sort → Bool) (items rest : List Sort) (x : Sort) (i : 
     ≡ cond (ok (get_or w i d) x) (walk ok (kids_of (get_or w i d) ++ reverse rest) (drop (i + 1) w)) false
 stepped ok items rest x i w d e lt =
     let one : i + 1 ≡ suc i = omega arith in
-    rw (one, at_item i w d lt, wanted_last items rest x e) refl
+    rw (one, drop-cons w i d lt, wanted_last items rest x e) refl
 
 pub misfits : (ok : Sym → Sort → Bool) (items rest : List Sort) (x : Sort) (i : ℕ) (w : List Sym) (d : Sym) (b : Bool) → items ≡ rest ++ x ∷ [] → i < length w → ok (get_or w i d) x ≡ false
     → walk ok (reverse items) (drop i w) ≡ b → false ≡ b

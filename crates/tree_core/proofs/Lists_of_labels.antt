@@ -1,21 +1,17 @@
 -- Steps along the lists of labels.
-use Rattle.std.proofs.Common.{◌≡◌, ℕ, zero, suc, ◌+◌, ◌<◌, List, [], ◌∷◌, ◌++◌, length, drop, get_or, Bool, true, false, cond, refl, sym, ap, ◌∙◌, subst, Option, Some, None, arith}
+use Rattle.std.proofs.Common.{◌≡◌, ℕ, suc, ◌+◌, ◌<◌, List, [], ◌∷◌, ◌++◌, length, drop, get_or, Bool, true, false, cond, refl, sym, ap, ◌∙◌, subst, Option, Some, None, arith}
 use Rattle.std.specs.Prelude.{is_some}
+use Rattle.std.proofs.Math.Seq.{drop-cons}
 use Rattle.tree_core.specs.declared.program.TreeFn.{TreeFn}
 use Rattle.tree_core.specs.declared.program.TreeItem.{TreeItem}
 use Rattle.tree_core.specs.declared.items.Mention.TheVariants as mention
 use Rattle.tree_core.specs.Items.{labels, all_labels}
 use Rattle.tree_core.specs.Window.{met_once, MetOnce, added, least, better}
 
-pub at_function : (i : ℕ) (w : List TreeFn) (d : TreeFn) → i < length w → drop i w ≡ get_or w i d ∷ drop (suc i) w
-at_function i [] d lt = absurd (omega arith)
-at_function zero (s ∷ w) d lt = refl
-at_function (suc i) (s ∷ w) d lt = at_function i w d (omega arith)
-
 pub labels_there : (i : ℕ) (w : List TreeFn) (d : TreeFn) → i < length w → all_labels (drop i w) ≡ labels mention.Stands (get_or w i d).items ++ all_labels (drop (i + 1) w)
 labels_there i w d lt =
     let one : i + 1 ≡ suc i = omega arith in
-    rw one (ap all_labels (at_function i w d lt))
+    rw one (ap all_labels (drop-cons w i d lt))
 
 least-append : (from : ℕ) (best : Option ℕ) (xs ys : List ℕ) → least from best (xs ++ ys) ≡ least from (least from best xs) ys
 least-append from best [] ys = refl

@@ -1,7 +1,8 @@
 -- Steps along the lists of links.
-use Rattle.std.proofs.Common.{◌≡◌, ℕ, zero, suc, ◌+◌, ◌<◌, List, [], ◌∷◌, ◌++◌, length, drop, get_or, Bool, true, false, not, cond, refl, sym, ap, ◌∙◌, subst, Option, None, arith}
+use Rattle.std.proofs.Common.{◌≡◌, ℕ, suc, ◌+◌, ◌<◌, List, [], ◌∷◌, ◌++◌, length, drop, get_or, Bool, true, false, not, cond, refl, sym, ap, ◌∙◌, subst, Option, None, arith}
 use Rattle.std.specs.Prelude.{is_some}
 use Rattle.std.specs.Bool.{OnTrue}
+use Rattle.std.proofs.Math.Seq.{drop-cons}
 use Rattle.tree_core.specs.declared.program.Link.{Link}
 use Rattle.tree_core.specs.Valid.{four, bytes_linked}
 use Rattle.tree_core.specs.Window.{met_once, MetOnce, added}
@@ -33,15 +34,10 @@ pub last_met : (base b : ℕ) (h g : ℕ → Bool) (n : ℕ) (r : Bool) → b �
 last_met base b h g n true e f m = new_met base b h g n [] true e f refl m
 last_met base b h g n false e f m = old_met base h n [] false f refl
 
-at_link : (i : ℕ) (w : List Link) (d : Link) → i < length w → drop i w ≡ get_or w i d ∷ drop (suc i) w
-at_link i [] d lt = absurd (omega arith)
-at_link zero (s ∷ w) d lt = refl
-at_link (suc i) (s ∷ w) d lt = at_link i w d (omega arith)
-
 bytes_there : (i : ℕ) (w : List Link) (d : Link) → i < length w → bytes_linked (drop i w) ≡ four (get_or w i d).at ++ bytes_linked (drop (i + 1) w)
 bytes_there i w d lt =
     let one : i + 1 ≡ suc i = omega arith in
-    rw one (ap bytes_linked (at_link i w d lt))
+    rw one (ap bytes_linked (drop-cons w i d lt))
 
 met_as : (r d : Bool) (w base : ℕ) (h g : ℕ → Bool) (xs : List ℕ) → r ≡ d → w ≡ base → MetOnce r g (met_once w h xs) → MetOnce d g (met_once base h xs)
 met_as r d w base h g xs a b m =

@@ -1,6 +1,7 @@
 -- How the leaves of a tree are gathered.
 use Rattle.std.proofs.Common.{◌≡◌, ℕ, suc, ◌+◌, ◌*◌, ◌<◌, List, [], ◌∷◌, ◌++◌, length, refl, sym, ap, ◌∙◌, arith, append_assoc}
 use Rattle.std.specs.Borrow.{Bor}
+use Rattle.gg_base.proofs.Facts.{nil_of}
 use Rattle.tree_core.specs.declared.tree.Leaf.{Leaf}
 use Rattle.tree_core.specs.declared.tree.Tree.{Tree, is-Tree', out-Tree, Row_of-Tree, end_of-Tree, more_of-Tree, items-the_row-Tree}
 use Rattle.tree_core.specs.declared.tree.Tree.TheBlock.{hidden-the_row-Tree-0, items_hidden-the_row-Tree-0}
@@ -38,14 +39,10 @@ pub work-push : (tss : List (Bor (List Tree))) (ts : Bor (List Tree)) → work (
 work-push [] ts = omega arith
 work-push (us ∷ tss) ts = omega (arith, work-push tss ts)
 
-no_tree : (ts : List Tree) → length ts ≡ 0 → ts ≡ []
-no_tree [] e = refl
-no_tree (t ∷ ts) e = absurd (omega (arith, e))
-
 -- the last list that waits has no tree
 pub none_waits : (waiting rest : List (Bor (List Tree))) (ts : Bor (List Tree)) (w : List Leaf) → waiting ≡ rest ++ ts ∷ [] → length ts.now ≡ 0 → waiting_onto waiting w ≡ waiting_onto rest w
 none_waits waiting rest ts w e z =
-    let n = no_tree ts.now z in
+    let n = nil_of ts.now z in
     ap (λ (q : List (Bor (List Tree))). waiting_onto q w) e
     ∙ waiting-push rest ts w
     ∙ ap (λ (q : List Tree). leaves_onto (forest_of_all q) (waiting_onto rest w)) n

@@ -1,7 +1,8 @@
 -- How the text of a tree grows, name by name.
-use Rattle.std.proofs.Common.{◌≡◌, ℕ, zero, suc, ◌+◌, ◌<◌, ◌≤◌, List, [], ◌∷◌, ◌++◌, length, drop, get_or, Bool, true, false, refl, sym, ap, ◌∙◌, arith, append_assoc}
+use Rattle.std.proofs.Common.{◌≡◌, ℕ, suc, ◌+◌, ◌<◌, ◌≤◌, List, [], ◌∷◌, ◌++◌, length, drop, get_or, Bool, true, false, refl, sym, ap, ◌∙◌, arith, append_assoc}
 use Rattle.std.proofs.lemmas.List.{append-nil}
 use Rattle.std.proofs.Math.ListN.{drop_of_length-le}
+use Rattle.std.proofs.Math.Seq.{drop-cons}
 use Rattle.tree_core.specs.declared.tree.Leaf.{Leaf}
 use Rattle.tree_core.specs.Names.{name_of, shown, spaced}
 
@@ -19,18 +20,13 @@ to_write-cons : (b : Bool) (l : Leaf) (w : List Leaf) → to_write b (l ∷ w) �
 to_write-cons true l w = shown-cons l w
 to_write-cons false l w = ap (λ (t : List ℕ). 32 ∷ t) (shown-cons l w)
 
-pub at_item : (i : ℕ) (w : List Leaf) (d : Leaf) → i < length w → drop i w ≡ get_or w i d ∷ drop (suc i) w
-at_item i [] d lt = absurd (omega arith)
-at_item zero (s ∷ w) d lt = refl
-at_item (suc i) (s ∷ w) d lt = at_item i w d (omega arith)
-
 pub goes_on : (text new : List ℕ) (b : Bool) (i : ℕ) (w : List Leaf) (d : Leaf) (all : List ℕ) → i < length w → new ≡ text ++ spaced b (name_of (get_or w i d).tok) → text
     ++ to_write b (drop i w) ≡ all → new ++ to_write false (drop (i + 1) w) ≡ all
 goes_on text new b i w d all lt e h =
     let one : i + 1 ≡ suc i = omega arith in
     rw (one, e, append_assoc)
     (ap (λ (t : List ℕ). text ++ t) (sym (to_write-cons b (get_or w i d) (drop (suc i) w)))
-    ∙ ap (λ (t : List Leaf). text ++ to_write b t) (sym (at_item i w d lt))
+    ∙ ap (λ (t : List Leaf). text ++ to_write b t) (sym (drop-cons w i d lt))
     ∙ h)
 
 nothing_left : (b : Bool) → to_write b [] ≡ []
