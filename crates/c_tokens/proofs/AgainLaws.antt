@@ -28,6 +28,7 @@ use Rattle.c_tokens.proofs.EscapeLaws.{element_reads, escape_none}
 use Rattle.c_tokens.proofs.StringLaws.{elements_read}
 use Rattle.c_tokens.proofs.Strings.{so_far}
 use Rattle.c_tokens.proofs.TableLaws.{key_reads, key_none, mark_reads, mark_none, Front, front_of, mark_some}
+use Rattle.c_tokens.proofs.PieceLaws.{letter_in, digit_in}
 
 -- how a piece is read
 pub record PieceRead (text : List ℕ) (t : Option Token) (rest : List ℕ) : Type 0 where
@@ -58,12 +59,6 @@ cut_run p text run rest r = subst (λ (t : List ℕ). CutRun p t run rest) (sym 
 
 some_run : (p : ℕ → Bool) (b : ℕ) (bs run : List ℕ) → p b ≡ true → run_len p (b ∷ bs) ≡ length run → 1 ≤ length run
 some_run p b bs run h e = rw (← e, h) (omega arith)
-
-letter_word : (b : ℕ) → is_letter b ≡ true → in_word b ≡ true
-letter_word b h = rw h refl
-
-digit_word : (b : ℕ) → is_digit b ≡ true → in_word b ≡ true
-digit_word b h = rw (digit_letter b h, h) refl
 
 word_reads : (at b : ℕ) (bs : List ℕ) → is_letter b ≡ true → piece_of at (b ∷ bs) ≡ word_piece at (b ∷ bs)
 word_reads at b bs h = rw (letter_blank b h, h) refl
@@ -136,7 +131,7 @@ piece_reads _ _ _ (keyword b bs word rest k h r e) =
       read = λ at. word_reads at b bs h ∙ rw (c.len, c.take_is, key_reads word k e) refl;
       rest_is = c.drop_is;
       some =
-          some_run in_word b bs word (letter_word b h) c.len;
+          some_run in_word b bs word (letter_in b h) c.len;
       within = c.within;
     }
 piece_reads _ _ _ (name b bs word rest h r other low) =
@@ -146,7 +141,7 @@ piece_reads _ _ _ (name b bs word rest h r other low) =
       read = λ at. word_reads at b bs h ∙ rw (c.len, c.take_is, key_none word other, le-leb (length word) 63 low) refl;
       rest_is = c.drop_is;
       some =
-          some_run in_word b bs word (letter_word b h) c.len;
+          some_run in_word b bs word (letter_in b h) c.len;
       within = c.within;
     }
 piece_reads _ _ _ (number b bs word rest v h r w) =
@@ -156,7 +151,7 @@ piece_reads _ _ _ (number b bs word rest v h r w) =
       read = λ at. number_word_reads at b bs h
           ∙ rw (c.len, c.take_is, number_reads word v w) refl;
       rest_is = c.drop_is;
-      some = some_run in_word b bs word (digit_word b h) c.len;
+      some = some_run in_word b bs word (digit_in b h) c.len;
       within = c.within;
     }
 piece_reads _ _ _ (character text v rest e) =

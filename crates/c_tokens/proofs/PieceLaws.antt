@@ -23,9 +23,9 @@ use Rattle.c_tokens.specs.Escapes.{element_of}
 use Rattle.c_tokens.specs.Pieces.{parts, holds, wrong, keyword_or_name, word_piece, number_or_not, number_piece, sign_copied, character_end, character_behind, character_piece}
 use Rattle.c_tokens.specs.Pieces.{string_from, string_token, closes, comment_len, comment_or_not, mark_or_not, mark_piece, slash_piece, piece_of}
 use Rattle.c_tokens.specs.Grammar as grammar
-use Rattle.c_tokens.specs.Grammar.{IsRun, Pass, Stops, IsNumber, IsElement, Elements, NoneCloses, NoComment, IsPiece}
+use Rattle.c_tokens.specs.Grammar.{IsElement, NoneCloses, NoComment, IsPiece}
 use Rattle.c_tokens.specs.Wrong as faults
-use Rattle.c_tokens.specs.Wrong.{NoEscape, AtLineEnd, IsWrong}
+use Rattle.c_tokens.specs.Wrong.{IsWrong}
 use Rattle.c_tokens.proofs.RunLaws.{run_cut, run_within}
 use Rattle.c_tokens.proofs.NumberLaws.{number_is, number_reads}
 use Rattle.c_tokens.proofs.EscapeLaws.{element_is, element_none}
@@ -54,10 +54,10 @@ bad at text kind h = record { ahead = 0; is = h; place_is = omega arith }
 starts_run : (p : ℕ → Bool) (b : ℕ) (bs : List ℕ) → p b ≡ true → 1 ≤ run_len p (b ∷ bs)
 starts_run p b bs h = rw h (omega arith)
 
-letter_in : (b : ℕ) → is_letter b ≡ true → in_word b ≡ true
+pub letter_in : (b : ℕ) → is_letter b ≡ true → in_word b ≡ true
 letter_in b h = rw h refl
 
-digit_in : (b : ℕ) → is_digit b ≡ true → in_word b ≡ true
+pub digit_in : (b : ℕ) → is_digit b ≡ true → in_word b ≡ true
 digit_in b h = step (is_letter b)
   where
     step : (t : Bool) → (t || is_digit b) ≡ true
