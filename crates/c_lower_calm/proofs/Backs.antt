@@ -2,6 +2,8 @@
 use Rattle.std.proofs.Common.{◌≡◌, ℕ, suc, List, [], ◌∷◌, length, refl, ap, ◌∙◌, subst}
 use Rattle.std.specs.Prelude.{Bool, true, false, ◌||◌}
 use Rattle.std.specs.List.{list_any}
+use Rattle.std.proofs.lemmas.Bool.{or_from}
+use Rattle.gg_base.proofs.Facts.{first_false, second_false}
 use Rattle.c_types.specs.declared.types.Integer.{Integer}
 use Rattle.c_types.specs.declared.types.Integer.TheVariants as ints
 use Rattle.tree_core.specs.declared.token.Tok.{Tok}
@@ -15,7 +17,6 @@ use Rattle.tree_core.specs.Calm.{divides as token_divides, reads_memory, ReadsNo
 use Rattle.c_lower_scheme.specs.Trees.{Tree, Num, Gaddr, Loc, Arg, Indir, Conv, Neg, Com, Bin, Item, Label, AssignLoc, AssignArg, AssignMem, Cbr, Jump, Push, Call, Save, Ret}
 use Rattle.c_lower_scheme.specs.Trees.{divides_by, divides, reads}
 use Rattle.c_lower_scheme.specs.Spelling.{leaf, plain, constant_token, operator_token, indir_onto, conv_onto, leaves_onto as spelled_onto, assign_onto, spelled}
-use Rattle.c_lower_scheme.proofs.Facts.{neither}
 use Rattle.c_lower_calm.proofs.Trees.{Apart, IsCalm, IsCalmItem, RootIsCalm, constant_leaf, operator_two}
 
 -- Leaves in front of others that are one tree, where calm leaves tell C. Where d is true it divides, and r tells whether it reads.
@@ -31,19 +32,11 @@ record Back (s : List Leaf → List Leaf) (d r : Bool) (C : Type 0) : Type 0 whe
   rest : (g : Forest) (w : List Leaf) → CalmBefore (forest g) w → CalmBefore g w
   back : (g : Forest) (w : List Leaf) → CalmBefore (forest g) w → C
 
-or_no_left : (a b : Bool) → a || b ≡ false → a ≡ false
-or_no_left true b e = absurd (cc)
-or_no_left false b e = refl
-
-or_no_right : (a b : Bool) → a || b ≡ false → b ≡ false
-or_no_right true b e = absurd (cc)
-or_no_right false b e = e
-
 silent_here : (l : Leaf) (w : List Leaf) → ReadsNothing (l ∷ w) → reads_memory l.tok ≡ false
-silent_here l w h = or_no_left (reads_memory l.tok) (list_any (λ (x : Leaf). reads_memory x.tok) w) h
+silent_here l w h = first_false (reads_memory l.tok) (list_any (λ (x : Leaf). reads_memory x.tok) w) h
 
 silent_behind : (l : Leaf) (w : List Leaf) → ReadsNothing (l ∷ w) → ReadsNothing w
-silent_behind l w h = or_no_right (reads_memory l.tok) (list_any (λ (x : Leaf). reads_memory x.tok) w) h
+silent_behind l w h = second_false (reads_memory l.tok) (list_any (λ (x : Leaf). reads_memory x.tok) w) h
 
 leaf_back : (l : Leaf) → kids l.tok ≡ [] → Back (λ w. l ∷ w) false false (Unit {0})
 leaf_back l alone = record {
@@ -97,7 +90,7 @@ two_back l {s = s} {t = t} {d = d} {e = e} {r = r} {q = q} own two divide p k = 
   other = λ n g. refl;
   leaves = λ g w. ap (λ v. l ∷ v) (p.leaves (k.forest none) (leaves_onto g w) ∙ ap s (k.leaves none (leaves_onto g w)));
   loud = λ w h.
-      neither r q (p.loud (t w) (silent_behind l (s (t w)) h)) (k.loud w (p.tail (t w) (silent_behind l (s (t w)) h)));
+      or_from r q (p.loud (t w) (silent_behind l (s (t w)) h)) (k.loud w (p.tail (t w) (silent_behind l (s (t w)) h)));
   tail = λ w h. k.tail w (p.tail (t w) (silent_behind l (s (t w)) h));
   deep = λ x g w h. or_cases own (d || e)
       (λ y. h.0 (divide y))

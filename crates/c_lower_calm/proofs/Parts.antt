@@ -1,6 +1,6 @@
 -- That values, conditions, places and calls are calm where their parts are.
 use Rattle.std.proofs.Common.{◌≡◌, ℕ, suc, List, [], ◌∷◌, refl}
-use Rattle.std.specs.Prelude.{Bool, true, false, not, ◌&&◌, ◌||◌}
+use Rattle.std.specs.Prelude.{Bool, true, false, not, ◌&&◌}
 use Rattle.std.proofs.lemmas.Bool.{not-false}
 use Rattle.gg_base.specs.declared.relation.Rel.{Rel}
 use Rattle.gg_base.proofs.Facts.{false_true}
@@ -173,17 +173,6 @@ comma_calm {a = a} h g = record {
   drop = drop_two_calm h g;
   deliver = λ to t l. behind (h.drop t l) (g.deliver to (a.drop t l).temps (a.drop t l).labels);
 }
-
-and_true_left : (a b : Bool) → a && b ≡ true → a ≡ true
-and_true_left true b e = refl
-and_true_left false b e = absurd (cc)
-
-and_true_right : (a b : Bool) → a && b ≡ true → b ≡ true
-and_true_right true b e = e
-and_true_right false b e = absurd (cc)
-
-no_or : (a b c : Bool) → a ≡ false → b ≡ false → c ≡ false → a || (b || c) ≡ false
-no_or a b c e f g = cc
 
 conflict : (a b : Bool) → a && b ≡ false → a ≡ true → b ≡ false
 conflict true b e h = e

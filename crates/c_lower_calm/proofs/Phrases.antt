@@ -17,7 +17,7 @@ use Rattle.c_lower_scheme.specs.Expressions.{unary, seek, way, pass}
 use Rattle.c_lower_calm.proofs.Trees.{Apart, IsCalm, AreCalm, none, behind}
 use Rattle.c_lower_calm.proofs.Parts.{CalmWay, CalmFound, CalmReady, due_calm, valued_calm, effective_calm, mapped_calm, not_calm, chain_calm, choose_calm, comma_calm, binary_calm}
 use Rattle.c_lower_calm.proofs.Parts.{relation_calm, converting_calm, test_calm, CalmLow}
-use Rattle.c_lower_calm.proofs.Places.{array_calm, found_calm, pointed_calm, read_calm, address_calm, store_drop_calm, store_low_calm, assigned_calm, update_calm, step_ready_calm}
+use Rattle.c_lower_calm.proofs.Places.{found_calm, pointed_calm, read_calm, address_calm, store_drop_calm, store_low_calm, assigned_calm, update_calm, step_ready_calm, calm_where}
 use Rattle.c_lower_calm.proofs.Places.{step_low_calm, advance_calm, advance_by_calm, retreat_calm, apart_calm, CalmPassing, no_trees, pass_calm, passed_calm, called_low_calm}
 use Rattle.c_lower_calm.proofs.Places.{called_drop_calm, called_deliver_calm}
 
@@ -60,7 +60,7 @@ module _ (size count : ℕ) where
     pub way_calm : (e : AnExpression) → CalmWay (way size count e)
     way_calm (Constant n) = valued_calm (due_calm (Num n) tt)
     way_calm (LiteralAt n bytes) = valued_calm (due_calm (Gaddr n) tt)
-    way_calm (ArrayAt ty v bytes) = valued_calm (due_calm (address_tree (where_of v)) (array_calm v))
+    way_calm (ArrayAt ty v bytes) = valued_calm (due_calm (address_tree (where_of v)) (calm_where v))
     way_calm (ReadOf p) = valued_calm (λ t l. read_calm (place_calm p t l))
     way_calm (SizeofTerm n e) = valued_calm (due_calm (Num n) tt)
     way_calm (SizeOf n) = valued_calm (due_calm (Num n) tt)

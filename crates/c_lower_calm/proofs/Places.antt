@@ -2,7 +2,7 @@
 use Rattle.std.proofs.Common.{◌≡◌, ℕ, List, [], ◌∷◌, refl}
 use Rattle.std.specs.Prelude.{Bool, true, false, not, ◌&&◌, ◌||◌, ◌==◌, if◌then◌else◌}
 use Rattle.std.proofs.lemmas.Bool.{not-false}
-use Rattle.gg_base.proofs.Facts.{false_true}
+use Rattle.gg_base.proofs.Facts.{false_true, first_false}
 use Rattle.c_types.specs.declared.types.CType.{CType}
 use Rattle.c_types.specs.declared.typed.Variable.{Variable}
 use Rattle.c_types.specs.declared.typed.Variable.TheVariants as variables
@@ -19,17 +19,14 @@ use Rattle.c_lower_scheme.specs.Values.{scaled_by, advance, advance_by, retreat,
 use Rattle.c_lower_scheme.specs.Calls.{pushes, called_drop, called_low, passed_as, pass_so, called_deliver}
 use Rattle.c_lower_scheme.specs.Assignments.{ready_so, update_so, store_drop, store_low_at, store_low, must_hold, must_keep, step_tree, step_ready, step_low}
 use Rattle.c_lower_scheme.proofs.Facts.{leaf_inert}
-use Rattle.c_lower_calm.proofs.Trees.{Apart, IsCalm, IsCalmItem, AreCalm, none, next, behind, none_left}
+use Rattle.c_lower_calm.proofs.Trees.{Apart, IsCalm, IsCalmItem, AreCalm, none, next, behind}
 use Rattle.c_lower_calm.proofs.Parts.{CalmLow, CalmFound, CalmReady, inert_apart, calm_saving, calm_saved, calm_fitted, over_calm, must_apart, delivered_calm}
 
-calm_where : (v : Variable) → IsCalm (address_tree (where_of v))
+pub calm_where : (v : Variable) → IsCalm (address_tree (where_of v))
 calm_where (variables.Automatic n) = tt
 calm_where (variables.Parameter n) = tt
 calm_where (variables.Global n) = tt
 calm_where (variables.Static n) = tt
-
-pub array_calm : (v : Variable) → IsCalm (address_tree (where_of v))
-array_calm v = calm_where v
 
 calm_read : (ty : CType) (s : Where) → IsCalm (address_tree s) → IsCalm (read_from ty s)
 calm_read ty (InLoc n) h = tt
@@ -105,7 +102,7 @@ module _ (size count : ℕ) where
       → Apart (address_tree (held (must_hold size count between is w s) u s)) w
   held_apart between is w u (InLoc n) = false_true
   held_apart between is w u (InArg n) = false_true
-  held_apart between is w u (InMem a) = by (must size count is a w || (between && breaks a)) (λ e. must_apart size count is a w (none_left (must size count is a w) (between && breaks a) e))
+  held_apart between is w u (InMem a) = by (must size count is a w || (between && breaks a)) (λ e. must_apart size count is a w (first_false (must size count is a w) (between && breaks a) e))
     where
       by : (c : Bool) → (c ≡ false → Apart a w) → Apart (saved c u a) w
       by true h = false_true

@@ -1,7 +1,8 @@
 -- Calm trees and items, and that what they are spelled as is calm.
 use Rattle.std.proofs.Common.{◌≡◌, ℕ, zero, suc, List, [], ◌∷◌, ◌++◌, length, Some, refl, sym, ◌∙◌, subst}
 use Rattle.std.specs.Prelude.{Bool, true, false, ◌||◌, ◌==◌, slice_get, if◌then◌else◌}
-use Rattle.gg_base.proofs.Facts.{false_true}
+use Rattle.std.proofs.lemmas.Bool.{or_left, or_right}
+use Rattle.gg_base.proofs.Facts.{false_true, first_false, second_false}
 use Rattle.c_types.specs.declared.types.Integer.{Integer}
 use Rattle.c_types.specs.declared.types.Integer.TheVariants as ints
 use Rattle.c_types.specs.declared.typed.ArithmeticOperator.{ArithmeticOperator}
@@ -93,22 +94,6 @@ operator_two ariths.Or = record { two = refl; silent = refl; own = refl }
 operator_two ariths.ShiftLeft = record { two = refl; silent = refl; own = refl }
 operator_two ariths.ShiftRight = record { two = refl; silent = refl; own = refl }
 
-pub or_left : (a b : Bool) → a ≡ true → a || b ≡ true
-or_left true b e = refl
-or_left false b e = absurd (cc)
-
-pub or_right : (a b : Bool) → b ≡ true → a || b ≡ true
-or_right true b e = refl
-or_right false b e = e
-
-pub none_left : (a b : Bool) → a || b ≡ false → a ≡ false
-none_left true b e = absurd (cc)
-none_left false b e = refl
-
-pub none_right : (a b : Bool) → a || b ≡ false → b ≡ false
-none_right true b e = absurd (cc)
-none_right false b e = e
-
 -- a token of one kid that does not read memory, such as a conversion
 pure_piece : (t : Tok) {s : List Leaf → List Leaf} {d r : Bool} → length (kids t) ≡ 1 → token_divides t ≡ false → reads_memory t ≡ false
     → Piece s d r → Piece (λ w. plain t ∷ s w) d r
@@ -148,7 +133,7 @@ tree_piece (Bin op a b) h =
     (λ e. or_left (divides_by op) below (sym o.own ∙ e))
     (λ e. or_right (divides_by op) below (or_left (divides a) (divides b) e))
     (λ e. or_right (divides_by op) below (or_right (divides a) (divides b) e))
-    (none_left (reads a) (reads b)) (none_right (reads a) (reads b)) h.2
+    (first_false (reads a) (reads b)) (second_false (reads a) (reads b)) h.2
     (tree_piece a h.0) (tree_piece b h.1)
 
 -- a root of two kids

@@ -1,7 +1,7 @@
 -- Small facts of lowered trees that several laws of lowering cite.
 use Rattle.std.proofs.Common.{◌≡◌, ℕ, suc, List, [], ◌∷◌, length, refl, ap, ◌++◌, map}
-use Rattle.std.specs.Prelude.{Bool, true, false, not, ◌&&◌, ◌||◌}
-use Rattle.std.proofs.lemmas.Bool.{not-true}
+use Rattle.std.specs.Prelude.{true, false, not, ◌&&◌, ◌||◌}
+use Rattle.std.proofs.lemmas.Bool.{not-true, or_from}
 use Rattle.gg_base.proofs.Facts.{first_true, second_true}
 use Rattle.c_program.specs.Programs.{ARoutine}
 use Rattle.c_lower_scheme.specs.Programs.{body_of, lower_all}
@@ -24,9 +24,6 @@ leaf_inert (Neg w) h = absurd (cc)
 leaf_inert (Com w) h = absurd (cc)
 leaf_inert (Bin op a b) h = absurd (cc)
 
-pub neither : (a b : Bool) → a ≡ false → b ≡ false → a || b ≡ false
-neither a b e h = cc
-
 pub stable_inert : (size : ℕ) (w : Tree) → stable size w ≡ true → divides w ≡ false
 stable_inert size (Num n) h = refl
 stable_inert size (Gaddr n) h = refl
@@ -40,7 +37,7 @@ stable_inert size (Bin op a b) h =
     let both = second_true (not (divides_by op)) (stable size a && stable size b) h in
     let op_inert = not-true (divides_by op) (first_true (not (divides_by op)) (stable size a && stable size b) h) in
     let a_inert = stable_inert size a (first_true (stable size a) (stable size b) both) in
-    neither (divides_by op) (divides a || divides b) op_inert (neither (divides a) (divides b) a_inert (stable_inert size b (second_true (stable size a) (stable size b) both)))
+    or_from (divides_by op) (divides a || divides b) op_inert (or_from (divides a) (divides b) a_inert (stable_inert size b (second_true (stable size a) (stable size b) both)))
 
 pub spelled_append : (a b : List Item) → spelled_all (a ++ b) ≡ spelled_all a ++ spelled_all b
 spelled_append [] b = refl

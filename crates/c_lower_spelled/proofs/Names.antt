@@ -1,8 +1,8 @@
 -- Functions' labels.
 use Rattle.std.proofs.Common.{◌≡◌, ℕ, zero, suc, List, [], ◌∷◌, length, Some, refl, arith}
-use Rattle.std.specs.Prelude.{Bool, true, ◌&&◌, nat_le, slice_get}
+use Rattle.std.specs.Prelude.{true, nat_le, slice_get}
 use Rattle.std.specs.List.{AllByRecursion, list_all}
-use Rattle.std.proofs.lemmas.Bool.{le-leb}
+use Rattle.std.proofs.lemmas.Bool.{le-leb, and_from}
 use Rattle.std.proofs.lemmas.Bool.Decides.{nat_tests}
 use Rattle.tree_core.specs.declared.program.TreeFn.{TreeFn}
 use Rattle.c_tokens.specs.Letters.{in_word}
@@ -13,9 +13,6 @@ use Rattle.c_lower_scheme.specs.Programs.{body_of, lower_all}
 use Rattle.vax_core.specs.Valid.{is_name_part, is_name}
 use Rattle.vax_frames.specs.Frames.{function_label}
 use Rattle.c_lower_spelled.specs.Claims.{NamesAreSpelled}
-
-and_from : (a b : Bool) → a ≡ true → b ≡ true → a && b ≡ true
-and_from a b h g = cc
 
 letter_part : (b : ℕ) → in_word b ≡ true → is_name_part b ≡ true
 letter_part b h = grind (arith, nat_tests)
