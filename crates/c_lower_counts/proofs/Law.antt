@@ -12,7 +12,8 @@ use Rattle.c_phrases.specs.UnitSpelling.{onto_body, onto_declared, onto_external
 use Rattle.c_program.specs.Programs.{ARoutine, AProgram}
 use Rattle.c_syntax.proofs.ListLaws.{longer_length}
 use Rattle.c_syntax.proofs.ItemLaws.{longer_spec, longer_declarators}
-use Rattle.c_syntax.proofs.UnitLaws.{longer_stars, longer_named, longer_static, longer_params, longer_some_params}
+use Rattle.c_syntax.proofs.UnitLaws.{longer_named, longer_static, longer_some_params}
+use Rattle.c_syntax.proofs.ExpressionLaws.{longer_stars}
 use Rattle.c_typed_scope.specs.declared.entry.Entry.{Entry}
 use Rattle.c_typed_scope.specs.declared.entry.Signature.{Signature}
 use Rattle.c_typed_expressions.specs.Expressions.{written}

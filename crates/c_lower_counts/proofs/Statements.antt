@@ -18,10 +18,9 @@ use Rattle.c_types.specs.declared.types.CType.{CType}
 use Rattle.c_types.specs.Typed.{AnExpression}
 use Rattle.c_program.specs.Need.{nodes, maybe_nodes}
 use Rattle.c_program.specs.Statements.{ADeclaration, KeepOf, ClearOf, BeginOf, AnAction, SomeActions}
-use Rattle.c_syntax.proofs.ExpressionLaws.{longer_first}
+use Rattle.c_syntax.proofs.ExpressionLaws.{longer_first, longer_stars}
 use Rattle.c_syntax.proofs.ListLaws.{longer_length, longer_declarator, longer_trailing}
 use Rattle.c_syntax.proofs.ItemLaws.{longer_spec, longer_storage}
-use Rattle.c_syntax.proofs.UnitLaws.{longer_stars}
 use Rattle.c_typed_scope.specs.declared.entry.Entry.{Entry}
 use Rattle.c_typed_scope.specs.declared.entry.Signature.{Signature}
 use Rattle.c_typed_expressions.specs.Phrases.{init_in}

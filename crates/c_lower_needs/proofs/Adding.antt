@@ -18,9 +18,9 @@ use Rattle.c_phrases.specs.UnitSpelling.{onto_more_params, onto_params, onto_bod
 use Rattle.c_types.specs.declared.types.CType.{CType}
 use Rattle.c_types.specs.Typed.{AnExpression}
 use Rattle.c_program.specs.Statements.{AnAction, SomeActions}
-use Rattle.c_syntax.proofs.ExpressionLaws.{longer_exp}
+use Rattle.c_syntax.proofs.ExpressionLaws.{longer_exp, longer_stars}
 use Rattle.c_syntax.proofs.ItemLaws.{longer_spec, longer_storage}
-use Rattle.c_syntax.proofs.UnitLaws.{longer_stars, longer_named, longer_static}
+use Rattle.c_syntax.proofs.UnitLaws.{longer_named, longer_static}
 use Rattle.c_typed_scope.specs.declared.entry.Entry.{Entry}
 use Rattle.c_typed_scope.specs.declared.entry.Signature.{Signature}
 use Rattle.c_typed_scope.specs.Scopes.{Scope}

@@ -16,8 +16,8 @@ use Rattle.c_types.specs.declared.types.CType.{CType}
 use Rattle.c_types.specs.Typed.{AnExpression}
 use Rattle.c_program.specs.Statements.{ADeclaration, AnAction, SomeActions}
 use Rattle.c_syntax.proofs.ExpressionLaws.{longer_exp}
-use Rattle.c_syntax.proofs.ListLaws.{longer_declarator}
-use Rattle.c_syntax.proofs.ItemLaws.{longer_spec, longer_storage, longer_part}
+use Rattle.c_syntax.proofs.ListLaws.{longer_declarator, longer_part}
+use Rattle.c_syntax.proofs.ItemLaws.{longer_spec, longer_storage}
 use Rattle.c_typed_scope.specs.declared.entry.Entry.{Entry}
 use Rattle.c_typed_scope.specs.declared.entry.Signature.{Signature}
 use Rattle.c_typed_expressions.specs.Phrases.{init_in, brackets_in}

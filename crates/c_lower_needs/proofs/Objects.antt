@@ -12,9 +12,8 @@ use Rattle.c_phrases.specs.UnitSpelling.{onto_part, onto_length, onto_trailing, 
 use Rattle.c_types.specs.declared.types.CType.{CType}
 use Rattle.c_types.specs.Types.{size_of, pointer_to}
 use Rattle.c_program.specs.Statements.{ADeclaration}
-use Rattle.c_syntax.proofs.ExpressionLaws.{longer_exp}
+use Rattle.c_syntax.proofs.ExpressionLaws.{longer_exp, longer_stars}
 use Rattle.c_syntax.proofs.ListLaws.{longer_length, longer_trailing, longer_init, longer_initialised}
-use Rattle.c_syntax.proofs.UnitLaws.{longer_stars}
 use Rattle.c_typed_scope.specs.declared.entry.Entry.{Entry}
 use Rattle.c_typed_scope.specs.declared.entry.Entry.TheVariants as entries
 use Rattle.c_typed_scope.specs.declared.entry.Signature.{Signature}

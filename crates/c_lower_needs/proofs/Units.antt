@@ -12,7 +12,8 @@ use Rattle.c_phrases.specs.UnitSpelling.{onto_length, onto_named, onto_param, on
 use Rattle.c_types.specs.declared.types.CType.{CType}
 use Rattle.c_syntax.proofs.ListLaws.{longer_length}
 use Rattle.c_syntax.proofs.ItemLaws.{longer_spec}
-use Rattle.c_syntax.proofs.UnitLaws.{longer_stars, longer_named, longer_static, longer_body, longer_declared}
+use Rattle.c_syntax.proofs.UnitLaws.{longer_named, longer_static, longer_declared}
+use Rattle.c_syntax.proofs.ExpressionLaws.{longer_stars}
 use Rattle.c_typed_scope.specs.declared.entry.Entry.TheVariants as entries
 use Rattle.c_typed_scope.specs.Scopes.{find}
 use Rattle.c_typed_expressions.specs.Phrases.{params_in}

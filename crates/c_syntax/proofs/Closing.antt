@@ -1,6 +1,6 @@
 -- The exits of the functions that read types, declarations, statements and units: a fault there is the automaton's.
-use Rattle.std.proofs.Common.{◌≡◌, ◌≢◌, ◌⊎◌, ℕ, suc, ◌+◌, ◌<◌, ◌≤◌, List, [], ◌∷◌, length, refl, sym, ap, subst, ◌∙◌, arith, inl, inr}
-use Rattle.std.specs.Prelude.{Option, Some, None, Bool, true, false, Result, Ok, Err, IfOk, IfErr}
+use Rattle.std.proofs.Common.{◌≡◌, ◌≢◌, ◌⊎◌, ℕ, ◌+◌, ◌<◌, ◌≤◌, List, [], ◌∷◌, length, refl, sym, ap, subst, ◌∙◌, arith, inl, inr}
+use Rattle.std.specs.Prelude.{Option, Some, None, Bool, true, false, Err}
 use Rattle.c_tokens.specs.declared.token.Token.{Token}
 use Rattle.c_tokens.specs.declared.token.Token.TheVariants as token
 use Rattle.c_tokens.specs.declared.words.Key.{Key}
@@ -11,25 +11,24 @@ use Rattle.c_phrases.specs.declared.operator.Spec.{Spec}
 use Rattle.c_phrases.specs.declared.operator.Storage.{Storage}
 use Rattle.c_phrases.specs.declared.operator.Storage.TheVariants as storages
 use Rattle.c_syntax_goals.specs.declared.fault.Fault.{Fault}
-use Rattle.c_syntax_goals.specs.declared.fault.Fault.TheVariants.{NoMemory, NotHere, TooDeep}
+use Rattle.c_syntax_goals.specs.declared.fault.Fault.TheVariants.{NotHere, TooDeep}
 use Rattle.c_phrases.specs.declared.tree.Named.{Named}
 use Rattle.c_phrases.specs.Classes.{Placed, Class, class_of, key_class, mark_class, word, sign}
 use Rattle.c_phrases.specs.Classes as c
-use Rattle.c_phrases.specs.Phrases.{AnExp, SomeExps, no_exps, exps, after_exp, IsAt, AllAt}
+use Rattle.c_phrases.specs.Phrases.{AnExp, SomeExps, no_exps, exps, after_exp, AllAt}
 use Rattle.c_phrases.specs.Spelling.{onto_name, onto_exp, onto_others, onto_first}
 use Rattle.c_phrases.specs.Levels.{LowExps, limit}
 use Rattle.c_phrases.specs.Units.{ALength, AnInit, value, elements, AnInitialised, ADeclarator, AStatement, SomeItems}
 use Rattle.c_phrases.specs.Units.{AParam, SomeParams, AnExternal, AUnit, if_else, expression, break_off, continue_on}
 use Rattle.c_phrases.specs.Units.{give_back, local_item, statement_item, ALocal, ADeclared}
-use Rattle.c_phrases.specs.UnitSpelling.{onto_init, onto_length, onto_initialised, onto_items, onto_statement}
-use Rattle.c_phrases.specs.UnitSpelling.{onto_local, onto_externals}
-use Rattle.c_phrases.specs.Fits.{InitFits, ExternalsFit}
-use Rattle.c_phrases.specs.UnitLevels.{LowInit, LowExternals}
+use Rattle.c_phrases.specs.UnitSpelling.{onto_init}
+use Rattle.c_phrases.specs.Fits.{InitFits}
+use Rattle.c_phrases.specs.UnitLevels.{LowInit}
 use Rattle.c_phrases.specs.Fronts.{Quiet, IsNot, strength, mark_strength}
-use Rattle.c_syntax.specs.Reads.{NoName, IsRead, ReadsSpec, ReadsStars, ReadsType, ArgumentsSoFar, IsSome}
+use Rattle.c_syntax.specs.Reads.{NoName, IsRead, ReadsSpec, ReadsStars, ArgumentsSoFar, IsSome}
 use Rattle.c_syntax.specs.Leads.{Fails, Leads, TailFails, TailLeads, CondLeads}
-use Rattle.c_syntax.specs.Stands.{ReadsPart, ReadsCondition, ReadsStatement, ReadsParams, ReadsLocal, ReadsInit}
-use Rattle.c_syntax.specs.Stands.{ReadsElements, ReadsLength, ReadsExternals, ReadsExternal}
+use Rattle.c_syntax.specs.Stands.{ReadsPart, ReadsCondition, ReadsStatement, ReadsParams, ReadsLocal}
+use Rattle.c_syntax.specs.Stands.{ReadsElements, ReadsExternal}
 use Rattle.c_phrases.specs.Fronts.{LocalClass, NoLocal, BeginsLocal}
 use Rattle.c_syntax.specs.StatementLeads.{PartFails, MoreLeads, ItemsLead, ParamsLead, HasToken}
 use Rattle.c_phrases.specs.Takes.{TypeClass, NoTypeClass, IsTypeWord, NoTypeWord}
@@ -40,13 +39,12 @@ use Rattle.c_syntax_goals.specs.Declarators as Declarators
 use Rattle.c_syntax_goals.specs.Statements as Statements
 use Rattle.c_syntax_goals.specs.Wanted as Wanted
 use Rattle.c_syntax_goals.specs.Externals as Externals
-use Rattle.c_syntax_goals.specs.Goals.{Goal, Val, Stack, Done, Want, Steps, Opens, Refuses, Expr, Assign}
-use Rattle.c_syntax_goals.specs.Goals.{Cast, Tail, Back, WantParen, WantBracket, WantSemi, WantWhile, TypeWords}
-use Rattle.c_syntax_goals.specs.Goals.{AfterUnsigned, Stars, Condition, Simple, Statement, Items, PartSemi, PartParen}
+use Rattle.c_syntax_goals.specs.Goals.{Stack, Want, Refuses, Expr, Assign}
+use Rattle.c_syntax_goals.specs.Goals.{Cast, Tail, Back, WantSemi, WantWhile, TypeWords}
+use Rattle.c_syntax_goals.specs.Goals.{AfterUnsigned, Condition, Simple, Statement, Items, PartSemi, PartParen}
 use Rattle.c_syntax_goals.specs.Goals.{ForOpen, ElsePart, Local, DeclaratorName, ArrayPart, Length, InitPart, Init}
-use Rattle.c_syntax_goals.specs.Goals.{Elements, InitMore, InitNext, MoreDeclarators, DeclaredName, AfterName, Body}
+use Rattle.c_syntax_goals.specs.Goals.{Elements, InitMore, MoreDeclarators, DeclaredName, AfterName, Body}
 use Rattle.c_syntax_goals.specs.Goals.{Params, OptName, MoreParams, External, Whole}
-use Rattle.c_syntax_goals.specs.Turns.{turn}
 use Rattle.c_syntax_goals.specs.Types.{type_goals, stars_then}
 use Rattle.c_syntax_goals.specs.Expressions.{cond_goals}
 use Rattle.c_syntax_goals.specs.Declarators.{declarator_goals, declarator_behind}
@@ -54,14 +52,14 @@ use Rattle.c_syntax_goals.specs.Externals.{globals_behind, param_goals, param_be
 use Rattle.c_syntax_goals.specs.Externals.{function_behind, declared_goals, external_rest, before}
 use Rattle.c_syntax_goals.specs.Statements.{if_goals, while_goals, do_goals, for_goals, local_rest, item_local}
 use Rattle.c_syntax_goals.specs.Machine.{run}
-use Rattle.c_syntax_goals.proofs.Tokens.{single, token_of}
-use Rattle.c_syntax_goals.proofs.Steps.{NoSet, back, expand_cond, step_refuses}
-use Rattle.c_syntax_goals.proofs.Going.{Starts, StartClass, starts, not_start, quiet_others, law_exp, law_assign, law_cond, law_operand}
+use Rattle.c_syntax_goals.proofs.Tokens.{not_class}
+use Rattle.c_syntax_goals.proofs.Steps.{NoSet, back, step_refuses}
+use Rattle.c_syntax_goals.proofs.Going.{Starts, starts, not_start, quiet_others, law_assign, law_cond}
 use Rattle.c_syntax_goals.proofs.PhraseLaws.{limit_low}
-use Rattle.c_syntax_goals.proofs.Stating.{pass_array, pass_init, pass_else, expand_length, expand_init, expand_elements, expand_next, expand_semi, expand_paren, expand_after_name, name_by}
-use Rattle.c_syntax_goals.proofs.Stating.{expand_items, expand_local, law_init, law_elements_init, law_condition, law_semi, law_paren, law_statement, law_local, law_params}
+use Rattle.c_syntax_goals.proofs.Stating.{pass_array, pass_init, expand_length, expand_init, expand_elements, expand_next, expand_semi, expand_paren, expand_after_name, name_by}
+use Rattle.c_syntax_goals.proofs.Stating.{expand_local, law_elements_init, law_condition, law_semi, law_paren, law_statement, law_local, law_params}
 use Rattle.c_syntax_goals.proofs.Stating.{law_external}
-use Rattle.c_syntax.proofs.Exits.{IsReal, fails_when, real, fails_here, deep, opens, class_not, assign_leads, exp_leads, operand_leads, no_close, no_bracket}
+use Rattle.c_syntax.proofs.Exits.{fails_when, real, fails_here, deep, opens, assign_leads, exp_leads, operand_leads, no_close, no_bracket, set_refused}
 
 -- types
 unsigned_by : (k : Class) → (k ≢ c.Char) → (k ≢ c.Short) → (t : Placed) (at : ℕ) (κ : Spec → Stack) → Types.unsigned_step k t at κ ≡ Refuses
@@ -72,7 +70,7 @@ unsigned_by k h i t at κ = refl
 no_unsigned : (at n : ℕ) (κ : Spec → Stack) (ts : List Placed) → IsNot (token.Key keys.Char) ts → IsNot (token.Key keys.Short) ts → run limit (Want (AfterUnsigned at) κ) n ts
     ≡ Err (NotHere (length ts))
 no_unsigned at n κ [] h i = refl
-no_unsigned at n κ (t ∷ ts) h i = rw (unsigned_by (class_of t.kind) (class_not t.kind (token.Key keys.Char) refl h) (class_not t.kind (token.Key keys.Short) refl i) t at κ) refl
+no_unsigned at n κ (t ∷ ts) h i = rw (unsigned_by (class_of t.kind) (not_class t.kind (token.Key keys.Char) refl h) (not_class t.kind (token.Key keys.Short) refl i) t at κ) refl
 
 pub unsigned_none : (at n : ℕ) (ts : List Placed) (f : Fault) → f ≡ NotHere (length ts) → IsNot (token.Key keys.Char) ts → IsNot (token.Key keys.Short) ts → Fails (Want (AfterUnsigned at)) n ts f
 unsigned_none at n ts f e h i = fails_here (Want (AfterUnsigned at)) n ts (length ts) f e (λ κ. no_unsigned at n κ ts h i)
@@ -88,8 +86,8 @@ words_by k a b d e f t κ = refl
 no_words : (n : ℕ) (κ : Spec → Stack) (ts : List Placed) → IsNot (token.Key keys.Int) ts → IsNot (token.Key keys.Char) ts → IsNot (token.Key keys.Void) ts → IsNot (token.Key keys.Short) ts
     → IsNot (token.Key keys.Unsigned) ts → run limit (Want TypeWords κ) n ts ≡ Err (NotHere (length ts))
 no_words n κ [] a b d e f = refl
-no_words n κ (t ∷ ts) a b d e f = rw (words_by (class_of t.kind) (class_not t.kind (token.Key keys.Int) refl a) (class_not t.kind (token.Key keys.Char) refl b)
-    (class_not t.kind (token.Key keys.Void) refl d) (class_not t.kind (token.Key keys.Short) refl e) (class_not t.kind (token.Key keys.Unsigned) refl f) t κ) refl
+no_words n κ (t ∷ ts) a b d e f = rw (words_by (class_of t.kind) (not_class t.kind (token.Key keys.Int) refl a) (not_class t.kind (token.Key keys.Char) refl b)
+    (not_class t.kind (token.Key keys.Void) refl d) (not_class t.kind (token.Key keys.Short) refl e) (not_class t.kind (token.Key keys.Unsigned) refl f) t κ) refl
 
 pub spec_none : (n : ℕ) (ts : List Placed) (f : Fault) → f ≡ NotHere (length ts) → IsNot (token.Key keys.Int) ts → IsNot (token.Key keys.Char) ts → IsNot (token.Key keys.Void) ts
     → IsNot (token.Key keys.Short) ts → IsNot (token.Key keys.Unsigned) ts → Fails (Want TypeWords) n ts f
@@ -160,11 +158,6 @@ token_unset (token.Number v) q h = omega arith
 token_unset (token.Str b) q h = omega arith
 token_unset token.End q h = omega arith
 
-set_refused : (k : Class) → (NoSet k → ⊥) → (t : Placed) (n : ℕ) (l : AnExp) (κ : AnExp → Stack) → Expressions.tail_turn k t n false l κ ≡ Steps Refuses
-set_refused c.Equals h t n l κ = refl
-set_refused c.Compound h t n l κ = refl
-set_refused k h t n l κ = absurd (h tt)
-
 -- behind a condition stands no closing bracket
 length_closed : (n i j o : ℕ) (ts inner rest : List Placed) (e : AnExp) (f : Fault) → ts ≡ sign marks.OpenBracket o ∷ inner → (i ≡ n + 1) × (n + 1 ≤ 200)
     → IsNot (token.Mark marks.CloseBracket) inner → IsRead 2 2 i inner e rest j → Quiet 1 rest → (f ≡ NotHere (length rest)) × IsNot (token.Mark marks.CloseBracket) rest
@@ -201,7 +194,7 @@ init_more_by k h i κ = refl
 no_init_more : (n : ℕ) (κ : SomeExps × Bool → Stack) (ts : List Placed) → IsNot (token.Mark marks.CloseBrace) ts → IsNot (token.Mark marks.Comma) ts → run limit (Want InitMore κ) n ts
     ≡ Err (NotHere (length ts))
 no_init_more n κ [] h i = refl
-no_init_more n κ (t ∷ ts) h i = rw (init_more_by (class_of t.kind) (class_not t.kind (token.Mark marks.CloseBrace) refl h) (class_not t.kind (token.Mark marks.Comma) refl i) κ) refl
+no_init_more n κ (t ∷ ts) h i = rw (init_more_by (class_of t.kind) (not_class t.kind (token.Mark marks.CloseBrace) refl h) (not_class t.kind (token.Mark marks.Comma) refl i) κ) refl
 
 abbrev joined : SomeExps → SomeExps → SomeExps
 joined no_exps fs = fs
@@ -335,7 +328,7 @@ more_declarators_by k h i κ = refl
 no_declarators : (n : ℕ) (κ : List ADeclarator → Stack) (ts : List Placed) → IsNot (token.Mark marks.Semicolon) ts → IsNot (token.Mark marks.Comma) ts
     → run limit (Want MoreDeclarators κ) n ts ≡ Err (NotHere (length ts))
 no_declarators n κ [] h i = refl
-no_declarators n κ (t ∷ ts) h i = rw (more_declarators_by (class_of t.kind) (class_not t.kind (token.Mark marks.Semicolon) refl h) (class_not t.kind (token.Mark marks.Comma) refl i) κ) refl
+no_declarators n κ (t ∷ ts) h i = rw (more_declarators_by (class_of t.kind) (not_class t.kind (token.Mark marks.Semicolon) refl h) (not_class t.kind (token.Mark marks.Comma) refl i) κ) refl
 
 pub more_begin : (n : ℕ) (ts : List Placed) → MoreLeads n ts ts
 more_begin n ts = λ f h. h
@@ -361,7 +354,7 @@ local_by k h i t κ = refl
 pub storage_none : (ts : List Placed) → IsNot (token.Key keys.Static) ts → IsNot (token.Key keys.Register) ts → (n : ℕ) (κ : ALocal → Stack) → run limit (Want Local κ) n ts
     ≡ run limit (Want TypeWords (local_rest storages.Automatic κ)) n ts
 storage_none [] h i n κ = refl
-storage_none (t ∷ ts) h i n κ = rw (local_by (class_of t.kind) (class_not t.kind (token.Key keys.Static) refl h) (class_not t.kind (token.Key keys.Register) refl i) t κ) refl
+storage_none (t ∷ ts) h i n κ = rw (local_by (class_of t.kind) (not_class t.kind (token.Key keys.Static) refl h) (not_class t.kind (token.Key keys.Register) refl i) t κ) refl
 
 pub storage_static : (at : ℕ) (ts rest : List Placed) → ts ≡ word keys.Static at ∷ rest → (n : ℕ) (κ : ALocal → Stack) → run limit (Want Local κ) n ts
     ≡ run limit (Want TypeWords (local_rest (storages.Static at) κ)) n rest
@@ -392,7 +385,7 @@ semi_by k h s = refl
 
 no_semi : (n : ℕ) (κ : Unit {0} → Stack) (ts : List Placed) → IsNot (token.Mark marks.Semicolon) ts → run limit (Want WantSemi κ) n ts ≡ Err (NotHere (length ts))
 no_semi n κ [] h = refl
-no_semi n κ (t ∷ ts) h = rw (semi_by (class_of t.kind) (class_not t.kind (token.Mark marks.Semicolon) refl h) (κ tt)) refl
+no_semi n κ (t ∷ ts) h = rw (semi_by (class_of t.kind) (not_class t.kind (token.Mark marks.Semicolon) refl h) (κ tt)) refl
 
 pub part_err : (m : Mark) (n : ℕ) (ts : List Placed) (f : Fault) → IsNot (token.Mark m) ts → Fails (Want Expr) n ts f → PartFails m n ts f
 part_err marks.Semicolon n ts f h d = fails_when (Want PartSemi) n ts f (λ r κ. expand_semi limit n κ ts h ∙ real (Want Expr) n ts f d r _)
@@ -421,7 +414,7 @@ condition_by k h t n κ = refl
 
 no_condition : (n : ℕ) (κ : ℕ × AnExp → Stack) (ts : List Placed) → IsNot (token.Mark marks.OpenParenthesis) ts → run limit (Want Condition κ) n ts ≡ Err (NotHere (length ts))
 no_condition n κ [] h = refl
-no_condition n κ (t ∷ ts) h = rw (condition_by (class_of t.kind) (class_not t.kind (token.Mark marks.OpenParenthesis) refl h) t n κ) refl
+no_condition n κ (t ∷ ts) h = rw (condition_by (class_of t.kind) (not_class t.kind (token.Mark marks.OpenParenthesis) refl h) t n κ) refl
 
 pub condition_none : (n : ℕ) (ts : List Placed) (f : Fault) → f ≡ NotHere (length ts) → IsNot (token.Mark marks.OpenParenthesis) ts → Fails (Want Condition) n ts f
 condition_none n ts f e h = fails_here (Want Condition) n ts (length ts) f e (λ κ. no_condition n κ ts h)
@@ -466,7 +459,7 @@ while_by k h t κ = refl
 
 no_while : (n : ℕ) (κ : ℕ → Stack) (ts : List Placed) → IsNot (token.Key keys.While) ts → run limit (Want WantWhile κ) n ts ≡ Err (NotHere (length ts))
 no_while n κ [] h = refl
-no_while n κ (t ∷ ts) h = rw (while_by (class_of t.kind) (class_not t.kind (token.Key keys.While) refl h) t κ) refl
+no_while n κ (t ∷ ts) h = rw (while_by (class_of t.kind) (not_class t.kind (token.Key keys.While) refl h) t κ) refl
 
 while_leads : (n p : ℕ) (κ : ℕ → Stack) (ts after : List Placed) → ts ≡ word keys.While p ∷ after → run limit (Want WantWhile κ) n ts ≡ run limit (κ p) n after
 while_leads n p κ ts after e = rw e refl
@@ -492,7 +485,7 @@ for_by k h t κ = refl
 
 no_for : (n : ℕ) (κ : ℕ → Stack) (ts : List Placed) → IsNot (token.Mark marks.OpenParenthesis) ts → run limit (Want ForOpen κ) n ts ≡ Err (NotHere (length ts))
 no_for n κ [] h = refl
-no_for n κ (t ∷ ts) h = rw (for_by (class_of t.kind) (class_not t.kind (token.Mark marks.OpenParenthesis) refl h) t κ) refl
+no_for n κ (t ∷ ts) h = rw (for_by (class_of t.kind) (not_class t.kind (token.Mark marks.OpenParenthesis) refl h) t κ) refl
 
 pub for_none : (at n : ℕ) (ts : List Placed) (f : Fault) → f ≡ NotHere (length ts) → IsNot (token.Mark marks.OpenParenthesis) ts → Fails (for_goals at n) n ts f
 for_none at n ts f e h = fails_here (for_goals at n) n ts (length ts) f e (λ κ. no_for n _ ts h)
@@ -557,8 +550,8 @@ pub record IsComputed (ts : List Placed) : Type 0 where
 expand_simple : (n : ℕ) (κ : AStatement → Stack) (ts : List Placed) → IsComputed ts → run limit (Want Simple κ) n ts
     ≡ run limit (Want Expr (λ e. Want (Back n) (λ x. Want WantSemi (λ y. κ (expression e))))) n ts
 expand_simple n κ [] h = refl
-expand_simple n κ (t ∷ ts) h = rw (simple_by (class_of t.kind) (no_simple_of (class_of t.kind) (class_not t.kind (token.Mark marks.Semicolon) refl h.no_semi)
-    (class_not t.kind (token.Key keys.Break) refl h.no_break) (class_not t.kind (token.Key keys.Continue) refl h.no_continue) (class_not t.kind (token.Key keys.Return) refl h.no_return)) t n κ) refl
+expand_simple n κ (t ∷ ts) h = rw (simple_by (class_of t.kind) (no_simple_of (class_of t.kind) (not_class t.kind (token.Mark marks.Semicolon) refl h.no_semi)
+    (not_class t.kind (token.Key keys.Break) refl h.no_break) (not_class t.kind (token.Key keys.Continue) refl h.no_continue) (not_class t.kind (token.Key keys.Return) refl h.no_return)) t n κ) refl
 
 pub break_semi : (n at : ℕ) (ts after : List Placed) (f : Fault) → ts ≡ word keys.Break at ∷ after → (f ≡ NotHere (length after)) × IsNot (token.Mark marks.Semicolon) after
     → Fails (Want Simple) n ts f
@@ -615,8 +608,8 @@ statement_by k a b d e f t n κ = refl
 
 expand_other : (n : ℕ) (κ : AStatement → Stack) (ts : List Placed) → IsSimple ts → run limit (Want Statement κ) n ts ≡ run limit (Want Simple κ) n ts
 expand_other n κ [] h = refl
-expand_other n κ (t ∷ ts) h = rw (statement_by (class_of t.kind) (class_not t.kind (token.Mark marks.OpenBrace) refl h.no_brace) (class_not t.kind (token.Key keys.If) refl h.no_if)
-    (class_not t.kind (token.Key keys.While) refl h.no_while) (class_not t.kind (token.Key keys.Do) refl h.no_do) (class_not t.kind (token.Key keys.For) refl h.no_for) t n κ) refl
+expand_other n κ (t ∷ ts) h = rw (statement_by (class_of t.kind) (not_class t.kind (token.Mark marks.OpenBrace) refl h.no_brace) (not_class t.kind (token.Key keys.If) refl h.no_if)
+    (not_class t.kind (token.Key keys.While) refl h.no_while) (not_class t.kind (token.Key keys.Do) refl h.no_do) (not_class t.kind (token.Key keys.For) refl h.no_for) t n κ) refl
 
 pub simple_err : (n : ℕ) (ts : List Placed) (f : Fault) → IsSimple ts → Fails (Want Simple) n ts f → Fails (Want Statement) n ts f
 simple_err n ts f h d = fails_when (Want Statement) n ts f (λ r κ. expand_other n κ ts h ∙ real (Want Simple) n ts f d r κ)
@@ -637,7 +630,7 @@ local_or k h i t n κ = refl
 items_statement : (n : ℕ) (κ : SomeItems → Stack) (ts : List Placed) → NoLocal ts → IsNot (token.Mark marks.CloseBrace) ts → run limit (Want Items κ) n ts
     ≡ run limit (Want Statement (λ s. Want Items (λ is. κ (statement_item s is)))) n ts
 items_statement n κ [] h i = refl
-items_statement n κ (t ∷ ts) h i = rw (local_or (class_of t.kind) h (class_not t.kind (token.Mark marks.CloseBrace) refl i) t n κ) refl
+items_statement n κ (t ∷ ts) h i = rw (local_or (class_of t.kind) h (not_class t.kind (token.Mark marks.CloseBrace) refl i) t n κ) refl
 
 pub item_local_err : (n : ℕ) (ts : List Placed) (f : Fault) → BeginsLocal ts → Fails (Want Local) n ts f → Fails (Want Items) n ts f
 item_local_err n ts f h d = fails_when (Want Items) n ts f (λ r κ. expand_local limit n κ ts h ∙ real (Want Local) n ts f d r (item_local κ))
@@ -685,7 +678,7 @@ more_params_by k h i κ = refl
 no_params_more : (n : ℕ) (κ : List AParam → Stack) (ts : List Placed) → IsNot (token.Mark marks.CloseParenthesis) ts → IsNot (token.Mark marks.Comma) ts
     → run limit (Want MoreParams κ) n ts ≡ Err (NotHere (length ts))
 no_params_more n κ [] h i = refl
-no_params_more n κ (t ∷ ts) h i = rw (more_params_by (class_of t.kind) (class_not t.kind (token.Mark marks.CloseParenthesis) refl h) (class_not t.kind (token.Mark marks.Comma) refl i) κ) refl
+no_params_more n κ (t ∷ ts) h i = rw (more_params_by (class_of t.kind) (not_class t.kind (token.Mark marks.CloseParenthesis) refl h) (not_class t.kind (token.Mark marks.Comma) refl i) κ) refl
 
 pub list_first_err : (n : ℕ) (ts : List Placed) (f : Fault) → Fails param_goals n ts f → Fails list_goals n ts f
 list_first_err n ts f h = fails_when list_goals n ts f (λ r κ. real param_goals n ts f h r (λ p. Want MoreParams (λ ps. κ (some_params p ps))))
@@ -712,7 +705,7 @@ params_by k h t κ = refl
 
 expand_params : (n : ℕ) (κ : SomeParams → Stack) (ts : List Placed) → IsNot (token.Mark marks.CloseParenthesis) ts → run limit (Want Params κ) n ts ≡ run limit (list_goals κ) n ts
 expand_params n κ [] h = refl
-expand_params n κ (t ∷ ts) h = rw (params_by (class_of t.kind) (class_not t.kind (token.Mark marks.CloseParenthesis) refl h) t κ) refl
+expand_params n κ (t ∷ ts) h = rw (params_by (class_of t.kind) (not_class t.kind (token.Mark marks.CloseParenthesis) refl h) t κ) refl
 
 pub params_err : (n : ℕ) (ts : List Placed) (f : Fault) → IsNot (token.Mark marks.CloseParenthesis) ts → Fails list_goals n ts f → Fails (Want Params) n ts f
 params_err n ts f h d = fails_when (Want Params) n ts f (λ r κ. expand_params n κ ts h ∙ real list_goals n ts f d r κ)
@@ -726,7 +719,7 @@ body_by k h i n κ = refl
 no_body : (n : ℕ) (κ : Option SomeItems → Stack) (ts : List Placed) → IsNot (token.Mark marks.Semicolon) ts → IsNot (token.Mark marks.OpenBrace) ts → run limit (Want Body κ) n ts
     ≡ Err (NotHere (length ts))
 no_body n κ [] h i = refl
-no_body n κ (t ∷ ts) h i = rw (body_by (class_of t.kind) (class_not t.kind (token.Mark marks.Semicolon) refl h) (class_not t.kind (token.Mark marks.OpenBrace) refl i) n κ) refl
+no_body n κ (t ∷ ts) h i = rw (body_by (class_of t.kind) (not_class t.kind (token.Mark marks.Semicolon) refl h) (not_class t.kind (token.Mark marks.OpenBrace) refl i) n κ) refl
 
 pub body_none : (ts : List Placed) (f : Fault) → IsNot (token.Mark marks.Semicolon) ts → (f ≡ NotHere (length ts)) × IsNot (token.Mark marks.OpenBrace) ts → Fails (Want Body) 0 ts f
 body_none ts f h d = fails_here (Want Body) 0 ts (length ts) f d.0 (λ κ. no_body 0 κ ts h d.1)
@@ -782,7 +775,7 @@ external_by k h t κ = refl
 
 pub static_none : (ts : List Placed) → IsNot (token.Key keys.Static) ts → (κ : AnExternal → Stack) → run limit (Want External κ) 0 ts ≡ run limit (Want TypeWords (external_rest None κ)) 0 ts
 static_none [] h κ = refl
-static_none (t ∷ ts) h κ = rw (external_by (class_of t.kind) (class_not t.kind (token.Key keys.Static) refl h) t κ) refl
+static_none (t ∷ ts) h κ = rw (external_by (class_of t.kind) (not_class t.kind (token.Key keys.Static) refl h) t κ) refl
 
 pub static_some : (at : ℕ) (ts rest : List Placed) → ts ≡ word keys.Static at ∷ rest → (κ : AnExternal → Stack) → run limit (Want External κ) 0 ts
     ≡ run limit (Want TypeWords (external_rest (Some at) κ)) 0 rest
@@ -803,7 +796,7 @@ whole_by k h t κ = refl
 
 expand_whole : (κ : AUnit → Stack) (ts : List Placed) → IsNot token.End ts → run limit (Want Whole κ) 0 ts ≡ run limit (Want External (λ x. Want Whole (λ u. κ (before x u)))) 0 ts
 expand_whole κ [] h = refl
-expand_whole κ (t ∷ ts) h = rw (whole_by (class_of t.kind) (class_not t.kind token.End refl h) t κ) refl
+expand_whole κ (t ∷ ts) h = rw (whole_by (class_of t.kind) (not_class t.kind token.End refl h) t κ) refl
 
 -- a fault of the rest of a unit is one of the whole
 abbrev pub WholeLeads : List Placed → List Placed → Type 0
@@ -849,4 +842,4 @@ pub local_as_type : (b : Bool) (ts : List Placed) → IsNot (token.Key keys.Stat
 local_as_type true [] h i m = m
 local_as_type true (t ∷ ts) h i m = type_local (class_of t.kind) m
 local_as_type false [] h i m = tt
-local_as_type false (t ∷ ts) h i m = type_not_local (class_of t.kind) (class_not t.kind (token.Key keys.Static) refl h) (class_not t.kind (token.Key keys.Register) refl i) m
+local_as_type false (t ∷ ts) h i m = type_not_local (class_of t.kind) (not_class t.kind (token.Key keys.Static) refl h) (not_class t.kind (token.Key keys.Register) refl i) m

@@ -1,6 +1,6 @@
 -- The exits of the functions that read expressions: a fault there is the automaton's.
-use Rattle.std.proofs.Common.{◌≡◌, ◌≢◌, ℕ, suc, ◌+◌, ◌<◌, ◌≤◌, List, [], ◌∷◌, length, refl, sym, ap, subst, ◌∙◌, arith}
-use Rattle.std.specs.Prelude.{Option, Some, None, Bool, true, false, Result, Ok, Err, IfOk, IfErr}
+use Rattle.std.proofs.Common.{◌≡◌, ◌≢◌, ℕ, ◌+◌, ◌<◌, ◌≤◌, List, [], ◌∷◌, length, refl, sym, ◌∙◌, arith}
+use Rattle.std.specs.Prelude.{None, Bool, true, false, Result, Ok, Err, IfOk, IfErr}
 use Rattle.std.specs.Bool.{MatchBool}
 use Rattle.std.proofs.lemmas.Bool.Decides.{nat_tests}
 use Rattle.std.proofs.lemmas.Option.{none-some}
@@ -19,12 +19,12 @@ use Rattle.c_syntax_goals.specs.declared.fault.Fault.TheVariants.{NoMemory, NotH
 use Rattle.c_phrases.specs.declared.tree.TypeName.{TypeName}
 use Rattle.c_phrases.specs.Classes.{Placed, Class, class_of, key_class, mark_class, word, sign}
 use Rattle.c_phrases.specs.Classes as c
-use Rattle.c_phrases.specs.Phrases.{AnExp, paren, call, index, step_after, sizeof_exp, comma}
-use Rattle.c_phrases.specs.Phrases.{SomeExps, no_exps, exps, after_exp, IsAt, AllAt}
+use Rattle.c_phrases.specs.Phrases.{AnExp, paren, call, index, step_after, comma}
+use Rattle.c_phrases.specs.Phrases.{SomeExps, no_exps, exps, after_exp, AllAt}
 use Rattle.c_phrases.specs.Spelling.{onto_exp, onto_first, onto_others}
 use Rattle.c_phrases.specs.Operators.{binary_mark, step_mark, assign_mark}
-use Rattle.c_phrases.specs.Levels.{LowExp, LowExps, limit}
-use Rattle.c_phrases.specs.Takes.{IsTypeWord, NoTypeWord, assign_of, prefix_of, step_of, NoPrefix, NoPrefixMark, NoStep, NoStepMark, NoAssign, NoAssignMark}
+use Rattle.c_phrases.specs.Levels.{LowExps, limit}
+use Rattle.c_phrases.specs.Takes.{IsTypeWord, assign_of, prefix_of, step_of, NoPrefix, NoPrefixMark, NoStep, NoStepMark, NoAssign, NoAssignMark}
 use Rattle.c_phrases.specs.Fronts.{Quiet, IsNot, NoCast}
 use Rattle.c_syntax.specs.Reads.{NoName, NoNumber, NoString, BeginsCast, StopClass, IsStop, IsRead, ReadsType}
 use Rattle.c_syntax.specs.Reads.{ArgumentsSoFar, ReadsArguments, IsSome}
@@ -39,13 +39,13 @@ use Rattle.c_syntax_goals.specs.Goals.{WantBracket, WantColon}
 use Rattle.c_syntax_goals.specs.Turns.{turn}
 use Rattle.c_syntax_goals.specs.Expressions.{insert, cond_goals}
 use Rattle.c_syntax_goals.specs.Types.{type_goals}
-use Rattle.c_syntax_goals.specs.Groups.{cast_behind, paren_behind, sizeof_behind}
+use Rattle.c_syntax_goals.specs.Groups.{cast_behind, sizeof_behind}
 use Rattle.c_syntax_goals.specs.Machine.{run}
-use Rattle.c_syntax_goals.proofs.Tokens.{single, token_of}
+use Rattle.c_syntax_goals.proofs.Tokens.{not_class}
 use Rattle.c_syntax_goals.proofs.PhraseLaws.{limit_low}
-use Rattle.c_syntax_goals.proofs.Steps.{Unset, NoSet, step_opens, step_deep, step_refuses, tail_binary, tail_assign, unary_step, post_step, back, loosen, quiet_call}
+use Rattle.c_syntax_goals.proofs.Steps.{Unset, NoSet, step_opens, step_deep, step_refuses, tail_binary, tail_assign, unary_step, post_step, back, loosen}
 use Rattle.c_syntax_goals.proofs.Steps.{group_type, sizeof_group_type, cast_plain, assign_plain, sizeof_is_plain, assign_cast, expand_expr, expand_cond, expand_arguments}
-use Rattle.c_syntax_goals.proofs.Going.{StartClass, Starts, starts, not_start, quiet_others, law_exp, law_assign, law_operand, law_unary, law_first}
+use Rattle.c_syntax_goals.proofs.Going.{starts, not_start, quiet_others, law_exp, law_assign, law_operand, law_unary, law_first}
 
 -- a fault that is no want of memory
 abbrev pub IsReal : Fault → Type 0
@@ -114,29 +114,26 @@ more_by c.CloseParen h i n κ = absurd (h refl)
 more_by c.Comma h i n κ = absurd (i refl)
 more_by k h i n κ = refl
 
-pub class_not : (k w : Token) → token_of (class_of w) ≡ Some w → (k ≢ w) → class_of k ≢ class_of w
-class_not k w e h f = h (single k w (ap token_of f ∙ e))
-
 pub no_close : (n : ℕ) (κ : Unit {0} → Stack) (ts : List Placed) → IsNot (token.Mark marks.CloseParenthesis) ts → run limit (Want WantParen κ) n ts ≡ Err (NotHere (length ts))
 no_close n κ [] h = refl
-no_close n κ (t ∷ ts) h = rw (paren_by (class_of t.kind) (class_not t.kind (token.Mark marks.CloseParenthesis) refl h) (κ tt)) refl
+no_close n κ (t ∷ ts) h = rw (paren_by (class_of t.kind) (not_class t.kind (token.Mark marks.CloseParenthesis) refl h) (κ tt)) refl
 
 pub no_bracket : (n : ℕ) (κ : Unit {0} → Stack) (ts : List Placed) → IsNot (token.Mark marks.CloseBracket) ts → run limit (Want WantBracket κ) n ts ≡ Err (NotHere (length ts))
 no_bracket n κ [] h = refl
-no_bracket n κ (t ∷ ts) h = rw (bracket_by (class_of t.kind) (class_not t.kind (token.Mark marks.CloseBracket) refl h) (κ tt)) refl
+no_bracket n κ (t ∷ ts) h = rw (bracket_by (class_of t.kind) (not_class t.kind (token.Mark marks.CloseBracket) refl h) (κ tt)) refl
 
 pub no_colon : (n : ℕ) (κ : Unit {0} → Stack) (ts : List Placed) → IsNot (token.Mark marks.Colon) ts → run limit (Want WantColon κ) n ts ≡ Err (NotHere (length ts))
 no_colon n κ [] h = refl
-no_colon n κ (t ∷ ts) h = rw (colon_by (class_of t.kind) (class_not t.kind (token.Mark marks.Colon) refl h) (κ tt)) refl
+no_colon n κ (t ∷ ts) h = rw (colon_by (class_of t.kind) (not_class t.kind (token.Mark marks.Colon) refl h) (κ tt)) refl
 
 no_parens : (n : ℕ) (κ : AnExp → Stack) (ts : List Placed) → IsNot (token.Mark marks.OpenParenthesis) ts → run limit (Want Parens κ) n ts ≡ Err (NotHere (length ts))
 no_parens n κ [] h = refl
-no_parens n κ (t ∷ ts) h = rw (parens_by (class_of t.kind) (class_not t.kind (token.Mark marks.OpenParenthesis) refl h) t n κ) refl
+no_parens n κ (t ∷ ts) h = rw (parens_by (class_of t.kind) (not_class t.kind (token.Mark marks.OpenParenthesis) refl h) t n κ) refl
 
 no_more : (n : ℕ) (κ : SomeExps → Stack) (ts : List Placed) → IsNot (token.Mark marks.CloseParenthesis) ts → IsNot (token.Mark marks.Comma) ts → run limit (Want MoreArguments κ) n ts
     ≡ Err (NotHere (length ts))
 no_more n κ [] h i = refl
-no_more n κ (t ∷ ts) h i = rw (more_by (class_of t.kind) (class_not t.kind (token.Mark marks.CloseParenthesis) refl h) (class_not t.kind (token.Mark marks.Comma) refl i) n κ) refl
+no_more n κ (t ∷ ts) h i = rw (more_by (class_of t.kind) (not_class t.kind (token.Mark marks.CloseParenthesis) refl h) (not_class t.kind (token.Mark marks.Comma) refl i) n κ) refl
 
 -- expression
 pub expr_err : (n : ℕ) (ts : List Placed) (f : Fault) → Fails (Want Assign) n ts f → Fails (Want Expr) n ts f
@@ -211,7 +208,7 @@ assign_err n m i ts rest after e op at f b g t up h = fails_when (Want Assign) n
     ∙ real (Want Assign) i after f h r _)
 
 -- what is not assigned to
-set_refused : (k : Class) → (NoSet k → ⊥) → (t : Placed) (n : ℕ) (l : AnExp) (κ : AnExp → Stack) → Expressions.tail_turn k t n false l κ ≡ Steps Refuses
+pub set_refused : (k : Class) → (NoSet k → ⊥) → (t : Placed) (n : ℕ) (l : AnExp) (κ : AnExp → Stack) → Expressions.tail_turn k t n false l κ ≡ Steps Refuses
 set_refused c.Equals h t n l κ = refl
 set_refused c.Compound h t n l κ = refl
 set_refused k h t n l κ = absurd (h tt)
@@ -361,7 +358,7 @@ primary_by k h i j t n κ = refl
 plain_unary : (n : ℕ) (ts : List Placed) (κ : AnExp → Stack) → NoPrefix ts → NoStep ts → IsNot (token.Key keys.Sizeof) ts → run limit (Want Unary κ) n ts
     ≡ run limit (Want Primary (λ p. Want (PostTail p) κ)) n ts
 plain_unary n [] κ h i j = refl
-plain_unary n (t ∷ ts) κ h i j = rw (primary_by (class_of t.kind) (no_operator_of t.kind h) (no_step_of t.kind i) (class_not t.kind (token.Key keys.Sizeof) refl j) t n κ) refl
+plain_unary n (t ∷ ts) κ h i j = rw (primary_by (class_of t.kind) (no_operator_of t.kind h) (no_step_of t.kind i) (not_class t.kind (token.Key keys.Sizeof) refl j) t n κ) refl
 
 pub unary_primary_err : (n : ℕ) (ts : List Placed) (f : Fault) → NoPrefix ts → NoStep ts → IsNot (token.Key keys.Sizeof) ts → Fails (Want Primary) n ts f → Fails (Want Unary) n ts f
 unary_primary_err n ts f p s z h = fails_when (Want Unary) n ts f (λ r κ. plain_unary n ts κ p s z ∙ real (Want Primary) n ts f h r _)

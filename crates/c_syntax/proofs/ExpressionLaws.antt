@@ -18,8 +18,7 @@ use Rattle.c_phrases.specs.Operators.{level_of, binary_mark, step_mark, assign_m
 use Rattle.c_phrases.specs.declared.tree.TypeName.{TypeName}
 use Rattle.c_phrases.specs.declared.operator.Spec.{Spec}
 use Rattle.c_phrases.specs.declared.operator.Spec.TheVariants as specs
-use Rattle.std.specs.Prelude.{Option, Some, None, true}
-use Rattle.std.proofs.lemmas.Bool.Decides.{nat_tests}
+use Rattle.std.specs.Prelude.{Option, Some, None}
 use Rattle.c_phrases.specs.Levels.{LowExp, LowExps, limit}
 use Rattle.c_phrases.specs.Shapes.{exp, exp_list}
 use Rattle.c_phrases.specs.Fronts.{Quiet, mark_strength}
@@ -84,11 +83,11 @@ arguments_more n m ts rest after behind es e s f r = record {
 }
 
 -- an expression has a token
-longer_int : (i : Option ℕ) (w : List Placed) → length w ≤ length (onto_int i w)
+pub longer_int : (i : Option ℕ) (w : List Placed) → length w ≤ length (onto_int i w)
 longer_int None w = omega arith
 longer_int (Some at) w = omega arith
 
-longer_stars : (ats : List ℕ) (w : List Placed) → length w ≤ length (onto_stars ats w)
+pub longer_stars : (ats : List ℕ) (w : List Placed) → length w ≤ length (onto_stars ats w)
 longer_stars [] w = omega arith
 longer_stars (at ∷ ats) w = omega (arith, longer_stars ats w)
 

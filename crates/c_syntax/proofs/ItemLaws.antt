@@ -1,6 +1,5 @@
 -- What stands in a block, one more at the end.
 use Rattle.std.proofs.Common.{◌≡◌, ◌<◌, ◌≤◌, ℕ, ◌+◌, List, [], ◌∷◌, ◌++◌, length, refl, sym, ◌∙◌, ap, subst, arith, inl}
-use Rattle.std.specs.Prelude.{Option, Some, None}
 use Rattle.std.specs.declared.vec.Vec.{Vec}
 use Rattle.std.specs.declared.alloc.Global.{Global}
 use Rattle.c_syntax_goals.proofs.PhraseLaws.{limit_low}
@@ -15,8 +14,7 @@ use Rattle.c_phrases.specs.declared.tree.Item.TheVariants.{Local, Statement}
 use Rattle.c_phrases.specs.declared.tree.Item.TheBlock.{hidden-the_row-Item-0, items_hidden-the_row-Item-0}
 use Rattle.c_phrases.specs.declared.tree.Statement.TheVariants.{Block}
 use Rattle.c_phrases.specs.Classes.{Placed, word, sign}
-use Rattle.c_phrases.specs.Phrases.{AnExp}
-use Rattle.c_phrases.specs.Spelling.{onto_spec, onto_int}
+use Rattle.c_phrases.specs.Spelling.{onto_spec}
 use Rattle.c_phrases.specs.Levels.{limit}
 use Rattle.c_phrases.specs.Units.{AStatement, block, empty, expression, break_off, continue_on, give_back, if_then}
 use Rattle.c_phrases.specs.Units.{if_else, while_loop, do_loop, for_loop, SomeItems, no_items, local_item}
@@ -28,8 +26,8 @@ use Rattle.c_phrases.specs.UnitLevels.{LowItems}
 use Rattle.c_phrases.specs.UnitShapes.{local_of, statement_of, item_onto, items_of}
 use Rattle.c_phrases.proofs.Rows.{items_row_is}
 use Rattle.c_syntax.specs.Stands.{ReadsItems, ReadsStatement}
-use Rattle.c_syntax.proofs.ExpressionLaws.{longer_exp}
-use Rattle.c_syntax.proofs.ListLaws.{longer_declarator}
+use Rattle.c_syntax.proofs.ExpressionLaws.{longer_exp, longer_int}
+use Rattle.c_syntax.proofs.ListLaws.{longer_declarator, longer_part}
 
 pub block_is : (body : Vec Item Global) → statement_of (Block body) ≡ block (items_of body.items)
 block_is body = ap block (items_row_is _ (hidden-the_row-Item-0 body) ∙ ap items_of (items_hidden-the_row-Item-0 body))
@@ -80,13 +78,6 @@ items_more n ts rest behind a b r s = record {
 }
 
 -- an item has a token
-pub longer_part : (e : Option AnExp) (w : List Placed) → length w ≤ length (onto_part e w)
-longer_part None w = omega arith
-longer_part (Some e) w = omega (arith, longer_exp e w)
-
-longer_int : (i : Option ℕ) (w : List Placed) → length w ≤ length (onto_int i w)
-longer_int None w = omega arith
-longer_int (Some at) w = omega arith
 
 pub longer_spec : (s : Spec) (w : List Placed) → length w < length (onto_spec s w)
 longer_spec (specs.Int at) w = omega arith

@@ -5,7 +5,7 @@ use Rattle.c_tokens.specs.declared.marks.Mark.TheVariants as marks
 use Rattle.c_phrases.specs.declared.tree.Declarator.{Declarator}
 use Rattle.c_phrases.specs.Classes.{Placed, sign}
 use Rattle.c_phrases.specs.Phrases.{AnExp, SomeExps, no_exps, exps}
-use Rattle.c_phrases.specs.Spelling.{onto_first, onto_stars, onto_name}
+use Rattle.c_phrases.specs.Spelling.{onto_first, onto_name}
 use Rattle.c_phrases.specs.Levels.{LowExps, limit}
 use Rattle.c_syntax.specs.Reads.{ArgumentsSoFar, IsSome as IsSomeExps}
 use Rattle.c_phrases.specs.Units.{ALength, AnInit, value, elements, AnInitialised, ADeclarator}
@@ -15,7 +15,7 @@ use Rattle.c_phrases.specs.Fits.{DeclaratorFits, DeclaratorsFit, HasDeclarator, 
 use Rattle.c_phrases.specs.UnitLevels.{LowDeclarator, LowDeclarators}
 use Rattle.c_phrases.specs.UnitShapes.{declarator_of, declarators_of}
 use Rattle.c_syntax.specs.Stands.{ReadsElements, ReadsDeclarator, DeclaratorsSoFar}
-use Rattle.c_syntax.proofs.ExpressionLaws.{longer_exp, longer_first}
+use Rattle.c_syntax.proofs.ExpressionLaws.{longer_exp, longer_first, longer_stars}
 
 -- elements
 same_some : (es : SomeExps) → IsSomeExps es → IsSome es
@@ -66,11 +66,7 @@ declarators_more n ts rest after behind ds d s e r = record {
   low = low_declarators_end ds d n s.low r.low;
 }
 
-longer_stars : (ats : List ℕ) (w : List Placed) → length w ≤ length (onto_stars ats w)
-longer_stars [] w = omega arith
-longer_stars (at ∷ ats) w = omega (arith, longer_stars ats w)
-
-longer_part : (e : Option AnExp) (w : List Placed) → length w ≤ length (onto_part e w)
+pub longer_part : (e : Option AnExp) (w : List Placed) → length w ≤ length (onto_part e w)
 longer_part None w = omega arith
 longer_part (Some e) w = omega (arith, longer_exp e w)
 

@@ -8,8 +8,9 @@ use Rattle.c_phrases.specs.Classes.{Placed, Class, class_of, sign}
 use Rattle.c_phrases.specs.Classes as c
 use Rattle.c_syntax_goals.proofs.Tokens.{not_class}
 use Rattle.c_syntax_goals.specs.Goals.{Stack, Want, AfterShort, Stars, Passes}
-use Rattle.c_syntax_goals.specs.Types.{short_turn, stars_turn}
+use Rattle.c_syntax_goals.specs.Types.{short_turn}
 use Rattle.c_syntax_goals.specs.Machine.{run}
+use Rattle.c_syntax_goals.proofs.Steps.{stars_by}
 use Rattle.c_phrases.specs.Levels.{limit}
 use Rattle.c_phrases.specs.Spelling.{onto_stars}
 use Rattle.c_phrases.specs.Fronts.{IsNot}
@@ -38,10 +39,6 @@ pub stars_more : (ts rest after : List Placed) (ats bts : List ℕ) (at : ℕ) �
 stars_more ts rest after ats bts at s e f = record {
   text = λ w v g. rw (f, append_assoc ats (at ∷ []) v) (s.text w (at ∷ v) (e ∙ ap (λ (l : List Placed). sign marks.Star at ∷ l) g));
 }
-
-stars_by : (k : Class) → (k ≢ c.Star) → (t : Placed) (n : ℕ) (κ : List ℕ → Stack) → stars_turn k t n κ ≡ Passes n []
-stars_by c.Star h t n κ = absurd (h refl)
-stars_by k h t n κ = refl
 
 stars_pass : (ts : List Placed) → IsNot (token.Mark marks.Star) ts → (κ : List ℕ → Stack) (n : ℕ) → run limit (Want Stars κ) n ts ≡ run limit (κ []) n ts
 stars_pass [] h κ n = refl

@@ -25,6 +25,7 @@ use Rattle.c_syntax.specs.Stands.{ReadsParam, HasParam, ParamsSoFar, ReadsParams
 use Rattle.c_syntax.specs.StatementLeads.{NoVoidAlone}
 use Rattle.c_syntax.proofs.ListLaws.{longer_length}
 use Rattle.c_syntax.proofs.ItemLaws.{longer_spec, longer_declarators, longer_items}
+use Rattle.c_syntax.proofs.ExpressionLaws.{longer_stars}
 
 pub params_push : (ps : List Param) (p : Param) → param_list (ps ++ p ∷ []) ≡ param_list ps ++ param_of p ∷ []
 params_push [] p = refl
@@ -61,10 +62,6 @@ params_more n ts rest after behind ps p s e r = record {
   fits = params_fit_end ps p s.fits r.fits;
   low = low_params_end ps p n s.low r.low;
 }
-
-pub longer_stars : (ats : List ℕ) (w : List Placed) → length w ≤ length (onto_stars ats w)
-longer_stars [] w = omega arith
-longer_stars (at ∷ ats) w = omega (arith, longer_stars ats w)
 
 pub longer_named : (n : Option Named) (w : List Placed) → length w ≤ length (onto_named n w)
 longer_named None w = omega arith

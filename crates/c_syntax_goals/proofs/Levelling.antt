@@ -1,6 +1,7 @@
 -- The levels that a run has passed are those of each unit that begins so.
 use Rattle.std.proofs.Common.{◌≡◌, ℕ, suc, ◌+◌, List, [], ◌∷◌, ◌++◌, length, refl, sym, ap, subst, ◌∙◌, arith}
 use Rattle.std.specs.Prelude.{Result, Ok, Err, if◌then◌else◌, Bool, true, false}
+use Rattle.gg_base.proofs.Facts.{err_ok}
 use Rattle.c_syntax_goals.specs.declared.fault.Fault.{Fault}
 use Rattle.c_syntax_goals.specs.declared.fault.Fault.TheVariants.{NotHere, TooDeep}
 use Rattle.c_phrases.specs.Classes.{Placed, Class, class_of}
@@ -30,26 +31,23 @@ marks_of s n [] = []
 marks_of s n (t ∷ ts) = mark s t n ∷ marks_on (next free s t n) (λ r m. marks_of r m ts)
 
 -- a text that is read to its end
-no_fault : (u : AUnit) (f : Fault) → ◌≡◌ {A = Result AUnit Fault} (Err f) (Ok u) → ⊥
-no_fault u f e = absurd (cc)
-
 same_ok : (u v : AUnit) → ◌≡◌ {A = Result AUnit Fault} (Ok v) (Ok u) → v ≡ u
 same_ok u v e = cc
 
 closed : (r : Stack) (n : ℕ) (u : AUnit) → closing r ≡ Ok u → Yields r n [] u
 closed (Done v) n u e = (refl, same_ok u v e)
-closed (Want g κ) n u e = absurd (no_fault u (NotHere 0) e)
+closed (Want g κ) n u e = absurd (err_ok (NotHere 0) u e)
 
 accepted_on : (x : Next) (s : Stack) (t : Placed) (n : ℕ) (ts : List Placed) (u : AUnit) → next free s t n ≡ x → on x ts (λ r m. run free r m ts) ≡ Ok u
     → ((r : Stack) (m : ℕ) → run free r m ts ≡ Ok u → Yields r m (marks_of r m ts) u) → Yields s n (mark s t n ∷ marks_on x (λ r m. marks_of r m ts)) u
 accepted_on (Goes r m) s t n ts u d e ih = step_back free s t n r m (marks_of r m ts) u d (ih r m e)
 accepted_on (Ends r) s t n [] u d e ih = let a = ends_back free s t n r d in a.back [] u (closed r a.level u e)
-accepted_on (Ends r) s t n (p ∷ ts) u d e ih = absurd (no_fault u (NotHere (length (p ∷ ts))) e)
-accepted_on Deep s t n ts u d e ih = absurd (no_fault u (TooDeep (suc (length ts))) e)
-accepted_on Stuck s t n ts u d e ih = absurd (no_fault u (NotHere (suc (length ts))) e)
+accepted_on (Ends r) s t n (p ∷ ts) u d e ih = absurd (err_ok (NotHere (length (p ∷ ts))) u e)
+accepted_on Deep s t n ts u d e ih = absurd (err_ok (TooDeep (suc (length ts))) u e)
+accepted_on Stuck s t n ts u d e ih = absurd (err_ok (NotHere (suc (length ts))) u e)
 
 pub accepted : (ts : List Placed) (s : Stack) (n : ℕ) (u : AUnit) → run free s n ts ≡ Ok u → Yields s n (marks_of s n ts) u
-accepted [] s n u e = absurd (no_fault u (NotHere 0) e)
+accepted [] s n u e = absurd (err_ok (NotHere 0) u e)
 accepted (t ∷ ts) s n u e = accepted_on (next free s t n) s t n ts u refl e (λ r m q. accepted ts r m u q)
 
 -- a whole text's marks are those of its unit

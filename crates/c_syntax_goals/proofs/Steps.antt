@@ -1,13 +1,12 @@
 -- One token of a run, and what the next token makes of the parts that may be empty.
-use Rattle.std.proofs.Common.{◌≡◌, ◌≢◌, ℕ, suc, ◌+◌, ◌<◌, ◌≤◌, List, [], ◌∷◌, length, refl, sym, ap, ◌∙◌, arith}
-use Rattle.std.specs.Prelude.{Option, Some, None, Bool, true, false, Err, if◌then◌else◌}
+use Rattle.std.proofs.Common.{◌≡◌, ◌≢◌, ℕ, ◌+◌, ◌≤◌, List, [], ◌∷◌, length, refl, sym, ap, ◌∙◌, arith}
+use Rattle.std.specs.Prelude.{Option, None, Bool, true, false, Err, if◌then◌else◌}
 use Rattle.c_tokens.specs.declared.token.Token.{Token}
 use Rattle.c_tokens.specs.declared.token.Token.TheVariants as token
 use Rattle.c_tokens.specs.declared.words.Key.{Key}
 use Rattle.c_tokens.specs.declared.words.Key.TheVariants as keys
 use Rattle.c_tokens.specs.declared.marks.Mark.{Mark}
 use Rattle.c_tokens.specs.declared.marks.Mark.TheVariants as marks
-use Rattle.c_phrases.specs.declared.operator.Spec.{Spec}
 use Rattle.c_phrases.specs.declared.operator.BinaryOperator.{BinaryOperator}
 use Rattle.c_phrases.specs.declared.operator.BinaryOperator.TheVariants as binaries
 use Rattle.c_phrases.specs.declared.operator.PrefixOperator.{PrefixOperator}
@@ -17,8 +16,7 @@ use Rattle.c_phrases.specs.declared.operator.StepOperator.TheVariants as steps
 use Rattle.c_phrases.specs.declared.operator.AssignOperator.{AssignOperator}
 use Rattle.c_phrases.specs.declared.operator.AssignOperator.TheVariants as assigns
 use Rattle.c_syntax_goals.specs.declared.fault.Fault.TheVariants.{NotHere, TooDeep}
-use Rattle.c_phrases.specs.declared.tree.TypeName.{TypeName}
-use Rattle.c_phrases.specs.Classes.{Placed, Class, class_of, key_class, mark_class, word, sign}
+use Rattle.c_phrases.specs.Classes.{Placed, Class, class_of, key_class, mark_class, sign}
 use Rattle.c_phrases.specs.Classes as c
 use Rattle.c_phrases.specs.Phrases.{AnExp, SomeExps, exps, sizeof_exp}
 use Rattle.c_phrases.specs.Spelling.{onto_stars}
@@ -29,15 +27,15 @@ use Rattle.c_syntax_goals.specs.Expressions as Expressions
 use Rattle.c_syntax_goals.specs.Types as Types
 use Rattle.c_syntax_goals.specs.Groups as Groups
 use Rattle.c_phrases.specs.Phrases as phrases
-use Rattle.c_syntax_goals.specs.Goals.{Goal, Val, Stack, Want, Step, Takes, Opens, Refuses, Turn, Steps, Passes, Expr}
-use Rattle.c_syntax_goals.specs.Goals.{Commas, Assign, Cond, Cast, Unary, Primary, Parens, CallTail, PostTail, Ended}
+use Rattle.c_syntax_goals.specs.Goals.{Goal, Val, Stack, Want, Step, Takes, Opens, Refuses, Steps, Passes, Expr}
+use Rattle.c_syntax_goals.specs.Goals.{Commas, Assign, Cond, Cast, Unary, CallTail, PostTail, Ended}
 use Rattle.c_syntax_goals.specs.Goals.{Tail, First, Group, SizeofTail, SizeofGroup, Arguments, MoreArguments, Back}
-use Rattle.c_syntax_goals.specs.Goals.{TypeWords, AfterShort, AfterUnsigned, Stars}
+use Rattle.c_syntax_goals.specs.Goals.{AfterShort, Stars}
 use Rattle.c_syntax_goals.specs.Turns.{turn}
 use Rattle.c_syntax_goals.specs.Expressions.{insert, cond_goals}
 use Rattle.c_syntax_goals.specs.Types.{type_goals}
 use Rattle.c_syntax_goals.specs.Groups.{cast_behind, paren_behind, sizeof_behind}
-use Rattle.c_syntax_goals.specs.Machine.{Next, Goes, Ends, Deep, Stuck, on, at_end, made, pick, next, run}
+use Rattle.c_syntax_goals.specs.Machine.{Goes, Deep, on, pick, next, run}
 use Rattle.c_syntax_goals.proofs.Tokens.{single, token_of}
 
 -- the least strength of a token of a class
@@ -130,7 +128,7 @@ short_by : (k : Class) → (k ≢ c.Int) → (t : Placed) (n : ℕ) (κ : Option
 short_by c.Int h t n κ = absurd (h refl)
 short_by k h t n κ = refl
 
-stars_by : (k : Class) → (k ≢ c.Star) → (t : Placed) (n : ℕ) (κ : List ℕ → Stack) → Types.stars_turn k t n κ ≡ Passes n []
+pub stars_by : (k : Class) → (k ≢ c.Star) → (t : Placed) (n : ℕ) (κ : List ℕ → Stack) → Types.stars_turn k t n κ ≡ Passes n []
 stars_by c.Star h t n κ = absurd (h refl)
 stars_by k h t n κ = refl
 
