@@ -17,5 +17,7 @@ pub use faults::{DescFault, DescKind};
 pub use lists::{Lines, Restrictions, Symbols};
 pub use md_reader_pieces::{Line, Piece, Pieces};
 pub use md_reader_text::is_word;
+pub use patterns::kind_at;
 pub use reader::read_description;
+pub use rows::{is_nothing, same_size};
 pub use types::{Class, Give, Kind, Restriction, Rule, Sym};

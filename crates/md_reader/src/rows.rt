@@ -59,7 +59,8 @@ fn size_of_symbol(classes: &[Class], sym: Option<Sym>) -> Option<Size>
     size_of_kind(kind_of_symbol(classes, sym))
 }
 
-fn same_size(first: Option<Size>, second: Option<Size>) -> bool
+/// Whether both are the same size, and there is one.
+pub fn same_size(first: Option<Size>, second: Option<Size>) -> bool
     ensures { result ≡ same_size first second }
 {
     match (first, second) {
@@ -106,7 +107,8 @@ fn is_reg(kind: Option<Kind>) -> bool
     matches!(kind, Some(Kind::Reg))
 }
 
-fn is_nothing(kind: Option<Kind>) -> bool
+/// Whether the kind is that of statements.
+pub fn is_nothing(kind: Option<Kind>) -> bool
     ensures { result ≡ is_nothing kind }
 {
     matches!(kind, Some(Kind::Nothing))

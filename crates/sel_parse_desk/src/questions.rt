@@ -1,6 +1,5 @@
 // What the restrictions of a rule ask.
 ghost use Rattle.std.specs.Prelude.{◌≡◌, ◌∷◌, [], ◌-◌, ◌<◌, Some, length, drop, IfOk, IfSome, slice_get};
-ghost use Rattle.md_reader.specs.Restrictions.{same_size};
 ghost use Rattle.lr_check_parse.specs.Attributes.{signed, in_range, is_signed, attribute_at, constant_at, relation_at, same_spelling};
 ghost use Rattle.lr_check_parse.specs.Attributes.{holds, answered};
 ghost use Rattle.sel_target.specs.declared.attr.Attr.TheVariants as attr;
@@ -13,7 +12,7 @@ ghost use Rattle.sel_parse_desk.specs.Mirror.{stack_of};
 use crate::desk::{Desk, Setting};
 use crate::entries::Entries;
 use gg_base::{NoMemory, Rel, Size, w32};
-use md_reader::{Kind, Line, Piece, Pieces, Restriction, Rule};
+use md_reader::{Kind, Line, Piece, Pieces, Restriction, Rule, same_size};
 use sel_target::{Attr, Templates};
 use std::alloc::Global;
 use tree_core::{Att, Leaf, Tok, TreeProgram};
@@ -27,17 +26,6 @@ fn size_of_entry(kind: Option<Kind>) -> Option<Size>
         Some(Kind::Value(size)) => Some(size),
         Some(Kind::Place(size)) => Some(size),
         _ => None,
-    }
-}
-
-fn same_size(a: Option<Size>, b: Option<Size>) -> bool
-    ensures { result ≡ same_size a b }
-{
-    match (a, b) {
-        (Some(Size::Byte), Some(Size::Byte)) => true,
-        (Some(Size::Word), Some(Size::Word)) => true,
-        (Some(Size::Long), Some(Size::Long)) => true,
-        _ => false,
     }
 }
 

@@ -2,7 +2,6 @@
 ghost use Rattle.std.specs.Prelude.{◌≡◌, ◌++◌, [], ◌+◌, ◌-◌, ◌<◌, ◌≤◌, ◌^◌, true, false, Some, OnOk, IfOk, IfErr};
 ghost use Rattle.std.specs.Prelude.{slice_get, slice_set};
 ghost use Rattle.std.specs.Option.{option_copied};
-ghost use Rattle.md_reader.specs.Patterns.{kind_at};
 ghost use Rattle.md_reader.specs.declared.types.Give.TheVariants as give;
 ghost use Rattle.sel_target.specs.declared.attr.Attr.TheVariants as attr;
 ghost use Rattle.sel_target.specs.Instances.{hole};
@@ -22,7 +21,7 @@ use crate::questions::{alone_in, constant_of};
 use crate::spills::due;
 use crate::stack::{empty, part, push};
 use gg_base::NoMemory;
-use md_reader::{Class, Give, Kind, Line, Piece, Rule};
+use md_reader::{Give, Kind, Line, Piece, Rule, kind_at};
 use sel_target::{Attr, Templates};
 use tree_core::{Leaf, TreeProgram};
 
@@ -150,16 +149,6 @@ fn write_lines<T: Templates>(
         code.push(instr)?;
     }
     Ok(())
-}
-
-// The kind of the class with this number.
-fn kind_at(classes: &[Class], number: u16) -> Option<Kind>
-    ensures { result ≡ kind_at classes.now number }
-{
-    match classes.get(number as usize) {
-        Some(class) => Some(class.kind),
-        None => None,
-    }
 }
 
 // The lines follow, and what the rule gives stands for its symbols.

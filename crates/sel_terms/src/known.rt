@@ -1,14 +1,12 @@
 // What a rule says of its symbols.
 
 ghost use Rattle.std.specs.Prelude.{◌≡◌, ◌≤◌, ◌+◌, ◌∷◌, [], length, IfOk};
-ghost use Rattle.md_reader.specs.Patterns.{kind_at};
 ghost use Rattle.term_core.specs.Normal.{AreSettled};
 ghost use Rattle.sel_terms.specs.RuleFacts.{size_of_kind, size_of_symbol, size_at, is_small_range, is_ranged, alike_once};
 ghost use Rattle.sel_terms.specs.RuleFacts.{least_alike, fact_of, facts_of, size_of_saved, saved_facts};
 
-use crate::role::kind_at;
 use gg_base::{NoMemory, Size};
-use md_reader::{Class, Kind, Restriction, Rule, Sym};
+use md_reader::{Class, Kind, Restriction, Rule, Sym, kind_at};
 use std::alloc::Global;
 use term_core::Fact;
 
@@ -22,7 +20,8 @@ fn size_of_kind(kind: Option<Kind>) -> Size
     }
 }
 
-fn size_of_symbol(classes: &[Class], symbol: Sym) -> Size
+/// The size of what stands for a symbol of a pattern; it is a longword where the symbol names none.
+pub fn size_of_symbol(classes: &[Class], symbol: Sym) -> Size
     ensures { result ≡ size_of_symbol classes.now symbol }
 {
     match symbol {

@@ -11,8 +11,8 @@ mod show;
 mod stack;
 
 pub use effect::{Act, Effect, norm_effect};
-pub use known::{rule_facts, saved_facts};
+pub use known::{rule_facts, saved_facts, size_of_symbol};
 pub use pattern::pattern_effect;
-pub use same::same_effect;
+pub use same::{same_effect, same_size};
 pub use show::show_effect;
 pub use term_core::{Fact, Term, norm};

@@ -9,10 +9,10 @@ ghost use Rattle.sel_terms.specs.Reading.{step, stack_from, effect_read};
 
 use crate::effect::{Act, Effect};
 use crate::part::{Part, Subtree, add_divisor, leaf_part, one_part, two_part, value_of};
-use crate::role::{OneRole, Role, TwoRole, kind_at, role_of};
+use crate::role::{OneRole, Role, TwoRole, role_of};
 use crate::stack::Stack;
 use gg_base::NoMemory;
-use md_reader::{Class, Kind, Rule, Sym};
+use md_reader::{Class, Kind, Rule, Sym, kind_at};
 use std::alloc::Global;
 
 fn one(alloc: Global, role: OneRole, kid: Subtree) -> Result<Subtree, NoMemory>

@@ -2,10 +2,9 @@
 
 ghost use Rattle.std.specs.Prelude.{◌≡◌};
 ghost use Rattle.sel_terms.specs.Parts.{role_of_token, role_of_kind, role_of};
-ghost use Rattle.md_reader.specs.Patterns.{kind_at};
 
 use gg_base::Size;
-use md_reader::{Class, Kind, Sym};
+use md_reader::{Class, Kind, Sym, kind_at};
 use term_core::{BinaryOp, UnaryOp};
 use tree_core::Tok;
 
@@ -95,16 +94,6 @@ fn role_of_kind(kind: Option<Kind>) -> LeafRole
     match kind {
         Some(Kind::Place(size)) => LeafRole::Home(size),
         _ => LeafRole::Symbol,
-    }
-}
-
-/// The kind of the class with this number.
-pub fn kind_at(classes: &[Class], class: u16) -> Option<Kind>
-    ensures { result ≡ kind_at classes.now class }
-{
-    match classes.get(class as usize) {
-        Some(class) => Some(class.kind),
-        None => None,
     }
 }
 

@@ -11,7 +11,8 @@ use gg_base::{NoMemory, Size};
 use std::alloc::Global;
 use term_core::{Term, same_term};
 
-fn same_size(a: Size, b: Size) -> bool
+/// Whether the sizes are the same.
+pub fn same_size(a: Size, b: Size) -> bool
     ensures { result ≡ same_size a b }
 {
     a.bytes() == b.bytes()

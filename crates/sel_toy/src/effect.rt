@@ -2,7 +2,6 @@
 
 ghost use Rattle.std.specs.Prelude.{◌≡◌, IfOk, IfErr, Ok};
 ghost use Rattle.std.specs.Option.{option_map};
-ghost use Rattle.sel_terms.specs.RuleFacts.{size_of_symbol};
 ghost use Rattle.sel_terms.specs.Effects.{act_of, effect_of};
 ghost use Rattle.md_reader.specs.Patterns.{kind_at};
 ghost use Rattle.sel_target.specs.Calls.{IsFaultOf};
@@ -19,35 +18,13 @@ ghost use Rattle.sel_toy_machine.specs.Templates.{holds_register, is_home, symbo
 
 use crate::forms::{form_of, shape_of};
 use gg_base::{NoMemory, Size};
-use md_reader::{Class, Give, Kind, Line, Rule, Sym};
+use md_reader::{Class, Give, Kind, Line, Rule, Sym, kind_at};
 use sel_target::{TargetFault, TemplateKind};
-use sel_terms::{Act, Effect, Term};
+use sel_terms::{Act, Effect, Term, size_of_symbol};
 use sel_toy_machine::{Form, ShapeForm};
 use std::alloc::Global;
 use term_core::{BinaryOp, binary};
 use tree_core::Tok;
-
-fn kind_at(classes: &[Class], class: u16) -> Option<Kind>
-    ensures { result ≡ kind_at classes.now class }
-{
-    match classes.get(class as usize) {
-        Some(class) => Some(class.kind),
-        None => None,
-    }
-}
-
-fn size_of_symbol(classes: &[Class], symbol: Sym) -> Size
-    ensures { result ≡ size_of_symbol classes.now symbol }
-{
-    match symbol {
-        Sym::Tok(_) => Size::Long,
-        Sym::Class(class) => match kind_at(classes, class) {
-            Some(Kind::Value(size)) => size,
-            Some(Kind::Place(size)) => size,
-            _ => Size::Long,
-        },
-    }
-}
 
 // Whether there is a symbol with this number, and its number has the size.
 fn is_sized(classes: &[Class], right: &[Sym], size: Size, i: u8) -> bool

@@ -19,11 +19,11 @@ ghost use Rattle.vax_target.specs.Views.{where_of, term_of, taken_of, last_of, d
 use crate::instruction::shape_of_pieces;
 use crate::judging::{Before, Step};
 use crate::refusal::{NOT_INSTR, Refusal};
-use crate::setting::{holes_of, is_reload, kind_at, saved_hole, saved_setting, setting_of};
+use crate::setting::{holes_of, is_reload, saved_hole, saved_setting, setting_of};
 use crate::standing::{Location, Template};
 use crate::taking::Operand;
 use gg_base::{NoMemory, Size};
-use md_reader::{Class, Give, Kind, Line, Rule};
+use md_reader::{Class, Give, Kind, Line, Rule, kind_at};
 use sel_target::{TargetFault, TemplateKind};
 use sel_terms::{Act, Effect};
 use std::alloc::Global;

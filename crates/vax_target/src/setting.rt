@@ -3,11 +3,9 @@ ghost use Rattle.std.specs.Prelude.{◌≡◌, IfOk};
 ghost use Rattle.vax_templates.specs.Settings.{hole_of_token, hole_of_kind, hole_of, holes_of, saved_hole, hole_at, own_of, is_reuse};
 ghost use Rattle.vax_templates.specs.Settings.{opening_of, opening_by};
 ghost use Rattle.vax_templates.specs.Settings.{is_signed, setting_of, saved_own, is_reload, saved_setting};
-ghost use Rattle.md_reader.specs.Patterns.{kind_at};
-ghost use Rattle.md_reader.specs.Restrictions.{is_nothing};
 
 use gg_base::{NoMemory, Size};
-use md_reader::{Class, Give, Kind, Restriction, Rule, Sym};
+use md_reader::{Class, Give, Kind, Restriction, Rule, Sym, is_nothing, kind_at};
 use std::alloc::Global;
 use tree_core::Tok;
 use vax_templates::{Hole, Opening, Own, Setting};
@@ -40,16 +38,6 @@ fn hole_of_kind(kind: Option<Kind>) -> Hole
         Some(Kind::Con) => Hole::Constant,
         Some(Kind::Ea) => Hole::Address,
         Some(Kind::Nothing) | None => Hole::Other,
-    }
-}
-
-/// The kind of the class with this number.
-pub fn kind_at(classes: &[Class], class: u16) -> Option<Kind>
-    ensures { result ≡ kind_at classes.now class }
-{
-    match classes.get(class as usize) {
-        Some(class) => Some(class.kind),
-        None => None,
     }
 }
 
@@ -141,15 +129,6 @@ fn is_signed(restrictions: &[Restriction]) -> bool
     ensures { result ≡ is_signed restrictions.now }
 {
     restrictions.iter().any(|restriction| matches!(restriction, Restriction::Signed(_)))
-}
-
-fn is_nothing(kind: Option<Kind>) -> bool
-    ensures { result ≡ is_nothing kind }
-{
-    match kind {
-        Some(Kind::Nothing) => true,
-        _ => false,
-    }
 }
 
 /// What the lines of a rule may do.

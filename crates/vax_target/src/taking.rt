@@ -2,7 +2,6 @@
 ghost use Rattle.std.specs.Prelude.{◌≡◌, IfOk, Ok, map};
 ghost use Rattle.std.specs.Option.{option_map};
 ghost use Rattle.term_core.specs.Shape.{shape_of, Symbol};
-ghost use Rattle.sel_terms.specs.Same.{same_size};
 ghost use Rattle.vax_core.specs.declared.op.Access.TheVariants as accesses;
 ghost use Rattle.vax_templates.specs.HoleTerms.{own_value};
 ghost use Rattle.vax_templates.specs.Taking.{taken_term, taken_read, taken_missized, cut, sized, last_result, fetched};
@@ -18,6 +17,7 @@ use crate::heap::{boxed, copied};
 use crate::refusal::{NOT_INSTR, Refusal};
 use crate::standing::{Location, Template};
 use gg_base::{NoMemory, Size};
+use sel_terms::same_size;
 use std::alloc::Global;
 use term_core::{Term, UnaryOp, copy, unary};
 use vax_core::{Access, OperandKind};
@@ -52,12 +52,6 @@ pub struct Operands {
     pub reads: Vec<Term>,
     pub destination: Option<Destination>,
     pub is_missized: bool,
-}
-
-fn same_size(a: Size, b: Size) -> bool
-    ensures { result ≡ same_size a b }
-{
-    a.bytes() == b.bytes()
 }
 
 fn is_long(size: Size) -> bool
