@@ -1,12 +1,12 @@
 // Lists of symbols, each held once.
 ghost use Rattle.std.specs.Prelude.{◌≡◌, ◌∷◌, ◌++◌, Some, slice_get, slice_index_or, length, IfOk, IfSome, [], ℕ, List};
 ghost use Rattle.md_reader.specs.declared.types.Sym.{Sym};
-ghost use Rattle.lr_tables.specs.Symbols.{symbol_number};
 ghost use Rattle.lr_check_found.specs.Lists.{IsList, AreLists, KeepsLists, IsPushed, IsJoined, IsBehindToken};
 
 use crate::table::{find_cell, insert_cell};
 use gg_base::NoMemory;
 use indexmap::IndexSet;
+use lr_tables::symbol_number;
 use md_reader::{Sym, Symbols};
 use std::alloc::Global;
 use std::marker::Model;
@@ -32,16 +32,6 @@ impl Model for Lists {
     ghost Value = { ListsView };
 
     ghost view = { λ l. record { cells = l.cells.keys; all = l.all.items } };
-}
-
-// The number of a symbol: the tokens in table order, then the classes.
-fn number_of(symbol: Sym) -> usize
-    ensures { result ≡ symbol_number symbol }
-{
-    match symbol {
-        Sym::Tok(token) => token as usize,
-        Sym::Class(class) => 40 + class as usize,
-    }
 }
 
 impl Lists {
@@ -73,7 +63,7 @@ impl Lists {
         ensures { IfSome result (λ n. IsPushed self.now symbol rest n) }
     {
         let cell = Cell {
-            symbol: number_of(symbol),
+            symbol: symbol_number(symbol),
             rest,
         };
         match find_cell(&self.cells, cell) {
@@ -114,7 +104,7 @@ impl Lists {
         ensures there { IfOk result (λ n. (s : List Sym) × IsList self.new n s) }
     {
         let cell = Cell {
-            symbol: number_of(symbol),
+            symbol: symbol_number(symbol),
             rest,
         };
         let (number, is_new) = insert_cell(&mut self.cells, cell)?;

@@ -2,10 +2,9 @@
 ghost use Rattle.std.specs.Prelude.{◌≡◌, IsTrue, Contains};
 ghost use Rattle.tree_core.specs.declared.token.Tok.{Tok};
 ghost use Rattle.lr_check_sets.specs.Trees.{may};
-ghost use Rattle.lr_tables.specs.Symbols.{number};
 ghost use Rattle.lr_check_found.specs.Found.{slot};
 
-use lr_tables::State;
+use lr_tables::{State, number};
 use tree_core::{Sort, Tok};
 
 // The tokens, in table order.
@@ -84,12 +83,6 @@ pub enum Origin {
     Root,
     First(usize),
     Second(usize, usize),
-}
-
-fn number(token: Tok) -> usize
-    ensures { result ≡ number token }
-{
-    token as usize
 }
 
 impl Place {

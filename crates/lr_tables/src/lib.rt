@@ -13,7 +13,7 @@ mod tables;
 mod types;
 
 pub use building::build;
-pub use item::Item;
+pub use item::{Item, number, symbol_number};
 pub use numbering::BuildFault;
 pub use tables::Tables;
 pub use types::{Choice, State};
