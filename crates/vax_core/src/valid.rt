@@ -15,13 +15,15 @@ const SPACE_LIMIT: u32 = 1_048_576;
 /// An offset that no sign and number can be written of behind a name.
 const UNWRITABLE_OFFSET: u32 = 0x8000_0000;
 
-fn is_name_start(c: u8) -> bool
+/// Whether a name in an assembly text may begin with the byte.
+pub fn is_name_start(c: u8) -> bool
     ensures { result ≡ is_name_start c }
 {
     c == b'_' || c == b'L' || c == b'S' || c == b'T'
 }
 
-fn is_name_part(c: u8) -> bool
+/// Whether the byte may stand in a name behind the first.
+pub fn is_name_part(c: u8) -> bool
     ensures { result ≡ is_name_part c }
 {
     c.is_ascii_alphanumeric() || c == b'_'

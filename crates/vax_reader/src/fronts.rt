@@ -3,12 +3,13 @@ ghost use Rattle.std.specs.Prelude.{◌≡◌, ◌+◌, ◌≤◌, ◌^◌, leng
 ghost use Rattle.std.specs.Option.{option_copied, option_map};
 ghost use Rattle.std.specs.Char.{is_ascii_digit};
 ghost use Rattle.std.specs.Str.Parse.{digits_value, AllDigits};
-ghost use Rattle.vax_core.specs.Valid.{is_name_start, is_name_part};
+ghost use Rattle.vax_core.specs.Valid.{is_name_part};
 ghost use Rattle.vax_reader.specs.Fronts.{strip, run_len, number_front, up_to, from_one, below_zero, signed_front, offset_front};
 ghost use Rattle.vax_reader.specs.Fronts.{name_front, general, reg_front, at_front};
 
 use gg_base::limits::TEXT_NAME_LIMIT;
 use vax_core::Reg;
+use vax_core::valid::{is_name_part, is_name_start};
 
 /// The greatest number that stands behind a sign.
 const SIGN: u32 = 0x8000_0000;
@@ -112,18 +113,6 @@ pub fn offset(bytes: &[u8]) -> Option<(u32, &[u8])>
         return below_zero(GREATEST, rest);
     }
     Some((0, bytes))
-}
-
-fn is_name_start(c: u8) -> bool
-    ensures { result ≡ is_name_start c }
-{
-    c == b'_' || c == b'L' || c == b'S' || c == b'T'
-}
-
-fn is_name_part(c: u8) -> bool
-    ensures { result ≡ is_name_part c }
-{
-    c.is_ascii_alphanumeric() || c == b'_'
 }
 
 fn name_part_len(bytes: &[u8]) -> usize
