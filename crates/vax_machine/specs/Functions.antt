@@ -4,7 +4,7 @@ use Rattle.gg_base.specs.declared.size.Size.{Size}
 use Rattle.gg_base.specs.declared.size.Size.TheVariants.{Byte, Word, Long}
 use Rattle.gg_base.specs.declared.relation.Rel.TheVariants as relations
 use Rattle.gg_base.specs.Relations.{holds}
-use Rattle.gg_base.specs.Arithmetic.{add32, sub32, mul32, and32, or32, xor32, neg32, com32, sext8, sext16, zext8, zext16, div32, ash32}
+use Rattle.gg_base.specs.Arithmetic.{add32, sub32, mul32, and32, or32, xor32, neg32, com32, sext8, sext16, div32, ash32}
 use Rattle.vax_core.specs.declared.op.Op.{Op}
 use Rattle.vax_core.specs.declared.op.Op.TheVariants as ops
 use Rattle.vax_machine.specs.declared.function.Conditions.{Conditions}
@@ -15,6 +15,7 @@ use Rattle.vax_machine.specs.declared.function.Test.{Test}
 use Rattle.vax_machine.specs.declared.function.Test.TheVariants as test
 use Rattle.vax_machine.specs.declared.function.Action.{Action}
 use Rattle.vax_machine.specs.declared.function.Action.TheVariants.{Compute, Push, Branch, Call, Return}
+use Rattle.vax_machine.specs.Memory.{low}
 
 -- what a mnemonic does
 abbrev pub action_of : Op → Action
@@ -86,11 +87,6 @@ extended Byte v = sext8 v
 extended Word v = sext16 v
 extended Long v = v
 
-abbrev pub truncated : Size → ℕ → ℕ
-truncated Byte v = zext8 v
-truncated Word v = zext16 v
-truncated Long v = v
-
 -- a result with N and Z from itself at its size
 abbrev pub valued : Size → ℕ → Bool → Computed
 valued size v c = record { value = v; conditions = record { negative = is_negative_at size v; is_zero = v == 0; carry = c } }
@@ -110,7 +106,7 @@ applied functions.Clear a b c = Some (valued Long 0 c)
 applied functions.Negate a b c = Some (valued Long (neg32 a) (not (neg32 a == 0)))
 applied functions.Complement a b c = Some (valued Long (com32 a) c)
 applied (functions.SignExtend size) a b c = Some (valued Long (extended size a) false)
-applied (functions.Truncate size) a b c = Some (valued size (truncated size a) false)
+applied (functions.Truncate size) a b c = Some (valued size (low size a) false)
 applied functions.Add a b c = Some (valued Long (add32 a b) (nat_le (2 ^ 32) (a + b)))
 applied functions.Subtract a b c = Some (valued Long (sub32 b a) (nat_lt b a))
 applied functions.Multiply a b c = Some (valued Long (mul32 a b) false)

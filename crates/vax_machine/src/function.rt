@@ -1,8 +1,9 @@
 // The table of instructions: what each computes, and what becomes of the condition codes.
 ghost use Rattle.std.specs.Prelude.{◌≡◌, ◌+◌, ◌^◌, nat_le};
-ghost use Rattle.vax_machine.specs.Functions.{action_of, is_negative_at, extended, truncated, valued, only_conditions, quotient};
+ghost use Rattle.vax_machine.specs.Functions.{action_of, is_negative_at, extended, valued, only_conditions, quotient};
 ghost use Rattle.vax_machine.specs.Functions.{applied, passes};
 
+use crate::memory::low;
 use gg_base::{Rel, Size, w32};
 use vax_core::Op;
 
@@ -166,16 +167,6 @@ fn extended(size: Size, value: u32) -> u32
     }
 }
 
-fn truncated(size: Size, value: u32) -> u32
-    ensures { result ≡ truncated size value }
-{
-    match size {
-        Size::Byte => w32::zext8(value),
-        Size::Word => w32::zext16(value),
-        Size::Long => value,
-    }
-}
-
 impl Computed {
     /// A result whose own sign and zero are N and Z.
     pub(crate) fn of(size: Size, value: u32, carry: bool) -> Computed
@@ -216,7 +207,7 @@ impl Function {
             Function::Negate => Some(Computed::of(Size::Long, w32::neg(a), w32::neg(a) != 0)),
             Function::Complement => Some(Computed::of(Size::Long, w32::com(a), carry)),
             Function::SignExtend(size) => Some(Computed::of(Size::Long, extended(size, a), false)),
-            Function::Truncate(size) => Some(Computed::of(size, truncated(size, a), false)),
+            Function::Truncate(size) => Some(Computed::of(size, low(size, a), false)),
             Function::Add => Some(Computed::of(Size::Long, w32::add(a, b), carries(a, b))),
             Function::Subtract => Some(Computed::of(Size::Long, w32::sub(b, a), b < a)),
             Function::Multiply => Some(Computed::of(Size::Long, w32::mul(a, b), false)),

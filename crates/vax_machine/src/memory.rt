@@ -17,6 +17,7 @@ pub enum Region {
     Stack(usize),
 }
 
+// The low part of a number at a size.
 pub(crate) fn low(size: Size, value: u32) -> u32
     ensures { result ≡ low size value }
 {

@@ -11,7 +11,7 @@ use Rattle.vax_machine.specs.declared.function.Computed.{Computed}
 use Rattle.vax_machine.specs.declared.function.Function.{Function}
 use Rattle.vax_machine.specs.declared.function.Function.TheVariants as functions
 use Rattle.vax_machine.specs.Memory.{low, merged}
-use Rattle.vax_machine.specs.Functions.{extended, truncated, quotient, applied}
+use Rattle.vax_machine.specs.Functions.{extended, quotient, applied}
 
 pub add_small : (a b : ℕ) → add32 a b < 2 ^ 32
 add_small a b = mod_below (a + b) (2 ^ 32) (omega arith)
@@ -48,11 +48,6 @@ extended_small Word v h =
     either_small _ (zext16 v) (zext16 v + (2 ^ 32 - 2 ^ 16)) (omega (arith, b)) (omega (arith, b))
 extended_small Long v h = h
 
-truncated_small : (s : Size) (v : ℕ) → v < 2 ^ 32 → truncated s v < 2 ^ 32
-truncated_small Byte v h = omega (arith, mod_below v (2 ^ 8) (omega arith))
-truncated_small Word v h = omega (arith, mod_below v (2 ^ 16) (omega arith))
-truncated_small Long v h = h
-
 -- a number, where there is one
 abbrev SmallSome : Option ℕ → Type 0
 SmallSome None = Unit {0}
@@ -84,7 +79,7 @@ applied_small functions.Clear a b c h g = omega arith
 applied_small functions.Negate a b c h g = neg_small a
 applied_small functions.Complement a b c h g = com_small a
 applied_small (functions.SignExtend size) a b c h g = extended_small size a h
-applied_small (functions.Truncate size) a b c h g = truncated_small size a h
+applied_small (functions.Truncate size) a b c h g = low_small size a h
 applied_small functions.Add a b c h g = add_small a b
 applied_small functions.Subtract a b c h g = sub_small b a
 applied_small functions.Multiply a b c h g = mul_small a b

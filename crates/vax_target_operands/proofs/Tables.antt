@@ -15,6 +15,7 @@ use Rattle.vax_machine.specs.declared.function.Function.{Function}
 use Rattle.vax_machine.specs.declared.function.Function.TheVariants as functions
 use Rattle.vax_machine.specs.Functions.{valued, quotient, applied}
 use Rattle.vax_machine.specs.Functions as machine
+use Rattle.vax_machine.specs.Memory.{low}
 use Rattle.vax_templates.specs.Giving.{given, extended, truncated}
 use Rattle.vax_target_operands.specs.Scenes.{Scene, worth}
 use Rattle.vax_target_operands.specs.Conditions.{Compared, Tested, Gets, Quotient, IsGiven, AreNarrow, FunctionsMean}
@@ -28,7 +29,7 @@ extended_is c Byte t = refl
 extended_is c Word t = refl
 extended_is c Long t = refl
 
-truncated_is : (c : Scene) (size : Size) (t : Shape) → machine.truncated size (worth c t) ≡ worth c (truncated size t)
+truncated_is : (c : Scene) (size : Size) (t : Shape) → low size (worth c t) ≡ worth c (truncated size t)
 truncated_is c Byte t = refl
 truncated_is c Word t = refl
 truncated_is c Long t = refl
