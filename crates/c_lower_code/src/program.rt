@@ -13,19 +13,9 @@ use crate::spelling::spelled;
 use crate::statement::row;
 use crate::tree::Tree;
 use c_program::{Program, Routine};
-use gg_base::{Bytes, Name, NoMemory};
+use gg_base::{Bytes, Name, NoMemory, number_of};
 use std::alloc::Global;
 use tree_core::{Link, Links, Object, Objects, TreeFn, TreeFns, TreeItem, TreeItems, TreeProgram};
-
-// A number of things, which has 32 bits where there is memory for them.
-fn count_of(length: usize) -> Result<u32, NoMemory>
-    ensures { IfOk result (λ n. n ≡ length) }
-{
-    match u32::try_from(length) {
-        Ok(n) => Ok(n),
-        Err(_) => Err(NoMemory),
-    }
-}
 
 fn copied_name(alloc: Global, name: &[u8]) -> Result<Vec<u8>, NoMemory>
     ensures { IfOk result (λ v. v.items ≡ name.now) }
@@ -99,7 +89,7 @@ fn function_of(alloc: Global, of: &Routine, body: Emitted) -> Result<TreeFn, NoM
     let mut items = body.items;
     put(&mut items, Item::Return(Tree::Number(0)))?;
     let name = Name::from_vec(copied_name(alloc, of.name.as_slice())?);
-    let args = count_of(of.parameters.as_slice().len())?;
+    let args = number_of(of.parameters.as_slice().len())?;
     let items = TreeItems::from_vec(spelled_items(alloc, &items)?);
     Ok(TreeFn {
         name,
@@ -113,7 +103,7 @@ fn function_of(alloc: Global, of: &Routine, body: Emitted) -> Result<TreeFn, NoM
 fn body_of(alloc: Global, functions: u32, of: &Routine, l: u32) -> Result<Emitted, NoMemory>
     ensures { IfOk result (λ r. done r ≡ programs.body_of functions (routine of.now) l) }
 {
-    let locals = count_of(of.locals.as_slice().len())?;
+    let locals = number_of(of.locals.as_slice().len())?;
     row(
         Frame {
             alloc,
@@ -131,7 +121,7 @@ fn body_of(alloc: Global, functions: u32, of: &Routine, l: u32) -> Result<Emitte
 fn lower_all(alloc: Global, routines: &[Routine]) -> Result<Vec<TreeFn>, NoMemory>
     ensures { IfOk result (λ v. v.items ≡ programs.lower_all (length routines.now) (map routine routines.now) 0) }
 {
-    let count = count_of(routines.len())?;
+    let count = number_of(routines.len())?;
     let mut functions = Vec::new(alloc);
     let mut labels = 0;
     for of in routines {

@@ -14,7 +14,7 @@ pub mod size;
 
 pub use arithmetic as w32;
 pub use bytes::{Bytes, Name, Text};
-pub use memory::NoMemory;
+pub use memory::{NoMemory, number_of};
 pub use place::Place;
 pub use relation::Rel;
 pub use run::{Break, End, SourceTurn};

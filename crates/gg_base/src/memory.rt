@@ -1,4 +1,6 @@
 // Want of memory.
+ghost use Rattle.std.specs.Prelude.{◌≡◌, IfOk};
+
 use std::alloc::{AllocError, AllocFailed};
 
 /// No memory was found: the one answer that has no cause in the input.
@@ -14,5 +16,15 @@ impl From<AllocError> for NoMemory {
 impl<T: Drop> From<AllocFailed<T>> for NoMemory {
     fn from(_: AllocFailed<T>) -> Self {
         NoMemory
+    }
+}
+
+/// The number on 32 bits: memory for more things than 32 bits number is not there.
+pub fn number_of(number: usize) -> Result<u32, NoMemory>
+    ensures { IfOk result (λ n. n ≡ number) }
+{
+    match u32::try_from(number) {
+        Ok(number) => Ok(number),
+        Err(_) => Err(NoMemory),
     }
 }

@@ -11,10 +11,10 @@ ghost use Rattle.lr_check_samples.specs.Fixed.{IsMadeBy};
 
 use crate::asked::Asked;
 use crate::rising::token_of;
-use gg_base::NoMemory;
+use gg_base::{NoMemory, number_of};
 use lr_check::SampleNode;
 use lr_check_found::{Found, How};
-use lr_check_nodes::{Growing, number_of};
+use lr_check_nodes::Growing;
 use lr_tables::{Choice, Tables};
 use std::alloc::Global;
 use std::marker::Model;

@@ -9,9 +9,9 @@ ghost use Rattle.lr_check_samples.specs.Fixed.{IsOrigin};
 ghost use Rattle.lr_check_nodes.specs.Growing.{AreWhole, HasLast};
 ghost use Rattle.lr_check_drawn.specs.Rising.{AreBegun, HaveNodes, StandsAt, FitsFirst, HasFirst, AfterParent, HasRisen};
 
-use gg_base::NoMemory;
+use gg_base::{NoMemory, number_of};
 use lr_check_found::{Found, Origin};
-use lr_check_nodes::{Growing, number_of};
+use lr_check_nodes::Growing;
 use std::alloc::Global;
 use tree_core::Tok;
 

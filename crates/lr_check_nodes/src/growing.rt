@@ -4,8 +4,7 @@ ghost use Rattle.tree_core.specs.Grammar.{kids};
 ghost use Rattle.lr_check.specs.Statement.{KidsFit};
 ghost use Rattle.lr_check_nodes.specs.Growing.{AreWhole, HasLast, HasTreeOf, HaveKids, HasTreeFrom, smallest};
 
-use crate::numbers::number_of;
-use gg_base::NoMemory;
+use gg_base::{NoMemory, number_of};
 use lr_check::SampleNode;
 use std::alloc::Global;
 use std::marker::Model;

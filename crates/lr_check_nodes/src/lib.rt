@@ -2,9 +2,7 @@
 #![tactic(auto)]
 
 mod growing;
-mod numbers;
 mod pruning;
 
 pub use growing::Growing;
-pub use numbers::number_of;
 pub use pruning::prune;

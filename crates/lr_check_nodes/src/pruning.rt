@@ -4,8 +4,7 @@ ghost use Rattle.lr_check.specs.Tree.{IsSample};
 ghost use Rattle.lr_check.specs.Statement.{IsStatement};
 ghost use Rattle.lr_check_nodes.specs.Pruned.{IsPruned, AreReached, Reaching, Pruning, with_marks, renumbered, with_node, without_node};
 
-use crate::numbers::number_of;
-use gg_base::NoMemory;
+use gg_base::{NoMemory, number_of};
 use lr_check::SampleNode;
 use std::alloc::Global;
 use std::marker::Model;
