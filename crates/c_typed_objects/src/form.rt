@@ -9,16 +9,8 @@ ghost use Rattle.c_typed_definition.specs.Forms.{text_of, form_fits, given_count
 
 use c_phrases::tree::{Declarator, Expr, Initialised, Initialiser, Length};
 use c_typed_scope::Blocks;
-use c_types::fault::bad_type;
+use c_types::fault::{bad_type, refuse};
 use c_types::{CType, TypeFault, TypeKind};
-
-fn refuse<T>(place: u32, kind: TypeKind) -> Result<T, TypeFault>
-    ensures { result ≡ Err (TypeFault.At place kind) }
-{
-    Err(TypeFault::At { place, kind })
-}
-
-ghost use Rattle.std.specs.Prelude.{Err};
 
 /// The bytes of a string literal, also in parentheses.
 #[tactic(auto, unfolding(c_typed_definition::specs::Forms::text_of))]

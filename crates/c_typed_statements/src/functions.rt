@@ -1,5 +1,5 @@
 // The declarations and definitions of functions.
-ghost use Rattle.std.specs.Prelude.{◌≡◌, ◌+◌, Ok, Err, None, Some, is_some};
+ghost use Rattle.std.specs.Prelude.{◌≡◌, ◌+◌, Ok, None, Some, is_some};
 ghost use Rattle.c_phrases.specs.UnitShapes.{items_of, length_of, param_of, param_list};
 ghost use Rattle.c_types.specs.Answers.{Gives};
 ghost use Rattle.c_program.specs.Statements.{acts};
@@ -28,7 +28,7 @@ use c_typed_objects::Environment;
 use c_typed_objects::environment::declare;
 use c_typed_objects::initialiser::array_length;
 use c_typed_scope::{Block, Blocks, Data, Entry, Signature};
-use c_types::fault::bad_type;
+use c_types::fault::{bad_type, refuse};
 use c_types::{CType, TypeFault, TypeKind, Types, Variable};
 use gg_base::Name;
 use std::alloc::Global;
@@ -43,12 +43,6 @@ pub struct Builder {
 
 /// The most parameters of a function.
 const PARAMETER_LIMIT: usize = 32;
-
-fn refuse<T>(place: u32, kind: TypeKind) -> Result<T, TypeFault>
-    ensures { result ≡ Err (TypeFault.At place kind) }
-{
-    Err(TypeFault::At { place, kind })
-}
 
 // Whether a function is a service, or is defined already: so many are, and they are numbered behind the services in the
 // order of their first definitions.

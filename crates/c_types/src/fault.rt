@@ -57,12 +57,16 @@ impl<T: Drop> From<AllocFailed<T>> for TypeFault {
     }
 }
 
+/// The answer where something is wrong at the place.
+pub fn refuse<T>(place: u32, kind: TypeKind) -> Result<T, TypeFault>
+    ensures { result ≡ Err (TypeFault.At place kind) }
+{
+    Err(TypeFault::At { place, kind })
+}
+
 /// The answer where no row of the table of operators fits.
 pub fn bad_type<T>(place: u32) -> Result<T, TypeFault>
     ensures { result ≡ Err (TypeFault.At place TypeKind.BadType) }
 {
-    Err(TypeFault::At {
-        place,
-        kind: TypeKind::BadType,
-    })
+    refuse(place, TypeKind::BadType)
 }
