@@ -17,14 +17,6 @@ use gg_base::{Bytes, Name, NoMemory, number_of};
 use std::alloc::Global;
 use tree_core::{Link, Links, Object, Objects, TreeFn, TreeFns, TreeItem, TreeItems, TreeProgram};
 
-fn copied_name(alloc: Global, name: &[u8]) -> Result<Vec<u8>, NoMemory>
-    ensures { IfOk result (λ v. v.items ≡ name.now) }
-{
-    let mut copy = Vec::new(alloc);
-    copy.extend_from_slice(name)?;
-    Ok(copy)
-}
-
 // What an object holds.
 fn copied_bytes(alloc: Global, bytes: &[u8]) -> Result<Vec<u8>, NoMemory>
     ensures copy { IfOk result (λ v. v.items ≡ bytes.now) }
@@ -47,7 +39,7 @@ fn copied_object(alloc: Global, object: &Object) -> Result<Object, NoMemory>
     ensures copy { IfOk result (λ o. o ≡ object.now) }
     ensures bytes { IfOk result (λ o. AreBytes object.now.bytes) }
 {
-    let label = Name::from_vec(copied_name(alloc, object.label.as_slice())?);
+    let label = Name::copy_of(alloc, object.label.as_slice())?;
     let bytes = Bytes::from_vec(copied_bytes(alloc, object.bytes.as_slice())?);
     let links = Links::from_vec(copied_links(alloc, object.links.as_slice())?);
     Ok(Object {
@@ -88,7 +80,7 @@ fn function_of(alloc: Global, of: &Routine, body: Emitted) -> Result<TreeFn, NoM
 {
     let mut items = body.items;
     put(&mut items, Item::Return(Tree::Number(0)))?;
-    let name = Name::from_vec(copied_name(alloc, of.name.as_slice())?);
+    let name = Name::copy_of(alloc, of.name.as_slice())?;
     let args = number_of(of.parameters.as_slice().len())?;
     let items = TreeItems::from_vec(spelled_items(alloc, &items)?);
     Ok(TreeFn {

@@ -28,15 +28,6 @@ use c_tokens::{Key, Mark, Spanned, Token};
 use gg_base::{Bytes, Name};
 use std::alloc::Global;
 
-fn name_of(alloc: Global, bytes: &[u8]) -> Result<Name, Fault>
-    ensures copied { IfOk result (λ n. n ≡ bytes.now) }
-    ensures memory { IfErr result (λ f. f ≡ faults.NoMemory) }
-{
-    let mut copy = Vec::new(alloc);
-    copy.extend_from_slice(bytes)?;
-    Ok(Name::from_vec(copy))
-}
-
 fn bytes_of(alloc: Global, bytes: &[u8]) -> Result<Bytes, Fault>
     ensures copied { IfOk result (λ n. n ≡ bytes.now) }
     ensures memory { IfErr result (λ f. f ≡ faults.NoMemory) }
@@ -59,7 +50,7 @@ pub fn take_name(
     };
     match &first.kind {
         Token::Name(name) => {
-            let name = name_of(alloc, name.as_slice())?;
+            let name = Name::copy_of(alloc, name.as_slice())?;
             Ok(Some((name, first.start, rest)))
         }
         _ => Ok(None),

@@ -21,14 +21,6 @@ pub struct Piece {
     pub length: usize,
 }
 
-fn copy_of(alloc: Global, bytes: &[u8]) -> Result<Name, TokenFault>
-    ensures { Gives result (Ok bytes.now) }
-{
-    let mut copy = Vec::new(alloc);
-    copy.extend_from_slice(bytes)?;
-    Ok(Name::from_vec(copy))
-}
-
 fn word_token(alloc: Global, word: &[u8], at: u32) -> Result<Token, TokenFault>
     ensures { Gives result (word_token at word.now) }
 {
@@ -41,7 +33,7 @@ fn word_token(alloc: Global, word: &[u8], at: u32) -> Result<Token, TokenFault>
             kind: TokenKind::LongName,
         });
     }
-    Ok(Token::Name(copy_of(alloc, word)?))
+    Ok(Token::Name(Name::copy_of(alloc, word)?))
 }
 
 fn word_piece(alloc: Global, text: &[u8], at: u32) -> Result<Piece, TokenFault>

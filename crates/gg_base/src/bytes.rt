@@ -1,6 +1,7 @@
 // Names, bytes and texts, which contracts see as lists of bytes.
-ghost use Rattle.std.specs.Prelude.{◌≡◌};
+ghost use Rattle.std.specs.Prelude.{◌≡◌, IfOk};
 
+use std::alloc::{AllocError, Global};
 use std::marker::Model;
 
 /// A name in a source, a description or an assembly text.
@@ -18,6 +19,13 @@ impl Model for Name {
 }
 
 impl Name {
+    /// A copy of these bytes.
+    pub fn copy_of(alloc: Global, bytes: &[u8]) -> Result<Self, AllocError>
+        ensures { IfOk result (λ n. n ≡ bytes.now) }
+    {
+        Ok(Name::from_vec(Vec::from_slice(alloc, bytes)?))
+    }
+
     /// Of these bytes, without taking memory.
     pub fn from_vec(bytes: Vec<u8>) -> Self
         ensures { result ≡ bytes.items }

@@ -48,12 +48,6 @@ impl<T: Drop> From<AllocFailed<T>> for LoadFault {
     }
 }
 
-fn copied(alloc: Global, name: &Name) -> Result<Name, AllocError>
-    ensures { IfOk result (λ n. n ≡ name.now) }
-{
-    Ok(Name::from_vec(Vec::from_slice(alloc, name.as_slice())?))
-}
-
 ghost use Rattle.vax_core.specs.Valid.{is_code};
 ghost use Rattle.vax_machine.specs.declared.loading.LoadFault.TheVariants as loading_fault;
 ghost use Rattle.vax_machine.specs.Loading.{Loaded, double_label_of, IsDouble};
@@ -62,7 +56,7 @@ ghost use Rattle.vax_machine.specs.Loading.{Loaded, double_label_of, IsDouble};
 fn double(alloc: Global, name: &Name) -> LoadFault
     ensures { (result ≡ loading_fault.NoMemory) ⊎ (result ≡ loading_fault.DoubleLabel name.now) }
 {
-    match copied(alloc, name) {
+    match Name::copy_of(alloc, name.as_slice()) {
         Ok(name) => LoadFault::DoubleLabel(name),
         Err(_) => LoadFault::NoMemory,
     }
@@ -112,10 +106,10 @@ impl<'a> Names<'a> {
         ensures { Loaded (code_of self.now) input.now result }
     {
         if let Some(name) = self.undefined_area_label() {
-            return Err(LoadFault::UndefinedLabel(copied(alloc, name)?));
+            return Err(LoadFault::UndefinedLabel(Name::copy_of(alloc, name.as_slice())?));
         }
         if let Some(name) = self.undefined_label() {
-            return Err(LoadFault::UndefinedLabel(copied(alloc, name)?));
+            return Err(LoadFault::UndefinedLabel(Name::copy_of(alloc, name.as_slice())?));
         }
         if !self.has_main() {
             return Err(LoadFault::NoMain);
