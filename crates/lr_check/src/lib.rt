@@ -8,6 +8,7 @@ mod sample;
 mod stack;
 mod typing;
 
+pub use parse::clear;
 pub use replaying::replay;
 pub use sample::{Outcome, Sample, SampleNode};
 pub use typing::is_statement;

@@ -33,7 +33,8 @@ impl Model for Parse {
 ghost use Rattle.std.specs.Prelude.{◌<◌, ◌^◌, length, replicate, slice_get, false};
 ghost use Rattle.lr_check.specs.Steps.{first_config};
 
-fn clear(seen: &mut [bool])
+/// Nothing is seen any more.
+pub fn clear(seen: &mut [bool])
     ensures { seen.new ≡ replicate (length seen.old) false }
 {
     seen.fill(false);

@@ -12,6 +12,7 @@ ghost use Rattle.sel_parse.specs.Steps.{turn_by, made_turn, step, Onward, Falls,
 
 use crate::generator::Generator;
 use gg_base::NoMemory;
+use lr_check::clear;
 use lr_tables::{Choice, State, Tables};
 use md_reader::Rule;
 use sel_parse_desk::{Desk, DeskFault, Setting, answered, begin, reduce, shift};
@@ -99,12 +100,6 @@ struct Parse<O, I> {
     states: Vec<State>,
     seen: Vec<bool>,
     desk: Desk<O, I>,
-}
-
-fn clear(seen: &mut [bool])
-    ensures { seen.new ≡ replicate (length seen.old) false }
-{
-    seen.fill(false);
 }
 
 fn top_of(states: &[State]) -> State
