@@ -5,7 +5,7 @@ use Rattle.std.specs.List.{AllWithin, HoldsAt, enumerate_from}
 use Rattle.std.proofs.lemmas.List.Elements.{All-contains, All-from_get_or, Contains-get_or}
 use Rattle.std.proofs.lemmas.List.FromFn.{length-enumerate_from, get_or-enumerate_from}
 use Rattle.std.proofs.lemmas.Option.{slice_get-get_or, get_or_from_slice_get, slice_get_within}
-use Rattle.tree_core.specs.declared.token.Tok.TheVariants as tokens
+use Rattle.tree_core.specs.declared.token.Tok.TheVariants as tok
 use Rattle.lr_check.specs.Tree.{Node, IsSample}
 
 -- a number, and a node whose kids have lower numbers
@@ -22,7 +22,7 @@ abbrev pub OneIsNot : List Node → Type 0
 OneIsNot nodes = (n : ℕ) × (n < length (enumerate_from 0 nodes)) × HoldsAt NotAbove (enumerate_from 0 nodes) n
 
 nothing : Node
-nothing = record { tok = tokens.End; kids = []; answers = [] }
+nothing = record { tok = tok.End; kids = []; answers = [] }
 
 pair_is : (nodes : List Node) (n : ℕ) (d v : Node) → n < length nodes → get_or nodes n d ≡ v → get_or (enumerate_from 0 nodes) n (n, d) ≡ (n, v)
 pair_is nodes n d v lt e =
