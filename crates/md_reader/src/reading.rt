@@ -11,7 +11,6 @@ ghost use Rattle.md_reader.specs.HeadSteps.{spill_line, class_line};
 ghost use Rattle.md_reader.specs.RuleSteps.{rule_step, if_step, do_pieces, do_text, shape_step, give_step, give_line};
 ghost use Rattle.md_reader.specs.RuleSteps.{do_line, if_line};
 ghost use Rattle.md_reader.specs.Steps.{step, line_step};
-ghost use Rattle.md_reader.specs.View.{state, Stepped};
 
 use crate::faults::{DescKind, LineFault};
 use crate::forms::{
@@ -57,6 +56,7 @@ pub struct Reading {
     pub lines: Vec<Line>,
     /// Whether `%0` may stand in the template.
     pub register: bool,
+    ghost few_classes: { length classes.items ≤ 64 },
 }
 
 fn is_stmt(class: &Class) -> bool
@@ -81,10 +81,10 @@ fn copied(alloc: Global, bytes: &[u8]) -> Result<Name, NoMemory>
 }
 
 impl Reading {
+    ghost use Rattle.md_reader.specs.View.{state, Stepped};
+
     fn class_step(&mut self, alloc: Global, name: &[u8], kind: Kind) -> Result<(), LineFault>
-        requires { length self.old.classes.items ≤ 64 }
-        ensures few { OnOk result (length self.new.classes.items ≤ 64) }
-        ensures stepped { Stepped result (state self.new) (class_step (state self.old) name.now kind) }
+        ensures { Stepped result (state self.new) (class_step (state self.old) name.now kind) }
     {
         if self.classes.len() >= 64 {
             return Err(LineFault::Wrong(DescKind::Limit));
@@ -98,9 +98,7 @@ impl Reading {
     }
 
     fn spill_pieces(&mut self, number: u32, pieces: Vec<Piece>) -> Result<(), LineFault>
-        requires { length self.old.classes.items ≤ 64 }
-        ensures few { OnOk result (length self.new.classes.items ≤ 64) }
-        ensures stepped { Stepped result (state self.new) (spill_pieces (state self.old) number (Some pieces.items)) }
+        ensures { Stepped result (state self.new) (spill_pieces (state self.old) number (Some pieces.items)) }
     {
         if !line_fits(true, &[Sym::Class(0)], &pieces) {
             return Err(LineFault::Wrong(DescKind::BadHole));
@@ -118,9 +116,7 @@ impl Reading {
     }
 
     fn spill_text(&mut self, alloc: Global, number: u32, line: &[u8]) -> Result<(), LineFault>
-        requires { length self.old.classes.items ≤ 64 }
-        ensures few { OnOk result (length self.new.classes.items ≤ 64) }
-        ensures stepped { Stepped result (state self.new) (spill_text (state self.old) number (text_of (words line.now))) }
+        ensures { Stepped result (state self.new) (spill_text (state self.old) number (text_of (words line.now))) }
     {
         let Some(text) = line_text(alloc, line)? else {
             return Err(LineFault::Wrong(DescKind::BadWord));
@@ -130,9 +126,7 @@ impl Reading {
     }
 
     fn spill_line(&mut self, alloc: Global, number: u32, line: &[u8]) -> Result<(), LineFault>
-        requires { length self.old.classes.items ≤ 64 }
-        ensures few { OnOk result (length self.new.classes.items ≤ 64) }
-        ensures stepped { Stepped result (state self.new) (spill_line (state self.old) number (spill_form (words line.now))) }
+        ensures { Stepped result (state self.new) (spill_line (state self.old) number (spill_form (words line.now))) }
     {
         let Some((saved, rest)) = spill_form(line) else {
             return Err(LineFault::Wrong(DescKind::BadWord));
@@ -153,9 +147,7 @@ impl Reading {
         line: &[u8],
         behind: &[u8],
     ) -> Result<(), LineFault>
-        requires { length self.old.classes.items ≤ 64 }
-        ensures few { OnOk result (length self.new.classes.items ≤ 64) }
-        ensures stepped { Stepped result (state self.new) (rule_step (state self.old) (register_behind (lines behind.now))
+        ensures { Stepped result (state self.new) (rule_step (state self.old) (register_behind (lines behind.now))
             class.now (words line.now)) }
     {
         if self.rules.len() >= 1000 || !is_short(line) {
@@ -184,9 +176,7 @@ impl Reading {
     }
 
     fn if_step(&mut self, restriction: Restriction) -> Result<(), LineFault>
-        requires { length self.old.classes.items ≤ 64 }
-        ensures few { OnOk result (length self.new.classes.items ≤ 64) }
-        ensures stepped { Stepped result (state self.new) (if_step (state self.old) restriction) }
+        ensures { Stepped result (state self.new) (if_step (state self.old) restriction) }
     {
         if !self.lines.is_empty() {
             return Err(LineFault::Wrong(DescKind::BadWord));
@@ -202,9 +192,7 @@ impl Reading {
     }
 
     fn do_pieces(&mut self, number: u32, pieces: Vec<Piece>) -> Result<(), LineFault>
-        requires { length self.old.classes.items ≤ 64 }
-        ensures few { OnOk result (length self.new.classes.items ≤ 64) }
-        ensures stepped { Stepped result (state self.new) (do_pieces (state self.old) number (Some pieces.items)) }
+        ensures { Stepped result (state self.new) (do_pieces (state self.old) number (Some pieces.items)) }
     {
         if !line_fits(self.register, &self.right, &pieces) {
             return Err(LineFault::Wrong(DescKind::BadHole));
@@ -217,9 +205,7 @@ impl Reading {
     }
 
     fn do_text(&mut self, alloc: Global, number: u32, line: &[u8]) -> Result<(), LineFault>
-        requires { length self.old.classes.items ≤ 64 }
-        ensures few { OnOk result (length self.new.classes.items ≤ 64) }
-        ensures stepped { Stepped result (state self.new) (do_text (state self.old) number (text_of (words line.now))) }
+        ensures { Stepped result (state self.new) (do_text (state self.old) number (text_of (words line.now))) }
     {
         let Some(text) = line_text(alloc, line)? else {
             return Err(LineFault::Wrong(DescKind::BadWord));
@@ -232,9 +218,7 @@ impl Reading {
     }
 
     fn end_rule(&mut self, alloc: Global, give: Give) -> Result<(), LineFault>
-        requires { length self.old.classes.items ≤ 64 }
-        ensures few { OnOk result (length self.new.classes.items ≤ 64) }
-        ensures stepped { Stepped result (state self.new) (Ok (ended_rule (state self.old) give)) }
+        ensures { Stepped result (state self.new) (Ok (ended_rule (state self.old) give)) }
     {
         let right = std::mem::replace(&mut self.right, Vec::new(alloc));
         let restrictions = std::mem::replace(&mut self.restrictions, Vec::new(alloc));
@@ -251,9 +235,7 @@ impl Reading {
     }
 
     fn shape_step(&mut self, alloc: Global, number: u32, word: &[u8]) -> Result<(), LineFault>
-        requires { length self.old.classes.items ≤ 64 }
-        ensures few { OnOk result (length self.new.classes.items ≤ 64) }
-        ensures stepped { Stepped result (state self.new) (shape_step (state self.old) number (pieces word.now)) }
+        ensures { Stepped result (state self.new) (shape_step (state self.old) number (pieces word.now)) }
     {
         let read = pieces(alloc, word)?;
         if !pieces_fit(false, &self.right, &read) {
@@ -271,9 +253,7 @@ impl Reading {
     }
 
     fn give_step(&mut self, alloc: Global, number: u32, word: &[u8]) -> Result<(), LineFault>
-        requires { length self.old.classes.items ≤ 64 }
-        ensures few { OnOk result (length self.new.classes.items ≤ 64) }
-        ensures stepped { Stepped result (state self.new) (give_line (state self.old) number (Some word.now)) }
+        ensures { Stepped result (state self.new) (give_line (state self.old) number (Some word.now)) }
     {
         let Some(give) = plain_give(word) else {
             return self.shape_step(alloc, number, word);
@@ -285,9 +265,7 @@ impl Reading {
     }
 
     fn template_line(&mut self, alloc: Global, number: u32, line: &[u8]) -> Result<(), LineFault>
-        requires { length self.old.classes.items ≤ 64 }
-        ensures few { OnOk result (length self.new.classes.items ≤ 64) }
-        ensures stepped { Stepped result (state self.new) (if_line (state self.old) number (if_form (words line.now)) (words line.now)) }
+        ensures { Stepped result (state self.new) (if_line (state self.old) number (if_form (words line.now)) (words line.now)) }
     {
         if let Some(restriction) = if_form(line) {
             return self.if_step(restriction);
@@ -309,9 +287,7 @@ impl Reading {
         line: &[u8],
         behind: &[u8],
     ) -> Result<(), LineFault>
-        requires { length self.old.classes.items ≤ 64 }
-        ensures few { OnOk result (length self.new.classes.items ≤ 64) }
-        ensures stepped { Stepped result (state self.new) (step (state self.old) number (words line.now)
+        ensures { Stepped result (state self.new) (step (state self.old) number (words line.now)
             (register_behind (lines behind.now))) }
     {
         match self.stage {
@@ -357,9 +333,7 @@ impl Reading {
         line: &[u8],
         behind: &[u8],
     ) -> Result<(), LineFault>
-        requires { length self.old.classes.items ≤ 64 }
-        ensures few { OnOk result (length self.new.classes.items ≤ 64) }
-        ensures stepped { Stepped result (state self.new) (line_step (state self.old) number (words line.now)
+        ensures { Stepped result (state self.new) (line_step (state self.old) number (words line.now)
             (register_behind (lines behind.now))) }
     {
         if is_skipped(line) {
@@ -377,8 +351,6 @@ impl Reading {
         line: &[u8],
         behind: &[u8],
     ) -> Result<(), LineFault>
-        requires { length self.old.classes.items ≤ 64 }
-        ensures few { OnOk result (length self.new.classes.items ≤ 64) }
         ensures stepped { Stepped result (state self.new) (line_step (state self.old) number (words line.now)
             (register_behind (lines behind.now))) }
         // What was read so far stays valid.

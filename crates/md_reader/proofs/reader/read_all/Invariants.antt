@@ -9,7 +9,6 @@ abbrev pub invariant-loop-line : goal.invariant-loop-line
 invariant-loop-line l =
     (read_from l.number (state l.reading) (lines l.rest) ≡ read l.fn.bytes)
     × (l.number + length l.rest ≤ 262145)
-    × (length l.reading.classes.items ≤ 64)
     × IsFine (state l.reading) (lines l.rest)
 
 abbrev pub decreases-loop-line : goal.decreases-loop-line
