@@ -1,7 +1,10 @@
 -- Small facts of truth values, choices, numbers and lists that proofs of many crates cite, beside those of std.
-use Rattle.std.proofs.Common.{◌≡◌, ℕ, zero, suc, ◌+◌, ◌-◌, ◌<◌, Bool, true, false, ◌⊎◌, inl, inr, ⊎_elim, Option, Some, None, List, [], ◌∷◌, ◌++◌, length, refl, sym, ap, subst, arith}
-use Rattle.std.specs.Prelude.{◌≤◌, ◌&&◌, ◌||◌, ◌==◌, cond, is_none, IsSome, Result, Ok, Err, IfOk, slice_get, slice_set, slice_index_or}
+use Rattle.std.proofs.Common.{◌≡◌, ℕ, zero, suc, ◌+◌, ◌-◌, ◌<◌, Bool, true, false, ◌⊎◌, inl, inr, ⊎_elim, Option, Some, None, List, [], ◌∷◌, ◌++◌, length, refl, sym, ap, subst}
+use Rattle.std.proofs.Common.{take, reverse, ◌∙◌, arith}
+use Rattle.std.specs.Prelude.{◌≤◌, ◌&&◌, ◌||◌, ◌==◌, cond, if◌then◌else◌, is_some, is_none, IsSome, Result, Ok, Err, IfOk, slice_get, slice_set, slice_index_or}
 use Rattle.std.specs.List.{AllByRecursion as All}
+use Rattle.std.proofs.Math.Seq.{take-append_seam}
+use Rattle.std.proofs.lemmas.List.{length-append, reverse-append}
 use Rattle.std.proofs.lemmas.Option.{none-some, same_Some}
 use Rattle.std.proofs.lemmas.Bool.Decides.{nat_tests}
 
@@ -54,6 +57,10 @@ pub none_is : {A : Type 0} (o : Option A) → is_none o ≡ true → o ≡ None
 none_is None e = refl
 none_is (Some x) e = absurd (cc)
 
+pub not_some : {A : Type 0} (o : Option A) → is_some o ≡ false → o ≡ None
+not_some None e = refl
+not_some (Some x) e = absurd (cc)
+
 pub guarded : {A : Type 0} (b : Bool) (o : Option A) (y : A) → cond b o None ≡ Some y → (b ≡ true) × (o ≡ Some y)
 guarded true o y e = (refl, e)
 guarded false o y e = absurd (none-some y e)
@@ -69,9 +76,18 @@ the_number (Some x) h = (x, refl)
 pub err_ok : {A E : Type 0} (e : E) (x : A) → Err e ≡ Ok x → ⊥
 err_ok e x h = cc
 
+pub ok_same : {A E : Type 0} (x y : A) → ◌≡◌ {A = Result A E} (Ok x) (Ok y) → x ≡ y
+ok_same x y e = cc
+
 pub if_ok : {A E : Type 0} (r : Result A E) (P Q : A → Type 0) → ((x : A) → P x → Q x) → IfOk r P → IfOk r Q
 if_ok (Ok x) P Q g h = g x h
 if_ok (Err e) P Q g h = tt
+
+pub if_true : {A : Type 0} (b : Bool) (x y : A) → b ≡ true → (if b then x else y) ≡ x
+if_true b x y e = ap (λ t. if t then x else y) e
+
+pub if_false : {A : Type 0} (b : Bool) (x y : A) → b ≡ false → (if b then x else y) ≡ y
+if_false b x y e = ap (λ t. if t then x else y) e
 
 -- numbers
 
@@ -108,9 +124,12 @@ slice_left [] ys n x e = absurd (none-some x e)
 slice_left (z ∷ xs) ys zero x e = e
 slice_left (z ∷ xs) ys (suc n) x e = slice_left xs ys n x e
 
+pub slice_seam : {A : Type 0} (xs : List A) (x : A) (ys : List A) → slice_get (xs ++ x ∷ ys) (length xs) ≡ Some x
+slice_seam [] x ys = refl
+slice_seam (z ∷ xs) x ys = slice_seam xs x ys
+
 pub slice_last : {A : Type 0} (xs : List A) (x : A) → slice_get (xs ++ x ∷ []) (length xs) ≡ Some x
-slice_last [] x = refl
-slice_last (z ∷ xs) x = slice_last xs x
+slice_last xs x = slice_seam xs x []
 
 pub slice_set_same : {A : Type 0} (xs : List A) (n : ℕ) (y : A) → n < length xs → slice_get (slice_set xs n y) n ≡ Some y
 slice_set_same [] n y lt = absurd (omega (arith, lt))
@@ -139,6 +158,19 @@ slice_cases [] x zero y e = inr (refl, sym (same_Some x y e))
 slice_cases [] x (suc n) y e = absurd (none-some y e)
 slice_cases (z ∷ xs) x zero y e = inl e
 slice_cases (z ∷ xs) x (suc n) y e = ⊎_elim (λ h. inl h) (λ h. inr (ap suc h.0, h.1)) (slice_cases xs x n y e)
+
+pub take_within : {A : Type 0} (xs ys : List A) (n : ℕ) → n ≤ length xs → take n (xs ++ ys) ≡ take n xs
+take_within xs ys zero le = refl
+take_within [] ys (suc n) le = absurd (omega (arith, le))
+take_within (x ∷ xs) ys (suc n) le = ap (λ (zs : List _). x ∷ zs) (take_within xs ys n (omega (arith, le)))
+
+pub take_front : {A : Type 0} (xs : List A) (x : A) → take (length (xs ++ x ∷ []) - 1) (xs ++ x ∷ []) ≡ xs
+take_front xs x =
+    let n : length (xs ++ x ∷ []) - 1 ≡ length xs = (let a = length-append xs (x ∷ []) in omega (arith, a)) in
+    ap (λ (k : ℕ). take k (xs ++ x ∷ [])) n ∙ take-append_seam xs (x ∷ [])
+
+pub reverse_last : {A : Type 0} (items rest : List A) (x : A) → items ≡ rest ++ x ∷ [] → reverse items ≡ x ∷ reverse rest
+reverse_last items rest x e = ap (λ (ys : List _). reverse ys) e ∙ reverse-append rest (x ∷ [])
 
 pub nil_of : {A : Type 0} (xs : List A) → length xs ≡ 0 → xs ≡ []
 nil_of [] e = refl
