@@ -5,7 +5,7 @@ use Rattle.std.specs.Prelude.{nat_le, ◌&&◌}
 use Rattle.std.specs.Option.{option_map}
 use Rattle.std.proofs.lemmas.Bool.{eqb-true, eq-eqb, ne_eqb, le-leb}
 use Rattle.std.proofs.lemmas.Bool.Decides.{nat_tests}
-use Rattle.std.proofs.lemmas.List.{drop-drop}
+use Rattle.std.proofs.lemmas.List.{drop-drop, append-nil}
 use Rattle.std.proofs.Math.Seq.{drop-append_seam, take-append_seam, drop-append-add}
 use Rattle.c_tokens.specs.declared.pieces.Piece.{Piece}
 use Rattle.c_tokens.specs.declared.marks.Mark.{Mark}
@@ -173,15 +173,11 @@ piece_reads _ _ _ (string text vs rest s) =
     let sums : r.taken + 1 + 1 ≡ suc (r.taken + 1) = omega arith in
     record {
       taken = r.taken + 1 + 1;
-      read = λ at. rw (r.read at (at + 1), append_nil vs) refl;
+      read = λ at. rw (r.read at (at + 1), append-nil vs) refl;
       rest_is = rw sums (sym (drop-drop 1 r.taken text) ∙ ap (drop 1) r.rest_is);
       some = omega arith;
       within = omega arith;
     }
-  where
-    append_nil : (l : List ℕ) → l ++ [] ≡ l
-    append_nil [] = refl
-    append_nil (x ∷ xs) = ap (λ (l : List ℕ). x ∷ l) (append_nil xs)
 piece_reads _ _ _ (mark text m rest e most c) = mark_piece_reads text m rest e (mark_reads text m rest e most) c
 
 plain_front : (b : ℕ) (bs : List ℕ) → is_blank b ≡ false → is_letter b ≡ false → is_digit b ≡ false → b ≢ 39 → b ≢ 34 → Front (b ∷ bs)

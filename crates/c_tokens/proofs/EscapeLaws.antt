@@ -7,12 +7,13 @@ use Rattle.std.proofs.lemmas.Option.{none-some, same_Some}
 use Rattle.std.proofs.Math.Seq.{drop-append_seam, take-append_seam}
 use Rattle.std.specs.Option.{option_map}
 use Rattle.std.specs.Prelude.{nat_lt}
+use Rattle.std.proofs.lemmas.List.{length-take-le}
 use Rattle.c_tokens.specs.Letters.{is_digit_of, run_len}
 use Rattle.c_tokens.specs.Numbers.{number_behind}
 use Rattle.c_tokens.specs.Escapes.{named_escape, byte_of, octal_len, octal_escape, hexadecimal_escape, one_longer, numeric_escape, either_escape, escape_of, element_of}
 use Rattle.c_tokens.specs.Grammar.{Pass, Stops, Writes, IsEscape, named, octal, hexadecimal, IsElement, plain, escape}
 use Rattle.c_tokens.specs.Wrong.{NoEscape}
-use Rattle.c_tokens.proofs.RunLaws.{run_cut, run_within, run_again, length_take}
+use Rattle.c_tokens.proofs.RunLaws.{run_cut, run_within, run_again}
 use Rattle.c_tokens.proofs.NumberLaws.{writes, written}
 
 -- the run of up to k that is cut off
@@ -102,7 +103,7 @@ hexadecimal_is ds x e = step (eqb (run_len (is_digit_of 16) ds) 0) (nat_lt 2 (ru
         let more : run_len (is_digit_of 16) ds ≡ 0 → ⊥ = eqb-false (run_len (is_digit_of 16) ds) 0 f in
         let two : run_len (is_digit_of 16) ds ≤ 2 = small (run_len (is_digit_of 16) ds) g in
         let within : run_len (is_digit_of 16) ds ≤ length ds = run_within (is_digit_of 16) ds in
-        let length_is : length (take (run_len (is_digit_of 16) ds) ds) ≡ run_len (is_digit_of 16) ds = length_take (run_len (is_digit_of 16) ds) ds within in
+        let length_is : length (take (run_len (is_digit_of 16) ds) ds) ≡ run_len (is_digit_of 16) ds = length-take-le (run_len (is_digit_of 16) ds) ds within in
         record {
           is = rw len (hexadecimal ds (take (run_len (is_digit_of 16) ds) ds) x.0 (drop (run_len (is_digit_of 16) ds) ds) r (omega arith) (omega arith) b.writes);
           some = omega arith;

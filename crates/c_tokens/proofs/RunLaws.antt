@@ -1,5 +1,5 @@
 -- Runs of bytes.
-use Rattle.std.proofs.Common.{◌≡◌, ◌≤◌, ◌+◌, not, ℕ, zero, suc, Bool, true, false, cond, List, [], ◌∷◌, ◌++◌, length, take, drop, refl, ap, arith}
+use Rattle.std.proofs.Common.{◌≡◌, ◌≤◌, ◌+◌, not, ℕ, suc, Bool, true, false, cond, List, [], ◌∷◌, ◌++◌, length, take, drop, refl, ap, arith}
 use Rattle.std.proofs.lemmas.List.Sums.{prefix_len-le-length}
 use Rattle.std.specs.List.{position, position_or_len}
 use Rattle.std.specs.Option.{unwrap_or}
@@ -29,11 +29,6 @@ pub run_again : (p : ℕ → Bool) (run rest : List ℕ) → Pass p run → Stop
 run_again p [] [] h s = refl
 run_again p [] (b ∷ bs) h s = rw s refl
 run_again p (b ∷ bs) rest h s = rw (h.0, run_again p bs rest h.1 s) refl
-
-pub length_take : (n : ℕ) (text : List ℕ) → n ≤ length text → length (take n text) ≡ n
-length_take zero text h = refl
-length_take (suc n) [] h = absurd (omega arith)
-length_take (suc n) (b ∷ bs) h = ap suc (length_take n bs (omega arith))
 
 -- how long a run is, as `position` tells it
 pub run_found : (p : ℕ → Bool) (text : List ℕ) → run_len p text ≡ unwrap_or (position (λ b. not (p b)) text) (length text)
