@@ -1,6 +1,6 @@
 -- The exits of the functions that read expressions: a fault there is the automaton's.
 use Rattle.std.proofs.Common.{◌≡◌, ◌≢◌, ℕ, ◌+◌, ◌<◌, ◌≤◌, List, [], ◌∷◌, length, refl, sym, ◌∙◌, arith}
-use Rattle.std.specs.Prelude.{None, Bool, true, false, Result, Ok, Err, IfOk, IfErr}
+use Rattle.std.specs.Prelude.{None, Bool, true, false, Result, Ok, Err, IfErr}
 use Rattle.std.specs.Bool.{MatchBool}
 use Rattle.std.proofs.lemmas.Bool.Decides.{nat_tests}
 use Rattle.std.proofs.lemmas.Option.{none-some}
@@ -503,10 +503,6 @@ post_more n i ts after op at f e up h = λ l. fails_when (Want (PostTail l)) n t
 pub err_map : {A : Type 0} (r : Result A Fault) (P Q : Fault → Type 0) → ((f : Fault) → P f → Q f) → IfErr r P → IfErr r Q
 err_map (Ok x) P Q h i = tt
 err_map (Err f) P Q h i = h f i
-
-pub ok_map : {A : Type 0} (r : Result A Fault) (P Q : A → Type 0) → ((x : A) → P x → Q x) → IfOk r P → IfOk r Q
-ok_map (Ok x) P Q h i = h x i
-ok_map (Err f) P Q h i = tt
 
 pub when_true : (b : Bool) (A B : Type 0) → MatchBool b A B → b ≡ true → A
 when_true true A B h e = h

@@ -1,17 +1,16 @@
 -- A text has one fault of its phrases at most, and none where it is a unit.
-use Rattle.std.proofs.Common.{◌≡◌, ℕ, zero, suc, ◌<◌, ◌≤◌, ◌+◌, Bool, true, false, List, [], ◌∷◌, ◌++◌, length, refl, sym, ap, subst, ◌∙◌, append_assoc, length-append, arith}
-use Rattle.std.specs.Prelude.{Result, Ok, Err}
+use Rattle.std.proofs.Common.{◌≡◌, ℕ, zero, suc, ◌<◌, ◌+◌, true, List, [], ◌∷◌, ◌++◌, length, refl, sym, ap, subst, ◌∙◌, append_assoc, length-append, arith}
+use Rattle.std.specs.Prelude.{Ok, Err}
+use Rattle.std.proofs.lemmas.List.{append-nil}
 use Rattle.c_tokens.specs.declared.token.Spanned.{Spanned}
 use Rattle.c_phrases.specs.declared.tree.Ast.{Ast}
 use Rattle.c_phrases.specs.UnitShapes.{unit_of}
 use Rattle.c_phrases.specs.Classes.{Placed, placed, seen}
 use Rattle.c_phrases.specs.Levels.{limit}
 use Rattle.c_phrases.specs.Units.{AUnit}
-use Rattle.c_phrases.specs.UnitSpelling.{unit_tokens}
 use Rattle.c_phrases.specs.Grammar.{IsUnit}
 use Rattle.c_syntax_goals.specs.Openings.{Opening}
 use Rattle.c_syntax_goals.specs.UnitOpenings.{levelled}
-use Rattle.c_tokens.specs.Grammar.{IsEnded}
 use Rattle.c_syntax_goals.specs.Refusals.{NoneDeep, FirstAreLow, FirstDeepIs, Begins, NotHereAt, TooDeepAt}
 use Rattle.c_syntax_goals.proofs.Lowness.{low_both}
 use Rattle.c_syntax_goals.proofs.Faults.{seen_append}
@@ -51,11 +50,7 @@ begins_at : (a : List Spanned) (t : Spanned) (more : List Spanned) (rest : List 
 begins_at a t more rest u b = begins_fewer (seen a ++ placed t ∷ []) (seen more ++ rest) u (subst (λ (z : List Placed). Begins z u) (up_to a t more rest) b)
 
 no_more : (ts : List Placed) (u : AUnit) → Begins ts u → Begins (ts ++ []) u
-no_more ts u b = record { fits = b.fits; word = b.word; text = b.text ∙ ap (λ (z : List Placed). z ++ b.word) (sym (append_nil ts)) }
-  where
-    append_nil : (xs : List Placed) → xs ++ [] ≡ xs
-    append_nil [] = refl
-    append_nil (x ∷ xs) = ap (λ (z : List Placed). x ∷ z) (append_nil xs)
+no_more ts u b = record { fits = b.fits; word = b.word; text = b.text ∙ ap (λ (z : List Placed). z ++ b.word) (sym (append-nil ts)) }
 
 -- the first that is too deep is one
 low_and_deep : (n m : ℕ) (w : List Opening) → n < m → FirstDeepIs n w → FirstAreLow m w → ⊥
@@ -131,12 +126,8 @@ module _ (ts : List Spanned) where
       begins_at a t r [] u (no_more (seen (a ++ t ∷ r)) u (record {
         fits = is.fits;
         word = [];
-        text = sym is.text ∙ (ap seen text ∙ sym (append_nil (seen (a ++ t ∷ r))));
+        text = sym is.text ∙ (ap seen text ∙ sym (append-nil (seen (a ++ t ∷ r))));
       }))
-    where
-      append_nil : (xs : List Placed) → xs ++ [] ≡ xs
-      append_nil [] = refl
-      append_nil (x ∷ xs) = ap (λ (z : List Placed). x ∷ z) (append_nil xs)
 
   pub unit_is_here : (u : AUnit) (p : ℕ) → IsUnit (seen ts) u → NotHereAt ts p → ⊥
   unit_is_here u p is h = h.none u (unit_begins u is h.before h.token h.behind h.text)

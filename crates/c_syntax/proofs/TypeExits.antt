@@ -1,6 +1,7 @@
 -- The exits of the functions that read types.
 use Rattle.std.proofs.Common.{◌≡◌, ◌≢◌, ℕ, List, [], ◌∷◌, ◌++◌, None, refl, ◌∙◌, ap, append_assoc}
 use Rattle.std.specs.Prelude.{Option}
+use Rattle.std.proofs.lemmas.List.{append-nil}
 use Rattle.c_tokens.specs.declared.token.Token.TheVariants as token
 use Rattle.c_tokens.specs.declared.words.Key.TheVariants as keys
 use Rattle.c_tokens.specs.declared.marks.Mark.TheVariants as marks
@@ -28,10 +29,6 @@ int_none ts h = record { text = refl; leads = λ n κ. passes ts h κ n }
     passes (t ∷ ts) h κ n = rw (by (class_of t.kind) (not_class t.kind (token.Key keys.Int) refl h) t n κ) refl
 
 -- stars
-append_nil : (l : List ℕ) → l ++ [] ≡ l
-append_nil [] = refl
-append_nil (x ∷ xs) = ap (λ (l : List ℕ). x ∷ l) (append_nil xs)
-
 pub stars_begin : (ts : List Placed) → StarsSoFar ts [] ts
 stars_begin ts = record { text = λ w v e. e }
 
@@ -50,5 +47,5 @@ law_stars (at ∷ ats) w h κ n = law_stars ats w h (λ v. κ (at ∷ v)) n
 
 pub stars_end : (ts rest : List Placed) (ats : List ℕ) → StarsSoFar ts ats rest → IsNot (token.Mark marks.Star) rest → ReadsStars ts ats rest
 stars_end ts rest ats s h =
-    let e : ts ≡ onto_stars ats rest = s.text rest [] refl ∙ rw (append_nil ats) refl in
+    let e : ts ≡ onto_stars ats rest = s.text rest [] refl ∙ rw (append-nil ats) refl in
     record { text = e; leads = λ n κ. rw e (law_stars ats rest h κ n) }

@@ -2,6 +2,7 @@
 use Rattle.std.proofs.Common.{◌≡◌, ◌<◌, ◌≤◌, ◌⊎◌, zero, ℕ, suc, ◌+◌, List, [], ◌∷◌, ◌++◌, length, refl, sym, ap, subst, ◌∙◌, arith, inl, inr}
 use Rattle.std.specs.Prelude.{Bool, true, false, nat_lt, Result, Ok, Err, Bool}
 use Rattle.std.proofs.lemmas.Bool.Decides.{nat_tests}
+use Rattle.std.proofs.lemmas.List.{append-nil}
 use Rattle.c_tokens.specs.declared.token.Spanned.{Spanned}
 use Rattle.c_tokens.specs.declared.token.Token.TheVariants.{End}
 use Rattle.c_syntax_goals.specs.declared.fault.Fault.{Fault}
@@ -168,17 +169,13 @@ end_read : (pre : List Placed) (t : Placed) (w : List Placed) (s : Stack) (n : �
 end_read [] t w s n u h e k = end_on (next limit s t n) s t n w u h refl e k
 end_read (p ∷ pre) t w s n u h e k = end_step (next limit s p n) s p n pre t w u refl e k (λ r m x y. end_read pre t w r m u h x y)
 
-append_none : (v : List Placed) → v ++ [] ≡ v
-append_none [] = refl
-append_none (t ∷ v) = ap (λ (x : List Placed). t ∷ x) (append_none v)
-
 -- a text that has End as its last token does not end too early
 pub some_left : (before : List Spanned) (t : Spanned) → t.kind ≡ End → Stops (before ++ t ∷ []) (NotHere 0) → ⊥
 some_left before t h e =
     let ts : List Placed = seen before ++ placed t ∷ [] in
     let f : run limit (Want Whole Done) 0 ts ≡ Err (NotHere 0) = ap (run limit (Want Whole Done) 0) (sym (seen_append before (t ∷ []))) ∙ e in
     let b : BeginsUnit ts = begins_unit ts (subst (λ (x : List Placed). respelled x ≡ x) (seen_append before (t ∷ [])) (seen_respelled (before ++ t ∷ [])))
-    (viable limit ts [] (Want Whole Done) 0 (ap (λ (x : List Placed). left_of (run limit (Want Whole Done) 0 x)) (append_none ts) ∙ ap left_of f)) in
+    (viable limit ts [] (Want Whole Done) 0 (ap (λ (x : List Placed). left_of (run limit (Want Whole Done) 0 x)) (append-nil ts) ∙ ap left_of f)) in
     let text : unit_tokens b.unit ≡ seen before ++ placed t ∷ b.begins.word = b.begins.text ∙ append_one (seen before) (placed t) b.begins.word in
     end_read (seen before) (placed t) b.begins.word (Want Whole Done) 0 b.unit (ap class_of h) f
     (ap (run free (Want Whole Done) 0) (sym text) ∙ law_unit free b.unit b.begins.fits (low_externals b.unit.externals))

@@ -1,8 +1,7 @@
 -- The levels that a run has passed are those of each unit that begins so.
 use Rattle.std.proofs.Common.{◌≡◌, ℕ, suc, ◌+◌, List, [], ◌∷◌, ◌++◌, length, refl, sym, ap, subst, ◌∙◌, arith}
-use Rattle.std.specs.Prelude.{Result, Ok, Err, if◌then◌else◌, Bool, true, false}
-use Rattle.gg_base.proofs.Facts.{err_ok}
-use Rattle.c_syntax_goals.specs.declared.fault.Fault.{Fault}
+use Rattle.std.specs.Prelude.{Ok, Err, if◌then◌else◌, Bool, true, false}
+use Rattle.gg_base.proofs.Facts.{err_ok, ok_same}
 use Rattle.c_syntax_goals.specs.declared.fault.Fault.TheVariants.{NotHere, TooDeep}
 use Rattle.c_phrases.specs.Classes.{Placed, Class, class_of}
 use Rattle.c_tokens.specs.declared.token.Token.TheVariants as token
@@ -31,11 +30,9 @@ marks_of s n [] = []
 marks_of s n (t ∷ ts) = mark s t n ∷ marks_on (next free s t n) (λ r m. marks_of r m ts)
 
 -- a text that is read to its end
-same_ok : (u v : AUnit) → ◌≡◌ {A = Result AUnit Fault} (Ok v) (Ok u) → v ≡ u
-same_ok u v e = cc
 
 closed : (r : Stack) (n : ℕ) (u : AUnit) → closing r ≡ Ok u → Yields r n [] u
-closed (Done v) n u e = (refl, same_ok u v e)
+closed (Done v) n u e = (refl, ok_same v u e)
 closed (Want g κ) n u e = absurd (err_ok (NotHere 0) u e)
 
 accepted_on : (x : Next) (s : Stack) (t : Placed) (n : ℕ) (ts : List Placed) (u : AUnit) → next free s t n ≡ x → on x ts (λ r m. run free r m ts) ≡ Ok u

@@ -1,27 +1,28 @@
 -- A fault depends on the tokens up to its own alone, and a limit only brings faults of level.
-use Rattle.std.proofs.Common.{◌≡◌, ◌⊎◌, ℕ, suc, ◌+◌, ◌<◌, ◌≤◌, List, [], ◌∷◌, ◌++◌, length, refl, sym, ap, subst, ◌∙◌, arith, inl, inr}
+use Rattle.std.proofs.Common.{◌≡◌, ◌⊎◌, ℕ, suc, ◌+◌, ◌≤◌, List, [], ◌∷◌, ◌++◌, length, refl, sym, ap, subst, ◌∙◌, arith, inl, inr}
 use Rattle.std.specs.Prelude.{Option, Some, None, Result, Ok, Err, if◌then◌else◌, Bool, true, false}
+use Rattle.gg_base.proofs.Facts.{ok_same}
 use Rattle.c_syntax_goals.specs.declared.fault.Fault.{Fault}
 use Rattle.c_syntax_goals.specs.declared.fault.Fault.TheVariants.{NoMemory, NotHere, TooDeep}
 use Rattle.c_phrases.specs.Classes.{Placed, class_of}
 use Rattle.c_phrases.specs.Phrases.{AnExp, name, number, str, paren, call, index, step_after, step_before, prefix}
 use Rattle.c_phrases.specs.Phrases.{sizeof_exp, sizeof_type, cast, binary, choice, assign, comma, SomeExps, no_exps}
-use Rattle.c_phrases.specs.Phrases.{exps, after_exp}
+use Rattle.c_phrases.specs.Phrases.{exps}
 use Rattle.c_phrases.specs.Levels.{LowExp, LowExps, free, limit}
-use Rattle.c_phrases.specs.Units.{ALength, AnInit, value, elements, AnInitialised, ADeclarator, ALocal, AStatement}
+use Rattle.c_phrases.specs.Units.{ALength, AnInit, value, elements, AnInitialised, ADeclarator, AStatement}
 use Rattle.c_phrases.specs.Units.{block, empty, expression, break_off, continue_on, give_back, if_then, if_else}
 use Rattle.c_phrases.specs.Units.{while_loop, do_loop, for_loop, SomeItems, no_items, local_item, statement_item}
 use Rattle.c_phrases.specs.Units.{AParam, SomeParams, no_params, void_word, params, ADeclared, function, globals}
 use Rattle.c_phrases.specs.Units.{AnExternal, AUnit}
 use Rattle.c_phrases.specs.UnitSpelling.{unit_tokens}
 use Rattle.c_phrases.specs.Fits.{ExternalsFit}
-use Rattle.c_phrases.specs.UnitLevels.{LowPart, LowLength, LowInit, LowInitialised, LowDeclarator, LowDeclarators}
+use Rattle.c_phrases.specs.UnitLevels.{LowPart, LowLength, LowInit, LowInitialised, LowDeclarators}
 use Rattle.c_phrases.specs.UnitLevels.{LowCondition, LowStatement, LowItems, LowParams, LowSomeParams, LowBody}
 use Rattle.c_phrases.specs.UnitLevels.{LowDeclared, LowExternals}
-use Rattle.c_syntax_goals.specs.Goals.{Stack, Done, Want, Goal, Val, Step, Takes, Opens, Finishes, Refuses, Turn}
+use Rattle.c_syntax_goals.specs.Goals.{Stack, Done, Want, Step, Takes, Opens, Finishes, Refuses, Turn}
 use Rattle.c_syntax_goals.specs.Goals.{Steps, Passes, Whole}
 use Rattle.c_syntax_goals.specs.Turns.{turn}
-use Rattle.c_syntax_goals.specs.Machine.{Next, Goes, Ends, Deep, Stuck, closing, at_end, on, made, pick, next, run}
+use Rattle.c_syntax_goals.specs.Machine.{Next, Goes, Ends, Deep, Stuck, closing, on, made, pick, next, run}
 use Rattle.c_syntax_goals.proofs.Stating.{law_unit}
 
 -- the number of tokens left that an answer names
@@ -237,10 +238,7 @@ too_deep_begins pre bad post e u w fits low text =
 pub fault_within : (ts : List Placed) (f : Fault) → run limit (Want Whole Done) 0 ts ≡ Err f → left_of (Err f) ≤ length ts
 fault_within ts f e = subst (λ (x : Result AUnit Fault). left_of x ≤ length ts) e (at_most limit (Want Whole Done) 0 ts)
 
-pub ok_of : (a b : AUnit) (x y : Result AUnit Fault) → x ≡ Ok a → y ≡ Ok b → x ≡ y → a ≡ b
-ok_of a b x y d e h = cc
-
 -- a unit's tokens are read as that unit alone
 pub same_unit : (ts : List Placed) (u v : AUnit) → ExternalsFit u.externals → LowExternals limit u.externals → ts ≡ unit_tokens u → ExternalsFit v.externals
     → LowExternals limit v.externals → ts ≡ unit_tokens v → u ≡ v
-same_unit ts u v fu lu eu fv lv ev = ok_of u v (Ok u) (Ok v) refl refl (sym (law_unit limit u fu lu) ∙ ap (run limit (Want Whole Done) 0) (sym eu ∙ ev) ∙ law_unit limit v fv lv)
+same_unit ts u v fu lu eu fv lv ev = ok_same u v (sym (law_unit limit u fu lu) ∙ ap (run limit (Want Whole Done) 0) (sym eu ∙ ev) ∙ law_unit limit v fv lv)

@@ -1,8 +1,9 @@
 use Rattle.std.proofs.Common.{rules}
+use Rattle.gg_base.proofs.Facts.{if_ok}
 use Rattle.c_phrases.specs.Classes.{seen}
 use Rattle.c_phrases.specs.UnitShapes.{declarator_of}
 use Rattle.c_syntax.proofs.Closing.{declarator_err, declarator_leads, declarator_none}
-use Rattle.c_syntax.proofs.Exits.{err_map, ok_map}
+use Rattle.c_syntax.proofs.Exits.{err_map}
 use Rattle.c_syntax.proofs.declarations.declarator.Goals as goal
 
 pub returns-in_default-clause-fails : goal.returns-in_default-clause-fails
@@ -15,5 +16,5 @@ returns-clause-fails c = err_map c.declarator_behind.result _ _ (λ f h.
     c.in_ok-stars.ensures.read (search rules) h) c.declarator_behind.ensures.fails
 
 pub returns-clause-leads : goal.returns-clause-leads
-returns-clause-leads c = ok_map c.declarator_behind.result _ _ (λ x h. declarator_leads c.args.level c.in-Some.at c.in-Some.name (seen c.args.tokens.now) (seen c.in_ok-stars.rest.now)
+returns-clause-leads c = if_ok c.declarator_behind.result _ _ (λ x h. declarator_leads c.args.level c.in-Some.at c.in-Some.name (seen c.args.tokens.now) (seen c.in_ok-stars.rest.now)
     (seen c.in-Some.after.now) (seen x.1.now) c.in_ok-stars.stars (declarator_of x.0) c.in_ok-stars.ensures.read (search rules) h) c.declarator_behind.ensures.leads

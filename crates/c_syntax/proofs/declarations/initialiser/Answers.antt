@@ -1,9 +1,10 @@
 use Rattle.std.proofs.lemmas.Result.{err_from_is_err_and}
+use Rattle.gg_base.proofs.Facts.{if_ok}
 use Rattle.c_phrases.specs.Classes.{seen}
 use Rattle.c_phrases.specs.Shapes.{exp}
 use Rattle.c_phrases.specs.UnitShapes.{init_of}
 use Rattle.c_syntax.proofs.Closing.{init_elements, init_elements_err, init_value, init_value_err}
-use Rattle.c_syntax.proofs.Exits.{err_map, ok_map}
+use Rattle.c_syntax.proofs.Exits.{err_map}
 use Rattle.c_syntax.proofs.declarations.initialiser.Goals as goal
 
 pub returns-in_err-value-clause-fails : goal.returns-in_err-value-clause-fails
@@ -20,5 +21,5 @@ returns-clause-fails c = err_map c.elements.result _ _ (λ f h. init_elements_er
     c.in_ok-up.ensures.opened h) c.elements.ensures.fails
 
 pub returns-clause-leads : goal.returns-clause-leads
-returns-clause-leads c = ok_map c.elements.result _ _ (λ x h. init_elements c.args.level c.in_ok-up.up (seen c.args.tokens.now) (seen c.in-Some.inner.now) (seen x.1.now) (init_of x.0)
+returns-clause-leads c = if_ok c.elements.result _ _ (λ x h. init_elements c.args.level c.in_ok-up.up (seen c.args.tokens.now) (seen c.in-Some.inner.now) (seen x.1.now) (init_of x.0)
     c.requires c.in-Some.ensures.found c.in_ok-up.ensures.opened h) c.elements.ensures.read

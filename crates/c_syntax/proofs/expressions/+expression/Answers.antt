@@ -6,9 +6,10 @@ use Rattle.c_syntax_goals.proofs.PhraseLaws.{lower}
 use Rattle.c_syntax.proofs.Stops.{quiet_unassigned, quiet_unasked}
 use Rattle.c_syntax.proofs.ExpressionLaws.{read_lower, more_lower, no_more, unjoined, looser, part_more, call_as, call_led, list_push, arguments_more, arguments_shorter, ready_as, call_read}
 use Rattle.std.proofs.lemmas.Result.{err_from_is_err_and}
+use Rattle.gg_base.proofs.Facts.{if_ok}
 use Rattle.c_syntax.proofs.Exits.{arguments_close, arguments_err, arguments_first_err, assign_cast_err, assign_cast_tail, assign_deep, assign_err, assign_unary_err}
 use Rattle.c_syntax.proofs.Exits.{assign_unary_tail, call_leads, cast_close, cast_err, cast_type_err, cast_unary_err, choice_colon, choice_deep, choice_err, choice_leads}
-use Rattle.c_syntax.proofs.Exits.{choice_operand, choice_tail, commas_more, err_map, expr_commas, expr_err, index_close, index_more, ok_map, parens_close, parens_leads}
+use Rattle.c_syntax.proofs.Exits.{choice_operand, choice_tail, commas_more, err_map, expr_commas, expr_err, index_close, index_more, parens_close, parens_leads}
 use Rattle.c_syntax.proofs.Exits.{parens_none, post_more, primary_parens_err, row_leads, row_more, row_tail, sizeof_close, sizeof_ended, sizeof_type_err, sizeof_unary_err}
 use Rattle.c_syntax.proofs.Exits.{tail_assigned, unary_post_err, unary_primary_err, when_false, when_true}
 use Rattle.c_syntax.proofs.expressions.+expression.Goals as goal
@@ -106,7 +107,7 @@ binary-returns-clause-fails t c = err_map c.binary-2.result _ _ (λ f h.
     c.in_ok-right.ensures.leads h) c.binary-2.ensures.fails
 
 pub binary-returns-clause-leads : goal.binary-returns-clause-leads
-binary-returns-clause-leads t c = ok_map c.binary-2.result _ _ (λ x h. row_leads c.args.level c.in_ok-up.up c.in_ok-operand.now c.in_ok-right.now x.2 (seen c.args.tokens.now)
+binary-returns-clause-leads t c = if_ok c.binary-2.result _ _ (λ x h. row_leads c.args.level c.in_ok-up.up c.in_ok-operand.now c.in_ok-right.now x.2 (seen c.args.tokens.now)
     (seen c.in-Some.after.now) (seen c.in_ok-operand.rest.now) (seen c.in_ok-right.rest.now) (seen x.1.now) c.in-Some.operator c.in-Some.at (exp c.in_ok-operand.operand.value)
     c.in-Some.ensures.found c.in_ok-up.ensures.opened c.in_ok-operand.ensures.read c.in_ok-right.ensures.leads h) c.binary-2.ensures.leads
 
@@ -262,7 +263,7 @@ primary-returns-clause-fails t c = err_map c.parenthesised.result _ _ (λ f h. p
     c.parenthesised.ensures.fails
 
 pub cast-returns-in_default-clause-read : goal.cast-returns-in_default-clause-read
-cast-returns-in_default-clause-read t c = ok_map c.unary.result _ _ (λ x h. read_lower 13 14 13 _ _ _ _ _ (omega arith) h) c.unary.ensures.read
+cast-returns-in_default-clause-read t c = if_ok c.unary.result _ _ (λ x h. read_lower 13 14 13 _ _ _ _ _ (omega arith) h) c.unary.ensures.read
 
 pub unassigned-returns-clause-read : goal.unassigned-returns-clause-read
 unassigned-returns-clause-read t c =
@@ -287,7 +288,7 @@ binary-returns-then-level-lowest-clause-read t c =
 
 pub unary-returns-clause-read : goal.unary-returns-clause-read
 unary-returns-clause-read t c =
-    ok_map c.postfix.result _ _ (λ x h. part_more _ _ _ _ _ _ _ _ c.in_ok-base.ensures.read h) c.postfix.ensures.read
+    if_ok c.postfix.result _ _ (λ x h. part_more _ _ _ _ _ _ _ _ c.in_ok-base.ensures.read h) c.postfix.ensures.read
 
 pub assignment-unassigned-requires-in_default : goal.assignment-unassigned-requires-in_default
 assignment-unassigned-requires-in_default t c =
