@@ -1,8 +1,9 @@
 -- What names in scope stand for.
 use Rattle.std.proofs.Common.{◌≡◌, ℕ, ◌-◌, ◌<◌, ◌≤◌, Bool, true, false, List, [], ◌∷◌, ◌++◌, length, take, Option, Some, None, refl, length-append, arith}
-use Rattle.std.proofs.Math.Seq.{take-append_seam, get_or-append_seam}
+use Rattle.std.proofs.Math.Seq.{get_or-append_seam}
 use Rattle.std.specs.Prelude.{if◌then◌else◌, slice_index_or}
 use Rattle.std.specs.Str.{bytes_eq}
+use Rattle.gg_base.proofs.Facts.{take_front}
 use Rattle.c_types.specs.declared.typed.Variable.{Variable}
 use Rattle.c_types.specs.declared.typed.Variable.TheVariants as variables
 use Rattle.c_typed_scope.specs.declared.entry.Entry.{Entry}
@@ -85,9 +86,6 @@ end_of xs x = omega (arith, length-append xs (x ∷ []))
 index_at : {A : Type 0} (xs : List A) (x y : A) → slice_index_or (xs ++ x ∷ []) (length xs) y ≡ x
 index_at xs x y = get_or-append_seam xs x [] y
 
-take_before : {A : Type 0} (xs : List A) (x : A) → take (length (xs ++ x ∷ []) - 1) (xs ++ x ∷ []) ≡ xs
-take_before xs x = rw (end_of xs x) (take-append_seam xs (x ∷ []))
-
 index_behind : {A : Type 0} (xs : List A) (x y : A) → slice_index_or (xs ++ x ∷ []) (length (xs ++ x ∷ []) - 1) y ≡ x
 index_behind xs x y = rw (end_of xs x) (index_at xs x y)
 
@@ -95,7 +93,7 @@ index_behind xs x y = rw (end_of xs x) (index_at xs x y)
 pub left_scope : (s r : Scope) → r.outer ≡ (enter s).outer → leave r ≡ s
 unfolding enter leave
 left_scope s r is =
-    let first : take (length r.outer - 1) r.outer ≡ s.outer = rw is (take_before s.outer s.here) in
+    let first : take (length r.outer - 1) r.outer ≡ s.outer = rw is (take_front s.outer s.here) in
     let last : slice_index_or r.outer (length r.outer - 1) r.here ≡ s.here = rw is (index_behind s.outer s.here r.here) in
     rw (first, last) refl
 

@@ -5,7 +5,7 @@ use Rattle.std.proofs.lemmas.Bool.{lt-ltb, ne_eqb, and_from}
 use Rattle.std.proofs.lemmas.Slice.Eq.{bytes_eq-Decides}
 use Rattle.std.specs.Prelude.{codes, is_some, slice_get, if◌then◌else◌}
 use Rattle.std.specs.Str.{bytes_eq}
-use Rattle.gg_base.proofs.Facts.{slice_cases}
+use Rattle.gg_base.proofs.Facts.{slice_cases, if_false}
 use Rattle.c_phrases.specs.declared.operator.Spec.{Spec}
 use Rattle.c_phrases.specs.Units.{SomeItems, AFunction, ADeclared, function, globals, AnExternal}
 use Rattle.c_typed_scope.specs.declared.entry.Entry.{Entry}
@@ -179,10 +179,6 @@ none_more : (bodies : List ARoutine) (b : ARoutine) (name : List ℕ) → bytes_
 none_more bodies b name new old i g p =
     elim (slice_cases bodies b i g p) [ inl x ↦ old i g x | inr x ↦ rw (x.1) new ]
 
-with_by : (test : Bool) (k more : Known) → test ≡ false → (if test then k else more) ≡ more
-with_by true k more h = absurd (cc)
-with_by false k more h = refl
-
 known_is : (a c : List (List ℕ × Entry)) (b d : List Signature) → a ≡ c → b ≡ d →
     ◌≡◌ {A = Known} (record { names = a; signatures = b }) (record { names = c; signatures = d })
 known_is a c b d p q = rw (p, q) refl
@@ -210,7 +206,7 @@ signatures_more bodies s b same =
 with_known : (bodies : List ARoutine) (spec : Spec) (f : AFunction) (b : ARoutine) → b.name ≡ f.name → heading_of b ≡ signature_of spec f →
     find (known_of bodies).names f.name ≡ None → with_function spec f (known_of bodies) ≡ known_of (bodies ++ b ∷ [])
 with_known bodies spec f b name heading none =
-    with_by (is_some (find (known_of bodies).names f.name)) (known_of bodies) _ (ap is_some none)
+    if_false (is_some (find (known_of bodies).names f.name)) (known_of bodies) _ (ap is_some none)
     ∙ known_is _ _ _ _ (names_more bodies f.name b name) (signatures_more bodies (signature_of spec f) b heading)
 
 corresponds_more : (k : Known) (bodies : List ARoutine) (spec : Spec) (f : AFunction) (b : ARoutine) → b.name ≡ f.name →

@@ -1,10 +1,10 @@
 -- What objects hold: bytes, and at each link the address of the object that it names.
-use Rattle.std.proofs.Common.{◌≡◌, ℕ, zero, suc, ◌+◌, ◌-◌, ◌/◌, ◌^◌, ◌<◌, ◌≤◌, List, [], ◌∷◌, ◌++◌, length, take, drop, map, Some, refl, ap, subst, ◌∙◌, length-append, append-nil, arith}
+use Rattle.std.proofs.Common.{◌≡◌, ℕ, zero, suc, ◌+◌, ◌-◌, ◌/◌, ◌^◌, ◌<◌, ◌≤◌, List, [], ◌∷◌, ◌++◌, length, take, drop, map, Some, refl, subst, ◌∙◌, length-append, append-nil, arith}
 use Rattle.std.proofs.Math.ListN.{replicate}
 use Rattle.std.proofs.lemmas.List.Elements.{All-nil, All-push, All-weaker}
 use Rattle.std.specs.Prelude.{slice_get}
 use Rattle.std.specs.List.{All}
-use Rattle.gg_base.proofs.Facts.{slice_left}
+use Rattle.gg_base.proofs.Facts.{slice_left, take_within}
 use Rattle.tree_core.specs.declared.program.Object.{Object}
 use Rattle.tree_core.specs.declared.program.Link.{Link}
 use Rattle.c_typed_scope.specs.Contents.{low_bytes, Filled, with_value, address_at, with_link, filled_to}
@@ -31,13 +31,8 @@ pub record Contains (places : List ℕ) (f : Filled) : Type 0 where
   pub bytes : AreBytes f.bytes
   pub links : All (Addressed places f.bytes) f.links
 
-take_longer : (n : ℕ) (xs ys : List ℕ) → n ≤ length xs → take n (xs ++ ys) ≡ take n xs
-take_longer zero xs ys le = refl
-take_longer (suc n) [] ys le = absurd (omega arith)
-take_longer (suc n) (x ∷ xs) ys le = ap (λ (z : List ℕ). x ∷ z) (take_longer n xs ys (omega arith))
-
 four_longer : (at : ℕ) (bytes more : List ℕ) → at + 4 ≤ length bytes → take 4 (drop at (bytes ++ more)) ≡ take 4 (drop at bytes)
-four_longer zero bytes more le = take_longer 4 bytes more (omega arith)
+four_longer zero bytes more le = take_within bytes more 4 (omega arith)
 four_longer (suc at) [] more le = absurd (omega arith)
 four_longer (suc at) (b ∷ bytes) more le = four_longer at bytes more (omega arith)
 

@@ -1,11 +1,11 @@
 -- The labels of a text's objects differ, and are no function's.
 use Rattle.std.proofs.Common.{◌≡◌, ◌≢◌, ℕ, ◌+◌, ◌≤◌, Bool, true, false, List, [], ◌∷◌, ◌++◌, length, Option, Some, None, map, inl, inr, refl, sym, ap, subst, ◌∙◌, length-append, append_assoc, arith}
-use Rattle.std.proofs.lemmas.List.{length-map}
+use Rattle.std.proofs.lemmas.List.{length-map, append-nil}
 use Rattle.std.specs.Fmt.{decimal}
 use Rattle.std.specs.Prelude.{codes, is_some, slice_get, if◌then◌else◌}
 use Rattle.std.specs.Str.{bytes_eq}
 use Rattle.std.proofs.lemmas.Slice.Eq.{bytes_eq-Decides}
-use Rattle.gg_base.proofs.Facts.{slice_cases, tail_same, head_same}
+use Rattle.gg_base.proofs.Facts.{slice_cases, tail_same, head_same, not_some}
 use Rattle.c_tokens.specs.declared.token.Token.TheVariants as token
 use Rattle.c_phrases.specs.declared.operator.Spec.{Spec}
 use Rattle.c_phrases.specs.Phrases.{AnExp}
@@ -131,13 +131,9 @@ named_numbers s r bodies h more k =
       getchar = names_function_more s.scope r.scope (codes "getchar") more h.getchar;
     }
 
-taken_none : (o : Option Entry) → is_some o ≡ false → o ≡ None
-taken_none None h = refl
-taken_none (Some e) h = absurd (cc)
-
 free_name : (s : Scope) (n : List ℕ) → is_taken s n ≡ false → find s.here n ≡ None
 unfolding is_taken
-free_name s n h = taken_none (find s.here n) h
+free_name s n h = not_some (find s.here n) h
 
 same_bytes : (n : List ℕ) → bytes_eq n n ≡ true
 same_bytes n = (bytes_eq-Decides n n).1 refl
@@ -165,11 +161,7 @@ unfolding with_name
 finds_new s n e h = find_new s.here n e h
 
 same_names : (s : Scope) → More s s
-same_names s = record { names = []; here = sym (append_nil s.here) }
-  where
-    append_nil : (es : List (List ℕ × Entry)) → es ++ [] ≡ es
-    append_nil [] = refl
-    append_nil (x ∷ es) = ap (λ (z : List (List ℕ × Entry)). x ∷ z) (append_nil es)
+same_names s = record { names = []; here = sym (append-nil s.here) }
 
 -- an old label is not that of a new name
 name_apart : (s : State) (n : List ℕ) → find s.scope.here n ≡ None → (x : List ℕ) → IsLabel s x → x ≢ 95 ∷ n
