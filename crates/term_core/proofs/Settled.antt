@@ -5,6 +5,7 @@ use Rattle.std.specs.Ordering.{ordering_reverse}
 use Rattle.std.specs.declared.cmp.Ordering.{Ordering}
 use Rattle.std.specs.declared.cmp.Ordering.TheVariants.{Less, Equal, Greater}
 use Rattle.gg_base.specs.declared.size.Size.TheVariants.{Byte, Word}
+use Rattle.gg_base.proofs.Facts.{if_false, if_true}
 use Rattle.term_core.specs.declared.facts.Fact.{Fact}
 use Rattle.term_core.specs.Facts.{has_size}
 use Rattle.term_core.specs.declared.operator.UnaryOp.{UnaryOp}
@@ -28,13 +29,6 @@ module _ (facts : List Fact) where
   chosen true s t h k = h refl
   chosen false s t h k = k refl
 
-  -- a choice by a test that fails, and by one that holds
-  not_taken : (b : Bool) (s t : Shape) → b ≡ false → (if b then s else t) ≡ t
-  not_taken b s t h = ap (λ x. if x then s else t) h
-
-  taken : (b : Bool) (s t : Shape) → b ≡ true → (if b then s else t) ≡ s
-  taken b s t h = ap (λ x. if x then s else t) h
-
   neg_normal : (t : Shape) → IsNormal facts t → IsNormal facts (make_neg t)
   neg_normal (Constant n) h = tt
   neg_normal (Unary Neg t) h = h.0
@@ -49,7 +43,7 @@ module _ (facts : List Fact) where
   zx8_normal (Constant n) h = tt
   zx8_normal (Unary Zx8 t) h = zx8_normal t h.0
   zx8_normal (Unary Sx8 t) h = zx8_normal t h.0
-  zx8_normal (Symbol i) h = chosen (has_size facts i Byte) _ _ (λ e. h) (λ e. (h, not_taken (has_size facts i Byte) _ _ e))
+  zx8_normal (Symbol i) h = chosen (has_size facts i Byte) _ _ (λ e. h) (λ e. (h, if_false (has_size facts i Byte) _ _ e))
   zx8_normal (Memory Byte a) h = h
   zx8_normal t h = (h, refl)
 
@@ -57,7 +51,7 @@ module _ (facts : List Fact) where
   zx16_normal (Constant n) h = tt
   zx16_normal (Unary Zx16 t) h = zx16_normal t h.0
   zx16_normal (Unary Sx16 t) h = zx16_normal t h.0
-  zx16_normal (Symbol i) h = chosen (has_size facts i Word) _ _ (λ e. h) (λ e. (h, not_taken (has_size facts i Word) _ _ e))
+  zx16_normal (Symbol i) h = chosen (has_size facts i Word) _ _ (λ e. h) (λ e. (h, if_false (has_size facts i Word) _ _ e))
   zx16_normal (Memory Word a) h = h
   zx16_normal t h = (h, refl)
 
@@ -84,7 +78,7 @@ module _ (facts : List Fact) where
   add_constant_normal : (t : Shape) (c : ℕ) → IsNormal facts t → IsNormal facts (add_constant c t)
   add_constant_normal (Constant d) c h = tt
   add_constant_normal (Binary Add (Constant d) t) c h = chosen (c == 0) _ _ (λ e. h) (λ e. add_constant_normal t (binary Add (c % 2 ^ 32) (d % 2 ^ 32)) h.1)
-  add_constant_normal t c h = chosen (c == 0) _ _ (λ e. h) (λ e. (tt, h, not_taken (c == 0) _ _ e))
+  add_constant_normal t c h = chosen (c == 0) _ _ (λ e. h) (λ e. (tt, h, if_false (c == 0) _ _ e))
 
   -- where a constant stands in front, or a part that isn't greater
   add_ordered_normal : (a b : Shape) → IsNormal facts a → IsNormal facts b → in_order add_ordered (order a b) a b ≡ add_ordered a b → IsNormal facts (add_ordered a b)
@@ -93,22 +87,22 @@ module _ (facts : List Fact) where
 
   mul_ordered_normal : (a b : Shape) → IsNormal facts a → IsNormal facts b → in_order mul_ordered (order a b) a b ≡ mul_ordered a b → IsNormal facts (mul_ordered a b)
   mul_ordered_normal (Constant c) (Constant d) ha hb e = tt
-  mul_ordered_normal (Constant c) t ha hb e = chosen (c == 1) _ _ (λ f. hb) (λ f. (tt, hb, not_taken (c == 1) _ _ f))
+  mul_ordered_normal (Constant c) t ha hb e = chosen (c == 1) _ _ (λ f. hb) (λ f. (tt, hb, if_false (c == 1) _ _ f))
   mul_ordered_normal a b ha hb e = (ha, hb, e)
 
   and_ordered_normal : (a b : Shape) → IsNormal facts a → IsNormal facts b → in_order (and_ordered facts) (order a b) a b ≡ and_ordered facts a b → IsNormal facts (and_ordered facts a b)
   and_ordered_normal (Constant c) (Constant d) ha hb e = tt
-  and_ordered_normal (Constant c) t ha hb e = chosen (masks_nothing facts c t) _ _ (λ f. hb) (λ f. (tt, hb, not_taken (masks_nothing facts c t) _ _ f))
+  and_ordered_normal (Constant c) t ha hb e = chosen (masks_nothing facts c t) _ _ (λ f. hb) (λ f. (tt, hb, if_false (masks_nothing facts c t) _ _ f))
   and_ordered_normal a b ha hb e = (ha, hb, e)
 
   or_ordered_normal : (a b : Shape) → IsNormal facts a → IsNormal facts b → in_order or_ordered (order a b) a b ≡ or_ordered a b → IsNormal facts (or_ordered a b)
   or_ordered_normal (Constant c) (Constant d) ha hb e = tt
-  or_ordered_normal (Constant c) t ha hb e = chosen (c == 0) _ _ (λ f. hb) (λ f. (tt, hb, not_taken (c == 0) _ _ f))
+  or_ordered_normal (Constant c) t ha hb e = chosen (c == 0) _ _ (λ f. hb) (λ f. (tt, hb, if_false (c == 0) _ _ f))
   or_ordered_normal a b ha hb e = (ha, hb, e)
 
   xor_ordered_normal : (a b : Shape) → IsNormal facts a → IsNormal facts b → in_order xor_ordered (order a b) a b ≡ xor_ordered a b → IsNormal facts (xor_ordered a b)
   xor_ordered_normal (Constant c) (Constant d) ha hb e = tt
-  xor_ordered_normal (Constant c) t ha hb e = chosen (c == 0) _ _ (λ f. hb) (λ f. (tt, hb, not_taken (c == 0) _ _ f))
+  xor_ordered_normal (Constant c) t ha hb e = chosen (c == 0) _ _ (λ f. hb) (λ f. (tt, hb, if_false (c == 0) _ _ f))
   xor_ordered_normal a b ha hb e = (ha, hb, e)
 
   -- parts that were put in order stay so
@@ -132,7 +126,7 @@ module _ (facts : List Fact) where
   sub_normal a b ha hb = add_normal a (make_neg b) ha (neg_normal b hb)
 
   div_normal : (a b : Shape) → IsNormal facts a → IsNormal facts b → IsNormal facts (make_div a b)
-  div_normal (Constant c) (Constant d) ha hb = chosen (d == 0) _ _ (λ e. (tt, tt, taken (d == 0) _ _ e)) (λ e. tt)
+  div_normal (Constant c) (Constant d) ha hb = chosen (d == 0) _ _ (λ e. (tt, tt, if_true (d == 0) _ _ e)) (λ e. tt)
   div_normal a b ha hb = (ha, hb, refl)
 
   shift_normal : (k : ℕ) (t : Shape) → IsNormal facts t → (nat_lt k 32 ≡ false → make_ash (Constant k) t ≡ Binary Ash (Constant k) t)
@@ -141,7 +135,7 @@ module _ (facts : List Fact) where
 
   ash_normal : (c t : Shape) → IsNormal facts c → IsNormal facts t → IsNormal facts (make_ash c t)
   ash_normal (Constant k) (Constant d) hc ht = tt
-  ash_normal (Constant k) t hc ht = shift_normal k t ht (λ e. not_taken (nat_lt k 32) _ _ e)
+  ash_normal (Constant k) t hc ht = shift_normal k t ht (λ e. if_false (nat_lt k 32) _ _ e)
   ash_normal (Unary Zx8 c) t hc ht = ash_normal c t hc.0 ht
   ash_normal (Unary Sx8 c) t hc ht = ash_normal c t hc.0 ht
   ash_normal c t hc ht = (hc, ht, refl)

@@ -6,6 +6,7 @@ use Rattle.std.specs.Ordering.{ordering_reverse}
 use Rattle.std.specs.declared.cmp.Ordering.{Ordering}
 use Rattle.std.specs.declared.cmp.Ordering.TheVariants.{Less, Equal, Greater}
 use Rattle.gg_base.specs.declared.size.Size.TheVariants.{Byte, Word}
+use Rattle.gg_base.proofs.Facts.{if_true, if_false}
 use Rattle.term_core.specs.declared.facts.Fact.{Fact}
 use Rattle.term_core.specs.Facts.{has_size, is_count}
 use Rattle.term_core.specs.declared.operator.UnaryOp.{UnaryOp}
@@ -33,12 +34,6 @@ use Rattle.term_core_settled.proofs.Sizes.{no_larger, neg_size, zx8_size, zx16_s
 abbrev left : Shape → Shape
 left (Binary op a b) = a
 left s = s
-
-taken : (b : Bool) (s t : Shape) → b ≡ true → (if b then s else t) ≡ s
-taken b s t h = ap (λ x. if x then s else t) h
-
-not_taken : (b : Bool) (s t : Shape) → b ≡ false → (if b then s else t) ≡ t
-not_taken b s t h = ap (λ x. if x then s else t) h
 
 -- a choice is what it chooses
 by_choice : {P : Type 0} (b : Bool) (r s t : Shape) → (if b then r else s) ≡ t → (r ≡ t → P) → (s ≡ t → P) → P
@@ -81,7 +76,7 @@ xor_both Equal m n e = cc
 xor_both Greater m n e = cc
 
 div_both : (m n : ℕ) → (n == 0) ≡ false → make_div (Constant m) (Constant n) ≡ Binary Div (Constant m) (Constant n) → ⊥
-div_both m n z e = one (sym (not_taken (n == 0) _ _ z) ∙ e) where
+div_both m n z e = one (sym (if_false (n == 0) _ _ z) ∙ e) where
   one : Constant (binary Div (m % 2 ^ 32) (n % 2 ^ 32)) ≡ Binary Div (Constant m) (Constant n) → ⊥
   one e = cc
 
@@ -189,7 +184,7 @@ no_and_ones facts (Constant m) e = and_both facts (order (Constant (2 ^ 32 - 1))
 no_and_ones facts t e = no_larger _ _ e (omega arith)
 
 no_count : (facts : List Fact) (i : ℕ) → is_count facts i ≡ true → make_and facts (Constant 31) (Symbol i) ≡ Binary And (Constant 31) (Symbol i) → ⊥
-no_count facts i h e = kept (sym (taken (is_count facts i) _ _ h) ∙ e) where
+no_count facts i h e = kept (sym (if_true (is_count facts i) _ _ h) ∙ e) where
   kept : Symbol i ≡ Binary And (Constant 31) (Symbol i) → ⊥
   kept e = cc
 
@@ -203,7 +198,7 @@ no_two_added c d t e =
 no_shift : (k : ℕ) (t : Shape) → k < 32 → make_ash (Constant k) t ≡ Binary Ash (Constant k) t → ⊥
 no_shift k (Constant d) h e = cc
 no_shift k t h e =
-    product t (sym (taken (nat_lt k 32) _ _ (lt-ltb k 32 h)) ∙ e)
+    product t (sym (if_true (nat_lt k 32) _ _ (lt-ltb k 32 h)) ∙ e)
   where
     at_least : (s : Shape) → 1 < 2 + size_of s
     at_least s = omega arith
@@ -222,12 +217,12 @@ no_shift k t h e =
     product u e = either (order (Constant (2 ^ k)) t) t e (omega arith)
 
 no_byte : (facts : List Fact) (i : ℕ) → has_size facts i Byte ≡ true → make_zx8 facts (Symbol i) ≡ Unary Zx8 (Symbol i) → ⊥
-no_byte facts i h e = kept (sym (taken (has_size facts i Byte) _ _ h) ∙ e) where
+no_byte facts i h e = kept (sym (if_true (has_size facts i Byte) _ _ h) ∙ e) where
   kept : Symbol i ≡ Unary Zx8 (Symbol i) → ⊥
   kept e = cc
 
 no_word : (facts : List Fact) (i : ℕ) → has_size facts i Word ≡ true → make_zx16 facts (Symbol i) ≡ Unary Zx16 (Symbol i) → ⊥
-no_word facts i h e = kept (sym (taken (has_size facts i Word) _ _ h) ∙ e) where
+no_word facts i h e = kept (sym (if_true (has_size facts i Word) _ _ h) ∙ e) where
   kept : Symbol i ≡ Unary Zx16 (Symbol i) → ⊥
   kept e = cc
 
