@@ -3,10 +3,7 @@ use Rattle.std.proofs.Common.{◌≡◌, ℕ, suc, Bool, List, [], ◌∷◌, �
 use Rattle.c_lower_scheme.specs.Trees.{Tree, Item, Loc, Push, Call, Save}
 use Rattle.c_lower_scheme.specs.Parts.{InLocal}
 use Rattle.c_lower_scheme.specs.Calls.{pushes, args_count, called_low, called_drop, called_deliver}
-
-pub pushes_append : (ws : List Tree) (is js : List Item) → pushes ws (is ++ js) ≡ pushes ws is ++ js
-pushes_append [] is js = refl
-pushes_append (w ∷ ws) is js = pushes_append ws (Push w ∷ is) js
+use Rattle.c_lower_scheme.proofs.Facts.{pushes_append}
 
 pub pushes_behind : (ws : List Tree) (is : List Item) → pushes ws is ≡ pushes ws [] ++ is
 pushes_behind ws is = pushes_append ws [] is

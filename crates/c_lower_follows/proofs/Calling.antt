@@ -40,7 +40,7 @@ use Rattle.std.proofs.lemmas.Option.{slice_get_past}
 use Rattle.c_meaning.specs.Calls.{put_char, got, call, answer, back, begun as begun_source, entered}
 use Rattle.c_meaning.specs.Calls.{called as called_source}
 use Rattle.c_lower_scheme.specs.Programs.{body_of, items_of}
-use Rattle.c_lower_scheme.proofs.Facts.{stable_inert}
+use Rattle.c_lower_scheme.proofs.Facts.{stable_inert, pushes_append}
 use Rattle.c_lower_follows.proofs.Assigning.{agreed, gone, DoesLow}
 
 abbrev pub SmallAll : List Tree → Type 0
@@ -70,10 +70,6 @@ pure_more w (v ∷ ws) (inr e) h = absurd (cc)
 abbrev pub on_all : TreeProgram → List Tree → Desk → (List ℕ → Runs) → Runs
 on_all program [] d κ = κ []
 on_all program (w ∷ ws) d κ = on (value program w d) (λ v. on_all program ws d (λ vs. κ (v ∷ vs)))
-
-pub pushes_append : (ws : List Tree) (a is : List Item) → pushes ws a ++ is ≡ pushes ws (a ++ is)
-pushes_append [] a is = refl
-pushes_append (w ∷ ws) a is = pushes_append ws (Push w ∷ a) is
 
 pushes_some : (ws : List Tree) (i : Item) (is : List Item) → pushes ws (i ∷ is) ≡ [] → ⊥
 pushes_some [] i is e = cc
@@ -451,7 +447,7 @@ module _ (program : TreeProgram) (code : List TreeItem) (callers : List Activati
         let rest : List Item = c ∷ Save u ∷ is in
         assoc program code callers size count scope level k q.items tail is d _
         (does.runs k le (tail ++ is) (λ vs. call p next f vs κ) (split program code callers size count scope level q.items tail is res) st d ag
-        (λ st1 d1 ag1 s1. moves program code callers k (spelled_all (tail ++ is)) (spelled_all (pushes q.trees rest)) d1 _ (ap spelled_all (pushes_append q.trees (c ∷ Save u ∷ []) is))
+        (λ st1 d1 ag1 s1. moves program code callers k (spelled_all (tail ++ is)) (spelled_all (pushes q.trees rest)) d1 _ (ap spelled_all (sym (pushes_append q.trees (c ∷ Save u ∷ []) is)))
         (pushes_step program code callers size count scope level within q.trees k rest (λ vs. call p next f vs κ st1) d1 does.small does.pure ag1.ranged
         (λ vs len small. call_step f n k le vs len small κ st1 d1 (Save u ∷ is) ag1
         (λ v st' lt ag'.
@@ -477,7 +473,7 @@ module _ (program : TreeProgram) (code : List TreeItem) (callers : List Activati
         let rest : List Item = c ∷ is in
         assoc program code callers size count scope level k q.items tail is d _
         (does.runs k le (tail ++ is) (λ vs. call p next f vs (λ v. κ)) (split program code callers size count scope level q.items tail is res) st d ag
-        (λ st1 d1 ag1 s1. moves program code callers k (spelled_all (tail ++ is)) (spelled_all (pushes q.trees rest)) d1 _ (ap spelled_all (pushes_append q.trees (c ∷ []) is))
+        (λ st1 d1 ag1 s1. moves program code callers k (spelled_all (tail ++ is)) (spelled_all (pushes q.trees rest)) d1 _ (ap spelled_all (sym (pushes_append q.trees (c ∷ []) is)))
         (pushes_step program code callers size count scope level within q.trees k rest (λ vs. call p next f vs (λ v. κ) st1) d1 does.small does.pure ag1.ranged
         (λ vs len small. call_step f n k le vs len small (λ v. κ) st1 d1 is ag1
         (λ v st' lt ag'.
@@ -502,7 +498,7 @@ module _ (program : TreeProgram) (code : List TreeItem) (callers : List Activati
         let rest : List Item = c ∷ Save x ∷ is in
         assoc program code callers size count scope level k q.items tail is d _
         (does.runs k le (tail ++ is) (λ vs. call p next f vs κ) (split program code callers size count scope level q.items tail is res) st d ag
-        (λ st1 d1 ag1 s1. moves program code callers k (spelled_all (tail ++ is)) (spelled_all (pushes q.trees rest)) d1 _ (ap spelled_all (pushes_append q.trees (c ∷ Save x ∷ []) is))
+        (λ st1 d1 ag1 s1. moves program code callers k (spelled_all (tail ++ is)) (spelled_all (pushes q.trees rest)) d1 _ (ap spelled_all (sym (pushes_append q.trees (c ∷ Save x ∷ []) is)))
         (pushes_step program code callers size count scope level within q.trees k rest (λ vs. call p next f vs κ st1) d1 does.small does.pure ag1.ranged
         (λ vs len small. call_step f n k le vs len small κ st1 d1 (Save x ∷ is) ag1
         (λ v st' lt ag'.

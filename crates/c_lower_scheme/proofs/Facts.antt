@@ -5,8 +5,9 @@ use Rattle.std.proofs.lemmas.Bool.{not-true, or_from}
 use Rattle.gg_base.proofs.Facts.{first_true, second_true}
 use Rattle.c_program.specs.Programs.{ARoutine}
 use Rattle.c_lower_scheme.specs.Programs.{body_of, lower_all}
-use Rattle.c_lower_scheme.specs.Trees.{Tree, Num, Gaddr, Loc, Arg, Indir, Conv, Neg, Com, Bin, divides_by, divides, stable, is_leaf, Item}
+use Rattle.c_lower_scheme.specs.Trees.{Tree, Num, Gaddr, Loc, Arg, Indir, Conv, Neg, Com, Bin, divides_by, divides, stable, is_leaf, Item, Push}
 use Rattle.c_lower_scheme.specs.Spelling.{spelled, spelled_all}
+use Rattle.c_lower_scheme.specs.Calls.{pushes}
 use Rattle.tree_core.specs.declared.program.TreeFn.{TreeFn}
 
 pub all_lowered : (count : ℕ) (gs : List ARoutine) (l : ℕ) → length (lower_all count gs l) ≡ length gs
@@ -47,3 +48,8 @@ spelled_append (i ∷ a) b = ap (λ l. spelled i ∷ l) (spelled_append a b)
 pub names_stay : (count : ℕ) (gs : List ARoutine) (l : ℕ) → map (λ (f : TreeFn). f.name) (lower_all count gs l) ≡ map (λ (g : ARoutine). g.name) gs
 names_stay count [] l = refl
 names_stay count (g ∷ gs) l = ap (λ (ns : List (List ℕ)). g.name ∷ ns) (names_stay count gs (body_of count g l).labels)
+
+-- arguments are pushed in front of what follows
+pub pushes_append : (ws : List Tree) (is js : List Item) → pushes ws (is ++ js) ≡ pushes ws is ++ js
+pushes_append [] is js = refl
+pushes_append (w ∷ ws) is js = pushes_append ws (Push w ∷ is) js
