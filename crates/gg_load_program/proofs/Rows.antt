@@ -1,5 +1,6 @@
 -- Lists that grow at their end, one item for each number.
 use Rattle.std.proofs.Common.{◌≡◌, ◌<◌, ◌⊎◌, inl, inr, ℕ, zero, suc, ◌+◌, List, [], ◌∷◌, ◌++◌, length, Some, slice_get, refl, sym, ap, subst, ◌∙◌, arith, append_assoc, length-append}
+use Rattle.gg_base.proofs.Facts.{slice_seam}
 
 pub below_or_last : (i n : ℕ) → i < suc n → (i < n) ⊎ (i ≡ n)
 below_or_last zero zero h = inr refl
@@ -10,10 +11,6 @@ below_or_last (suc i) (suc n) h = on (below_or_last i n (omega arith))
     on : (i < n) ⊎ (i ≡ n) → (suc i < suc n) ⊎ (suc i ≡ suc n)
     on (inl low) = inl (omega arith)
     on (inr e) = inr (ap suc e)
-
-pub seam : {A : Type 0} (xs : List A) (x : A) (ys : List A) → slice_get (xs ++ x ∷ ys) (length xs) ≡ Some x
-seam [] x ys = refl
-seam (z ∷ xs) x ys = seam xs x ys
 
 module _ {A : Type 0} (row : ℕ → List A) (item : ℕ → A) (none : row 0 ≡ []) (next : (n : ℕ) → row (suc n) ≡ row n ++ item n ∷ []) where
   pub row_length : (n : ℕ) → length (row n) ≡ n
@@ -33,4 +30,4 @@ module _ {A : Type 0} (row : ℕ → List A) (item : ℕ → A) (none : row 0 �
       on : (i < n → slice_get (row n ++ (item n ∷ rest)) i ≡ Some (item i)) → (i < n) ⊎ (i ≡ n) → slice_get (row n ++ (item n ∷ rest)) i ≡ Some (item i)
       on before (inl below) = before below
       on before (inr e) = subst (λ (j : ℕ). slice_get (row n ++ (item n ∷ rest)) j ≡ Some (item j)) (sym e)
-          (subst (λ (j : ℕ). slice_get (row n ++ (item n ∷ rest)) j ≡ Some (item n)) (row_length n) (seam (row n) (item n) rest))
+          (subst (λ (j : ℕ). slice_get (row n ++ (item n ∷ rest)) j ≡ Some (item n)) (row_length n) (slice_seam (row n) (item n) rest))

@@ -1,10 +1,11 @@
 -- The walk succeeds exactly where there are such trees.
 use Rattle.std.proofs.Common.{nat_le, ◌≡◌, ◌↔◌, ℕ, zero, suc, ◌+◌, ◌<◌, drop, List, [], ◌∷◌, ◌++◌, length, Bool, true, false, cond, refl, sym, ap, ◌∙◌, Option}
 use Rattle.std.proofs.Common.{arith, get_or, reverse, eqb, ◌≤◌, length-append, IsTrue}
-use Rattle.std.proofs.lemmas.List.{reverse-append, length-reverse}
+use Rattle.std.proofs.lemmas.List.{length-reverse}
 use Rattle.std.proofs.lemmas.Bool.{ne_eqb, leb-true}
 use Rattle.std.proofs.Math.ListN.{drop_of_length-le}
 use Rattle.std.proofs.Math.Seq.{drop-cons}
+use Rattle.gg_base.proofs.Facts.{reverse_last}
 use Rattle.tree_core.specs.declared.token.Sort.{Sort}
 use Rattle.tree_core.specs.declared.token.Sort.TheVariants as sort
 use Rattle.md_reader.specs.declared.types.Class.{Class}
@@ -89,14 +90,11 @@ at_more (suc i) (s ∷ w) lt = at_more i w (omega arith)
 pub too_many : (n i : ℕ) (w : List Sym) → n ≡ 0 → i < length w → count n (drop i w) ≡ count 1 w → false ≡ count 1 w
 too_many n i w e lt h = sym (at_more i w lt) ∙ ap (λ (m : ℕ). count m (drop i w)) (sym e) ∙ h
 
-wanted_last : (items rest : List Sort) (x : Sort) → items ≡ rest ++ x ∷ [] → reverse items ≡ x ∷ reverse rest
-wanted_last items rest x e = ap (λ (t : List Sort). reverse t) e ∙ reverse-append rest (x ∷ [])
-
 stepped : (ok : Sym → Sort → Bool) (items rest : List Sort) (x : Sort) (i : ℕ) (w : List Sym) (d : Sym) → items ≡ rest ++ x ∷ [] → i < length w → walk ok (reverse items) (drop i w)
     ≡ cond (ok (get_or w i d) x) (walk ok (kids_of (get_or w i d) ++ reverse rest) (drop (i + 1) w)) false
 stepped ok items rest x i w d e lt =
     let one : i + 1 ≡ suc i = omega arith in
-    rw (one, drop-cons w i d lt, wanted_last items rest x e) refl
+    rw (one, drop-cons w i d lt, reverse_last items rest x e) refl
 
 pub misfits : (ok : Sym → Sort → Bool) (items rest : List Sort) (x : Sort) (i : ℕ) (w : List Sym) (d : Sym) (b : Bool) → items ≡ rest ++ x ∷ [] → i < length w → ok (get_or w i d) x ≡ false
     → walk ok (reverse items) (drop i w) ≡ b → false ≡ b

@@ -5,6 +5,7 @@ use Rattle.std.specs.Prelude.{count_by, replicate, slice_index, unwrap_or, IfSom
 use Rattle.std.specs.List.{list_any}
 use Rattle.std.proofs.lemmas.List.{length-replicate, get_or-replicate}
 use Rattle.std.proofs.lemmas.List.Sums.{count_by-le-length}
+use Rattle.gg_base.proofs.Facts.{take_within}
 use Rattle.md_reader.specs.declared.types.Kind.{Kind}
 use Rattle.sel_target.specs.declared.attr.Attr.{Attr}
 use Rattle.sel_target.specs.Meaning.{Meaning}
@@ -20,11 +21,6 @@ take_short p [] i n x le = refl
 take_short p (y ∷ xs) zero n x le = refl
 take_short p (y ∷ xs) (suc i) zero x le = absurd (omega (arith, le))
 take_short p (y ∷ xs) (suc i) (suc n) x le = ap (λ (b : Bool). Rattle.std.specs.Prelude.◌||◌ (p y) b) (take_short p xs i n x (omega (arith, le)))
-
-take_before : {X : Type 0} (xs ys : List X) (i : ℕ) → i ≤ length xs → take i (xs ++ ys) ≡ take i xs
-take_before xs ys zero le = refl
-take_before [] ys (suc i) le = absurd (omega (arith, le))
-take_before (x ∷ xs) ys (suc i) le = ap (λ (zs : List _). x ∷ zs) (take_before xs ys i (omega (arith, le)))
 
 any_less : {X : Type 0} (p : X → Bool) (xs : List X) (i n : ℕ) → i ≤ n → list_any p (take n xs) ≡ false → list_any p (take i xs) ≡ false
 any_less p xs zero n le e = refl
@@ -76,7 +72,7 @@ module _ {O I S F : Type 0} (of : Meaning O I S F) where
             ∙ (sym (count-snoc (in_word of w) (attrs es) e.attr) ∙ sym (ap (λ (hs : List (Attr O)). count_by (in_word of w) hs) all)));
         within = (let v = t.within in omega (arith, v, more, long));
         no_register = ap (λ (hs : List (Attr O)). list_any (holds_some of) (take n hs)) all
-            ∙ (ap (λ (hs : List (Attr O)). list_any (holds_some of) hs) (take_before (attrs es) (e.attr ∷ []) n t.within) ∙ t.no_register);
+            ∙ (ap (λ (hs : List (Attr O)). list_any (holds_some of) hs) (take_within (attrs es) (e.attr ∷ []) n t.within) ∙ t.no_register);
       }
 
   -- the room that is needed for one more, behind a push

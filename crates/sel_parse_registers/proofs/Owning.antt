@@ -5,12 +5,12 @@ use Rattle.std.specs.List.{AllByRecursion as All}
 use Rattle.std.specs.Int.{bit_at}
 use Rattle.std.proofs.lemmas.Nat.Bits.{bit_at-pow_other}
 use Rattle.std.proofs.lemmas.Option.{none-some}
+use Rattle.gg_base.proofs.Facts.{not_some}
 use Rattle.tree_core.specs.declared.token.Tok.{Tok}
 use Rattle.tree_core.specs.declared.token.Tok.TheVariants as tok
 use Rattle.tree_core.specs.declared.tree.Att.{Att}
 use Rattle.tree_core.specs.declared.tree.Att.TheVariants as att
 use Rattle.tree_core.specs.declared.program.TreeProgram.{TreeProgram}
-use Rattle.tree_core.proofs.Windows.{none_of}
 use Rattle.md_reader.specs.declared.types.Kind.{Kind}
 use Rattle.md_reader.specs.declared.types.Kind.TheVariants as kind
 use Rattle.md_reader.specs.declared.types.Sym.{Sym}
@@ -154,7 +154,7 @@ module _ {O I S F : Type 0} (of : Meaning O I S F) (law : IsLawful of) (q : Tree
       both false b e f = f
 
       one : attr_touches of e.attr (RegAt r) ≡ false
-      one = lowest_none (λ v. attr_touches of e.attr (RegAt v)) 0 12 r (none_of (lowest (λ v. attr_touches of e.attr (RegAt v)) 0 12) h.0) (omega arith) lt
+      one = lowest_none (λ v. attr_touches of e.attr (RegAt v)) 0 12 r (not_some (lowest (λ v. attr_touches of e.attr (RegAt v)) 0 12) h.0) (omega arith) lt
 
   kind_small : (v : ℕ) (k : Option Kind) → KindFits of k (attr.Reg v) → v < 12
   kind_small v None h = absurd h
@@ -177,7 +177,7 @@ module _ {O I S F : Type 0} (of : Meaning O I S F) (law : IsLawful of) (q : Tree
     where
       none : (a : Attr O) → holds_register of (record { kind = e.kind; attr = a }) ≡ false → registers of law q d first a ≤ 0
       none a h =
-          let n = none_count (λ v. attr_touches of a (RegAt v)) 0 12 (none_of (lowest (λ v. attr_touches of a (RegAt v)) 0 12) h) in
+          let n = none_count (λ v. attr_touches of a (RegAt v)) 0 12 (not_some (lowest (λ v. attr_touches of a (RegAt v)) 0 12) h) in
           omega (arith, n)
 
       by : (a : Attr O) → fine.IsFine of law q d first s a → may_go of (record { kind = e.kind; attr = a }) ≡ false → registers of law q d first a ≤ tick (is_register a)

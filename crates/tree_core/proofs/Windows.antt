@@ -3,7 +3,7 @@ use Rattle.std.proofs.Common.{◌≡◌, ◌⊎◌, inl, inr, ⊎_elim, min, ℕ
 use Rattle.std.proofs.Common.{Option, Some, None, arith, replicate, get_or}
 use Rattle.std.specs.Prelude.{nat_le, is_some}
 use Rattle.std.proofs.lemmas.Bool.{eqb-true, eq-eqb, le-leb, leb-true, leb-false, lt-ltb, cases_lt, both_ways, or_cases}
-use Rattle.gg_base.proofs.Facts.{unguarded}
+use Rattle.gg_base.proofs.Facts.{unguarded, not_some}
 use Rattle.tree_core.specs.Window.{covers, added, added_all, met_once, all_met, lesser, better, least}
 use Rattle.tree_core.specs.Items.{times}
 
@@ -156,10 +156,6 @@ pub some_of : {A : Type 0} (o : Option A) → is_some o ≡ true → (x : A) × 
 some_of None e = absurd cc
 some_of (Some x) e = (x, refl)
 
-pub none_of : {A : Type 0} (o : Option A) → is_some o ≡ false → o ≡ None
-none_of None e = refl
-none_of (Some x) e = absurd cc
-
 -- one more window has each of its numbers once
 pub once_goes : (ns : List ℕ) (from base : ℕ) → least from None ns ≡ Some base → is_some (met_once base (λ m. false) ns) ≡ true → ((n : ℕ) → n < from → times n ns ≤ 1) → (n : ℕ) → n < base
     + 4096 → times n ns ≤ 1
@@ -171,7 +167,7 @@ once_goes ns from base e s h n lt =
     here g cov = (once base (λ m. false) g.0 ns g.1 n cov).1
 
 pub once_fails : (ns : List ℕ) (base : ℕ) → is_some (met_once base (λ m. false) ns) ≡ false → ((n : ℕ) → times n ns ≤ 1) → ⊥
-once_fails ns base s h = by (again_of base (λ m. false) ns (none_of (met_once base (λ m. false) ns) s))
+once_fails ns base s h = by (again_of base (λ m. false) ns (not_some (met_once base (λ m. false) ns) s))
   where
     by : Again (λ m. false) ns → ⊥
     by r = ⊎_elim (λ p. cc p.0) (λ two. omega (arith, two, h r.which)) r.again
