@@ -1,28 +1,22 @@
 -- What follows a run that comes to an end.
-use Rattle.std.proofs.Common.{◌≡◌, ℕ, zero, suc, ◌<◌, ◌≤◌, List, refl, sym, ap, subst, ◌∙◌, inl, inr, arith}
+use Rattle.std.proofs.Common.{◌≡◌, ℕ, List, refl, sym, ap, subst, ◌∙◌, inl, inr, arith}
 use Rattle.std.proofs.Math.Logic.{∥∥₁_map, ∥∥₁_elim}
 use Rattle.std.specs.Prelude.{◌⊎◌}
 use Rattle.std.specs.Coded.{Coded-set, coded_ℕ, coded_list}
+use Rattle.std.proofs.lemmas.Bool.{cases_lt}
 use Rattle.gg_base.specs.declared.run.End.{End}
 use Rattle.gg_base.specs.declared.run.End.TheVariants.{Ended, Trapped, Wild, Deep, Spent, Broken}
 use Rattle.gg_base.specs.Runs.{Outcome, Runs, OneEnd}
 use Rattle.gg_base.specs.Follows.{IsLost, GetsLost, Says, Tells, Follows}
 use Rattle.gg_base.proofs.Facts.{no_prop}
 use Rattle.gg_load_meaning.specs.Run.{ComesTo}
-use Rattle.cmd_load_runs.specs.Sides.{EndsAt, EndsLike}
-
--- two numbers, one of which is below or not
-below_or : (n m : ℕ) → (n < m) ⊎ (m ≤ n)
-below_or zero zero = inr (omega arith)
-below_or zero (suc m) = inl (omega arith)
-below_or (suc n) zero = inr (omega arith)
-below_or (suc n) (suc m) = elim (below_or n m) [ inl h ↦ inl (omega (arith, h)) | inr h ↦ inr (omega (arith, h)) ]
+use Rattle.cmd_load_runs.specs.Sides.{EndsLike}
 
 -- A run that comes to an end with a value.
 module _ (a : Runs) (o : Outcome) (value : ℕ) (comes : ComesTo a o) (end_is : o.end ≡ Ended value) where
   -- what it says is spent, or the outcome
   said : (n : ℕ) → ((a n).end ≡ Spent) ⊎ (a n ≡ o)
-  said n = elim (below_or n o.number) [ inl low ↦ inl (comes.before n low) | inr high ↦ inr (comes.reaches n high) ]
+  said n = elim (cases_lt n o.number) [ inl low ↦ inl (comes.before n low) | inr high ↦ inr (comes.reaches n high) ]
 
   not_lost : (n : ℕ) → IsLost (a n).end → ⊥
   not_lost n lost =

@@ -1,10 +1,8 @@
 -- A typed root is its tree's leaves and an End, and only its first leaf stands for a statement.
-use Rattle.std.proofs.Common.{◌≡◌, ℕ, List, [], ◌∷◌, ◌++◌, length, Option, Some, true, refl, sym, ap, ◌∙◌, subst, arith}
-use Rattle.std.specs.Prelude.{◌-◌, take}
+use Rattle.std.proofs.Common.{◌≡◌, List, [], ◌∷◌, ◌++◌, Option, Some, true, refl, sym, ap, ◌∙◌, subst}
 use Rattle.std.specs.List.{AllByRecursion as All}
-use Rattle.std.proofs.lemmas.List.{length-append}
-use Rattle.std.proofs.Math.Seq.{take-append_seam}
 use Rattle.std.proofs.lemmas.Bool.{and_parts}
+use Rattle.gg_base.proofs.Facts.{take_front}
 use Rattle.tree_core.specs.declared.token.Tok.{Tok}
 use Rattle.tree_core.specs.declared.token.Tok.TheVariants as tok
 use Rattle.tree_core.specs.declared.token.Sort.{Sort}
@@ -17,16 +15,11 @@ use Rattle.sel_parse_moves.specs.Claims.{root}
 use Rattle.sel_parse_moves.proofs.Moves.{leaves_before}
 use Rattle.sel_parse_desk.specs.Selected.{tree_of}
 
-taken_off : (v : List Leaf) (e : Leaf) → take (length (v ++ e ∷ []) - 1) (v ++ e ∷ []) ≡ v
-taken_off v e =
-    let n : length (v ++ e ∷ []) - 1 ≡ length v = (let a = length-append v (e ∷ []) in omega (arith, a)) in
-    ap (λ (k : ℕ). take k (v ++ e ∷ [])) n ∙ take-append_seam v (e ∷ [])
-
 -- the leaves of a typed root's tree
 pub tree_leaves : (w : List Leaf) (h : IsTyped w sort.Stmt) → tree_of w ≡ leaves_onto h.trees []
 tree_leaves w h =
     let e : leaves_onto h.trees [] ++ end_leaf ∷ [] ≡ w = leaves_before h.trees [] (end_leaf ∷ []) ∙ h.spelled in
-    ap tree_of (sym e) ∙ taken_off (leaves_onto h.trees []) end_leaf
+    ap tree_of (sym e) ∙ take_front (leaves_onto h.trees []) end_leaf
 
 pub root_is : (w : List Leaf) → IsTyped w sort.Stmt → root (tree_of w) ≡ w
 root_is w h = ap root (tree_leaves w h) ∙ (leaves_before h.trees [] (end_leaf ∷ []) ∙ h.spelled)

@@ -6,7 +6,7 @@ use Rattle.std.specs.Str.{bytes_eq}
 use Rattle.std.proofs.lemmas.List.{drop_at}
 use Rattle.std.proofs.lemmas.Bool.{eqb-true, true≢false}
 use Rattle.std.proofs.lemmas.Slice.Eq.{bytes_eq-Decides}
-use Rattle.gg_base.proofs.Facts.{some_none}
+use Rattle.gg_base.proofs.Facts.{some_none, slice_seam}
 use Rattle.vax_core.specs.declared.code.Code.{Code}
 use Rattle.vax_core.specs.declared.code.CodeItem.{CodeItem}
 use Rattle.vax_core.specs.declared.code.CodeItem.TheVariants as item_kind
@@ -40,16 +40,12 @@ use Rattle.gg_compile_law.proofs.Starting.{found, compiled_follow}
 
 -- ---- items in a list
 
-pub at_front : (pre rest : List CodeItem) (x : CodeItem) → slice_get (pre ++ x ∷ rest) (length pre) ≡ Some x
-at_front [] rest x = refl
-at_front (p ∷ pre) rest x = at_front pre rest x
-
 pub has_all : (xs pre rest : List CodeItem) → HasItems (pre ++ (xs ++ rest)) (length pre) xs
 has_all [] pre rest = tt
 has_all (x ∷ xs) pre rest =
     let e : (pre ++ x ∷ []) ++ (xs ++ rest) ≡ pre ++ x ∷ (xs ++ rest) = append_assoc pre (x ∷ []) (xs ++ rest) in
     let l : length (pre ++ x ∷ []) ≡ length pre + 1 = omega (arith, length-append pre (x ∷ [])) in (
-      at_front pre (xs ++ rest) x,
+      slice_seam pre x (xs ++ rest),
       subst (λ (n : ℕ). HasItems (pre ++ x ∷ (xs ++ rest)) n xs) l (subst (λ (list : List CodeItem). HasItems list (length (pre ++ x ∷ [])) xs) e (has_all xs (pre ++ x ∷ []) rest)),
     )
 

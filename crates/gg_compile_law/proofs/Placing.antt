@@ -1,6 +1,7 @@
 -- Where the items of a code stand.
 use Rattle.std.proofs.Common.{◌≡◌, ℕ, zero, suc, ◌+◌, List, [], ◌∷◌, ◌++◌, length, drop, Option, Some, None, refl, ap, subst, ◌∙◌, arith}
 use Rattle.std.specs.Prelude.{slice_get}
+use Rattle.std.proofs.lemmas.List.{append_assoc}
 use Rattle.vax_core.specs.declared.code.Instr.{Instr}
 use Rattle.vax_core.specs.declared.code.CodeItem.{CodeItem}
 use Rattle.vax_core.specs.declared.code.CodeItem.TheVariants as item_kind
@@ -29,10 +30,6 @@ has_rest code place [] rest h = let e : place ≡ place + 0 = omega arith in sub
 has_rest code place (i ∷ is) rest h =
     let e : place + 1 + length is ≡ place + length (i ∷ is) = omega arith in
     subst (λ (p : ℕ). HasItems code p rest) e (has_rest code (place + 1) is rest h.1)
-
-append_assoc_items : (xs ys zs : List CodeItem) → (xs ++ ys) ++ zs ≡ xs ++ (ys ++ zs)
-append_assoc_items [] ys zs = refl
-append_assoc_items (x ∷ xs) ys zs = ap (λ (l : List CodeItem). x ∷ l) (append_assoc_items xs ys zs)
 
 -- ---- a label is skipped
 
@@ -102,7 +99,7 @@ module _ (program : TreeProgram) (code : List CodeItem) (g : TreeFn) (words plac
   root_by : (w : List Leaf) (is : List TreeItem) (body : List CodeItem) → IsBody program g words (tree_item.Root w ∷ is) body → HasItems code place (body ++ code_items end_code)
       → RootAt program code g words place w is
   root_by w is body (root w' is' instrs rest s b) h =
-      let there = subst (λ (x : List CodeItem). HasItems code place x) (append_assoc_items (code_items instrs) rest (code_items end_code)) h in
+      let there = subst (λ (x : List CodeItem). HasItems code place x) (append_assoc (code_items instrs) rest (code_items end_code)) h in
       record {
         instrs = instrs;
         selected = s;
