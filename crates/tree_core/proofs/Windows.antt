@@ -2,8 +2,8 @@
 use Rattle.std.proofs.Common.{◌≡◌, ◌⊎◌, inl, inr, ⊎_elim, min, ℕ, zero, suc, ◌+◌, ◌<◌, ◌≤◌, List, [], ◌∷◌, Bool, true, false, cond, not, ◌&&◌, ◌||◌, eqb, refl, sym, ap, ◌∙◌, subst}
 use Rattle.std.proofs.Common.{Option, Some, None, arith, replicate, get_or}
 use Rattle.std.specs.Prelude.{nat_le, is_some}
-use Rattle.std.proofs.lemmas.Bool.{eqb-true, eq-eqb, le-leb, leb-true, leb-false, lt-ltb, cases_lt, both_ways, or_cases}
-use Rattle.gg_base.proofs.Facts.{unguarded, not_some}
+use Rattle.std.proofs.lemmas.Bool.{eqb-true, eq-eqb, le-leb, leb-true, leb-false, lt-ltb, cases_lt, both_ways, or_cases, or_right}
+use Rattle.gg_base.proofs.Facts.{unguarded, not_some, second_true}
 use Rattle.tree_core.specs.Window.{covers, added, added_all, met_once, all_met, lesser, better, least}
 use Rattle.tree_core.specs.Items.{times}
 
@@ -28,11 +28,7 @@ abbrev pub StandsOnce : ℕ → (ℕ → Bool) → List ℕ → ℕ → Type 0
 StandsOnce base h ns n = (h n ≡ true → times n ns ≡ 0) × (times n ns ≤ 1)
 
 added_self : (base : ℕ) (h : ℕ → Bool) (n : ℕ) → covers base n ≡ true → added base h n n ≡ true
-added_self base h n e = or_true (h n) (covers base n && eqb n n) (rw (e, eq-eqb n n refl) refl)
-  where
-    or_true : (a b : Bool) → b ≡ true → (a || b) ≡ true
-    or_true true b q = refl
-    or_true false b q = q
+added_self base h n e = or_right (h n) (covers base n && eqb n n) (rw (e, eq-eqb n n refl) refl)
 
 added_before : (base : ℕ) (h : ℕ → Bool) (m n : ℕ) → h n ≡ true → added base h m n ≡ true
 added_before base h m n e = ap (λ (b : Bool). b || (covers base m && eqb n m)) e
@@ -185,14 +181,10 @@ added_is base h (m ∷ ms) n cov e = by (added_is base (added base h m) ms n cov
     more true lt = omega arith
     more false lt = omega (arith, lt)
 
-    now : (a b : Bool) → (a && b) ≡ true → b ≡ true
-    now true b q = q
-    now false b q = absurd cc
-
     by : (added base h m n ≡ true) ⊎ (0 < times n ms) → (h n ≡ true) ⊎ (0 < times n (m ∷ ms))
     by (inr lt) = inr (more (eqb m n) lt)
     by (inl q) = ⊎_elim (λ p. inl p) (λ p. let one : times n (m ∷ ms) ≡ 1 + times n ms =
-        ap (λ (b : Bool). cond b 1 0 + times n ms) (eq-eqb m n (sym (eqb-true n m (now (covers base m) (eqb n m) p)))) in inr (omega (arith, one))) (or_cases (h n) (covers base m && eqb n m) q)
+        ap (λ (b : Bool). cond b 1 0 + times n ms) (eq-eqb m n (sym (eqb-true n m (second_true (covers base m) (eqb n m) p)))) in inr (omega (arith, one))) (or_cases (h n) (covers base m && eqb n m) q)
 
 added_stays : (base : ℕ) (h : ℕ → Bool) (ns : List ℕ) (n : ℕ) → h n ≡ true → added_all base h ns n ≡ true
 added_stays base h [] n e = e
@@ -217,15 +209,11 @@ all_met_is base h (m ∷ ms) e n cov lt = by (λ q w. all_met_is base h ms q n c
     first true false r q w = absurd cc
     first false b r q w = absurd cc
 
-    second : (a r : Bool) → (a && r) ≡ true → r ≡ true
-    second true r q = q
-    second false r q = absurd cc
-
     same : m ≡ n → h n ≡ true
     same q = subst (λ (k : ℕ). h k ≡ true) q (first (covers base m) (h m) (all_met base h ms) e (ap (covers base) q ∙ cov))
 
     by : (all_met base h ms ≡ true → 0 < times n ms → h n ≡ true) → h n ≡ true
-    by rest = split_eqb m n (λ b. 0 < cond b 1 0 + times n ms → h n ≡ true) (λ q w. same q) (λ q w. rest (second (not (covers base m) || h m) (all_met base h ms) e) (omega (arith, w))) lt
+    by rest = split_eqb m n (λ b. 0 < cond b 1 0 + times n ms → h n ≡ true) (λ q w. same q) (λ q w. rest (second_true (not (covers base m) || h m) (all_met base h ms) e) (omega (arith, w))) lt
 
 pub record Unmet (base : ℕ) (h : ℕ → Bool) (ns : List ℕ) : Type 0 where
   pub which : ℕ

@@ -22,11 +22,11 @@ use Rattle.tree_meaning.specs.declared.value.Meaning.{Meaning}
 use Rattle.tree_meaning.specs.declared.value.Meaning.TheVariants.{Of, Local, Argument, Memory}
 use Rattle.tree_meaning.specs.Operators.{operated, converted, quotient, remainder}
 use Rattle.tree_meaning.specs.Values.{Sight, there, read, kid, bind, at, token_means, meanings}
-use Rattle.tree_meaning.specs.Deeds.{Deed, Puts, Branches, Pushes, Returns, Calls, Saves, Jumps, Traps, Strays, given, assigned, branched, deed_of}
+use Rattle.tree_meaning.specs.Deeds.{Deed, Puts, Branches, Pushes, Returns, Traps, Strays, given, assigned, branched, deed_of}
 use Rattle.tree_meaning_tame.specs.Tame.{tree_means}
 use Rattle.tree_meaning_tame.specs.Tame.{IsTame, Tame, IsThere, AllThere}
-use Rattle.std.specs.Prelude.{◌&&◌}
 use Rattle.std.specs.List.{list_any}
+use Rattle.std.proofs.lemmas.Bool.{and_parts}
 use Rattle.tree_core.specs.Calm.{divides, reads_memory, ReadsNothing, CalmBefore}
 use Rattle.tree_meaning_tame.proofs.Strict.{NoStmt, kids_no_stmt}
 
@@ -374,10 +374,6 @@ module _ (objects : List Object) (s : Sight) where
   stmt_fits sort.PlaceW e = absurd (cc)
   stmt_fits sort.PlaceL e = absurd (cc)
 
-  guarded : (b c : Bool) → (b && c) ≡ true → (b ≡ true) × (c ≡ true)
-  guarded true c e = (refl, e)
-  guarded false c e = absurd cc
-
   follows_at : (l : Leaf) (x : Sort) (gs : List Meaning) → sort_fits (sort_of l.tok) x ≡ true → (x ≡ sort.Stmt → ⊥)
       → Follows (divides l.tok) (fates (kids l.tok) gs 0) (fate_at x (Some (token_means objects s l.tok l.att (kid s (slice_get gs 0)) (kid s (slice_get gs 1)))))
   follows_at l x gs e some = by (sort_of l.tok) refl e
@@ -527,7 +523,7 @@ module _ (objects : List Object) (s : Sight) where
       let here = first_false (reads_memory l.tok) (list_any (λ k. reads_memory k.tok) (leaves_onto below (leaves_onto behind w))) r in
       let inner = second_false (reads_memory l.tok) (list_any (λ k. reads_memory k.tok) (leaves_onto below (leaves_onto behind w))) r in
       let low = quiet (kids l.tok) below (leaves_onto behind w) typed.1 h.1 inner in
-      let sorts = guarded (sort_fits (sort_of l.tok) x) (leaf_fits l) typed.0 in (
+      let sorts = and_parts (sort_fits (sort_of l.tok) x) (leaf_fits l) typed.0 in (
         token_quiet l.tok l.att (meanings objects s below) x sorts.0 here h.0 (kids_tame (kids l.tok) below typed.1 low),
         low,
         quiet xs behind w typed.2 h.2
@@ -545,7 +541,7 @@ module _ (objects : List Object) (s : Sight) where
   zero_behind (x ∷ xs) none w some typed calm e = absurd typed
   zero_behind (x ∷ xs) (tree l below behind) w some typed calm e =
       let g = tree_means objects s l below in
-      let sorts = guarded (sort_fits (sort_of l.tok) x) (leaf_fits l) typed.0 in
+      let sorts = and_parts (sort_fits (sort_of l.tok) x) (leaf_fits l) typed.0 in
       let f = follows_at l x (meanings objects s below) sorts.0 some.0 in
       by f (first_zero (fate_at x (Some g)) (fates xs (g ∷ meanings objects s behind) 1) e) (λ k. zero_behind (kids l.tok) below (leaves_onto behind w) (kids_no_stmt l.tok) typed.1 calm.1 k)
       (λ k. zero_behind xs behind w some.1 typed.2 calm.2 k)
@@ -588,7 +584,7 @@ module _ (objects : List Object) (s : Sight) where
       (fate_tame x (tree_means objects s l below) own, low, by (fate_at x (Some (tree_means objects s l below))) refl (λ k. calm_tame xs behind w some.1 typed.2 there.2 calm.2 k))
     where
       sorts : sort_fits (sort_of l.tok) x ≡ true
-      sorts = (guarded (sort_fits (sort_of l.tok) x) (leaf_fits l) typed.0).0
+      sorts = (and_parts (sort_fits (sort_of l.tok) x) (leaf_fits l) typed.0).0
 
       own : fate_at x (Some (tree_means objects s l below)) ≡ Astray → ⊥
       own e = h (ap (λ (r : Fate). first r (fates xs (tree_means objects s l below ∷ meanings objects s behind) 1)) e)

@@ -24,9 +24,6 @@ abbrev pub Grows : {Y : Type 0} → Y → Y → Y → Type 0
 Grows wild a b = (a ≡ wild) ⊎ (a ≡ b)
 
 module _ (objects : List Object) (s t : Sight) (c : Completes s t) where
-  Some-same : {Y : Type 0} (x y : Y) → Some x ≡ Some y → x ≡ y
-  Some-same x y e = cc
-
   local_grows : (k : ℕ) → Grows Wild (there (s.locals k)) (there (t.locals k))
   local_grows k = by (s.locals k) refl
     where
