@@ -1,17 +1,16 @@
 -- The exits of the functions that read types.
-use Rattle.std.proofs.Common.{◌≡◌, ◌≢◌, ℕ, List, [], ◌∷◌, ◌++◌, None, refl, ◌∙◌, ap, append_assoc}
+use Rattle.std.proofs.Common.{◌≡◌, ℕ, List, [], ◌∷◌, ◌++◌, None, refl, ◌∙◌, ap, append_assoc}
 use Rattle.std.specs.Prelude.{Option}
 use Rattle.std.proofs.lemmas.List.{append-nil}
 use Rattle.c_tokens.specs.declared.token.Token.TheVariants as token
 use Rattle.c_tokens.specs.declared.words.Key.TheVariants as keys
 use Rattle.c_tokens.specs.declared.marks.Mark.TheVariants as marks
-use Rattle.c_phrases.specs.Classes.{Placed, Class, class_of, sign}
+use Rattle.c_phrases.specs.Classes.{Placed, class_of, sign}
 use Rattle.c_phrases.specs.Classes as c
 use Rattle.c_syntax_goals.proofs.Tokens.{not_class}
-use Rattle.c_syntax_goals.specs.Goals.{Stack, Want, AfterShort, Stars, Passes}
-use Rattle.c_syntax_goals.specs.Types.{short_turn}
+use Rattle.c_syntax_goals.specs.Goals.{Stack, Want, AfterShort, Stars}
 use Rattle.c_syntax_goals.specs.Machine.{run}
-use Rattle.c_syntax_goals.proofs.Steps.{stars_by}
+use Rattle.c_syntax_goals.proofs.Steps.{stars_by, short_by}
 use Rattle.c_phrases.specs.Levels.{limit}
 use Rattle.c_phrases.specs.Spelling.{onto_stars}
 use Rattle.c_phrases.specs.Fronts.{IsNot}
@@ -20,13 +19,9 @@ use Rattle.c_syntax.specs.Reads.{ReadsInt, ReadsStars, StarsSoFar}
 pub int_none : (ts : List Placed) → IsNot (token.Key keys.Int) ts → ReadsInt ts None ts
 int_none ts h = record { text = refl; leads = λ n κ. passes ts h κ n }
   where
-    by : (k : Class) → (k ≢ c.Int) → (t : Placed) (n : ℕ) (κ : Option ℕ → Stack) → short_turn k t n κ ≡ Passes n None
-    by c.Int h t n κ = absurd (h refl)
-    by k h t n κ = refl
-
     passes : (ts : List Placed) → IsNot (token.Key keys.Int) ts → (κ : Option ℕ → Stack) (n : ℕ) → run limit (Want AfterShort κ) n ts ≡ run limit (κ None) n ts
     passes [] h κ n = refl
-    passes (t ∷ ts) h κ n = rw (by (class_of t.kind) (not_class t.kind (token.Key keys.Int) refl h) t n κ) refl
+    passes (t ∷ ts) h κ n = rw (short_by (class_of t.kind) (not_class t.kind (token.Key keys.Int) refl h) t n κ) refl
 
 -- stars
 pub stars_begin : (ts : List Placed) → StarsSoFar ts [] ts

@@ -1,7 +1,8 @@
 -- An expression is read by what is to be read: the run goes on behind it with its phrase.
-use Rattle.std.proofs.Common.{◌≡◌, ◌≢◌, ℕ, suc, ◌+◌, ◌<◌, ◌≤◌, List, [], ◌∷◌, length, refl, sym, ap, subst, ◌∙◌, arith}
-use Rattle.std.specs.Prelude.{Option, Some, None, Bool, true, false, nat_lt, if◌then◌else◌}
+use Rattle.std.proofs.Common.{◌≡◌, ℕ, ◌+◌, ◌<◌, ◌≤◌, List, [], ◌∷◌, refl, sym, ap, subst, ◌∙◌, arith}
+use Rattle.std.specs.Prelude.{Option, Some, None, Bool, true, false, nat_lt}
 use Rattle.std.proofs.lemmas.Bool.Decides.{nat_tests}
+use Rattle.std.proofs.lemmas.Bool.{lt-ltb}
 use Rattle.c_tokens.specs.declared.token.Token.{Token}
 use Rattle.c_tokens.specs.declared.token.Token.TheVariants as token
 use Rattle.c_tokens.specs.declared.words.Key.TheVariants as keys
@@ -26,17 +27,14 @@ use Rattle.c_phrases.specs.Spelling.{onto_int, onto_spec, onto_stars, onto_type,
 use Rattle.c_phrases.specs.Operators.{binary_mark, prefix_mark, step_mark, assign_mark, level_of}
 use Rattle.c_phrases.specs.Levels.{LowExp, LowExps}
 use Rattle.c_phrases.specs.Takes.{NoTypeClass, IsTypeWord, NoTypeWord}
-use Rattle.c_phrases.specs.Fronts.{Quiet, IsNot, NoCast, strength, mark_strength}
-use Rattle.c_syntax_goals.specs.Goals.{Stack, Want, Steps, Opens, Expr, Commas, Assign, Cond, Cast, Unary, CallTail}
-use Rattle.c_syntax_goals.specs.Goals.{PostTail, Ended, Tail, First, Group, SizeofTail, SizeofGroup, Arguments}
-use Rattle.c_syntax_goals.specs.Goals.{MoreArguments, Back, WantParen, WantBracket, WantColon, TypeWords, AfterShort}
-use Rattle.c_syntax_goals.specs.Goals.{Stars}
-use Rattle.c_syntax_goals.specs.Turns.{turn}
+use Rattle.c_phrases.specs.Fronts.{Quiet, IsNot, NoCast, mark_strength}
+use Rattle.c_syntax_goals.specs.Goals.{Stack, Want, Expr, Commas, Assign, Cond, Cast, Unary, CallTail}
+use Rattle.c_syntax_goals.specs.Goals.{PostTail, Ended, Tail, Group, SizeofTail, SizeofGroup, Arguments}
+use Rattle.c_syntax_goals.specs.Goals.{MoreArguments, Back, WantBracket, WantColon, TypeWords, AfterShort}
 use Rattle.c_syntax_goals.specs.Expressions.{insert, cond_goals}
 use Rattle.c_syntax_goals.specs.Types.{type_goals, stars_then}
 use Rattle.c_syntax_goals.specs.Groups.{cast_behind, paren_behind, sizeof_behind}
 use Rattle.c_syntax_goals.specs.Machine.{run}
-use Rattle.c_syntax_goals.proofs.Tokens.{single, token_of}
 use Rattle.c_syntax_goals.proofs.Steps.{Unset, NoSet, floor, floor_of, tail_binary, tail_assign, unary_prefix, unary_step, post_step}
 use Rattle.c_syntax_goals.proofs.Steps.{step_opens, back, quiet_commas, quiet_tail, quiet_post, quiet_ended, quiet_call, loosen, pass_short, law_stars}
 use Rattle.c_syntax_goals.proofs.Steps.{group_type, sizeof_group_type, cast_plain, assign_plain, sizeof_is_plain, assign_cast, expand_expr, expand_cond, expand_arguments}
@@ -159,10 +157,7 @@ insert_at l op at e h = refl
 
 insert_in : (l : AnExp) (q : BinaryOperator) (p : ℕ) (r : AnExp) (op : BinaryOperator) (at : ℕ) (e : AnExp) → level_of q < level_of op → insert (binary l q p r) op at e
     ≡ binary l q p (insert r op at e)
-insert_in l q p r op at e lt = rw (less (level_of q) (level_of op) lt) refl
-  where
-    less : (j k : ℕ) → j < k → nat_lt j k ≡ true
-    less j k le = grind (arith, nat_tests)
+insert_in l q p r op at e lt = rw (lt-ltb (level_of q) (level_of op) lt) refl
 
 pub level_least : (op : BinaryOperator) → 3 ≤ level_of op
 level_least binaries.OrOr = omega arith

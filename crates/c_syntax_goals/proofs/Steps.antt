@@ -124,7 +124,7 @@ call_by : (k : Class) → floor k ≤ 16 → (t : Placed) (n : ℕ) (f : List �
 call_by c.OpenParen le t n f at κ = absurd (omega (arith, le))
 call_by k le t n f at κ = refl
 
-short_by : (k : Class) → (k ≢ c.Int) → (t : Placed) (n : ℕ) (κ : Option ℕ → Stack) → Types.short_turn k t n κ ≡ Passes n None
+pub short_by : (k : Class) → (k ≢ c.Int) → (t : Placed) (n : ℕ) (κ : Option ℕ → Stack) → Types.short_turn k t n κ ≡ Passes n None
 short_by c.Int h t n κ = absurd (h refl)
 short_by k h t n κ = refl
 

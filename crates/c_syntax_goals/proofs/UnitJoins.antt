@@ -1,6 +1,7 @@
 -- Parts of statements and of what stands at file level, read one behind another.
 use Rattle.std.proofs.Common.{◌≡◌, ◌⊎◌, ℕ, ◌+◌, List, [], ◌∷◌, refl, ap, subst, ◌∙◌, inl, inr}
 use Rattle.std.specs.Prelude.{Option, Some, None}
+use Rattle.gg_base.proofs.Facts.{some_none, cons_nil}
 use Rattle.c_tokens.specs.declared.words.Key.TheVariants as keys
 use Rattle.c_tokens.specs.declared.marks.Mark.TheVariants as marks
 use Rattle.c_phrases.specs.declared.operator.Spec.{Spec}
@@ -174,20 +175,11 @@ module _ (u : AUnit) where
   lone_text (specs.Void at) (a ∷ ats) m l n w = refl
   lone_text s ats m l n w = refl
 
-  no_stars : (a : ℕ) (ats : List ℕ) → a ∷ ats ≡ [] → ⊥
-  no_stars a ats e = absurd (cc)
-
-  no_named : (m : Named) → Some m ≡ None → ⊥
-  no_named m e = absurd (cc)
-
-  no_length : (l : ALength) → Some l ≡ None → ⊥
-  no_length l e = absurd (cc)
-
   lone_fits : (s : Spec) (ats : List ℕ) (m : Option Named) (l : Option ALength) → LengthFits l → SomeParamsFit (lone_param s ats m l)
   lone_fits (specs.Void at) [] None None h = tt
-  lone_fits (specs.Void at) [] None (Some l) h = (h, λ x. no_length l x.1.1.1)
-  lone_fits (specs.Void at) [] (Some m) l h = (h, λ x. no_named m x.1.1.0)
-  lone_fits (specs.Void at) (a ∷ ats) m l h = (h, λ x. no_stars a ats x.1.0)
+  lone_fits (specs.Void at) [] None (Some l) h = (h, λ x. some_none l x.1.1.1)
+  lone_fits (specs.Void at) [] (Some m) l h = (h, λ x. some_none m x.1.1.0)
+  lone_fits (specs.Void at) (a ∷ ats) m l h = (h, λ x. cons_nil a ats x.1.0)
   lone_fits s ats m l h = (h, λ x. x.0)
 
   some_text : (p : AParam) (ps : List AParam) (n : ℕ) (w : List Opening) → levelled_param p n (levelled_more_params ps n w) ≡ levelled_params (some_params p ps) n w
