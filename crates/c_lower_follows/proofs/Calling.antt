@@ -139,7 +139,7 @@ module _ (program : TreeProgram) (code : List TreeItem) (callers : List Activati
     keeps = λ j szj o. s'.keeps j szj (⊎_elim (λ lt. inl (omega arith)) (λ ge. inr (omega arith)) o) ∙ s.keeps j szj (⊎_elim (λ lt. inl lt) (λ ge. inr (omega arith)) o);
     same = λ e. let h = s.same (front_nil a c e) in let g = s'.same (back_nil a c e) in (g.0 ∙ h.0, g.1 ∙ h.1);
     still = λ e.
-        let h = s.same (nil_of a (and_parts (is_nil a) b e).0) in
+        let h = s.same (nil_from a (and_parts (is_nil a) b e).0) in
         let g = s'.still (and_parts (is_nil a) b e).1 in (
           g.0 ∙ h.0,
           record {
@@ -150,10 +150,6 @@ module _ (program : TreeProgram) (code : List TreeItem) (callers : List Activati
           },
         );
   }
-    where
-      nil_of : (a : List Item) → is_nil a ≡ true → a ≡ []
-      nil_of [] e = refl
-      nil_of (i ∷ is) e = absurd (cc)
 
   pass_saved : (p : Lowered) (q : Passing) (t : ℕ) (m : Rest → State → Runs) (n : RestAll → State → Runs) → size ≤ t → DoesOne p t m → DoesAll q p.temps n
       → DoesAll (pass_so true p q) t (λ κ. m (λ x. n (λ xs. κ (x ∷ xs))))

@@ -3,6 +3,7 @@ use Rattle.std.proofs.Common.{◌≡◌, ℕ, suc, ◌<◌, ◌≤◌, ◌^◌, 
 use Rattle.std.specs.Prelude.{Bool, true, false, not}
 use Rattle.gg_base.specs.declared.relation.Rel.{Rel}
 use Rattle.gg_base.proofs.Words.{zero_small}
+use Rattle.gg_base.proofs.Facts.{false_true}
 use Rattle.c_types.specs.declared.types.Integer.{Integer}
 use Rattle.c_types.specs.declared.types.Integer.TheVariants as ints
 use Rattle.c_types.specs.declared.types.CType.{CType}
@@ -163,9 +164,6 @@ module _ (objects most : ℕ) where
             behind (h.items lt (omega arith)) (behind (g.items y le) (next lt none));
       }
 
-  never : {A : Type 0} → false ≡ true → A
-  never e = absurd (cc)
-
   pub chain_long : (stop : Bool) (a b : Lowering) → LongWay a → LongWay b → LongWay (conditional (chain stop a b) (chain_drop a stop b))
   chain_long stop a b h g = conditional_long _ _
       (λ sense to t l.
@@ -175,7 +173,7 @@ module _ (objects most : ℕ) where
       (g.branch sense to p.temps p.labels) (λ lt e. lt))
       (λ t l.
       let p : Emitted = a.branch stop l t (suc l) in
-      chained_long false (Unit {0}) l l p b.drop (h.branch stop l t (suc l)) (g.drop p.temps p.labels) (λ y e. never e))
+      chained_long false (Unit {0}) l l p b.drop (h.branch stop l t (suc l)) (g.drop p.temps p.labels) (λ y e. false_true e))
 
   pub not_long : (e : Lowering) → LongWay e → LongWay (conditional (λ sense to t l. e.branch (not sense) to t l) e.drop)
   not_long e h = conditional_long _ _ (λ sense to t l. h.branch (not sense) to t l) h.drop
