@@ -6,7 +6,7 @@ use Rattle.std.specs.Str.{bytes_eq}
 use Rattle.std.proofs.lemmas.Bool.{and_parts, eqb-true, leb-true, true≢false}
 use Rattle.std.proofs.lemmas.List.{length-replicate}
 use Rattle.std.proofs.lemmas.Slice.Eq.{bytes_eq-Decides}
-use Rattle.gg_base.proofs.Facts.{some_none}
+use Rattle.gg_base.proofs.Facts.{some_none, or_true}
 use Rattle.vax_core.specs.declared.code.Code.{Code}
 use Rattle.vax_core.specs.declared.code.CodeItem.{CodeItem}
 use Rattle.vax_core.specs.declared.code.AreaItem.{AreaItem}
@@ -133,11 +133,7 @@ module _ (whole : List AreaItem) where
 
 has_there : (pre post : List AreaItem) (n : List ℕ) → has_area_label (pre ++ areas.Label n ∷ post) n ≡ true
 has_there [] post n = ap (λ (b : Bool). b || has_area_label post n) ((bytes_eq-Decides n n).1 refl)
-has_there (x ∷ pre) post n = ap (λ (b : Bool). is_area_label x n || b) (has_there pre post n) ∙ by (is_area_label x n)
-  where
-    by : (b : Bool) → (b || true) ≡ true
-    by true = refl
-    by false = refl
+has_there (x ∷ pre) post n = ap (λ (b : Bool). is_area_label x n || b) (has_there pre post n) ∙ or_true (is_area_label x n)
 
 not_double : (x : AreaItem) (pre post : List AreaItem) (n : List ℕ) (code : List CodeItem) → double_area_label (x ∷ (pre ++ areas.Label n ∷ post)) code ≡ None
     → (is_area_label x n ≡ false) × (double_area_label (pre ++ areas.Label n ∷ post) code ≡ None)

@@ -3,6 +3,7 @@ use Rattle.std.proofs.Common.{◌≡◌, ℕ, zero, suc, ◌+◌, ◌<◌, true,
 use Rattle.std.specs.Prelude.{slice_get}
 use Rattle.gg_base.specs.Runs.{Outcome, Runs}
 use Rattle.gg_base.specs.Follows.{AsksAt, Forward}
+use Rattle.gg_base.proofs.Facts.{nil_cons, tail_same}
 use Rattle.vax_core.specs.declared.code.CodeItem.{CodeItem}
 use Rattle.vax_machine.specs.State.{State}
 use Rattle.vax_machine.specs.Running.{state_run}
@@ -148,14 +149,8 @@ module _ (program : TreeProgram) (code : List CodeItem) (emitted : (n : ℕ) (g 
         no_true e = cc
 
     by_callers : (callers : List Activation) (t : Trees) (m : State) → t.callers ≡ callers → Stands program code t m → IsFollowed t m
-    by_callers [] t m eq s = by_items t.running.items t m refl s (λ s' n' c is stands. absurd (no_call c s'.callers (sym eq ∙ is)))
-      where
-        no_call : (c : Activation) (cs : List Activation) → [] ≡ c ∷ cs → ⊥
-        no_call c cs e = cc
-    by_callers (a ∷ rest) t m eq s = by_items t.running.items t m refl s (λ s' n' c is stands. by_callers rest s' n' (same_calls c a s'.callers rest (sym is ∙ eq)) stands)
-      where
-        same_calls : (c a : Activation) (cs rest : List Activation) → c ∷ cs ≡ a ∷ rest → cs ≡ rest
-        same_calls c a cs rest e = cc
+    by_callers [] t m eq s = by_items t.running.items t m refl s (λ s' n' c is stands. absurd (nil_cons c s'.callers (sym eq ∙ is)))
+    by_callers (a ∷ rest) t m eq s = by_items t.running.items t m refl s (λ s' n' c is stands. by_callers rest s' n' (tail_same c a s'.callers rest (sym is ∙ eq)) stands)
 
   -- From states that stand for one another, the machine's run does what the trees' run does, and in at least as many steps.
   pub follows_forward : (k : ℕ) (t : Trees) (m : State) → Stands program code t m → Forward k (tree_runs program (arrived t)) (state_run m)

@@ -2,6 +2,7 @@
 use Rattle.std.proofs.Common.{◌≡◌, ℕ, ◌+◌, ◌^◌, ◌<◌, ◌≤◌, Bool, true, List, [], ◌∷◌, ◌++◌, length, Option, Some, None, refl, sym, ap, subst, ◌∙◌, arith}
 use Rattle.std.specs.Prelude.{slice_index}
 use Rattle.std.proofs.lemmas.List.{same_from_push, append-nil}
+use Rattle.gg_base.proofs.Facts.{head_same, tail_same, nil_cons}
 use Rattle.vax_core.specs.declared.register.Reg.TheVariants.{R0, Sp}
 use Rattle.vax_core.specs.declared.code.CodeItem.{CodeItem}
 use Rattle.vax_machine_live.specs.declared.frame.Frame.{Frame}
@@ -104,12 +105,9 @@ module _ (program : TreeProgram) (code : List CodeItem) where
     pub active : IsActive program code g own c place true
     pub waits : Waits program code outer rest cs
 
-  no_cons : (x : Activation) (xs : List Activation) → [] ≡ x ∷ xs → ⊥
-  no_cons x xs e = cc
-
   waits_is : (frames : List Frame) (es : List Extent) (xs : List Activation) → Waits program code frames es xs → (c : Activation) (cs : List Activation) → xs ≡ c ∷ cs
       → (outer : List Frame) (f : Frame) → frames ≡ outer ++ f ∷ [] → Waiting es c cs outer f
-  waits_is frames es xs (ends_run f' none) c cs eq outer f is = absurd (no_cons c cs eq)
+  waits_is frames es xs (ends_run f' none) c cs eq outer f is = absurd (nil_cons c cs eq)
   waits_is frames es xs (goes_on more inner all h f' g e rest_e a rest place p q back saved fp ap_is active waits) c cs eq outer f is =
       let same = same_from_push outer inner f f' (sym is ∙ q) in
       let f_is : f' ≡ f = sym same.1 in
@@ -127,19 +125,13 @@ module _ (program : TreeProgram) (code : List CodeItem) where
         fp = subst (λ (x : Frame). slice_index x.saved 13 ≡ h.fp) f_is fp;
         ap = subst (λ (x : Frame). slice_index x.saved 12 ≡ h.ap) f_is ap_is;
         g = g;
-        active = subst (λ (x : Activation). IsActive program code g e x place true) (same_call a c rest cs eq) active;
-        waits = subst (λ (x : List Frame). Waits program code x rest_e cs) inner_is (subst (λ (x : List Activation). Waits program code inner rest_e x) (same_calls a c rest cs eq) waits);
+        active = subst (λ (x : Activation). IsActive program code g e x place true) (head_same a c rest cs eq) active;
+        waits = subst (λ (x : List Frame). Waits program code x rest_e cs) inner_is (subst (λ (x : List Activation). Waits program code inner rest_e x) (tail_same a c rest cs eq) waits);
       }
-    where
-      same_call : (x y : Activation) (xs ys : List Activation) → x ∷ xs ≡ y ∷ ys → x ≡ y
-      same_call x y xs ys e = cc
-
-      same_calls : (x y : Activation) (xs ys : List Activation) → x ∷ xs ≡ y ∷ ys → xs ≡ ys
-      same_calls x y xs ys e = cc
 
   last_waits : (frames : List Frame) (es : List Extent) (xs : List Activation) → Waits program code frames es xs → xs ≡ [] → (outer : List Frame) (f : Frame) → frames ≡ outer ++ f ∷ [] → f.back ≡ None
   last_waits frames es xs (ends_run f' none) eq outer f is = let same = same_from_push outer [] f f' (sym is) in subst (λ (x : Frame). x.back ≡ None) (sym same.1) none
-  last_waits frames es xs (goes_on more inner all h f' g e rest_e a rest place p q back saved fp ap_is active waits) eq outer f is = absurd (no_cons a rest (sym eq))
+  last_waits frames es xs (goes_on more inner all h f' g e rest_e a rest place p q back saved fp ap_is active waits) eq outer f is = absurd (nil_cons a rest (sym eq))
 
   -- ---- a return
 

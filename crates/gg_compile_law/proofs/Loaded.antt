@@ -6,7 +6,7 @@ use Rattle.std.specs.Str.{bytes_eq}
 use Rattle.std.proofs.lemmas.Bool.{and_parts, le-ltb, ltb-true, true≢false, false_from_ne_true}
 use Rattle.std.proofs.lemmas.List.Elements.{recursion_from_All}
 use Rattle.std.proofs.lemmas.Slice.Eq.{bytes_eq-Decides}
-use Rattle.gg_base.proofs.Facts.{slice_some}
+use Rattle.gg_base.proofs.Facts.{slice_some, or_true}
 use Rattle.vax_core.specs.declared.code.Code.{Code}
 use Rattle.vax_core.specs.declared.code.CodeItem.{CodeItem}
 use Rattle.vax_core.specs.declared.code.AreaItem.{AreaItem}
@@ -74,10 +74,6 @@ module _ (all : List Object) where
       some_same : (x o : Object) → ◌≡◌ {A = Option Object} (Some x) (Some o) → x ≡ o
       some_same x o e = cc
   has_object (x ∷ os) (suc k) o is = block_has x (blocks_of all os) o.label ∙ ap (λ (b : Bool). bytes_eq x.label o.label || b) (has_object os k o is) ∙ or_true (bytes_eq x.label o.label)
-    where
-      or_true : (b : Bool) → (b || true) ≡ true
-      or_true true = refl
-      or_true false = refl
 
   -- ---- no label stands twice
 

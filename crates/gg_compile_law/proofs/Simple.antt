@@ -46,6 +46,7 @@ use Rattle.vax_states.proofs.Pieces.{in_list}
 use Rattle.vax_states.proofs.Touching.{stack_read}
 use Rattle.vax_states.proofs.Keeping.{sound_register, reg_small}
 use Rattle.vax_states.proofs.Standing.{kept, rebuilt, register_kept, high_top, free_below, push_written, local_written, fp_low, fp_high_is}
+use Rattle.vax_states.proofs.Law.{word_address}
 use Rattle.vax_frames_law.proofs.Entering.{dropped}
 use Rattle.vax_frames_law.proofs.FrameCode.{end_is, end_agrees, end_result}
 
@@ -298,8 +299,6 @@ module _ (program : TreeProgram) (locals args most : ℕ) where
       ap (λ (r : Result State Stop). followed (course_of (r >>= λ (x : State). Ok (None, with_conditions x (valued Long (reg m R0) m.conditions.carry).conditions))) [] (λ (x : State). comes x)) e
 
   -- a word's operand names its address
-  pub word_address : (fp k : ℕ) → 4 * (k + 1) ≤ fp → fp < 2 ^ 32 → add32 (neg32 (4 * (k + 1))) fp ≡ word_of fp k
-  word_address fp k low high = omega (arith, low, high)
 
   pub save_effect : (k : ℕ) → k < locals → HasEffect program locals args most (save_tree k) (save_code k)
   save_effect k lt = record { some = omega arith; does = does }

@@ -3,7 +3,7 @@ use Rattle.std.proofs.Common.{◌≡◌, ℕ, zero, suc, ◌+◌, ◌<◌, ◌�
 use Rattle.std.specs.Prelude.{◌-◌, slice_get, ◌==◌, ◌||◌}
 use Rattle.std.specs.List.{All, AllPass, filter_map, cons_option}
 use Rattle.std.proofs.lemmas.Bool.{eqb-true, eq-eqb, leb-true, and_parts}
-use Rattle.gg_base.proofs.Facts.{index_of}
+use Rattle.gg_base.proofs.Facts.{index_of, head_same}
 use Rattle.tree_core.specs.declared.token.Tok.{Tok}
 use Rattle.tree_core.specs.declared.token.Tok.TheVariants as tok
 use Rattle.tree_core.specs.declared.token.Sort.TheVariants as sort
@@ -290,10 +290,7 @@ first_fits : (f : Forest) (l : Leaf) (w : List Leaf) → Typed (sort.Stmt ∷ []
 first_fits none l w h e = absurd h
 first_fits (tree x below behind) l w h e =
     let fit = and_parts (sort_fits (sort_of x.tok) sort.Stmt) (leaf_fits x) h.0 in
-    ap leaf_fits (sym (same_head x l _ w e)) ∙ fit.1
-  where
-    same_head : (x l : Leaf) (v w : List Leaf) → x ∷ v ≡ l ∷ w → x ≡ l
-    same_head x l v w e = cc
+    ap leaf_fits (sym (head_same x l _ w e)) ∙ fit.1
 
 few_by : (k : Tok) (a : Att) (f c : ℕ) → is_of_kind (attribute_of k) a ≡ true → k ≡ tok.Call → a ≡ att.Callee f c → c ≤ 255
 few_by k a f c fit p q = leb-true c 255 (sym (λ i. is_of_kind (attribute_of (p i)) (q i)) ∙ fit)
