@@ -1,5 +1,6 @@
 -- Each status comes where its cause is there.
 use Rattle.std.proofs.Common.{◌≡◌, ◌∙◌, ◌⊎◌, ℕ, List, Option, Some, None, inl, inr, refl, sym, ap, subst}
+use Rattle.gg_base.proofs.Facts.{none_or_some}
 use Rattle.gg_outside.specs.Outside.{Content as File, IsLonger}
 use Rattle.cmd_session.specs.declared.status.Status.{Status}
 use Rattle.cmd_session.specs.declared.status.Status.TheVariants as statuses
@@ -92,9 +93,6 @@ module _ (result : Status) (file : File) where
   other : {A : Type 0} (o : Option A) (a b : A) → o ≡ Some a → o ≡ Some b → a ≡ b
   other o a b e f = cc
 
-  none_some : {A : Type 0} (o : Option A) (a : A) → o ≡ None → o ≡ Some a → ⊥
-  none_some o a e f = cc
-
   long : IsLongFile description_limit file → Comes result file → IsAnswer statuses.TooLong result
   long h (Memory is) = inr is
   long h (Refused (Long is longer)) = inl is
@@ -172,7 +170,7 @@ module _ (result : Status) (file : File) where
   unshown d r h few no_more never first (Refused (Unshown e q is holds less sums same one)) =
       inl (is ∙ ap refusal_status (other (vax_refusal e) q r one (read (λ (x : Content). vax_refusal x ≡ Some r) d e h holds first)))
   unshown d r h few no_more never first (Accepted e holds accepted) =
-      absurd (none_some (vax_refusal e) r accepted.shown (read (λ (x : Content). vax_refusal x ≡ Some r) d e h holds first))
+      absurd (none_or_some (vax_refusal e) r accepted.shown (read (λ (x : Content). vax_refusal x ≡ Some r) d e h holds first))
 
   pub refuses : Comes result file → Refuses result file
   refuses c = record {
@@ -192,7 +190,7 @@ module _ (result : Status) (file : File) where
   not_refused d status h a (Stops e fault is holds few real sums) =
       starved e fault status (read (λ (x : Content). ¬ HasTooManySums x) d e h holds a.sums) (read NeverStops d e h holds a.never) real sums is
   not_refused d status h a (Unshown e r is holds few sums never first) =
-      absurd (none_some (vax_refusal e) r (read (λ (x : Content). vax_refusal x ≡ None) d e h holds a.shown) first)
+      absurd (none_or_some (vax_refusal e) r (read (λ (x : Content). vax_refusal x ≡ None) d e h holds a.shown) first)
 
 -- ---- the command
 

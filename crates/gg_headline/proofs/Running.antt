@@ -1,10 +1,10 @@
 -- The code of a text that `compile` wrote is the one that `run` finds in it.
-use Rattle.std.proofs.Common.{◌≡◌, ◌⊎◌, ℕ, List, Option, Some, None, inl, inr, sym, ap, ◌∙◌, subst}
+use Rattle.std.proofs.Common.{◌≡◌, ◌⊎◌, ℕ, List, inl, inr, sym, ap, ◌∙◌, subst}
 use Rattle.std.proofs.Math.Logic.{∥∥₁_map, ∥∥₁_elim}
 use Rattle.gg_base.specs.declared.run.End.{End}
 use Rattle.gg_base.specs.declared.run.End.TheVariants as ends
 use Rattle.gg_base.specs.Follows.{Says, Asks, Tells, Follows}
-use Rattle.gg_base.proofs.Facts.{no_prop}
+use Rattle.gg_base.proofs.Facts.{no_prop, none_or_some}
 use Rattle.gg_outside.specs.Outside.{Content as File, Stored, IsThat}
 use Rattle.md_reader.specs.State.{Content}
 use Rattle.c_program.specs.Programs.{AProgram}
@@ -40,14 +40,11 @@ module _ (d : Content) (p : AProgram) (text : List ℕ) (is : IsTextOf d p text)
       let same : h.bytes ≡ text = subst (λ (f : File). IsThat f h.bytes) stored h.stored in
       h.refused.unread is.code (subst (λ (b : List ℕ). Reads b is.code) (sym same) is.read.reads)
 
-  none_some : {A : Type 0} (o : Option A) (a : A) → o ≡ None → o ≡ Some a → ⊥
-  none_some o a e f = cc
-
   -- and its code can be run
   not_unable : (call : Call) → HoldsText text call → IsUnable text_form code_runner call → Keeps p is.code → ⊥
   not_unable call stored u k =
       let same : is.code ≡ u.item = found _ u.item stored u.finds.holds in
-      none_some (fault_line (load_fault u.item)) u.line (ap fault_line (subst Loads same k.loads)) u.fault
+      none_or_some (fault_line (load_fault u.item)) u.line (ap fault_line (subst Loads same k.loads)) u.fault
 
   taken : (call : Call) → HoldsText text call → IsRefusedAs text_form code_runner statuses.AsmRefused call → ⊥
   taken call stored r = by r.why
