@@ -6,6 +6,7 @@ use Rattle.std.specs.Str.{bytes_eq}
 use Rattle.std.proofs.lemmas.Bool.{and_parts, eqb-true, leb-true, true≢false}
 use Rattle.std.proofs.lemmas.List.{length-replicate}
 use Rattle.std.proofs.lemmas.Slice.Eq.{bytes_eq-Decides}
+use Rattle.std.proofs.lemmas.Option.{same_Some}
 use Rattle.gg_base.proofs.Facts.{some_none, or_true}
 use Rattle.vax_core.specs.declared.code.Code.{Code}
 use Rattle.vax_core.specs.declared.code.CodeItem.{CodeItem}
@@ -189,11 +190,8 @@ module _ (whole : List AreaItem) (code : List CodeItem) (once : double_area_labe
   all_labels os part pre at none h begins e (suc n) o is = absurd cc
   all_labels os part pre at (more x rest_os front rest b others) h begins e zero o is =
       let a = and_parts (object_lies at x) (objects_lie (x.address + x.size) rest_os) h in
-      subst (λ (y : Object). label_address whole y.label ≡ y.address) (same_object x o is)
+      subst (λ (y : Object). label_address whole y.label ≡ y.address) (same_Some x o is)
       (block_label x front pre rest b (subst (λ (k : ℕ). Lies x k b.power) (sym begins) (lies x at b.power b.align a.0)) e)
-    where
-      same_object : (x o : Object) → ◌≡◌ {A = Option Object} (Some x) (Some o) → x ≡ o
-      same_object x o e = cc
   all_labels os part pre at (more x rest_os front rest b others) h begins e (suc n) o is =
       let a = and_parts (object_lies at x) (objects_lie (x.address + x.size) rest_os) h in
       let l = lies x at b.power b.align a.0 in

@@ -6,6 +6,7 @@ use Rattle.std.specs.Str.{bytes_eq}
 use Rattle.std.proofs.lemmas.List.{drop_at}
 use Rattle.std.proofs.lemmas.Bool.{eqb-true, true≢false}
 use Rattle.std.proofs.lemmas.Slice.Eq.{bytes_eq-Decides}
+use Rattle.std.proofs.lemmas.Option.{same_Some}
 use Rattle.gg_base.proofs.Facts.{some_none, slice_seam}
 use Rattle.vax_core.specs.declared.code.Code.{Code}
 use Rattle.vax_core.specs.declared.code.CodeItem.{CodeItem}
@@ -205,10 +206,7 @@ module _ (program : TreeProgram) (valid : IsValid program) (code : List CodeItem
   all_emitted gs part pre first named none e zero g is = absurd cc
   all_emitted gs part pre first named none e (suc n) g is = absurd cc
   all_emitted gs part pre first named (more h hs front rest f others) e zero g is =
-      subst (λ (x : TreeFn). IsEmitted program code x) (same_function h g is) (function_emitted program valid (first + 0) h (named 0 h refl) front pre rest code f e once)
-    where
-      same_function : (a b : TreeFn) → ◌≡◌ {A = Option TreeFn} (Some a) (Some b) → a ≡ b
-      same_function a b e = cc
+      subst (λ (x : TreeFn). IsEmitted program code x) (same_Some h g is) (function_emitted program valid (first + 0) h (named 0 h refl) front pre rest code f e once)
   all_emitted gs part pre first named (more h hs front rest f others) e (suc n) g is =
       all_emitted hs rest (pre ++ front) (first + 1)
       (λ k x at. let z : first + suc k ≡ first + 1 + k = omega arith in ap (λ (i : ℕ). slice_get program.functions i) (sym z) ∙ named (suc k) x at) others

@@ -1,6 +1,7 @@
 -- The run of the code follows the run of the trees.
-use Rattle.std.proofs.Common.{◌≡◌, ℕ, zero, suc, ◌+◌, ◌<◌, true, false, List, [], ◌∷◌, ◌++◌, length, Option, Some, None, refl, sym, ap, subst, ◌∙◌, arith}
+use Rattle.std.proofs.Common.{◌≡◌, ℕ, zero, suc, ◌+◌, ◌<◌, false, List, [], ◌∷◌, ◌++◌, length, Option, Some, None, refl, sym, ap, subst, ◌∙◌, arith}
 use Rattle.std.specs.Prelude.{slice_get}
+use Rattle.std.proofs.lemmas.Bool.{false≢true}
 use Rattle.gg_base.specs.Runs.{Outcome, Runs}
 use Rattle.gg_base.specs.Follows.{AsksAt, Forward}
 use Rattle.gg_base.proofs.Facts.{nil_cons, tail_same}
@@ -136,7 +137,7 @@ module _ (program : TreeProgram) (code : List CodeItem) (emitted : (n : ℕ) (g 
             here = at.rest;
             order = subst (λ (p : ℕ). InOrder p false is) (sym order.0) order.1;
           };
-          result = λ e. absurd (no_true e);
+          result = λ e. absurd (false≢true e);
           waits = s.waits;
           shallow = s.shallow;
         } in
@@ -144,9 +145,6 @@ module _ (program : TreeProgram) (code : List CodeItem) (emitted : (n : ℕ) (g 
         subst (λ (x : Next). Asked n (run program n x) m) (sym (arrives_with t (tree_item.Label l ∷ is) is eq refl))
         (subst (λ (r : Runs). AsksAt n (run program n (arrived (with_items t is))).end (run program n (arrived (with_items t is))).output r) (sym run_is)
         (by_items is (with_items t is) m' refl stands outer n lt))
-      where
-        no_true : false ≡ true → ⊥
-        no_true e = cc
 
     by_callers : (callers : List Activation) (t : Trees) (m : State) → t.callers ≡ callers → Stands program code t m → IsFollowed t m
     by_callers [] t m eq s = by_items t.running.items t m refl s (λ s' n' c is stands. absurd (nil_cons c s'.callers (sym eq ∙ is)))

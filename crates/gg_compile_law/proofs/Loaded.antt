@@ -6,6 +6,7 @@ use Rattle.std.specs.Str.{bytes_eq}
 use Rattle.std.proofs.lemmas.Bool.{and_parts, le-ltb, ltb-true, true≢false, false_from_ne_true}
 use Rattle.std.proofs.lemmas.List.Elements.{recursion_from_All}
 use Rattle.std.proofs.lemmas.Slice.Eq.{bytes_eq-Decides}
+use Rattle.std.proofs.lemmas.Option.{same_Some}
 use Rattle.gg_base.proofs.Facts.{slice_some, or_true}
 use Rattle.vax_core.specs.declared.code.Code.{Code}
 use Rattle.vax_core.specs.declared.code.CodeItem.{CodeItem}
@@ -68,11 +69,8 @@ module _ (all : List Object) where
   has_object [] zero o is = absurd cc
   has_object [] (suc k) o is = absurd cc
   has_object (x ∷ os) zero o is =
-      let same : x ≡ o = some_same x o is in
+      let same : x ≡ o = same_Some x o is in
       block_has x (blocks_of all os) o.label ∙ ap (λ (b : Bool). b || has_area_label (blocks_of all os) o.label) ((bytes_eq-Decides x.label o.label).1 (ap (λ (y : Object). y.label) same))
-    where
-      some_same : (x o : Object) → ◌≡◌ {A = Option Object} (Some x) (Some o) → x ≡ o
-      some_same x o e = cc
   has_object (x ∷ os) (suc k) o is = block_has x (blocks_of all os) o.label ∙ ap (λ (b : Bool). bytes_eq x.label o.label || b) (has_object os k o is) ∙ or_true (bytes_eq x.label o.label)
 
   -- ---- no label stands twice

@@ -2,6 +2,7 @@
 use Rattle.std.proofs.Common.{◌≡◌, ℕ, ◌+◌, ◌-◌, ◌<◌, ◌≤◌, Bool, true, false, List, [], ◌∷◌, ◌++◌, length, Option, Some, None, Ok, refl, sym, ap, subst, ◌∙◌, arith}
 use Rattle.std.specs.Prelude.{slice_get, ◌==◌, cond}
 use Rattle.std.proofs.lemmas.List.{length-take-le, length-drop}
+use Rattle.std.proofs.lemmas.Bool.{false≢true}
 use Rattle.vax_core.specs.declared.register.Reg.TheVariants.{R0}
 use Rattle.vax_core.specs.declared.code.CodeItem.{CodeItem}
 use Rattle.vax_core.specs.declared.code.CodeItem.TheVariants as item_kind
@@ -134,9 +135,6 @@ module _ (program : TreeProgram) (code : List CodeItem) (emitted : (n : ℕ) (g 
     abbrev end_place : ℕ
     end_place = m.place + length root.instrs
 
-    no_true : false ≡ true → ⊥
-    no_true e = cc
-
     went : (written : List ℕ) (n : State) (s : Trees) (p : ℕ) (b : Bool) → exec root.instrs m ≡ record { written = written; ending = Comes n } → Stays program.objects here.e here.es s m n
         → Keeps t s p → InOrder p b is → (b ≡ true → HasResult s n) → Arrives m written s
     went written n s p b course stays k o result = record {
@@ -162,10 +160,10 @@ module _ (program : TreeProgram) (code : List CodeItem) (emitted : (n : ℕ) (g 
     -- a tree that is no call
     goes : (r : Role) → InOrderBy r (length t.running.pushed) here.is_behind (λ p b. InOrder p b is) → (n : State) (s : Trees) → exec root.instrs m ≡ record { written = []; ending = Comes n }
         → Stays program.objects here.e here.es s m n → KeepsBy r t s → Arrives m [] s
-    goes Pushes o n s course stays k = went [] n s (length t.running.pushed + 1) false course stays k o (λ e. absurd (no_true e))
+    goes Pushes o n s course stays k = went [] n s (length t.running.pushed + 1) false course stays k o (λ e. absurd (false≢true e))
     goes (Calls function count) o n s course stays k = absurd k
-    goes Saves o n s course stays k = went [] n s (length t.running.pushed) false course stays k o.1 (λ e. absurd (no_true e))
-    goes Plain o n s course stays k = went [] n s (length t.running.pushed) false course stays k (in_order_zero (length t.running.pushed) false is o.0 o.1) (λ e. absurd (no_true e))
+    goes Saves o n s course stays k = went [] n s (length t.running.pushed) false course stays k o.1 (λ e. absurd (false≢true e))
+    goes Plain o n s course stays k = went [] n s (length t.running.pushed) false course stays k (in_order_zero (length t.running.pushed) false is o.0 o.1) (λ e. absurd (false≢true e))
 
     -- a call of a service
     order_behind : (number count : ℕ) → role_of w ≡ Calls number count → InOrder 0 true is
@@ -227,7 +225,7 @@ module _ (program : TreeProgram) (code : List CodeItem) (emitted : (n : ℕ) (g 
               order = subst (λ (x : List TreeItem). InOrder (length t.running.pushed) false (behind x l)) (sym code_is)
                   (in_order_zero (length t.running.pushed) false rest (nothing_pushed plain) (behind_in_order here.g.items l 0 false here.active.emitted.order));
             };
-            result = λ e. absurd (no_true e);
+            result = λ e. absurd (false≢true e);
             waits = subst (λ (x : List Frame). Waits program code x here.es t.callers) (sym stays.frames) here.waits;
             shallow = here.shallow;
           };
@@ -303,7 +301,7 @@ module _ (program : TreeProgram) (code : List CodeItem) (emitted : (n : ℕ) (g 
               here = subst (λ (x : ℕ). StandsAt program code h em.frame.words x h.items) (sym b.at) em.begins;
               order = em.order;
             };
-            result = λ e. absurd {A = HasResult (with_call t h count) b.state} (no_true e);
+            result = λ e. absurd {A = HasResult (with_call t h count) b.state} (false≢true e);
             waits =
                 goes_on agreed.outer mc.frames b.state.frames agreed.innermost b.frame here.g here.e here.es
                 (without_pushed t count).running t.callers place agreed.frames b.frames b.is_made.back_is b.small

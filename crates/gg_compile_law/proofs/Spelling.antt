@@ -7,6 +7,7 @@ use Rattle.std.specs.Int.{w32, to_le_bytes}
 use Rattle.std.proofs.lemmas.Bool.{and_parts, eqb-true, leb-true, ltb-true, true≢false}
 use Rattle.std.proofs.lemmas.List.{drop_at, take-append-drop}
 use Rattle.std.proofs.lemmas.List.Elements.{recursion_from_All}
+use Rattle.std.proofs.lemmas.Option.{same_Some}
 use Rattle.gg_base.specs.Arithmetic.{add32}
 use Rattle.gg_base.proofs.Facts.{slice_some}
 use Rattle.vax_core.specs.declared.code.CodeItem.{CodeItem}
@@ -186,11 +187,8 @@ module _ (all : List Object) where
     placed [] pre at h fits begins e (suc n) o is = absurd cc
     placed (x ∷ os) pre at h fits begins e zero o is =
         let a = and_parts (object_lies at x) (objects_lie (x.address + x.size) os) h in
-        subst (λ (y : Object). Placed whole y) (same_object x o is)
+        subst (λ (y : Object). Placed whole y) (same_Some x o is)
         (block_label x pre (blocks_of all os) (subst (λ (k : ℕ). Lies x k (power_of x.align)) (sym begins) (lies x at (power_of x.align) (aligned_so x at a.0) a.0)) e)
-      where
-        same_object : (x o : Object) → ◌≡◌ {A = Option Object} (Some x) (Some o) → x ≡ o
-        same_object x o e = cc
     placed (x ∷ os) pre at h fits begins e (suc n) o is =
         let a = and_parts (object_lies at x) (objects_lie (x.address + x.size) os) h in
         let l = lies x at (power_of x.align) (aligned_so x at a.0) a.0 in

@@ -5,6 +5,8 @@ use Rattle.std.specs.List.{find}
 use Rattle.std.specs.Str.{bytes_eq}
 use Rattle.std.proofs.lemmas.List.{length-replicate}
 use Rattle.std.proofs.lemmas.Slice.Eq.{bytes_eq-Decides}
+use Rattle.std.proofs.lemmas.Option.{same_Some}
+use Rattle.std.proofs.lemmas.Bool.{false≢true}
 use Rattle.gg_base.specs.Follows.{Forward, Follows}
 use Rattle.gg_base.proofs.Following.{follows}
 use Rattle.vax_core.specs.declared.code.Code.{Code}
@@ -40,13 +42,10 @@ pub found : (fs : List TreeFn) (g : TreeFn) → find (λ f. bytes_eq f.name (cod
 found [] g e = absurd cc
 found (f ∷ fs) g e = by (bytes_eq f.name (codes "main")) refl e (found fs g)
   where
-    some_same : (a b : TreeFn) → ◌≡◌ {A = Option TreeFn} (Some a) (Some b) → a ≡ b
-    some_same a b e = cc
-
     by : (b : Bool) → bytes_eq f.name (codes "main") ≡ b → cond b (Some f) (find (λ f. bytes_eq f.name (codes "main")) fs) ≡ Some g
         → (find (λ f. bytes_eq f.name (codes "main")) fs ≡ Some g → (number : ℕ) × (slice_get fs number ≡ Some g) × (g.name ≡ codes "main"))
         → (number : ℕ) × (slice_get (f ∷ fs) number ≡ Some g) × (g.name ≡ codes "main")
-    by true eq e rest = (0, e, sym (ap (λ (x : TreeFn). x.name) (some_same f g e)) ∙ (bytes_eq-Decides f.name (codes "main")).0 eq)
+    by true eq e rest = (0, e, sym (ap (λ (x : TreeFn). x.name) (same_Some f g e)) ∙ (bytes_eq-Decides f.name (codes "main")).0 eq)
     by false eq e rest = let r = rest e in (suc r.0, r.1, r.2)
 
 -- ---- the state before the call of `_main`
@@ -123,13 +122,10 @@ module _ (program : TreeProgram) (c : Code) (h : IsCompiled program c) (input : 
           here = subst (λ (p : ℕ). StandsAt program c.items h.main em.frame.words p h.main.items) (sym b.at) em.begins;
           order = em.order;
         };
-        result = λ e. absurd (no_true e);
+        result = λ e. absurd (false≢true e);
         waits = subst (λ (x : List Frame). Waits program c.items x [] []) (sym b.frames) (ends_run b.frame b.is_made.back_is);
         shallow = omega arith;
       }
-    where
-      no_true : false ≡ true → ⊥
-      no_true e = cc
 
   name_is : function_label h.main.name ≡ main_name
   name_is = ap function_label the_main.2

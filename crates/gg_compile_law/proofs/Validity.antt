@@ -3,6 +3,7 @@ use Rattle.std.proofs.Common.{◌≡◌, ℕ, zero, suc, ◌+◌, ◌<◌, ◌�
 use Rattle.std.specs.Prelude.{◌-◌, slice_get, ◌==◌, ◌||◌}
 use Rattle.std.specs.List.{All, AllPass, filter_map, cons_option}
 use Rattle.std.proofs.lemmas.Bool.{eqb-true, eq-eqb, leb-true, and_parts}
+use Rattle.std.proofs.lemmas.Option.{same_Some}
 use Rattle.gg_base.proofs.Facts.{index_of, head_same}
 use Rattle.tree_core.specs.declared.token.Tok.{Tok}
 use Rattle.tree_core.specs.declared.token.Tok.TheVariants as tok
@@ -242,20 +243,14 @@ target_leaves (x ∷ w) l e = target_tok x.tok x.att l e
 found_by : (f : TreeItem → Option ℕ) (is : List TreeItem) (i : TreeItem) (l : ℕ) → IsIn i is → f i ≡ Some l → 0 < times l (filter_map f is)
 found_by f [] i l (zero, e) h = absurd cc
 found_by f [] i l (suc k, e) h = absurd cc
-found_by f (x ∷ is) i l (zero, e) h = at (f x) (ap f (same_item x i e) ∙ h)
+found_by f (x ∷ is) i l (zero, e) h = at (f x) (ap f (same_Some x i e) ∙ h)
   where
-    same_item : (x i : TreeItem) → ◌≡◌ {A = Option TreeItem} (Some x) (Some i) → x ≡ i
-    same_item x i e = cc
-
     at : (o : Option ℕ) → o ≡ Some l → 0 < times l (cons_option o (filter_map f is))
     at None e = absurd cc
     at (Some n) e =
-        let s : n ≡ l = some_number n l e in
+        let s : n ≡ l = same_Some n l e in
         let t : ◌≡◌ {A = ℕ} (cond (n == l) 1 0) 1 = ap (λ (b : Bool). cond {A = ℕ} b 1 0) (eq-eqb n l s) in
         omega (arith, t)
-      where
-        some_number : (n l : ℕ) → ◌≡◌ {A = Option ℕ} (Some n) (Some l) → n ≡ l
-        some_number n l e = cc
 found_by f (x ∷ is) i l (suc k, e) h = behind (f x) (found_by f is i l (k, e) h)
   where
     behind : (o : Option ℕ) → 0 < times l (filter_map f is) → 0 < times l (cons_option o (filter_map f is))

@@ -1,6 +1,6 @@
 -- No byte belongs to two links exactly where they begin at least four bytes apart.
 use Rattle.std.proofs.Common.{◌≡◌, ◌↔◌, ◌⊎◌, inl, inr, ⊎_elim, ℕ, zero, suc, ◌+◌, ◌<◌, ◌≤◌, List, [], ◌∷◌, ◌++◌, length, get_or, Bool, true, false, cond, eqb, IsTrue, refl, sym, ◌∙◌, arith}
-use Rattle.std.proofs.lemmas.Bool.{cases_lt, eqb-true, eq-eqb, cases_eq}
+use Rattle.std.proofs.lemmas.Bool.{cases_lt, eqb-true, eq-eqb, cases_eq, false≢true}
 use Rattle.tree_core.specs.declared.program.Link.{Link}
 use Rattle.tree_core.specs.Items.{times}
 use Rattle.tree_core.specs.Valid.{four, bytes_linked, BytesApart, Apart, LinksApart}
@@ -16,10 +16,7 @@ once m n = by (eqb m n) refl
   where
     by : (b : Bool) → eqb m n ≡ b → Once m n (cond b 1 0)
     by true e = record { few = omega arith; same = λ q. eqb-true m n e; counts = λ q. refl }
-    by false e = record { few = omega arith; same = λ q. absurd (omega arith); counts = λ q. absurd (unlike (sym e ∙ eq-eqb m n q)) }
-      where
-        unlike : false ≡ true → ⊥
-        unlike q = cc
+    by false e = record { few = omega arith; same = λ q. absurd (omega arith); counts = λ q. absurd (false≢true (sym e ∙ eq-eqb m n q)) }
 
 -- the bytes of a link are the four from its first on, each once
 record IsFour (n a : ℕ) : Type 0 where

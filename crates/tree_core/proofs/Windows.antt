@@ -3,6 +3,7 @@ use Rattle.std.proofs.Common.{◌≡◌, ◌⊎◌, inl, inr, ⊎_elim, min, ℕ
 use Rattle.std.proofs.Common.{Option, Some, None, arith, replicate, get_or}
 use Rattle.std.specs.Prelude.{nat_le, is_some}
 use Rattle.std.proofs.lemmas.Bool.{eqb-true, eq-eqb, le-leb, leb-true, leb-false, lt-ltb, cases_lt, both_ways, or_cases, or_right}
+use Rattle.std.proofs.lemmas.Option.{none-some}
 use Rattle.gg_base.proofs.Facts.{unguarded, not_some, second_true}
 use Rattle.tree_core.specs.Window.{covers, added, added_all, met_once, all_met, lesser, better, least}
 use Rattle.tree_core.specs.Items.{times}
@@ -129,10 +130,7 @@ least_some from k best (m ∷ ms) e = here (least_some from k (better from best 
     step true q w h = by best w
       where
         by : (o : Option ℕ) → lesser o m ≡ better from best m → ((r : ℕ) → o ≡ Some r → k ≤ r) × (from ≤ m → k ≤ m)
-        by None v = ((λ r z. absurd (none_some r z)), (λ le. h.above m (sym v)))
-          where
-            none_some : (r : ℕ) → None ≡ Some r → ⊥
-            none_some r z = cc
+        by None v = ((λ r z. absurd (none-some r z)), (λ le. h.above m (sym v)))
         by (Some s) v = let lo = h.above (min s m) (sym v) in ((λ r z. let y : s ≡ r = cc in omega (arith, lo, y)), (λ le. omega (arith, lo)))
     step false q w h = ((λ r z. h.above r (sym w ∙ z)), (λ le. absurd (omega (arith, leb-false from m q))))
 
