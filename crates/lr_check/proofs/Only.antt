@@ -78,12 +78,12 @@ module _ (rules : List Rule) (stmt : ℕ) where
   takes_same (answered_no {s = s} {s' = s'} {n = n} {ns = ns} {taken = o} r e m g t) (answered_no {s' = u} {taken = p} q f k h w) =
       takes_same t (subst (λ (x : Rule). Takes rules (asked s x) ns p u) (rule_same n q r f e) w)
 
-  reduction_same : (ws : List Token) (s u v : List Part) (o p : Option ℕ) → Reduction rules stmt ws s o u → Reduction rules stmt ws s p v → (o ≡ p) × (u ≡ v)
+  pub reduction_same : (ws : List Token) (s u v : List Part) (o p : Option ℕ) → Reduction rules stmt ws s o u → Reduction rules stmt ws s p v → (o ≡ p) × (u ≡ v)
   reduction_same ws s u v o p a b =
       takes_same a.takes (subst (λ (x : List ℕ). Takes rules s x p v) (reductions_same (symbols s) (coming ws) b.candidates a.candidates b.in_order a.in_order) b.takes)
 
   -- before the end an item stands on a statement
-  statement_ends : (a : List Sym) (k : Tok) → a ≡ grammar_symbol.Class stmt ∷ [] → k ≡ tok.End → StandsBefore rules stmt a (grammar_symbol.Tok k)
+  pub statement_ends : (a : List Sym) (k : Tok) → a ≡ grammar_symbol.Class stmt ∷ [] → k ≡ tok.End → StandsBefore rules stmt a (grammar_symbol.Tok k)
   statement_ends a k e f =
       let stands : StandsBefore rules stmt (grammar_symbol.Class stmt ∷ []) (grammar_symbol.Tok tok.End) =
       record { item = record { rule = None; dot = 1 }; valid = moves starts refl refl; before = refl } in

@@ -1,15 +1,12 @@
 -- A parse ends in one way.
 use Rattle.std.proofs.Common.{◌≡◌, ℕ, List, [], ◌∷◌, Option, Some, None, length, drop, slice_get, refl, sym, ap, ◌∙◌, subst}
 use Rattle.std.proofs.lemmas.Option.{same_Some}
-use Rattle.lr_check.proofs.Only.{reductions_same}
+use Rattle.lr_check.proofs.Only.{reductions_same, statement_ends}
 use Rattle.gg_base.proofs.Facts.{some_none}
-use Rattle.tree_core.specs.declared.token.Tok.{Tok}
 use Rattle.tree_core.specs.declared.token.Tok.TheVariants as tok
 use Rattle.md_reader.specs.declared.types.Rule.{Rule}
 use Rattle.md_reader.specs.declared.types.Sym.{Sym}
 use Rattle.md_reader.specs.declared.types.Sym.TheVariants as grammar_symbol
-use Rattle.lr_tables.specs.Items.{starts, moves}
-use Rattle.lr_tables.specs.Candidates.{StandsBefore}
 use Rattle.lr_check_parse.specs.Moves.{Answering, Move, Shift, Reduce, Ending, Taken, taken, coming, Choice, Parses, loops, accepts, shifts, reduces, refuses, blocks}
 use Rattle.lr_check_parse.specs.Claims.{IsOneWay}
 
@@ -25,16 +22,8 @@ module _ {L X : Type 0} (of : Answering L X) (rules : List Rule) (stmt : ℕ) wh
   kept_same : (ws : List L) (a : List Sym) (x : X) (o p : Option ℕ) (y z : X) → Choice of rules stmt ws a x o y → Choice of rules stmt ws a x p z → y ≡ z
   kept_same ws a x o p y z c d = ap (λ (t : Taken X). t.kept) (taken_same ws a x o p y z c d)
 
-  -- before the end an item stands on a statement
-  statement_ends : (a : List Sym) (k : Tok) → a ≡ grammar_symbol.Class stmt ∷ [] → k ≡ tok.End → StandsBefore rules stmt a (grammar_symbol.Tok k)
-  statement_ends a k e f =
-      let stands : StandsBefore rules stmt (grammar_symbol.Class stmt ∷ []) (grammar_symbol.Tok tok.End) =
-      record { item = record { rule = None; dot = 1 }; valid = moves starts refl refl; before = refl } in
-      subst (λ (b : List Sym). StandsBefore rules stmt b (grammar_symbol.Tok k)) (sym e)
-      (subst (λ (t : Tok). StandsBefore rules stmt (grammar_symbol.Class stmt ∷ []) (grammar_symbol.Tok t)) (sym f) stands)
-
   not_shifted : {ws : List L} {a : List Sym} {x y : X} {o : Option ℕ} → Choice of rules stmt ws a x o y → a ≡ grammar_symbol.Class stmt ∷ [] → coming of ws ≡ tok.End → ⊥
-  not_shifted {ws = ws} {a = a} c e f = c.no_shift (statement_ends a (coming of ws) e f)
+  not_shifted {ws = ws} {a = a} c e f = c.no_shift (statement_ends rules stmt a (coming of ws) e f)
 
   abbrev Same : List (Move L) → Ending X → List (Move L) → Ending X → Type 0
   Same log e log' e' = (log ≡ log') × (e ≡ e')

@@ -1,6 +1,5 @@
 -- How the parse that stops at the first stack that comes twice ends, where the parse step by step stops.
-use Rattle.std.proofs.Common.{◌≡◌, ℕ, suc, ◌<◌, List, [], ◌∷◌, Option, Some, None, true, false, Contains, length, slice_get, refl, sym, ap, ◌∙◌, subst, arith}
-use Rattle.std.proofs.lemmas.Bool.{both_ways}
+use Rattle.std.proofs.Common.{◌≡◌, ℕ, suc, List, [], ◌∷◌, Some, None, Contains, length, slice_get, refl, sym, ap, ◌∙◌, subst, arith}
 use Rattle.std.proofs.lemmas.List.Elements.{Contains-append_right}
 use Rattle.std.proofs.lemmas.Option.{same_Some}
 use Rattle.gg_base.proofs.Facts.{some_none}
@@ -13,9 +12,9 @@ use Rattle.lr_tables.specs.Promises.{IsNumbered}
 use Rattle.lr_check.specs.declared.sample.Outcome.{Outcome}
 use Rattle.lr_check.specs.declared.sample.Outcome.TheVariants as outcome
 use Rattle.lr_check.specs.Tree.{Token}
-use Rattle.lr_check.specs.Parse.{Part, symbols, coming, answer, owner_answers, asked, reduced, Takes, nothing, unrestricted, answered_yes, answered_no, Reduction, Ends, loops}
+use Rattle.lr_check.specs.Parse.{Part, symbols, reduced, nothing, Reduction, Ends, loops}
 use Rattle.lr_check.specs.Parse.{accepts, shifts, reduces, blocks}
-use Rattle.lr_check.proofs.Only.{reductions_same, not_shifted}
+use Rattle.lr_check.proofs.Only.{not_shifted, reduction_same}
 use Rattle.lr_check_parse.specs.Moves as moves
 use Rattle.lr_check_parse.specs.Moves.{Move, Ending, Parses}
 use Rattle.lr_check_parse.specs.Lists.{Lists, by_lists, EndsSo}
@@ -26,37 +25,11 @@ use Rattle.lr_check_samples.specs.Claims.{StopsEnd}
 use Rattle.lr_check.proofs.Contained.{here}
 
 module _ (rules : List Rule) (stmt : ℕ) where
-  rule_same : (n : ℕ) (r q : Rule) → slice_get rules n ≡ Some r → slice_get rules n ≡ Some q → r ≡ q
-  rule_same n r q e f = same_Some r q (sym e ∙ f)
-
-  none_more : (n : ℕ) (r q : Rule) → slice_get rules n ≡ Some r → slice_get rules n ≡ Some q → length r.restrictions ≡ 0 → 0 < length q.restrictions → ⊥
-  none_more n r q e f z m = let l : length r.restrictions ≡ length q.restrictions = ap (λ (x : Rule). length x.restrictions) (rule_same n r q e f) in omega (arith, l, z, m)
-
-  two_answers : (s : List Part) (n : ℕ) (r q : Rule) → slice_get rules n ≡ Some r → slice_get rules n ≡ Some q → answer (owner_answers s r) ≡ true → answer (owner_answers s q) ≡ false → ⊥
-  two_answers s n r q e f g h = both_ways (answer (owner_answers s q)) h (sym (ap (λ (x : Rule). answer (owner_answers s x)) (rule_same n r q e f)) ∙ g)
-
-  takes_same : {s u v : List Part} {ns : List ℕ} {o p : Option ℕ} → Takes rules s ns o u → Takes rules s ns p v → (o ≡ p) × (u ≡ v)
-  takes_same nothing nothing = (refl, refl)
-  takes_same (unrestricted r e z) (unrestricted q f y) = (refl, refl)
-  takes_same (unrestricted {n = n} r e z) (answered_yes q f m g) = absurd (none_more n r q e f z m)
-  takes_same (unrestricted {n = n} r e z) (answered_no q f m g h) = absurd (none_more n r q e f z m)
-  takes_same (answered_yes {n = n} r e m g) (unrestricted q f z) = absurd (none_more n q r f e z m)
-  takes_same (answered_yes {s = s} {n = n} r e m g) (answered_yes q f k h) = (refl, ap (asked s) (rule_same n r q e f))
-  takes_same (answered_yes {s = s} {n = n} r e m g) (answered_no q f k h t) = absurd (two_answers s n r q e f g h)
-  takes_same (answered_no {n = n} r e m g t) (unrestricted q f z) = absurd (none_more n q r f e z m)
-  takes_same (answered_no {s = s} {n = n} r e m g t) (answered_yes q f k h) = absurd (two_answers s n q r f e h g)
-  takes_same (answered_no {s = s} {s' = s'} {n = n} {ns = ns} {taken = o} r e m g t) (answered_no {s' = u} {taken = p} q f k h w) =
-      takes_same t (subst (λ (x : Rule). Takes rules (asked s x) ns p u) (rule_same n q r f e) w)
-
-  reduction_same : (ws : List Token) (s u v : List Part) (o p : Option ℕ) → Reduction rules stmt ws s o u → Reduction rules stmt ws s p v → (o ≡ p) × (u ≡ v)
-  reduction_same ws s u v o p a b =
-      takes_same a.takes (subst (λ (x : List ℕ). Takes rules s x p v) (reductions_same rules stmt (symbols s) (coming ws) b.candidates a.candidates b.in_order a.in_order) b.takes)
-
   stacks_same : (ws : List Token) (s u v : List Part) (i j : ℕ) (r q : Rule) → Reduction rules stmt ws s (Some i) u → Reduction rules stmt ws s (Some j) v → slice_get rules i ≡ Some r →
       slice_get rules j ≡ Some q →
       reduced v q ≡ reduced u r
   stacks_same ws s u v i j r q d c e f =
-      let same : (Some i ≡ Some j) × (u ≡ v) = reduction_same ws s u v (Some i) (Some j) d c in
+      let same : (Some i ≡ Some j) × (u ≡ v) = reduction_same rules stmt ws s u v (Some i) (Some j) d c in
       let number : i ≡ j = same_Some i j same.0 in
       let rule : q ≡ r = same_Some q r (sym f ∙ (ap (slice_get rules) (sym number) ∙ e)) in
       (λ k. reduced (sym same.1 k) (rule k))
@@ -90,8 +63,8 @@ module _ (rules : List Rule) (stmt : ℕ) where
   turned (accepts n e f) b (more_turns m r) c = let k = rule_of m refl in absurd (not_shifted rules stmt k.reduction e f)
   turned (shifts n e sb x) b (one_turn m) c = let k = rule_of m refl in absurd (k.reduction.no_shift sb)
   turned (shifts n e sb x) b (more_turns m r) c = let k = rule_of m refl in absurd (k.reduction.no_shift sb)
-  turned (blocks {ws = ws} {s = s} {s' = u} n d) b (one_turn m) c = let k = rule_of m refl in absurd (some_none k.number (reduction_same ws s k.behind u (Some k.number) None k.reduction d).0)
-  turned (blocks {ws = ws} {s = s} {s' = u} n d) b (more_turns m r) c = let k = rule_of m refl in absurd (some_none k.number (reduction_same ws s k.behind u (Some k.number) None k.reduction d).0)
+  turned (blocks {ws = ws} {s = s} {s' = u} n d) b (one_turn m) c = let k = rule_of m refl in absurd (some_none k.number (reduction_same rules stmt ws s k.behind u (Some k.number) None k.reduction d).0)
+  turned (blocks {ws = ws} {s = s} {s' = u} n d) b (more_turns m r) c = let k = rule_of m refl in absurd (some_none k.number (reduction_same rules stmt ws s k.behind u (Some k.number) None k.reduction d).0)
   turned (reduces {at = at} {n = i} {before = before} {ws = ws} {s = s} {s' = u} {o = o} r n d e x) b (one_turn {a = a} m) c =
       let k = rule_of m refl in
       let stack : a ≡ reduced u r = k.same ∙ stacks_same ws s u k.behind i k.number r k.rule d k.reduction e k.there in
@@ -118,7 +91,7 @@ module _ (rules : List Rule) (stmt : ℕ) where
   ends_turned (reduces {n = i} {ws = ws} {s = s} {s' = u} r n d e x) (by_move {vs = rest} {b = a} (by_rule {n = j} {s' = v} q red there) c) t same =
       ends_turned x (subst (λ l. Comes rules stmt ws l rest a) (stacks_same ws s u v i j r q d red e there) c) t same
   ends_turned (blocks n d) (by_move (by_shift ne sb) c) t same = absurd (d.no_shift sb)
-  ends_turned (blocks {ws = ws} {s = s} {s' = u} n d) (by_move (by_rule {n = j} {s' = v} q red there) c) t same = absurd (some_none j (reduction_same ws s v u (Some j) None red d).0)
+  ends_turned (blocks {ws = ws} {s = s} {s' = u} n d) (by_move (by_rule {n = j} {s' = v} q red there) c) t same = absurd (some_none j (reduction_same rules stmt ws s v u (Some j) None red d).0)
 
   -- where nothing is taken
   data Stopped (o : Outcome) : Type 0 where
@@ -135,7 +108,7 @@ module _ (rules : List Rule) (stmt : ℕ) where
   ends_stopped (shifts n e sb x) at_once stop = absurd (stop.no_shift sb)
   ends_stopped (shifts n e sb x) (by_move (by_shift ne sb') c) stop = ends_stopped x c stop
   ends_stopped (shifts n e sb x) (by_move (by_rule r red there) c) stop = absurd (red.no_shift sb)
-  ends_stopped {b = b} (reduces {n = i} {ws = ws} {s = s} {s' = u} r n d e x) at_once stop = absurd (some_none i (reduction_same ws s u b (Some i) None d stop).0)
+  ends_stopped {b = b} (reduces {n = i} {ws = ws} {s = s} {s' = u} r n d e x) at_once stop = absurd (some_none i (reduction_same rules stmt ws s u b (Some i) None d stop).0)
   ends_stopped (reduces r n d e x) (by_move (by_shift ne sb) c) stop = absurd (d.no_shift sb)
   ends_stopped (reduces {n = i} {ws = ws} {s = s} {s' = u} r n d e x) (by_move {vs = rest} {b = a} (by_rule {n = j} {s' = v} q red there) c) stop =
       ends_stopped x (subst (λ l. Comes rules stmt ws l rest a) (stacks_same ws s u v i j r q d red e there) c) stop
