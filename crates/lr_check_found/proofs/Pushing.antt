@@ -3,7 +3,7 @@ use Rattle.std.proofs.Common.{◌≡◌, ℕ, zero, suc, ◌+◌, ◌<◌, List,
 use Rattle.std.specs.Prelude.{slice_index_or}
 use Rattle.std.proofs.lemmas.Option.{slice_get_within, slice_get-get_or, get_or_from_slice_get, same_Some}
 use Rattle.lr_check_sets.proofs.Rows.{at_contains}
-use Rattle.gg_base.proofs.Facts.{slice_left, slice_cases, head_same, tail_same}
+use Rattle.gg_base.proofs.Facts.{slice_left, slice_cases, head_same, tail_same, nil_cons}
 use Rattle.md_reader.specs.declared.types.Sym.{Sym}
 use Rattle.lr_tables.specs.Symbols.{symbol_number}
 use Rattle.lr_tables.proofs.Symbols_apart.{symbol_number_same}
@@ -71,9 +71,6 @@ module _ (v w : ListsView) (X : Sym) (rest : ℕ) (s : List Sym) (lists : AreLis
   pushed_keeps = record { kept = kept }
 
 -- two numbers of one list are the same
-cons_nil : (X : Sym) (s : List Sym) → X ∷ s ≡ [] → ⊥
-cons_nil X s e = cc
-
 -- a number is the empty list's or a cell's
 data Which (v : ListsView) (n : ℕ) (s : List Sym) : Type 0 where
   empty : n ≡ 0 → s ≡ [] → Which v n s
@@ -96,13 +93,13 @@ one_number v lists [] n m a b = by (which v n [] lists a) (which v m [] lists b)
   where
     by : Which v n [] → Which v m [] → n ≡ m
     by (empty e none) (empty f none') = e ∙ sym f
-    by (empty e none) (celled k c f there h is) = absurd (cons_nil h.top h.rest (sym is))
-    by (celled k c f there h is) w = absurd (cons_nil h.top h.rest (sym is))
+    by (empty e none) (celled k c f there h is) = absurd (nil_cons h.top h.rest is)
+    by (celled k c f there h is) w = absurd (nil_cons h.top h.rest is)
 one_number v lists (X ∷ s) n m a b = by (which v n (X ∷ s) lists a) (which v m (X ∷ s) lists b) (λ i j p q. one_number v lists s i j p q)
   where
     by : Which v n (X ∷ s) → Which v m (X ∷ s) → ((i j : ℕ) → IsList v i s → IsList v j s → i ≡ j) → n ≡ m
-    by (empty e none) w ih = absurd (cons_nil X s none)
-    by (celled k c e there h is) (empty f none) ih = absurd (cons_nil X s none)
+    by (empty e none) w ih = absurd (nil_cons X s (sym none))
+    by (celled k c e there h is) (empty f none) ih = absurd (nil_cons X s (sym none))
     by (celled k c e there h is) (celled l d f there' g is') ih =
         let rest : c.rest ≡ d.rest = ih c.rest d.rest (subst (IsList v c.rest) (sym (tail_same X h.top s h.rest is)) h.lower)
         (subst (IsList v d.rest) (sym (tail_same X g.top s g.rest is')) g.lower) in
