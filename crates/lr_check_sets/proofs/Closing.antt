@@ -1,5 +1,6 @@
 -- Predicates that are closed under the rules hold of the least sets, and without faults these have none.
 use Rattle.std.proofs.Common.{◌≡◌, ℕ, ◌≤◌, List, [], ◌∷◌, ◌++◌, Some, length, refl, sym, ap, subst, arith}
+use Rattle.gg_base.proofs.Facts.{nil_cons}
 use Rattle.tree_core.specs.declared.token.Tok.{Tok}
 use Rattle.tree_core.specs.declared.token.Tok.TheVariants as tok
 use Rattle.tree_core.specs.declared.token.Sort.{Sort}
@@ -55,9 +56,6 @@ few tok.Save = omega arith
 few tok.Jump = omega arith
 few tok.End = omega arith
 
-cons_nil : (x : Sort) (xs : List Sort) → x ∷ xs ≡ [] → ⊥
-cons_nil x xs e = cc
-
 tail_nil : (x y : Sort) (xs : List Sort) → x ∷ xs ≡ y ∷ [] → xs ≡ []
 tail_nil x y xs e = cc
 
@@ -83,11 +81,11 @@ module _ (A : Automaton) (P : ℕ → Tok → Tok → Type 0) (T S : ℕ → Tok
   kid_place q p k t n m s x (y ∷ []) (at_token j place go bg e es) ws may =
       closed.first q p k t n m x y place e (same_state q p j k s go es ws) (subst (λ l. Begins l t n) e bg) may
   kid_place q p k t n m s x (y ∷ z ∷ xs) (at_token j place go bg e es) ws may = absurd (let long : length (kids k) ≡ length (x ∷ y ∷ z ∷ xs) = ap length e in let le = few k in omega (arith, long, le))
-  kid_place q p k t n m s x xs (behind_only j l y z place e go fit kid es none) ws bg = absurd (cons_nil x xs none)
+  kid_place q p k t n m s x xs (behind_only j l y z place e go fit kid es none) ws bg = absurd (nil_cons x xs (sym none))
   kid_place q p k t n m s x xs (behind_first j l w y z place e go fit kid may es one) ws bg =
       let same : m ≡ t = subst (λ (c : List Sort). Begins c t m) (tail_nil x y xs one) bg in
       subst (P p n) (sym same) (closed.second q j p k t l n w y z place e go fit may kid (subst (λ c. walk A q c ≡ Some p) es ws))
-  kid_place q p k t n m s x xs (behind_both i j a l w y z v place e go fit fit' kid ws' kid' es none) ws bg = absurd (cons_nil x xs none)
+  kid_place q p k t n m s x xs (behind_both i j a l w y z v place e go fit fit' kid ws' kid' es none) ws bg = absurd (nil_cons x xs (sym none))
 
   kid_stage : (q p : ℕ) (k t n m : Tok) (s z : List Sym) (x : Sort) (xs : List Sort) → Stage q k t s (x ∷ xs) n → walk A q s ≡ Some p → Begins xs t m → S p n m z → Stage q k t (z ++ s) xs m
   kid_stage q p k t n m s z x [] (at_token j place go bg e es) ws same sm =
@@ -96,17 +94,17 @@ module _ (A : Automaton) (P : ℕ → Tok → Tok → Type 0) (T S : ℕ → Tok
       behind_first p n x y z place e (same_state q p j k s go es ws) (subst (λ l. Begins l t n) e bg) sm may (ap (λ l. z ++ l) es) refl
   kid_stage q p k t n m s z x (y ∷ w ∷ xs) (at_token j place go bg e es) ws may sm =
       absurd (let long : length (kids k) ≡ length (x ∷ y ∷ w ∷ xs) = ap length e in let le = few k in omega (arith, long, le))
-  kid_stage q p k t n m s z x xs (behind_only j l y v place e go fit kid es none) ws bg sm = absurd (cons_nil x xs none)
+  kid_stage q p k t n m s z x xs (behind_only j l y v place e go fit kid es none) ws bg sm = absurd (nil_cons x xs (sym none))
   kid_stage q p k t n m s z x xs (behind_first j l w y v place e go fit kid may es one) ws bg sm =
       let none : xs ≡ [] = tail_nil x y xs one in
       let same : m ≡ t = subst (λ (c : List Sort). Begins c t m) none bg in
       behind_both j p l n w y v z place e go fit may kid (subst (λ c. walk A q c ≡ Some p) es ws) (subst (λ b. S p n b z) same sm) (ap (λ c. z ++ c) es) none
-  kid_stage q p k t n m s z x xs (behind_both i j a l w y u v place e go fit fit' kid ws' kid' es none) ws bg sm = absurd (cons_nil x xs none)
+  kid_stage q p k t n m s z x xs (behind_both i j a l w y u v place e go fit fit' kid ws' kid' es none) ws bg sm = absurd (nil_cons x xs (sym none))
 
   whole_in : (q : ℕ) (k t n : Tok) (s : List Sym) → Stage q k t s [] n → T q k t s
   whole_in q k t n s (at_token p place go bg e es) = subst (T q k t) (sym es) (closed.alone q p k t place e go)
   whole_in q k t n s (behind_only p m x z place e go fit kid es none) = subst (T q k t) (sym es) (closed.only_in q p k t m x z place e go fit kid)
-  whole_in q k t n s (behind_first p m x y z place e go fit kid may es one) = absurd (cons_nil y [] (sym one))
+  whole_in q k t n s (behind_first p m x y z place e go fit kid may es one) = absurd (nil_cons y [] one)
   whole_in q k t n s (behind_both p j m l x y z w place e go fit fit' kid ws kid' es none) = subst (T q k t) (sym es) (closed.both_in q p j k t m l x y z w place e go fit fit' kid ws kid')
 
   mutual

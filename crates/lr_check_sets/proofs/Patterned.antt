@@ -1,19 +1,16 @@
 -- Right sides are trees: as many are wanted behind them as none.
-use Rattle.std.proofs.Common.{◌≡◌, ℕ, suc, ◌+◌, List, [], ◌∷◌, ◌++◌, Option, Some, None, Bool, true, length, reverse, refl, sym, ap, ◌∙◌, subst, arith, append_assoc, append-nil}
-use Rattle.std.proofs.lemmas.List.{reverse-append}
+use Rattle.std.proofs.Common.{◌≡◌, ℕ, suc, ◌+◌, List, [], ◌∷◌, ◌++◌, Some, Bool, length, reverse, refl, sym, ap, ◌∙◌, subst, arith, append-nil}
 use Rattle.tree_core.specs.declared.token.Sort.{Sort}
 use Rattle.md_reader.specs.declared.types.Class.{Class}
 use Rattle.md_reader.specs.declared.types.Sym.{Sym}
 use Rattle.md_reader.specs.declared.types.Sym.TheVariants as grammar_symbol
-use Rattle.md_reader.specs.Patterns.{kids_of, Trees, no_tree, node, onto, sorted_test}
+use Rattle.md_reader.specs.Patterns.{kids_of, Trees, no_tree, node, onto}
 use Rattle.lr_check_sets.specs.Shapes.{arity, wanted_behind, wanted, IsTree}
+use Rattle.lr_check_sets.proofs.Tables.{reverse-cons}
 
 abbrev pushes : List Sym → List Sym → List Sym
 pushes [] s = s
 pushes (X ∷ w) s = pushes w (X ∷ s)
-
-reverse-cons : (X : Sym) (b c : List Sym) → reverse (X ∷ b) ++ c ≡ reverse b ++ (X ∷ c)
-reverse-cons X b c = ap (λ l. l ++ c) (reverse-append (X ∷ []) b) ∙ append_assoc (reverse b) (X ∷ []) c
 
 pushes-is : (w s : List Sym) → pushes w s ≡ reverse w ++ s
 pushes-is [] s = refl

@@ -10,7 +10,7 @@ use Rattle.md_reader.specs.declared.types.Sym.TheVariants as grammar_symbol
 use Rattle.lr_check_sets.specs.Automaton.{Automaton, Production, Candidate, shift, reduce, walk, go_from, size_of, Free, reduced, IsTable}
 use Rattle.lr_check_sets.specs.Items.{start_of, Item, starts, opens, moves, AreCandidates, the_shift, the_reductions, IsAutomatonOf, HasNoEnd, HasNoEmpty}
 
-reverse-cons : {X : Type 0} (x : X) (b c : List X) → reverse (x ∷ b) ++ c ≡ reverse b ++ (x ∷ c)
+pub reverse-cons : {X : Type 0} (x : X) (b c : List X) → reverse (x ∷ b) ++ c ≡ reverse b ++ (x ∷ c)
 reverse-cons x b c = ap (λ l. l ++ c) (reverse-append (x ∷ []) b) ∙ append_assoc (reverse b) (x ∷ []) c
 
 -- an item stands on the part of its right side before the dot
