@@ -40,9 +40,6 @@ record Grown (xs : List Sort) (w : List Token) : Type 0 where
   trees : Trees xs
   same : as_tokens (leaves_all trees []) ≡ w
 
-cons_nil : (t : Tok) (u : List Tok) → t ∷ u ≡ [] → ⊥
-cons_nil t u e = cc
-
 grown_more : (x : Sort) (xs : List Sort) (t : Tok) (f : Token) (w : List Token) → f.tok ≡ t → May t x → Grown (kids t ++ xs) w → Grown (x ∷ xs) (f ∷ w)
 grown_more x xs t f w e may g =
     let p = parted (kids t) xs g.trees [] in
@@ -55,7 +52,7 @@ grown_more x xs t f w e may g =
 
 grown : {xs : List Sort} {u : List Tok} → AreTyped xs u → (w : List Token) → tokens w ≡ u → Grown xs w
 grown ends [] e = record { trees = no_trees; same = refl }
-grown ends (f ∷ w) e = absurd (cons_nil f.tok (tokens w) e)
+grown ends (f ∷ w) e = absurd (nil_cons f.tok (tokens w) (sym e))
 grown (begins {w = u} t fit more) [] e = absurd (nil_cons t u e)
 grown (begins {x = x} {xs = xs} {w = u} t fit more) (f ∷ w) e =
     grown_more x xs t f w (head_same f.tok t (tokens w) u e) (fit_may (sort_of t) x fit) (grown more w (tail_same f.tok t (tokens w) u e))
