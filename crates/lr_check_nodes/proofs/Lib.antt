@@ -1,4 +1,3 @@
-pub mod Listing
 mod Marking
 mod Renumbering
 pub mod Wholes

@@ -9,10 +9,9 @@ use Rattle.gg_base.proofs.Facts.{slice_some, slice_left, slice_last, slice_cases
 use Rattle.tree_core.specs.declared.token.Sort.{Sort}
 use Rattle.tree_core.specs.declared.token.Sort.TheVariants as sort
 use Rattle.tree_core.specs.Grammar.{kids}
-use Rattle.lr_tables.proofs.Members.{In, In-Contains, Contains-In, In-cases, In-map, map-In}
+use Rattle.lr_tables.proofs.Members.{In, In-Contains, Contains-In, In-cases, In-map, map-In, slice_get-In}
 use Rattle.lr_check.specs.Tree.{Node, Token, Unfolds, ends, goes_on, IsSample}
 use Rattle.lr_check.specs.Statement.{fits_at, KidsFit, IsStatement}
-use Rattle.lr_check_nodes.proofs.Listing.{at_in}
 use Rattle.lr_check_nodes.specs.Pruned.{IsUsed, IsPruned, IsMarked, IsMarkedUser, AreReached, IsLeft, Pruning, PrunedView, renumbered, node_again, with_node, without_node}
 
 number_stays : (ns xs : List ℕ) (k : ℕ) → k < length ns → slice_index_or (ns ++ xs) k 0 ≡ slice_index_or ns k 0
@@ -183,7 +182,7 @@ module _ (nodes : List Node) (marks : List Bool) (p : PrunedView) (s : IsStateme
         many = length-map l.node.kids number ∙ fit.many;
         each = λ i k x at is.
             let j = map_at number l.node.kids i k at in
-            let kid : Contains l.node.kids j.0 = In-Contains j.0 l.node.kids (at_in l.node.kids i j.0 j.1.0) in
+            let kid : Contains l.node.kids j.0 = In-Contains j.0 l.node.kids (slice_get-In j.0 l.node.kids i j.1.0) in
             let low : j.0 < l.number = s.sample.lower l.number j.0 l.node l.there kid in
             let below : l.number < length nodes = l.below in
             subst (λ z. fits_at (slice_get p.nodes z) x ≡ true) j.1.1
