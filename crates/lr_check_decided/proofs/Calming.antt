@@ -46,10 +46,6 @@ pub none_at : {X : Type 0} (o : Option X) (P : Type 0) → o ≡ None → IfNone
 none_at None P e h = h
 none_at (Some x) P e h = absurd (none-some x (sym e))
 
-pub if_none_map : {X : Type 0} (o : Option X) (P Q : Type 0) → (P → Q) → IfNone o P → IfNone o Q
-if_none_map None P Q g h = g h
-if_none_map (Some x) P Q g h = tt
-
 pub if_ok_both : {X E : Type 0} (r : Result X E) (P Q R : X → Type 0) → ((x : X) → P x → Q x → R x) → IfOk r P → IfOk r Q → IfOk r R
 if_ok_both (Ok x) P Q R g h k = g x h k
 if_ok_both (Err e) P Q R g h k = tt

@@ -15,6 +15,6 @@ pub none_is_there : (Yes No : ℕ → Type 0) (n : ℕ) (r : Option ℕ) → Loo
 none_is_there Yes No n None h = λ k lt. h k (omega arith) lt
 none_is_there Yes No n (Some i) h = tt
 
-pub if_none : (r : Option ℕ) (P Q : Type 0) → (P → Q) → IfNone r P → IfNone r Q
+pub if_none : {X : Type 0} (r : Option X) (P Q : Type 0) → (P → Q) → IfNone r P → IfNone r Q
 if_none None P Q f h = f h
 if_none (Some i) P Q f h = tt

@@ -5,6 +5,7 @@ use Rattle.std.proofs.lemmas.List.{drop-append-le}
 use Rattle.std.proofs.lemmas.Option.{slice_get_within, none-some}
 use Rattle.gg_base.proofs.Facts.{slice_cases}
 use Rattle.tree_core.specs.declared.token.Tok.{Tok}
+use Rattle.lr_tables.proofs.Members.{In, In-slice_get}
 use Rattle.lr_check_sets.specs.Automaton.{Automaton}
 use Rattle.lr_check_flaws.specs.Flaws.{StepsTo, Along, along_one, along_on}
 use Rattle.lr_check_decided.specs.declared.turning.Turn.{Turn}
@@ -12,18 +13,9 @@ use Rattle.lr_check_decided.specs.Turn.{Led, led_here, led_on, IsTurn}
 
 -- ---- numbers below n, each once
 
-abbrev In : ℕ → List ℕ → Type 0
-In x [] = ⊥
-In x (y ∷ ys) = (y ≡ x) ⊎ In x ys
-
 abbrev Apart : List ℕ → Type 0
 Apart [] = Unit {0}
 Apart (x ∷ xs) = (In x xs → ⊥) × Apart xs
-
-in_at : (x : ℕ) (xs : List ℕ) → In x xs → (j : ℕ) × (slice_get xs j ≡ Some x)
-in_at x [] m = absurd m
-in_at x (y ∷ ys) (inl e) = (zero, ap Some e)
-in_at x (y ∷ ys) (inr m) = let h = in_at x ys m in (suc h.0, h.1)
 
 in_last : (x c : ℕ) (xs : List ℕ) → In x (xs ++ c ∷ []) → In x xs ⊎ (c ≡ x)
 in_last x c [] (inl e) = inr e
@@ -96,7 +88,7 @@ module _ (A : Automaton) (q : ℕ) (b : Tok) (most start : ℕ) where
   -- a new class comes to the way
   pub way_on : (way : List ℕ) (c d : ℕ) → Way way c → ((j : ℕ) → slice_get way j ≡ Some c → ⊥) → c < most → StepsTo A q b c d → Way (way ++ c ∷ []) d
   way_on way c d w new low s = record {
-    apart = apart_last c way w.apart (λ m. let h = in_at c way m in new h.0 h.1);
+    apart = apart_last c way w.apart (λ m. let h = In-slice_get c way m in new h.0 h.1);
     low = λ z m. ⊎_elim (w.low z) (λ e. subst (λ n. n < most) e low) (in_last z c way m);
     led = led_on w.led s;
     each = λ j e at. ⊎_elim (older j e) (newest j e) (slice_cases way c j e at);
