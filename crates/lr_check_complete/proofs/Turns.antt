@@ -66,10 +66,6 @@ module _ (A : Automaton) (f : FoundView) (w : Window) where
       Looks A f w xs ys (Below items n Q) → length items ≤ n → Looks A f w xs ys ((x : X) → Contains items x → Q x)
   looks_all {X = X} items n Q xs ys a le = looks_map xs ys (Below items n Q) ((x : X) → Contains items x → Q x) (λ h x c. of_all items n Q h le x c) a
 
--- the element is of the list
-pub elem_at : {X : Type 0} (items : List X) (n : ℕ) (d : X) → n < length items → Contains items (get_or items n d)
-elem_at items n d lt = (n, lt, get_or_default items n (get_or items n d) d lt)
-
 -- what is true of each number below one more
 pub up_to : (n : ℕ) (Q : ℕ → Type 0) (s : ℕ) → ((q : ℕ) → q < n → Q q) → s ≡ n → Q s → (q : ℕ) → q < n + 1 → Q q
 up_to n Q s below same h q lt = ⊎_elim (λ l. below q l) (λ ge. let e : s ≡ q = omega (arith, same, lt, ge) in subst Q e h) (cases_lt q n)

@@ -1,6 +1,7 @@
 use Rattle.std.proofs.Common.{◌<◌, ℕ, List, Contains, length, sym, subst, arith}
+use Rattle.std.proofs.lemmas.List.Elements.{Contains-get_or}
 use Rattle.lr_check_found.proofs.Added.{on_ok}
-use Rattle.lr_check_complete.proofs.Turns.{looks_both, looks_there, elem_at}
+use Rattle.lr_check_complete.proofs.Turns.{looks_both, looks_there}
 use Rattle.lr_check_complete.proofs.Both.{frame_two, two_kids, first_in}
 use Rattle.lr_check_complete.proofs.two.pair.Goals as goal
 
@@ -10,7 +11,7 @@ returns-then-numbers-eq0 c = λ A q k v found frame kid may. looks_there A c.arg
 pub returns : goal.returns
 returns c = λ A q k v found frame kid may.
     let some : 0 < length c.args.numbers.now = omega arith in
-    let m = elem_at c.args.numbers.now 0 0 some in
+    let m = Contains-get_or c.args.numbers.now 0 0 some in
     let p = frame.places _ m in
     on_ok _ _ _
     (looks_both A c.args.found.now c.args.window _ _ _ _ _ _
