@@ -56,7 +56,7 @@ no_fault_is_enough t valid numbered fine = record {
         let many : length (onto v.0 (tok.End ∷ [])) ≡ length w + 1 = ap length (sym same) ∙ toks_length w in
         at_most (moves e) (length (onto v.0 (tok.End ∷ []))) (length w + 1) (length t.content.classes) le many
 
-tokens_questioned : {L X : Type 0} (of : Answering L X) (w : List L) (f : ℕ → List Bool) → tokens (questioned of w f) ≡ map of.token w
+pub tokens_questioned : {L X : Type 0} (of : Answering L X) (w : List L) (f : ℕ → List Bool) → tokens (questioned of w f) ≡ map of.token w
 tokens_questioned of [] f = refl
 tokens_questioned of (l ∷ w) f = ap (λ (u : List Tok). of.token l ∷ u) (tokens_questioned of w (λ i. f (suc i)))
 

@@ -1,6 +1,5 @@
 -- A selection ends with a code, a full frame, or stuck.
-use Rattle.std.proofs.Common.{◌≡◌, ◌⊎◌, inl, inr, ℕ, suc, List, [], ◌∷◌, map, Some, None, Bool, refl, sym, ap, subst}
-use Rattle.tree_core.specs.declared.token.Tok.{Tok}
+use Rattle.std.proofs.Common.{◌≡◌, ◌⊎◌, inl, inr, ℕ, List, [], Some, None, refl, sym, subst}
 use Rattle.tree_core.specs.declared.token.Sort.TheVariants as sort
 use Rattle.tree_core.specs.declared.tree.Leaf.{Leaf}
 use Rattle.tree_core.specs.declared.program.TreeProgram.{TreeProgram}
@@ -9,7 +8,7 @@ use Rattle.md_reader.specs.State.{Content}
 use Rattle.md_reader.specs.Valid.{IsValid}
 use Rattle.lr_check.specs.declared.sample.Outcome.{Outcome}
 use Rattle.lr_check.specs.declared.sample.Outcome.TheVariants as outcome
-use Rattle.lr_check_parse.specs.Moves.{Answering, Move, Ending, Accepts, Blocks, Loops, Refuses}
+use Rattle.lr_check_parse.specs.Moves.{Move, Ending, Accepts, Blocks, Loops, Refuses}
 use Rattle.lr_check_parse.specs.Attributes.{by_attributes}
 use Rattle.lr_check_parse.specs.Lists.{EndsSo}
 use Rattle.lr_check_parse.specs.Claims.{questioned}
@@ -17,8 +16,9 @@ use Rattle.lr_check_parse.specs.Typed.{IsStatement}
 use Rattle.lr_check_parse.proofs.Sources.{parse_answered}
 use Rattle.lr_check_parse.proofs.Typing.{leaves_are_tokens}
 use Rattle.lr_check_parse.proofs.Existence.{parse_has_end}
-use Rattle.lr_checked.specs.Accepted.{NeverStops, tokens}
+use Rattle.lr_checked.specs.Accepted.{NeverStops}
 use Rattle.lr_checked.proofs.Drawn.{block_done, loop_done}
+use Rattle.lr_checked.proofs.Law.{tokens_questioned}
 use Rattle.sel_target.specs.Meaning.{Meaning}
 use Rattle.sel_target.specs.Laws.{IsLawful}
 use Rattle.sel_parse_moves.specs.Claims.{root}
@@ -26,18 +26,13 @@ use Rattle.sel_parse_selected.specs.Selected.{Kept, selecting, start, Parsed, Bl
 use Rattle.sel_parse_slots.proofs.Law.{has_room}
 use Rattle.sel_parse_ends.specs.Claims.{HasCode, IsStuck, NeverBlocks, SelectionsEnd}
 
--- with answers they have the same tokens
-asked_tokens : {X : Type 0} (of : Answering Leaf X) (w : List Leaf) (f : ℕ → List Bool) → tokens (questioned of w f) ≡ map of.token w
-asked_tokens of [] f = refl
-asked_tokens of (l ∷ w) f = ap (λ (ts : List Tok). of.token l ∷ ts) (asked_tokens of w (λ i. f (suc i)))
-
 module _ {O I S F : Type 0} (of : Meaning O I S F) (q : TreeProgram) (d : Content) (first : ℕ) (w : List Leaf) (valid : IsValid d) (never : NeverStops d) (typed : IsTyped (root w) sort.Stmt)
   where
     done : (log : List (Move Leaf)) (e : Ending (Kept O I)) (o : Outcome) → Parsed of q d first w log e → EndsSo e o → o ≡ outcome.Done
     done log e o p h =
         let by = by_attributes (selecting of q d first) in
         let a = parse_answered by d valid 0 [] w [] (start of q d first) log e o p h in
-        never.only (questioned by w a.to_come) o (subst IsStatement (sym (asked_tokens by w a.to_come)) (leaves_are_tokens w typed)) a.ends
+        never.only (questioned by w a.to_come) o (subst IsStatement (sym (tokens_questioned by w a.to_come)) (leaves_are_tokens w typed)) a.ends
 
     not_blocked : Blocked of q d first w → ⊥
     not_blocked (blocks log at p) = block_done at (done log (Blocks at) (outcome.Blocks at) p refl)
