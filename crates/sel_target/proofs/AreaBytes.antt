@@ -1,10 +1,10 @@
 -- The bytes of a data area: what is read there, and that terms read the same.
-use Rattle.std.proofs.Common.{◌≡◌, ℕ, zero, suc, ◌+◌, ◌-◌, ◌*◌, ◌%◌, ◌^◌, ◌<◌, ◌≤◌, List, [], ◌∷◌, length, Some, None, Bool, true, false, refl, sym, ap, ◌∙◌, subst}
+use Rattle.std.proofs.Common.{◌≡◌, ℕ, zero, suc, ◌+◌, ◌-◌, ◌*◌, ◌%◌, ◌^◌, ◌<◌, ◌≤◌, List, [], ◌∷◌, length, Some, None, true, refl, sym, ap, ◌∙◌, subst}
 use Rattle.std.proofs.Common.{arith, take, drop}
 use Rattle.std.specs.Prelude.{slice_index, nat_le, cond}
 use Rattle.std.specs.List.{AllByRecursion}
 use Rattle.std.proofs.lemmas.Bool.Decides.{nat_tests}
-use Rattle.std.proofs.lemmas.Option.{none-some, same_Some}
+use Rattle.std.proofs.lemmas.Option.{same_Some, cond_some}
 use Rattle.gg_base.proofs.Facts.{first_true}
 use Rattle.gg_base.specs.declared.size.Size.{Size}
 use Rattle.gg_base.specs.declared.size.Size.TheVariants.{Byte, Word, Long}
@@ -52,14 +52,10 @@ number_small Long bytes at h =
     let d = piece_byte 4 3 at bytes (omega arith) h in
     omega (arith, a, b, c, d)
 
-fetched_by : (b : Bool) (n x : ℕ) → cond b (Some n) None ≡ Some x → (b ≡ true) × (n ≡ x)
-fetched_by true n x e = (refl, same_Some n x e)
-fetched_by false n x e = absurd (none-some x e)
-
 -- what is fetched is of its size
 pub fetched_small : (size : Size) (area : List ℕ) (a x : ℕ) → Bytes area → fetched size area a ≡ Some x → x < 2 ^ (8 * bytes_of size)
 fetched_small size area a x h e =
-    let r = fetched_by (is_inside size area a) (number_in size area (a - 65536)) x e in
+    let r = cond_some (is_inside size area a) (number_in size area (a - 65536)) x e in
     subst (λ n. n < 2 ^ (8 * bytes_of size)) r.1 (number_small size area (a - 65536) h)
 
 pub outside_0 : (size : Size) (area : List ℕ) → is_inside size area 0 ≡ true → ⊥
@@ -70,7 +66,7 @@ outside_0 size area e =
 -- nothing lies at address 0
 pub not_at_0 : (size : Size) (area : List ℕ) (x : ℕ) → fetched size area 0 ≡ Some x → ⊥
 not_at_0 size area x e =
-    let r = fetched_by (is_inside size area 0) (number_in size area (0 - 65536)) x e in
+    let r = cond_some (is_inside size area 0) (number_in size area (0 - 65536)) x e in
     outside_0 size area r.0
 
 from_65536 : (size : Size) (area : List ℕ) (a : ℕ) → is_inside size area a ≡ true → 65536 ≤ a
@@ -114,5 +110,5 @@ fetched_is v size a h inside =
 -- what is fetched from the area is what a term reads there
 pub area_read : (v : View) (size : Size) (a x : ℕ) → Bytes v.state.area → fetched size v.state.area a ≡ Some x → memory_at (term_state v) size a ≡ x
 area_read v size a x h e =
-    let r = fetched_by (is_inside size v.state.area a) (number_in size v.state.area (a - 65536)) x e in
+    let r = cond_some (is_inside size v.state.area a) (number_in size v.state.area (a - 65536)) x e in
     same_Some (memory_at (term_state v) size a) x (sym (fetched_is v size a h r.0) ∙ e)
