@@ -6,6 +6,7 @@ use Rattle.std.specs.Int.{bit_at}
 use Rattle.std.proofs.lemmas.Nat.Bits.{bit_at-zero, bit_at-pow_same}
 use Rattle.std.proofs.lemmas.Bool.{eqb-true, lt-ltb, false≢true}
 use Rattle.std.proofs.lemmas.Option.{none-some, same_Some}
+use Rattle.std.proofs.lemmas.Map.Keys.{any_passes_from_place}
 use Rattle.sel_terms.proofs.Alike.{number_is}
 use Rattle.tree_core.specs.declared.token.Tok.{Tok}
 use Rattle.tree_core.specs.declared.tree.Att.{Att}
@@ -128,16 +129,11 @@ any_behind p x xs e = by (p x) where
   by true = refl
   by false = e
 
-any_at : {X : Type 0} (p : X → Bool) (xs : List X) (i : ℕ) (x : X) → slice_get xs i ≡ Some x → p x ≡ true → list_any p xs ≡ true
-any_at p [] i x at e = absurd (none-some x at)
-any_at p (y ∷ ys) zero x at e = any_here p y ys (subst (λ z. p z ≡ true) (sym (same_Some y x at)) e)
-any_at p (y ∷ ys) (suc i) x at e = any_behind p y ys (any_at p ys i x at e)
-
 hole_touches : (q : TreeProgram) (hs : List (Attr Operand)) (i : ℕ) (s : Spot) (o : Option (Attr Operand)) → hole hs i ≡ o →
     touches toy (some_operand q o) s ≡ true → list_any (λ h. attr_touches toy h s) hs ≡ true
 hole_touches q hs i s None at e = absurd (nothing s e)
 hole_touches q hs zero s (Some h) at e = absurd (none-some h at)
-hole_touches q hs (suc i) s (Some h) at e = any_at (λ g. attr_touches toy g s) hs i h at (of_touches q h s e)
+hole_touches q hs (suc i) s (Some h) at e = any_passes_from_place (λ g. attr_touches toy g s) hs i h at (of_touches q h s e)
 
 based_touches : (o : Operand) (s : Spot) → touches toy (based o) s ≡ true → touches toy o s ≡ true
 based_touches (Register r) (RegAt k) e = e
