@@ -26,6 +26,7 @@ use Rattle.tree_core.specs.declared.program.Object.{Object}
 use Rattle.tree_core.specs.declared.program.TreeFn.{TreeFn}
 use Rattle.tree_meaning.specs.State.{Activation, begun}
 use Rattle.tree_meaning.specs.State.{State as Trees}
+use Rattle.vax_machine_live.proofs.OwnerLaws.{front_get}
 use Rattle.vax_states.specs.Stack.{long_at, Extent, argument_of, Holds, Hold, caller, SameFrom}
 use Rattle.vax_machine_lists.specs.Sound.{IsSound}
 use Rattle.vax_states.specs.Agreeing.{AreLabelled, Agrees, HasRoom}
@@ -190,14 +191,6 @@ get_drop [] (suc n) zero v e = absurd cc
 get_drop [] (suc n) (suc i) v e = absurd cc
 get_drop (x ∷ xs) (suc n) i v e = let z : suc n + i ≡ suc (n + i) = omega arith in ap (λ (k : ℕ). slice_get (x ∷ xs) k) z ∙ get_drop xs n i v e
 
-get_take : {A : Type 0} (xs : List A) (n i : ℕ) (v : A) → slice_get (take n xs) i ≡ Some v → slice_get xs i ≡ Some v
-get_take xs zero zero v e = absurd cc
-get_take xs zero (suc i) v e = absurd cc
-get_take [] (suc n) zero v e = absurd cc
-get_take [] (suc n) (suc i) v e = absurd cc
-get_take (x ∷ xs) (suc n) zero v e = e
-get_take (x ∷ xs) (suc n) (suc i) v e = get_take xs n i v e
-
 -- arguments that are taken off the stack
 pub dropped : (stack : List ℕ) (f : Frame) (e : Extent) (a : Activation) (low high count : ℕ) → Holds stack f e a low high → count ≤ length a.pushed
     → Holds stack f e (record a { pushed = drop count a.pushed }) (low + 4 * count) high
@@ -311,4 +304,4 @@ module _ (objects : List Object) (e : Extent) (es : List Extent) (t : Trees) (m 
       (hold_kept m.stack new h.outer es t.callers h.high h.callers (λ a from. same a (omega (arith, u, d, from))))
 
   pub arguments_stand : (count i v : ℕ) → slice_get (take count t.running.pushed) i ≡ Some v → long_at m.stack (reg m Sp + 4 * i) ≡ v
-  arguments_stand count i v is = h.running.pushed i v (get_take t.running.pushed count i v is)
+  arguments_stand count i v is = h.running.pushed i v (front_get t.running.pushed count i v is)

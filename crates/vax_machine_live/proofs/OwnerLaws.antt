@@ -149,7 +149,7 @@ last_is slice frames now a k q r owners kept some few s v e h f =
 
 -- ---- one frame less
 
-front_get : (frames : List Frame) (n k : ℕ) (f : Frame) → slice_get (take n frames) k ≡ Some f → slice_get frames k ≡ Some f
+pub front_get : {A : Type 0} (xs : List A) (n k : ℕ) (x : A) → slice_get (take n xs) k ≡ Some x → slice_get xs k ≡ Some x
 front_get [] zero k f e = e
 front_get [] (suc n) k f e = e
 front_get (g ∷ gs) zero k f e = absurd (none-some f e)
