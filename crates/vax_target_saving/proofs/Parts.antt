@@ -9,10 +9,7 @@ use Rattle.sel_terms.specs.Effects.{EffectShape, Value, StoreHome}
 use Rattle.sel_target.specs.Values.{View, IsRead}
 use Rattle.gg_base.specs.declared.size.Size.{Size}
 use Rattle.vax_templates.specs.Dropped.{contains, act_contains, effect_contains}
-
-or_split : (a b : Bool) (P : Type 0) → (a || b) ≡ true → (a ≡ true → P) → (b ≡ true → P) → P
-or_split true b P e f g = f refl
-or_split false b P e f g = g e
+use Rattle.vax_target_writing.proofs.Naming.{either_is}
 
 itself : (v : View) (part t : Shape) → same_term part t ≡ true → IsRead v t → IsRead v part
 itself v part t e h = subst (IsRead v) (sym (term_same part t e)) h
@@ -22,12 +19,12 @@ part_is_read v part (Constant n) e h = itself v part (Constant n) e h
 part_is_read v part (Symbol i) e h = itself v part (Symbol i) e h
 part_is_read v part LastResult e h = itself v part LastResult e h
 part_is_read v part (Memory z a) e h =
-    or_split (same_term part (Memory z a)) (contains part a) (IsRead v part) e (λ s. itself v part (Memory z a) s h) (λ c. part_is_read v part a c h.0)
+    either_is (same_term part (Memory z a)) (contains part a) e (λ s. itself v part (Memory z a) s h) (λ c. part_is_read v part a c h.0)
 part_is_read v part (Unary op a) e h =
-    or_split (same_term part (Unary op a)) (contains part a) (IsRead v part) e (λ s. itself v part (Unary op a) s h) (λ c. part_is_read v part a c h)
+    either_is (same_term part (Unary op a)) (contains part a) e (λ s. itself v part (Unary op a) s h) (λ c. part_is_read v part a c h)
 part_is_read v part (Binary op a b) e h =
-    or_split (same_term part (Binary op a b)) (contains part a || contains part b) (IsRead v part) e (λ s. itself v part (Binary op a b) s h)
-    (λ c. or_split (contains part a) (contains part b) (IsRead v part) c (λ x. part_is_read v part a x h.0) (λ x. part_is_read v part b x h.1))
+    either_is (same_term part (Binary op a b)) (contains part a || contains part b) e (λ s. itself v part (Binary op a b) s h)
+    (λ c. either_is (contains part a) (contains part b) c (λ x. part_is_read v part a x h.0) (λ x. part_is_read v part b x h.1))
 
 -- an effect of one term that doesn't divide
 all_read : (v : View) (e : EffectShape) (t : Shape) → ((part : Shape) → effect_contains e part ≡ true → contains part t ≡ true) → IsRead v t → (reads : List Shape) →
