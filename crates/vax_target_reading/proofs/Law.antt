@@ -1,8 +1,9 @@
 -- The law, field by field.
-use Rattle.std.proofs.Common.{◌≡◌, ℕ, zero, suc, ◌^◌, ◌*◌, ◌<◌, Option, Some, List, [], ◌∷◌, map, length, refl, sym, subst, arith, slice_get}
+use Rattle.std.proofs.Common.{◌≡◌, ℕ, ◌^◌, ◌*◌, ◌<◌, Option, Some, map, refl, sym, subst}
 use Rattle.std.specs.Prelude.{IsSome}
 use Rattle.std.specs.List.{AllByRecursion}
 use Rattle.std.proofs.lemmas.Bool.{false_from_ne_true}
+use Rattle.std.proofs.lemmas.Option.{slice_get_within}
 use Rattle.vax_machine_lists.proofs.Longwords.{all_bytes}
 use Rattle.gg_base.specs.Sizes.{bytes_of}
 use Rattle.gg_base.proofs.Facts.{slice_some}
@@ -11,11 +12,6 @@ use Rattle.vax_target_meaning.specs.Vax.{extent_of}
 use Rattle.vax_target_reading.specs.Laws.{OperandsRead}
 use Rattle.vax_target_reading.proofs.Small.{below, names_below, reads_below}
 use Rattle.vax_target_reading.proofs.Places.{by_names, of_names, own_spells_none, word_is_read, local_is_read, argument_is_read, argument_is_named, word_is_named, area_is_read, area_is_read_back}
-
-within : (xs : List ℕ) (k x : ℕ) → slice_get xs k ≡ Some x → k < length xs
-within [] k x e = absurd (cc)
-within (y ∷ ys) zero x e = omega arith
-within (y ∷ ys) (suc k) x e = let lt = within ys k x e in omega (arith, lt)
 
 some : (o : Option ℕ) (x : ℕ) → o ≡ Some x → IsSome o
 some o x e = subst IsSome (sym e) refl
@@ -33,7 +29,7 @@ operands_read = record {
   local_read = λ q f fs t k x m h low is. local_is_read q.objects (extent_of f) (map extent_of fs) t m h k x low is;
   local_there = λ q f fs t k m h lt low. some _ _ (word_is_read q.objects (extent_of f) (map extent_of fs) t m h k low lt);
   local_named = λ q f fs t k m h lt low. word_is_named q.objects (extent_of f) (map extent_of fs) t m h k low;
-  argument_read = λ q f fs t k x m h is. argument_is_read q.objects (extent_of f) (map extent_of fs) t m h k x (within t.running.arguments k x is) is;
+  argument_read = λ q f fs t k x m h is. argument_is_read q.objects (extent_of f) (map extent_of fs) t m h k x (slice_get_within t.running.arguments k x is) is;
   argument_there = λ q f fs t k m h lt.
       let n = slice_some t.running.arguments k lt in some _ n.0 (argument_is_read q.objects (extent_of f) (map extent_of fs) t m h k n.0 lt n.1);
   argument_named = λ q f fs t k m h lt. argument_is_named q.objects (extent_of f) (map extent_of fs) t m h k lt;
