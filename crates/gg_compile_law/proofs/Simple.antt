@@ -6,7 +6,7 @@ use Rattle.std.specs.Prelude.{slice_get, slice_set, nat_lt}
 use Rattle.std.specs.Str.{bytes_eq}
 use Rattle.std.proofs.lemmas.List.{length-take-le}
 use Rattle.std.proofs.lemmas.Bool.{le-ltb}
-use Rattle.std.proofs.lemmas.Option.{slice_get_past}
+use Rattle.std.proofs.lemmas.Option.{slice_get_past, slice_get_within}
 use Rattle.gg_base.specs.declared.size.Size.TheVariants.{Long}
 use Rattle.gg_base.specs.Arithmetic.{add32, neg32}
 use Rattle.gg_base.specs.LittleEndian.{with_number}
@@ -42,7 +42,6 @@ use Rattle.gg_compile_law.specs.Effects.{label_name, Does, IsReady, HasEffect}
 use Rattle.vax_frames.specs.Frames.{function_label}
 use Rattle.gg_compile_law.specs.Demo.{jump_code, call_code}
 use Rattle.vax_frames.specs.Frames.{number, register, instr, end_code}
-use Rattle.vax_states.proofs.Pieces.{in_list}
 use Rattle.vax_states.proofs.Touching.{stack_read}
 use Rattle.vax_states.proofs.Keeping.{sound_register, reg_small}
 use Rattle.vax_states.proofs.Standing.{kept, rebuilt, register_kept, high_top, free_below, push_written, local_written, fp_low, fp_high_is}
@@ -106,7 +105,7 @@ module _ (objects : List Object) (e : Extent) (es : List Extent) (t : Trees) (m 
   -- the last pushed argument is read at sp
   pub top_read : (v : ℕ) → slice_get t.running.pushed 0 ≡ Some v → read m (reg m Sp) Long ≡ Ok v
   top_read v is =
-      let some = in_list t.running.pushed 0 v is in
+      let some = slice_get_within t.running.pushed 0 v is in
       let z : reg m Sp + 4 * 0 ≡ reg m Sp = omega arith in
       stack_read m (reg m Sp) h.sound.area h.bottom (omega (arith, sp_high)) (free_below objects e es t m h (reg m Sp) 4 (omega (arith, h.running.words, some)))
       ∙ ap (λ (x : ℕ). Ok x) (sym (ap (λ (a : ℕ). long_at m.stack a) z) ∙ h.running.pushed 0 v is)

@@ -3,7 +3,7 @@ use Rattle.std.proofs.Common.{◌≡◌, ℕ, zero, suc, ◌+◌, ◌<◌, ◌�
 use Rattle.std.specs.Prelude.{◌-◌, slice_get, ◌==◌, ◌||◌}
 use Rattle.std.specs.List.{All, AllPass, filter_map, cons_option}
 use Rattle.std.proofs.lemmas.Bool.{eqb-true, eq-eqb, leb-true, and_parts}
-use Rattle.std.proofs.lemmas.Option.{same_Some}
+use Rattle.std.proofs.lemmas.Option.{same_Some, slice_get_within}
 use Rattle.gg_base.proofs.Facts.{index_of, head_same}
 use Rattle.tree_core.specs.declared.token.Tok.{Tok}
 use Rattle.tree_core.specs.declared.token.Tok.TheVariants as tok
@@ -24,7 +24,6 @@ use Rattle.tree_core.specs.Items.{target_of as target_in}
 use Rattle.tree_core.specs.Valid.{service_args, args_or, args_of, takes, leaf_names, ItemStands, ItemsStand, IsValid}
 use Rattle.tree_core.proofs.Ordering_of_calls.{decides}
 use Rattle.gg_compile_law.specs.Roles.{Role, Pushes, Calls, Saves, Plain, calls_by, role_by, role_of, label_in, target_by, target_of}
-use Rattle.vax_states.proofs.Pieces.{in_list}
 use Rattle.gg_compile_law.specs.Programs.{InOrderBy, InOrder, stands_in}
 
 -- ---- the order of pushes and calls
@@ -273,7 +272,7 @@ target_stands is h w at l e = stands_by _ (λ n. refl) (λ w. refl) is l (h l (f
 -- ---- what is said of each function, and of each root
 
 pub all_at : {A : Type 0} (P : A → Type 0) (xs : List A) (k : ℕ) (x : A) → All P xs → slice_get xs k ≡ Some x → P x
-all_at P xs k x h e = subst P (index_of xs k x x e) (h k x (in_list xs k x e))
+all_at P xs k x h e = subst P (index_of xs k x x e) (h k x (slice_get_within xs k x e))
 
 -- what a valid program says of a root of a function
 pub record RootFacts (program : TreeProgram) (g : TreeFn) (w : List Leaf) : Type 0 where

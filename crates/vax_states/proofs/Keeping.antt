@@ -3,6 +3,7 @@ use Rattle.std.proofs.Common.{◌≡◌, ◌⊎◌, inl, inr, ⊎_elim, ℕ, zer
 use Rattle.std.proofs.Common.{◌∙◌, arith, length-set}
 use Rattle.std.specs.Prelude.{slice_get, slice_set, ◌==◌}
 use Rattle.std.proofs.lemmas.Bool.{eqb-true, eqb-false, cases_lt}
+use Rattle.std.proofs.lemmas.Option.{slice_get_within}
 use Rattle.gg_base.specs.declared.size.Size.{Size}
 use Rattle.gg_base.specs.declared.size.Size.TheVariants.{Long}
 use Rattle.gg_base.specs.Sizes.{bytes_of}
@@ -15,7 +16,7 @@ use Rattle.tree_meaning.specs.State.{Activation, with_local}
 use Rattle.vax_states.specs.Stack.{long_at, Extent, word_of, argument_of, Holds, SameFrom}
 use Rattle.vax_machine_lists.specs.Sound.{IsSound}
 use Rattle.vax_machine_lists.proofs.Longwords.{length-with, length-with_any, with_below, below_set, below_get}
-use Rattle.vax_states.proofs.Pieces.{stored_other, stored_there, stored_below, in_list, low_fp, fp_high, word_low, word_high, words_apart, local_word, argument_high, holds_kept}
+use Rattle.vax_states.proofs.Pieces.{stored_other, stored_there, stored_below, low_fp, fp_high, word_low, word_high, words_apart, local_word, argument_high, holds_kept}
 
 -- ---- sound states
 
@@ -107,7 +108,7 @@ module _ (stack : List ℕ) (f : Frame) (e : Extent) (a : Activation) (low high 
             h.is_local j w is in
             other (word_of f.fp j) (omega (arith, bottom, word_low stack f e a low high h j (omega (arith, below, free, lt))))
             (inl (words_apart stack f e a low high h j k (omega (arith, below, free, lt)) lt (omega (arith, below, free)))) ∙ h.local j w is;
-        pushed = λ i w is. let there = in_list a.pushed i w is in other (low + 4 * i) (omega (arith, bottom)) (inr (omega (arith, there, over))) ∙ h.pushed i w is;
+        pushed = λ i w is. let there = slice_get_within a.pushed i w is in other (low + 4 * i) (omega (arith, bottom)) (inr (omega (arith, there, over))) ∙ h.pushed i w is;
       }
 
   -- in a local
@@ -135,7 +136,7 @@ module _ (stack : List ℕ) (f : Frame) (e : Extent) (a : Activation) (low high 
         argument = λ i w g. other (argument_of f.ap (i + 1)) (omega (arith, h.control, h.top, bottom, under)) (inl (omega (arith, under, h.control, h.top))) ∙ h.argument i w g;
         is_local = λ j w g. known j w (j == k) refl g;
         local = λ j w g. value j w other there (j == k) refl g;
-        pushed = λ i w g. let at = in_list a.pushed i w g in other (low + 4 * i) (omega (arith, bottom)) (inr (omega (arith, at, over))) ∙ h.pushed i w g;
+        pushed = λ i w g. let at = slice_get_within a.pushed i w g in other (low + 4 * i) (omega (arith, bottom)) (inr (omega (arith, at, over))) ∙ h.pushed i w g;
       }
     where
       known : (j w : ℕ) (b : Bool) → (j == k) ≡ b → cond b (Some v) (a.locals j) ≡ Some w → j < e.locals
@@ -186,7 +187,7 @@ module _ (stack : List ℕ) (f : Frame) (e : Extent) (a : Activation) (low high 
             λ j w g. let lj =
             local_word stack f e a low high h j w g in
             other (word_of f.fp j) (omega (arith, bottom, word_low stack f e a low high h j lj)) (inr (omega (arith, word_high stack f e a low high h j lj, h.control, h.top))) ∙ h.local j w g;
-        pushed = λ i w g. let at = in_list a.pushed i w g in other (low + 4 * i) (omega (arith, bottom)) (inr (omega (arith, at, h.words, h.control, h.top))) ∙ h.pushed i w g;
+        pushed = λ i w g. let at = slice_get_within a.pushed i w g in other (low + 4 * i) (omega (arith, bottom)) (inr (omega (arith, at, h.words, h.control, h.top))) ∙ h.pushed i w g;
       }
     where
       apart : (i : ℕ) → (i < k) ⊎ (k < i) → (argument_of f.ap (k + 1) + 4 ≤ argument_of f.ap (i + 1)) ⊎ (argument_of f.ap (i + 1) + 4 ≤ argument_of f.ap (k + 1))

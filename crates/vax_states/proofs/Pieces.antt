@@ -1,6 +1,6 @@
 -- The pieces of the stack that live calls hold.
-use Rattle.std.proofs.Common.{◌≡◌, ◌⊎◌, inl, inr, ℕ, zero, suc, ◌+◌, ◌-◌, ◌*◌, ◌^◌, ◌<◌, ◌≤◌, Bool, true, false, List, [], ◌∷◌, ◌++◌, length, Some, refl, ap, subst, ◌∙◌, arith}
-use Rattle.std.specs.Prelude.{slice_get, nat_lt, ◌||◌}
+use Rattle.std.proofs.Common.{◌≡◌, ◌⊎◌, inl, inr, ℕ, ◌+◌, ◌-◌, ◌*◌, ◌^◌, ◌<◌, ◌≤◌, Bool, true, false, List, [], ◌∷◌, ◌++◌, length, Some, refl, ap, subst, ◌∙◌, arith}
+use Rattle.std.specs.Prelude.{nat_lt, ◌||◌}
 use Rattle.std.proofs.lemmas.Bool.{le-ltb, or_from, and_left, and_right}
 use Rattle.gg_base.specs.declared.size.Size.TheVariants.{Long}
 use Rattle.gg_base.specs.LittleEndian.{with_number}
@@ -25,12 +25,6 @@ pub stored_below : (stack : List ℕ) (x v low : ℕ) → 2139095040 ≤ x → x
 stored_below stack x v low bottom high le = λ a from. stored_other stack x a v bottom high (omega (arith, from)) (inl (omega (arith, from)))
 
 -- ---- one piece
-
-pub in_list : {A : Type 0} (xs : List A) (i : ℕ) (x : A) → slice_get xs i ≡ Some x → i < length xs
-in_list [] zero x e = absurd cc
-in_list [] (suc i) x e = absurd cc
-in_list (y ∷ xs) zero x e = omega arith
-in_list (y ∷ xs) (suc i) x e = let lt = in_list xs i x e in omega (arith, lt)
 
 module _ (stack : List ℕ) (f : Frame) (e : Extent) (a : Activation) (low high : ℕ) (h : Holds stack f e a low high) where
   words_is : low + 4 * (e.words + length a.pushed) ≡ f.fp

@@ -2,6 +2,7 @@
 use Rattle.std.proofs.Common.{◌≡◌, ℕ, ◌+◌, ◌-◌, ◌^◌, ◌<◌, ◌≤◌, Bool, true, false, cond, List, length, Option, Some, None, Ok, Err, refl, sym, ap, subst, ◌∙◌, arith, get_or-set_same, get_or-set_other}
 use Rattle.std.specs.Prelude.{slice_get, slice_set, nat_lt, nat_le, ◌&&◌}
 use Rattle.std.proofs.lemmas.Bool.{le-ltb, leb-true}
+use Rattle.std.proofs.lemmas.Option.{slice_get_within}
 use Rattle.gg_base.specs.declared.size.Size.{Size}
 use Rattle.gg_base.specs.declared.size.Size.TheVariants.{Byte, Word, Long}
 use Rattle.gg_base.specs.Arithmetic.{sub32}
@@ -24,7 +25,7 @@ use Rattle.vax_states.specs.Sentences.{with_local_set, with_argument, with_pushe
 use Rattle.vax_states.specs.Stack.{long_at, Extent, word_of, argument_of, Holds, Hold, SameFrom}
 use Rattle.vax_machine_lists.specs.Sound.{IsSound}
 use Rattle.vax_states.specs.Agreeing.{Agrees, HasRoom}
-use Rattle.vax_states.proofs.Pieces.{stored_below, in_list, low_fp, fp_high, word_low, word_high, local_word, argument_high, hold_kept, hold_end, holds_kept, words_free, arguments_free}
+use Rattle.vax_states.proofs.Pieces.{stored_below, low_fp, fp_high, word_low, word_high, local_word, argument_high, hold_kept, hold_end, holds_kept, words_free, arguments_free}
 use Rattle.vax_states.proofs.Touching.{stack_read, stack_written, area_read, area_written}
 use Rattle.vax_states.proofs.Keeping.{sound_register, sound_stack, sound_area, word_holds, local_holds, argument_holds, push_holds}
 
@@ -68,7 +69,7 @@ module _ (objects : List Object) (e : Extent) (es : List Extent) (t : Trees) (m 
 
   pub argument_read : (i v : ℕ) → slice_get t.running.arguments i ≡ Some v → read m (argument_of (reg m Ap) (i + 1)) Long ≡ Ok v
   argument_read i v is =
-      let there = in_list t.running.arguments i v is in
+      let there = slice_get_within t.running.arguments i v is in
       let under = argument_high m.stack h.innermost e t.running (reg m Sp) h.high h.running i there in
       let down = fp_low in
       ap (λ (a : ℕ). read m (argument_of a (i + 1)) Long) h.ap

@@ -4,6 +4,7 @@ use Rattle.std.proofs.Common.{get_or-set_same, get_or-set_other}
 use Rattle.std.specs.Prelude.{slice_get, slice_set, nat_lt}
 use Rattle.std.specs.Str.{bytes_eq}
 use Rattle.std.proofs.lemmas.Bool.{le-ltb}
+use Rattle.std.proofs.lemmas.Option.{slice_get_within}
 use Rattle.gg_base.specs.declared.size.Size.TheVariants.{Long}
 use Rattle.gg_base.specs.Arithmetic.{add32}
 use Rattle.tree_core.specs.declared.program.Object.{Object}
@@ -23,7 +24,6 @@ use Rattle.vax_machine_lists.specs.Sound.{AllBelow}
 use Rattle.vax_machine_lists.specs.Instructions.{Comes, Calls, one_byte, ends, comes, course_of, performed}
 use Rattle.vax_states.specs.Stack.{long_at, Extent, Holds}
 use Rattle.vax_states.specs.Agreeing.{Agrees}
-use Rattle.vax_states.proofs.Pieces.{in_list}
 use Rattle.vax_states.proofs.Touching.{stack_read}
 use Rattle.vax_states.proofs.Keeping.{sound_register}
 use Rattle.vax_states.proofs.Standing.{rebuilt, high_top, free_below, fp_low, fp_high_is}
@@ -117,7 +117,7 @@ module _ (objects : List Object) (e : Extent) (es : List Extent) (t : Trees) (m 
   -- the last pushed argument is read at sp
   pub top_read : (v : ℕ) → slice_get t.running.pushed 0 ≡ Some v → read m (reg m Sp) Long ≡ Ok v
   top_read v is =
-      let some = in_list t.running.pushed 0 v is in
+      let some = slice_get_within t.running.pushed 0 v is in
       let z : reg m Sp + 4 * 0 ≡ reg m Sp = omega arith in
       stack_read m (reg m Sp) h.sound.area h.bottom (omega (arith, sp_high)) (free_below objects e es t m h (reg m Sp) 4 (omega (arith, h.running.words, some)))
       ∙ ap (λ (x : ℕ). Ok x) (sym (ap (λ (a : ℕ). long_at m.stack a) z) ∙ h.running.pushed 0 v is)
