@@ -2,12 +2,9 @@
 use Rattle.std.specs.Prelude.{◌≡◌, ℕ, ◌-◌, List, Option, Some, None, Bool, true, false, length, slice_get}
 use Rattle.tree_core.specs.declared.token.Sort.{Sort}
 use Rattle.tree_core.specs.declared.token.Sort.TheVariants as sort
-use Rattle.tree_core.specs.Grammar.{kids, sort_of, fits}
+use Rattle.tree_core.specs.Grammar.{kids, sort_of}
+use Rattle.tree_core.specs.Trees.{sort_fits}
 use Rattle.lr_check.specs.Tree.{Node, IsSample}
-
-abbrev pub sort_fits : Option Sort → Sort → Bool
-sort_fits None x = false
-sort_fits (Some y) x = fits y x
 
 -- the node's tree may stand where the sort is wanted
 abbrev pub fits_at : Option Node → Sort → Bool

@@ -1,19 +1,19 @@
 -- Nodes that are whole have trees.
-use Rattle.std.proofs.Common.{◌≡◌, ℕ, zero, suc, ◌<◌, List, [], ◌∷◌, ◌++◌, Option, Some, None, true, length, slice_get, refl, sym, ap, ◌∙◌, subst, inl, inr, arith, append_assoc, append-nil}
+use Rattle.std.proofs.Common.{◌≡◌, ℕ, zero, suc, ◌<◌, List, [], ◌∷◌, ◌++◌, Some, true, length, slice_get, refl, sym, ap, ◌∙◌, subst, inl, inr, arith, append_assoc, append-nil}
 use Rattle.gg_base.proofs.Facts.{slice_some}
 use Rattle.tree_core.specs.declared.token.Tok.{Tok}
 use Rattle.tree_core.specs.declared.token.Sort.{Sort}
-use Rattle.tree_core.specs.Grammar.{kids, sort_of}
+use Rattle.tree_core.specs.Grammar.{kids}
 use Rattle.lr_tables.proofs.Members.{In, In-Contains}
-use Rattle.lr_check_sets.specs.Trees.{May, fits_in}
+use Rattle.lr_check_sets.specs.Trees.{May}
 use Rattle.lr_check_sets.specs.Answers.{Leaf}
 use Rattle.lr_check.specs.Tree.{Node}
-use Rattle.lr_check.specs.Statement.{sort_fits, fits_at, KidsFit}
+use Rattle.lr_check.specs.Statement.{fits_at, KidsFit}
 use Rattle.lr_check_parse.specs.Typed as parse
 use Rattle.lr_check_samples.specs.Fixed.{leaf, tokens}
 use Rattle.lr_check_samples.specs.Nodes.{Stands}
 use Rattle.lr_check_samples.proofs.Drawing.{stands_both, stands_node}
-use Rattle.lr_check_samples.proofs.Typing.{may_fits, tokens-append}
+use Rattle.lr_check_samples.proofs.Typing.{tokens-append}
 use Rattle.lr_check_nodes.specs.Growing.{AreWhole}
 use Rattle.lr_check_nodes.proofs.Wholes.{fits_within, kids_head, kids_tail, kids_within}
 
@@ -24,7 +24,7 @@ typed_append {ys = ys} {v = v} (parse.begins {xs = xs} {w = w} t fit h) g =
 
 -- a token and the trees of its kids
 pub typed_node : (k : Tok) (x : Sort) (us : List Leaf) → May k x → parse.AreTyped (kids k) (tokens us) → parse.AreTyped (x ∷ []) (k ∷ tokens us)
-typed_node k x us may h = parse.begins k (may_fits k x may) (subst (λ l. parse.AreTyped l (tokens us)) (sym (append-nil (kids k))) h)
+typed_node k x us may h = parse.begins k may (subst (λ l. parse.AreTyped l (tokens us)) (sym (append-nil (kids k))) h)
 
 -- the trees of nodes that fit
 pub record HaveLeaves (nodes : List Node) (ks : List ℕ) (xs : List Sort) : Type 0 where
@@ -41,12 +41,8 @@ node_leaves : (nodes : List Node) (n : ℕ) (v : Node) (x : Sort) → slice_get 
 node_leaves nodes n v x there fits h = record {
   leaves = leaf v.tok v.answers ∷ h.leaves;
   stands = stands_node there h.stands;
-  typed = typed_node v.tok x h.leaves (by (sort_of v.tok) (ap (λ o. fits_at o x) (sym there) ∙ fits)) h.typed;
+  typed = typed_node v.tok x h.leaves (ap (λ o. fits_at o x) (sym there) ∙ fits) h.typed;
 }
-  where
-    by : (o : Option Sort) → sort_fits o x ≡ true → fits_in o x ≡ true
-    by None e = e
-    by (Some y) e = e
 
 both_leaves : (nodes : List Node) (n : ℕ) (ks : List ℕ) (x : Sort) (xs : List Sort) → HaveLeaves nodes (n ∷ []) (x ∷ []) → HaveLeaves nodes ks xs → HaveLeaves nodes (n ∷ ks) (x ∷ xs)
 both_leaves nodes n ks x xs a b = record {

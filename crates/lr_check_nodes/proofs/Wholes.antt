@@ -9,9 +9,10 @@ use Rattle.tree_core.specs.declared.token.Tok.{Tok}
 use Rattle.tree_core.specs.declared.token.Sort.{Sort}
 use Rattle.tree_core.specs.declared.token.Sort.TheVariants as sort
 use Rattle.tree_core.specs.Grammar.{kids, sort_of}
+use Rattle.tree_core.specs.Trees.{sort_fits}
 use Rattle.lr_tables.proofs.Members.{In, Contains-In}
 use Rattle.lr_check.specs.Tree.{Node}
-use Rattle.lr_check.specs.Statement.{sort_fits, fits_at, KidsFit}
+use Rattle.lr_check.specs.Statement.{fits_at, KidsFit}
 use Rattle.lr_check.proofs.Typed.{fit_none, fit_more}
 use Rattle.lr_check_nodes.specs.Growing.{AreWhole, Grows, HasTreeOf, HaveKids, HasLast, HasTreeFrom, smallest}
 

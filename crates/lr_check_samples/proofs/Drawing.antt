@@ -1,13 +1,13 @@
 -- Nodes that are drawn for what was found unfold to its trees.
-use Rattle.std.proofs.Common.{◌≡◌, ℕ, List, [], ◌∷◌, ◌++◌, Some, None, Bool, true, slice_get, refl, sym, ap, ◌∙◌, subst, append_assoc, append-nil}
+use Rattle.std.proofs.Common.{◌≡◌, ℕ, List, [], ◌∷◌, ◌++◌, Bool, true, slice_get, refl, sym, ap, ◌∙◌, subst, append_assoc, append-nil}
 use Rattle.tree_core.specs.declared.token.Tok.{Tok}
 use Rattle.tree_core.specs.declared.token.Sort.{Sort}
-use Rattle.tree_core.specs.Grammar.{kids, sort_of}
+use Rattle.tree_core.specs.Grammar.{kids}
 use Rattle.lr_check_sets.specs.Automaton.{Automaton}
-use Rattle.lr_check_sets.specs.Trees.{May, fits_in}
+use Rattle.lr_check_sets.specs.Trees.{May}
 use Rattle.lr_check_sets.specs.Answers.{Leaf}
 use Rattle.lr_check.specs.Tree.{Node, Token, Unfolds, goes_on}
-use Rattle.lr_check.specs.Statement.{sort_fits, fits_at}
+use Rattle.lr_check.specs.Statement.{fits_at}
 use Rattle.lr_check.proofs.Typed.{fit_none, fit_one, fit_two}
 use Rattle.lr_check_found.specs.declared.places.Place.{Place}
 use Rattle.lr_check_found.specs.Found.{FoundView, SettlesAt}
@@ -42,11 +42,7 @@ stands_none = record { unfolds = λ rest u h. h }
 
 -- a node fits where its token may stand
 pub node_fits : (nodes : List Node) (n : ℕ) {k : Tok} {ks : List ℕ} {own : List Bool} (x : Sort) → IsNode nodes n k ks own → May k x → fits_at (slice_get nodes n) x ≡ true
-node_fits nodes n {k = k} x there may = ap (λ o. fits_at o x) there ∙ by (sort_of k) may
-  where
-    by : (o : _) → fits_in o x ≡ true → sort_fits o x ≡ true
-    by None h = h
-    by (Some y) h = h
+node_fits nodes n {k = k} x there may = ap (λ o. fits_at o x) there ∙ may
 
 abbrev the_none : List Node → List ℕ
 the_none nodes = []

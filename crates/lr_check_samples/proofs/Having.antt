@@ -24,12 +24,11 @@ use Rattle.lr_check_samples.specs.Fixed.{tokens, fixed_leaf, fixed_one, fixed_tw
 use Rattle.lr_check_samples.specs.Samples.{of_gap, of_dead, Turning, turn, turn_on, of_circle}
 use Rattle.lr_check_samples.specs.Claims.{HasTree, HasContext, FaultsHaveSamples}
 use Rattle.lr_check_samples.proofs.Making.{settles_of}
-use Rattle.lr_check_samples.proofs.Typing.{may_fits}
 
 -- trees are typed
 mutual
   typed_tree : {x : Sort} {xs : List Sort} (v : Tree x) (w : List Leaf) → AreTyped xs (tokens w) → AreTyped (x ∷ xs) (tokens (leaves v w))
-  typed_tree {x = x} (node k may answers vs) w h = begins k (may_fits k x may) (typed_trees vs w h)
+  typed_tree {x = x} (node k may answers vs) w h = begins k may (typed_trees vs w h)
 
   typed_trees : {ys xs : List Sort} (vs : Trees ys) (w : List Leaf) → AreTyped xs (tokens w) → AreTyped (ys ++ xs) (tokens (leaves_all vs w))
   typed_trees no_trees w h = h

@@ -1,5 +1,5 @@
 -- The samples are typed statements.
-use Rattle.std.proofs.Common.{◌≡◌, ℕ, List, [], ◌∷◌, ◌++◌, Option, Some, None, Bool, true, slice_get, refl, ap, sym, ◌∙◌, subst, append_assoc}
+use Rattle.std.proofs.Common.{◌≡◌, ℕ, List, [], ◌∷◌, ◌++◌, Bool, slice_get, refl, ap, sym, ◌∙◌, subst, append_assoc}
 use Rattle.std.specs.Prelude.{IsTrue}
 use Rattle.tree_core.specs.declared.token.Tok.{Tok}
 use Rattle.tree_core.specs.declared.token.Sort.{Sort}
@@ -8,7 +8,7 @@ use Rattle.tree_core.specs.Grammar.{kids, sort_of}
 use Rattle.tree_core.specs.Trees.{sort_fits}
 use Rattle.md_reader.specs.declared.types.Sym.{Sym}
 use Rattle.lr_check_sets.specs.Automaton.{Automaton}
-use Rattle.lr_check_sets.specs.Trees.{May, fits_in}
+use Rattle.lr_check_sets.specs.Trees.{May}
 use Rattle.lr_check_sets.specs.Answers.{Leaf}
 use Rattle.lr_check_parse.specs.Typed.{AreTyped, ends, begins, IsStatement}
 use Rattle.lr_check_found.specs.declared.places.Place.{Place}
@@ -37,13 +37,6 @@ reads_of : {xs : List Sort} {u : List Tok} → AreTyped xs u → (ys : List Sort
 reads_of ends ys = reads_none
 reads_of (begins {xs = xs} {w = w} k fits h) ys = reads_more k fits (subst (λ l. Reads l w ys) (append_assoc (kids k) xs ys) (reads_of h ys))
 
-fits_so : (o : Option Sort) (x : Sort) → fits_in o x ≡ true → IsTrue (sort_fits o x)
-fits_so None x h = h
-fits_so (Some y) x h = h
-
-pub may_fits : (k : Tok) (x : Sort) → May k x → IsTrue (sort_fits (sort_of k) x)
-may_fits k x h = fits_so (sort_of k) x h
-
 pub tokens-append : (u v : List Leaf) → tokens (u ++ v) ≡ tokens u ++ tokens v
 tokens-append [] v = refl
 tokens-append (l ∷ u) v = ap (λ w. l.tok ∷ w) (tokens-append u v)
@@ -63,7 +56,7 @@ module _ (A : Automaton) (f : FoundView) (found : IsFound A f) where
       let g : MadeOne A f j x s = made_one k.made j refl in
       let same : AreSame y g.kid v g.kid_list h g.behind = same_settling kid_at (settles_of g.sum) in
       let may : May y.token g.sort = subst (λ (c : Place). May c.token g.sort) (sym same.places) g.fits.may in
-      subst (λ l. Reads (l ++ ys) (y.token ∷ tokens ws) ys) (sym g.has.kid) (reads_more y.token (may_fits y.token g.sort may) (fixed_reads kid y v h kid_at ys))
+      subst (λ l. Reads (l ++ ys) (y.token ∷ tokens ws) ys) (sym g.has.kid) (reads_more y.token may (fixed_reads kid y v h kid_at ys))
   fixed_reads (fixed_two {j = j} {k = l} {p = h} {h = o} {y = y} {z = z} {s = v} {u = u} {ws = ws} {ws' = ws'} {own' = own'} by kid_at kid second_at second) x s p at ys =
       let k = settled_so A f found by at in
       let g : MadeTwo A f j l x s = made_two k.made j l refl in
@@ -71,9 +64,9 @@ module _ (A : Automaton) (f : FoundView) (found : IsFound A f) where
       let same' : AreSame z g.second u g.second_list o g.last = same_settling second_at (settles_of g.second_sum) in
       let may : May y.token g.sort = subst (λ (c : Place). May c.token g.sort) (sym same.places) g.fits.may in
       let may' : May z.token g.second_sort = subst (λ (c : Place). May c.token g.second_sort) (sym same'.places) g.second_fits.may in
-      let last : Reads (g.second_sort ∷ ys) (z.token ∷ tokens ws') ys = reads_more z.token (may_fits z.token g.second_sort may') (fixed_reads second z u o second_at ys) in
+      let last : Reads (g.second_sort ∷ ys) (z.token ∷ tokens ws') ys = reads_more z.token may' (fixed_reads second z u o second_at ys) in
       let first : Reads (g.sort ∷ g.second_sort ∷ ys) (y.token ∷ tokens ws) (g.second_sort ∷ ys) =
-      reads_more y.token (may_fits y.token g.sort may) (fixed_reads kid y v h kid_at (g.second_sort ∷ ys)) in
+      reads_more y.token may (fixed_reads kid y v h kid_at (g.second_sort ∷ ys)) in
       subst (λ l. Reads (l ++ ys) (y.token ∷ tokens (ws ++ leaf z.token own' ∷ ws')) ys) (sym g.has.kid)
       (subst (λ w. Reads (g.sort ∷ g.second_sort ∷ ys) (y.token ∷ w) ys) (sym (tokens-append ws (leaf z.token own' ∷ ws'))) (reads-append first last))
   fixed_reads (fixed_reduced {j = j} {c = c} {p = h} {x = y} {s = v} {ws = ws} by set_at set) x s p at ys =
@@ -105,7 +98,7 @@ module _ (A : Automaton) (f : FoundView) (found : IsFound A f) where
         others = r.others;
         may = subst (May x.token) one g.may;
         reads = subst (λ w. Reads (sort.Stmt ∷ []) w (v ∷ r.others)) (sym (tokens-append before (leaf y.token [] ∷ [])))
-            (reads-append r.reads (reads_more y.token (may_fits y.token r.wanted r.may) (subst (λ l. Reads (l ++ r.others) [] (v ∷ r.others)) (sym kid) reads_none)));
+            (reads-append r.reads (reads_more y.token r.may (subst (λ l. Reads (l ++ r.others) [] (v ∷ r.others)) (sym kid) reads_none)));
         typed = r.typed;
       }
   wants {n = n} (at_first {i = i} {y = y} {z = z} {x = v} {v = o} {before = before} {behind = behind} {us = us} is there kid there' begin c) x at =
@@ -118,7 +111,7 @@ module _ (A : Automaton) (f : FoundView) (found : IsFound A f) where
         others = o ∷ r.others;
         may = subst (May x.token) one g.may;
         reads = subst (λ w. Reads (sort.Stmt ∷ []) w (v ∷ o ∷ r.others)) (sym (tokens-append before (leaf y.token [] ∷ [])))
-            (reads-append r.reads (reads_more y.token (may_fits y.token r.wanted r.may) (subst (λ l. Reads (l ++ r.others) [] (v ∷ o ∷ r.others)) (sym kid) reads_none)));
+            (reads-append r.reads (reads_more y.token r.may (subst (λ l. Reads (l ++ r.others) [] (v ∷ o ∷ r.others)) (sym kid) reads_none)));
         typed = subst (AreTyped (o ∷ r.others)) (sym (tokens-append us behind)) (typed_of (reads_of begin.typed r.others) r.typed);
       }
   wants {n = n} (at_second {i = i} {j = j} {p = p} {y = y} {z = z} {s = s} {before = before} {behind = behind} {ws = ws} {own = own} {ds = ds} is there at' kid c) x at =
@@ -131,9 +124,9 @@ module _ (A : Automaton) (f : FoundView) (found : IsFound A f) where
         others = r.others;
         may = g.second_fits.may;
         reads = subst (λ w. Reads (sort.Stmt ∷ []) w (g.second_sort ∷ r.others)) (sym (tokens-append before (leaf y.token [] ∷ leaf z.token own ∷ ws)))
-            (reads-append r.reads (reads_more y.token (may_fits y.token r.wanted r.may)
+            (reads-append r.reads (reads_more y.token r.may
             (subst (λ l. Reads (l ++ r.others) (z.token ∷ tokens ws) (g.second_sort ∷ r.others)) (sym g.has.kid)
-            (reads_more z.token (may_fits z.token g.sort may) (fixed_reads kid z s p at' (g.second_sort ∷ r.others))))));
+            (reads_more z.token may (fixed_reads kid z s p at' (g.second_sort ∷ r.others))))));
         typed = r.typed;
       }
 
@@ -142,7 +135,7 @@ module _ (A : Automaton) (f : FoundView) (found : IsFound A f) where
       IsStatement (tokens (before ++ (leaf x.token own ∷ (ws ++ behind))))
   whole x before behind ws own r kid =
       subst (AreTyped (sort.Stmt ∷ [])) (sym (tokens-append before (leaf x.token own ∷ (ws ++ behind))))
-      (typed_of r.reads (begins x.token (may_fits x.token r.wanted r.may)
+      (typed_of r.reads (begins x.token r.may
       (subst (AreTyped (kids x.token ++ r.others)) (sym (tokens-append ws behind)) (typed_of (kid r.others) r.typed))))
 
   pub blocking_typed : {w : List Leaf} → BlockingSample A f w → IsStatement (tokens w)

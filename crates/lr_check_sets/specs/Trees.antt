@@ -1,16 +1,13 @@
 -- Typed trees whose nodes carry answers, and their tokens in prefix order.
-use Rattle.std.specs.Prelude.{◌≡◌, List, [], ◌∷◌, Option, Some, None, Bool, true, false}
+use Rattle.std.specs.Prelude.{◌≡◌, List, [], ◌∷◌, Bool, true}
 use Rattle.tree_core.specs.declared.token.Tok.{Tok}
 use Rattle.tree_core.specs.declared.token.Sort.{Sort}
-use Rattle.tree_core.specs.Grammar.{kids, sort_of, fits}
-
-abbrev pub fits_in : Option Sort → Sort → Bool
-fits_in None x = false
-fits_in (Some y) x = fits y x
+use Rattle.tree_core.specs.Grammar.{kids, sort_of}
+use Rattle.tree_core.specs.Trees.{sort_fits}
 
 -- a tree that begins with the token may stand where the sort is wanted
 abbrev pub may : Tok → Sort → Bool
-may k x = fits_in (sort_of k) x
+may k x = sort_fits (sort_of k) x
 
 abbrev pub May : Tok → Sort → Type 0
 May k x = may k x ≡ true

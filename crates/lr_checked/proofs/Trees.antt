@@ -1,13 +1,11 @@
 -- Tokens of a typed statement, with answers, are those of a tree.
-use Rattle.std.proofs.Common.{◌≡◌, List, [], ◌∷◌, ◌++◌, Option, Some, None, map, true, refl, sym, ap, ◌∙◌}
-use Rattle.std.specs.Prelude.{IsTrue}
+use Rattle.std.proofs.Common.{◌≡◌, List, [], ◌∷◌, ◌++◌, map, refl, sym, ap, ◌∙◌}
 use Rattle.gg_base.proofs.Facts.{nil_cons, head_same, tail_same}
 use Rattle.tree_core.specs.declared.token.Tok.{Tok}
 use Rattle.tree_core.specs.declared.token.Sort.{Sort}
 use Rattle.tree_core.specs.declared.token.Sort.TheVariants as sort
-use Rattle.tree_core.specs.Grammar.{kids, sort_of}
-use Rattle.tree_core.specs.Trees.{sort_fits}
-use Rattle.lr_check_sets.specs.Trees.{Tree, Trees, node, no_trees, more_trees, May, fits_in}
+use Rattle.tree_core.specs.Grammar.{kids}
+use Rattle.lr_check_sets.specs.Trees.{Tree, Trees, node, no_trees, more_trees, May}
 use Rattle.lr_check_sets.specs.Answers.{Leaf, leaves, leaves_all}
 use Rattle.lr_check.specs.Tree.{Token}
 use Rattle.lr_check_law.specs.Accepting.{tokens_of}
@@ -17,10 +15,6 @@ use Rattle.lr_checked.specs.Accepted.{tokens}
 -- a tree's leaves as tokens
 abbrev as_tokens : List Leaf → List Token
 as_tokens w = map (λ (l : Leaf). record { tok = l.tok; answers = l.answers }) w
-
-fit_may : (o : Option Sort) (x : Sort) → IsTrue (sort_fits o x) → fits_in o x ≡ true
-fit_may None x h = h
-fit_may (Some y) x h = h
 
 -- trees of the first sorts, and those of the others behind them
 record Parted (xs ys : List Sort) (vs : Trees (xs ++ ys)) (w : List Leaf) : Type 0 where
@@ -55,7 +49,7 @@ grown ends [] e = record { trees = no_trees; same = refl }
 grown ends (f ∷ w) e = absurd (nil_cons f.tok (tokens w) (sym e))
 grown (begins {w = u} t fit more) [] e = absurd (nil_cons t u e)
 grown (begins {x = x} {xs = xs} {w = u} t fit more) (f ∷ w) e =
-    grown_more x xs t f w (head_same f.tok t (tokens w) u e) (fit_may (sort_of t) x fit) (grown more w (tail_same f.tok t (tokens w) u e))
+    grown_more x xs t f w (head_same f.tok t (tokens w) u e) fit (grown more w (tail_same f.tok t (tokens w) u e))
 
 -- the tree of a statement
 pub statement_tree : (w : List Token) → IsStatement (tokens w) → (v : Tree sort.Stmt) × (tokens_of v ≡ w)

@@ -1,19 +1,13 @@
 -- The tokens of a sample that is a well-typed statement are those of one.
-use Rattle.std.proofs.Common.{◌≡◌, ℕ, suc, List, [], ◌∷◌, ◌++◌, Option, Some, None, true, length, slice_get, refl, subst, arith}
-use Rattle.std.specs.Prelude.{IsTrue}
+use Rattle.std.proofs.Common.{◌≡◌, ℕ, suc, List, [], ◌∷◌, ◌++◌, Option, Some, true, length, slice_get, refl, subst, arith}
 use Rattle.tree_core.specs.declared.token.Sort.{Sort}
 use Rattle.tree_core.specs.declared.token.Sort.TheVariants as sort
-use Rattle.tree_core.specs.Grammar.{kids, sort_of}
-use Rattle.tree_core.specs.Trees.{sort_fits}
+use Rattle.tree_core.specs.Grammar.{kids}
 use Rattle.lr_check.specs.Tree.{Node, Token, Unfolds, ends, goes_on, IsTree}
-use Rattle.lr_check.specs.Statement.{sort_fits as fits_sort, fits_at, KidsFit, AreTyped, IsStatement}
+use Rattle.lr_check.specs.Statement.{fits_at, KidsFit, AreTyped, IsStatement}
 use Rattle.lr_check_parse.specs.Typed.{AreTyped as AreTrees, begins}
 use Rattle.lr_check_parse.specs.Typed as typed
 use Rattle.lr_checked.specs.Accepted.{tokens}
-
-may : (o : Option Sort) (x : Sort) → fits_sort o x ≡ true → IsTrue (sort_fits o x)
-may None x h = h
-may (Some y) x h = h
 
 module _ (nodes : List Node) where
   -- each numbered node may stand where its sort is wanted
@@ -45,7 +39,7 @@ module _ (nodes : List Node) where
   unfolded t (goes_on v at rest) [] f = absurd f
   unfolded t (goes_on {n = n} {rest = more} v at rest) (x ∷ xs) f =
       let k : KidsFit nodes v.kids (kids v.tok) = t.each n v at in
-      begins v.tok (may (sort_of v.tok) x (subst (λ (o : Option Node). fits_at o x ≡ true) at f.0))
+      begins v.tok (subst (λ (o : Option Node). fits_at o x ≡ true) at f.0)
       (unfolded t rest (kids v.tok ++ xs) (appended v.kids more (kids v.tok) xs (kids_fit v.kids (kids v.tok) k.many k.each) f.1))
 
 pub typed_tokens : (nodes : List Node) (w : List Token) → IsStatement nodes → IsTree nodes w → typed.IsStatement (tokens w)

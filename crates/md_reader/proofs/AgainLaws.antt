@@ -19,6 +19,7 @@ use Rattle.tree_core.specs.declared.token.Tok.TheVariants as tok
 use Rattle.tree_core.specs.declared.token.Sort.{Sort}
 use Rattle.tree_core.specs.Grammar.{sort_of}
 use Rattle.tree_core.specs.Names.{name_of}
+use Rattle.tree_core.specs.Trees.{sort_fits}
 use Rattle.md_reader.specs.declared.types.Kind.{Kind}
 use Rattle.md_reader.specs.declared.types.Kind.TheVariants as kind
 use Rattle.md_reader.specs.declared.types.Class.{Class}
@@ -35,7 +36,7 @@ use Rattle.md_reader.specs.declared.forms.Saved.TheVariants as saved
 use Rattle.md_reader.specs.declared.reading.Stage.{Stage}
 use Rattle.md_reader.specs.declared.reading.Stage.TheVariants as stage
 use Rattle.md_reader.specs.declared.symbols.TheConstants.{TOKENS}
-use Rattle.md_reader.specs.Patterns.{kids_of, sort_of_kind, sort_of_symbol, sort_fits, sorted_test, walk, count}
+use Rattle.md_reader.specs.Patterns.{kids_of, sort_of_kind, sort_of_symbol, sorted_test, walk, count}
 use Rattle.md_reader.specs.Symbols.{token_among, token_of, class_from, class_of, symbol_of, symbols_of}
 use Rattle.md_reader.specs.Forms.{is_skipped, is_lower, is_name, kind_form, class_form, spill_form, saved_number}
 use Rattle.md_reader.specs.RuleForms.{rule_form, give_form, plain_give, has_register, gives_register, is_passed}

@@ -13,9 +13,10 @@ use Rattle.tree_core.specs.declared.token.Tok.{Tok}
 use Rattle.tree_core.specs.declared.token.Tok.TheVariants as tok
 use Rattle.tree_core.specs.Grammar.{kids}
 use Rattle.tree_core.proofs.Walking.{both_true}
+use Rattle.tree_core.specs.Trees.{sort_fits}
 use Rattle.md_reader.specs.declared.types.Sym.{Sym}
 use Rattle.md_reader.specs.declared.types.Sym.TheVariants as grammar_symbol
-use Rattle.md_reader.specs.Patterns.{kids_of, sort_of_symbol, sort_fits, Trees, no_tree, node, onto, any_test, sorted_test, IsTree, IsSorted, walk, count}
+use Rattle.md_reader.specs.Patterns.{kids_of, sort_of_symbol, Trees, no_tree, node, onto, any_test, sorted_test, IsTree, IsSorted, walk, count}
 
 -- trees for two lists of places, from those for the lists together
 pub record Cut (ok : Sym → Sort → Bool) (fs bs : List Sort) (w : List Sym) : Type 0 where

@@ -1,11 +1,12 @@
 -- Tree patterns in prefix order, and the sorts of their parts.
-use Rattle.std.specs.Prelude.{◌≡◌, ℕ, zero, suc, ◌+◌, List, [], ◌∷◌, ◌++◌, Option, Some, None, Bool, true, false}
+use Rattle.std.specs.Prelude.{◌≡◌, ℕ, zero, suc, ◌+◌, List, [], ◌∷◌, ◌++◌, Option, Bool, true, false}
 use Rattle.std.specs.Prelude.{length, slice_get, if◌then◌else◌}
 use Rattle.std.specs.Option.{option_map}
 use Rattle.gg_base.specs.declared.size.Size.TheVariants as sizes
 use Rattle.tree_core.specs.declared.token.Sort.{Sort}
 use Rattle.tree_core.specs.declared.token.Sort.TheVariants as sort
-use Rattle.tree_core.specs.Grammar.{kids, sort_of, fits}
+use Rattle.tree_core.specs.Grammar.{kids, sort_of}
+use Rattle.tree_core.specs.Trees.{sort_fits}
 use Rattle.md_reader.specs.declared.types.Kind.{Kind}
 use Rattle.md_reader.specs.declared.types.Kind.TheVariants as kind
 use Rattle.md_reader.specs.declared.types.Class.{Class}
@@ -37,10 +38,6 @@ kids_of (grammar_symbol.Class c) = []
 abbrev pub sort_of_symbol : List Class → Sym → Option Sort
 sort_of_symbol classes (grammar_symbol.Tok t) = sort_of t
 sort_of_symbol classes (grammar_symbol.Class c) = option_map sort_of_kind (kind_at classes c)
-
-abbrev pub sort_fits : Option Sort → Sort → Bool
-sort_fits None x = false
-sort_fits (Some s) x = fits s x
 
 -- trees for these places, each of whose symbols passes the test where it stands
 pub data Trees (ok : Sym → Sort → Bool) : List Sort → Type 0 where

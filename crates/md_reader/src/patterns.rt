@@ -1,7 +1,8 @@
 // Tree patterns: which right sides are one tree in prefix order, with parts of the sorts wanted.
 ghost use Rattle.std.specs.Prelude.{◌≡◌, ◌≤◌, ◌++◌, [], ◌∷◌, length, reverse, IfOk, OnOk};
-ghost use Rattle.md_reader.specs.Patterns.{sort_of_kind, kind_at, kids_of, sort_of_symbol, sort_fits, sorted_test, walk, count};
+ghost use Rattle.md_reader.specs.Patterns.{sort_of_kind, kind_at, kids_of, sort_of_symbol, sorted_test, walk, count};
 ghost use Rattle.tree_core.specs.declared.token.Sort.TheVariants as sort;
+ghost use Rattle.tree_core.specs.Trees.{sort_fits};
 
 use crate::types::{Class, Kind, Sym};
 use gg_base::{NoMemory, Size};

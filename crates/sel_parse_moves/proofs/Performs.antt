@@ -11,8 +11,7 @@ use Rattle.tree_core.specs.declared.tree.Leaf.{Leaf}
 use Rattle.tree_core.specs.declared.program.Object.{Object}
 use Rattle.tree_core.specs.Attributes.{leaf_fits}
 use Rattle.tree_core.specs.Grammar.{kids, sort_of, fits}
-use Rattle.tree_core.specs.Trees.{Forest, none, tree, leaves_onto}
-use Rattle.tree_core.specs.Trees as trees
+use Rattle.tree_core.specs.Trees.{Forest, none, tree, leaves_onto, sort_fits}
 use Rattle.tree_meaning.specs.declared.value.Meaning.{Meaning}
 use Rattle.tree_meaning.specs.Values.{Sight, meanings}
 use Rattle.md_reader.specs.declared.types.Kind.{Kind}
@@ -21,7 +20,7 @@ use Rattle.md_reader.specs.declared.types.Class.{Class}
 use Rattle.md_reader.specs.declared.types.Rule.{Rule}
 use Rattle.md_reader.specs.declared.types.Sym.{Sym}
 use Rattle.md_reader.specs.declared.types.Sym.TheVariants as grammar_symbol
-use Rattle.md_reader.specs.Patterns.{sort_of_kind, sort_fits, kind_at, kids_of, Trees, no_tree, node, onto, sorted_test}
+use Rattle.md_reader.specs.Patterns.{sort_of_kind, kind_at, kids_of, Trees, no_tree, node, onto, sorted_test}
 use Rattle.md_reader.specs.Rows.{is_bare}
 use Rattle.md_reader.specs.Restrictions.{is_nothing}
 use Rattle.md_reader.specs.Valid.{IsRule}
@@ -47,7 +46,6 @@ use Rattle.tree_meaning_tame.proofs.Strict.{NoStmt, kids_no_stmt}
 use Rattle.sel_terms_trees.proofs.Patterns.{numbered, pattern_law}
 use Rattle.sel_terms_trees.proofs.Rules.{effect_by, zero_there, sort_tame, sort_undivided, Comes, Fails, IsZeroAt, decided}
 use Rattle.sel_terms_trees.proofs.Statements.{ActIs, act_law}
-use Rattle.sel_terms_trees.proofs.Law.{same_fits}
 
 piled_both : {Y : Type 0} (us vs b : List Y) → piled (us ++ vs) b ≡ piled vs (piled us b)
 piled_both [] vs b = refl
@@ -324,7 +322,7 @@ module _ {X A : Type 0} (of : Selecting X A) (classes : List Class) (rules : Lis
   lost_so Strays y t f = absurd (f (λ e. cc))
 
   statement_done : (n : ℕ) (r : Rule) (l : Leaf) (below : Trees (sorted_test classes) (kids_of (grammar_symbol.Tok l.tok))) (fit : leaf_fits l ≡ true) (f : Forest) (y : X) →
-      slice_get rules n ≡ Some r → kind_at classes r.left ≡ Some kind.Nothing → trees.sort_fits (sort_of l.tok) sort.Stmt ≡ true → grammar_symbol.Tok l.tok ∷ onto below [] ≡ r.right
+      slice_get rules n ≡ Some r → kind_at classes r.left ≡ Some kind.Nothing → sort_fits (sort_of l.tok) sort.Stmt ≡ true → grammar_symbol.Tok l.tok ∷ onto below [] ≡ r.right
       → Tame objects s (kids l.tok) f →
       IsPossible s.area (deed_here l f) → ((deed_here l f ≡ Traps → ⊥) → Undivided objects s (kids l.tok) f) →
       Performed (kids l.tok) below f (grammar_symbol.Tok l.tok ∷ []) (OfLeaf l ∷ []) (Reduce n ∷ []) y → Ran I y (deed_here l f)
@@ -363,7 +361,7 @@ module _ {X A : Type 0} (of : Selecting X A) (classes : List Class) (rules : Lis
       → ((deed_here l f ≡ Traps → ⊥) → Undivided objects s (kids l.tok) f) → Ran I y (deed_here l f)
   filled_statement n r there valid none_kind same spelled (cover.token {f = f} {ms = ms} l passes below no_tree fit p cover.nothing) tame names x y made stands possible undivided =
       statement_done n r l below fit f y there none_kind
-      (same_fits (sort_of l.tok) sort.Stmt (subst (λ (t : Sort). sort_fits (sort_of l.tok) t ≡ true) same passes)) spelled tame possible undivided
+      (subst (λ (t : Sort). sort_fits (sort_of l.tok) t ≡ true) same passes) spelled tame possible undivided
       (perform p tame names.1 (kids_no_stmt l.tok) (of.shifted l x) y (grammar_symbol.Tok l.tok ∷ []) (OfLeaf l ∷ []) (Reduce n ∷ [])
       (subst (λ (t : List (Move Leaf)). Makes (of.shifted l x) t y) (append_assoc ms [] (Reduce n ∷ [])) (after_shift made)) (I.shifts x l [] [] fit names.0 stands))
   filled_statement n r there valid none_kind same spelled (cover.class c passes no_tree no_tree p cover.nothing) tame names x y made stands possible undivided =

@@ -3,7 +3,6 @@ use Rattle.std.proofs.Common.{◌≡◌, ℕ, suc, ◌+◌, List, [], ◌∷◌,
 use Rattle.std.specs.Prelude.{◌&&◌, ◌||◌, codes}
 use Rattle.std.specs.List.{list_any}
 use Rattle.std.proofs.lemmas.Bool.{and_from, and_parts}
-use Rattle.sel_terms_trees.proofs.Law.{same_fits}
 use Rattle.md_reader_text.specs.Words.{same}
 use Rattle.tree_core.specs.declared.token.Tok.{Tok}
 use Rattle.tree_core.specs.declared.token.Tok.TheVariants as tok
@@ -12,14 +11,13 @@ use Rattle.tree_core.specs.declared.token.Sort.TheVariants as sort
 use Rattle.tree_core.specs.declared.tree.Leaf.{Leaf}
 use Rattle.tree_core.specs.Grammar.{kids, sort_of, fits}
 use Rattle.tree_core.specs.Attributes.{leaf_fits}
-use Rattle.tree_core.specs.Trees.{Forest, none, tree, leaves_onto, Typed, stands_for}
-use Rattle.tree_core.specs.Trees as trees
+use Rattle.tree_core.specs.Trees.{Forest, none, tree, leaves_onto, Typed, stands_for, sort_fits}
 use Rattle.md_reader.specs.declared.types.Kind.{Kind}
 use Rattle.md_reader.specs.declared.types.Kind.TheVariants as kind
 use Rattle.md_reader.specs.declared.types.Class.{Class}
 use Rattle.md_reader.specs.declared.types.Rule.{Rule}
 use Rattle.md_reader.specs.declared.types.Sym.TheVariants as grammar_symbol
-use Rattle.md_reader.specs.Patterns.{sort_fits, sort_of_symbol, kind_at, sorted_test}
+use Rattle.md_reader.specs.Patterns.{sort_of_symbol, kind_at, sorted_test}
 use Rattle.md_reader.specs.Restrictions.{is_nothing}
 use Rattle.md_reader.specs.HeadSteps.{is_stmt, has_stmt}
 use Rattle.md_reader.specs.Valid.{Away, Apart}
@@ -107,12 +105,12 @@ fits_on z sort.PlaceL sort.PlaceB e f = absurd (cc)
 fits_on z sort.PlaceL sort.PlaceW e f = absurd (cc)
 fits_on z sort.PlaceL sort.PlaceL e f = e
 
-some_fits : (o : Option Sort) (y x : Sort) → trees.sort_fits o y ≡ true → fits y x ≡ true → trees.sort_fits o x ≡ true
+some_fits : (o : Option Sort) (y x : Sort) → sort_fits o y ≡ true → fits y x ≡ true → sort_fits o x ≡ true
 some_fits None y x e f = absurd (cc)
 some_fits (Some z) y x e f = fits_on z y x e f
 
 stands_on : (l : Leaf) (y x : Sort) → stands_for l y ≡ true → fits y x ≡ true → stands_for l x ≡ true
-stands_on l y x e f = let h = and_parts (trees.sort_fits (sort_of l.tok) y) (leaf_fits l) e in and_from (trees.sort_fits (sort_of l.tok) x) (leaf_fits l) (some_fits (sort_of l.tok) y x h.0 f) h.1
+stands_on l y x e f = let h = and_parts (sort_fits (sort_of l.tok) y) (leaf_fits l) e in and_from (sort_fits (sort_of l.tok) x) (leaf_fits l) (some_fits (sort_of l.tok) y x h.0 f) h.1
 
 class_fits : (o : Option Sort) (y x : Sort) → o ≡ Some y → sort_fits o x ≡ true → fits y x ≡ true
 class_fits o y x e f = subst (λ (t : Option Sort). sort_fits t x ≡ true) e f
@@ -133,7 +131,7 @@ module _ (classes : List Class) (rules : List Rule) where
         → Typed xs f
     fills_typed cover.nothing = tt
     fills_typed (cover.token {x = x} l passes below beside fit p q) =
-        (and_from (trees.sort_fits (sort_of l.tok) x) (leaf_fits l) (same_fits (sort_of l.tok) x passes) fit, fills_typed p, fills_typed q)
+        (and_from (sort_fits (sort_of l.tok) x) (leaf_fits l) passes fit, fills_typed p, fills_typed q)
     fills_typed (cover.class {x = x} {l = l} c passes below beside p q) =
         (let h = covers_typed p in (stands_on l h.sort x h.stands (class_fits (sort_of_symbol classes (grammar_symbol.Class c)) h.sort x h.of_class passes), h.below, fills_typed q))
 
@@ -144,11 +142,11 @@ typed_leaves [] none w h k = k
 typed_leaves [] (tree l below behind) w h k = absurd h
 typed_leaves (x ∷ xs) none w h k = absurd h
 typed_leaves (x ∷ xs) (tree l below behind) w h k =
-    let s = and_parts (trees.sort_fits (sort_of l.tok) x) (leaf_fits l) h.0 in
+    let s = and_parts (sort_fits (sort_of l.tok) x) (leaf_fits l) h.0 in
     (s.1, no_end l.tok x s.0, typed_leaves (kids l.tok) below (leaves_onto behind w) h.1 (typed_leaves xs behind w h.2 k))
   where
-    no_end : (t : Tok) (x : Sort) → trees.sort_fits (sort_of t) x ≡ true → t ≡ tok.End → ⊥
-    no_end t x e f = (let h = subst (λ (u : Tok). trees.sort_fits (sort_of u) x ≡ true) f e in cc)
+    no_end : (t : Tok) (x : Sort) → sort_fits (sort_of t) x ≡ true → t ≡ tok.End → ⊥
+    no_end t x e f = (let h = subst (λ (u : Tok). sort_fits (sort_of u) x ≡ true) f e in cc)
 
 -- no class of another name is named so
 named_away : (cs : List Class) (w : List ℕ) → Away w cs → list_any is_stmt cs ≡ true → w ≡ codes "stmt" → ⊥

@@ -15,6 +15,7 @@ use Rattle.tree_core.specs.declared.tree.Att.{Att}
 use Rattle.tree_core.specs.declared.program.TreeProgram.{TreeProgram}
 use Rattle.tree_core.specs.Attributes.{attribute_of, is_of_kind}
 use Rattle.tree_core.specs.Grammar.{fits}
+use Rattle.tree_core.specs.Trees.{sort_fits}
 use Rattle.tree_meaning_tame.proofs.Strict.{NoStmt, kids_no_stmt}
 use Rattle.md_reader_pieces.specs.declared.piece.Line.{Line}
 use Rattle.md_reader.specs.declared.types.Kind.{Kind}
@@ -25,7 +26,7 @@ use Rattle.md_reader.specs.declared.types.Give.TheVariants as give
 use Rattle.md_reader.specs.declared.types.Rule.{Rule}
 use Rattle.md_reader.specs.declared.types.Sym.{Sym}
 use Rattle.md_reader.specs.declared.types.Sym.TheVariants as grammar_symbol
-use Rattle.md_reader.specs.Patterns.{kind_at, sort_of_kind, sort_fits, kids_of, Trees, no_tree, node, onto, sorted_test}
+use Rattle.md_reader.specs.Patterns.{kind_at, sort_of_kind, kids_of, Trees, no_tree, node, onto, sorted_test}
 use Rattle.md_reader.specs.Rows.{shape_fits}
 use Rattle.md_reader.specs.State.{Content}
 use Rattle.md_reader.specs.Valid.{IsRule, MayGive}

@@ -3,13 +3,11 @@ use Rattle.std.proofs.Common.{◌≡◌, ◌⊎◌, inl, inr, ◌+◌, List, [],
 use mathlib.Core.List.{append-nil}
 use Rattle.std.specs.Option.{option_map}
 use Rattle.gg_base.specs.declared.size.Size.TheVariants as sizes
-use Rattle.tree_core.specs.declared.token.Sort.{Sort}
 use Rattle.tree_core.specs.declared.token.Sort.TheVariants as sort
 use Rattle.tree_core.specs.declared.tree.Leaf.{Leaf}
 use Rattle.tree_core.specs.declared.program.Object.{Object}
-use Rattle.tree_core.specs.Grammar.{kids, sort_of}
-use Rattle.tree_core.specs.Trees.{Forest, none, tree}
-use Rattle.tree_core.specs.Trees as trees
+use Rattle.tree_core.specs.Grammar.{kids}
+use Rattle.tree_core.specs.Trees.{Forest, none, tree, sort_fits}
 use Rattle.tree_meaning.specs.Values.{Sight, meanings}
 use Rattle.tree_meaning.specs.Deeds.{Deed, Puts, Branches, Pushes, Returns, Calls, Saves, Jumps, Traps, Strays}
 use Rattle.tree_meaning_tame.specs.Tame.{Tame, tree_means}
@@ -20,7 +18,7 @@ use Rattle.md_reader.specs.declared.types.Class.{Class}
 use Rattle.md_reader.specs.declared.types.Rule.{Rule}
 use Rattle.md_reader.specs.declared.types.Sym.{Sym}
 use Rattle.md_reader.specs.declared.types.Sym.TheVariants as grammar_symbol
-use Rattle.md_reader.specs.Patterns.{sort_of_kind, sort_fits, kind_at, Trees, no_tree, onto, sorted_test}
+use Rattle.md_reader.specs.Patterns.{sort_of_kind, kind_at, Trees, no_tree, onto, sorted_test}
 use Rattle.term_core.specs.Value.{State}
 use Rattle.sel_terms.specs.Effects.{EffectShape}
 use Rattle.sel_terms.specs.Parts.{SubtreeShape}
@@ -69,10 +67,6 @@ no_statement objects s (Some (kind.Place sizes.Byte)) l f v e h = cc
 no_statement objects s (Some (kind.Place sizes.Word)) l f v e h = cc
 no_statement objects s (Some (kind.Place sizes.Long)) l f v e h = cc
 
-pub same_fits : (o : Option Sort) (x : Sort) → sort_fits o x ≡ true → trees.sort_fits o x ≡ true
-same_fits None x e = cc
-same_fits (Some y) x e = e
-
 acts_by : (objects : List Object) (s : Sight) (us : List Sense) (m : State) (p : SubtreeShape) (d : Deed)
     → ActIs objects s us m p d → ActsBy objects s us (effect_by (Some kind.Nothing) p) d m
 acts_by objects s us m p (Puts g n) h = h
@@ -105,7 +99,7 @@ module _ (classes : List Class) (r : Rule) (objects : List Object) (s : Sight) (
           let n = numbered (OfLeaf l ∷ (vs ++ [])) in
           let e = pattern_law objects s (OfLeaf l ∷ (vs ++ [])) m st classes p 2 [] (counted (vs ++ []) (append-nil vs) n.1) tame in
           act_law objects s (OfLeaf l ∷ (vs ++ [])) m l.tok l.att (stack_from classes 2 (onto below [])) (stack_from classes (2 + length vs) [])
-          (meanings objects s f) (same_fits (sort_of l.tok) sort.Stmt passes) fits n.0 e
+          (meanings objects s f) passes fits n.0 e
   statement_means spelled (sense.class {f = f} {l = l} c v passes no_tree no_tree h sense.nothing) tame st =
       absurd (no_statement objects s (kind_at classes c) l f v passes h)
 

@@ -8,8 +8,7 @@ use Rattle.tree_core.specs.declared.token.Sort.{Sort}
 use Rattle.tree_core.specs.declared.token.Sort.TheVariants as sort
 use Rattle.tree_core.specs.declared.program.Object.{Object}
 use Rattle.tree_core.specs.Grammar.{kids, sort_of, fits}
-use Rattle.tree_core.specs.Trees.{Forest, none, tree}
-use Rattle.tree_core.specs.Trees as trees
+use Rattle.tree_core.specs.Trees.{Forest, none, tree, sort_fits}
 use Rattle.tree_meaning.specs.declared.value.Meaning.{Meaning}
 use Rattle.tree_meaning.specs.declared.value.Meaning.TheVariants.{Of, Local, Argument, Memory}
 use Rattle.tree_meaning.specs.Values.{Sight, read, meanings}
@@ -18,7 +17,7 @@ use Rattle.md_reader.specs.declared.types.Kind.TheVariants as kind
 use Rattle.md_reader.specs.declared.types.Class.{Class}
 use Rattle.md_reader.specs.declared.types.Sym.{Sym}
 use Rattle.md_reader.specs.declared.types.Sym.TheVariants as grammar_symbol
-use Rattle.md_reader.specs.Patterns.{sort_of_kind, sort_fits, kind_at, Trees, no_tree, onto, sorted_test}
+use Rattle.md_reader.specs.Patterns.{sort_of_kind, kind_at, Trees, no_tree, onto, sorted_test}
 use Rattle.term_core.specs.Shape.{Symbol}
 use Rattle.term_core.specs.Value.{State}
 use Rattle.sel_terms.specs.Parts.{SubtreeShape, Worth, Home, role_of_kind, leaf_part}
@@ -108,10 +107,6 @@ module _ (objects : List Object) (s : Sight) (all : List Sense) (m : State) (sta
       by None f e = absurd (cc)
       by (Some y) f e = fitting objects s all m stands y x (record { part = leaf_part i (role_of_kind k); divisors = [] }) g e (own_class k i g v h is y f) tame
 
-  same_fits : (o : Option Sort) (x : Sort) → sort_fits o x ≡ true → trees.sort_fits o x ≡ true
-  same_fits None x e = cc
-  same_fits (Some y) x e = e
-
   pub pattern_law : (classes : List Class) {xs : List Sort} {pattern : Trees (sorted_test classes) xs} {f : Forest} {us : List Sense} → Sensed objects s classes xs pattern f us →
       (i : ℕ) (w : List Sym) → Numbered all i us → Tame objects s xs f →
       Each objects s all m xs (stack_from classes i (onto pattern w)) (meanings objects s f) 0 (stack_from classes (i + length us) w)
@@ -138,8 +133,8 @@ module _ (objects : List Object) (s : Sight) (all : List Sense) (m : State) (sta
       joined high low =
           let own = token_law objects s all m stands l.tok l.att i (stack_from classes (i + 1) (onto below (onto beside w))) (stack_from classes (i + 1 + length us) (onto beside w))
           (meanings objects s f) fits n.0 high
-          (tame_own objects s all m stands (sort_of l.tok) x (tree_means objects s l f) (same_fits (sort_of l.tok) x passes) tame.0) in (
-            fitting_own objects s all m stands (sort_of l.tok) x _ (tree_means objects s l f) (same_fits (sort_of l.tok) x passes) own.0 tame.0,
+          (tame_own objects s all m stands (sort_of l.tok) x (tree_means objects s l f) passes tame.0) in (
+            fitting_own objects s all m stands (sort_of l.tok) x _ (tree_means objects s l f) passes own.0 tame.0,
             each_on objects s all m xs _ (tree_means objects s l f) (meanings objects s g) 0 _
                 (subst (λ (t : List SubtreeShape). Each objects s all m xs t (meanings objects s g) 0 (stack_from classes (i + length (OfLeaf l ∷ (us ++ vs))) w)) (sym own.1)
                 (subst (λ (k : ℕ). Each objects s all m xs (stack_from classes (i + 1 + length us) (onto beside w)) (meanings objects s g) 0 (stack_from classes k w)) last low)),

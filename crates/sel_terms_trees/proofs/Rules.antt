@@ -13,7 +13,7 @@ use Rattle.tree_core.specs.declared.tree.Leaf.{Leaf}
 use Rattle.tree_core.specs.declared.program.Object.{Object}
 use Rattle.tree_core.specs.Attributes.{attribute_of, is_of_kind}
 use Rattle.tree_core.specs.Grammar.{kids, sort_of, fits}
-use Rattle.tree_core.specs.Trees.{Forest, none, tree}
+use Rattle.tree_core.specs.Trees.{Forest, none, tree, sort_fits}
 use Rattle.tree_meaning.specs.declared.value.Value.{Value}
 use Rattle.tree_meaning.specs.declared.value.Value.TheVariants.{Number, ZeroDivisor, Wild}
 use Rattle.tree_meaning.specs.declared.value.Meaning.{Meaning}
@@ -23,7 +23,7 @@ use Rattle.md_reader.specs.declared.types.Kind.{Kind}
 use Rattle.md_reader.specs.declared.types.Kind.TheVariants as kind
 use Rattle.md_reader.specs.declared.types.Class.{Class}
 use Rattle.md_reader.specs.declared.types.Sym.{Sym}
-use Rattle.md_reader.specs.Patterns.{sort_of_kind, sort_fits, kind_at, Trees, onto, sorted_test}
+use Rattle.md_reader.specs.Patterns.{sort_of_kind, kind_at, Trees, onto, sorted_test}
 use Rattle.term_core.specs.Shape.{Shape}
 use Rattle.term_core.specs.Value.{State}
 use Rattle.sel_terms.specs.Effects.{EffectShape}

@@ -12,10 +12,11 @@ use Rattle.tree_core.specs.declared.tree.Att.TheVariants as att
 use Rattle.tree_core.specs.declared.tree.Leaf.{Leaf}
 use Rattle.tree_core.specs.Grammar.{kids, sort_of, fits}
 use Rattle.tree_core.specs.Attributes.{attribute_of, is_of_kind}
+use Rattle.tree_core.specs.Trees.{sort_fits}
 use Rattle.md_reader.specs.declared.types.Class.{Class}
 use Rattle.md_reader.specs.declared.types.Sym.{Sym}
 use Rattle.md_reader.specs.declared.types.Sym.TheVariants as grammar_symbol
-use Rattle.md_reader.specs.Patterns.{kind_at, kids_of, sort_fits, Trees, no_tree, node, onto, sorted_test, IsSorted}
+use Rattle.md_reader.specs.Patterns.{kind_at, kids_of, Trees, no_tree, node, onto, sorted_test, IsSorted}
 use Rattle.md_reader.specs.Restrictions.{is_branch}
 use Rattle.sel_target.specs.declared.attr.Attr.{Attr}
 use Rattle.sel_target.specs.declared.attr.Attr.TheVariants as attr
