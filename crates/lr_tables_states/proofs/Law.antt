@@ -27,7 +27,8 @@ use Rattle.lr_tables.proofs.Order.{kernel_in, kernel_sorted, set_kernel, sorted_
 use Rattle.lr_tables.proofs.Found.{Apart, position_there, head_in, in_some, found_reached, found_apart, found_complete, symbol_within}
 use Rattle.lr_tables.proofs.Loops.{target_some}
 use Rattle.lr_tables.proofs.Law.{leads_kernel}
-use Rattle.lr_tables_states.specs.States.{SameItems, HasStack, StatesAreItemSets}
+use Rattle.lr_tables.specs.Over.{SameItems}
+use Rattle.lr_tables_states.specs.States.{HasStack, StatesAreItemSets}
 
 -- what stands twice nowhere stands at one place
 one_place : (ks : List (List Item)) → Apart ks → (q p : ℕ) (k : List Item) → slice_get ks q ≡ Some k → slice_get ks p ≡ Some k → q ≡ p

@@ -1,6 +1,5 @@
 -- The states of a description's tables are its item sets.
 use Rattle.std.specs.Prelude.{◌≡◌, ◌↔◌, ℕ, ◌<◌, List, length}
-use Rattle.md_reader.specs.declared.types.Rule.{Rule}
 use Rattle.md_reader.specs.declared.types.Sym.{Sym}
 use Rattle.md_reader.specs.Valid.{IsValid}
 use Rattle.lr_tables.specs.declared.item.Item.{Item}
@@ -9,10 +8,7 @@ use Rattle.lr_tables.specs.Statements.{stmt_of}
 use Rattle.lr_tables.specs.View.{TableView}
 use Rattle.lr_tables.specs.Leads.{Leads}
 use Rattle.lr_tables.specs.Promises.{IsNumbered}
-
--- two stacks have the same valid items
-abbrev pub SameItems : List Rule → ℕ → List Sym → List Sym → Type 0
-SameItems rules stmt a b = (i : Item) → Items rules stmt a i ↔ Items rules stmt b i
+use Rattle.lr_tables.specs.Over.{SameItems}
 
 -- a stack that leads to the state, and an item that is valid for it
 pub record HasStack (t : TableView) (q : ℕ) : Type 0 where
