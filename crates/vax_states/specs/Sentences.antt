@@ -15,8 +15,9 @@ use Rattle.vax_machine.specs.Operands.{located}
 use Rattle.vax_machine.specs.Calls.{pushed}
 use Rattle.tree_core.specs.declared.program.Object.{Object}
 use Rattle.tree_core.specs.Area.{fetched, stored}
-use Rattle.tree_meaning.specs.State.{Activation, with_local}
+use Rattle.tree_meaning.specs.State.{Activation}
 use Rattle.tree_meaning.specs.State.{State as Trees}
+use Rattle.tree_meaning.specs.Steps.{with_local_set}
 use Rattle.vax_states.specs.Stack.{long_at, Extent, word_of, argument_of, Holds}
 use Rattle.vax_states.specs.Agreeing.{Agrees, HasRoom}
 
@@ -105,9 +106,6 @@ pub record Leaves (objects : List Object) (e : Extent) (es : List Extent) (t : T
 abbrev pub FreeWordsAreFree : Type 0
 FreeWordsAreFree = Always (λ objects e es t m h. (k v : ℕ) → e.locals ≤ k → k < e.words
     → Leaves objects e es t (written m (word_of (reg m Fp) k) Long v))
-
-abbrev pub with_local_set : Trees → ℕ → ℕ → Trees
-with_local_set t k v = record t { running = record t.running { locals = with_local t.running.locals k v } }
 
 abbrev pub LocalsAreWritten : Type 0
 LocalsAreWritten =
