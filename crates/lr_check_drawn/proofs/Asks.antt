@@ -25,8 +25,9 @@ use Rattle.lr_check_samples.specs.Answering.{answers_to, depths_to}
 use Rattle.lr_check_samples.specs.Fixed.{IsMadeBy}
 use Rattle.lr_check_samples.specs.Nodes.{IsNode, DrawnKids, kids_leaf, kids_one, kids_two, kids_reduced}
 use Rattle.lr_check_samples.proofs.Making.{settles_of, MadeOne, MadeTwo, MadeReduced, made_one, made_two, made_reduced}
+use Rattle.lr_check.specs.Questions.{answers_of}
 use Rattle.lr_check_drawn.specs.Asked.{AskedView, with_kid, with_taken}
-use Rattle.lr_check_drawn.specs.Drawing.{DrawingView, KidsView, none_asked, kids_in, answers_in, choices_at, choices_behind, AreBelow, AreDrawn, IsAsked}
+use Rattle.lr_check_drawn.specs.Drawing.{DrawingView, KidsView, none_asked, kids_in, choices_at, choices_behind, AreBelow, AreDrawn, IsAsked}
 
 -- the list of what settles with a number
 listed : (f : FoundView) (j : ℕ) (y : Place) (s : List Sym) (p : ℕ) → SettlesAt f j y s p → slice_index_or f.lists.all (list_number f j) [] ≡ s
@@ -116,7 +117,7 @@ pub asked_again : (t : TableView) (f : FoundView) (d : DrawingView) (i j c : ℕ
     IsMadeBy f i (how.Reduced j c) →
     k ≡ record {
       numbers = kids_in (slice_get d.nodes j);
-      asked = with_taken (record { own = answers_in (slice_get d.nodes j); depths = slice_index_or d.depths j [] }) t.content.rules (choices_behind t f (slice_get f.settlings j))
+      asked = with_taken (record { own = answers_of (slice_get d.nodes j); depths = slice_index_or d.depths j [] }) t.content.rules (choices_behind t f (slice_get f.settlings j))
           (length (slice_index_or f.lists.all (list_number f j) [])) c;
     } → IsAsked (automaton_of t) f d i k
 asked_again t f d i j c k found drawn next m e =
@@ -126,7 +127,7 @@ asked_again t f d i j c k found drawn next m e =
     let l : Earlier (automaton_of t) f d j n.place = earlier drawn next n.later at in
     let a : AskedView = record { own = l.own; depths = slice_index_or d.depths j [] } in
     let node : kids_in (slice_get d.nodes j) ≡ l.numbers = ap kids_in l.node in
-    let own : answers_in (slice_get d.nodes j) ≡ l.own = ap answers_in l.node in
+    let own : answers_of (slice_get d.nodes j) ≡ l.own = ap answers_of l.node in
     let choices : choices_behind t f (slice_get f.settlings j) ≡ actions_at t g.state n.place.behind = ap (choices_behind t f) g.there ∙ ap₂ (choices_at t) g.behind at.place in
     let list : slice_index_or f.lists.all (list_number f j) [] ≡ g.whole = listed f j n.place g.whole g.state at in
     let first : k ≡ record { numbers = l.numbers; asked = with_taken a t.content.rules (choices_behind t f (slice_get f.settlings j)) (length (slice_index_or f.lists.all (list_number f j) [])) c } =

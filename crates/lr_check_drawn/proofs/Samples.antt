@@ -13,6 +13,7 @@ use Rattle.lr_check_sets.specs.Automaton.{Automaton}
 use Rattle.lr_check_sets.specs.Table.{automaton_of}
 use Rattle.lr_check.specs.Tree.{Node}
 use Rattle.lr_check.specs.Statement.{fits_at, KidsFit, IsStatement}
+use Rattle.lr_check.specs.Questions.{answers_of}
 use Rattle.lr_check_found.specs.declared.places.Place.{Place}
 use Rattle.lr_check_found.specs.declared.settlings.Settling.{Settling}
 use Rattle.lr_check_found.specs.Found.{FoundView, IsPlaceAt, IsSettlingAt, SettlesAt}
@@ -25,7 +26,7 @@ use Rattle.lr_check_flaws.specs.Flaws.{IsGapAt, IsDeadAt, IsCircleAt}
 use Rattle.lr_check_nodes.specs.Growing.{AreWhole, Grows, HasLast, HasTreeFrom}
 use Rattle.lr_check_nodes.specs.Pruned.{IsPruned}
 use Rattle.lr_check_nodes.proofs.Wholes.{node_grows, grows_both}
-use Rattle.lr_check_drawn.specs.Drawing.{kids_in, answers_in}
+use Rattle.lr_check_drawn.specs.Drawing.{kids_in}
 use Rattle.lr_check_drawn.specs.Rising.{HasToken, HaveNodes, StandsAt, HasRisen}
 use Rattle.lr_check_drawn.specs.Sampled.{IsBlockingSample, IsLoopingSample, Draws, AreSettled, HasPlaceOf, HasAbove, HasRound}
 use Rattle.lr_check_drawn.proofs.Leaves.{HaveLeaves, kids_leaves}
@@ -77,7 +78,7 @@ module _ (A : Automaton) (f : FoundView) where
     top : ℕ
     root : ℕ
     drawn : DrawnKids A f new i numbers own depths
-    first_answers : answers_in (slice_get first i) ≡ own
+    first_answers : answers_of (slice_get first i) ≡ own
     node : IsNode new top x.token numbers answers
     round : DrawnRound A f new at.entry.place top root
     last : root + 1 ≡ length new
@@ -96,7 +97,7 @@ module _ (A : Automaton) (f : FoundView) where
         top = h.top;
         root = r.root;
         drawn = kids_grow r.grows i d.kids d.own d.depths d.drawn;
-        first_answers = ap answers_in d.node;
+        first_answers = ap answers_of d.node;
         node = k.0;
         round = round_of first first new at.entry.place h.top settled (record { more = []; grown = sym (append-nil first) }) r;
         last = r.last;
@@ -119,7 +120,7 @@ module _ (t : TableView) (v : IsValid t.content) (b : IsNumbered t) (f : FoundVi
       let k : BlockingNodes t.content new = (drawn_samples_stop t v b f found new).0 (gap_drawn (automaton_of t) f first old new n top token s g tok tree h) in
       record { statement = p.statement; blocking = record { tokens = k.tokens; tree = p.trees k.tokens k.tree; blocking = k.blocking }; used = p.used }
 
-  pub dead_sample : (first new pruned : List Node) (i : ℕ) (answers : List Bool) → AreSettled (automaton_of t) f first → IsDeadAt (automaton_of t) f i → answers ≡ answers_in (slice_get first i) →
+  pub dead_sample : (first new pruned : List Node) (i : ℕ) (answers : List Bool) → AreSettled (automaton_of t) f first → IsDeadAt (automaton_of t) f i → answers ≡ answers_of (slice_get first i) →
       HasAbove f first new i answers → (nodes : List Node) → nodes ≡ new → IsPruned nodes pruned → IsBlockingSample t.content pruned
   dead_sample first new pruned i answers s g is h nodes same q =
       let p : IsPruned new pruned = subst (λ (l : List Node). IsPruned l pruned) same q in
@@ -129,7 +130,7 @@ module _ (t : TableView) (v : IsValid t.content) (b : IsNumbered t) (f : FoundVi
       record { statement = p.statement; blocking = record { tokens = k.tokens; tree = p.trees k.tokens k.tree; blocking = k.blocking }; used = p.used }
 
   pub circle_sample : (first new pruned : List Node) (i : ℕ) (classes : List ℕ) (own more answers : List Bool) → AreSettled (automaton_of t) f first → IsCircleAt (automaton_of t) f i classes →
-      own ≡ answers_in (slice_get first i) → HasRound (automaton_of t) f i classes more → answers ≡ own ++ more → HasAbove f first new i answers → (nodes : List Node) → nodes ≡ new →
+      own ≡ answers_of (slice_get first i) → HasRound (automaton_of t) f i classes more → answers ≡ own ++ more → HasAbove f first new i answers → (nodes : List Node) → nodes ≡ new →
       IsPruned nodes pruned → IsLoopingSample t.content pruned
   circle_sample first new pruned i classes own more answers s g is turns e h nodes same q =
       let p : IsPruned new pruned = subst (λ (l : List Node). IsPruned l pruned) same q in

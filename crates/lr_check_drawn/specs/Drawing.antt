@@ -6,6 +6,7 @@ use Rattle.lr_tables.specs.View.{TableView}
 use Rattle.lr_tables.specs.Leads.{actions_at}
 use Rattle.lr_check_sets.specs.Automaton.{Automaton}
 use Rattle.lr_check.specs.Tree.{Node}
+use Rattle.lr_check.specs.Questions.{answers_of}
 use Rattle.lr_check_found.specs.declared.places.Place.{Place}
 use Rattle.lr_check_found.specs.declared.settlings.How.{How}
 use Rattle.lr_check_found.specs.declared.settlings.Settling.{Settling}
@@ -29,10 +30,6 @@ none_asked = record { own = []; depths = [] }
 abbrev pub kids_in : Option Node → List ℕ
 kids_in None = []
 kids_in (Some v) = v.kids
-
-abbrev pub answers_in : Option Node → List Bool
-answers_in None = []
-answers_in (Some v) = v.answers
 
 abbrev pub choices_at : TableView → Option ℕ → Option Place → List Choice
 choices_at t None x = []
@@ -58,7 +55,7 @@ two_kids d first second size = record {
 abbrev pub kids_again : TableView → FoundView → DrawingView → ℕ → ℕ → KidsView
 kids_again t f d settling class = record {
   numbers = kids_in (slice_get d.nodes settling);
-  asked = with_taken (record { own = answers_in (slice_get d.nodes settling); depths = slice_index_or d.depths settling [] })
+  asked = with_taken (record { own = answers_of (slice_get d.nodes settling); depths = slice_index_or d.depths settling [] })
       t.content.rules (choices_behind t f (slice_get f.settlings settling))
       (length (slice_index_or f.lists.all (list_number f settling) [])) class;
 }

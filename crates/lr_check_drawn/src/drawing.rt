@@ -3,11 +3,12 @@ ghost use Rattle.std.specs.Prelude.{◌≡◌, ◌++◌, ◌+◌, [], ◌∷◌,
 ghost use Rattle.lr_check_sets.specs.Table.{automaton_of};
 ghost use Rattle.lr_check_found.specs.Adding.{list_number};
 ghost use Rattle.lr_check_found.specs.Sound.{IsFound};
-ghost use Rattle.lr_check_drawn.specs.Drawing.{kids_in, answers_in, choices_behind, one_kid, two_kids, kids_again, held, IsNext};
+ghost use Rattle.lr_check_drawn.specs.Drawing.{kids_in, choices_behind, one_kid, two_kids, kids_again, held, IsNext};
 ghost use Rattle.lr_check_drawn.specs.Drawing.{AreDrawn, IsAsked};
 ghost use Rattle.lr_check_found.specs.declared.places.Place.{Place};
 ghost use Rattle.lr_check_found.specs.Found.{IsPlaceAt};
 ghost use Rattle.lr_check_samples.specs.Fixed.{IsMadeBy};
+ghost use Rattle.lr_check.specs.Questions.{answers_of};
 
 use crate::asked::Asked;
 use crate::rising::token_of;
@@ -92,7 +93,7 @@ impl Drawing {
     }
 
     fn answers(&self, number: usize) -> &[bool]
-        ensures { result.now ≡ answers_in (slice_get self.now.nodes number) }
+        ensures { result.now ≡ answers_of (slice_get self.now.nodes number) }
     {
         match self.nodes.get(number) {
             Some(node) => node.answers(),

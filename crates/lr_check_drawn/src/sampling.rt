@@ -7,8 +7,9 @@ ghost use Rattle.lr_check_found.specs.declared.settlings.Settling.{Settling};
 ghost use Rattle.lr_check_found.specs.Found.{IsSettlingAt, SettlesAt};
 ghost use Rattle.lr_check_found.specs.Sound.{IsFound};
 ghost use Rattle.lr_check_flaws.specs.Flaws.{IsGapAt, IsDeadAt, IsCircleAt, IsFlaw};
+ghost use Rattle.lr_check.specs.Questions.{answers_of};
 ghost use Rattle.lr_check_nodes.specs.Growing.{AreWhole};
-ghost use Rattle.lr_check_drawn.specs.Drawing.{kids_in, answers_in};
+ghost use Rattle.lr_check_drawn.specs.Drawing.{kids_in};
 ghost use Rattle.lr_check_drawn.specs.Rising.{AreBegun, HaveNodes};
 ghost use Rattle.lr_check_drawn.specs.Sampled.{AreSettled, HasPlaceOf, HasAbove, HasRound, IsBlockingSample, IsLoopingSample, IsSampleOf};
 
@@ -45,7 +46,7 @@ fn kids_of(growing: &Growing, alloc: Global, number: usize) -> Result<Vec<u32>, 
 
 // What the node is answered.
 fn answers_of(growing: &Growing, alloc: Global, number: usize) -> Result<Vec<bool>, NoMemory>
-    ensures { IfOk result (λ v. v.items ≡ answers_in (slice_get growing.now number)) }
+    ensures { IfOk result (λ v. v.items ≡ answers_of (slice_get growing.now number)) }
 {
     let mut answers = Vec::new(alloc);
     if let Some(node) = growing.nodes().get(number) {
