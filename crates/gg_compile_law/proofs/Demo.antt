@@ -4,7 +4,6 @@ use Rattle.std.specs.Prelude.{codes}
 use Rattle.std.specs.Str.{bytes_eq}
 use Rattle.std.proofs.lemmas.List.Elements.{All-from_recursion}
 use Rattle.vax_machine.specs.Loading.{Loads}
-use Rattle.vax_machine.specs.Labels.{putchar_name}
 use Rattle.tree_core.specs.declared.token.Tok.TheVariants as tok
 use Rattle.tree_core.specs.declared.tree.Att.TheVariants as att
 use Rattle.tree_core.specs.declared.tree.Leaf.{Leaf}
@@ -15,6 +14,7 @@ use Rattle.tree_core.specs.Trees.{none, tree}
 use Rattle.tree_core.specs.Items.{nothing, other, call}
 use Rattle.tree_core.specs.Labels.{TargetsStand}
 use Rattle.tree_core.specs.Valid.{PushesStand, main_takes_nothing, leaf_names, ItemStands, ItemsStand, LinksLie, IsValid}
+use Rattle.vax_core.specs.First.{putchar_name}
 use Rattle.vax_frames.specs.Frames.{end_code}
 use Rattle.gg_compile_law.specs.Demo.{demo_main, demo, push_code, call_code, demo_body, demo_code, DemoFollows}
 use Rattle.gg_compile_law.specs.Areas.{none as no_blocks}

@@ -12,7 +12,8 @@ use Rattle.gg_base.proofs.Facts.{same_bool, tail_same}
 use Rattle.vax_core.specs.declared.code.Instr.{Instr}
 use Rattle.vax_core.specs.declared.code.CodeItem.{CodeItem}
 use Rattle.vax_core.specs.declared.code.CodeItem.TheVariants as item_kind
-use Rattle.vax_machine.specs.Labels.{main_name, putchar_name, getchar_name, is_service, is_label, has_label, double_label}
+use Rattle.vax_core.specs.First.{main_name, putchar_name}
+use Rattle.vax_machine.specs.Labels.{getchar_name, is_service, is_label, has_label, double_label}
 use Rattle.tree_core.specs.declared.tree.Leaf.{Leaf}
 use Rattle.tree_core.specs.declared.program.TreeItem.{TreeItem}
 use Rattle.tree_core.specs.declared.program.TreeItem.TheVariants as tree_item

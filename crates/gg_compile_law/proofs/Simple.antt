@@ -19,7 +19,7 @@ use Rattle.vax_machine.specs.State.{State, reg, with_reg, with_conditions, clear
 use Rattle.vax_machine.specs.Memory.{read, written, register_set}
 use Rattle.vax_machine.specs.Operands.{evaluated, located, taken, stored}
 use Rattle.vax_machine.specs.Functions.{valued}
-use Rattle.vax_machine.specs.Labels.{putchar_name, getchar_name}
+use Rattle.vax_machine.specs.Labels.{getchar_name}
 use Rattle.vax_machine.specs.Calls.{Acts, pushed, putchar, getchar, got}
 use Rattle.tree_core.specs.declared.tree.Leaf.{Leaf}
 use Rattle.tree_core.specs.declared.tree.Att.TheVariants as att
@@ -36,6 +36,7 @@ use Rattle.vax_states.specs.Stack.{long_at, Extent, word_of, Holds}
 use Rattle.vax_machine_lists.specs.Sound.{AllBelow}
 use Rattle.vax_states.specs.Agreeing.{Agrees}
 use Rattle.vax_core.specs.Homes.{home}
+use Rattle.vax_core.specs.First.{putchar_name}
 use Rattle.vax_machine_lists.specs.Instructions.{Course, Comes, Goes, Calls as CallsOut, one_byte, ends, comes, course_of, followed, performed, exec}
 use Rattle.vax_machine_lists.proofs.Soundness.{conditions_sound}
 use Rattle.gg_compile_law.specs.Effects.{label_name, Does, IsReady, HasEffect}

@@ -10,10 +10,11 @@ use Rattle.std.proofs.lemmas.Bool.{false≢true}
 use Rattle.gg_base.specs.Follows.{Forward, Follows}
 use Rattle.gg_base.proofs.Following.{follows}
 use Rattle.vax_core.specs.declared.code.Code.{Code}
+use Rattle.vax_core.specs.First.{main_name}
 use Rattle.vax_machine_live.specs.declared.frame.Frame.{Frame}
 use Rattle.vax_machine.specs.State.{State}
 use Rattle.vax_machine.specs.Area.{zeros}
-use Rattle.vax_machine.specs.Labels.{main_name, label_place}
+use Rattle.vax_machine.specs.Labels.{label_place}
 use Rattle.vax_machine.specs.Calls.{called}
 use Rattle.vax_machine.specs.Loading.{blank, begun as loaded, start}
 use Rattle.vax_machine.specs.Running.{state_run, run as code_run}

@@ -5,7 +5,7 @@ use Rattle.vax_core.specs.declared.op.Op.TheVariants.{Pushl, Calls, Jbr}
 use Rattle.vax_core.specs.declared.code.Code.{Code}
 use Rattle.vax_core.specs.declared.code.Instr.{Instr}
 use Rattle.vax_core.specs.declared.code.CodeItem.{CodeItem}
-use Rattle.vax_machine.specs.Labels.{putchar_name}
+use Rattle.vax_core.specs.First.{putchar_name}
 use Rattle.vax_machine.specs.Running.{run}
 use Rattle.tree_core.specs.declared.token.Tok.TheVariants as tok
 use Rattle.tree_core.specs.declared.tree.Att.TheVariants as att

@@ -1,7 +1,8 @@
 -- The labels of a program's code.
 use Rattle.std.specs.Prelude.{◌≡◌, ◌^◌, ◌<◌, List, [], ◌∷◌, None, true}
 use Rattle.vax_core.specs.declared.code.CodeItem.{CodeItem}
-use Rattle.vax_machine.specs.Labels.{main_name, has_label, double_label}
+use Rattle.vax_core.specs.First.{main_name}
+use Rattle.vax_machine.specs.Labels.{has_label, double_label}
 use Rattle.tree_core.specs.declared.program.TreeItem.{TreeItem}
 use Rattle.tree_core.specs.declared.program.TreeItem.TheVariants as tree_item
 use Rattle.tree_core.specs.declared.program.TreeFn.{TreeFn}

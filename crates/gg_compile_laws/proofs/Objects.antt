@@ -12,7 +12,8 @@ use Rattle.c_sound.specs.Fits.{AreBytes}
 use Rattle.c_sound.specs.Labels.{is_label_start, is_label_part, is_label, AreLabelled}
 use Rattle.c_sound.specs.Sound.{HoldBytes}
 use Rattle.vax_core.specs.Valid.{is_name_start, is_name}
-use Rattle.vax_machine.specs.Labels.{putchar_name, getchar_name, is_service}
+use Rattle.vax_core.specs.First.{putchar_name}
+use Rattle.vax_machine.specs.Labels.{getchar_name, is_service}
 use Rattle.vax_machine_lists.specs.Sound.{AllBelow}
 use Rattle.gg_compile_law.specs.Effects.{label_name}
 use Rattle.gg_compile_law.specs.Spelling.{HoldsNumbers}

@@ -24,19 +24,19 @@ use Rattle.vax_machine.specs.Functions.{action_of}
 use Rattle.vax_machine.specs.Labels.{next_item, label_place}
 use Rattle.vax_machine.specs.Calls.{Acts, pushed, reserved, all_reserved, entry_mask, entered, framed, called, restored, returned_registers, back_to, left, returned}
 use Rattle.vax_core.specs.Ops.{shape}
+use Rattle.vax_core.specs.First.{main_name, putchar_name}
 use Rattle.vax_machine.specs.declared.function.Test.{Test}
 use Rattle.vax_machine.specs.declared.function.Test.TheVariants as test
 use Rattle.vax_machine.specs.declared.operands.Arguments.{Arguments}
 use Rattle.vax_machine.specs.Operands.{all_evaluated}
 use Rattle.vax_machine.specs.Functions.{applied, passes}
-use Rattle.vax_machine.specs.Labels.{putchar_name, getchar_name}
+use Rattle.vax_machine.specs.Labels.{getchar_name}
 use Rattle.vax_machine.specs.Calls.{silent, putchar, getchar}
 use Rattle.vax_machine.specs.Step.{act, at_item, instruction, finished, pushing, next_of, next_where, Goes as GoesOn, Writes, Stops as StopsAt}
 use Rattle.vax_machine_lists.specs.Instructions.{Ending, Comes, Goes, Calls, Returns, Stops, Course, ends, course_of, branching, calling, alone, evaluated_then, performed}
 use Rattle.vax_machine_lists.proofs.Placed.{Where, there, where_of, ending_there, performed_there}
 use Rattle.vax_machine_lists.proofs.Joining.{OneStep, one_performed}
 use Rattle.vax_machine.specs.Loading.{blank}
-use Rattle.vax_machine.specs.Labels.{main_name}
 use Rattle.vax_machine.proofs.Room.{same_state}
 use Rattle.vax_frames_law.specs.Guarding.{has, may_pass, IsGuarded, IsIntact, AreIntact, outermost, inner, KeepsRegisters, StepsKeep, ReturnsRestore, CallsSave, RunsBeginIntact}
 use Rattle.vax_machine_lists.specs.Kept.{Same, KeptAt}

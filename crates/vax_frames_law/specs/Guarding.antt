@@ -12,10 +12,11 @@ use Rattle.vax_machine.specs.declared.function.Action.TheVariants.{Compute, Push
 use Rattle.vax_machine.specs.declared.function.Test.TheVariants as test
 use Rattle.vax_machine.specs.State.{State}
 use Rattle.vax_machine.specs.Functions.{action_of}
-use Rattle.vax_machine.specs.Labels.{main_name, next_item, label_place}
+use Rattle.vax_machine.specs.Labels.{next_item, label_place}
 use Rattle.vax_machine.specs.Calls.{called, returned}
 use Rattle.vax_machine.specs.Loading.{blank}
 use Rattle.vax_core.specs.declared.code.Code.{Code}
+use Rattle.vax_core.specs.First.{main_name}
 use Rattle.vax_machine.specs.Step.{step_of, Goes, Writes}
 
 -- whether a mask has a register

@@ -5,6 +5,7 @@ use Rattle.std.proofs.lemmas.Bool.{le-ltb}
 use Rattle.vax_core.specs.declared.code.AreaItem.{AreaItem}
 use Rattle.vax_core.specs.declared.code.CodeItem.{CodeItem}
 use Rattle.vax_core.specs.declared.code.Code.{Code}
+use Rattle.vax_core.specs.First.{main_name}
 use Rattle.vax_machine.specs.declared.turn.Stop.{Stop}
 use Rattle.vax_machine_live.specs.declared.frame.Frame.{Frame}
 use Rattle.vax_machine.specs.declared.area.Layout.{Layout}
@@ -12,7 +13,7 @@ use Rattle.vax_machine.specs.declared.loading.LoadFault.TheVariants as loading_f
 use Rattle.vax_machine.specs.State.{State}
 use Rattle.vax_machine.specs.Area.{zeros, area_size, area_bytes}
 use Rattle.vax_machine.specs.LaidOut.{IsLaidOut}
-use Rattle.vax_machine.specs.Labels.{main_name, has_label, label_place, first_of, undefined_label, undefined_area_label}
+use Rattle.vax_machine.specs.Labels.{has_label, label_place, first_of, undefined_label, undefined_area_label}
 use Rattle.vax_machine.specs.Calls.{called}
 use Rattle.vax_machine.specs.Loading.{too_large, or_undefined, or_double, undefined_name_of, double_label_of, Loads, blank, begun, start, SameFrom, Stands}
 

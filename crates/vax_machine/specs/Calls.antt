@@ -8,13 +8,14 @@ use Rattle.gg_base.specs.Arithmetic.{add32, sub32, mul32}
 use Rattle.vax_core.specs.declared.register.Reg.TheVariants.{R0, Fp, Sp}
 use Rattle.vax_core.specs.declared.code.CodeItem.{CodeItem}
 use Rattle.vax_core.specs.declared.code.CodeItem.TheVariants as item_kind
+use Rattle.vax_core.specs.First.{putchar_name}
 use Rattle.vax_machine.specs.declared.turn.Stop.{Stop}
 use Rattle.vax_machine.specs.declared.turn.Stop.TheVariants.{Ended}
 use Rattle.vax_machine_live.specs.declared.frame.Frame.{Frame}
 use Rattle.vax_machine.specs.declared.memory.Region.{Region}
 use Rattle.vax_machine.specs.State.{State, reg, with_reg, cleared, with_conditions, frame, bad_code, stack_full, ◌>>=◌}
 use Rattle.vax_machine.specs.Memory.{touched, read, written, register_set}
-use Rattle.vax_machine.specs.Labels.{putchar_name, getchar_name, next_item, label_place}
+use Rattle.vax_machine.specs.Labels.{getchar_name, next_item, label_place}
 
 -- what an instruction wrote, if anything, and the state after it; or how the run is over
 abbrev pub Acts : Type 0

@@ -9,16 +9,11 @@ use Rattle.vax_core.specs.declared.code.AreaItem.{AreaItem}
 use Rattle.vax_core.specs.declared.code.AreaItem.TheVariants as areas
 use Rattle.vax_core.specs.declared.code.CodeItem.{CodeItem}
 use Rattle.vax_core.specs.declared.code.CodeItem.TheVariants as item_kind
+use Rattle.vax_core.specs.First.{putchar_name}
 use Rattle.vax_machine.specs.declared.function.Action.{Action}
 use Rattle.vax_machine.specs.declared.function.Action.TheVariants as action
 use Rattle.vax_machine.specs.Functions.{action_of}
 use Rattle.vax_machine.specs.Area.{has_area_label}
-
-abbrev pub main_name : List ℕ
-main_name = codes "_main"
-
-abbrev pub putchar_name : List ℕ
-putchar_name = codes "_putchar"
 
 abbrev pub getchar_name : List ℕ
 getchar_name = codes "_getchar"

@@ -1,6 +1,7 @@
 -- When a code can be run, and where its run begins.
 use Rattle.std.specs.Prelude.{◌≡◌, ℕ, nat_lt, List, [], ◌∷◌, Option, Some, None, Result, Ok, Err, if◌then◌else◌}
 use Rattle.vax_core.specs.declared.code.Code.{Code}
+use Rattle.vax_core.specs.First.{main_name}
 use Rattle.vax_machine.specs.declared.turn.Stop.{Stop}
 use Rattle.vax_machine.specs.declared.label.Names.{Names}
 use Rattle.vax_machine.specs.declared.machine.Machine.{Machine}
@@ -8,7 +9,7 @@ use Rattle.vax_machine.specs.declared.loading.LoadFault.{LoadFault}
 use Rattle.vax_machine.specs.declared.loading.LoadFault.TheVariants as loading_fault
 use Rattle.vax_machine.specs.State.{State, cleared}
 use Rattle.vax_machine.specs.Area.{zeros, area_size, area_bytes}
-use Rattle.vax_machine.specs.Labels.{main_name, has_label, label_place, first_of, double_label, double_area_label}
+use Rattle.vax_machine.specs.Labels.{has_label, label_place, first_of, double_label, double_area_label}
 use Rattle.vax_machine.specs.Labels.{undefined_label, undefined_area_label}
 use Rattle.vax_machine.specs.Calls.{called}
 use Rattle.vax_machine.specs.View.{state}

@@ -141,7 +141,8 @@ pub struct Names<'a> {
 
 impl<'a> Names<'a> {
     ghost use Rattle.vax_machine.specs.Area.{has_area_label};
-    ghost use Rattle.vax_machine.specs.Labels.{main_name, has_label, label_place, undefined_name, undefined_operand};
+    ghost use Rattle.vax_core.specs.First.{main_name};
+    ghost use Rattle.vax_machine.specs.Labels.{has_label, label_place, undefined_name, undefined_operand};
     ghost use Rattle.vax_machine.specs.Labels.{undefined_target, undefined_in, undefined_at, undefined_label, undefined_area_at};
     ghost use Rattle.vax_machine.specs.Labels.{undefined_area_label};
 

@@ -9,11 +9,12 @@ use Rattle.vax_core.specs.declared.code.AreaItem.{AreaItem}
 use Rattle.vax_core.specs.declared.code.AreaItem.TheVariants as areas
 use Rattle.vax_core.specs.declared.code.Code.{Code}
 use Rattle.vax_core.specs.Valid.{is_area_item, is_code_item, is_code}
+use Rattle.vax_core.specs.First.{main_name}
 use Rattle.vax_machine.specs.declared.turn.Stop.{Stop}
 use Rattle.vax_machine.specs.declared.loading.LoadFault.TheVariants as loading_fault
 use Rattle.vax_machine.specs.State.{State}
 use Rattle.vax_machine.specs.Area.{zeros, padding, size_at, end_from, area_size, item_bytes, bytes_from, area_bytes}
-use Rattle.vax_machine.specs.Labels.{main_name, has_label, label_place}
+use Rattle.vax_machine.specs.Labels.{has_label, label_place}
 use Rattle.vax_machine.specs.Calls.{called}
 use Rattle.vax_machine.specs.Loading.{too_large, no_main, or_undefined, or_double, undefined_name_of, double_label_of, Loads, blank, begun, start}
 use Rattle.vax_machine.proofs.LayoutLaws.{length-item_bytes}

@@ -7,12 +7,13 @@ use Rattle.vax_core.specs.declared.code.Instr.{Instr}
 use Rattle.vax_core.specs.declared.code.CodeItem.{CodeItem}
 use Rattle.vax_core.specs.declared.code.CodeItem.TheVariants as item_kind
 use Rattle.vax_core.specs.Ops.{shape}
+use Rattle.vax_core.specs.First.{putchar_name}
 use Rattle.vax_machine.specs.declared.turn.Stop.{Stop}
 use Rattle.vax_machine.specs.declared.operands.Arguments.{Arguments}
 use Rattle.vax_machine.specs.declared.function.Action.{Action}
 use Rattle.vax_machine.specs.declared.function.Action.TheVariants.{Compute, Push, Branch, Call, Return}
 use Rattle.vax_machine.specs.State.{State, ◌>>=◌}
-use Rattle.vax_machine.specs.Labels.{skipped, next_item, label_place, putchar_name, getchar_name}
+use Rattle.vax_machine.specs.Labels.{skipped, next_item, label_place, getchar_name}
 use Rattle.vax_machine.specs.Operands.{all_evaluated}
 use Rattle.vax_machine.specs.Functions.{action_of, applied, passes}
 use Rattle.vax_machine.specs.Calls.{Acts, called, silent, returned, called_by_name, putchar, getchar}

@@ -18,6 +18,7 @@ use Rattle.vax_core.specs.declared.op.OperandKind.{OperandKind}
 use Rattle.vax_core.specs.declared.code.Instr.{Instr}
 use Rattle.vax_core.specs.Ops.{shape}
 use Rattle.vax_core.specs.Registers.{reg_number, base_register, is_named, operand_names, operands_name}
+use Rattle.vax_core.specs.First.{putchar_name}
 use Rattle.vax_machine.specs.declared.turn.Stop.{Stop}
 use Rattle.vax_machine.specs.declared.memory.Region.{Region}
 use Rattle.vax_machine.specs.declared.memory.Region.TheVariants as regions
@@ -36,7 +37,7 @@ use Rattle.vax_machine.specs.Area.{resolved}
 use Rattle.vax_machine.specs.Memory.{touched, read, written, register_set, with_number_at, merged}
 use Rattle.vax_machine.specs.Operands.{deferred, located, indexed, fetched, taken, address_of, evaluated, all_evaluated, last_of, in_front, only_number, with_destination, put, stored}
 use Rattle.vax_machine.specs.Functions.{action_of, applied, passes}
-use Rattle.vax_machine.specs.Labels.{putchar_name, getchar_name}
+use Rattle.vax_machine.specs.Labels.{getchar_name}
 use Rattle.vax_machine.specs.Calls.{Acts, pushed, putchar, getchar, got}
 use Rattle.vax_machine.specs.Step.{finished, pushing}
 use Rattle.vax_machine_lists.specs.Kept.{Same, KeptAt}

@@ -30,6 +30,7 @@ use Rattle.vax_core.specs.declared.code.CodeItem.TheVariants as item_kind
 use Rattle.vax_core.specs.Ops.{shape}
 use Rattle.vax_core.specs.Registers.{reg_number}
 use Rattle.vax_core.specs.Valid.{allows, is_addr, is_addr_of, is_named_addr, is_base, is_index, is_operand, are_operands, is_instr, is_code_item}
+use Rattle.vax_core.specs.First.{putchar_name}
 use Rattle.vax_machine_live.specs.declared.frame.Frame.{Frame}
 use Rattle.vax_machine_live.specs.Control.{in_control}
 use Rattle.vax_machine.specs.declared.turn.Stop.{Stop}
@@ -49,7 +50,7 @@ use Rattle.vax_machine.specs.Area.{resolved, resolved_of, label_address}
 use Rattle.vax_machine.specs.Memory.{touched, read, written, register_set, number_at, with_number_at, merged}
 use Rattle.vax_machine.specs.Operands.{deferred, located, indexed, fetched, address_of, taken, evaluated, all_evaluated, in_front, only_number, with_destination, put, stored}
 use Rattle.vax_machine.specs.Functions.{action_of, applied, passes}
-use Rattle.vax_machine.specs.Labels.{putchar_name, getchar_name, next_item, label_place}
+use Rattle.vax_machine.specs.Labels.{getchar_name, next_item, label_place}
 use Rattle.vax_machine.specs.Calls.{Acts, pushed, reserved, all_reserved, entry_mask, entered, framed, called, restored, returned_registers, back_to, left, returned_from, returned}
 use Rattle.vax_machine.specs.Calls.{putchar, getchar, got, silent, called_by_name}
 use Rattle.vax_machine.specs.Step.{finished, pushing, branched, acted, instruction, at_item, act, next_of, next_where}

@@ -28,8 +28,9 @@ use Rattle.sel_target.specs.Instances.{Ready}
 use Rattle.sel_target.specs.StatementLaws.{att_of, DoesAct}
 use Rattle.vax_core.specs.declared.register.Reg.TheVariants.{R0, Sp}
 use Rattle.vax_core.specs.declared.operand.Operand.{Operand}
+use Rattle.vax_core.specs.First.{putchar_name}
 use Rattle.vax_machine.specs.State.{State, reg, with_reg, with_conditions, cleared}
-use Rattle.vax_machine.specs.Labels.{putchar_name, getchar_name}
+use Rattle.vax_machine.specs.Labels.{getchar_name}
 use Rattle.vax_machine.specs.Calls.{got}
 use Rattle.vax_machine_lists.specs.Sound.{AllBelow}
 use Rattle.vax_machine_lists.specs.Instructions.{Course, ends, comes, performed}

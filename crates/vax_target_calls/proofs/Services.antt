@@ -14,11 +14,12 @@ use Rattle.vax_core.specs.declared.register.Reg.TheVariants.{R0, Sp}
 use Rattle.vax_core.specs.declared.op.Op.TheVariants as ops
 use Rattle.vax_core.specs.declared.operand.Base.TheVariants as bases
 use Rattle.vax_core.specs.declared.code.Instr.{Instr}
+use Rattle.vax_core.specs.First.{putchar_name}
 use Rattle.vax_machine.specs.declared.turn.Stop.{Stop}
 use Rattle.vax_machine.specs.State.{State, reg, with_reg, with_conditions, cleared, stack_full, ◌>>=◌}
 use Rattle.vax_machine.specs.Memory.{read, register_set}
 use Rattle.vax_machine.specs.Operands.{evaluated, located, taken}
-use Rattle.vax_machine.specs.Labels.{putchar_name, getchar_name}
+use Rattle.vax_machine.specs.Labels.{getchar_name}
 use Rattle.vax_machine.specs.Calls.{Acts, putchar, getchar, got}
 use Rattle.vax_machine_lists.specs.Sound.{AllBelow}
 use Rattle.vax_machine_lists.specs.Instructions.{Comes, Calls, one_byte, ends, comes, course_of, performed}

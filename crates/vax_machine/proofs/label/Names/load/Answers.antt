@@ -1,8 +1,9 @@
 use Rattle.std.proofs.Common.{◌≡◌, ℕ, true, List, Option, None, IfSome, refl, subst}
+use Rattle.vax_core.specs.First.{main_name}
 use Rattle.vax_machine.specs.declared.area.Layout.{Layout}
 use Rattle.vax_machine.specs.View.{state}
 use Rattle.vax_machine.specs.LaidOut.{IsLaidOut}
-use Rattle.vax_machine.specs.Labels.{main_name, has_label, undefined_label, undefined_area_label}
+use Rattle.vax_machine.specs.Labels.{has_label, undefined_label, undefined_area_label}
 use Rattle.vax_machine.specs.Loading.{code_of}
 use Rattle.vax_machine.proofs.Starting.{loads_by, started}
 use Rattle.vax_machine.proofs.label.Names.load.Goals as goal
