@@ -36,13 +36,13 @@ use Rattle.vax_states.specs.Stack.{long_at, Extent, word_of, Holds}
 use Rattle.vax_machine_lists.specs.Sound.{AllBelow}
 use Rattle.vax_states.specs.Agreeing.{Agrees}
 use Rattle.vax_core.specs.Homes.{home}
-use Rattle.vax_core.specs.First.{putchar_name}
+use Rattle.vax_core.specs.First.{putchar_name, imm, in_reg}
 use Rattle.vax_machine_lists.specs.Instructions.{Course, Comes, Goes, Calls as CallsOut, one_byte, ends, comes, course_of, followed, performed, exec}
 use Rattle.vax_machine_lists.proofs.Soundness.{conditions_sound}
 use Rattle.gg_compile_law.specs.Effects.{label_name, Does, IsReady, HasEffect}
 use Rattle.vax_frames.specs.Frames.{function_label}
 use Rattle.gg_compile_law.specs.Demo.{jump_code, call_code}
-use Rattle.vax_frames.specs.Frames.{number, register, instr, end_code}
+use Rattle.vax_frames.specs.Frames.{instr, end_code}
 use Rattle.vax_states.proofs.Touching.{stack_read}
 use Rattle.vax_states.proofs.Keeping.{sound_register, reg_small}
 use Rattle.vax_states.proofs.Standing.{kept, rebuilt, register_kept, high_top, free_below, push_written, local_written, fp_low, fp_high_is}
@@ -111,7 +111,7 @@ module _ (objects : List Object) (e : Extent) (es : List Extent) (t : Trees) (m 
       stack_read m (reg m Sp) h.sound.area h.bottom (omega (arith, sp_high)) (free_below objects e es t m h (reg m Sp) 4 (omega (arith, h.running.words, some)))
       ∙ ap (λ (x : ℕ). Ok x) (sym (ap (λ (a : ℕ). long_at m.stack a) z) ∙ h.running.pushed 0 v is)
 
-push_is : (n : ℕ) (m k : State) → pushed m n ≡ Ok k → exec (instr Pushl (number n ∷ []) ∷ []) m ≡ comes (with_conditions k (valued Long n m.conditions.carry).conditions)
+push_is : (n : ℕ) (m k : State) → pushed m n ≡ Ok k → exec (instr Pushl (imm n ∷ []) ∷ []) m ≡ comes (with_conditions k (valued Long n m.conditions.carry).conditions)
 unfolding performed evaluated located taken
 push_is n m k e = ap (λ (r : Result State Stop). followed (course_of (r >>= λ (x : State). Ok (None, with_conditions x (valued Long n m.conditions.carry).conditions))) [] (λ (x : State). comes x)) e
 
@@ -153,11 +153,11 @@ module _ (program : TreeProgram) (locals args most : ℕ) where
   abbrev push_tree : ℕ → List Leaf
   push_tree n = record { tok = tok.Push; att = att.Nothing } ∷ (record { tok = tok.Const; att = att.Number n } ∷ (end_leaf ∷ []))
 
-  pub push_effect : (n : ℕ) → n < 2 ^ 32 → HasEffect program locals args most (push_tree n) (instr Pushl (number n ∷ []) ∷ [])
+  pub push_effect : (n : ℕ) → n < 2 ^ 32 → HasEffect program locals args most (push_tree n) (instr Pushl (imm n ∷ []) ∷ [])
   push_effect n lt = record { some = omega arith; does = does }
     where
       does : (e : Extent) (es : List Extent) (t : Trees) (m : State) → Agrees program.objects e es t m → IsReady locals args most (push_tree n) e t m
-          → Does program.objects e es t m (tree_step program t (grown (push_tree n))) (exec (instr Pushl (number n ∷ []) ∷ []) m)
+          → Does program.objects e es t m (tree_step program t (grown (push_tree n))) (exec (instr Pushl (imm n ∷ []) ∷ []) m)
       does e es t m h ready =
           let p = push_written program.objects e es t m h n ready.room lt in
           (_, push_is n m _ p.0, record { frames = refl; agrees = agrees_codes program.objects e es (with_pushed t n) _ p.1 (valued Long n m.conditions.carry).conditions })
@@ -290,7 +290,7 @@ module _ (program : TreeProgram) (locals args most : ℕ) where
   save_tree k = record { tok = tok.Save; att = att.Slot k } ∷ (end_leaf ∷ [])
 
   abbrev save_code : ℕ → List Instr
-  save_code k = instr Movl (register R0 ∷ (home k ∷ [])) ∷ []
+  save_code k = instr Movl (in_reg R0 ∷ (home k ∷ [])) ∷ []
 
   save_is : (k : ℕ) (m n : State) → written m (add32 (neg32 (4 * (k + 1))) (reg m Fp)) Long (reg m R0) ≡ Ok n
       → exec (save_code k) m ≡ comes (with_conditions n (valued Long (reg m R0) m.conditions.carry).conditions)

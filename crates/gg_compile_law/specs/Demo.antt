@@ -5,7 +5,7 @@ use Rattle.vax_core.specs.declared.op.Op.TheVariants.{Pushl, Calls, Jbr}
 use Rattle.vax_core.specs.declared.code.Code.{Code}
 use Rattle.vax_core.specs.declared.code.Instr.{Instr}
 use Rattle.vax_core.specs.declared.code.CodeItem.{CodeItem}
-use Rattle.vax_core.specs.First.{putchar_name}
+use Rattle.vax_core.specs.First.{putchar_name, imm}
 use Rattle.vax_machine.specs.Running.{run}
 use Rattle.tree_core.specs.declared.token.Tok.TheVariants as tok
 use Rattle.tree_core.specs.declared.tree.Att.TheVariants as att
@@ -17,7 +17,7 @@ use Rattle.tree_meaning.specs.Meaning.{tree_run}
 use Rattle.vax_machine_lists.specs.Sound.{AllBelow}
 use Rattle.gg_compile_law.specs.Effects.{label_name}
 use Rattle.vax_frames.specs.Frames.{function_label}
-use Rattle.vax_frames.specs.Frames.{number, instr, code_items, end_code, frame_items}
+use Rattle.vax_frames.specs.Frames.{instr, code_items, end_code, frame_items}
 
 -- Push 72; Call putchar 1; Ret 0
 abbrev pub demo_main : TreeFn
@@ -37,13 +37,13 @@ demo = record { functions = demo_main ∷ []; objects = [] }
 
 -- its code: `pushl $72`, `calls $1,_putchar`, `clrl r0` and `ret`, and the end of `main`
 abbrev pub push_code : ℕ → List Instr
-push_code n = instr Pushl (number n ∷ []) ∷ []
+push_code n = instr Pushl (imm n ∷ []) ∷ []
 
 abbrev pub jump_code : ℕ → List Instr
 jump_code l = record { op = Jbr; operands = []; target = Some (label_name l) } ∷ []
 
 abbrev pub call_code : ℕ → List ℕ → List Instr
-call_code count name = record { op = Calls; operands = number count ∷ []; target = Some name } ∷ []
+call_code count name = record { op = Calls; operands = imm count ∷ []; target = Some name } ∷ []
 
 abbrev pub demo_body : List CodeItem
 demo_body = code_items (push_code 72) ++ (code_items (call_code 1 putchar_name) ++ (code_items end_code ++ []))

@@ -5,12 +5,13 @@ use Rattle.vax_core.specs.declared.register.Reg.TheVariants.{Sp}
 use Rattle.vax_core.specs.declared.op.Op.TheVariants.{Subl2}
 use Rattle.vax_core.specs.declared.code.CodeItem.{CodeItem}
 use Rattle.vax_core.specs.declared.code.CodeItem.TheVariants as item_kind
-use Rattle.vax_frames.specs.Frames.{number, register, instr, room_code, end_code, code_items, function_label, frame_head, frame_items, IsMaskOf, IsFrameCode}
+use Rattle.vax_core.specs.First.{imm, in_reg}
+use Rattle.vax_frames.specs.Frames.{instr, room_code, end_code, code_items, function_label, frame_head, frame_items, IsMaskOf, IsFrameCode}
 
 pub no_room : (words : ℕ) → words ≡ 0 → code_items (room_code words) ≡ []
 no_room words e = ap (λ (w : ℕ). code_items (room_code w)) e
 
-pub some_room : (words : ℕ) → words ≢ 0 → code_items (room_code words) ≡ item_kind.Instr (instr Subl2 (number (4 * words) ∷ (register Sp ∷ []))) ∷ []
+pub some_room : (words : ℕ) → words ≢ 0 → code_items (room_code words) ≡ item_kind.Instr (instr Subl2 (imm (4 * words) ∷ (in_reg Sp ∷ []))) ∷ []
 some_room zero ne = absurd (ne refl)
 some_room (suc n) ne = refl
 

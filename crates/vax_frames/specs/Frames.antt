@@ -1,7 +1,6 @@
 -- The code of a function: its frame round its body.
 use Rattle.std.specs.Prelude.{◌≡◌, ℕ, zero, suc, ◌*◌, ◌^◌, ◌<◌, Bool, false, ◌&&◌, ◌||◌, nat_lt, nat_le, List, [], ◌∷◌}
 use Rattle.std.specs.Prelude.{◌++◌, map, None, codes}
-use Rattle.vax_core.specs.declared.register.Reg.{Reg}
 use Rattle.vax_core.specs.declared.register.Reg.TheVariants.{R0, Sp}
 use Rattle.vax_core.specs.declared.operand.Base.TheVariants as bases
 use Rattle.vax_core.specs.declared.operand.Operand.{Operand}
@@ -11,13 +10,7 @@ use Rattle.vax_core.specs.declared.code.Instr.{Instr}
 use Rattle.vax_core.specs.declared.code.CodeItem.{CodeItem}
 use Rattle.vax_core.specs.declared.code.CodeItem.TheVariants as item_kind
 use Rattle.vax_core.specs.Registers.{operands_name, IsSetOf}
-
--- `$n` and `r`
-abbrev pub number : ℕ → Operand
-number n = record { base = bases.Imm (record { name = None; offset = n }); index = None }
-
-abbrev pub register : Reg → Operand
-register r = record { base = bases.Reg r; index = None }
+use Rattle.vax_core.specs.First.{imm, in_reg}
 
 abbrev pub instr : Op → List Operand → Instr
 instr op os = record { op = op; operands = os; target = None }
@@ -25,11 +18,11 @@ instr op os = record { op = op; operands = os; target = None }
 -- `subl2 $n,sp` makes room for the frame's words, if it has any
 abbrev pub room_code : ℕ → List Instr
 room_code zero = []
-room_code (suc n) = instr Subl2 (number (4 * suc n) ∷ (register Sp ∷ [])) ∷ []
+room_code (suc n) = instr Subl2 (imm (4 * suc n) ∷ (in_reg Sp ∷ [])) ∷ []
 
 -- `clrl r0` and `ret`: where a body's end is reached, the function answers 0
 abbrev pub end_code : List Instr
-end_code = instr Clrl (register R0 ∷ []) ∷ (instr Ret [] ∷ [])
+end_code = instr Clrl (in_reg R0 ∷ []) ∷ (instr Ret [] ∷ [])
 
 abbrev pub code_items : List Instr → List CodeItem
 code_items is = map item_kind.Instr is

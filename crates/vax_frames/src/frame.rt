@@ -4,7 +4,8 @@ ghost use Rattle.vax_core.specs.Homes as homes;
 ghost use Rattle.vax_core.specs.declared.op.Op.TheVariants.{Subl2, Clrl, Ret};
 ghost use Rattle.vax_core.specs.declared.register.Reg.TheVariants.{R0, Sp};
 ghost use Rattle.vax_core.specs.declared.code.CodeItem.TheVariants as item_kind;
-ghost use Rattle.vax_frames.specs.Frames.{number, register, instr, function_label, frame_head, IsFrameCode};
+ghost use Rattle.vax_core.specs.First.{imm, in_reg};
+ghost use Rattle.vax_frames.specs.Frames.{instr, function_label, frame_head, IsFrameCode};
 
 use crate::mask::entry_mask;
 use gg_base::{Name, NoMemory};
@@ -21,7 +22,7 @@ pub fn home(local: u32) -> Operand
 }
 
 fn number(n: u32) -> Operand
-    ensures { result ≡ number n }
+    ensures { result ≡ imm n }
 {
     Operand {
         base: Base::Imm(Addr {
@@ -33,7 +34,7 @@ fn number(n: u32) -> Operand
 }
 
 fn register(r: Reg) -> Operand
-    ensures { result ≡ register r }
+    ensures { result ≡ in_reg r }
 {
     Operand {
         base: Base::Reg(r),
@@ -53,7 +54,7 @@ fn instr(op: Op, operands: Operands) -> CodeItem
 
 // `subl2 $n,sp`
 fn lower_sp(alloc: Global, bytes: u32) -> CodeItem
-    ensures { result ≡ item_kind.Instr (instr Subl2 (number bytes ∷ (register Sp ∷ []))) }
+    ensures { result ≡ item_kind.Instr (instr Subl2 (imm bytes ∷ (in_reg Sp ∷ []))) }
 {
     let mut operands = Operands::new(alloc);
     operands.push(number(bytes));
@@ -63,7 +64,7 @@ fn lower_sp(alloc: Global, bytes: u32) -> CodeItem
 
 // `clrl r0`
 fn clear_r0(alloc: Global) -> CodeItem
-    ensures { result ≡ item_kind.Instr (instr Clrl (register R0 ∷ [])) }
+    ensures { result ≡ item_kind.Instr (instr Clrl (in_reg R0 ∷ [])) }
 {
     let mut operands = Operands::new(alloc);
     operands.push(register(Reg::R0));

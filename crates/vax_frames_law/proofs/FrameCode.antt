@@ -6,6 +6,7 @@ use Rattle.gg_base.specs.declared.size.Size.TheVariants.{Long}
 use Rattle.gg_base.specs.Arithmetic.{sub32}
 use Rattle.vax_core.specs.declared.register.Reg.TheVariants.{R0, Ap, Fp, Sp}
 use Rattle.vax_core.specs.declared.op.Op.TheVariants.{Subl2}
+use Rattle.vax_core.specs.First.{imm, in_reg}
 use Rattle.vax_machine.specs.declared.function.Conditions.{Conditions}
 use Rattle.vax_machine.specs.State.{State, reg, with_reg, with_conditions, stack_full, ◌>>=◌}
 use Rattle.vax_machine.specs.Memory.{register_set}
@@ -18,7 +19,7 @@ use Rattle.vax_machine_lists.specs.Sound.{IsSound}
 use Rattle.vax_states.specs.Agreeing.{Agrees}
 use Rattle.vax_machine_lists.specs.Instructions.{Course, ends, comes, Returns, course_of, followed, performed, exec}
 use Rattle.vax_machine_lists.proofs.Soundness.{conditions_sound}
-use Rattle.vax_frames.specs.Frames.{number, register, instr, room_code, end_code}
+use Rattle.vax_frames.specs.Frames.{instr, room_code, end_code}
 use Rattle.vax_states.proofs.Keeping.{sound_register}
 use Rattle.vax_states.proofs.Standing.{kept}
 use Rattle.vax_frames_law.proofs.Entering.{SameMemory}
@@ -36,12 +37,12 @@ same_memory m = record { layout = refl; area = refl; stack = refl; frames = refl
 
 module _ (m : State) (sound : IsSound m) (low : 2139095040 ≤ reg m Sp) (high : reg m Sp ≤ 2147483648) where
   subtracted : (k : ℕ) → Course
-  subtracted k = exec (instr Subl2 (number k ∷ (register Sp ∷ [])) ∷ []) m
+  subtracted k = exec (instr Subl2 (imm k ∷ (in_reg Sp ∷ [])) ∷ []) m
 
   lowered_codes : ℕ → Conditions
   lowered_codes k = (valued Long (sub32 (reg m Sp) k) (nat_lt (reg m Sp) k)).conditions
 
-  subtract_is : (k : ℕ) → 2139095040 + k ≤ reg m Sp → exec (instr Subl2 (number k ∷ (register Sp ∷ [])) ∷ []) m ≡ comes (with_conditions (with_reg m Sp (sub32 (reg m Sp) k)) (lowered_codes k))
+  subtract_is : (k : ℕ) → 2139095040 + k ≤ reg m Sp → exec (instr Subl2 (imm k ∷ (in_reg Sp ∷ [])) ∷ []) m ≡ comes (with_conditions (with_reg m Sp (sub32 (reg m Sp) k)) (lowered_codes k))
   unfolding performed evaluated located taken stored register_set lowered_codes
   subtract_is k room =
       let v : sub32 (reg m Sp) k ≡ reg m Sp - k = omega (arith, room, high) in
