@@ -13,6 +13,7 @@ use Rattle.tree_core.specs.declared.program.TreeFn.{TreeFn}
 use Rattle.tree_core.specs.declared.program.TreeProgram.{TreeProgram}
 use Rattle.tree_core.specs.Trees.{grown}
 use Rattle.tree_core.specs.Area.{stored}
+use Rattle.tree_core.specs.Items.{target_of as target_in}
 use Rattle.tree_meaning.specs.declared.machine.Finish.{Finish}
 use Rattle.tree_meaning.specs.declared.machine.Finish.TheVariants as finish
 use Rattle.tree_meaning.specs.declared.value.Value.{Value}
@@ -24,7 +25,7 @@ use Rattle.tree_meaning.specs.State.{State, sight}
 use Rattle.tree_meaning.specs.Deeds.{Deed, Puts, Branches, Pushes as DoesPush, Returns, Calls as DoesCall, Saves as DoesSave, Jumps, Traps, Strays, given, assigned, branched}
 use Rattle.tree_meaning.specs.Deeds.{jumped_by, saved, called_by, deed_of}
 use Rattle.tree_meaning.specs.Steps.{Step, Goes, Serves, GoesTo, Enters, GoesBack, Ends, without_pushed, put_in, put, wrote, got, served, called_as, deed_step, tree_step}
-use Rattle.gg_compile_law.specs.Roles.{Role, Pushes, Calls, Saves, Plain, calls_by, role_by, role_of, label_in, target_by, target_of}
+use Rattle.gg_compile_law.specs.Roles.{Role, Pushes, Calls, Saves, Plain, calls_by, role_by, role_of, target_by, target_of}
 
 -- ---- the deed of a root, by its role and its target
 
@@ -51,7 +52,7 @@ assigned_fits o (Some (Local k)) v = given_fits Plain o v _ (λ n. refl)
 assigned_fits o (Some (Argument k)) v = given_fits Plain o v _ (λ n. refl)
 assigned_fits o (Some (Memory size address)) v = given_fits Plain o v _ (λ n. refl)
 
-branched_fits : (a : Att) (v w : Value) → Fits Plain (label_in a) (branched a v w)
+branched_fits : (a : Att) (v w : Value) → Fits Plain (target_in a) (branched a v w)
 branched_fits att.Nothing v w = tt
 branched_fits (att.Number n) v w = tt
 branched_fits (att.Object object offset) v w = tt
@@ -60,7 +61,7 @@ branched_fits (att.Branch rel label) v w = given_fits Plain (Some label) v _ (λ
 branched_fits (att.Label label) v w = tt
 branched_fits (att.Callee function count) v w = tt
 
-jumped_fits : (a : Att) → Fits Plain (label_in a) (jumped_by a)
+jumped_fits : (a : Att) → Fits Plain (target_in a) (jumped_by a)
 jumped_fits att.Nothing = tt
 jumped_fits (att.Number n) = tt
 jumped_fits (att.Object object offset) = tt

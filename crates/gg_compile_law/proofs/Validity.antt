@@ -23,7 +23,7 @@ use Rattle.tree_core.specs.Items.{times, target_of_leaves, role_of_token, after_
 use Rattle.tree_core.specs.Items.{target_of as target_in}
 use Rattle.tree_core.specs.Valid.{service_args, args_or, args_of, takes, leaf_names, ItemStands, ItemsStand, IsValid}
 use Rattle.tree_core.proofs.Ordering_of_calls.{decides}
-use Rattle.gg_compile_law.specs.Roles.{Role, Pushes, Calls, Saves, Plain, calls_by, role_by, role_of, label_in, target_by, target_of}
+use Rattle.gg_compile_law.specs.Roles.{Role, Pushes, Calls, Saves, Plain, calls_by, role_by, role_of, target_by, target_of}
 use Rattle.gg_compile_law.specs.Programs.{InOrderBy, InOrder, stands_in}
 
 -- ---- the order of pushes and calls
@@ -182,15 +182,6 @@ call_tok tok.Jump a f c e = absurd cc
 call_tok tok.End a f c e = absurd cc
 
 -- a root's target is its first leaf's
-same_label : (a : Att) → label_in a ≡ target_in a
-same_label att.Nothing = refl
-same_label (att.Number n) = refl
-same_label (att.Object object offset) = refl
-same_label (att.Slot n) = refl
-same_label (att.Branch rel label) = refl
-same_label (att.Label label) = refl
-same_label (att.Callee function count) = refl
-
 target_tok : (k : Tok) (a : Att) (l : ℕ) → target_by k a ≡ Some l → target_in a ≡ Some l
 target_tok tok.Zero a l e = absurd cc
 target_tok tok.One a l e = absurd cc
@@ -225,12 +216,12 @@ target_tok tok.Ncw a l e = absurd cc
 target_tok tok.AssignB a l e = absurd cc
 target_tok tok.AssignW a l e = absurd cc
 target_tok tok.AssignL a l e = absurd cc
-target_tok tok.Cbr a l e = sym (same_label a) ∙ e
+target_tok tok.Cbr a l e = e
 target_tok tok.Push a l e = absurd cc
 target_tok tok.Ret a l e = absurd cc
 target_tok tok.Call a l e = absurd cc
 target_tok tok.Save a l e = absurd cc
-target_tok tok.Jump a l e = sym (same_label a) ∙ e
+target_tok tok.Jump a l e = e
 target_tok tok.End a l e = absurd cc
 
 target_leaves : (w : List Leaf) (l : ℕ) → target_of w ≡ Some l → target_of_leaves w ≡ Some l
