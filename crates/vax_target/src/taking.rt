@@ -3,8 +3,9 @@ ghost use Rattle.std.specs.Prelude.{◌≡◌, IfOk, Ok, map};
 ghost use Rattle.std.specs.Option.{option_map};
 ghost use Rattle.term_core.specs.Shape.{shape_of, Symbol};
 ghost use Rattle.vax_core.specs.declared.op.Access.TheVariants as accesses;
+ghost use Rattle.vax_templates.specs.Giving.{truncated};
 ghost use Rattle.vax_templates.specs.HoleTerms.{own_value};
-ghost use Rattle.vax_templates.specs.Taking.{taken_term, taken_read, taken_missized, cut, sized, last_result, fetched};
+ghost use Rattle.vax_templates.specs.Taking.{taken_term, taken_read, taken_missized, sized, last_result, fetched};
 ghost use Rattle.vax_templates.specs.Taking.{pointer_read, addressed, written, both, taken, evaluated};
 ghost use Rattle.vax_templates.specs.Taking.{no_arguments, last_of, in_front};
 ghost use Rattle.vax_templates.specs.Targets.{is_long, own_target, memory_target, zero_target, statement_target};
@@ -108,7 +109,7 @@ fn taken_missized(alloc: Global) -> Result<Operand, NoMemory>
 }
 
 fn cut_term(alloc: Global, size: Size, t: Term) -> Result<Term, NoMemory>
-    ensures { IfOk result (λ r. shape_of r ≡ cut size (shape_of t)) }
+    ensures { IfOk result (λ r. shape_of r ≡ truncated size (shape_of t)) }
 {
     match size {
         Size::Byte => unary(alloc, UnaryOp::Zx8, t),
@@ -119,7 +120,7 @@ fn cut_term(alloc: Global, size: Size, t: Term) -> Result<Term, NoMemory>
 
 // A number or a register that is read at this size.
 fn cut(alloc: Global, size: Size, t: Term) -> Result<Operand, NoMemory>
-    ensures { IfOk result (λ r. taken_of r ≡ taken_term (cut size (shape_of t))) }
+    ensures { IfOk result (λ r. taken_of r ≡ taken_term (truncated size (shape_of t))) }
 {
     let t = cut_term(alloc, size, t)?;
     Ok(taken_term(alloc, boxed(alloc, t)?))

@@ -53,10 +53,11 @@ use Rattle.vax_templates.specs.Standing.{moved, where_indexed, form_where, ◌>>
 use Rattle.vax_templates.specs.HoleTerms.{constant_of, absolute_term, number_term, own_value, register_term}
 use Rattle.vax_templates.specs.Targets.{Target, ToOwn, ToSlot, ToHome, ToMemory, ToZero, ToSaved, is_long, own_target}
 use Rattle.vax_templates.specs.Targets.{memory_target, zero_target, statement_target, targeted}
-use Rattle.vax_templates.specs.Taking.{Taken, taken_term, taken_read, taken_missized, cut, sized, last_result}
+use Rattle.vax_templates.specs.Taking.{Taken, taken_term, taken_read, taken_missized, sized, last_result}
 use Rattle.vax_templates.specs.Taking.{cut_term, fetched, pointer_read, addressed, written, both, taken, evaluated}
 use Rattle.vax_templates.specs.Taking.{Arguments, no_arguments, last_of, in_front, all_evaluated}
 use Rattle.vax_templates.specs.Filled.{register_in, operand_in, filled}
+use Rattle.vax_templates.specs.Giving.{truncated}
 use Rattle.vax_target_operands.specs.Scenes.{Scene, worth, role_at, filling_at, OwnIs, IsOwnRegister, Sees}
 use Rattle.vax_target_operands.specs.Places.{StandsAt, InRegister, IsHome, IsWhere, IsReadIfAny, CanStand, Stands}
 use Rattle.vax_target_operands.specs.Conditions.{IsNarrow}
@@ -219,12 +220,12 @@ module _ (c : Scene) (held : Option Shape) (m : State) (h : Sees c held m) where
   abbrev Fetches : Location → Size → Taken → Type 0
   Fetches l size t = (machine.fetched m l size ≡ Ok (worth c t.term)) × (t.target ≡ None)
 
-  cut_is : (size : Size) (t : Shape) (n : ℕ) → n ≡ worth c t → low size n ≡ worth c (cut size t)
+  cut_is : (size : Size) (t : Shape) (n : ℕ) → n ≡ worth c t → low size n ≡ worth c (truncated size t)
   cut_is Byte t n e = ap (λ x. low Byte x) e
   cut_is Word t n e = ap (λ x. low Word x) e
   cut_is Long t n e = e
 
-  in_register : (l : Location) (r : Reg) (size : Size) (t : Shape) (x : Taken) → l ≡ locations.Register r → reg m r ≡ worth c t → taken_term (cut size t) ≡ x → Fetches l size x
+  in_register : (l : Location) (r : Reg) (size : Size) (t : Shape) (x : Taken) → l ≡ locations.Register r → reg m r ≡ worth c t → taken_term (truncated size t) ≡ x → Fetches l size x
   in_register l r size t x is holds e =
       subst (Fetches l size) e (ap (λ k. machine.fetched m k size) is ∙ ap (λ (n : ℕ). Ok n) (cut_is size t (reg m r) holds), refl)
 
@@ -238,7 +239,7 @@ module _ (c : Scene) (held : Option Shape) (m : State) (h : Sees c held m) where
       let o : IsOwnRegister c = subst (OwnIs c) is h.own_is in
       stands_same m (operand_in c.program c.own) size l (locations.Register (register_in c.own)) at (register_stands c m c.own o.number size o.is)
 
-  last_is : (o : Opening) (z : Option Shape) (size : Size) (t : Taken) → last_result o z size ≡ Ok t → (o ≡ opening.Save) × (z ≡ None) × (taken_term (cut size LastResult) ≡ t)
+  last_is : (o : Opening) (z : Option Shape) (size : Size) (t : Taken) → last_result o z size ≡ Ok t → (o ≡ opening.Save) × (z ≡ None) × (taken_term (truncated size LastResult) ≡ t)
   last_is opening.Return z size t e = absurd (err_ok _ t e)
   last_is opening.Save None size t e = (refl, refl, ok_same _ t e)
   last_is opening.Save (Some x) size t e = absurd (err_ok _ t e)
@@ -247,7 +248,7 @@ module _ (c : Scene) (held : Option Shape) (m : State) (h : Sees c held m) where
   fetched_means : (w : Where) (size : Size) (t : Taken) (l : Location) → fetched c.setting held w size ≡ Ok t → t.missized ≡ false → AreRead c t.reads → IsWhere c m w size l → Fetches l size t
   unfolding fetched
   fetched_means (Immediate a) size t l e none reads is =
-      subst (Fetches l size) (ok_same (taken_term (cut size a)) t e) (ap (λ k. machine.fetched m k size) is ∙ ap (λ (n : ℕ). Ok n) (cut_is size a (worth c a) refl), refl)
+      subst (Fetches l size) (ok_same (taken_term (truncated size a)) t e) (ap (λ k. machine.fetched m k size) is ∙ ap (λ (n : ℕ). Ok n) (cut_is size a (worth c a) refl), refl)
   fetched_means (Register a) size t l e none reads is = in_register l is.register size a t is.is is.holds (ok_same _ t e)
   fetched_means OwnRegister size t l e none reads is =
       let d = chained (own_value c.setting.own held) (cut_term size) t e in

@@ -58,7 +58,7 @@ use Rattle.vax_templates.specs.HoleTerms.{constant_of, address_of, absolute_term
 use Rattle.vax_templates.specs.HoleTerms.{register_term}
 use Rattle.vax_templates.specs.Targets.{Target, ToOwn, ToSlot, ToHome, ToMemory, ToZero, ToSaved, own_target}
 use Rattle.vax_templates.specs.Targets.{memory_target, zero_target, statement_target, targeted}
-use Rattle.vax_templates.specs.Taking.{Taken, taken_missized, cut, sized, last_result, cut_term, fetched, addressed}
+use Rattle.vax_templates.specs.Taking.{Taken, taken_missized, sized, last_result, cut_term, fetched, addressed}
 use Rattle.vax_templates.specs.Taking.{written, both, taken, evaluated, Arguments, last_of, in_front, all_evaluated}
 use Rattle.vax_templates.specs.Giving.{Given, Computes, Divides, Compares, Tests, extended, truncated, given}
 use Rattle.vax_templates.specs.Deeds.{Last, Plain, Compared, Tested, Returning, Ended, Deed, leaves, ends}
@@ -242,10 +242,10 @@ module _ (s : Setting) (holes : List Hole) (zero' : Option Shape) (n : HolesAreN
   form_narrow f size long =
       bind_each WhereNarrow WhereNarrow (where_base s holes zero' f.base) (where_indexed s holes zero' f.index size) (λ w h. indexed_narrow f.index size w h) (base_narrow f.base long)
 
-  cut_narrow : (size : Size) (t : Shape) → IsNarrow t → IsNarrow (cut size t)
-  cut_narrow Byte t h = h
-  cut_narrow Word t h = h
-  cut_narrow Long t h = h
+  truncated_narrow : (size : Size) (t : Shape) → IsNarrow t → IsNarrow (truncated size t)
+  truncated_narrow Byte t h = h
+  truncated_narrow Word t h = h
+  truncated_narrow Long t h = h
 
   sized_narrow : (y size : Size) (t : Taken) → TakenNarrow t → TakenNarrow (sized y size t)
   sized_narrow y size t h = by (same_size y size) where
@@ -256,16 +256,16 @@ module _ (s : Setting) (holes : List Hole) (zero' : Option Shape) (n : HolesAreN
   result_narrow : (o : Opening) (size : Size) → EachOk TakenNarrow (last_result o zero' size)
   result_narrow opening.Save size = saved zero' where
     saved : (t : Option Shape) → EachOk TakenNarrow (last_result opening.Save t size)
-    saved None = (cut_narrow size LastResult tt, tt)
+    saved None = (truncated_narrow size LastResult tt, tt)
     saved (Some t) = tt
   result_narrow opening.Return size = tt
   result_narrow opening.Other size = tt
 
   fetched_narrow : (w : Where) (size : Size) → WhereNarrow w → EachOk TakenNarrow (fetched s zero' w size)
   unfolding fetched
-  fetched_narrow (where_.Immediate t) size h = (cut_narrow size t h, tt)
-  fetched_narrow (where_.Register t) size h = (cut_narrow size t h, tt)
-  fetched_narrow where_.OwnRegister size h = bind_each IsNarrow TakenNarrow (own_value s.own zero') (cut_term size) (λ t k. (cut_narrow size t k, tt)) (own_narrow s.own zero' z)
+  fetched_narrow (where_.Immediate t) size h = (truncated_narrow size t h, tt)
+  fetched_narrow (where_.Register t) size h = (truncated_narrow size t h, tt)
+  fetched_narrow where_.OwnRegister size h = bind_each IsNarrow TakenNarrow (own_value s.own zero') (cut_term size) (λ t k. (truncated_narrow size t k, tt)) (own_narrow s.own zero' z)
   fetched_narrow where_.RegisterZero size h = result_narrow s.opening size
   fetched_narrow (where_.Value y i) size h = sized_narrow y size _ (tt, tt)
   fetched_narrow (where_.Place y i) size h = sized_narrow y size _ (tt, tt)
@@ -361,11 +361,6 @@ module _ (s : Setting) (holes : List Hole) (zero' : Option Shape) (n : HolesAreN
   extended_narrow Byte t h = h
   extended_narrow Word t h = h
   extended_narrow Long t h = h
-
-  truncated_narrow : (size : Size) (t : Shape) → IsNarrow t → IsNarrow (truncated size t)
-  truncated_narrow Byte t h = h
-  truncated_narrow Word t h = h
-  truncated_narrow Long t h = h
 
   given_narrow : (f : Function) (a b : Shape) → IsNarrow a → IsNarrow b → GivenNarrow (given f a b)
   given_narrow (functions.Copy size) a b h k = h

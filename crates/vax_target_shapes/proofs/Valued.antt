@@ -36,10 +36,11 @@ use Rattle.vax_templates.specs.Standing.{SavedPlace, Saved, At, at, pointed, its
 use Rattle.vax_templates.specs.Standing.{where_hole, where_zero, where_deferred, where_base, moved, where_indexed}
 use Rattle.vax_templates.specs.Standing.{form_where, ◌>>=◌}
 use Rattle.vax_templates.specs.HoleTerms.{own_value, constant_of, number_term, absolute_term, register_term}
-use Rattle.vax_templates.specs.Taking.{Taken, taken_term, taken_read, taken_missized, cut, cut_term, sized}
+use Rattle.vax_templates.specs.Taking.{Taken, taken_term, taken_read, taken_missized, cut_term, sized}
 use Rattle.vax_templates.specs.Taking.{last_result, fetched}
 use Rattle.vax_templates.specs.GiveLines.{value_given}
 use Rattle.vax_templates.specs.Filled.{alone, numbered, addr_in, addr_number, number_addr, operand_in, filled_base, with_index, filled}
+use Rattle.vax_templates.specs.Giving.{truncated}
 use Rattle.vax_target_meaning.specs.Reading as reading
 use Rattle.vax_target_meaning.specs.Reading.{longword, is_own_place, number_at, names, reads}
 use Rattle.vax_target_operands.specs.Scenes.{Scene, worth, role_at, filling_at, Means, Sees}
@@ -50,7 +51,7 @@ use Rattle.vax_target_reading.proofs.Places.{by_names}
 use Rattle.vax_target_shapes.proofs.Naming.{is_longword, in_area, all_mean, NamesAt, form_names}
 
 -- the part of a number that is read
-cut_is : (c : Scene) (size : Size) (t : Shape) (n : ℕ) → n ≡ worth c t → low size n ≡ worth c (cut size t)
+cut_is : (c : Scene) (size : Size) (t : Shape) (n : ℕ) → n ≡ worth c t → low size n ≡ worth c (truncated size t)
 cut_is c Byte t n e = ap (low Byte) e
 cut_is c Word t n e = ap (low Word) e
 cut_is c Long t n e = e
@@ -61,10 +62,10 @@ module _ (c : Scene) (m : State) (h : Sees c None m) where
 
   -- what an operand that is no memory at an address reads
   abbrev Reads : Where → Operand → Size → Type 0
-  Reads (Immediate t) o size = reads o size m ≡ Some (worth c (cut size t))
-  Reads (Register t) o size = reads o size m ≡ Some (worth c (cut size t))
+  Reads (Immediate t) o size = reads o size m ≡ Some (worth c (truncated size t))
+  Reads (Register t) o size = reads o size m ≡ Some (worth c (truncated size t))
   Reads OwnRegister o size = Unit {0}
-  Reads RegisterZero o size = c.setting.opening ≡ opening.Save → reads o size m ≡ Some (worth c (cut size LastResult))
+  Reads RegisterZero o size = c.setting.opening ≡ opening.Save → reads o size m ≡ Some (worth c (truncated size LastResult))
   Reads (Value z i) o size = z ≡ size → reads o size m ≡ Some (worth c (Symbol i))
   Reads (Place z i) o size = z ≡ size → IsSome (c.view.symbol i) → reads o size m ≡ Some (worth c (Symbol i))
   Reads (Local i) o size = Long ≡ size → reads o size m ≡ Some (worth c (Symbol i))
@@ -77,7 +78,7 @@ module _ (c : Scene) (m : State) (h : Sees c None m) where
   own_reads own.Register o size w e = subst (λ y. Reads y o size) (ok_same OwnRegister w e) tt
   own_reads (own.Slot z) o size w e = subst (λ y. Reads y o size) (ok_same OwnRegister w e) tt
 
-  zero_so : (size : Size) → c.setting.opening ≡ opening.Save → reads (alone (bases.Reg R0)) size m ≡ Some (worth c (cut size LastResult))
+  zero_so : (size : Size) → c.setting.opening ≡ opening.Save → reads (alone (bases.Reg R0)) size m ≡ Some (worth c (truncated size LastResult))
   zero_so size save = ap Some (cut_is c size LastResult (reg m R0) (h.answered save refl))
 
   zero_reads : (x : Opening) (size : Size) (w : Where) → where_zero x ≡ Ok w → Reads w (alone (bases.Reg R0)) size
@@ -88,7 +89,7 @@ module _ (c : Scene) (m : State) (h : Sees c None m) where
   hole_reads : (r : Hole) (i : ℕ) (size : Size) (w : Where) → Means c m r i (filling_at c i) → where_hole r i ≡ Ok w → Reads w (operand_in c.program (filling_at c i)) size
   hole_reads hole_kind.Register i size w k e =
       subst (λ y. Reads y (operand_in c.program (filling_at c i)) size) (ok_same (Register (Symbol i)) w e)
-      (subst (λ a. reads (operand_in c.program a) size m ≡ Some (worth c (cut size (Symbol i)))) (sym k.is) (ap Some (cut_is c size (Symbol i) (reg m (numbered k.number)) k.holds)))
+      (subst (λ a. reads (operand_in c.program a) size m ≡ Some (worth c (truncated size (Symbol i)))) (sym k.is) (ap Some (cut_is c size (Symbol i) (reg m (numbered k.number)) k.holds)))
   hole_reads (hole_kind.Value z) i size w k e =
       subst (λ y. Reads y (operand_in c.program (filling_at c i)) size) (ok_same (Value z i) w e)
       (λ same. subst (λ y. reads (operand_in c.program (filling_at c i)) y m ≡ Some (worth c (Symbol i))) same k)
@@ -201,16 +202,16 @@ module _ (c : Scene) (m : State) (h : Sees c None m) where
   own_none own.Register t size e = err_ok _ t e
   own_none (own.Slot z) t size e = err_ok _ t e
 
-  result_so : (x : Opening) (size : Size) (t : Taken) → last_result x None size ≡ Ok t → (x ≡ opening.Save) × (taken_term (cut size LastResult) ≡ t)
-  result_so opening.Save size t e = (refl, ok_same (taken_term (cut size LastResult)) t e)
+  result_so : (x : Opening) (size : Size) (t : Taken) → last_result x None size ≡ Ok t → (x ≡ opening.Save) × (taken_term (truncated size LastResult) ≡ t)
+  result_so opening.Save size t e = (refl, ok_same (taken_term (truncated size LastResult)) t e)
   result_so opening.Return size t e = absurd (err_ok _ t e)
   result_so opening.Other size t e = absurd (err_ok _ t e)
 
   fetched_reads : (w : Where) (o : Operand) (size : Size) (t : Taken) → Reads w o size → NamesAt c m h w o size → fetched c.setting None w size ≡ Ok t → t.missized ≡ false →
       IsRead c.view t.term → reads o size m ≡ Some (worth c t.term)
   unfolding fetched
-  fetched_reads (Immediate x) o size t r n e whole safe = r ∙ ap (λ (y : Taken). Some (worth c y.term)) (ok_same (taken_term (cut size x)) t e)
-  fetched_reads (Register x) o size t r n e whole safe = r ∙ ap (λ (y : Taken). Some (worth c y.term)) (ok_same (taken_term (cut size x)) t e)
+  fetched_reads (Immediate x) o size t r n e whole safe = r ∙ ap (λ (y : Taken). Some (worth c y.term)) (ok_same (taken_term (truncated size x)) t e)
+  fetched_reads (Register x) o size t r n e whole safe = r ∙ ap (λ (y : Taken). Some (worth c y.term)) (ok_same (taken_term (truncated size x)) t e)
   fetched_reads OwnRegister o size t r n e whole safe = absurd (own_none c.setting.own t size e)
   fetched_reads RegisterZero o size t r n e whole safe =
       let s = result_so c.setting.opening size t e in r s.0 ∙ ap (λ (y : Taken). Some (worth c y.term)) s.1

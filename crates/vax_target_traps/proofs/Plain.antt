@@ -48,7 +48,7 @@ use Rattle.vax_templates.specs.HoleTerms.{constant_of, address_of, absolute_term
 use Rattle.vax_templates.specs.HoleTerms.{register_term}
 use Rattle.vax_templates.specs.Targets.{Target, ToOwn, ToSlot, ToHome, ToMemory, ToZero, ToSaved, own_target}
 use Rattle.vax_templates.specs.Targets.{memory_target, zero_target, statement_target, targeted}
-use Rattle.vax_templates.specs.Taking.{Taken, taken_term, taken_read, taken_missized, cut, sized, last_result}
+use Rattle.vax_templates.specs.Taking.{Taken, taken_term, taken_read, taken_missized, sized, last_result}
 use Rattle.vax_templates.specs.Taking.{cut_term, fetched, pointer_read, addressed, written, both, taken, evaluated}
 use Rattle.vax_templates.specs.Taking.{Arguments, no_arguments, last_of, in_front, all_evaluated}
 use Rattle.vax_templates.specs.Giving.{Given, Computes, Divides, Compares, Tests, given, extended, truncated}
@@ -297,7 +297,7 @@ module _ (s : Setting) (roles : List Hole) where
   plain_read : (t : Shape) → NoDivision t → TakenPlain (taken_read t)
   plain_read t h = record { term_so = h; reads_so = (plain_if t h, tt); aim_so = tt }
 
-  plain_cut : (size : Size) (t : Shape) → NoDivision t → NoDivision (cut size t)
+  plain_cut : (size : Size) (t : Shape) → NoDivision t → NoDivision (truncated size t)
   plain_cut Byte t h = h
   plain_cut Word t h = h
   plain_cut Long t h = h
@@ -308,13 +308,13 @@ module _ (s : Setting) (roles : List Hole) where
 
   last_plain : (o : Opening) (size : Size) (t : Taken) → last_result o None size ≡ Ok t → TakenPlain t
   last_plain opening.Return size t e = absurd (err_ok _ t e)
-  last_plain opening.Save size t e = subst TakenPlain (ok_same _ t e) (plain_term (cut size LastResult) (plain_cut size LastResult tt))
+  last_plain opening.Save size t e = subst TakenPlain (ok_same _ t e) (plain_term (truncated size LastResult) (plain_cut size LastResult tt))
   last_plain opening.Other size t e = absurd (err_ok _ t e)
 
   fetched_plain : (w : Where) (size : Size) (t : Taken) → WherePlain w → fetched s None w size ≡ Ok t → TakenPlain t
   unfolding fetched
-  fetched_plain (Immediate a) size t p e = subst TakenPlain (ok_same _ t e) (plain_term (cut size a) (plain_cut size a p))
-  fetched_plain (Register a) size t p e = subst TakenPlain (ok_same _ t e) (plain_term (cut size a) (plain_cut size a p))
+  fetched_plain (Immediate a) size t p e = subst TakenPlain (ok_same _ t e) (plain_term (truncated size a) (plain_cut size a p))
+  fetched_plain (Register a) size t p e = subst TakenPlain (ok_same _ t e) (plain_term (truncated size a) (plain_cut size a p))
   fetched_plain OwnRegister size t p e = let d = chained (own_value s.own None) (cut_term size) t e in absurd (own_none s.own d.first d.is)
   fetched_plain RegisterZero size t p e = last_plain s.opening size t e
   fetched_plain (Value z i) size t p e = sized_plain (same_size z size) _ t (plain_term (Symbol i) tt) e

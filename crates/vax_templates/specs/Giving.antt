@@ -21,6 +21,7 @@ extended Byte t = Unary Sx8 t
 extended Word t = Unary Sx16 t
 extended Long t = t
 
+-- the low part of a number at this size: so a number or a register is read
 abbrev pub truncated : Size → Shape → Shape
 truncated Byte t = Unary Zx8 t
 truncated Word t = Unary Zx16 t

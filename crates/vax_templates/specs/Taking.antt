@@ -3,9 +3,8 @@
 use Rattle.std.specs.Prelude.{Bool, true, false, ◌||◌, List, [], ◌∷◌, ◌++◌, Option, Some, None, Result, Ok, Err}
 use Rattle.std.specs.Prelude.{if◌then◌else◌}
 use Rattle.gg_base.specs.declared.size.Size.{Size}
-use Rattle.gg_base.specs.declared.size.Size.TheVariants.{Byte, Word, Long}
-use Rattle.term_core.specs.declared.operator.UnaryOp.TheVariants as unary_op
-use Rattle.term_core.specs.Shape.{Shape, Constant, Symbol, LastResult, Memory, Unary}
+use Rattle.gg_base.specs.declared.size.Size.TheVariants.{Long}
+use Rattle.term_core.specs.Shape.{Shape, Constant, Symbol, LastResult, Memory}
 use Rattle.sel_terms.specs.Same.{same_size}
 use Rattle.sel_target.specs.declared.fault.TemplateKind.{TemplateKind}
 use Rattle.sel_target.specs.declared.fault.TemplateKind.TheVariants.{NotInstr}
@@ -21,6 +20,7 @@ use Rattle.vax_templates.specs.Standing.{Where, Immediate, Register, OwnRegister
 use Rattle.vax_templates.specs.Standing.{SavedPlace, Saved, At, form_where, ◌>>=◌}
 use Rattle.vax_templates.specs.HoleTerms.{own_value}
 use Rattle.vax_templates.specs.Targets.{Target, targeted}
+use Rattle.vax_templates.specs.Giving.{truncated}
 
 -- what is read or the address that is taken, the memory that was read for it, what is to be written, and whether the
 -- operand has another size
@@ -39,27 +39,21 @@ taken_read t = record { term = t; reads = t ∷ []; target = None; missized = fa
 abbrev pub taken_missized : Taken
 taken_missized = record { term = Constant 0; reads = []; target = None; missized = true }
 
--- a number or a register that is read at this size
-abbrev pub cut : Size → Shape → Shape
-cut Byte t = Unary unary_op.Zx8 t
-cut Word t = Unary unary_op.Zx16 t
-cut Long t = t
-
 abbrev pub sized : Size → Size → Taken → Taken
 sized has wanted t = if same_size has wanted then t else taken_missized
 
 -- register 0 holds the last call's result until `%0`, which it may be, is written
 abbrev pub last_result : Opening → Option Shape → Size → Result Taken TemplateKind
-last_result opening.Save None size = Ok (taken_term (cut size LastResult))
+last_result opening.Save None size = Ok (taken_term (truncated size LastResult))
 last_result o zero size = Err NotInstr
 
 abbrev pub cut_term : Size → Shape → Result Taken TemplateKind
-cut_term size t = Ok (taken_term (cut size t))
+cut_term size t = Ok (taken_term (truncated size t))
 
 -- what is read
 unfoldable pub fetched : Setting → Option Shape → Where → Size → Result Taken TemplateKind
-fetched s zero (Immediate t) size = Ok (taken_term (cut size t))
-fetched s zero (Register t) size = Ok (taken_term (cut size t))
+fetched s zero (Immediate t) size = Ok (taken_term (truncated size t))
+fetched s zero (Register t) size = Ok (taken_term (truncated size t))
 fetched s zero OwnRegister size = own_value s.own zero >>= cut_term size
 fetched s zero RegisterZero size = last_result s.opening zero size
 fetched s zero (Value z i) size = Ok (sized z size (taken_term (Symbol i)))

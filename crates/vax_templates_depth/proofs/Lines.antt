@@ -41,7 +41,7 @@ use Rattle.vax_templates.specs.HoleTerms.{constant_of, address_of, absolute_term
 use Rattle.vax_templates.specs.HoleTerms.{register_term}
 use Rattle.vax_templates.specs.Targets.{Target, ToOwn, ToSlot, ToHome, ToMemory, ToZero, ToSaved, own_target}
 use Rattle.vax_templates.specs.Targets.{memory_target, zero_target, statement_target, targeted}
-use Rattle.vax_templates.specs.Taking.{Taken, taken_missized, cut, sized, last_result, cut_term, fetched, addressed}
+use Rattle.vax_templates.specs.Taking.{Taken, taken_missized, sized, last_result, cut_term, fetched, addressed}
 use Rattle.vax_templates.specs.Taking.{written, both, taken, evaluated, Arguments, last_of, in_front, all_evaluated}
 use Rattle.vax_templates.specs.Giving.{Given, Computes, Divides, Compares, Tests, extended, truncated, given}
 use Rattle.vax_templates.specs.Deeds.{Last, Plain, Compared, Tested, Returning, Ended, Deed, leaves, ends}
@@ -205,7 +205,7 @@ module _ (s : Setting) (holes : List Hole) (zero' : Option Shape) (m : ℕ) (l :
       bind_each (WhereWithin (2 + m)) (WhereWithin (3 + m)) (where_base s holes zero' f.base) (where_indexed s holes zero' f.index size)
       (λ w h. indexed_within f.index size w h) (base_within f.base)
 
-  cut_within : (n : ℕ) (size : Size) (t : Shape) → depth t ≤ n → depth (cut size t) ≤ 1 + n
+  cut_within : (n : ℕ) (size : Size) (t : Shape) → depth t ≤ n → depth (truncated size t) ≤ 1 + n
   cut_within n Byte t h = omega (arith, h)
   cut_within n Word t h = omega (arith, h)
   cut_within n Long t h = omega (arith, h)
