@@ -1,5 +1,5 @@
 -- Relations between two longwords.
-use Rattle.std.specs.Prelude.{ℕ, ◌+◌, ◌%◌, ◌^◌, ◌==◌, nat_lt, nat_le, not, Bool}
+use Rattle.std.specs.Prelude.{ℕ, ◌+◌, ◌%◌, ◌^◌, ◌==◌, nat_lt, nat_le, not, Bool, true, false}
 use Rattle.gg_base.specs.declared.relation.Rel.{Rel}
 use Rattle.gg_base.specs.declared.relation.Rel.TheVariants.{Eq, Ne, Lt, Le, Gt, Ge, Ltu, Leu, Gtu, Geu}
 
@@ -18,3 +18,11 @@ holds Ltu a b = nat_lt a b
 holds Leu a b = nat_le a b
 holds Gtu a b = nat_lt b a
 holds Geu a b = nat_le b a
+
+-- the relation compares with signs, or for equality
+abbrev pub compares_signed : Rel → Bool
+compares_signed Ltu = false
+compares_signed Leu = false
+compares_signed Gtu = false
+compares_signed Geu = false
+compares_signed r = true

@@ -3,7 +3,7 @@ use Rattle.std.specs.Prelude.{ℕ, ◌-◌, ◌^◌, nat_lt, ◌==◌, ℤ, pos,
 use Rattle.std.specs.Prelude.{Bool, true, false, ◌&&◌, length, reverse, take, slice_get, if◌then◌else◌}
 use Rattle.gg_base.specs.Arithmetic.{com32}
 use Rattle.gg_base.specs.declared.relation.Rel.{Rel}
-use Rattle.gg_base.specs.declared.relation.Rel.TheVariants.{Ltu, Leu, Gtu, Geu}
+use Rattle.gg_base.specs.Relations.{compares_signed}
 use Rattle.tree_core.specs.declared.tree.Leaf.{Leaf}
 use Rattle.md_reader.specs.declared.types.Restriction.{Restriction}
 use Rattle.md_reader.specs.declared.types.Restriction.TheVariants as restriction
@@ -24,14 +24,6 @@ pub record Selecting (X A : Type 0) : Type 0 where
 -- a longword, read with its sign
 abbrev pub signed : ℕ → ℤ
 signed n = if nat_lt n (2 ^ 31) then pos n else negsuc (com32 n)
-
--- the relation compares with signs, or for equality
-abbrev pub compares_signed : Rel → Bool
-compares_signed Ltu = false
-compares_signed Leu = false
-compares_signed Gtu = false
-compares_signed Geu = false
-compares_signed r = true
 
 abbrev pub in_range : ℤ → ℤ → Option ℕ → Bool
 in_range low high None = false

@@ -4,8 +4,8 @@ use Rattle.std.specs.Prelude.{count_ones, is_some, slice_index_or}
 use Rattle.std.specs.List.{AllByRecursion as All}
 use Rattle.std.proofs.lemmas.Bool.{and_parts}
 use Rattle.gg_base.specs.declared.relation.Rel.{Rel}
-use Rattle.gg_base.specs.declared.relation.Rel.TheVariants as relations
 use Rattle.gg_base.specs.declared.size.Size.{Size}
+use Rattle.gg_base.specs.Relations.{compares_signed}
 use Rattle.tree_core.specs.declared.token.Tok.{Tok}
 use Rattle.tree_core.specs.declared.token.Tok.TheVariants as tok
 use Rattle.tree_core.specs.declared.tree.Att.{Att}
@@ -48,10 +48,9 @@ use Rattle.sel_target.specs.Courses.{Course}
 use Rattle.sel_target.specs.Values.{View, term_state, value}
 use Rattle.sel_target.specs.Laws.{IsLawful}
 use Rattle.sel_target.specs.EffectTerms.{IsSignedBy}
-use Rattle.sel_target.specs.EffectTerms as target_signs
 use Rattle.sel_target.specs.Instances.{hole, IsResult, lines_of}
 use Rattle.sel_target.specs.StatementLaws.{att_of, IsStep, DoesAct}
-use Rattle.lr_check_parse.specs.Attributes.{attribute_at, relation_at, is_signed, compares_signed, holds, all_hold}
+use Rattle.lr_check_parse.specs.Attributes.{attribute_at, relation_at, is_signed, holds, all_hold}
 use Rattle.sel_parse.specs.Shown.{IsShown}
 use Rattle.sel_parse_selected.specs.Entries.{Entry, attrs, relation_of, branch_relation}
 use Rattle.sel_parse_selected.specs.Selected.{selecting}
@@ -179,18 +178,6 @@ callee_tok tok.Save function count e = absurd (cc)
 callee_tok tok.Jump function count e = absurd (cc)
 callee_tok tok.End function count e = absurd (cc)
 
-same_signs : (rel : Rel) → compares_signed rel ≡ true → target_signs.compares_signed rel ≡ true
-same_signs relations.Eq e = e
-same_signs relations.Ne e = e
-same_signs relations.Lt e = e
-same_signs relations.Le e = e
-same_signs relations.Gt e = e
-same_signs relations.Ge e = e
-same_signs relations.Ltu e = e
-same_signs relations.Leu e = e
-same_signs relations.Gtu e = e
-same_signs relations.Geu e = e
-
 -- a sense with an attribute is a leaf's
 sense_leaf : (v : Sense) (a : Att) → att_in v ≡ a → (att.Nothing ≡ a → ⊥) → (l : Leaf) × (v ≡ OfLeaf l) × (l.att ≡ a)
 sense_leaf (OfLeaf l) a e no_att = (l, refl, e)
@@ -277,7 +264,7 @@ module _ {O I S F : Type 0} (of : Meaning O I S F) (law : IsLawful of) (stores :
   signed_all (restriction.Range j low high ∷ rs) i rel label h w =
       (tt, signed_all rs i rel label (and_parts (holds (selecting of q d first) es (restriction.Range j low high)) (all_hold (selecting of q d first) es rs) h).1 w)
   signed_all (restriction.Signed j ∷ rs) i rel label h w =
-      (λ e. same_signs rel (signed j e k.0), signed_all rs i rel label k.1 w)
+      (λ e. signed j e k.0, signed_all rs i rel label k.1 w)
     where
       k : (holds (selecting of q d first) es (restriction.Signed j) ≡ true) × (all_hold (selecting of q d first) es rs ≡ true)
       k = and_parts (holds (selecting of q d first) es (restriction.Signed j)) (all_hold (selecting of q d first) es rs) h

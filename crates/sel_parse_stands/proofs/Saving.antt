@@ -6,7 +6,7 @@ use Rattle.std.proofs.lemmas.Nat.Bits.{bit_at-zero}
 use Rattle.std.proofs.lemmas.Bool.{eqb-true, both_ways}
 use Rattle.gg_base.specs.declared.size.Size.{Size}
 use Rattle.gg_base.specs.declared.size.Size.TheVariants.{Byte, Word, Long}
-use Rattle.gg_base.specs.Sizes.{bytes_of}
+use Rattle.gg_base.specs.Sizes.{bytes_of, low}
 use Rattle.gg_base.proofs.Words.{low_long}
 use Rattle.tree_core.specs.declared.token.Tok.{Tok}
 use Rattle.tree_core.specs.declared.token.Tok.TheVariants as tok
@@ -36,7 +36,7 @@ use Rattle.sel_target.specs.declared.attr.Attr.{Attr}
 use Rattle.sel_target.specs.declared.attr.Attr.TheVariants as attr
 use Rattle.sel_target.specs.Meaning.{Meaning, Extent, Spot, RegAt, WordAt, touches}
 use Rattle.sel_target.specs.Values.{View, term_state, value, IsRead}
-use Rattle.sel_target.specs.Values.{low, worth, token_operand, own_operand, PlaceIs, local, argument, memory}
+use Rattle.sel_target.specs.Values.{worth, token_operand, own_operand, PlaceIs, local, argument, memory}
 use Rattle.sel_target.specs.Instances.{some_touches, attr_touches, IsWhole}
 use Rattle.sel_target.specs.StatementLaws.{att_of}
 use Rattle.sel_target.specs.Laws.{IsLawful}

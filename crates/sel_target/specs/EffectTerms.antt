@@ -2,7 +2,7 @@
 use Rattle.std.specs.Prelude.{◌≡◌, ℕ, List, ◌∷◌, ◌++◌, Bool, true, false}
 use Rattle.std.specs.List.{AllByRecursion}
 use Rattle.gg_base.specs.declared.relation.Rel.{Rel}
-use Rattle.gg_base.specs.declared.relation.Rel.TheVariants.{Ltu, Leu, Gtu, Geu}
+use Rattle.gg_base.specs.Relations.{compares_signed}
 use Rattle.tree_core.specs.declared.token.Tok.TheVariants as tok
 use Rattle.md_reader.specs.declared.types.Sym.{Sym}
 use Rattle.md_reader.specs.declared.types.Sym.TheVariants as grammar_symbol
@@ -23,14 +23,6 @@ DividesByNone v e = AllByRecursion (λ (d : Shape). value v d ≡ 0 → ⊥) e.d
 abbrev pub begins_with_save : List Sym → Bool
 begins_with_save (grammar_symbol.Tok tok.Save ∷ right) = true
 begins_with_save right = false
-
--- the relation compares with signs, or for equality
-abbrev pub compares_signed : Rel → Bool
-compares_signed Ltu = false
-compares_signed Leu = false
-compares_signed Gtu = false
-compares_signed Geu = false
-compares_signed rel = true
 
 -- a restriction that says so of symbol i holds of its relation
 abbrev pub IsSignedBy : ℕ → Rel → Restriction → Type 0

@@ -2,7 +2,7 @@
 use Rattle.std.specs.Prelude.{◌≡◌, ℕ, ◌*◌, ◌^◌, ◌<◌, List, [], ◌∷◌, Some, Ok, true}
 use Rattle.gg_base.specs.declared.size.Size.{Size}
 use Rattle.gg_base.specs.declared.size.Size.TheVariants.{Long}
-use Rattle.gg_base.specs.Sizes.{bytes_of}
+use Rattle.gg_base.specs.Sizes.{bytes_of, low}
 use Rattle.tree_core.specs.declared.program.TreeProgram.{TreeProgram}
 use Rattle.md_reader_pieces.specs.declared.piece.Line.{Line}
 use Rattle.md_reader.specs.declared.types.Kind.{Kind}
@@ -16,7 +16,7 @@ use Rattle.sel_terms_meaning.specs.Alike.{IsNarrowEffect}
 use Rattle.sel_target.specs.declared.attr.Attr.{Attr}
 use Rattle.sel_target.specs.declared.attr.Attr.TheVariants as attr
 use Rattle.sel_target.specs.Meaning.{Meaning, Extent, RegAt, WordAt, IsFree}
-use Rattle.sel_target.specs.Values.{View, value, IsRead, low, worth}
+use Rattle.sel_target.specs.Values.{View, value, IsRead, worth}
 use Rattle.sel_target.specs.Outcomes.{Sets, SetsName}
 
 module _ {O I S F : Type 0} (of : Meaning O I S F) where

@@ -1,11 +1,11 @@
 -- What the symbols of a rule stand for, and what the terms of an effect are worth: by the value of terms, with the
 -- symbols' values, and with
 -- the memory and the last result of a tree state.
-use Rattle.std.specs.Prelude.{◌≡◌, ℕ, ◌+◌, ◌-◌, ◌%◌, ◌^◌, ◌<◌, Bool, true, Option, Some, None, IsSome, unwrap_or, slice_get}
+use Rattle.std.specs.Prelude.{◌≡◌, ℕ, ◌+◌, ◌-◌, ◌<◌, Bool, true, Option, Some, None, IsSome, unwrap_or, slice_get}
 use Rattle.std.specs.Prelude.{slice_index, length}
 use Rattle.std.specs.Prelude.{slice_index, length}
 use Rattle.gg_base.specs.declared.size.Size.{Size}
-use Rattle.gg_base.specs.declared.size.Size.TheVariants.{Byte, Word, Long}
+use Rattle.gg_base.specs.declared.size.Size.TheVariants.{Long}
 use Rattle.gg_base.specs.Arithmetic.{add32}
 use Rattle.tree_core.specs.declared.token.Tok.{Tok}
 use Rattle.tree_core.specs.declared.token.Tok.TheVariants as tok
@@ -47,12 +47,6 @@ IsReadWhere every v t = Safe every (λ i. IsSome (v.symbol i)) v.state.area (ter
 
 abbrev pub IsRead : View → Shape → Type 0
 IsRead v t = IsReadWhere true v t
-
--- the part of a number that an operand of a size has
-abbrev pub low : Size → ℕ → ℕ
-low Byte n = n % 2 ^ 8
-low Word n = n % 2 ^ 16
-low Long n = n
 
 abbrev pub address_of : Option Object → ℕ → Option ℕ
 address_of None offset = None

@@ -5,7 +5,7 @@ use Rattle.std.proofs.lemmas.Bool.{and_parts, eqb-true}
 use Rattle.std.proofs.lemmas.Option.{none-some}
 use Rattle.gg_base.specs.declared.size.Size.{Size}
 use Rattle.gg_base.specs.declared.size.Size.TheVariants.{Byte, Word as Halfword, Long}
-use Rattle.gg_base.specs.Sizes.{bytes_of}
+use Rattle.gg_base.specs.Sizes.{bytes_of, low}
 use Rattle.tree_core.specs.declared.program.TreeProgram.{TreeProgram}
 use Rattle.md_reader_pieces.specs.declared.piece.Line.{Line}
 use Rattle.md_reader.specs.declared.types.Kind.{Kind}
@@ -17,7 +17,7 @@ use Rattle.sel_terms_meaning.specs.Alike.{IsNarrowEffect}
 use Rattle.sel_target.specs.declared.attr.Attr.{Attr}
 use Rattle.sel_target.specs.declared.attr.Attr.TheVariants as attr
 use Rattle.sel_target.specs.Meaning.{RegAt, WordAt}
-use Rattle.sel_target.specs.Values.{View, value, low, worth}
+use Rattle.sel_target.specs.Values.{View, value, worth}
 use Rattle.sel_target.specs.Outcomes.{Sets, SetsName}
 use Rattle.sel_target.specs.SavingLaws.{Saves, Reloads, IsValue, operand as is_operand, register as is_register, saving, reloading, SavesAndReloads}
 use Rattle.sel_target.proofs.Facts.{low_is}

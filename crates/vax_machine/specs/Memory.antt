@@ -13,12 +13,6 @@ use Rattle.vax_machine.specs.declared.memory.Region.{Region}
 use Rattle.vax_machine.specs.declared.memory.Region.TheVariants as regions
 use Rattle.vax_machine.specs.State.{State, with_reg, access, frame, stack_full, ◌>>=◌}
 
--- the low part of a number at a size
-abbrev pub low : Size → ℕ → ℕ
-low Byte v = v % 2 ^ 8
-low Word v = v % 2 ^ 16
-low Long v = v
-
 -- where the bytes from an address on are kept: the data area begins at 65536, the stack lies from 2139095040 to 2147483648
 unfoldable pub touched : State → ℕ → Size → Result Region Stop
 touched m address size =

@@ -2,7 +2,7 @@
 use Rattle.std.specs.Prelude.{ℕ, List, [], ◌∷◌, Option, Some, None, Result, Ok, Err}
 use Rattle.gg_base.specs.declared.size.Size.{Size}
 use Rattle.gg_base.specs.declared.size.Size.TheVariants.{Long}
-use Rattle.gg_base.specs.Sizes.{bytes_of}
+use Rattle.gg_base.specs.Sizes.{bytes_of, low}
 use Rattle.gg_base.specs.Arithmetic.{add32, sub32, mul32}
 use Rattle.vax_core.specs.declared.register.Reg.{Reg}
 use Rattle.vax_core.specs.declared.operand.Base.{Base}
@@ -19,7 +19,7 @@ use Rattle.vax_machine.specs.declared.operands.Evaluated.{Evaluated}
 use Rattle.vax_machine.specs.declared.operands.Arguments.{Arguments}
 use Rattle.vax_machine.specs.State.{State, reg, bad_code, ◌>>=◌}
 use Rattle.vax_machine.specs.Area.{resolved}
-use Rattle.vax_machine.specs.Memory.{low, read, written, register_set, merged}
+use Rattle.vax_machine.specs.Memory.{read, written, register_set, merged}
 
 -- the number at an address is itself an address
 abbrev pub deferred : State → ℕ → Result (Location × State) Stop

@@ -1,6 +1,7 @@
 // Memory: the data area and the stack, as bytes.
 ghost use Rattle.std.specs.Prelude.{◌≡◌, ◌<◌, IfOk};
-ghost use Rattle.vax_machine.specs.Memory.{low, merged};
+ghost use Rattle.gg_base.specs.Sizes.{low};
+ghost use Rattle.vax_machine.specs.Memory.{merged};
 ghost use Rattle.vax_core.specs.Registers.{reg_number};
 
 use crate::machine::Machine;

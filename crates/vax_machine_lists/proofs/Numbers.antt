@@ -7,10 +7,11 @@ use Rattle.gg_base.specs.declared.size.Size.{Size}
 use Rattle.gg_base.specs.declared.size.Size.TheVariants.{Byte, Word, Long}
 use Rattle.gg_base.specs.Arithmetic.{add32, sub32, mul32, neg32, com32, zext8, zext16, magnitude, same_sign, div32}
 use Rattle.gg_base.proofs.Words.{neg_small, ash_small, magnitude_small}
+use Rattle.gg_base.specs.Sizes.{low}
 use Rattle.vax_machine.specs.declared.function.Computed.{Computed}
 use Rattle.vax_machine.specs.declared.function.Function.{Function}
 use Rattle.vax_machine.specs.declared.function.Function.TheVariants as functions
-use Rattle.vax_machine.specs.Memory.{low, merged}
+use Rattle.vax_machine.specs.Memory.{merged}
 use Rattle.vax_machine.specs.Functions.{extended, quotient, applied}
 
 pub add_small : (a b : ℕ) → add32 a b < 2 ^ 32

@@ -8,6 +8,7 @@ use Rattle.gg_base.specs.declared.size.Size.{Size}
 use Rattle.gg_base.specs.declared.size.Size.TheVariants.{Byte, Word, Long}
 use Rattle.gg_base.specs.LittleEndian.{number_in}
 use Rattle.gg_base.proofs.Facts.{first_false, second_false, err_ok}
+use Rattle.gg_base.specs.Sizes.{low}
 use Rattle.term_core.specs.Shape.{Shape, Constant, Symbol, LastResult, Memory}
 use Rattle.sel_terms.specs.Same.{same_size}
 use Rattle.sel_terms.proofs.Alike.{equal_sizes}
@@ -31,7 +32,7 @@ use Rattle.vax_machine.specs.declared.operands.Evaluated.{Evaluated}
 use Rattle.vax_machine.specs.declared.operands.Arguments.{Arguments as Numbers}
 use Rattle.vax_machine.specs.State.{State, reg}
 use Rattle.vax_machine.specs.State as state
-use Rattle.vax_machine.specs.Memory.{low, read, touched, number_at}
+use Rattle.vax_machine.specs.Memory.{read, touched, number_at}
 use Rattle.vax_machine.specs.Operands as machine
 use Rattle.vax_machine_lists.specs.Sound.{IsSound, AllBelow}
 use Rattle.vax_machine_lists.proofs.Longwords.{all_bytes}

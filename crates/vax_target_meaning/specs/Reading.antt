@@ -6,7 +6,7 @@ use Rattle.std.specs.Prelude.{is_none, is_some, Result, Ok, Err, cond}
 use Rattle.std.specs.Option.{option_and_then, option_map}
 use Rattle.gg_base.specs.declared.size.Size.{Size}
 use Rattle.gg_base.specs.declared.size.Size.TheVariants.{Long}
-use Rattle.gg_base.specs.Sizes.{bytes_of}
+use Rattle.gg_base.specs.Sizes.{bytes_of, low}
 use Rattle.gg_base.specs.Arithmetic.{add32, mul32}
 use Rattle.tree_core.specs.Area.{fetched}
 use Rattle.vax_core.specs.declared.register.Reg.{Reg}
@@ -18,7 +18,7 @@ use Rattle.vax_core.specs.declared.operand.Operand.{Operand}
 use Rattle.vax_machine.specs.declared.turn.Stop.{Stop}
 use Rattle.vax_machine.specs.State.{State, reg}
 use Rattle.vax_machine.specs.Area.{resolved}
-use Rattle.vax_machine.specs.Memory.{low, read}
+use Rattle.vax_machine.specs.Memory.{read}
 use Rattle.vax_templates.specs.FrameWords.{word_with_name}
 
 -- `4i(ap)` for argument i, from 1 to 255

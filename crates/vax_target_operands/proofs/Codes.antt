@@ -10,7 +10,6 @@ use Rattle.gg_base.specs.declared.relation.Rel.TheVariants.{Eq, Ne, Lt, Le, Gt, 
 use Rattle.gg_base.specs.Relations.{holds, signed_rank}
 use Rattle.gg_base.specs.Arithmetic.{sext8, sext16, zext8, zext16}
 use Rattle.gg_base.proofs.Facts.{same_bool}
-use Rattle.sel_target.specs.EffectTerms.{compares_signed}
 use Rattle.vax_machine.specs.declared.function.Conditions.{Conditions}
 use Rattle.vax_machine.specs.Functions.{extended, is_negative_at, passes}
 use Rattle.vax_target_operands.specs.Conditions.{test_of, Compared, Tested, IsNarrow}

@@ -4,9 +4,8 @@ use Rattle.gg_base.specs.declared.size.Size.{Size}
 use Rattle.gg_base.specs.Sizes.{bytes_of}
 use Rattle.gg_base.specs.declared.relation.Rel.{Rel}
 use Rattle.gg_base.specs.declared.relation.Rel.TheVariants as relations
-use Rattle.gg_base.specs.Relations.{holds}
+use Rattle.gg_base.specs.Relations.{holds, compares_signed}
 use Rattle.term_core.specs.Shape.{Shape}
-use Rattle.sel_target.specs.EffectTerms.{compares_signed}
 use Rattle.vax_machine.specs.declared.function.Computed.{Computed}
 use Rattle.vax_machine.specs.declared.function.Conditions.{Conditions}
 use Rattle.vax_machine.specs.declared.function.Function.{Function}

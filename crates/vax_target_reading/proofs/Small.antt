@@ -6,7 +6,7 @@ use Rattle.std.proofs.lemmas.Bool.Decides.{nat_tests}
 use Rattle.gg_base.specs.declared.size.Size.{Size}
 use Rattle.gg_base.specs.declared.size.Size.TheVariants.{Byte, Word, Long}
 use Rattle.gg_base.specs.Arithmetic.{add32, mul32}
-use Rattle.gg_base.specs.Sizes.{bytes_of}
+use Rattle.gg_base.specs.Sizes.{bytes_of, low}
 use Rattle.gg_base.specs.LittleEndian.{number_in}
 use Rattle.sel_target.proofs.AreaBytes.{number_small}
 use Rattle.vax_core.specs.declared.register.Reg.{Reg}
@@ -18,7 +18,7 @@ use Rattle.vax_machine.specs.declared.memory.Region.{Region}
 use Rattle.vax_machine.specs.declared.memory.Region.TheVariants as regions
 use Rattle.vax_machine.specs.State.{State, reg, ◌>>=◌}
 use Rattle.vax_machine.specs.Area.{resolved}
-use Rattle.vax_machine.specs.Memory.{low, touched, number_at, read}
+use Rattle.vax_machine.specs.Memory.{touched, number_at, read}
 use Rattle.vax_machine_lists.specs.Sound.{IsSound}
 use Rattle.vax_machine_lists.proofs.Longwords.{all_bytes}
 use Rattle.vax_states.proofs.Keeping.{reg_small}

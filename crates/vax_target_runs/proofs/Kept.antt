@@ -6,7 +6,7 @@ use Rattle.std.specs.Option.{option_map, option_and_then}
 use Rattle.std.proofs.lemmas.Bool.{lt-ltb, or_right}
 use Rattle.gg_base.specs.declared.size.Size.{Size}
 use Rattle.gg_base.specs.declared.size.Size.TheVariants.{Long}
-use Rattle.gg_base.specs.Sizes.{bytes_of}
+use Rattle.gg_base.specs.Sizes.{bytes_of, low}
 use Rattle.gg_base.specs.Arithmetic.{add32, mul32}
 use Rattle.tree_core.specs.declared.program.TreeProgram.{TreeProgram}
 use Rattle.tree_meaning.specs.State.{State as Trees}
@@ -22,7 +22,7 @@ use Rattle.vax_core.proofs.RegisterLaws.{operand_named}
 use Rattle.vax_machine.specs.declared.function.Conditions.{Conditions}
 use Rattle.vax_machine.specs.State.{State, reg}
 use Rattle.vax_machine.specs.Area.{resolved}
-use Rattle.vax_machine.specs.Memory.{low, read, touched}
+use Rattle.vax_machine.specs.Memory.{read, touched}
 use Rattle.vax_states.specs.Stack.{long_at}
 use Rattle.vax_states.specs.Agreeing.{Agrees, HasRoom}
 use Rattle.vax_states.proofs.Standing.{kept}

@@ -4,6 +4,7 @@ use Rattle.std.specs.Prelude.{is_some}
 use Rattle.gg_base.specs.declared.size.Size.{Size}
 use Rattle.gg_base.specs.declared.size.Size.TheVariants.{Long}
 use Rattle.gg_base.specs.Arithmetic.{add32, neg32}
+use Rattle.gg_base.specs.Sizes.{low}
 use Rattle.tree_core.specs.declared.program.TreeProgram.{TreeProgram}
 use Rattle.md_reader.specs.declared.types.Kind.TheVariants as kind
 use Rattle.term_core.specs.Shape.{Shape}
@@ -11,7 +12,7 @@ use Rattle.term_core.proofs.Values.{small}
 use Rattle.sel_target.specs.declared.attr.Attr.{Attr}
 use Rattle.sel_target.specs.declared.attr.Attr.TheVariants as attr
 use Rattle.sel_target.specs.Meaning.{Extent, WordAt}
-use Rattle.sel_target.specs.Values.{View, value, low, term_state}
+use Rattle.sel_target.specs.Values.{View, value, term_state}
 use Rattle.sel_target.specs.Outcomes.{Sets, SetsName}
 use Rattle.sel_target.specs.SavingLaws.{IsSet, IsSlot, saving}
 use Rattle.md_reader_pieces.specs.declared.piece.Line.{Line}

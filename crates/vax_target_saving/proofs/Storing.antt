@@ -1,25 +1,18 @@
 -- The law of stored numbers.
-use Rattle.std.proofs.Common.{◌≡◌, ℕ, ◌+◌, ◌*◌, ◌<◌, Option, Some, map, refl, ap, ◌∙◌, arith}
+use Rattle.std.proofs.Common.{◌≡◌, ℕ, ◌+◌, ◌*◌, ◌<◌, Option, map, refl, ap, ◌∙◌, arith}
 use Rattle.std.specs.Prelude.{is_some}
 use Rattle.gg_base.specs.declared.size.Size.{Size}
-use Rattle.gg_base.specs.declared.size.Size.TheVariants.{Byte, Word, Long}
 use Rattle.gg_base.specs.Arithmetic.{add32, neg32}
-use Rattle.sel_target.specs.Values as values
 use Rattle.vax_core.specs.declared.register.Reg.TheVariants.{Fp}
 use Rattle.vax_core.specs.Homes.{home}
 use Rattle.vax_machine.specs.State.{State, reg}
-use Rattle.vax_machine.specs.Memory.{low, read}
+use Rattle.vax_machine.specs.Memory.{read}
 use Rattle.vax_states.specs.Stack.{word_of}
 use Rattle.vax_target_meaning.specs.Reading.{number_of, number_at, reads}
 use Rattle.vax_target_meaning.specs.Vax.{extent_of}
 use Rattle.vax_target_spelling.proofs.Own.{home_word}
 use Rattle.vax_target_saving.specs.Laws.{with_word, FreeWordsStore}
 use Rattle.vax_target_saving.proofs.Words.{IsFrameWord, frame_word, is_written, read_there, names_kept, reads_kept, agrees_kept, room_kept}
-
-same_low : (size : Size) (x : ℕ) → low size x ≡ values.low size x
-same_low Byte x = refl
-same_low Word x = refl
-same_low Long x = refl
 
 -- where a slot lies
 pub slot_address : (m : State) (w : ℕ) (f : IsFrameWord m w) → add32 (neg32 (4 * (w + 1))) (reg m Fp) ≡ word_of (reg m Fp) w
@@ -36,7 +29,7 @@ free_words_store q f fs t m w size x k h free small =
     let g = frame_word q.objects (extent_of f) (map extent_of fs) t m h w free.1 in
     record {
       stores = is_written m w g size x;
-      reads = λ lt. slot_reads (with_word m w size x k) w size lt (slot_address m w g) ∙ ap number_of (read_there m w g size x k small) ∙ ap Some (same_low size x);
+      reads = λ lt. slot_reads (with_word m w size x k) w size lt (slot_address m w g) ∙ ap number_of (read_there m w g size x k small);
       keeps = record {
         reads = λ o y n apart e. reads_kept m w g size x k o y apart.0 ∙ e;
         names = λ o y n apart e. names_kept m w g size x k o y apart.0 ∙ e;

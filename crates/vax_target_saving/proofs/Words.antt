@@ -8,7 +8,7 @@ use Rattle.std.proofs.lemmas.Bool.Decides.{nat_tests}
 use Rattle.gg_base.specs.declared.size.Size.{Size}
 use Rattle.gg_base.specs.declared.size.Size.TheVariants.{Byte, Word, Long}
 use Rattle.gg_base.specs.Arithmetic.{add32, neg32}
-use Rattle.gg_base.specs.Sizes.{bytes_of}
+use Rattle.gg_base.specs.Sizes.{bytes_of, low}
 use Rattle.gg_base.specs.LittleEndian.{with_number}
 use Rattle.tree_core.specs.declared.program.Object.{Object}
 use Rattle.tree_core.specs.Area.{fetched}
@@ -28,7 +28,7 @@ use Rattle.vax_machine.specs.declared.memory.Region.{Region}
 use Rattle.vax_machine.specs.declared.memory.Region.TheVariants as regions
 use Rattle.vax_machine.specs.State.{State, reg, with_conditions, access, frame, ◌>>=◌}
 use Rattle.vax_machine.specs.Area.{resolved_of}
-use Rattle.vax_machine.specs.Memory.{low, touched, number_at, with_number_at, read, written}
+use Rattle.vax_machine.specs.Memory.{touched, number_at, with_number_at, read, written}
 use Rattle.vax_machine_lists.specs.Sound.{AllBelow}
 use Rattle.vax_machine_lists.proofs.Soundness.{conditions_sound}
 use Rattle.vax_states.specs.Stack.{Extent, word_of}

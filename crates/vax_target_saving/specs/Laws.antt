@@ -2,7 +2,7 @@
 use Rattle.std.specs.Prelude.{◌≡◌, ℕ, ◌-◌, ◌*◌, ◌^◌, ◌<◌, List, [], ◌∷◌, Some, Ok, true}
 use Rattle.gg_base.specs.declared.size.Size.{Size}
 use Rattle.gg_base.specs.declared.size.Size.TheVariants.{Long}
-use Rattle.gg_base.specs.Sizes.{bytes_of}
+use Rattle.gg_base.specs.Sizes.{bytes_of, low}
 use Rattle.gg_base.specs.LittleEndian.{with_number}
 use Rattle.tree_core.specs.declared.program.TreeProgram.{TreeProgram}
 use Rattle.tree_meaning.specs.State.{State as Trees}
@@ -11,7 +11,7 @@ use Rattle.md_reader.specs.declared.types.Kind.TheVariants as kind
 use Rattle.sel_target.specs.declared.attr.Attr.{Attr}
 use Rattle.sel_target.specs.declared.attr.Attr.TheVariants as attr
 use Rattle.sel_target.specs.Meaning.{Extent, RegAt, WordAt, IsFree}
-use Rattle.sel_target.specs.Values.{View, value, low, worth}
+use Rattle.sel_target.specs.Values.{View, value, worth}
 use Rattle.sel_target.specs.Outcomes.{Keeps, Sets, SetsName}
 use Rattle.sel_target.specs.SavingLaws.{Saves, Reloads, IsValue, IsSet, IsSlot, saving, reloading, SavesAndReloads}
 use Rattle.vax_core.specs.declared.operand.Operand.{Operand}

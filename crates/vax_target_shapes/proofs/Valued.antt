@@ -5,6 +5,7 @@ use Rattle.gg_base.specs.declared.size.Size.{Size}
 use Rattle.gg_base.specs.declared.size.Size.TheVariants.{Byte, Word, Long}
 use Rattle.gg_base.specs.Arithmetic.{neg32}
 use Rattle.gg_base.proofs.Facts.{err_ok}
+use Rattle.gg_base.specs.Sizes.{low}
 use Rattle.term_core.specs.declared.operator.UnaryOp.TheVariants as unary_op
 use Rattle.term_core.specs.Shape.{Shape, Symbol, LastResult, Memory, Unary}
 use Rattle.term_core.proofs.Values.{small}
@@ -21,7 +22,6 @@ use Rattle.vax_core.specs.declared.operand.Base.TheVariants as bases
 use Rattle.vax_core.specs.declared.operand.Operand.{Operand}
 use Rattle.vax_machine.specs.State.{State, reg}
 use Rattle.vax_machine.specs.Area.{resolved}
-use Rattle.vax_machine.specs.Memory.{low}
 use Rattle.vax_templates.specs.declared.form.Base.{Base}
 use Rattle.vax_templates.specs.declared.form.Base.TheVariants as base
 use Rattle.vax_templates.specs.declared.form.Form.{Form}

@@ -5,7 +5,7 @@ use Rattle.std.specs.Option.{option_map}
 use Rattle.std.specs.List.{AllByRecursion}
 use Rattle.gg_base.specs.declared.relation.Rel.{Rel}
 use Rattle.gg_base.specs.declared.relation.Rel.TheVariants as relations
-use Rattle.gg_base.specs.Relations.{holds}
+use Rattle.gg_base.specs.Relations.{holds, compares_signed}
 use Rattle.tree_core.specs.declared.program.TreeProgram.{TreeProgram}
 use Rattle.tree_core.specs.declared.tree.Att.{Att}
 use Rattle.tree_core.specs.declared.tree.Att.TheVariants as att
@@ -27,7 +27,7 @@ use Rattle.sel_target.specs.declared.attr.Attr.TheVariants as attr
 use Rattle.sel_target.specs.Courses.{label_name}
 use Rattle.sel_target.specs.Meaning.{Extent}
 use Rattle.sel_target.specs.Values.{View, value}
-use Rattle.sel_target.specs.EffectTerms.{compares_signed, IsSignedBy}
+use Rattle.sel_target.specs.EffectTerms.{IsSignedBy}
 use Rattle.sel_target.specs.Instances.{hole, Ready}
 use Rattle.sel_target.specs.StatementLaws.{att_of}
 use Rattle.vax_core.specs.declared.op.Op.TheVariants as ops
