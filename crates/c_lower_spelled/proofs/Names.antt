@@ -5,13 +5,13 @@ use Rattle.std.specs.List.{AllByRecursion, list_all}
 use Rattle.std.proofs.lemmas.Bool.{le-leb, and_from}
 use Rattle.std.proofs.lemmas.Bool.Decides.{nat_tests}
 use Rattle.tree_core.specs.declared.program.TreeFn.{TreeFn}
+use Rattle.tree_core.specs.Names.{function_label}
 use Rattle.c_tokens.specs.Letters.{in_word}
 use Rattle.c_tokens.specs.Grammar.{Pass}
 use Rattle.c_typed_words.specs.Words.{IsName}
 use Rattle.c_program.specs.Programs.{ARoutine}
 use Rattle.c_lower_scheme.specs.Programs.{body_of, lower_all}
 use Rattle.vax_core.specs.Valid.{is_name_part, is_name}
-use Rattle.vax_frames.specs.Frames.{function_label}
 use Rattle.c_lower_spelled.specs.Claims.{NamesAreSpelled}
 
 letter_part : (b : ℕ) → in_word b ≡ true → is_name_part b ≡ true

@@ -5,6 +5,7 @@ use Rattle.tree_core.specs.declared.tree.Leaf.{Leaf}
 use Rattle.tree_core.specs.declared.program.TreeItem.TheVariants as tree_item
 use Rattle.tree_core.specs.declared.program.TreeFn.{TreeFn}
 use Rattle.tree_core.specs.declared.program.TreeProgram.{TreeProgram}
+use Rattle.tree_core.specs.Names.{function_label}
 use Rattle.c_phrases.specs.Units.{AUnit}
 use Rattle.c_program.specs.Need.{need_of}
 use Rattle.c_program.specs.Programs.{ARoutine, AProgram}
@@ -14,7 +15,6 @@ use Rattle.c_sound.specs.Sound.{IsSound}
 use Rattle.c_lower_scheme.specs.Programs.{body_of, lowered}
 use Rattle.sel_target.specs.Spelled.{IsSpelled}
 use Rattle.vax_core.specs.Valid.{is_name}
-use Rattle.vax_frames.specs.Frames.{function_label}
 use Rattle.gg_compile_law.specs.Names.{HaveSmall}
 
 -- the first label that is free behind functions, from the one before them on

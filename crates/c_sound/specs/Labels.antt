@@ -1,11 +1,10 @@
 -- Labels of objects, and the addresses that their links hold.
-use Rattle.std.specs.Prelude.{◌≡◌, ◌≢◌, ℕ, ◌==◌, ◌&&◌, ◌||◌, nat_le, Bool, true, false, List, [], ◌∷◌, length, take}
-use Rattle.std.specs.Prelude.{drop, codes, Some, slice_get}
+use Rattle.std.specs.Prelude.{◌≡◌, ◌≢◌, ℕ, ◌==◌, ◌&&◌, ◌||◌, nat_le, Bool, true, false, List, [], ◌∷◌, length}
+use Rattle.std.specs.Prelude.{codes, Some, slice_get}
 use Rattle.std.specs.Char.{is_ascii_alphanumeric}
-use Rattle.std.specs.Int.{w32, to_le_bytes}
 use Rattle.std.specs.List.{All, list_all}
-use Rattle.tree_core.specs.declared.program.Link.{Link}
 use Rattle.tree_core.specs.declared.program.Object.{Object}
+use Rattle.tree_core.specs.Area.{HoldsAddress}
 
 -- `_` before a global variable's name, `S` before a literal's number, `T` before a static local's
 abbrev pub is_label_start : ℕ → Bool
@@ -23,10 +22,6 @@ is_label (c ∷ cs) = is_label_start c && (nat_le (length cs) 63 && list_all is_
 -- the label of a function or service
 abbrev pub entry_label : List ℕ → List ℕ
 entry_label name = 95 ∷ name
-
--- the four bytes at a link are the address of the object that it names, the lowest first
-abbrev pub HoldsAddress : List Object → List ℕ → Link → Type 0
-HoldsAddress os bytes l = (o : Object) → slice_get os l.object ≡ Some o → take 4 (drop l.at bytes) ≡ to_le_bytes w32 o.address
 
 abbrev pub HoldsAddresses : List Object → Object → Type 0
 HoldsAddresses os o = All (HoldsAddress os o.bytes) o.links

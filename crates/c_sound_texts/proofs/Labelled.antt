@@ -16,13 +16,14 @@ use Rattle.tree_core.specs.declared.program.Link.{Link}
 use Rattle.tree_core.specs.Valid.{is_aligned, is_whole, is_placed, rounded, object_lies}
 use Rattle.tree_core.proofs.Validity.{rounded_up}
 use Rattle.c_tokens.specs.Letters.{in_word}
+use Rattle.tree_core.specs.Area.{HoldsAddress}
 use Rattle.c_tokens.specs.Grammar.{Pass}
 use Rattle.c_typed_scope.specs.declared.entry.Entry.{Entry}
 use Rattle.c_typed_scope.specs.declared.entry.Entry.TheVariants as entries
 use Rattle.c_typed_scope.specs.Scopes.{Scope, find}
 use Rattle.c_typed_scope.specs.Contents.{low_bytes}
 use Rattle.c_program.specs.Programs.{ARoutine}
-use Rattle.c_sound.specs.Labels.{is_label_start, is_label_part, is_label, entry_label, HoldsAddress, HoldsAddresses, AreLabelled}
+use Rattle.c_sound.specs.Labels.{is_label_start, is_label_part, is_label, entry_label, HoldsAddresses, AreLabelled}
 use Rattle.c_typed_definition.specs.State.{State}
 use Rattle.c_typed_words.specs.Words.{IsName}
 use Rattle.c_sound_bodies.proofs.Objects.{IsVariable}

@@ -6,6 +6,7 @@ use Rattle.tree_core.specs.declared.program.TreeItem.{TreeItem}
 use Rattle.tree_core.specs.declared.program.TreeItem.TheVariants as tree_item
 use Rattle.tree_core.specs.declared.program.TreeFn.{TreeFn}
 use Rattle.tree_core.specs.declared.program.TreeProgram.{TreeProgram}
+use Rattle.tree_core.specs.Names.{label_name}
 use Rattle.md_reader.specs.State.{Content}
 use Rattle.sel_regs.specs.Slots.{Frame, larger_of}
 use Rattle.sel_target.specs.Meaning.{Meaning}
@@ -16,7 +17,6 @@ use Rattle.vax_core.specs.declared.code.AreaItem.{AreaItem}
 use Rattle.vax_core.specs.declared.code.CodeItem.{CodeItem}
 use Rattle.vax_core.specs.declared.code.CodeItem.TheVariants as item_kind
 use Rattle.vax_frames.specs.Frames.{code_items, IsFrameCode}
-use Rattle.gg_compile_law.specs.Effects.{label_name}
 use Rattle.gg_compile_law.specs.Spelling.{area_of}
 use Rattle.gg_compile_code.specs.Selecting.{AreSelected, nothing, label, tree, PutsItem, IsSelectedFunction, AreSelectedFunctions, none, more, SelectedAll}
 use Rattle.gg_compile_code.proofs.Appending.{selected_append, functions_append}

@@ -1,6 +1,7 @@
 -- A course of the target's words is the machine's own, and a step that a course is, it does.
 use Rattle.std.proofs.Common.{◌≡◌, ℕ, List, [], ◌∷◌, length, map, Option, Some, None, refl, ap, ◌∙◌, subst}
 use Rattle.tree_core.specs.declared.program.TreeProgram.{TreeProgram}
+use Rattle.tree_core.specs.Names.{label_name, function_label}
 use Rattle.tree_meaning.specs.State.{State as Trees}
 use Rattle.tree_meaning.specs.declared.machine.Finish.TheVariants as finish
 use Rattle.tree_meaning.specs.Steps.{Step, Goes as GoesOn, Serves, GoesTo, Enters, GoesBack, Ends}
@@ -14,10 +15,9 @@ use Rattle.vax_machine.specs.State.{State}
 use Rattle.vax_machine_lists.specs.Instructions.{Course, Ending, Comes, Goes, Calls, Returns, Stops, one_byte}
 use Rattle.vax_states.specs.Stack as stack
 use Rattle.vax_states.specs.Agreeing.{Agrees}
-use Rattle.vax_frames.specs.Frames.{function_label}
 use Rattle.vax_target_meaning.specs.Running.{ending_of, course_of}
 use Rattle.vax_target_meaning.specs.Vax.{vax, extent_of}
-use Rattle.gg_compile_law.specs.Effects.{label_name, Stays, Does}
+use Rattle.gg_compile_law.specs.Effects.{Stays, Does}
 
 -- ---- what a course is
 
@@ -134,11 +134,11 @@ module _ (q : TreeProgram) (e : stack.Extent) (es : List stack.Extent) (t : Tree
     h.3,
   )
   step_does c (GoesTo label s) fair h =
-      (h.0, course_is c [] (target.Goes (target.label_name label) h.0) (Goes (label_name label) h.0) h.1 (ends_goes c.ending (target.label_name label) h.0), stays s h.0 h.2)
+      (h.0, course_is c [] (target.Goes (label_name label) h.0) (Goes (label_name label) h.0) h.1 (ends_goes c.ending (label_name label) h.0), stays s h.0 h.2)
   step_does c (Enters g args s) fair h = (
     h.0,
-    course_is c [] (target.Calls (target.function_label g.name) (length args) h.0 []) (Calls (function_label g.name) (length args) h.0 []) h.1
-        (ends_calls c.ending (target.function_label g.name) (length args) h.0 []),
+    course_is c [] (target.Calls (function_label g.name) (length args) h.0 []) (Calls (function_label g.name) (length args) h.0 []) h.1
+        (ends_calls c.ending (function_label g.name) (length args) h.0 []),
     stays t h.0 h.2,
   )
   step_does c (GoesBack v s) fair h = (h.0, course_is c [] (target.Returns h.0) (Returns h.0) h.1 (ends_returns c.ending h.0), stays t h.0 h.2, h.3)

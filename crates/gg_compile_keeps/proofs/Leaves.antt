@@ -15,6 +15,7 @@ use Rattle.tree_core.specs.Attributes.{is_of_kind, attribute_of, leaf_fits}
 use Rattle.tree_core.specs.Grammar.{sort_of}
 use Rattle.tree_core.specs.Trees.{IsTyped}
 use Rattle.tree_core.specs.Valid.{names, leaf_names}
+use Rattle.tree_core.specs.Names.{label_name}
 use Rattle.sel_target.specs.Instances.{InFrame}
 use Rattle.sel_target.specs.Spelled.{IsSpelled}
 use Rattle.sel_parse_moves.specs.Claims.{root}
@@ -25,7 +26,6 @@ use Rattle.sel_parse_slots.specs.Claims.{IsOwn}
 use Rattle.vax_core.specs.declared.code.CodeItem.{CodeItem}
 use Rattle.vax_machine.specs.Labels.{has_label}
 use Rattle.vax_templates.specs.FilledLines.{label_of_att}
-use Rattle.gg_compile_law.specs.Effects.{label_name}
 use Rattle.gg_compile_law.specs.Roles.{target_by, target_of}
 use Rattle.gg_compile_effect.proofs.Trees.{IsLow, Headed, headed}
 pub use Rattle.gg_compile_effect.proofs.Trees.{root_is}

@@ -18,8 +18,6 @@ use Rattle.tree_core.specs.declared.program.TreeItem.TheVariants as tree_item
 use Rattle.tree_core.specs.declared.program.TreeFn.{TreeFn}
 use Rattle.tree_core.specs.declared.program.TreeProgram.{TreeProgram}
 use Rattle.tree_meaning.specs.State.{behind}
-use Rattle.gg_compile_law.specs.Effects.{label_name}
-use Rattle.vax_frames.specs.Frames.{function_label}
 use Rattle.vax_frames.specs.Frames.{code_items, room_code, end_code, frame_items}
 use Rattle.gg_compile_law.specs.Programs.{HasItems, stands_in, IsBody, nothing, label, root, StandsAt, IsEmitted, IsCompiled}
 use Rattle.gg_compile_law.specs.Assembled.{IsTreeCode, nothing as nothing_of, label as label_of, root as root_of, IsFunctionCode, AreFunctions, none, more, IsAssembled}
@@ -27,6 +25,7 @@ use Rattle.gg_compile_law.specs.Assembled.{AssembledFollow, SourceIsFollowed, Fr
 use Rattle.gg_compile_law.proofs.Validity.{all_at, IsIn, RootFacts, root_facts, items_in_order}
 use Rattle.tree_core.specs.declared.tree.Leaf.{Leaf}
 use Rattle.tree_core.specs.Valid.{named, main_takes_nothing, IsValid}
+use Rattle.tree_core.specs.Names.{label_name, function_label}
 use Rattle.gg_compile_law.specs.Areas.{HoldsObjects}
 use Rattle.gg_compile_law.proofs.Areas.{blocks_hold_objects}
 use Rattle.gg_compile_law.proofs.Placing.{has_instrs, has_rest}

@@ -21,9 +21,8 @@ use Rattle.tree_core.specs.declared.program.Object.{Object}
 use Rattle.tree_core.specs.declared.program.TreeFn.{TreeFn}
 use Rattle.tree_core.specs.declared.program.TreeProgram.{TreeProgram}
 use Rattle.tree_core.specs.Valid.{object_lies, objects_lie, link_lies, LinksLie}
-use Rattle.vax_frames.specs.Frames.{function_label}
+use Rattle.tree_core.specs.Names.{label_name, function_label}
 use Rattle.gg_compile_law.specs.Areas.{HasNoLabel}
-use Rattle.gg_compile_law.specs.Effects.{label_name}
 use Rattle.gg_compile_law.specs.Spelling.{power_of, after_zeros, by_byte, label_of, link_addr, spelled, block_of, blocks_of, area_of}
 use Rattle.gg_compile_law.specs.Loaded.{AreApart, AssembledLoads}
 use Rattle.gg_compile_law.proofs.Areas.{lies, end_behind}

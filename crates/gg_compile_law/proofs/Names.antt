@@ -22,8 +22,8 @@ use Rattle.tree_core.specs.declared.program.TreeProgram.{TreeProgram}
 use Rattle.tree_core.specs.Items.{times, all_labels}
 use Rattle.tree_core.specs.Valid.{named, IsValid}
 use Rattle.tree_core.proofs.Apart.{times-append}
-use Rattle.vax_frames.specs.Frames.{function_label, room_code, end_code, code_items, frame_items}
-use Rattle.gg_compile_law.specs.Effects.{label_name}
+use Rattle.tree_core.specs.Names.{label_name, function_label}
+use Rattle.vax_frames.specs.Frames.{room_code, end_code, code_items, frame_items}
 use Rattle.gg_compile_law.specs.Assembled.{IsTreeCode, nothing, label, root, IsFunctionCode, AreFunctions, none, more}
 use Rattle.gg_compile_law.specs.Names.{AreSmall, HaveSmall, CodeLabelsDiffer, MainStands}
 

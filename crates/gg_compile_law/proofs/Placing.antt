@@ -16,7 +16,7 @@ use Rattle.tree_core.specs.declared.program.TreeItem.{TreeItem}
 use Rattle.tree_core.specs.declared.program.TreeItem.TheVariants as tree_item
 use Rattle.tree_core.specs.declared.program.TreeFn.{TreeFn}
 use Rattle.tree_core.specs.declared.program.TreeProgram.{TreeProgram}
-use Rattle.gg_compile_law.specs.Effects.{label_name}
+use Rattle.tree_core.specs.Names.{label_name}
 use Rattle.vax_machine_lists.specs.Runs.{HasInstrs}
 use Rattle.vax_frames.specs.Frames.{code_items, end_code}
 use Rattle.gg_compile_law.specs.Programs.{HasItems, IsSelected, IsBody, nothing, label, root, StandsAt}

@@ -18,6 +18,7 @@ use Rattle.tree_core.specs.declared.program.TreeItem.TheVariants as tree_item
 use Rattle.tree_core.specs.declared.program.TreeFn.{TreeFn}
 use Rattle.tree_core.specs.declared.program.TreeProgram.{TreeProgram}
 use Rattle.tree_core.specs.Trees.{grown}
+use Rattle.tree_core.specs.Names.{label_name, function_label}
 use Rattle.tree_meaning.specs.State.{Activation, behind}
 use Rattle.tree_meaning.specs.State.{State as Trees}
 use Rattle.tree_meaning.specs.declared.machine.Finish.TheVariants as finish
@@ -27,8 +28,7 @@ use Rattle.vax_machine_lists.specs.Instructions.{Course, one_byte, exec, Comes, 
 use Rattle.gg_compile_law.specs.Roles.{Role, Pushes, Calls, Saves, Plain, role_of, target_of}
 use Rattle.vax_machine_lists.specs.Runs.{Leads, Halts, HasInstrs, at_of, Carries}
 use Rattle.vax_frames_law.specs.Calling.{with_call}
-use Rattle.gg_compile_law.specs.Effects.{label_name, Stays, Does, IsReady}
-use Rattle.vax_frames.specs.Frames.{function_label}
+use Rattle.gg_compile_law.specs.Effects.{Stays, Does, IsReady}
 use Rattle.gg_compile_law.specs.Programs.{InOrderBy, InOrder, IsEmitted, IsActive, StandsAt, Waits, goes_on, Stands}
 use Rattle.vax_frames_law.specs.Laws.{IsRoomy, Begins}
 use Rattle.gg_compile_law.specs.Laws.{ComesBack}

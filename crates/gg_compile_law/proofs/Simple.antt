@@ -29,6 +29,7 @@ use Rattle.tree_core.specs.declared.program.Object.{Object}
 use Rattle.tree_core.specs.declared.program.TreeFn.{TreeFn}
 use Rattle.tree_core.specs.declared.program.TreeProgram.{TreeProgram}
 use Rattle.tree_core.specs.Trees.{grown}
+use Rattle.tree_core.specs.Names.{label_name, function_label}
 use Rattle.tree_meaning.specs.State.{State as Trees}
 use Rattle.tree_meaning.specs.declared.machine.Finish.TheVariants as finish
 use Rattle.tree_meaning.specs.Steps.{Step, Enters, Ends, without_pushed, with_result, called_as, served, wrote, got as answered, with_pushed, with_local_set, tree_step}
@@ -39,8 +40,7 @@ use Rattle.vax_core.specs.Homes.{home}
 use Rattle.vax_core.specs.First.{putchar_name, imm, in_reg}
 use Rattle.vax_machine_lists.specs.Instructions.{Course, Comes, Goes, Calls as CallsOut, one_byte, ends, comes, course_of, followed, performed, exec}
 use Rattle.vax_machine_lists.proofs.Soundness.{conditions_sound}
-use Rattle.gg_compile_law.specs.Effects.{label_name, Does, IsReady, HasEffect}
-use Rattle.vax_frames.specs.Frames.{function_label}
+use Rattle.gg_compile_law.specs.Effects.{Does, IsReady, HasEffect}
 use Rattle.gg_compile_law.specs.Demo.{jump_code, call_code}
 use Rattle.vax_frames.specs.Frames.{instr, end_code}
 use Rattle.vax_states.proofs.Touching.{stack_read}

@@ -18,8 +18,9 @@ use Rattle.vax_machine.specs.Labels.{double_area_label}
 use Rattle.tree_core.specs.declared.program.Link.{Link}
 use Rattle.tree_core.specs.declared.program.Object.{Object}
 use Rattle.tree_core.specs.Valid.{is_aligned, is_whole, is_placed, object_lies, objects_lie, link_lies, LinksLie}
+use Rattle.tree_core.specs.Area.{HoldsAddress}
 use Rattle.gg_compile_law.specs.Areas.{HasNoLabel, AreBlocks, none, more}
-use Rattle.gg_compile_law.specs.Spelling.{power_of, after_zeros, by_byte, label_of, link_addr, spelled, block_of, blocks_of, HoldsAddress, HoldsNumbers, AreasAreBlocks}
+use Rattle.gg_compile_law.specs.Spelling.{power_of, after_zeros, by_byte, label_of, link_addr, spelled, block_of, blocks_of, HoldsNumbers, AreasAreBlocks}
 use Rattle.gg_compile_law.proofs.Areas.{end_behind, zeros_are, Lies, lies, first_address, area_labels_differ}
 
 pub choose : (P : List AreaItem → Type 0) (t : Bool) (x y : List AreaItem) → (t ≡ true → P x) → (t ≡ false → P y) → P (cond t x y)

@@ -22,6 +22,7 @@ use Rattle.vax_machine.proofs.Law.{run_has_one_end}
 use Rattle.tree_core.specs.declared.program.TreeFn.{TreeFn}
 use Rattle.tree_core.specs.declared.program.TreeProgram.{TreeProgram}
 use Rattle.tree_core.specs.Area.{opening}
+use Rattle.tree_core.specs.Names.{function_label}
 use Rattle.tree_meaning.specs.State.{begun, arrived}
 use Rattle.tree_meaning.specs.State.{State as Trees}
 use Rattle.tree_meaning.specs.Meaning.{run, runs, main_at, tree_run}
@@ -29,7 +30,6 @@ use Rattle.tree_meaning.proofs.Law.{tree_run_unbroken}
 use Rattle.vax_states.specs.Stack.{nobody}
 use Rattle.vax_machine_lists.specs.Sound.{AllBelow, IsSound}
 use Rattle.vax_machine_lists.proofs.Beginning.{below_zeros}
-use Rattle.vax_frames.specs.Frames.{function_label}
 use Rattle.gg_compile_law.specs.Programs.{IsEmitted, StandsAt, Waits, ends_run, Stands, IsCompiled, CompiledFollow}
 use Rattle.vax_frames_law.specs.Laws.{Begins}
 use Rattle.gg_compile_law.proofs.Forwards.{asks_led}

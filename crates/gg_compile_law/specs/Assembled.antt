@@ -11,14 +11,14 @@ use Rattle.tree_core.specs.declared.program.TreeItem.TheVariants as tree_item
 use Rattle.tree_core.specs.Valid.{IsValid}
 use Rattle.tree_core.specs.declared.program.TreeFn.{TreeFn}
 use Rattle.tree_core.specs.declared.program.TreeProgram.{TreeProgram}
+use Rattle.tree_core.specs.Names.{label_name, function_label}
 use Rattle.gg_base.specs.Runs.{Runs}
 use Rattle.gg_base.specs.Follows.{Follows}
 use Rattle.vax_machine.specs.Running.{run}
 use Rattle.tree_meaning.specs.Meaning.{tree_run}
 use Rattle.vax_machine_lists.specs.Sound.{AllBelow}
 use Rattle.gg_compile_law.specs.Areas.{AreBlocks}
-use Rattle.gg_compile_law.specs.Effects.{label_name, HasEffect}
-use Rattle.vax_frames.specs.Frames.{function_label}
+use Rattle.gg_compile_law.specs.Effects.{HasEffect}
 use Rattle.vax_frames_law.specs.Calling.{IsMask}
 use Rattle.vax_frames.specs.Frames.{code_items, frame_items, IsFrameCode}
 use Rattle.gg_compile_law.specs.Programs.{FollowsTrees}

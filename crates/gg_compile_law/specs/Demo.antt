@@ -13,10 +13,9 @@ use Rattle.tree_core.specs.declared.program.TreeItem.TheVariants as tree_item
 use Rattle.tree_core.specs.declared.program.TreeFn.{TreeFn}
 use Rattle.tree_core.specs.declared.program.TreeProgram.{TreeProgram}
 use Rattle.tree_core.specs.Attributes.{end_leaf}
+use Rattle.tree_core.specs.Names.{label_name, function_label}
 use Rattle.tree_meaning.specs.Meaning.{tree_run}
 use Rattle.vax_machine_lists.specs.Sound.{AllBelow}
-use Rattle.gg_compile_law.specs.Effects.{label_name}
-use Rattle.vax_frames.specs.Frames.{function_label}
 use Rattle.vax_frames.specs.Frames.{instr, code_items, end_code, frame_items}
 
 -- Push 72; Call putchar 1; Ret 0

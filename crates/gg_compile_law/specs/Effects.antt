@@ -1,6 +1,5 @@
 -- When instructions do what a tree does.
-use Rattle.std.specs.Prelude.{◌≡◌, ℕ, ◌≤◌, List, [], ◌++◌, length, codes}
-use Rattle.std.specs.Fmt.{decimal}
+use Rattle.std.specs.Prelude.{◌≡◌, ℕ, ◌≤◌, List, [], length}
 use Rattle.vax_core.specs.declared.register.Reg.TheVariants.{R0}
 use Rattle.vax_core.specs.declared.code.Instr.{Instr}
 use Rattle.vax_machine.specs.declared.turn.Stop.TheVariants as stops
@@ -9,18 +8,14 @@ use Rattle.tree_core.specs.declared.program.Object.{Object}
 use Rattle.tree_core.specs.declared.program.TreeProgram.{TreeProgram}
 use Rattle.tree_core.specs.declared.tree.Leaf.{Leaf}
 use Rattle.tree_core.specs.Trees.{grown}
+use Rattle.tree_core.specs.Names.{label_name, function_label}
 use Rattle.tree_meaning.specs.declared.machine.Finish.TheVariants as finish
 use Rattle.tree_meaning.specs.State.{State as Trees}
 use Rattle.tree_meaning.specs.Steps.{Step, Goes as GoesOn, Serves, GoesTo, Enters, GoesBack, Ends, tree_step}
-use Rattle.vax_frames.specs.Frames.{function_label}
 use Rattle.vax_states.specs.Stack.{Extent}
 use Rattle.vax_states.specs.Agreeing.{Agrees, HasResult, HasRoom}
 use Rattle.vax_machine_lists.specs.Instructions.{Course, one_byte, exec, Comes, Goes, Calls as CallsOut, Returns, Stops}
 use Rattle.gg_compile_law.specs.Roles.{role_of, Calls, Saves}
-
--- label n of a tree program is `L` and n in decimal
-abbrev pub label_name : ℕ → List ℕ
-label_name n = codes "L" ++ decimal n
 
 -- The same calls are live, and the state stands for the trees' state.
 pub record Stays (objects : List Object) (e : Extent) (es : List Extent) (t : Trees) (old new : State) : Type 0 where

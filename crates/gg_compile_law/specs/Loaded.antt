@@ -7,8 +7,7 @@ use Rattle.tree_core.specs.declared.program.Object.{Object}
 use Rattle.tree_core.specs.declared.program.TreeFn.{TreeFn}
 use Rattle.tree_core.specs.declared.program.TreeProgram.{TreeProgram}
 use Rattle.tree_core.specs.Valid.{IsValid}
-use Rattle.vax_frames.specs.Frames.{function_label}
-use Rattle.gg_compile_law.specs.Effects.{label_name}
+use Rattle.tree_core.specs.Names.{label_name, function_label}
 use Rattle.gg_compile_law.specs.Assembled.{AreFunctions}
 use Rattle.gg_compile_law.specs.Spelling.{area_of}
 use Rattle.gg_compile_law.specs.Names.{HaveSmall}

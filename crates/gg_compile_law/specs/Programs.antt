@@ -18,14 +18,14 @@ use Rattle.vax_machine.specs.Area.{label_address, area_bytes}
 use Rattle.vax_machine.specs.Running.{run}
 use Rattle.tree_core.specs.declared.program.Object.{Object}
 use Rattle.tree_core.specs.Area.{opening}
+use Rattle.tree_core.specs.Names.{label_name, function_label}
 use Rattle.tree_meaning.specs.Meaning.{main_of, tree_run}
 use Rattle.tree_meaning.specs.State.{Activation, behind}
 use Rattle.tree_meaning.specs.State.{State as Trees}
 use Rattle.vax_states.specs.Stack.{Extent}
 use Rattle.vax_machine_lists.specs.Sound.{AllBelow}
 use Rattle.vax_states.specs.Agreeing.{Agrees, HasResult}
-use Rattle.gg_compile_law.specs.Effects.{label_name, HasEffect}
-use Rattle.vax_frames.specs.Frames.{function_label}
+use Rattle.gg_compile_law.specs.Effects.{HasEffect}
 use Rattle.gg_compile_law.specs.Roles.{Role, Pushes, Calls, Saves, Plain, role_of, target_of}
 use Rattle.vax_frames_law.specs.Calling.{HasFrame}
 use Rattle.vax_frames.specs.Frames.{code_items, room_code, end_code}

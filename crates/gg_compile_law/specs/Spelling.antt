@@ -1,8 +1,7 @@
 -- The data area of a program, item by item: each object's alignment, its label, and its bytes from the front. Of the bytes each link that
 -- comes in its turn is a `.long` of the linked object's label, each longest run of zeros a `.space`, and each other byte a `.byte`.
-use Rattle.std.specs.Prelude.{◌≡◌, ℕ, zero, suc, ◌+◌, ◌==◌, if◌then◌else◌, List, [], ◌∷◌, ◌++◌, take, drop, Option, Some, None, slice_get}
+use Rattle.std.specs.Prelude.{◌≡◌, ℕ, zero, suc, ◌+◌, ◌==◌, if◌then◌else◌, List, [], ◌∷◌, ◌++◌, Option, Some, None, slice_get}
 use Rattle.std.specs.List.{All}
-use Rattle.std.specs.Int.{w32, to_le_bytes}
 use Rattle.vax_core.specs.declared.operand.Addr.{Addr}
 use Rattle.vax_core.specs.declared.code.Code.{Code}
 use Rattle.vax_core.specs.declared.code.AreaItem.{AreaItem}
@@ -12,6 +11,7 @@ use Rattle.tree_core.specs.declared.program.Link.{Link}
 use Rattle.tree_core.specs.declared.program.Object.{Object}
 use Rattle.tree_core.specs.declared.program.TreeProgram.{TreeProgram}
 use Rattle.tree_core.specs.Valid.{IsValid}
+use Rattle.tree_core.specs.Area.{HoldsAddress}
 use Rattle.vax_machine_lists.specs.Sound.{AllBelow}
 use Rattle.gg_compile_law.specs.Areas.{AreBlocks}
 
@@ -56,10 +56,6 @@ module _ (all : List Object) where
 
 abbrev pub area_of : List Object → List AreaItem
 area_of objects = blocks_of objects objects
-
--- the four bytes at a link are the address of the object that it names, the lowest first
-abbrev pub HoldsAddress : List Object → List ℕ → Link → Type 0
-HoldsAddress all bytes l = (o : Object) → slice_get all l.object ≡ Some o → take 4 (drop l.at bytes) ≡ to_le_bytes w32 o.address
 
 -- so are those of all links, and the others are bytes
 abbrev pub HoldsNumbers : List Object → Object → Type 0

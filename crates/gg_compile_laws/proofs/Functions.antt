@@ -11,13 +11,14 @@ use Rattle.tree_core.specs.declared.program.TreeItem.TheVariants as tree_item
 use Rattle.tree_core.specs.declared.program.TreeFn.{TreeFn}
 use Rattle.tree_core.specs.declared.program.TreeProgram.{TreeProgram}
 use Rattle.tree_core.specs.Valid.{IsValid}
+use Rattle.tree_core.specs.Names.{function_label}
 use Rattle.md_reader.specs.State.{Content}
 use Rattle.sel_regs.specs.Slots.{larger_of}
 use Rattle.sel_parse_effect.specs.Claims.{IsFit}
 use Rattle.vax_core.specs.declared.code.CodeItem.{CodeItem}
 use Rattle.vax_core.specs.declared.code.Instr.{Instr}
 use Rattle.vax_core.specs.Valid.{is_long, is_name, is_instr, is_code_item}
-use Rattle.vax_frames.specs.Frames.{function_label, room_code, end_code, code_items}
+use Rattle.vax_frames.specs.Frames.{room_code, end_code, code_items}
 use Rattle.vax_target_meaning.specs.Fitting.{CanWrite}
 use Rattle.vax_target_meaning.specs.Vax.{vax}
 use Rattle.gg_compile_law.specs.Names.{AreSmall, HaveSmall}

@@ -8,6 +8,7 @@ use Rattle.std.proofs.lemmas.Option.{same_Some}
 use Rattle.gg_base.proofs.Facts.{index_there}
 use Rattle.tree_core.specs.declared.program.Object.{Object}
 use Rattle.tree_core.specs.declared.program.TreeFn.{TreeFn}
+use Rattle.tree_core.specs.Names.{label_name}
 use Rattle.c_sound.specs.Fits.{AreBytes}
 use Rattle.c_sound.specs.Labels.{is_label_start, is_label_part, is_label, AreLabelled}
 use Rattle.c_sound.specs.Sound.{HoldBytes}
@@ -15,7 +16,6 @@ use Rattle.vax_core.specs.Valid.{is_name_start, is_name}
 use Rattle.vax_core.specs.First.{putchar_name}
 use Rattle.vax_machine.specs.Labels.{getchar_name, is_service}
 use Rattle.vax_machine_lists.specs.Sound.{AllBelow}
-use Rattle.gg_compile_law.specs.Effects.{label_name}
 use Rattle.gg_compile_law.specs.Spelling.{HoldsNumbers}
 use Rattle.gg_compile_law.specs.Loaded.{AreApart}
 

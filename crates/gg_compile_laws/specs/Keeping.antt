@@ -5,6 +5,7 @@ use Rattle.gg_base.specs.Follows.{Follows}
 use Rattle.tree_core.specs.declared.tree.Leaf.{Leaf}
 use Rattle.tree_core.specs.declared.program.TreeFn.{TreeFn}
 use Rattle.tree_core.specs.declared.program.TreeProgram.{TreeProgram}
+use Rattle.tree_core.specs.Names.{function_label}
 use Rattle.c_program.specs.Programs.{AProgram}
 use Rattle.c_sound.specs.Fits.{AreBytes}
 use Rattle.c_sound.specs.Sound.{IsSound}
@@ -15,7 +16,6 @@ use Rattle.sel_target.specs.Spelled.{IsSpelled}
 use Rattle.sel_parse_effect.specs.Claims.{IsFit}
 use Rattle.vax_core.specs.declared.code.Code.{Code}
 use Rattle.vax_core.specs.Valid.{is_name}
-use Rattle.vax_frames.specs.Frames.{function_label}
 use Rattle.vax_machine.specs.Loading.{Loads}
 use Rattle.vax_machine.specs.Running.{run}
 use Rattle.vax_target_meaning.specs.Vax.{vax}

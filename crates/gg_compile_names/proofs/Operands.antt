@@ -9,6 +9,7 @@ use Rattle.tree_core.specs.declared.tree.Att.{Att}
 use Rattle.tree_core.specs.declared.tree.Att.TheVariants as att
 use Rattle.tree_core.specs.declared.program.Object.{Object}
 use Rattle.tree_core.specs.declared.program.TreeProgram.{TreeProgram}
+use Rattle.tree_core.specs.Names.{label_name}
 use Rattle.sel_target.specs.declared.attr.Attr.{Attr}
 use Rattle.sel_target.specs.declared.attr.Attr.TheVariants as attr
 use Rattle.vax_core.specs.declared.operand.Base.{Base}
@@ -26,7 +27,7 @@ use Rattle.vax_templates.specs.declared.form.Form.{Form}
 use Rattle.vax_templates.specs.Instructions.{shape_of_pieces}
 use Rattle.vax_templates.specs.Filled.{spare, attr_or, attr_at, label_of, addr_of_att, addr_in, number_addr, word_operand, slot_operand, argument_deferred, slot_deferred}
 use Rattle.vax_templates.specs.Filled.{leaf_operand, operand_in, leaf_deferred, deferred_in, filled_base, with_index, filled, filled_or_spare}
-use Rattle.vax_templates.specs.FilledLines.{label_of_att, label_name}
+use Rattle.vax_templates.specs.FilledLines.{label_of_att}
 use Rattle.vax_target_meaning.specs.Vax.{vax}
 use Rattle.sel_parse_lines.specs.Claims.{Lasts}
 

@@ -9,13 +9,13 @@ use Rattle.tree_core.specs.declared.program.Object.{Object}
 use Rattle.tree_core.specs.declared.program.TreeItem.{TreeItem}
 use Rattle.tree_core.specs.declared.program.TreeFn.{TreeFn}
 use Rattle.tree_core.specs.declared.program.TreeProgram.{TreeProgram}
+use Rattle.tree_core.specs.Names.{label_name, function_label}
 use Rattle.vax_core.specs.declared.code.AreaItem.{AreaItem}
 use Rattle.vax_core.specs.declared.code.CodeItem.{CodeItem}
 use Rattle.vax_core.specs.declared.code.CodeItem.TheVariants as item_kind
 use Rattle.vax_machine.specs.Area.{is_area_label, has_area_label}
 use Rattle.vax_machine.specs.Labels.{is_label, has_label}
-use Rattle.vax_frames.specs.Frames.{function_label, code_items, room_code, end_code}
-use Rattle.gg_compile_law.specs.Effects.{label_name}
+use Rattle.vax_frames.specs.Frames.{code_items, room_code, end_code}
 use Rattle.gg_compile_law.specs.Programs.{stands_in}
 use Rattle.gg_compile_law.specs.Assembled.{IsTreeCode, nothing, label, root, IsFunctionCode, AreFunctions, none, more}
 use Rattle.gg_compile_law.specs.Spelling.{block_of, blocks_of}

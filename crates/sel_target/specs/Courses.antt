@@ -1,6 +1,5 @@
 -- What a list of instructions does by itself, wherever it stands in a code.
-use Rattle.std.specs.Prelude.{ℕ, List, [], ◌++◌, codes}
-use Rattle.std.specs.Fmt.{decimal}
+use Rattle.std.specs.Prelude.{ℕ, List, [], ◌++◌}
 
 -- How instructions end: the run comes behind the last one; it goes to a label, or calls a function with so many arguments, the instructions
 -- behind the call being left to do, or returns, each in the state before that is done; it traps, or it breaks.
@@ -42,11 +41,3 @@ behind Breaks is go = ends Breaks
 
 abbrev pub followed : {I S : Type 0} → Course I S → List I → (S → Course I S) → Course I S
 followed c is go = bytes_first c.written (behind c.ending is go)
-
--- label n of a tree program is spelled `L` and n in decimal
-abbrev pub label_name : ℕ → List ℕ
-label_name n = codes "L" ++ decimal n
-
--- a function's label is its name with `_` in front
-abbrev pub function_label : List ℕ → List ℕ
-function_label name = codes "_" ++ name

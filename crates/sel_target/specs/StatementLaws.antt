@@ -6,6 +6,7 @@ use Rattle.tree_core.specs.declared.tree.Att.{Att}
 use Rattle.tree_core.specs.declared.tree.Att.TheVariants as att
 use Rattle.tree_core.specs.declared.program.TreeProgram.{TreeProgram}
 use Rattle.tree_core.specs.Valid.{args_of, takes}
+use Rattle.tree_core.specs.Names.{label_name, function_label}
 use Rattle.tree_meaning.specs.State.{State}
 use Rattle.tree_meaning.specs.declared.value.Meaning.{Meaning as Place}
 use Rattle.tree_meaning.specs.declared.value.Meaning.TheVariants as meaning
@@ -18,7 +19,7 @@ use Rattle.md_reader.specs.declared.types.Restriction.{Restriction}
 use Rattle.sel_terms.specs.Effects.{ActShape, EffectShape, StoreHome, StoreAt, Branch, Push, Call, Save, Return, Jump}
 use Rattle.sel_target.specs.declared.attr.Attr.{Attr}
 use Rattle.sel_target.specs.declared.attr.Attr.TheVariants as attr
-use Rattle.sel_target.specs.Courses.{Course, Comes, Goes, Calls, Returns, ends, comes, label_name, function_label}
+use Rattle.sel_target.specs.Courses.{Course, Comes, Goes, Calls, Returns, ends, comes}
 use Rattle.sel_target.specs.Meaning.{Meaning, Extent}
 use Rattle.sel_target.specs.Values.{View, value, own_operand, PlaceIs}
 use Rattle.sel_target.specs.EffectTerms.{IsSignedBy}

@@ -5,7 +5,8 @@ use Rattle.gg_base.specs.declared.size.Size.TheVariants.{Long}
 use Rattle.gg_base.specs.Arithmetic.{add32, div32}
 use Rattle.gg_base.specs.Relations.{holds}
 use Rattle.tree_core.specs.Area.{stored}
-use Rattle.sel_target.specs.Courses.{Course, Comes, Goes, Calls, Returns, Breaks, ends, comes, traps, followed, label_name, function_label}
+use Rattle.tree_core.specs.Names.{label_name, function_label}
+use Rattle.sel_target.specs.Courses.{Course, Comes, Goes, Calls, Returns, Breaks, ends, comes, traps, followed}
 use Rattle.sel_toy_machine.specs.declared.operand.Operand.{Operand}
 use Rattle.sel_toy_machine.specs.declared.operand.Operand.TheVariants as operand
 use Rattle.sel_toy_machine.specs.declared.operand.Source.{Source}

@@ -1,8 +1,11 @@
 -- The data area: bytes from the address 65536 on, little-endian, unaligned accesses allowed.
-use Rattle.std.specs.Prelude.{ℕ, ◌+◌, ◌-◌, Bool, ◌&&◌, nat_le, List, [], ◌∷◌, ◌++◌, length, replicate, Option, Some, None, cond}
+use Rattle.std.specs.Prelude.{◌≡◌, ℕ, ◌+◌, ◌-◌, Bool, ◌&&◌, nat_le, List, [], ◌∷◌, ◌++◌, length, replicate, take, drop, slice_get, Option, Some, None}
+use Rattle.std.specs.Prelude.{cond}
+use Rattle.std.specs.Int.{w32, to_le_bytes}
 use Rattle.gg_base.specs.declared.size.Size.{Size}
 use Rattle.gg_base.specs.Sizes.{bytes_of}
 use Rattle.gg_base.specs.LittleEndian.{number_in, with_number}
+use Rattle.tree_core.specs.declared.program.Link.{Link}
 use Rattle.tree_core.specs.declared.program.Object.{Object}
 
 -- all bytes of an access lie in the area
@@ -25,3 +28,7 @@ bytes_from at (o ∷ os) = replicate (o.address - at) 0 ++ (o.bytes ++ bytes_fro
 -- the data area as a run finds it
 abbrev pub opening : List Object → List ℕ
 opening objects = bytes_from 65536 objects
+
+-- the four bytes at a link are the address of the object that it names, the lowest first
+abbrev pub HoldsAddress : List Object → List ℕ → Link → Type 0
+HoldsAddress os bytes l = (o : Object) → slice_get os l.object ≡ Some o → take 4 (drop l.at bytes) ≡ to_le_bytes w32 o.address

@@ -1,5 +1,6 @@
--- The names of the tokens, and trees as text.
-use Rattle.std.specs.Prelude.{ℕ, List, ◌∷◌, map, codes, Bool, true, false}
+-- The names of the tokens, trees as text, and how labels are spelled.
+use Rattle.std.specs.Prelude.{ℕ, List, ◌∷◌, ◌++◌, map, codes, Bool, true, false}
+use Rattle.std.specs.Fmt.{decimal}
 use Rattle.std.specs.List.{join_with_byte}
 use Rattle.tree_core.specs.declared.token.Tok.{Tok}
 use Rattle.tree_core.specs.declared.token.Tok.TheVariants as tok
@@ -56,3 +57,11 @@ shown leaves = join_with_byte 32 (map (λ l. name_of l.tok) leaves)
 abbrev pub spaced : Bool → List ℕ → List ℕ
 spaced true name = name
 spaced false name = 32 ∷ name
+
+-- label n of a tree program is spelled `L` and n in decimal
+abbrev pub label_name : ℕ → List ℕ
+label_name n = codes "L" ++ decimal n
+
+-- a function's label is its name with `_` in front
+abbrev pub function_label : List ℕ → List ℕ
+function_label name = codes "_" ++ name

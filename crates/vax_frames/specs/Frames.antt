@@ -1,6 +1,7 @@
 -- The code of a function: its frame round its body.
 use Rattle.std.specs.Prelude.{◌≡◌, ℕ, zero, suc, ◌*◌, ◌^◌, ◌<◌, Bool, false, ◌&&◌, ◌||◌, nat_lt, nat_le, List, [], ◌∷◌}
-use Rattle.std.specs.Prelude.{◌++◌, map, None, codes}
+use Rattle.std.specs.Prelude.{◌++◌, map, None}
+use Rattle.tree_core.specs.Names.{function_label}
 use Rattle.vax_core.specs.declared.register.Reg.TheVariants.{R0, Sp}
 use Rattle.vax_core.specs.declared.operand.Base.TheVariants as bases
 use Rattle.vax_core.specs.declared.operand.Operand.{Operand}
@@ -26,10 +27,6 @@ end_code = instr Clrl (in_reg R0 ∷ []) ∷ (instr Ret [] ∷ [])
 
 abbrev pub code_items : List Instr → List CodeItem
 code_items is = map item_kind.Instr is
-
--- a function's label is its name with `_` in front
-abbrev pub function_label : List ℕ → List ℕ
-function_label name = codes "_" ++ name
 
 -- what stands before the body, and the whole
 abbrev pub frame_head : List ℕ → ℕ → ℕ → List CodeItem

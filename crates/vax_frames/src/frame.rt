@@ -1,11 +1,12 @@
 // The code of a function.
 ghost use Rattle.std.specs.Prelude.{◌≡◌, ◌*◌, ◌≤◌, ◌<◌, ◌++◌, [], ◌∷◌, None, IfOk};
+ghost use Rattle.tree_core.specs.Names.{function_label};
 ghost use Rattle.vax_core.specs.Homes as homes;
 ghost use Rattle.vax_core.specs.declared.op.Op.TheVariants.{Subl2, Clrl, Ret};
 ghost use Rattle.vax_core.specs.declared.register.Reg.TheVariants.{R0, Sp};
 ghost use Rattle.vax_core.specs.declared.code.CodeItem.TheVariants as item_kind;
 ghost use Rattle.vax_core.specs.First.{imm, in_reg};
-ghost use Rattle.vax_frames.specs.Frames.{instr, function_label, frame_head, IsFrameCode};
+ghost use Rattle.vax_frames.specs.Frames.{instr, frame_head, IsFrameCode};
 
 use crate::mask::entry_mask;
 use gg_base::{Name, NoMemory};

@@ -1,9 +1,10 @@
 -- The code of a function can be written.
 use Rattle.std.specs.Prelude.{◌≡◌, ℕ, ◌≤◌, true, List}
 use Rattle.std.specs.List.{list_all}
+use Rattle.tree_core.specs.Names.{function_label}
 use Rattle.vax_core.specs.declared.code.CodeItem.{CodeItem}
 use Rattle.vax_core.specs.Valid.{is_name, is_code_item}
-use Rattle.vax_frames.specs.Frames.{function_label, IsFrameCode}
+use Rattle.vax_frames.specs.Frames.{IsFrameCode}
 
 -- where its body can be written and its label is a name, so can the code of a function with at most 1,024 words
 abbrev pub FrameCodesAreValid : Type 0

@@ -1,7 +1,8 @@
 // Lines of templates with their holes filled.
 ghost use Rattle.std.specs.Prelude.{◌≡◌, IfOk, map, take};
 ghost use Rattle.std.specs.Option.{option_map};
-ghost use Rattle.vax_templates.specs.FilledLines.{op_of_relation, op_of_att, op_in, label_of_att, label_in, label_among, label_name};
+ghost use Rattle.tree_core.specs.Names.{label_name};
+ghost use Rattle.vax_templates.specs.FilledLines.{op_of_relation, op_of_att, op_in, label_of_att, label_in, label_among};
 ghost use Rattle.vax_templates.specs.FilledLines.{branch_to};
 ghost use Rattle.vax_templates.specs.FilledLines.{callee_of_att, callee_in, callee_among, callee_name, plain_return, call_of};
 ghost use Rattle.vax_templates.specs.FilledLines.{filled_line};

@@ -20,6 +20,7 @@ use Rattle.tree_core.specs.declared.tree.Leaf.{Leaf}
 use Rattle.tree_core.specs.declared.program.TreeFn.{TreeFn}
 use Rattle.tree_core.specs.declared.program.TreeProgram.{TreeProgram}
 use Rattle.tree_core.specs.Attributes.{attribute_of, is_of_kind}
+use Rattle.tree_core.specs.Names.{label_name, function_label}
 use Rattle.md_reader_pieces.specs.declared.piece.Piece.{Piece}
 use Rattle.md_reader_pieces.specs.declared.piece.Piece.TheVariants as piece
 use Rattle.md_reader_pieces.specs.declared.piece.Line.{Line}
@@ -32,11 +33,10 @@ use Rattle.md_reader.specs.Rows.{any_symbol, behind_j, hole_behind, relation_fit
 use Rattle.md_reader.specs.Valid.{MayWrite}
 use Rattle.sel_target.specs.declared.attr.Attr.{Attr}
 use Rattle.sel_target.specs.declared.attr.Attr.TheVariants as attr
-use Rattle.sel_target.specs.Courses.{function_label}
 use Rattle.sel_target.specs.Instances.{SymFits, Fit}
 use Rattle.vax_core.specs.declared.operand.Operand.{Operand}
 use Rattle.vax_core.specs.Valid.{is_name, is_name_part}
-use Rattle.vax_templates.specs.FilledLines.{label_in, label_of_att, first_of, label_among, label_name, callee_in, callee_of_att, first_callee, callee_among, function_name}
+use Rattle.vax_templates.specs.FilledLines.{label_in, label_of_att, first_of, label_among, callee_in, callee_of_att, first_callee, callee_among, function_name}
 use Rattle.vax_target_meaning.specs.Fitting.{CanWrite}
 use Rattle.vax_target_meaning.specs.Vax.{vax}
 use Rattle.sel_target.specs.Spelled.{IsSpelled, TokenIsSpelled, AreSpelled}

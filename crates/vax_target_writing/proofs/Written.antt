@@ -10,6 +10,7 @@ use Rattle.gg_base.specs.declared.relation.Rel.TheVariants as relations
 use Rattle.tree_core.specs.declared.tree.Att.{Att}
 use Rattle.tree_core.specs.declared.tree.Att.TheVariants as att
 use Rattle.tree_core.specs.declared.program.TreeProgram.{TreeProgram}
+use Rattle.tree_core.specs.Names.{label_name}
 use Rattle.md_reader_pieces.specs.declared.piece.Piece.{Piece}
 use Rattle.md_reader_pieces.specs.declared.piece.Line.{Line}
 use Rattle.md_reader.specs.declared.types.Kind.{Kind}
@@ -43,7 +44,7 @@ use Rattle.vax_templates.specs.Progress.{Progress, start, at_line, kept, judged,
 use Rattle.vax_templates.specs.GiveLines.{given_line}
 use Rattle.vax_templates.specs.Found.{ended, template_found}
 use Rattle.vax_templates.specs.Filled.{attr_at, filled}
-use Rattle.vax_templates.specs.FilledLines.{op_of_relation, op_of_att, op_in, label_among, label_name, branch_to, callee_among, callee_name, call_of, filled_instruction, filled_line}
+use Rattle.vax_templates.specs.FilledLines.{op_of_relation, op_of_att, op_in, label_among, branch_to, callee_among, callee_name, call_of, filled_instruction, filled_line}
 use Rattle.vax_target_writing.proofs.Each.{Each, EachOk, bind_each, always_ok, still_ok, of_ok}
 use Rattle.vax_target_writing.proofs.Table.{goes, target_is, at_most_three}
 use Rattle.vax_target_writing.proofs.Lines.{AreRead, IsWell, is_label_piece, is_count_piece, labels_behind, counts_behind, read_well}

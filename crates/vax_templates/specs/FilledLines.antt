@@ -2,13 +2,13 @@
 -- This is how the code computes it; that instructions do so is the law vax_is_lawful of vax_target_laws.
 use Rattle.std.specs.Prelude.{ℕ, ◌-◌, ◌==◌, List, [], ◌∷◌, ◌++◌, map, take, length, slice_get, Option, Some, None, if◌then◌else◌, codes}
 use Rattle.std.specs.Option.{option_map}
-use Rattle.std.specs.Fmt.{decimal}
 use Rattle.gg_base.specs.declared.relation.Rel.{Rel}
 use Rattle.gg_base.specs.declared.relation.Rel.TheVariants as relations
 use Rattle.tree_core.specs.declared.tree.Att.{Att}
 use Rattle.tree_core.specs.declared.tree.Att.TheVariants as att
 use Rattle.tree_core.specs.declared.program.TreeFn.{TreeFn}
 use Rattle.tree_core.specs.declared.program.TreeProgram.{TreeProgram}
+use Rattle.tree_core.specs.Names.{label_name}
 use Rattle.md_reader_pieces.specs.declared.piece.Piece.{Piece}
 use Rattle.sel_target.specs.declared.attr.Attr.{Attr}
 use Rattle.sel_target.specs.declared.attr.Attr.TheVariants as attr
@@ -58,10 +58,6 @@ first_of None later = later
 abbrev pub label_among : List (Attr Operand) → Option ℕ
 label_among [] = None
 label_among (a ∷ as') = first_of (label_in a) (label_among as')
-
--- the tree label n is spelled `L` and n
-abbrev pub label_name : ℕ → List ℕ
-label_name n = codes "L" ++ decimal n
 
 abbrev pub branch_to : Op → List (Attr Operand) → Instr
 branch_to op holes = record { op = op; operands = []; target = option_map label_name (label_among holes) }
