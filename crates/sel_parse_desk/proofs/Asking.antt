@@ -6,7 +6,8 @@ use Rattle.md_reader.specs.State.{Content}
 use Rattle.lr_check_parse.specs.Attributes.{constant_at, relation_at, same_spelling}
 use Rattle.md_reader.specs.Restrictions.{same_size}
 use Rattle.sel_target.specs.Meaning.{Meaning}
-use Rattle.sel_parse_desk.specs.Entries.{Entry, constant_of, relation_of, kind_in, size_of_entry, spelled, same_operands}
+use Rattle.sel_target.specs.Symbols.{constant_of, relation_of, size_of_entry}
+use Rattle.sel_parse_desk.specs.Entries.{Entry, kind_in, spelled, same_operands}
 use Rattle.sel_parse_desk.specs.Selected.{selecting}
 use Rattle.sel_parse_desk.specs.Joined.{attr_in}
 

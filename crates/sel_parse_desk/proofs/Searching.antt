@@ -2,8 +2,7 @@
 use Rattle.std.proofs.Common.{◌≡◌, ℕ, zero, suc, ◌+◌, ◌-◌, ◌<◌, ◌≤◌, List, [], ◌∷◌, length, take, drop, Option, Some, None, Bool, true, false, refl, ap, sym, ◌∙◌, subst, arith}
 use Rattle.std.specs.Prelude.{◌||◌, if◌then◌else◌, is_some, IfSome}
 use Rattle.std.specs.List.{list_any, find, position_from, range_with_len}
-use Rattle.sel_parse_desk.specs.Desk.{lowest}
-use Rattle.sel_parse_desk.specs.Spills.{behind_one, first_that}
+use Rattle.sel_target.specs.Symbols.{lowest, behind_one, first_that}
 
 -- as `any` and `find` meet it in a range
 pub any_lowest : (p : ℕ → Bool) (k n : ℕ) → list_any p (range_with_len k n) ≡ is_some (lowest p k n)

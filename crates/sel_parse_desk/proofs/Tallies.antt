@@ -9,8 +9,9 @@ use Rattle.gg_base.proofs.Facts.{take_within}
 use Rattle.md_reader.specs.declared.types.Kind.{Kind}
 use Rattle.sel_target.specs.declared.attr.Attr.{Attr}
 use Rattle.sel_target.specs.Meaning.{Meaning}
+use Rattle.sel_target.specs.Symbols.{first_that}
 use Rattle.sel_parse_desk.specs.Entries.{Entry, attrs, in_register, in_word}
-use Rattle.sel_parse_desk.specs.Spills.{holds_some, first_that}
+use Rattle.sel_parse_desk.specs.Spills.{holds_some}
 use Rattle.sel_parse_desk.specs.Tallied.{one, AreTallied}
 use Rattle.sel_parse_desk.proofs.JoinedLemmas.{length-attrs, attrs-snoc, attrs-set, attrs-take, attrs-drop}
 use Rattle.sel_parse_desk.proofs.Counting.{count-snoc, count-set, count-parts, count-one}

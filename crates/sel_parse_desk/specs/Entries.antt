@@ -1,11 +1,6 @@
 -- What stands beside a symbol of the parse stack, and what the restrictions of a rule ask of it.
-use Rattle.std.specs.Prelude.{ℕ, ◌==◌, ◌&&◌, List, [], ◌∷◌, map, Option, Some, None, Bool, false, slice_get}
+use Rattle.std.specs.Prelude.{ℕ, ◌==◌, ◌&&◌, List, [], ◌∷◌, map, Option, Some, None, Bool, false}
 use Rattle.std.specs.Int.{bit_at}
-use Rattle.gg_base.specs.declared.relation.Rel.{Rel}
-use Rattle.gg_base.specs.declared.size.Size.{Size}
-use Rattle.gg_base.specs.declared.size.Size.TheVariants.{Long}
-use Rattle.tree_core.specs.declared.tree.Att.{Att}
-use Rattle.tree_core.specs.declared.tree.Att.TheVariants as att
 use Rattle.tree_core.specs.declared.token.Tok.{Tok}
 use Rattle.tree_core.specs.declared.token.Tok.TheVariants as tok
 use Rattle.tree_core.specs.declared.tree.Leaf.{Leaf}
@@ -13,11 +8,11 @@ use Rattle.tree_core.specs.declared.program.TreeProgram.{TreeProgram}
 use Rattle.md_reader_pieces.specs.declared.piece.Line.{Line}
 use Rattle.md_reader_pieces.specs.declared.piece.Piece.TheVariants as piece
 use Rattle.md_reader.specs.declared.types.Kind.{Kind}
-use Rattle.md_reader.specs.Restrictions.{size_of_kind, same_size}
+use Rattle.md_reader.specs.Restrictions.{same_size}
 use Rattle.sel_target.specs.declared.attr.Attr.{Attr}
 use Rattle.sel_target.specs.declared.attr.Attr.TheVariants as attr
 use Rattle.sel_target.specs.Meaning.{Meaning, is_word}
-use Rattle.sel_target.specs.Values.{address_of}
+use Rattle.sel_target.specs.Symbols.{size_of_entry}
 
 -- an attribute with the kind of its symbol's class, by which it is saved; a token has no class
 pub record Entry (O : Type 0) : Type 0 where
@@ -39,31 +34,6 @@ slot_of a = None
 abbrev pub slot_in : {O : Type 0} → Option (Entry O) → Option ℕ
 slot_in None = None
 slot_in (Some e) = slot_of e.attr
-
--- the number of a constant: a token's, or that of a class
-abbrev pub token_number : TreeProgram → Att → Option ℕ
-token_number q (att.Number n) = Some n
-token_number q (att.Object object offset) = address_of (slice_get q.objects object) offset
-token_number q a = None
-
-abbrev pub constant_of : {O : Type 0} → TreeProgram → Attr O → Option ℕ
-constant_of q (attr.Con n) = Some n
-constant_of q (attr.Token l) = token_number q l.att
-constant_of q a = None
-
--- the relation of a branch
-abbrev pub branch_relation : Att → Option Rel
-branch_relation (att.Branch rel label) = Some rel
-branch_relation a = None
-
-abbrev pub relation_of : {O : Type 0} → Attr O → Option Rel
-relation_of (attr.Token l) = branch_relation l.att
-relation_of a = None
-
--- the size of what stands for a value or a place; a local and an argument are longwords
-abbrev pub size_of_entry : Option Kind → Option Size
-size_of_entry None = Some Long
-size_of_entry k = size_of_kind k
 
 -- a shape of one hole, for the first symbol
 abbrev pub alone : Line

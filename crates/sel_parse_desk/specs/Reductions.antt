@@ -3,8 +3,6 @@ use Rattle.std.specs.Prelude.{ℕ, zero, suc, ◌+◌, List, [], ◌∷◌, ◌+
 use Rattle.std.specs.Prelude.{slice_get, slice_set}
 use Rattle.tree_core.specs.declared.program.TreeProgram.{TreeProgram}
 use Rattle.md_reader_pieces.specs.declared.piece.Line.{Line}
-use Rattle.md_reader_pieces.specs.declared.piece.Piece.{Piece}
-use Rattle.md_reader_pieces.specs.declared.piece.Piece.TheVariants as piece
 use Rattle.md_reader.specs.declared.types.Kind.{Kind}
 use Rattle.md_reader.specs.declared.types.Kind.TheVariants as kind
 use Rattle.md_reader.specs.declared.types.Rule.{Rule}
@@ -17,14 +15,10 @@ use Rattle.sel_target.specs.declared.attr.Attr.TheVariants as attr
 use Rattle.sel_target.specs.Meaning.{Meaning}
 use Rattle.sel_target.specs.Instances.{lines_of, hole}
 use Rattle.sel_target.specs.SavingLaws.{reloading}
-use Rattle.sel_parse_desk.specs.Entries.{attrs, kind_in, slot_in, constant_of}
+use Rattle.sel_target.specs.Symbols.{constant_of, first_hole, reload_line}
+use Rattle.sel_parse_desk.specs.Entries.{attrs, kind_in, slot_in}
 use Rattle.sel_parse_desk.specs.Desk.{Stack, Desk, set_apart, Outcome, Done, bind}
-use Rattle.sel_parse_desk.specs.Spills.{line_of, due}
-
--- the symbol that a shape names first
-abbrev pub first_hole : List Piece → ℕ
-first_hole (piece.Hole i ∷ ps) = i
-first_hole ps = 0
+use Rattle.sel_parse_desk.specs.Spills.{due}
 
 -- a symbol's own register, or its own number
 abbrev pub register_alone : {O : Type 0} → Attr O → Attr O
@@ -42,9 +36,6 @@ number_in (Some n) = attr.Con n
 abbrev pub own_number : {O : Type 0} → TreeProgram → Option (Attr O) → Attr O
 own_number q None = attr.Nothing
 own_number q (Some a) = number_in (constant_of q a)
-
-abbrev pub reload_line : Content → Line
-reload_line d = line_of (slice_get d.spills 7)
 
 module _ {O I S F : Type 0} (of : Meaning O I S F) (q : TreeProgram) (d : Content) (first : ℕ) where
   -- the symbol with this number, from 0, is brought back from its slot

@@ -1,63 +1,26 @@
 -- A register that is due: the lowest free one, or one that an entry gives up.
 use Rattle.std.specs.Prelude.{ℕ, ◌+◌, ◌&&◌, List, [], ◌∷◌, ◌++◌, Option, Some, None, is_some, slice_get, slice_set}
-use Rattle.std.specs.Prelude.{Bool, true, false, not, if◌then◌else◌}
-use Rattle.gg_base.specs.declared.size.Size.{Size}
-use Rattle.gg_base.specs.declared.size.Size.TheVariants.{Byte, Word, Long}
+use Rattle.std.specs.Prelude.{Bool, not, if◌then◌else◌}
 use Rattle.tree_core.specs.declared.program.TreeProgram.{TreeProgram}
-use Rattle.md_reader_pieces.specs.declared.piece.Line.{Line}
-use Rattle.md_reader.specs.declared.types.Kind.{Kind}
-use Rattle.md_reader.specs.declared.types.Kind.TheVariants as kind
 use Rattle.md_reader.specs.State.{Content}
 use Rattle.sel_regs.specs.Slots.{larger_of}
 use Rattle.sel_target.specs.declared.attr.Attr.{Attr}
 use Rattle.sel_target.specs.declared.attr.Attr.TheVariants as attr
 use Rattle.sel_target.specs.Meaning.{Meaning}
 use Rattle.sel_target.specs.SavingLaws.{saving}
+use Rattle.sel_target.specs.Symbols.{lowest, first_that, saving_line, is_register}
 use Rattle.sel_parse_desk.specs.Entries.{Entry, attrs, in_register, word_of}
-use Rattle.sel_parse_desk.specs.Desk.{Desk, Outcome, Full, Stuck, Done, bind, lowest, free_register, free_slot}
+use Rattle.sel_parse_desk.specs.Desk.{Desk, Outcome, Full, Stuck, Done, bind, free_register, free_slot}
 
 -- where an entry stands: below the rule's symbols, from the deepest, or among them, from the first
 pub data Where : Type 0 where
   Below : (i : ℕ) → Where
   Among : (i : ℕ) → Where
 
--- the place of the first element that passes
-abbrev pub behind_one : Option ℕ → Option ℕ
-behind_one None = None
-behind_one (Some i) = Some (i + 1)
-
-abbrev pub first_that : {X : Type 0} → (X → Bool) → List X → Option ℕ
-first_that passes [] = None
-first_that passes (x ∷ xs) = if passes x then Some 0 else behind_one (first_that passes xs)
-
 -- a frame word that is let go
 abbrev pub let_go : Option ℕ → List ℕ
 let_go None = []
 let_go (Some w) = w ∷ []
-
--- the place in a description of the line that saves what is of a kind: values by size, places by size, addresses; a register as a longword
-abbrev pub of_size : Size → ℕ
-of_size Byte = 0
-of_size Word = 1
-of_size Long = 2
-
-abbrev pub saving_place : Option Kind → ℕ
-saving_place (Some (kind.Value size)) = of_size size
-saving_place (Some (kind.Place size)) = 3 + of_size size
-saving_place (Some kind.Ea) = 6
-saving_place k = 2
-
-abbrev pub line_of : Option Line → Line
-line_of None = record { line = 0; pieces = [] }
-line_of (Some l) = l
-
--- the line that saves what is of a kind
-abbrev pub saving_line : Content → Option Kind → Line
-saving_line d k = line_of (slice_get d.spills (saving_place k))
-
-abbrev pub is_register : {O : Type 0} → Attr O → Bool
-is_register (attr.Reg r) = true
-is_register a = false
 
 module _ {O I S F : Type 0} (of : Meaning O I S F) where
   abbrev pub holds_some : Attr O → Bool

@@ -1,9 +1,10 @@
 // The registers and the frame words that entries hold.
 ghost use Rattle.std.specs.Prelude.{◌≡◌, ◌==◌, ◌<◌, length, IfSome};
 ghost use Rattle.std.specs.Int.{bit_at};
+ghost use Rattle.sel_target.specs.Symbols.{first_that, is_register};
 ghost use Rattle.sel_parse_desk.specs.Entries.{in_register, word_of, in_word};
 ghost use Rattle.sel_parse_desk.specs.Desk.{register_held, word_held};
-ghost use Rattle.sel_parse_desk.specs.Spills.{holds_some, is_register, may_go, first_that};
+ghost use Rattle.sel_parse_desk.specs.Spills.{holds_some, may_go};
 
 use sel_target::{Attr, Templates};
 

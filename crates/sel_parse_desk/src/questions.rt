@@ -3,7 +3,8 @@ ghost use Rattle.std.specs.Prelude.{◌≡◌, ◌∷◌, [], ◌-◌, ◌<◌, 
 ghost use Rattle.lr_check_parse.specs.Attributes.{signed, in_range, is_signed, attribute_at, constant_at, relation_at, same_spelling};
 ghost use Rattle.lr_check_parse.specs.Attributes.{holds, answered};
 ghost use Rattle.sel_target.specs.declared.attr.Attr.TheVariants as attr;
-ghost use Rattle.sel_parse_desk.specs.Entries.{constant_of, relation_of, token_number, size_of_entry, alone, spelled_leaf, spelled};
+ghost use Rattle.sel_target.specs.Symbols.{token_number, constant_of, relation_of, size_of_entry};
+ghost use Rattle.sel_parse_desk.specs.Entries.{alone, spelled_leaf, spelled};
 ghost use Rattle.sel_parse_desk.specs.Entries.{same_operands};
 ghost use Rattle.sel_parse_desk.specs.Selected.{selecting};
 ghost use Rattle.sel_parse_desk.specs.Joined.{entry_at};

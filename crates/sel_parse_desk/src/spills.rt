@@ -3,9 +3,10 @@ ghost use Rattle.std.specs.Prelude.{◌≡◌, ◌==◌, ◌∷◌, ◌++◌, []
 ghost use Rattle.std.specs.List.{list_any};
 ghost use Rattle.sel_regs.specs.Slots.{larger_of};
 ghost use Rattle.sel_target.specs.SavingLaws.{saving};
+ghost use Rattle.sel_target.specs.Symbols.{saving_place, saving_line};
 ghost use Rattle.sel_parse_desk.specs.Entries.{kind_in, word_of};
 ghost use Rattle.sel_parse_desk.specs.Desk.{is_free_register, free_register, is_free_word, free_slot, Done};
-ghost use Rattle.sel_parse_desk.specs.Spills.{saving_place, saving_line, in_slot, let_go, victim, spilled, due, Below, Among};
+ghost use Rattle.sel_parse_desk.specs.Spills.{in_slot, let_go, victim, spilled, due, Below, Among};
 ghost use Rattle.sel_parse_desk.specs.Joined.{is_low, attr_in};
 ghost use Rattle.sel_parse_desk.specs.Mirror.{desk_of, saved_line, Fails, IsReady};
 

@@ -2,9 +2,10 @@
 ghost use Rattle.std.specs.Prelude.{◌≡◌, ℕ, ◌∷◌, ◌++◌, [], ◌+◌, ◌-◌, ◌<◌, ◌≤◌, ◌^◌, length, take, drop, replicate, true, false};
 ghost use Rattle.std.specs.Prelude.{OnOk, IfOk, IfSome};
 ghost use Rattle.std.specs.List.{list_any, count_by, slice_get, slice_set, slice_index};
+ghost use Rattle.sel_target.specs.Symbols.{first_that};
 ghost use Rattle.sel_parse_desk.specs.Entries.{attrs, kind_in, in_register, in_word};
 ghost use Rattle.sel_parse_desk.specs.Desk.{register_held, word_held};
-ghost use Rattle.sel_parse_desk.specs.Spills.{holds_some, first_that};
+ghost use Rattle.sel_parse_desk.specs.Spills.{holds_some};
 ghost use Rattle.sel_parse_desk.specs.Joined.{is_low};
 ghost use Rattle.sel_parse_desk.specs.Tallied.{one, IsTallied};
 

@@ -50,9 +50,10 @@ use Rattle.sel_target.specs.Laws.{IsLawful}
 use Rattle.sel_target.specs.EffectTerms.{IsSignedBy}
 use Rattle.sel_target.specs.Instances.{hole, IsResult, lines_of}
 use Rattle.sel_target.specs.StatementLaws.{att_of, IsStep, DoesAct}
+use Rattle.sel_target.specs.Symbols.{branch_relation, relation_of}
 use Rattle.lr_check_parse.specs.Attributes.{attribute_at, relation_at, is_signed, holds, all_hold}
 use Rattle.sel_parse.specs.Shown.{IsShown}
-use Rattle.sel_parse_selected.specs.Entries.{Entry, attrs, relation_of, branch_relation}
+use Rattle.sel_parse_selected.specs.Entries.{Entry, attrs}
 use Rattle.sel_parse_selected.specs.Selected.{selecting}
 use Rattle.sel_parse_stands.specs.Stands as stands
 use Rattle.sel_parse_stands.specs.Stands.{NamedBy, Names, SymbolIs, Sees, IsFrame, Holds}

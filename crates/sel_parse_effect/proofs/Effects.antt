@@ -34,6 +34,7 @@ use Rattle.sel_target.specs.Values.{View, term_state, value, IsReadWhere, worth,
 use Rattle.sel_target.specs.Laws.{IsLawful}
 use Rattle.sel_terms_meaning.specs.Meaning.{terms_of_act}
 use Rattle.sel_target.specs.EffectTerms.{terms_of, DividesByNone}
+use Rattle.sel_target.specs.Symbols.{token_number, constant_of, size_of_entry}
 use Rattle.sel_terms_trees.specs.Senses.{Sense}
 use Rattle.lr_check_parse.specs.Attributes.{attribute_at, all_hold}
 use Rattle.term_core_accesses.specs.Accesses.{Safe}
@@ -43,9 +44,9 @@ use Rattle.sel_parse_moves.specs.Told.{SameForAlike, Tells}
 use Rattle.sel_parse_moves.proofs.Told.{restrictions_tell, facts_join}
 use Rattle.sel_terms_meaning.proofs.Alike.{shown_is_alike}
 use Rattle.sel_terms_meaning.proofs.Narrow.{wanted_is_narrow}
-use Rattle.sel_parse_selected.specs.Entries.{Entry, constant_of, token_number}
+use Rattle.sel_parse_selected.specs.Entries.{Entry}
 use Rattle.sel_parse_selected.specs.Selected.{selecting}
-use Rattle.sel_parse_selected.specs.Entries.{spelled, same_operands, size_of_entry}
+use Rattle.sel_parse_selected.specs.Entries.{spelled, same_operands}
 use Rattle.sel_parse_stands.specs.Stands.{Sees, IsFrame, SymbolIs, ClassIs}
 use Rattle.sel_parse_stands.proofs.Instances.{Hold, hs_of, symbol_by, view, symbol_at_small}
 use Rattle.sel_parse_stands.specs.Stands as stands

@@ -32,10 +32,11 @@ use Rattle.sel_target.specs.Meaning.{Meaning, Extent}
 use Rattle.sel_target.specs.Values.{PlaceIs, local, argument, memory, token_operand, own_operand}
 use Rattle.sel_target.specs.Instances.{hole}
 use Rattle.sel_target.specs.Laws.{IsLawful}
+use Rattle.sel_target.specs.Symbols.{size_of_entry}
 use Rattle.lr_check_parse.specs.Attributes.{attribute_at, all_hold}
 use Rattle.sel_parse_moves.specs.Told.{SameForAlike}
 use Rattle.sel_parse_moves.proofs.Told.{facts_join}
-use Rattle.sel_parse_selected.specs.Entries.{Entry, attrs, spelled, same_operands, size_of_entry}
+use Rattle.sel_parse_selected.specs.Entries.{Entry, attrs, spelled, same_operands}
 use Rattle.sel_parse_selected.specs.Selected.{selecting}
 use Rattle.sel_parse_stands.specs.Stands as stands
 use Rattle.sel_parse_stands.specs.Stands.{NamedBy, ClassIs, SymbolIs, IsFrame, Holds}

@@ -44,12 +44,11 @@ use Rattle.sel_target.specs.Meaning.{Meaning, Extent}
 use Rattle.sel_target.specs.Values.{address_of}
 use Rattle.sel_target.specs.Laws.{IsLawful}
 use Rattle.sel_target.specs.SavingLaws.{Saves, Reloads}
+use Rattle.sel_target.specs.Symbols.{line_of, saving_line, reload_line}
 use Rattle.sel_parse.specs.Shown.{IsLineShown, AreLinesShown, saved_kinds, saved_wanted}
 use Rattle.sel_parse_moves.specs.Claims.{root, deed, IsParsed}
 use Rattle.sel_parse_moves.specs.Interprets.{Ran}
 use Rattle.sel_parse_moves.proofs.Moves.{moves_mean_tree}
-use Rattle.sel_parse_selected.specs.Spills.{line_of, saving_line}
-use Rattle.sel_parse_selected.specs.Reductions.{reload_line}
 use Rattle.sel_parse_selected.specs.Selected.{selecting, start}
 use Rattle.sel_parse_stands.specs.Stands.{NamedBy, Names, IsFrame}
 use Rattle.sel_parse_stands.specs.Lines.{LinesSave}

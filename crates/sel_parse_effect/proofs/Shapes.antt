@@ -47,10 +47,11 @@ use Rattle.sel_target.specs.Meaning.{Meaning, Extent}
 use Rattle.sel_target.specs.Values.{term_state, value, worth, PlaceIs}
 use Rattle.sel_target.specs.Laws.{IsLawful}
 use Rattle.sel_target.specs.Instances.{hole}
+use Rattle.sel_target.specs.Symbols.{first_hole}
 use Rattle.lr_check_parse.specs.Attributes.{all_hold}
 use Rattle.sel_parse.specs.Shown.{IsShown}
 use Rattle.sel_parse_selected.specs.Entries.{Entry, attrs}
-use Rattle.sel_parse_selected.specs.Reductions.{first_hole, own_register, own_number}
+use Rattle.sel_parse_selected.specs.Reductions.{own_register, own_number}
 use Rattle.sel_parse_selected.specs.Selected.{selecting}
 use Rattle.sel_parse_stands.specs.Stands as stands
 use Rattle.sel_parse_stands.specs.Stands.{NamedBy, ClassIs, SymbolIs, Sees, IsFrame, Holds}

@@ -24,6 +24,7 @@ use Rattle.sel_target.specs.Meaning.{Meaning, RegAt, WordAt, is_word}
 use Rattle.sel_target.specs.Values.{token_operand}
 use Rattle.sel_target.specs.Laws.{IsLawful}
 use Rattle.sel_target.specs.Instances.{some_touches, attr_touches, KindFits}
+use Rattle.sel_target.specs.Symbols.{size_of_entry}
 use Rattle.sel_parse_selected.specs.Entries as selected_entries
 use Rattle.sel_parse_desk.specs.Entries as computed_entries
 use Rattle.sel_parse_slots.specs.Claims.{IsOwn}
@@ -34,48 +35,6 @@ use Rattle.sel_parse_slots.proofs.Counting.{AllFine}
 
 abbrev pub entry : {O : Type 0} → selected_entries.Entry O → computed_entries.Entry O
 entry e = record { kind = e.kind; attr = e.attr }
-
-pub token_number_same : (q : TreeProgram) (a : Att) → computed_entries.token_number q a ≡ selected_entries.token_number q a
-token_number_same q att.Nothing = refl
-token_number_same q (att.Number n) = refl
-token_number_same q (att.Object object offset) = refl
-token_number_same q (att.Slot k) = refl
-token_number_same q (att.Branch rel label) = refl
-token_number_same q (att.Label label) = refl
-token_number_same q (att.Callee function count) = refl
-
-pub constant_same : {O : Type 0} (q : TreeProgram) (a : Attr O) → computed_entries.constant_of q a ≡ selected_entries.constant_of q a
-constant_same q (attr.Reg r) = refl
-constant_same q (attr.InSlot w) = refl
-constant_same q (attr.Value o) = refl
-constant_same q (attr.Place o) = refl
-constant_same q (attr.Con n) = refl
-constant_same q (attr.Ea o) = refl
-constant_same q (attr.Token l) = token_number_same q l.att
-constant_same q attr.Nothing = refl
-
-branch_same : (a : Att) → computed_entries.branch_relation a ≡ selected_entries.branch_relation a
-branch_same att.Nothing = refl
-branch_same (att.Number n) = refl
-branch_same (att.Object object offset) = refl
-branch_same (att.Slot k) = refl
-branch_same (att.Branch rel label) = refl
-branch_same (att.Label label) = refl
-branch_same (att.Callee function count) = refl
-
-pub relation_same : {O : Type 0} (a : Attr O) → computed_entries.relation_of a ≡ selected_entries.relation_of a
-relation_same (attr.Reg r) = refl
-relation_same (attr.InSlot w) = refl
-relation_same (attr.Value o) = refl
-relation_same (attr.Place o) = refl
-relation_same (attr.Con n) = refl
-relation_same (attr.Ea o) = refl
-relation_same (attr.Token l) = branch_same l.att
-relation_same attr.Nothing = refl
-
-size_same : (k : Option Kind) → computed_entries.size_of_entry k ≡ selected_entries.size_of_entry k
-size_same None = refl
-size_same (Some k) = refl
 
 module _ {O I S F : Type 0} (of : Meaning O I S F) (law : IsLawful of) (q : TreeProgram) (d : Content) (first : ℕ) where
   -- an attribute holds the same registers and slots, and is spelled alike
@@ -217,11 +176,6 @@ module _ {O I S F : Type 0} (of : Meaning O I S F) (law : IsLawful of) (q : Tree
 
   pub alike_same : (a b : selected_entries.Entry O) → Agrees a.attr → Agrees b.attr → computed_entries.alike of q (entry a) (entry b) ≡ selected_entries.alike of a b
   alike_same a b h k =
-      ap (λ z. same_size z (computed_entries.size_of_entry b.kind) && computed_entries.same_operands of (computed_entries.spelled of q a.attr) (computed_entries.spelled of q b.attr))
-      (size_same a.kind)
-      ∙ ap (λ z. same_size (selected_entries.size_of_entry a.kind) z && computed_entries.same_operands of (computed_entries.spelled of q a.attr) (computed_entries.spelled of q b.attr))
-      (size_same b.kind)
-      ∙ ap (λ o. same_size (selected_entries.size_of_entry a.kind) (selected_entries.size_of_entry b.kind) && computed_entries.same_operands of o (computed_entries.spelled of q b.attr)) h.spelled
-      ∙ ap (λ o. same_size (selected_entries.size_of_entry a.kind) (selected_entries.size_of_entry b.kind) && computed_entries.same_operands of (selected_entries.spelled of a.attr) o) k.spelled
-      ∙ ap (λ o. same_size (selected_entries.size_of_entry a.kind) (selected_entries.size_of_entry b.kind) && o)
-      (operands_same (selected_entries.spelled of a.attr) (selected_entries.spelled of b.attr))
+      ap (λ o. same_size (size_of_entry a.kind) (size_of_entry b.kind) && computed_entries.same_operands of o (computed_entries.spelled of q b.attr)) h.spelled
+      ∙ ap (λ o. same_size (size_of_entry a.kind) (size_of_entry b.kind) && computed_entries.same_operands of (selected_entries.spelled of a.attr) o) k.spelled
+      ∙ ap (λ o. same_size (size_of_entry a.kind) (size_of_entry b.kind) && o) (operands_same (selected_entries.spelled of a.attr) (selected_entries.spelled of b.attr))

@@ -34,7 +34,7 @@ use Rattle.sel_parse_slots.proofs.Law as walk
 use Rattle.sel_parse_slots.proofs.Prefixes.{gamma}
 use Rattle.sel_parse_joined.specs.Claims.{IsSelectable, SameCode, SameFull}
 use Rattle.sel_parse_joined.proofs.Turning.{turned_cons, all_at, map_turned, map_take, map_get}
-use Rattle.sel_parse_joined.proofs.Holding.{entry, Agrees, AllAgree, all_agree, alike_same, constant_same, relation_same}
+use Rattle.sel_parse_joined.proofs.Holding.{entry, Agrees, AllAgree, all_agree, alike_same}
 use Rattle.sel_parse_joined.proofs.Spilling.{outcome}
 use Rattle.sel_parse_joined.proofs.Reducing.{stack, reduced_same}
 
@@ -98,11 +98,11 @@ module _ {O I S F : Type 0} (of : Meaning O I S F) (law : IsLawful of) (q : Tree
 
   number_same : (o : Option (Entry O)) → constant_at new (option_map entry o) ≡ constant_at old o
   number_same None = refl
-  number_same (Some e) = constant_same q e.attr
+  number_same (Some e) = refl
 
   compares_same : (o : Option (Entry O)) → relation_at new (option_map entry o) ≡ relation_at old o
   compares_same None = refl
-  compares_same (Some e) = relation_same e.attr
+  compares_same (Some e) = refl
 
   holds_same : (es : List (Entry O)) (r : Restriction) → AreHeld es → holds new (map entry es) r ≡ holds old es r
   holds_same es (restriction.Same i j) h =

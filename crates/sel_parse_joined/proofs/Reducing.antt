@@ -4,8 +4,6 @@ use Rattle.std.specs.Prelude.{reverse, slice_set, option_map}
 use Rattle.std.proofs.lemmas.List.{reverse-reverse}
 use Rattle.tree_core.specs.declared.program.TreeProgram.{TreeProgram}
 use Rattle.md_reader_pieces.specs.declared.piece.Line.{Line}
-use Rattle.md_reader_pieces.specs.declared.piece.Piece.{Piece}
-use Rattle.md_reader_pieces.specs.declared.piece.Piece.TheVariants as piece
 use Rattle.md_reader.specs.declared.types.Kind.{Kind}
 use Rattle.md_reader.specs.declared.types.Kind.TheVariants as kind
 use Rattle.md_reader.specs.declared.types.Give.{Give}
@@ -22,6 +20,7 @@ use Rattle.sel_target.specs.Meaning.{Meaning}
 use Rattle.sel_target.specs.Laws.{IsLawful}
 use Rattle.sel_target.specs.Instances.{hole, lines_of}
 use Rattle.sel_target.specs.SavingLaws.{reloading}
+use Rattle.sel_target.specs.Symbols.{token_number, first_hole, reload_line}
 use Rattle.sel_parse_selected.specs.Entries as selected_entries
 use Rattle.sel_parse_selected.specs.Desk as selected_desks
 use Rattle.sel_parse_selected.specs.Spills as selected_spills
@@ -32,8 +31,8 @@ use Rattle.sel_parse_desk.specs.Spills as computed_spills
 use Rattle.sel_parse_desk.specs.Reductions as computed_reductions
 use Rattle.sel_parse_slots.proofs.Counting.{Good, Counted, After, IsDue, due_good, spilled_good, one_good}
 use Rattle.sel_parse_joined.proofs.Turning.{all_at, all_more, map_turned, map_take, map_drop, map_get, map_set}
-use Rattle.sel_parse_joined.proofs.Holding.{entry, Agrees, AllAgree, all_agree, token_number_same}
-use Rattle.sel_parse_joined.proofs.Spilling.{outcome, If, bind_same, if_bind, line_same, desk, desk_is, let_go, let_go_more, Fair, spilled_former, taken, due_same, due_former}
+use Rattle.sel_parse_joined.proofs.Holding.{entry, Agrees, AllAgree, all_agree}
+use Rattle.sel_parse_joined.proofs.Spilling.{outcome, If, bind_same, if_bind, desk, desk_is, let_go, let_go_more, Fair, spilled_former, taken, due_same, due_former}
 
 -- what is done is good
 good_if : {X : Type 0} (top : ℕ) (P : X → Type 0) (o : selected_desks.Outcome X) → Good top o P → If P o
@@ -62,14 +61,6 @@ module _ {O I S F : Type 0} (of : Meaning O I S F) (law : IsLawful of) (q : Tree
   attrs_same [] = refl
   attrs_same (e ∷ es) = ap (λ l. e.attr ∷ l) (attrs_same es)
 
-  first_hole_same : (ps : List Piece) → computed_reductions.first_hole ps ≡ selected_reductions.first_hole ps
-  first_hole_same [] = refl
-  first_hole_same (p ∷ ps) = by p
-    where
-      by : (p : Piece) → computed_reductions.first_hole (p ∷ ps) ≡ selected_reductions.first_hole (p ∷ ps)
-      by (piece.Hole i) = refl
-      by p = refl
-
   number_same : (o : Option (Attr O)) → computed_reductions.own_number q o ≡ selected_reductions.own_number of q d first o
   number_same None = refl
   number_same (Some (attr.Reg r)) = refl
@@ -78,11 +69,11 @@ module _ {O I S F : Type 0} (of : Meaning O I S F) (law : IsLawful of) (q : Tree
   number_same (Some (attr.Place o)) = refl
   number_same (Some (attr.Con n)) = refl
   number_same (Some (attr.Ea o)) = refl
-  number_same (Some (attr.Token l)) = by (selected_entries.token_number q l.att) refl
+  number_same (Some (attr.Token l)) = by (token_number q l.att) refl
     where
-      by : (o : Option ℕ) → selected_entries.token_number q l.att ≡ o → computed_reductions.own_number q (Some (attr.Token l)) ≡ selected_reductions.own_number of q d first (Some (attr.Token l))
-      by None e = rw (token_number_same q l.att, e) refl
-      by (Some n) e = rw (token_number_same q l.att, e) refl
+      by : (o : Option ℕ) → token_number q l.att ≡ o → computed_reductions.own_number q (Some (attr.Token l)) ≡ selected_reductions.own_number of q d first (Some (attr.Token l))
+      by None e = rw e refl
+      by (Some n) e = rw e refl
   number_same (Some attr.Nothing) = refl
 
   finished_same : (rule : Rule) (result given given' : Attr O) (x : selected_desks.Desk O I) → given ≡ given'
@@ -150,11 +141,11 @@ module _ {O I S F : Type 0} (of : Meaning O I S F) (law : IsLawful of) (q : Tree
         (slice_set (map entry p.1.symbols) i (record { kind = computed_entries.kind_in (slice_get (map entry p.1.symbols) i); attr = attr.Reg p.0 }))
         (map entry (slice_set p.1.symbols i (record { kind = k; attr = attr.Reg p.0 })))
         (let_go of law q d first p.1.former ++ w ∷ []) (let_go of law q d first (p.1.former ++ record { kind = k; attr = attr.InSlot w } ∷ []))
-        (p.1.code ++ reloading of q (computed_reductions.reload_line d) w p.0) (p.1.code ++ reloading of q (selected_reductions.reload_line d) w p.0) p.1.most p.1.most refl
+        (p.1.code ++ reloading of q (reload_line d) w p.0) (p.1.code ++ reloading of q (reload_line d) w p.0) p.1.most p.1.most refl
         (ap (λ o. slice_set (map entry p.1.symbols) i (record { kind = computed_entries.kind_in o; attr = attr.Reg p.0 })) (map_get entry p.1.symbols i ∙ ap (option_map entry) there)
         ∙ map_set entry p.1.symbols i (record { kind = k; attr = attr.Reg p.0 }))
         (sym (let_go_more of law q d first p.1.former (record { kind = k; attr = attr.InSlot w })))
-        (ap (λ l. p.1.code ++ reloading of q l w p.0) (line_same (slice_get d.spills 7))) refl)
+        refl refl)
 
     one_same : (i : ℕ) (x : selected_desks.Desk O I) → Ready i x
         → computed_reductions.reloaded_at of q d first i (desk of law q d first x) (computed_entries.slot_in (slice_get (map entry x.symbols) i))
@@ -246,7 +237,7 @@ module _ {O I S F : Type 0} (of : Meaning O I S F) (law : IsLawful of) (q : Tree
   module _ (rule : Rule) (a : List Sym) (c : ℕ) (gb gs : List ℕ)
       (named : (y : selected_desks.Desk O I) → Counted of law q d first rule.right a c gb gs (0 + length rule.right) y
       → (l : Line) → shape_fits d.classes rule.right (Some kind.Reg) l.pieces ≡ true
-      → (n : ℕ) × (n < 12) × (hole (selected_entries.attrs y.symbols) (selected_reductions.first_hole l.pieces) ≡ Some (attr.Reg n)))
+      → (n : ℕ) × (n < 12) × (hole (selected_entries.attrs y.symbols) (first_hole l.pieces) ≡ Some (attr.Reg n)))
       (may : MayGive d.classes rule.left rule.right rule.give) where
     abbrev IsReady : ℕ → selected_desks.Desk O I → Type 0
     IsReady i x = Ready rule.right a c gb gs i x
@@ -277,13 +268,12 @@ module _ {O I S F : Type 0} (of : Meaning O I S F) (law : IsLawful of) (q : Tree
             kinds None fits = refl
             kinds (Some kind.Reg) fits =
                 let r = named y h.counted l fits in
-                ap (λ i. computed_reductions.own_register (hole (selected_entries.attrs y.symbols) i)) (first_hole_same l.pieces) ∙ ap computed_reductions.own_register r.2
+                ap computed_reductions.own_register r.2
                 ∙ sym (ap (selected_reductions.own_register of q d first) r.2)
             kinds (Some (kind.Value z)) fits = refl
             kinds (Some (kind.Place z)) fits = refl
             kinds (Some kind.Con) fits =
-                ap (λ i. computed_reductions.own_number q (hole (selected_entries.attrs y.symbols) i)) (first_hole_same l.pieces)
-                ∙ number_same (hole (selected_entries.attrs y.symbols) (selected_reductions.first_hole l.pieces))
+                number_same (hole (selected_entries.attrs y.symbols) (first_hole l.pieces))
             kinds (Some kind.Ea) fits = refl
             kinds (Some kind.Nothing) fits = refl
 

@@ -6,12 +6,7 @@ use Rattle.std.specs.Int.{bit_at}
 use Rattle.std.proofs.lemmas.List.{length-map}
 use Rattle.std.proofs.lemmas.List.Folds.{list_any-append}
 use Rattle.std.proofs.lemmas.Option.{none-some, same_Some}
-use Rattle.gg_base.specs.declared.size.Size.{Size}
-use Rattle.gg_base.specs.declared.size.Size.TheVariants.{Byte, Word, Long}
 use Rattle.tree_core.specs.declared.program.TreeProgram.{TreeProgram}
-use Rattle.md_reader_pieces.specs.declared.piece.Line.{Line}
-use Rattle.md_reader.specs.declared.types.Kind.{Kind}
-use Rattle.md_reader.specs.declared.types.Kind.TheVariants as kind
 use Rattle.md_reader.specs.State.{Content}
 use Rattle.sel_regs.specs.Slots.{larger_of}
 use Rattle.sel_target.specs.declared.attr.Attr.{Attr}
@@ -20,6 +15,7 @@ use Rattle.sel_target.specs.Meaning.{Meaning, RegAt, WordAt, is_word}
 use Rattle.sel_target.specs.Laws.{IsLawful}
 use Rattle.sel_target.specs.Instances.{attr_touches}
 use Rattle.sel_target.specs.SavingLaws.{saving}
+use Rattle.sel_target.specs.Symbols.{behind_one, first_that, saving_line, is_register}
 use Rattle.sel_parse_selected.specs.Entries as selected_entries
 use Rattle.sel_parse_selected.specs.Desk as selected_desks
 use Rattle.sel_parse_selected.specs.Spills as selected_spills
@@ -55,34 +51,6 @@ pub if_bind : {X Y : Type 0} (P : X → Type 0) (Q : Y → Type 0) (o : selected
 if_bind P Q selected_desks.Full go h k = tt
 if_bind P Q selected_desks.Stuck go h k = tt
 if_bind P Q (selected_desks.Done x) go h k = k x h
-
--- ---- lines
-
-place_same : (k : Option Kind) → computed_spills.saving_place k ≡ selected_spills.saving_place k
-place_same None = refl
-place_same (Some kind.Reg) = refl
-place_same (Some (kind.Value z)) = by z
-  where
-    by : (z : Size) → computed_spills.of_size z ≡ selected_spills.of_size z
-    by Byte = refl
-    by Word = refl
-    by Long = refl
-place_same (Some (kind.Place z)) = by z
-  where
-    by : (z : Size) → 3 + computed_spills.of_size z ≡ 3 + selected_spills.of_size z
-    by Byte = refl
-    by Word = refl
-    by Long = refl
-place_same (Some kind.Con) = refl
-place_same (Some kind.Ea) = refl
-place_same (Some kind.Nothing) = refl
-
-pub line_same : (o : Option Line) → computed_spills.line_of o ≡ selected_spills.line_of o
-line_same None = refl
-line_same (Some l) = refl
-
-saving_line_same : (d : Content) (k : Option Kind) → computed_spills.saving_line d k ≡ selected_spills.saving_line d k
-saving_line_same d k = ap (λ i. computed_spills.line_of (slice_get d.spills i)) (place_same k) ∙ line_same (slice_get d.spills (selected_spills.saving_place k))
 
 module _ {O I S F : Type 0} (of : Meaning O I S F) (law : IsLawful of) (q : TreeProgram) (d : Content) (first : ℕ) where
   abbrev AreHeld : List (selected_entries.Entry O) → Type 0
@@ -218,18 +186,8 @@ module _ {O I S F : Type 0} (of : Meaning O I S F) (law : IsLawful of) (q : Tree
   holds_same e h =
       ap is_some (lowest_same (λ r. computed_entries.in_register of r e.attr) (λ r. attr_touches of e.attr (RegAt r)) 0 12 (λ r from below. h.register r below))
 
-  register_same : (a : Attr O) → computed_spills.is_register a ≡ selected_spills.is_register a
-  register_same (attr.Reg r) = refl
-  register_same (attr.InSlot w) = refl
-  register_same (attr.Value o) = refl
-  register_same (attr.Place o) = refl
-  register_same (attr.Con n) = refl
-  register_same (attr.Ea o) = refl
-  register_same (attr.Token l) = refl
-  register_same attr.Nothing = refl
-
   goes_same : (e : selected_entries.Entry O) → Agrees of law q d first e.attr → computed_spills.may_go of e.attr ≡ selected_spills.may_go of e
-  goes_same e h = ap (λ b. not b && computed_spills.holds_some of e.attr) (register_same e.attr) ∙ ap (λ b. not (selected_spills.is_register e.attr) && b) (holds_same e h)
+  goes_same e h = ap (λ b. not (is_register e.attr) && b) (holds_same e h)
 
   all_hold : (es : List (selected_entries.Entry O)) → AreHeld es → All (λ (e : selected_entries.Entry O). computed_spills.holds_some of e.attr ≡ selected_spills.holds_register of e) es
   all_hold [] h = tt
@@ -247,8 +205,8 @@ module _ {O I S F : Type 0} (of : Meaning O I S F) (law : IsLawful of) (q : Tree
   fused (e ∷ es) = ap (λ l. e.attr ∷ l) (fused es)
 
   symbol_goes : (es : List (selected_entries.Entry O)) → AreHeld es
-      → computed_spills.first_that (computed_spills.may_go of) (computed_entries.attrs (map entry es)) ≡ selected_spills.first_that (selected_spills.may_go of) es
-  symbol_goes es h = ap (computed_spills.first_that (computed_spills.may_go of)) (fused es) ∙ map_first attr_in (computed_spills.may_go of) (selected_spills.may_go of) es (all_go es h)
+      → first_that (computed_spills.may_go of) (computed_entries.attrs (map entry es)) ≡ first_that (selected_spills.may_go of) es
+  symbol_goes es h = ap (first_that (computed_spills.may_go of)) (fused es) ∙ map_first attr_in (computed_spills.may_go of) (selected_spills.may_go of) es (all_go es h)
 
   any_last : (p p' : selected_entries.Entry O → Bool) (es : List (selected_entries.Entry O)) → All (λ (e : selected_entries.Entry O). p e ≡ p' e) es
       → selected_spills.last_that p es ≡ selected_spills.last_that p' es
@@ -258,16 +216,16 @@ module _ {O I S F : Type 0} (of : Meaning O I S F) (law : IsLawful of) (q : Tree
       (λ b. selected_spills.later_of (selected_spills.last_that p' es) (if b then Some 0 else None)) h.0
 
   mapped_first : (p : Attr O → Bool) (es : List (selected_entries.Entry O))
-      → computed_spills.first_that p (map attr_in es) ≡ computed_spills.first_that (λ (e : selected_entries.Entry O). p e.attr) es
+      → first_that p (map attr_in es) ≡ first_that (λ (e : selected_entries.Entry O). p e.attr) es
   mapped_first p [] = refl
-  mapped_first p (e ∷ es) = ap (λ o. if p e.attr then Some 0 else computed_spills.behind_one o) (mapped_first p es)
+  mapped_first p (e ∷ es) = ap (λ o. if p e.attr then Some 0 else behind_one o) (mapped_first p es)
 
   below_goes : (es : List (selected_entries.Entry O)) → AreHeld es
-      → computed_spills.first_that (computed_spills.holds_some of) (computed_entries.attrs (reverse (map entry es))) ≡ counted_back (length es)
+      → first_that (computed_spills.holds_some of) (computed_entries.attrs (reverse (map entry es))) ≡ counted_back (length es)
       (selected_spills.last_that (selected_spills.holds_register of) es)
   below_goes es h =
-      ap (λ l. computed_spills.first_that (computed_spills.holds_some of) (computed_entries.attrs l)) (sym (map_turned entry es))
-      ∙ ap (computed_spills.first_that (computed_spills.holds_some of)) (fused (reverse es))
+      ap (λ l. first_that (computed_spills.holds_some of) (computed_entries.attrs l)) (sym (map_turned entry es))
+      ∙ ap (first_that (computed_spills.holds_some of)) (fused (reverse es))
       ∙ mapped_first (computed_spills.holds_some of) (reverse es)
       ∙ last_turned (λ (e : selected_entries.Entry O). computed_spills.holds_some of e.attr) es
       ∙ ap (counted_back (length es)) (any_last (λ (e : selected_entries.Entry O). computed_spills.holds_some of e.attr) (selected_spills.holds_register of) es (all_hold es h))
@@ -279,11 +237,11 @@ module _ {O I S F : Type 0} (of : Meaning O I S F) (law : IsLawful of) (q : Tree
 
   victim_same : (given : Bool) (x : selected_desks.Desk O I) → Fair x → computed_spills.victim of given (desk x) ≡ option_map (place (length x.below)) (selected_spills.victim of given x)
   victim_same given x h =
-      ap (λ o. computed_spills.deepest of o (if given then None else computed_spills.first_that (computed_spills.may_go of) (computed_entries.attrs (map entry x.symbols))))
+      ap (λ o. computed_spills.deepest of o (if given then None else first_that (computed_spills.may_go of) (computed_entries.attrs (map entry x.symbols))))
       (below_goes x.below h.below)
       ∙ ap (λ o. computed_spills.deepest of (counted_back (length x.below) (selected_spills.last_that (selected_spills.holds_register of) x.below)) (if given then None else o))
       (symbol_goes x.symbols h.symbols)
-      ∙ by (selected_spills.last_that (selected_spills.holds_register of) x.below) (if given then None else selected_spills.first_that (selected_spills.may_go of) x.symbols)
+      ∙ by (selected_spills.last_that (selected_spills.holds_register of) x.below) (if given then None else first_that (selected_spills.may_go of) x.symbols)
     where
       by : (o o' : Option ℕ) → computed_spills.deepest of (counted_back (length x.below) o) o' ≡ option_map (place (length x.below)) (selected_spills.deepest of o o')
       by (Some j) o' = refl
@@ -296,7 +254,7 @@ module _ {O I S F : Type 0} (of : Meaning O I S F) (law : IsLawful of) (q : Tree
 
   victim_in : (given : Bool) (x : selected_desks.Desk O I) (p : selected_spills.Where) → selected_spills.victim of given x ≡ Some p → IsIn x p
   victim_in given x p e =
-      by (selected_spills.last_that (selected_spills.holds_register of) x.below) (if given then None else selected_spills.first_that (selected_spills.may_go of) x.symbols)
+      by (selected_spills.last_that (selected_spills.holds_register of) x.below) (if given then None else first_that (selected_spills.may_go of) x.symbols)
       (λ j f. last_in (selected_spills.holds_register of) x.below j f) e
     where
       by : (o o' : Option ℕ) → ((j : ℕ) → o ≡ Some j → j < length x.below) → selected_spills.deepest of o o' ≡ Some p → IsIn x p
@@ -346,13 +304,12 @@ module _ {O I S F : Type 0} (of : Meaning O I S F) (law : IsLawful of) (q : Tree
       (reverse (map entry (selected_spills.put_below of x.below p (selected_spills.entry_in_slot of e w))))
       (computed_spills.put_among of (map entry x.symbols) (place (length x.below) p) (computed_spills.entry_in_slot of (entry e) w))
       (map entry (selected_spills.put_among of x.symbols p (selected_spills.entry_in_slot of e w)))
-      (let_go x.former ++ computed_spills.let_go (computed_entries.word_of of e.attr)) (let_go (x.former ++ e ∷ [])) (x.code ++ saving of q (computed_spills.saving_line d e.kind) e.attr w)
-      (x.code ++ saving of q (selected_spills.saving_line d e.kind) e.attr w) (larger_of x.most (w + 1)) (larger_of x.most (w + 1))
+      (let_go x.former ++ computed_spills.let_go (computed_entries.word_of of e.attr)) (let_go (x.former ++ e ∷ [])) (x.code ++ saving of q (saving_line d e.kind) e.attr w)
+      (x.code ++ saving of q (saving_line d e.kind) e.attr w) (larger_of x.most (w + 1)) (larger_of x.most (w + 1))
       (ap (computed_spills.put_below of (reverse (map entry x.below)) (place (length x.below) p)) (slot_entry e w) ∙ below_put x p (selected_spills.entry_in_slot of e w) h)
       (ap (computed_spills.put_among of (map entry x.symbols) (place (length x.below) p)) (slot_entry e w) ∙ among_put x p (selected_spills.entry_in_slot of e w))
       (sym (let_go_more x.former e))
-      (ap (λ l. x.code ++ saving of q l e.attr w) (saving_line_same d e.kind))
-      refl
+      refl refl
 
   pub spilled_same : (given : Bool) (x : selected_desks.Desk O I) → Fair x
       → computed_spills.spilled of q d first (desk x) (computed_spills.victim of given (desk x)) ≡ outcome desk (selected_spills.spilled of q d first x (selected_spills.victim of given x))

@@ -6,10 +6,8 @@ use Rattle.std.proofs.lemmas.List.{length-reverse}
 use Rattle.std.proofs.lemmas.Grind.{reverse_onto}
 use Rattle.std.proofs.lemmas.List.Folds.{list_any-append}
 use Rattle.std.proofs.lemmas.Option.{none-some, same_Some}
-use Rattle.sel_parse_selected.specs.Desk as selected
+use Rattle.sel_target.specs.Symbols.{lowest, behind_one, first_that}
 use Rattle.sel_parse_selected.specs.Spills as selected_spills
-use Rattle.sel_parse_desk.specs.Desk as computed
-use Rattle.sel_parse_desk.specs.Spills as computed_spills
 
 module _ {X : Type 0} where
   pub turned_cons : (x : X) (xs : List X) → reverse (x ∷ xs) ≡ reverse xs ++ x ∷ []
@@ -117,15 +115,11 @@ module _ {X Y : Type 0} (f : X → Y) where
   map_any p p' (x ∷ xs) h = ap (λ b. b || list_any p (map f xs)) h.0 ∙ ap (λ b. p' x || b) (map_any p p' xs h.1)
 
   -- the first that passes
-  pub map_first : (p : Y → Bool) (p' : X → Bool) (xs : List X) → All (λ x. p (f x) ≡ p' x) xs → computed_spills.first_that p (map f xs) ≡ selected_spills.first_that p' xs
+  pub map_first : (p : Y → Bool) (p' : X → Bool) (xs : List X) → All (λ x. p (f x) ≡ p' x) xs → first_that p (map f xs) ≡ first_that p' xs
   map_first p p' [] h = refl
   map_first p p' (x ∷ xs) h =
-      ap (λ b. if b then Some 0 else computed_spills.behind_one (computed_spills.first_that p (map f xs))) h.0
-      ∙ ap (λ o. if p' x then Some 0 else o) (ap computed_spills.behind_one (map_first p p' xs h.1) ∙ one (selected_spills.first_that p' xs))
-    where
-      one : (o : Option ℕ) → computed_spills.behind_one o ≡ selected_spills.behind_one o
-      one None = refl
-      one (Some i) = refl
+      ap (λ b. if b then Some 0 else behind_one (first_that p (map f xs))) h.0
+      ∙ ap (λ o. if p' x then Some 0 else o) (ap behind_one (map_first p p' xs h.1))
 
   pub attributes_any : (p : Y → Bool) (xs : List X) → list_any p (map f xs) ≡ list_any (λ x. p (f x)) xs
   attributes_any p [] = refl
@@ -142,26 +136,26 @@ module _ {X : Type 0} (p : X → Bool) where
   or_last None o = o
   or_last (Some i) o = Some i
 
-  first_more : (xs : List X) (x : X) → computed_spills.first_that p (xs ++ x ∷ []) ≡ or_last (computed_spills.first_that p xs) (if p x then Some (length xs) else None)
+  first_more : (xs : List X) (x : X) → first_that p (xs ++ x ∷ []) ≡ or_last (first_that p xs) (if p x then Some (length xs) else None)
   first_more [] x = by (p x)
     where
-      by : (b : Bool) → (if b then Some 0 else computed_spills.behind_one None) ≡ (if b then Some 0 else None)
+      by : (b : Bool) → (if b then Some 0 else behind_one None) ≡ (if b then Some 0 else None)
       by true = refl
       by false = refl
-  first_more (y ∷ xs) x = by (p y) (p x) (computed_spills.first_that p xs) (first_more xs x)
+  first_more (y ∷ xs) x = by (p y) (p x) (first_that p xs) (first_more xs x)
     where
-      by : (b c : Bool) (o : Option ℕ) → computed_spills.first_that p (xs ++ x ∷ []) ≡ or_last o (if c then Some (length xs) else None)
-          → (if b then Some 0 else computed_spills.behind_one (computed_spills.first_that p (xs ++ x ∷ [])))
-          ≡ or_last (if b then Some 0 else computed_spills.behind_one o) (if c then Some (length (y ∷ xs)) else None)
+      by : (b c : Bool) (o : Option ℕ) → first_that p (xs ++ x ∷ []) ≡ or_last o (if c then Some (length xs) else None)
+          → (if b then Some 0 else behind_one (first_that p (xs ++ x ∷ [])))
+          ≡ or_last (if b then Some 0 else behind_one o) (if c then Some (length (y ∷ xs)) else None)
       by true c o e = refl
-      by false c (Some i) e = ap computed_spills.behind_one e
-      by false true None e = ap computed_spills.behind_one e ∙ ap Some (let s : length xs + 1 ≡ length (y ∷ xs) = omega arith in s)
-      by false false None e = ap computed_spills.behind_one e
+      by false c (Some i) e = ap behind_one e
+      by false true None e = ap behind_one e ∙ ap Some (let s : length xs + 1 ≡ length (y ∷ xs) = omega arith in s)
+      by false false None e = ap behind_one e
 
-  pub last_turned : (xs : List X) → computed_spills.first_that p (reverse xs) ≡ counted_back (length xs) (selected_spills.last_that p xs)
+  pub last_turned : (xs : List X) → first_that p (reverse xs) ≡ counted_back (length xs) (selected_spills.last_that p xs)
   last_turned [] = refl
   last_turned (x ∷ xs) =
-      ap (computed_spills.first_that p) (turned_cons x xs) ∙ first_more (reverse xs) x ∙ ap (λ o. or_last o (if p x then Some (length (reverse xs)) else None)) (last_turned xs)
+      ap (first_that p) (turned_cons x xs) ∙ first_more (reverse xs) x ∙ ap (λ o. or_last o (if p x then Some (length (reverse xs)) else None)) (last_turned xs)
       ∙ by (p x) (selected_spills.last_that p xs)
     where
       by : (b : Bool) (o : Option ℕ) → or_last (counted_back (length xs) o) (if b then Some (length (reverse xs)) else None)
@@ -181,8 +175,8 @@ module _ {X : Type 0} (p : X → Bool) where
 
 -- ---- the lowest number
 
-pub lowest_same : (p p' : ℕ → Bool) (k n : ℕ) → ((r : ℕ) → k ≤ r → r < k + n → p r ≡ p' r) → computed.lowest p k n ≡ selected.lowest p' k n
+pub lowest_same : (p p' : ℕ → Bool) (k n : ℕ) → ((r : ℕ) → k ≤ r → r < k + n → p r ≡ p' r) → lowest p k n ≡ lowest p' k n
 lowest_same p p' k zero h = refl
 lowest_same p p' k (suc n) h =
-    ap (λ b. if b then Some k else computed.lowest p (k + 1) n) (h k (omega arith) (omega arith))
+    ap (λ b. if b then Some k else lowest p (k + 1) n) (h k (omega arith) (omega arith))
     ∙ ap (λ o. if p' k then Some k else o) (lowest_same p p' (k + 1) n (λ r from below. h r (omega (arith, from)) (omega (arith, below))))

@@ -23,10 +23,11 @@ use Rattle.sel_target.specs.declared.attr.Attr.{Attr}
 use Rattle.sel_target.specs.declared.attr.Attr.TheVariants as attr
 use Rattle.sel_target.specs.Meaning.{Meaning}
 use Rattle.sel_target.specs.Instances.{hole}
-use Rattle.sel_parse_selected.specs.Entries.{Entry, attrs, constant_of}
+use Rattle.sel_target.specs.Symbols.{constant_of, saving_line, first_hole, reload_line}
+use Rattle.sel_parse_selected.specs.Entries.{Entry, attrs}
 use Rattle.sel_parse_selected.specs.Desk.{Stack, Desk, desk_of, Outcome, Full, Stuck, Done, free_register, free_slot}
-use Rattle.sel_parse_selected.specs.Spills.{Where, Below, Among, saving_line, victim, entry_at, in_slot, entry_in_slot, put_below, put_among, saved, saved_in, spilled, with_free, due_by, due}
-use Rattle.sel_parse_selected.specs.Reductions.{first_hole, reload_line, loaded, reloaded_by, reloaded_at, reloaded, finished, own_register, own_number, shaped}
+use Rattle.sel_parse_selected.specs.Spills.{Where, Below, Among, victim, entry_at, in_slot, entry_in_slot, put_below, put_among, saved, saved_in, spilled, with_free, due_by, due}
+use Rattle.sel_parse_selected.specs.Reductions.{loaded, reloaded_by, reloaded_at, reloaded, finished, own_register, own_number, shaped}
 use Rattle.sel_parse_selected.specs.Reductions.{with_result, with_scratch, given_by, reduced}
 use Rattle.sel_parse_selected.specs.Selected.{Kept, kept_of, reduced_by, selecting, shifted, start}
 use Rattle.sel_parse_moves.proofs.Covering.{known}

@@ -18,8 +18,9 @@ use Rattle.sel_regs.specs.Slots.{larger_of}
 use Rattle.sel_target.specs.declared.attr.Attr.{Attr}
 use Rattle.sel_target.specs.declared.attr.Attr.TheVariants as attr
 use Rattle.sel_target.specs.Meaning.{Meaning}
+use Rattle.sel_target.specs.Symbols.{lowest}
 use Rattle.sel_parse_selected.specs.Entries.{Entry}
-use Rattle.sel_parse_selected.specs.Desk.{Stack, Desk, desk_of, Outcome, Full, Stuck, Done, lowest, is_free_word, free_register, free_slot}
+use Rattle.sel_parse_selected.specs.Desk.{Stack, Desk, desk_of, Outcome, Full, Stuck, Done, is_free_word, free_register, free_slot}
 use Rattle.sel_parse_selected.specs.Spills.{Where, victim, entry_at, saved_in, spilled, with_free, due_by, due}
 use Rattle.sel_parse_selected.specs.Reductions.{loaded, reloaded_by, reloaded_at, reloaded}
 use Rattle.sel_parse_selected.specs.Reductions.{with_result, with_scratch, given_by, reduced}

@@ -11,8 +11,8 @@ use Rattle.std.proofs.lemmas.Nat.{ones-le}
 use Rattle.std.proofs.lemmas.Nat.Bits.{bit_at-suc, bit_at_lowest}
 use Rattle.std.proofs.lemmas.Bool.{eqb-true}
 use Rattle.std.proofs.lemmas.Option.{none-some, same_Some}
-use Rattle.sel_parse_selected.specs.Desk.{lowest}
-use Rattle.sel_parse_selected.specs.Spills.{behind_one, first_that, later_of, last_that}
+use Rattle.sel_target.specs.Symbols.{lowest, behind_one, first_that}
+use Rattle.sel_parse_selected.specs.Spills.{later_of, last_that}
 use Rattle.sel_parse_slots.proofs.Counts.{tick, tick_or, count, total, total_append}
 
 pub tick_true : (b : Bool) → 1 ≤ tick b → b ≡ true

@@ -1,11 +1,12 @@
 -- The stack with its code, a reduction at work on it, and which registers and frame words are free.
-use Rattle.std.specs.Prelude.{ℕ, zero, suc, ◌+◌, ◌-◌, ◌==◌, ◌&&◌, ◌||◌, List, [], ◌++◌, take, drop, reverse, Option}
-use Rattle.std.specs.Prelude.{Some, None, Bool, not, if◌then◌else◌}
+use Rattle.std.specs.Prelude.{ℕ, ◌+◌, ◌-◌, ◌==◌, ◌&&◌, ◌||◌, List, [], ◌++◌, take, drop, reverse, Option}
+use Rattle.std.specs.Prelude.{Bool, not}
 use Rattle.std.specs.List.{list_any}
 use Rattle.std.specs.Int.{bit_at}
 use Rattle.md_reader.specs.State.{Content}
 use Rattle.sel_target.specs.Meaning.{Meaning, Spot, RegAt, WordAt}
 use Rattle.sel_target.specs.Instances.{attr_touches}
+use Rattle.sel_target.specs.Symbols.{lowest}
 use Rattle.sel_parse_selected.specs.Entries.{Entry}
 
 -- between two reductions: the entries, the top first, the code so far, and the number of frame words used so far
@@ -36,11 +37,6 @@ abbrev pub bind : {X Y : Type 0} → Outcome X → (X → Outcome Y) → Outcome
 bind Full go = Full
 bind Stuck go = Stuck
 bind (Done x) go = go x
-
--- the lowest of the n numbers from k on that passes
-abbrev pub lowest : (ℕ → Bool) → ℕ → ℕ → Option ℕ
-lowest passes k zero = None
-lowest passes k (suc n) = if passes k then Some k else lowest passes (k + 1) n
 
 module _ {O I S F : Type 0} (of : Meaning O I S F) where
   -- some entry holds it: what the entry stands for may change with what stands there

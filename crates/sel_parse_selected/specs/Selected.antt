@@ -9,7 +9,8 @@ use Rattle.lr_check_parse.specs.Moves.{Move, Shift, Reduce, Ending, Accepts, Blo
 use Rattle.lr_check_parse.specs.Attributes.{Selecting, by_attributes}
 use Rattle.sel_target.specs.declared.attr.Attr.TheVariants as attr
 use Rattle.sel_target.specs.Meaning.{Meaning}
-use Rattle.sel_parse_selected.specs.Entries.{Entry, alike, constant_of, relation_of}
+use Rattle.sel_target.specs.Symbols.{constant_of, relation_of}
+use Rattle.sel_parse_selected.specs.Entries.{Entry, alike}
 use Rattle.sel_parse_selected.specs.Desk.{Stack, Outcome, Full, Stuck, Done}
 use Rattle.sel_parse_selected.specs.Reductions.{reduced}
 

@@ -19,9 +19,10 @@ use Rattle.sel_target.specs.declared.attr.Attr.TheVariants as attr
 use Rattle.sel_target.specs.Meaning.{Meaning, WordAt}
 use Rattle.sel_target.specs.Laws.{IsLawful}
 use Rattle.sel_target.specs.Instances.{attr_touches, KindFits}
+use Rattle.sel_target.specs.Symbols.{first_that, is_register}
 use Rattle.sel_parse_selected.specs.Entries.{Entry}
 use Rattle.sel_parse_selected.specs.Desk.{Desk, Outcome, Full, Stuck, Done, bind, held, is_free_register, free_register, is_free_word, free_slot}
-use Rattle.sel_parse_selected.specs.Spills.{Where, Below, Among, first_that, last_that, is_register, holds_register, may_go, deepest, victim, entry_at, in_slot, entry_in_slot, saved, saved_in}
+use Rattle.sel_parse_selected.specs.Spills.{Where, Below, Among, last_that, holds_register, may_go, deepest, victim, entry_at, in_slot, entry_in_slot, saved, saved_in}
 use Rattle.sel_parse_selected.specs.Spills.{spilled, with_free, due_by, due}
 use Rattle.sel_parse_selected.specs.Reductions.{loaded, reloaded_by, reloaded_at, reloaded}
 use Rattle.sel_parse_stands.proofs.Loaded.{IsLoaded}

@@ -5,7 +5,7 @@ use Rattle.std.specs.Prelude.{slice_set, not, if◌then◌else◌, ◌||◌}
 use Rattle.std.specs.List.{list_any}
 use Rattle.std.proofs.lemmas.Bool.Decides.{nat_tests}
 use Rattle.std.proofs.lemmas.Bool.{eqb-true}
-use Rattle.sel_parse_selected.specs.Desk.{lowest}
+use Rattle.sel_target.specs.Symbols.{lowest}
 
 abbrev pub tick : Bool → ℕ
 tick true = 1

@@ -39,12 +39,13 @@ use Rattle.sel_target.specs.Instances.{hole, attr_touches, KindFits, SymFits, Fi
 use Rattle.sel_parse_selected.specs.Entries.{Entry, attrs}
 use Rattle.sel_parse_selected.specs.Desk.{Stack, Desk, desk_of}
 use Rattle.sel_parse_selected.specs.Spills.{due}
-use Rattle.sel_parse_selected.specs.Reductions.{first_hole, own_register, own_number, shaped, finished, with_result, with_scratch, given_by, reloaded, reduced}
+use Rattle.sel_parse_selected.specs.Reductions.{own_register, own_number, shaped, finished, with_result, with_scratch, given_by, reloaded, reduced}
 use Rattle.sel_parse_stands.proofs.Loaded.{IsLoaded, AllLoaded}
 use Rattle.sel_parse_effect.proofs.Reducing.{reg_is, nothing_is}
 use Rattle.sel_parse_effect.proofs.Shapes.{one_hole, reg_symbol, con_symbol, IsNumeric, const_number}
 use Rattle.sel_parse_effect.proofs.Shapes as shapes
 use Rattle.sel_target.specs.Spelled.{IsSpelled, TokenIsSpelled, AreSpelled}
+use Rattle.sel_target.specs.Symbols.{first_hole}
 use Rattle.sel_parse_slots.specs.Claims.{IsOwn}
 use Rattle.sel_parse_slots.proofs.Counts.{count, count_less, count_any, count_one, tick, total}
 use Rattle.sel_parse_slots.proofs.Fine as fine

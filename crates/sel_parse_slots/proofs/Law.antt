@@ -34,12 +34,13 @@ use Rattle.sel_target.specs.declared.attr.Attr.TheVariants as attr
 use Rattle.sel_target.specs.Meaning.{Meaning}
 use Rattle.sel_target.specs.Instances.{hole}
 use Rattle.sel_target.specs.Laws.{IsLawful}
+use Rattle.sel_target.specs.Symbols.{first_hole}
 use Rattle.sel_parse_moves.specs.Claims.{root}
 use Rattle.sel_parse_moves.proofs.Covering.{AreLeaves, known}
 use Rattle.sel_parse_moves.proofs.Moves.{leaves_of}
 use Rattle.sel_parse_selected.specs.Entries.{Entry, attrs}
 use Rattle.sel_parse_selected.specs.Desk.{Stack, Desk, desk_of, Outcome, Full, Stuck, Done}
-use Rattle.sel_parse_selected.specs.Reductions.{first_hole, reduced}
+use Rattle.sel_parse_selected.specs.Reductions.{reduced}
 use Rattle.sel_parse_stands.proofs.Parting.{taken_off, left_below}
 use Rattle.sel_parse_selected.specs.Selected.{Kept, shifted, kept_of, reduced_by, selecting}
 use Rattle.sel_parse_slots.specs.Claims.{IsOwn, IsTaken, UsesFewSlots, HasRoom}

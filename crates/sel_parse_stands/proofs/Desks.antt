@@ -26,11 +26,12 @@ use Rattle.sel_target.specs.Courses.{comes}
 use Rattle.sel_target.specs.Laws.{IsLawful}
 use Rattle.sel_target.specs.Outcomes.{Keeps}
 use Rattle.sel_target.specs.SavingLaws.{saving, reloading}
+use Rattle.sel_target.specs.Symbols.{behind_one, first_that, saving_line, is_register, reload_line}
 use Rattle.sel_parse_selected.specs.Entries.{Entry}
 use Rattle.sel_parse_selected.specs.Desk.{Desk, Outcome, Full, Stuck, Done, bind, held, is_free_register, free_register, is_free_word, free_slot}
-use Rattle.sel_parse_selected.specs.Spills.{Where, Below, Among, first_that, last_that, behind_one, later_of, is_register, holds_register, may_go, deepest, victim, entry_at, in_slot}
-use Rattle.sel_parse_selected.specs.Spills.{entry_in_slot, saving_line, saved, saved_in, spilled, with_free, due_by, due}
-use Rattle.sel_parse_selected.specs.Reductions.{reload_line, loaded, reloaded_by, reloaded_at, reloaded}
+use Rattle.sel_parse_selected.specs.Spills.{Where, Below, Among, last_that, later_of, holds_register, may_go, deepest, victim, entry_at, in_slot}
+use Rattle.sel_parse_selected.specs.Spills.{entry_in_slot, saved, saved_in, spilled, with_free, due_by, due}
+use Rattle.sel_parse_selected.specs.Reductions.{loaded, reloaded_by, reloaded_at, reloaded}
 use Rattle.sel_parse_stands.specs.Stands as stands
 use Rattle.sel_parse_stands.specs.Stands.{ClassIs, SymbolIs, Sees, IsFrame, Holds}
 use Rattle.sel_parse_stands.specs.Lines.{LinesSave}

@@ -12,7 +12,7 @@ use Rattle.sel_target.specs.declared.attr.Attr.{Attr}
 use Rattle.sel_target.specs.declared.attr.Attr.TheVariants as attr
 use Rattle.sel_target.specs.Meaning.{Meaning, Extent}
 use Rattle.sel_target.specs.Laws.{IsLawful}
-use Rattle.sel_parse_selected.specs.Reductions.{reload_line}
+use Rattle.sel_target.specs.Symbols.{reload_line}
 use Rattle.sel_parse_stands.specs.Stands as stands
 use Rattle.sel_parse_stands.specs.Stands.{ClassIs}
 use Rattle.sel_parse_stands.specs.Claims.{EntriesAreSaved, RegistersAreReloaded}

@@ -45,6 +45,7 @@ use Rattle.sel_terms_meaning.specs.Alike.{IsNarrowAct}
 use Rattle.sel_target.specs.Outcomes.{Keeps}
 use Rattle.sel_target.specs.Courses.{comes}
 use Rattle.sel_target.proofs.Facts.{low_is}
+use Rattle.sel_target.specs.Symbols.{lowest, saving_line, is_register}
 use Rattle.sel_terms_trees.specs.Senses.{Sense, OfNumber, OfPlace}
 use Rattle.term_core_accesses.specs.Keeping.{IsNarrow}
 use Rattle.sel_terms_meaning.proofs.Alike.{shown_is_alike}
@@ -52,8 +53,7 @@ use Rattle.sel_parse_stands.specs.Stands as stands
 use Rattle.sel_parse_stands.specs.Lines.{LinesSave}
 use Rattle.sel_parse_stands.specs.Stands.{ClassIs, SymbolIs, Sees, IsFrame}
 use Rattle.sel_parse_selected.specs.Entries.{Entry}
-use Rattle.sel_parse_selected.specs.Desk.{lowest}
-use Rattle.sel_parse_selected.specs.Spills.{saving_line, is_register, holds_register, in_slot}
+use Rattle.sel_parse_selected.specs.Spills.{holds_register, in_slot}
 use Rattle.sel_parse_stands.proofs.Loaded.{IsLoaded}
 use Rattle.sel_parse_stands.proofs.Carrying.{Homed, Carried}
 

@@ -14,8 +14,8 @@ use Rattle.sel_target.specs.Courses.{comes}
 use Rattle.sel_target.specs.Meaning.{Meaning, Extent, Spot, RegAt, WordAt}
 use Rattle.sel_target.specs.Outcomes.{Keeps}
 use Rattle.sel_target.specs.SavingLaws.{saving, reloading}
-use Rattle.sel_parse_selected.specs.Spills.{saving_line, holds_register, in_slot}
-use Rattle.sel_parse_selected.specs.Reductions.{reload_line}
+use Rattle.sel_target.specs.Symbols.{saving_line, reload_line}
+use Rattle.sel_parse_selected.specs.Spills.{holds_register, in_slot}
 use Rattle.sel_parse_stands.specs.Stands.{ClassIs, SymbolIs, Sees, IsFrame}
 use Rattle.sel_parse_stands.specs.Lines.{LinesSave}
 

@@ -5,8 +5,7 @@ use Rattle.md_reader.specs.declared.types.Kind.TheVariants as kind
 use Rattle.md_reader.specs.State.{Content}
 use Rattle.sel_target.specs.Meaning.{Meaning}
 use Rattle.sel_target.specs.SavingLaws.{Saves, Reloads}
-use Rattle.sel_parse_selected.specs.Spills.{saving_line}
-use Rattle.sel_parse_selected.specs.Reductions.{reload_line}
+use Rattle.sel_target.specs.Symbols.{saving_line, reload_line}
 
 -- each was checked to save, or to reload, what it is for
 pub record LinesSave {O I S F : Type 0} (of : Meaning O I S F) (d : Content) : Type 0 where

@@ -17,10 +17,11 @@ use Rattle.sel_target.specs.Meaning.{Meaning, RegAt}
 use Rattle.sel_target.specs.Laws.{IsLawful}
 use Rattle.sel_target.specs.Instances.{attr_touches, KindFits}
 use Rattle.sel_target.specs.SavingLaws.{operand, register, saving, reloading}
+use Rattle.sel_target.specs.Symbols.{lowest, saving_line, reload_line}
 use Rattle.sel_parse_selected.specs.Entries.{Entry}
-use Rattle.sel_parse_selected.specs.Desk.{Desk, Outcome, Full, Stuck, Done, lowest, is_free_register, free_register, is_free_word, free_slot}
-use Rattle.sel_parse_selected.specs.Spills.{Where, saving_line, holds_register, victim, entry_in_slot, saved, saved_in, spilled, with_free, due_by, due}
-use Rattle.sel_parse_selected.specs.Reductions.{reload_line, loaded, reloaded_by, reloaded_at, reloaded}
+use Rattle.sel_parse_selected.specs.Desk.{Desk, Outcome, Full, Stuck, Done, is_free_register, free_register, is_free_word, free_slot}
+use Rattle.sel_parse_selected.specs.Spills.{Where, holds_register, victim, entry_in_slot, saved, saved_in, spilled, with_free, due_by, due}
+use Rattle.sel_parse_selected.specs.Reductions.{loaded, reloaded_by, reloaded_at, reloaded}
 use Rattle.sel_parse_stands.specs.Lines.{LinesSave}
 use Rattle.sel_parse_stands.proofs.Saving.{lowest_found}
 use Rattle.sel_parse_lines.proofs.Each.{Each, each_bind}

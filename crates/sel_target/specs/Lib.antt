@@ -9,5 +9,6 @@ pub mod Outcomes
 pub mod SavingLaws
 pub mod Spelled
 pub mod StatementLaws
+pub mod Symbols
 pub mod TemplateLaws
 pub mod Values

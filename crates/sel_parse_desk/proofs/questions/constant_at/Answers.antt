@@ -2,7 +2,7 @@ use Rattle.std.proofs.Common.{ℕ, Option, ap, sym, ◌∙◌}
 use Rattle.std.specs.Prelude.{slice_get}
 use Rattle.lr_check_parse.specs.Attributes.{constant_at}
 use Rattle.sel_target.specs.declared.attr.Attr.{Attr}
-use Rattle.sel_parse_desk.specs.Entries.{constant_of}
+use Rattle.sel_target.specs.Symbols.{constant_of}
 use Rattle.sel_parse_desk.specs.Selected.{selecting}
 use Rattle.sel_parse_desk.specs.Joined.{entry_at}
 use Rattle.sel_parse_desk.proofs.Asking.{constant_in}

@@ -1,6 +1,7 @@
 use Rattle.std.proofs.Common.{List, ap, ◌∙◌}
 use Rattle.sel_target.specs.declared.attr.Attr.{Attr}
-use Rattle.sel_parse_desk.specs.Spills.{holds_some, first_that}
+use Rattle.sel_target.specs.Symbols.{first_that}
+use Rattle.sel_parse_desk.specs.Spills.{holds_some}
 use Rattle.sel_parse_desk.proofs.Tallies.{settled_tallied, found_unsettled}
 use Rattle.sel_parse_desk.proofs.stack.deepest.Goals as goal
 
